@@ -1,0 +1,15 @@
+use Rattle.std.proofs.Common.{◌≡◌, ◌∙◌, length}
+use Rattle.nd_shape_and_slice.specs.Axes.{HasEachAxis}
+use Rattle.nd_array_core.specs.Meaning.{shape_of, element_at}
+use Rattle.nd_array_core.proofs.StepLemmas.{step_holds, step_separated, step_element}
+use Rattle.nd_array_core.proofs.layout_calls.ArrayBase+S+D.permute_axes.Goals as goal
+
+pub permute_axes-requires : goal.permute_axes-requires
+unfolding shape_of
+permute_axes-requires g c = rw (c.slice.ensures.lengths, c.into_dimension-order.ensures) c.requires
+
+pub invariant_of-self : goal.invariant_of-self
+invariant_of-self g c = record {
+  inside = step_holds (g.S.Data.stored c.args.self.now.storage) c.permute_axes.ensures.step c.args.self.now.inside;
+  separated = step_separated c.permute_axes.ensures.step c.args.self.now.separated;
+}

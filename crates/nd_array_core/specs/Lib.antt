@@ -1,0 +1,4 @@
+pub mod Places
+pub mod Meaning
+pub mod Refusals
+pub mod Steps

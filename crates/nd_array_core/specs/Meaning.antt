@@ -1,0 +1,36 @@
+-- What an array means: a shape, and one element for each index of its box.
+use Rattle.std.specs.Prelude.{◌≡◌, ℕ, Bool, true, List, Option, None, if◌then◌else◌}
+use Rattle.nd_shape_and_slice.specs.declared.dimension.Dimension as dimension
+use Rattle.nd_shape_and_slice.specs.declared.dimension.AxisCount as axis_count
+use Rattle.nd_shape_and_slice.specs.declared.dimension.StrideList as stride_list
+use Rattle.nd_shape_and_slice.specs.Shape.{in_box}
+use Rattle.nd_shape_and_slice.specs.Place.{place_of}
+use Rattle.nd_array_core.specs.declared.data.Data as data_trait
+use Rattle.nd_array_core.specs.declared.array.ArrayBase.{ArrayBase}
+use Rattle.nd_array_core.specs.Places.{stored_at}
+
+-- an element that is there only where the index lies in the shape's box
+abbrev pub inside : {A : Type 0} → List ℕ → List ℕ → Option A → Option A
+inside shape i element = if in_box shape i then element else None
+
+-- a shape, and the element at each index
+pub record Meaning (A : Type 0) : Type 0 where
+  pub shape : List ℕ
+  pub at : List ℕ → Option A
+
+-- what is seen of an array under another shape, where each new index names an old one
+abbrev pub seen : {A : Type 0} → List ℕ → (List ℕ → List ℕ) → Meaning A → Meaning A
+seen shape source m = record { shape = shape; at = λ i. inside shape i (m.at (source i)) }
+
+module _ {S D T A P R L M : Type 0} {s : data_trait.Ghosts S A} {d : dimension.Ghosts D P R L M} {n : axis_count.Ghosts D} {r : stride_list.Ghosts R} {t : stride_list.Ghosts T} where
+  -- the length of each axis
+  unfoldable pub shape_of : ArrayBase S D T A P R L M s d n r t → List ℕ
+  shape_of a = d.lengths a.layout.dim
+
+  -- the element at an index: nothing outside the shape's box
+  unfoldable pub element_at : ArrayBase S D T A P R L M s d n r t → List ℕ → Option A
+  element_at a i = inside (d.lengths a.layout.dim) i (stored_at (s.stored a.storage) (place_of a.layout.first (t.strides_of a.layout.strides) i))
+
+  -- the two together
+  abbrev pub meaning_of : ArrayBase S D T A P R L M s d n r t → Meaning A
+  meaning_of a = record { shape = shape_of a; at = element_at a }

@@ -1,0 +1,96 @@
+//! Arrays over any storage.
+ghost use Rattle.std.specs.Prelude.{◌≡◌, ◌<◌, ◌≤◌, ◌^◌, ℕ, Bool, true, List, length, slice_index, MatchResult, slice_get, Some, None};
+ghost use Rattle.std.specs.Option.{option_copied};
+ghost use Rattle.nd_shape_and_slice.specs.Shape.{in_box, size_of, row_rank};
+ghost use Rattle.nd_shape_and_slice.specs.Place.{place_of, IsSeparated};
+ghost use Rattle.nd_array_core.specs.Places.{names_place};
+
+use crate::data::{Data, OwnedRepr, ViewRepr};
+use crate::layout::Layout;
+use nd_shape_and_slice::{Axis, Dimension, NdIndex, StrideList};
+use std::alloc::AllocError;
+
+/// An n-dimensional array over a storage: a shape, and one element for each index of its box. ndarray's
+/// `ArrayBase`.
+#[derive(Drop)]
+pub struct ArrayBase<S: Data, D: Dimension, T = <D as Dimension>::Strides>
+where
+    T: StrideList,
+{
+    pub(crate) storage: S,
+    pub(crate) layout: Layout<D, T>,
+    ghost inside: { (i : List ℕ) → in_box (D.lengths layout.dim) i ≡ true → names_place (S.stored storage) (place_of layout.first (T.strides_of layout.strides) i) ≡ true },
+    ghost separated: { S.exclusive ≡ true → 0 < size_of (D.lengths layout.dim) → IsSeparated (D.lengths layout.dim) (T.strides_of layout.strides) },
+}
+
+/// An array that owns its elements. ndarray's `Array`.
+pub type Array<A, D> = ArrayBase<OwnedRepr<A>, D>;
+
+/// A read-only view of an array. ndarray's `ArrayView`.
+pub type ArrayView<'a, A, D> = ArrayBase<ViewRepr<'a, A>, D>;
+
+#[tactic(auto, unfolding(crate::specs::Meaning::shape_of, crate::specs::Meaning::element_at))]
+impl<S: Data, D: Dimension> ArrayBase<S, D> {
+    ghost use Rattle.nd_array_core.specs.Meaning.{shape_of, element_at};
+
+    /// The length of each axis. ndarray's `shape`.
+    pub fn shape(&self) -> &[usize]
+        ensures { result.now ≡ shape_of self.now }
+    {
+        self.layout.dim.slice()
+    }
+
+    /// The number of axes, at most 32. ndarray's `ndim`.
+    pub fn ndim(&self) -> usize
+        ensures value { result ≡ length (shape_of self.now) }
+        ensures few { result ≤ 32 }
+    {
+        self.layout.dim.ndim()
+    }
+
+    /// The number of elements. ndarray's `len`.
+    pub fn len(&self) -> usize
+        ensures { result ≡ size_of (shape_of self.now) }
+    {
+        self.layout.dim.size()
+    }
+
+    /// The length of an axis below `ndim`. ndarray's `len_of`.
+    pub fn len_of(&self, axis: Axis) -> usize
+        requires { axis.0 < length (shape_of self.now) }
+        ensures { result ≡ slice_index (shape_of self.now) axis.0 }
+    {
+        self.shape()[axis.0]
+    }
+
+    /// The element at an index; None exactly outside the shape's box, a wrong number of coordinates included.
+    /// ndarray's `get`.
+    pub fn get<I: NdIndex<D>>(&self, index: I) -> Option<&S::Elem>
+        ensures { option_copied result ≡ element_at self.now (I.coordinates_of index) }
+    {
+        let place = self.layout.place_of(index.coordinates())?;
+        Some(self.storage.element(place))
+    }
+
+    /// A read-only view of the array. ndarray's `view`.
+    pub fn view(&self) -> ArrayView<'_, S::Elem, D>
+        ensures shape { shape_of result ≡ shape_of self.now }
+        ensures elements { (i : List ℕ) → element_at result i ≡ element_at self.now i }
+    {
+        ArrayBase {
+            storage: self.storage.borrowed(),
+            layout: self.layout.copied(),
+        }
+    }
+}
+
+impl<S: Data + Copy, D: Dimension, T: StrideList> Clone for ArrayBase<S, D, T> {
+    fn clone(&self) -> Result<Self, AllocError> {
+        Ok(ArrayBase {
+            storage: self.storage,
+            layout: self.layout.copied(),
+        })
+    }
+}
+
+impl<S: Data + Copy, D: Dimension, T: StrideList> Copy for ArrayBase<S, D, T> {}

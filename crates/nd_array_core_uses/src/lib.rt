@@ -1,0 +1,55 @@
+//! Uses of arrays and views, as a caller writes them: each is proved from the contracts of the calls alone.
+#![tactic(auto)]
+
+ghost use Rattle.std.specs.Prelude.{◌≡◌, ◌<◌, ◌∷◌, [], ℕ, true, List, length, slice_index, IsSome, IfSome, IfOk};
+ghost use Rattle.nd_shape_and_slice.specs.Slice.{fits_axis, sliced_shape, sliced_index};
+ghost use Rattle.nd_array_core.specs.Meaning.{shape_of, element_at, inside};
+
+use nd_array_core::{Array, ArrayBase, ArrayView, Data};
+use nd_shape_and_slice::{Axis, Dimension, Ix2, ShapeError, Slice, slice_fits};
+
+/// The part of an axis that a slice names; None where there is no such axis or the slice doesn't fit it.
+pub fn try_slice_axis<'a, S: Data, D: Dimension>(
+    array: &'a ArrayBase<S, D>,
+    axis: Axis,
+    slice: Slice,
+) -> Option<ArrayView<'a, S::Elem, D>>
+    ensures some { axis.0 < length (shape_of array.now) → fits_axis (slice_index (shape_of array.now) axis.0) slice ≡ true → IsSome result }
+    ensures shape { IfSome result (λ part. shape_of part ≡ sliced_shape (shape_of array.now) axis.0 slice) }
+    ensures elements { IfSome result (λ part. (i : List ℕ) → element_at part i ≡ inside (shape_of part) i (element_at array.now (sliced_index (shape_of array.now) axis.0 slice i))) }
+{
+    if axis.index() < array.ndim() && slice_fits(array.len_of(axis), slice) {
+        Some(array.slice_axis(axis, slice))
+    } else {
+        None
+    }
+}
+
+/// A table of cells that are given row by row, seen column by column.
+pub fn turned_table<A: Drop>(
+    rows: usize,
+    columns: usize,
+    cells: Vec<A>,
+) -> Result<Array<A, Ix2>, ShapeError>
+    ensures { IfOk result (λ table. shape_of table ≡ columns ∷ rows ∷ []) }
+{
+    let by_rows = Array::from_shape_vec((rows, columns), cells)?;
+    Ok(by_rows.permuted_axes((1, 0)))
+}
+
+#[cfg(test)]
+mod tests {
+    use super::*;
+    use std::test::Fail;
+
+    #[test]
+    fn a_turned_table(rt: HostRuntime) -> Result<(), Fail> {
+        let cells = Vec::from_slice(rt.alloc(), &[1, 2, 3, 4, 5, 6])?;
+        let table: Array<u64, Ix2> = turned_table(2, 3, cells).ok().ok_or("shape")?;
+        assert_eq!(rt; table.get([2, 0]).copied(), Some(3));
+        let part = try_slice_axis(&table, Axis(0), Slice::new(-2, None, -1)).ok_or("slice")?;
+        assert_eq!(rt; part.get([0, 1]).copied(), Some(6));
+        assert_eq!(rt; part.get([1, 1]).copied(), Some(5));
+        Ok(())
+    }
+}

@@ -1,0 +1,82 @@
+-- Where the indexes of a box lie: between the lowest and the highest place, and within the span.
+use Rattle.std.proofs.Common.{ℕ, zero, suc, ◌+◌, ◌-◌, ◌*◌, ◌<◌, ◌≤◌, ◌≡◌, List, [], ◌∷◌, length, get_or, ltb, true, arith, refl, ℤ, pos, negsuc, ◌+ℤ◌, nat_abs, ◌≤ℤ◌}
+use lib.IntN.{neg_ℤ}
+use borrow.Author.Differences.{up, down, neg_is, at_most_in, abs_is}
+use Rattle.std.proofs.lemmas.Bool.{ltb-true, and_parts, and_from, lt-ltb, false≢true}
+use Rattle.std.proofs.Math.Nat.{mul-le-mul_right}
+use Rattle.nd_shape_and_slice.specs.Shape.{in_box}
+use Rattle.nd_shape_and_slice.specs.Place.{offset_of, place_of, span_of}
+use Rattle.nd_layout.specs.Strides.{reach_up, reach_down}
+use Rattle.nd_layout.proofs.Integers.{sums}
+
+-- an index of a box has one coordinate for each axis
+pub length-in_box : (ns i : List ℕ) → in_box ns i ≡ true → length i ≡ length ns
+length-in_box [] [] h = refl
+length-in_box [] (k ∷ i) h = absurd (false≢true h)
+length-in_box (n ∷ ns) [] h = absurd (false≢true h)
+length-in_box (n ∷ ns) (k ∷ i) h = let w = and_parts (ltb k n) (in_box ns i) h in omega (arith, length-in_box ns i w.1)
+
+-- each coordinate is below its axis's length
+pub coordinate_below : (ns i : List ℕ) (a : ℕ) → in_box ns i ≡ true → a < length ns → get_or i a 0 < get_or ns a 0
+coordinate_below [] i a h q = absurd (omega arith)
+coordinate_below (n ∷ ns) [] a h q = absurd (false≢true h)
+coordinate_below (n ∷ ns) (k ∷ i) zero h q = ltb-true k n (and_parts (ltb k n) (in_box ns i) h).0
+coordinate_below (n ∷ ns) (k ∷ i) (suc a) h q = coordinate_below ns i a (and_parts (ltb k n) (in_box ns i) h).1 (omega arith)
+
+-- and that puts an index into the box
+pub in_box-from_coordinates : (ns i : List ℕ) → length i ≡ length ns → ((a : ℕ) → a < length ns → get_or i a 0 < get_or ns a 0) → in_box ns i ≡ true
+in_box-from_coordinates [] [] e h = refl
+in_box-from_coordinates [] (k ∷ i) e h = absurd (omega arith)
+in_box-from_coordinates (n ∷ ns) [] e h = absurd (omega arith)
+in_box-from_coordinates (n ∷ ns) (k ∷ i) e h =
+    and_from (ltb k n) (in_box ns i) (lt-ltb k n (h 0 (omega arith))) (in_box-from_coordinates ns i (omega arith) (λ a q. h (suc a) (omega arith)))
+
+-- the two reaches are the span
+pub span_of-reaches : (ns : List ℕ) (ss : List ℤ) → span_of ns ss ≡ reach_up ns ss + reach_down ns ss
+span_of-reaches [] ss = refl
+span_of-reaches (n ∷ ns) [] = refl
+span_of-reaches (n ∷ ns) (pos s ∷ ss) = omega (arith, span_of-reaches ns ss)
+span_of-reaches (n ∷ ns) (negsuc s ∷ ss) = omega (arith, span_of-reaches ns ss)
+
+-- one axis's part, to either side
+part_up : (k n s : ℕ) → k < n → k * s ≤ (n - 1) * s
+part_up k n s h = mul-le-mul_right s (omega arith)
+
+-- an offset lies between the two reaches, by its positive and its negative part
+pub offset_bounds : (ns : List ℕ) (ss : List ℤ) (i : List ℕ) → in_box ns i ≡ true → (up (offset_of ss i) ≤ down (offset_of ss i) + reach_up ns ss) × (down (offset_of ss i) ≤ up (offset_of ss i) + reach_down ns ss)
+offset_bounds [] [] i h = (omega arith, omega arith)
+offset_bounds [] (s ∷ ss) [] h = (omega arith, omega arith)
+offset_bounds [] (s ∷ ss) (k ∷ i) h = absurd (false≢true h)
+offset_bounds (n ∷ ns) [] i h = (omega arith, omega arith)
+offset_bounds (n ∷ ns) (s ∷ ss) [] h = absurd (false≢true h)
+offset_bounds (n ∷ ns) (pos s ∷ ss) (k ∷ i) h =
+    let w = and_parts (ltb k n) (in_box ns i) h in
+    let rest = offset_bounds ns ss i w.1 in
+    let part = part_up k n s (ltb-true k n w.0) in
+    (omega (arith, sums), omega (arith, sums))
+offset_bounds (n ∷ ns) (negsuc s ∷ ss) (k ∷ i) h =
+    let w = and_parts (ltb k n) (in_box ns i) h in
+    let rest = offset_bounds ns ss i w.1 in
+    let part = part_up k n (suc s) (ltb-true k n w.0) in
+    (omega (arith, sums), omega (arith, sums))
+
+-- no index leads further up than the axes of positive stride do together
+pub offset-le-reach_up : (ns : List ℕ) (ss : List ℤ) (i : List ℕ) → in_box ns i ≡ true → offset_of ss i ≤ℤ pos (reach_up ns ss)
+offset-le-reach_up ns ss i h = at_most_in (offset_of ss i) (pos (reach_up ns ss)) (omega (arith, (offset_bounds ns ss i h).0))
+
+-- nor further down than the axes of negative stride do together
+pub reach_down-le-offset : (ns : List ℕ) (ss : List ℤ) (i : List ℕ) → in_box ns i ≡ true → neg_ℤ (pos (reach_down ns ss)) ≤ℤ offset_of ss i
+reach_down-le-offset ns ss i h = at_most_in (neg_ℤ (pos (reach_down ns ss))) (offset_of ss i) (omega (arith, (offset_bounds ns ss i h).1, neg_is (pos (reach_down ns ss))))
+
+-- and never further than the span
+pub abs-offset-le-span : (ns : List ℕ) (ss : List ℤ) (i : List ℕ) → in_box ns i ≡ true → nat_abs (offset_of ss i) ≤ span_of ns ss
+abs-offset-le-span ns ss i h = omega (arith, offset_bounds ns ss i h, abs_is (offset_of ss i), span_of-reaches ns ss)
+
+-- where the lowest place isn't below 0, each place is a number, and at most `reach_up` above the first
+pub place-in_box : (first : ℕ) (ns : List ℕ) (ss : List ℤ) (i : List ℕ) → in_box ns i ≡ true → reach_down ns ss ≤ first → (p : ℕ) × (place_of first ss i ≡ pos p) × (p ≤ first + reach_up ns ss)
+place-in_box first ns ss i h low =
+    let b = offset_bounds ns ss i h in
+    natural (offset_of ss i) b.0 b.1
+  where
+    natural : (z : ℤ) → up z ≤ down z + reach_up ns ss → down z ≤ up z + reach_down ns ss → (p : ℕ) × (pos first +ℤ z ≡ pos p) × (p ≤ first + reach_up ns ss)
+    natural z top bottom = (first + up z - down z, omega (arith, sums), omega arith)

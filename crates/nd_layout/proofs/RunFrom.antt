@@ -1,0 +1,51 @@
+-- Separated strides whose span is one less than the size make a run.
+use Rattle.std.proofs.Common.{ℕ, ◌+◌, ◌-◌, ◌<◌, ◌≤◌, ◌≡◌, List, length, true, arith, ap, sym, ◌∙◌, ℤ, pos, ◌+ℤ◌}
+use lib.IntN.{neg_ℤ}
+use borrow.Author.Differences.{up, down, neg_is}
+use Rattle.nd_shape_and_slice.specs.Shape.{in_box, size_of}
+use Rattle.nd_shape_and_slice.specs.Place.{offset_of, span_of, IsSeparated}
+use Rattle.nd_layout.specs.Strides.{reach_down}
+use Rattle.nd_layout.specs.Ranks.{column_rank, IsRun}
+use Rattle.nd_layout.proofs.Integers.{sums}
+use Rattle.nd_layout.proofs.Bounds.{offset_bounds, span_of-reaches}
+use Rattle.nd_layout.proofs.Distinct.{same_index}
+use Rattle.nd_layout.proofs.Ranks.{index_at, in_box-index_at, column_rank-index_at}
+use Rattle.nd_layout.proofs.Pigeonhole.{pigeonhole}
+
+-- how far above the lowest place an offset lies
+abbrev pub above_low : List ℕ → List ℤ → ℤ → ℕ
+above_low ns ss z = reach_down ns ss + up z - down z
+
+-- an offset is the lowest one and that
+pub above_low-is : (ns : List ℕ) (ss : List ℤ) (i : List ℕ) → in_box ns i ≡ true → offset_of ss i ≡ neg_ℤ (pos (reach_down ns ss)) +ℤ pos (above_low ns ss (offset_of ss i))
+above_low-is ns ss i h = let b = offset_bounds ns ss i h in omega (arith, sums, neg_is (pos (reach_down ns ss)))
+
+-- that is at most the span
+pub above_low-le : (ns : List ℕ) (ss : List ℤ) (i : List ℕ) → in_box ns i ≡ true → above_low ns ss (offset_of ss i) ≤ span_of ns ss
+above_low-le ns ss i h = let b = offset_bounds ns ss i h in omega (arith, span_of-reaches ns ss)
+
+same_offset : (ns : List ℕ) (ss : List ℤ) (i j : List ℕ) → in_box ns i ≡ true → in_box ns j ≡ true → above_low ns ss (offset_of ss i) ≡ above_low ns ss (offset_of ss j) → offset_of ss i ≡ offset_of ss j
+same_offset ns ss i j h q e = above_low-is ns ss i h ∙ ap (λ n. neg_ℤ (pos (reach_down ns ss)) +ℤ pos n) e ∙ sym (above_low-is ns ss j q)
+
+-- distinct numbers below the size, one for each index: each number below it is one of them
+pub IsRun-from_separated : (ns : List ℕ) (ss : List ℤ) → length ss ≡ length ns → IsSeparated ns ss → span_of ns ss + 1 ≡ size_of ns → IsRun ns ss
+IsRun-from_separated ns ss e apart full =
+    let f : ℕ → ℕ = λ r. above_low ns ss (offset_of ss (index_at ns r)) in
+    let below : (r : ℕ) → r < size_of ns → f r < size_of ns =
+    λ r h. let l = above_low-le ns ss (index_at ns r) (in_box-index_at ns r h) in omega arith in
+    let once : (r q : ℕ) → r < size_of ns → q < size_of ns → f r ≡ f q → r ≡ q =
+    λ r q h k same.
+    let i = index_at ns r in
+    let j = index_at ns q in
+    let in_i = in_box-index_at ns r h in
+    let in_j = in_box-index_at ns q k in
+    sym (column_rank-index_at ns r h) ∙ ap (λ x. column_rank ns x) (same_index ns ss i j e apart in_i in_j (same_offset ns ss i j in_i in_j same)) ∙ column_rank-index_at ns q k in
+    record {
+      low = neg_ℤ (pos (reach_down ns ss));
+      inside = λ i h. (above_low ns ss (offset_of ss i), (let l = above_low-le ns ss i h in omega arith), above_low-is ns ss i h);
+      each = λ k h.
+          let w = pigeonhole (size_of ns) f below once k h in
+          let inside = in_box-index_at ns w.0 w.1 in
+          (index_at ns w.0, inside, above_low-is ns ss (index_at ns w.0) inside ∙ ap (λ n. neg_ℤ (pos (reach_down ns ss)) +ℤ pos n) w.2);
+      once = λ i j h q same. same_index ns ss i j e apart h q same;
+    }

@@ -1,0 +1,77 @@
+-- Sizes where one axis gets another length; an inverted axis.
+use Rattle.std.proofs.Common.{ℕ, zero, suc, max, ◌*◌, ◌<◌, ◌≤◌, ◌≡◌, List, [], ◌∷◌, length, get_or, set, arith, refl, ap, sym, subst, ◌∙◌, ℤ, pos, nat_abs}
+use lib.IntN.{neg_ℤ}
+use borrow.Author.Differences.{abs_is, neg_is}
+use Rattle.std.specs.List.{remove}
+use Rattle.std.proofs.Math.Nat.{mul_comm, mul-le-mul_left, mul-le-mul_right}
+use Rattle.std.proofs.lemmas.List.{set-get_or}
+use Rattle.nd_shape_and_slice.specs.Shape.{size_of, nonzero_product, HasCheckedSize}
+use Rattle.nd_shape_and_slice.specs.Place.{span_of, IsSeparated}
+use Rattle.nd_layout.proofs.Permuted.{nonzero-cons}
+use Rattle.nd_layout.proofs.AxisChange.{IsSeparated-changed, span_of-changed}
+use Rattle.nd_layout.proofs.Removed.{mul_left_comm, le-product, nonzero_product-removed}
+
+-- the size with another length
+pub size_of-set : (ns : List ℕ) (a m : ℕ) → a < length ns → size_of (set ns a m) ≡ m * size_of (remove ns a)
+size_of-set [] a m h = absurd (omega arith)
+size_of-set (n ∷ ns) zero m h = refl
+size_of-set (n ∷ ns) (suc a) m h = ap (λ v. n * v) (size_of-set ns a m (omega arith)) ∙ mul_left_comm n m (size_of (remove ns a))
+
+-- the product of the lengths other than 0, likewise
+pub nonzero_product-set : (ns : List ℕ) (a m : ℕ) → a < length ns → nonzero_product (set ns a m) ≡ max 1 m * nonzero_product (remove ns a)
+nonzero_product-set [] a m h = absurd (omega arith)
+nonzero_product-set (n ∷ ns) zero m h = nonzero-cons m ns
+nonzero_product-set (n ∷ ns) (suc a) m h =
+    nonzero-cons n (set ns a m)
+    ∙ ap (λ v. max 1 n * v) (nonzero_product-set ns a m (omega arith))
+    ∙ mul_left_comm (max 1 n) (max 1 m) (nonzero_product (remove ns a))
+    ∙ ap (λ v. max 1 m * v) (sym (nonzero-cons n (remove ns a)))
+
+-- a shorter axis, or one of length 1, keeps the checked size
+pub HasCheckedSize-set : (ns : List ℕ) (a m : ℕ) → a < length ns → m ≤ max 1 (get_or ns a 0) → HasCheckedSize ns → HasCheckedSize (set ns a m)
+HasCheckedSize-set ns a m h shorter few =
+    let product = mul-le-mul_right {m = max 1 m} {n = max 1 (get_or ns a 0)} (nonzero_product (remove ns a)) (omega arith) in
+    omega (arith, few, nonzero_product-set ns a m h, nonzero_product-removed ns a h)
+
+-- that product is positive
+pub nonzero_product-positive : (ns : List ℕ) → 0 < nonzero_product ns
+nonzero_product-positive [] = omega arith
+nonzero_product-positive (n ∷ ns) = let e = nonzero-cons n ns in let p = nonzero_product-positive ns in let l = le-product (max 1 n) (nonzero_product ns) (omega arith) in omega arith
+
+-- no length is greater than the product of those that aren't 0
+pub length-le-product : (ns : List ℕ) (a : ℕ) → a < length ns → get_or ns a 0 ≤ nonzero_product ns
+length-le-product ns a h =
+    let e = nonzero_product-removed ns a h in
+    let l = le-product (nonzero_product (remove ns a)) (max 1 (get_or ns a 0)) (nonzero_product-positive (remove ns a)) in
+    let c = mul_comm (max 1 (get_or ns a 0)) (nonzero_product (remove ns a)) in
+    omega arith
+
+-- an inverted axis
+pub abs-neg : (s : ℤ) → nat_abs (neg_ℤ s) ≡ nat_abs s
+abs-neg s = omega (arith, abs_is (neg_ℤ s), abs_is s, neg_is s)
+
+-- its span
+pub span_of-inverted : (ns : List ℕ) (ss : List ℤ) (a : ℕ) → length ss ≡ length ns → a < length ns → span_of ns (set ss a (neg_ℤ (get_or ss a (pos 0)))) ≤ span_of ns ss
+span_of-inverted ns ss a e h =
+    let same = abs-neg (get_or ss a (pos 0)) in
+    let changed = span_of-changed ns ss a (get_or ns a 0) (neg_ℤ (get_or ss a (pos 0))) e h (rw same (omega arith)) in
+    rw (set-get_or ns a 0) at changed
+
+-- its separation
+pub IsSeparated-inverted : (ns : List ℕ) (ss : List ℤ) (a : ℕ) → length ss ≡ length ns → a < length ns → IsSeparated ns ss → IsSeparated ns (set ss a (neg_ℤ (get_or ss a (pos 0))))
+IsSeparated-inverted ns ss a e h apart =
+    let s = get_or ss a (pos 0) in
+    let changed = IsSeparated-changed ns ss a (get_or ns a 0) (neg_ℤ s) e h (λ _. (1, abs-neg s ∙ one (nat_abs s), omega arith, omega arith)) apart in
+    subst (λ (ms : List ℕ). IsSeparated ms (set ss a (neg_ℤ s))) (set-get_or ns a 0) changed
+  where
+    one : (x : ℕ) → x ≡ 1 * x
+    one x = omega arith
+
+-- the size is at most the product of the lengths that aren't 0
+pub size-le-product : (ns : List ℕ) → size_of ns ≤ nonzero_product ns
+size-le-product [] = omega arith
+size-le-product (n ∷ ns) =
+    let e = nonzero-cons n ns in
+    let a = mul-le-mul_right {m = n} {n = max 1 n} (size_of ns) (omega arith) in
+    let b = mul-le-mul_left {m = size_of ns} {n = nonzero_product ns} (max 1 n) (size-le-product ns) in
+    omega arith

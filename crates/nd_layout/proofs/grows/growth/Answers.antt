@@ -1,0 +1,21 @@
+use Rattle.std.proofs.Common.{sym}
+use Rattle.nd_layout.proofs.GrownLayout.{grown_full, grown_kept}
+use Rattle.nd_layout.proofs.grows.growth.Goals as goal
+
+pub returns-clause-separated : goal.returns-clause-separated
+returns-clause-separated c =
+    λ added.
+    rw c.write_case.ensures.written
+    (grown_full c.args.lengths.now c.args.strides.now c.args.full c.args.axis c.args.added c.write_case.result c.requires.as_many c.requires.on_axis (sym c.write_case.ensures.which) added c.requires.run).0
+
+pub returns-clause-filled : goal.returns-clause-filled
+returns-clause-filled c =
+    λ added.
+    rw c.write_case.ensures.written
+    (grown_full c.args.lengths.now c.args.strides.now c.args.full c.args.axis c.args.added c.write_case.result c.requires.as_many c.requires.on_axis (sym c.write_case.ensures.which) added c.requires.run).1
+
+pub returns-clause-kept : goal.returns-clause-kept
+returns-clause-kept c =
+    λ follows i inside.
+    rw c.write_case.ensures.written
+    (grown_kept c.args.lengths.now c.args.strides.now c.args.full c.args.axis c.args.added c.write_case.result c.requires.as_many c.requires.on_axis (sym c.write_case.ensures.which) follows i inside)

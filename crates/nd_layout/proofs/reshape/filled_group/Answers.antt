@@ -1,0 +1,16 @@
+use Rattle.std.proofs.Common.{arith, ◌≡◌, length, drop}
+use Rattle.std.proofs.lemmas.List.{length-drop}
+use Rattle.nd_layout.specs.Ranks.{ordered}
+use Rattle.nd_layout.proofs.Orders.{length-ordered}
+use Rattle.nd_layout.proofs.Regroups.{Regroups-one_out, Regroups-trans}
+use Rattle.nd_layout.proofs.reshape.filled_group.Goals as goal
+
+pub returns-then-group-eq1-clause-regroups : goal.returns-then-group-eq1-clause-regroups
+returns-then-group-eq1-clause-regroups c =
+    let ns = ordered c.args.order c.args.lengths.now in
+    let ss = ordered c.args.order c.args.strides.now in
+    let ln = length-ordered c.args.order c.args.lengths.now in
+    let ls = length-ordered c.args.order c.args.strides.now in
+    let l : length (drop c.args.group.next ss) ≡ length (drop c.args.group.next ns) = simp length-drop (omega arith) in
+    rw c.if-group-eq1.true
+    (Regroups-trans _ _ _ _ _ _ (Regroups-one_out (drop c.args.group.next ns) (drop c.args.group.next ss) c.args.group.step l) c.next_group.ensures.regroups)

@@ -1,0 +1,61 @@
+use Rattle.std.proofs.Common.{arith, rules, ◌+◌, ◌<◌, ◌≡◌, ◌∙◌, ap, length, drop, refl, pos, get_or, FitsSigned, w64}
+use Rattle.std.proofs.lemmas.Int.{to_z-of_z}
+use Rattle.std.proofs.lemmas.List.{length-drop}
+use Rattle.nd_layout.specs.Ranks.{ordered}
+use Rattle.nd_layout.proofs.Orders.{length-ordered}
+use Rattle.nd_layout.proofs.Regroups.{Regroups-one_in}
+use Rattle.nd_layout.proofs.Grouping.{grouped_more, grouped_size, at_rank-next}
+use Rattle.nd_layout.proofs.reshape.next_group.Goals as goal
+
+pub loop-next-init : goal.loop-next-init
+loop-next-init c =
+    let ns = ordered c.args.order c.args.lengths.now in
+    let ss = ordered c.args.order c.args.strides.now in
+    let ln = length-ordered c.args.order c.args.lengths.now in
+    let ls = length-ordered c.args.order c.args.strides.now in
+    let l : length (drop c.args.from ss) ≡ length (drop c.args.from ns) = simp length-drop (omega arith) in
+    record { at = refl; regroups = Regroups-one_in (drop c.args.from ns) (drop c.args.from ss) (pos 0) l }
+
+pub joined-requires-clause-fits : goal.joined-requires-clause-fits
+joined-requires-clause-fits c =
+    let ns = ordered c.args.order c.args.lengths.now in
+    let ss = ordered c.args.order c.args.strides.now in
+    let ln = length-ordered c.args.order c.args.lengths.now in
+    let p = grouped_size _ _ ns ss c.loop-next.next c.loop-next.group.length c.loop-next.group.step (omega arith) c.requires.some c.loop-next.invariant.regroups in
+    rw c.length_at.ensures (omega arith)
+
+pub joined-requires-clause-some : goal.joined-requires-clause-some
+joined-requires-clause-some c =
+    let ns = ordered c.args.order c.args.lengths.now in
+    let ss = ordered c.args.order c.args.strides.now in
+    let ln = length-ordered c.args.order c.args.lengths.now in
+    let p = grouped_size _ _ ns ss c.loop-next.next c.loop-next.group.length c.loop-next.group.step (omega arith) c.requires.some c.loop-next.invariant.regroups in
+    rw c.length_at.ensures p.0
+
+pub returns-in-None-clause-closed : goal.returns-in-None-clause-closed
+returns-in-None-clause-closed c long more =
+    let ns = ordered c.args.order c.args.lengths.now in
+    let ss = ordered c.args.order c.args.strides.now in
+    let ln = length-ordered c.args.order c.args.lengths.now in
+    let ls = length-ordered c.args.order c.args.strides.now in
+    let apart = c.in-None.ensures in
+    let f : FitsSigned w64 c.stride_at.result = search rules in
+    let same = to_z-of_z w64 c.stride_at.result f in
+    let n_is = c.length_at.ensures in
+    let wide : 1 < get_or ns c.loop-next.next 0 = omega arith in
+    let at = at_rank-next ns ss c.loop-next.next (omega arith) (omega arith) wide in
+    rw c.loop-next.invariant.at (rw at (λ is. apart.2 (same ∙ c.stride_at.ensures ∙ is)))
+
+pub loop-next-preserved : goal.loop-next-preserved
+loop-next-preserved c =
+    let ns = ordered c.args.order c.args.lengths.now in
+    let ss = ordered c.args.order c.args.strides.now in
+    let ln = length-ordered c.args.order c.args.lengths.now in
+    let ls = length-ordered c.args.order c.args.strides.now in
+    let joins = c.in-Some.ensures in
+    let f : FitsSigned w64 c.stride_at.result = search rules in
+    let same = to_z-of_z w64 c.stride_at.result f in
+    record {
+      at = joins.0 ∙ ap (λ n. n + 1) c.loop-next.invariant.at;
+      regroups = grouped_more _ _ ns ss c.loop-next.next _ _ _ _ (omega arith) (omega arith) (rw (same, c.length_at.ensures, c.stride_at.ensures) at joins.1) c.loop-next.invariant.regroups;
+    }

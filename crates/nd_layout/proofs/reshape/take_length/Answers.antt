@@ -1,0 +1,28 @@
+use Rattle.std.proofs.Common.{arith, rules, ◌∷◌, ◌<◌, ◌≡◌, sym, length, drop, pos}
+use Rattle.std.proofs.lemmas.List.{length-drop}
+use Rattle.nd_layout.specs.Ranks.{ordered}
+use Rattle.nd_layout.proofs.Orders.{length-ordered}
+use Rattle.nd_layout.proofs.Regroups.{Regroups-one_in}
+use Rattle.nd_layout.proofs.Grouping.{taken}
+use Rattle.nd_layout.proofs.reshape.take_length.Goals as goal
+
+pub returns-then-len-eq1 : goal.returns-then-len-eq1
+returns-then-len-eq1 c =
+    let ns = ordered c.args.order c.args.lengths.now in
+    let ss = ordered c.args.order c.args.strides.now in
+    let g = c.args.group in
+    let ln = length-ordered c.args.order c.args.lengths.now in
+    let ls = length-ordered c.args.order c.args.strides.now in
+    let l : length (drop g.next ss) ≡ length (drop g.next ns) = simp length-drop (omega arith) in
+    rw c.if-len-eq1.true (Regroups-one_in (g.length ∷ drop g.next ns) (g.step ∷ drop g.next ss) (pos 0) (omega arith), c.requires.on, c.requires.closed)
+
+pub returns : goal.returns
+returns c =
+    let ns = ordered c.args.order c.args.lengths.now in
+    let ss = ordered c.args.order c.args.strides.now in
+    let ln = length-ordered c.args.order c.args.lengths.now in
+    let ls = length-ordered c.args.order c.args.strides.now in
+    let e : length ss ≡ length ns = omega arith in
+    let long : 1 < c.args.len = search rules in
+    rw (sym ln)
+    (taken ns ss c.args.group c.filled_group.result c.args.len c.split_group.result e long c.requires.some c.filled_group.ensures.regroups c.filled_group.ensures.closed c.filled_group.ensures.wide c.split_group.ensures (omega arith))

@@ -1,0 +1,6 @@
+use Rattle.std.proofs.Common.{◌≡◌, ◌+◌, drop}
+use Rattle.nd_shape_and_slice.specs.Place.{span_of}
+use Rattle.nd_layout.proofs.spans.span.Given as goal
+
+abbrev pub invariant-loop-axis : goal.invariant-loop-axis
+invariant-loop-axis l = l.total + span_of (drop l.axis l.lengths) (drop l.axis l.strides) ≡ span_of l.lengths l.strides

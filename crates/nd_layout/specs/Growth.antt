@@ -1,0 +1,56 @@
+-- The layout after an array has grown along one axis.
+use Rattle.std.specs.Prelude.{ℕ, ◌+◌, ◌*◌, max, Bool, not, ◌&&◌, ◌||◌, nat_eq, nat_lt, nat_le, if◌then◌else◌, List, [], ◌∷◌, length, replicate, slice_index, slice_index_or, slice_set, ℤ, pos, nat_abs, int_lt}
+use Rattle.std.specs.List.{remove, insert}
+use Rattle.nd_shape_and_slice.specs.Shape.{size_of}
+use Rattle.nd_shape_and_slice.specs.Strides.{row_strides}
+
+-- the shape after `added` more lengths along an axis
+abbrev pub grown : List ℕ → ℕ → ℕ → List ℕ
+grown ns axis added = slice_set ns axis (slice_index ns axis + added)
+
+-- each axis has p times the product of the earlier lengths
+abbrev pub column_strides_from : ℕ → List ℕ → List ℤ
+column_strides_from p [] = []
+column_strides_from p (n ∷ ns) = pos p ∷ column_strides_from (p * n) ns
+
+-- The strides of fresh storage that is to grow along an axis. Where it is the last axis, each axis has the
+-- product of the earlier lengths. Else they are the row-major strides of the shape with this axis moved to the
+-- front, each axis keeping its own stride. So the axis has the product of all other lengths.
+abbrev pub growing_strides : ℕ → List ℕ → List ℤ
+growing_strides axis ns = if nat_eq (axis + 1) (length ns) then column_strides_from 1 ns else insert (row_strides (remove ns axis)) axis (pos (size_of (remove ns axis)))
+
+-- the greatest magnitude of the axes longer than 1
+abbrev pub greatest_step : List ℕ → List ℤ → ℕ
+greatest_step [] ss = 0
+greatest_step (n ∷ ns) [] = 0
+greatest_step (n ∷ ns) (s ∷ ss) = max (if nat_lt 1 n then nat_abs s else 0) (greatest_step ns ss)
+
+-- the greatest length times magnitude of the axes longer than 1, at least 1
+abbrev pub greatest_end : List ℕ → List ℤ → ℕ
+greatest_end [] ss = 1
+greatest_end (n ∷ ns) [] = 1
+greatest_end (n ∷ ns) (s ∷ ss) = max (if nat_lt 1 n then n * nat_abs s else 0) (greatest_end ns ss)
+
+-- the axis is longer than 1, and its stride is negative or below the magnitude of another axis longer than 1:
+-- more lengths can't follow at the end of storage
+abbrev pub must_move : List ℕ → List ℤ → ℕ → Bool
+must_move ns ss axis = nat_lt 1 (slice_index ns axis) && (int_lt (slice_index_or ss axis (pos 0)) (pos 0) || nat_lt (nat_abs (slice_index_or ss axis (pos 0))) (greatest_step (slice_set ns axis 1) ss))
+
+-- Which case of growth applies, the first that does. 1: the result is empty. 2: nothing is added. 3: the array
+-- is empty. 4: the storage holds more than the array, or the axis must move. 5: the axis is of length 1.
+-- 6: any other.
+abbrev pub growth_case : List ℕ → List ℤ → Bool → ℕ → ℕ → ℕ
+growth_case ns ss full axis added =
+    if nat_eq (size_of (grown ns axis added)) 0 then 1 else
+    if nat_eq added 0 then 2 else
+    if nat_eq (size_of ns) 0 then 3 else
+    if not full || must_move ns ss axis then 4 else
+    if nat_le (slice_index ns axis) 1 then 5 else 6
+
+-- the strides of the result in each case
+abbrev pub strides_in_case : ℕ → List ℕ → List ℤ → ℕ → ℕ → List ℤ
+strides_in_case row ns ss axis added =
+    if nat_eq row 1 then replicate (length ns) (pos 0) else
+    if nat_eq row 3 then growing_strides axis (grown ns axis added) else
+    if nat_eq row 4 then growing_strides axis ns else
+    if nat_eq row 5 then slice_set ss axis (pos (greatest_end (slice_set ns axis 1) ss)) else ss

@@ -1,0 +1,4 @@
+pub mod Strides
+pub mod Ranks
+pub mod Groups
+pub mod Growth

@@ -1,0 +1,212 @@
+//! Strides after an array has grown along an axis.
+
+ghost use Rattle.std.specs.Prelude.{ℕ, List, true, ◌↔◌, ◌≡◌, ◌<◌, ◌≤◌, ◌^◌, ◌⊎◌, length, IsTrue, slice_set, nat_eq, nat_lt, if◌then◌else◌, ◌+◌, ◌-◌, ◌*◌};
+ghost use Rattle.nd_shape_and_slice.specs.Shape.{HasCheckedSize, in_box, size_of};
+ghost use Rattle.nd_shape_and_slice.specs.Place.{IsSeparated, offset_of, span_of};
+ghost use Rattle.nd_layout.specs.Ranks.{ordered, IsRun};
+ghost use Rattle.nd_layout.specs.Growth.{column_strides_from, greatest_end, greatest_step, grown, growing_strides, growth_case, must_move, strides_in_case};
+
+use crate::order::Order;
+use crate::ordered::{axis_at, has_no_elements, put_at};
+use crate::spans::length_without;
+
+/// Whether the other axes have no elements: some length but this axis's is 0.
+fn others_are_empty(lengths: &[usize], axis: usize) -> bool
+    ensures { IsTrue result ↔ (size_of (slice_set lengths.now axis 1) ≡ 0) }
+{
+    for other in 0..lengths.len() {
+        if length_without(lengths, axis, other) == 0 {
+            return true;
+        }
+    }
+    false
+}
+
+/// Writes for each axis the product of the faster lengths, this axis's left out, and answers the product of
+/// all the others.
+fn fill_strides(lengths: &[usize], axis: usize, order: Order, out: &mut [isize]) -> usize
+    requires few { length lengths.now ≤ 32 }
+    requires as_long { length out.old ≡ length lengths.now }
+    requires some { 0 < size_of (slice_set lengths.now axis 1) }
+    requires fits { size_of (slice_set lengths.now axis 1) < 2 ^ 63 }
+    ensures value { result ≡ size_of (slice_set lengths.now axis 1) }
+    ensures written { ordered order out.new ≡ column_strides_from 1 (ordered order (slice_set lengths.now axis 1)) }
+{
+    let mut product: usize = 1;
+    for place in 0..lengths.len() {
+        put_at(out, order, place, product as isize);
+        product *= length_without(lengths, axis, axis_at(order, lengths.len(), place));
+    }
+    product
+}
+
+/// The order in which fresh storage is laid out that is to grow along an axis: the axis is the slowest.
+fn growing_order(axis: usize, count: usize) -> Order
+    requires on_axis { axis < count }
+    requires few { count ≤ 32 }
+    ensures { result ≡ (if nat_eq (axis + 1) count then Order.ColumnMajor else Order.RowMajor) }
+{
+    if axis + 1 == count {
+        Order::ColumnMajor
+    } else {
+        Order::RowMajor
+    }
+}
+
+/// Writes the strides of fresh storage that is to grow along an axis.
+fn lay_out(lengths: &[usize], axis: usize, out: &mut [isize])
+    requires few { length lengths.now ≤ 32 }
+    requires as_long { length out.old ≡ length lengths.now }
+    requires on_axis { axis < length lengths.now }
+    requires some { 0 < size_of (slice_set lengths.now axis 1) }
+    requires fits { size_of (slice_set lengths.now axis 1) < 2 ^ 63 }
+    ensures { out.new ≡ growing_strides axis lengths.now }
+{
+    let others = fill_strides(lengths, axis, growing_order(axis, lengths.len()), out);
+    out[axis] = others as isize;
+}
+
+/// The greatest magnitude of the other axes longer than 1.
+fn greatest_step_beside(lengths: &[usize], strides: &[isize], axis: usize) -> usize
+    requires as_many { length strides.now ≡ length lengths.now }
+    ensures { result ≡ greatest_step (slice_set lengths.now axis 1) strides.now }
+{
+    let mut greatest: usize = 0;
+    for other in 0..lengths.len() {
+        let step = strides[other].unsigned_abs();
+        if length_without(lengths, axis, other) > 1 && step > greatest {
+            greatest = step;
+        }
+    }
+    greatest
+}
+
+/// An axis's length times its magnitude, where it is longer than 1.
+fn end_of(len: usize, step: usize) -> usize
+    requires { (len - 1) * step < 2 ^ 63 }
+    ensures { result ≡ (if nat_lt 1 len then len * step else 0) }
+{
+    if len > 1 { len * step } else { 0 }
+}
+
+/// The greatest length times magnitude of the other axes longer than 1, at least 1.
+fn greatest_end_beside(lengths: &[usize], strides: &[isize], axis: usize) -> usize
+    requires as_many { length strides.now ≡ length lengths.now }
+    requires fits { span_of (slice_set lengths.now axis 1) strides.now < 2 ^ 63 }
+    ensures { result ≡ greatest_end (slice_set lengths.now axis 1) strides.now }
+{
+    let mut greatest: usize = 1;
+    for other in 0..lengths.len() {
+        let end = end_of(
+            length_without(lengths, axis, other),
+            strides[other].unsigned_abs(),
+        );
+        if end > greatest {
+            greatest = end;
+        }
+    }
+    greatest
+}
+
+/// Whether more lengths of an axis can't follow at the end of storage.
+fn moves(lengths: &[usize], strides: &[isize], axis: usize) -> bool
+    requires as_many { length strides.now ≡ length lengths.now }
+    requires on_axis { axis < length lengths.now }
+    ensures { result ≡ must_move lengths.now strides.now axis }
+{
+    let stride = strides[axis];
+    lengths[axis] > 1
+        && (stride < 0 || stride.unsigned_abs() < greatest_step_beside(lengths, strides, axis))
+}
+
+/// Whether the result has no elements.
+fn grown_is_empty(lengths: &[usize], axis: usize, added: usize) -> bool
+    requires on_axis { axis < length lengths.now }
+    requires checked { HasCheckedSize (grown lengths.now axis added) }
+    ensures { IsTrue result ↔ (size_of (grown lengths.now axis added) ≡ 0) }
+{
+    lengths[axis] + added == 0 || others_are_empty(lengths, axis)
+}
+
+/// Which case of growth applies.
+fn growth_number(lengths: &[usize], strides: &[isize], full: bool, axis: usize, added: usize) -> u8
+    requires as_many { length strides.now ≡ length lengths.now }
+    requires on_axis { axis < length lengths.now }
+    requires checked { HasCheckedSize (grown lengths.now axis added) }
+    ensures { result ≡ growth_case lengths.now strides.now full axis added }
+{
+    if grown_is_empty(lengths, axis, added) {
+        1
+    } else if added == 0 {
+        2
+    } else if has_no_elements(lengths) {
+        3
+    } else if !full || moves(lengths, strides, axis) {
+        4
+    } else if lengths[axis] <= 1 {
+        5
+    } else {
+        6
+    }
+}
+
+/// The case of growth, and its strides written into `out`.
+fn write_case(
+    lengths: &[usize],
+    strides: &[isize],
+    full: bool,
+    axis: usize,
+    added: usize,
+    out: &mut [isize],
+) -> u8
+    requires as_many { length strides.now ≡ length lengths.now }
+    requires few { length lengths.now ≤ 32 }
+    requires checked { HasCheckedSize lengths.now }
+    requires fits { span_of lengths.now strides.now < 2 ^ 63 }
+    requires on_axis { axis < length lengths.now }
+    requires as_long { length out.old ≡ length lengths.now }
+    requires grown { HasCheckedSize (grown lengths.now axis added) }
+    requires run { IsTrue full → (size_of lengths.now ≡ 0) ⊎ IsRun lengths.now strides.now }
+    ensures which { result ≡ growth_case lengths.now strides.now full axis added }
+    ensures written { out.new ≡ strides_in_case result lengths.now strides.now axis added }
+{
+    let number = growth_number(lengths, strides, full, axis, added);
+    match number {
+        1 => out.fill(0),
+        3 | 4 => lay_out(lengths, axis, out),
+        5 => {
+            out.copy_from_slice(strides);
+            out[axis] = greatest_end_beside(lengths, strides, axis) as isize;
+        }
+        _ => out.copy_from_slice(strides),
+    }
+    number
+}
+
+/// Which case of growth applies where `added` lengths follow along an axis, from 1 to 6, with the strides of
+/// the result in `out`. 1: the result is empty. 2: nothing is added. 3: the array is empty. 4: the storage
+/// isn't full, or the elements have to move. 5: the axis is of length 1. 6: the new elements follow the old.
+pub fn growth(
+    lengths: &[usize],
+    strides: &[isize],
+    full: bool,
+    axis: usize,
+    added: usize,
+    out: &mut [isize],
+) -> u8
+    requires as_many { length strides.now ≡ length lengths.now }
+    requires few { length lengths.now ≤ 32 }
+    requires checked { HasCheckedSize lengths.now }
+    requires fits { span_of lengths.now strides.now < 2 ^ 63 }
+    requires on_axis { axis < length lengths.now }
+    requires as_long { length out.old ≡ length lengths.now }
+    requires grown { HasCheckedSize (grown lengths.now axis added) }
+    requires run { IsTrue full → (size_of lengths.now ≡ 0) ⊎ IsRun lengths.now strides.now }
+    ensures which { result ≡ growth_case lengths.now strides.now full axis added }
+    ensures written { out.new ≡ strides_in_case result lengths.now strides.now axis added }
+    ensures separated { 2 < result → IsSeparated (grown lengths.now axis added) out.new }
+    ensures filled { 2 < result → span_of (grown lengths.now axis added) out.new + 1 ≡ size_of (grown lengths.now axis added) }
+    ensures kept { 4 < result → (i : List ℕ) → in_box lengths.now i ≡ true → offset_of out.new i ≡ offset_of strides.now i }
+{
+    write_case(lengths, strides, full, axis, added, out)
+}

@@ -1,0 +1,19 @@
+//! Lengths and strides of n-dimensional arrays: how far apart elements lie, whether two indexes can share a
+//! place, and which strides serve another shape. No storage and no element.
+#![tactic(auto)]
+
+mod grows;
+mod order;
+mod ordered;
+mod reshape;
+mod runs;
+mod spans;
+
+pub use grows::growth;
+pub use order::Order;
+pub use reshape::reshape_strides;
+pub use runs::{is_run, is_standard};
+pub use spans::{separated, span};
+
+#[cfg(test)]
+mod tests;

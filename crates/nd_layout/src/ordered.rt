@@ -1,0 +1,56 @@
+//! Lengths and strides of the axes from the fastest on.
+
+ghost use Rattle.std.specs.Prelude.{◌↔◌, ◌≡◌, ◌<◌, pos, length, IsTrue, slice_index, slice_index_or, slice_set};
+ghost use Rattle.nd_shape_and_slice.specs.Shape.{size_of};
+ghost use Rattle.nd_layout.specs.Ranks.{ordered, axis_in};
+
+use crate::order::Order;
+
+/// Which of `count` axes is the `place`-th fastest.
+pub(crate) fn axis_at(order: Order, count: usize, place: usize) -> usize
+    requires { place < count }
+    ensures below { result < count }
+    ensures value { result ≡ axis_in order count place }
+{
+    match order {
+        Order::RowMajor => count - 1 - place,
+        Order::ColumnMajor => place,
+    }
+}
+
+/// The length of the `place`-th fastest axis.
+pub(crate) fn length_at(lengths: &[usize], order: Order, place: usize) -> usize
+    requires { place < length lengths.now }
+    ensures { result ≡ slice_index (ordered order lengths.now) place }
+{
+    lengths[axis_at(order, lengths.len(), place)]
+}
+
+/// The stride of the `place`-th fastest axis.
+pub(crate) fn stride_at(strides: &[isize], order: Order, place: usize) -> isize
+    requires { place < length strides.now }
+    ensures { result ≡ slice_index_or (ordered order strides.now) place (pos 0) }
+{
+    strides[axis_at(order, strides.len(), place)]
+}
+
+/// Writes the stride of the `place`-th fastest axis.
+pub(crate) fn put_at(out: &mut [isize], order: Order, place: usize, stride: isize)
+    requires { place < length out.old }
+    ensures { ordered order out.new ≡ slice_set (ordered order out.old) place stride }
+{
+    let axis = axis_at(order, out.len(), place);
+    out[axis] = stride;
+}
+
+/// Whether a shape has no elements: some length is 0.
+pub(crate) fn has_no_elements(lengths: &[usize]) -> bool
+    ensures { IsTrue result ↔ (size_of lengths.now ≡ 0) }
+{
+    for length in lengths {
+        if *length == 0 {
+            return true;
+        }
+    }
+    false
+}

@@ -1,0 +1,224 @@
+//! Strides under which another shape names the same places in the same order.
+
+ghost use Rattle.std.specs.Prelude.{◌↔◌, ◌≡◌, ◌<◌, ◌≤◌, ◌^◌, ◌-◌, ◌*◌, ◌%◌, ◌+◌, ◌*ℤ◌, ℕ, ℤ, pos, List, ◌∷◌, length, drop, replicate, IsTrue, MatchOption, slice_index, slice_index_or, slice_set, nat_abs};
+ghost use Rattle.nd_shape_and_slice.specs.Shape.{size_of};
+ghost use Rattle.nd_shape_and_slice.specs.Place.{span_of, IsSeparated};
+ghost use Rattle.nd_layout.specs.Ranks.{ordered, axis_in, Serves, ServesRanks, Regroups};
+ghost use Rattle.nd_layout.specs.Groups.{IsClosed, Takes};
+
+use crate::order::Order;
+use crate::ordered::{has_no_elements, length_at, put_at, stride_at};
+
+/// Axes that go on from one another, seen as one axis, and the number of the next axis.
+#[derive(Clone, Copy)]
+struct Group {
+    length: usize,
+    step: isize,
+    next: usize,
+}
+
+/// Whether an axis of this stride goes on where the group ends.
+fn goes_on(group: Group, stride: isize) -> bool
+    requires { group.length < 2 ^ 63 }
+    ensures { IsTrue result ↔ (stride ≡ pos group.length *ℤ group.step) }
+{
+    match group.step.checked_mul(group.length as isize) {
+        Some(next) => next == stride,
+        None => false,
+    }
+}
+
+/// The group with the next axis, where that goes on from it. An axis of length 1 always does.
+fn joined(group: Group, len: usize, stride: isize) -> Option<Group>
+    requires fits { group.length * len < 2 ^ 63 }
+    requires some { 0 < group.length * len }
+    requires few { group.next < 32 }
+    ensures { MatchOption result
+        ((1 < len) × (1 < group.length) × (stride ≡ pos group.length *ℤ group.step → ⊥))
+        (λ more. (more.next ≡ group.next + 1) × ((ns : List ℕ) (ss : List ℤ) → length ss ≡ length ns → Regroups (group.length ∷ len ∷ ns) (group.step ∷ stride ∷ ss) (more.length ∷ ns) (more.step ∷ ss))) }
+{
+    let next = group.next + 1;
+    if len == 1 {
+        Some(Group {
+            length: group.length,
+            step: group.step,
+            next,
+        })
+    } else if group.length == 1 {
+        Some(Group {
+            length: len,
+            step: stride,
+            next,
+        })
+    } else if goes_on(group, stride) {
+        Some(Group {
+            length: group.length * len,
+            step: group.step,
+            next,
+        })
+    } else {
+        None
+    }
+}
+
+/// The axes from `from` on that go on from one another, as one axis that no further axis goes on from.
+fn next_group(lengths: &[usize], strides: &[isize], order: Order, from: usize) -> Group
+    requires as_many { length strides.now ≡ length lengths.now }
+    requires few { length lengths.now ≤ 32 }
+    requires on { from ≤ length lengths.now }
+    requires some { 0 < size_of (drop from (ordered order lengths.now)) }
+    requires fits { size_of (drop from (ordered order lengths.now)) < 2 ^ 63 }
+    ensures on { result.next ≤ length lengths.now }
+    ensures regroups { Regroups (drop from (ordered order lengths.now)) (drop from (ordered order strides.now)) (result.length ∷ drop result.next (ordered order lengths.now)) (result.step ∷ drop result.next (ordered order strides.now)) }
+    ensures closed { IsClosed result (ordered order lengths.now) (ordered order strides.now) }
+    ensures wide { 1 < size_of (drop result.next (ordered order lengths.now)) → 1 < result.length }
+{
+    let mut group = Group {
+        length: 1,
+        step: 0,
+        next: from,
+    };
+    for next in from..lengths.len() {
+        match joined(
+            group,
+            length_at(lengths, order, next),
+            stride_at(strides, order, next),
+        ) {
+            Some(more) => group = more,
+            None => return group,
+        }
+    }
+    group
+}
+
+/// A number times a stride.
+fn times(stride: isize, count: usize) -> isize
+    requires small { count < 2 ^ 63 }
+    requires fits { count * nat_abs stride < 2 ^ 63 }
+    ensures { result ≡ pos count *ℤ stride }
+{
+    stride * count as isize
+}
+
+/// The stride of what is left of a group after a new axis of length `len`: none where nothing is left.
+fn step_left(step: isize, len: usize, left: usize) -> isize
+    requires small { len < 2 ^ 63 }
+    requires fits { 1 < left → len * nat_abs step < 2 ^ 63 }
+    ensures { 1 < left → result ≡ pos len *ℤ step }
+{
+    if left > 1 { times(step, len) } else { 0 }
+}
+
+/// The stride of a new axis of length `len`, the first of the group's, and what is left of the group. None
+/// where the length doesn't divide the group.
+fn split_group(group: Group, len: usize) -> Option<(isize, Group)>
+    requires long { 1 < len }
+    requires some { 0 < group.length }
+    requires small { group.length < 2 ^ 63 }
+    requires fits { (group.length - 1) * nat_abs group.step < 2 ^ 63 }
+    ensures { MatchOption result
+        (0 < group.length % len)
+        (λ r. (r.0 ≡ group.step) × (group.length ≡ len * r.1.length) × (1 < r.1.length → r.1.step ≡ pos len *ℤ group.step) × (r.1.next ≡ group.next)) }
+{
+    if group.length % len != 0 {
+        return None;
+    }
+    let left = group.length / len;
+    let step = step_left(group.step, len, left);
+    Some((
+        group.step,
+        Group {
+            length: left,
+            step,
+            next: group.next,
+        },
+    ))
+}
+
+/// The group, or the next one where it is used up.
+fn filled_group(lengths: &[usize], strides: &[isize], order: Order, group: Group) -> Group
+    requires as_many { length strides.now ≡ length lengths.now }
+    requires few { length lengths.now ≤ 32 }
+    requires on { group.next ≤ length lengths.now }
+    requires some { 0 < group.length * size_of (drop group.next (ordered order lengths.now)) }
+    requires small { group.length * size_of (drop group.next (ordered order lengths.now)) < 2 ^ 63 }
+    requires closed { IsClosed group (ordered order lengths.now) (ordered order strides.now) }
+    ensures on { result.next ≤ length lengths.now }
+    ensures regroups { Regroups (group.length ∷ drop group.next (ordered order lengths.now)) (group.step ∷ drop group.next (ordered order strides.now)) (result.length ∷ drop result.next (ordered order lengths.now)) (result.step ∷ drop result.next (ordered order strides.now)) }
+    ensures closed { IsClosed result (ordered order lengths.now) (ordered order strides.now) }
+    ensures wide { 1 < size_of (drop result.next (ordered order lengths.now)) → 1 < result.length }
+{
+    if group.length == 1 {
+        next_group(lengths, strides, order, group.next)
+    } else {
+        group
+    }
+}
+
+/// The stride of the next new axis, of length `len`, and the group that is left. None where no strides serve.
+fn take_length(
+    lengths: &[usize],
+    strides: &[isize],
+    order: Order,
+    group: Group,
+    len: usize,
+) -> Option<(isize, Group)>
+    requires as_many { length strides.now ≡ length lengths.now }
+    requires few { length lengths.now ≤ 32 }
+    requires on { group.next ≤ length lengths.now }
+    requires some { 0 < len * (group.length * size_of (drop group.next (ordered order lengths.now))) }
+    requires small { group.length * size_of (drop group.next (ordered order lengths.now)) < 2 ^ 63 }
+    requires fits { (group.length - 1) * nat_abs group.step + span_of (drop group.next (ordered order lengths.now)) (drop group.next (ordered order strides.now)) < 2 ^ 63 }
+    requires closed { IsClosed group (ordered order lengths.now) (ordered order strides.now) }
+    ensures { MatchOption result
+        ((ms : List ℕ) (ts : List ℤ) → len * size_of ms ≡ group.length * size_of (drop group.next (ordered order lengths.now)) → ServesRanks (group.length ∷ drop group.next (ordered order lengths.now)) (group.step ∷ drop group.next (ordered order strides.now)) (len ∷ ms) ts → ⊥)
+        (λ r. Takes (ordered order lengths.now) (ordered order strides.now) group len r.0 r.1 × (r.1.next ≤ length lengths.now) × IsClosed r.1 (ordered order lengths.now) (ordered order strides.now)) }
+{
+    if len == 1 {
+        return Some((0, group));
+    }
+    split_group(filled_group(lengths, strides, order, group), len)
+}
+
+/// Strides that give the new lengths the same places in the same order, written into `out`. False exactly
+/// where no integers do, and then `out` holds nothing of use.
+pub fn reshape_strides(
+    lengths: &[usize],
+    strides: &[isize],
+    new: &[usize],
+    order: Order,
+    out: &mut [isize],
+) -> bool
+    requires as_many { length strides.now ≡ length lengths.now }
+    requires few { length lengths.now ≤ 32 }
+    requires few_new { length new.now ≤ 32 }
+    requires as_long { length out.old ≡ length new.now }
+    requires same_size { size_of lengths.now ≡ size_of new.now }
+    requires checked { size_of new.now < 2 ^ 63 }
+    requires fits { span_of lengths.now strides.now < 2 ^ 63 }
+    ensures exact { IsTrue result ↔ ((ts : List ℤ) × Serves order lengths.now strides.now new.now ts) }
+    ensures serves { IsTrue result → Serves order lengths.now strides.now new.now out.new }
+    ensures span { IsTrue result → span_of new.now out.new ≤ span_of lengths.now strides.now }
+    ensures separated { IsTrue result → 0 < size_of new.now → IsSeparated lengths.now strides.now → IsSeparated new.now out.new }
+    ensures empty { size_of new.now ≡ 0 → out.new ≡ replicate (length new.now) (pos 0) }
+{
+    if has_no_elements(new) {
+        out.fill(0);
+        return true;
+    }
+    let mut group = Group {
+        length: 1,
+        step: 0,
+        next: 0,
+    };
+    for place in 0..new.len() {
+        match take_length(lengths, strides, order, group, length_at(new, order, place)) {
+            Some((stride, left)) => {
+                put_at(out, order, place, stride);
+                group = left;
+            }
+            None => return false,
+        }
+    }
+    true
+}

@@ -1,0 +1,70 @@
+//! Whether the elements of a layout lie in order, or at least side by side.
+
+ghost use Rattle.std.specs.Prelude.{◌↔◌, ◌≡◌, ◌≢◌, ◌<◌, ◌≤◌, ◌^◌, ◌⊎◌, pos, length, IsTrue};
+ghost use Rattle.nd_shape_and_slice.specs.Shape.{HasCheckedSize, size_of};
+ghost use Rattle.nd_shape_and_slice.specs.Place.{span_of};
+ghost use Rattle.nd_layout.specs.Ranks.{IsRun, IsStandard};
+
+use crate::order::Order;
+use crate::ordered::{has_no_elements, length_at, stride_at};
+use crate::spans::{separated, span};
+
+/// Whether an axis steps by this number: one of length 1 makes no step.
+fn steps_by(len: usize, stride: isize, count: usize) -> bool
+    requires { count < 2 ^ 63 }
+    ensures { IsTrue result ↔ (len ≢ 1 → stride ≡ pos count) }
+{
+    len == 1 || stride == count as isize
+}
+
+/// Whether the layout is the standard one: each index lies at its row-major rank from the first place.
+pub fn is_standard(lengths: &[usize], strides: &[isize]) -> bool
+    requires as_many { length strides.now ≡ length lengths.now }
+    requires few { length lengths.now ≤ 32 }
+    requires checked { HasCheckedSize lengths.now }
+    requires fits { span_of lengths.now strides.now < 2 ^ 63 }
+    ensures { IsTrue result ↔ IsStandard lengths.now strides.now }
+{
+    if has_no_elements(lengths) {
+        return true;
+    }
+    let mut expected: usize = 1;
+    for place in 0..lengths.len() {
+        let len = length_at(lengths, Order::RowMajor, place);
+        if !steps_by(len, stride_at(strides, Order::RowMajor, place), expected) {
+            return false;
+        }
+        expected *= len;
+    }
+    true
+}
+
+/// How many elements a shape has that has some.
+fn count_of(lengths: &[usize]) -> usize
+    requires some { 0 < size_of lengths.now }
+    requires fits { size_of lengths.now < 2 ^ 63 }
+    ensures { result ≡ size_of lengths.now }
+{
+    let mut count: usize = 1;
+    for length in lengths {
+        count *= *length;
+    }
+    count
+}
+
+/// Whether the places of all indexes are as many consecutive numbers as there are indexes, each once.
+pub fn is_run(lengths: &[usize], strides: &[isize]) -> bool
+    requires as_many { length strides.now ≡ length lengths.now }
+    requires few { length lengths.now ≤ 32 }
+    requires checked { HasCheckedSize lengths.now }
+    requires fits { span_of lengths.now strides.now < 2 ^ 63 }
+    ensures { IsTrue result ↔ ((size_of lengths.now ≡ 0) ⊎ IsRun lengths.now strides.now) }
+{
+    if has_no_elements(lengths) {
+        return true;
+    }
+    match span(lengths, strides) {
+        Some(reach) => reach + 1 == count_of(lengths) && separated(lengths, strides),
+        None => false,
+    }
+}

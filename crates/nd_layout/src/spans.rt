@@ -1,0 +1,98 @@
+//! How far apart the elements of a layout lie, and whether they are kept apart.
+
+ghost use Rattle.std.specs.Prelude.{◌↔◌, ◌≡◌, ◌<◌, ◌≤◌, ◌^◌, ◌-◌, ◌*◌, ◌+◌, ℕ, length, IsTrue, MatchOption, slice_index, slice_set, nat_abs, nat_le, if◌then◌else◌};
+ghost use Rattle.nd_shape_and_slice.specs.Place.{span_of, span_within, magnitude_at, IsSeparated};
+
+const LARGEST: usize = isize::MAX as usize;
+
+/// How far one axis reaches: (length - 1) times the stride's magnitude, where that is a `usize`.
+fn reach(length: usize, stride: isize) -> Option<usize>
+    ensures { MatchOption result (2 ^ 64 ≤ (length - 1) * nat_abs stride) (λ n. n ≡ (length - 1) * nat_abs stride) }
+{
+    length.saturating_sub(1).checked_mul(stride.unsigned_abs())
+}
+
+/// How far apart two elements of a layout can lie at most: over the axes the sum of (length - 1) times the
+/// stride's magnitude. None exactly where that passes `isize::MAX`.
+pub fn span(lengths: &[usize], strides: &[isize]) -> Option<usize>
+    requires as_many { length strides.now ≡ length lengths.now }
+    requires few { length lengths.now ≤ 32 }
+    ensures { MatchOption result (2 ^ 63 ≤ span_of lengths.now strides.now) (λ n. (n ≡ span_of lengths.now strides.now) × (n < 2 ^ 63)) }
+{
+    let mut total: usize = 0;
+    for axis in 0..lengths.len() {
+        total = total.checked_add(reach(lengths[axis], strides[axis])?)?;
+    }
+    if total <= LARGEST { Some(total) } else { None }
+}
+
+/// How far one axis reaches, counted only where its stride is of this magnitude at most.
+fn reach_within(length: usize, stride: isize, magnitude: usize) -> Option<usize>
+    ensures { let counted = if nat_le (nat_abs stride) magnitude then (length - 1) * nat_abs stride else 0 in
+        MatchOption result (2 ^ 64 ≤ counted) (λ n. n ≡ counted) }
+{
+    if stride.unsigned_abs() <= magnitude {
+        reach(length, stride)
+    } else {
+        Some(0)
+    }
+}
+
+/// The length of an axis, 1 in place of that of the axis left out.
+pub(crate) fn length_without(lengths: &[usize], left_out: usize, axis: usize) -> usize
+    requires on_axis { axis < length lengths.now }
+    ensures { result ≡ slice_index (slice_set lengths.now left_out 1) axis }
+{
+    if axis == left_out { 1 } else { lengths[axis] }
+}
+
+/// How far the other axes of at most this magnitude reach together, where that is a `usize`.
+fn reach_of_others(
+    lengths: &[usize],
+    strides: &[isize],
+    axis: usize,
+    magnitude: usize,
+) -> Option<usize>
+    requires as_many { length strides.now ≡ length lengths.now }
+    ensures { let others = span_within magnitude (slice_set lengths.now axis 1) strides.now in
+        MatchOption result (2 ^ 64 ≤ others) (λ n. n ≡ others) }
+{
+    let mut total: usize = 0;
+    for other in 0..lengths.len() {
+        let length = length_without(lengths, axis, other);
+        total = total.checked_add(reach_within(length, strides[other], magnitude)?)?;
+    }
+    Some(total)
+}
+
+/// Whether this axis is of length 1 at most, or steps further than all others of at most its magnitude
+/// reach together.
+fn stands_apart(lengths: &[usize], strides: &[isize], axis: usize) -> bool
+    requires as_many { length strides.now ≡ length lengths.now }
+    requires on_axis { axis < length lengths.now }
+    ensures { IsTrue result ↔ (1 < slice_index lengths.now axis → span_within (magnitude_at strides.now axis) lengths.now strides.now < slice_index lengths.now axis * magnitude_at strides.now axis) }
+{
+    if lengths[axis] <= 1 {
+        return true;
+    }
+    let magnitude = strides[axis].unsigned_abs();
+    match reach_of_others(lengths, strides, axis, magnitude) {
+        Some(others) => others < magnitude,
+        None => false,
+    }
+}
+
+/// Whether the strides are separated: each axis longer than 1 steps further than all other axes of at most
+/// its magnitude reach together. Then no two indexes share a place.
+pub fn separated(lengths: &[usize], strides: &[isize]) -> bool
+    requires as_many { length strides.now ≡ length lengths.now }
+    requires few { length lengths.now ≤ 32 }
+    ensures { IsTrue result ↔ IsSeparated lengths.now strides.now }
+{
+    for axis in 0..lengths.len() {
+        if !stands_apart(lengths, strides, axis) {
+            return false;
+        }
+    }
+    true
+}

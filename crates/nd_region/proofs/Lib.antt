@@ -1,0 +1,11 @@
+pub mod Bodies
+pub mod Lent
+pub mod Loans
+pub mod Memory
+pub mod Names
+pub mod RunLoans
+pub mod Runs
+pub mod SharedLemmas
+pub mod Sharing
+pub mod Stored
+pub mod Swaps

@@ -1,0 +1,5 @@
+pub mod Lends
+pub mod Memory
+pub mod Places
+pub mod Region
+pub mod Shared

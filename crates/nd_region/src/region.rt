@@ -1,0 +1,194 @@
+ghost use Rattle.std.specs.Prelude.{length, ◌*◌, ◌≡◌, ℕ, ◌<◌, ◌^◌, List, Bool, Option, Some, IsSome};
+ghost use Rattle.std.specs.Borrow.{sem};
+ghost use Rattle.std.specs.List.{flat_map};
+ghost use base.Fml.{GName};
+ghost use Rattle.nd_region.specs.Memory.{region, region_lent, ends_as};
+ghost use Rattle.nd_region.specs.Places.{names, names_not};
+
+use std::marker::{Model, PhantomData};
+use std::{mem, slice};
+
+/// A mutable borrow of elements, as a map from places to elements.
+pub struct Region<'a, A> {
+    pub(crate) ptr: *mut A,
+    pub(crate) len: usize,
+    pub(crate) mark: PhantomData<&'a mut A>,
+    ghost name: { GName },
+    ghost items: { List A },
+    ghost held: { List Bool },
+    ghost small: { len < 2 ^ 64 },
+}
+
+impl<'a, A> Model for Region<'a, A> {
+    ghost also_owns = { λ r. region A.row 'a r.ptr r.len r.name r.items r.held };
+
+    ghost also_shares = { λ r _ κ. region_lent A.row 'a r.ptr r.len r.items r.held κ };
+}
+
+impl<'a, A> Region<'a, A> {
+    ghost use Rattle.nd_region.specs.Region.{stored, with_element, IsWhole, IsPartWhere, HasPlaces, HasRun, IsRunOf};
+    ghost use Rattle.nd_region.specs.Lends.{rows_follow, slice_follows, place_follows, parts_follow, region_follows, borrow_follows, run_follows, borrow_run_follows};
+
+    /// The region of a slice, with all its places.
+    pub fn from_slice(slice: &'a mut [A]) -> Region<'a, A>
+        ensures* follows { sem 𝓛 (slice_follows A.row slice.entry result) }
+        ensures whole { IsWhole result slice.old }
+    {
+        Self {
+            ptr: slice.as_mut_ptr(),
+            len: slice.len(),
+            mark: PhantomData,
+        }
+    }
+
+    /// The region of rows of N elements each, one row after the other, with all places.
+    pub fn from_rows<const N: usize>(rows: &'a mut [[A; N]]) -> Region<'a, A>
+        requires { length rows.old * N < 2 ^ 63 }
+        ensures* follows { sem 𝓛 (rows_follow A.row N rows.entry result) }
+        ensures whole { IsWhole result (flat_map (λ row. row) rows.old) }
+    {
+        let len = rows.len() * N;
+        Self {
+            ptr: rows.as_mut_ptr() as *mut A,
+            len,
+            mark: PhantomData,
+        }
+    }
+
+    /// The element at a place.
+    pub fn get(&self, place: usize) -> &A
+        requires { IsSome (stored self.now place) }
+        ensures { stored self.now place ≡ Some result.now }
+    {
+        unsafe { &*self.ptr.add(place) }
+    }
+
+    /// The element at a place, to be written.
+    pub fn get_mut(&mut self, place: usize) -> &mut A
+        requires { IsSome (stored self.old place) }
+        ensures* writes_back { sem 𝓛 (place_follows A.row self.entry place result) }
+        ensures value { stored self.old place ≡ Some result.now }
+    {
+        unsafe { &mut *self.ptr.add(place) }
+    }
+
+    /// Writes the element at a place, and gives back the one that it held.
+    pub fn replace(&mut self, place: usize, value: A) -> A
+        requires { IsSome (stored self.old place) }
+        ensures old { stored self.old place ≡ Some result }
+        ensures new { self.new ≡ with_element self.old place value }
+    {
+        mem::replace(self.get_mut(place), value)
+    }
+
+    /// Writes the element at a place. The one that it held is dropped.
+    pub fn set(&mut self, place: usize, value: A)
+    where
+        A: Drop,
+        requires { IsSome (stored self.old place) }
+        ensures { self.new ≡ with_element self.old place value }
+    {
+        *self.get_mut(place) = value;
+    }
+
+    /// Moves the places that the layout names by its first place, lengths and strides out of this region,
+    /// into one of exactly these under their old numbers.
+    pub fn split(&mut self, first: usize, lengths: &[usize], strides: &[isize]) -> Region<'a, A>
+        requires as_many { length lengths.now ≡ length strides.now }
+        requires within { HasPlaces self.old first lengths.now strides.now }
+        ensures* follows { sem 𝓛 (parts_follow A.row self.old result self.new) }
+        ensures taken { IsPartWhere (names first lengths.now strides.now) self.old result }
+        ensures left { IsPartWhere (names_not first lengths.now strides.now) self.old self.new }
+    {
+        Self {
+            ptr: self.ptr,
+            len: self.len,
+            mark: PhantomData,
+        }
+    }
+
+    /// All places, for a shorter time.
+    pub fn reborrow(&mut self) -> Region<'_, A>
+        ensures* follows { sem 𝓛 (region_follows A.row self.entry result) }
+        ensures same { (result.items ≡ self.old.items) × (result.held ≡ self.old.held) }
+    {
+        Region {
+            ptr: self.ptr,
+            len: self.len,
+            mark: PhantomData,
+        }
+    }
+
+    /// The element at a place, to be written for as long as the region's borrow lasts. The other places keep theirs.
+    pub fn into_mut(self, place: usize) -> &'a mut A
+        requires { IsSome (stored self place) }
+        ensures* writes_back { sem 𝓛 (borrow_follows A.row self.entry place result) }
+        ensures value { stored self.entry place ≡ Some result.now }
+    {
+        let Self {
+            ptr,
+            len: _,
+            mark: _,
+        } = self;
+        unsafe { &mut *ptr.add(place) }
+    }
+
+    /// The `count` elements from a place on.
+    pub fn run(&self, place: usize, count: usize) -> &[A]
+        requires { HasRun self.now place count }
+        ensures { IsRunOf self.now place count result.now }
+    {
+        let start = if count == 0 { 0 } else { place };
+        unsafe { slice::from_raw_parts(self.ptr.add(start), count) }
+    }
+
+    /// The `count` elements from a place on, to be written.
+    pub fn run_mut(&mut self, place: usize, count: usize) -> &mut [A]
+        requires { HasRun self.old place count }
+        ensures* writes_back { sem 𝓛 (run_follows A.row self.entry place count result) }
+        ensures values { IsRunOf self.old place count result.now }
+    {
+        let start = if count == 0 { 0 } else { place };
+        unsafe { slice::from_raw_parts_mut(self.ptr.add(start), count) }
+    }
+
+    /// The `count` elements from a place on, to be written for as long as the region's borrow lasts. The
+    /// other places keep theirs.
+    pub fn into_run(self, place: usize, count: usize) -> &'a mut [A]
+        requires { HasRun self place count }
+        ensures* writes_back { sem 𝓛 (borrow_run_follows A.row self.entry place count result) }
+        ensures values { IsRunOf self.entry place count result.now }
+    {
+        let Self {
+            ptr,
+            len: _,
+            mark: _,
+        } = self;
+        let start = if count == 0 { 0 } else { place };
+        unsafe { slice::from_raw_parts_mut(ptr.add(start), count) }
+    }
+
+    /// Ends the region: each place keeps the element that it holds.
+    pub fn end(self)
+        ensures* { sem 𝓛 (ends_as A.row self.entry.name self.entry.items) }
+    {
+        let Self {
+            ptr: _,
+            len: _,
+            mark: _,
+        } = self;
+    }
+}
+
+/// Lets the region go: each place keeps the element that it holds.
+impl<A> Drop for Region<'_, A> {
+    fn drop(self)
+        ensures* { sem 𝓛 (ends_as A.row self.entry.name self.entry.items) }
+    {
+        let Self {
+            ptr: _,
+            len: _,
+            mark: _,
+        } = self;
+    }
+}

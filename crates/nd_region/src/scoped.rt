@@ -1,0 +1,91 @@
+//! A region for the length of a call.
+ghost use Rattle.std.specs.Prelude.{◌≡◌, length, IsSome};
+ghost use Rattle.nd_region.specs.Places.{names, names_not};
+ghost use Rattle.nd_region.specs.Region.{IsWhole, IsSameBorrow, IsPartWhere, HasPlaces, rejoined, stored, with_items, SwappedBetween};
+ghost use Rattle.std.specs.List.{swap};
+ghost use Rattle.nd_region.specs.declared.region.Region.{Region as RegionOf};
+
+use crate::region::Region;
+use std::marker::PhantomData;
+use std::mem;
+
+/// Hands f the slice's elements as a region with all its places. f gives the region back, and the slice
+/// then has the elements that the region has. A region is linear: one that isn't given back is a compile
+/// error, and another one in its place isn't proved.
+pub fn with_region<A, R, F: FnOnce(Region<'_, A>) -> (Region<'_, A>, R)>(slice: &mut [A], f: F) -> R
+    requires callable { (r : RegionOf A) → IsWhole r slice.old → F.pre f r }
+    requires returns { (r : RegionOf A) (out : RegionOf A × R) → IsWhole r slice.old → F.post f r out → IsSameBorrow r out.0 }
+    ensures { (r : RegionOf A) × (x : RegionOf A) × IsWhole r slice.old × F.post f r (x, result) × (slice.new ≡ x.items) }
+{
+    let (back, answer) = f(Region {
+        ptr: slice.as_mut_ptr(),
+        len: slice.len(),
+        mark: PhantomData,
+    });
+    back.end();
+    answer
+}
+
+impl<'a, A> Region<'a, A> {
+    /// Splits off the places that the layout names by its first place, lengths and strides, and hands f
+    /// both parts: these places, and the others. f gives both back, and this region then has at each place
+    /// what the part of that place has.
+    pub fn split_with<
+        R,
+        F: for<'b> FnOnce(Region<'b, A>, Region<'b, A>) -> (Region<'b, A>, Region<'b, A>, R),
+    >(&mut self, first: usize, lengths: &[usize], strides: &[isize], f: F) -> R
+        requires as_many { length lengths.now ≡ length strides.now }
+        requires within { HasPlaces self.old first lengths.now strides.now }
+        requires callable { (x y : RegionOf A) → IsPartWhere (names first lengths.now strides.now) self.old x → IsPartWhere (names_not first lengths.now strides.now) self.old y → F.pre f x y }
+        requires returns { (x y : RegionOf A) (out : RegionOf A × RegionOf A × R) → IsPartWhere (names first lengths.now strides.now) self.old x → IsPartWhere (names_not first lengths.now strides.now) self.old y → F.post f x y out → IsSameBorrow x out.0 × IsSameBorrow y out.1 }
+        ensures { (x : RegionOf A) × (y : RegionOf A) × (s : RegionOf A) × (t : RegionOf A) × IsPartWhere (names first lengths.now strides.now) self.old x × IsPartWhere (names_not first lengths.now strides.now) self.old y × F.post f x y (s, t, result) × (self.new ≡ rejoined self.old x s t) }
+    {
+        let ptr = self.ptr;
+        let len = self.len;
+        let named = Region {
+            ptr,
+            len,
+            mark: PhantomData,
+        };
+        let others = Region {
+            ptr,
+            len,
+            mark: PhantomData,
+        };
+        let (named, others, answer) = f(named, others);
+        named.end();
+        others.end();
+        answer
+    }
+
+    /// Swaps the elements at two places.
+    pub fn swap(&mut self, p: usize, q: usize)
+        requires { IsSome (stored self.old p) × IsSome (stored self.old q) }
+        ensures { self.new ≡ with_items self.old (swap self.old.items p q) }
+    {
+        if p != q {
+            self.split_with(
+                p,
+                &[],
+                &[],
+                |one, others|
+                    requires { IsSome (stored one p) × IsSome (stored others q) }
+                    ensures { SwappedBetween one.entry p others.entry q result }
+                { swap_between(one, p, others, q) },
+            );
+        }
+    }
+}
+
+fn swap_between<'b, A>(
+    mut one: Region<'b, A>,
+    p: usize,
+    mut other: Region<'b, A>,
+    q: usize,
+) -> (Region<'b, A>, Region<'b, A>, ())
+    requires { IsSome (stored one p) × IsSome (stored other q) }
+    ensures { SwappedBetween one.entry p other.entry q result }
+{
+    mem::swap(one.get_mut(p), other.get_mut(q));
+    (one, other, ())
+}

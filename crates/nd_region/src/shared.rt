@@ -1,0 +1,77 @@
+//! A shared borrow of elements, as a map from places to elements.
+ghost use Rattle.std.specs.Prelude.{◌*◌, ◌^◌, ◌≡◌, ◌<◌, ◌≤◌, ◌+◌, length, take, drop, [], nat_eq, if◌then◌else◌, Some, IsSome};
+ghost use Rattle.std.specs.List.{flat_map};
+
+use crate::region::Region;
+
+/// A shared borrow of elements, as a map from places to elements: of a region's places, or of a slice's.
+#[derive(Clone, Copy)]
+pub enum SharedRegion<'a, A> {
+    /// The places of a region.
+    Part(&'a Region<'a, A>),
+    /// All places of a slice.
+    Whole(&'a [A]),
+}
+
+impl<'a, A> SharedRegion<'a, A> {
+    ghost use Rattle.nd_region.specs.Shared.{shared_stored, slice_stored, HasSharedRun, IsSharedRunOf};
+
+    /// All places of a slice.
+    pub fn from_slice(slice: &'a [A]) -> SharedRegion<'a, A>
+        ensures { shared_stored result ≡ slice_stored slice.now }
+    {
+        SharedRegion::Whole(slice)
+    }
+
+    /// All places of rows of N elements each, one row after the other.
+    pub fn from_rows<const N: usize>(rows: &'a [[A; N]]) -> SharedRegion<'a, A>
+        requires { length rows.now * N < 2 ^ 63 }
+        ensures { shared_stored result ≡ slice_stored (flat_map (λ row. row) rows.now) }
+    {
+        SharedRegion::Whole(rows.as_flattened())
+    }
+
+    /// The element at a place.
+    pub fn get(self, place: usize) -> &'a A
+        requires { IsSome (shared_stored self place) }
+        ensures { shared_stored self.entry place ≡ Some result.now }
+    {
+        match self {
+            SharedRegion::Part(region) => region.get(place),
+            SharedRegion::Whole(slice) => &slice[place],
+        }
+    }
+
+    /// The `count` elements from a place on.
+    pub fn run(self, place: usize, count: usize) -> &'a [A]
+        requires { HasSharedRun self place count }
+        ensures { IsSharedRunOf self.entry place count result.now }
+    {
+        match self {
+            SharedRegion::Part(region) => region.run(place, count),
+            SharedRegion::Whole(slice) => slice_run(slice, place, count),
+        }
+    }
+}
+
+impl<'a, A> Region<'a, A> {
+    ghost use Rattle.nd_region.specs.Region.{stored};
+    ghost use Rattle.nd_region.specs.Shared.{shared_stored};
+
+    /// The region's places, to be read.
+    pub fn share(&self) -> SharedRegion<'_, A>
+        ensures { shared_stored result ≡ stored self.now }
+    {
+        SharedRegion::Part(self)
+    }
+}
+
+fn slice_run<A>(slice: &[A], place: usize, count: usize) -> &[A]
+    requires { 0 < count → place + count ≤ length slice.now }
+    ensures { (length result.now ≡ count) × (result.now ≡ if nat_eq count 0 then [] else take count (drop place slice.now)) }
+{
+    if count == 0 {
+        return &slice[..0];
+    }
+    &slice[place..place + count]
+}

@@ -1,0 +1,134 @@
+ghost use Rattle.std.specs.Prelude.{◌<◌, ◌*◌, ◌^◌, length};
+
+use crate::{Region, SharedRegion, with_region};
+use std::mem;
+use std::rc::Rc;
+use std::test::*;
+
+#[test]
+fn is_two_words(rt: HostRuntime) {
+    assert_eq!(rt; mem::size_of::<Region<u64>>(), 16);
+}
+
+#[test]
+#[tactic(auto, unfolding(crate::specs::Places::stored_in))]
+fn writes_places(rt: HostRuntime) {
+    let mut xs = [1u64, 2, 3];
+    let mut region = Region::from_slice(&mut xs);
+    region.set(0, 10);
+    let old = region.replace(1, 20);
+    *region.get_mut(2) = 30;
+    region.end();
+    assert_eq!(rt; old, 2);
+    assert_eq!(rt; xs, [10, 20, 30]);
+}
+
+#[test]
+#[tactic(auto, unfolding(crate::specs::Places::stored_in))]
+fn swaps(rt: HostRuntime) {
+    let mut xs = [1u64, 2, 3];
+    let mut region = Region::from_slice(&mut xs);
+    region.swap(0, 2);
+    region.end();
+    assert_eq!(rt; xs, [3, 2, 1]);
+}
+
+#[test]
+#[tactic(auto, unfolding(crate::specs::Places::stored_in))]
+fn writes_runs(rt: HostRuntime) {
+    let mut xs = [1u64, 2, 3, 4];
+    let mut region = Region::from_slice(&mut xs);
+    region.reborrow().into_run(1, 2).fill(7);
+    region.end();
+    assert_eq!(rt; xs, [1, 7, 7, 4]);
+    let mut ys = [1u64, 2, 3, 4];
+    *Region::from_slice(&mut ys).into_mut(3) = 9;
+    assert_eq!(rt; ys, [1, 2, 3, 9]);
+    let mut zs = [1u64, 2, 3, 4];
+    let mut region = Region::from_slice(&mut zs);
+    region.run_mut(0, 2).fill(5);
+    region.end();
+    assert_eq!(rt; zs, [5, 5, 3, 4]);
+}
+
+#[test]
+#[tactic(auto, unfolding(crate::specs::Places::stored_in))]
+fn reads(rt: HostRuntime) {
+    let mut xs = [1u64, 2, 3, 4];
+    let region = Region::from_slice(&mut xs);
+    let third = *region.get(2);
+    let len = region.run(1, 3).len();
+    let none = region.run(9, 0).len();
+    region.end();
+    assert_eq!(rt; (third, len, none), (3, 3, 0));
+}
+
+#[test]
+#[tactic(auto, unfolding(crate::specs::Places::stored_in))]
+fn shares(rt: HostRuntime) {
+    let mut xs = [1u64, 2, 3, 4];
+    let region = Region::from_slice(&mut xs);
+    let shared = region.share();
+    let first = *shared.get(0);
+    let len = shared.run(0, 2).len();
+    region.end();
+    assert_eq!(rt; first, 1);
+    assert_eq!(rt; len, 2);
+}
+
+#[tactic(auto, using(crate::proofs::Stored::whole_has))]
+fn second_of(xs: &[u64]) -> u64
+    requires { 1 < length xs.now }
+{
+    *SharedRegion::from_slice(xs).get(1)
+}
+
+fn run_of_none(rows: &[[u64; 2]]) -> usize
+    requires { length rows.now * 2 < 2 ^ 63 }
+{
+    SharedRegion::from_rows(rows).run(4, 0).len()
+}
+
+#[test]
+fn reads_slices_and_rows(rt: HostRuntime) {
+    assert_eq!(rt; second_of(&[5, 6]), 6);
+    assert_eq!(rt; run_of_none(&[[1, 2], [3, 4]]), 0);
+}
+
+#[test]
+fn has_no_places(rt: HostRuntime) {
+    let mut none: [u64; 0] = [];
+    Region::from_slice(&mut none).end();
+    with_region(&mut none, |region| (region, ()));
+    let mut rows: [[u64; 0]; 3] = [[]; 3];
+    let region = Region::from_rows(&mut rows);
+    assert!(rt; region.run(0, 0).is_empty());
+    region.end();
+}
+
+#[test]
+#[tactic(auto, unfolding(crate::specs::Places::stored_in))]
+fn holds_units(rt: HostRuntime) {
+    let mut units = [(), (), ()];
+    let mut region = Region::from_slice(&mut units);
+    region.set(2, ());
+    assert_eq!(rt; region.run(0, 3).len(), 3);
+    region.swap(0, 2);
+    region.end();
+}
+
+#[test]
+#[tactic(auto, unfolding(crate::specs::Places::stored_in))]
+fn drops_each_once(rt: HostRuntime) -> Result<(), Fail> {
+    let counted = Rc::new(rt.alloc(), 0u64)?;
+    let mut items = [counted.clone()?, counted.clone()?, counted.clone()?];
+    assert_eq!(rt; Rc::strong_count(&counted), 4);
+    let fresh = Rc::new(rt.alloc(), 1u64)?;
+    let mut region = Region::from_slice(&mut items);
+    region.set(1, fresh);
+    region.end();
+    assert_eq!(rt; Rc::strong_count(&counted), 3);
+    drop(items);
+    assert_eq!(rt; Rc::strong_count(&counted), 1);
+    Ok(())
+}

@@ -1,0 +1,10 @@
+use mathlib.Core.Path.{◌∙◌, ap}
+use Rattle.nd_region.specs.Region.{with_element}
+use Rattle.nd_region_uses.proofs.column.put_rows.Goals as goal
+
+-- src/column.rt:8:1
+pub returns : goal.returns
+returns c = (
+  c.set-5.ensures ∙ ap (λ r. with_element r 9 1) (c.set-3.ensures ∙ ap (λ r. with_element r 5 1) c.set.ensures),
+  c.set-6.ensures ∙ ap (λ r. with_element r 8 0) (c.set-4.ensures ∙ ap (λ r. with_element r 4 0) c.set-2.ensures),
+)

@@ -1,0 +1,23 @@
+//! Two elements swapped.
+ghost use Rattle.std.specs.Prelude.{◌≡◌, ◌<◌, length, IsSome};
+ghost use Rattle.std.specs.List.{swap};
+ghost use Rattle.nd_region.specs.Region.{stored, with_items};
+
+use nd_region::{Region, with_region};
+
+fn swap_two<'a>(mut region: Region<'a, u64>) -> (Region<'a, u64>, ())
+    requires { IsSome (stored region 0) × IsSome (stored region 2) }
+    ensures { result.0 ≡ with_items region.entry (swap region.entry.items 0 2) }
+{
+    region.swap(0, 2);
+    (region, ())
+}
+
+/// Swaps the first element and the third.
+#[tactic(auto, using(nd_region::proofs::Stored::whole_has))]
+pub fn exchange(slice: &mut [u64])
+    requires { 2 < length slice.old }
+    ensures { slice.new ≡ swap slice.old 0 2 }
+{
+    with_region(slice, swap_two);
+}

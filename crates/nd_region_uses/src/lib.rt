@@ -1,0 +1,10 @@
+//! Callers of regions, each with the exact contents of its slice afterwards.
+#![tactic(auto)]
+
+pub mod column;
+pub mod exchange;
+pub mod part;
+#[cfg(test)]
+mod tests;
+pub mod turns;
+pub mod whole;

@@ -1,0 +1,23 @@
+use crate::column::fill_column;
+use crate::exchange::exchange;
+use crate::part::fill_even;
+use crate::turns::fill_in_turn;
+use crate::whole::write_two;
+
+#[test]
+fn callers_leave_what_they_say(rt: HostRuntime) {
+    let mut two = [1u64, 2, 3, 4];
+    write_two(&mut two);
+    assert_eq!(rt; two, [1, 7, 3, 9]);
+    let mut six = [5u64, 5, 5, 5, 5, 5];
+    fill_in_turn(&mut six);
+    assert_eq!(rt; six, [0, 1, 0, 1, 0, 1]);
+    fill_even(&mut six);
+    assert_eq!(rt; six, [7, 1, 7, 1, 7, 1]);
+    let mut rows = [2u64, 3, 4, 5, 6, 7, 8, 9, 10, 11, 12, 13];
+    fill_column(&mut rows);
+    assert_eq!(rt; rows, [0, 1, 4, 5, 0, 1, 8, 9, 0, 1, 12, 13]);
+    let mut three = [1u64, 2, 3];
+    exchange(&mut three);
+    assert_eq!(rt; three, [3, 2, 1]);
+}

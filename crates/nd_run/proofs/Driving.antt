@@ -1,0 +1,53 @@
+-- What is loaded, carried out and written makes the whole program.
+use Rattle.std.proofs.Common.{◌≡◌, ◌∙◌, ℕ, ℤ, Bool, true, false, List, [], Option, None, Some, Result, Ok, Err, refl, sym, ap, subst, inl, inr}
+use Rattle.std.specs.Prelude.{IfSome}
+use Rattle.nd_run.specs.declared.outcome.LoadError.{LoadError}
+use Rattle.nd_run.specs.declared.outcome.LoadError.TheVariants.{BadLine, Memory, ReadFailed}
+use Rattle.nd_run.specs.declared.reader.Script.{Script}
+use Rattle.nd_run.specs.declared.watched.Watched.{Watched}
+use Rattle.nd_run.specs.Calls.{Said}
+use Rattle.nd_run.specs.Script.{AskedScript, asked_script, IsScript}
+use Rattle.nd_run.specs.Puts.{Puts}
+use Rattle.nd_run.specs.Watched.{watched_failed}
+use Rattle.nd_run.specs.Words.{lines_of}
+use Rattle.nd_run.specs.Endings.{is_no_input, Ending, Finished, BadAt, OutOfMemory, NoInput, ending_text, status_of, is_load_failure, Loads, load_ending, RunsTo, Ends, Driven}
+
+module _ (Runs : AskedScript → List (Said ℤ) → List ℕ → List ℤ → Type 0) (Stops : AskedScript → List (Said ℤ) → Type 0) where
+  run_ends : (bytes : List ℕ) (script : AskedScript) (end : Ending) → IsScript (lines_of bytes) script → RunsTo Runs Stops script end → Ends Runs Stops bytes end
+  run_ends bytes script (Finished replies lengths elements) is h = (script, is, h)
+  run_ends bytes script (BadAt number) is h = absurd h
+  run_ends bytes script (OutOfMemory replies) is h = inr (script, is, h)
+  run_ends bytes script NoInput is h = absurd h
+
+  run_reads : (script : AskedScript) (end : Ending) → RunsTo Runs Stops script end → is_no_input end ≡ false
+  run_reads script (Finished replies lengths elements) h = refl
+  run_reads script (BadAt number) h = absurd h
+  run_reads script (OutOfMemory replies) h = refl
+  run_reads script NoInput h = absurd h
+
+  load_ends : (bytes : List ℕ) (error : LoadError) → Loads bytes (Err error) → Ends Runs Stops bytes (load_ending error)
+  load_ends bytes (BadLine number) loads = loads
+  load_ends bytes Memory loads = inl refl
+  load_ends bytes ReadFailed loads = tt
+
+  load_reads : (error : LoadError) → is_no_input (load_ending error) ≡ is_load_failure {X = Script} (Err error)
+  load_reads (BadLine number) = refl
+  load_reads Memory = refl
+  load_reads ReadFailed = refl
+
+  module _ {W : Type 0} (contents : W → Option (List ℕ)) (remaining : Option (List ℕ)) (failed : Bool) (r : Result Script LoadError) (old new : Watched W) (status : ℕ) (loads : IfSome remaining (λ bytes. Loads bytes r)) (is : failed ≡ is_load_failure r) where
+    -- a script that was loaded and run
+    pub ran_is_driven : (script : Script) (end : Ending) → r ≡ Ok script → RunsTo Runs Stops (asked_script script) end → Puts contents old new (ending_text end) → status ≡ status_of (watched_failed new) end → IfSome remaining (λ bytes. Driven Runs Stops contents bytes failed old new status)
+    ran_is_driven script end e how puts number = at remaining loads
+      where
+        at : (known : Option (List ℕ)) → IfSome known (λ bytes. Loads bytes r) → IfSome known (λ bytes. Driven Runs Stops contents bytes failed old new status)
+        at None loads = tt
+        at (Some bytes) loads = (end, (is ∙ ap is_load_failure e) ∙ sym (run_reads (asked_script script) end how), run_ends bytes (asked_script script) end (subst (Loads bytes) e loads) how, puts, number)
+
+    -- one that wasn't loaded
+    pub unloaded_is_driven : (error : LoadError) → r ≡ Err error → Puts contents old new (ending_text (load_ending error)) → status ≡ status_of (watched_failed new) (load_ending error) → IfSome remaining (λ bytes. Driven Runs Stops contents bytes failed old new status)
+    unloaded_is_driven error e puts number = at remaining loads
+      where
+        at : (known : Option (List ℕ)) → IfSome known (λ bytes. Loads bytes r) → IfSome known (λ bytes. Driven Runs Stops contents bytes failed old new status)
+        at None loads = tt
+        at (Some bytes) loads = (load_ending error, (is ∙ ap is_load_failure e) ∙ sym (load_reads error), load_ends bytes error (subst (Loads bytes) e loads), puts, number)

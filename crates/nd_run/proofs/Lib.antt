@@ -1,0 +1,16 @@
+pub mod BadLines
+pub mod CallLaws
+pub mod Driving
+pub mod Items
+pub mod Keywords
+pub mod LineLaws
+pub mod NumberLaws
+pub mod Numerals
+pub mod Paths
+pub mod Puts
+pub mod ScriptLaws
+pub mod Scripts
+pub mod Splits
+pub mod FoldLemmas
+pub mod Gathers
+pub mod Runs

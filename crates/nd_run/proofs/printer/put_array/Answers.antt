@@ -1,0 +1,5 @@
+use Rattle.nd_run.proofs.Puts.{puts_then}
+use Rattle.nd_run.proofs.printer.put_array.Goals as goal
+
+pub returns : goal.returns
+returns g c = puts_then c.put_list.ensures c.put_values.ensures

@@ -1,0 +1,13 @@
+use Rattle.std.proofs.Common.{◌≡◌, ◌+◌, ◌≤◌, length}
+use Rattle.nd_run.specs.Words.{lines_of}
+use Rattle.nd_run.specs.Script.{script_from}
+use Rattle.nd_run.proofs.reader.whole_script.Given as goal
+
+abbrev pub invariant-loop-rest : goal.invariant-loop-rest
+invariant-loop-rest l = record {
+  reads : script_from l.number (lines_of l.rest) ≡ script_from 1 (lines_of l.fn.text);
+  few : l.number + length l.rest ≤ 1 + length l.fn.text;
+}
+
+abbrev pub decreases-loop-rest : goal.decreases-loop-rest
+decreases-loop-rest l = length l.rest

@@ -1,0 +1,96 @@
+-- How a script ends, what is written then, and the status.
+use Rattle.std.specs.Prelude.{◌≡◌, ℕ, ℤ, Bool, true, false, List, [], ◌++◌, map, Option, Result, Ok, Err, ◌⊎◌, codes, if◌then◌else◌}
+use Rattle.std.specs.Fmt.{decimal}
+use Rattle.nd_run.specs.declared.watched.Watched.{Watched}
+use Rattle.nd_run.specs.declared.outcome.Outcome.{Outcome}
+use Rattle.nd_run.specs.declared.outcome.Outcome.TheVariants as outcomes
+use Rattle.nd_run.specs.declared.outcome.LoadError.{LoadError}
+use Rattle.nd_run.specs.declared.outcome.LoadError.TheVariants as load_errors
+use Rattle.nd_run.specs.declared.reader.Script.{Script}
+use Rattle.nd_run.specs.Calls.{Said, said}
+use Rattle.nd_run.specs.Puts.{Puts}
+use Rattle.nd_run.specs.Script.{AskedScript, asked_script, IsScript, IsFirstBad}
+use Rattle.nd_run.specs.Text.{replies_text, array_text}
+use Rattle.nd_run.specs.Watched.{watched_failed}
+use Rattle.nd_run.specs.Words.{lines_of}
+
+-- an end: the replies and the array at the end, the number of a bad line, the replies before memory was
+-- refused, or no input
+pub data Ending : Type 0 where
+  Finished : (replies : List (Said ℤ)) (lengths : List ℕ) (elements : List ℤ) → Ending
+  BadAt : (number : ℕ) → Ending
+  OutOfMemory : (replies : List (Said ℤ)) → Ending
+  NoInput : Ending
+
+abbrev pub ending : Outcome → Ending
+ending (outcomes.BadLine number) = BadAt number
+ending (outcomes.Memory replies) = OutOfMemory (map said replies.items)
+ending outcomes.ReadFailed = NoInput
+
+-- what is written
+abbrev pub ending_text : Ending → List ℕ
+ending_text (Finished replies lengths elements) = replies_text replies ++ (codes "end " ++ (array_text lengths elements ++ codes "\n"))
+ending_text (BadAt number) = codes "bad line " ++ (decimal number ++ codes "\n")
+ending_text (OutOfMemory replies) = replies_text replies ++ codes "out of memory\n"
+ending_text NoInput = codes "read failed\n"
+
+abbrev pub ending_status : Ending → ℕ
+ending_status (Finished replies lengths elements) = 0
+ending_status (BadAt number) = 1
+ending_status (OutOfMemory replies) = 2
+ending_status NoInput = 3
+
+-- the end without input
+abbrev pub is_no_input : Ending → Bool
+is_no_input (Finished replies lengths elements) = false
+is_no_input (BadAt number) = false
+is_no_input (OutOfMemory replies) = false
+is_no_input NoInput = true
+
+-- the status: 3 wherever a write failed
+abbrev pub status_of : Bool → Ending → ℕ
+status_of failed end = if failed then 3 else ending_status end
+
+-- ---- loading a script
+
+-- a read failed
+abbrev pub is_load_failure : {X : Type 0} → Result X LoadError → Bool
+is_load_failure (Ok x) = false
+is_load_failure (Err (load_errors.BadLine number)) = false
+is_load_failure (Err load_errors.Memory) = false
+is_load_failure (Err load_errors.ReadFailed) = true
+
+-- what loading gives of these bytes
+abbrev pub Loads : List ℕ → Result Script LoadError → Type 0
+Loads bytes (Ok script) = IsScript (lines_of bytes) (asked_script script)
+Loads bytes (Err (load_errors.BadLine number)) = IsFirstBad (lines_of bytes) number
+Loads bytes (Err load_errors.Memory) = Unit {0}
+Loads bytes (Err load_errors.ReadFailed) = Unit {0}
+
+-- the end where no script was loaded
+abbrev pub load_ending : LoadError → Ending
+load_ending (load_errors.BadLine number) = BadAt number
+load_ending load_errors.Memory = OutOfMemory []
+load_ending load_errors.ReadFailed = NoInput
+
+-- ---- the whole program, over what running a script means: its replies and the array at its end, and the
+-- replies that may come before memory is refused
+
+module _ (Runs : AskedScript → List (Said ℤ) → List ℕ → List ℤ → Type 0) (Stops : AskedScript → List (Said ℤ) → Type 0) where
+  -- how a script in these bytes may end
+  abbrev pub Ends : List ℕ → Ending → Type 0
+  Ends bytes (Finished replies lengths elements) = (script : AskedScript) × IsScript (lines_of bytes) script × Runs script replies lengths elements
+  Ends bytes (BadAt number) = IsFirstBad (lines_of bytes) number
+  Ends bytes (OutOfMemory replies) = (replies ≡ []) ⊎ ((script : AskedScript) × IsScript (lines_of bytes) script × Stops script replies)
+  Ends bytes NoInput = Unit {0}
+
+  -- how running a script may end
+  abbrev pub RunsTo : AskedScript → Ending → Type 0
+  RunsTo script (Finished replies lengths elements) = Runs script replies lengths elements
+  RunsTo script (BadAt number) = ⊥
+  RunsTo script (OutOfMemory replies) = Stops script replies
+  RunsTo script NoInput = ⊥
+
+  -- some such end is written, with its status: the one without input exactly where a read failed
+  abbrev pub Driven : {W : Type 0} → (W → Option (List ℕ)) → List ℕ → Bool → Watched W → Watched W → ℕ → Type 0
+  Driven contents bytes failed old new status = (end : Ending) × (failed ≡ is_no_input end) × Ends bytes end × Puts contents old new (ending_text end) × (status ≡ status_of (watched_failed new) end)

@@ -1,0 +1,13 @@
+pub mod Calls
+pub mod Meaning
+pub mod Endings
+pub mod Grammar
+pub mod Input
+pub mod Numerals
+pub mod Puts
+pub mod Reading
+pub mod Script
+pub mod Text
+pub mod Watched
+pub mod Words
+pub mod Fold

@@ -1,0 +1,44 @@
+-- The number that a word writes in decimal digits.
+use Rattle.std.specs.Prelude.{◌≡◌, ℕ, ◌^◌, ◌<◌, ◌≤◌, Bool, true, false, ◌&&◌, not, ◌==◌, nat_lt, nat_le, List, [], ◌∷◌, length, ℤ, pos, neg_ℤ, Option, Some, None, ◌⊎◌, if◌then◌else◌}
+use Rattle.std.specs.Char.{is_ascii_digit}
+use Rattle.std.specs.List.{list_all}
+use Rattle.std.specs.Str.Parse.{digits_value}
+
+-- one digit or more, and nothing else
+abbrev pub is_numeral : List ℕ → Bool
+is_numeral word = not (length word == 0) && list_all is_ascii_digit word
+
+-- the digits write n
+abbrev pub IsNumeral : List ℕ → ℕ → Type 0
+IsNumeral digits n = (is_numeral digits ≡ true) × (n ≡ digits_value 10 digits)
+
+-- the word writes a `usize`
+abbrev pub IsNat : List ℕ → ℕ → Type 0
+IsNat word n = IsNumeral word n × (n < 2 ^ 64)
+
+-- the word writes an `isize` or an `i64`: digits, or a minus sign and digits
+abbrev pub IsInt : List ℕ → ℤ → Type 0
+IsInt word z =
+    ((n : ℕ) × IsNumeral word n × (n < 2 ^ 63) × (z ≡ pos n))
+    ⊎ ((digits : List ℕ) × (n : ℕ) × (word ≡ 45 ∷ digits) × IsNumeral digits n × (n ≤ 2 ^ 63) × (z ≡ neg_ℤ (pos n)))
+
+-- the same as functions: the `usize` that a word writes
+unfoldable pub nat_of : List ℕ → Option ℕ
+nat_of word = if is_numeral word && nat_lt (digits_value 10 word) (2 ^ 64) then Some (digits_value 10 word) else None
+
+-- what follows the minus sign, where there is one
+abbrev pub without_minus : List ℕ → List ℕ
+without_minus [] = []
+without_minus (b ∷ bs) = if b == 45 then bs else b ∷ bs
+
+abbrev pub has_minus : List ℕ → Bool
+has_minus [] = false
+has_minus (b ∷ bs) = b == 45
+
+abbrev pub signed_of : Bool → ℕ → Option ℤ
+signed_of true n = if nat_le n (2 ^ 63) then Some (neg_ℤ (pos n)) else None
+signed_of false n = if nat_lt n (2 ^ 63) then Some (pos n) else None
+
+-- the `isize` or `i64` that a word writes
+unfoldable pub int_of : List ℕ → Option ℤ
+int_of word = if is_numeral (without_minus word) then signed_of (has_minus word) (digits_value 10 (without_minus word)) else None

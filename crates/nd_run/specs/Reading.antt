@@ -1,0 +1,259 @@
+-- Reading the words of a line from left to right. A reader answers what it read and the words that are left.
+use Rattle.std.specs.Prelude.{◌≡◌, ℕ, zero, suc, ◌^◌, Bool, true, false, nat_le, nat_lt, List, [], ◌∷◌, ℤ, Option, None, Some, Result, Ok, Err, codes, if◌then◌else◌}
+use Rattle.std.specs.Str.{bytes_eq}
+use Rattle.std.specs.Option.{option_map}
+use Rattle.nd_shape_and_slice.specs.Shape.{nonzero_product, size_of}
+use Rattle.nd_shape_and_slice.specs.declared.slice.Slice.{Slice}
+use Rattle.nd_run.specs.declared.keyword.Keyword.{Keyword}
+use Rattle.nd_run.specs.declared.keyword.Keyword.TheVariants.{Start, Keep, Ask, Slash, Cut, Permute, Shape, Elements, Get, Other}
+use Rattle.nd_run.specs.declared.reader.fault.LineFault.{LineFault}
+use Rattle.nd_run.specs.declared.reader.fault.LineFault.TheVariants.{Bad, Memory}
+use Rattle.nd_run.specs.Calls.{AskedStep, SlicedAxis, Permuted, Asking, AskShape, AskElements, AskElement, Asked, Keeping, About}
+use Rattle.nd_run.specs.Numerals.{nat_of, int_of}
+
+infixl 10 ◌>>=◌
+abbrev pub ◌>>=◌ : {A B : Type 0} → Option A → (A → Option B) → Option B
+None >>= f = None
+(Some x) >>= f = f x
+
+-- A reader of the code fails as reading does, unless memory ran out.
+abbrev pub Fails : {Y : Type 0} → LineFault → Option Y → Type 0
+Fails Memory read = Unit {0}
+Fails Bad read = read ≡ None
+
+-- What a reader of the code returned, seen by view, is what reading gives, unless memory ran out.
+abbrev pub Gives : {X Y : Type 0} → (X → Y) → Result X LineFault → Option Y → Type 0
+Gives view (Ok x) read = read ≡ Some (view x)
+Gives view (Err fault) read = Fails fault read
+
+-- ---- words and numbers
+
+abbrev pub word_at : List (List ℕ) → Option (List ℕ × List (List ℕ))
+word_at [] = None
+word_at (word ∷ words) = Some (word, words)
+
+-- one word, by what it writes
+abbrev pub item_at : {X : Type 0} → (List ℕ → Option X) → List (List ℕ) → Option (X × List (List ℕ))
+item_at of [] = None
+item_at of (word ∷ words) = of word >>= λ x. Some (x, words)
+
+-- that many words
+unfoldable pub items_at : {X : Type 0} → (List ℕ → Option X) → ℕ → List (List ℕ) → Option (List X × List (List ℕ))
+items_at of zero words = Some ([], words)
+items_at of (suc n) words = do
+  first ← item_at of words
+  others ← items_at of n first.1
+  Some (first.0 ∷ others.0, others.1)
+
+unfoldable pub list_at : List (List ℕ) → Option (List ℕ × List (List ℕ))
+list_at words = do
+  count ← item_at nat_of words
+  items_at nat_of count.0 count.1
+
+-- a list of at most 32 numbers
+unfoldable pub lengths_at : List (List ℕ) → Option (List ℕ × List (List ℕ))
+lengths_at words = do
+  count ← item_at nat_of words
+  if nat_le count.0 32 then items_at nat_of count.0 count.1 else None
+
+-- the size of an array, where it has a checked one
+abbrev pub checked_size : List ℕ → Option ℕ
+checked_size lengths = if nat_lt (nonzero_product lengths) (2 ^ 63) then Some (size_of lengths) else None
+
+unfoldable pub array_at : List (List ℕ) → Option ((List ℕ × List ℤ) × List (List ℕ))
+array_at words = do
+  lengths ← lengths_at words
+  size ← checked_size lengths.0
+  elements ← items_at int_of size lengths.1
+  Some ((lengths.0, elements.0), elements.1)
+
+-- ---- keywords
+
+abbrev pub spelling : Keyword → List ℕ
+spelling Start = codes "start"
+spelling Keep = codes "keep"
+spelling Ask = codes "ask"
+spelling Slash = codes "/"
+spelling Cut = codes "cut"
+spelling Permute = codes "permute"
+spelling Shape = codes "shape"
+spelling Elements = codes "elements"
+spelling Get = codes "get"
+spelling Other = []
+
+-- the first of the keywords that the word spells
+abbrev pub keyword_among : List Keyword → List ℕ → Keyword
+keyword_among [] word = Other
+keyword_among (k ∷ ks) word = if bytes_eq word (spelling k) then k else keyword_among ks word
+
+abbrev pub named : List Keyword
+named = Start ∷ Keep ∷ Ask ∷ Slash ∷ Cut ∷ Permute ∷ Shape ∷ Elements ∷ Get ∷ []
+
+unfoldable pub keyword_of : List ℕ → Keyword
+keyword_of word = keyword_among named word
+
+abbrev pub keyword_at : List (List ℕ) → Option (Keyword × List (List ℕ))
+keyword_at [] = None
+keyword_at (word ∷ words) = Some (keyword_of word, words)
+
+-- ---- calls
+
+abbrev pub end_of : List ℕ → Option (Option ℤ)
+end_of word = if bytes_eq word (codes "_") then Some None else option_map Some (int_of word)
+
+unfoldable pub slice_at : List (List ℕ) → Option (Slice × List (List ℕ))
+slice_at words = do
+  start ← item_at int_of words
+  end ← item_at end_of start.1
+  step ← item_at int_of end.1
+  Some (record { start = start.0; end = end.0; step = step.0 }, step.1)
+
+unfoldable pub cut_at : List (List ℕ) → Option (AskedStep × List (List ℕ))
+cut_at words = do
+  axis ← item_at nat_of words
+  slice ← slice_at axis.1
+  Some (SlicedAxis axis.0 slice.0, slice.1)
+
+unfoldable pub permute_at : List (List ℕ) → Option (AskedStep × List (List ℕ))
+permute_at words = do
+  axes ← list_at words
+  Some (Permuted axes.0, axes.1)
+
+-- the step that this keyword begins
+abbrev pub step_by : Keyword → List (List ℕ) → Option (AskedStep × List (List ℕ))
+step_by Cut words = cut_at words
+step_by Permute words = permute_at words
+step_by Start words = None
+step_by Keep words = None
+step_by Ask words = None
+step_by Slash words = None
+step_by Shape words = None
+step_by Elements words = None
+step_by Get words = None
+step_by Other words = None
+
+unfoldable pub step_at : List (List ℕ) → Option (AskedStep × List (List ℕ))
+step_at words = do
+  first ← keyword_at words
+  step_by first.0 first.1
+
+abbrev pub is_step : Keyword → Bool
+is_step Cut = true
+is_step Permute = true
+is_step Start = false
+is_step Keep = false
+is_step Ask = false
+is_step Slash = false
+is_step Shape = false
+is_step Elements = false
+is_step Get = false
+is_step Other = false
+
+-- a step begins here
+abbrev pub begins_step : List (List ℕ) → Bool
+begins_step [] = false
+begins_step (word ∷ words) = is_step (keyword_of word)
+
+abbrev pub is_slash : Keyword → Bool
+is_slash Slash = true
+is_slash Cut = false
+is_slash Permute = false
+is_slash Start = false
+is_slash Keep = false
+is_slash Ask = false
+is_slash Shape = false
+is_slash Elements = false
+is_slash Get = false
+is_slash Other = false
+
+-- a step and the slash after it
+unfoldable pub leg_at : List (List ℕ) → Option (AskedStep × List (List ℕ))
+leg_at words = do
+  step ← step_at words
+  slash ← keyword_at step.1
+  if is_slash slash.0 then Some (step.0, slash.1) else None
+
+-- steps, at most n of them, as long as one begins
+unfoldable pub path_at : ℕ → List (List ℕ) → Option (List AskedStep × List (List ℕ))
+path_at zero words = Some ([], words)
+path_at (suc n) words = if begins_step words then (leg_at words >>= λ first. path_at n first.1 >>= λ others. Some (first.0 ∷ others.0, others.1)) else Some ([], words)
+
+unfoldable pub get_at : List (List ℕ) → Option (Asking × List (List ℕ))
+get_at words = do
+  index ← list_at words
+  Some (AskElement index.0, index.1)
+
+abbrev pub question_by : Keyword → List (List ℕ) → Option (Asking × List (List ℕ))
+question_by Shape words = Some (AskShape, words)
+question_by Elements words = Some (AskElements, words)
+question_by Get words = get_at words
+question_by Cut words = None
+question_by Permute words = None
+question_by Start words = None
+question_by Keep words = None
+question_by Ask words = None
+question_by Slash words = None
+question_by Other words = None
+
+unfoldable pub question_at : List (List ℕ) → Option (Asking × List (List ℕ))
+question_at words = do
+  first ← keyword_at words
+  question_by first.0 first.1
+
+unfoldable pub keep_at : List (List ℕ) → Option (Asked × List (List ℕ))
+keep_at words = do
+  step ← step_at words
+  Some (Keeping step.0, step.1)
+
+unfoldable pub ask_at : ℕ → List (List ℕ) → Option (Asked × List (List ℕ))
+ask_at n words = do
+  path ← path_at n words
+  question ← question_at path.1
+  Some (About path.0 question.0, question.1)
+
+abbrev pub call_by : ℕ → Keyword → List (List ℕ) → Option (Asked × List (List ℕ))
+call_by n Keep words = keep_at words
+call_by n Ask words = ask_at n words
+call_by n Shape words = None
+call_by n Elements words = None
+call_by n Get words = None
+call_by n Cut words = None
+call_by n Permute words = None
+call_by n Start words = None
+call_by n Slash words = None
+call_by n Other words = None
+
+unfoldable pub call_at : ℕ → List (List ℕ) → Option (Asked × List (List ℕ))
+call_at n words = do
+  first ← keyword_at words
+  call_by n first.0 first.1
+
+-- what was read, where no word is left over
+abbrev pub ended : {X : Type 0} → X × List (List ℕ) → Option X
+ended (x, []) = Some x
+ended (x, word ∷ words) = None
+
+-- the call that the words of a line are, with at most n steps
+unfoldable pub call_of : ℕ → List (List ℕ) → Option Asked
+call_of n words = do
+  call ← call_at n words
+  ended call
+
+abbrev pub is_start : Keyword → Bool
+is_start Start = true
+is_start Slash = false
+is_start Cut = false
+is_start Permute = false
+is_start Keep = false
+is_start Ask = false
+is_start Shape = false
+is_start Elements = false
+is_start Get = false
+is_start Other = false
+
+-- the array that the words of a line start with
+unfoldable pub start_of : List (List ℕ) → Option (List ℕ × List ℤ)
+start_of words = do
+  first ← keyword_at words
+  array ← (if is_start first.0 then array_at first.1 else None)
+  ended array

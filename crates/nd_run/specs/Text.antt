@@ -1,0 +1,39 @@
+-- How replies are written: words with one space between them, and a line feed at the end of each line.
+use Rattle.std.specs.Prelude.{ℕ, ℤ, List, ◌++◌, length, Option, Some, None, codes}
+use Rattle.std.specs.List.{flat_map}
+use Rattle.std.specs.Fmt.{decimal, signed_decimal}
+use Rattle.nd_run.specs.Calls.{Said, SaidDone, SaidRefused, SaidShape, SaidElements, SaidElement}
+
+-- the numbers, each behind a space
+abbrev pub naturals_text : List ℕ → List ℕ
+naturals_text ns = flat_map (λ n. codes " " ++ decimal n) ns
+
+abbrev pub values_text : List ℤ → List ℕ
+values_text vs = flat_map (λ v. codes " " ++ signed_decimal v) vs
+
+-- how many numbers there are, and then they
+abbrev pub list_text : List ℕ → List ℕ
+list_text ns = decimal (length ns) ++ naturals_text ns
+
+-- the lengths as a list, and the elements
+abbrev pub array_text : List ℕ → List ℤ → List ℕ
+array_text lengths elements = list_text lengths ++ values_text elements
+
+-- the element, or that there is none
+abbrev pub element_text : Option ℤ → List ℕ
+element_text None = codes "none"
+element_text (Some v) = codes "some " ++ signed_decimal v
+
+-- a reply without its line feed
+abbrev pub reply_words : Said ℤ → List ℕ
+reply_words SaidDone = codes "done"
+reply_words (SaidRefused cause) = codes "refused " ++ decimal cause
+reply_words (SaidShape lengths) = codes "shape " ++ list_text lengths
+reply_words (SaidElements lengths elements) = codes "array " ++ array_text lengths elements
+reply_words (SaidElement element) = element_text element
+
+abbrev pub reply_text : Said ℤ → List ℕ
+reply_text reply = reply_words reply ++ codes "\n"
+
+abbrev pub replies_text : List (Said ℤ) → List ℕ
+replies_text replies = flat_map reply_text replies

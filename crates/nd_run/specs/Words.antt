@@ -1,0 +1,31 @@
+-- The lines of a text, and the words of a line.
+use Rattle.std.specs.Prelude.{ℕ, Bool, true, false, ◌||◌, not, ◌==◌, List, [], ◌∷◌, if◌then◌else◌}
+
+-- the byte before what follows it: in front of its first part
+abbrev pub before_first : ℕ → List (List ℕ) → List (List ℕ)
+before_first b [] = (b ∷ []) ∷ []
+before_first b (part ∷ parts) = (b ∷ part) ∷ parts
+
+-- The lines of a text, each without its line feed. The last one may lack it.
+abbrev pub lines_of : List ℕ → List (List ℕ)
+lines_of [] = []
+lines_of (b ∷ bs) = if b == 10 then [] ∷ lines_of bs else before_first b (lines_of bs)
+
+-- space, tab and carriage return
+abbrev pub is_blank : ℕ → Bool
+is_blank b = b == 32 || (b == 9 || b == 13)
+
+-- a word goes on at the front of these bytes
+abbrev pub goes_on : List ℕ → Bool
+goes_on [] = false
+goes_on (b ∷ bs) = not (is_blank b)
+
+-- the words of a line: its longest runs of bytes that aren't blank
+abbrev pub words_of : List ℕ → List (List ℕ)
+words_of [] = []
+words_of (b ∷ bs) = if is_blank b then words_of bs else (if goes_on bs then before_first b (words_of bs) else (b ∷ []) ∷ words_of bs)
+
+-- a line without words
+abbrev pub is_wordless : List (List ℕ) → Bool
+is_wordless [] = true
+is_wordless (word ∷ words) = false

@@ -1,0 +1,25 @@
+//! Why a call was refused.
+
+ghost use Rattle.std.specs.Prelude.{◌≡◌};
+
+/// The cause of a refusal, by its number in a reply.
+#[derive(Clone, Copy, Debug, PartialEq, Eq)]
+pub enum Cause {
+    /// An axis that the array hasn't.
+    Axis = 1,
+    /// A slice that doesn't fit its axis.
+    Slice = 3,
+    /// A list that doesn't name each axis once.
+    Permutation = 4,
+}
+
+impl Cause {
+    ghost use Rattle.nd_run.specs.Fold.{number_of};
+
+    /// The number of the cause in a reply.
+    pub fn number(self) -> u8
+        ensures { result ≡ number_of self }
+    {
+        self as u8
+    }
+}

@@ -1,0 +1,86 @@
+//! The whole program, over any reader and writer.
+
+ghost use Rattle.std.specs.Prelude.{◌≡◌, ◌≤◌, ◌||◌, ◌==◌, length, slice_get, map, IfOk, IfErr, IfSome};
+ghost use Rattle.nd_shape_and_slice.specs.Shape.{HasCheckedSize, size_of, row_rank};
+ghost use Rattle.nd_array_core.specs.Meaning.{shape_of, meaning_of, inside};
+ghost use Rattle.nd_run.specs.Calls.{said};
+ghost use Rattle.nd_run.specs.Fold.{elements_of, replies_before};
+ghost use Rattle.nd_run.specs.Meaning.{Runs, Stops, start_of};
+ghost use Rattle.nd_run.specs.Endings.{OutOfMemory, Driven, ending};
+ghost use Rattle.nd_run.specs.Script.{asked_script};
+ghost use Rattle.nd_run.specs.Watched.{watched_inner, watched_failed};
+
+use crate::calls::Reply;
+use crate::outcome::{Outcome, conclude, conclude_whole, load, unloaded};
+use crate::reader::Script;
+use crate::run::{RunFault, run};
+use crate::watched::Watched;
+use nd_array_core::Array;
+use nd_shape_and_slice::IxDyn;
+use std::alloc::Global;
+use std::io::{Read, Write};
+
+/// The array that a script starts with.
+fn start_array(lengths: &[usize], elements: Vec<i64>) -> Array<i64, IxDyn>
+    requires checked { HasCheckedSize lengths.now }
+    requires few { length lengths.now ≤ 32 }
+    requires full { length elements.items ≡ size_of lengths.now }
+    ensures { meaning_of result ≡ record { shape = lengths.now; at = λ i. inside lengths.now i (slice_get elements.items (row_rank lengths.now i)) } }
+{
+    match Array::from_shape_vec(IxDyn::new(lengths), elements) {
+        Ok(array) => array,
+        Err(_) => unreachable!(),
+    }
+}
+
+/// Carries out the calls of a script.
+fn run_script(
+    alloc: Global,
+    script: Script,
+) -> Result<(Vec<Reply<i64>>, Array<i64, IxDyn>), RunFault<i64>>
+    requires checked { HasCheckedSize script.lengths.items }
+    requires few { length script.lengths.items ≤ 32 }
+    requires full { length script.elements.items ≡ size_of script.lengths.items }
+    ensures done { IfOk result (λ r. Runs (asked_script script) (map said r.0.items) (shape_of r.1) (elements_of (meaning_of r.1))) }
+    ensures memory { IfErr result (λ fault. Stops (asked_script script) (replies_before fault)) }
+{
+    let Script {
+        lengths,
+        elements,
+        calls,
+    } = script;
+    let start = start_array(&lengths, elements);
+    match run(alloc, start, &calls) {
+        Ok((replies, array)) => Ok((replies, array)),
+        Err(fault) => Err(fault),
+    }
+}
+
+/// The end of a run that lacked memory.
+fn stopped(fault: RunFault<i64>) -> Outcome
+    ensures { ending result ≡ OutOfMemory (replies_before fault) }
+{
+    match fault {
+        RunFault::Memory(replies) => Outcome::Memory(replies),
+    }
+}
+
+/// Reads a script to the end of the input, carries it out, and writes its replies and its end. Answers the
+/// status: 3 where a call of the reader or of the writer failed.
+pub fn drive<R: Read, W: Write>(
+    alloc: Global,
+    input: &mut Watched<R>,
+    output: &mut Watched<W>,
+) -> u8
+    ensures text { IfSome (R.remaining (watched_inner input.old)) (λ bytes.
+        Driven Runs Stops W.contents bytes (watched_failed input.new) output.old output.new result) }
+    ensures status { (result == 3) ≡ (watched_failed input.new || watched_failed output.new) }
+{
+    match load(alloc, input) {
+        Ok(script) => match run_script(alloc, script) {
+            Ok((replies, array)) => conclude_whole(output, &replies, &array),
+            Err(fault) => conclude(output, &stopped(fault)),
+        },
+        Err(error) => conclude(output, &unloaded(alloc, error)),
+    }
+}

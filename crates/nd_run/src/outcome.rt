@@ -1,0 +1,161 @@
+//! How a script ends: loading it, and what is written at its end.
+
+ghost use Rattle.std.specs.Prelude.{◌≡◌, ◌≤◌, [], length, map, IfOk, IfSome, if◌then◌else◌};
+ghost use Rattle.nd_shape_and_slice.specs.Shape.{HasCheckedSize, size_of};
+ghost use Rattle.nd_array_core.specs.Meaning.{shape_of, meaning_of};
+ghost use Rattle.nd_run.specs.Calls.{said};
+ghost use Rattle.nd_run.specs.Fold.{elements_of};
+ghost use Rattle.nd_run.specs.Text.{values_text};
+ghost use Rattle.nd_run.specs.Endings.{Finished, ending, ending_text, status_of, is_load_failure, Loads, load_ending};
+ghost use Rattle.nd_run.specs.Puts.{Puts};
+ghost use Rattle.nd_run.specs.Watched.{watched_inner, watched_failed};
+
+use crate::calls::Reply;
+use crate::input::{InputError, read_input};
+use crate::printer::{put, put_list, put_natural, put_replies, put_value};
+use crate::reader::fault::ScriptError;
+use crate::reader::{Script, read_script};
+use crate::watched::Watched;
+use nd_array_core::Array;
+use nd_shape_and_slice::{IxDyn, MAX_AXES, index_of_rank};
+use std::alloc::Global;
+use std::io::{Read, Write};
+
+/// How a script ended before its last call.
+#[derive(Debug, Drop)]
+pub enum Outcome {
+    /// The number of the first bad line.
+    BadLine(usize),
+    /// The replies before memory was refused.
+    Memory(Vec<Reply<i64>>),
+    /// The input could not be read.
+    ReadFailed,
+}
+
+/// Why no script was loaded.
+#[derive(Clone, Copy, Debug, PartialEq, Eq)]
+pub enum LoadError {
+    /// The number of the first bad line.
+    BadLine(usize),
+    /// Memory was refused.
+    Memory,
+    /// The input could not be read.
+    ReadFailed,
+}
+
+/// The script of the whole input.
+pub fn load<R: Read>(alloc: Global, input: &mut Watched<R>) -> Result<Script, LoadError>
+    ensures script { IfSome (R.remaining (watched_inner input.old)) (λ xs. Loads xs result) }
+    ensures fits { IfOk result (λ s. HasCheckedSize s.lengths.items × (length s.lengths.items ≤ 32) × (length s.elements.items ≡ size_of s.lengths.items)) }
+    ensures failed { watched_failed input.new ≡ is_load_failure result }
+{
+    let text = match read_input(alloc, input) {
+        Ok(text) => text,
+        Err(InputError::Failed) => return Err(LoadError::ReadFailed),
+        Err(InputError::Memory) => return Err(LoadError::Memory),
+    };
+    match read_script(alloc, &text) {
+        Ok(script) => Ok(script),
+        Err(ScriptError::BadLine(number)) => Err(LoadError::BadLine(number)),
+        Err(ScriptError::Memory) => Err(LoadError::Memory),
+    }
+}
+
+/// The end where no script was loaded.
+pub fn unloaded(alloc: Global, error: LoadError) -> Outcome
+    ensures { ending result ≡ load_ending error }
+{
+    match error {
+        LoadError::BadLine(number) => Outcome::BadLine(number),
+        LoadError::Memory => Outcome::Memory(Vec::new(alloc)),
+        LoadError::ReadFailed => Outcome::ReadFailed,
+    }
+}
+
+fn put_end<W: Write>(output: &mut Watched<W>, outcome: &Outcome)
+    ensures { Puts W.contents output.old output.new (ending_text (ending outcome.now)) }
+{
+    match outcome {
+        Outcome::BadLine(number) => {
+            put(output, b"bad line ");
+            put_natural(output, *number);
+            put(output, b"\n");
+        }
+        Outcome::Memory(replies) => {
+            put_replies(output, replies);
+            put(output, b"out of memory\n");
+        }
+        Outcome::ReadFailed => put(output, b"read failed\n"),
+    }
+}
+
+fn flush<W: Write>(output: &mut Watched<W>)
+    ensures { Puts W.contents output.old output.new [] }
+{
+    if !output.failed() {
+        let _ = output.flush();
+    }
+}
+
+fn status(outcome: &Outcome, failed: bool) -> u8
+    ensures { result ≡ status_of failed (ending outcome.now) }
+{
+    if failed {
+        return 3;
+    }
+    match outcome {
+        Outcome::BadLine(_) => 1,
+        Outcome::Memory(_) => 2,
+        Outcome::ReadFailed => 3,
+    }
+}
+
+/// Writes what is due at this end, flushes once, and answers the status.
+pub fn conclude<W: Write>(output: &mut Watched<W>, outcome: &Outcome) -> u8
+    ensures text { Puts W.contents output.old output.new (ending_text (ending outcome.now)) }
+    ensures status { result ≡ status_of (watched_failed output.new) (ending outcome.now) }
+{
+    put_end(output, outcome);
+    flush(output);
+    status(outcome, output.failed())
+}
+
+/// Writes the elements of an array in row-major order, each behind a space, without memory.
+fn put_elements<W: Write>(output: &mut Watched<W>, array: &Array<i64, IxDyn>)
+    ensures { Puts W.contents output.old output.new (values_text (elements_of (meaning_of array.now))) }
+{
+    let mut coordinates = [0; MAX_AXES];
+    let index = &mut coordinates[..array.ndim()];
+    for rank in 0..array.len() {
+        index_of_rank(array.shape(), rank, index);
+        if let Some(value) = array.get(&*index) {
+            put(output, b" ");
+            put_value(output, value);
+        }
+    }
+}
+
+fn whole_status(failed: bool) -> u8
+    ensures { result ≡ (if failed then 3 else 0) }
+{
+    if failed { 3 } else { 0 }
+}
+
+/// Writes the replies and the array that the last call left, flushes once, and answers the status. It takes no
+/// memory.
+pub fn conclude_whole<W: Write>(
+    output: &mut Watched<W>,
+    replies: &[Reply<i64>],
+    array: &Array<i64, IxDyn>,
+) -> u8
+    ensures text { Puts W.contents output.old output.new (ending_text (Finished (map said replies.now) (shape_of array.now) (elements_of (meaning_of array.now)))) }
+    ensures status { result ≡ (if watched_failed output.new then 3 else 0) }
+{
+    put_replies(output, replies);
+    put(output, b"end ");
+    put_list(output, array.shape());
+    put_elements(output, array);
+    put(output, b"\n");
+    flush(output);
+    whole_status(output.failed())
+}

@@ -1,0 +1,106 @@
+//! Words and numbers from the front of a line, and lists of numbers.
+
+ghost use Rattle.std.specs.Prelude.{◌≡◌, ◌<◌, length};
+ghost use Rattle.nd_run.specs.Words.{words_of};
+ghost use Rattle.nd_run.specs.Reading.{Gives, word_at, item_at, items_at, list_at, lengths_at, array_at, checked_size, keyword_at};
+
+use crate::keyword::Keyword;
+use crate::numbers::Number;
+use crate::reader::fault::LineFault;
+use crate::words::{has_words, split_word};
+use nd_shape_and_slice::size_of_shape_checked;
+use std::alloc::Global;
+
+/// The first word.
+pub fn word(line: &[u8]) -> Result<(&[u8], &[u8]), LineFault>
+    ensures { Gives (λ x. (x.0.now, words_of x.1.now)) result (word_at (words_of line.now)) }
+{
+    split_word(line).ok_or(LineFault::Bad)
+}
+
+/// What the first word names.
+pub fn keyword(line: &[u8]) -> Result<(Keyword, &[u8]), LineFault>
+    ensures { Gives (λ x. (x.0, words_of x.1.now)) result (keyword_at (words_of line.now)) }
+{
+    let (first, rest) = word(line)?;
+    Ok((Keyword::of(first), rest))
+}
+
+/// A number.
+pub fn number<N: Number>(line: &[u8]) -> Result<(N, &[u8]), LineFault>
+    ensures { Gives (λ x. (x.0, words_of x.1.now)) result (item_at N.number_of (words_of line.now)) }
+{
+    let (first, rest) = word(line)?;
+    match N::from_word(first) {
+        Some(number) => Ok((number, rest)),
+        None => Err(LineFault::Bad),
+    }
+}
+
+/// That many numbers. Where the line has fewer words it is bad, and no memory is asked for.
+pub fn numbers<N: Number>(
+    alloc: Global,
+    count: usize,
+    line: &[u8],
+) -> Result<(Vec<N>, &[u8]), LineFault>
+    ensures read { Gives (λ x. (x.0.items, words_of x.1.now)) result (items_at N.number_of count (words_of line.now)) }
+    ensures few { length (words_of line.now) < count → result ≡ Err LineFault.Bad }
+{
+    if !has_words(line, count) {
+        return Err(LineFault::Bad);
+    }
+    let mut numbers = Vec::with_capacity(alloc, count)?;
+    let mut rest = line;
+    for _ in 0..count {
+        let (item, after) = number::<N>(rest)?;
+        numbers.push(item)?;
+        rest = after;
+    }
+    Ok((numbers, rest))
+}
+
+/// How many numbers there are, and then they.
+#[tactic(auto, unfolding(crate::specs::Reading::list_at))]
+pub fn list(alloc: Global, line: &[u8]) -> Result<(Vec<usize>, &[u8]), LineFault>
+    ensures { Gives (λ x. (x.0.items, words_of x.1.now)) result (list_at (words_of line.now)) }
+{
+    let (count, rest) = number::<usize>(line)?;
+    numbers::<usize>(alloc, count, rest)
+}
+
+/// The lengths of an array: a list of at most 32 numbers.
+#[tactic(auto, unfolding(crate::specs::Reading::lengths_at))]
+fn lengths(alloc: Global, line: &[u8]) -> Result<(Vec<usize>, &[u8]), LineFault>
+    ensures { Gives (λ x. (x.0.items, words_of x.1.now)) result (lengths_at (words_of line.now)) }
+{
+    let (count, rest) = number::<usize>(line)?;
+    if count > MAX_AXES {
+        return Err(LineFault::Bad);
+    }
+    numbers::<usize>(alloc, count, rest)
+}
+
+const MAX_AXES: usize = 32;
+
+fn checked_size(lengths: &[usize]) -> Result<usize, LineFault>
+    ensures { Gives (λ x. x) result (checked_size lengths.now) }
+{
+    match size_of_shape_checked(lengths) {
+        Ok(size) => Ok(size),
+        Err(_) => Err(LineFault::Bad),
+    }
+}
+
+/// The lengths and the elements of an array.
+pub type Parts = (Vec<usize>, Vec<i64>);
+
+/// The lengths of an array, and as many elements as they ask for.
+#[tactic(auto, unfolding(crate::specs::Reading::array_at))]
+pub fn array(alloc: Global, line: &[u8]) -> Result<(Parts, &[u8]), LineFault>
+    ensures { Gives (λ x. ((x.0.0.items, x.0.1.items), words_of x.1.now)) result (array_at (words_of line.now)) }
+{
+    let (lengths, rest) = lengths(alloc, line)?;
+    let size = checked_size(&lengths)?;
+    let (elements, rest) = numbers::<i64>(alloc, size, rest)?;
+    Ok(((lengths, elements), rest))
+}

@@ -1,0 +1,189 @@
+//! Steps, questions and calls from the words of a line.
+
+ghost use Rattle.std.specs.Prelude.{◌≡◌, map, length};
+ghost use Rattle.nd_run.specs.Words.{words_of};
+ghost use Rattle.nd_run.specs.Calls.{asked_step, asking, asked};
+ghost use Rattle.nd_run.specs.Reading.{Gives, item_at, end_of, slice_at, cut_at, permute_at, step_at, begins_step, leg_at, path_at, get_at, question_at, keep_at, ask_at, call_at, ended, call_of, start_of};
+
+use crate::calls::{Call, Question, Step};
+use crate::keyword::Keyword;
+use crate::numbers::Number;
+use crate::reader::fault::LineFault;
+use crate::reader::items::{Parts, array, keyword, list, number, word};
+use crate::words::split_word;
+use nd_shape_and_slice::Slice;
+use std::alloc::Global;
+
+/// An end of a slice, which may be missing.
+fn end(line: &[u8]) -> Result<(Option<isize>, &[u8]), LineFault>
+    ensures { Gives (λ x. (x.0, words_of x.1.now)) result (item_at end_of (words_of line.now)) }
+{
+    let (first, rest) = word(line)?;
+    if first == b"_".as_slice() {
+        return Ok((None, rest));
+    }
+    match isize::from_word(first) {
+        Some(end) => Ok((Some(end), rest)),
+        None => Err(LineFault::Bad),
+    }
+}
+
+#[tactic(auto, unfolding(crate::specs::Reading::slice_at))]
+fn slice(line: &[u8]) -> Result<(Slice, &[u8]), LineFault>
+    ensures { Gives (λ x. (x.0, words_of x.1.now)) result (slice_at (words_of line.now)) }
+{
+    let (start, rest) = number::<isize>(line)?;
+    let (end, rest) = end(rest)?;
+    let (step, rest) = number::<isize>(rest)?;
+    Ok((Slice { start, end, step }, rest))
+}
+
+#[tactic(auto, unfolding(crate::specs::Reading::cut_at))]
+fn cut(line: &[u8]) -> Result<(Step, &[u8]), LineFault>
+    ensures { Gives (λ x. (asked_step x.0, words_of x.1.now)) result (cut_at (words_of line.now)) }
+{
+    let (axis, rest) = number::<usize>(line)?;
+    let (slice, rest) = slice(rest)?;
+    Ok((Step::SliceAxis(axis, slice), rest))
+}
+
+#[tactic(auto, unfolding(crate::specs::Reading::permute_at))]
+fn permute(alloc: Global, line: &[u8]) -> Result<(Step, &[u8]), LineFault>
+    ensures { Gives (λ x. (asked_step x.0, words_of x.1.now)) result (permute_at (words_of line.now)) }
+{
+    let (axes, rest) = list(alloc, line)?;
+    Ok((Step::Permute(axes), rest))
+}
+
+#[tactic(auto, unfolding(crate::specs::Reading::step_at))]
+fn step(alloc: Global, line: &[u8]) -> Result<(Step, &[u8]), LineFault>
+    ensures { Gives (λ x. (asked_step x.0, words_of x.1.now)) result (step_at (words_of line.now)) }
+{
+    let (first, rest) = keyword(line)?;
+    match first {
+        Keyword::Cut => cut(rest),
+        Keyword::Permute => permute(alloc, rest),
+        _ => Err(LineFault::Bad),
+    }
+}
+
+fn begins_step(line: &[u8]) -> bool
+    ensures { result ≡ begins_step (words_of line.now) }
+{
+    match split_word(line) {
+        Some((first, _)) => Keyword::of(first).is_step(),
+        None => false,
+    }
+}
+
+/// A step and the slash after it.
+#[tactic(auto, unfolding(crate::specs::Reading::leg_at))]
+fn leg(alloc: Global, line: &[u8]) -> Result<(Step, &[u8]), LineFault>
+    ensures { Gives (λ x. (asked_step x.0, words_of x.1.now)) result (leg_at (words_of line.now)) }
+{
+    let (step, rest) = step(alloc, line)?;
+    let (slash, rest) = keyword(rest)?;
+    match slash {
+        Keyword::Slash => Ok((step, rest)),
+        _ => Err(LineFault::Bad),
+    }
+}
+
+/// Steps, each with a slash after it, as long as one begins and at most that many.
+fn path(alloc: Global, most: usize, line: &[u8]) -> Result<(Vec<Step>, &[u8]), LineFault>
+    ensures { Gives (λ x. (map asked_step x.0.items, words_of x.1.now)) result (path_at most (words_of line.now)) }
+{
+    let mut steps = Vec::new(alloc);
+    let mut rest = line;
+    for _ in 0..most {
+        if !begins_step(rest) {
+            break;
+        }
+        let (step, after) = leg(alloc, rest)?;
+        steps.push(step)?;
+        rest = after;
+    }
+    Ok((steps, rest))
+}
+
+#[tactic(auto, unfolding(crate::specs::Reading::get_at))]
+fn get(alloc: Global, line: &[u8]) -> Result<(Question, &[u8]), LineFault>
+    ensures { Gives (λ x. (asking x.0, words_of x.1.now)) result (get_at (words_of line.now)) }
+{
+    let (index, rest) = list(alloc, line)?;
+    Ok((Question::Get(index), rest))
+}
+
+#[tactic(auto, unfolding(crate::specs::Reading::question_at))]
+fn question(alloc: Global, line: &[u8]) -> Result<(Question, &[u8]), LineFault>
+    ensures { Gives (λ x. (asking x.0, words_of x.1.now)) result (question_at (words_of line.now)) }
+{
+    let (first, rest) = keyword(line)?;
+    match first {
+        Keyword::Shape => Ok((Question::Shape, rest)),
+        Keyword::Elements => Ok((Question::Elements, rest)),
+        Keyword::Get => get(alloc, rest),
+        _ => Err(LineFault::Bad),
+    }
+}
+
+#[tactic(auto, unfolding(crate::specs::Reading::keep_at))]
+fn keep(alloc: Global, line: &[u8]) -> Result<(Call, &[u8]), LineFault>
+    ensures { Gives (λ x. (asked x.0, words_of x.1.now)) result (keep_at (words_of line.now)) }
+{
+    let (step, rest) = step(alloc, line)?;
+    Ok((Call::Keep(step), rest))
+}
+
+#[tactic(auto, unfolding(crate::specs::Reading::ask_at))]
+fn ask(alloc: Global, most: usize, line: &[u8]) -> Result<(Call, &[u8]), LineFault>
+    ensures { Gives (λ x. (asked x.0, words_of x.1.now)) result (ask_at most (words_of line.now)) }
+{
+    let (path, rest) = path(alloc, most, line)?;
+    let (question, rest) = question(alloc, rest)?;
+    Ok((Call::Ask(path, question), rest))
+}
+
+#[tactic(auto, unfolding(crate::specs::Reading::call_at))]
+fn any_call(alloc: Global, most: usize, line: &[u8]) -> Result<(Call, &[u8]), LineFault>
+    ensures { Gives (λ x. (asked x.0, words_of x.1.now)) result (call_at most (words_of line.now)) }
+{
+    let (first, rest) = keyword(line)?;
+    match first {
+        Keyword::Keep => keep(alloc, rest),
+        Keyword::Ask => ask(alloc, most, rest),
+        _ => Err(LineFault::Bad),
+    }
+}
+
+/// The call of a line, all of whose words belong to it.
+#[tactic(auto, unfolding(crate::specs::Reading::call_of))]
+pub fn call(alloc: Global, line: &[u8]) -> Result<Call, LineFault>
+    ensures { Gives asked result (call_of (length line.now) (words_of line.now)) }
+{
+    let (call, rest) = any_call(alloc, line.len(), line)?;
+    end_of_line(call, rest)
+}
+
+/// The value, where no word is left over.
+fn end_of_line<T: Drop>(value: T, line: &[u8]) -> Result<T, LineFault>
+    ensures { Gives (λ x. x) result (ended (value, words_of line.now)) }
+{
+    match split_word(line) {
+        None => Ok(value),
+        Some(_) => Err(LineFault::Bad),
+    }
+}
+
+/// The array that a line starts a script with, all of whose words belong to it.
+#[tactic(auto, unfolding(crate::specs::Reading::start_of))]
+pub fn start(alloc: Global, line: &[u8]) -> Result<Parts, LineFault>
+    ensures { Gives (λ x. (x.0.items, x.1.items)) result (start_of (words_of line.now)) }
+{
+    let (first, rest) = keyword(line)?;
+    let (parts, rest) = match first {
+        Keyword::Start => array(alloc, rest)?,
+        _ => return Err(LineFault::Bad),
+    };
+    end_of_line(parts, rest)
+}

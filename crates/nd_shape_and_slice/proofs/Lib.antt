@@ -1,0 +1,9 @@
+pub mod Sizes
+pub mod RowMajor
+pub mod Steps
+pub mod AxisTests
+pub mod Ranks
+pub mod SliceLists
+pub mod ColumnMajor
+pub mod ColumnLoop
+pub mod Copied

@@ -1,0 +1,36 @@
+-- Where the elements of an array lie: the place of an index is the first place plus, for each axis, the
+-- coordinate times the axis's stride, in whole numbers without bounds.
+use Rattle.std.specs.Prelude.{ℕ, ◌+◌, ◌-◌, ◌*◌, ◌<◌, ◌≡◌, nat_le, List, [], ◌∷◌, slice_index, ℤ, pos, negsuc, ◌+ℤ◌, ◌*ℤ◌, nat_abs, if◌then◌else◌}
+use Rattle.std.proofs.Common.{get_or}
+
+-- how far from the first place an index lies under these strides
+abbrev pub offset_of : List ℤ → List ℕ → ℤ
+offset_of [] is = pos 0
+offset_of (s ∷ ss) [] = pos 0
+offset_of (s ∷ ss) (i ∷ is) = (pos i *ℤ s) +ℤ offset_of ss is
+
+-- the place of an index
+abbrev pub place_of : ℕ → List ℤ → List ℕ → ℤ
+place_of first strides index = pos first +ℤ offset_of strides index
+
+-- how far apart two places of the array can lie at most: over the axes the sum of (length - 1) times the
+-- stride's magnitude
+abbrev pub span_of : List ℕ → List ℤ → ℕ
+span_of [] ss = 0
+span_of (n ∷ ns) [] = 0
+span_of (n ∷ ns) (s ∷ ss) = (n - 1) * nat_abs s + span_of ns ss
+
+-- that sum over the axes whose stride is of magnitude m at most
+abbrev pub span_within : ℕ → List ℕ → List ℤ → ℕ
+span_within m [] ss = 0
+span_within m (n ∷ ns) [] = 0
+span_within m (n ∷ ns) (s ∷ ss) = (if nat_le (nat_abs s) m then (n - 1) * nat_abs s else 0) + span_within m ns ss
+
+-- the magnitude of an axis's stride
+abbrev pub magnitude_at : List ℤ → ℕ → ℕ
+magnitude_at ss k = nat_abs (get_or ss k (pos 0))
+
+-- Separated strides: each axis longer than 1 steps further than all other axes of at most its magnitude
+-- reach together. (The axis itself is counted on both sides.) Then no two indexes share a place.
+abbrev pub IsSeparated : List ℕ → List ℤ → Type 0
+IsSeparated ns ss = (k : ℕ) → 1 < slice_index ns k → span_within (magnitude_at ss k) ns ss < slice_index ns k * magnitude_at ss k

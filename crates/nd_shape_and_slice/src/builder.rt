@@ -1,0 +1,313 @@
+//! Shapes with the order or the strides that a constructor is to give.
+
+ghost use Rattle.std.specs.Prelude.{◌≡◌, ◌≤◌, ℕ, ℤ, Bool, true, List, length, Option, None, Some, if◌then◌else◌};
+ghost use Rattle.std.specs.Option.{option_map};
+ghost use Rattle.nd_shape_and_slice.specs.Shape.{HasCheckedSize, size_of};
+ghost use Rattle.nd_shape_and_slice.specs.Builder.{are_as_many};
+ghost use Rattle.nd_shape_and_slice.specs.declared.builder.Order.{Order};
+ghost use Rattle.nd_shape_and_slice.specs.declared.builder.Order.TheVariants.{RowMajor, ColumnMajor};
+
+use crate::dimension::{Dimension, StrideList};
+use crate::index::IntoDimension;
+
+/// Which axis runs fastest. ndarray's `Order`.
+#[derive(Clone, Copy, Debug, PartialEq, Eq)]
+pub enum Order {
+    /// The last axis, as in C.
+    RowMajor,
+    /// The first axis, as in Fortran.
+    ColumnMajor,
+}
+
+/// A shape to reshape to: lengths, or a pair of lengths and an order. Without an order it is row-major. ndarray's
+/// `ShapeArg`.
+pub trait ShapeArg {
+    /// The dimension of the shape.
+    type Dim: Dimension;
+
+    ghost shape_asked: { Self → List ℕ };
+
+    ghost order_asked: { Self → Order };
+
+    /// The shape and the order. ndarray's `ShapeArg::into_shape_and_order`.
+    fn into_shape_and_order(self) -> (Self::Dim, Order)
+        ensures lengths { Self.Dim.lengths result.0 ≡ shape_asked self }
+        ensures order { result.1 ≡ order_asked self };
+}
+
+impl<S: IntoDimension> ShapeArg for S {
+    type Dim = S::Dim;
+
+    ghost shape_asked = { λ s. S.lengths_given s };
+
+    ghost order_asked = { λ _. RowMajor };
+
+    fn into_shape_and_order(self) -> (S::Dim, Order) {
+        (self.into_dimension(), Order::RowMajor)
+    }
+}
+
+impl<S: IntoDimension> ShapeArg for (S, Order) {
+    type Dim = S::Dim;
+
+    ghost shape_asked = { λ s. S.lengths_given s.0 };
+
+    ghost order_asked = { λ s. s.1 };
+
+    fn into_shape_and_order(self) -> (S::Dim, Order) {
+        let (shape, order) = self;
+        (shape.into_dimension(), order)
+    }
+}
+
+/// A shape, and the order in which its strides are to run. ndarray's `Shape`.
+#[derive(Drop)]
+pub struct Shape<D: Dimension> {
+    dim: D,
+    order: Order,
+}
+
+impl<D: Dimension> Shape<D> {
+    /// The dimension. ndarray's `Shape::raw_dim`.
+    pub fn raw_dim(&self) -> &D
+        ensures { result.now ≡ self.now.dim }
+    {
+        &self.dim
+    }
+
+    /// The order of the strides.
+    pub fn order(&self) -> Order
+        ensures { result ≡ self.now.order }
+    {
+        self.order
+    }
+
+    /// The number of elements, where the checked size exists. ndarray's `Shape::size`.
+    pub fn size(&self) -> usize
+        requires { HasCheckedSize (D.lengths self.now.dim) }
+        ensures { result ≡ size_of (D.lengths self.now.dim) }
+    {
+        self.dim.size()
+    }
+}
+
+/// A shape, and the strides that it is to have: the C strides, the F strides, or strides of the caller's. ndarray's
+/// `StrideShape`.
+#[derive(Drop)]
+pub struct StrideShape<D: Dimension> {
+    dim: D,
+    order: Order,
+    custom: Option<D::Strides>,
+    ghost as_many: { are_as_many (option_map D.Strides.strides_of custom) (length (D.lengths dim)) ≡ true },
+}
+
+impl<D: Dimension> StrideShape<D> {
+    /// The dimension. ndarray's `StrideShape::raw_dim`.
+    pub fn raw_dim(&self) -> &D
+        ensures { result.now ≡ self.now.dim }
+    {
+        &self.dim
+    }
+
+    /// The order of the strides where they aren't the caller's.
+    pub fn order(&self) -> Order
+        ensures { result ≡ self.now.order }
+    {
+        self.order
+    }
+
+    /// The caller's strides, if there are any: as many as there are axes.
+    pub fn custom_strides(&self) -> Option<D::Strides>
+        ensures strides { result ≡ self.now.custom }
+        ensures as_many { are_as_many (option_map D.Strides.strides_of result) (length (D.lengths self.now.dim)) ≡ true }
+    {
+        self.custom
+    }
+
+    /// The number of elements, where the checked size exists. ndarray's `StrideShape::size`.
+    pub fn size(&self) -> usize
+        requires { HasCheckedSize (D.lengths self.now.dim) }
+        ensures { result ≡ size_of (D.lengths self.now.dim) }
+    {
+        self.dim.size()
+    }
+}
+
+/// The strides of the list, one for each axis.
+fn strides_from<D: Dimension>(dim: &D, list: &[isize]) -> D::Strides
+    requires { length list.now ≡ length (D.lengths dim.now) }
+    ensures { D.Strides.strides_of result ≡ list.now }
+{
+    let mut strides = dim.zero_strides();
+    for axis in 0..list.len() {
+        strides.set(axis, list[axis]);
+    }
+    strides
+}
+
+/// What a shape is built from: lengths, or a shape with an order. ndarray's `ShapeBuilder`.
+pub trait ShapeBuilder {
+    /// The dimension of the shape.
+    type Dim: Dimension;
+
+    ghost builds_lengths: { Self → List ℕ };
+
+    ghost builds_order: { Self → Order };
+
+    /// The shape, in its order: row-major unless another was asked for. ndarray's `into_shape_with_order`.
+    fn into_shape_with_order(self) -> Shape<Self::Dim>
+        ensures lengths { Self.Dim.lengths result.dim ≡ builds_lengths self }
+        ensures order { result.order ≡ builds_order self };
+
+    /// The shape with F strides, or with C strides. ndarray's `ShapeBuilder::set_f`.
+    fn set_f(self, is_f: bool) -> Shape<Self::Dim>
+        ensures lengths { Self.Dim.lengths result.dim ≡ builds_lengths self }
+        ensures order { result.order ≡ (if is_f then Order.ColumnMajor else Order.RowMajor) };
+
+    /// The shape with F strides. ndarray's `ShapeBuilder::f`.
+    fn f(self) -> Shape<Self::Dim>
+        ensures lengths { Self.Dim.lengths result.dim ≡ builds_lengths self }
+        ensures order { result.order ≡ Order.ColumnMajor };
+
+    /// The shape with these strides, as many as there are axes. ndarray's `ShapeBuilder::strides`.
+    fn strides(self, strides: &[isize]) -> StrideShape<Self::Dim>
+        requires { length strides.now ≡ length (builds_lengths self) }
+        ensures lengths { Self.Dim.lengths result.dim ≡ builds_lengths self }
+        ensures order { result.order ≡ builds_order self }
+        ensures strides { option_map Self.Dim.Strides.strides_of result.custom ≡ Some strides.now };
+}
+
+/// The shape with these strides.
+fn with_strides<D: Dimension>(shape: Shape<D>, list: &[isize]) -> StrideShape<D>
+    requires { length list.now ≡ length (D.lengths shape.dim) }
+    ensures lengths { D.lengths result.dim ≡ D.lengths shape.dim }
+    ensures order { result.order ≡ shape.order }
+    ensures strides { option_map D.Strides.strides_of result.custom ≡ Some list.now }
+{
+    let strides = strides_from(&shape.dim, list);
+    StrideShape {
+        dim: shape.dim,
+        order: shape.order,
+        custom: Some(strides),
+    }
+}
+
+/// The order of F strides, or that of C strides.
+fn order_of(is_f: bool) -> Order
+    ensures { result ≡ (if is_f then Order.ColumnMajor else Order.RowMajor) }
+{
+    if is_f {
+        Order::ColumnMajor
+    } else {
+        Order::RowMajor
+    }
+}
+
+impl<S: IntoDimension> ShapeBuilder for S {
+    type Dim = S::Dim;
+
+    ghost builds_lengths = { λ s. S.lengths_given s };
+
+    ghost builds_order = { λ _. RowMajor };
+
+    fn into_shape_with_order(self) -> Shape<S::Dim> {
+        Shape {
+            dim: self.into_dimension(),
+            order: Order::RowMajor,
+        }
+    }
+
+    fn set_f(self, is_f: bool) -> Shape<S::Dim> {
+        Shape {
+            dim: self.into_dimension(),
+            order: order_of(is_f),
+        }
+    }
+
+    fn f(self) -> Shape<S::Dim> {
+        self.set_f(true)
+    }
+
+    fn strides(self, strides: &[isize]) -> StrideShape<S::Dim> {
+        with_strides(self.into_shape_with_order(), strides)
+    }
+}
+
+impl<D: Dimension> ShapeBuilder for Shape<D> {
+    type Dim = D;
+
+    ghost builds_lengths = { λ s. D.lengths s.dim };
+
+    ghost builds_order = { λ s. s.order };
+
+    fn into_shape_with_order(self) -> Shape<D> {
+        self
+    }
+
+    fn set_f(self, is_f: bool) -> Shape<D> {
+        Shape {
+            dim: self.dim,
+            order: order_of(is_f),
+        }
+    }
+
+    fn f(self) -> Shape<D> {
+        self.set_f(true)
+    }
+
+    fn strides(self, strides: &[isize]) -> StrideShape<D> {
+        with_strides(self, strides)
+    }
+}
+
+/// What gives a constructor its shape and strides: all that builds a shape, and a `StrideShape` itself. It stands
+/// for ndarray's `Into<StrideShape>`.
+pub trait IntoStrideShape {
+    /// The dimension of the shape.
+    type Dim: Dimension;
+
+    ghost lengths_meant: { Self → List ℕ };
+
+    ghost order_meant: { Self → Order };
+
+    ghost strides_meant: { Self → Option (List ℤ) };
+
+    /// The shape with its strides.
+    fn into_stride_shape(self) -> StrideShape<Self::Dim>
+        ensures lengths { Self.Dim.lengths result.dim ≡ lengths_meant self }
+        ensures order { result.order ≡ order_meant self }
+        ensures strides { option_map Self.Dim.Strides.strides_of result.custom ≡ strides_meant self };
+}
+
+impl<B: ShapeBuilder> IntoStrideShape for B {
+    type Dim = B::Dim;
+
+    ghost lengths_meant = { λ b. B.builds_lengths b };
+
+    ghost order_meant = { λ b. B.builds_order b };
+
+    ghost strides_meant = { λ _. None };
+
+    fn into_stride_shape(self) -> StrideShape<B::Dim> {
+        let shape = self.into_shape_with_order();
+        StrideShape {
+            dim: shape.dim,
+            order: shape.order,
+            custom: None,
+        }
+    }
+}
+
+impl<D: Dimension> IntoStrideShape for StrideShape<D> {
+    type Dim = D;
+
+    ghost lengths_meant = { λ s. D.lengths s.dim };
+
+    ghost order_meant = { λ s. s.order };
+
+    ghost strides_meant = { λ s. option_map D.Strides.strides_of s.custom };
+
+    fn into_stride_shape(self) -> StrideShape<D> {
+        self
+    }
+}

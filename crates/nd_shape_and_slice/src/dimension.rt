@@ -1,0 +1,106 @@
+//! Dimensions: lists of lengths and of strides, one for each axis.
+
+ghost use Rattle.std.specs.Prelude.{◌≡◌, ◌≤◌, ◌==◌, ◌&&◌, nat_le, ℕ, ℤ, pos, Bool, true, false, List, Option, Some, None, length, take, slice_set, slice_get, replicate, MatchOption, map};
+ghost use Rattle.nd_shape_and_slice.specs.Shape.{HasCheckedSize, size_of};
+
+use crate::size::product_of;
+
+/// The largest number of axes of an array.
+pub const MAX_AXES: usize = 32;
+
+/// A length or a coordinate. ndarray's `Ix`.
+pub type Ix = usize;
+
+/// A stride, or a bound of a slice. ndarray's `Ixs`.
+pub type Ixs = isize;
+
+/// Signed strides, one for each axis.
+pub trait StrideList: Copy {
+    ghost strides_of: { Self → List ℤ };
+
+    /// The strides, axis by axis.
+    fn slice(&self) -> &[isize]
+        ensures { result.now ≡ strides_of self.now };
+
+    /// Puts the stride of one axis; an axis past the last changes nothing.
+    fn set(&mut self, axis: usize, stride: isize)
+        ensures { strides_of self.new ≡ slice_set (strides_of self.old) axis stride };
+}
+
+impl<const N: usize> StrideList for [isize; N] {
+    ghost strides_of = { λ s. s };
+
+    fn slice(&self) -> &[isize] {
+        self
+    }
+
+    fn set(&mut self, axis: usize, stride: isize) {
+        if axis < N {
+            self[axis] = stride;
+        }
+    }
+}
+
+/// How many axes a dimension has: the same number for each value, or any.
+pub trait AxisCount {
+    /// The number of axes where it is fixed. ndarray's `Dimension::NDIM`.
+    const NDIM: Option<usize>;
+
+    ghost NDIM: { Option ℕ };
+}
+
+/// The lengths of an array's axes. ndarray's `Dimension`.
+pub trait Dimension: AxisCount + Copy {
+    /// The lengths as a number, a tuple or the dimension itself. ndarray's `Dimension::Pattern`.
+    type Pattern;
+    /// The strides of as many axes.
+    type Strides: StrideList;
+    /// The dimension with one axis fewer.
+    type Smaller;
+    /// The dimension with one axis more.
+    type Larger;
+
+    ghost lengths: { Self → List ℕ };
+
+    ghost has_axes: { ℕ → Bool };
+
+    ghost pattern_lengths: { Self.Pattern → List ℕ };
+
+    /// The lengths, axis by axis. ndarray's `Dimension::slice`.
+    fn slice(&self) -> &[usize]
+        ensures lengths { result.now ≡ lengths self.now }
+        ensures number { has_axes (length result.now) ≡ true }
+        ensures few { length result.now ≤ 32 };
+
+    /// Puts the length of one axis; an axis past the last changes nothing.
+    fn set_length(&mut self, axis: usize, len: usize)
+        ensures { lengths self.new ≡ slice_set (lengths self.old) axis len };
+
+    /// The dimension with these lengths; None exactly where it can't have as many axes.
+    fn from_lengths(list: &[usize]) -> Option<Self>
+        ensures { MatchOption result (has_axes (length list.now) ≡ false) (λ d. lengths d ≡ list.now) };
+
+    /// Strides of 0, as many as there are axes.
+    fn zero_strides(&self) -> Self::Strides
+        ensures { Self.Strides.strides_of result ≡ replicate (length (lengths self.now)) (pos 0) };
+
+    /// The lengths as a pattern. ndarray's `Dimension::into_pattern`.
+    fn into_pattern(self) -> Self::Pattern
+        ensures { pattern_lengths result ≡ lengths self };
+
+    /// The number of elements, where the checked size exists. ndarray's `Dimension::size`.
+    fn size(&self) -> usize
+        requires { HasCheckedSize (lengths self.now) }
+        ensures { result ≡ size_of (lengths self.now) }
+    {
+        product_of(self.slice())
+    }
+
+    /// The number of axes, at most 32. ndarray's `Dimension::ndim`.
+    fn ndim(&self) -> usize
+        ensures value { result ≡ length (lengths self.now) }
+        ensures few { result ≤ 32 }
+    {
+        self.slice().len()
+    }
+}

@@ -1,0 +1,99 @@
+//! The dimension whose number of axes is known only at run time.
+
+ghost use Rattle.std.specs.Prelude.{◌≡◌, ◌≤◌, ◌==◌, ◌&&◌, nat_le, ℕ, ℤ, pos, Bool, true, false, List, [], ◌∷◌, Option, Some, None, length, take};
+
+use crate::dimension::{AxisCount, Dimension, MAX_AXES, StrideList};
+
+/// A number of axes known only at run time, at most 32. It takes no memory. ndarray's `IxDyn`.
+#[derive(Clone, Copy, Debug)]
+pub struct IxDyn {
+    lens: [usize; 32],
+    count: usize,
+    ghost few: { count ≤ 32 },
+}
+
+/// The strides of an array whose number of axes is known only at run time.
+#[derive(Clone, Copy, Debug)]
+pub struct DynStrides {
+    strides: [isize; 32],
+    count: usize,
+    ghost few: { count ≤ 32 },
+}
+
+impl StrideList for DynStrides {
+    ghost strides_of = { λ s. take s.count s.strides };
+
+    fn slice(&self) -> &[isize] {
+        &self.strides[..self.count]
+    }
+
+    fn set(&mut self, axis: usize, stride: isize) {
+        if axis < self.count {
+            self.strides[axis] = stride;
+        }
+    }
+}
+
+impl AxisCount for IxDyn {
+    const NDIM: Option<usize> = None;
+
+    ghost NDIM = { None };
+}
+
+impl IxDyn {
+    /// The dimension with these lengths, at most 32. ndarray's `IxDyn`.
+    pub fn new(lengths: &[usize]) -> Self
+        requires { length lengths.now ≤ 32 }
+        ensures { ⟦<IxDyn as Dimension>⟧.lengths result ≡ lengths.now }
+    {
+        let mut lens = [0; 32];
+        let count = lengths.len();
+        lens[..count].copy_from_slice(lengths);
+        IxDyn { lens, count }
+    }
+}
+
+impl Dimension for IxDyn {
+    type Pattern = IxDyn;
+
+    type Strides = DynStrides;
+
+    type Smaller = IxDyn;
+
+    type Larger = IxDyn;
+
+    ghost lengths = { λ d. take d.count d.lens };
+
+    ghost has_axes = { λ n. nat_le n 32 };
+
+    ghost pattern_lengths = { λ d. take d.count d.lens };
+
+    fn slice(&self) -> &[usize] {
+        &self.lens[..self.count]
+    }
+
+    fn set_length(&mut self, axis: usize, len: usize) {
+        if axis < self.count {
+            self.lens[axis] = len;
+        }
+    }
+
+    fn from_lengths(list: &[usize]) -> Option<Self> {
+        if list.len() <= MAX_AXES {
+            Some(IxDyn::new(list))
+        } else {
+            None
+        }
+    }
+
+    fn into_pattern(self) -> IxDyn {
+        self
+    }
+
+    fn zero_strides(&self) -> DynStrides {
+        DynStrides {
+            strides: [0; 32],
+            count: self.count,
+        }
+    }
+}

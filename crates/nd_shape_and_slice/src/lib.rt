@@ -1,0 +1,36 @@
+//! Shapes, indexes and slices of n-dimensional arrays, as lists of numbers: no storage and no stride.
+#![tactic(auto)]
+
+mod axes;
+mod builder;
+mod descriptions;
+mod dimension;
+mod dynamic;
+mod errors;
+mod fixed;
+mod index;
+mod rank;
+mod resize;
+mod size;
+mod slice;
+mod slice_info;
+mod strides;
+#[cfg(test)]
+mod tests;
+
+pub use axes::{Axis, axes_fit};
+pub use builder::{IntoStrideShape, Order, Shape, ShapeArg, ShapeBuilder, StrideShape};
+pub use descriptions::{Axes, AxisDescription};
+pub use dimension::{AxisCount, Dimension, Ix, Ixs, MAX_AXES, StrideList};
+pub use dynamic::{DynStrides, IxDyn};
+pub use errors::{ErrorKind, NoMemory, ShapeError};
+pub use fixed::{Dim, FixedAxes, Ix0, Ix1, Ix2, Ix3, Ix4, Ix5, Ix6};
+pub use index::{IntoDimension, NdIndex};
+pub use rank::index_of_rank;
+pub use resize::{InsertAxis, RemoveAxis};
+pub use size::{is_empty_shape, size_of_shape_checked};
+pub use slice::{Slice, SlicedAxis, slice_fits};
+pub use slice_info::{
+    SliceArg, SliceInfo, SliceInfoElem, axes_kept, axes_read, coordinate_on_axis, slices_fit,
+};
+pub use strides::{default_strides, fortran_strides};

@@ -1,0 +1,20 @@
+//! Indexes by their row-major ranks.
+
+ghost use Rattle.std.specs.Prelude.{◌≡◌, ◌<◌, length};
+ghost use Rattle.nd_shape_and_slice.specs.Shape.{size_of, index_at};
+
+/// Writes the index of a row-major rank, below the shape's size.
+pub fn index_of_rank(lengths: &[usize], rank: usize, index: &mut [usize])
+    requires as_long { length index.old ≡ length lengths.now }
+    requires below { rank < size_of lengths.now }
+    ensures { index.new ≡ index_at lengths.now rank }
+{
+    let mut rest = rank;
+    let mut axis = lengths.len();
+    while axis > 0 {
+        axis -= 1;
+        let len = lengths[axis];
+        index[axis] = rest % len;
+        rest /= len;
+    }
+}

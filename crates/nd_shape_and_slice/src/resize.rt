@@ -1,0 +1,179 @@
+//! Dimensions with one axis more or fewer.
+
+ghost use Rattle.std.specs.Prelude.{◌≡◌, ◌≤◌, ◌<◌, ◌+◌, ◌-◌, true, List, ℕ, length};
+ghost use Rattle.std.specs.List.{remove, insert};
+
+use crate::axes::Axis;
+use crate::dimension::Dimension;
+use crate::dynamic::IxDyn;
+use crate::fixed::Dim;
+
+/// A dimension that has an axis to lose: every one but `Ix0`. ndarray's `RemoveAxis`.
+pub trait RemoveAxis: Dimension
+where
+    Self::Smaller: Dimension,
+{
+    /// The dimension without the length of this axis. ndarray's `RemoveAxis::remove_axis`.
+    fn remove_axis(&self, axis: Axis) -> Self::Smaller
+        requires { axis.0 < length (Self.lengths self.now) }
+        ensures { Self.Smaller.lengths result ≡ remove (Self.lengths self.now) axis.0 };
+}
+
+/// A dimension to which an axis can be added. ndarray's `Dimension::insert_axis`.
+pub trait InsertAxis: Dimension
+where
+    Self::Larger: Dimension,
+{
+    /// The dimension with an axis of length 1 put in. The larger dimension has to have room for as many axes: all
+    /// of fixed numbers do, and `IxDyn` where there are fewer than 32.
+    fn insert_axis(&self, axis: Axis) -> Self::Larger
+        requires place { axis.0 ≤ length (Self.lengths self.now) }
+        requires room { Self.Larger.has_axes (length (Self.lengths self.now) + 1) ≡ true }
+        ensures { Self.Larger.lengths result ≡ insert (Self.lengths self.now) axis.0 1 };
+}
+
+/// Writes all lengths but that of one axis.
+pub(crate) fn copy_without(lengths: &[usize], axis: usize, out: &mut [usize])
+    requires axis { axis < length lengths.now }
+    requires as_many { length out.old + 1 ≡ length lengths.now }
+    ensures { out.new ≡ remove lengths.now axis }
+{
+    let (front, back) = out.split_at_mut(axis);
+    front.copy_from_slice(&lengths[..axis]);
+    back.copy_from_slice(&lengths[axis + 1..]);
+}
+
+/// Writes the lengths with a 1 put in.
+pub(crate) fn copy_with(lengths: &[usize], axis: usize, out: &mut [usize])
+    requires axis { axis ≤ length lengths.now }
+    requires as_many { length out.old ≡ length lengths.now + 1 }
+    ensures { out.new ≡ insert lengths.now axis 1 }
+{
+    let (front, rest) = out.split_at_mut(axis);
+    let (new, back) = rest.split_at_mut(1);
+    front.copy_from_slice(&lengths[..axis]);
+    new.copy_from_slice(&[1]);
+    back.copy_from_slice(&lengths[axis..]);
+}
+
+impl RemoveAxis for Dim<1> {
+    fn remove_axis(&self, axis: Axis) -> Dim<0> {
+        let mut lengths = [0; 0];
+        copy_without(self.slice(), axis.0, &mut lengths);
+        Dim::new(lengths)
+    }
+}
+
+impl RemoveAxis for Dim<2> {
+    fn remove_axis(&self, axis: Axis) -> Dim<1> {
+        let mut lengths = [0; 1];
+        copy_without(self.slice(), axis.0, &mut lengths);
+        Dim::new(lengths)
+    }
+}
+
+impl RemoveAxis for Dim<3> {
+    fn remove_axis(&self, axis: Axis) -> Dim<2> {
+        let mut lengths = [0; 2];
+        copy_without(self.slice(), axis.0, &mut lengths);
+        Dim::new(lengths)
+    }
+}
+
+impl RemoveAxis for Dim<4> {
+    fn remove_axis(&self, axis: Axis) -> Dim<3> {
+        let mut lengths = [0; 3];
+        copy_without(self.slice(), axis.0, &mut lengths);
+        Dim::new(lengths)
+    }
+}
+
+impl RemoveAxis for Dim<5> {
+    fn remove_axis(&self, axis: Axis) -> Dim<4> {
+        let mut lengths = [0; 4];
+        copy_without(self.slice(), axis.0, &mut lengths);
+        Dim::new(lengths)
+    }
+}
+
+impl RemoveAxis for Dim<6> {
+    fn remove_axis(&self, axis: Axis) -> Dim<5> {
+        let mut lengths = [0; 5];
+        copy_without(self.slice(), axis.0, &mut lengths);
+        Dim::new(lengths)
+    }
+}
+
+impl InsertAxis for Dim<0> {
+    fn insert_axis(&self, axis: Axis) -> Dim<1> {
+        let mut lengths = [0; 1];
+        copy_with(self.slice(), axis.0, &mut lengths);
+        Dim::new(lengths)
+    }
+}
+
+impl InsertAxis for Dim<1> {
+    fn insert_axis(&self, axis: Axis) -> Dim<2> {
+        let mut lengths = [0; 2];
+        copy_with(self.slice(), axis.0, &mut lengths);
+        Dim::new(lengths)
+    }
+}
+
+impl InsertAxis for Dim<2> {
+    fn insert_axis(&self, axis: Axis) -> Dim<3> {
+        let mut lengths = [0; 3];
+        copy_with(self.slice(), axis.0, &mut lengths);
+        Dim::new(lengths)
+    }
+}
+
+impl InsertAxis for Dim<3> {
+    fn insert_axis(&self, axis: Axis) -> Dim<4> {
+        let mut lengths = [0; 4];
+        copy_with(self.slice(), axis.0, &mut lengths);
+        Dim::new(lengths)
+    }
+}
+
+impl InsertAxis for Dim<4> {
+    fn insert_axis(&self, axis: Axis) -> Dim<5> {
+        let mut lengths = [0; 5];
+        copy_with(self.slice(), axis.0, &mut lengths);
+        Dim::new(lengths)
+    }
+}
+
+impl InsertAxis for Dim<5> {
+    fn insert_axis(&self, axis: Axis) -> Dim<6> {
+        let mut lengths = [0; 6];
+        copy_with(self.slice(), axis.0, &mut lengths);
+        Dim::new(lengths)
+    }
+}
+
+impl InsertAxis for Dim<6> {
+    fn insert_axis(&self, axis: Axis) -> IxDyn {
+        let mut lengths = [0; 7];
+        copy_with(self.slice(), axis.0, &mut lengths);
+        IxDyn::new(&lengths)
+    }
+}
+
+impl RemoveAxis for IxDyn {
+    fn remove_axis(&self, axis: Axis) -> IxDyn {
+        let mut lengths = [0; 32];
+        let count = self.ndim() - 1;
+        copy_without(self.slice(), axis.0, &mut lengths[..count]);
+        IxDyn::new(&lengths[..count])
+    }
+}
+
+impl InsertAxis for IxDyn {
+    fn insert_axis(&self, axis: Axis) -> IxDyn {
+        let mut lengths = [0; 32];
+        let count = self.ndim() + 1;
+        copy_with(self.slice(), axis.0, &mut lengths[..count]);
+        IxDyn::new(&lengths[..count])
+    }
+}

@@ -1,0 +1,96 @@
+//! Slices of one axis.
+
+ghost use Rattle.std.specs.Prelude.{◌↔◌, ◌≡◌, ◌<◌, nat_abs, IsTrue, true};
+ghost use Rattle.nd_shape_and_slice.specs.Slice.{fits_axis, bound_on, end_on, quotient_up, sliced_length, sliced_from};
+
+/// The part of an axis from `start` up to `end` in steps. A negative bound counts from the axis's end, and a
+/// missing end is the axis's length. A negative step goes from the last coordinate of the range down.
+/// ndarray's `Slice`.
+#[derive(Clone, Copy, Debug, PartialEq, Eq)]
+pub struct Slice {
+    /// The first coordinate of the range.
+    pub start: isize,
+    /// The coordinate after the last of the range.
+    pub end: Option<isize>,
+    /// From each coordinate to the next: any number but 0.
+    pub step: isize,
+}
+
+impl Slice {
+    /// The slice with these bounds and this step. ndarray's `Slice::new`.
+    pub fn new(start: isize, end: Option<isize>, step: isize) -> Self
+        ensures { result ≡ record { start = start; end = end; step = step } }
+    {
+        Slice { start, end, step }
+    }
+}
+
+/// What a slice makes of an axis.
+#[derive(Clone, Copy, Debug, PartialEq, Eq)]
+pub struct SlicedAxis {
+    /// The old coordinate that the new coordinate 0 names.
+    pub first: usize,
+    /// The new length.
+    pub len: usize,
+}
+
+impl Slice {
+    /// What the slice makes of an axis of this length, which it fits.
+    pub fn on_axis(self, len: usize) -> SlicedAxis
+        requires { fits_axis len self ≡ true }
+        ensures first { result.first ≡ sliced_from len self 0 }
+        ensures len { result.len ≡ sliced_length len self }
+    {
+        let low = bound_on_axis(len, self.start).unwrap_or(0);
+        let high = low.max(end_on_axis(len, self.end).unwrap_or(0));
+        SlicedAxis {
+            first: if self.step < 0 {
+                high.saturating_sub(1)
+            } else {
+                low
+            },
+            len: steps_in(high - low, self.step),
+        }
+    }
+}
+
+/// Where a bound lies on an axis of this length; None where it lies outside.
+fn bound_on_axis(len: usize, bound: isize) -> Option<usize>
+    ensures { result ≡ bound_on len bound }
+{
+    if bound < 0 {
+        let back = bound.unsigned_abs();
+        if back <= len { Some(len - back) } else { None }
+    } else {
+        let place = bound as usize;
+        if place <= len { Some(place) } else { None }
+    }
+}
+
+/// Where the end of a slice lies: the axis's own where it is missing.
+fn end_on_axis(len: usize, end: Option<isize>) -> Option<usize>
+    ensures { result ≡ end_on len end }
+{
+    match end {
+        None => Some(len),
+        Some(bound) => bound_on_axis(len, bound),
+    }
+}
+
+/// How many coordinates a step names in a range.
+#[tactic(auto, using(crate::proofs::Steps::div_ceil_is))]
+fn steps_in(range: usize, step: isize) -> usize
+    requires { 0 < nat_abs step }
+    ensures { result ≡ quotient_up range (nat_abs step) }
+{
+    range.div_ceil(step.unsigned_abs())
+}
+
+/// Whether the slice fits an axis of this length: the step isn't 0, and both bounds lie on it.
+pub fn slice_fits(len: usize, slice: Slice) -> bool
+    ensures { IsTrue result ↔ (fits_axis len slice ≡ true) }
+{
+    slice.step != 0
+        && bound_on_axis(len, slice.start).is_some()
+        && end_on_axis(len, slice.end).is_some()
+}

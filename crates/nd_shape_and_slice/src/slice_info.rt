@@ -1,0 +1,227 @@
+//! Lists of slices, which read the axes of an array in order.
+
+ghost use Rattle.std.specs.Prelude.{◌↔◌, ◌≡◌, ◌≤◌, ◌==◌, ◌&&◌, not, nat_le, ℕ, Bool, true, false, List, length, drop, OnOk, IfOk, OnErr, IfErr, IsTrue, MatchOption, Option, Some, None, count_by, ◌∷◌, ◌+◌, ◌<◌, ◌^◌, if◌then◌else◌, slice_get};
+ghost use Rattle.nd_shape_and_slice.specs.SliceInfo.{reads_axis, keeps_axis, axes_read, axes_kept, coordinate_on, each_fits, fits_shape, fits_next, has_counts};
+ghost use Rattle.nd_shape_and_slice.specs.declared.slice_info.SliceInfoElem.{SliceInfoElem};
+
+use crate::dimension::{Dimension, MAX_AXES};
+use crate::dynamic::IxDyn;
+use crate::errors::{ErrorKind, ShapeError};
+use crate::slice::{Slice, slice_fits};
+use std::marker::PhantomData;
+
+/// What is done with an axis, or a new one. ndarray's `SliceInfoElem`.
+#[derive(Clone, Copy, Debug, PartialEq, Eq)]
+pub enum SliceInfoElem {
+    /// The part of the axis that a `Slice` with these fields names.
+    Slice {
+        /// The first coordinate of the range.
+        start: isize,
+        /// The coordinate after the last of the range.
+        end: Option<isize>,
+        /// From each coordinate to the next: any number but 0.
+        step: isize,
+    },
+    /// One coordinate, from the axis's end where it is negative. The axis goes.
+    Index(isize),
+    /// An axis of length 1 is put in.
+    NewAxis,
+}
+
+impl SliceInfoElem {
+    /// Whether the element reads an axis of the array: all do but `NewAxis`.
+    pub fn reads_axis(&self) -> bool
+        ensures { result ≡ reads_axis self.now }
+    {
+        !matches!(self, SliceInfoElem::NewAxis)
+    }
+
+    /// Whether the element leaves an axis in the result: all do but `Index`.
+    pub fn keeps_axis(&self) -> bool
+        ensures { result ≡ keeps_axis self.now }
+    {
+        !matches!(self, SliceInfoElem::Index(_))
+    }
+}
+
+/// How many axes the list reads.
+pub fn axes_read(elements: &[SliceInfoElem]) -> usize
+    ensures { result ≡ axes_read elements.now }
+{
+    elements
+        .iter()
+        .filter(|element| element.reads_axis())
+        .count()
+}
+
+/// How many axes the list leaves.
+pub fn axes_kept(elements: &[SliceInfoElem]) -> usize
+    ensures { result ≡ axes_kept elements.now }
+{
+    elements
+        .iter()
+        .filter(|element| element.keeps_axis())
+        .count()
+}
+
+/// Where a coordinate lies on an axis of this length: a negative one counts from the end. None where it lies outside.
+pub fn coordinate_on_axis(len: usize, coordinate: isize) -> Option<usize>
+    ensures { result ≡ coordinate_on len coordinate }
+{
+    if coordinate < 0 {
+        let back = coordinate.unsigned_abs();
+        if back <= len { Some(len - back) } else { None }
+    } else {
+        let place = coordinate as usize;
+        if place < len { Some(place) } else { None }
+    }
+}
+
+/// Whether the element fits an axis of this length; None where there is no axis to read.
+fn element_fits(len: Option<usize>, element: SliceInfoElem) -> bool
+    ensures { result ≡ fits_next len element }
+{
+    match (element, len) {
+        (SliceInfoElem::NewAxis, _) => true,
+        (_, None) => false,
+        (SliceInfoElem::Slice { start, end, step }, Some(len)) => slice_fits(
+            len,
+            Slice::new(start, end, step),
+        ),
+        (SliceInfoElem::Index(coordinate), Some(len)) => coordinate_on_axis(
+            len, coordinate,
+        ).is_some(),
+    }
+}
+
+/// The length of an axis, if there is such an axis.
+#[tactic(auto, using(crate::proofs::SliceLists::length_there, crate::proofs::SliceLists::no_length))]
+fn length_of(lengths: &[usize], axis: usize) -> Option<usize>
+    ensures { result ≡ slice_get lengths.now axis }
+{
+    if axis < lengths.len() {
+        Some(lengths[axis])
+    } else {
+        None
+    }
+}
+
+/// The axis after the one that the element reads, if it reads one.
+fn axis_past(axis: usize, element: SliceInfoElem) -> usize
+    requires { axis < 2 ^ 63 }
+    ensures { result ≡ axis + (if reads_axis element then 1 else 0) }
+{
+    if element.reads_axis() { axis + 1 } else { axis }
+}
+
+/// Whether the elements read as many axes as there are, and each fits its axis.
+fn elements_fit(lengths: &[usize], elements: &[SliceInfoElem]) -> bool
+    ensures { result ≡ each_fits lengths.now elements.now }
+{
+    let mut axis = 0;
+    for element in elements {
+        if !element_fits(length_of(lengths, axis), *element) {
+            return false;
+        }
+        axis = axis_past(axis, *element);
+    }
+    axis == lengths.len()
+}
+
+/// Whether the list fits an array of this shape: it reads as many axes as there are, each of its elements fits its
+/// axis, and it leaves 32 axes at most.
+pub fn slices_fit(shape: &[usize], elements: &[SliceInfoElem]) -> bool
+    ensures { result ≡ fits_shape shape.now elements.now }
+{
+    elements_fit(shape, elements) && axes_kept(elements) <= MAX_AXES
+}
+
+/// Whether values of the dimension may have this many axes, at most 32.
+fn takes_axes<D: Dimension>(count: usize) -> bool
+    requires { count ≤ 32 }
+    ensures { result ≡ D.has_axes count }
+{
+    let lengths = [0; MAX_AXES];
+    match D::from_lengths(&lengths[..count]) {
+        Some(dim) => dim.slice().len() == count,
+        None => false,
+    }
+}
+
+/// Whether values of the dimension may have this many axes, and these are 32 at most.
+fn is_axis_count<D: Dimension>(count: usize) -> bool
+    ensures { result ≡ (nat_le count 32 && D.has_axes count) }
+{
+    count <= MAX_AXES && takes_axes::<D>(count)
+}
+
+/// A list of slices that takes arrays of dimension `In` to arrays of dimension `Out`. ndarray's `SliceInfo`.
+#[derive(Drop)]
+pub struct SliceInfo<'e, In: Dimension, Out: Dimension> {
+    elements: &'e [SliceInfoElem],
+    takes: PhantomData<In>,
+    gives: PhantomData<Out>,
+    ghost reads: { In.has_axes (axes_read elements.now) ≡ true },
+    ghost keeps: { Out.has_axes (axes_kept elements.now) ≡ true },
+}
+
+impl<'e, In: Dimension, Out: Dimension> SliceInfo<'e, In, Out> {
+    /// The list, where it reads as many axes as `In` may have and leaves as many as `Out` may, 32 at most;
+    /// IncompatibleShape exactly where it doesn't. ndarray's `SliceInfo::new`.
+    pub fn new(elements: &'e [SliceInfoElem]) -> Result<Self, ShapeError>
+        ensures counts { OnOk result (has_counts In.has_axes Out.has_axes elements.now ≡ true) }
+        ensures list { IfOk result (λ info. info.elements.now ≡ elements.now) }
+        ensures refused { OnErr result (has_counts In.has_axes Out.has_axes elements.now ≡ false) }
+        ensures cause { IfErr result (λ e. e ≡ ErrorKind.IncompatibleShape) }
+    {
+        if is_axis_count::<In>(axes_read(elements)) && is_axis_count::<Out>(axes_kept(elements)) {
+            Ok(SliceInfo {
+                elements,
+                takes: PhantomData,
+                gives: PhantomData,
+            })
+        } else {
+            Err(ShapeError::from_kind(ErrorKind::IncompatibleShape))
+        }
+    }
+}
+
+/// A list of slices for arrays of dimension `D`. ndarray's `SliceArg`.
+pub trait SliceArg<D>: Drop {
+    /// The dimension of the result. ndarray's `SliceArg::OutDim`.
+    type OutDim: Dimension;
+
+    ghost elements_of: { Self → List SliceInfoElem };
+
+    /// The list's elements.
+    fn elements(&self) -> &[SliceInfoElem]
+        ensures list { result.now ≡ elements_of self.now }
+        ensures output { nat_le (axes_kept (elements_of self.now)) 32 ≡ true → Self.OutDim.has_axes (axes_kept (elements_of self.now)) ≡ true };
+
+    /// Whether the list fits an array of this shape.
+    fn fits(&self, shape: &[usize]) -> bool
+        ensures { result ≡ fits_shape shape.now (elements_of self.now) }
+    {
+        slices_fit(shape, self.elements())
+    }
+}
+
+impl<'e, In: Dimension, Out: Dimension> SliceArg<In> for SliceInfo<'e, In, Out> {
+    type OutDim = Out;
+
+    ghost elements_of = { λ info. info.elements.now };
+
+    fn elements(&self) -> &[SliceInfoElem] {
+        self.elements
+    }
+}
+
+impl SliceArg<IxDyn> for &[SliceInfoElem] {
+    type OutDim = IxDyn;
+
+    ghost elements_of = { λ list. list.now };
+
+    fn elements(&self) -> &[SliceInfoElem] {
+        *self
+    }
+}

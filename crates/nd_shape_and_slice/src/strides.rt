@@ -1,0 +1,48 @@
+//! The strides that a constructor gives.
+
+ghost use Rattle.std.specs.Prelude.{◌≡◌};
+ghost use Rattle.nd_shape_and_slice.specs.Shape.{HasCheckedSize};
+ghost use Rattle.nd_shape_and_slice.specs.Strides.{c_strides, f_strides};
+
+use crate::dimension::{Dimension, StrideList};
+use crate::size::is_empty_shape;
+
+/// The C strides of a shape: each axis has the product of the later lengths, and 0 where some length is 0.
+/// ndarray's `Dimension::default_strides`.
+pub fn default_strides<D: Dimension>(dim: &D) -> D::Strides
+    requires { HasCheckedSize (D.lengths dim.now) }
+    ensures { D.Strides.strides_of result ≡ c_strides (D.lengths dim.now) }
+{
+    let mut strides = dim.zero_strides();
+    let lengths = dim.slice();
+    if is_empty_shape(lengths) {
+        return strides;
+    }
+    let mut step: usize = 1;
+    let mut axis = lengths.len();
+    while axis > 0 {
+        axis -= 1;
+        strides.set(axis, step as isize);
+        step *= lengths[axis];
+    }
+    strides
+}
+
+/// The F strides of a shape: each axis has the product of the earlier lengths, and 0 where some length is 0.
+/// ndarray's `Dimension::fortran_strides`.
+pub fn fortran_strides<D: Dimension>(dim: &D) -> D::Strides
+    requires { HasCheckedSize (D.lengths dim.now) }
+    ensures { D.Strides.strides_of result ≡ f_strides (D.lengths dim.now) }
+{
+    let mut strides = dim.zero_strides();
+    let lengths = dim.slice();
+    if is_empty_shape(lengths) {
+        return strides;
+    }
+    let mut step: usize = 1;
+    for axis in 0..lengths.len() {
+        strides.set(axis, step as isize);
+        step *= lengths[axis];
+    }
+    strides
+}
