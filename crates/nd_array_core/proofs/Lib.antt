@@ -5,3 +5,8 @@ pub mod StepLemmas
 pub mod SliceStep
 pub mod PermuteStep
 pub mod PermuteLoop
+pub mod AxisStep
+pub mod ExchangeStep
+pub mod FillLoop
+pub mod ResizeStep
+pub mod DiagonalStep

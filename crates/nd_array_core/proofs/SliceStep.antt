@@ -128,7 +128,7 @@ pub none_left_only : (ns : List ℕ) (a m : ℕ) → a < length ns → size_of (
 none_left_only ns a m on none =
     ⊎_elim (λ e. inl e) (λ e. inr (size_of-removed ns a on ∙ e)) (none_in (get_or ns a 0) m (size_of (remove ns a)) (sym (size_of-set ns a m on) ∙ none))
 
-zero_at : (n a : ℕ) → ◌≡◌ {A = ℕ} (get_or (replicate n 0) a 0) 0
+pub zero_at : (n a : ℕ) → ◌≡◌ {A = ℕ} (get_or (replicate n 0) a 0) 0
 zero_at zero a = refl
 zero_at (suc n) zero = refl
 zero_at (suc n) (suc a) = zero_at n a

@@ -1,5 +1,5 @@
 -- What an array means: a shape, and one element for each index of its box.
-use Rattle.std.specs.Prelude.{◌≡◌, ℕ, Bool, true, List, Option, None, if◌then◌else◌}
+use Rattle.std.specs.Prelude.{◌≡◌, ℕ, Bool, true, List, ℤ, Option, None, if◌then◌else◌}
 use Rattle.nd_shape_and_slice.specs.declared.dimension.Dimension as dimension
 use Rattle.nd_shape_and_slice.specs.declared.dimension.AxisCount as axis_count
 use Rattle.nd_shape_and_slice.specs.declared.dimension.StrideList as stride_list
@@ -30,6 +30,10 @@ module _ {S D T A P R L M : Type 0} {s : data_trait.Ghosts S A} {d : dimension.G
   -- the element at an index: nothing outside the shape's box
   unfoldable pub element_at : ArrayBase S D T A P R L M s d n r t → List ℕ → Option A
   element_at a i = inside (d.lengths a.layout.dim) i (stored_at (s.stored a.storage) (place_of a.layout.first (t.strides_of a.layout.strides) i))
+
+  -- the stride of each axis: how the elements lie, which shape and elements don't tell
+  unfoldable pub layout_strides : ArrayBase S D T A P R L M s d n r t → List ℤ
+  layout_strides a = t.strides_of a.layout.strides
 
   -- the two together
   abbrev pub meaning_of : ArrayBase S D T A P R L M s d n r t → Meaning A

@@ -1,5 +1,5 @@
 //! Arrays over any storage.
-ghost use Rattle.std.specs.Prelude.{◌≡◌, ◌<◌, ◌≤◌, ◌^◌, ℕ, Bool, true, List, length, slice_index, MatchResult, slice_get, Some, None};
+ghost use Rattle.std.specs.Prelude.{◌≡◌, ◌<◌, ◌≤◌, ◌^◌, ℕ, Bool, true, List, length, slice_index, MatchResult, slice_get, is_some, Some, None};
 ghost use Rattle.std.specs.Option.{option_copied};
 ghost use Rattle.nd_shape_and_slice.specs.Shape.{in_box, size_of, row_rank};
 ghost use Rattle.nd_shape_and_slice.specs.Place.{place_of, IsSeparated};
@@ -66,7 +66,8 @@ impl<S: Data, D: Dimension> ArrayBase<S, D> {
     /// The element at an index; None exactly outside the shape's box, a wrong number of coordinates included.
     /// ndarray's `get`.
     pub fn get<I: NdIndex<D>>(&self, index: I) -> Option<&S::Elem>
-        ensures { option_copied result ≡ element_at self.now (I.coordinates_of index) }
+        ensures element { option_copied result ≡ element_at self.now (I.coordinates_of index) }
+        ensures within { is_some result ≡ in_box (shape_of self.now) (I.coordinates_of index) }
     {
         let place = self.layout.place_of(index.coordinates())?;
         Some(self.storage.element(place))
@@ -84,7 +85,12 @@ impl<S: Data, D: Dimension> ArrayBase<S, D> {
     }
 }
 
+#[tactic(auto, unfolding(crate::specs::Meaning::shape_of, crate::specs::Meaning::element_at))]
 impl<S: Data + Copy, D: Dimension, T: StrideList> Clone for ArrayBase<S, D, T> {
+    ghost use Rattle.nd_array_core.specs.Meaning.{shape_of, element_at};
+
+    ghost is_clone = { λ array copy. (shape_of copy ≡ shape_of array) × ((i : List ℕ) → element_at copy i ≡ element_at array i) };
+
     fn clone(&self) -> Result<Self, AllocError> {
         Ok(ArrayBase {
             storage: self.storage,

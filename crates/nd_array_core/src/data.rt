@@ -36,6 +36,8 @@ pub struct ViewRepr<'a, A> {
 }
 
 impl<'a, A> Clone for ViewRepr<'a, A> {
+    ghost is_clone = { λ view copy. copy ≡ view };
+
     fn clone(&self) -> Result<Self, AllocError> {
         Ok(ViewRepr { items: self.items })
     }

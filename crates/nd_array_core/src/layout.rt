@@ -23,6 +23,8 @@ pub struct Layout<D: Dimension, T: StrideList> {
 }
 
 impl<D: Dimension, T: StrideList> Clone for Layout<D, T> {
+    ghost is_clone = { λ layout copy. (copy.first ≡ layout.first) × (D.lengths copy.dim ≡ D.lengths layout.dim) × (T.strides_of copy.strides ≡ T.strides_of layout.strides) };
+
     fn clone(&self) -> Result<Self, AllocError> {
         Ok(self.copied())
     }
@@ -71,5 +73,12 @@ impl<D: Dimension, T: StrideList> Layout<D, T> {
         } else {
             None
         }
+    }
+    /// The place of an index of the box.
+    pub(crate) fn place_in_box(&self, index: &[usize]) -> usize
+        requires { in_box (D.lengths self.now.dim) index.now ≡ true }
+        ensures { pos result ≡ place_of self.now.first (T.strides_of self.now.strides) index.now }
+    {
+        place_at(self.first, self.dim.slice(), self.strides.slice(), index)
     }
 }

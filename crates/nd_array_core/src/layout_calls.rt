@@ -35,6 +35,19 @@ impl<S: Data, D: Dimension> ArrayBase<S, D> {
         view
     }
 
+    /// The array of what the slice names of one axis. The axis is below `ndim`, and the slice fits it
+    /// (`slice_fits`). ndarray's `slice_axis_move`.
+    pub fn slice_axis_move(self, axis: Axis, slice: Slice) -> Self
+        requires axis { axis.0 < length (shape_of self) }
+        requires fits { fits_axis (slice_index (shape_of self) axis.0) slice ≡ true }
+        ensures shape { shape_of result ≡ sliced_shape (shape_of self) axis.0 slice }
+        ensures elements { (i : List ℕ) → element_at result i ≡ inside (shape_of result) i (element_at self (sliced_index (shape_of self) axis.0 slice i)) }
+    {
+        let mut array = self;
+        array.slice_axis_inplace(axis, slice);
+        array
+    }
+
     /// Puts the axes in another order: axis k is the old axis `axes[k]`. Each axis stands once in the list
     /// (`axes_fit`). ndarray's `permute_axes`.
     pub fn permute_axes<I: IntoDimension<Dim = D>>(&mut self, axes: I)

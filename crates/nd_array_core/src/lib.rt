@@ -2,11 +2,19 @@
 #![tactic(auto)]
 
 mod array;
+mod axis_calls;
+mod axis_steps;
 mod constructors;
 mod data;
+mod diagonal;
+mod indexing;
 mod layout;
 mod layout_calls;
+#[cfg(test)]
+mod layout_tests;
 mod places;
+mod resize_calls;
+mod resize_steps;
 mod steps;
 #[cfg(test)]
 mod tests;

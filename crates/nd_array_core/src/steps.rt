@@ -29,7 +29,7 @@ fn stepped_by(stride: isize, len: usize, step: isize) -> isize
 }
 
 /// Whether no element is left where one axis is shortened.
-fn leaves_none(lengths: &[usize], axis: usize, len: usize) -> bool
+pub(crate) fn leaves_none(lengths: &[usize], axis: usize, len: usize) -> bool
     requires on { axis < length lengths.now }
     requires shorter { len ≤ slice_index lengths.now axis }
     ensures { IsTrue result ↔ (size_of (slice_set lengths.now axis len) ≡ 0) }
@@ -66,7 +66,7 @@ fn slice_of_axis(
 }
 
 /// The length of an axis.
-fn length_at(lengths: &[usize], axis: usize) -> usize
+pub(crate) fn length_at(lengths: &[usize], axis: usize) -> usize
     requires { axis < length lengths.now }
     ensures { result ≡ slice_index lengths.now axis }
 {
@@ -74,7 +74,7 @@ fn length_at(lengths: &[usize], axis: usize) -> usize
 }
 
 /// The stride of an axis.
-fn stride_at(strides: &[isize], axis: usize) -> isize
+pub(crate) fn stride_at(strides: &[isize], axis: usize) -> isize
     requires { axis < length strides.now }
     ensures { result ≡ slice_index_or strides.now axis (pos 0) }
 {

@@ -15,10 +15,10 @@ loop-rank-preserved g c =
     let long : length (index_at (shape_of array) rank) ≡ length (shape_of array) = length-index_at (shape_of array) rank in
     rw index (elim c.match-get.branch [
       | in-Some w ↦
-          let there : element_at array (index_at (shape_of array) rank) ≡ Some w.in-Some.value.now = sym (w.in-Some.ensures ∙ ap (element_at array) index) in
+          let there : element_at array (index_at (shape_of array) rank) ≡ Some w.in-Some.value.now = sym (w.in-Some.ensures.element ∙ ap (element_at array) index) in
           rw (w.output-is) (written_some g.W.Write.contents (meaning_of array) c.args.output.now c.loop-rank.output w.put.new.out w.put_value.new.out c.loop-rank.index rank w.in-Some.value.now below long there w.put.ensures w.put_value.ensures c.loop-rank.invariant)
       | in_default w ↦
-          let absent : element_at array (index_at (shape_of array) rank) ≡ None = sym (w.in_default.ensures ∙ ap (element_at array) index) in
+          let absent : element_at array (index_at (shape_of array) rank) ≡ None = sym (w.in_default.ensures.element ∙ ap (element_at array) index) in
           rw (w.output-is) (written_skip g.W.Write.contents (meaning_of array) c.args.output.now c.loop-rank.output c.loop-rank.index rank below long absent c.loop-rank.invariant)
     ])
 

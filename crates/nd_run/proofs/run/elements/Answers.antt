@@ -15,12 +15,12 @@ loop-rank-preserved g c =
     let long : length (index_at (shape_of view) rank) ≡ length (shape_of view) = length-index_at (shape_of view) rank in
     rw index (elim c.match-get.branch [
       | in-Some+in_ok-clone+in_ok-push w ↦
-          let there : element_at view (index_at (shape_of view) rank) ≡ Some w.in-Some.element.now = sym (w.in-Some.ensures ∙ ap (element_at view) index) in
+          let there : element_at view (index_at (shape_of view) rank) ≡ Some w.in-Some.element.now = sym (w.in-Some.ensures.element ∙ ap (element_at view) index) in
           let same : w.in_ok-clone.field-0 ≡ w.in-Some.element.now = c.requires w.in-Some.element.now w.in_ok-clone.field-0 w.in_ok-clone.ensures.cases in
           let items : c.match-get.items.items ≡ c.loop-rank.items.items ++ w.in-Some.element.now ∷ [] = (ap (λ v. v.items) w.items-is ∙ w.in_ok-push.ensures.items) ∙ ap (λ x. c.loop-rank.items.items ++ x ∷ []) same in
           rw items (gathered_some (meaning_of view) c.loop-rank.items.items c.loop-rank.index rank w.in-Some.element.now below long there c.loop-rank.invariant)
       | in_default w ↦
-          let absent : element_at view (index_at (shape_of view) rank) ≡ None = sym (w.in_default.ensures ∙ ap (element_at view) index) in
+          let absent : element_at view (index_at (shape_of view) rank) ≡ None = sym (w.in_default.ensures.element ∙ ap (element_at view) index) in
           rw (w.items-is) (gathered_none (meaning_of view) c.loop-rank.items.items c.loop-rank.index rank below long absent c.loop-rank.invariant)
     ])
 
