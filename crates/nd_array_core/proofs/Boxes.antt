@@ -1,8 +1,8 @@
 -- Indexes of a box, coordinate by coordinate.
-use Rattle.std.proofs.Common.{◌≡◌, ℕ, zero, suc, ◌+◌, ◌<◌, ◌≤◌, Bool, true, false, ltb, ◌&&◌, List, [], ◌∷◌, length, drop, get_or, refl, ap, sym, ◌∙◌, arith, add-one, drop-cons, subst}
+use Rattle.std.proofs.Common.{◌≡◌, ℕ, zero, suc, ◌<◌, true, List, [], ◌∷◌, length, drop, get_or, refl, arith}
 use Rattle.std.proofs.lemmas.Bool.Decides.{nat_tests}
 use Rattle.nd_shape_and_slice.specs.Shape.{in_box}
-use Rattle.nd_shape_and_slice.proofs.RowMajor.{in_box-cons, length-in_box}
+use Rattle.nd_shape_and_slice.proofs.RowMajor.{in_box-cons}
 
 -- each coordinate of an index in the box is below its length
 pub coordinate_below : (ns is : List ℕ) (k : ℕ) → in_box ns is ≡ true → k < length ns → get_or is k 0 < get_or ns k 0

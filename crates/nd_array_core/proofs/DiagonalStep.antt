@@ -1,16 +1,15 @@
 -- The diagonal is a layout step: all axes at one coordinate become one axis.
-use Rattle.std.proofs.Common.{◌≡◌, ℕ, zero, suc, ◌+◌, ◌-◌, ◌*◌, ◌<◌, ◌≤◌, Bool, true, false, min, max, cond, eqb, leb, List, [], ◌∷◌, length, get_or, take, drop, replicate, ℤ, pos, ◌+ℤ◌, ◌*ℤ◌, nat_abs, refl, ap, sym, ◌∙◌, subst, arith, ⊎_elim}
+use Rattle.std.proofs.Common.{◌≡◌, ℕ, zero, suc, ◌+◌, ◌-◌, ◌*◌, ◌<◌, ◌≤◌, Bool, true, false, min, cond, eqb, leb, List, [], ◌∷◌, length, get_or, drop, replicate, ℤ, pos, ◌+ℤ◌, ◌*ℤ◌, nat_abs, refl, ap, sym, ◌∙◌, subst, arith}
 use borrow.Author.Differences.{abs_is}
 use Rattle.std.proofs.Math.Nat.{mul-le-mul_right}
 use Rattle.std.proofs.lemmas.Bool.Decides.{nat_tests}
 use Rattle.std.proofs.lemmas.Int.{ints}
 use Rattle.std.proofs.lemmas.List.{drop_more, drop_all}
-use Rattle.nd_shape_and_slice.specs.Shape.{in_box, nonzero_product, HasCheckedSize}
-use Rattle.nd_shape_and_slice.specs.Place.{offset_of, place_of, span_of, IsSeparated}
+use Rattle.nd_shape_and_slice.specs.Shape.{in_box, HasCheckedSize}
+use Rattle.nd_shape_and_slice.specs.Place.{offset_of, span_of}
 use Rattle.nd_layout.specs.Strides.{sum_of}
 use Rattle.nd_layout.proofs.Integers.{zero-mul, sums}
 use Rattle.nd_layout.proofs.Bounds.{coordinate_below}
-use Rattle.nd_layout.proofs.Permuted.{nonzero-cons}
 use Rattle.nd_layout.proofs.Reaches.{span_of-drop}
 use Rattle.nd_layout.proofs.Sizes.{length-le-product}
 use Rattle.nd_layout.proofs.Diagonal.{offset_of-diagonal, in_box-diagonal, diagonal-le-span, diagonal-moves, one_axis-separated}

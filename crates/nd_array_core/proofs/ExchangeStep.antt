@@ -1,6 +1,6 @@
 -- Exchanging two axes, and putting all in the opposite order, are layout steps: each is a permutation that is its own
 -- way back.
-use Rattle.std.proofs.Common.{◌≡◌, ℕ, zero, suc, ◌+◌, ◌-◌, ◌<◌, ◌≤◌, true, List, [], ◌∷◌, length, get_or, set, map, eqb, cond, reverse, ℤ, pos, refl, ap, sym, ◌∙◌, subst, arith, ⊎_elim}
+use Rattle.std.proofs.Common.{◌≡◌, ℕ, zero, suc, ◌+◌, ◌-◌, ◌<◌, ◌≤◌, true, List, length, get_or, set, map, eqb, cond, reverse, ℤ, pos, refl, ap, sym, ◌∙◌, subst, arith, ⊎_elim}
 use Rattle.std.specs.List.{swap, range_with_len}
 use Rattle.std.specs.List.Sorted.{IsPermutation}
 use Rattle.std.proofs.lemmas.Bool.{cases_eq, eq-eqb, ne_eqb}
@@ -19,7 +19,7 @@ use Rattle.nd_array_core.specs.Steps.{IsStep}
 use Rattle.nd_array_core.proofs.PermuteStep.{permute_is_step}
 
 -- each axis stands once in the axes' own order, and so in every rearrangement of it
-once_in_range : (a low n : ℕ) → low ≤ a → a < low + n → times a (range_with_len low n) ≡ 1
+pub once_in_range : (a low n : ℕ) → low ≤ a → a < low + n → times a (range_with_len low n) ≡ 1
 once_in_range a low zero h q = absurd (omega arith)
 once_in_range a low (suc n) h q =
     ⊎_elim
@@ -65,7 +65,7 @@ module _ (first : ℕ) (ns : List ℕ) (ss : List ℤ) (p : List ℕ) (back : Li
 
 -- ---- two axes exchanged
 module _ {A : Type 0} (d : A) (xs : List A) where
-  in_own_order : map (λ a. get_or xs a d) (range_with_len 0 (length xs)) ≡ xs
+  pub in_own_order : map (λ a. get_or xs a d) (range_with_len 0 (length xs)) ≡ xs
   in_own_order =
       ext_get_or d (map (λ a. get_or xs a d) (range_with_len 0 (length xs))) xs (length-map (range_with_len 0 (length xs)) (λ a. get_or xs a d) ∙ length-range_with_len 0 (length xs))
       (λ i h.

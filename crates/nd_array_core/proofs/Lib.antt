@@ -1,6 +1,9 @@
 pub mod Boxes
 pub mod Walks
-pub mod COrder
+pub mod Ranked
+pub mod GivenStrides
+pub mod SamePlaces
+pub mod BroadcastStep
 pub mod StepLemmas
 pub mod SliceStep
 pub mod PermuteStep
@@ -9,4 +12,9 @@ pub mod AxisStep
 pub mod ExchangeStep
 pub mod FillLoop
 pub mod ResizeStep
+pub mod SqueezeStep
+pub mod SliceLoop
+pub mod KeepStep
+pub mod EachAxisLoop
+pub mod LawProofs
 pub mod DiagonalStep

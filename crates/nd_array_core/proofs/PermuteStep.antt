@@ -1,7 +1,6 @@
 -- Putting the axes in another order is a layout step.
-use Rattle.std.proofs.Common.{◌≡◌, ℕ, ◌≤◌, true, List, length, get_or, map, ℤ, pos, ◌+ℤ◌, ap, sym, ◌∙◌, subst, arith}
+use Rattle.std.proofs.Common.{◌≡◌, ℕ, true, List, length, ℤ, pos, ◌+ℤ◌, ap, sym, ◌∙◌, subst, arith}
 use Rattle.nd_shape_and_slice.specs.Shape.{in_box}
-use Rattle.nd_shape_and_slice.specs.Place.{place_of, span_of}
 use Rattle.nd_shape_and_slice.specs.Axes.{HasEachAxis, permuted, unpermuted}
 use Rattle.nd_shape_and_slice.proofs.RowMajor.{length-in_box}
 use Rattle.nd_layout.specs.Strides.{permuted_strides}

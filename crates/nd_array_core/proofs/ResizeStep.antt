@@ -1,19 +1,18 @@
 -- Taking an axis out, putting one in, and keeping all as another dimension are layout steps.
-use Rattle.std.proofs.Common.{◌≡◌, ℕ, zero, suc, ◌+◌, ◌-◌, ◌*◌, ◌<◌, ◌≤◌, Bool, true, false, ltb, ◌&&◌, List, [], ◌∷◌, length, get_or, set, ℤ, pos, ◌+ℤ◌, ◌*ℤ◌, nat_abs, refl, ap, sym, ◌∙◌, subst, arith}
+use Rattle.std.proofs.Common.{◌≡◌, ℕ, zero, suc, ◌+◌, ◌<◌, ◌≤◌, true, ltb, List, [], ◌∷◌, length, get_or, set, ℤ, pos, ◌+ℤ◌, refl, ap, sym, ◌∙◌, subst, arith}
 use lib.IntN.{+ℤ_idl}
 use Rattle.std.specs.List.{remove, insert}
 use Rattle.std.proofs.lemmas.Bool.{and_parts, and_from, lt-ltb, ltb-true}
 use Rattle.std.proofs.lemmas.List.{get_or-set_same, length-set}
 use Rattle.std.proofs.lemmas.List.Edits.{length-insert, length-remove}
-use Rattle.nd_shape_and_slice.specs.Shape.{in_box, size_of, HasCheckedSize}
-use Rattle.nd_shape_and_slice.specs.Place.{offset_of, place_of, span_of, IsSeparated}
+use Rattle.nd_shape_and_slice.specs.Shape.{in_box}
+use Rattle.nd_shape_and_slice.specs.Place.{offset_of}
 use Rattle.nd_shape_and_slice.proofs.RowMajor.{length-in_box}
 use Rattle.nd_layout.proofs.Integers.{zero-mul}
 use Rattle.nd_layout.proofs.Removed.{offset_of-inserted, in_box-inserted, span_of-removed-le, IsSeparated-removed, HasCheckedSize-removed, offset_of-widened_at_zero, in_box-widened, span_of-widened, IsSeparated-widened, nonzero_product-widened}
 use Rattle.nd_array_core.specs.Steps.{IsStep}
 use Rattle.nd_array_core.specs.Maps.{collapsed_shape, collapsed_index, indexed_shape, indexed_index, widened_shape, widened_index}
 use Rattle.nd_array_core.proofs.StepLemmas.{step_then, step_by}
-use Rattle.nd_array_core.proofs.AxisStep.{collapse_is_step}
 
 -- nothing changes
 pub same_is_step : (first : ℕ) (ns : List ℕ) (ss : List ℤ) → length ss ≡ length ns → IsStep first ns ss first ns ss (λ i. i)

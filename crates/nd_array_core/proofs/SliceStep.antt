@@ -1,5 +1,5 @@
 -- The slice of one axis is a layout step.
-use Rattle.std.proofs.Common.{◌≡◌, ℕ, zero, suc, ◌+◌, ◌-◌, ◌*◌, ◌<◌, ◌≤◌, Bool, true, false, cond, leb, eqb, not, ◌&&◌, max, List, [], ◌∷◌, length, get_or, set, replicate, ℤ, pos, negsuc, ◌+ℤ◌, ◌*ℤ◌, nat_abs, refl, ap, sym, ◌∙◌, subst, arith}
+use Rattle.std.proofs.Common.{◌≡◌, ℕ, zero, suc, ◌-◌, ◌*◌, ◌<◌, ◌≤◌, Bool, true, false, cond, leb, eqb, not, ◌&&◌, max, List, [], ◌∷◌, length, get_or, set, replicate, ℤ, pos, negsuc, ◌+ℤ◌, ◌*ℤ◌, nat_abs, refl, ap, sym, ◌∙◌, subst, arith}
 use Rattle.std.specs.Prelude.{Option, None, Some, is_some}
 use Rattle.std.specs.Option.{unwrap_or}
 use Rattle.std.specs.List.{remove}
@@ -10,8 +10,8 @@ use Rattle.std.proofs.lemmas.List.{length-set, get_or-set_same, set-get_or}
 use Rattle.std.proofs.lemmas.Int.{ints}
 use Rattle.std.proofs.lemmas.Bool.Decides.{nat_tests}
 use Rattle.nd_shape_and_slice.specs.declared.slice.Slice.{Slice}
-use Rattle.nd_shape_and_slice.specs.Shape.{in_box, size_of, HasCheckedSize}
-use Rattle.nd_shape_and_slice.specs.Place.{offset_of, place_of, span_of, IsSeparated}
+use Rattle.nd_shape_and_slice.specs.Shape.{in_box, size_of}
+use Rattle.nd_shape_and_slice.specs.Place.{offset_of, span_of, IsSeparated}
 use Rattle.nd_shape_and_slice.specs.Slice.{bound_on, end_on, fits_axis, low_of, high_of, quotient_up, sliced_length, stepped_from, sliced_from, sliced_shape, sliced_index}
 use Rattle.nd_shape_and_slice.proofs.RowMajor.{row_rank_below, length-in_box, offset_of-origin}
 use Rattle.nd_layout.specs.Strides.{stepped_start}
@@ -141,7 +141,7 @@ module _ (ns : List ℕ) (ss : List ℤ) (a : ℕ) (s : Slice) (many : length ss
       let wide : a < length (set ns a m) = subst (λ n. a < n) (sym (length-set ns a m)) on in
       subst (λ n. get_or i a 0 < n) (get_or-set_same ns a m 0 on) (coordinate_below (set ns a m) i a h wide)
 
-  slice_within : (i : List ℕ) → in_box (sliced_shape ns a s) i ≡ true → in_box ns (sliced_index ns a s i) ≡ true
+  pub slice_within : (i : List ℕ) → in_box (sliced_shape ns a s) i ≡ true → in_box ns (sliced_index ns a s i) ≡ true
   slice_within i h =
       let n = get_or ns a 0 in
       let m = sliced_length n s in

@@ -1,13 +1,15 @@
 -- What every layout step gives: places, stored elements and the elements of the new array.
-use Rattle.std.proofs.Common.{◌≡◌, ℕ, zero, suc, ◌+◌, ◌<◌, ◌≤◌, Bool, true, false, List, [], ◌∷◌, length, replicate, ℤ, pos, refl, ap, sym, ◌∙◌, subst, arith}
+use Rattle.std.proofs.Common.{◌≡◌, ℕ, ◌<◌, true, List, [], ◌∷◌, length, replicate, ℤ, refl, ap, ◌∙◌, subst, arith}
 use Rattle.std.specs.Prelude.{Option}
 use Rattle.std.proofs.lemmas.Bool.Decides.{nat_tests}
 use Rattle.nd_shape_and_slice.specs.Shape.{in_box, size_of}
 use Rattle.nd_shape_and_slice.specs.Place.{place_of, IsSeparated}
 use Rattle.nd_shape_and_slice.proofs.RowMajor.{row_rank_below, positive-cons}
-use Rattle.nd_array_core.specs.Places.{is_place, ReachesPlaces, stored_at, names_place, HoldsAll}
+use Rattle.nd_array_core.specs.Places.{ReachesPlaces, stored_at, HoldsAll}
 use Rattle.nd_array_core.specs.Meaning.{inside}
 use Rattle.nd_array_core.specs.Steps.{IsStep, IsValid}
+use Rattle.nd_array_core.specs.Broadcast.{IsSeen}
+use Rattle.nd_array_core.proofs.SamePlaces.{seen_reaches, seen_holds, seen_element}
 
 -- a shape with elements has the index of zeros
 pub origin_in_box : (ns : List ℕ) → 0 < size_of ns → in_box ns (replicate (length ns) 0) ≡ true
@@ -17,19 +19,18 @@ origin_in_box (n ∷ ns) some =
     grind (arith, nat_tests, parts.0, origin_in_box ns parts.1)
 
 module _ {first : ℕ} {ns : List ℕ} {ss : List ℤ} {first' : ℕ} {ns' : List ℕ} {ss' : List ℤ} {source : List ℕ → List ℕ} where
+  step_seen : IsStep first ns ss first' ns' ss' source → IsSeen first ns ss first' ns' ss' source
+  step_seen step = record { within = step.within; same = step.same }
+
   pub step_reaches : IsStep first ns ss first' ns' ss' source → ReachesPlaces first ns ss → ReachesPlaces first' ns' ss'
-  step_reaches step reach i h = ap is_place (step.same i h) ∙ reach (source i) (step.within i h)
+  step_reaches step = seen_reaches (step_seen step)
 
   pub step_holds : {A : Type 0} (stored : ℕ → Option A) → IsStep first ns ss first' ns' ss' source → HoldsAll stored first ns ss → HoldsAll stored first' ns' ss'
-  step_holds stored step holds i h = ap (names_place stored) (step.same i h) ∙ holds (source i) (step.within i h)
+  step_holds stored step = seen_holds stored (step_seen step)
 
   -- the element at a new index is the one at the old index that it names
   pub step_element : {A : Type 0} (stored : ℕ → Option A) → IsStep first ns ss first' ns' ss' source → (i : List ℕ) → inside ns' i (stored_at stored (place_of first' ss' i)) ≡ inside ns' i (inside ns (source i) (stored_at stored (place_of first ss (source i))))
-  step_element stored step i = at (in_box ns' i) refl
-    where
-      at : (b : Bool) → in_box ns' i ≡ b → inside ns' i (stored_at stored (place_of first' ss' i)) ≡ inside ns' i (inside ns (source i) (stored_at stored (place_of first ss (source i))))
-      at true h = rw (h, step.within i h, step.same i h) refl
-      at false h = rw h refl
+  step_element stored step = seen_element stored (step_seen step)
 
   -- a new shape with elements comes from one with elements
   pub step_some : IsStep first ns ss first' ns' ss' source → 0 < size_of ns' → 0 < size_of ns

@@ -1,13 +1,12 @@
 -- A place that is computed axis by axis: on the way every index of the axes left has a place.
-use Rattle.std.proofs.Common.{◌≡◌, ℕ, zero, suc, ◌+◌, ◌<◌, ◌≤◌, Bool, true, false, ltb, List, [], ◌∷◌, length, drop, get_or, replicate, ℤ, pos, negsuc, ◌+ℤ◌, ◌*ℤ◌, refl, ap, sym, ◌∙◌, subst, arith, add-one, drop-cons}
+use Rattle.std.proofs.Common.{◌≡◌, ℕ, ◌+◌, ◌<◌, ◌≤◌, true, List, [], ◌∷◌, length, drop, get_or, replicate, ℤ, pos, ◌+ℤ◌, ◌*ℤ◌, refl, ap, sym, ◌∙◌, arith, add-one, drop-cons}
 use Rattle.std.proofs.lemmas.List.{drop_all}
 use Rattle.std.proofs.lemmas.Int.{ints}
 use Rattle.std.proofs.lemmas.Bool.Decides.{nat_tests}
 use Rattle.nd_shape_and_slice.specs.Shape.{in_box}
 use Rattle.nd_shape_and_slice.specs.Place.{offset_of, place_of}
-use Rattle.nd_shape_and_slice.proofs.RowMajor.{in_box-cons, length-in_box, zeros_in_box, offset_of-origin}
+use Rattle.nd_shape_and_slice.proofs.RowMajor.{in_box-cons, zeros_in_box, offset_of-origin}
 use Rattle.nd_array_core.specs.Places.{is_place, ReachesPlaces}
-use Rattle.nd_array_core.proofs.Boxes.{in_box-drop}
 
 -- a place is below 2^63
 pub place_below : (p : ℕ) → is_place (pos p) ≡ true → p < 9223372036854775808

@@ -1,5 +1,12 @@
 pub mod Places
+pub mod Given
+pub mod Broadcast
+pub mod Listed
 pub mod Meaning
 pub mod Refusals
 pub mod Steps
 pub mod Maps
+pub mod Squeeze
+pub mod Slicing
+pub mod EachAxis
+pub mod Laws

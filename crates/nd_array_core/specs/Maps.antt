@@ -1,8 +1,11 @@
 -- What a layout call makes of a shape, and the old index that each new index names.
-use Rattle.std.specs.Prelude.{ℕ, ◌+◌, ◌-◌, ◌^◌, nat_lt, nat_le, min, length, replicate, List, [], ◌∷◌, slice_set, slice_index, ℤ, pos, nat_abs, if◌then◌else◌}
+use Rattle.std.specs.Prelude.{ℕ, ◌+◌, ◌-◌, ◌^◌, nat_lt, nat_le, min, length, replicate, List, [], ◌∷◌, slice_set, slice_index, slice_index_or, ℤ, pos, nat_abs, if◌then◌else◌}
 use Rattle.std.specs.List.{remove, insert}
 use Rattle.std.proofs.Math.IntN.{neg_ℤ}
+use Rattle.nd_shape_and_slice.specs.Slice.{sliced_length}
+use Rattle.nd_shape_and_slice.specs.declared.slice.Slice.{Slice}
 use Rattle.nd_layout.specs.Strides.{sum_of}
+use Rattle.nd_array_core.specs.Steps.{stepped_stride}
 
 -- an inverted axis: its coordinates count from the far end
 abbrev pub inverted_index : List ℕ → ℕ → List ℕ → List ℕ
@@ -11,6 +14,13 @@ inverted_index ns a i = slice_set i a (slice_index ns a - 1 - slice_index i a)
 -- its stride: the opposite one, 0 where that doesn't fit
 abbrev pub opposite_stride : ℤ → ℤ
 opposite_stride stride = if nat_lt (nat_abs stride) (2 ^ 63) then neg_ℤ stride else pos 0
+
+abbrev pub inverted_strides : List ℤ → ℕ → List ℤ
+inverted_strides ss a = slice_set ss a (opposite_stride (slice_index_or ss a (pos 0)))
+
+-- a sliced axis: its stride by the step
+abbrev pub sliced_strides : List ℕ → List ℤ → ℕ → Slice → List ℤ
+sliced_strides ns ss a s = slice_set ss a (stepped_stride (sliced_length (slice_index ns a) s) (slice_index_or ss a (pos 0)) s.step)
 
 -- an axis of which one coordinate is kept
 abbrev pub collapsed_shape : List ℕ → ℕ → List ℕ

@@ -1,5 +1,5 @@
 -- What an array means: a shape, and one element for each index of its box.
-use Rattle.std.specs.Prelude.{◌≡◌, ℕ, Bool, true, List, ℤ, Option, None, if◌then◌else◌}
+use Rattle.std.specs.Prelude.{ℕ, List, ℤ, Option, None, if◌then◌else◌}
 use Rattle.nd_shape_and_slice.specs.declared.dimension.Dimension as dimension
 use Rattle.nd_shape_and_slice.specs.declared.dimension.AxisCount as axis_count
 use Rattle.nd_shape_and_slice.specs.declared.dimension.StrideList as stride_list

@@ -1,5 +1,5 @@
 -- Places of a storage.
-use Rattle.std.specs.Prelude.{ℕ, ◌^◌, ◌≡◌, Bool, true, false, nat_lt, List, ℤ, pos, negsuc, Option, None, Some, is_some}
+use Rattle.std.specs.Prelude.{ℕ, ◌^◌, ◌≡◌, Bool, true, false, nat_lt, List, ℤ, pos, negsuc, Option, None, is_some}
 use Rattle.nd_shape_and_slice.specs.Shape.{in_box}
 use Rattle.nd_shape_and_slice.specs.Place.{place_of}
 

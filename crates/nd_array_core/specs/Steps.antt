@@ -1,5 +1,5 @@
 -- A layout step: from the lengths and strides of an array to those of a view of it.
-use Rattle.std.specs.Prelude.{◌≡◌, ℕ, ◌≤◌, ◌*◌, nat_le, Bool, true, List, length, ℤ, pos, ◌*ℤ◌, nat_abs, ◌<◌, ◌^◌, if◌then◌else◌}
+use Rattle.std.specs.Prelude.{◌≡◌, ℕ, ◌≤◌, nat_le, true, List, length, ℤ, pos, ◌*ℤ◌, nat_abs, ◌<◌, ◌^◌, if◌then◌else◌}
 use Rattle.nd_shape_and_slice.specs.Shape.{in_box, HasCheckedSize}
 use Rattle.nd_shape_and_slice.specs.Place.{place_of, span_of, IsSeparated}
 use Rattle.nd_array_core.specs.Places.{ReachesPlaces}

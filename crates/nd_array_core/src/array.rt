@@ -29,9 +29,9 @@ pub type Array<A, D> = ArrayBase<OwnedRepr<A>, D>;
 /// A read-only view of an array. ndarray's `ArrayView`.
 pub type ArrayView<'a, A, D> = ArrayBase<ViewRepr<'a, A>, D>;
 
-#[tactic(auto, unfolding(crate::specs::Meaning::shape_of, crate::specs::Meaning::element_at))]
+#[tactic(auto, unfolding(crate::specs::Meaning::shape_of, crate::specs::Meaning::element_at, crate::specs::Meaning::layout_strides))]
 impl<S: Data, D: Dimension> ArrayBase<S, D> {
-    ghost use Rattle.nd_array_core.specs.Meaning.{shape_of, element_at};
+    ghost use Rattle.nd_array_core.specs.Meaning.{shape_of, element_at, layout_strides};
 
     /// The length of each axis. ndarray's `shape`.
     pub fn shape(&self) -> &[usize]
@@ -43,9 +43,11 @@ impl<S: Data, D: Dimension> ArrayBase<S, D> {
     /// The number of axes, at most 32. ndarray's `ndim`.
     pub fn ndim(&self) -> usize
         ensures value { result ≡ length (shape_of self.now) }
+        ensures number { D.has_axes result ≡ true }
         ensures few { result ≤ 32 }
     {
-        self.layout.dim.ndim()
+        let dim = &self.layout.dim;
+        dim.slice().len()
     }
 
     /// The number of elements. ndarray's `len`.
@@ -73,9 +75,10 @@ impl<S: Data, D: Dimension> ArrayBase<S, D> {
         Some(self.storage.element(place))
     }
 
-    /// A read-only view of the array. ndarray's `view`.
+    /// A read-only view of the array, with the same strides. ndarray's `view`.
     pub fn view(&self) -> ArrayView<'_, S::Elem, D>
         ensures shape { shape_of result ≡ shape_of self.now }
+        ensures strides { layout_strides result ≡ layout_strides self.now }
         ensures elements { (i : List ℕ) → element_at result i ≡ element_at self.now i }
     {
         ArrayBase {

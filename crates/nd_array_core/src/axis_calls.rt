@@ -1,19 +1,20 @@
 //! Calls that turn, exchange, shorten or split axes, with no copy.
 
 ghost use Rattle.std.specs.Prelude.{◌≡◌, ◌<◌, ◌≤◌, ℕ, List, length, reverse, slice_index, swap};
-ghost use Rattle.nd_array_core.specs.Maps.{inverted_index, collapsed_shape, collapsed_index, lower_shape, upper_shape, upper_index};
-ghost use Rattle.nd_array_core.specs.Meaning.{shape_of, element_at, inside};
+ghost use Rattle.nd_array_core.specs.Maps.{inverted_index, inverted_strides, collapsed_shape, collapsed_index, lower_shape, upper_shape, upper_index};
+ghost use Rattle.nd_array_core.specs.Meaning.{shape_of, element_at, layout_strides, inside};
 
 use crate::array::{ArrayBase, ArrayView};
 use crate::data::{Data, ViewRepr};
 use nd_shape_and_slice::{Axis, Dimension};
 
-#[tactic(auto, unfolding(crate::specs::Meaning::shape_of, crate::specs::Meaning::element_at))]
+#[tactic(auto, unfolding(crate::specs::Meaning::shape_of, crate::specs::Meaning::element_at, crate::specs::Meaning::layout_strides))]
 impl<S: Data, D: Dimension> ArrayBase<S, D> {
     /// Turns an axis below `ndim` round: its coordinates count from the far end. ndarray's `invert_axis`.
     pub fn invert_axis(&mut self, axis: Axis)
         requires { axis.0 < length (shape_of self.old) }
         ensures shape { shape_of self.new ≡ shape_of self.old }
+        ensures strides { layout_strides self.new ≡ inverted_strides (layout_strides self.old) axis.0 }
         ensures elements { (i : List ℕ) → element_at self.new i ≡ inside (shape_of self.new) i (element_at self.old (inverted_index (shape_of self.old) axis.0 i)) }
     {
         self.layout.invert_axis(axis.0);
@@ -25,6 +26,7 @@ impl<S: Data, D: Dimension> ArrayBase<S, D> {
         requires axis { axis.0 < length (shape_of self.old) }
         requires within { index < slice_index (shape_of self.old) axis.0 }
         ensures shape { shape_of self.new ≡ collapsed_shape (shape_of self.old) axis.0 }
+        ensures strides { layout_strides self.new ≡ layout_strides self.old }
         ensures elements { (i : List ℕ) → element_at self.new i ≡ inside (shape_of self.new) i (element_at self.old (collapsed_index axis.0 index i)) }
     {
         self.layout.collapse_axis(axis.0, index);
@@ -35,6 +37,7 @@ impl<S: Data, D: Dimension> ArrayBase<S, D> {
         requires a { a < length (shape_of self.old) }
         requires b { b < length (shape_of self.old) }
         ensures shape { shape_of self.new ≡ swap (shape_of self.old) a b }
+        ensures strides { layout_strides self.new ≡ swap (layout_strides self.old) a b }
         ensures elements { (i : List ℕ) → element_at self.new i ≡ inside (shape_of self.new) i (element_at self.old (swap i a b)) }
     {
         self.layout.swap_axes(a, b);
@@ -43,6 +46,7 @@ impl<S: Data, D: Dimension> ArrayBase<S, D> {
     /// Puts the axes in the opposite order. ndarray's `reverse_axes`.
     pub fn reverse_axes(&mut self)
         ensures shape { shape_of self.new ≡ reverse (shape_of self.old) }
+        ensures strides { layout_strides self.new ≡ reverse (layout_strides self.old) }
         ensures elements { (i : List ℕ) → element_at self.new i ≡ inside (shape_of self.new) i (element_at self.old (reverse i)) }
     {
         self.layout.reverse_axes();
@@ -51,6 +55,7 @@ impl<S: Data, D: Dimension> ArrayBase<S, D> {
     /// The array with its axes in the opposite order. ndarray's `reversed_axes`.
     pub fn reversed_axes(self) -> Self
         ensures shape { shape_of result ≡ reverse (shape_of self) }
+        ensures strides { layout_strides result ≡ reverse (layout_strides self) }
         ensures elements { (i : List ℕ) → element_at result i ≡ inside (shape_of result) i (element_at self (reverse i)) }
     {
         let mut array = self;
@@ -61,6 +66,7 @@ impl<S: Data, D: Dimension> ArrayBase<S, D> {
     /// The view with the axes in the opposite order. ndarray's `t`.
     pub fn t(&self) -> ArrayView<'_, S::Elem, D>
         ensures shape { shape_of result ≡ reverse (shape_of self.now) }
+        ensures strides { layout_strides result ≡ reverse (layout_strides self.now) }
         ensures elements { (i : List ℕ) → element_at result i ≡ inside (shape_of result) i (element_at self.now (reverse i)) }
     {
         self.view().reversed_axes()
@@ -71,6 +77,7 @@ impl<S: Data, D: Dimension> ArrayBase<S, D> {
         requires on { axis < length (shape_of self.old) }
         requires within { index ≤ slice_index (shape_of self.old) axis }
         ensures shape { shape_of self.new ≡ lower_shape (shape_of self.old) axis index }
+        ensures strides { layout_strides self.new ≡ layout_strides self.old }
         ensures elements { (i : List ℕ) → element_at self.new i ≡ inside (shape_of self.new) i (element_at self.old i) }
     {
         self.layout.keep_lower(axis, index);
@@ -81,17 +88,19 @@ impl<S: Data, D: Dimension> ArrayBase<S, D> {
         requires on { axis < length (shape_of self.old) }
         requires within { index ≤ slice_index (shape_of self.old) axis }
         ensures shape { shape_of self.new ≡ upper_shape (shape_of self.old) axis index }
+        ensures strides { layout_strides self.new ≡ layout_strides self.old }
         ensures elements { (i : List ℕ) → element_at self.new i ≡ inside (shape_of self.new) i (element_at self.old (upper_index axis index i)) }
     {
         self.layout.keep_upper(axis, index);
     }
 }
 
-#[tactic(auto, unfolding(crate::specs::Meaning::shape_of, crate::specs::Meaning::element_at))]
+#[tactic(auto, unfolding(crate::specs::Meaning::shape_of, crate::specs::Meaning::element_at, crate::specs::Meaning::layout_strides))]
 impl<'a, A, D: Dimension> ArrayView<'a, A, D> {
     /// The same view once more.
     fn copied(&self) -> Self
         ensures shape { shape_of result ≡ shape_of self.now }
+        ensures strides { layout_strides result ≡ layout_strides self.now }
         ensures elements { (i : List ℕ) → element_at result i ≡ element_at self.now i }
     {
         ArrayBase {
@@ -108,8 +117,10 @@ impl<'a, A, D: Dimension> ArrayView<'a, A, D> {
         requires axis { axis.0 < length (shape_of self) }
         requires within { index ≤ slice_index (shape_of self) axis.0 }
         ensures lower_shape { shape_of result.0 ≡ lower_shape (shape_of self.entry) axis.0 index }
+        ensures lower_strides { layout_strides result.0 ≡ layout_strides self.entry }
         ensures lower { (i : List ℕ) → element_at result.0 i ≡ inside (shape_of result.0) i (element_at self.entry i) }
         ensures upper_shape { shape_of result.1 ≡ upper_shape (shape_of self.entry) axis.0 index }
+        ensures upper_strides { layout_strides result.1 ≡ layout_strides self.entry }
         ensures upper { (i : List ℕ) → element_at result.1 i ≡ inside (shape_of result.1) i (element_at self.entry (upper_index axis.0 index i)) }
     {
         let mut lower = self.copied();

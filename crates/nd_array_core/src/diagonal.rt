@@ -4,7 +4,7 @@ ghost use Rattle.std.specs.Prelude.{◌≡◌, ◌<◌, ◌^◌, ℕ, List, [], 
 ghost use Rattle.nd_shape_and_slice.specs.Place.{span_of};
 ghost use Rattle.nd_layout.specs.Strides.{sum_of};
 ghost use Rattle.nd_array_core.specs.Maps.{diagonal_length, diagonal_stride, diagonal_index};
-ghost use Rattle.nd_array_core.specs.Meaning.{shape_of, element_at, inside};
+ghost use Rattle.nd_array_core.specs.Meaning.{shape_of, element_at, layout_strides, inside};
 ghost use Rattle.nd_array_core.specs.Steps.{IsStep};
 
 use crate::array::{ArrayBase, ArrayView};
@@ -74,6 +74,7 @@ impl<D: Dimension, T: StrideList> Layout<D, T> {
     /// The layout of the diagonal.
     pub(crate) fn diagonal(&self) -> Layout<Ix1, <Ix1 as Dimension>::Strides>
         ensures lengths { ⟦<Ix1 as Dimension>⟧.lengths result.dim ≡ diagonal_length (D.lengths self.now.dim) ∷ [] }
+        ensures strides { result.strides ≡ diagonal_stride (D.lengths self.now.dim) (T.strides_of self.now.strides) ∷ [] }
         ensures step { IsStep self.now.first (D.lengths self.now.dim) (T.strides_of self.now.strides) result.first (⟦<Ix1 as Dimension>⟧.lengths result.dim) result.strides (diagonal_index (D.lengths self.now.dim)) }
     {
         let len = len_of_diagonal(self.dim.slice());
@@ -86,12 +87,13 @@ impl<D: Dimension, T: StrideList> Layout<D, T> {
     }
 }
 
-#[tactic(auto, unfolding(crate::specs::Meaning::shape_of, crate::specs::Meaning::element_at))]
+#[tactic(auto, unfolding(crate::specs::Meaning::shape_of, crate::specs::Meaning::element_at, crate::specs::Meaning::layout_strides))]
 impl<S: Data, D: Dimension> ArrayBase<S, D> {
     /// The array of the elements whose coordinates are all the same; of an array without axes, its element.
     /// ndarray's `into_diag`.
     pub fn into_diag(self) -> ArrayBase<S, Ix1>
         ensures shape { shape_of result ≡ diagonal_length (shape_of self) ∷ [] }
+        ensures strides { layout_strides result ≡ diagonal_stride (shape_of self) (layout_strides self) ∷ [] }
         ensures elements { (i : List ℕ) → element_at result i ≡ inside (shape_of result) i (element_at self (diagonal_index (shape_of self) i)) }
     {
         let layout = self.layout.diagonal();
@@ -105,6 +107,7 @@ impl<S: Data, D: Dimension> ArrayBase<S, D> {
     /// ndarray's `diag`.
     pub fn diag(&self) -> ArrayView<'_, S::Elem, Ix1>
         ensures shape { shape_of result ≡ diagonal_length (shape_of self.now) ∷ [] }
+        ensures strides { layout_strides result ≡ diagonal_stride (shape_of self.now) (layout_strides self.now) ∷ [] }
         ensures elements { (i : List ℕ) → element_at result i ≡ inside (shape_of result) i (element_at self.now (diagonal_index (shape_of self.now) i)) }
     {
         self.view().into_diag()

@@ -3,11 +3,13 @@
 ghost use Rattle.std.specs.Prelude.{◌≡◌, ◌<◌, ◌^◌, ℕ, Bool, true, false, List, length, pos, MatchOption};
 ghost use Rattle.nd_shape_and_slice.specs.Shape.{in_box, nonzero_product, HasCheckedSize};
 ghost use Rattle.nd_shape_and_slice.specs.Place.{place_of, span_of};
-ghost use Rattle.nd_shape_and_slice.specs.Strides.{c_strides};
+ghost use Rattle.nd_array_core.specs.Given.{ordered_strides};
 ghost use Rattle.nd_array_core.specs.Places.{is_place};
+ghost use Rattle.nd_array_core.specs.Steps.{IsValid};
 
+use crate::given::strides_in;
 use crate::places::{is_in_box, place_at};
-use nd_shape_and_slice::{Dimension, StrideList, default_strides};
+use nd_shape_and_slice::{Dimension, Order, StrideList};
 use std::alloc::AllocError;
 
 /// A first place, a shape and a signed stride for each axis. As many strides as lengths; the checked size exists;
@@ -33,16 +35,30 @@ impl<D: Dimension, T: StrideList> Clone for Layout<D, T> {
 impl<D: Dimension, T: StrideList> Copy for Layout<D, T> {}
 
 impl<D: Dimension> Layout<D, D::Strides> {
-    /// The layout of a new array: the elements in row-major order from place 0 on.
-    pub(crate) fn c_order(dim: D) -> Self
+    /// The layout of a new array: the elements in an order, from place 0 on.
+    pub(crate) fn in_order(dim: D, order: Order) -> Self
         requires { HasCheckedSize (D.lengths dim) }
         ensures first { result.first ≡ 0 }
         ensures lengths { D.lengths result.dim ≡ D.lengths dim }
-        ensures strides { D.Strides.strides_of result.strides ≡ c_strides (D.lengths dim) }
+        ensures strides { D.Strides.strides_of result.strides ≡ ordered_strides order (D.lengths dim) }
     {
-        let strides = default_strides(&dim);
+        let strides = strides_in(&dim, order);
         Layout {
             first: 0,
+            dim,
+            strides,
+        }
+    }
+
+    /// The layout under strides of the caller's.
+    pub(crate) fn strided(first: usize, dim: D, strides: D::Strides) -> Self
+        requires valid { IsValid first (D.lengths dim) (D.Strides.strides_of strides) }
+        ensures first { result.first ≡ first }
+        ensures lengths { D.lengths result.dim ≡ D.lengths dim }
+        ensures strides { D.Strides.strides_of result.strides ≡ D.Strides.strides_of strides }
+    {
+        Layout {
+            first,
             dim,
             strides,
         }

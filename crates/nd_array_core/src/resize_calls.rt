@@ -1,9 +1,10 @@
 //! Calls that answer arrays of another number of axes, or of another dimension, with no copy.
 
-ghost use Rattle.std.specs.Prelude.{◌↔◌, ◌≡◌, ◌<◌, ◌≤◌, ◌+◌, ℕ, true, false, List, length, slice_index, IsErr, IfErr, IfOk};
+ghost use Rattle.std.specs.Prelude.{◌↔◌, ◌≡◌, ◌<◌, ◌≤◌, ◌+◌, ℕ, true, false, List, length, slice_index, pos, IsErr, IfErr, IfOk};
+ghost use Rattle.std.specs.List.{remove, insert};
 ghost use Rattle.nd_shape_and_slice.specs.declared.errors.ErrorKind.{ErrorKind};
 ghost use Rattle.nd_array_core.specs.Maps.{indexed_shape, indexed_index, widened_shape, widened_index};
-ghost use Rattle.nd_array_core.specs.Meaning.{shape_of, element_at, inside};
+ghost use Rattle.nd_array_core.specs.Meaning.{shape_of, element_at, layout_strides, inside};
 
 use crate::array::{ArrayBase, ArrayView};
 use crate::data::Data;
@@ -11,7 +12,7 @@ use nd_shape_and_slice::{
     Axis, Dimension, ErrorKind, InsertAxis, Ix1, Ix2, IxDyn, RemoveAxis, ShapeError,
 };
 
-#[tactic(auto, unfolding(crate::specs::Meaning::shape_of, crate::specs::Meaning::element_at))]
+#[tactic(auto, unfolding(crate::specs::Meaning::shape_of, crate::specs::Meaning::element_at, crate::specs::Meaning::layout_strides))]
 impl<S: Data + Drop, D: Dimension> ArrayBase<S, D> {
     /// The array as one of another dimension; IncompatibleShape exactly where that can't have as many axes.
     /// ndarray's `into_dimensionality`.
@@ -19,6 +20,7 @@ impl<S: Data + Drop, D: Dimension> ArrayBase<S, D> {
         ensures refused { IsErr result ↔ (E.has_axes (length (shape_of self)) ≡ false) }
         ensures cause { IfErr result (λ e. e ≡ ErrorKind.IncompatibleShape) }
         ensures shape { IfOk result (λ a. shape_of a ≡ shape_of self) }
+        ensures strides { IfOk result (λ a. layout_strides a ≡ layout_strides self) }
         ensures elements { IfOk result (λ a. (i : List ℕ) → element_at a i ≡ element_at self i) }
     {
         match self.layout.as_dimension::<E>() {
@@ -31,11 +33,12 @@ impl<S: Data + Drop, D: Dimension> ArrayBase<S, D> {
     }
 }
 
-#[tactic(auto, unfolding(crate::specs::Meaning::shape_of, crate::specs::Meaning::element_at))]
+#[tactic(auto, unfolding(crate::specs::Meaning::shape_of, crate::specs::Meaning::element_at, crate::specs::Meaning::layout_strides))]
 impl<S: Data, D: Dimension> ArrayBase<S, D> {
     /// The array as one whose number of axes is known only at run time. ndarray's `into_dyn`.
     pub fn into_dyn(self) -> ArrayBase<S, IxDyn>
         ensures shape { shape_of result ≡ shape_of self }
+        ensures strides { layout_strides result ≡ layout_strides self }
         ensures elements { (i : List ℕ) → element_at result i ≡ element_at self i }
     {
         let layout = self.layout.as_dynamic();
@@ -46,7 +49,7 @@ impl<S: Data, D: Dimension> ArrayBase<S, D> {
     }
 }
 
-#[tactic(auto, unfolding(crate::specs::Meaning::shape_of, crate::specs::Meaning::element_at))]
+#[tactic(auto, unfolding(crate::specs::Meaning::shape_of, crate::specs::Meaning::element_at, crate::specs::Meaning::layout_strides))]
 impl<S: Data, D: RemoveAxis> ArrayBase<S, D>
 where
     D::Smaller: Dimension,
@@ -57,6 +60,7 @@ where
         requires axis { axis.0 < length (shape_of self) }
         requires within { index < slice_index (shape_of self) axis.0 }
         ensures shape { shape_of result ≡ indexed_shape (shape_of self) axis.0 }
+        ensures strides { layout_strides result ≡ remove (layout_strides self) axis.0 }
         ensures elements { (i : List ℕ) → element_at result i ≡ inside (shape_of result) i (element_at self (indexed_index axis.0 index i)) }
     {
         let layout = self.layout.index_axis(axis.0, index);
@@ -72,6 +76,7 @@ where
         requires axis { axis.0 < length (shape_of self.now) }
         requires within { index < slice_index (shape_of self.now) axis.0 }
         ensures shape { shape_of result ≡ indexed_shape (shape_of self.now) axis.0 }
+        ensures strides { layout_strides result ≡ remove (layout_strides self.now) axis.0 }
         ensures elements { (i : List ℕ) → element_at result i ≡ inside (shape_of result) i (element_at self.now (indexed_index axis.0 index i)) }
     {
         self.view().index_axis_move(axis, index)
@@ -83,13 +88,14 @@ where
         requires axis { axis.0 < length (shape_of self) }
         requires within { 0 < slice_index (shape_of self) axis.0 }
         ensures shape { shape_of result ≡ indexed_shape (shape_of self) axis.0 }
+        ensures strides { layout_strides result ≡ remove (layout_strides self) axis.0 }
         ensures elements { (i : List ℕ) → element_at result i ≡ inside (shape_of result) i (element_at self (indexed_index axis.0 0 i)) }
     {
         self.index_axis_move(axis, 0)
     }
 }
 
-#[tactic(auto, unfolding(crate::specs::Meaning::shape_of, crate::specs::Meaning::element_at))]
+#[tactic(auto, unfolding(crate::specs::Meaning::shape_of, crate::specs::Meaning::element_at, crate::specs::Meaning::layout_strides))]
 impl<S: Data, D: InsertAxis> ArrayBase<S, D>
 where
     D::Larger: Dimension,
@@ -100,6 +106,7 @@ where
         requires place { axis.0 ≤ length (shape_of self) }
         requires room { D.Larger.has_axes (length (shape_of self) + 1) ≡ true }
         ensures shape { shape_of result ≡ widened_shape (shape_of self) axis.0 }
+        ensures strides { layout_strides result ≡ insert (layout_strides self) axis.0 (pos 1) }
         ensures elements { (i : List ℕ) → element_at result i ≡ inside (shape_of result) i (element_at self (widened_index axis.0 i)) }
     {
         let layout = self.layout.insert_axis(axis.0);
@@ -110,12 +117,13 @@ where
     }
 }
 
-#[tactic(auto, unfolding(crate::specs::Meaning::shape_of, crate::specs::Meaning::element_at))]
+#[tactic(auto, unfolding(crate::specs::Meaning::shape_of, crate::specs::Meaning::element_at, crate::specs::Meaning::layout_strides))]
 impl<S: Data> ArrayBase<S, Ix2> {
     /// The view of a row below `nrows`. ndarray's `row`.
     pub fn row(&self, index: usize) -> ArrayView<'_, S::Elem, Ix1>
         requires { index < slice_index (shape_of self.now) 0 }
         ensures shape { shape_of result ≡ indexed_shape (shape_of self.now) 0 }
+        ensures strides { layout_strides result ≡ remove (layout_strides self.now) 0 }
         ensures elements { (i : List ℕ) → element_at result i ≡ inside (shape_of result) i (element_at self.now (indexed_index 0 index i)) }
     {
         self.index_axis(Axis(0), index)
@@ -125,13 +133,14 @@ impl<S: Data> ArrayBase<S, Ix2> {
     pub fn column(&self, index: usize) -> ArrayView<'_, S::Elem, Ix1>
         requires { index < slice_index (shape_of self.now) 1 }
         ensures shape { shape_of result ≡ indexed_shape (shape_of self.now) 1 }
+        ensures strides { layout_strides result ≡ remove (layout_strides self.now) 1 }
         ensures elements { (i : List ℕ) → element_at result i ≡ inside (shape_of result) i (element_at self.now (indexed_index 1 index i)) }
     {
         self.index_axis(Axis(1), index)
     }
 }
 
-#[tactic(auto, unfolding(crate::specs::Meaning::shape_of, crate::specs::Meaning::element_at))]
+#[tactic(auto, unfolding(crate::specs::Meaning::shape_of, crate::specs::Meaning::element_at, crate::specs::Meaning::layout_strides))]
 impl<S: Data> ArrayBase<S, IxDyn> {
     /// Keeps one coordinate of an axis, and takes the axis out. The axis is below `ndim`, and the coordinate below its
     /// length. ndarray's `index_axis_inplace`.
@@ -139,6 +148,7 @@ impl<S: Data> ArrayBase<S, IxDyn> {
         requires axis { axis.0 < length (shape_of self.old) }
         requires within { index < slice_index (shape_of self.old) axis.0 }
         ensures shape { shape_of self.new ≡ indexed_shape (shape_of self.old) axis.0 }
+        ensures strides { layout_strides self.new ≡ remove (layout_strides self.old) axis.0 }
         ensures elements { (i : List ℕ) → element_at self.new i ≡ inside (shape_of self.new) i (element_at self.old (indexed_index axis.0 index i)) }
     {
         let layout = self.layout.index_axis(axis.0, index);
@@ -151,6 +161,7 @@ impl<S: Data> ArrayBase<S, IxDyn> {
         requires place { axis.0 ≤ length (shape_of self.old) }
         requires room { length (shape_of self.old) < 32 }
         ensures shape { shape_of self.new ≡ widened_shape (shape_of self.old) axis.0 }
+        ensures strides { layout_strides self.new ≡ insert (layout_strides self.old) axis.0 (pos 1) }
         ensures elements { (i : List ℕ) → element_at self.new i ≡ inside (shape_of self.new) i (element_at self.old (widened_index axis.0 i)) }
     {
         let layout = self.layout.insert_axis(axis.0);

@@ -82,6 +82,7 @@ impl<D: Dimension, T: StrideList> Layout<D, T> {
     pub(crate) fn as_dimension<E: Dimension>(&self) -> Option<Layout<E, E::Strides>>
         ensures none { IsNone result ↔ (E.has_axes (length (D.lengths self.now.dim)) ≡ false) }
         ensures lengths { IfSome result (λ l. E.lengths l.dim ≡ D.lengths self.now.dim) }
+        ensures strides { IfSome result (λ l. E.Strides.strides_of l.strides ≡ T.strides_of self.now.strides) }
         ensures step { IfSome result (λ l. IsStep self.now.first (D.lengths self.now.dim) (T.strides_of self.now.strides) l.first (E.lengths l.dim) (E.Strides.strides_of l.strides) (λ i. i)) }
     {
         let dim = E::from_lengths(self.dim.slice())?;
@@ -98,6 +99,7 @@ impl<D: Dimension, T: StrideList> Layout<D, T> {
     /// The same layout under the dimension that may have any number of axes.
     pub(crate) fn as_dynamic(&self) -> Layout<IxDyn, <IxDyn as Dimension>::Strides>
         ensures lengths { ⟦<IxDyn as Dimension>⟧.lengths result.dim ≡ D.lengths self.now.dim }
+        ensures strides { ⟦<DynStrides as StrideList>⟧.strides_of result.strides ≡ T.strides_of self.now.strides }
         ensures step { IsStep self.now.first (D.lengths self.now.dim) (T.strides_of self.now.strides) result.first (⟦<IxDyn as Dimension>⟧.lengths result.dim) (⟦<DynStrides as StrideList>⟧.strides_of result.strides) (λ i. i) }
     {
         let dim = IxDyn::new(self.dim.slice());
@@ -123,6 +125,7 @@ where
         requires on { axis < length (D.lengths self.now.dim) }
         requires within { index < slice_index (D.lengths self.now.dim) axis }
         ensures lengths { D.Smaller.lengths result.dim ≡ indexed_shape (D.lengths self.now.dim) axis }
+        ensures strides { D.Smaller.Strides.strides_of result.strides ≡ remove (T.strides_of self.now.strides) axis }
         ensures step { IsStep self.now.first (D.lengths self.now.dim) (T.strides_of self.now.strides) result.first (D.Smaller.lengths result.dim) (D.Smaller.Strides.strides_of result.strides) (indexed_index axis index) }
     {
         let first = first_collapsed(
@@ -154,6 +157,7 @@ where
         requires place { axis ≤ length (D.lengths self.now.dim) }
         requires room { D.Larger.has_axes (length (D.lengths self.now.dim) + 1) ≡ true }
         ensures lengths { D.Larger.lengths result.dim ≡ widened_shape (D.lengths self.now.dim) axis }
+        ensures strides { D.Larger.Strides.strides_of result.strides ≡ insert (T.strides_of self.now.strides) axis (pos 1) }
         ensures step { IsStep self.now.first (D.lengths self.now.dim) (T.strides_of self.now.strides) result.first (D.Larger.lengths result.dim) (D.Larger.Strides.strides_of result.strides) (widened_index axis) }
     {
         let dim = self.dim.insert_axis(Axis(axis));

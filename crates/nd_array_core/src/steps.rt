@@ -6,6 +6,7 @@ ghost use Rattle.nd_shape_and_slice.specs.Shape.{size_of};
 ghost use Rattle.nd_shape_and_slice.specs.Axes.{HasEachAxis, permuted, unpermuted};
 ghost use Rattle.nd_shape_and_slice.specs.Slice.{fits_axis, sliced_length, sliced_shape, sliced_index};
 ghost use Rattle.nd_layout.specs.Strides.{permuted_strides as permuted_ints};
+ghost use Rattle.nd_array_core.specs.Maps.{sliced_strides};
 ghost use Rattle.nd_array_core.specs.Steps.{IsStep, IsValid, stepped_stride, FitsStride};
 
 use crate::layout::Layout;
@@ -49,6 +50,7 @@ fn slice_of_axis(
     requires on { axis < length lengths.now }
     requires fits { fits_axis (slice_index lengths.now axis) slice ≡ true }
     ensures len { result.len ≡ sliced_length (slice_index lengths.now axis) slice }
+    ensures stride { result.stride ≡ stepped_stride result.len (slice_index_or strides.now axis (pos 0)) slice.step }
     ensures step { IsStep first lengths.now strides.now result.first (slice_set lengths.now axis result.len) (slice_set strides.now axis result.stride) (sliced_index lengths.now axis slice) }
 {
     let sliced = slice.on_axis(lengths[axis]);
@@ -111,6 +113,7 @@ impl<D: Dimension, T: StrideList> Layout<D, T> {
         requires on { axis < length (D.lengths self.old.dim) }
         requires fits { fits_axis (slice_index (D.lengths self.old.dim) axis) slice ≡ true }
         ensures lengths { D.lengths self.new.dim ≡ sliced_shape (D.lengths self.old.dim) axis slice }
+        ensures strides { T.strides_of self.new.strides ≡ sliced_strides (D.lengths self.old.dim) (T.strides_of self.old.strides) axis slice }
         ensures step { IsStep self.old.first (D.lengths self.old.dim) (T.strides_of self.old.strides) self.new.first (D.lengths self.new.dim) (T.strides_of self.new.strides) (sliced_index (D.lengths self.old.dim) axis slice) }
     {
         let after = slice_of_axis(
@@ -129,6 +132,7 @@ impl<D: Dimension, T: StrideList> Layout<D, T> {
     pub(crate) fn permute_axes(&mut self, axes: &[usize])
         requires { HasEachAxis axes.now (length (D.lengths self.old.dim)) }
         ensures lengths { D.lengths self.new.dim ≡ permuted axes.now (D.lengths self.old.dim) }
+        ensures strides { T.strides_of self.new.strides ≡ permuted_ints axes.now (T.strides_of self.old.strides) }
         ensures step { IsStep self.old.first (D.lengths self.old.dim) (T.strides_of self.old.strides) self.new.first (D.lengths self.new.dim) (T.strides_of self.new.strides) (unpermuted axes.now) }
     {
         let dim = permuted_dim(&self.dim, axes);

@@ -5,8 +5,13 @@ ghost use Rattle.std.specs.Prelude.{◌≡◌, ◌<◌, ◌∷◌, [], ℕ, true
 ghost use Rattle.nd_shape_and_slice.specs.Slice.{fits_axis, sliced_shape, sliced_index};
 ghost use Rattle.nd_array_core.specs.Meaning.{shape_of, element_at, inside};
 
+mod broadcasts;
+mod strides;
+
+pub use broadcasts::table_of;
 use nd_array_core::{Array, ArrayBase, ArrayView, Data};
 use nd_shape_and_slice::{Axis, Dimension, Ix2, ShapeError, Slice, slice_fits};
+pub use strides::{row_repeated, turned_at_the_least_stride};
 
 /// The part of an axis that a slice names; None where there is no such axis or the slice doesn't fit it.
 pub fn try_slice_axis<'a, S: Data, D: Dimension>(
@@ -51,5 +56,33 @@ mod tests {
         assert_eq!(rt; part.get([0, 1]).copied(), Some(6));
         assert_eq!(rt; part.get([1, 1]).copied(), Some(5));
         Ok(())
+    }
+
+    #[test]
+    fn one_element_as_a_table(rt: HostRuntime) -> Result<(), Fail> {
+        let items = [5];
+        match turned_at_the_least_stride(&items) {
+            Ok(one) => {
+                assert_eq!(rt; one.strides(), [0].as_slice());
+                let table = table_of(&one, 2, 3).ok_or("none")?;
+                assert_eq!(rt; table.get([1, 2]).copied(), Some(5));
+                assert!(rt; table_of(&one, 1 << 40, 1 << 40).is_none());
+                Ok(())
+            }
+            Err(_) => Err("shape".into()),
+        }
+    }
+
+    #[test]
+    fn a_row_repeated(rt: HostRuntime) -> Result<(), Fail> {
+        let items = [1, 2, 3];
+        match row_repeated(2, &items) {
+            Ok(table) => {
+                assert_eq!(rt; table.get([0, 1]).copied(), Some(2));
+                assert_eq!(rt; table.get([1, 1]).copied(), Some(2));
+                Ok(())
+            }
+            Err(_) => Err("shape".into()),
+        }
     }
 }

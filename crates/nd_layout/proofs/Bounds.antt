@@ -9,13 +9,6 @@ use Rattle.nd_shape_and_slice.specs.Place.{offset_of, place_of, span_of}
 use Rattle.nd_layout.specs.Strides.{reach_up, reach_down}
 use Rattle.nd_layout.proofs.Integers.{sums}
 
--- an index of a box has one coordinate for each axis
-pub length-in_box : (ns i : List ℕ) → in_box ns i ≡ true → length i ≡ length ns
-length-in_box [] [] h = refl
-length-in_box [] (k ∷ i) h = absurd (false≢true h)
-length-in_box (n ∷ ns) [] h = absurd (false≢true h)
-length-in_box (n ∷ ns) (k ∷ i) h = let w = and_parts (ltb k n) (in_box ns i) h in omega (arith, length-in_box ns i w.1)
-
 -- each coordinate is below its axis's length
 pub coordinate_below : (ns i : List ℕ) (a : ℕ) → in_box ns i ≡ true → a < length ns → get_or i a 0 < get_or ns a 0
 coordinate_below [] i a h q = absurd (omega arith)

@@ -3,13 +3,13 @@ use Rattle.std.proofs.Common.{ℕ, ⊎_elim, zero, suc, ◌+◌, ◌-◌, ◌*�
 use Rattle.std.proofs.Math.Nat.{mul-le-mul_right, mul-le-mul_left, le_of_mul-le-mul_left, eq_of_mul-eq-mul_left}
 use Rattle.std.proofs.lemmas.Bool.{cases_lt, cases_eq, lt-ltb, le-ltb, le-leb}
 use Rattle.std.proofs.lemmas.List.{length-set, set-set, set_comm, get_or-set_same, get_or-set_other}
-use Rattle.nd_shape_and_slice.specs.Shape.{size_of}
+use Rattle.nd_shape_and_slice.specs.Shape.{size_of, column_rank}
 use Rattle.nd_shape_and_slice.specs.Place.{offset_of, span_of, span_within, magnitude_at, IsSeparated}
-use Rattle.nd_layout.specs.Ranks.{column_rank}
+use Rattle.nd_shape_and_slice.proofs.RowMajor.{span_within-le}
 use Rattle.nd_layout.specs.Growth.{greatest_end, greatest_step}
 use Rattle.nd_layout.proofs.Reaches.{mul-pred}
 use Rattle.nd_layout.proofs.AxisChange.{on_axis, counted_cases, counted_none, span_of-set, span_within-set, others_below, separated_by_others}
-use Rattle.nd_layout.proofs.Ranks.{index_at, in_box-index_at, column_rank-index_at}
+use Rattle.nd_layout.proofs.Ranks.{column_index, in_box-column_index, column_rank-column_index}
 use Rattle.nd_layout.proofs.RunFrom.{above_low, above_low-is, above_low-le}
 use Rattle.nd_layout.proofs.Pigeonhole.{pigeonhole}
 use Rattle.nd_layout.proofs.Distinct.{same_index}
@@ -17,13 +17,6 @@ use Rattle.nd_layout.proofs.Sizes.{size_of-set}
 use Rattle.nd_layout.proofs.Growing.{reach-le-span, greatest_end-positive}
 use Rattle.nd_layout.specs.Strides.{reach_down}
 use lib.IntN.{neg_ℤ}
-
--- what is counted is at most the whole
-pub span_within-le : (g : ℕ) (ns : List ℕ) (ss : List ℤ) → span_within g ns ss ≤ span_of ns ss
-span_within-le g [] ss = omega arith
-span_within-le g (n ∷ ns) [] = omega arith
-span_within-le g (n ∷ ns) (s ∷ ss) =
-    ⊎_elim (λ in_g. omega (arith, in_g.1, span_within-le g ns ss)) (λ out. omega (arith, out.1, span_within-le g ns ss)) (counted_cases (nat_abs s) g ((n - 1) * nat_abs s))
 
 -- separated axes, and one more that steps further than they reach and than each of them
 pub IsSeparated-extended : (ns : List ℕ) (ss : List ℤ) (a m : ℕ) (t : ℤ) → length ss ≡ length ns → a < length ns → IsSeparated (set ns a 1) ss → span_of (set ns a 1) ss < nat_abs t → ((k : ℕ) → 1 < get_or (set ns a 1) k 0 → magnitude_at ss k < nat_abs t) → IsSeparated (set ns a m) (set ss a t)
@@ -61,16 +54,16 @@ pub size-le-span : (ns : List ℕ) (ss : List ℤ) → length ss ≡ length ns �
 size-le-span ns ss e apart =
     ⊎_elim
     (λ (more : span_of ns ss + 1 < size_of ns).
-    let f : ℕ → ℕ = λ r. above_low ns ss (offset_of ss (index_at ns r)) in
-    let below : (r : ℕ) → r < size_of ns → f r < size_of ns = λ r h. let l = above_low-le ns ss (index_at ns r) (in_box-index_at ns r h) in omega arith in
+    let f : ℕ → ℕ = λ r. above_low ns ss (offset_of ss (column_index ns r)) in
+    let below : (r : ℕ) → r < size_of ns → f r < size_of ns = λ r h. let l = above_low-le ns ss (column_index ns r) (in_box-column_index ns r h) in omega arith in
     let once : (r q : ℕ) → r < size_of ns → q < size_of ns → f r ≡ f q → r ≡ q =
     λ r q h k same.
-    let in_i = in_box-index_at ns r h in
-    let in_j = in_box-index_at ns q k in
-    let offsets = above_low-is ns ss (index_at ns r) in_i ∙ ap (λ n. neg_ℤ (pos (reach_down ns ss)) +ℤ pos n) same ∙ sym (above_low-is ns ss (index_at ns q) in_j) in
-    sym (column_rank-index_at ns r h) ∙ ap (λ x. column_rank ns x) (same_index ns ss (index_at ns r) (index_at ns q) e apart in_i in_j offsets) ∙ column_rank-index_at ns q k in
+    let in_i = in_box-column_index ns r h in
+    let in_j = in_box-column_index ns q k in
+    let offsets = above_low-is ns ss (column_index ns r) in_i ∙ ap (λ n. neg_ℤ (pos (reach_down ns ss)) +ℤ pos n) same ∙ sym (above_low-is ns ss (column_index ns q) in_j) in
+    sym (column_rank-column_index ns r h) ∙ ap (λ x. column_rank ns x) (same_index ns ss (column_index ns r) (column_index ns q) e apart in_i in_j offsets) ∙ column_rank-column_index ns q k in
     let w = pigeonhole (size_of ns) f below once (size_of ns - 1) (omega arith) in
-    let l = above_low-le ns ss (index_at ns w.0) (in_box-index_at ns w.0 w.1) in
+    let l = above_low-le ns ss (column_index ns w.0) (in_box-column_index ns w.0 w.1) in
     let v = w.2 in
     absurd (omega arith))
     (λ (h : size_of ns ≤ span_of ns ss + 1). h)
@@ -110,8 +103,21 @@ le-greatest_end (n ∷ ns) [] j e long = absurd (omega arith)
 le-greatest_end (n ∷ ns) (s ∷ ss) zero e long = omega (arith, step_counted n (n * nat_abs s) long)
 le-greatest_end (n ∷ ns) (s ∷ ss) (suc j) e long = omega (arith, le-greatest_end ns ss j (omega arith) long)
 
+step_counted-le : (n x B : ℕ) → (1 < n → x ≤ B) → cond (ltb 1 n) x 0 ≤ B
+step_counted-le n x B h =
+    ⊎_elim
+    (λ (long : 1 < n). rw (lt-ltb 1 n long) (h long))
+    (λ (short : n ≤ 1). rw (le-ltb 1 n short) (omega arith))
+    (cases_lt 1 n)
+
+-- a bound on each step
+pub greatest_step-le : (B : ℕ) (ns : List ℕ) (ss : List ℤ) → ((j : ℕ) → 1 < get_or ns j 0 → magnitude_at ss j ≤ B) → greatest_step ns ss ≤ B
+greatest_step-le B [] ss h = omega arith
+greatest_step-le B (n ∷ ns) [] h = omega arith
+greatest_step-le B (n ∷ ns) (s ∷ ss) h = omega (arith, step_counted-le n (nat_abs s) B (h 0), greatest_step-le B ns ss (λ j. h (suc j)))
+
 -- either no axis is longer than 1, or one has the greatest step
-greatest_step-at : (ns : List ℕ) (ss : List ℤ) → length ss ≡ length ns → ((j : ℕ) → get_or ns j 0 ≤ 1) ⊎ ((j : ℕ) × (1 < get_or ns j 0) × (magnitude_at ss j ≡ greatest_step ns ss))
+pub greatest_step-at : (ns : List ℕ) (ss : List ℤ) → length ss ≡ length ns → ((j : ℕ) → get_or ns j 0 ≤ 1) ⊎ ((j : ℕ) × (1 < get_or ns j 0) × (magnitude_at ss j ≡ greatest_step ns ss))
 greatest_step-at [] ss e = inl (λ j. omega arith)
 greatest_step-at (n ∷ ns) [] e = absurd (omega arith)
 greatest_step-at (n ∷ ns) (s ∷ ss) e =

@@ -1,25 +1,21 @@
 -- The strides of storage that is to grow along an axis.
-use Rattle.std.proofs.Common.{ℕ, zero, suc, ◌+◌, ◌-◌, ◌*◌, ◌^◌, max, ◌<◌, ◌≤◌, ◌≡◌, List, [], ◌∷◌, ◌++◌, length, get_or, set, take, drop, reverse, eqb, cond, Bool, true, false, arith, refl, ap, sym, ◌∙◌, ℤ, pos, nat_abs}
+use Rattle.std.proofs.Common.{ℕ, zero, suc, ◌+◌, ◌-◌, ◌*◌, ◌^◌, max, ◌<◌, ◌≤◌, ◌≡◌, List, [], ◌∷◌, ◌++◌, length, get_or, set, drop, reverse, eqb, cond, Bool, true, false, arith, refl, ap, sym, ◌∙◌, ℤ, pos, nat_abs}
 use mathlib.Core.List.{reverse-cons}
 use Rattle.std.specs.List.{remove, insert}
 use Rattle.std.proofs.Math.Nat.{mul_assoc}
 use Rattle.std.proofs.lemmas.Bool.{eqb-true}
-use Rattle.std.proofs.lemmas.List.{drop_more, take_more, take_more_set, take_all, reverse-reverse, length-set, set-set, get_or-set_same}
+use Rattle.std.proofs.lemmas.List.{drop_more, reverse-reverse, length-set, set-set, get_or-set_same}
 use Rattle.nd_shape_and_slice.specs.Shape.{size_of, nonzero_product, HasCheckedSize}
 use Rattle.nd_shape_and_slice.specs.Place.{span_of}
-use Rattle.nd_shape_and_slice.specs.Strides.{row_strides}
-use Rattle.nd_layout.specs.declared.order.Order.TheVariants.{RowMajor, ColumnMajor}
+use Rattle.nd_shape_and_slice.specs.Strides.{row_strides, column_strides_from}
+use Rattle.nd_shape_and_slice.specs.declared.builder.Order.TheVariants.{RowMajor, ColumnMajor}
+use Rattle.nd_shape_and_slice.proofs.Sizes.{length_within}
 use Rattle.nd_layout.specs.Ranks.{ordered}
-use Rattle.nd_layout.specs.Growth.{column_strides_from, growing_strides, greatest_end}
-use Rattle.nd_layout.proofs.Sizes.{size_of-set, nonzero_product-set, length-le-product, size-le-product}
+use Rattle.nd_layout.specs.Growth.{growing_strides, greatest_end}
+use Rattle.nd_layout.proofs.Sizes.{size_of-set, nonzero_product-set, size-le-product}
 use Rattle.nd_layout.proofs.Removed.{le-product}
 use Rattle.nd_layout.proofs.AxisChange.{span_of-at}
 use Rattle.nd_layout.proofs.Orders.{size_of-ordered}
-
--- one stride for each length
-pub length-column_strides_from : (p : ℕ) (ns : List ℕ) → length (column_strides_from p ns) ≡ length ns
-length-column_strides_from p [] = refl
-length-column_strides_from p (n ∷ ns) = ap suc (length-column_strides_from (p * n) ns)
 
 same_first : (x y : ℤ) (xs ys : List ℤ) → x ∷ xs ≡ y ∷ ys → x ≡ y
 same_first x y xs ys e = ap (λ l. get_or l 0 x) e
@@ -37,18 +33,6 @@ stride_at_place ms cs p place e h rest =
       same_first (get_or cs place (pos 0)) (pos p) (drop (place + 1) cs) (column_strides_from (p * n) (drop (place + 1) ms)) both,
       same_rest (get_or cs place (pos 0)) (pos p) (drop (place + 1) cs) (column_strides_from (p * n) (drop (place + 1) ms)) both,
     )
-
--- what is written agrees one place further
-pub written_more : (ts ts' cs : List ℤ) (place : ℕ) (t : ℤ) → place < length ts → place < length cs → ts' ≡ set ts place t → get_or cs place (pos 0) ≡ t → take place ts ≡ take place cs → take (place + 1) ts' ≡ take (place + 1) cs
-written_more ts ts' cs place t h k is there before =
-    ap (take (place + 1)) is ∙ take_more_set ts place t h
-    ∙ ap (λ xs. xs ++ t ∷ []) before
-    ∙ ap (λ x. take place cs ++ x ∷ []) (sym there)
-    ∙ sym (take_more cs place (pos 0) k)
-
--- and at the end everywhere
-pub written_all : (ts cs : List ℤ) (place : ℕ) → length ts ≤ place → length cs ≡ length ts → take place ts ≡ take place cs → ts ≡ cs
-written_all ts cs place h e before = sym (take_all place ts h) ∙ before ∙ take_all place cs (omega arith)
 
 -- ---- in column-major order, where the axis is the last
 column_growing : (p : ℕ) (ns : List ℕ) (a : ℕ) → a + 1 ≡ length ns → column_strides_from p ns ≡ set (column_strides_from p (set ns a 1)) a (pos (p * size_of (set ns a 1)))
@@ -118,7 +102,7 @@ size_of-grown ns a added h =
 -- the grown length is small
 pub grown_small : (ns : List ℕ) (a added : ℕ) → a < length ns → HasCheckedSize (set ns a (get_or ns a 0 + added)) → get_or ns a 0 + added < 2 ^ 63
 grown_small ns a added h few =
-    let l = length-le-product (set ns a (get_or ns a 0 + added)) a (omega (arith, length-set ns a (get_or ns a 0 + added))) in
+    let l = length_within (set ns a (get_or ns a 0 + added)) a in
     let s = get_or-set_same ns a (get_or ns a 0 + added) 0 h in
     omega arith
 

@@ -23,7 +23,11 @@ pub mod Pigeonhole
 pub mod RunFrom
 pub mod RunGives
 pub mod RunTest
+pub mod RunSteps
 pub mod Growing
 pub mod GrowthCases
 pub mod Extended
 pub mod GrownLayout
+pub mod Continued
+pub mod Ready
+pub mod GrownAgain

@@ -4,15 +4,16 @@ use mathlib.Core.List.{reverse-cons}
 use Rattle.std.proofs.Math.Nat.{mul_comm, mul_assoc}
 use Rattle.std.proofs.lemmas.Bool.{cases_eq}
 use Rattle.std.proofs.lemmas.List.{length-reverse, length-set, get_or-reverse, get_or-set_same, get_or-set_other, reverse-reverse, ext_get_or}
-use Rattle.nd_shape_and_slice.specs.Shape.{in_box, size_of, row_rank}
+use Rattle.nd_shape_and_slice.specs.Shape.{in_box, size_of, row_rank, column_rank}
 use Rattle.nd_shape_and_slice.specs.Place.{offset_of, span_of, span_within, IsSeparated}
-use Rattle.nd_layout.specs.declared.order.Order.{Order}
-use Rattle.nd_layout.specs.declared.order.Order.TheVariants.{RowMajor, ColumnMajor}
-use Rattle.nd_layout.specs.Ranks.{column_rank, rank_in, Serves, ordered, axis_in, at_rank, ServesRanks}
+use Rattle.nd_shape_and_slice.specs.declared.builder.Order.{Order}
+use Rattle.nd_shape_and_slice.specs.declared.builder.Order.TheVariants.{RowMajor, ColumnMajor}
+use Rattle.nd_shape_and_slice.proofs.RowMajor.{length-in_box}
+use Rattle.nd_shape_and_slice.proofs.ColumnMajor.{column_rank_below}
+use Rattle.nd_layout.specs.Ranks.{rank_in, Serves, ordered, axis_in, at_rank, ServesRanks}
 use Rattle.nd_layout.proofs.Integers.{sums}
-use Rattle.nd_layout.proofs.Bounds.{length-in_box}
 use Rattle.nd_layout.proofs.Removed.{and_swap}
-use Rattle.nd_layout.proofs.Ranks.{at_rank-column_rank, column_rank-below, index_at, in_box-index_at, column_rank-index_at}
+use Rattle.nd_layout.proofs.Ranks.{at_rank-column_rank, column_index, in_box-column_index, column_rank-column_index}
 use Rattle.nd_layout.proofs.Apart.{EachApart, EachApart-append, EachApart-weaker, EachApart-from_separated, separated_from_each, span_within-append, span_of-append}
 use Rattle.nd_layout.proofs.Regroups.{size_of-append}
 
@@ -196,20 +197,20 @@ offset-at_rank o ns ss i e h =
 pub rank_in-below : (o : Order) (ns i : List ℕ) → in_box ns i ≡ true → rank_in o ns i < size_of ns
 rank_in-below o ns i h =
     let l = length-in_box ns i h in
-    let b = column_rank-below (ordered o ns) (ordered o i) (in_box-ordered o ns i l ∙ h) in
+    let b = column_rank_below (ordered o ns) (ordered o i) (in_box-ordered o ns i l ∙ h) in
     omega (arith, size_of-ordered o ns, rank_in-ordered o ns i l)
 
 -- each rank has its index
 pub index_of_rank : (o : Order) (ns : List ℕ) (r : ℕ) → r < size_of ns → (i : List ℕ) × (in_box ns i ≡ true) × (rank_in o ns i ≡ r)
 index_of_rank o ns r h =
     let h' : r < size_of (ordered o ns) = omega (arith, size_of-ordered o ns) in
-    let k = index_at (ordered o ns) r in
-    let inside = in_box-index_at (ordered o ns) r h' in
+    let k = column_index (ordered o ns) r in
+    let inside = in_box-column_index (ordered o ns) r h' in
     let l : length (ordered o k) ≡ length ns = length-ordered o k ∙ length-in_box (ordered o ns) k inside ∙ length-ordered o ns in
     let back = ordered-ordered o k in (
       ordered o k,
       sym (in_box-ordered o ns (ordered o k) l) ∙ ap (λ x. in_box (ordered o ns) x) back ∙ inside,
-      sym (rank_in-ordered o ns (ordered o k) l) ∙ ap (λ x. column_rank (ordered o ns) x) back ∙ column_rank-index_at (ordered o ns) r h',
+      sym (rank_in-ordered o ns (ordered o k) l) ∙ ap (λ x. column_rank (ordered o ns) x) back ∙ column_rank-column_index (ordered o ns) r h',
     )
 
 -- what serves each rank serves each index

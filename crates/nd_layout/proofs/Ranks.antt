@@ -1,12 +1,12 @@
 -- Offsets by rank: two axes of which the second goes on where the first ends are one axis.
-use Rattle.std.proofs.Common.{ℕ, zero, suc, ◌+◌, ◌*◌, ◌/◌, ◌%◌, ◌<◌, ◌≤◌, ◌≡◌, List, [], ◌∷◌, ltb, true, arith, refl, ap, ◌∙◌, ℤ, pos, ◌+ℤ◌, ◌*ℤ◌}
+use Rattle.std.proofs.Common.{ℕ, zero, suc, ◌+◌, ◌*◌, ◌/◌, ◌%◌, ◌<◌, ◌≡◌, List, [], ◌∷◌, ltb, true, arith, refl, ap, ◌∙◌, ℤ, pos, ◌+ℤ◌, ◌*ℤ◌}
 use lib.IntN.{+ℤ_idl, +ℤ_idr}
 use lib.Arith.{mod-mul}
-use Rattle.std.proofs.Math.Nat.{mul_comm, zero-add, mul-le-mul_left, zero-mod, zero-div, mod-one, div-one, mod-lt, mod-add-div, mod-eq_of_lt, div-eq_of_lt, div-div-eq-div-mul, div-lt_iff_lt-mul, add-mul-div_left, add-mul-mod_self_left, mul-mod_right, mul-div_right}
+use Rattle.std.proofs.Math.Nat.{mul_comm, zero-add, zero-mod, zero-div, mod-one, div-one, mod-lt, mod-add-div, mod-eq_of_lt, div-eq_of_lt, div-div-eq-div-mul, div-lt_iff_lt-mul, add-mul-div_left, add-mul-mod_self_left, mul-mod_right, mul-div_right}
 use Rattle.std.proofs.lemmas.Bool.{ltb-true, lt-ltb, and_parts, and_from, false≢true}
-use Rattle.nd_shape_and_slice.specs.Shape.{in_box, size_of}
+use Rattle.nd_shape_and_slice.specs.Shape.{in_box, size_of, column_rank}
 use Rattle.nd_shape_and_slice.specs.Place.{offset_of}
-use Rattle.nd_layout.specs.Ranks.{column_rank, at_rank}
+use Rattle.nd_layout.specs.Ranks.{at_rank}
 use Rattle.nd_layout.proofs.Integers.{sums, zero-mul, add-mul, mul-mul}
 
 -- rank 0 is the first place
@@ -37,19 +37,6 @@ pub at_rank-below : (n : ℕ) (s : ℤ) (ns : List ℕ) (ss : List ℤ) (r : ℕ
 at_rank-below n s ns ss r h = rw (mod-eq_of_lt h, div-eq_of_lt h, at_rank-zero ns ss) (+ℤ_idr (pos r *ℤ s))
 
 -- ---- ranks and indexes
--- the rank of an index is below the size
-pub column_rank-below : (ns i : List ℕ) → in_box ns i ≡ true → column_rank ns i < size_of ns
-column_rank-below [] i h = omega arith
-column_rank-below (n ∷ ns) [] h = absurd (false≢true h)
-column_rank-below (n ∷ ns) (k ∷ i) h =
-    let w = and_parts (ltb k n) (in_box ns i) h in
-    let rest = column_rank-below ns i w.1 in
-    let row = row_below n (column_rank ns i) (size_of ns) rest in
-    omega (arith, ltb-true k n w.0)
-  where
-    row_below : (n x y : ℕ) → x < y → n * x + n ≤ n * y
-    row_below n x y h = let e = mul-le-mul_left {m = suc x} {n = y} n h in omega arith
-
 -- the offset at an index's rank is the index's
 pub at_rank-column_rank : (ns : List ℕ) (ss : List ℤ) (i : List ℕ) → in_box ns i ≡ true → at_rank ns ss (column_rank ns i) ≡ offset_of ss i
 at_rank-column_rank [] [] [] h = refl
@@ -67,30 +54,30 @@ at_rank-column_rank (n ∷ ns) (s ∷ ss) (k ∷ i) h =
     add-mul-div_left k (column_rank ns i) some ∙ ap (λ v. v + column_rank ns i) (div-eq_of_lt below) ∙ zero-add (column_rank ns i) in
     rw (m, d) (ap (λ v. (pos k *ℤ s) +ℤ v) (at_rank-column_rank ns ss i w.1))
 
--- the index of a rank
-abbrev pub index_at : List ℕ → ℕ → List ℕ
-index_at [] r = []
-index_at (n ∷ ns) r = r % n ∷ index_at ns (r / n)
+-- the index of a column-major rank
+abbrev pub column_index : List ℕ → ℕ → List ℕ
+column_index [] r = []
+column_index (n ∷ ns) r = r % n ∷ column_index ns (r / n)
 
 -- is in the box where the rank is below the size
-pub in_box-index_at : (ns : List ℕ) (r : ℕ) → r < size_of ns → in_box ns (index_at ns r) ≡ true
-in_box-index_at [] r h = refl
-in_box-index_at (n ∷ ns) r h =
+pub in_box-column_index : (ns : List ℕ) (r : ℕ) → r < size_of ns → in_box ns (column_index ns r) ≡ true
+in_box-column_index [] r h = refl
+in_box-column_index (n ∷ ns) r h =
     let some = first_some n (size_of ns) r h in
     let rest : r / n < size_of ns = (div-lt_iff_lt-mul some).1 (omega (arith, mul_comm n (size_of ns))) in
-    and_from (ltb (r % n) n) (in_box ns (index_at ns (r / n))) (lt-ltb (r % n) n (mod-lt r some)) (in_box-index_at ns (r / n) rest)
+    and_from (ltb (r % n) n) (in_box ns (column_index ns (r / n))) (lt-ltb (r % n) n (mod-lt r some)) (in_box-column_index ns (r / n) rest)
   where
     first_some : (n m r : ℕ) → r < n * m → 0 < n
     first_some zero m r h = absurd (omega arith)
     first_some (suc n) m r h = omega arith
 
 -- and has that rank
-pub column_rank-index_at : (ns : List ℕ) (r : ℕ) → r < size_of ns → column_rank ns (index_at ns r) ≡ r
-column_rank-index_at [] r h = omega arith
-column_rank-index_at (n ∷ ns) r h =
+pub column_rank-column_index : (ns : List ℕ) (r : ℕ) → r < size_of ns → column_rank ns (column_index ns r) ≡ r
+column_rank-column_index [] r h = omega arith
+column_rank-column_index (n ∷ ns) r h =
     let some = first_some n (size_of ns) r h in
     let rest : r / n < size_of ns = (div-lt_iff_lt-mul some).1 (omega (arith, mul_comm n (size_of ns))) in
-    ap (λ v. r % n + n * v) (column_rank-index_at ns (r / n) rest) ∙ mod-add-div r n
+    ap (λ v. r % n + n * v) (column_rank-column_index ns (r / n) rest) ∙ mod-add-div r n
   where
     first_some : (n m r : ℕ) → r < n * m → 0 < n
     first_some zero m r h = absurd (omega arith)

@@ -1,10 +1,11 @@
 -- Steps of the search for strides, over whole lists of axes from the fastest on.
-use Rattle.std.proofs.Common.{ℕ, zero, suc, ◌+◌, ◌-◌, ◌*◌, ◌<◌, ◌≤◌, ◌≡◌, min, List, [], ◌∷◌, ◌++◌, length, get_or, set, take, drop, replicate, arith, refl, ap, sym, ◌∙◌, append_assoc, ℤ, pos}
+use Rattle.std.proofs.Common.{ℕ, ◌+◌, ◌-◌, ◌*◌, ◌<◌, ◌≤◌, ◌≡◌, min, List, [], ◌∷◌, ◌++◌, length, get_or, set, take, drop, arith, refl, ap, sym, ◌∙◌, append_assoc, ℤ}
 use Rattle.std.proofs.Math.Nat.{eq_of_mul-eq-mul_left, mul_comm}
 use Rattle.std.proofs.lemmas.List.{drop_more, take_more, take_more_set, take-append-drop, take_all, length-take, length-drop}
 use Rattle.nd_shape_and_slice.specs.Shape.{size_of}
 use Rattle.nd_shape_and_slice.specs.Place.{span_of, span_within, IsSeparated}
-use Rattle.nd_layout.specs.declared.order.Order.{Order}
+use Rattle.nd_shape_and_slice.specs.declared.builder.Order.{Order}
+use Rattle.nd_shape_and_slice.proofs.Sizes.{size_of-drop}
 use Rattle.nd_layout.specs.Ranks.{Serves, ServesRanks, Regroups}
 use Rattle.nd_layout.proofs.Apart.{EachApart-parts, EachApart-weaker, EachApart-from_separated, separated_from_each, span_within-append, span_of-append}
 use Rattle.nd_layout.proofs.Regroups.{Regroups-trans, Regroups-prefix, both_positive, size_of-append}
@@ -22,10 +23,6 @@ sizes_at ms place some =
     let c = mul_comm (size_of (drop place ms)) (size_of (take place ms)) in
     (w.0, w.1, omega arith)
 
--- the size from a place on is its length times the size after it
-pub size_from : (ms : List ℕ) (place : ℕ) → place < length ms → size_of (drop place ms) ≡ get_or ms place 0 * size_of (drop (place + 1) ms)
-size_from ms place h = ap size_of (drop_more ms place 0 h)
-
 positive_times : (x y : ℕ) → 0 < x → 0 < y → 0 < x * y
 positive_times x y p q = let l = le-times x y q in omega arith
 
@@ -33,7 +30,7 @@ positive_times x y p q = let l = le-times x y q in omega arith
 pub some_to_take : (ms : List ℕ) (place group : ℕ) → place < length ms → 0 < size_of ms → group ≡ size_of (drop place ms) → 0 < get_or ms place 0 * group
 some_to_take ms place group h some e =
     let w = sizes_at ms place some in
-    let f = size_from ms place h in
+    let f = size_of-drop ms place h in
     let v = both_positive (get_or ms place 0) (size_of (drop (place + 1) ms)) (omega arith) in
     positive_times (get_or ms place 0) group v.0 (omega arith)
 
@@ -61,7 +58,7 @@ taken_more os ps ms ts ts' place gn gs hn hs t h e is g step =
 pub size_left : (gn hn ms : List ℕ) (place : ℕ) → place < length ms → 0 < size_of ms → size_of gn ≡ size_of (drop place ms) → get_or ms place 0 * size_of hn ≡ size_of gn → size_of hn ≡ size_of (drop (place + 1) ms)
 size_left gn hn ms place h some e step =
     let w = sizes_at ms place some in
-    let f = size_from ms place h in
+    let f = size_of-drop ms place h in
     let v = both_positive (get_or ms place 0) (size_of (drop (place + 1) ms)) (omega arith) in
     eq_of_mul-eq-mul_left (get_or ms place 0) v.0 (size_of hn) (size_of (drop (place + 1) ms)) (step ∙ e ∙ f)
 
@@ -107,9 +104,3 @@ Serves-empty o ns ss ms ts none e = record {
   as_many = e;
   same_offset = λ i j h q same. absurd (omega (arith, rank_in-below o ms j q));
 }
-
--- strides of 0 span nothing
-pub span_of-zeros : (ns : List ℕ) (n : ℕ) → span_of ns (replicate n (pos 0)) ≡ 0
-span_of-zeros [] n = refl
-span_of-zeros (m ∷ ns) zero = refl
-span_of-zeros (m ∷ ns) (suc n) = omega (arith, span_of-zeros ns n)

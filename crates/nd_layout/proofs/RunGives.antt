@@ -1,7 +1,6 @@
 -- A run has separated strides and a span of one less than its size.
 use Rattle.std.proofs.Common.{ℕ, ⊎_elim, zero, suc, ◌+◌, ◌-◌, ◌*◌, ◌<◌, ◌≤◌, ◌≡◌, ◌⊎◌, inl, inr, List, [], ◌∷◌, length, get_or, set, ltb, leb, cond, Bool, true, false, arith, refl, ap, sym, ◌∙◌, ℤ, pos, negsuc, nat_abs}
 use borrow.Author.Differences.{up, down}
-use Rattle.std.specs.List.{remove}
 use Rattle.std.proofs.Math.Nat.{mul-le-mul_right}
 use Rattle.std.proofs.lemmas.Bool.{cases_lt, cases_eq, lt-leb, ltb-true, lt-ltb, and_parts, and_from, false≢true}
 use Rattle.std.proofs.lemmas.List.{length-set, get_or-set_same, get_or-set_other, set-get_or}
@@ -12,10 +11,11 @@ use Rattle.nd_layout.specs.Ranks.{IsRun}
 use Rattle.nd_layout.proofs.Integers.{sums}
 use Rattle.nd_layout.proofs.Reaches.{mul-pred}
 use Rattle.nd_layout.proofs.AxisChange.{on_axis, separated_by_others}
-use Rattle.nd_layout.proofs.Bounds.{length-in_box, coordinate_below, in_box-from_coordinates}
+use Rattle.nd_shape_and_slice.proofs.RowMajor.{length-in_box}
+use Rattle.nd_shape_and_slice.proofs.Ranks.{positive_at}
+use Rattle.nd_layout.proofs.Bounds.{coordinate_below, in_box-from_coordinates}
 use Rattle.nd_layout.proofs.Distinct.{in_box-set}
 use Rattle.nd_layout.proofs.Regroups.{both_positive}
-use Rattle.nd_layout.proofs.Removed.{size_of-removed}
 
 -- ---- offsets from the lowest place, by coordinates counted from the low end of each axis
 abbrev pub dot : List ℤ → List ℕ → ℕ
@@ -163,14 +163,11 @@ top-within g (n ∷ ns) [] j h = absurd (omega arith)
 top-within g (n ∷ ns) (s ∷ ss) zero h = top_within (nat_abs s) g (n - 1) h
 top-within g (n ∷ ns) (s ∷ ss) (suc j) h = top-within g ns ss j h
 
-length_positive : (ns : List ℕ) (a : ℕ) → 0 < size_of ns → a < length ns → 0 < get_or ns a 0
-length_positive ns a some h = (both_positive (get_or ns a 0) (size_of (remove ns a)) (let e = size_of-removed ns a h in omega arith)).0
-
 in_box-top : (g : ℕ) (ns : List ℕ) (ss : List ℤ) (k : ℕ) → length ss ≡ length ns → 0 < size_of ns → in_box ns (top g (set ns k 1) ss) ≡ true
 in_box-top g ns ss k e some =
     in_box-from_coordinates ns (top g (set ns k 1) ss) (length-top g (set ns k 1) ss (e ∙ sym (length-set ns k 1)) ∙ length-set ns k 1)
     (λ a h.
-    let p = length_positive ns a some h in
+    let p = (positive_at ns a h some).0 in
     let t = top-le g (set ns k 1) ss a in
     ⊎_elim
     (λ (is : a ≡ k). let s : get_or (set ns k 1) a 0 ≡ 1 = ap (λ j. get_or (set ns k 1) j 0) is ∙ get_or-set_same ns k 1 0 (omega arith) in omega arith)
@@ -180,7 +177,7 @@ in_box-top g ns ss k e some =
 in_box-zeros : (ns : List ℕ) → 0 < size_of ns → in_box ns (zeros (length ns)) ≡ true
 in_box-zeros ns some =
     in_box-from_coordinates ns (zeros (length ns)) (length-zeros (length ns))
-    (λ a h. let z = get_or-zeros (length ns) a in let p = length_positive ns a some h in omega arith)
+    (λ a h. let z = get_or-zeros (length ns) a in let p = (positive_at ns a h some).0 in omega arith)
 
 in_box-moved : (ns i : List ℕ) (k x : ℕ) → in_box ns i ≡ true → k < length ns → x < get_or ns k 0 → in_box ns (set i k x) ≡ true
 in_box-moved ns i k x h within below =

@@ -3,13 +3,14 @@ use Rattle.std.proofs.Common.{ℕ, zero, suc, max, ◌*◌, ◌<◌, ◌≤◌, 
 use lib.IntN.{neg_ℤ}
 use borrow.Author.Differences.{abs_is, neg_is}
 use Rattle.std.specs.List.{remove}
-use Rattle.std.proofs.Math.Nat.{mul_comm, mul-le-mul_left, mul-le-mul_right}
+use Rattle.std.proofs.Math.Nat.{mul-le-mul_left, mul-le-mul_right}
 use Rattle.std.proofs.lemmas.List.{set-get_or}
 use Rattle.nd_shape_and_slice.specs.Shape.{size_of, nonzero_product, HasCheckedSize}
 use Rattle.nd_shape_and_slice.specs.Place.{span_of, IsSeparated}
+use Rattle.nd_shape_and_slice.proofs.Sizes.{length_within}
 use Rattle.nd_layout.proofs.Permuted.{nonzero-cons}
 use Rattle.nd_layout.proofs.AxisChange.{IsSeparated-changed, span_of-changed}
-use Rattle.nd_layout.proofs.Removed.{mul_left_comm, le-product, nonzero_product-removed}
+use Rattle.nd_layout.proofs.Removed.{mul_left_comm, nonzero_product-removed}
 
 -- the size with another length
 pub size_of-set : (ns : List ℕ) (a m : ℕ) → a < length ns → size_of (set ns a m) ≡ m * size_of (remove ns a)
@@ -33,18 +34,9 @@ HasCheckedSize-set ns a m h shorter few =
     let product = mul-le-mul_right {m = max 1 m} {n = max 1 (get_or ns a 0)} (nonzero_product (remove ns a)) (omega arith) in
     omega (arith, few, nonzero_product-set ns a m h, nonzero_product-removed ns a h)
 
--- that product is positive
-pub nonzero_product-positive : (ns : List ℕ) → 0 < nonzero_product ns
-nonzero_product-positive [] = omega arith
-nonzero_product-positive (n ∷ ns) = let e = nonzero-cons n ns in let p = nonzero_product-positive ns in let l = le-product (max 1 n) (nonzero_product ns) (omega arith) in omega arith
-
 -- no length is greater than the product of those that aren't 0
 pub length-le-product : (ns : List ℕ) (a : ℕ) → a < length ns → get_or ns a 0 ≤ nonzero_product ns
-length-le-product ns a h =
-    let e = nonzero_product-removed ns a h in
-    let l = le-product (nonzero_product (remove ns a)) (max 1 (get_or ns a 0)) (nonzero_product-positive (remove ns a)) in
-    let c = mul_comm (max 1 (get_or ns a 0)) (nonzero_product (remove ns a)) in
-    omega arith
+length-le-product ns a h = length_within ns a
 
 -- an inverted axis
 pub abs-neg : (s : ℤ) → nat_abs (neg_ℤ s) ≡ nat_abs s

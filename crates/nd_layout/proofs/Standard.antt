@@ -4,7 +4,7 @@ use Rattle.std.proofs.Math.Nat.{mul_comm, mul_assoc, mod-add-div, div-lt_iff_lt-
 use Rattle.std.proofs.lemmas.Bool.{cases_lt}
 use Rattle.std.proofs.lemmas.List.{drop_more}
 use Rattle.nd_shape_and_slice.specs.Shape.{size_of, row_rank}
-use Rattle.nd_layout.specs.declared.order.Order.TheVariants.{RowMajor}
+use Rattle.nd_shape_and_slice.specs.declared.builder.Order.TheVariants.{RowMajor}
 use Rattle.nd_layout.specs.Ranks.{ordered, at_rank, IsStandard, StepsBy}
 use Rattle.nd_layout.proofs.Integers.{one-mul}
 use Rattle.nd_layout.proofs.Ranks.{at_rank-one, at_rank-multiple, at_rank-below}

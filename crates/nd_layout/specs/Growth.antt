@@ -1,17 +1,14 @@
 -- The layout after an array has grown along one axis.
-use Rattle.std.specs.Prelude.{ℕ, ◌+◌, ◌*◌, max, Bool, not, ◌&&◌, ◌||◌, nat_eq, nat_lt, nat_le, if◌then◌else◌, List, [], ◌∷◌, length, replicate, slice_index, slice_index_or, slice_set, ℤ, pos, nat_abs, int_lt}
+use Rattle.std.specs.Prelude.{ℕ, ◌+◌, ◌*◌, ◌<◌, ◌≤◌, ◌≡◌, max, Bool, true, false, not, ◌&&◌, ◌||◌, nat_eq, nat_lt, nat_le, if◌then◌else◌, List, [], ◌∷◌, length, replicate, slice_index, slice_index_or, slice_set, ℤ, pos, nat_abs, int_lt}
 use Rattle.std.specs.List.{remove, insert}
-use Rattle.nd_shape_and_slice.specs.Shape.{size_of}
-use Rattle.nd_shape_and_slice.specs.Strides.{row_strides}
+use Rattle.nd_shape_and_slice.specs.Shape.{in_box, size_of}
+use Rattle.nd_shape_and_slice.specs.Place.{place_of}
+use Rattle.nd_shape_and_slice.specs.Strides.{row_strides, column_strides_from}
+use Rattle.nd_layout.specs.Strides.{reach_down}
 
 -- the shape after `added` more lengths along an axis
 abbrev pub grown : List ℕ → ℕ → ℕ → List ℕ
 grown ns axis added = slice_set ns axis (slice_index ns axis + added)
-
--- each axis has p times the product of the earlier lengths
-abbrev pub column_strides_from : ℕ → List ℕ → List ℤ
-column_strides_from p [] = []
-column_strides_from p (n ∷ ns) = pos p ∷ column_strides_from (p * n) ns
 
 -- The strides of fresh storage that is to grow along an axis. Where it is the last axis, each axis has the
 -- product of the earlier lengths. Else they are the row-major strides of the shape with this axis moved to the
@@ -54,3 +51,11 @@ strides_in_case row ns ss axis added =
     if nat_eq row 3 then growing_strides axis (grown ns axis added) else
     if nat_eq row 4 then growing_strides axis ns else
     if nat_eq row 5 then slice_set ss axis (pos (greatest_end (slice_set ns axis 1) ss)) else ss
+
+-- The new elements follow the old ones in storage. Where the lowest place of the old layout is 0, the old indexes have
+-- the places below the old number of elements, and the indexes that only the new shape has are at the places from that
+-- number on, one at each.
+pub record IsContinued (ns : List ℕ) (ss : List ℤ) (ms : List ℕ) (ts : List ℤ) : Type 0 where
+  pub before : (i : List ℕ) → in_box ns i ≡ true → (k : ℕ) × (k < size_of ns) × (place_of (reach_down ns ss) ts i ≡ pos k)
+  pub beyond : (i : List ℕ) → in_box ms i ≡ true → in_box ns i ≡ false → (k : ℕ) × (size_of ns ≤ k) × (k < size_of ms) × (place_of (reach_down ns ss) ts i ≡ pos k)
+  pub each : (k : ℕ) → size_of ns ≤ k → k < size_of ms → (i : List ℕ) × (in_box ms i ≡ true) × (in_box ns i ≡ false) × (place_of (reach_down ns ss) ts i ≡ pos k)

@@ -1,16 +1,11 @@
 -- The indexes of a shape by their ranks, and what it means that strides serve another shape.
-use Rattle.std.specs.Prelude.{ℕ, ◌+◌, ◌-◌, ◌*◌, ◌/◌, ◌%◌, ◌<◌, ◌≡◌, true, List, [], ◌∷◌, ◌++◌, length, reverse, ℤ, pos, ◌+ℤ◌, ◌*ℤ◌}
-use Rattle.nd_shape_and_slice.specs.Shape.{in_box, size_of, row_rank}
-use Rattle.nd_shape_and_slice.specs.Place.{offset_of, span_of, IsSeparated}
-use Rattle.nd_layout.specs.declared.order.Order.{Order}
-use Rattle.nd_layout.specs.declared.order.Order.TheVariants.{RowMajor, ColumnMajor}
+use Rattle.std.specs.Prelude.{ℕ, ◌-◌, ◌*◌, ◌/◌, ◌%◌, ◌<◌, ◌≡◌, true, nat_lt, nat_abs, if◌then◌else◌, slice_index, List, [], ◌∷◌, ◌++◌, length, reverse, ℤ, pos, ◌+ℤ◌, ◌*ℤ◌}
+use Rattle.nd_shape_and_slice.specs.Shape.{in_box, size_of, row_rank, column_rank}
+use Rattle.nd_shape_and_slice.specs.Place.{offset_of, span_of, magnitude_at, IsSeparated}
+use Rattle.nd_shape_and_slice.specs.declared.builder.Order.{Order}
+use Rattle.nd_shape_and_slice.specs.declared.builder.Order.TheVariants.{RowMajor, ColumnMajor}
 
--- the column-major rank of an index: the first axis runs fastest
-abbrev pub column_rank : List ℕ → List ℕ → ℕ
-column_rank [] is = 0
-column_rank (n ∷ ns) [] = 0
-column_rank (n ∷ ns) (i ∷ is) = i + n * column_rank ns is
-
+-- the rank of an index in an order
 abbrev pub rank_in : Order → List ℕ → List ℕ → ℕ
 rank_in RowMajor ns i = row_rank ns i
 rank_in ColumnMajor ns i = column_rank ns i
@@ -31,6 +26,17 @@ pub record IsRun (ns : List ℕ) (ss : List ℤ) : Type 0 where
   pub inside : (i : List ℕ) → in_box ns i ≡ true → (k : ℕ) × (k < size_of ns) × (offset_of ss i ≡ low +ℤ pos k)
   pub each : (k : ℕ) → k < size_of ns → (i : List ℕ) × (in_box ns i ≡ true) × (offset_of ss i ≡ low +ℤ pos k)
   pub once : (i j : List ℕ) → in_box ns i ≡ true → in_box ns j ≡ true → offset_of ss i ≡ offset_of ss j → i ≡ j
+
+-- the product of the lengths of the axes whose stride is of magnitude below m
+abbrev pub size_below : ℕ → List ℕ → List ℤ → ℕ
+size_below m [] ss = 1
+size_below m (n ∷ ns) [] = 1
+size_below m (n ∷ ns) (s ∷ ss) = (if nat_lt (nat_abs s) m then n else 1) * size_below m ns ss
+
+-- each axis longer than 1 steps as far as the axes of smaller magnitude have indexes: the least magnitude is 1, and
+-- each next one is the product of the lengths before it
+abbrev pub StepsInOrder : List ℕ → List ℤ → Type 0
+StepsInOrder ns ss = (k : ℕ) → 1 < slice_index ns k → magnitude_at ss k ≡ size_below (magnitude_at ss k) ns ss
 
 -- ---- the axes from the fastest on
 abbrev pub ordered : {X : Type 0} → Order → List X → List X

@@ -1,14 +1,15 @@
 //! Strides after an array has grown along an axis.
 
-ghost use Rattle.std.specs.Prelude.{ℕ, List, true, ◌↔◌, ◌≡◌, ◌<◌, ◌≤◌, ◌^◌, ◌⊎◌, length, IsTrue, slice_set, nat_eq, nat_lt, if◌then◌else◌, ◌+◌, ◌-◌, ◌*◌};
+ghost use Rattle.std.specs.Prelude.{ℕ, List, true, false, ◌↔◌, ◌≡◌, ◌<◌, ◌≤◌, ◌^◌, ◌⊎◌, length, IsTrue, slice_set, nat_eq, nat_lt, if◌then◌else◌, ◌+◌, ◌-◌, ◌*◌};
 ghost use Rattle.nd_shape_and_slice.specs.Shape.{HasCheckedSize, in_box, size_of};
 ghost use Rattle.nd_shape_and_slice.specs.Place.{IsSeparated, offset_of, span_of};
+ghost use Rattle.nd_shape_and_slice.specs.Strides.{column_strides_from};
 ghost use Rattle.nd_layout.specs.Ranks.{ordered, IsRun};
-ghost use Rattle.nd_layout.specs.Growth.{column_strides_from, greatest_end, greatest_step, grown, growing_strides, growth_case, must_move, strides_in_case};
+ghost use Rattle.nd_layout.specs.Growth.{IsContinued, greatest_end, greatest_step, grown, growing_strides, growth_case, must_move, strides_in_case};
 
-use crate::order::Order;
 use crate::ordered::{axis_at, has_no_elements, put_at};
 use crate::spans::length_without;
+use nd_shape_and_slice::Order;
 
 /// Whether the other axes have no elements: some length but this axis's is 0.
 fn others_are_empty(lengths: &[usize], axis: usize) -> bool
@@ -185,7 +186,9 @@ fn write_case(
 
 /// Which case of growth applies where `added` lengths follow along an axis, from 1 to 6, with the strides of
 /// the result in `out`. 1: the result is empty. 2: nothing is added. 3: the array is empty. 4: the storage
-/// isn't full, or the elements have to move. 5: the axis is of length 1. 6: the new elements follow the old.
+/// isn't full, or the elements have to move. 5: the axis is of length 1. 6: the new elements follow the old. In
+/// the last two the old elements stay and the new ones follow them, and wherever elements are added the axis
+/// is ready to grow again.
 pub fn growth(
     lengths: &[usize],
     strides: &[isize],
@@ -207,6 +210,8 @@ pub fn growth(
     ensures separated { 2 < result → IsSeparated (grown lengths.now axis added) out.new }
     ensures filled { 2 < result → span_of (grown lengths.now axis added) out.new + 1 ≡ size_of (grown lengths.now axis added) }
     ensures kept { 4 < result → (i : List ℕ) → in_box lengths.now i ≡ true → offset_of out.new i ≡ offset_of strides.now i }
+    ensures continued { 4 < result → IsContinued lengths.now strides.now (grown lengths.now axis added) out.new }
+    ensures ready { 2 < result → must_move (grown lengths.now axis added) out.new axis ≡ false }
 {
     write_case(lengths, strides, full, axis, added, out)
 }

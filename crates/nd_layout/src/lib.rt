@@ -3,14 +3,12 @@
 #![tactic(auto)]
 
 mod grows;
-mod order;
 mod ordered;
 mod reshape;
 mod runs;
 mod spans;
 
 pub use grows::growth;
-pub use order::Order;
 pub use reshape::reshape_strides;
 pub use runs::{is_run, is_standard};
 pub use spans::{separated, span};

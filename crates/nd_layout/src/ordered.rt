@@ -4,7 +4,7 @@ ghost use Rattle.std.specs.Prelude.{◌↔◌, ◌≡◌, ◌<◌, pos, length, 
 ghost use Rattle.nd_shape_and_slice.specs.Shape.{size_of};
 ghost use Rattle.nd_layout.specs.Ranks.{ordered, axis_in};
 
-use crate::order::Order;
+use nd_shape_and_slice::Order;
 
 /// Which of `count` axes is the `place`-th fastest.
 pub(crate) fn axis_at(order: Order, count: usize, place: usize) -> usize

@@ -6,8 +6,8 @@ ghost use Rattle.nd_shape_and_slice.specs.Place.{span_of, IsSeparated};
 ghost use Rattle.nd_layout.specs.Ranks.{ordered, axis_in, Serves, ServesRanks, Regroups};
 ghost use Rattle.nd_layout.specs.Groups.{IsClosed, Takes};
 
-use crate::order::Order;
 use crate::ordered::{has_no_elements, length_at, put_at, stride_at};
+use nd_shape_and_slice::Order;
 
 /// Axes that go on from one another, seen as one axis, and the number of the next axis.
 #[derive(Clone, Copy)]

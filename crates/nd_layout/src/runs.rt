@@ -5,9 +5,9 @@ ghost use Rattle.nd_shape_and_slice.specs.Shape.{HasCheckedSize, size_of};
 ghost use Rattle.nd_shape_and_slice.specs.Place.{span_of};
 ghost use Rattle.nd_layout.specs.Ranks.{IsRun, IsStandard};
 
-use crate::order::Order;
 use crate::ordered::{has_no_elements, length_at, stride_at};
 use crate::spans::{separated, span};
+use nd_shape_and_slice::Order;
 
 /// Whether an axis steps by this number: one of length 1 makes no step.
 fn steps_by(len: usize, stride: isize, count: usize) -> bool

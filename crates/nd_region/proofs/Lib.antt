@@ -3,9 +3,11 @@ pub mod Lent
 pub mod Loans
 pub mod Memory
 pub mod Names
+pub mod Parts
 pub mod RunLoans
 pub mod Runs
 pub mod SharedLemmas
 pub mod Sharing
+pub mod Splits
 pub mod Stored
 pub mod Swaps

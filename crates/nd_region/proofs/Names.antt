@@ -1,17 +1,17 @@
 -- Which places a layout names: those of its indexes.
 use mathlib.Core.Path.{◌≡◌, refl, sym, ap, ◌∙◌, subst}
-use Rattle.std.specs.Prelude.{ℕ, zero, suc, ◌<◌, List, [], ◌∷◌, ℤ, pos, negsuc, ◌+ℤ◌, ◌*ℤ◌, Bool, true, false, ◌&&◌, ◌||◌, Option, nat_eq, nat_lt}
+use Rattle.std.specs.Prelude.{ℕ, zero, suc, ◌<◌, List, [], ◌∷◌, ℤ, pos, negsuc, ◌+ℤ◌, ◌*ℤ◌, Bool, true, false, ◌||◌, nat_eq, nat_lt}
 use Rattle.std.specs.Option.{is_some}
 use Rattle.std.specs.Cmp.{unsigned_Decides}
 use native.Mathlib.Omega.{arith}
+use Rattle.std.proofs.lemmas.Bool.{and_parts, and_from, lt-ltb, ltb-true}
 use Rattle.std.proofs.lemmas.Int.{ints}
 use Rattle.std.proofs.Math.IntN.{+ℤ_assoc}
-use lib.Dec.{T, lt→ltb, ltb→lt}
 use native.Mathlib.Nat.{not-suc-le-zero}
 use Rattle.nd_shape_and_slice.specs.Shape.{in_box}
 use Rattle.nd_shape_and_slice.specs.Place.{offset_of, place_of}
 use Rattle.nd_region.specs.declared.region.Region.{Region}
-use Rattle.nd_region.specs.Places.{has_place, any_below, all_below, has_all, is_place, names_from, names}
+use Rattle.nd_region.specs.Places.{has_place, any_below, all_below, all_pass, place_passes, is_place, names_from, names}
 use Rattle.nd_region.specs.Region.{stored, HasPlaces}
 
 is_it : (z : ℤ) (p : ℕ) → is_place z p ≡ true → z ≡ pos p
@@ -45,34 +45,16 @@ any_of zero g j lt e = absurd (not-suc-le-zero lt)
 any_of (suc n) g j lt e = either_way (nat_eq n j) (g n) (any_below n g) (λ h. subst (λ (k : ℕ). g k ≡ true) (sym ((unsigned_Decides n j).0 h)) e)
     (λ h. any_of n g j (less n j lt (λ same. apart h ((unsigned_Decides n j).1 (sym same)))) e)
 
-below_is : (i n : ℕ) → nat_lt i n ≡ true → i < n
-below_is i n e = ltb→lt i n (subst T (sym e) tt)
-
-is_true : (b : Bool) → T b → b ≡ true
-is_true true t = refl
-is_true false t = absurd t
-
-is_below : (i n : ℕ) → i < n → nat_lt i n ≡ true
-is_below i n lt = is_true (nat_lt i n) (lt→ltb i n lt)
-
-both_are : (a b : Bool) → (a && b) ≡ true → (a ≡ true) × (b ≡ true)
-both_are true b e = (refl, e)
-both_are false b e = cc
-
-in_both : (a b : Bool) → a ≡ true → b ≡ true → (a && b) ≡ true
-in_both true b e f = f
-in_both false b e f = e
-
 -- a place that the layout names is that of an index
 named_index : (z : ℤ) (ns : List ℕ) (ss : List ℤ) (p : ℕ) → names_from z ns ss p ≡ true → (i : List ℕ) × (in_box ns i ≡ true) × (z +ℤ offset_of ss i ≡ pos p)
 named_index z [] [] p e = ([], refl, omega (arith, ints, is_it z p e))
 named_index z [] (s ∷ ss) p e = ([], refl, omega (arith, ints, is_it z p e))
 named_index z (n ∷ ns) [] p e =
     let j = any_at n (λ k. names_from z ns [] p) e in let r = named_index z ns [] p j.2 in
-    (j.0 ∷ r.0, in_both (nat_lt j.0 n) (in_box ns r.0) (is_below j.0 n j.1) r.1, r.2)
+    (j.0 ∷ r.0, and_from (nat_lt j.0 n) (in_box ns r.0) (lt-ltb j.0 n j.1) r.1, r.2)
 named_index z (n ∷ ns) (s ∷ ss) p e =
     let j = any_at n (λ k. names_from (z +ℤ (pos k *ℤ s)) ns ss p) e in let r = named_index (z +ℤ (pos j.0 *ℤ s)) ns ss p j.2 in
-    (j.0 ∷ r.0, in_both (nat_lt j.0 n) (in_box ns r.0) (is_below j.0 n j.1) r.1, sym (+ℤ_assoc z (pos j.0 *ℤ s) (offset_of ss r.0)) ∙ r.2)
+    (j.0 ∷ r.0, and_from (nat_lt j.0 n) (in_box ns r.0) (lt-ltb j.0 n j.1) r.1, sym (+ℤ_assoc z (pos j.0 *ℤ s) (offset_of ss r.0)) ∙ r.2)
 
 -- and the place of an index is named
 index_named : (z : ℤ) (ns : List ℕ) (ss : List ℤ) (p : ℕ) (i : List ℕ) → in_box ns i ≡ true → z +ℤ offset_of ss i ≡ pos p → names_from z ns ss p ≡ true
@@ -81,12 +63,12 @@ index_named z [] (s ∷ ss) p [] b e = let same : z ≡ pos p = omega (arith, in
 index_named z [] ss p (i ∷ is) b e = cc
 index_named z (n ∷ ns) ss p [] b e = cc
 index_named z (n ∷ ns) [] p (i ∷ is) b e =
-    let h = both_are (nat_lt i n) (in_box ns is) b in any_of n (λ k. names_from z ns [] p) i (below_is i n h.0) (index_named z ns [] p is h.1 e)
+    let h = and_parts (nat_lt i n) (in_box ns is) b in any_of n (λ k. names_from z ns [] p) i (ltb-true i n h.0) (index_named z ns [] p is h.1 e)
 index_named z (n ∷ ns) (s ∷ ss) p (i ∷ is) b e =
-    let h = both_are (nat_lt i n) (in_box ns is) b in
-    any_of n (λ k. names_from (z +ℤ (pos k *ℤ s)) ns ss p) i (below_is i n h.0) (index_named (z +ℤ (pos i *ℤ s)) ns ss p is h.1 (+ℤ_assoc z (pos i *ℤ s) (offset_of ss is) ∙ e))
+    let h = and_parts (nat_lt i n) (in_box ns is) b in
+    any_of n (λ k. names_from (z +ℤ (pos k *ℤ s)) ns ss p) i (ltb-true i n h.0) (index_named (z +ℤ (pos i *ℤ s)) ns ss p is h.1 (+ℤ_assoc z (pos i *ℤ s) (offset_of ss is) ∙ e))
 
--- the layout names exactly the places of its indexes
+-- a place is named exactly where it is that of an index
 pub named_by : (first : ℕ) (ns : List ℕ) (ss : List ℤ) (p : ℕ) → names first ns ss p ≡ true → (i : List ℕ) × (in_box ns i ≡ true) × (place_of first ss i ≡ pos p)
 named_by first ns ss p e = named_index (pos first) ns ss p e
 
@@ -99,23 +81,30 @@ here_or false a f g = g refl
 
 all_at : (n : ℕ) (g : ℕ → Bool) (j : ℕ) → all_below n g ≡ true → j < n → g j ≡ true
 all_at zero g j e lt = absurd (not-suc-le-zero lt)
-all_at (suc n) g j e lt = let h = both_are (g n) (all_below n g) e in
+all_at (suc n) g j e lt = let h = and_parts (g n) (all_below n g) e in
     here_or (nat_eq n j) (g j) (λ c. subst (λ (k : ℕ). g k ≡ true) ((unsigned_Decides n j).0 c) h.0) (λ c. all_at n g j h.1 (less n j lt (λ same. apart c ((unsigned_Decides n j).1 (sym same)))))
 
-module _ {A : Type 0} where
-  all_has : (m : ℕ → Option A) (z : ℤ) (ns : List ℕ) (ss : List ℤ) → has_all m z ns ss ≡ true → (i : List ℕ) → in_box ns i ≡ true → has_place m (z +ℤ offset_of ss i) ≡ true
-  all_has m z [] [] e [] b = subst (λ (w : ℤ). has_place m w ≡ true) {x = z} (omega (arith, ints)) e
-  all_has m z [] (s ∷ ss) e [] b = subst (λ (w : ℤ). has_place m w ≡ true) {x = z} (omega (arith, ints)) e
-  all_has m z [] ss e (i ∷ is) b = cc
-  all_has m z (n ∷ ns) ss e [] b = cc
-  all_has m z (n ∷ ns) [] e (i ∷ is) b = let h = both_are (nat_lt i n) (in_box ns is) b in all_has m z ns [] (all_at n (λ j. has_all m z ns []) i e (below_is i n h.0)) is h.1
-  all_has m z (n ∷ ns) (s ∷ ss) e (i ∷ is) b = let h = both_are (nat_lt i n) (in_box ns is) b in
-      subst (λ (w : ℤ). has_place m w ≡ true) (+ℤ_assoc z (pos i *ℤ s) (offset_of ss is))
-      (all_has m (z +ℤ (pos i *ℤ s)) ns ss (all_at n (λ j. has_all m (z +ℤ (pos j *ℤ s)) ns ss) i e (below_is i n h.0)) is h.1)
+each_passes : (g : ℕ → Bool) (z : ℤ) (ns : List ℕ) (ss : List ℤ) → all_pass g z ns ss ≡ true → (i : List ℕ) → in_box ns i ≡ true → place_passes g (z +ℤ offset_of ss i) ≡ true
+each_passes g z [] [] e [] b = subst (λ (w : ℤ). place_passes g w ≡ true) {x = z} (omega (arith, ints)) e
+each_passes g z [] (s ∷ ss) e [] b = subst (λ (w : ℤ). place_passes g w ≡ true) {x = z} (omega (arith, ints)) e
+each_passes g z [] ss e (i ∷ is) b = cc
+each_passes g z (n ∷ ns) ss e [] b = cc
+each_passes g z (n ∷ ns) [] e (i ∷ is) b =
+    let h = and_parts (nat_lt i n) (in_box ns is) b in each_passes g z ns [] (all_at n (λ j. all_pass g z ns []) i e (ltb-true i n h.0)) is h.1
+each_passes g z (n ∷ ns) (s ∷ ss) e (i ∷ is) b =
+    let h = and_parts (nat_lt i n) (in_box ns is) b in
+    subst (λ (w : ℤ). place_passes g w ≡ true) (+ℤ_assoc z (pos i *ℤ s) (offset_of ss is))
+    (each_passes g (z +ℤ (pos i *ℤ s)) ns ss (all_at n (λ j. all_pass g (z +ℤ (pos j *ℤ s)) ns ss) i e (ltb-true i n h.0)) is h.1)
 
-  -- a layout that is written out: the test computes to one on each of its places
-  pub checked : (r : Region A) (first : ℕ) (ns : List ℕ) (ss : List ℤ) → has_all (stored r) (pos first) ns ss ≡ true → HasPlaces r first ns ss
-  checked r first ns ss e = all_has (stored r) (pos first) ns ss e
+module _ {A : Type 0} where
+  passing_has : (r : Region A) (g : ℕ → Bool) → ((p : ℕ) → g p ≡ true → is_some (stored r p) ≡ true) → (z : ℤ) → place_passes g z ≡ true → has_place (stored r) z ≡ true
+  passing_has r g has (pos p) e = has p e
+  passing_has r g has (negsuc n) e = cc
+
+  -- a region that has each place that passes a test has the layout's places where each of them passes; where the
+  -- layout is written out and the test computes, so does the last condition
+  pub checked : (r : Region A) (g : ℕ → Bool) → ((p : ℕ) → g p ≡ true → is_some (stored r p) ≡ true) → (first : ℕ) (ns : List ℕ) (ss : List ℤ) → all_pass g (pos first) ns ss ≡ true → HasPlaces r first ns ss
+  checked r g has first ns ss e = λ i b. passing_has r g has (place_of first ss i) (each_passes g (pos first) ns ss e i b)
 
   -- where a region has the layout's places, it has each that the layout names
   pub named_has : (r : Region A) (first : ℕ) (ns : List ℕ) (ss : List ℤ) (p : ℕ) → HasPlaces r first ns ss → names first ns ss p ≡ true → is_some (stored r p) ≡ true

@@ -7,6 +7,7 @@ use mir.Syntax.{named}
 use Rattle.nd_region.specs.declared.region.Region.{Region}
 use Rattle.nd_region.specs.Region.{with_items, with_element, with_run}
 use Rattle.nd_region.specs.Places.{merged, run_written}
+use Rattle.nd_region.specs.Memory.{ends_as}
 use Rattle.nd_region.specs.contracts.region.Region.{the_row}
 
 -- the slice ends as the region's elements do
@@ -40,3 +41,7 @@ borrow_run_follows R r p n x = follows (Array R 0) (Array R 0) r.name x.ghost_na
 -- the rows of n elements end as the region's elements do, n to each
 abbrev pub rows_follow : (R : RattleType) → (n : ℕ) → MutBor (List (List R.Denot)) → Region R.Denot → Fml
 rows_follow R n s r = follows (Array (Array R n) 0) (Array R 0) s.ghost_name r.name (first_chunks n (length s.now))
+
+-- each place keeps the element that the region holds there
+abbrev pub keeps_elements : (R : RattleType) → Region R.Denot → Fml
+keeps_elements R r = ends_as R r.name r.items

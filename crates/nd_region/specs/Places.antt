@@ -1,6 +1,8 @@
 -- The set of places of a region and the elements at them, as a map from numbers; and the places that a layout names.
-use Rattle.std.specs.Prelude.{ℕ, zero, suc, ◌+◌, List, [], ◌∷◌, ◌++◌, take, drop, ℤ, pos, negsuc, ◌+ℤ◌, ◌*ℤ◌, Bool, true, false, ◌&&◌, ◌||◌, not, Option, Some, None, nat_eq, if◌then◌else◌}
+use Rattle.std.specs.Prelude.{◌≡◌, ℕ, zero, suc, ◌+◌, List, [], ◌∷◌, ◌++◌, take, drop, ℤ, pos, negsuc, ◌+ℤ◌, ◌*ℤ◌, Bool, true, false, ◌&&◌, ◌||◌, not, Option, Some, None, nat_eq, if◌then◌else◌}
 use Rattle.std.specs.Option.{is_some}
+use Rattle.nd_shape_and_slice.specs.Shape.{in_box}
+use Rattle.nd_shape_and_slice.specs.Place.{place_of}
 
 module _ {A : Type 0} where
   -- of these elements, that at a place that is in the mask
@@ -65,8 +67,21 @@ abbrev pub all_below : ℕ → (ℕ → Bool) → Bool
 all_below zero g = true
 all_below (suc n) g = g n && all_below n g
 
--- the map has each place of the layout, counted from z: a test that computes where the layout is written out
-abbrev pub has_all : {A : Type 0} → (ℕ → Option A) → ℤ → List ℕ → List ℤ → Bool
-has_all m z [] ss = has_place m z
-has_all m z (n ∷ ns) [] = all_below n (λ j. has_all m z ns [])
-has_all m z (n ∷ ns) (s ∷ ss) = all_below n (λ j. has_all m (z +ℤ (pos j *ℤ s)) ns ss)
+-- the whole number is that of a place that passes
+abbrev pub place_passes : (ℕ → Bool) → ℤ → Bool
+place_passes g (pos p) = g p
+place_passes g (negsuc n) = false
+
+-- each place of the layout, counted from z, passes: a test that computes where the layout is written out
+abbrev pub all_pass : (ℕ → Bool) → ℤ → List ℕ → List ℤ → Bool
+all_pass g z [] ss = place_passes g z
+all_pass g z (n ∷ ns) [] = all_below n (λ j. all_pass g z ns [])
+all_pass g z (n ∷ ns) (s ∷ ss) = all_below n (λ j. all_pass g (z +ℤ (pos j *ℤ s)) ns ss)
+
+-- no place is that of an index of each of two layouts
+abbrev pub ShareNoPlace : ℕ → List ℕ → List ℤ → ℕ → List ℕ → List ℤ → Type 0
+ShareNoPlace first ns ss first' ns' ss' = (i j : List ℕ) → in_box ns i ≡ true → in_box ns' j ≡ true → place_of first ss i ≡ place_of first' ss' j → ⊥
+
+-- distinct indexes of a layout have distinct places
+abbrev pub HasDistinctPlaces : ℕ → List ℕ → List ℤ → Type 0
+HasDistinctPlaces first ns ss = (i j : List ℕ) → in_box ns i ≡ true → in_box ns j ≡ true → place_of first ss i ≡ place_of first ss j → i ≡ j

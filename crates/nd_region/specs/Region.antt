@@ -4,12 +4,17 @@ use Rattle.nd_shape_and_slice.specs.Shape.{in_box}
 use Rattle.nd_shape_and_slice.specs.Place.{place_of}
 use Rattle.nd_region.specs.Places.{stored_in, run_written, merged, has_place, kept_where}
 use Rattle.std.specs.Option.{is_some}
+use Rattle.std.specs.List.{swap}
 use Rattle.nd_region.specs.declared.region.Region.{Region}
 
 module _ {A : Type 0} where
   -- the element at each place of the region's set, and None at every other number
   abbrev pub stored : Region A → ℕ → Option A
   stored r = stored_in r.items r.held
+
+  -- the row that the region is of: the elements at its places, and what is known of the others
+  abbrev pub elements_of : Region A → List A
+  elements_of r = r.items
 
   -- the region is of the elements xs, with all places
   abbrev pub IsWhole : Region A → List A → Type 0
@@ -19,9 +24,17 @@ module _ {A : Type 0} where
   abbrev pub IsSameBorrow : Region A → Region A → Type 0
   IsSameBorrow r s = s.name ≡ r.name
 
+  -- both have the same places, and the same elements there
+  abbrev pub IsSameMap : Region A → Region A → Type 0
+  IsSameMap r s = (s.items ≡ r.items) × (s.held ≡ r.held)
+
   -- the region with these elements at its places
   abbrev pub with_items : Region A → List A → Region A
   with_items r xs = record { ptr = r.ptr; len = r.len; mark = r.mark; name = r.name; items = xs; held = r.held; small = r.small }
+
+  -- the region with the elements at two places in each other's place
+  abbrev pub with_swapped : Region A → ℕ → ℕ → Region A
+  with_swapped r p q = with_items r (swap r.items p q)
 
   -- the region with x at a place
   abbrev pub with_element : Region A → ℕ → A → Region A

@@ -2,13 +2,13 @@ ghost use Rattle.std.specs.Prelude.{length, ◌*◌, ◌≡◌, ℕ, ◌<◌, �
 ghost use Rattle.std.specs.Borrow.{sem};
 ghost use Rattle.std.specs.List.{flat_map};
 ghost use base.Fml.{GName};
-ghost use Rattle.nd_region.specs.Memory.{region, region_lent, ends_as};
+ghost use Rattle.nd_region.specs.Memory.{region, region_lent};
 ghost use Rattle.nd_region.specs.Places.{names, names_not};
 
 use std::marker::{Model, PhantomData};
 use std::{mem, slice};
 
-/// A mutable borrow of elements, as a map from places to elements.
+/// A mutable borrow of elements, as a map from places to elements. One that goes out of scope ends, as by `end`.
 pub struct Region<'a, A> {
     pub(crate) ptr: *mut A,
     pub(crate) len: usize,
@@ -26,8 +26,8 @@ impl<'a, A> Model for Region<'a, A> {
 }
 
 impl<'a, A> Region<'a, A> {
-    ghost use Rattle.nd_region.specs.Region.{stored, with_element, IsWhole, IsPartWhere, HasPlaces, HasRun, IsRunOf};
-    ghost use Rattle.nd_region.specs.Lends.{rows_follow, slice_follows, place_follows, parts_follow, region_follows, borrow_follows, run_follows, borrow_run_follows};
+    ghost use Rattle.nd_region.specs.Region.{stored, with_element, IsSameMap, IsWhole, IsPartWhere, HasPlaces, HasRun, IsRunOf};
+    ghost use Rattle.nd_region.specs.Lends.{rows_follow, slice_follows, place_follows, parts_follow, region_follows, borrow_follows, run_follows, borrow_run_follows, keeps_elements};
 
     /// The region of a slice, with all its places.
     pub fn from_slice(slice: &'a mut [A]) -> Region<'a, A>
@@ -110,7 +110,7 @@ impl<'a, A> Region<'a, A> {
     /// All places, for a shorter time.
     pub fn reborrow(&mut self) -> Region<'_, A>
         ensures* follows { sem 𝓛 (region_follows A.row self.entry result) }
-        ensures same { (result.items ≡ self.old.items) × (result.held ≡ self.old.held) }
+        ensures same { IsSameMap self.old result }
     {
         Region {
             ptr: self.ptr,
@@ -125,7 +125,7 @@ impl<'a, A> Region<'a, A> {
         ensures* writes_back { sem 𝓛 (borrow_follows A.row self.entry place result) }
         ensures value { stored self.entry place ≡ Some result.now }
     {
-        let Self {
+        let Region {
             ptr,
             len: _,
             mark: _,
@@ -159,7 +159,7 @@ impl<'a, A> Region<'a, A> {
         ensures* writes_back { sem 𝓛 (borrow_run_follows A.row self.entry place count result) }
         ensures values { IsRunOf self.entry place count result.now }
     {
-        let Self {
+        let Region {
             ptr,
             len: _,
             mark: _,
@@ -170,7 +170,7 @@ impl<'a, A> Region<'a, A> {
 
     /// Ends the region: each place keeps the element that it holds.
     pub fn end(self)
-        ensures* { sem 𝓛 (ends_as A.row self.entry.name self.entry.items) }
+        ensures* { sem 𝓛 (keeps_elements A.row self.entry) }
     {
         let Self {
             ptr: _,
@@ -182,10 +182,12 @@ impl<'a, A> Region<'a, A> {
 
 /// Lets the region go: each place keeps the element that it holds.
 impl<A> Drop for Region<'_, A> {
+    ghost use Rattle.nd_region.specs.Lends.{keeps_elements};
+
     fn drop(self)
-        ensures* { sem 𝓛 (ends_as A.row self.entry.name self.entry.items) }
+        ensures* { sem 𝓛 (keeps_elements A.row self.entry) }
     {
-        let Self {
+        let Region::<'_, A> {
             ptr: _,
             len: _,
             mark: _,

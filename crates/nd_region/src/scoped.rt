@@ -1,21 +1,20 @@
 //! A region for the length of a call.
 ghost use Rattle.std.specs.Prelude.{◌≡◌, length, IsSome};
 ghost use Rattle.nd_region.specs.Places.{names, names_not};
-ghost use Rattle.nd_region.specs.Region.{IsWhole, IsSameBorrow, IsPartWhere, HasPlaces, rejoined, stored, with_items, SwappedBetween};
-ghost use Rattle.std.specs.List.{swap};
+ghost use Rattle.nd_region.specs.Region.{IsWhole, IsSameBorrow, IsPartWhere, HasPlaces, rejoined, stored, elements_of, with_swapped, SwappedBetween};
 ghost use Rattle.nd_region.specs.declared.region.Region.{Region as RegionOf};
 
 use crate::region::Region;
 use std::marker::PhantomData;
 use std::mem;
 
-/// Hands f the slice's elements as a region with all its places. f gives the region back, and the slice
-/// then has the elements that the region has. A region is linear: one that isn't given back is a compile
-/// error, and another one in its place isn't proved.
+/// Hands f the slice's elements as a region with all its places, and the slice then has the elements that
+/// the region has which f gives back. The type of f demands a region, so a function that gives none back
+/// doesn't compile; that it is the same one is the condition `returns`, so another in its place isn't proved.
 pub fn with_region<A, R, F: FnOnce(Region<'_, A>) -> (Region<'_, A>, R)>(slice: &mut [A], f: F) -> R
     requires callable { (r : RegionOf A) → IsWhole r slice.old → F.pre f r }
     requires returns { (r : RegionOf A) (out : RegionOf A × R) → IsWhole r slice.old → F.post f r out → IsSameBorrow r out.0 }
-    ensures { (r : RegionOf A) × (x : RegionOf A) × IsWhole r slice.old × F.post f r (x, result) × (slice.new ≡ x.items) }
+    ensures { (r : RegionOf A) × (x : RegionOf A) × IsWhole r slice.old × F.post f r (x, result) × (slice.new ≡ elements_of x) }
 {
     let (back, answer) = f(Region {
         ptr: slice.as_mut_ptr(),
@@ -28,8 +27,9 @@ pub fn with_region<A, R, F: FnOnce(Region<'_, A>) -> (Region<'_, A>, R)>(slice: 
 
 impl<'a, A> Region<'a, A> {
     /// Splits off the places that the layout names by its first place, lengths and strides, and hands f
-    /// both parts: these places, and the others. f gives both back, and this region then has at each place
-    /// what the part of that place has.
+    /// both parts: these places, and the others. This region then has at each place what the part of that
+    /// place has. As with `with_region`, the type of f demands both parts back, and the condition `returns`
+    /// that each is the same one.
     pub fn split_with<
         R,
         F: for<'b> FnOnce(Region<'b, A>, Region<'b, A>) -> (Region<'b, A>, Region<'b, A>, R),
@@ -61,7 +61,7 @@ impl<'a, A> Region<'a, A> {
     /// Swaps the elements at two places.
     pub fn swap(&mut self, p: usize, q: usize)
         requires { IsSome (stored self.old p) × IsSome (stored self.old q) }
-        ensures { self.new ≡ with_items self.old (swap self.old.items p q) }
+        ensures { self.new ≡ with_swapped self.old p q }
     {
         if p != q {
             self.split_with(

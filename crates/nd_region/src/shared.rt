@@ -17,10 +17,10 @@ impl<'a, A> SharedRegion<'a, A> {
     ghost use Rattle.nd_region.specs.Shared.{shared_stored, slice_stored, HasSharedRun, IsSharedRunOf};
 
     /// All places of a slice.
-    pub fn from_slice(slice: &'a [A]) -> SharedRegion<'a, A>
-        ensures { shared_stored result ≡ slice_stored slice.now }
+    pub fn from_slice(elements: &'a [A]) -> SharedRegion<'a, A>
+        ensures { shared_stored result ≡ slice_stored elements.now }
     {
-        SharedRegion::Whole(slice)
+        SharedRegion::Whole(elements)
     }
 
     /// All places of rows of N elements each, one row after the other.

@@ -1,9 +1,8 @@
 ghost use Rattle.std.specs.Prelude.{◌<◌, ◌*◌, ◌^◌, length};
 
 use crate::{Region, SharedRegion, with_region};
+use std::cell::Cell;
 use std::mem;
-use std::rc::Rc;
-use std::test::*;
 
 #[test]
 fn is_two_words(rt: HostRuntime) {
@@ -53,6 +52,17 @@ fn writes_runs(rt: HostRuntime) {
 
 #[test]
 #[tactic(auto, unfolding(crate::specs::Places::stored_in))]
+fn writes_rows(rt: HostRuntime) {
+    let mut rows = [[1u64, 2], [3, 4], [5, 6]];
+    let mut region = Region::from_rows(&mut rows);
+    region.set(1, 20);
+    region.set(4, 50);
+    region.end();
+    assert_eq!(rt; rows, [[1, 20], [3, 4], [50, 6]]);
+}
+
+#[test]
+#[tactic(auto, unfolding(crate::specs::Places::stored_in))]
 fn reads(rt: HostRuntime) {
     let mut xs = [1u64, 2, 3, 4];
     let region = Region::from_slice(&mut xs);
@@ -76,6 +86,25 @@ fn shares(rt: HostRuntime) {
     assert_eq!(rt; len, 2);
 }
 
+#[test]
+#[tactic(auto, unfolding(crate::specs::Places::stored_in))]
+fn fills_two_slices(rt: HostRuntime) {
+    let mut six = [5u64, 5, 5, 5, 5, 5];
+    let mut region = Region::from_slice(&mut six);
+    let mut even = region.split(0, &[3], &[2]);
+    let mut odd = region.split(1, &[3], &[2]);
+    even.set(0, 0);
+    odd.set(1, 1);
+    even.set(2, 0);
+    odd.set(3, 1);
+    even.set(4, 0);
+    odd.set(5, 1);
+    even.end();
+    odd.end();
+    region.end();
+    assert_eq!(rt; six, [0, 1, 0, 1, 0, 1]);
+}
+
 #[tactic(auto, using(crate::proofs::Stored::whole_has))]
 fn second_of(xs: &[u64]) -> u64
     requires { 1 < length xs.now }
@@ -93,6 +122,16 @@ fn run_of_none(rows: &[[u64; 2]]) -> usize
 fn reads_slices_and_rows(rt: HostRuntime) {
     assert_eq!(rt; second_of(&[5, 6]), 6);
     assert_eq!(rt; run_of_none(&[[1, 2], [3, 4]]), 0);
+}
+
+#[test]
+#[tactic(auto, unfolding(crate::specs::Places::stored_in))]
+fn reads_shared_places(rt: HostRuntime) {
+    let rows = [[1u64, 2], [3, 4], [5, 6]];
+    let shared = SharedRegion::from_rows(&rows);
+    let third = *shared.get(2);
+    let last = *shared.get(5);
+    assert_eq!(rt; (third, last), (3, 6));
 }
 
 #[test]
@@ -117,18 +156,33 @@ fn holds_units(rt: HostRuntime) {
     region.end();
 }
 
+// A value that adds its weight to a sum when it is dropped.
+struct Weighed<'a> {
+    weight: u64,
+    sum: &'a Cell<u64>,
+}
+
+impl Drop for Weighed<'_> {
+    fn drop(self) {
+        let Self { weight, sum } = self;
+        sum.set(sum.get().wrapping_add(weight));
+    }
+}
+
 #[test]
 #[tactic(auto, unfolding(crate::specs::Places::stored_in))]
-fn drops_each_once(rt: HostRuntime) -> Result<(), Fail> {
-    let counted = Rc::new(rt.alloc(), 0u64)?;
-    let mut items = [counted.clone()?, counted.clone()?, counted.clone()?];
-    assert_eq!(rt; Rc::strong_count(&counted), 4);
-    let fresh = Rc::new(rt.alloc(), 1u64)?;
+fn drops_each_once(rt: HostRuntime) {
+    let sum = Cell::new(0u64);
+    let weighed = |weight| Weighed { weight, sum: &sum };
+    let mut items = [weighed(1), weighed(10), weighed(100)];
     let mut region = Region::from_slice(&mut items);
-    region.set(1, fresh);
+    region.set(0, weighed(1000));
+    assert_eq!(rt; sum.get(), 1);
+    region.swap(0, 2);
+    let part = region.split(1, &[1], &[1]);
+    part.end();
     region.end();
-    assert_eq!(rt; Rc::strong_count(&counted), 3);
+    assert_eq!(rt; sum.get(), 1);
     drop(items);
-    assert_eq!(rt; Rc::strong_count(&counted), 1);
-    Ok(())
+    assert_eq!(rt; sum.get(), 1111);
 }

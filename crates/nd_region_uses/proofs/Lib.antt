@@ -1,2 +1,4 @@
-pub mod Six
-mod Twelve
+pub mod Layouts
+mod Spelled
+mod Split
+mod TwoColumns

@@ -1,24 +1,28 @@
 -- Places written in turn.
-use Rattle.std.specs.Prelude.{◌≡◌, ℕ, List, [], ◌∷◌, true, length, IsSome, replicate, slice_set}
+use Rattle.std.specs.Prelude.{◌≡◌, ℕ, List, [], ◌∷◌, Bool, length, IsSome, slice_set}
 use Rattle.nd_region.specs.declared.region.Region.{Region}
-use Rattle.nd_region.specs.Region.{stored, with_element}
+use Rattle.nd_region.specs.Region.{stored, elements_of, with_element, IsWhole, IsPartWhere}
 
--- the region with x at three places
-abbrev pub with_three : {A : Type 0} → Region A → ℕ → ℕ → ℕ → A → Region A
-with_three r i j k x = with_element (with_element (with_element r i x) j x) k x
+module _ {A : Type 0} where
+  -- the region has n places: 0 to n - 1
+  abbrev pub HasFirst : ℕ → Region A → Type 0
+  HasFirst n r = (length (elements_of r) ≡ n) × IsWhole r (elements_of r)
 
--- the region has three places
-abbrev pub HasThree : {A : Type 0} → Region A → ℕ → ℕ → ℕ → Type 0
-HasThree r i j k = IsSome (stored r i) × IsSome (stored r j) × IsSome (stored r k)
+  -- the region has those of the places 0 to n - 1 that pass
+  abbrev pub HasPassing : (ℕ → Bool) → ℕ → Region A → Type 0
+  HasPassing g n r = (whole : Region A) × HasFirst n whole × IsPartWhere g whole r
 
--- the region has six places, from 0 on
-abbrev pub IsSix : {A : Type 0} → Region A → Type 0
-IsSix r = (length r.items ≡ 6) × (r.held ≡ replicate 6 true)
+  -- the region has each of these places
+  abbrev pub HasEach : Region A → List ℕ → Type 0
+  HasEach r [] = Unit {0}
+  HasEach r (p ∷ ps) = IsSome (stored r p) × HasEach r ps
 
--- the region has twelve places, from 0 on
-abbrev pub IsTwelve : {A : Type 0} → Region A → Type 0
-IsTwelve r = (length r.items ≡ 12) × (r.held ≡ replicate 12 true)
+  -- the region with x at each of these places
+  abbrev pub with_each : Region A → List ℕ → A → Region A
+  with_each r [] x = r
+  with_each r (p ∷ ps) x = with_each (with_element r p x) ps x
 
--- the list with x at three indexes
-abbrev pub three_set : {A : Type 0} → List A → ℕ → ℕ → ℕ → A → List A
-three_set xs i j k x = slice_set (slice_set (slice_set xs i x) j x) k x
+  -- the list with x at each of these indexes
+  abbrev pub each_set : List A → List ℕ → A → List A
+  each_set xs [] x = xs
+  each_set xs (p ∷ ps) x = each_set (slice_set xs p x) ps x

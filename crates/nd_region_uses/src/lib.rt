@@ -2,6 +2,7 @@
 #![tactic(auto)]
 
 pub mod column;
+pub mod columns;
 pub mod exchange;
 pub mod part;
 #[cfg(test)]

@@ -1,4 +1,5 @@
 use crate::column::fill_column;
+use crate::columns::fill_columns;
 use crate::exchange::exchange;
 use crate::part::fill_even;
 use crate::turns::fill_in_turn;
@@ -16,7 +17,10 @@ fn callers_leave_what_they_say(rt: HostRuntime) {
     assert_eq!(rt; six, [7, 1, 7, 1, 7, 1]);
     let mut rows = [2u64, 3, 4, 5, 6, 7, 8, 9, 10, 11, 12, 13];
     fill_column(&mut rows);
-    assert_eq!(rt; rows, [0, 1, 4, 5, 0, 1, 8, 9, 0, 1, 12, 13]);
+    assert_eq!(rt; rows, [0, 1, 0, 0, 0, 1, 0, 0, 0, 1, 0, 0]);
+    let mut columns = [5u64, 5, 5, 5, 5, 5, 5, 5, 5, 5, 5, 5];
+    fill_columns(&mut columns);
+    assert_eq!(rt; columns, [5, 1, 5, 2, 5, 1, 5, 2, 5, 1, 5, 2]);
     let mut three = [1u64, 2, 3];
     exchange(&mut three);
     assert_eq!(rt; three, [3, 2, 1]);

@@ -1,7 +1,7 @@
 //! Even and odd places, written in turn through two live parts of one split.
-ghost use Rattle.std.specs.Prelude.{◌≡◌, length, [], ◌∷◌, IsSome};
-ghost use Rattle.nd_region.specs.Region.{IsSameBorrow, stored, with_element};
-ghost use Rattle.nd_region_uses.specs.Turns.{with_three, HasThree, IsSix};
+ghost use Rattle.std.specs.Prelude.{◌≡◌, length, [], ◌∷◌};
+ghost use Rattle.nd_region.specs.Region.{elements_of, IsSameBorrow};
+ghost use Rattle.nd_region_uses.specs.Turns.{with_each, HasEach, HasFirst};
 
 use nd_region::{Region, with_region};
 
@@ -10,8 +10,8 @@ fn put_in_turn<'a>(
     mut even: Region<'a, u64>,
     mut odd: Region<'a, u64>,
 ) -> (Region<'a, u64>, Region<'a, u64>, ())
-    requires { HasThree even 0 2 4 × HasThree odd 1 3 5 }
-    ensures { (result.0 ≡ with_three even.entry 0 2 4 0) × (result.1 ≡ with_three odd.entry 1 3 5 1) }
+    requires { HasEach even (0 ∷ 2 ∷ 4 ∷ []) × HasEach odd (1 ∷ 3 ∷ 5 ∷ []) }
+    ensures { (result.0 ≡ with_each even.entry (0 ∷ 2 ∷ 4 ∷ []) 0) × (result.1 ≡ with_each odd.entry (1 ∷ 3 ∷ 5 ∷ []) 1) }
 {
     even.set(0, 0);
     odd.set(1, 1);
@@ -23,9 +23,9 @@ fn put_in_turn<'a>(
 }
 
 fn in_turn<'a>(mut region: Region<'a, u64>) -> (Region<'a, u64>, ())
-    requires { IsSix region }
+    requires { HasFirst 6 region }
     ensures same { IsSameBorrow region.entry result.0 }
-    ensures items { result.0.items ≡ 0 ∷ 1 ∷ 0 ∷ 1 ∷ 0 ∷ 1 ∷ [] }
+    ensures items { elements_of result.0 ≡ 0 ∷ 1 ∷ 0 ∷ 1 ∷ 0 ∷ 1 ∷ [] }
 {
     region.split_with(0, &[3], &[2], put_in_turn);
     (region, ())

@@ -1,16 +1,15 @@
 -- The call that is read of a line is what its words write, and what they write is read.
 use Rattle.std.proofs.Common.{◌≡◌, ℕ, zero, suc, ◌≤◌, ◌⊎◌, Bool, true, false, cond, List, [], ◌∷◌, ◌++◌, length, ℤ, Option, Some, None, refl, sym, ap, subst, ◌∙◌, append_assoc, append-nil, length-append, arith, inl, inr}
 use Rattle.std.specs.Prelude.{codes}
-use Rattle.nd_shape_and_slice.specs.declared.slice.Slice.{Slice}
 use Rattle.nd_run.specs.declared.keyword.Keyword.{Keyword}
-use Rattle.nd_run.specs.declared.keyword.Keyword.TheVariants.{Start, Keep, Ask, Slash, Cut, Permute, Shape, Elements, Get, Other}
-use Rattle.nd_run.specs.Calls.{AskedStep, SlicedAxis, Permuted, Asking, AskShape, AskElements, AskElement, Asked, Keeping, About}
-use Rattle.nd_run.specs.Numerals.{IsNat, nat_of}
-use Rattle.nd_run.specs.Grammar.{IsList, IsSlice, IsStep, IsPath, IsQuestion, IsCall, IsStart}
-use Rattle.nd_run.specs.Reading.{◌>>=◌, item_at, list_at, slice_at, cut_at, permute_at, keyword_of, keyword_at, spelling, step_by, step_at, begins_step, is_slash, is_start, leg_at, path_at, get_at, question_by, question_at, keep_at, ask_at, call_by, call_at, call_of, ended, array_at, start_of}
+use Rattle.nd_run.specs.declared.keyword.Keyword.TheVariants.{Start, Keep, Ask, Slash, Shape, Elements, Get, Other}
+use Rattle.nd_run.specs.Calls.{AskedStep, Asking, AskShape, AskElements, AskElement, Asked, Keeping, About}
+use Rattle.nd_run.specs.Grammar.{IsList, IsStep, IsPath, IsQuestion, IsCall, IsStart}
+use Rattle.nd_run.specs.Reading.{◌>>=◌, list_at, keyword_of, keyword_at, spelling, step_at, begins_step, is_slash, is_start, leg_at, path_at, get_at, question_by, question_at, keep_at, ask_at, call_by, call_at, call_of, ended, array_at, start_of}
 use Rattle.nd_run.proofs.Keywords.{spelled}
-use Rattle.nd_run.proofs.NumberLaws.{some_by, nat_takes, nat_again}
-use Rattle.nd_run.proofs.LineLaws.{bind_some, some_pair, Front, item_takes, list_takes, list_again, IsParts, array_takes, array_again, slice_takes, slice_again}
+use Rattle.nd_run.proofs.NumberLaws.{some_by}
+use Rattle.nd_run.proofs.LineLaws.{bind_some, some_pair, Front, with_word, list_takes, list_again, IsParts, array_takes, array_again}
+use Rattle.nd_run.proofs.StepLaws.{step_takes, step_again, step_begins}
 
 -- a word that names something is spelled so
 named_by : (word : List ℕ) (k : Keyword) → keyword_of word ≡ k → (k ≡ Other → ⊥) → (keyword_of word ≡ Other) ⊎ (word ≡ spelling (keyword_of word)) → word ≡ spelling k
@@ -19,79 +18,6 @@ named_by word k e some (inr is) = is ∙ ap spelling e
 
 spelled_as : (word : List ℕ) (k : Keyword) → keyword_of word ≡ k → (k ≡ Other → ⊥) → word ≡ spelling k
 spelled_as word k e some = named_by word k e some (spelled word)
-
--- the same words with another first one
-with_word : {X : Type 0} {Is : List (List ℕ) → X → Type 0} (word name : List ℕ) (front rest : List (List ℕ)) (words : List (List ℕ)) (x : X) → word ≡ name → words ≡ front ++ rest → Is (name ∷ front) x → Front Is (word ∷ words) x rest
-with_word {X} {Is} word name front rest words x e parts is = record {
-  front = name ∷ front;
-  parts = ap (λ (w : List ℕ). w ∷ words) e ∙ ap (λ (ws : List (List ℕ)). name ∷ ws) parts;
-  is = is;
-}
-
--- ---- steps
-
-cut_takes : (word : List ℕ) (words : List (List ℕ)) (step : AskedStep) (rest : List (List ℕ)) → word ≡ codes "cut" → cut_at words ≡ Some (step, rest) → Front IsStep (word ∷ words) step rest
-unfolding cut_at
-cut_takes word words step rest is e =
-    let a = bind_some (item_at nat_of words) (λ axis. slice_at axis.1 >>= λ slice. Some (SlicedAxis axis.0 slice.0, slice.1)) (step, rest) e in
-    let b = bind_some (slice_at a.0.1) (λ slice. Some (SlicedAxis a.0.0 slice.0, slice.1)) (step, rest) a.2 in
-    let p = some_pair (SlicedAxis a.0.0 b.0.0, b.0.1) (step, rest) b.2 in
-    let axis = item_takes nat_of IsNat nat_takes words a.0.0 a.0.1 a.1 in
-    let slice = slice_takes a.0.1 b.0.0 b.0.1 b.1 in
-    let parts : words ≡ (axis.word ∷ slice.front) ++ rest = axis.parts ∙ ap (λ (ws : List (List ℕ)). axis.word ∷ ws) (slice.parts ∙ ap (λ (ws : List (List ℕ)). slice.front ++ ws) p.1) in
-    let made : IsStep (codes "cut" ∷ axis.word ∷ slice.front) (SlicedAxis a.0.0 b.0.0) = (axis.word, slice.front, refl, axis.is, slice.is) in
-    with_word word (codes "cut") (axis.word ∷ slice.front) rest words step is parts (subst (IsStep (codes "cut" ∷ axis.word ∷ slice.front)) p.0 made)
-
-permute_takes : (word : List ℕ) (words : List (List ℕ)) (step : AskedStep) (rest : List (List ℕ)) → word ≡ codes "permute" → permute_at words ≡ Some (step, rest) → Front IsStep (word ∷ words) step rest
-unfolding permute_at
-permute_takes word words step rest is e =
-    let a = bind_some (list_at words) (λ axes. Some (Permuted axes.0, axes.1)) (step, rest) e in
-    let p = some_pair (Permuted a.0.0, a.0.1) (step, rest) a.2 in
-    let axes = list_takes words a.0.0 a.0.1 a.1 in
-    let made : IsStep (codes "permute" ∷ axes.front) (Permuted a.0.0) = (axes.front, refl, axes.is) in
-    with_word word (codes "permute") axes.front rest words step is (axes.parts ∙ ap (λ (ws : List (List ℕ)). axes.front ++ ws) p.1) (subst (IsStep (codes "permute" ∷ axes.front)) p.0 made)
-
-step_by_takes : (k : Keyword) (word : List ℕ) (words : List (List ℕ)) (step : AskedStep) (rest : List (List ℕ)) → keyword_of word ≡ k → step_by k words ≡ Some (step, rest) → Front IsStep (word ∷ words) step rest
-step_by_takes Cut word words step rest is e = cut_takes word words step rest (spelled_as word Cut is (λ other. absurd cc)) e
-step_by_takes Permute word words step rest is e = permute_takes word words step rest (spelled_as word Permute is (λ other. absurd cc)) e
-step_by_takes Start word words step rest is e = absurd cc
-step_by_takes Keep word words step rest is e = absurd cc
-step_by_takes Ask word words step rest is e = absurd cc
-step_by_takes Slash word words step rest is e = absurd cc
-step_by_takes Shape word words step rest is e = absurd cc
-step_by_takes Elements word words step rest is e = absurd cc
-step_by_takes Get word words step rest is e = absurd cc
-step_by_takes Other word words step rest is e = absurd cc
-
-pub step_takes : (words : List (List ℕ)) (step : AskedStep) (rest : List (List ℕ)) → step_at words ≡ Some (step, rest) → Front IsStep words step rest
-unfolding step_at
-step_takes [] step rest e = absurd cc
-step_takes (word ∷ words) step rest e = step_by_takes (keyword_of word) word words step rest refl e
-
-cut_words : (first : List ℕ) (words : List (List ℕ)) (axis : ℕ) (slice : Slice) (rest : List (List ℕ)) → IsNat first axis → IsSlice words slice → step_at (codes "cut" ∷ first ∷ (words ++ rest)) ≡ Some (SlicedAxis axis slice, rest)
-unfolding step_at keyword_of cut_at
-cut_words first words axis slice rest h g = rw (nat_again first axis h, slice_again words slice rest g) refl
-
-permute_words : (words : List (List ℕ)) (axes : List ℕ) (rest : List (List ℕ)) → IsList words axes → step_at (codes "permute" ∷ (words ++ rest)) ≡ Some (Permuted axes, rest)
-unfolding step_at keyword_of permute_at
-permute_words words axes rest h = rw (list_again words axes rest h) refl
-
-pub step_again : (front : List (List ℕ)) (step : AskedStep) (rest : List (List ℕ)) → IsStep front step → step_at (front ++ rest) ≡ Some (step, rest)
-step_again front (SlicedAxis axis slice) rest h = ap (λ (ws : List (List ℕ)). step_at (ws ++ rest)) h.2 ∙ cut_words h.0 h.1 axis slice rest h.3 h.4
-step_again front (Permuted axes) rest h = ap (λ (ws : List (List ℕ)). step_at (ws ++ rest)) h.1 ∙ permute_words h.0 axes rest h.2
-
--- a step begins with a word that says so
-cut_begins : (words : List (List ℕ)) → begins_step (codes "cut" ∷ words) ≡ true
-unfolding keyword_of
-cut_begins words = refl
-
-permute_begins : (words : List (List ℕ)) → begins_step (codes "permute" ∷ words) ≡ true
-unfolding keyword_of
-permute_begins words = refl
-
-step_begins : (front : List (List ℕ)) (step : AskedStep) (rest : List (List ℕ)) → IsStep front step → begins_step (front ++ rest) ≡ true
-step_begins front (SlicedAxis axis slice) rest h = ap (λ (ws : List (List ℕ)). begins_step (ws ++ rest)) h.2 ∙ cut_begins (h.0 ∷ (h.1 ++ rest))
-step_begins front (Permuted axes) rest h = ap (λ (ws : List (List ℕ)). begins_step (ws ++ rest)) h.1 ∙ permute_begins (h.0 ++ rest)
 
 -- ---- paths
 
@@ -103,15 +29,7 @@ record Leg (words : List (List ℕ)) (step : AskedStep) (rest : List (List ℕ))
 
 slash_takes : (k : Keyword) (word : List ℕ) → keyword_of word ≡ k → is_slash k ≡ true → word ≡ codes "/"
 slash_takes Slash word is e = spelled_as word Slash is (λ other. absurd cc)
-slash_takes Start word is e = absurd cc
-slash_takes Keep word is e = absurd cc
-slash_takes Ask word is e = absurd cc
-slash_takes Cut word is e = absurd cc
-slash_takes Permute word is e = absurd cc
-slash_takes Shape word is e = absurd cc
-slash_takes Elements word is e = absurd cc
-slash_takes Get word is e = absurd cc
-slash_takes Other word is e = absurd cc
+slash_takes _ word is e = absurd cc
 
 abbrev past_slash : AskedStep → Keyword × List (List ℕ) → Option (AskedStep × List (List ℕ))
 past_slash made slash = cond (is_slash slash.0) (Some (made, slash.1)) None
@@ -205,13 +123,7 @@ question_by_takes Elements word words question rest is e =
     let p = some_pair (AskElements, words) (question, rest) e in
     with_word word (codes "elements") [] rest words question (spelled_as word Elements is (λ other. absurd cc)) p.1 (subst (IsQuestion (codes "elements" ∷ [])) p.0 refl)
 question_by_takes Get word words question rest is e = get_takes word words question rest (spelled_as word Get is (λ other. absurd cc)) e
-question_by_takes Cut word words question rest is e = absurd cc
-question_by_takes Permute word words question rest is e = absurd cc
-question_by_takes Start word words question rest is e = absurd cc
-question_by_takes Keep word words question rest is e = absurd cc
-question_by_takes Ask word words question rest is e = absurd cc
-question_by_takes Slash word words question rest is e = absurd cc
-question_by_takes Other word words question rest is e = absurd cc
+question_by_takes _ word words question rest is e = absurd cc
 
 question_takes : (words : List (List ℕ)) (question : Asking) (rest : List (List ℕ)) → question_at words ≡ Some (question, rest) → Front IsQuestion words question rest
 unfolding question_at
@@ -279,14 +191,7 @@ ask_takes n word words call rest is e =
 call_by_takes : (n : ℕ) (k : Keyword) (word : List ℕ) (words : List (List ℕ)) (call : Asked) (rest : List (List ℕ)) → keyword_of word ≡ k → call_by n k words ≡ Some (call, rest) → Front IsCall (word ∷ words) call rest
 call_by_takes n Keep word words call rest is e = keep_takes word words call rest (spelled_as word Keep is (λ other. absurd cc)) e
 call_by_takes n Ask word words call rest is e = ask_takes n word words call rest (spelled_as word Ask is (λ other. absurd cc)) e
-call_by_takes n Cut word words call rest is e = absurd cc
-call_by_takes n Permute word words call rest is e = absurd cc
-call_by_takes n Start word words call rest is e = absurd cc
-call_by_takes n Slash word words call rest is e = absurd cc
-call_by_takes n Shape word words call rest is e = absurd cc
-call_by_takes n Elements word words call rest is e = absurd cc
-call_by_takes n Get word words call rest is e = absurd cc
-call_by_takes n Other word words call rest is e = absurd cc
+call_by_takes n _ word words call rest is e = absurd cc
 
 call_at_takes : (n : ℕ) (words : List (List ℕ)) (call : Asked) (rest : List (List ℕ)) → call_at n words ≡ Some (call, rest) → Front IsCall words call rest
 unfolding call_at
@@ -327,15 +232,7 @@ call_again n words (About path question) few h =
 
 start_by : (k : Keyword) (word : List ℕ) → keyword_of word ≡ k → is_start k ≡ true → word ≡ codes "start"
 start_by Start word is e = spelled_as word Start is (λ other. absurd cc)
-start_by Keep word is e = absurd cc
-start_by Ask word is e = absurd cc
-start_by Slash word is e = absurd cc
-start_by Cut word is e = absurd cc
-start_by Permute word is e = absurd cc
-start_by Shape word is e = absurd cc
-start_by Elements word is e = absurd cc
-start_by Get word is e = absurd cc
-start_by Other word is e = absurd cc
+start_by _ word is e = absurd cc
 
 start_word_takes : (t : Bool) (words : List (List ℕ)) (array : (List ℕ × List ℤ) × List (List ℕ)) → cond t (array_at words) None ≡ Some array → (t ≡ true) × (array_at words ≡ Some array)
 start_word_takes true words array e = (refl, e)

@@ -1,5 +1,5 @@
 -- What is loaded, carried out and written makes the whole program.
-use Rattle.std.proofs.Common.{◌≡◌, ◌∙◌, ℕ, ℤ, Bool, true, false, List, [], Option, None, Some, Result, Ok, Err, refl, sym, ap, subst, inl, inr}
+use Rattle.std.proofs.Common.{◌≡◌, ◌∙◌, ℕ, ℤ, Bool, false, List, Option, None, Some, Result, Ok, Err, refl, sym, ap, subst, inl, inr}
 use Rattle.std.specs.Prelude.{IfSome}
 use Rattle.nd_run.specs.declared.outcome.LoadError.{LoadError}
 use Rattle.nd_run.specs.declared.outcome.LoadError.TheVariants.{BadLine, Memory, ReadFailed}

@@ -1,13 +1,12 @@
 -- Steps and replies, one at a time.
-use Rattle.std.proofs.Common.{◌≡◌, ℕ, ◌<◌, ◌≤◌, Bool, true, false, ltb, cond, List, [], ◌∷◌, ◌++◌, length, get_or, refl, ap, sym, ◌∙◌, subst, Ok, Err, Result, Option, arith}
+use Rattle.std.proofs.Common.{◌≡◌, ℕ, suc, ◌<◌, ◌∷◌, List, length, map, drop, get_or, drop-cons, refl, ap, sym, ◌∙◌, Ok, Err, Option, Some, None}
 use Rattle.std.proofs.Math.Path.{fun_ext}
-use Rattle.std.proofs.lemmas.Bool.Decides.{nat_tests}
-use Rattle.nd_shape_and_slice.specs.declared.slice.Slice.{Slice}
-use Rattle.nd_shape_and_slice.specs.Axes.{names_each_axis, permuted, unpermuted}
-use Rattle.nd_shape_and_slice.specs.Slice.{fits_axis, sliced_shape, sliced_index}
 use Rattle.nd_array_core.specs.Meaning.{Meaning, seen, inside}
-use Rattle.nd_run.specs.Calls.{SlicedAxis, Permuted}
-use Rattle.nd_run.specs.Fold.{taken}
+use Rattle.nd_run.specs.declared.cause.Cause.{Cause}
+use Rattle.nd_run.specs.declared.calls.Step.{Step}
+use Rattle.nd_run.specs.Calls.{AskedStep, asked_step}
+use Rattle.nd_run.specs.Steps.{refusal, shape_after, index_before}
+use Rattle.nd_run.specs.Fold.{taken, followed}
 
 module _ {A : Type 0} where
   meaning_from : List ℕ → (List ℕ → Option A) → Meaning A
@@ -20,14 +19,13 @@ module _ {A : Type 0} where
       go : (s : List ℕ) (at : List ℕ → Option A) → s ≡ shape → ((i : List ℕ) → at i ≡ inside s i (old.at (source i))) → (let m : Meaning A = record { shape = s; at = at } in m) ≡ seen shape source old
       go s at e h = rw (fun_ext h, e) refl
 
-  pub taken_cut : (old new : Meaning A) (axis : ℕ) (slice : Slice) → axis < length old.shape → fits_axis (get_or old.shape axis 0) slice ≡ true → new.shape ≡ sliced_shape old.shape axis slice → ((i : List ℕ) → new.at i ≡ inside new.shape i (old.at (sliced_index old.shape axis slice i))) → taken (SlicedAxis axis slice) old ≡ Ok new
-  taken_cut old new axis slice lt fits e h =
-      let below : ltb axis (length old.shape) ≡ true = grind (arith, nat_tests, lt) in
-      rw (below, fits) (ap Ok (sym (seen_is old new (sliced_shape old.shape axis slice) (sliced_index old.shape axis slice) e h)))
+  -- a step that nothing is against
+  pub taken_ok : (step : AskedStep) (old new : Meaning A) → refusal step old.shape ≡ None → new.shape ≡ shape_after step old.shape → ((i : List ℕ) → new.at i ≡ inside new.shape i (old.at (index_before step old.shape i))) → taken step old ≡ Ok new
+  taken_ok step old new allowed e h = rw allowed (ap Ok (sym (seen_is old new (shape_after step old.shape) (index_before step old.shape) e h)))
 
-  pub taken_permuted : (old new : Meaning A) (axes : List ℕ) → names_each_axis axes (length old.shape) ≡ true → new.shape ≡ permuted axes old.shape → ((i : List ℕ) → new.at i ≡ inside new.shape i (old.at (unpermuted axes i))) → taken (Permuted axes) old ≡ Ok new
-  taken_permuted old new axes each e h =
-      rw each (ap Ok (sym (seen_is old new (permuted axes old.shape) (unpermuted axes) e h)))
+  -- a step that is refused
+  pub taken_err : (step : AskedStep) (old : Meaning A) (cause : Cause) → refusal step old.shape ≡ Some cause → taken step old ≡ Err cause
+  taken_err step old cause refused = rw refused refl
 
   -- two arrays of one shape with the same elements mean the same
   pub same_meaning : (old new : Meaning A) → new.shape ≡ old.shape → ((i : List ℕ) → new.at i ≡ old.at i) → new ≡ old
@@ -35,3 +33,9 @@ module _ {A : Type 0} where
     where
       go : (s : List ℕ) (at : List ℕ → Option A) → s ≡ old.shape → ((i : List ℕ) → at i ≡ old.at i) → (let m : Meaning A = record { shape = s; at = at } in m) ≡ old
       go s at e h = rw (fun_ext h, e) refl
+
+  -- a path is refused by the cause against its first refused step
+  pub path_refused : (path : List Step) (k : ℕ) (step : Step) (start m : Meaning A) (cause : Cause) → k < length path → get_or path k step ≡ step → taken (asked_step step) m ≡ Err cause → followed (map asked_step (drop k path)) m ≡ followed (map asked_step path) start → followed (map asked_step path) start ≡ Err cause
+  path_refused path k step start m cause lt at refused so_far =
+      let rest : drop k path ≡ step ∷ drop (suc k) path = rw (drop-cons path k step) (ap (λ s. s ∷ drop (suc k) path) at) in
+      sym so_far ∙ (ap (λ steps. followed (map asked_step steps) m) rest ∙ rw refused refl)

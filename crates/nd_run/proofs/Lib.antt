@@ -1,5 +1,8 @@
 pub mod BadLines
 pub mod CallLaws
+pub mod ElementLaws
+pub mod StepTests
+pub mod StepLaws
 pub mod Driving
 pub mod Items
 pub mod Keywords
@@ -14,3 +17,4 @@ pub mod Splits
 pub mod FoldLemmas
 pub mod Gathers
 pub mod Runs
+pub mod PathLaws

@@ -5,7 +5,7 @@ use Rattle.nd_shape_and_slice.specs.Shape.{HasCheckedSize, nonzero_product, size
 use Rattle.nd_shape_and_slice.specs.declared.slice.Slice.{Slice}
 use Rattle.nd_run.specs.Numerals.{IsNat, IsInt, nat_of, int_of}
 use Rattle.nd_run.specs.Grammar.{AreAll, IsList, IsArray, IsEnd, IsSlice}
-use Rattle.nd_run.specs.Reading.{◌>>=◌, item_at, items_at, list_at, lengths_at, checked_size, array_at, end_of, slice_at}
+use Rattle.nd_run.specs.Reading.{◌>>=◌, item_at, items_at, many_at, list_at, lengths_at, checked_size, array_at, end_of, slice_at}
 use Rattle.nd_run.proofs.NumberLaws.{some_by, some_under, nat_takes, nat_again, int_takes, int_again, end_takes, end_again}
 
 -- a step that read something
@@ -22,6 +22,14 @@ pub record Front {X : Type 0} (Is : List (List ℕ) → X → Type 0) (words : L
   pub front : List (List ℕ)
   pub parts : words ≡ front ++ rest
   pub is : Is front x
+
+-- the same words with another first one
+pub with_word : {X : Type 0} {Is : List (List ℕ) → X → Type 0} (word name : List ℕ) (front rest : List (List ℕ)) (words : List (List ℕ)) (x : X) → word ≡ name → words ≡ front ++ rest → Is (name ∷ front) x → Front Is (word ∷ words) x rest
+with_word {X} {Is} word name front rest words x e parts is = record {
+  front = name ∷ front;
+  parts = ap (λ (w : List ℕ). w ∷ words) e ∙ ap (λ (ws : List (List ℕ)). name ∷ ws) parts;
+  is = is;
+}
 
 -- ---- one word
 
@@ -54,7 +62,7 @@ item_again of word x rest e = rw e refl
 
 pub items_take : {X : Type 0} (of : List ℕ → Option X) (Is : List ℕ → X → Type 0) → ((word : List ℕ) (x : X) → of word ≡ Some x → Is word x)
     → (n : ℕ) (words : List (List ℕ)) (xs : List X) (rest : List (List ℕ)) → items_at of n words ≡ Some (xs, rest) → Front (AreAll Is) words xs rest × (length xs ≡ n)
-unfolding items_at
+unfolding many_at
 items_take {X} of Is takes zero words xs rest e =
     let p = some_pair ([], words) (xs, rest) e in
     subst (λ (ys : List X). Front (AreAll Is) words ys rest × (length ys ≡ 0)) p.0 (record { front = []; parts = p.1; is = tt }, refl)
@@ -69,7 +77,7 @@ items_take {X} of Is takes (suc n) words xs rest e =
 
 pub items_again : {X : Type 0} (of : List ℕ → Option X) (Is : List ℕ → X → Type 0) → ((word : List ℕ) (x : X) → Is word x → of word ≡ Some x)
     → (front : List (List ℕ)) (xs : List X) (rest : List (List ℕ)) → AreAll Is front xs → items_at of (length xs) (front ++ rest) ≡ Some (xs, rest)
-unfolding items_at
+unfolding many_at
 items_again of Is again [] [] rest h = refl
 items_again of Is again [] (x ∷ xs) rest h = absurd h
 items_again of Is again (word ∷ words) [] rest h = absurd h

@@ -1,7 +1,6 @@
 -- A run, call by call.
-use Rattle.std.proofs.Common.{◌≡◌, ℕ, suc, ◌+◌, ◌<◌, ◌≤◌, List, [], ◌∷◌, ◌++◌, length, map, take, drop, get_or, refl, ap, sym, ◌∙◌, subst, arith, inl, inr, add-one, drop-cons}
-use Rattle.std.proofs.lemmas.List.{take_more, take_all, length-map, get_or-map, take-append-drop}
-use Rattle.std.specs.declared.result.Result.{Result}
+use Rattle.std.proofs.Common.{◌≡◌, ℕ, suc, ◌+◌, ◌<◌, ◌≤◌, List, [], ◌∷◌, ◌++◌, length, take, drop, get_or, refl, ap, sym, ◌∙◌, subst, inr, add-one, drop-cons}
+use Rattle.std.proofs.lemmas.List.{take_more, take_all, take-append-drop}
 use Rattle.nd_array_core.specs.Meaning.{Meaning}
 use Rattle.nd_run.specs.Calls.{Asked, Said}
 use Rattle.nd_run.specs.Fold.{reply_to, after, replies_to, end_of, MayLackMemory, StopsBefore}

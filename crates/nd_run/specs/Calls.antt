@@ -1,6 +1,7 @@
 -- Calls and replies without where they lie in memory.
 use Rattle.std.specs.Prelude.{ℕ, List, map, Option}
 use Rattle.nd_shape_and_slice.specs.declared.slice.Slice.{Slice}
+use Rattle.nd_shape_and_slice.specs.declared.slice_info.SliceInfoElem.{SliceInfoElem}
 use Rattle.nd_run.specs.declared.calls.Step.{Step}
 use Rattle.nd_run.specs.declared.calls.Step.TheVariants as steps
 use Rattle.nd_run.specs.declared.calls.Question.{Question}
@@ -10,10 +11,23 @@ use Rattle.nd_run.specs.declared.calls.Call.TheVariants as calls
 use Rattle.nd_run.specs.declared.calls.Reply.{Reply}
 use Rattle.nd_run.specs.declared.calls.Reply.TheVariants as replies
 
--- a step: a slice of one axis, or the axes in another order
+-- A step: a slice of one axis, or of each; one coordinate of an axis, which stays or goes; the axes in another order,
+-- in the opposite one, or two of them exchanged; an axis counted from its far end, put in, or taken out; no axes of
+-- length 1; the diagonal; a larger shape.
 pub data AskedStep : Type 0 where
   SlicedAxis : (axis : ℕ) (slice : Slice) → AskedStep
+  Sliced : (elements : List SliceInfoElem) → AskedStep
+  Collapsed : (axis index : ℕ) → AskedStep
+  Indexed : (axis index : ℕ) → AskedStep
   Permuted : (axes : List ℕ) → AskedStep
+  Reversed : AskedStep
+  Exchanged : (a b : ℕ) → AskedStep
+  Inverted : (axis : ℕ) → AskedStep
+  Inserted : (axis : ℕ) → AskedStep
+  Removed : (axis : ℕ) → AskedStep
+  Squeezed : AskedStep
+  Diagonal : AskedStep
+  Widened : (lengths : List ℕ) → AskedStep
 
 -- a question: the lengths, all elements, or the element of an index
 pub data Asking : Type 0 where
@@ -36,7 +50,18 @@ pub data Said (A : Type 0) : Type 0 where
 
 abbrev pub asked_step : Step → AskedStep
 asked_step (steps.SliceAxis axis slice) = SlicedAxis axis slice
+asked_step (steps.Slice elements) = Sliced elements.items
+asked_step (steps.Collapse axis index) = Collapsed axis index
+asked_step (steps.IndexAxis axis index) = Indexed axis index
 asked_step (steps.Permute axes) = Permuted axes.items
+asked_step steps.Reverse = Reversed
+asked_step (steps.SwapAxes a b) = Exchanged a b
+asked_step (steps.Invert axis) = Inverted axis
+asked_step (steps.InsertAxis axis) = Inserted axis
+asked_step (steps.RemoveAxis axis) = Removed axis
+asked_step steps.Squeeze = Squeezed
+asked_step steps.Diag = Diagonal
+asked_step (steps.Broadcast lengths) = Widened lengths.items
 
 abbrev pub asking : Question → Asking
 asking questions.Shape = AskShape

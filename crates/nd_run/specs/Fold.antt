@@ -1,15 +1,14 @@
 -- What a list of calls answers, and what it leaves of an array's meaning: a fold over the calls. No view, borrow
 -- or storage occurs.
-use Rattle.std.specs.Prelude.{◌≡◌, ℕ, nat_lt, List, [], ◌∷◌, ◌++◌, length, slice_index, Result, Ok, Err, IsOk, ◌⊎◌, if◌then◌else◌}
+use Rattle.std.specs.Prelude.{◌≡◌, ℕ, true, List, [], ◌∷◌, ◌++◌, Result, Ok, Err, IsOk, ◌⊎◌}
 use Rattle.std.specs.List.{filter_map}
 use Rattle.std.specs.Result.{result_unwrap_or}
-use Rattle.nd_shape_and_slice.specs.Shape.{indexes_of}
-use Rattle.nd_shape_and_slice.specs.Axes.{names_each_axis, permuted, unpermuted}
-use Rattle.nd_shape_and_slice.specs.Slice.{fits_axis, sliced_shape, sliced_index}
+use Rattle.nd_shape_and_slice.specs.Shape.{indexes_of, in_box}
 use Rattle.nd_array_core.specs.Meaning.{Meaning, seen}
-use Rattle.nd_run.specs.Calls.{AskedStep, SlicedAxis, Permuted, Asking, AskShape, AskElements, AskElement, Asked, Keeping, About, Said, SaidDone, SaidRefused, SaidShape, SaidElements, SaidElement}
+use Rattle.nd_run.specs.Calls.{AskedStep, Asking, AskShape, AskElements, AskElement, Asked, Keeping, About, Said, SaidDone, SaidRefused, SaidShape, SaidElements, SaidElement}
 use Rattle.std.specs.Prelude.{map}
 use Rattle.nd_run.specs.Calls.{said}
+use Rattle.nd_run.specs.Steps.{refusal, keep_refusal, unless, shape_after, index_before, shape_along, index_along}
 use Rattle.nd_run.specs.declared.run.RunFault.{RunFault}
 use Rattle.nd_run.specs.declared.run.RunFault.TheVariants as faults
 use Rattle.nd_run.specs.declared.cause.Cause.{Cause}
@@ -19,14 +18,16 @@ use Rattle.nd_run.specs.declared.cause.Cause.TheVariants as causes
 abbrev pub elements_of : {A : Type 0} → Meaning A → List A
 elements_of m = filter_map m.at (indexes_of m.shape)
 
--- the array after a step, or the first cause against it
+-- what is seen after a step
+abbrev pub changed : {A : Type 0} → AskedStep → Meaning A → Meaning A
+changed step m = seen (shape_after step m.shape) (index_before step m.shape) m
+
+-- that, or the first cause against the step: where it is only looked at, and where it is kept
 abbrev pub taken : {A : Type 0} → AskedStep → Meaning A → Result (Meaning A) Cause
-taken (SlicedAxis axis slice) m =
-    if nat_lt axis (length m.shape)
-    then (if fits_axis (slice_index m.shape axis) slice then Ok (seen (sliced_shape m.shape axis slice) (sliced_index m.shape axis slice) m) else Err causes.Slice)
-    else Err causes.Axis
-taken (Permuted axes) m =
-    if names_each_axis axes (length m.shape) then Ok (seen (permuted axes m.shape) (unpermuted axes) m) else Err causes.Permutation
+taken step m = unless (refusal step m.shape) (changed step m)
+
+abbrev pub kept : {A : Type 0} → AskedStep → Meaning A → Result (Meaning A) Cause
+kept step m = unless (keep_refusal step m.shape) (changed step m)
 
 -- what comes after what went well
 abbrev pub and_then : {X Y E : Type 0} → Result X E → (X → Result Y E) → Result Y E
@@ -38,6 +39,13 @@ abbrev pub followed : {A : Type 0} → List AskedStep → Meaning A → Result (
 followed [] m = Ok m
 followed (step ∷ steps) m = and_then (taken step m) (followed steps)
 
+-- a path's meaning by the composition of its steps' maps: each index at its end names one at its start, and the same
+-- element
+abbrev pub LeadsAlong : {A : Type 0} → List AskedStep → Meaning A → Meaning A → Type 0
+LeadsAlong path m n =
+    (n.shape ≡ shape_along path m.shape)
+    × ((i : List ℕ) → in_box n.shape i ≡ true → (in_box m.shape (index_along path m.shape i) ≡ true) × (n.at i ≡ m.at (index_along path m.shape i)))
+
 abbrev pub answered : {A : Type 0} → Asking → Meaning A → Said A
 answered AskShape m = SaidShape m.shape
 answered AskElements m = SaidElements m.shape (elements_of m)
@@ -46,8 +54,12 @@ answered (AskElement index) m = SaidElement (m.at index)
 -- the number of a cause in a reply
 abbrev pub number_of : Cause → ℕ
 number_of causes.Axis = 1
+number_of causes.Index = 2
 number_of causes.Slice = 3
 number_of causes.Permutation = 4
+number_of causes.Shape = 5
+number_of causes.TooManyAxes = 7
+number_of causes.Broadcast = 8
 
 abbrev pub refused_or : {A X : Type 0} → Result X Cause → (X → Said A) → Said A
 refused_or (Ok x) reply = reply x
@@ -55,12 +67,12 @@ refused_or (Err cause) reply = SaidRefused (number_of cause)
 
 -- the reply to a call
 abbrev pub reply_to : {A : Type 0} → Asked → Meaning A → Said A
-reply_to (Keeping step) m = refused_or (taken step m) (λ _. SaidDone)
+reply_to (Keeping step) m = refused_or (kept step m) (λ _. SaidDone)
 reply_to (About path question) m = refused_or (followed path m) (answered question)
 
 -- the array after a call: a refusal changes nothing
 abbrev pub after : {A : Type 0} → Asked → Meaning A → Meaning A
-after (Keeping step) m = result_unwrap_or (taken step m) m
+after (Keeping step) m = result_unwrap_or (kept step m) m
 after (About path question) m = m
 
 abbrev pub replies_to : {A : Type 0} → List Asked → Meaning A → List (Said A)

@@ -2,7 +2,9 @@
 use Rattle.std.specs.Prelude.{◌≡◌, ℕ, ◌≤◌, List, [], ◌∷◌, ◌++◌, length, ℤ, Option, None, Some, codes}
 use Rattle.nd_shape_and_slice.specs.Shape.{HasCheckedSize, size_of}
 use Rattle.nd_shape_and_slice.specs.declared.slice.Slice.{Slice}
-use Rattle.nd_run.specs.Calls.{AskedStep, SlicedAxis, Permuted, Asking, AskShape, AskElements, AskElement, Asked, Keeping, About}
+use Rattle.nd_shape_and_slice.specs.declared.slice_info.SliceInfoElem.{SliceInfoElem}
+use Rattle.nd_shape_and_slice.specs.declared.slice_info.SliceInfoElem.TheVariants.{Slice as Part, Index, NewAxis}
+use Rattle.nd_run.specs.Calls.{AskedStep, SlicedAxis, Sliced, Collapsed, Indexed, Permuted, Reversed, Exchanged, Inverted, Inserted, Removed, Squeezed, Diagonal, Widened, Asking, AskShape, AskElements, AskElement, Asked, Keeping, About}
 use Rattle.nd_run.specs.Numerals.{IsNat, IsInt}
 
 -- as many writings as items, each writing the item at its place
@@ -34,9 +36,51 @@ IsSlice words slice =
     (start : List ℕ) × (end : List ℕ) × (step : List ℕ) × (words ≡ start ∷ end ∷ step ∷ [])
     × IsInt start slice.start × IsEnd end slice.end × IsInt step slice.step
 
+-- what is done with an axis: a slice of it, one coordinate, or a new one
+abbrev pub IsElement : List (List ℕ) → SliceInfoElem → Type 0
+IsElement words (Part start end step) = (rest : List (List ℕ)) × (words ≡ codes "s" ∷ rest) × IsSlice rest (record { start = start; end = end; step = step })
+IsElement words (Index k) = (word : List ℕ) × (words ≡ codes "i" ∷ word ∷ []) × IsInt word k
+IsElement words NewAxis = words ≡ codes "n" ∷ []
+
+-- the items one after another, each in the words that write it
+abbrev pub AreInTurn : {X : Type 0} → (List (List ℕ) → X → Type 0) → List (List ℕ) → List X → Type 0
+AreInTurn Is words [] = words ≡ []
+AreInTurn Is words (x ∷ xs) = (front : List (List ℕ)) × (back : List (List ℕ)) × (words ≡ front ++ back) × Is front x × AreInTurn Is back xs
+
+-- the word that a step begins with
+abbrev pub step_name : AskedStep → List ℕ
+step_name (SlicedAxis axis slice) = codes "cut"
+step_name (Sliced elements) = codes "slice"
+step_name (Collapsed axis index) = codes "collapse"
+step_name (Indexed axis index) = codes "index"
+step_name (Permuted axes) = codes "permute"
+step_name Reversed = codes "reverse"
+step_name (Exchanged a b) = codes "swapaxes"
+step_name (Inverted axis) = codes "invert"
+step_name (Inserted axis) = codes "insert"
+step_name (Removed axis) = codes "remove"
+step_name Squeezed = codes "squeeze"
+step_name Diagonal = codes "diag"
+step_name (Widened lengths) = codes "broadcast"
+
+-- the words behind it
+abbrev pub IsRest : List (List ℕ) → AskedStep → Type 0
+IsRest words (SlicedAxis axis slice) = (first : List ℕ) × (rest : List (List ℕ)) × (words ≡ first ∷ rest) × IsNat first axis × IsSlice rest slice
+IsRest words (Sliced elements) = (count : List ℕ) × (rest : List (List ℕ)) × (words ≡ count ∷ rest) × IsNat count (length elements) × AreInTurn IsElement rest elements
+IsRest words (Collapsed axis index) = AreAll IsNat words (axis ∷ index ∷ [])
+IsRest words (Indexed axis index) = AreAll IsNat words (axis ∷ index ∷ [])
+IsRest words (Permuted axes) = IsList words axes
+IsRest words Reversed = words ≡ []
+IsRest words (Exchanged a b) = AreAll IsNat words (a ∷ b ∷ [])
+IsRest words (Inverted axis) = AreAll IsNat words (axis ∷ [])
+IsRest words (Inserted axis) = AreAll IsNat words (axis ∷ [])
+IsRest words (Removed axis) = AreAll IsNat words (axis ∷ [])
+IsRest words Squeezed = words ≡ []
+IsRest words Diagonal = words ≡ []
+IsRest words (Widened lengths) = IsList words lengths
+
 abbrev pub IsStep : List (List ℕ) → AskedStep → Type 0
-IsStep words (SlicedAxis axis slice) = (first : List ℕ) × (rest : List (List ℕ)) × (words ≡ codes "cut" ∷ first ∷ rest) × IsNat first axis × IsSlice rest slice
-IsStep words (Permuted axes) = (rest : List (List ℕ)) × (words ≡ codes "permute" ∷ rest) × IsList rest axes
+IsStep words step = (rest : List (List ℕ)) × (words ≡ step_name step ∷ rest) × IsRest rest step
 
 -- any number of steps, each followed by a slash
 abbrev pub IsPath : List (List ℕ) → List AskedStep → Type 0

@@ -1,4 +1,5 @@
 pub mod Calls
+pub mod Steps
 pub mod Meaning
 pub mod Endings
 pub mod Grammar

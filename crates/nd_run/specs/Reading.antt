@@ -4,11 +4,13 @@ use Rattle.std.specs.Str.{bytes_eq}
 use Rattle.std.specs.Option.{option_map}
 use Rattle.nd_shape_and_slice.specs.Shape.{nonzero_product, size_of}
 use Rattle.nd_shape_and_slice.specs.declared.slice.Slice.{Slice}
+use Rattle.nd_shape_and_slice.specs.declared.slice_info.SliceInfoElem.{SliceInfoElem}
+use Rattle.nd_shape_and_slice.specs.declared.slice_info.SliceInfoElem.TheVariants.{Slice as Part, Index as At, NewAxis}
 use Rattle.nd_run.specs.declared.keyword.Keyword.{Keyword}
-use Rattle.nd_run.specs.declared.keyword.Keyword.TheVariants.{Start, Keep, Ask, Slash, Cut, Permute, Shape, Elements, Get, Other}
+use Rattle.nd_run.specs.declared.keyword.Keyword.TheVariants.{Start, Keep, Ask, Slash, Cut, Slice as SliceWord, Collapse, Index, Permute, Reverse, SwapAxes, Invert, Insert, Remove, Squeeze, Diag, Broadcast, Shape, Elements, Get, Other}
 use Rattle.nd_run.specs.declared.reader.fault.LineFault.{LineFault}
 use Rattle.nd_run.specs.declared.reader.fault.LineFault.TheVariants.{Bad, Memory}
-use Rattle.nd_run.specs.Calls.{AskedStep, SlicedAxis, Permuted, Asking, AskShape, AskElements, AskElement, Asked, Keeping, About}
+use Rattle.nd_run.specs.Calls.{AskedStep, SlicedAxis, Sliced, Collapsed, Indexed, Permuted, Reversed, Exchanged, Inverted, Inserted, Removed, Squeezed, Diagonal, Widened, Asking, AskShape, AskElements, AskElement, Asked, Keeping, About}
 use Rattle.nd_run.specs.Numerals.{nat_of, int_of}
 
 infixl 10 ◌>>=◌
@@ -37,13 +39,17 @@ abbrev pub item_at : {X : Type 0} → (List ℕ → Option X) → List (List ℕ
 item_at of [] = None
 item_at of (word ∷ words) = of word >>= λ x. Some (x, words)
 
--- that many words
-unfoldable pub items_at : {X : Type 0} → (List ℕ → Option X) → ℕ → List (List ℕ) → Option (List X × List (List ℕ))
-items_at of zero words = Some ([], words)
-items_at of (suc n) words = do
-  first ← item_at of words
-  others ← items_at of n first.1
+-- that many times what a reader reads
+unfoldable pub many_at : {X : Type 0} → (List (List ℕ) → Option (X × List (List ℕ))) → ℕ → List (List ℕ) → Option (List X × List (List ℕ))
+many_at read zero words = Some ([], words)
+many_at read (suc n) words = do
+  first ← read words
+  others ← many_at read n first.1
   Some (first.0 ∷ others.0, others.1)
+
+-- that many words
+abbrev pub items_at : {X : Type 0} → (List ℕ → Option X) → ℕ → List (List ℕ) → Option (List X × List (List ℕ))
+items_at of n words = many_at (item_at of) n words
 
 unfoldable pub list_at : List (List ℕ) → Option (List ℕ × List (List ℕ))
 list_at words = do
@@ -75,7 +81,18 @@ spelling Keep = codes "keep"
 spelling Ask = codes "ask"
 spelling Slash = codes "/"
 spelling Cut = codes "cut"
+spelling SliceWord = codes "slice"
+spelling Collapse = codes "collapse"
+spelling Index = codes "index"
 spelling Permute = codes "permute"
+spelling Reverse = codes "reverse"
+spelling SwapAxes = codes "swapaxes"
+spelling Invert = codes "invert"
+spelling Insert = codes "insert"
+spelling Remove = codes "remove"
+spelling Squeeze = codes "squeeze"
+spelling Diag = codes "diag"
+spelling Broadcast = codes "broadcast"
 spelling Shape = codes "shape"
 spelling Elements = codes "elements"
 spelling Get = codes "get"
@@ -87,7 +104,7 @@ keyword_among [] word = Other
 keyword_among (k ∷ ks) word = if bytes_eq word (spelling k) then k else keyword_among ks word
 
 abbrev pub named : List Keyword
-named = Start ∷ Keep ∷ Ask ∷ Slash ∷ Cut ∷ Permute ∷ Shape ∷ Elements ∷ Get ∷ []
+named = Start ∷ Keep ∷ Ask ∷ Slash ∷ Cut ∷ SliceWord ∷ Collapse ∷ Index ∷ Permute ∷ Reverse ∷ SwapAxes ∷ Invert ∷ Insert ∷ Remove ∷ Squeeze ∷ Diag ∷ Broadcast ∷ Shape ∷ Elements ∷ Get ∷ []
 
 unfoldable pub keyword_of : List ℕ → Keyword
 keyword_of word = keyword_among named word
@@ -108,29 +125,60 @@ slice_at words = do
   step ← item_at int_of end.1
   Some (record { start = start.0; end = end.0; step = step.0 }, step.1)
 
-unfoldable pub cut_at : List (List ℕ) → Option (AskedStep × List (List ℕ))
+-- two numbers
+unfoldable pub pair_at : List (List ℕ) → Option ((ℕ × ℕ) × List (List ℕ))
+pair_at words = do
+  first ← item_at nat_of words
+  second ← item_at nat_of first.1
+  Some ((first.0, second.0), second.1)
+
+-- an axis and a slice of it
+unfoldable pub cut_at : List (List ℕ) → Option ((ℕ × Slice) × List (List ℕ))
 cut_at words = do
   axis ← item_at nat_of words
   slice ← slice_at axis.1
-  Some (SlicedAxis axis.0 slice.0, slice.1)
+  Some ((axis.0, slice.0), slice.1)
 
-unfoldable pub permute_at : List (List ℕ) → Option (AskedStep × List (List ℕ))
-permute_at words = do
-  axes ← list_at words
-  Some (Permuted axes.0, axes.1)
+-- what is made of what was read
+unfoldable pub made : {X Y : Type 0} → (X → Y) → Option (X × List (List ℕ)) → Option (Y × List (List ℕ))
+made make read = do
+  parts ← read
+  Some (make parts.0, parts.1)
+
+-- an element of a list of slices, by its first word
+abbrev pub element_by : List ℕ → List (List ℕ) → Option (SliceInfoElem × List (List ℕ))
+element_by word words =
+    if bytes_eq word (codes "s")
+    then made (λ s. Part s.start s.end s.step) (slice_at words)
+    else (if bytes_eq word (codes "i") then made At (item_at int_of words) else (if bytes_eq word (codes "n") then Some (NewAxis, words) else None))
+
+unfoldable pub element_at : List (List ℕ) → Option (SliceInfoElem × List (List ℕ))
+element_at words = do
+  first ← word_at words
+  element_by first.0 first.1
+
+-- how many elements there are, and then they
+unfoldable pub elements_at : List (List ℕ) → Option (List SliceInfoElem × List (List ℕ))
+elements_at words = do
+  count ← item_at nat_of words
+  many_at element_at count.0 count.1
 
 -- the step that this keyword begins
 abbrev pub step_by : Keyword → List (List ℕ) → Option (AskedStep × List (List ℕ))
-step_by Cut words = cut_at words
-step_by Permute words = permute_at words
-step_by Start words = None
-step_by Keep words = None
-step_by Ask words = None
-step_by Slash words = None
-step_by Shape words = None
-step_by Elements words = None
-step_by Get words = None
-step_by Other words = None
+step_by Cut words = made (λ x. SlicedAxis x.0 x.1) (cut_at words)
+step_by SliceWord words = made Sliced (elements_at words)
+step_by Collapse words = made (λ x. Collapsed x.0 x.1) (pair_at words)
+step_by Index words = made (λ x. Indexed x.0 x.1) (pair_at words)
+step_by Permute words = made Permuted (list_at words)
+step_by Reverse words = Some (Reversed, words)
+step_by SwapAxes words = made (λ x. Exchanged x.0 x.1) (pair_at words)
+step_by Invert words = made Inverted (item_at nat_of words)
+step_by Insert words = made Inserted (item_at nat_of words)
+step_by Remove words = made Removed (item_at nat_of words)
+step_by Squeeze words = Some (Squeezed, words)
+step_by Diag words = Some (Diagonal, words)
+step_by Broadcast words = made Widened (list_at words)
+step_by _ words = None
 
 unfoldable pub step_at : List (List ℕ) → Option (AskedStep × List (List ℕ))
 step_at words = do
@@ -139,15 +187,19 @@ step_at words = do
 
 abbrev pub is_step : Keyword → Bool
 is_step Cut = true
+is_step SliceWord = true
+is_step Collapse = true
+is_step Index = true
 is_step Permute = true
-is_step Start = false
-is_step Keep = false
-is_step Ask = false
-is_step Slash = false
-is_step Shape = false
-is_step Elements = false
-is_step Get = false
-is_step Other = false
+is_step Reverse = true
+is_step SwapAxes = true
+is_step Invert = true
+is_step Insert = true
+is_step Remove = true
+is_step Squeeze = true
+is_step Diag = true
+is_step Broadcast = true
+is_step _ = false
 
 -- a step begins here
 abbrev pub begins_step : List (List ℕ) → Bool
@@ -156,15 +208,7 @@ begins_step (word ∷ words) = is_step (keyword_of word)
 
 abbrev pub is_slash : Keyword → Bool
 is_slash Slash = true
-is_slash Cut = false
-is_slash Permute = false
-is_slash Start = false
-is_slash Keep = false
-is_slash Ask = false
-is_slash Shape = false
-is_slash Elements = false
-is_slash Get = false
-is_slash Other = false
+is_slash _ = false
 
 -- a step and the slash after it
 unfoldable pub leg_at : List (List ℕ) → Option (AskedStep × List (List ℕ))
@@ -187,13 +231,7 @@ abbrev pub question_by : Keyword → List (List ℕ) → Option (Asking × List 
 question_by Shape words = Some (AskShape, words)
 question_by Elements words = Some (AskElements, words)
 question_by Get words = get_at words
-question_by Cut words = None
-question_by Permute words = None
-question_by Start words = None
-question_by Keep words = None
-question_by Ask words = None
-question_by Slash words = None
-question_by Other words = None
+question_by _ words = None
 
 unfoldable pub question_at : List (List ℕ) → Option (Asking × List (List ℕ))
 question_at words = do
@@ -214,14 +252,7 @@ ask_at n words = do
 abbrev pub call_by : ℕ → Keyword → List (List ℕ) → Option (Asked × List (List ℕ))
 call_by n Keep words = keep_at words
 call_by n Ask words = ask_at n words
-call_by n Shape words = None
-call_by n Elements words = None
-call_by n Get words = None
-call_by n Cut words = None
-call_by n Permute words = None
-call_by n Start words = None
-call_by n Slash words = None
-call_by n Other words = None
+call_by n _ words = None
 
 unfoldable pub call_at : ℕ → List (List ℕ) → Option (Asked × List (List ℕ))
 call_at n words = do
@@ -241,15 +272,7 @@ call_of n words = do
 
 abbrev pub is_start : Keyword → Bool
 is_start Start = true
-is_start Slash = false
-is_start Cut = false
-is_start Permute = false
-is_start Keep = false
-is_start Ask = false
-is_start Shape = false
-is_start Elements = false
-is_start Get = false
-is_start Other = false
+is_start _ = false
 
 -- the array that the words of a line start with
 unfoldable pub start_of : List (List ℕ) → Option (List ℕ × List ℤ)

@@ -1,14 +1,36 @@
 //! The calls that a script makes on its array, and the replies to them.
 
-use nd_shape_and_slice::Slice;
+use nd_shape_and_slice::{Slice, SliceInfoElem};
 
-/// A call that gives another array: how it is seen, or its axes in another order.
+/// A call that gives another array of the same elements: which of them are seen, and along which axes.
 #[derive(Debug, Drop)]
 pub enum Step {
     /// An axis, and the slice of it that stays.
     SliceAxis(usize, Slice),
+    /// What is done with each axis in order, and where new ones are put in.
+    Slice(Vec<SliceInfoElem>),
+    /// An axis, and its only coordinate that stays. The axis stays with length 1.
+    Collapse(usize, usize),
+    /// An axis that goes, and its only coordinate that stays.
+    IndexAxis(usize, usize),
     /// The axes in the order in which they stand afterwards.
     Permute(Vec<usize>),
+    /// The axes in the opposite order.
+    Reverse,
+    /// Two axes that are exchanged.
+    SwapAxes(usize, usize),
+    /// An axis whose coordinates are counted from the far end.
+    Invert(usize),
+    /// Where an axis of length 1 is put in.
+    InsertAxis(usize),
+    /// An axis that goes. Its coordinate 0 stays.
+    RemoveAxis(usize),
+    /// The axes of length 1 that go, as long as another axis is left.
+    Squeeze,
+    /// The elements whose coordinates are all the same.
+    Diag,
+    /// The lengths under which the same elements are seen again and again. Such a step can't be kept.
+    Broadcast(Vec<usize>),
 }
 
 /// What is asked of an array.

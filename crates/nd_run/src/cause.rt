@@ -7,10 +7,18 @@ ghost use Rattle.std.specs.Prelude.{◌≡◌};
 pub enum Cause {
     /// An axis that the array hasn't.
     Axis = 1,
+    /// A coordinate that the axis hasn't.
+    Index = 2,
     /// A slice that doesn't fit its axis.
     Slice = 3,
     /// A list that doesn't name each axis once.
     Permutation = 4,
+    /// A list or a shape that doesn't go with the array's.
+    Shape = 5,
+    /// More axes than an array can have.
+    TooManyAxes = 7,
+    /// No broadcast to these lengths.
+    Broadcast = 8,
 }
 
 impl Cause {

@@ -11,7 +11,18 @@ pub enum Keyword {
     Ask,
     Slash,
     Cut,
+    Slice,
+    Collapse,
+    Index,
     Permute,
+    Reverse,
+    SwapAxes,
+    Invert,
+    Insert,
+    Remove,
+    Squeeze,
+    Diag,
+    Broadcast,
     Shape,
     Elements,
     Get,
@@ -19,13 +30,24 @@ pub enum Keyword {
     Other,
 }
 
-const NAMED: [Keyword; 9] = [
+const NAMED: [Keyword; 20] = [
     Keyword::Start,
     Keyword::Keep,
     Keyword::Ask,
     Keyword::Slash,
     Keyword::Cut,
+    Keyword::Slice,
+    Keyword::Collapse,
+    Keyword::Index,
     Keyword::Permute,
+    Keyword::Reverse,
+    Keyword::SwapAxes,
+    Keyword::Invert,
+    Keyword::Insert,
+    Keyword::Remove,
+    Keyword::Squeeze,
+    Keyword::Diag,
+    Keyword::Broadcast,
     Keyword::Shape,
     Keyword::Elements,
     Keyword::Get,
@@ -54,7 +76,18 @@ impl Keyword {
             Keyword::Ask => b"ask",
             Keyword::Slash => b"/",
             Keyword::Cut => b"cut",
+            Keyword::Slice => b"slice",
+            Keyword::Collapse => b"collapse",
+            Keyword::Index => b"index",
             Keyword::Permute => b"permute",
+            Keyword::Reverse => b"reverse",
+            Keyword::SwapAxes => b"swapaxes",
+            Keyword::Invert => b"invert",
+            Keyword::Insert => b"insert",
+            Keyword::Remove => b"remove",
+            Keyword::Squeeze => b"squeeze",
+            Keyword::Diag => b"diag",
+            Keyword::Broadcast => b"broadcast",
             Keyword::Shape => b"shape",
             Keyword::Elements => b"elements",
             Keyword::Get => b"get",
@@ -66,6 +99,21 @@ impl Keyword {
     pub fn is_step(self) -> bool
         ensures { result ≡ is_step self }
     {
-        matches!(self, Keyword::Cut | Keyword::Permute)
+        matches!(
+            self,
+            Keyword::Cut
+                | Keyword::Slice
+                | Keyword::Collapse
+                | Keyword::Index
+                | Keyword::Permute
+                | Keyword::Reverse
+                | Keyword::SwapAxes
+                | Keyword::Invert
+                | Keyword::Insert
+                | Keyword::Remove
+                | Keyword::Squeeze
+                | Keyword::Diag
+                | Keyword::Broadcast
+        )
     }
 }

@@ -13,6 +13,7 @@ mod reader;
 mod run;
 #[cfg(test)]
 mod script_tests;
+mod steps;
 #[cfg(test)]
 mod tests;
 mod watched;

@@ -9,6 +9,7 @@ ghost use Rattle.nd_run.specs.Script.{AskedScript, IsScript, IsFirstBad, GivesSc
 pub mod fault;
 mod items;
 mod line;
+mod step;
 
 use crate::calls::Call;
 use crate::words::{is_wordless, split_line};

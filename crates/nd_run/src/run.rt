@@ -1,63 +1,30 @@
 //! A list of calls on one array.
 
-ghost use Rattle.std.specs.Prelude.{◌≡◌, ◌<◌, ◌≤◌, ℕ, length, map, MatchResult, Ok, Err, IfOk, IfErr, OnOk, OnErr};
+ghost use Rattle.std.specs.Prelude.{◌≡◌, map, MatchResult, Ok, Err, IfOk, IfErr, OnErr};
 ghost use Rattle.nd_array_core.specs.Meaning.{meaning_of};
-ghost use Rattle.nd_run.specs.Calls.{asked, asked_step, asking, said, SlicedAxis, Permuted, About};
-ghost use Rattle.nd_run.specs.Fold.{taken, followed, answered, reply_to, after, replies_to, end_of, elements_of, number_of, MayLackMemory, StopsBefore, replies_before};
+ghost use Rattle.nd_run.specs.Calls.{asked, asked_step, asking, said, Keeping, About};
+ghost use Rattle.nd_run.specs.Fold.{followed, LeadsAlong, answered, reply_to, after, replies_to, end_of, elements_of, number_of, MayLackMemory, StopsBefore, replies_before};
 
 use crate::calls::{Call, Question, Reply, Step};
 use crate::cause::Cause;
-use nd_array_core::{Array, ArrayBase, ArrayView, Data};
-use nd_shape_and_slice::{Axis, IxDyn, MAX_AXES, Slice, axes_fit, index_of_rank, slice_fits};
+use crate::steps::{advance, keep_refusal, take_step};
+use nd_array_core::{Array, ArrayView};
+use nd_shape_and_slice::{IxDyn, MAX_AXES, index_of_rank};
 use std::alloc::{AllocError, Global};
 
-/// Slices one axis, or says why not.
-fn cut_axis<S: Data>(
-    array: &mut ArrayBase<S, IxDyn>,
-    axis: usize,
-    slice: Slice,
-) -> Result<(), Cause>
-    ensures { MatchResult result (λ _. taken (SlicedAxis axis slice) (meaning_of array.old) ≡ Ok (meaning_of array.new)) (λ cause. (taken (SlicedAxis axis slice) (meaning_of array.old) ≡ Err cause) × (meaning_of array.new ≡ meaning_of array.old)) }
-{
-    if axis >= array.ndim() {
-        return Err(Cause::Axis);
-    }
-    if !slice_fits(array.len_of(Axis(axis)), slice) {
-        return Err(Cause::Slice);
-    }
-    array.slice_axis_inplace(Axis(axis), slice);
-    Ok(())
-}
-
-/// Puts the axes in another order, or says why not.
-fn permute<S: Data>(array: &mut ArrayBase<S, IxDyn>, axes: &[usize]) -> Result<(), Cause>
-    ensures { MatchResult result (λ _. taken (Permuted axes.now) (meaning_of array.old) ≡ Ok (meaning_of array.new)) (λ cause. (taken (Permuted axes.now) (meaning_of array.old) ≡ Err cause) × (meaning_of array.new ≡ meaning_of array.old)) }
-{
-    if !axes_fit(axes, array.ndim()) {
-        return Err(Cause::Permutation);
-    }
-    array.permute_axes(IxDyn::new(axes));
-    Ok(())
-}
-
-/// Takes one step, or says why not.
-fn take_step<S: Data>(array: &mut ArrayBase<S, IxDyn>, step: &Step) -> Result<(), Cause>
-    ensures { MatchResult result (λ _. taken (asked_step step.now) (meaning_of array.old) ≡ Ok (meaning_of array.new)) (λ cause. (taken (asked_step step.now) (meaning_of array.old) ≡ Err cause) × (meaning_of array.new ≡ meaning_of array.old)) }
-{
-    match step {
-        Step::SliceAxis(axis, slice) => cut_axis(array, *axis, *slice),
-        Step::Permute(axes) => permute(array, axes.as_slice()),
-    }
-}
-
 /// Goes along a path of steps, or says why not.
-fn follow_path<S: Data>(view: &mut ArrayBase<S, IxDyn>, path: &[Step]) -> Result<(), Cause>
-    ensures { MatchResult result (λ _. followed (map asked_step path.now) (meaning_of view.old) ≡ Ok (meaning_of view.new)) (λ cause. followed (map asked_step path.now) (meaning_of view.old) ≡ Err cause) }
+fn follow_path<'a, A>(
+    view: ArrayView<'a, A, IxDyn>,
+    path: &[Step],
+) -> Result<ArrayView<'a, A, IxDyn>, Cause>
+    ensures path { MatchResult result (λ end. followed (map asked_step path.now) (meaning_of view.entry) ≡ Ok (meaning_of end)) (λ cause. followed (map asked_step path.now) (meaning_of view.entry) ≡ Err cause) }
+    ensures along { IfOk result (λ end. LeadsAlong (map asked_step path.now) (meaning_of view.entry) (meaning_of end)) }
 {
+    let mut view = view;
     for step in path {
-        take_step(view, step)?;
+        view = advance(view, step)?;
     }
-    Ok(())
+    Ok(view)
 }
 
 /// The elements in row-major order.
@@ -110,30 +77,43 @@ fn ask<A: Clone>(
     ensures reply { IfOk result (λ reply. said reply ≡ reply_to (About (map asked_step path.now) (asking question.now)) (meaning_of array.now)) }
     ensures memory { OnErr result (MayLackMemory (About (map asked_step path.now) (asking question.now)) (meaning_of array.now)) }
 {
-    let mut view = array.view();
-    match follow_path(&mut view, path) {
-        Ok(()) => answer(alloc, &view, question),
+    match follow_path(array.view(), path) {
+        Ok(view) => answer(alloc, &view, question),
         Err(cause) => Ok(Reply::Refused(cause.number())),
     }
 }
 
-/// Carries out one call. A refusal changes nothing.
+/// The step's result in the array's place. A refusal changes nothing.
+fn keep<A>(array: Array<A, IxDyn>, step: &Step) -> (Reply<A>, Array<A, IxDyn>)
+    ensures reply { said result.0 ≡ reply_to (Keeping (asked_step step.now)) (meaning_of array) }
+    ensures array { meaning_of result.1 ≡ after (Keeping (asked_step step.now)) (meaning_of array) }
+{
+    match keep_refusal(array.shape(), step) {
+        None => (Reply::Done, take_step(array, step)),
+        Some(cause) => (Reply::Refused(cause.number()), array),
+    }
+}
+
+/// A reply, and the array as the call left it.
+type Acted<A> = (Reply<A>, Array<A, IxDyn>);
+
+/// Carries out one call.
 fn act<A: Clone + Drop>(
     alloc: Global,
-    array: &mut Array<A, IxDyn>,
+    array: Array<A, IxDyn>,
     call: &Call,
-) -> Result<Reply<A>, AllocError>
+) -> Result<Acted<A>, AllocError>
     requires { (x y : A) → A.is_clone x y → y ≡ x }
-    ensures reply { IfOk result (λ reply. said reply ≡ reply_to (asked call.now) (meaning_of array.old)) }
-    ensures array { OnOk result (meaning_of array.new ≡ after (asked call.now) (meaning_of array.old)) }
-    ensures memory { OnErr result (MayLackMemory (asked call.now) (meaning_of array.old)) }
+    ensures reply { IfOk result (λ acted. said acted.0 ≡ reply_to (asked call.now) (meaning_of array)) }
+    ensures array { IfOk result (λ acted. meaning_of acted.1 ≡ after (asked call.now) (meaning_of array)) }
+    ensures memory { OnErr result (MayLackMemory (asked call.now) (meaning_of array)) }
 {
     match call {
-        Call::Keep(step) => match take_step(array, step) {
-            Ok(()) => Ok(Reply::Done),
-            Err(cause) => Ok(Reply::Refused(cause.number())),
-        },
-        Call::Ask(path, question) => ask(alloc, array, path.as_slice(), question),
+        Call::Keep(step) => Ok(keep(array, step)),
+        Call::Ask(path, question) => {
+            let reply = ask(alloc, &array, path.as_slice(), question)?;
+            Ok((reply, array))
+        }
     }
 }
 
@@ -162,8 +142,11 @@ pub fn run<A: Clone + Drop>(
     };
     let mut array = start;
     for call in calls {
-        match act(alloc, &mut array, call) {
-            Ok(reply) => replies.push_reserved(reply),
+        match act(alloc, array, call) {
+            Ok((reply, left)) => {
+                replies.push_reserved(reply);
+                array = left;
+            }
             Err(_) => return Err(RunFault::Memory(replies)),
         }
     }

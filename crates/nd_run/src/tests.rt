@@ -107,9 +107,58 @@ const BAD_CALLS: [&[u8]; 22] = [
     b"ask get 1",
 ];
 
+// So is each of these: steps with a word too few or too many, or with one that is no such number.
+const BAD_STEPS: [&[u8]; 45] = [
+    b"reverse",
+    b"keep reverse 0",
+    b"keep Reverse",
+    b"ask reverse",
+    b"ask reverse shape",
+    b"ask reverse /",
+    b"keep collapse 0",
+    b"keep collapse 0 -1",
+    b"keep collapse 0 0 0",
+    b"keep index 0",
+    b"keep index _ 0",
+    b"keep index 0 0 0",
+    b"keep swapaxes 0",
+    b"keep swapaxes 0 18446744073709551616",
+    b"keep swapaxes 0 0 0",
+    b"keep invert",
+    b"keep invert -1",
+    b"keep invert 0 0",
+    b"keep invert 18446744073709551616",
+    b"keep insert",
+    b"keep insert +1",
+    b"keep insert 0 0",
+    b"keep remove",
+    b"keep remove _",
+    b"keep remove 0 0",
+    b"keep diag 0",
+    b"keep diagonal",
+    b"keep slice",
+    b"keep slice -1",
+    b"keep slice 1",
+    b"keep slice 2 n",
+    b"keep slice 1 n n",
+    b"keep slice 1 s 0 _",
+    b"keep slice 1 s _ 0 1",
+    b"keep slice 1 s 0 0 1 1",
+    b"keep slice 1 i",
+    b"keep slice 1 i _",
+    b"keep slice 1 i 9223372036854775808",
+    b"keep slice 1 0 1 1",
+    b"keep slice 1 x",
+    b"keep slice 18446744073709551615 n",
+    b"keep squeeze 0",
+    b"keep broadcast",
+    b"keep broadcast 2 1",
+    b"keep broadcast 1 -1",
+];
+
 #[test]
 fn bad_calls(rt: HostRuntime) -> Result<(), Fail> {
-    for call in BAD_CALLS {
+    for call in BAD_CALLS.iter().chain(&BAD_STEPS) {
         let mut text = Vec::from_slice(rt.alloc(), b"\nstart 1 1 5\nask shape\n \n")?;
         text.extend_from_slice(call)?;
         text.extend_from_slice(b"\nkeep\n")?;

@@ -1,12 +1,12 @@
 -- The F strides written one axis at a time, from the first axis on.
-use Rattle.std.proofs.Common.{false, true, ◌≡◌, ℕ, zero, suc, ◌+◌, ◌-◌, ◌*◌, ◌<◌, ◌≤◌, List, [], ◌∷◌, ◌++◌, length, take, drop, get_or, set, drop-cons, add-one, ℤ, pos, refl, ap, sym, ◌∙◌, subst, arith, append_assoc}
-use Rattle.std.proofs.Math.Nat.{mul-le-mul_left, mul-le-mul_right, mul_comm, mul_assoc}
+use Rattle.std.proofs.Common.{false, true, ◌≡◌, ℕ, zero, suc, ◌+◌, ◌*◌, ◌<◌, ◌≤◌, List, [], ◌∷◌, ◌++◌, length, take, drop, get_or, set, drop-cons, add-one, ℤ, pos, refl, ap, sym, ◌∙◌, subst, arith, append_assoc}
+use Rattle.std.proofs.Math.Nat.{mul-le-mul_left, mul_assoc}
 use Rattle.std.proofs.lemmas.Bool.{false≢true}
 use Rattle.std.proofs.lemmas.List.{take_more_set, length-set, take_all, append-nil}
 use Rattle.nd_shape_and_slice.specs.Shape.{size_of, nonzero_product, HasCheckedSize}
 use Rattle.nd_shape_and_slice.specs.Strides.{column_strides_from}
 use Rattle.nd_shape_and_slice.proofs.Sizes.{size_of-drop}
-use Rattle.nd_shape_and_slice.proofs.RowMajor.{positive-cons, nonzero_product-size_of}
+use Rattle.nd_shape_and_slice.proofs.RowMajor.{nonzero_product-size_of}
 use Rattle.nd_shape_and_slice.proofs.Ranks.{positive_at}
 
 -- the axes before this one have their strides, and the step is the product of their lengths

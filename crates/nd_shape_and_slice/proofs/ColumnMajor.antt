@@ -1,11 +1,8 @@
 -- Column-major ranks and F strides: an index lies as far from the first place as its column-major rank says.
-use Rattle.std.proofs.Common.{◌≡◌, ℕ, zero, suc, ◌+◌, ◌-◌, ◌*◌, ◌<◌, ◌≤◌, ◌^◌, Bool, true, false, cond, eqb, ltb, leb, ◌&&◌, List, [], ◌∷◌, ◌++◌, length, take, drop, get_or, set, replicate, drop-cons, add-one, ℤ, pos, ◌+ℤ◌, ◌*ℤ◌, nat_abs, refl, ap, sym, ◌∙◌, subst, arith, append_assoc}
+use Rattle.std.proofs.Common.{◌≡◌, ℕ, zero, suc, ◌+◌, ◌-◌, ◌*◌, ◌<◌, ◌≤◌, Bool, true, false, cond, eqb, leb, List, [], ◌∷◌, length, get_or, replicate, ℤ, pos, ◌+ℤ◌, ◌*ℤ◌, nat_abs, refl, ap, sym, ◌∙◌, arith}
 use Rattle.std.proofs.Math.Nat.{mul-le-mul_left, mul_comm, mul_assoc}
-use Rattle.std.proofs.lemmas.Bool.{false≢true}
-use Rattle.std.proofs.lemmas.Int.{ints}
-use Rattle.std.proofs.lemmas.List.{take_more_set, length-set, take_all}
 use Rattle.std.proofs.lemmas.Bool.Decides.{nat_tests}
-use Rattle.nd_shape_and_slice.specs.Shape.{in_box, size_of, column_rank, HasCheckedSize}
+use Rattle.nd_shape_and_slice.specs.Shape.{in_box, size_of, column_rank}
 use Rattle.nd_shape_and_slice.specs.Place.{offset_of, span_of, span_within, magnitude_at, IsSeparated}
 use Rattle.nd_shape_and_slice.specs.Strides.{column_strides_from, f_strides}
 use Rattle.nd_shape_and_slice.proofs.RowMajor.{in_box-cons, positive-cons}

@@ -7,3 +7,7 @@ pub mod SliceLists
 pub mod ColumnMajor
 pub mod ColumnLoop
 pub mod Copied
+pub mod SliceRows
+pub mod Multiples
+pub mod Progressions
+pub mod CommonElements

@@ -1,9 +1,9 @@
 -- The product of the lengths that aren't 0, taken one length at a time.
-use Rattle.std.proofs.Common.{◌≡◌, ℕ, zero, suc, ◌+◌, ◌*◌, ◌<◌, ◌≤◌, ◌^◌, ◌≢◌, Bool, true, false, cond, eqb, List, [], ◌∷◌, ◌++◌, length, take, drop, get_or, refl, ap, sym, ◌∙◌, subst, arith, add-one, drop-cons}
-use Rattle.std.proofs.Math.Nat.{mul-le-mul_left, mul_comm, mul_assoc}
+use Rattle.std.proofs.Common.{◌≡◌, ℕ, zero, suc, ◌+◌, ◌*◌, ◌<◌, ◌≤◌, ◌≢◌, Bool, true, false, cond, eqb, List, [], ◌∷◌, length, drop, get_or, refl, ap, sym, ◌∙◌, arith, add-one, drop-cons}
+use Rattle.std.proofs.Math.Nat.{mul-le-mul_left, mul_assoc}
 use Rattle.std.specs.List.{list_any}
 use Rattle.std.proofs.lemmas.Bool.Decides.{nat_tests}
-use Rattle.nd_shape_and_slice.specs.Shape.{nonzero_product, size_of, HasCheckedSize}
+use Rattle.nd_shape_and_slice.specs.Shape.{nonzero_product, size_of}
 
 -- a length that isn't 0 is a factor
 pub nonzero_product-cons : (n : ℕ) (ns : List ℕ) → n ≢ 0 → nonzero_product (n ∷ ns) ≡ n * nonzero_product ns

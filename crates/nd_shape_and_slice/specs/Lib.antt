@@ -6,3 +6,4 @@ pub mod Strides
 pub mod SliceInfo
 pub mod Builder
 pub mod Descriptions
+pub mod Meeting

@@ -1,6 +1,6 @@
 -- Where the elements of an array lie: the place of an index is the first place plus, for each axis, the
 -- coordinate times the axis's stride, in whole numbers without bounds.
-use Rattle.std.specs.Prelude.{ℕ, ◌+◌, ◌-◌, ◌*◌, ◌<◌, ◌≡◌, nat_le, List, [], ◌∷◌, slice_index, ℤ, pos, negsuc, ◌+ℤ◌, ◌*ℤ◌, nat_abs, if◌then◌else◌}
+use Rattle.std.specs.Prelude.{ℕ, ◌+◌, ◌-◌, ◌*◌, ◌<◌, nat_le, List, [], ◌∷◌, slice_index, ℤ, pos, ◌+ℤ◌, ◌*ℤ◌, nat_abs, if◌then◌else◌}
 use Rattle.std.proofs.Common.{get_or}
 
 -- how far from the first place an index lies under these strides

@@ -1,6 +1,6 @@
 -- A shape is a list with one length for each axis. An index of it is a list with one coordinate for each
 -- axis. What is said here knows no storage and no stride.
-use Rattle.std.specs.Prelude.{ℕ, ◌+◌, ◌*◌, ◌/◌, ◌%◌, ◌^◌, ◌<◌, ◌≡◌, Bool, true, false, ◌&&◌, nat_lt, List, [], ◌∷◌, map, length, zero, suc}
+use Rattle.std.specs.Prelude.{ℕ, ◌+◌, ◌*◌, ◌/◌, ◌%◌, ◌^◌, ◌<◌, Bool, true, false, ◌&&◌, nat_lt, List, [], ◌∷◌, map, zero, suc}
 use Rattle.std.specs.List.{flat_map, range_with_len}
 
 -- the index is in the shape's box: one coordinate for each axis, each below the axis's length

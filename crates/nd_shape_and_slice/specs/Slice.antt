@@ -1,6 +1,6 @@
 -- What a slice of one axis names: which slices fit, how long the result is, and the old coordinate that
 -- each new one names.
-use Rattle.std.specs.Prelude.{ℕ, suc, zero, ◌+◌, ◌-◌, ◌*◌, ◌/◌, ◌≡◌, Bool, true, false, ◌&&◌, not, nat_lt, nat_le, nat_eq, ℤ, pos, negsuc, nat_abs, Option, None, Some, is_some, if◌then◌else◌, max, List, slice_set, slice_index}
+use Rattle.std.specs.Prelude.{ℕ, suc, ◌+◌, ◌-◌, ◌*◌, ◌/◌, Bool, ◌&&◌, not, nat_lt, nat_le, nat_eq, ℤ, pos, negsuc, nat_abs, Option, None, Some, is_some, if◌then◌else◌, max, List, slice_set, slice_index}
 use Rattle.std.specs.Option.{unwrap_or}
 use Rattle.nd_shape_and_slice.specs.declared.slice.Slice.{Slice}
 

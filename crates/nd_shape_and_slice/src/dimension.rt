@@ -104,3 +104,16 @@ pub trait Dimension: AxisCount + Copy {
         self.slice().len()
     }
 }
+
+/// A dimension made from another. ndarray's `Dimension::from_dimension`.
+pub trait FromDimension: Dimension {
+    /// The dimension with another's lengths; None exactly where it can't have as many axes.
+    fn from_dimension<E: Dimension>(other: &E) -> Option<Self>
+        ensures { MatchOption result (Self.has_axes (length (E.lengths other.now)) ≡ false) (λ d. Self.lengths d ≡ E.lengths other.now) };
+}
+
+impl<D: Dimension> FromDimension for D {
+    fn from_dimension<E: Dimension>(other: &E) -> Option<D> {
+        D::from_lengths(other.slice())
+    }
+}

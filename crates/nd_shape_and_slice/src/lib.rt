@@ -3,12 +3,19 @@
 
 mod axes;
 mod builder;
+#[cfg(test)]
+mod builder_tests;
 mod descriptions;
 mod dimension;
+#[cfg(test)]
+mod dimension_tests;
 mod dynamic;
 mod errors;
 mod fixed;
 mod index;
+mod meeting;
+#[cfg(test)]
+mod meeting_tests;
 mod rank;
 mod resize;
 mod size;
@@ -21,11 +28,12 @@ mod tests;
 pub use axes::{Axis, axes_fit};
 pub use builder::{IntoStrideShape, Order, Shape, ShapeArg, ShapeBuilder, StrideShape};
 pub use descriptions::{Axes, AxisDescription};
-pub use dimension::{AxisCount, Dimension, Ix, Ixs, MAX_AXES, StrideList};
+pub use dimension::{AxisCount, Dimension, FromDimension, Ix, Ixs, MAX_AXES, StrideList};
 pub use dynamic::{DynStrides, IxDyn};
 pub use errors::{ErrorKind, NoMemory, ShapeError};
 pub use fixed::{Dim, FixedAxes, Ix0, Ix1, Ix2, Ix3, Ix4, Ix5, Ix6};
 pub use index::{IntoDimension, NdIndex};
+pub use meeting::slices_intersect;
 pub use rank::index_of_rank;
 pub use resize::{InsertAxis, RemoveAxis};
 pub use size::{is_empty_shape, size_of_shape_checked};

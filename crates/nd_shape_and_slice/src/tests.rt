@@ -23,6 +23,13 @@ fn slices_of_an_axis(rt: HostRuntime) {
             0,
             4611686018427387904,
         ),
+        (LONGEST, 0, None, -1, LONGEST - 1, LONGEST),
+        (LONGEST, 0, Some(isize::MAX), isize::MAX, 0, 1),
+        (LONGEST, -9223372036854775807, Some(1), isize::MIN, 0, 1),
+        (LONGEST, isize::MAX, Some(-9223372036854775807), -1, 0, 0),
+        (usize::MAX, 0, None, 1, 0, usize::MAX),
+        (usize::MAX, isize::MIN, None, isize::MIN, usize::MAX - 1, 1),
+        (0, 0, None, isize::MIN, 0, 0),
     ];
     for (len, start, end, step, first, sliced) in rows {
         let slice = Slice::new(start, end, step);
@@ -49,6 +56,9 @@ fn slices_that_do_not_fit(rt: HostRuntime) {
         (6, 0, Some(-7), -1),
         (0, -1, None, 1),
         (LONGEST, isize::MIN, None, 1),
+        (LONGEST, 0, Some(isize::MIN), 1),
+        (LONGEST - 1, isize::MAX, None, 1),
+        (LONGEST - 1, 0, Some(isize::MAX), 1),
     ];
     for (len, start, end, step) in rows {
         assert!(rt;
@@ -89,4 +99,105 @@ fn orders_of_axes(rt: HostRuntime) {
     for (axes, ndim, fits) in rows {
         assert!(rt; axes_fit(axes, ndim) == fits);
     }
+}
+
+#[test]
+fn coordinates_on_an_axis(rt: HostRuntime) {
+    let rows = [
+        (6, 0, Some(0)),
+        (6, 5, Some(5)),
+        (6, 6, None),
+        (6, -1, Some(5)),
+        (6, -6, Some(0)),
+        (6, -7, None),
+        (0, 0, None),
+        (LONGEST, isize::MAX, None),
+        (LONGEST, -9223372036854775807, Some(0)),
+        (LONGEST, isize::MIN, None),
+        (usize::MAX, isize::MAX, Some(LONGEST)),
+    ];
+    for (len, coordinate, place) in rows {
+        assert_eq!(rt; coordinate_on_axis(len, coordinate), place);
+    }
+}
+
+/// The part of an axis from this coordinate on.
+fn part_from(start: isize) -> SliceInfoElem {
+    SliceInfoElem::Slice {
+        start,
+        end: None,
+        step: 1,
+    }
+}
+
+#[test]
+fn elements_read_and_keep_axes(rt: HostRuntime) {
+    let list = [
+        part_from(0),
+        SliceInfoElem::Index(-1),
+        SliceInfoElem::NewAxis,
+        SliceInfoElem::Index(2),
+    ];
+    assert!(rt; list[0].reads_axis() && list[1].reads_axis() && !list[2].reads_axis());
+    assert!(rt; list[0].keeps_axis() && !list[1].keeps_axis() && list[2].keeps_axis());
+    assert_eq!(rt; axes_read(&list), 3);
+    assert_eq!(rt; axes_kept(&list), 2);
+}
+
+#[test]
+fn lists_fit_shapes(rt: HostRuntime) {
+    let list = [
+        part_from(1),
+        SliceInfoElem::Index(-1),
+        SliceInfoElem::NewAxis,
+        part_from(-3),
+    ];
+    let rows: [(&[usize], bool); 6] = [
+        (&[6, 4, 5], true),
+        (&[1, 1, 3], true),
+        (&[0, 4, 5], false),
+        (&[6, 0, 5], false),
+        (&[6, 4, 2], false),
+        (&[6, 4], false),
+    ];
+    for (shape, fits) in rows {
+        assert!(rt; slices_fit(shape, &list) == fits);
+        assert!(rt; list.as_slice().fits(shape) == fits);
+    }
+    assert!(rt; !slices_fit(&[6, 4, 5, 1], &list));
+    assert_eq!(rt; list.as_slice().elements().len(), 4);
+}
+
+#[test]
+fn lists_leave_32_axes_at_most(rt: HostRuntime) {
+    let mut list = [SliceInfoElem::NewAxis; 33];
+    assert!(rt; slices_fit(&[], &list[..32]));
+    assert!(rt; !slices_fit(&[], &list));
+    assert!(rt; SliceInfo::<IxDyn, IxDyn>::new(&list[..32]).is_ok());
+    assert!(rt; SliceInfo::<IxDyn, IxDyn>::new(&list).is_err());
+    list[32] = SliceInfoElem::Index(isize::MIN);
+    assert!(rt; slices_fit(&[1 << 63], &list) && !slices_fit(&[LONGEST], &list));
+    let read = [SliceInfoElem::Index(0); 33];
+    assert!(rt; SliceInfo::<IxDyn, Ix0>::new(&read[..32]).is_ok());
+    assert!(rt; SliceInfo::<IxDyn, Ix0>::new(&read).is_err());
+    assert!(rt; slices_fit(&[1; 33], &read));
+}
+
+/// Whether a list that leaves one axis of two fits this shape.
+fn leaves_one_of_two(list: &[SliceInfoElem], shape: &[usize]) -> bool {
+    match SliceInfo::<Ix2, Ix1>::new(list) {
+        Ok(info) => info.fits(shape) && info.elements().len() == list.len(),
+        Err(_) => false,
+    }
+}
+
+#[test]
+fn lists_from_dimension_to_dimension(rt: HostRuntime) {
+    let list = [part_from(0), SliceInfoElem::Index(2)];
+    assert!(rt; leaves_one_of_two(&list, &[2, 3]) && !leaves_one_of_two(&list, &[2, 2]));
+    assert!(rt; SliceInfo::<IxDyn, IxDyn>::new(&list).is_ok());
+    let refused = SliceInfo::<Ix2, Ix2>::new(&list);
+    assert!(rt; matches!(refused, Err(e) if e.kind() == ErrorKind::IncompatibleShape));
+    assert!(rt; SliceInfo::<Ix1, Ix1>::new(&list).is_err());
+    assert!(rt; SliceInfo::<Ix0, Ix0>::new(&[]).is_ok());
 }

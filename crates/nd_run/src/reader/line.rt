@@ -1,80 +1,17 @@
-//! Steps, questions and calls from the words of a line.
+//! Paths, questions and calls from the words of a line.
 
 ghost use Rattle.std.specs.Prelude.{◌≡◌, map, length};
 ghost use Rattle.nd_run.specs.Words.{words_of};
 ghost use Rattle.nd_run.specs.Calls.{asked_step, asking, asked};
-ghost use Rattle.nd_run.specs.Reading.{Gives, item_at, end_of, slice_at, cut_at, permute_at, step_at, begins_step, leg_at, path_at, get_at, question_at, keep_at, ask_at, call_at, ended, call_of, start_of};
+ghost use Rattle.nd_run.specs.Reading.{Gives, leg_at, path_at, get_at, question_at, keep_at, ask_at, call_at, ended, call_of, start_of};
 
 use crate::calls::{Call, Question, Step};
 use crate::keyword::Keyword;
-use crate::numbers::Number;
 use crate::reader::fault::LineFault;
-use crate::reader::items::{Parts, array, keyword, list, number, word};
+use crate::reader::items::{Parts, array, keyword, list};
+use crate::reader::step::{begins_step, step};
 use crate::words::split_word;
-use nd_shape_and_slice::Slice;
 use std::alloc::Global;
-
-/// An end of a slice, which may be missing.
-fn end(line: &[u8]) -> Result<(Option<isize>, &[u8]), LineFault>
-    ensures { Gives (λ x. (x.0, words_of x.1.now)) result (item_at end_of (words_of line.now)) }
-{
-    let (first, rest) = word(line)?;
-    if first == b"_".as_slice() {
-        return Ok((None, rest));
-    }
-    match isize::from_word(first) {
-        Some(end) => Ok((Some(end), rest)),
-        None => Err(LineFault::Bad),
-    }
-}
-
-#[tactic(auto, unfolding(crate::specs::Reading::slice_at))]
-fn slice(line: &[u8]) -> Result<(Slice, &[u8]), LineFault>
-    ensures { Gives (λ x. (x.0, words_of x.1.now)) result (slice_at (words_of line.now)) }
-{
-    let (start, rest) = number::<isize>(line)?;
-    let (end, rest) = end(rest)?;
-    let (step, rest) = number::<isize>(rest)?;
-    Ok((Slice { start, end, step }, rest))
-}
-
-#[tactic(auto, unfolding(crate::specs::Reading::cut_at))]
-fn cut(line: &[u8]) -> Result<(Step, &[u8]), LineFault>
-    ensures { Gives (λ x. (asked_step x.0, words_of x.1.now)) result (cut_at (words_of line.now)) }
-{
-    let (axis, rest) = number::<usize>(line)?;
-    let (slice, rest) = slice(rest)?;
-    Ok((Step::SliceAxis(axis, slice), rest))
-}
-
-#[tactic(auto, unfolding(crate::specs::Reading::permute_at))]
-fn permute(alloc: Global, line: &[u8]) -> Result<(Step, &[u8]), LineFault>
-    ensures { Gives (λ x. (asked_step x.0, words_of x.1.now)) result (permute_at (words_of line.now)) }
-{
-    let (axes, rest) = list(alloc, line)?;
-    Ok((Step::Permute(axes), rest))
-}
-
-#[tactic(auto, unfolding(crate::specs::Reading::step_at))]
-fn step(alloc: Global, line: &[u8]) -> Result<(Step, &[u8]), LineFault>
-    ensures { Gives (λ x. (asked_step x.0, words_of x.1.now)) result (step_at (words_of line.now)) }
-{
-    let (first, rest) = keyword(line)?;
-    match first {
-        Keyword::Cut => cut(rest),
-        Keyword::Permute => permute(alloc, rest),
-        _ => Err(LineFault::Bad),
-    }
-}
-
-fn begins_step(line: &[u8]) -> bool
-    ensures { result ≡ begins_step (words_of line.now) }
-{
-    match split_word(line) {
-        Some((first, _)) => Keyword::of(first).is_step(),
-        None => false,
-    }
-}
 
 /// A step and the slash after it.
 #[tactic(auto, unfolding(crate::specs::Reading::leg_at))]

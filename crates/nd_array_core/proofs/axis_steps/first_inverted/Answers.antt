@@ -1,4 +1,3 @@
-use Rattle.std.proofs.Common.{◌≡◌}
 use Rattle.nd_array_core.proofs.AxisStep.{invert_is_step}
 use Rattle.nd_array_core.proofs.axis_steps.first_inverted.Goals as goal
 

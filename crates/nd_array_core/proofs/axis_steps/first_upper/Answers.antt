@@ -1,4 +1,3 @@
-use Rattle.std.proofs.Common.{◌≡◌}
 use Rattle.nd_array_core.proofs.AxisStep.{upper_is_step}
 use Rattle.nd_array_core.proofs.axis_steps.first_upper.Goals as goal
 

@@ -1,4 +1,4 @@
-use Rattle.std.proofs.Common.{◌≡◌, ◌<◌, ◌≤◌, ◌-◌, arith, sym, ap, length, get_or, reverse, ◌∙◌}
+use Rattle.std.proofs.Common.{◌≡◌, ◌<◌, ◌-◌, arith, sym, ap, length, get_or, reverse, ◌∙◌}
 use Rattle.std.proofs.lemmas.List.{length-reverse, get_or-reverse}
 use Rattle.nd_array_core.proofs.FillLoop.{filled_none, filled_more, filled_all}
 use Rattle.nd_array_core.proofs.axis_steps.reversed_dim.Goals as goal

@@ -1,4 +1,4 @@
-use Rattle.std.proofs.Common.{reverse, pos}
+use Rattle.std.proofs.Common.{reverse}
 use Rattle.nd_array_core.proofs.FillLoop.{IsFilledBelow}
 use Rattle.nd_array_core.proofs.axis_steps.reversed_dim.Given as goal
 

@@ -1,4 +1,4 @@
-use Rattle.std.proofs.Common.{◌≡◌, ◌<◌, ◌≤◌, ◌-◌, arith, rules, sym, ap, length, get_or, reverse, ◌∙◌, pos, w64, to_z, of_z, FitsSigned}
+use Rattle.std.proofs.Common.{◌≡◌, ◌<◌, ◌-◌, arith, rules, sym, ap, length, get_or, reverse, ◌∙◌, pos, w64, to_z, of_z, FitsSigned}
 use Rattle.std.proofs.lemmas.Int.{to_z-of_z}
 use Rattle.std.proofs.lemmas.List.{length-reverse, get_or-reverse}
 use Rattle.nd_array_core.proofs.FillLoop.{filled_none, filled_more, filled_all}

@@ -1,4 +1,4 @@
-use Rattle.std.proofs.Common.{◌≡◌, ◌<◌, ◌≤◌, arith}
+use Rattle.std.proofs.Common.{arith}
 use Rattle.nd_array_core.proofs.DiagonalStep.{diagonal-le}
 use Rattle.nd_array_core.proofs.diagonal.stride_of_diagonal.Goals as goal
 

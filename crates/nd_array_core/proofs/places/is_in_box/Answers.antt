@@ -1,4 +1,4 @@
-use Rattle.std.proofs.Common.{sym, ◌<◌, ◌≤◌, arith, refl, length, get_or}
+use Rattle.std.proofs.Common.{sym, ◌<◌, arith, refl, length}
 use Rattle.nd_shape_and_slice.proofs.RowMajor.{length-in_box}
 use Rattle.nd_array_core.proofs.Boxes.{coordinate_below, in_box_from}
 use Rattle.nd_array_core.proofs.places.is_in_box.Goals as goal

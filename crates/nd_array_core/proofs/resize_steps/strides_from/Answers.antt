@@ -1,8 +1,6 @@
-use Rattle.std.proofs.Common.{◌≡◌, ◌<◌, ◌≤◌, ◌+◌, ℕ, arith, rules, sym, ap, refl, length, get_or, replicate, ◌∙◌, pos, w64, to_z, of_z, FitsSigned}
-use Rattle.std.specs.List.{remove, insert}
+use Rattle.std.proofs.Common.{◌≡◌, arith, rules, ap, length, get_or, ◌∙◌, pos, w64, to_z, of_z, FitsSigned}
 use Rattle.std.proofs.lemmas.Int.{to_z-of_z}
 use Rattle.std.proofs.lemmas.List.{length-replicate}
-use Rattle.std.proofs.lemmas.List.Edits.{length-insert, length-remove}
 use Rattle.nd_array_core.proofs.FillLoop.{filled_none, filled_more, filled_all}
 use Rattle.nd_array_core.proofs.resize_steps.strides_from.Goals as goal
 

@@ -1,5 +1,4 @@
 use Rattle.std.proofs.Common.{pos}
-use Rattle.std.specs.List.{remove, insert}
 use Rattle.nd_array_core.proofs.FillLoop.{IsFilledBelow}
 use Rattle.nd_array_core.proofs.resize_steps.strides_from.Given as goal
 

@@ -1,5 +1,5 @@
 use Rattle.std.proofs.Common.{pos}
-use Rattle.std.specs.List.{remove, insert}
+use Rattle.std.specs.List.{insert}
 use Rattle.nd_array_core.proofs.FillLoop.{IsFilledBelow}
 use Rattle.nd_array_core.proofs.resize_steps.strides_with.Given as goal
 

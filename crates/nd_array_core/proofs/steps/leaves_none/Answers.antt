@@ -1,4 +1,4 @@
-use Rattle.std.proofs.Common.{◌≡◌, ◌≢◌, ◌∙◌, sym, ap, inl, inr, ⊎_elim, refl, eqb}
+use Rattle.std.proofs.Common.{ap, inl, inr, ⊎_elim, eqb}
 use Rattle.nd_array_core.proofs.SliceStep.{none_left, none_left_only}
 use Rattle.nd_array_core.proofs.steps.leaves_none.Goals as goal
 

@@ -1,6 +1,6 @@
-use Rattle.std.proofs.Common.{◌≡◌, ◌<◌, ◌≤◌, arith, rules, sym, ap, subst, length, get_or, ◌∙◌}
+use Rattle.std.proofs.Common.{◌≡◌, arith, ap, subst, length, get_or, ◌∙◌}
 use Rattle.nd_layout.proofs.Permuted.{axis_below}
-use Rattle.nd_array_core.proofs.PermuteLoop.{IsPermutedBelow, permuted_none, permuted_more, permuted_all}
+use Rattle.nd_array_core.proofs.PermuteLoop.{IsPermutedBelow, permuted_more, permuted_all}
 use Rattle.nd_array_core.proofs.steps.permuted_dim.Goals as goal
 
 pub length_at-requires : goal.length_at-requires

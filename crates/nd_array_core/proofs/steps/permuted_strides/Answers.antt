@@ -1,7 +1,7 @@
-use Rattle.std.proofs.Common.{◌≡◌, ◌<◌, ◌≤◌, arith, rules, sym, ap, subst, length, get_or, ◌∙◌, pos, w64, to_z, of_z, FitsSigned}
+use Rattle.std.proofs.Common.{◌≡◌, arith, rules, ap, subst, length, get_or, ◌∙◌, pos, w64, to_z, of_z, FitsSigned}
 use Rattle.std.proofs.lemmas.Int.{to_z-of_z}
 use Rattle.nd_layout.proofs.Permuted.{axis_below}
-use Rattle.nd_array_core.proofs.PermuteLoop.{IsPermutedBelow, permuted_none, permuted_more, permuted_all}
+use Rattle.nd_array_core.proofs.PermuteLoop.{IsPermutedBelow, permuted_more, permuted_all}
 use Rattle.nd_array_core.proofs.steps.permuted_strides.Goals as goal
 
 pub stride_at-requires : goal.stride_at-requires

@@ -1,11 +1,11 @@
-use Rattle.std.proofs.Common.{◌≡◌, ◌∙◌, ◌<◌, ◌+ℤ◌, ◌*ℤ◌, ℕ, zero, suc, false, true, arith, rules, sym, ap, subst, length, get_or, set, refl, pos, w64, to_z, of_z, FitsSigned}
+use Rattle.std.proofs.Common.{◌≡◌, ◌∙◌, ◌<◌, ◌+ℤ◌, ◌*ℤ◌, ℕ, zero, suc, false, true, arith, rules, sym, ap, subst, get_or, set, refl, pos, w64, to_z, of_z, FitsSigned}
 use Rattle.std.proofs.lemmas.Bool.{false≢true}
 use Rattle.std.proofs.lemmas.Int.{to_z-of_z}
 use Rattle.nd_shape_and_slice.specs.Shape.{size_of}
 use Rattle.nd_shape_and_slice.specs.Slice.{sliced_length, sliced_from, sliced_shape}
 use Rattle.nd_shape_and_slice.proofs.Sizes.{length_within}
 use Rattle.nd_array_core.specs.Steps.{stepped_stride}
-use Rattle.nd_array_core.proofs.SliceStep.{sliced_length-le, slice_first_below, slice_start_below, slice_start_place, slice_stride_fits, slice_is_step}
+use Rattle.nd_array_core.proofs.SliceStep.{slice_first_below, slice_start_below, slice_start_place, slice_stride_fits, slice_is_step}
 use Rattle.nd_array_core.proofs.steps.slice_of_axis.Goals as goal
 use Rattle.nd_array_core.proofs.steps.slice_of_axis.Goals.{then-leaves_none, else-leaves_none}
 

@@ -3,10 +3,12 @@ use Rattle.std.proofs.lemmas.Int.{to_z_pos, ints}
 use Rattle.std.proofs.lemmas.List.{length-set, drop_all}
 use Rattle.nd_shape_and_slice.specs.Shape.{size_of}
 use Rattle.nd_layout.specs.Ranks.{ordered, axis_in}
-use Rattle.nd_layout.specs.Growth.{column_strides_from}
+use Rattle.nd_shape_and_slice.specs.Strides.{column_strides_from}
+use Rattle.nd_shape_and_slice.proofs.ColumnMajor.{length-column_strides_from}
 use Rattle.nd_layout.proofs.Orders.{length-ordered, size_of-ordered, get_or-ordered}
 use Rattle.nd_layout.proofs.Standard.{part_of_size}
-use Rattle.nd_layout.proofs.Growing.{length-column_strides_from, stride_at_place, written_more, written_all}
+use Rattle.nd_shape_and_slice.proofs.Copied.{copied_more, copied_all}
+use Rattle.nd_layout.proofs.Growing.{stride_at_place}
 use Rattle.nd_layout.proofs.grows.fill_strides.Goals as goal
 
 pub overflow_cast-product : goal.overflow_cast-product
@@ -56,7 +58,7 @@ loop-place-preserved c =
     rw n_is
     (record {
       size = p.4;
-      before = written_more ts _ cs place (pos product) (omega arith) (omega arith) put there.0 c.loop-place.invariant.before;
+      before = (copied_more ts cs _ place (pos 0) (pos product) (omega arith) (omega arith) c.loop-place.invariant.before (sym there.0) put).1;
       rest = there.1;
     })
 
@@ -80,4 +82,4 @@ returns-clause-written c =
     let lm = length-ordered o os in
     let lt = length-ordered o c.loop-place.out in
     let lc = length-column_strides_from 1 ms in
-    written_all (ordered o c.loop-place.out) (column_strides_from 1 ms) c.loop-place.place (omega arith) (omega arith) c.loop-place.invariant.before
+    copied_all (ordered o c.loop-place.out) (column_strides_from 1 ms) c.loop-place.place (omega arith) (omega arith) c.loop-place.invariant.before

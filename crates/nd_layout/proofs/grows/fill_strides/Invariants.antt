@@ -1,7 +1,7 @@
 use Rattle.std.proofs.Common.{◌≡◌, ◌*◌, drop, take, set}
 use Rattle.nd_shape_and_slice.specs.Shape.{size_of}
 use Rattle.nd_layout.specs.Ranks.{ordered}
-use Rattle.nd_layout.specs.Growth.{column_strides_from}
+use Rattle.nd_shape_and_slice.specs.Strides.{column_strides_from}
 use Rattle.nd_layout.proofs.grows.fill_strides.Given as goal
 
 abbrev pub invariant-loop-place : goal.invariant-loop-place

@@ -1,5 +1,6 @@
 use Rattle.std.proofs.Common.{sym}
 use Rattle.nd_layout.proofs.GrownLayout.{grown_full, grown_kept}
+use Rattle.nd_layout.proofs.GrownAgain.{grown_continued, grown_ready}
 use Rattle.nd_layout.proofs.grows.growth.Goals as goal
 
 pub returns-clause-separated : goal.returns-clause-separated
@@ -19,3 +20,15 @@ returns-clause-kept c =
     λ follows i inside.
     rw c.write_case.ensures.written
     (grown_kept c.args.lengths.now c.args.strides.now c.args.full c.args.axis c.args.added c.write_case.result c.requires.as_many c.requires.on_axis (sym c.write_case.ensures.which) follows i inside)
+
+pub returns-clause-continued : goal.returns-clause-continued
+returns-clause-continued c =
+    λ follows.
+    rw c.write_case.ensures.written
+    (grown_continued c.args.lengths.now c.args.strides.now c.args.full c.args.axis c.args.added c.write_case.result c.requires.as_many c.requires.on_axis (sym c.write_case.ensures.which) follows c.requires.run)
+
+pub returns-clause-ready : goal.returns-clause-ready
+returns-clause-ready c =
+    λ added.
+    rw c.write_case.ensures.written
+    (grown_ready c.args.lengths.now c.args.strides.now c.args.full c.args.axis c.args.added c.write_case.result c.requires.as_many c.requires.on_axis (sym c.write_case.ensures.which) added)

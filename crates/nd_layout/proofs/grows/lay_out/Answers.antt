@@ -1,9 +1,9 @@
 use Rattle.std.proofs.Common.{arith, ◌<◌, ◌≡◌, ◌+◌, ◌^◌, ◌∙◌, sym, ap, subst, length, set, eqb, ℤ, pos, w64}
 use Rattle.std.proofs.lemmas.Int.{to_z_pos}
 use Rattle.nd_shape_and_slice.specs.Shape.{size_of}
-use Rattle.nd_layout.specs.declared.order.Order.{Order}
+use Rattle.nd_shape_and_slice.specs.declared.builder.Order.{Order}
 use Rattle.nd_layout.specs.Ranks.{ordered}
-use Rattle.nd_layout.specs.Growth.{column_strides_from}
+use Rattle.nd_shape_and_slice.specs.Strides.{column_strides_from}
 use Rattle.nd_layout.proofs.Growing.{growing_strides-is, written_cases}
 use Rattle.nd_layout.proofs.grows.lay_out.Goals as goal
 

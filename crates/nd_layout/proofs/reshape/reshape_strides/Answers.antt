@@ -3,11 +3,13 @@ use Rattle.std.proofs.lemmas.Int.{to_z-of_z}
 use Rattle.std.proofs.lemmas.List.{length-replicate}
 use Rattle.nd_shape_and_slice.specs.Shape.{size_of}
 use Rattle.std.proofs.lemmas.Bool.{false≢true}
+use Rattle.nd_shape_and_slice.proofs.RowMajor.{span_of-zeros}
+use Rattle.nd_shape_and_slice.proofs.Sizes.{size_of-drop}
 use Rattle.nd_layout.specs.Ranks.{ordered, ServesRanks, Regroups}
 use Rattle.nd_layout.proofs.Orders.{length-ordered, size_of-ordered, span_of-ordered, IsSeparated-ordered, IsSeparated-unordered, Serves-from_ranks, ranks_from_Serves}
 use Rattle.nd_layout.proofs.Regroups.{Regroups-one_in}
 use Rattle.nd_layout.proofs.Serving.{serves_all}
-use Rattle.nd_layout.proofs.Reshaped.{sizes_at, size_from, some_to_take, span_left, taken_more, size_left, none_left, all_taken, span_all, separated_all, Serves-empty, span_of-zeros}
+use Rattle.nd_layout.proofs.Reshaped.{sizes_at, some_to_take, span_left, taken_more, size_left, none_left, all_taken, span_all, separated_all, Serves-empty}
 use Rattle.nd_layout.proofs.reshape.reshape_strides.Goals as goal
 
 pub returns-then-has_no_elements-clause-exact : goal.returns-then-has_no_elements-clause-exact
@@ -79,7 +81,7 @@ returns-in-None-clause-exact c =
     let e : c.length_at.result ≡ get_or ms place 0 = c.length_at.ensures in
     let within : place < length ms = omega arith in
     let sizes : c.length_at.result * size_of (drop (place + 1) ms) ≡ g.length * size_of (drop g.next ns) =
-    ap (λ (n : ℕ). n * size_of (drop (place + 1) ms)) e ∙ sym (size_from ms place within) ∙ sym c.loop-place.invariant.size in (
+    ap (λ (n : ℕ). n * size_of (drop (place + 1) ms)) e ∙ sym (size_of-drop ms place within) ∙ sym c.loop-place.invariant.size in (
       λ no. absurd (false≢true no),
       λ w. absurd
           (none_left ns ss ms ts (ordered o w.0) (g.length ∷ drop g.next ns) (g.step ∷ drop g.next ss) place within (omega arith) (omega arith) c.loop-place.invariant.regroups

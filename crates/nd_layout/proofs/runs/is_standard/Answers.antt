@@ -3,7 +3,7 @@ use Rattle.std.proofs.lemmas.Int.{to_z-of_z}
 use Rattle.std.proofs.lemmas.Bool.{false≢true}
 use Rattle.std.proofs.lemmas.List.{drop_all}
 use Rattle.nd_shape_and_slice.specs.Shape.{size_of}
-use Rattle.nd_layout.specs.declared.order.Order.TheVariants.{RowMajor}
+use Rattle.nd_shape_and_slice.specs.declared.builder.Order.TheVariants.{RowMajor}
 use Rattle.nd_layout.specs.Ranks.{ordered}
 use Rattle.nd_layout.proofs.Sizes.{size-le-product}
 use Rattle.nd_layout.proofs.Orders.{length-ordered, size_of-ordered, rank_in-below}

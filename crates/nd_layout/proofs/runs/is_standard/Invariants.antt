@@ -1,6 +1,6 @@
 use Rattle.std.proofs.Common.{◌≡◌, ◌*◌, ◌↔◌, drop}
 use Rattle.nd_shape_and_slice.specs.Shape.{size_of}
-use Rattle.nd_layout.specs.declared.order.Order.TheVariants.{RowMajor}
+use Rattle.nd_shape_and_slice.specs.declared.builder.Order.TheVariants.{RowMajor}
 use Rattle.nd_layout.specs.Ranks.{ordered, StepsBy}
 use Rattle.nd_layout.proofs.runs.is_standard.Given as goal
 

@@ -1,14 +1,15 @@
-use mathlib.Core.Path.{◌∙◌, ap}
-use Rattle.nd_region_uses.proofs.Six.{has_even, has_evens, evens_done}
+use mathlib.Core.Path.{refl, ap, ◌∙◌}
+use Rattle.std.specs.Prelude.{[], ◌∷◌, pos}
+use Rattle.nd_region_uses.proofs.Split.{has_layout, parts_have, evens_done}
 use Rattle.nd_region_uses.proofs.part.fill_part.Goals as goal
 
 -- src/part.rt:32:5
 pub split_with-requires-clause-within : goal.split_with-requires-clause-within
-split_with-requires-clause-within c = has_even c.args.region c.requires
+split_with-requires-clause-within c = has_layout 6 c.args.region c.requires 0 (3 ∷ []) (pos 2 ∷ []) refl
 
 -- src/part.rt:32:5
 pub split_with-requires-clause-callable : goal.split_with-requires-clause-callable
-split_with-requires-clause-callable c = λ x y even odd. has_evens c.args.region c.requires x y even
+split_with-requires-clause-callable c = λ x y named others. (parts_have 6 c.args.region c.requires 0 (3 ∷ []) (pos 2 ∷ []) (0 ∷ 2 ∷ 4 ∷ []) [] refl refl x y named others).0
 
 -- src/part.rt:27:1
 pub returns-clause-items : goal.returns-clause-items

@@ -1,14 +1,15 @@
-use mathlib.Core.Path.{◌∙◌, ap}
-use Rattle.nd_region_uses.proofs.Six.{has_even, has_turns, turns_done}
+use mathlib.Core.Path.{refl, ap, ◌∙◌}
+use Rattle.std.specs.Prelude.{[], ◌∷◌, pos}
+use Rattle.nd_region_uses.proofs.Split.{has_layout, parts_have, turns_done}
 use Rattle.nd_region_uses.proofs.turns.in_turn.Goals as goal
 
 -- src/turns.rt:27:5
 pub split_with-requires-clause-within : goal.split_with-requires-clause-within
-split_with-requires-clause-within c = has_even c.args.region c.requires
+split_with-requires-clause-within c = has_layout 6 c.args.region c.requires 0 (3 ∷ []) (pos 2 ∷ []) refl
 
 -- src/turns.rt:27:5
 pub split_with-requires-clause-callable : goal.split_with-requires-clause-callable
-split_with-requires-clause-callable c = has_turns c.args.region c.requires
+split_with-requires-clause-callable c = parts_have 6 c.args.region c.requires 0 (3 ∷ []) (pos 2 ∷ []) (0 ∷ 2 ∷ 4 ∷ []) (1 ∷ 3 ∷ 5 ∷ []) refl refl
 
 -- src/turns.rt:22:1
 pub returns-clause-items : goal.returns-clause-items

@@ -1,4 +1,4 @@
-use Rattle.std.proofs.Common.{◌≡◌, ◌∙◌, ap, sym, map, refl, subst}
+use Rattle.std.proofs.Common.{◌≡◌, map, subst}
 use Rattle.nd_array_core.specs.Meaning.{meaning_of, shape_of}
 use Rattle.nd_run.specs.Calls.{said}
 use Rattle.nd_run.specs.Endings.{Finished, OutOfMemory, ending_text, status_of}

@@ -1,4 +1,4 @@
-use Rattle.std.proofs.Common.{◌∙◌, map, append-nil, subst, ◌++◌}
+use Rattle.std.proofs.Common.{map, append-nil, subst}
 use Rattle.nd_array_core.specs.Meaning.{meaning_of, shape_of}
 use Rattle.nd_run.specs.Calls.{said}
 use Rattle.nd_run.specs.Endings.{Finished, ending_text}

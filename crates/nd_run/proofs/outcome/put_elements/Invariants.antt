@@ -1,9 +1,4 @@
-use Rattle.std.proofs.Common.{take}
-use Rattle.std.specs.List.{filter_map}
-use Rattle.nd_shape_and_slice.specs.Shape.{indexes_of}
-use Rattle.nd_array_core.specs.Meaning.{meaning_of, shape_of, element_at}
-use Rattle.nd_run.specs.Puts.{Puts}
-use Rattle.nd_run.specs.Text.{values_text}
+use Rattle.nd_array_core.specs.Meaning.{meaning_of}
 use Rattle.nd_run.proofs.Gathers.{IsWrittenBelow}
 use Rattle.nd_run.proofs.outcome.put_elements.Given as goal
 

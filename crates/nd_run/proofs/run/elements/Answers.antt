@@ -1,8 +1,8 @@
-use Rattle.std.proofs.Common.{◌≡◌, ◌∙◌, ◌<◌, ◌≤◌, sym, ap, arith, subst, length, Some, None, ◌++◌, ◌∷◌, []}
+use Rattle.std.proofs.Common.{◌≡◌, ◌∙◌, ◌<◌, sym, ap, arith, length, Some, None, ◌++◌, ◌∷◌, []}
 use Rattle.nd_shape_and_slice.specs.Shape.{size_of, index_at}
 use Rattle.nd_array_core.specs.Meaning.{meaning_of, shape_of, element_at}
 use Rattle.nd_shape_and_slice.proofs.Ranks.{length-index_at}
-use Rattle.nd_run.proofs.Gathers.{IsGatheredBelow, gathered_some, gathered_none, gathered_all}
+use Rattle.nd_run.proofs.Gathers.{gathered_some, gathered_none, gathered_all}
 use Rattle.nd_run.proofs.run.elements.Goals as goal
 use Rattle.nd_run.proofs.run.elements.Goals.{in-Some+in_ok-clone+in_ok-push, in_default}
 

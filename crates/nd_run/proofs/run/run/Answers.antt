@@ -1,8 +1,8 @@
-use Rattle.std.proofs.Common.{◌≡◌, ◌∙◌, ◌<◌, ◌++◌, ◌∷◌, [], sym, ap, subst, arith, map, length, get_or}
+use Rattle.std.proofs.Common.{◌≡◌, ◌∙◌, ◌<◌, ◌++◌, ◌∷◌, [], sym, ap, arith, map, length, get_or}
 use Rattle.std.proofs.lemmas.List.{length-map, get_or-map, map-append}
 use Rattle.nd_array_core.specs.Meaning.{meaning_of}
 use Rattle.nd_run.specs.Calls.{asked, said}
-use Rattle.nd_run.proofs.Runs.{IsRunBelow, run_more, run_stops}
+use Rattle.nd_run.proofs.Runs.{run_more, run_stops}
 use Rattle.nd_run.proofs.run.run.Goals as goal
 
 pub returns-in-Err-act-clause-memory : goal.returns-in-Err-act-clause-memory
@@ -26,5 +26,5 @@ loop-call-preserved g c =
     let items : map said c.push_reserved.new.self.items ≡ map said c.loop-call.replies.items ++ said c.in-Ok-act.reply ∷ [] = ap (map said) c.push_reserved.ensures.items ∙ map-append said c.loop-call.replies.items (c.in-Ok-act.reply ∷ []) in (
       omega (arith, c.push_reserved.ensures.len),
       omega (arith, c.push_reserved.ensures.capacity),
-      rw items (run_more (map asked calls) (meaning_of c.args.start) (meaning_of c.loop-call.array) (meaning_of c.act.new.array) (map said c.loop-call.replies.items) k (asked call) (said c.in-Ok-act.reply) mapped at c.in-Ok-act.ensures.reply c.in-Ok-act.ensures.array c.loop-call.invariant.2),
+      rw items (run_more (map asked calls) (meaning_of c.args.start) (meaning_of c.loop-call.array) (meaning_of c.in-Ok-act.left) (map said c.loop-call.replies.items) k (asked call) (said c.in-Ok-act.reply) mapped at c.in-Ok-act.ensures.reply c.in-Ok-act.ensures.array c.loop-call.invariant.2),
     )

@@ -1,4 +1,4 @@
-use Rattle.std.proofs.Common.{◌≡◌, ◌∙◌, ap, sym, refl, arith, rules, ℕ, length, replicate, pos, w64, to_z, of_z, get_or, FitsSigned}
+use Rattle.std.proofs.Common.{◌∙◌, ap, sym, refl, rules, length, pos, w64, get_or, FitsSigned}
 use Rattle.std.proofs.lemmas.List.{length-replicate}
 use Rattle.std.proofs.lemmas.Int.{to_z-of_z}
 use Rattle.nd_shape_and_slice.proofs.Copied.{copied_more, copied_all}

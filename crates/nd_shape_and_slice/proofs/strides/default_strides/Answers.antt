@@ -1,7 +1,7 @@
-use Rattle.std.proofs.Common.{◌≡◌, ◌∙◌, ap, sym, arith, ◌+◌, ◌-◌, ◌*◌, ◌<◌, ◌≤◌, pos, length, drop, get_or, set, w64, to_z}
+use Rattle.std.proofs.Common.{◌≡◌, ◌∙◌, ap, arith, ◌+◌, ◌-◌, ◌<◌, pos, length, drop, set, w64}
 use Rattle.std.proofs.lemmas.Int.{ints, to_z_pos}
 use Rattle.std.proofs.Math.ListN.{length-set}
-use Rattle.nd_shape_and_slice.specs.Shape.{size_of, HasCheckedSize}
+use Rattle.nd_shape_and_slice.specs.Shape.{HasCheckedSize}
 use Rattle.nd_shape_and_slice.proofs.RowMajor.{size_of-drop_more, drop_fits, row_strides-drop_more}
 use Rattle.nd_shape_and_slice.proofs.strides.default_strides.Goals as goal
 

@@ -1,9 +1,7 @@
-use Rattle.std.proofs.Common.{◌≡◌, ◌∙◌, ap, sym, subst, arith, ◌*◌, ◌+◌, ◌<◌, ◌≤◌, pos, length, get_or, set, w64, to_z}
+use Rattle.std.proofs.Common.{◌≡◌, ◌∙◌, ap, sym, subst, arith, ◌*◌, ◌+◌, ◌<◌, pos, get_or, set, w64}
 use Rattle.std.proofs.lemmas.Int.{ints, to_z_pos}
-use Rattle.std.proofs.Math.ListN.{length-set}
-use Rattle.nd_shape_and_slice.specs.Shape.{size_of, HasCheckedSize}
-use Rattle.nd_shape_and_slice.proofs.ColumnMajor.{f_strides-full}
-use Rattle.nd_shape_and_slice.proofs.ColumnLoop.{IsFilledTo, full_fits, step-le, grown-le, filled_more, filled_all}
+use Rattle.nd_shape_and_slice.specs.Shape.{HasCheckedSize}
+use Rattle.nd_shape_and_slice.proofs.ColumnLoop.{IsFilledTo, full_fits, step-le, grown-le, filled_more}
 use Rattle.nd_shape_and_slice.proofs.strides.fortran_strides.Goals as goal
 
 pub overflow_cast-step : goal.overflow_cast-step

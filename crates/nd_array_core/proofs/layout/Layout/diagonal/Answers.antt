@@ -1,4 +1,4 @@
-use Rattle.std.proofs.Common.{◌≡◌, ◌<◌, [], ◌∷◌, arith, rules, w64, to_z, of_z, FitsSigned}
+use Rattle.std.proofs.Common.{[], ◌∷◌, arith, rules, w64, to_z, of_z, FitsSigned}
 use Rattle.nd_array_core.specs.Maps.{diagonal_index}
 use Rattle.nd_array_core.specs.Steps.{IsStep}
 use Rattle.std.proofs.lemmas.Int.{to_z-of_z}

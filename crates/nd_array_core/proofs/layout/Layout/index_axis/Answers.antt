@@ -1,6 +1,5 @@
-use Rattle.std.proofs.Common.{◌≡◌, ◌+◌, ◌<◌, arith, sym, ap, length, subst}
+use Rattle.std.proofs.Common.{arith}
 use Rattle.std.specs.List.{remove}
-use Rattle.std.proofs.lemmas.List.Edits.{length-remove}
 use Rattle.nd_array_core.specs.Steps.{IsStep}
 use Rattle.nd_array_core.specs.Maps.{indexed_shape, indexed_index}
 use Rattle.nd_array_core.proofs.StepLemmas.{step_reaches}

@@ -1,4 +1,4 @@
-use Rattle.std.proofs.Common.{◌≡◌, ◌+◌, ◌<◌, arith, sym, ap, length, pos}
+use Rattle.std.proofs.Common.{arith, pos}
 use Rattle.std.specs.List.{insert}
 use Rattle.nd_array_core.specs.Steps.{IsStep}
 use Rattle.nd_array_core.specs.Maps.{widened_shape, widened_index}

@@ -1,4 +1,4 @@
-use Rattle.std.proofs.Common.{◌≡◌, arith}
+use Rattle.std.proofs.Common.{arith}
 use Rattle.nd_array_core.proofs.StepLemmas.{step_reaches}
 use Rattle.nd_array_core.proofs.AxisStep.{lower_is_step}
 use Rattle.nd_array_core.proofs.layout.Layout.keep_lower.Goals as goal

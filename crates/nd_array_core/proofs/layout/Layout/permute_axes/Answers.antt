@@ -1,4 +1,4 @@
-use Rattle.std.proofs.Common.{◌≡◌, arith, sym, subst, length}
+use Rattle.std.proofs.Common.{arith, sym, subst}
 use Rattle.nd_shape_and_slice.specs.Axes.{HasEachAxis, unpermuted}
 use Rattle.nd_array_core.specs.Steps.{IsStep}
 use Rattle.nd_array_core.proofs.StepLemmas.{step_reaches}

@@ -1,4 +1,4 @@
-use Rattle.std.proofs.Common.{◌≡◌, ◌<◌, arith, List, ℕ, length, reverse}
+use Rattle.std.proofs.Common.{arith}
 use Rattle.std.specs.List.{swap}
 use Rattle.nd_array_core.specs.Steps.{IsStep}
 use Rattle.nd_array_core.proofs.StepLemmas.{step_reaches}

@@ -1,7 +1,5 @@
-use Rattle.std.proofs.Common.{◌≡◌, ◌∙◌, length}
-use Rattle.nd_shape_and_slice.specs.Axes.{HasEachAxis}
-use Rattle.nd_array_core.specs.Meaning.{shape_of, element_at}
-use Rattle.nd_array_core.proofs.StepLemmas.{step_holds, step_separated, step_element}
+use Rattle.nd_array_core.specs.Meaning.{shape_of}
+use Rattle.nd_array_core.proofs.StepLemmas.{step_holds, step_separated}
 use Rattle.nd_array_core.proofs.layout_calls.ArrayBase+S+D.permute_axes.Goals as goal
 
 pub permute_axes-requires : goal.permute_axes-requires

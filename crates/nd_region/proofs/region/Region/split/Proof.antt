@@ -1,6 +1,6 @@
 -- `split` cuts the region's places in two, and its borrow follows both parts. Assumes `Logic`.
 use mathlib.Core.Path.{◌≡◌, refl, ◌∙◌}
-use mathlib.Core.Bool.{Bool, not}
+use mathlib.Core.Bool.{Bool}
 use Prim.Native.Nat.{ℕ, ◌<◌, ◌^◌}
 use mathlib.Core.List.{List, [], ◌∷◌}
 use lib.ListN.{length}
@@ -40,10 +40,11 @@ use denote.Triple.Table.{entered}
 use denote.Triple.Walked.{Stays, stay_ref, stay_dropped, walk_of, ends_at, walked, Goes-dropped, Goes-ref, walk_Meets}
 use Rattle.std.proofs.mem.Param.{El, args}
 use Rattle.nd_region.specs.Region.{HasPlaces}
-use Rattle.nd_region.specs.Places.{names, kept_where}
+use Rattle.nd_region.specs.Places.{kept_where}
 use Rattle.nd_region.proofs.Bodies.{says_two}
 use Rattle.nd_region.proofs.Memory.{Rg, rg_d, rg_val, rg_had, rg_made}
 use Rattle.nd_region.proofs.Loans.{Cut, cuts, kept_length}
+use Rattle.nd_region.proofs.Parts.{moves, leaves}
 use Rattle.nd_region.specs.contracts.region.Region.split as F
 use Rattle.nd_region.specs.contracts.region.Region.split.Key.{name as #self}
 use Rattle.nd_region.proofs.region.Region.split.Statement as stated
@@ -86,7 +87,7 @@ module _ (E : El) where
         let κ = z.0.0.0 in let κ₁ = z.0.0.1.0 in let κ₂ = z.0.0.1.1.0 in let κ₃ = z.0.0.1.1.1.0 in let κ₄ = z.0.0.1.1.1.1.0 in
         let q = z.0.1.0 in let q₁ = z.0.1.1.0 in let q₂ = z.0.1.1.1.0 in let q₃ = z.0.1.1.1.1.0 in let q₄ = z.0.1.1.1.1.1.0 in
         let rb : ℕ = z.0.3.0.ref_ptr.0 in let ro : ℕ = z.0.3.0.ref_ptr.1 in let γ : GName = z.0.3.0.ghost_name in let d : rg_d E = z.0.3.0.now in
-        let g : ℕ → Bool = names z.0.3.1.0 z.0.3.1.1.0.now z.0.3.1.1.1.0.now in
+        let g : ℕ → Bool = moves z.0.3.1.0 z.0.3.1.1.0.now z.0.3.1.1.1.0.now in let h : ℕ → Bool = leaves z.0.3.1.0 z.0.3.1.1.0.now z.0.3.1.1.1.0.now in
         let a : NamedLft = named_lft 5 1 tt z.0.0 in
         let Asks : Type 0 = length z.0.3.1.1.0.now ≡ length z.0.3.1.1.1.0.now in let Within : Type 0 = HasPlaces d z.0.3.1.0 z.0.3.1.1.0.now z.0.3.1.1.1.0.now in
         qed 𝓛 (((‵ (flft κ q) ⊛ ‵ (flft κ₁ q₁) ⊛ ‵ (flft κ₂ q₂) ⊛ ‵ (flft κ₃ q₃) ⊛ ‵ (flft κ₄ q₄) ⊛ ‵ ftrue) ⊛ ‵ (owns (types_at ended.signature.params z.0.0) z.0.3 (spelled z).0.4))
@@ -106,9 +107,9 @@ module _ (E : El) where
         move ! (0 ∷ 5 ∷ []) $ use2 𝓛 (later (some (Cut E 𝓛 b κ₁ q₁ o d.name d.items d.held g))) (cuts E 𝓛 b κ₁ q₁ o d.name d.items d.held g) $ await ! tt $ pick ! (λ γs. split3 ! $ move ! (2 ∷ []) $ split ! $
         -- [the region's token; what its borrow follows; the parts; the region's cell; ..]
         let taken : rg_d E = record { ptr = block_ptr b o; len = d.len; mark = record {}; name = γs.0; items = d.items; held = kept_where g d.held; small = fn } in
-        let left : rg_d E = record { ptr = d.ptr; len = d.len; mark = d.mark; name = γs.1; items = d.items; held = kept_where (λ k. not (g k)) d.held; small = d.small } in
+        let left : rg_d E = record { ptr = d.ptr; len = d.len; mark = d.mark; name = γs.1; items = d.items; held = kept_where h d.held; small = d.small } in
         move ! (2 ∷ []) $ rg_made a E ! taken b o refl fn fit (kept_length g d.held ∙ long) $
-        move ! (3 ∷ []) $ rg_made a E ! left b o at fn fit (kept_length (λ k. not (g k)) d.held ∙ long) $
+        move ! (3 ∷ []) $ rg_made a E ! left b o at fn fit (kept_length h d.held ∙ long) $
         move ! (4 ∷ 0 ∷ 5 ∷ 6 ∷ 7 ∷ []) $ closes ! tt (Rg a E) left (rg_val (block_ptr b o) d.len ∷ []) rb ro $
         -- [obs; the borrow; the `&mut`'s token; the part; the region's token; what its borrow follows; the two slices' tokens; A's]
         returns ! (look_at ! 0 refl) $ free_all ! refl $

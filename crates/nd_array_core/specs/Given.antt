@@ -1,0 +1,24 @@
+-- What a constructor is given: a shape, and an order or strides of the caller's.
+use Rattle.std.specs.Prelude.{ℕ, List, ℤ, pos, Option, None, Some}
+use Rattle.nd_shape_and_slice.specs.declared.builder.Order.{Order}
+use Rattle.nd_shape_and_slice.specs.declared.builder.Order.TheVariants.{RowMajor, ColumnMajor}
+use Rattle.nd_layout.specs.Ranks.{rank_in}
+use Rattle.nd_shape_and_slice.specs.Place.{place_of}
+use Rattle.nd_shape_and_slice.specs.Strides.{c_strides, f_strides}
+use Rattle.nd_layout.specs.Strides.{reach_down}
+
+-- where the element of an index stands among those given: at its rank; or by the caller's strides, from the first
+-- place that leaves room for the negative ones
+abbrev pub given_place : List ℕ → Order → Option (List ℤ) → List ℕ → ℤ
+given_place lengths order None i = pos (rank_in order lengths i)
+given_place lengths order (Some strides) i = place_of (reach_down lengths strides) strides i
+
+-- the strides that an order gives
+abbrev pub ordered_strides : Order → List ℕ → List ℤ
+ordered_strides RowMajor lengths = c_strides lengths
+ordered_strides ColumnMajor lengths = f_strides lengths
+
+-- and the strides that the array is to have
+abbrev pub given_strides : List ℕ → Order → Option (List ℤ) → List ℤ
+given_strides lengths order None = ordered_strides order lengths
+given_strides lengths order (Some strides) = strides

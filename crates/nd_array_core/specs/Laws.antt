@@ -1,0 +1,86 @@
+-- Laws of layout calls. They stand over meanings alone: a shape, and an element at each index of its box.
+use Rattle.std.specs.Prelude.{◌≡◌, ◌<◌, ◌≤◌, ◌==◌, ℕ, true, false, List, [], ◌∷◌, length, map, reverse, slice_index, slice_set, None, ⊤}
+use Rattle.std.specs.List.{position_or_len, range_with_len}
+use Rattle.nd_shape_and_slice.specs.declared.slice.Slice.{Slice}
+use Rattle.nd_shape_and_slice.specs.Axes.{HasEachAxis, permuted, unpermuted}
+use Rattle.nd_shape_and_slice.specs.Shape.{in_box}
+use Rattle.nd_shape_and_slice.specs.Slice.{fits_axis, sliced_length, sliced_from, sliced_shape, sliced_index}
+use Rattle.nd_array_core.specs.Maps.{inverted_index, indexed_shape, indexed_index, widened_shape, widened_index}
+use Rattle.nd_array_core.specs.Meaning.{Meaning, seen}
+
+-- outside the shape's box there is no element, as in every array
+abbrev pub NothingOutside : {A : Type 0} → Meaning A → Type 0
+NothingOutside m = (i : List ℕ) → in_box m.shape i ≡ false → m.at i ≡ None
+
+-- ---- what the calls make of a meaning
+abbrev pub with_axes : {A : Type 0} → List ℕ → Meaning A → Meaning A
+with_axes axes m = seen (permuted axes m.shape) (unpermuted axes) m
+
+abbrev pub with_axes_reversed : {A : Type 0} → Meaning A → Meaning A
+with_axes_reversed m = seen (reverse m.shape) reverse m
+
+abbrev pub with_axis_inverted : {A : Type 0} → ℕ → Meaning A → Meaning A
+with_axis_inverted a m = seen m.shape (inverted_index m.shape a) m
+
+abbrev pub with_axis_inserted : {A : Type 0} → ℕ → Meaning A → Meaning A
+with_axis_inserted a m = seen (widened_shape m.shape a) (widened_index a) m
+
+abbrev pub with_axis_removed : {A : Type 0} → ℕ → Meaning A → Meaning A
+with_axis_removed a m = seen (indexed_shape m.shape a) (indexed_index a 0) m
+
+abbrev pub with_axis_sliced : {A : Type 0} → ℕ → Slice → Meaning A → Meaning A
+with_axis_sliced a s m = seen (sliced_shape m.shape a s) (sliced_index m.shape a s) m
+
+-- ---- the laws
+-- the order of the axes that leads back: at each axis, its place in the order
+abbrev pub inverse_of : List ℕ → List ℕ
+inverse_of axes = map (λ a. position_or_len (λ b. b == a) axes) (range_with_len 0 (length axes))
+
+abbrev pub PermutedBack : Type 0 → Type 0
+PermutedBack A = (m : Meaning A) (axes : List ℕ) → NothingOutside m → HasEachAxis axes (length m.shape) → with_axes (inverse_of axes) (with_axes axes m) ≡ m
+
+abbrev pub ReversedTwice : Type 0 → Type 0
+ReversedTwice A = (m : Meaning A) → NothingOutside m → with_axes_reversed (with_axes_reversed m) ≡ m
+
+abbrev pub InvertedTwice : Type 0 → Type 0
+InvertedTwice A = (m : Meaning A) (a : ℕ) → NothingOutside m → a < length m.shape → with_axis_inverted a (with_axis_inverted a m) ≡ m
+
+abbrev pub InsertedAndRemoved : Type 0 → Type 0
+InsertedAndRemoved A = (m : Meaning A) (a : ℕ) → NothingOutside m → a ≤ length m.shape → with_axis_removed a (with_axis_inserted a m) ≡ m
+
+-- two slices of one axis are one map: the second slice names a coordinate of the first, which names one of the array
+abbrev pub twice_sliced_from : ℕ → Slice → Slice → ℕ → ℕ
+twice_sliced_from n first second c = sliced_from n first (sliced_from (sliced_length n first) second c)
+
+abbrev pub SlicedTwice : Type 0 → Type 0
+SlicedTwice A = (m : Meaning A) (a : ℕ) (first second : Slice) → a < length m.shape → fits_axis (slice_index m.shape a) first ≡ true → fits_axis (sliced_length (slice_index m.shape a) first) second ≡ true → with_axis_sliced a second (with_axis_sliced a first m) ≡ seen (slice_set m.shape a (sliced_length (sliced_length (slice_index m.shape a) first) second)) (λ i. slice_set i a (twice_sliced_from (slice_index m.shape a) first second (slice_index i a))) m
+
+-- ---- paths: one layout step after another, each with its new shape and the old index that each new one names
+pub record PathStep : Type 0 where
+  pub shape : List ℕ
+  pub source : List ℕ → List ℕ
+
+abbrev pub along : {A : Type 0} → List PathStep → Meaning A → Meaning A
+along [] m = m
+along (p ∷ ps) m = along ps (seen p.shape p.source m)
+
+abbrev pub path_shape : List ℕ → List PathStep → List ℕ
+path_shape ns [] = ns
+path_shape ns (p ∷ ps) = path_shape p.shape ps
+
+abbrev pub path_source : List PathStep → List ℕ → List ℕ
+path_source [] i = i
+path_source (p ∷ ps) i = p.source (path_source ps i)
+
+-- a map from one box into another
+abbrev pub LeadsInside : List ℕ → (List ℕ → List ℕ) → List ℕ → Type 0
+LeadsInside new source old = (i : List ℕ) → in_box new i ≡ true → in_box old (source i) ≡ true
+
+-- each step's map leads from its new box into the box before it
+abbrev pub StaysInside : List ℕ → List PathStep → Type 0
+StaysInside ns [] = ⊤
+StaysInside ns (p ∷ ps) = LeadsInside p.shape p.source ns × StaysInside p.shape ps
+
+-- a path's map is the composition of its steps' maps
+abbrev pub PathIsOneMap : Type 0 → Type 0
+PathIsOneMap A = (m : Meaning A) (steps : List PathStep) → NothingOutside m → StaysInside m.shape steps → along steps m ≡ seen (path_shape m.shape steps) (path_source steps) m

@@ -1,0 +1,8 @@
+-- What an iterator over axes has still to give.
+use Rattle.std.specs.Prelude.{List}
+use Rattle.nd_shape_and_slice.specs.declared.descriptions.Axes.{Axes}
+use Rattle.nd_shape_and_slice.specs.declared.descriptions.AxisDescription.{AxisDescription}
+use Rattle.nd_shape_and_slice.specs.Descriptions.{axes_from}
+
+abbrev pub axes_left : {D : Type 0} → Axes D → List AxisDescription
+axes_left a = axes_from a.axis a.lengths.now a.strides.now

@@ -1,0 +1,80 @@
+//! Laws of layout calls, over meanings alone: a shape, and an element at each index of its box. Nothing here runs: each
+//! function's clause is the law.
+
+ghost use Rattle.std.specs.Prelude.{◌≡◌, ◌<◌, ◌≤◌, ℕ, true, List, [], ◌∷◌, length, reverse, swap, slice_index};
+ghost use Rattle.nd_shape_and_slice.specs.declared.slice.Slice.{Slice};
+ghost use Rattle.nd_shape_and_slice.specs.declared.slice_info.SliceInfoElem.{SliceInfoElem};
+ghost use Rattle.nd_shape_and_slice.specs.Axes.{HasEachAxis, permuted, unpermuted};
+ghost use Rattle.nd_shape_and_slice.specs.Slice.{fits_axis, sliced_shape, sliced_index};
+ghost use Rattle.nd_shape_and_slice.specs.SliceInfo.{each_fits, shape_after, index_before};
+ghost use Rattle.nd_array_core.specs.Laws.{PermutedBack, ReversedTwice, InvertedTwice, InsertedAndRemoved, SlicedTwice, PathIsOneMap, LeadsInside, NothingOutside};
+ghost use Rattle.nd_array_core.specs.Maps.{inverted_index, collapsed_shape, collapsed_index, lower_shape, upper_shape, upper_index, indexed_shape, indexed_index, widened_shape, widened_index, diagonal_length, diagonal_index};
+ghost use Rattle.nd_array_core.specs.Broadcast.{broadcasts, forget};
+ghost use Rattle.nd_array_core.specs.Meaning.{meaning_of};
+ghost use Rattle.nd_array_core.specs.Slicing.{collapsed_after, collapsed_before};
+ghost use Rattle.nd_array_core.specs.Squeeze.{squeezed_shape, squeezed_index};
+
+use crate::array::ArrayBase;
+use crate::data::Data;
+use nd_shape_and_slice::Dimension;
+
+/// Axes put in one order, and then in the order that leads back, give the same meaning.
+#[tactic(auto, using(crate::proofs::LawProofs::permuted_back))]
+pub fn permuted_back<A>()
+    ensures { PermutedBack A }
+{}
+
+/// Axes reversed twice give the same meaning.
+#[tactic(auto, using(crate::proofs::LawProofs::reversed_twice))]
+pub fn reversed_twice<A>()
+    ensures { ReversedTwice A }
+{}
+
+/// An axis inverted twice gives the same meaning.
+pub fn inverted_twice<A>()
+    ensures { InvertedTwice A }
+{}
+
+/// An axis put in and taken out again gives the same meaning.
+#[tactic(auto, using(crate::proofs::LawProofs::inserted_and_removed))]
+pub fn inserted_and_removed<A>()
+    ensures { InsertedAndRemoved A }
+{}
+
+/// Two slices of one axis are one map, their composition.
+#[tactic(auto, using(crate::proofs::LawProofs::sliced_twice))]
+pub fn sliced_twice<A>()
+    ensures { SlicedTwice A }
+{}
+
+/// A path of layout steps is one map: the composition of its steps' maps.
+#[tactic(auto, using(crate::proofs::LawProofs::path_is_one_map))]
+pub fn path_is_one_map<A>()
+    ensures { PathIsOneMap A }
+{}
+
+/// Each layout call's map leads from the new box into the old, so a list of calls is a path. (A slice for each axis is
+/// as many slices of one axis.)
+pub fn maps_lead_inside()
+    ensures sliced { (ns : List ℕ) (a : ℕ) (s : Slice) → a < length ns → fits_axis (slice_index ns a) s ≡ true → LeadsInside (sliced_shape ns a s) (sliced_index ns a s) ns }
+    ensures listed { (ns : List ℕ) (es : List SliceInfoElem) → each_fits ns es ≡ true → LeadsInside (shape_after ns es) (index_before ns es) ns }
+    ensures collapsed_list { (ns : List ℕ) (es : List SliceInfoElem) → each_fits ns es ≡ true → LeadsInside (collapsed_after ns es) (collapsed_before ns es) ns }
+    ensures permuted { (ns : List ℕ) (axes : List ℕ) → HasEachAxis axes (length ns) → LeadsInside (permuted axes ns) (unpermuted axes) ns }
+    ensures reversed { (ns : List ℕ) → LeadsInside (reverse ns) reverse ns }
+    ensures swapped { (ns : List ℕ) (a b : ℕ) → a < length ns → b < length ns → LeadsInside (swap ns a b) (λ i. swap i a b) ns }
+    ensures inverted { (ns : List ℕ) (a : ℕ) → a < length ns → LeadsInside ns (inverted_index ns a) ns }
+    ensures collapsed { (ns : List ℕ) (a k : ℕ) → k < slice_index ns a → LeadsInside (collapsed_shape ns a) (collapsed_index a k) ns }
+    ensures lower { (ns : List ℕ) (a k : ℕ) → a < length ns → k ≤ slice_index ns a → LeadsInside (lower_shape ns a k) (λ i. i) ns }
+    ensures upper { (ns : List ℕ) (a k : ℕ) → a < length ns → k ≤ slice_index ns a → LeadsInside (upper_shape ns a k) (upper_index a k) ns }
+    ensures indexed { (ns : List ℕ) (a k : ℕ) → a < length ns → k < slice_index ns a → LeadsInside (indexed_shape ns a) (indexed_index a k) ns }
+    ensures widened { (ns : List ℕ) (a : ℕ) → a ≤ length ns → LeadsInside (widened_shape ns a) (widened_index a) ns }
+    ensures squeezed { (ns : List ℕ) → LeadsInside (squeezed_shape ns) (squeezed_index ns) ns }
+    ensures diagonal { (ns : List ℕ) → LeadsInside (diagonal_length ns ∷ []) (diagonal_index ns) ns }
+    ensures broadcast { (ns to : List ℕ) → broadcasts ns to ≡ true → LeadsInside to (forget ns to) ns }
+{}
+
+/// An array means nothing outside its shape's box, which the laws ask of a meaning.
+#[tactic(auto, unfolding(crate::specs::Meaning::shape_of, crate::specs::Meaning::element_at))]
+pub fn nothing_outside<S: Data, D: Dimension>(array: &ArrayBase<S, D>)
+    ensures { NothingOutside (meaning_of array.now) }
+{}

@@ -1,0 +1,32 @@
+//! Views under strides of the caller's.
+
+ghost use Rattle.std.specs.Prelude.{◌≡◌, ◌<◌, ◌∷◌, [], ℕ, pos, List, length, slice_get, IfOk};
+ghost use Rattle.nd_array_core.specs.Meaning.{shape_of, element_at, layout_strides};
+
+use nd_array_core::{ArrayView1, ArrayView2};
+use nd_shape_and_slice::{Axis, ShapeBuilder, ShapeError};
+
+/// One element under the least stride, its axis then turned round: the opposite stride doesn't fit, and becomes 0.
+pub fn turned_at_the_least_stride<A>(items: &[A]) -> Result<ArrayView1<'_, A>, ShapeError>
+    ensures shape { IfOk result (λ v. shape_of v ≡ 1 ∷ []) }
+    ensures strides { IfOk result (λ v. layout_strides v ≡ pos 0 ∷ []) }
+{
+    match ArrayView1::from_shape(1.strides(&[isize::MIN]), items) {
+        Ok(view) => {
+            let mut turned = view;
+            turned.invert_axis(Axis(0));
+            Ok(turned)
+        }
+        Err(error) => Err(error),
+    }
+}
+
+/// The slice as each of so many rows, with no copy.
+pub fn row_repeated<A>(rows: usize, items: &[A]) -> Result<ArrayView2<'_, A>, ShapeError>
+    ensures elements { IfOk result (λ v. (i j : ℕ) → i < rows → j < length items.now → element_at v (i ∷ j ∷ []) ≡ slice_get items.now j) }
+{
+    match ArrayView2::from_shape((rows, items.len()).strides(&[0, 1]), items) {
+        Ok(view) => Ok(view),
+        Err(error) => Err(error),
+    }
+}

@@ -1,0 +1,11 @@
+-- Layouts with separated strides, split off a region: distinct indexes have distinct places there.
+use Rattle.std.specs.Prelude.{◌≡◌, ℕ, List, ℤ, length}
+use native.Mathlib.Omega.{arith}
+use Rattle.nd_shape_and_slice.specs.Place.{IsSeparated}
+use Rattle.nd_layout.proofs.Distinct.{same_index}
+use Rattle.nd_layout.proofs.Integers.{sums}
+use Rattle.nd_region.specs.Places.{HasDistinctPlaces}
+
+-- separated strides give distinct indexes distinct places
+pub separated_distinct : (first : ℕ) (ns : List ℕ) (ss : List ℤ) → length ss ≡ length ns → IsSeparated ns ss → HasDistinctPlaces first ns ss
+separated_distinct first ns ss as_many separated = λ i j b c same. same_index ns ss i j as_many separated b c (omega (arith, sums, same))

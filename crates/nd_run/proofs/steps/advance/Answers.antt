@@ -1,0 +1,14 @@
+use Rattle.std.proofs.Common.{◌≡◌, ◌∙◌, ap, sym, None}
+use Rattle.nd_array_core.specs.Meaning.{meaning_of, shape_of}
+use Rattle.nd_run.specs.Calls.{asked_step}
+use Rattle.nd_run.specs.Steps.{keep_refusal}
+use Rattle.nd_run.proofs.FoldLemmas.{taken_ok}
+use Rattle.nd_run.proofs.StepTests.{keep_allows}
+use Rattle.nd_run.proofs.steps.advance.Goals as goal
+
+pub returns-in-None : goal.returns-in-None
+returns-in-None g c =
+    let step = asked_step c.args.step.now in
+    let old = c.args.view in
+    let allowed : keep_refusal step (shape_of old) ≡ None = ap (keep_refusal step) (sym c.shape.ensures) ∙ sym c.in-None.ensures in
+    taken_ok step (meaning_of old) (meaning_of c.take_step.result) (keep_allows step (shape_of old) allowed) c.take_step.ensures.shape c.take_step.ensures.elements

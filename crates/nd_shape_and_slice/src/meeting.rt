@@ -1,0 +1,151 @@
+//! Whether two lists of slices name an element in common: by arithmetic on each axis, with no walk over indexes.
+
+ghost use Rattle.std.specs.Prelude.{◌↔◌, ◌≡◌, ◌≤◌, ◌<◌, ◌+◌, ◌-◌, ◌*◌, ℕ, true, Some, length, drop, IsTrue, MatchOption};
+ghost use Rattle.nd_shape_and_slice.specs.Slice.{fits_axis};
+ghost use Rattle.nd_shape_and_slice.specs.SliceInfo.{fits_next, fits_shape};
+ghost use Rattle.nd_shape_and_slice.specs.Meeting.{IsFirstMultiple, Share, IsProgression, Intersect, from_reader, lowest_from, stays_above};
+
+use crate::slice::Slice;
+use crate::slice_info::{SliceInfoElem, coordinate_on_axis};
+
+/// The first of `start`, `start + step`, `start + 2 * step` and so on that the divisor divides: how many steps lead
+/// to it, and the quotient. None where the divisor divides none of them.
+fn first_multiple(divisor: usize, start: usize, step: usize) -> Option<(usize, usize)>
+    requires { 0 < divisor }
+    ensures { MatchOption result ((v u : ℕ) → divisor * u ≡ start + step * v → ⊥) (λ r. IsFirstMultiple divisor start step r.0 r.1) }
+{
+    let over = start % divisor;
+    if over == 0 {
+        return Some((0, start / divisor));
+    }
+    let rest = step % divisor;
+    if rest == 0 {
+        return None;
+    }
+    match first_multiple(rest, divisor - over, divisor) {
+        Some((turns, steps)) => Some((
+            steps,
+            step / divisor * steps + turns + (start / divisor + 1),
+        )),
+        None => None,
+    }
+}
+
+/// Coordinates of an axis at equal distances, from `low` on.
+#[derive(Clone, Copy)]
+struct Spaced {
+    low: usize,
+    distance: usize,
+    count: usize,
+}
+
+/// Whether the second list, which begins no lower than the first, has a coordinate of it.
+#[tactic(auto, using(crate::proofs::Multiples::shared, crate::proofs::Multiples::share_first, crate::proofs::Multiples::no_share))]
+fn meets_from(low: Spaced, high: Spaced) -> bool
+    requires order { low.low ≤ high.low }
+    requires distance { 0 < low.distance }
+    ensures { IsTrue result ↔ Share low.low low.distance low.count high.low high.distance high.count }
+{
+    match first_multiple(low.distance, high.low - low.low, high.distance) {
+        Some((in_high, in_low)) => in_high < high.count && in_low < low.count,
+        None => false,
+    }
+}
+
+/// Whether some coordinate is in both.
+#[tactic(auto, using(crate::proofs::Multiples::share_swapped))]
+fn spaced_meet(first: Spaced, second: Spaced) -> bool
+    requires first { 0 < first.distance }
+    requires second { 0 < second.distance }
+    ensures { IsTrue result ↔ Share first.low first.distance first.count second.low second.distance second.count }
+{
+    if first.low <= second.low {
+        meets_from(first, second)
+    } else {
+        meets_from(second, first)
+    }
+}
+
+/// The lowest of `count` coordinates from `first` on, by a step.
+fn lowest(first: usize, count: usize, step: isize) -> usize
+    requires { stays_above first count step ≡ true }
+    ensures { result ≡ lowest_from first count step }
+{
+    if step < 0 && count > 0 {
+        first - (count - 1) * step.unsigned_abs()
+    } else {
+        first
+    }
+}
+
+/// The coordinates that a slice names, from the lowest on.
+#[tactic(auto, using(crate::proofs::Progressions::progression_of, crate::proofs::Progressions::stays_on))]
+fn spaced_by_slice(len: usize, slice: Slice) -> Spaced
+    requires { fits_axis len slice ≡ true }
+    ensures { IsProgression len (SliceInfoElem.Slice slice.start slice.end slice.step) result.low result.distance result.count }
+{
+    let on_axis = slice.on_axis(len);
+    Spaced {
+        low: lowest(on_axis.first, on_axis.len, slice.step),
+        distance: slice.step.unsigned_abs(),
+        count: on_axis.len,
+    }
+}
+
+/// The coordinates of an axis that an element names, from the lowest on.
+#[tactic(auto, using(crate::proofs::Progressions::whole_axis))]
+fn spaced_by(len: usize, element: SliceInfoElem) -> Spaced
+    requires { fits_next (Some len) element ≡ true }
+    ensures { IsProgression len element result.low result.distance result.count }
+{
+    match element {
+        SliceInfoElem::Slice { start, end, step } => spaced_by_slice(
+            len,
+            Slice::new(start, end, step),
+        ),
+        SliceInfoElem::Index(coordinate) => Spaced {
+            low: coordinate_on_axis(len, coordinate).unwrap_or(0),
+            distance: 1,
+            count: 1,
+        },
+        SliceInfoElem::NewAxis => Spaced {
+            low: 0,
+            distance: 1,
+            count: len,
+        },
+    }
+}
+
+/// Where the next element that reads an axis stands, from this place on.
+fn next_reader(elements: &[SliceInfoElem], from: usize) -> usize
+    requires { from ≤ length elements.now }
+    ensures rest { drop result elements.now ≡ from_reader (drop from elements.now) }
+    ensures within { result ≤ length elements.now }
+{
+    let mut place = from;
+    while place < elements.len() && !elements[place].reads_axis() {
+        place += 1;
+    }
+    place
+}
+
+/// Whether two lists that fit the shape name an element of the array in common.
+#[tactic(auto, using(crate::proofs::CommonElements::met_start, crate::proofs::CommonElements::met_more, crate::proofs::CommonElements::met_not, crate::proofs::CommonElements::met_all))]
+pub fn slices_intersect(shape: &[usize], a: &[SliceInfoElem], b: &[SliceInfoElem]) -> bool
+    requires first { fits_shape shape.now a.now ≡ true }
+    requires second { fits_shape shape.now b.now ≡ true }
+    ensures { IsTrue result ↔ Intersect shape.now a.now b.now }
+{
+    let mut in_a = 0;
+    let mut in_b = 0;
+    for len in shape {
+        in_a = next_reader(a, in_a);
+        in_b = next_reader(b, in_b);
+        if !spaced_meet(spaced_by(*len, a[in_a]), spaced_by(*len, b[in_b])) {
+            return false;
+        }
+        in_a += 1;
+        in_b += 1;
+    }
+    true
+}
