@@ -7,6 +7,11 @@ pub mod BroadcastStep
 pub mod StepLemmas
 pub mod SliceStep
 pub mod PermuteStep
+pub mod PartStep
+pub mod TaskStep
+pub mod PairStep
+pub mod PairTask
+pub mod PartTask
 pub mod PermuteLoop
 pub mod AxisStep
 pub mod ExchangeStep
@@ -18,3 +23,9 @@ pub mod KeepStep
 pub mod EachAxisLoop
 pub mod LawProofs
 pub mod DiagonalStep
+pub mod WriteStep
+pub mod Filling
+pub mod ElementStep
+pub mod Parted
+pub mod ListParts
+pub mod PlaceLaws

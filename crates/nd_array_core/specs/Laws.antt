@@ -1,5 +1,5 @@
 -- Laws of layout calls. They stand over meanings alone: a shape, and an element at each index of its box.
-use Rattle.std.specs.Prelude.{◌≡◌, ◌<◌, ◌≤◌, ◌==◌, ℕ, true, false, List, [], ◌∷◌, length, map, reverse, slice_index, slice_set, None, ⊤}
+use Rattle.std.specs.Prelude.{◌≡◌, ◌<◌, ◌≤◌, ◌==◌, ℕ, true, false, List, [], ◌∷◌, length, map, reverse, slice_index, slice_set, Option, None, Some, is_some, ⊤}
 use Rattle.std.specs.List.{position_or_len, range_with_len}
 use Rattle.nd_shape_and_slice.specs.declared.slice.Slice.{Slice}
 use Rattle.nd_shape_and_slice.specs.Axes.{HasEachAxis, permuted, unpermuted}
@@ -7,6 +7,7 @@ use Rattle.nd_shape_and_slice.specs.Shape.{in_box}
 use Rattle.nd_shape_and_slice.specs.Slice.{fits_axis, sliced_length, sliced_from, sliced_shape, sliced_index}
 use Rattle.nd_array_core.specs.Maps.{inverted_index, indexed_shape, indexed_index, widened_shape, widened_index}
 use Rattle.nd_array_core.specs.Meaning.{Meaning, seen}
+use Rattle.nd_array_core.specs.Placed.{Placed, element_placed}
 
 -- outside the shape's box there is no element, as in every array
 abbrev pub NothingOutside : {A : Type 0} → Meaning A → Type 0
@@ -84,3 +85,17 @@ StaysInside ns (p ∷ ps) = LeadsInside p.shape p.source ns × StaysInside p.sha
 -- a path's map is the composition of its steps' maps
 abbrev pub PathIsOneMap : Type 0 → Type 0
 PathIsOneMap A = (m : Meaning A) (steps : List PathStep) → NothingOutside m → StaysInside m.shape steps → along steps m ≡ seen (path_shape m.shape steps) (path_source steps) m
+
+-- ---- places
+
+-- the indexes of the box have a place, and no others
+abbrev pub HasPlaces : {A : Type 0} → Placed A → Type 0
+HasPlaces v = (i : List ℕ) → is_some (v.place i) ≡ in_box v.shape i
+
+-- the element at an index is what is stored at its place
+abbrev pub ShowsStored : {A : Type 0} → (List ℕ → Option A) → Placed A → Type 0
+ShowsStored at v = (i : List ℕ) → at i ≡ element_placed v i
+
+-- no two indexes have one place
+abbrev pub DistinctPlaces : {A : Type 0} → Placed A → Type 0
+DistinctPlaces v = (i j : List ℕ) (p : ℕ) → v.place i ≡ Some p → v.place j ≡ Some p → i ≡ j

@@ -7,7 +7,8 @@ use Rattle.nd_shape_and_slice.specs.Shape.{in_box}
 use Rattle.nd_shape_and_slice.specs.Place.{place_of}
 use Rattle.nd_array_core.specs.declared.data.Data as data_trait
 use Rattle.nd_array_core.specs.declared.array.ArrayBase.{ArrayBase}
-use Rattle.nd_array_core.specs.Places.{stored_at}
+use Rattle.nd_array_core.specs.Places.{stored_at, place_number}
+use Rattle.nd_array_core.specs.Placed.{Placed}
 
 -- an element that is there only where the index lies in the shape's box
 abbrev pub inside : {A : Type 0} → List ℕ → List ℕ → Option A → Option A
@@ -35,6 +36,18 @@ module _ {S D T A P R L M : Type 0} {s : data_trait.Ghosts S A} {d : dimension.G
   unfoldable pub layout_strides : ArrayBase S D T A P R L M s d n r t → List ℤ
   layout_strides a = t.strides_of a.layout.strides
 
-  -- the two together
+  -- what the array lies in: its elements, each at a place
+  unfoldable pub storage_of : ArrayBase S D T A P R L M s d n r t → S
+  storage_of a = a.storage
+
+  -- the place there of an index's element: nothing outside the shape's box
+  unfoldable pub place_at : ArrayBase S D T A P R L M s d n r t → List ℕ → Option ℕ
+  place_at a i = inside (d.lengths a.layout.dim) i (place_number (place_of a.layout.first (t.strides_of a.layout.strides) i))
+
+  -- shape and elements together
   abbrev pub meaning_of : ArrayBase S D T A P R L M s d n r t → Meaning A
   meaning_of a = record { shape = shape_of a; at = element_at a }
+
+  -- shape, places and storage together
+  abbrev pub placed_of : ArrayBase S D T A P R L M s d n r t → Placed A
+  placed_of a = record { shape = shape_of a; place = place_at a; stored = s.stored (storage_of a) }

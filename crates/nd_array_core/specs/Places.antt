@@ -1,5 +1,5 @@
 -- Places of a storage.
-use Rattle.std.specs.Prelude.{ℕ, ◌^◌, ◌≡◌, Bool, true, false, nat_lt, List, ℤ, pos, negsuc, Option, None, is_some}
+use Rattle.std.specs.Prelude.{ℕ, ◌^◌, ◌≡◌, Bool, true, false, nat_lt, List, ℤ, pos, negsuc, Option, None, Some, is_some, nat_eq, if◌then◌else◌}
 use Rattle.nd_shape_and_slice.specs.Shape.{in_box}
 use Rattle.nd_shape_and_slice.specs.Place.{place_of}
 
@@ -7,6 +7,11 @@ use Rattle.nd_shape_and_slice.specs.Place.{place_of}
 abbrev pub is_place : ℤ → Bool
 is_place (pos p) = nat_lt p (2 ^ 63)
 is_place (negsuc p) = false
+
+-- a whole number as that of a place, None where it is negative
+abbrev pub place_number : ℤ → Option ℕ
+place_number (pos p) = Some p
+place_number (negsuc p) = None
 
 -- every index of the box has a place
 abbrev pub ReachesPlaces : ℕ → List ℕ → List ℤ → Type 0
@@ -24,3 +29,19 @@ names_place stored z = is_some (stored_at stored z)
 -- the storage holds something at the place of every index of the box
 abbrev pub HoldsAll : {A : Type 0} → (ℕ → Option A) → ℕ → List ℕ → List ℤ → Type 0
 HoldsAll stored first lengths strides = (i : List ℕ) → in_box lengths i ≡ true → names_place stored (place_of first strides i) ≡ true
+
+-- a map once the element at a place is another
+abbrev pub written_at : {A : Type 0} → (ℕ → Option A) → ℕ → A → ℕ → Option A
+written_at stored place x p = if nat_eq p place then Some x else stored p
+
+-- a map once the elements at two places have changed places
+abbrev pub swapped_at : {A : Type 0} → (ℕ → Option A) → ℕ → ℕ → ℕ → Option A
+swapped_at stored p q r = if nat_eq r q then stored p else (if nat_eq r p then stored q else stored r)
+
+-- a map at the places that pass a test, and nothing at the others
+abbrev pub kept_at : {A : Type 0} → (ℕ → Bool) → (ℕ → Option A) → ℕ → Option A
+kept_at g stored p = if g p then stored p else None
+
+-- no place is that of an index of each of two arrays
+abbrev pub ShareNoPlace : (List ℕ → Option ℕ) → (List ℕ → Option ℕ) → Type 0
+ShareNoPlace places others = (i j : List ℕ) (p : ℕ) → places i ≡ Some p → others j ≡ Some p → ⊥

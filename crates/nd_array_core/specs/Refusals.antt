@@ -41,3 +41,8 @@ vec_refusal lengths (Some strides) count =
     if nat_lt (nonzero_product lengths) (2 ^ 63) && nat_lt (span_of lengths strides) (2 ^ 63)
     then (if nat_lt count (elements_asked lengths strides) then Some OutOfBounds else (if nat_eq (size_of lengths) 0 || is_separated lengths strides then None else Some Unsupported))
     else Some Overflow
+
+-- a slice seen to be written: it may be longer as any slice, and under strides no two indexes may share an element
+abbrev pub slice_mut_refusal : List ℕ → Option (List ℤ) → ℕ → Option ErrorKind
+slice_mut_refusal lengths None count = slice_refusal lengths None count
+slice_mut_refusal lengths (Some strides) count = vec_refusal lengths (Some strides) count

@@ -1,6 +1,6 @@
 //! Arrays and views by their numbers of axes.
 
-use crate::array::{Array, ArrayView};
+use crate::array::{Array, ArrayView, ArrayViewMut};
 use nd_shape_and_slice::{Ix0, Ix1, Ix2, Ix3, Ix4, Ix5, Ix6, IxDyn};
 
 /// An array with no axes that owns its elements. ndarray's `Array0`.
@@ -50,3 +50,27 @@ pub type ArrayView6<'a, A> = ArrayView<'a, A, Ix6>;
 
 /// A read-only view with any number of axes. ndarray's `ArrayViewD`.
 pub type ArrayViewD<'a, A> = ArrayView<'a, A, IxDyn>;
+
+/// A view to be read and written with no axes. ndarray's `ArrayViewMut0`.
+pub type ArrayViewMut0<'a, A> = ArrayViewMut<'a, A, Ix0>;
+
+/// A view to be read and written with one axis. ndarray's `ArrayViewMut1`.
+pub type ArrayViewMut1<'a, A> = ArrayViewMut<'a, A, Ix1>;
+
+/// A view to be read and written with two axes. ndarray's `ArrayViewMut2`.
+pub type ArrayViewMut2<'a, A> = ArrayViewMut<'a, A, Ix2>;
+
+/// A view to be read and written with three axes. ndarray's `ArrayViewMut3`.
+pub type ArrayViewMut3<'a, A> = ArrayViewMut<'a, A, Ix3>;
+
+/// A view to be read and written with four axes. ndarray's `ArrayViewMut4`.
+pub type ArrayViewMut4<'a, A> = ArrayViewMut<'a, A, Ix4>;
+
+/// A view to be read and written with five axes. ndarray's `ArrayViewMut5`.
+pub type ArrayViewMut5<'a, A> = ArrayViewMut<'a, A, Ix5>;
+
+/// A view to be read and written with six axes. ndarray's `ArrayViewMut6`.
+pub type ArrayViewMut6<'a, A> = ArrayViewMut<'a, A, Ix6>;
+
+/// A view to be read and written with any number of axes. ndarray's `ArrayViewMutD`.
+pub type ArrayViewMutD<'a, A> = ArrayViewMut<'a, A, IxDyn>;

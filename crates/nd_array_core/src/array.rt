@@ -5,7 +5,7 @@ ghost use Rattle.nd_shape_and_slice.specs.Shape.{in_box, size_of, row_rank};
 ghost use Rattle.nd_shape_and_slice.specs.Place.{place_of, IsSeparated};
 ghost use Rattle.nd_array_core.specs.Places.{names_place};
 
-use crate::data::{Data, OwnedRepr, ViewRepr};
+use crate::data::{Data, OwnedRepr, ViewMutRepr, ViewRepr};
 use crate::layout::Layout;
 use nd_shape_and_slice::{Axis, Dimension, NdIndex, StrideList};
 use std::alloc::AllocError;
@@ -28,6 +28,9 @@ pub type Array<A, D> = ArrayBase<OwnedRepr<A>, D>;
 
 /// A read-only view of an array. ndarray's `ArrayView`.
 pub type ArrayView<'a, A, D> = ArrayBase<ViewRepr<'a, A>, D>;
+
+/// A view of an array, to be read and written. ndarray's `ArrayViewMut`.
+pub type ArrayViewMut<'a, A, D> = ArrayBase<ViewMutRepr<'a, A>, D>;
 
 #[tactic(auto, unfolding(crate::specs::Meaning::shape_of, crate::specs::Meaning::element_at, crate::specs::Meaning::layout_strides))]
 impl<S: Data, D: Dimension> ArrayBase<S, D> {

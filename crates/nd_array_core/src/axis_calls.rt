@@ -2,13 +2,13 @@
 
 ghost use Rattle.std.specs.Prelude.{◌≡◌, ◌<◌, ◌≤◌, ℕ, List, length, reverse, slice_index, swap};
 ghost use Rattle.nd_array_core.specs.Maps.{inverted_index, inverted_strides, collapsed_shape, collapsed_index, lower_shape, upper_shape, upper_index};
-ghost use Rattle.nd_array_core.specs.Meaning.{shape_of, element_at, layout_strides, inside};
+ghost use Rattle.nd_array_core.specs.Meaning.{shape_of, element_at, storage_of, place_at, layout_strides, inside};
 
 use crate::array::{ArrayBase, ArrayView};
 use crate::data::{Data, ViewRepr};
 use nd_shape_and_slice::{Axis, Dimension};
 
-#[tactic(auto, unfolding(crate::specs::Meaning::shape_of, crate::specs::Meaning::element_at, crate::specs::Meaning::layout_strides))]
+#[tactic(auto, unfolding(crate::specs::Meaning::shape_of, crate::specs::Meaning::element_at, crate::specs::Meaning::storage_of, crate::specs::Meaning::place_at, crate::specs::Meaning::layout_strides))]
 impl<S: Data, D: Dimension> ArrayBase<S, D> {
     /// Turns an axis below `ndim` round: its coordinates count from the far end. ndarray's `invert_axis`.
     pub fn invert_axis(&mut self, axis: Axis)
@@ -16,6 +16,8 @@ impl<S: Data, D: Dimension> ArrayBase<S, D> {
         ensures shape { shape_of self.new ≡ shape_of self.old }
         ensures strides { layout_strides self.new ≡ inverted_strides (layout_strides self.old) axis.0 }
         ensures elements { (i : List ℕ) → element_at self.new i ≡ inside (shape_of self.new) i (element_at self.old (inverted_index (shape_of self.old) axis.0 i)) }
+        ensures storage { storage_of self.new ≡ storage_of self.old }
+        ensures places { (i : List ℕ) → place_at self.new i ≡ inside (shape_of self.new) i (place_at self.old (inverted_index (shape_of self.old) axis.0 i)) }
     {
         self.layout.invert_axis(axis.0);
     }
@@ -28,6 +30,8 @@ impl<S: Data, D: Dimension> ArrayBase<S, D> {
         ensures shape { shape_of self.new ≡ collapsed_shape (shape_of self.old) axis.0 }
         ensures strides { layout_strides self.new ≡ layout_strides self.old }
         ensures elements { (i : List ℕ) → element_at self.new i ≡ inside (shape_of self.new) i (element_at self.old (collapsed_index axis.0 index i)) }
+        ensures storage { storage_of self.new ≡ storage_of self.old }
+        ensures places { (i : List ℕ) → place_at self.new i ≡ inside (shape_of self.new) i (place_at self.old (collapsed_index axis.0 index i)) }
     {
         self.layout.collapse_axis(axis.0, index);
     }
@@ -39,6 +43,8 @@ impl<S: Data, D: Dimension> ArrayBase<S, D> {
         ensures shape { shape_of self.new ≡ swap (shape_of self.old) a b }
         ensures strides { layout_strides self.new ≡ swap (layout_strides self.old) a b }
         ensures elements { (i : List ℕ) → element_at self.new i ≡ inside (shape_of self.new) i (element_at self.old (swap i a b)) }
+        ensures storage { storage_of self.new ≡ storage_of self.old }
+        ensures places { (i : List ℕ) → place_at self.new i ≡ inside (shape_of self.new) i (place_at self.old (swap i a b)) }
     {
         self.layout.swap_axes(a, b);
     }
@@ -48,6 +54,8 @@ impl<S: Data, D: Dimension> ArrayBase<S, D> {
         ensures shape { shape_of self.new ≡ reverse (shape_of self.old) }
         ensures strides { layout_strides self.new ≡ reverse (layout_strides self.old) }
         ensures elements { (i : List ℕ) → element_at self.new i ≡ inside (shape_of self.new) i (element_at self.old (reverse i)) }
+        ensures storage { storage_of self.new ≡ storage_of self.old }
+        ensures places { (i : List ℕ) → place_at self.new i ≡ inside (shape_of self.new) i (place_at self.old (reverse i)) }
     {
         self.layout.reverse_axes();
     }
@@ -57,6 +65,8 @@ impl<S: Data, D: Dimension> ArrayBase<S, D> {
         ensures shape { shape_of result ≡ reverse (shape_of self) }
         ensures strides { layout_strides result ≡ reverse (layout_strides self) }
         ensures elements { (i : List ℕ) → element_at result i ≡ inside (shape_of result) i (element_at self (reverse i)) }
+        ensures storage { storage_of result ≡ storage_of self }
+        ensures places { (i : List ℕ) → place_at result i ≡ inside (shape_of result) i (place_at self (reverse i)) }
     {
         let mut array = self;
         array.reverse_axes();
@@ -79,6 +89,8 @@ impl<S: Data, D: Dimension> ArrayBase<S, D> {
         ensures shape { shape_of self.new ≡ lower_shape (shape_of self.old) axis index }
         ensures strides { layout_strides self.new ≡ layout_strides self.old }
         ensures elements { (i : List ℕ) → element_at self.new i ≡ inside (shape_of self.new) i (element_at self.old i) }
+        ensures storage { storage_of self.new ≡ storage_of self.old }
+        ensures places { (i : List ℕ) → place_at self.new i ≡ inside (shape_of self.new) i (place_at self.old i) }
     {
         self.layout.keep_lower(axis, index);
     }
@@ -90,12 +102,14 @@ impl<S: Data, D: Dimension> ArrayBase<S, D> {
         ensures shape { shape_of self.new ≡ upper_shape (shape_of self.old) axis index }
         ensures strides { layout_strides self.new ≡ layout_strides self.old }
         ensures elements { (i : List ℕ) → element_at self.new i ≡ inside (shape_of self.new) i (element_at self.old (upper_index axis index i)) }
+        ensures storage { storage_of self.new ≡ storage_of self.old }
+        ensures places { (i : List ℕ) → place_at self.new i ≡ inside (shape_of self.new) i (place_at self.old (upper_index axis index i)) }
     {
         self.layout.keep_upper(axis, index);
     }
 }
 
-#[tactic(auto, unfolding(crate::specs::Meaning::shape_of, crate::specs::Meaning::element_at, crate::specs::Meaning::layout_strides))]
+#[tactic(auto, unfolding(crate::specs::Meaning::shape_of, crate::specs::Meaning::element_at, crate::specs::Meaning::storage_of, crate::specs::Meaning::place_at, crate::specs::Meaning::layout_strides))]
 impl<'a, A, D: Dimension> ArrayView<'a, A, D> {
     /// The same view once more.
     fn copied(&self) -> Self
@@ -105,7 +119,7 @@ impl<'a, A, D: Dimension> ArrayView<'a, A, D> {
     {
         ArrayBase {
             storage: ViewRepr {
-                items: self.storage.items,
+                region: self.storage.region,
             },
             layout: self.layout.copied(),
         }

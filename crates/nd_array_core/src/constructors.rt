@@ -6,20 +6,20 @@ ghost use Rattle.nd_shape_and_slice.specs.Place.{place_of, IsSeparated};
 ghost use Rattle.nd_layout.specs.Strides.{reach_down};
 ghost use Rattle.nd_layout.specs.Ranks.{rank_in};
 ghost use Rattle.nd_array_core.specs.Given.{given_place, ordered_strides, given_strides};
-ghost use Rattle.nd_array_core.specs.Refusals.{vec_refusal, slice_refusal, elements_asked};
+ghost use Rattle.nd_array_core.specs.Refusals.{vec_refusal, slice_refusal, slice_mut_refusal, elements_asked};
 ghost use Rattle.nd_array_core.specs.Meaning.{shape_of, element_at, layout_strides, inside};
 ghost use Rattle.nd_array_core.specs.Places.{stored_at};
 ghost use Rattle.nd_array_core.specs.Steps.{IsValid};
 
-use crate::array::{Array, ArrayBase, ArrayView};
-use crate::data::{Data, OwnedRepr, ViewRepr};
+use crate::array::{Array, ArrayBase, ArrayView, ArrayViewMut};
+use crate::data::{Data, OwnedRepr, ViewMutRepr, ViewRepr};
 use crate::given::{first_in_slice, first_in_vec, size_in_slice, size_in_vec};
 use crate::layout::Layout;
 use nd_shape_and_slice::{Dimension, IntoStrideShape, Order, ShapeError, StrideList};
 
 /// The elements of a storage under a shape, in an order.
 #[tactic(auto, unfolding(crate::specs::Meaning::shape_of, crate::specs::Meaning::element_at, crate::specs::Meaning::layout_strides))]
-fn in_order<S: Data, D: Dimension>(storage: S, dim: D, order: Order) -> ArrayBase<S, D>
+pub(crate) fn in_order<S: Data, D: Dimension>(storage: S, dim: D, order: Order) -> ArrayBase<S, D>
     requires checked { HasCheckedSize (D.lengths dim) }
     requires holds { (place : ℕ) → place < size_of (D.lengths dim) → IsSome (S.stored storage place) }
     ensures shape { shape_of result ≡ D.lengths dim }
@@ -105,11 +105,41 @@ impl<'a, A, D: Dimension> ArrayView<'a, A, D> {
         match given.custom_strides() {
             Some(strides) => {
                 let first = first_in_slice(dim.slice(), strides.slice(), xs.len())?;
-                Ok(with_strides(ViewRepr { items: xs }, first, dim, strides))
+                Ok(with_strides(ViewRepr::of_slice(xs), first, dim, strides))
             }
             None => {
                 size_in_slice(dim.slice(), xs.len())?;
-                Ok(in_order(ViewRepr { items: xs }, dim, given.order()))
+                Ok(in_order(ViewRepr::of_slice(xs), dim, given.order()))
+            }
+        }
+    }
+}
+
+impl<'a, A, D: Dimension> ArrayViewMut<'a, A, D> {
+    /// The view of a shape and the elements of the slice, to be written: in row-major order, after `.f()` in
+    /// column-major order, or by the strides after `.strides(..)`. Overflow where the shape has no checked size, or
+    /// where its places would lie further apart than `isize::MAX`; OutOfBounds where the slice is too short (it may be
+    /// longer); Unsupported where two indexes could share an element. ndarray's `ArrayViewMut::from_shape`.
+    pub fn from_shape<Sh: IntoStrideShape<Dim = D>>(
+        shape: Sh,
+        xs: &'a mut [A],
+    ) -> Result<Self, ShapeError>
+        ensures refused { IfErr result (λ e. slice_mut_refusal (Sh.lengths_meant shape) (Sh.strides_meant shape) (length xs.old) ≡ Some e) }
+        ensures accepted { IfOk result (λ _. slice_mut_refusal (Sh.lengths_meant shape) (Sh.strides_meant shape) (length xs.old) ≡ None) }
+        ensures shape { IfOk result (λ a. shape_of a ≡ Sh.lengths_meant shape) }
+        ensures strides { IfOk result (λ a. layout_strides a ≡ given_strides (Sh.lengths_meant shape) (Sh.order_meant shape) (Sh.strides_meant shape)) }
+        ensures elements { IfOk result (λ a. (i : List ℕ) → element_at a i ≡ inside (Sh.lengths_meant shape) i (stored_at (slice_get xs.old) (given_place (Sh.lengths_meant shape) (Sh.order_meant shape) (Sh.strides_meant shape) i))) }
+    {
+        let given = shape.into_stride_shape();
+        let dim = *given.raw_dim();
+        match given.custom_strides() {
+            Some(strides) => {
+                let first = first_in_vec(dim.slice(), strides.slice(), xs.len())?;
+                Ok(with_strides(ViewMutRepr::of_slice_mut(xs), first, dim, strides))
+            }
+            None => {
+                size_in_slice(dim.slice(), xs.len())?;
+                Ok(in_order(ViewMutRepr::of_slice_mut(xs), dim, given.order()))
             }
         }
     }

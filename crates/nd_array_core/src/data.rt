@@ -1,8 +1,24 @@
-//! The storages of arrays: an owned vector, or a borrowed slice.
+//! The storages of arrays: an owned vector, or a borrow of elements, shared or to be written.
 
-ghost use Rattle.std.specs.Prelude.{◌≡◌, ℕ, Bool, true, false, Option, IsSome, Some, slice_get};
+ghost use Rattle.std.specs.Prelude.{◌≡◌, ◌*◌, ◌<◌, ◌^◌, ℕ, length, Bool, true, false, List, Option, IsSome, Some, None, slice_get, refl};
+ghost use Rattle.std.specs.Borrow.{sem};
+ghost use Rattle.std.specs.List.{flat_map};
+ghost use Rattle.std.specs.Option.{is_some};
+ghost use Rattle.std.specs.Vec.{with_item};
+ghost use base.Fml.{GName};
+ghost use Rattle.nd_region.specs.declared.region.Region.{Region as RegionOf};
+ghost use Rattle.nd_region.specs.Shared.{shared_stored};
+ghost use Rattle.nd_region.specs.Places.{names, names_not};
+ghost use Rattle.nd_region.specs.Region.{stored as region_stored, borrow_of, with_element as region_with, HasPlaces, IsPartWhere, IsAsLong};
+ghost use Rattle.nd_array_core.specs.Places.{HoldsAll, kept_at, written_at, swapped_at};
+ghost use Rattle.nd_array_core.specs.Scoped.{IsNamedPart, with_named};
+ghost use Rattle.nd_array_core.specs.ElementMut.{element_follows, KeepsPlaces, item_kept, item_written, place_kept, place_written};
 
+use crate::layout::Layout;
+use nd_region::{Region, SharedRegion, with_region};
+use nd_shape_and_slice::{Dimension, StrideList};
 use std::alloc::AllocError;
+use std::mem;
 
 /// A storage of elements, each at a place: a number from 0. ndarray's `Data`.
 pub trait Data {
@@ -13,6 +29,9 @@ pub trait Data {
     ghost stored: { Self → ℕ → Option Self.Elem };
     /// Whether an array over it may name an element by one index alone.
     ghost exclusive: { Bool };
+    /// What it is once the element at a place is another, or itself where it isn't to be written. It holds something
+    /// wherever it did.
+    ghost with_element: { (s : Self) → ℕ → Self.Elem → (t : Self) × KeepsPlaces (stored s) (stored t) };
 
     /// The element at a place.
     fn element(&self, place: usize) -> &Self::Elem
@@ -21,7 +40,7 @@ pub trait Data {
 
     /// The same elements, borrowed.
     fn borrowed(&self) -> ViewRepr<'_, Self::Elem>
-        ensures { (place : ℕ) → slice_get result.items.now place ≡ stored self.now place };
+        ensures { (place : ℕ) → shared_stored result.region place ≡ stored self.now place };
 }
 
 /// Elements in a vector that the array owns. ndarray's `OwnedRepr`.
@@ -30,16 +49,51 @@ pub struct OwnedRepr<A> {
     pub(crate) items: Vec<A>,
 }
 
-/// Elements in a borrowed slice. ndarray's `ViewRepr<&'a A>`.
+impl<A> OwnedRepr<A> {
+    ghost use Rattle.std.specs.Borrow.{sem};
+    ghost use Rattle.nd_array_core.specs.Lends.{items_follow};
+
+    /// The elements, to be written.
+    pub(crate) fn items_mut(&mut self) -> &mut [A]
+        ensures* writes_back { sem 𝓛 (items_follow A.row self.entry result) }
+        ensures value { result.now ≡ self.old.items.items }
+    {
+        self.items.as_mut_slice()
+    }
+}
+
+/// Elements that are borrowed, to be read. ndarray's `ViewRepr<&'a A>`.
 pub struct ViewRepr<'a, A> {
-    pub(crate) items: &'a [A],
+    pub(crate) region: SharedRegion<'a, A>,
+}
+
+impl<'a, A> ViewRepr<'a, A> {
+    /// All places of a slice.
+    pub(crate) fn of_slice(items: &'a [A]) -> Self
+        ensures { (place : ℕ) → shared_stored result.region place ≡ slice_get items.now place }
+    {
+        ViewRepr {
+            region: SharedRegion::from_slice(items),
+        }
+    }
+
+    /// All places of rows of N elements each, one row after the other.
+    pub(crate) fn of_rows<const N: usize>(rows: &'a [[A; N]]) -> Self
+        requires { length rows.now * N < 2 ^ 63 }
+        ensures elements { (place : ℕ) → shared_stored result.region place ≡ slice_get (flat_map (λ row. row) rows.now) place }
+        ensures count { length (flat_map (λ row. row) rows.now) ≡ length rows.now * N }
+    {
+        ViewRepr::of_slice(rows.as_flattened())
+    }
 }
 
 impl<'a, A> Clone for ViewRepr<'a, A> {
     ghost is_clone = { λ view copy. copy ≡ view };
 
     fn clone(&self) -> Result<Self, AllocError> {
-        Ok(ViewRepr { items: self.items })
+        Ok(ViewRepr {
+            region: self.region,
+        })
     }
 }
 
@@ -52,30 +106,258 @@ impl<A> Data for OwnedRepr<A> {
 
     ghost exclusive = { true };
 
+    ghost with_element = { λ s place x. (record { items = with_item s.items place x }, item_kept s.items.items place x) };
+
     fn element(&self, place: usize) -> &A {
         &self.items[place]
     }
 
     fn borrowed(&self) -> ViewRepr<'_, A> {
-        ViewRepr {
-            items: self.items.as_slice(),
-        }
+        ViewRepr::of_slice(self.items.as_slice())
     }
 }
 
 impl<'a, A> Data for ViewRepr<'a, A> {
     type Elem = A;
 
-    ghost stored = { λ s place. slice_get s.items.now place };
+    ghost stored = { λ s place. shared_stored s.region place };
 
     ghost exclusive = { false };
 
+    ghost with_element = { λ s _ _. (s, λ p has. has) };
+
     fn element(&self, place: usize) -> &A {
-        let items = self.items;
-        &items[place]
+        let region = self.region;
+        region.get(place)
     }
 
     fn borrowed(&self) -> ViewRepr<'_, A> {
-        ViewRepr { items: self.items }
+        ViewRepr {
+            region: self.region.reborrowed(),
+        }
     }
+}
+
+/// Elements in a region. The region's type is a parameter, so that a borrow of the field needs no proof by hand.
+#[derive(Drop)]
+pub struct RegionRepr<R> {
+    pub(crate) region: R,
+}
+
+/// Elements that are borrowed, to be read and written. ndarray's `ViewRepr<&'a mut A>`.
+pub type ViewMutRepr<'a, A> = RegionRepr<Region<'a, A>>;
+
+impl<'a, A> ViewMutRepr<'a, A> {
+    /// All places of a slice.
+    pub(crate) fn of_slice_mut(items: &'a mut [A]) -> Self
+        ensures { (place : ℕ) → region_stored result.region place ≡ slice_get items.old place }
+    {
+        RegionRepr {
+            region: Region::from_slice(items),
+        }
+    }
+
+    /// All places of rows of N elements each, one row after the other.
+    pub(crate) fn of_rows_mut<const N: usize>(rows: &'a mut [[A; N]]) -> Self
+        requires { length rows.old * N < 2 ^ 63 }
+        ensures elements { (place : ℕ) → region_stored result.region place ≡ slice_get (flat_map (λ row. row) rows.old) place }
+        ensures count { length (flat_map (λ row. row) rows.old) ≡ length rows.old * N }
+    {
+        let _ = rows.as_flattened().len();
+        RegionRepr {
+            region: Region::from_rows(rows),
+        }
+    }
+
+    /// Moves the places that a layout names out of this storage, into one of exactly these under their old numbers.
+    pub(crate) fn split<D: Dimension, T: StrideList>(&mut self, layout: &Layout<D, T>) -> Self
+        requires { HoldsAll (region_stored self.old.region) layout.now.first (D.lengths layout.now.dim) (T.strides_of layout.now.strides) }
+        ensures taken { (place : ℕ) → region_stored result.region place ≡ kept_at (names layout.now.first (D.lengths layout.now.dim) (T.strides_of layout.now.strides)) (region_stored self.old.region) place }
+        ensures left { (place : ℕ) → region_stored self.new.region place ≡ kept_at (names_not layout.now.first (D.lengths layout.now.dim) (T.strides_of layout.now.strides)) (region_stored self.old.region) place }
+    {
+        RegionRepr {
+            region: self
+                .region
+                .split(layout.first, layout.dim.slice(), layout.strides.slice()),
+        }
+    }
+}
+
+impl<R> RegionRepr<R> {
+    ghost use Rattle.nd_array_core.specs.RegionLent.{lends_region};
+
+    fn region_mut(&mut self) -> &mut R
+        ensures* writes_back { sem 𝓛 (lends_region R.row self.entry result) }
+        ensures value { result.now ≡ self.old.region }
+    {
+        &mut self.region
+    }
+}
+
+impl<'a, A> Data for ViewMutRepr<'a, A> {
+    type Elem = A;
+
+    ghost stored = { λ s place. region_stored s.region place };
+
+    ghost exclusive = { true };
+
+    ghost with_element = { λ s place x. (record { region = region_with s.region place x }, place_kept s.region.items s.region.held place x) };
+
+    fn element(&self, place: usize) -> &A {
+        self.region.get(place)
+    }
+
+    fn borrowed(&self) -> ViewRepr<'_, A> {
+        ViewRepr {
+            region: self.region.share(),
+        }
+    }
+}
+
+/// A storage whose elements may be written. ndarray's `DataMut`.
+pub trait DataMut: Data {
+    /// Which borrow the elements are of: what stays while they change.
+    ghost borrow: { Self → Option (GName × List Bool) };
+
+    /// Writes the element at a place, and gives back the one that it held.
+    fn replace(&mut self, place: usize, value: Self::Elem) -> Self::Elem
+        requires { IsSome (Self.stored self.old place) }
+        ensures old { Self.stored self.old place ≡ Some result }
+        ensures new { (p : ℕ) → Self.stored self.new p ≡ written_at (Self.stored self.old) place value p }
+        ensures borrow { borrow self.new ≡ borrow self.old };
+
+    /// The element at a place, to be written.
+    fn element_mut(&mut self, place: usize) -> &mut Self::Elem
+        requires { IsSome (Self.stored self.old place) }
+        ensures* writes_back { sem 𝓛 (element_follows Self.row Self.Elem.row self.entry result (λ x. (Self.with_element self.old place x).0)) }
+        ensures value { Self.stored self.old place ≡ Some result.now };
+
+    /// Exchanges the elements at two places.
+    fn swap(&mut self, p: usize, q: usize)
+        requires p { IsSome (Self.stored self.old p) }
+        requires q { IsSome (Self.stored self.old q) }
+        ensures new { (r : ℕ) → Self.stored self.new r ≡ swapped_at (Self.stored self.old) p q r }
+        ensures borrow { borrow self.new ≡ borrow self.old };
+
+    /// Hands f the places that the layout names by its first place, lengths and strides, for the length of the
+    /// call. Each of them then holds what the region has there which f gives back, and every other place what it
+    /// held. That f gives the same borrow back is the condition `returns`.
+    fn with_part<R, F: for<'b> FnOnce(Region<'b, Self::Elem>) -> (Region<'b, Self::Elem>, R)>(
+        &mut self,
+        first: usize,
+        lengths: &[usize],
+        strides: &[isize],
+        f: F,
+    ) -> R
+        requires as_many { length lengths.now ≡ length strides.now }
+        requires holds { HoldsAll (Self.stored self.old) first lengths.now strides.now }
+        requires callable { (x : RegionOf Self.Elem) → IsNamedPart (Self.stored self.old) first lengths.now strides.now x → F.pre f x }
+        requires returns { (x : RegionOf Self.Elem) (out : RegionOf Self.Elem × R) → IsNamedPart (Self.stored self.old) first lengths.now strides.now x → F.post f x out → borrow_of out.0 ≡ borrow_of x }
+        ensures part { (x : RegionOf Self.Elem) × (s : RegionOf Self.Elem) × IsNamedPart (Self.stored self.old) first lengths.now strides.now x × F.post f x (s, result) × ((p : ℕ) → Self.stored self.new p ≡ with_named (Self.stored self.old) first lengths.now strides.now (region_stored s) p) }
+        ensures there { (p : ℕ) → is_some (Self.stored self.new p) ≡ is_some (Self.stored self.old p) }
+        ensures borrow { borrow self.new ≡ borrow self.old };
+
+    /// An array over it names each element by one index alone.
+    ghost alone: { Self.Data.exclusive ≡ true };
+
+    /// A write of an element leaves the others.
+    ghost element_written: { (s : Self) (place : ℕ) (x : Self.Elem) (p : ℕ) → IsSome (Self.Data.stored s place) → Self.Data.stored (Self.Data.with_element s place x).0 p ≡ written_at (Self.Data.stored s) place x p };
+
+    /// And it leaves the borrow.
+    ghost element_borrow: { (s : Self) (place : ℕ) (x : Self.Elem) → borrow (Self.Data.with_element s place x).0 ≡ borrow s };
+}
+
+impl<A> DataMut for OwnedRepr<A> {
+    ghost borrow = { λ _. None };
+
+    ghost alone = { refl };
+
+    ghost element_written = { λ s place x p has. item_written s.items.items place p x has };
+
+    ghost element_borrow = { λ s place x. refl };
+
+    fn element_mut(&mut self, place: usize) -> &mut A {
+        &mut self.items[place]
+    }
+
+    fn replace(&mut self, place: usize, value: A) -> A {
+        mem::replace(&mut self.items[place], value)
+    }
+
+    fn swap(&mut self, p: usize, q: usize) {
+        self.items.as_mut_slice().swap(p, q);
+    }
+
+    fn with_part<R, F: for<'b> FnOnce(Region<'b, A>) -> (Region<'b, A>, R)>(
+        &mut self,
+        first: usize,
+        lengths: &[usize],
+        strides: &[isize],
+        f: F,
+    ) -> R {
+        part_of_slice(self.items.as_mut_slice(), first, lengths, strides, f)
+    }
+}
+
+impl<'a, A> DataMut for ViewMutRepr<'a, A> {
+    ghost borrow = { λ s. Some (borrow_of s.region) };
+
+    ghost alone = { refl };
+
+    ghost element_written = { λ s place x p has. place_written s.region.items s.region.held place p x has };
+
+    ghost element_borrow = { λ s place x. refl };
+
+    fn element_mut(&mut self, place: usize) -> &mut A {
+        let region = self.region_mut();
+        region.get_mut(place)
+    }
+
+    fn replace(&mut self, place: usize, value: A) -> A {
+        self.region.replace(place, value)
+    }
+
+    fn swap(&mut self, p: usize, q: usize) {
+        self.region.swap(p, q);
+    }
+
+    fn with_part<R, F: for<'b> FnOnce(Region<'b, A>) -> (Region<'b, A>, R)>(
+        &mut self,
+        first: usize,
+        lengths: &[usize],
+        strides: &[isize],
+        f: F,
+    ) -> R {
+        self.region.with_part(first, lengths, strides, f)
+    }
+}
+
+/// A part of a slice as a region, for the length of the call.
+fn part_of_slice<A, R, F: for<'b> FnOnce(Region<'b, A>) -> (Region<'b, A>, R)>(
+    items: &mut [A],
+    first: usize,
+    lengths: &[usize],
+    strides: &[isize],
+    f: F,
+) -> R
+    requires as_many { length lengths.now ≡ length strides.now }
+    requires holds { HoldsAll (slice_get items.old) first lengths.now strides.now }
+    requires callable { (x : RegionOf A) → IsNamedPart (slice_get items.old) first lengths.now strides.now x → F.pre f x }
+    requires returns { (x : RegionOf A) (out : RegionOf A × R) → IsNamedPart (slice_get items.old) first lengths.now strides.now x → F.post f x out → borrow_of out.0 ≡ borrow_of x }
+    ensures part { (x : RegionOf A) × (s : RegionOf A) × IsNamedPart (slice_get items.old) first lengths.now strides.now x × F.post f x (s, result) × ((p : ℕ) → slice_get items.new p ≡ with_named (slice_get items.old) first lengths.now strides.now (region_stored s) p) }
+    ensures long { length items.new ≡ length items.old }
+{
+    with_region(
+        items,
+        |region|
+            requires { (length lengths.now ≡ length strides.now) × HasPlaces region first lengths.now strides.now × ((x : RegionOf A) → IsPartWhere (names first lengths.now strides.now) region x → F.pre f x) × ((x : RegionOf A) (out : RegionOf A × R) → IsPartWhere (names first lengths.now strides.now) region x → F.post f x out → borrow_of out.0 ≡ borrow_of x) }
+            ensures part { (x : RegionOf A) × (s : RegionOf A) × IsPartWhere (names first lengths.entry.now strides.entry.now) region.entry x × F.post f x (s, result.1) × ((p : ℕ) → region_stored result.0 p ≡ with_named (region_stored region.entry) first lengths.entry.now strides.entry.now (region_stored s) p) }
+            ensures same { borrow_of result.0 ≡ borrow_of region.entry }
+            ensures long { IsAsLong region.entry result.0 }
+        {
+            let mut region = region;
+            let answer = region.with_part(first, lengths, strides, f);
+            (region, answer)
+        },
+    )
 }

@@ -4,7 +4,7 @@ ghost use Rattle.std.specs.Prelude.{◌≡◌, ◌<◌, ◌^◌, ℕ, List, [], 
 ghost use Rattle.nd_shape_and_slice.specs.Place.{span_of};
 ghost use Rattle.nd_layout.specs.Strides.{sum_of};
 ghost use Rattle.nd_array_core.specs.Maps.{diagonal_length, diagonal_stride, diagonal_index};
-ghost use Rattle.nd_array_core.specs.Meaning.{shape_of, element_at, layout_strides, inside};
+ghost use Rattle.nd_array_core.specs.Meaning.{shape_of, element_at, storage_of, place_at, layout_strides, inside};
 ghost use Rattle.nd_array_core.specs.Steps.{IsStep};
 
 use crate::array::{ArrayBase, ArrayView};
@@ -87,7 +87,7 @@ impl<D: Dimension, T: StrideList> Layout<D, T> {
     }
 }
 
-#[tactic(auto, unfolding(crate::specs::Meaning::shape_of, crate::specs::Meaning::element_at, crate::specs::Meaning::layout_strides))]
+#[tactic(auto, unfolding(crate::specs::Meaning::shape_of, crate::specs::Meaning::element_at, crate::specs::Meaning::storage_of, crate::specs::Meaning::place_at, crate::specs::Meaning::layout_strides))]
 impl<S: Data, D: Dimension> ArrayBase<S, D> {
     /// The array of the elements whose coordinates are all the same; of an array without axes, its element.
     /// ndarray's `into_diag`.
@@ -95,6 +95,8 @@ impl<S: Data, D: Dimension> ArrayBase<S, D> {
         ensures shape { shape_of result ≡ diagonal_length (shape_of self) ∷ [] }
         ensures strides { layout_strides result ≡ diagonal_stride (shape_of self) (layout_strides self) ∷ [] }
         ensures elements { (i : List ℕ) → element_at result i ≡ inside (shape_of result) i (element_at self (diagonal_index (shape_of self) i)) }
+        ensures storage { storage_of result ≡ storage_of self }
+        ensures places { (i : List ℕ) → place_at result i ≡ inside (shape_of result) i (place_at self (diagonal_index (shape_of self) i)) }
     {
         let layout = self.layout.diagonal();
         ArrayBase {

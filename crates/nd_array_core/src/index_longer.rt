@@ -3,7 +3,8 @@
 ghost use Rattle.std.specs.Prelude.{◌≡◌, Bool, true, false, MatchOption, Some};
 ghost use Rattle.nd_shape_and_slice.specs.Shape.{in_box};
 
-use crate::array::ArrayView;
+use crate::array::{ArrayBase, ArrayView, ArrayViewMut};
+use crate::data::RegionRepr;
 use nd_shape_and_slice::{Dimension, NdIndex};
 
 /// Indexing that answers references for a view's own lifetime. ndarray's `IndexLonger`.
@@ -48,13 +49,42 @@ impl<'a, 'b, A, D: Dimension, I: NdIndex<D>> IndexLonger<I> for &'b ArrayView<'a
 
     fn get(self, index: I) -> Option<&'a A> {
         let place = self.layout.place_of(index.coordinates())?;
-        let items = self.storage.items;
-        Some(&items[place])
+        let region = self.storage.region;
+        Some(region.get(place))
     }
 
     fn uget(self, index: I) -> &'a A {
         let place = self.layout.place_in_box(index.coordinates());
-        let items = self.storage.items;
-        &items[place]
+        let region = self.storage.region;
+        region.get(place)
+    }
+}
+
+#[tactic(auto, unfolding(crate::specs::Meaning::shape_of, crate::specs::Meaning::element_at))]
+impl<'a, A, D: Dimension, I: NdIndex<D>> IndexLonger<I> for ArrayViewMut<'a, A, D> {
+    ghost use Rattle.nd_array_core.specs.Meaning.{shape_of, element_at};
+
+    type Output = &'a mut A;
+
+    ghost has_index = { λ view index. in_box (shape_of view) (I.coordinates_of index) };
+
+    ghost longer_gives = { λ view index element. element_at view (I.coordinates_of index) ≡ Some element.now };
+
+    fn index(self, index: I) -> &'a mut A {
+        self.uget(index)
+    }
+
+    fn get(self, index: I) -> Option<&'a mut A> {
+        let ArrayBase { storage, layout } = self;
+        let RegionRepr { region } = storage;
+        let place = layout.place_of(index.coordinates())?;
+        Some(region.into_mut(place))
+    }
+
+    fn uget(self, index: I) -> &'a mut A {
+        let ArrayBase { storage, layout } = self;
+        let RegionRepr { region } = storage;
+        let place = layout.place_in_box(index.coordinates());
+        region.into_mut(place)
     }
 }

@@ -1,5 +1,5 @@
-//! Laws of layout calls, over meanings alone: a shape, and an element at each index of its box. Nothing here runs: each
-//! function's clause is the law.
+//! Laws of layout calls, over meanings alone: a shape, and an element at each index of its box; and of places. Nothing here
+//! runs: each function's clause is the law.
 
 ghost use Rattle.std.specs.Prelude.{◌≡◌, ◌<◌, ◌≤◌, ℕ, true, List, [], ◌∷◌, length, reverse, swap, slice_index};
 ghost use Rattle.nd_shape_and_slice.specs.declared.slice.Slice.{Slice};
@@ -7,15 +7,15 @@ ghost use Rattle.nd_shape_and_slice.specs.declared.slice_info.SliceInfoElem.{Sli
 ghost use Rattle.nd_shape_and_slice.specs.Axes.{HasEachAxis, permuted, unpermuted};
 ghost use Rattle.nd_shape_and_slice.specs.Slice.{fits_axis, sliced_shape, sliced_index};
 ghost use Rattle.nd_shape_and_slice.specs.SliceInfo.{each_fits, shape_after, index_before};
-ghost use Rattle.nd_array_core.specs.Laws.{PermutedBack, ReversedTwice, InvertedTwice, InsertedAndRemoved, SlicedTwice, PathIsOneMap, LeadsInside, NothingOutside};
+ghost use Rattle.nd_array_core.specs.Laws.{PermutedBack, ReversedTwice, InvertedTwice, InsertedAndRemoved, SlicedTwice, PathIsOneMap, LeadsInside, NothingOutside, HasPlaces, ShowsStored, DistinctPlaces};
 ghost use Rattle.nd_array_core.specs.Maps.{inverted_index, collapsed_shape, collapsed_index, lower_shape, upper_shape, upper_index, indexed_shape, indexed_index, widened_shape, widened_index, diagonal_length, diagonal_index};
 ghost use Rattle.nd_array_core.specs.Broadcast.{broadcasts, forget};
-ghost use Rattle.nd_array_core.specs.Meaning.{meaning_of};
+ghost use Rattle.nd_array_core.specs.Meaning.{element_at, meaning_of, placed_of};
 ghost use Rattle.nd_array_core.specs.Slicing.{collapsed_after, collapsed_before};
 ghost use Rattle.nd_array_core.specs.Squeeze.{squeezed_shape, squeezed_index};
 
 use crate::array::ArrayBase;
-use crate::data::Data;
+use crate::data::{Data, DataMut};
 use nd_shape_and_slice::Dimension;
 
 /// Axes put in one order, and then in the order that leads back, give the same meaning.
@@ -77,4 +77,17 @@ pub fn maps_lead_inside()
 #[tactic(auto, unfolding(crate::specs::Meaning::shape_of, crate::specs::Meaning::element_at))]
 pub fn nothing_outside<S: Data, D: Dimension>(array: &ArrayBase<S, D>)
     ensures { NothingOutside (meaning_of array.now) }
+{}
+
+/// Each index of an array's box has a place, no other index has one, and the element is what is stored there.
+#[tactic(auto, unfolding(crate::specs::Meaning::shape_of, crate::specs::Meaning::element_at, crate::specs::Meaning::storage_of, crate::specs::Meaning::place_at))]
+pub fn elements_have_places<S: Data, D: Dimension>(array: &ArrayBase<S, D>)
+    ensures places { HasPlaces (placed_of array.now) }
+    ensures elements { ShowsStored (element_at array.now) (placed_of array.now) }
+{}
+
+/// Distinct indexes of an owned array or a mutable view have distinct places.
+#[tactic(auto, unfolding(crate::specs::Meaning::shape_of, crate::specs::Meaning::storage_of, crate::specs::Meaning::place_at))]
+pub fn distinct_places<S: DataMut, D: Dimension>(array: &ArrayBase<S, D>)
+    ensures { DistinctPlaces (placed_of array.now) }
 {}

@@ -5,13 +5,13 @@ ghost use Rattle.nd_shape_and_slice.specs.Axes.{HasEachAxis, permuted, unpermute
 ghost use Rattle.nd_shape_and_slice.specs.Slice.{fits_axis, sliced_shape, sliced_index};
 ghost use Rattle.nd_layout.specs.Strides.{permuted_strides};
 ghost use Rattle.nd_array_core.specs.Maps.{sliced_strides};
-ghost use Rattle.nd_array_core.specs.Meaning.{shape_of, element_at, layout_strides, inside};
+ghost use Rattle.nd_array_core.specs.Meaning.{shape_of, element_at, storage_of, place_at, layout_strides, inside};
 
 use crate::array::{ArrayBase, ArrayView};
 use crate::data::Data;
 use nd_shape_and_slice::{Axis, Dimension, IntoDimension, Slice};
 
-#[tactic(auto, unfolding(crate::specs::Meaning::shape_of, crate::specs::Meaning::element_at, crate::specs::Meaning::layout_strides))]
+#[tactic(auto, unfolding(crate::specs::Meaning::shape_of, crate::specs::Meaning::element_at, crate::specs::Meaning::storage_of, crate::specs::Meaning::place_at, crate::specs::Meaning::layout_strides))]
 impl<S: Data, D: Dimension> ArrayBase<S, D> {
     /// Keeps of one axis what the slice names. The axis is below `ndim`, and the slice fits it (`slice_fits`).
     /// ndarray's `slice_axis_inplace`.
@@ -21,6 +21,8 @@ impl<S: Data, D: Dimension> ArrayBase<S, D> {
         ensures shape { shape_of self.new ≡ sliced_shape (shape_of self.old) axis.0 slice }
         ensures strides { layout_strides self.new ≡ sliced_strides (shape_of self.old) (layout_strides self.old) axis.0 slice }
         ensures elements { (i : List ℕ) → element_at self.new i ≡ inside (shape_of self.new) i (element_at self.old (sliced_index (shape_of self.old) axis.0 slice i)) }
+        ensures storage { storage_of self.new ≡ storage_of self.old }
+        ensures places { (i : List ℕ) → place_at self.new i ≡ inside (shape_of self.new) i (place_at self.old (sliced_index (shape_of self.old) axis.0 slice i)) }
     {
         self.layout.slice_axis(axis.0, slice);
     }
@@ -47,6 +49,8 @@ impl<S: Data, D: Dimension> ArrayBase<S, D> {
         ensures shape { shape_of result ≡ sliced_shape (shape_of self) axis.0 slice }
         ensures strides { layout_strides result ≡ sliced_strides (shape_of self) (layout_strides self) axis.0 slice }
         ensures elements { (i : List ℕ) → element_at result i ≡ inside (shape_of result) i (element_at self (sliced_index (shape_of self) axis.0 slice i)) }
+        ensures storage { storage_of result ≡ storage_of self }
+        ensures places { (i : List ℕ) → place_at result i ≡ inside (shape_of result) i (place_at self (sliced_index (shape_of self) axis.0 slice i)) }
     {
         let mut array = self;
         array.slice_axis_inplace(axis, slice);
@@ -60,6 +64,8 @@ impl<S: Data, D: Dimension> ArrayBase<S, D> {
         ensures shape { shape_of self.new ≡ permuted (I.lengths_given axes) (shape_of self.old) }
         ensures strides { layout_strides self.new ≡ permuted_strides (I.lengths_given axes) (layout_strides self.old) }
         ensures elements { (i : List ℕ) → element_at self.new i ≡ inside (shape_of self.new) i (element_at self.old (unpermuted (I.lengths_given axes) i)) }
+        ensures storage { storage_of self.new ≡ storage_of self.old }
+        ensures places { (i : List ℕ) → place_at self.new i ≡ inside (shape_of self.new) i (place_at self.old (unpermuted (I.lengths_given axes) i)) }
     {
         let order = axes.into_dimension();
         self.layout.permute_axes(order.slice());
@@ -72,6 +78,8 @@ impl<S: Data, D: Dimension> ArrayBase<S, D> {
         ensures shape { shape_of result ≡ permuted (I.lengths_given axes) (shape_of self) }
         ensures strides { layout_strides result ≡ permuted_strides (I.lengths_given axes) (layout_strides self) }
         ensures elements { (i : List ℕ) → element_at result i ≡ inside (shape_of result) i (element_at self (unpermuted (I.lengths_given axes) i)) }
+        ensures storage { storage_of result ≡ storage_of self }
+        ensures places { (i : List ℕ) → place_at result i ≡ inside (shape_of result) i (place_at self (unpermuted (I.lengths_given axes) i)) }
     {
         let mut array = self;
         array.permute_axes(axes);

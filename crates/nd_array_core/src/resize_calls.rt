@@ -4,7 +4,7 @@ ghost use Rattle.std.specs.Prelude.{◌↔◌, ◌≡◌, ◌<◌, ◌≤◌, �
 ghost use Rattle.std.specs.List.{remove, insert};
 ghost use Rattle.nd_shape_and_slice.specs.declared.errors.ErrorKind.{ErrorKind};
 ghost use Rattle.nd_array_core.specs.Maps.{indexed_shape, indexed_index, widened_shape, widened_index};
-ghost use Rattle.nd_array_core.specs.Meaning.{shape_of, element_at, layout_strides, inside};
+ghost use Rattle.nd_array_core.specs.Meaning.{shape_of, element_at, storage_of, place_at, layout_strides, inside};
 
 use crate::array::{ArrayBase, ArrayView};
 use crate::data::Data;
@@ -12,7 +12,7 @@ use nd_shape_and_slice::{
     Axis, Dimension, ErrorKind, InsertAxis, Ix1, Ix2, IxDyn, RemoveAxis, ShapeError,
 };
 
-#[tactic(auto, unfolding(crate::specs::Meaning::shape_of, crate::specs::Meaning::element_at, crate::specs::Meaning::layout_strides))]
+#[tactic(auto, unfolding(crate::specs::Meaning::shape_of, crate::specs::Meaning::element_at, crate::specs::Meaning::storage_of, crate::specs::Meaning::place_at, crate::specs::Meaning::layout_strides))]
 impl<S: Data + Drop, D: Dimension> ArrayBase<S, D> {
     /// The array as one of another dimension; IncompatibleShape exactly where that can't have as many axes.
     /// ndarray's `into_dimensionality`.
@@ -22,6 +22,8 @@ impl<S: Data + Drop, D: Dimension> ArrayBase<S, D> {
         ensures shape { IfOk result (λ a. shape_of a ≡ shape_of self) }
         ensures strides { IfOk result (λ a. layout_strides a ≡ layout_strides self) }
         ensures elements { IfOk result (λ a. (i : List ℕ) → element_at a i ≡ element_at self i) }
+        ensures storage { IfOk result (λ a. storage_of a ≡ storage_of self) }
+        ensures places { IfOk result (λ a. (i : List ℕ) → place_at a i ≡ place_at self i) }
     {
         match self.layout.as_dimension::<E>() {
             Some(layout) => Ok(ArrayBase {
@@ -33,13 +35,15 @@ impl<S: Data + Drop, D: Dimension> ArrayBase<S, D> {
     }
 }
 
-#[tactic(auto, unfolding(crate::specs::Meaning::shape_of, crate::specs::Meaning::element_at, crate::specs::Meaning::layout_strides))]
+#[tactic(auto, unfolding(crate::specs::Meaning::shape_of, crate::specs::Meaning::element_at, crate::specs::Meaning::storage_of, crate::specs::Meaning::place_at, crate::specs::Meaning::layout_strides))]
 impl<S: Data, D: Dimension> ArrayBase<S, D> {
     /// The array as one whose number of axes is known only at run time. ndarray's `into_dyn`.
     pub fn into_dyn(self) -> ArrayBase<S, IxDyn>
         ensures shape { shape_of result ≡ shape_of self }
         ensures strides { layout_strides result ≡ layout_strides self }
         ensures elements { (i : List ℕ) → element_at result i ≡ element_at self i }
+        ensures storage { storage_of result ≡ storage_of self }
+        ensures places { (i : List ℕ) → place_at result i ≡ place_at self i }
     {
         let layout = self.layout.as_dynamic();
         ArrayBase {
@@ -49,7 +53,7 @@ impl<S: Data, D: Dimension> ArrayBase<S, D> {
     }
 }
 
-#[tactic(auto, unfolding(crate::specs::Meaning::shape_of, crate::specs::Meaning::element_at, crate::specs::Meaning::layout_strides))]
+#[tactic(auto, unfolding(crate::specs::Meaning::shape_of, crate::specs::Meaning::element_at, crate::specs::Meaning::storage_of, crate::specs::Meaning::place_at, crate::specs::Meaning::layout_strides))]
 impl<S: Data, D: RemoveAxis> ArrayBase<S, D>
 where
     D::Smaller: Dimension,
@@ -62,6 +66,8 @@ where
         ensures shape { shape_of result ≡ indexed_shape (shape_of self) axis.0 }
         ensures strides { layout_strides result ≡ remove (layout_strides self) axis.0 }
         ensures elements { (i : List ℕ) → element_at result i ≡ inside (shape_of result) i (element_at self (indexed_index axis.0 index i)) }
+        ensures storage { storage_of result ≡ storage_of self }
+        ensures places { (i : List ℕ) → place_at result i ≡ inside (shape_of result) i (place_at self (indexed_index axis.0 index i)) }
     {
         let layout = self.layout.index_axis(axis.0, index);
         ArrayBase {
@@ -90,12 +96,14 @@ where
         ensures shape { shape_of result ≡ indexed_shape (shape_of self) axis.0 }
         ensures strides { layout_strides result ≡ remove (layout_strides self) axis.0 }
         ensures elements { (i : List ℕ) → element_at result i ≡ inside (shape_of result) i (element_at self (indexed_index axis.0 0 i)) }
+        ensures storage { storage_of result ≡ storage_of self }
+        ensures places { (i : List ℕ) → place_at result i ≡ inside (shape_of result) i (place_at self (indexed_index axis.0 0 i)) }
     {
         self.index_axis_move(axis, 0)
     }
 }
 
-#[tactic(auto, unfolding(crate::specs::Meaning::shape_of, crate::specs::Meaning::element_at, crate::specs::Meaning::layout_strides))]
+#[tactic(auto, unfolding(crate::specs::Meaning::shape_of, crate::specs::Meaning::element_at, crate::specs::Meaning::storage_of, crate::specs::Meaning::place_at, crate::specs::Meaning::layout_strides))]
 impl<S: Data, D: InsertAxis> ArrayBase<S, D>
 where
     D::Larger: Dimension,
@@ -108,6 +116,8 @@ where
         ensures shape { shape_of result ≡ widened_shape (shape_of self) axis.0 }
         ensures strides { layout_strides result ≡ insert (layout_strides self) axis.0 (pos 1) }
         ensures elements { (i : List ℕ) → element_at result i ≡ inside (shape_of result) i (element_at self (widened_index axis.0 i)) }
+        ensures storage { storage_of result ≡ storage_of self }
+        ensures places { (i : List ℕ) → place_at result i ≡ inside (shape_of result) i (place_at self (widened_index axis.0 i)) }
     {
         let layout = self.layout.insert_axis(axis.0);
         ArrayBase {
@@ -117,7 +127,7 @@ where
     }
 }
 
-#[tactic(auto, unfolding(crate::specs::Meaning::shape_of, crate::specs::Meaning::element_at, crate::specs::Meaning::layout_strides))]
+#[tactic(auto, unfolding(crate::specs::Meaning::shape_of, crate::specs::Meaning::element_at, crate::specs::Meaning::storage_of, crate::specs::Meaning::place_at, crate::specs::Meaning::layout_strides))]
 impl<S: Data> ArrayBase<S, Ix2> {
     /// The view of a row below `nrows`. ndarray's `row`.
     pub fn row(&self, index: usize) -> ArrayView<'_, S::Elem, Ix1>
@@ -140,7 +150,7 @@ impl<S: Data> ArrayBase<S, Ix2> {
     }
 }
 
-#[tactic(auto, unfolding(crate::specs::Meaning::shape_of, crate::specs::Meaning::element_at, crate::specs::Meaning::layout_strides))]
+#[tactic(auto, unfolding(crate::specs::Meaning::shape_of, crate::specs::Meaning::element_at, crate::specs::Meaning::storage_of, crate::specs::Meaning::place_at, crate::specs::Meaning::layout_strides))]
 impl<S: Data> ArrayBase<S, IxDyn> {
     /// Keeps one coordinate of an axis, and takes the axis out. The axis is below `ndim`, and the coordinate below its
     /// length. ndarray's `index_axis_inplace`.
@@ -150,6 +160,8 @@ impl<S: Data> ArrayBase<S, IxDyn> {
         ensures shape { shape_of self.new ≡ indexed_shape (shape_of self.old) axis.0 }
         ensures strides { layout_strides self.new ≡ remove (layout_strides self.old) axis.0 }
         ensures elements { (i : List ℕ) → element_at self.new i ≡ inside (shape_of self.new) i (element_at self.old (indexed_index axis.0 index i)) }
+        ensures storage { storage_of self.new ≡ storage_of self.old }
+        ensures places { (i : List ℕ) → place_at self.new i ≡ inside (shape_of self.new) i (place_at self.old (indexed_index axis.0 index i)) }
     {
         let layout = self.layout.index_axis(axis.0, index);
         self.layout = layout;
@@ -163,6 +175,8 @@ impl<S: Data> ArrayBase<S, IxDyn> {
         ensures shape { shape_of self.new ≡ widened_shape (shape_of self.old) axis.0 }
         ensures strides { layout_strides self.new ≡ insert (layout_strides self.old) axis.0 (pos 1) }
         ensures elements { (i : List ℕ) → element_at self.new i ≡ inside (shape_of self.new) i (element_at self.old (widened_index axis.0 i)) }
+        ensures storage { storage_of self.new ≡ storage_of self.old }
+        ensures places { (i : List ℕ) → place_at self.new i ≡ inside (shape_of self.new) i (place_at self.old (widened_index axis.0 i)) }
     {
         let layout = self.layout.insert_axis(axis.0);
         self.layout = layout;

@@ -99,3 +99,21 @@ fn indexes_and_axes(rt: HostRuntime) -> Result<(), Fail> {
     assert_eq!(rt; any.get([1, 0, 0]).copied(), None);
     Ok(())
 }
+
+#[test]
+fn writes_and_swaps(rt: HostRuntime) -> Result<(), Fail> {
+    let mut array: Array<u64, Ix2> = Array::from_shape_vec([2, 3], numbers(rt.alloc(), 6)?)
+        .ok()
+        .ok_or("shape")?;
+    assert!(rt; array.ndim() == 2);
+    array.invert_axis(Axis(1));
+    assert!(rt; array.get([0, 0]).is_some() && array.get([1, 2]).is_some());
+    // [[2, 1, 0], [5, 4, 3]]
+    assert_eq!(rt; array.replace([0, 0], 9), 2);
+    assert!(rt; array.get([0, 0]).is_some() && array.get([1, 2]).is_some());
+    array.swap([0, 0], [1, 2]);
+    assert_eq!(rt; array.get([0, 0]).copied(), Some(3));
+    assert_eq!(rt; array.get([1, 2]).copied(), Some(9));
+    assert_eq!(rt; array.get([0, 1]).copied(), Some(1));
+    Ok(())
+}

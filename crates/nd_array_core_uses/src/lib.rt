@@ -6,12 +6,20 @@ ghost use Rattle.nd_shape_and_slice.specs.Slice.{fits_axis, sliced_shape, sliced
 ghost use Rattle.nd_array_core.specs.Meaning.{shape_of, element_at, inside};
 
 mod broadcasts;
+mod columns;
+mod paint;
 mod strides;
+mod two_parts;
+mod writes;
 
 pub use broadcasts::table_of;
+pub use columns::paint_every_second_column;
 use nd_array_core::{Array, ArrayBase, ArrayView, Data};
 use nd_shape_and_slice::{Axis, Dimension, Ix2, ShapeError, Slice, slice_fits};
+pub use paint::{Fill, fill_slice};
 pub use strides::{row_repeated, turned_at_the_least_stride};
+pub use two_parts::fill_halves;
+pub use writes::{put, put_owned, put_seen, try_put};
 
 /// The part of an axis that a slice names; None where there is no such axis or the slice doesn't fit it.
 pub fn try_slice_axis<'a, S: Data, D: Dimension>(
@@ -45,6 +53,7 @@ pub fn turned_table<A: Drop>(
 #[cfg(test)]
 mod tests {
     use super::*;
+    use nd_array_core::ArrayView1;
     use std::test::Fail;
 
     #[test]
@@ -58,15 +67,29 @@ mod tests {
         Ok(())
     }
 
+    // A cell of the table of one element, where there is such a table.
+    fn cell_of(
+        one: &ArrayView1<'_, u64>,
+        rows: usize,
+        columns: usize,
+        cell: [usize; 2],
+    ) -> Option<u64>
+        requires { shape_of one.now ≡ 1 ∷ [] }
+    {
+        match table_of(one, rows, columns) {
+            Some(table) => table.get(cell).copied(),
+            None => None,
+        }
+    }
+
     #[test]
     fn one_element_as_a_table(rt: HostRuntime) -> Result<(), Fail> {
         let items = [5];
         match turned_at_the_least_stride(&items) {
             Ok(one) => {
                 assert_eq!(rt; one.strides(), [0].as_slice());
-                let table = table_of(&one, 2, 3).ok_or("none")?;
-                assert_eq!(rt; table.get([1, 2]).copied(), Some(5));
-                assert!(rt; table_of(&one, 1 << 40, 1 << 40).is_none());
+                assert_eq!(rt; cell_of(&one, 2, 3, [1, 2]), Some(5));
+                assert_eq!(rt; cell_of(&one, 1 << 40, 1 << 40, [0, 0]), None);
                 Ok(())
             }
             Err(_) => Err("shape".into()),

@@ -4,6 +4,7 @@ pub mod Loans
 pub mod Memory
 pub mod Names
 pub mod Parts
+pub mod Rejoined
 pub mod RunLoans
 pub mod Runs
 pub mod SharedLemmas
@@ -11,3 +12,4 @@ pub mod Sharing
 pub mod Splits
 pub mod Stored
 pub mod Swaps
+pub mod Written

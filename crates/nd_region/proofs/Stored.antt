@@ -2,6 +2,7 @@
 use mathlib.Core.Path.{◌≡◌, refl, sym, ap, ◌∙◌}
 use Rattle.std.specs.Prelude.{ℕ, zero, suc, ◌<◌, List, [], ◌∷◌, Bool, true, false, ◌&&◌, Option, Some, None, length, replicate, if◌then◌else◌}
 use Rattle.std.specs.Option.{is_some}
+use Rattle.std.specs.List.{slice_get}
 use native.Mathlib.Omega.{arith}
 use native.Mathlib.Nat.{not-suc-le-zero}
 use lib.ListN.{set, get_or}
@@ -43,6 +44,17 @@ module _ {A : Type 0} where
   pub whole_stored : (xs : List A) (p : ℕ) (d : A) → p < length xs → stored_in xs (replicate (length xs) true) p ≡ Some (get_or xs p d)
   unfolding stored_in
   whole_stored xs p d lt = all_are xs p d lt
+
+  all_got : (xs : List A) (p : ℕ) → element_in xs (replicate (length xs) true) p ≡ slice_get xs p
+  all_got [] zero = refl
+  all_got [] (suc p) = refl
+  all_got (x ∷ xs) zero = refl
+  all_got (x ∷ xs) (suc p) = all_got xs p
+
+  -- at each number it holds what the slice has there
+  pub whole_got : (xs : List A) (p : ℕ) → stored_in xs (replicate (length xs) true) p ≡ slice_get xs p
+  unfolding stored_in
+  whole_got xs p = all_got xs p
 
   set_there : (xs : List A) (fs : List Bool) (p q : ℕ) (x : A) → is_some (element_in (set xs p x) fs q) ≡ is_some (element_in xs fs q)
   set_there [] fs p q x = refl

@@ -4,6 +4,7 @@ use Rattle.nd_shape_and_slice.specs.Shape.{in_box}
 use Rattle.nd_shape_and_slice.specs.Place.{place_of}
 use Rattle.nd_region.specs.Places.{stored_in, run_written, merged, has_place, kept_where}
 use Rattle.std.specs.Option.{is_some}
+use base.Fml.{GName}
 use Rattle.std.specs.List.{swap}
 use Rattle.nd_region.specs.declared.region.Region.{Region}
 
@@ -23,6 +24,10 @@ module _ {A : Type 0} where
   -- both are the region of one borrow, at two times
   abbrev pub IsSameBorrow : Region A → Region A → Type 0
   IsSameBorrow r s = s.name ≡ r.name
+
+  -- which borrow it is a region of, and which places it has: what stays while its elements change
+  abbrev pub borrow_of : Region A → GName × List Bool
+  borrow_of r = (r.name, r.held)
 
   -- both have the same places, and the same elements there
   abbrev pub IsSameMap : Region A → Region A → Type 0
@@ -47,6 +52,10 @@ module _ {A : Type 0} where
   -- r is the part of s at the places that pass the test, under their numbers in s
   abbrev pub IsPartWhere : (ℕ → Bool) → Region A → Region A → Type 0
   IsPartWhere g s r = (r.items ≡ s.items) × (r.held ≡ kept_where g s.held)
+
+  -- the row of s has as many elements as that of r: so s holds an element at each place of its set where r does
+  abbrev pub IsAsLong : Region A → Region A → Type 0
+  IsAsLong r s = length (elements_of s) ≡ length (elements_of r)
 
   -- s once two parts of it are back, the first of which had the places of p: these have x's elements, the others y's
   abbrev pub rejoined : Region A → Region A → Region A → Region A → Region A

@@ -1,7 +1,7 @@
 //! A region for the length of a call.
-ghost use Rattle.std.specs.Prelude.{◌≡◌, length, IsSome};
+ghost use Rattle.std.specs.Prelude.{◌≡◌, ℕ, if◌then◌else◌, length, IsSome};
 ghost use Rattle.nd_region.specs.Places.{names, names_not};
-ghost use Rattle.nd_region.specs.Region.{IsWhole, IsSameBorrow, IsPartWhere, HasPlaces, rejoined, stored, elements_of, with_swapped, SwappedBetween};
+ghost use Rattle.nd_region.specs.Region.{IsWhole, IsSameBorrow, IsPartWhere, HasPlaces, IsAsLong, borrow_of, rejoined, stored, elements_of, with_swapped, SwappedBetween};
 ghost use Rattle.nd_region.specs.declared.region.Region.{Region as RegionOf};
 
 use crate::region::Region;
@@ -38,7 +38,7 @@ impl<'a, A> Region<'a, A> {
         requires within { HasPlaces self.old first lengths.now strides.now }
         requires callable { (x y : RegionOf A) → IsPartWhere (names first lengths.now strides.now) self.old x → IsPartWhere (names_not first lengths.now strides.now) self.old y → F.pre f x y }
         requires returns { (x y : RegionOf A) (out : RegionOf A × RegionOf A × R) → IsPartWhere (names first lengths.now strides.now) self.old x → IsPartWhere (names_not first lengths.now strides.now) self.old y → F.post f x y out → IsSameBorrow x out.0 × IsSameBorrow y out.1 }
-        ensures { (x : RegionOf A) × (y : RegionOf A) × (s : RegionOf A) × (t : RegionOf A) × IsPartWhere (names first lengths.now strides.now) self.old x × IsPartWhere (names_not first lengths.now strides.now) self.old y × F.post f x y (s, t, result) × (self.new ≡ rejoined self.old x s t) }
+        ensures { (x : RegionOf A) × (y : RegionOf A) × (s : RegionOf A) × (t : RegionOf A) × IsPartWhere (names first lengths.now strides.now) self.old x × IsPartWhere (names_not first lengths.now strides.now) self.old y × F.post f x y (s, t, result) × (self.new ≡ rejoined self.old x s t) × IsAsLong x s × IsAsLong y t }
     {
         let ptr = self.ptr;
         let len = self.len;
@@ -56,6 +56,37 @@ impl<'a, A> Region<'a, A> {
         named.end();
         others.end();
         answer
+    }
+
+    /// Hands f the places that the layout names, for the length of the call. This region then has at each of
+    /// them what that part has which f gives back, and at every other place what it had.
+    pub fn with_part<R, F: for<'b> FnOnce(Region<'b, A>) -> (Region<'b, A>, R)>(
+        &mut self,
+        first: usize,
+        lengths: &[usize],
+        strides: &[isize],
+        f: F,
+    ) -> R
+        requires as_many { length lengths.now ≡ length strides.now }
+        requires within { HasPlaces self.old first lengths.now strides.now }
+        requires callable { (x : RegionOf A) → IsPartWhere (names first lengths.now strides.now) self.old x → F.pre f x }
+        requires returns { (x : RegionOf A) (out : RegionOf A × R) → IsPartWhere (names first lengths.now strides.now) self.old x → F.post f x out → borrow_of out.0 ≡ borrow_of x }
+        ensures part { (x : RegionOf A) × (s : RegionOf A) × IsPartWhere (names first lengths.now strides.now) self.old x × F.post f x (s, result) × ((p : ℕ) → stored self.new p ≡ (if names first lengths.now strides.now p then stored s p else stored self.old p)) }
+        ensures same { borrow_of self.new ≡ borrow_of self.old }
+        ensures long { IsAsLong self.old self.new }
+    {
+        self.split_with(
+            first,
+            lengths,
+            strides,
+            |named, others|
+                requires { F.pre f named }
+                ensures { F.post f named.entry (result.0, result.2) × (result.1 ≡ others.entry) }
+            {
+                let (named, answer) = f(named);
+                (named, others, answer)
+            },
+        )
     }
 
     /// Swaps the elements at two places.

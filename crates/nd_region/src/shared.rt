@@ -3,15 +3,29 @@ ghost use Rattle.std.specs.Prelude.{◌*◌, ◌^◌, ◌≡◌, ◌<◌, ◌≤
 ghost use Rattle.std.specs.List.{flat_map};
 
 use crate::region::Region;
+use std::alloc::AllocError;
 
 /// A shared borrow of elements, as a map from places to elements: of a region's places, or of a slice's.
-#[derive(Clone, Copy)]
 pub enum SharedRegion<'a, A> {
     /// The places of a region.
     Part(&'a Region<'a, A>),
     /// All places of a slice.
     Whole(&'a [A]),
 }
+
+// By hand: a derive would ask Copy of the elements too.
+impl<'a, A> Clone for SharedRegion<'a, A> {
+    ghost is_clone = { λ region copy. copy ≡ region };
+
+    fn clone(&self) -> Result<Self, AllocError> {
+        Ok(match self {
+            SharedRegion::Part(region) => SharedRegion::Part(region),
+            SharedRegion::Whole(items) => SharedRegion::Whole(items),
+        })
+    }
+}
+
+impl<'a, A> Copy for SharedRegion<'a, A> {}
 
 impl<'a, A> SharedRegion<'a, A> {
     ghost use Rattle.nd_region.specs.Shared.{shared_stored, slice_stored, HasSharedRun, IsSharedRunOf};
@@ -29,6 +43,16 @@ impl<'a, A> SharedRegion<'a, A> {
         ensures { shared_stored result ≡ slice_stored (flat_map (λ row. row) rows.now) }
     {
         SharedRegion::Whole(rows.as_flattened())
+    }
+
+    /// The same places, for a shorter time.
+    pub fn reborrowed(&self) -> SharedRegion<'_, A>
+        ensures { shared_stored result ≡ shared_stored self.now }
+    {
+        match self {
+            SharedRegion::Part(region) => region.share(),
+            SharedRegion::Whole(slice) => SharedRegion::Whole(slice),
+        }
     }
 
     /// The element at a place.

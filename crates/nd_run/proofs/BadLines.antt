@@ -15,11 +15,11 @@ record BadCall (n : ℕ) (lines : List (List ℕ)) (bad : ℕ) : Type 0 where
   parts : lines ≡ front ++ (line ∷ back)
   number : bad ≡ length front + n
   some : is_wordless (words_of line) ≡ false
-  calls : List Asked
+  calls : List (Asked ℤ)
   good : AreAll IsCall (worded front) calls
   is : IsNoCall line
 
-later_call : (t : Bool) (n : ℕ) (line : List ℕ) (lines : List (List ℕ)) (bad : ℕ) (calls : List Asked) → is_wordless (words_of line) ≡ t → (h : BadCall (n + 1) lines bad) → AreAll IsCall (cond t (worded h.front) (words_of line ∷ worded h.front)) calls → BadCall n (line ∷ lines) bad
+later_call : (t : Bool) (n : ℕ) (line : List ℕ) (lines : List (List ℕ)) (bad : ℕ) (calls : List (Asked ℤ)) → is_wordless (words_of line) ≡ t → (h : BadCall (n + 1) lines bad) → AreAll IsCall (cond t (worded h.front) (words_of line ∷ worded h.front)) calls → BadCall n (line ∷ lines) bad
 later_call t n line lines bad calls is h good = record {
   front = line ∷ h.front;
   line = h.line;
@@ -45,7 +45,7 @@ bad_call_here n line lines bad is h = record {
   is = no_call line h.0;
 }
 
-calls_bad_after : (n : ℕ) (line : List ℕ) (lines : List (List ℕ)) (bad : ℕ) (call : Asked) → is_wordless (words_of line) ≡ false → numbered n (call_in line) ≡ Ok call
+calls_bad_after : (n : ℕ) (line : List ℕ) (lines : List (List ℕ)) (bad : ℕ) (call : Asked ℤ) → is_wordless (words_of line) ≡ false → numbered n (call_in line) ≡ Ok call
     → (calls_from (n + 1) lines >>= λ cs. Ok (call ∷ cs)) ≡ Err bad → ((m : ℕ) → calls_from (n + 1) lines ≡ Err m → BadCall (n + 1) lines m) → BadCall n (line ∷ lines) bad
 calls_bad_after n line lines bad call is read e others =
     elim (bind_err (calls_from (n + 1) lines) (λ cs. Ok (call ∷ cs)) bad e) [
@@ -90,7 +90,7 @@ call_after_start n line lines bad start is read h =
     let same : worded (line ∷ h.front) ≡ words_of line ∷ worded h.front = rw is refl in
     inr (line ∷ h.front, h.line, h.back, ap (λ (ls : List (List ℕ)). line ∷ ls) h.parts, omega (arith, h.number), h.some, inr (script, (words_of line, worded h.front, same, start_takes (words_of line) start read, h.good), h.is))
 
-abbrev script_with : List ℕ × List ℤ → List Asked → Result AskedScript ℕ
+abbrev script_with : List ℕ × List ℤ → List (Asked ℤ) → Result AskedScript ℕ
 script_with start calls = Ok (record { lengths = start.0; elements = start.1; calls = calls })
 
 script_bad_after : (n : ℕ) (line : List ℕ) (lines : List (List ℕ)) (bad : ℕ) (start : List ℕ × List ℤ) → is_wordless (words_of line) ≡ false → start_in line ≡ Some start → (calls_from (n + 1) lines >>= script_with start) ≡ Err bad → IsBadFrom n (line ∷ lines) bad
@@ -118,14 +118,14 @@ script_bad n (line ∷ lines) bad e = script_bad_by (is_wordless (words_of line)
 
 -- ---- and the first bad line has the number that reading answers
 
-bad_call_by : (t : Bool) (n : ℕ) (first : List ℕ) (lines : List (List ℕ)) (calls : List Asked) (bad : ℕ) → is_wordless (words_of first) ≡ t
-    → AreAll IsCall (cond t (worded lines) (words_of first ∷ worded lines)) calls → (rest : List (List ℕ)) → ((cs : List Asked) → AreAll IsCall (worded lines) cs → calls_from (n + 1) rest ≡ Err bad) → calls_from n (first ∷ rest) ≡ Err bad
+bad_call_by : (t : Bool) (n : ℕ) (first : List ℕ) (lines : List (List ℕ)) (calls : List (Asked ℤ)) (bad : ℕ) → is_wordless (words_of first) ≡ t
+    → AreAll IsCall (cond t (worded lines) (words_of first ∷ worded lines)) calls → (rest : List (List ℕ)) → ((cs : List (Asked ℤ)) → AreAll IsCall (worded lines) cs → calls_from (n + 1) rest ≡ Err bad) → calls_from n (first ∷ rest) ≡ Err bad
 unfolding calls_from
 bad_call_by true n first lines calls bad is good rest h = rw is (h calls good)
 bad_call_by false n first lines [] bad is good rest h = absurd good
 bad_call_by false n first lines (call ∷ calls) bad is good rest h = rw (is, call_line first call good.0, h calls good.1) refl
 
-bad_call_again : (n : ℕ) (front : List (List ℕ)) (line : List ℕ) (back : List (List ℕ)) (calls : List Asked) → AreAll IsCall (worded front) calls → is_wordless (words_of line) ≡ false → IsNoCall line
+bad_call_again : (n : ℕ) (front : List (List ℕ)) (line : List ℕ) (back : List (List ℕ)) (calls : List (Asked ℤ)) → AreAll IsCall (worded front) calls → is_wordless (words_of line) ≡ false → IsNoCall line
     → (bad : ℕ) → bad ≡ length front + n → calls_from n (front ++ (line ∷ back)) ≡ Err bad
 unfolding calls_from
 bad_call_again n [] line back calls good some none bad number = let same : n ≡ bad = omega (arith, number) in rw (some, call_none line none) (ap Err same)
@@ -157,7 +157,7 @@ start_again_bad n (first ∷ front) line back none some bad_start bad number =
 
 after_start : (t : Bool) (n : ℕ) (first : List ℕ) (front rest : List (List ℕ)) (script : AskedScript) (bad : ℕ) → is_wordless (words_of first) ≡ t
     → (start : List (List ℕ)) (others : List (List (List ℕ))) → cond t (worded front) (words_of first ∷ worded front) ≡ start ∷ others → IsStart start script.lengths script.elements → AreAll IsCall others script.calls
-    → (IsScript front script → script_from (n + 1) rest ≡ Err bad) → ((calls : List Asked) → AreAll IsCall (worded front) calls → calls_from (n + 1) rest ≡ Err bad) → script_from n (first ∷ rest) ≡ Err bad
+    → (IsScript front script → script_from (n + 1) rest ≡ Err bad) → ((calls : List (Asked ℤ)) → AreAll IsCall (worded front) calls → calls_from (n + 1) rest ≡ Err bad) → script_from n (first ∷ rest) ≡ Err bad
 unfolding script_from
 after_start true n first front rest script bad is start others e h calls later_script later_calls = rw is (later_script (start, others, e, h, calls))
 after_start false n first front rest script bad is start others e h calls later_script later_calls =

@@ -1,23 +1,16 @@
 -- The call that is read of a line is what its words write, and what they write is read.
-use Rattle.std.proofs.Common.{◌≡◌, ℕ, zero, suc, ◌≤◌, ◌⊎◌, Bool, true, false, cond, List, [], ◌∷◌, ◌++◌, length, ℤ, Option, Some, None, refl, sym, ap, subst, ◌∙◌, append_assoc, append-nil, length-append, arith, inl, inr}
+use Rattle.std.proofs.Common.{◌≡◌, ℕ, zero, suc, ◌≤◌, Bool, true, false, cond, List, [], ◌∷◌, ◌++◌, length, ℤ, Option, Some, None, refl, sym, ap, subst, ◌∙◌, append_assoc, append-nil, length-append, arith}
 use Rattle.std.specs.Prelude.{codes}
 use Rattle.nd_run.specs.declared.keyword.Keyword.{Keyword}
-use Rattle.nd_run.specs.declared.keyword.Keyword.TheVariants.{Start, Keep, Ask, Slash, Shape, Elements, Get, Other}
-use Rattle.nd_run.specs.Calls.{AskedStep, Asking, AskShape, AskElements, AskElement, Asked, Keeping, About}
-use Rattle.nd_run.specs.Grammar.{IsList, IsStep, IsPath, IsQuestion, IsCall, IsStart}
-use Rattle.nd_run.specs.Reading.{◌>>=◌, list_at, keyword_of, keyword_at, spelling, step_at, begins_step, is_slash, is_start, leg_at, path_at, get_at, question_by, question_at, keep_at, ask_at, call_by, call_at, call_of, ended, array_at, start_of}
-use Rattle.nd_run.proofs.Keywords.{spelled}
+use Rattle.nd_run.specs.declared.keyword.Keyword.TheVariants.{Start, Keep, Ask, Write, Split, Shape, Elements, Get}
+use Rattle.nd_run.specs.Calls.{AskedStep, Asking, AskShape, AskElements, AskElement, Acting, Asked, Keeping, About, Writing, SplitWriting}
+use Rattle.nd_run.specs.Grammar.{IsList, IsStep, IsPath, IsQuestion, IsAct, IsCall, IsStart}
+use Rattle.nd_run.specs.Reading.{◌>>=◌, list_at, pair_at, keyword_of, keyword_at, step_at, begins_step, is_slash, is_start, leg_at, path_at, get_at, question_by, question_at, act_at, acts_at, keep_at, ask_at, write_at, split_at, call_by, call_at, call_of, ended, array_at, start_of}
+use Rattle.nd_run.proofs.Keywords.{spelled_as, slash_takes}
 use Rattle.nd_run.proofs.NumberLaws.{some_by}
 use Rattle.nd_run.proofs.LineLaws.{bind_some, some_pair, Front, with_word, list_takes, list_again, IsParts, array_takes, array_again}
-use Rattle.nd_run.proofs.StepLaws.{step_takes, step_again, step_begins}
-
--- a word that names something is spelled so
-named_by : (word : List ℕ) (k : Keyword) → keyword_of word ≡ k → (k ≡ Other → ⊥) → (keyword_of word ≡ Other) ⊎ (word ≡ spelling (keyword_of word)) → word ≡ spelling k
-named_by word k e some (inl other) = absurd (some (sym e ∙ other))
-named_by word k e some (inr is) = is ∙ ap spelling e
-
-spelled_as : (word : List ℕ) (k : Keyword) → keyword_of word ≡ k → (k ≡ Other → ⊥) → word ≡ spelling k
-spelled_as word k e some = named_by word k e some (spelled word)
+use Rattle.nd_run.proofs.StepLaws.{IsPair, pair_takes, pair_again, step_takes, step_again, step_begins}
+use Rattle.nd_run.proofs.ActLaws.{act_takes, act_again, act_no_step, AreActs, acts_take, acts_again}
 
 -- ---- paths
 
@@ -26,10 +19,6 @@ record Leg (words : List (List ℕ)) (step : AskedStep) (rest : List (List ℕ))
   front : List (List ℕ)
   parts : words ≡ front ++ (codes "/" ∷ rest)
   is : IsStep front step
-
-slash_takes : (k : Keyword) (word : List ℕ) → keyword_of word ≡ k → is_slash k ≡ true → word ≡ codes "/"
-slash_takes Slash word is e = spelled_as word Slash is (λ other. absurd cc)
-slash_takes _ word is e = absurd cc
 
 abbrev past_slash : AskedStep → Keyword × List (List ℕ) → Option (AskedStep × List (List ℕ))
 past_slash made slash = cond (is_slash slash.0) (Some (made, slash.1)) None
@@ -167,7 +156,7 @@ question_no_step words (AskElement index) h = ap begins_step h.1 ∙ get_no_step
 
 -- ---- calls
 
-keep_takes : (word : List ℕ) (words : List (List ℕ)) (call : Asked) (rest : List (List ℕ)) → word ≡ codes "keep" → keep_at words ≡ Some (call, rest) → Front IsCall (word ∷ words) call rest
+keep_takes : (word : List ℕ) (words : List (List ℕ)) (call : Asked ℤ) (rest : List (List ℕ)) → word ≡ codes "keep" → keep_at words ≡ Some (call, rest) → Front IsCall (word ∷ words) call rest
 unfolding keep_at
 keep_takes word words call rest is e =
     let a = bind_some (step_at words) (λ step. Some (Keeping step.0, step.1)) (call, rest) e in
@@ -176,7 +165,7 @@ keep_takes word words call rest is e =
     let made : IsCall (codes "keep" ∷ step.front) (Keeping a.0.0) = (step.front, refl, step.is) in
     with_word word (codes "keep") step.front rest words call is (step.parts ∙ ap (λ (ws : List (List ℕ)). step.front ++ ws) p.1) (subst (IsCall (codes "keep" ∷ step.front)) p.0 made)
 
-ask_takes : (n : ℕ) (word : List ℕ) (words : List (List ℕ)) (call : Asked) (rest : List (List ℕ)) → word ≡ codes "ask" → ask_at n words ≡ Some (call, rest) → Front IsCall (word ∷ words) call rest
+ask_takes : (n : ℕ) (word : List ℕ) (words : List (List ℕ)) (call : Asked ℤ) (rest : List (List ℕ)) → word ≡ codes "ask" → ask_at n words ≡ Some (call, rest) → Front IsCall (word ∷ words) call rest
 unfolding ask_at
 ask_takes n word words call rest is e =
     let a = bind_some (path_at n words) (λ path. question_at path.1 >>= λ question. Some (About path.0 question.0, question.1)) (call, rest) e in
@@ -188,12 +177,38 @@ ask_takes n word words call rest is e =
     let made : IsCall (codes "ask" ∷ (path.front ++ question.front)) (About a.0.0 b.0.0) = (path.front, question.front, refl, path.is, question.is) in
     with_word word (codes "ask") (path.front ++ question.front) rest words call is parts (subst (IsCall (codes "ask" ∷ (path.front ++ question.front))) p.0 made)
 
-call_by_takes : (n : ℕ) (k : Keyword) (word : List ℕ) (words : List (List ℕ)) (call : Asked) (rest : List (List ℕ)) → keyword_of word ≡ k → call_by n k words ≡ Some (call, rest) → Front IsCall (word ∷ words) call rest
+write_takes : (n : ℕ) (word : List ℕ) (words : List (List ℕ)) (call : Asked ℤ) (rest : List (List ℕ)) → word ≡ codes "write" → write_at n words ≡ Some (call, rest) → Front IsCall (word ∷ words) call rest
+unfolding write_at
+write_takes n word words call rest is e =
+    let a = bind_some (path_at n words) (λ path. act_at path.1 >>= λ act. Some (Writing path.0 act.0, act.1)) (call, rest) e in
+    let b = bind_some (act_at a.0.1) (λ act. Some (Writing a.0.0 act.0, act.1)) (call, rest) a.2 in
+    let p = some_pair (Writing a.0.0 b.0.0, b.0.1) (call, rest) b.2 in
+    let path = path_takes n words a.0.0 a.0.1 a.1 in
+    let act = act_takes a.0.1 b.0.0 b.0.1 b.1 in
+    let parts : words ≡ (path.front ++ act.front) ++ rest = path.parts ∙ ap (λ (ws : List (List ℕ)). path.front ++ ws) (act.parts ∙ ap (λ (ws : List (List ℕ)). act.front ++ ws) p.1) ∙ sym (append_assoc path.front act.front rest) in
+    let made : IsCall (codes "write" ∷ (path.front ++ act.front)) (Writing a.0.0 b.0.0) = (path.front, act.front, refl, path.is, act.is) in
+    with_word word (codes "write") (path.front ++ act.front) rest words call is parts (subst (IsCall (codes "write" ∷ (path.front ++ act.front))) p.0 made)
+
+split_takes : (word : List ℕ) (words : List (List ℕ)) (call : Asked ℤ) (rest : List (List ℕ)) → word ≡ codes "split" → split_at words ≡ Some (call, rest) → Front IsCall (word ∷ words) call rest
+unfolding split_at
+split_takes word words call rest is e =
+    let a = bind_some (pair_at words) (λ place. acts_at place.1 >>= λ acts. Some (SplitWriting place.0.0 place.0.1 acts.0.0 acts.0.1, acts.1)) (call, rest) e in
+    let b = bind_some (acts_at a.0.1) (λ acts. Some (SplitWriting a.0.0.0 a.0.0.1 acts.0.0 acts.0.1, acts.1)) (call, rest) a.2 in
+    let p = some_pair (SplitWriting a.0.0.0 a.0.0.1 b.0.0.0 b.0.0.1, b.0.1) (call, rest) b.2 in
+    let place = pair_takes words a.0.0 a.0.1 a.1 in
+    let acts = acts_take a.0.1 b.0.0 b.0.1 b.1 in
+    let parts : words ≡ (place.front ++ acts.front) ++ rest = place.parts ∙ ap (λ (ws : List (List ℕ)). place.front ++ ws) (acts.parts ∙ ap (λ (ws : List (List ℕ)). acts.front ++ ws) p.1) ∙ sym (append_assoc place.front acts.front rest) in
+    let made : IsCall (codes "split" ∷ (place.front ++ acts.front)) (SplitWriting a.0.0.0 a.0.0.1 b.0.0.0 b.0.0.1) = (place.front, acts.is.0, acts.is.1, ap (λ (ws : List (List ℕ)). codes "split" ∷ (place.front ++ ws)) acts.is.2, place.is, acts.is.3, acts.is.4) in
+    with_word word (codes "split") (place.front ++ acts.front) rest words call is parts (subst (IsCall (codes "split" ∷ (place.front ++ acts.front))) p.0 made)
+
+call_by_takes : (n : ℕ) (k : Keyword) (word : List ℕ) (words : List (List ℕ)) (call : Asked ℤ) (rest : List (List ℕ)) → keyword_of word ≡ k → call_by n k words ≡ Some (call, rest) → Front IsCall (word ∷ words) call rest
 call_by_takes n Keep word words call rest is e = keep_takes word words call rest (spelled_as word Keep is (λ other. absurd cc)) e
 call_by_takes n Ask word words call rest is e = ask_takes n word words call rest (spelled_as word Ask is (λ other. absurd cc)) e
+call_by_takes n Write word words call rest is e = write_takes n word words call rest (spelled_as word Write is (λ other. absurd cc)) e
+call_by_takes n Split word words call rest is e = split_takes word words call rest (spelled_as word Split is (λ other. absurd cc)) e
 call_by_takes n _ word words call rest is e = absurd cc
 
-call_at_takes : (n : ℕ) (words : List (List ℕ)) (call : Asked) (rest : List (List ℕ)) → call_at n words ≡ Some (call, rest) → Front IsCall words call rest
+call_at_takes : (n : ℕ) (words : List (List ℕ)) (call : Asked ℤ) (rest : List (List ℕ)) → call_at n words ≡ Some (call, rest) → Front IsCall words call rest
 unfolding call_at
 call_at_takes n [] call rest e = absurd cc
 call_at_takes n (word ∷ words) call rest e = call_by_takes n (keyword_of word) word words call rest refl e
@@ -203,7 +218,7 @@ ended_takes (y, []) x e = (cc, refl)
 ended_takes (y, word ∷ words) x e = absurd cc
 
 -- the whole line is the call
-pub call_takes : (n : ℕ) (words : List (List ℕ)) (call : Asked) → call_of n words ≡ Some call → IsCall words call
+pub call_takes : (n : ℕ) (words : List (List ℕ)) (call : Asked ℤ) → call_of n words ≡ Some call → IsCall words call
 unfolding call_of
 call_takes n words call e =
     let a = bind_some (call_at n words) ended call e in
@@ -222,11 +237,27 @@ ask_words n front back path question few h g =
     let end : begins_step (back ++ []) ≡ false = ap begins_step (append-nil back) ∙ question_no_step back question g in
     rw (path_again n front path (back ++ []) few h end, question_again back question [] g) refl
 
-pub call_again : (n : ℕ) (words : List (List ℕ)) (call : Asked) → length words ≤ n → IsCall words call → call_of n words ≡ Some call
+write_words : (n : ℕ) (front back : List (List ℕ)) (path : List AskedStep) (act : Acting ℤ) → length path ≤ n → IsPath front path → IsAct back act → call_of n (codes "write" ∷ (front ++ (back ++ []))) ≡ Some (Writing path act)
+unfolding call_of call_at keyword_of write_at
+write_words n front back path act few h g =
+    let end : begins_step (back ++ []) ≡ false = ap begins_step (append-nil back) ∙ act_no_step back act g in
+    rw (path_again n front path (back ++ []) few h end, act_again back act [] g) refl
+
+split_words : (n : ℕ) (front back : List (List ℕ)) (place : ℕ × ℕ) (acts : Acting ℤ × Acting ℤ) → IsPair front place → AreActs back acts → call_of n (codes "split" ∷ (front ++ (back ++ []))) ≡ Some (SplitWriting place.0 place.1 acts.0 acts.1)
+unfolding call_of call_at keyword_of split_at
+split_words n front back place acts h g = rw (pair_again front place (back ++ []) h, acts_again back acts [] g) refl
+
+pub call_again : (n : ℕ) (words : List (List ℕ)) (call : Asked ℤ) → length words ≤ n → IsCall words call → call_of n words ≡ Some call
 call_again n words (Keeping step) few h = ap (call_of n) (h.1 ∙ ap (λ (ws : List (List ℕ)). codes "keep" ∷ ws) (sym (append-nil h.0))) ∙ keep_words n h.0 step h.2
 call_again n words (About path question) few h =
     let short : length path ≤ n = omega (arith, ap (length {A = List ℕ}) h.2, length-append h.0 h.1, path_length h.0 path h.3) in
     ap (call_of n) (h.2 ∙ ap (λ (ws : List (List ℕ)). codes "ask" ∷ (h.0 ++ ws)) (sym (append-nil h.1))) ∙ ask_words n h.0 h.1 path question short h.3 h.4
+call_again n words (Writing path act) few h =
+    let short : length path ≤ n = omega (arith, ap (length {A = List ℕ}) h.2, length-append h.0 h.1, path_length h.0 path h.3) in
+    ap (call_of n) (h.2 ∙ ap (λ (ws : List (List ℕ)). codes "write" ∷ (h.0 ++ ws)) (sym (append-nil h.1))) ∙ write_words n h.0 h.1 path act short h.3 h.4
+call_again n words (SplitWriting axis index first second) few h =
+    let acts = h.1 ++ (codes "/" ∷ h.2) in
+    ap (call_of n) (h.3 ∙ ap (λ (ws : List (List ℕ)). codes "split" ∷ (h.0 ++ ws)) (sym (append-nil acts))) ∙ split_words n h.0 acts (axis, index) (first, second) h.4 (h.1, h.2, refl, h.5, h.6)
 
 -- ---- the start
 

@@ -1,11 +1,12 @@
 -- Keywords and their spelling.
 use Rattle.std.proofs.Common.{◌≡◌, ℕ, ◌+◌, ◌<◌, ◌≤◌, ◌⊎◌, Bool, true, false, cond, List, [], ◌∷◌, length, get_or, drop, refl, sym, ap, ◌∙◌, add-one, drop-cons, inl, inr}
+use Rattle.std.specs.Prelude.{codes}
 use Rattle.std.specs.Str.{bytes_eq}
 use Rattle.std.proofs.lemmas.Slice.Eq.{bytes_eq-Decides}
 use Rattle.std.proofs.lemmas.List.{drop_all}
 use Rattle.nd_run.specs.declared.keyword.Keyword.{Keyword}
-use Rattle.nd_run.specs.declared.keyword.Keyword.TheVariants.{Other}
-use Rattle.nd_run.specs.Reading.{spelling, named, keyword_among, keyword_of}
+use Rattle.nd_run.specs.declared.keyword.Keyword.TheVariants.{Other, Slash}
+use Rattle.nd_run.specs.Reading.{spelling, named, keyword_among, keyword_of, is_slash}
 
 among_drop : (ks : List Keyword) (i : ℕ) (d : Keyword) (word : List ℕ) → i < length ks → keyword_among (drop i ks) word ≡ cond (bytes_eq word (spelling (get_or ks i d))) (get_or ks i d) (keyword_among (drop (i + 1) ks) word)
 among_drop ks i d word h = rw (add-one, drop-cons ks i d) refl
@@ -35,3 +36,15 @@ spelled_among (k ∷ ks) word = spelled_by (bytes_eq word (spelling k)) k ks wor
 pub spelled : (word : List ℕ) → (keyword_of word ≡ Other) ⊎ (word ≡ spelling (keyword_of word))
 unfolding keyword_of
 spelled word = spelled_among named word
+
+named_by : (word : List ℕ) (k : Keyword) → keyword_of word ≡ k → (k ≡ Other → ⊥) → (keyword_of word ≡ Other) ⊎ (word ≡ spelling (keyword_of word)) → word ≡ spelling k
+named_by word k e some (inl other) = absurd (some (sym e ∙ other))
+named_by word k e some (inr is) = is ∙ ap spelling e
+
+pub spelled_as : (word : List ℕ) (k : Keyword) → keyword_of word ≡ k → (k ≡ Other → ⊥) → word ≡ spelling k
+spelled_as word k e some = named_by word k e some (spelled word)
+
+-- the word of a slash
+pub slash_takes : (k : Keyword) (word : List ℕ) → keyword_of word ≡ k → is_slash k ≡ true → word ≡ codes "/"
+slash_takes Slash word is e = spelled_as word Slash is (λ other. absurd cc)
+slash_takes _ word is e = absurd cc

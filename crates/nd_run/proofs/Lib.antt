@@ -1,9 +1,11 @@
+pub mod ActLaws
 pub mod BadLines
 pub mod CallLaws
 pub mod ElementLaws
 pub mod StepTests
 pub mod StepLaws
 pub mod Driving
+pub mod Indexes
 pub mod Items
 pub mod Keywords
 pub mod LineLaws
@@ -18,3 +20,6 @@ pub mod FoldLemmas
 pub mod Gathers
 pub mod Runs
 pub mod PathLaws
+pub mod WritePaths
+pub mod WriteLaws
+pub mod PartLaws

@@ -6,27 +6,19 @@ use Rattle.std.specs.List.{flat_map}
 use Rattle.std.specs.Io.KnownBytes.{Appends}
 use Rattle.std.proofs.KnownBytes.{Appends-nil, Appends-trans}
 use Rattle.nd_run.specs.declared.watched.Watched.{Watched}
-use Rattle.nd_run.specs.Watched.{watched_inner, watched_failed}
-use Rattle.nd_run.specs.Puts.{Puts}
+use Rattle.nd_run.specs.Watched.{watched_inner, watched_failed, watched_flushes, after_write}
+use Rattle.nd_run.specs.Puts.{Takes, Puts}
 
--- printing nothing
-pub puts_nothing : {W : Type 0} {contents : W → Option (List ℕ)} (old : Watched W) → Puts contents old old []
-puts_nothing {W} {contents} old = record {
+-- taking nothing
+takes_nothing : {W : Type 0} {contents : W → Option (List ℕ)} (old : Watched W) → Takes contents old old []
+takes_nothing {W} {contents} old = record {
   idle = λ _. refl;
   whole = λ _. Appends-nil (contents (watched_inner old));
   part = ([], [], refl, Appends-nil (contents (watched_inner old)));
 }
 
--- once a call has failed, leaving the writer alone is printing any text
-pub puts_idle : {W : Type 0} {contents : W → Option (List ℕ)} (old : Watched W) (t : List ℕ) → watched_failed old ≡ true → Puts contents old old t
-puts_idle {W} {contents} old t failed = record {
-  idle = λ _. refl;
-  whole = λ ok. let no : true ≡ false = sym failed ∙ ok in absurd cc;
-  part = ([], t, refl, Appends-nil (contents (watched_inner old)));
-}
-
--- printing one text and then another is printing both
-then_by : {W : Type 0} {contents : W → Option (List ℕ)} {old mid new : Watched W} {s t : List ℕ} (b : Bool) → watched_failed mid ≡ b → Puts contents old mid s → Puts contents mid new t → Puts contents old new (s ++ t)
+-- taking one text and then another is taking both
+then_by : {W : Type 0} {contents : W → Option (List ℕ)} {old mid new : Watched W} {s t : List ℕ} (b : Bool) → watched_failed mid ≡ b → Takes contents old mid s → Takes contents mid new t → Takes contents old new (s ++ t)
 then_by {W} {contents} {old} {mid} {new} {s} {t} true failed p q =
     let same : new ≡ mid = q.idle failed in
     record {
@@ -41,16 +33,38 @@ then_by {W} {contents} {old} {mid} {new} {s} {t} false fine p q =
       part = (s ++ q.part.0, q.part.1, ap (λ (l : List ℕ). s ++ l) q.part.2 ∙ sym (append_assoc s q.part.0 q.part.1), Appends-trans _ _ _ s q.part.0 (p.whole fine) q.part.3);
     }
 
+pub takes_then : {W : Type 0} {contents : W → Option (List ℕ)} {old mid new : Watched W} {s t : List ℕ} → Takes contents old mid s → Takes contents mid new t → Takes contents old new (s ++ t)
+takes_then {W} {contents} {old} {mid} {new} {s} {t} p q = then_by (watched_failed mid) refl p q
+
+-- printing nothing
+pub puts_nothing : {W : Type 0} {contents : W → Option (List ℕ)} (old : Watched W) → Puts contents old old []
+puts_nothing old = record { takes = takes_nothing old; unflushed = λ never. never }
+
+-- once a call has failed, leaving the writer alone is printing any text
+pub puts_idle : {W : Type 0} {contents : W → Option (List ℕ)} (old : Watched W) (t : List ℕ) → watched_failed old ≡ true → Puts contents old old t
+puts_idle {W} {contents} old t failed = record {
+  takes = record {
+    idle = λ _. refl;
+    whole = λ ok. let no : true ≡ false = sym failed ∙ ok in absurd cc;
+    part = ([], t, refl, Appends-nil (contents (watched_inner old)));
+  };
+  unflushed = λ never. never;
+}
+
+-- printing one text and then another is printing both
 pub puts_then : {W : Type 0} {contents : W → Option (List ℕ)} {old mid new : Watched W} {s t : List ℕ} → Puts contents old mid s → Puts contents mid new t → Puts contents old new (s ++ t)
-puts_then {W} {contents} {old} {mid} {new} {s} {t} p q = then_by (watched_failed mid) refl p q
+puts_then p q = record { takes = takes_then p.takes q.takes; unflushed = λ never. q.unflushed (p.unflushed never) }
 
 -- a write that took some bytes
 pub puts_taken : {W : Type 0} {contents : W → Option (List ℕ)} (old new : Watched W) (count : ℕ) (piece : List ℕ) → watched_failed old ≡ false
-    → Appends (contents (watched_inner old)) (contents (watched_inner new)) (take count piece) → Puts contents old new (take count piece)
-puts_taken old new count piece fine bytes = record {
-  idle = λ was. let no : true ≡ false = sym was ∙ fine in absurd cc;
-  whole = λ _. bytes;
-  part = (take count piece, [], sym (append-nil (take count piece)), bytes);
+    → Appends (contents (watched_inner old)) (contents (watched_inner new)) (take count piece) → watched_flushes new ≡ after_write (watched_flushes old) → Puts contents old new (take count piece)
+puts_taken old new count piece fine bytes flushes = record {
+  takes = record {
+    idle = λ was. let no : true ≡ false = sym was ∙ fine in absurd cc;
+    whole = λ _. bytes;
+    part = (take count piece, [], sym (append-nil (take count piece)), bytes);
+  };
+  unflushed = λ never. flushes ∙ ap after_write never;
 }
 
 -- the text is what was put, what is taken now, and what is left then

@@ -1,6 +1,6 @@
 -- The script that is read is the one that the lines write, the one that they write is read, and the first bad
 -- line is found.
-use Rattle.std.proofs.Common.{◌≡◌, ℕ, ◌+◌, ◌≤◌, ◌⊎◌, Bool, true, false, cond, List, [], ◌∷◌, length, Option, Some, None, Result, Ok, Err, refl, sym, subst, arith, inl, inr}
+use Rattle.std.proofs.Common.{◌≡◌, ℕ, ◌+◌, ◌≤◌, ◌⊎◌, Bool, true, false, cond, List, [], ◌∷◌, length, ℤ, Option, Some, None, Result, Ok, Err, refl, sym, subst, arith, inl, inr}
 use Rattle.nd_run.specs.Calls.{Asked}
 use Rattle.nd_run.specs.Grammar.{AreAll, IsStart, IsCall}
 use Rattle.nd_run.specs.Words.{before_first, goes_on, is_blank, words_of, is_wordless}
@@ -23,7 +23,7 @@ words_few : (line : List ℕ) → length (words_of line) ≤ length line
 words_few [] = omega arith
 words_few (b ∷ bs) = let h : length (words_of (b ∷ bs)) ≤ length bs + 1 = few_by (is_blank b) (goes_on bs) b (length bs) (words_of bs) (words_few bs) in omega (arith, h)
 
-pub call_line : (line : List ℕ) (call : Asked) → IsCall (words_of line) call → call_in line ≡ Some call
+pub call_line : (line : List ℕ) (call : Asked ℤ) → IsCall (words_of line) call → call_in line ≡ Some call
 call_line line call h = call_again (length line) (words_of line) call (words_few line) h
 
 not_both : {X : Type 0} (r : Option X) (x : X) → r ≡ None → r ≡ Some x → ⊥
@@ -66,8 +66,8 @@ numbered_err n (Some y) m e = absurd cc
 
 -- ---- calls that are read
 
-calls_by : (t : Bool) (n : ℕ) (line : List ℕ) (lines : List (List ℕ)) (calls : List Asked) → is_wordless (words_of line) ≡ t
-    → ((cs : List Asked) → calls_from (n + 1) lines ≡ Ok cs → AreAll IsCall (worded lines) cs) → calls_from n (line ∷ lines) ≡ Ok calls → AreAll IsCall (worded (line ∷ lines)) calls
+calls_by : (t : Bool) (n : ℕ) (line : List ℕ) (lines : List (List ℕ)) (calls : List (Asked ℤ)) → is_wordless (words_of line) ≡ t
+    → ((cs : List (Asked ℤ)) → calls_from (n + 1) lines ≡ Ok cs → AreAll IsCall (worded lines) cs) → calls_from n (line ∷ lines) ≡ Ok calls → AreAll IsCall (worded (line ∷ lines)) calls
 unfolding calls_from
 calls_by true n line lines calls is others e = let read : calls_from (n + 1) lines ≡ Ok calls = rw is at e in rw is (others calls read)
 calls_by false n line lines calls is others e =
@@ -79,19 +79,19 @@ calls_by false n line lines calls is others e =
     let made : AreAll IsCall (words_of line ∷ worded lines) (a.0 ∷ b.0) = (first, others b.0 b.1) in
     rw is (subst (AreAll IsCall (words_of line ∷ worded lines)) whole made)
 
-pub calls_take : (n : ℕ) (lines : List (List ℕ)) (calls : List Asked) → calls_from n lines ≡ Ok calls → AreAll IsCall (worded lines) calls
+pub calls_take : (n : ℕ) (lines : List (List ℕ)) (calls : List (Asked ℤ)) → calls_from n lines ≡ Ok calls → AreAll IsCall (worded lines) calls
 unfolding calls_from
 calls_take n [] calls e = let none : [] ≡ calls = cc in subst (AreAll IsCall []) none tt
 calls_take n (line ∷ lines) calls e = calls_by (is_wordless (words_of line)) n line lines calls refl (calls_take (n + 1) lines) e
 
-again_by : (t : Bool) (n : ℕ) (line : List ℕ) (lines : List (List ℕ)) (calls : List Asked) → is_wordless (words_of line) ≡ t
-    → ((cs : List Asked) → AreAll IsCall (worded lines) cs → calls_from (n + 1) lines ≡ Ok cs) → AreAll IsCall (cond t (worded lines) (words_of line ∷ worded lines)) calls → calls_from n (line ∷ lines) ≡ Ok calls
+again_by : (t : Bool) (n : ℕ) (line : List ℕ) (lines : List (List ℕ)) (calls : List (Asked ℤ)) → is_wordless (words_of line) ≡ t
+    → ((cs : List (Asked ℤ)) → AreAll IsCall (worded lines) cs → calls_from (n + 1) lines ≡ Ok cs) → AreAll IsCall (cond t (worded lines) (words_of line ∷ worded lines)) calls → calls_from n (line ∷ lines) ≡ Ok calls
 unfolding calls_from
 again_by true n line lines calls is others h = rw is (others calls h)
 again_by false n line lines [] is others h = absurd h
 again_by false n line lines (call ∷ calls) is others h = rw (is, call_line line call h.0, others calls h.1) refl
 
-pub calls_again : (n : ℕ) (lines : List (List ℕ)) (calls : List Asked) → AreAll IsCall (worded lines) calls → calls_from n lines ≡ Ok calls
+pub calls_again : (n : ℕ) (lines : List (List ℕ)) (calls : List (Asked ℤ)) → AreAll IsCall (worded lines) calls → calls_from n lines ≡ Ok calls
 unfolding calls_from
 calls_again n [] [] h = refl
 calls_again n [] (call ∷ calls) h = absurd h

@@ -14,28 +14,28 @@ lines_none [] e = refl
 lines_none (b ∷ bs) e = let none : length (b ∷ bs) ≡ 0 = eqb-true (length (b ∷ bs)) 0 (sym e) in absurd (omega arith)
 
 -- the calls that were read before, and those still to be read
-abbrev pub with_calls : List Asked → Result (List Asked) ℕ → Result (List Asked) ℕ
+abbrev pub with_calls : List (Asked ℤ) → Result (List (Asked ℤ)) ℕ → Result (List (Asked ℤ)) ℕ
 with_calls front read = read >>= λ calls. Ok (front ++ calls)
 
-regroup : (front : List Asked) (call : Asked) (read : Result (List Asked) ℕ) → with_calls front (read >>= λ calls. Ok (call ∷ calls)) ≡ with_calls (front ++ call ∷ []) read
-regroup front call (Ok calls) = ap (λ (cs : List Asked). Ok cs) (simp append_assoc)
+regroup : (front : List (Asked ℤ)) (call : Asked ℤ) (read : Result (List (Asked ℤ)) ℕ) → with_calls front (read >>= λ calls. Ok (call ∷ calls)) ≡ with_calls (front ++ call ∷ []) read
+regroup front call (Ok calls) = ap (λ (cs : List (Asked ℤ)). Ok cs) (simp append_assoc)
 regroup front call (Err n) = refl
 
-pub calls_skip : (front : List Asked) (n : ℕ) (line : List ℕ) (lines rest : List (List ℕ)) (total : Result (List Asked) ℕ) → lines ≡ line ∷ rest → is_wordless (words_of line) ≡ true
+pub calls_skip : (front : List (Asked ℤ)) (n : ℕ) (line : List ℕ) (lines rest : List (List ℕ)) (total : Result (List (Asked ℤ)) ℕ) → lines ≡ line ∷ rest → is_wordless (words_of line) ≡ true
     → with_calls front (calls_from n lines) ≡ total → with_calls front (calls_from (n + 1) rest) ≡ total
 unfolding calls_from
 calls_skip front n line lines rest total e none so_far =
     let one : with_calls front (calls_from n lines) ≡ with_calls front (calls_from (n + 1) rest) = rw (e, none) refl in
     sym one ∙ so_far
 
-pub calls_more : (front : List Asked) (n : ℕ) (line : List ℕ) (lines rest : List (List ℕ)) (call : Asked) (total : Result (List Asked) ℕ) → lines ≡ line ∷ rest → is_wordless (words_of line) ≡ false → numbered n (call_in line) ≡ Ok call
+pub calls_more : (front : List (Asked ℤ)) (n : ℕ) (line : List ℕ) (lines rest : List (List ℕ)) (call : Asked ℤ) (total : Result (List (Asked ℤ)) ℕ) → lines ≡ line ∷ rest → is_wordless (words_of line) ≡ false → numbered n (call_in line) ≡ Ok call
     → with_calls front (calls_from n lines) ≡ total → with_calls (front ++ call ∷ []) (calls_from (n + 1) rest) ≡ total
 unfolding calls_from
 calls_more front n line lines rest call total e some h so_far =
     let one : with_calls front (calls_from n lines) ≡ with_calls (front ++ call ∷ []) (calls_from (n + 1) rest) = rw (e, some, h) (regroup front call (calls_from (n + 1) rest)) in
     sym one ∙ so_far
 
-pub calls_stop : (fault : ScriptError) (front : List Asked) (n : ℕ) (line : List ℕ) (lines rest : List (List ℕ)) (total : Result (List Asked) ℕ) → lines ≡ line ∷ rest → is_wordless (words_of line) ≡ false → FailsAt fault (numbered n (call_in line))
+pub calls_stop : (fault : ScriptError) (front : List (Asked ℤ)) (n : ℕ) (line : List ℕ) (lines rest : List (List ℕ)) (total : Result (List (Asked ℤ)) ℕ) → lines ≡ line ∷ rest → is_wordless (words_of line) ≡ false → FailsAt fault (numbered n (call_in line))
     → with_calls front (calls_from n lines) ≡ total → FailsAt fault total
 unfolding calls_from
 calls_stop Memory front n line lines rest total e some h so_far = tt
@@ -43,10 +43,10 @@ calls_stop (BadLine m) front n line lines rest total e some h so_far =
     let one : with_calls front (calls_from n lines) ≡ Err m = rw (e, some, h) refl in
     sym so_far ∙ one
 
-pub calls_done : (front : List Asked) (n : ℕ) (lines : List (List ℕ)) (total : Result (List Asked) ℕ) → lines ≡ [] → with_calls front (calls_from n lines) ≡ total → total ≡ Ok front
+pub calls_done : (front : List (Asked ℤ)) (n : ℕ) (lines : List (List ℕ)) (total : Result (List (Asked ℤ)) ℕ) → lines ≡ [] → with_calls front (calls_from n lines) ≡ total → total ≡ Ok front
 unfolding calls_from
 calls_done front n lines total none so_far =
-    let one : with_calls front (calls_from n lines) ≡ Ok front = rw none (ap (λ (cs : List Asked). Ok cs) (append-nil front)) in
+    let one : with_calls front (calls_from n lines) ≡ Ok front = rw none (ap (λ (cs : List (Asked ℤ)). Ok cs) (append-nil front)) in
     sym so_far ∙ one
 
 -- ---- the start
@@ -79,7 +79,7 @@ script_bad_call (BadLine m) n line lines rest start total e some h g so_far =
     let one : script_from n lines ≡ Err m = rw (e, some, h, g) refl in
     sym so_far ∙ one
 
-pub script_read : (n : ℕ) (line : List ℕ) (lines rest : List (List ℕ)) (start : List ℕ × List ℤ) (calls : List Asked) (total : Result AskedScript ℕ) → lines ≡ line ∷ rest → is_wordless (words_of line) ≡ false → numbered n (start_in line) ≡ Ok start → calls_from (n + 1) rest ≡ Ok calls
+pub script_read : (n : ℕ) (line : List ℕ) (lines rest : List (List ℕ)) (start : List ℕ × List ℤ) (calls : List (Asked ℤ)) (total : Result AskedScript ℕ) → lines ≡ line ∷ rest → is_wordless (words_of line) ≡ false → numbered n (start_in line) ≡ Ok start → calls_from (n + 1) rest ≡ Ok calls
     → script_from n lines ≡ total → total ≡ Ok (record { lengths = start.0; elements = start.1; calls = calls })
 unfolding script_from
 script_read n line lines rest start calls total e some h g so_far =

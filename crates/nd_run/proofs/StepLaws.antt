@@ -17,7 +17,7 @@ use Rattle.nd_run.proofs.ElementLaws.{made_takes, made_again, AreCounted, elemen
 abbrev IsOne : List (List ℕ) → ℕ → Type 0
 IsOne words n = AreAll IsNat words (n ∷ [])
 
-abbrev IsPair : List (List ℕ) → ℕ × ℕ → Type 0
+abbrev pub IsPair : List (List ℕ) → ℕ × ℕ → Type 0
 IsPair words x = AreAll IsNat words (x.0 ∷ x.1 ∷ [])
 
 abbrev IsCut : List (List ℕ) → ℕ × AxisSlice → Type 0
@@ -33,7 +33,7 @@ one_again [] n rest h = absurd h
 one_again (first ∷ []) n rest h = rw (nat_again first n h.0) refl
 one_again (first ∷ more ∷ words) n rest h = absurd h.1
 
-pair_takes : (words : List (List ℕ)) (x : ℕ × ℕ) (rest : List (List ℕ)) → pair_at words ≡ Some (x, rest) → Front IsPair words x rest
+pub pair_takes : (words : List (List ℕ)) (x : ℕ × ℕ) (rest : List (List ℕ)) → pair_at words ≡ Some (x, rest) → Front IsPair words x rest
 unfolding pair_at
 pair_takes words x rest e =
     let a = bind_some (item_at nat_of words) (λ first. item_at nat_of first.1 >>= λ second. Some ((first.0, second.0), second.1)) (x, rest) e in
@@ -45,7 +45,7 @@ pair_takes words x rest e =
     let is : IsPair (first.word ∷ second.word ∷ []) (a.0.0, b.0.0) = (first.is, (second.is, tt)) in
     record { front = first.word ∷ second.word ∷ []; parts = parts; is = subst (IsPair (first.word ∷ second.word ∷ [])) p.0 is }
 
-pair_again : (front : List (List ℕ)) (x : ℕ × ℕ) (rest : List (List ℕ)) → IsPair front x → pair_at (front ++ rest) ≡ Some (x, rest)
+pub pair_again : (front : List (List ℕ)) (x : ℕ × ℕ) (rest : List (List ℕ)) → IsPair front x → pair_at (front ++ rest) ≡ Some (x, rest)
 unfolding pair_at
 pair_again [] x rest h = absurd h
 pair_again (first ∷ []) x rest h = absurd h.1

@@ -6,6 +6,8 @@ use Rattle.nd_run.specs.declared.calls.Step.{Step}
 use Rattle.nd_run.specs.declared.calls.Step.TheVariants as steps
 use Rattle.nd_run.specs.declared.calls.Question.{Question}
 use Rattle.nd_run.specs.declared.calls.Question.TheVariants as questions
+use Rattle.nd_run.specs.declared.calls.Act.{Act}
+use Rattle.nd_run.specs.declared.calls.Act.TheVariants as acts
 use Rattle.nd_run.specs.declared.calls.Call.{Call}
 use Rattle.nd_run.specs.declared.calls.Call.TheVariants as calls
 use Rattle.nd_run.specs.declared.calls.Reply.{Reply}
@@ -35,10 +37,19 @@ pub data Asking : Type 0 where
   AskElements : Asking
   AskElement : (index : List ℕ) → Asking
 
--- a call: a step whose result is kept, or a question at the end of some steps
-pub data Asked : Type 0 where
-  Keeping : (step : AskedStep) → Asked
-  About : (path : List AskedStep) (question : Asking) → Asked
+-- an act: each element is set to one value, or that of an index is; or the elements of two indexes change places
+pub data Acting (A : Type 0) : Type 0 where
+  Filling : (value : A) → Acting A
+  Setting : (index : List ℕ) (value : A) → Acting A
+  Swapping : (a b : List ℕ) → Acting A
+
+-- a call: a step whose result is kept, a question at the end of some steps, an act there, or an act on each part of the
+-- array split before a coordinate of an axis
+pub data Asked (A : Type 0) : Type 0 where
+  Keeping : (step : AskedStep) → Asked A
+  About : (path : List AskedStep) (question : Asking) → Asked A
+  Writing : (path : List AskedStep) (act : Acting A) → Asked A
+  SplitWriting : (axis index : ℕ) (first second : Acting A) → Asked A
 
 -- a reply
 pub data Said (A : Type 0) : Type 0 where
@@ -68,9 +79,16 @@ asking questions.Shape = AskShape
 asking questions.Elements = AskElements
 asking (questions.Get index) = AskElement index.items
 
-abbrev pub asked : Call → Asked
+abbrev pub acting : {A : Type 0} → Act A → Acting A
+acting (acts.Fill value) = Filling value
+acting (acts.Set index value) = Setting index.items value
+acting (acts.Swap a b) = Swapping a.items b.items
+
+abbrev pub asked : {A : Type 0} → Call A → Asked A
 asked (calls.Keep step) = Keeping (asked_step step)
 asked (calls.Ask path question) = About (map asked_step path.items) (asking question)
+asked (calls.Write path act) = Writing (map asked_step path.items) (acting act)
+asked (calls.SplitWrite axis index first second) = SplitWriting axis index (acting first) (acting second)
 
 abbrev pub said : {A : Type 0} → Reply A → Said A
 said replies.Done = SaidDone

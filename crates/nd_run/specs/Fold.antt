@@ -1,14 +1,15 @@
 -- What a list of calls answers, and what it leaves of an array's meaning: a fold over the calls. No view, borrow
 -- or storage occurs.
-use Rattle.std.specs.Prelude.{◌≡◌, ℕ, true, List, [], ◌∷◌, ◌++◌, Result, Ok, Err, IsOk, ◌⊎◌}
+use Rattle.std.specs.Prelude.{◌≡◌, ℕ, true, ◌||◌, List, [], ◌∷◌, ◌++◌, Result, Ok, Err, IsOk, ◌⊎◌}
 use Rattle.std.specs.List.{filter_map}
 use Rattle.std.specs.Result.{result_unwrap_or}
 use Rattle.nd_shape_and_slice.specs.Shape.{indexes_of, in_box}
 use Rattle.nd_array_core.specs.Meaning.{Meaning, seen}
-use Rattle.nd_run.specs.Calls.{AskedStep, Asking, AskShape, AskElements, AskElement, Asked, Keeping, About, Said, SaidDone, SaidRefused, SaidShape, SaidElements, SaidElement}
+use Rattle.nd_run.specs.Calls.{AskedStep, Asking, AskShape, AskElements, AskElement, Asked, Keeping, About, Writing, SplitWriting, Said, SaidDone, SaidRefused, SaidShape, SaidElements, SaidElement}
 use Rattle.std.specs.Prelude.{map}
 use Rattle.nd_run.specs.Calls.{said}
 use Rattle.nd_run.specs.Steps.{refusal, keep_refusal, unless, shape_after, index_before, shape_along, index_along}
+use Rattle.nd_run.specs.Acts.{written, split_written, clones}
 use Rattle.nd_run.specs.declared.run.RunFault.{RunFault}
 use Rattle.nd_run.specs.declared.run.RunFault.TheVariants as faults
 use Rattle.nd_run.specs.declared.cause.Cause.{Cause}
@@ -66,33 +67,39 @@ refused_or (Ok x) reply = reply x
 refused_or (Err cause) reply = SaidRefused (number_of cause)
 
 -- the reply to a call
-abbrev pub reply_to : {A : Type 0} → Asked → Meaning A → Said A
+abbrev pub reply_to : {A : Type 0} → Asked A → Meaning A → Said A
 reply_to (Keeping step) m = refused_or (kept step m) (λ _. SaidDone)
 reply_to (About path question) m = refused_or (followed path m) (answered question)
+reply_to (Writing path act) m = refused_or (written path act m) (λ _. SaidDone)
+reply_to (SplitWriting axis index first second) m = refused_or (split_written axis index first second m) (λ _. SaidDone)
 
 -- the array after a call: a refusal changes nothing
-abbrev pub after : {A : Type 0} → Asked → Meaning A → Meaning A
+abbrev pub after : {A : Type 0} → Asked A → Meaning A → Meaning A
 after (Keeping step) m = result_unwrap_or (kept step m) m
 after (About path question) m = m
+after (Writing path act) m = result_unwrap_or (written path act m) m
+after (SplitWriting axis index first second) m = result_unwrap_or (split_written axis index first second m) m
 
-abbrev pub replies_to : {A : Type 0} → List Asked → Meaning A → List (Said A)
+abbrev pub replies_to : {A : Type 0} → List (Asked A) → Meaning A → List (Said A)
 replies_to [] m = []
 replies_to (call ∷ calls) m = reply_to call m ∷ replies_to calls (after call m)
 
-abbrev pub end_of : {A : Type 0} → List Asked → Meaning A → Meaning A
+abbrev pub end_of : {A : Type 0} → List (Asked A) → Meaning A → Meaning A
 end_of [] m = m
 end_of (call ∷ calls) m = end_of calls (after call m)
 
--- a call that may lack memory: a question that isn't refused
-abbrev pub MayLackMemory : {A : Type 0} → Asked → Meaning A → Type 0
+-- a call that may lack memory: a question that isn't refused, or such a write that clones a value
+abbrev pub MayLackMemory : {A : Type 0} → Asked A → Meaning A → Type 0
 MayLackMemory (Keeping step) m = ⊥
 MayLackMemory (About path question) m = IsOk (followed path m)
+MayLackMemory (Writing path act) m = IsOk (written path act m) × (clones act ≡ true)
+MayLackMemory (SplitWriting axis index first second) m = IsOk (split_written axis index first second m) × ((clones first || clones second) ≡ true)
 
 -- The replies up to a want of memory: none, or those to a front of the calls whose next one may lack memory.
-abbrev pub StopsBefore : {A : Type 0} → List Asked → Meaning A → List (Said A) → Type 0
-StopsBefore calls m replies =
+abbrev pub StopsBefore : {A : Type 0} → List (Asked A) → Meaning A → List (Said A) → Type 0
+StopsBefore {A = A} calls m replies =
     (replies ≡ [])
-    ⊎ ((front : List Asked) × (call : Asked) × (rest : List Asked) × (calls ≡ front ++ (call ∷ rest))
+    ⊎ ((front : List (Asked A)) × (call : Asked A) × (rest : List (Asked A)) × (calls ≡ front ++ (call ∷ rest))
     × (replies ≡ replies_to front m) × MayLackMemory call (end_of front m))
 
 -- the replies of a run that stopped

@@ -4,7 +4,7 @@ use Rattle.nd_shape_and_slice.specs.Shape.{HasCheckedSize, size_of}
 use Rattle.nd_shape_and_slice.specs.declared.slice.Slice.{Slice}
 use Rattle.nd_shape_and_slice.specs.declared.slice_info.SliceInfoElem.{SliceInfoElem}
 use Rattle.nd_shape_and_slice.specs.declared.slice_info.SliceInfoElem.TheVariants.{Slice as Part, Index, NewAxis}
-use Rattle.nd_run.specs.Calls.{AskedStep, SlicedAxis, Sliced, Collapsed, Indexed, Permuted, Reversed, Exchanged, Inverted, Inserted, Removed, Squeezed, Diagonal, Widened, Asking, AskShape, AskElements, AskElement, Asked, Keeping, About}
+use Rattle.nd_run.specs.Calls.{AskedStep, SlicedAxis, Sliced, Collapsed, Indexed, Permuted, Reversed, Exchanged, Inverted, Inserted, Removed, Squeezed, Diagonal, Widened, Asking, AskShape, AskElements, AskElement, Acting, Filling, Setting, Swapping, Asked, Keeping, About, Writing, SplitWriting}
 use Rattle.nd_run.specs.Numerals.{IsNat, IsInt}
 
 -- as many writings as items, each writing the item at its place
@@ -92,10 +92,20 @@ IsQuestion words AskShape = words ≡ codes "shape" ∷ []
 IsQuestion words AskElements = words ≡ codes "elements" ∷ []
 IsQuestion words (AskElement index) = (rest : List (List ℕ)) × (words ≡ codes "get" ∷ rest) × IsList rest index
 
+-- an act: its name, an index or two, and the value that is set
+abbrev pub IsAct : List (List ℕ) → Acting ℤ → Type 0
+IsAct words (Filling value) = (word : List ℕ) × (words ≡ codes "fill" ∷ word ∷ []) × IsInt word value
+IsAct words (Setting index value) = (front : List (List ℕ)) × (word : List ℕ) × (words ≡ codes "set" ∷ (front ++ (word ∷ []))) × IsList front index × IsInt word value
+IsAct words (Swapping a b) = (front : List (List ℕ)) × (back : List (List ℕ)) × (words ≡ codes "swap" ∷ (front ++ back)) × IsList front a × IsList back b
+
 -- the words of a line are this call
-abbrev pub IsCall : List (List ℕ) → Asked → Type 0
+abbrev pub IsCall : List (List ℕ) → Asked ℤ → Type 0
 IsCall words (Keeping step) = (rest : List (List ℕ)) × (words ≡ codes "keep" ∷ rest) × IsStep rest step
 IsCall words (About path question) = (front : List (List ℕ)) × (back : List (List ℕ)) × (words ≡ codes "ask" ∷ (front ++ back)) × IsPath front path × IsQuestion back question
+IsCall words (Writing path act) = (front : List (List ℕ)) × (back : List (List ℕ)) × (words ≡ codes "write" ∷ (front ++ back)) × IsPath front path × IsAct back act
+IsCall words (SplitWriting axis index first second) =
+    (place : List (List ℕ)) × (front : List (List ℕ)) × (back : List (List ℕ)) × (words ≡ codes "split" ∷ (place ++ (front ++ (codes "/" ∷ back))))
+    × AreAll IsNat place (axis ∷ index ∷ []) × IsAct front first × IsAct back second
 
 -- the words of a line start a script with this array
 abbrev pub IsStart : List (List ℕ) → List ℕ → List ℤ → Type 0

@@ -7,10 +7,10 @@ use Rattle.nd_shape_and_slice.specs.declared.slice.Slice.{Slice}
 use Rattle.nd_shape_and_slice.specs.declared.slice_info.SliceInfoElem.{SliceInfoElem}
 use Rattle.nd_shape_and_slice.specs.declared.slice_info.SliceInfoElem.TheVariants.{Slice as Part, Index as At, NewAxis}
 use Rattle.nd_run.specs.declared.keyword.Keyword.{Keyword}
-use Rattle.nd_run.specs.declared.keyword.Keyword.TheVariants.{Start, Keep, Ask, Slash, Cut, Slice as SliceWord, Collapse, Index, Permute, Reverse, SwapAxes, Invert, Insert, Remove, Squeeze, Diag, Broadcast, Shape, Elements, Get, Other}
+use Rattle.nd_run.specs.declared.keyword.Keyword.TheVariants.{Start, Keep, Ask, Write, Split, Slash, Cut, Slice as SliceWord, Collapse, Index, Permute, Reverse, SwapAxes, Invert, Insert, Remove, Squeeze, Diag, Broadcast, Shape, Elements, Get, Fill, Set, Swap, Other}
 use Rattle.nd_run.specs.declared.reader.fault.LineFault.{LineFault}
 use Rattle.nd_run.specs.declared.reader.fault.LineFault.TheVariants.{Bad, Memory}
-use Rattle.nd_run.specs.Calls.{AskedStep, SlicedAxis, Sliced, Collapsed, Indexed, Permuted, Reversed, Exchanged, Inverted, Inserted, Removed, Squeezed, Diagonal, Widened, Asking, AskShape, AskElements, AskElement, Asked, Keeping, About}
+use Rattle.nd_run.specs.Calls.{AskedStep, SlicedAxis, Sliced, Collapsed, Indexed, Permuted, Reversed, Exchanged, Inverted, Inserted, Removed, Squeezed, Diagonal, Widened, Asking, AskShape, AskElements, AskElement, Acting, Filling, Setting, Swapping, Asked, Keeping, About, Writing, SplitWriting}
 use Rattle.nd_run.specs.Numerals.{nat_of, int_of}
 
 infixl 10 ◌>>=◌
@@ -79,6 +79,8 @@ abbrev pub spelling : Keyword → List ℕ
 spelling Start = codes "start"
 spelling Keep = codes "keep"
 spelling Ask = codes "ask"
+spelling Write = codes "write"
+spelling Split = codes "split"
 spelling Slash = codes "/"
 spelling Cut = codes "cut"
 spelling SliceWord = codes "slice"
@@ -96,6 +98,9 @@ spelling Broadcast = codes "broadcast"
 spelling Shape = codes "shape"
 spelling Elements = codes "elements"
 spelling Get = codes "get"
+spelling Fill = codes "fill"
+spelling Set = codes "set"
+spelling Swap = codes "swap"
 spelling Other = []
 
 -- the first of the keywords that the word spells
@@ -104,7 +109,7 @@ keyword_among [] word = Other
 keyword_among (k ∷ ks) word = if bytes_eq word (spelling k) then k else keyword_among ks word
 
 abbrev pub named : List Keyword
-named = Start ∷ Keep ∷ Ask ∷ Slash ∷ Cut ∷ SliceWord ∷ Collapse ∷ Index ∷ Permute ∷ Reverse ∷ SwapAxes ∷ Invert ∷ Insert ∷ Remove ∷ Squeeze ∷ Diag ∷ Broadcast ∷ Shape ∷ Elements ∷ Get ∷ []
+named = Start ∷ Keep ∷ Ask ∷ Write ∷ Split ∷ Slash ∷ Cut ∷ SliceWord ∷ Collapse ∷ Index ∷ Permute ∷ Reverse ∷ SwapAxes ∷ Invert ∷ Insert ∷ Remove ∷ Squeeze ∷ Diag ∷ Broadcast ∷ Shape ∷ Elements ∷ Get ∷ Fill ∷ Set ∷ Swap ∷ []
 
 unfoldable pub keyword_of : List ℕ → Keyword
 keyword_of word = keyword_among named word
@@ -238,23 +243,70 @@ question_at words = do
   first ← keyword_at words
   question_by first.0 first.1
 
-unfoldable pub keep_at : List (List ℕ) → Option (Asked × List (List ℕ))
+-- an index and the value that is set there
+unfoldable pub set_at : List (List ℕ) → Option ((List ℕ × ℤ) × List (List ℕ))
+set_at words = do
+  index ← list_at words
+  value ← item_at int_of index.1
+  Some ((index.0, value.0), value.1)
+
+-- two indexes
+unfoldable pub swap_at : List (List ℕ) → Option ((List ℕ × List ℕ) × List (List ℕ))
+swap_at words = do
+  first ← list_at words
+  second ← list_at first.1
+  Some ((first.0, second.0), second.1)
+
+abbrev pub act_by : Keyword → List (List ℕ) → Option (Acting ℤ × List (List ℕ))
+act_by Fill words = made Filling (item_at int_of words)
+act_by Set words = made (λ x. Setting x.0 x.1) (set_at words)
+act_by Swap words = made (λ x. Swapping x.0 x.1) (swap_at words)
+act_by _ words = None
+
+unfoldable pub act_at : List (List ℕ) → Option (Acting ℤ × List (List ℕ))
+act_at words = do
+  first ← keyword_at words
+  act_by first.0 first.1
+
+-- two acts and the slash between them
+unfoldable pub acts_at : List (List ℕ) → Option ((Acting ℤ × Acting ℤ) × List (List ℕ))
+acts_at words = do
+  first ← act_at words
+  slash ← keyword_at first.1
+  second ← (if is_slash slash.0 then act_at slash.1 else None)
+  Some ((first.0, second.0), second.1)
+
+unfoldable pub keep_at : List (List ℕ) → Option (Asked ℤ × List (List ℕ))
 keep_at words = do
   step ← step_at words
   Some (Keeping step.0, step.1)
 
-unfoldable pub ask_at : ℕ → List (List ℕ) → Option (Asked × List (List ℕ))
+unfoldable pub ask_at : ℕ → List (List ℕ) → Option (Asked ℤ × List (List ℕ))
 ask_at n words = do
   path ← path_at n words
   question ← question_at path.1
   Some (About path.0 question.0, question.1)
 
-abbrev pub call_by : ℕ → Keyword → List (List ℕ) → Option (Asked × List (List ℕ))
+unfoldable pub write_at : ℕ → List (List ℕ) → Option (Asked ℤ × List (List ℕ))
+write_at n words = do
+  path ← path_at n words
+  act ← act_at path.1
+  Some (Writing path.0 act.0, act.1)
+
+unfoldable pub split_at : List (List ℕ) → Option (Asked ℤ × List (List ℕ))
+split_at words = do
+  place ← pair_at words
+  acts ← acts_at place.1
+  Some (SplitWriting place.0.0 place.0.1 acts.0.0 acts.0.1, acts.1)
+
+abbrev pub call_by : ℕ → Keyword → List (List ℕ) → Option (Asked ℤ × List (List ℕ))
 call_by n Keep words = keep_at words
 call_by n Ask words = ask_at n words
+call_by n Write words = write_at n words
+call_by n Split words = split_at words
 call_by n _ words = None
 
-unfoldable pub call_at : ℕ → List (List ℕ) → Option (Asked × List (List ℕ))
+unfoldable pub call_at : ℕ → List (List ℕ) → Option (Asked ℤ × List (List ℕ))
 call_at n words = do
   first ← keyword_at words
   call_by n first.0 first.1
@@ -265,7 +317,7 @@ ended (x, []) = Some x
 ended (x, word ∷ words) = None
 
 -- the call that the words of a line are, with at most n steps
-unfoldable pub call_of : ℕ → List (List ℕ) → Option Asked
+unfoldable pub call_of : ℕ → List (List ℕ) → Option (Asked ℤ)
 call_of n words = do
   call ← call_at n words
   ended call

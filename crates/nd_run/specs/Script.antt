@@ -12,7 +12,7 @@ use Rattle.nd_run.specs.Words.{words_of, is_wordless}
 pub record AskedScript : Type 0 where
   pub lengths : List ℕ
   pub elements : List ℤ
-  pub calls : List Asked
+  pub calls : List (Asked ℤ)
 
 abbrev pub asked_script : Script → AskedScript
 asked_script s = record { lengths = s.lengths.items; elements = s.elements.items; calls = map asked s.calls.items }
@@ -33,7 +33,7 @@ abbrev pub IsNoStart : List ℕ → Type 0
 IsNoStart line = (lengths : List ℕ) (elements : List ℤ) → ¬ (IsStart (words_of line) lengths elements)
 
 abbrev pub IsNoCall : List ℕ → Type 0
-IsNoCall line = (call : Asked) → ¬ (IsCall (words_of line) call)
+IsNoCall line = (call : Asked ℤ) → ¬ (IsCall (words_of line) call)
 
 -- The first bad line, counted from n on: it has words that can't be read, and the lines before it can. Where
 -- no line has words it is the one after the last.
@@ -59,13 +59,13 @@ abbrev pub numbered : {A : Type 0} → ℕ → Option A → Result A ℕ
 numbered n None = Err n
 numbered n (Some x) = Ok x
 
-abbrev pub call_in : List ℕ → Option Asked
+abbrev pub call_in : List ℕ → Option (Asked ℤ)
 call_in line = call_of (length line) (words_of line)
 
 abbrev pub start_in : List ℕ → Option (List ℕ × List ℤ)
 start_in line = start_of (words_of line)
 
-unfoldable pub calls_from : ℕ → List (List ℕ) → Result (List Asked) ℕ
+unfoldable pub calls_from : ℕ → List (List ℕ) → Result (List (Asked ℤ)) ℕ
 calls_from n [] = Ok []
 calls_from n (line ∷ lines) = if is_wordless (words_of line) then calls_from (n + 1) lines else (numbered n (call_in line) >>= λ call. calls_from (n + 1) lines >>= λ calls. Ok (call ∷ calls))
 

@@ -63,9 +63,13 @@ abbrev pub shares : AskedStep → Bool
 shares (Widened to) = true
 shares _ = false
 
--- the first cause against a step whose result is kept
+-- the tests of a step whose result is kept or written to
+abbrev pub keep_tests : AskedStep → List ℕ → List Test
+keep_tests step ns = (not (shares step), causes.Broadcast) ∷ tests_of step ns
+
+-- the first cause against such a step
 abbrev pub keep_refusal : AskedStep → List ℕ → Option Cause
-keep_refusal step ns = first_failed ((not (shares step), causes.Broadcast) ∷ tests_of step ns)
+keep_refusal step ns = first_failed (keep_tests step ns)
 
 -- the lengths after a step
 abbrev pub shape_after : AskedStep → List ℕ → List ℕ

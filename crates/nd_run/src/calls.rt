@@ -44,13 +44,28 @@ pub enum Question {
     Get(Vec<usize>),
 }
 
+/// What is done to an array's elements.
+#[derive(Debug, Drop)]
+pub enum Act<A> {
+    /// Each element becomes a clone of this one.
+    Fill(A),
+    /// The element of an index becomes a clone of this one.
+    Set(Vec<usize>, A),
+    /// The elements of two indexes change places.
+    Swap(Vec<usize>, Vec<usize>),
+}
+
 /// One line of a script.
 #[derive(Debug, Drop)]
-pub enum Call {
+pub enum Call<A> {
     /// The step's result takes the array's place.
     Keep(Step),
     /// A question about what these steps lead to. The array stays.
     Ask(Vec<Step>, Question),
+    /// An act on what these steps lead to. It changes the array's own elements.
+    Write(Vec<Step>, Act<A>),
+    /// An axis, the coordinate before which it is split, an act on the first part, and one on the second.
+    SplitWrite(usize, usize, Act<A>, Act<A>),
 }
 
 /// What a call answers.

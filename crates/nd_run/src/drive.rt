@@ -8,7 +8,7 @@ ghost use Rattle.nd_run.specs.Fold.{elements_of, replies_before};
 ghost use Rattle.nd_run.specs.Meaning.{Runs, Stops, start_of};
 ghost use Rattle.nd_run.specs.Endings.{OutOfMemory, Driven, ending};
 ghost use Rattle.nd_run.specs.Script.{asked_script};
-ghost use Rattle.nd_run.specs.Watched.{watched_inner, watched_failed};
+ghost use Rattle.nd_run.specs.Watched.{watched_inner, watched_failed, GetsFlushed};
 
 use crate::calls::Reply;
 use crate::outcome::{Outcome, conclude, conclude_whole, load, unloaded};
@@ -74,6 +74,7 @@ pub fn drive<R: Read, W: Write>(
 ) -> u8
     ensures text { IfSome (R.remaining (watched_inner input.old)) (λ bytes.
         Driven Runs Stops W.contents bytes (watched_failed input.new) output.old output.new result) }
+    ensures flushed { GetsFlushed output.old output.new }
     ensures status { (result == 3) ≡ (watched_failed input.new || watched_failed output.new) }
 {
     match load(alloc, input) {

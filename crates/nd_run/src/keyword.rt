@@ -1,4 +1,4 @@
-//! The words that name calls, steps and questions.
+//! The words that name calls, steps, questions and acts.
 
 ghost use Rattle.std.specs.Prelude.{◌≡◌};
 ghost use Rattle.nd_run.specs.Reading.{keyword_of, spelling, is_step};
@@ -9,6 +9,8 @@ pub enum Keyword {
     Start,
     Keep,
     Ask,
+    Write,
+    Split,
     Slash,
     Cut,
     Slice,
@@ -26,14 +28,19 @@ pub enum Keyword {
     Shape,
     Elements,
     Get,
+    Fill,
+    Set,
+    Swap,
     /// No name that a script knows.
     Other,
 }
 
-const NAMED: [Keyword; 20] = [
+const NAMED: [Keyword; 25] = [
     Keyword::Start,
     Keyword::Keep,
     Keyword::Ask,
+    Keyword::Write,
+    Keyword::Split,
     Keyword::Slash,
     Keyword::Cut,
     Keyword::Slice,
@@ -51,6 +58,9 @@ const NAMED: [Keyword; 20] = [
     Keyword::Shape,
     Keyword::Elements,
     Keyword::Get,
+    Keyword::Fill,
+    Keyword::Set,
+    Keyword::Swap,
 ];
 
 impl Keyword {
@@ -74,6 +84,8 @@ impl Keyword {
             Keyword::Start => b"start",
             Keyword::Keep => b"keep",
             Keyword::Ask => b"ask",
+            Keyword::Write => b"write",
+            Keyword::Split => b"split",
             Keyword::Slash => b"/",
             Keyword::Cut => b"cut",
             Keyword::Slice => b"slice",
@@ -91,6 +103,9 @@ impl Keyword {
             Keyword::Shape => b"shape",
             Keyword::Elements => b"elements",
             Keyword::Get => b"get",
+            Keyword::Fill => b"fill",
+            Keyword::Set => b"set",
+            Keyword::Swap => b"swap",
             Keyword::Other => b"",
         }
     }

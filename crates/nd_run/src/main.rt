@@ -18,6 +18,7 @@ mod steps;
 mod tests;
 mod watched;
 mod words;
+mod write;
 
 use drive::drive;
 use std::process::ExitCode;

@@ -7,8 +7,8 @@ ghost use Rattle.nd_run.specs.Calls.{said};
 ghost use Rattle.nd_run.specs.Fold.{elements_of};
 ghost use Rattle.nd_run.specs.Text.{values_text};
 ghost use Rattle.nd_run.specs.Endings.{Finished, ending, ending_text, status_of, is_load_failure, Loads, load_ending};
-ghost use Rattle.nd_run.specs.Puts.{Puts};
-ghost use Rattle.nd_run.specs.Watched.{watched_inner, watched_failed};
+ghost use Rattle.nd_run.specs.Puts.{Takes, Puts};
+ghost use Rattle.nd_run.specs.Watched.{watched_inner, watched_failed, GetsFlushed};
 
 use crate::calls::Reply;
 use crate::input::{InputError, read_input};
@@ -90,7 +90,8 @@ fn put_end<W: Write>(output: &mut Watched<W>, outcome: &Outcome)
 }
 
 fn flush<W: Write>(output: &mut Watched<W>)
-    ensures { Puts W.contents output.old output.new [] }
+    ensures text { Takes W.contents output.old output.new [] }
+    ensures flushed { GetsFlushed output.old output.new }
 {
     if !output.failed() {
         let _ = output.flush();
@@ -112,7 +113,8 @@ fn status(outcome: &Outcome, failed: bool) -> u8
 
 /// Writes what is due at this end, flushes once, and answers the status.
 pub fn conclude<W: Write>(output: &mut Watched<W>, outcome: &Outcome) -> u8
-    ensures text { Puts W.contents output.old output.new (ending_text (ending outcome.now)) }
+    ensures text { Takes W.contents output.old output.new (ending_text (ending outcome.now)) }
+    ensures flushed { GetsFlushed output.old output.new }
     ensures status { result ≡ status_of (watched_failed output.new) (ending outcome.now) }
 {
     put_end(output, outcome);
@@ -141,6 +143,16 @@ fn whole_status(failed: bool) -> u8
     if failed { 3 } else { 0 }
 }
 
+fn put_whole<W: Write>(output: &mut Watched<W>, replies: &[Reply<i64>], array: &Array<i64, IxDyn>)
+    ensures { Puts W.contents output.old output.new (ending_text (Finished (map said replies.now) (shape_of array.now) (elements_of (meaning_of array.now)))) }
+{
+    put_replies(output, replies);
+    put(output, b"end ");
+    put_list(output, array.shape());
+    put_elements(output, array);
+    put(output, b"\n");
+}
+
 /// Writes the replies and the array that the last call left, flushes once, and answers the status. It takes no
 /// memory.
 pub fn conclude_whole<W: Write>(
@@ -148,14 +160,11 @@ pub fn conclude_whole<W: Write>(
     replies: &[Reply<i64>],
     array: &Array<i64, IxDyn>,
 ) -> u8
-    ensures text { Puts W.contents output.old output.new (ending_text (Finished (map said replies.now) (shape_of array.now) (elements_of (meaning_of array.now)))) }
+    ensures text { Takes W.contents output.old output.new (ending_text (Finished (map said replies.now) (shape_of array.now) (elements_of (meaning_of array.now)))) }
+    ensures flushed { GetsFlushed output.old output.new }
     ensures status { result ≡ (if watched_failed output.new then 3 else 0) }
 {
-    put_replies(output, replies);
-    put(output, b"end ");
-    put_list(output, array.shape());
-    put_elements(output, array);
-    put(output, b"\n");
+    put_whole(output, replies, array);
     flush(output);
     whole_status(output.failed())
 }

@@ -6,6 +6,7 @@ ghost use Rattle.nd_run.specs.Words.{lines_of, words_of};
 ghost use Rattle.nd_run.specs.Calls.{asked};
 ghost use Rattle.nd_run.specs.Script.{AskedScript, IsScript, IsFirstBad, GivesScript, asked_script, numbered, call_in, start_in, calls_from, script_from};
 
+mod act;
 pub mod fault;
 mod items;
 mod line;
@@ -25,10 +26,10 @@ pub struct Script {
     /// Its elements in row-major order.
     pub elements: Vec<i64>,
     /// The calls, in order.
-    pub calls: Vec<Call>,
+    pub calls: Vec<Call<i64>>,
 }
 
-fn call_at(alloc: Global, number: usize, line: &[u8]) -> Result<Call, ScriptError>
+fn call_at(alloc: Global, number: usize, line: &[u8]) -> Result<Call<i64>, ScriptError>
     ensures { GivesScript asked result (numbered number (call_in line.now)) }
 {
     match line::call(alloc, line) {
@@ -49,7 +50,7 @@ fn start_at(alloc: Global, number: usize, line: &[u8]) -> Result<Parts, ScriptEr
 }
 
 /// The calls of a text whose first line has this number.
-fn calls(alloc: Global, first: usize, text: &[u8]) -> Result<Vec<Call>, ScriptError>
+fn calls(alloc: Global, first: usize, text: &[u8]) -> Result<Vec<Call<i64>>, ScriptError>
     requires { first + length text.now < 2 ^ 64 }
     ensures { GivesScript (λ v. map asked v.items) result (calls_from first (lines_of text.now)) }
 {

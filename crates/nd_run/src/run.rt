@@ -8,6 +8,7 @@ ghost use Rattle.nd_run.specs.Fold.{followed, LeadsAlong, answered, reply_to, af
 use crate::calls::{Call, Question, Reply, Step};
 use crate::cause::Cause;
 use crate::steps::{advance, keep_refusal, take_step};
+use crate::write::{Acted, write_parts, write_through};
 use nd_array_core::{Array, ArrayView};
 use nd_shape_and_slice::{IxDyn, MAX_AXES, index_of_rank};
 use std::alloc::{AllocError, Global};
@@ -94,14 +95,11 @@ fn keep<A>(array: Array<A, IxDyn>, step: &Step) -> (Reply<A>, Array<A, IxDyn>)
     }
 }
 
-/// A reply, and the array as the call left it.
-type Acted<A> = (Reply<A>, Array<A, IxDyn>);
-
 /// Carries out one call.
 fn act<A: Clone + Drop>(
     alloc: Global,
     array: Array<A, IxDyn>,
-    call: &Call,
+    call: &Call<A>,
 ) -> Result<Acted<A>, AllocError>
     requires { (x y : A) → A.is_clone x y → y ≡ x }
     ensures reply { IfOk result (λ acted. said acted.0 ≡ reply_to (asked call.now) (meaning_of array)) }
@@ -113,6 +111,10 @@ fn act<A: Clone + Drop>(
         Call::Ask(path, question) => {
             let reply = ask(alloc, &array, path.as_slice(), question)?;
             Ok((reply, array))
+        }
+        Call::Write(path, act) => write_through(array, path.as_slice(), act),
+        Call::SplitWrite(axis, index, first, second) => {
+            write_parts(array, *axis, *index, first, second)
         }
     }
 }
@@ -129,7 +131,7 @@ pub enum RunFault<A> {
 pub fn run<A: Clone + Drop>(
     alloc: Global,
     start: Array<A, IxDyn>,
-    calls: &[Call],
+    calls: &[Call<A>],
 ) -> Result<(Vec<Reply<A>>, Array<A, IxDyn>), RunFault<A>>
     requires { (x y : A) → A.is_clone x y → y ≡ x }
     ensures replies { IfOk result (λ r. map said r.0.items ≡ replies_to (map asked calls.now) (meaning_of start)) }

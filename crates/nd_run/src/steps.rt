@@ -2,7 +2,7 @@
 
 ghost use Rattle.std.specs.Prelude.{◌≡◌, ◌<◌, ◌+◌, ◌^◌, ◌∷◌, [], ℕ, true, List, None, length, MatchResult, Ok, Err};
 ghost use Rattle.nd_shape_and_slice.specs.Axes.{names_each_axis, permuted, unpermuted};
-ghost use Rattle.nd_array_core.specs.Meaning.{shape_of, element_at, inside, meaning_of};
+ghost use Rattle.nd_array_core.specs.Meaning.{shape_of, element_at, inside, meaning_of, storage_of, place_at};
 ghost use Rattle.nd_shape_and_slice.specs.SliceInfo.{reads_axis, axes_read};
 ghost use Rattle.nd_run.specs.Calls.{asked_step, SlicedAxis, Sliced, Widened, Indexed, Permuted, Exchanged, Inverted, Inserted};
 ghost use Rattle.nd_run.specs.Steps.{first_failed, element_tests, reads, refusal, keep_refusal, shape_after, index_before};
@@ -166,6 +166,8 @@ fn permuted<S: Data>(array: ArrayBase<S, IxDyn>, axes: &[usize]) -> ArrayBase<S,
     requires { names_each_axis axes.now (length (shape_of array)) ≡ true }
     ensures shape { shape_of result ≡ permuted axes.now (shape_of array) }
     ensures elements { (i : List ℕ) → element_at result i ≡ inside (shape_of result) i (element_at array (unpermuted axes.now i)) }
+    ensures storage { storage_of result ≡ storage_of array }
+    ensures places { (i : List ℕ) → place_at result i ≡ inside (shape_of result) i (place_at array (unpermuted axes.now i)) }
 {
     let order = IxDyn::new(&axes[..array.ndim()]);
     array.permuted_axes(order)
@@ -176,6 +178,8 @@ pub fn take_step<S: Data>(array: ArrayBase<S, IxDyn>, step: &Step) -> ArrayBase<
     requires { keep_refusal (asked_step step.now) (shape_of array) ≡ None }
     ensures shape { shape_of result ≡ shape_after (asked_step step.now) (shape_of array) }
     ensures elements { (i : List ℕ) → element_at result i ≡ inside (shape_of result) i (element_at array (index_before (asked_step step.now) (shape_of array) i)) }
+    ensures storage { storage_of result ≡ storage_of array }
+    ensures places { (i : List ℕ) → place_at result i ≡ inside (shape_of result) i (place_at array (index_before (asked_step step.now) (shape_of array) i)) }
 {
     match step {
         Step::SliceAxis(axis, slice) => array.slice_axis_move(Axis(*axis), *slice),

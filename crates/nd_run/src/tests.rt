@@ -1,4 +1,4 @@
-use crate::calls::{Call, Question, Reply, Step};
+use crate::calls::{Act, Call, Question, Reply, Step};
 use crate::drive::drive;
 use crate::outcome::{Outcome, conclude, conclude_whole};
 use crate::reader::fault::ScriptError;
@@ -107,6 +107,44 @@ const BAD_CALLS: [&[u8]; 22] = [
     b"ask get 1",
 ];
 
+// So is each of these: writes with a word too few or too many, or with one that is no such number.
+const BAD_WRITES: [&[u8]; 34] = [
+    b"fill 1",
+    b"write",
+    b"write fill",
+    b"write fill _",
+    b"write fill +1",
+    b"write fill 9223372036854775808",
+    b"write fill 1 1",
+    b"write Fill 1",
+    b"write / fill 1",
+    b"write reverse fill 1",
+    b"write reverse /",
+    b"write shape",
+    b"write set",
+    b"write set 0",
+    b"write set 1 0",
+    b"write set 1 0 _",
+    b"write set 1 -1 0",
+    b"write set 1 0 9 9",
+    b"write set 18446744073709551615 0 9",
+    b"write swap",
+    b"write swap 1 0",
+    b"write swap 1 0 1",
+    b"write swap 1 0 1 0 0",
+    b"ask fill 1",
+    b"split",
+    b"split 0",
+    b"split 0 0",
+    b"split 0 0 fill 1",
+    b"split 0 0 fill 1 /",
+    b"split 0 0 fill 1 fill 1",
+    b"split 0 0 fill 1 / fill 1 /",
+    b"split 0 -1 fill 1 / fill 1",
+    b"split 0 fill 1 / fill 1",
+    b"split 0 0 reverse / fill 1 / fill 1",
+];
+
 // So is each of these: steps with a word too few or too many, or with one that is no such number.
 const BAD_STEPS: [&[u8]; 45] = [
     b"reverse",
@@ -158,7 +196,7 @@ const BAD_STEPS: [&[u8]; 45] = [
 
 #[test]
 fn bad_calls(rt: HostRuntime) -> Result<(), Fail> {
-    for call in BAD_CALLS.iter().chain(&BAD_STEPS) {
+    for call in BAD_CALLS.iter().chain(&BAD_STEPS).chain(&BAD_WRITES) {
         let mut text = Vec::from_slice(rt.alloc(), b"\nstart 1 1 5\nask shape\n \n")?;
         text.extend_from_slice(call)?;
         text.extend_from_slice(b"\nkeep\n")?;
@@ -184,7 +222,7 @@ fn no_line_with_words(rt: HostRuntime) {
 }
 
 // Whether these are the calls of `CALLS`.
-fn are_calls(calls: &[Call]) -> bool {
+fn are_calls(calls: &[Call<i64>]) -> bool {
     let slice = Slice::new(-2, Some(-1), 3);
     match calls {
         [
@@ -192,7 +230,13 @@ fn are_calls(calls: &[Call]) -> bool {
             Call::Keep(Step::Permute(axes)),
             Call::Ask(none, Question::Shape),
             Call::Ask(path, Question::Get(index)),
+            Call::Write(along, Act::Set(place, -9)),
+            Call::SplitWrite(3, 1, Act::Swap(a, b), Act::Fill(4)),
         ] => {
+            let last = match along.as_slice() {
+                [Step::Reverse, Step::Invert(2)] => place.as_slice() == [5, 6].as_slice(),
+                _ => false,
+            };
             let first = match path.as_slice() {
                 [Step::Permute(order), Step::SliceAxis(0, cut)] => {
                     order.as_slice() == [0].as_slice() && *cut == Slice::new(0, None, 1)
@@ -204,6 +248,9 @@ fn are_calls(calls: &[Call]) -> bool {
                 && none.is_empty()
                 && first
                 && index.is_empty()
+                && last
+                && a.is_empty()
+                && b.as_slice() == [8].as_slice()
         }
         _ => false,
     }
@@ -212,7 +259,7 @@ fn are_calls(calls: &[Call]) -> bool {
 #[test]
 fn calls_are_read(rt: HostRuntime) -> Result<(), ScriptError> {
     let text =
-        b"start 0 7\nkeep cut 1 -2 -1 3\nkeep permute 2 1 0\nask shape\nask permute 1 0 / cut 0 0 _ 1 / get 0\n";
+        b"start 0 7\nkeep cut 1 -2 -1 3\nkeep permute 2 1 0\nask shape\nask permute 1 0 / cut 0 0 _ 1 / get 0\nwrite reverse / invert 2 / set 2 5 6 -9\nsplit 3 1 swap 0 1 8 / fill 4\n";
     let script = read_script(rt.alloc(), text)?;
     assert!(rt; script.lengths.is_empty());
     assert_eq!(rt; script.elements.as_slice(), [7].as_slice());

@@ -1,30 +1,68 @@
-//! A reader or a writer that remembers whether one of its calls failed.
+//! A reader or a writer that remembers whether one of its calls failed, and which flushes it was asked for.
 
 ghost use Rattle.std.specs.Prelude.{◌≡◌, ◌||◌, false, is_err};
 ghost use Rattle.std.specs.Io.{ReadsAtMost, WritesAtMost};
 ghost use Rattle.std.specs.Io.KnownBytes.{Keeps, ReadConsumes, WriteAppends};
-ghost use Rattle.nd_run.specs.Watched.{watched_inner, watched_failed, write_failed};
+ghost use Rattle.nd_run.specs.declared.watched.Flushes.TheVariants.{Never};
+ghost use Rattle.nd_run.specs.Watched.{watched_inner, watched_failed, watched_flushes, after_write, after_flush, write_failed};
 
 use std::io;
 use std::io::{Read, Write};
 
+/// Which flushes a writer was asked for.
+#[derive(Clone, Copy, Debug, PartialEq, Eq)]
+pub enum Flushes {
+    /// None.
+    Never,
+    /// One, with no failed call before it and no write after it.
+    AtEnd,
+    /// Anything else.
+    Other,
+}
+
+impl Flushes {
+    fn after_write(self) -> Flushes
+        ensures { result ≡ after_write self }
+    {
+        match self {
+            Flushes::Never => Flushes::Never,
+            _ => Flushes::Other,
+        }
+    }
+
+    fn after_flush(self, failed: bool) -> Flushes
+        ensures { result ≡ after_flush failed self }
+    {
+        match self {
+            Flushes::Never if !failed => Flushes::AtEnd,
+            _ => Flushes::Other,
+        }
+    }
+}
+
 /// A reader or a writer, and whether one of its calls failed: each `Err` counts, `Interrupted` too, and so
 /// does a write that takes no byte of a piece that isn't empty.
+///
+/// The standard `flush` ensures only that the bytes stay, so a contract over any writer can't see it. `flushes`
+/// is set beside the inner call, and lets contracts say when a flush is due.
 #[derive(Drop)]
 pub struct Watched<T> {
     inner: T,
     failed: bool,
+    flushes: Flushes,
 }
 
 impl<T> Watched<T> {
-    /// Nothing failed so far.
+    /// Nothing failed and nothing was flushed so far.
     pub fn new(inner: T) -> Self
         ensures inner { watched_inner result ≡ inner }
         ensures failed { watched_failed result ≡ false }
+        ensures flushes { watched_flushes result ≡ Never }
     {
         Watched {
             inner,
             failed: false,
+            flushes: Flushes::Never,
         }
     }
 
@@ -32,7 +70,11 @@ impl<T> Watched<T> {
     pub fn into_inner(self) -> T
         ensures { result ≡ watched_inner self }
     {
-        let Watched { inner, failed: _ } = self;
+        let Watched {
+            inner,
+            failed: _,
+            flushes: _,
+        } = self;
         inner
     }
 
@@ -51,6 +93,7 @@ impl<R: Read> Read for Watched<R> {
         ensures bound { ReadsAtMost result buf.new }
         ensures bytes { ReadConsumes (R.remaining (watched_inner self.old)) (R.remaining (watched_inner self.new)) result buf.new }
         ensures failed { watched_failed self.new ≡ (watched_failed self.old || is_err result) }
+        ensures flushes { watched_flushes self.new ≡ watched_flushes self.old }
     {
         let result = self.inner.read(buf);
         if result.is_err() {
@@ -67,8 +110,10 @@ impl<W: Write> Write for Watched<W> {
         ensures bound { WritesAtMost result buf.now }
         ensures bytes { WriteAppends (W.contents (watched_inner self.old)) (W.contents (watched_inner self.new)) result buf.now }
         ensures failed { watched_failed self.new ≡ (watched_failed self.old || write_failed result buf.now) }
+        ensures flushes { watched_flushes self.new ≡ after_write (watched_flushes self.old) }
     {
         let result = self.inner.write(buf);
+        self.flushes = self.flushes.after_write();
         match &result {
             Ok(0) if !buf.is_empty() => self.failed = true,
             Ok(_) => {}
@@ -80,8 +125,10 @@ impl<W: Write> Write for Watched<W> {
     fn flush(&mut self) -> io::Result<()>
         ensures bytes { Keeps (W.contents (watched_inner self.old)) (W.contents (watched_inner self.new)) }
         ensures failed { watched_failed self.new ≡ (watched_failed self.old || is_err result) }
+        ensures flushes { watched_flushes self.new ≡ after_flush (watched_failed self.old) (watched_flushes self.old) }
     {
         let result = self.inner.flush();
+        self.flushes = self.flushes.after_flush(self.failed);
         if result.is_err() {
             self.failed = true;
         }

@@ -3,6 +3,7 @@ pub mod RowMajor
 pub mod Steps
 pub mod AxisTests
 pub mod Ranks
+pub mod RankIndexes
 pub mod SliceLists
 pub mod ColumnMajor
 pub mod ColumnLoop

@@ -3,13 +3,14 @@
 ghost use Rattle.std.specs.Prelude.{◌≡◌, map, length};
 ghost use Rattle.nd_run.specs.Words.{words_of};
 ghost use Rattle.nd_run.specs.Calls.{asked_step, asking, asked};
-ghost use Rattle.nd_run.specs.Reading.{Gives, leg_at, path_at, get_at, question_at, keep_at, ask_at, call_at, ended, call_of, start_of};
+ghost use Rattle.nd_run.specs.Reading.{Gives, leg_at, path_at, get_at, question_at, keep_at, ask_at, write_at, split_at, call_at, ended, call_of, start_of};
 
 use crate::calls::{Call, Question, Step};
 use crate::keyword::Keyword;
+use crate::reader::act::{act, acts};
 use crate::reader::fault::LineFault;
 use crate::reader::items::{Parts, array, keyword, list};
-use crate::reader::step::{begins_step, step};
+use crate::reader::step::{begins_step, pair, step};
 use crate::words::split_word;
 use std::alloc::Global;
 
@@ -65,7 +66,7 @@ fn question(alloc: Global, line: &[u8]) -> Result<(Question, &[u8]), LineFault>
 }
 
 #[tactic(auto, unfolding(crate::specs::Reading::keep_at))]
-fn keep(alloc: Global, line: &[u8]) -> Result<(Call, &[u8]), LineFault>
+fn keep(alloc: Global, line: &[u8]) -> Result<(Call<i64>, &[u8]), LineFault>
     ensures { Gives (λ x. (asked x.0, words_of x.1.now)) result (keep_at (words_of line.now)) }
 {
     let (step, rest) = step(alloc, line)?;
@@ -73,7 +74,7 @@ fn keep(alloc: Global, line: &[u8]) -> Result<(Call, &[u8]), LineFault>
 }
 
 #[tactic(auto, unfolding(crate::specs::Reading::ask_at))]
-fn ask(alloc: Global, most: usize, line: &[u8]) -> Result<(Call, &[u8]), LineFault>
+fn ask(alloc: Global, most: usize, line: &[u8]) -> Result<(Call<i64>, &[u8]), LineFault>
     ensures { Gives (λ x. (asked x.0, words_of x.1.now)) result (ask_at most (words_of line.now)) }
 {
     let (path, rest) = path(alloc, most, line)?;
@@ -81,21 +82,41 @@ fn ask(alloc: Global, most: usize, line: &[u8]) -> Result<(Call, &[u8]), LineFau
     Ok((Call::Ask(path, question), rest))
 }
 
+#[tactic(auto, unfolding(crate::specs::Reading::write_at))]
+fn write(alloc: Global, most: usize, line: &[u8]) -> Result<(Call<i64>, &[u8]), LineFault>
+    ensures { Gives (λ x. (asked x.0, words_of x.1.now)) result (write_at most (words_of line.now)) }
+{
+    let (path, rest) = path(alloc, most, line)?;
+    let (act, rest) = act(alloc, rest)?;
+    Ok((Call::Write(path, act), rest))
+}
+
+#[tactic(auto, unfolding(crate::specs::Reading::split_at))]
+fn split(alloc: Global, line: &[u8]) -> Result<(Call<i64>, &[u8]), LineFault>
+    ensures { Gives (λ x. (asked x.0, words_of x.1.now)) result (split_at (words_of line.now)) }
+{
+    let ((axis, index), rest) = pair(line)?;
+    let ((first, second), rest) = acts(alloc, rest)?;
+    Ok((Call::SplitWrite(axis, index, first, second), rest))
+}
+
 #[tactic(auto, unfolding(crate::specs::Reading::call_at))]
-fn any_call(alloc: Global, most: usize, line: &[u8]) -> Result<(Call, &[u8]), LineFault>
+fn any_call(alloc: Global, most: usize, line: &[u8]) -> Result<(Call<i64>, &[u8]), LineFault>
     ensures { Gives (λ x. (asked x.0, words_of x.1.now)) result (call_at most (words_of line.now)) }
 {
     let (first, rest) = keyword(line)?;
     match first {
         Keyword::Keep => keep(alloc, rest),
         Keyword::Ask => ask(alloc, most, rest),
+        Keyword::Write => write(alloc, most, rest),
+        Keyword::Split => split(alloc, rest),
         _ => Err(LineFault::Bad),
     }
 }
 
 /// The call of a line, all of whose words belong to it.
 #[tactic(auto, unfolding(crate::specs::Reading::call_of))]
-pub fn call(alloc: Global, line: &[u8]) -> Result<Call, LineFault>
+pub fn call(alloc: Global, line: &[u8]) -> Result<Call<i64>, LineFault>
     ensures { Gives asked result (call_of (length line.now) (words_of line.now)) }
 {
     let (call, rest) = any_call(alloc, line.len(), line)?;

@@ -51,7 +51,7 @@ fn cut(line: &[u8]) -> Result<(Step, &[u8]), LineFault>
 
 /// Two numbers.
 #[tactic(auto, unfolding(crate::specs::Reading::pair_at))]
-fn pair(line: &[u8]) -> Result<((usize, usize), &[u8]), LineFault>
+pub fn pair(line: &[u8]) -> Result<((usize, usize), &[u8]), LineFault>
     ensures { Gives (λ x. (x.0, words_of x.1.now)) result (pair_at (words_of line.now)) }
 {
     let (first, rest) = number::<usize>(line)?;

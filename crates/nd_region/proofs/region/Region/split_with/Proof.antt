@@ -215,7 +215,9 @@ module _ (E Y Z : El) (g : Called.Ghosts E.row Y.row Z.row) (d₀ d' : Dict) whe
         use1 𝓛 (‵ (fdead κ') ⊛ ‵ (fdead κ')) (𝓛.lfts.dead_dup κ') $ split ! $
         rewrite ! 5 (λ (m : GName). ‵ (fres m (code_of xs₂))) same.1 refl $ rewrite ! 6 (λ (m : GName). ‵ (fres m (code_of xs₁))) same.0 refl $
         move ! (0 ∷ 10 ∷ 5 ∷ []) $ use3 𝓛 (later (‵ ((Spots (R E) (block_ptr b o) ks).own_at xs₂ 0 0))) (takes_back E 𝓛 b κ' o ks γ₂ xs₂) $ await ! tt $
+        fsplit ! $ feq_l ! (λ long₂. feq_i ! ℕ (length xs₂) (length ks) long₂ $ fjoin ! $
         move ! (1 ∷ 9 ∷ 5 ∷ []) $ use3 𝓛 (later (‵ ((Spots (R E) (block_ptr b o) hs).own_at xs₁ 0 0))) (takes_back E 𝓛 b κ' o hs γ₁ xs₁) $ await ! tt $
+        fsplit ! $ feq_l ! (λ long₁. feq_i ! ℕ (length xs₁) (length hs) long₁ $ fjoin ! $
         let m : List (el_x E) = merged hs xs₁ xs₂ in
         use2 𝓛 (‵ (All.own_at m 0 0)) (rejoins E 𝓛 b κ₁ q₁ o d.name d.items d.held h xs₁ xs₂) $
         -- [the whole; A's left; A's right; nothing; R's; F's; the answer; the open loan, obs, auth; the cell, open borrow, obs, auth; the two slices']
@@ -223,11 +225,11 @@ module _ (E Y Z : El) (g : Called.Ghosts E.row Y.row Z.row) (d₀ d' : Dict) whe
         move ! (8 ∷ 0 ∷ 9 ∷ 10 ∷ 11 ∷ []) $ closes ! tt (Rg a₁ E) (with_items d m) (rg_val (block_ptr b o) d.len ∷ []) rb ro $
         move ! (4 ∷ 5 ∷ []) $ use2 𝓛 (‵ (flft κ₄ q₄)) (𝓛.lfts.lft_join κ₄ q₄) $
         sets ! (of_opd ! (get ! refl)) refl g₃ $ returns ! (look_at ! 0 refl) $ free_all ! refl $
-        suffices ! _ (ends_at 𝓛 ended stayed held y₀ v r.2 (with_items d m, (tt, (tt, (tt, (tt, tt))))) (tt, (tt, (tt, (tt, (tt, tt)))))) $ says ! (one, two, s₁, s₂, (refl, refl), (refl, refl), gave, refl) $
+        suffices ! _ (ends_at 𝓛 ended stayed held y₀ v r.2 (with_items d m, (tt, (tt, (tt, (tt, tt))))) (tt, (tt, (tt, (tt, (tt, tt)))))) $ says ! (one, two, s₁, s₂, (refl, refl), (refl, refl), gave, refl, long₁ ∙ kept_length h d.held ∙ sym same_length, long₂ ∙ kept_length k d.held ∙ sym same_length) $
         -- [A's; obs; the borrow; the `&mut`'s token; the region's; nothing; R's; F's; the answer; the two slices']
         move ! (1 ∷ 2 ∷ []) $ feq_i ! (List Val) (vptr rb ro ∷ []) (vptr rb ro ∷ []) refl $ fjoin3 ! $
         nothing ! $ nothing ! $ fjoin ! $ nothing ! $ fjoin ! $ nothing ! $ fjoin ! $ nothing ! $ fjoin ! $ move ! (1 ∷ 0 ∷ []) $ fjoin ! $ move ! (0 ∷ 7 ∷ []) $ join ! $
-        move ! (6 ∷ 4 ∷ []) $ join ! $ move ! (5 ∷ 0 ∷ []) $ join ! $ move ! (2 ∷ 0 ∷ []) $ join ! $ move ! (5 ∷ 0 ∷ []) $ join ! $ move ! (4 ∷ 0 ∷ []) $ join ! $ move ! (3 ∷ 0 ∷ []) $ join ! $ move ! (2 ∷ 0 ∷ []) $ join ! $ join ! $ done !)))))))))))))))))))))))))))))
+        move ! (6 ∷ 4 ∷ []) $ join ! $ move ! (5 ∷ 0 ∷ []) $ join ! $ move ! (2 ∷ 0 ∷ []) $ join ! $ move ! (5 ∷ 0 ∷ []) $ join ! $ move ! (4 ∷ 0 ∷ []) $ join ! $ move ! (3 ∷ 0 ∷ []) $ join ! $ move ! (2 ∷ 0 ∷ []) $ join ! $ join ! $ done !)))))))))))))))))))))))))))))))
 
     meets : Meets 𝓛 ended.signature (WpFn 𝓤 H 𝓣.C 𝓣.Λ here) (closing 𝓛 ended held)
     meets =

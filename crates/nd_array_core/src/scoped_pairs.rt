@@ -1,0 +1,172 @@
+//! Calls that lend two mutable views of parts of an array, which share no place, to a task for their length.
+
+ghost use Rattle.std.specs.Prelude.{true, false, ◌≡◌, ◌≤◌, ◌<◌, ℕ, List, Option, length, slice_index, if◌then◌else◌};
+ghost use Rattle.std.specs.Option.{is_some};
+ghost use Rattle.nd_region.specs.Places.{names, ShareNoPlace};
+ghost use Rattle.nd_region.specs.Region.{stored as region_stored, borrow_of, IsAsLong};
+ghost use Rattle.nd_array_core.specs.Maps.{lower_shape, upper_shape, upper_index};
+ghost use Rattle.nd_array_core.specs.Placed.{Placed};
+ghost use Rattle.nd_array_core.specs.Places.{HoldsAll};
+ghost use Rattle.nd_array_core.specs.Tasks.{view_borrow, lent_borrow, lent_view, view_left, CanBeSeen, LiesSoundly, laid, IsSeenThrough, AgreesOnNamed};
+ghost use Rattle.nd_array_core.specs.Writes.{OthersStay};
+
+use crate::array::ArrayBase;
+use crate::data::{DataMut, ViewMutRepr};
+use crate::layout::Layout;
+use crate::scoped::LentView;
+use nd_region::Region;
+use nd_shape_and_slice::{Axis, Dimension, StrideList};
+
+/// What is done with two mutable views while they are lent. The task gives back the storage of each, or of what it has
+/// sliced it to: the same borrows.
+pub trait PairTask<A, D: Dimension>: Drop {
+    /// What it answers.
+    type Answer;
+
+    /// What it asks of the views.
+    ghost pre: { Self → Placed A → Placed A → Type 0 };
+    /// What is true of the views as they came, of the same as they are given back, and of the answer.
+    ghost post: { Self → Placed A → Placed A → Placed A → Placed A → Self.Answer → Type 0 };
+
+    /// Does it.
+    fn run<'b>(
+        self,
+        one: LentView<'b, A, D, D::Strides>,
+        two: LentView<'b, A, D, D::Strides>,
+    ) -> (ViewMutRepr<'b, A>, ViewMutRepr<'b, A>, Self::Answer)
+        requires one { CanBeSeen D.lengths D.Strides.strides_of one }
+        requires two { CanBeSeen D.lengths D.Strides.strides_of two }
+        requires pre { pre self (lent_view D.lengths D.Strides.strides_of one) (lent_view D.lengths D.Strides.strides_of two) }
+        ensures one_borrow { view_borrow result.0 ≡ lent_borrow one.entry }
+        ensures two_borrow { view_borrow result.1 ≡ lent_borrow two.entry }
+        ensures done { post self (lent_view D.lengths D.Strides.strides_of one.entry) (lent_view D.lengths D.Strides.strides_of two.entry) (view_left D.lengths D.Strides.strides_of one.entry result.0) (view_left D.lengths D.Strides.strides_of two.entry result.1) result.2 };
+}
+
+/// Runs the task on the elements of two regions, each seen by a layout.
+fn run_pair<'b, A, D: Dimension, K: PairTask<A, D>>(
+    part: Region<'b, A>,
+    one: Layout<D, D::Strides>,
+    rest: Region<'b, A>,
+    two: Layout<D, D::Strides>,
+    task: K,
+) -> (Region<'b, A>, Region<'b, A>, K::Answer)
+    requires one { LiesSoundly (region_stored part) one.first (D.lengths one.dim) (D.Strides.strides_of one.strides) }
+    requires two { LiesSoundly (region_stored rest) two.first (D.lengths two.dim) (D.Strides.strides_of two.strides) }
+    requires pre { K.pre task (laid (region_stored part) one.first (D.lengths one.dim) (D.Strides.strides_of one.strides)) (laid (region_stored rest) two.first (D.lengths two.dim) (D.Strides.strides_of two.strides)) }
+    ensures part { borrow_of result.0 ≡ borrow_of part.entry }
+    ensures rest { borrow_of result.1 ≡ borrow_of rest.entry }
+    ensures done { K.post task (laid (region_stored part.entry) one.first (D.lengths one.dim) (D.Strides.strides_of one.strides)) (laid (region_stored rest.entry) two.first (D.lengths two.dim) (D.Strides.strides_of two.strides)) (laid (region_stored result.0) one.first (D.lengths one.dim) (D.Strides.strides_of one.strides)) (laid (region_stored result.1) two.first (D.lengths two.dim) (D.Strides.strides_of two.strides)) result.2 }
+{
+    let first = LentView {
+        region: part,
+        first: one.first,
+        dim: one.dim,
+        strides: one.strides,
+    };
+    let second = LentView {
+        region: rest,
+        first: two.first,
+        dim: two.dim,
+        strides: two.strides,
+    };
+    let (first, second, answer) = task.run(first, second);
+    (first.region, second.region, answer)
+}
+
+/// Runs the task on two views of a region, by layouts that share no place.
+fn split_laid<'b, A, D: Dimension, K: PairTask<A, D>>(
+    region: Region<'b, A>,
+    one: Layout<D, D::Strides>,
+    two: Layout<D, D::Strides>,
+    task: K,
+) -> (Region<'b, A>, K::Answer)
+    requires one { LiesSoundly (region_stored region) one.first (D.lengths one.dim) (D.Strides.strides_of one.strides) }
+    requires two { LiesSoundly (region_stored region) two.first (D.lengths two.dim) (D.Strides.strides_of two.strides) }
+    requires apart { ShareNoPlace one.first (D.lengths one.dim) (D.Strides.strides_of one.strides) two.first (D.lengths two.dim) (D.Strides.strides_of two.strides) }
+    requires callable { (m n : ℕ → Option A) → AgreesOnNamed (region_stored region) one.first (D.lengths one.dim) (D.Strides.strides_of one.strides) m → AgreesOnNamed (region_stored region) two.first (D.lengths two.dim) (D.Strides.strides_of two.strides) n → K.pre task (laid m one.first (D.lengths one.dim) (D.Strides.strides_of one.strides)) (laid n two.first (D.lengths two.dim) (D.Strides.strides_of two.strides)) }
+    ensures borrow { borrow_of result.0 ≡ borrow_of region.entry }
+    ensures done { (m : ℕ → Option A) × (n : ℕ → Option A) × (s : ℕ → Option A) × (t : ℕ → Option A) × AgreesOnNamed (region_stored region.entry) one.first (D.lengths one.dim) (D.Strides.strides_of one.strides) m × AgreesOnNamed (region_stored region.entry) two.first (D.lengths two.dim) (D.Strides.strides_of two.strides) n × K.post task (laid m one.first (D.lengths one.dim) (D.Strides.strides_of one.strides)) (laid n two.first (D.lengths two.dim) (D.Strides.strides_of two.strides)) (laid s one.first (D.lengths one.dim) (D.Strides.strides_of one.strides)) (laid t two.first (D.lengths two.dim) (D.Strides.strides_of two.strides)) result.1 × AgreesOnNamed (region_stored result.0) one.first (D.lengths one.dim) (D.Strides.strides_of one.strides) s × AgreesOnNamed (region_stored result.0) two.first (D.lengths two.dim) (D.Strides.strides_of two.strides) t }
+{
+    let mut region = region;
+    let lent = one.copied();
+    let answer = region.split_with(
+        one.first,
+        one.dim.slice(),
+        one.strides.slice(),
+        move |part, rest|
+            requires one { LiesSoundly (region_stored part) lent.first (D.lengths lent.dim) (D.Strides.strides_of lent.strides) }
+            requires two { LiesSoundly (region_stored rest) two.first (D.lengths two.dim) (D.Strides.strides_of two.strides) }
+            requires pre { K.pre task (laid (region_stored part) lent.first (D.lengths lent.dim) (D.Strides.strides_of lent.strides)) (laid (region_stored rest) two.first (D.lengths two.dim) (D.Strides.strides_of two.strides)) }
+            ensures part { borrow_of result.0 ≡ borrow_of part.entry }
+            ensures rest { borrow_of result.1 ≡ borrow_of rest.entry }
+            ensures done { K.post task (laid (region_stored part.entry) lent.first (D.lengths lent.dim) (D.Strides.strides_of lent.strides)) (laid (region_stored rest.entry) two.first (D.lengths two.dim) (D.Strides.strides_of two.strides)) (laid (region_stored result.0) lent.first (D.lengths lent.dim) (D.Strides.strides_of lent.strides)) (laid (region_stored result.1) two.first (D.lengths two.dim) (D.Strides.strides_of two.strides)) result.2 }
+        { run_pair(part, lent, rest, two, task) },
+    );
+    (region, answer)
+}
+
+/// Runs the task on two views of a storage, by layouts that share no place and whose places are among those of a third.
+fn pair_laid<S: DataMut, D: Dimension, K: PairTask<S::Elem, D>>(
+    storage: &mut S,
+    whole: Layout<D, D::Strides>,
+    one: Layout<D, D::Strides>,
+    two: Layout<D, D::Strides>,
+    task: K,
+) -> K::Answer
+    requires whole { HoldsAll (S.stored storage.old) whole.first (D.lengths whole.dim) (D.Strides.strides_of whole.strides) }
+    requires one { LiesSoundly (S.stored storage.old) one.first (D.lengths one.dim) (D.Strides.strides_of one.strides) }
+    requires two { LiesSoundly (S.stored storage.old) two.first (D.lengths two.dim) (D.Strides.strides_of two.strides) }
+    requires one_within { (p : ℕ) → names one.first (D.lengths one.dim) (D.Strides.strides_of one.strides) p ≡ true → names whole.first (D.lengths whole.dim) (D.Strides.strides_of whole.strides) p ≡ true }
+    requires two_within { (p : ℕ) → names two.first (D.lengths two.dim) (D.Strides.strides_of two.strides) p ≡ true → names whole.first (D.lengths whole.dim) (D.Strides.strides_of whole.strides) p ≡ true }
+    requires apart { ShareNoPlace one.first (D.lengths one.dim) (D.Strides.strides_of one.strides) two.first (D.lengths two.dim) (D.Strides.strides_of two.strides) }
+    requires callable { (m n : ℕ → Option S.Elem) → AgreesOnNamed (S.stored storage.old) one.first (D.lengths one.dim) (D.Strides.strides_of one.strides) m → AgreesOnNamed (S.stored storage.old) two.first (D.lengths two.dim) (D.Strides.strides_of two.strides) n → K.pre task (laid m one.first (D.lengths one.dim) (D.Strides.strides_of one.strides)) (laid n two.first (D.lengths two.dim) (D.Strides.strides_of two.strides)) }
+    ensures there { (p : ℕ) → is_some (S.stored storage.new p) ≡ is_some (S.stored storage.old p) }
+    ensures borrow { S.borrow storage.new ≡ S.borrow storage.old }
+    ensures others { (p : ℕ) → names whole.first (D.lengths whole.dim) (D.Strides.strides_of whole.strides) p ≡ false → S.stored storage.new p ≡ S.stored storage.old p }
+    ensures done { (m : ℕ → Option S.Elem) × (n : ℕ → Option S.Elem) × (s : ℕ → Option S.Elem) × (t : ℕ → Option S.Elem) × AgreesOnNamed (S.stored storage.old) one.first (D.lengths one.dim) (D.Strides.strides_of one.strides) m × AgreesOnNamed (S.stored storage.old) two.first (D.lengths two.dim) (D.Strides.strides_of two.strides) n × K.post task (laid m one.first (D.lengths one.dim) (D.Strides.strides_of one.strides)) (laid n two.first (D.lengths two.dim) (D.Strides.strides_of two.strides)) (laid s one.first (D.lengths one.dim) (D.Strides.strides_of one.strides)) (laid t two.first (D.lengths two.dim) (D.Strides.strides_of two.strides)) result × AgreesOnNamed (S.stored storage.new) one.first (D.lengths one.dim) (D.Strides.strides_of one.strides) s × AgreesOnNamed (S.stored storage.new) two.first (D.lengths two.dim) (D.Strides.strides_of two.strides) t }
+{
+    storage.with_part(
+        whole.first,
+        whole.dim.slice(),
+        whole.strides.slice(),
+        move |region|
+            requires one { LiesSoundly (region_stored region) one.first (D.lengths one.dim) (D.Strides.strides_of one.strides) }
+            requires two { LiesSoundly (region_stored region) two.first (D.lengths two.dim) (D.Strides.strides_of two.strides) }
+            requires apart { ShareNoPlace one.first (D.lengths one.dim) (D.Strides.strides_of one.strides) two.first (D.lengths two.dim) (D.Strides.strides_of two.strides) }
+            requires callable { (m n : ℕ → Option S.Elem) → AgreesOnNamed (region_stored region) one.first (D.lengths one.dim) (D.Strides.strides_of one.strides) m → AgreesOnNamed (region_stored region) two.first (D.lengths two.dim) (D.Strides.strides_of two.strides) n → K.pre task (laid m one.first (D.lengths one.dim) (D.Strides.strides_of one.strides)) (laid n two.first (D.lengths two.dim) (D.Strides.strides_of two.strides)) }
+            ensures borrow { borrow_of result.0 ≡ borrow_of region.entry }
+            ensures done { (m : ℕ → Option S.Elem) × (n : ℕ → Option S.Elem) × (s : ℕ → Option S.Elem) × (t : ℕ → Option S.Elem) × AgreesOnNamed (region_stored region.entry) one.first (D.lengths one.dim) (D.Strides.strides_of one.strides) m × AgreesOnNamed (region_stored region.entry) two.first (D.lengths two.dim) (D.Strides.strides_of two.strides) n × K.post task (laid m one.first (D.lengths one.dim) (D.Strides.strides_of one.strides)) (laid n two.first (D.lengths two.dim) (D.Strides.strides_of two.strides)) (laid s one.first (D.lengths one.dim) (D.Strides.strides_of one.strides)) (laid t two.first (D.lengths two.dim) (D.Strides.strides_of two.strides)) result.1 × AgreesOnNamed (region_stored result.0) one.first (D.lengths one.dim) (D.Strides.strides_of one.strides) s × AgreesOnNamed (region_stored result.0) two.first (D.lengths two.dim) (D.Strides.strides_of two.strides) t }
+        { split_laid(region, one, two, task) },
+    )
+}
+
+#[tactic(auto, unfolding(crate::specs::Meaning::shape_of, crate::specs::Meaning::element_at, crate::specs::Meaning::storage_of, crate::specs::Meaning::place_at))]
+impl<S: DataMut, D: Dimension> ArrayBase<S, D> {
+    ghost use Rattle.nd_array_core.specs.Meaning.{shape_of, element_at, storage_of, place_at};
+
+    /// Hands the task mutable views of the two parts of an axis, for the length of the call: the coordinates below this
+    /// one, and those from it on. Each part of the array then shows what its view does. The axis is below `ndim`, and the
+    /// coordinate at most its length. This project's own, beside ndarray's `split_at` of mutable views.
+    pub fn with_split_at<K: PairTask<S::Elem, D>>(
+        &mut self,
+        axis: Axis,
+        index: usize,
+        task: K,
+    ) -> K::Answer
+        requires axis { axis.0 < length (shape_of self.old) }
+        requires within { index ≤ slice_index (shape_of self.old) axis.0 }
+        requires callable { (v0 v1 : Placed S.Elem) → IsSeenThrough (lower_shape (shape_of self.old) axis.0 index) (λ i. i) (place_at self.old) (element_at self.old) v0 → IsSeenThrough (upper_shape (shape_of self.old) axis.0 index) (upper_index axis.0 index) (place_at self.old) (element_at self.old) v1 → K.pre task v0 v1 }
+        ensures shape { shape_of self.new ≡ shape_of self.old }
+        ensures places { (i : List ℕ) → place_at self.new i ≡ place_at self.old i }
+        ensures borrow { S.borrow (storage_of self.new) ≡ S.borrow (storage_of self.old) }
+        ensures others { OthersStay (place_at self.old) (S.stored (storage_of self.old)) (S.stored (storage_of self.new)) }
+        ensures done { (v0 : Placed S.Elem) × (v1 : Placed S.Elem) × (w0 : Placed S.Elem) × (w1 : Placed S.Elem) × IsSeenThrough (lower_shape (shape_of self.old) axis.0 index) (λ i. i) (place_at self.old) (element_at self.old) v0 × IsSeenThrough (upper_shape (shape_of self.old) axis.0 index) (upper_index axis.0 index) (place_at self.old) (element_at self.old) v1 × K.post task v0 v1 w0 w1 result × IsSeenThrough (lower_shape (shape_of self.old) axis.0 index) (λ i. i) (place_at self.new) (element_at self.new) w0 × IsSeenThrough (upper_shape (shape_of self.old) axis.0 index) (upper_index axis.0 index) (place_at self.new) (element_at self.new) w1 }
+    {
+        let whole = self.layout.copied();
+        let mut lower = self.layout.copied();
+        let mut upper = self.layout.copied();
+        lower.keep_lower(axis.0, index);
+        upper.keep_upper(axis.0, index);
+        pair_laid(&mut self.storage, whole, lower, upper, task)
+    }
+}

@@ -1,0 +1,129 @@
+//! Tasks on mutable views, and callers that know what the array holds after them.
+
+ghost use Rattle.std.specs.Prelude.{◌≡◌, ◌<◌, ◌≤◌, ℕ, true, List, Some, length, slice_index};
+ghost use Rattle.nd_shape_and_slice.specs.Shape.{in_box};
+ghost use Rattle.nd_shape_and_slice.specs.SliceInfo.{fits_shape, shape_after, index_before};
+ghost use Rattle.nd_array_core.specs.Maps.{lower_shape, upper_shape, upper_index};
+ghost use Rattle.nd_array_core.specs.Meaning.{shape_of, element_at};
+ghost use Rattle.nd_array_core.specs.Placed.{element_placed};
+ghost use Rattle.nd_array_core.specs.Tasks.{view_borrow, lent_borrow, lent_view, view_left, CanBeSeen, OthersKeep};
+ghost use Rattle.nd_array_core.specs.Writes.{with_element_at};
+
+use crate::array::ArrayBase;
+use crate::data::{DataMut, ViewMutRepr};
+use crate::scoped::{LentView, ViewTask};
+use crate::scoped_pairs::PairTask;
+use nd_shape_and_slice::{Axis, Dimension, NdIndex, SliceArg};
+
+// Puts a value at an index of a view.
+#[derive(Drop)]
+struct Put<I: Drop, A: Drop> {
+    index: I,
+    value: A,
+}
+
+impl<A: Drop, D: Dimension, I: NdIndex<D>> ViewTask<A, D> for Put<I, A> {
+    type Answer = A;
+
+    ghost pre = { λ task v. in_box v.shape (I.coordinates_of task.index) ≡ true };
+
+    ghost post = { λ task v w answer. (element_placed v (I.coordinates_of task.index) ≡ Some answer) × ((i : List ℕ) → element_placed w i ≡ with_element_at (element_placed v) (I.coordinates_of task.index) task.value i) };
+
+    fn run(self, lent: LentView<'_, A, D, D::Strides>) -> (ViewMutRepr<'_, A>, A)
+        requires sound { CanBeSeen D.lengths D.Strides.strides_of lent }
+        requires pre { in_box (lent_view D.lengths D.Strides.strides_of lent).shape (I.coordinates_of self.index) ≡ true }
+        ensures borrow { view_borrow result.0 ≡ lent_borrow lent.entry }
+        ensures old { element_placed (lent_view D.lengths D.Strides.strides_of lent.entry) (I.coordinates_of self.index) ≡ Some result.1 }
+        ensures elements { (i : List ℕ) → element_placed (view_left D.lengths D.Strides.strides_of lent.entry result.0) i ≡ with_element_at (element_placed (lent_view D.lengths D.Strides.strides_of lent.entry)) (I.coordinates_of self.index) self.value i }
+    {
+        let mut view = lent.into_view();
+        let old = view.replace(self.index, self.value);
+        (view.into_storage(), old)
+    }
+}
+
+// Puts a value at an index of each of two views.
+#[derive(Drop)]
+struct PutBoth<I: Drop, A: Drop> {
+    low: I,
+    high: I,
+    lower: A,
+    upper: A,
+}
+
+impl<A: Drop, D: Dimension, I: NdIndex<D>> PairTask<A, D> for PutBoth<I, A> {
+    type Answer = ();
+
+    ghost pre = { λ task v0 v1. (in_box v0.shape (I.coordinates_of task.low) ≡ true) × (in_box v1.shape (I.coordinates_of task.high) ≡ true) };
+
+    ghost post = { λ task v0 v1 w0 w1 answer. ((i : List ℕ) → element_placed w0 i ≡ with_element_at (element_placed v0) (I.coordinates_of task.low) task.lower i) × ((i : List ℕ) → element_placed w1 i ≡ with_element_at (element_placed v1) (I.coordinates_of task.high) task.upper i) };
+
+    fn run<'b>(
+        self,
+        one: LentView<'b, A, D, D::Strides>,
+        two: LentView<'b, A, D, D::Strides>,
+    ) -> (ViewMutRepr<'b, A>, ViewMutRepr<'b, A>, ())
+        requires one { CanBeSeen D.lengths D.Strides.strides_of one }
+        requires two { CanBeSeen D.lengths D.Strides.strides_of two }
+        requires pre { (in_box (lent_view D.lengths D.Strides.strides_of one).shape (I.coordinates_of self.low) ≡ true) × (in_box (lent_view D.lengths D.Strides.strides_of two).shape (I.coordinates_of self.high) ≡ true) }
+        ensures one_borrow { view_borrow result.0 ≡ lent_borrow one.entry }
+        ensures two_borrow { view_borrow result.1 ≡ lent_borrow two.entry }
+        ensures lower { (i : List ℕ) → element_placed (view_left D.lengths D.Strides.strides_of one.entry result.0) i ≡ with_element_at (element_placed (lent_view D.lengths D.Strides.strides_of one.entry)) (I.coordinates_of self.low) self.lower i }
+        ensures upper { (i : List ℕ) → element_placed (view_left D.lengths D.Strides.strides_of two.entry result.1) i ≡ with_element_at (element_placed (lent_view D.lengths D.Strides.strides_of two.entry)) (I.coordinates_of self.high) self.upper i }
+    {
+        let (first, _) = Put {
+            index: self.low,
+            value: self.lower,
+        }
+        .run(one);
+        let (second, _) = Put {
+            index: self.high,
+            value: self.upper,
+        }
+        .run(two);
+        (first, second, ())
+    }
+}
+
+fn put_both<A: Drop, S: DataMut<Elem = A>, D: Dimension, I: NdIndex<D>>(
+    array: &mut ArrayBase<S, D>,
+    axis: Axis,
+    index: usize,
+    task: PutBoth<I, A>,
+)
+    requires axis { axis.0 < length (shape_of array.old) }
+    requires within { index ≤ slice_index (shape_of array.old) axis.0 }
+    requires low { in_box (lower_shape (shape_of array.old) axis.0 index) (I.coordinates_of task.low) ≡ true }
+    requires high { in_box (upper_shape (shape_of array.old) axis.0 index) (I.coordinates_of task.high) ≡ true }
+    ensures low { element_at array.new (I.coordinates_of task.low) ≡ Some task.lower }
+    ensures high { element_at array.new (upper_index axis.0 index (I.coordinates_of task.high)) ≡ Some task.upper }
+{
+    array.with_split_at(axis, index, task);
+}
+
+fn put_in_slice<A: Drop, S: DataMut<Elem = A>, D: Dimension, I: SliceArg<D>, X: NdIndex<I::OutDim>>(
+    array: &mut ArrayBase<S, D>,
+    info: I,
+    index: X,
+    value: A,
+) -> A
+    requires fits { fits_shape (shape_of array.old) (I.elements_of info) ≡ true }
+    requires within { in_box (shape_after (shape_of array.old) (I.elements_of info)) (X.coordinates_of index) ≡ true }
+    ensures old { element_at array.old (index_before (shape_of array.old) (I.elements_of info) (X.coordinates_of index)) ≡ Some result }
+    ensures new { element_at array.new (index_before (shape_of array.old) (I.elements_of info) (X.coordinates_of index)) ≡ Some value }
+    ensures kept { OthersKeep (shape_after (shape_of array.old) (I.elements_of info)) (index_before (shape_of array.old) (I.elements_of info)) (element_at array.old) (element_at array.new) }
+{
+    array.with_slice_mut(info, Put { index, value })
+}
+
+fn put_at<A: Drop, S: DataMut<Elem = A>, D: Dimension, I: NdIndex<D>>(
+    array: &mut ArrayBase<S, D>,
+    index: I,
+    value: A,
+) -> A
+    requires { in_box (shape_of array.old) (I.coordinates_of index) ≡ true }
+    ensures old { element_at array.old (I.coordinates_of index) ≡ Some result }
+    ensures elements { (i : List ℕ) → element_at array.new i ≡ with_element_at (element_at array.old) (I.coordinates_of index) value i }
+{
+    array.with_view_mut(Put { index, value })
+}

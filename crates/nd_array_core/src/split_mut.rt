@@ -1,0 +1,118 @@
+//! Mutable views taken apart: parts that share no place.
+
+ghost use Rattle.std.specs.Prelude.{◌≡◌, ◌<◌, ◌≤◌, ℕ, List, length, slice_index};
+ghost use Rattle.nd_shape_and_slice.specs.Shape.{size_of};
+ghost use Rattle.nd_shape_and_slice.specs.Place.{IsSeparated};
+ghost use Rattle.nd_region.specs.Places.{names_not, ShareNoPlace as LayoutsShareNone};
+ghost use Rattle.nd_region.specs.Region.{stored as region_stored};
+ghost use Rattle.nd_array_core.specs.Maps.{lower_shape, upper_shape, upper_index};
+ghost use Rattle.nd_array_core.specs.Meaning.{shape_of, element_at, place_at, layout_strides, inside};
+ghost use Rattle.nd_array_core.specs.Parts.{IsHeld, IsSeenUnder};
+ghost use Rattle.nd_array_core.specs.Places.{kept_at, ShareNoPlace};
+ghost use Rattle.nd_array_core.specs.Steps.{IsStep};
+
+use crate::array::{ArrayBase, ArrayViewMut};
+use crate::data::ViewMutRepr;
+use crate::layout::Layout;
+use nd_shape_and_slice::{Axis, Dimension, StrideList};
+
+impl<D: Dimension, T: StrideList> Layout<D, T> {
+    /// The layouts of the two parts of an axis: the coordinates below this one, and those from it on.
+    fn halves(&self, axis: usize, index: usize) -> (Self, Self)
+        requires on { axis < length (D.lengths self.now.dim) }
+        requires within { index ≤ slice_index (D.lengths self.now.dim) axis }
+        requires separated { 0 < size_of (D.lengths self.now.dim) → IsSeparated (D.lengths self.now.dim) (T.strides_of self.now.strides) }
+        ensures lower_lengths { D.lengths result.0.dim ≡ lower_shape (D.lengths self.now.dim) axis index }
+        ensures lower_strides { T.strides_of result.0.strides ≡ T.strides_of self.now.strides }
+        ensures lower { IsStep self.now.first (D.lengths self.now.dim) (T.strides_of self.now.strides) result.0.first (D.lengths result.0.dim) (T.strides_of result.0.strides) (λ i. i) }
+        ensures upper_lengths { D.lengths result.1.dim ≡ upper_shape (D.lengths self.now.dim) axis index }
+        ensures upper_strides { T.strides_of result.1.strides ≡ T.strides_of self.now.strides }
+        ensures upper { IsStep self.now.first (D.lengths self.now.dim) (T.strides_of self.now.strides) result.1.first (D.lengths result.1.dim) (T.strides_of result.1.strides) (upper_index axis index) }
+        ensures apart { LayoutsShareNone result.0.first (D.lengths result.0.dim) (T.strides_of result.0.strides) result.1.first (D.lengths result.1.dim) (T.strides_of result.1.strides) }
+    {
+        let mut lower = self.copied();
+        let mut upper = self.copied();
+        lower.keep_lower(axis, index);
+        upper.keep_upper(axis, index);
+        (lower, upper)
+    }
+}
+
+#[tactic(auto, unfolding(crate::specs::Meaning::shape_of, crate::specs::Meaning::element_at, crate::specs::Meaning::place_at, crate::specs::Meaning::layout_strides))]
+impl<'a, A> ViewMutRepr<'a, A> {
+    /// The elements that a layout names, which are taken out of this storage.
+    fn part<D: Dimension>(&mut self, layout: Layout<D, D::Strides>) -> ArrayViewMut<'a, A, D>
+        requires { IsHeld (region_stored self.old.region) layout.first (D.lengths layout.dim) (D.Strides.strides_of layout.strides) }
+        ensures shown { IsSeenUnder (region_stored self.old.region) layout.first (D.lengths layout.dim) (D.Strides.strides_of layout.strides) (shape_of result) (layout_strides result) (element_at result) (place_at result) }
+        ensures left { (place : ℕ) → region_stored self.new.region place ≡ kept_at (names_not layout.first (D.lengths layout.dim) (D.Strides.strides_of layout.strides)) (region_stored self.old.region) place }
+    {
+        let storage = self.split(&layout);
+        ArrayBase { storage, layout }
+    }
+
+    /// The elements that two layouts name, which share no place.
+    pub(crate) fn two_parts<D: Dimension, E: Dimension>(
+        self,
+        first: Layout<D, D::Strides>,
+        second: Layout<E, E::Strides>,
+    ) -> (ArrayViewMut<'a, A, D>, ArrayViewMut<'a, A, E>)
+        requires first { IsHeld (region_stored self.region) first.first (D.lengths first.dim) (D.Strides.strides_of first.strides) }
+        requires second { IsHeld (region_stored self.region) second.first (E.lengths second.dim) (E.Strides.strides_of second.strides) }
+        requires apart { LayoutsShareNone first.first (D.lengths first.dim) (D.Strides.strides_of first.strides) second.first (E.lengths second.dim) (E.Strides.strides_of second.strides) }
+        ensures first { IsSeenUnder (region_stored self.entry.region) first.first (D.lengths first.dim) (D.Strides.strides_of first.strides) (shape_of result.0) (layout_strides result.0) (element_at result.0) (place_at result.0) }
+        ensures second { IsSeenUnder (region_stored self.entry.region) second.first (E.lengths second.dim) (E.Strides.strides_of second.strides) (shape_of result.1) (layout_strides result.1) (element_at result.1) (place_at result.1) }
+    {
+        let mut storage = self;
+        let part = storage.part(first);
+        (part, storage.part(second))
+    }
+
+    /// The elements that three layouts name, no two of which share a place.
+    pub(crate) fn three_parts<D: Dimension, E: Dimension, F: Dimension>(
+        self,
+        first: Layout<D, D::Strides>,
+        second: Layout<E, E::Strides>,
+        third: Layout<F, F::Strides>,
+    ) -> (
+        ArrayViewMut<'a, A, D>,
+        ArrayViewMut<'a, A, E>,
+        ArrayViewMut<'a, A, F>,
+    )
+        requires first { IsHeld (region_stored self.region) first.first (D.lengths first.dim) (D.Strides.strides_of first.strides) }
+        requires second { IsHeld (region_stored self.region) second.first (E.lengths second.dim) (E.Strides.strides_of second.strides) }
+        requires third { IsHeld (region_stored self.region) third.first (F.lengths third.dim) (F.Strides.strides_of third.strides) }
+        requires first_second { LayoutsShareNone first.first (D.lengths first.dim) (D.Strides.strides_of first.strides) second.first (E.lengths second.dim) (E.Strides.strides_of second.strides) }
+        requires first_third { LayoutsShareNone first.first (D.lengths first.dim) (D.Strides.strides_of first.strides) third.first (F.lengths third.dim) (F.Strides.strides_of third.strides) }
+        requires second_third { LayoutsShareNone second.first (E.lengths second.dim) (E.Strides.strides_of second.strides) third.first (F.lengths third.dim) (F.Strides.strides_of third.strides) }
+        ensures first { IsSeenUnder (region_stored self.entry.region) first.first (D.lengths first.dim) (D.Strides.strides_of first.strides) (shape_of result.0) (layout_strides result.0) (element_at result.0) (place_at result.0) }
+        ensures second { IsSeenUnder (region_stored self.entry.region) second.first (E.lengths second.dim) (E.Strides.strides_of second.strides) (shape_of result.1) (layout_strides result.1) (element_at result.1) (place_at result.1) }
+        ensures third { IsSeenUnder (region_stored self.entry.region) third.first (F.lengths third.dim) (F.Strides.strides_of third.strides) (shape_of result.2) (layout_strides result.2) (element_at result.2) (place_at result.2) }
+    {
+        let mut storage = self;
+        let part = storage.part(first);
+        let (second, third) = storage.two_parts(second, third);
+        (part, second, third)
+    }
+}
+
+#[tactic(auto, unfolding(crate::specs::Meaning::shape_of, crate::specs::Meaning::element_at, crate::specs::Meaning::place_at, crate::specs::Meaning::layout_strides))]
+impl<'a, A, D: Dimension> ArrayViewMut<'a, A, D> {
+    /// The two parts of an axis: the coordinates below this one, and those from it on. The axis is below `ndim`,
+    /// and the coordinate at most its length. ndarray's `ArrayViewMut::split_at`.
+    pub fn split_at(self, axis: Axis, index: usize) -> (Self, Self)
+        requires axis { axis.0 < length (shape_of self) }
+        requires within { index ≤ slice_index (shape_of self) axis.0 }
+        ensures lower_shape { shape_of result.0 ≡ lower_shape (shape_of self.entry) axis.0 index }
+        ensures lower_strides { layout_strides result.0 ≡ layout_strides self.entry }
+        ensures lower { (i : List ℕ) → element_at result.0 i ≡ inside (shape_of result.0) i (element_at self.entry i) }
+        ensures lower_places { (i : List ℕ) → place_at result.0 i ≡ inside (shape_of result.0) i (place_at self.entry i) }
+        ensures upper_shape { shape_of result.1 ≡ upper_shape (shape_of self.entry) axis.0 index }
+        ensures upper_strides { layout_strides result.1 ≡ layout_strides self.entry }
+        ensures upper { (i : List ℕ) → element_at result.1 i ≡ inside (shape_of result.1) i (element_at self.entry (upper_index axis.0 index i)) }
+        ensures upper_places { (i : List ℕ) → place_at result.1 i ≡ inside (shape_of result.1) i (place_at self.entry (upper_index axis.0 index i)) }
+        ensures apart { ShareNoPlace (place_at result.0) (place_at result.1) }
+    {
+        let (lower, upper) = self.layout.halves(axis.0, index);
+        self.storage.two_parts(lower, upper)
+    }
+}

@@ -1,0 +1,61 @@
+//! Every second column of a grid, painted through one view.
+ghost use Rattle.std.specs.Prelude.{◌≡◌, ◌%◌, ◌∷◌, [], ℕ, true, nat_eq, length, Some, OnOk, if◌then◌else◌};
+ghost use Rattle.nd_shape_and_slice.specs.Shape.{in_box};
+ghost use Rattle.nd_array_core.specs.Meaning.{shape_of, element_at};
+
+use crate::paint::fill_slice;
+use nd_array_core::{ArrayBase, DataMut};
+use nd_shape_and_slice::{IxDyn, NoMemory, SliceInfoElem};
+
+const ALL: SliceInfoElem = SliceInfoElem::Slice {
+    start: 0,
+    end: None,
+    step: 1,
+};
+
+const EVERY_SECOND: SliceInfoElem = SliceInfoElem::Slice {
+    start: 0,
+    end: None,
+    step: 2,
+};
+
+/// Paints the columns 0, 2, 4 and so on of a grid in one colour; the others keep theirs.
+pub fn paint_every_second_column<A: Clone + Drop, S: DataMut<Elem = A>>(
+    grid: &mut ArrayBase<S, IxDyn>,
+    colour: A,
+) -> Result<(), NoMemory>
+    requires two { length (shape_of grid.old) ≡ 2 }
+    requires clones { (copy : A) → A.is_clone colour copy → copy ≡ colour }
+    ensures shape { shape_of grid.new ≡ shape_of grid.old }
+    ensures painted { OnOk result ((row column : ℕ) → in_box (shape_of grid.old) (row ∷ column ∷ []) ≡ true → element_at grid.new (row ∷ column ∷ []) ≡ if nat_eq (column % 2) 0 then Some colour else element_at grid.old (row ∷ column ∷ [])) }
+{
+    fill_slice(grid, [ALL, EVERY_SECOND].as_slice(), colour)
+}
+
+#[cfg(test)]
+mod tests {
+    use super::*;
+    use nd_array_core::Array;
+    use std::test::Fail;
+
+    #[test]
+    fn columns_of_a_grid(rt: HostRuntime) -> Result<(), Fail> {
+        let cells = Vec::from_slice(rt.alloc(), &[1u64, 2, 3, 4, 5, 6])?;
+        let mut grid = Array::from_shape_vec(IxDyn::new(&[2, 3]), cells)
+            .ok()
+            .ok_or("shape")?;
+        assert!(rt; grid.ndim() == 2);
+        assert!(rt; paint_every_second_column(&mut grid, 9).is_ok());
+        for (index, wanted) in [
+            ([0, 0], 9),
+            ([0, 1], 2),
+            ([0, 2], 9),
+            ([1, 0], 9),
+            ([1, 1], 5),
+            ([1, 2], 9),
+        ] {
+            assert_eq!(rt; grid.get(index.as_slice()).copied(), Some(wanted));
+        }
+        Ok(())
+    }
+}

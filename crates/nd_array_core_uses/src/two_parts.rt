@@ -1,0 +1,110 @@
+//! The two parts of an axis, filled at once through two views.
+ghost use Rattle.std.specs.Prelude.{◌≡◌, ◌<◌, ◌≤◌, ℕ, true, List, length, slice_index, Some, OnOk, IsOk};
+ghost use Rattle.nd_shape_and_slice.specs.Shape.{in_box};
+ghost use Rattle.nd_array_core.specs.Maps.{lower_shape, upper_shape, upper_index};
+ghost use Rattle.nd_array_core.specs.Meaning.{shape_of, element_at, inside};
+ghost use Rattle.nd_array_core.specs.Placed.{element_placed};
+ghost use Rattle.nd_array_core.specs.Tasks.{view_borrow, lent_borrow, lent_view, view_left, CanBeSeen};
+
+use nd_array_core::scoped::LentView;
+use nd_array_core::scoped_pairs::PairTask;
+use nd_array_core::{ArrayBase, DataMut, ViewMutRepr};
+use nd_shape_and_slice::{Axis, Dimension, NoMemory};
+
+/// Fills two views, each with a value of its own.
+#[derive(Drop)]
+struct FillBoth<A: Drop> {
+    first: A,
+    second: A,
+}
+
+impl<A: Clone + Drop, D: Dimension> PairTask<A, D> for FillBoth<A> {
+    type Answer = Result<(), NoMemory>;
+
+    ghost pre = { λ task _ _. ((copy : A) → A.is_clone task.first copy → copy ≡ task.first) × ((copy : A) → A.is_clone task.second copy → copy ≡ task.second) };
+
+    ghost post = { λ task v0 v1 w0 w1 answer. OnOk answer (((i : List ℕ) → element_placed w0 i ≡ inside v0.shape i (Some task.first)) × ((i : List ℕ) → element_placed w1 i ≡ inside v1.shape i (Some task.second))) };
+
+    fn run<'b>(
+        self,
+        one: LentView<'b, A, D, D::Strides>,
+        two: LentView<'b, A, D, D::Strides>,
+    ) -> (ViewMutRepr<'b, A>, ViewMutRepr<'b, A>, Result<(), NoMemory>)
+        requires one { CanBeSeen D.lengths D.Strides.strides_of one }
+        requires two { CanBeSeen D.lengths D.Strides.strides_of two }
+        requires first { (copy : A) → A.is_clone self.first copy → copy ≡ self.first }
+        requires second { (copy : A) → A.is_clone self.second copy → copy ≡ self.second }
+        ensures one_borrow { view_borrow result.0 ≡ lent_borrow one.entry }
+        ensures two_borrow { view_borrow result.1 ≡ lent_borrow two.entry }
+        ensures filled { OnOk result.2 (((i : List ℕ) → element_placed (view_left D.lengths D.Strides.strides_of one.entry result.0) i ≡ inside (lent_view D.lengths D.Strides.strides_of one.entry).shape i (Some self.first)) × ((i : List ℕ) → element_placed (view_left D.lengths D.Strides.strides_of two.entry result.1) i ≡ inside (lent_view D.lengths D.Strides.strides_of two.entry).shape i (Some self.second))) }
+    {
+        let mut lower = one.into_view();
+        let mut upper = two.into_view();
+        let below = lower.fill(self.first);
+        let above = upper.fill(self.second);
+        (
+            lower.into_storage(),
+            upper.into_storage(),
+            both(below, above),
+        )
+    }
+}
+
+fn both(below: Result<(), NoMemory>, above: Result<(), NoMemory>) -> Result<(), NoMemory>
+    ensures below { OnOk result (IsOk below) }
+    ensures above { OnOk result (IsOk above) }
+{
+    match below {
+        Ok(()) => above,
+        Err(refused) => Err(refused),
+    }
+}
+
+/// Fills the coordinates of an axis below one with a value, and those from it on with another, through two live views.
+pub fn fill_halves<A: Clone + Drop, S: DataMut<Elem = A>, D: Dimension>(
+    array: &mut ArrayBase<S, D>,
+    axis: Axis,
+    index: usize,
+    below: A,
+    above: A,
+) -> Result<(), NoMemory>
+    requires axis { axis.0 < length (shape_of array.old) }
+    requires within { index ≤ slice_index (shape_of array.old) axis.0 }
+    requires below { (copy : A) → A.is_clone below copy → copy ≡ below }
+    requires above { (copy : A) → A.is_clone above copy → copy ≡ above }
+    ensures shape { shape_of array.new ≡ shape_of array.old }
+    ensures below { OnOk result ((i : List ℕ) → in_box (lower_shape (shape_of array.old) axis.0 index) i ≡ true → element_at array.new i ≡ Some below) }
+    ensures above { OnOk result ((i : List ℕ) → in_box (upper_shape (shape_of array.old) axis.0 index) i ≡ true → element_at array.new (upper_index axis.0 index i) ≡ Some above) }
+{
+    array.with_split_at(
+        axis,
+        index,
+        FillBoth {
+            first: below,
+            second: above,
+        },
+    )
+}
+
+#[cfg(test)]
+mod tests {
+    use super::*;
+    use nd_array_core::Array;
+    use nd_shape_and_slice::Ix2;
+    use std::test::Fail;
+
+    #[test]
+    fn two_fills_of_a_grid(rt: HostRuntime) -> Result<(), Fail> {
+        let cells = Vec::from_slice(rt.alloc(), &[1u64, 2, 3, 4, 5, 6, 7, 8])?;
+        let mut grid: Array<u64, Ix2> = Array::from_shape_vec((2, 4), cells).ok().ok_or("shape")?;
+        assert!(rt; grid.ndim() == 2 && grid.len_of(Axis(1)) == 4);
+        assert!(rt; fill_halves(&mut grid, Axis(1), 1, 0, 9).is_ok());
+        for row in 0..2 {
+            assert_eq!(rt; grid.get([row, 0]).copied(), Some(0));
+            for column in 1..4 {
+                assert_eq!(rt; grid.get([row, column]).copied(), Some(9));
+            }
+        }
+        Ok(())
+    }
+}

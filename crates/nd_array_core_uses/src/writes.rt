@@ -1,0 +1,59 @@
+//! Writes through references to elements: the shape stays, the element at the index is the new one, and every other
+//! is as it was.
+ghost use Rattle.std.specs.Prelude.{◌≡◌, ℕ, true, List};
+ghost use Rattle.nd_shape_and_slice.specs.Shape.{in_box};
+ghost use Rattle.nd_array_core.specs.Meaning.{shape_of, element_at};
+ghost use Rattle.nd_array_core.specs.Writes.{with_element_at};
+
+use nd_array_core::{Array, ArrayBase, ArrayViewMut, DataMut, GetMut};
+use nd_shape_and_slice::{Dimension, Ix2, NdIndex};
+
+/// Writes the element at an index of the shape's box, of any array.
+pub fn put<S: DataMut, D: Dimension, I: NdIndex<D>>(
+    array: &mut ArrayBase<S, D>,
+    index: I,
+    value: S::Elem,
+)
+where
+    S::Elem: Drop,
+    requires { in_box (shape_of array.old) (I.coordinates_of index) ≡ true }
+    ensures shape { shape_of array.new ≡ shape_of array.old }
+    ensures elements { (i : List ℕ) → element_at array.new i ≡ with_element_at (element_at array.old) (I.coordinates_of index) value i }
+{
+    *array.uget_mut(index) = value;
+}
+
+/// Writes the element at an index, where the shape's box has it.
+pub fn try_put<S: DataMut, D: Dimension, I: NdIndex<D>>(
+    array: &mut ArrayBase<S, D>,
+    index: I,
+    value: S::Elem,
+)
+where
+    S::Elem: Drop,
+    ensures shape { shape_of array.new ≡ shape_of array.old }
+    ensures elements { in_box (shape_of array.old) (I.coordinates_of index) ≡ true → (i : List ℕ) → element_at array.new i ≡ with_element_at (element_at array.old) (I.coordinates_of index) value i }
+{
+    match array.get_mut(index) {
+        Some(element) => *element = value,
+        None => (),
+    }
+}
+
+/// Writes an element of an owned array, in brackets.
+pub fn put_owned(array: &mut Array<u64, Ix2>, index: [usize; 2], value: u64)
+    requires { in_box (shape_of array.old) index ≡ true }
+    ensures shape { shape_of array.new ≡ shape_of array.old }
+    ensures elements { (i : List ℕ) → element_at array.new i ≡ with_element_at (element_at array.old) index value i }
+{
+    array[index] = value;
+}
+
+/// Writes an element of a mutable view, in brackets.
+pub fn put_seen(view: &mut ArrayViewMut<'_, u64, Ix2>, index: [usize; 2], value: u64)
+    requires { in_box (shape_of view.old) index ≡ true }
+    ensures shape { shape_of view.new ≡ shape_of view.old }
+    ensures elements { (i : List ℕ) → element_at view.new i ≡ with_element_at (element_at view.old) index value i }
+{
+    view[index] = value;
+}

@@ -1,0 +1,327 @@
+//! Acts on an array's elements, through a path of steps or on the two parts of a split.
+
+ghost use Rattle.std.specs.Prelude.{◌≡◌, ◌||◌, ℕ, true, List, map, Option, None, Some, IfOk, OnErr, if◌then◌else◌};
+ghost use Rattle.nd_shape_and_slice.specs.Shape.{in_box};
+ghost use Rattle.nd_array_core.specs.Meaning.{shape_of, element_at, meaning_of, storage_of, place_at, placed_of, inside};
+ghost use Rattle.nd_array_core.specs.Writes.{OthersStay};
+ghost use Rattle.nd_array_core.specs.Tasks.{view_borrow, lent_borrow, lent_view, view_left, CanBeSeen};
+ghost use Rattle.nd_run.specs.Calls.{asked_step, acting, said, Writing, SplitWriting};
+ghost use Rattle.nd_run.specs.Acts.{act_refusal, acted, clones, path_refusal, write_refusal, parts_refusal, place_refusal};
+ghost use Rattle.nd_run.specs.Placing.{meaning_in, places_in, Leaves, acted_unless, WritesThrough, WritesParts, said_unless};
+ghost use Rattle.nd_run.specs.Fold.{LeadsAlong, reply_to, after, MayLackMemory};
+
+use crate::calls::{Act, Reply, Step};
+use crate::cause::Cause;
+use crate::steps::{keep_refusal, take_step};
+use nd_array_core::laws::{distinct_places, elements_have_places, nothing_outside};
+use nd_array_core::scoped::{LentView, ViewTask};
+use nd_array_core::scoped_pairs::PairTask;
+use nd_array_core::{Array, ArrayBase, Data, DataMut, ViewMutRepr};
+use nd_shape_and_slice::{Axis, Dimension, IxDyn};
+use std::alloc::AllocError;
+
+/// Goes along a path that is written through, to its end or to the first step that is refused.
+fn go_along<S: Data>(
+    array: ArrayBase<S, IxDyn>,
+    path: &[Step],
+) -> (ArrayBase<S, IxDyn>, Option<Cause>)
+    ensures refused { result.1 ≡ path_refusal (map asked_step path.now) (shape_of array) }
+    ensures storage { storage_of result.0 ≡ storage_of array }
+    ensures along { result.1 ≡ None → LeadsAlong (map asked_step path.now) (places_in (placed_of array)) (places_in (placed_of result.0)) }
+{
+    let mut array = array;
+    for step in path {
+        let refused = keep_refusal(array.shape(), step);
+        if refused.is_some() {
+            return (array, refused);
+        }
+        array = take_step(array, step);
+    }
+    (array, None)
+}
+
+fn index_refusal<S: Data>(array: &ArrayBase<S, IxDyn>, index: &[usize]) -> Option<Cause>
+    ensures { result ≡ (if in_box (shape_of array.now) index.now then None else Some Cause.Index) }
+{
+    if array.get(index).is_some() {
+        None
+    } else {
+        Some(Cause::Index)
+    }
+}
+
+/// The first cause against an act on an array's elements.
+fn act_refusal<S: Data>(array: &ArrayBase<S, IxDyn>, act: &Act<S::Elem>) -> Option<Cause>
+    ensures { result ≡ act_refusal (acting act.now) (shape_of array.now) }
+{
+    match act {
+        Act::Fill(_) => None,
+        Act::Set(index, _) => index_refusal(array, index.as_slice()),
+        Act::Swap(a, b) => {
+            let refused = index_refusal(array, a.as_slice());
+            if refused.is_some() {
+                return refused;
+            }
+            index_refusal(array, b.as_slice())
+        }
+    }
+}
+
+/// Does an act that nothing is against.
+fn do_act<S: DataMut>(array: &mut ArrayBase<S, IxDyn>, act: &Act<S::Elem>) -> Result<(), AllocError>
+where
+    S::Elem: Clone + Drop,
+    requires clone { (x y : S.Elem) → S.Elem.is_clone x y → y ≡ x }
+    requires fits { act_refusal (acting act.now) (shape_of array.old) ≡ None }
+    ensures shape { shape_of array.new ≡ shape_of array.old }
+    ensures elements { IfOk result (λ _. (i : List ℕ) → element_at array.new i ≡ acted (acting act.now) (meaning_of array.old) i) }
+    ensures places { (i : List ℕ) → place_at array.new i ≡ place_at array.old i }
+    ensures others { OthersStay (place_at array.old) (S.stored (storage_of array.old)) (S.stored (storage_of array.new)) }
+    ensures borrow { S.borrow (storage_of array.new) ≡ S.borrow (storage_of array.old) }
+    ensures memory { OnErr result (clones (acting act.now) ≡ true) }
+{
+    match act {
+        Act::Fill(value) => match array.fill(value.clone()?) {
+            Ok(()) => Ok(()),
+            Err(_) => Err(AllocError),
+        },
+        Act::Set(index, value) => {
+            let value = value.clone()?;
+            let _ = array.replace(index.as_slice(), value);
+            Ok(())
+        }
+        Act::Swap(a, b) => {
+            array.swap(a.as_slice(), b.as_slice());
+            Ok(())
+        }
+    }
+}
+
+/// Goes along a path and acts at its end, or says why not.
+fn act_along<S: DataMut>(
+    array: ArrayBase<S, IxDyn>,
+    path: &[Step],
+    act: &Act<S::Elem>,
+) -> (ArrayBase<S, IxDyn>, Result<Option<Cause>, AllocError>)
+where
+    S::Elem: Clone + Drop,
+    requires { (x y : S.Elem) → S.Elem.is_clone x y → y ≡ x }
+    ensures refused { IfOk result.1 (λ refused. refused ≡ write_refusal (map asked_step path.now) (acting act.now) (shape_of array)) }
+    ensures elements { IfOk result.1 (λ refused. Leaves (placed_of array) (placed_of result.0) (after (Writing (map asked_step path.now) (acting act.now)) (meaning_in (placed_of array))).at) }
+    ensures memory { OnErr result.1 (MayLackMemory (Writing (map asked_step path.now) (acting act.now)) (meaning_in (placed_of array))) }
+    ensures borrow { S.borrow (storage_of result.0) ≡ S.borrow (storage_of array) }
+{
+    elements_have_places(&array);
+    distinct_places(&array);
+    let (mut end, refused) = go_along(array, path);
+    if refused.is_some() {
+        return (end, Ok(refused));
+    }
+    let refused = act_refusal(&end, act);
+    if refused.is_some() {
+        return (end, Ok(refused));
+    }
+    elements_have_places(&end);
+    let done = do_act(&mut end, act);
+    elements_have_places(&end);
+    match done {
+        Ok(()) => (end, Ok(None)),
+        Err(error) => (end, Err(error)),
+    }
+}
+
+/// Acts on two arrays, or says why not. Both acts are checked before either changes anything.
+fn act_on_both<S: DataMut>(
+    lower: &mut ArrayBase<S, IxDyn>,
+    upper: &mut ArrayBase<S, IxDyn>,
+    first: &Act<S::Elem>,
+    second: &Act<S::Elem>,
+) -> Result<Option<Cause>, AllocError>
+where
+    S::Elem: Clone + Drop,
+    requires { (x y : S.Elem) → S.Elem.is_clone x y → y ≡ x }
+    ensures refused { IfOk result (λ refused. refused ≡ parts_refusal (acting first.now) (acting second.now) (shape_of lower.old) (shape_of upper.old)) }
+    ensures lower { IfOk result (λ refused. (i : List ℕ) → element_at lower.new i ≡ acted_unless refused (acting first.now) (meaning_of lower.old) i) }
+    ensures upper { IfOk result (λ refused. (i : List ℕ) → element_at upper.new i ≡ acted_unless refused (acting second.now) (meaning_of upper.old) i) }
+    ensures lower_places { (i : List ℕ) → place_at lower.new i ≡ place_at lower.old i }
+    ensures upper_places { (i : List ℕ) → place_at upper.new i ≡ place_at upper.old i }
+    ensures lower_borrow { S.borrow (storage_of lower.new) ≡ S.borrow (storage_of lower.old) }
+    ensures upper_borrow { S.borrow (storage_of upper.new) ≡ S.borrow (storage_of upper.old) }
+    ensures allowed { OnErr result (parts_refusal (acting first.now) (acting second.now) (shape_of lower.old) (shape_of upper.old) ≡ None) }
+    ensures memory { OnErr result ((clones (acting first.now) || clones (acting second.now)) ≡ true) }
+{
+    let refused = act_refusal(lower, first);
+    if refused.is_some() {
+        return Ok(refused);
+    }
+    let refused = act_refusal(upper, second);
+    if refused.is_some() {
+        return Ok(refused);
+    }
+    do_act(lower, first)?;
+    do_act(upper, second)?;
+    Ok(None)
+}
+
+/// Acts on two parts, or says why not.
+fn act_on_parts<S: DataMut>(
+    lower: ArrayBase<S, IxDyn>,
+    upper: ArrayBase<S, IxDyn>,
+    first: &Act<S::Elem>,
+    second: &Act<S::Elem>,
+) -> (
+    ArrayBase<S, IxDyn>,
+    ArrayBase<S, IxDyn>,
+    Result<Option<Cause>, AllocError>,
+)
+where
+    S::Elem: Clone + Drop,
+    requires { (x y : S.Elem) → S.Elem.is_clone x y → y ≡ x }
+    ensures done { WritesParts (acting first.now) (acting second.now) (placed_of lower) (placed_of upper) (placed_of result.0) (placed_of result.1) result.2 }
+    ensures lower_borrow { S.borrow (storage_of result.0) ≡ S.borrow (storage_of lower) }
+    ensures upper_borrow { S.borrow (storage_of result.1) ≡ S.borrow (storage_of upper) }
+{
+    let mut lower = lower;
+    let mut upper = upper;
+    elements_have_places(&lower);
+    elements_have_places(&upper);
+    let answer = act_on_both(&mut lower, &mut upper, first, second);
+    elements_have_places(&lower);
+    elements_have_places(&upper);
+    (lower, upper, answer)
+}
+
+/// An act at the end of a path, done with a mutable view of the array.
+#[derive(Drop)]
+struct ActAlong<'p, A> {
+    path: &'p [Step],
+    act: &'p Act<A>,
+}
+
+impl<'p, A: Clone + Drop, D: Dimension> ViewTask<A, D> for ActAlong<'p, A> {
+    type Answer = Result<Option<Cause>, AllocError>;
+
+    ghost pre = { λ _ _. (x y : A) → A.is_clone x y → y ≡ x };
+
+    ghost post = { λ task v w answer. WritesThrough (map asked_step task.path.now) (acting task.act.now) v w answer };
+
+    fn run(
+        self,
+        lent: LentView<'_, A, D, D::Strides>,
+    ) -> (ViewMutRepr<'_, A>, Result<Option<Cause>, AllocError>)
+        requires sound { CanBeSeen D.lengths D.Strides.strides_of lent }
+        requires pre { (x y : A) → A.is_clone x y → y ≡ x }
+        ensures borrow { view_borrow result.0 ≡ lent_borrow lent.entry }
+        ensures done { WritesThrough (map asked_step self.entry.path.now) (acting self.entry.act.now) (lent_view D.lengths D.Strides.strides_of lent.entry) (view_left D.lengths D.Strides.strides_of lent.entry result.0) result.1 }
+    {
+        let view = lent.into_view().into_dyn();
+        elements_have_places(&view);
+        let (end, answer) = act_along(view, self.path, self.act);
+        (end.into_storage(), answer)
+    }
+}
+
+/// An act on each of two parts, done with mutable views of them.
+#[derive(Drop)]
+struct ActOnParts<'p, A> {
+    first: &'p Act<A>,
+    second: &'p Act<A>,
+}
+
+impl<'p, A: Clone + Drop, D: Dimension> PairTask<A, D> for ActOnParts<'p, A> {
+    type Answer = Result<Option<Cause>, AllocError>;
+
+    ghost pre = { λ _ _ _. (x y : A) → A.is_clone x y → y ≡ x };
+
+    ghost post = { λ task lower upper lower' upper' answer. WritesParts (acting task.first.now) (acting task.second.now) lower upper lower' upper' answer };
+
+    fn run<'b>(
+        self,
+        one: LentView<'b, A, D, D::Strides>,
+        two: LentView<'b, A, D, D::Strides>,
+    ) -> (
+        ViewMutRepr<'b, A>,
+        ViewMutRepr<'b, A>,
+        Result<Option<Cause>, AllocError>,
+    )
+        requires one { CanBeSeen D.lengths D.Strides.strides_of one }
+        requires two { CanBeSeen D.lengths D.Strides.strides_of two }
+        requires pre { (x y : A) → A.is_clone x y → y ≡ x }
+        ensures one_borrow { view_borrow result.0 ≡ lent_borrow one.entry }
+        ensures two_borrow { view_borrow result.1 ≡ lent_borrow two.entry }
+        ensures done { WritesParts (acting self.entry.first.now) (acting self.entry.second.now) (lent_view D.lengths D.Strides.strides_of one.entry) (lent_view D.lengths D.Strides.strides_of two.entry) (view_left D.lengths D.Strides.strides_of one.entry result.0) (view_left D.lengths D.Strides.strides_of two.entry result.1) result.2 }
+    {
+        let lower = one.into_view().into_dyn();
+        let upper = two.into_view().into_dyn();
+        elements_have_places(&lower);
+        elements_have_places(&upper);
+        let (lower, upper, answer) = act_on_parts(lower, upper, self.first, self.second);
+        (lower.into_storage(), upper.into_storage(), answer)
+    }
+}
+
+/// The cause against a split of an array of these lengths.
+fn place_refusal(shape: &[usize], axis: usize, index: usize) -> Option<Cause>
+    ensures { result ≡ place_refusal axis index shape.now }
+{
+    if axis >= shape.len() {
+        return Some(Cause::Axis);
+    }
+    if index > shape[axis] {
+        return Some(Cause::Index);
+    }
+    None
+}
+
+/// The reply to a write.
+fn write_reply<A>(refused: Option<Cause>) -> Reply<A>
+    ensures { said result ≡ said_unless refused }
+{
+    match refused {
+        None => Reply::Done,
+        Some(cause) => Reply::Refused(cause.number()),
+    }
+}
+
+/// A reply, and the array as the call left it.
+pub type Acted<A> = (Reply<A>, Array<A, IxDyn>);
+
+/// An act at the end of a path. It changes the array's own elements, and nothing where a step or the act is refused.
+pub fn write_through<A: Clone + Drop>(
+    array: Array<A, IxDyn>,
+    path: &[Step],
+    act: &Act<A>,
+) -> Result<Acted<A>, AllocError>
+    requires { (x y : A) → A.is_clone x y → y ≡ x }
+    ensures reply { IfOk result (λ acted. said acted.0 ≡ reply_to (Writing (map asked_step path.now) (acting act.now)) (meaning_of array)) }
+    ensures array { IfOk result (λ acted. meaning_of acted.1 ≡ after (Writing (map asked_step path.now) (acting act.now)) (meaning_of array)) }
+    ensures memory { OnErr result (MayLackMemory (Writing (map asked_step path.now) (acting act.now)) (meaning_of array)) }
+{
+    let mut array = array;
+    let refused = array.with_view_mut(ActAlong { path, act })?;
+    Ok((write_reply(refused), array))
+}
+
+/// An act on each part of the array split along an axis. Both are checked before either changes anything.
+pub fn write_parts<A: Clone + Drop>(
+    array: Array<A, IxDyn>,
+    axis: usize,
+    index: usize,
+    first: &Act<A>,
+    second: &Act<A>,
+) -> Result<Acted<A>, AllocError>
+    requires { (x y : A) → A.is_clone x y → y ≡ x }
+    ensures reply { IfOk result (λ acted. said acted.0 ≡ reply_to (SplitWriting axis index (acting first.now) (acting second.now)) (meaning_of array)) }
+    ensures array { IfOk result (λ acted. meaning_of acted.1 ≡ after (SplitWriting axis index (acting first.now) (acting second.now)) (meaning_of array)) }
+    ensures memory { OnErr result (MayLackMemory (SplitWriting axis index (acting first.now) (acting second.now)) (meaning_of array)) }
+{
+    let mut array = array;
+    let refused = place_refusal(array.shape(), axis, index);
+    if refused.is_some() {
+        return Ok((write_reply(refused), array));
+    }
+    nothing_outside(&array);
+    let refused = array.with_split_at(Axis(axis), index, ActOnParts { first, second })?;
+    nothing_outside(&array);
+    Ok((write_reply(refused), array))
+}
