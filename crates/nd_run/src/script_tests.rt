@@ -400,8 +400,10 @@ fn writes_with(alloc: Global, left: &Cell<u64>) -> Result<(usize, bool), Fail> {
     ))?;
     match run(alloc, start, &calls) {
         Ok((replies, array)) => {
-            let numbers = [0, 1, 2].map(|i| number_at(&array, i));
-            Ok((replies.len(), numbers == [3, 1, 4]))
+            let first = number_at(&array, 0) == 3;
+            let second = number_at(&array, 1) == 1;
+            let third = number_at(&array, 2) == 4;
+            Ok((replies.len(), first && second && third))
         }
         Err(RunFault::Memory(replies)) => Ok((replies.len(), false)),
     }
