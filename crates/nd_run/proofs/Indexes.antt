@@ -1,30 +1,13 @@
 -- The indexes of a box one by one, and which of them a map leads to an index.
-use Rattle.std.proofs.Common.{◌≡◌, ℕ, zero, suc, ◌/◌, ◌%◌, ◌<◌, Bool, true, false, ltb, List, [], ◌∷◌, length, get_or, Some, None, refl, sym, ap, ◌∙◌, arith, if◌then◌else◌}
+use Rattle.std.proofs.Common.{◌≡◌, ℕ, zero, suc, ◌<◌, Bool, true, false, List, [], ◌∷◌, length, get_or, Some, None, refl, sym, ap, ◌∙◌, arith, if◌then◌else◌}
 use Rattle.std.specs.List.{find}
-use Rattle.std.proofs.Math.Nat.{div-lt_iff_lt-mul}
-use Rattle.std.proofs.lemmas.Bool.{and_from, lt-ltb}
-use Rattle.std.proofs.lemmas.Nat.{div-mul-add, mod-mul-add, mod_below}
 use Rattle.nd_shape_and_slice.specs.Shape.{in_box, size_of, row_rank, index_at, indexes_of}
-use Rattle.nd_shape_and_slice.proofs.RowMajor.{in_box-cons, row_rank_below, positive-cons}
+use Rattle.nd_shape_and_slice.proofs.RowMajor.{row_rank_below}
+use Rattle.nd_shape_and_slice.proofs.RankIndexes.{in_box-index_at, index_at-row_rank}
 use Rattle.nd_shape_and_slice.proofs.Ranks.{length-indexes_of, get_or-indexes_of}
 use Rattle.nd_array_core.specs.Writes.{is_index}
 use Rattle.nd_array_core.proofs.WriteStep.{is_index_refl, is_index_same}
 use Rattle.nd_run.specs.Acts.{leading_to}
-
-index_at-row_rank : (ns is : List ℕ) → in_box ns is ≡ true → index_at ns (row_rank ns is) ≡ is
-index_at-row_rank [] [] h = refl
-index_at-row_rank [] (i ∷ is) h = absurd cc
-index_at-row_rank (n ∷ ns) [] h = absurd cc
-index_at-row_rank (n ∷ ns) (i ∷ is) h =
-    let p = in_box-cons n ns i is h in
-    let low = row_rank_below ns is p.1 in
-    rw (div-mul-add i (size_of ns) (row_rank ns is) low, mod-mul-add i (size_of ns) (row_rank ns is) low) (ap (λ (js : List ℕ). i ∷ js) (index_at-row_rank ns is p.1))
-
-in_box-index_at : (ns : List ℕ) (r : ℕ) → r < size_of ns → in_box ns (index_at ns r) ≡ true
-in_box-index_at [] r h = refl
-in_box-index_at (n ∷ ns) r h =
-    let some : 0 < size_of ns = (positive-cons n ns (omega (arith, h))).1 in
-    and_from (ltb (r / size_of ns) n) (in_box ns (index_at ns (r % size_of ns))) (lt-ltb (r / size_of ns) n ((div-lt_iff_lt-mul some).1 h)) (in_box-index_at ns (r % size_of ns) (mod_below r (size_of ns) some))
 
 -- ---- the first item that passes a test
 module _ {X : Type 0} (p : X → Bool) where
