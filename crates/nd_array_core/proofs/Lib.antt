@@ -29,3 +29,8 @@ pub mod ElementStep
 pub mod Parted
 pub mod ListParts
 pub mod PlaceLaws
+pub mod Tied
+pub mod LendField
+pub mod KeptPlaces
+pub mod LendStorage
+pub mod Refilled

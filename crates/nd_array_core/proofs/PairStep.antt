@@ -1,10 +1,10 @@
 -- A task on two views of parts of a region that share no place: what each is lent, and what the region holds afterwards.
 use Rattle.std.proofs.Common.{◌≡◌, ℕ, Bool, true, false, not, List, length, ℤ, pos, negsuc, refl, ap, sym, ◌∙◌}
-use Rattle.std.specs.Prelude.{Option, is_some, if◌then◌else◌}
+use Rattle.std.specs.Prelude.{Option, ◌||◌, is_some, if◌then◌else◌}
 use Rattle.nd_shape_and_slice.specs.Shape.{in_box}
 use Rattle.nd_shape_and_slice.specs.Place.{place_of}
 use Rattle.nd_region.specs.declared.region.Region.{Region}
-use Rattle.nd_region.specs.Places.{stored_in, names, names_not, kept_where, merged, ShareNoPlace}
+use Rattle.nd_region.specs.Places.{stored_in, names, names_not, names_either, kept_where, merged, ShareNoPlace}
 use Rattle.nd_region.specs.Region.{stored, borrow_of, rejoined, IsAsLong, IsPartWhere}
 use Rattle.nd_region.proofs.Names.{named_at}
 use Rattle.nd_region.proofs.Splits.{named_once}
@@ -51,3 +51,41 @@ module _ {A : Type 0} where
     second_back p e =
         let held : t.held ≡ kept_where (λ k. not (g k)) r.held = ap (λ b. b.1) same_second ∙ second.1 in
         ap (λ fs. stored_in t.items fs p) held ∙ part_holds (λ k. not (g k)) t.items r.held p e ∙ sym (made p ∙ ap (λ (b : Bool). if b then stored_in s.items r.held p else stored_in t.items r.held p) (not_true (g p) e))
+
+-- ---- the places that either of two layouts names, lent as one region
+or_right : (a : Bool) → (a || true) ≡ true
+or_right true = refl
+or_right false = refl
+
+pub either_same : {f1 f1' : ℕ} {n1 n1' : List ℕ} {s1 s1' : List ℤ} {f2 f2' : ℕ} {n2 n2' : List ℕ} {s2 s2' : List ℤ} → f1 ≡ f1' → n1 ≡ n1' → s1 ≡ s1' → f2 ≡ f2' → n2 ≡ n2' → s2 ≡ s2' → names_either f1 n1 s1 f2 n2 s2 ≡ names_either f1' n1' s1' f2' n2' s2'
+either_same a b c d e f = λ i. names_either (a i) (b i) (c i) (d i) (e i) (f i)
+
+module _ (f1 : ℕ) (n1 : List ℕ) (s1 : List ℤ) (f2 : ℕ) (n2 : List ℕ) (s2 : List ℤ) where
+  by_first : (p : ℕ) → names f1 n1 s1 p ≡ true → names_either f1 n1 s1 f2 n2 s2 p ≡ true
+  by_first p e = ap (λ b. b || names f2 n2 s2 p) e
+
+  by_second : (p : ℕ) → names f2 n2 s2 p ≡ true → names_either f1 n1 s1 f2 n2 s2 p ≡ true
+  by_second p e = ap (λ b. names f1 n1 s1 p || b) e ∙ or_right (names f1 n1 s1 p)
+
+  module _ {A : Type 0} (r x : Region A) (part : IsPartWhere (names_either f1 n1 s1 f2 n2 s2) r x) where
+    passed : (p : ℕ) → names_either f1 n1 s1 f2 n2 s2 p ≡ true → stored x p ≡ stored r p
+    passed p e = (λ i. stored_in (part.0 i) (part.1 i) p) ∙ part_holds (names_either f1 n1 s1 f2 n2 s2) r.items r.held p e
+
+    pub either_first : AgreesOnNamed (stored r) f1 n1 s1 (stored x)
+    either_first p e = passed p (by_first p e)
+
+    pub either_second : AgreesOnNamed (stored r) f2 n2 s2 (stored x)
+    either_second p e = passed p (by_second p e)
+
+  module _ {A : Type 0} (old left new : ℕ → Option A) (is : (p : ℕ) → new p ≡ if names_either f1 n1 s1 f2 n2 s2 p then left p else old p) where
+    back : (p : ℕ) → names_either f1 n1 s1 f2 n2 s2 p ≡ true → left p ≡ new p
+    back p e = sym (is p ∙ ap (λ (b : Bool). if b then left p else old p) e)
+
+    pub first_left : (k : ℕ → Option A) → AgreesOnNamed left f1 n1 s1 k → AgreesOnNamed new f1 n1 s1 k
+    first_left k agrees p e = agrees p e ∙ back p (by_first p e)
+
+    pub second_left : (k : ℕ → Option A) → AgreesOnNamed left f2 n2 s2 k → AgreesOnNamed new f2 n2 s2 k
+    second_left k agrees p e = agrees p e ∙ back p (by_second p e)
+
+    pub neither_left : (p : ℕ) → names f1 n1 s1 p ≡ false → names f2 n2 s2 p ≡ false → new p ≡ old p
+    neither_left p e h = is p ∙ (λ i. if (e i || h i) then left p else old p)

@@ -13,7 +13,7 @@ use Rattle.nd_array_core.specs.Placed.{found_at}
 use Rattle.nd_array_core.specs.Meaning.{inside}
 use Rattle.nd_array_core.specs.Steps.{IsStep}
 use Rattle.nd_array_core.specs.Scoped.{with_named}
-use Rattle.nd_array_core.specs.Tasks.{laid, IsNamedMap, IsSeenThrough, AgreesOnNamed, LiesSoundly}
+use Rattle.nd_array_core.specs.Tasks.{laid, IsNamedMap, IsSeenThrough, OthersKeepTwo, AgreesOnNamed, LiesSoundly}
 use Rattle.nd_array_core.specs.Writes.{OthersStay}
 use Rattle.nd_array_core.proofs.Boxes.{coordinate_below}
 use Rattle.nd_array_core.proofs.WriteStep.{one_index}
@@ -28,6 +28,14 @@ module _ {A : Type 0} (m : ℕ → Option A) (first : ℕ) (ns : List ℕ) (ss :
 
 pub unnamed_left : {A : Type 0} (m new w : ℕ → Option A) (first : ℕ) (ns : List ℕ) (ss : List ℤ) → ((p : ℕ) → new p ≡ with_named m first ns ss w p) → (p : ℕ) → names first ns ss p ≡ false → new p ≡ m p
 unnamed_left m new w first ns ss is p e = is p ∙ ap (λ (b : Bool). if b then w p else m p) e
+
+-- a place that the part keeps stays, and so does one outside the part
+pub named_left : {A : Type 0} (m new k w : ℕ → Option A) (first : ℕ) (ns : List ℕ) (ss : List ℤ) → IsNamedMap m first ns ss k → ((p : ℕ) → new p ≡ with_named m first ns ss w p) → (p : ℕ) → w p ≡ k p → new p ≡ m p
+named_left m new k w first ns ss named is p same = is p ∙ by_test (names first ns ss p) refl
+  where
+    by_test : (b : Bool) → names first ns ss p ≡ b → (if b then w p else m p) ≡ m p
+    by_test true e = same ∙ named p ∙ ap (λ (b : Bool). if b then m p else None) e
+    by_test false e = refl
 
 -- what no index names stays, where all that isn't named does
 pub unnamed_stay : {A : Type 0} (m new : ℕ → Option A) (first : ℕ) (ns : List ℕ) (ss : List ℤ) → ((p : ℕ) → names first ns ss p ≡ false → new p ≡ m p) → OthersStay (λ i. inside ns i (place_number (place_of first ss i))) m new
@@ -64,6 +72,33 @@ pub steps_apart : {A : Type 0} (m : ℕ → Option A) (first : ℕ) (ns : List �
     → ((i j : List ℕ) → in_box n1 i ≡ true → in_box n2 j ≡ true → g i ≡ h j → ⊥) → ShareNoPlace f1 n1 s1 f2 n2 s2
 steps_apart m first ns ss f1 n1 s1 f2 n2 s2 g h sound one two none i j b c e =
     none i j b c (one_index ns ss first (g i) (h j) sound.valid.as_many sound.separated (one.within i b) (two.within j c) (sym (one.same i b) ∙ e ∙ two.same j c))
+
+-- ---- where the places that neither of two layouts names stay
+module _ {A : Type 0} (m new : ℕ → Option A) (first : ℕ) (ns : List ℕ) (ss : List ℤ) (sound : LiesSoundly m first ns ss) where
+  -- the place of an index that the map names none of isn't one of the new layout
+  not_named : (f1 : ℕ) (n1 : List ℕ) (s1 : List ℤ) (source : List ℕ → List ℕ) → IsStep first ns ss f1 n1 s1 source → (p : ℕ) (i : List ℕ) → in_box ns i ≡ true → place_of first ss i ≡ pos p → ((j : List ℕ) → in_box n1 j ≡ true → source j ≡ i → ⊥) → names f1 n1 s1 p ≡ false
+  not_named f1 n1 s1 source step p i h e other = by_test (names f1 n1 s1 p) refl
+    where
+      by_test : (b : Bool) → names f1 n1 s1 p ≡ b → names f1 n1 s1 p ≡ false
+      by_test true named = let j = named_by f1 n1 s1 p named in absurd (other j.0 j.1 (one_index ns ss first (source j.0) i sound.valid.as_many sound.separated (step.within j.0 j.1) h (sym (step.same j.0 j.1) ∙ j.2 ∙ sym e)))
+      by_test false none = none
+
+  module _ (f1 : ℕ) (n1 : List ℕ) (s1 : List ℤ) (f2 : ℕ) (n2 : List ℕ) (s2 : List ℤ) (source source' : List ℕ → List ℕ) (one : IsStep first ns ss f1 n1 s1 source) (two : IsStep first ns ss f2 n2 s2 source') (kept : (p : ℕ) → names f1 n1 s1 p ≡ false → names f2 n2 s2 p ≡ false → new p ≡ m p) where
+    abbrev LeavesOut : List ℕ → (List ℕ → List ℕ) → List ℕ → Type 0
+    LeavesOut shape map i = (j : List ℕ) → in_box shape j ≡ true → map j ≡ i → ⊥
+
+    stays_at : (z : ℤ) (i : List ℕ) → in_box ns i ≡ true → place_of first ss i ≡ z → LeavesOut n1 source i → LeavesOut n2 source' i → stored_at new z ≡ stored_at m z
+    stays_at (pos p) i h e none none' = kept p (not_named f1 n1 s1 source one p i h e none) (not_named f2 n2 s2 source' two p i h e none')
+    stays_at (negsuc n) i h e none none' = refl
+
+    stays : (i : List ℕ) (b : Bool) → in_box ns i ≡ b → LeavesOut n1 source i → LeavesOut n2 source' i → inside ns i (stored_at new (place_of first ss i)) ≡ inside ns i (stored_at m (place_of first ss i))
+    stays i true h none none' = rw h (stays_at (place_of first ss i) i h refl none none')
+    stays i false h none none' = rw h refl
+
+    -- each index that neither map names keeps its element
+    pub neither_keeps : (shape shape' : List ℕ) → n1 ≡ shape → n2 ≡ shape' → OthersKeepTwo shape source shape' source' (λ i. inside ns i (stored_at m (place_of first ss i))) (λ i. inside ns i (stored_at new (place_of first ss i)))
+    neither_keeps shape shape' shaped shaped' i none none' =
+        stays i (in_box ns i) refl (λ j h. none j (ap (λ l. in_box l j) (sym shaped) ∙ h)) (λ j h. none' j (ap (λ l. in_box l j) (sym shaped') ∙ h))
 
 -- the parts of a split axis have no index in common
 pub split_apart : (ns : List ℕ) (a k : ℕ) → a < length ns → (i j : List ℕ) → in_box (lower_shape ns a k) i ≡ true → in_box (upper_shape ns a k) j ≡ true → i ≡ upper_index a k j → ⊥

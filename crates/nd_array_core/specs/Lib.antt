@@ -10,6 +10,7 @@ pub mod Steps
 pub mod Maps
 pub mod Writes
 pub mod ElementMut
+pub mod Refilled
 pub mod ElementLent
 pub mod RegionLent
 pub mod Squeeze
@@ -21,3 +22,5 @@ pub mod Laws
 pub mod Lends
 pub mod Parts
 pub mod MultiSlice
+pub mod Storages
+pub mod ViewLent

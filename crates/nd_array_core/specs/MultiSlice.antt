@@ -4,6 +4,7 @@ use Rattle.nd_shape_and_slice.specs.declared.slice_info.SliceInfoElem.{SliceInfo
 use Rattle.nd_shape_and_slice.specs.Meeting.{Intersect}
 use Rattle.nd_shape_and_slice.specs.SliceInfo.{fits_shape, shape_after, index_before}
 use Rattle.nd_array_core.specs.Meaning.{inside}
+use Rattle.nd_array_core.specs.Places.{ShareNoPlace}
 
 -- no element is named by both lists
 abbrev pub NameNothingInCommon : List ℕ → List SliceInfoElem → List SliceInfoElem → Type 0
@@ -18,6 +19,13 @@ ThreeFit shape a b c = (fits_shape shape a ≡ true) × TwoFit shape b c × Name
 
 abbrev pub FourFit : List ℕ → List SliceInfoElem → List SliceInfoElem → List SliceInfoElem → List SliceInfoElem → Type 0
 FourFit shape a b c d = (fits_shape shape a ≡ true) × ThreeFit shape b c d × NameNothingInCommon shape a b × NameNothingInCommon shape a c × NameNothingInCommon shape a d
+
+-- no two of three arrays, or of four, share a place
+abbrev pub ThreeShareNoPlace : (List ℕ → Option ℕ) → (List ℕ → Option ℕ) → (List ℕ → Option ℕ) → Type 0
+ThreeShareNoPlace a b c = ShareNoPlace a b × ShareNoPlace a c × ShareNoPlace b c
+
+abbrev pub FourShareNoPlace : (List ℕ → Option ℕ) → (List ℕ → Option ℕ) → (List ℕ → Option ℕ) → (List ℕ → Option ℕ) → Type 0
+FourShareNoPlace a b c d = ThreeShareNoPlace b c d × ShareNoPlace a b × ShareNoPlace a c × ShareNoPlace a d
 
 -- an array of this shape, with these elements at these places, is what the list names of another
 pub record IsPartBy {A : Type 0} (whole : List ℕ) (at : List ℕ → Option A) (place : List ℕ → Option ℕ) (list : List SliceInfoElem) (part : List ℕ) (part_at : List ℕ → Option A) (part_place : List ℕ → Option ℕ) : Type 0 where

@@ -4,4 +4,4 @@ use Rattle.nd_array_core.specs.contracts.data.RegionRepr.{the_row}
 use Rattle.nd_array_core.specs.declared.data.RegionRepr.{RegionRepr}
 
 abbrev pub lends_region : (R : RattleType) → MutBor (RegionRepr R.Denot) → MutBor R.Denot → Fml
-lends_region R s r = Lends (the_row R) R s r (λ x. record { region = x })
+lends_region R s r = Lends (the_row R) R s r (λ x. record { region = x; tie = s.now.tie })

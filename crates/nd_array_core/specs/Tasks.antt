@@ -62,6 +62,10 @@ IsSeenThrough shape source place at v = IsViewOf shape (λ i. inside shape i (pl
 abbrev pub OthersKeep : {A : Type 0} → List ℕ → (List ℕ → List ℕ) → (List ℕ → Option A) → (List ℕ → Option A) → Type 0
 OthersKeep shape source old new = (i : List ℕ) → ((j : List ℕ) → in_box shape j ≡ true → source j ≡ i → ⊥) → new i ≡ old i
 
+-- each index that neither of two parts names has the element that it had
+abbrev pub OthersKeepTwo : {A : Type 0} → List ℕ → (List ℕ → List ℕ) → List ℕ → (List ℕ → List ℕ) → (List ℕ → Option A) → (List ℕ → Option A) → Type 0
+OthersKeepTwo shape source shape' source' old new = (i : List ℕ) → ((j : List ℕ) → in_box shape j ≡ true → source j ≡ i → ⊥) → ((j : List ℕ) → in_box shape' j ≡ true → source' j ≡ i → ⊥) → new i ≡ old i
+
 -- both maps have the same at each place that the layout names
 abbrev pub AgreesOnNamed : {A : Type 0} → (ℕ → Option A) → ℕ → List ℕ → List ℤ → (ℕ → Option A) → Type 0
 AgreesOnNamed old first lengths strides part = (p : ℕ) → names first lengths strides p ≡ true → part p ≡ old p

@@ -94,20 +94,17 @@ impl<S: Data, D: Dimension> ArrayBase<S, D> {
         ensures strides { IfSome result (λ v. layout_strides v ≡ broadcast_strides (shape_of self.now) (layout_strides self.now) (shape_of v)) }
         ensures elements { IfSome result (λ v. (i : List ℕ) → element_at v i ≡ inside (shape_of v) i (element_at self.now (forget (shape_of self.now) (shape_of v) i))) }
     {
-        let layout = self.layout.broadcast(to.into_dimension())?;
-        Some(ArrayBase {
-            storage: self.storage.borrowed(),
-            layout,
-        })
+        self.view().broadcast_move(to)
     }
 }
 
-#[tactic(auto, unfolding(crate::specs::Meaning::shape_of, crate::specs::Meaning::element_at))]
+#[tactic(auto, unfolding(crate::specs::Meaning::shape_of, crate::specs::Meaning::element_at, crate::specs::Meaning::layout_strides))]
 impl<'a, A, D: Dimension> ArrayView<'a, A, D> {
     /// `broadcast` of a view, for as long as the view itself lives. ndarray has no such call.
     pub fn broadcast_move<E: IntoDimension>(self, to: E) -> Option<ArrayView<'a, A, E::Dim>>
         ensures none { IsNone result ↔ (broadcasts (shape_of self.entry) (E.lengths_given to) ≡ false) }
         ensures shape { IfSome result (λ v. shape_of v ≡ E.lengths_given to) }
+        ensures strides { IfSome result (λ v. layout_strides v ≡ broadcast_strides (shape_of self.entry) (layout_strides self.entry) (shape_of v)) }
         ensures elements { IfSome result (λ v. (i : List ℕ) → element_at v i ≡ inside (shape_of v) i (element_at self.entry (forget (shape_of self.entry) (shape_of v) i))) }
     {
         let layout = self.layout.broadcast(to.into_dimension())?;

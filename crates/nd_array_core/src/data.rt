@@ -1,24 +1,27 @@
 //! The storages of arrays: an owned vector, or a borrow of elements, shared or to be written.
 
-ghost use Rattle.std.specs.Prelude.{◌≡◌, ◌*◌, ◌<◌, ◌^◌, ℕ, length, Bool, true, false, List, Option, IsSome, Some, None, slice_get, refl};
-ghost use Rattle.std.specs.Borrow.{sem};
+ghost use Rattle.std.specs.Prelude.{◌≡◌, ◌*◌, ◌<◌, ◌^◌, ℕ, length, Bool, true, false, List, [], Option, IsSome, Some, None, slice_get, refl};
+ghost use Rattle.std.specs.Borrow.{sem, follows, Array};
 ghost use Rattle.std.specs.List.{flat_map};
 ghost use Rattle.std.specs.Option.{is_some};
-ghost use Rattle.std.specs.Vec.{with_item};
+ghost use Rattle.std.specs.Vec.{with_item, with_items};
 ghost use base.Fml.{GName};
 ghost use Rattle.nd_region.specs.declared.region.Region.{Region as RegionOf};
 ghost use Rattle.nd_region.specs.Shared.{shared_stored};
 ghost use Rattle.nd_region.specs.Places.{names, names_not};
-ghost use Rattle.nd_region.specs.Region.{stored as region_stored, borrow_of, with_element as region_with, HasPlaces, IsPartWhere, IsAsLong};
+ghost use Rattle.nd_region.specs.Region.{stored as region_stored, borrow_of, with_element as region_with, with_items as region_items, HasPlaces, IsPartWhere, IsAsLong};
 ghost use Rattle.nd_array_core.specs.Places.{HoldsAll, kept_at, written_at, swapped_at};
 ghost use Rattle.nd_array_core.specs.Scoped.{IsNamedPart, with_named};
+ghost use Rattle.nd_array_core.specs.Storages.{shown_by};
 ghost use Rattle.nd_array_core.specs.ElementMut.{element_follows, KeepsPlaces, item_kept, item_written, place_kept, place_written};
+ghost use Rattle.nd_array_core.specs.Refilled.{overwritten, overwritten_itself, overwritten_again, places_there, places_kept, items_there, items_kept, items_itself, items_again};
 
 use crate::layout::Layout;
 use nd_region::{Region, SharedRegion, with_region};
 use nd_shape_and_slice::{Dimension, StrideList};
 use std::alloc::AllocError;
 use std::mem;
+use std::snapshot::Snapshot;
 
 /// A storage of elements, each at a place: a number from 0. ndarray's `Data`.
 pub trait Data {
@@ -33,6 +36,12 @@ pub trait Data {
     /// wherever it did.
     ghost with_element: { (s : Self) → ℕ → Self.Elem → (t : Self) × KeepsPlaces (stored s) (stored t) };
 
+    /// The elements as they lie, those at its places among them.
+    ghost items: { Self → List Self.Elem };
+    /// What it is once these elements took the place of its own, as far as they may be written. It holds something
+    /// wherever it did.
+    ghost refilled: { (s : Self) → List Self.Elem → (t : Self) × KeepsPlaces (stored s) (stored t) };
+
     /// The element at a place.
     fn element(&self, place: usize) -> &Self::Elem
         requires { IsSome (stored self.now place) }
@@ -40,7 +49,7 @@ pub trait Data {
 
     /// The same elements, borrowed.
     fn borrowed(&self) -> ViewRepr<'_, Self::Elem>
-        ensures { (place : ℕ) → shared_stored result.region place ≡ stored self.now place };
+        ensures { (place : ℕ) → shown_by result place ≡ stored self.now place };
 }
 
 /// Elements in a vector that the array owns. ndarray's `OwnedRepr`.
@@ -108,6 +117,10 @@ impl<A> Data for OwnedRepr<A> {
 
     ghost with_element = { λ s place x. (record { items = with_item s.items place x }, item_kept s.items.items place x) };
 
+    ghost items = { λ s. s.items.items };
+
+    ghost refilled = { λ s ws. (record { items = with_items s.items ws }, items_kept s.items ws) };
+
     fn element(&self, place: usize) -> &A {
         &self.items[place]
     }
@@ -126,6 +139,10 @@ impl<'a, A> Data for ViewRepr<'a, A> {
 
     ghost with_element = { λ s _ _. (s, λ p has. has) };
 
+    ghost items = { λ _. [] };
+
+    ghost refilled = { λ s _. (s, λ p has. has) };
+
     fn element(&self, place: usize) -> &A {
         let region = self.region;
         region.get(place)
@@ -142,6 +159,8 @@ impl<'a, A> Data for ViewRepr<'a, A> {
 #[derive(Drop)]
 pub struct RegionRepr<R> {
     pub(crate) region: R,
+    /// The name under which an owned array that lends the region follows it. It has no bytes.
+    pub(crate) tie: Snapshot<usize>,
 }
 
 /// Elements that are borrowed, to be read and written. ndarray's `ViewRepr<&'a mut A>`.
@@ -154,6 +173,17 @@ impl<'a, A> ViewMutRepr<'a, A> {
     {
         RegionRepr {
             region: Region::from_slice(items),
+            tie: Snapshot::of(&0),
+        }
+    }
+
+    /// A region as a storage.
+    pub(crate) fn of_region(region: Region<'a, A>) -> Self
+        ensures { result.region ≡ region.entry }
+    {
+        RegionRepr {
+            region,
+            tie: Snapshot::of(&0),
         }
     }
 
@@ -166,6 +196,7 @@ impl<'a, A> ViewMutRepr<'a, A> {
         let _ = rows.as_flattened().len();
         RegionRepr {
             region: Region::from_rows(rows),
+            tie: Snapshot::of(&0),
         }
     }
 
@@ -179,6 +210,7 @@ impl<'a, A> ViewMutRepr<'a, A> {
             region: self
                 .region
                 .split(layout.first, layout.dim.slice(), layout.strides.slice()),
+            tie: Snapshot::of(&0),
         }
     }
 }
@@ -201,7 +233,11 @@ impl<'a, A> Data for ViewMutRepr<'a, A> {
 
     ghost exclusive = { true };
 
-    ghost with_element = { λ s place x. (record { region = region_with s.region place x }, place_kept s.region.items s.region.held place x) };
+    ghost with_element = { λ s place x. (record { region = region_with s.region place x; tie = s.tie }, place_kept s.region.items s.region.held place x) };
+
+    ghost items = { λ s. s.region.items };
+
+    ghost refilled = { λ s ws. (record { region = region_items s.region (overwritten s.region.items ws); tie = s.tie }, places_kept s.region.items ws s.region.held) };
 
     fn element(&self, place: usize) -> &A {
         self.region.get(place)
@@ -231,6 +267,11 @@ pub trait DataMut: Data {
         requires { IsSome (Self.stored self.old place) }
         ensures* writes_back { sem 𝓛 (element_follows Self.row Self.Elem.row self.entry result (λ x. (Self.with_element self.old place x).0)) }
         ensures value { Self.stored self.old place ≡ Some result.now };
+
+    /// All its places, for a shorter time.
+    fn lend(&mut self) -> Region<'_, Self::Elem>
+        ensures* writes_back { sem 𝓛 (follows Self.row (Array Self.Elem.row 0) self.entry.ghost_name result.name (λ ws. (Self.refilled self.old ws).0)) }
+        ensures places { (place : ℕ) → region_stored result place ≡ Self.stored self.old place };
 
     /// Exchanges the elements at two places.
     fn swap(&mut self, p: usize, q: usize)
@@ -265,6 +306,18 @@ pub trait DataMut: Data {
 
     /// And it leaves the borrow.
     ghost element_borrow: { (s : Self) (place : ℕ) (x : Self.Elem) → borrow (Self.Data.with_element s place x).0 ≡ borrow s };
+
+    /// Its own elements in their place leave it as it is.
+    ghost refilled_itself: { (s : Self) → (Self.Data.refilled s (Self.Data.items s)).0 ≡ s };
+
+    /// So do those that were put there last.
+    ghost refilled_again: { (s : Self) (ws : List Self.Elem) → (Self.Data.refilled s (Self.Data.items (Self.Data.refilled s ws).0)).0 ≡ (Self.Data.refilled s ws).0 };
+
+    /// It holds something just where it did.
+    ghost refilled_there: { (s : Self) (ws : List Self.Elem) (p : ℕ) → is_some (Self.Data.stored (Self.Data.refilled s ws).0 p) ≡ is_some (Self.Data.stored s p) };
+
+    /// The borrow stays.
+    ghost refilled_borrow: { (s : Self) (ws : List Self.Elem) → borrow (Self.Data.refilled s ws).0 ≡ borrow s };
 }
 
 impl<A> DataMut for OwnedRepr<A> {
@@ -276,8 +329,20 @@ impl<A> DataMut for OwnedRepr<A> {
 
     ghost element_borrow = { λ s place x. refl };
 
+    ghost refilled_itself = { λ s k. record { items = items_itself s.items k } };
+
+    ghost refilled_again = { λ s ws k. record { items = items_again s.items ws k } };
+
+    ghost refilled_there = { λ s ws p. items_there s.items ws p };
+
+    ghost refilled_borrow = { λ s ws. refl };
+
     fn element_mut(&mut self, place: usize) -> &mut A {
         &mut self.items[place]
+    }
+
+    fn lend(&mut self) -> Region<'_, A> {
+        Region::from_slice(self.items_mut())
     }
 
     fn replace(&mut self, place: usize, value: A) -> A {
@@ -307,6 +372,18 @@ impl<'a, A> DataMut for ViewMutRepr<'a, A> {
     ghost element_written = { λ s place x p has. place_written s.region.items s.region.held place p x has };
 
     ghost element_borrow = { λ s place x. refl };
+
+    ghost refilled_itself = { λ s k. record { region = region_items s.region (overwritten_itself s.region.items k); tie = s.tie } };
+
+    ghost refilled_again = { λ s ws k. record { region = region_items s.region (overwritten_again s.region.items ws k); tie = s.tie } };
+
+    ghost refilled_there = { λ s ws p. places_there s.region.items ws s.region.held p };
+
+    ghost refilled_borrow = { λ s ws. refl };
+
+    fn lend(&mut self) -> Region<'_, A> {
+        self.region.reborrow()
+    }
 
     fn element_mut(&mut self, place: usize) -> &mut A {
         let region = self.region_mut();

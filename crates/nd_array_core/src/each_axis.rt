@@ -4,7 +4,7 @@ ghost use Rattle.std.specs.Prelude.{◌≡◌, ◌<◌, ℕ, ℤ, true, List, le
 ghost use Rattle.nd_shape_and_slice.specs.declared.slice.Slice.{Slice};
 ghost use Rattle.nd_shape_and_slice.specs.Descriptions.{axes_from};
 ghost use Rattle.nd_array_core.specs.EachAxis.{each_sliced, each_sliced_index, AnswersFit, Answered};
-ghost use Rattle.nd_array_core.specs.Meaning.{shape_of, element_at, layout_strides, inside};
+ghost use Rattle.nd_array_core.specs.Meaning.{shape_of, element_at, layout_strides, storage_of, inside};
 ghost use Rattle.nd_array_core.specs.Steps.{IsStep};
 
 use crate::array::{ArrayBase, ArrayView};
@@ -31,13 +31,14 @@ impl<D: Dimension, T: StrideList> Layout<D, T> {
     }
 }
 
-#[tactic(auto, unfolding(crate::specs::Meaning::shape_of, crate::specs::Meaning::element_at, crate::specs::Meaning::layout_strides))]
+#[tactic(auto, unfolding(crate::specs::Meaning::shape_of, crate::specs::Meaning::element_at, crate::specs::Meaning::layout_strides, crate::specs::Meaning::storage_of))]
 impl<S: Data, D: Dimension> ArrayBase<S, D> {
     /// Keeps of each axis what the closure answers for it. It is asked of axis 0 first, and each answer fits its axis
     /// (`slice_fits`). ndarray's `slice_each_axis_inplace`.
     pub fn slice_each_axis_inplace<F: FnMut(AxisDescription) -> Slice + Drop>(&mut self, f: F)
         requires { AnswersFit F.pre F.step f (axes_from 0 (shape_of self.old) (layout_strides self.old)) }
-        ensures { (slices : List Slice) × (last : F) × Answered F.step f (axes_from 0 (shape_of self.old) (layout_strides self.old)) slices last × (shape_of self.new ≡ each_sliced (shape_of self.old) slices) × ((i : List ℕ) → element_at self.new i ≡ inside (shape_of self.new) i (element_at self.old (each_sliced_index (shape_of self.old) slices i))) }
+        ensures storage { storage_of self.new ≡ storage_of self.old }
+        ensures sliced { (slices : List Slice) × (last : F) × Answered F.step f (axes_from 0 (shape_of self.old) (layout_strides self.old)) slices last × (shape_of self.new ≡ each_sliced (shape_of self.old) slices) × ((i : List ℕ) → element_at self.new i ≡ inside (shape_of self.new) i (element_at self.old (each_sliced_index (shape_of self.old) slices i))) }
     {
         self.layout.slice_each_axis(f);
     }

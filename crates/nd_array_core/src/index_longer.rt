@@ -76,14 +76,14 @@ impl<'a, A, D: Dimension, I: NdIndex<D>> IndexLonger<I> for ArrayViewMut<'a, A, 
 
     fn get(self, index: I) -> Option<&'a mut A> {
         let ArrayBase { storage, layout } = self;
-        let RegionRepr { region } = storage;
+        let RegionRepr { region, tie: _ } = storage;
         let place = layout.place_of(index.coordinates())?;
         Some(region.into_mut(place))
     }
 
     fn uget(self, index: I) -> &'a mut A {
         let ArrayBase { storage, layout } = self;
-        let RegionRepr { region } = storage;
+        let RegionRepr { region, tie: _ } = storage;
         let place = layout.place_in_box(index.coordinates());
         region.into_mut(place)
     }

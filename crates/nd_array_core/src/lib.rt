@@ -33,12 +33,15 @@ mod layout_calls;
 #[cfg(test)]
 mod layout_tests;
 mod multi_slice;
+#[cfg(test)]
+mod multi_slice_tests;
 mod places;
 mod resize_calls;
 mod resize_steps;
 pub mod scoped;
 pub mod scoped_pairs;
 mod scoped_parts;
+mod scoped_slices;
 #[cfg(test)]
 mod scoped_tests;
 mod slice_steps;

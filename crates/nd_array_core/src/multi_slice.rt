@@ -2,13 +2,14 @@
 
 ghost use Rattle.std.specs.Prelude.{ℕ, List, Option};
 ghost use Rattle.nd_array_core.specs.Meaning.{shape_of, element_at, place_at};
-ghost use Rattle.nd_array_core.specs.MultiSlice.{TwoFit, ThreeFit, IsPartBy, FitsEach, TakenOf};
+ghost use Rattle.nd_array_core.specs.MultiSlice.{TwoFit, ThreeFit, FourFit, ThreeShareNoPlace, FourShareNoPlace, IsPartBy, FitsEach, TakenOf};
 ghost use Rattle.nd_array_core.specs.Places.{ShareNoPlace};
 
-use crate::array::{Array, ArrayViewMut};
+use crate::array::{ArrayBase, ArrayViewMut};
+use crate::data::DataMut;
 use nd_shape_and_slice::{Dimension, SliceArg};
 
-/// A pair or a triple of lists of slices, for views of the type V. ndarray's `MultiSliceArg`.
+/// A pair, a triple or a quadruple of lists of slices, for views of the type V. ndarray's `MultiSliceArg`.
 pub trait MultiSliceArg<V> {
     /// The parts, one for each list.
     type Output;
@@ -39,8 +40,8 @@ impl<'a, A: 'a, D: Dimension, I: SliceArg<D>, J: SliceArg<D>> MultiSliceArg<Arra
 
     fn parts_of(self, view: ArrayViewMut<'a, A, D>) -> Self::Output {
         let first = view.layout.sliced::<I::OutDim>(self.0.elements());
-        let second = view.layout.sliced::<J::OutDim>(self.1.elements());
-        view.storage.two_parts(first, second)
+        let other = view.layout.sliced::<J::OutDim>(self.1.elements());
+        view.storage.two_parts(first, other)
     }
 }
 
@@ -55,13 +56,42 @@ impl<'a, A: 'a, D: Dimension, I: SliceArg<D>, J: SliceArg<D>, K: SliceArg<D>> Mu
 
     ghost fits = { λ lists view. ThreeFit (shape_of view) (I.elements_of lists.0) (J.elements_of lists.1) (K.elements_of lists.2) };
 
-    ghost takes = { λ lists view out. IsPartBy (shape_of view) (element_at view) (place_at view) (I.elements_of lists.0) (shape_of out.0) (element_at out.0) (place_at out.0) × IsPartBy (shape_of view) (element_at view) (place_at view) (J.elements_of lists.1) (shape_of out.1) (element_at out.1) (place_at out.1) × IsPartBy (shape_of view) (element_at view) (place_at view) (K.elements_of lists.2) (shape_of out.2) (element_at out.2) (place_at out.2) × ShareNoPlace (place_at out.0) (place_at out.1) × ShareNoPlace (place_at out.0) (place_at out.2) × ShareNoPlace (place_at out.1) (place_at out.2) };
+    ghost takes = { λ lists view out. IsPartBy (shape_of view) (element_at view) (place_at view) (I.elements_of lists.0) (shape_of out.0) (element_at out.0) (place_at out.0) × IsPartBy (shape_of view) (element_at view) (place_at view) (J.elements_of lists.1) (shape_of out.1) (element_at out.1) (place_at out.1) × IsPartBy (shape_of view) (element_at view) (place_at view) (K.elements_of lists.2) (shape_of out.2) (element_at out.2) (place_at out.2) × ThreeShareNoPlace (place_at out.0) (place_at out.1) (place_at out.2) };
+
+    fn parts_of(self, view: ArrayViewMut<'a, A, D>) -> Self::Output {
+        let first = view.layout.sliced::<I::OutDim>(self.0.elements());
+        let second = view.layout.sliced::<J::OutDim>(self.1.elements());
+        let last = view.layout.sliced::<K::OutDim>(self.2.elements());
+        view.storage.three_parts(first, second, last)
+    }
+}
+
+impl<
+    'a,
+    A: 'a,
+    D: Dimension,
+    I: SliceArg<D>,
+    J: SliceArg<D>,
+    K: SliceArg<D>,
+    L: SliceArg<D>,
+> MultiSliceArg<ArrayViewMut<'a, A, D>> for (I, J, K, L) {
+    type Output = (
+        ArrayViewMut<'a, A, I::OutDim>,
+        ArrayViewMut<'a, A, J::OutDim>,
+        ArrayViewMut<'a, A, K::OutDim>,
+        ArrayViewMut<'a, A, L::OutDim>,
+    );
+
+    ghost fits = { λ lists view. FourFit (shape_of view) (I.elements_of lists.0) (J.elements_of lists.1) (K.elements_of lists.2) (L.elements_of lists.3) };
+
+    ghost takes = { λ lists view out. IsPartBy (shape_of view) (element_at view) (place_at view) (I.elements_of lists.0) (shape_of out.0) (element_at out.0) (place_at out.0) × IsPartBy (shape_of view) (element_at view) (place_at view) (J.elements_of lists.1) (shape_of out.1) (element_at out.1) (place_at out.1) × IsPartBy (shape_of view) (element_at view) (place_at view) (K.elements_of lists.2) (shape_of out.2) (element_at out.2) (place_at out.2) × IsPartBy (shape_of view) (element_at view) (place_at view) (L.elements_of lists.3) (shape_of out.3) (element_at out.3) (place_at out.3) × FourShareNoPlace (place_at out.0) (place_at out.1) (place_at out.2) (place_at out.3) };
 
     fn parts_of(self, view: ArrayViewMut<'a, A, D>) -> Self::Output {
         let first = view.layout.sliced::<I::OutDim>(self.0.elements());
         let second = view.layout.sliced::<J::OutDim>(self.1.elements());
         let third = view.layout.sliced::<K::OutDim>(self.2.elements());
-        view.storage.three_parts(first, second, third)
+        let fourth = view.layout.sliced::<L::OutDim>(self.3.elements());
+        view.storage.four_parts(first, second, third, fourth)
     }
 }
 
@@ -76,10 +106,10 @@ impl<'a, A, D: Dimension> ArrayViewMut<'a, A, D> {
     }
 }
 
-impl<A, D: Dimension> Array<A, D> {
+impl<S: DataMut, D: Dimension> ArrayBase<S, D> {
     /// The parts that the lists name, to be read and written. Each list fits the shape (`SliceArg::fits`), and no two
     /// name an element in common (`slices_intersect`). ndarray's `multi_slice_mut`.
-    pub fn multi_slice_mut<'a, M: MultiSliceArg<ArrayViewMut<'a, A, D>>>(
+    pub fn multi_slice_mut<'a, M: MultiSliceArg<ArrayViewMut<'a, S::Elem, D>>>(
         &'a mut self,
         lists: M,
     ) -> M::Output

@@ -8,6 +8,7 @@ ghost use Rattle.std.specs.Option.{is_some};
 ghost use Rattle.nd_region.specs.Region.{stored as region_stored, borrow_of};
 ghost use Rattle.nd_array_core.specs.Placed.{Placed, element_placed, found_at};
 ghost use Rattle.nd_array_core.specs.Scoped.{with_named};
+ghost use Rattle.nd_array_core.specs.Storages.{held_by};
 ghost use Rattle.nd_array_core.specs.Tasks.{view_borrow, lent_borrow, lent_view, view_left, CanBeSeen, LiesSoundly, laid, IsNamedMap, IsViewOf};
 ghost use Rattle.nd_array_core.specs.Writes.{OthersStay};
 
@@ -16,6 +17,7 @@ use crate::data::{DataMut, RegionRepr, ViewMutRepr};
 use crate::layout::Layout;
 use nd_region::Region;
 use nd_shape_and_slice::{Dimension, StrideList};
+use std::snapshot::Snapshot;
 
 /// A mutable view while it is lent to a task, to be used after `into_view`.
 #[derive(Drop)]
@@ -41,6 +43,7 @@ impl<'a, A, D: Dimension> LentView<'a, A, D, D::Strides> {
         ArrayBase {
             storage: RegionRepr {
                 region: self.region,
+                tie: Snapshot::of(&0),
             },
             layout: Layout::strided(self.first, self.dim, self.strides),
         }
@@ -54,7 +57,7 @@ impl<'a, A, D: Dimension> ArrayViewMut<'a, A, D> {
     /// The view's elements, each at its place, as a task gives them back.
     pub fn into_storage(self) -> ViewMutRepr<'a, A>
         ensures same { result ≡ storage_of self.entry }
-        ensures elements { (i : List ℕ) → found_at (region_stored result.region) (place_at self.entry i) ≡ element_at self.entry i }
+        ensures elements { (i : List ℕ) → found_at (held_by result) (place_at self.entry i) ≡ element_at self.entry i }
     {
         self.storage
     }

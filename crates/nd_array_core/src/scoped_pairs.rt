@@ -19,7 +19,7 @@ use nd_shape_and_slice::{Axis, Dimension, StrideList};
 
 /// What is done with two mutable views while they are lent. The task gives back the storage of each, or of what it has
 /// sliced it to: the same borrows.
-pub trait PairTask<A, D: Dimension>: Drop {
+pub trait PairTask<A, D: Dimension, E: Dimension>: Drop {
     /// What it answers.
     type Answer;
 
@@ -32,30 +32,30 @@ pub trait PairTask<A, D: Dimension>: Drop {
     fn run<'b>(
         self,
         one: LentView<'b, A, D, D::Strides>,
-        two: LentView<'b, A, D, D::Strides>,
+        two: LentView<'b, A, E, E::Strides>,
     ) -> (ViewMutRepr<'b, A>, ViewMutRepr<'b, A>, Self::Answer)
         requires one { CanBeSeen D.lengths D.Strides.strides_of one }
-        requires two { CanBeSeen D.lengths D.Strides.strides_of two }
-        requires pre { pre self (lent_view D.lengths D.Strides.strides_of one) (lent_view D.lengths D.Strides.strides_of two) }
+        requires two { CanBeSeen E.lengths E.Strides.strides_of two }
+        requires pre { pre self (lent_view D.lengths D.Strides.strides_of one) (lent_view E.lengths E.Strides.strides_of two) }
         ensures one_borrow { view_borrow result.0 ≡ lent_borrow one.entry }
         ensures two_borrow { view_borrow result.1 ≡ lent_borrow two.entry }
-        ensures done { post self (lent_view D.lengths D.Strides.strides_of one.entry) (lent_view D.lengths D.Strides.strides_of two.entry) (view_left D.lengths D.Strides.strides_of one.entry result.0) (view_left D.lengths D.Strides.strides_of two.entry result.1) result.2 };
+        ensures done { post self (lent_view D.lengths D.Strides.strides_of one.entry) (lent_view E.lengths E.Strides.strides_of two.entry) (view_left D.lengths D.Strides.strides_of one.entry result.0) (view_left E.lengths E.Strides.strides_of two.entry result.1) result.2 };
 }
 
 /// Runs the task on the elements of two regions, each seen by a layout.
-fn run_pair<'b, A, D: Dimension, K: PairTask<A, D>>(
+fn run_pair<'b, A, D: Dimension, E: Dimension, K: PairTask<A, D, E>>(
     part: Region<'b, A>,
     one: Layout<D, D::Strides>,
     rest: Region<'b, A>,
-    two: Layout<D, D::Strides>,
+    two: Layout<E, E::Strides>,
     task: K,
 ) -> (Region<'b, A>, Region<'b, A>, K::Answer)
     requires one { LiesSoundly (region_stored part) one.first (D.lengths one.dim) (D.Strides.strides_of one.strides) }
-    requires two { LiesSoundly (region_stored rest) two.first (D.lengths two.dim) (D.Strides.strides_of two.strides) }
-    requires pre { K.pre task (laid (region_stored part) one.first (D.lengths one.dim) (D.Strides.strides_of one.strides)) (laid (region_stored rest) two.first (D.lengths two.dim) (D.Strides.strides_of two.strides)) }
+    requires two { LiesSoundly (region_stored rest) two.first (E.lengths two.dim) (E.Strides.strides_of two.strides) }
+    requires pre { K.pre task (laid (region_stored part) one.first (D.lengths one.dim) (D.Strides.strides_of one.strides)) (laid (region_stored rest) two.first (E.lengths two.dim) (E.Strides.strides_of two.strides)) }
     ensures part { borrow_of result.0 ≡ borrow_of part.entry }
     ensures rest { borrow_of result.1 ≡ borrow_of rest.entry }
-    ensures done { K.post task (laid (region_stored part.entry) one.first (D.lengths one.dim) (D.Strides.strides_of one.strides)) (laid (region_stored rest.entry) two.first (D.lengths two.dim) (D.Strides.strides_of two.strides)) (laid (region_stored result.0) one.first (D.lengths one.dim) (D.Strides.strides_of one.strides)) (laid (region_stored result.1) two.first (D.lengths two.dim) (D.Strides.strides_of two.strides)) result.2 }
+    ensures done { K.post task (laid (region_stored part.entry) one.first (D.lengths one.dim) (D.Strides.strides_of one.strides)) (laid (region_stored rest.entry) two.first (E.lengths two.dim) (E.Strides.strides_of two.strides)) (laid (region_stored result.0) one.first (D.lengths one.dim) (D.Strides.strides_of one.strides)) (laid (region_stored result.1) two.first (E.lengths two.dim) (E.Strides.strides_of two.strides)) result.2 }
 {
     let first = LentView {
         region: part,
@@ -74,18 +74,18 @@ fn run_pair<'b, A, D: Dimension, K: PairTask<A, D>>(
 }
 
 /// Runs the task on two views of a region, by layouts that share no place.
-fn split_laid<'b, A, D: Dimension, K: PairTask<A, D>>(
+fn split_laid<'b, A, D: Dimension, E: Dimension, K: PairTask<A, D, E>>(
     region: Region<'b, A>,
     one: Layout<D, D::Strides>,
-    two: Layout<D, D::Strides>,
+    two: Layout<E, E::Strides>,
     task: K,
 ) -> (Region<'b, A>, K::Answer)
     requires one { LiesSoundly (region_stored region) one.first (D.lengths one.dim) (D.Strides.strides_of one.strides) }
-    requires two { LiesSoundly (region_stored region) two.first (D.lengths two.dim) (D.Strides.strides_of two.strides) }
-    requires apart { ShareNoPlace one.first (D.lengths one.dim) (D.Strides.strides_of one.strides) two.first (D.lengths two.dim) (D.Strides.strides_of two.strides) }
-    requires callable { (m n : ℕ → Option A) → AgreesOnNamed (region_stored region) one.first (D.lengths one.dim) (D.Strides.strides_of one.strides) m → AgreesOnNamed (region_stored region) two.first (D.lengths two.dim) (D.Strides.strides_of two.strides) n → K.pre task (laid m one.first (D.lengths one.dim) (D.Strides.strides_of one.strides)) (laid n two.first (D.lengths two.dim) (D.Strides.strides_of two.strides)) }
+    requires two { LiesSoundly (region_stored region) two.first (E.lengths two.dim) (E.Strides.strides_of two.strides) }
+    requires apart { ShareNoPlace one.first (D.lengths one.dim) (D.Strides.strides_of one.strides) two.first (E.lengths two.dim) (E.Strides.strides_of two.strides) }
+    requires callable { (m n : ℕ → Option A) → AgreesOnNamed (region_stored region) one.first (D.lengths one.dim) (D.Strides.strides_of one.strides) m → AgreesOnNamed (region_stored region) two.first (E.lengths two.dim) (E.Strides.strides_of two.strides) n → K.pre task (laid m one.first (D.lengths one.dim) (D.Strides.strides_of one.strides)) (laid n two.first (E.lengths two.dim) (E.Strides.strides_of two.strides)) }
     ensures borrow { borrow_of result.0 ≡ borrow_of region.entry }
-    ensures done { (m : ℕ → Option A) × (n : ℕ → Option A) × (s : ℕ → Option A) × (t : ℕ → Option A) × AgreesOnNamed (region_stored region.entry) one.first (D.lengths one.dim) (D.Strides.strides_of one.strides) m × AgreesOnNamed (region_stored region.entry) two.first (D.lengths two.dim) (D.Strides.strides_of two.strides) n × K.post task (laid m one.first (D.lengths one.dim) (D.Strides.strides_of one.strides)) (laid n two.first (D.lengths two.dim) (D.Strides.strides_of two.strides)) (laid s one.first (D.lengths one.dim) (D.Strides.strides_of one.strides)) (laid t two.first (D.lengths two.dim) (D.Strides.strides_of two.strides)) result.1 × AgreesOnNamed (region_stored result.0) one.first (D.lengths one.dim) (D.Strides.strides_of one.strides) s × AgreesOnNamed (region_stored result.0) two.first (D.lengths two.dim) (D.Strides.strides_of two.strides) t }
+    ensures done { (m : ℕ → Option A) × (n : ℕ → Option A) × (s : ℕ → Option A) × (t : ℕ → Option A) × AgreesOnNamed (region_stored region.entry) one.first (D.lengths one.dim) (D.Strides.strides_of one.strides) m × AgreesOnNamed (region_stored region.entry) two.first (E.lengths two.dim) (E.Strides.strides_of two.strides) n × K.post task (laid m one.first (D.lengths one.dim) (D.Strides.strides_of one.strides)) (laid n two.first (E.lengths two.dim) (E.Strides.strides_of two.strides)) (laid s one.first (D.lengths one.dim) (D.Strides.strides_of one.strides)) (laid t two.first (E.lengths two.dim) (E.Strides.strides_of two.strides)) result.1 × AgreesOnNamed (region_stored result.0) one.first (D.lengths one.dim) (D.Strides.strides_of one.strides) s × AgreesOnNamed (region_stored result.0) two.first (E.lengths two.dim) (E.Strides.strides_of two.strides) t }
 {
     let mut region = region;
     let lent = one.copied();
@@ -95,35 +95,79 @@ fn split_laid<'b, A, D: Dimension, K: PairTask<A, D>>(
         one.strides.slice(),
         move |part, rest|
             requires one { LiesSoundly (region_stored part) lent.first (D.lengths lent.dim) (D.Strides.strides_of lent.strides) }
-            requires two { LiesSoundly (region_stored rest) two.first (D.lengths two.dim) (D.Strides.strides_of two.strides) }
-            requires pre { K.pre task (laid (region_stored part) lent.first (D.lengths lent.dim) (D.Strides.strides_of lent.strides)) (laid (region_stored rest) two.first (D.lengths two.dim) (D.Strides.strides_of two.strides)) }
+            requires two { LiesSoundly (region_stored rest) two.first (E.lengths two.dim) (E.Strides.strides_of two.strides) }
+            requires pre { K.pre task (laid (region_stored part) lent.first (D.lengths lent.dim) (D.Strides.strides_of lent.strides)) (laid (region_stored rest) two.first (E.lengths two.dim) (E.Strides.strides_of two.strides)) }
             ensures part { borrow_of result.0 ≡ borrow_of part.entry }
             ensures rest { borrow_of result.1 ≡ borrow_of rest.entry }
-            ensures done { K.post task (laid (region_stored part.entry) lent.first (D.lengths lent.dim) (D.Strides.strides_of lent.strides)) (laid (region_stored rest.entry) two.first (D.lengths two.dim) (D.Strides.strides_of two.strides)) (laid (region_stored result.0) lent.first (D.lengths lent.dim) (D.Strides.strides_of lent.strides)) (laid (region_stored result.1) two.first (D.lengths two.dim) (D.Strides.strides_of two.strides)) result.2 }
+            ensures done { K.post task (laid (region_stored part.entry) lent.first (D.lengths lent.dim) (D.Strides.strides_of lent.strides)) (laid (region_stored rest.entry) two.first (E.lengths two.dim) (E.Strides.strides_of two.strides)) (laid (region_stored result.0) lent.first (D.lengths lent.dim) (D.Strides.strides_of lent.strides)) (laid (region_stored result.1) two.first (E.lengths two.dim) (E.Strides.strides_of two.strides)) result.2 }
         { run_pair(part, lent, rest, two, task) },
     );
     (region, answer)
 }
 
-/// Runs the task on two views of a storage, by layouts that share no place and whose places are among those of a third.
-fn pair_laid<S: DataMut, D: Dimension, K: PairTask<S::Elem, D>>(
-    storage: &mut S,
-    whole: Layout<D, D::Strides>,
+/// Runs the task on two views of a region, by layouts that share no place. No other place changes.
+fn either_laid<'b, A, D: Dimension, E: Dimension, K: PairTask<A, D, E>>(
+    region: Region<'b, A>,
     one: Layout<D, D::Strides>,
-    two: Layout<D, D::Strides>,
+    two: Layout<E, E::Strides>,
+    task: K,
+) -> (Region<'b, A>, K::Answer)
+    requires one { LiesSoundly (region_stored region) one.first (D.lengths one.dim) (D.Strides.strides_of one.strides) }
+    requires two { LiesSoundly (region_stored region) two.first (E.lengths two.dim) (E.Strides.strides_of two.strides) }
+    requires apart { ShareNoPlace one.first (D.lengths one.dim) (D.Strides.strides_of one.strides) two.first (E.lengths two.dim) (E.Strides.strides_of two.strides) }
+    requires callable { (m n : ℕ → Option A) → AgreesOnNamed (region_stored region) one.first (D.lengths one.dim) (D.Strides.strides_of one.strides) m → AgreesOnNamed (region_stored region) two.first (E.lengths two.dim) (E.Strides.strides_of two.strides) n → K.pre task (laid m one.first (D.lengths one.dim) (D.Strides.strides_of one.strides)) (laid n two.first (E.lengths two.dim) (E.Strides.strides_of two.strides)) }
+    ensures borrow { borrow_of result.0 ≡ borrow_of region.entry }
+    ensures done { (m : ℕ → Option A) × (n : ℕ → Option A) × (s : ℕ → Option A) × (t : ℕ → Option A) × AgreesOnNamed (region_stored region.entry) one.first (D.lengths one.dim) (D.Strides.strides_of one.strides) m × AgreesOnNamed (region_stored region.entry) two.first (E.lengths two.dim) (E.Strides.strides_of two.strides) n × K.post task (laid m one.first (D.lengths one.dim) (D.Strides.strides_of one.strides)) (laid n two.first (E.lengths two.dim) (E.Strides.strides_of two.strides)) (laid s one.first (D.lengths one.dim) (D.Strides.strides_of one.strides)) (laid t two.first (E.lengths two.dim) (E.Strides.strides_of two.strides)) result.1 × AgreesOnNamed (region_stored result.0) one.first (D.lengths one.dim) (D.Strides.strides_of one.strides) s × AgreesOnNamed (region_stored result.0) two.first (E.lengths two.dim) (E.Strides.strides_of two.strides) t }
+    ensures kept { (p : ℕ) → names one.first (D.lengths one.dim) (D.Strides.strides_of one.strides) p ≡ false → names two.first (E.lengths two.dim) (E.Strides.strides_of two.strides) p ≡ false → region_stored result.0 p ≡ region_stored region.entry p }
+{
+    let mut region = region;
+    let first = one.copied();
+    let second = two.copied();
+    let answer = region.with_either(
+        first.first,
+        first.dim.slice(),
+        first.strides.slice(),
+        second.first,
+        second.dim.slice(),
+        second.strides.slice(),
+        move |both|
+            requires one { LiesSoundly (region_stored both) one.first (D.lengths one.dim) (D.Strides.strides_of one.strides) }
+            requires two { LiesSoundly (region_stored both) two.first (E.lengths two.dim) (E.Strides.strides_of two.strides) }
+            requires apart { ShareNoPlace one.first (D.lengths one.dim) (D.Strides.strides_of one.strides) two.first (E.lengths two.dim) (E.Strides.strides_of two.strides) }
+            requires callable { (m n : ℕ → Option A) → AgreesOnNamed (region_stored both) one.first (D.lengths one.dim) (D.Strides.strides_of one.strides) m → AgreesOnNamed (region_stored both) two.first (E.lengths two.dim) (E.Strides.strides_of two.strides) n → K.pre task (laid m one.first (D.lengths one.dim) (D.Strides.strides_of one.strides)) (laid n two.first (E.lengths two.dim) (E.Strides.strides_of two.strides)) }
+            ensures borrow { borrow_of result.0 ≡ borrow_of both.entry }
+            ensures done { (m : ℕ → Option A) × (n : ℕ → Option A) × (s : ℕ → Option A) × (t : ℕ → Option A) × AgreesOnNamed (region_stored both.entry) one.first (D.lengths one.dim) (D.Strides.strides_of one.strides) m × AgreesOnNamed (region_stored both.entry) two.first (E.lengths two.dim) (E.Strides.strides_of two.strides) n × K.post task (laid m one.first (D.lengths one.dim) (D.Strides.strides_of one.strides)) (laid n two.first (E.lengths two.dim) (E.Strides.strides_of two.strides)) (laid s one.first (D.lengths one.dim) (D.Strides.strides_of one.strides)) (laid t two.first (E.lengths two.dim) (E.Strides.strides_of two.strides)) result.1 × AgreesOnNamed (region_stored result.0) one.first (D.lengths one.dim) (D.Strides.strides_of one.strides) s × AgreesOnNamed (region_stored result.0) two.first (E.lengths two.dim) (E.Strides.strides_of two.strides) t }
+        { split_laid(both, one, two, task) },
+    );
+    (region, answer)
+}
+
+/// Runs the task on two views of a storage, by layouts that share no place and whose places are among those of a third.
+pub(crate) fn pair_laid<
+    S: DataMut,
+    W: Dimension,
+    D: Dimension,
+    E: Dimension,
+    K: PairTask<S::Elem, D, E>,
+>(
+    storage: &mut S,
+    whole: Layout<W, W::Strides>,
+    one: Layout<D, D::Strides>,
+    two: Layout<E, E::Strides>,
     task: K,
 ) -> K::Answer
-    requires whole { HoldsAll (S.stored storage.old) whole.first (D.lengths whole.dim) (D.Strides.strides_of whole.strides) }
+    requires whole { HoldsAll (S.stored storage.old) whole.first (W.lengths whole.dim) (W.Strides.strides_of whole.strides) }
     requires one { LiesSoundly (S.stored storage.old) one.first (D.lengths one.dim) (D.Strides.strides_of one.strides) }
-    requires two { LiesSoundly (S.stored storage.old) two.first (D.lengths two.dim) (D.Strides.strides_of two.strides) }
-    requires one_within { (p : ℕ) → names one.first (D.lengths one.dim) (D.Strides.strides_of one.strides) p ≡ true → names whole.first (D.lengths whole.dim) (D.Strides.strides_of whole.strides) p ≡ true }
-    requires two_within { (p : ℕ) → names two.first (D.lengths two.dim) (D.Strides.strides_of two.strides) p ≡ true → names whole.first (D.lengths whole.dim) (D.Strides.strides_of whole.strides) p ≡ true }
-    requires apart { ShareNoPlace one.first (D.lengths one.dim) (D.Strides.strides_of one.strides) two.first (D.lengths two.dim) (D.Strides.strides_of two.strides) }
-    requires callable { (m n : ℕ → Option S.Elem) → AgreesOnNamed (S.stored storage.old) one.first (D.lengths one.dim) (D.Strides.strides_of one.strides) m → AgreesOnNamed (S.stored storage.old) two.first (D.lengths two.dim) (D.Strides.strides_of two.strides) n → K.pre task (laid m one.first (D.lengths one.dim) (D.Strides.strides_of one.strides)) (laid n two.first (D.lengths two.dim) (D.Strides.strides_of two.strides)) }
+    requires two { LiesSoundly (S.stored storage.old) two.first (E.lengths two.dim) (E.Strides.strides_of two.strides) }
+    requires one_within { (p : ℕ) → names one.first (D.lengths one.dim) (D.Strides.strides_of one.strides) p ≡ true → names whole.first (W.lengths whole.dim) (W.Strides.strides_of whole.strides) p ≡ true }
+    requires two_within { (p : ℕ) → names two.first (E.lengths two.dim) (E.Strides.strides_of two.strides) p ≡ true → names whole.first (W.lengths whole.dim) (W.Strides.strides_of whole.strides) p ≡ true }
+    requires apart { ShareNoPlace one.first (D.lengths one.dim) (D.Strides.strides_of one.strides) two.first (E.lengths two.dim) (E.Strides.strides_of two.strides) }
+    requires callable { (m n : ℕ → Option S.Elem) → AgreesOnNamed (S.stored storage.old) one.first (D.lengths one.dim) (D.Strides.strides_of one.strides) m → AgreesOnNamed (S.stored storage.old) two.first (E.lengths two.dim) (E.Strides.strides_of two.strides) n → K.pre task (laid m one.first (D.lengths one.dim) (D.Strides.strides_of one.strides)) (laid n two.first (E.lengths two.dim) (E.Strides.strides_of two.strides)) }
     ensures there { (p : ℕ) → is_some (S.stored storage.new p) ≡ is_some (S.stored storage.old p) }
     ensures borrow { S.borrow storage.new ≡ S.borrow storage.old }
-    ensures others { (p : ℕ) → names whole.first (D.lengths whole.dim) (D.Strides.strides_of whole.strides) p ≡ false → S.stored storage.new p ≡ S.stored storage.old p }
-    ensures done { (m : ℕ → Option S.Elem) × (n : ℕ → Option S.Elem) × (s : ℕ → Option S.Elem) × (t : ℕ → Option S.Elem) × AgreesOnNamed (S.stored storage.old) one.first (D.lengths one.dim) (D.Strides.strides_of one.strides) m × AgreesOnNamed (S.stored storage.old) two.first (D.lengths two.dim) (D.Strides.strides_of two.strides) n × K.post task (laid m one.first (D.lengths one.dim) (D.Strides.strides_of one.strides)) (laid n two.first (D.lengths two.dim) (D.Strides.strides_of two.strides)) (laid s one.first (D.lengths one.dim) (D.Strides.strides_of one.strides)) (laid t two.first (D.lengths two.dim) (D.Strides.strides_of two.strides)) result × AgreesOnNamed (S.stored storage.new) one.first (D.lengths one.dim) (D.Strides.strides_of one.strides) s × AgreesOnNamed (S.stored storage.new) two.first (D.lengths two.dim) (D.Strides.strides_of two.strides) t }
+    ensures others { (p : ℕ) → names whole.first (W.lengths whole.dim) (W.Strides.strides_of whole.strides) p ≡ false → S.stored storage.new p ≡ S.stored storage.old p }
+    ensures kept { (p : ℕ) → names one.first (D.lengths one.dim) (D.Strides.strides_of one.strides) p ≡ false → names two.first (E.lengths two.dim) (E.Strides.strides_of two.strides) p ≡ false → S.stored storage.new p ≡ S.stored storage.old p }
+    ensures done { (m : ℕ → Option S.Elem) × (n : ℕ → Option S.Elem) × (s : ℕ → Option S.Elem) × (t : ℕ → Option S.Elem) × AgreesOnNamed (S.stored storage.old) one.first (D.lengths one.dim) (D.Strides.strides_of one.strides) m × AgreesOnNamed (S.stored storage.old) two.first (E.lengths two.dim) (E.Strides.strides_of two.strides) n × K.post task (laid m one.first (D.lengths one.dim) (D.Strides.strides_of one.strides)) (laid n two.first (E.lengths two.dim) (E.Strides.strides_of two.strides)) (laid s one.first (D.lengths one.dim) (D.Strides.strides_of one.strides)) (laid t two.first (E.lengths two.dim) (E.Strides.strides_of two.strides)) result × AgreesOnNamed (S.stored storage.new) one.first (D.lengths one.dim) (D.Strides.strides_of one.strides) s × AgreesOnNamed (S.stored storage.new) two.first (E.lengths two.dim) (E.Strides.strides_of two.strides) t }
 {
     storage.with_part(
         whole.first,
@@ -131,12 +175,13 @@ fn pair_laid<S: DataMut, D: Dimension, K: PairTask<S::Elem, D>>(
         whole.strides.slice(),
         move |region|
             requires one { LiesSoundly (region_stored region) one.first (D.lengths one.dim) (D.Strides.strides_of one.strides) }
-            requires two { LiesSoundly (region_stored region) two.first (D.lengths two.dim) (D.Strides.strides_of two.strides) }
-            requires apart { ShareNoPlace one.first (D.lengths one.dim) (D.Strides.strides_of one.strides) two.first (D.lengths two.dim) (D.Strides.strides_of two.strides) }
-            requires callable { (m n : ℕ → Option S.Elem) → AgreesOnNamed (region_stored region) one.first (D.lengths one.dim) (D.Strides.strides_of one.strides) m → AgreesOnNamed (region_stored region) two.first (D.lengths two.dim) (D.Strides.strides_of two.strides) n → K.pre task (laid m one.first (D.lengths one.dim) (D.Strides.strides_of one.strides)) (laid n two.first (D.lengths two.dim) (D.Strides.strides_of two.strides)) }
+            requires two { LiesSoundly (region_stored region) two.first (E.lengths two.dim) (E.Strides.strides_of two.strides) }
+            requires apart { ShareNoPlace one.first (D.lengths one.dim) (D.Strides.strides_of one.strides) two.first (E.lengths two.dim) (E.Strides.strides_of two.strides) }
+            requires callable { (m n : ℕ → Option S.Elem) → AgreesOnNamed (region_stored region) one.first (D.lengths one.dim) (D.Strides.strides_of one.strides) m → AgreesOnNamed (region_stored region) two.first (E.lengths two.dim) (E.Strides.strides_of two.strides) n → K.pre task (laid m one.first (D.lengths one.dim) (D.Strides.strides_of one.strides)) (laid n two.first (E.lengths two.dim) (E.Strides.strides_of two.strides)) }
             ensures borrow { borrow_of result.0 ≡ borrow_of region.entry }
-            ensures done { (m : ℕ → Option S.Elem) × (n : ℕ → Option S.Elem) × (s : ℕ → Option S.Elem) × (t : ℕ → Option S.Elem) × AgreesOnNamed (region_stored region.entry) one.first (D.lengths one.dim) (D.Strides.strides_of one.strides) m × AgreesOnNamed (region_stored region.entry) two.first (D.lengths two.dim) (D.Strides.strides_of two.strides) n × K.post task (laid m one.first (D.lengths one.dim) (D.Strides.strides_of one.strides)) (laid n two.first (D.lengths two.dim) (D.Strides.strides_of two.strides)) (laid s one.first (D.lengths one.dim) (D.Strides.strides_of one.strides)) (laid t two.first (D.lengths two.dim) (D.Strides.strides_of two.strides)) result.1 × AgreesOnNamed (region_stored result.0) one.first (D.lengths one.dim) (D.Strides.strides_of one.strides) s × AgreesOnNamed (region_stored result.0) two.first (D.lengths two.dim) (D.Strides.strides_of two.strides) t }
-        { split_laid(region, one, two, task) },
+            ensures done { (m : ℕ → Option S.Elem) × (n : ℕ → Option S.Elem) × (s : ℕ → Option S.Elem) × (t : ℕ → Option S.Elem) × AgreesOnNamed (region_stored region.entry) one.first (D.lengths one.dim) (D.Strides.strides_of one.strides) m × AgreesOnNamed (region_stored region.entry) two.first (E.lengths two.dim) (E.Strides.strides_of two.strides) n × K.post task (laid m one.first (D.lengths one.dim) (D.Strides.strides_of one.strides)) (laid n two.first (E.lengths two.dim) (E.Strides.strides_of two.strides)) (laid s one.first (D.lengths one.dim) (D.Strides.strides_of one.strides)) (laid t two.first (E.lengths two.dim) (E.Strides.strides_of two.strides)) result.1 × AgreesOnNamed (region_stored result.0) one.first (D.lengths one.dim) (D.Strides.strides_of one.strides) s × AgreesOnNamed (region_stored result.0) two.first (E.lengths two.dim) (E.Strides.strides_of two.strides) t }
+            ensures kept { (p : ℕ) → names one.first (D.lengths one.dim) (D.Strides.strides_of one.strides) p ≡ false → names two.first (E.lengths two.dim) (E.Strides.strides_of two.strides) p ≡ false → region_stored result.0 p ≡ region_stored region.entry p }
+        { either_laid(region, one, two, task) },
     )
 }
 
@@ -147,7 +192,7 @@ impl<S: DataMut, D: Dimension> ArrayBase<S, D> {
     /// Hands the task mutable views of the two parts of an axis, for the length of the call: the coordinates below this
     /// one, and those from it on. Each part of the array then shows what its view does. The axis is below `ndim`, and the
     /// coordinate at most its length. This project's own, beside ndarray's `split_at` of mutable views.
-    pub fn with_split_at<K: PairTask<S::Elem, D>>(
+    pub fn with_split_at<K: PairTask<S::Elem, D, D>>(
         &mut self,
         axis: Axis,
         index: usize,

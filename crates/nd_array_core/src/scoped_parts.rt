@@ -11,7 +11,7 @@ ghost use Rattle.nd_array_core.specs.Writes.{OthersStay};
 use crate::array::ArrayBase;
 use crate::data::DataMut;
 use crate::scoped::{ViewTask, with_laid};
-use nd_shape_and_slice::{Axis, Dimension, Ix1, Slice, SliceArg};
+use nd_shape_and_slice::{Axis, Dimension, Ix1, RemoveAxis, Slice, SliceArg};
 
 #[tactic(auto, unfolding(crate::specs::Meaning::shape_of, crate::specs::Meaning::element_at, crate::specs::Meaning::storage_of, crate::specs::Meaning::place_at))]
 impl<S: DataMut, D: Dimension> ArrayBase<S, D> {
@@ -35,6 +35,77 @@ impl<S: DataMut, D: Dimension> ArrayBase<S, D> {
         ensures done { (v : Placed S.Elem) × (w : Placed S.Elem) × IsSeenThrough (shape_after (shape_of self.old) (I.elements_of info)) (index_before (shape_of self.old) (I.elements_of info)) (place_at self.old) (element_at self.old) v × IsSeenThrough (shape_after (shape_of self.old) (I.elements_of info)) (index_before (shape_of self.old) (I.elements_of info)) (place_at self.new) (element_at self.new) w × K.post task v w result }
     {
         let layout = self.layout.sliced::<I::OutDim>(info.elements());
+        with_laid(&mut self.storage, layout, task)
+    }
+
+    /// Hands the task a mutable view of what the slice names of one axis, for the length of the call. The array then shows
+    /// there what the view does, and elsewhere what it did. The axis is below `ndim`, and the slice fits it
+    /// (`slice_fits`). This project's own, beside ndarray's `slice_axis_mut`.
+    pub fn with_slice_axis_mut<K: ViewTask<S::Elem, D>>(
+        &mut self,
+        axis: Axis,
+        slice: Slice,
+        task: K,
+    ) -> K::Answer
+        requires axis { axis.0 < length (shape_of self.old) }
+        requires fits { fits_axis (slice_index (shape_of self.old) axis.0) slice ≡ true }
+        requires callable { (v : Placed S.Elem) → IsSeenThrough (sliced_shape (shape_of self.old) axis.0 slice) (sliced_index (shape_of self.old) axis.0 slice) (place_at self.old) (element_at self.old) v → K.pre task v }
+        ensures shape { shape_of self.new ≡ shape_of self.old }
+        ensures places { (i : List ℕ) → place_at self.new i ≡ place_at self.old i }
+        ensures borrow { S.borrow (storage_of self.new) ≡ S.borrow (storage_of self.old) }
+        ensures others { OthersStay (place_at self.old) (S.stored (storage_of self.old)) (S.stored (storage_of self.new)) }
+        ensures kept { OthersKeep (sliced_shape (shape_of self.old) axis.0 slice) (sliced_index (shape_of self.old) axis.0 slice) (element_at self.old) (element_at self.new) }
+        ensures done { (v : Placed S.Elem) × (w : Placed S.Elem) × IsSeenThrough (sliced_shape (shape_of self.old) axis.0 slice) (sliced_index (shape_of self.old) axis.0 slice) (place_at self.old) (element_at self.old) v × IsSeenThrough (sliced_shape (shape_of self.old) axis.0 slice) (sliced_index (shape_of self.old) axis.0 slice) (place_at self.new) (element_at self.new) w × K.post task v w result }
+    {
+        let mut layout = self.layout.copied();
+        layout.slice_axis(axis.0, slice);
+        with_laid(&mut self.storage, layout, task)
+    }
+
+    /// Hands the task a mutable view of the elements whose coordinates are all the same, for the length of the call; of an
+    /// array without axes, of its element. The array then shows there what the view does, and elsewhere what it did.
+    /// This project's own, beside ndarray's `diag_mut`.
+    pub fn with_diag_mut<K: ViewTask<S::Elem, Ix1>>(&mut self, task: K) -> K::Answer
+        requires callable { (v : Placed S.Elem) → IsSeenThrough (diagonal_length (shape_of self.old) ∷ []) (diagonal_index (shape_of self.old)) (place_at self.old) (element_at self.old) v → K.pre task v }
+        ensures shape { shape_of self.new ≡ shape_of self.old }
+        ensures places { (i : List ℕ) → place_at self.new i ≡ place_at self.old i }
+        ensures borrow { S.borrow (storage_of self.new) ≡ S.borrow (storage_of self.old) }
+        ensures others { OthersStay (place_at self.old) (S.stored (storage_of self.old)) (S.stored (storage_of self.new)) }
+        ensures kept { OthersKeep (diagonal_length (shape_of self.old) ∷ []) (diagonal_index (shape_of self.old)) (element_at self.old) (element_at self.new) }
+        ensures done { (v : Placed S.Elem) × (w : Placed S.Elem) × IsSeenThrough (diagonal_length (shape_of self.old) ∷ []) (diagonal_index (shape_of self.old)) (place_at self.old) (element_at self.old) v × IsSeenThrough (diagonal_length (shape_of self.old) ∷ []) (diagonal_index (shape_of self.old)) (place_at self.new) (element_at self.new) w × K.post task v w result }
+    {
+        let layout = self.layout.diagonal();
+        with_laid(&mut self.storage, layout, task)
+    }
+}
+
+#[tactic(auto, unfolding(crate::specs::Meaning::shape_of, crate::specs::Meaning::element_at, crate::specs::Meaning::storage_of, crate::specs::Meaning::place_at))]
+impl<S: DataMut, D: RemoveAxis> ArrayBase<S, D>
+where
+    D::Smaller: Dimension,
+{
+    ghost use Rattle.nd_array_core.specs.Meaning.{shape_of, element_at, storage_of, place_at};
+
+    /// Hands the task a mutable view at one coordinate of an axis, without the axis, for the length of the call. The array
+    /// then shows there what the view does, and elsewhere what it did. The axis is below `ndim`, and the coordinate
+    /// below its length. This project's own, beside ndarray's `index_axis_mut`.
+    pub fn with_index_axis_mut<K: ViewTask<S::Elem, D::Smaller>>(
+        &mut self,
+        axis: Axis,
+        index: usize,
+        task: K,
+    ) -> K::Answer
+        requires axis { axis.0 < length (shape_of self.old) }
+        requires within { index < slice_index (shape_of self.old) axis.0 }
+        requires callable { (v : Placed S.Elem) → IsSeenThrough (indexed_shape (shape_of self.old) axis.0) (indexed_index axis.0 index) (place_at self.old) (element_at self.old) v → K.pre task v }
+        ensures shape { shape_of self.new ≡ shape_of self.old }
+        ensures places { (i : List ℕ) → place_at self.new i ≡ place_at self.old i }
+        ensures borrow { S.borrow (storage_of self.new) ≡ S.borrow (storage_of self.old) }
+        ensures others { OthersStay (place_at self.old) (S.stored (storage_of self.old)) (S.stored (storage_of self.new)) }
+        ensures kept { OthersKeep (indexed_shape (shape_of self.old) axis.0) (indexed_index axis.0 index) (element_at self.old) (element_at self.new) }
+        ensures done { (v : Placed S.Elem) × (w : Placed S.Elem) × IsSeenThrough (indexed_shape (shape_of self.old) axis.0) (indexed_index axis.0 index) (place_at self.old) (element_at self.old) v × IsSeenThrough (indexed_shape (shape_of self.old) axis.0) (indexed_index axis.0 index) (place_at self.new) (element_at self.new) w × K.post task v w result }
+    {
+        let layout = self.layout.index_axis(axis.0, index);
         with_laid(&mut self.storage, layout, task)
     }
 }

@@ -7,6 +7,7 @@ ghost use Rattle.nd_region.specs.Places.{names_not, ShareNoPlace as LayoutsShare
 ghost use Rattle.nd_region.specs.Region.{stored as region_stored};
 ghost use Rattle.nd_array_core.specs.Maps.{lower_shape, upper_shape, upper_index};
 ghost use Rattle.nd_array_core.specs.Meaning.{shape_of, element_at, place_at, layout_strides, inside};
+ghost use Rattle.nd_array_core.specs.MultiSlice.{ThreeShareNoPlace, FourShareNoPlace};
 ghost use Rattle.nd_array_core.specs.Parts.{IsHeld, IsSeenUnder};
 ghost use Rattle.nd_array_core.specs.Places.{kept_at, ShareNoPlace};
 ghost use Rattle.nd_array_core.specs.Steps.{IsStep};
@@ -87,11 +88,47 @@ impl<'a, A> ViewMutRepr<'a, A> {
         ensures first { IsSeenUnder (region_stored self.entry.region) first.first (D.lengths first.dim) (D.Strides.strides_of first.strides) (shape_of result.0) (layout_strides result.0) (element_at result.0) (place_at result.0) }
         ensures second { IsSeenUnder (region_stored self.entry.region) second.first (E.lengths second.dim) (E.Strides.strides_of second.strides) (shape_of result.1) (layout_strides result.1) (element_at result.1) (place_at result.1) }
         ensures third { IsSeenUnder (region_stored self.entry.region) third.first (F.lengths third.dim) (F.Strides.strides_of third.strides) (shape_of result.2) (layout_strides result.2) (element_at result.2) (place_at result.2) }
+        ensures apart { ThreeShareNoPlace (place_at result.0) (place_at result.1) (place_at result.2) }
     {
         let mut storage = self;
         let part = storage.part(first);
         let (second, third) = storage.two_parts(second, third);
         (part, second, third)
+    }
+
+    /// The elements that four layouts name, no two of which share a place.
+    pub(crate) fn four_parts<D: Dimension, E: Dimension, F: Dimension, G: Dimension>(
+        self,
+        first: Layout<D, D::Strides>,
+        second: Layout<E, E::Strides>,
+        third: Layout<F, F::Strides>,
+        fourth: Layout<G, G::Strides>,
+    ) -> (
+        ArrayViewMut<'a, A, D>,
+        ArrayViewMut<'a, A, E>,
+        ArrayViewMut<'a, A, F>,
+        ArrayViewMut<'a, A, G>,
+    )
+        requires first { IsHeld (region_stored self.region) first.first (D.lengths first.dim) (D.Strides.strides_of first.strides) }
+        requires second { IsHeld (region_stored self.region) second.first (E.lengths second.dim) (E.Strides.strides_of second.strides) }
+        requires third { IsHeld (region_stored self.region) third.first (F.lengths third.dim) (F.Strides.strides_of third.strides) }
+        requires fourth { IsHeld (region_stored self.region) fourth.first (G.lengths fourth.dim) (G.Strides.strides_of fourth.strides) }
+        requires first_second { LayoutsShareNone first.first (D.lengths first.dim) (D.Strides.strides_of first.strides) second.first (E.lengths second.dim) (E.Strides.strides_of second.strides) }
+        requires first_third { LayoutsShareNone first.first (D.lengths first.dim) (D.Strides.strides_of first.strides) third.first (F.lengths third.dim) (F.Strides.strides_of third.strides) }
+        requires first_fourth { LayoutsShareNone first.first (D.lengths first.dim) (D.Strides.strides_of first.strides) fourth.first (G.lengths fourth.dim) (G.Strides.strides_of fourth.strides) }
+        requires second_third { LayoutsShareNone second.first (E.lengths second.dim) (E.Strides.strides_of second.strides) third.first (F.lengths third.dim) (F.Strides.strides_of third.strides) }
+        requires second_fourth { LayoutsShareNone second.first (E.lengths second.dim) (E.Strides.strides_of second.strides) fourth.first (G.lengths fourth.dim) (G.Strides.strides_of fourth.strides) }
+        requires third_fourth { LayoutsShareNone third.first (F.lengths third.dim) (F.Strides.strides_of third.strides) fourth.first (G.lengths fourth.dim) (G.Strides.strides_of fourth.strides) }
+        ensures first { IsSeenUnder (region_stored self.entry.region) first.first (D.lengths first.dim) (D.Strides.strides_of first.strides) (shape_of result.0) (layout_strides result.0) (element_at result.0) (place_at result.0) }
+        ensures second { IsSeenUnder (region_stored self.entry.region) second.first (E.lengths second.dim) (E.Strides.strides_of second.strides) (shape_of result.1) (layout_strides result.1) (element_at result.1) (place_at result.1) }
+        ensures third { IsSeenUnder (region_stored self.entry.region) third.first (F.lengths third.dim) (F.Strides.strides_of third.strides) (shape_of result.2) (layout_strides result.2) (element_at result.2) (place_at result.2) }
+        ensures fourth { IsSeenUnder (region_stored self.entry.region) fourth.first (G.lengths fourth.dim) (G.Strides.strides_of fourth.strides) (shape_of result.3) (layout_strides result.3) (element_at result.3) (place_at result.3) }
+        ensures apart { FourShareNoPlace (place_at result.0) (place_at result.1) (place_at result.2) (place_at result.3) }
+    {
+        let mut storage = self;
+        let part = storage.part(first);
+        let (second, third, fourth) = storage.three_parts(second, third, fourth);
+        (part, second, third, fourth)
     }
 }
 

@@ -29,10 +29,10 @@ columns = Part (pos 0) None (pos 1) ∷ Part (pos 0) None (pos 2) ∷ []
 zero_below : (n : ℕ) → nat_le 0 n ≡ true
 zero_below n = grind (arith, nat_tests)
 
-start_is : (n : ℕ) → bound_on n (pos 0) ≡ Some 0
+pub start_is : (n : ℕ) → bound_on n (pos 0) ≡ Some 0
 start_is n = ap (λ t. if t then Some 0 else None) (zero_below n)
 
-low_is : (n k : ℕ) → low_of n (by_step k) ≡ 0
+pub low_is : (n k : ℕ) → low_of n (by_step k) ≡ 0
 low_is n k = ap (λ b. unwrap_or b 0) (start_is n)
 
 high_is : (n k : ℕ) → high_of n (by_step k) ≡ n
@@ -44,7 +44,7 @@ extent_is n k =
     let low = low_is n k in
     omega (arith, high, low)
 
-whole_length : (n : ℕ) → sliced_length n (by_step 1) ≡ n
+pub whole_length : (n : ℕ) → sliced_length n (by_step 1) ≡ n
 whole_length n = ap (λ h. quotient_up h 1) (extent_is n 1) ∙ omega arith
 
 half_length : (n : ℕ) → sliced_length n (by_step 2) ≡ (n + 1) / 2
@@ -62,10 +62,10 @@ columns_index n m i j =
     let second : low_of m (by_step 2) + j * 2 ≡ j * 2 = ap (λ l. l + j * 2) (low_is m 2) ∙ omega arith in
     (λ k. first k ∷ second k ∷ [])
 
-two_in : (n m i j : ℕ) → i < n → j < m → in_box (n ∷ m ∷ []) (i ∷ j ∷ []) ≡ true
+pub two_in : (n m i j : ℕ) → i < n → j < m → in_box (n ∷ m ∷ []) (i ∷ j ∷ []) ≡ true
 two_in n m i j h k = and_from (nat_lt i n) (nat_lt j m && true) (grind (arith, nat_tests, h)) (and_from (nat_lt j m) true (grind (arith, nat_tests, k)) refl)
 
-two_below : (n m i j : ℕ) → in_box (n ∷ m ∷ []) (i ∷ j ∷ []) ≡ true → (i < n) × (j < m)
+pub two_below : (n m i j : ℕ) → in_box (n ∷ m ∷ []) (i ∷ j ∷ []) ≡ true → (i < n) × (j < m)
 two_below n m i j h =
     let rows = and_parts (nat_lt i n) (nat_lt j m && true) h in
     let columns = and_parts (nat_lt j m) true rows.1 in

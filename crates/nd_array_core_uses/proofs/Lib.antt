@@ -1,2 +1,4 @@
 pub mod Halves
+pub mod Lines
 pub mod Outcomes
+pub mod Rows

@@ -5,15 +5,21 @@ ghost use Rattle.std.specs.Prelude.{◌≡◌, ◌<◌, ◌∷◌, [], ℕ, true
 ghost use Rattle.nd_shape_and_slice.specs.Slice.{fits_axis, sliced_shape, sliced_index};
 ghost use Rattle.nd_array_core.specs.Meaning.{shape_of, element_at, inside};
 
+mod border;
 mod broadcasts;
 mod columns;
+mod interleaved;
+mod lent_views;
 mod paint;
 mod strides;
 mod two_parts;
 mod writes;
 
+pub use border::{draw_border, fill_column, fill_row};
 pub use broadcasts::table_of;
 pub use columns::paint_every_second_column;
+pub use interleaved::{fill_slices, interleave_rows, try_fill_slices};
+pub use lent_views::{fill_again, fill_part, fill_view, paint_owned_columns, set_diagonal};
 use nd_array_core::{Array, ArrayBase, ArrayView, Data};
 use nd_shape_and_slice::{Axis, Dimension, Ix2, ShapeError, Slice, slice_fits};
 pub use paint::{Fill, fill_slice};

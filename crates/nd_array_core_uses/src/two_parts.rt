@@ -13,12 +13,12 @@ use nd_shape_and_slice::{Axis, Dimension, NoMemory};
 
 /// Fills two views, each with a value of its own.
 #[derive(Drop)]
-struct FillBoth<A: Drop> {
-    first: A,
-    second: A,
+pub(crate) struct FillBoth<A: Drop> {
+    pub(crate) first: A,
+    pub(crate) second: A,
 }
 
-impl<A: Clone + Drop, D: Dimension> PairTask<A, D> for FillBoth<A> {
+impl<A: Clone + Drop, D: Dimension, E: Dimension> PairTask<A, D, E> for FillBoth<A> {
     type Answer = Result<(), NoMemory>;
 
     ghost pre = { λ task _ _. ((copy : A) → A.is_clone task.first copy → copy ≡ task.first) × ((copy : A) → A.is_clone task.second copy → copy ≡ task.second) };
@@ -28,15 +28,15 @@ impl<A: Clone + Drop, D: Dimension> PairTask<A, D> for FillBoth<A> {
     fn run<'b>(
         self,
         one: LentView<'b, A, D, D::Strides>,
-        two: LentView<'b, A, D, D::Strides>,
+        two: LentView<'b, A, E, E::Strides>,
     ) -> (ViewMutRepr<'b, A>, ViewMutRepr<'b, A>, Result<(), NoMemory>)
         requires one { CanBeSeen D.lengths D.Strides.strides_of one }
-        requires two { CanBeSeen D.lengths D.Strides.strides_of two }
+        requires two { CanBeSeen E.lengths E.Strides.strides_of two }
         requires first { (copy : A) → A.is_clone self.first copy → copy ≡ self.first }
         requires second { (copy : A) → A.is_clone self.second copy → copy ≡ self.second }
         ensures one_borrow { view_borrow result.0 ≡ lent_borrow one.entry }
         ensures two_borrow { view_borrow result.1 ≡ lent_borrow two.entry }
-        ensures filled { OnOk result.2 (((i : List ℕ) → element_placed (view_left D.lengths D.Strides.strides_of one.entry result.0) i ≡ inside (lent_view D.lengths D.Strides.strides_of one.entry).shape i (Some self.first)) × ((i : List ℕ) → element_placed (view_left D.lengths D.Strides.strides_of two.entry result.1) i ≡ inside (lent_view D.lengths D.Strides.strides_of two.entry).shape i (Some self.second))) }
+        ensures filled { OnOk result.2 (((i : List ℕ) → element_placed (view_left D.lengths D.Strides.strides_of one.entry result.0) i ≡ inside (lent_view D.lengths D.Strides.strides_of one.entry).shape i (Some self.first)) × ((i : List ℕ) → element_placed (view_left E.lengths E.Strides.strides_of two.entry result.1) i ≡ inside (lent_view E.lengths E.Strides.strides_of two.entry).shape i (Some self.second))) }
     {
         let mut lower = one.into_view();
         let mut upper = two.into_view();

@@ -62,6 +62,10 @@ names first ns ss p = names_from (pos first) ns ss p
 abbrev pub names_not : ℕ → List ℕ → List ℤ → ℕ → Bool
 names_not first ns ss p = not (names first ns ss p)
 
+-- the place is one that the first of two layouts names, or the second
+abbrev pub names_either : ℕ → List ℕ → List ℤ → ℕ → List ℕ → List ℤ → ℕ → Bool
+names_either first ns ss first' ns' ss' p = names first ns ss p || names first' ns' ss' p
+
 -- each number below n passes
 abbrev pub all_below : ℕ → (ℕ → Bool) → Bool
 all_below zero g = true

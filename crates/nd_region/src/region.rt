@@ -119,6 +119,15 @@ impl<'a, A> Region<'a, A> {
         }
     }
 
+    /// The same region, for a time that its borrow outlives.
+    pub fn shortened<'b>(self) -> Region<'b, A>
+    where
+        'a: 'b,
+        ensures { result ≡ self.entry }
+    {
+        self
+    }
+
     /// The element at a place, to be written for as long as the region's borrow lasts. The other places keep theirs.
     pub fn into_mut(self, place: usize) -> &'a mut A
         requires { IsSome (stored self place) }

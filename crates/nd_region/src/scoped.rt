@@ -1,6 +1,6 @@
 //! A region for the length of a call.
-ghost use Rattle.std.specs.Prelude.{◌≡◌, ℕ, if◌then◌else◌, length, IsSome};
-ghost use Rattle.nd_region.specs.Places.{names, names_not};
+ghost use Rattle.std.specs.Prelude.{◌≡◌, ℕ, Bool, not, if◌then◌else◌, length, IsSome};
+ghost use Rattle.nd_region.specs.Places.{names, names_not, names_either};
 ghost use Rattle.nd_region.specs.Region.{IsWhole, IsSameBorrow, IsPartWhere, HasPlaces, IsAsLong, borrow_of, rejoined, stored, elements_of, with_swapped, SwappedBetween};
 ghost use Rattle.nd_region.specs.declared.region.Region.{Region as RegionOf};
 
@@ -39,6 +39,30 @@ impl<'a, A> Region<'a, A> {
         requires callable { (x y : RegionOf A) → IsPartWhere (names first lengths.now strides.now) self.old x → IsPartWhere (names_not first lengths.now strides.now) self.old y → F.pre f x y }
         requires returns { (x y : RegionOf A) (out : RegionOf A × RegionOf A × R) → IsPartWhere (names first lengths.now strides.now) self.old x → IsPartWhere (names_not first lengths.now strides.now) self.old y → F.post f x y out → IsSameBorrow x out.0 × IsSameBorrow y out.1 }
         ensures { (x : RegionOf A) × (y : RegionOf A) × (s : RegionOf A) × (t : RegionOf A) × IsPartWhere (names first lengths.now strides.now) self.old x × IsPartWhere (names_not first lengths.now strides.now) self.old y × F.post f x y (s, t, result) × (self.new ≡ rejoined self.old x s t) × IsAsLong x s × IsAsLong y t }
+    {
+        self.split_where(first, lengths, strides, 0, &[], &[], f)
+    }
+
+    /// Splits off the places that pass a test, and hands f both parts: these places, and the others. This region then
+    /// has at each place what the part of that place has. No machine sees the test, which says what each part owns: a caller
+    /// makes it of the layouts, of which the body reads nothing.
+    fn split_where<
+        R,
+        F: for<'b> FnOnce(Region<'b, A>, Region<'b, A>) -> (Region<'b, A>, Region<'b, A>, R),
+    >(
+        &mut self,
+        _first: usize,
+        _lengths: &[usize],
+        _strides: &[isize],
+        _other_first: usize,
+        _other_lengths: &[usize],
+        _other_strides: &[isize],
+        f: F,
+    ) -> R
+        ghost chosen: { ℕ → Bool }
+        requires callable { (x y : RegionOf A) → IsPartWhere chosen self.old x → IsPartWhere (λ p. not (chosen p)) self.old y → F.pre f x y }
+        requires returns { (x y : RegionOf A) (out : RegionOf A × RegionOf A × R) → IsPartWhere chosen self.old x → IsPartWhere (λ p. not (chosen p)) self.old y → F.post f x y out → IsSameBorrow x out.0 × IsSameBorrow y out.1 }
+        ensures { (x : RegionOf A) × (y : RegionOf A) × (s : RegionOf A) × (t : RegionOf A) × IsPartWhere chosen self.old x × IsPartWhere (λ p. not (chosen p)) self.old y × F.post f x y (s, t, result) × (self.new ≡ rejoined self.old x s t) × IsAsLong x s × IsAsLong y t }
     {
         let ptr = self.ptr;
         let len = self.len;
@@ -85,6 +109,70 @@ impl<'a, A> Region<'a, A> {
             {
                 let (named, answer) = f(named);
                 (named, others, answer)
+            },
+        )
+    }
+
+    /// Splits off the places that either of two layouts names, as `split_with` does those of one.
+    fn split_either<
+        R,
+        F: for<'b> FnOnce(Region<'b, A>, Region<'b, A>) -> (Region<'b, A>, Region<'b, A>, R),
+    >(
+        &mut self,
+        first: usize,
+        lengths: &[usize],
+        strides: &[isize],
+        other_first: usize,
+        other_lengths: &[usize],
+        other_strides: &[isize],
+        f: F,
+    ) -> R
+        requires callable { (x y : RegionOf A) → IsPartWhere (names_either first lengths.now strides.now other_first other_lengths.now other_strides.now) self.old x → IsPartWhere (λ p. not (names_either first lengths.now strides.now other_first other_lengths.now other_strides.now p)) self.old y → F.pre f x y }
+        requires returns { (x y : RegionOf A) (out : RegionOf A × RegionOf A × R) → IsPartWhere (names_either first lengths.now strides.now other_first other_lengths.now other_strides.now) self.old x → IsPartWhere (λ p. not (names_either first lengths.now strides.now other_first other_lengths.now other_strides.now p)) self.old y → F.post f x y out → IsSameBorrow x out.0 × IsSameBorrow y out.1 }
+        ensures { (x : RegionOf A) × (y : RegionOf A) × (s : RegionOf A) × (t : RegionOf A) × IsPartWhere (names_either first lengths.now strides.now other_first other_lengths.now other_strides.now) self.old x × IsPartWhere (λ p. not (names_either first lengths.now strides.now other_first other_lengths.now other_strides.now p)) self.old y × F.post f x y (s, t, result) × (self.new ≡ rejoined self.old x s t) × IsAsLong x s × IsAsLong y t }
+    {
+        self.split_where(
+            first,
+            lengths,
+            strides,
+            other_first,
+            other_lengths,
+            other_strides,
+            f,
+        )
+    }
+
+    /// Hands f the places that either of two layouts names, for the length of the call. This region then has at each of
+    /// them what that part has which f gives back, and at every other place what it had.
+    pub fn with_either<R, F: for<'b> FnOnce(Region<'b, A>) -> (Region<'b, A>, R)>(
+        &mut self,
+        first: usize,
+        lengths: &[usize],
+        strides: &[isize],
+        other_first: usize,
+        other_lengths: &[usize],
+        other_strides: &[isize],
+        f: F,
+    ) -> R
+        requires callable { (x : RegionOf A) → IsPartWhere (names_either first lengths.now strides.now other_first other_lengths.now other_strides.now) self.old x → F.pre f x }
+        requires returns { (x : RegionOf A) (out : RegionOf A × R) → IsPartWhere (names_either first lengths.now strides.now other_first other_lengths.now other_strides.now) self.old x → F.post f x out → borrow_of out.0 ≡ borrow_of x }
+        ensures part { (x : RegionOf A) × (s : RegionOf A) × IsPartWhere (names_either first lengths.now strides.now other_first other_lengths.now other_strides.now) self.old x × F.post f x (s, result) × ((p : ℕ) → stored self.new p ≡ (if names_either first lengths.now strides.now other_first other_lengths.now other_strides.now p then stored s p else stored self.old p)) }
+        ensures same { borrow_of self.new ≡ borrow_of self.old }
+        ensures long { IsAsLong self.old self.new }
+    {
+        self.split_either(
+            first,
+            lengths,
+            strides,
+            other_first,
+            other_lengths,
+            other_strides,
+            |named, others|
+                requires { F.pre f named }
+                ensures { F.post f named.entry (result.0, result.2) × (result.1 ≡ others.entry) }
+            {
+                let (either, answer) = f(named);
+                (either, others, answer)
             },
         )
     }

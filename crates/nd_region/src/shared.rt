@@ -55,6 +55,18 @@ impl<'a, A> SharedRegion<'a, A> {
         }
     }
 
+    /// The same places, for a time that the borrow outlives.
+    pub fn shortened<'b>(self) -> SharedRegion<'b, A>
+    where
+        'a: 'b,
+        ensures { shared_stored result ≡ shared_stored self.entry }
+    {
+        match self {
+            SharedRegion::Part(region) => region.share(),
+            SharedRegion::Whole(whole) => SharedRegion::Whole(whole),
+        }
+    }
+
     /// The element at a place.
     pub fn get(self, place: usize) -> &'a A
         requires { IsSome (shared_stored self place) }

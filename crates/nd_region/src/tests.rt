@@ -24,6 +24,16 @@ fn writes_places(rt: HostRuntime) {
 
 #[test]
 #[tactic(auto, unfolding(crate::specs::Places::stored_in))]
+fn writes_for_a_shorter_time(rt: HostRuntime) {
+    let mut xs = [1u64, 2, 3];
+    let mut region = Region::from_slice(&mut xs).shortened();
+    region.set(1, 20);
+    region.end();
+    assert_eq!(rt; xs, [1, 20, 3]);
+}
+
+#[test]
+#[tactic(auto, unfolding(crate::specs::Places::stored_in))]
 fn swaps(rt: HostRuntime) {
     let mut xs = [1u64, 2, 3];
     let mut region = Region::from_slice(&mut xs);
@@ -105,11 +115,23 @@ fn fills_two_slices(rt: HostRuntime) {
     assert_eq!(rt; six, [0, 1, 0, 1, 0, 1]);
 }
 
+#[test]
+#[tactic(auto, unfolding(crate::specs::Places::stored_in))]
+fn lends_either_of_two_layouts(rt: HostRuntime) {
+    let mut six = [1u64, 2, 3, 4, 5, 6];
+    let mut region = Region::from_slice(&mut six);
+    let answer = region.with_either(0, &[3], &[2], 3, &[1], &[1], |part| (part, 7));
+    region.set(4, 50);
+    region.end();
+    assert_eq!(rt; answer, 7);
+    assert_eq!(rt; six, [1, 2, 3, 4, 50, 6]);
+}
+
 #[tactic(auto, using(crate::proofs::Stored::whole_has))]
 fn second_of(xs: &[u64]) -> u64
     requires { 1 < length xs.now }
 {
-    *SharedRegion::from_slice(xs).get(1)
+    *SharedRegion::from_slice(xs).shortened().get(1)
 }
 
 fn run_of_none(rows: &[[u64; 2]]) -> usize

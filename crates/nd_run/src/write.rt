@@ -228,7 +228,7 @@ struct ActOnParts<'p, A> {
     second: &'p Act<A>,
 }
 
-impl<'p, A: Clone + Drop, D: Dimension> PairTask<A, D> for ActOnParts<'p, A> {
+impl<'p, A: Clone + Drop, D: Dimension> PairTask<A, D, D> for ActOnParts<'p, A> {
     type Answer = Result<Option<Cause>, AllocError>;
 
     ghost pre = { λ _ _ _. (x y : A) → A.is_clone x y → y ≡ x };

@@ -1,5 +1,5 @@
 use Rattle.nd_region.specs.Region.{stored}
-use Rattle.nd_array_core.proofs.Parted.{left_held, left_seen}
+use Rattle.nd_array_core.proofs.Parted.{left_held, left_seen, seen_apart}
 use Rattle.nd_array_core.proofs.split_mut.ViewMutRepr+A.three_parts.Goals as goal
 
 pub two_parts-second-requires-clause-first : goal.two_parts-second-requires-clause-first
@@ -13,3 +13,10 @@ returns-clause-second g c = left_seen (stored c.args.self.region) (stored c.part
 
 pub returns-clause-third : goal.returns-clause-third
 returns-clause-third g c = left_seen (stored c.args.self.region) (stored c.part-part.new.self.region) c.args.first.first (g.D.Dimension.lengths c.args.first.dim) (g.D.Strides.StrideList.strides_of c.args.first.strides) c.args.third.first (g.F.Dimension.lengths c.args.third.dim) (g.F.Strides.StrideList.strides_of c.args.third.strides) c.requires.first_third c.part-part.ensures.left c.two_parts-second.ensures.second
+
+pub returns-clause-apart : goal.returns-clause-apart
+returns-clause-apart g c = (
+  seen_apart c.requires.first_second c.part-part.ensures.shown c.two_parts-second.ensures.first,
+  seen_apart c.requires.first_third c.part-part.ensures.shown c.two_parts-second.ensures.second,
+  seen_apart c.requires.second_third c.two_parts-second.ensures.first c.two_parts-second.ensures.second,
+)

@@ -1,5 +1,5 @@
--- `split_with` lends both parts for a lifetime of its own, calls f, and takes them back as the regions that f gave back hold them. Assumes `Logic`.
-use mathlib.Core.Path.{◌≡◌, refl, sym, ap, subst, ◌∙◌}
+-- `split_where` lends both parts for a lifetime of its own, calls f, and takes them back as the regions that f gave back hold them. Assumes `Logic`.
+use mathlib.Core.Path.{refl, sym, ap, subst, ◌∙◌}
 use mathlib.Core.Bool.{Bool, true, not, ◌&&◌}
 use Prim.Native.Nat.{ℕ, ◌<◌, ◌^◌}
 use mathlib.Core.List.{List, [], ◌∷◌, ◌++◌}
@@ -54,18 +54,18 @@ use denote.Triple.Walked.{says, Stays, stay_ref, stay_dropped, walk_of, ends_at,
 use Rattle.std.proofs.mem.Param.{El, R, el_x, Good, lawful, one, args as end_args}
 use Rattle.nd_region.proofs.Bodies.{knowing, all_three}
 use Rattle.nd_region.specs.Memory.{Spots}
-use Rattle.nd_region.specs.Region.{IsPartWhere, IsSameBorrow, HasPlaces, with_items}
-use Rattle.nd_region.specs.Places.{names, kept_where, merged}
+use Rattle.nd_region.specs.Region.{IsPartWhere, IsSameBorrow, with_items}
+use Rattle.nd_region.specs.Places.{kept_where, merged}
 use Rattle.nd_region.proofs.Memory.{tells, Rg, rg_d, rg_val, rg_vals, rg_Tells, rg_had, rg_made, ptr_Good, row_at}
 use Rattle.nd_region.proofs.Loans.{rows_cut, kept_length, LentLocal, lends_local, takes_back, rejoins}
 use Rattle.nd_region.specs.contracts.region.Region.end as END
 use Rattle.nd_region.proofs.region.Region.end.Symbol as end_symbol
 use Rattle.nd_region.proofs.region.Region.end.Met as end_thm
-use Rattle.nd_region.specs.contracts.region.Region.split_with.F-FnOnce as Called
-use Rattle.nd_region.specs.contracts.region.Region.split_with as F
-use Rattle.nd_region.specs.contracts.region.Region.split_with.Key.{name as #self}
-use Rattle.nd_region.proofs.region.Region.split_with.Statement as stated
-use Rattle.nd_region.proofs.region.Region.split_with.Code as code
+use Rattle.nd_region.specs.contracts.region.Region.split_where.F-FnOnce as Called
+use Rattle.nd_region.specs.contracts.region.Region.split_where as F
+use Rattle.nd_region.specs.contracts.region.Region.split_where.Key.{name as #self}
+use Rattle.nd_region.proofs.region.Region.split_where.Statement as stated
+use Rattle.nd_region.proofs.region.Region.split_where.Code as code
 
 -- the element type, the answer and the closure
 module _ (E Y Z : El) (g : Called.Ghosts E.row Y.row Z.row) (d₀ d' : Dict) where
@@ -83,11 +83,8 @@ module _ (E Y Z : El) (g : Called.Ghosts E.row Y.row Z.row) (d₀ d' : Dict) whe
 
   abbrev stayed : Stays ended.signature.params ended.kept
   stayed = (
-    stay_ref (0 ∷ []) tt (plain (λ κs. Rg (named_lft 7 1 tt κs) E)),
-    (
-      stay_dropped (plain (λ _. usize)) yes,
-      (stay_dropped (SliceRefOf (2 ∷ []) tt (plain (λ _. usize)) (λ _. tt)) yes, (stay_dropped (SliceRefOf (3 ∷ []) tt (plain (λ _. isize)) (λ _. tt)) yes, (stay_dropped (plain (λ _. param 2 Z.row)) no, tt))),
-    ),
+    stay_ref (0 ∷ []) tt (plain (λ κs. Rg (named_lft 9 1 tt κs) E)),
+    (stay_dropped (plain (λ _. usize)) yes, (stay_dropped (SliceRefOf (2 ∷ []) tt (plain (λ _. usize)) (λ _. tt)) yes, (stay_dropped (SliceRefOf (3 ∷ []) tt (plain (λ _. isize)) (λ _. tt)) yes, (stay_dropped (plain (λ _. usize)) yes, (stay_dropped (SliceRefOf (4 ∷ []) tt (plain (λ _. usize)) (λ _. tt)) yes, (stay_dropped (SliceRefOf (5 ∷ []) tt (plain (λ _. isize)) (λ _. tt)) yes, (stay_dropped (plain (λ _. param 2 Z.row)) no, tt))))))),
   )
 
   abbrev Once : {M : Type 1} {𝓤 : Ura M} (𝓛 : Logic 𝓤) → Contract 𝓤
@@ -111,34 +108,33 @@ module _ (E Y Z : El) (g : Called.Ghosts E.row Y.row Z.row) (d₀ d' : Dict) whe
     at z vss = ((z.0.0, z.0.1, z.0.2, z.0.3, vss), z.1)
 
     abbrev spelled : Bound → Val → Bound
-    spelled z w = at z (mut_vals z.0.3.0, (uint_vals w64 z.0.3.1.0, (shr_slice_vals z.0.3.1.1.0, (shr_slice_vals z.0.3.1.1.1.0, (w ∷ [], tt)))))
+    spelled z w = at z (mut_vals z.0.3.0, (uint_vals w64 z.0.3.1.0, (shr_slice_vals z.0.3.1.1.0, (shr_slice_vals z.0.3.1.1.1.0, (uint_vals w64 z.0.3.1.1.1.1.0, (shr_slice_vals z.0.3.1.1.1.1.1.0, (shr_slice_vals z.0.3.1.1.1.1.1.1.0, (w ∷ [], tt))))))))
 
     -- the rest of the call of `end`: what its triple binds, and what it leaves
     abbrev G : Contract 𝓤
     G = triple_of 𝓛 (END.signature E.row) (END.spec E.row 𝓛 at_mem run)
 
-    walk : (z : Bound) → z.0.3.1.0 < 2 ^ 64 → length z.0.3.1.1.0.now < 2 ^ 64 → length z.0.3.1.1.1.0.now < 2 ^ 64 → (w : Val) → Good Z w → Goes (spelled z w)
-    walk z fi fl fs w gw =
-        let κ₀ = z.0.0.0 in let κ₁ = z.0.0.1.0 in let κ₂ = z.0.0.1.1.0 in let κ₃ = z.0.0.1.1.1.0 in let κ₄ = z.0.0.1.1.1.1.0 in let κ₅ = z.0.0.1.1.1.1.1.0 in let κ₆ = z.0.0.1.1.1.1.1.1.0 in
-        let q₀ = z.0.1.0 in let q₁ = z.0.1.1.0 in let q₂ = z.0.1.1.1.0 in let q₃ = z.0.1.1.1.1.0 in let q₄ = z.0.1.1.1.1.1.0 in let q₅ = z.0.1.1.1.1.1.1.0 in let q₆ = z.0.1.1.1.1.1.1.1.0 in
+    walk : (z : Bound) → z.0.3.1.0 < 2 ^ 64 → length z.0.3.1.1.0.now < 2 ^ 64 → length z.0.3.1.1.1.0.now < 2 ^ 64 → z.0.3.1.1.1.1.0 < 2 ^ 64 → length z.0.3.1.1.1.1.1.0.now < 2 ^ 64 → length z.0.3.1.1.1.1.1.1.0.now < 2 ^ 64 → (w : Val) → Good Z w → Goes (spelled z w)
+    walk z fi fl fs fi' fl' fs' w gw =
+        let κ₀ = z.0.0.0 in let κ₁ = z.0.0.1.0 in let κ₂ = z.0.0.1.1.0 in let κ₃ = z.0.0.1.1.1.0 in let κ₇ = z.0.0.1.1.1.1.0 in let κ₈ = z.0.0.1.1.1.1.1.0 in let κ₄ = z.0.0.1.1.1.1.1.1.0 in let κ₅ = z.0.0.1.1.1.1.1.1.1.0 in let κ₆ = z.0.0.1.1.1.1.1.1.1.1.0 in
+        let q₀ = z.0.1.0 in let q₁ = z.0.1.1.0 in let q₂ = z.0.1.1.1.0 in let q₃ = z.0.1.1.1.1.0 in let q₇ = z.0.1.1.1.1.1.0 in let q₈ = z.0.1.1.1.1.1.1.0 in let q₄ = z.0.1.1.1.1.1.1.1.0 in let q₅ = z.0.1.1.1.1.1.1.1.1.0 in let q₆ = z.0.1.1.1.1.1.1.1.1.1.0 in
         let lq : Share = Share.left q₄ in let rq : Share = Share.right q₄ in
-        let rb : ℕ = z.0.3.0.ref_ptr.0 in let ro : ℕ = z.0.3.0.ref_ptr.1 in let d : rg_d E = z.0.3.0.now in let f : el_x Z = z.0.3.1.1.1.1.0 in
-        let h : ℕ → Bool = names z.0.3.1.0 z.0.3.1.1.0.now z.0.3.1.1.1.0.now in let k : ℕ → Bool = λ p. not (h p) in
-        let a₁ : NamedLft = named_lft 7 1 tt z.0.0 in
+        let rb : ℕ = z.0.3.0.ref_ptr.0 in let ro : ℕ = z.0.3.0.ref_ptr.1 in let d : rg_d E = z.0.3.0.now in let f : el_x Z = z.0.3.1.1.1.1.1.1.1.0 in
+        let h : ℕ → Bool = z.1 in let k : ℕ → Bool = λ p. not (h p) in
+        let a₁ : NamedLft = named_lft 9 1 tt z.0.0 in
         let y₀ : Bound = spelled z w in
-        let Long : Type 0 = length z.0.3.1.1.0.now ≡ length z.0.3.1.1.1.0.now in let Within : Type 0 = HasPlaces d z.0.3.1.0 z.0.3.1.1.0.now z.0.3.1.1.1.0.now in
         let Asks : Type 0 = (x y : rg_d E) → IsPartWhere h d x → IsPartWhere k d y → F.F-pre E.row Y.row Z.row g d₀ d' f x y in
         let Gives : Type 0 = (x y : rg_d E) (out : rg_d E × rg_d E × el_x Y) → IsPartWhere h d x → IsPartWhere k d y → F.F-post E.row Y.row Z.row g d₀ d' f x y out → IsSameBorrow x out.0 × IsSameBorrow y out.1 in
         let code_of : List (el_x E) → base.Stored.Gv = (coded_list (R E).coded).code in
-        qed 𝓛 (((‵ (flft κ₀ q₀) ⊛ ‵ (flft κ₁ q₁) ⊛ ‵ (flft κ₂ q₂) ⊛ ‵ (flft κ₃ q₃) ⊛ ‵ (flft κ₄ q₄) ⊛ ‵ (flft κ₅ q₅) ⊛ ‵ (flft κ₆ q₆) ⊛ ‵ ftrue) ⊛ ‵ (owns (types_at ended.signature.params z.0.0) z.0.3 y₀.0.4))
-        ∷ (raw (fact 𝓤 (κ₄ ⊑ E.row.lives)) ⊛ raw (fact 𝓤 (κ₅ ⊑ Y.row.lives)) ⊛ raw (fact 𝓤 (κ₆ ⊑ Z.row.lives)) ⊛ raw (fact 𝓤 Long) ⊛ raw (fact 𝓤 Within) ⊛ raw (fact 𝓤 Asks) ⊛ raw (fact 𝓤 Gives)) ∷ []) ∵
-        move ! (1 ∷ []) $ split ! $ heard ! (κ₄ ⊑ E.row.lives) (λ inE. split ! $ heard ! (κ₅ ⊑ Y.row.lives) (λ inY. split ! $ heard ! (κ₆ ⊑ Z.row.lives) (λ inZ. split ! $ drop ! $ split ! $ drop ! $ split ! $ heard ! Asks (λ asks. heard ! Gives (λ gives.
-        split ! $ split3 ! $ move ! (2 ∷ []) $ split3 ! $ move ! (2 ∷ []) $ split3 ! $ move ! (2 ∷ []) $ split ! $
-        move ! (8 ∷ []) $ fsplit ! $ fsplit3 ! $ move ! (3 ∷ []) $ fsplit ! $ move ! (1 ∷ []) $ fsplit ! $ move ! (1 ∷ []) $ fsplit ! $ move ! (1 ∷ []) $ fsplit ! $
-        keep ! (6 ∷ 7 ∷ 14 ∷ 15 ∷ 0 ∷ 10 ∷ 11 ∷ 8 ∷ 12 ∷ 13 ∷ []) $
-        -- [obs; the borrow; the `&mut`'s token; the region's; f; A's; R's; F's; the two slices']
-        enter ! 𝓣.C 𝓣.Λ here (vptr rb ro ∷ vint w64 z.0.3.1.0 ∷ slice_val z.0.3.1.1.0.ref_ptr (length z.0.3.1.1.0.now) ∷ slice_val z.0.3.1.1.1.0.ref_ptr (length z.0.3.1.1.1.0.now) ∷ w ∷ []) _ $
-        alloc_all ! (λ l. pass_all ! refl ((tt, tt), ((tt, record { fits = fi }), ((tt, (tt, (record { fits = fl }, tt))), ((tt, (tt, (record { fits = fs }, tt))), (gw, tt))))) $
+        qed 𝓛 (((‵ (flft κ₀ q₀) ⊛ ‵ (flft κ₁ q₁) ⊛ ‵ (flft κ₂ q₂) ⊛ ‵ (flft κ₃ q₃) ⊛ ‵ (flft κ₇ q₇) ⊛ ‵ (flft κ₈ q₈) ⊛ ‵ (flft κ₄ q₄) ⊛ ‵ (flft κ₅ q₅) ⊛ ‵ (flft κ₆ q₆) ⊛ ‵ ftrue) ⊛ ‵ (owns (types_at ended.signature.params z.0.0) z.0.3 y₀.0.4))
+        ∷ (raw (fact 𝓤 (κ₄ ⊑ E.row.lives)) ⊛ raw (fact 𝓤 (κ₅ ⊑ Y.row.lives)) ⊛ raw (fact 𝓤 (κ₆ ⊑ Z.row.lives)) ⊛ raw (fact 𝓤 Asks) ⊛ raw (fact 𝓤 Gives)) ∷ []) ∵
+        move ! (1 ∷ []) $ split ! $ heard ! (κ₄ ⊑ E.row.lives) (λ inE. split ! $ heard ! (κ₅ ⊑ Y.row.lives) (λ inY. split ! $ heard ! (κ₆ ⊑ Z.row.lives) (λ inZ. split ! $ heard ! Asks (λ asks. heard ! Gives (λ gives.
+        split ! $ split3 ! $ move ! (2 ∷ []) $ split3 ! $ move ! (2 ∷ []) $ split3 ! $ move ! (2 ∷ []) $ split3 ! $ move ! (2 ∷ []) $ split ! $
+        move ! (10 ∷ []) $ fsplit ! $ fsplit3 ! $ move ! (3 ∷ []) $ fsplit ! $ move ! (1 ∷ []) $ fsplit ! $ move ! (1 ∷ []) $ fsplit ! $ move ! (1 ∷ []) $ fsplit ! $ move ! (1 ∷ []) $ fsplit ! $ move ! (1 ∷ []) $ fsplit ! $ move ! (1 ∷ []) $ fsplit ! $
+        keep ! (9 ∷ 10 ∷ 19 ∷ 20 ∷ 0 ∷ 13 ∷ 14 ∷ 11 ∷ 17 ∷ 18 ∷ 15 ∷ 16 ∷ []) $
+        -- [obs; the borrow; the `&mut`'s token; the region's; f; A's; R's; F's; the four slices']
+        enter ! 𝓣.C 𝓣.Λ here (vptr rb ro ∷ vint w64 z.0.3.1.0 ∷ slice_val z.0.3.1.1.0.ref_ptr (length z.0.3.1.1.0.now) ∷ slice_val z.0.3.1.1.1.0.ref_ptr (length z.0.3.1.1.1.0.now) ∷ vint w64 z.0.3.1.1.1.1.0 ∷ slice_val z.0.3.1.1.1.1.1.0.ref_ptr (length z.0.3.1.1.1.1.1.0.now) ∷ slice_val z.0.3.1.1.1.1.1.1.0.ref_ptr (length z.0.3.1.1.1.1.1.1.0.now) ∷ w ∷ []) _ $
+        alloc_all ! (λ l. pass_all ! refl ((tt, tt), ((tt, record { fits = fi }), ((tt, (tt, (record { fits = fl }, tt))), ((tt, (tt, (record { fits = fs }, tt))), ((tt, record { fits = fi' }), ((tt, (tt, (record { fits = fl' }, tt))), ((tt, (tt, (record { fits = fs' }, tt))), (gw, tt)))))))) $
         opens ! tt (Rg a₁ E) {h = d} rb ro (λ vs. move ! (1 ∷ []) $ rg_had a₁ E ! d vs (λ b o at_b is fn fit long.
         rewrite ! 1 (λ (ws : List Val). ‵ (cell_at full_share (Rg a₁ E).mir ws rb ro)) is refl $
         sets ! (of_opd ! (load ! (through ! refl (fld ! refl (stop !))) (look_in ! 1 (sub ! 0 refl (whole !))))) refl (tt, tt) $
@@ -157,7 +153,7 @@ module _ (E Y Z : El) (g : Called.Ghosts E.row Y.row Z.row) (d₀ d' : Dict) whe
         move ! (11 ∷ []) $ use1 𝓛 (‵ (flft κ₄ lq) ⊛ ‵ (flft κ₄ rq)) (𝓛.lfts.lft_split κ₄ q₄) $ split ! $ move ! (2 ∷ []) $
         use1 𝓛 (‵ (flft (α ∷ []) lq) ⊛ raw (wand 𝓤 (A.lft (α ∷ []) lq) (A.lft (α ∷ []) full_share))) (𝓛.lfts.lft_carve α lq) $ split ! $ move ! (0 ∷ 2 ∷ []) $
         use2 𝓛 (‵ (flft κ' lq)) (𝓛.lfts.lft_meet (α ∷ []) κ₄ lq) $
-        -- [κ'; α's way back; A's right; the named places; the others; the open loan, obs, auth; the cell, open borrow, obs, auth; f; R's; F's; the two slices']
+        -- [κ'; α's way back; A's right; the named places; the others; the open loan, obs, auth; the cell, open borrow, obs, auth; f; R's; F's; the four slices']
         move ! (3 ∷ []) $ use1 𝓛 (later (some (LentLocal E 𝓛 b κ' o d.items hs))) (lends_local E 𝓛 b κ' o d.items hs (same_length ∙ sym (kept_length h d.held))) $ await ! tt $ pick ! (λ γ₁. split ! $
         move ! (5 ∷ []) $ use1 𝓛 (later (some (LentLocal E 𝓛 b κ' o d.items ks))) (lends_local E 𝓛 b κ' o d.items ks (same_length ∙ sym (kept_length k d.held))) $ await ! tt $ pick ! (λ γ₂. split ! $
         let one : rg_d E = record { ptr = block_ptr b o; len = d.len; mark = record {}; name = γ₁; items = d.items; held = hs; small = fn } in
@@ -167,7 +163,7 @@ module _ (E Y Z : El) (g : Called.Ghosts E.row Y.row Z.row) (d₀ d' : Dict) whe
         let Ok : Type 0 = g.pre f (one, (two, tt)) in
         let Three : RattleType = Tuple (Rg a E ∷ Rg a E ∷ param 1 Y.row ∷ []) in
         let y : (Once 𝓛).Ghost = ((κs, (lq, (q₆, (rq, (q₅, tt)))), (meet_⊑_right (α ∷ []) κ₄, tt), passed, (w ∷ [], (rg_val (block_ptr b o) d.len ∷ [], (rg_val (block_ptr b o) d.len ∷ [], tt)))), tt) in
-        -- [one; two; the rights to get two and one back; κ'; α's way back; A's right; the open loan, obs, auth; the cell, open borrow, obs, auth; f; R's; F's; the two slices']
+        -- [one; two; the rights to get two and one back; κ'; α's way back; A's right; the open loan, obs, auth; the cell, open borrow, obs, auth; f; R's; F's; the four slices']
         nothing ! $ move ! (2 ∷ 0 ∷ []) $ fjoin ! $ move ! (1 ∷ 0 ∷ []) $ fjoin ! $ move ! (13 ∷ 0 ∷ []) $ fjoin ! $
         nothing ! $ move ! (14 ∷ 0 ∷ []) $ join ! $ move ! (6 ∷ 0 ∷ []) $ join ! $ move ! (13 ∷ 0 ∷ []) $ join ! $ move ! (4 ∷ 0 ∷ []) $ join ! $ join ! $
         use0 𝓛 (raw (fact 𝓤 Ok)) (fact_i 𝓤 Ok (emp 𝓤) (asks one two (refl, refl) (refl, refl))) $ use0 𝓛 (raw (fact 𝓤 (κ₅ ⊑ Y.row.lives))) (fact_i 𝓤 (κ₅ ⊑ Y.row.lives) (emp 𝓤) inY) $ join ! $
@@ -209,7 +205,7 @@ module _ (E Y Z : El) (g : Called.Ghosts E.row Y.row Z.row) (d₀ d' : Dict) whe
         ⊛ some (λ (us' : Lasts (END.ended E.row) z₂.0.0 z₂.0.3). ‵ (lasts (END.ended E.row) z₂.0.0 z₂.0.3 us') ⊛ ‵ (fres s₂.name (code_of xs₂)))))) (id⊢ 𝓤 (G.post z₂ second_end)) $
         await ! tt $ pick ! (λ t'. split ! $ move ! (1 ∷ []) $ pick ! (λ us'. split ! $ drop ! $ move ! (1 ∷ []) $ split ! $ move ! (1 ∷ []) $ feq_l ! (λ is_unit'.
         lands_as ! (ap only is_unit') refl (tt, tt) $ split3 ! $
-        -- [κ'; A's right; nothing; the second's and the first's last values; R's; F's; the answer; the rights; α's way back; the open loan, obs, auth; the cell, open borrow, obs, auth; the two slices']
+        -- [κ'; A's right; nothing; the second's and the first's last values; R's; F's; the answer; the rights; α's way back; the open loan, obs, auth; the cell, open borrow, obs, auth; the four slices']
         use1 𝓛 (‵ (flft (α ∷ []) lq) ⊛ ‵ (flft κ₄ lq)) (𝓛.lfts.lft_unmeet (α ∷ []) κ₄ lq) $ split ! $ move ! (0 ∷ 11 ∷ []) $
         use2 𝓛 (‵ (flft (α ∷ []) full_share)) (apply∗ 𝓤 (A.lft (α ∷ []) lq) (A.lft (α ∷ []) full_share)) $ lft_end ! tt $ use1 𝓛 (‵ (fdead κ')) (𝓛.lfts.dead-incl κ' (α ∷ []) (meet_⊑_left (α ∷ []) κ₄)) $
         use1 𝓛 (‵ (fdead κ') ⊛ ‵ (fdead κ')) (𝓛.lfts.dead_dup κ') $ split ! $
@@ -220,42 +216,33 @@ module _ (E Y Z : El) (g : Called.Ghosts E.row Y.row Z.row) (d₀ d' : Dict) whe
         fsplit ! $ feq_l ! (λ long₁. feq_i ! ℕ (length xs₁) (length hs) long₁ $ fjoin ! $
         let m : List (el_x E) = merged hs xs₁ xs₂ in
         use2 𝓛 (‵ (All.own_at m 0 0)) (rejoins E 𝓛 b κ₁ q₁ o d.name d.items d.held h xs₁ xs₂) $
-        -- [the whole; A's left; A's right; nothing; R's; F's; the answer; the open loan, obs, auth; the cell, open borrow, obs, auth; the two slices']
+        -- [the whole; A's left; A's right; nothing; R's; F's; the answer; the open loan, obs, auth; the cell, open borrow, obs, auth; the four slices']
         move ! (0 ∷ 7 ∷ 8 ∷ 9 ∷ []) $ close_ref ! tt All m {b = 0} {o = 0} $ fjoin ! $ rg_made a₁ E ! (with_items d m) b o at_b fn fit long $
         move ! (8 ∷ 0 ∷ 9 ∷ 10 ∷ 11 ∷ []) $ closes ! tt (Rg a₁ E) (with_items d m) (rg_val (block_ptr b o) d.len ∷ []) rb ro $
         move ! (4 ∷ 5 ∷ []) $ use2 𝓛 (‵ (flft κ₄ q₄)) (𝓛.lfts.lft_join κ₄ q₄) $
         sets ! (of_opd ! (get ! refl)) refl g₃ $ returns ! (look_at ! 0 refl) $ free_all ! refl $
-        suffices ! _ (ends_at 𝓛 ended stayed held y₀ v r.2 (with_items d m, (tt, (tt, (tt, (tt, tt))))) (tt, (tt, (tt, (tt, (tt, tt)))))) $ says ! (one, two, s₁, s₂, (refl, refl), (refl, refl), gave, refl, long₁ ∙ kept_length h d.held ∙ sym same_length, long₂ ∙ kept_length k d.held ∙ sym same_length) $
-        -- [A's; obs; the borrow; the `&mut`'s token; the region's; nothing; R's; F's; the answer; the two slices']
+        suffices ! _ (ends_at 𝓛 ended stayed held y₀ v r.2 (with_items d m, (tt, (tt, (tt, (tt, (tt, (tt, (tt, tt)))))))) (tt, (tt, (tt, (tt, (tt, (tt, (tt, (tt, tt))))))))) $ says ! (one, two, s₁, s₂, (refl, refl), (refl, refl), gave, refl, long₁ ∙ kept_length h d.held ∙ sym same_length, long₂ ∙ kept_length k d.held ∙ sym same_length) $
+        -- [A's; obs; the borrow; the `&mut`'s token; the region's; nothing; R's; F's; the answer; the four slices']
         move ! (1 ∷ 2 ∷ []) $ feq_i ! (List Val) (vptr rb ro ∷ []) (vptr rb ro ∷ []) refl $ fjoin3 ! $
-        nothing ! $ nothing ! $ fjoin ! $ nothing ! $ fjoin ! $ nothing ! $ fjoin ! $ nothing ! $ fjoin ! $ move ! (1 ∷ 0 ∷ []) $ fjoin ! $ move ! (0 ∷ 7 ∷ []) $ join ! $
-        move ! (6 ∷ 4 ∷ []) $ join ! $ move ! (5 ∷ 0 ∷ []) $ join ! $ move ! (2 ∷ 0 ∷ []) $ join ! $ move ! (5 ∷ 0 ∷ []) $ join ! $ move ! (4 ∷ 0 ∷ []) $ join ! $ move ! (3 ∷ 0 ∷ []) $ join ! $ move ! (2 ∷ 0 ∷ []) $ join ! $ join ! $ done !)))))))))))))))))))))))))))))))
+        nothing ! $ nothing ! $ fjoin ! $ nothing ! $ fjoin ! $ nothing ! $ fjoin ! $ nothing ! $ fjoin ! $ nothing ! $ fjoin ! $ nothing ! $ fjoin ! $ nothing ! $ fjoin ! $ move ! (1 ∷ 0 ∷ []) $ fjoin ! $ move ! (0 ∷ 7 ∷ []) $ join ! $
+        move ! (6 ∷ 4 ∷ []) $ join ! $ move ! (5 ∷ 0 ∷ []) $ join ! $ move ! (2 ∷ 0 ∷ []) $ join ! $ move ! (7 ∷ 0 ∷ []) $ join ! $ move ! (6 ∷ 0 ∷ []) $ join ! $ move ! (5 ∷ 0 ∷ []) $ join ! $ move ! (4 ∷ 0 ∷ []) $ join ! $ move ! (3 ∷ 0 ∷ []) $ join ! $ move ! (2 ∷ 0 ∷ []) $ join ! $ join ! $ done !)))))))))))))))))))))))))))))))
 
     meets : Meets 𝓛 ended.signature (WpFn 𝓤 H 𝓣.C 𝓣.Λ here) (closing 𝓛 ended held)
     meets =
         walk_Meets 𝓛 ended stayed (
-          Goes-ref 𝓛 7 0 tt (plain (λ κs. Rg (named_lft 7 1 tt κs) E)),
-          (
-            Goes-dropped 𝓛 7 (plain (λ _. usize)) yes (λ κs x f. refl),
-            (
-              Goes-dropped 𝓛 7 (SliceRefOf (2 ∷ []) tt (plain (λ _. usize)) (λ _. tt)) yes (λ κs x f. refl),
-              (
-                Goes-dropped 𝓛 7 (SliceRefOf (3 ∷ []) tt (plain (λ _. isize)) (λ _. tt)) yes (λ κs x f. refl),
-                (Goes-dropped 𝓛 7 (plain (λ _. param 2 Z.row)) no (λ κs x f. refl), tt),
-              ),
-            ),
-          ),
+          Goes-ref 𝓛 9 0 tt (plain (λ κs. Rg (named_lft 9 1 tt κs) E)),
+          (Goes-dropped 𝓛 9 (plain (λ _. usize)) yes (λ κs x f. refl), (Goes-dropped 𝓛 9 (SliceRefOf (2 ∷ []) tt (plain (λ _. usize)) (λ _. tt)) yes (λ κs x f. refl), (Goes-dropped 𝓛 9 (SliceRefOf (3 ∷ []) tt (plain (λ _. isize)) (λ _. tt)) yes (λ κs x f. refl), (Goes-dropped 𝓛 9 (plain (λ _. usize)) yes (λ κs x f. refl), (Goes-dropped 𝓛 9 (SliceRefOf (4 ∷ []) tt (plain (λ _. usize)) (λ _. tt)) yes (λ κs x f. refl), (Goes-dropped 𝓛 9 (SliceRefOf (5 ∷ []) tt (plain (λ _. isize)) (λ _. tt)) yes (λ κs x f. refl), (Goes-dropped 𝓛 9 (plain (λ _. param 2 Z.row)) no (λ κs x f. refl), tt))))))),
         ) held
         (WpFn 𝓤 H 𝓣.C 𝓣.Λ here) (WpFn-mono 𝓤 H 𝓛.laws 𝓣 here)
         (λ z. let a = z.0.3 in let vss = z.0.4 in
         knowing 𝓛 ended stayed held (WpFn 𝓤 H 𝓣.C 𝓣.Λ here) z (λ are.
-        let w = one Z vss.1.1.1.1.0 ((lawful Z 𝓛).typed a.1.1.1.1.0 vss.1.1.1.1.0 are.1.1.1.1.0) in
-        subst (λ (uss : Vals ended.signature z.0.0). Goes (at z uss)) (sym (λ j. (are.0.0 j, (are.1.0.0 j, (are.1.1.0.0.0 j, (are.1.1.1.0.0.0 j, (w.1 j, tt)))))))
-        (walk z are.1.0.1 are.1.1.0.0.1.0 are.1.1.1.0.0.1.0 w.0 w.2)))
+        let w = one Z vss.1.1.1.1.1.1.1.0 ((lawful Z 𝓛).typed a.1.1.1.1.1.1.1.0 vss.1.1.1.1.1.1.1.0 are.1.1.1.1.1.1.1.0) in
+        subst (λ (uss : Vals ended.signature z.0.0). Goes (at z uss)) (sym (λ j. (are.0.0 j, (are.1.0.0 j, (are.1.1.0.0.0 j, (are.1.1.1.0.0.0 j, (are.1.1.1.1.0.0 j, (are.1.1.1.1.1.0.0.0 j, (are.1.1.1.1.1.1.0.0.0 j, (w.1 j, tt))))))))))
+        (walk z are.1.0.1 are.1.1.0.0.1.0 are.1.1.1.0.0.1.0 are.1.1.1.1.0.1 are.1.1.1.1.1.0.0.1.0 are.1.1.1.1.1.1.0.0.1.0 w.0 w.2)))
 
-pub split_with_spec : {M : Type 1} → stated.statement M
+pub split_where_spec : {M : Type 1} → stated.statement M
 unfolding tables_of
-split_with_spec 𝓤 𝓛 𝓜 𝓡 wired T₀ T₁ T₂ L₀ L₁ L₂ g d d' met _ =
+split_where_spec 𝓤 𝓛 𝓜 𝓡 wired T₀ T₁ T₂ L₀ L₁ L₂ g d d' met _ =
     let E : El = record { row = T₀; laws = L₀ } in let Y : El = record { row = T₁; laws = L₁ } in let Z : El = record { row = T₂; laws = L₂ } in
     let 𝓣 : Tables 𝓤 𝓛.H = tables_of 𝓤 𝓛.H 𝓜 (tables 𝓤 𝓛.H 𝓜 𝓡 𝓡.env) in
     entered 𝓤 𝓛.H (triple_of 𝓛 (F.signature T₀ T₁ T₂) (F.spec T₀ T₁ T₂ g d d' 𝓛 𝓜.mem 𝓡.returns)) 𝓣.C 𝓣.Λ (#self (args E Y Z g d d')) (here E Y Z g d d')

@@ -1,0 +1,26 @@
+-- Which indexes of an image a row, a column and the border have. An image is an array of rows and columns.
+use Rattle.std.specs.Prelude.{ℕ, suc, ℤ, Bool, false, ◌&&◌, ◌||◌, nat_eq, nat_lt, List, [], ◌∷◌, Option, None, Some}
+use Rattle.nd_shape_and_slice.specs.SliceInfo.{coordinate_on}
+
+-- the coordinate is that one
+abbrev pub is_at : Option ℕ → ℕ → Bool
+is_at None i = false
+is_at (Some k) i = nat_eq i k
+
+-- the index lies in the image, in the row or the column of this number; a negative number counts from the end
+abbrev pub in_row : List ℕ → ℤ → List ℕ → Bool
+in_row (rows ∷ columns ∷ []) k (row ∷ column ∷ []) = is_at (coordinate_on rows k) row && nat_lt column columns
+in_row ns k is = false
+
+abbrev pub in_column : List ℕ → ℤ → List ℕ → Bool
+in_column (rows ∷ columns ∷ []) k (row ∷ column ∷ []) = nat_lt row rows && is_at (coordinate_on columns k) column
+in_column ns k is = false
+
+-- the coordinate is the first or the last of an axis
+abbrev pub is_edge : ℕ → ℕ → Bool
+is_edge n i = nat_eq i 0 || nat_eq (suc i) n
+
+-- the index lies in the image, in its first or its last row, or in its first or its last column
+abbrev pub is_border : List ℕ → List ℕ → Bool
+is_border (rows ∷ columns ∷ []) (row ∷ column ∷ []) = (nat_lt row rows && nat_lt column columns) && (is_edge rows row || is_edge columns column)
+is_border ns is = false

@@ -1,0 +1,153 @@
+//! The border of an image, drawn by four writes: its first and last row, and its first and last column.
+ghost use Rattle.std.specs.Prelude.{◌≡◌, ◌∷◌, [], ℕ, true, false, List, slice_index, is_some, Some, OnOk, IfOk};
+ghost use Rattle.nd_shape_and_slice.specs.Shape.{in_box};
+ghost use Rattle.nd_shape_and_slice.specs.SliceInfo.{axes_read, axes_kept, coordinate_on, fits_shape, shape_after, index_before};
+ghost use Rattle.nd_array_core.specs.Meaning.{shape_of, element_at};
+ghost use Rattle.nd_array_core.specs.Tasks.{OthersKeep};
+ghost use Rattle.nd_array_core_uses.specs.Painting.{in_row, in_column, is_border};
+
+use crate::paint::fill_slice;
+use nd_array_core::{ArrayBase, Data, DataMut};
+use nd_shape_and_slice::{Axis, Ix1, Ix2, NoMemory, SliceInfo, SliceInfoElem};
+
+const ALL: SliceInfoElem = SliceInfoElem::Slice {
+    start: 0,
+    end: None,
+    step: 1,
+};
+
+/// How many rows and columns an image has.
+fn rows_and_columns<S: Data>(image: &ArrayBase<S, Ix2>) -> (usize, usize)
+    ensures { shape_of image.now ≡ result.0 ∷ result.1 ∷ [] }
+{
+    let _two = image.ndim();
+    (image.len_of(Axis(0)), image.len_of(Axis(1)))
+}
+
+/// A clone of a value.
+fn copy_of<A: Clone>(value: &A) -> Result<A, NoMemory>
+    requires { (copy : A) → A.is_clone value.now copy → copy ≡ value.now }
+    ensures { IfOk result (λ copy. copy ≡ value.now) }
+{
+    match value.clone() {
+        Ok(copy) => Ok(copy),
+        Err(_) => Err(NoMemory),
+    }
+}
+
+/// Fills the line of an image that a list of two names, which keeps one axis; every other index keeps its element.
+fn fill_line<A: Clone + Drop, S: DataMut<Elem = A>>(
+    image: &mut ArrayBase<S, Ix2>,
+    list: &[SliceInfoElem],
+    value: &A,
+) -> Result<(), NoMemory>
+    requires reads { axes_read list.now ≡ 2 }
+    requires keeps { axes_kept list.now ≡ 1 }
+    requires fits { fits_shape (shape_of image.old) list.now ≡ true }
+    requires clones { (copy : A) → A.is_clone value.now copy → copy ≡ value.now }
+    ensures shape { shape_of image.new ≡ shape_of image.old }
+    ensures filled { OnOk result ((i : List ℕ) → in_box (shape_after (shape_of image.old) list.now) i ≡ true → element_at image.new (index_before (shape_of image.old) list.now i) ≡ Some value.now) }
+    ensures kept { OthersKeep (shape_after (shape_of image.old) list.now) (index_before (shape_of image.old) list.now) (element_at image.old) (element_at image.new) }
+{
+    let copy = copy_of(value)?;
+    match SliceInfo::<Ix2, Ix1>::new(list) {
+        Ok(line) => fill_slice(image, line, copy),
+        Err(_) => unreachable!(),
+    }
+}
+
+/// Fills a row that the image has, counted from the end where its number is negative; every other index keeps its
+/// element. In ndarray: `image.slice_mut(s![row, ..]).fill(value)`.
+pub fn fill_row<A: Clone + Drop, S: DataMut<Elem = A>>(
+    image: &mut ArrayBase<S, Ix2>,
+    row: isize,
+    value: &A,
+) -> Result<(), NoMemory>
+    requires there { is_some (coordinate_on (slice_index (shape_of image.old) 0) row) ≡ true }
+    requires clones { (copy : A) → A.is_clone value.now copy → copy ≡ value.now }
+    ensures shape { shape_of image.new ≡ shape_of image.old }
+    ensures filled { OnOk result ((i : List ℕ) → in_row (shape_of image.old) row i ≡ true → element_at image.new i ≡ Some value.now) }
+    ensures kept { (i : List ℕ) → in_row (shape_of image.old) row i ≡ false → element_at image.new i ≡ element_at image.old i }
+{
+    let _size = rows_and_columns(image);
+    fill_line(image, &[SliceInfoElem::Index(row), ALL], value)
+}
+
+/// Fills a column that the image has, counted from the end where its number is negative; every other index keeps its
+/// element. In ndarray: `image.slice_mut(s![.., column]).fill(value)`.
+pub fn fill_column<A: Clone + Drop, S: DataMut<Elem = A>>(
+    image: &mut ArrayBase<S, Ix2>,
+    column: isize,
+    value: &A,
+) -> Result<(), NoMemory>
+    requires there { is_some (coordinate_on (slice_index (shape_of image.old) 1) column) ≡ true }
+    requires clones { (copy : A) → A.is_clone value.now copy → copy ≡ value.now }
+    ensures shape { shape_of image.new ≡ shape_of image.old }
+    ensures filled { OnOk result ((i : List ℕ) → in_column (shape_of image.old) column i ≡ true → element_at image.new i ≡ Some value.now) }
+    ensures kept { (i : List ℕ) → in_column (shape_of image.old) column i ≡ false → element_at image.new i ≡ element_at image.old i }
+{
+    let _size = rows_and_columns(image);
+    fill_line(image, &[ALL, SliceInfoElem::Index(column)], value)
+}
+
+/// Draws the border of an image: its first and last row and its first and last column get the value, and every other
+/// index keeps its element, also where memory lacks. An image without elements has no border.
+pub fn draw_border<A: Clone + Drop, S: DataMut<Elem = A>>(
+    image: &mut ArrayBase<S, Ix2>,
+    value: A,
+) -> Result<(), NoMemory>
+    requires clones { (copy : A) → A.is_clone value copy → copy ≡ value }
+    ensures shape { shape_of image.new ≡ shape_of image.old }
+    ensures drawn { OnOk result ((i : List ℕ) → is_border (shape_of image.old) i ≡ true → element_at image.new i ≡ Some value) }
+    ensures kept { (i : List ℕ) → is_border (shape_of image.old) i ≡ false → element_at image.new i ≡ element_at image.old i }
+{
+    let (rows, columns) = rows_and_columns(image);
+    if rows == 0 || columns == 0 {
+        return Ok(());
+    }
+    fill_row(image, 0, &value)?;
+    fill_row(image, -1, &value)?;
+    fill_column(image, 0, &value)?;
+    fill_column(image, -1, &value)
+}
+
+#[cfg(test)]
+mod tests {
+    use super::*;
+    use nd_array_core::Array;
+    use std::alloc::Global;
+    use std::test::Fail;
+
+    // An image of zeros with a border of ones, row by row.
+    fn framed(alloc: Global, rows: usize, columns: usize) -> Result<Vec<u8>, Fail> {
+        let mut zeros = Vec::new(alloc);
+        for _ in 0..rows {
+            for _ in 0..columns {
+                zeros.push(0)?;
+            }
+        }
+        let mut image: Array<u8, Ix2> = Array::from_shape_vec((rows, columns), zeros)
+            .ok()
+            .ok_or("shape")?;
+        draw_border(&mut image, 1).ok().ok_or("memory")?;
+        let mut pixels = Vec::new(alloc);
+        for row in 0..rows {
+            for column in 0..columns {
+                pixels.push(*image.get([row, column]).ok_or("outside")?)?;
+            }
+        }
+        Ok(pixels)
+    }
+
+    #[test]
+    fn borders(rt: HostRuntime) -> Result<(), Fail> {
+        assert_eq!(rt;
+            framed(rt.alloc(), 3, 4)?.as_slice(),
+            [1, 1, 1, 1, 1, 0, 0, 1, 1, 1, 1, 1].as_slice()
+        );
+        assert_eq!(rt; framed(rt.alloc(), 1, 3)?.as_slice(), [1, 1, 1].as_slice());
+        assert_eq!(rt; framed(rt.alloc(), 3, 1)?.as_slice(), [1, 1, 1].as_slice());
+        assert!(rt; framed(rt.alloc(), 0, 3)?.is_empty());
+        Ok(())
+    }
+}

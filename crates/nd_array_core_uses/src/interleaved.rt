@@ -1,0 +1,178 @@
+//! The even rows of a grid and the odd ones, filled at once through two views.
+ghost use Rattle.std.specs.Prelude.{◌≡◌, ◌%◌, ◌∷◌, [], ℕ, true, List, length, nat_eq, Some, IsSome, IfSome, OnOk, if◌then◌else◌};
+ghost use Rattle.nd_shape_and_slice.specs.Shape.{in_box};
+ghost use Rattle.nd_shape_and_slice.specs.SliceInfo.{shape_after, index_before};
+ghost use Rattle.nd_array_core.specs.Meaning.{shape_of, element_at};
+ghost use Rattle.nd_array_core.specs.MultiSlice.{TwoFit};
+ghost use Rattle.nd_array_core.specs.Tasks.{OthersKeepTwo};
+
+use crate::two_parts::FillBoth;
+use nd_array_core::{ArrayBase, DataMut};
+use nd_shape_and_slice::{
+    Axis, Dimension, Ix2, NoMemory, SliceArg, SliceInfo, SliceInfoElem, slices_intersect,
+};
+
+/// Fills what each of two lists of slices names with a value of its own. The lists fit the shape and name nothing in
+/// common; what neither names keeps its element.
+pub fn fill_slices<
+    A: Clone + Drop,
+    S: DataMut<Elem = A>,
+    D: Dimension,
+    I: SliceArg<D>,
+    J: SliceArg<D>,
+>(array: &mut ArrayBase<S, D>, lists: (I, J), first: A, second: A) -> Result<(), NoMemory>
+    requires fits { TwoFit (shape_of array.old) (I.elements_of lists.0) (J.elements_of lists.1) }
+    requires first { (copy : A) → A.is_clone first copy → copy ≡ first }
+    requires second { (copy : A) → A.is_clone second copy → copy ≡ second }
+    ensures shape { shape_of array.new ≡ shape_of array.old }
+    ensures first { OnOk result ((i : List ℕ) → in_box (shape_after (shape_of array.old) (I.elements_of lists.0)) i ≡ true → element_at array.new (index_before (shape_of array.old) (I.elements_of lists.0) i) ≡ Some first) }
+    ensures second { OnOk result ((i : List ℕ) → in_box (shape_after (shape_of array.old) (J.elements_of lists.1)) i ≡ true → element_at array.new (index_before (shape_of array.old) (J.elements_of lists.1) i) ≡ Some second) }
+    ensures kept { OthersKeepTwo (shape_after (shape_of array.old) (I.elements_of lists.0)) (index_before (shape_of array.old) (I.elements_of lists.0)) (shape_after (shape_of array.old) (J.elements_of lists.1)) (index_before (shape_of array.old) (J.elements_of lists.1)) (element_at array.old) (element_at array.new) }
+{
+    array.with_multi_slice_mut(lists, FillBoth { first, second })
+}
+
+/// Fills what each of two lists of slices names, as `fill_slices`; None where a list doesn't fit the shape, or where they
+/// name an element in common.
+pub fn try_fill_slices<
+    A: Clone + Drop,
+    S: DataMut<Elem = A>,
+    D: Dimension,
+    I: SliceArg<D>,
+    J: SliceArg<D>,
+>(array: &mut ArrayBase<S, D>, lists: (I, J), first: A, second: A) -> Option<Result<(), NoMemory>>
+    requires first { (copy : A) → A.is_clone first copy → copy ≡ first }
+    requires second { (copy : A) → A.is_clone second copy → copy ≡ second }
+    ensures some { TwoFit (shape_of array.old) (I.elements_of lists.0) (J.elements_of lists.1) → IsSome result }
+    ensures shape { shape_of array.new ≡ shape_of array.old }
+    ensures first { IfSome result (λ done. OnOk done ((i : List ℕ) → in_box (shape_after (shape_of array.old) (I.elements_of lists.0)) i ≡ true → element_at array.new (index_before (shape_of array.old) (I.elements_of lists.0) i) ≡ Some first)) }
+    ensures second { IfSome result (λ done. OnOk done ((i : List ℕ) → in_box (shape_after (shape_of array.old) (J.elements_of lists.1)) i ≡ true → element_at array.new (index_before (shape_of array.old) (J.elements_of lists.1) i) ≡ Some second)) }
+{
+    let shape = array.shape();
+    if !lists.0.fits(shape) || !lists.1.fits(shape) {
+        return None;
+    }
+    if slices_intersect(shape, lists.0.elements(), lists.1.elements()) {
+        return None;
+    }
+    Some(fill_slices(array, lists, first, second))
+}
+
+const ALL: SliceInfoElem = SliceInfoElem::Slice {
+    start: 0,
+    end: None,
+    step: 1,
+};
+
+const EVEN: SliceInfoElem = SliceInfoElem::Slice {
+    start: 0,
+    end: None,
+    step: 2,
+};
+
+const ODD: SliceInfoElem = SliceInfoElem::Slice {
+    start: 1,
+    end: None,
+    step: 2,
+};
+
+/// Fills the rows of even number of a grid, seen at any dimension, and those of odd number.
+fn fill_rows<A: Clone + Drop, S: DataMut<Elem = A>, D: Dimension>(
+    grid: &mut ArrayBase<S, D>,
+    even: A,
+    odd: A,
+) -> Result<(), NoMemory>
+    requires two { length (shape_of grid.old) ≡ 2 }
+    requires axes { D.has_axes 2 ≡ true }
+    requires even { (copy : A) → A.is_clone even copy → copy ≡ even }
+    requires odd { (copy : A) → A.is_clone odd copy → copy ≡ odd }
+    ensures shape { shape_of grid.new ≡ shape_of grid.old }
+    ensures rows { OnOk result ((row column : ℕ) → in_box (shape_of grid.old) (row ∷ column ∷ []) ≡ true → element_at grid.new (row ∷ column ∷ []) ≡ Some (if nat_eq (row % 2) 0 then even else odd)) }
+{
+    if grid.len_of(Axis(0)) == 0 {
+        return Ok(());
+    }
+    match SliceInfo::<D, D>::new(&[EVEN, ALL]) {
+        Ok(evens) => match SliceInfo::<D, D>::new(&[ODD, ALL]) {
+            Ok(odds) => fill_slices(grid, (evens, odds), even, odd),
+            Err(_) => unreachable!(),
+        },
+        Err(_) => unreachable!(),
+    }
+}
+
+/// Fills the rows 0, 2, 4 and so on of a grid with one value, and the rows 1, 3, 5 and so on with another.
+pub fn interleave_rows<A: Clone + Drop, S: DataMut<Elem = A>>(
+    grid: &mut ArrayBase<S, Ix2>,
+    even: A,
+    odd: A,
+) -> Result<(), NoMemory>
+    requires even { (copy : A) → A.is_clone even copy → copy ≡ even }
+    requires odd { (copy : A) → A.is_clone odd copy → copy ≡ odd }
+    ensures shape { shape_of grid.new ≡ shape_of grid.old }
+    ensures rows { OnOk result ((row column : ℕ) → in_box (shape_of grid.old) (row ∷ column ∷ []) ≡ true → element_at grid.new (row ∷ column ∷ []) ≡ Some (if nat_eq (row % 2) 0 then even else odd)) }
+{
+    // A grid has two axes.
+    let _ = grid.ndim();
+    fill_rows(grid, even, odd)
+}
+
+#[cfg(test)]
+mod tests {
+    use super::*;
+    use nd_array_core::Array;
+    use nd_shape_and_slice::IxDyn;
+    use std::alloc::Global;
+    use std::test::Fail;
+
+    fn grid_of(alloc: Global, rows: usize, cells: &[u64]) -> Result<Array<u64, Ix2>, Fail> {
+        let cells = Vec::from_slice(alloc, cells)?;
+        Ok(Array::from_shape_vec((rows, 2), cells).ok().ok_or("shape")?)
+    }
+
+    #[test]
+    fn a_row_and_the_rest(rt: HostRuntime) -> Result<(), Fail> {
+        let cells = Vec::from_slice(rt.alloc(), &[1u64, 2, 3, 4, 5, 6])?;
+        let mut grid = Array::from_shape_vec(IxDyn::new(&[3, 2]), cells)
+            .ok()
+            .ok_or("shape")?;
+        let row = [SliceInfoElem::Index(1), ALL];
+        let others = [EVEN, ALL];
+        let done = try_fill_slices(&mut grid, (row.as_slice(), others.as_slice()), 8, 9);
+        assert!(rt; matches!(done, Some(Ok(()))));
+        for (index, wanted) in [([0, 0], 9), ([1, 0], 8), ([1, 1], 8), ([2, 1], 9)] {
+            assert_eq!(rt; grid.get(index.as_slice()).copied(), Some(wanted));
+        }
+        let refused = try_fill_slices(&mut grid, (row.as_slice(), [ALL, ALL].as_slice()), 8, 9);
+        assert!(rt; refused.is_none());
+        assert_eq!(rt; grid.get([0, 0].as_slice()).copied(), Some(9));
+        Ok(())
+    }
+
+    #[test]
+    fn five_rows(rt: HostRuntime) -> Result<(), Fail> {
+        let mut grid = grid_of(rt.alloc(), 5, &[1, 2, 3, 4, 5, 6, 7, 8, 9, 10])?;
+        assert!(rt; interleave_rows(&mut grid, 0, 7).is_ok());
+        for (row, wanted) in [(0, 0), (1, 7), (2, 0), (3, 7), (4, 0)] {
+            assert_eq!(rt; grid.get([row, 0]).copied(), Some(wanted));
+            assert_eq!(rt; grid.get([row, 1]).copied(), Some(wanted));
+        }
+        Ok(())
+    }
+
+    #[test]
+    fn one_row(rt: HostRuntime) -> Result<(), Fail> {
+        let mut grid = grid_of(rt.alloc(), 1, &[1, 2])?;
+        assert!(rt; interleave_rows(&mut grid, 0, 7).is_ok());
+        assert_eq!(rt; grid.get([0, 1]).copied(), Some(0));
+        Ok(())
+    }
+
+    #[test]
+    fn no_row(rt: HostRuntime) -> Result<(), Fail> {
+        let mut grid = grid_of(rt.alloc(), 0, &[])?;
+        assert!(rt; interleave_rows(&mut grid, 0, 7).is_ok());
+        assert!(rt; grid.get([0, 0]).is_none());
+        Ok(())
+    }
+}

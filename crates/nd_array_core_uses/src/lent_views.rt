@@ -1,0 +1,143 @@
+//! Arrays, owned or mutable views themselves, filled through a mutable view of them: what is known of the array once the
+//! view is over.
+ghost use Rattle.std.specs.Prelude.{◌≡◌, ℕ, true, List, length};
+ghost use Rattle.nd_shape_and_slice.specs.SliceInfo.{fits_shape};
+ghost use Rattle.nd_array_core.specs.Meaning.{shape_of, place_at};
+ghost use Rattle.nd_array_core.specs.ViewLent.{IsRefilled};
+
+use nd_array_core::{Array, ArrayBase, ArrayViewMut, DataMut};
+use nd_shape_and_slice::{Dimension, Ix2, IxDyn, NoMemory, SliceArg, SliceInfoElem};
+
+/// Fills an array through a view of all of it.
+pub fn fill_view<S: DataMut, D: Dimension>(
+    array: &mut ArrayBase<S, D>,
+    value: S::Elem,
+) -> Result<(), NoMemory>
+where
+    S::Elem: Clone + Drop,
+    requires clones { (copy : S.Elem) → S.Elem.is_clone value copy → copy ≡ value }
+    ensures shape { shape_of array.new ≡ shape_of array.old }
+    ensures places { (i : List ℕ) → place_at array.new i ≡ place_at array.old i }
+{
+    let mut view = array.view_mut();
+    view.fill(value)
+}
+
+/// Fills what a list of slices names, which fits the shape.
+pub fn fill_part<S: DataMut, D: Dimension, I: SliceArg<D>>(
+    array: &mut ArrayBase<S, D>,
+    info: I,
+    value: S::Elem,
+) -> Result<(), NoMemory>
+where
+    S::Elem: Clone + Drop,
+    requires fits { fits_shape (shape_of array.old) (I.elements_of info) ≡ true }
+    requires clones { (copy : S.Elem) → S.Elem.is_clone value copy → copy ≡ value }
+    ensures shape { shape_of array.new ≡ shape_of array.old }
+    ensures places { (i : List ℕ) → place_at array.new i ≡ place_at array.old i }
+    ensures refilled { IsRefilled S.borrow array.old array.new }
+{
+    let mut part = array.slice_mut(info);
+    part.fill(value)
+}
+
+/// Fills a mutable view through a view of it, and leaves it to be used again.
+pub fn fill_again<A: Clone + Drop, D: Dimension>(
+    view: &mut ArrayViewMut<'_, A, D>,
+    value: A,
+) -> Result<(), NoMemory>
+    requires clones { (copy : A) → A.is_clone value copy → copy ≡ value }
+    ensures shape { shape_of view.new ≡ shape_of view.old }
+    ensures places { (i : List ℕ) → place_at view.new i ≡ place_at view.old i }
+{
+    let mut inner = view.view_mut();
+    inner.fill(value)
+}
+
+const ALL: SliceInfoElem = SliceInfoElem::Slice {
+    start: 0,
+    end: None,
+    step: 1,
+};
+
+const EVERY_SECOND: SliceInfoElem = SliceInfoElem::Slice {
+    start: 0,
+    end: None,
+    step: 2,
+};
+
+/// Paints the columns 0, 2, 4 and so on of an owned grid in one colour.
+pub fn paint_owned_columns(grid: &mut Array<u64, IxDyn>, colour: u64) -> Result<(), NoMemory>
+    requires two { length (shape_of grid.old) ≡ 2 }
+    ensures shape { shape_of grid.new ≡ shape_of grid.old }
+{
+    let mut columns = grid.slice_mut([ALL, EVERY_SECOND].as_slice());
+    columns.fill(colour)
+}
+
+/// Sets each element of the diagonal.
+pub fn set_diagonal(square: &mut Array<u64, Ix2>, value: u64) -> Result<(), NoMemory>
+    ensures shape { shape_of square.new ≡ shape_of square.old }
+    ensures places { (i : List ℕ) → place_at square.new i ≡ place_at square.old i }
+{
+    let mut diagonal = square.diag_mut();
+    diagonal.fill(value)
+}
+
+#[cfg(test)]
+mod tests {
+    use super::*;
+    use std::test::Fail;
+
+    #[test]
+    fn columns_of_an_owned_grid(rt: HostRuntime) -> Result<(), Fail> {
+        let cells = Vec::from_slice(rt.alloc(), &[1u64, 2, 3, 4, 5, 6])?;
+        let mut grid = Array::from_shape_vec(IxDyn::new(&[2, 3]), cells)
+            .ok()
+            .ok_or("shape")?;
+        assert!(rt; grid.ndim() == 2);
+        assert!(rt; paint_owned_columns(&mut grid, 9).is_ok());
+        assert!(rt; grid.ndim() == 2);
+        for (index, wanted) in [
+            ([0, 0], 9),
+            ([0, 1], 2),
+            ([0, 2], 9),
+            ([1, 0], 9),
+            ([1, 1], 5),
+            ([1, 2], 9),
+        ] {
+            assert_eq!(rt; grid.get(index.as_slice()).copied(), Some(wanted));
+        }
+        Ok(())
+    }
+
+    #[test]
+    fn a_diagonal(rt: HostRuntime) -> Result<(), Fail> {
+        let cells = Vec::from_slice(rt.alloc(), &[1u64, 2, 3, 4])?;
+        let mut square = Array::from_shape_vec((2, 2), cells).ok().ok_or("shape")?;
+        assert!(rt; set_diagonal(&mut square, 7).is_ok());
+        for (index, wanted) in [([0, 0], 7), ([0, 1], 2), ([1, 0], 3), ([1, 1], 7)] {
+            assert_eq!(rt; square.get(index).copied(), Some(wanted));
+        }
+        assert!(rt; fill_view(&mut square, 5).is_ok());
+        assert_eq!(rt; square.get([1, 0]).copied(), Some(5));
+        Ok(())
+    }
+
+    // Fills an array twice through one view.
+    fn fills_twice(square: &mut Array<u64, Ix2>) -> bool {
+        let mut view = square.view_mut();
+        fill_again(&mut view, 6).is_ok() && fill_again(&mut view, 5).is_ok()
+    }
+
+    #[test]
+    fn one_view_filled_twice(rt: HostRuntime) -> Result<(), Fail> {
+        let cells = Vec::from_slice(rt.alloc(), &[1u64, 2, 3, 4])?;
+        let mut square = Array::from_shape_vec((2, 2), cells).ok().ok_or("shape")?;
+        assert!(rt; fills_twice(&mut square));
+        for index in [[0, 0], [0, 1], [1, 0], [1, 1]] {
+            assert_eq!(rt; square.get(index).copied(), Some(5));
+        }
+        Ok(())
+    }
+}
