@@ -17,6 +17,7 @@ pub mod Squeeze
 pub mod Slicing
 pub mod Scoped
 pub mod Tasks
+pub mod PartTasks
 pub mod EachAxis
 pub mod Laws
 pub mod Lends

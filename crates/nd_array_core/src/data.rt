@@ -6,12 +6,12 @@ ghost use Rattle.std.specs.List.{flat_map};
 ghost use Rattle.std.specs.Option.{is_some};
 ghost use Rattle.std.specs.Vec.{with_item, with_items};
 ghost use base.Fml.{GName};
-ghost use Rattle.nd_region.specs.declared.region.Region.{Region as RegionOf};
+ghost use Rattle.nd_region.specs.Scoped.{TakesPart, GivesPartBack, IsPartReturned};
 ghost use Rattle.nd_region.specs.Shared.{shared_stored};
 ghost use Rattle.nd_region.specs.Places.{names, names_not};
-ghost use Rattle.nd_region.specs.Region.{stored as region_stored, borrow_of, with_element as region_with, with_items as region_items, HasPlaces, IsPartWhere, IsAsLong};
+ghost use Rattle.nd_region.specs.Region.{stored as region_stored, borrow_of, with_element as region_with, with_items as region_items, HasPlaces, IsAsLong};
 ghost use Rattle.nd_array_core.specs.Places.{HoldsAll, kept_at, written_at, swapped_at};
-ghost use Rattle.nd_array_core.specs.Scoped.{IsNamedPart, with_named};
+ghost use Rattle.nd_array_core.specs.Scoped.{TakesNamed, GivesNamedBack, IsNamedReturned};
 ghost use Rattle.nd_array_core.specs.Storages.{shown_by};
 ghost use Rattle.nd_array_core.specs.ElementMut.{element_follows, KeepsPlaces, item_kept, item_written, place_kept, place_written};
 ghost use Rattle.nd_array_core.specs.Refilled.{overwritten, overwritten_itself, overwritten_again, places_there, places_kept, items_there, items_kept, items_itself, items_again};
@@ -292,9 +292,9 @@ pub trait DataMut: Data {
     ) -> R
         requires as_many { length lengths.now ≡ length strides.now }
         requires holds { HoldsAll (Self.stored self.old) first lengths.now strides.now }
-        requires callable { (x : RegionOf Self.Elem) → IsNamedPart (Self.stored self.old) first lengths.now strides.now x → F.pre f x }
-        requires returns { (x : RegionOf Self.Elem) (out : RegionOf Self.Elem × R) → IsNamedPart (Self.stored self.old) first lengths.now strides.now x → F.post f x out → borrow_of out.0 ≡ borrow_of x }
-        ensures part { (x : RegionOf Self.Elem) × (s : RegionOf Self.Elem) × IsNamedPart (Self.stored self.old) first lengths.now strides.now x × F.post f x (s, result) × ((p : ℕ) → Self.stored self.new p ≡ with_named (Self.stored self.old) first lengths.now strides.now (region_stored s) p) }
+        requires callable { TakesNamed (F.pre f) (Self.stored self.old) first lengths.now strides.now }
+        requires returns { GivesNamedBack (F.post f) (Self.stored self.old) first lengths.now strides.now }
+        ensures part { IsNamedReturned (F.post f) (Self.stored self.old) (Self.stored self.new) first lengths.now strides.now result }
         ensures there { (p : ℕ) → is_some (Self.stored self.new p) ≡ is_some (Self.stored self.old p) }
         ensures borrow { borrow self.new ≡ borrow self.old };
 
@@ -419,16 +419,16 @@ fn part_of_slice<A, R, F: for<'b> FnOnce(Region<'b, A>) -> (Region<'b, A>, R)>(
 ) -> R
     requires as_many { length lengths.now ≡ length strides.now }
     requires holds { HoldsAll (slice_get items.old) first lengths.now strides.now }
-    requires callable { (x : RegionOf A) → IsNamedPart (slice_get items.old) first lengths.now strides.now x → F.pre f x }
-    requires returns { (x : RegionOf A) (out : RegionOf A × R) → IsNamedPart (slice_get items.old) first lengths.now strides.now x → F.post f x out → borrow_of out.0 ≡ borrow_of x }
-    ensures part { (x : RegionOf A) × (s : RegionOf A) × IsNamedPart (slice_get items.old) first lengths.now strides.now x × F.post f x (s, result) × ((p : ℕ) → slice_get items.new p ≡ with_named (slice_get items.old) first lengths.now strides.now (region_stored s) p) }
+    requires callable { TakesNamed (F.pre f) (slice_get items.old) first lengths.now strides.now }
+    requires returns { GivesNamedBack (F.post f) (slice_get items.old) first lengths.now strides.now }
+    ensures part { IsNamedReturned (F.post f) (slice_get items.old) (slice_get items.new) first lengths.now strides.now result }
     ensures long { length items.new ≡ length items.old }
 {
     with_region(
         items,
         |region|
-            requires { (length lengths.now ≡ length strides.now) × HasPlaces region first lengths.now strides.now × ((x : RegionOf A) → IsPartWhere (names first lengths.now strides.now) region x → F.pre f x) × ((x : RegionOf A) (out : RegionOf A × R) → IsPartWhere (names first lengths.now strides.now) region x → F.post f x out → borrow_of out.0 ≡ borrow_of x) }
-            ensures part { (x : RegionOf A) × (s : RegionOf A) × IsPartWhere (names first lengths.entry.now strides.entry.now) region.entry x × F.post f x (s, result.1) × ((p : ℕ) → region_stored result.0 p ≡ with_named (region_stored region.entry) first lengths.entry.now strides.entry.now (region_stored s) p) }
+            requires { (length lengths.now ≡ length strides.now) × HasPlaces region first lengths.now strides.now × TakesPart (F.pre f) (names first lengths.now strides.now) region × GivesPartBack (F.post f) (names first lengths.now strides.now) region }
+            ensures part { IsPartReturned (F.post f) (names first lengths.entry.now strides.entry.now) region.entry result.0 result.1 }
             ensures same { borrow_of result.0 ≡ borrow_of region.entry }
             ensures long { IsAsLong region.entry result.0 }
         {

@@ -2,7 +2,7 @@
 
 ghost use Rattle.std.specs.Prelude.{ℕ, List, Option};
 ghost use Rattle.nd_array_core.specs.Meaning.{shape_of, element_at, place_at};
-ghost use Rattle.nd_array_core.specs.MultiSlice.{TwoFit, ThreeFit, FourFit, ThreeShareNoPlace, FourShareNoPlace, IsPartBy, FitsEach, TakenOf};
+ghost use Rattle.nd_array_core.specs.MultiSlice.{TwoFit, ThreeFit, FourFit, ThreeShareNoPlace, FourShareNoPlace, IsSlicedBy, FitsEach, TakenOf};
 ghost use Rattle.nd_array_core.specs.Places.{ShareNoPlace};
 
 use crate::array::{ArrayBase, ArrayViewMut};
@@ -36,7 +36,7 @@ impl<'a, A: 'a, D: Dimension, I: SliceArg<D>, J: SliceArg<D>> MultiSliceArg<Arra
 
     ghost fits = { λ lists view. TwoFit (shape_of view) (I.elements_of lists.0) (J.elements_of lists.1) };
 
-    ghost takes = { λ lists view out. IsPartBy (shape_of view) (element_at view) (place_at view) (I.elements_of lists.0) (shape_of out.0) (element_at out.0) (place_at out.0) × IsPartBy (shape_of view) (element_at view) (place_at view) (J.elements_of lists.1) (shape_of out.1) (element_at out.1) (place_at out.1) × ShareNoPlace (place_at out.0) (place_at out.1) };
+    ghost takes = { λ lists view out. IsSlicedBy view (I.elements_of lists.0) out.0 × IsSlicedBy view (J.elements_of lists.1) out.1 × ShareNoPlace (place_at out.0) (place_at out.1) };
 
     fn parts_of(self, view: ArrayViewMut<'a, A, D>) -> Self::Output {
         let first = view.layout.sliced::<I::OutDim>(self.0.elements());
@@ -56,7 +56,7 @@ impl<'a, A: 'a, D: Dimension, I: SliceArg<D>, J: SliceArg<D>, K: SliceArg<D>> Mu
 
     ghost fits = { λ lists view. ThreeFit (shape_of view) (I.elements_of lists.0) (J.elements_of lists.1) (K.elements_of lists.2) };
 
-    ghost takes = { λ lists view out. IsPartBy (shape_of view) (element_at view) (place_at view) (I.elements_of lists.0) (shape_of out.0) (element_at out.0) (place_at out.0) × IsPartBy (shape_of view) (element_at view) (place_at view) (J.elements_of lists.1) (shape_of out.1) (element_at out.1) (place_at out.1) × IsPartBy (shape_of view) (element_at view) (place_at view) (K.elements_of lists.2) (shape_of out.2) (element_at out.2) (place_at out.2) × ThreeShareNoPlace (place_at out.0) (place_at out.1) (place_at out.2) };
+    ghost takes = { λ lists view out. IsSlicedBy view (I.elements_of lists.0) out.0 × IsSlicedBy view (J.elements_of lists.1) out.1 × IsSlicedBy view (K.elements_of lists.2) out.2 × ThreeShareNoPlace (place_at out.0) (place_at out.1) (place_at out.2) };
 
     fn parts_of(self, view: ArrayViewMut<'a, A, D>) -> Self::Output {
         let first = view.layout.sliced::<I::OutDim>(self.0.elements());
@@ -84,7 +84,7 @@ impl<
 
     ghost fits = { λ lists view. FourFit (shape_of view) (I.elements_of lists.0) (J.elements_of lists.1) (K.elements_of lists.2) (L.elements_of lists.3) };
 
-    ghost takes = { λ lists view out. IsPartBy (shape_of view) (element_at view) (place_at view) (I.elements_of lists.0) (shape_of out.0) (element_at out.0) (place_at out.0) × IsPartBy (shape_of view) (element_at view) (place_at view) (J.elements_of lists.1) (shape_of out.1) (element_at out.1) (place_at out.1) × IsPartBy (shape_of view) (element_at view) (place_at view) (K.elements_of lists.2) (shape_of out.2) (element_at out.2) (place_at out.2) × IsPartBy (shape_of view) (element_at view) (place_at view) (L.elements_of lists.3) (shape_of out.3) (element_at out.3) (place_at out.3) × FourShareNoPlace (place_at out.0) (place_at out.1) (place_at out.2) (place_at out.3) };
+    ghost takes = { λ lists view out. IsSlicedBy view (I.elements_of lists.0) out.0 × IsSlicedBy view (J.elements_of lists.1) out.1 × IsSlicedBy view (K.elements_of lists.2) out.2 × IsSlicedBy view (L.elements_of lists.3) out.3 × FourShareNoPlace (place_at out.0) (place_at out.1) (place_at out.2) (place_at out.3) };
 
     fn parts_of(self, view: ArrayViewMut<'a, A, D>) -> Self::Output {
         let first = view.layout.sliced::<I::OutDim>(self.0.elements());

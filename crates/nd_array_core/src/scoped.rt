@@ -3,13 +3,12 @@
 //! After a mutable view that was lent in the open has ended, a caller's proof knows nothing of the array. These calls
 //! get the view's elements back, and so say what the array holds.
 
-ghost use Rattle.std.specs.Prelude.{◌≡◌, ℕ, List, Option};
+ghost use Rattle.std.specs.Prelude.{◌≡◌, ℕ, List};
 ghost use Rattle.std.specs.Option.{is_some};
 ghost use Rattle.nd_region.specs.Region.{stored as region_stored, borrow_of};
 ghost use Rattle.nd_array_core.specs.Placed.{Placed, element_placed, found_at};
-ghost use Rattle.nd_array_core.specs.Scoped.{with_named};
 ghost use Rattle.nd_array_core.specs.Storages.{held_by};
-ghost use Rattle.nd_array_core.specs.Tasks.{view_borrow, lent_borrow, lent_view, view_left, CanBeSeen, LiesSoundly, laid, IsNamedMap, IsViewOf};
+ghost use Rattle.nd_array_core.specs.Tasks.{view_borrow, lent_borrow, lent_view, view_left, CanBeSeen, LiesBy, laid_by, lay_of, AsksOfLaid, IsDoneOnLaid, IsViewOf};
 ghost use Rattle.nd_array_core.specs.Writes.{OthersStay};
 
 use crate::array::{ArrayBase, ArrayViewMut};
@@ -88,10 +87,10 @@ fn run_laid<'a, A, D: Dimension, K: ViewTask<A, D>>(
     layout: Layout<D, D::Strides>,
     task: K,
 ) -> (Region<'a, A>, K::Answer)
-    requires sound { LiesSoundly (region_stored region) layout.first (D.lengths layout.dim) (D.Strides.strides_of layout.strides) }
-    requires pre { K.pre task (laid (region_stored region) layout.first (D.lengths layout.dim) (D.Strides.strides_of layout.strides)) }
+    requires sound { LiesBy (region_stored region) (lay_of layout) }
+    requires pre { K.pre task (laid_by (region_stored region) (lay_of layout)) }
     ensures borrow { borrow_of result.0 ≡ borrow_of region.entry }
-    ensures done { K.post task (laid (region_stored region.entry) layout.first (D.lengths layout.dim) (D.Strides.strides_of layout.strides)) (laid (region_stored result.0) layout.first (D.lengths layout.dim) (D.Strides.strides_of layout.strides)) result.1 }
+    ensures done { K.post task (laid_by (region_stored region.entry) (lay_of layout)) (laid_by (region_stored result.0) (lay_of layout)) result.1 }
 {
     let (storage, answer) = task.run(LentView {
         region,
@@ -108,11 +107,11 @@ pub(crate) fn with_laid<S: DataMut, D: Dimension, K: ViewTask<S::Elem, D>>(
     layout: Layout<D, D::Strides>,
     task: K,
 ) -> K::Answer
-    requires sound { LiesSoundly (S.stored storage.old) layout.first (D.lengths layout.dim) (D.Strides.strides_of layout.strides) }
-    requires callable { (m : ℕ → Option S.Elem) → IsNamedMap (S.stored storage.old) layout.first (D.lengths layout.dim) (D.Strides.strides_of layout.strides) m → K.pre task (laid m layout.first (D.lengths layout.dim) (D.Strides.strides_of layout.strides)) }
+    requires sound { LiesBy (S.stored storage.old) (lay_of layout) }
+    requires callable { AsksOfLaid (K.pre task) (S.stored storage.old) (lay_of layout) }
     ensures there { (p : ℕ) → is_some (S.stored storage.new p) ≡ is_some (S.stored storage.old p) }
     ensures borrow { S.borrow storage.new ≡ S.borrow storage.old }
-    ensures done { (m : ℕ → Option S.Elem) × (n : ℕ → Option S.Elem) × IsNamedMap (S.stored storage.old) layout.first (D.lengths layout.dim) (D.Strides.strides_of layout.strides) m × K.post task (laid m layout.first (D.lengths layout.dim) (D.Strides.strides_of layout.strides)) (laid n layout.first (D.lengths layout.dim) (D.Strides.strides_of layout.strides)) result × ((p : ℕ) → S.stored storage.new p ≡ with_named (S.stored storage.old) layout.first (D.lengths layout.dim) (D.Strides.strides_of layout.strides) n p) }
+    ensures done { IsDoneOnLaid (λ v w. K.post task v w result) (S.stored storage.old) (S.stored storage.new) (lay_of layout) }
 {
     let lent = layout.copied();
     storage.with_part(
@@ -120,10 +119,10 @@ pub(crate) fn with_laid<S: DataMut, D: Dimension, K: ViewTask<S::Elem, D>>(
         layout.dim.slice(),
         layout.strides.slice(),
         move |region|
-            requires sound { LiesSoundly (region_stored region) lent.first (D.lengths lent.dim) (D.Strides.strides_of lent.strides) }
-            requires pre { K.pre task (laid (region_stored region) lent.first (D.lengths lent.dim) (D.Strides.strides_of lent.strides)) }
+            requires sound { LiesBy (region_stored region) (lay_of lent) }
+            requires pre { K.pre task (laid_by (region_stored region) (lay_of lent)) }
             ensures borrow { borrow_of result.0 ≡ borrow_of region.entry }
-            ensures done { K.post task (laid (region_stored region.entry) lent.first (D.lengths lent.dim) (D.Strides.strides_of lent.strides)) (laid (region_stored result.0) lent.first (D.lengths lent.dim) (D.Strides.strides_of lent.strides)) result.1 }
+            ensures done { K.post task (laid_by (region_stored region.entry) (lay_of lent)) (laid_by (region_stored result.0) (lay_of lent)) result.1 }
         { run_laid(region, lent, task) },
     )
 }

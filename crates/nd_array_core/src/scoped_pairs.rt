@@ -1,13 +1,11 @@
 //! Calls that lend two mutable views of parts of an array, which share no place, to a task for their length.
 
-ghost use Rattle.std.specs.Prelude.{true, false, ◌≡◌, ◌≤◌, ◌<◌, ℕ, List, Option, length, slice_index, if◌then◌else◌};
+ghost use Rattle.std.specs.Prelude.{◌≡◌, ◌≤◌, ◌<◌, ℕ, List, length, slice_index};
 ghost use Rattle.std.specs.Option.{is_some};
-ghost use Rattle.nd_region.specs.Places.{names, ShareNoPlace};
-ghost use Rattle.nd_region.specs.Region.{stored as region_stored, borrow_of, IsAsLong};
-ghost use Rattle.nd_array_core.specs.Maps.{lower_shape, upper_shape, upper_index};
+ghost use Rattle.nd_region.specs.Region.{stored as region_stored, borrow_of};
 ghost use Rattle.nd_array_core.specs.Placed.{Placed};
-ghost use Rattle.nd_array_core.specs.Places.{HoldsAll};
-ghost use Rattle.nd_array_core.specs.Tasks.{view_borrow, lent_borrow, lent_view, view_left, CanBeSeen, LiesSoundly, laid, IsSeenThrough, AgreesOnNamed};
+ghost use Rattle.nd_array_core.specs.Tasks.{view_borrow, lent_borrow, lent_view, view_left, CanBeSeen, LiesBy, laid_by, lay_of, HoldsBy, AreApart, IsWithin, AsksOfPair, IsDoneOnPair, KeepsUnnamed, KeepsUnnamedByTwo};
+ghost use Rattle.nd_array_core.specs.PartTasks.{lower_part, upper_part, AsksOfParts, IsDoneOnParts};
 ghost use Rattle.nd_array_core.specs.Writes.{OthersStay};
 
 use crate::array::ArrayBase;
@@ -50,12 +48,12 @@ fn run_pair<'b, A, D: Dimension, E: Dimension, K: PairTask<A, D, E>>(
     two: Layout<E, E::Strides>,
     task: K,
 ) -> (Region<'b, A>, Region<'b, A>, K::Answer)
-    requires one { LiesSoundly (region_stored part) one.first (D.lengths one.dim) (D.Strides.strides_of one.strides) }
-    requires two { LiesSoundly (region_stored rest) two.first (E.lengths two.dim) (E.Strides.strides_of two.strides) }
-    requires pre { K.pre task (laid (region_stored part) one.first (D.lengths one.dim) (D.Strides.strides_of one.strides)) (laid (region_stored rest) two.first (E.lengths two.dim) (E.Strides.strides_of two.strides)) }
+    requires one { LiesBy (region_stored part) (lay_of one) }
+    requires two { LiesBy (region_stored rest) (lay_of two) }
+    requires pre { K.pre task (laid_by (region_stored part) (lay_of one)) (laid_by (region_stored rest) (lay_of two)) }
     ensures part { borrow_of result.0 ≡ borrow_of part.entry }
     ensures rest { borrow_of result.1 ≡ borrow_of rest.entry }
-    ensures done { K.post task (laid (region_stored part.entry) one.first (D.lengths one.dim) (D.Strides.strides_of one.strides)) (laid (region_stored rest.entry) two.first (E.lengths two.dim) (E.Strides.strides_of two.strides)) (laid (region_stored result.0) one.first (D.lengths one.dim) (D.Strides.strides_of one.strides)) (laid (region_stored result.1) two.first (E.lengths two.dim) (E.Strides.strides_of two.strides)) result.2 }
+    ensures done { K.post task (laid_by (region_stored part.entry) (lay_of one)) (laid_by (region_stored rest.entry) (lay_of two)) (laid_by (region_stored result.0) (lay_of one)) (laid_by (region_stored result.1) (lay_of two)) result.2 }
 {
     let first = LentView {
         region: part,
@@ -80,12 +78,12 @@ fn split_laid<'b, A, D: Dimension, E: Dimension, K: PairTask<A, D, E>>(
     two: Layout<E, E::Strides>,
     task: K,
 ) -> (Region<'b, A>, K::Answer)
-    requires one { LiesSoundly (region_stored region) one.first (D.lengths one.dim) (D.Strides.strides_of one.strides) }
-    requires two { LiesSoundly (region_stored region) two.first (E.lengths two.dim) (E.Strides.strides_of two.strides) }
-    requires apart { ShareNoPlace one.first (D.lengths one.dim) (D.Strides.strides_of one.strides) two.first (E.lengths two.dim) (E.Strides.strides_of two.strides) }
-    requires callable { (m n : ℕ → Option A) → AgreesOnNamed (region_stored region) one.first (D.lengths one.dim) (D.Strides.strides_of one.strides) m → AgreesOnNamed (region_stored region) two.first (E.lengths two.dim) (E.Strides.strides_of two.strides) n → K.pre task (laid m one.first (D.lengths one.dim) (D.Strides.strides_of one.strides)) (laid n two.first (E.lengths two.dim) (E.Strides.strides_of two.strides)) }
+    requires one { LiesBy (region_stored region) (lay_of one) }
+    requires two { LiesBy (region_stored region) (lay_of two) }
+    requires apart { AreApart (lay_of one) (lay_of two) }
+    requires callable { AsksOfPair (K.pre task) (region_stored region) (lay_of one) (lay_of two) }
     ensures borrow { borrow_of result.0 ≡ borrow_of region.entry }
-    ensures done { (m : ℕ → Option A) × (n : ℕ → Option A) × (s : ℕ → Option A) × (t : ℕ → Option A) × AgreesOnNamed (region_stored region.entry) one.first (D.lengths one.dim) (D.Strides.strides_of one.strides) m × AgreesOnNamed (region_stored region.entry) two.first (E.lengths two.dim) (E.Strides.strides_of two.strides) n × K.post task (laid m one.first (D.lengths one.dim) (D.Strides.strides_of one.strides)) (laid n two.first (E.lengths two.dim) (E.Strides.strides_of two.strides)) (laid s one.first (D.lengths one.dim) (D.Strides.strides_of one.strides)) (laid t two.first (E.lengths two.dim) (E.Strides.strides_of two.strides)) result.1 × AgreesOnNamed (region_stored result.0) one.first (D.lengths one.dim) (D.Strides.strides_of one.strides) s × AgreesOnNamed (region_stored result.0) two.first (E.lengths two.dim) (E.Strides.strides_of two.strides) t }
+    ensures done { IsDoneOnPair (λ v0 v1 w0 w1. K.post task v0 v1 w0 w1 result.1) (region_stored region.entry) (region_stored result.0) (lay_of one) (lay_of two) }
 {
     let mut region = region;
     let lent = one.copied();
@@ -94,12 +92,12 @@ fn split_laid<'b, A, D: Dimension, E: Dimension, K: PairTask<A, D, E>>(
         one.dim.slice(),
         one.strides.slice(),
         move |part, rest|
-            requires one { LiesSoundly (region_stored part) lent.first (D.lengths lent.dim) (D.Strides.strides_of lent.strides) }
-            requires two { LiesSoundly (region_stored rest) two.first (E.lengths two.dim) (E.Strides.strides_of two.strides) }
-            requires pre { K.pre task (laid (region_stored part) lent.first (D.lengths lent.dim) (D.Strides.strides_of lent.strides)) (laid (region_stored rest) two.first (E.lengths two.dim) (E.Strides.strides_of two.strides)) }
+            requires one { LiesBy (region_stored part) (lay_of lent) }
+            requires two { LiesBy (region_stored rest) (lay_of two) }
+            requires pre { K.pre task (laid_by (region_stored part) (lay_of lent)) (laid_by (region_stored rest) (lay_of two)) }
             ensures part { borrow_of result.0 ≡ borrow_of part.entry }
             ensures rest { borrow_of result.1 ≡ borrow_of rest.entry }
-            ensures done { K.post task (laid (region_stored part.entry) lent.first (D.lengths lent.dim) (D.Strides.strides_of lent.strides)) (laid (region_stored rest.entry) two.first (E.lengths two.dim) (E.Strides.strides_of two.strides)) (laid (region_stored result.0) lent.first (D.lengths lent.dim) (D.Strides.strides_of lent.strides)) (laid (region_stored result.1) two.first (E.lengths two.dim) (E.Strides.strides_of two.strides)) result.2 }
+            ensures done { K.post task (laid_by (region_stored part.entry) (lay_of lent)) (laid_by (region_stored rest.entry) (lay_of two)) (laid_by (region_stored result.0) (lay_of lent)) (laid_by (region_stored result.1) (lay_of two)) result.2 }
         { run_pair(part, lent, rest, two, task) },
     );
     (region, answer)
@@ -112,13 +110,13 @@ fn either_laid<'b, A, D: Dimension, E: Dimension, K: PairTask<A, D, E>>(
     two: Layout<E, E::Strides>,
     task: K,
 ) -> (Region<'b, A>, K::Answer)
-    requires one { LiesSoundly (region_stored region) one.first (D.lengths one.dim) (D.Strides.strides_of one.strides) }
-    requires two { LiesSoundly (region_stored region) two.first (E.lengths two.dim) (E.Strides.strides_of two.strides) }
-    requires apart { ShareNoPlace one.first (D.lengths one.dim) (D.Strides.strides_of one.strides) two.first (E.lengths two.dim) (E.Strides.strides_of two.strides) }
-    requires callable { (m n : ℕ → Option A) → AgreesOnNamed (region_stored region) one.first (D.lengths one.dim) (D.Strides.strides_of one.strides) m → AgreesOnNamed (region_stored region) two.first (E.lengths two.dim) (E.Strides.strides_of two.strides) n → K.pre task (laid m one.first (D.lengths one.dim) (D.Strides.strides_of one.strides)) (laid n two.first (E.lengths two.dim) (E.Strides.strides_of two.strides)) }
+    requires one { LiesBy (region_stored region) (lay_of one) }
+    requires two { LiesBy (region_stored region) (lay_of two) }
+    requires apart { AreApart (lay_of one) (lay_of two) }
+    requires callable { AsksOfPair (K.pre task) (region_stored region) (lay_of one) (lay_of two) }
     ensures borrow { borrow_of result.0 ≡ borrow_of region.entry }
-    ensures done { (m : ℕ → Option A) × (n : ℕ → Option A) × (s : ℕ → Option A) × (t : ℕ → Option A) × AgreesOnNamed (region_stored region.entry) one.first (D.lengths one.dim) (D.Strides.strides_of one.strides) m × AgreesOnNamed (region_stored region.entry) two.first (E.lengths two.dim) (E.Strides.strides_of two.strides) n × K.post task (laid m one.first (D.lengths one.dim) (D.Strides.strides_of one.strides)) (laid n two.first (E.lengths two.dim) (E.Strides.strides_of two.strides)) (laid s one.first (D.lengths one.dim) (D.Strides.strides_of one.strides)) (laid t two.first (E.lengths two.dim) (E.Strides.strides_of two.strides)) result.1 × AgreesOnNamed (region_stored result.0) one.first (D.lengths one.dim) (D.Strides.strides_of one.strides) s × AgreesOnNamed (region_stored result.0) two.first (E.lengths two.dim) (E.Strides.strides_of two.strides) t }
-    ensures kept { (p : ℕ) → names one.first (D.lengths one.dim) (D.Strides.strides_of one.strides) p ≡ false → names two.first (E.lengths two.dim) (E.Strides.strides_of two.strides) p ≡ false → region_stored result.0 p ≡ region_stored region.entry p }
+    ensures done { IsDoneOnPair (λ v0 v1 w0 w1. K.post task v0 v1 w0 w1 result.1) (region_stored region.entry) (region_stored result.0) (lay_of one) (lay_of two) }
+    ensures kept { KeepsUnnamedByTwo (region_stored region.entry) (region_stored result.0) (lay_of one) (lay_of two) }
 {
     let mut region = region;
     let first = one.copied();
@@ -131,12 +129,12 @@ fn either_laid<'b, A, D: Dimension, E: Dimension, K: PairTask<A, D, E>>(
         second.dim.slice(),
         second.strides.slice(),
         move |both|
-            requires one { LiesSoundly (region_stored both) one.first (D.lengths one.dim) (D.Strides.strides_of one.strides) }
-            requires two { LiesSoundly (region_stored both) two.first (E.lengths two.dim) (E.Strides.strides_of two.strides) }
-            requires apart { ShareNoPlace one.first (D.lengths one.dim) (D.Strides.strides_of one.strides) two.first (E.lengths two.dim) (E.Strides.strides_of two.strides) }
-            requires callable { (m n : ℕ → Option A) → AgreesOnNamed (region_stored both) one.first (D.lengths one.dim) (D.Strides.strides_of one.strides) m → AgreesOnNamed (region_stored both) two.first (E.lengths two.dim) (E.Strides.strides_of two.strides) n → K.pre task (laid m one.first (D.lengths one.dim) (D.Strides.strides_of one.strides)) (laid n two.first (E.lengths two.dim) (E.Strides.strides_of two.strides)) }
+            requires one { LiesBy (region_stored both) (lay_of one) }
+            requires two { LiesBy (region_stored both) (lay_of two) }
+            requires apart { AreApart (lay_of one) (lay_of two) }
+            requires callable { AsksOfPair (K.pre task) (region_stored both) (lay_of one) (lay_of two) }
             ensures borrow { borrow_of result.0 ≡ borrow_of both.entry }
-            ensures done { (m : ℕ → Option A) × (n : ℕ → Option A) × (s : ℕ → Option A) × (t : ℕ → Option A) × AgreesOnNamed (region_stored both.entry) one.first (D.lengths one.dim) (D.Strides.strides_of one.strides) m × AgreesOnNamed (region_stored both.entry) two.first (E.lengths two.dim) (E.Strides.strides_of two.strides) n × K.post task (laid m one.first (D.lengths one.dim) (D.Strides.strides_of one.strides)) (laid n two.first (E.lengths two.dim) (E.Strides.strides_of two.strides)) (laid s one.first (D.lengths one.dim) (D.Strides.strides_of one.strides)) (laid t two.first (E.lengths two.dim) (E.Strides.strides_of two.strides)) result.1 × AgreesOnNamed (region_stored result.0) one.first (D.lengths one.dim) (D.Strides.strides_of one.strides) s × AgreesOnNamed (region_stored result.0) two.first (E.lengths two.dim) (E.Strides.strides_of two.strides) t }
+            ensures done { IsDoneOnPair (λ v0 v1 w0 w1. K.post task v0 v1 w0 w1 result.1) (region_stored both.entry) (region_stored result.0) (lay_of one) (lay_of two) }
         { split_laid(both, one, two, task) },
     );
     (region, answer)
@@ -156,31 +154,31 @@ pub(crate) fn pair_laid<
     two: Layout<E, E::Strides>,
     task: K,
 ) -> K::Answer
-    requires whole { HoldsAll (S.stored storage.old) whole.first (W.lengths whole.dim) (W.Strides.strides_of whole.strides) }
-    requires one { LiesSoundly (S.stored storage.old) one.first (D.lengths one.dim) (D.Strides.strides_of one.strides) }
-    requires two { LiesSoundly (S.stored storage.old) two.first (E.lengths two.dim) (E.Strides.strides_of two.strides) }
-    requires one_within { (p : ℕ) → names one.first (D.lengths one.dim) (D.Strides.strides_of one.strides) p ≡ true → names whole.first (W.lengths whole.dim) (W.Strides.strides_of whole.strides) p ≡ true }
-    requires two_within { (p : ℕ) → names two.first (E.lengths two.dim) (E.Strides.strides_of two.strides) p ≡ true → names whole.first (W.lengths whole.dim) (W.Strides.strides_of whole.strides) p ≡ true }
-    requires apart { ShareNoPlace one.first (D.lengths one.dim) (D.Strides.strides_of one.strides) two.first (E.lengths two.dim) (E.Strides.strides_of two.strides) }
-    requires callable { (m n : ℕ → Option S.Elem) → AgreesOnNamed (S.stored storage.old) one.first (D.lengths one.dim) (D.Strides.strides_of one.strides) m → AgreesOnNamed (S.stored storage.old) two.first (E.lengths two.dim) (E.Strides.strides_of two.strides) n → K.pre task (laid m one.first (D.lengths one.dim) (D.Strides.strides_of one.strides)) (laid n two.first (E.lengths two.dim) (E.Strides.strides_of two.strides)) }
+    requires whole { HoldsBy (S.stored storage.old) (lay_of whole) }
+    requires one { LiesBy (S.stored storage.old) (lay_of one) }
+    requires two { LiesBy (S.stored storage.old) (lay_of two) }
+    requires one_within { IsWithin (lay_of one) (lay_of whole) }
+    requires two_within { IsWithin (lay_of two) (lay_of whole) }
+    requires apart { AreApart (lay_of one) (lay_of two) }
+    requires callable { AsksOfPair (K.pre task) (S.stored storage.old) (lay_of one) (lay_of two) }
     ensures there { (p : ℕ) → is_some (S.stored storage.new p) ≡ is_some (S.stored storage.old p) }
     ensures borrow { S.borrow storage.new ≡ S.borrow storage.old }
-    ensures others { (p : ℕ) → names whole.first (W.lengths whole.dim) (W.Strides.strides_of whole.strides) p ≡ false → S.stored storage.new p ≡ S.stored storage.old p }
-    ensures kept { (p : ℕ) → names one.first (D.lengths one.dim) (D.Strides.strides_of one.strides) p ≡ false → names two.first (E.lengths two.dim) (E.Strides.strides_of two.strides) p ≡ false → S.stored storage.new p ≡ S.stored storage.old p }
-    ensures done { (m : ℕ → Option S.Elem) × (n : ℕ → Option S.Elem) × (s : ℕ → Option S.Elem) × (t : ℕ → Option S.Elem) × AgreesOnNamed (S.stored storage.old) one.first (D.lengths one.dim) (D.Strides.strides_of one.strides) m × AgreesOnNamed (S.stored storage.old) two.first (E.lengths two.dim) (E.Strides.strides_of two.strides) n × K.post task (laid m one.first (D.lengths one.dim) (D.Strides.strides_of one.strides)) (laid n two.first (E.lengths two.dim) (E.Strides.strides_of two.strides)) (laid s one.first (D.lengths one.dim) (D.Strides.strides_of one.strides)) (laid t two.first (E.lengths two.dim) (E.Strides.strides_of two.strides)) result × AgreesOnNamed (S.stored storage.new) one.first (D.lengths one.dim) (D.Strides.strides_of one.strides) s × AgreesOnNamed (S.stored storage.new) two.first (E.lengths two.dim) (E.Strides.strides_of two.strides) t }
+    ensures others { KeepsUnnamed (S.stored storage.old) (S.stored storage.new) (lay_of whole) }
+    ensures kept { KeepsUnnamedByTwo (S.stored storage.old) (S.stored storage.new) (lay_of one) (lay_of two) }
+    ensures done { IsDoneOnPair (λ v0 v1 w0 w1. K.post task v0 v1 w0 w1 result) (S.stored storage.old) (S.stored storage.new) (lay_of one) (lay_of two) }
 {
     storage.with_part(
         whole.first,
         whole.dim.slice(),
         whole.strides.slice(),
         move |region|
-            requires one { LiesSoundly (region_stored region) one.first (D.lengths one.dim) (D.Strides.strides_of one.strides) }
-            requires two { LiesSoundly (region_stored region) two.first (E.lengths two.dim) (E.Strides.strides_of two.strides) }
-            requires apart { ShareNoPlace one.first (D.lengths one.dim) (D.Strides.strides_of one.strides) two.first (E.lengths two.dim) (E.Strides.strides_of two.strides) }
-            requires callable { (m n : ℕ → Option S.Elem) → AgreesOnNamed (region_stored region) one.first (D.lengths one.dim) (D.Strides.strides_of one.strides) m → AgreesOnNamed (region_stored region) two.first (E.lengths two.dim) (E.Strides.strides_of two.strides) n → K.pre task (laid m one.first (D.lengths one.dim) (D.Strides.strides_of one.strides)) (laid n two.first (E.lengths two.dim) (E.Strides.strides_of two.strides)) }
+            requires one { LiesBy (region_stored region) (lay_of one) }
+            requires two { LiesBy (region_stored region) (lay_of two) }
+            requires apart { AreApart (lay_of one) (lay_of two) }
+            requires callable { AsksOfPair (K.pre task) (region_stored region) (lay_of one) (lay_of two) }
             ensures borrow { borrow_of result.0 ≡ borrow_of region.entry }
-            ensures done { (m : ℕ → Option S.Elem) × (n : ℕ → Option S.Elem) × (s : ℕ → Option S.Elem) × (t : ℕ → Option S.Elem) × AgreesOnNamed (region_stored region.entry) one.first (D.lengths one.dim) (D.Strides.strides_of one.strides) m × AgreesOnNamed (region_stored region.entry) two.first (E.lengths two.dim) (E.Strides.strides_of two.strides) n × K.post task (laid m one.first (D.lengths one.dim) (D.Strides.strides_of one.strides)) (laid n two.first (E.lengths two.dim) (E.Strides.strides_of two.strides)) (laid s one.first (D.lengths one.dim) (D.Strides.strides_of one.strides)) (laid t two.first (E.lengths two.dim) (E.Strides.strides_of two.strides)) result.1 × AgreesOnNamed (region_stored result.0) one.first (D.lengths one.dim) (D.Strides.strides_of one.strides) s × AgreesOnNamed (region_stored result.0) two.first (E.lengths two.dim) (E.Strides.strides_of two.strides) t }
-            ensures kept { (p : ℕ) → names one.first (D.lengths one.dim) (D.Strides.strides_of one.strides) p ≡ false → names two.first (E.lengths two.dim) (E.Strides.strides_of two.strides) p ≡ false → region_stored result.0 p ≡ region_stored region.entry p }
+            ensures done { IsDoneOnPair (λ v0 v1 w0 w1. K.post task v0 v1 w0 w1 result.1) (region_stored region.entry) (region_stored result.0) (lay_of one) (lay_of two) }
+            ensures kept { KeepsUnnamedByTwo (region_stored region.entry) (region_stored result.0) (lay_of one) (lay_of two) }
         { either_laid(region, one, two, task) },
     )
 }
@@ -200,12 +198,12 @@ impl<S: DataMut, D: Dimension> ArrayBase<S, D> {
     ) -> K::Answer
         requires axis { axis.0 < length (shape_of self.old) }
         requires within { index ≤ slice_index (shape_of self.old) axis.0 }
-        requires callable { (v0 v1 : Placed S.Elem) → IsSeenThrough (lower_shape (shape_of self.old) axis.0 index) (λ i. i) (place_at self.old) (element_at self.old) v0 → IsSeenThrough (upper_shape (shape_of self.old) axis.0 index) (upper_index axis.0 index) (place_at self.old) (element_at self.old) v1 → K.pre task v0 v1 }
+        requires callable { AsksOfParts (K.pre task) self.old (lower_part (shape_of self.old) axis.0 index) (upper_part (shape_of self.old) axis.0 index) }
         ensures shape { shape_of self.new ≡ shape_of self.old }
         ensures places { (i : List ℕ) → place_at self.new i ≡ place_at self.old i }
         ensures borrow { S.borrow (storage_of self.new) ≡ S.borrow (storage_of self.old) }
         ensures others { OthersStay (place_at self.old) (S.stored (storage_of self.old)) (S.stored (storage_of self.new)) }
-        ensures done { (v0 : Placed S.Elem) × (v1 : Placed S.Elem) × (w0 : Placed S.Elem) × (w1 : Placed S.Elem) × IsSeenThrough (lower_shape (shape_of self.old) axis.0 index) (λ i. i) (place_at self.old) (element_at self.old) v0 × IsSeenThrough (upper_shape (shape_of self.old) axis.0 index) (upper_index axis.0 index) (place_at self.old) (element_at self.old) v1 × K.post task v0 v1 w0 w1 result × IsSeenThrough (lower_shape (shape_of self.old) axis.0 index) (λ i. i) (place_at self.new) (element_at self.new) w0 × IsSeenThrough (upper_shape (shape_of self.old) axis.0 index) (upper_index axis.0 index) (place_at self.new) (element_at self.new) w1 }
+        ensures done { IsDoneOnParts (λ v0 v1 w0 w1. K.post task v0 v1 w0 w1 result) self.old self.new (lower_part (shape_of self.old) axis.0 index) (upper_part (shape_of self.old) axis.0 index) }
     {
         let whole = self.layout.copied();
         let mut lower = self.layout.copied();

@@ -1,11 +1,9 @@
 //! Calls that lend a mutable view of a part of an array to a task for their length.
 
-ghost use Rattle.std.specs.Prelude.{◌≡◌, ◌<◌, ◌∷◌, [], ℕ, true, List, length, slice_index};
-ghost use Rattle.nd_shape_and_slice.specs.Slice.{fits_axis, sliced_shape, sliced_index};
-ghost use Rattle.nd_shape_and_slice.specs.SliceInfo.{fits_shape, shape_after, index_before};
-ghost use Rattle.nd_array_core.specs.Maps.{indexed_shape, indexed_index, diagonal_length, diagonal_index};
-ghost use Rattle.nd_array_core.specs.Placed.{Placed};
-ghost use Rattle.nd_array_core.specs.Tasks.{IsSeenThrough, OthersKeep};
+ghost use Rattle.std.specs.Prelude.{◌≡◌, ◌<◌, ℕ, true, List, length, slice_index};
+ghost use Rattle.nd_shape_and_slice.specs.Slice.{fits_axis};
+ghost use Rattle.nd_shape_and_slice.specs.SliceInfo.{fits_shape};
+ghost use Rattle.nd_array_core.specs.PartTasks.{sliced_part, axis_part, coordinate_part, diagonal_part, AsksOfPart, IsDoneOnPart, KeepsBut};
 ghost use Rattle.nd_array_core.specs.Writes.{OthersStay};
 
 use crate::array::ArrayBase;
@@ -26,13 +24,13 @@ impl<S: DataMut, D: Dimension> ArrayBase<S, D> {
         task: K,
     ) -> K::Answer
         requires fits { fits_shape (shape_of self.old) (I.elements_of info) ≡ true }
-        requires callable { (v : Placed S.Elem) → IsSeenThrough (shape_after (shape_of self.old) (I.elements_of info)) (index_before (shape_of self.old) (I.elements_of info)) (place_at self.old) (element_at self.old) v → K.pre task v }
+        requires callable { AsksOfPart (K.pre task) self.old (sliced_part (shape_of self.old) (I.elements_of info)) }
         ensures shape { shape_of self.new ≡ shape_of self.old }
         ensures places { (i : List ℕ) → place_at self.new i ≡ place_at self.old i }
         ensures borrow { S.borrow (storage_of self.new) ≡ S.borrow (storage_of self.old) }
         ensures others { OthersStay (place_at self.old) (S.stored (storage_of self.old)) (S.stored (storage_of self.new)) }
-        ensures kept { OthersKeep (shape_after (shape_of self.old) (I.elements_of info)) (index_before (shape_of self.old) (I.elements_of info)) (element_at self.old) (element_at self.new) }
-        ensures done { (v : Placed S.Elem) × (w : Placed S.Elem) × IsSeenThrough (shape_after (shape_of self.old) (I.elements_of info)) (index_before (shape_of self.old) (I.elements_of info)) (place_at self.old) (element_at self.old) v × IsSeenThrough (shape_after (shape_of self.old) (I.elements_of info)) (index_before (shape_of self.old) (I.elements_of info)) (place_at self.new) (element_at self.new) w × K.post task v w result }
+        ensures kept { KeepsBut self.old self.new (sliced_part (shape_of self.old) (I.elements_of info)) }
+        ensures done { IsDoneOnPart (λ v w. K.post task v w result) self.old self.new (sliced_part (shape_of self.old) (I.elements_of info)) }
     {
         let layout = self.layout.sliced::<I::OutDim>(info.elements());
         with_laid(&mut self.storage, layout, task)
@@ -49,13 +47,13 @@ impl<S: DataMut, D: Dimension> ArrayBase<S, D> {
     ) -> K::Answer
         requires axis { axis.0 < length (shape_of self.old) }
         requires fits { fits_axis (slice_index (shape_of self.old) axis.0) slice ≡ true }
-        requires callable { (v : Placed S.Elem) → IsSeenThrough (sliced_shape (shape_of self.old) axis.0 slice) (sliced_index (shape_of self.old) axis.0 slice) (place_at self.old) (element_at self.old) v → K.pre task v }
+        requires callable { AsksOfPart (K.pre task) self.old (axis_part (shape_of self.old) axis.0 slice) }
         ensures shape { shape_of self.new ≡ shape_of self.old }
         ensures places { (i : List ℕ) → place_at self.new i ≡ place_at self.old i }
         ensures borrow { S.borrow (storage_of self.new) ≡ S.borrow (storage_of self.old) }
         ensures others { OthersStay (place_at self.old) (S.stored (storage_of self.old)) (S.stored (storage_of self.new)) }
-        ensures kept { OthersKeep (sliced_shape (shape_of self.old) axis.0 slice) (sliced_index (shape_of self.old) axis.0 slice) (element_at self.old) (element_at self.new) }
-        ensures done { (v : Placed S.Elem) × (w : Placed S.Elem) × IsSeenThrough (sliced_shape (shape_of self.old) axis.0 slice) (sliced_index (shape_of self.old) axis.0 slice) (place_at self.old) (element_at self.old) v × IsSeenThrough (sliced_shape (shape_of self.old) axis.0 slice) (sliced_index (shape_of self.old) axis.0 slice) (place_at self.new) (element_at self.new) w × K.post task v w result }
+        ensures kept { KeepsBut self.old self.new (axis_part (shape_of self.old) axis.0 slice) }
+        ensures done { IsDoneOnPart (λ v w. K.post task v w result) self.old self.new (axis_part (shape_of self.old) axis.0 slice) }
     {
         let mut layout = self.layout.copied();
         layout.slice_axis(axis.0, slice);
@@ -66,13 +64,13 @@ impl<S: DataMut, D: Dimension> ArrayBase<S, D> {
     /// array without axes, of its element. The array then shows there what the view does, and elsewhere what it did.
     /// This project's own, beside ndarray's `diag_mut`.
     pub fn with_diag_mut<K: ViewTask<S::Elem, Ix1>>(&mut self, task: K) -> K::Answer
-        requires callable { (v : Placed S.Elem) → IsSeenThrough (diagonal_length (shape_of self.old) ∷ []) (diagonal_index (shape_of self.old)) (place_at self.old) (element_at self.old) v → K.pre task v }
+        requires callable { AsksOfPart (K.pre task) self.old (diagonal_part (shape_of self.old)) }
         ensures shape { shape_of self.new ≡ shape_of self.old }
         ensures places { (i : List ℕ) → place_at self.new i ≡ place_at self.old i }
         ensures borrow { S.borrow (storage_of self.new) ≡ S.borrow (storage_of self.old) }
         ensures others { OthersStay (place_at self.old) (S.stored (storage_of self.old)) (S.stored (storage_of self.new)) }
-        ensures kept { OthersKeep (diagonal_length (shape_of self.old) ∷ []) (diagonal_index (shape_of self.old)) (element_at self.old) (element_at self.new) }
-        ensures done { (v : Placed S.Elem) × (w : Placed S.Elem) × IsSeenThrough (diagonal_length (shape_of self.old) ∷ []) (diagonal_index (shape_of self.old)) (place_at self.old) (element_at self.old) v × IsSeenThrough (diagonal_length (shape_of self.old) ∷ []) (diagonal_index (shape_of self.old)) (place_at self.new) (element_at self.new) w × K.post task v w result }
+        ensures kept { KeepsBut self.old self.new (diagonal_part (shape_of self.old)) }
+        ensures done { IsDoneOnPart (λ v w. K.post task v w result) self.old self.new (diagonal_part (shape_of self.old)) }
     {
         let layout = self.layout.diagonal();
         with_laid(&mut self.storage, layout, task)
@@ -97,13 +95,13 @@ where
     ) -> K::Answer
         requires axis { axis.0 < length (shape_of self.old) }
         requires within { index < slice_index (shape_of self.old) axis.0 }
-        requires callable { (v : Placed S.Elem) → IsSeenThrough (indexed_shape (shape_of self.old) axis.0) (indexed_index axis.0 index) (place_at self.old) (element_at self.old) v → K.pre task v }
+        requires callable { AsksOfPart (K.pre task) self.old (coordinate_part (shape_of self.old) axis.0 index) }
         ensures shape { shape_of self.new ≡ shape_of self.old }
         ensures places { (i : List ℕ) → place_at self.new i ≡ place_at self.old i }
         ensures borrow { S.borrow (storage_of self.new) ≡ S.borrow (storage_of self.old) }
         ensures others { OthersStay (place_at self.old) (S.stored (storage_of self.old)) (S.stored (storage_of self.new)) }
-        ensures kept { OthersKeep (indexed_shape (shape_of self.old) axis.0) (indexed_index axis.0 index) (element_at self.old) (element_at self.new) }
-        ensures done { (v : Placed S.Elem) × (w : Placed S.Elem) × IsSeenThrough (indexed_shape (shape_of self.old) axis.0) (indexed_index axis.0 index) (place_at self.old) (element_at self.old) v × IsSeenThrough (indexed_shape (shape_of self.old) axis.0) (indexed_index axis.0 index) (place_at self.new) (element_at self.new) w × K.post task v w result }
+        ensures kept { KeepsBut self.old self.new (coordinate_part (shape_of self.old) axis.0 index) }
+        ensures done { IsDoneOnPart (λ v w. K.post task v w result) self.old self.new (coordinate_part (shape_of self.old) axis.0 index) }
     {
         let layout = self.layout.index_axis(axis.0, index);
         with_laid(&mut self.storage, layout, task)

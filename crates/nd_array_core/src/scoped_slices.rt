@@ -1,10 +1,8 @@
 //! Calls that lend mutable views of what two lists of slices name of an array to a task for their length.
 
 ghost use Rattle.std.specs.Prelude.{◌≡◌, ℕ, List};
-ghost use Rattle.nd_shape_and_slice.specs.SliceInfo.{shape_after, index_before};
 ghost use Rattle.nd_array_core.specs.MultiSlice.{TwoFit};
-ghost use Rattle.nd_array_core.specs.Placed.{Placed};
-ghost use Rattle.nd_array_core.specs.Tasks.{IsSeenThrough, OthersKeepTwo};
+ghost use Rattle.nd_array_core.specs.PartTasks.{sliced_part, AsksOfParts, IsDoneOnParts, KeepsButTwo};
 ghost use Rattle.nd_array_core.specs.Writes.{OthersStay};
 
 use crate::array::ArrayBase;
@@ -25,13 +23,13 @@ impl<S: DataMut, D: Dimension> ArrayBase<S, D> {
         K: PairTask<S::Elem, I::OutDim, J::OutDim>,
     >(&mut self, lists: (I, J), task: K) -> K::Answer
         requires fits { TwoFit (shape_of self.old) (I.elements_of lists.0) (J.elements_of lists.1) }
-        requires callable { (v0 v1 : Placed S.Elem) → IsSeenThrough (shape_after (shape_of self.old) (I.elements_of lists.0)) (index_before (shape_of self.old) (I.elements_of lists.0)) (place_at self.old) (element_at self.old) v0 → IsSeenThrough (shape_after (shape_of self.old) (J.elements_of lists.1)) (index_before (shape_of self.old) (J.elements_of lists.1)) (place_at self.old) (element_at self.old) v1 → K.pre task v0 v1 }
+        requires callable { AsksOfParts (K.pre task) self.old (sliced_part (shape_of self.old) (I.elements_of lists.0)) (sliced_part (shape_of self.old) (J.elements_of lists.1)) }
         ensures shape { shape_of self.new ≡ shape_of self.old }
         ensures places { (i : List ℕ) → place_at self.new i ≡ place_at self.old i }
         ensures borrow { S.borrow (storage_of self.new) ≡ S.borrow (storage_of self.old) }
         ensures others { OthersStay (place_at self.old) (S.stored (storage_of self.old)) (S.stored (storage_of self.new)) }
-        ensures kept { OthersKeepTwo (shape_after (shape_of self.old) (I.elements_of lists.0)) (index_before (shape_of self.old) (I.elements_of lists.0)) (shape_after (shape_of self.old) (J.elements_of lists.1)) (index_before (shape_of self.old) (J.elements_of lists.1)) (element_at self.old) (element_at self.new) }
-        ensures done { (v0 : Placed S.Elem) × (v1 : Placed S.Elem) × (w0 : Placed S.Elem) × (w1 : Placed S.Elem) × IsSeenThrough (shape_after (shape_of self.old) (I.elements_of lists.0)) (index_before (shape_of self.old) (I.elements_of lists.0)) (place_at self.old) (element_at self.old) v0 × IsSeenThrough (shape_after (shape_of self.old) (J.elements_of lists.1)) (index_before (shape_of self.old) (J.elements_of lists.1)) (place_at self.old) (element_at self.old) v1 × K.post task v0 v1 w0 w1 result × IsSeenThrough (shape_after (shape_of self.old) (I.elements_of lists.0)) (index_before (shape_of self.old) (I.elements_of lists.0)) (place_at self.new) (element_at self.new) w0 × IsSeenThrough (shape_after (shape_of self.old) (J.elements_of lists.1)) (index_before (shape_of self.old) (J.elements_of lists.1)) (place_at self.new) (element_at self.new) w1 }
+        ensures kept { KeepsButTwo self.old self.new (sliced_part (shape_of self.old) (I.elements_of lists.0)) (sliced_part (shape_of self.old) (J.elements_of lists.1)) }
+        ensures done { IsDoneOnParts (λ v0 v1 w0 w1. K.post task v0 v1 w0 w1 result) self.old self.new (sliced_part (shape_of self.old) (I.elements_of lists.0)) (sliced_part (shape_of self.old) (J.elements_of lists.1)) }
     {
         let whole = self.layout.copied();
         let first = self.layout.sliced::<I::OutDim>(lists.0.elements());

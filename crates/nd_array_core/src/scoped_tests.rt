@@ -8,7 +8,8 @@ ghost use Rattle.nd_array_core.specs.Maps.{lower_shape, upper_shape, upper_index
 ghost use Rattle.nd_array_core.specs.Meaning.{shape_of, element_at};
 ghost use Rattle.nd_array_core.specs.MultiSlice.{TwoFit};
 ghost use Rattle.nd_array_core.specs.Placed.{element_placed};
-ghost use Rattle.nd_array_core.specs.Tasks.{view_borrow, lent_borrow, lent_view, view_left, CanBeSeen, OthersKeep, OthersKeepTwo};
+ghost use Rattle.nd_array_core.specs.Tasks.{view_borrow, lent_borrow, lent_view, view_left, CanBeSeen};
+ghost use Rattle.nd_array_core.specs.PartTasks.{sliced_part, axis_part, coordinate_part, diagonal_part, KeepsBut, KeepsButTwo};
 ghost use Rattle.nd_array_core.specs.Writes.{with_element_at};
 
 use crate::array::{Array, ArrayBase};
@@ -121,7 +122,7 @@ fn put_in_slices<
     requires high { in_box (shape_after (shape_of array.old) (J.elements_of lists.1)) (Y.coordinates_of task.high) ≡ true }
     ensures low { element_at array.new (index_before (shape_of array.old) (I.elements_of lists.0) (X.coordinates_of task.low)) ≡ Some task.lower }
     ensures high { element_at array.new (index_before (shape_of array.old) (J.elements_of lists.1) (Y.coordinates_of task.high)) ≡ Some task.upper }
-    ensures kept { OthersKeepTwo (shape_after (shape_of array.old) (I.elements_of lists.0)) (index_before (shape_of array.old) (I.elements_of lists.0)) (shape_after (shape_of array.old) (J.elements_of lists.1)) (index_before (shape_of array.old) (J.elements_of lists.1)) (element_at array.old) (element_at array.new) }
+    ensures kept { KeepsButTwo array.old array.new (sliced_part (shape_of array.old) (I.elements_of lists.0)) (sliced_part (shape_of array.old) (J.elements_of lists.1)) }
 {
     array.with_multi_slice_mut(lists, task);
 }
@@ -136,7 +137,7 @@ fn put_in_slice<A: Drop, S: DataMut<Elem = A>, D: Dimension, I: SliceArg<D>, X: 
     requires within { in_box (shape_after (shape_of array.old) (I.elements_of info)) (X.coordinates_of index) ≡ true }
     ensures old { element_at array.old (index_before (shape_of array.old) (I.elements_of info) (X.coordinates_of index)) ≡ Some result }
     ensures new { element_at array.new (index_before (shape_of array.old) (I.elements_of info) (X.coordinates_of index)) ≡ Some value }
-    ensures kept { OthersKeep (shape_after (shape_of array.old) (I.elements_of info)) (index_before (shape_of array.old) (I.elements_of info)) (element_at array.old) (element_at array.new) }
+    ensures kept { KeepsBut array.old array.new (sliced_part (shape_of array.old) (I.elements_of info)) }
 {
     array.with_slice_mut(info, Put { index, value })
 }
@@ -165,7 +166,7 @@ fn put_along_axis<A: Drop, S: DataMut<Elem = A>, D: Dimension, X: NdIndex<D>>(
     ensures shape { shape_of array.new ≡ shape_of array.old }
     ensures old { element_at array.old (sliced_index (shape_of array.old) axis.0 slice (X.coordinates_of task.index)) ≡ Some result }
     ensures new { element_at array.new (sliced_index (shape_of array.old) axis.0 slice (X.coordinates_of task.index)) ≡ Some task.value }
-    ensures kept { OthersKeep (sliced_shape (shape_of array.old) axis.0 slice) (sliced_index (shape_of array.old) axis.0 slice) (element_at array.old) (element_at array.new) }
+    ensures kept { KeepsBut array.old array.new (axis_part (shape_of array.old) axis.0 slice) }
 {
     array.with_slice_axis_mut(axis, slice, task)
 }
@@ -184,7 +185,7 @@ where
     ensures shape { shape_of array.new ≡ shape_of array.old }
     ensures old { element_at array.old (indexed_index axis.0 index (X.coordinates_of task.index)) ≡ Some result }
     ensures new { element_at array.new (indexed_index axis.0 index (X.coordinates_of task.index)) ≡ Some task.value }
-    ensures kept { OthersKeep (indexed_shape (shape_of array.old) axis.0) (indexed_index axis.0 index) (element_at array.old) (element_at array.new) }
+    ensures kept { KeepsBut array.old array.new (coordinate_part (shape_of array.old) axis.0 index) }
 {
     array.with_index_axis_mut(axis, index, task)
 }
@@ -197,7 +198,7 @@ fn put_on_diagonal<A: Drop, S: DataMut<Elem = A>, D: Dimension, X: NdIndex<Ix1>>
     ensures shape { shape_of array.new ≡ shape_of array.old }
     ensures old { element_at array.old (diagonal_index (shape_of array.old) (X.coordinates_of task.index)) ≡ Some result }
     ensures new { element_at array.new (diagonal_index (shape_of array.old) (X.coordinates_of task.index)) ≡ Some task.value }
-    ensures kept { OthersKeep (diagonal_length (shape_of array.old) ∷ []) (diagonal_index (shape_of array.old)) (element_at array.old) (element_at array.new) }
+    ensures kept { KeepsBut array.old array.new (diagonal_part (shape_of array.old)) }
 {
     array.with_diag_mut(task)
 }

@@ -1,9 +1,8 @@
 //! The border of an image, drawn by four writes: its first and last row, and its first and last column.
 ghost use Rattle.std.specs.Prelude.{◌≡◌, ◌∷◌, [], ℕ, true, false, List, slice_index, is_some, Some, OnOk, IfOk};
-ghost use Rattle.nd_shape_and_slice.specs.Shape.{in_box};
-ghost use Rattle.nd_shape_and_slice.specs.SliceInfo.{axes_read, axes_kept, coordinate_on, fits_shape, shape_after, index_before};
+ghost use Rattle.nd_shape_and_slice.specs.SliceInfo.{axes_read, axes_kept, coordinate_on, fits_shape};
 ghost use Rattle.nd_array_core.specs.Meaning.{shape_of, element_at};
-ghost use Rattle.nd_array_core.specs.Tasks.{OthersKeep};
+ghost use Rattle.nd_array_core.specs.PartTasks.{sliced_part, IsFilledWith, KeepsBut};
 ghost use Rattle.nd_array_core_uses.specs.Painting.{in_row, in_column, is_border};
 
 use crate::paint::fill_slice;
@@ -46,8 +45,8 @@ fn fill_line<A: Clone + Drop, S: DataMut<Elem = A>>(
     requires fits { fits_shape (shape_of image.old) list.now ≡ true }
     requires clones { (copy : A) → A.is_clone value.now copy → copy ≡ value.now }
     ensures shape { shape_of image.new ≡ shape_of image.old }
-    ensures filled { OnOk result ((i : List ℕ) → in_box (shape_after (shape_of image.old) list.now) i ≡ true → element_at image.new (index_before (shape_of image.old) list.now i) ≡ Some value.now) }
-    ensures kept { OthersKeep (shape_after (shape_of image.old) list.now) (index_before (shape_of image.old) list.now) (element_at image.old) (element_at image.new) }
+    ensures filled { OnOk result (IsFilledWith image.new (sliced_part (shape_of image.old) list.now) value.now) }
+    ensures kept { KeepsBut image.old image.new (sliced_part (shape_of image.old) list.now) }
 {
     let copy = copy_of(value)?;
     match SliceInfo::<Ix2, Ix1>::new(list) {

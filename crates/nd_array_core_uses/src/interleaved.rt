@@ -1,10 +1,9 @@
 //! The even rows of a grid and the odd ones, filled at once through two views.
-ghost use Rattle.std.specs.Prelude.{◌≡◌, ◌%◌, ◌∷◌, [], ℕ, true, List, length, nat_eq, Some, IsSome, IfSome, OnOk, if◌then◌else◌};
+ghost use Rattle.std.specs.Prelude.{◌≡◌, ◌%◌, ◌∷◌, [], ℕ, true, length, nat_eq, Some, IsSome, IfSome, OnOk, if◌then◌else◌};
 ghost use Rattle.nd_shape_and_slice.specs.Shape.{in_box};
-ghost use Rattle.nd_shape_and_slice.specs.SliceInfo.{shape_after, index_before};
 ghost use Rattle.nd_array_core.specs.Meaning.{shape_of, element_at};
 ghost use Rattle.nd_array_core.specs.MultiSlice.{TwoFit};
-ghost use Rattle.nd_array_core.specs.Tasks.{OthersKeepTwo};
+ghost use Rattle.nd_array_core.specs.PartTasks.{sliced_part, IsFilledWith, KeepsButTwo};
 
 use crate::two_parts::FillBoth;
 use nd_array_core::{ArrayBase, DataMut};
@@ -25,9 +24,9 @@ pub fn fill_slices<
     requires first { (copy : A) → A.is_clone first copy → copy ≡ first }
     requires second { (copy : A) → A.is_clone second copy → copy ≡ second }
     ensures shape { shape_of array.new ≡ shape_of array.old }
-    ensures first { OnOk result ((i : List ℕ) → in_box (shape_after (shape_of array.old) (I.elements_of lists.0)) i ≡ true → element_at array.new (index_before (shape_of array.old) (I.elements_of lists.0) i) ≡ Some first) }
-    ensures second { OnOk result ((i : List ℕ) → in_box (shape_after (shape_of array.old) (J.elements_of lists.1)) i ≡ true → element_at array.new (index_before (shape_of array.old) (J.elements_of lists.1) i) ≡ Some second) }
-    ensures kept { OthersKeepTwo (shape_after (shape_of array.old) (I.elements_of lists.0)) (index_before (shape_of array.old) (I.elements_of lists.0)) (shape_after (shape_of array.old) (J.elements_of lists.1)) (index_before (shape_of array.old) (J.elements_of lists.1)) (element_at array.old) (element_at array.new) }
+    ensures first { OnOk result (IsFilledWith array.new (sliced_part (shape_of array.old) (I.elements_of lists.0)) first) }
+    ensures second { OnOk result (IsFilledWith array.new (sliced_part (shape_of array.old) (J.elements_of lists.1)) second) }
+    ensures kept { KeepsButTwo array.old array.new (sliced_part (shape_of array.old) (I.elements_of lists.0)) (sliced_part (shape_of array.old) (J.elements_of lists.1)) }
 {
     array.with_multi_slice_mut(lists, FillBoth { first, second })
 }
@@ -45,8 +44,8 @@ pub fn try_fill_slices<
     requires second { (copy : A) → A.is_clone second copy → copy ≡ second }
     ensures some { TwoFit (shape_of array.old) (I.elements_of lists.0) (J.elements_of lists.1) → IsSome result }
     ensures shape { shape_of array.new ≡ shape_of array.old }
-    ensures first { IfSome result (λ done. OnOk done ((i : List ℕ) → in_box (shape_after (shape_of array.old) (I.elements_of lists.0)) i ≡ true → element_at array.new (index_before (shape_of array.old) (I.elements_of lists.0) i) ≡ Some first)) }
-    ensures second { IfSome result (λ done. OnOk done ((i : List ℕ) → in_box (shape_after (shape_of array.old) (J.elements_of lists.1)) i ≡ true → element_at array.new (index_before (shape_of array.old) (J.elements_of lists.1) i) ≡ Some second)) }
+    ensures first { IfSome result (λ done. OnOk done (IsFilledWith array.new (sliced_part (shape_of array.old) (I.elements_of lists.0)) first)) }
+    ensures second { IfSome result (λ done. OnOk done (IsFilledWith array.new (sliced_part (shape_of array.old) (J.elements_of lists.1)) second)) }
 {
     let shape = array.shape();
     if !lists.0.fits(shape) || !lists.1.fits(shape) {

@@ -1,10 +1,10 @@
 //! Parts of an array filled through a view that is lent for the call.
 ghost use Rattle.std.specs.Prelude.{◌≡◌, ℕ, true, List, Some, OnOk};
-ghost use Rattle.nd_shape_and_slice.specs.Shape.{in_box};
-ghost use Rattle.nd_shape_and_slice.specs.SliceInfo.{fits_shape, shape_after, index_before};
-ghost use Rattle.nd_array_core.specs.Meaning.{shape_of, element_at, inside};
+ghost use Rattle.nd_shape_and_slice.specs.SliceInfo.{fits_shape};
+ghost use Rattle.nd_array_core.specs.Meaning.{shape_of, inside};
 ghost use Rattle.nd_array_core.specs.Placed.{element_placed};
-ghost use Rattle.nd_array_core.specs.Tasks.{view_borrow, lent_borrow, lent_view, view_left, CanBeSeen, OthersKeep};
+ghost use Rattle.nd_array_core.specs.Tasks.{view_borrow, lent_borrow, lent_view, view_left, CanBeSeen};
+ghost use Rattle.nd_array_core.specs.PartTasks.{sliced_part, IsFilledWith, KeepsBut};
 
 use nd_array_core::scoped::{LentView, ViewTask};
 use nd_array_core::{ArrayBase, DataMut, ViewMutRepr};
@@ -45,8 +45,8 @@ pub fn fill_slice<A: Clone + Drop, S: DataMut<Elem = A>, D: Dimension, I: SliceA
     requires fits { fits_shape (shape_of array.old) (I.elements_of info) ≡ true }
     requires clones { (copy : A) → A.is_clone value copy → copy ≡ value }
     ensures shape { shape_of array.new ≡ shape_of array.old }
-    ensures filled { OnOk result ((i : List ℕ) → in_box (shape_after (shape_of array.old) (I.elements_of info)) i ≡ true → element_at array.new (index_before (shape_of array.old) (I.elements_of info) i) ≡ Some value) }
-    ensures kept { OthersKeep (shape_after (shape_of array.old) (I.elements_of info)) (index_before (shape_of array.old) (I.elements_of info)) (element_at array.old) (element_at array.new) }
+    ensures filled { OnOk result (IsFilledWith array.new (sliced_part (shape_of array.old) (I.elements_of info)) value) }
+    ensures kept { KeepsBut array.old array.new (sliced_part (shape_of array.old) (I.elements_of info)) }
 {
     array.with_slice_mut(info, Fill { value })
 }

@@ -2,4 +2,5 @@ pub mod Lends
 pub mod Memory
 pub mod Places
 pub mod Region
+pub mod Scoped
 pub mod Shared

@@ -1,7 +1,8 @@
 //! A region for the length of a call.
-ghost use Rattle.std.specs.Prelude.{◌≡◌, ℕ, Bool, not, if◌then◌else◌, length, IsSome};
-ghost use Rattle.nd_region.specs.Places.{names, names_not, names_either};
-ghost use Rattle.nd_region.specs.Region.{IsWhole, IsSameBorrow, IsPartWhere, HasPlaces, IsAsLong, borrow_of, rejoined, stored, elements_of, with_swapped, SwappedBetween};
+ghost use Rattle.std.specs.Prelude.{◌≡◌, ℕ, Bool, length, IsSome};
+ghost use Rattle.nd_region.specs.Places.{names, names_either};
+ghost use Rattle.nd_region.specs.Region.{IsWhole, IsSameBorrow, HasPlaces, IsAsLong, borrow_of, stored, elements_of, with_swapped, SwappedBetween};
+ghost use Rattle.nd_region.specs.Scoped.{TakesPart, GivesPartBack, IsPartReturned, TakesParts, GivesPartsBack, ArePartsReturned};
 ghost use Rattle.nd_region.specs.declared.region.Region.{Region as RegionOf};
 
 use crate::region::Region;
@@ -36,9 +37,9 @@ impl<'a, A> Region<'a, A> {
     >(&mut self, first: usize, lengths: &[usize], strides: &[isize], f: F) -> R
         requires as_many { length lengths.now ≡ length strides.now }
         requires within { HasPlaces self.old first lengths.now strides.now }
-        requires callable { (x y : RegionOf A) → IsPartWhere (names first lengths.now strides.now) self.old x → IsPartWhere (names_not first lengths.now strides.now) self.old y → F.pre f x y }
-        requires returns { (x y : RegionOf A) (out : RegionOf A × RegionOf A × R) → IsPartWhere (names first lengths.now strides.now) self.old x → IsPartWhere (names_not first lengths.now strides.now) self.old y → F.post f x y out → IsSameBorrow x out.0 × IsSameBorrow y out.1 }
-        ensures { (x : RegionOf A) × (y : RegionOf A) × (s : RegionOf A) × (t : RegionOf A) × IsPartWhere (names first lengths.now strides.now) self.old x × IsPartWhere (names_not first lengths.now strides.now) self.old y × F.post f x y (s, t, result) × (self.new ≡ rejoined self.old x s t) × IsAsLong x s × IsAsLong y t }
+        requires callable { TakesParts (F.pre f) (names first lengths.now strides.now) self.old }
+        requires returns { GivesPartsBack (F.post f) (names first lengths.now strides.now) self.old }
+        ensures { ArePartsReturned (F.post f) (names first lengths.now strides.now) self.old self.new result }
     {
         self.split_where(first, lengths, strides, 0, &[], &[], f)
     }
@@ -60,9 +61,9 @@ impl<'a, A> Region<'a, A> {
         f: F,
     ) -> R
         ghost chosen: { ℕ → Bool }
-        requires callable { (x y : RegionOf A) → IsPartWhere chosen self.old x → IsPartWhere (λ p. not (chosen p)) self.old y → F.pre f x y }
-        requires returns { (x y : RegionOf A) (out : RegionOf A × RegionOf A × R) → IsPartWhere chosen self.old x → IsPartWhere (λ p. not (chosen p)) self.old y → F.post f x y out → IsSameBorrow x out.0 × IsSameBorrow y out.1 }
-        ensures { (x : RegionOf A) × (y : RegionOf A) × (s : RegionOf A) × (t : RegionOf A) × IsPartWhere chosen self.old x × IsPartWhere (λ p. not (chosen p)) self.old y × F.post f x y (s, t, result) × (self.new ≡ rejoined self.old x s t) × IsAsLong x s × IsAsLong y t }
+        requires callable { TakesParts (F.pre f) chosen self.old }
+        requires returns { GivesPartsBack (F.post f) chosen self.old }
+        ensures { ArePartsReturned (F.post f) chosen self.old self.new result }
     {
         let ptr = self.ptr;
         let len = self.len;
@@ -93,9 +94,9 @@ impl<'a, A> Region<'a, A> {
     ) -> R
         requires as_many { length lengths.now ≡ length strides.now }
         requires within { HasPlaces self.old first lengths.now strides.now }
-        requires callable { (x : RegionOf A) → IsPartWhere (names first lengths.now strides.now) self.old x → F.pre f x }
-        requires returns { (x : RegionOf A) (out : RegionOf A × R) → IsPartWhere (names first lengths.now strides.now) self.old x → F.post f x out → borrow_of out.0 ≡ borrow_of x }
-        ensures part { (x : RegionOf A) × (s : RegionOf A) × IsPartWhere (names first lengths.now strides.now) self.old x × F.post f x (s, result) × ((p : ℕ) → stored self.new p ≡ (if names first lengths.now strides.now p then stored s p else stored self.old p)) }
+        requires callable { TakesPart (F.pre f) (names first lengths.now strides.now) self.old }
+        requires returns { GivesPartBack (F.post f) (names first lengths.now strides.now) self.old }
+        ensures part { IsPartReturned (F.post f) (names first lengths.now strides.now) self.old self.new result }
         ensures same { borrow_of self.new ≡ borrow_of self.old }
         ensures long { IsAsLong self.old self.new }
     {
@@ -127,9 +128,9 @@ impl<'a, A> Region<'a, A> {
         other_strides: &[isize],
         f: F,
     ) -> R
-        requires callable { (x y : RegionOf A) → IsPartWhere (names_either first lengths.now strides.now other_first other_lengths.now other_strides.now) self.old x → IsPartWhere (λ p. not (names_either first lengths.now strides.now other_first other_lengths.now other_strides.now p)) self.old y → F.pre f x y }
-        requires returns { (x y : RegionOf A) (out : RegionOf A × RegionOf A × R) → IsPartWhere (names_either first lengths.now strides.now other_first other_lengths.now other_strides.now) self.old x → IsPartWhere (λ p. not (names_either first lengths.now strides.now other_first other_lengths.now other_strides.now p)) self.old y → F.post f x y out → IsSameBorrow x out.0 × IsSameBorrow y out.1 }
-        ensures { (x : RegionOf A) × (y : RegionOf A) × (s : RegionOf A) × (t : RegionOf A) × IsPartWhere (names_either first lengths.now strides.now other_first other_lengths.now other_strides.now) self.old x × IsPartWhere (λ p. not (names_either first lengths.now strides.now other_first other_lengths.now other_strides.now p)) self.old y × F.post f x y (s, t, result) × (self.new ≡ rejoined self.old x s t) × IsAsLong x s × IsAsLong y t }
+        requires callable { TakesParts (F.pre f) (names_either first lengths.now strides.now other_first other_lengths.now other_strides.now) self.old }
+        requires returns { GivesPartsBack (F.post f) (names_either first lengths.now strides.now other_first other_lengths.now other_strides.now) self.old }
+        ensures { ArePartsReturned (F.post f) (names_either first lengths.now strides.now other_first other_lengths.now other_strides.now) self.old self.new result }
     {
         self.split_where(
             first,
@@ -154,9 +155,9 @@ impl<'a, A> Region<'a, A> {
         other_strides: &[isize],
         f: F,
     ) -> R
-        requires callable { (x : RegionOf A) → IsPartWhere (names_either first lengths.now strides.now other_first other_lengths.now other_strides.now) self.old x → F.pre f x }
-        requires returns { (x : RegionOf A) (out : RegionOf A × R) → IsPartWhere (names_either first lengths.now strides.now other_first other_lengths.now other_strides.now) self.old x → F.post f x out → borrow_of out.0 ≡ borrow_of x }
-        ensures part { (x : RegionOf A) × (s : RegionOf A) × IsPartWhere (names_either first lengths.now strides.now other_first other_lengths.now other_strides.now) self.old x × F.post f x (s, result) × ((p : ℕ) → stored self.new p ≡ (if names_either first lengths.now strides.now other_first other_lengths.now other_strides.now p then stored s p else stored self.old p)) }
+        requires callable { TakesPart (F.pre f) (names_either first lengths.now strides.now other_first other_lengths.now other_strides.now) self.old }
+        requires returns { GivesPartBack (F.post f) (names_either first lengths.now strides.now other_first other_lengths.now other_strides.now) self.old }
+        ensures part { IsPartReturned (F.post f) (names_either first lengths.now strides.now other_first other_lengths.now other_strides.now) self.old self.new result }
         ensures same { borrow_of self.new ≡ borrow_of self.old }
         ensures long { IsAsLong self.old self.new }
     {
