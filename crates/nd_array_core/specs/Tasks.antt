@@ -75,31 +75,31 @@ abbrev pub AgreesOnNamed : {A : Type 0} → (ℕ → Option A) → ℕ → List 
 AgreesOnNamed old first lengths strides part = (p : ℕ) → names first lengths strides p ≡ true → part p ≡ old p
 
 -- ---- how elements lie, in words: the first place, the lengths and the strides
-abbrev pub Lay : Type 0
-Lay = ℕ × List ℕ × List ℤ
+abbrev pub Placement : Type 0
+Placement = ℕ × List ℕ × List ℤ
 
-abbrev pub lay_of : {D T P R L M : Type 0} {d : dimension.Ghosts D P R L M} {n : axis_count.Ghosts D} {r : stride_list.Ghosts R} {t : stride_list.Ghosts T} → Layout D T P R L M d n r t → Lay
-lay_of {d = d} {t = t} l = (l.first, d.lengths l.dim, t.strides_of l.strides)
+abbrev pub placement_of : {D T P R L M : Type 0} {d : dimension.Ghosts D P R L M} {n : axis_count.Ghosts D} {r : stride_list.Ghosts R} {t : stride_list.Ghosts T} → Layout D T P R L M d n r t → Placement
+placement_of {d = d} {t = t} l = (l.first, d.lengths l.dim, t.strides_of l.strides)
 
 module _ {A : Type 0} where
   -- an array may lie so in what is stored
-  abbrev pub LiesBy : (ℕ → Option A) → Lay → Type 0
+  abbrev pub LiesBy : (ℕ → Option A) → Placement → Type 0
   LiesBy stored l = LiesSoundly stored l.0 l.1 l.2
 
   -- the array that lies so
-  abbrev pub laid_by : (ℕ → Option A) → Lay → Placed A
+  abbrev pub laid_by : (ℕ → Option A) → Placement → Placed A
   laid_by stored l = laid stored l.0 l.1 l.2
 
   -- each index has a place that holds something
-  abbrev pub HoldsBy : (ℕ → Option A) → Lay → Type 0
+  abbrev pub HoldsBy : (ℕ → Option A) → Placement → Type 0
   HoldsBy stored l = HoldsAll stored l.0 l.1 l.2
 
   -- what a task asks holds of a view of these elements
-  abbrev pub AsksOfLaid : (Placed A → Type 0) → (ℕ → Option A) → Lay → Type 0
+  abbrev pub AsksOfLaid : (Placed A → Type 0) → (ℕ → Option A) → Placement → Type 0
   AsksOfLaid asks stored l = (m : ℕ → Option A) → IsNamedMap stored l.0 l.1 l.2 m → asks (laid_by m l)
 
   -- it is done with a view of these elements, and they are now what it left
-  abbrev pub IsDoneOnLaid : (Placed A → Placed A → Type 0) → (ℕ → Option A) → (ℕ → Option A) → Lay → Type 0
+  abbrev pub IsDoneOnLaid : (Placed A → Placed A → Type 0) → (ℕ → Option A) → (ℕ → Option A) → Placement → Type 0
   IsDoneOnLaid done old new l =
       (m : ℕ → Option A)
       × (n : ℕ → Option A)
@@ -108,16 +108,16 @@ module _ {A : Type 0} where
       × ((p : ℕ) → new p ≡ with_named old l.0 l.1 l.2 n p)
 
   -- each place that the layout doesn't name holds what it held
-  abbrev pub KeepsUnnamed : (ℕ → Option A) → (ℕ → Option A) → Lay → Type 0
+  abbrev pub KeepsUnnamed : (ℕ → Option A) → (ℕ → Option A) → Placement → Type 0
   KeepsUnnamed old new l = (p : ℕ) → names l.0 l.1 l.2 p ≡ false → new p ≡ old p
 
   -- what is asked of two views by layouts that share no place, of whatever holds these elements
-  abbrev pub AsksOfPair : (Placed A → Placed A → Type 0) → (ℕ → Option A) → Lay → Lay → Type 0
+  abbrev pub AsksOfPair : (Placed A → Placed A → Type 0) → (ℕ → Option A) → Placement → Placement → Type 0
   AsksOfPair asks stored one two =
       (m n : ℕ → Option A) → AgreesOnNamed stored one.0 one.1 one.2 m → AgreesOnNamed stored two.0 two.1 two.2 n → asks (laid_by m one) (laid_by n two)
 
   -- it is done with views of these elements, and the new elements are what it left in them
-  abbrev pub IsDoneOnPair : (Placed A → Placed A → Placed A → Placed A → Type 0) → (ℕ → Option A) → (ℕ → Option A) → Lay → Lay → Type 0
+  abbrev pub IsDoneOnPair : (Placed A → Placed A → Placed A → Placed A → Type 0) → (ℕ → Option A) → (ℕ → Option A) → Placement → Placement → Type 0
   IsDoneOnPair done old new one two =
       (m : ℕ → Option A)
       × (n : ℕ → Option A)
@@ -130,14 +130,14 @@ module _ {A : Type 0} where
       × AgreesOnNamed new two.0 two.1 two.2 t
 
   -- each place that neither layout names holds what it held
-  abbrev pub KeepsUnnamedByTwo : (ℕ → Option A) → (ℕ → Option A) → Lay → Lay → Type 0
+  abbrev pub KeepsUnnamedByTwo : (ℕ → Option A) → (ℕ → Option A) → Placement → Placement → Type 0
   KeepsUnnamedByTwo old new one two =
       (p : ℕ) → names one.0 one.1 one.2 p ≡ false → names two.0 two.1 two.2 p ≡ false → new p ≡ old p
 
 -- two layouts name no place in common
-abbrev pub AreApart : Lay → Lay → Type 0
+abbrev pub AreApart : Placement → Placement → Type 0
 AreApart one two = ShareNoPlace one.0 one.1 one.2 two.0 two.1 two.2
 
 -- the whole names each place that the part does
-abbrev pub IsWithin : Lay → Lay → Type 0
+abbrev pub IsWithin : Placement → Placement → Type 0
 IsWithin part whole = (p : ℕ) → names part.0 part.1 part.2 p ≡ true → names whole.0 whole.1 whole.2 p ≡ true

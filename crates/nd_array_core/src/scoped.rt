@@ -8,7 +8,7 @@ ghost use Rattle.std.specs.Option.{is_some};
 ghost use Rattle.nd_region.specs.Region.{stored as region_stored, borrow_of};
 ghost use Rattle.nd_array_core.specs.Placed.{Placed, element_placed, found_at};
 ghost use Rattle.nd_array_core.specs.Storages.{held_by};
-ghost use Rattle.nd_array_core.specs.Tasks.{view_borrow, lent_borrow, lent_view, view_left, CanBeSeen, LiesBy, laid_by, lay_of, AsksOfLaid, IsDoneOnLaid, IsViewOf};
+ghost use Rattle.nd_array_core.specs.Tasks.{view_borrow, lent_borrow, lent_view, view_left, CanBeSeen, LiesBy, laid_by, placement_of, AsksOfLaid, IsDoneOnLaid, IsViewOf};
 ghost use Rattle.nd_array_core.specs.Writes.{OthersStay};
 
 use crate::array::{ArrayBase, ArrayViewMut};
@@ -87,10 +87,10 @@ fn run_laid<'a, A, D: Dimension, K: ViewTask<A, D>>(
     layout: Layout<D, D::Strides>,
     task: K,
 ) -> (Region<'a, A>, K::Answer)
-    requires sound { LiesBy (region_stored region) (lay_of layout) }
-    requires pre { K.pre task (laid_by (region_stored region) (lay_of layout)) }
+    requires sound { LiesBy (region_stored region) (placement_of layout) }
+    requires pre { K.pre task (laid_by (region_stored region) (placement_of layout)) }
     ensures borrow { borrow_of result.0 ≡ borrow_of region.entry }
-    ensures done { K.post task (laid_by (region_stored region.entry) (lay_of layout)) (laid_by (region_stored result.0) (lay_of layout)) result.1 }
+    ensures done { K.post task (laid_by (region_stored region.entry) (placement_of layout)) (laid_by (region_stored result.0) (placement_of layout)) result.1 }
 {
     let (storage, answer) = task.run(LentView {
         region,
@@ -107,11 +107,11 @@ pub(crate) fn with_laid<S: DataMut, D: Dimension, K: ViewTask<S::Elem, D>>(
     layout: Layout<D, D::Strides>,
     task: K,
 ) -> K::Answer
-    requires sound { LiesBy (S.stored storage.old) (lay_of layout) }
-    requires callable { AsksOfLaid (K.pre task) (S.stored storage.old) (lay_of layout) }
+    requires sound { LiesBy (S.stored storage.old) (placement_of layout) }
+    requires callable { AsksOfLaid (K.pre task) (S.stored storage.old) (placement_of layout) }
     ensures there { (p : ℕ) → is_some (S.stored storage.new p) ≡ is_some (S.stored storage.old p) }
     ensures borrow { S.borrow storage.new ≡ S.borrow storage.old }
-    ensures done { IsDoneOnLaid (λ v w. K.post task v w result) (S.stored storage.old) (S.stored storage.new) (lay_of layout) }
+    ensures done { IsDoneOnLaid (λ v w. K.post task v w result) (S.stored storage.old) (S.stored storage.new) (placement_of layout) }
 {
     let lent = layout.copied();
     storage.with_part(
@@ -119,10 +119,10 @@ pub(crate) fn with_laid<S: DataMut, D: Dimension, K: ViewTask<S::Elem, D>>(
         layout.dim.slice(),
         layout.strides.slice(),
         move |region|
-            requires sound { LiesBy (region_stored region) (lay_of lent) }
-            requires pre { K.pre task (laid_by (region_stored region) (lay_of lent)) }
+            requires sound { LiesBy (region_stored region) (placement_of lent) }
+            requires pre { K.pre task (laid_by (region_stored region) (placement_of lent)) }
             ensures borrow { borrow_of result.0 ≡ borrow_of region.entry }
-            ensures done { K.post task (laid_by (region_stored region.entry) (lay_of lent)) (laid_by (region_stored result.0) (lay_of lent)) result.1 }
+            ensures done { K.post task (laid_by (region_stored region.entry) (placement_of lent)) (laid_by (region_stored result.0) (placement_of lent)) result.1 }
         { run_laid(region, lent, task) },
     )
 }

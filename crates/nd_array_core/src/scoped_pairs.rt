@@ -4,7 +4,7 @@ ghost use Rattle.std.specs.Prelude.{◌≡◌, ◌≤◌, ◌<◌, ℕ, List, le
 ghost use Rattle.std.specs.Option.{is_some};
 ghost use Rattle.nd_region.specs.Region.{stored as region_stored, borrow_of};
 ghost use Rattle.nd_array_core.specs.Placed.{Placed};
-ghost use Rattle.nd_array_core.specs.Tasks.{view_borrow, lent_borrow, lent_view, view_left, CanBeSeen, LiesBy, laid_by, lay_of, HoldsBy, AreApart, IsWithin, AsksOfPair, IsDoneOnPair, KeepsUnnamed, KeepsUnnamedByTwo};
+ghost use Rattle.nd_array_core.specs.Tasks.{view_borrow, lent_borrow, lent_view, view_left, CanBeSeen, LiesBy, laid_by, placement_of, HoldsBy, AreApart, IsWithin, AsksOfPair, IsDoneOnPair, KeepsUnnamed, KeepsUnnamedByTwo};
 ghost use Rattle.nd_array_core.specs.PartTasks.{lower_part, upper_part, AsksOfParts, IsDoneOnParts};
 ghost use Rattle.nd_array_core.specs.Writes.{OthersStay};
 
@@ -48,12 +48,12 @@ fn run_pair<'b, A, D: Dimension, E: Dimension, K: PairTask<A, D, E>>(
     two: Layout<E, E::Strides>,
     task: K,
 ) -> (Region<'b, A>, Region<'b, A>, K::Answer)
-    requires one { LiesBy (region_stored part) (lay_of one) }
-    requires two { LiesBy (region_stored rest) (lay_of two) }
-    requires pre { K.pre task (laid_by (region_stored part) (lay_of one)) (laid_by (region_stored rest) (lay_of two)) }
+    requires one { LiesBy (region_stored part) (placement_of one) }
+    requires two { LiesBy (region_stored rest) (placement_of two) }
+    requires pre { K.pre task (laid_by (region_stored part) (placement_of one)) (laid_by (region_stored rest) (placement_of two)) }
     ensures part { borrow_of result.0 ≡ borrow_of part.entry }
     ensures rest { borrow_of result.1 ≡ borrow_of rest.entry }
-    ensures done { K.post task (laid_by (region_stored part.entry) (lay_of one)) (laid_by (region_stored rest.entry) (lay_of two)) (laid_by (region_stored result.0) (lay_of one)) (laid_by (region_stored result.1) (lay_of two)) result.2 }
+    ensures done { K.post task (laid_by (region_stored part.entry) (placement_of one)) (laid_by (region_stored rest.entry) (placement_of two)) (laid_by (region_stored result.0) (placement_of one)) (laid_by (region_stored result.1) (placement_of two)) result.2 }
 {
     let first = LentView {
         region: part,
@@ -78,12 +78,12 @@ fn split_laid<'b, A, D: Dimension, E: Dimension, K: PairTask<A, D, E>>(
     two: Layout<E, E::Strides>,
     task: K,
 ) -> (Region<'b, A>, K::Answer)
-    requires one { LiesBy (region_stored region) (lay_of one) }
-    requires two { LiesBy (region_stored region) (lay_of two) }
-    requires apart { AreApart (lay_of one) (lay_of two) }
-    requires callable { AsksOfPair (K.pre task) (region_stored region) (lay_of one) (lay_of two) }
+    requires one { LiesBy (region_stored region) (placement_of one) }
+    requires two { LiesBy (region_stored region) (placement_of two) }
+    requires apart { AreApart (placement_of one) (placement_of two) }
+    requires callable { AsksOfPair (K.pre task) (region_stored region) (placement_of one) (placement_of two) }
     ensures borrow { borrow_of result.0 ≡ borrow_of region.entry }
-    ensures done { IsDoneOnPair (λ v0 v1 w0 w1. K.post task v0 v1 w0 w1 result.1) (region_stored region.entry) (region_stored result.0) (lay_of one) (lay_of two) }
+    ensures done { IsDoneOnPair (λ v0 v1 w0 w1. K.post task v0 v1 w0 w1 result.1) (region_stored region.entry) (region_stored result.0) (placement_of one) (placement_of two) }
 {
     let mut region = region;
     let lent = one.copied();
@@ -92,12 +92,12 @@ fn split_laid<'b, A, D: Dimension, E: Dimension, K: PairTask<A, D, E>>(
         one.dim.slice(),
         one.strides.slice(),
         move |part, rest|
-            requires one { LiesBy (region_stored part) (lay_of lent) }
-            requires two { LiesBy (region_stored rest) (lay_of two) }
-            requires pre { K.pre task (laid_by (region_stored part) (lay_of lent)) (laid_by (region_stored rest) (lay_of two)) }
+            requires one { LiesBy (region_stored part) (placement_of lent) }
+            requires two { LiesBy (region_stored rest) (placement_of two) }
+            requires pre { K.pre task (laid_by (region_stored part) (placement_of lent)) (laid_by (region_stored rest) (placement_of two)) }
             ensures part { borrow_of result.0 ≡ borrow_of part.entry }
             ensures rest { borrow_of result.1 ≡ borrow_of rest.entry }
-            ensures done { K.post task (laid_by (region_stored part.entry) (lay_of lent)) (laid_by (region_stored rest.entry) (lay_of two)) (laid_by (region_stored result.0) (lay_of lent)) (laid_by (region_stored result.1) (lay_of two)) result.2 }
+            ensures done { K.post task (laid_by (region_stored part.entry) (placement_of lent)) (laid_by (region_stored rest.entry) (placement_of two)) (laid_by (region_stored result.0) (placement_of lent)) (laid_by (region_stored result.1) (placement_of two)) result.2 }
         { run_pair(part, lent, rest, two, task) },
     );
     (region, answer)
@@ -110,13 +110,13 @@ fn either_laid<'b, A, D: Dimension, E: Dimension, K: PairTask<A, D, E>>(
     two: Layout<E, E::Strides>,
     task: K,
 ) -> (Region<'b, A>, K::Answer)
-    requires one { LiesBy (region_stored region) (lay_of one) }
-    requires two { LiesBy (region_stored region) (lay_of two) }
-    requires apart { AreApart (lay_of one) (lay_of two) }
-    requires callable { AsksOfPair (K.pre task) (region_stored region) (lay_of one) (lay_of two) }
+    requires one { LiesBy (region_stored region) (placement_of one) }
+    requires two { LiesBy (region_stored region) (placement_of two) }
+    requires apart { AreApart (placement_of one) (placement_of two) }
+    requires callable { AsksOfPair (K.pre task) (region_stored region) (placement_of one) (placement_of two) }
     ensures borrow { borrow_of result.0 ≡ borrow_of region.entry }
-    ensures done { IsDoneOnPair (λ v0 v1 w0 w1. K.post task v0 v1 w0 w1 result.1) (region_stored region.entry) (region_stored result.0) (lay_of one) (lay_of two) }
-    ensures kept { KeepsUnnamedByTwo (region_stored region.entry) (region_stored result.0) (lay_of one) (lay_of two) }
+    ensures done { IsDoneOnPair (λ v0 v1 w0 w1. K.post task v0 v1 w0 w1 result.1) (region_stored region.entry) (region_stored result.0) (placement_of one) (placement_of two) }
+    ensures kept { KeepsUnnamedByTwo (region_stored region.entry) (region_stored result.0) (placement_of one) (placement_of two) }
 {
     let mut region = region;
     let first = one.copied();
@@ -129,12 +129,12 @@ fn either_laid<'b, A, D: Dimension, E: Dimension, K: PairTask<A, D, E>>(
         second.dim.slice(),
         second.strides.slice(),
         move |both|
-            requires one { LiesBy (region_stored both) (lay_of one) }
-            requires two { LiesBy (region_stored both) (lay_of two) }
-            requires apart { AreApart (lay_of one) (lay_of two) }
-            requires callable { AsksOfPair (K.pre task) (region_stored both) (lay_of one) (lay_of two) }
+            requires one { LiesBy (region_stored both) (placement_of one) }
+            requires two { LiesBy (region_stored both) (placement_of two) }
+            requires apart { AreApart (placement_of one) (placement_of two) }
+            requires callable { AsksOfPair (K.pre task) (region_stored both) (placement_of one) (placement_of two) }
             ensures borrow { borrow_of result.0 ≡ borrow_of both.entry }
-            ensures done { IsDoneOnPair (λ v0 v1 w0 w1. K.post task v0 v1 w0 w1 result.1) (region_stored both.entry) (region_stored result.0) (lay_of one) (lay_of two) }
+            ensures done { IsDoneOnPair (λ v0 v1 w0 w1. K.post task v0 v1 w0 w1 result.1) (region_stored both.entry) (region_stored result.0) (placement_of one) (placement_of two) }
         { split_laid(both, one, two, task) },
     );
     (region, answer)
@@ -154,31 +154,31 @@ pub(crate) fn pair_laid<
     two: Layout<E, E::Strides>,
     task: K,
 ) -> K::Answer
-    requires whole { HoldsBy (S.stored storage.old) (lay_of whole) }
-    requires one { LiesBy (S.stored storage.old) (lay_of one) }
-    requires two { LiesBy (S.stored storage.old) (lay_of two) }
-    requires one_within { IsWithin (lay_of one) (lay_of whole) }
-    requires two_within { IsWithin (lay_of two) (lay_of whole) }
-    requires apart { AreApart (lay_of one) (lay_of two) }
-    requires callable { AsksOfPair (K.pre task) (S.stored storage.old) (lay_of one) (lay_of two) }
+    requires whole { HoldsBy (S.stored storage.old) (placement_of whole) }
+    requires one { LiesBy (S.stored storage.old) (placement_of one) }
+    requires two { LiesBy (S.stored storage.old) (placement_of two) }
+    requires one_within { IsWithin (placement_of one) (placement_of whole) }
+    requires two_within { IsWithin (placement_of two) (placement_of whole) }
+    requires apart { AreApart (placement_of one) (placement_of two) }
+    requires callable { AsksOfPair (K.pre task) (S.stored storage.old) (placement_of one) (placement_of two) }
     ensures there { (p : ℕ) → is_some (S.stored storage.new p) ≡ is_some (S.stored storage.old p) }
     ensures borrow { S.borrow storage.new ≡ S.borrow storage.old }
-    ensures others { KeepsUnnamed (S.stored storage.old) (S.stored storage.new) (lay_of whole) }
-    ensures kept { KeepsUnnamedByTwo (S.stored storage.old) (S.stored storage.new) (lay_of one) (lay_of two) }
-    ensures done { IsDoneOnPair (λ v0 v1 w0 w1. K.post task v0 v1 w0 w1 result) (S.stored storage.old) (S.stored storage.new) (lay_of one) (lay_of two) }
+    ensures others { KeepsUnnamed (S.stored storage.old) (S.stored storage.new) (placement_of whole) }
+    ensures kept { KeepsUnnamedByTwo (S.stored storage.old) (S.stored storage.new) (placement_of one) (placement_of two) }
+    ensures done { IsDoneOnPair (λ v0 v1 w0 w1. K.post task v0 v1 w0 w1 result) (S.stored storage.old) (S.stored storage.new) (placement_of one) (placement_of two) }
 {
     storage.with_part(
         whole.first,
         whole.dim.slice(),
         whole.strides.slice(),
         move |region|
-            requires one { LiesBy (region_stored region) (lay_of one) }
-            requires two { LiesBy (region_stored region) (lay_of two) }
-            requires apart { AreApart (lay_of one) (lay_of two) }
-            requires callable { AsksOfPair (K.pre task) (region_stored region) (lay_of one) (lay_of two) }
+            requires one { LiesBy (region_stored region) (placement_of one) }
+            requires two { LiesBy (region_stored region) (placement_of two) }
+            requires apart { AreApart (placement_of one) (placement_of two) }
+            requires callable { AsksOfPair (K.pre task) (region_stored region) (placement_of one) (placement_of two) }
             ensures borrow { borrow_of result.0 ≡ borrow_of region.entry }
-            ensures done { IsDoneOnPair (λ v0 v1 w0 w1. K.post task v0 v1 w0 w1 result.1) (region_stored region.entry) (region_stored result.0) (lay_of one) (lay_of two) }
-            ensures kept { KeepsUnnamedByTwo (region_stored region.entry) (region_stored result.0) (lay_of one) (lay_of two) }
+            ensures done { IsDoneOnPair (λ v0 v1 w0 w1. K.post task v0 v1 w0 w1 result.1) (region_stored region.entry) (region_stored result.0) (placement_of one) (placement_of two) }
+            ensures kept { KeepsUnnamedByTwo (region_stored region.entry) (region_stored result.0) (placement_of one) (placement_of two) }
         { either_laid(region, one, two, task) },
     )
 }
