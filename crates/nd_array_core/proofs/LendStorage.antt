@@ -19,7 +19,7 @@ use Rattle.nd_shape_and_slice.specs.declared.dimension.AxisCount as axis_count
 use Rattle.nd_shape_and_slice.specs.declared.dimension.StrideList as stride_list
 use Rattle.nd_array_core.specs.declared.data.Data as data_trait
 use Rattle.nd_array_core.specs.contracts.array.ArrayBase as A
-use Rattle.nd_array_core.specs.contracts.layout.Layout as L
+use Rattle.nd_layout.specs.contracts.layout.Layout as L
 use Rattle.nd_array_core.specs.ViewLent.{array_with_items}
 
 abbrev member : RattleType → Member

@@ -7,15 +7,15 @@ use Rattle.nd_shape_and_slice.specs.Place.{place_of}
 use Rattle.nd_shape_and_slice.proofs.RowMajor.{length-in_box}
 use Rattle.nd_region.specs.Places.{names, ShareNoPlace}
 use Rattle.nd_region.proofs.Names.{named_by, named_at}
-use Rattle.nd_array_core.specs.Maps.{lower_shape, upper_shape, upper_index}
+use Rattle.nd_shape_and_slice.specs.Maps.{lower_shape, upper_shape, upper_index}
 use Rattle.nd_array_core.specs.Places.{stored_at, place_number}
 use Rattle.nd_array_core.specs.Placed.{found_at}
 use Rattle.nd_array_core.specs.Meaning.{inside}
-use Rattle.nd_array_core.specs.Steps.{IsStep}
+use Rattle.nd_layout.specs.Steps.{IsStep}
 use Rattle.nd_array_core.specs.Scoped.{with_named}
 use Rattle.nd_array_core.specs.Tasks.{laid, IsNamedMap, IsSeenThrough, OthersKeepTwo, AgreesOnNamed, LiesSoundly}
 use Rattle.nd_array_core.specs.Writes.{OthersStay}
-use Rattle.nd_array_core.proofs.Boxes.{coordinate_below}
+use Rattle.nd_shape_and_slice.proofs.Boxes.{coordinate_below}
 use Rattle.nd_array_core.proofs.WriteStep.{one_index}
 
 -- ---- layouts whose places are among those of a whole

@@ -7,11 +7,13 @@ use Rattle.nd_region.specs.Places.{names}
 use Rattle.nd_region.proofs.Names.{named_by}
 use Rattle.nd_array_core.specs.Places.{stored_at, place_number}
 use Rattle.nd_array_core.specs.Meaning.{inside}
-use Rattle.nd_array_core.specs.Steps.{IsStep}
+use Rattle.nd_layout.specs.Steps.{IsStep}
 use Rattle.nd_array_core.specs.Scoped.{with_named}
 use Rattle.nd_array_core.specs.Tasks.{laid, IsNamedMap, IsViewOf, IsSeenThrough, OthersKeep, LiesSoundly}
 use Rattle.nd_array_core.specs.Writes.{OthersStay}
-use Rattle.nd_array_core.proofs.StepLemmas.{step_valid, step_holds, step_some}
+use Rattle.nd_array_core.proofs.StepLemmas.{step_holds}
+use Rattle.nd_layout.proofs.StepLemmas.{step_valid}
+use Rattle.nd_layout.proofs.StepLemmas.{step_some}
 use Rattle.nd_array_core.proofs.WriteStep.{one_index}
 use Rattle.nd_array_core.proofs.TaskStep.{part_is_view, left_is_view}
 

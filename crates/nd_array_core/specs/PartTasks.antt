@@ -10,7 +10,7 @@ use Rattle.nd_shape_and_slice.specs.Slice.{sliced_shape, sliced_index}
 use Rattle.nd_shape_and_slice.specs.SliceInfo.{shape_after, index_before}
 use Rattle.nd_array_core.specs.declared.data.Data as data_trait
 use Rattle.nd_array_core.specs.declared.array.ArrayBase.{ArrayBase}
-use Rattle.nd_array_core.specs.Maps.{lower_shape, upper_shape, upper_index, indexed_shape, indexed_index, diagonal_length, diagonal_index}
+use Rattle.nd_shape_and_slice.specs.Maps.{lower_shape, upper_shape, upper_index, indexed_shape, indexed_index, diagonal_length, diagonal_index}
 use Rattle.nd_array_core.specs.Meaning.{element_at, place_at}
 use Rattle.nd_array_core.specs.Placed.{Placed}
 use Rattle.nd_array_core.specs.Tasks.{IsSeenThrough, OthersKeep, OthersKeepTwo}

@@ -10,13 +10,13 @@ use Rattle.nd_shape_and_slice.specs.declared.dimension.Dimension as dimension
 use Rattle.nd_shape_and_slice.specs.declared.dimension.AxisCount as axis_count
 use Rattle.nd_shape_and_slice.specs.declared.dimension.StrideList as stride_list
 use Rattle.nd_array_core.specs.declared.data.RegionRepr.{RegionRepr}
-use Rattle.nd_array_core.specs.declared.layout.Layout.{Layout}
+use Rattle.nd_layout.specs.declared.layout.Layout.{Layout}
 use Rattle.nd_array_core.specs.declared.scoped.LentView.{LentView}
 use Rattle.nd_array_core.specs.Places.{place_number, HoldsAll}
 use Rattle.nd_array_core.specs.Placed.{Placed, element_placed}
 use Rattle.nd_array_core.specs.Meaning.{inside}
 use Rattle.nd_array_core.specs.Scoped.{named_part, with_named}
-use Rattle.nd_array_core.specs.Steps.{IsValid}
+use Rattle.nd_layout.specs.Steps.{IsValid}
 
 -- how a layout lies in a storage
 abbrev pub laid : {A : Type 0} → (ℕ → Option A) → ℕ → List ℕ → List ℤ → Placed A

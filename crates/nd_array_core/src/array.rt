@@ -6,7 +6,7 @@ ghost use Rattle.nd_shape_and_slice.specs.Place.{place_of, IsSeparated};
 ghost use Rattle.nd_array_core.specs.Places.{names_place};
 
 use crate::data::{Data, OwnedRepr, ViewMutRepr, ViewRepr};
-use crate::layout::Layout;
+use nd_layout::Layout;
 use nd_shape_and_slice::{Axis, Dimension, NdIndex, StrideList};
 use std::alloc::AllocError;
 

@@ -1,7 +1,8 @@
 //! Calls that turn, exchange, shorten or split axes, with no copy.
 
 ghost use Rattle.std.specs.Prelude.{◌≡◌, ◌<◌, ◌≤◌, ℕ, List, length, reverse, slice_index, swap};
-ghost use Rattle.nd_array_core.specs.Maps.{inverted_index, inverted_strides, collapsed_shape, collapsed_index, lower_shape, upper_shape, upper_index};
+ghost use Rattle.nd_shape_and_slice.specs.Maps.{inverted_index, collapsed_shape, collapsed_index, lower_shape, upper_shape, upper_index};
+ghost use Rattle.nd_layout.specs.Strides.{inverted_strides};
 ghost use Rattle.nd_array_core.specs.Meaning.{shape_of, element_at, storage_of, place_at, layout_strides, inside};
 
 use crate::array::{ArrayBase, ArrayView};

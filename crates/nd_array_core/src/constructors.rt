@@ -5,16 +5,16 @@ ghost use Rattle.nd_shape_and_slice.specs.Shape.{size_of, HasCheckedSize};
 ghost use Rattle.nd_shape_and_slice.specs.Place.{place_of, IsSeparated};
 ghost use Rattle.nd_layout.specs.Strides.{reach_down};
 ghost use Rattle.nd_layout.specs.Ranks.{rank_in};
-ghost use Rattle.nd_array_core.specs.Given.{given_place, ordered_strides, given_strides};
-ghost use Rattle.nd_array_core.specs.Refusals.{vec_refusal, slice_refusal, slice_mut_refusal, elements_asked};
+ghost use Rattle.nd_layout.specs.Given.{given_place, ordered_strides, given_strides};
+ghost use Rattle.nd_layout.specs.Refusals.{vec_refusal, slice_refusal, slice_mut_refusal, elements_asked};
 ghost use Rattle.nd_array_core.specs.Meaning.{shape_of, element_at, layout_strides, inside};
 ghost use Rattle.nd_array_core.specs.Places.{stored_at};
-ghost use Rattle.nd_array_core.specs.Steps.{IsValid};
+ghost use Rattle.nd_layout.specs.Steps.{IsValid};
 
 use crate::array::{Array, ArrayBase, ArrayView, ArrayViewMut};
 use crate::data::{Data, OwnedRepr, ViewMutRepr, ViewRepr};
-use crate::given::{first_in_slice, first_in_vec, size_in_slice, size_in_vec};
-use crate::layout::Layout;
+use nd_layout::{first_in_slice, first_in_vec, size_in_slice, size_in_vec};
+use nd_layout::Layout;
 use nd_shape_and_slice::{Dimension, IntoStrideShape, Order, ShapeError, StrideList};
 
 /// The elements of a storage under a shape, in an order.

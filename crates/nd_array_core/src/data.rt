@@ -16,7 +16,7 @@ ghost use Rattle.nd_array_core.specs.Storages.{shown_by};
 ghost use Rattle.nd_array_core.specs.ElementMut.{element_follows, KeepsPlaces, item_kept, item_written, place_kept, place_written};
 ghost use Rattle.nd_array_core.specs.Refilled.{overwritten, overwritten_itself, overwritten_again, places_there, places_kept, items_there, items_kept, items_itself, items_again};
 
-use crate::layout::Layout;
+use nd_layout::Layout;
 use nd_region::{Region, SharedRegion, with_region};
 use nd_shape_and_slice::{Dimension, StrideList};
 use std::alloc::AllocError;

@@ -3,33 +3,14 @@
 ghost use Rattle.std.specs.Prelude.{◌≡◌, ◌<◌, ℕ, ℤ, true, List, length};
 ghost use Rattle.nd_shape_and_slice.specs.declared.slice.Slice.{Slice};
 ghost use Rattle.nd_shape_and_slice.specs.Descriptions.{axes_from};
-ghost use Rattle.nd_array_core.specs.EachAxis.{each_sliced, each_sliced_index, AnswersFit, Answered};
+ghost use Rattle.nd_shape_and_slice.specs.EachAxis.{each_sliced, each_sliced_index, AnswersFit, Answered};
 ghost use Rattle.nd_array_core.specs.Meaning.{shape_of, element_at, layout_strides, storage_of, inside};
-ghost use Rattle.nd_array_core.specs.Steps.{IsStep};
+ghost use Rattle.nd_layout.specs.Steps.{IsStep};
 
 use crate::array::{ArrayBase, ArrayView};
 use crate::data::Data;
-use crate::layout::Layout;
-use crate::steps::{length_at, stride_at};
+use nd_layout::Layout;
 use nd_shape_and_slice::{Axis, AxisDescription, Dimension, Slice, StrideList};
-
-impl<D: Dimension, T: StrideList> Layout<D, T> {
-    /// Keeps of each axis what the closure answers, which is asked of axis 0 first.
-    fn slice_each_axis<F: FnMut(AxisDescription) -> Slice + Drop>(&mut self, mut f: F)
-        requires { AnswersFit F.pre F.step f (axes_from 0 (D.lengths self.old.dim) (T.strides_of self.old.strides)) }
-        ensures { (slices : List Slice) × (last : F) × Answered F.step f (axes_from 0 (D.lengths self.old.dim) (T.strides_of self.old.strides)) slices last × (D.lengths self.new.dim ≡ each_sliced (D.lengths self.old.dim) slices) × IsStep self.old.first (D.lengths self.old.dim) (T.strides_of self.old.strides) self.new.first (D.lengths self.new.dim) (T.strides_of self.new.strides) (each_sliced_index (D.lengths self.old.dim) slices) }
-    {
-        let before = self.copied();
-        for axis in 0..before.dim.ndim() {
-            let slice = f(AxisDescription {
-                axis: Axis(axis),
-                len: length_at(before.dim.slice(), axis),
-                stride: stride_at(before.strides.slice(), axis),
-            });
-            self.slice_axis(axis, slice);
-        }
-    }
-}
 
 #[tactic(auto, unfolding(crate::specs::Meaning::shape_of, crate::specs::Meaning::element_at, crate::specs::Meaning::layout_strides, crate::specs::Meaning::storage_of))]
 impl<S: Data, D: Dimension> ArrayBase<S, D> {

@@ -5,7 +5,7 @@ ghost use Rattle.nd_shape_and_slice.specs.Shape.{in_box};
 
 use crate::array::ArrayBase;
 use crate::data::Data;
-use crate::steps::stride_at;
+use nd_layout::stride_at;
 use nd_shape_and_slice::{Axis, Dimension, NdIndex, StrideList};
 use std::ops::Index;
 

@@ -3,7 +3,7 @@
 ghost use Rattle.std.specs.Prelude.{◌↔◌, ◌≡◌, ◌<◌, ◌≤◌, ◌+◌, ℕ, true, false, List, length, slice_index, pos, IsErr, IfErr, IfOk};
 ghost use Rattle.std.specs.List.{remove, insert};
 ghost use Rattle.nd_shape_and_slice.specs.declared.errors.ErrorKind.{ErrorKind};
-ghost use Rattle.nd_array_core.specs.Maps.{indexed_shape, indexed_index, widened_shape, widened_index};
+ghost use Rattle.nd_shape_and_slice.specs.Maps.{indexed_shape, indexed_index, widened_shape, widened_index};
 ghost use Rattle.nd_array_core.specs.Meaning.{shape_of, element_at, storage_of, place_at, layout_strides, inside};
 
 use crate::array::{ArrayBase, ArrayView};

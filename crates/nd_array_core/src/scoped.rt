@@ -13,7 +13,7 @@ ghost use Rattle.nd_array_core.specs.Writes.{OthersStay};
 
 use crate::array::{ArrayBase, ArrayViewMut};
 use crate::data::{DataMut, RegionRepr, ViewMutRepr};
-use crate::layout::Layout;
+use nd_layout::Layout;
 use nd_region::Region;
 use nd_shape_and_slice::{Dimension, StrideList};
 use std::snapshot::Snapshot;

@@ -4,7 +4,7 @@ ghost use Rattle.std.specs.Prelude.{◌≡◌, ◌<◌, ◌≤◌, ℕ, true, Li
 ghost use Rattle.nd_shape_and_slice.specs.Shape.{in_box};
 ghost use Rattle.nd_shape_and_slice.specs.Slice.{fits_axis, sliced_shape, sliced_index};
 ghost use Rattle.nd_shape_and_slice.specs.SliceInfo.{fits_shape, shape_after, index_before};
-ghost use Rattle.nd_array_core.specs.Maps.{lower_shape, upper_shape, upper_index, indexed_shape, indexed_index, diagonal_length, diagonal_index};
+ghost use Rattle.nd_shape_and_slice.specs.Maps.{lower_shape, upper_shape, upper_index, indexed_shape, indexed_index, diagonal_length, diagonal_index};
 ghost use Rattle.nd_array_core.specs.Meaning.{shape_of, element_at};
 ghost use Rattle.nd_array_core.specs.MultiSlice.{TwoFit};
 ghost use Rattle.nd_array_core.specs.Placed.{element_placed};

@@ -2,7 +2,7 @@
 
 ghost use Rattle.std.specs.Prelude.{◌≡◌, ℕ, true, List, length};
 ghost use Rattle.nd_shape_and_slice.specs.SliceInfo.{axes_read, fits_shape, shape_after, index_before};
-ghost use Rattle.nd_array_core.specs.Slicing.{collapsed_after, collapsed_before};
+ghost use Rattle.nd_shape_and_slice.specs.Slicing.{collapsed_after, collapsed_before};
 ghost use Rattle.nd_array_core.specs.Meaning.{shape_of, element_at, storage_of, place_at, inside};
 
 use crate::array::{ArrayBase, ArrayView};

@@ -5,38 +5,36 @@ ghost use Rattle.nd_shape_and_slice.specs.Shape.{size_of};
 ghost use Rattle.nd_shape_and_slice.specs.Place.{IsSeparated};
 ghost use Rattle.nd_region.specs.Places.{names_not, ShareNoPlace as LayoutsShareNone};
 ghost use Rattle.nd_region.specs.Region.{stored as region_stored};
-ghost use Rattle.nd_array_core.specs.Maps.{lower_shape, upper_shape, upper_index};
+ghost use Rattle.nd_shape_and_slice.specs.Maps.{lower_shape, upper_shape, upper_index};
 ghost use Rattle.nd_array_core.specs.Meaning.{shape_of, element_at, place_at, layout_strides, inside};
 ghost use Rattle.nd_array_core.specs.MultiSlice.{ThreeShareNoPlace, FourShareNoPlace};
 ghost use Rattle.nd_array_core.specs.Parts.{IsHeld, IsSeenUnder};
 ghost use Rattle.nd_array_core.specs.Places.{kept_at, ShareNoPlace};
-ghost use Rattle.nd_array_core.specs.Steps.{IsStep};
+ghost use Rattle.nd_layout.specs.Steps.{IsStep};
 
 use crate::array::{ArrayBase, ArrayViewMut};
 use crate::data::ViewMutRepr;
-use crate::layout::Layout;
+use nd_layout::Layout;
 use nd_shape_and_slice::{Axis, Dimension, StrideList};
 
-impl<D: Dimension, T: StrideList> Layout<D, T> {
-    /// The layouts of the two parts of an axis: the coordinates below this one, and those from it on.
-    fn halves(&self, axis: usize, index: usize) -> (Self, Self)
-        requires on { axis < length (D.lengths self.now.dim) }
-        requires within { index ≤ slice_index (D.lengths self.now.dim) axis }
-        requires separated { 0 < size_of (D.lengths self.now.dim) → IsSeparated (D.lengths self.now.dim) (T.strides_of self.now.strides) }
-        ensures lower_lengths { D.lengths result.0.dim ≡ lower_shape (D.lengths self.now.dim) axis index }
-        ensures lower_strides { T.strides_of result.0.strides ≡ T.strides_of self.now.strides }
-        ensures lower { IsStep self.now.first (D.lengths self.now.dim) (T.strides_of self.now.strides) result.0.first (D.lengths result.0.dim) (T.strides_of result.0.strides) (λ i. i) }
-        ensures upper_lengths { D.lengths result.1.dim ≡ upper_shape (D.lengths self.now.dim) axis index }
-        ensures upper_strides { T.strides_of result.1.strides ≡ T.strides_of self.now.strides }
-        ensures upper { IsStep self.now.first (D.lengths self.now.dim) (T.strides_of self.now.strides) result.1.first (D.lengths result.1.dim) (T.strides_of result.1.strides) (upper_index axis index) }
-        ensures apart { LayoutsShareNone result.0.first (D.lengths result.0.dim) (T.strides_of result.0.strides) result.1.first (D.lengths result.1.dim) (T.strides_of result.1.strides) }
-    {
-        let mut lower = self.copied();
-        let mut upper = self.copied();
-        lower.keep_lower(axis, index);
-        upper.keep_upper(axis, index);
-        (lower, upper)
-    }
+/// The layouts of the two parts of an axis: the coordinates below this one, and those from it on.
+fn halves<D: Dimension, T: StrideList>(layout: &Layout<D, T>, axis: usize, index: usize) -> (Layout<D, T>, Layout<D, T>)
+    requires on { axis < length (D.lengths layout.now.dim) }
+    requires within { index ≤ slice_index (D.lengths layout.now.dim) axis }
+    requires separated { 0 < size_of (D.lengths layout.now.dim) → IsSeparated (D.lengths layout.now.dim) (T.strides_of layout.now.strides) }
+    ensures lower_lengths { D.lengths result.0.dim ≡ lower_shape (D.lengths layout.now.dim) axis index }
+    ensures lower_strides { T.strides_of result.0.strides ≡ T.strides_of layout.now.strides }
+    ensures lower { IsStep layout.now.first (D.lengths layout.now.dim) (T.strides_of layout.now.strides) result.0.first (D.lengths result.0.dim) (T.strides_of result.0.strides) (λ i. i) }
+    ensures upper_lengths { D.lengths result.1.dim ≡ upper_shape (D.lengths layout.now.dim) axis index }
+    ensures upper_strides { T.strides_of result.1.strides ≡ T.strides_of layout.now.strides }
+    ensures upper { IsStep layout.now.first (D.lengths layout.now.dim) (T.strides_of layout.now.strides) result.1.first (D.lengths result.1.dim) (T.strides_of result.1.strides) (upper_index axis index) }
+    ensures apart { LayoutsShareNone result.0.first (D.lengths result.0.dim) (T.strides_of result.0.strides) result.1.first (D.lengths result.1.dim) (T.strides_of result.1.strides) }
+{
+    let mut lower = layout.copied();
+    let mut upper = layout.copied();
+    lower.keep_lower(axis, index);
+    upper.keep_upper(axis, index);
+    (lower, upper)
 }
 
 #[tactic(auto, unfolding(crate::specs::Meaning::shape_of, crate::specs::Meaning::element_at, crate::specs::Meaning::place_at, crate::specs::Meaning::layout_strides))]
@@ -149,7 +147,7 @@ impl<'a, A, D: Dimension> ArrayViewMut<'a, A, D> {
         ensures upper_places { (i : List ℕ) → place_at result.1 i ≡ inside (shape_of result.1) i (place_at self.entry (upper_index axis.0 index i)) }
         ensures apart { ShareNoPlace (place_at result.0) (place_at result.1) }
     {
-        let (lower, upper) = self.layout.halves(axis.0, index);
+        let (lower, upper) = halves(&self.layout, axis.0, index);
         self.storage.two_parts(lower, upper)
     }
 }

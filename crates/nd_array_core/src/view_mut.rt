@@ -8,8 +8,10 @@ ghost use Rattle.nd_shape_and_slice.specs.declared.slice.Slice.{Slice};
 ghost use Rattle.nd_shape_and_slice.specs.Descriptions.{axes_from};
 ghost use Rattle.nd_shape_and_slice.specs.Slice.{fits_axis, sliced_shape, sliced_index};
 ghost use Rattle.nd_shape_and_slice.specs.SliceInfo.{fits_shape, shape_after, index_before};
-ghost use Rattle.nd_array_core.specs.EachAxis.{each_sliced, each_sliced_index, AnswersFit, Answered};
-ghost use Rattle.nd_array_core.specs.Maps.{sliced_strides, indexed_shape, indexed_index, diagonal_length, diagonal_stride, diagonal_index};
+ghost use Rattle.nd_shape_and_slice.specs.EachAxis.{each_sliced, each_sliced_index, AnswersFit, Answered};
+ghost use Rattle.nd_shape_and_slice.specs.Maps.{indexed_shape, indexed_index, diagonal_length, diagonal_index};
+ghost use Rattle.nd_layout.specs.Strides.{sliced_strides};
+ghost use Rattle.nd_layout.specs.Strides.{diagonal_stride};
 ghost use Rattle.nd_array_core.specs.Meaning.{shape_of, element_at, place_at, storage_of, layout_strides, inside};
 
 use crate::array::{ArrayBase, ArrayView, ArrayViewMut};

@@ -12,3 +12,6 @@ pub mod SliceRows
 pub mod Multiples
 pub mod Progressions
 pub mod CommonElements
+pub mod Boxes
+pub mod FillLoop
+pub mod PermuteLoop

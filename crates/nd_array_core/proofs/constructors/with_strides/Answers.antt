@@ -1,4 +1,4 @@
-use Rattle.nd_array_core.proofs.GivenStrides.{given_holds}
+use Rattle.nd_array_core.proofs.GivenHolds.{given_holds}
 use Rattle.nd_array_core.proofs.constructors.with_strides.Goals as goal
 
 pub invariant_of-result : goal.invariant_of-result

@@ -1,8 +1,8 @@
 use Rattle.std.proofs.Common.{◌≡◌, ◌∙◌, ap, sym, refl}
 use Rattle.nd_shape_and_slice.specs.Shape.{in_box}
-use Rattle.nd_array_core.specs.Maps.{lower_shape, upper_shape, upper_index}
+use Rattle.nd_shape_and_slice.specs.Maps.{lower_shape, upper_shape, upper_index}
 use Rattle.nd_array_core.specs.Meaning.{shape_of, element_at, storage_of, place_at}
-use Rattle.nd_array_core.specs.Steps.{IsStep}
+use Rattle.nd_layout.specs.Steps.{IsStep}
 use Rattle.nd_array_core.specs.Tasks.{laid, LiesSoundly}
 use Rattle.nd_array_core.proofs.PartTask.{step_sound}
 use Rattle.nd_array_core.proofs.PairTask.{step_within, agrees_seen, unnamed_stay, steps_apart, split_apart}

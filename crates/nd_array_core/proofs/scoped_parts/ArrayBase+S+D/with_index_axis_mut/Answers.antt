@@ -1,5 +1,5 @@
 use Rattle.std.proofs.Common.{refl}
-use Rattle.nd_array_core.specs.Maps.{indexed_shape, indexed_index}
+use Rattle.nd_shape_and_slice.specs.Maps.{indexed_shape, indexed_index}
 use Rattle.nd_array_core.specs.Meaning.{shape_of, element_at, storage_of, place_at}
 use Rattle.nd_array_core.specs.Tasks.{laid, LiesSoundly}
 use Rattle.nd_array_core.proofs.PartTask.{step_sound, part_seen, left_seen, part_others_stay, part_others_keep}

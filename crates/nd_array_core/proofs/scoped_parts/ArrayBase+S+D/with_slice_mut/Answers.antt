@@ -1,7 +1,7 @@
 use Rattle.std.proofs.Common.{ap, ◌∙◌, refl}
 use Rattle.nd_shape_and_slice.specs.SliceInfo.{shape_after, index_before}
 use Rattle.nd_array_core.specs.Meaning.{shape_of, element_at, storage_of, place_at}
-use Rattle.nd_array_core.specs.Steps.{IsStep}
+use Rattle.nd_layout.specs.Steps.{IsStep}
 use Rattle.nd_array_core.specs.Tasks.{laid, LiesSoundly}
 use Rattle.nd_array_core.proofs.PartTask.{step_sound, part_seen, left_seen, part_others_stay, part_others_keep}
 use Rattle.nd_array_core.proofs.scoped_parts.ArrayBase+S+D.with_slice_mut.Goals as goal

@@ -1,7 +1,7 @@
 use Rattle.std.proofs.Common.{◌≡◌, ◌∙◌, ap, refl}
 use Rattle.nd_shape_and_slice.specs.SliceInfo.{fits_shape, shape_after, index_before}
 use Rattle.nd_array_core.specs.Meaning.{shape_of, element_at, storage_of, place_at}
-use Rattle.nd_array_core.specs.Steps.{IsStep}
+use Rattle.nd_layout.specs.Steps.{IsStep}
 use Rattle.nd_array_core.specs.Tasks.{laid, LiesSoundly}
 use Rattle.nd_array_core.proofs.ListParts.{lists_apart}
 use Rattle.nd_array_core.proofs.PartTask.{step_sound}

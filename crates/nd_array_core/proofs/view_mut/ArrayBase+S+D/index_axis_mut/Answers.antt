@@ -1,6 +1,6 @@
 use Rattle.std.proofs.Common.{refl, ap, sym, ◌∙◌, List, ℕ}
 use Rattle.std.specs.List.{remove}
-use Rattle.nd_array_core.specs.Maps.{indexed_shape, indexed_index}
+use Rattle.nd_shape_and_slice.specs.Maps.{indexed_shape, indexed_index}
 use Rattle.nd_array_core.specs.Meaning.{shape_of, element_at, place_at, storage_of}
 use Rattle.nd_array_core.proofs.Tied.{shown_through}
 use Rattle.nd_array_core.proofs.view_mut.ArrayBase+S+D.index_axis_mut.Goals as goal

@@ -1,6 +1,6 @@
 use Rattle.std.proofs.Common.{refl, ap, sym, ◌∙◌, List, ℕ}
 use Rattle.nd_shape_and_slice.specs.Slice.{sliced_shape, sliced_index}
-use Rattle.nd_array_core.specs.Maps.{sliced_strides}
+use Rattle.nd_layout.specs.Strides.{sliced_strides}
 use Rattle.nd_array_core.specs.Meaning.{shape_of, element_at, place_at, storage_of}
 use Rattle.nd_array_core.proofs.Tied.{shown_through}
 use Rattle.nd_array_core.proofs.view_mut.ArrayBase+S+D.slice_axis_mut.Goals as goal

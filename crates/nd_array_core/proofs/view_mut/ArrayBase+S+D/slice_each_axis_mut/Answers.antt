@@ -2,7 +2,7 @@ use Rattle.std.proofs.Common.{refl, ap, sym, subst, ◌∙◌, List, ℕ}
 use Rattle.nd_shape_and_slice.specs.declared.descriptions.AxisDescription.{AxisDescription}
 use denote.Param.Members.{Called}
 use Rattle.nd_shape_and_slice.specs.Descriptions.{axes_from}
-use Rattle.nd_array_core.specs.EachAxis.{each_sliced, each_sliced_index, Answered}
+use Rattle.nd_shape_and_slice.specs.EachAxis.{each_sliced, each_sliced_index, Answered}
 use Rattle.nd_array_core.specs.Meaning.{shape_of, element_at, storage_of}
 use Rattle.nd_array_core.proofs.Tied.{shown_through}
 use Rattle.nd_array_core.proofs.view_mut.ArrayBase+S+D.slice_each_axis_mut.Goals as goal
