@@ -13,8 +13,7 @@ ghost use Rattle.nd_layout.specs.Steps.{IsValid};
 
 use crate::array::{Array, ArrayBase, ArrayView, ArrayViewMut};
 use crate::data::{Data, OwnedRepr, ViewMutRepr, ViewRepr};
-use nd_layout::{first_in_slice, first_in_vec, size_in_slice, size_in_vec};
-use nd_layout::Layout;
+use nd_layout::{Layout, first_in_slice, first_in_vec, size_in_slice, size_in_vec};
 use nd_shape_and_slice::{Dimension, IntoStrideShape, Order, ShapeError, StrideList};
 
 /// The elements of a storage under a shape, in an order.

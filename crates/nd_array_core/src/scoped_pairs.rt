@@ -10,8 +10,8 @@ ghost use Rattle.nd_array_core.specs.Writes.{OthersStay};
 
 use crate::array::ArrayBase;
 use crate::data::{DataMut, ViewMutRepr};
-use nd_layout::Layout;
 use crate::scoped::LentView;
+use nd_layout::Layout;
 use nd_region::Region;
 use nd_shape_and_slice::{Axis, Dimension, StrideList};
 

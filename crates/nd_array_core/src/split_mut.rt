@@ -18,7 +18,11 @@ use nd_layout::Layout;
 use nd_shape_and_slice::{Axis, Dimension, StrideList};
 
 /// The layouts of the two parts of an axis: the coordinates below this one, and those from it on.
-fn halves<D: Dimension, T: StrideList>(layout: &Layout<D, T>, axis: usize, index: usize) -> (Layout<D, T>, Layout<D, T>)
+fn halves<D: Dimension, T: StrideList>(
+    layout: &Layout<D, T>,
+    axis: usize,
+    index: usize,
+) -> (Layout<D, T>, Layout<D, T>)
     requires on { axis < length (D.lengths layout.now.dim) }
     requires within { index ≤ slice_index (D.lengths layout.now.dim) axis }
     requires separated { 0 < size_of (D.lengths layout.now.dim) → IsSeparated (D.lengths layout.now.dim) (T.strides_of layout.now.strides) }

@@ -17,8 +17,8 @@ mod slicing;
 mod squeeze;
 
 use given::strides_in;
-use places::{is_in_box, place_at};
 use nd_shape_and_slice::{Dimension, Order, StrideList};
+use places::{is_in_box, place_at};
 use std::alloc::AllocError;
 
 /// A first place, a shape and a signed stride for each axis. As many strides as lengths; the checked size exists;

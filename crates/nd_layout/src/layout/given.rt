@@ -129,11 +129,7 @@ fn keeps_apart(lengths: &[usize], strides: &[isize]) -> bool
 }
 
 /// The first place under strides of the caller's; the cause where a vector of this many elements can't be taken so.
-pub fn first_in_vec(
-    lengths: &[usize],
-    strides: &[isize],
-    count: usize,
-) -> Result<usize, ShapeError>
+pub fn first_in_vec(lengths: &[usize], strides: &[isize], count: usize) -> Result<usize, ShapeError>
     requires as_many { length strides.now ≡ length lengths.now }
     requires few { length lengths.now ≤ 32 }
     ensures refused { IfErr result (λ e. vec_refusal lengths.now (Some strides.now) count ≡ Some e) }

@@ -149,10 +149,7 @@ where
     D::Larger: Dimension,
 {
     /// Puts an axis of length 1 in.
-    pub fn insert_axis(
-        &self,
-        axis: usize,
-    ) -> Layout<D::Larger, <D::Larger as Dimension>::Strides>
+    pub fn insert_axis(&self, axis: usize) -> Layout<D::Larger, <D::Larger as Dimension>::Strides>
         requires place { axis ≤ length (D.lengths self.now.dim) }
         requires room { D.Larger.has_axes (length (D.lengths self.now.dim) + 1) ≡ true }
         ensures lengths { D.Larger.lengths result.dim ≡ widened_shape (D.lengths self.now.dim) axis }
