@@ -6,6 +6,7 @@ mod cause;
 mod drive;
 mod input;
 mod keyword;
+mod laws;
 mod numbers;
 mod outcome;
 mod printer;
