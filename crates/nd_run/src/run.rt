@@ -7,6 +7,7 @@ ghost use Rattle.nd_run.specs.Fold.{followed, LeadsAlong, answered, reply_to, af
 
 use crate::calls::{Call, Question, Reply, Step};
 use crate::cause::Cause;
+use crate::laws::paths_lead_along;
 use crate::steps::{advance, keep_refusal, take_step};
 use crate::write::{Acted, write_parts, write_through};
 use nd_array_core::{Array, ArrayView};
@@ -25,6 +26,7 @@ fn follow_path<'a, A>(
     for step in path {
         view = advance(view, step)?;
     }
+    paths_lead_along::<A>();
     Ok(view)
 }
 

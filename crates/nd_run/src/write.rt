@@ -12,6 +12,7 @@ ghost use Rattle.nd_run.specs.Fold.{LeadsAlong, reply_to, after, MayLackMemory};
 
 use crate::calls::{Act, Reply, Step};
 use crate::cause::Cause;
+use crate::laws::paths_lead_along;
 use crate::steps::{keep_refusal, take_step};
 use nd_array_core::laws::{distinct_places, elements_have_places, nothing_outside};
 use nd_array_core::scoped::{LentView, ViewTask};
@@ -37,6 +38,7 @@ fn go_along<S: Data>(
         }
         array = take_step(array, step);
     }
+    paths_lead_along::<usize>();
     (array, None)
 }
 
