@@ -12,3 +12,4 @@ pub mod SliceRows
 pub mod Multiples
 pub mod Progressions
 pub mod CommonElements
+pub mod SeenAxes
