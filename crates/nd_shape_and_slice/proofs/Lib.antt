@@ -15,3 +15,4 @@ pub mod CommonElements
 pub mod Boxes
 pub mod FillLoop
 pub mod PermuteLoop
+pub mod SeenAxes

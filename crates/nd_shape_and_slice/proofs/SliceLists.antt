@@ -1,11 +1,13 @@
 -- Reading a list of slices element by element, over the axes that are left.
 use Rattle.std.proofs.Common.{◌≡◌, ℕ, zero, suc, ◌+◌, ◌<◌, ◌≤◌, Bool, true, false, cond, ◌&&◌, List, [], ◌∷◌, length, drop, get_or, refl, ap, sym, ◌∙◌, subst, arith, eqb, add-one, drop-cons}
 use Rattle.std.proofs.lemmas.Bool.Decides.{nat_tests}
+use Rattle.std.proofs.lemmas.List.Sums.{count_by-le-length}
+use Rattle.std.specs.Prelude.{nat_le}
 use Rattle.std.proofs.lemmas.Option.{slice_get_past, slice_get-get_or}
 use Rattle.std.specs.Prelude.{slice_get, Option, None, Some}
 use Rattle.nd_shape_and_slice.specs.declared.slice_info.SliceInfoElem.{SliceInfoElem}
 use Rattle.nd_shape_and_slice.specs.declared.slice_info.SliceInfoElem.TheVariants.{Slice as Part, Index, NewAxis}
-use Rattle.nd_shape_and_slice.specs.SliceInfo.{reads_axis, each_fits, fits_next}
+use Rattle.nd_shape_and_slice.specs.SliceInfo.{reads_axis, keeps_axis, axes_kept, each_fits, fits_next}
 
 -- how many axes an element reads
 abbrev pub reads : SliceInfoElem → ℕ
@@ -105,3 +107,7 @@ length_there ns a d h = sym (slice_get-get_or ns a d h)
 
 pub no_length : (ns : List ℕ) (a : ℕ) → length ns ≤ a → None ≡ slice_get ns a
 no_length ns a h = sym (slice_get_past ns a h)
+
+-- a list leaves no more axes than it has elements
+pub few_kept : (es : List SliceInfoElem) → length es ≤ 32 → nat_le (axes_kept es) 32 ≡ true
+few_kept es few = let kept : axes_kept es ≤ length es = count_by-le-length keeps_axis es in grind (arith, nat_tests, kept, few)

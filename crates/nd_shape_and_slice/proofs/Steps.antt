@@ -20,3 +20,6 @@ div_ceil_is a b some = at (a % b) refl
         let last : r < b = omega (arith, below, e) in
         let right : (a + (b - 1)) / b ≡ suc (a / b) = ap (λ x. x / b) whole ∙ div-mul-add (suc (a / b)) b r last in
         omega (arith, right, e)
+
+pub quotient_by_one : (a : ℕ) → a ≡ quotient_up a 1
+quotient_by_one a = omega arith

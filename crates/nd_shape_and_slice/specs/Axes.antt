@@ -3,9 +3,13 @@
 use Rattle.std.specs.Prelude.{ℕ, ◌≡◌, ◌<◌, ◌==◌, ◌&&◌, Bool, List, length, map, slice_index}
 use Rattle.std.specs.List.{count_by, list_all, position_or_len, range_with_len}
 
--- each of the axes 0, .., n - 1 stands in the list exactly once, and nothing else
+-- each of the axes 0, .., n - 1 stands in the list exactly once
+abbrev pub HasEachBelow : List ℕ → ℕ → Type 0
+HasEachBelow axes n = (a : ℕ) → a < n → count_by (λ b. b == a) axes ≡ 1
+
+-- that, and nothing else
 abbrev pub HasEachAxis : List ℕ → ℕ → Type 0
-HasEachAxis axes n = (length axes ≡ n) × ((a : ℕ) → a < n → count_by (λ b. b == a) axes ≡ 1)
+HasEachAxis axes n = (length axes ≡ n) × HasEachBelow axes n
 
 -- that, as a test
 abbrev pub names_each_axis : List ℕ → ℕ → Bool

@@ -1,7 +1,9 @@
 //! Axes, and orders of them.
 
-ghost use Rattle.std.specs.Prelude.{◌↔◌, ◌≡◌, ◌==◌, count_by, IsTrue};
-ghost use Rattle.nd_shape_and_slice.specs.Axes.{HasEachAxis, names_each_axis};
+ghost use Rattle.std.specs.Prelude.{◌↔◌, ◌≡◌, ◌≤◌, ◌==◌, count_by, IsTrue};
+ghost use Rattle.nd_shape_and_slice.specs.Axes.{HasEachAxis, HasEachBelow, names_each_axis};
+
+use crate::dimension::MAX_AXES;
 
 /// The number of an axis, from 0. ndarray's `Axis`.
 #[derive(Clone, Copy, Debug, PartialEq, Eq, PartialOrd, Ord)]
@@ -23,18 +25,47 @@ fn times_in(axes: &[usize], axis: usize) -> usize
     axes.iter().filter(|other| **other == axis).count()
 }
 
-fn holds_each_axis(axes: &[usize], ndim: usize) -> bool
-    ensures { IsTrue result ↔ HasEachAxis axes.now ndim }
+/// Whether each axis below `ndim` stands in the list exactly once: counted axis by axis.
+fn counts_each_axis(axes: &[usize], ndim: usize) -> bool
+    ensures { IsTrue result ↔ HasEachBelow axes.now ndim }
 {
-    if axes.len() != ndim {
-        return false;
-    }
     for axis in 0..ndim {
         if times_in(axes, axis) != 1 {
             return false;
         }
     }
     true
+}
+
+/// The same in one pass: each axis that was read is a bit of a mask.
+fn marks_each_axis(axes: &[usize], ndim: usize) -> bool
+    requires { ndim ≤ 32 }
+    ensures { IsTrue result ↔ HasEachBelow axes.now ndim }
+{
+    let mut seen: u64 = 0;
+    for axis in axes {
+        if *axis < ndim {
+            let mark = 1 << *axis;
+            if seen & mark != 0 {
+                return false;
+            }
+            seen |= mark;
+        }
+    }
+    seen == (1 << ndim) - 1
+}
+
+fn holds_each_axis(axes: &[usize], ndim: usize) -> bool
+    ensures { IsTrue result ↔ HasEachAxis axes.now ndim }
+{
+    if axes.len() != ndim {
+        return false;
+    }
+    if ndim <= MAX_AXES {
+        marks_each_axis(axes, ndim)
+    } else {
+        counts_each_axis(axes, ndim)
+    }
 }
 
 /// Whether the list names each of `ndim` axes exactly once: the test of `permuted_axes`' condition.

@@ -77,13 +77,18 @@ fn end_on_axis(len: usize, end: Option<isize>) -> Option<usize>
     }
 }
 
-/// How many coordinates a step names in a range.
-#[tactic(auto, using(crate::proofs::Steps::div_ceil_is))]
+/// How many coordinates a step names in a range. Most steps are 1 or -1, and then nothing is divided.
+#[tactic(auto, using(crate::proofs::Steps::div_ceil_is, crate::proofs::Steps::quotient_by_one))]
 fn steps_in(range: usize, step: isize) -> usize
     requires { 0 < nat_abs step }
     ensures { result ≡ quotient_up range (nat_abs step) }
 {
-    range.div_ceil(step.unsigned_abs())
+    let distance = step.unsigned_abs();
+    if distance == 1 {
+        range
+    } else {
+        range.div_ceil(distance)
+    }
 }
 
 /// Whether the slice fits an axis of this length: the step isn't 0, and both bounds lie on it.

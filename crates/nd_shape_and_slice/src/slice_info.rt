@@ -128,12 +128,20 @@ fn elements_fit(lengths: &[usize], elements: &[SliceInfoElem]) -> bool
     axis == lengths.len()
 }
 
+/// Whether the list leaves 32 axes at most. No list of 32 elements leaves more, so it is rarely counted.
+#[tactic(auto, using(crate::proofs::SliceLists::few_kept))]
+fn keeps_few_axes(elements: &[SliceInfoElem]) -> bool
+    ensures { result ≡ nat_le (axes_kept elements.now) 32 }
+{
+    elements.len() <= MAX_AXES || axes_kept(elements) <= MAX_AXES
+}
+
 /// Whether the list fits an array of this shape: it reads as many axes as there are, each of its elements fits its
 /// axis, and it leaves 32 axes at most.
 pub fn slices_fit(shape: &[usize], elements: &[SliceInfoElem]) -> bool
     ensures { result ≡ fits_shape shape.now elements.now }
 {
-    elements_fit(shape, elements) && axes_kept(elements) <= MAX_AXES
+    elements_fit(shape, elements) && keeps_few_axes(elements)
 }
 
 /// Whether values of the dimension may have this many axes, at most 32.

@@ -1,12 +1,9 @@
-use Rattle.std.proofs.Common.{◌∙◌, sym, arith, below_more, refl}
 use Rattle.nd_shape_and_slice.proofs.axes.holds_each_axis.Goals as goal
 
-pub returns-then-times_in-ne1 : goal.returns-then-times_in-ne1
-returns-then-times_in-ne1 c =
-    (λ no. cc, λ each. absurd (c.if-times_in-ne1.true (c.times_in.ensures ∙ each.1 c.loop-axis.axis c.loop-axis-test.true)))
+pub returns-then-ndim-le-MAX_AXES : goal.returns-then-ndim-le-MAX_AXES
+returns-then-ndim-le-MAX_AXES c =
+    (λ yes. (c.if-axes-ndim.false, c.marks_each_axis.ensures.0 yes), λ each. c.marks_each_axis.ensures.1 each.1)
 
-pub loop-axis-preserved : goal.loop-axis-preserved
-loop-axis-preserved c = (c.loop-axis.invariant.0, below_more _ _ c.loop-axis.invariant.1 (sym c.times_in.ensures ∙ c.if-times_in-ne1.false))
-
-pub returns : goal.returns
-returns c = (λ _. (c.loop-axis.invariant.0, λ a h. c.loop-axis.invariant.1 a (omega arith)), λ _. refl)
+pub returns-else-ndim-le-MAX_AXES : goal.returns-else-ndim-le-MAX_AXES
+returns-else-ndim-le-MAX_AXES c =
+    (λ yes. (c.if-axes-ndim.false, c.counts_each_axis.ensures.0 yes), λ each. c.counts_each_axis.ensures.1 each.1)

@@ -1,0 +1,6 @@
+use Rattle.std.proofs.Common.{◌≡◌, ℕ, ◌<◌, eqb}
+use Rattle.std.specs.List.{count_by}
+use Rattle.nd_shape_and_slice.proofs.axes.counts_each_axis.Given as goal
+
+abbrev pub invariant-loop-axis : goal.invariant-loop-axis
+invariant-loop-axis l = (a : ℕ) → a < l.axis → count_by (λ b. eqb b a) l.axes ≡ 1

@@ -1,6 +1,0 @@
-use Rattle.std.proofs.Common.{◌≡◌, ℕ, ◌<◌, length, eqb}
-use Rattle.std.specs.List.{count_by}
-use Rattle.nd_shape_and_slice.proofs.axes.holds_each_axis.Given as goal
-
-abbrev pub invariant-loop-axis : goal.invariant-loop-axis
-invariant-loop-axis l = (length l.axes ≡ l.ndim) × ((a : ℕ) → a < l.axis → count_by (λ b. eqb b a) l.axes ≡ 1)
