@@ -129,7 +129,8 @@ pub enum RunFault<A> {
 }
 
 /// Carries out the calls one after another, each with one reply. The list of replies is asked for before the
-/// first call. Where memory is refused, the replies are those to the calls before the one that lacked it.
+/// first call. A call that is refused changes nothing. Where memory is refused, the replies are those to the calls
+/// before the one that lacked it. ndarray has no such call.
 pub fn run<A: Clone + Drop>(
     alloc: Global,
     start: Array<A, IxDyn>,
