@@ -12,8 +12,8 @@ use Rattle.nd_array_core.specs.Scoped.{with_named}
 use Rattle.nd_array_core.specs.Tasks.{laid, IsNamedMap, IsViewOf, IsSeenThrough, OthersKeep, LiesSoundly}
 use Rattle.nd_array_core.specs.Writes.{OthersStay}
 use Rattle.nd_array_core.proofs.StepLemmas.{step_holds}
-use Rattle.nd_layout.proofs.StepLemmas.{step_valid}
-use Rattle.nd_layout.proofs.StepLemmas.{step_some}
+use Rattle.nd_layout.proofs.steps.StepLemmas.{step_valid}
+use Rattle.nd_layout.proofs.steps.StepLemmas.{step_some}
 use Rattle.nd_array_core.proofs.WriteStep.{one_index}
 use Rattle.nd_array_core.proofs.TaskStep.{part_is_view, left_is_view}
 

@@ -1,6 +1,6 @@
 use Rattle.nd_array_core.specs.Meaning.{element_at}
 use Rattle.nd_array_core.proofs.Ranked.{ranked_holds, ranked_element}
-use Rattle.nd_layout.proofs.Ranked.{ordered_is_ranked}
+use Rattle.nd_layout.proofs.steps.Ranked.{ordered_is_ranked}
 use Rattle.nd_array_core.proofs.constructors.in_order.Goals as goal
 
 pub invariant_of-result : goal.invariant_of-result

@@ -1,5 +1,5 @@
 use Rattle.nd_array_core.proofs.StepLemmas.{step_holds}
-use Rattle.nd_layout.proofs.StepLemmas.{step_separated}
+use Rattle.nd_layout.proofs.steps.StepLemmas.{step_separated}
 use Rattle.nd_array_core.proofs.each_axis.ArrayBase+S+D.slice_each_axis_inplace.Goals as goal
 
 pub invariant_of-self : goal.invariant_of-self

@@ -1,6 +1,6 @@
 use Rattle.nd_array_core.specs.Meaning.{shape_of}
 use Rattle.nd_array_core.proofs.StepLemmas.{step_holds}
-use Rattle.nd_layout.proofs.StepLemmas.{step_separated}
+use Rattle.nd_layout.proofs.steps.StepLemmas.{step_separated}
 use Rattle.nd_array_core.proofs.layout_calls.ArrayBase+S+D.permute_axes.Goals as goal
 
 pub permute_axes-requires : goal.permute_axes-requires

@@ -1,5 +1,5 @@
 use Rattle.nd_array_core.proofs.StepLemmas.{step_holds}
-use Rattle.nd_layout.proofs.StepLemmas.{step_separated}
+use Rattle.nd_layout.proofs.steps.StepLemmas.{step_separated}
 use Rattle.nd_array_core.proofs.resize_calls.ArrayBase+S+D.insert_axis.Goals as goal
 
 pub invariant_of-result : goal.invariant_of-result

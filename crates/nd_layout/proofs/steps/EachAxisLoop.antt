@@ -10,9 +10,9 @@ use Rattle.nd_shape_and_slice.specs.Descriptions.{axes_from}
 use Rattle.nd_shape_and_slice.specs.Slice.{fits_axis, sliced_length, sliced_from, sliced_shape, sliced_index}
 use Rattle.nd_shape_and_slice.specs.EachAxis.{each_sliced, each_sliced_index, AnswersFit, Answered}
 use Rattle.nd_layout.specs.Steps.{IsStep}
-use Rattle.nd_layout.proofs.StepLemmas.{step_then}
-use Rattle.nd_layout.proofs.StepLemmas.{step_by}
-use Rattle.nd_layout.proofs.ResizeStep.{same_is_step}
+use Rattle.nd_layout.proofs.steps.StepLemmas.{step_then}
+use Rattle.nd_layout.proofs.steps.StepLemmas.{step_by}
+use Rattle.nd_layout.proofs.steps.ResizeStep.{same_is_step}
 
 -- one axis more
 shape_more : (ns : List ℕ) (ys : List Slice) (s : Slice) → length ys < length ns → each_sliced ns (ys ++ s ∷ []) ≡ sliced_shape (each_sliced ns ys) (length ys) s

@@ -14,7 +14,7 @@ use Rattle.nd_layout.specs.Steps.{IsSeen}
 use Rattle.nd_layout.specs.Strides.{grown_strides}
 use Rattle.nd_layout.specs.Strides.{broadcast_strides}
 use Rattle.nd_shape_and_slice.proofs.Boxes.{in_box-drop}
-use Rattle.nd_layout.proofs.StepLemmas.{seen_reaches}
+use Rattle.nd_layout.proofs.steps.StepLemmas.{seen_reaches}
 
 -- ---- one axis: it has the length asked for, or it is 1
 one_axis : (P : Bool → Type 0) (n m : ℕ) → (eqb n m || eqb n 1) ≡ true → (n ≡ m → P true) → (n ≡ 1 → P false) → P (eqb n m)

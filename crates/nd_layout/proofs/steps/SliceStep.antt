@@ -25,8 +25,8 @@ use Rattle.nd_layout.specs.Places.{is_place}
 use Rattle.nd_layout.specs.Places.{ReachesPlaces}
 use Rattle.nd_layout.specs.Steps.{IsStep}
 use Rattle.nd_layout.specs.Strides.{stepped_stride}
-use Rattle.nd_layout.proofs.Walks.{first_is_place}
-use Rattle.nd_layout.proofs.StepLemmas.{origin_in_box}
+use Rattle.nd_layout.proofs.steps.Walks.{first_is_place}
+use Rattle.nd_layout.proofs.steps.StepLemmas.{origin_in_box}
 
 -- a bound lies on the axis
 bound_within : (n : ℕ) (z : ℤ) → unwrap_or (bound_on n z) 0 ≤ n

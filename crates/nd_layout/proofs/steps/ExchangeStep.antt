@@ -16,7 +16,7 @@ use Rattle.nd_layout.specs.Strides.{permuted_strides}
 use Rattle.nd_layout.proofs.Totals.{times, times_is}
 use Rattle.nd_layout.proofs.Permuted.{permuted-unpermuted, length-unpermuted, length-permuted}
 use Rattle.nd_layout.specs.Steps.{IsStep}
-use Rattle.nd_layout.proofs.PermuteStep.{permute_is_step}
+use Rattle.nd_layout.proofs.steps.PermuteStep.{permute_is_step}
 
 -- each axis stands once in the axes' own order, and so in every rearrangement of it
 pub once_in_range : (a low n : ℕ) → low ≤ a → a < low + n → times a (range_with_len low n) ≡ 1
