@@ -12,6 +12,3 @@ pub use grows::growth;
 pub use reshape::reshape_strides;
 pub use runs::{is_run, is_standard};
 pub use spans::{separated, span};
-
-#[cfg(test)]
-mod tests;

@@ -1,6 +1,10 @@
 //! Shapes with an order or with strides, the strides that they get, and axes one after another.
 
-use super::*;
+use nd_shape_and_slice::{
+    Axes, Axis, AxisDescription, Dimension, ErrorKind, IntoDimension, IntoStrideShape, IxDyn,
+    NoMemory, Order, ShapeArg, ShapeBuilder, ShapeError, StrideList, default_strides,
+    fortran_strides, index_of_rank,
+};
 
 /// Whether the dimension has these lengths.
 fn has_lengths<D: Dimension>(dim: &D, lengths: &[usize]) -> bool {

@@ -2,7 +2,8 @@
 
 ghost use Rattle.std.specs.Prelude.{◌<◌, ◌≤◌, ◌^◌};
 
-use super::*;
+use crate::slices::{LONGEST, part_from};
+use nd_shape_and_slice::{SliceInfoElem, slices_fit, slices_intersect};
 
 /// Whether a slice from `start` up to `end`, up or down by a distance, names a place.
 fn names(start: usize, end: usize, distance: usize, down: bool, place: usize) -> bool {
@@ -84,18 +85,6 @@ fn pairs_of_slices_on_lengths_to_8(rt: HostRuntime) {
     }
 }
 
-/// The longest axis that an array can have.
-const LONGEST: usize = 9223372036854775807;
-
-/// A slice of a whole axis, from a bound on.
-fn from(start: isize, step: isize) -> SliceInfoElem {
-    SliceInfoElem::Slice {
-        start,
-        end: None,
-        step,
-    }
-}
-
 #[test]
 fn slices_that_meet(rt: HostRuntime) {
     let up_by_4 = [part(1, 6, 4, false)];
@@ -108,33 +97,34 @@ fn slices_that_meet(rt: HostRuntime) {
         Some(false)
     );
     assert_eq!(rt; intersect(&[], &[], &[]), Some(true));
-    assert_eq!(rt; intersect(&[6], &[from(0, 0)], &up_by_3), None);
+    assert_eq!(rt; intersect(&[6], &[part_from(0, 0)], &up_by_3), None);
 }
 
 #[test]
 fn slices_of_the_longest_axis(rt: HostRuntime) {
+    let half = 4611686018427387904;
     let rows = [
-        (from(0, 2), from(1, 2), false),
-        (from(0, 2), from(1, 3), true),
-        (from(0, isize::MAX), from(0, isize::MIN), false),
-        (from(0, isize::MIN), from(0, -2), true),
-        (from(0, isize::MIN), from(0, 2), true),
-        (from(0, isize::MIN), from(1, 2), false),
-        (from(1, 4611686018427387904), from(2, 3), true),
+        (part_from(0, 2), part_from(1, 2), false),
+        (part_from(0, 2), part_from(1, 3), true),
+        (part_from(0, isize::MAX), part_from(0, isize::MIN), false),
+        (part_from(0, isize::MIN), part_from(0, -2), true),
+        (part_from(0, isize::MIN), part_from(0, 2), true),
+        (part_from(0, isize::MIN), part_from(1, 2), false),
+        (part_from(1, half), part_from(2, 3), true),
+        (part_from(0, half), part_from(1, half - 1), true),
+        (part_from(0, half), part_from(2, half - 1), false),
         (
-            from(0, 4611686018427387904),
-            from(1, 4611686018427387903),
+            part_from(0, 3037000500),
+            part_from(3037000498, 3037000499),
             true,
         ),
         (
-            from(0, 4611686018427387904),
-            from(2, 4611686018427387903),
+            part_from(0, 3037000501),
+            part_from(3037000499, 3037000500),
             false,
         ),
-        (from(0, 3037000500), from(3037000498, 3037000499), true),
-        (from(0, 3037000501), from(3037000499, 3037000500), false),
-        (from(0, 3037000500), from(1, 3037000499), true),
-        (from(-1, 1), SliceInfoElem::Index(-1), true),
+        (part_from(0, 3037000500), part_from(1, 3037000499), true),
+        (part_from(-1, 1), SliceInfoElem::Index(-1), true),
         (
             SliceInfoElem::Index(-2),
             SliceInfoElem::Index(isize::MAX - 1),
@@ -150,10 +140,10 @@ fn slices_of_the_longest_axis(rt: HostRuntime) {
 #[test]
 fn lists_that_meet(rt: HostRuntime) {
     let new = SliceInfoElem::NewAxis;
-    let row_1 = [SliceInfoElem::Index(1), from(0, 1)];
-    let row_2 = [new, SliceInfoElem::Index(2), from(0, 1), new];
-    let last_column = [from(0, -1), new, SliceInfoElem::Index(-1)];
-    let even_columns = [new, from(0, 1), from(0, 2)];
+    let row_1 = [SliceInfoElem::Index(1), part_from(0, 1)];
+    let row_2 = [new, SliceInfoElem::Index(2), part_from(0, 1), new];
+    let last_column = [part_from(0, -1), new, SliceInfoElem::Index(-1)];
+    let even_columns = [new, part_from(0, 1), part_from(0, 2)];
     assert_eq!(rt; intersect(&[3, 4], &row_1, &row_2), Some(false));
     assert_eq!(rt; intersect(&[3, 4], &row_1, &last_column), Some(true));
     assert_eq!(rt; intersect(&[3, 4], &row_2, &even_columns), Some(true));
@@ -162,7 +152,7 @@ fn lists_that_meet(rt: HostRuntime) {
         Some(false)
     );
     assert_eq!(rt;
-        intersect(&[3, 0], &[from(0, 1), from(0, 1)], &even_columns),
+        intersect(&[3, 0], &[part_from(0, 1), part_from(0, 1)], &even_columns),
         Some(false)
     );
 }

@@ -2,7 +2,7 @@ use Rattle.std.proofs.Common.{rules, arith, ◌≡◌, ◌*◌, ◌+◌, ◌∙�
 use Rattle.std.proofs.Math.Nat.{mul_assoc}
 use Rattle.nd_shape_and_slice.specs.Shape.{size_of}
 use Rattle.nd_shape_and_slice.proofs.Sizes.{size_of-drop}
-use Rattle.nd_layout.proofs.tests.count.Goals as goal
+use Rattle.nd_layout_tests.proofs.reshapes.count.Goals as goal
 
 pub loop-length-preserved : goal.loop-length-preserved
 loop-length-preserved c =

@@ -1,6 +1,9 @@
 //! Dimensions, and what gives them: each call once, and their ends.
 
-use super::*;
+use nd_shape_and_slice::{
+    Axis, AxisCount, Dimension, FromDimension, InsertAxis, IntoDimension, Ix0, Ix1, Ix2, Ix6,
+    IxDyn, MAX_AXES, NdIndex, RemoveAxis, StrideList,
+};
 
 /// Whether the two lists are equal.
 fn same(list: &[usize], other: &[usize]) -> bool {
