@@ -4,25 +4,15 @@
 mod aliases;
 mod array;
 mod axes;
-#[cfg(test)]
-mod axes_tests;
 mod axis_calls;
 mod axis_steps;
 mod broadcast;
-#[cfg(test)]
-mod broadcast_tests;
-#[cfg(test)]
-mod constructor_tests;
 mod constructors;
 mod data;
 mod diagonal;
 mod each_axis;
 mod element_mut;
-#[cfg(test)]
-mod element_mut_tests;
 mod fill;
-#[cfg(test)]
-mod fill_tests;
 mod from_slices;
 mod given;
 mod index_longer;
@@ -30,11 +20,7 @@ mod indexing;
 pub mod laws;
 mod layout;
 mod layout_calls;
-#[cfg(test)]
-mod layout_tests;
 mod multi_slice;
-#[cfg(test)]
-mod multi_slice_tests;
 mod places;
 mod resize_calls;
 mod resize_steps;
@@ -42,20 +28,12 @@ pub mod scoped;
 pub mod scoped_pairs;
 mod scoped_parts;
 mod scoped_slices;
-#[cfg(test)]
-mod scoped_tests;
 mod slice_steps;
-#[cfg(test)]
-mod slice_tests;
 mod slices;
 mod split_mut;
 mod squeeze;
 mod steps;
-#[cfg(test)]
-mod tests;
 mod view_mut;
-#[cfg(test)]
-mod view_mut_tests;
 mod writes;
 
 pub use aliases::{
