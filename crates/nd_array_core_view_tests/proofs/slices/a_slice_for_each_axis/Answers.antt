@@ -1,6 +1,5 @@
 use Rattle.std.proofs.Common.{rules, ◌≡◌, ◌∙◌, ap, arith, pos, negsuc}
 use Rattle.std.specs.Prelude.{None}
-use Rattle.nd_shape_and_slice.specs.declared.slice.Slice.{Slice}
 use Rattle.nd_shape_and_slice.specs.Slice.{fits_axis}
 use Rattle.nd_array_core.proofs.EachAxisLoop.{answers_always_fit, whole_fits}
 use Rattle.nd_array_core_view_tests.proofs.slices.a_slice_for_each_axis.Goals as goal
