@@ -16,7 +16,7 @@ use crate::laws::paths_lead_along;
 use crate::steps::{keep_refusal, take_step};
 use nd_array_core::laws::{distinct_places, elements_have_places, nothing_outside};
 use nd_array_core::scoped::{LentView, ViewTask};
-use nd_array_core::scoped_pairs::PairTask;
+use nd_array_core::scoped::PairTask;
 use nd_array_core::{Array, ArrayBase, Data, DataMut, ViewMutRepr};
 use nd_shape_and_slice::{Axis, Dimension, IxDyn};
 use std::alloc::AllocError;
