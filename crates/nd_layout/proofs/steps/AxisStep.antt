@@ -10,7 +10,7 @@ use Rattle.nd_shape_and_slice.specs.Shape.{in_box, size_of}
 use Rattle.nd_shape_and_slice.specs.Place.{offset_of, place_of, span_of}
 use Rattle.nd_shape_and_slice.proofs.RowMajor.{row_rank_below, length-in_box, offset_of-origin}
 use Rattle.nd_layout.proofs.AxisChange.{span_of-at, span_of-changed, IsSeparated-changed}
-use Rattle.nd_layout.proofs.Bounds.{coordinate_below}
+use Rattle.nd_shape_and_slice.proofs.Boxes.{coordinate_below}
 use Rattle.nd_layout.proofs.Distinct.{in_box-set}
 use Rattle.nd_layout.proofs.Integers.{sums, zero-mul, add-mul, mul-neg}
 use Rattle.nd_layout.proofs.Offsets.{offset_of-moved}

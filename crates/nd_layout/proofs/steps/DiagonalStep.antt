@@ -9,7 +9,7 @@ use Rattle.nd_shape_and_slice.specs.Shape.{in_box, HasCheckedSize}
 use Rattle.nd_shape_and_slice.specs.Place.{offset_of, span_of}
 use Rattle.nd_layout.specs.Strides.{sum_of}
 use Rattle.nd_layout.proofs.Integers.{zero-mul, sums}
-use Rattle.nd_layout.proofs.Bounds.{coordinate_below}
+use Rattle.nd_shape_and_slice.proofs.Boxes.{coordinate_below}
 use Rattle.nd_layout.proofs.Reaches.{span_of-drop}
 use Rattle.nd_layout.proofs.Sizes.{length-le-product}
 use Rattle.nd_layout.proofs.Diagonal.{offset_of-diagonal, in_box-diagonal, diagonal-le-span, diagonal-moves, one_axis-separated}

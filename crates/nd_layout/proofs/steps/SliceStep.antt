@@ -16,7 +16,7 @@ use Rattle.nd_shape_and_slice.specs.Slice.{bound_on, end_on, fits_axis, low_of, 
 use Rattle.nd_shape_and_slice.proofs.RowMajor.{row_rank_below, length-in_box, offset_of-origin}
 use Rattle.nd_layout.specs.Strides.{stepped_start}
 use Rattle.nd_layout.proofs.AxisChange.{span_of-at, span_of-changed, IsSeparated-changed}
-use Rattle.nd_layout.proofs.Bounds.{coordinate_below}
+use Rattle.nd_shape_and_slice.proofs.Boxes.{coordinate_below}
 use Rattle.nd_layout.proofs.Distinct.{in_box-set}
 use Rattle.nd_layout.proofs.Sizes.{HasCheckedSize-set, size_of-set}
 use Rattle.nd_layout.proofs.Removed.{size_of-removed}
