@@ -5,12 +5,10 @@ ghost use Rattle.nd_shape_and_slice.specs.declared.slice.Slice.{Slice};
 ghost use Rattle.nd_shape_and_slice.specs.Descriptions.{axes_from};
 ghost use Rattle.nd_shape_and_slice.specs.Slice.{fits_axis, sliced_length, sliced_shape, sliced_index};
 ghost use Rattle.nd_shape_and_slice.specs.SliceInfo.{reads_axis, axes_read, axes_kept, each_fits, fits_next, fits_shape, shape_after, index_before};
-ghost use Rattle.nd_layout.specs.Strides.{sliced_strides};
+ghost use Rattle.nd_layout.specs.Strides.{sliced_strides, stepped_stride, FitsStride};
 ghost use Rattle.nd_shape_and_slice.specs.EachAxis.{each_sliced, each_sliced_index, AnswersFit, Answered};
 ghost use Rattle.nd_shape_and_slice.specs.Slicing.{collapsed_after, collapsed_before, shape_with, index_with, kept_items, put_back, indexed_ones};
 ghost use Rattle.nd_layout.specs.Steps.{IsStep, IsValid};
-ghost use Rattle.nd_layout.specs.Strides.{stepped_stride};
-ghost use Rattle.nd_layout.specs.Strides.{FitsStride};
 
 use super::Layout;
 use super::axes::{leaves_none, length_at, stride_at};
