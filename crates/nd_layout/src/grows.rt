@@ -7,9 +7,9 @@ ghost use Rattle.nd_shape_and_slice.specs.Strides.{column_strides_from};
 ghost use Rattle.nd_layout.specs.Ranks.{ordered, IsRun};
 ghost use Rattle.nd_layout.specs.Growth.{IsContinued, greatest_end, greatest_step, grown, growing_strides, growth_case, must_move, strides_in_case};
 
-use crate::ordered::{axis_at, has_no_elements, put_at};
+use crate::ordered::{axis_at, put_at};
 use crate::spans::length_without;
-use nd_shape_and_slice::Order;
+use nd_shape_and_slice::{Order, is_empty_shape};
 
 /// Whether the other axes have no elements: some length but this axis's is 0.
 fn others_are_empty(lengths: &[usize], axis: usize) -> bool
@@ -140,7 +140,7 @@ fn growth_number(lengths: &[usize], strides: &[isize], full: bool, axis: usize, 
         1
     } else if added == 0 {
         2
-    } else if has_no_elements(lengths) {
+    } else if is_empty_shape(lengths) {
         3
     } else if !full || moves(lengths, strides, axis) {
         4

@@ -5,9 +5,8 @@ use Rattle.std.specs.List.{filter_map}
 use Rattle.std.specs.Result.{result_unwrap_or}
 use Rattle.nd_shape_and_slice.specs.Shape.{indexes_of, in_box}
 use Rattle.nd_array_core.specs.Meaning.{Meaning, seen}
-use Rattle.nd_run.specs.Calls.{AskedStep, Asking, AskShape, AskElements, AskElement, Asked, Keeping, About, Writing, SplitWriting, Said, SaidDone, SaidRefused, SaidShape, SaidElements, SaidElement}
+use Rattle.nd_run.specs.Calls.{AskedStep, Asking, AskShape, AskElements, AskElement, Asked, Keeping, About, Writing, SplitWriting, Said, SaidDone, SaidRefused, SaidShape, SaidElements, SaidElement, said}
 use Rattle.std.specs.Prelude.{map}
-use Rattle.nd_run.specs.Calls.{said}
 use Rattle.nd_run.specs.Steps.{refusal, keep_refusal, unless, shape_after, index_before, shape_along, index_along}
 use Rattle.nd_run.specs.Acts.{written, split_written, clones}
 use Rattle.nd_run.specs.declared.run.RunFault.{RunFault}

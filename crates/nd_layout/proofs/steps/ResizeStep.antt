@@ -12,8 +12,7 @@ use Rattle.nd_layout.proofs.Integers.{zero-mul}
 use Rattle.nd_layout.proofs.Removed.{offset_of-inserted, in_box-inserted, span_of-removed-le, IsSeparated-removed, HasCheckedSize-removed, offset_of-widened_at_zero, in_box-widened, span_of-widened, IsSeparated-widened, nonzero_product-widened}
 use Rattle.nd_layout.specs.Steps.{IsStep}
 use Rattle.nd_shape_and_slice.specs.Maps.{collapsed_shape, collapsed_index, indexed_shape, indexed_index, widened_shape, widened_index}
-use Rattle.nd_layout.proofs.steps.StepLemmas.{step_then}
-use Rattle.nd_layout.proofs.steps.StepLemmas.{step_by}
+use Rattle.nd_layout.proofs.steps.StepLemmas.{step_then, step_by}
 
 -- nothing changes
 pub same_is_step : (first : ℕ) (ns : List ℕ) (ss : List ℤ) → length ss ≡ length ns → IsStep first ns ss first ns ss (λ i. i)
