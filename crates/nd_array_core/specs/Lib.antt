@@ -1,10 +1,10 @@
 pub mod Places
-pub mod Placed
+pub mod PlacedArray
 pub mod Meaning
 pub mod Sources
 pub mod Writes
 pub mod ElementMut
-pub mod Refilled
+pub mod NewElements
 pub mod ElementLent
 pub mod RegionLent
 pub mod Scoped

@@ -2,7 +2,7 @@
 
 ghost use Rattle.std.specs.Prelude.{◌≡◌, ℕ};
 ghost use Rattle.nd_shape_and_slice.specs.Descriptions.{axes_from};
-ghost use Rattle.nd_shape_and_slice.specs.Listed.{axes_left};
+ghost use Rattle.nd_shape_and_slice.specs.AxesLeft.{axes_left};
 
 use crate::array::ArrayBase;
 use crate::data::Data;

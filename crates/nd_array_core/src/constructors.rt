@@ -5,7 +5,7 @@ ghost use Rattle.nd_shape_and_slice.specs.Shape.{size_of, HasCheckedSize};
 ghost use Rattle.nd_shape_and_slice.specs.Place.{place_of, IsSeparated};
 ghost use Rattle.nd_layout.specs.Strides.{reach_down};
 ghost use Rattle.nd_layout.specs.Ranks.{rank_in};
-ghost use Rattle.nd_layout.specs.Given.{given_place, ordered_strides, given_strides};
+ghost use Rattle.nd_layout.specs.GivenStrides.{given_place, ordered_strides, given_strides};
 ghost use Rattle.nd_layout.specs.Refusals.{vec_refusal, slice_refusal, slice_mut_refusal, elements_asked};
 ghost use Rattle.nd_array_core.specs.Meaning.{shape_of, element_at, layout_strides, inside};
 ghost use Rattle.nd_array_core.specs.Places.{stored_at};
@@ -13,7 +13,7 @@ ghost use Rattle.nd_layout.specs.Steps.{IsValid};
 
 use crate::array::{Array, ArrayBase, ArrayView, ArrayViewMut};
 use crate::data::{Data, OwnedRepr, ViewMutRepr, ViewRepr};
-use nd_layout::{Layout, first_in_slice, first_in_vec, size_in_slice, size_in_vec};
+use nd_layout::{Layout, offset_in_slice, offset_in_vec, size_in_slice, size_in_vec};
 use nd_shape_and_slice::{Dimension, IntoStrideShape, Order, ShapeError, StrideList};
 
 /// The elements of a storage under a shape, in an order.
@@ -35,21 +35,21 @@ pub(crate) fn in_order<S: Data, D: Dimension>(storage: S, dim: D, order: Order) 
 #[tactic(auto, unfolding(crate::specs::Meaning::shape_of, crate::specs::Meaning::element_at, crate::specs::Meaning::layout_strides))]
 fn with_strides<S: Data, D: Dimension>(
     storage: S,
-    first: usize,
+    offset: usize,
     dim: D,
     strides: D::Strides,
 ) -> ArrayBase<S, D>
-    requires valid { IsValid first (D.lengths dim) (D.Strides.strides_of strides) }
-    requires from { first ≡ reach_down (D.lengths dim) (D.Strides.strides_of strides) }
+    requires valid { IsValid offset (D.lengths dim) (D.Strides.strides_of strides) }
+    requires from { offset ≡ reach_down (D.lengths dim) (D.Strides.strides_of strides) }
     requires holds { (place : ℕ) → place < elements_asked (D.lengths dim) (D.Strides.strides_of strides) → IsSome (S.stored storage place) }
     requires apart { S.exclusive ≡ true → 0 < size_of (D.lengths dim) → IsSeparated (D.lengths dim) (D.Strides.strides_of strides) }
     ensures shape { shape_of result ≡ D.lengths dim }
     ensures strides { layout_strides result ≡ D.Strides.strides_of strides }
-    ensures elements { (i : List ℕ) → element_at result i ≡ inside (D.lengths dim) i (stored_at (S.stored storage) (place_of first (D.Strides.strides_of strides) i)) }
+    ensures elements { (i : List ℕ) → element_at result i ≡ inside (D.lengths dim) i (stored_at (S.stored storage) (place_of offset (D.Strides.strides_of strides) i)) }
 {
     ArrayBase {
         storage,
-        layout: Layout::strided(first, dim, strides),
+        layout: Layout::strided(offset, dim, strides),
     }
 }
 
@@ -73,8 +73,8 @@ impl<A: Drop, D: Dimension> Array<A, D> {
         let dim = *given.raw_dim();
         match given.custom_strides() {
             Some(strides) => {
-                let first = first_in_vec(dim.slice(), strides.slice(), v.len())?;
-                Ok(with_strides(OwnedRepr { items: v }, first, dim, strides))
+                let offset = offset_in_vec(dim.slice(), strides.slice(), v.len())?;
+                Ok(with_strides(OwnedRepr { items: v }, offset, dim, strides))
             }
             None => {
                 size_in_vec(dim.slice(), v.len())?;
@@ -103,8 +103,8 @@ impl<'a, A, D: Dimension> ArrayView<'a, A, D> {
         let dim = *given.raw_dim();
         match given.custom_strides() {
             Some(strides) => {
-                let first = first_in_slice(dim.slice(), strides.slice(), xs.len())?;
-                Ok(with_strides(ViewRepr::of_slice(xs), first, dim, strides))
+                let offset = offset_in_slice(dim.slice(), strides.slice(), xs.len())?;
+                Ok(with_strides(ViewRepr::of_slice(xs), offset, dim, strides))
             }
             None => {
                 size_in_slice(dim.slice(), xs.len())?;
@@ -133,8 +133,8 @@ impl<'a, A, D: Dimension> ArrayViewMut<'a, A, D> {
         let dim = *given.raw_dim();
         match given.custom_strides() {
             Some(strides) => {
-                let first = first_in_vec(dim.slice(), strides.slice(), xs.len())?;
-                Ok(with_strides(ViewMutRepr::of_slice_mut(xs), first, dim, strides))
+                let offset = offset_in_vec(dim.slice(), strides.slice(), xs.len())?;
+                Ok(with_strides(ViewMutRepr::of_slice_mut(xs), offset, dim, strides))
             }
             None => {
                 size_in_slice(dim.slice(), xs.len())?;

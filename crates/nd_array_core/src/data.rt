@@ -9,12 +9,12 @@ ghost use base.Fml.{GName};
 ghost use Rattle.nd_region.specs.Scoped.{TakesPart, GivesPartBack, IsPartReturned};
 ghost use Rattle.nd_region.specs.Shared.{shared_stored};
 ghost use Rattle.nd_region.specs.Places.{names, names_not};
-ghost use Rattle.nd_region.specs.Region.{stored as region_stored, borrow_of, with_element as region_with, with_items as region_items, HasPlaces, IsAsLong};
+ghost use Rattle.nd_region.specs.Region.{region_stored, borrow_of, with_element as region_with, with_items as region_items, HasPlaces, IsAsLong};
 ghost use Rattle.nd_array_core.specs.Places.{HoldsAll, kept_at, written_at, swapped_at};
 ghost use Rattle.nd_array_core.specs.Scoped.{TakesNamed, GivesNamedBack, IsNamedReturned};
 ghost use Rattle.nd_array_core.specs.Storages.{shown_by};
 ghost use Rattle.nd_array_core.specs.ElementMut.{element_follows, KeepsPlaces, item_kept, item_written, place_kept, place_written};
-ghost use Rattle.nd_array_core.specs.Refilled.{overwritten, overwritten_itself, overwritten_again, places_there, places_kept, items_there, items_kept, items_itself, items_again};
+ghost use Rattle.nd_array_core.specs.NewElements.{overwritten_items, overwritten_itself, overwritten_again, places_there, places_kept, items_there, items_kept, items_itself, items_again};
 
 use nd_layout::Layout;
 use nd_region::{Region, SharedRegion, with_region};
@@ -202,14 +202,14 @@ impl<'a, A> ViewMutRepr<'a, A> {
 
     /// Moves the places that a layout names out of this storage, into one of exactly these under their old numbers.
     pub(crate) fn split<D: Dimension, T: StrideList>(&mut self, layout: &Layout<D, T>) -> Self
-        requires { HoldsAll (region_stored self.old.region) layout.now.first (D.lengths layout.now.dim) (T.strides_of layout.now.strides) }
-        ensures taken { (place : ℕ) → region_stored result.region place ≡ kept_at (names layout.now.first (D.lengths layout.now.dim) (T.strides_of layout.now.strides)) (region_stored self.old.region) place }
-        ensures left { (place : ℕ) → region_stored self.new.region place ≡ kept_at (names_not layout.now.first (D.lengths layout.now.dim) (T.strides_of layout.now.strides)) (region_stored self.old.region) place }
+        requires { HoldsAll (region_stored self.old.region) layout.now.offset (D.lengths layout.now.dim) (T.strides_of layout.now.strides) }
+        ensures taken { (place : ℕ) → region_stored result.region place ≡ kept_at (names layout.now.offset (D.lengths layout.now.dim) (T.strides_of layout.now.strides)) (region_stored self.old.region) place }
+        ensures left { (place : ℕ) → region_stored self.new.region place ≡ kept_at (names_not layout.now.offset (D.lengths layout.now.dim) (T.strides_of layout.now.strides)) (region_stored self.old.region) place }
     {
         RegionRepr {
             region: self
                 .region
-                .split(layout.first, layout.dim.slice(), layout.strides.slice()),
+                .split(layout.offset, layout.dim.slice(), layout.strides.slice()),
             tie: Snapshot::of(&0),
         }
     }
@@ -237,7 +237,7 @@ impl<'a, A> Data for ViewMutRepr<'a, A> {
 
     ghost items = { λ s. s.region.items };
 
-    ghost refilled = { λ s ws. (record { region = region_items s.region (overwritten s.region.items ws); tie = s.tie }, places_kept s.region.items ws s.region.held) };
+    ghost refilled = { λ s ws. (record { region = region_items s.region (overwritten_items s.region.items ws); tie = s.tie }, places_kept s.region.items ws s.region.held) };
 
     fn element(&self, place: usize) -> &A {
         self.region.get(place)
@@ -280,21 +280,21 @@ pub trait DataMut: Data {
         ensures new { (r : ℕ) → Self.stored self.new r ≡ swapped_at (Self.stored self.old) p q r }
         ensures borrow { borrow self.new ≡ borrow self.old };
 
-    /// Hands f the places that the layout names by its first place, lengths and strides, for the length of the
+    /// Hands f the places that the layout names by its offset, lengths and strides, for the length of the
     /// call. Each of them then holds what the region has there which f gives back, and every other place what it
     /// held. That f gives the same borrow back is the condition `returns`.
     fn with_part<R, F: for<'b> FnOnce(Region<'b, Self::Elem>) -> (Region<'b, Self::Elem>, R)>(
         &mut self,
-        first: usize,
+        offset: usize,
         lengths: &[usize],
         strides: &[isize],
         f: F,
     ) -> R
         requires as_many { length lengths.now ≡ length strides.now }
-        requires holds { HoldsAll (Self.stored self.old) first lengths.now strides.now }
-        requires callable { TakesNamed (F.pre f) (Self.stored self.old) first lengths.now strides.now }
-        requires returns { GivesNamedBack (F.post f) (Self.stored self.old) first lengths.now strides.now }
-        ensures part { IsNamedReturned (F.post f) (Self.stored self.old) (Self.stored self.new) first lengths.now strides.now result }
+        requires holds { HoldsAll (Self.stored self.old) offset lengths.now strides.now }
+        requires callable { TakesNamed (F.pre f) (Self.stored self.old) offset lengths.now strides.now }
+        requires returns { GivesNamedBack (F.post f) (Self.stored self.old) offset lengths.now strides.now }
+        ensures part { IsNamedReturned (F.post f) (Self.stored self.old) (Self.stored self.new) offset lengths.now strides.now result }
         ensures there { (p : ℕ) → is_some (Self.stored self.new p) ≡ is_some (Self.stored self.old p) }
         ensures borrow { borrow self.new ≡ borrow self.old };
 
@@ -355,12 +355,12 @@ impl<A> DataMut for OwnedRepr<A> {
 
     fn with_part<R, F: for<'b> FnOnce(Region<'b, A>) -> (Region<'b, A>, R)>(
         &mut self,
-        first: usize,
+        offset: usize,
         lengths: &[usize],
         strides: &[isize],
         f: F,
     ) -> R {
-        part_of_slice(self.items.as_mut_slice(), first, lengths, strides, f)
+        part_of_slice(self.items.as_mut_slice(), offset, lengths, strides, f)
     }
 }
 
@@ -400,40 +400,40 @@ impl<'a, A> DataMut for ViewMutRepr<'a, A> {
 
     fn with_part<R, F: for<'b> FnOnce(Region<'b, A>) -> (Region<'b, A>, R)>(
         &mut self,
-        first: usize,
+        offset: usize,
         lengths: &[usize],
         strides: &[isize],
         f: F,
     ) -> R {
-        self.region.with_part(first, lengths, strides, f)
+        self.region.with_part(offset, lengths, strides, f)
     }
 }
 
 /// A part of a slice as a region, for the length of the call.
 fn part_of_slice<A, R, F: for<'b> FnOnce(Region<'b, A>) -> (Region<'b, A>, R)>(
     items: &mut [A],
-    first: usize,
+    offset: usize,
     lengths: &[usize],
     strides: &[isize],
     f: F,
 ) -> R
     requires as_many { length lengths.now ≡ length strides.now }
-    requires holds { HoldsAll (slice_get items.old) first lengths.now strides.now }
-    requires callable { TakesNamed (F.pre f) (slice_get items.old) first lengths.now strides.now }
-    requires returns { GivesNamedBack (F.post f) (slice_get items.old) first lengths.now strides.now }
-    ensures part { IsNamedReturned (F.post f) (slice_get items.old) (slice_get items.new) first lengths.now strides.now result }
+    requires holds { HoldsAll (slice_get items.old) offset lengths.now strides.now }
+    requires callable { TakesNamed (F.pre f) (slice_get items.old) offset lengths.now strides.now }
+    requires returns { GivesNamedBack (F.post f) (slice_get items.old) offset lengths.now strides.now }
+    ensures part { IsNamedReturned (F.post f) (slice_get items.old) (slice_get items.new) offset lengths.now strides.now result }
     ensures long { length items.new ≡ length items.old }
 {
     with_region(
         items,
         |region|
-            requires { (length lengths.now ≡ length strides.now) × HasPlaces region first lengths.now strides.now × TakesPart (F.pre f) (names first lengths.now strides.now) region × GivesPartBack (F.post f) (names first lengths.now strides.now) region }
-            ensures part { IsPartReturned (F.post f) (names first lengths.entry.now strides.entry.now) region.entry result.0 result.1 }
+            requires { (length lengths.now ≡ length strides.now) × HasPlaces region offset lengths.now strides.now × TakesPart (F.pre f) (names offset lengths.now strides.now) region × GivesPartBack (F.post f) (names offset lengths.now strides.now) region }
+            ensures part { IsPartReturned (F.post f) (names offset lengths.entry.now strides.entry.now) region.entry result.0 result.1 }
             ensures same { borrow_of result.0 ≡ borrow_of region.entry }
             ensures long { IsAsLong region.entry result.0 }
         {
             let mut region = region;
-            let answer = region.with_part(first, lengths, strides, f);
+            let answer = region.with_part(offset, lengths, strides, f);
             (region, answer)
         },
     )

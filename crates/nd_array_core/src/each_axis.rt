@@ -3,7 +3,7 @@
 ghost use Rattle.std.specs.Prelude.{◌≡◌, ◌<◌, ℕ, ℤ, true, List, length};
 ghost use Rattle.nd_shape_and_slice.specs.declared.slice.Slice.{Slice};
 ghost use Rattle.nd_shape_and_slice.specs.Descriptions.{axes_from};
-ghost use Rattle.nd_shape_and_slice.specs.EachAxis.{each_sliced, each_sliced_index, AnswersFit, Answered};
+ghost use Rattle.nd_shape_and_slice.specs.EachAxis.{each_sliced_shape, each_sliced_index, AnswersFit, AnswersAre};
 ghost use Rattle.nd_array_core.specs.Meaning.{shape_of, element_at, layout_strides, storage_of, inside};
 ghost use Rattle.nd_layout.specs.Steps.{IsStep};
 
@@ -19,7 +19,7 @@ impl<S: Data, D: Dimension> ArrayBase<S, D> {
     pub fn slice_each_axis_inplace<F: FnMut(AxisDescription) -> Slice + Drop>(&mut self, f: F)
         requires { AnswersFit F.pre F.step f (axes_from 0 (shape_of self.old) (layout_strides self.old)) }
         ensures storage { storage_of self.new ≡ storage_of self.old }
-        ensures sliced { (slices : List Slice) × (last : F) × Answered F.step f (axes_from 0 (shape_of self.old) (layout_strides self.old)) slices last × (shape_of self.new ≡ each_sliced (shape_of self.old) slices) × ((i : List ℕ) → element_at self.new i ≡ inside (shape_of self.new) i (element_at self.old (each_sliced_index (shape_of self.old) slices i))) }
+        ensures sliced { (slices : List Slice) × (last : F) × AnswersAre F.step f (axes_from 0 (shape_of self.old) (layout_strides self.old)) slices last × (shape_of self.new ≡ each_sliced_shape (shape_of self.old) slices) × ((i : List ℕ) → element_at self.new i ≡ inside (shape_of self.new) i (element_at self.old (each_sliced_index (shape_of self.old) slices i))) }
     {
         self.layout.slice_each_axis(f);
     }
@@ -31,7 +31,7 @@ impl<S: Data, D: Dimension> ArrayBase<S, D> {
         f: F,
     ) -> ArrayView<'_, S::Elem, D>
         requires { AnswersFit F.pre F.step f (axes_from 0 (shape_of self.now) (layout_strides self.now)) }
-        ensures { (slices : List Slice) × (last : F) × Answered F.step f (axes_from 0 (shape_of self.now) (layout_strides self.now)) slices last × (shape_of result ≡ each_sliced (shape_of self.now) slices) × ((i : List ℕ) → element_at result i ≡ inside (shape_of result) i (element_at self.now (each_sliced_index (shape_of self.now) slices i))) }
+        ensures { (slices : List Slice) × (last : F) × AnswersAre F.step f (axes_from 0 (shape_of self.now) (layout_strides self.now)) slices last × (shape_of result ≡ each_sliced_shape (shape_of self.now) slices) × ((i : List ℕ) → element_at result i ≡ inside (shape_of result) i (element_at self.now (each_sliced_index (shape_of self.now) slices i))) }
     {
         let mut view = self.view();
         view.slice_each_axis_inplace(f);

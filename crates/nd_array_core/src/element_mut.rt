@@ -13,7 +13,7 @@ use std::ops::IndexMut;
 
 #[tactic(auto, unfolding(crate::specs::Meaning::shape_of, crate::specs::Meaning::element_at, crate::specs::Meaning::storage_of, crate::specs::Meaning::place_at))]
 impl<S: DataMut, D: Dimension> ArrayBase<S, D> {
-    ghost use Rattle.nd_array_core.specs.ElementLent.{lends_element, with_element, IsWrittenAt};
+    ghost use Rattle.nd_array_core.specs.ElementLent.{lends_element, array_with_element, IsWrittenAt};
 
     /// The element at an index of the shape's box (`get` tells which indexes are in it), to be written. ndarray's
     /// `uget_mut`.
@@ -21,7 +21,7 @@ impl<S: DataMut, D: Dimension> ArrayBase<S, D> {
         requires { in_box (shape_of self.old) (I.coordinates_of index) ≡ true }
         ensures* writes_back { sem 𝓛 (lends_element S.row S.Elem.row D.row D.Pattern.row D.Strides.row D.Smaller.row D.Larger.row S.Data D.Dimension D.AxisCount D.Strides.StrideList self.entry (I.coordinates_of index) result) }
         ensures value { element_at self.old (I.coordinates_of index) ≡ Some result.now }
-        ensures written { (x : S.Elem) → IsWrittenAt S.borrow self.old (I.coordinates_of index) x (with_element S.with_element self.old (I.coordinates_of index) x) }
+        ensures written { (x : S.Elem) → IsWrittenAt S.borrow self.old (I.coordinates_of index) x (array_with_element S.with_element self.old (I.coordinates_of index) x) }
     {
         let place = self.layout.place_in_box(index.coordinates());
         self.storage.element_mut(place)
@@ -57,7 +57,7 @@ pub trait GetMut<I> {
 
 #[tactic(auto, unfolding(crate::specs::Meaning::shape_of, crate::specs::Meaning::element_at))]
 impl<S: DataMut, D: Dimension, I: NdIndex<D>> GetMut<I> for ArrayBase<S, D> {
-    ghost use Rattle.nd_array_core.specs.ElementLent.{with_element, IsWrittenAt};
+    ghost use Rattle.nd_array_core.specs.ElementLent.{array_with_element, IsWrittenAt};
 
     type Elem = S::Elem;
 
@@ -65,7 +65,7 @@ impl<S: DataMut, D: Dimension, I: NdIndex<D>> GetMut<I> for ArrayBase<S, D> {
 
     ghost element_got = { λ a i. element_at a (I.coordinates_of i) };
 
-    ghost with_element_got = { λ a i x. with_element S.with_element a (I.coordinates_of i) x };
+    ghost with_element_got = { λ a i x. array_with_element S.with_element a (I.coordinates_of i) x };
 
     ghost is_written_got = { λ a i x new. IsWrittenAt S.borrow a (I.coordinates_of i) x new };
 
@@ -79,13 +79,13 @@ impl<S: DataMut, D: Dimension, I: NdIndex<D>> GetMut<I> for ArrayBase<S, D> {
 
 #[tactic(auto, unfolding(crate::specs::Meaning::shape_of, crate::specs::Meaning::element_at))]
 impl<S: DataMut, D: Dimension, I: NdIndex<D>> IndexMut<I> for ArrayBase<S, D> {
-    ghost use Rattle.nd_array_core.specs.ElementLent.{lends_element, with_element, IsWrittenAt};
+    ghost use Rattle.nd_array_core.specs.ElementLent.{lends_element, array_with_element, IsWrittenAt};
 
     fn index_mut(&mut self, index: I) -> &mut S::Elem
         requires { in_box (shape_of self.old) (I.coordinates_of index) ≡ true }
         ensures* writes_back { sem 𝓛 (lends_element S.row S.Elem.row D.row D.Pattern.row D.Strides.row D.Smaller.row D.Larger.row S.Data D.Dimension D.AxisCount D.Strides.StrideList self.entry (I.coordinates_of index) result) }
         ensures value { element_at self.old (I.coordinates_of index) ≡ Some result.now }
-        ensures written { (x : S.Elem) → IsWrittenAt S.borrow self.old (I.coordinates_of index) x (with_element S.with_element self.old (I.coordinates_of index) x) }
+        ensures written { (x : S.Elem) → IsWrittenAt S.borrow self.old (I.coordinates_of index) x (array_with_element S.with_element self.old (I.coordinates_of index) x) }
     {
         self.uget_mut(index)
     }

@@ -1,7 +1,7 @@
 //! Calls that give another view of the same elements, with no copy.
 
 ghost use Rattle.std.specs.Prelude.{◌≡◌, ◌<◌, ℕ, true, List, length, slice_index};
-ghost use Rattle.nd_shape_and_slice.specs.Axes.{HasEachAxis, permuted, unpermuted};
+ghost use Rattle.nd_shape_and_slice.specs.Axes.{HasEachAxis, permuted_list, unpermuted_list};
 ghost use Rattle.nd_shape_and_slice.specs.Slice.{fits_axis, sliced_shape, sliced_index};
 ghost use Rattle.nd_layout.specs.Strides.{permuted_strides};
 ghost use Rattle.nd_layout.specs.Strides.{sliced_strides};
@@ -61,11 +61,11 @@ impl<S: Data, D: Dimension> ArrayBase<S, D> {
     /// (`axes_fit`). ndarray's `permute_axes`.
     pub fn permute_axes<I: IntoDimension<Dim = D>>(&mut self, axes: I)
         requires { HasEachAxis (I.lengths_given axes) (length (shape_of self.old)) }
-        ensures shape { shape_of self.new ≡ permuted (I.lengths_given axes) (shape_of self.old) }
+        ensures shape { shape_of self.new ≡ permuted_list (I.lengths_given axes) (shape_of self.old) }
         ensures strides { layout_strides self.new ≡ permuted_strides (I.lengths_given axes) (layout_strides self.old) }
-        ensures elements { (i : List ℕ) → element_at self.new i ≡ inside (shape_of self.new) i (element_at self.old (unpermuted (I.lengths_given axes) i)) }
+        ensures elements { (i : List ℕ) → element_at self.new i ≡ inside (shape_of self.new) i (element_at self.old (unpermuted_list (I.lengths_given axes) i)) }
         ensures storage { storage_of self.new ≡ storage_of self.old }
-        ensures places { (i : List ℕ) → place_at self.new i ≡ inside (shape_of self.new) i (place_at self.old (unpermuted (I.lengths_given axes) i)) }
+        ensures places { (i : List ℕ) → place_at self.new i ≡ inside (shape_of self.new) i (place_at self.old (unpermuted_list (I.lengths_given axes) i)) }
     {
         let order = axes.into_dimension();
         self.layout.permute_axes(order.slice());
@@ -75,11 +75,11 @@ impl<S: Data, D: Dimension> ArrayBase<S, D> {
     /// list (`axes_fit`). ndarray's `permuted_axes`.
     pub fn permuted_axes<I: IntoDimension<Dim = D>>(self, axes: I) -> Self
         requires { HasEachAxis (I.lengths_given axes) (length (shape_of self)) }
-        ensures shape { shape_of result ≡ permuted (I.lengths_given axes) (shape_of self) }
+        ensures shape { shape_of result ≡ permuted_list (I.lengths_given axes) (shape_of self) }
         ensures strides { layout_strides result ≡ permuted_strides (I.lengths_given axes) (layout_strides self) }
-        ensures elements { (i : List ℕ) → element_at result i ≡ inside (shape_of result) i (element_at self (unpermuted (I.lengths_given axes) i)) }
+        ensures elements { (i : List ℕ) → element_at result i ≡ inside (shape_of result) i (element_at self (unpermuted_list (I.lengths_given axes) i)) }
         ensures storage { storage_of result ≡ storage_of self }
-        ensures places { (i : List ℕ) → place_at result i ≡ inside (shape_of result) i (place_at self (unpermuted (I.lengths_given axes) i)) }
+        ensures places { (i : List ℕ) → place_at result i ≡ inside (shape_of result) i (place_at self (unpermuted_list (I.lengths_given axes) i)) }
     {
         let mut array = self;
         array.permute_axes(axes);

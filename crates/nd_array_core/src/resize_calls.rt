@@ -3,7 +3,7 @@
 ghost use Rattle.std.specs.Prelude.{◌↔◌, ◌≡◌, ◌<◌, ◌≤◌, ◌+◌, ℕ, true, false, List, length, slice_index, pos, IsErr, IfErr, IfOk};
 ghost use Rattle.std.specs.List.{remove, insert};
 ghost use Rattle.nd_shape_and_slice.specs.declared.errors.ErrorKind.{ErrorKind};
-ghost use Rattle.nd_shape_and_slice.specs.Maps.{indexed_shape, indexed_index, widened_shape, widened_index};
+ghost use Rattle.nd_shape_and_slice.specs.Maps.{indexed_shape, indexed_index, inserted_shape, inserted_index};
 ghost use Rattle.nd_array_core.specs.Meaning.{shape_of, element_at, storage_of, place_at, layout_strides, inside};
 
 use crate::array::{ArrayBase, ArrayView};
@@ -113,11 +113,11 @@ where
     pub fn insert_axis(self, axis: Axis) -> ArrayBase<S, D::Larger>
         requires place { axis.0 ≤ length (shape_of self) }
         requires room { D.Larger.has_axes (length (shape_of self) + 1) ≡ true }
-        ensures shape { shape_of result ≡ widened_shape (shape_of self) axis.0 }
+        ensures shape { shape_of result ≡ inserted_shape (shape_of self) axis.0 }
         ensures strides { layout_strides result ≡ insert (layout_strides self) axis.0 (pos 1) }
-        ensures elements { (i : List ℕ) → element_at result i ≡ inside (shape_of result) i (element_at self (widened_index axis.0 i)) }
+        ensures elements { (i : List ℕ) → element_at result i ≡ inside (shape_of result) i (element_at self (inserted_index axis.0 i)) }
         ensures storage { storage_of result ≡ storage_of self }
-        ensures places { (i : List ℕ) → place_at result i ≡ inside (shape_of result) i (place_at self (widened_index axis.0 i)) }
+        ensures places { (i : List ℕ) → place_at result i ≡ inside (shape_of result) i (place_at self (inserted_index axis.0 i)) }
     {
         let layout = self.layout.insert_axis(axis.0);
         ArrayBase {
@@ -172,11 +172,11 @@ impl<S: Data> ArrayBase<S, IxDyn> {
     pub fn insert_axis_inplace(&mut self, axis: Axis)
         requires place { axis.0 ≤ length (shape_of self.old) }
         requires room { length (shape_of self.old) < 32 }
-        ensures shape { shape_of self.new ≡ widened_shape (shape_of self.old) axis.0 }
+        ensures shape { shape_of self.new ≡ inserted_shape (shape_of self.old) axis.0 }
         ensures strides { layout_strides self.new ≡ insert (layout_strides self.old) axis.0 (pos 1) }
-        ensures elements { (i : List ℕ) → element_at self.new i ≡ inside (shape_of self.new) i (element_at self.old (widened_index axis.0 i)) }
+        ensures elements { (i : List ℕ) → element_at self.new i ≡ inside (shape_of self.new) i (element_at self.old (inserted_index axis.0 i)) }
         ensures storage { storage_of self.new ≡ storage_of self.old }
-        ensures places { (i : List ℕ) → place_at self.new i ≡ inside (shape_of self.new) i (place_at self.old (widened_index axis.0 i)) }
+        ensures places { (i : List ℕ) → place_at self.new i ≡ inside (shape_of self.new) i (place_at self.old (inserted_index axis.0 i)) }
     {
         let layout = self.layout.insert_axis(axis.0);
         self.layout = layout;

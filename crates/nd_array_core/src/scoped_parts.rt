@@ -8,7 +8,7 @@ ghost use Rattle.nd_array_core.specs.Writes.{OthersStay};
 
 use crate::array::ArrayBase;
 use crate::data::DataMut;
-use crate::scoped::{ViewTask, with_laid};
+use crate::scoped::{ViewTask, with_placement};
 use nd_shape_and_slice::{Axis, Dimension, Ix1, RemoveAxis, Slice, SliceArg};
 
 #[tactic(auto, unfolding(crate::specs::Meaning::shape_of, crate::specs::Meaning::element_at, crate::specs::Meaning::storage_of, crate::specs::Meaning::place_at))]
@@ -33,7 +33,7 @@ impl<S: DataMut, D: Dimension> ArrayBase<S, D> {
         ensures done { IsDoneOnPart (λ v w. K.post task v w result) self.old self.new (sliced_part (shape_of self.old) (I.elements_of info)) }
     {
         let layout = self.layout.sliced::<I::OutDim>(info.elements());
-        with_laid(&mut self.storage, layout, task)
+        with_placement(&mut self.storage, layout, task)
     }
 
     /// Hands the task a mutable view of what the slice names of one axis, for the length of the call. The array then shows
@@ -57,7 +57,7 @@ impl<S: DataMut, D: Dimension> ArrayBase<S, D> {
     {
         let mut layout = self.layout.copied();
         layout.slice_axis(axis.0, slice);
-        with_laid(&mut self.storage, layout, task)
+        with_placement(&mut self.storage, layout, task)
     }
 
     /// Hands the task a mutable view of the elements whose coordinates are all the same, for the length of the call; of an
@@ -73,7 +73,7 @@ impl<S: DataMut, D: Dimension> ArrayBase<S, D> {
         ensures done { IsDoneOnPart (λ v w. K.post task v w result) self.old self.new (diagonal_part (shape_of self.old)) }
     {
         let layout = self.layout.diagonal();
-        with_laid(&mut self.storage, layout, task)
+        with_placement(&mut self.storage, layout, task)
     }
 }
 
@@ -104,6 +104,6 @@ where
         ensures done { IsDoneOnPart (λ v w. K.post task v w result) self.old self.new (coordinate_part (shape_of self.old) axis.0 index) }
     {
         let layout = self.layout.index_axis(axis.0, index);
-        with_laid(&mut self.storage, layout, task)
+        with_placement(&mut self.storage, layout, task)
     }
 }

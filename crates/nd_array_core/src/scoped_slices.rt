@@ -7,7 +7,7 @@ ghost use Rattle.nd_array_core.specs.Writes.{OthersStay};
 
 use crate::array::ArrayBase;
 use crate::data::DataMut;
-use crate::scoped_pairs::{PairTask, pair_laid};
+use crate::scoped_pairs::{PairTask, with_placement_pair};
 use nd_shape_and_slice::{Dimension, SliceArg};
 
 #[tactic(auto, unfolding(crate::specs::Meaning::shape_of, crate::specs::Meaning::element_at, crate::specs::Meaning::storage_of, crate::specs::Meaning::place_at))]
@@ -34,6 +34,6 @@ impl<S: DataMut, D: Dimension> ArrayBase<S, D> {
         let whole = self.layout.copied();
         let first = self.layout.sliced::<I::OutDim>(lists.0.elements());
         let second = self.layout.sliced::<J::OutDim>(lists.1.elements());
-        pair_laid(&mut self.storage, whole, first, second, task)
+        with_placement_pair(&mut self.storage, whole, first, second, task)
     }
 }

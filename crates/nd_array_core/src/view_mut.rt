@@ -2,13 +2,13 @@
 
 ghost use Rattle.std.specs.Prelude.{◌≡◌, ◌<◌, ℕ, true, List, [], ◌∷◌, length, slice_index};
 ghost use Rattle.std.specs.Borrow.{sem};
-ghost use Rattle.nd_region.specs.Region.{stored as region_stored};
+ghost use Rattle.nd_region.specs.Region.{region_stored};
 ghost use Rattle.std.specs.List.{remove};
 ghost use Rattle.nd_shape_and_slice.specs.declared.slice.Slice.{Slice};
 ghost use Rattle.nd_shape_and_slice.specs.Descriptions.{axes_from};
 ghost use Rattle.nd_shape_and_slice.specs.Slice.{fits_axis, sliced_shape, sliced_index};
 ghost use Rattle.nd_shape_and_slice.specs.SliceInfo.{fits_shape, shape_after, index_before};
-ghost use Rattle.nd_shape_and_slice.specs.EachAxis.{each_sliced, each_sliced_index, AnswersFit, Answered};
+ghost use Rattle.nd_shape_and_slice.specs.EachAxis.{each_sliced_shape, each_sliced_index, AnswersFit, AnswersAre};
 ghost use Rattle.nd_shape_and_slice.specs.Maps.{indexed_shape, indexed_index, diagonal_length, diagonal_index};
 ghost use Rattle.nd_layout.specs.Strides.{sliced_strides};
 ghost use Rattle.nd_layout.specs.Strides.{diagonal_stride};
@@ -92,7 +92,7 @@ impl<S: DataMut, D: Dimension> ArrayBase<S, D> {
         requires { AnswersFit F.pre F.step f (axes_from 0 (shape_of self.old) (layout_strides self.old)) }
         ensures* writes_back { sem 𝓛 (array_follows_view S.row S.Elem.row D.row D.Pattern.row D.Strides.row D.Smaller.row D.Larger.row S.Data D.Dimension D.AxisCount D.Strides.StrideList self.entry (tie_of result)) }
         ensures refilled { (ws : List S.Elem) → IsRefilled S.borrow self.old (array_with_items S.refilled self.old ws) }
-        ensures sliced { (slices : List Slice) × (last : F) × Answered F.step f (axes_from 0 (shape_of self.old) (layout_strides self.old)) slices last × (shape_of result ≡ each_sliced (shape_of self.old) slices) × ((i : List ℕ) → element_at result i ≡ inside (shape_of result) i (element_at self.old (each_sliced_index (shape_of self.old) slices i))) }
+        ensures sliced { (slices : List Slice) × (last : F) × AnswersAre F.step f (axes_from 0 (shape_of self.old) (layout_strides self.old)) slices last × (shape_of result ≡ each_sliced_shape (shape_of self.old) slices) × ((i : List ℕ) → element_at result i ≡ inside (shape_of result) i (element_at self.old (each_sliced_index (shape_of self.old) slices i))) }
     {
         let mut view = self.view_mut();
         view.slice_each_axis_inplace(f);

@@ -2,7 +2,7 @@
 
 ghost use Rattle.std.specs.Prelude.{◌≡◌, ℕ, true, List, Some};
 ghost use Rattle.nd_shape_and_slice.specs.Shape.{in_box};
-ghost use Rattle.nd_array_core.specs.Writes.{with_element_at, with_swapped, OthersStay};
+ghost use Rattle.nd_array_core.specs.Writes.{with_element_at, with_swapped_at, OthersStay};
 
 use crate::array::ArrayBase;
 use crate::data::DataMut;
@@ -45,7 +45,7 @@ impl<S: DataMut, D: Dimension> ArrayBase<S, D> {
         requires a { in_box (shape_of self.old) (I.coordinates_of a) ≡ true }
         requires b { in_box (shape_of self.old) (I.coordinates_of b) ≡ true }
         ensures shape { shape_of self.new ≡ shape_of self.old }
-        ensures elements { (i : List ℕ) → element_at self.new i ≡ with_swapped (element_at self.old) (I.coordinates_of a) (I.coordinates_of b) i }
+        ensures elements { (i : List ℕ) → element_at self.new i ≡ with_swapped_at (element_at self.old) (I.coordinates_of a) (I.coordinates_of b) i }
         ensures places { (i : List ℕ) → place_at self.new i ≡ place_at self.old i }
         ensures others { OthersStay (place_at self.old) (S.stored (storage_of self.old)) (S.stored (storage_of self.new)) }
         ensures borrow { S.borrow (storage_of self.new) ≡ S.borrow (storage_of self.old) }
@@ -60,7 +60,7 @@ impl<S: DataMut, D: Dimension> ArrayBase<S, D> {
         requires a { in_box (shape_of self.old) (I.coordinates_of a) ≡ true }
         requires b { in_box (shape_of self.old) (I.coordinates_of b) ≡ true }
         ensures shape { shape_of self.new ≡ shape_of self.old }
-        ensures elements { (i : List ℕ) → element_at self.new i ≡ with_swapped (element_at self.old) (I.coordinates_of a) (I.coordinates_of b) i }
+        ensures elements { (i : List ℕ) → element_at self.new i ≡ with_swapped_at (element_at self.old) (I.coordinates_of a) (I.coordinates_of b) i }
         ensures places { (i : List ℕ) → place_at self.new i ≡ place_at self.old i }
         ensures others { OthersStay (place_at self.old) (S.stored (storage_of self.old)) (S.stored (storage_of self.new)) }
         ensures borrow { S.borrow (storage_of self.new) ≡ S.borrow (storage_of self.old) }

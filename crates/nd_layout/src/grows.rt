@@ -2,12 +2,12 @@
 
 ghost use Rattle.std.specs.Prelude.{ℕ, List, true, false, ◌↔◌, ◌≡◌, ◌<◌, ◌≤◌, ◌^◌, ◌⊎◌, length, IsTrue, slice_set, nat_eq, nat_lt, if◌then◌else◌, ◌+◌, ◌-◌, ◌*◌};
 ghost use Rattle.nd_shape_and_slice.specs.Shape.{HasCheckedSize, in_box, size_of};
-ghost use Rattle.nd_shape_and_slice.specs.Place.{IsSeparated, offset_of, span_of};
+ghost use Rattle.nd_shape_and_slice.specs.Place.{IsSeparated, displacement_of, span_of};
 ghost use Rattle.nd_shape_and_slice.specs.Strides.{column_strides_from};
-ghost use Rattle.nd_layout.specs.Ranks.{ordered, IsRun};
-ghost use Rattle.nd_layout.specs.Growth.{IsContinued, greatest_end, greatest_step, grown, growing_strides, growth_case, must_move, strides_in_case};
+ghost use Rattle.nd_layout.specs.Ranks.{fastest_first, IsRun};
+ghost use Rattle.nd_layout.specs.Growth.{IsContinued, greatest_end, greatest_step, grown_shape, growing_strides, growth_case, must_move, strides_in_case};
 
-use crate::ordered::{axis_at, has_no_elements, put_at};
+use crate::fastest_first::{axis_at, has_no_elements, put_at};
 use crate::spans::length_without;
 use nd_shape_and_slice::Order;
 
@@ -31,7 +31,7 @@ fn fill_strides(lengths: &[usize], axis: usize, order: Order, out: &mut [isize])
     requires some { 0 < size_of (slice_set lengths.now axis 1) }
     requires fits { size_of (slice_set lengths.now axis 1) < 2 ^ 63 }
     ensures value { result ≡ size_of (slice_set lengths.now axis 1) }
-    ensures written { ordered order out.new ≡ column_strides_from 1 (ordered order (slice_set lengths.now axis 1)) }
+    ensures written { fastest_first order out.new ≡ column_strides_from 1 (fastest_first order (slice_set lengths.now axis 1)) }
 {
     let mut product: usize = 1;
     for place in 0..lengths.len() {
@@ -123,8 +123,8 @@ fn moves(lengths: &[usize], strides: &[isize], axis: usize) -> bool
 /// Whether the result has no elements.
 fn grown_is_empty(lengths: &[usize], axis: usize, added: usize) -> bool
     requires on_axis { axis < length lengths.now }
-    requires checked { HasCheckedSize (grown lengths.now axis added) }
-    ensures { IsTrue result ↔ (size_of (grown lengths.now axis added) ≡ 0) }
+    requires checked { HasCheckedSize (grown_shape lengths.now axis added) }
+    ensures { IsTrue result ↔ (size_of (grown_shape lengths.now axis added) ≡ 0) }
 {
     lengths[axis] + added == 0 || others_are_empty(lengths, axis)
 }
@@ -133,7 +133,7 @@ fn grown_is_empty(lengths: &[usize], axis: usize, added: usize) -> bool
 fn growth_number(lengths: &[usize], strides: &[isize], full: bool, axis: usize, added: usize) -> u8
     requires as_many { length strides.now ≡ length lengths.now }
     requires on_axis { axis < length lengths.now }
-    requires checked { HasCheckedSize (grown lengths.now axis added) }
+    requires checked { HasCheckedSize (grown_shape lengths.now axis added) }
     ensures { result ≡ growth_case lengths.now strides.now full axis added }
 {
     if grown_is_empty(lengths, axis, added) {
@@ -166,7 +166,7 @@ fn write_case(
     requires fits { span_of lengths.now strides.now < 2 ^ 63 }
     requires on_axis { axis < length lengths.now }
     requires as_long { length out.old ≡ length lengths.now }
-    requires grown { HasCheckedSize (grown lengths.now axis added) }
+    requires grown_shape { HasCheckedSize (grown_shape lengths.now axis added) }
     requires run { IsTrue full → (size_of lengths.now ≡ 0) ⊎ IsRun lengths.now strides.now }
     ensures which { result ≡ growth_case lengths.now strides.now full axis added }
     ensures written { out.new ≡ strides_in_case result lengths.now strides.now axis added }
@@ -203,15 +203,15 @@ pub fn growth(
     requires fits { span_of lengths.now strides.now < 2 ^ 63 }
     requires on_axis { axis < length lengths.now }
     requires as_long { length out.old ≡ length lengths.now }
-    requires grown { HasCheckedSize (grown lengths.now axis added) }
+    requires grown_shape { HasCheckedSize (grown_shape lengths.now axis added) }
     requires run { IsTrue full → (size_of lengths.now ≡ 0) ⊎ IsRun lengths.now strides.now }
     ensures which { result ≡ growth_case lengths.now strides.now full axis added }
     ensures written { out.new ≡ strides_in_case result lengths.now strides.now axis added }
-    ensures separated { 2 < result → IsSeparated (grown lengths.now axis added) out.new }
-    ensures filled { 2 < result → span_of (grown lengths.now axis added) out.new + 1 ≡ size_of (grown lengths.now axis added) }
-    ensures kept { 4 < result → (i : List ℕ) → in_box lengths.now i ≡ true → offset_of out.new i ≡ offset_of strides.now i }
-    ensures continued { 4 < result → IsContinued lengths.now strides.now (grown lengths.now axis added) out.new }
-    ensures ready { 2 < result → must_move (grown lengths.now axis added) out.new axis ≡ false }
+    ensures separated { 2 < result → IsSeparated (grown_shape lengths.now axis added) out.new }
+    ensures filled { 2 < result → span_of (grown_shape lengths.now axis added) out.new + 1 ≡ size_of (grown_shape lengths.now axis added) }
+    ensures kept { 4 < result → (i : List ℕ) → in_box lengths.now i ≡ true → displacement_of out.new i ≡ displacement_of strides.now i }
+    ensures continued { 4 < result → IsContinued lengths.now strides.now (grown_shape lengths.now axis added) out.new }
+    ensures ready { 2 < result → must_move (grown_shape lengths.now axis added) out.new axis ≡ false }
 {
     write_case(lengths, strides, full, axis, added, out)
 }

@@ -17,7 +17,7 @@ fn steps_by(len: usize, stride: isize, count: usize) -> bool
     len == 1 || stride == count as isize
 }
 
-/// Whether the layout is the standard one: each index lies at its row-major rank from the first place.
+/// Whether the layout is the standard one: each index lies at its row-major rank from the offset.
 pub fn is_standard(lengths: &[usize], strides: &[isize]) -> bool
     requires as_many { length strides.now ≡ length lengths.now }
     requires few { length lengths.now ≤ 32 }

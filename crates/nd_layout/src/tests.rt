@@ -3,7 +3,7 @@
 ghost use Rattle.std.specs.Prelude.{◌↔◌, ◌≡◌, ◌<◌, ◌≤◌, ◌^◌, length, IfSome, IsTrue};
 ghost use Rattle.nd_shape_and_slice.specs.Shape.{HasCheckedSize, size_of};
 ghost use Rattle.nd_shape_and_slice.specs.Place.{span_of, IsSeparated};
-ghost use Rattle.nd_layout.specs.Growth.{grown};
+ghost use Rattle.nd_layout.specs.Growth.{grown_shape};
 
 use super::{growth, is_run, is_standard, reshape_strides, separated, span};
 use nd_shape_and_slice::Order;
@@ -223,7 +223,7 @@ fn grows(
     requires few { length lengths.now ≤ 2 }
     requires checked { HasCheckedSize lengths.now }
     requires on_axis { axis < length lengths.now }
-    requires grown { HasCheckedSize (grown lengths.now axis added) }
+    requires grown_shape { HasCheckedSize (grown_shape lengths.now axis added) }
 {
     if strides.len() != lengths.len() {
         return None;
@@ -283,7 +283,7 @@ fn growth_without_elements(rt: HostRuntime) {
 }
 
 /// The offset of the index of this rank.
-fn offset_at(lengths: &[usize], strides: &[isize], order: Order, rank: usize) -> isize {
+fn displacement_at(lengths: &[usize], strides: &[isize], order: Order, rank: usize) -> isize {
     let mut rest = rank;
     let mut offset: isize = 0;
     for place in 0..lengths.len() {
@@ -303,14 +303,14 @@ fn offset_at(lengths: &[usize], strides: &[isize], order: Order, rank: usize) ->
 }
 
 /// Whether two layouts have the same offset at each rank below `size`.
-fn same_offsets(
+fn same_displacements(
     old: (&[usize], &[isize]),
     new: (&[usize], &[isize]),
     order: Order,
     size: usize,
 ) -> bool {
     for rank in 0..size {
-        if offset_at(old.0, old.1, order, rank) != offset_at(new.0, new.1, order, rank) {
+        if displacement_at(old.0, old.1, order, rank) != displacement_at(new.0, new.1, order, rank) {
             return false;
         }
     }
@@ -327,7 +327,7 @@ fn forced(lengths: &[usize], strides: &[isize], new: &[usize], order: Order) -> 
             Order::ColumnMajor => place,
         };
         if new[axis] > 1 && axis < 3 {
-            result[axis] = offset_at(lengths, strides, order, rank);
+            result[axis] = displacement_at(lengths, strides, order, rank);
         }
         rank = rank.saturating_mul(new[axis]);
     }
@@ -357,7 +357,7 @@ fn is_as_good(old: Axes<'_>, new: Axes<'_>, order: Order, size: usize) -> bool {
     if size == 0 {
         return new.1.iter().all(|stride: &isize| -> bool { *stride == 0 });
     }
-    same_offsets(old, new, order, size)
+    same_displacements(old, new, order, size)
         && reach(new) <= reach(old)
         && (is_apart(new) || !is_apart(old))
 }
@@ -368,7 +368,7 @@ fn search_is_right(old: Axes<'_>, new: &[usize], order: Order, size: usize) -> b
         return false;
     }
     let candidate = forced(old.0, old.1, new, order);
-    let serves = same_offsets(old, (new, &candidate), order, size);
+    let serves = same_displacements(old, (new, &candidate), order, size);
     let mut found = [9; 3];
     let out = &mut found[..new.len()];
     reshaped(old.0, old.1, new, order, out) == Some(serves)

@@ -26,7 +26,7 @@ impl<'a, A> Model for Region<'a, A> {
 }
 
 impl<'a, A> Region<'a, A> {
-    ghost use Rattle.nd_region.specs.Region.{stored, with_element, IsSameMap, IsWhole, IsPartWhere, HasPlaces, HasRun, IsRunOf};
+    ghost use Rattle.nd_region.specs.Region.{region_stored, with_element, IsSameMap, IsWhole, IsPartWhere, HasPlaces, HasRun, IsRunOf};
     ghost use Rattle.nd_region.specs.Lends.{rows_follow, slice_follows, place_follows, parts_follow, region_follows, borrow_follows, run_follows, borrow_run_follows, keeps_elements};
 
     /// The region of a slice, with all its places.
@@ -57,25 +57,25 @@ impl<'a, A> Region<'a, A> {
 
     /// The element at a place.
     pub fn get(&self, place: usize) -> &A
-        requires { IsSome (stored self.now place) }
-        ensures { stored self.now place ≡ Some result.now }
+        requires { IsSome (region_stored self.now place) }
+        ensures { region_stored self.now place ≡ Some result.now }
     {
         unsafe { &*self.ptr.add(place) }
     }
 
     /// The element at a place, to be written.
     pub fn get_mut(&mut self, place: usize) -> &mut A
-        requires { IsSome (stored self.old place) }
+        requires { IsSome (region_stored self.old place) }
         ensures* writes_back { sem 𝓛 (place_follows A.row self.entry place result) }
-        ensures value { stored self.old place ≡ Some result.now }
+        ensures value { region_stored self.old place ≡ Some result.now }
     {
         unsafe { &mut *self.ptr.add(place) }
     }
 
     /// Writes the element at a place, and gives back the one that it held.
     pub fn replace(&mut self, place: usize, value: A) -> A
-        requires { IsSome (stored self.old place) }
-        ensures old { stored self.old place ≡ Some result }
+        requires { IsSome (region_stored self.old place) }
+        ensures old { region_stored self.old place ≡ Some result }
         ensures new { self.new ≡ with_element self.old place value }
     {
         mem::replace(self.get_mut(place), value)
@@ -85,20 +85,20 @@ impl<'a, A> Region<'a, A> {
     pub fn set(&mut self, place: usize, value: A)
     where
         A: Drop,
-        requires { IsSome (stored self.old place) }
+        requires { IsSome (region_stored self.old place) }
         ensures { self.new ≡ with_element self.old place value }
     {
         *self.get_mut(place) = value;
     }
 
-    /// Moves the places that the layout names by its first place, lengths and strides out of this region,
+    /// Moves the places that the layout names by its offset, lengths and strides out of this region,
     /// into one of exactly these under their old numbers.
-    pub fn split(&mut self, first: usize, lengths: &[usize], strides: &[isize]) -> Region<'a, A>
+    pub fn split(&mut self, offset: usize, lengths: &[usize], strides: &[isize]) -> Region<'a, A>
         requires as_many { length lengths.now ≡ length strides.now }
-        requires within { HasPlaces self.old first lengths.now strides.now }
+        requires within { HasPlaces self.old offset lengths.now strides.now }
         ensures* follows { sem 𝓛 (parts_follow A.row self.old result self.new) }
-        ensures taken { IsPartWhere (names first lengths.now strides.now) self.old result }
-        ensures left { IsPartWhere (names_not first lengths.now strides.now) self.old self.new }
+        ensures taken { IsPartWhere (names offset lengths.now strides.now) self.old result }
+        ensures left { IsPartWhere (names_not offset lengths.now strides.now) self.old self.new }
     {
         Self {
             ptr: self.ptr,
@@ -130,9 +130,9 @@ impl<'a, A> Region<'a, A> {
 
     /// The element at a place, to be written for as long as the region's borrow lasts. The other places keep theirs.
     pub fn into_mut(self, place: usize) -> &'a mut A
-        requires { IsSome (stored self place) }
+        requires { IsSome (region_stored self place) }
         ensures* writes_back { sem 𝓛 (borrow_follows A.row self.entry place result) }
-        ensures value { stored self.entry place ≡ Some result.now }
+        ensures value { region_stored self.entry place ≡ Some result.now }
     {
         let Region {
             ptr,

@@ -91,12 +91,12 @@ impl<'a, A> SharedRegion<'a, A> {
 }
 
 impl<'a, A> Region<'a, A> {
-    ghost use Rattle.nd_region.specs.Region.{stored};
+    ghost use Rattle.nd_region.specs.Region.{region_stored};
     ghost use Rattle.nd_region.specs.Shared.{shared_stored};
 
     /// The region's places, to be read.
     pub fn share(&self) -> SharedRegion<'_, A>
-        ensures { shared_stored result ≡ stored self.now }
+        ensures { shared_stored result ≡ region_stored self.now }
     {
         SharedRegion::Part(self)
     }

@@ -13,7 +13,7 @@ impl Layout<IxDyn, DynStrides> {
     fn squeezed_at(&self, axis: usize) -> Self
         requires { axis < length (⟦<IxDyn as Dimension>⟧.lengths self.now.dim) }
         ensures lengths { ⟦<IxDyn as Dimension>⟧.lengths result.dim ≡ shape_squeezed_at (⟦<IxDyn as Dimension>⟧.lengths self.now.dim) axis }
-        ensures step { IsStep self.now.first (⟦<IxDyn as Dimension>⟧.lengths self.now.dim) (⟦<DynStrides as StrideList>⟧.strides_of self.now.strides) result.first (⟦<IxDyn as Dimension>⟧.lengths result.dim) (⟦<DynStrides as StrideList>⟧.strides_of result.strides) (index_squeezed_at (⟦<IxDyn as Dimension>⟧.lengths self.now.dim) axis) }
+        ensures step { IsStep self.now.offset (⟦<IxDyn as Dimension>⟧.lengths self.now.dim) (⟦<DynStrides as StrideList>⟧.strides_of self.now.strides) result.offset (⟦<IxDyn as Dimension>⟧.lengths result.dim) (⟦<DynStrides as StrideList>⟧.strides_of result.strides) (index_squeezed_at (⟦<IxDyn as Dimension>⟧.lengths self.now.dim) axis) }
     {
         if length_at(self.dim.slice(), axis) == 1 && self.dim.ndim() > 1 {
             self.index_axis(axis, 0)
@@ -25,7 +25,7 @@ impl Layout<IxDyn, DynStrides> {
     /// The layout without the axes of length 1, from the last axis to the first, as long as another is left.
     pub fn squeezed(&self) -> Self
         ensures lengths { ⟦<IxDyn as Dimension>⟧.lengths result.dim ≡ squeezed_shape (⟦<IxDyn as Dimension>⟧.lengths self.now.dim) }
-        ensures step { IsStep self.now.first (⟦<IxDyn as Dimension>⟧.lengths self.now.dim) (⟦<DynStrides as StrideList>⟧.strides_of self.now.strides) result.first (⟦<IxDyn as Dimension>⟧.lengths result.dim) (⟦<DynStrides as StrideList>⟧.strides_of result.strides) (squeezed_index (⟦<IxDyn as Dimension>⟧.lengths self.now.dim)) }
+        ensures step { IsStep self.now.offset (⟦<IxDyn as Dimension>⟧.lengths self.now.dim) (⟦<DynStrides as StrideList>⟧.strides_of self.now.strides) result.offset (⟦<IxDyn as Dimension>⟧.lengths result.dim) (⟦<DynStrides as StrideList>⟧.strides_of result.strides) (squeezed_index (⟦<IxDyn as Dimension>⟧.lengths self.now.dim)) }
     {
         let mut layout = self.copied();
         let count = self.dim.ndim();
