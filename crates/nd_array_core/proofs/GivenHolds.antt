@@ -6,7 +6,7 @@ use Rattle.nd_layout.specs.Strides.{reach_down}
 use Rattle.nd_layout.proofs.Bounds.{place-in_box, span_of-reaches}
 use Rattle.nd_array_core.specs.Places.{names_place, HoldsAll}
 use Rattle.nd_layout.specs.Refusals.{elements_asked}
-use Rattle.nd_layout.proofs.GivenStrides.{asked_of_some}
+use Rattle.nd_layout.proofs.steps.GivenStrides.{asked_of_some}
 
 pub given_holds : {A : Type 0} (stored : ℕ → Option A) (ns : List ℕ) (ss : List ℤ) → ((p : ℕ) → p < elements_asked ns ss → IsSome (stored p)) → HoldsAll stored (reach_down ns ss) ns ss
 given_holds stored ns ss holds i h =

@@ -28,13 +28,13 @@ use Rattle.nd_array_core.specs.Meaning.{Meaning, meaning_through, inside}
 use Rattle.nd_shape_and_slice.specs.Broadcast.{broadcasts, broadcast_index}
 use Rattle.nd_shape_and_slice.specs.Slicing.{collapsed_after, collapsed_before}
 use Rattle.nd_shape_and_slice.specs.Squeeze.{isnt_one, all_one, stays, kept_of, spread_over, squeezed_shape, squeezed_index}
-use Rattle.nd_layout.proofs.ExchangeStep.{once_in_range, in_own_order, reverse_is_step, swap_is_step}
-use Rattle.nd_layout.proofs.SliceStep.{slice_within, high_within, step_moves}
-use Rattle.nd_layout.proofs.SliceLoop.{coordinate_within}
-use Rattle.nd_layout.proofs.SqueezeStep.{length-stays}
-use Rattle.nd_layout.proofs.ResizeStep.{insert_is_step}
-use Rattle.nd_layout.proofs.DiagonalStep.{diagonal_is_step}
-use Rattle.nd_layout.proofs.BroadcastStep.{broadcast_is_seen}
+use Rattle.nd_layout.proofs.steps.ExchangeStep.{once_in_range, in_own_order, reverse_is_step, swap_is_step}
+use Rattle.nd_layout.proofs.steps.SliceStep.{slice_within, high_within, step_moves}
+use Rattle.nd_layout.proofs.steps.SliceLoop.{coordinate_within}
+use Rattle.nd_layout.proofs.steps.SqueezeStep.{length-stays}
+use Rattle.nd_layout.proofs.steps.ResizeStep.{insert_is_step}
+use Rattle.nd_layout.proofs.steps.DiagonalStep.{diagonal_is_step}
+use Rattle.nd_layout.proofs.steps.BroadcastStep.{broadcast_is_seen}
 
 -- the inverse of an order of the axes
 module _ (axes : List ℕ) (n : ℕ) (each : HasEachAxis axes n) where

@@ -5,7 +5,7 @@ use Rattle.nd_shape_and_slice.specs.Place.{place_of}
 use Rattle.nd_array_core.specs.Places.{stored_at, HoldsAll}
 use Rattle.nd_array_core.specs.Meaning.{inside}
 use Rattle.nd_layout.specs.Steps.{IsStep}
-use Rattle.nd_layout.proofs.StepLemmas.{step_seen}
+use Rattle.nd_layout.proofs.steps.StepLemmas.{step_seen}
 use Rattle.nd_array_core.proofs.SamePlaces.{seen_holds, seen_element}
 
 module _ {offset : ℕ} {ns : List ℕ} {ss : List ℤ} {offset' : ℕ} {ns' : List ℕ} {ss' : List ℤ} {source : List ℕ → List ℕ} where

@@ -14,8 +14,8 @@ ghost use Rattle.nd_array_core.specs.Meaning.{element_at, meaning_of, placed_arr
 ghost use Rattle.nd_shape_and_slice.specs.Slicing.{collapsed_after, collapsed_before};
 ghost use Rattle.nd_shape_and_slice.specs.Squeeze.{squeezed_shape, squeezed_index};
 
-use crate::array::ArrayBase;
-use crate::data::{Data, DataMut};
+use crate::base::array::ArrayBase;
+use crate::base::storage::{Data, DataMut};
 use nd_shape_and_slice::Dimension;
 
 /// Axes put in one order, and then in the order that leads back, give the same meaning.

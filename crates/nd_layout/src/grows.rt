@@ -7,7 +7,7 @@ ghost use Rattle.nd_shape_and_slice.specs.Strides.{column_strides_from};
 ghost use Rattle.nd_layout.specs.Ranks.{fastest_first, IsRun};
 ghost use Rattle.nd_layout.specs.Growth.{IsContinued, greatest_end, greatest_step, grown_shape, growing_strides, growth_case, must_move, strides_in_case};
 
-use crate::fastest_first::{axis_at, has_no_elements, put_at};
+use crate::ordered::{axis_at, has_no_elements, put_at};
 use crate::spans::length_without;
 use nd_shape_and_slice::Order;
 

@@ -16,6 +16,3 @@ pub use layout::given::{offset_in_slice, offset_in_vec, size_in_slice, size_in_v
 pub use reshape::reshape_strides;
 pub use runs::{is_run, is_standard};
 pub use spans::{separated, span};
-
-#[cfg(test)]
-mod tests;

@@ -6,7 +6,7 @@ ghost use Rattle.nd_shape_and_slice.specs.Place.{span_of, IsSeparated};
 ghost use Rattle.nd_layout.specs.Ranks.{fastest_first, axis_in, Serves, ServesRanks, Regroups};
 ghost use Rattle.nd_layout.specs.Groups.{IsClosed, TakesLength};
 
-use crate::fastest_first::{has_no_elements, length_at, put_at, stride_at};
+use crate::ordered::{has_no_elements, length_at, put_at, stride_at};
 use nd_shape_and_slice::Order;
 
 /// Axes that go on from one another, seen as one axis, and the number of the next axis.

@@ -7,7 +7,7 @@ use Rattle.nd_shape_and_slice.specs.Maps.{lower_shape, upper_shape, upper_index}
 use Rattle.nd_array_core.specs.Meaning.{Meaning, inside, meaning_through}
 use Rattle.nd_array_core.specs.Laws.{NothingOutside}
 use Rattle.nd_array_core.specs.PlacedArray.{PlacedArray, found_at, element_placed}
-use Rattle.nd_array_core.specs.Tasks.{IsViewThrough}
+use Rattle.nd_array_core.specs.scoped.Tasks.{IsViewThrough}
 use Rattle.nd_run.specs.declared.cause.Cause.{Cause}
 use Rattle.nd_run.specs.Calls.{Acting, Asked, SplitWriting}
 use Rattle.nd_run.specs.Acts.{joined_elements, clones, lower_meaning, upper_meaning, parts_tests, parts_refusal, place_tests, place_refusal, split_refusal}

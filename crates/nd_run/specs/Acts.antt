@@ -5,7 +5,7 @@ use Rattle.std.specs.List.{find}
 use Rattle.nd_shape_and_slice.specs.Shape.{in_box, indexes_of}
 use Rattle.nd_shape_and_slice.specs.Maps.{lower_shape, upper_shape, upper_index}
 use Rattle.nd_array_core.specs.Meaning.{Meaning, inside, meaning_through}
-use Rattle.nd_array_core.specs.Writes.{with_element_at, with_swapped_at}
+use Rattle.nd_array_core.specs.base.Writes.{with_element_at, with_swapped_at}
 use Rattle.nd_run.specs.Calls.{AskedStep, Acting, Filling, Setting, Swapping}
 use Rattle.nd_run.specs.Steps.{Test, first_failed, has_axis, keep_tests, unless, step_shape, shape_along, index_along}
 use Rattle.nd_run.specs.declared.cause.Cause.{Cause}

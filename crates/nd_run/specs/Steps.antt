@@ -4,7 +4,7 @@ use Rattle.nd_shape_and_slice.specs.Axes.{names_each_axis, permuted_list, unperm
 use Rattle.nd_shape_and_slice.specs.Slice.{fits_axis, sliced_shape, sliced_index}
 use Rattle.nd_shape_and_slice.specs.declared.slice_info.SliceInfoElem.{SliceInfoElem}
 use Rattle.nd_shape_and_slice.specs.declared.slice_info.SliceInfoElem.TheVariants.{Slice as Part, Index, NewAxis}
-use Rattle.nd_shape_and_slice.specs.SliceInfo.{reads_axis, axes_read, axes_kept, coordinate_on, step_shape, step_index}
+use Rattle.nd_shape_and_slice.specs.SliceInfo.{reads_axis, axes_read, axes_kept, coordinate_on, shape_after, index_before}
 use Rattle.nd_shape_and_slice.specs.Squeeze.{squeezed_shape, squeezed_index}
 use Rattle.nd_shape_and_slice.specs.Broadcast.{broadcasts, broadcast_index}
 use Rattle.nd_shape_and_slice.specs.Maps.{inverted_index, collapsed_shape, collapsed_index, indexed_shape, indexed_index, inserted_shape, inserted_index, diagonal_length, diagonal_index}
@@ -74,7 +74,7 @@ keep_refusal step ns = first_failed (keep_tests step ns)
 -- the lengths after a step
 abbrev pub step_shape : AskedStep → List ℕ → List ℕ
 step_shape (SlicedAxis axis slice) ns = sliced_shape ns axis slice
-step_shape (Sliced es) ns = step_shape ns es
+step_shape (Sliced es) ns = shape_after ns es
 step_shape (Collapsed axis index) ns = collapsed_shape ns axis
 step_shape (Indexed axis index) ns = indexed_shape ns axis
 step_shape (Permuted axes) ns = permuted_list axes ns
@@ -90,7 +90,7 @@ step_shape (BroadcastTo to) ns = to
 -- the index before a step that an index after it names
 abbrev pub step_index : AskedStep → List ℕ → List ℕ → List ℕ
 step_index (SlicedAxis axis slice) ns i = sliced_index ns axis slice i
-step_index (Sliced es) ns i = step_index ns es i
+step_index (Sliced es) ns i = index_before ns es i
 step_index (Collapsed axis index) ns i = collapsed_index axis index i
 step_index (Indexed axis index) ns i = indexed_index axis index i
 step_index (Permuted axes) ns i = unpermuted_list axes i

@@ -1,7 +1,7 @@
 use Rattle.std.proofs.Common.{◌≡◌, true, refl}
 use Rattle.nd_layout.specs.Steps.{IsValid}
 use Rattle.nd_shape_and_slice.specs.Broadcast.{broadcasts}
-use Rattle.nd_layout.proofs.BroadcastStep.{broadcast_is_seen, broadcast_is_valid}
+use Rattle.nd_layout.proofs.steps.BroadcastStep.{broadcast_is_seen, broadcast_is_valid}
 use Rattle.nd_layout.proofs.layout.Layout.broadcast.Goals as goal
 
 pub returns-clause-seen : goal.returns-clause-seen

@@ -2,8 +2,8 @@ use Rattle.std.proofs.Common.{arith, pos}
 use Rattle.std.specs.List.{insert}
 use Rattle.nd_layout.specs.Steps.{IsStep}
 use Rattle.nd_shape_and_slice.specs.Maps.{inserted_shape, inserted_index}
-use Rattle.nd_layout.proofs.StepLemmas.{step_reaches}
-use Rattle.nd_layout.proofs.ResizeStep.{insert_is_step}
+use Rattle.nd_layout.proofs.steps.StepLemmas.{step_reaches}
+use Rattle.nd_layout.proofs.steps.ResizeStep.{insert_is_step}
 use Rattle.nd_layout.proofs.layout.Layout.insert_axis.Goals as goal
 
 pub returns-clause-step : goal.returns-clause-step

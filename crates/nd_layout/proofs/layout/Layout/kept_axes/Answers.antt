@@ -1,8 +1,8 @@
 use Rattle.std.proofs.Common.{◌∙◌, arith, sym, ap, length, pos}
 use Rattle.nd_shape_and_slice.specs.Slicing.{kept_items, put_back}
 use Rattle.nd_layout.specs.Steps.{IsStep}
-use Rattle.nd_layout.proofs.StepLemmas.{step_reaches}
-use Rattle.nd_layout.proofs.KeepStep.{read_all, length-kept, keep_is_step}
+use Rattle.nd_layout.proofs.steps.StepLemmas.{step_reaches}
+use Rattle.nd_layout.proofs.steps.KeepStep.{read_all, length-kept, keep_is_step}
 use Rattle.nd_layout.proofs.layout.Layout.kept_axes.Goals as goal
 
 pub kept_dim-dim-requires-clause-many : goal.kept_dim-dim-requires-clause-many

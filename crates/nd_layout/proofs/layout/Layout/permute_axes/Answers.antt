@@ -1,8 +1,8 @@
 use Rattle.std.proofs.Common.{arith, sym, subst}
 use Rattle.nd_shape_and_slice.specs.Axes.{HasEachAxis, unpermuted_list}
 use Rattle.nd_layout.specs.Steps.{IsStep}
-use Rattle.nd_layout.proofs.StepLemmas.{step_reaches}
-use Rattle.nd_layout.proofs.PermuteStep.{permute_is_step}
+use Rattle.nd_layout.proofs.steps.StepLemmas.{step_reaches}
+use Rattle.nd_layout.proofs.steps.PermuteStep.{permute_is_step}
 use Rattle.nd_layout.proofs.layout.Layout.permute_axes.Goals as goal
 
 pub permuted_strides-strides-requires : goal.permuted_strides-strides-requires

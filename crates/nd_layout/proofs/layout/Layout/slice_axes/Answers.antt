@@ -1,5 +1,5 @@
 use Rattle.std.proofs.Common.{◌+◌, arith, sym, subst}
-use Rattle.nd_layout.proofs.SliceLoop.{IsSlicedTo, sliced_none, sliced_fits, sliced_more, sliced_all, sliced_all_shape}
+use Rattle.nd_layout.proofs.steps.SliceLoop.{IsSlicedTo, sliced_none, sliced_fits, sliced_more, sliced_all, sliced_all_shape}
 use Rattle.nd_layout.proofs.layout.Layout.slice_axes.Goals as goal
 
 pub loop-element-init : goal.loop-element-init

@@ -1,4 +1,4 @@
-use Rattle.nd_layout.proofs.SliceLoop.{IsSlicedTo}
+use Rattle.nd_layout.proofs.steps.SliceLoop.{IsSlicedTo}
 use Rattle.nd_layout.proofs.layout.Layout.slice_axes.Given as goal
 
 abbrev pub invariant-loop-element : goal.invariant-loop-element

@@ -2,7 +2,7 @@ use Rattle.std.proofs.Common.{◌∙◌, leb, ap}
 use Rattle.std.proofs.lemmas.Bool.{and_parts}
 use Rattle.nd_shape_and_slice.specs.SliceInfo.{axes_kept, each_fits}
 use Rattle.nd_shape_and_slice.specs.Slicing.{collapsed_after, indexed_ones}
-use Rattle.nd_layout.proofs.KeepStep.{ones_collapsed, slice_list_is_step}
+use Rattle.nd_layout.proofs.steps.KeepStep.{ones_collapsed, slice_list_is_step}
 use Rattle.nd_layout.proofs.layout.Layout.sliced.Goals as goal
 
 pub kept_axes-requires-clause-ones : goal.kept_axes-requires-clause-ones

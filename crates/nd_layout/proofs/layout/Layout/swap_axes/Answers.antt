@@ -1,8 +1,8 @@
 use Rattle.std.proofs.Common.{arith}
 use Rattle.std.specs.List.{swap}
 use Rattle.nd_layout.specs.Steps.{IsStep}
-use Rattle.nd_layout.proofs.StepLemmas.{step_reaches}
-use Rattle.nd_layout.proofs.ExchangeStep.{swap_is_step}
+use Rattle.nd_layout.proofs.steps.StepLemmas.{step_reaches}
+use Rattle.nd_layout.proofs.steps.ExchangeStep.{swap_is_step}
 use Rattle.nd_layout.proofs.layout.Layout.swap_axes.Goals as goal
 
 pub swapped_strides-strides-requires-clause-a : goal.swapped_strides-strides-requires-clause-a

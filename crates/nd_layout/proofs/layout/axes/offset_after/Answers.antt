@@ -3,7 +3,7 @@ use Rattle.std.proofs.lemmas.Bool.{false≢true}
 use Rattle.std.proofs.lemmas.Int.{to_z-of_z}
 use Rattle.nd_shape_and_slice.specs.Shape.{size_of}
 use Rattle.nd_shape_and_slice.proofs.Sizes.{length_within}
-use Rattle.nd_layout.proofs.AxisStep.{moved_place, offset_below, some_left}
+use Rattle.nd_layout.proofs.steps.AxisStep.{moved_place, offset_below, some_left}
 use Rattle.nd_layout.proofs.layout.axes.offset_after.Goals as goal
 
 some_from : (n : ℕ) → (n ≡ 0 → false ≡ true) → 0 < n

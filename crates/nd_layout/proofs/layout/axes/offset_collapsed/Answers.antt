@@ -1,4 +1,4 @@
-use Rattle.nd_layout.proofs.AxisStep.{collapse_is_step}
+use Rattle.nd_layout.proofs.steps.AxisStep.{collapse_is_step}
 use Rattle.nd_layout.proofs.layout.axes.offset_collapsed.Goals as goal
 
 pub returns : goal.returns

@@ -1,4 +1,4 @@
-use Rattle.nd_layout.proofs.AxisStep.{invert_is_step}
+use Rattle.nd_layout.proofs.steps.AxisStep.{invert_is_step}
 use Rattle.nd_layout.proofs.layout.axes.offset_inverted.Goals as goal
 
 pub returns : goal.returns

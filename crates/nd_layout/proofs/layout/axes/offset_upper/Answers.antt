@@ -1,4 +1,4 @@
-use Rattle.nd_layout.proofs.AxisStep.{upper_is_step}
+use Rattle.nd_layout.proofs.steps.AxisStep.{upper_is_step}
 use Rattle.nd_layout.proofs.layout.axes.offset_upper.Goals as goal
 
 pub returns : goal.returns

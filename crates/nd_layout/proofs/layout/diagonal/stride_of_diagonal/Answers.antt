@@ -1,5 +1,5 @@
 use Rattle.std.proofs.Common.{arith}
-use Rattle.nd_layout.proofs.DiagonalStep.{diagonal-le}
+use Rattle.nd_layout.proofs.steps.DiagonalStep.{diagonal-le}
 use Rattle.nd_layout.proofs.layout.diagonal.stride_of_diagonal.Goals as goal
 
 pub sum_of_strides-requires-clause-long : goal.sum_of_strides-requires-clause-long

@@ -1,4 +1,4 @@
-use Rattle.nd_layout.proofs.DiagonalStep.{IsSumBelow}
+use Rattle.nd_layout.proofs.steps.DiagonalStep.{IsSumBelow}
 use Rattle.nd_layout.proofs.layout.diagonal.sum_of_strides.Given as goal
 
 abbrev pub invariant-loop-k : goal.invariant-loop-k

@@ -1,5 +1,5 @@
 use Rattle.std.proofs.Common.{arith}
-use Rattle.nd_layout.proofs.GivenStrides.{given_is_valid}
+use Rattle.nd_layout.proofs.steps.GivenStrides.{given_is_valid}
 use Rattle.nd_layout.proofs.layout.given.offset_in_slice.Goals as goal
 
 pub returns-in-Some-clause-valid : goal.returns-in-Some-clause-valid

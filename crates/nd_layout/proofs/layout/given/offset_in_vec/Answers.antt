@@ -1,5 +1,5 @@
 use Rattle.std.proofs.Common.{refl}
-use Rattle.nd_layout.proofs.GivenStrides.{apart_by_test}
+use Rattle.nd_layout.proofs.steps.GivenStrides.{apart_by_test}
 use Rattle.nd_layout.proofs.layout.given.offset_in_vec.Goals as goal
 
 pub returns-then-keeps_apart-clause-apart : goal.returns-then-keeps_apart-clause-apart

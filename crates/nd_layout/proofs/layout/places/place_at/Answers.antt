@@ -3,7 +3,7 @@ use Rattle.std.proofs.lemmas.Int.{to_z-of_z}
 use Rattle.nd_shape_and_slice.proofs.Sizes.{length_within}
 use Rattle.nd_shape_and_slice.proofs.RowMajor.{length-in_box}
 use Rattle.nd_shape_and_slice.proofs.Boxes.{coordinate_below}
-use Rattle.nd_layout.proofs.Walks.{at_axis, way_from, way_to, way_next, way_ends}
+use Rattle.nd_layout.proofs.steps.Walks.{at_axis, way_from, way_to, way_next, way_ends}
 use Rattle.nd_layout.proofs.layout.places.place_at.Goals as goal
 
 pub moved_by-place-requires-clause-from : goal.moved_by-place-requires-clause-from

@@ -1,4 +1,4 @@
-use Rattle.nd_layout.proofs.Walks.{IsOnTheWay}
+use Rattle.nd_layout.proofs.steps.Walks.{IsOnTheWay}
 use Rattle.nd_layout.proofs.layout.places.place_at.Given as goal
 
 abbrev pub invariant-loop-axis : goal.invariant-loop-axis

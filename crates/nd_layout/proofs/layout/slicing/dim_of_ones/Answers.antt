@@ -1,5 +1,5 @@
 use Rattle.std.proofs.Common.{◌∙◌}
-use Rattle.nd_layout.proofs.KeepStep.{ones_taken, lengths_found}
+use Rattle.nd_layout.proofs.steps.KeepStep.{ones_taken, lengths_found}
 use Rattle.nd_layout.proofs.layout.slicing.dim_of_ones.Goals as goal
 
 pub returns : goal.returns

@@ -1,6 +1,6 @@
 use Rattle.std.proofs.Common.{◌∙◌, arith, sym, ap, length}
 use Rattle.std.proofs.lemmas.List.{length-replicate}
-use Rattle.nd_layout.proofs.KeepStep.{kept_none, kept_reads, kept_more, kept_gone, kept_all}
+use Rattle.nd_layout.proofs.steps.KeepStep.{kept_none, kept_reads, kept_more, kept_gone, kept_all}
 use Rattle.nd_layout.proofs.layout.slicing.kept_dim.Goals as goal
 
 pub loop-element-init : goal.loop-element-init

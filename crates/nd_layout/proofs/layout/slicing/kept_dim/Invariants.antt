@@ -1,4 +1,4 @@
-use Rattle.nd_layout.proofs.KeepStep.{IsKeptTo}
+use Rattle.nd_layout.proofs.steps.KeepStep.{IsKeptTo}
 use Rattle.nd_layout.proofs.layout.slicing.kept_dim.Given as goal
 
 abbrev pub invariant-loop-element : goal.invariant-loop-element

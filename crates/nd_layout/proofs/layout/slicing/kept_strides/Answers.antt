@@ -1,7 +1,7 @@
 use Rattle.std.proofs.Common.{◌∙◌, arith, sym, ap, length, rules, w64, to_z, of_z, FitsSigned, pos}
 use Rattle.std.proofs.lemmas.Int.{to_z-of_z}
 use Rattle.std.proofs.lemmas.List.{length-replicate}
-use Rattle.nd_layout.proofs.KeepStep.{kept_none, kept_reads, kept_more, kept_gone, kept_all}
+use Rattle.nd_layout.proofs.steps.KeepStep.{kept_none, kept_reads, kept_more, kept_gone, kept_all}
 use Rattle.nd_layout.proofs.layout.slicing.kept_strides.Goals as goal
 
 pub loop-element-init : goal.loop-element-init

@@ -1,5 +1,5 @@
 use Rattle.std.proofs.Common.{pos}
-use Rattle.nd_layout.proofs.KeepStep.{IsKeptTo}
+use Rattle.nd_layout.proofs.steps.KeepStep.{IsKeptTo}
 use Rattle.nd_layout.proofs.layout.slicing.kept_strides.Given as goal
 
 abbrev pub invariant-loop-element : goal.invariant-loop-element

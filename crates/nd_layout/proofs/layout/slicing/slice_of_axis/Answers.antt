@@ -5,7 +5,7 @@ use Rattle.nd_shape_and_slice.specs.Shape.{size_of}
 use Rattle.nd_shape_and_slice.specs.Slice.{sliced_length, sliced_from, sliced_shape}
 use Rattle.nd_shape_and_slice.proofs.Sizes.{length_within}
 use Rattle.nd_layout.specs.Strides.{stepped_stride}
-use Rattle.nd_layout.proofs.SliceStep.{slice_first_below, slice_start_below, slice_start_place, slice_stride_fits, slice_is_step}
+use Rattle.nd_layout.proofs.steps.SliceStep.{slice_first_below, slice_start_below, slice_start_place, slice_stride_fits, slice_is_step}
 use Rattle.nd_layout.proofs.layout.slicing.slice_of_axis.Goals as goal
 use Rattle.nd_layout.proofs.layout.slicing.slice_of_axis.Goals.{then-leaves_none, else-leaves_none}
 

@@ -1,5 +1,5 @@
 use Rattle.std.proofs.Common.{◌≡◌, ◌+◌, ◌-◌, suc, length, take, arith, subst}
-use Rattle.nd_layout.proofs.SqueezeStep.{IsSqueezedFrom, squeezed_none, squeezed_on, squeezed_more}
+use Rattle.nd_layout.proofs.steps.SqueezeStep.{IsSqueezedFrom, squeezed_none, squeezed_on, squeezed_more}
 use Rattle.nd_layout.proofs.layout.squeeze.Layout+IxDyn+DynStrides.squeezed.Goals as goal
 
 pub loop-k-init : goal.loop-k-init

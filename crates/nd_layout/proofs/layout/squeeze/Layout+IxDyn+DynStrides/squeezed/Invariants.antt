@@ -1,5 +1,5 @@
 use Rattle.std.proofs.Common.{take, ◌-◌}
-use Rattle.nd_layout.proofs.SqueezeStep.{IsSqueezedFrom}
+use Rattle.nd_layout.proofs.steps.SqueezeStep.{IsSqueezedFrom}
 use Rattle.nd_layout.proofs.layout.squeeze.Layout+IxDyn+DynStrides.squeezed.Given as goal
 
 abbrev pub invariant-loop-k : goal.invariant-loop-k
