@@ -18,7 +18,7 @@ use crate::base::array::ArrayBase;
 use crate::base::storage::{Data, DataMut};
 use nd_shape_and_slice::Dimension;
 
-/// Axes put in one order, and then in the order that leads back, give the same meaning.
+/// Permuting axes and permuting them back gives the same meaning.
 #[tactic(auto, using(crate::proofs::LawProofs::permuted_back))]
 pub fn permuted_back<A>()
     ensures { PermutedBack A }
@@ -35,13 +35,13 @@ pub fn inverted_twice<A>()
     ensures { InvertedTwice A }
 {}
 
-/// An axis put in and taken out again gives the same meaning.
+/// Inserting an axis and removing it gives the same meaning.
 #[tactic(auto, using(crate::proofs::LawProofs::inserted_and_removed))]
 pub fn inserted_and_removed<A>()
     ensures { InsertedAndRemoved A }
 {}
 
-/// Two slices of one axis are one map, their composition.
+/// A slice of a slice of one axis has as its map the composition of both.
 #[tactic(auto, using(crate::proofs::LawProofs::sliced_twice))]
 pub fn sliced_twice<A>()
     ensures { SlicedTwice A }
@@ -73,7 +73,7 @@ pub fn maps_lead_inside()
     ensures broadcast { (ns to : List ℕ) → broadcasts ns to ≡ true → LeadsInside to (broadcast_index ns to) ns }
 {}
 
-/// An array means nothing outside its shape's box, which the laws ask of a meaning.
+/// An array has no element outside its box, which the laws ask of a meaning.
 #[tactic(auto, unfolding(crate::specs::Meaning::shape_of, crate::specs::Meaning::element_at))]
 pub fn nothing_outside<S: Data, D: Dimension>(array: &ArrayBase<S, D>)
     ensures { NothingOutside (meaning_of array.now) }

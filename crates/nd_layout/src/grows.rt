@@ -11,7 +11,7 @@ use crate::ordered::{axis_at, has_no_elements, put_at};
 use crate::spans::length_without;
 use nd_shape_and_slice::Order;
 
-/// Whether the other axes have no elements: some length but this axis's is 0.
+/// Whether some length other than this axis's is 0.
 fn others_are_empty(lengths: &[usize], axis: usize) -> bool
     ensures { IsTrue result ↔ (size_of (slice_set lengths.now axis 1) ≡ 0) }
 {
@@ -23,8 +23,8 @@ fn others_are_empty(lengths: &[usize], axis: usize) -> bool
     false
 }
 
-/// Writes for each axis the product of the faster lengths, this axis's left out, and answers the product of
-/// all the others.
+/// Writes for each axis the product of the faster lengths, without this axis's, and returns the product of all lengths
+/// but this axis's.
 fn fill_strides(lengths: &[usize], axis: usize, order: Order, out: &mut [isize]) -> usize
     requires few { length lengths.now ≤ 32 }
     requires as_long { length out.old ≡ length lengths.now }
@@ -41,7 +41,7 @@ fn fill_strides(lengths: &[usize], axis: usize, order: Order, out: &mut [isize])
     product
 }
 
-/// The order in which fresh storage is laid out that is to grow along an axis: the axis is the slowest.
+/// The order of fresh storage that can grow along an axis: that axis is the slowest.
 fn growing_order(axis: usize, count: usize) -> Order
     requires on_axis { axis < count }
     requires few { count ≤ 32 }
@@ -54,7 +54,7 @@ fn growing_order(axis: usize, count: usize) -> Order
     }
 }
 
-/// Writes the strides of fresh storage that is to grow along an axis.
+/// Writes the strides of fresh storage that can grow along an axis.
 fn lay_out(lengths: &[usize], axis: usize, out: &mut [isize])
     requires few { length lengths.now ≤ 32 }
     requires as_long { length out.old ≡ length lengths.now }
@@ -109,7 +109,7 @@ fn greatest_end_beside(lengths: &[usize], strides: &[isize], axis: usize) -> usi
     greatest
 }
 
-/// Whether more lengths of an axis can't follow at the end of storage.
+/// Whether the elements must move before an axis can grow at the end of the storage.
 fn moves(lengths: &[usize], strides: &[isize], axis: usize) -> bool
     requires as_many { length strides.now ≡ length lengths.now }
     requires on_axis { axis < length lengths.now }
@@ -166,7 +166,7 @@ fn write_case(
     requires fits { span_of lengths.now strides.now < 2 ^ 63 }
     requires on_axis { axis < length lengths.now }
     requires as_long { length out.old ≡ length lengths.now }
-    requires grown_shape { HasCheckedSize (grown_shape lengths.now axis added) }
+    requires grown { HasCheckedSize (grown_shape lengths.now axis added) }
     requires run { IsTrue full → (size_of lengths.now ≡ 0) ⊎ IsRun lengths.now strides.now }
     ensures which { result ≡ growth_case lengths.now strides.now full axis added }
     ensures written { out.new ≡ strides_in_case result lengths.now strides.now axis added }
@@ -184,11 +184,10 @@ fn write_case(
     number
 }
 
-/// Which case of growth applies where `added` lengths follow along an axis, from 1 to 6, with the strides of
-/// the result in `out`. 1: the result is empty. 2: nothing is added. 3: the array is empty. 4: the storage
-/// isn't full, or the elements have to move. 5: the axis is of length 1. 6: the new elements follow the old. In
-/// the last two the old elements stay and the new ones follow them, and wherever elements are added the axis
-/// is ready to grow again.
+/// Which case of growth applies, from 1 to 6, when an axis grows by `added`; `out` gets the strides of the result. 1:
+/// the result is empty. 2: nothing is added. 3: the array is empty. 4: the storage isn't full, or the elements have to
+/// move. 5: the axis is of length 1. 6: the new elements follow the old. In the last two the old elements stay and the
+/// new ones follow them, and wherever elements are added the axis is ready to grow again.
 pub fn growth(
     lengths: &[usize],
     strides: &[isize],
@@ -203,7 +202,7 @@ pub fn growth(
     requires fits { span_of lengths.now strides.now < 2 ^ 63 }
     requires on_axis { axis < length lengths.now }
     requires as_long { length out.old ≡ length lengths.now }
-    requires grown_shape { HasCheckedSize (grown_shape lengths.now axis added) }
+    requires grown { HasCheckedSize (grown_shape lengths.now axis added) }
     requires run { IsTrue full → (size_of lengths.now ≡ 0) ⊎ IsRun lengths.now strides.now }
     ensures which { result ≡ growth_case lengths.now strides.now full axis added }
     ensures written { out.new ≡ strides_in_case result lengths.now strides.now axis added }
