@@ -59,7 +59,7 @@ pub fn maps_lead_inside()
     ensures sliced { (ns : List ℕ) (a : ℕ) (s : Slice) → a < length ns → fits_axis (slice_index ns a) s ≡ true → LeadsInside (sliced_shape ns a s) (sliced_index ns a s) ns }
     ensures listed { (ns : List ℕ) (es : List SliceInfoElem) → each_fits ns es ≡ true → LeadsInside (shape_after ns es) (index_before ns es) ns }
     ensures collapsed_list { (ns : List ℕ) (es : List SliceInfoElem) → each_fits ns es ≡ true → LeadsInside (collapsed_after ns es) (collapsed_before ns es) ns }
-    ensures permuted_list { (ns : List ℕ) (axes : List ℕ) → HasEachAxis axes (length ns) → LeadsInside (permuted_list axes ns) (unpermuted_list axes) ns }
+    ensures permuted { (ns : List ℕ) (axes : List ℕ) → HasEachAxis axes (length ns) → LeadsInside (permuted_list axes ns) (unpermuted_list axes) ns }
     ensures reversed { (ns : List ℕ) → LeadsInside (reverse ns) reverse ns }
     ensures swapped { (ns : List ℕ) (a b : ℕ) → a < length ns → b < length ns → LeadsInside (swap ns a b) (λ i. swap i a b) ns }
     ensures inverted { (ns : List ℕ) (a : ℕ) → a < length ns → LeadsInside ns (inverted_index ns a) ns }

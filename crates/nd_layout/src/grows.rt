@@ -5,7 +5,7 @@ ghost use Rattle.nd_shape_and_slice.specs.Shape.{HasCheckedSize, in_box, size_of
 ghost use Rattle.nd_shape_and_slice.specs.Place.{IsSeparated, displacement_of, span_of};
 ghost use Rattle.nd_shape_and_slice.specs.Strides.{column_strides_from};
 ghost use Rattle.nd_layout.specs.Ranks.{fastest_first, IsRun};
-ghost use Rattle.nd_layout.specs.Growth.{IsContinued, greatest_end, greatest_step, grown_shape, growing_strides, growth_case, must_move, strides_in_case};
+ghost use Rattle.nd_layout.specs.Growth.{IsContinued, case_number, greatest_end, greatest_step, grown_shape, growing_strides, growth_case, must_move, strides_in_case};
 
 use crate::ordered::{axis_at, has_no_elements, put_at};
 use crate::spans::length_without;
@@ -129,25 +129,64 @@ fn grown_is_empty(lengths: &[usize], axis: usize, added: usize) -> bool
     lengths[axis] + added == 0 || others_are_empty(lengths, axis)
 }
 
+/// How an array grows.
+#[derive(Clone, Copy)]
+enum GrowthCase {
+    /// The result is empty.
+    Empty,
+    /// Nothing is added.
+    Unchanged,
+    /// The array is empty.
+    Fresh,
+    /// The storage isn't full, or the elements have to move.
+    Moved,
+    /// The axis is of length 1.
+    LengthOne,
+    /// The new elements follow the old.
+    Continued,
+}
+
+impl GrowthCase {
+    /// Its number, as `growth` returns it.
+    fn number(self) -> u8
+        ensures { result ≡ case_number self }
+    {
+        match self {
+            GrowthCase::Empty => 1,
+            GrowthCase::Unchanged => 2,
+            GrowthCase::Fresh => 3,
+            GrowthCase::Moved => 4,
+            GrowthCase::LengthOne => 5,
+            GrowthCase::Continued => 6,
+        }
+    }
+}
+
 /// Which case of growth applies.
-fn growth_number(lengths: &[usize], strides: &[isize], full: bool, axis: usize, added: usize) -> u8
+fn case_of(
+    lengths: &[usize],
+    strides: &[isize],
+    full: bool,
+    axis: usize,
+    added: usize,
+) -> GrowthCase
     requires as_many { length strides.now ≡ length lengths.now }
     requires on_axis { axis < length lengths.now }
     requires checked { HasCheckedSize (grown_shape lengths.now axis added) }
-    ensures { result ≡ growth_case lengths.now strides.now full axis added }
+    ensures { case_number result ≡ growth_case lengths.now strides.now full axis added }
 {
     if grown_is_empty(lengths, axis, added) {
-        1
+        GrowthCase::Empty
     } else if added == 0 {
-        2
+        GrowthCase::Unchanged
     } else if has_no_elements(lengths) {
-        3
+        GrowthCase::Fresh
     } else if !full || moves(lengths, strides, axis) {
-        4
+        GrowthCase::Moved
     } else if lengths[axis] <= 1 {
-        5
+        GrowthCase::LengthOne
     } else {
-        6
+        GrowthCase::Continued
     }
 }
 
@@ -159,7 +198,7 @@ fn write_case(
     axis: usize,
     added: usize,
     out: &mut [isize],
-) -> u8
+) -> GrowthCase
     requires as_many { length strides.now ≡ length lengths.now }
     requires few { length lengths.now ≤ 32 }
     requires checked { HasCheckedSize lengths.now }
@@ -168,20 +207,20 @@ fn write_case(
     requires as_long { length out.old ≡ length lengths.now }
     requires grown { HasCheckedSize (grown_shape lengths.now axis added) }
     requires run { IsTrue full → (size_of lengths.now ≡ 0) ⊎ IsRun lengths.now strides.now }
-    ensures which { result ≡ growth_case lengths.now strides.now full axis added }
-    ensures written { out.new ≡ strides_in_case result lengths.now strides.now axis added }
+    ensures which { case_number result ≡ growth_case lengths.now strides.now full axis added }
+    ensures written { out.new ≡ strides_in_case (case_number result) lengths.now strides.now axis added }
 {
-    let number = growth_number(lengths, strides, full, axis, added);
-    match number {
-        1 => out.fill(0),
-        3 | 4 => lay_out(lengths, axis, out),
-        5 => {
+    let case = case_of(lengths, strides, full, axis, added);
+    match case {
+        GrowthCase::Empty => out.fill(0),
+        GrowthCase::Fresh | GrowthCase::Moved => lay_out(lengths, axis, out),
+        GrowthCase::LengthOne => {
             out.copy_from_slice(strides);
             out[axis] = greatest_end_beside(lengths, strides, axis) as isize;
         }
-        _ => out.copy_from_slice(strides),
+        GrowthCase::Unchanged | GrowthCase::Continued => out.copy_from_slice(strides),
     }
-    number
+    case
 }
 
 /// Which case of growth applies, from 1 to 6, when an axis grows by `added`; `out` gets the strides of the result. 1:
@@ -212,5 +251,5 @@ pub fn growth(
     ensures continued { 4 < result → IsContinued lengths.now strides.now (grown_shape lengths.now axis added) out.new }
     ensures ready { 2 < result → must_move (grown_shape lengths.now axis added) out.new axis ≡ false }
 {
-    write_case(lengths, strides, full, axis, added, out)
+    write_case(lengths, strides, full, axis, added, out).number()
 }

@@ -163,7 +163,7 @@ pub fn keep_refusal(shape: &[usize], step: &Step) -> Option<Cause>
 }
 
 /// The array with its axes in this order.
-fn permuted_list<S: Data>(array: ArrayBase<S, IxDyn>, axes: &[usize]) -> ArrayBase<S, IxDyn>
+fn permuted<S: Data>(array: ArrayBase<S, IxDyn>, axes: &[usize]) -> ArrayBase<S, IxDyn>
     requires { names_each_axis axes.now (length (shape_of array)) ≡ true }
     ensures shape { shape_of result ≡ permuted_list axes.now (shape_of array) }
     ensures elements { (i : List ℕ) → element_at result i ≡ inside (shape_of result) i (element_at array (unpermuted_list axes.now i)) }
@@ -191,7 +191,7 @@ pub fn take_step<S: Data>(array: ArrayBase<S, IxDyn>, step: &Step) -> ArrayBase<
             array
         }
         Step::IndexAxis(axis, index) => array.index_axis_move(Axis(*axis), *index),
-        Step::Permute(axes) => permuted_list(array, axes.as_slice()),
+        Step::Permute(axes) => permuted(array, axes.as_slice()),
         Step::Reverse => array.reversed_axes(),
         Step::SwapAxes(a, b) => {
             let mut array = array;

@@ -258,9 +258,9 @@ impl<'a, A: 'a, D: Dimension, I: SliceArg<D>, J: SliceArg<D>> MultiSliceArg<Arra
     ghost takes = { λ lists view out. IsSlicedBy view (I.elements_of lists.0) out.0 × IsSlicedBy view (J.elements_of lists.1) out.1 × ShareNoPlace (place_at out.0) (place_at out.1) };
 
     fn parts_of(self, view: ArrayViewMut<'a, A, D>) -> Self::Output {
-        let offset = view.layout.sliced::<I::OutDim>(self.0.elements());
+        let first = view.layout.sliced::<I::OutDim>(self.0.elements());
         let other = view.layout.sliced::<J::OutDim>(self.1.elements());
-        view.storage.two_parts(offset, other)
+        view.storage.two_parts(first, other)
     }
 }
 
