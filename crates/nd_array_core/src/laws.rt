@@ -67,7 +67,7 @@ pub fn maps_lead_inside()
     ensures lower { (ns : List ℕ) (a k : ℕ) → a < length ns → k ≤ slice_index ns a → LeadsInside (lower_shape ns a k) (λ i. i) ns }
     ensures upper { (ns : List ℕ) (a k : ℕ) → a < length ns → k ≤ slice_index ns a → LeadsInside (upper_shape ns a k) (upper_index a k) ns }
     ensures indexed { (ns : List ℕ) (a k : ℕ) → a < length ns → k < slice_index ns a → LeadsInside (indexed_shape ns a) (indexed_index a k) ns }
-    ensures widened { (ns : List ℕ) (a : ℕ) → a ≤ length ns → LeadsInside (inserted_shape ns a) (inserted_index a) ns }
+    ensures inserted { (ns : List ℕ) (a : ℕ) → a ≤ length ns → LeadsInside (inserted_shape ns a) (inserted_index a) ns }
     ensures squeezed { (ns : List ℕ) → LeadsInside (squeezed_shape ns) (squeezed_index ns) ns }
     ensures diagonal { (ns : List ℕ) → LeadsInside (diagonal_length ns ∷ []) (diagonal_index ns) ns }
     ensures broadcast { (ns to : List ℕ) → broadcasts ns to ≡ true → LeadsInside to (broadcast_index ns to) ns }

@@ -212,7 +212,7 @@ pub fn take_step<S: Data>(array: ArrayBase<S, IxDyn>, step: &Step) -> ArrayBase<
 }
 
 /// The view under a larger shape, or the cause of its refusal.
-fn widen<'a, A>(
+fn broadcast_to<'a, A>(
     view: ArrayView<'a, A, IxDyn>,
     lengths: &[usize],
 ) -> Result<ArrayView<'a, A, IxDyn>, Cause>
@@ -235,7 +235,7 @@ pub fn advance<'a, A>(
     ensures { MatchResult result (λ next. step_result (asked_step step.now) (meaning_of view.entry) ≡ Ok (meaning_of next)) (λ cause. step_result (asked_step step.now) (meaning_of view.entry) ≡ Err cause) }
 {
     if let Step::Broadcast(lengths) = step {
-        return widen(view, lengths.as_slice());
+        return broadcast_to(view, lengths.as_slice());
     }
     match keep_refusal(view.shape(), step) {
         None => Ok(take_step(view, step)),
