@@ -7,7 +7,7 @@ use Rattle.std.proofs.lemmas.Bool.{and_parts, and_from, lt-ltb, ltb-true, eqb-tr
 use Rattle.std.proofs.lemmas.List.{length-set, length-replicate, get_or-map, get_or-replicate, get_or_past, ext_get_or, get_or-set_same, set-get_or, set-set, reverse-reverse}
 use Rattle.std.proofs.lemmas.List.Edits.{length-insert, get_or-insert_at}
 use Rattle.std.proofs.lemmas.List.FromFn.{length-range_with_len, get_or-range_with_len, length-map-range_with_len, get_or-map-range_with_len}
-use Rattle.nd_shape_and_slice.specs.Axes.{HasEachAxis, permuted, unpermuted}
+use Rattle.nd_shape_and_slice.specs.Axes.{HasEachAxis, permuted_list, unpermuted_list}
 use Rattle.nd_shape_and_slice.specs.Shape.{in_box}
 use Rattle.nd_shape_and_slice.specs.Slice.{fits_axis, low_of, high_of, sliced_length, sliced_from, sliced_shape, sliced_index}
 use Rattle.nd_shape_and_slice.specs.SliceInfo.{coordinate_on, each_fits, shape_after, index_before}
@@ -23,16 +23,16 @@ use Rattle.nd_layout.proofs.Permuted.{axis_below, length-permuted, length-unperm
 use Rattle.nd_layout.proofs.Totals.{times, times_is}
 use Rattle.nd_layout.proofs.Removed.{in_box-inserted}
 use Rattle.nd_array_core.specs.Laws.{NothingOutside, inverse_of, PermutedBack, ReversedTwice, InvertedTwice, InsertedAndRemoved, twice_sliced_from, SlicedTwice, PathStep, path_shape, path_source, LeadsInside, StaysInside, PathIsOneMap}
-use Rattle.nd_shape_and_slice.specs.Maps.{inverted_index, collapsed_shape, collapsed_index, lower_shape, upper_shape, upper_index, indexed_shape, indexed_index, widened_shape, widened_index, diagonal_length, diagonal_index}
-use Rattle.nd_array_core.specs.Meaning.{Meaning, seen, inside}
-use Rattle.nd_shape_and_slice.specs.Broadcast.{broadcasts, forget}
+use Rattle.nd_shape_and_slice.specs.Maps.{inverted_index, collapsed_shape, collapsed_index, lower_shape, upper_shape, upper_index, indexed_shape, indexed_index, inserted_shape, inserted_index, diagonal_length, diagonal_index}
+use Rattle.nd_array_core.specs.Meaning.{Meaning, meaning_through, inside}
+use Rattle.nd_shape_and_slice.specs.Broadcast.{broadcasts, broadcast_index}
 use Rattle.nd_shape_and_slice.specs.Slicing.{collapsed_after, collapsed_before}
 use Rattle.nd_shape_and_slice.specs.Squeeze.{isnt_one, all_one, stays, kept_of, spread_over, squeezed_shape, squeezed_index}
 use Rattle.nd_layout.proofs.steps.ExchangeStep.{once_in_range, in_own_order, reverse_is_step, swap_is_step}
 use Rattle.nd_layout.proofs.steps.SliceStep.{slice_within, high_within, step_moves}
 use Rattle.nd_layout.proofs.steps.SliceLoop.{coordinate_within}
 use Rattle.nd_layout.proofs.steps.SqueezeStep.{length-stays}
-use Rattle.nd_layout.proofs.steps.ResizeStep.{widen_is_step}
+use Rattle.nd_layout.proofs.steps.ResizeStep.{insert_is_step}
 use Rattle.nd_layout.proofs.steps.DiagonalStep.{diagonal_is_step}
 use Rattle.nd_layout.proofs.steps.BroadcastStep.{broadcast_is_seen}
 
@@ -53,21 +53,21 @@ module _ (axes : List ℕ) (n : ℕ) (each : HasEachAxis axes n) where
       plus : (k : ℕ) → 0 + k ≡ k
       plus k = omega arith
 
-  back_at : (xs : List ℕ) (a : ℕ) → a < n → get_or (unpermuted axes xs) a 0 ≡ get_or xs (position_of a) 0
+  back_at : (xs : List ℕ) (a : ℕ) → a < n → get_or (unpermuted_list axes xs) a 0 ≡ get_or xs (position_of a) 0
   back_at xs a h = get_or-map-range_with_len (λ a. get_or xs (position_or_len (λ b. eqb b a) axes) 0) 0 (length axes) a a 0 (omega (arith, h, each.0)) (omega arith)
 
-  there_at : (xs : List ℕ) (k : ℕ) → k < n → get_or (permuted axes xs) k 0 ≡ get_or xs (get_or axes k 0) 0
+  there_at : (xs : List ℕ) (k : ℕ) → k < n → get_or (permuted_list axes xs) k 0 ≡ get_or xs (get_or axes k 0) 0
   there_at xs k h = get_or-map (λ a. get_or xs a 0) axes k 0 0 (omega (arith, h, each.0))
 
   position_below : (a : ℕ) → a < n → position_of a < n
   position_below a h =
       let ones = replicate n 1 in
-      let read = back_at (permuted axes ones) a h in
+      let read = back_at (permuted_list axes ones) a h in
       let whole = ap (λ l. get_or l a 0) (unpermuted-permuted axes ones n each (length-replicate n 1)) ∙ get_or-replicate n a 1 0 h in
       let long = length-permuted axes ones ∙ each.0 in
       ⊎_elim
       (λ (h : position_of a < n). h)
-      (λ (past : n ≤ position_of a). let none = get_or_past (permuted axes ones) (position_of a) 0 (omega (arith, long, past)) in absurd (omega (arith, read, whole, none)))
+      (λ (past : n ≤ position_of a). let none = get_or_past (permuted_list axes ones) (position_of a) 0 (omega (arith, long, past)) in absurd (omega (arith, read, whole, none)))
       (cases_lt (position_of a) n)
 
   at_position : (a : ℕ) → a < n → get_or axes (position_of a) 0 ≡ a
@@ -75,7 +75,7 @@ module _ (axes : List ℕ) (n : ℕ) (each : HasEachAxis axes n) where
       let below = position_below a h in
       sym (own_at (get_or axes (position_of a) 0) (axis_below axes n (position_of a) each (omega (arith, below, each.0))))
       ∙ (sym (there_at own (position_of a) below)
-      ∙ (sym (back_at (permuted axes own) a h) ∙ (ap (λ l. get_or l a 0) (unpermuted-permuted axes own n each own_length) ∙ own_at a h)))
+      ∙ (sym (back_at (permuted_list axes own) a h) ∙ (ap (λ l. get_or l a 0) (unpermuted-permuted axes own n each own_length) ∙ own_at a h)))
 
   position_at : (k : ℕ) → k < n → position_of (get_or axes k 0) ≡ k
   position_at k h =
@@ -83,7 +83,7 @@ module _ (axes : List ℕ) (n : ℕ) (each : HasEachAxis axes n) where
       let below = axis_below axes n k each (omega (arith, h, each.0)) in
       sym (own_at (position_of a) (position_below a below))
       ∙ (sym (back_at own a below)
-      ∙ (sym (there_at (unpermuted axes own) k h) ∙ (ap (λ l. get_or l k 0) (permuted-unpermuted axes own n each own_length) ∙ own_at k h)))
+      ∙ (sym (there_at (unpermuted_list axes own) k h) ∙ (ap (λ l. get_or l k 0) (permuted-unpermuted axes own n each own_length) ∙ own_at k h)))
 
   inverse_at : (k : ℕ) → k < n → get_or (inverse_of axes) k 0 ≡ position_of k
   inverse_at k h = get_or-map-range_with_len (λ a. position_or_len (λ b. eqb b a) axes) 0 (length axes) k k 0 (omega (arith, h, each.0)) (omega arith)
@@ -111,23 +111,23 @@ module _ (axes : List ℕ) (n : ℕ) (each : HasEachAxis axes n) where
           (λ (other : j ≡ get_or axes a 0 → ⊥). ne_eqb (position_of j) a (λ same. other (sym (at_position j hj) ∙ ap (λ q. get_or axes q 0) same)) ∙ sym (ne_eqb j (get_or axes a 0) other))
           (cases_eq j (get_or axes a 0))
 
-  pub inverse_leads : permuted (inverse_of axes) axes ≡ range_with_len 0 n
+  pub inverse_leads : permuted_list (inverse_of axes) axes ≡ range_with_len 0 n
   inverse_leads =
       let long = length-permuted (inverse_of axes) axes ∙ inverse_each.0 in
-      ext_get_or 0 (permuted (inverse_of axes) axes) own (long ∙ sym own_length)
+      ext_get_or 0 (permuted_list (inverse_of axes) axes) own (long ∙ sym own_length)
       (λ k h.
       let below : k < n = omega (arith, h, long) in
       get_or-map (λ a. get_or axes a 0) (inverse_of axes) k 0 0 (omega (arith, below, inverse_each.0))
       ∙ (ap (λ q. get_or axes q 0) (inverse_at k below) ∙ (at_position k below ∙ sym (own_at k below))))
 
 -- axes in another order and back
-module _ (axes back : List ℕ) (n : ℕ) (each : HasEachAxis axes n) (each_back : HasEachAxis back n) (leads : permuted back axes ≡ range_with_len 0 n) where
-  there_and_back : (xs : List ℕ) → length xs ≡ n → permuted back (permuted axes xs) ≡ xs
+module _ (axes back : List ℕ) (n : ℕ) (each : HasEachAxis axes n) (each_back : HasEachAxis back n) (leads : permuted_list back axes ≡ range_with_len 0 n) where
+  there_and_back : (xs : List ℕ) → length xs ≡ n → permuted_list back (permuted_list axes xs) ≡ xs
   there_and_back xs e =
       composed back (λ k h. axis_below back n k each_back h)
-      ∙ (ap (λ p. permuted p xs) leads ∙ subst (λ l. permuted (range_with_len 0 l) xs ≡ xs) e (in_own_order 0 xs))
+      ∙ (ap (λ p. permuted_list p xs) leads ∙ subst (λ l. permuted_list (range_with_len 0 l) xs ≡ xs) e (in_own_order 0 xs))
     where
-      composed : (ks : List ℕ) → ((k : ℕ) → k < length ks → get_or ks k 0 < n) → permuted ks (permuted axes xs) ≡ permuted (permuted ks axes) xs
+      composed : (ks : List ℕ) → ((k : ℕ) → k < length ks → get_or ks k 0 < n) → permuted_list ks (permuted_list axes xs) ≡ permuted_list (permuted_list ks axes) xs
       composed [] below = refl
       composed (a ∷ ks) below =
           let here : a < length axes = let lt = below 0 (omega arith) in omega (arith, lt, each.0) in
@@ -135,13 +135,13 @@ module _ (axes back : List ℕ) (n : ℕ) (each : HasEachAxis axes n) (each_back
           let rest = composed ks (λ k h. below (suc k) (omega (arith, h))) in
           rw (first, rest) refl
 
-  back_and_there : (i : List ℕ) → length i ≡ n → unpermuted axes (unpermuted back i) ≡ i
+  back_and_there : (i : List ℕ) → length i ≡ n → unpermuted_list axes (unpermuted_list back i) ≡ i
   back_and_there i e =
-      let j = unpermuted back i in
-      let x = unpermuted axes j in
+      let j = unpermuted_list back i in
+      let x = unpermuted_list axes j in
       let j_long : length j ≡ n = length-unpermuted back i ∙ each_back.0 in
       let x_long : length x ≡ n = length-unpermuted axes j ∙ each.0 in
-      sym (there_and_back x x_long) ∙ (ap (permuted back) (permuted-unpermuted axes j n each j_long) ∙ permuted-unpermuted back i n each_back e)
+      sym (there_and_back x x_long) ∙ (ap (permuted_list back) (permuted-unpermuted axes j n each j_long) ∙ permuted-unpermuted back i n each_back e)
 
 -- an axis put in and taken out
 remove-inserted : (xs : List ℕ) (a x : ℕ) → a ≤ length xs → remove (insert xs a x) a ≡ xs
@@ -177,17 +177,17 @@ module _ {A : Type 0} where
   inside_box ns i x h = rw h refl
 
   -- two maps, the second of which leads into the box of the first
-  pub seen_twice : (m : Meaning A) (mid : List ℕ) (f : List ℕ → List ℕ) (shape : List ℕ) (g source : List ℕ → List ℕ) → ((i : List ℕ) → in_box shape i ≡ true → in_box mid (g i) ≡ true) → ((i : List ℕ) → in_box shape i ≡ true → f (g i) ≡ source i) → seen shape g (seen mid f m) ≡ seen shape source m
+  pub seen_twice : (m : Meaning A) (mid : List ℕ) (f : List ℕ → List ℕ) (shape : List ℕ) (g source : List ℕ → List ℕ) → ((i : List ℕ) → in_box shape i ≡ true → in_box mid (g i) ≡ true) → ((i : List ℕ) → in_box shape i ≡ true → f (g i) ≡ source i) → meaning_through shape g (meaning_through mid f m) ≡ meaning_through shape source m
   seen_twice m mid f shape g source within same =
-      same_meaning (seen shape source m) shape (λ i. inside shape i (inside mid (g i) (m.at (f (g i))))) refl
+      same_meaning (meaning_through shape source m) shape (λ i. inside shape i (inside mid (g i) (m.at (f (g i))))) refl
       (λ i. inside_here shape i (inside mid (g i) (m.at (f (g i)))) (m.at (source i)) (λ h. inside_box mid (g i) (m.at (f (g i))) (within i h) ∙ ap m.at (same i h)))
 
   -- the map that leads nowhere else
-  pub seen_same : (m : Meaning A) (shape : List ℕ) → NothingOutside m → shape ≡ m.shape → seen shape (λ i. i) m ≡ m
+  pub seen_same : (m : Meaning A) (shape : List ℕ) → NothingOutside m → shape ≡ m.shape → meaning_through shape (λ i. i) m ≡ m
   seen_same m shape nothing e =
       same_meaning m shape (λ i. inside shape i (m.at i)) e (λ i. ap (λ l. inside l i (m.at i)) e ∙ inside_kept m.shape i (m.at i) (nothing i))
 
-  seen_back : (m : Meaning A) (mid : List ℕ) (f : List ℕ → List ℕ) (shape : List ℕ) (g : List ℕ → List ℕ) → NothingOutside m → shape ≡ m.shape → ((i : List ℕ) → in_box m.shape i ≡ true → in_box mid (g i) ≡ true) → ((i : List ℕ) → in_box m.shape i ≡ true → f (g i) ≡ i) → seen shape g (seen mid f m) ≡ m
+  seen_back : (m : Meaning A) (mid : List ℕ) (f : List ℕ → List ℕ) (shape : List ℕ) (g : List ℕ → List ℕ) → NothingOutside m → shape ≡ m.shape → ((i : List ℕ) → in_box m.shape i ≡ true → in_box mid (g i) ≡ true) → ((i : List ℕ) → in_box m.shape i ≡ true → f (g i) ≡ i) → meaning_through shape g (meaning_through mid f m) ≡ m
   seen_back m mid f shape g nothing e within same =
       seen_twice m mid f shape g (λ i. i) (λ i h. within i (subst (λ l. in_box l i ≡ true) e h)) (λ i h. same i (subst (λ l. in_box l i ≡ true) e h))
       ∙ seen_same m shape nothing e
@@ -199,10 +199,10 @@ module _ {A : Type 0} where
       let back = inverse_of axes in
       let each_back = inverse_each axes n each in
       let leads = inverse_leads axes n each in
-      let mid = permuted axes m.shape in
+      let mid = permuted_list axes m.shape in
       let mid_long : length mid ≡ n = length-permuted axes m.shape ∙ each.0 in
-      let restored : permuted back mid ≡ m.shape = there_and_back axes back n each each_back leads m.shape refl in
-      seen_back m mid (unpermuted axes) (permuted back mid) (unpermuted back) nothing restored
+      let restored : permuted_list back mid ≡ m.shape = there_and_back axes back n each each_back leads m.shape refl in
+      seen_back m mid (unpermuted_list axes) (permuted_list back mid) (unpermuted_list back) nothing restored
       (λ i h. in_box-unpermuted back mid i (subst (HasEachAxis back) (sym mid_long) each_back) (length-in_box m.shape i h ∙ sym mid_long) ∙ (ap (λ l. in_box l i) restored ∙ h))
       (λ i h. back_and_there axes back n each each_back leads i (length-in_box m.shape i h))
 
@@ -239,7 +239,7 @@ module _ {A : Type 0} where
       let mid = insert m.shape a 1 in
       let gone = remove-inserted m.shape a 1 on in
       let long = length-insert m.shape a 1 on in
-      seen_back m mid (widened_index a) (remove mid a) (λ i. insert i a 0) nothing gone
+      seen_back m mid (inserted_index a) (remove mid a) (λ i. insert i a 0) nothing gone
       (λ i h.
       in_box-inserted mid i a 0 (omega (arith, long, on))
       ∙ and_from (ltb 0 (get_or mid a 0)) (in_box (remove mid a) i)
@@ -265,16 +265,16 @@ module _ {A : Type 0} where
       let d = sliced_from (get_or mid a 0) second c in
       set-set i a d (sliced_from n first (get_or (set i a d) a 0))
       ∙ (ap (λ k. set i a (sliced_from n first k)) (get_or-set_same i a d 0 wide) ∙ ap (λ k. set i a (sliced_from n first (sliced_from k second c))) here)) in
-      twice ∙ ap (λ l. seen l (λ i. set i a (twice_sliced_from n first second (get_or i a 0))) m) shape
+      twice ∙ ap (λ l. meaning_through l (λ i. set i a (twice_sliced_from n first second (get_or i a 0))) m) shape
 
   -- ---- paths
-  nothing_seen : (shape : List ℕ) (source : List ℕ → List ℕ) (m : Meaning A) → NothingOutside (seen shape source m)
+  nothing_seen : (shape : List ℕ) (source : List ℕ → List ℕ) (m : Meaning A) → NothingOutside (meaning_through shape source m)
   nothing_seen shape source m i h = rw h refl
 
   pub path_is_one_map : PathIsOneMap A
   path_is_one_map m [] nothing stays = sym (seen_same m m.shape nothing refl)
   path_is_one_map m (p ∷ ps) nothing stays =
-      path_is_one_map (seen p.shape p.source m) ps (nothing_seen p.shape p.source m) stays.1
+      path_is_one_map (meaning_through p.shape p.source m) ps (nothing_seen p.shape p.source m) stays.1
       ∙ seen_twice m p.shape p.source (path_shape p.shape ps) (path_source ps) (λ i. p.source (path_source ps i))
       (λ i h. path_inside p.shape ps i stays.1 h) (λ i h. refl)
 
@@ -289,8 +289,8 @@ as_many ns = length-replicate (length ns) (pos 0)
 pub sliced_inside : (ns : List ℕ) (a : ℕ) (s : Slice) → a < length ns → fits_axis (get_or ns a 0) s ≡ true → LeadsInside (sliced_shape ns a s) (sliced_index ns a s) ns
 sliced_inside ns a s on fits i h = slice_within ns (zeros ns) a s (as_many ns) on fits i h
 
-pub permuted_inside : (ns axes : List ℕ) → HasEachAxis axes (length ns) → LeadsInside (permuted axes ns) (unpermuted axes) ns
-permuted_inside ns axes each i h = in_box-unpermuted axes ns i each (length-in_box (permuted axes ns) i h ∙ (length-permuted axes ns ∙ each.0)) ∙ h
+pub permuted_inside : (ns axes : List ℕ) → HasEachAxis axes (length ns) → LeadsInside (permuted_list axes ns) (unpermuted_list axes) ns
+permuted_inside ns axes each i h = in_box-unpermuted axes ns i each (length-in_box (permuted_list axes ns) i h ∙ (length-permuted axes ns ∙ each.0)) ∙ h
 
 pub reversed_inside : (ns : List ℕ) → LeadsInside (reverse ns) reverse ns
 reversed_inside ns = (reverse_is_step 0 ns (zeros ns) (as_many ns)).within
@@ -328,8 +328,8 @@ upper_inside ns a k on within i h =
 pub indexed_inside : (ns : List ℕ) (a k : ℕ) → a < length ns → k < get_or ns a 0 → LeadsInside (indexed_shape ns a) (indexed_index a k) ns
 indexed_inside ns a k on below i h = in_box-inserted ns i a k on ∙ and_from (ltb k (get_or ns a 0)) (in_box (remove ns a) i) (lt-ltb k (get_or ns a 0) below) h
 
-pub widened_inside : (ns : List ℕ) (a : ℕ) → a ≤ length ns → LeadsInside (widened_shape ns a) (widened_index a) ns
-widened_inside ns a on = (widen_is_step ns (zeros ns) a (as_many ns) on 0 (pos 0)).within
+pub inserted_inside : (ns : List ℕ) (a : ℕ) → a ≤ length ns → LeadsInside (inserted_shape ns a) (inserted_index a) ns
+inserted_inside ns a on = (insert_is_step ns (zeros ns) a (as_many ns) on 0 (pos 0)).within
 
 pub diagonal_inside : (ns : List ℕ) → LeadsInside (diagonal_length ns ∷ []) (diagonal_index ns) ns
 diagonal_inside ns = (diagonal_is_step ns (zeros ns) (as_many ns) 0).within
@@ -411,5 +411,5 @@ gone_is_one (n ∷ ns) (suc k) h = rest ns k h
 pub squeezed_inside : (ns : List ℕ) → LeadsInside (squeezed_shape ns) (squeezed_index ns) ns
 squeezed_inside ns i h = kept_inside (stays ns) ns i (length-stays ns) (gone_is_one ns) h
 
-pub broadcast_inside : (ns to : List ℕ) → broadcasts ns to ≡ true → LeadsInside to (forget ns to) ns
+pub broadcast_inside : (ns to : List ℕ) → broadcasts ns to ≡ true → LeadsInside to (broadcast_index ns to) ns
 broadcast_inside ns to fits = (broadcast_is_seen 0 ns to (zeros ns) (as_many ns) fits).within

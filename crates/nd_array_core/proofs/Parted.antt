@@ -7,13 +7,13 @@ use Rattle.nd_shape_and_slice.specs.Shape.{in_box, size_of}
 use Rattle.nd_shape_and_slice.specs.Place.{place_of, IsSeparated}
 use Rattle.nd_shape_and_slice.proofs.RowMajor.{length-in_box}
 use Rattle.nd_shape_and_slice.proofs.Boxes.{coordinate_below}
-use Rattle.nd_region.specs.Places.{names, names_not, ShareNoPlace as LayoutsShareNone}
+use Rattle.nd_region.specs.Places.{names, names_not, LayoutsShareNoPlace}
 use Rattle.nd_region.proofs.Names.{named_by, named_at}
 use Rattle.nd_shape_and_slice.specs.Maps.{lower_shape, upper_shape, upper_index}
 use Rattle.nd_array_core.specs.Meaning.{inside}
 use Rattle.nd_array_core.specs.Places.{stored_at, place_number, HoldsAll, kept_at, ShareNoPlace}
 use Rattle.nd_layout.specs.Steps.{IsStep}
-use Rattle.nd_array_core.specs.layout.Parts.{IsHeld, IsSeenUnder}
+use Rattle.nd_array_core.specs.layout.Parts.{HoldsEachOnce, IsViewUnder}
 use Rattle.nd_array_core.proofs.StepLemmas.{step_holds, step_element}
 use Rattle.nd_layout.proofs.steps.StepLemmas.{step_some}
 use Rattle.nd_array_core.proofs.WriteStep.{one_index}
@@ -29,42 +29,42 @@ shown {A} ns i x y same = at (in_box ns i) refl
     at true h = rw h (same h)
     at false h = rw h refl
 
-module _ {A : Type 0} (stored new : ℕ → Option A) (first : ℕ) (ns : List ℕ) (ss : List ℤ) where
+module _ {A : Type 0} (stored new : ℕ → Option A) (offset : ℕ) (ns : List ℕ) (ss : List ℤ) where
   abbrev pub Taken : Type 0
-  Taken = (p : ℕ) → new p ≡ kept_at (names first ns ss) stored p
+  Taken = (p : ℕ) → new p ≡ kept_at (names offset ns ss) stored p
 
   abbrev pub Left : Type 0
-  Left = (p : ℕ) → new p ≡ kept_at (names_not first ns ss) stored p
+  Left = (p : ℕ) → new p ≡ kept_at (names_not offset ns ss) stored p
 
-  taken_there : (z : ℤ) (i : List ℕ) → Taken → in_box ns i ≡ true → place_of first ss i ≡ z → stored_at new z ≡ stored_at stored z
-  taken_there (pos p) i is h e = is p ∙ ap (λ (b : Bool). if b then stored p else None) (named_at first ns ss p i h e)
+  taken_there : (z : ℤ) (i : List ℕ) → Taken → in_box ns i ≡ true → place_of offset ss i ≡ z → stored_at new z ≡ stored_at stored z
+  taken_there (pos p) i is h e = is p ∙ ap (λ (b : Bool). if b then stored p else None) (named_at offset ns ss p i h e)
   taken_there (negsuc n) i is h e = refl
 
   -- what is taken has the layout's places
-  pub taken_holds : Taken → HoldsAll stored first ns ss → HoldsAll new first ns ss
-  taken_holds is holds i h = ap is_some (taken_there (place_of first ss i) i is h refl) ∙ holds i h
+  pub taken_holds : Taken → HoldsAll stored offset ns ss → HoldsAll new offset ns ss
+  taken_holds is holds i h = ap is_some (taken_there (place_of offset ss i) i is h refl) ∙ holds i h
 
   -- with the elements that were there
-  pub taken_element : Taken → (i : List ℕ) → inside ns i (stored_at new (place_of first ss i)) ≡ inside ns i (stored_at stored (place_of first ss i))
-  taken_element is i = shown ns i (stored_at new (place_of first ss i)) (stored_at stored (place_of first ss i)) (λ h. taken_there (place_of first ss i) i is h refl)
+  pub taken_element : Taken → (i : List ℕ) → inside ns i (stored_at new (place_of offset ss i)) ≡ inside ns i (stored_at stored (place_of offset ss i))
+  taken_element is i = shown ns i (stored_at new (place_of offset ss i)) (stored_at stored (place_of offset ss i)) (λ h. taken_there (place_of offset ss i) i is h refl)
 
-  module _ (first' : ℕ) (ns' : List ℕ) (ss' : List ℤ) (apart : LayoutsShareNone first ns ss first' ns' ss') where
-    left_there : (z : ℤ) (j : List ℕ) → Left → in_box ns' j ≡ true → place_of first' ss' j ≡ z → stored_at new z ≡ stored_at stored z
-    left_there (pos p) j is h e = is p ∙ ap (λ (b : Bool). if b then stored p else None) (not_named (names first ns ss p) (λ n. let at = named_by first ns ss p n in apart at.0 j at.1 h (at.2 ∙ sym e)))
+  module _ (offset' : ℕ) (ns' : List ℕ) (ss' : List ℤ) (apart : LayoutsShareNoPlace offset ns ss offset' ns' ss') where
+    left_there : (z : ℤ) (j : List ℕ) → Left → in_box ns' j ≡ true → place_of offset' ss' j ≡ z → stored_at new z ≡ stored_at stored z
+    left_there (pos p) j is h e = is p ∙ ap (λ (b : Bool). if b then stored p else None) (not_named (names offset ns ss p) (λ n. let at = named_by offset ns ss p n in apart at.0 j at.1 h (at.2 ∙ sym e)))
     left_there (negsuc n) j is h e = refl
 
     -- what is left has the places of each layout that shares none with the first
-    pub left_holds : Left → HoldsAll stored first' ns' ss' → HoldsAll new first' ns' ss'
-    left_holds is holds j h = ap is_some (left_there (place_of first' ss' j) j is h refl) ∙ holds j h
+    pub left_holds : Left → HoldsAll stored offset' ns' ss' → HoldsAll new offset' ns' ss'
+    left_holds is holds j h = ap is_some (left_there (place_of offset' ss' j) j is h refl) ∙ holds j h
 
-    pub left_element : Left → (j : List ℕ) → inside ns' j (stored_at new (place_of first' ss' j)) ≡ inside ns' j (stored_at stored (place_of first' ss' j))
-    left_element is j = shown ns' j (stored_at new (place_of first' ss' j)) (stored_at stored (place_of first' ss' j)) (λ h. left_there (place_of first' ss' j) j is h refl)
+    pub left_element : Left → (j : List ℕ) → inside ns' j (stored_at new (place_of offset' ss' j)) ≡ inside ns' j (stored_at stored (place_of offset' ss' j))
+    left_element is j = shown ns' j (stored_at new (place_of offset' ss' j)) (stored_at stored (place_of offset' ss' j)) (λ h. left_there (place_of offset' ss' j) j is h refl)
 
 -- two layouts of one array whose maps name no index in common share no place
-pub steps_apart : (first : ℕ) (ns : List ℕ) (ss : List ℤ) {first' : ℕ} {ns' : List ℕ} {ss' : List ℤ} {first'' : ℕ} {ns'' : List ℕ} {ss'' : List ℤ} {source source' : List ℕ → List ℕ} → length ss ≡ length ns → (0 < size_of ns → IsSeparated ns ss)
-    → IsStep first ns ss first' ns' ss' source → IsStep first ns ss first'' ns'' ss'' source' → ((i j : List ℕ) → in_box ns' i ≡ true → in_box ns'' j ≡ true → source i ≡ source' j → ⊥) → LayoutsShareNone first' ns' ss' first'' ns'' ss''
-steps_apart first ns ss {source = source} {source' = source'} as_many separated step step' differ i j h k e =
-    differ i j h k (one_index ns ss first (source i) (source' j) as_many separated (step.within i h) (step'.within j k) (sym (step.same i h) ∙ e ∙ step'.same j k))
+pub steps_apart : (offset : ℕ) (ns : List ℕ) (ss : List ℤ) {offset' : ℕ} {ns' : List ℕ} {ss' : List ℤ} {offset'' : ℕ} {ns'' : List ℕ} {ss'' : List ℤ} {source source' : List ℕ → List ℕ} → length ss ≡ length ns → (0 < size_of ns → IsSeparated ns ss)
+    → IsStep offset ns ss offset' ns' ss' source → IsStep offset ns ss offset'' ns'' ss'' source' → ((i j : List ℕ) → in_box ns' i ≡ true → in_box ns'' j ≡ true → source i ≡ source' j → ⊥) → LayoutsShareNoPlace offset' ns' ss' offset'' ns'' ss''
+steps_apart offset ns ss {source = source} {source' = source'} as_many separated step step' differ i j h k e =
+    differ i j h k (one_index ns ss offset (source i) (source' j) as_many separated (step.within i h) (step'.within j k) (sym (step.same i h) ∙ e ∙ step'.same j k))
 
 number_is : (z : ℤ) (p : ℕ) → place_number z ≡ Some p → z ≡ pos p
 number_is (pos q) p e = cc
@@ -78,11 +78,11 @@ has_place ns i z p = at (in_box ns i) refl
     at false h e = cc
 
 -- then no place is that of an index of each
-pub places_apart : (first : ℕ) (ns : List ℕ) (ss : List ℤ) (first' : ℕ) (ns' : List ℕ) (ss' : List ℤ) → LayoutsShareNone first ns ss first' ns' ss'
-    → ShareNoPlace (λ i. inside ns i (place_number (place_of first ss i))) (λ i. inside ns' i (place_number (place_of first' ss' i)))
-places_apart first ns ss first' ns' ss' apart i j p e f =
-    let at = has_place ns i (place_of first ss i) p e in
-    let at' = has_place ns' j (place_of first' ss' j) p f in
+pub places_apart : (offset : ℕ) (ns : List ℕ) (ss : List ℤ) (offset' : ℕ) (ns' : List ℕ) (ss' : List ℤ) → LayoutsShareNoPlace offset ns ss offset' ns' ss'
+    → ShareNoPlace (λ i. inside ns i (place_number (place_of offset ss i))) (λ i. inside ns' i (place_number (place_of offset' ss' i)))
+places_apart offset ns ss offset' ns' ss' apart i j p e f =
+    let at = has_place ns i (place_of offset ss i) p e in
+    let at' = has_place ns' j (place_of offset' ss' j) p f in
     apart i j at.0 at'.0 (at.1 ∙ sym at'.1)
 
 -- the coordinates of an axis below one, and those from it on
@@ -97,45 +97,45 @@ halves_differ ns a k on within i j h g e =
 
 -- ---- parts as what is held and what is seen
 -- a step leads from what is held to what is held
-pub step_held : {A : Type 0} (stored : ℕ → Option A) {first : ℕ} {ns : List ℕ} {ss : List ℤ} {first' : ℕ} {ns' : List ℕ} {ss' : List ℤ} {source : List ℕ → List ℕ}
-    → HoldsAll stored first ns ss → (0 < size_of ns → IsSeparated ns ss) → IsStep first ns ss first' ns' ss' source → IsHeld stored first' ns' ss'
+pub step_held : {A : Type 0} (stored : ℕ → Option A) {offset : ℕ} {ns : List ℕ} {ss : List ℤ} {offset' : ℕ} {ns' : List ℕ} {ss' : List ℤ} {source : List ℕ → List ℕ}
+    → HoldsAll stored offset ns ss → (0 < size_of ns → IsSeparated ns ss) → IsStep offset ns ss offset' ns' ss' source → HoldsEachOnce stored offset' ns' ss'
 step_held stored holds separated step = record {
   holds = step_holds stored step holds;
   separated = λ some. step.separated (separated (step_some step some));
 }
 
 -- what is left holds what it held of a layout that shares no place with the one taken out
-pub left_held : {A : Type 0} (stored new : ℕ → Option A) (first : ℕ) (ns : List ℕ) (ss : List ℤ) (first' : ℕ) (ns' : List ℕ) (ss' : List ℤ) → LayoutsShareNone first ns ss first' ns' ss' → Left stored new first ns ss → IsHeld stored first' ns' ss' → IsHeld new first' ns' ss'
-left_held stored new first ns ss first' ns' ss' apart left held = record {
-  holds = left_holds stored new first ns ss first' ns' ss' apart left held.holds;
+pub left_held : {A : Type 0} (stored new : ℕ → Option A) (offset : ℕ) (ns : List ℕ) (ss : List ℤ) (offset' : ℕ) (ns' : List ℕ) (ss' : List ℤ) → LayoutsShareNoPlace offset ns ss offset' ns' ss' → Left stored new offset ns ss → HoldsEachOnce stored offset' ns' ss' → HoldsEachOnce new offset' ns' ss'
+left_held stored new offset ns ss offset' ns' ss' apart left held = record {
+  holds = left_holds stored new offset ns ss offset' ns' ss' apart left held.holds;
   separated = held.separated;
 }
 
 -- and shows it
-pub left_seen : {A : Type 0} (stored new : ℕ → Option A) (first : ℕ) (ns : List ℕ) (ss : List ℤ) (first' : ℕ) (ns' : List ℕ) (ss' : List ℤ) {shape : List ℕ} {strides : List ℤ} {at : List ℕ → Option A} {place : List ℕ → Option ℕ}
-    → LayoutsShareNone first ns ss first' ns' ss' → Left stored new first ns ss → IsSeenUnder new first' ns' ss' shape strides at place → IsSeenUnder stored first' ns' ss' shape strides at place
-left_seen stored new first ns ss first' ns' ss' apart left seen = record {
+pub left_seen : {A : Type 0} (stored new : ℕ → Option A) (offset : ℕ) (ns : List ℕ) (ss : List ℤ) (offset' : ℕ) (ns' : List ℕ) (ss' : List ℤ) {shape : List ℕ} {strides : List ℤ} {at : List ℕ → Option A} {place : List ℕ → Option ℕ}
+    → LayoutsShareNoPlace offset ns ss offset' ns' ss' → Left stored new offset ns ss → IsViewUnder new offset' ns' ss' shape strides at place → IsViewUnder stored offset' ns' ss' shape strides at place
+left_seen stored new offset ns ss offset' ns' ss' apart left seen = record {
   shape_is = seen.shape_is;
   strides_are = seen.strides_are;
-  elements = λ i. seen.elements i ∙ left_element stored new first ns ss first' ns' ss' apart left i;
+  elements = λ i. seen.elements i ∙ left_element stored new offset ns ss offset' ns' ss' apart left i;
   places = seen.places;
 }
 
 -- what is seen under a step's layout is what the array shows at the index that the step's map names
-pub seen_step : {A : Type 0} (stored : ℕ → Option A) {first : ℕ} {ns : List ℕ} {ss : List ℤ} {first' : ℕ} {ns' : List ℕ} {ss' : List ℤ} {source : List ℕ → List ℕ} {shape : List ℕ} {strides : List ℤ} {at : List ℕ → Option A} {place : List ℕ → Option ℕ}
-    → IsStep first ns ss first' ns' ss' source → IsSeenUnder stored first' ns' ss' shape strides at place → (i : List ℕ) → at i ≡ inside shape i (inside ns (source i) (stored_at stored (place_of first ss (source i))))
-seen_step stored {first = first} {ns = ns} {ss = ss} {source = source} step seen i =
-    seen.elements i ∙ step_element stored step i ∙ (λ k. inside (sym seen.shape_is k) i (inside ns (source i) (stored_at stored (place_of first ss (source i)))))
+pub seen_step : {A : Type 0} (stored : ℕ → Option A) {offset : ℕ} {ns : List ℕ} {ss : List ℤ} {offset' : ℕ} {ns' : List ℕ} {ss' : List ℤ} {source : List ℕ → List ℕ} {shape : List ℕ} {strides : List ℤ} {at : List ℕ → Option A} {place : List ℕ → Option ℕ}
+    → IsStep offset ns ss offset' ns' ss' source → IsViewUnder stored offset' ns' ss' shape strides at place → (i : List ℕ) → at i ≡ inside shape i (inside ns (source i) (stored_at stored (place_of offset ss (source i))))
+seen_step stored {offset = offset} {ns = ns} {ss = ss} {source = source} step seen i =
+    seen.elements i ∙ step_element stored step i ∙ (λ k. inside (sym seen.shape_is k) i (inside ns (source i) (stored_at stored (place_of offset ss (source i)))))
 
 -- at its place
-pub seen_place : {A : Type 0} (stored : ℕ → Option A) {first : ℕ} {ns : List ℕ} {ss : List ℤ} {first' : ℕ} {ns' : List ℕ} {ss' : List ℤ} {source : List ℕ → List ℕ} {shape : List ℕ} {strides : List ℤ} {at : List ℕ → Option A} {place : List ℕ → Option ℕ}
-    → IsStep first ns ss first' ns' ss' source → IsSeenUnder stored first' ns' ss' shape strides at place → (i : List ℕ) → place i ≡ inside shape i (inside ns (source i) (place_number (place_of first ss (source i))))
-seen_place stored {first = first} {ns = ns} {ss = ss} {first' = first'} {ns' = ns'} {ss' = ss'} {source = source} step seen i =
-    seen.places i ∙ shown ns' i (place_number (place_of first' ss' i)) (inside ns (source i) (place_number (place_of first ss (source i)))) (λ h. rw (step.within i h) (ap place_number (step.same i h)))
-    ∙ (λ k. inside (sym seen.shape_is k) i (inside ns (source i) (place_number (place_of first ss (source i)))))
+pub seen_place : {A : Type 0} (stored : ℕ → Option A) {offset : ℕ} {ns : List ℕ} {ss : List ℤ} {offset' : ℕ} {ns' : List ℕ} {ss' : List ℤ} {source : List ℕ → List ℕ} {shape : List ℕ} {strides : List ℤ} {at : List ℕ → Option A} {place : List ℕ → Option ℕ}
+    → IsStep offset ns ss offset' ns' ss' source → IsViewUnder stored offset' ns' ss' shape strides at place → (i : List ℕ) → place i ≡ inside shape i (inside ns (source i) (place_number (place_of offset ss (source i))))
+seen_place stored {offset = offset} {ns = ns} {ss = ss} {offset' = offset'} {ns' = ns'} {ss' = ss'} {source = source} step seen i =
+    seen.places i ∙ shown ns' i (place_number (place_of offset' ss' i)) (inside ns (source i) (place_number (place_of offset ss (source i)))) (λ h. rw (step.within i h) (ap place_number (step.same i h)))
+    ∙ (λ k. inside (sym seen.shape_is k) i (inside ns (source i) (place_number (place_of offset ss (source i)))))
 
 -- two that are seen under layouts that share no place share none
-pub seen_apart : {A : Type 0} {stored stored' : ℕ → Option A} {first : ℕ} {ns : List ℕ} {ss : List ℤ} {first' : ℕ} {ns' : List ℕ} {ss' : List ℤ} {shape shape' : List ℕ} {strides strides' : List ℤ} {at at' : List ℕ → Option A} {place place' : List ℕ → Option ℕ}
-    → LayoutsShareNone first ns ss first' ns' ss' → IsSeenUnder stored first ns ss shape strides at place → IsSeenUnder stored' first' ns' ss' shape' strides' at' place' → ShareNoPlace place place'
-seen_apart {first = first} {ns = ns} {ss = ss} {first' = first'} {ns' = ns'} {ss' = ss'} apart seen seen' i j p e f =
-    places_apart first ns ss first' ns' ss' apart i j p (sym (seen.places i) ∙ e) (sym (seen'.places j) ∙ f)
+pub seen_apart : {A : Type 0} {stored stored' : ℕ → Option A} {offset : ℕ} {ns : List ℕ} {ss : List ℤ} {offset' : ℕ} {ns' : List ℕ} {ss' : List ℤ} {shape shape' : List ℕ} {strides strides' : List ℤ} {at at' : List ℕ → Option A} {place place' : List ℕ → Option ℕ}
+    → LayoutsShareNoPlace offset ns ss offset' ns' ss' → IsViewUnder stored offset ns ss shape strides at place → IsViewUnder stored' offset' ns' ss' shape' strides' at' place' → ShareNoPlace place place'
+seen_apart {offset = offset} {ns = ns} {ss = ss} {offset' = offset'} {ns' = ns'} {ss' = ss'} apart seen seen' i j p e f =
+    places_apart offset ns ss offset' ns' ss' apart i j p (sym (seen.places i) ∙ e) (sym (seen'.places j) ∙ f)

@@ -5,16 +5,16 @@ use Rattle.nd_shape_and_slice.specs.Shape.{in_box}
 use Rattle.nd_shape_and_slice.specs.Place.{place_of}
 use Rattle.nd_array_core.specs.Places.{stored_at, names_place, HoldsAll}
 use Rattle.nd_array_core.specs.Meaning.{inside}
-use Rattle.nd_layout.specs.Steps.{IsSeen}
+use Rattle.nd_layout.specs.Steps.{IsViewStep}
 
-module _ {first : ℕ} {ns : List ℕ} {ss : List ℤ} {first' : ℕ} {ns' : List ℕ} {ss' : List ℤ} {source : List ℕ → List ℕ} where
-  pub seen_holds : {A : Type 0} (stored : ℕ → Option A) → IsSeen first ns ss first' ns' ss' source → HoldsAll stored first ns ss → HoldsAll stored first' ns' ss'
+module _ {offset : ℕ} {ns : List ℕ} {ss : List ℤ} {offset' : ℕ} {ns' : List ℕ} {ss' : List ℤ} {source : List ℕ → List ℕ} where
+  pub seen_holds : {A : Type 0} (stored : ℕ → Option A) → IsViewStep offset ns ss offset' ns' ss' source → HoldsAll stored offset ns ss → HoldsAll stored offset' ns' ss'
   seen_holds stored seen holds i h = ap (names_place stored) (seen.same i h) ∙ holds (source i) (seen.within i h)
 
   -- the element at a new index is the one at the old index that it names
-  pub seen_element : {A : Type 0} (stored : ℕ → Option A) → IsSeen first ns ss first' ns' ss' source → (i : List ℕ) → inside ns' i (stored_at stored (place_of first' ss' i)) ≡ inside ns' i (inside ns (source i) (stored_at stored (place_of first ss (source i))))
+  pub seen_element : {A : Type 0} (stored : ℕ → Option A) → IsViewStep offset ns ss offset' ns' ss' source → (i : List ℕ) → inside ns' i (stored_at stored (place_of offset' ss' i)) ≡ inside ns' i (inside ns (source i) (stored_at stored (place_of offset ss (source i))))
   seen_element stored seen i = at (in_box ns' i) refl
     where
-      at : (b : Bool) → in_box ns' i ≡ b → inside ns' i (stored_at stored (place_of first' ss' i)) ≡ inside ns' i (inside ns (source i) (stored_at stored (place_of first ss (source i))))
+      at : (b : Bool) → in_box ns' i ≡ b → inside ns' i (stored_at stored (place_of offset' ss' i)) ≡ inside ns' i (inside ns (source i) (stored_at stored (place_of offset ss (source i))))
       at true h = rw (h, seen.within i h, seen.same i h) refl
       at false h = rw h refl

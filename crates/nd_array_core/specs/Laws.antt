@@ -2,12 +2,12 @@
 use Rattle.std.specs.Prelude.{◌≡◌, ◌<◌, ◌≤◌, ◌==◌, ℕ, true, false, List, [], ◌∷◌, length, map, reverse, slice_index, slice_set, Option, None, Some, is_some, ⊤}
 use Rattle.std.specs.List.{position_or_len, range_with_len}
 use Rattle.nd_shape_and_slice.specs.declared.slice.Slice.{Slice}
-use Rattle.nd_shape_and_slice.specs.Axes.{HasEachAxis, permuted, unpermuted}
+use Rattle.nd_shape_and_slice.specs.Axes.{HasEachAxis, permuted_list, unpermuted_list}
 use Rattle.nd_shape_and_slice.specs.Shape.{in_box}
 use Rattle.nd_shape_and_slice.specs.Slice.{fits_axis, sliced_length, sliced_from, sliced_shape, sliced_index}
-use Rattle.nd_shape_and_slice.specs.Maps.{inverted_index, indexed_shape, indexed_index, widened_shape, widened_index}
-use Rattle.nd_array_core.specs.Meaning.{Meaning, seen}
-use Rattle.nd_array_core.specs.Placed.{Placed, element_placed}
+use Rattle.nd_shape_and_slice.specs.Maps.{inverted_index, indexed_shape, indexed_index, inserted_shape, inserted_index}
+use Rattle.nd_array_core.specs.Meaning.{Meaning, meaning_through}
+use Rattle.nd_array_core.specs.PlacedArray.{PlacedArray, element_placed}
 
 -- outside the shape's box there is no element, as in every array
 abbrev pub NothingOutside : {A : Type 0} → Meaning A → Type 0
@@ -15,22 +15,22 @@ NothingOutside m = (i : List ℕ) → in_box m.shape i ≡ false → m.at i ≡ 
 
 -- ---- what the calls make of a meaning
 abbrev pub with_axes : {A : Type 0} → List ℕ → Meaning A → Meaning A
-with_axes axes m = seen (permuted axes m.shape) (unpermuted axes) m
+with_axes axes m = meaning_through (permuted_list axes m.shape) (unpermuted_list axes) m
 
 abbrev pub with_axes_reversed : {A : Type 0} → Meaning A → Meaning A
-with_axes_reversed m = seen (reverse m.shape) reverse m
+with_axes_reversed m = meaning_through (reverse m.shape) reverse m
 
 abbrev pub with_axis_inverted : {A : Type 0} → ℕ → Meaning A → Meaning A
-with_axis_inverted a m = seen m.shape (inverted_index m.shape a) m
+with_axis_inverted a m = meaning_through m.shape (inverted_index m.shape a) m
 
 abbrev pub with_axis_inserted : {A : Type 0} → ℕ → Meaning A → Meaning A
-with_axis_inserted a m = seen (widened_shape m.shape a) (widened_index a) m
+with_axis_inserted a m = meaning_through (inserted_shape m.shape a) (inserted_index a) m
 
 abbrev pub with_axis_removed : {A : Type 0} → ℕ → Meaning A → Meaning A
-with_axis_removed a m = seen (indexed_shape m.shape a) (indexed_index a 0) m
+with_axis_removed a m = meaning_through (indexed_shape m.shape a) (indexed_index a 0) m
 
 abbrev pub with_axis_sliced : {A : Type 0} → ℕ → Slice → Meaning A → Meaning A
-with_axis_sliced a s m = seen (sliced_shape m.shape a s) (sliced_index m.shape a s) m
+with_axis_sliced a s m = meaning_through (sliced_shape m.shape a s) (sliced_index m.shape a s) m
 
 -- ---- the laws
 -- the order of the axes that leads back: at each axis, its place in the order
@@ -54,16 +54,16 @@ abbrev pub twice_sliced_from : ℕ → Slice → Slice → ℕ → ℕ
 twice_sliced_from n first second c = sliced_from n first (sliced_from (sliced_length n first) second c)
 
 abbrev pub SlicedTwice : Type 0 → Type 0
-SlicedTwice A = (m : Meaning A) (a : ℕ) (first second : Slice) → a < length m.shape → fits_axis (slice_index m.shape a) first ≡ true → fits_axis (sliced_length (slice_index m.shape a) first) second ≡ true → with_axis_sliced a second (with_axis_sliced a first m) ≡ seen (slice_set m.shape a (sliced_length (sliced_length (slice_index m.shape a) first) second)) (λ i. slice_set i a (twice_sliced_from (slice_index m.shape a) first second (slice_index i a))) m
+SlicedTwice A = (m : Meaning A) (a : ℕ) (first second : Slice) → a < length m.shape → fits_axis (slice_index m.shape a) first ≡ true → fits_axis (sliced_length (slice_index m.shape a) first) second ≡ true → with_axis_sliced a second (with_axis_sliced a first m) ≡ meaning_through (slice_set m.shape a (sliced_length (sliced_length (slice_index m.shape a) first) second)) (λ i. slice_set i a (twice_sliced_from (slice_index m.shape a) first second (slice_index i a))) m
 
 -- ---- paths: one layout step after another, each with its new shape and the old index that each new one names
 pub record PathStep : Type 0 where
   pub shape : List ℕ
   pub source : List ℕ → List ℕ
 
-abbrev pub along : {A : Type 0} → List PathStep → Meaning A → Meaning A
-along [] m = m
-along (p ∷ ps) m = along ps (seen p.shape p.source m)
+abbrev pub meaning_along : {A : Type 0} → List PathStep → Meaning A → Meaning A
+meaning_along [] m = m
+meaning_along (p ∷ ps) m = meaning_along ps (meaning_through p.shape p.source m)
 
 abbrev pub path_shape : List ℕ → List PathStep → List ℕ
 path_shape ns [] = ns
@@ -84,18 +84,18 @@ StaysInside ns (p ∷ ps) = LeadsInside p.shape p.source ns × StaysInside p.sha
 
 -- a path's map is the composition of its steps' maps
 abbrev pub PathIsOneMap : Type 0 → Type 0
-PathIsOneMap A = (m : Meaning A) (steps : List PathStep) → NothingOutside m → StaysInside m.shape steps → along steps m ≡ seen (path_shape m.shape steps) (path_source steps) m
+PathIsOneMap A = (m : Meaning A) (steps : List PathStep) → NothingOutside m → StaysInside m.shape steps → meaning_along steps m ≡ meaning_through (path_shape m.shape steps) (path_source steps) m
 
 -- ---- places
 
 -- the indexes of the box have a place, and no others
-abbrev pub HasPlaces : {A : Type 0} → Placed A → Type 0
-HasPlaces v = (i : List ℕ) → is_some (v.place i) ≡ in_box v.shape i
+abbrev pub IndexesHavePlaces : {A : Type 0} → PlacedArray A → Type 0
+IndexesHavePlaces v = (i : List ℕ) → is_some (v.place i) ≡ in_box v.shape i
 
 -- the element at an index is what is stored at its place
-abbrev pub ShowsStored : {A : Type 0} → (List ℕ → Option A) → Placed A → Type 0
+abbrev pub ShowsStored : {A : Type 0} → (List ℕ → Option A) → PlacedArray A → Type 0
 ShowsStored at v = (i : List ℕ) → at i ≡ element_placed v i
 
 -- no two indexes have one place
-abbrev pub DistinctPlaces : {A : Type 0} → Placed A → Type 0
+abbrev pub DistinctPlaces : {A : Type 0} → PlacedArray A → Type 0
 DistinctPlaces v = (i j : List ℕ) (p : ℕ) → v.place i ≡ Some p → v.place j ≡ Some p → i ≡ j

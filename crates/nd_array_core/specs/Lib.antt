@@ -1,5 +1,5 @@
 pub mod Places
-pub mod Placed
+pub mod PlacedArray
 pub mod Meaning
 pub mod Laws
 pub mod base

@@ -8,7 +8,7 @@ use Rattle.nd_shape_and_slice.specs.Place.{place_of}
 use Rattle.nd_array_core.specs.declared.base.storage.Data as data_trait
 use Rattle.nd_array_core.specs.declared.base.array.ArrayBase.{ArrayBase}
 use Rattle.nd_array_core.specs.Places.{stored_at, place_number}
-use Rattle.nd_array_core.specs.Placed.{Placed}
+use Rattle.nd_array_core.specs.PlacedArray.{PlacedArray}
 
 -- an element that is there only where the index lies in the shape's box
 abbrev pub inside : {A : Type 0} → List ℕ → List ℕ → Option A → Option A
@@ -20,8 +20,8 @@ pub record Meaning (A : Type 0) : Type 0 where
   pub at : List ℕ → Option A
 
 -- what is seen of an array under another shape, where each new index names an old one
-abbrev pub seen : {A : Type 0} → List ℕ → (List ℕ → List ℕ) → Meaning A → Meaning A
-seen shape source m = record { shape = shape; at = λ i. inside shape i (m.at (source i)) }
+abbrev pub meaning_through : {A : Type 0} → List ℕ → (List ℕ → List ℕ) → Meaning A → Meaning A
+meaning_through shape source m = record { shape = shape; at = λ i. inside shape i (m.at (source i)) }
 
 module _ {S D T A P R L M : Type 0} {s : data_trait.Ghosts S A} {d : dimension.Ghosts D P R L M} {n : axis_count.Ghosts D} {r : stride_list.Ghosts R} {t : stride_list.Ghosts T} where
   -- the length of each axis
@@ -30,7 +30,7 @@ module _ {S D T A P R L M : Type 0} {s : data_trait.Ghosts S A} {d : dimension.G
 
   -- the element at an index: nothing outside the shape's box
   unfoldable pub element_at : ArrayBase S D T A P R L M s d n r t → List ℕ → Option A
-  element_at a i = inside (d.lengths a.layout.dim) i (stored_at (s.stored a.storage) (place_of a.layout.first (t.strides_of a.layout.strides) i))
+  element_at a i = inside (d.lengths a.layout.dim) i (stored_at (s.stored a.storage) (place_of a.layout.offset (t.strides_of a.layout.strides) i))
 
   -- the stride of each axis: how the elements lie, which shape and elements don't tell
   unfoldable pub layout_strides : ArrayBase S D T A P R L M s d n r t → List ℤ
@@ -42,12 +42,12 @@ module _ {S D T A P R L M : Type 0} {s : data_trait.Ghosts S A} {d : dimension.G
 
   -- the place there of an index's element: nothing outside the shape's box
   unfoldable pub place_at : ArrayBase S D T A P R L M s d n r t → List ℕ → Option ℕ
-  place_at a i = inside (d.lengths a.layout.dim) i (place_number (place_of a.layout.first (t.strides_of a.layout.strides) i))
+  place_at a i = inside (d.lengths a.layout.dim) i (place_number (place_of a.layout.offset (t.strides_of a.layout.strides) i))
 
   -- shape and elements together
   abbrev pub meaning_of : ArrayBase S D T A P R L M s d n r t → Meaning A
   meaning_of a = record { shape = shape_of a; at = element_at a }
 
   -- shape, places and storage together
-  abbrev pub placed_of : ArrayBase S D T A P R L M s d n r t → Placed A
-  placed_of a = record { shape = shape_of a; place = place_at a; stored = s.stored (storage_of a) }
+  abbrev pub placed_array : ArrayBase S D T A P R L M s d n r t → PlacedArray A
+  placed_array a = record { shape = shape_of a; place = place_at a; stored = s.stored (storage_of a) }

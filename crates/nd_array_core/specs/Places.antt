@@ -19,7 +19,7 @@ names_place stored z = is_some (stored_at stored z)
 
 -- the storage holds something at the place of every index of the box
 abbrev pub HoldsAll : {A : Type 0} → (ℕ → Option A) → ℕ → List ℕ → List ℤ → Type 0
-HoldsAll stored first lengths strides = (i : List ℕ) → in_box lengths i ≡ true → names_place stored (place_of first strides i) ≡ true
+HoldsAll stored offset lengths strides = (i : List ℕ) → in_box lengths i ≡ true → names_place stored (place_of offset strides i) ≡ true
 
 -- a map once the element at a place is another
 abbrev pub written_at : {A : Type 0} → (ℕ → Option A) → ℕ → A → ℕ → Option A

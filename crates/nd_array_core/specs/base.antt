@@ -5,4 +5,4 @@ pub mod ElementMut
 pub mod ElementLent
 pub mod Lends
 pub mod RegionLent
-pub mod Refilled
+pub mod NewElements

@@ -1,4 +1,4 @@
-//! n-dimensional arrays and views: a storage, a first place, a shape and signed strides.
+//! n-dimensional arrays and views: a storage, an offset, a shape and signed strides.
 #![tactic(auto)]
 
 mod base;

@@ -3,11 +3,10 @@ ghost use Rattle.std.specs.Prelude.{◌≡◌, ◌<◌, ◌≤◌, ℕ, true, Li
 ghost use Rattle.nd_shape_and_slice.specs.Shape.{in_box};
 ghost use Rattle.nd_shape_and_slice.specs.Maps.{lower_shape, upper_shape, upper_index};
 ghost use Rattle.nd_array_core.specs.Meaning.{shape_of, element_at, inside};
-ghost use Rattle.nd_array_core.specs.Placed.{element_placed};
+ghost use Rattle.nd_array_core.specs.PlacedArray.{element_placed};
 ghost use Rattle.nd_array_core.specs.scoped.Tasks.{view_borrow, lent_borrow, lent_view, view_left, CanBeSeen};
 
-use nd_array_core::scoped::LentView;
-use nd_array_core::scoped::PairTask;
+use nd_array_core::scoped::{LentView, PairTask};
 use nd_array_core::{ArrayBase, DataMut, ViewMutRepr};
 use nd_shape_and_slice::{Axis, Dimension, NoMemory};
 

@@ -7,7 +7,7 @@ ghost use Rattle.nd_shape_and_slice.specs.SliceInfo.{fits_shape, shape_after, in
 ghost use Rattle.nd_shape_and_slice.specs.Maps.{lower_shape, upper_shape, upper_index, indexed_shape, indexed_index, diagonal_length, diagonal_index};
 ghost use Rattle.nd_array_core.specs.Meaning.{shape_of, element_at};
 ghost use Rattle.nd_array_core.specs.layout.MultiSlice.{TwoFit};
-ghost use Rattle.nd_array_core.specs.Placed.{element_placed};
+ghost use Rattle.nd_array_core.specs.PlacedArray.{element_placed};
 ghost use Rattle.nd_array_core.specs.scoped.Tasks.{view_borrow, lent_borrow, lent_view, view_left, CanBeSeen};
 ghost use Rattle.nd_array_core.specs.scoped.PartTasks.{sliced_part, axis_part, coordinate_part, diagonal_part, KeepsBut, KeepsButTwo};
 ghost use Rattle.nd_array_core.specs.base.Writes.{with_element_at};

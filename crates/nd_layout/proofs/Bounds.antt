@@ -5,7 +5,7 @@ use borrow.Author.Differences.{up, down, neg_is, at_most_in, abs_is}
 use Rattle.std.proofs.lemmas.Bool.{ltb-true, and_parts, false≢true}
 use Rattle.std.proofs.Math.Nat.{mul-le-mul_right}
 use Rattle.nd_shape_and_slice.specs.Shape.{in_box}
-use Rattle.nd_shape_and_slice.specs.Place.{offset_of, place_of, span_of}
+use Rattle.nd_shape_and_slice.specs.Place.{displacement_of, place_of, span_of}
 use Rattle.nd_layout.specs.Strides.{reach_up, reach_down}
 use Rattle.nd_layout.proofs.Integers.{sums}
 
@@ -20,8 +20,8 @@ span_of-reaches (n ∷ ns) (negsuc s ∷ ss) = omega (arith, span_of-reaches ns 
 part_up : (k n s : ℕ) → k < n → k * s ≤ (n - 1) * s
 part_up k n s h = mul-le-mul_right s (omega arith)
 
--- an offset lies between the two reaches, by its positive and its negative part
-pub offset_bounds : (ns : List ℕ) (ss : List ℤ) (i : List ℕ) → in_box ns i ≡ true → (up (offset_of ss i) ≤ down (offset_of ss i) + reach_up ns ss) × (down (offset_of ss i) ≤ up (offset_of ss i) + reach_down ns ss)
+-- a displacement lies between the two reaches, by its positive and its negative part
+pub offset_bounds : (ns : List ℕ) (ss : List ℤ) (i : List ℕ) → in_box ns i ≡ true → (up (displacement_of ss i) ≤ down (displacement_of ss i) + reach_up ns ss) × (down (displacement_of ss i) ≤ up (displacement_of ss i) + reach_down ns ss)
 offset_bounds [] [] i h = (omega arith, omega arith)
 offset_bounds [] (s ∷ ss) [] h = (omega arith, omega arith)
 offset_bounds [] (s ∷ ss) (k ∷ i) h = absurd (false≢true h)
@@ -39,22 +39,22 @@ offset_bounds (n ∷ ns) (negsuc s ∷ ss) (k ∷ i) h =
     (omega (arith, sums), omega (arith, sums))
 
 -- no index leads further up than the axes of positive stride do together
-pub offset-le-reach_up : (ns : List ℕ) (ss : List ℤ) (i : List ℕ) → in_box ns i ≡ true → offset_of ss i ≤ℤ pos (reach_up ns ss)
-offset-le-reach_up ns ss i h = at_most_in (offset_of ss i) (pos (reach_up ns ss)) (omega (arith, (offset_bounds ns ss i h).0))
+pub displacement-le-reach_up : (ns : List ℕ) (ss : List ℤ) (i : List ℕ) → in_box ns i ≡ true → displacement_of ss i ≤ℤ pos (reach_up ns ss)
+displacement-le-reach_up ns ss i h = at_most_in (displacement_of ss i) (pos (reach_up ns ss)) (omega (arith, (offset_bounds ns ss i h).0))
 
 -- nor further down than the axes of negative stride do together
-pub reach_down-le-offset : (ns : List ℕ) (ss : List ℤ) (i : List ℕ) → in_box ns i ≡ true → neg_ℤ (pos (reach_down ns ss)) ≤ℤ offset_of ss i
-reach_down-le-offset ns ss i h = at_most_in (neg_ℤ (pos (reach_down ns ss))) (offset_of ss i) (omega (arith, (offset_bounds ns ss i h).1, neg_is (pos (reach_down ns ss))))
+pub reach_down-le-displacement : (ns : List ℕ) (ss : List ℤ) (i : List ℕ) → in_box ns i ≡ true → neg_ℤ (pos (reach_down ns ss)) ≤ℤ displacement_of ss i
+reach_down-le-displacement ns ss i h = at_most_in (neg_ℤ (pos (reach_down ns ss))) (displacement_of ss i) (omega (arith, (offset_bounds ns ss i h).1, neg_is (pos (reach_down ns ss))))
 
 -- and never further than the span
-pub abs-offset-le-span : (ns : List ℕ) (ss : List ℤ) (i : List ℕ) → in_box ns i ≡ true → nat_abs (offset_of ss i) ≤ span_of ns ss
-abs-offset-le-span ns ss i h = omega (arith, offset_bounds ns ss i h, abs_is (offset_of ss i), span_of-reaches ns ss)
+pub abs-displacement-le-span : (ns : List ℕ) (ss : List ℤ) (i : List ℕ) → in_box ns i ≡ true → nat_abs (displacement_of ss i) ≤ span_of ns ss
+abs-displacement-le-span ns ss i h = omega (arith, offset_bounds ns ss i h, abs_is (displacement_of ss i), span_of-reaches ns ss)
 
 -- where the lowest place isn't below 0, each place is a number, and at most `reach_up` above the first
-pub place-in_box : (first : ℕ) (ns : List ℕ) (ss : List ℤ) (i : List ℕ) → in_box ns i ≡ true → reach_down ns ss ≤ first → (p : ℕ) × (place_of first ss i ≡ pos p) × (p ≤ first + reach_up ns ss)
-place-in_box first ns ss i h low =
+pub place-in_box : (offset : ℕ) (ns : List ℕ) (ss : List ℤ) (i : List ℕ) → in_box ns i ≡ true → reach_down ns ss ≤ offset → (p : ℕ) × (place_of offset ss i ≡ pos p) × (p ≤ offset + reach_up ns ss)
+place-in_box offset ns ss i h low =
     let b = offset_bounds ns ss i h in
-    natural (offset_of ss i) b.0 b.1
+    natural (displacement_of ss i) b.0 b.1
   where
-    natural : (z : ℤ) → up z ≤ down z + reach_up ns ss → down z ≤ up z + reach_down ns ss → (p : ℕ) × (pos first +ℤ z ≡ pos p) × (p ≤ first + reach_up ns ss)
-    natural z top bottom = (first + up z - down z, omega (arith, sums), omega arith)
+    natural : (z : ℤ) → up z ≤ down z + reach_up ns ss → down z ≤ up z + reach_down ns ss → (p : ℕ) × (pos offset +ℤ z ≡ pos p) × (p ≤ offset + reach_up ns ss)
+    natural z top bottom = (offset + up z - down z, omega (arith, sums), omega arith)

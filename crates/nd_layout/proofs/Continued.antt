@@ -6,7 +6,7 @@ use Rattle.std.specs.Int.RustNames.{int_lt}
 use Rattle.std.proofs.lemmas.Bool.{cases_lt, false_from_ne_true, false≢true, true≢false}
 use Rattle.std.proofs.lemmas.List.{set-get_or}
 use Rattle.nd_shape_and_slice.specs.Shape.{in_box, size_of}
-use Rattle.nd_shape_and_slice.specs.Place.{offset_of, span_of, IsSeparated}
+use Rattle.nd_shape_and_slice.specs.Place.{displacement_of, span_of, IsSeparated}
 use Rattle.nd_layout.specs.Growth.{IsContinued}
 use Rattle.nd_layout.specs.Strides.{reach_down}
 use Rattle.nd_layout.proofs.Integers.{sums}
@@ -34,7 +34,7 @@ pub not_negative : (s : ℤ) → int_lt s (pos 0) ≡ false → (t : ℕ) × (s 
 not_negative (pos t) h = (t, refl)
 not_negative (negsuc t) h = absurd (true≢false h)
 
--- an offset above the lowest, as a place
+-- a displacement above the lowest, as a place
 placed : (d k : ℕ) (z : ℤ) → z ≡ neg_ℤ (pos d) +ℤ pos k → pos d +ℤ z ≡ pos k
 placed d k z e = omega (arith, sums, neg_is (pos d))
 
@@ -42,17 +42,17 @@ same_number : (d k q : ℕ) (z : ℤ) → z ≡ neg_ℤ (pos d) +ℤ pos k → z
 same_number d k q z e f = omega (arith, sums, neg_is (pos d))
 
 -- a full layout that keeps the old places and its lowest one goes on where the old one ends
-pub continued : (ns : List ℕ) (ss : List ℤ) (ms : List ℕ) (ts : List ℤ) → length ss ≡ length ns → length ts ≡ length ms → IsSeparated ns ss → span_of ns ss + 1 ≡ size_of ns → IsSeparated ms ts → span_of ms ts + 1 ≡ size_of ms → reach_down ms ts ≡ reach_down ns ss → ((i : List ℕ) → in_box ns i ≡ true → in_box ms i ≡ true) → ((i : List ℕ) → in_box ns i ≡ true → offset_of ts i ≡ offset_of ss i) → IsContinued ns ss ms ts
+pub continued : (ns : List ℕ) (ss : List ℤ) (ms : List ℕ) (ts : List ℤ) → length ss ≡ length ns → length ts ≡ length ms → IsSeparated ns ss → span_of ns ss + 1 ≡ size_of ns → IsSeparated ms ts → span_of ms ts + 1 ≡ size_of ms → reach_down ms ts ≡ reach_down ns ss → ((i : List ℕ) → in_box ns i ≡ true → in_box ms i ≡ true) → ((i : List ℕ) → in_box ns i ≡ true → displacement_of ts i ≡ displacement_of ss i) → IsContinued ns ss ms ts
 continued ns ss ms ts e e' apart full apart' full' low longer kept =
     let d = reach_down ns ss in
-    let offset : (i : List ℕ) → in_box ms i ≡ true → offset_of ts i ≡ neg_ℤ (pos d) +ℤ pos (above_low ms ts (offset_of ts i)) =
-    λ i inside. above_low-is ms ts i inside ∙ ap (λ x. neg_ℤ (pos x) +ℤ pos (above_low ms ts (offset_of ts i))) low in
+    let offset : (i : List ℕ) → in_box ms i ≡ true → displacement_of ts i ≡ neg_ℤ (pos d) +ℤ pos (above_low ms ts (displacement_of ts i)) =
+    λ i inside. above_low-is ms ts i inside ∙ ap (λ x. neg_ℤ (pos x) +ℤ pos (above_low ms ts (displacement_of ts i))) low in
     record {
       before = λ i inside.
-          let k = above_low ns ss (offset_of ss i) in
-          (k, above_low-lt ns ss i full inside, placed d k (offset_of ts i) (kept i inside ∙ above_low-is ns ss i inside));
+          let k = above_low ns ss (displacement_of ss i) in
+          (k, above_low-lt ns ss i full inside, placed d k (displacement_of ts i) (kept i inside ∙ above_low-is ns ss i inside));
       beyond = λ i inside outside.
-          let k = above_low ms ts (offset_of ts i) in
+          let k = above_low ms ts (displacement_of ts i) in
           let few = above_low-lt ms ts i full' inside in
           let past : size_of ns ≤ k =
           ⊎_elim
@@ -63,16 +63,16 @@ continued ns ss ms ts e e' apart full apart' full' low longer kept =
           absurd (false≢true (sym outside ∙ ap (in_box ns) same ∙ w.1)))
           (λ (most : size_of ns ≤ k). most)
           (cases_lt k (size_of ns)) in
-          (k, past, few, placed d k (offset_of ts i) (offset i inside));
+          (k, past, few, placed d k (displacement_of ts i) (offset i inside));
       each = λ k past few.
           let w = each_above_low ms ts e' apart' full' k few in
-          let at : offset_of ts w.0 ≡ neg_ℤ (pos d) +ℤ pos k = w.2 ∙ ap (λ x. neg_ℤ (pos x) +ℤ pos k) low in
+          let at : displacement_of ts w.0 ≡ neg_ℤ (pos d) +ℤ pos k = w.2 ∙ ap (λ x. neg_ℤ (pos x) +ℤ pos k) low in
           let outside : in_box ns w.0 ≡ false =
           false_from_ne_true (in_box ns w.0)
           (λ inside.
-          let q = above_low ns ss (offset_of ss w.0) in
+          let q = above_low ns ss (displacement_of ss w.0) in
           let less = above_low-lt ns ss w.0 full inside in
-          let same = same_number d k q (offset_of ts w.0) at (kept w.0 inside ∙ above_low-is ns ss w.0 inside) in
+          let same = same_number d k q (displacement_of ts w.0) at (kept w.0 inside ∙ above_low-is ns ss w.0 inside) in
           omega arith) in
-          (w.0, w.1, outside, placed d k (offset_of ts w.0) at);
+          (w.0, w.1, outside, placed d k (displacement_of ts w.0) at);
     }

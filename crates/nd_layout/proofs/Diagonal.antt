@@ -5,7 +5,7 @@ use Rattle.std.proofs.Math.Nat.{mul-le-mul_left, mul-le-mul_right}
 use Rattle.std.proofs.lemmas.Bool.{cases_lt, le-leb}
 use Rattle.std.proofs.lemmas.List.{length-replicate, get_or-replicate}
 use Rattle.nd_shape_and_slice.specs.Shape.{in_box}
-use Rattle.nd_shape_and_slice.specs.Place.{offset_of, span_of, IsSeparated}
+use Rattle.nd_shape_and_slice.specs.Place.{displacement_of, span_of, IsSeparated}
 use Rattle.nd_layout.specs.Strides.{sum_of}
 use Rattle.nd_layout.proofs.Integers.{sums, mul-sum}
 use Rattle.nd_shape_and_slice.proofs.Boxes.{in_box-from_coordinates}
@@ -16,10 +16,10 @@ use Rattle.nd_layout.proofs.Distinct.{same_index}
 zero_of : (k : ℕ) → pos k *ℤ pos 0 ≡ pos 0
 zero_of k = let e : k * 0 ≡ 0 = omega arith in ap pos e
 
--- the offset of the index with k at each axis
-pub offset_of-diagonal : (ss : List ℤ) (k : ℕ) → offset_of ss (replicate (length ss) k) ≡ pos k *ℤ sum_of ss
-offset_of-diagonal [] k = sym (zero_of k)
-offset_of-diagonal (s ∷ ss) k = ap (λ v. (pos k *ℤ s) +ℤ v) (offset_of-diagonal ss k) ∙ sym (mul-sum k s (sum_of ss))
+-- the displacement of the index with k at each axis
+pub displacement_of-diagonal : (ss : List ℤ) (k : ℕ) → displacement_of ss (replicate (length ss) k) ≡ pos k *ℤ sum_of ss
+displacement_of-diagonal [] k = sym (zero_of k)
+displacement_of-diagonal (s ∷ ss) k = ap (λ v. (pos k *ℤ s) +ℤ v) (displacement_of-diagonal ss k) ∙ sym (mul-sum k s (sum_of ss))
 
 -- that index is in the box where each length is above k
 pub in_box-diagonal : (ns : List ℕ) (k : ℕ) → ((a : ℕ) → a < length ns → k < get_or ns a 0) → in_box ns (replicate (length ns) k) ≡ true
@@ -56,8 +56,8 @@ diagonal-moves ns ss e some long apart =
     (λ (h : 0 < nat_abs (sum_of ss)). h)
     (λ (none : nat_abs (sum_of ss) ≤ 0).
     let z : sum_of ss ≡ pos 0 = omega (arith, sums, abs_is (sum_of ss)) in
-    let off : (k : ℕ) → offset_of ss (replicate (length ns) k) ≡ pos 0 =
-    λ k. ap (λ n. offset_of ss (replicate n k)) (sym e) ∙ offset_of-diagonal ss k ∙ ap (λ v. pos k *ℤ v) z ∙ zero_of k in
+    let off : (k : ℕ) → displacement_of ss (replicate (length ns) k) ≡ pos 0 =
+    λ k. ap (λ n. displacement_of ss (replicate n k)) (sym e) ∙ displacement_of-diagonal ss k ∙ ap (λ v. pos k *ℤ v) z ∙ zero_of k in
     let one = in_box-diagonal ns 1 long in
     let nought = in_box-diagonal ns 0 (λ a h. let b = long a h in omega arith) in
     let same = same_index ns ss (replicate (length ns) 1) (replicate (length ns) 0) e apart one nought (off 1 ∙ sym (off 0)) in

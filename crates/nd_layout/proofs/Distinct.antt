@@ -5,9 +5,9 @@ use Rattle.std.proofs.Math.Nat.{mul-le-mul_right}
 use Rattle.std.proofs.lemmas.Bool.{cases_lt, cases_order, false≢true, ltb-true, lt-ltb, and_parts, and_from}
 use Rattle.std.proofs.lemmas.List.{get_or-set_other, get_or_past, ext_get_or}
 use Rattle.nd_shape_and_slice.specs.Shape.{in_box}
-use Rattle.nd_shape_and_slice.specs.Place.{offset_of, span_within, magnitude_at, IsSeparated}
+use Rattle.nd_shape_and_slice.specs.Place.{displacement_of, span_within, magnitude_at, IsSeparated}
 use Rattle.nd_layout.proofs.Integers.{sums}
-use Rattle.nd_layout.proofs.Offsets.{offset_of-at}
+use Rattle.nd_layout.proofs.Offsets.{displacement_of-at}
 use Rattle.nd_layout.proofs.AxisChange.{counted_cases, others_below}
 use Rattle.nd_shape_and_slice.proofs.RowMajor.{length-in_box}
 use Rattle.nd_shape_and_slice.proofs.Boxes.{coordinate_below}
@@ -36,7 +36,7 @@ part_apart x y n (negsuc s) p q =
     within x n p = omega arith
 
 -- two indexes that agree at each axis of magnitude above g lie no further apart than the other axes reach
-apart_bound : (g : ℕ) (ns : List ℕ) (ss : List ℤ) (i j : List ℕ) → in_box ns i ≡ true → in_box ns j ≡ true → ((k : ℕ) → g < magnitude_at ss k → get_or i k 0 ≡ get_or j k 0) → up (offset_of ss i) + down (offset_of ss j) ≤ up (offset_of ss j) + down (offset_of ss i) + span_within g ns ss
+apart_bound : (g : ℕ) (ns : List ℕ) (ss : List ℤ) (i j : List ℕ) → in_box ns i ≡ true → in_box ns j ≡ true → ((k : ℕ) → g < magnitude_at ss k → get_or i k 0 ≡ get_or j k 0) → up (displacement_of ss i) + down (displacement_of ss j) ≤ up (displacement_of ss j) + down (displacement_of ss i) + span_within g ns ss
 apart_bound g [] [] i j h q agree = omega arith
 apart_bound g [] (s ∷ ss) [] [] h q agree = omega arith
 apart_bound g [] (s ∷ ss) (x ∷ i) j h q agree = absurd (false≢true h)
@@ -71,8 +71,8 @@ same_by_steps x y s a b w e p q less =
     other)
     (cases_order x y)
 
--- indexes of equal offset that agree at each axis of greater magnitude agree at axis k
-same_at : (ns : List ℕ) (ss : List ℤ) (i j : List ℕ) → length ss ≡ length ns → IsSeparated ns ss → in_box ns i ≡ true → in_box ns j ≡ true → offset_of ss i ≡ offset_of ss j → (k : ℕ) → k < length ns → ((l : ℕ) → magnitude_at ss k < magnitude_at ss l → get_or i l 0 ≡ get_or j l 0) → get_or i k 0 ≡ get_or j k 0
+-- indexes of equal displacement that agree at each axis of greater magnitude agree at axis k
+same_at : (ns : List ℕ) (ss : List ℤ) (i j : List ℕ) → length ss ≡ length ns → IsSeparated ns ss → in_box ns i ≡ true → in_box ns j ≡ true → displacement_of ss i ≡ displacement_of ss j → (k : ℕ) → k < length ns → ((l : ℕ) → magnitude_at ss k < magnitude_at ss l → get_or i l 0 ≡ get_or j l 0) → get_or i k 0 ≡ get_or j k 0
 same_at ns ss i j e apart h q same k within agree =
     ⊎_elim
     (λ (long : 1 < get_or ns k 0).
@@ -85,9 +85,9 @@ same_at ns ss i j e apart h q same k within agree =
     λ l more. get_or-set_other i k l 0 0 (other l more) ∙ agree l more ∙ sym (get_or-set_other j k l 0 0 (other l more)) in
     let p = apart_bound g (set ns k 1) ss (set i k 0) (set j k 0) h' q' agree' in
     let r = apart_bound g (set ns k 1) ss (set j k 0) (set i k 0) q' h' (λ l more. sym (agree' l more)) in
-    let at_i = offset_of-at ss i k (length-in_box ns i h ∙ sym e) (omega arith) in
-    let at_j = offset_of-at ss j k (length-in_box ns j q ∙ sym e) (omega arith) in
-    same_by_steps (get_or i k 0) (get_or j k 0) (get_or ss k (pos 0)) (offset_of ss (set i k 0)) (offset_of ss (set j k 0)) (span_within g (set ns k 1) ss) (sym at_i ∙ same ∙ at_j) p r below)
+    let at_i = displacement_of-at ss i k (length-in_box ns i h ∙ sym e) (omega arith) in
+    let at_j = displacement_of-at ss j k (length-in_box ns j q ∙ sym e) (omega arith) in
+    same_by_steps (get_or i k 0) (get_or j k 0) (get_or ss k (pos 0)) (displacement_of ss (set i k 0)) (displacement_of ss (set j k 0)) (span_within g (set ns k 1) ss) (sym at_i ∙ same ∙ at_j) p r below)
     (λ (short : get_or ns k 0 ≤ 1). omega (arith, coordinate_below ns i k h within, coordinate_below ns j k q within))
     (cases_lt 1 (get_or ns k 0))
 
@@ -102,7 +102,7 @@ magnitude-le (s ∷ ss) zero = omega arith
 magnitude-le (s ∷ ss) (suc k) = omega (arith, magnitude-le ss k)
 
 -- so they agree at each axis of magnitude above g, from the greatest magnitudes down
-same_above : (ns : List ℕ) (ss : List ℤ) (i j : List ℕ) → length ss ≡ length ns → IsSeparated ns ss → in_box ns i ≡ true → in_box ns j ≡ true → offset_of ss i ≡ offset_of ss j → (d g : ℕ) → all_magnitudes ss ≤ g + d → (k : ℕ) → g < magnitude_at ss k → get_or i k 0 ≡ get_or j k 0
+same_above : (ns : List ℕ) (ss : List ℤ) (i j : List ℕ) → length ss ≡ length ns → IsSeparated ns ss → in_box ns i ≡ true → in_box ns j ≡ true → displacement_of ss i ≡ displacement_of ss j → (d g : ℕ) → all_magnitudes ss ≤ g + d → (k : ℕ) → g < magnitude_at ss k → get_or i k 0 ≡ get_or j k 0
 same_above ns ss i j e apart h q same zero g all k more = absurd (omega (arith, magnitude-le ss k))
 same_above ns ss i j e apart h q same (suc d) g all k more =
     ⊎_elim
@@ -110,8 +110,8 @@ same_above ns ss i j e apart h q same (suc d) g all k more =
     (λ (past : length ns ≤ k). get_or_past i k 0 (omega (arith, length-in_box ns i h)) ∙ sym (get_or_past j k 0 (omega (arith, length-in_box ns j q))))
     (cases_lt k (length ns))
 
--- two indexes of the box with one offset are one index
-pub same_index : (ns : List ℕ) (ss : List ℤ) (i j : List ℕ) → length ss ≡ length ns → IsSeparated ns ss → in_box ns i ≡ true → in_box ns j ≡ true → offset_of ss i ≡ offset_of ss j → i ≡ j
+-- two indexes of the box with one displacement are one index
+pub same_index : (ns : List ℕ) (ss : List ℤ) (i j : List ℕ) → length ss ≡ length ns → IsSeparated ns ss → in_box ns i ≡ true → in_box ns j ≡ true → displacement_of ss i ≡ displacement_of ss j → i ≡ j
 same_index ns ss i j e apart h q same =
     ext_get_or 0 i j (length-in_box ns i h ∙ sym (length-in_box ns j q))
     (λ k within. same_at ns ss i j e apart h q same k (omega (arith, length-in_box ns i h))

@@ -4,7 +4,7 @@ use Rattle.std.proofs.Math.Nat.{mul-le-mul_right, mul-le-mul_left, le_of_mul-le-
 use Rattle.std.proofs.lemmas.Bool.{cases_lt, cases_eq, lt-ltb, le-ltb, le-leb}
 use Rattle.std.proofs.lemmas.List.{length-set, set-set, set_comm, get_or-set_same, get_or-set_other}
 use Rattle.nd_shape_and_slice.specs.Shape.{size_of, column_rank}
-use Rattle.nd_shape_and_slice.specs.Place.{offset_of, span_of, span_within, magnitude_at, IsSeparated}
+use Rattle.nd_shape_and_slice.specs.Place.{displacement_of, span_of, span_within, magnitude_at, IsSeparated}
 use Rattle.nd_shape_and_slice.proofs.RowMajor.{span_within-le}
 use Rattle.nd_layout.specs.Growth.{greatest_end, greatest_step}
 use Rattle.nd_layout.proofs.Reaches.{mul-pred}
@@ -54,7 +54,7 @@ pub size-le-span : (ns : List ℕ) (ss : List ℤ) → length ss ≡ length ns �
 size-le-span ns ss e apart =
     ⊎_elim
     (λ (more : span_of ns ss + 1 < size_of ns).
-    let f : ℕ → ℕ = λ r. above_low ns ss (offset_of ss (column_index ns r)) in
+    let f : ℕ → ℕ = λ r. above_low ns ss (displacement_of ss (column_index ns r)) in
     let below : (r : ℕ) → r < size_of ns → f r < size_of ns = λ r h. let l = above_low-le ns ss (column_index ns r) (in_box-column_index ns r h) in omega arith in
     let once : (r q : ℕ) → r < size_of ns → q < size_of ns → f r ≡ f q → r ≡ q =
     λ r q h k same.

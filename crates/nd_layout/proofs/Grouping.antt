@@ -5,7 +5,7 @@ use Rattle.std.proofs.lemmas.List.{drop_more, length-drop}
 use Rattle.nd_shape_and_slice.specs.Shape.{size_of}
 use Rattle.nd_layout.specs.declared.reshape.Group.{Group}
 use Rattle.nd_layout.specs.Ranks.{at_rank, ServesRanks, Regroups}
-use Rattle.nd_layout.specs.Groups.{IsClosed, Takes}
+use Rattle.nd_layout.specs.Groups.{IsClosed, TakesLength}
 use Rattle.nd_layout.proofs.Serving.{none_serves}
 use Rattle.nd_layout.proofs.Integers.{one-mul, mul-mul}
 use Rattle.nd_layout.proofs.Ranks.{at_rank-below}
@@ -41,7 +41,7 @@ grouped_size os ps ns ss next len step h some g =
     let size = rw (drop_more ns next 0 h) at g.size in
     group_product len (get_or ns next 0) (size_of (drop (next + 1) ns)) (size_of os) size some
 
--- the offset at rank 1 is the next axis's stride, where that axis is longer than 1
+-- the displacement at rank 1 is the next axis's stride, where that axis is longer than 1
 pub at_rank-next : (ns : List ℕ) (ss : List ℤ) (next : ℕ) → length ss ≡ length ns → next < length ns → 1 < get_or ns next 0 → at_rank (drop next ns) (drop next ss) 1 ≡ get_or ss next (pos 0)
 at_rank-next ns ss next e h long =
     let h' : next < length ss = omega arith in
@@ -60,7 +60,7 @@ pub taken : (ns : List ℕ) (ss : List ℤ) (g full : Group) (len : ℕ) (r : Op
     → IsClosed full ns ss → (1 < size_of (drop full.next ns) → 1 < full.length)
     → MatchOption r (0 < full.length % len) (λ w. (w.0 ≡ full.step) × (full.length ≡ len * w.1.length) × (1 < w.1.length → w.1.step ≡ pos len *ℤ full.step) × (w.1.next ≡ full.next))
     → full.next ≤ length ns
-    → MatchOption r ((ms : List ℕ) (ts : List ℤ) → len * size_of ms ≡ g.length * size_of (drop g.next ns) → ServesRanks (g.length ∷ drop g.next ns) (g.step ∷ drop g.next ss) (len ∷ ms) ts → ⊥) (λ w. Takes ns ss g len w.0 w.1 × (w.1.next ≤ length ns) × IsClosed w.1 ns ss)
+    → MatchOption r ((ms : List ℕ) (ts : List ℤ) → len * size_of ms ≡ g.length * size_of (drop g.next ns) → ServesRanks (g.length ∷ drop g.next ns) (g.step ∷ drop g.next ss) (len ∷ ms) ts → ⊥) (λ w. TakesLength ns ss g len w.0 w.1 × (w.1.next ≤ length ns) × IsClosed w.1 ns ss)
 taken ns ss g full len None e long some grouped closed wide odd on =
     λ ms ts sizes serves.
     let c = mul_comm len (g.length * size_of (drop g.next ns)) in

@@ -10,7 +10,7 @@ use Rattle.nd_shape_and_slice.specs.Place.{span_of}
 use Rattle.nd_shape_and_slice.specs.Strides.{row_strides, column_strides_from}
 use Rattle.nd_shape_and_slice.specs.declared.builder.Order.TheVariants.{RowMajor, ColumnMajor}
 use Rattle.nd_shape_and_slice.proofs.Sizes.{length_within}
-use Rattle.nd_layout.specs.Ranks.{ordered}
+use Rattle.nd_layout.specs.Ranks.{fastest_first}
 use Rattle.nd_layout.specs.Growth.{growing_strides, greatest_end}
 use Rattle.nd_layout.proofs.Sizes.{size_of-set, nonzero_product-set, size-le-product}
 use Rattle.nd_layout.proofs.Removed.{le-product}
@@ -89,7 +89,7 @@ growing_strides-set a m ns h =
     ∙ sym (growing_strides-is a ns h)
 
 -- what was written from the fastest axis on, in the order for growth
-pub written_cases : (b : Bool) (os : List ℕ) (ts : List ℤ) → ordered (cond b ColumnMajor RowMajor) ts ≡ column_strides_from 1 (ordered (cond b ColumnMajor RowMajor) os) → ts ≡ cond b (column_strides_from 1 os) (row_strides os)
+pub written_cases : (b : Bool) (os : List ℕ) (ts : List ℤ) → fastest_first (cond b ColumnMajor RowMajor) ts ≡ column_strides_from 1 (fastest_first (cond b ColumnMajor RowMajor) os) → ts ≡ cond b (column_strides_from 1 os) (row_strides os)
 written_cases true os ts e = e
 written_cases false os ts e = sym (reverse-reverse ts) ∙ ap reverse (e ∙ sym (reverse-row_strides os)) ∙ reverse-reverse (row_strides os)
 

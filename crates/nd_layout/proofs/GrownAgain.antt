@@ -8,7 +8,7 @@ use Rattle.nd_shape_and_slice.specs.Shape.{size_of}
 use Rattle.nd_shape_and_slice.specs.Place.{magnitude_at}
 use Rattle.nd_shape_and_slice.specs.Strides.{row_strides, column_strides_from}
 use Rattle.nd_layout.specs.Ranks.{IsRun}
-use Rattle.nd_layout.specs.Growth.{IsContinued, growing_strides, greatest_end, greatest_step, grown, growth_case, must_move, strides_in_case}
+use Rattle.nd_layout.specs.Growth.{IsContinued, growing_strides, greatest_end, greatest_step, grown_shape, growth_case, must_move, strides_in_case}
 use Rattle.nd_layout.specs.Strides.{reach_down}
 use Rattle.nd_layout.proofs.AxisChange.{on_axis}
 use Rattle.nd_layout.proofs.Growing.{growing_strides-is, growing_strides-set, reach-le-span}
@@ -59,7 +59,7 @@ case_sign : (ns : List ℕ) (ss : List ℤ) (full : Bool) (a added row : ℕ) �
 case_sign ns ss full a added row is high long =
     let s = get_or ss a (pos 0) in
     let far = ltb (nat_abs s) (greatest_step (set ns a 1) ss) in
-    let w = case_last (eqb (size_of (grown ns a added)) 0) (eqb added 0) (eqb (size_of ns) 0) (not full || must_move ns ss a) (leb (get_or ns a 0) 1) row is high in
+    let w = case_last (eqb (size_of (grown_shape ns a added)) 0) (eqb added 0) (eqb (size_of ns) 0) (not full || must_move ns ss a) (leb (get_or ns a 0) 1) row is high in
     let still = (or_parts (not full) (must_move ns ss a) w.0).1 in
     ⊎_elim
     (λ (short : ltb 1 (get_or ns a 0) ≡ false). absurd (true≢false (sym (lt-ltb 1 (get_or ns a 0) long) ∙ short)))
@@ -67,7 +67,7 @@ case_sign ns ss full a added row is high long =
     (and_cases (ltb 1 (get_or ns a 0)) (int_lt s (pos 0) || far) still)
 
 -- in each case that adds elements
-pub grown_ready : (ns : List ℕ) (ss : List ℤ) (full : Bool) (a added row : ℕ) → length ss ≡ length ns → a < length ns → growth_case ns ss full a added ≡ row → 2 < row → must_move (grown ns a added) (strides_in_case row ns ss a added) a ≡ false
+pub grown_ready : (ns : List ℕ) (ss : List ℤ) (full : Bool) (a added row : ℕ) → length ss ≡ length ns → a < length ns → growth_case ns ss full a added ≡ row → 2 < row → must_move (grown_shape ns a added) (strides_in_case row ns ss a added) a ≡ false
 grown_ready ns ss full a added row e h is high =
     let m = get_or ns a 0 + added in
     let others = others_some ns ss full a added row h is high in
@@ -102,7 +102,7 @@ last_low ns ss a m t e h is =
     ∙ ap (reach_down (set ns a (get_or ns a 0))) kept
     ∙ ap (λ x. reach_down x ss) old
 
-grown_low : (ns : List ℕ) (ss : List ℤ) (full : Bool) (a added row : ℕ) → length ss ≡ length ns → a < length ns → growth_case ns ss full a added ≡ row → 4 < row → 0 < size_of ns → reach_down (grown ns a added) (strides_in_case row ns ss a added) ≡ reach_down ns ss
+grown_low : (ns : List ℕ) (ss : List ℤ) (full : Bool) (a added row : ℕ) → length ss ≡ length ns → a < length ns → growth_case ns ss full a added ≡ row → 4 < row → 0 < size_of ns → reach_down (grown_shape ns a added) (strides_in_case row ns ss a added) ≡ reach_down ns ss
 grown_low ns ss full a added row e h is high some =
     let m = get_or ns a 0 + added in
     let Goal : ℕ → Type 0 = λ r. reach_down (set ns a m) (strides_in_case r ns ss a added) ≡ reach_down ns ss in
@@ -122,7 +122,7 @@ length-in_case ns ss full a added row e is high =
     (last_cases ns ss full a added row is high)
 
 -- so they are at the places from the old number of elements on
-pub grown_continued : (ns : List ℕ) (ss : List ℤ) (full : Bool) (a added row : ℕ) → length ss ≡ length ns → a < length ns → growth_case ns ss full a added ≡ row → 4 < row → (full ≡ true → (size_of ns ≡ 0) ⊎ IsRun ns ss) → IsContinued ns ss (grown ns a added) (strides_in_case row ns ss a added)
+pub grown_continued : (ns : List ℕ) (ss : List ℤ) (full : Bool) (a added row : ℕ) → length ss ≡ length ns → a < length ns → growth_case ns ss full a added ≡ row → 4 < row → (full ≡ true → (size_of ns ≡ 0) ⊎ IsRun ns ss) → IsContinued ns ss (grown_shape ns a added) (strides_in_case row ns ss a added)
 grown_continued ns ss full a added row e h is high run =
     let m = get_or ns a 0 + added in
     let ts = strides_in_case row ns ss a added in

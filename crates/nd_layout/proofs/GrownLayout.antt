@@ -6,14 +6,14 @@ use Rattle.std.specs.List.{remove}
 use Rattle.std.proofs.lemmas.Bool.{cases_lt, cases_eq, eqb-false, ltb-false, leb-true, leb-false, lt-ltb, and_cases, or_parts, true≢false}
 use Rattle.std.proofs.lemmas.List.{length-set, set-get_or}
 use Rattle.nd_shape_and_slice.specs.Shape.{in_box, size_of}
-use Rattle.nd_shape_and_slice.specs.Place.{offset_of, span_of, magnitude_at, IsSeparated}
+use Rattle.nd_shape_and_slice.specs.Place.{displacement_of, span_of, magnitude_at, IsSeparated}
 use Rattle.nd_shape_and_slice.specs.Strides.{row_strides, column_strides_from}
 use Rattle.nd_shape_and_slice.proofs.RowMajor.{length-in_box, length-row_strides, span_of-row_strides, IsSeparated-row_strides}
 use Rattle.nd_shape_and_slice.proofs.ColumnMajor.{length-column_strides_from, span_of-column_strides, IsSeparated-column_strides}
 use Rattle.nd_layout.specs.Ranks.{IsRun}
-use Rattle.nd_layout.specs.Growth.{growing_strides, greatest_end, greatest_step, grown, growth_case, must_move, strides_in_case}
+use Rattle.nd_layout.specs.Growth.{growing_strides, greatest_end, greatest_step, grown_shape, growth_case, must_move, strides_in_case}
 use Rattle.nd_layout.proofs.Integers.{zero-mul}
-use Rattle.nd_layout.proofs.Offsets.{offset_of-set}
+use Rattle.nd_layout.proofs.Offsets.{displacement_of-set}
 use Rattle.nd_shape_and_slice.proofs.Boxes.{coordinate_below}
 use Rattle.nd_layout.proofs.Removed.{size_of-removed}
 use Rattle.nd_layout.proofs.RunTest.{run_span, run_strides}
@@ -85,7 +85,7 @@ stays ns ss a still long =
 -- which of the two last cases it is, and what that tells
 pub last_cases : (ns : List ℕ) (ss : List ℤ) (full : Bool) (a added row : ℕ) → growth_case ns ss full a added ≡ row → 4 < row → ((row ≡ 5) × (get_or ns a 0 ≤ 1)) ⊎ ((row ≡ 6) × (1 < get_or ns a 0) × (greatest_step (set ns a 1) ss ≤ magnitude_at ss a))
 last_cases ns ss full a added row is high =
-    let w = case_last (eqb (size_of (grown ns a added)) 0) (eqb added 0) (eqb (size_of ns) 0) (not full || must_move ns ss a) (leb (get_or ns a 0) 1) row is high in
+    let w = case_last (eqb (size_of (grown_shape ns a added)) 0) (eqb added 0) (eqb (size_of ns) 0) (not full || must_move ns ss a) (leb (get_or ns a 0) 1) row is high in
     let still = (or_parts (not full) (must_move ns ss a) w.0).1 in
     ⊎_elim
     (λ (five : (row ≡ 5) × (leb (get_or ns a 0) 1 ≡ true)). inl (five.0, leb-true (get_or ns a 0) 1 five.1))
@@ -94,7 +94,7 @@ last_cases ns ss full a added row is high =
 
 pub added_some : (ns : List ℕ) (ss : List ℤ) (full : Bool) (a added row : ℕ) → growth_case ns ss full a added ≡ row → 2 < row → 0 < get_or ns a 0 + added
 added_some ns ss full a added row is high =
-    let b = case_added (eqb (size_of (grown ns a added)) 0) (eqb added 0) (eqb (size_of ns) 0) (not full || must_move ns ss a) (leb (get_or ns a 0) 1) row is high in
+    let b = case_added (eqb (size_of (grown_shape ns a added)) 0) (eqb added 0) (eqb (size_of ns) 0) (not full || must_move ns ss a) (leb (get_or ns a 0) 1) row is high in
     let some = eqb-false added 0 b in
     ⊎_elim (λ (z : added ≡ 0). absurd (some z)) (λ (o : added ≡ 0 → ⊥). omega arith) (cases_eq added 0)
 
@@ -113,7 +113,7 @@ axis_some ns a h some short =
     (cases_eq (get_or ns a 0) 0)
 
 -- in each case that adds elements the result is separated, and its span is one less than its size
-pub grown_full : (ns : List ℕ) (ss : List ℤ) (full : Bool) (a added row : ℕ) → length ss ≡ length ns → a < length ns → growth_case ns ss full a added ≡ row → 2 < row → (full ≡ true → (size_of ns ≡ 0) ⊎ IsRun ns ss) → IsSeparated (grown ns a added) (strides_in_case row ns ss a added) × (span_of (grown ns a added) (strides_in_case row ns ss a added) + 1 ≡ size_of (grown ns a added))
+pub grown_full : (ns : List ℕ) (ss : List ℤ) (full : Bool) (a added row : ℕ) → length ss ≡ length ns → a < length ns → growth_case ns ss full a added ≡ row → 2 < row → (full ≡ true → (size_of ns ≡ 0) ⊎ IsRun ns ss) → IsSeparated (grown_shape ns a added) (strides_in_case row ns ss a added) × (span_of (grown_shape ns a added) (strides_in_case row ns ss a added) + 1 ≡ size_of (grown_shape ns a added))
 grown_full ns ss full a added row e h is high run =
     let m = get_or ns a 0 + added in
     let more = added_some ns ss full a added row is high in
@@ -134,10 +134,10 @@ grown_full ns ss full a added row e h is high run =
     (last_cases ns ss full a added row is top))
     (cases_lt row 5)
 
--- where the new elements follow the old, each old index keeps its offset
-pub grown_kept : (ns : List ℕ) (ss : List ℤ) (full : Bool) (a added row : ℕ) → length ss ≡ length ns → a < length ns → growth_case ns ss full a added ≡ row → 4 < row → (i : List ℕ) → in_box ns i ≡ true → offset_of (strides_in_case row ns ss a added) i ≡ offset_of ss i
+-- where the new elements follow the old, each old index keeps its displacement
+pub grown_kept : (ns : List ℕ) (ss : List ℤ) (full : Bool) (a added row : ℕ) → length ss ≡ length ns → a < length ns → growth_case ns ss full a added ≡ row → 4 < row → (i : List ℕ) → in_box ns i ≡ true → displacement_of (strides_in_case row ns ss a added) i ≡ displacement_of ss i
 grown_kept ns ss full a added row e h is high i inside =
-    let Goal : ℕ → Type 0 = λ r. offset_of (strides_in_case r ns ss a added) i ≡ offset_of ss i in
+    let Goal : ℕ → Type 0 = λ r. displacement_of (strides_in_case r ns ss a added) i ≡ displacement_of ss i in
     let t = pos (greatest_end (set ns a 1) ss) in
     ⊎_elim
     (λ (five : (row ≡ 5) × (get_or ns a 0 ≤ 1)).
@@ -145,14 +145,14 @@ grown_kept ns ss full a added row e h is high i inside =
     let below = coordinate_below ns i a inside h in
     let short = five.1 in
     let nought : get_or i a 0 ≡ 0 = omega arith in
-    let moved = offset_of-set ss i a t 0 (l ∙ sym e) (omega arith) in
+    let moved = displacement_of-set ss i a t 0 (l ∙ sym e) (omega arith) in
     let same : set i a 0 ≡ i = ap (set i a) (sym nought) ∙ set-get_or i a 0 in
     subst Goal (sym five.0)
-    (sym (ap (offset_of (set ss a t)) same)
-    ∙ sym (+ℤ_idr (offset_of (set ss a t) (set i a 0)))
-    ∙ sym (ap (λ z. offset_of (set ss a t) (set i a 0) +ℤ z) (ap (λ k. pos k *ℤ get_or ss a (pos 0)) nought ∙ zero-mul (get_or ss a (pos 0))))
+    (sym (ap (displacement_of (set ss a t)) same)
+    ∙ sym (+ℤ_idr (displacement_of (set ss a t) (set i a 0)))
+    ∙ sym (ap (λ z. displacement_of (set ss a t) (set i a 0) +ℤ z) (ap (λ k. pos k *ℤ get_or ss a (pos 0)) nought ∙ zero-mul (get_or ss a (pos 0))))
     ∙ moved
-    ∙ ap (λ z. offset_of ss i +ℤ z) (zero-mul t)
-    ∙ +ℤ_idr (offset_of ss i)))
+    ∙ ap (λ z. displacement_of ss i +ℤ z) (zero-mul t)
+    ∙ +ℤ_idr (displacement_of ss i)))
     (λ (six : (row ≡ 6) × (1 < get_or ns a 0) × (greatest_step (set ns a 1) ss ≤ magnitude_at ss a)). subst Goal (sym six.0) refl)
     (last_cases ns ss full a added row is high)

@@ -5,7 +5,7 @@ use Rattle.std.proofs.lemmas.List.{get_or-set_same, get_or-set_other}
 use Rattle.nd_shape_and_slice.specs.Shape.{size_of, HasCheckedSize}
 use Rattle.nd_shape_and_slice.specs.Place.{magnitude_at}
 use Rattle.nd_layout.specs.Ranks.{IsRun}
-use Rattle.nd_layout.specs.Growth.{greatest_end, grown, growth_case, must_move}
+use Rattle.nd_layout.specs.Growth.{greatest_end, grown_shape, growth_case, must_move}
 use Rattle.nd_layout.proofs.RunGives.{DotRun-from_run, end-le-size}
 use Rattle.nd_layout.proofs.Sizes.{size-le-product}
 use Rattle.nd_layout.proofs.Growing.{size_of-grown}
@@ -29,8 +29,8 @@ case_full false false false false b5 n e h = (refl, refl)
 -- from case 3 on the result has elements, so the other axes have
 pub others_some : (ns : List ℕ) (ss : List ℤ) (full : Bool) (a added n : ℕ) → a < length ns → growth_case ns ss full a added ≡ n → 2 < n → 0 < size_of (set ns a 1)
 others_some ns ss full a added n h e high =
-    let b = case_high (eqb (size_of (grown ns a added)) 0) (eqb added 0) (eqb (size_of ns) 0) (not full || must_move ns ss a) (leb (get_or ns a 0) 1) n e high in
-    let some = eqb-false (size_of (grown ns a added)) 0 b in
+    let b = case_high (eqb (size_of (grown_shape ns a added)) 0) (eqb added 0) (eqb (size_of ns) 0) (not full || must_move ns ss a) (leb (get_or ns a 0) 1) n e high in
+    let some = eqb-false (size_of (grown_shape ns a added)) 0 b in
     let g = size_of-grown ns a added h in
     ⊎_elim
     (λ (is : size_of (set ns a 1) ≡ 0). absurd (some (g ∙ ap (λ x. (get_or ns a 0 + added) * x) is ∙ omega arith)))
@@ -40,7 +40,7 @@ others_some ns ss full a added n h e high =
 -- in cases 5 and 6 the storage is full and the array isn't empty
 pub full_some : (ns : List ℕ) (ss : List ℤ) (full : Bool) (a added n : ℕ) → growth_case ns ss full a added ≡ n → 4 < n → (full ≡ true) × (0 < size_of ns)
 full_some ns ss full a added n e high =
-    let w = case_full (eqb (size_of (grown ns a added)) 0) (eqb added 0) (eqb (size_of ns) 0) (not full || must_move ns ss a) (leb (get_or ns a 0) 1) n e high in
+    let w = case_full (eqb (size_of (grown_shape ns a added)) 0) (eqb added 0) (eqb (size_of ns) 0) (not full || must_move ns ss a) (leb (get_or ns a 0) 1) n e high in
     let some = eqb-false (size_of ns) 0 w.0 in (
       not-false full (or_parts (not full) (must_move ns ss a) w.1).0,
       ⊎_elim (λ (is : size_of ns ≡ 0). absurd (some is)) (λ (other : size_of ns ≡ 0 → ⊥). omega arith) (cases_eq (size_of ns) 0),

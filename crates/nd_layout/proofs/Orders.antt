@@ -5,12 +5,12 @@ use Rattle.std.proofs.Math.Nat.{mul_comm, mul_assoc}
 use Rattle.std.proofs.lemmas.Bool.{cases_eq}
 use Rattle.std.proofs.lemmas.List.{length-reverse, length-set, get_or-reverse, get_or-set_same, get_or-set_other, reverse-reverse, ext_get_or}
 use Rattle.nd_shape_and_slice.specs.Shape.{in_box, size_of, row_rank, column_rank}
-use Rattle.nd_shape_and_slice.specs.Place.{offset_of, span_of, span_within, IsSeparated}
+use Rattle.nd_shape_and_slice.specs.Place.{displacement_of, span_of, span_within, IsSeparated}
 use Rattle.nd_shape_and_slice.specs.declared.builder.Order.{Order}
 use Rattle.nd_shape_and_slice.specs.declared.builder.Order.TheVariants.{RowMajor, ColumnMajor}
 use Rattle.nd_shape_and_slice.proofs.RowMajor.{length-in_box}
 use Rattle.nd_shape_and_slice.proofs.ColumnMajor.{column_rank_below}
-use Rattle.nd_layout.specs.Ranks.{rank_in, Serves, ordered, axis_in, at_rank, ServesRanks}
+use Rattle.nd_layout.specs.Ranks.{rank_in, Serves, fastest_first, axis_in, at_rank, ServesRanks}
 use Rattle.nd_layout.proofs.Integers.{sums}
 use Rattle.nd_layout.proofs.Removed.{and_swap}
 use Rattle.nd_layout.proofs.Ranks.{at_rank-column_rank, column_index, in_box-column_index, column_rank-column_index}
@@ -18,12 +18,12 @@ use Rattle.nd_layout.proofs.Apart.{EachApart, EachApart-append, EachApart-weaker
 use Rattle.nd_layout.proofs.Regroups.{size_of-append}
 
 -- as many axes
-pub length-ordered : {X : Type 0} (o : Order) (xs : List X) → length (ordered o xs) ≡ length xs
+pub length-ordered : {X : Type 0} (o : Order) (xs : List X) → length (fastest_first o xs) ≡ length xs
 length-ordered RowMajor xs = length-reverse xs
 length-ordered ColumnMajor xs = refl
 
 -- twice is back
-pub ordered-ordered : {X : Type 0} (o : Order) (xs : List X) → ordered o (ordered o xs) ≡ xs
+pub ordered-ordered : {X : Type 0} (o : Order) (xs : List X) → fastest_first o (fastest_first o xs) ≡ xs
 ordered-ordered RowMajor xs = reverse-reverse xs
 ordered-ordered ColumnMajor xs = refl
 
@@ -33,7 +33,7 @@ axis_in-below RowMajor n k h = omega arith
 axis_in-below ColumnMajor n k h = h
 
 -- what stands at the k-th fastest axis
-pub get_or-ordered : {X : Type 0} (o : Order) (xs : List X) (k : ℕ) (d : X) → k < length xs → get_or (ordered o xs) k d ≡ get_or xs (axis_in o (length xs) k) d
+pub get_or-ordered : {X : Type 0} (o : Order) (xs : List X) (k : ℕ) (d : X) → k < length xs → get_or (fastest_first o xs) k d ≡ get_or xs (axis_in o (length xs) k) d
 get_or-ordered RowMajor xs k d h = get_or-reverse xs k d h
 get_or-ordered ColumnMajor xs k d h = refl
 
@@ -57,7 +57,7 @@ reverse-set xs k v h =
     (cases_eq j k))
 
 -- a write at the k-th fastest axis
-pub ordered-set : {X : Type 0} (o : Order) (xs : List X) (k : ℕ) (v : X) → k < length xs → ordered o (set xs (axis_in o (length xs) k) v) ≡ set (ordered o xs) k v
+pub ordered-set : {X : Type 0} (o : Order) (xs : List X) (k : ℕ) (v : X) → k < length xs → fastest_first o (set xs (axis_in o (length xs) k) v) ≡ set (fastest_first o xs) k v
 ordered-set RowMajor xs k v h = reverse-set xs k v h
 ordered-set ColumnMajor xs k v h = refl
 
@@ -68,11 +68,11 @@ in_box-push [] (x ∷ i) n k e = absurd (omega arith)
 in_box-push (m ∷ ns) [] n k e = absurd (omega arith)
 in_box-push (m ∷ ns) (x ∷ i) n k e = ap (λ b. ltb x m && b) (in_box-push ns i n k (omega arith)) ∙ and_swap (ltb x m) (ltb k n) (in_box ns i)
 
-offset_of-push : (ss : List ℤ) (i : List ℕ) (s : ℤ) (k : ℕ) → length i ≡ length ss → offset_of (ss ++ s ∷ []) (i ++ k ∷ []) ≡ (pos k *ℤ s) +ℤ offset_of ss i
-offset_of-push [] [] s k e = refl
-offset_of-push [] (x ∷ i) s k e = absurd (omega arith)
-offset_of-push (t ∷ ss) [] s k e = absurd (omega arith)
-offset_of-push (t ∷ ss) (x ∷ i) s k e = omega (arith, sums, offset_of-push ss i s k (omega arith))
+displacement_of-push : (ss : List ℤ) (i : List ℕ) (s : ℤ) (k : ℕ) → length i ≡ length ss → displacement_of (ss ++ s ∷ []) (i ++ k ∷ []) ≡ (pos k *ℤ s) +ℤ displacement_of ss i
+displacement_of-push [] [] s k e = refl
+displacement_of-push [] (x ∷ i) s k e = absurd (omega arith)
+displacement_of-push (t ∷ ss) [] s k e = absurd (omega arith)
+displacement_of-push (t ∷ ss) (x ∷ i) s k e = omega (arith, sums, displacement_of-push ss i s k (omega arith))
 
 column_rank-push : (ns i : List ℕ) (n k : ℕ) → length i ≡ length ns → column_rank (ns ++ n ∷ []) (i ++ k ∷ []) ≡ k * size_of ns + column_rank ns i
 column_rank-push [] [] n k e = omega arith
@@ -95,13 +95,13 @@ in_box-reverse (n ∷ ns) (k ∷ i) e =
     rw (reverse-cons n ns, reverse-cons k i)
     (in_box-push (reverse ns) (reverse i) n k (length-reverse i ∙ (omega arith) ∙ sym (length-reverse ns)) ∙ ap (λ b. ltb k n && b) (in_box-reverse ns i (omega arith)))
 
-offset_of-reverse : (ss : List ℤ) (i : List ℕ) → length i ≡ length ss → offset_of (reverse ss) (reverse i) ≡ offset_of ss i
-offset_of-reverse [] [] e = refl
-offset_of-reverse [] (k ∷ i) e = absurd (omega arith)
-offset_of-reverse (s ∷ ss) [] e = absurd (omega arith)
-offset_of-reverse (s ∷ ss) (k ∷ i) e =
+displacement_of-reverse : (ss : List ℤ) (i : List ℕ) → length i ≡ length ss → displacement_of (reverse ss) (reverse i) ≡ displacement_of ss i
+displacement_of-reverse [] [] e = refl
+displacement_of-reverse [] (k ∷ i) e = absurd (omega arith)
+displacement_of-reverse (s ∷ ss) [] e = absurd (omega arith)
+displacement_of-reverse (s ∷ ss) (k ∷ i) e =
     rw (reverse-cons s ss, reverse-cons k i)
-    (offset_of-push (reverse ss) (reverse i) s k (length-reverse i ∙ (omega arith) ∙ sym (length-reverse ss)) ∙ ap (λ v. (pos k *ℤ s) +ℤ v) (offset_of-reverse ss i (omega arith)))
+    (displacement_of-push (reverse ss) (reverse i) s k (length-reverse i ∙ (omega arith) ∙ sym (length-reverse ss)) ∙ ap (λ v. (pos k *ℤ s) +ℤ v) (displacement_of-reverse ss i (omega arith)))
 
 column_rank-reverse : (ns i : List ℕ) → length i ≡ length ns → column_rank (reverse ns) (reverse i) ≡ row_rank ns i
 column_rank-reverse [] [] e = refl
@@ -148,95 +148,95 @@ IsSeparated-reverse ns ss e apart =
     (EachApart-reverse W ns ss e (EachApart-from_separated ns ss apart)))
 
 -- ---- in either order
-pub size_of-ordered : (o : Order) (ns : List ℕ) → size_of (ordered o ns) ≡ size_of ns
+pub size_of-ordered : (o : Order) (ns : List ℕ) → size_of (fastest_first o ns) ≡ size_of ns
 size_of-ordered RowMajor ns = size_of-reverse ns
 size_of-ordered ColumnMajor ns = refl
 
 -- the box
-pub in_box-ordered : (o : Order) (ns i : List ℕ) → length i ≡ length ns → in_box (ordered o ns) (ordered o i) ≡ in_box ns i
+pub in_box-ordered : (o : Order) (ns i : List ℕ) → length i ≡ length ns → in_box (fastest_first o ns) (fastest_first o i) ≡ in_box ns i
 in_box-ordered RowMajor ns i e = in_box-reverse ns i e
 in_box-ordered ColumnMajor ns i e = refl
 
--- the offset
-pub offset_of-ordered : (o : Order) (ss : List ℤ) (i : List ℕ) → length i ≡ length ss → offset_of (ordered o ss) (ordered o i) ≡ offset_of ss i
-offset_of-ordered RowMajor ss i e = offset_of-reverse ss i e
-offset_of-ordered ColumnMajor ss i e = refl
+-- the displacement
+pub displacement_of-ordered : (o : Order) (ss : List ℤ) (i : List ℕ) → length i ≡ length ss → displacement_of (fastest_first o ss) (fastest_first o i) ≡ displacement_of ss i
+displacement_of-ordered RowMajor ss i e = displacement_of-reverse ss i e
+displacement_of-ordered ColumnMajor ss i e = refl
 
 -- the rank, which is the column-major one of the axes from the fastest on
-pub rank_in-ordered : (o : Order) (ns i : List ℕ) → length i ≡ length ns → column_rank (ordered o ns) (ordered o i) ≡ rank_in o ns i
+pub rank_in-ordered : (o : Order) (ns i : List ℕ) → length i ≡ length ns → column_rank (fastest_first o ns) (fastest_first o i) ≡ rank_in o ns i
 rank_in-ordered RowMajor ns i e = column_rank-reverse ns i e
 rank_in-ordered ColumnMajor ns i e = refl
 
 -- the span
-pub span_of-ordered : (o : Order) (ns : List ℕ) (ss : List ℤ) → length ss ≡ length ns → span_of (ordered o ns) (ordered o ss) ≡ span_of ns ss
+pub span_of-ordered : (o : Order) (ns : List ℕ) (ss : List ℤ) → length ss ≡ length ns → span_of (fastest_first o ns) (fastest_first o ss) ≡ span_of ns ss
 span_of-ordered RowMajor ns ss e = span_of-reverse ns ss e
 span_of-ordered ColumnMajor ns ss e = refl
 
 -- separation
-pub IsSeparated-ordered : (o : Order) (ns : List ℕ) (ss : List ℤ) → length ss ≡ length ns → IsSeparated ns ss → IsSeparated (ordered o ns) (ordered o ss)
+pub IsSeparated-ordered : (o : Order) (ns : List ℕ) (ss : List ℤ) → length ss ≡ length ns → IsSeparated ns ss → IsSeparated (fastest_first o ns) (fastest_first o ss)
 IsSeparated-ordered RowMajor ns ss e apart = IsSeparated-reverse ns ss e apart
 IsSeparated-ordered ColumnMajor ns ss e apart = apart
 
 -- separation, back
-pub IsSeparated-unordered : (o : Order) (ns : List ℕ) (ss : List ℤ) → length ss ≡ length ns → IsSeparated (ordered o ns) (ordered o ss) → IsSeparated ns ss
+pub IsSeparated-unordered : (o : Order) (ns : List ℕ) (ss : List ℤ) → length ss ≡ length ns → IsSeparated (fastest_first o ns) (fastest_first o ss) → IsSeparated ns ss
 IsSeparated-unordered RowMajor ns ss e apart =
     let back = IsSeparated-reverse (reverse ns) (reverse ss) (length-reverse ss ∙ e ∙ sym (length-reverse ns)) apart in
     rw (reverse-reverse ns, reverse-reverse ss) at back
 IsSeparated-unordered ColumnMajor ns ss e apart = apart
 
 -- ---- strides that serve, by index and by rank
--- the offset of an index is that of its rank
-pub offset-at_rank : (o : Order) (ns : List ℕ) (ss : List ℤ) (i : List ℕ) → length ss ≡ length ns → in_box ns i ≡ true → at_rank (ordered o ns) (ordered o ss) (rank_in o ns i) ≡ offset_of ss i
-offset-at_rank o ns ss i e h =
+-- the displacement of an index is that of its rank
+pub displacement-at_rank : (o : Order) (ns : List ℕ) (ss : List ℤ) (i : List ℕ) → length ss ≡ length ns → in_box ns i ≡ true → at_rank (fastest_first o ns) (fastest_first o ss) (rank_in o ns i) ≡ displacement_of ss i
+displacement-at_rank o ns ss i e h =
     let l = length-in_box ns i h in
-    ap (λ r. at_rank (ordered o ns) (ordered o ss) r) (sym (rank_in-ordered o ns i l))
-    ∙ at_rank-column_rank (ordered o ns) (ordered o ss) (ordered o i) (in_box-ordered o ns i l ∙ h)
-    ∙ offset_of-ordered o ss i (l ∙ sym e)
+    ap (λ r. at_rank (fastest_first o ns) (fastest_first o ss) r) (sym (rank_in-ordered o ns i l))
+    ∙ at_rank-column_rank (fastest_first o ns) (fastest_first o ss) (fastest_first o i) (in_box-ordered o ns i l ∙ h)
+    ∙ displacement_of-ordered o ss i (l ∙ sym e)
 
 -- a rank is below the size
 pub rank_in-below : (o : Order) (ns i : List ℕ) → in_box ns i ≡ true → rank_in o ns i < size_of ns
 rank_in-below o ns i h =
     let l = length-in_box ns i h in
-    let b = column_rank_below (ordered o ns) (ordered o i) (in_box-ordered o ns i l ∙ h) in
+    let b = column_rank_below (fastest_first o ns) (fastest_first o i) (in_box-ordered o ns i l ∙ h) in
     omega (arith, size_of-ordered o ns, rank_in-ordered o ns i l)
 
 -- each rank has its index
 pub index_of_rank : (o : Order) (ns : List ℕ) (r : ℕ) → r < size_of ns → (i : List ℕ) × (in_box ns i ≡ true) × (rank_in o ns i ≡ r)
 index_of_rank o ns r h =
-    let h' : r < size_of (ordered o ns) = omega (arith, size_of-ordered o ns) in
-    let k = column_index (ordered o ns) r in
-    let inside = in_box-column_index (ordered o ns) r h' in
-    let l : length (ordered o k) ≡ length ns = length-ordered o k ∙ length-in_box (ordered o ns) k inside ∙ length-ordered o ns in
+    let h' : r < size_of (fastest_first o ns) = omega (arith, size_of-ordered o ns) in
+    let k = column_index (fastest_first o ns) r in
+    let inside = in_box-column_index (fastest_first o ns) r h' in
+    let l : length (fastest_first o k) ≡ length ns = length-ordered o k ∙ length-in_box (fastest_first o ns) k inside ∙ length-ordered o ns in
     let back = ordered-ordered o k in (
-      ordered o k,
-      sym (in_box-ordered o ns (ordered o k) l) ∙ ap (λ x. in_box (ordered o ns) x) back ∙ inside,
-      sym (rank_in-ordered o ns (ordered o k) l) ∙ ap (λ x. column_rank (ordered o ns) x) back ∙ column_rank-column_index (ordered o ns) r h',
+      fastest_first o k,
+      sym (in_box-ordered o ns (fastest_first o k) l) ∙ ap (λ x. in_box (fastest_first o ns) x) back ∙ inside,
+      sym (rank_in-ordered o ns (fastest_first o k) l) ∙ ap (λ x. column_rank (fastest_first o ns) x) back ∙ column_rank-column_index (fastest_first o ns) r h',
     )
 
 -- what serves each rank serves each index
-pub Serves-from_ranks : (o : Order) (ns : List ℕ) (ss : List ℤ) (ms : List ℕ) (ts : List ℤ) → length ss ≡ length ns → ServesRanks (ordered o ns) (ordered o ss) (ordered o ms) (ordered o ts) → Serves o ns ss ms ts
+pub Serves-from_ranks : (o : Order) (ns : List ℕ) (ss : List ℤ) (ms : List ℕ) (ts : List ℤ) → length ss ≡ length ns → ServesRanks (fastest_first o ns) (fastest_first o ss) (fastest_first o ms) (fastest_first o ts) → Serves o ns ss ms ts
 Serves-from_ranks o ns ss ms ts e serves =
     let l : length ts ≡ length ms = sym (length-ordered o ts) ∙ serves.as_many ∙ length-ordered o ms in
     record {
       as_many = l;
-      same_offset = λ i j h q same.
-          let within : rank_in o ms j < size_of (ordered o ms) = omega (arith, rank_in-below o ms j q, size_of-ordered o ms) in
-          sym (offset-at_rank o ms ts j l q)
+      same_displacement = λ i j h q same.
+          let within : rank_in o ms j < size_of (fastest_first o ms) = omega (arith, rank_in-below o ms j q, size_of-ordered o ms) in
+          sym (displacement-at_rank o ms ts j l q)
           ∙ serves.same (rank_in o ms j) within
-          ∙ ap (λ r. at_rank (ordered o ns) (ordered o ss) r) (sym same)
-          ∙ offset-at_rank o ns ss i e h;
+          ∙ ap (λ r. at_rank (fastest_first o ns) (fastest_first o ss) r) (sym same)
+          ∙ displacement-at_rank o ns ss i e h;
     }
 
 -- and the other way
-pub ranks_from_Serves : (o : Order) (ns : List ℕ) (ss : List ℤ) (ms : List ℕ) (ts : List ℤ) → length ss ≡ length ns → size_of ns ≡ size_of ms → Serves o ns ss ms ts → ServesRanks (ordered o ns) (ordered o ss) (ordered o ms) (ordered o ts)
+pub ranks_from_Serves : (o : Order) (ns : List ℕ) (ss : List ℤ) (ms : List ℕ) (ts : List ℤ) → length ss ≡ length ns → size_of ns ≡ size_of ms → Serves o ns ss ms ts → ServesRanks (fastest_first o ns) (fastest_first o ss) (fastest_first o ms) (fastest_first o ts)
 ranks_from_Serves o ns ss ms ts e sizes serves = record {
   as_many = length-ordered o ts ∙ serves.as_many ∙ sym (length-ordered o ms);
   same = λ r h.
       let new = index_of_rank o ms r (omega (arith, size_of-ordered o ms)) in
       let old = index_of_rank o ns r (omega (arith, size_of-ordered o ms)) in
-      ap (λ x. at_rank (ordered o ms) (ordered o ts) x) (sym new.2)
-      ∙ offset-at_rank o ms ts new.0 serves.as_many new.1
-      ∙ serves.same_offset old.0 new.0 old.1 new.1 (old.2 ∙ sym new.2)
-      ∙ sym (offset-at_rank o ns ss old.0 e old.1)
-      ∙ ap (λ x. at_rank (ordered o ns) (ordered o ss) x) old.2;
+      ap (λ x. at_rank (fastest_first o ms) (fastest_first o ts) x) (sym new.2)
+      ∙ displacement-at_rank o ms ts new.0 serves.as_many new.1
+      ∙ serves.same_displacement old.0 new.0 old.1 new.1 (old.2 ∙ sym new.2)
+      ∙ sym (displacement-at_rank o ns ss old.0 e old.1)
+      ∙ ap (λ x. at_rank (fastest_first o ns) (fastest_first o ss) x) old.2;
 }

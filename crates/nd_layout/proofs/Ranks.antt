@@ -1,15 +1,15 @@
--- Offsets by rank: two axes of which the second goes on where the first ends are one axis.
+-- Displacements by rank: two axes of which the second goes on where the first ends are one axis.
 use Rattle.std.proofs.Common.{ℕ, zero, suc, ◌+◌, ◌*◌, ◌/◌, ◌%◌, ◌<◌, ◌≡◌, List, [], ◌∷◌, ltb, true, arith, refl, ap, ◌∙◌, ℤ, pos, ◌+ℤ◌, ◌*ℤ◌}
 use lib.IntN.{+ℤ_idl, +ℤ_idr}
 use lib.Arith.{mod-mul}
 use Rattle.std.proofs.Math.Nat.{mul_comm, zero-add, zero-mod, zero-div, mod-one, div-one, mod-lt, mod-add-div, mod-eq_of_lt, div-eq_of_lt, div-div-eq-div-mul, div-lt_iff_lt-mul, add-mul-div_left, add-mul-mod_self_left, mul-mod_right, mul-div_right}
 use Rattle.std.proofs.lemmas.Bool.{ltb-true, lt-ltb, and_parts, and_from, false≢true}
 use Rattle.nd_shape_and_slice.specs.Shape.{in_box, size_of, column_rank}
-use Rattle.nd_shape_and_slice.specs.Place.{offset_of}
+use Rattle.nd_shape_and_slice.specs.Place.{displacement_of}
 use Rattle.nd_layout.specs.Ranks.{at_rank}
 use Rattle.nd_layout.proofs.Integers.{sums, zero-mul, add-mul, mul-mul}
 
--- rank 0 is the first place
+-- rank 0 is the offset
 pub at_rank-zero : (ns : List ℕ) (ss : List ℤ) → at_rank ns ss 0 ≡ pos 0
 at_rank-zero [] ss = refl
 at_rank-zero (n ∷ ns) [] = refl
@@ -37,8 +37,8 @@ pub at_rank-below : (n : ℕ) (s : ℤ) (ns : List ℕ) (ss : List ℤ) (r : ℕ
 at_rank-below n s ns ss r h = rw (mod-eq_of_lt h, div-eq_of_lt h, at_rank-zero ns ss) (+ℤ_idr (pos r *ℤ s))
 
 -- ---- ranks and indexes
--- the offset at an index's rank is the index's
-pub at_rank-column_rank : (ns : List ℕ) (ss : List ℤ) (i : List ℕ) → in_box ns i ≡ true → at_rank ns ss (column_rank ns i) ≡ offset_of ss i
+-- the displacement at an index's rank is the index's
+pub at_rank-column_rank : (ns : List ℕ) (ss : List ℤ) (i : List ℕ) → in_box ns i ≡ true → at_rank ns ss (column_rank ns i) ≡ displacement_of ss i
 at_rank-column_rank [] [] [] h = refl
 at_rank-column_rank [] [] (k ∷ i) h = absurd (false≢true h)
 at_rank-column_rank [] (s ∷ ss) [] h = refl

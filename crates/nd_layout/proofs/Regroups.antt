@@ -144,7 +144,7 @@ pub size_of-append : (cs ns : List ℕ) → size_of (cs ++ ns) ≡ size_of cs * 
 size_of-append [] ns = omega arith
 size_of-append (c ∷ cs) ns = ap (λ v. c * v) (size_of-append cs ns) ∙ sym (mul_assoc c (size_of cs) (size_of ns))
 
--- the offset of a rank over lists one after the other
+-- the displacement of a rank over lists one after the other
 pub at_rank-append : (cs : List ℕ) (ds : List ℤ) (ns : List ℕ) (ss : List ℤ) (r : ℕ) → length ds ≡ length cs → at_rank (cs ++ ns) (ds ++ ss) r ≡ at_rank cs ds r +ℤ at_rank ns ss (r / size_of cs)
 at_rank-append [] [] ns ss r e = rw (div-one r) (sym (+ℤ_idl (at_rank ns ss r)))
 at_rank-append [] (d ∷ ds) ns ss r e = absurd (omega arith)

@@ -6,18 +6,18 @@ use Rattle.std.proofs.Math.Nat.{mul_assoc, mul_comm}
 use Rattle.std.proofs.lemmas.Bool.{cases_lt, cases_order}
 use Rattle.std.proofs.lemmas.List.Edits.{get_or-remove_below, get_or-remove_above, get_or-insert_below, get_or-insert_at, get_or-insert_above}
 use Rattle.nd_shape_and_slice.specs.Shape.{in_box, size_of, nonzero_product, HasCheckedSize}
-use Rattle.nd_shape_and_slice.specs.Place.{offset_of, span_of, span_within, magnitude_at, IsSeparated}
+use Rattle.nd_shape_and_slice.specs.Place.{displacement_of, span_of, span_within, magnitude_at, IsSeparated}
 use Rattle.nd_layout.proofs.Integers.{sums, zero-mul}
 use Rattle.nd_layout.proofs.AxisChange.{span_of-at, counted_none}
 use Rattle.nd_layout.proofs.Permuted.{nonzero-cons}
 
 -- ---- axis a at the coordinate c
 -- the index with c put in
-pub offset_of-inserted : (ss : List ℤ) (i : List ℕ) (a c : ℕ) → a < length ss → a ≤ length i → offset_of ss (insert i a c) ≡ (pos c *ℤ get_or ss a (pos 0)) +ℤ offset_of (remove ss a) i
-offset_of-inserted [] i a c h q = absurd (omega arith)
-offset_of-inserted (s ∷ ss) i zero c h q = refl
-offset_of-inserted (s ∷ ss) [] (suc a) c h q = absurd (omega arith)
-offset_of-inserted (s ∷ ss) (k ∷ i) (suc a) c h q = omega (arith, sums, offset_of-inserted ss i a c (omega arith) (omega arith))
+pub displacement_of-inserted : (ss : List ℤ) (i : List ℕ) (a c : ℕ) → a < length ss → a ≤ length i → displacement_of ss (insert i a c) ≡ (pos c *ℤ get_or ss a (pos 0)) +ℤ displacement_of (remove ss a) i
+displacement_of-inserted [] i a c h q = absurd (omega arith)
+displacement_of-inserted (s ∷ ss) i zero c h q = refl
+displacement_of-inserted (s ∷ ss) [] (suc a) c h q = absurd (omega arith)
+displacement_of-inserted (s ∷ ss) (k ∷ i) (suc a) c h q = omega (arith, sums, displacement_of-inserted ss i a c (omega arith) (omega arith))
 
 box_short : (n : ℕ) (ns : List ℕ) (k : ℕ) → 0 < length ns → in_box (n ∷ ns) (k ∷ []) ≡ false
 box_short n [] k h = absurd (omega arith)
@@ -112,46 +112,46 @@ pub HasCheckedSize-removed : (ns : List ℕ) (a : ℕ) → a < length ns → Has
 HasCheckedSize-removed ns a h few = omega (arith, few, nonzero_product-removed ns a h, le-product (max 1 (get_or ns a 0)) (nonzero_product (remove ns a)) (omega arith))
 
 -- ---- an axis of length m and stride t put in as axis a
-pub offset_of-widened : (ss : List ℤ) (i : List ℕ) (a : ℕ) (t : ℤ) → a ≤ length ss → a < length i → offset_of (insert ss a t) i ≡ (pos (get_or i a 0) *ℤ t) +ℤ offset_of ss (remove i a)
-offset_of-widened ss [] a t q h = absurd (omega arith)
-offset_of-widened ss (k ∷ i) zero t q h = refl
-offset_of-widened [] (k ∷ i) (suc a) t q h = absurd (omega arith)
-offset_of-widened (s ∷ ss) (k ∷ i) (suc a) t q h = omega (arith, sums, offset_of-widened ss i a t (omega arith) (omega arith))
+pub displacement_of-inserted_axis : (ss : List ℤ) (i : List ℕ) (a : ℕ) (t : ℤ) → a ≤ length ss → a < length i → displacement_of (insert ss a t) i ≡ (pos (get_or i a 0) *ℤ t) +ℤ displacement_of ss (remove i a)
+displacement_of-inserted_axis ss [] a t q h = absurd (omega arith)
+displacement_of-inserted_axis ss (k ∷ i) zero t q h = refl
+displacement_of-inserted_axis [] (k ∷ i) (suc a) t q h = absurd (omega arith)
+displacement_of-inserted_axis (s ∷ ss) (k ∷ i) (suc a) t q h = omega (arith, sums, displacement_of-inserted_axis ss i a t (omega arith) (omega arith))
 
 -- at coordinate 0, the only one of a length of 1, the stride doesn't matter
-pub offset_of-widened_at_zero : (ss : List ℤ) (i : List ℕ) (a : ℕ) (t : ℤ) → a ≤ length ss → a < length i → get_or i a 0 ≡ 0 → offset_of (insert ss a t) i ≡ offset_of ss (remove i a)
-offset_of-widened_at_zero ss i a t q h none =
-    offset_of-widened ss i a t q h
-    ∙ ap (λ k. (pos k *ℤ t) +ℤ offset_of ss (remove i a)) none
-    ∙ ap (λ z. z +ℤ offset_of ss (remove i a)) (zero-mul t)
-    ∙ +ℤ_idl (offset_of ss (remove i a))
+pub displacement_of-inserted_zero : (ss : List ℤ) (i : List ℕ) (a : ℕ) (t : ℤ) → a ≤ length ss → a < length i → get_or i a 0 ≡ 0 → displacement_of (insert ss a t) i ≡ displacement_of ss (remove i a)
+displacement_of-inserted_zero ss i a t q h none =
+    displacement_of-inserted_axis ss i a t q h
+    ∙ ap (λ k. (pos k *ℤ t) +ℤ displacement_of ss (remove i a)) none
+    ∙ ap (λ z. z +ℤ displacement_of ss (remove i a)) (zero-mul t)
+    ∙ +ℤ_idl (displacement_of ss (remove i a))
 
 -- its box
-pub in_box-widened : (ns i : List ℕ) (a m : ℕ) → a ≤ length ns → a < length i → in_box (insert ns a m) i ≡ (ltb (get_or i a 0) m && in_box ns (remove i a))
-in_box-widened ns [] a m q h = absurd (omega arith)
-in_box-widened ns (k ∷ i) zero m q h = refl
-in_box-widened [] (k ∷ i) (suc a) m q h = absurd (omega arith)
-in_box-widened (n ∷ ns) (k ∷ i) (suc a) m q h = ap (λ b. ltb k n && b) (in_box-widened ns i a m (omega arith) (omega arith)) ∙ and_swap (ltb k n) (ltb (get_or i a 0) m) (in_box ns (remove i a))
+pub in_box-inserted_axis : (ns i : List ℕ) (a m : ℕ) → a ≤ length ns → a < length i → in_box (insert ns a m) i ≡ (ltb (get_or i a 0) m && in_box ns (remove i a))
+in_box-inserted_axis ns [] a m q h = absurd (omega arith)
+in_box-inserted_axis ns (k ∷ i) zero m q h = refl
+in_box-inserted_axis [] (k ∷ i) (suc a) m q h = absurd (omega arith)
+in_box-inserted_axis (n ∷ ns) (k ∷ i) (suc a) m q h = ap (λ b. ltb k n && b) (in_box-inserted_axis ns i a m (omega arith) (omega arith)) ∙ and_swap (ltb k n) (ltb (get_or i a 0) m) (in_box ns (remove i a))
 
 -- its span
-pub span_of-widened : (ns : List ℕ) (ss : List ℤ) (a m : ℕ) (t : ℤ) → length ss ≡ length ns → a ≤ length ns → span_of (insert ns a m) (insert ss a t) ≡ (m - 1) * nat_abs t + span_of ns ss
-span_of-widened ns ss zero m t e h = refl
-span_of-widened [] ss (suc a) m t e h = absurd (omega arith)
-span_of-widened (n ∷ ns) [] (suc a) m t e h = absurd (omega arith)
-span_of-widened (n ∷ ns) (s ∷ ss) (suc a) m t e h = omega (arith, span_of-widened ns ss a m t (omega arith) (omega arith))
+pub span_of-inserted_axis : (ns : List ℕ) (ss : List ℤ) (a m : ℕ) (t : ℤ) → length ss ≡ length ns → a ≤ length ns → span_of (insert ns a m) (insert ss a t) ≡ (m - 1) * nat_abs t + span_of ns ss
+span_of-inserted_axis ns ss zero m t e h = refl
+span_of-inserted_axis [] ss (suc a) m t e h = absurd (omega arith)
+span_of-inserted_axis (n ∷ ns) [] (suc a) m t e h = absurd (omega arith)
+span_of-inserted_axis (n ∷ ns) (s ∷ ss) (suc a) m t e h = omega (arith, span_of-inserted_axis ns ss a m t (omega arith) (omega arith))
 
 -- an axis of length 1 adds nothing to the counted span
-pub span_within-widened : (g : ℕ) (ns : List ℕ) (ss : List ℤ) (a : ℕ) (t : ℤ) → length ss ≡ length ns → a ≤ length ns → span_within g (insert ns a 1) (insert ss a t) ≡ span_within g ns ss
-span_within-widened g ns ss zero t e h = omega (arith, counted_none (leb (nat_abs t) g) (nat_abs t))
-span_within-widened g [] ss (suc a) t e h = absurd (omega arith)
-span_within-widened g (n ∷ ns) [] (suc a) t e h = absurd (omega arith)
-span_within-widened g (n ∷ ns) (s ∷ ss) (suc a) t e h = omega (arith, span_within-widened g ns ss a t (omega arith) (omega arith))
+pub span_within-inserted_axis : (g : ℕ) (ns : List ℕ) (ss : List ℤ) (a : ℕ) (t : ℤ) → length ss ≡ length ns → a ≤ length ns → span_within g (insert ns a 1) (insert ss a t) ≡ span_within g ns ss
+span_within-inserted_axis g ns ss zero t e h = omega (arith, counted_none (leb (nat_abs t) g) (nat_abs t))
+span_within-inserted_axis g [] ss (suc a) t e h = absurd (omega arith)
+span_within-inserted_axis g (n ∷ ns) [] (suc a) t e h = absurd (omega arith)
+span_within-inserted_axis g (n ∷ ns) (s ∷ ss) (suc a) t e h = omega (arith, span_within-inserted_axis g ns ss a t (omega arith) (omega arith))
 
 -- and keeps separation
-pub IsSeparated-widened : (ns : List ℕ) (ss : List ℤ) (a : ℕ) (t : ℤ) → length ss ≡ length ns → a ≤ length ns → IsSeparated ns ss → IsSeparated (insert ns a 1) (insert ss a t)
-IsSeparated-widened ns ss a t e h apart k long =
+pub IsSeparated-inserted_axis : (ns : List ℕ) (ss : List ℤ) (a : ℕ) (t : ℤ) → length ss ≡ length ns → a ≤ length ns → IsSeparated ns ss → IsSeparated (insert ns a 1) (insert ss a t)
+IsSeparated-inserted_axis ns ss a t e h apart k long =
     let g = magnitude_at (insert ss a t) k in
-    let same = span_within-widened g ns ss a t e h in
+    let same = span_within-inserted_axis g ns ss a t e h in
     ⊎_elim
     (λ (is : k ≡ a). absurd (omega (arith, ap (λ j. get_or (insert ns a 1) j 0) is, get_or-insert_at ns a 1 0 h)))
     (λ (apart' : (k < a) ⊎ (a < k)). ⊎_elim
@@ -172,14 +172,14 @@ IsSeparated-widened ns ss a t e h apart k long =
     (cases_order k a)
 
 -- its size
-pub size_of-widened : (ns : List ℕ) (a m : ℕ) → a ≤ length ns → size_of (insert ns a m) ≡ m * size_of ns
-size_of-widened ns zero m h = refl
-size_of-widened [] (suc a) m h = absurd (omega arith)
-size_of-widened (n ∷ ns) (suc a) m h = ap (λ v. n * v) (size_of-widened ns a m (omega arith)) ∙ mul_left_comm n m (size_of ns)
+pub size_of-inserted_axis : (ns : List ℕ) (a m : ℕ) → a ≤ length ns → size_of (insert ns a m) ≡ m * size_of ns
+size_of-inserted_axis ns zero m h = refl
+size_of-inserted_axis [] (suc a) m h = absurd (omega arith)
+size_of-inserted_axis (n ∷ ns) (suc a) m h = ap (λ v. n * v) (size_of-inserted_axis ns a m (omega arith)) ∙ mul_left_comm n m (size_of ns)
 
 -- an axis of length 1 keeps the product of the lengths other than 0
-pub nonzero_product-widened : (ns : List ℕ) (a : ℕ) → a ≤ length ns → nonzero_product (insert ns a 1) ≡ nonzero_product ns
-nonzero_product-widened ns zero h = omega arith
-nonzero_product-widened [] (suc a) h = absurd (omega arith)
-nonzero_product-widened (n ∷ ns) (suc a) h =
-    nonzero-cons n (insert ns a 1) ∙ ap (λ v. max 1 n * v) (nonzero_product-widened ns a (omega arith)) ∙ sym (nonzero-cons n ns)
+pub nonzero_product-inserted_axis : (ns : List ℕ) (a : ℕ) → a ≤ length ns → nonzero_product (insert ns a 1) ≡ nonzero_product ns
+nonzero_product-inserted_axis ns zero h = omega arith
+nonzero_product-inserted_axis [] (suc a) h = absurd (omega arith)
+nonzero_product-inserted_axis (n ∷ ns) (suc a) h =
+    nonzero-cons n (insert ns a 1) ∙ ap (λ v. max 1 n * v) (nonzero_product-inserted_axis ns a (omega arith)) ∙ sym (nonzero-cons n ns)

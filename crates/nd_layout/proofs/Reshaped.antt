@@ -102,5 +102,5 @@ separated_all os ps ms ts gn gs e g apart = IsSeparated-front ms ts gn gs e (g.a
 pub Serves-empty : (o : Order) (ns : List ℕ) (ss : List ℤ) (ms : List ℕ) (ts : List ℤ) → size_of ms ≡ 0 → length ts ≡ length ms → Serves o ns ss ms ts
 Serves-empty o ns ss ms ts none e = record {
   as_many = e;
-  same_offset = λ i j h q same. absurd (omega (arith, rank_in-below o ms j q));
+  same_displacement = λ i j h q same. absurd (omega (arith, rank_in-below o ms j q));
 }

@@ -5,7 +5,7 @@ use Rattle.std.proofs.Math.Nat.{mul-le-mul_right}
 use Rattle.std.proofs.lemmas.Bool.{cases_lt, cases_eq, lt-leb, ltb-true, lt-ltb, and_parts, and_from, false≢true}
 use Rattle.std.proofs.lemmas.List.{length-set, get_or-set_same, get_or-set_other, set-get_or}
 use Rattle.nd_shape_and_slice.specs.Shape.{in_box, size_of}
-use Rattle.nd_shape_and_slice.specs.Place.{offset_of, span_of, span_within, magnitude_at, IsSeparated}
+use Rattle.nd_shape_and_slice.specs.Place.{displacement_of, span_of, span_within, magnitude_at, IsSeparated}
 use Rattle.nd_layout.specs.Strides.{reach_down}
 use Rattle.nd_layout.specs.Ranks.{IsRun}
 use Rattle.nd_layout.proofs.Integers.{sums}
@@ -17,7 +17,7 @@ use Rattle.nd_shape_and_slice.proofs.Boxes.{coordinate_below, in_box-from_coordi
 use Rattle.nd_layout.proofs.Distinct.{in_box-set}
 use Rattle.nd_layout.proofs.Regroups.{both_positive}
 
--- ---- offsets from the lowest place, by coordinates counted from the low end of each axis
+-- ---- displacements from the lowest place, by coordinates counted from the low end of each axis
 abbrev pub dot : List ℤ → List ℕ → ℕ
 dot [] i = 0
 dot (s ∷ ss) [] = 0
@@ -56,18 +56,18 @@ flip-flip (n ∷ ns) (negsuc s ∷ ss) (k ∷ i) h =
 far_part : (n k s : ℕ) → k < n → (n - 1 - k) * s + k * s ≡ (n - 1) * s
 far_part n k s h = let e : n - 1 ≡ (n - 1 - k) + k = omega arith in sym (ap (λ x. x * s) e ∙ omega arith)
 
-offset_of-flip : (ns : List ℕ) (ss : List ℤ) (i : List ℕ) → length ss ≡ length ns → in_box ns i ≡ true → up (offset_of ss (flip ns ss i)) + reach_down ns ss ≡ down (offset_of ss (flip ns ss i)) + dot ss i
-offset_of-flip [] [] i e h = omega arith
-offset_of-flip [] (s ∷ ss) i e h = absurd (omega arith)
-offset_of-flip (n ∷ ns) [] i e h = absurd (omega arith)
-offset_of-flip (n ∷ ns) (s ∷ ss) [] e h = absurd (false≢true h)
-offset_of-flip (n ∷ ns) (pos s ∷ ss) (k ∷ i) e h =
+displacement_of-flip : (ns : List ℕ) (ss : List ℤ) (i : List ℕ) → length ss ≡ length ns → in_box ns i ≡ true → up (displacement_of ss (flip ns ss i)) + reach_down ns ss ≡ down (displacement_of ss (flip ns ss i)) + dot ss i
+displacement_of-flip [] [] i e h = omega arith
+displacement_of-flip [] (s ∷ ss) i e h = absurd (omega arith)
+displacement_of-flip (n ∷ ns) [] i e h = absurd (omega arith)
+displacement_of-flip (n ∷ ns) (s ∷ ss) [] e h = absurd (false≢true h)
+displacement_of-flip (n ∷ ns) (pos s ∷ ss) (k ∷ i) e h =
     let w = and_parts (ltb k n) (in_box ns i) h in
-    let rest = offset_of-flip ns ss i (omega arith) w.1 in
+    let rest = displacement_of-flip ns ss i (omega arith) w.1 in
     omega (arith, sums)
-offset_of-flip (n ∷ ns) (negsuc s ∷ ss) (k ∷ i) e h =
+displacement_of-flip (n ∷ ns) (negsuc s ∷ ss) (k ∷ i) e h =
     let w = and_parts (ltb k n) (in_box ns i) h in
-    let rest = offset_of-flip ns ss i (omega arith) w.1 in
+    let rest = displacement_of-flip ns ss i (omega arith) w.1 in
     let far = far_part n k (suc s) (ltb-true k n w.0) in
     omega (arith, sums)
 
@@ -190,33 +190,33 @@ pub record DotRun (ns : List ℕ) (ss : List ℤ) : Type 0 where
   pub each : (v : ℕ) → v < size_of ns → (i : List ℕ) × (in_box ns i ≡ true) × (dot ss i ≡ v)
   pub once : (i j : List ℕ) → in_box ns i ≡ true → in_box ns j ≡ true → dot ss i ≡ dot ss j → i ≡ j
 
--- the run's lowest offset is the lowest place, so it is a run of these numbers
+-- the run's lowest displacement is the lowest place, so it is a run of these numbers
 pub DotRun-from_run : (ns : List ℕ) (ss : List ℤ) → length ss ≡ length ns → 0 < size_of ns → IsRun ns ss → DotRun ns ss
 DotRun-from_run ns ss e some run =
     let first = in_box-zeros ns some in
-    let start = run.inside (flip ns ss (zeros (length ns))) (in_box-flip ns ss (zeros (length ns)) first) in
-    let start_at = offset_of-flip ns ss (zeros (length ns)) e first in
+    let start = run.within (flip ns ss (zeros (length ns))) (in_box-flip ns ss (zeros (length ns)) first) in
+    let start_at = displacement_of-flip ns ss (zeros (length ns)) e first in
     let z = dot-zeros ss (length ns) in
     let lowest = run.each 0 some in
     let back = flip-flip ns ss lowest.0 lowest.1 in
     let lowest_in = in_box-flip ns ss lowest.0 lowest.1 in
-    let lowest_at = rw back at (offset_of-flip ns ss (flip ns ss lowest.0) e lowest_in) in
+    let lowest_at = rw back at (displacement_of-flip ns ss (flip ns ss lowest.0) e lowest_in) in
     let low_is : up run.low + reach_down ns ss ≡ down run.low = omega (arith, sums, start.2, lowest.2) in
     record {
       below = λ i h.
-          let w = run.inside (flip ns ss i) (in_box-flip ns ss i h) in
-          let at = offset_of-flip ns ss i e h in
+          let w = run.within (flip ns ss i) (in_box-flip ns ss i h) in
+          let at = displacement_of-flip ns ss i e h in
           let v : dot ss i ≡ w.0 = omega (arith, sums, w.2) in
           (let b = w.1 in omega arith);
       each = λ v h.
           let w = run.each v h in
           let inside = in_box-flip ns ss w.0 w.1 in
-          let at = rw (flip-flip ns ss w.0 w.1) at (offset_of-flip ns ss (flip ns ss w.0) e inside) in
+          let at = rw (flip-flip ns ss w.0 w.1) at (displacement_of-flip ns ss (flip ns ss w.0) e inside) in
           (flip ns ss w.0, inside, omega (arith, sums, w.2));
       once = λ i j h q same.
-          let at_i = offset_of-flip ns ss i e h in
-          let at_j = offset_of-flip ns ss j e q in
-          let f : offset_of ss (flip ns ss i) ≡ offset_of ss (flip ns ss j) = omega (arith, sums) in
+          let at_i = displacement_of-flip ns ss i e h in
+          let at_j = displacement_of-flip ns ss j e q in
+          let f : displacement_of ss (flip ns ss i) ≡ displacement_of ss (flip ns ss j) = omega (arith, sums) in
           let g = run.once (flip ns ss i) (flip ns ss j) (in_box-flip ns ss i h) (in_box-flip ns ss j q) f in
           sym (flip-flip ns ss i h) ∙ ap (flip ns ss) g ∙ flip-flip ns ss j q;
     }

@@ -5,9 +5,9 @@ use Rattle.std.proofs.lemmas.Nat.{div-add-mod'}
 use Rattle.std.proofs.lemmas.Int.{unsigned_abs-mul}
 use Rattle.std.proofs.lemmas.Bool.{cases_lt}
 use Rattle.nd_shape_and_slice.specs.Slice.{quotient_up, stepped_from}
-use Rattle.nd_shape_and_slice.specs.Place.{offset_of, span_of, IsSeparated}
+use Rattle.nd_shape_and_slice.specs.Place.{displacement_of, span_of, IsSeparated}
 use Rattle.nd_layout.specs.Strides.{stepped_start}
-use Rattle.nd_layout.proofs.Offsets.{offset_of-stepped_up, offset_of-stepped_down}
+use Rattle.nd_layout.proofs.Offsets.{displacement_of-stepped_up, displacement_of-stepped_down}
 use Rattle.nd_layout.proofs.AxisChange.{IsSeparated-changed, span_of-changed}
 
 -- each of the coordinates below the rounded quotient leads to less than the whole
@@ -30,12 +30,12 @@ pub stepped_from-within : (low high : ℕ) (step : ℤ) (i : ℕ) → 0 < nat_ab
 stepped_from-within low high (pos step) i some h = let b = steps_below (high - low) step i some h in (omega arith, omega arith)
 stepped_from-within low high (negsuc step) i some h = let b = steps_below (high - low) (suc step) i some h in (omega arith, omega arith)
 
--- the offset of the old index is that of the slice's start and that of the new index under the new stride
-pub offset_of-sliced : (ss : List ℤ) (i : List ℕ) (a low high : ℕ) (step : ℤ) → length i ≡ length ss → a < length ss → 0 < nat_abs step → get_or i a 0 < quotient_up (high - low) (nat_abs step) → offset_of ss (set i a (stepped_from low high step (get_or i a 0))) ≡ (pos (stepped_start low high step) *ℤ get_or ss a (pos 0)) +ℤ offset_of (set ss a (get_or ss a (pos 0) *ℤ step)) i
-offset_of-sliced ss i a low high (pos step) e h some within = offset_of-stepped_up ss i a low step e h
-offset_of-sliced ss i a low high (negsuc step) e h some within =
+-- the displacement of the old index is that of the slice's start and that of the new index under the new stride
+pub displacement_of-sliced : (ss : List ℤ) (i : List ℕ) (a low high : ℕ) (step : ℤ) → length i ≡ length ss → a < length ss → 0 < nat_abs step → get_or i a 0 < quotient_up (high - low) (nat_abs step) → displacement_of ss (set i a (stepped_from low high step (get_or i a 0))) ≡ (pos (stepped_start low high step) *ℤ get_or ss a (pos 0)) +ℤ displacement_of (set ss a (get_or ss a (pos 0) *ℤ step)) i
+displacement_of-sliced ss i a low high (pos step) e h some within = displacement_of-stepped_up ss i a low step e h
+displacement_of-sliced ss i a low high (negsuc step) e h some within =
     let b = steps_below (high - low) (suc step) (get_or i a 0) some within in
-    offset_of-stepped_down ss i a (high - 1) step e h (omega arith)
+    displacement_of-stepped_down ss i a (high - 1) step e h (omega arith)
 
 -- the span doesn't grow, where the range lies on the axis
 pub span_of-sliced : (ns : List ℕ) (ss : List ℤ) (a low high : ℕ) (step : ℤ) → length ss ≡ length ns → a < length ns → 0 < nat_abs step → high ≤ get_or ns a 0 → span_of (set ns a (quotient_up (high - low) (nat_abs step))) (set ss a (get_or ss a (pos 0) *ℤ step)) ≤ span_of ns ss

@@ -5,12 +5,12 @@ use Rattle.std.proofs.lemmas.Bool.{cases_lt}
 use Rattle.std.proofs.lemmas.List.{drop_more}
 use Rattle.nd_shape_and_slice.specs.Shape.{size_of, row_rank}
 use Rattle.nd_shape_and_slice.specs.declared.builder.Order.TheVariants.{RowMajor}
-use Rattle.nd_layout.specs.Ranks.{ordered, at_rank, IsStandard, StepsBy}
+use Rattle.nd_layout.specs.Ranks.{fastest_first, at_rank, IsStandard, StepsBy}
 use Rattle.nd_layout.proofs.Integers.{one-mul}
 use Rattle.nd_layout.proofs.Ranks.{at_rank-one, at_rank-multiple, at_rank-below}
 use Rattle.nd_layout.proofs.Regroups.{both_positive}
 use Rattle.nd_layout.proofs.Grouping.{le-times}
-use Rattle.nd_layout.proofs.Orders.{offset-at_rank, rank_in-below, index_of_rank, size_of-ordered}
+use Rattle.nd_layout.proofs.Orders.{displacement-at_rank, rank_in-below, index_of_rank, size_of-ordered}
 
 -- the first axis steps by p, and the rest by p times its length
 pub StepsBy-first : (p n : ℕ) (s : ℤ) (ns : List ℕ) (ss : List ℤ) → 0 < size_of ns → 1 < n → StepsBy p (n ∷ ns) (s ∷ ss) → s ≡ pos p
@@ -52,15 +52,15 @@ pub StepsBy-none : (p : ℕ) (ss : List ℤ) → StepsBy p [] ss
 StepsBy-none p ss = λ r h. let z : r ≡ 0 = omega arith in ap pos (sym (ap (λ k. p * k) z ∙ omega arith))
 
 -- standard layout is a step of 1
-pub StepsBy-from_standard : (ns : List ℕ) (ss : List ℤ) → length ss ≡ length ns → IsStandard ns ss → StepsBy 1 (ordered RowMajor ns) (ordered RowMajor ss)
+pub StepsBy-from_standard : (ns : List ℕ) (ss : List ℤ) → length ss ≡ length ns → IsStandard ns ss → StepsBy 1 (fastest_first RowMajor ns) (fastest_first RowMajor ss)
 StepsBy-from_standard ns ss e standard = λ r h.
     let w = index_of_rank RowMajor ns r (omega (arith, size_of-ordered RowMajor ns)) in
-    ap (λ x. at_rank (ordered RowMajor ns) (ordered RowMajor ss) x) (sym w.2) ∙ offset-at_rank RowMajor ns ss w.0 e w.1 ∙ standard w.0 w.1 ∙ ap pos (w.2 ∙ omega arith)
+    ap (λ x. at_rank (fastest_first RowMajor ns) (fastest_first RowMajor ss) x) (sym w.2) ∙ displacement-at_rank RowMajor ns ss w.0 e w.1 ∙ standard w.0 w.1 ∙ ap pos (w.2 ∙ omega arith)
 
 -- and a step of 1 is standard layout
-pub standard_from_StepsBy : (ns : List ℕ) (ss : List ℤ) → length ss ≡ length ns → StepsBy 1 (ordered RowMajor ns) (ordered RowMajor ss) → IsStandard ns ss
+pub standard_from_StepsBy : (ns : List ℕ) (ss : List ℤ) → length ss ≡ length ns → StepsBy 1 (fastest_first RowMajor ns) (fastest_first RowMajor ss) → IsStandard ns ss
 standard_from_StepsBy ns ss e steps = λ i h.
-    sym (offset-at_rank RowMajor ns ss i e h) ∙ steps (row_rank ns i) (omega (arith, rank_in-below RowMajor ns i h, size_of-ordered RowMajor ns)) ∙ ap pos (omega arith)
+    sym (displacement-at_rank RowMajor ns ss i e h) ∙ steps (row_rank ns i) (omega (arith, rank_in-below RowMajor ns i h, size_of-ordered RowMajor ns)) ∙ ap pos (omega arith)
 
 -- ---- at a place of whole lists
 pub StepsBy-at : (p : ℕ) (ns : List ℕ) (ss : List ℤ) (place : ℕ) → length ss ≡ length ns → place < length ns → 0 < size_of (drop place ns) → StepsBy p (drop place ns) (drop place ss) → (1 < get_or ns place 0 → get_or ss place (pos 0) ≡ pos p) × StepsBy (p * get_or ns place 0) (drop (place + 1) ns) (drop (place + 1) ss)

@@ -5,10 +5,12 @@ use Rattle.nd_shape_and_slice.specs.Shape.{in_box, size_of}
 use Rattle.nd_shape_and_slice.specs.Place.{place_of}
 use Rattle.nd_shape_and_slice.specs.Strides.{row_strides, column_strides_from}
 use Rattle.nd_layout.specs.Strides.{reach_down}
+use Rattle.nd_layout.specs.declared.grows.GrowthCase.{GrowthCase}
+use Rattle.nd_layout.specs.declared.grows.GrowthCase.TheVariants.{Empty, Unchanged, Fresh, Moved, LengthOne, Continued}
 
 -- the shape after `added` more lengths along an axis
-abbrev pub grown : List ℕ → ℕ → ℕ → List ℕ
-grown ns axis added = slice_set ns axis (slice_index ns axis + added)
+abbrev pub grown_shape : List ℕ → ℕ → ℕ → List ℕ
+grown_shape ns axis added = slice_set ns axis (slice_index ns axis + added)
 
 -- The strides of fresh storage that is to grow along an axis. Where it is the last axis, each axis has the
 -- product of the earlier lengths. Else they are the row-major strides of the shape with this axis moved to the
@@ -38,17 +40,26 @@ must_move ns ss axis = nat_lt 1 (slice_index ns axis) && (int_lt (slice_index_or
 -- 6: any other.
 abbrev pub growth_case : List ℕ → List ℤ → Bool → ℕ → ℕ → ℕ
 growth_case ns ss full axis added =
-    if nat_eq (size_of (grown ns axis added)) 0 then 1 else
+    if nat_eq (size_of (grown_shape ns axis added)) 0 then 1 else
     if nat_eq added 0 then 2 else
     if nat_eq (size_of ns) 0 then 3 else
     if not full || must_move ns ss axis then 4 else
     if nat_le (slice_index ns axis) 1 then 5 else 6
 
+-- the number of a case
+abbrev pub case_number : GrowthCase → ℕ
+case_number Empty = 1
+case_number Unchanged = 2
+case_number Fresh = 3
+case_number Moved = 4
+case_number LengthOne = 5
+case_number Continued = 6
+
 -- the strides of the result in each case
 abbrev pub strides_in_case : ℕ → List ℕ → List ℤ → ℕ → ℕ → List ℤ
 strides_in_case row ns ss axis added =
     if nat_eq row 1 then replicate (length ns) (pos 0) else
-    if nat_eq row 3 then growing_strides axis (grown ns axis added) else
+    if nat_eq row 3 then growing_strides axis (grown_shape ns axis added) else
     if nat_eq row 4 then growing_strides axis ns else
     if nat_eq row 5 then slice_set ss axis (pos (greatest_end (slice_set ns axis 1) ss)) else ss
 

@@ -4,5 +4,5 @@ pub mod Groups
 pub mod Growth
 pub mod Places
 pub mod Steps
-pub mod Given
+pub mod GivenStrides
 pub mod Refusals

@@ -10,4 +10,4 @@ is_place (negsuc p) = false
 
 -- every index of the box has a place
 abbrev pub ReachesPlaces : ℕ → List ℕ → List ℤ → Type 0
-ReachesPlaces first lengths strides = (i : List ℕ) → in_box lengths i ≡ true → is_place (place_of first strides i) ≡ true
+ReachesPlaces offset lengths strides = (i : List ℕ) → in_box lengths i ≡ true → is_place (place_of offset strides i) ≡ true

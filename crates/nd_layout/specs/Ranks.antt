@@ -1,7 +1,7 @@
 -- The indexes of a shape by their ranks, and what it means that strides serve another shape.
 use Rattle.std.specs.Prelude.{ℕ, ◌-◌, ◌*◌, ◌/◌, ◌%◌, ◌<◌, ◌≡◌, true, nat_lt, nat_abs, if◌then◌else◌, slice_index, List, [], ◌∷◌, ◌++◌, length, reverse, ℤ, pos, ◌+ℤ◌, ◌*ℤ◌}
 use Rattle.nd_shape_and_slice.specs.Shape.{in_box, size_of, row_rank, column_rank}
-use Rattle.nd_shape_and_slice.specs.Place.{offset_of, span_of, magnitude_at, IsSeparated}
+use Rattle.nd_shape_and_slice.specs.Place.{displacement_of, span_of, magnitude_at, IsSeparated}
 use Rattle.nd_shape_and_slice.specs.declared.builder.Order.{Order}
 use Rattle.nd_shape_and_slice.specs.declared.builder.Order.TheVariants.{RowMajor, ColumnMajor}
 
@@ -11,21 +11,21 @@ rank_in RowMajor ns i = row_rank ns i
 rank_in ColumnMajor ns i = column_rank ns i
 
 -- The strides ts serve the new lengths over a layout of these lengths and strides: each new index lies where
--- the old index of equal rank lies, from the same first place. Any integers may serve.
+-- the old index of equal rank lies, from the same offset. Any integers may serve.
 pub record Serves (order : Order) (lengths : List ℕ) (strides : List ℤ) (new : List ℕ) (ts : List ℤ) : Type 0 where
   pub as_many : length ts ≡ length new
-  pub same_offset : (i j : List ℕ) → in_box lengths i ≡ true → in_box new j ≡ true → rank_in order lengths i ≡ rank_in order new j → offset_of ts j ≡ offset_of strides i
+  pub same_displacement : (i j : List ℕ) → in_box lengths i ≡ true → in_box new j ≡ true → rank_in order lengths i ≡ rank_in order new j → displacement_of ts j ≡ displacement_of strides i
 
--- standard layout: each index lies at its row-major rank from the first place
+-- standard layout: each index lies at its row-major rank from the offset
 abbrev pub IsStandard : List ℕ → List ℤ → Type 0
-IsStandard ns ss = (i : List ℕ) → in_box ns i ≡ true → offset_of ss i ≡ pos (row_rank ns i)
+IsStandard ns ss = (i : List ℕ) → in_box ns i ≡ true → displacement_of ss i ≡ pos (row_rank ns i)
 
--- a run: the offsets of all indexes are as many consecutive integers as there are indexes, each once
+-- a run: the displacements of all indexes are as many consecutive integers as there are indexes, each once
 pub record IsRun (ns : List ℕ) (ss : List ℤ) : Type 0 where
   pub low : ℤ
-  pub inside : (i : List ℕ) → in_box ns i ≡ true → (k : ℕ) × (k < size_of ns) × (offset_of ss i ≡ low +ℤ pos k)
-  pub each : (k : ℕ) → k < size_of ns → (i : List ℕ) × (in_box ns i ≡ true) × (offset_of ss i ≡ low +ℤ pos k)
-  pub once : (i j : List ℕ) → in_box ns i ≡ true → in_box ns j ≡ true → offset_of ss i ≡ offset_of ss j → i ≡ j
+  pub within : (i : List ℕ) → in_box ns i ≡ true → (k : ℕ) × (k < size_of ns) × (displacement_of ss i ≡ low +ℤ pos k)
+  pub each : (k : ℕ) → k < size_of ns → (i : List ℕ) × (in_box ns i ≡ true) × (displacement_of ss i ≡ low +ℤ pos k)
+  pub once : (i j : List ℕ) → in_box ns i ≡ true → in_box ns j ≡ true → displacement_of ss i ≡ displacement_of ss j → i ≡ j
 
 -- the product of the lengths of the axes whose stride is of magnitude below m
 abbrev pub size_below : ℕ → List ℕ → List ℤ → ℕ
@@ -39,27 +39,27 @@ abbrev pub StepsInOrder : List ℕ → List ℤ → Type 0
 StepsInOrder ns ss = (k : ℕ) → 1 < slice_index ns k → magnitude_at ss k ≡ size_below (magnitude_at ss k) ns ss
 
 -- ---- the axes from the fastest on
-abbrev pub ordered : {X : Type 0} → Order → List X → List X
-ordered RowMajor xs = reverse xs
-ordered ColumnMajor xs = xs
+abbrev pub fastest_first : {X : Type 0} → Order → List X → List X
+fastest_first RowMajor xs = reverse xs
+fastest_first ColumnMajor xs = xs
 
 -- which of n axes is the k-th fastest
 abbrev pub axis_in : Order → ℕ → ℕ → ℕ
 axis_in RowMajor n k = n - 1 - k
 axis_in ColumnMajor n k = k
 
--- the offset of the index of column-major rank r
+-- the displacement of the index of column-major rank r
 abbrev pub at_rank : List ℕ → List ℤ → ℕ → ℤ
 at_rank [] ss r = pos 0
 at_rank (n ∷ ns) [] r = pos 0
 at_rank (n ∷ ns) (s ∷ ss) r = (pos (r % n) *ℤ s) +ℤ at_rank ns ss (r / n)
 
--- the strides ts give each rank the offset that it has in the layout
+-- the strides ts give each rank the displacement that it has in the layout
 pub record ServesRanks (ns : List ℕ) (ss : List ℤ) (ms : List ℕ) (ts : List ℤ) : Type 0 where
   pub as_many : length ts ≡ length ms
   pub same : (r : ℕ) → r < size_of ms → at_rank ms ts r ≡ at_rank ns ss r
 
--- The second list of axes is the first one regrouped: at each rank the same offset, the same size and span,
+-- The second list of axes is the first one regrouped: at each rank the same displacement, the same size and span,
 -- and separated where the first was, whatever axes stand before.
 pub record Regroups (ns : List ℕ) (ss : List ℤ) (ms : List ℕ) (ts : List ℤ) : Type 0 where
   pub as_many : length ts ≡ length ms

@@ -10,14 +10,14 @@ use Rattle.nd_shape_and_slice.specs.Broadcast.{axes_added}
 abbrev pub permuted_strides : List ℕ → List ℤ → List ℤ
 permuted_strides axes ss = map (λ a. slice_index_or ss a (pos 0)) axes
 
--- how far the axes of positive stride lead up from the first place
+-- how far the axes of positive stride lead up from the offset
 abbrev pub reach_up : List ℕ → List ℤ → ℕ
 reach_up [] ss = 0
 reach_up (n ∷ ns) [] = 0
 reach_up (n ∷ ns) (pos s ∷ ss) = (n - 1) * s + reach_up ns ss
 reach_up (n ∷ ns) (negsuc s ∷ ss) = reach_up ns ss
 
--- how far the axes of negative stride lead down from the first place
+-- how far the axes of negative stride lead down from the offset
 abbrev pub reach_down : List ℕ → List ℤ → ℕ
 reach_down [] ss = 0
 reach_down (n ∷ ns) [] = 0
@@ -58,12 +58,12 @@ abbrev pub diagonal_stride : List ℕ → List ℤ → ℤ
 diagonal_stride ns ss = if nat_le (diagonal_length ns) 1 then pos 0 else sum_of ss
 
 -- a broadcast: 0 for each axis that has grown
-abbrev pub grown_strides : List ℕ → List ℤ → List ℕ → List ℤ
-grown_strides [] ss ms = []
-grown_strides (n ∷ ns) [] ms = []
-grown_strides (n ∷ ns) (s ∷ ss) [] = []
-grown_strides (n ∷ ns) (s ∷ ss) (m ∷ ms) = (if nat_eq n m then s else pos 0) ∷ grown_strides ns ss ms
+abbrev pub stretched_strides : List ℕ → List ℤ → List ℕ → List ℤ
+stretched_strides [] ss ms = []
+stretched_strides (n ∷ ns) [] ms = []
+stretched_strides (n ∷ ns) (s ∷ ss) [] = []
+stretched_strides (n ∷ ns) (s ∷ ss) (m ∷ ms) = (if nat_eq n m then s else pos 0) ∷ stretched_strides ns ss ms
 
 -- and 0 for each new axis
 abbrev pub broadcast_strides : List ℕ → List ℤ → List ℕ → List ℤ
-broadcast_strides from strides to = replicate (axes_added from to) (pos 0) ++ grown_strides from strides (drop (axes_added from to) to)
+broadcast_strides from strides to = replicate (axes_added from to) (pos 0) ++ stretched_strides from strides (drop (axes_added from to) to)

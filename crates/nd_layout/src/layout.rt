@@ -1,9 +1,9 @@
-//! Where the elements of an array lie: a first place, lengths and strides.
+//! Where the elements of an array lie: an offset, lengths and strides.
 
 ghost use Rattle.std.specs.Prelude.{◌≡◌, ◌<◌, ◌^◌, ℕ, Bool, true, false, List, length, pos, MatchOption};
 ghost use Rattle.nd_shape_and_slice.specs.Shape.{in_box, nonzero_product, HasCheckedSize};
 ghost use Rattle.nd_shape_and_slice.specs.Place.{place_of, span_of};
-ghost use Rattle.nd_layout.specs.Given.{ordered_strides};
+ghost use Rattle.nd_layout.specs.GivenStrides.{ordered_strides};
 ghost use Rattle.nd_layout.specs.Places.{is_place};
 ghost use Rattle.nd_layout.specs.Steps.{IsValid};
 
@@ -21,20 +21,20 @@ use nd_shape_and_slice::{Dimension, Order, StrideList};
 use places::{is_in_box, place_at};
 use std::alloc::AllocError;
 
-/// A first place, a shape and a signed stride for each axis. As many strides as lengths; the checked size exists;
+/// An offset, a shape and a signed stride for each axis. As many strides as lengths; the checked size exists;
 /// no two places lie further apart than `isize::MAX`; each index of the box has a place.
 pub struct Layout<D: Dimension, T: StrideList> {
-    pub first: usize,
+    pub offset: usize,
     pub dim: D,
     pub strides: T,
     ghost as_many: { length (T.strides_of strides) ≡ length (D.lengths dim) },
     ghost spread: { span_of (D.lengths dim) (T.strides_of strides) < 2 ^ 63 },
     ghost checked: { nonzero_product (D.lengths dim) < 2 ^ 63 },
-    ghost reach: { (i : List ℕ) → in_box (D.lengths dim) i ≡ true → is_place (place_of first (T.strides_of strides) i) ≡ true },
+    ghost reach: { (i : List ℕ) → in_box (D.lengths dim) i ≡ true → is_place (place_of offset (T.strides_of strides) i) ≡ true },
 }
 
 impl<D: Dimension, T: StrideList> Clone for Layout<D, T> {
-    ghost is_clone = { λ layout copy. (copy.first ≡ layout.first) × (D.lengths copy.dim ≡ D.lengths layout.dim) × (T.strides_of copy.strides ≡ T.strides_of layout.strides) };
+    ghost is_clone = { λ layout copy. (copy.offset ≡ layout.offset) × (D.lengths copy.dim ≡ D.lengths layout.dim) × (T.strides_of copy.strides ≡ T.strides_of layout.strides) };
 
     fn clone(&self) -> Result<Self, AllocError> {
         Ok(self.copied())
@@ -47,27 +47,27 @@ impl<D: Dimension> Layout<D, D::Strides> {
     /// The layout of a new array: the elements in an order, from place 0 on.
     pub fn in_order(dim: D, order: Order) -> Self
         requires { HasCheckedSize (D.lengths dim) }
-        ensures first { result.first ≡ 0 }
+        ensures offset { result.offset ≡ 0 }
         ensures lengths { D.lengths result.dim ≡ D.lengths dim }
         ensures strides { D.Strides.strides_of result.strides ≡ ordered_strides order (D.lengths dim) }
     {
         let strides = strides_in(&dim, order);
         Layout {
-            first: 0,
+            offset: 0,
             dim,
             strides,
         }
     }
 
     /// The layout under strides of the caller's.
-    pub fn strided(first: usize, dim: D, strides: D::Strides) -> Self
-        requires valid { IsValid first (D.lengths dim) (D.Strides.strides_of strides) }
-        ensures first { result.first ≡ first }
+    pub fn strided(offset: usize, dim: D, strides: D::Strides) -> Self
+        requires valid { IsValid offset (D.lengths dim) (D.Strides.strides_of strides) }
+        ensures offset { result.offset ≡ offset }
         ensures lengths { D.lengths result.dim ≡ D.lengths dim }
         ensures strides { D.Strides.strides_of result.strides ≡ D.Strides.strides_of strides }
     {
         Layout {
-            first,
+            offset,
             dim,
             strides,
         }
@@ -75,14 +75,14 @@ impl<D: Dimension> Layout<D, D::Strides> {
 }
 
 impl<D: Dimension, T: StrideList> Layout<D, T> {
-    /// The same layout once more.
+    /// A copy of the layout.
     pub fn copied(&self) -> Self
-        ensures first { result.first ≡ self.now.first }
+        ensures offset { result.offset ≡ self.now.offset }
         ensures lengths { D.lengths result.dim ≡ D.lengths self.now.dim }
         ensures strides { T.strides_of result.strides ≡ T.strides_of self.now.strides }
     {
         Layout {
-            first: self.first,
+            offset: self.offset,
             dim: self.dim,
             strides: self.strides,
         }
@@ -90,11 +90,11 @@ impl<D: Dimension, T: StrideList> Layout<D, T> {
 
     /// The place of an index, None exactly outside the box.
     pub fn place_of(&self, index: &[usize]) -> Option<usize>
-        ensures { MatchOption result (in_box (D.lengths self.now.dim) index.now ≡ false) (λ place. (in_box (D.lengths self.now.dim) index.now ≡ true) × (pos place ≡ place_of self.now.first (T.strides_of self.now.strides) index.now)) }
+        ensures { MatchOption result (in_box (D.lengths self.now.dim) index.now ≡ false) (λ place. (in_box (D.lengths self.now.dim) index.now ≡ true) × (pos place ≡ place_of self.now.offset (T.strides_of self.now.strides) index.now)) }
     {
         let lengths = self.dim.slice();
         if is_in_box(lengths, index) {
-            Some(place_at(self.first, lengths, self.strides.slice(), index))
+            Some(place_at(self.offset, lengths, self.strides.slice(), index))
         } else {
             None
         }
@@ -102,8 +102,8 @@ impl<D: Dimension, T: StrideList> Layout<D, T> {
     /// The place of an index of the box.
     pub fn place_in_box(&self, index: &[usize]) -> usize
         requires { in_box (D.lengths self.now.dim) index.now ≡ true }
-        ensures { pos result ≡ place_of self.now.first (T.strides_of self.now.strides) index.now }
+        ensures { pos result ≡ place_of self.now.offset (T.strides_of self.now.strides) index.now }
     {
-        place_at(self.first, self.dim.slice(), self.strides.slice(), index)
+        place_at(self.offset, self.dim.slice(), self.strides.slice(), index)
     }
 }

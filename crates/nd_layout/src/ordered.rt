@@ -1,7 +1,7 @@
 //! Lengths and strides of the axes from the fastest on.
 
 ghost use Rattle.std.specs.Prelude.{◌≡◌, ◌<◌, pos, length, slice_index, slice_index_or, slice_set};
-ghost use Rattle.nd_layout.specs.Ranks.{ordered, axis_in};
+ghost use Rattle.nd_layout.specs.Ranks.{fastest_first, axis_in};
 
 use nd_shape_and_slice::Order;
 
@@ -20,7 +20,7 @@ pub(crate) fn axis_at(order: Order, count: usize, place: usize) -> usize
 /// The length of the `place`-th fastest axis.
 pub(crate) fn length_at(lengths: &[usize], order: Order, place: usize) -> usize
     requires { place < length lengths.now }
-    ensures { result ≡ slice_index (ordered order lengths.now) place }
+    ensures { result ≡ slice_index (fastest_first order lengths.now) place }
 {
     lengths[axis_at(order, lengths.len(), place)]
 }
@@ -28,7 +28,7 @@ pub(crate) fn length_at(lengths: &[usize], order: Order, place: usize) -> usize
 /// The stride of the `place`-th fastest axis.
 pub(crate) fn stride_at(strides: &[isize], order: Order, place: usize) -> isize
     requires { place < length strides.now }
-    ensures { result ≡ slice_index_or (ordered order strides.now) place (pos 0) }
+    ensures { result ≡ slice_index_or (fastest_first order strides.now) place (pos 0) }
 {
     strides[axis_at(order, strides.len(), place)]
 }
@@ -36,7 +36,7 @@ pub(crate) fn stride_at(strides: &[isize], order: Order, place: usize) -> isize
 /// Writes the stride of the `place`-th fastest axis.
 pub(crate) fn put_at(out: &mut [isize], order: Order, place: usize, stride: isize)
     requires { place < length out.old }
-    ensures { ordered order out.new ≡ slice_set (ordered order out.old) place stride }
+    ensures { fastest_first order out.new ≡ slice_set (fastest_first order out.old) place stride }
 {
     let axis = axis_at(order, out.len(), place);
     out[axis] = stride;

@@ -3,13 +3,13 @@
 ghost use Rattle.std.specs.Prelude.{◌↔◌, ◌≡◌, ◌<◌, ◌≤◌, ◌^◌, ◌-◌, ◌*◌, ◌%◌, ◌+◌, ◌*ℤ◌, ℕ, ℤ, pos, List, ◌∷◌, length, drop, replicate, IsTrue, MatchOption, slice_index, slice_index_or, slice_set, nat_abs};
 ghost use Rattle.nd_shape_and_slice.specs.Shape.{size_of};
 ghost use Rattle.nd_shape_and_slice.specs.Place.{span_of, IsSeparated};
-ghost use Rattle.nd_layout.specs.Ranks.{ordered, axis_in, Serves, ServesRanks, Regroups};
-ghost use Rattle.nd_layout.specs.Groups.{IsClosed, Takes};
+ghost use Rattle.nd_layout.specs.Ranks.{fastest_first, axis_in, Serves, ServesRanks, Regroups};
+ghost use Rattle.nd_layout.specs.Groups.{IsClosed, TakesLength};
 
 use crate::ordered::{length_at, put_at, stride_at};
 use nd_shape_and_slice::{Order, is_empty_shape};
 
-/// Axes that go on from one another, seen as one axis, and the number of the next axis.
+/// Axes that merge into one axis, and the number of the next axis.
 #[derive(Clone, Copy)]
 struct Group {
     length: usize,
@@ -17,7 +17,7 @@ struct Group {
     next: usize,
 }
 
-/// Whether an axis of this stride goes on where the group ends.
+/// Whether an axis of this stride continues the group.
 fn goes_on(group: Group, stride: isize) -> bool
     requires { group.length < 2 ^ 63 }
     ensures { IsTrue result ↔ (stride ≡ pos group.length *ℤ group.step) }
@@ -28,7 +28,7 @@ fn goes_on(group: Group, stride: isize) -> bool
     }
 }
 
-/// The group with the next axis, where that goes on from it. An axis of length 1 always does.
+/// The group with the next axis, if that continues it. An axis of length 1 always does.
 fn joined(group: Group, len: usize, stride: isize) -> Option<Group>
     requires fits { group.length * len < 2 ^ 63 }
     requires some { 0 < group.length * len }
@@ -61,17 +61,17 @@ fn joined(group: Group, len: usize, stride: isize) -> Option<Group>
     }
 }
 
-/// The axes from `from` on that go on from one another, as one axis that no further axis goes on from.
+/// The longest group of axes from `from` on, as one axis.
 fn next_group(lengths: &[usize], strides: &[isize], order: Order, from: usize) -> Group
     requires as_many { length strides.now ≡ length lengths.now }
     requires few { length lengths.now ≤ 32 }
     requires on { from ≤ length lengths.now }
-    requires some { 0 < size_of (drop from (ordered order lengths.now)) }
-    requires fits { size_of (drop from (ordered order lengths.now)) < 2 ^ 63 }
+    requires some { 0 < size_of (drop from (fastest_first order lengths.now)) }
+    requires fits { size_of (drop from (fastest_first order lengths.now)) < 2 ^ 63 }
     ensures on { result.next ≤ length lengths.now }
-    ensures regroups { Regroups (drop from (ordered order lengths.now)) (drop from (ordered order strides.now)) (result.length ∷ drop result.next (ordered order lengths.now)) (result.step ∷ drop result.next (ordered order strides.now)) }
-    ensures closed { IsClosed result (ordered order lengths.now) (ordered order strides.now) }
-    ensures wide { 1 < size_of (drop result.next (ordered order lengths.now)) → 1 < result.length }
+    ensures regroups { Regroups (drop from (fastest_first order lengths.now)) (drop from (fastest_first order strides.now)) (result.length ∷ drop result.next (fastest_first order lengths.now)) (result.step ∷ drop result.next (fastest_first order strides.now)) }
+    ensures closed { IsClosed result (fastest_first order lengths.now) (fastest_first order strides.now) }
+    ensures wide { 1 < size_of (drop result.next (fastest_first order lengths.now)) → 1 < result.length }
 {
     let mut group = Group {
         length: 1,
@@ -100,7 +100,7 @@ fn times(stride: isize, count: usize) -> isize
     stride * count as isize
 }
 
-/// The stride of what is left of a group after a new axis of length `len`: none where nothing is left.
+/// The stride of what is left of a group after a new axis of length `len`; None if nothing is left.
 fn step_left(step: isize, len: usize, left: usize) -> isize
     requires small { len < 2 ^ 63 }
     requires fits { 1 < left → len * nat_abs step < 2 ^ 63 }
@@ -140,13 +140,13 @@ fn filled_group(lengths: &[usize], strides: &[isize], order: Order, group: Group
     requires as_many { length strides.now ≡ length lengths.now }
     requires few { length lengths.now ≤ 32 }
     requires on { group.next ≤ length lengths.now }
-    requires some { 0 < group.length * size_of (drop group.next (ordered order lengths.now)) }
-    requires small { group.length * size_of (drop group.next (ordered order lengths.now)) < 2 ^ 63 }
-    requires closed { IsClosed group (ordered order lengths.now) (ordered order strides.now) }
+    requires some { 0 < group.length * size_of (drop group.next (fastest_first order lengths.now)) }
+    requires small { group.length * size_of (drop group.next (fastest_first order lengths.now)) < 2 ^ 63 }
+    requires closed { IsClosed group (fastest_first order lengths.now) (fastest_first order strides.now) }
     ensures on { result.next ≤ length lengths.now }
-    ensures regroups { Regroups (group.length ∷ drop group.next (ordered order lengths.now)) (group.step ∷ drop group.next (ordered order strides.now)) (result.length ∷ drop result.next (ordered order lengths.now)) (result.step ∷ drop result.next (ordered order strides.now)) }
-    ensures closed { IsClosed result (ordered order lengths.now) (ordered order strides.now) }
-    ensures wide { 1 < size_of (drop result.next (ordered order lengths.now)) → 1 < result.length }
+    ensures regroups { Regroups (group.length ∷ drop group.next (fastest_first order lengths.now)) (group.step ∷ drop group.next (fastest_first order strides.now)) (result.length ∷ drop result.next (fastest_first order lengths.now)) (result.step ∷ drop result.next (fastest_first order strides.now)) }
+    ensures closed { IsClosed result (fastest_first order lengths.now) (fastest_first order strides.now) }
+    ensures wide { 1 < size_of (drop result.next (fastest_first order lengths.now)) → 1 < result.length }
 {
     if group.length == 1 {
         next_group(lengths, strides, order, group.next)
@@ -166,13 +166,13 @@ fn take_length(
     requires as_many { length strides.now ≡ length lengths.now }
     requires few { length lengths.now ≤ 32 }
     requires on { group.next ≤ length lengths.now }
-    requires some { 0 < len * (group.length * size_of (drop group.next (ordered order lengths.now))) }
-    requires small { group.length * size_of (drop group.next (ordered order lengths.now)) < 2 ^ 63 }
-    requires fits { (group.length - 1) * nat_abs group.step + span_of (drop group.next (ordered order lengths.now)) (drop group.next (ordered order strides.now)) < 2 ^ 63 }
-    requires closed { IsClosed group (ordered order lengths.now) (ordered order strides.now) }
+    requires some { 0 < len * (group.length * size_of (drop group.next (fastest_first order lengths.now))) }
+    requires small { group.length * size_of (drop group.next (fastest_first order lengths.now)) < 2 ^ 63 }
+    requires fits { (group.length - 1) * nat_abs group.step + span_of (drop group.next (fastest_first order lengths.now)) (drop group.next (fastest_first order strides.now)) < 2 ^ 63 }
+    requires closed { IsClosed group (fastest_first order lengths.now) (fastest_first order strides.now) }
     ensures { MatchOption result
-        ((ms : List ℕ) (ts : List ℤ) → len * size_of ms ≡ group.length * size_of (drop group.next (ordered order lengths.now)) → ServesRanks (group.length ∷ drop group.next (ordered order lengths.now)) (group.step ∷ drop group.next (ordered order strides.now)) (len ∷ ms) ts → ⊥)
-        (λ r. Takes (ordered order lengths.now) (ordered order strides.now) group len r.0 r.1 × (r.1.next ≤ length lengths.now) × IsClosed r.1 (ordered order lengths.now) (ordered order strides.now)) }
+        ((ms : List ℕ) (ts : List ℤ) → len * size_of ms ≡ group.length * size_of (drop group.next (fastest_first order lengths.now)) → ServesRanks (group.length ∷ drop group.next (fastest_first order lengths.now)) (group.step ∷ drop group.next (fastest_first order strides.now)) (len ∷ ms) ts → ⊥)
+        (λ r. TakesLength (fastest_first order lengths.now) (fastest_first order strides.now) group len r.0 r.1 × (r.1.next ≤ length lengths.now) × IsClosed r.1 (fastest_first order lengths.now) (fastest_first order strides.now)) }
 {
     if len == 1 {
         return Some((0, group));
@@ -180,8 +180,8 @@ fn take_length(
     split_group(filled_group(lengths, strides, order, group), len)
 }
 
-/// Strides that give the new lengths the same places in the same order, written into `out`. False exactly
-/// where no integers do, and then `out` holds nothing of use.
+/// Strides that give the new lengths the same places in the same order, written into `out`. Returns false exactly if no
+/// integers do; `out` is then of no use.
 pub fn reshape_strides(
     lengths: &[usize],
     strides: &[isize],

@@ -1,4 +1,4 @@
-//! Whether the elements of a layout lie in order, or at least side by side.
+//! Whether a layout is standard, and whether its places are a run.
 
 ghost use Rattle.std.specs.Prelude.{◌↔◌, ◌≡◌, ◌≢◌, ◌<◌, ◌≤◌, ◌^◌, ◌⊎◌, pos, length, IsTrue};
 ghost use Rattle.nd_shape_and_slice.specs.Shape.{HasCheckedSize, size_of};
@@ -9,7 +9,7 @@ use crate::ordered::{length_at, stride_at};
 use crate::spans::{separated, span};
 use nd_shape_and_slice::{Order, is_empty_shape};
 
-/// Whether an axis steps by this number: one of length 1 makes no step.
+/// Whether an axis has this stride; an axis of length 1 may have any.
 fn steps_by(len: usize, stride: isize, count: usize) -> bool
     requires { count < 2 ^ 63 }
     ensures { IsTrue result ↔ (len ≢ 1 → stride ≡ pos count) }
@@ -17,7 +17,7 @@ fn steps_by(len: usize, stride: isize, count: usize) -> bool
     len == 1 || stride == count as isize
 }
 
-/// Whether the layout is the standard one: each index lies at its row-major rank from the first place.
+/// Whether the layout is the standard one: each index lies at its row-major rank from the offset.
 pub fn is_standard(lengths: &[usize], strides: &[isize]) -> bool
     requires as_many { length strides.now ≡ length lengths.now }
     requires few { length lengths.now ≤ 32 }
@@ -39,7 +39,7 @@ pub fn is_standard(lengths: &[usize], strides: &[isize]) -> bool
     true
 }
 
-/// How many elements a shape has that has some.
+/// The size of a shape without a length of 0.
 fn count_of(lengths: &[usize]) -> usize
     requires some { 0 < size_of lengths.now }
     requires fits { size_of lengths.now < 2 ^ 63 }

@@ -2,7 +2,7 @@
 
 ghost use Rattle.std.specs.Prelude.{◌<◌, ◌≤◌, length};
 ghost use Rattle.nd_shape_and_slice.specs.Shape.{HasCheckedSize};
-ghost use Rattle.nd_layout.specs.Growth.{grown};
+ghost use Rattle.nd_layout.specs.Growth.{grown_shape};
 
 use nd_layout::{growth, is_run, span};
 
@@ -17,7 +17,7 @@ fn grows(
     requires few { length lengths.now ≤ 2 }
     requires checked { HasCheckedSize lengths.now }
     requires on_axis { axis < length lengths.now }
-    requires grown { HasCheckedSize (grown lengths.now axis added) }
+    requires grown { HasCheckedSize (grown_shape lengths.now axis added) }
 {
     if strides.len() != lengths.len() {
         return None;

@@ -7,7 +7,7 @@ use nd_layout::{separated, span};
 use nd_shape_and_slice::Order;
 
 /// The offset of the index of this rank.
-fn offset_at(lengths: &[usize], strides: &[isize], order: Order, rank: usize) -> isize {
+fn displacement_at(lengths: &[usize], strides: &[isize], order: Order, rank: usize) -> isize {
     let mut rest = rank;
     let mut offset: isize = 0;
     for place in 0..lengths.len() {
@@ -27,14 +27,16 @@ fn offset_at(lengths: &[usize], strides: &[isize], order: Order, rank: usize) ->
 }
 
 /// Whether two layouts have the same offset at each rank below `size`.
-fn same_offsets(
+fn same_displacements(
     old: (&[usize], &[isize]),
     new: (&[usize], &[isize]),
     order: Order,
     size: usize,
 ) -> bool {
     for rank in 0..size {
-        if offset_at(old.0, old.1, order, rank) != offset_at(new.0, new.1, order, rank) {
+        if displacement_at(old.0, old.1, order, rank)
+            != displacement_at(new.0, new.1, order, rank)
+        {
             return false;
         }
     }
@@ -51,7 +53,7 @@ fn forced(lengths: &[usize], strides: &[isize], new: &[usize], order: Order) -> 
             Order::ColumnMajor => place,
         };
         if new[axis] > 1 && axis < 3 {
-            result[axis] = offset_at(lengths, strides, order, rank);
+            result[axis] = displacement_at(lengths, strides, order, rank);
         }
         rank = rank.saturating_mul(new[axis]);
     }
@@ -81,7 +83,7 @@ fn is_as_good(old: Axes<'_>, new: Axes<'_>, order: Order, size: usize) -> bool {
     if size == 0 {
         return new.1.iter().all(|stride: &isize| -> bool { *stride == 0 });
     }
-    same_offsets(old, new, order, size)
+    same_displacements(old, new, order, size)
         && reach(new) <= reach(old)
         && (is_apart(new) || !is_apart(old))
 }
@@ -92,7 +94,7 @@ fn search_is_right(old: Axes<'_>, new: &[usize], order: Order, size: usize) -> b
         return false;
     }
     let candidate = forced(old.0, old.1, new, order);
-    let serves = same_offsets(old, (new, &candidate), order, size);
+    let serves = same_displacements(old, (new, &candidate), order, size);
     let mut found = [9; 3];
     let out = &mut found[..new.len()];
     reshaped(old.0, old.1, new, order, out) == Some(serves)

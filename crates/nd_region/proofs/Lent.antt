@@ -74,16 +74,16 @@ module _ (E : El) {M : Type 1} {𝓤 : Ura M} (𝓛 : Logic 𝓤) (κ : Lft) whe
       qed 𝓛 (‵ (spot_lent (R E) f (block_ptr b o) x κ) ∷ ‵ (spots_lent (R E) (block_ptr b (o + sz E)) xs fs κ) ∷ []) ∵ drop ! $
       by ! (lent_from b xs fs st (o + sz E) at (omega arith) (omega arith) (e ∙ omega (arith, suc-mul st (sz E))))
 
-  lent_first : (b : ℕ) (n : ℕ) (xs : List (el_x E)) (fs : List Bool) (o : ℕ) → n ≤ length xs → take n fs ≡ replicate n true
+  lent_offset : (b : ℕ) (n : ℕ) (xs : List (el_x E)) (fs : List Bool) (o : ℕ) → n ≤ length xs → take n fs ≡ replicate n true
       → ent 𝓤 (sem 𝓛 (spots_lent (R E) (block_ptr b o) xs fs κ)) (sem 𝓛 (elements_shared (R E) (take n xs) b o κ))
-  lent_first b zero xs fs o l e = qed 𝓛 (‵ (spots_lent (R E) (block_ptr b o) xs fs κ) ∷ []) ∵ keep ! [] $ done !
-  lent_first b (suc n) [] fs o l e = absurd (not-suc-le-zero l)
-  lent_first b (suc n) (x ∷ xs) [] o l e = absurd (mask_short n e)
-  lent_first b (suc n) (x ∷ xs) (f ∷ fs) o l e =
+  lent_offset b zero xs fs o l e = qed 𝓛 (‵ (spots_lent (R E) (block_ptr b o) xs fs κ) ∷ []) ∵ keep ! [] $ done !
+  lent_offset b (suc n) [] fs o l e = absurd (not-suc-le-zero l)
+  lent_offset b (suc n) (x ∷ xs) [] o l e = absurd (mask_short n e)
+  lent_offset b (suc n) (x ∷ xs) (f ∷ fs) o l e =
       let i : suc n ≤ suc (length xs) = l in let h = mask_head n f fs e in
       qed 𝓛 (‵ (spot_lent (R E) f (block_ptr b o) x κ) ∷ ‵ (spots_lent (R E) (block_ptr b (o + sz E)) xs fs κ) ∷ []) ∵
       rewrite ! 0 (λ (g : Bool). ‵ (spot_lent (R E) g (block_ptr b o) x κ)) h.0 refl $ fsplit ! $ drop ! $ move ! (1 ∷ []) $
-      use1 𝓛 (‵ (elements_shared (R E) (take n xs) b (o + sz E) κ)) (lent_first b n xs fs (o + sz E) (omega arith) h.1) $ move ! (1 ∷ 0 ∷ []) $ fjoin ! $ done !
+      use1 𝓛 (‵ (elements_shared (R E) (take n xs) b (o + sz E) κ)) (lent_offset b n xs fs (o + sz E) (omega arith) h.1) $ move ! (1 ∷ 0 ∷ []) $ fjoin ! $ done !
 
   -- a run of elements, for a lifetime within that of the row's `&`
   pub run_seen : (κ' : Lft) → Incl κ' κ → (b o : ℕ) (xs : List (el_x E)) (fs : List Bool) (p n st : ℕ) → IsAt xs fs p n st
@@ -91,7 +91,7 @@ module _ (E : El) {M : Type 1} {𝓤 : Ura M} (𝓛 : Logic 𝓤) (κ : Lft) whe
   run_seen κ' inc b o xs fs p n st at = let ys : List (el_x E) = take n (drop_l st xs) in let here : ℕ = st * sz E + o in
       qed 𝓛 (‵ (spots_lent (R E) (block_ptr b o) xs fs κ) ∷ []) ∵
       use1 𝓛 (‵ (spots_lent (R E) (block_ptr b here) (drop_l st xs) (drop_l st fs) κ)) (lent_from b xs fs st o here (omega (arith, at.in_row)) (omega (arith, at.in_mask)) refl) $
-      use1 𝓛 (‵ (elements_shared (R E) ys b here κ)) (lent_first b n (drop_l st xs) (drop_l st fs) here (omega (arith, length-drop st xs, at.in_row)) at.full) $
+      use1 𝓛 (‵ (elements_shared (R E) ys b here κ)) (lent_offset b n (drop_l st xs) (drop_l st fs) here (omega (arith, length-drop st xs, at.in_row)) at.full) $
       use1 𝓛 (‵ (elements_shared (R E) ys b here κ')) (shortens 𝓛 (elements_shared (R E) ys b here) (elements_shr_laws (R E) E.laws.shr_laws ys b here) κ κ' inc) $ hide ! $ done !
 
 module _ {M : Type 1} {𝓤 : Ura M} {𝓛 : Logic 𝓤} {K : Type 0} {Γ : List (Item 𝓤)} {G : Goal 𝓤 𝓛.H} where

@@ -33,7 +33,7 @@ use denote.Ref.{MutRef, NamedLft}
 use Rattle.std.specs.Prelude.{Some, if◌then◌else◌}
 use Rattle.std.proofs.mem.Param.{El, R, el_x}
 use Rattle.nd_region.specs.Memory.{spot, Spots, loan}
-use Rattle.nd_region.specs.Places.{element_in, merged, kept_where}
+use Rattle.nd_region.specs.Places.{element_in, merged_rows, kept_where}
 use Rattle.nd_region.specs.Region.{with_items}
 use Rattle.nd_region.proofs.Memory.{Rg, rg_d, rg_val, rg_had, rg_made, sz, row_at, besides, spot_out, spot_in}
 
@@ -106,7 +106,7 @@ length_kept g (f ∷ fs) = ap suc (length_kept (λ k. g (suc k)) fs)
 pub kept_length : (g : ℕ → Bool) (fs : List Bool) → length (kept_where g fs) ≡ length fs
 kept_length = length_kept
 
-length_merged : {X : Type 0} (ks : List Bool) (ws vs : List X) → length ws ≡ length ks → length vs ≡ length ks → length (merged ks ws vs) ≡ length ks
+length_merged : {X : Type 0} (ks : List Bool) (ws vs : List X) → length ws ≡ length ks → length vs ≡ length ks → length (merged_rows ks ws vs) ≡ length ks
 length_merged [] ws vs e e' = e'
 length_merged (k ∷ ks) [] vs e e' = let bad : 0 ≡ suc (length ks) = e in absurd (not-suc-le-zero {n = 0} (omega arith))
 length_merged (k ∷ ks) (w ∷ ws) [] e e' = let bad : 0 ≡ suc (length ks) = e' in absurd (not-suc-le-zero {n = 0} (omega arith))
@@ -139,7 +139,7 @@ module _ (E : El) {M : Type 1} {𝓤 : Ura M} (𝓛 : Logic 𝓤) (b : ℕ) wher
       move ! (2 ∷ 0 ∷ []) $ fjoin ! $ move ! (2 ∷ 1 ∷ []) $ fjoin ! $ move ! (1 ∷ 0 ∷ []) $ done !
 
   rows_glue : (g : ℕ → Bool) (ws vs : List (el_x E)) (fs : List Bool) (o : ℕ) → length ws ≡ length fs → length vs ≡ length fs
-      → ent 𝓤 (sep 𝓤 (sem 𝓛 (Rows o ws (kept_where g fs))) (sem 𝓛 (Rows o vs (kept_where (λ k. not (g k)) fs)))) (sem 𝓛 (Rows o (merged (kept_where g fs) ws vs) fs))
+      → ent 𝓤 (sep 𝓤 (sem 𝓛 (Rows o ws (kept_where g fs))) (sem 𝓛 (Rows o vs (kept_where (λ k. not (g k)) fs)))) (sem 𝓛 (Rows o (merged_rows (kept_where g fs) ws vs) fs))
   rows_glue g ws [] [] o e e' = qed 𝓛 (‵ (Rows o ws []) ∷ ‵ ftrue ∷ []) ∵ keep ! (1 ∷ []) $ done !
   rows_glue g ws (v ∷ vs) [] o e e' = let bad : suc (length vs) ≡ 0 = e' in absurd (not-suc-le-zero {n = 0} (omega arith))
   rows_glue g [] vs (f ∷ fs) o e e' = let bad : 0 ≡ suc (length fs) = e in absurd (not-suc-le-zero {n = 0} (omega arith))
@@ -148,7 +148,7 @@ module _ (E : El) {M : Type 1} {𝓤 : Ura M} (𝓛 : Logic 𝓤) (b : ℕ) wher
       let i : suc (length ws) ≡ suc (length fs) = e in let j : suc (length vs) ≡ suc (length fs) = e' in
       qed 𝓛 (‵ (fsep (spot (R E) (f && g 0) (block_ptr b o) w) (Rows at ws (kept_where h fs))) ∷ ‵ (fsep (spot (R E) (f && not (g 0)) (block_ptr b o) v) (Rows at vs (kept_where (λ k. not (h k)) fs))) ∷ []) ∵
       fsplit ! $ move ! (2 ∷ []) $ fsplit ! $ move ! (2 ∷ 0 ∷ []) $ use2 𝓛 (‵ (spot (R E) f (block_ptr b o) (if f && g 0 then w else v))) (spot_glue f (g 0) o w v) $ move ! (2 ∷ 1 ∷ []) $
-      use2 𝓛 (‵ (Rows at (merged (kept_where h fs) ws vs) fs)) (rows_glue h ws vs fs at (omega arith) (omega arith)) $ move ! (1 ∷ 0 ∷ []) $ fjoin ! $ done !
+      use2 𝓛 (‵ (Rows at (merged_rows (kept_where h fs) ws vs) fs)) (rows_glue h ws vs fs at (omega arith) (omega arith)) $ move ! (1 ∷ 0 ∷ []) $ fjoin ! $ done !
 
   module _ (κ : Lft) (q : Share) (o : ℕ) (γ : GName) (xs : List (el_x E)) (fs : List Bool) (g : ℕ → Bool) where
     abbrev Parted : SemTy
@@ -165,15 +165,15 @@ module _ (E : El) {M : Type 1} {𝓤 : Ura M} (𝓛 : Logic 𝓤) (b : ℕ) wher
 
     abbrev pub Cut : GName × GName → Item 𝓤
     Cut γs = ‵ (loan (R E) κ (block_ptr b o) γs.0 xs (kept_where g fs)) ⊛ ‵ (loan (R E) κ (block_ptr b o) γs.1 xs (kept_where (λ k. not (g k)) fs)) ⊛ ‵ (flft κ q)
-        ⊛ ‵ (after₂ Parted One Two γ γs.0 γs.1 (merged (kept_where g fs)))
+        ⊛ ‵ (after₂ Parted One Two γ γs.0 γs.1 (merged_rows (kept_where g fs)))
 
-    mends : (w v : List (el_x E)) → ent 𝓤 (sep 𝓤 (sem 𝓛 (One.own_at w 0 0)) (sep 𝓤 (sem 𝓛 (Two.own_at v 0 0)) (emp 𝓤))) (sem 𝓛 (Parted.own_at (merged (kept_where g fs) w v) 0 0))
+    mends : (w v : List (el_x E)) → ent 𝓤 (sep 𝓤 (sem 𝓛 (One.own_at w 0 0)) (sep 𝓤 (sem 𝓛 (Two.own_at v 0 0)) (emp 𝓤))) (sem 𝓛 (Parted.own_at (merged_rows (kept_where g fs) w v) 0 0))
     mends w v = qed 𝓛 (‵ (One.own_at w 0 0) ∷ ‵ (Two.own_at v 0 0) ∷ raw (emp 𝓤) ∷ []) ∵ fsplit ! $ feq_l ! (λ e. move ! (1 ∷ []) $ fsplit ! $ feq_l ! (λ e'.
         let i : length w ≡ length fs = e ∙ length_kept g fs in let j : length v ≡ length fs = e' ∙ length_kept (λ k. not (g k)) fs in
-        move ! (1 ∷ 0 ∷ []) $ use2 𝓛 (‵ (Rows o (merged (kept_where g fs) w v) fs)) (rows_glue g w v fs o i j) $
-        feq_i ! ℕ (length (merged (kept_where g fs) w v)) (length fs) (length_merged (kept_where g fs) w v e (j ∙ sym (length_kept g fs)) ∙ length_kept g fs) $ fjoin ! $ keep ! (0 ∷ []) $ done !))
+        move ! (1 ∷ 0 ∷ []) $ use2 𝓛 (‵ (Rows o (merged_rows (kept_where g fs) w v) fs)) (rows_glue g w v fs o i j) $
+        feq_i ! ℕ (length (merged_rows (kept_where g fs) w v)) (length fs) (length_merged (kept_where g fs) w v e (j ∙ sym (length_kept g fs)) ∙ length_kept g fs) $ fjoin ! $ keep ! (0 ∷ []) $ done !))
 
-    pub rejoins : (w v : List (el_x E)) → ent 𝓤 (sep 𝓤 (sem 𝓛 (One.own_at w 0 0)) (sem 𝓛 (Two.own_at v 0 0))) (sem 𝓛 (Parted.own_at (merged (kept_where g fs) w v) 0 0))
+    pub rejoins : (w v : List (el_x E)) → ent 𝓤 (sep 𝓤 (sem 𝓛 (One.own_at w 0 0)) (sem 𝓛 (Two.own_at v 0 0))) (sem 𝓛 (Parted.own_at (merged_rows (kept_where g fs) w v) 0 0))
     rejoins w v = qed 𝓛 (‵ (One.own_at w 0 0) ∷ ‵ (Two.own_at v 0 0) ∷ []) ∵ use0 𝓛 (raw (emp 𝓤)) (id⊢ 𝓤 (emp 𝓤)) $ move ! (1 ∷ 2 ∷ 0 ∷ []) $ by ! (mends w v)
 
     pub cuts : ent 𝓤 (sep 𝓤 (sem 𝓛 (loan (R E) κ (block_ptr b o) γ xs fs)) (A.lft κ q)) (H.⇛ (mean 𝓛 (some Cut)))
@@ -182,8 +182,8 @@ module _ (E : El) {M : Type 1} {𝓤 : Ura M} (𝓛 : Logic 𝓤) (b : ℕ) wher
         feq_i ! ℕ (length xs) (length (kept_where g fs)) (long ∙ sym (length_kept g fs)) $ fjoin ! $ move ! (1 ∷ []) $
         feq_i ! ℕ (length xs) (length (kept_where (λ k. not (g k)) fs)) (long ∙ sym (length_kept (λ k. not (g k)) fs)) $ fjoin ! $
         use0 𝓛 (raw (emp 𝓤)) (id⊢ 𝓤 (emp 𝓤)) $ move ! (3 ∷ 4 ∷ 5 ∷ 2 ∷ 1 ∷ 0 ∷ []) $ group ! 6 $
-        use1 𝓛 (later (some (λ (γs : GName × GName). (‵ (fobs γs.0 cut_code) ⊛ ‵ (fbor κ (Body One 0 0 γs.0))) ⊛ (‵ (fobs γs.1 cut_code) ⊛ ‵ (fbor κ (Body Two 0 0 γs.1))) ⊛ ‵ (flft κ q) ⊛ ‵ (after₂ Parted One Two γ γs.0 γs.1 (merged (kept_where g fs))))))
-        (takes_two 𝓛 Parted One Two (merged (kept_where g fs)) κ q 0 0 0 0 0 0 γ (emp 𝓤) mends cut_code cut_code xs xs) $ await ! tt $ pick ! (λ γs. split3 ! $
+        use1 𝓛 (later (some (λ (γs : GName × GName). (‵ (fobs γs.0 cut_code) ⊛ ‵ (fbor κ (Body One 0 0 γs.0))) ⊛ (‵ (fobs γs.1 cut_code) ⊛ ‵ (fbor κ (Body Two 0 0 γs.1))) ⊛ ‵ (flft κ q) ⊛ ‵ (after₂ Parted One Two γ γs.0 γs.1 (merged_rows (kept_where g fs))))))
+        (takes_two 𝓛 Parted One Two (merged_rows (kept_where g fs)) κ q 0 0 0 0 0 0 γ (emp 𝓤) mends cut_code cut_code xs xs) $ await ! tt $ pick ! (λ γs. split3 ! $
         split ! $ fjoin ! $ move ! (1 ∷ []) $ split ! $ fjoin ! $ move ! (2 ∷ []) $ split ! $ now ! $ show ! (λ (z : GName × GName). mean 𝓛 (Cut z)) γs $ move ! (3 ∷ 2 ∷ 0 ∷ 1 ∷ []) $ done !))
 
   module _ (κ : Lft) (o : ℕ) (xs : List (el_x E)) (ks : List Bool) where

@@ -6,7 +6,7 @@ use Rattle.std.specs.Prelude.{ℤ}
 use Rattle.nd_region.specs.Places.{names}
 
 abbrev pub moves : ℕ → List ℕ → List ℤ → ℕ → Bool
-moves first ns ss p = names first ns ss p
+moves offset ns ss p = names offset ns ss p
 
 abbrev pub leaves : ℕ → List ℕ → List ℤ → ℕ → Bool
-leaves first ns ss p = not (moves first ns ss p)
+leaves offset ns ss p = not (moves offset ns ss p)

@@ -5,8 +5,8 @@ use Rattle.std.specs.Option.{is_some}
 use native.Mathlib.Omega.{arith}
 use native.Mathlib.Nat.{not-suc-le-zero}
 use Rattle.nd_region.specs.declared.region.Region.{Region}
-use Rattle.nd_region.specs.Places.{element_in, stored_in, merged, kept_where}
-use Rattle.nd_region.specs.Region.{stored, borrow_of, rejoined, IsAsLong, IsPartWhere}
+use Rattle.nd_region.specs.Places.{element_in, stored_in, merged_rows, kept_where}
+use Rattle.nd_region.specs.Region.{region_stored, borrow_of, rejoined_region, IsAsLong, IsPartWhere}
 use Rattle.nd_region.proofs.Stored.{part_stored}
 
 module _ {A : Type 0} where
@@ -18,7 +18,7 @@ module _ {A : Type 0} where
   same_none true = refl
   same_none false = refl
 
-  merged_elements : (g : ℕ → Bool) (fs : List Bool) (ws vs : List A) (p : ℕ) → length ws ≡ length vs → element_in (merged (kept_where g fs) ws vs) fs p ≡ if g p then element_in ws fs p else element_in vs fs p
+  merged_elements : (g : ℕ → Bool) (fs : List Bool) (ws vs : List A) (p : ℕ) → length ws ≡ length vs → element_in (merged_rows (kept_where g fs) ws vs) fs p ≡ if g p then element_in ws fs p else element_in vs fs p
   merged_elements g [] [] [] p e = same_none (g p)
   merged_elements g [] [] (v ∷ vs) p e = absurd (not-suc-le-zero {n = 0} (let bad : 0 ≡ suc (length vs) = e in omega arith))
   merged_elements g [] (w ∷ ws) [] p e = absurd (not-suc-le-zero {n = 0} (let bad : suc (length ws) ≡ 0 = e in omega arith))
@@ -32,11 +32,11 @@ module _ {A : Type 0} where
   merged_elements g (false ∷ fs) (w ∷ ws) (v ∷ vs) (suc p) e = let i : suc (length ws) ≡ suc (length vs) = e in merged_elements (λ k. g (suc k)) fs ws vs p (omega arith)
 
   -- of two rows as long as each other, the places that pass show the first's elements
-  pub merged_stored : (g : ℕ → Bool) (fs : List Bool) (ws vs : List A) (p : ℕ) → length ws ≡ length vs → stored_in (merged (kept_where g fs) ws vs) fs p ≡ if g p then stored_in ws fs p else stored_in vs fs p
+  pub merged_stored : (g : ℕ → Bool) (fs : List Bool) (ws vs : List A) (p : ℕ) → length ws ≡ length vs → stored_in (merged_rows (kept_where g fs) ws vs) fs p ≡ if g p then stored_in ws fs p else stored_in vs fs p
   unfolding stored_in
   merged_stored g fs ws vs p e = merged_elements g fs ws vs p e
 
-  pub merged_long : (fs : List Bool) (ws vs : List A) → length ws ≡ length vs → length (merged fs ws vs) ≡ length vs
+  pub merged_long : (fs : List Bool) (ws vs : List A) → length ws ≡ length vs → length (merged_rows fs ws vs) ≡ length vs
   merged_long [] ws vs e = refl
   merged_long (f ∷ fs) [] vs e = refl
   merged_long (f ∷ fs) (w ∷ ws) [] e = absurd (not-suc-le-zero {n = 0} (let bad : suc (length ws) ≡ 0 = e in omega arith))
@@ -57,7 +57,7 @@ module _ {A : Type 0} where
   stored_there xs ys fs p e = element_there xs ys fs p e
 
   -- a region has an element at each place where it had one, whatever was written
-  pub long_there : (r s : Region A) (p : ℕ) → borrow_of s ≡ borrow_of r → IsAsLong r s → is_some (stored s p) ≡ is_some (stored r p)
+  pub long_there : (r s : Region A) (p : ℕ) → borrow_of s ≡ borrow_of r → IsAsLong r s → is_some (region_stored s p) ≡ is_some (region_stored r p)
   long_there r s p same long = ap (λ b. is_some (stored_in s.items b.1 p)) same ∙ stored_there r.items s.items r.held p long
 
   if_twice : (b : Bool) (x y : Option A) → (if b then x else y) ≡ (if b then (if b then x else None) else y)
@@ -69,12 +69,12 @@ module _ {A : Type 0} where
     as_long = long ∙ ap length part.0
 
     -- a part that is back, as long as it was, gives its places what it holds
-    pub part_back : (p : ℕ) → borrow_of s ≡ borrow_of x → stored (rejoined r x s t) p ≡ if g p then stored s p else stored r p
+    pub part_back : (p : ℕ) → borrow_of s ≡ borrow_of x → region_stored (rejoined_region r x s t) p ≡ if g p then region_stored s p else region_stored r p
     part_back p same =
         let held : s.held ≡ kept_where g r.held = ap (λ b. b.1) same ∙ part.1 in
-        let mine : stored s p ≡ if g p then stored_in s.items r.held p else None = ap (λ fs. stored_in s.items fs p) held ∙ part_stored g s.items r.held p in
-        (λ i. stored_in (merged (part.1 i) s.items (others i)) r.held p) ∙ merged_stored g r.held s.items r.items p as_long
-        ∙ if_twice (g p) (stored_in s.items r.held p) (stored r p) ∙ ap (λ o. if g p then o else stored r p) (sym mine)
+        let mine : region_stored s p ≡ if g p then stored_in s.items r.held p else None = ap (λ fs. stored_in s.items fs p) held ∙ part_stored g s.items r.held p in
+        (λ i. stored_in (merged_rows (part.1 i) s.items (others i)) r.held p) ∙ merged_stored g r.held s.items r.items p as_long
+        ∙ if_twice (g p) (stored_in s.items r.held p) (region_stored r p) ∙ ap (λ o. if g p then o else region_stored r p) (sym mine)
 
-    pub back_long : IsAsLong r (rejoined r x s t)
-    back_long = (λ i. length (merged x.held s.items (others i))) ∙ merged_long x.held s.items r.items as_long
+    pub back_long : IsAsLong r (rejoined_region r x s t)
+    back_long = (λ i. length (merged_rows x.held s.items (others i))) ∙ merged_long x.held s.items r.items as_long

@@ -6,7 +6,7 @@ use Rattle.std.specs.List.{slice_get}
 use native.Mathlib.Omega.{arith}
 use native.Mathlib.Nat.{not-suc-le-zero}
 use lib.ListN.{set, get_or}
-use Rattle.nd_region.specs.Places.{element_in, stored_in, merged, kept_where}
+use Rattle.nd_region.specs.Places.{element_in, stored_in, merged_rows, kept_where}
 
 and_false : (f : Bool) → (f && false) ≡ false
 and_false true = refl
@@ -156,17 +156,17 @@ module _ {A : Type 0} where
   unfolding stored_in
   stored_at xs fs p x d e = some_at xs fs p x d e
 
-  pub merged_rest : (g : ℕ → Bool) (fs : List Bool) (ws vs : List A) → length vs ≡ length ws → ((k : ℕ) → g k ≡ false) → merged (kept_where g fs) ws vs ≡ vs
+  pub merged_rest : (g : ℕ → Bool) (fs : List Bool) (ws vs : List A) → length vs ≡ length ws → ((k : ℕ) → g k ≡ false) → merged_rows (kept_where g fs) ws vs ≡ vs
   merged_rest g [] ws vs e none = refl
   merged_rest g (f ∷ fs) [] vs e none = refl
   merged_rest g (f ∷ fs) (w ∷ ws) [] e none = refl
   merged_rest g (f ∷ fs) (w ∷ ws) (v ∷ vs) e none =
       let i : suc (length vs) ≡ suc (length ws) = e in
-      (λ j. (if f && none 0 j then w else v) ∷ merged (kept_where (λ k. g (suc k)) fs) ws vs) ∙ ap (λ (b : Bool). (if b then w else v) ∷ merged (kept_where (λ k. g (suc k)) fs) ws vs) (and_false f)
+      (λ j. (if f && none 0 j then w else v) ∷ merged_rows (kept_where (λ k. g (suc k)) fs) ws vs) ∙ ap (λ (b : Bool). (if b then w else v) ∷ merged_rows (kept_where (λ k. g (suc k)) fs) ws vs) (and_false f)
       ∙ ap (λ (l : List A). v ∷ l) (merged_rest (λ k. g (suc k)) fs ws vs (omega arith) (λ k. none (suc k)))
 
   -- what two parts make of a row, place by place
-  pub merged_at : (ks : List Bool) (ws vs : List A) (k : ℕ) (d : A) → length ws ≡ length ks → length vs ≡ length ks → get_or (merged ks ws vs) k d ≡ if get_or ks k false then get_or ws k d else get_or vs k d
+  pub merged_at : (ks : List Bool) (ws vs : List A) (k : ℕ) (d : A) → length ws ≡ length ks → length vs ≡ length ks → get_or (merged_rows ks ws vs) k d ≡ if get_or ks k false then get_or ws k d else get_or vs k d
   merged_at [] [] [] k d e e' = refl
   merged_at [] [] (v ∷ vs) k d e e' = let bad : suc (length vs) ≡ 0 = e' in absurd (not-suc-le-zero {n = 0} (omega arith))
   merged_at [] (w ∷ ws) vs k d e e' = let bad : suc (length ws) ≡ 0 = e in absurd (not-suc-le-zero {n = 0} (omega arith))

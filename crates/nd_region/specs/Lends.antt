@@ -6,7 +6,7 @@ use Rattle.std.specs.Simd.{first_chunks}
 use mir.Syntax.{named}
 use Rattle.nd_region.specs.declared.region.Region.{Region}
 use Rattle.nd_region.specs.Region.{with_items, with_element, with_run}
-use Rattle.nd_region.specs.Places.{merged, run_written}
+use Rattle.nd_region.specs.Places.{merged_rows, run_written}
 use Rattle.nd_region.specs.Memory.{ends_as}
 use Rattle.nd_region.specs.contracts.region.Region.{the_row}
 
@@ -20,7 +20,7 @@ place_follows R s p r = follows (the_row (record { mir = named 1; lft = [] }) R)
 
 -- the borrow of s ends as its two parts do, each at its own places
 abbrev pub parts_follow : (R : RattleType) → Region R.Denot → Region R.Denot → Region R.Denot → Fml
-parts_follow R s r t = follows_both (Array R 0) (Array R 0) (Array R 0) s.name r.name t.name (merged r.held)
+parts_follow R s r t = follows_both (Array R 0) (Array R 0) (Array R 0) s.name r.name t.name (merged_rows r.held)
 
 -- the region ends with what the reborrowed one ends with
 abbrev pub region_follows : (R : RattleType) → MutBor (Region R.Denot) → Region R.Denot → Fml

@@ -18,11 +18,11 @@ module _ {A : Type 0} where
   stored_in xs fs p = element_in xs fs p
 
   -- of two rows, the first's elements at the places of the mask, and elsewhere the second's
-  abbrev pub merged : List Bool → List A → List A → List A
-  merged [] xs ys = ys
-  merged (f ∷ fs) [] ys = ys
-  merged (f ∷ fs) (x ∷ xs) [] = []
-  merged (f ∷ fs) (x ∷ xs) (y ∷ ys) = (if f then x else y) ∷ merged fs xs ys
+  abbrev pub merged_rows : List Bool → List A → List A → List A
+  merged_rows [] xs ys = ys
+  merged_rows (f ∷ fs) [] ys = ys
+  merged_rows (f ∷ fs) (x ∷ xs) [] = []
+  merged_rows (f ∷ fs) (x ∷ xs) (y ∷ ys) = (if f then x else y) ∷ merged_rows fs xs ys
 
   -- a row once n elements of it, from p on, are ws
   abbrev pub run_written : List A → ℕ → ℕ → List A → List A
@@ -44,27 +44,27 @@ any_below zero g = false
 any_below (suc n) g = g n || any_below n g
 
 -- the whole number is that of the place
-abbrev pub is_place : ℤ → ℕ → Bool
-is_place (pos n) p = nat_eq n p
-is_place (negsuc n) p = false
+abbrev pub equals_place : ℤ → ℕ → Bool
+equals_place (pos n) p = nat_eq n p
+equals_place (negsuc n) p = false
 
 -- the place is that of some index, counted from z
 abbrev pub names_from : ℤ → List ℕ → List ℤ → ℕ → Bool
-names_from z [] ss p = is_place z p
+names_from z [] ss p = equals_place z p
 names_from z (n ∷ ns) [] p = any_below n (λ j. names_from z ns [] p)
 names_from z (n ∷ ns) (s ∷ ss) p = any_below n (λ j. names_from (z +ℤ (pos j *ℤ s)) ns ss p)
 
--- the layout's first place, lengths and strides name the place: it is that of some index
+-- the layout's offset, lengths and strides name the place: it is that of some index
 abbrev pub names : ℕ → List ℕ → List ℤ → ℕ → Bool
-names first ns ss p = names_from (pos first) ns ss p
+names offset ns ss p = names_from (pos offset) ns ss p
 
 -- the places that it doesn't name
 abbrev pub names_not : ℕ → List ℕ → List ℤ → ℕ → Bool
-names_not first ns ss p = not (names first ns ss p)
+names_not offset ns ss p = not (names offset ns ss p)
 
 -- the place is one that the first of two layouts names, or the second
 abbrev pub names_either : ℕ → List ℕ → List ℤ → ℕ → List ℕ → List ℤ → ℕ → Bool
-names_either first ns ss first' ns' ss' p = names first ns ss p || names first' ns' ss' p
+names_either offset ns ss offset' ns' ss' p = names offset ns ss p || names offset' ns' ss' p
 
 -- each number below n passes
 abbrev pub all_below : ℕ → (ℕ → Bool) → Bool
@@ -83,9 +83,9 @@ all_pass g z (n ∷ ns) [] = all_below n (λ j. all_pass g z ns [])
 all_pass g z (n ∷ ns) (s ∷ ss) = all_below n (λ j. all_pass g (z +ℤ (pos j *ℤ s)) ns ss)
 
 -- no place is that of an index of each of two layouts
-abbrev pub ShareNoPlace : ℕ → List ℕ → List ℤ → ℕ → List ℕ → List ℤ → Type 0
-ShareNoPlace first ns ss first' ns' ss' = (i j : List ℕ) → in_box ns i ≡ true → in_box ns' j ≡ true → place_of first ss i ≡ place_of first' ss' j → ⊥
+abbrev pub LayoutsShareNoPlace : ℕ → List ℕ → List ℤ → ℕ → List ℕ → List ℤ → Type 0
+LayoutsShareNoPlace offset ns ss offset' ns' ss' = (i j : List ℕ) → in_box ns i ≡ true → in_box ns' j ≡ true → place_of offset ss i ≡ place_of offset' ss' j → ⊥
 
 -- distinct indexes of a layout have distinct places
 abbrev pub HasDistinctPlaces : ℕ → List ℕ → List ℤ → Type 0
-HasDistinctPlaces first ns ss = (i j : List ℕ) → in_box ns i ≡ true → in_box ns j ≡ true → place_of first ss i ≡ place_of first ss j → i ≡ j
+HasDistinctPlaces offset ns ss = (i j : List ℕ) → in_box ns i ≡ true → in_box ns j ≡ true → place_of offset ss i ≡ place_of offset ss j → i ≡ j

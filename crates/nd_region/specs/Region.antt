@@ -2,7 +2,7 @@
 use Rattle.std.specs.Prelude.{◌≡◌, ℕ, ◌+◌, ◌<◌, slice_index_or, ℤ, List, Bool, true, Option, Some, length, replicate, slice_set}
 use Rattle.nd_shape_and_slice.specs.Shape.{in_box}
 use Rattle.nd_shape_and_slice.specs.Place.{place_of}
-use Rattle.nd_region.specs.Places.{stored_in, run_written, merged, has_place, kept_where}
+use Rattle.nd_region.specs.Places.{stored_in, run_written, merged_rows, has_place, kept_where}
 use Rattle.std.specs.Option.{is_some}
 use base.Fml.{GName}
 use Rattle.std.specs.List.{swap}
@@ -10,8 +10,8 @@ use Rattle.nd_region.specs.declared.region.Region.{Region}
 
 module _ {A : Type 0} where
   -- the element at each place of the region's set, and None at every other number
-  abbrev pub stored : Region A → ℕ → Option A
-  stored r = stored_in r.items r.held
+  abbrev pub region_stored : Region A → ℕ → Option A
+  region_stored r = stored_in r.items r.held
 
   -- the row that the region is of: the elements at its places, and what is known of the others
   abbrev pub elements_of : Region A → List A
@@ -47,7 +47,7 @@ module _ {A : Type 0} where
 
   -- each place that the layout names is in the region's set
   abbrev pub HasPlaces : Region A → ℕ → List ℕ → List ℤ → Type 0
-  HasPlaces r first ns ss = (i : List ℕ) → in_box ns i ≡ true → has_place (stored r) (place_of first ss i) ≡ true
+  HasPlaces r offset ns ss = (i : List ℕ) → in_box ns i ≡ true → has_place (region_stored r) (place_of offset ss i) ≡ true
 
   -- r is the part of s at the places that pass the test, under their numbers in s
   abbrev pub IsPartWhere : (ℕ → Bool) → Region A → Region A → Type 0
@@ -58,20 +58,20 @@ module _ {A : Type 0} where
   IsAsLong r s = length (elements_of s) ≡ length (elements_of r)
 
   -- s once two parts of it are back, the first of which had the places of p: these have x's elements, the others y's
-  abbrev pub rejoined : Region A → Region A → Region A → Region A → Region A
-  rejoined s p x y = with_items s (merged p.held x.items y.items)
+  abbrev pub rejoined_region : Region A → Region A → Region A → Region A → Region A
+  rejoined_region s p x y = with_items s (merged_rows p.held x.items y.items)
 
   -- the element at the place p of r and that at the place q of s are in each other's place
   abbrev pub SwappedBetween : Region A → ℕ → Region A → ℕ → Region A × Region A × Unit {0} → Type 0
-  SwappedBetween r p s q out = (x : A) × (y : A) × (stored r p ≡ Some x) × (stored s q ≡ Some y) × (out.0 ≡ with_element r p y) × (out.1 ≡ with_element s q x)
+  SwappedBetween r p s q out = (x : A) × (y : A) × (region_stored r p ≡ Some x) × (region_stored s q ≡ Some y) × (out.0 ≡ with_element r p y) × (out.1 ≡ with_element s q x)
 
   -- each of the n places from p on is in the region's set
   abbrev pub HasRun : Region A → ℕ → ℕ → Type 0
-  HasRun r p n = (k : ℕ) → k < n → is_some (stored r (p + k)) ≡ true
+  HasRun r p n = (k : ℕ) → k < n → is_some (region_stored r (p + k)) ≡ true
 
   -- they hold the elements xs
   abbrev pub IsRunOf : Region A → ℕ → ℕ → List A → Type 0
-  IsRunOf r p n xs = (length xs ≡ n) × ((k : ℕ) (d : A) → k < n → stored r (p + k) ≡ Some (slice_index_or xs k d))
+  IsRunOf r p n xs = (length xs ≡ n) × ((k : ℕ) (d : A) → k < n → region_stored r (p + k) ≡ Some (slice_index_or xs k d))
 
   -- the region with ws at the n places from p on
   abbrev pub with_run : Region A → ℕ → ℕ → List A → Region A

@@ -1,7 +1,7 @@
 -- Scoped calls: parts of a region, told by a test of places, are lent to a function for the length of a call.
 use Rattle.std.specs.Prelude.{◌≡◌, ℕ, Bool, not, if◌then◌else◌}
 use Rattle.nd_region.specs.declared.region.Region.{Region}
-use Rattle.nd_region.specs.Region.{stored, borrow_of, rejoined, IsPartWhere, IsSameBorrow, IsAsLong}
+use Rattle.nd_region.specs.Region.{region_stored, borrow_of, rejoined_region, IsPartWhere, IsSameBorrow, IsAsLong}
 
 module _ {A : Type 0} where
   -- the function may be called with the part at the places that pass the test
@@ -25,7 +25,7 @@ module _ {A R : Type 0} where
       × (s : Region A)
       × IsPartWhere test old x
       × post x (s, answer)
-      × ((p : ℕ) → stored new p ≡ (if test p then stored s p else stored old p))
+      × ((p : ℕ) → region_stored new p ≡ (if test p then region_stored s p else region_stored old p))
 
   -- the function gives both parts back
   abbrev pub GivesPartsBack : (Region A → Region A → Region A × Region A × R → Type 0) → (ℕ → Bool) → Region A → Type 0
@@ -42,6 +42,6 @@ module _ {A R : Type 0} where
       × IsPartWhere test old x
       × IsPartWhere (λ p. not (test p)) old y
       × post x y (s, t, answer)
-      × (new ≡ rejoined old x s t)
+      × (new ≡ rejoined_region old x s t)
       × IsAsLong x s
       × IsAsLong y t

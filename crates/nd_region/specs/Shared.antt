@@ -2,7 +2,7 @@
 use Rattle.std.specs.Prelude.{◌≡◌, ℕ, ◌+◌, ◌<◌, List, true, Option, Some, length, replicate, slice_index_or}
 use Rattle.std.specs.Option.{is_some}
 use Rattle.nd_region.specs.Places.{stored_in}
-use Rattle.nd_region.specs.Region.{stored}
+use Rattle.nd_region.specs.Region.{region_stored}
 use Rattle.nd_region.specs.declared.shared.SharedRegion.{SharedRegion}
 use Rattle.nd_region.specs.declared.shared.SharedRegion.TheVariants.{Part, Whole}
 
@@ -13,7 +13,7 @@ module _ {A : Type 0} where
 
   -- the element at each place of the shared region's set, and None at every other number
   abbrev pub shared_stored : SharedRegion A → ℕ → Option A
-  shared_stored (Part r) = stored r.now
+  shared_stored (Part r) = region_stored r.now
   shared_stored (Whole s) = slice_stored s.now
 
   -- each of the n places from p on is in the set

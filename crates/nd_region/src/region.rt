@@ -8,7 +8,8 @@ ghost use Rattle.nd_region.specs.Places.{names, names_not};
 use std::marker::{Model, PhantomData};
 use std::{mem, slice};
 
-/// A mutable borrow of elements, as a map from places to elements. One that goes out of scope ends, as by `end`.
+/// A mutable borrow of elements, as a map from places to elements. A region ends when it goes out of scope; `end` does
+/// it earlier.
 pub struct Region<'a, A> {
     pub(crate) ptr: *mut A,
     pub(crate) len: usize,
@@ -26,7 +27,7 @@ impl<'a, A> Model for Region<'a, A> {
 }
 
 impl<'a, A> Region<'a, A> {
-    ghost use Rattle.nd_region.specs.Region.{stored, with_element, IsSameMap, IsWhole, IsPartWhere, HasPlaces, HasRun, IsRunOf};
+    ghost use Rattle.nd_region.specs.Region.{region_stored, with_element, IsSameMap, IsWhole, IsPartWhere, HasPlaces, HasRun, IsRunOf};
     ghost use Rattle.nd_region.specs.Lends.{rows_follow, slice_follows, place_follows, parts_follow, region_follows, borrow_follows, run_follows, borrow_run_follows, keeps_elements};
 
     /// The region of a slice, with all its places.
@@ -57,48 +58,48 @@ impl<'a, A> Region<'a, A> {
 
     /// The element at a place.
     pub fn get(&self, place: usize) -> &A
-        requires { IsSome (stored self.now place) }
-        ensures { stored self.now place ≡ Some result.now }
+        requires { IsSome (region_stored self.now place) }
+        ensures { region_stored self.now place ≡ Some result.now }
     {
         unsafe { &*self.ptr.add(place) }
     }
 
     /// The element at a place, to be written.
     pub fn get_mut(&mut self, place: usize) -> &mut A
-        requires { IsSome (stored self.old place) }
+        requires { IsSome (region_stored self.old place) }
         ensures* writes_back { sem 𝓛 (place_follows A.row self.entry place result) }
-        ensures value { stored self.old place ≡ Some result.now }
+        ensures value { region_stored self.old place ≡ Some result.now }
     {
         unsafe { &mut *self.ptr.add(place) }
     }
 
-    /// Writes the element at a place, and gives back the one that it held.
+    /// Writes the element at a place, and returns the old one.
     pub fn replace(&mut self, place: usize, value: A) -> A
-        requires { IsSome (stored self.old place) }
-        ensures old { stored self.old place ≡ Some result }
+        requires { IsSome (region_stored self.old place) }
+        ensures old { region_stored self.old place ≡ Some result }
         ensures new { self.new ≡ with_element self.old place value }
     {
         mem::replace(self.get_mut(place), value)
     }
 
-    /// Writes the element at a place. The one that it held is dropped.
+    /// Writes the element at a place, and drops the old one.
     pub fn set(&mut self, place: usize, value: A)
     where
         A: Drop,
-        requires { IsSome (stored self.old place) }
+        requires { IsSome (region_stored self.old place) }
         ensures { self.new ≡ with_element self.old place value }
     {
         *self.get_mut(place) = value;
     }
 
-    /// Moves the places that the layout names by its first place, lengths and strides out of this region,
-    /// into one of exactly these under their old numbers.
-    pub fn split(&mut self, first: usize, lengths: &[usize], strides: &[isize]) -> Region<'a, A>
+    /// Moves the places that the layout names by its offset, lengths and strides into a region of their own. They keep
+    /// their numbers.
+    pub fn split(&mut self, offset: usize, lengths: &[usize], strides: &[isize]) -> Region<'a, A>
         requires as_many { length lengths.now ≡ length strides.now }
-        requires within { HasPlaces self.old first lengths.now strides.now }
+        requires within { HasPlaces self.old offset lengths.now strides.now }
         ensures* follows { sem 𝓛 (parts_follow A.row self.old result self.new) }
-        ensures taken { IsPartWhere (names first lengths.now strides.now) self.old result }
-        ensures left { IsPartWhere (names_not first lengths.now strides.now) self.old self.new }
+        ensures taken { IsPartWhere (names offset lengths.now strides.now) self.old result }
+        ensures left { IsPartWhere (names_not offset lengths.now strides.now) self.old self.new }
     {
         Self {
             ptr: self.ptr,
@@ -107,7 +108,7 @@ impl<'a, A> Region<'a, A> {
         }
     }
 
-    /// All places, for a shorter time.
+    /// Borrows the region, with all its places, for a shorter time.
     pub fn reborrow(&mut self) -> Region<'_, A>
         ensures* follows { sem 𝓛 (region_follows A.row self.entry result) }
         ensures same { IsSameMap self.old result }
@@ -119,7 +120,7 @@ impl<'a, A> Region<'a, A> {
         }
     }
 
-    /// The same region, for a time that its borrow outlives.
+    /// The same region by value, for a shorter lifetime.
     pub fn shortened<'b>(self) -> Region<'b, A>
     where
         'a: 'b,
@@ -130,9 +131,9 @@ impl<'a, A> Region<'a, A> {
 
     /// The element at a place, to be written for as long as the region's borrow lasts. The other places keep theirs.
     pub fn into_mut(self, place: usize) -> &'a mut A
-        requires { IsSome (stored self place) }
+        requires { IsSome (region_stored self place) }
         ensures* writes_back { sem 𝓛 (borrow_follows A.row self.entry place result) }
-        ensures value { stored self.entry place ≡ Some result.now }
+        ensures value { region_stored self.entry place ≡ Some result.now }
     {
         let Region {
             ptr,
@@ -177,7 +178,7 @@ impl<'a, A> Region<'a, A> {
         unsafe { slice::from_raw_parts_mut(ptr.add(start), count) }
     }
 
-    /// Ends the region: each place keeps the element that it holds.
+    /// Ends the region. Each place keeps its element.
     pub fn end(self)
         ensures* { sem 𝓛 (keeps_elements A.row self.entry) }
     {

@@ -1,7 +1,7 @@
 //! A region for the length of a call.
 ghost use Rattle.std.specs.Prelude.{◌≡◌, ℕ, Bool, length, IsSome};
 ghost use Rattle.nd_region.specs.Places.{names, names_either};
-ghost use Rattle.nd_region.specs.Region.{IsWhole, IsSameBorrow, HasPlaces, IsAsLong, borrow_of, stored, elements_of, with_swapped, SwappedBetween};
+ghost use Rattle.nd_region.specs.Region.{IsWhole, IsSameBorrow, HasPlaces, IsAsLong, borrow_of, region_stored, elements_of, with_swapped, SwappedBetween};
 ghost use Rattle.nd_region.specs.Scoped.{TakesPart, GivesPartBack, IsPartReturned, TakesParts, GivesPartsBack, ArePartsReturned};
 ghost use Rattle.nd_region.specs.declared.region.Region.{Region as RegionOf};
 
@@ -9,9 +9,9 @@ use crate::region::Region;
 use std::marker::PhantomData;
 use std::mem;
 
-/// Hands f the slice's elements as a region with all its places, and the slice then has the elements that
-/// the region has which f gives back. The type of f demands a region, so a function that gives none back
-/// doesn't compile; that it is the same one is the condition `returns`, so another in its place isn't proved.
+/// Lends f the slice's elements as a region with all places. f gives the region back, and the slice then holds what
+/// that region holds. The type of f demands a region, so a function that gives none back doesn't compile; that it is
+/// the same one is the condition `returns`.
 pub fn with_region<A, R, F: FnOnce(Region<'_, A>) -> (Region<'_, A>, R)>(slice: &mut [A], f: F) -> R
     requires callable { (r : RegionOf A) → IsWhole r slice.old → F.pre f r }
     requires returns { (r : RegionOf A) (out : RegionOf A × R) → IsWhole r slice.old → F.post f r out → IsSameBorrow r out.0 }
@@ -27,35 +27,34 @@ pub fn with_region<A, R, F: FnOnce(Region<'_, A>) -> (Region<'_, A>, R)>(slice: 
 }
 
 impl<'a, A> Region<'a, A> {
-    /// Splits off the places that the layout names by its first place, lengths and strides, and hands f
-    /// both parts: these places, and the others. This region then has at each place what the part of that
-    /// place has. As with `with_region`, the type of f demands both parts back, and the condition `returns`
-    /// that each is the same one.
+    /// Splits off the places that the layout names by its offset, lengths and strides, and lends f both parts: these
+    /// places, and the others. Afterwards each place of this region holds what the part with that place holds. As with
+    /// `with_region`, the type of f demands both parts back, and the condition `returns` that each is the same one.
     pub fn split_with<
         R,
         F: for<'b> FnOnce(Region<'b, A>, Region<'b, A>) -> (Region<'b, A>, Region<'b, A>, R),
-    >(&mut self, first: usize, lengths: &[usize], strides: &[isize], f: F) -> R
+    >(&mut self, offset: usize, lengths: &[usize], strides: &[isize], f: F) -> R
         requires as_many { length lengths.now ≡ length strides.now }
-        requires within { HasPlaces self.old first lengths.now strides.now }
-        requires callable { TakesParts (F.pre f) (names first lengths.now strides.now) self.old }
-        requires returns { GivesPartsBack (F.post f) (names first lengths.now strides.now) self.old }
-        ensures { ArePartsReturned (F.post f) (names first lengths.now strides.now) self.old self.new result }
+        requires within { HasPlaces self.old offset lengths.now strides.now }
+        requires callable { TakesParts (F.pre f) (names offset lengths.now strides.now) self.old }
+        requires returns { GivesPartsBack (F.post f) (names offset lengths.now strides.now) self.old }
+        ensures { ArePartsReturned (F.post f) (names offset lengths.now strides.now) self.old self.new result }
     {
-        self.split_where(first, lengths, strides, 0, &[], &[], f)
+        self.split_where(offset, lengths, strides, 0, &[], &[], f)
     }
 
-    /// Splits off the places that pass a test, and hands f both parts: these places, and the others. This region then
-    /// has at each place what the part of that place has. No machine sees the test, which says what each part owns: a caller
-    /// makes it of the layouts, of which the body reads nothing.
+    /// Splits off the places that pass a test, and lends f both parts: these places, and the others. Afterwards each
+    /// place of this region holds what the part with that place holds. The test is ghost, and says which part owns
+    /// which place. A caller makes it from the layouts, which the body never reads.
     fn split_where<
         R,
         F: for<'b> FnOnce(Region<'b, A>, Region<'b, A>) -> (Region<'b, A>, Region<'b, A>, R),
     >(
         &mut self,
-        _first: usize,
+        _offset: usize,
         _lengths: &[usize],
         _strides: &[isize],
-        _other_first: usize,
+        _other_offset: usize,
         _other_lengths: &[usize],
         _other_strides: &[isize],
         f: F,
@@ -83,25 +82,25 @@ impl<'a, A> Region<'a, A> {
         answer
     }
 
-    /// Hands f the places that the layout names, for the length of the call. This region then has at each of
-    /// them what that part has which f gives back, and at every other place what it had.
+    /// Lends f the places that the layout names, for the length of the call. Afterwards each of them holds what f left
+    /// there, and every other place what it held before.
     pub fn with_part<R, F: for<'b> FnOnce(Region<'b, A>) -> (Region<'b, A>, R)>(
         &mut self,
-        first: usize,
+        offset: usize,
         lengths: &[usize],
         strides: &[isize],
         f: F,
     ) -> R
         requires as_many { length lengths.now ≡ length strides.now }
-        requires within { HasPlaces self.old first lengths.now strides.now }
-        requires callable { TakesPart (F.pre f) (names first lengths.now strides.now) self.old }
-        requires returns { GivesPartBack (F.post f) (names first lengths.now strides.now) self.old }
-        ensures part { IsPartReturned (F.post f) (names first lengths.now strides.now) self.old self.new result }
+        requires within { HasPlaces self.old offset lengths.now strides.now }
+        requires callable { TakesPart (F.pre f) (names offset lengths.now strides.now) self.old }
+        requires returns { GivesPartBack (F.post f) (names offset lengths.now strides.now) self.old }
+        ensures part { IsPartReturned (F.post f) (names offset lengths.now strides.now) self.old self.new result }
         ensures same { borrow_of self.new ≡ borrow_of self.old }
         ensures long { IsAsLong self.old self.new }
     {
         self.split_with(
-            first,
+            offset,
             lengths,
             strides,
             |named, others|
@@ -120,52 +119,52 @@ impl<'a, A> Region<'a, A> {
         F: for<'b> FnOnce(Region<'b, A>, Region<'b, A>) -> (Region<'b, A>, Region<'b, A>, R),
     >(
         &mut self,
-        first: usize,
+        offset: usize,
         lengths: &[usize],
         strides: &[isize],
-        other_first: usize,
+        other_offset: usize,
         other_lengths: &[usize],
         other_strides: &[isize],
         f: F,
     ) -> R
-        requires callable { TakesParts (F.pre f) (names_either first lengths.now strides.now other_first other_lengths.now other_strides.now) self.old }
-        requires returns { GivesPartsBack (F.post f) (names_either first lengths.now strides.now other_first other_lengths.now other_strides.now) self.old }
-        ensures { ArePartsReturned (F.post f) (names_either first lengths.now strides.now other_first other_lengths.now other_strides.now) self.old self.new result }
+        requires callable { TakesParts (F.pre f) (names_either offset lengths.now strides.now other_offset other_lengths.now other_strides.now) self.old }
+        requires returns { GivesPartsBack (F.post f) (names_either offset lengths.now strides.now other_offset other_lengths.now other_strides.now) self.old }
+        ensures { ArePartsReturned (F.post f) (names_either offset lengths.now strides.now other_offset other_lengths.now other_strides.now) self.old self.new result }
     {
         self.split_where(
-            first,
+            offset,
             lengths,
             strides,
-            other_first,
+            other_offset,
             other_lengths,
             other_strides,
             f,
         )
     }
 
-    /// Hands f the places that either of two layouts names, for the length of the call. This region then has at each of
-    /// them what that part has which f gives back, and at every other place what it had.
+    /// Lends f the places that either of two layouts names, for the length of the call. Afterwards each of them holds
+    /// what f left there, and every other place what it held before.
     pub fn with_either<R, F: for<'b> FnOnce(Region<'b, A>) -> (Region<'b, A>, R)>(
         &mut self,
-        first: usize,
+        offset: usize,
         lengths: &[usize],
         strides: &[isize],
-        other_first: usize,
+        other_offset: usize,
         other_lengths: &[usize],
         other_strides: &[isize],
         f: F,
     ) -> R
-        requires callable { TakesPart (F.pre f) (names_either first lengths.now strides.now other_first other_lengths.now other_strides.now) self.old }
-        requires returns { GivesPartBack (F.post f) (names_either first lengths.now strides.now other_first other_lengths.now other_strides.now) self.old }
-        ensures part { IsPartReturned (F.post f) (names_either first lengths.now strides.now other_first other_lengths.now other_strides.now) self.old self.new result }
+        requires callable { TakesPart (F.pre f) (names_either offset lengths.now strides.now other_offset other_lengths.now other_strides.now) self.old }
+        requires returns { GivesPartBack (F.post f) (names_either offset lengths.now strides.now other_offset other_lengths.now other_strides.now) self.old }
+        ensures part { IsPartReturned (F.post f) (names_either offset lengths.now strides.now other_offset other_lengths.now other_strides.now) self.old self.new result }
         ensures same { borrow_of self.new ≡ borrow_of self.old }
         ensures long { IsAsLong self.old self.new }
     {
         self.split_either(
-            first,
+            offset,
             lengths,
             strides,
-            other_first,
+            other_offset,
             other_lengths,
             other_strides,
             |named, others|
@@ -180,7 +179,7 @@ impl<'a, A> Region<'a, A> {
 
     /// Swaps the elements at two places.
     pub fn swap(&mut self, p: usize, q: usize)
-        requires { IsSome (stored self.old p) × IsSome (stored self.old q) }
+        requires { IsSome (region_stored self.old p) × IsSome (region_stored self.old q) }
         ensures { self.new ≡ with_swapped self.old p q }
     {
         if p != q {
@@ -189,7 +188,7 @@ impl<'a, A> Region<'a, A> {
                 &[],
                 &[],
                 |one, others|
-                    requires { IsSome (stored one p) × IsSome (stored others q) }
+                    requires { IsSome (region_stored one p) × IsSome (region_stored others q) }
                     ensures { SwappedBetween one.entry p others.entry q result }
                 { swap_between(one, p, others, q) },
             );
@@ -203,7 +202,7 @@ fn swap_between<'b, A>(
     mut other: Region<'b, A>,
     q: usize,
 ) -> (Region<'b, A>, Region<'b, A>, ())
-    requires { IsSome (stored one p) × IsSome (stored other q) }
+    requires { IsSome (region_stored one p) × IsSome (region_stored other q) }
     ensures { SwappedBetween one.entry p other.entry q result }
 {
     mem::swap(one.get_mut(p), other.get_mut(q));

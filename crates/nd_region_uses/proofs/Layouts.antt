@@ -7,5 +7,5 @@ use Rattle.nd_layout.proofs.Integers.{sums}
 use Rattle.nd_region.specs.Places.{HasDistinctPlaces}
 
 -- separated strides give distinct indexes distinct places
-pub separated_distinct : (first : ℕ) (ns : List ℕ) (ss : List ℤ) → length ss ≡ length ns → IsSeparated ns ss → HasDistinctPlaces first ns ss
-separated_distinct first ns ss as_many separated = λ i j b c same. same_index ns ss i j as_many separated b c (omega (arith, sums, same))
+pub separated_distinct : (offset : ℕ) (ns : List ℕ) (ss : List ℤ) → length ss ≡ length ns → IsSeparated ns ss → HasDistinctPlaces offset ns ss
+separated_distinct offset ns ss as_many separated = λ i j b c same. same_index ns ss i j as_many separated b c (omega (arith, sums, same))

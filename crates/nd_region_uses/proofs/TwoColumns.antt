@@ -11,8 +11,8 @@ use Rattle.std.proofs.lemmas.Int.{ints}
 use Rattle.nd_shape_and_slice.specs.Shape.{in_box}
 use Rattle.nd_shape_and_slice.specs.Place.{place_of, IsSeparated}
 use Rattle.nd_region.specs.declared.region.Region.{Region}
-use Rattle.nd_region.specs.Places.{merged, kept_where, names, names_not, HasDistinctPlaces, ShareNoPlace}
-use Rattle.nd_region.specs.Region.{HasPlaces, IsPartWhere, rejoined}
+use Rattle.nd_region.specs.Places.{merged_rows, kept_where, names, names_not, HasDistinctPlaces, LayoutsShareNoPlace}
+use Rattle.nd_region.specs.Region.{HasPlaces, IsPartWhere, rejoined_region}
 use Rattle.nd_region.proofs.Splits.{shown_apart, still_has, named_part_has}
 use Rattle.nd_region_uses.specs.Turns.{with_each, each_set, HasEach, HasFirst, HasPassing}
 use Rattle.nd_region_uses.proofs.Layouts.{separated_distinct}
@@ -42,7 +42,7 @@ shows c below (row ∷ k ∷ rest) b = absurd (no (nat_lt row 3) b)
     no t e = let h = and_parts t (in_box [] (k ∷ rest)) e in cc
 
 -- the second column and the fourth share no place
-pub columns_apart : ShareNoPlace 1 (3 ∷ []) (pos 4 ∷ []) 3 (3 ∷ []) (pos 4 ∷ [])
+pub columns_apart : LayoutsShareNoPlace 1 (3 ∷ []) (pos 4 ∷ []) 3 (3 ∷ []) (pos 4 ∷ [])
 columns_apart = shown_apart 0 (3 ∷ 4 ∷ []) (pos 4 ∷ pos 1 ∷ []) 1 (3 ∷ []) (pos 4 ∷ []) 3 (3 ∷ []) (pos 4 ∷ []) distinct (in_column 1) (in_column 3) (shows 1 refl) (shows 3 refl) differ
   where
     differ : (i j : List ℕ) → in_box (3 ∷ []) i ≡ true → in_box (3 ∷ []) j ≡ true → in_column 1 i ≡ in_column 3 j → ⊥
@@ -64,7 +64,7 @@ second_has r is x y named others = (
 
 -- the others, once the fourth column is written
 pub fourth_done : (r : Region ℕ) → HasPassing (names_not 1 (3 ∷ []) (pos 4 ∷ [])) 12 r → (x y s t : Region ℕ) → IsPartWhere (names 3 (3 ∷ []) (pos 4 ∷ [])) r x → IsPartWhere (names_not 3 (3 ∷ []) (pos 4 ∷ [])) r y
-    → s ≡ with_each x (3 ∷ 7 ∷ 11 ∷ []) 2 → t ≡ y → (rejoined r x s t).items ≡ each_set r.items (3 ∷ 7 ∷ 11 ∷ []) 2
+    → s ≡ with_each x (3 ∷ 7 ∷ 11 ∷ []) 2 → t ≡ y → (rejoined_region r x s t).items ≡ each_set r.items (3 ∷ 7 ∷ 11 ∷ []) 2
 fourth_done r is x y s t named others done_s done_t =
     let g = names 3 (3 ∷ []) (pos 4 ∷ []) in let h = names_not 1 (3 ∷ []) (pos 4 ∷ []) in
     let w = twelve r.items (ap length is.2.0 ∙ is.1.0) in let xs : List ℕ = w.0 ∷ w.1 ∷ w.2 ∷ w.3 ∷ w.4 ∷ w.5 ∷ w.6 ∷ w.7 ∷ w.8 ∷ w.9 ∷ w.10 ∷ w.11 ∷ [] in
@@ -73,11 +73,11 @@ fourth_done r is x y s t named others done_s done_t =
 
 -- the whole, once both are
 pub columns_done : (r : Region ℕ) → HasFirst 12 r → (x y s t : Region ℕ) → IsPartWhere (names 1 (3 ∷ []) (pos 4 ∷ [])) r x → IsPartWhere (names_not 1 (3 ∷ []) (pos 4 ∷ [])) r y
-    → s ≡ with_each x (1 ∷ 5 ∷ 9 ∷ []) 1 → t.items ≡ each_set y.items (3 ∷ 7 ∷ 11 ∷ []) 2 → (rejoined r x s t).items ≡ each_set (each_set r.items (1 ∷ 5 ∷ 9 ∷ []) 1) (3 ∷ 7 ∷ 11 ∷ []) 2
+    → s ≡ with_each x (1 ∷ 5 ∷ 9 ∷ []) 1 → t.items ≡ each_set y.items (3 ∷ 7 ∷ 11 ∷ []) 2 → (rejoined_region r x s t).items ≡ each_set (each_set r.items (1 ∷ 5 ∷ 9 ∷ []) 1) (3 ∷ 7 ∷ 11 ∷ []) 2
 columns_done r is x y s t named others done_s done_t =
     let g = names 1 (3 ∷ []) (pos 4 ∷ []) in
     let w = twelve r.items is.0 in let xs : List ℕ = w.0 ∷ w.1 ∷ w.2 ∷ w.3 ∷ w.4 ∷ w.5 ∷ w.6 ∷ w.7 ∷ w.8 ∷ w.9 ∷ w.10 ∷ w.11 ∷ [] in
     let at_t : t.items ≡ each_set xs (3 ∷ 7 ∷ 11 ∷ []) 2 = done_t ∙ ap (λ l. each_set l (3 ∷ 7 ∷ 11 ∷ []) 2) (others.0 ∙ w.12) in
     let at_s : s.items ≡ each_set xs (1 ∷ 5 ∷ 9 ∷ []) 1 = ap (λ r. r.items) done_s ∙ ap (λ l. each_set l (1 ∷ 5 ∷ 9 ∷ []) 1) (named.0 ∙ w.12) in
-    (λ i. merged (named.1 i) (at_s i) (at_t i)) ∙ ap (λ fs. merged (kept_where g fs) (each_set xs (1 ∷ 5 ∷ 9 ∷ []) 1) (each_set xs (3 ∷ 7 ∷ 11 ∷ []) 2)) (all_held 12 r is)
+    (λ i. merged_rows (named.1 i) (at_s i) (at_t i)) ∙ ap (λ fs. merged_rows (kept_where g fs) (each_set xs (1 ∷ 5 ∷ 9 ∷ []) 1) (each_set xs (3 ∷ 7 ∷ 11 ∷ []) 2)) (all_held 12 r is)
     ∙ ap (λ l. each_set (each_set l (1 ∷ 5 ∷ 9 ∷ []) 1) (3 ∷ 7 ∷ 11 ∷ []) 2) (sym w.12)

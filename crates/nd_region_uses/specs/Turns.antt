@@ -1,7 +1,7 @@
 -- Places written in turn.
 use Rattle.std.specs.Prelude.{◌≡◌, ℕ, List, [], ◌∷◌, Bool, length, IsSome, slice_set}
 use Rattle.nd_region.specs.declared.region.Region.{Region}
-use Rattle.nd_region.specs.Region.{stored, elements_of, with_element, IsWhole, IsPartWhere}
+use Rattle.nd_region.specs.Region.{region_stored, elements_of, with_element, IsWhole, IsPartWhere}
 
 module _ {A : Type 0} where
   -- the region has n places: 0 to n - 1
@@ -15,7 +15,7 @@ module _ {A : Type 0} where
   -- the region has each of these places
   abbrev pub HasEach : Region A → List ℕ → Type 0
   HasEach r [] = Unit {0}
-  HasEach r (p ∷ ps) = IsSome (stored r p) × HasEach r ps
+  HasEach r (p ∷ ps) = IsSome (region_stored r p) × HasEach r ps
 
   -- the region with x at each of these places
   abbrev pub with_each : Region A → List ℕ → A → Region A

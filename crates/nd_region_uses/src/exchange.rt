@@ -1,12 +1,12 @@
 //! Two elements swapped.
 ghost use Rattle.std.specs.Prelude.{◌≡◌, ◌<◌, length, IsSome};
 ghost use Rattle.std.specs.List.{swap};
-ghost use Rattle.nd_region.specs.Region.{stored, with_swapped};
+ghost use Rattle.nd_region.specs.Region.{region_stored, with_swapped};
 
 use nd_region::{Region, with_region};
 
 fn swap_two<'a>(mut region: Region<'a, u64>) -> (Region<'a, u64>, ())
-    requires { IsSome (stored region 0) × IsSome (stored region 2) }
+    requires { IsSome (region_stored region 0) × IsSome (region_stored region 2) }
     ensures { result.0 ≡ with_swapped region.entry 0 2 }
 {
     region.swap(0, 2);

@@ -1,12 +1,12 @@
 //! One scoped region of a whole slice.
 ghost use Rattle.std.specs.Prelude.{◌≡◌, ◌<◌, length, slice_set, IsSome};
-ghost use Rattle.nd_region.specs.Region.{stored, with_element};
+ghost use Rattle.nd_region.specs.Region.{region_stored, with_element};
 
 use nd_region::{Region, with_region};
 
 #[tactic(auto, using(nd_region::proofs::Stored::written_has))]
 fn put_two<'a>(mut region: Region<'a, u64>) -> (Region<'a, u64>, ())
-    requires { IsSome (stored region 1) × IsSome (stored region 3) }
+    requires { IsSome (region_stored region 1) × IsSome (region_stored region 3) }
     ensures { result.0 ≡ with_element (with_element region.entry 1 7) 3 9 }
 {
     region.set(1, 7);

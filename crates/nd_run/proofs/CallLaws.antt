@@ -4,7 +4,7 @@ use Rattle.std.specs.Prelude.{codes}
 use Rattle.nd_run.specs.declared.keyword.Keyword.{Keyword}
 use Rattle.nd_run.specs.declared.keyword.Keyword.TheVariants.{Start, Keep, Ask, Write, Split, Shape, Elements, Get}
 use Rattle.nd_run.specs.Calls.{AskedStep, Asking, AskShape, AskElements, AskElement, Acting, Asked, Keeping, About, Writing, SplitWriting}
-use Rattle.nd_run.specs.Grammar.{IsList, IsStep, IsPath, IsQuestion, IsAct, IsCall, IsStart}
+use Rattle.nd_run.specs.Grammar.{IsList, IsStepSpelling, IsPath, IsQuestion, IsAct, IsCall, IsStart}
 use Rattle.nd_run.specs.Reading.{◌>>=◌, list_at, pair_at, keyword_of, keyword_at, step_at, begins_step, is_slash, is_start, leg_at, path_at, get_at, question_by, question_at, act_at, acts_at, keep_at, ask_at, write_at, split_at, call_by, call_at, call_of, ended, array_at, start_of}
 use Rattle.nd_run.proofs.Keywords.{spelled_as, slash_takes}
 use Rattle.nd_run.proofs.NumberLaws.{some_by}
@@ -18,7 +18,7 @@ use Rattle.nd_run.proofs.ActLaws.{act_takes, act_again, act_no_step, AreActs, ac
 record Leg (words : List (List ℕ)) (step : AskedStep) (rest : List (List ℕ)) : Type 0 where
   front : List (List ℕ)
   parts : words ≡ front ++ (codes "/" ∷ rest)
-  is : IsStep front step
+  is : IsStepSpelling front step
 
 abbrev past_slash : AskedStep → Keyword × List (List ℕ) → Option (AskedStep × List (List ℕ))
 past_slash made slash = cond (is_slash slash.0) (Some (made, slash.1)) None
@@ -36,9 +36,9 @@ leg_takes words step rest e =
     let a = bind_some (step_at words) (λ s. keyword_at s.1 >>= λ slash. cond (is_slash slash.0) (Some (s.0, slash.1)) None) (step, rest) e in
     let p = slash_at_takes a.0.1 a.0.0 step rest a.2 in
     let s = step_takes words a.0.0 a.0.1 a.1 in
-    record { front = s.front; parts = s.parts ∙ ap (λ (ws : List (List ℕ)). s.front ++ ws) p.0; is = subst (IsStep s.front) p.1 s.is }
+    record { front = s.front; parts = s.parts ∙ ap (λ (ws : List (List ℕ)). s.front ++ ws) p.0; is = subst (IsStepSpelling s.front) p.1 s.is }
 
-leg_again : (front : List (List ℕ)) (step : AskedStep) (rest : List (List ℕ)) → IsStep front step → leg_at (front ++ (codes "/" ∷ rest)) ≡ Some (step, rest)
+leg_again : (front : List (List ℕ)) (step : AskedStep) (rest : List (List ℕ)) → IsStepSpelling front step → leg_at (front ++ (codes "/" ∷ rest)) ≡ Some (step, rest)
 unfolding leg_at keyword_of
 leg_again front step rest h = rw (step_again front step (codes "/" ∷ rest) h) refl
 
@@ -77,7 +77,7 @@ unfolding path_at
 path_end zero rest h = refl
 path_end (suc n) rest h = rw h refl
 
-leg_first : (front : List (List ℕ)) (step : AskedStep) (back : List (List ℕ)) (n : ℕ) (steps : List AskedStep) (rest : List (List ℕ)) → IsStep front step → path_at n (back ++ rest) ≡ Some (steps, rest)
+leg_first : (front : List (List ℕ)) (step : AskedStep) (back : List (List ℕ)) (n : ℕ) (steps : List AskedStep) (rest : List (List ℕ)) → IsStepSpelling front step → path_at n (back ++ rest) ≡ Some (steps, rest)
     → path_at (suc n) (front ++ (codes "/" ∷ (back ++ rest))) ≡ Some (step ∷ steps, rest)
 unfolding path_at
 leg_first front step back n steps rest h others = rw (step_begins front step (codes "/" ∷ (back ++ rest)) h, leg_again front step (back ++ rest) h, others) refl
@@ -227,7 +227,7 @@ call_takes n words call e =
     let whole : words ≡ read.front = read.parts ∙ ap (λ (ws : List (List ℕ)). read.front ++ ws) p.1 ∙ append-nil read.front in
     subst (λ (ws : List (List ℕ)). IsCall ws call) (sym whole) (subst (IsCall read.front) p.0 read.is)
 
-keep_words : (n : ℕ) (words : List (List ℕ)) (step : AskedStep) → IsStep words step → call_of n (codes "keep" ∷ (words ++ [])) ≡ Some (Keeping step)
+keep_words : (n : ℕ) (words : List (List ℕ)) (step : AskedStep) → IsStepSpelling words step → call_of n (codes "keep" ∷ (words ++ [])) ≡ Some (Keeping step)
 unfolding call_of call_at keyword_of keep_at
 keep_words n words step h = rw (step_again words step [] h) refl
 

@@ -7,7 +7,7 @@ use Rattle.nd_run.specs.declared.reader.Script.{Script}
 use Rattle.nd_run.specs.declared.watched.Watched.{Watched}
 use Rattle.nd_run.specs.Calls.{Said}
 use Rattle.nd_run.specs.Script.{AskedScript, asked_script, IsScript}
-use Rattle.nd_run.specs.Puts.{Takes}
+use Rattle.nd_run.specs.Puts.{TakesText}
 use Rattle.nd_run.specs.Watched.{watched_failed}
 use Rattle.nd_run.specs.Words.{lines_of}
 use Rattle.nd_run.specs.Endings.{is_no_input, Ending, Finished, BadAt, OutOfMemory, NoInput, ending_text, status_of, is_load_failure, Loads, load_ending, RunsTo, Ends, Driven}
@@ -37,7 +37,7 @@ module _ (Runs : AskedScript → List (Said ℤ) → List ℕ → List ℤ → T
 
   module _ {W : Type 0} (contents : W → Option (List ℕ)) (remaining : Option (List ℕ)) (failed : Bool) (r : Result Script LoadError) (old new : Watched W) (status : ℕ) (loads : IfSome remaining (λ bytes. Loads bytes r)) (is : failed ≡ is_load_failure r) where
     -- a script that was loaded and run
-    pub ran_is_driven : (script : Script) (end : Ending) → r ≡ Ok script → RunsTo Runs Stops (asked_script script) end → Takes contents old new (ending_text end) → status ≡ status_of (watched_failed new) end → IfSome remaining (λ bytes. Driven Runs Stops contents bytes failed old new status)
+    pub ran_is_driven : (script : Script) (end : Ending) → r ≡ Ok script → RunsTo Runs Stops (asked_script script) end → TakesText contents old new (ending_text end) → status ≡ status_of (watched_failed new) end → IfSome remaining (λ bytes. Driven Runs Stops contents bytes failed old new status)
     ran_is_driven script end e how puts number = at remaining loads
       where
         at : (known : Option (List ℕ)) → IfSome known (λ bytes. Loads bytes r) → IfSome known (λ bytes. Driven Runs Stops contents bytes failed old new status)
@@ -45,7 +45,7 @@ module _ (Runs : AskedScript → List (Said ℤ) → List ℕ → List ℤ → T
         at (Some bytes) loads = (end, (is ∙ ap is_load_failure e) ∙ sym (run_reads (asked_script script) end how), run_ends bytes (asked_script script) end (subst (Loads bytes) e loads) how, puts, number)
 
     -- one that wasn't loaded
-    pub unloaded_is_driven : (error : LoadError) → r ≡ Err error → Takes contents old new (ending_text (load_ending error)) → status ≡ status_of (watched_failed new) (load_ending error) → IfSome remaining (λ bytes. Driven Runs Stops contents bytes failed old new status)
+    pub unloaded_is_driven : (error : LoadError) → r ≡ Err error → TakesText contents old new (ending_text (load_ending error)) → status ≡ status_of (watched_failed new) (load_ending error) → IfSome remaining (λ bytes. Driven Runs Stops contents bytes failed old new status)
     unloaded_is_driven error e puts number = at remaining loads
       where
         at : (known : Option (List ℕ)) → IfSome known (λ bytes. Loads bytes r) → IfSome known (λ bytes. Driven Runs Stops contents bytes failed old new status)

@@ -8,7 +8,7 @@ use Rattle.nd_shape_and_slice.specs.declared.slice_info.SliceInfoElem.{SliceInfo
 use Rattle.nd_shape_and_slice.specs.declared.slice_info.SliceInfoElem.TheVariants.{Slice as Part, Index as At, NewAxis}
 use Rattle.nd_run.specs.Numerals.{IsNat, IsInt, nat_of, int_of}
 use Rattle.nd_run.specs.Grammar.{IsSlice, IsElement, AreInTurn}
-use Rattle.nd_run.specs.Reading.{◌>>=◌, item_at, many_at, made, slice_at, element_at, elements_at}
+use Rattle.nd_run.specs.Reading.{◌>>=◌, item_at, many_at, made, slice_at, slice_element_at, elements_at}
 use Rattle.nd_run.proofs.NumberLaws.{nat_takes, nat_again, int_takes, int_again}
 use Rattle.nd_run.proofs.LineLaws.{bind_some, some_pair, Front, with_word, item_takes, slice_takes, slice_again}
 
@@ -73,27 +73,27 @@ element_by_takes false false true word words element rest is_s is_i is_n e =
     with_word word (codes "n") [] rest words element ((bytes_eq-Decides word (codes "n")).0 is_n) p.1 (subst (IsElement (codes "n" ∷ [])) p.0 refl)
 element_by_takes false false false word words element rest is_s is_i is_n e = absurd cc
 
-element_takes : (words : List (List ℕ)) (element : SliceInfoElem) (rest : List (List ℕ)) → element_at words ≡ Some (element, rest) → Front IsElement words element rest
-unfolding element_at
+element_takes : (words : List (List ℕ)) (element : SliceInfoElem) (rest : List (List ℕ)) → slice_element_at words ≡ Some (element, rest) → Front IsElement words element rest
+unfolding slice_element_at
 element_takes [] element rest e = absurd cc
 element_takes (word ∷ words) element rest e = element_by_takes (bytes_eq word (codes "s")) (bytes_eq word (codes "i")) (bytes_eq word (codes "n")) word words element rest refl refl refl e
 
-part_words : (words : List (List ℕ)) (t : Slice) (rest : List (List ℕ)) → IsSlice words t → element_at (codes "s" ∷ (words ++ rest)) ≡ Some (Part t.start t.end t.step, rest)
-unfolding element_at made
+part_words : (words : List (List ℕ)) (t : Slice) (rest : List (List ℕ)) → IsSlice words t → slice_element_at (codes "s" ∷ (words ++ rest)) ≡ Some (Part t.start t.end t.step, rest)
+unfolding slice_element_at made
 part_words words t rest h = rw (slice_again words t rest h) refl
 
-coordinate_words : (word : List ℕ) (k : ℤ) (rest : List (List ℕ)) → IsInt word k → element_at (codes "i" ∷ word ∷ rest) ≡ Some (At k, rest)
-unfolding element_at made
+coordinate_words : (word : List ℕ) (k : ℤ) (rest : List (List ℕ)) → IsInt word k → slice_element_at (codes "i" ∷ word ∷ rest) ≡ Some (At k, rest)
+unfolding slice_element_at made
 coordinate_words word k rest h = rw (int_again word k h) refl
 
-new_words : (rest : List (List ℕ)) → element_at (codes "n" ∷ rest) ≡ Some (NewAxis, rest)
-unfolding element_at
+new_words : (rest : List (List ℕ)) → slice_element_at (codes "n" ∷ rest) ≡ Some (NewAxis, rest)
+unfolding slice_element_at
 new_words rest = refl
 
-element_again : (front : List (List ℕ)) (element : SliceInfoElem) (rest : List (List ℕ)) → IsElement front element → element_at (front ++ rest) ≡ Some (element, rest)
-element_again front (Part start end step) rest h = ap (λ (ws : List (List ℕ)). element_at (ws ++ rest)) h.1 ∙ part_words h.0 (record { start = start; end = end; step = step }) rest h.2
-element_again front (At k) rest h = ap (λ (ws : List (List ℕ)). element_at (ws ++ rest)) h.1 ∙ coordinate_words h.0 k rest h.2
-element_again front NewAxis rest h = ap (λ (ws : List (List ℕ)). element_at (ws ++ rest)) h ∙ new_words rest
+element_again : (front : List (List ℕ)) (element : SliceInfoElem) (rest : List (List ℕ)) → IsElement front element → slice_element_at (front ++ rest) ≡ Some (element, rest)
+element_again front (Part start end step) rest h = ap (λ (ws : List (List ℕ)). slice_element_at (ws ++ rest)) h.1 ∙ part_words h.0 (record { start = start; end = end; step = step }) rest h.2
+element_again front (At k) rest h = ap (λ (ws : List (List ℕ)). slice_element_at (ws ++ rest)) h.1 ∙ coordinate_words h.0 k rest h.2
+element_again front NewAxis rest h = ap (λ (ws : List (List ℕ)). slice_element_at (ws ++ rest)) h ∙ new_words rest
 
 -- ---- the list
 
@@ -104,9 +104,9 @@ AreCounted words elements = (count : List ℕ) × (rest : List (List ℕ)) × (w
 pub elements_take : (words : List (List ℕ)) (elements : List SliceInfoElem) (rest : List (List ℕ)) → elements_at words ≡ Some (elements, rest) → Front AreCounted words elements rest
 unfolding elements_at
 elements_take words elements rest e =
-    let a = bind_some (item_at nat_of words) (λ count. many_at element_at count.0 count.1) (elements, rest) e in
+    let a = bind_some (item_at nat_of words) (λ count. many_at slice_element_at count.0 count.1) (elements, rest) e in
     let count = item_takes nat_of IsNat nat_takes words a.0.0 a.0.1 a.1 in
-    let items = many_take element_at IsElement element_takes a.0.0 a.0.1 elements rest a.2 in
+    let items = many_take slice_element_at IsElement element_takes a.0.0 a.0.1 elements rest a.2 in
     record {
       front = count.word ∷ items.0.front;
       parts = count.parts ∙ ap (λ (ws : List (List ℕ)). count.word ∷ ws) items.0.parts;
@@ -115,7 +115,7 @@ elements_take words elements rest e =
 
 counted_words : (count : List ℕ) (front : List (List ℕ)) (elements : List SliceInfoElem) (rest : List (List ℕ)) → IsNat count (length elements) → AreInTurn IsElement front elements → elements_at (count ∷ (front ++ rest)) ≡ Some (elements, rest)
 unfolding elements_at
-counted_words count front elements rest is all = rw (nat_again count (length elements) is, many_again element_at IsElement element_again front elements rest all) refl
+counted_words count front elements rest is all = rw (nat_again count (length elements) is, many_again slice_element_at IsElement element_again front elements rest all) refl
 
 pub elements_again : (front : List (List ℕ)) (elements : List SliceInfoElem) (rest : List (List ℕ)) → AreCounted front elements → elements_at (front ++ rest) ≡ Some (elements, rest)
 elements_again front elements rest h = ap (λ (ws : List (List ℕ)). elements_at (ws ++ rest)) h.2 ∙ counted_words h.0 h.1 elements rest h.3 h.4

@@ -13,7 +13,7 @@ use Rattle.std.proofs.lemmas.List.Elements.{filter_map-append}
 use Rattle.nd_shape_and_slice.specs.Shape.{size_of, index_at, indexes_of}
 use Rattle.nd_shape_and_slice.proofs.Ranks.{length-indexes_of, get_or-indexes_of}
 use Rattle.nd_array_core.specs.Meaning.{Meaning}
-use Rattle.nd_run.specs.Fold.{elements_of}
+use Rattle.nd_run.specs.Fold.{row_major_elements}
 
 -- the items are the elements of the ranks below this one, and the buffer has a place for each coordinate
 pub record IsGatheredBelow {A : Type 0} (m : Meaning A) (items : List A) (index : List ℕ) (rank : ℕ) : Type 0 where
@@ -39,7 +39,7 @@ module _ {A : Type 0} (m : Meaning A) where
     gathered = sym (one_more rank h ∙ (ap (λ o. filter_map m.at (take rank (indexes_of m.shape)) ++ cons_option o []) e ∙ (append-nil (filter_map m.at (take rank (indexes_of m.shape))) ∙ sym so_far.gathered)));
   }
 
-  pub gathered_all : (items : List A) (index : List ℕ) (rank : ℕ) → size_of m.shape ≤ rank → IsGatheredBelow m items index rank → items ≡ elements_of m
+  pub gathered_all : (items : List A) (index : List ℕ) (rank : ℕ) → size_of m.shape ≤ rank → IsGatheredBelow m items index rank → items ≡ row_major_elements m
   gathered_all items index rank h all = all.gathered ∙ ap (filter_map m.at) (take_all rank (indexes_of m.shape) (omega (arith, h, length-indexes_of m.shape)))
 
 -- the same for elements that are written: the text of those of the ranks below this one was put
@@ -69,5 +69,5 @@ module _ {W : Type 0} (contents : W → Option (List ℕ)) (m : Meaning ℤ) (ol
         subst (λ es. Puts contents old new (values_text es)) same so_far.written;
   }
 
-  pub written_all : (new : Watched W) (index : List ℕ) (rank : ℕ) → size_of m.shape ≤ rank → IsWrittenBelow contents m old new index rank → Puts contents old new (values_text (elements_of m))
+  pub written_all : (new : Watched W) (index : List ℕ) (rank : ℕ) → size_of m.shape ≤ rank → IsWrittenBelow contents m old new index rank → Puts contents old new (values_text (row_major_elements m))
   written_all new index rank h all = subst (λ is. Puts contents old new (values_text (filter_map m.at is))) (take_all rank (indexes_of m.shape) (omega (arith, h, length-indexes_of m.shape))) all.written

@@ -6,7 +6,7 @@ use Rattle.std.proofs.lemmas.Slice.Eq.{bytes_eq-Decides}
 use Rattle.std.proofs.lemmas.List.{drop_all}
 use Rattle.nd_run.specs.declared.keyword.Keyword.{Keyword}
 use Rattle.nd_run.specs.declared.keyword.Keyword.TheVariants.{Other, Slash}
-use Rattle.nd_run.specs.Reading.{spelling, named, keyword_among, keyword_of, is_slash}
+use Rattle.nd_run.specs.Reading.{spelling, named_keywords, keyword_among, keyword_of, is_slash}
 
 among_drop : (ks : List Keyword) (i : ℕ) (d : Keyword) (word : List ℕ) → i < length ks → keyword_among (drop i ks) word ≡ cond (bytes_eq word (spelling (get_or ks i d))) (get_or ks i d) (keyword_among (drop (i + 1) ks) word)
 among_drop ks i d word h = rw (add-one, drop-cons ks i d) refl
@@ -35,7 +35,7 @@ spelled_among (k ∷ ks) word = spelled_by (bytes_eq word (spelling k)) k ks wor
 -- a word that names something is spelled so
 pub spelled : (word : List ℕ) → (keyword_of word ≡ Other) ⊎ (word ≡ spelling (keyword_of word))
 unfolding keyword_of
-spelled word = spelled_among named word
+spelled word = spelled_among named_keywords word
 
 named_by : (word : List ℕ) (k : Keyword) → keyword_of word ≡ k → (k ≡ Other → ⊥) → (keyword_of word ≡ Other) ⊎ (word ≡ spelling (keyword_of word)) → word ≡ spelling k
 named_by word k e some (inl other) = absurd (some (sym e ∙ other))

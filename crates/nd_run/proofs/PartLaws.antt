@@ -4,15 +4,15 @@ use Rattle.std.specs.Prelude.{is_some, ◌||◌}
 use Rattle.std.proofs.lemmas.Bool.{and_parts, and_from, lt-ltb, ltb-true, ltb-false}
 use Rattle.nd_shape_and_slice.specs.Shape.{in_box}
 use Rattle.nd_shape_and_slice.specs.Maps.{lower_shape, upper_shape, upper_index}
-use Rattle.nd_array_core.specs.Meaning.{Meaning, inside, seen}
+use Rattle.nd_array_core.specs.Meaning.{Meaning, inside, meaning_through}
 use Rattle.nd_array_core.specs.Laws.{NothingOutside}
-use Rattle.nd_array_core.specs.Placed.{Placed, found_at, element_placed}
-use Rattle.nd_array_core.specs.scoped.Tasks.{IsSeenThrough}
+use Rattle.nd_array_core.specs.PlacedArray.{PlacedArray, found_at, element_placed}
+use Rattle.nd_array_core.specs.scoped.Tasks.{IsViewThrough}
 use Rattle.nd_run.specs.declared.cause.Cause.{Cause}
 use Rattle.nd_run.specs.Calls.{Acting, Asked, SplitWriting}
-use Rattle.nd_run.specs.Acts.{joined, clones, lower_part, upper_part, parts_tests, parts_refusal, place_tests, place_refusal, split_refusal}
-use Rattle.nd_run.specs.Placing.{meaning_in, Leaves, acted_unless, said_unless}
-use Rattle.nd_run.specs.Fold.{reply_to, after, MayLackMemory}
+use Rattle.nd_run.specs.Acts.{joined_elements, clones, lower_meaning, upper_meaning, parts_tests, parts_refusal, place_tests, place_refusal, split_refusal}
+use Rattle.nd_run.specs.Placing.{meaning_in, Leaves, acted_elements_unless, said_unless}
+use Rattle.nd_run.specs.Fold.{reply_to, meaning_after, MayLackMemory}
 use Rattle.nd_run.proofs.FoldLemmas.{same_meaning}
 use Rattle.nd_run.proofs.WritePaths.{tests_pass, tests_fail}
 
@@ -43,10 +43,10 @@ module _ {A : Type 0} where
   -- an array whose elements in either part are these has them end to end
   pub joined_is : (ns : List ℕ) (a k : ℕ) (at lower upper : List ℕ → Option A) → ((i : List ℕ) → in_box ns i ≡ false → at i ≡ None)
       → ((i : List ℕ) → in_box (lower_shape ns a k) i ≡ true → at i ≡ lower i) → ((i : List ℕ) → in_box (upper_shape ns a k) i ≡ true → at (upper_index a k i) ≡ upper i)
-      → (i : List ℕ) → at i ≡ inside ns i (joined a k lower upper i)
+      → (i : List ℕ) → at i ≡ inside ns i (joined_elements a k lower upper i)
   joined_is ns a k at lower upper outside low high i = by_box (in_box ns i) (ltb (get_or i a 0) k) refl refl
     where
-      by_box : (b t : Bool) → in_box ns i ≡ b → ltb (get_or i a 0) k ≡ t → at i ≡ inside ns i (joined a k lower upper i)
+      by_box : (b t : Bool) → in_box ns i ≡ b → ltb (get_or i a 0) k ≡ t → at i ≡ inside ns i (joined_elements a k lower upper i)
       by_box false t h e = rw h (outside i h)
       by_box true true h e = rw (h, e) (low i (in_lower ns i a k h (ltb-true (get_or i a 0) k e)))
       by_box true false h e =
@@ -57,14 +57,14 @@ module _ {A : Type 0} where
 
 module _ {A : Type 0} where
   -- what the view is left with is what the array shows at the part's indexes
-  pub part_is : (shape : List ℕ) (source : List ℕ → List ℕ) (act : Acting A) (r : Option Cause) (v w : Placed A) (place place' : List ℕ → Option ℕ) (old new : Meaning A)
-      → IsSeenThrough shape source place old.at v → IsSeenThrough shape source place' new.at w → ((i : List ℕ) → place' i ≡ place i) → Leaves v w (acted_unless r act (meaning_in v))
-      → (i : List ℕ) → in_box shape i ≡ true → new.at (source i) ≡ acted_unless r act (seen shape source old) i
+  pub part_is : (shape : List ℕ) (source : List ℕ → List ℕ) (act : Acting A) (r : Option Cause) (v w : PlacedArray A) (place place' : List ℕ → Option ℕ) (old new : Meaning A)
+      → IsViewThrough shape source place old.at v → IsViewThrough shape source place' new.at w → ((i : List ℕ) → place' i ≡ place i) → Leaves v w (acted_elements_unless r act (meaning_in v))
+      → (i : List ℕ) → in_box shape i ≡ true → new.at (source i) ≡ acted_elements_unless r act (meaning_through shape source old) i
   part_is shape source act r v w place place' old new before left places leaves i h =
-      let start : meaning_in v ≡ seen shape source old = same_meaning (seen shape source old) (meaning_in v) before.same_shape before.same_element in
+      let start : meaning_in v ≡ meaning_through shape source old = same_meaning (meaning_through shape source old) (meaning_in v) before.same_shape before.same_element in
       let shown : element_placed w i ≡ new.at (source i) = left.same_element i ∙ ap (λ b. if b then new.at (source i) else None) h in
       let there : w.place i ≡ v.place i = left.same_place i ∙ (ap (inside shape i) (places (source i)) ∙ sym (before.same_place i)) in
-      sym shown ∙ (ap (found_at w.stored) there ∙ (leaves i ∙ ap (λ m. acted_unless r act m i) start))
+      sym shown ∙ (ap (found_at w.stored) there ∙ (leaves i ∙ ap (λ m. acted_elements_unless r act m i) start))
 
 -- ---- a split, and an act on each part
 
@@ -84,7 +84,7 @@ module _ {A : Type 0} (axis index : ℕ) (first second : Acting A) where
   split_reply None m e = rw (sym e) refl
   split_reply (Some cause) m e = rw (sym e) refl
 
-  pub split_refused : (r : Option Cause) (m : Meaning A) → is_some r ≡ true → r ≡ split_refusal axis index first second m.shape → after call m ≡ m
+  pub split_refused : (r : Option Cause) (m : Meaning A) → is_some r ≡ true → r ≡ split_refusal axis index first second m.shape → meaning_after call m ≡ m
   split_refused None m some e = absurd cc
   split_refused (Some cause) m some e = rw (sym e) refl
 
@@ -92,18 +92,18 @@ module _ {A : Type 0} (axis index : ℕ) (first second : Acting A) where
   split_lacks m allowed clones = (rw allowed refl, clones)
 
   -- an array is its parts end to end
-  rejoined : (m : Meaning A) → NothingOutside m → (i : List ℕ) → m.at i ≡ inside m.shape i (joined axis index (lower_part axis index m).at (upper_part axis index m).at i)
-  rejoined m outside = joined_is m.shape axis index m.at (lower_part axis index m).at (upper_part axis index m).at outside (λ i h. rw h refl) (λ i h. rw h refl)
+  rejoined : (m : Meaning A) → NothingOutside m → (i : List ℕ) → m.at i ≡ inside m.shape i (joined_elements axis index (lower_meaning axis index m).at (upper_meaning axis index m).at i)
+  rejoined m outside = joined_is m.shape axis index m.at (lower_meaning axis index m).at (upper_meaning axis index m).at outside (λ i h. rw h refl) (λ i h. rw h refl)
 
   -- what the acts leave in each part is what the call leaves of the array
   pub split_is : (r : Option Cause) (old new : Meaning A) → r ≡ split_refusal axis index first second old.shape → NothingOutside old → NothingOutside new → new.shape ≡ old.shape
-      → ((i : List ℕ) → in_box (lower_shape old.shape axis index) i ≡ true → new.at i ≡ acted_unless r first (lower_part axis index old) i)
-      → ((i : List ℕ) → in_box (upper_shape old.shape axis index) i ≡ true → new.at (upper_index axis index i) ≡ acted_unless r second (upper_part axis index old) i) → new ≡ after call old
+      → ((i : List ℕ) → in_box (lower_shape old.shape axis index) i ≡ true → new.at i ≡ acted_elements_unless r first (lower_meaning axis index old) i)
+      → ((i : List ℕ) → in_box (upper_shape old.shape axis index) i ≡ true → new.at (upper_index axis index i) ≡ acted_elements_unless r second (upper_meaning axis index old) i) → new ≡ meaning_after call old
   split_is r old new e outside outside' shape low high = by_refusal r e joined_so
     where
-      joined_so : (i : List ℕ) → new.at i ≡ inside old.shape i (joined axis index (acted_unless r first (lower_part axis index old)) (acted_unless r second (upper_part axis index old)) i)
-      joined_so = joined_is old.shape axis index new.at (acted_unless r first (lower_part axis index old)) (acted_unless r second (upper_part axis index old)) (λ i h. outside' i (ap (λ ns. in_box ns i) shape ∙ h)) low high
+      joined_so : (i : List ℕ) → new.at i ≡ inside old.shape i (joined_elements axis index (acted_elements_unless r first (lower_meaning axis index old)) (acted_elements_unless r second (upper_meaning axis index old)) i)
+      joined_so = joined_is old.shape axis index new.at (acted_elements_unless r first (lower_meaning axis index old)) (acted_elements_unless r second (upper_meaning axis index old)) (λ i h. outside' i (ap (λ ns. in_box ns i) shape ∙ h)) low high
 
-      by_refusal : (r : Option Cause) → r ≡ split_refusal axis index first second old.shape → ((i : List ℕ) → new.at i ≡ inside old.shape i (joined axis index (acted_unless r first (lower_part axis index old)) (acted_unless r second (upper_part axis index old)) i)) → new ≡ after call old
-      by_refusal None e so = rw (sym e) (same_meaning (record { shape = old.shape; at = λ i. inside old.shape i (joined axis index (acted_unless None first (lower_part axis index old)) (acted_unless None second (upper_part axis index old)) i) }) new shape so)
+      by_refusal : (r : Option Cause) → r ≡ split_refusal axis index first second old.shape → ((i : List ℕ) → new.at i ≡ inside old.shape i (joined_elements axis index (acted_elements_unless r first (lower_meaning axis index old)) (acted_elements_unless r second (upper_meaning axis index old)) i)) → new ≡ meaning_after call old
+      by_refusal None e so = rw (sym e) (same_meaning (record { shape = old.shape; at = λ i. inside old.shape i (joined_elements axis index (acted_elements_unless None first (lower_meaning axis index old)) (acted_elements_unless None second (upper_meaning axis index old)) i) }) new shape so)
       by_refusal (Some cause) e so = rw (sym e) (same_meaning old new shape (λ i. so i ∙ sym (rejoined old outside i)))

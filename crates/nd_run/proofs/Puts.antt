@@ -7,10 +7,10 @@ use Rattle.std.specs.Io.KnownBytes.{Appends}
 use Rattle.std.proofs.KnownBytes.{Appends-nil, Appends-trans}
 use Rattle.nd_run.specs.declared.watched.Watched.{Watched}
 use Rattle.nd_run.specs.Watched.{watched_inner, watched_failed, watched_flushes, after_write}
-use Rattle.nd_run.specs.Puts.{Takes, Puts}
+use Rattle.nd_run.specs.Puts.{TakesText, Puts}
 
 -- taking nothing
-takes_nothing : {W : Type 0} {contents : W → Option (List ℕ)} (old : Watched W) → Takes contents old old []
+takes_nothing : {W : Type 0} {contents : W → Option (List ℕ)} (old : Watched W) → TakesText contents old old []
 takes_nothing {W} {contents} old = record {
   idle = λ _. refl;
   whole = λ _. Appends-nil (contents (watched_inner old));
@@ -18,7 +18,7 @@ takes_nothing {W} {contents} old = record {
 }
 
 -- taking one text and then another is taking both
-then_by : {W : Type 0} {contents : W → Option (List ℕ)} {old mid new : Watched W} {s t : List ℕ} (b : Bool) → watched_failed mid ≡ b → Takes contents old mid s → Takes contents mid new t → Takes contents old new (s ++ t)
+then_by : {W : Type 0} {contents : W → Option (List ℕ)} {old mid new : Watched W} {s t : List ℕ} (b : Bool) → watched_failed mid ≡ b → TakesText contents old mid s → TakesText contents mid new t → TakesText contents old new (s ++ t)
 then_by {W} {contents} {old} {mid} {new} {s} {t} true failed p q =
     let same : new ≡ mid = q.idle failed in
     record {
@@ -33,7 +33,7 @@ then_by {W} {contents} {old} {mid} {new} {s} {t} false fine p q =
       part = (s ++ q.part.0, q.part.1, ap (λ (l : List ℕ). s ++ l) q.part.2 ∙ sym (append_assoc s q.part.0 q.part.1), Appends-trans _ _ _ s q.part.0 (p.whole fine) q.part.3);
     }
 
-pub takes_then : {W : Type 0} {contents : W → Option (List ℕ)} {old mid new : Watched W} {s t : List ℕ} → Takes contents old mid s → Takes contents mid new t → Takes contents old new (s ++ t)
+pub takes_then : {W : Type 0} {contents : W → Option (List ℕ)} {old mid new : Watched W} {s t : List ℕ} → TakesText contents old mid s → TakesText contents mid new t → TakesText contents old new (s ++ t)
 takes_then {W} {contents} {old} {mid} {new} {s} {t} p q = then_by (watched_failed mid) refl p q
 
 -- printing nothing

@@ -3,16 +3,16 @@ use Rattle.std.proofs.Common.{◌≡◌, ℕ, suc, ◌+◌, ◌<◌, ◌≤◌, 
 use Rattle.std.proofs.lemmas.List.{take_more, take_all, take-append-drop}
 use Rattle.nd_array_core.specs.Meaning.{Meaning}
 use Rattle.nd_run.specs.Calls.{Asked, Said}
-use Rattle.nd_run.specs.Fold.{reply_to, after, replies_to, end_of, MayLackMemory, StopsBefore}
+use Rattle.nd_run.specs.Fold.{reply_to, meaning_after, replies_to, end_of, MayLackMemory, StopsBefore}
 
 module _ {A : Type 0} where
   pub replies_to-append : (xs ys : List (Asked A)) (m : Meaning A) → replies_to (xs ++ ys) m ≡ replies_to xs m ++ replies_to ys (end_of xs m)
   replies_to-append [] ys m = refl
-  replies_to-append (x ∷ xs) ys m = ap (λ t. reply_to x m ∷ t) (replies_to-append xs ys (after x m))
+  replies_to-append (x ∷ xs) ys m = ap (λ t. reply_to x m ∷ t) (replies_to-append xs ys (meaning_after x m))
 
   pub end_of-append : (xs ys : List (Asked A)) (m : Meaning A) → end_of (xs ++ ys) m ≡ end_of ys (end_of xs m)
   end_of-append [] ys m = refl
-  end_of-append (x ∷ xs) ys m = end_of-append xs ys (after x m)
+  end_of-append (x ∷ xs) ys m = end_of-append xs ys (meaning_after x m)
 
   -- the calls below k were carried out
   pub record IsRunBelow (calls : List (Asked A)) (start : Meaning A) (replies : List (Said A)) (array : Meaning A) (k : ℕ) : Type 0 where
@@ -22,13 +22,13 @@ module _ {A : Type 0} where
   pub run_none : (calls : List (Asked A)) (start : Meaning A) → IsRunBelow calls start [] start 0
   run_none calls start = record { replied = refl; left = refl }
 
-  pub run_more : (calls : List (Asked A)) (start array next : Meaning A) (replies : List (Said A)) (k : ℕ) (call : Asked A) (reply : Said A) → k < length calls → get_or calls k call ≡ call → reply ≡ reply_to call array → next ≡ after call array → IsRunBelow calls start replies array k → IsRunBelow calls start (replies ++ reply ∷ []) next (k + 1)
+  pub run_more : (calls : List (Asked A)) (start array next : Meaning A) (replies : List (Said A)) (k : ℕ) (call : Asked A) (reply : Said A) → k < length calls → get_or calls k call ≡ call → reply ≡ reply_to call array → next ≡ meaning_after call array → IsRunBelow calls start replies array k → IsRunBelow calls start (replies ++ reply ∷ []) next (k + 1)
   run_more calls start array next replies k call reply lt at said left so_far =
       let front = take k calls in
       let more : take (k + 1) calls ≡ front ++ call ∷ [] = take_more calls k call lt ∙ ap (λ x. front ++ x ∷ []) at in
       record {
         replied = sym ((ap (λ t. replies_to t start) more ∙ replies_to-append front (call ∷ []) start) ∙ (ap (λ m. replies_to front start ++ reply_to call m ∷ []) (sym so_far.left) ∙ rw (sym so_far.replied, sym said) refl));
-        left = sym ((ap (λ t. end_of t start) more ∙ end_of-append front (call ∷ []) start) ∙ (ap (after call) (sym so_far.left) ∙ sym left));
+        left = sym ((ap (λ t. end_of t start) more ∙ end_of-append front (call ∷ []) start) ∙ (ap (meaning_after call) (sym so_far.left) ∙ sym left));
       }
 
   pub run_all : (calls : List (Asked A)) (start array : Meaning A) (replies : List (Said A)) (k : ℕ) → length calls ≤ k → IsRunBelow calls start replies array k → (replies ≡ replies_to calls start) × (array ≡ end_of calls start)

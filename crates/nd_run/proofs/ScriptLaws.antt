@@ -4,7 +4,7 @@ use Rattle.std.proofs.Common.{◌≡◌, ℕ, ◌+◌, ◌≤◌, ◌⊎◌, Boo
 use Rattle.nd_run.specs.Calls.{Asked}
 use Rattle.nd_run.specs.Grammar.{AreAll, IsStart, IsCall}
 use Rattle.nd_run.specs.Words.{before_first, goes_on, is_blank, words_of, is_wordless}
-use Rattle.nd_run.specs.Script.{◌>>=◌, AskedScript, worded, IsScript, IsNoStart, IsNoCall, numbered, call_in, start_in, calls_from, script_from}
+use Rattle.nd_run.specs.Script.{◌>>=◌, AskedScript, worded_lines, IsScript, IsNoStart, IsNoCall, read_or_number, call_in, start_in, calls_from, script_from}
 use Rattle.nd_run.proofs.CallLaws.{call_takes, call_again, start_takes, start_again}
 
 -- ---- lines
@@ -56,42 +56,42 @@ pub bind_err : {A B : Type 0} (r : Result A ℕ) (f : A → Result B ℕ) (m : �
 bind_err (Ok x) f m e = inr (x, refl, e)
 bind_err (Err n) f m e = inl cc
 
-pub numbered_ok : {A : Type 0} (n : ℕ) (o : Option A) (x : A) → numbered n o ≡ Ok x → o ≡ Some x
+pub numbered_ok : {A : Type 0} (n : ℕ) (o : Option A) (x : A) → read_or_number n o ≡ Ok x → o ≡ Some x
 numbered_ok n None x e = absurd cc
 numbered_ok n (Some y) x e = cc
 
-pub numbered_err : {A : Type 0} (n : ℕ) (o : Option A) (m : ℕ) → numbered n o ≡ Err m → (o ≡ None) × (m ≡ n)
+pub numbered_err : {A : Type 0} (n : ℕ) (o : Option A) (m : ℕ) → read_or_number n o ≡ Err m → (o ≡ None) × (m ≡ n)
 numbered_err n None m e = (refl, cc)
 numbered_err n (Some y) m e = absurd cc
 
 -- ---- calls that are read
 
 calls_by : (t : Bool) (n : ℕ) (line : List ℕ) (lines : List (List ℕ)) (calls : List (Asked ℤ)) → is_wordless (words_of line) ≡ t
-    → ((cs : List (Asked ℤ)) → calls_from (n + 1) lines ≡ Ok cs → AreAll IsCall (worded lines) cs) → calls_from n (line ∷ lines) ≡ Ok calls → AreAll IsCall (worded (line ∷ lines)) calls
+    → ((cs : List (Asked ℤ)) → calls_from (n + 1) lines ≡ Ok cs → AreAll IsCall (worded_lines lines) cs) → calls_from n (line ∷ lines) ≡ Ok calls → AreAll IsCall (worded_lines (line ∷ lines)) calls
 unfolding calls_from
 calls_by true n line lines calls is others e = let read : calls_from (n + 1) lines ≡ Ok calls = rw is at e in rw is (others calls read)
 calls_by false n line lines calls is others e =
-    let read : (numbered n (call_in line) >>= λ call. calls_from (n + 1) lines >>= λ cs. Ok (call ∷ cs)) ≡ Ok calls = rw is at e in
-    let a = bind_ok (numbered n (call_in line)) (λ call. calls_from (n + 1) lines >>= λ cs. Ok (call ∷ cs)) calls read in
+    let read : (read_or_number n (call_in line) >>= λ call. calls_from (n + 1) lines >>= λ cs. Ok (call ∷ cs)) ≡ Ok calls = rw is at e in
+    let a = bind_ok (read_or_number n (call_in line)) (λ call. calls_from (n + 1) lines >>= λ cs. Ok (call ∷ cs)) calls read in
     let b = bind_ok (calls_from (n + 1) lines) (λ cs. Ok (a.0 ∷ cs)) calls a.2 in
     let whole : a.0 ∷ b.0 ≡ calls = cc in
     let first : IsCall (words_of line) a.0 = call_takes (length line) (words_of line) a.0 (numbered_ok n (call_in line) a.0 a.1) in
-    let made : AreAll IsCall (words_of line ∷ worded lines) (a.0 ∷ b.0) = (first, others b.0 b.1) in
-    rw is (subst (AreAll IsCall (words_of line ∷ worded lines)) whole made)
+    let made : AreAll IsCall (words_of line ∷ worded_lines lines) (a.0 ∷ b.0) = (first, others b.0 b.1) in
+    rw is (subst (AreAll IsCall (words_of line ∷ worded_lines lines)) whole made)
 
-pub calls_take : (n : ℕ) (lines : List (List ℕ)) (calls : List (Asked ℤ)) → calls_from n lines ≡ Ok calls → AreAll IsCall (worded lines) calls
+pub calls_take : (n : ℕ) (lines : List (List ℕ)) (calls : List (Asked ℤ)) → calls_from n lines ≡ Ok calls → AreAll IsCall (worded_lines lines) calls
 unfolding calls_from
 calls_take n [] calls e = let none : [] ≡ calls = cc in subst (AreAll IsCall []) none tt
 calls_take n (line ∷ lines) calls e = calls_by (is_wordless (words_of line)) n line lines calls refl (calls_take (n + 1) lines) e
 
 again_by : (t : Bool) (n : ℕ) (line : List ℕ) (lines : List (List ℕ)) (calls : List (Asked ℤ)) → is_wordless (words_of line) ≡ t
-    → ((cs : List (Asked ℤ)) → AreAll IsCall (worded lines) cs → calls_from (n + 1) lines ≡ Ok cs) → AreAll IsCall (cond t (worded lines) (words_of line ∷ worded lines)) calls → calls_from n (line ∷ lines) ≡ Ok calls
+    → ((cs : List (Asked ℤ)) → AreAll IsCall (worded_lines lines) cs → calls_from (n + 1) lines ≡ Ok cs) → AreAll IsCall (cond t (worded_lines lines) (words_of line ∷ worded_lines lines)) calls → calls_from n (line ∷ lines) ≡ Ok calls
 unfolding calls_from
 again_by true n line lines calls is others h = rw is (others calls h)
 again_by false n line lines [] is others h = absurd h
 again_by false n line lines (call ∷ calls) is others h = rw (is, call_line line call h.0, others calls h.1) refl
 
-pub calls_again : (n : ℕ) (lines : List (List ℕ)) (calls : List (Asked ℤ)) → AreAll IsCall (worded lines) calls → calls_from n lines ≡ Ok calls
+pub calls_again : (n : ℕ) (lines : List (List ℕ)) (calls : List (Asked ℤ)) → AreAll IsCall (worded_lines lines) calls → calls_from n lines ≡ Ok calls
 unfolding calls_from
 calls_again n [] [] h = refl
 calls_again n [] (call ∷ calls) h = absurd h
@@ -105,17 +105,17 @@ unfolding script_from
 script_by true n line lines script is others e =
     let read : script_from (n + 1) lines ≡ Ok script = rw is at e in
     let h = others script read in
-    let same : worded (line ∷ lines) ≡ h.0 ∷ h.1 = rw is h.2 in
+    let same : worded_lines (line ∷ lines) ≡ h.0 ∷ h.1 = rw is h.2 in
     (h.0, h.1, same, h.3, h.4)
 script_by false n line lines script is others e =
-    let read : (numbered n (start_in line) >>= λ start. calls_from (n + 1) lines >>= λ calls. Ok (record { lengths = start.0; elements = start.1; calls = calls })) ≡ Ok script = rw is at e in
-    let a = bind_ok (numbered n (start_in line)) (λ start. calls_from (n + 1) lines >>= λ calls. Ok (record { lengths = start.0; elements = start.1; calls = calls })) script read in
+    let read : (read_or_number n (start_in line) >>= λ start. calls_from (n + 1) lines >>= λ calls. Ok (record { lengths = start.0; elements = start.1; calls = calls })) ≡ Ok script = rw is at e in
+    let a = bind_ok (read_or_number n (start_in line)) (λ start. calls_from (n + 1) lines >>= λ calls. Ok (record { lengths = start.0; elements = start.1; calls = calls })) script read in
     let b = bind_ok (calls_from (n + 1) lines) (λ calls. Ok (record { lengths = a.0.0; elements = a.0.1; calls = calls })) script a.2 in
     let made : AskedScript = record { lengths = a.0.0; elements = a.0.1; calls = b.0 } in
     let whole : made ≡ script = cc in
     let first : IsStart (words_of line) a.0.0 a.0.1 = start_takes (words_of line) a.0 (numbered_ok n (start_in line) a.0 a.1) in
-    let same : worded (line ∷ lines) ≡ words_of line ∷ worded lines = rw is refl in
-    let is_script : IsScript (line ∷ lines) made = (words_of line, worded lines, same, first, calls_take (n + 1) lines b.0 b.1) in
+    let same : worded_lines (line ∷ lines) ≡ words_of line ∷ worded_lines lines = rw is refl in
+    let is_script : IsScript (line ∷ lines) made = (words_of line, worded_lines lines, same, first, calls_take (n + 1) lines b.0 b.1) in
     subst (IsScript (line ∷ lines)) whole is_script
 
 pub script_takes : (n : ℕ) (lines : List (List ℕ)) (script : AskedScript) → script_from n lines ≡ Ok script → IsScript lines script
@@ -128,12 +128,12 @@ pub parts_are : {X : Type 0} (x y : X) (xs ys : List X) → x ∷ xs ≡ y ∷ y
 parts_are x y xs ys e = (cc, cc)
 
 script_again_by : (t : Bool) (n : ℕ) (line : List ℕ) (lines : List (List ℕ)) (script : AskedScript) → is_wordless (words_of line) ≡ t
-    → ((s : AskedScript) → IsScript lines s → script_from (n + 1) lines ≡ Ok s) → (first : List (List ℕ)) (others : List (List (List ℕ))) → cond t (worded lines) (words_of line ∷ worded lines) ≡ first ∷ others
+    → ((s : AskedScript) → IsScript lines s → script_from (n + 1) lines ≡ Ok s) → (first : List (List ℕ)) (others : List (List (List ℕ))) → cond t (worded_lines lines) (words_of line ∷ worded_lines lines) ≡ first ∷ others
     → IsStart first script.lengths script.elements → AreAll IsCall others script.calls → script_from n (line ∷ lines) ≡ Ok script
 unfolding script_from
 script_again_by true n line lines script is rest first others e start calls = rw is (rest script (first, others, e, start, calls))
 script_again_by false n line lines script is rest first others e start calls =
-    let p = parts_are (words_of line) first (worded lines) others e in
+    let p = parts_are (words_of line) first (worded_lines lines) others e in
     let read : start_in line ≡ Some (script.lengths, script.elements) = start_again (words_of line) (script.lengths, script.elements) (subst (λ (ws : List (List ℕ)). IsStart ws script.lengths script.elements) (sym p.0) start) in
     let more : calls_from (n + 1) lines ≡ Ok script.calls = calls_again (n + 1) lines script.calls (subst (λ (ws : List (List (List ℕ))). AreAll IsCall ws script.calls) (sym p.1) calls) in
     rw (is, read, more) refl

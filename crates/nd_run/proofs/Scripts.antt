@@ -6,7 +6,7 @@ use Rattle.nd_run.specs.declared.reader.fault.ScriptError.{ScriptError}
 use Rattle.nd_run.specs.declared.reader.fault.ScriptError.TheVariants.{BadLine, Memory}
 use Rattle.nd_run.specs.Calls.{Asked}
 use Rattle.nd_run.specs.Words.{lines_of, words_of, is_wordless}
-use Rattle.nd_run.specs.Script.{◌>>=◌, AskedScript, FailsAt, numbered, call_in, start_in, calls_from, script_from}
+use Rattle.nd_run.specs.Script.{◌>>=◌, AskedScript, FailsAt, read_or_number, call_in, start_in, calls_from, script_from}
 
 -- a text without bytes has no line
 pub lines_none : (text : List ℕ) → true ≡ eqb (length text) 0 → lines_of text ≡ []
@@ -28,14 +28,14 @@ calls_skip front n line lines rest total e none so_far =
     let one : with_calls front (calls_from n lines) ≡ with_calls front (calls_from (n + 1) rest) = rw (e, none) refl in
     sym one ∙ so_far
 
-pub calls_more : (front : List (Asked ℤ)) (n : ℕ) (line : List ℕ) (lines rest : List (List ℕ)) (call : Asked ℤ) (total : Result (List (Asked ℤ)) ℕ) → lines ≡ line ∷ rest → is_wordless (words_of line) ≡ false → numbered n (call_in line) ≡ Ok call
+pub calls_more : (front : List (Asked ℤ)) (n : ℕ) (line : List ℕ) (lines rest : List (List ℕ)) (call : Asked ℤ) (total : Result (List (Asked ℤ)) ℕ) → lines ≡ line ∷ rest → is_wordless (words_of line) ≡ false → read_or_number n (call_in line) ≡ Ok call
     → with_calls front (calls_from n lines) ≡ total → with_calls (front ++ call ∷ []) (calls_from (n + 1) rest) ≡ total
 unfolding calls_from
 calls_more front n line lines rest call total e some h so_far =
     let one : with_calls front (calls_from n lines) ≡ with_calls (front ++ call ∷ []) (calls_from (n + 1) rest) = rw (e, some, h) (regroup front call (calls_from (n + 1) rest)) in
     sym one ∙ so_far
 
-pub calls_stop : (fault : ScriptError) (front : List (Asked ℤ)) (n : ℕ) (line : List ℕ) (lines rest : List (List ℕ)) (total : Result (List (Asked ℤ)) ℕ) → lines ≡ line ∷ rest → is_wordless (words_of line) ≡ false → FailsAt fault (numbered n (call_in line))
+pub calls_stop : (fault : ScriptError) (front : List (Asked ℤ)) (n : ℕ) (line : List ℕ) (lines rest : List (List ℕ)) (total : Result (List (Asked ℤ)) ℕ) → lines ≡ line ∷ rest → is_wordless (words_of line) ≡ false → FailsAt fault (read_or_number n (call_in line))
     → with_calls front (calls_from n lines) ≡ total → FailsAt fault total
 unfolding calls_from
 calls_stop Memory front n line lines rest total e some h so_far = tt
@@ -63,7 +63,7 @@ script_none n lines total none so_far =
     let one : script_from n lines ≡ Err n = rw none refl in
     sym so_far ∙ one
 
-pub script_bad : (fault : ScriptError) (n : ℕ) (line : List ℕ) (lines rest : List (List ℕ)) (total : Result AskedScript ℕ) → lines ≡ line ∷ rest → is_wordless (words_of line) ≡ false → FailsAt fault (numbered n (start_in line))
+pub script_bad : (fault : ScriptError) (n : ℕ) (line : List ℕ) (lines rest : List (List ℕ)) (total : Result AskedScript ℕ) → lines ≡ line ∷ rest → is_wordless (words_of line) ≡ false → FailsAt fault (read_or_number n (start_in line))
     → script_from n lines ≡ total → FailsAt fault total
 unfolding script_from
 script_bad Memory n line lines rest total e some h so_far = tt
@@ -71,7 +71,7 @@ script_bad (BadLine m) n line lines rest total e some h so_far =
     let one : script_from n lines ≡ Err m = rw (e, some, h) refl in
     sym so_far ∙ one
 
-pub script_bad_call : (fault : ScriptError) (n : ℕ) (line : List ℕ) (lines rest : List (List ℕ)) (start : List ℕ × List ℤ) (total : Result AskedScript ℕ) → lines ≡ line ∷ rest → is_wordless (words_of line) ≡ false → numbered n (start_in line) ≡ Ok start → FailsAt fault (calls_from (n + 1) rest)
+pub script_bad_call : (fault : ScriptError) (n : ℕ) (line : List ℕ) (lines rest : List (List ℕ)) (start : List ℕ × List ℤ) (total : Result AskedScript ℕ) → lines ≡ line ∷ rest → is_wordless (words_of line) ≡ false → read_or_number n (start_in line) ≡ Ok start → FailsAt fault (calls_from (n + 1) rest)
     → script_from n lines ≡ total → FailsAt fault total
 unfolding script_from
 script_bad_call Memory n line lines rest start total e some h g so_far = tt
@@ -79,7 +79,7 @@ script_bad_call (BadLine m) n line lines rest start total e some h g so_far =
     let one : script_from n lines ≡ Err m = rw (e, some, h, g) refl in
     sym so_far ∙ one
 
-pub script_read : (n : ℕ) (line : List ℕ) (lines rest : List (List ℕ)) (start : List ℕ × List ℤ) (calls : List (Asked ℤ)) (total : Result AskedScript ℕ) → lines ≡ line ∷ rest → is_wordless (words_of line) ≡ false → numbered n (start_in line) ≡ Ok start → calls_from (n + 1) rest ≡ Ok calls
+pub script_read : (n : ℕ) (line : List ℕ) (lines rest : List (List ℕ)) (start : List ℕ × List ℤ) (calls : List (Asked ℤ)) (total : Result AskedScript ℕ) → lines ≡ line ∷ rest → is_wordless (words_of line) ≡ false → read_or_number n (start_in line) ≡ Ok start → calls_from (n + 1) rest ≡ Ok calls
     → script_from n lines ≡ total → total ≡ Ok (record { lengths = start.0; elements = start.1; calls = calls })
 unfolding script_from
 script_read n line lines rest start calls total e some h g so_far =

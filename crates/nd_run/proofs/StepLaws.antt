@@ -3,9 +3,9 @@ use Rattle.std.proofs.Common.{◌≡◌, ℕ, ◌⊎◌, true, List, [], ◌∷�
 use Rattle.nd_shape_and_slice.specs.declared.slice.Slice.{Slice as AxisSlice}
 use Rattle.nd_run.specs.declared.keyword.Keyword.{Keyword}
 use Rattle.nd_run.specs.declared.keyword.Keyword.TheVariants.{Cut, Slice, Collapse, Index, Permute, Reverse, SwapAxes, Invert, Insert, Remove, Squeeze, Diag, Broadcast, Other}
-use Rattle.nd_run.specs.Calls.{AskedStep, SlicedAxis, Sliced, Collapsed, Indexed, Permuted, Reversed, Exchanged, Inverted, Inserted, Removed, Squeezed, Diagonal, Widened}
+use Rattle.nd_run.specs.Calls.{AskedStep, SlicedAxis, Sliced, Collapsed, Indexed, Permuted, Reversed, Exchanged, Inverted, Inserted, Removed, Squeezed, Diagonal, BroadcastTo}
 use Rattle.nd_run.specs.Numerals.{IsNat, nat_of}
-use Rattle.nd_run.specs.Grammar.{AreAll, IsList, IsSlice, IsStep, IsRest, step_name}
+use Rattle.nd_run.specs.Grammar.{AreAll, IsList, IsSlice, IsStepSpelling, IsRest, step_name}
 use Rattle.nd_run.specs.Reading.{◌>>=◌, item_at, list_at, slice_at, pair_at, cut_at, elements_at, made, keyword_of, spelling, is_step, step_by, step_at, begins_step}
 use Rattle.nd_run.proofs.Keywords.{spelled}
 use Rattle.nd_run.proofs.NumberLaws.{nat_takes, nat_again}
@@ -108,7 +108,7 @@ rest_takes Insert words step rest e = one_made Inserted (spelling Insert) words 
 rest_takes Remove words step rest e = one_made Removed (spelling Remove) words step rest (λ ws n h. (h, refl)) e
 rest_takes Squeeze words step rest e = bare_takes Squeezed words step rest refl e
 rest_takes Diag words step rest e = bare_takes Diagonal words step rest refl e
-rest_takes Broadcast words step rest e = list_made Widened (spelling Broadcast) words step rest (λ ws x h. (h, refl)) e
+rest_takes Broadcast words step rest e = list_made BroadcastTo (spelling Broadcast) words step rest (λ ws x h. (h, refl)) e
 rest_takes _ words step rest e = absurd cc
 
 -- the word that a step was read by is a name
@@ -116,7 +116,7 @@ is_name : (word : List ℕ) (words : List (List ℕ)) (step : AskedStep) (rest :
 is_name word words step rest e (inl other) = let none : step_by Other words ≡ Some (step, rest) = subst (λ (k : Keyword). step_by k words ≡ Some (step, rest)) other e in absurd cc
 is_name word words step rest e (inr is) = is
 
-pub step_takes : (words : List (List ℕ)) (step : AskedStep) (rest : List (List ℕ)) → step_at words ≡ Some (step, rest) → Front IsStep words step rest
+pub step_takes : (words : List (List ℕ)) (step : AskedStep) (rest : List (List ℕ)) → step_at words ≡ Some (step, rest) → Front IsStepSpelling words step rest
 unfolding step_at
 step_takes [] step rest e = absurd cc
 step_takes (word ∷ words) step rest e =
@@ -142,7 +142,7 @@ keyword_for (Inserted axis) = Insert
 keyword_for (Removed axis) = Remove
 keyword_for Squeezed = Squeeze
 keyword_for Diagonal = Diag
-keyword_for (Widened lengths) = Broadcast
+keyword_for (BroadcastTo lengths) = Broadcast
 
 name_known : (step : AskedStep) → keyword_of (step_name step) ≡ keyword_for step
 unfolding keyword_of
@@ -158,7 +158,7 @@ name_known (Inserted axis) = refl
 name_known (Removed axis) = refl
 name_known Squeezed = refl
 name_known Diagonal = refl
-name_known (Widened lengths) = refl
+name_known (BroadcastTo lengths) = refl
 
 name_begins : (step : AskedStep) → is_step (keyword_for step) ≡ true
 name_begins (SlicedAxis axis slice) = refl
@@ -173,7 +173,7 @@ name_begins (Inserted axis) = refl
 name_begins (Removed axis) = refl
 name_begins Squeezed = refl
 name_begins Diagonal = refl
-name_begins (Widened lengths) = refl
+name_begins (BroadcastTo lengths) = refl
 
 rest_again : (step : AskedStep) (front rest : List (List ℕ)) → IsRest front step → step_by (keyword_for step) (front ++ rest) ≡ Some (step, rest)
 rest_again (SlicedAxis axis slice) front rest h = made_again (λ x. SlicedAxis x.0 x.1) (cut_at (front ++ rest)) (axis, slice) rest (cut_again front (axis, slice) rest h)
@@ -188,14 +188,14 @@ rest_again (Inserted axis) front rest h = made_again Inserted (item_at nat_of (f
 rest_again (Removed axis) front rest h = made_again Removed (item_at nat_of (front ++ rest)) axis rest (one_again front axis rest h)
 rest_again Squeezed front rest h = rw h refl
 rest_again Diagonal front rest h = rw h refl
-rest_again (Widened lengths) front rest h = made_again Widened (list_at (front ++ rest)) lengths rest (list_again front lengths rest h)
+rest_again (BroadcastTo lengths) front rest h = made_again BroadcastTo (list_at (front ++ rest)) lengths rest (list_again front lengths rest h)
 
 name_again : (step : AskedStep) (front rest : List (List ℕ)) → IsRest front step → step_at (step_name step ∷ (front ++ rest)) ≡ Some (step, rest)
 unfolding step_at
 name_again step front rest h = ap (λ (k : Keyword). step_by k (front ++ rest)) (name_known step) ∙ rest_again step front rest h
 
-pub step_again : (front : List (List ℕ)) (step : AskedStep) (rest : List (List ℕ)) → IsStep front step → step_at (front ++ rest) ≡ Some (step, rest)
+pub step_again : (front : List (List ℕ)) (step : AskedStep) (rest : List (List ℕ)) → IsStepSpelling front step → step_at (front ++ rest) ≡ Some (step, rest)
 step_again front step rest h = ap (λ (ws : List (List ℕ)). step_at (ws ++ rest)) h.1 ∙ name_again step h.0 rest h.2
 
-pub step_begins : (front : List (List ℕ)) (step : AskedStep) (rest : List (List ℕ)) → IsStep front step → begins_step (front ++ rest) ≡ true
+pub step_begins : (front : List (List ℕ)) (step : AskedStep) (rest : List (List ℕ)) → IsStepSpelling front step → begins_step (front ++ rest) ≡ true
 step_begins front step rest h = ap (λ (ws : List (List ℕ)). begins_step (ws ++ rest)) h.1 ∙ (ap is_step (name_known step) ∙ name_begins step)

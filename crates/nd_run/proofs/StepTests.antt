@@ -11,7 +11,7 @@ use Rattle.nd_shape_and_slice.specs.SliceInfo.{reads_axis, axes_read, axes_kept,
 use Rattle.nd_run.specs.declared.cause.Cause.{Cause}
 use Rattle.nd_run.specs.declared.cause.Cause.TheVariants as causes
 use Rattle.nd_shape_and_slice.specs.Broadcast.{broadcasts}
-use Rattle.nd_run.specs.Calls.{AskedStep, Sliced, Widened}
+use Rattle.nd_run.specs.Calls.{AskedStep, Sliced, BroadcastTo}
 use Rattle.nd_run.specs.Steps.{first_failed, element_tests, reads, refusal, keep_refusal, shares}
 
 -- ---- one test before others
@@ -36,8 +36,8 @@ unrefused : (t : Bool) (cause : Cause) → (t ≡ false → ⊥) → cond t None
 unrefused true cause h = refl
 unrefused false cause h = absurd (h refl)
 
-pub widening_allowed : (to ns : List ℕ) → length to ≤ 32 → (broadcasts ns to ≡ false → ⊥) → refusal (Widened to) ns ≡ None
-widening_allowed to ns few can = rw (le-leb (length to) 32 few) (unrefused (broadcasts ns to) causes.Broadcast can)
+pub broadcast_allowed : (to ns : List ℕ) → length to ≤ 32 → (broadcasts ns to ≡ false → ⊥) → refusal (BroadcastTo to) ns ≡ None
+broadcast_allowed to ns few can = rw (le-leb (length to) 32 few) (unrefused (broadcasts ns to) causes.Broadcast can)
 
 -- ---- one element before others
 

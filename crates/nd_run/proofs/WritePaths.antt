@@ -6,9 +6,9 @@ use Rattle.nd_array_core.specs.Meaning.{Meaning, inside}
 use Rattle.nd_run.specs.declared.cause.Cause.{Cause}
 use Rattle.nd_run.specs.declared.calls.Step.{Step}
 use Rattle.nd_run.specs.Calls.{AskedStep, asked_step}
-use Rattle.nd_run.specs.Steps.{Test, first_failed, keep_tests, keep_refusal, unless, shape_after, index_before}
+use Rattle.nd_run.specs.Steps.{Test, first_failed, keep_tests, keep_refusal, unless, step_shape, step_index}
 use Rattle.nd_run.specs.Acts.{path_tests, path_refusal}
-use Rattle.nd_run.specs.Fold.{changed, kept, and_then, followed, LeadsAlong}
+use Rattle.nd_run.specs.Fold.{step_meaning, kept_result, and_then, path_result, LeadsAlong}
 use Rattle.nd_run.specs.Laws.{PathsLeadAlong}
 use Rattle.nd_run.proofs.FoldLemmas.{seen_is}
 use Rattle.nd_run.proofs.StepTests.{keep_allows}
@@ -42,34 +42,34 @@ module _ {X : Type 0} where
   -- what a path leads to on none of whose steps indexes share anything, or the cause against its first refused step
   abbrev pub led : List AskedStep → Meaning X → Result (Meaning X) Cause
   led [] m = Ok m
-  led (step ∷ steps) m = and_then (kept step m) (led steps)
+  led (step ∷ steps) m = and_then (kept_result step m) (led steps)
 
   led_refused : (path : List AskedStep) (m : Meaning X) (cause : Cause) → led path m ≡ Err cause → path_refusal path m.shape ≡ Some cause
   led_refused [] m cause e = absurd cc
-  led_refused (step ∷ path) m cause e = by_refusal (keep_refusal step m.shape) refl e (led_refused path (changed step m) cause)
+  led_refused (step ∷ path) m cause e = by_refusal (keep_refusal step m.shape) refl e (led_refused path (step_meaning step m) cause)
     where
-      by_refusal : (r : Option Cause) → keep_refusal step m.shape ≡ r → and_then (unless r (changed step m)) (led path) ≡ Err cause → (led path (changed step m) ≡ Err cause → path_refusal path (shape_after step m.shape) ≡ Some cause) → path_refusal (step ∷ path) m.shape ≡ Some cause
-      by_refusal None h e later = tests_pass (keep_tests step m.shape) (path_tests path (shape_after step m.shape)) h ∙ later e
-      by_refusal (Some given) h e later = let same : given ≡ cause = cc in tests_fail (keep_tests step m.shape) (path_tests path (shape_after step m.shape)) cause (h ∙ ap Some same)
+      by_refusal : (r : Option Cause) → keep_refusal step m.shape ≡ r → and_then (unless r (step_meaning step m)) (led path) ≡ Err cause → (led path (step_meaning step m) ≡ Err cause → path_refusal path (step_shape step m.shape) ≡ Some cause) → path_refusal (step ∷ path) m.shape ≡ Some cause
+      by_refusal None h e later = tests_pass (keep_tests step m.shape) (path_tests path (step_shape step m.shape)) h ∙ later e
+      by_refusal (Some given) h e later = let same : given ≡ cause = cc in tests_fail (keep_tests step m.shape) (path_tests path (step_shape step m.shape)) cause (h ∙ ap Some same)
 
-  led_allowed : (path : List AskedStep) (m n : Meaning X) → led path m ≡ Ok n → (path_refusal path m.shape ≡ None) × (followed path m ≡ Ok n)
+  led_allowed : (path : List AskedStep) (m n : Meaning X) → led path m ≡ Ok n → (path_refusal path m.shape ≡ None) × (path_result path m ≡ Ok n)
   led_allowed [] m n e = (refl, e)
-  led_allowed (step ∷ path) m n e = by_refusal (keep_refusal step m.shape) refl e (led_allowed path (changed step m) n)
+  led_allowed (step ∷ path) m n e = by_refusal (keep_refusal step m.shape) refl e (led_allowed path (step_meaning step m) n)
     where
-      by_refusal : (r : Option Cause) → keep_refusal step m.shape ≡ r → and_then (unless r (changed step m)) (led path) ≡ Ok n → (led path (changed step m) ≡ Ok n → (path_refusal path (shape_after step m.shape) ≡ None) × (followed path (changed step m) ≡ Ok n)) → (path_refusal (step ∷ path) m.shape ≡ None) × (followed (step ∷ path) m ≡ Ok n)
+      by_refusal : (r : Option Cause) → keep_refusal step m.shape ≡ r → and_then (unless r (step_meaning step m)) (led path) ≡ Ok n → (led path (step_meaning step m) ≡ Ok n → (path_refusal path (step_shape step m.shape) ≡ None) × (path_result path (step_meaning step m) ≡ Ok n)) → (path_refusal (step ∷ path) m.shape ≡ None) × (path_result (step ∷ path) m ≡ Ok n)
       by_refusal None h e later =
           let more = later e in
-          (tests_pass (keep_tests step m.shape) (path_tests path (shape_after step m.shape)) h ∙ more.0, rw (keep_allows step m.shape h) more.1)
+          (tests_pass (keep_tests step m.shape) (path_tests path (step_shape step m.shape)) h ∙ more.0, rw (keep_allows step m.shape h) more.1)
       by_refusal (Some given) h e later = absurd cc
 
   -- ---- as a loop goes along a path
 
-  pub led_more : (path : List Step) (k : ℕ) (step : Step) (start now next : Meaning X) → k < length path → get_or path k step ≡ step → keep_refusal (asked_step step) now.shape ≡ None → next.shape ≡ shape_after (asked_step step) now.shape
-      → ((i : List ℕ) → next.at i ≡ inside next.shape i (now.at (index_before (asked_step step) now.shape i))) → led (map asked_step (drop k path)) now ≡ led (map asked_step path) start → led (map asked_step (drop (k + 1) path)) next ≡ led (map asked_step path) start
+  pub led_more : (path : List Step) (k : ℕ) (step : Step) (start now next : Meaning X) → k < length path → get_or path k step ≡ step → keep_refusal (asked_step step) now.shape ≡ None → next.shape ≡ step_shape (asked_step step) now.shape
+      → ((i : List ℕ) → next.at i ≡ inside next.shape i (now.at (step_index (asked_step step) now.shape i))) → led (map asked_step (drop k path)) now ≡ led (map asked_step path) start → led (map asked_step (drop (k + 1) path)) next ≡ led (map asked_step path) start
   led_more path k step start now next lt at allowed shape elements so_far =
       let one = asked_step step in
-      let taken : next ≡ changed one now = seen_is now next (shape_after one now.shape) (index_before one now.shape) shape elements in
-      let here : led (map asked_step (drop k path)) now ≡ led (map asked_step (drop (k + 1) path)) (changed one now) = ap (λ steps. led (map asked_step steps) now) (next_steps path k step lt at) ∙ rw allowed refl in
+      let taken : next ≡ step_meaning one now = seen_is now next (step_shape one now.shape) (step_index one now.shape) shape elements in
+      let here : led (map asked_step (drop k path)) now ≡ led (map asked_step (drop (k + 1) path)) (step_meaning one now) = ap (λ steps. led (map asked_step steps) now) (next_steps path k step lt at) ∙ rw allowed refl in
       ap (led (map asked_step (drop (k + 1) path))) taken ∙ (sym here ∙ so_far)
 
   pub led_stops : (path : List Step) (k : ℕ) (step : Step) (start now : Meaning X) (cause : Cause) → k < length path → get_or path k step ≡ step → keep_refusal (asked_step step) now.shape ≡ Some cause

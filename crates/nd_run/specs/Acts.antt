@@ -4,10 +4,10 @@ use Rattle.std.specs.Cmp.Lexicographic.{pointwise}
 use Rattle.std.specs.List.{find}
 use Rattle.nd_shape_and_slice.specs.Shape.{in_box, indexes_of}
 use Rattle.nd_shape_and_slice.specs.Maps.{lower_shape, upper_shape, upper_index}
-use Rattle.nd_array_core.specs.Meaning.{Meaning, inside, seen}
-use Rattle.nd_array_core.specs.base.Writes.{with_element_at, with_swapped}
+use Rattle.nd_array_core.specs.Meaning.{Meaning, inside, meaning_through}
+use Rattle.nd_array_core.specs.base.Writes.{with_element_at, with_swapped_at}
 use Rattle.nd_run.specs.Calls.{AskedStep, Acting, Filling, Setting, Swapping}
-use Rattle.nd_run.specs.Steps.{Test, first_failed, has_axis, keep_tests, unless, shape_after, shape_along, index_along}
+use Rattle.nd_run.specs.Steps.{Test, first_failed, has_axis, keep_tests, unless, step_shape, shape_along, index_along}
 use Rattle.nd_run.specs.declared.cause.Cause.{Cause}
 use Rattle.nd_run.specs.declared.cause.Cause.TheVariants as causes
 
@@ -27,10 +27,10 @@ abbrev pub act_refusal : {A : Type 0} → Acting A → List ℕ → Option Cause
 act_refusal act ns = first_failed (act_tests act ns)
 
 -- the elements after an act
-abbrev pub acted : {A : Type 0} → Acting A → Meaning A → List ℕ → Option A
-acted (Filling x) m = λ i. inside m.shape i (Some x)
-acted (Setting index x) m = with_element_at m.at index x
-acted (Swapping a b) m = with_swapped m.at a b
+abbrev pub acted_elements : {A : Type 0} → Acting A → Meaning A → List ℕ → Option A
+acted_elements (Filling x) m = λ i. inside m.shape i (Some x)
+acted_elements (Setting index x) m = with_element_at m.at index x
+acted_elements (Swapping a b) m = with_swapped_at m.at a b
 
 -- an act that clones its value
 abbrev pub clones : {A : Type 0} → Acting A → Bool
@@ -43,7 +43,7 @@ clones (Swapping a b) = false
 -- the tests of a path's steps, on none of which indexes share an element
 abbrev pub path_tests : List AskedStep → List ℕ → List Test
 path_tests [] ns = []
-path_tests (step ∷ steps) ns = keep_tests step ns ++ path_tests steps (shape_after step ns)
+path_tests (step ∷ steps) ns = keep_tests step ns ++ path_tests steps (step_shape step ns)
 
 -- the first cause against such a path
 abbrev pub path_refusal : List AskedStep → List ℕ → Option Cause
@@ -57,8 +57,8 @@ abbrev pub write_refusal : {A : Type 0} → List AskedStep → Acting A → List
 write_refusal path act ns = first_failed (write_tests path act ns)
 
 -- what is seen at the end of a path
-abbrev pub seen_along : {A : Type 0} → List AskedStep → Meaning A → Meaning A
-seen_along path m = seen (shape_along path m.shape) (index_along path m.shape) m
+abbrev pub meaning_at_end : {A : Type 0} → List AskedStep → Meaning A → Meaning A
+meaning_at_end path m = meaning_through (shape_along path m.shape) (index_along path m.shape) m
 
 -- the index of a box that a map leads to this one: the first of them
 abbrev pub leading_to : List ℕ → (List ℕ → List ℕ) → List ℕ → Option (List ℕ)
@@ -75,8 +75,8 @@ abbrev pub written_through : {A : Type 0} → List ℕ → (List ℕ → List �
 written_through shape source new m = record { shape = m.shape; at = λ i. new_or_old new (m.at i) (leading_to shape source i) }
 
 -- a write through a path, or the first cause against it
-abbrev pub written : {A : Type 0} → List AskedStep → Acting A → Meaning A → Result (Meaning A) Cause
-written path act m = unless (write_refusal path act m.shape) (written_through (shape_along path m.shape) (index_along path m.shape) (acted act (seen_along path m)) m)
+abbrev pub write_result : {A : Type 0} → List AskedStep → Acting A → Meaning A → Result (Meaning A) Cause
+write_result path act m = unless (write_refusal path act m.shape) (written_through (shape_along path m.shape) (index_along path m.shape) (acted_elements act (meaning_at_end path m)) m)
 
 -- ---- writes to the parts of a split
 
@@ -102,16 +102,16 @@ abbrev pub split_refusal : {A : Type 0} → ℕ → ℕ → Acting A → Acting 
 split_refusal axis index first second ns = first_failed (split_tests axis index first second ns)
 
 -- the part below a coordinate of an axis, and the part from it on
-abbrev pub lower_part : {A : Type 0} → ℕ → ℕ → Meaning A → Meaning A
-lower_part axis index m = seen (lower_shape m.shape axis index) (λ i. i) m
+abbrev pub lower_meaning : {A : Type 0} → ℕ → ℕ → Meaning A → Meaning A
+lower_meaning axis index m = meaning_through (lower_shape m.shape axis index) (λ i. i) m
 
-abbrev pub upper_part : {A : Type 0} → ℕ → ℕ → Meaning A → Meaning A
-upper_part axis index m = seen (upper_shape m.shape axis index) (upper_index axis index) m
+abbrev pub upper_meaning : {A : Type 0} → ℕ → ℕ → Meaning A → Meaning A
+upper_meaning axis index m = meaning_through (upper_shape m.shape axis index) (upper_index axis index) m
 
 -- the elements of two parts end to end along an axis, the first of this length there
-abbrev pub joined : {A : Type 0} → ℕ → ℕ → (List ℕ → Option A) → (List ℕ → Option A) → List ℕ → Option A
-joined axis index lower upper i = if nat_lt (slice_index i axis) index then lower i else upper (slice_set i axis (slice_index i axis - index))
+abbrev pub joined_elements : {A : Type 0} → ℕ → ℕ → (List ℕ → Option A) → (List ℕ → Option A) → List ℕ → Option A
+joined_elements axis index lower upper i = if nat_lt (slice_index i axis) index then lower i else upper (slice_set i axis (slice_index i axis - index))
 
 -- an act on each part, or the first cause against them
-abbrev pub split_written : {A : Type 0} → ℕ → ℕ → Acting A → Acting A → Meaning A → Result (Meaning A) Cause
-split_written axis index first second m = unless (split_refusal axis index first second m.shape) (record { shape = m.shape; at = λ i. inside m.shape i (joined axis index (acted first (lower_part axis index m)) (acted second (upper_part axis index m)) i) })
+abbrev pub split_result : {A : Type 0} → ℕ → ℕ → Acting A → Acting A → Meaning A → Result (Meaning A) Cause
+split_result axis index first second m = unless (split_refusal axis index first second m.shape) (record { shape = m.shape; at = λ i. inside m.shape i (joined_elements axis index (acted_elements first (lower_meaning axis index m)) (acted_elements second (upper_meaning axis index m)) i) })

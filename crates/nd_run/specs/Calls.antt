@@ -29,7 +29,7 @@ pub data AskedStep : Type 0 where
   Removed : (axis : ℕ) → AskedStep
   Squeezed : AskedStep
   Diagonal : AskedStep
-  Widened : (lengths : List ℕ) → AskedStep
+  BroadcastTo : (lengths : List ℕ) → AskedStep
 
 -- a question: the lengths, all elements, or the element of an index
 pub data Asking : Type 0 where
@@ -72,7 +72,7 @@ asked_step (steps.InsertAxis axis) = Inserted axis
 asked_step (steps.RemoveAxis axis) = Removed axis
 asked_step steps.Squeeze = Squeezed
 asked_step steps.Diag = Diagonal
-asked_step (steps.Broadcast lengths) = Widened lengths.items
+asked_step (steps.Broadcast lengths) = BroadcastTo lengths.items
 
 abbrev pub asking : Question → Asking
 asking questions.Shape = AskShape
@@ -84,15 +84,15 @@ acting (acts.Fill value) = Filling value
 acting (acts.Set index value) = Setting index.items value
 acting (acts.Swap a b) = Swapping a.items b.items
 
-abbrev pub asked : {A : Type 0} → Call A → Asked A
-asked (calls.Keep step) = Keeping (asked_step step)
-asked (calls.Ask path question) = About (map asked_step path.items) (asking question)
-asked (calls.Write path act) = Writing (map asked_step path.items) (acting act)
-asked (calls.SplitWrite axis index first second) = SplitWriting axis index (acting first) (acting second)
+abbrev pub asked_call : {A : Type 0} → Call A → Asked A
+asked_call (calls.Keep step) = Keeping (asked_step step)
+asked_call (calls.Ask path question) = About (map asked_step path.items) (asking question)
+asked_call (calls.Write path act) = Writing (map asked_step path.items) (acting act)
+asked_call (calls.SplitWrite axis index first second) = SplitWriting axis index (acting first) (acting second)
 
-abbrev pub said : {A : Type 0} → Reply A → Said A
-said replies.Done = SaidDone
-said (replies.Refused cause) = SaidRefused cause
-said (replies.Shape lengths) = SaidShape lengths.items
-said (replies.Elements lengths elements) = SaidElements lengths.items elements.items
-said (replies.Element element) = SaidElement element
+abbrev pub said_reply : {A : Type 0} → Reply A → Said A
+said_reply replies.Done = SaidDone
+said_reply (replies.Refused cause) = SaidRefused cause
+said_reply (replies.Shape lengths) = SaidShape lengths.items
+said_reply (replies.Elements lengths elements) = SaidElements lengths.items elements.items
+said_reply (replies.Element element) = SaidElement element

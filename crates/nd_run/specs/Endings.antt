@@ -7,8 +7,8 @@ use Rattle.nd_run.specs.declared.outcome.Outcome.TheVariants as outcomes
 use Rattle.nd_run.specs.declared.outcome.LoadError.{LoadError}
 use Rattle.nd_run.specs.declared.outcome.LoadError.TheVariants as load_errors
 use Rattle.nd_run.specs.declared.reader.Script.{Script}
-use Rattle.nd_run.specs.Calls.{Said, said}
-use Rattle.nd_run.specs.Puts.{Takes}
+use Rattle.nd_run.specs.Calls.{Said, said_reply}
+use Rattle.nd_run.specs.Puts.{TakesText}
 use Rattle.nd_run.specs.Script.{AskedScript, asked_script, IsScript, IsFirstBad}
 use Rattle.nd_run.specs.Text.{replies_text, array_text}
 use Rattle.nd_run.specs.Watched.{watched_failed}
@@ -24,7 +24,7 @@ pub data Ending : Type 0 where
 
 abbrev pub ending : Outcome → Ending
 ending (outcomes.BadLine number) = BadAt number
-ending (outcomes.Memory replies) = OutOfMemory (map said replies.items)
+ending (outcomes.Memory replies) = OutOfMemory (map said_reply replies.items)
 ending outcomes.ReadFailed = NoInput
 
 -- what is written
@@ -93,4 +93,4 @@ module _ (Runs : AskedScript → List (Said ℤ) → List ℕ → List ℤ → T
 
   -- some such end is written, with its status: the one without input exactly where a read failed
   abbrev pub Driven : {W : Type 0} → (W → Option (List ℕ)) → List ℕ → Bool → Watched W → Watched W → ℕ → Type 0
-  Driven contents bytes failed old new status = (end : Ending) × (failed ≡ is_no_input end) × Ends bytes end × Takes contents old new (ending_text end) × (status ≡ status_of (watched_failed new) end)
+  Driven contents bytes failed old new status = (end : Ending) × (failed ≡ is_no_input end) × Ends bytes end × TakesText contents old new (ending_text end) × (status ≡ status_of (watched_failed new) end)

@@ -4,30 +4,30 @@ use Rattle.std.specs.Prelude.{◌≡◌, ℕ, true, ◌||◌, List, [], ◌∷�
 use Rattle.std.specs.List.{filter_map}
 use Rattle.std.specs.Result.{result_unwrap_or}
 use Rattle.nd_shape_and_slice.specs.Shape.{indexes_of, in_box}
-use Rattle.nd_array_core.specs.Meaning.{Meaning, seen}
-use Rattle.nd_run.specs.Calls.{AskedStep, Asking, AskShape, AskElements, AskElement, Asked, Keeping, About, Writing, SplitWriting, Said, SaidDone, SaidRefused, SaidShape, SaidElements, SaidElement, said}
+use Rattle.nd_array_core.specs.Meaning.{Meaning, meaning_through}
+use Rattle.nd_run.specs.Calls.{AskedStep, Asking, AskShape, AskElements, AskElement, Asked, Keeping, About, Writing, SplitWriting, Said, SaidDone, SaidRefused, SaidShape, SaidElements, SaidElement, said_reply}
 use Rattle.std.specs.Prelude.{map}
-use Rattle.nd_run.specs.Steps.{refusal, keep_refusal, unless, shape_after, index_before, shape_along, index_along}
-use Rattle.nd_run.specs.Acts.{written, split_written, clones}
+use Rattle.nd_run.specs.Steps.{refusal, keep_refusal, unless, step_shape, step_index, shape_along, index_along}
+use Rattle.nd_run.specs.Acts.{write_result, split_result, clones}
 use Rattle.nd_run.specs.declared.run.RunFault.{RunFault}
 use Rattle.nd_run.specs.declared.run.RunFault.TheVariants as faults
 use Rattle.nd_run.specs.declared.cause.Cause.{Cause}
 use Rattle.nd_run.specs.declared.cause.Cause.TheVariants as causes
 
 -- the elements in row-major order
-abbrev pub elements_of : {A : Type 0} → Meaning A → List A
-elements_of m = filter_map m.at (indexes_of m.shape)
+abbrev pub row_major_elements : {A : Type 0} → Meaning A → List A
+row_major_elements m = filter_map m.at (indexes_of m.shape)
 
 -- what is seen after a step
-abbrev pub changed : {A : Type 0} → AskedStep → Meaning A → Meaning A
-changed step m = seen (shape_after step m.shape) (index_before step m.shape) m
+abbrev pub step_meaning : {A : Type 0} → AskedStep → Meaning A → Meaning A
+step_meaning step m = meaning_through (step_shape step m.shape) (step_index step m.shape) m
 
 -- that, or the first cause against the step: where it is only looked at, and where it is kept
-abbrev pub taken : {A : Type 0} → AskedStep → Meaning A → Result (Meaning A) Cause
-taken step m = unless (refusal step m.shape) (changed step m)
+abbrev pub step_result : {A : Type 0} → AskedStep → Meaning A → Result (Meaning A) Cause
+step_result step m = unless (refusal step m.shape) (step_meaning step m)
 
-abbrev pub kept : {A : Type 0} → AskedStep → Meaning A → Result (Meaning A) Cause
-kept step m = unless (keep_refusal step m.shape) (changed step m)
+abbrev pub kept_result : {A : Type 0} → AskedStep → Meaning A → Result (Meaning A) Cause
+kept_result step m = unless (keep_refusal step m.shape) (step_meaning step m)
 
 -- what comes after what went well
 abbrev pub and_then : {X Y E : Type 0} → Result X E → (X → Result Y E) → Result Y E
@@ -35,9 +35,9 @@ and_then (Ok x) f = f x
 and_then (Err e) f = Err e
 
 -- a path of steps: the composition of their maps, or the cause against its first refused step
-abbrev pub followed : {A : Type 0} → List AskedStep → Meaning A → Result (Meaning A) Cause
-followed [] m = Ok m
-followed (step ∷ steps) m = and_then (taken step m) (followed steps)
+abbrev pub path_result : {A : Type 0} → List AskedStep → Meaning A → Result (Meaning A) Cause
+path_result [] m = Ok m
+path_result (step ∷ steps) m = and_then (step_result step m) (path_result steps)
 
 -- a path's meaning by the composition of its steps' maps: each index at its end names one at its start, and the same
 -- element
@@ -46,10 +46,10 @@ LeadsAlong path m n =
     (n.shape ≡ shape_along path m.shape)
     × ((i : List ℕ) → in_box n.shape i ≡ true → (in_box m.shape (index_along path m.shape i) ≡ true) × (n.at i ≡ m.at (index_along path m.shape i)))
 
-abbrev pub answered : {A : Type 0} → Asking → Meaning A → Said A
-answered AskShape m = SaidShape m.shape
-answered AskElements m = SaidElements m.shape (elements_of m)
-answered (AskElement index) m = SaidElement (m.at index)
+abbrev pub answer_to : {A : Type 0} → Asking → Meaning A → Said A
+answer_to AskShape m = SaidShape m.shape
+answer_to AskElements m = SaidElements m.shape (row_major_elements m)
+answer_to (AskElement index) m = SaidElement (m.at index)
 
 -- the number of a cause in a reply
 abbrev pub number_of : Cause → ℕ
@@ -67,32 +67,32 @@ refused_or (Err cause) reply = SaidRefused (number_of cause)
 
 -- the reply to a call
 abbrev pub reply_to : {A : Type 0} → Asked A → Meaning A → Said A
-reply_to (Keeping step) m = refused_or (kept step m) (λ _. SaidDone)
-reply_to (About path question) m = refused_or (followed path m) (answered question)
-reply_to (Writing path act) m = refused_or (written path act m) (λ _. SaidDone)
-reply_to (SplitWriting axis index first second) m = refused_or (split_written axis index first second m) (λ _. SaidDone)
+reply_to (Keeping step) m = refused_or (kept_result step m) (λ _. SaidDone)
+reply_to (About path question) m = refused_or (path_result path m) (answer_to question)
+reply_to (Writing path act) m = refused_or (write_result path act m) (λ _. SaidDone)
+reply_to (SplitWriting axis index first second) m = refused_or (split_result axis index first second m) (λ _. SaidDone)
 
 -- the array after a call: a refusal changes nothing
-abbrev pub after : {A : Type 0} → Asked A → Meaning A → Meaning A
-after (Keeping step) m = result_unwrap_or (kept step m) m
-after (About path question) m = m
-after (Writing path act) m = result_unwrap_or (written path act m) m
-after (SplitWriting axis index first second) m = result_unwrap_or (split_written axis index first second m) m
+abbrev pub meaning_after : {A : Type 0} → Asked A → Meaning A → Meaning A
+meaning_after (Keeping step) m = result_unwrap_or (kept_result step m) m
+meaning_after (About path question) m = m
+meaning_after (Writing path act) m = result_unwrap_or (write_result path act m) m
+meaning_after (SplitWriting axis index first second) m = result_unwrap_or (split_result axis index first second m) m
 
 abbrev pub replies_to : {A : Type 0} → List (Asked A) → Meaning A → List (Said A)
 replies_to [] m = []
-replies_to (call ∷ calls) m = reply_to call m ∷ replies_to calls (after call m)
+replies_to (call ∷ calls) m = reply_to call m ∷ replies_to calls (meaning_after call m)
 
 abbrev pub end_of : {A : Type 0} → List (Asked A) → Meaning A → Meaning A
 end_of [] m = m
-end_of (call ∷ calls) m = end_of calls (after call m)
+end_of (call ∷ calls) m = end_of calls (meaning_after call m)
 
 -- a call that may lack memory: a question that isn't refused, or such a write that clones a value
 abbrev pub MayLackMemory : {A : Type 0} → Asked A → Meaning A → Type 0
 MayLackMemory (Keeping step) m = ⊥
-MayLackMemory (About path question) m = IsOk (followed path m)
-MayLackMemory (Writing path act) m = IsOk (written path act m) × (clones act ≡ true)
-MayLackMemory (SplitWriting axis index first second) m = IsOk (split_written axis index first second m) × ((clones first || clones second) ≡ true)
+MayLackMemory (About path question) m = IsOk (path_result path m)
+MayLackMemory (Writing path act) m = IsOk (write_result path act m) × (clones act ≡ true)
+MayLackMemory (SplitWriting axis index first second) m = IsOk (split_result axis index first second m) × ((clones first || clones second) ≡ true)
 
 -- The replies up to a want of memory: none, or those to a front of the calls whose next one may lack memory.
 abbrev pub StopsBefore : {A : Type 0} → List (Asked A) → Meaning A → List (Said A) → Type 0
@@ -103,4 +103,4 @@ StopsBefore {A = A} calls m replies =
 
 -- the replies of a run that stopped
 abbrev pub replies_before : {A : Type 0} → RunFault A → List (Said A)
-replies_before (faults.Memory replies) = map said replies.items
+replies_before (faults.Memory replies) = map said_reply replies.items

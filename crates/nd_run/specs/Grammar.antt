@@ -4,7 +4,7 @@ use Rattle.nd_shape_and_slice.specs.Shape.{HasCheckedSize, size_of}
 use Rattle.nd_shape_and_slice.specs.declared.slice.Slice.{Slice}
 use Rattle.nd_shape_and_slice.specs.declared.slice_info.SliceInfoElem.{SliceInfoElem}
 use Rattle.nd_shape_and_slice.specs.declared.slice_info.SliceInfoElem.TheVariants.{Slice as Part, Index, NewAxis}
-use Rattle.nd_run.specs.Calls.{AskedStep, SlicedAxis, Sliced, Collapsed, Indexed, Permuted, Reversed, Exchanged, Inverted, Inserted, Removed, Squeezed, Diagonal, Widened, Asking, AskShape, AskElements, AskElement, Acting, Filling, Setting, Swapping, Asked, Keeping, About, Writing, SplitWriting}
+use Rattle.nd_run.specs.Calls.{AskedStep, SlicedAxis, Sliced, Collapsed, Indexed, Permuted, Reversed, Exchanged, Inverted, Inserted, Removed, Squeezed, Diagonal, BroadcastTo, Asking, AskShape, AskElements, AskElement, Acting, Filling, Setting, Swapping, Asked, Keeping, About, Writing, SplitWriting}
 use Rattle.nd_run.specs.Numerals.{IsNat, IsInt}
 
 -- as many writings as items, each writing the item at its place
@@ -61,7 +61,7 @@ step_name (Inserted axis) = codes "insert"
 step_name (Removed axis) = codes "remove"
 step_name Squeezed = codes "squeeze"
 step_name Diagonal = codes "diag"
-step_name (Widened lengths) = codes "broadcast"
+step_name (BroadcastTo lengths) = codes "broadcast"
 
 -- the words behind it
 abbrev pub IsRest : List (List ℕ) → AskedStep → Type 0
@@ -77,15 +77,15 @@ IsRest words (Inserted axis) = AreAll IsNat words (axis ∷ [])
 IsRest words (Removed axis) = AreAll IsNat words (axis ∷ [])
 IsRest words Squeezed = words ≡ []
 IsRest words Diagonal = words ≡ []
-IsRest words (Widened lengths) = IsList words lengths
+IsRest words (BroadcastTo lengths) = IsList words lengths
 
-abbrev pub IsStep : List (List ℕ) → AskedStep → Type 0
-IsStep words step = (rest : List (List ℕ)) × (words ≡ step_name step ∷ rest) × IsRest rest step
+abbrev pub IsStepSpelling : List (List ℕ) → AskedStep → Type 0
+IsStepSpelling words step = (rest : List (List ℕ)) × (words ≡ step_name step ∷ rest) × IsRest rest step
 
 -- any number of steps, each followed by a slash
 abbrev pub IsPath : List (List ℕ) → List AskedStep → Type 0
 IsPath words [] = words ≡ []
-IsPath words (step ∷ steps) = (front : List (List ℕ)) × (back : List (List ℕ)) × (words ≡ front ++ (codes "/" ∷ back)) × IsStep front step × IsPath back steps
+IsPath words (step ∷ steps) = (front : List (List ℕ)) × (back : List (List ℕ)) × (words ≡ front ++ (codes "/" ∷ back)) × IsStepSpelling front step × IsPath back steps
 
 abbrev pub IsQuestion : List (List ℕ) → Asking → Type 0
 IsQuestion words AskShape = words ≡ codes "shape" ∷ []
@@ -100,7 +100,7 @@ IsAct words (Swapping a b) = (front : List (List ℕ)) × (back : List (List ℕ
 
 -- the words of a line are this call
 abbrev pub IsCall : List (List ℕ) → Asked ℤ → Type 0
-IsCall words (Keeping step) = (rest : List (List ℕ)) × (words ≡ codes "keep" ∷ rest) × IsStep rest step
+IsCall words (Keeping step) = (rest : List (List ℕ)) × (words ≡ codes "keep" ∷ rest) × IsStepSpelling rest step
 IsCall words (About path question) = (front : List (List ℕ)) × (back : List (List ℕ)) × (words ≡ codes "ask" ∷ (front ++ back)) × IsPath front path × IsQuestion back question
 IsCall words (Writing path act) = (front : List (List ℕ)) × (back : List (List ℕ)) × (words ≡ codes "write" ∷ (front ++ back)) × IsPath front path × IsAct back act
 IsCall words (SplitWriting axis index first second) =

@@ -3,7 +3,7 @@ use Rattle.std.specs.Prelude.{◌≡◌, ℕ, ℤ, List, slice_get}
 use Rattle.nd_shape_and_slice.specs.Shape.{row_rank}
 use Rattle.nd_array_core.specs.Meaning.{Meaning, inside}
 use Rattle.nd_run.specs.Calls.{Said}
-use Rattle.nd_run.specs.Fold.{replies_to, end_of, elements_of, StopsBefore}
+use Rattle.nd_run.specs.Fold.{replies_to, end_of, row_major_elements, StopsBefore}
 use Rattle.nd_run.specs.Script.{AskedScript}
 
 -- the array that a script starts with: its elements in row-major order
@@ -15,7 +15,7 @@ abbrev pub Runs : AskedScript → List (Said ℤ) → List ℕ → List ℤ → 
 Runs script replies lengths elements =
     (replies ≡ replies_to script.calls (start_of script))
     × (lengths ≡ (end_of script.calls (start_of script)).shape)
-    × (elements ≡ elements_of (end_of script.calls (start_of script)))
+    × (elements ≡ row_major_elements (end_of script.calls (start_of script)))
 
 -- replies that may come before memory is refused
 abbrev pub Stops : AskedScript → List (Said ℤ) → Type 0

@@ -10,7 +10,7 @@ use Rattle.nd_run.specs.declared.keyword.Keyword.{Keyword}
 use Rattle.nd_run.specs.declared.keyword.Keyword.TheVariants.{Start, Keep, Ask, Write, Split, Slash, Cut, Slice as SliceWord, Collapse, Index, Permute, Reverse, SwapAxes, Invert, Insert, Remove, Squeeze, Diag, Broadcast, Shape, Elements, Get, Fill, Set, Swap, Other}
 use Rattle.nd_run.specs.declared.reader.fault.LineFault.{LineFault}
 use Rattle.nd_run.specs.declared.reader.fault.LineFault.TheVariants.{Bad, Memory}
-use Rattle.nd_run.specs.Calls.{AskedStep, SlicedAxis, Sliced, Collapsed, Indexed, Permuted, Reversed, Exchanged, Inverted, Inserted, Removed, Squeezed, Diagonal, Widened, Asking, AskShape, AskElements, AskElement, Acting, Filling, Setting, Swapping, Asked, Keeping, About, Writing, SplitWriting}
+use Rattle.nd_run.specs.Calls.{AskedStep, SlicedAxis, Sliced, Collapsed, Indexed, Permuted, Reversed, Exchanged, Inverted, Inserted, Removed, Squeezed, Diagonal, BroadcastTo, Asking, AskShape, AskElements, AskElement, Acting, Filling, Setting, Swapping, Asked, Keeping, About, Writing, SplitWriting}
 use Rattle.nd_run.specs.Numerals.{nat_of, int_of}
 
 infixl 10 ◌>>=◌
@@ -108,11 +108,11 @@ abbrev pub keyword_among : List Keyword → List ℕ → Keyword
 keyword_among [] word = Other
 keyword_among (k ∷ ks) word = if bytes_eq word (spelling k) then k else keyword_among ks word
 
-abbrev pub named : List Keyword
-named = Start ∷ Keep ∷ Ask ∷ Write ∷ Split ∷ Slash ∷ Cut ∷ SliceWord ∷ Collapse ∷ Index ∷ Permute ∷ Reverse ∷ SwapAxes ∷ Invert ∷ Insert ∷ Remove ∷ Squeeze ∷ Diag ∷ Broadcast ∷ Shape ∷ Elements ∷ Get ∷ Fill ∷ Set ∷ Swap ∷ []
+abbrev pub named_keywords : List Keyword
+named_keywords = Start ∷ Keep ∷ Ask ∷ Write ∷ Split ∷ Slash ∷ Cut ∷ SliceWord ∷ Collapse ∷ Index ∷ Permute ∷ Reverse ∷ SwapAxes ∷ Invert ∷ Insert ∷ Remove ∷ Squeeze ∷ Diag ∷ Broadcast ∷ Shape ∷ Elements ∷ Get ∷ Fill ∷ Set ∷ Swap ∷ []
 
 unfoldable pub keyword_of : List ℕ → Keyword
-keyword_of word = keyword_among named word
+keyword_of word = keyword_among named_keywords word
 
 abbrev pub keyword_at : List (List ℕ) → Option (Keyword × List (List ℕ))
 keyword_at [] = None
@@ -157,8 +157,8 @@ element_by word words =
     then made (λ s. Part s.start s.end s.step) (slice_at words)
     else (if bytes_eq word (codes "i") then made At (item_at int_of words) else (if bytes_eq word (codes "n") then Some (NewAxis, words) else None))
 
-unfoldable pub element_at : List (List ℕ) → Option (SliceInfoElem × List (List ℕ))
-element_at words = do
+unfoldable pub slice_element_at : List (List ℕ) → Option (SliceInfoElem × List (List ℕ))
+slice_element_at words = do
   first ← word_at words
   element_by first.0 first.1
 
@@ -166,7 +166,7 @@ element_at words = do
 unfoldable pub elements_at : List (List ℕ) → Option (List SliceInfoElem × List (List ℕ))
 elements_at words = do
   count ← item_at nat_of words
-  many_at element_at count.0 count.1
+  many_at slice_element_at count.0 count.1
 
 -- the step that this keyword begins
 abbrev pub step_by : Keyword → List (List ℕ) → Option (AskedStep × List (List ℕ))
@@ -182,7 +182,7 @@ step_by Insert words = made Inserted (item_at nat_of words)
 step_by Remove words = made Removed (item_at nat_of words)
 step_by Squeeze words = Some (Squeezed, words)
 step_by Diag words = Some (Diagonal, words)
-step_by Broadcast words = made Widened (list_at words)
+step_by Broadcast words = made BroadcastTo (list_at words)
 step_by _ words = None
 
 unfoldable pub step_at : List (List ℕ) → Option (AskedStep × List (List ℕ))

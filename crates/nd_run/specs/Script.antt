@@ -3,7 +3,7 @@ use Rattle.std.specs.Prelude.{◌≡◌, ℕ, ◌+◌, false, List, [], ◌∷�
 use Rattle.nd_run.specs.declared.reader.fault.ScriptError.{ScriptError}
 use Rattle.nd_run.specs.declared.reader.fault.ScriptError.TheVariants.{BadLine, Memory}
 use Rattle.nd_run.specs.declared.reader.Script.{Script}
-use Rattle.nd_run.specs.Calls.{Asked, asked}
+use Rattle.nd_run.specs.Calls.{Asked, asked_call}
 use Rattle.nd_run.specs.Grammar.{AreAll, IsStart, IsCall}
 use Rattle.nd_run.specs.Reading.{call_of, start_of}
 use Rattle.nd_run.specs.Words.{words_of, is_wordless}
@@ -15,17 +15,17 @@ pub record AskedScript : Type 0 where
   pub calls : List (Asked ℤ)
 
 abbrev pub asked_script : Script → AskedScript
-asked_script s = record { lengths = s.lengths.items; elements = s.elements.items; calls = map asked s.calls.items }
+asked_script s = record { lengths = s.lengths.items; elements = s.elements.items; calls = map asked_call s.calls.items }
 
 -- the words of each line that has some
-abbrev pub worded : List (List ℕ) → List (List (List ℕ))
-worded [] = []
-worded (line ∷ lines) = if is_wordless (words_of line) then worded lines else words_of line ∷ worded lines
+abbrev pub worded_lines : List (List ℕ) → List (List (List ℕ))
+worded_lines [] = []
+worded_lines (line ∷ lines) = if is_wordless (words_of line) then worded_lines lines else words_of line ∷ worded_lines lines
 
 -- the lines with words are a start and then these calls
 abbrev pub IsScript : List (List ℕ) → AskedScript → Type 0
 IsScript lines script =
-    (first : List (List ℕ)) × (others : List (List (List ℕ))) × (worded lines ≡ first ∷ others)
+    (first : List (List ℕ)) × (others : List (List (List ℕ))) × (worded_lines lines ≡ first ∷ others)
     × IsStart first script.lengths script.elements × AreAll IsCall others script.calls
 
 -- no array can be read from the line, or no call
@@ -39,10 +39,10 @@ IsNoCall line = (call : Asked ℤ) → ¬ (IsCall (words_of line) call)
 -- no line has words it is the one after the last.
 abbrev pub IsBadFrom : ℕ → List (List ℕ) → ℕ → Type 0
 IsBadFrom n lines bad =
-    ((worded lines ≡ []) × (bad ≡ length lines + n))
+    ((worded_lines lines ≡ []) × (bad ≡ length lines + n))
     ⊎ ((front : List (List ℕ)) × (line : List ℕ) × (back : List (List ℕ)) × (lines ≡ front ++ (line ∷ back)) × (bad ≡ length front + n)
     × (is_wordless (words_of line) ≡ false)
-    × (((worded front ≡ []) × IsNoStart line) ⊎ ((script : AskedScript) × IsScript front script × IsNoCall line)))
+    × (((worded_lines front ≡ []) × IsNoStart line) ⊎ ((script : AskedScript) × IsScript front script × IsNoCall line)))
 
 abbrev pub IsFirstBad : List (List ℕ) → ℕ → Type 0
 IsFirstBad lines bad = IsBadFrom 1 lines bad
@@ -55,9 +55,9 @@ abbrev pub ◌>>=◌ : {A B : Type 0} → Result A ℕ → (A → Result B ℕ) 
 (Err n) >>= f = Err n
 
 -- what a line reads, or its number where it is bad
-abbrev pub numbered : {A : Type 0} → ℕ → Option A → Result A ℕ
-numbered n None = Err n
-numbered n (Some x) = Ok x
+abbrev pub read_or_number : {A : Type 0} → ℕ → Option A → Result A ℕ
+read_or_number n None = Err n
+read_or_number n (Some x) = Ok x
 
 abbrev pub call_in : List ℕ → Option (Asked ℤ)
 call_in line = call_of (length line) (words_of line)
@@ -67,11 +67,11 @@ start_in line = start_of (words_of line)
 
 unfoldable pub calls_from : ℕ → List (List ℕ) → Result (List (Asked ℤ)) ℕ
 calls_from n [] = Ok []
-calls_from n (line ∷ lines) = if is_wordless (words_of line) then calls_from (n + 1) lines else (numbered n (call_in line) >>= λ call. calls_from (n + 1) lines >>= λ calls. Ok (call ∷ calls))
+calls_from n (line ∷ lines) = if is_wordless (words_of line) then calls_from (n + 1) lines else (read_or_number n (call_in line) >>= λ call. calls_from (n + 1) lines >>= λ calls. Ok (call ∷ calls))
 
 unfoldable pub script_from : ℕ → List (List ℕ) → Result AskedScript ℕ
 script_from n [] = Err n
-script_from n (line ∷ lines) = if is_wordless (words_of line) then script_from (n + 1) lines else (numbered n (start_in line) >>= λ start. calls_from (n + 1) lines >>= λ calls. Ok (record { lengths = start.0; elements = start.1; calls = calls }))
+script_from n (line ∷ lines) = if is_wordless (words_of line) then script_from (n + 1) lines else (read_or_number n (start_in line) >>= λ start. calls_from (n + 1) lines >>= λ calls. Ok (record { lengths = start.0; elements = start.1; calls = calls }))
 
 -- A reader of the code gives what reading gives, unless memory ran out.
 abbrev pub FailsAt : {Y : Type 0} → ScriptError → Result Y ℕ → Type 0

@@ -1,14 +1,14 @@
 -- What a step asks of an array, by its lengths alone, and what it makes of the lengths and of the indexes.
 use Rattle.std.specs.Prelude.{ℕ, ◌+◌, ◌==◌, Bool, true, false, not, nat_lt, nat_le, List, [], ◌∷◌, length, reverse, swap, slice_index, Option, None, Some, is_some, Result, Ok, Err, if◌then◌else◌}
-use Rattle.nd_shape_and_slice.specs.Axes.{names_each_axis, permuted, unpermuted}
+use Rattle.nd_shape_and_slice.specs.Axes.{names_each_axis, permuted_list, unpermuted_list}
 use Rattle.nd_shape_and_slice.specs.Slice.{fits_axis, sliced_shape, sliced_index}
 use Rattle.nd_shape_and_slice.specs.declared.slice_info.SliceInfoElem.{SliceInfoElem}
 use Rattle.nd_shape_and_slice.specs.declared.slice_info.SliceInfoElem.TheVariants.{Slice as Part, Index, NewAxis}
-use Rattle.nd_shape_and_slice.specs.SliceInfo.{reads_axis, axes_read, axes_kept, coordinate_on, shape_after as shape_sliced, index_before as index_sliced}
+use Rattle.nd_shape_and_slice.specs.SliceInfo.{reads_axis, axes_read, axes_kept, coordinate_on, shape_after, index_before}
 use Rattle.nd_shape_and_slice.specs.Squeeze.{squeezed_shape, squeezed_index}
-use Rattle.nd_shape_and_slice.specs.Broadcast.{broadcasts, forget}
-use Rattle.nd_shape_and_slice.specs.Maps.{inverted_index, collapsed_shape, collapsed_index, indexed_shape, indexed_index, widened_shape, widened_index, diagonal_length, diagonal_index}
-use Rattle.nd_run.specs.Calls.{AskedStep, SlicedAxis, Sliced, Collapsed, Indexed, Permuted, Reversed, Exchanged, Inverted, Inserted, Removed, Squeezed, Diagonal, Widened}
+use Rattle.nd_shape_and_slice.specs.Broadcast.{broadcasts, broadcast_index}
+use Rattle.nd_shape_and_slice.specs.Maps.{inverted_index, collapsed_shape, collapsed_index, indexed_shape, indexed_index, inserted_shape, inserted_index, diagonal_length, diagonal_index}
+use Rattle.nd_run.specs.Calls.{AskedStep, SlicedAxis, Sliced, Collapsed, Indexed, Permuted, Reversed, Exchanged, Inverted, Inserted, Removed, Squeezed, Diagonal, BroadcastTo}
 use Rattle.nd_run.specs.declared.cause.Cause.{Cause}
 use Rattle.nd_run.specs.declared.cause.Cause.TheVariants as causes
 
@@ -52,7 +52,7 @@ tests_of (Inserted axis) ns = (nat_le axis (length ns), causes.Axis) ∷ (nat_lt
 tests_of (Removed axis) ns = has_axis axis ns ∷ has_coordinate axis 0 ns ∷ []
 tests_of Squeezed ns = []
 tests_of Diagonal ns = []
-tests_of (Widened to) ns = (nat_le (length to) 32, causes.TooManyAxes) ∷ (broadcasts ns to, causes.Broadcast) ∷ []
+tests_of (BroadcastTo to) ns = (nat_le (length to) 32, causes.TooManyAxes) ∷ (broadcasts ns to, causes.Broadcast) ∷ []
 
 -- the first cause against a step
 abbrev pub refusal : AskedStep → List ℕ → Option Cause
@@ -60,7 +60,7 @@ refusal step ns = first_failed (tests_of step ns)
 
 -- a step that lets indexes share an element
 abbrev pub shares : AskedStep → Bool
-shares (Widened to) = true
+shares (BroadcastTo to) = true
 shares _ = false
 
 -- the tests of a step whose result is kept or written to
@@ -72,46 +72,46 @@ abbrev pub keep_refusal : AskedStep → List ℕ → Option Cause
 keep_refusal step ns = first_failed (keep_tests step ns)
 
 -- the lengths after a step
-abbrev pub shape_after : AskedStep → List ℕ → List ℕ
-shape_after (SlicedAxis axis slice) ns = sliced_shape ns axis slice
-shape_after (Sliced es) ns = shape_sliced ns es
-shape_after (Collapsed axis index) ns = collapsed_shape ns axis
-shape_after (Indexed axis index) ns = indexed_shape ns axis
-shape_after (Permuted axes) ns = permuted axes ns
-shape_after Reversed ns = reverse ns
-shape_after (Exchanged a b) ns = swap ns a b
-shape_after (Inverted axis) ns = ns
-shape_after (Inserted axis) ns = widened_shape ns axis
-shape_after (Removed axis) ns = indexed_shape ns axis
-shape_after Squeezed ns = squeezed_shape ns
-shape_after Diagonal ns = diagonal_length ns ∷ []
-shape_after (Widened to) ns = to
+abbrev pub step_shape : AskedStep → List ℕ → List ℕ
+step_shape (SlicedAxis axis slice) ns = sliced_shape ns axis slice
+step_shape (Sliced es) ns = shape_after ns es
+step_shape (Collapsed axis index) ns = collapsed_shape ns axis
+step_shape (Indexed axis index) ns = indexed_shape ns axis
+step_shape (Permuted axes) ns = permuted_list axes ns
+step_shape Reversed ns = reverse ns
+step_shape (Exchanged a b) ns = swap ns a b
+step_shape (Inverted axis) ns = ns
+step_shape (Inserted axis) ns = inserted_shape ns axis
+step_shape (Removed axis) ns = indexed_shape ns axis
+step_shape Squeezed ns = squeezed_shape ns
+step_shape Diagonal ns = diagonal_length ns ∷ []
+step_shape (BroadcastTo to) ns = to
 
 -- the index before a step that an index after it names
-abbrev pub index_before : AskedStep → List ℕ → List ℕ → List ℕ
-index_before (SlicedAxis axis slice) ns i = sliced_index ns axis slice i
-index_before (Sliced es) ns i = index_sliced ns es i
-index_before (Collapsed axis index) ns i = collapsed_index axis index i
-index_before (Indexed axis index) ns i = indexed_index axis index i
-index_before (Permuted axes) ns i = unpermuted axes i
-index_before Reversed ns i = reverse i
-index_before (Exchanged a b) ns i = swap i a b
-index_before (Inverted axis) ns i = inverted_index ns axis i
-index_before (Inserted axis) ns i = widened_index axis i
-index_before (Removed axis) ns i = indexed_index axis 0 i
-index_before Squeezed ns i = squeezed_index ns i
-index_before Diagonal ns i = diagonal_index ns i
-index_before (Widened to) ns i = forget ns to i
+abbrev pub step_index : AskedStep → List ℕ → List ℕ → List ℕ
+step_index (SlicedAxis axis slice) ns i = sliced_index ns axis slice i
+step_index (Sliced es) ns i = index_before ns es i
+step_index (Collapsed axis index) ns i = collapsed_index axis index i
+step_index (Indexed axis index) ns i = indexed_index axis index i
+step_index (Permuted axes) ns i = unpermuted_list axes i
+step_index Reversed ns i = reverse i
+step_index (Exchanged a b) ns i = swap i a b
+step_index (Inverted axis) ns i = inverted_index ns axis i
+step_index (Inserted axis) ns i = inserted_index axis i
+step_index (Removed axis) ns i = indexed_index axis 0 i
+step_index Squeezed ns i = squeezed_index ns i
+step_index Diagonal ns i = diagonal_index ns i
+step_index (BroadcastTo to) ns i = broadcast_index ns to i
 
 -- the lengths after a path of steps, and the index before it that an index after it names: the composition of its
 -- steps' maps
 abbrev pub shape_along : List AskedStep → List ℕ → List ℕ
 shape_along [] ns = ns
-shape_along (step ∷ steps) ns = shape_along steps (shape_after step ns)
+shape_along (step ∷ steps) ns = shape_along steps (step_shape step ns)
 
 abbrev pub index_along : List AskedStep → List ℕ → List ℕ → List ℕ
 index_along [] ns i = i
-index_along (step ∷ steps) ns i = index_before step ns (index_along steps (shape_after step ns) i)
+index_along (step ∷ steps) ns i = step_index step ns (index_along steps (step_shape step ns) i)
 
 -- the value, unless there is a cause against it
 abbrev pub unless : {X E : Type 0} → Option E → X → Result X E

@@ -3,8 +3,8 @@
 ghost use Rattle.std.specs.Prelude.{◌≡◌, ◌≤◌, ◌||◌, ◌==◌, length, slice_get, map, IfOk, IfErr, IfSome};
 ghost use Rattle.nd_shape_and_slice.specs.Shape.{HasCheckedSize, size_of, row_rank};
 ghost use Rattle.nd_array_core.specs.Meaning.{shape_of, meaning_of, inside};
-ghost use Rattle.nd_run.specs.Calls.{said};
-ghost use Rattle.nd_run.specs.Fold.{elements_of, replies_before};
+ghost use Rattle.nd_run.specs.Calls.{said_reply};
+ghost use Rattle.nd_run.specs.Fold.{row_major_elements, replies_before};
 ghost use Rattle.nd_run.specs.Meaning.{Runs, Stops, start_of};
 ghost use Rattle.nd_run.specs.Endings.{OutOfMemory, Driven, ending};
 ghost use Rattle.nd_run.specs.Script.{asked_script};
@@ -41,7 +41,7 @@ fn run_script(
     requires checked { HasCheckedSize script.lengths.items }
     requires few { length script.lengths.items ≤ 32 }
     requires full { length script.elements.items ≡ size_of script.lengths.items }
-    ensures done { IfOk result (λ r. Runs (asked_script script) (map said r.0.items) (shape_of r.1) (elements_of (meaning_of r.1))) }
+    ensures done { IfOk result (λ r. Runs (asked_script script) (map said_reply r.0.items) (shape_of r.1) (row_major_elements (meaning_of r.1))) }
     ensures memory { IfErr result (λ fault. Stops (asked_script script) (replies_before fault)) }
 {
     let Script {
@@ -56,7 +56,7 @@ fn run_script(
     }
 }
 
-/// The end of a run that lacked memory.
+/// How a script ends whose run was refused memory.
 fn stopped(fault: RunFault<i64>) -> Outcome
     ensures { ending result ≡ OutOfMemory (replies_before fault) }
 {
@@ -65,9 +65,9 @@ fn stopped(fault: RunFault<i64>) -> Outcome
     }
 }
 
-/// Reads a script to the end of the input, carries it out, and writes its replies and its end. Answers the
-/// status: 0, or 1 where a line is bad, 2 where memory was refused, and 3 where a call of the reader or of the
-/// writer failed. ndarray has no such call.
+/// Reads a script to the end of the input, runs it, and writes its replies and its end. Returns the status: 0, or 1 if
+/// a line is bad, 2 if memory was refused, and 3 if a call of the reader or of the writer failed. ndarray has no such
+/// call.
 pub fn drive<R: Read, W: Write>(
     alloc: Global,
     input: &mut Watched<R>,

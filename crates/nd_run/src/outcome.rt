@@ -1,13 +1,13 @@
-//! How a script ends: loading it, and what is written at its end.
+//! How a script ends, and what is written then.
 
 ghost use Rattle.std.specs.Prelude.{◌≡◌, ◌≤◌, [], length, map, IfOk, IfSome, if◌then◌else◌};
 ghost use Rattle.nd_shape_and_slice.specs.Shape.{HasCheckedSize, size_of};
 ghost use Rattle.nd_array_core.specs.Meaning.{shape_of, meaning_of};
-ghost use Rattle.nd_run.specs.Calls.{said};
-ghost use Rattle.nd_run.specs.Fold.{elements_of};
+ghost use Rattle.nd_run.specs.Calls.{said_reply};
+ghost use Rattle.nd_run.specs.Fold.{row_major_elements};
 ghost use Rattle.nd_run.specs.Text.{values_text};
 ghost use Rattle.nd_run.specs.Endings.{Finished, ending, ending_text, status_of, is_load_failure, Loads, load_ending};
-ghost use Rattle.nd_run.specs.Puts.{Takes, Puts};
+ghost use Rattle.nd_run.specs.Puts.{TakesText, Puts};
 ghost use Rattle.nd_run.specs.Watched.{watched_inner, watched_failed, GetsFlushed};
 
 use crate::calls::Reply;
@@ -90,7 +90,7 @@ fn put_end<W: Write>(output: &mut Watched<W>, outcome: &Outcome)
 }
 
 fn flush<W: Write>(output: &mut Watched<W>)
-    ensures text { Takes W.contents output.old output.new [] }
+    ensures text { TakesText W.contents output.old output.new [] }
     ensures flushed { GetsFlushed output.old output.new }
 {
     if !output.failed() {
@@ -111,9 +111,9 @@ fn status(outcome: &Outcome, failed: bool) -> u8
     }
 }
 
-/// Writes what is due at this end, flushes once, and answers the status.
+/// Writes what is due at this end, flushes once, and returns the status.
 pub fn conclude<W: Write>(output: &mut Watched<W>, outcome: &Outcome) -> u8
-    ensures text { Takes W.contents output.old output.new (ending_text (ending outcome.now)) }
+    ensures text { TakesText W.contents output.old output.new (ending_text (ending outcome.now)) }
     ensures flushed { GetsFlushed output.old output.new }
     ensures status { result ≡ status_of (watched_failed output.new) (ending outcome.now) }
 {
@@ -122,9 +122,9 @@ pub fn conclude<W: Write>(output: &mut Watched<W>, outcome: &Outcome) -> u8
     status(outcome, output.failed())
 }
 
-/// Writes the elements of an array in row-major order, each behind a space, without memory.
+/// Writes the elements of an array in row-major order, each after a space. It takes no memory.
 fn put_elements<W: Write>(output: &mut Watched<W>, array: &Array<i64, IxDyn>)
-    ensures { Puts W.contents output.old output.new (values_text (elements_of (meaning_of array.now))) }
+    ensures { Puts W.contents output.old output.new (values_text (row_major_elements (meaning_of array.now))) }
 {
     let mut coordinates = [0; MAX_AXES];
     let index = &mut coordinates[..array.ndim()];
@@ -144,7 +144,7 @@ fn whole_status(failed: bool) -> u8
 }
 
 fn put_whole<W: Write>(output: &mut Watched<W>, replies: &[Reply<i64>], array: &Array<i64, IxDyn>)
-    ensures { Puts W.contents output.old output.new (ending_text (Finished (map said replies.now) (shape_of array.now) (elements_of (meaning_of array.now)))) }
+    ensures { Puts W.contents output.old output.new (ending_text (Finished (map said_reply replies.now) (shape_of array.now) (row_major_elements (meaning_of array.now)))) }
 {
     put_replies(output, replies);
     put(output, b"end ");
@@ -153,14 +153,13 @@ fn put_whole<W: Write>(output: &mut Watched<W>, replies: &[Reply<i64>], array: &
     put(output, b"\n");
 }
 
-/// Writes the replies and the array that the last call left, flushes once, and answers the status. It takes no
-/// memory.
+/// Writes the replies and the array that the last call left, flushes once, and returns the status. It takes no memory.
 pub fn conclude_whole<W: Write>(
     output: &mut Watched<W>,
     replies: &[Reply<i64>],
     array: &Array<i64, IxDyn>,
 ) -> u8
-    ensures text { Takes W.contents output.old output.new (ending_text (Finished (map said replies.now) (shape_of array.now) (elements_of (meaning_of array.now)))) }
+    ensures text { TakesText W.contents output.old output.new (ending_text (Finished (map said_reply replies.now) (shape_of array.now) (row_major_elements (meaning_of array.now)))) }
     ensures flushed { GetsFlushed output.old output.new }
     ensures status { result ≡ (if watched_failed output.new then 3 else 0) }
 {

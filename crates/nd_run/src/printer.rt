@@ -3,7 +3,7 @@
 
 ghost use Rattle.std.specs.Prelude.{◌≡◌, ◌++◌, map, codes};
 ghost use Rattle.std.specs.Fmt.{decimal, signed_decimal};
-ghost use Rattle.nd_run.specs.Calls.{said};
+ghost use Rattle.nd_run.specs.Calls.{said_reply};
 ghost use Rattle.nd_run.specs.Puts.{Puts};
 ghost use Rattle.nd_run.specs.Text.{naturals_text, values_text, list_text, array_text, element_text, reply_words, reply_text, replies_text};
 
@@ -12,7 +12,7 @@ use crate::watched::Watched;
 use itoa::Buffer;
 use std::io::Write;
 
-/// Writes the text, as often as the writer takes a part of it.
+/// Writes the whole text, in as many calls as the writer needs.
 pub fn put<W: Write>(out: &mut Watched<W>, text: &[u8])
     ensures { Puts W.contents out.old out.new text.now }
 {
@@ -84,7 +84,7 @@ fn put_element<W: Write>(out: &mut Watched<W>, element: &Option<i64>)
 }
 
 fn put_words<W: Write>(out: &mut Watched<W>, reply: &Reply<i64>)
-    ensures { Puts W.contents out.old out.new (reply_words (said reply.now)) }
+    ensures { Puts W.contents out.old out.new (reply_words (said_reply reply.now)) }
 {
     match reply {
         Reply::Done => put(out, b"done"),
@@ -106,7 +106,7 @@ fn put_words<W: Write>(out: &mut Watched<W>, reply: &Reply<i64>)
 
 /// Writes the line of each reply.
 pub fn put_replies<W: Write>(out: &mut Watched<W>, replies: &[Reply<i64>])
-    ensures { Puts W.contents out.old out.new (replies_text (map said replies.now)) }
+    ensures { Puts W.contents out.old out.new (replies_text (map said_reply replies.now)) }
 {
     for reply in replies {
         put_words(out, reply);

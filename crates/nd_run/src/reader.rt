@@ -3,8 +3,8 @@
 ghost use Rattle.std.specs.Prelude.{◌≡◌, ℕ, ◌+◌, ◌^◌, ◌<◌, ◌≤◌, map, length, IfOk};
 ghost use Rattle.nd_shape_and_slice.specs.Shape.{HasCheckedSize, size_of};
 ghost use Rattle.nd_run.specs.Words.{lines_of, words_of};
-ghost use Rattle.nd_run.specs.Calls.{asked};
-ghost use Rattle.nd_run.specs.Script.{AskedScript, IsScript, IsFirstBad, GivesScript, asked_script, numbered, call_in, start_in, calls_from, script_from};
+ghost use Rattle.nd_run.specs.Calls.{asked_call};
+ghost use Rattle.nd_run.specs.Script.{AskedScript, IsScript, IsFirstBad, GivesScript, asked_script, read_or_number, call_in, start_in, calls_from, script_from};
 
 mod act;
 pub mod fault;
@@ -30,7 +30,7 @@ pub struct Script {
 }
 
 fn call_at(alloc: Global, number: usize, line: &[u8]) -> Result<Call<i64>, ScriptError>
-    ensures { GivesScript asked result (numbered number (call_in line.now)) }
+    ensures { GivesScript asked_call result (read_or_number number (call_in line.now)) }
 {
     match line::call(alloc, line) {
         Ok(call) => Ok(call),
@@ -40,7 +40,7 @@ fn call_at(alloc: Global, number: usize, line: &[u8]) -> Result<Call<i64>, Scrip
 }
 
 fn start_at(alloc: Global, number: usize, line: &[u8]) -> Result<Parts, ScriptError>
-    ensures { GivesScript (λ x. (x.0.items, x.1.items)) result (numbered number (start_in line.now)) }
+    ensures { GivesScript (λ x. (x.0.items, x.1.items)) result (read_or_number number (start_in line.now)) }
 {
     match line::start(alloc, line) {
         Ok(parts) => Ok(parts),
@@ -49,10 +49,10 @@ fn start_at(alloc: Global, number: usize, line: &[u8]) -> Result<Parts, ScriptEr
     }
 }
 
-/// The calls of a text whose first line has this number.
+/// The calls of a text. Its lines are numbered from this number on.
 fn calls(alloc: Global, first: usize, text: &[u8]) -> Result<Vec<Call<i64>>, ScriptError>
     requires { first + length text.now < 2 ^ 64 }
-    ensures { GivesScript (λ v. map asked v.items) result (calls_from first (lines_of text.now)) }
+    ensures { GivesScript (λ v. map asked_call v.items) result (calls_from first (lines_of text.now)) }
 {
     let mut calls = Vec::new(alloc);
     let mut rest = text;
@@ -94,7 +94,7 @@ fn whole_script(alloc: Global, text: &[u8]) -> Result<Script, ScriptError>
     Err(ScriptError::BadLine(number))
 }
 
-/// The script of a text. Memory is asked for only where a line is not found bad before.
+/// The script of a text. No memory is taken once a line was found bad.
 pub fn read_script(alloc: Global, text: &[u8]) -> Result<Script, ScriptError>
     // What is read is what the lines write.
     ensures found { IfOk result (λ s. IsScript (lines_of text.now) (asked_script s)) }

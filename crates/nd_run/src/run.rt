@@ -2,8 +2,8 @@
 
 ghost use Rattle.std.specs.Prelude.{◌≡◌, map, MatchResult, Ok, Err, IfOk, IfErr, OnErr};
 ghost use Rattle.nd_array_core.specs.Meaning.{meaning_of};
-ghost use Rattle.nd_run.specs.Calls.{asked, asked_step, asking, said, Keeping, About};
-ghost use Rattle.nd_run.specs.Fold.{followed, LeadsAlong, answered, reply_to, after, replies_to, end_of, elements_of, number_of, MayLackMemory, StopsBefore, replies_before};
+ghost use Rattle.nd_run.specs.Calls.{asked_call, asked_step, asking, said_reply, Keeping, About};
+ghost use Rattle.nd_run.specs.Fold.{path_result, LeadsAlong, answer_to, reply_to, meaning_after, replies_to, end_of, row_major_elements, number_of, MayLackMemory, StopsBefore, replies_before};
 
 use crate::calls::{Call, Question, Reply, Step};
 use crate::cause::Cause;
@@ -14,12 +14,12 @@ use nd_array_core::{Array, ArrayView};
 use nd_shape_and_slice::{IxDyn, MAX_AXES, index_of_rank};
 use std::alloc::{AllocError, Global};
 
-/// Goes along a path of steps, or says why not.
+/// Follows a path of steps, or returns the cause of a refusal.
 fn follow_path<'a, A>(
     view: ArrayView<'a, A, IxDyn>,
     path: &[Step],
 ) -> Result<ArrayView<'a, A, IxDyn>, Cause>
-    ensures path { MatchResult result (λ end. followed (map asked_step path.now) (meaning_of view.entry) ≡ Ok (meaning_of end)) (λ cause. followed (map asked_step path.now) (meaning_of view.entry) ≡ Err cause) }
+    ensures path { MatchResult result (λ end. path_result (map asked_step path.now) (meaning_of view.entry) ≡ Ok (meaning_of end)) (λ cause. path_result (map asked_step path.now) (meaning_of view.entry) ≡ Err cause) }
     ensures along { IfOk result (λ end. LeadsAlong (map asked_step path.now) (meaning_of view.entry) (meaning_of end)) }
 {
     let mut view = view;
@@ -33,7 +33,7 @@ fn follow_path<'a, A>(
 /// The elements in row-major order.
 fn elements<A: Clone>(alloc: Global, view: &ArrayView<'_, A, IxDyn>) -> Result<Vec<A>, AllocError>
     requires { (x y : A) → A.is_clone x y → y ≡ x }
-    ensures { IfOk result (λ v. v.items ≡ elements_of (meaning_of view.now)) }
+    ensures { IfOk result (λ v. v.items ≡ row_major_elements (meaning_of view.now)) }
 {
     let mut items = Vec::with_capacity(alloc, view.len())?;
     let mut coordinates = [0; MAX_AXES];
@@ -54,7 +54,7 @@ fn answer<A: Clone>(
     question: &Question,
 ) -> Result<Reply<A>, AllocError>
     requires { (x y : A) → A.is_clone x y → y ≡ x }
-    ensures { IfOk result (λ reply. said reply ≡ answered (asking question.now) (meaning_of view.now)) }
+    ensures { IfOk result (λ reply. said_reply reply ≡ answer_to (asking question.now) (meaning_of view.now)) }
 {
     match question {
         Question::Shape => Ok(Reply::Shape(view.shape().to_vec(alloc)?)),
@@ -69,7 +69,7 @@ fn answer<A: Clone>(
     }
 }
 
-/// The reply to a question at the end of a path. It lacks memory only where no step is refused.
+/// The reply to a question at the end of a path. It can run out of memory only if no step was refused.
 fn ask<A: Clone>(
     alloc: Global,
     array: &Array<A, IxDyn>,
@@ -77,7 +77,7 @@ fn ask<A: Clone>(
     question: &Question,
 ) -> Result<Reply<A>, AllocError>
     requires { (x y : A) → A.is_clone x y → y ≡ x }
-    ensures reply { IfOk result (λ reply. said reply ≡ reply_to (About (map asked_step path.now) (asking question.now)) (meaning_of array.now)) }
+    ensures reply { IfOk result (λ reply. said_reply reply ≡ reply_to (About (map asked_step path.now) (asking question.now)) (meaning_of array.now)) }
     ensures memory { OnErr result (MayLackMemory (About (map asked_step path.now) (asking question.now)) (meaning_of array.now)) }
 {
     match follow_path(array.view(), path) {
@@ -86,10 +86,10 @@ fn ask<A: Clone>(
     }
 }
 
-/// The step's result in the array's place. A refusal changes nothing.
+/// Replaces the array by the step's result. A refused step changes nothing.
 fn keep<A>(array: Array<A, IxDyn>, step: &Step) -> (Reply<A>, Array<A, IxDyn>)
-    ensures reply { said result.0 ≡ reply_to (Keeping (asked_step step.now)) (meaning_of array) }
-    ensures array { meaning_of result.1 ≡ after (Keeping (asked_step step.now)) (meaning_of array) }
+    ensures reply { said_reply result.0 ≡ reply_to (Keeping (asked_step step.now)) (meaning_of array) }
+    ensures array { meaning_of result.1 ≡ meaning_after (Keeping (asked_step step.now)) (meaning_of array) }
 {
     match keep_refusal(array.shape(), step) {
         None => (Reply::Done, take_step(array, step)),
@@ -104,9 +104,9 @@ fn act<A: Clone + Drop>(
     call: &Call<A>,
 ) -> Result<Acted<A>, AllocError>
     requires { (x y : A) → A.is_clone x y → y ≡ x }
-    ensures reply { IfOk result (λ acted. said acted.0 ≡ reply_to (asked call.now) (meaning_of array)) }
-    ensures array { IfOk result (λ acted. meaning_of acted.1 ≡ after (asked call.now) (meaning_of array)) }
-    ensures memory { OnErr result (MayLackMemory (asked call.now) (meaning_of array)) }
+    ensures reply { IfOk result (λ acted. said_reply acted.0 ≡ reply_to (asked_call call.now) (meaning_of array)) }
+    ensures array { IfOk result (λ acted. meaning_of acted.1 ≡ meaning_after (asked_call call.now) (meaning_of array)) }
+    ensures memory { OnErr result (MayLackMemory (asked_call call.now) (meaning_of array)) }
 {
     match call {
         Call::Keep(step) => Ok(keep(array, step)),
@@ -128,18 +128,17 @@ pub enum RunFault<A> {
     Memory(Vec<Reply<A>>),
 }
 
-/// Carries out the calls one after another, each with one reply. The list of replies is asked for before the
-/// first call. A call that is refused changes nothing. Where memory is refused, the replies are those to the calls
-/// before the one that lacked it. ndarray has no such call.
+/// Runs the calls in order; each has one reply. Room for the replies is taken before the first call. A call that is
+/// refused changes nothing. If memory is refused, the replies are those to the calls before. ndarray has no such call.
 pub fn run<A: Clone + Drop>(
     alloc: Global,
     start: Array<A, IxDyn>,
     calls: &[Call<A>],
 ) -> Result<(Vec<Reply<A>>, Array<A, IxDyn>), RunFault<A>>
     requires { (x y : A) → A.is_clone x y → y ≡ x }
-    ensures replies { IfOk result (λ r. map said r.0.items ≡ replies_to (map asked calls.now) (meaning_of start)) }
-    ensures array { IfOk result (λ r. meaning_of r.1 ≡ end_of (map asked calls.now) (meaning_of start)) }
-    ensures memory { IfErr result (λ fault. StopsBefore (map asked calls.now) (meaning_of start) (replies_before fault)) }
+    ensures replies { IfOk result (λ r. map said_reply r.0.items ≡ replies_to (map asked_call calls.now) (meaning_of start)) }
+    ensures array { IfOk result (λ r. meaning_of r.1 ≡ end_of (map asked_call calls.now) (meaning_of start)) }
+    ensures memory { IfErr result (λ fault. StopsBefore (map asked_call calls.now) (meaning_of start) (replies_before fault)) }
 {
     let mut replies = match Vec::with_capacity(alloc, calls.len()) {
         Ok(replies) => replies,

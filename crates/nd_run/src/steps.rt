@@ -1,12 +1,12 @@
-//! Steps: what is against one, and what it gives.
+//! Steps of a path: the cause for which one is refused, and what it gives.
 
 ghost use Rattle.std.specs.Prelude.{◌≡◌, ◌<◌, ◌+◌, ◌^◌, ◌∷◌, [], ℕ, true, List, None, length, MatchResult, Ok, Err};
-ghost use Rattle.nd_shape_and_slice.specs.Axes.{names_each_axis, permuted, unpermuted};
+ghost use Rattle.nd_shape_and_slice.specs.Axes.{names_each_axis, permuted_list, unpermuted_list};
 ghost use Rattle.nd_array_core.specs.Meaning.{shape_of, element_at, inside, meaning_of, storage_of, place_at};
 ghost use Rattle.nd_shape_and_slice.specs.SliceInfo.{reads_axis, axes_read};
-ghost use Rattle.nd_run.specs.Calls.{asked_step, SlicedAxis, Sliced, Widened, Indexed, Permuted, Exchanged, Inverted, Inserted};
-ghost use Rattle.nd_run.specs.Steps.{first_failed, element_tests, reads, refusal, keep_refusal, shape_after, index_before};
-ghost use Rattle.nd_run.specs.Fold.{taken};
+ghost use Rattle.nd_run.specs.Calls.{asked_step, SlicedAxis, Sliced, BroadcastTo, Indexed, Permuted, Exchanged, Inverted, Inserted};
+ghost use Rattle.nd_run.specs.Steps.{first_failed, element_tests, reads, refusal, keep_refusal, step_shape, step_index};
+ghost use Rattle.nd_run.specs.Fold.{step_result};
 
 use crate::calls::Step;
 use crate::cause::Cause;
@@ -28,7 +28,7 @@ fn slice_refusal(shape: &[usize], axis: usize, slice: Slice) -> Option<Cause>
     None
 }
 
-/// The cause against an element that reads this axis, if it reads one.
+/// The cause for which one refuses an element that reads this axis, if it reads one.
 fn element_refusal(shape: &[usize], axis: usize, element: SliceInfoElem) -> Option<Cause>
     requires { reads_axis element ≡ true → axis < length shape.now }
     ensures { result ≡ first_failed (element_tests axis shape.now (element ∷ [])) }
@@ -60,7 +60,7 @@ fn axis_past(axis: usize, element: SliceInfoElem) -> usize
     if element.reads_axis() { axis + 1 } else { axis }
 }
 
-/// The first cause against an element of a list that reads each axis.
+/// The first cause for which one refuses an element of a list that reads each axis.
 fn first_element_refusal(shape: &[usize], elements: &[SliceInfoElem]) -> Option<Cause>
     requires { axes_read elements.now ≡ length shape.now }
     ensures { result ≡ first_failed (element_tests 0 shape.now elements.now) }
@@ -142,7 +142,8 @@ fn insert_refusal(shape: &[usize], axis: usize) -> Option<Cause>
     None
 }
 
-/// The first cause against a step on an array of these lengths whose result is kept: a broadcast shares elements.
+/// The first cause for which one refuses a step on an array of these lengths whose result is kept: a broadcast shares
+/// elements.
 pub fn keep_refusal(shape: &[usize], step: &Step) -> Option<Cause>
     ensures { result ≡ keep_refusal (asked_step step.now) shape.now }
 {
@@ -164,10 +165,10 @@ pub fn keep_refusal(shape: &[usize], step: &Step) -> Option<Cause>
 /// The array with its axes in this order.
 fn permuted<S: Data>(array: ArrayBase<S, IxDyn>, axes: &[usize]) -> ArrayBase<S, IxDyn>
     requires { names_each_axis axes.now (length (shape_of array)) ≡ true }
-    ensures shape { shape_of result ≡ permuted axes.now (shape_of array) }
-    ensures elements { (i : List ℕ) → element_at result i ≡ inside (shape_of result) i (element_at array (unpermuted axes.now i)) }
+    ensures shape { shape_of result ≡ permuted_list axes.now (shape_of array) }
+    ensures elements { (i : List ℕ) → element_at result i ≡ inside (shape_of result) i (element_at array (unpermuted_list axes.now i)) }
     ensures storage { storage_of result ≡ storage_of array }
-    ensures places { (i : List ℕ) → place_at result i ≡ inside (shape_of result) i (place_at array (unpermuted axes.now i)) }
+    ensures places { (i : List ℕ) → place_at result i ≡ inside (shape_of result) i (place_at array (unpermuted_list axes.now i)) }
 {
     let order = IxDyn::new(&axes[..array.ndim()]);
     array.permuted_axes(order)
@@ -176,10 +177,10 @@ fn permuted<S: Data>(array: ArrayBase<S, IxDyn>, axes: &[usize]) -> ArrayBase<S,
 /// What a step that is no broadcast gives.
 pub fn take_step<S: Data>(array: ArrayBase<S, IxDyn>, step: &Step) -> ArrayBase<S, IxDyn>
     requires { keep_refusal (asked_step step.now) (shape_of array) ≡ None }
-    ensures shape { shape_of result ≡ shape_after (asked_step step.now) (shape_of array) }
-    ensures elements { (i : List ℕ) → element_at result i ≡ inside (shape_of result) i (element_at array (index_before (asked_step step.now) (shape_of array) i)) }
+    ensures shape { shape_of result ≡ step_shape (asked_step step.now) (shape_of array) }
+    ensures elements { (i : List ℕ) → element_at result i ≡ inside (shape_of result) i (element_at array (step_index (asked_step step.now) (shape_of array) i)) }
     ensures storage { storage_of result ≡ storage_of array }
-    ensures places { (i : List ℕ) → place_at result i ≡ inside (shape_of result) i (place_at array (index_before (asked_step step.now) (shape_of array) i)) }
+    ensures places { (i : List ℕ) → place_at result i ≡ inside (shape_of result) i (place_at array (step_index (asked_step step.now) (shape_of array) i)) }
 {
     match step {
         Step::SliceAxis(axis, slice) => array.slice_axis_move(Axis(*axis), *slice),
@@ -210,12 +211,12 @@ pub fn take_step<S: Data>(array: ArrayBase<S, IxDyn>, step: &Step) -> ArrayBase<
     }
 }
 
-/// The view under a larger shape, or why not.
-fn widen<'a, A>(
+/// The view under a larger shape, or the cause of its refusal.
+fn broadcast_to<'a, A>(
     view: ArrayView<'a, A, IxDyn>,
     lengths: &[usize],
 ) -> Result<ArrayView<'a, A, IxDyn>, Cause>
-    ensures { MatchResult result (λ wide. taken (Widened lengths.now) (meaning_of view.entry) ≡ Ok (meaning_of wide)) (λ cause. taken (Widened lengths.now) (meaning_of view.entry) ≡ Err cause) }
+    ensures { MatchResult result (λ wide. step_result (BroadcastTo lengths.now) (meaning_of view.entry) ≡ Ok (meaning_of wide)) (λ cause. step_result (BroadcastTo lengths.now) (meaning_of view.entry) ≡ Err cause) }
 {
     if lengths.len() > MAX_AXES {
         return Err(Cause::TooManyAxes);
@@ -226,15 +227,15 @@ fn widen<'a, A>(
     }
 }
 
-/// What a step on a view gives, or why not.
+/// What a step on a view gives, or the cause of its refusal.
 pub fn advance<'a, A>(
     view: ArrayView<'a, A, IxDyn>,
     step: &Step,
 ) -> Result<ArrayView<'a, A, IxDyn>, Cause>
-    ensures { MatchResult result (λ next. taken (asked_step step.now) (meaning_of view.entry) ≡ Ok (meaning_of next)) (λ cause. taken (asked_step step.now) (meaning_of view.entry) ≡ Err cause) }
+    ensures { MatchResult result (λ next. step_result (asked_step step.now) (meaning_of view.entry) ≡ Ok (meaning_of next)) (λ cause. step_result (asked_step step.now) (meaning_of view.entry) ≡ Err cause) }
 {
     if let Step::Broadcast(lengths) = step {
-        return widen(view, lengths.as_slice());
+        return broadcast_to(view, lengths.as_slice());
     }
     match keep_refusal(view.shape(), step) {
         None => Ok(take_step(view, step)),

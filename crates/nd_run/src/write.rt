@@ -2,33 +2,32 @@
 
 ghost use Rattle.std.specs.Prelude.{◌≡◌, ◌||◌, ℕ, true, List, map, Option, None, Some, IfOk, OnErr, if◌then◌else◌};
 ghost use Rattle.nd_shape_and_slice.specs.Shape.{in_box};
-ghost use Rattle.nd_array_core.specs.Meaning.{shape_of, element_at, meaning_of, storage_of, place_at, placed_of, inside};
+ghost use Rattle.nd_array_core.specs.Meaning.{shape_of, element_at, meaning_of, storage_of, place_at, placed_array, inside};
 ghost use Rattle.nd_array_core.specs.base.Writes.{OthersStay};
 ghost use Rattle.nd_array_core.specs.scoped.Tasks.{view_borrow, lent_borrow, lent_view, view_left, CanBeSeen};
-ghost use Rattle.nd_run.specs.Calls.{asked_step, acting, said, Writing, SplitWriting};
-ghost use Rattle.nd_run.specs.Acts.{act_refusal, acted, clones, path_refusal, write_refusal, parts_refusal, place_refusal};
-ghost use Rattle.nd_run.specs.Placing.{meaning_in, places_in, Leaves, acted_unless, WritesThrough, WritesParts, said_unless};
-ghost use Rattle.nd_run.specs.Fold.{LeadsAlong, reply_to, after, MayLackMemory};
+ghost use Rattle.nd_run.specs.Calls.{asked_step, acting, said_reply, Writing, SplitWriting};
+ghost use Rattle.nd_run.specs.Acts.{act_refusal, acted_elements, clones, path_refusal, write_refusal, parts_refusal, place_refusal};
+ghost use Rattle.nd_run.specs.Placing.{meaning_in, places_in, Leaves, acted_elements_unless, WritesThrough, WritesParts, said_unless};
+ghost use Rattle.nd_run.specs.Fold.{LeadsAlong, reply_to, meaning_after, MayLackMemory};
 
 use crate::calls::{Act, Reply, Step};
 use crate::cause::Cause;
 use crate::laws::paths_lead_along;
 use crate::steps::{keep_refusal, take_step};
 use nd_array_core::laws::{distinct_places, elements_have_places, nothing_outside};
-use nd_array_core::scoped::{LentView, ViewTask};
-use nd_array_core::scoped::PairTask;
+use nd_array_core::scoped::{LentView, PairTask, ViewTask};
 use nd_array_core::{Array, ArrayBase, Data, DataMut, ViewMutRepr};
 use nd_shape_and_slice::{Axis, Dimension, IxDyn};
 use std::alloc::AllocError;
 
-/// Goes along a path that is written through, to its end or to the first step that is refused.
+/// Follows a path that is to be written through, to its end or to the first refused step.
 fn go_along<S: Data>(
     array: ArrayBase<S, IxDyn>,
     path: &[Step],
 ) -> (ArrayBase<S, IxDyn>, Option<Cause>)
     ensures refused { result.1 ≡ path_refusal (map asked_step path.now) (shape_of array) }
     ensures storage { storage_of result.0 ≡ storage_of array }
-    ensures along { result.1 ≡ None → LeadsAlong (map asked_step path.now) (places_in (placed_of array)) (places_in (placed_of result.0)) }
+    ensures along { result.1 ≡ None → LeadsAlong (map asked_step path.now) (places_in (placed_array array)) (places_in (placed_array result.0)) }
 {
     let mut array = array;
     for step in path {
@@ -52,7 +51,7 @@ fn index_refusal<S: Data>(array: &ArrayBase<S, IxDyn>, index: &[usize]) -> Optio
     }
 }
 
-/// The first cause against an act on an array's elements.
+/// The first cause for which one refuses an act on an array's elements.
 fn act_refusal<S: Data>(array: &ArrayBase<S, IxDyn>, act: &Act<S::Elem>) -> Option<Cause>
     ensures { result ≡ act_refusal (acting act.now) (shape_of array.now) }
 {
@@ -69,14 +68,14 @@ fn act_refusal<S: Data>(array: &ArrayBase<S, IxDyn>, act: &Act<S::Elem>) -> Opti
     }
 }
 
-/// Does an act that nothing is against.
+/// Does an act that was checked before.
 fn do_act<S: DataMut>(array: &mut ArrayBase<S, IxDyn>, act: &Act<S::Elem>) -> Result<(), AllocError>
 where
     S::Elem: Clone + Drop,
     requires clone { (x y : S.Elem) → S.Elem.is_clone x y → y ≡ x }
     requires fits { act_refusal (acting act.now) (shape_of array.old) ≡ None }
     ensures shape { shape_of array.new ≡ shape_of array.old }
-    ensures elements { IfOk result (λ _. (i : List ℕ) → element_at array.new i ≡ acted (acting act.now) (meaning_of array.old) i) }
+    ensures elements { IfOk result (λ _. (i : List ℕ) → element_at array.new i ≡ acted_elements (acting act.now) (meaning_of array.old) i) }
     ensures places { (i : List ℕ) → place_at array.new i ≡ place_at array.old i }
     ensures others { OthersStay (place_at array.old) (S.stored (storage_of array.old)) (S.stored (storage_of array.new)) }
     ensures borrow { S.borrow (storage_of array.new) ≡ S.borrow (storage_of array.old) }
@@ -99,7 +98,7 @@ where
     }
 }
 
-/// Goes along a path and acts at its end, or says why not.
+/// Follows a path and acts at its end, or returns the cause of a refusal.
 fn act_along<S: DataMut>(
     array: ArrayBase<S, IxDyn>,
     path: &[Step],
@@ -109,8 +108,8 @@ where
     S::Elem: Clone + Drop,
     requires { (x y : S.Elem) → S.Elem.is_clone x y → y ≡ x }
     ensures refused { IfOk result.1 (λ refused. refused ≡ write_refusal (map asked_step path.now) (acting act.now) (shape_of array)) }
-    ensures elements { IfOk result.1 (λ refused. Leaves (placed_of array) (placed_of result.0) (after (Writing (map asked_step path.now) (acting act.now)) (meaning_in (placed_of array))).at) }
-    ensures memory { OnErr result.1 (MayLackMemory (Writing (map asked_step path.now) (acting act.now)) (meaning_in (placed_of array))) }
+    ensures elements { IfOk result.1 (λ refused. Leaves (placed_array array) (placed_array result.0) (meaning_after (Writing (map asked_step path.now) (acting act.now)) (meaning_in (placed_array array))).at) }
+    ensures memory { OnErr result.1 (MayLackMemory (Writing (map asked_step path.now) (acting act.now)) (meaning_in (placed_array array))) }
     ensures borrow { S.borrow (storage_of result.0) ≡ S.borrow (storage_of array) }
 {
     elements_have_places(&array);
@@ -132,7 +131,7 @@ where
     }
 }
 
-/// Acts on two arrays, or says why not. Both acts are checked before either changes anything.
+/// Acts on two arrays, or returns the cause of a refusal. Both acts are checked before either changes anything.
 fn act_on_both<S: DataMut>(
     lower: &mut ArrayBase<S, IxDyn>,
     upper: &mut ArrayBase<S, IxDyn>,
@@ -143,8 +142,8 @@ where
     S::Elem: Clone + Drop,
     requires { (x y : S.Elem) → S.Elem.is_clone x y → y ≡ x }
     ensures refused { IfOk result (λ refused. refused ≡ parts_refusal (acting first.now) (acting second.now) (shape_of lower.old) (shape_of upper.old)) }
-    ensures lower { IfOk result (λ refused. (i : List ℕ) → element_at lower.new i ≡ acted_unless refused (acting first.now) (meaning_of lower.old) i) }
-    ensures upper { IfOk result (λ refused. (i : List ℕ) → element_at upper.new i ≡ acted_unless refused (acting second.now) (meaning_of upper.old) i) }
+    ensures lower { IfOk result (λ refused. (i : List ℕ) → element_at lower.new i ≡ acted_elements_unless refused (acting first.now) (meaning_of lower.old) i) }
+    ensures upper { IfOk result (λ refused. (i : List ℕ) → element_at upper.new i ≡ acted_elements_unless refused (acting second.now) (meaning_of upper.old) i) }
     ensures lower_places { (i : List ℕ) → place_at lower.new i ≡ place_at lower.old i }
     ensures upper_places { (i : List ℕ) → place_at upper.new i ≡ place_at upper.old i }
     ensures lower_borrow { S.borrow (storage_of lower.new) ≡ S.borrow (storage_of lower.old) }
@@ -165,7 +164,7 @@ where
     Ok(None)
 }
 
-/// Acts on two parts, or says why not.
+/// Acts on two parts, or returns the cause of a refusal.
 fn act_on_parts<S: DataMut>(
     lower: ArrayBase<S, IxDyn>,
     upper: ArrayBase<S, IxDyn>,
@@ -179,7 +178,7 @@ fn act_on_parts<S: DataMut>(
 where
     S::Elem: Clone + Drop,
     requires { (x y : S.Elem) → S.Elem.is_clone x y → y ≡ x }
-    ensures done { WritesParts (acting first.now) (acting second.now) (placed_of lower) (placed_of upper) (placed_of result.0) (placed_of result.1) result.2 }
+    ensures done { WritesParts (acting first.now) (acting second.now) (placed_array lower) (placed_array upper) (placed_array result.0) (placed_array result.1) result.2 }
     ensures lower_borrow { S.borrow (storage_of result.0) ≡ S.borrow (storage_of lower) }
     ensures upper_borrow { S.borrow (storage_of result.1) ≡ S.borrow (storage_of upper) }
 {
@@ -262,7 +261,7 @@ impl<'p, A: Clone + Drop, D: Dimension> PairTask<A, D, D> for ActOnParts<'p, A> 
     }
 }
 
-/// The cause against a split of an array of these lengths.
+/// The cause for which one refuses a split of an array of these lengths.
 fn place_refusal(shape: &[usize], axis: usize, index: usize) -> Option<Cause>
     ensures { result ≡ place_refusal axis index shape.now }
 {
@@ -277,7 +276,7 @@ fn place_refusal(shape: &[usize], axis: usize, index: usize) -> Option<Cause>
 
 /// The reply to a write.
 fn write_reply<A>(refused: Option<Cause>) -> Reply<A>
-    ensures { said result ≡ said_unless refused }
+    ensures { said_reply result ≡ said_unless refused }
 {
     match refused {
         None => Reply::Done,
@@ -295,8 +294,8 @@ pub fn write_through<A: Clone + Drop>(
     act: &Act<A>,
 ) -> Result<Acted<A>, AllocError>
     requires { (x y : A) → A.is_clone x y → y ≡ x }
-    ensures reply { IfOk result (λ acted. said acted.0 ≡ reply_to (Writing (map asked_step path.now) (acting act.now)) (meaning_of array)) }
-    ensures array { IfOk result (λ acted. meaning_of acted.1 ≡ after (Writing (map asked_step path.now) (acting act.now)) (meaning_of array)) }
+    ensures reply { IfOk result (λ acted_elements. said_reply acted_elements.0 ≡ reply_to (Writing (map asked_step path.now) (acting act.now)) (meaning_of array)) }
+    ensures array { IfOk result (λ acted_elements. meaning_of acted_elements.1 ≡ meaning_after (Writing (map asked_step path.now) (acting act.now)) (meaning_of array)) }
     ensures memory { OnErr result (MayLackMemory (Writing (map asked_step path.now) (acting act.now)) (meaning_of array)) }
 {
     let mut array = array;
@@ -313,8 +312,8 @@ pub fn write_parts<A: Clone + Drop>(
     second: &Act<A>,
 ) -> Result<Acted<A>, AllocError>
     requires { (x y : A) → A.is_clone x y → y ≡ x }
-    ensures reply { IfOk result (λ acted. said acted.0 ≡ reply_to (SplitWriting axis index (acting first.now) (acting second.now)) (meaning_of array)) }
-    ensures array { IfOk result (λ acted. meaning_of acted.1 ≡ after (SplitWriting axis index (acting first.now) (acting second.now)) (meaning_of array)) }
+    ensures reply { IfOk result (λ acted_elements. said_reply acted_elements.0 ≡ reply_to (SplitWriting axis index (acting first.now) (acting second.now)) (meaning_of array)) }
+    ensures array { IfOk result (λ acted_elements. meaning_of acted_elements.1 ≡ meaning_after (SplitWriting axis index (acting first.now) (acting second.now)) (meaning_of array)) }
     ensures memory { OnErr result (MayLackMemory (SplitWriting axis index (acting first.now) (acting second.now)) (meaning_of array)) }
 {
     let mut array = array;

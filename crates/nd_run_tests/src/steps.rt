@@ -117,7 +117,7 @@ fn lists_of_slices(rt: HostRuntime) {
 }
 
 #[test]
-fn squeezed_and_widened(rt: HostRuntime) {
+fn squeezed_and_inserted(rt: HostRuntime) {
     let table: [(&[u8], &[u8]); 8] = [
         // without the axes of length 1, but for a last one
         (

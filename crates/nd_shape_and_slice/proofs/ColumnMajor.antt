@@ -3,7 +3,7 @@ use Rattle.std.proofs.Common.{◌≡◌, ℕ, zero, suc, ◌+◌, ◌-◌, ◌*�
 use Rattle.std.proofs.Math.Nat.{mul-le-mul_left, mul_comm, mul_assoc}
 use Rattle.std.proofs.lemmas.Bool.Decides.{nat_tests}
 use Rattle.nd_shape_and_slice.specs.Shape.{in_box, size_of, column_rank}
-use Rattle.nd_shape_and_slice.specs.Place.{offset_of, span_of, span_within, magnitude_at, IsSeparated}
+use Rattle.nd_shape_and_slice.specs.Place.{displacement_of, span_of, span_within, magnitude_at, IsSeparated}
 use Rattle.nd_shape_and_slice.specs.Strides.{column_strides_from, f_strides}
 use Rattle.nd_shape_and_slice.proofs.RowMajor.{in_box-cons, positive-cons}
 
@@ -28,18 +28,18 @@ joined i p n rank =
     let all : p * (i + n * rank) ≡ i * p + p * n * rank = grind arith in
     ap pos (sym all)
 
-pub offset_of-column_strides_from : (p : ℕ) (ns is : List ℕ) → in_box ns is ≡ true → offset_of (column_strides_from p ns) is ≡ pos (p * column_rank ns is)
-offset_of-column_strides_from p [] [] h = ap pos nothing
+pub displacement_of-column_from : (p : ℕ) (ns is : List ℕ) → in_box ns is ≡ true → displacement_of (column_strides_from p ns) is ≡ pos (p * column_rank ns is)
+displacement_of-column_from p [] [] h = ap pos nothing
   where
     nothing : 0 ≡ p * 0
     nothing = omega arith
-offset_of-column_strides_from p [] (i ∷ is) h = cc
-offset_of-column_strides_from p (n ∷ ns) [] h = cc
-offset_of-column_strides_from p (n ∷ ns) (i ∷ is) h =
-    ap (λ z. (pos i *ℤ pos p) +ℤ z) (offset_of-column_strides_from (p * n) ns is (in_box-cons n ns i is h).1) ∙ joined i p n (column_rank ns is)
+displacement_of-column_from p [] (i ∷ is) h = cc
+displacement_of-column_from p (n ∷ ns) [] h = cc
+displacement_of-column_from p (n ∷ ns) (i ∷ is) h =
+    ap (λ z. (pos i *ℤ pos p) +ℤ z) (displacement_of-column_from (p * n) ns is (in_box-cons n ns i is h).1) ∙ joined i p n (column_rank ns is)
 
-pub offset_of-column_strides : (ns is : List ℕ) → in_box ns is ≡ true → offset_of (column_strides_from 1 ns) is ≡ pos (column_rank ns is)
-offset_of-column_strides ns is h = offset_of-column_strides_from 1 ns is h ∙ ap pos once
+pub displacement_of-column : (ns is : List ℕ) → in_box ns is ≡ true → displacement_of (column_strides_from 1 ns) is ≡ pos (column_rank ns is)
+displacement_of-column ns is h = displacement_of-column_from 1 ns is h ∙ ap pos once
   where
     once : 1 * column_rank ns is ≡ column_rank ns is
     once = omega arith

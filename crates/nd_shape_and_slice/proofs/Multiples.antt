@@ -102,12 +102,12 @@ shared l d k l' d' k' w t order first within within_low = record {
   at_second = w;
   in_first = within_low;
   in_second = within;
-  same = omega (arith, order, first.equal);
+  equal = omega (arith, order, first.equal);
 }
 
 pub share_first : (l d k l' d' k' w t : ℕ) → 0 < d → l ≤ l' → IsFirstMultiple d (l' - l) d' w t → Share l d k l' d' k' → (w < k') × (t < k)
 share_first l d k l' d' k' w t some order first share =
-    let there : d * share.at_first ≡ l' - l + d' * share.at_second = omega (arith, order, share.same) in
+    let there : d * share.at_first ≡ l' - l + d' * share.at_second = omega (arith, order, share.equal) in
     let before : w ≤ share.at_second = first.least share.at_second share.at_first there in
     let steps : d' * w ≤ d' * share.at_second = mul-le-mul_left d' before in
     let all : d * t ≤ d * share.at_first = omega (arith, there, first.equal, steps) in
@@ -115,7 +115,7 @@ share_first l d k l' d' k' w t some order first share =
     (omega (arith, before, share.in_second), omega (arith, low, share.in_first))
 
 pub no_share : (l d k l' d' k' : ℕ) → l ≤ l' → ((v u : ℕ) → d * u ≡ l' - l + d' * v → ⊥) → Share l d k l' d' k' → ⊥
-no_share l d k l' d' k' order none share = none share.at_second share.at_first (omega (arith, order, share.same))
+no_share l d k l' d' k' order none share = none share.at_second share.at_first (omega (arith, order, share.equal))
 
 pub share_swapped : (l d k l' d' k' : ℕ) → Share l d k l' d' k' → Share l' d' k' l d k
 share_swapped l d k l' d' k' share = record {
@@ -123,7 +123,7 @@ share_swapped l d k l' d' k' share = record {
   at_second = share.at_first;
   in_first = share.in_second;
   in_second = share.in_first;
-  same = sym share.same;
+  equal = sym share.equal;
 }
 
 passes : (a b : ℕ) → a < b → nat_lt a b ≡ true

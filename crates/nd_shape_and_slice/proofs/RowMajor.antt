@@ -7,7 +7,7 @@ use Rattle.std.proofs.lemmas.List.{drop-set}
 use Rattle.nd_shape_and_slice.proofs.Sizes.{size_of-drop}
 use Rattle.std.proofs.lemmas.Bool.Decides.{nat_tests}
 use Rattle.nd_shape_and_slice.specs.Shape.{in_box, size_of, nonzero_product, row_rank, HasCheckedSize}
-use Rattle.nd_shape_and_slice.specs.Place.{offset_of, span_of, span_within, magnitude_at, IsSeparated}
+use Rattle.nd_shape_and_slice.specs.Place.{displacement_of, span_of, span_within, magnitude_at, IsSeparated}
 use Rattle.nd_shape_and_slice.specs.Strides.{row_strides, c_strides}
 
 -- the two parts of an index in a box
@@ -37,12 +37,12 @@ row_rank_below (n ∷ ns) (i ∷ is) h =
     rank_step n i (size_of ns) (row_rank ns is) parts.0 (row_rank_below ns is parts.1)
 
 -- under row strides an index lies at its rank
-pub offset_of-row_strides : (ns is : List ℕ) → in_box ns is ≡ true → offset_of (row_strides ns) is ≡ pos (row_rank ns is)
-offset_of-row_strides [] [] h = refl
-offset_of-row_strides [] (i ∷ is) h = cc
-offset_of-row_strides (n ∷ ns) [] h = cc
-offset_of-row_strides (n ∷ ns) (i ∷ is) h =
-    rw (offset_of-row_strides ns is (in_box-cons n ns i is h).1) refl
+pub displacement_of-row : (ns is : List ℕ) → in_box ns is ≡ true → displacement_of (row_strides ns) is ≡ pos (row_rank ns is)
+displacement_of-row [] [] h = refl
+displacement_of-row [] (i ∷ is) h = cc
+displacement_of-row (n ∷ ns) [] h = cc
+displacement_of-row (n ∷ ns) (i ∷ is) h =
+    rw (displacement_of-row ns is (in_box-cons n ns i is h).1) refl
 
 -- a shape with elements has no length 0
 pub positive-cons : (n : ℕ) (ns : List ℕ) → 0 < size_of (n ∷ ns) → (0 < n) × (0 < size_of ns)
@@ -121,10 +121,10 @@ IsSeparated-row_strides (n ∷ ns) h (suc k) g =
     rw skip (IsSeparated-row_strides ns parts.1 k g)
 
 -- strides of 0 reach nowhere
-pub offset_of-zeros : (n : ℕ) (is : List ℕ) → offset_of (replicate n (pos 0)) is ≡ pos 0
-offset_of-zeros zero is = refl
-offset_of-zeros (suc n) [] = refl
-offset_of-zeros (suc n) (i ∷ is) = rw (offset_of-zeros n is) (times_zero i)
+pub displacement_of-zeros : (n : ℕ) (is : List ℕ) → displacement_of (replicate n (pos 0)) is ≡ pos 0
+displacement_of-zeros zero is = refl
+displacement_of-zeros (suc n) [] = refl
+displacement_of-zeros (suc n) (i ∷ is) = rw (displacement_of-zeros n is) (times_zero i)
   where
     times_zero : (i : ℕ) → (pos i *ℤ pos 0) +ℤ pos 0 ≡ pos 0
     times_zero i = omega (arith, ints)
@@ -145,10 +145,10 @@ zeros_in_box (n ∷ ns) (i ∷ is) h =
     let first : ltb 0 n ≡ true = grind (arith, nat_tests) in
     rw (first, rest) refl
 
-pub offset_of-origin : (ss : List ℤ) (n : ℕ) → offset_of ss (replicate n 0) ≡ pos 0
-offset_of-origin [] n = refl
-offset_of-origin (s ∷ ss) zero = refl
-offset_of-origin (s ∷ ss) (suc n) = rw (offset_of-origin ss n) (zero_times s)
+pub displacement_of-origin : (ss : List ℤ) (n : ℕ) → displacement_of ss (replicate n 0) ≡ pos 0
+displacement_of-origin [] n = refl
+displacement_of-origin (s ∷ ss) zero = refl
+displacement_of-origin (s ∷ ss) (suc n) = rw (displacement_of-origin ss n) (zero_times s)
   where
     zero_times : (s : ℤ) → (pos 0 *ℤ s) +ℤ pos 0 ≡ pos 0
     zero_times (pos n) = omega (arith, ints)

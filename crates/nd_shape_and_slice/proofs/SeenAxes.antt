@@ -16,7 +16,7 @@ abbrev times : List ℕ → ℕ → ℕ → ℕ
 times axes k a = count_by (λ b. eqb b a) (take k axes)
 
 -- below n, bit a is how often a stands among the first k; no bit from n on is set
-pub record IsSeen (axes : List ℕ) (n seen k : ℕ) : Type 0 where
+pub record IsViewStep (axes : List ℕ) (n seen k : ℕ) : Type 0 where
   pub below : (a : ℕ) → a < n → bit_at seen a ≡ count_by (λ b. eqb b a) (take k axes)
   pub above : (a : ℕ) → n ≤ a → bit_at seen a ≡ 0
 
@@ -26,7 +26,7 @@ same m n h = grind (arith, nat_tests, h)
 other : (m n : ℕ) → (m ≡ n → ⊥) → eqb m n ≡ false
 other m n h = grind (arith, nat_tests, h)
 
-pub none_seen : (axes : List ℕ) (n : ℕ) → IsSeen axes n 0 0
+pub none_seen : (axes : List ℕ) (n : ℕ) → IsViewStep axes n 0 0
 none_seen axes n = record { below = λ a h. bit_at-zero a; above = λ a h. bit_at-zero a }
 
 -- the mark of an axis
@@ -51,7 +51,7 @@ set_bit seen k h set =
     no_times p = omega arith
 
 -- an axis that there isn't
-pub seen_past : (axes : List ℕ) (n seen k : ℕ) → k < length axes → n ≤ get_or axes k 0 → IsSeen axes n seen k → IsSeen axes n seen (k + 1)
+pub seen_past : (axes : List ℕ) (n seen k : ℕ) → k < length axes → n ≤ get_or axes k 0 → IsViewStep axes n seen k → IsViewStep axes n seen (k + 1)
 seen_past axes n seen k h past is =
     record {
       below = λ a lt. is.below a lt ∙ sym (count_by_more_no (λ b. eqb b a) axes k 0 h (other (get_or axes k 0) a (λ e. omega (arith, e, lt, past))));
@@ -59,7 +59,7 @@ seen_past axes n seen k h past is =
     }
 
 -- an axis whose bit was clear, and is set
-pub seen_more : (axes : List ℕ) (n seen k : ℕ) → n ≤ 32 → k < length axes → get_or axes k 0 < n → bit_and seen (1 * 2 ^ get_or axes k 0 % 2 ^ 64) ≡ 0 → IsSeen axes n seen k → IsSeen axes n (bit_or seen (1 * 2 ^ get_or axes k 0 % 2 ^ 64)) (k + 1)
+pub seen_more : (axes : List ℕ) (n seen k : ℕ) → n ≤ 32 → k < length axes → get_or axes k 0 < n → bit_and seen (1 * 2 ^ get_or axes k 0 % 2 ^ 64) ≡ 0 → IsViewStep axes n seen k → IsViewStep axes n (bit_or seen (1 * 2 ^ get_or axes k 0 % 2 ^ 64)) (k + 1)
 seen_more axes n seen k few h on clear is = record { below = below; above = above }
   where
     x : ℕ
@@ -87,7 +87,7 @@ seen_more axes n seen k few h on clear is = record { below = below; above = abov
     above a le = bit_at_set_other w64 seen x fits a (λ e. omega (arith, e, le, on)) ∙ is.above a le
 
 -- an axis whose bit was set stands twice
-pub seen_twice : (axes : List ℕ) (n seen k : ℕ) → n ≤ 32 → k < length axes → get_or axes k 0 < n → (bit_and seen (1 * 2 ^ get_or axes k 0 % 2 ^ 64) ≡ 0 → ⊥) → IsSeen axes n seen k → HasEachBelow axes n → ⊥
+pub seen_twice : (axes : List ℕ) (n seen k : ℕ) → n ≤ 32 → k < length axes → get_or axes k 0 < n → (bit_and seen (1 * 2 ^ get_or axes k 0 % 2 ^ 64) ≡ 0 → ⊥) → IsViewStep axes n seen k → HasEachBelow axes n → ⊥
 seen_twice axes n seen k few h on set is each =
     let x : ℕ = get_or axes k 0 in
     let before : times axes k x ≡ 1 = sym (is.below x on) ∙ set_bit seen x (omega (arith, on, few)) set in
@@ -96,12 +96,12 @@ seen_twice axes n seen k few h on set is each =
     omega (arith, before, after, whole, each x on)
 
 -- all bits
-pub all_seen : (axes : List ℕ) (n seen k : ℕ) → n ≤ 32 → length axes ≤ k → IsSeen axes n seen k → seen ≡ 1 * 2 ^ n % 2 ^ 64 - 1 → HasEachBelow axes n
+pub all_seen : (axes : List ℕ) (n seen k : ℕ) → n ≤ 32 → length axes ≤ k → IsViewStep axes n seen k → seen ≡ 1 * 2 ^ n % 2 ^ 64 - 1 → HasEachBelow axes n
 all_seen axes n seen k few h is full a lt =
     let ones : seen ≡ 2 ^ n - 1 = full ∙ ap (λ m. m - 1) (mark n (omega (arith, few))) in
     ap (count_by (λ b. eqb b a)) (sym (take_all k axes h)) ∙ (sym (is.below a lt) ∙ (ap (λ m. bit_at m a) ones ∙ bit_at_ones n a lt))
 
-pub seen_all : (axes : List ℕ) (n seen k : ℕ) → n ≤ 32 → length axes ≤ k → IsSeen axes n seen k → HasEachBelow axes n → seen ≡ 1 * 2 ^ n % 2 ^ 64 - 1
+pub seen_all : (axes : List ℕ) (n seen k : ℕ) → n ≤ 32 → length axes ≤ k → IsViewStep axes n seen k → HasEachBelow axes n → seen ≡ 1 * 2 ^ n % 2 ^ 64 - 1
 seen_all axes n seen k few h is each =
     same_from_bits seen (2 ^ n - 1) bits ∙ ap (λ m. m - 1) (sym (mark n (omega (arith, few))))
   where

@@ -16,9 +16,9 @@ abbrev pub names_each_axis : List ℕ → ℕ → Bool
 names_each_axis axes n = (length axes == n) && list_all (λ a. count_by (λ b. b == a) axes == 1) (range_with_len 0 n)
 
 -- the list in the order of the axes: at k what stood at the k-th of the axes
-abbrev pub permuted : List ℕ → List ℕ → List ℕ
-permuted axes xs = map (λ a. slice_index xs a) axes
+abbrev pub permuted_list : List ℕ → List ℕ → List ℕ
+permuted_list axes xs = map (λ a. slice_index xs a) axes
 
 -- the way back: at axis a what stands at the place of a among the axes
-abbrev pub unpermuted : List ℕ → List ℕ → List ℕ
-unpermuted axes xs = map (λ a. slice_index xs (position_or_len (λ b. b == a) axes)) (range_with_len 0 (length axes))
+abbrev pub unpermuted_list : List ℕ → List ℕ → List ℕ
+unpermuted_list axes xs = map (λ a. slice_index xs (position_or_len (λ b. b == a) axes)) (range_with_len 0 (length axes))

@@ -19,12 +19,12 @@ abbrev pub broadcasts : List ℕ → List ℕ → Bool
 broadcasts from to = nat_lt (nonzero_product to) (2 ^ 63) && (nat_le (length from) (length to) && stretches from (drop (axes_added from to) to))
 
 -- the old index that keeps each coordinate of an axis that hasn't grown, and has 0 at each that has
-abbrev pub ungrown : List ℕ → List ℕ → List ℕ → List ℕ
-ungrown [] ms is = []
-ungrown (n ∷ ns) [] is = []
-ungrown (n ∷ ns) (m ∷ ms) [] = []
-ungrown (n ∷ ns) (m ∷ ms) (i ∷ is) = (if nat_eq n m then i else 0) ∷ ungrown ns ms is
+abbrev pub stretched_index : List ℕ → List ℕ → List ℕ → List ℕ
+stretched_index [] ms is = []
+stretched_index (n ∷ ns) [] is = []
+stretched_index (n ∷ ns) (m ∷ ms) [] = []
+stretched_index (n ∷ ns) (m ∷ ms) (i ∷ is) = (if nat_eq n m then i else 0) ∷ stretched_index ns ms is
 
 -- the old index that a new one names: the coordinates of new axes and of grown axes are forgotten
-abbrev pub forget : List ℕ → List ℕ → List ℕ → List ℕ
-forget from to i = ungrown from (drop (axes_added from to) to) (drop (axes_added from to) i)
+abbrev pub broadcast_index : List ℕ → List ℕ → List ℕ → List ℕ
+broadcast_index from to i = stretched_index from (drop (axes_added from to) to) (drop (axes_added from to) i)

@@ -12,4 +12,4 @@ pub mod Slicing
 pub mod EachAxis
 pub mod Squeeze
 pub mod Broadcast
-pub mod Listed
+pub mod AxesLeft

@@ -31,11 +31,11 @@ abbrev pub indexed_index : ℕ → ℕ → List ℕ → List ℕ
 indexed_index a k i = insert i a k
 
 -- an axis of length 1 is put in
-abbrev pub widened_shape : List ℕ → ℕ → List ℕ
-widened_shape ns a = insert ns a 1
+abbrev pub inserted_shape : List ℕ → ℕ → List ℕ
+inserted_shape ns a = insert ns a 1
 
-abbrev pub widened_index : ℕ → List ℕ → List ℕ
-widened_index a i = remove i a
+abbrev pub inserted_index : ℕ → List ℕ → List ℕ
+inserted_index a i = remove i a
 
 -- the diagonal: the least length, 1 without axes
 abbrev pub least_of : ℕ → List ℕ → ℕ

@@ -31,7 +31,7 @@ pub record Share (low step count low' step' count' : ℕ) : Type 0 where
   pub at_second : ℕ
   pub in_first : at_first < count
   pub in_second : at_second < count'
-  pub same : low + at_first * step ≡ low' + at_second * step'
+  pub equal : low + at_first * step ≡ low' + at_second * step'
 
 -- the element names this coordinate of its axis; one that reads no axis stands for all of it
 abbrev pub NamesOn : ℕ → SliceInfoElem → ℕ → Type 0
@@ -42,7 +42,7 @@ NamesOn n NewAxis x = x < n
 -- what an element names is a progression
 pub record IsProgression (n : ℕ) (e : SliceInfoElem) (low step count : ℕ) : Type 0 where
   pub steps : 0 < step
-  pub names : (t : ℕ) → t < count → NamesOn n e (low + t * step)
+  pub is_named : (t : ℕ) → t < count → NamesOn n e (low + t * step)
   pub only : (x : ℕ) → NamesOn n e x → (t : ℕ) × (t < count) × (low + t * step ≡ x)
 
 -- the list from its first element on that reads an axis

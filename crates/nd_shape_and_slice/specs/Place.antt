@@ -4,14 +4,14 @@ use Rattle.std.specs.Prelude.{ℕ, ◌+◌, ◌-◌, ◌*◌, ◌<◌, nat_le, L
 use Rattle.std.proofs.Common.{get_or}
 
 -- how far from the first place an index lies under these strides
-abbrev pub offset_of : List ℤ → List ℕ → ℤ
-offset_of [] is = pos 0
-offset_of (s ∷ ss) [] = pos 0
-offset_of (s ∷ ss) (i ∷ is) = (pos i *ℤ s) +ℤ offset_of ss is
+abbrev pub displacement_of : List ℤ → List ℕ → ℤ
+displacement_of [] is = pos 0
+displacement_of (s ∷ ss) [] = pos 0
+displacement_of (s ∷ ss) (i ∷ is) = (pos i *ℤ s) +ℤ displacement_of ss is
 
 -- the place of an index
 abbrev pub place_of : ℕ → List ℤ → List ℕ → ℤ
-place_of first strides index = pos first +ℤ offset_of strides index
+place_of first strides index = pos first +ℤ displacement_of strides index
 
 -- how far apart two places of the array can lie at most: over the axes the sum of (length - 1) times the
 -- stride's magnitude

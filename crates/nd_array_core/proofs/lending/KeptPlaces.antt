@@ -35,7 +35,7 @@ use Rattle.std.specs.contracts.snapshot.Snapshot as Snapshot
 use Rattle.nd_region.specs.Memory.{Spots, loan}
 use Rattle.nd_region.proofs.Memory.{Rg, rg_d}
 use Rattle.nd_array_core.specs.contracts.base.storage.RegionRepr as S
-use Rattle.nd_array_core.specs.base.Refilled.{overwritten, overwritten_by}
+use Rattle.nd_array_core.specs.base.NewElements.{overwritten_items, overwritten_by}
 
 module _ (E : El) {M : Type 1} {𝓤 : Ura M} (𝓛 : Logic 𝓤) (κ : Lft) (q : Share) (b o : ℕ) (δ : GName) (xs : List (el_x E)) (fs : List Bool) where
   open 𝓛 use {H, A}
@@ -47,17 +47,17 @@ module _ (E : El) {M : Type 1} {𝓤 : Ura M} (𝓛 : Logic 𝓤) (κ : Lft) (q 
   code_of = (coded_list (R E).coded).code
 
   abbrev pub Kept : GName → Item 𝓤
-  Kept δ' = ‵ (loan (R E) κ (block_ptr b o) δ' xs fs) ⊛ ‵ (flft κ q) ⊛ ‵ (follows (Array (R E) 0) (Array (R E) 0) δ δ' (overwritten xs))
+  Kept δ' = ‵ (loan (R E) κ (block_ptr b o) δ' xs fs) ⊛ ‵ (flft κ q) ⊛ ‵ (follows (Array (R E) 0) (Array (R E) 0) δ δ' (overwritten_items xs))
 
-  places_back : length xs ≡ length fs → (ws : List (el_x E)) → ent 𝓤 (sep 𝓤 (sem 𝓛 (Places.own_at ws 0 0)) (emp 𝓤)) (sem 𝓛 (Places.own_at (overwritten xs ws) 0 0))
+  places_back : length xs ≡ length fs → (ws : List (el_x E)) → ent 𝓤 (sep 𝓤 (sem 𝓛 (Places.own_at ws 0 0)) (emp 𝓤)) (sem 𝓛 (Places.own_at (overwritten_items xs ws) 0 0))
   places_back long ws = qed 𝓛 (‵ (Places.own_at ws 0 0) ∷ raw (emp 𝓤) ∷ []) ∵ fsplit ! $ feq_l ! (λ e. feq_i ! ℕ (length ws) (length fs) e $ fjoin ! $
       rewrite ! 0 (λ (l : List (el_x E)). ‵ (Places.own_at l 0 0)) (sym (overwritten_by xs ws (e ∙ sym long))) refl $ keep ! (0 ∷ []) $ done !)
 
   pub keeps : ent 𝓤 (sep 𝓤 (sem 𝓛 (loan (R E) κ (block_ptr b o) δ xs fs)) (A.lft κ q)) (H.⇛ (mean 𝓛 (some Kept)))
   keeps = qed 𝓛 (‵ (loan (R E) κ (block_ptr b o) δ xs fs) ∷ ‵ (flft κ q) ∷ []) ∵ updating ! $ fsplit ! $ open_ref ! tt Places {x = xs} {b = 0} {o = 0} $
       fsplit ! $ feq_l ! (λ long. feq_i ! ℕ (length xs) (length fs) long $ fjoin ! $ use0 𝓛 (raw (emp 𝓤)) (id⊢ 𝓤 (emp 𝓤)) $ move ! (2 ∷ 3 ∷ 4 ∷ 1 ∷ 0 ∷ []) $ group ! 5 $
-      use1 𝓛 (later (some (λ (δ' : GName). ‵ (fobs δ' (code_of xs)) ⊛ ‵ (fbor κ (Body Places 0 0 δ')) ⊛ ‵ (flft κ q) ⊛ ‵ (after Places Places δ δ' (overwritten xs)))))
-      (takes_part 𝓛 Places Places (overwritten xs) κ q 0 0 0 0 δ (emp 𝓤) (places_back long) (code_of xs) (code_of xs) xs) $
+      use1 𝓛 (later (some (λ (δ' : GName). ‵ (fobs δ' (code_of xs)) ⊛ ‵ (fbor κ (Body Places 0 0 δ')) ⊛ ‵ (flft κ q) ⊛ ‵ (after Places Places δ δ' (overwritten_items xs)))))
+      (takes_part 𝓛 Places Places (overwritten_items xs) κ q 0 0 0 0 δ (emp 𝓤) (places_back long) (code_of xs) (code_of xs) xs) $
       await ! tt $ pick ! (λ δ'. split3 ! $ fjoin ! $ move ! (1 ∷ []) $ split ! $ now ! $ show ! (λ (z : GName). mean 𝓛 (Kept z)) δ' $ move ! (2 ∷ 0 ∷ 1 ∷ []) $ done !))
 
 abbrev member : RattleType → Member

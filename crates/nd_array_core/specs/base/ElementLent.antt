@@ -23,13 +23,13 @@ module _ {S D T A P R L M : Type 0} {s : data_trait.Ghosts S A} {d : dimension.G
   with_storage a x = record {
     storage = x.0;
     layout = a.layout;
-    inside = λ i h. kept_names (s.stored a.storage) (s.stored x.0) x.1 (place_of a.layout.first (t.strides_of a.layout.strides) i) (a.inside i h);
+    inside = λ i h. kept_names (s.stored a.storage) (s.stored x.0) x.1 (place_of a.layout.offset (t.strides_of a.layout.strides) i) (a.inside i h);
     separated = a.separated;
   }
 
   -- the array once the element at an index is another
-  unfoldable pub with_element : ((x : S) → ℕ → A → (y : S) × KeepsPlaces (s.stored x) (s.stored y)) → ArrayBase S D T A P R L M s d n r t → List ℕ → A → ArrayBase S D T A P R L M s d n r t
-  with_element set a i x = with_storage a (set a.storage (nat_abs (place_of a.layout.first (t.strides_of a.layout.strides) i)) x)
+  unfoldable pub array_with_element : ((x : S) → ℕ → A → (y : S) × KeepsPlaces (s.stored x) (s.stored y)) → ArrayBase S D T A P R L M s d n r t → List ℕ → A → ArrayBase S D T A P R L M s d n r t
+  array_with_element set a i x = with_storage a (set a.storage (nat_abs (place_of a.layout.offset (t.strides_of a.layout.strides) i)) x)
 
   -- new is old with x at an index: every other element, and every place that no index names, is as it was
   abbrev pub IsWrittenAt : (S → Option (GName × List Bool)) → ArrayBase S D T A P R L M s d n r t → List ℕ → A → ArrayBase S D T A P R L M s d n r t → Type 0
@@ -51,8 +51,8 @@ module _ (S A D P R L M : RattleType) (s : data_trait.Ghosts S.Denot A.Denot) (d
 
   -- the array ends with what is left behind the reference at the index
   abbrev pub lends_element : MutBor array_row.Denot → List ℕ → MutBor A.Denot → Fml
-  lends_element a i x = Lends array_row A a x (with_element s.with_element a.now i)
+  lends_element a i x = Lends array_row A a x (array_with_element s.with_element a.now i)
 
   -- the same where there is a reference, and else the array stays as it is
   abbrev pub may_lend_element : MutBor array_row.Denot → List ℕ → Option (MutBor A.Denot) → Fml
-  may_lend_element a i x = LendsIf array_row A a x (with_element s.with_element a.now i) a.now
+  may_lend_element a i x = LendsIf array_row A a x (array_with_element s.with_element a.now i) a.now

@@ -14,8 +14,8 @@ abbrev pub with_element_at : {A : Type 0} → (List ℕ → Option A) → List �
 with_element_at at index x i = if is_index i index then Some x else at i
 
 -- the elements at two indexes have changed places
-abbrev pub with_swapped : {A : Type 0} → (List ℕ → Option A) → List ℕ → List ℕ → List ℕ → Option A
-with_swapped at a b i = if is_index i b then at a else (if is_index i a then at b else at i)
+abbrev pub with_swapped_at : {A : Type 0} → (List ℕ → Option A) → List ℕ → List ℕ → List ℕ → Option A
+with_swapped_at at a b i = if is_index i b then at a else (if is_index i a then at b else at i)
 
 -- every place that no index names holds what it held
 abbrev pub OthersStay : {A : Type 0} → (List ℕ → Option ℕ) → (ℕ → Option A) → (ℕ → Option A) → Type 0

@@ -6,13 +6,13 @@ use Rattle.nd_array_core.specs.Meaning.{inside}
 use Rattle.nd_array_core.specs.Places.{HoldsAll, stored_at, place_number}
 
 -- the storage holds the elements that the layout names, each under one index
-pub record IsHeld {A : Type 0} (stored : ℕ → Option A) (first : ℕ) (lengths : List ℕ) (strides : List ℤ) : Type 0 where
-  pub holds : HoldsAll stored first lengths strides
+pub record HoldsEachOnce {A : Type 0} (stored : ℕ → Option A) (offset : ℕ) (lengths : List ℕ) (strides : List ℤ) : Type 0 where
+  pub holds : HoldsAll stored offset lengths strides
   pub separated : 0 < size_of lengths → IsSeparated lengths strides
 
 -- an array of this shape, with these strides, elements and places, shows what the layout names of the storage
-pub record IsSeenUnder {A : Type 0} (stored : ℕ → Option A) (first : ℕ) (lengths : List ℕ) (strides : List ℤ) (shape : List ℕ) (shape_strides : List ℤ) (at : List ℕ → Option A) (place : List ℕ → Option ℕ) : Type 0 where
+pub record IsViewUnder {A : Type 0} (stored : ℕ → Option A) (offset : ℕ) (lengths : List ℕ) (strides : List ℤ) (shape : List ℕ) (shape_strides : List ℤ) (at : List ℕ → Option A) (place : List ℕ → Option ℕ) : Type 0 where
   pub shape_is : shape ≡ lengths
   pub strides_are : shape_strides ≡ strides
-  pub elements : (i : List ℕ) → at i ≡ inside lengths i (stored_at stored (place_of first strides i))
-  pub places : (i : List ℕ) → place i ≡ inside lengths i (place_number (place_of first strides i))
+  pub elements : (i : List ℕ) → at i ≡ inside lengths i (stored_at stored (place_of offset strides i))
+  pub places : (i : List ℕ) → place i ≡ inside lengths i (place_number (place_of offset strides i))

@@ -12,8 +12,8 @@ use Rattle.nd_array_core.specs.declared.base.storage.Data as data_trait
 use Rattle.nd_array_core.specs.declared.base.array.ArrayBase.{ArrayBase}
 use Rattle.nd_shape_and_slice.specs.Maps.{lower_shape, upper_shape, upper_index, indexed_shape, indexed_index, diagonal_length, diagonal_index}
 use Rattle.nd_array_core.specs.Meaning.{element_at, place_at}
-use Rattle.nd_array_core.specs.Placed.{Placed}
-use Rattle.nd_array_core.specs.scoped.Tasks.{IsSeenThrough, OthersKeep, OthersKeepTwo}
+use Rattle.nd_array_core.specs.PlacedArray.{PlacedArray}
+use Rattle.nd_array_core.specs.scoped.Tasks.{IsViewThrough, OthersKeep, OthersKeepTwo}
 
 abbrev pub Part : Type 0
 Part = List ℕ × (List ℕ → List ℕ)
@@ -43,18 +43,18 @@ upper_part shape axis k = (upper_shape shape axis k, upper_index axis k)
 
 module _ {S D A T P R L M : Type 0} {s : data_trait.Ghosts S A} {d : dimension.Ghosts D P R L M} {n : axis_count.Ghosts D} {r : stride_list.Ghosts R} {t : stride_list.Ghosts T} where
   -- v is a view of the part: its shape, and at each index the place and the element of the index that it names
-  abbrev pub IsViewOfPart : ArrayBase S D T A P R L M s d n r t → Part → Placed A → Type 0
-  IsViewOfPart a part v = IsSeenThrough part.0 part.1 (place_at a) (element_at a) v
+  abbrev pub IsViewOfPart : ArrayBase S D T A P R L M s d n r t → Part → PlacedArray A → Type 0
+  IsViewOfPart a part v = IsViewThrough part.0 part.1 (place_at a) (element_at a) v
 
   -- what a task asks holds of a view of the part
-  abbrev pub AsksOfPart : (Placed A → Type 0) → ArrayBase S D T A P R L M s d n r t → Part → Type 0
-  AsksOfPart asks a part = (v : Placed A) → IsViewOfPart a part v → asks v
+  abbrev pub AsksOfPart : (PlacedArray A → Type 0) → ArrayBase S D T A P R L M s d n r t → Part → Type 0
+  AsksOfPart asks a part = (v : PlacedArray A) → IsViewOfPart a part v → asks v
 
   -- it is done with a view of the part, and the new array shows there what it left
-  abbrev pub IsDoneOnPart : (Placed A → Placed A → Type 0) → ArrayBase S D T A P R L M s d n r t → ArrayBase S D T A P R L M s d n r t → Part → Type 0
+  abbrev pub IsDoneOnPart : (PlacedArray A → PlacedArray A → Type 0) → ArrayBase S D T A P R L M s d n r t → ArrayBase S D T A P R L M s d n r t → Part → Type 0
   IsDoneOnPart done old new part =
-      (v : Placed A)
-      × (w : Placed A)
+      (v : PlacedArray A)
+      × (w : PlacedArray A)
       × IsViewOfPart old part v
       × IsViewOfPart new part w
       × done v w
@@ -64,16 +64,16 @@ module _ {S D A T P R L M : Type 0} {s : data_trait.Ghosts S A} {d : dimension.G
   KeepsBut old new part = OthersKeep part.0 part.1 (element_at old) (element_at new)
 
   -- what a task asks holds of views of both parts
-  abbrev pub AsksOfParts : (Placed A → Placed A → Type 0) → ArrayBase S D T A P R L M s d n r t → Part → Part → Type 0
-  AsksOfParts asks a one two = (v0 v1 : Placed A) → IsViewOfPart a one v0 → IsViewOfPart a two v1 → asks v0 v1
+  abbrev pub AsksOfParts : (PlacedArray A → PlacedArray A → Type 0) → ArrayBase S D T A P R L M s d n r t → Part → Part → Type 0
+  AsksOfParts asks a one two = (v0 v1 : PlacedArray A) → IsViewOfPart a one v0 → IsViewOfPart a two v1 → asks v0 v1
 
   -- it is done with views of both parts, and the new array shows there what it left
-  abbrev pub IsDoneOnParts : (Placed A → Placed A → Placed A → Placed A → Type 0) → ArrayBase S D T A P R L M s d n r t → ArrayBase S D T A P R L M s d n r t → Part → Part → Type 0
+  abbrev pub IsDoneOnParts : (PlacedArray A → PlacedArray A → PlacedArray A → PlacedArray A → Type 0) → ArrayBase S D T A P R L M s d n r t → ArrayBase S D T A P R L M s d n r t → Part → Part → Type 0
   IsDoneOnParts done old new one two =
-      (v0 : Placed A)
-      × (v1 : Placed A)
-      × (w0 : Placed A)
-      × (w1 : Placed A)
+      (v0 : PlacedArray A)
+      × (v1 : PlacedArray A)
+      × (w0 : PlacedArray A)
+      × (w1 : PlacedArray A)
       × IsViewOfPart old one v0
       × IsViewOfPart old two v1
       × done v0 v1 w0 w1

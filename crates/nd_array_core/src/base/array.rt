@@ -20,7 +20,7 @@ where
 {
     pub(crate) storage: S,
     pub(crate) layout: Layout<D, T>,
-    ghost inside: { (i : List ℕ) → in_box (D.lengths layout.dim) i ≡ true → names_place (S.stored storage) (place_of layout.first (T.strides_of layout.strides) i) ≡ true },
+    ghost inside: { (i : List ℕ) → in_box (D.lengths layout.dim) i ≡ true → names_place (S.stored storage) (place_of layout.offset (T.strides_of layout.strides) i) ≡ true },
     ghost separated: { S.exclusive ≡ true → 0 < size_of (D.lengths layout.dim) → IsSeparated (D.lengths layout.dim) (T.strides_of layout.strides) },
 }
 

@@ -6,7 +6,7 @@ ghost use Rattle.nd_shape_and_slice.specs.Shape.{size_of, HasCheckedSize};
 ghost use Rattle.nd_shape_and_slice.specs.Place.{place_of, IsSeparated};
 ghost use Rattle.nd_layout.specs.Strides.{reach_down};
 ghost use Rattle.nd_layout.specs.Ranks.{rank_in};
-ghost use Rattle.nd_layout.specs.Given.{given_place, ordered_strides, given_strides};
+ghost use Rattle.nd_layout.specs.GivenStrides.{given_place, ordered_strides, given_strides};
 ghost use Rattle.nd_layout.specs.Refusals.{vec_refusal, slice_refusal, slice_mut_refusal, elements_asked};
 ghost use Rattle.nd_array_core.specs.Meaning.{shape_of, element_at, layout_strides, inside};
 ghost use Rattle.nd_array_core.specs.Places.{stored_at};
@@ -14,7 +14,7 @@ ghost use Rattle.nd_layout.specs.Steps.{IsValid};
 
 use crate::base::array::{Array, ArrayBase, ArrayView, ArrayViewMut};
 use crate::base::storage::{Data, OwnedRepr, ViewMutRepr, ViewRepr};
-use nd_layout::{Layout, first_in_slice, first_in_vec, size_in_slice, size_in_vec};
+use nd_layout::{Layout, offset_in_slice, offset_in_vec, size_in_slice, size_in_vec};
 use nd_shape_and_slice::{Dimension, IntoStrideShape, Order, ShapeError, StrideList};
 
 /// The elements of a storage under a shape, in an order.
@@ -34,30 +34,29 @@ pub(crate) fn in_order<S: Data, D: Dimension>(storage: S, dim: D, order: Order) 
 /// The elements of a storage under a shape and strides of the caller's.
 fn with_strides<S: Data, D: Dimension>(
     storage: S,
-    first: usize,
+    offset: usize,
     dim: D,
     strides: D::Strides,
 ) -> ArrayBase<S, D>
-    requires valid { IsValid first (D.lengths dim) (D.Strides.strides_of strides) }
-    requires from { first ≡ reach_down (D.lengths dim) (D.Strides.strides_of strides) }
+    requires valid { IsValid offset (D.lengths dim) (D.Strides.strides_of strides) }
+    requires from { offset ≡ reach_down (D.lengths dim) (D.Strides.strides_of strides) }
     requires holds { (place : ℕ) → place < elements_asked (D.lengths dim) (D.Strides.strides_of strides) → IsSome (S.stored storage place) }
     requires apart { S.exclusive ≡ true → 0 < size_of (D.lengths dim) → IsSeparated (D.lengths dim) (D.Strides.strides_of strides) }
     ensures shape { shape_of result ≡ D.lengths dim }
     ensures strides { layout_strides result ≡ D.Strides.strides_of strides }
-    ensures elements { (i : List ℕ) → element_at result i ≡ inside (D.lengths dim) i (stored_at (S.stored storage) (place_of first (D.Strides.strides_of strides) i)) }
+    ensures elements { (i : List ℕ) → element_at result i ≡ inside (D.lengths dim) i (stored_at (S.stored storage) (place_of offset (D.Strides.strides_of strides) i)) }
 {
     ArrayBase {
         storage,
-        layout: Layout::strided(first, dim, strides),
+        layout: Layout::strided(offset, dim, strides),
     }
 }
 
 impl<A: Drop, D: Dimension> Array<A, D> {
-    /// The array of a shape and the elements of the vector: in row-major order, after `.f()` in column-major order,
-    /// or by the strides after `.strides(..)`. Overflow where the shape has no checked size, or where its places would
-    /// lie further apart than `isize::MAX`; OutOfBounds where the vector is too short; IncompatibleShape where it
-    /// is longer and no strides are given; Unsupported where two indexes could share an element. ndarray's
-    /// `from_shape_vec`.
+    /// An array of the vector's elements under a shape: in row-major order, after `.f()` in column-major order, or by
+    /// the strides after `.strides(..)`. Overflow where the shape has no checked size, or where its places would lie
+    /// further apart than `isize::MAX`; OutOfBounds where the vector is too short; IncompatibleShape where it is longer
+    /// and no strides are given; Unsupported where two indexes could share an element. ndarray's `from_shape_vec`.
     pub fn from_shape_vec<Sh: IntoStrideShape<Dim = D>>(
         shape: Sh,
         v: Vec<A>,
@@ -72,8 +71,8 @@ impl<A: Drop, D: Dimension> Array<A, D> {
         let dim = *given.raw_dim();
         match given.custom_strides() {
             Some(strides) => {
-                let first = first_in_vec(dim.slice(), strides.slice(), v.len())?;
-                Ok(with_strides(OwnedRepr { items: v }, first, dim, strides))
+                let offset = offset_in_vec(dim.slice(), strides.slice(), v.len())?;
+                Ok(with_strides(OwnedRepr { items: v }, offset, dim, strides))
             }
             None => {
                 size_in_vec(dim.slice(), v.len())?;
@@ -84,8 +83,8 @@ impl<A: Drop, D: Dimension> Array<A, D> {
 }
 
 impl<'a, A, D: Dimension> ArrayView<'a, A, D> {
-    /// The view of a shape and the elements of the slice: in row-major order, after `.f()` in column-major order, or by
-    /// the strides after `.strides(..)`, where several indexes may share an element. Overflow where the shape has no
+    /// A view of the slice's elements under a shape: in row-major order, after `.f()` in column-major order, or by the
+    /// strides after `.strides(..)`, where several indexes may share an element. Overflow where the shape has no
     /// checked size, or where its places would lie further apart than `isize::MAX`; OutOfBounds where the slice is too
     /// short; it may be longer. ndarray's `ArrayView::from_shape`.
     pub fn from_shape<Sh: IntoStrideShape<Dim = D>>(
@@ -102,8 +101,8 @@ impl<'a, A, D: Dimension> ArrayView<'a, A, D> {
         let dim = *given.raw_dim();
         match given.custom_strides() {
             Some(strides) => {
-                let first = first_in_slice(dim.slice(), strides.slice(), xs.len())?;
-                Ok(with_strides(ViewRepr::of_slice(xs), first, dim, strides))
+                let offset = offset_in_slice(dim.slice(), strides.slice(), xs.len())?;
+                Ok(with_strides(ViewRepr::of_slice(xs), offset, dim, strides))
             }
             None => {
                 size_in_slice(dim.slice(), xs.len())?;
@@ -114,10 +113,10 @@ impl<'a, A, D: Dimension> ArrayView<'a, A, D> {
 }
 
 impl<'a, A, D: Dimension> ArrayViewMut<'a, A, D> {
-    /// The view of a shape and the elements of the slice, to be written: in row-major order, after `.f()` in
-    /// column-major order, or by the strides after `.strides(..)`. Overflow where the shape has no checked size, or
-    /// where its places would lie further apart than `isize::MAX`; OutOfBounds where the slice is too short (it may be
-    /// longer); Unsupported where two indexes could share an element. ndarray's `ArrayViewMut::from_shape`.
+    /// A view of the slice's elements under a shape, to be written: in row-major order, after `.f()` in column-major
+    /// order, or by the strides after `.strides(..)`. Overflow where the shape has no checked size, or where its places
+    /// would lie further apart than `isize::MAX`; OutOfBounds where the slice is too short (it may be longer);
+    /// Unsupported where two indexes could share an element. ndarray's `ArrayViewMut::from_shape`.
     pub fn from_shape<Sh: IntoStrideShape<Dim = D>>(
         shape: Sh,
         xs: &'a mut [A],
@@ -132,8 +131,8 @@ impl<'a, A, D: Dimension> ArrayViewMut<'a, A, D> {
         let dim = *given.raw_dim();
         match given.custom_strides() {
             Some(strides) => {
-                let first = first_in_vec(dim.slice(), strides.slice(), xs.len())?;
-                Ok(with_strides(ViewMutRepr::of_slice_mut(xs), first, dim, strides))
+                let offset = offset_in_vec(dim.slice(), strides.slice(), xs.len())?;
+                Ok(with_strides(ViewMutRepr::of_slice_mut(xs), offset, dim, strides))
             }
             None => {
                 size_in_slice(dim.slice(), xs.len())?;

@@ -9,12 +9,12 @@ ghost use base.Fml.{GName};
 ghost use Rattle.nd_region.specs.Scoped.{TakesPart, GivesPartBack, IsPartReturned};
 ghost use Rattle.nd_region.specs.Shared.{shared_stored};
 ghost use Rattle.nd_region.specs.Places.{names, names_not};
-ghost use Rattle.nd_region.specs.Region.{stored as region_stored, borrow_of, with_element as region_with, with_items as region_items, HasPlaces, IsAsLong};
+ghost use Rattle.nd_region.specs.Region.{region_stored, borrow_of, with_element as region_with, with_items as region_items, HasPlaces, IsAsLong};
 ghost use Rattle.nd_array_core.specs.Places.{HoldsAll, kept_at, written_at, swapped_at};
 ghost use Rattle.nd_array_core.specs.scoped.Scoped.{TakesNamed, GivesNamedBack, IsNamedReturned};
 ghost use Rattle.nd_array_core.specs.base.Storages.{shown_by};
 ghost use Rattle.nd_array_core.specs.base.ElementMut.{element_follows, KeepsPlaces, item_kept, item_written, place_kept, place_written};
-ghost use Rattle.nd_array_core.specs.base.Refilled.{overwritten, overwritten_itself, overwritten_again, places_there, places_kept, items_there, items_kept, items_itself, items_again};
+ghost use Rattle.nd_array_core.specs.base.NewElements.{overwritten_items, overwritten_itself, overwritten_again, places_there, places_kept, items_there, items_kept, items_itself, items_again};
 
 use nd_layout::Layout;
 use nd_region::{Region, SharedRegion, with_region};
@@ -30,16 +30,16 @@ pub trait Data {
 
     /// The element at a place, if there is one.
     ghost stored: { Self → ℕ → Option Self.Elem };
-    /// Whether an array over it may name an element by one index alone.
+    /// Whether each element of an array over it must have one index alone.
     ghost exclusive: { Bool };
-    /// What it is once the element at a place is another, or itself where it isn't to be written. It holds something
-    /// wherever it did.
+    /// The storage with another element at a place; a storage that can't be written stays as it is. It holds something
+    /// where it did before.
     ghost with_element: { (s : Self) → ℕ → Self.Elem → (t : Self) × KeepsPlaces (stored s) (stored t) };
 
-    /// The elements as they lie, those at its places among them.
+    /// All elements in the order in which they lie, also those that no index names.
     ghost items: { Self → List Self.Elem };
-    /// What it is once these elements took the place of its own, as far as they may be written. It holds something
-    /// wherever it did.
+    /// The storage with these elements in place of its own, where it may be written. It holds something where it did
+    /// before.
     ghost refilled: { (s : Self) → List Self.Elem → (t : Self) × KeepsPlaces (stored s) (stored t) };
 
     /// The element at a place.
@@ -159,7 +159,7 @@ impl<'a, A> Data for ViewRepr<'a, A> {
 #[derive(Drop)]
 pub struct RegionRepr<R> {
     pub(crate) region: R,
-    /// The name under which an owned array that lends the region follows it. It has no bytes.
+    /// Ties the region to the array that lends it: the array's contract follows this name. It has no bytes.
     pub(crate) tie: Snapshot<usize>,
 }
 
@@ -200,16 +200,16 @@ impl<'a, A> ViewMutRepr<'a, A> {
         }
     }
 
-    /// Moves the places that a layout names out of this storage, into one of exactly these under their old numbers.
+    /// Moves the places that a layout names into a storage of their own. They keep their numbers.
     pub(crate) fn split<D: Dimension, T: StrideList>(&mut self, layout: &Layout<D, T>) -> Self
-        requires { HoldsAll (region_stored self.old.region) layout.now.first (D.lengths layout.now.dim) (T.strides_of layout.now.strides) }
-        ensures taken { (place : ℕ) → region_stored result.region place ≡ kept_at (names layout.now.first (D.lengths layout.now.dim) (T.strides_of layout.now.strides)) (region_stored self.old.region) place }
-        ensures left { (place : ℕ) → region_stored self.new.region place ≡ kept_at (names_not layout.now.first (D.lengths layout.now.dim) (T.strides_of layout.now.strides)) (region_stored self.old.region) place }
+        requires { HoldsAll (region_stored self.old.region) layout.now.offset (D.lengths layout.now.dim) (T.strides_of layout.now.strides) }
+        ensures taken { (place : ℕ) → region_stored result.region place ≡ kept_at (names layout.now.offset (D.lengths layout.now.dim) (T.strides_of layout.now.strides)) (region_stored self.old.region) place }
+        ensures left { (place : ℕ) → region_stored self.new.region place ≡ kept_at (names_not layout.now.offset (D.lengths layout.now.dim) (T.strides_of layout.now.strides)) (region_stored self.old.region) place }
     {
         RegionRepr {
             region: self
                 .region
-                .split(layout.first, layout.dim.slice(), layout.strides.slice()),
+                .split(layout.offset, layout.dim.slice(), layout.strides.slice()),
             tie: Snapshot::of(&0),
         }
     }
@@ -237,7 +237,7 @@ impl<'a, A> Data for ViewMutRepr<'a, A> {
 
     ghost items = { λ s. s.region.items };
 
-    ghost refilled = { λ s ws. (record { region = region_items s.region (overwritten s.region.items ws); tie = s.tie }, places_kept s.region.items ws s.region.held) };
+    ghost refilled = { λ s ws. (record { region = region_items s.region (overwritten_items s.region.items ws); tie = s.tie }, places_kept s.region.items ws s.region.held) };
 
     fn element(&self, place: usize) -> &A {
         self.region.get(place)
@@ -252,10 +252,10 @@ impl<'a, A> Data for ViewMutRepr<'a, A> {
 
 /// A storage whose elements may be written. ndarray's `DataMut`.
 pub trait DataMut: Data {
-    /// Which borrow the elements are of: what stays while they change.
+    /// The borrow that the elements belong to. It stays the same while they change.
     ghost borrow: { Self → Option (GName × List Bool) };
 
-    /// Writes the element at a place, and gives back the one that it held.
+    /// Writes the element at a place, and returns the old one.
     fn replace(&mut self, place: usize, value: Self::Elem) -> Self::Elem
         requires { IsSome (Self.stored self.old place) }
         ensures old { Self.stored self.old place ≡ Some result }
@@ -268,7 +268,7 @@ pub trait DataMut: Data {
         ensures* writes_back { sem 𝓛 (element_follows Self.row Self.Elem.row self.entry result (λ x. (Self.with_element self.old place x).0)) }
         ensures value { Self.stored self.old place ≡ Some result.now };
 
-    /// All its places, for a shorter time.
+    /// Lends all places, for a shorter time.
     fn lend(&mut self) -> Region<'_, Self::Elem>
         ensures* writes_back { sem 𝓛 (follows Self.row (Array Self.Elem.row 0) self.entry.ghost_name result.name (λ ws. (Self.refilled self.old ws).0)) }
         ensures places { (place : ℕ) → region_stored result place ≡ Self.stored self.old place };
@@ -280,43 +280,43 @@ pub trait DataMut: Data {
         ensures new { (r : ℕ) → Self.stored self.new r ≡ swapped_at (Self.stored self.old) p q r }
         ensures borrow { borrow self.new ≡ borrow self.old };
 
-    /// Hands f the places that the layout names by its first place, lengths and strides, for the length of the
-    /// call. Each of them then holds what the region has there which f gives back, and every other place what it
-    /// held. That f gives the same borrow back is the condition `returns`.
+    /// Lends f the places that the layout names by its offset, lengths and strides, for the length of the call.
+    /// Afterwards each of them holds what f left there, and every other place what it held before. That f gives the
+    /// same borrow back is the condition `returns`.
     fn with_part<R, F: for<'b> FnOnce(Region<'b, Self::Elem>) -> (Region<'b, Self::Elem>, R)>(
         &mut self,
-        first: usize,
+        offset: usize,
         lengths: &[usize],
         strides: &[isize],
         f: F,
     ) -> R
         requires as_many { length lengths.now ≡ length strides.now }
-        requires holds { HoldsAll (Self.stored self.old) first lengths.now strides.now }
-        requires callable { TakesNamed (F.pre f) (Self.stored self.old) first lengths.now strides.now }
-        requires returns { GivesNamedBack (F.post f) (Self.stored self.old) first lengths.now strides.now }
-        ensures part { IsNamedReturned (F.post f) (Self.stored self.old) (Self.stored self.new) first lengths.now strides.now result }
+        requires holds { HoldsAll (Self.stored self.old) offset lengths.now strides.now }
+        requires callable { TakesNamed (F.pre f) (Self.stored self.old) offset lengths.now strides.now }
+        requires returns { GivesNamedBack (F.post f) (Self.stored self.old) offset lengths.now strides.now }
+        ensures part { IsNamedReturned (F.post f) (Self.stored self.old) (Self.stored self.new) offset lengths.now strides.now result }
         ensures there { (p : ℕ) → is_some (Self.stored self.new p) ≡ is_some (Self.stored self.old p) }
         ensures borrow { borrow self.new ≡ borrow self.old };
 
-    /// An array over it names each element by one index alone.
+    /// Each element has one index alone.
     ghost alone: { Self.Data.exclusive ≡ true };
 
-    /// A write of an element leaves the others.
+    /// A write changes no other element.
     ghost element_written: { (s : Self) (place : ℕ) (x : Self.Elem) (p : ℕ) → IsSome (Self.Data.stored s place) → Self.Data.stored (Self.Data.with_element s place x).0 p ≡ written_at (Self.Data.stored s) place x p };
 
-    /// And it leaves the borrow.
+    /// A write keeps the borrow.
     ghost element_borrow: { (s : Self) (place : ℕ) (x : Self.Elem) → borrow (Self.Data.with_element s place x).0 ≡ borrow s };
 
-    /// Its own elements in their place leave it as it is.
+    /// Refilled with its own elements, a storage is unchanged.
     ghost refilled_itself: { (s : Self) → (Self.Data.refilled s (Self.Data.items s)).0 ≡ s };
 
-    /// So do those that were put there last.
+    /// Refilled twice, it holds the last elements.
     ghost refilled_again: { (s : Self) (ws : List Self.Elem) → (Self.Data.refilled s (Self.Data.items (Self.Data.refilled s ws).0)).0 ≡ (Self.Data.refilled s ws).0 };
 
-    /// It holds something just where it did.
+    /// A refilled storage holds something exactly where it did before.
     ghost refilled_there: { (s : Self) (ws : List Self.Elem) (p : ℕ) → is_some (Self.Data.stored (Self.Data.refilled s ws).0 p) ≡ is_some (Self.Data.stored s p) };
 
-    /// The borrow stays.
+    /// A refill keeps the borrow.
     ghost refilled_borrow: { (s : Self) (ws : List Self.Elem) → borrow (Self.Data.refilled s ws).0 ≡ borrow s };
 }
 
@@ -355,12 +355,12 @@ impl<A> DataMut for OwnedRepr<A> {
 
     fn with_part<R, F: for<'b> FnOnce(Region<'b, A>) -> (Region<'b, A>, R)>(
         &mut self,
-        first: usize,
+        offset: usize,
         lengths: &[usize],
         strides: &[isize],
         f: F,
     ) -> R {
-        part_of_slice(self.items.as_mut_slice(), first, lengths, strides, f)
+        part_of_slice(self.items.as_mut_slice(), offset, lengths, strides, f)
     }
 }
 
@@ -400,40 +400,40 @@ impl<'a, A> DataMut for ViewMutRepr<'a, A> {
 
     fn with_part<R, F: for<'b> FnOnce(Region<'b, A>) -> (Region<'b, A>, R)>(
         &mut self,
-        first: usize,
+        offset: usize,
         lengths: &[usize],
         strides: &[isize],
         f: F,
     ) -> R {
-        self.region.with_part(first, lengths, strides, f)
+        self.region.with_part(offset, lengths, strides, f)
     }
 }
 
-/// A part of a slice as a region, for the length of the call.
+/// Lends a part of a slice as a region, for the length of the call.
 fn part_of_slice<A, R, F: for<'b> FnOnce(Region<'b, A>) -> (Region<'b, A>, R)>(
     items: &mut [A],
-    first: usize,
+    offset: usize,
     lengths: &[usize],
     strides: &[isize],
     f: F,
 ) -> R
     requires as_many { length lengths.now ≡ length strides.now }
-    requires holds { HoldsAll (slice_get items.old) first lengths.now strides.now }
-    requires callable { TakesNamed (F.pre f) (slice_get items.old) first lengths.now strides.now }
-    requires returns { GivesNamedBack (F.post f) (slice_get items.old) first lengths.now strides.now }
-    ensures part { IsNamedReturned (F.post f) (slice_get items.old) (slice_get items.new) first lengths.now strides.now result }
+    requires holds { HoldsAll (slice_get items.old) offset lengths.now strides.now }
+    requires callable { TakesNamed (F.pre f) (slice_get items.old) offset lengths.now strides.now }
+    requires returns { GivesNamedBack (F.post f) (slice_get items.old) offset lengths.now strides.now }
+    ensures part { IsNamedReturned (F.post f) (slice_get items.old) (slice_get items.new) offset lengths.now strides.now result }
     ensures long { length items.new ≡ length items.old }
 {
     with_region(
         items,
         |region|
-            requires { (length lengths.now ≡ length strides.now) × HasPlaces region first lengths.now strides.now × TakesPart (F.pre f) (names first lengths.now strides.now) region × GivesPartBack (F.post f) (names first lengths.now strides.now) region }
-            ensures part { IsPartReturned (F.post f) (names first lengths.entry.now strides.entry.now) region.entry result.0 result.1 }
+            requires { (length lengths.now ≡ length strides.now) × HasPlaces region offset lengths.now strides.now × TakesPart (F.pre f) (names offset lengths.now strides.now) region × GivesPartBack (F.post f) (names offset lengths.now strides.now) region }
+            ensures part { IsPartReturned (F.post f) (names offset lengths.entry.now strides.entry.now) region.entry result.0 result.1 }
             ensures same { borrow_of result.0 ≡ borrow_of region.entry }
             ensures long { IsAsLong region.entry result.0 }
         {
             let mut region = region;
-            let answer = region.with_part(first, lengths, strides, f);
+            let answer = region.with_part(offset, lengths, strides, f);
             (region, answer)
         },
     )

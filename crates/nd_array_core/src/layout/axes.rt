@@ -6,10 +6,10 @@ ghost use Rattle.std.specs.Prelude.{◌↔◌, ◌≡◌, ◌<◌, ◌≤◌, �
 ghost use Rattle.std.specs.Borrow.{sem};
 ghost use Rattle.std.specs.List.{remove, insert};
 ghost use Rattle.nd_shape_and_slice.specs.declared.errors.ErrorKind.{ErrorKind};
-ghost use Rattle.nd_shape_and_slice.specs.Axes.{HasEachAxis, permuted, unpermuted};
+ghost use Rattle.nd_shape_and_slice.specs.Axes.{HasEachAxis, permuted_list, unpermuted_list};
 ghost use Rattle.nd_shape_and_slice.specs.Descriptions.{axes_from};
-ghost use Rattle.nd_shape_and_slice.specs.Listed.{axes_left};
-ghost use Rattle.nd_shape_and_slice.specs.Maps.{inverted_index, collapsed_shape, collapsed_index, indexed_shape, indexed_index, widened_shape, widened_index, diagonal_length, diagonal_index};
+ghost use Rattle.nd_shape_and_slice.specs.AxesLeft.{axes_left};
+ghost use Rattle.nd_shape_and_slice.specs.Maps.{inverted_index, collapsed_shape, collapsed_index, indexed_shape, indexed_index, inserted_shape, inserted_index, diagonal_length, diagonal_index};
 ghost use Rattle.nd_shape_and_slice.specs.Squeeze.{squeezed_shape, squeezed_index};
 ghost use Rattle.nd_layout.specs.Strides.{permuted_strides, inverted_strides, diagonal_stride};
 ghost use Rattle.nd_array_core.specs.Meaning.{shape_of, element_at, storage_of, place_at, layout_strides, inside};
@@ -33,11 +33,11 @@ impl<S: Data, D: Dimension> ArrayBase<S, D> {
     /// (`axes_fit`). ndarray's `permute_axes`.
     pub fn permute_axes<I: IntoDimension<Dim = D>>(&mut self, axes: I)
         requires { HasEachAxis (I.lengths_given axes) (length (shape_of self.old)) }
-        ensures shape { shape_of self.new ≡ permuted (I.lengths_given axes) (shape_of self.old) }
+        ensures shape { shape_of self.new ≡ permuted_list (I.lengths_given axes) (shape_of self.old) }
         ensures strides { layout_strides self.new ≡ permuted_strides (I.lengths_given axes) (layout_strides self.old) }
-        ensures elements { (i : List ℕ) → element_at self.new i ≡ inside (shape_of self.new) i (element_at self.old (unpermuted (I.lengths_given axes) i)) }
+        ensures elements { (i : List ℕ) → element_at self.new i ≡ inside (shape_of self.new) i (element_at self.old (unpermuted_list (I.lengths_given axes) i)) }
         ensures storage { storage_of self.new ≡ storage_of self.old }
-        ensures places { (i : List ℕ) → place_at self.new i ≡ inside (shape_of self.new) i (place_at self.old (unpermuted (I.lengths_given axes) i)) }
+        ensures places { (i : List ℕ) → place_at self.new i ≡ inside (shape_of self.new) i (place_at self.old (unpermuted_list (I.lengths_given axes) i)) }
     {
         let order = axes.into_dimension();
         self.layout.permute_axes(order.slice());
@@ -47,18 +47,18 @@ impl<S: Data, D: Dimension> ArrayBase<S, D> {
     /// list (`axes_fit`). ndarray's `permuted_axes`.
     pub fn permuted_axes<I: IntoDimension<Dim = D>>(self, axes: I) -> Self
         requires { HasEachAxis (I.lengths_given axes) (length (shape_of self)) }
-        ensures shape { shape_of result ≡ permuted (I.lengths_given axes) (shape_of self) }
+        ensures shape { shape_of result ≡ permuted_list (I.lengths_given axes) (shape_of self) }
         ensures strides { layout_strides result ≡ permuted_strides (I.lengths_given axes) (layout_strides self) }
-        ensures elements { (i : List ℕ) → element_at result i ≡ inside (shape_of result) i (element_at self (unpermuted (I.lengths_given axes) i)) }
+        ensures elements { (i : List ℕ) → element_at result i ≡ inside (shape_of result) i (element_at self (unpermuted_list (I.lengths_given axes) i)) }
         ensures storage { storage_of result ≡ storage_of self }
-        ensures places { (i : List ℕ) → place_at result i ≡ inside (shape_of result) i (place_at self (unpermuted (I.lengths_given axes) i)) }
+        ensures places { (i : List ℕ) → place_at result i ≡ inside (shape_of result) i (place_at self (unpermuted_list (I.lengths_given axes) i)) }
     {
         let mut array = self;
         array.permute_axes(axes);
         array
     }
 
-    /// Turns an axis below `ndim` round: its coordinates count from the far end. ndarray's `invert_axis`.
+    /// Inverts an axis below `ndim`: its coordinates count from the other end. ndarray's `invert_axis`.
     pub fn invert_axis(&mut self, axis: Axis)
         requires { axis.0 < length (shape_of self.old) }
         ensures shape { shape_of self.new ≡ shape_of self.old }
@@ -275,11 +275,11 @@ where
     pub fn insert_axis(self, axis: Axis) -> ArrayBase<S, D::Larger>
         requires place { axis.0 ≤ length (shape_of self) }
         requires room { D.Larger.has_axes (length (shape_of self) + 1) ≡ true }
-        ensures shape { shape_of result ≡ widened_shape (shape_of self) axis.0 }
+        ensures shape { shape_of result ≡ inserted_shape (shape_of self) axis.0 }
         ensures strides { layout_strides result ≡ insert (layout_strides self) axis.0 (pos 1) }
-        ensures elements { (i : List ℕ) → element_at result i ≡ inside (shape_of result) i (element_at self (widened_index axis.0 i)) }
+        ensures elements { (i : List ℕ) → element_at result i ≡ inside (shape_of result) i (element_at self (inserted_index axis.0 i)) }
         ensures storage { storage_of result ≡ storage_of self }
-        ensures places { (i : List ℕ) → place_at result i ≡ inside (shape_of result) i (place_at self (widened_index axis.0 i)) }
+        ensures places { (i : List ℕ) → place_at result i ≡ inside (shape_of result) i (place_at self (inserted_index axis.0 i)) }
     {
         let layout = self.layout.insert_axis(axis.0);
         ArrayBase {
@@ -310,11 +310,11 @@ impl<S: Data> ArrayBase<S, IxDyn> {
     pub fn insert_axis_inplace(&mut self, axis: Axis)
         requires place { axis.0 ≤ length (shape_of self.old) }
         requires room { length (shape_of self.old) < 32 }
-        ensures shape { shape_of self.new ≡ widened_shape (shape_of self.old) axis.0 }
+        ensures shape { shape_of self.new ≡ inserted_shape (shape_of self.old) axis.0 }
         ensures strides { layout_strides self.new ≡ insert (layout_strides self.old) axis.0 (pos 1) }
-        ensures elements { (i : List ℕ) → element_at self.new i ≡ inside (shape_of self.new) i (element_at self.old (widened_index axis.0 i)) }
+        ensures elements { (i : List ℕ) → element_at self.new i ≡ inside (shape_of self.new) i (element_at self.old (inserted_index axis.0 i)) }
         ensures storage { storage_of self.new ≡ storage_of self.old }
-        ensures places { (i : List ℕ) → place_at self.new i ≡ inside (shape_of self.new) i (place_at self.old (widened_index axis.0 i)) }
+        ensures places { (i : List ℕ) → place_at self.new i ≡ inside (shape_of self.new) i (place_at self.old (inserted_index axis.0 i)) }
     {
         let layout = self.layout.insert_axis(axis.0);
         self.layout = layout;

@@ -2,7 +2,7 @@
 #![tactic(auto, unfolding(crate::specs::Meaning::shape_of, crate::specs::Meaning::element_at, crate::specs::Meaning::layout_strides))]
 
 ghost use Rattle.std.specs.Prelude.{◌↔◌, ◌≡◌, ℕ, false, IsNone, IfSome, List};
-ghost use Rattle.nd_shape_and_slice.specs.Broadcast.{broadcasts, forget};
+ghost use Rattle.nd_shape_and_slice.specs.Broadcast.{broadcasts, broadcast_index};
 ghost use Rattle.nd_layout.specs.Strides.{broadcast_strides};
 ghost use Rattle.nd_array_core.specs.Meaning.{shape_of, element_at, layout_strides, inside};
 
@@ -18,7 +18,7 @@ impl<S: Data, D: Dimension> ArrayBase<S, D> {
         ensures none { IsNone result ↔ (broadcasts (shape_of self.now) (E.lengths_given to) ≡ false) }
         ensures shape { IfSome result (λ v. shape_of v ≡ E.lengths_given to) }
         ensures strides { IfSome result (λ v. layout_strides v ≡ broadcast_strides (shape_of self.now) (layout_strides self.now) (shape_of v)) }
-        ensures elements { IfSome result (λ v. (i : List ℕ) → element_at v i ≡ inside (shape_of v) i (element_at self.now (forget (shape_of self.now) (shape_of v) i))) }
+        ensures elements { IfSome result (λ v. (i : List ℕ) → element_at v i ≡ inside (shape_of v) i (element_at self.now (broadcast_index (shape_of self.now) (shape_of v) i))) }
     {
         self.view().broadcast_move(to)
     }
@@ -30,7 +30,7 @@ impl<'a, A, D: Dimension> ArrayView<'a, A, D> {
         ensures none { IsNone result ↔ (broadcasts (shape_of self.entry) (E.lengths_given to) ≡ false) }
         ensures shape { IfSome result (λ v. shape_of v ≡ E.lengths_given to) }
         ensures strides { IfSome result (λ v. layout_strides v ≡ broadcast_strides (shape_of self.entry) (layout_strides self.entry) (shape_of v)) }
-        ensures elements { IfSome result (λ v. (i : List ℕ) → element_at v i ≡ inside (shape_of v) i (element_at self.entry (forget (shape_of self.entry) (shape_of v) i))) }
+        ensures elements { IfSome result (λ v. (i : List ℕ) → element_at v i ≡ inside (shape_of v) i (element_at self.entry (broadcast_index (shape_of self.entry) (shape_of v) i))) }
     {
         let layout = self.layout.broadcast(to.into_dimension())?;
         Some(ArrayBase {

@@ -6,7 +6,7 @@ ghost use Rattle.std.specs.Prelude.{◌≡◌, ◌<◌, ℕ, true, List, length,
 ghost use Rattle.std.specs.Borrow.{sem};
 ghost use Rattle.nd_shape_and_slice.specs.declared.slice.Slice.{Slice};
 ghost use Rattle.nd_shape_and_slice.specs.Descriptions.{axes_from};
-ghost use Rattle.nd_shape_and_slice.specs.EachAxis.{each_sliced, each_sliced_index, AnswersFit, Answered};
+ghost use Rattle.nd_shape_and_slice.specs.EachAxis.{each_sliced_shape, each_sliced_index, AnswersFit, AnswersAre};
 ghost use Rattle.nd_shape_and_slice.specs.Slice.{fits_axis, sliced_shape, sliced_index};
 ghost use Rattle.nd_shape_and_slice.specs.SliceInfo.{fits_shape, shape_after, index_before, axes_read};
 ghost use Rattle.nd_shape_and_slice.specs.Slicing.{collapsed_after, collapsed_before};
@@ -103,24 +103,24 @@ impl<S: Data, D: Dimension> ArrayBase<S, D> {
         array
     }
 
-    /// Keeps of each axis what the closure answers for it. It is asked of axis 0 first, and each answer fits its axis
-    /// (`slice_fits`). ndarray's `slice_each_axis_inplace`.
+    /// Keeps of each axis the slice that the closure answers for it. It is called for axis 0 first, and each slice fits
+    /// its axis (`slice_fits`). ndarray's `slice_each_axis_inplace`.
     pub fn slice_each_axis_inplace<F: FnMut(AxisDescription) -> Slice + Drop>(&mut self, f: F)
         requires { AnswersFit F.pre F.step f (axes_from 0 (shape_of self.old) (layout_strides self.old)) }
         ensures storage { storage_of self.new ≡ storage_of self.old }
-        ensures sliced { (slices : List Slice) × (last : F) × Answered F.step f (axes_from 0 (shape_of self.old) (layout_strides self.old)) slices last × (shape_of self.new ≡ each_sliced (shape_of self.old) slices) × ((i : List ℕ) → element_at self.new i ≡ inside (shape_of self.new) i (element_at self.old (each_sliced_index (shape_of self.old) slices i))) }
+        ensures sliced { (slices : List Slice) × (last : F) × AnswersAre F.step f (axes_from 0 (shape_of self.old) (layout_strides self.old)) slices last × (shape_of self.new ≡ each_sliced_shape (shape_of self.old) slices) × ((i : List ℕ) → element_at self.new i ≡ inside (shape_of self.new) i (element_at self.old (each_sliced_index (shape_of self.old) slices i))) }
     {
         self.layout.slice_each_axis(f);
     }
 
-    /// The view of what the closure answers for each axis. It is asked of axis 0 first, and each answer fits its axis
+    /// The view of what the closure answers for each axis. It is called for axis 0 first, and each slice fits its axis
     /// (`slice_fits`). ndarray's `slice_each_axis`.
     pub fn slice_each_axis<F: FnMut(AxisDescription) -> Slice + Drop>(
         &self,
         f: F,
     ) -> ArrayView<'_, S::Elem, D>
         requires { AnswersFit F.pre F.step f (axes_from 0 (shape_of self.now) (layout_strides self.now)) }
-        ensures { (slices : List Slice) × (last : F) × Answered F.step f (axes_from 0 (shape_of self.now) (layout_strides self.now)) slices last × (shape_of result ≡ each_sliced (shape_of self.now) slices) × ((i : List ℕ) → element_at result i ≡ inside (shape_of result) i (element_at self.now (each_sliced_index (shape_of self.now) slices i))) }
+        ensures { (slices : List Slice) × (last : F) × AnswersAre F.step f (axes_from 0 (shape_of self.now) (layout_strides self.now)) slices last × (shape_of result ≡ each_sliced_shape (shape_of self.now) slices) × ((i : List ℕ) → element_at result i ≡ inside (shape_of result) i (element_at self.now (each_sliced_index (shape_of self.now) slices i))) }
     {
         let mut view = self.view();
         view.slice_each_axis_inplace(f);
@@ -161,9 +161,9 @@ impl<S: DataMut, D: Dimension> ArrayBase<S, D> {
         self.view_mut().slice_axis_move(axis, slice)
     }
 
-    /// The view of what the closure answers for each axis, to be read and written. It is asked of axis 0 first, and each
-    /// answer fits its axis (`slice_fits`). ndarray's `slice_each_axis_mut`.
-    /// Once the view is over, a caller knows of the array what it knows after `view_mut`.
+    /// The view of what the closure answers for each axis, to be read and written. It is called for axis 0 first, and
+    /// each slice fits its axis (`slice_fits`). ndarray's `slice_each_axis_mut`. Once the view is over, a caller knows
+    /// of the array what it knows after `view_mut`.
     pub fn slice_each_axis_mut<F: FnMut(AxisDescription) -> Slice + Drop>(
         &mut self,
         f: F,
@@ -171,7 +171,7 @@ impl<S: DataMut, D: Dimension> ArrayBase<S, D> {
         requires { AnswersFit F.pre F.step f (axes_from 0 (shape_of self.old) (layout_strides self.old)) }
         ensures* writes_back { sem 𝓛 (array_follows_view S.row S.Elem.row D.row D.Pattern.row D.Strides.row D.Smaller.row D.Larger.row S.Data D.Dimension D.AxisCount D.Strides.StrideList self.entry (tie_of result)) }
         ensures refilled { (ws : List S.Elem) → IsRefilled S.borrow self.old (array_with_items S.refilled self.old ws) }
-        ensures sliced { (slices : List Slice) × (last : F) × Answered F.step f (axes_from 0 (shape_of self.old) (layout_strides self.old)) slices last × (shape_of result ≡ each_sliced (shape_of self.old) slices) × ((i : List ℕ) → element_at result i ≡ inside (shape_of result) i (element_at self.old (each_sliced_index (shape_of self.old) slices i))) }
+        ensures sliced { (slices : List Slice) × (last : F) × AnswersAre F.step f (axes_from 0 (shape_of self.old) (layout_strides self.old)) slices last × (shape_of result ≡ each_sliced_shape (shape_of self.old) slices) × ((i : List ℕ) → element_at result i ≡ inside (shape_of result) i (element_at self.old (each_sliced_index (shape_of self.old) slices i))) }
     {
         let mut view = self.view_mut();
         view.slice_each_axis_inplace(f);

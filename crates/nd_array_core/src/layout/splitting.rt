@@ -6,12 +6,12 @@ ghost use Rattle.std.specs.Prelude.{◌≡◌, ◌<◌, ◌≤◌, ℕ, List, Op
 ghost use Rattle.nd_shape_and_slice.specs.Maps.{lower_shape, upper_shape, upper_index};
 ghost use Rattle.nd_shape_and_slice.specs.Place.{IsSeparated};
 ghost use Rattle.nd_shape_and_slice.specs.Shape.{size_of};
-ghost use Rattle.nd_region.specs.Places.{names_not, ShareNoPlace as LayoutsShareNone};
-ghost use Rattle.nd_region.specs.Region.{stored as region_stored};
+ghost use Rattle.nd_region.specs.Places.{names_not, LayoutsShareNoPlace};
+ghost use Rattle.nd_region.specs.Region.{region_stored};
 ghost use Rattle.nd_layout.specs.Steps.{IsStep};
 ghost use Rattle.nd_array_core.specs.Meaning.{shape_of, element_at, storage_of, place_at, layout_strides, inside};
 ghost use Rattle.nd_array_core.specs.layout.MultiSlice.{TwoFit, ThreeFit, FourFit, ThreeShareNoPlace, FourShareNoPlace, IsSlicedBy, FitsEach, TakenOf};
-ghost use Rattle.nd_array_core.specs.layout.Parts.{IsHeld, IsSeenUnder};
+ghost use Rattle.nd_array_core.specs.layout.Parts.{HoldsEachOnce, IsViewUnder};
 ghost use Rattle.nd_array_core.specs.Places.{kept_at, ShareNoPlace};
 
 use crate::base::array::{ArrayBase, ArrayView, ArrayViewMut};
@@ -58,37 +58,37 @@ fn halves<D: Dimension, T: StrideList>(
     requires separated { 0 < size_of (D.lengths layout.now.dim) → IsSeparated (D.lengths layout.now.dim) (T.strides_of layout.now.strides) }
     ensures lower_lengths { D.lengths result.0.dim ≡ lower_shape (D.lengths layout.now.dim) axis index }
     ensures lower_strides { T.strides_of result.0.strides ≡ T.strides_of layout.now.strides }
-    ensures lower { IsStep layout.now.first (D.lengths layout.now.dim) (T.strides_of layout.now.strides) result.0.first (D.lengths result.0.dim) (T.strides_of result.0.strides) (λ i. i) }
+    ensures lower { IsStep layout.now.offset (D.lengths layout.now.dim) (T.strides_of layout.now.strides) result.0.offset (D.lengths result.0.dim) (T.strides_of result.0.strides) (λ i. i) }
     ensures upper_lengths { D.lengths result.1.dim ≡ upper_shape (D.lengths layout.now.dim) axis index }
     ensures upper_strides { T.strides_of result.1.strides ≡ T.strides_of layout.now.strides }
-    ensures upper { IsStep layout.now.first (D.lengths layout.now.dim) (T.strides_of layout.now.strides) result.1.first (D.lengths result.1.dim) (T.strides_of result.1.strides) (upper_index axis index) }
-    ensures apart { LayoutsShareNone result.0.first (D.lengths result.0.dim) (T.strides_of result.0.strides) result.1.first (D.lengths result.1.dim) (T.strides_of result.1.strides) }
+    ensures upper { IsStep layout.now.offset (D.lengths layout.now.dim) (T.strides_of layout.now.strides) result.1.offset (D.lengths result.1.dim) (T.strides_of result.1.strides) (upper_index axis index) }
+    ensures apart { LayoutsShareNoPlace result.0.offset (D.lengths result.0.dim) (T.strides_of result.0.strides) result.1.offset (D.lengths result.1.dim) (T.strides_of result.1.strides) }
 {
     layout.halves(axis, index)
 }
 
 impl<'a, A> ViewMutRepr<'a, A> {
-    /// The elements that a layout names, which are taken out of this storage.
+    /// Takes the elements that a layout names out of this storage.
     fn part<D: Dimension>(&mut self, layout: Layout<D, D::Strides>) -> ArrayViewMut<'a, A, D>
-        requires { IsHeld (region_stored self.old.region) layout.first (D.lengths layout.dim) (D.Strides.strides_of layout.strides) }
-        ensures shown { IsSeenUnder (region_stored self.old.region) layout.first (D.lengths layout.dim) (D.Strides.strides_of layout.strides) (shape_of result) (layout_strides result) (element_at result) (place_at result) }
-        ensures left { (place : ℕ) → region_stored self.new.region place ≡ kept_at (names_not layout.first (D.lengths layout.dim) (D.Strides.strides_of layout.strides)) (region_stored self.old.region) place }
+        requires { HoldsEachOnce (region_stored self.old.region) layout.offset (D.lengths layout.dim) (D.Strides.strides_of layout.strides) }
+        ensures shown { IsViewUnder (region_stored self.old.region) layout.offset (D.lengths layout.dim) (D.Strides.strides_of layout.strides) (shape_of result) (layout_strides result) (element_at result) (place_at result) }
+        ensures left { (place : ℕ) → region_stored self.new.region place ≡ kept_at (names_not layout.offset (D.lengths layout.dim) (D.Strides.strides_of layout.strides)) (region_stored self.old.region) place }
     {
         let storage = self.split(&layout);
         ArrayBase { storage, layout }
     }
 
-    /// The elements that two layouts name, which share no place.
+    /// The elements of two layouts that share no place, each as a storage of its own.
     pub(crate) fn two_parts<D: Dimension, E: Dimension>(
         self,
         first: Layout<D, D::Strides>,
         second: Layout<E, E::Strides>,
     ) -> (ArrayViewMut<'a, A, D>, ArrayViewMut<'a, A, E>)
-        requires first { IsHeld (region_stored self.region) first.first (D.lengths first.dim) (D.Strides.strides_of first.strides) }
-        requires second { IsHeld (region_stored self.region) second.first (E.lengths second.dim) (E.Strides.strides_of second.strides) }
-        requires apart { LayoutsShareNone first.first (D.lengths first.dim) (D.Strides.strides_of first.strides) second.first (E.lengths second.dim) (E.Strides.strides_of second.strides) }
-        ensures first { IsSeenUnder (region_stored self.entry.region) first.first (D.lengths first.dim) (D.Strides.strides_of first.strides) (shape_of result.0) (layout_strides result.0) (element_at result.0) (place_at result.0) }
-        ensures second { IsSeenUnder (region_stored self.entry.region) second.first (E.lengths second.dim) (E.Strides.strides_of second.strides) (shape_of result.1) (layout_strides result.1) (element_at result.1) (place_at result.1) }
+        requires first { HoldsEachOnce (region_stored self.region) first.offset (D.lengths first.dim) (D.Strides.strides_of first.strides) }
+        requires second { HoldsEachOnce (region_stored self.region) second.offset (E.lengths second.dim) (E.Strides.strides_of second.strides) }
+        requires apart { LayoutsShareNoPlace first.offset (D.lengths first.dim) (D.Strides.strides_of first.strides) second.offset (E.lengths second.dim) (E.Strides.strides_of second.strides) }
+        ensures first { IsViewUnder (region_stored self.entry.region) first.offset (D.lengths first.dim) (D.Strides.strides_of first.strides) (shape_of result.0) (layout_strides result.0) (element_at result.0) (place_at result.0) }
+        ensures second { IsViewUnder (region_stored self.entry.region) second.offset (E.lengths second.dim) (E.Strides.strides_of second.strides) (shape_of result.1) (layout_strides result.1) (element_at result.1) (place_at result.1) }
     {
         let mut storage = self;
         let part = storage.part(first);
@@ -106,15 +106,15 @@ impl<'a, A> ViewMutRepr<'a, A> {
         ArrayViewMut<'a, A, E>,
         ArrayViewMut<'a, A, F>,
     )
-        requires first { IsHeld (region_stored self.region) first.first (D.lengths first.dim) (D.Strides.strides_of first.strides) }
-        requires second { IsHeld (region_stored self.region) second.first (E.lengths second.dim) (E.Strides.strides_of second.strides) }
-        requires third { IsHeld (region_stored self.region) third.first (F.lengths third.dim) (F.Strides.strides_of third.strides) }
-        requires first_second { LayoutsShareNone first.first (D.lengths first.dim) (D.Strides.strides_of first.strides) second.first (E.lengths second.dim) (E.Strides.strides_of second.strides) }
-        requires first_third { LayoutsShareNone first.first (D.lengths first.dim) (D.Strides.strides_of first.strides) third.first (F.lengths third.dim) (F.Strides.strides_of third.strides) }
-        requires second_third { LayoutsShareNone second.first (E.lengths second.dim) (E.Strides.strides_of second.strides) third.first (F.lengths third.dim) (F.Strides.strides_of third.strides) }
-        ensures first { IsSeenUnder (region_stored self.entry.region) first.first (D.lengths first.dim) (D.Strides.strides_of first.strides) (shape_of result.0) (layout_strides result.0) (element_at result.0) (place_at result.0) }
-        ensures second { IsSeenUnder (region_stored self.entry.region) second.first (E.lengths second.dim) (E.Strides.strides_of second.strides) (shape_of result.1) (layout_strides result.1) (element_at result.1) (place_at result.1) }
-        ensures third { IsSeenUnder (region_stored self.entry.region) third.first (F.lengths third.dim) (F.Strides.strides_of third.strides) (shape_of result.2) (layout_strides result.2) (element_at result.2) (place_at result.2) }
+        requires first { HoldsEachOnce (region_stored self.region) first.offset (D.lengths first.dim) (D.Strides.strides_of first.strides) }
+        requires second { HoldsEachOnce (region_stored self.region) second.offset (E.lengths second.dim) (E.Strides.strides_of second.strides) }
+        requires third { HoldsEachOnce (region_stored self.region) third.offset (F.lengths third.dim) (F.Strides.strides_of third.strides) }
+        requires first_second { LayoutsShareNoPlace first.offset (D.lengths first.dim) (D.Strides.strides_of first.strides) second.offset (E.lengths second.dim) (E.Strides.strides_of second.strides) }
+        requires first_third { LayoutsShareNoPlace first.offset (D.lengths first.dim) (D.Strides.strides_of first.strides) third.offset (F.lengths third.dim) (F.Strides.strides_of third.strides) }
+        requires second_third { LayoutsShareNoPlace second.offset (E.lengths second.dim) (E.Strides.strides_of second.strides) third.offset (F.lengths third.dim) (F.Strides.strides_of third.strides) }
+        ensures first { IsViewUnder (region_stored self.entry.region) first.offset (D.lengths first.dim) (D.Strides.strides_of first.strides) (shape_of result.0) (layout_strides result.0) (element_at result.0) (place_at result.0) }
+        ensures second { IsViewUnder (region_stored self.entry.region) second.offset (E.lengths second.dim) (E.Strides.strides_of second.strides) (shape_of result.1) (layout_strides result.1) (element_at result.1) (place_at result.1) }
+        ensures third { IsViewUnder (region_stored self.entry.region) third.offset (F.lengths third.dim) (F.Strides.strides_of third.strides) (shape_of result.2) (layout_strides result.2) (element_at result.2) (place_at result.2) }
         ensures apart { ThreeShareNoPlace (place_at result.0) (place_at result.1) (place_at result.2) }
     {
         let mut storage = self;
@@ -136,20 +136,20 @@ impl<'a, A> ViewMutRepr<'a, A> {
         ArrayViewMut<'a, A, F>,
         ArrayViewMut<'a, A, G>,
     )
-        requires first { IsHeld (region_stored self.region) first.first (D.lengths first.dim) (D.Strides.strides_of first.strides) }
-        requires second { IsHeld (region_stored self.region) second.first (E.lengths second.dim) (E.Strides.strides_of second.strides) }
-        requires third { IsHeld (region_stored self.region) third.first (F.lengths third.dim) (F.Strides.strides_of third.strides) }
-        requires fourth { IsHeld (region_stored self.region) fourth.first (G.lengths fourth.dim) (G.Strides.strides_of fourth.strides) }
-        requires first_second { LayoutsShareNone first.first (D.lengths first.dim) (D.Strides.strides_of first.strides) second.first (E.lengths second.dim) (E.Strides.strides_of second.strides) }
-        requires first_third { LayoutsShareNone first.first (D.lengths first.dim) (D.Strides.strides_of first.strides) third.first (F.lengths third.dim) (F.Strides.strides_of third.strides) }
-        requires first_fourth { LayoutsShareNone first.first (D.lengths first.dim) (D.Strides.strides_of first.strides) fourth.first (G.lengths fourth.dim) (G.Strides.strides_of fourth.strides) }
-        requires second_third { LayoutsShareNone second.first (E.lengths second.dim) (E.Strides.strides_of second.strides) third.first (F.lengths third.dim) (F.Strides.strides_of third.strides) }
-        requires second_fourth { LayoutsShareNone second.first (E.lengths second.dim) (E.Strides.strides_of second.strides) fourth.first (G.lengths fourth.dim) (G.Strides.strides_of fourth.strides) }
-        requires third_fourth { LayoutsShareNone third.first (F.lengths third.dim) (F.Strides.strides_of third.strides) fourth.first (G.lengths fourth.dim) (G.Strides.strides_of fourth.strides) }
-        ensures first { IsSeenUnder (region_stored self.entry.region) first.first (D.lengths first.dim) (D.Strides.strides_of first.strides) (shape_of result.0) (layout_strides result.0) (element_at result.0) (place_at result.0) }
-        ensures second { IsSeenUnder (region_stored self.entry.region) second.first (E.lengths second.dim) (E.Strides.strides_of second.strides) (shape_of result.1) (layout_strides result.1) (element_at result.1) (place_at result.1) }
-        ensures third { IsSeenUnder (region_stored self.entry.region) third.first (F.lengths third.dim) (F.Strides.strides_of third.strides) (shape_of result.2) (layout_strides result.2) (element_at result.2) (place_at result.2) }
-        ensures fourth { IsSeenUnder (region_stored self.entry.region) fourth.first (G.lengths fourth.dim) (G.Strides.strides_of fourth.strides) (shape_of result.3) (layout_strides result.3) (element_at result.3) (place_at result.3) }
+        requires first { HoldsEachOnce (region_stored self.region) first.offset (D.lengths first.dim) (D.Strides.strides_of first.strides) }
+        requires second { HoldsEachOnce (region_stored self.region) second.offset (E.lengths second.dim) (E.Strides.strides_of second.strides) }
+        requires third { HoldsEachOnce (region_stored self.region) third.offset (F.lengths third.dim) (F.Strides.strides_of third.strides) }
+        requires fourth { HoldsEachOnce (region_stored self.region) fourth.offset (G.lengths fourth.dim) (G.Strides.strides_of fourth.strides) }
+        requires first_second { LayoutsShareNoPlace first.offset (D.lengths first.dim) (D.Strides.strides_of first.strides) second.offset (E.lengths second.dim) (E.Strides.strides_of second.strides) }
+        requires first_third { LayoutsShareNoPlace first.offset (D.lengths first.dim) (D.Strides.strides_of first.strides) third.offset (F.lengths third.dim) (F.Strides.strides_of third.strides) }
+        requires first_fourth { LayoutsShareNoPlace first.offset (D.lengths first.dim) (D.Strides.strides_of first.strides) fourth.offset (G.lengths fourth.dim) (G.Strides.strides_of fourth.strides) }
+        requires second_third { LayoutsShareNoPlace second.offset (E.lengths second.dim) (E.Strides.strides_of second.strides) third.offset (F.lengths third.dim) (F.Strides.strides_of third.strides) }
+        requires second_fourth { LayoutsShareNoPlace second.offset (E.lengths second.dim) (E.Strides.strides_of second.strides) fourth.offset (G.lengths fourth.dim) (G.Strides.strides_of fourth.strides) }
+        requires third_fourth { LayoutsShareNoPlace third.offset (F.lengths third.dim) (F.Strides.strides_of third.strides) fourth.offset (G.lengths fourth.dim) (G.Strides.strides_of fourth.strides) }
+        ensures first { IsViewUnder (region_stored self.entry.region) first.offset (D.lengths first.dim) (D.Strides.strides_of first.strides) (shape_of result.0) (layout_strides result.0) (element_at result.0) (place_at result.0) }
+        ensures second { IsViewUnder (region_stored self.entry.region) second.offset (E.lengths second.dim) (E.Strides.strides_of second.strides) (shape_of result.1) (layout_strides result.1) (element_at result.1) (place_at result.1) }
+        ensures third { IsViewUnder (region_stored self.entry.region) third.offset (F.lengths third.dim) (F.Strides.strides_of third.strides) (shape_of result.2) (layout_strides result.2) (element_at result.2) (place_at result.2) }
+        ensures fourth { IsViewUnder (region_stored self.entry.region) fourth.offset (G.lengths fourth.dim) (G.Strides.strides_of fourth.strides) (shape_of result.3) (layout_strides result.3) (element_at result.3) (place_at result.3) }
         ensures apart { FourShareNoPlace (place_at result.0) (place_at result.1) (place_at result.2) (place_at result.3) }
     {
         let mut storage = self;
@@ -198,7 +198,7 @@ pub trait MultiSliceArg<V> {
     /// (`slices_intersect`).
     ghost fits: { Self → V → Type 0 };
 
-    /// What the parts are of the view.
+    /// How the parts relate to the view.
     ghost takes: { Self → V → Self.Output → Type 0 };
 
     /// The parts of a view.

@@ -3,9 +3,9 @@
 
 ghost use Rattle.std.specs.Prelude.{◌≡◌, ◌≤◌, ◌<◌, ℕ, List, length, slice_index};
 ghost use Rattle.std.specs.Option.{is_some};
-ghost use Rattle.nd_region.specs.Region.{stored as region_stored, borrow_of};
-ghost use Rattle.nd_array_core.specs.Placed.{Placed};
-ghost use Rattle.nd_array_core.specs.scoped.Tasks.{view_borrow, lent_borrow, lent_view, view_left, CanBeSeen, LiesBy, laid_by, placement_of, HoldsBy, AreApart, IsWithin, AsksOfPair, IsDoneOnPair, KeepsUnnamed, KeepsUnnamedByTwo};
+ghost use Rattle.nd_region.specs.Region.{region_stored, borrow_of};
+ghost use Rattle.nd_array_core.specs.PlacedArray.{PlacedArray};
+ghost use Rattle.nd_array_core.specs.scoped.Tasks.{view_borrow, lent_borrow, lent_view, view_left, CanBeSeen, LiesBy, array_placed_by, placement_of, HoldsBy, AreApart, IsWithin, AsksOfPair, IsDoneOnPair, KeepsUnnamed, KeepsUnnamedByTwo};
 ghost use Rattle.nd_array_core.specs.scoped.PartTasks.{lower_part, upper_part, AsksOfParts, IsDoneOnParts};
 ghost use Rattle.nd_array_core.specs.base.Writes.{OthersStay};
 
@@ -16,18 +16,18 @@ use nd_layout::Layout;
 use nd_region::Region;
 use nd_shape_and_slice::{Axis, Dimension, StrideList};
 
-/// What is done with two mutable views while they are lent. The task gives back the storage of each, or of what it has
-/// sliced it to: the same borrows.
+/// What a caller does with two mutable views that are lent for one call. A task gives back the storage of each, or of a
+/// part that it sliced it to, with the same borrows.
 pub trait PairTask<A, D: Dimension, E: Dimension>: Drop {
-    /// What it answers.
+    /// The task's result.
     type Answer;
 
     /// What it asks of the views.
-    ghost pre: { Self → Placed A → Placed A → Type 0 };
+    ghost pre: { Self → PlacedArray A → PlacedArray A → Type 0 };
     /// What is true of the views as they came, of the same as they are given back, and of the answer.
-    ghost post: { Self → Placed A → Placed A → Placed A → Placed A → Self.Answer → Type 0 };
+    ghost post: { Self → PlacedArray A → PlacedArray A → PlacedArray A → PlacedArray A → Self.Answer → Type 0 };
 
-    /// Does it.
+    /// Runs the task.
     fn run<'b>(
         self,
         one: LentView<'b, A, D, D::Strides>,
@@ -51,20 +51,20 @@ fn run_pair<'b, A, D: Dimension, E: Dimension, K: PairTask<A, D, E>>(
 ) -> (Region<'b, A>, Region<'b, A>, K::Answer)
     requires one { LiesBy (region_stored part) (placement_of one) }
     requires two { LiesBy (region_stored rest) (placement_of two) }
-    requires pre { K.pre task (laid_by (region_stored part) (placement_of one)) (laid_by (region_stored rest) (placement_of two)) }
+    requires pre { K.pre task (array_placed_by (region_stored part) (placement_of one)) (array_placed_by (region_stored rest) (placement_of two)) }
     ensures part { borrow_of result.0 ≡ borrow_of part.entry }
     ensures rest { borrow_of result.1 ≡ borrow_of rest.entry }
-    ensures done { K.post task (laid_by (region_stored part.entry) (placement_of one)) (laid_by (region_stored rest.entry) (placement_of two)) (laid_by (region_stored result.0) (placement_of one)) (laid_by (region_stored result.1) (placement_of two)) result.2 }
+    ensures done { K.post task (array_placed_by (region_stored part.entry) (placement_of one)) (array_placed_by (region_stored rest.entry) (placement_of two)) (array_placed_by (region_stored result.0) (placement_of one)) (array_placed_by (region_stored result.1) (placement_of two)) result.2 }
 {
     let first = LentView {
         region: part,
-        first: one.first,
+        offset: one.offset,
         dim: one.dim,
         strides: one.strides,
     };
     let second = LentView {
         region: rest,
-        first: two.first,
+        offset: two.offset,
         dim: two.dim,
         strides: two.strides,
     };
@@ -73,7 +73,7 @@ fn run_pair<'b, A, D: Dimension, E: Dimension, K: PairTask<A, D, E>>(
 }
 
 /// Runs the task on two views of a region, by layouts that share no place.
-fn split_laid<'b, A, D: Dimension, E: Dimension, K: PairTask<A, D, E>>(
+fn run_on_split<'b, A, D: Dimension, E: Dimension, K: PairTask<A, D, E>>(
     region: Region<'b, A>,
     one: Layout<D, D::Strides>,
     two: Layout<E, E::Strides>,
@@ -89,23 +89,23 @@ fn split_laid<'b, A, D: Dimension, E: Dimension, K: PairTask<A, D, E>>(
     let mut region = region;
     let lent = one.copied();
     let answer = region.split_with(
-        one.first,
+        one.offset,
         one.dim.slice(),
         one.strides.slice(),
         move |part, rest|
             requires one { LiesBy (region_stored part) (placement_of lent) }
             requires two { LiesBy (region_stored rest) (placement_of two) }
-            requires pre { K.pre task (laid_by (region_stored part) (placement_of lent)) (laid_by (region_stored rest) (placement_of two)) }
+            requires pre { K.pre task (array_placed_by (region_stored part) (placement_of lent)) (array_placed_by (region_stored rest) (placement_of two)) }
             ensures part { borrow_of result.0 ≡ borrow_of part.entry }
             ensures rest { borrow_of result.1 ≡ borrow_of rest.entry }
-            ensures done { K.post task (laid_by (region_stored part.entry) (placement_of lent)) (laid_by (region_stored rest.entry) (placement_of two)) (laid_by (region_stored result.0) (placement_of lent)) (laid_by (region_stored result.1) (placement_of two)) result.2 }
+            ensures done { K.post task (array_placed_by (region_stored part.entry) (placement_of lent)) (array_placed_by (region_stored rest.entry) (placement_of two)) (array_placed_by (region_stored result.0) (placement_of lent)) (array_placed_by (region_stored result.1) (placement_of two)) result.2 }
         { run_pair(part, lent, rest, two, task) },
     );
     (region, answer)
 }
 
 /// Runs the task on two views of a region, by layouts that share no place. No other place changes.
-fn either_laid<'b, A, D: Dimension, E: Dimension, K: PairTask<A, D, E>>(
+fn run_on_either<'b, A, D: Dimension, E: Dimension, K: PairTask<A, D, E>>(
     region: Region<'b, A>,
     one: Layout<D, D::Strides>,
     two: Layout<E, E::Strides>,
@@ -123,10 +123,10 @@ fn either_laid<'b, A, D: Dimension, E: Dimension, K: PairTask<A, D, E>>(
     let first = one.copied();
     let second = two.copied();
     let answer = region.with_either(
-        first.first,
+        first.offset,
         first.dim.slice(),
         first.strides.slice(),
-        second.first,
+        second.offset,
         second.dim.slice(),
         second.strides.slice(),
         move |both|
@@ -136,13 +136,13 @@ fn either_laid<'b, A, D: Dimension, E: Dimension, K: PairTask<A, D, E>>(
             requires callable { AsksOfPair (K.pre task) (region_stored both) (placement_of one) (placement_of two) }
             ensures borrow { borrow_of result.0 ≡ borrow_of both.entry }
             ensures done { IsDoneOnPair (λ v0 v1 w0 w1. K.post task v0 v1 w0 w1 result.1) (region_stored both.entry) (region_stored result.0) (placement_of one) (placement_of two) }
-        { split_laid(both, one, two, task) },
+        { run_on_split(both, one, two, task) },
     );
     (region, answer)
 }
 
 /// Runs the task on two views of a storage, by layouts that share no place and whose places are among those of a third.
-pub(crate) fn pair_laid<
+pub(crate) fn with_placement_pair<
     S: DataMut,
     W: Dimension,
     D: Dimension,
@@ -169,7 +169,7 @@ pub(crate) fn pair_laid<
     ensures done { IsDoneOnPair (λ v0 v1 w0 w1. K.post task v0 v1 w0 w1 result) (S.stored storage.old) (S.stored storage.new) (placement_of one) (placement_of two) }
 {
     storage.with_part(
-        whole.first,
+        whole.offset,
         whole.dim.slice(),
         whole.strides.slice(),
         move |region|
@@ -180,16 +180,16 @@ pub(crate) fn pair_laid<
             ensures borrow { borrow_of result.0 ≡ borrow_of region.entry }
             ensures done { IsDoneOnPair (λ v0 v1 w0 w1. K.post task v0 v1 w0 w1 result.1) (region_stored region.entry) (region_stored result.0) (placement_of one) (placement_of two) }
             ensures kept { KeepsUnnamedByTwo (region_stored region.entry) (region_stored result.0) (placement_of one) (placement_of two) }
-        { either_laid(region, one, two, task) },
+        { run_on_either(region, one, two, task) },
     )
 }
 
 impl<S: DataMut, D: Dimension> ArrayBase<S, D> {
     ghost use Rattle.nd_array_core.specs.Meaning.{shape_of, element_at, storage_of, place_at};
 
-    /// Hands the task mutable views of the two parts of an axis, for the length of the call: the coordinates below this
-    /// one, and those from it on. Each part of the array then shows what its view does. The axis is below `ndim`, and the
-    /// coordinate at most its length. This project's own, beside ndarray's `split_at` of mutable views.
+    /// Lends the task mutable views of the two parts of an axis for the length of the call: the coordinates below this
+    /// one, and those from it on. Afterwards each part has the elements that its view was left with. The axis is below
+    /// `ndim`, and the coordinate at most its length. This project's own, beside ndarray's `split_at` of mutable views.
     pub fn with_split_at<K: PairTask<S::Elem, D, D>>(
         &mut self,
         axis: Axis,
@@ -207,6 +207,6 @@ impl<S: DataMut, D: Dimension> ArrayBase<S, D> {
     {
         let whole = self.layout.copied();
         let (lower, upper) = self.layout.halves(axis.0, index);
-        pair_laid(&mut self.storage, whole, lower, upper, task)
+        with_placement_pair(&mut self.storage, whole, lower, upper, task)
     }
 }

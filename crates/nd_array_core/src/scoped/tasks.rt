@@ -1,15 +1,16 @@
 //! Calls that lend a mutable view to a task for their length.
 //!
-//! After a mutable view that was lent in the open has ended, a caller's proof knows nothing of the array. These calls
-//! get the view's elements back, and so say what the array holds.
+//! After a mutable view that was lent in the open has ended, a caller's proof knows the array's shape, strides and
+//! places, but not which elements were written. These calls get the view's elements back, and so say what the array
+//! holds.
 #![tactic(auto, unfolding(crate::specs::Meaning::shape_of, crate::specs::Meaning::element_at, crate::specs::Meaning::storage_of, crate::specs::Meaning::place_at))]
 
 ghost use Rattle.std.specs.Prelude.{◌≡◌, ℕ, List};
 ghost use Rattle.std.specs.Option.{is_some};
-ghost use Rattle.nd_region.specs.Region.{stored as region_stored, borrow_of};
-ghost use Rattle.nd_array_core.specs.Placed.{Placed, element_placed, found_at};
+ghost use Rattle.nd_region.specs.Region.{region_stored, borrow_of};
+ghost use Rattle.nd_array_core.specs.PlacedArray.{PlacedArray, element_placed, found_at};
 ghost use Rattle.nd_array_core.specs.base.Storages.{held_by};
-ghost use Rattle.nd_array_core.specs.scoped.Tasks.{view_borrow, lent_borrow, lent_view, view_left, CanBeSeen, LiesBy, laid_by, placement_of, AsksOfLaid, IsDoneOnLaid, IsViewOf};
+ghost use Rattle.nd_array_core.specs.scoped.Tasks.{view_borrow, lent_borrow, lent_view, view_left, CanBeSeen, LiesBy, array_placed_by, placement_of, AsksOfPlacement, IsDoneOnPlacement, IsViewOf};
 ghost use Rattle.nd_array_core.specs.base.Writes.{OthersStay};
 
 use crate::base::array::{ArrayBase, ArrayViewMut};
@@ -23,7 +24,7 @@ use std::snapshot::Snapshot;
 #[derive(Drop)]
 pub struct LentView<'a, A, D: Drop, T: Drop> {
     pub(crate) region: Region<'a, A>,
-    pub(crate) first: usize,
+    pub(crate) offset: usize,
     pub(crate) dim: D,
     pub(crate) strides: T,
 }
@@ -44,7 +45,7 @@ impl<'a, A, D: Dimension> LentView<'a, A, D, D::Strides> {
                 region: self.region,
                 tie: Snapshot::of(&0),
             },
-            layout: Layout::strided(self.first, self.dim, self.strides),
+            layout: Layout::strided(self.offset, self.dim, self.strides),
         }
     }
 }
@@ -61,18 +62,18 @@ impl<'a, A, D: Dimension> ArrayViewMut<'a, A, D> {
     }
 }
 
-/// What is done with a mutable view while it is lent. The task gives back the storage of the view, or of what it has
-/// sliced it to: the same borrow.
+/// What a caller does with a mutable view that is lent for one call. A task gives back the storage of the view, or of a
+/// part that it sliced it to, with the same borrow.
 pub trait ViewTask<A, D: Dimension>: Drop {
-    /// What it answers.
+    /// The task's result.
     type Answer;
 
-    /// What it asks of the view.
-    ghost pre: { Self → Placed A → Type 0 };
-    /// What is true of the view before and after, and of the answer.
-    ghost post: { Self → Placed A → Placed A → Self.Answer → Type 0 };
+    /// The task's condition on the view.
+    ghost pre: { Self → PlacedArray A → Type 0 };
+    /// What holds of the view before and after, and of the result.
+    ghost post: { Self → PlacedArray A → PlacedArray A → Self.Answer → Type 0 };
 
-    /// Does it.
+    /// Runs the task.
     fn run(self, lent: LentView<'_, A, D, D::Strides>) -> (ViewMutRepr<'_, A>, Self::Answer)
         requires sound { CanBeSeen D.lengths D.Strides.strides_of lent }
         requires pre { pre self (lent_view D.lengths D.Strides.strides_of lent) }
@@ -81,19 +82,19 @@ pub trait ViewTask<A, D: Dimension>: Drop {
 }
 
 /// Runs the task on a region's elements, seen by a layout.
-fn run_laid<'a, A, D: Dimension, K: ViewTask<A, D>>(
+fn run_on_placement<'a, A, D: Dimension, K: ViewTask<A, D>>(
     region: Region<'a, A>,
     layout: Layout<D, D::Strides>,
     task: K,
 ) -> (Region<'a, A>, K::Answer)
     requires sound { LiesBy (region_stored region) (placement_of layout) }
-    requires pre { K.pre task (laid_by (region_stored region) (placement_of layout)) }
+    requires pre { K.pre task (array_placed_by (region_stored region) (placement_of layout)) }
     ensures borrow { borrow_of result.0 ≡ borrow_of region.entry }
-    ensures done { K.post task (laid_by (region_stored region.entry) (placement_of layout)) (laid_by (region_stored result.0) (placement_of layout)) result.1 }
+    ensures done { K.post task (array_placed_by (region_stored region.entry) (placement_of layout)) (array_placed_by (region_stored result.0) (placement_of layout)) result.1 }
 {
     let (storage, answer) = task.run(LentView {
         region,
-        first: layout.first,
+        offset: layout.offset,
         dim: layout.dim,
         strides: layout.strides,
     });
@@ -101,45 +102,45 @@ fn run_laid<'a, A, D: Dimension, K: ViewTask<A, D>>(
 }
 
 /// Runs the task on a view of a storage, by a layout whose places the storage has.
-pub(crate) fn with_laid<S: DataMut, D: Dimension, K: ViewTask<S::Elem, D>>(
+pub(crate) fn with_placement<S: DataMut, D: Dimension, K: ViewTask<S::Elem, D>>(
     storage: &mut S,
     layout: Layout<D, D::Strides>,
     task: K,
 ) -> K::Answer
     requires sound { LiesBy (S.stored storage.old) (placement_of layout) }
-    requires callable { AsksOfLaid (K.pre task) (S.stored storage.old) (placement_of layout) }
+    requires callable { AsksOfPlacement (K.pre task) (S.stored storage.old) (placement_of layout) }
     ensures there { (p : ℕ) → is_some (S.stored storage.new p) ≡ is_some (S.stored storage.old p) }
     ensures borrow { S.borrow storage.new ≡ S.borrow storage.old }
-    ensures done { IsDoneOnLaid (λ v w. K.post task v w result) (S.stored storage.old) (S.stored storage.new) (placement_of layout) }
+    ensures done { IsDoneOnPlacement (λ v w. K.post task v w result) (S.stored storage.old) (S.stored storage.new) (placement_of layout) }
 {
     let lent = layout.copied();
     storage.with_part(
-        layout.first,
+        layout.offset,
         layout.dim.slice(),
         layout.strides.slice(),
         move |region|
             requires sound { LiesBy (region_stored region) (placement_of lent) }
-            requires pre { K.pre task (laid_by (region_stored region) (placement_of lent)) }
+            requires pre { K.pre task (array_placed_by (region_stored region) (placement_of lent)) }
             ensures borrow { borrow_of result.0 ≡ borrow_of region.entry }
-            ensures done { K.post task (laid_by (region_stored region.entry) (placement_of lent)) (laid_by (region_stored result.0) (placement_of lent)) result.1 }
-        { run_laid(region, lent, task) },
+            ensures done { K.post task (array_placed_by (region_stored region.entry) (placement_of lent)) (array_placed_by (region_stored result.0) (placement_of lent)) result.1 }
+        { run_on_placement(region, lent, task) },
     )
 }
 
 impl<S: DataMut, D: Dimension> ArrayBase<S, D> {
     ghost use Rattle.nd_array_core.specs.Meaning.{shape_of, element_at, storage_of, place_at};
 
-    /// Hands the task a mutable view of the array, for the length of the call. The array then shows what the view
-    /// does. This project's own, beside ndarray's `view_mut`.
+    /// Lends the task a mutable view of the array, for the length of the call. Afterwards the array has the elements
+    /// that the view was left with. This project's own, beside ndarray's `view_mut`.
     pub fn with_view_mut<K: ViewTask<S::Elem, D>>(&mut self, task: K) -> K::Answer
-        requires { (v : Placed S.Elem) → IsViewOf (shape_of self.old) (place_at self.old) (element_at self.old) v → K.pre task v }
+        requires { (v : PlacedArray S.Elem) → IsViewOf (shape_of self.old) (place_at self.old) (element_at self.old) v → K.pre task v }
         ensures shape { shape_of self.new ≡ shape_of self.old }
         ensures places { (i : List ℕ) → place_at self.new i ≡ place_at self.old i }
         ensures borrow { S.borrow (storage_of self.new) ≡ S.borrow (storage_of self.old) }
         ensures others { OthersStay (place_at self.old) (S.stored (storage_of self.old)) (S.stored (storage_of self.new)) }
-        ensures done { (v : Placed S.Elem) × (w : Placed S.Elem) × IsViewOf (shape_of self.old) (place_at self.old) (element_at self.old) v × IsViewOf (shape_of self.new) (place_at self.new) (element_at self.new) w × K.post task v w result }
+        ensures done { (v : PlacedArray S.Elem) × (w : PlacedArray S.Elem) × IsViewOf (shape_of self.old) (place_at self.old) (element_at self.old) v × IsViewOf (shape_of self.new) (place_at self.new) (element_at self.new) w × K.post task v w result }
     {
         let layout = self.layout.copied();
-        with_laid(&mut self.storage, layout, task)
+        with_placement(&mut self.storage, layout, task)
     }
 }

@@ -7,19 +7,19 @@ use lib.IntN.{neg_ℤ}
 use Rattle.std.proofs.lemmas.List.{length-set, get_or-set_same, set-get_or, set-set}
 use Rattle.std.proofs.lemmas.Int.{ints}
 use Rattle.nd_shape_and_slice.specs.Shape.{in_box, size_of}
-use Rattle.nd_shape_and_slice.specs.Place.{offset_of, place_of, span_of}
-use Rattle.nd_shape_and_slice.proofs.RowMajor.{row_rank_below, length-in_box, offset_of-origin}
+use Rattle.nd_shape_and_slice.specs.Place.{displacement_of, place_of, span_of}
+use Rattle.nd_shape_and_slice.proofs.RowMajor.{row_rank_below, length-in_box, displacement_of-origin}
 use Rattle.nd_layout.proofs.AxisChange.{span_of-at, span_of-changed, IsSeparated-changed}
 use Rattle.nd_shape_and_slice.proofs.Boxes.{coordinate_below}
 use Rattle.nd_layout.proofs.Distinct.{in_box-set}
 use Rattle.nd_layout.proofs.Integers.{sums, zero-mul, add-mul, mul-neg}
-use Rattle.nd_layout.proofs.Offsets.{offset_of-moved}
+use Rattle.nd_layout.proofs.Offsets.{displacement_of-moved}
 use Rattle.nd_layout.proofs.Sizes.{HasCheckedSize-set, size_of-set, abs-neg}
 use Rattle.nd_layout.specs.Places.{is_place, ReachesPlaces}
 use Rattle.nd_layout.specs.Steps.{IsStep}
 use Rattle.nd_shape_and_slice.specs.Maps.{inverted_index, collapsed_shape, collapsed_index, lower_shape, upper_shape, upper_index}
 use Rattle.nd_layout.specs.Strides.{opposite_stride}
-use Rattle.nd_layout.proofs.steps.Walks.{first_is_place}
+use Rattle.nd_layout.proofs.steps.Walks.{offset_is_place}
 use Rattle.nd_layout.proofs.steps.StepLemmas.{origin_in_box}
 use Rattle.nd_layout.proofs.steps.SliceStep.{zero_at}
 
@@ -51,8 +51,8 @@ add_nothing z w e = rw e (omega (arith, ints))
 plus_zero : (z s : ℤ) → z ≡ z +ℤ (pos 0 *ℤ s)
 plus_zero z s = rw (zero-mul s) (omega (arith, ints))
 
-joined : (p q start offset old : ℤ) → p ≡ q +ℤ start → old ≡ start +ℤ offset → p +ℤ offset ≡ q +ℤ old
-joined p q start offset old e f = rw (e, f) (omega (arith, ints))
+joined : (p q start displacement old : ℤ) → p ≡ q +ℤ start → old ≡ start +ℤ displacement → p +ℤ displacement ≡ q +ℤ old
+joined p q start displacement old e f = rw (e, f) (omega (arith, ints))
 
 -- ---- the changes of the calls
 one_step : (m n s : ℕ) → m ≤ n → (k : ℕ) × (s ≡ k * s) × (1 ≤ k) × ((m - 1) * k ≤ n - 1)
@@ -130,8 +130,8 @@ module _ (ns : List ℕ) (ss : List ℤ) (a : ℕ) (many : length ss ≡ length 
   on_strides = subst (λ l. a < l) (sym many) on
 
   -- where elements are left, each coordinate of the axis leads to a place
-  pub moved_place : (first m q : ℕ) → ReachesPlaces first ns ss → 0 < size_of (set ns a m) → q < get_or ns a 0 → is_place (pos first +ℤ (pos q *ℤ get_or ss a (pos 0))) ≡ true
-  moved_place first m q reach some below =
+  pub moved_place : (offset m q : ℕ) → ReachesPlaces offset ns ss → 0 < size_of (set ns a m) → q < get_or ns a 0 → is_place (pos offset +ℤ (pos q *ℤ get_or ss a (pos 0))) ≡ true
+  moved_place offset m q reach some below =
       let n = get_or ns a 0 in
       let s = get_or ss a (pos 0) in
       let origin = replicate (length (set ns a m)) 0 in
@@ -140,17 +140,17 @@ module _ (ns : List ℕ) (ss : List ℤ) (a : ℕ) (many : length ss ≡ length 
       let there : in_box ns (set origin a q) ≡ true = subst (λ l. in_box l (set origin a q) ≡ true) back (in_box-set (set ns a m) origin a n q here below) in
       let as_many : length origin ≡ length ss = (length-in_box (set ns a m) origin here ∙ length-set ns a m) ∙ sym many in
       let still : pos q *ℤ s ≡ (pos q *ℤ s) +ℤ (pos (get_or origin a 0) *ℤ s) = rw (zero_at (length (set ns a m)) a) (plus_zero (pos q *ℤ s) s) in
-      let nowhere : offset_of (set ss a s) origin ≡ pos 0 = offset_of-origin (set ss a s) (length (set ns a m)) in
-      let whole : offset_of ss (set origin a q) ≡ pos q *ℤ s = offset_of-moved ss origin a s q (pos q *ℤ s) as_many on_strides still ∙ add_nothing (pos q *ℤ s) (offset_of (set ss a s) origin) nowhere in
-      sym (ap (λ z. is_place (pos first +ℤ z)) whole) ∙ reach (set origin a q) there
+      let nowhere : displacement_of (set ss a s) origin ≡ pos 0 = displacement_of-origin (set ss a s) (length (set ns a m)) in
+      let whole : displacement_of ss (set origin a q) ≡ pos q *ℤ s = displacement_of-moved ss origin a s q (pos q *ℤ s) as_many on_strides still ∙ add_nothing (pos q *ℤ s) (displacement_of (set ss a s) origin) nowhere in
+      sym (ap (λ z. is_place (pos offset +ℤ z)) whole) ∙ reach (set origin a q) there
 
-  pub first_place : (first m : ℕ) → ReachesPlaces first ns ss → 0 < size_of (set ns a m) → 0 < get_or ns a 0 → first < 9223372036854775808
-  first_place first m reach some long =
+  pub offset_below : (offset m : ℕ) → ReachesPlaces offset ns ss → 0 < size_of (set ns a m) → 0 < get_or ns a 0 → offset < 9223372036854775808
+  offset_below offset m reach some long =
       let n = get_or ns a 0 in
       let origin = replicate (length (set ns a m)) 0 in
       let back : set (set ns a m) a n ≡ ns = set-set ns a m n ∙ set-get_or ns a 0 in
       let there : in_box ns (set origin a 0) ≡ true = subst (λ l. in_box l (set origin a 0) ≡ true) back (in_box-set (set ns a m) origin a n 0 (origin_in_box (set ns a m) some) long) in
-      first_is_place first ns (set origin a 0) ss there reach
+      offset_is_place offset ns (set origin a 0) ss there reach
 
   module _ (m : ℕ) (t : ℤ) (x : ℕ → ℕ) (change : IsAxisChange (get_or ns a 0) (get_or ss a (pos 0)) m t x) where
     change_coordinate : (i : List ℕ) → in_box (set ns a m) i ≡ true → get_or i a 0 < m
@@ -165,14 +165,14 @@ module _ (ns : List ℕ) (ss : List ℤ) (a : ℕ) (many : length ss ≡ length 
         let back : set (set ns a m) a n ≡ ns = set-set ns a m n ∙ set-get_or ns a 0 in
         subst (λ l. in_box l (set i a q) ≡ true) back (in_box-set (set ns a m) i a n q h (change.below (get_or i a 0) (change_coordinate i h)))
 
-    change_offset : (i : List ℕ) → in_box (set ns a m) i ≡ true → offset_of ss (set i a (x (get_or i a 0))) ≡ (pos (x 0) *ℤ get_or ss a (pos 0)) +ℤ offset_of (set ss a t) i
-    change_offset i h =
+    change_displacement : (i : List ℕ) → in_box (set ns a m) i ≡ true → displacement_of ss (set i a (x (get_or i a 0))) ≡ (pos (x 0) *ℤ get_or ss a (pos 0)) +ℤ displacement_of (set ss a t) i
+    change_displacement i h =
         let as_many : length i ≡ length ss = (length-in_box (set ns a m) i h ∙ length-set ns a m) ∙ sym many in
-        offset_of-moved ss i a t (x (get_or i a 0)) (pos (x 0) *ℤ get_or ss a (pos 0)) as_many on_strides (change.moves (get_or i a 0) (change_coordinate i h))
+        displacement_of-moved ss i a t (x (get_or i a 0)) (pos (x 0) *ℤ get_or ss a (pos 0)) as_many on_strides (change.moves (get_or i a 0) (change_coordinate i h))
 
     -- such a change is a layout step, from the place of the axis's new coordinate 0
-    pub axis_is_step : (first new_first : ℕ) → (0 < size_of (set ns a m) → pos new_first ≡ pos first +ℤ (pos (x 0) *ℤ get_or ss a (pos 0))) → IsStep first ns ss new_first (set ns a m) (set ss a t) (λ i. set i a (x (get_or i a 0)))
-    axis_is_step first new_first moved =
+    pub axis_is_step : (offset new_offset : ℕ) → (0 < size_of (set ns a m) → pos new_offset ≡ pos offset +ℤ (pos (x 0) *ℤ get_or ss a (pos 0))) → IsStep offset ns ss new_offset (set ns a m) (set ss a t) (λ i. set i a (x (get_or i a 0)))
+    axis_is_step offset new_offset moved =
         let n = get_or ns a 0 in
         let s = get_or ss a (pos 0) in
         record {
@@ -180,7 +180,7 @@ module _ (ns : List ℕ) (ss : List ℤ) (a : ℕ) (many : length ss ≡ length 
           same = λ i h.
               let below = row_rank_below (set ns a m) i h in
               let start = moved (omega (arith, below)) in
-              joined (pos new_first) (pos first) (pos (x 0) *ℤ s) (offset_of (set ss a t) i) (offset_of ss (set i a (x (get_or i a 0)))) start (change_offset i h);
+              joined (pos new_offset) (pos offset) (pos (x 0) *ℤ s) (displacement_of (set ss a t) i) (displacement_of ss (set i a (x (get_or i a 0)))) start (change_displacement i h);
           as_many = length-set ss a t ∙ (many ∙ sym (length-set ns a m));
           spread = span_of-changed ns ss a m t many on (no_further n m (nat_abs s) (nat_abs t) change.steps);
           checked = λ few. HasCheckedSize-set ns a m on change.few few;
@@ -188,41 +188,41 @@ module _ (ns : List ℕ) (ss : List ℤ) (a : ℕ) (many : length ss ≡ length 
         }
 
   -- where the stride or the length stays as it was
-  pub new_shape_is_step : (m : ℕ) (x : ℕ → ℕ) → IsAxisChange (get_or ns a 0) (get_or ss a (pos 0)) m (get_or ss a (pos 0)) x → (first new_first : ℕ) → (0 < size_of (set ns a m) → pos new_first ≡ pos first +ℤ (pos (x 0) *ℤ get_or ss a (pos 0))) → IsStep first ns ss new_first (set ns a m) ss (λ i. set i a (x (get_or i a 0)))
-  new_shape_is_step m x change first new_first moved =
-      subst (λ ts. IsStep first ns ss new_first (set ns a m) ts (λ i. set i a (x (get_or i a 0)))) (set-get_or ss a (pos 0)) (axis_is_step m (get_or ss a (pos 0)) x change first new_first moved)
+  pub new_shape_is_step : (m : ℕ) (x : ℕ → ℕ) → IsAxisChange (get_or ns a 0) (get_or ss a (pos 0)) m (get_or ss a (pos 0)) x → (offset new_offset : ℕ) → (0 < size_of (set ns a m) → pos new_offset ≡ pos offset +ℤ (pos (x 0) *ℤ get_or ss a (pos 0))) → IsStep offset ns ss new_offset (set ns a m) ss (λ i. set i a (x (get_or i a 0)))
+  new_shape_is_step m x change offset new_offset moved =
+      subst (λ ts. IsStep offset ns ss new_offset (set ns a m) ts (λ i. set i a (x (get_or i a 0)))) (set-get_or ss a (pos 0)) (axis_is_step m (get_or ss a (pos 0)) x change offset new_offset moved)
 
-  pub new_stride_is_step : (t : ℤ) (x : ℕ → ℕ) → IsAxisChange (get_or ns a 0) (get_or ss a (pos 0)) (get_or ns a 0) t x → (first new_first : ℕ) → (0 < size_of (set ns a (get_or ns a 0)) → pos new_first ≡ pos first +ℤ (pos (x 0) *ℤ get_or ss a (pos 0))) → IsStep first ns ss new_first ns (set ss a t) (λ i. set i a (x (get_or i a 0)))
-  new_stride_is_step t x change first new_first moved =
-      subst (λ ms. IsStep first ns ss new_first ms (set ss a t) (λ i. set i a (x (get_or i a 0)))) (set-get_or ns a 0) (axis_is_step (get_or ns a 0) t x change first new_first moved)
+  pub new_stride_is_step : (t : ℤ) (x : ℕ → ℕ) → IsAxisChange (get_or ns a 0) (get_or ss a (pos 0)) (get_or ns a 0) t x → (offset new_offset : ℕ) → (0 < size_of (set ns a (get_or ns a 0)) → pos new_offset ≡ pos offset +ℤ (pos (x 0) *ℤ get_or ss a (pos 0))) → IsStep offset ns ss new_offset ns (set ss a t) (λ i. set i a (x (get_or i a 0)))
+  new_stride_is_step t x change offset new_offset moved =
+      subst (λ ms. IsStep offset ns ss new_offset ms (set ss a t) (λ i. set i a (x (get_or i a 0)))) (set-get_or ns a 0) (axis_is_step (get_or ns a 0) t x change offset new_offset moved)
 
-  pub collapse_is_step : (k first new_first : ℕ) → k < get_or ns a 0 → (0 < size_of (set ns a 1) → pos new_first ≡ pos first +ℤ (pos k *ℤ get_or ss a (pos 0))) → IsStep first ns ss new_first (collapsed_shape ns a) ss (collapsed_index a k)
-  collapse_is_step k first new_first below moved =
-      new_shape_is_step 1 (λ c. k) (collapse_change (get_or ns a 0) k (get_or ss a (pos 0)) below) first new_first moved
+  pub collapse_is_step : (k offset new_offset : ℕ) → k < get_or ns a 0 → (0 < size_of (set ns a 1) → pos new_offset ≡ pos offset +ℤ (pos k *ℤ get_or ss a (pos 0))) → IsStep offset ns ss new_offset (collapsed_shape ns a) ss (collapsed_index a k)
+  collapse_is_step k offset new_offset below moved =
+      new_shape_is_step 1 (λ c. k) (collapse_change (get_or ns a 0) k (get_or ss a (pos 0)) below) offset new_offset moved
 
-  pub lower_is_step : (k first : ℕ) → k ≤ get_or ns a 0 → IsStep first ns ss first (lower_shape ns a k) ss (λ i. i)
-  lower_is_step k first within =
+  pub lower_is_step : (k offset : ℕ) → k ≤ get_or ns a 0 → IsStep offset ns ss offset (lower_shape ns a k) ss (λ i. i)
+  lower_is_step k offset within =
       let s = get_or ss a (pos 0) in
-      let step = new_shape_is_step k (λ c. c) (lower_change (get_or ns a 0) k s within) first first (λ _. plus_zero (pos first) s) in
+      let step = new_shape_is_step k (λ c. c) (lower_change (get_or ns a 0) k s within) offset offset (λ _. plus_zero (pos offset) s) in
       record {
         within = λ i h. subst (λ (j : List ℕ). in_box ns j ≡ true) (set-get_or i a 0) (step.within i h);
-        same = λ i h. step.same i h ∙ ap (place_of first ss) (set-get_or i a 0);
+        same = λ i h. step.same i h ∙ ap (place_of offset ss) (set-get_or i a 0);
         as_many = step.as_many;
         spread = step.spread;
         checked = step.checked;
         separated = step.separated;
       }
 
-  pub upper_is_step : (k first new_first : ℕ) → k ≤ get_or ns a 0 → (0 < size_of (upper_shape ns a k) → pos new_first ≡ pos first +ℤ (pos k *ℤ get_or ss a (pos 0))) → IsStep first ns ss new_first (upper_shape ns a k) ss (upper_index a k)
-  upper_is_step k first new_first within moved =
+  pub upper_is_step : (k offset new_offset : ℕ) → k ≤ get_or ns a 0 → (0 < size_of (upper_shape ns a k) → pos new_offset ≡ pos offset +ℤ (pos k *ℤ get_or ss a (pos 0))) → IsStep offset ns ss new_offset (upper_shape ns a k) ss (upper_index a k)
+  upper_is_step k offset new_offset within moved =
       let s = get_or ss a (pos 0) in
       let none : 0 + k ≡ k = omega arith in
-      new_shape_is_step (get_or ns a 0 - k) (λ c. c + k) (upper_change (get_or ns a 0) k s within) first new_first (λ some. moved some ∙ ap (λ q. pos first +ℤ (pos q *ℤ s)) (sym none))
+      new_shape_is_step (get_or ns a 0 - k) (λ c. c + k) (upper_change (get_or ns a 0) k s within) offset new_offset (λ some. moved some ∙ ap (λ q. pos offset +ℤ (pos q *ℤ s)) (sym none))
 
-  pub invert_is_step : (first new_first : ℕ) → span_of ns ss < 9223372036854775808 → (0 < size_of (set ns a (get_or ns a 0)) → pos new_first ≡ pos first +ℤ (pos (get_or ns a 0 - 1) *ℤ get_or ss a (pos 0))) → IsStep first ns ss new_first ns (set ss a (opposite_stride (get_or ss a (pos 0)))) (inverted_index ns a)
-  invert_is_step first new_first spread moved =
+  pub invert_is_step : (offset new_offset : ℕ) → span_of ns ss < 9223372036854775808 → (0 < size_of (set ns a (get_or ns a 0)) → pos new_offset ≡ pos offset +ℤ (pos (get_or ns a 0 - 1) *ℤ get_or ss a (pos 0))) → IsStep offset ns ss new_offset ns (set ss a (opposite_stride (get_or ss a (pos 0)))) (inverted_index ns a)
+  invert_is_step offset new_offset spread moved =
       let n = get_or ns a 0 in
       let s = get_or ss a (pos 0) in
       let part = span_of-at ns ss a many on in
       let far : n - 1 - 0 ≡ n - 1 = omega arith in
-      new_stride_is_step (opposite_stride s) (λ c. n - 1 - c) (invert_change n s (omega (arith, part, spread))) first new_first (λ some. moved some ∙ ap (λ q. pos first +ℤ (pos q *ℤ s)) (sym far))
+      new_stride_is_step (opposite_stride s) (λ c. n - 1 - c) (invert_change n s (omega (arith, part, spread))) offset new_offset (λ some. moved some ∙ ap (λ q. pos offset +ℤ (pos q *ℤ s)) (sym far))

@@ -6,13 +6,13 @@ use Rattle.std.proofs.lemmas.Bool.Decides.{nat_tests}
 use Rattle.std.proofs.lemmas.Int.{ints}
 use Rattle.std.proofs.lemmas.List.{drop_more, drop_all}
 use Rattle.nd_shape_and_slice.specs.Shape.{in_box, HasCheckedSize}
-use Rattle.nd_shape_and_slice.specs.Place.{offset_of, span_of}
+use Rattle.nd_shape_and_slice.specs.Place.{displacement_of, span_of}
 use Rattle.nd_layout.specs.Strides.{sum_of, diagonal_stride}
 use Rattle.nd_layout.proofs.Integers.{zero-mul, sums}
 use Rattle.nd_shape_and_slice.proofs.Boxes.{coordinate_below}
 use Rattle.nd_layout.proofs.Reaches.{span_of-drop}
 use Rattle.nd_layout.proofs.Sizes.{length-le-product}
-use Rattle.nd_layout.proofs.Diagonal.{offset_of-diagonal, in_box-diagonal, diagonal-le-span, diagonal-moves, one_axis-separated}
+use Rattle.nd_layout.proofs.Diagonal.{displacement_of-diagonal, in_box-diagonal, diagonal-le-span, diagonal-moves, one_axis-separated}
 use Rattle.nd_layout.specs.Steps.{IsStep}
 use Rattle.nd_shape_and_slice.specs.Maps.{least_of, diagonal_length, diagonal_index}
 
@@ -60,27 +60,27 @@ module _ (ns : List ℕ) (ss : List ℤ) (many : length ss ≡ length ns) where
   diagonal_coordinate : (i : List ℕ) → in_box (diagonal_length ns ∷ []) i ≡ true → get_or i 0 0 < diagonal_length ns
   diagonal_coordinate i h = coordinate_below (diagonal_length ns ∷ []) i 0 h (omega arith)
 
-  one_coordinate : (m : ℕ) (s : ℤ) (i : List ℕ) → in_box (m ∷ []) i ≡ true → offset_of (s ∷ []) i ≡ pos (get_or i 0 0) *ℤ s
+  one_coordinate : (m : ℕ) (s : ℤ) (i : List ℕ) → in_box (m ∷ []) i ≡ true → displacement_of (s ∷ []) i ≡ pos (get_or i 0 0) *ℤ s
   one_coordinate m s [] h = cc
   one_coordinate m s (c ∷ i) h = add_zero (pos c *ℤ s)
 
-  diagonal_offset : (i : List ℕ) → in_box (diagonal_length ns ∷ []) i ≡ true → offset_of (diagonal_stride ns ss ∷ []) i ≡ offset_of ss (diagonal_index ns i)
-  diagonal_offset i h =
+  diagonal_displacement : (i : List ℕ) → in_box (diagonal_length ns ∷ []) i ≡ true → displacement_of (diagonal_stride ns ss ∷ []) i ≡ displacement_of ss (diagonal_index ns i)
+  diagonal_displacement i h =
       let m = diagonal_length ns in
       let c = get_or i 0 0 in
       let below = diagonal_coordinate i h in
-      let whole : offset_of ss (diagonal_index ns i) ≡ pos c *ℤ sum_of ss = subst (λ l. offset_of ss (replicate l c) ≡ pos c *ℤ sum_of ss) many (offset_of-diagonal ss c) in
-      by_length m (sum_of ss) (λ t. offset_of (t ∷ []) i ≡ offset_of ss (diagonal_index ns i))
+      let whole : displacement_of ss (diagonal_index ns i) ≡ pos c *ℤ sum_of ss = subst (λ l. displacement_of ss (replicate l c) ≡ pos c *ℤ sum_of ss) many (displacement_of-diagonal ss c) in
+      by_length m (sum_of ss) (λ t. displacement_of (t ∷ []) i ≡ displacement_of ss (diagonal_index ns i))
       (λ short. let none : c ≡ 0 = omega (arith, below, short) in
       one_coordinate m (pos 0) i h ∙ (ap (λ k. pos k *ℤ pos 0) none ∙ (zero-mul (pos 0) ∙ (sym (zero-mul (sum_of ss)) ∙ (ap (λ k. pos k *ℤ sum_of ss) (sym none) ∙ sym whole)))))
       (λ _. one_coordinate m (sum_of ss) i h ∙ sym whole)
 
-  pub diagonal_is_step : (first : ℕ) → IsStep first ns ss first (diagonal_length ns ∷ []) (diagonal_stride ns ss ∷ []) (diagonal_index ns)
-  diagonal_is_step first =
+  pub diagonal_is_step : (offset : ℕ) → IsStep offset ns ss offset (diagonal_length ns ∷ []) (diagonal_stride ns ss ∷ []) (diagonal_index ns)
+  diagonal_is_step offset =
       let m = diagonal_length ns in
       record {
         within = λ i h. let below = diagonal_coordinate i h in in_box-diagonal ns (get_or i 0 0) (λ a on. let le = diagonal-le ns a on in omega (arith, below, le));
-        same = λ i h. ap (λ z. pos first +ℤ z) (diagonal_offset i h);
+        same = λ i h. ap (λ z. pos offset +ℤ z) (diagonal_displacement i h);
         as_many = refl;
         spread =
             let whole = diagonal-le-span ns ss m many (diagonal-le ns) in

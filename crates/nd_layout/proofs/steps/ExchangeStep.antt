@@ -10,7 +10,7 @@ use Rattle.std.proofs.lemmas.List.FromFn.{length-range_with_len, get_or-range_wi
 use Rattle.std.proofs.lemmas.List.Sorted.{IsPermutation-swap, IsPermutation-reverse, sum_by-IsPermutation}
 use Rattle.nd_shape_and_slice.specs.Shape.{in_box}
 use Rattle.nd_shape_and_slice.specs.Place.{place_of}
-use Rattle.nd_shape_and_slice.specs.Axes.{HasEachAxis, permuted, unpermuted}
+use Rattle.nd_shape_and_slice.specs.Axes.{HasEachAxis, permuted_list, unpermuted_list}
 use Rattle.nd_shape_and_slice.proofs.RowMajor.{length-in_box}
 use Rattle.nd_layout.specs.Strides.{permuted_strides}
 use Rattle.nd_layout.proofs.Totals.{times, times_is}
@@ -44,19 +44,19 @@ each_axis n p e moved = (
 )
 
 -- a permutation that is its own way back
-module _ (first : ℕ) (ns : List ℕ) (ss : List ℤ) (p : List ℕ) (back : List ℕ → List ℕ) (many : length ss ≡ length ns) (each : HasEachAxis p (length ns)) (does : (xs : List ℕ) → length xs ≡ length ns → permuted p xs ≡ back xs) (undoes : (xs : List ℕ) → length xs ≡ length ns → back (back xs) ≡ xs) where
-  way_back : (i : List ℕ) → length i ≡ length ns → unpermuted p i ≡ back i
+module _ (offset : ℕ) (ns : List ℕ) (ss : List ℤ) (p : List ℕ) (back : List ℕ → List ℕ) (many : length ss ≡ length ns) (each : HasEachAxis p (length ns)) (does : (xs : List ℕ) → length xs ≡ length ns → permuted_list p xs ≡ back xs) (undoes : (xs : List ℕ) → length xs ≡ length ns → back (back xs) ≡ xs) where
+  way_back : (i : List ℕ) → length i ≡ length ns → unpermuted_list p i ≡ back i
   way_back i e =
-      let as_many : length (unpermuted p i) ≡ length ns = length-unpermuted p i ∙ each.0 in
-      sym (undoes (unpermuted p i) as_many) ∙ ap back (sym (does (unpermuted p i) as_many) ∙ permuted-unpermuted p i (length ns) each e)
+      let as_many : length (unpermuted_list p i) ≡ length ns = length-unpermuted p i ∙ each.0 in
+      sym (undoes (unpermuted_list p i) as_many) ∙ ap back (sym (does (unpermuted_list p i) as_many) ∙ permuted-unpermuted p i (length ns) each e)
 
-  pub involution_is_step : (ts : List ℤ) → permuted_strides p ss ≡ ts → IsStep first ns ss first (back ns) ts back
+  pub involution_is_step : (ts : List ℤ) → permuted_strides p ss ≡ ts → IsStep offset ns ss offset (back ns) ts back
   involution_is_step ts same =
-      let step = subst (λ ms. IsStep first ns ss first ms ts (unpermuted p)) (does ns refl) (subst (λ us. IsStep first ns ss first (permuted p ns) us (unpermuted p)) same (permute_is_step first ns ss p many each)) in
+      let step = subst (λ ms. IsStep offset ns ss offset ms ts (unpermuted_list p)) (does ns refl) (subst (λ us. IsStep offset ns ss offset (permuted_list p ns) us (unpermuted_list p)) same (permute_is_step offset ns ss p many each)) in
       let counted : (i : List ℕ) → in_box (back ns) i ≡ true → length i ≡ length ns = λ i h. length-in_box (back ns) i h ∙ (sym (ap length (does ns refl)) ∙ (length-permuted p ns ∙ each.0)) in
       record {
         within = λ i h. subst (λ j. in_box ns j ≡ true) (way_back i (counted i h)) (step.within i h);
-        same = λ i h. step.same i h ∙ ap (place_of first ss) (way_back i (counted i h));
+        same = λ i h. step.same i h ∙ ap (place_of offset ss) (way_back i (counted i h));
         as_many = step.as_many;
         spread = step.spread;
         checked = step.checked;
@@ -105,13 +105,13 @@ swap_back xs a b on_a on_b =
     (cases_eq k b))
     (cases_eq k a))
 
-pub swap_is_step : (first : ℕ) (ns : List ℕ) (ss : List ℤ) (a b : ℕ) → length ss ≡ length ns → a < length ns → b < length ns → IsStep first ns ss first (swap ns a b) (swap ss a b) (λ i. swap i a b)
-swap_is_step first ns ss a b many on_a on_b =
+pub swap_is_step : (offset : ℕ) (ns : List ℕ) (ss : List ℤ) (a b : ℕ) → length ss ≡ length ns → a < length ns → b < length ns → IsStep offset ns ss offset (swap ns a b) (swap ss a b) (λ i. swap i a b)
+swap_is_step offset ns ss a b many on_a on_b =
     let n = length ns in
     let axes = range_with_len 0 n in
     let long = length-range_with_len 0 n in
     let each = each_axis n (swap axes a b) (length-swap axes a b ∙ long) (IsPermutation-swap axes (swap axes a b) a b (omega (arith, long, on_a)) (omega (arith, long, on_b)) refl) in
-    involution_is_step first ns ss (swap axes a b) (λ i. swap i a b) many each
+    involution_is_step offset ns ss (swap axes a b) (λ i. swap i a b) many each
     (λ xs e. exchanged 0 xs n a b (sym e) (omega (arith, e, on_a)) (omega (arith, e, on_b)))
     (λ xs e. swap_back xs a b (omega (arith, e, on_a)) (omega (arith, e, on_b)))
     (swap ss a b) (exchanged (pos 0) ss n a b (sym many) (omega (arith, many, on_a)) (omega (arith, many, on_b)))
@@ -133,12 +133,12 @@ turned {A} d xs n e =
     get_or-reverse axes k 0 (omega (arith, below, long)) ∙ (ap (λ j. get_or axes j 0) same ∙ (get_or-range_with_len 0 n (length xs - 1 - k) 0 (omega (arith, below, e)) ∙ plus)) in
     get_or-map f (reverse axes) k 0 d (omega (arith, below, turned_long, long)) ∙ (ap f here ∙ sym (get_or-reverse xs k d (omega (arith, below, e)))))
 
-pub reverse_is_step : (first : ℕ) (ns : List ℕ) (ss : List ℤ) → length ss ≡ length ns → IsStep first ns ss first (reverse ns) (reverse ss) reverse
-reverse_is_step first ns ss many =
+pub reverse_is_step : (offset : ℕ) (ns : List ℕ) (ss : List ℤ) → length ss ≡ length ns → IsStep offset ns ss offset (reverse ns) (reverse ss) reverse
+reverse_is_step offset ns ss many =
     let n = length ns in
     let axes = range_with_len 0 n in
     let each = each_axis n (reverse axes) (length-reverse axes ∙ length-range_with_len 0 n) (IsPermutation-reverse axes) in
-    involution_is_step first ns ss (reverse axes) reverse many each
+    involution_is_step offset ns ss (reverse axes) reverse many each
     (λ xs e. turned 0 xs n (sym e))
     (λ xs e. reverse-reverse xs)
     (reverse ss) (turned (pos 0) ss n (sym many))

@@ -61,7 +61,7 @@ module _ (ns : List ℕ) (ss : List ℤ) where
           (λ short. or_left (leb (get_or ns k 0) 1) (ltb (span_within (magnitude_at ss k) ns ss) (get_or ns k 0 * magnitude_at ss k)) (le-leb (get_or ns k 0) 1 (omega (arith, short))))
           (cases_lt 1 (get_or ns k 0))
 
--- ---- the first place, axis by axis
+-- ---- the offset, axis by axis
 pub reach_down-le-span : (ns : List ℕ) (ss : List ℤ) → reach_down ns ss ≤ span_of ns ss
 reach_down-le-span ns ss = let e = span_of-reaches ns ss in omega (arith, e)
 

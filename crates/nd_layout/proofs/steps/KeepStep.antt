@@ -10,7 +10,7 @@ use Rattle.std.proofs.lemmas.List.Sums.{sum_by-cons}
 use Rattle.nd_shape_and_slice.specs.declared.slice_info.SliceInfoElem.{SliceInfoElem}
 use Rattle.nd_shape_and_slice.specs.declared.slice_info.SliceInfoElem.TheVariants.{Slice as Part, Index, NewAxis}
 use Rattle.nd_shape_and_slice.specs.Shape.{in_box, nonzero_product}
-use Rattle.nd_shape_and_slice.specs.Place.{offset_of, span_of, span_within, magnitude_at, IsSeparated}
+use Rattle.nd_shape_and_slice.specs.Place.{displacement_of, span_of, span_within, magnitude_at, IsSeparated}
 use Rattle.std.specs.Option.{unwrap_or}
 use Rattle.std.specs.Prelude.{Option, None, Some, MatchOption}
 use Rattle.nd_shape_and_slice.specs.Slice.{sliced_length, sliced_from}
@@ -56,7 +56,7 @@ within_kept (NewAxis ∷ es) ms (i ∷ is) ones h = within_kept es ms is ones (a
 nothing_more : (i : ℕ) (z : ℤ) → (pos i *ℤ pos 0) +ℤ z ≡ z
 nothing_more i z = omega (arith, ints)
 
-same_kept : (es : List SliceInfoElem) (ms : List ℕ) (ts : List ℤ) (i : List ℕ) → length ts ≡ length ms → indexed_ones es ms ≡ true → in_box (kept_items 1 es ms) i ≡ true → offset_of (kept_items (pos 0) es ts) i ≡ offset_of ts (put_back es i)
+same_kept : (es : List SliceInfoElem) (ms : List ℕ) (ts : List ℤ) (i : List ℕ) → length ts ≡ length ms → indexed_ones es ms ≡ true → in_box (kept_items 1 es ms) i ≡ true → displacement_of (kept_items (pos 0) es ts) i ≡ displacement_of ts (put_back es i)
 same_kept [] [] [] i e ones h = refl
 same_kept [] [] (t ∷ ts) i e ones h = absurd (omega arith)
 same_kept [] (m ∷ ms) ts i e ones h = absurd cc
@@ -69,10 +69,10 @@ same_kept (Index k ∷ es) [] ts i e ones h = absurd cc
 same_kept (Index k ∷ es) (m ∷ ms) [] i e ones h = absurd (omega arith)
 same_kept (Index k ∷ es) (m ∷ ms) (t ∷ ts) i e ones h =
     let rest = same_kept es ms ts i (omega (arith, e)) (and_parts (eqb m 1) (indexed_ones es ms) ones).1 h in
-    rest ∙ sym (ap (λ z. z +ℤ offset_of ts (put_back es i)) (zero-mul t) ∙ +ℤ_idl (offset_of ts (put_back es i)))
+    rest ∙ sym (ap (λ z. z +ℤ displacement_of ts (put_back es i)) (zero-mul t) ∙ +ℤ_idl (displacement_of ts (put_back es i)))
 same_kept (NewAxis ∷ es) ms ts [] e ones h = absurd cc
 same_kept (NewAxis ∷ es) ms ts (i ∷ is) e ones h =
-    nothing_more i (offset_of (kept_items (pos 0) es ts) is) ∙ same_kept es ms ts is e ones (and_parts (ltb i 1) (in_box (kept_items 1 es ms) is) h).1
+    nothing_more i (displacement_of (kept_items (pos 0) es ts) is) ∙ same_kept es ms ts is e ones (and_parts (ltb i 1) (in_box (kept_items 1 es ms) is) h).1
 
 spread_kept : (es : List SliceInfoElem) (ms : List ℕ) (ts : List ℤ) → length ts ≡ length ms → span_of (kept_items 1 es ms) (kept_items (pos 0) es ts) ≤ span_of ms ts
 spread_kept [] ms ts e = omega arith
@@ -142,10 +142,10 @@ separated_kept es ms ts e apart k long =
     let known : span_within g ms ts < get_or (kept_items 1 es ms) k 0 * g = rw (old.1, same) at there in
     omega (arith, known, less)
 
-pub keep_is_step : (first : ℕ) (ms : List ℕ) (ts : List ℤ) (es : List SliceInfoElem) → length ts ≡ length ms → indexed_ones es ms ≡ true → IsStep first ms ts first (kept_items 1 es ms) (kept_items (pos 0) es ts) (put_back es)
-keep_is_step first ms ts es many ones = record {
+pub keep_is_step : (offset : ℕ) (ms : List ℕ) (ts : List ℤ) (es : List SliceInfoElem) → length ts ≡ length ms → indexed_ones es ms ≡ true → IsStep offset ms ts offset (kept_items 1 es ms) (kept_items (pos 0) es ts) (put_back es)
+keep_is_step offset ms ts es many ones = record {
   within = λ i h. within_kept es ms i ones h;
-  same = λ i h. ap (λ z. pos first +ℤ z) (same_kept es ms ts i many ones h);
+  same = λ i h. ap (λ z. pos offset +ℤ z) (same_kept es ms ts i many ones h);
   as_many = as_many_kept es ms ts many;
   spread = spread_kept es ms ts many;
   checked = λ few. let same = checked_kept es ms ones in omega (arith, same, few);
@@ -340,7 +340,7 @@ kept_before (n ∷ ns) (NewAxis ∷ es) [] h box = absurd cc
 kept_before [] (NewAxis ∷ es) (i ∷ is) h box = kept_before [] es is h (and_parts _ _ box).1
 kept_before (n ∷ ns) (NewAxis ∷ es) (i ∷ is) h box = kept_before (n ∷ ns) es is h (and_parts _ _ box).1
 
-pub slice_list_is_step : (first new_first mid : ℕ) (ns : List ℕ) (ss : List ℤ) (ms : List ℕ) (ts : List ℤ) (new_ns : List ℕ) (new_ss : List ℤ) (es : List SliceInfoElem) → each_fits ns es ≡ true → ms ≡ collapsed_after ns es → IsStep first ns ss mid ms ts (collapsed_before ns es) → new_ns ≡ kept_items 1 es ms → IsStep mid ms ts new_first new_ns new_ss (put_back es) → (new_ns ≡ shape_after ns es) × IsStep first ns ss new_first new_ns new_ss (index_before ns es)
-slice_list_is_step first new_first mid ns ss ms ts new_ns new_ss es fits shape step kept next =
+pub slice_list_is_step : (offset new_offset mid : ℕ) (ns : List ℕ) (ss : List ℤ) (ms : List ℕ) (ts : List ℤ) (new_ns : List ℕ) (new_ss : List ℤ) (es : List SliceInfoElem) → each_fits ns es ≡ true → ms ≡ collapsed_after ns es → IsStep offset ns ss mid ms ts (collapsed_before ns es) → new_ns ≡ kept_items 1 es ms → IsStep mid ms ts new_offset new_ns new_ss (put_back es) → (new_ns ≡ shape_after ns es) × IsStep offset ns ss new_offset new_ns new_ss (index_before ns es)
+slice_list_is_step offset new_offset mid ns ss ms ts new_ns new_ss es fits shape step kept next =
     let same : new_ns ≡ shape_after ns es = kept ∙ (ap (kept_items 1 es) shape ∙ kept_after ns es fits) in
     (same, step_by (index_before ns es) (λ i h. kept_before ns es i fits (subst (λ l. in_box l i ≡ true) same h)) (step_then step next))

@@ -6,13 +6,13 @@ use Rattle.std.proofs.lemmas.Bool.Decides.{nat_tests}
 use Rattle.nd_shape_and_slice.specs.declared.builder.Order.{Order}
 use Rattle.nd_shape_and_slice.specs.declared.builder.Order.TheVariants.{RowMajor, ColumnMajor}
 use Rattle.nd_shape_and_slice.specs.Shape.{in_box, size_of, nonzero_product, row_rank, column_rank, HasCheckedSize}
-use Rattle.nd_shape_and_slice.specs.Place.{offset_of, place_of, span_of, IsSeparated}
+use Rattle.nd_shape_and_slice.specs.Place.{displacement_of, place_of, span_of, IsSeparated}
 use Rattle.nd_shape_and_slice.specs.Strides.{row_strides, c_strides, column_strides_from, f_strides}
-use Rattle.nd_shape_and_slice.proofs.RowMajor.{row_rank_below, offset_of-row_strides, nonzero_product-size_of, span_of-row_strides, IsSeparated-row_strides, span_of-zeros, c_strides-empty, c_strides-full, length-row_strides}
-use Rattle.nd_shape_and_slice.proofs.ColumnMajor.{column_rank_below, offset_of-column_strides, span_of-column_strides, IsSeparated-column_strides, f_strides-empty, f_strides-full, length-column_strides_from}
+use Rattle.nd_shape_and_slice.proofs.RowMajor.{row_rank_below, displacement_of-row, nonzero_product-size_of, span_of-row_strides, IsSeparated-row_strides, span_of-zeros, c_strides-empty, c_strides-full, length-row_strides}
+use Rattle.nd_shape_and_slice.proofs.ColumnMajor.{column_rank_below, displacement_of-column, span_of-column_strides, IsSeparated-column_strides, f_strides-empty, f_strides-full, length-column_strides_from}
 use Rattle.nd_layout.specs.Places.{is_place}
 use Rattle.nd_layout.specs.Ranks.{rank_in}
-use Rattle.nd_layout.specs.Given.{ordered_strides}
+use Rattle.nd_layout.specs.GivenStrides.{ordered_strides}
 use Rattle.nd_layout.specs.Steps.{IsValid}
 
 -- strides under which each index lies at its rank, each rank below the size
@@ -20,7 +20,7 @@ pub record IsRanked (ns : List ℕ) (ss : List ℤ) (rank : List ℕ → ℕ) : 
   pub as_many : length ss ≡ length ns
   pub spread : span_of ns ss < 9223372036854775808
   pub below : (i : List ℕ) → in_box ns i ≡ true → rank i < size_of ns
-  pub at : (i : List ℕ) → in_box ns i ≡ true → offset_of ss i ≡ pos (rank i)
+  pub at : (i : List ℕ) → in_box ns i ≡ true → displacement_of ss i ≡ pos (rank i)
   pub apart : 0 < size_of ns → IsSeparated ns ss
 
 -- a number is 0 or above
@@ -30,7 +30,7 @@ none_or_some P (suc n) none some = some (omega arith)
 
 -- strides of 0 where there is no element, and dense ones where there is
 module _ (ns : List ℕ) (ss dense : List ℤ) (rank : List ℕ → ℕ) (empty : size_of ns ≡ 0 → ss ≡ replicate (length ns) (pos 0)) (full : 0 < size_of ns → ss ≡ dense) where
-  ranked_from : HasCheckedSize ns → length dense ≡ length ns → (0 < size_of ns → span_of ns dense + 1 ≡ size_of ns) → ((i : List ℕ) → in_box ns i ≡ true → rank i < size_of ns) → ((i : List ℕ) → in_box ns i ≡ true → offset_of dense i ≡ pos (rank i)) → (0 < size_of ns → IsSeparated ns dense) → IsRanked ns ss rank
+  ranked_from : HasCheckedSize ns → length dense ≡ length ns → (0 < size_of ns → span_of ns dense + 1 ≡ size_of ns) → ((i : List ℕ) → in_box ns i ≡ true → rank i < size_of ns) → ((i : List ℕ) → in_box ns i ≡ true → displacement_of dense i ≡ pos (rank i)) → (0 < size_of ns → IsSeparated ns dense) → IsRanked ns ss rank
   ranked_from checked long span below at apart = record {
     as_many =
         none_or_some (length ss ≡ length ns) (size_of ns)
@@ -48,15 +48,15 @@ module _ (ns : List ℕ) (ss dense : List ℤ) (rank : List ℕ → ℕ) (empty 
     below = below;
     at = λ i h.
         let under = below i h in
-        ap (λ ts. offset_of ts i) (full (omega (arith, under))) ∙ at i h;
+        ap (λ ts. displacement_of ts i) (full (omega (arith, under))) ∙ at i h;
     apart = λ some. subst (IsSeparated ns) (sym (full some)) (apart some);
   }
 
 pub ordered_is_ranked : (order : Order) (ns : List ℕ) → HasCheckedSize ns → IsRanked ns (ordered_strides order ns) (rank_in order ns)
 ordered_is_ranked RowMajor ns checked =
-    ranked_from ns (c_strides ns) (row_strides ns) (row_rank ns) (c_strides-empty ns) (c_strides-full ns) checked (length-row_strides ns) (span_of-row_strides ns) (row_rank_below ns) (offset_of-row_strides ns) (IsSeparated-row_strides ns)
+    ranked_from ns (c_strides ns) (row_strides ns) (row_rank ns) (c_strides-empty ns) (c_strides-full ns) checked (length-row_strides ns) (span_of-row_strides ns) (row_rank_below ns) (displacement_of-row ns) (IsSeparated-row_strides ns)
 ordered_is_ranked ColumnMajor ns checked =
-    ranked_from ns (f_strides ns) (column_strides_from 1 ns) (column_rank ns) (f_strides-empty ns) (f_strides-full ns) checked (length-column_strides_from 1 ns) (span_of-column_strides ns) (column_rank_below ns) (offset_of-column_strides ns) (IsSeparated-column_strides ns)
+    ranked_from ns (f_strides ns) (column_strides_from 1 ns) (column_rank ns) (f_strides-empty ns) (f_strides-full ns) checked (length-column_strides_from 1 ns) (span_of-column_strides ns) (column_rank_below ns) (displacement_of-column ns) (IsSeparated-column_strides ns)
 
 module _ {ns : List ℕ} {ss : List ℤ} {rank : List ℕ → ℕ} (ranked : IsRanked ns ss rank) where
   pub ranked_place : (i : List ℕ) → in_box ns i ≡ true → place_of 0 ss i ≡ pos (rank i)

@@ -113,26 +113,26 @@ one_more a k (Index i) h = omega arith
 one_more a k NewAxis h = omega arith
 
 -- the first k elements have been applied, and the next reads axis a
-pub record IsSlicedTo (first : ℕ) (ns : List ℕ) (ss : List ℤ) (es : List SliceInfoElem) (a k new_first : ℕ) (new_ns : List ℕ) (new_ss : List ℤ) : Type 0 where
+pub record IsSlicedTo (offset : ℕ) (ns : List ℕ) (ss : List ℤ) (es : List SliceInfoElem) (a k new_offset : ℕ) (new_ns : List ℕ) (new_ss : List ℤ) : Type 0 where
   pub source : List ℕ → List ℕ
   pub few : a ≤ k
   pub fits : fits_from a new_ns (drop k es) ≡ true
   pub shape : collapsed_after ns es ≡ after_from a new_ns (drop k es)
   pub index : (i : List ℕ) → collapsed_before ns es i ≡ source (before_from a new_ns (drop k es) i)
-  pub step : IsStep first ns ss new_first new_ns new_ss source
+  pub step : IsStep offset ns ss new_offset new_ns new_ss source
 
-module _ (first : ℕ) (ns : List ℕ) (ss : List ℤ) (es : List SliceInfoElem) where
-  pub sliced_none : length ss ≡ length ns → each_fits ns es ≡ true → IsSlicedTo first ns ss es 0 0 first ns ss
+module _ (offset : ℕ) (ns : List ℕ) (ss : List ℤ) (es : List SliceInfoElem) where
+  pub sliced_none : length ss ≡ length ns → each_fits ns es ≡ true → IsSlicedTo offset ns ss es 0 0 offset ns ss
   sliced_none many fits = record {
     source = λ i. i;
     few = omega arith;
     fits = fits;
     shape = refl;
     index = λ i. refl;
-    step = same_is_step first ns ss many;
+    step = same_is_step offset ns ss many;
   }
 
-  module _ (a k : ℕ) (f' : ℕ) (ns' : List ℕ) (ss' : List ℤ) (so_far : IsSlicedTo first ns ss es a k f' ns' ss') where
+  module _ (a k : ℕ) (f' : ℕ) (ns' : List ℕ) (ss' : List ℤ) (so_far : IsSlicedTo offset ns ss es a k f' ns' ss') where
     module _ (d : SliceInfoElem) (within : k < length es) where
       here : drop k es ≡ get_or es k d ∷ drop (k + 1) es
       here = drop_more es k d within
@@ -143,7 +143,7 @@ module _ (first : ℕ) (ns : List ℕ) (ss : List ℤ) (es : List SliceInfoElem)
       pub sliced_fits : fits_next (slice_get ns' a) (get_or es k d) ≡ true
       sliced_fits = fits_here a ns' (get_or es k d) (drop (k + 1) es) fitting
 
-      pub sliced_more : (f'' : ℕ) (ns'' : List ℕ) (ss'' : List ℤ) → ns'' ≡ shape_with ns' a (get_or es k d) → IsStep f' ns' ss' f'' ns'' ss'' (index_with ns' a (get_or es k d)) → IsSlicedTo first ns ss es (next_axis a (get_or es k d)) (k + 1) f'' ns'' ss''
+      pub sliced_more : (f'' : ℕ) (ns'' : List ℕ) (ss'' : List ℤ) → ns'' ≡ shape_with ns' a (get_or es k d) → IsStep f' ns' ss' f'' ns'' ss'' (index_with ns' a (get_or es k d)) → IsSlicedTo offset ns ss es (next_axis a (get_or es k d)) (k + 1) f'' ns'' ss''
       sliced_more f'' ns'' ss'' shape step =
           let e = get_or es k d in
           let rest = drop (k + 1) es in
@@ -163,7 +163,7 @@ module _ (first : ℕ) (ns : List ℕ) (ss : List ℤ) (es : List SliceInfoElem)
     pub sliced_all_shape : length es ≤ k → ns' ≡ collapsed_after ns es
     sliced_all_shape done = sym (so_far.shape ∙ (ap (after_from a ns') (drop_of_length-le es done) ∙ after_none a ns'))
 
-    pub sliced_all : length es ≤ k → IsStep first ns ss f' ns' ss' (collapsed_before ns es)
+    pub sliced_all : length es ≤ k → IsStep offset ns ss f' ns' ss' (collapsed_before ns es)
     sliced_all done =
         let end = drop_of_length-le es done in
         let fits : fits_from a ns' [] ≡ true = subst (λ l. fits_from a ns' l ≡ true) end so_far.fits in

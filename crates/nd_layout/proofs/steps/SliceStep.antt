@@ -11,19 +11,19 @@ use Rattle.std.proofs.lemmas.Int.{ints}
 use Rattle.std.proofs.lemmas.Bool.Decides.{nat_tests}
 use Rattle.nd_shape_and_slice.specs.declared.slice.Slice.{Slice}
 use Rattle.nd_shape_and_slice.specs.Shape.{in_box, size_of}
-use Rattle.nd_shape_and_slice.specs.Place.{offset_of, span_of, IsSeparated}
+use Rattle.nd_shape_and_slice.specs.Place.{displacement_of, span_of, IsSeparated}
 use Rattle.nd_shape_and_slice.specs.Slice.{bound_on, end_on, fits_axis, low_of, high_of, quotient_up, sliced_length, stepped_from, sliced_from, sliced_shape, sliced_index}
-use Rattle.nd_shape_and_slice.proofs.RowMajor.{row_rank_below, length-in_box, offset_of-origin}
+use Rattle.nd_shape_and_slice.proofs.RowMajor.{row_rank_below, length-in_box, displacement_of-origin}
 use Rattle.nd_layout.specs.Strides.{stepped_start, stepped_stride}
 use Rattle.nd_layout.proofs.AxisChange.{span_of-at, span_of-changed, IsSeparated-changed}
 use Rattle.nd_shape_and_slice.proofs.Boxes.{coordinate_below}
 use Rattle.nd_layout.proofs.Distinct.{in_box-set}
 use Rattle.nd_layout.proofs.Sizes.{HasCheckedSize-set, size_of-set}
 use Rattle.nd_layout.proofs.Removed.{size_of-removed}
-use Rattle.nd_layout.proofs.Sliced.{steps_below, last_step_below, stepped_from-within, offset_of-sliced, span_of-sliced, IsSeparated-sliced}
+use Rattle.nd_layout.proofs.Sliced.{steps_below, last_step_below, stepped_from-within, displacement_of-sliced, span_of-sliced, IsSeparated-sliced}
 use Rattle.nd_layout.specs.Places.{is_place, ReachesPlaces}
 use Rattle.nd_layout.specs.Steps.{IsStep}
-use Rattle.nd_layout.proofs.steps.Walks.{first_is_place}
+use Rattle.nd_layout.proofs.steps.Walks.{offset_is_place}
 use Rattle.nd_layout.proofs.steps.StepLemmas.{origin_in_box}
 
 -- a bound lies on the axis
@@ -75,17 +75,17 @@ sliced_from-zero n s = at s.step
     at (pos k) = omega arith
     at (negsuc k) = omega arith
 
--- a coordinate of 0 lies at the first place of its axis whatever the stride
-pub offset_of-unmoved : (ss : List ℤ) (i : List ℕ) (a : ℕ) (t u : ℤ) → get_or i a 0 ≡ 0 → offset_of (set ss a t) i ≡ offset_of (set ss a u) i
-offset_of-unmoved [] i a t u h = refl
-offset_of-unmoved (s ∷ ss) [] zero t u h = refl
-offset_of-unmoved (s ∷ ss) [] (suc a) t u h = refl
-offset_of-unmoved (s ∷ ss) (i ∷ is) zero t u h = rw h (ap (λ z. z +ℤ offset_of ss is) (nothing t ∙ sym (nothing u)))
+-- a coordinate of 0 lies at the offset of its axis whatever the stride
+pub displacement_of-unmoved : (ss : List ℤ) (i : List ℕ) (a : ℕ) (t u : ℤ) → get_or i a 0 ≡ 0 → displacement_of (set ss a t) i ≡ displacement_of (set ss a u) i
+displacement_of-unmoved [] i a t u h = refl
+displacement_of-unmoved (s ∷ ss) [] zero t u h = refl
+displacement_of-unmoved (s ∷ ss) [] (suc a) t u h = refl
+displacement_of-unmoved (s ∷ ss) (i ∷ is) zero t u h = rw h (ap (λ z. z +ℤ displacement_of ss is) (nothing t ∙ sym (nothing u)))
   where
     nothing : (t : ℤ) → pos 0 *ℤ t ≡ pos 0
     nothing (pos n) = omega (arith, ints)
     nothing (negsuc n) = omega (arith, ints)
-offset_of-unmoved (s ∷ ss) (i ∷ is) (suc a) t u h = ap (λ z. (pos i *ℤ s) +ℤ z) (offset_of-unmoved ss is a t u h)
+displacement_of-unmoved (s ∷ ss) (i ∷ is) (suc a) t u h = ap (λ z. (pos i *ℤ s) +ℤ z) (displacement_of-unmoved ss is a t u h)
 
 pub set_twice : {A : Type 0} (xs : List A) (a : ℕ) (x y : A) → set (set xs a x) a y ≡ set xs a y
 set_twice [] a x y = refl
@@ -152,19 +152,19 @@ module _ (ns : List ℕ) (ss : List ℤ) (a : ℕ) (s : Slice) (many : length ss
       let back : set (set ns a m) a n ≡ ns = set_twice ns a m n ∙ set-get_or ns a 0 in
       subst (λ l. in_box l (set i a x) ≡ true) back (in_box-set (set ns a m) i a n x h below)
 
-  slice_offset : (i : List ℕ) → in_box (sliced_shape ns a s) i ≡ true → offset_of ss (sliced_index ns a s i) ≡ (pos (sliced_from (get_or ns a 0) s 0) *ℤ get_or ss a (pos 0)) +ℤ offset_of (set ss a (stepped_stride (sliced_length (get_or ns a 0) s) (get_or ss a (pos 0)) s.step)) i
-  slice_offset i h =
+  slice_displacement : (i : List ℕ) → in_box (sliced_shape ns a s) i ≡ true → displacement_of ss (sliced_index ns a s i) ≡ (pos (sliced_from (get_or ns a 0) s 0) *ℤ get_or ss a (pos 0)) +ℤ displacement_of (set ss a (stepped_stride (sliced_length (get_or ns a 0) s) (get_or ss a (pos 0)) s.step)) i
+  slice_displacement i h =
       let n = get_or ns a 0 in
       let m = sliced_length n s in
       let stride = get_or ss a (pos 0) in
       let as_many : length i ≡ length ss = (length-in_box (set ns a m) i h ∙ length-set ns a m) ∙ sym many in
       let on_strides : a < length ss = subst (λ l. a < l) (sym many) on in
       let c = coordinate i h in
-      let whole = offset_of-sliced ss i a (low_of n s) (high_of n s) s.step as_many on_strides (step_moves n s fits) c in
-      let start : offset_of ss (sliced_index ns a s i) ≡ (pos (sliced_from n s 0) *ℤ stride) +ℤ offset_of (set ss a (stride *ℤ s.step)) i =
-      whole ∙ ap (λ k. (pos k *ℤ stride) +ℤ offset_of (set ss a (stride *ℤ s.step)) i) (sym (sliced_from-zero n s)) in
-      by_stride m stride s.step (λ t. offset_of ss (sliced_index ns a s i) ≡ (pos (sliced_from n s 0) *ℤ stride) +ℤ offset_of (set ss a t) i)
-      (λ short. start ∙ ap (λ z. (pos (sliced_from n s 0) *ℤ stride) +ℤ z) (offset_of-unmoved ss i a (stride *ℤ s.step) (pos 0) (at_zero (get_or i a 0) m c short)))
+      let whole = displacement_of-sliced ss i a (low_of n s) (high_of n s) s.step as_many on_strides (step_moves n s fits) c in
+      let start : displacement_of ss (sliced_index ns a s i) ≡ (pos (sliced_from n s 0) *ℤ stride) +ℤ displacement_of (set ss a (stride *ℤ s.step)) i =
+      whole ∙ ap (λ k. (pos k *ℤ stride) +ℤ displacement_of (set ss a (stride *ℤ s.step)) i) (sym (sliced_from-zero n s)) in
+      by_stride m stride s.step (λ t. displacement_of ss (sliced_index ns a s i) ≡ (pos (sliced_from n s 0) *ℤ stride) +ℤ displacement_of (set ss a t) i)
+      (λ short. start ∙ ap (λ z. (pos (sliced_from n s 0) *ℤ stride) +ℤ z) (displacement_of-unmoved ss i a (stride *ℤ s.step) (pos 0) (at_zero (get_or i a 0) m c short)))
       (λ _. start)
 
   -- where there are elements left, the slice's first coordinate is on the axis and has a place
@@ -179,24 +179,24 @@ module _ (ns : List ℕ) (ss : List ℤ) (a : ℕ) (s : Slice) (many : length ss
       let high = high_within n s in
       omega (arith, range.1, high)
 
-  pub slice_start_place : (first : ℕ) → ReachesPlaces first ns ss → 0 < size_of (sliced_shape ns a s) → is_place (pos first +ℤ (pos (sliced_from (get_or ns a 0) s 0) *ℤ get_or ss a (pos 0))) ≡ true
-  slice_start_place first reach some =
+  pub slice_start_place : (offset : ℕ) → ReachesPlaces offset ns ss → 0 < size_of (sliced_shape ns a s) → is_place (pos offset +ℤ (pos (sliced_from (get_or ns a 0) s 0) *ℤ get_or ss a (pos 0))) ≡ true
+  slice_start_place offset reach some =
       let n = get_or ns a 0 in
       let t = stepped_stride (sliced_length n s) (get_or ss a (pos 0)) s.step in
       let start = pos (sliced_from n s 0) *ℤ get_or ss a (pos 0) in
       let origin = replicate (length (sliced_shape ns a s)) 0 in
       let here = origin_in_box (sliced_shape ns a s) some in
-      let nowhere : offset_of (set ss a t) origin ≡ pos 0 = offset_of-origin (set ss a t) (length (sliced_shape ns a s)) in
-      let whole : offset_of ss (sliced_index ns a s origin) ≡ start = slice_offset origin here ∙ (ap (λ z. start +ℤ z) nowhere ∙ plus_zero start) in
-      sym (ap (λ z. is_place (pos first +ℤ z)) whole) ∙ reach (sliced_index ns a s origin) (slice_within origin here)
+      let nowhere : displacement_of (set ss a t) origin ≡ pos 0 = displacement_of-origin (set ss a t) (length (sliced_shape ns a s)) in
+      let whole : displacement_of ss (sliced_index ns a s origin) ≡ start = slice_displacement origin here ∙ (ap (λ z. start +ℤ z) nowhere ∙ plus_zero start) in
+      sym (ap (λ z. is_place (pos offset +ℤ z)) whole) ∙ reach (sliced_index ns a s origin) (slice_within origin here)
     where
       plus_zero : (z : ℤ) → z +ℤ pos 0 ≡ z
       plus_zero z = omega (arith, ints)
 
-  pub slice_first_below : (first : ℕ) → ReachesPlaces first ns ss → 0 < size_of (sliced_shape ns a s) → first < 9223372036854775808
-  slice_first_below first reach some =
+  pub slice_first_below : (offset : ℕ) → ReachesPlaces offset ns ss → 0 < size_of (sliced_shape ns a s) → offset < 9223372036854775808
+  slice_first_below offset reach some =
       let origin = replicate (length (sliced_shape ns a s)) 0 in
-      first_is_place first ns (sliced_index ns a s origin) ss (slice_within origin (origin_in_box (sliced_shape ns a s) some)) reach
+      offset_is_place offset ns (sliced_index ns a s origin) ss (slice_within origin (origin_in_box (sliced_shape ns a s) some)) reach
 
   -- the new stride fits
   pub slice_stride_fits : span_of ns ss < 9223372036854775808 → 1 < sliced_length (get_or ns a 0) s → nat_abs (get_or ss a (pos 0) *ℤ s.step) < 9223372036854775808
@@ -230,8 +230,8 @@ module _ (ns : List ℕ) (ss : List ℤ) (a : ℕ) (s : Slice) (many : length ss
       (λ _. IsSeparated-sliced ns ss a (low_of n s) (high_of n s) s.step many on (step_moves n s fits) (high_within n s) apart)
 
   -- slicing one axis is a layout step, from the place of the slice's first coordinate
-  pub slice_is_step : (first new_first : ℕ) → (0 < size_of (sliced_shape ns a s) → pos new_first ≡ pos first +ℤ (pos (sliced_from (get_or ns a 0) s 0) *ℤ get_or ss a (pos 0))) → IsStep first ns ss new_first (sliced_shape ns a s) (set ss a (stepped_stride (sliced_length (get_or ns a 0) s) (get_or ss a (pos 0)) s.step)) (sliced_index ns a s)
-  slice_is_step first new_first moved =
+  pub slice_is_step : (offset new_offset : ℕ) → (0 < size_of (sliced_shape ns a s) → pos new_offset ≡ pos offset +ℤ (pos (sliced_from (get_or ns a 0) s 0) *ℤ get_or ss a (pos 0))) → IsStep offset ns ss new_offset (sliced_shape ns a s) (set ss a (stepped_stride (sliced_length (get_or ns a 0) s) (get_or ss a (pos 0)) s.step)) (sliced_index ns a s)
+  slice_is_step offset new_offset moved =
       let n = get_or ns a 0 in
       let m = sliced_length n s in
       let t = stepped_stride m (get_or ss a (pos 0)) s.step in
@@ -240,15 +240,15 @@ module _ (ns : List ℕ) (ss : List ℤ) (a : ℕ) (s : Slice) (many : length ss
         same = λ i h.
             let below = row_rank_below (set ns a m) i h in
             let start = moved (omega (arith, below)) in
-            joined (pos new_first) (pos first) (pos (sliced_from n s 0) *ℤ get_or ss a (pos 0)) (offset_of (set ss a t) i) (offset_of ss (sliced_index ns a s i)) start (slice_offset i h);
+            joined (pos new_offset) (pos offset) (pos (sliced_from n s 0) *ℤ get_or ss a (pos 0)) (displacement_of (set ss a t) i) (displacement_of ss (sliced_index ns a s i)) start (slice_displacement i h);
         as_many = length-set ss a t ∙ (many ∙ sym (length-set ns a m));
         spread = slice_spread;
         checked = λ few. HasCheckedSize-set ns a m on (shorter (sliced_length-le n s fits)) few;
         separated = slice_separated;
       }
     where
-      joined : (p q start offset old : ℤ) → p ≡ q +ℤ start → old ≡ start +ℤ offset → p +ℤ offset ≡ q +ℤ old
-      joined p q start offset old e f = rw (e, f) (omega (arith, ints))
+      joined : (p q start displacement old : ℤ) → p ≡ q +ℤ start → old ≡ start +ℤ displacement → p +ℤ displacement ≡ q +ℤ old
+      joined p q start displacement old e f = rw (e, f) (omega (arith, ints))
 
       shorter : sliced_length (get_or ns a 0) s ≤ get_or ns a 0 → sliced_length (get_or ns a 0) s ≤ max 1 (get_or ns a 0)
       shorter h = omega (arith, h)

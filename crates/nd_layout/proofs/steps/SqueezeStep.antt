@@ -111,34 +111,34 @@ goes_is (n ∷ ns) (suc k) h =
     twice false = refl
 
 -- the axes from k on squeezed
-pub record IsSqueezedFrom (first : ℕ) (ns : List ℕ) (ss : List ℤ) (k new_first : ℕ) (new_ns : List ℕ) (new_ss : List ℤ) : Type 0 where
+pub record IsSqueezedFrom (offset : ℕ) (ns : List ℕ) (ss : List ℤ) (k new_offset : ℕ) (new_ns : List ℕ) (new_ss : List ℤ) : Type 0 where
   pub lengths : new_ns ≡ kept_of (opened k (stays ns)) ns
-  pub step : IsStep first ns ss new_first new_ns new_ss (spread_over (opened k (stays ns)))
+  pub step : IsStep offset ns ss new_offset new_ns new_ss (spread_over (opened k (stays ns)))
 
-module _ (first : ℕ) (ns : List ℕ) (ss : List ℤ) where
-  pub squeezed_none : (new_first : ℕ) (new_ns : List ℕ) (new_ss : List ℤ) → length ss ≡ length ns → new_first ≡ first → new_ns ≡ ns → new_ss ≡ ss → IsSqueezedFrom first ns ss (length ns) new_first new_ns new_ss
-  squeezed_none new_first new_ns new_ss many f l s =
+module _ (offset : ℕ) (ns : List ℕ) (ss : List ℤ) where
+  pub squeezed_none : (new_offset : ℕ) (new_ns : List ℕ) (new_ss : List ℤ) → length ss ≡ length ns → new_offset ≡ offset → new_ns ≡ ns → new_ss ≡ ss → IsSqueezedFrom offset ns ss (length ns) new_offset new_ns new_ss
+  squeezed_none new_offset new_ns new_ss many f l s =
       rw (f, l, s)
       (record {
         lengths = sym (kept-opened (stays ns) ns (length-stays ns));
         step = step_by (spread_over (opened (length ns) (stays ns)))
-            (λ i h. sym (all i (length-in_box ns i h))) (same_is_step first ns ss many);
+            (λ i h. sym (all i (length-in_box ns i h))) (same_is_step offset ns ss many);
       })
     where
       all : (i : List ℕ) → length i ≡ length ns → spread_over (opened (length ns) (stays ns)) i ≡ i
       all i e = subst (λ n. spread_over (opened n (stays ns)) i ≡ i) e (spread-opened (stays ns) i (length-stays ns ∙ sym e))
 
-  module _ (k : ℕ) (within : k < length ns) (f' : ℕ) (ns' : List ℕ) (ss' : List ℤ) (so_far : IsSqueezedFrom first ns ss (suc k) f' ns' ss') where
+  module _ (k : ℕ) (within : k < length ns) (f' : ℕ) (ns' : List ℕ) (ss' : List ℤ) (so_far : IsSqueezedFrom offset ns ss (suc k) f' ns' ss') where
     pub squeezed_on : k < length ns'
     squeezed_on = subst (λ l. k < length l) (sym so_far.lengths) (kept-long k (stays ns) ns (length-stays ns) within)
 
-    pub squeezed_more : (f'' : ℕ) (ns'' : List ℕ) (ss'' : List ℤ) → ns'' ≡ shape_squeezed_at ns' k → IsStep f' ns' ss' f'' ns'' ss'' (index_squeezed_at ns' k) → IsSqueezedFrom first ns ss k f'' ns'' ss''
+    pub squeezed_more : (f'' : ℕ) (ns'' : List ℕ) (ss'' : List ℤ) → ns'' ≡ shape_squeezed_at ns' k → IsStep f' ns' ss' f'' ns'' ss'' (index_squeezed_at ns' k) → IsSqueezedFrom offset ns ss k f'' ns'' ss''
     squeezed_more f'' ns'' ss'' shape step = at (get_or (stays ns) k true) refl
       where
         tested : goes_at ns' k ≡ not (get_or (stays ns) k true)
         tested = ap (λ l. goes_at l k) so_far.lengths ∙ goes_is ns k within
 
-        at : (b : Bool) → get_or (stays ns) k true ≡ b → IsSqueezedFrom first ns ss k f'' ns'' ss''
+        at : (b : Bool) → get_or (stays ns) k true ≡ b → IsSqueezedFrom offset ns ss k f'' ns'' ss''
         at true stay =
             let no : goes_at ns' k ≡ false = tested ∙ ap not stay in
             let same = opened-stays k (stays ns) stay in

@@ -2,7 +2,7 @@
 
 ghost use Rattle.std.specs.Prelude.{◌↔◌, ◌≡◌, ◌<◌, ◌≤◌, ◌-◌, ℕ, IsTrue, length, reverse, slice_index, slice_index_or, slice_set, swap, pos, ◌+ℤ◌, ◌*ℤ◌};
 ghost use Rattle.nd_shape_and_slice.specs.Shape.{size_of};
-ghost use Rattle.nd_shape_and_slice.specs.Axes.{HasEachAxis, permuted, unpermuted};
+ghost use Rattle.nd_shape_and_slice.specs.Axes.{HasEachAxis, permuted_list, unpermuted_list};
 ghost use Rattle.nd_layout.specs.Strides.{permuted_strides as permuted_ints, opposite_stride};
 ghost use Rattle.nd_shape_and_slice.specs.Maps.{inverted_index, collapsed_shape, collapsed_index, lower_shape, upper_shape, upper_index};
 ghost use Rattle.nd_layout.specs.Steps.{IsStep, IsValid};
@@ -36,26 +36,25 @@ pub(crate) fn leaves_none(lengths: &[usize], axis: usize, len: usize) -> bool
     len == 0 || is_empty_shape(lengths)
 }
 
-/// The first place where an axis's coordinate 0 has moved up by a number of coordinates. It stays where no element
-/// is left.
-fn first_after(
-    first: usize,
+/// The offset after coordinate 0 of an axis has moved up by some coordinates. It stays if no element is left.
+fn offset_after(
+    offset: usize,
     lengths: &[usize],
     strides: &[isize],
     axis: usize,
     len: usize,
     steps: usize,
 ) -> usize
-    requires valid { IsValid first lengths.now strides.now }
+    requires valid { IsValid offset lengths.now strides.now }
     requires on { axis < length lengths.now }
     requires shorter { len ≤ slice_index lengths.now axis }
     requires within { 0 < len → steps < slice_index lengths.now axis }
-    ensures { 0 < size_of (slice_set lengths.now axis len) → pos result ≡ pos first +ℤ (pos steps *ℤ slice_index_or strides.now axis (pos 0)) }
+    ensures { 0 < size_of (slice_set lengths.now axis len) → pos result ≡ pos offset +ℤ (pos steps *ℤ slice_index_or strides.now axis (pos 0)) }
 {
     if leaves_none(lengths, axis, len) {
-        first
+        offset
     } else {
-        moved_by(first, steps, stride_at(strides, axis))
+        moved_by(offset, steps, stride_at(strides, axis))
     }
 }
 
@@ -66,60 +65,60 @@ fn opposite(stride: isize) -> isize
     stride.checked_neg().unwrap_or(0)
 }
 
-/// The first place where an axis is inverted.
-fn first_inverted(first: usize, lengths: &[usize], strides: &[isize], axis: usize) -> usize
-    requires valid { IsValid first lengths.now strides.now }
+/// The offset after an axis is inverted.
+fn offset_inverted(offset: usize, lengths: &[usize], strides: &[isize], axis: usize) -> usize
+    requires valid { IsValid offset lengths.now strides.now }
     requires on { axis < length lengths.now }
-    ensures { IsStep first lengths.now strides.now result lengths.now (slice_set strides.now axis (opposite_stride (slice_index_or strides.now axis (pos 0)))) (inverted_index lengths.now axis) }
+    ensures { IsStep offset lengths.now strides.now result lengths.now (slice_set strides.now axis (opposite_stride (slice_index_or strides.now axis (pos 0)))) (inverted_index lengths.now axis) }
 {
     let len = length_at(lengths, axis);
-    first_after(first, lengths, strides, axis, len, len.saturating_sub(1))
+    offset_after(offset, lengths, strides, axis, len, len.saturating_sub(1))
 }
 
-/// The first place where one coordinate of an axis is kept.
-pub(crate) fn first_collapsed(
-    first: usize,
+/// The offset after one coordinate of an axis is kept.
+pub(crate) fn offset_collapsed(
+    offset: usize,
     lengths: &[usize],
     strides: &[isize],
     axis: usize,
     index: usize,
 ) -> usize
-    requires valid { IsValid first lengths.now strides.now }
+    requires valid { IsValid offset lengths.now strides.now }
     requires on { axis < length lengths.now }
     requires within { index < slice_index lengths.now axis }
-    ensures { IsStep first lengths.now strides.now result (collapsed_shape lengths.now axis) strides.now (collapsed_index axis index) }
+    ensures { IsStep offset lengths.now strides.now result (collapsed_shape lengths.now axis) strides.now (collapsed_index axis index) }
 {
-    first_after(first, lengths, strides, axis, 1, index)
+    offset_after(offset, lengths, strides, axis, 1, index)
 }
 
-/// The first place of the part of an axis from a coordinate on.
-fn first_upper(
-    first: usize,
+/// The offset of the part of an axis from a coordinate on.
+fn offset_upper(
+    offset: usize,
     lengths: &[usize],
     strides: &[isize],
     axis: usize,
     index: usize,
 ) -> usize
-    requires valid { IsValid first lengths.now strides.now }
+    requires valid { IsValid offset lengths.now strides.now }
     requires on { axis < length lengths.now }
     requires within { index ≤ slice_index lengths.now axis }
-    ensures { IsStep first lengths.now strides.now result (upper_shape lengths.now axis index) strides.now (upper_index axis index) }
+    ensures { IsStep offset lengths.now strides.now result (upper_shape lengths.now axis index) strides.now (upper_index axis index) }
 {
     let len = length_at(lengths, axis) - index;
-    first_after(first, lengths, strides, axis, len, index)
+    offset_after(offset, lengths, strides, axis, len, index)
 }
 
 impl<D: Dimension, T: StrideList> Layout<D, T> {
-    /// Turns an axis round.
+    /// Inverts an axis.
     pub fn invert_axis(&mut self, axis: usize)
         requires { axis < length (D.lengths self.old.dim) }
         ensures lengths { D.lengths self.new.dim ≡ D.lengths self.old.dim }
         ensures strides { T.strides_of self.new.strides ≡ slice_set (T.strides_of self.old.strides) axis (opposite_stride (slice_index_or (T.strides_of self.old.strides) axis (pos 0))) }
-        ensures step { IsStep self.old.first (D.lengths self.old.dim) (T.strides_of self.old.strides) self.new.first (D.lengths self.new.dim) (T.strides_of self.new.strides) (inverted_index (D.lengths self.old.dim) axis) }
+        ensures step { IsStep self.old.offset (D.lengths self.old.dim) (T.strides_of self.old.strides) self.new.offset (D.lengths self.new.dim) (T.strides_of self.new.strides) (inverted_index (D.lengths self.old.dim) axis) }
     {
-        let first = first_inverted(self.first, self.dim.slice(), self.strides.slice(), axis);
+        let offset = offset_inverted(self.offset, self.dim.slice(), self.strides.slice(), axis);
         let stride = opposite(stride_at(self.strides.slice(), axis));
-        self.first = first;
+        self.offset = offset;
         self.strides.set(axis, stride);
     }
 
@@ -129,16 +128,16 @@ impl<D: Dimension, T: StrideList> Layout<D, T> {
         requires within { index < slice_index (D.lengths self.old.dim) axis }
         ensures lengths { D.lengths self.new.dim ≡ collapsed_shape (D.lengths self.old.dim) axis }
         ensures strides { T.strides_of self.new.strides ≡ T.strides_of self.old.strides }
-        ensures step { IsStep self.old.first (D.lengths self.old.dim) (T.strides_of self.old.strides) self.new.first (D.lengths self.new.dim) (T.strides_of self.new.strides) (collapsed_index axis index) }
+        ensures step { IsStep self.old.offset (D.lengths self.old.dim) (T.strides_of self.old.strides) self.new.offset (D.lengths self.new.dim) (T.strides_of self.new.strides) (collapsed_index axis index) }
     {
-        let first = first_collapsed(
-            self.first,
+        let offset = offset_collapsed(
+            self.offset,
             self.dim.slice(),
             self.strides.slice(),
             axis,
             index,
         );
-        self.first = first;
+        self.offset = offset;
         self.dim.set_length(axis, 1);
     }
 
@@ -148,7 +147,7 @@ impl<D: Dimension, T: StrideList> Layout<D, T> {
         requires within { index ≤ slice_index (D.lengths self.old.dim) axis }
         ensures lengths { D.lengths self.new.dim ≡ lower_shape (D.lengths self.old.dim) axis index }
         ensures strides { T.strides_of self.new.strides ≡ T.strides_of self.old.strides }
-        ensures step { IsStep self.old.first (D.lengths self.old.dim) (T.strides_of self.old.strides) self.new.first (D.lengths self.new.dim) (T.strides_of self.new.strides) (λ i. i) }
+        ensures step { IsStep self.old.offset (D.lengths self.old.dim) (T.strides_of self.old.strides) self.new.offset (D.lengths self.new.dim) (T.strides_of self.new.strides) (λ i. i) }
     {
         self.dim.set_length(axis, index);
     }
@@ -159,17 +158,17 @@ impl<D: Dimension, T: StrideList> Layout<D, T> {
         requires within { index ≤ slice_index (D.lengths self.old.dim) axis }
         ensures lengths { D.lengths self.new.dim ≡ upper_shape (D.lengths self.old.dim) axis index }
         ensures strides { T.strides_of self.new.strides ≡ T.strides_of self.old.strides }
-        ensures step { IsStep self.old.first (D.lengths self.old.dim) (T.strides_of self.old.strides) self.new.first (D.lengths self.new.dim) (T.strides_of self.new.strides) (upper_index axis index) }
+        ensures step { IsStep self.old.offset (D.lengths self.old.dim) (T.strides_of self.old.strides) self.new.offset (D.lengths self.new.dim) (T.strides_of self.new.strides) (upper_index axis index) }
     {
-        let first = first_upper(
-            self.first,
+        let offset = offset_upper(
+            self.offset,
             self.dim.slice(),
             self.strides.slice(),
             axis,
             index,
         );
         let len = length_at(self.dim.slice(), axis);
-        self.first = first;
+        self.offset = offset;
         self.dim.set_length(axis, len - index);
     }
 
@@ -179,10 +178,10 @@ impl<D: Dimension, T: StrideList> Layout<D, T> {
         requires within { index ≤ slice_index (D.lengths self.now.dim) axis }
         ensures lower_lengths { D.lengths result.0.dim ≡ lower_shape (D.lengths self.now.dim) axis index }
         ensures lower_strides { T.strides_of result.0.strides ≡ T.strides_of self.now.strides }
-        ensures lower { IsStep self.now.first (D.lengths self.now.dim) (T.strides_of self.now.strides) result.0.first (D.lengths result.0.dim) (T.strides_of result.0.strides) (λ i. i) }
+        ensures lower { IsStep self.now.offset (D.lengths self.now.dim) (T.strides_of self.now.strides) result.0.offset (D.lengths result.0.dim) (T.strides_of result.0.strides) (λ i. i) }
         ensures upper_lengths { D.lengths result.1.dim ≡ upper_shape (D.lengths self.now.dim) axis index }
         ensures upper_strides { T.strides_of result.1.strides ≡ T.strides_of self.now.strides }
-        ensures upper { IsStep self.now.first (D.lengths self.now.dim) (T.strides_of self.now.strides) result.1.first (D.lengths result.1.dim) (T.strides_of result.1.strides) (upper_index axis index) }
+        ensures upper { IsStep self.now.offset (D.lengths self.now.dim) (T.strides_of self.now.strides) result.1.offset (D.lengths result.1.dim) (T.strides_of result.1.strides) (upper_index axis index) }
     {
         let mut lower = self.copied();
         let mut upper = self.copied();
@@ -195,7 +194,7 @@ impl<D: Dimension, T: StrideList> Layout<D, T> {
 /// The dimension with its axes in this order.
 fn permuted_dim<D: Dimension>(dim: &D, axes: &[usize]) -> D
     requires { HasEachAxis axes.now (length (D.lengths dim.now)) }
-    ensures { D.lengths result ≡ permuted axes.now (D.lengths dim.now) }
+    ensures { D.lengths result ≡ permuted_list axes.now (D.lengths dim.now) }
 {
     let mut out = *dim;
     for k in 0..axes.len() {
@@ -271,7 +270,7 @@ impl<D: Dimension, T: StrideList> Layout<D, T> {
         requires b { b < length (D.lengths self.old.dim) }
         ensures lengths { D.lengths self.new.dim ≡ swap (D.lengths self.old.dim) a b }
         ensures strides { T.strides_of self.new.strides ≡ swap (T.strides_of self.old.strides) a b }
-        ensures step { IsStep self.old.first (D.lengths self.old.dim) (T.strides_of self.old.strides) self.new.first (D.lengths self.new.dim) (T.strides_of self.new.strides) (λ i. swap i a b) }
+        ensures step { IsStep self.old.offset (D.lengths self.old.dim) (T.strides_of self.old.strides) self.new.offset (D.lengths self.new.dim) (T.strides_of self.new.strides) (λ i. swap i a b) }
     {
         let dim = swapped_dim(&self.dim, a, b);
         let strides = swapped_strides(&self.strides, a, b);
@@ -283,7 +282,7 @@ impl<D: Dimension, T: StrideList> Layout<D, T> {
     pub fn reverse_axes(&mut self)
         ensures lengths { D.lengths self.new.dim ≡ reverse (D.lengths self.old.dim) }
         ensures strides { T.strides_of self.new.strides ≡ reverse (T.strides_of self.old.strides) }
-        ensures step { IsStep self.old.first (D.lengths self.old.dim) (T.strides_of self.old.strides) self.new.first (D.lengths self.new.dim) (T.strides_of self.new.strides) reverse }
+        ensures step { IsStep self.old.offset (D.lengths self.old.dim) (T.strides_of self.old.strides) self.new.offset (D.lengths self.new.dim) (T.strides_of self.new.strides) reverse }
     {
         let dim = reversed_dim(&self.dim);
         let strides = reversed_strides(&self.strides);
@@ -294,9 +293,9 @@ impl<D: Dimension, T: StrideList> Layout<D, T> {
     /// Puts the axes in another order.
     pub fn permute_axes(&mut self, axes: &[usize])
         requires { HasEachAxis axes.now (length (D.lengths self.old.dim)) }
-        ensures lengths { D.lengths self.new.dim ≡ permuted axes.now (D.lengths self.old.dim) }
+        ensures lengths { D.lengths self.new.dim ≡ permuted_list axes.now (D.lengths self.old.dim) }
         ensures strides { T.strides_of self.new.strides ≡ permuted_ints axes.now (T.strides_of self.old.strides) }
-        ensures step { IsStep self.old.first (D.lengths self.old.dim) (T.strides_of self.old.strides) self.new.first (D.lengths self.new.dim) (T.strides_of self.new.strides) (unpermuted axes.now) }
+        ensures step { IsStep self.old.offset (D.lengths self.old.dim) (T.strides_of self.old.strides) self.new.offset (D.lengths self.new.dim) (T.strides_of self.new.strides) (unpermuted_list axes.now) }
     {
         let dim = permuted_dim(&self.dim, axes);
         let strides = permuted_strides(&self.strides, axes);

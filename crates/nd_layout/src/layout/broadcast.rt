@@ -1,8 +1,8 @@
 //! Broadcast: a layout seen under a larger shape.
 
 ghost use Rattle.std.specs.Prelude.{◌↔◌, ◌≡◌, ◌<◌, ◌≤◌, ◌^◌, true, false, IsTrue, IsNone, IfSome, length, slice_index_or, pos};
-ghost use Rattle.nd_shape_and_slice.specs.Broadcast.{stretches, broadcasts, forget};
-ghost use Rattle.nd_layout.specs.Steps.{IsSeen};
+ghost use Rattle.nd_shape_and_slice.specs.Broadcast.{stretches, broadcasts, broadcast_index};
+ghost use Rattle.nd_layout.specs.Steps.{IsViewStep};
 ghost use Rattle.nd_layout.specs.Strides.{broadcast_strides};
 
 use super::Layout;
@@ -67,14 +67,14 @@ impl<D: Dimension, T: StrideList> Layout<D, T> {
         ensures none { IsNone result ↔ (broadcasts (D.lengths self.now.dim) (E.lengths to) ≡ false) }
         ensures lengths { IfSome result (λ l. E.lengths l.dim ≡ E.lengths to) }
         ensures strides { IfSome result (λ l. E.Strides.strides_of l.strides ≡ broadcast_strides (D.lengths self.now.dim) (T.strides_of self.now.strides) (E.lengths l.dim)) }
-        ensures seen { IfSome result (λ l. IsSeen self.now.first (D.lengths self.now.dim) (T.strides_of self.now.strides) l.first (E.lengths l.dim) (E.Strides.strides_of l.strides) (forget (D.lengths self.now.dim) (E.lengths l.dim))) }
+        ensures seen { IfSome result (λ l. IsViewStep self.now.offset (D.lengths self.now.dim) (T.strides_of self.now.strides) l.offset (E.lengths l.dim) (E.Strides.strides_of l.strides) (broadcast_index (D.lengths self.now.dim) (E.lengths l.dim))) }
     {
         if !can_broadcast(self.dim.slice(), to.slice()) {
             return None;
         }
         let strides = strides_under(self.dim.slice(), self.strides.slice(), &to);
         Some(Layout {
-            first: self.first,
+            offset: self.offset,
             dim: to,
             strides,
         })

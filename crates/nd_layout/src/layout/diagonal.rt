@@ -72,12 +72,12 @@ impl<D: Dimension, T: StrideList> Layout<D, T> {
     pub fn diagonal(&self) -> Layout<Ix1, <Ix1 as Dimension>::Strides>
         ensures lengths { ⟦<Ix1 as Dimension>⟧.lengths result.dim ≡ diagonal_length (D.lengths self.now.dim) ∷ [] }
         ensures strides { result.strides ≡ diagonal_stride (D.lengths self.now.dim) (T.strides_of self.now.strides) ∷ [] }
-        ensures step { IsStep self.now.first (D.lengths self.now.dim) (T.strides_of self.now.strides) result.first (⟦<Ix1 as Dimension>⟧.lengths result.dim) result.strides (diagonal_index (D.lengths self.now.dim)) }
+        ensures step { IsStep self.now.offset (D.lengths self.now.dim) (T.strides_of self.now.strides) result.offset (⟦<Ix1 as Dimension>⟧.lengths result.dim) result.strides (diagonal_index (D.lengths self.now.dim)) }
     {
         let len = len_of_diagonal(self.dim.slice());
         let stride = stride_of_diagonal(self.dim.slice(), self.strides.slice(), len);
         Layout {
-            first: self.first,
+            offset: self.offset,
             dim: len.into_dimension(),
             strides: [stride],
         }

@@ -1,10 +1,10 @@
-//! What constructors are given: which strides an order gives, and whether strides of the caller's serve.
+//! What a constructor is given: the strides of an order, and whether the caller's own strides can be used.
 
 ghost use Rattle.std.specs.Prelude.{◌↔◌, ◌≡◌, ◌<◌, ◌≤◌, ◌-◌, ◌*◌, ◌^◌, ◌||◌, nat_eq, ℕ, true, List, [], ◌∷◌, length, nat_abs, IsTrue, IfOk, IfErr, Some, None};
 ghost use Rattle.nd_shape_and_slice.specs.Shape.{size_of, HasCheckedSize};
 ghost use Rattle.nd_shape_and_slice.specs.Place.{span_of, IsSeparated};
 ghost use Rattle.nd_layout.specs.Strides.{reach_down};
-ghost use Rattle.nd_layout.specs.Given.{ordered_strides};
+ghost use Rattle.nd_layout.specs.GivenStrides.{ordered_strides};
 ghost use Rattle.nd_layout.specs.Refusals.{slice_refusal, vec_refusal, elements_asked, is_separated};
 ghost use Rattle.nd_layout.specs.Steps.{IsValid};
 
@@ -25,7 +25,7 @@ pub(crate) fn strides_in<D: Dimension>(dim: &D, order: Order) -> D::Strides
     }
 }
 
-/// How many elements a shape has; the cause where a slice of this many can't be seen in an order.
+/// The size of a shape, or the cause why a slice of this length can't hold it in an order.
 pub fn size_in_slice(lengths: &[usize], count: usize) -> Result<usize, ShapeError>
     ensures refused { IfErr result (λ e. slice_refusal lengths.now None count ≡ Some e) }
     ensures accepted { IfOk result (λ _. slice_refusal lengths.now None count ≡ None) }
@@ -41,7 +41,7 @@ pub fn size_in_slice(lengths: &[usize], count: usize) -> Result<usize, ShapeErro
     }
 }
 
-/// How many elements a shape has; the cause where a vector of this many can't be taken in an order.
+/// The size of a shape, or the cause why a vector of this length can't hold it in an order.
 pub fn size_in_vec(lengths: &[usize], count: usize) -> Result<usize, ShapeError>
     ensures refused { IfErr result (λ e. vec_refusal lengths.now None count ≡ Some e) }
     ensures accepted { IfOk result (λ _. vec_refusal lengths.now None count ≡ None) }
@@ -57,7 +57,7 @@ pub fn size_in_vec(lengths: &[usize], count: usize) -> Result<usize, ShapeError>
     }
 }
 
-/// How far one axis leads down from the first place.
+/// How far one axis leads below the offset.
 fn down_by(len: usize, stride: isize) -> usize
     requires { (len - 1) * nat_abs stride < 2 ^ 63 }
     ensures { result ≡ reach_down (len ∷ []) (stride ∷ []) }
@@ -69,20 +69,20 @@ fn down_by(len: usize, stride: isize) -> usize
     }
 }
 
-/// How far all axes of negative stride lead down from the first place.
-fn first_place(lengths: &[usize], strides: &[isize]) -> usize
+/// How far all axes of negative stride together lead below the offset.
+fn given_offset(lengths: &[usize], strides: &[isize]) -> usize
     requires as_many { length strides.now ≡ length lengths.now }
     requires spread { span_of lengths.now strides.now < 2 ^ 63 }
     ensures { result ≡ reach_down lengths.now strides.now }
 {
-    let mut first = 0;
+    let mut offset = 0;
     for axis in 0..lengths.len() {
-        first += down_by(lengths[axis], strides[axis]);
+        offset += down_by(lengths[axis], strides[axis]);
     }
-    first
+    offset
 }
 
-/// How many elements strides of the caller's ask for.
+/// How many elements the caller's strides need.
 fn count_asked(lengths: &[usize], strides: &[isize], span: usize) -> usize
     requires is { span ≡ span_of lengths.now strides.now }
     requires few { span < 2 ^ 63 }
@@ -95,8 +95,8 @@ fn count_asked(lengths: &[usize], strides: &[isize], span: usize) -> usize
     }
 }
 
-/// The first place under strides of the caller's; the cause where a slice of this many elements can't be seen so.
-pub fn first_in_slice(
+/// The offset under the caller's strides, or the cause why a slice of this length can't be laid out so.
+pub fn offset_in_slice(
     lengths: &[usize],
     strides: &[isize],
     count: usize,
@@ -105,21 +105,21 @@ pub fn first_in_slice(
     requires few { length lengths.now ≤ 32 }
     ensures refused { IfErr result (λ e. slice_refusal lengths.now (Some strides.now) count ≡ Some e) }
     ensures accepted { IfOk result (λ _. slice_refusal lengths.now (Some strides.now) count ≡ None) }
-    ensures first { IfOk result (λ first. first ≡ reach_down lengths.now strides.now) }
-    ensures valid { IfOk result (λ first. IsValid first lengths.now strides.now) }
+    ensures offset { IfOk result (λ offset. offset ≡ reach_down lengths.now strides.now) }
+    ensures valid { IfOk result (λ offset. IsValid offset lengths.now strides.now) }
     ensures enough { IfOk result (λ _. elements_asked lengths.now strides.now ≤ count) }
 {
     size_of_shape_checked(lengths)?;
     match span(lengths, strides) {
         Some(span) if count_asked(lengths, strides, span) <= count => {
-            Ok(first_place(lengths, strides))
+            Ok(given_offset(lengths, strides))
         }
         Some(_) => Err(ShapeError::from_kind(ErrorKind::OutOfBounds)),
         None => Err(ShapeError::from_kind(ErrorKind::Overflow)),
     }
 }
 
-/// Whether an array of its own may have these strides: no two indexes share an element.
+/// Whether an owned array may have these strides: no two indexes may share an element.
 fn keeps_apart(lengths: &[usize], strides: &[isize]) -> bool
     requires as_many { length strides.now ≡ length lengths.now }
     requires few { length lengths.now ≤ 32 }
@@ -128,20 +128,24 @@ fn keeps_apart(lengths: &[usize], strides: &[isize]) -> bool
     is_empty_shape(lengths) || separated(lengths, strides)
 }
 
-/// The first place under strides of the caller's; the cause where a vector of this many elements can't be taken so.
-pub fn first_in_vec(lengths: &[usize], strides: &[isize], count: usize) -> Result<usize, ShapeError>
+/// The offset under the caller's strides, or the cause why a vector of this length can't be laid out so.
+pub fn offset_in_vec(
+    lengths: &[usize],
+    strides: &[isize],
+    count: usize,
+) -> Result<usize, ShapeError>
     requires as_many { length strides.now ≡ length lengths.now }
     requires few { length lengths.now ≤ 32 }
     ensures refused { IfErr result (λ e. vec_refusal lengths.now (Some strides.now) count ≡ Some e) }
     ensures accepted { IfOk result (λ _. vec_refusal lengths.now (Some strides.now) count ≡ None) }
-    ensures first { IfOk result (λ first. first ≡ reach_down lengths.now strides.now) }
-    ensures valid { IfOk result (λ first. IsValid first lengths.now strides.now) }
+    ensures offset { IfOk result (λ offset. offset ≡ reach_down lengths.now strides.now) }
+    ensures valid { IfOk result (λ offset. IsValid offset lengths.now strides.now) }
     ensures enough { IfOk result (λ _. elements_asked lengths.now strides.now ≤ count) }
     ensures apart { IfOk result (λ _. 0 < size_of lengths.now → IsSeparated lengths.now strides.now) }
 {
-    let first = first_in_slice(lengths, strides, count)?;
+    let offset = offset_in_slice(lengths, strides, count)?;
     if keeps_apart(lengths, strides) {
-        Ok(first)
+        Ok(offset)
     } else {
         Err(ShapeError::from_kind(ErrorKind::Unsupported))
     }

@@ -1,4 +1,4 @@
-//! Places, computed from a first place, strides and an index.
+//! Places, computed from an offset, strides and an index.
 
 ghost use Rattle.std.specs.Prelude.{◌↔◌, ◌≡◌, ◌<◌, ◌^◌, ℕ, true, IsTrue, List, length, pos, ◌+ℤ◌, ◌*ℤ◌};
 ghost use Rattle.nd_shape_and_slice.specs.Shape.{in_box, HasCheckedSize};
@@ -31,14 +31,19 @@ pub(crate) fn moved_by(place: usize, steps: usize, stride: isize) -> usize
 }
 
 /// The place of an index of the box.
-pub(crate) fn place_at(first: usize, lengths: &[usize], strides: &[isize], index: &[usize]) -> usize
+pub(crate) fn place_at(
+    offset: usize,
+    lengths: &[usize],
+    strides: &[isize],
+    index: &[usize],
+) -> usize
     requires as_many { length strides.now ≡ length lengths.now }
     requires checked { HasCheckedSize lengths.now }
-    requires reach { ReachesPlaces first lengths.now strides.now }
+    requires reach { ReachesPlaces offset lengths.now strides.now }
     requires inside { in_box lengths.now index.now ≡ true }
-    ensures { pos result ≡ place_of first strides.now index.now }
+    ensures { pos result ≡ place_of offset strides.now index.now }
 {
-    let mut place = first;
+    let mut place = offset;
     for axis in 0..index.len() {
         place = moved_by(place, index[axis], strides[axis]);
     }

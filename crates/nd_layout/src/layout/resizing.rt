@@ -2,11 +2,11 @@
 
 ghost use Rattle.std.specs.Prelude.{◌↔◌, ◌≡◌, ◌<◌, ◌≤◌, ◌+◌, ℕ, ℤ, true, false, length, slice_index, slice_index_or, pos, IsNone, IfSome};
 ghost use Rattle.std.specs.List.{remove, insert};
-ghost use Rattle.nd_shape_and_slice.specs.Maps.{indexed_shape, indexed_index, widened_shape, widened_index};
+ghost use Rattle.nd_shape_and_slice.specs.Maps.{indexed_shape, indexed_index, inserted_shape, inserted_index};
 ghost use Rattle.nd_layout.specs.Steps.{IsStep};
 
 use super::Layout;
-use super::axes::{first_collapsed, stride_at};
+use super::axes::{offset_collapsed, stride_at};
 use nd_shape_and_slice::{
     Axis, Dimension, DynStrides, InsertAxis, IxDyn, RemoveAxis, StrideList, strides_from,
 };
@@ -71,12 +71,12 @@ impl<D: Dimension, T: StrideList> Layout<D, T> {
         ensures none { IsNone result ↔ (E.has_axes (length (D.lengths self.now.dim)) ≡ false) }
         ensures lengths { IfSome result (λ l. E.lengths l.dim ≡ D.lengths self.now.dim) }
         ensures strides { IfSome result (λ l. E.Strides.strides_of l.strides ≡ T.strides_of self.now.strides) }
-        ensures step { IfSome result (λ l. IsStep self.now.first (D.lengths self.now.dim) (T.strides_of self.now.strides) l.first (E.lengths l.dim) (E.Strides.strides_of l.strides) (λ i. i)) }
+        ensures step { IfSome result (λ l. IsStep self.now.offset (D.lengths self.now.dim) (T.strides_of self.now.strides) l.offset (E.lengths l.dim) (E.Strides.strides_of l.strides) (λ i. i)) }
     {
         let dim = E::from_lengths(self.dim.slice())?;
         let strides = strides_from(&dim, self.strides.slice());
         Some(Layout {
-            first: self.first,
+            offset: self.offset,
             dim,
             strides,
         })
@@ -88,12 +88,12 @@ impl<D: Dimension, T: StrideList> Layout<D, T> {
     pub fn as_dynamic(&self) -> Layout<IxDyn, <IxDyn as Dimension>::Strides>
         ensures lengths { ⟦<IxDyn as Dimension>⟧.lengths result.dim ≡ D.lengths self.now.dim }
         ensures strides { ⟦<DynStrides as StrideList>⟧.strides_of result.strides ≡ T.strides_of self.now.strides }
-        ensures step { IsStep self.now.first (D.lengths self.now.dim) (T.strides_of self.now.strides) result.first (⟦<IxDyn as Dimension>⟧.lengths result.dim) (⟦<DynStrides as StrideList>⟧.strides_of result.strides) (λ i. i) }
+        ensures step { IsStep self.now.offset (D.lengths self.now.dim) (T.strides_of self.now.strides) result.offset (⟦<IxDyn as Dimension>⟧.lengths result.dim) (⟦<DynStrides as StrideList>⟧.strides_of result.strides) (λ i. i) }
     {
         let dim = IxDyn::new(self.dim.slice());
         let strides = strides_from(&dim, self.strides.slice());
         Layout {
-            first: self.first,
+            offset: self.offset,
             dim,
             strides,
         }
@@ -114,10 +114,10 @@ where
         requires within { index < slice_index (D.lengths self.now.dim) axis }
         ensures lengths { D.Smaller.lengths result.dim ≡ indexed_shape (D.lengths self.now.dim) axis }
         ensures strides { D.Smaller.Strides.strides_of result.strides ≡ remove (T.strides_of self.now.strides) axis }
-        ensures step { IsStep self.now.first (D.lengths self.now.dim) (T.strides_of self.now.strides) result.first (D.Smaller.lengths result.dim) (D.Smaller.Strides.strides_of result.strides) (indexed_index axis index) }
+        ensures step { IsStep self.now.offset (D.lengths self.now.dim) (T.strides_of self.now.strides) result.offset (D.Smaller.lengths result.dim) (D.Smaller.Strides.strides_of result.strides) (indexed_index axis index) }
     {
-        let first = first_collapsed(
-            self.first,
+        let offset = offset_collapsed(
+            self.offset,
             self.dim.slice(),
             self.strides.slice(),
             axis,
@@ -126,7 +126,7 @@ where
         let dim = self.dim.remove_axis(Axis(axis));
         let strides = strides_without(&dim, self.strides.slice(), axis);
         Layout {
-            first,
+            offset,
             dim,
             strides,
         }
@@ -141,14 +141,14 @@ where
     pub fn insert_axis(&self, axis: usize) -> Layout<D::Larger, <D::Larger as Dimension>::Strides>
         requires place { axis ≤ length (D.lengths self.now.dim) }
         requires room { D.Larger.has_axes (length (D.lengths self.now.dim) + 1) ≡ true }
-        ensures lengths { D.Larger.lengths result.dim ≡ widened_shape (D.lengths self.now.dim) axis }
+        ensures lengths { D.Larger.lengths result.dim ≡ inserted_shape (D.lengths self.now.dim) axis }
         ensures strides { D.Larger.Strides.strides_of result.strides ≡ insert (T.strides_of self.now.strides) axis (pos 1) }
-        ensures step { IsStep self.now.first (D.lengths self.now.dim) (T.strides_of self.now.strides) result.first (D.Larger.lengths result.dim) (D.Larger.Strides.strides_of result.strides) (widened_index axis) }
+        ensures step { IsStep self.now.offset (D.lengths self.now.dim) (T.strides_of self.now.strides) result.offset (D.Larger.lengths result.dim) (D.Larger.Strides.strides_of result.strides) (inserted_index axis) }
     {
         let dim = self.dim.insert_axis(Axis(axis));
         let strides = strides_with(&dim, self.strides.slice(), axis);
         Layout {
-            first: self.first,
+            offset: self.offset,
             dim,
             strides,
         }

@@ -6,7 +6,7 @@ ghost use Rattle.nd_shape_and_slice.specs.Descriptions.{axes_from};
 ghost use Rattle.nd_shape_and_slice.specs.Slice.{fits_axis, sliced_length, sliced_shape, sliced_index};
 ghost use Rattle.nd_shape_and_slice.specs.SliceInfo.{reads_axis, axes_read, axes_kept, each_fits, fits_next, fits_shape, shape_after, index_before};
 ghost use Rattle.nd_layout.specs.Strides.{sliced_strides, stepped_stride, FitsStride};
-ghost use Rattle.nd_shape_and_slice.specs.EachAxis.{each_sliced, each_sliced_index, AnswersFit, Answered};
+ghost use Rattle.nd_shape_and_slice.specs.EachAxis.{each_sliced_shape, each_sliced_index, AnswersFit, AnswersAre};
 ghost use Rattle.nd_shape_and_slice.specs.Slicing.{collapsed_after, collapsed_before, shape_with, index_with, kept_items, put_back, indexed_ones};
 ghost use Rattle.nd_layout.specs.Steps.{IsStep, IsValid};
 
@@ -18,10 +18,10 @@ use nd_shape_and_slice::{
     axis_after, coordinate_on_axis,
 };
 
-/// A layout of which one axis is changed: the first place, and the axis's length and stride.
+/// A layout of which one axis is changed: the offset, and the axis's length and stride.
 #[derive(Clone, Copy)]
 struct AxisChange {
-    first: usize,
+    offset: usize,
     len: usize,
     stride: isize,
 }
@@ -34,30 +34,30 @@ fn stepped_by(stride: isize, len: usize, step: isize) -> isize
     if len <= 1 { 0 } else { stride * step }
 }
 
-/// What a slice makes of an axis. The first place stays where no element is left.
+/// One axis after a slice: the offset, its length and its stride. The offset stays if no element is left.
 fn slice_of_axis(
-    first: usize,
+    offset: usize,
     lengths: &[usize],
     strides: &[isize],
     axis: usize,
     slice: Slice,
 ) -> AxisChange
-    requires valid { IsValid first lengths.now strides.now }
+    requires valid { IsValid offset lengths.now strides.now }
     requires on { axis < length lengths.now }
     requires fits { fits_axis (slice_index lengths.now axis) slice ≡ true }
     ensures len { result.len ≡ sliced_length (slice_index lengths.now axis) slice }
     ensures stride { result.stride ≡ stepped_stride result.len (slice_index_or strides.now axis (pos 0)) slice.step }
-    ensures step { IsStep first lengths.now strides.now result.first (slice_set lengths.now axis result.len) (slice_set strides.now axis result.stride) (sliced_index lengths.now axis slice) }
+    ensures step { IsStep offset lengths.now strides.now result.offset (slice_set lengths.now axis result.len) (slice_set strides.now axis result.stride) (sliced_index lengths.now axis slice) }
 {
     let sliced = slice.on_axis(lengths[axis]);
     let stride = strides[axis];
-    let first = if leaves_none(lengths, axis, sliced.len) {
-        first
+    let offset = if leaves_none(lengths, axis, sliced.len) {
+        offset
     } else {
-        moved_by(first, sliced.first, stride)
+        moved_by(offset, sliced.first, stride)
     };
     AxisChange {
-        first,
+        offset,
         len: sliced.len,
         stride: stepped_by(stride, sliced.len, slice.step),
     }
@@ -70,16 +70,16 @@ impl<D: Dimension, T: StrideList> Layout<D, T> {
         requires fits { fits_axis (slice_index (D.lengths self.old.dim) axis) slice ≡ true }
         ensures lengths { D.lengths self.new.dim ≡ sliced_shape (D.lengths self.old.dim) axis slice }
         ensures strides { T.strides_of self.new.strides ≡ sliced_strides (D.lengths self.old.dim) (T.strides_of self.old.strides) axis slice }
-        ensures step { IsStep self.old.first (D.lengths self.old.dim) (T.strides_of self.old.strides) self.new.first (D.lengths self.new.dim) (T.strides_of self.new.strides) (sliced_index (D.lengths self.old.dim) axis slice) }
+        ensures step { IsStep self.old.offset (D.lengths self.old.dim) (T.strides_of self.old.strides) self.new.offset (D.lengths self.new.dim) (T.strides_of self.new.strides) (sliced_index (D.lengths self.old.dim) axis slice) }
     {
         let after = slice_of_axis(
-            self.first,
+            self.offset,
             self.dim.slice(),
             self.strides.slice(),
             axis,
             slice,
         );
-        self.first = after.first;
+        self.offset = after.offset;
         self.dim.set_length(axis, after.len);
         self.strides.set(axis, after.stride);
     }
@@ -169,34 +169,35 @@ impl<D: Dimension, T: StrideList> Layout<D, T> {
         requires few { axes_kept elements.now ≤ 32 }
         requires room { E.has_axes (axes_kept elements.now) ≡ true }
         ensures lengths { E.lengths result.dim ≡ kept_items 1 elements.now (D.lengths self.now.dim) }
-        ensures step { IsStep self.now.first (D.lengths self.now.dim) (T.strides_of self.now.strides) result.first (E.lengths result.dim) (E.Strides.strides_of result.strides) (put_back elements.now) }
+        ensures step { IsStep self.now.offset (D.lengths self.now.dim) (T.strides_of self.now.strides) result.offset (E.lengths result.dim) (E.Strides.strides_of result.strides) (put_back elements.now) }
     {
         let dim: E = kept_dim(self.dim.slice(), elements);
         let strides = kept_strides(&dim, self.strides.slice(), elements);
         Layout {
-            first: self.first,
+            offset: self.offset,
             dim,
             strides,
         }
     }
 
-    /// What the elements make of the axes: a slice keeps its axis, an index takes it away, and new axes have length 1.
+    /// The layout that a list of slices leaves: a slice keeps its axis, an index takes it away, and new axes have
+    /// length 1.
     pub fn sliced<E: Dimension>(&self, elements: &[SliceInfoElem]) -> Layout<E, E::Strides>
         requires fits { fits_shape (D.lengths self.now.dim) elements.now ≡ true }
         requires room { E.has_axes (axes_kept elements.now) ≡ true }
         ensures lengths { E.lengths result.dim ≡ shape_after (D.lengths self.now.dim) elements.now }
-        ensures step { IsStep self.now.first (D.lengths self.now.dim) (T.strides_of self.now.strides) result.first (E.lengths result.dim) (E.Strides.strides_of result.strides) (index_before (D.lengths self.now.dim) elements.now) }
+        ensures step { IsStep self.now.offset (D.lengths self.now.dim) (T.strides_of self.now.strides) result.offset (E.lengths result.dim) (E.Strides.strides_of result.strides) (index_before (D.lengths self.now.dim) elements.now) }
     {
         let mut layout = self.copied();
         layout.slice_axes(elements);
         layout.kept_axes(elements)
     }
 
-    /// What the element makes of the axis that it reads: the part that a slice names, or one coordinate.
+    /// The layout after one element of the list: the part that a slice names, or one coordinate.
     fn slice_element(&mut self, axis: usize, element: SliceInfoElem)
         requires { fits_next (slice_get (D.lengths self.old.dim) axis) element ≡ true }
         ensures lengths { D.lengths self.new.dim ≡ shape_with (D.lengths self.old.dim) axis element }
-        ensures step { IsStep self.old.first (D.lengths self.old.dim) (T.strides_of self.old.strides) self.new.first (D.lengths self.new.dim) (T.strides_of self.new.strides) (index_with (D.lengths self.old.dim) axis element) }
+        ensures step { IsStep self.old.offset (D.lengths self.old.dim) (T.strides_of self.old.strides) self.new.offset (D.lengths self.new.dim) (T.strides_of self.new.strides) (index_with (D.lengths self.old.dim) axis element) }
     {
         match element {
             SliceInfoElem::Slice { start, end, step } => {
@@ -211,11 +212,11 @@ impl<D: Dimension, T: StrideList> Layout<D, T> {
         }
     }
 
-    /// What the elements make of the axes that they read, in order. An indexed axis keeps length 1.
+    /// The layout after the whole list, axis by axis. An indexed axis keeps length 1.
     pub fn slice_axes(&mut self, elements: &[SliceInfoElem])
         requires { each_fits (D.lengths self.old.dim) elements.now ≡ true }
         ensures lengths { D.lengths self.new.dim ≡ collapsed_after (D.lengths self.old.dim) elements.now }
-        ensures step { IsStep self.old.first (D.lengths self.old.dim) (T.strides_of self.old.strides) self.new.first (D.lengths self.new.dim) (T.strides_of self.new.strides) (collapsed_before (D.lengths self.old.dim) elements.now) }
+        ensures step { IsStep self.old.offset (D.lengths self.old.dim) (T.strides_of self.old.strides) self.new.offset (D.lengths self.new.dim) (T.strides_of self.new.strides) (collapsed_before (D.lengths self.old.dim) elements.now) }
     {
         let mut axis = 0;
         for element in elements {
@@ -226,10 +227,10 @@ impl<D: Dimension, T: StrideList> Layout<D, T> {
 }
 
 impl<D: Dimension, T: StrideList> Layout<D, T> {
-    /// Keeps of each axis what the closure answers, which is asked of axis 0 first.
+    /// Keeps of each axis the slice that the closure answers. It is called for axis 0 first.
     pub fn slice_each_axis<F: FnMut(AxisDescription) -> Slice + Drop>(&mut self, mut f: F)
         requires { AnswersFit F.pre F.step f (axes_from 0 (D.lengths self.old.dim) (T.strides_of self.old.strides)) }
-        ensures { (slices : List Slice) × (last : F) × Answered F.step f (axes_from 0 (D.lengths self.old.dim) (T.strides_of self.old.strides)) slices last × (D.lengths self.new.dim ≡ each_sliced (D.lengths self.old.dim) slices) × IsStep self.old.first (D.lengths self.old.dim) (T.strides_of self.old.strides) self.new.first (D.lengths self.new.dim) (T.strides_of self.new.strides) (each_sliced_index (D.lengths self.old.dim) slices) }
+        ensures { (slices : List Slice) × (last : F) × AnswersAre F.step f (axes_from 0 (D.lengths self.old.dim) (T.strides_of self.old.strides)) slices last × (D.lengths self.new.dim ≡ each_sliced_shape (D.lengths self.old.dim) slices) × IsStep self.old.offset (D.lengths self.old.dim) (T.strides_of self.old.strides) self.new.offset (D.lengths self.new.dim) (T.strides_of self.new.strides) (each_sliced_index (D.lengths self.old.dim) slices) }
     {
         let before = self.copied();
         for axis in 0..before.dim.ndim() {

@@ -2,7 +2,7 @@
 
 ghost use Rattle.std.specs.Prelude.{◌≡◌, map, length};
 ghost use Rattle.nd_run.specs.Words.{words_of};
-ghost use Rattle.nd_run.specs.Calls.{asked_step, asking, asked};
+ghost use Rattle.nd_run.specs.Calls.{asked_step, asking, asked_call};
 ghost use Rattle.nd_run.specs.Reading.{Gives, leg_at, path_at, get_at, question_at, keep_at, ask_at, write_at, split_at, call_at, ended, call_of, start_of};
 
 use crate::calls::{Call, Question, Step};
@@ -14,7 +14,7 @@ use crate::reader::step::{begins_step, pair, step};
 use crate::words::split_word;
 use std::alloc::Global;
 
-/// A step and the slash after it.
+/// One step of a path, with the slash that follows it.
 #[tactic(auto, unfolding(crate::specs::Reading::leg_at))]
 fn leg(alloc: Global, line: &[u8]) -> Result<(Step, &[u8]), LineFault>
     ensures { Gives (λ x. (asked_step x.0, words_of x.1.now)) result (leg_at (words_of line.now)) }
@@ -27,7 +27,7 @@ fn leg(alloc: Global, line: &[u8]) -> Result<(Step, &[u8]), LineFault>
     }
 }
 
-/// Steps, each with a slash after it, as long as one begins and at most that many.
+/// The steps of a path, each followed by a slash; at most as many as asked for.
 fn path(alloc: Global, most: usize, line: &[u8]) -> Result<(Vec<Step>, &[u8]), LineFault>
     ensures { Gives (λ x. (map asked_step x.0.items, words_of x.1.now)) result (path_at most (words_of line.now)) }
 {
@@ -67,7 +67,7 @@ fn question(alloc: Global, line: &[u8]) -> Result<(Question, &[u8]), LineFault>
 
 #[tactic(auto, unfolding(crate::specs::Reading::keep_at))]
 fn keep(alloc: Global, line: &[u8]) -> Result<(Call<i64>, &[u8]), LineFault>
-    ensures { Gives (λ x. (asked x.0, words_of x.1.now)) result (keep_at (words_of line.now)) }
+    ensures { Gives (λ x. (asked_call x.0, words_of x.1.now)) result (keep_at (words_of line.now)) }
 {
     let (step, rest) = step(alloc, line)?;
     Ok((Call::Keep(step), rest))
@@ -75,7 +75,7 @@ fn keep(alloc: Global, line: &[u8]) -> Result<(Call<i64>, &[u8]), LineFault>
 
 #[tactic(auto, unfolding(crate::specs::Reading::ask_at))]
 fn ask(alloc: Global, most: usize, line: &[u8]) -> Result<(Call<i64>, &[u8]), LineFault>
-    ensures { Gives (λ x. (asked x.0, words_of x.1.now)) result (ask_at most (words_of line.now)) }
+    ensures { Gives (λ x. (asked_call x.0, words_of x.1.now)) result (ask_at most (words_of line.now)) }
 {
     let (path, rest) = path(alloc, most, line)?;
     let (question, rest) = question(alloc, rest)?;
@@ -84,7 +84,7 @@ fn ask(alloc: Global, most: usize, line: &[u8]) -> Result<(Call<i64>, &[u8]), Li
 
 #[tactic(auto, unfolding(crate::specs::Reading::write_at))]
 fn write(alloc: Global, most: usize, line: &[u8]) -> Result<(Call<i64>, &[u8]), LineFault>
-    ensures { Gives (λ x. (asked x.0, words_of x.1.now)) result (write_at most (words_of line.now)) }
+    ensures { Gives (λ x. (asked_call x.0, words_of x.1.now)) result (write_at most (words_of line.now)) }
 {
     let (path, rest) = path(alloc, most, line)?;
     let (act, rest) = act(alloc, rest)?;
@@ -93,7 +93,7 @@ fn write(alloc: Global, most: usize, line: &[u8]) -> Result<(Call<i64>, &[u8]), 
 
 #[tactic(auto, unfolding(crate::specs::Reading::split_at))]
 fn split(alloc: Global, line: &[u8]) -> Result<(Call<i64>, &[u8]), LineFault>
-    ensures { Gives (λ x. (asked x.0, words_of x.1.now)) result (split_at (words_of line.now)) }
+    ensures { Gives (λ x. (asked_call x.0, words_of x.1.now)) result (split_at (words_of line.now)) }
 {
     let ((axis, index), rest) = pair(line)?;
     let ((first, second), rest) = acts(alloc, rest)?;
@@ -102,7 +102,7 @@ fn split(alloc: Global, line: &[u8]) -> Result<(Call<i64>, &[u8]), LineFault>
 
 #[tactic(auto, unfolding(crate::specs::Reading::call_at))]
 fn any_call(alloc: Global, most: usize, line: &[u8]) -> Result<(Call<i64>, &[u8]), LineFault>
-    ensures { Gives (λ x. (asked x.0, words_of x.1.now)) result (call_at most (words_of line.now)) }
+    ensures { Gives (λ x. (asked_call x.0, words_of x.1.now)) result (call_at most (words_of line.now)) }
 {
     let (first, rest) = keyword(line)?;
     match first {
@@ -117,13 +117,13 @@ fn any_call(alloc: Global, most: usize, line: &[u8]) -> Result<(Call<i64>, &[u8]
 /// The call of a line, all of whose words belong to it.
 #[tactic(auto, unfolding(crate::specs::Reading::call_of))]
 pub fn call(alloc: Global, line: &[u8]) -> Result<Call<i64>, LineFault>
-    ensures { Gives asked result (call_of (length line.now) (words_of line.now)) }
+    ensures { Gives asked_call result (call_of (length line.now) (words_of line.now)) }
 {
     let (call, rest) = any_call(alloc, line.len(), line)?;
     end_of_line(call, rest)
 }
 
-/// The value, where no word is left over.
+/// The value that was read, if it took the whole line.
 fn end_of_line<T: Drop>(value: T, line: &[u8]) -> Result<T, LineFault>
     ensures { Gives (λ x. x) result (ended (value, words_of line.now)) }
 {

@@ -4,8 +4,8 @@ ghost use Rattle.std.specs.Prelude.{◌≡◌};
 ghost use Rattle.nd_run.specs.Words.{words_of};
 ghost use Rattle.nd_run.specs.Numerals.{nat_of, int_of};
 ghost use Rattle.nd_shape_and_slice.specs.declared.slice_info.SliceInfoElem.TheVariants.{Slice as Part, Index as At};
-ghost use Rattle.nd_run.specs.Calls.{asked_step, SlicedAxis, Sliced, Collapsed, Indexed, Permuted, Exchanged, Inverted, Inserted, Removed, Widened};
-ghost use Rattle.nd_run.specs.Reading.{Gives, made, item_at, many_at, element_at, elements_at, list_at, end_of, slice_at, pair_at, cut_at, step_at, begins_step};
+ghost use Rattle.nd_run.specs.Calls.{asked_step, SlicedAxis, Sliced, Collapsed, Indexed, Permuted, Exchanged, Inverted, Inserted, Removed, BroadcastTo};
+ghost use Rattle.nd_run.specs.Reading.{Gives, made, item_at, many_at, slice_element_at, elements_at, list_at, end_of, slice_at, pair_at, cut_at, step_at, begins_step};
 
 use crate::calls::Step;
 use crate::keyword::Keyword;
@@ -78,9 +78,9 @@ fn coordinate(line: &[u8]) -> Result<(SliceInfoElem, &[u8]), LineFault>
 }
 
 /// An element of a list of slices.
-#[tactic(auto, unfolding(crate::specs::Reading::element_at))]
+#[tactic(auto, unfolding(crate::specs::Reading::slice_element_at))]
 fn element(line: &[u8]) -> Result<(SliceInfoElem, &[u8]), LineFault>
-    ensures { Gives (λ x. (x.0, words_of x.1.now)) result (element_at (words_of line.now)) }
+    ensures { Gives (λ x. (x.0, words_of x.1.now)) result (slice_element_at (words_of line.now)) }
 {
     let (first, rest) = word(line)?;
     if first == b"s".as_slice() {
@@ -95,13 +95,13 @@ fn element(line: &[u8]) -> Result<(SliceInfoElem, &[u8]), LineFault>
     Err(LineFault::Bad)
 }
 
-/// That many elements of a list of slices.
+/// As many elements of a list of slices as asked for.
 fn elements(
     alloc: Global,
     count: usize,
     line: &[u8],
 ) -> Result<(Vec<SliceInfoElem>, &[u8]), LineFault>
-    ensures { Gives (λ x. (x.0.items, words_of x.1.now)) result (many_at element_at count (words_of line.now)) }
+    ensures { Gives (λ x. (x.0.items, words_of x.1.now)) result (many_at slice_element_at count (words_of line.now)) }
 {
     let mut elements = Vec::new(alloc);
     let mut rest = line;
@@ -180,7 +180,7 @@ fn remove(line: &[u8]) -> Result<(Step, &[u8]), LineFault>
 
 #[tactic(auto, unfolding(crate::specs::Reading::made))]
 fn broadcast(alloc: Global, line: &[u8]) -> Result<(Step, &[u8]), LineFault>
-    ensures { Gives (λ x. (asked_step x.0, words_of x.1.now)) result (made Widened (list_at (words_of line.now))) }
+    ensures { Gives (λ x. (asked_step x.0, words_of x.1.now)) result (made BroadcastTo (list_at (words_of line.now))) }
 {
     let (lengths, rest) = list(alloc, line)?;
     Ok((Step::Broadcast(lengths), rest))
@@ -210,7 +210,7 @@ pub fn step(alloc: Global, line: &[u8]) -> Result<(Step, &[u8]), LineFault>
     }
 }
 
-/// Whether a step begins here.
+/// Whether the line goes on with a step.
 pub fn begins_step(line: &[u8]) -> bool
     ensures { result ≡ begins_step (words_of line.now) }
 {

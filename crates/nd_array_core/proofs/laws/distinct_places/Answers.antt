@@ -7,4 +7,4 @@ unfolding place_at
 returns g c =
     let array = c.args.array.now in
     let layout = array.layout in
-    places_differ layout.first (g.D.Dimension.lengths layout.dim) (g.D.Strides.StrideList.strides_of layout.strides) layout.as_many (array.separated g.met.S.DataMut.alone)
+    places_differ layout.offset (g.D.Dimension.lengths layout.dim) (g.D.Strides.StrideList.strides_of layout.strides) layout.as_many (array.separated g.met.S.DataMut.alone)

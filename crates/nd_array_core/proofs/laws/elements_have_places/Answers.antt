@@ -6,11 +6,11 @@ pub returns-clause-places : goal.returns-clause-places
 unfolding shape_of place_at
 returns-clause-places g c =
     let layout = c.args.array.now.layout in
-    in_box_has_place layout.first (g.D.Dimension.lengths layout.dim) (g.D.Strides.StrideList.strides_of layout.strides) layout.reach
+    in_box_has_place layout.offset (g.D.Dimension.lengths layout.dim) (g.D.Strides.StrideList.strides_of layout.strides) layout.reach
 
 pub returns-clause-elements : goal.returns-clause-elements
 unfolding element_at storage_of place_at
 returns-clause-elements g c =
     let array = c.args.array.now in
     let layout = array.layout in
-    shows_stored layout.first (g.D.Dimension.lengths layout.dim) (g.D.Strides.StrideList.strides_of layout.strides) (g.S.Data.stored array.storage)
+    shows_stored layout.offset (g.D.Dimension.lengths layout.dim) (g.D.Strides.StrideList.strides_of layout.strides) (g.S.Data.stored array.storage)

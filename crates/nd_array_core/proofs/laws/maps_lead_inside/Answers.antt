@@ -1,4 +1,4 @@
-use Rattle.nd_array_core.proofs.LawProofs.{sliced_inside, listed_inside, collapsed_list_inside, permuted_inside, reversed_inside, swapped_inside, inverted_inside, collapsed_inside, lower_inside, upper_inside, indexed_inside, widened_inside, squeezed_inside, diagonal_inside, broadcast_inside}
+use Rattle.nd_array_core.proofs.LawProofs.{sliced_inside, listed_inside, collapsed_list_inside, permuted_inside, reversed_inside, swapped_inside, inverted_inside, collapsed_inside, lower_inside, upper_inside, indexed_inside, inserted_inside, squeezed_inside, diagonal_inside, broadcast_inside}
 use Rattle.nd_array_core.proofs.laws.maps_lead_inside.Goals as goal
 
 pub returns-clause-sliced : goal.returns-clause-sliced
@@ -31,8 +31,8 @@ returns-clause-upper c = upper_inside
 pub returns-clause-indexed : goal.returns-clause-indexed
 returns-clause-indexed c = indexed_inside
 
-pub returns-clause-widened : goal.returns-clause-widened
-returns-clause-widened c = widened_inside
+pub returns-clause-inserted : goal.returns-clause-inserted
+returns-clause-inserted c = inserted_inside
 
 pub returns-clause-squeezed : goal.returns-clause-squeezed
 returns-clause-squeezed c = squeezed_inside

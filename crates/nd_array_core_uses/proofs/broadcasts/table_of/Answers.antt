@@ -2,7 +2,7 @@ use Rattle.std.proofs.Common.{◌≡◌, ◌<◌, ◌∷◌, [], ℕ, Bool, true
 use Rattle.std.proofs.lemmas.Bool.{lt-ltb}
 use Rattle.std.proofs.lemmas.Bool.Decides.{nat_tests}
 use Rattle.nd_shape_and_slice.specs.Shape.{in_box}
-use Rattle.nd_shape_and_slice.specs.Broadcast.{forget}
+use Rattle.nd_shape_and_slice.specs.Broadcast.{broadcast_index}
 use Rattle.nd_array_core.specs.Meaning.{element_at, inside}
 use Rattle.nd_array_core_uses.proofs.broadcasts.table_of.Goals as goal
 
@@ -20,5 +20,5 @@ in_table rows columns i j h k = rw (lt-ltb i rows h, lt-ltb j columns k) refl
 pub returns-in-Some-clause-elements : goal.returns-in-Some-clause-elements
 returns-in-Some-clause-elements g c i j row column =
     let shape = c.args.rows ∷ c.args.columns ∷ [] in
-    let at : element_at c.in-Some.table (i ∷ j ∷ []) ≡ inside shape (i ∷ j ∷ []) (element_at c.args.one.now (forget (1 ∷ []) shape (i ∷ j ∷ []))) = rw (c.requires, c.in-Some.ensures.shape) at (c.in-Some.ensures.elements (i ∷ j ∷ [])) in
+    let at : element_at c.in-Some.table (i ∷ j ∷ []) ≡ inside shape (i ∷ j ∷ []) (element_at c.args.one.now (broadcast_index (1 ∷ []) shape (i ∷ j ∷ []))) = rw (c.requires, c.in-Some.ensures.shape) at (c.in-Some.ensures.elements (i ∷ j ∷ [])) in
     rw (at, in_table c.args.rows c.args.columns i j row column) (ap (λ k. element_at c.args.one.now (k ∷ [])) (only_zero c.args.columns j column))

@@ -2,7 +2,7 @@ use Rattle.std.proofs.Common.{arith, ℕ, ◌<◌, ◌≡◌, ◌^◌, ◌∙◌
 use Rattle.std.proofs.lemmas.Int.{to_z_pos, ints}
 use Rattle.std.proofs.lemmas.List.{length-set, drop_all}
 use Rattle.nd_shape_and_slice.specs.Shape.{size_of}
-use Rattle.nd_layout.specs.Ranks.{ordered, axis_in}
+use Rattle.nd_layout.specs.Ranks.{fastest_first, axis_in}
 use Rattle.nd_shape_and_slice.specs.Strides.{column_strides_from}
 use Rattle.nd_shape_and_slice.proofs.ColumnMajor.{length-column_strides_from}
 use Rattle.nd_layout.proofs.Orders.{length-ordered, size_of-ordered, get_or-ordered}
@@ -14,7 +14,7 @@ use Rattle.nd_layout.proofs.grows.fill_strides.Goals as goal
 pub overflow_cast-product : goal.overflow_cast-product
 overflow_cast-product c =
     let os = set c.args.lengths.now c.args.axis 1 in
-    let ms = ordered c.args.order os in
+    let ms = fastest_first c.args.order os in
     let l = length-set c.args.lengths.now c.args.axis 1 in
     let lm = length-ordered c.args.order os in
     let z = size_of-ordered c.args.order os in
@@ -25,7 +25,7 @@ pub overflow_mul-product : goal.overflow_mul-product
 overflow_mul-product c =
     let o = c.args.order in
     let os = set c.args.lengths.now c.args.axis 1 in
-    let ms = ordered o os in
+    let ms = fastest_first o os in
     let place = c.loop-place.place in
     let l = length-set c.args.lengths.now c.args.axis 1 in
     let lm = length-ordered o os in
@@ -39,8 +39,8 @@ pub loop-place-preserved : goal.loop-place-preserved
 loop-place-preserved c =
     let o = c.args.order in
     let os = set c.args.lengths.now c.args.axis 1 in
-    let ms = ordered o os in
-    let ts = ordered o c.loop-place.out in
+    let ms = fastest_first o os in
+    let ts = fastest_first o c.loop-place.out in
     let cs = column_strides_from 1 ms in
     let place = c.loop-place.place in
     let product = c.loop-place.product in
@@ -66,7 +66,7 @@ pub returns-clause-value : goal.returns-clause-value
 returns-clause-value c =
     let o = c.args.order in
     let os = set c.args.lengths.now c.args.axis 1 in
-    let ms = ordered o os in
+    let ms = fastest_first o os in
     let l = length-set c.args.lengths.now c.args.axis 1 in
     let lm = length-ordered o os in
     let none : drop c.loop-place.place ms ≡ [] = drop_all c.loop-place.place ms (omega arith) in
@@ -77,9 +77,9 @@ pub returns-clause-written : goal.returns-clause-written
 returns-clause-written c =
     let o = c.args.order in
     let os = set c.args.lengths.now c.args.axis 1 in
-    let ms = ordered o os in
+    let ms = fastest_first o os in
     let l = length-set c.args.lengths.now c.args.axis 1 in
     let lm = length-ordered o os in
     let lt = length-ordered o c.loop-place.out in
     let lc = length-column_strides_from 1 ms in
-    copied_all (ordered o c.loop-place.out) (column_strides_from 1 ms) c.loop-place.place (omega arith) (omega arith) c.loop-place.invariant.before
+    copied_all (fastest_first o c.loop-place.out) (column_strides_from 1 ms) c.loop-place.place (omega arith) (omega arith) c.loop-place.invariant.before

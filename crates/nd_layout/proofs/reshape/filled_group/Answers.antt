@@ -1,14 +1,14 @@
 use Rattle.std.proofs.Common.{arith, ◌≡◌, length, drop}
 use Rattle.std.proofs.lemmas.List.{length-drop}
-use Rattle.nd_layout.specs.Ranks.{ordered}
+use Rattle.nd_layout.specs.Ranks.{fastest_first}
 use Rattle.nd_layout.proofs.Orders.{length-ordered}
 use Rattle.nd_layout.proofs.Regroups.{Regroups-one_out, Regroups-trans}
 use Rattle.nd_layout.proofs.reshape.filled_group.Goals as goal
 
 pub returns-then-group-eq1-clause-regroups : goal.returns-then-group-eq1-clause-regroups
 returns-then-group-eq1-clause-regroups c =
-    let ns = ordered c.args.order c.args.lengths.now in
-    let ss = ordered c.args.order c.args.strides.now in
+    let ns = fastest_first c.args.order c.args.lengths.now in
+    let ss = fastest_first c.args.order c.args.strides.now in
     let ln = length-ordered c.args.order c.args.lengths.now in
     let ls = length-ordered c.args.order c.args.strides.now in
     let l : length (drop c.args.group.next ss) ≡ length (drop c.args.group.next ns) = simp length-drop (omega arith) in

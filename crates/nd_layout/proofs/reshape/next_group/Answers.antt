@@ -1,7 +1,7 @@
 use Rattle.std.proofs.Common.{arith, rules, ◌+◌, ◌<◌, ◌≡◌, ◌∙◌, ap, length, drop, refl, pos, get_or, FitsSigned, w64}
 use Rattle.std.proofs.lemmas.Int.{to_z-of_z}
 use Rattle.std.proofs.lemmas.List.{length-drop}
-use Rattle.nd_layout.specs.Ranks.{ordered}
+use Rattle.nd_layout.specs.Ranks.{fastest_first}
 use Rattle.nd_layout.proofs.Orders.{length-ordered}
 use Rattle.nd_layout.proofs.Regroups.{Regroups-one_in}
 use Rattle.nd_layout.proofs.Grouping.{grouped_more, grouped_size, at_rank-next}
@@ -9,8 +9,8 @@ use Rattle.nd_layout.proofs.reshape.next_group.Goals as goal
 
 pub loop-next-init : goal.loop-next-init
 loop-next-init c =
-    let ns = ordered c.args.order c.args.lengths.now in
-    let ss = ordered c.args.order c.args.strides.now in
+    let ns = fastest_first c.args.order c.args.lengths.now in
+    let ss = fastest_first c.args.order c.args.strides.now in
     let ln = length-ordered c.args.order c.args.lengths.now in
     let ls = length-ordered c.args.order c.args.strides.now in
     let l : length (drop c.args.from ss) ≡ length (drop c.args.from ns) = simp length-drop (omega arith) in
@@ -18,24 +18,24 @@ loop-next-init c =
 
 pub joined-requires-clause-fits : goal.joined-requires-clause-fits
 joined-requires-clause-fits c =
-    let ns = ordered c.args.order c.args.lengths.now in
-    let ss = ordered c.args.order c.args.strides.now in
+    let ns = fastest_first c.args.order c.args.lengths.now in
+    let ss = fastest_first c.args.order c.args.strides.now in
     let ln = length-ordered c.args.order c.args.lengths.now in
     let p = grouped_size _ _ ns ss c.loop-next.next c.loop-next.group.length c.loop-next.group.step (omega arith) c.requires.some c.loop-next.invariant.regroups in
     rw c.length_at.ensures (omega arith)
 
 pub joined-requires-clause-some : goal.joined-requires-clause-some
 joined-requires-clause-some c =
-    let ns = ordered c.args.order c.args.lengths.now in
-    let ss = ordered c.args.order c.args.strides.now in
+    let ns = fastest_first c.args.order c.args.lengths.now in
+    let ss = fastest_first c.args.order c.args.strides.now in
     let ln = length-ordered c.args.order c.args.lengths.now in
     let p = grouped_size _ _ ns ss c.loop-next.next c.loop-next.group.length c.loop-next.group.step (omega arith) c.requires.some c.loop-next.invariant.regroups in
     rw c.length_at.ensures p.0
 
 pub returns-in-None-clause-closed : goal.returns-in-None-clause-closed
 returns-in-None-clause-closed c long more =
-    let ns = ordered c.args.order c.args.lengths.now in
-    let ss = ordered c.args.order c.args.strides.now in
+    let ns = fastest_first c.args.order c.args.lengths.now in
+    let ss = fastest_first c.args.order c.args.strides.now in
     let ln = length-ordered c.args.order c.args.lengths.now in
     let ls = length-ordered c.args.order c.args.strides.now in
     let apart = c.in-None.ensures in
@@ -48,8 +48,8 @@ returns-in-None-clause-closed c long more =
 
 pub loop-next-preserved : goal.loop-next-preserved
 loop-next-preserved c =
-    let ns = ordered c.args.order c.args.lengths.now in
-    let ss = ordered c.args.order c.args.strides.now in
+    let ns = fastest_first c.args.order c.args.lengths.now in
+    let ss = fastest_first c.args.order c.args.strides.now in
     let ln = length-ordered c.args.order c.args.lengths.now in
     let ls = length-ordered c.args.order c.args.strides.now in
     let joins = c.in-Some.ensures in

@@ -5,7 +5,7 @@ use Rattle.nd_shape_and_slice.specs.Shape.{size_of}
 use Rattle.std.proofs.lemmas.Bool.{false≢true}
 use Rattle.nd_shape_and_slice.proofs.RowMajor.{span_of-zeros}
 use Rattle.nd_shape_and_slice.proofs.Sizes.{size_of-drop}
-use Rattle.nd_layout.specs.Ranks.{ordered, ServesRanks, Regroups}
+use Rattle.nd_layout.specs.Ranks.{fastest_first, ServesRanks, Regroups}
 use Rattle.nd_layout.proofs.Orders.{length-ordered, size_of-ordered, span_of-ordered, IsSeparated-ordered, IsSeparated-unordered, Serves-from_ranks, ranks_from_Serves}
 use Rattle.nd_layout.proofs.Regroups.{Regroups-one_in}
 use Rattle.nd_layout.proofs.Serving.{serves_all}
@@ -29,8 +29,8 @@ returns-then-is_empty_shape-clause-span c =
 
 pub loop-place-init : goal.loop-place-init
 loop-place-init c =
-    let ns = ordered c.args.order c.args.lengths.now in
-    let ss = ordered c.args.order c.args.strides.now in
+    let ns = fastest_first c.args.order c.args.lengths.now in
+    let ss = fastest_first c.args.order c.args.strides.now in
     let ln = length-ordered c.args.order c.args.lengths.now in
     let ls = length-ordered c.args.order c.args.strides.now in
     record {
@@ -42,7 +42,7 @@ loop-place-init c =
 
 pub take_length-requires-clause-some : goal.take_length-requires-clause-some
 take_length-requires-clause-some c =
-    let ms = ordered c.args.order c.args.new.now in
+    let ms = fastest_first c.args.order c.args.new.now in
     let lm = length-ordered c.args.order c.args.new.now in
     let z = size_of-ordered c.args.order c.args.new.now in
     let some : 0 < size_of c.args.new.now = search rules in
@@ -50,7 +50,7 @@ take_length-requires-clause-some c =
 
 pub take_length-requires-clause-small : goal.take_length-requires-clause-small
 take_length-requires-clause-small c =
-    let ms = ordered c.args.order c.args.new.now in
+    let ms = fastest_first c.args.order c.args.new.now in
     let z = size_of-ordered c.args.order c.args.new.now in
     let some : 0 < size_of c.args.new.now = search rules in
     let w = sizes_at ms c.loop-place.place (omega arith) in
@@ -58,8 +58,8 @@ take_length-requires-clause-small c =
 
 pub take_length-requires-clause-fits : goal.take_length-requires-clause-fits
 take_length-requires-clause-fits c =
-    let ms = ordered c.args.order c.args.new.now in
-    let ts = ordered c.args.order c.loop-place.out in
+    let ms = fastest_first c.args.order c.args.new.now in
+    let ts = fastest_first c.args.order c.loop-place.out in
     let lm = length-ordered c.args.order c.args.new.now in
     let lt = length-ordered c.args.order c.loop-place.out in
     let left = span_left _ _ ms ts _ _ c.loop-place.place (omega arith) c.loop-place.invariant.regroups in
@@ -68,10 +68,10 @@ take_length-requires-clause-fits c =
 pub returns-in-None-clause-exact : goal.returns-in-None-clause-exact
 returns-in-None-clause-exact c =
     let o = c.args.order in
-    let ns = ordered o c.args.lengths.now in
-    let ss = ordered o c.args.strides.now in
-    let ms = ordered o c.args.new.now in
-    let ts = ordered o c.loop-place.out in
+    let ns = fastest_first o c.args.lengths.now in
+    let ss = fastest_first o c.args.strides.now in
+    let ms = fastest_first o c.args.new.now in
+    let ts = fastest_first o c.loop-place.out in
     let g = c.loop-place.group in
     let place = c.loop-place.place in
     let lm = length-ordered o c.args.new.now in
@@ -84,7 +84,7 @@ returns-in-None-clause-exact c =
     ap (λ (n : ℕ). n * size_of (drop (place + 1) ms)) e ∙ sym (size_of-drop ms place within) ∙ sym c.loop-place.invariant.size in (
       λ no. absurd (false≢true no),
       λ w. absurd
-          (none_left ns ss ms ts (ordered o w.0) (g.length ∷ drop g.next ns) (g.step ∷ drop g.next ss) place within (omega arith) (omega arith) c.loop-place.invariant.regroups
+          (none_left ns ss ms ts (fastest_first o w.0) (g.length ∷ drop g.next ns) (g.step ∷ drop g.next ss) place within (omega arith) (omega arith) c.loop-place.invariant.regroups
           (λ vs serves. c.in-None.ensures {u = tt} (drop (place + 1) ms) vs sizes
           (subst (λ (n : ℕ). ServesRanks (g.length ∷ drop g.next ns) (g.step ∷ drop g.next ss) (n ∷ drop (place + 1) ms) vs) (sym e) serves))
           (ranks_from_Serves o c.args.lengths.now c.args.strides.now c.args.new.now w.0 c.requires.as_many c.requires.same_size w.1)),
@@ -93,10 +93,10 @@ returns-in-None-clause-exact c =
 pub loop-place-preserved : goal.loop-place-preserved
 loop-place-preserved c =
     let o = c.args.order in
-    let ns = ordered o c.args.lengths.now in
-    let ss = ordered o c.args.strides.now in
-    let ms = ordered o c.args.new.now in
-    let ts = ordered o c.loop-place.out in
+    let ns = fastest_first o c.args.lengths.now in
+    let ss = fastest_first o c.args.strides.now in
+    let ms = fastest_first o c.args.new.now in
+    let ts = fastest_first o c.loop-place.out in
     let g = c.loop-place.group in
     let h = c.in-Some.left in
     let place = c.loop-place.place in
@@ -119,8 +119,8 @@ loop-place-preserved c =
 
 pub returns-clause-exact : goal.returns-clause-exact
 returns-clause-exact c =
-    let ms = ordered c.args.order c.args.new.now in
-    let ts = ordered c.args.order c.loop-place.out in
+    let ms = fastest_first c.args.order c.args.new.now in
+    let ts = fastest_first c.args.order c.loop-place.out in
     let lm = length-ordered c.args.order c.args.new.now in
     let lt = length-ordered c.args.order c.loop-place.out in
     let all = all_taken _ _ ms ts _ _ c.loop-place.place (omega arith) (omega arith) c.loop-place.invariant.regroups in
@@ -128,8 +128,8 @@ returns-clause-exact c =
 
 pub returns-clause-serves : goal.returns-clause-serves
 returns-clause-serves c =
-    let ms = ordered c.args.order c.args.new.now in
-    let ts = ordered c.args.order c.loop-place.out in
+    let ms = fastest_first c.args.order c.args.new.now in
+    let ts = fastest_first c.args.order c.loop-place.out in
     let lm = length-ordered c.args.order c.args.new.now in
     let lt = length-ordered c.args.order c.loop-place.out in
     let all = all_taken _ _ ms ts _ _ c.loop-place.place (omega arith) (omega arith) c.loop-place.invariant.regroups in
@@ -137,8 +137,8 @@ returns-clause-serves c =
 
 pub returns-clause-span : goal.returns-clause-span
 returns-clause-span c =
-    let ms = ordered c.args.order c.args.new.now in
-    let ts = ordered c.args.order c.loop-place.out in
+    let ms = fastest_first c.args.order c.args.new.now in
+    let ts = fastest_first c.args.order c.loop-place.out in
     let lm = length-ordered c.args.order c.args.new.now in
     let lt = length-ordered c.args.order c.loop-place.out in
     let all = all_taken _ _ ms ts _ _ c.loop-place.place (omega arith) (omega arith) c.loop-place.invariant.regroups in
@@ -147,8 +147,8 @@ returns-clause-span c =
 
 pub returns-clause-separated : goal.returns-clause-separated
 returns-clause-separated c =
-    let ms = ordered c.args.order c.args.new.now in
-    let ts = ordered c.args.order c.loop-place.out in
+    let ms = fastest_first c.args.order c.args.new.now in
+    let ts = fastest_first c.args.order c.loop-place.out in
     let lm = length-ordered c.args.order c.args.new.now in
     let lt = length-ordered c.args.order c.loop-place.out in
     let all = all_taken _ _ ms ts _ _ c.loop-place.place (omega arith) (omega arith) c.loop-place.invariant.regroups in

@@ -1,6 +1,6 @@
 use Rattle.std.proofs.Common.{arith, rules, ◌∷◌, ◌<◌, ◌≡◌, sym, length, drop, pos}
 use Rattle.std.proofs.lemmas.List.{length-drop}
-use Rattle.nd_layout.specs.Ranks.{ordered}
+use Rattle.nd_layout.specs.Ranks.{fastest_first}
 use Rattle.nd_layout.proofs.Orders.{length-ordered}
 use Rattle.nd_layout.proofs.Regroups.{Regroups-one_in}
 use Rattle.nd_layout.proofs.Grouping.{taken}
@@ -8,8 +8,8 @@ use Rattle.nd_layout.proofs.reshape.take_length.Goals as goal
 
 pub returns-then-len-eq1 : goal.returns-then-len-eq1
 returns-then-len-eq1 c =
-    let ns = ordered c.args.order c.args.lengths.now in
-    let ss = ordered c.args.order c.args.strides.now in
+    let ns = fastest_first c.args.order c.args.lengths.now in
+    let ss = fastest_first c.args.order c.args.strides.now in
     let g = c.args.group in
     let ln = length-ordered c.args.order c.args.lengths.now in
     let ls = length-ordered c.args.order c.args.strides.now in
@@ -18,8 +18,8 @@ returns-then-len-eq1 c =
 
 pub returns : goal.returns
 returns c =
-    let ns = ordered c.args.order c.args.lengths.now in
-    let ss = ordered c.args.order c.args.strides.now in
+    let ns = fastest_first c.args.order c.args.lengths.now in
+    let ss = fastest_first c.args.order c.args.strides.now in
     let ln = length-ordered c.args.order c.args.lengths.now in
     let ls = length-ordered c.args.order c.args.strides.now in
     let e : length ss ≡ length ns = omega arith in

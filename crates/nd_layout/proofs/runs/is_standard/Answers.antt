@@ -4,7 +4,7 @@ use Rattle.std.proofs.lemmas.Bool.{false≢true}
 use Rattle.std.proofs.lemmas.List.{drop_all}
 use Rattle.nd_shape_and_slice.specs.Shape.{size_of}
 use Rattle.nd_shape_and_slice.specs.declared.builder.Order.TheVariants.{RowMajor}
-use Rattle.nd_layout.specs.Ranks.{ordered}
+use Rattle.nd_layout.specs.Ranks.{fastest_first}
 use Rattle.nd_layout.proofs.Sizes.{size-le-product}
 use Rattle.nd_layout.proofs.Orders.{length-ordered, size_of-ordered, rank_in-below}
 use Rattle.nd_layout.proofs.Standard.{StepsBy-at, StepsBy-back, StepsBy-none, StepsBy-from_standard, standard_from_StepsBy, part_of_size}
@@ -17,7 +17,7 @@ returns-then-is_empty_shape c =
 
 pub steps_by-requires : goal.steps_by-requires
 steps_by-requires c =
-    let ns = ordered RowMajor c.args.lengths.now in
+    let ns = fastest_first RowMajor c.args.lengths.now in
     let ln = length-ordered RowMajor c.args.lengths.now in
     let z = size_of-ordered RowMajor c.args.lengths.now in
     let some : 0 < size_of c.args.lengths.now = search rules in
@@ -26,7 +26,7 @@ steps_by-requires c =
 
 pub overflow_mul-expected : goal.overflow_mul-expected
 overflow_mul-expected c =
-    let ns = ordered RowMajor c.args.lengths.now in
+    let ns = fastest_first RowMajor c.args.lengths.now in
     let ln = length-ordered RowMajor c.args.lengths.now in
     let z = size_of-ordered RowMajor c.args.lengths.now in
     let some : 0 < size_of c.args.lengths.now = search rules in
@@ -35,8 +35,8 @@ overflow_mul-expected c =
 
 pub returns-then-not-steps_by : goal.returns-then-not-steps_by
 returns-then-not-steps_by c =
-    let ns = ordered RowMajor c.args.lengths.now in
-    let ss = ordered RowMajor c.args.strides.now in
+    let ns = fastest_first RowMajor c.args.lengths.now in
+    let ss = fastest_first RowMajor c.args.strides.now in
     let ln = length-ordered RowMajor c.args.lengths.now in
     let ls = length-ordered RowMajor c.args.strides.now in
     let z = size_of-ordered RowMajor c.args.lengths.now in
@@ -53,8 +53,8 @@ returns-then-not-steps_by c =
 
 pub loop-place-preserved : goal.loop-place-preserved
 loop-place-preserved c =
-    let ns = ordered RowMajor c.args.lengths.now in
-    let ss = ordered RowMajor c.args.strides.now in
+    let ns = fastest_first RowMajor c.args.lengths.now in
+    let ss = fastest_first RowMajor c.args.strides.now in
     let ln = length-ordered RowMajor c.args.lengths.now in
     let ls = length-ordered RowMajor c.args.strides.now in
     let z = size_of-ordered RowMajor c.args.lengths.now in
@@ -77,8 +77,8 @@ loop-place-preserved c =
 
 pub returns : goal.returns
 returns c =
-    let ns = ordered RowMajor c.args.lengths.now in
-    let ss = ordered RowMajor c.args.strides.now in
+    let ns = fastest_first RowMajor c.args.lengths.now in
+    let ss = fastest_first RowMajor c.args.strides.now in
     let ln = length-ordered RowMajor c.args.lengths.now in
     let none : drop c.loop-place.place ns ≡ [] = drop_all c.loop-place.place ns (omega arith) in
     let all = c.loop-place.invariant.steps.1 (rw none (StepsBy-none c.loop-place.expected (drop c.loop-place.place ss))) in

@@ -1,10 +1,10 @@
 use Rattle.std.proofs.Common.{take}
 use Rattle.std.specs.List.{flat_map}
-use Rattle.nd_run.specs.Calls.{said}
+use Rattle.nd_run.specs.Calls.{said_reply}
 use Rattle.nd_run.specs.Puts.{Puts}
 use Rattle.nd_run.specs.Text.{reply_text}
 use Rattle.nd_run.proofs.printer.put_replies.Given as goal
 
 -- the lines so far are put
 abbrev pub invariant-loop-reply : goal.invariant-loop-reply
-invariant-loop-reply g l = Puts g.W.Write.contents l.fn.out l.out (flat_map (λ r. reply_text (said r)) (take l.reply-index l.replies))
+invariant-loop-reply g l = Puts g.W.Write.contents l.fn.out l.out (flat_map (λ r. reply_text (said_reply r)) (take l.reply-index l.replies))

@@ -1,7 +1,7 @@
 use Rattle.std.proofs.Common.{◌≡◌, ◌∙◌, ◌<◌, ◌++◌, ◌∷◌, [], sym, ap, arith, map, length, get_or}
 use Rattle.std.proofs.lemmas.List.{length-map, get_or-map, map-append}
 use Rattle.nd_array_core.specs.Meaning.{meaning_of}
-use Rattle.nd_run.specs.Calls.{asked, said}
+use Rattle.nd_run.specs.Calls.{asked_call, said_reply}
 use Rattle.nd_run.proofs.Runs.{run_more, run_stops}
 use Rattle.nd_run.proofs.run.run.Goals as goal
 
@@ -11,9 +11,9 @@ returns-in-Err-act-clause-memory g c =
     let k = c.loop-call.call-index in
     let call = c.call-item.result in
     let within : k < length calls = omega arith in
-    let mapped : k < length (map asked calls) = omega (arith, length-map calls asked) in
-    let at : get_or (map asked calls) k (asked call) ≡ asked call = get_or-map asked calls k call (asked call) within ∙ ap asked (sym c.call-item.is) in
-    run_stops (map asked calls) (meaning_of c.args.start) (meaning_of c.loop-call.array) (map said c.loop-call.replies.items) k (asked call) mapped at c.in-Err-act.ensures.memory c.loop-call.invariant.2
+    let mapped : k < length (map asked_call calls) = omega (arith, length-map calls asked_call) in
+    let at : get_or (map asked_call calls) k (asked_call call) ≡ asked_call call = get_or-map asked_call calls k call (asked_call call) within ∙ ap asked_call (sym c.call-item.is) in
+    run_stops (map asked_call calls) (meaning_of c.args.start) (meaning_of c.loop-call.array) (map said_reply c.loop-call.replies.items) k (asked_call call) mapped at c.in-Err-act.ensures.memory c.loop-call.invariant.2
 
 pub loop-call-preserved : goal.loop-call-preserved
 loop-call-preserved g c =
@@ -21,10 +21,10 @@ loop-call-preserved g c =
     let k = c.loop-call.call-index in
     let call = c.call-item.result in
     let within : k < length calls = omega arith in
-    let mapped : k < length (map asked calls) = omega (arith, length-map calls asked) in
-    let at : get_or (map asked calls) k (asked call) ≡ asked call = get_or-map asked calls k call (asked call) within ∙ ap asked (sym c.call-item.is) in
-    let items : map said c.push_reserved.new.self.items ≡ map said c.loop-call.replies.items ++ said c.in-Ok-act.reply ∷ [] = ap (map said) c.push_reserved.ensures.items ∙ map-append said c.loop-call.replies.items (c.in-Ok-act.reply ∷ []) in (
+    let mapped : k < length (map asked_call calls) = omega (arith, length-map calls asked_call) in
+    let at : get_or (map asked_call calls) k (asked_call call) ≡ asked_call call = get_or-map asked_call calls k call (asked_call call) within ∙ ap asked_call (sym c.call-item.is) in
+    let items : map said_reply c.push_reserved.new.self.items ≡ map said_reply c.loop-call.replies.items ++ said_reply c.in-Ok-act.reply ∷ [] = ap (map said_reply) c.push_reserved.ensures.items ∙ map-append said_reply c.loop-call.replies.items (c.in-Ok-act.reply ∷ []) in (
       omega (arith, c.push_reserved.ensures.len),
       omega (arith, c.push_reserved.ensures.capacity),
-      rw items (run_more (map asked calls) (meaning_of c.args.start) (meaning_of c.loop-call.array) (meaning_of c.in-Ok-act.left) (map said c.loop-call.replies.items) k (asked call) (said c.in-Ok-act.reply) mapped at c.in-Ok-act.ensures.reply c.in-Ok-act.ensures.array c.loop-call.invariant.2),
+      rw items (run_more (map asked_call calls) (meaning_of c.args.start) (meaning_of c.loop-call.array) (meaning_of c.in-Ok-act.left) (map said_reply c.loop-call.replies.items) k (asked_call call) (said_reply c.in-Ok-act.reply) mapped at c.in-Ok-act.ensures.reply c.in-Ok-act.ensures.array c.loop-call.invariant.2),
     )

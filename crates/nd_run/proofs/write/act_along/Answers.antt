@@ -1,8 +1,8 @@
 use Rattle.std.proofs.Common.{◌≡◌, ◌∙◌, refl, sym, ap, map, List, ℕ, None}
-use Rattle.nd_array_core.specs.Meaning.{shape_of, meaning_of, placed_of}
-use Rattle.nd_array_core.specs.Placed.{element_placed}
+use Rattle.nd_array_core.specs.Meaning.{shape_of, meaning_of, placed_array}
+use Rattle.nd_array_core.specs.PlacedArray.{element_placed}
 use Rattle.nd_run.specs.Calls.{asked_step, acting}
-use Rattle.nd_run.specs.Acts.{acted, write_refusal}
+use Rattle.nd_run.specs.Acts.{acted_elements, write_refusal}
 use Rattle.nd_run.specs.Placing.{meaning_in}
 use Rattle.nd_run.proofs.FoldLemmas.{same_meaning}
 use Rattle.nd_run.proofs.WritePaths.{is_none}
@@ -18,7 +18,7 @@ returns-then-is_some-clause-elements g c =
     let path = map asked_step c.args.path.now in
     let act = acting c.args.act.now in
     let some = sym c.is_some.ensures ∙ c.if-is_some.true in
-    refused_leaves_at path act c.go_along-end.result.1 (placed_of c.args.array) (placed_of c.go_along-end.result.0) some
+    refused_leaves_at path act c.go_along-end.result.1 (placed_array c.args.array) (placed_array c.go_along-end.result.0) some
     (refused_on_path_at path act c.go_along-end.result.1 (shape_of c.args.array) some c.go_along-end.ensures.refused) (ap g.S.Data.stored c.go_along-end.ensures.storage)
 
 pub returns-then-is_some-2-clause-refused : goal.returns-then-is_some-2-clause-refused
@@ -31,7 +31,7 @@ returns-then-is_some-2-clause-elements g c =
     let path = map asked_step c.args.path.now in
     let act = acting c.args.act.now in
     let none = is_none c.go_along-end.result.1 (sym c.is_some.ensures ∙ c.if-is_some.false) in
-    refused_leaves_at path act c.act_refusal-refused.result (placed_of c.args.array) (placed_of c.go_along-end.result.0) (sym c.is_some-2.ensures ∙ c.if-is_some-2.true)
+    refused_leaves_at path act c.act_refusal-refused.result (placed_array c.args.array) (placed_array c.go_along-end.result.0) (sym c.is_some-2.ensures ∙ c.if-is_some-2.true)
     (c.act_refusal-refused.ensures ∙ sym (refused_at_end path act (shape_of c.args.array) (shape_of c.go_along-end.result.0) (sym c.go_along-end.ensures.refused ∙ none) (c.go_along-end.ensures.along none).0))
     (ap g.S.Data.stored c.go_along-end.ensures.storage)
 
@@ -45,16 +45,16 @@ pub returns-in-Ok-clause-elements : goal.returns-in-Ok-clause-elements
 returns-in-Ok-clause-elements g c =
     let path = map asked_step c.args.path.now in
     let act = acting c.args.act.now in
-    let v = placed_of c.args.array in
+    let v = placed_array c.args.array in
     let end = c.go_along-end.result.0 in
-    let e = placed_of end in
-    let w = placed_of c.do_act-done.new.array in
+    let e = placed_array end in
+    let w = placed_array c.do_act-done.new.array in
     let none = is_none c.go_along-end.result.1 (sym c.is_some.ensures ∙ c.if-is_some.false) in
     let free = is_none c.act_refusal-refused.result (sym c.is_some-2.ensures ∙ c.if-is_some-2.false) in
     let along = c.go_along-end.ensures.along none in
     let allowed : write_refusal path act (shape_of c.args.array) ≡ None = refused_at_end path act (shape_of c.args.array) (shape_of end) (sym c.go_along-end.ensures.refused ∙ none) along.0 ∙ (sym c.act_refusal-refused.ensures ∙ free) in
     let means : meaning_of end ≡ meaning_in e = same_meaning (meaning_in e) (meaning_of end) refl c.elements_have_places-2.ensures.elements in
-    let elements : (i : List ℕ) → element_placed w i ≡ acted act (meaning_in e) i = λ i. sym (c.elements_have_places-3.ensures.elements i) ∙ (c.in-Ok.ensures.elements i ∙ ap (λ m. acted act m i) means) in
+    let elements : (i : List ℕ) → element_placed w i ≡ acted_elements act (meaning_in e) i = λ i. sym (c.elements_have_places-3.ensures.elements i) ∙ (c.in-Ok.ensures.elements i ∙ ap (λ m. acted_elements act m i) means) in
     write_leaves path act v e w along (ap g.S.Data.stored c.go_along-end.ensures.storage) c.elements_have_places-2.ensures.places c.distinct_places.ensures c.do_act-done.ensures.places elements c.do_act-done.ensures.others allowed
 
 pub returns-in-Err-clause-memory : goal.returns-in-Err-clause-memory
@@ -64,4 +64,4 @@ returns-in-Err-clause-memory g c =
     let none = is_none c.go_along-end.result.1 (sym c.is_some.ensures ∙ c.if-is_some.false) in
     let free = is_none c.act_refusal-refused.result (sym c.is_some-2.ensures ∙ c.if-is_some-2.false) in
     let allowed : write_refusal path act (shape_of c.args.array) ≡ None = refused_at_end path act (shape_of c.args.array) (shape_of c.go_along-end.result.0) (sym c.go_along-end.ensures.refused ∙ none) (c.go_along-end.ensures.along none).0 ∙ (sym c.act_refusal-refused.ensures ∙ free) in
-    (allowed_is_ok path act (meaning_in (placed_of c.args.array)) allowed, c.in-Err.ensures.memory)
+    (allowed_is_ok path act (meaning_in (placed_array c.args.array)) allowed, c.in-Err.ensures.memory)

@@ -1,6 +1,6 @@
 use Rattle.std.proofs.Common.{◌∙◌, sym, ap, map}
 use Rattle.nd_array_core.specs.Meaning.{meaning_of}
-use Rattle.nd_array_core.specs.Placed.{found_at}
+use Rattle.nd_array_core.specs.PlacedArray.{found_at}
 use Rattle.nd_run.specs.Calls.{asked_step, acting, Writing}
 use Rattle.nd_run.proofs.WriteLaws.{left_is, write_keeps}
 use Rattle.nd_run.proofs.write.write_through.Goals as goal

@@ -2,7 +2,7 @@ use Rattle.std.proofs.Common.{◌∙◌, ap, sym}
 use Rattle.std.specs.Prelude.{Some}
 use Rattle.std.proofs.lemmas.Result.{on_ok_weaker}
 use Rattle.nd_array_core.specs.Meaning.{inside}
-use Rattle.nd_array_core.specs.Placed.{found_at}
+use Rattle.nd_array_core.specs.PlacedArray.{found_at}
 use Rattle.nd_array_core_uses.proofs.paint.FillViewTask.run.Goals as goal
 
 pub returns-clause-filled : goal.returns-clause-filled

@@ -1,6 +1,6 @@
 use Rattle.std.proofs.Common.{ap, sym, ◌∙◌}
 use Rattle.std.proofs.Math.Path.{fun_ext}
-use Rattle.nd_array_core.specs.Placed.{found_at}
+use Rattle.nd_array_core.specs.PlacedArray.{found_at}
 use Rattle.nd_array_core.specs.base.Writes.{with_element_at}
 use Rattle.nd_array_core_write_tests.proofs.scoped_calls.PutViewTask.run.Goals as goal
 

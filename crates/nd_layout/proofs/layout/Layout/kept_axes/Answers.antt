@@ -20,12 +20,12 @@ kept_strides-strides-requires-clause-kept g c =
 pub returns-clause-step : goal.returns-clause-step
 returns-clause-step g c =
     rw (c.kept_dim-dim.ensures, c.kept_strides-strides.ensures, c.slice.ensures.lengths, c.slice-2.ensures)
-    (keep_is_step c.args.self.now.first (g.D.Dimension.lengths c.args.self.now.dim) (g.T.StrideList.strides_of c.args.self.now.strides) c.args.elements.now c.args.self.now.as_many c.requires.ones)
+    (keep_is_step c.args.self.now.offset (g.D.Dimension.lengths c.args.self.now.dim) (g.T.StrideList.strides_of c.args.self.now.strides) c.args.elements.now c.args.self.now.as_many c.requires.ones)
 
 pub invariant_of-result : goal.invariant_of-result
 invariant_of-result g c =
-    let step : IsStep c.args.self.now.first (g.D.Dimension.lengths c.args.self.now.dim) (g.T.StrideList.strides_of c.args.self.now.strides) c.args.self.now.first (kept_items 1 c.args.elements.now (g.D.Dimension.lengths c.args.self.now.dim)) (kept_items (pos 0) c.args.elements.now (g.T.StrideList.strides_of c.args.self.now.strides)) (put_back c.args.elements.now) =
-    keep_is_step c.args.self.now.first (g.D.Dimension.lengths c.args.self.now.dim) (g.T.StrideList.strides_of c.args.self.now.strides) c.args.elements.now c.args.self.now.as_many c.requires.ones in
+    let step : IsStep c.args.self.now.offset (g.D.Dimension.lengths c.args.self.now.dim) (g.T.StrideList.strides_of c.args.self.now.strides) c.args.self.now.offset (kept_items 1 c.args.elements.now (g.D.Dimension.lengths c.args.self.now.dim)) (kept_items (pos 0) c.args.elements.now (g.T.StrideList.strides_of c.args.self.now.strides)) (put_back c.args.elements.now) =
+    keep_is_step c.args.self.now.offset (g.D.Dimension.lengths c.args.self.now.dim) (g.T.StrideList.strides_of c.args.self.now.strides) c.args.elements.now c.args.self.now.as_many c.requires.ones in
     rw (c.kept_dim-dim.ensures, c.kept_strides-strides.ensures, c.slice.ensures.lengths, c.slice-2.ensures)
     (record {
       as_many = step.as_many;

@@ -1,5 +1,5 @@
 use Rattle.std.proofs.Common.{arith, sym, subst}
-use Rattle.nd_shape_and_slice.specs.Axes.{HasEachAxis, unpermuted}
+use Rattle.nd_shape_and_slice.specs.Axes.{HasEachAxis, unpermuted_list}
 use Rattle.nd_layout.specs.Steps.{IsStep}
 use Rattle.nd_layout.proofs.steps.StepLemmas.{step_reaches}
 use Rattle.nd_layout.proofs.steps.PermuteStep.{permute_is_step}
@@ -10,12 +10,12 @@ permuted_strides-strides-requires g c = subst (HasEachAxis c.args.axes.now) (sym
 
 pub returns-clause-step : goal.returns-clause-step
 returns-clause-step g c =
-    rw (c.permuted_dim-dim.ensures, c.permuted_strides-strides.ensures) (permute_is_step c.args.self.now.first (g.D.Dimension.lengths c.args.self.now.dim) (g.T.StrideList.strides_of c.args.self.now.strides) c.args.axes.now c.args.self.now.as_many c.requires)
+    rw (c.permuted_dim-dim.ensures, c.permuted_strides-strides.ensures) (permute_is_step c.args.self.now.offset (g.D.Dimension.lengths c.args.self.now.dim) (g.T.StrideList.strides_of c.args.self.now.strides) c.args.axes.now c.args.self.now.as_many c.requires)
 
 pub invariant_of-self : goal.invariant_of-self
 invariant_of-self g c =
-    let step : IsStep c.args.self.now.first (g.D.Dimension.lengths c.args.self.now.dim) (g.T.StrideList.strides_of c.args.self.now.strides) c.args.self.now.first (g.D.Dimension.lengths c.permuted_dim-dim.result) (g.T.StrideList.strides_of c.permuted_strides-strides.result) (unpermuted c.args.axes.now) =
-    rw (c.permuted_dim-dim.ensures, c.permuted_strides-strides.ensures) (permute_is_step c.args.self.now.first (g.D.Dimension.lengths c.args.self.now.dim) (g.T.StrideList.strides_of c.args.self.now.strides) c.args.axes.now c.args.self.now.as_many c.requires) in
+    let step : IsStep c.args.self.now.offset (g.D.Dimension.lengths c.args.self.now.dim) (g.T.StrideList.strides_of c.args.self.now.strides) c.args.self.now.offset (g.D.Dimension.lengths c.permuted_dim-dim.result) (g.T.StrideList.strides_of c.permuted_strides-strides.result) (unpermuted_list c.args.axes.now) =
+    rw (c.permuted_dim-dim.ensures, c.permuted_strides-strides.ensures) (permute_is_step c.args.self.now.offset (g.D.Dimension.lengths c.args.self.now.dim) (g.T.StrideList.strides_of c.args.self.now.strides) c.args.axes.now c.args.self.now.as_many c.requires) in
     record {
       as_many = step.as_many;
       spread = omega (arith, step.spread, c.args.self.now.spread);

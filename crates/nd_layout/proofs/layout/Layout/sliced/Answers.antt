@@ -15,10 +15,10 @@ pub returns-clause-lengths : goal.returns-clause-lengths
 returns-clause-lengths g c =
     let fits = (and_parts (each_fits (g.D.Dimension.lengths c.args.self.now.dim) c.args.elements.now) (leb (axes_kept c.args.elements.now) 32) c.requires.fits).0 in
     let mid = c.slice_axes.ensures.lengths ∙ ap (λ l. collapsed_after l c.args.elements.now) c.copied-layout.ensures.lengths in
-    (slice_list_is_step c.args.self.now.first c.kept_axes.result.first c.slice_axes.new.self.first (g.D.Dimension.lengths c.args.self.now.dim) (g.T.StrideList.strides_of c.args.self.now.strides) (g.D.Dimension.lengths c.slice_axes.new.self.dim) (g.T.StrideList.strides_of c.slice_axes.new.self.strides) (g.E.Dimension.lengths c.kept_axes.result.dim) (g.E.Strides.StrideList.strides_of c.kept_axes.result.strides) c.args.elements.now fits mid (rw (c.copied-layout.ensures.first, c.copied-layout.ensures.lengths, c.copied-layout.ensures.strides) at c.slice_axes.ensures.step) c.kept_axes.ensures.lengths c.kept_axes.ensures.step).0
+    (slice_list_is_step c.args.self.now.offset c.kept_axes.result.offset c.slice_axes.new.self.offset (g.D.Dimension.lengths c.args.self.now.dim) (g.T.StrideList.strides_of c.args.self.now.strides) (g.D.Dimension.lengths c.slice_axes.new.self.dim) (g.T.StrideList.strides_of c.slice_axes.new.self.strides) (g.E.Dimension.lengths c.kept_axes.result.dim) (g.E.Strides.StrideList.strides_of c.kept_axes.result.strides) c.args.elements.now fits mid (rw (c.copied-layout.ensures.offset, c.copied-layout.ensures.lengths, c.copied-layout.ensures.strides) at c.slice_axes.ensures.step) c.kept_axes.ensures.lengths c.kept_axes.ensures.step).0
 
 pub returns-clause-step : goal.returns-clause-step
 returns-clause-step g c =
     let fits = (and_parts (each_fits (g.D.Dimension.lengths c.args.self.now.dim) c.args.elements.now) (leb (axes_kept c.args.elements.now) 32) c.requires.fits).0 in
     let mid = c.slice_axes.ensures.lengths ∙ ap (λ l. collapsed_after l c.args.elements.now) c.copied-layout.ensures.lengths in
-    (slice_list_is_step c.args.self.now.first c.kept_axes.result.first c.slice_axes.new.self.first (g.D.Dimension.lengths c.args.self.now.dim) (g.T.StrideList.strides_of c.args.self.now.strides) (g.D.Dimension.lengths c.slice_axes.new.self.dim) (g.T.StrideList.strides_of c.slice_axes.new.self.strides) (g.E.Dimension.lengths c.kept_axes.result.dim) (g.E.Strides.StrideList.strides_of c.kept_axes.result.strides) c.args.elements.now fits mid (rw (c.copied-layout.ensures.first, c.copied-layout.ensures.lengths, c.copied-layout.ensures.strides) at c.slice_axes.ensures.step) c.kept_axes.ensures.lengths c.kept_axes.ensures.step).1
+    (slice_list_is_step c.args.self.now.offset c.kept_axes.result.offset c.slice_axes.new.self.offset (g.D.Dimension.lengths c.args.self.now.dim) (g.T.StrideList.strides_of c.args.self.now.strides) (g.D.Dimension.lengths c.slice_axes.new.self.dim) (g.T.StrideList.strides_of c.slice_axes.new.self.strides) (g.E.Dimension.lengths c.kept_axes.result.dim) (g.E.Strides.StrideList.strides_of c.kept_axes.result.strides) c.args.elements.now fits mid (rw (c.copied-layout.ensures.offset, c.copied-layout.ensures.lengths, c.copied-layout.ensures.strides) at c.slice_axes.ensures.step) c.kept_axes.ensures.lengths c.kept_axes.ensures.step).1

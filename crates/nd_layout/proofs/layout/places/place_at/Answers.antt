@@ -11,7 +11,7 @@ moved_by-place-requires-clause-from c =
     let many = length-in_box c.args.lengths.now c.args.index.now c.requires.inside in
     let within : c.loop-axis.axis < length c.args.lengths.now = omega arith in
     let at = at_axis c.loop-axis.axis c.args.lengths.now c.args.index.now c.args.strides.now within many c.requires.as_many in
-    way_from c.args.first c.loop-axis.axis c.loop-axis.place c.args.lengths.now c.args.index.now c.args.strides.now at c.loop-axis.invariant
+    way_from c.args.offset c.loop-axis.axis c.loop-axis.place c.args.lengths.now c.args.index.now c.args.strides.now at c.loop-axis.invariant
 
 pub moved_by-place-requires-clause-few : goal.moved_by-place-requires-clause-few
 moved_by-place-requires-clause-few c =
@@ -27,7 +27,7 @@ moved_by-place-requires-clause-to c =
     let within : c.loop-axis.axis < length c.args.lengths.now = omega arith in
     let at = at_axis c.loop-axis.axis c.args.lengths.now c.args.index.now c.args.strides.now within many c.requires.as_many in
     let fits : FitsSigned w64 (get_or c.args.strides.now c.loop-axis.axis (pos 0)) = search rules in
-    rw (to_z-of_z w64 (get_or c.args.strides.now c.loop-axis.axis (pos 0)) fits) (way_to c.args.first c.loop-axis.axis c.loop-axis.place c.args.lengths.now c.args.index.now c.args.strides.now at c.loop-axis.invariant)
+    rw (to_z-of_z w64 (get_or c.args.strides.now c.loop-axis.axis (pos 0)) fits) (way_to c.args.offset c.loop-axis.axis c.loop-axis.place c.args.lengths.now c.args.index.now c.args.strides.now at c.loop-axis.invariant)
 
 pub loop-axis-preserved : goal.loop-axis-preserved
 loop-axis-preserved c =
@@ -36,7 +36,7 @@ loop-axis-preserved c =
     let at = at_axis c.loop-axis.axis c.args.lengths.now c.args.index.now c.args.strides.now within many c.requires.as_many in
     let fits : FitsSigned w64 (get_or c.args.strides.now c.loop-axis.axis (pos 0)) = search rules in
     let moved : pos c.moved_by-place.result ≡ pos c.loop-axis.place +ℤ (pos (get_or c.args.index.now c.loop-axis.axis 0) *ℤ get_or c.args.strides.now c.loop-axis.axis (pos 0)) = rw (to_z-of_z w64 (get_or c.args.strides.now c.loop-axis.axis (pos 0)) fits) at c.moved_by-place.ensures in
-    way_next c.args.first c.loop-axis.axis c.loop-axis.place c.args.lengths.now c.args.index.now c.args.strides.now at c.loop-axis.invariant c.moved_by-place.result moved
+    way_next c.args.offset c.loop-axis.axis c.loop-axis.place c.args.lengths.now c.args.index.now c.args.strides.now at c.loop-axis.invariant c.moved_by-place.result moved
 
 pub returns : goal.returns
-returns c = way_ends c.args.first c.loop-axis.axis c.loop-axis.place c.args.lengths.now c.args.index.now c.args.strides.now c.loop-axis-test.false c.loop-axis.invariant
+returns c = way_ends c.args.offset c.loop-axis.axis c.loop-axis.place c.args.lengths.now c.args.index.now c.args.strides.now c.loop-axis-test.false c.loop-axis.invariant

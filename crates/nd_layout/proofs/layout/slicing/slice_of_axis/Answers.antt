@@ -13,27 +13,27 @@ some_from : (n : ℕ) → (n ≡ 0 → false ≡ true) → 0 < n
 some_from zero h = absurd (false≢true (h refl))
 some_from (suc n) h = omega arith
 
-pub moved_by-first-requires-clause-from : goal.moved_by-first-requires-clause-from
-moved_by-first-requires-clause-from c =
+pub moved_by-offset-requires-clause-from : goal.moved_by-offset-requires-clause-from
+moved_by-offset-requires-clause-from c =
     let len = c.on_axis-sliced.ensures.len in
     let some = some_from (size_of (sliced_shape c.args.lengths.now c.args.axis c.args.slice)) (λ none. c.if-leaves_none.ensures.1 (ap (λ m. size_of (set c.args.lengths.now c.args.axis m)) len ∙ none)) in
-    slice_first_below c.args.lengths.now c.args.strides.now c.args.axis c.args.slice c.requires.valid.as_many c.requires.on c.requires.fits c.args.first c.requires.valid.reach some
+    slice_first_below c.args.lengths.now c.args.strides.now c.args.axis c.args.slice c.requires.valid.as_many c.requires.on c.requires.fits c.args.offset c.requires.valid.reach some
 
-pub moved_by-first-requires-clause-few : goal.moved_by-first-requires-clause-few
-moved_by-first-requires-clause-few c =
+pub moved_by-offset-requires-clause-few : goal.moved_by-offset-requires-clause-few
+moved_by-offset-requires-clause-few c =
     let len = c.on_axis-sliced.ensures.len in
     let some = some_from (size_of (sliced_shape c.args.lengths.now c.args.axis c.args.slice)) (λ none. c.if-leaves_none.ensures.1 (ap (λ m. size_of (set c.args.lengths.now c.args.axis m)) len ∙ none)) in
     let below = slice_start_below c.args.lengths.now c.args.strides.now c.args.axis c.args.slice c.requires.valid.as_many c.requires.on c.requires.fits some in
     let limit = length_within c.args.lengths.now c.args.axis in
     omega (arith, below, limit, c.requires.valid.checked, c.on_axis-sliced.ensures.first)
 
-pub moved_by-first-requires-clause-to : goal.moved_by-first-requires-clause-to
-moved_by-first-requires-clause-to c =
+pub moved_by-offset-requires-clause-to : goal.moved_by-offset-requires-clause-to
+moved_by-offset-requires-clause-to c =
     let len = c.on_axis-sliced.ensures.len in
     let some = some_from (size_of (sliced_shape c.args.lengths.now c.args.axis c.args.slice)) (λ none. c.if-leaves_none.ensures.1 (ap (λ m. size_of (set c.args.lengths.now c.args.axis m)) len ∙ none)) in
     let fits : FitsSigned w64 (get_or c.args.strides.now c.args.axis (pos 0)) = search rules in
     rw (to_z-of_z w64 (get_or c.args.strides.now c.args.axis (pos 0)) fits, c.on_axis-sliced.ensures.first)
-    (slice_start_place c.args.lengths.now c.args.strides.now c.args.axis c.args.slice c.requires.valid.as_many c.requires.on c.requires.fits c.args.first c.requires.valid.reach some)
+    (slice_start_place c.args.lengths.now c.args.strides.now c.args.axis c.args.slice c.requires.valid.as_many c.requires.on c.requires.fits c.args.offset c.requires.valid.reach some)
 
 pub stepped_by-requires : goal.stepped_by-requires
 stepped_by-requires c =
@@ -53,11 +53,11 @@ returns-clause-step c =
     let made_fits : FitsSigned w64 c.stepped_by.result = search rules in
     let made : to_z w64 (of_z w64 c.stepped_by.result) ≡ stepped_stride (sliced_length (get_or lengths c.args.axis 0) c.args.slice) stride c.args.slice.step =
     to_z-of_z w64 c.stepped_by.result made_fits ∙ (rw (to_z-of_z w64 stride fits, to_z-of_z w64 c.args.slice.step step_fits, len) at c.stepped_by.ensures) in
-    let moved : 0 < size_of (sliced_shape lengths c.args.axis c.args.slice) → pos c.if-leaves_none.first ≡ pos c.args.first +ℤ (pos (sliced_from (get_or lengths c.args.axis 0) c.args.slice 0) *ℤ stride) =
+    let moved : 0 < size_of (sliced_shape lengths c.args.axis c.args.slice) → pos c.if-leaves_none.offset ≡ pos c.args.offset +ℤ (pos (sliced_from (get_or lengths c.args.axis 0) c.args.slice 0) *ℤ stride) =
     λ some. elim c.if-leaves_none.branch [
       | then-leaves_none w ↦
           let none : size_of (sliced_shape lengths c.args.axis c.args.slice) ≡ 0 = ap (λ m. size_of (set lengths c.args.axis m)) (sym len) ∙ w.if-leaves_none.ensures.0 refl in
           absurd (omega (arith, some, none))
-      | else-leaves_none w ↦ ap pos w.first-is ∙ (rw (to_z-of_z w64 stride fits, c.on_axis-sliced.ensures.first) at w.moved_by-first.ensures)
+      | else-leaves_none w ↦ ap pos w.offset-is ∙ (rw (to_z-of_z w64 stride fits, c.on_axis-sliced.ensures.first) at w.moved_by-offset.ensures)
     ] in
-    rw (made, len) (slice_is_step lengths strides c.args.axis c.args.slice c.requires.valid.as_many c.requires.on c.requires.fits c.args.first c.if-leaves_none.first moved)
+    rw (made, len) (slice_is_step lengths strides c.args.axis c.args.slice c.requires.valid.as_many c.requires.on c.requires.fits c.args.offset c.if-leaves_none.offset moved)

@@ -40,7 +40,7 @@ use denote.Triple.Walked.{says, Stays, stay_dropped, walk_of, ends_at, walked, G
 use Rattle.std.specs.Prelude.{IsSome}
 use Rattle.std.proofs.VecSteps.Shapes.{after}
 use Rattle.std.proofs.mem.Param.{El, R, args, el_x}
-use Rattle.nd_region.specs.Region.{stored, with_items, with_element}
+use Rattle.nd_region.specs.Region.{region_stored, with_items, with_element}
 use Rattle.nd_region.proofs.Memory.{Rg, rg_d, rg_val, rg_had, rg_made, sz, held_at, told, place_within, Held, times_below, one_below}
 use Rattle.nd_region.proofs.Loans.{Handed, hands, SpotLent, lends_spot}
 use Rattle.nd_region.specs.contracts.region.Region.get_mut as F
@@ -79,7 +79,7 @@ module _ (E : El) where
         let rb : ℕ = z.0.3.0.ref_ptr.0 in let ro : ℕ = z.0.3.0.ref_ptr.1 in let γ : GName = z.0.3.0.ghost_name in let d : rg_d E = z.0.3.0.now in let i : ℕ = z.0.3.1.0 in
         let a : NamedLft = named_lft 3 1 tt z.0.0 in
         let Post : Val → SProp 𝓤 = (walk_of 𝓛 ended stayed held).post (spelled z) in
-        let Ok : Type 0 = IsSome (stored d i) in
+        let Ok : Type 0 = IsSome (region_stored d i) in
         let s : ℕ = sz E in
         qed 𝓛 (((‵ (flft κ q) ⊛ ‵ (flft κ₁ q₁) ⊛ ‵ (flft κ₂ q₂) ⊛ ‵ ftrue) ⊛ ‵ (owns (types_at ended.signature.params z.0.0) z.0.3 (spelled z).0.4)) ∷ (raw (fact 𝓤 (κ₂ ⊑ E.row.lives)) ⊛ raw (fact 𝓤 Ok)) ∷ []) ∵
         move ! (1 ∷ []) $ split ! $ drop ! $ heard ! Ok (λ ok.

@@ -55,7 +55,7 @@ use Rattle.std.proofs.mem.Param.{El, R, el_x, Good, lawful, one, args as end_arg
 use Rattle.nd_region.proofs.Bodies.{knowing, all_three}
 use Rattle.nd_region.specs.Memory.{Spots}
 use Rattle.nd_region.specs.Region.{IsPartWhere, IsSameBorrow, with_items}
-use Rattle.nd_region.specs.Places.{kept_where, merged}
+use Rattle.nd_region.specs.Places.{kept_where, merged_rows}
 use Rattle.nd_region.proofs.Memory.{tells, Rg, rg_d, rg_val, rg_vals, rg_Tells, rg_had, rg_made, ptr_Good, row_at}
 use Rattle.nd_region.proofs.Loans.{rows_cut, kept_length, LentLocal, lends_local, takes_back, rejoins}
 use Rattle.nd_region.specs.contracts.region.Region.end as END
@@ -214,7 +214,7 @@ module _ (E Y Z : El) (g : Called.Ghosts E.row Y.row Z.row) (d₀ d' : Dict) whe
         fsplit ! $ feq_l ! (λ long₂. feq_i ! ℕ (length xs₂) (length ks) long₂ $ fjoin ! $
         move ! (1 ∷ 9 ∷ 5 ∷ []) $ use3 𝓛 (later (‵ ((Spots (R E) (block_ptr b o) hs).own_at xs₁ 0 0))) (takes_back E 𝓛 b κ' o hs γ₁ xs₁) $ await ! tt $
         fsplit ! $ feq_l ! (λ long₁. feq_i ! ℕ (length xs₁) (length hs) long₁ $ fjoin ! $
-        let m : List (el_x E) = merged hs xs₁ xs₂ in
+        let m : List (el_x E) = merged_rows hs xs₁ xs₂ in
         use2 𝓛 (‵ (All.own_at m 0 0)) (rejoins E 𝓛 b κ₁ q₁ o d.name d.items d.held h xs₁ xs₂) $
         -- [the whole; A's left; A's right; nothing; R's; F's; the answer; the open loan, obs, auth; the cell, open borrow, obs, auth; the four slices']
         move ! (0 ∷ 7 ∷ 8 ∷ 9 ∷ []) $ close_ref ! tt All m {b = 0} {o = 0} $ fjoin ! $ rg_made a₁ E ! (with_items d m) b o at_b fn fit long $

@@ -2,4 +2,4 @@ use Rattle.nd_region.specs.Places.{names}
 use Rattle.nd_region.proofs.region.Region.split_with.Given as goal
 
 abbrev pub ghost-split_where : goal.ghost-split_where
-ghost-split_where g a = names a._first a._lengths.now a._strides.now
+ghost-split_where g a = names a._offset a._lengths.now a._strides.now

@@ -1,5 +1,5 @@
 use Rattle.std.proofs.Common.{◌∙◌, ap, length}
-use Rattle.nd_region.specs.Region.{stored}
+use Rattle.nd_region.specs.Region.{region_stored}
 use Rattle.nd_region.specs.Places.{names}
 use Rattle.nd_region.proofs.Rejoined.{part_back, back_long}
 use Rattle.nd_region.proofs.region.Region.with_part.Goals as goal
@@ -7,17 +7,17 @@ use Rattle.nd_region.proofs.region.Region.with_part.Goals as goal
 pub returns-clause-part : goal.returns-clause-part
 returns-clause-part g c =
     let r = c.args.self.now in
-    let named = names c.args.first c.args.lengths.now c.args.strides.now in
+    let named = names c.args.offset c.args.lengths.now c.args.strides.now in
     let e = c.split_with.ensures in (
       e.0,
       e.2,
       e.4,
       e.6.2.0,
-      λ p. ap (λ s. stored s p) e.7 ∙ part_back named r e.0 e.2 e.3 e.4 e.8 (ap (λ y. y.items) e.6.2.1 ∙ e.5.0) p (c.requires.returns e.0 (e.2, c.split_with.result) e.4 e.6.2.0),
+      λ p. ap (λ s. region_stored s p) e.7 ∙ part_back named r e.0 e.2 e.3 e.4 e.8 (ap (λ y. y.items) e.6.2.1 ∙ e.5.0) p (c.requires.returns e.0 (e.2, c.split_with.result) e.4 e.6.2.0),
     )
 
 pub returns-clause-long : goal.returns-clause-long
 returns-clause-long g c =
     let r = c.args.self.now in
     let e = c.split_with.ensures in
-    ap (λ s. length s.items) e.7 ∙ back_long (names c.args.first c.args.lengths.now c.args.strides.now) r e.0 e.2 e.3 e.4 e.8 (ap (λ y. y.items) e.6.2.1 ∙ e.5.0)
+    ap (λ s. length s.items) e.7 ∙ back_long (names c.args.offset c.args.lengths.now c.args.strides.now) r e.0 e.2 e.3 e.4 e.8 (ap (λ y. y.items) e.6.2.1 ∙ e.5.0)

@@ -1,5 +1,5 @@
 use Rattle.std.proofs.Common.{◌∙◌, sym, ap, map}
-use Rattle.nd_array_core.specs.Meaning.{placed_of}
+use Rattle.nd_array_core.specs.Meaning.{placed_array}
 use Rattle.nd_array_core.specs.scoped.Tasks.{lent_view, view_left}
 use Rattle.nd_run.specs.Calls.{asked_step, acting}
 use Rattle.nd_run.proofs.WriteLaws.{lent_through}
@@ -9,7 +9,7 @@ pub returns-clause-done : goal.returns-clause-done
 returns-clause-done g c =
     let v = lent_view g.D.Dimension.lengths g.D.Strides.StrideList.strides_of c.args.lent in
     let w = view_left g.D.Dimension.lengths g.D.Strides.StrideList.strides_of c.args.lent c.into_storage.result in
-    lent_through (map asked_step c.args.self.path.now) (acting c.args.self.act.now) (placed_of c.into_dyn-view.result) (placed_of c.act_along-end.result.0) v w c.act_along-end.result.1
+    lent_through (map asked_step c.args.self.path.now) (acting c.args.self.act.now) (placed_array c.into_dyn-view.result) (placed_array c.act_along-end.result.0) v w c.act_along-end.result.1
     (c.into_dyn-view.ensures.shape ∙ c.into_view.ensures.shape) (λ i. c.into_dyn-view.ensures.places i ∙ c.into_view.ensures.places i)
     (λ i. sym (c.elements_have_places.ensures.elements i) ∙ (c.into_dyn-view.ensures.elements i ∙ c.into_view.ensures.elements i)) (ap (λ s. (view_left g.D.Dimension.lengths g.D.Strides.StrideList.strides_of c.args.lent s).stored) c.into_storage.ensures.same)
     c.act_along-end.ensures.refused c.act_along-end.ensures.elements c.act_along-end.ensures.memory

@@ -45,7 +45,7 @@ use Rattle.nd_region.specs.Region.{IsSameMap, with_items}
 use Rattle.nd_region.proofs.Memory.{Rg, rg_d, rg_val, rg_had, rg_made}
 use Rattle.nd_region.proofs.region.Region.TheLaws.{the_row_laws as region_laws}
 use Rattle.nd_array_core.proofs.base.storage.RegionRepr.TheLaws.{the_loose}
-use Rattle.nd_array_core.specs.base.Refilled.{overwritten}
+use Rattle.nd_array_core.specs.base.NewElements.{overwritten_items}
 use Rattle.nd_array_core.proofs.lending.KeptPlaces as kept
 use Rattle.nd_region.specs.contracts.region.Region.reborrow as B
 use Rattle.nd_region.proofs.region.Region.reborrow.Met.{met as reborrow_met}
@@ -109,9 +109,9 @@ lend_spec 𝓤 𝓛 𝓜 𝓡 wired A lA =
     let new : rg_d E = record { ptr = x.ptr; len = x.len; mark = x.mark; name = δ; items = x.items; held = x.held; small = x.small } in
     rg_made α₀ E ! new b o at' fn fit long $
     -- [the region; the token; what the list follows; the region's token; A's; what the storage follows]
-    move ! (5 ∷ 2 ∷ []) $ use2 𝓛 (‵ (follows (Row κs) (Array T 0) γ δ (λ ws. ends (with_items d.region (overwritten x.items ws)))))
-    (follows_then 𝓛 (Row κs) (Array T 0) (Array T 0) (λ ws. ends (with_items d.region ws)) (overwritten x.items) γ x.name δ) $
-    rewrite ! 0 (λ (xs : List (el_x E)). ‵ (follows (Row κs) (Array T 0) γ δ (λ ws. ends (with_items d.region (overwritten xs ws))))) same.0 refl $
+    move ! (5 ∷ 2 ∷ []) $ use2 𝓛 (‵ (follows (Row κs) (Array T 0) γ δ (λ ws. ends (with_items d.region (overwritten_items x.items ws)))))
+    (follows_then 𝓛 (Row κs) (Array T 0) (Array T 0) (λ ws. ends (with_items d.region ws)) (overwritten_items x.items) γ x.name δ) $
+    rewrite ! 0 (λ (xs : List (el_x E)). ‵ (follows (Row κs) (Array T 0) γ δ (λ ws. ends (with_items d.region (overwritten_items xs ws))))) same.0 refl $
     returns ! (look_at ! 0 refl) $ free_all ! refl $
     suffices ! _ (ends_at 𝓛 En hs c y (rg_val (block_ptr b o) x.len) new (tt, tt) (tt, tt)) $
     -- [what follows; the region; the tokens]

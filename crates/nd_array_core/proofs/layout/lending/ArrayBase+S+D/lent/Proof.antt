@@ -34,7 +34,7 @@ use denote.Triple.Spec.{triple_of}
 use denote.Triple.Table.{framed}
 use denote.Triple.Walked.{says, Stays, stay_dropped, walk_of, ends_at, Goes-spent_ref}
 use Rattle.std.proofs.raw_atomic.Walks.{proved}
-use Rattle.nd_region.specs.Region.{stored}
+use Rattle.nd_region.specs.Region.{region_stored}
 use Rattle.nd_region.specs.contracts.region.Region.{the_row as region_row}
 use Rattle.nd_region.proofs.region.Region.TheLaws.{the_row_laws as region_laws}
 use Rattle.nd_array_core.specs.contracts.base.storage.RegionRepr.{the_row as storage_row}
@@ -106,7 +106,7 @@ lent_spec 𝓤 𝓛 𝓜 𝓡 wired S D E P T G B lS lD lE lP lT lG lB cD cT sm 
     nothing ! $ use0 𝓛 (raw (fact 𝓤 (κE ⊑ E.lives))) (fact_i 𝓤 (κE ⊑ E.lives) (emp 𝓤) inE) $ join ! $ use0 𝓛 (raw (fact 𝓤 (κS ⊑ S.lives))) (fact_i 𝓤 (κS ⊑ S.lives) (emp 𝓤) inS) $ join ! $
     move ! (1 ∷ 0 ∷ []) $ join ! $ use1 𝓛 (raw (L-triple.pre zL)) (id⊢ 𝓤 _) $
     calls_at ! (framed 𝓤 H 𝓜 𝓣) L-triple mS.lend zL (and_then ! (get ! refl) (no_more !)) (λ v.
-    let Holds : Rg.Denot → Type 0 = λ x. (p : ℕ) → stored x p ≡ sd.stored old.storage p in
+    let Holds : Rg.Denot → Type 0 = λ x. (p : ℕ) → region_stored x p ≡ sd.stored old.storage p in
     use1 𝓛 (later (some (λ (x : Rg.Denot). ((‵ (flft κ rq) ⊛ ‵ (flft κS qS) ⊛ ‵ (flft κE qE) ⊛ ‵ ftrue) ⊛ ‵ (Rg.own_val x (v ∷ []))) ⊛
     some (λ (us : Lasts L-ended κs₁ (s, tt)). ‵ (lasts L-ended κs₁ (s, tt) us) ⊛ ‵ (follows SR (Array ER 0) δ x.name filled) ⊛ raw (fact 𝓤 (Holds x)))))) (id⊢ 𝓤 _) $ await ! tt $ pick ! (λ x.
     split ! $ move ! (1 ∷ []) $ pick ! (λ us. split ! $ drop ! $ split ! $ move ! (1 ∷ []) $ heard ! (Holds x) (λ holds.
@@ -135,4 +135,4 @@ lent_spec 𝓤 𝓛 𝓜 𝓡 wired S D E P T G B lS lD lE lP lT lG lB cD cT sm 
     -- [the storage; the tokens; nothing; S's; what follows; D's; the others]
     move ! (1 ∷ []) $ split3 ! $ move ! (1 ∷ 8 ∷ []) $ join ! $ move ! (7 ∷ 0 ∷ []) $ join ! $ move ! (5 ∷ 0 ∷ []) $ join ! $ move ! (1 ∷ 0 ∷ []) $ join ! $ keep ! (0 ∷ 2 ∷ 4 ∷ []) $
     nothing ! $ nothing ! $ fjoin ! $ move ! (0 ∷ 2 ∷ []) $ join ! $ move ! (1 ∷ 0 ∷ []) $ join ! $ frame ! $
-    says ! (λ p. ap (λ g. stored g p) is ∙ holds p) $ done !)))))))))))))))
+    says ! (λ p. ap (λ g. region_stored g p) is ∙ holds p) $ done !)))))))))))))))

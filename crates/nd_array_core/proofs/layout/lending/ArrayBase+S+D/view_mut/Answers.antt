@@ -15,8 +15,8 @@ returns g c =
         writes_back = tt;
         shape = same.lengths;
         strides = same.strides;
-        elements = λ i k. inside (same.lengths k) i (stored_at (fun_ext c.lent.ensures.elements k) (place_of (same.first k) (same.strides k) i));
-        places = λ i k. inside (same.lengths k) i (place_number (place_of (same.first k) (same.strides k) i));
+        elements = λ i k. inside (same.lengths k) i (stored_at (fun_ext c.lent.ensures.elements k) (place_of (same.offset k) (same.strides k) i));
+        places = λ i k. inside (same.lengths k) i (place_number (place_of (same.offset k) (same.strides k) i));
         refilled = λ ws. is_refilled g.S.Data.refilled g.S.DataMut.borrow c.args.self.now ws g.met.S.DataMut.refilled_there g.met.S.DataMut.refilled_borrow;
       },
     )

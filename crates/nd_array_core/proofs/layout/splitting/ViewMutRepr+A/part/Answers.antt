@@ -1,4 +1,4 @@
-use Rattle.nd_region.specs.Region.{stored}
+use Rattle.nd_region.specs.Region.{region_stored}
 use Rattle.nd_array_core.proofs.Parted.{taken_holds, taken_element}
 use Rattle.std.proofs.Common.{refl}
 use Rattle.nd_array_core.specs.Meaning.{shape_of, element_at, place_at, layout_strides}
@@ -8,7 +8,7 @@ pub invariant_of-result : goal.invariant_of-result
 invariant_of-result g c =
     let layout = c.args.layout in
     record {
-      inside = taken_holds (stored c.args.self.now.region) (stored c.split-storage.result.region) layout.first (g.D.Dimension.lengths layout.dim) (g.D.Strides.StrideList.strides_of layout.strides) c.split-storage.ensures.taken c.requires.holds;
+      inside = taken_holds (region_stored c.args.self.now.region) (region_stored c.split-storage.result.region) layout.offset (g.D.Dimension.lengths layout.dim) (g.D.Strides.StrideList.strides_of layout.strides) c.split-storage.ensures.taken c.requires.holds;
       separated = λ _. c.requires.separated;
     }
 
@@ -19,6 +19,6 @@ returns-clause-shown g c =
     record {
       shape_is = refl;
       strides_are = refl;
-      elements = taken_element (stored c.args.self.now.region) (stored c.split-storage.result.region) layout.first (g.D.Dimension.lengths layout.dim) (g.D.Strides.StrideList.strides_of layout.strides) c.split-storage.ensures.taken;
+      elements = taken_element (region_stored c.args.self.now.region) (region_stored c.split-storage.result.region) layout.offset (g.D.Dimension.lengths layout.dim) (g.D.Strides.StrideList.strides_of layout.strides) c.split-storage.ensures.taken;
       places = λ i. refl;
     }

@@ -14,27 +14,27 @@ use Rattle.nd_array_core.specs.base.ElementMut.{KeepsPlaces}
 
 module _ {A : Type 0} where
   -- ys in the place of xs, as many as these: of a longer ys its front, and after a shorter one the rest of xs
-  abbrev pub overwritten : List A → List A → List A
-  overwritten [] ys = []
-  overwritten (x ∷ xs) [] = x ∷ xs
-  overwritten (x ∷ xs) (y ∷ ys) = y ∷ overwritten xs ys
+  abbrev pub overwritten_items : List A → List A → List A
+  overwritten_items [] ys = []
+  overwritten_items (x ∷ xs) [] = x ∷ xs
+  overwritten_items (x ∷ xs) (y ∷ ys) = y ∷ overwritten_items xs ys
 
-  pub overwritten_long : (xs ys : List A) → length (overwritten xs ys) ≡ length xs
+  pub overwritten_long : (xs ys : List A) → length (overwritten_items xs ys) ≡ length xs
   overwritten_long [] ys = refl
   overwritten_long (x ∷ xs) [] = refl
   overwritten_long (x ∷ xs) (y ∷ ys) = ap suc (overwritten_long xs ys)
 
-  pub overwritten_itself : (xs : List A) → overwritten xs xs ≡ xs
+  pub overwritten_itself : (xs : List A) → overwritten_items xs xs ≡ xs
   overwritten_itself [] = refl
   overwritten_itself (x ∷ xs) = ap (λ ys. x ∷ ys) (overwritten_itself xs)
 
-  pub overwritten_again : (xs ys : List A) → overwritten xs (overwritten xs ys) ≡ overwritten xs ys
+  pub overwritten_again : (xs ys : List A) → overwritten_items xs (overwritten_items xs ys) ≡ overwritten_items xs ys
   overwritten_again [] ys = refl
   overwritten_again (x ∷ xs) [] = ap (λ ys. x ∷ ys) (overwritten_itself xs)
   overwritten_again (x ∷ xs) (y ∷ ys) = ap (λ zs. y ∷ zs) (overwritten_again xs ys)
 
   -- where it is as long
-  pub overwritten_by : (xs ys : List A) → length ys ≡ length xs → overwritten xs ys ≡ ys
+  pub overwritten_by : (xs ys : List A) → length ys ≡ length xs → overwritten_items xs ys ≡ ys
   overwritten_by [] [] long = refl
   overwritten_by [] (y ∷ ys) long = absurd (not-suc-le-zero {n = 0} (let bad : suc (length ys) ≡ 0 = long in omega arith))
   overwritten_by (x ∷ xs) [] long = absurd (not-suc-le-zero {n = 0} (let bad : 0 ≡ suc (length xs) = long in omega arith))
@@ -48,7 +48,7 @@ module _ {A : Type 0} where
   as_many (x ∷ xs) (y ∷ ys) zero e = refl
   as_many (x ∷ xs) (y ∷ ys) (suc p) e = let i : suc (length ys) ≡ suc (length xs) = e in as_many xs ys p (omega arith)
 
-  in_mask : (xs ys : List A) (fs : List Bool) (p : ℕ) → is_some (element_in (overwritten xs ys) fs p) ≡ is_some (element_in xs fs p)
+  in_mask : (xs ys : List A) (fs : List Bool) (p : ℕ) → is_some (element_in (overwritten_items xs ys) fs p) ≡ is_some (element_in xs fs p)
   in_mask [] ys fs p = refl
   in_mask (x ∷ xs) [] fs p = refl
   in_mask (x ∷ xs) (y ∷ ys) [] p = refl
@@ -58,11 +58,11 @@ module _ {A : Type 0} where
   in_mask (x ∷ xs) (y ∷ ys) (false ∷ fs) (suc p) = in_mask xs ys fs p
 
   -- the places of a region with other elements
-  pub places_there : (xs ys : List A) (held : List Bool) (p : ℕ) → is_some (stored_in (overwritten xs ys) held p) ≡ is_some (stored_in xs held p)
+  pub places_there : (xs ys : List A) (held : List Bool) (p : ℕ) → is_some (stored_in (overwritten_items xs ys) held p) ≡ is_some (stored_in xs held p)
   unfolding stored_in
   places_there xs ys held p = in_mask xs ys held p
 
-  pub places_kept : (xs ys : List A) (held : List Bool) → KeepsPlaces (stored_in xs held) (stored_in (overwritten xs ys) held)
+  pub places_kept : (xs ys : List A) (held : List Bool) → KeepsPlaces (stored_in xs held) (stored_in (overwritten_items xs ys) held)
   places_kept xs ys held p has = places_there xs ys held p ∙ has
 
   -- the places of a vector with other elements

@@ -2,7 +2,7 @@
 use Rattle.std.specs.Prelude.{ℕ, List, Option, None, Some}
 
 -- a shape, the place of each index of its box, and what the storage holds at each place
-pub record Placed (A : Type 0) : Type 0 where
+pub record PlacedArray (A : Type 0) : Type 0 where
   pub shape : List ℕ
   pub place : List ℕ → Option ℕ
   pub stored : ℕ → Option A
@@ -13,9 +13,9 @@ found_at stored None = None
 found_at stored (Some p) = stored p
 
 -- the element at an index
-abbrev pub element_placed : {A : Type 0} → Placed A → List ℕ → Option A
+abbrev pub element_placed : {A : Type 0} → PlacedArray A → List ℕ → Option A
 element_placed v i = found_at v.stored (v.place i)
 
 -- the element at an index of v, once the storage holds what w's does
-abbrev pub left_at : {A : Type 0} → Placed A → Placed A → List ℕ → Option A
+abbrev pub left_at : {A : Type 0} → PlacedArray A → PlacedArray A → List ℕ → Option A
 left_at v w i = found_at w.stored (v.place i)
