@@ -6,7 +6,17 @@ use Rattle.nd_layout.specs.Steps.{IsStep}
 use Rattle.nd_array_core.specs.scoped.Tasks.{laid, LiesSoundly}
 use Rattle.nd_array_core.proofs.tasks.PartTask.{step_sound}
 use Rattle.nd_array_core.proofs.tasks.PairTask.{step_within, agrees_seen, unnamed_stay, steps_apart, split_apart}
+use Rattle.nd_array_core.proofs.tasks.TaskStep.{still_holds}
 use Rattle.nd_array_core.proofs.scoped.pairs.ArrayBase+S+D.with_split_at.Goals as goal
+
+pub invariant_of-self : goal.invariant_of-self
+invariant_of-self g c =
+    let array = c.args.self.now in
+    let old = array.layout in
+    record {
+      inside = still_holds (g.S.Data.stored array.storage) old.first (g.D.Dimension.lengths old.dim) (g.D.Strides.StrideList.strides_of old.strides) (g.S.Data.stored c.pair_laid.new.storage) c.pair_laid.ensures.there array.inside;
+      separated = array.separated;
+    }
 
 pub pair_laid-requires-clause-one : goal.pair_laid-requires-clause-one
 pair_laid-requires-clause-one g c =
@@ -18,20 +28,18 @@ pair_laid-requires-clause-one g c =
     let first = old.first in
     let ns = g.D.Dimension.lengths old.dim in
     let ss = g.D.Strides.StrideList.strides_of old.strides in
-    let lower = c.keep_lower.new.self in
-    let upper = c.keep_upper.new.self in
+    let lower = c.halves-lower.result.0 in
+    let upper = c.halves-lower.result.1 in
     let f1 = lower.first in
     let n1 = g.D.Dimension.lengths lower.dim in
     let s1 = g.D.Strides.StrideList.strides_of lower.strides in
     let f2 = upper.first in
     let n2 = g.D.Dimension.lengths upper.dim in
     let s2 = g.D.Strides.StrideList.strides_of upper.strides in
-    let low = c.copied-lower.ensures in
-    let up = c.copied-upper.ensures in
-    let one : IsStep first ns ss f1 n1 s1 (λ i. i) = rw (low.first, low.lengths, low.strides) at c.keep_lower.ensures.step in
-    let two : IsStep first ns ss f2 n2 s2 (upper_index a k) = rw (up.first, up.lengths, up.strides) at c.keep_upper.ensures.step in
-    let shape1 : n1 ≡ lower_shape ns a k = c.keep_lower.ensures.lengths ∙ ap (λ l. lower_shape l a k) low.lengths in
-    let shape2 : n2 ≡ upper_shape ns a k = c.keep_upper.ensures.lengths ∙ ap (λ l. upper_shape l a k) up.lengths in
+    let one : IsStep first ns ss f1 n1 s1 (λ i. i) = c.halves-lower.ensures.lower in
+    let two : IsStep first ns ss f2 n2 s2 (upper_index a k) = c.halves-lower.ensures.upper in
+    let shape1 : n1 ≡ lower_shape ns a k = c.halves-lower.ensures.lower_lengths in
+    let shape2 : n2 ≡ upper_shape ns a k = c.halves-lower.ensures.upper_lengths in
     let sound : LiesSoundly m first ns ss = record { valid = record { as_many = old.as_many; spread = old.spread; checked = old.checked; reach = old.reach }; holds = array.inside; separated = array.separated g.met.S.DataMut.alone } in
     step_sound m first ns ss f1 n1 s1 (λ i. i) n1 refl sound one
 
@@ -45,20 +53,18 @@ pair_laid-requires-clause-two g c =
     let first = old.first in
     let ns = g.D.Dimension.lengths old.dim in
     let ss = g.D.Strides.StrideList.strides_of old.strides in
-    let lower = c.keep_lower.new.self in
-    let upper = c.keep_upper.new.self in
+    let lower = c.halves-lower.result.0 in
+    let upper = c.halves-lower.result.1 in
     let f1 = lower.first in
     let n1 = g.D.Dimension.lengths lower.dim in
     let s1 = g.D.Strides.StrideList.strides_of lower.strides in
     let f2 = upper.first in
     let n2 = g.D.Dimension.lengths upper.dim in
     let s2 = g.D.Strides.StrideList.strides_of upper.strides in
-    let low = c.copied-lower.ensures in
-    let up = c.copied-upper.ensures in
-    let one : IsStep first ns ss f1 n1 s1 (λ i. i) = rw (low.first, low.lengths, low.strides) at c.keep_lower.ensures.step in
-    let two : IsStep first ns ss f2 n2 s2 (upper_index a k) = rw (up.first, up.lengths, up.strides) at c.keep_upper.ensures.step in
-    let shape1 : n1 ≡ lower_shape ns a k = c.keep_lower.ensures.lengths ∙ ap (λ l. lower_shape l a k) low.lengths in
-    let shape2 : n2 ≡ upper_shape ns a k = c.keep_upper.ensures.lengths ∙ ap (λ l. upper_shape l a k) up.lengths in
+    let one : IsStep first ns ss f1 n1 s1 (λ i. i) = c.halves-lower.ensures.lower in
+    let two : IsStep first ns ss f2 n2 s2 (upper_index a k) = c.halves-lower.ensures.upper in
+    let shape1 : n1 ≡ lower_shape ns a k = c.halves-lower.ensures.lower_lengths in
+    let shape2 : n2 ≡ upper_shape ns a k = c.halves-lower.ensures.upper_lengths in
     let sound : LiesSoundly m first ns ss = record { valid = record { as_many = old.as_many; spread = old.spread; checked = old.checked; reach = old.reach }; holds = array.inside; separated = array.separated g.met.S.DataMut.alone } in
     step_sound m first ns ss f2 n2 s2 (upper_index a k) n2 refl sound two
 
@@ -72,20 +78,18 @@ pair_laid-requires-clause-one_within g c =
     let first = old.first in
     let ns = g.D.Dimension.lengths old.dim in
     let ss = g.D.Strides.StrideList.strides_of old.strides in
-    let lower = c.keep_lower.new.self in
-    let upper = c.keep_upper.new.self in
+    let lower = c.halves-lower.result.0 in
+    let upper = c.halves-lower.result.1 in
     let f1 = lower.first in
     let n1 = g.D.Dimension.lengths lower.dim in
     let s1 = g.D.Strides.StrideList.strides_of lower.strides in
     let f2 = upper.first in
     let n2 = g.D.Dimension.lengths upper.dim in
     let s2 = g.D.Strides.StrideList.strides_of upper.strides in
-    let low = c.copied-lower.ensures in
-    let up = c.copied-upper.ensures in
-    let one : IsStep first ns ss f1 n1 s1 (λ i. i) = rw (low.first, low.lengths, low.strides) at c.keep_lower.ensures.step in
-    let two : IsStep first ns ss f2 n2 s2 (upper_index a k) = rw (up.first, up.lengths, up.strides) at c.keep_upper.ensures.step in
-    let shape1 : n1 ≡ lower_shape ns a k = c.keep_lower.ensures.lengths ∙ ap (λ l. lower_shape l a k) low.lengths in
-    let shape2 : n2 ≡ upper_shape ns a k = c.keep_upper.ensures.lengths ∙ ap (λ l. upper_shape l a k) up.lengths in
+    let one : IsStep first ns ss f1 n1 s1 (λ i. i) = c.halves-lower.ensures.lower in
+    let two : IsStep first ns ss f2 n2 s2 (upper_index a k) = c.halves-lower.ensures.upper in
+    let shape1 : n1 ≡ lower_shape ns a k = c.halves-lower.ensures.lower_lengths in
+    let shape2 : n2 ≡ upper_shape ns a k = c.halves-lower.ensures.upper_lengths in
     let sound : LiesSoundly m first ns ss = record { valid = record { as_many = old.as_many; spread = old.spread; checked = old.checked; reach = old.reach }; holds = array.inside; separated = array.separated g.met.S.DataMut.alone } in
     let same = c.copied-whole.ensures in
     rw (same.first, same.lengths, same.strides) (step_within first ns ss f1 n1 s1 (λ i. i) one)
@@ -100,20 +104,18 @@ pair_laid-requires-clause-two_within g c =
     let first = old.first in
     let ns = g.D.Dimension.lengths old.dim in
     let ss = g.D.Strides.StrideList.strides_of old.strides in
-    let lower = c.keep_lower.new.self in
-    let upper = c.keep_upper.new.self in
+    let lower = c.halves-lower.result.0 in
+    let upper = c.halves-lower.result.1 in
     let f1 = lower.first in
     let n1 = g.D.Dimension.lengths lower.dim in
     let s1 = g.D.Strides.StrideList.strides_of lower.strides in
     let f2 = upper.first in
     let n2 = g.D.Dimension.lengths upper.dim in
     let s2 = g.D.Strides.StrideList.strides_of upper.strides in
-    let low = c.copied-lower.ensures in
-    let up = c.copied-upper.ensures in
-    let one : IsStep first ns ss f1 n1 s1 (λ i. i) = rw (low.first, low.lengths, low.strides) at c.keep_lower.ensures.step in
-    let two : IsStep first ns ss f2 n2 s2 (upper_index a k) = rw (up.first, up.lengths, up.strides) at c.keep_upper.ensures.step in
-    let shape1 : n1 ≡ lower_shape ns a k = c.keep_lower.ensures.lengths ∙ ap (λ l. lower_shape l a k) low.lengths in
-    let shape2 : n2 ≡ upper_shape ns a k = c.keep_upper.ensures.lengths ∙ ap (λ l. upper_shape l a k) up.lengths in
+    let one : IsStep first ns ss f1 n1 s1 (λ i. i) = c.halves-lower.ensures.lower in
+    let two : IsStep first ns ss f2 n2 s2 (upper_index a k) = c.halves-lower.ensures.upper in
+    let shape1 : n1 ≡ lower_shape ns a k = c.halves-lower.ensures.lower_lengths in
+    let shape2 : n2 ≡ upper_shape ns a k = c.halves-lower.ensures.upper_lengths in
     let sound : LiesSoundly m first ns ss = record { valid = record { as_many = old.as_many; spread = old.spread; checked = old.checked; reach = old.reach }; holds = array.inside; separated = array.separated g.met.S.DataMut.alone } in
     let same = c.copied-whole.ensures in
     rw (same.first, same.lengths, same.strides) (step_within first ns ss f2 n2 s2 (upper_index a k) two)
@@ -129,20 +131,18 @@ pair_laid-requires-clause-apart g c =
     let first = old.first in
     let ns = g.D.Dimension.lengths old.dim in
     let ss = g.D.Strides.StrideList.strides_of old.strides in
-    let lower = c.keep_lower.new.self in
-    let upper = c.keep_upper.new.self in
+    let lower = c.halves-lower.result.0 in
+    let upper = c.halves-lower.result.1 in
     let f1 = lower.first in
     let n1 = g.D.Dimension.lengths lower.dim in
     let s1 = g.D.Strides.StrideList.strides_of lower.strides in
     let f2 = upper.first in
     let n2 = g.D.Dimension.lengths upper.dim in
     let s2 = g.D.Strides.StrideList.strides_of upper.strides in
-    let low = c.copied-lower.ensures in
-    let up = c.copied-upper.ensures in
-    let one : IsStep first ns ss f1 n1 s1 (λ i. i) = rw (low.first, low.lengths, low.strides) at c.keep_lower.ensures.step in
-    let two : IsStep first ns ss f2 n2 s2 (upper_index a k) = rw (up.first, up.lengths, up.strides) at c.keep_upper.ensures.step in
-    let shape1 : n1 ≡ lower_shape ns a k = c.keep_lower.ensures.lengths ∙ ap (λ l. lower_shape l a k) low.lengths in
-    let shape2 : n2 ≡ upper_shape ns a k = c.keep_upper.ensures.lengths ∙ ap (λ l. upper_shape l a k) up.lengths in
+    let one : IsStep first ns ss f1 n1 s1 (λ i. i) = c.halves-lower.ensures.lower in
+    let two : IsStep first ns ss f2 n2 s2 (upper_index a k) = c.halves-lower.ensures.upper in
+    let shape1 : n1 ≡ lower_shape ns a k = c.halves-lower.ensures.lower_lengths in
+    let shape2 : n2 ≡ upper_shape ns a k = c.halves-lower.ensures.upper_lengths in
     let sound : LiesSoundly m first ns ss = record { valid = record { as_many = old.as_many; spread = old.spread; checked = old.checked; reach = old.reach }; holds = array.inside; separated = array.separated g.met.S.DataMut.alone } in
     steps_apart m first ns ss f1 n1 s1 f2 n2 s2 (λ i. i) (upper_index a k) sound one two
     (λ i j b d e. split_apart ns a k c.requires.axis i j (ap (λ l. in_box l i) (sym shape1) ∙ b) (ap (λ l. in_box l j) (sym shape2) ∙ d) e)
@@ -158,20 +158,18 @@ pair_laid-requires-clause-callable g c m1 m2 is_one is_two =
     let first = old.first in
     let ns = g.D.Dimension.lengths old.dim in
     let ss = g.D.Strides.StrideList.strides_of old.strides in
-    let lower = c.keep_lower.new.self in
-    let upper = c.keep_upper.new.self in
+    let lower = c.halves-lower.result.0 in
+    let upper = c.halves-lower.result.1 in
     let f1 = lower.first in
     let n1 = g.D.Dimension.lengths lower.dim in
     let s1 = g.D.Strides.StrideList.strides_of lower.strides in
     let f2 = upper.first in
     let n2 = g.D.Dimension.lengths upper.dim in
     let s2 = g.D.Strides.StrideList.strides_of upper.strides in
-    let low = c.copied-lower.ensures in
-    let up = c.copied-upper.ensures in
-    let one : IsStep first ns ss f1 n1 s1 (λ i. i) = rw (low.first, low.lengths, low.strides) at c.keep_lower.ensures.step in
-    let two : IsStep first ns ss f2 n2 s2 (upper_index a k) = rw (up.first, up.lengths, up.strides) at c.keep_upper.ensures.step in
-    let shape1 : n1 ≡ lower_shape ns a k = c.keep_lower.ensures.lengths ∙ ap (λ l. lower_shape l a k) low.lengths in
-    let shape2 : n2 ≡ upper_shape ns a k = c.keep_upper.ensures.lengths ∙ ap (λ l. upper_shape l a k) up.lengths in
+    let one : IsStep first ns ss f1 n1 s1 (λ i. i) = c.halves-lower.ensures.lower in
+    let two : IsStep first ns ss f2 n2 s2 (upper_index a k) = c.halves-lower.ensures.upper in
+    let shape1 : n1 ≡ lower_shape ns a k = c.halves-lower.ensures.lower_lengths in
+    let shape2 : n2 ≡ upper_shape ns a k = c.halves-lower.ensures.upper_lengths in
     let sound : LiesSoundly m first ns ss = record { valid = record { as_many = old.as_many; spread = old.spread; checked = old.checked; reach = old.reach }; holds = array.inside; separated = array.separated g.met.S.DataMut.alone } in
     c.requires.callable (laid m1 f1 n1 s1) (laid m2 f2 n2 s2) (agrees_seen first ns ss f1 n1 s1 (λ i. i) one m m1 is_one (lower_shape ns a k) shape1) (agrees_seen first ns ss f2 n2 s2 (upper_index a k) two m m2 is_two (upper_shape ns a k) shape2)
 
@@ -186,20 +184,18 @@ returns-clause-others g c =
     let first = old.first in
     let ns = g.D.Dimension.lengths old.dim in
     let ss = g.D.Strides.StrideList.strides_of old.strides in
-    let lower = c.keep_lower.new.self in
-    let upper = c.keep_upper.new.self in
+    let lower = c.halves-lower.result.0 in
+    let upper = c.halves-lower.result.1 in
     let f1 = lower.first in
     let n1 = g.D.Dimension.lengths lower.dim in
     let s1 = g.D.Strides.StrideList.strides_of lower.strides in
     let f2 = upper.first in
     let n2 = g.D.Dimension.lengths upper.dim in
     let s2 = g.D.Strides.StrideList.strides_of upper.strides in
-    let low = c.copied-lower.ensures in
-    let up = c.copied-upper.ensures in
-    let one : IsStep first ns ss f1 n1 s1 (λ i. i) = rw (low.first, low.lengths, low.strides) at c.keep_lower.ensures.step in
-    let two : IsStep first ns ss f2 n2 s2 (upper_index a k) = rw (up.first, up.lengths, up.strides) at c.keep_upper.ensures.step in
-    let shape1 : n1 ≡ lower_shape ns a k = c.keep_lower.ensures.lengths ∙ ap (λ l. lower_shape l a k) low.lengths in
-    let shape2 : n2 ≡ upper_shape ns a k = c.keep_upper.ensures.lengths ∙ ap (λ l. upper_shape l a k) up.lengths in
+    let one : IsStep first ns ss f1 n1 s1 (λ i. i) = c.halves-lower.ensures.lower in
+    let two : IsStep first ns ss f2 n2 s2 (upper_index a k) = c.halves-lower.ensures.upper in
+    let shape1 : n1 ≡ lower_shape ns a k = c.halves-lower.ensures.lower_lengths in
+    let shape2 : n2 ≡ upper_shape ns a k = c.halves-lower.ensures.upper_lengths in
     let sound : LiesSoundly m first ns ss = record { valid = record { as_many = old.as_many; spread = old.spread; checked = old.checked; reach = old.reach }; holds = array.inside; separated = array.separated g.met.S.DataMut.alone } in
     let same = c.copied-whole.ensures in
     let others = rw (same.first, same.lengths, same.strides) at c.pair_laid.ensures.others in
@@ -216,20 +212,18 @@ returns-clause-done g c =
     let first = old.first in
     let ns = g.D.Dimension.lengths old.dim in
     let ss = g.D.Strides.StrideList.strides_of old.strides in
-    let lower = c.keep_lower.new.self in
-    let upper = c.keep_upper.new.self in
+    let lower = c.halves-lower.result.0 in
+    let upper = c.halves-lower.result.1 in
     let f1 = lower.first in
     let n1 = g.D.Dimension.lengths lower.dim in
     let s1 = g.D.Strides.StrideList.strides_of lower.strides in
     let f2 = upper.first in
     let n2 = g.D.Dimension.lengths upper.dim in
     let s2 = g.D.Strides.StrideList.strides_of upper.strides in
-    let low = c.copied-lower.ensures in
-    let up = c.copied-upper.ensures in
-    let one : IsStep first ns ss f1 n1 s1 (λ i. i) = rw (low.first, low.lengths, low.strides) at c.keep_lower.ensures.step in
-    let two : IsStep first ns ss f2 n2 s2 (upper_index a k) = rw (up.first, up.lengths, up.strides) at c.keep_upper.ensures.step in
-    let shape1 : n1 ≡ lower_shape ns a k = c.keep_lower.ensures.lengths ∙ ap (λ l. lower_shape l a k) low.lengths in
-    let shape2 : n2 ≡ upper_shape ns a k = c.keep_upper.ensures.lengths ∙ ap (λ l. upper_shape l a k) up.lengths in
+    let one : IsStep first ns ss f1 n1 s1 (λ i. i) = c.halves-lower.ensures.lower in
+    let two : IsStep first ns ss f2 n2 s2 (upper_index a k) = c.halves-lower.ensures.upper in
+    let shape1 : n1 ≡ lower_shape ns a k = c.halves-lower.ensures.lower_lengths in
+    let shape2 : n2 ≡ upper_shape ns a k = c.halves-lower.ensures.upper_lengths in
     let sound : LiesSoundly m first ns ss = record { valid = record { as_many = old.as_many; spread = old.spread; checked = old.checked; reach = old.reach }; holds = array.inside; separated = array.separated g.met.S.DataMut.alone } in
     let new = g.S.Data.stored c.pair_laid.new.storage in
     let done = c.pair_laid.ensures.done in (
