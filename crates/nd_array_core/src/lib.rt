@@ -1,4 +1,10 @@
-//! n-dimensional arrays and views: a storage, an offset, a shape and signed strides.
+//! n-dimensional arrays and views: a storage, and how its elements lie in it.
+//!
+//! - `base`: the storages, the type, what makes an array, and its elements read and written
+//! - `layout`: slices, axes, rows and columns, parts, broadcasts, and views to be written
+//! - `elements`: calls over all elements
+//! - `scoped`: calls that lend views to be written to a task
+//! - `laws`: what follows from the contracts of several calls
 #![tactic(auto)]
 
 mod base;

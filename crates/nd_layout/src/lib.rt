@@ -1,5 +1,6 @@
-//! Lengths and strides of n-dimensional arrays: how far apart elements lie, whether two indexes can share a
-//! place, and which strides serve another shape. No storage and no element.
+//! How the elements of n-dimensional arrays lie: layouts (an offset, lengths and strides) and what slices, orders of
+//! axes and the like make of them; how far apart elements lie, whether two indexes can share a place, and which strides
+//! serve another shape. No storage and no element.
 #![tactic(auto)]
 
 mod grows;

@@ -6,7 +6,17 @@ use Rattle.nd_layout.specs.Steps.{IsStep}
 use Rattle.nd_array_core.specs.scoped.Tasks.{array_placed_at, LiesSoundly}
 use Rattle.nd_array_core.proofs.tasks.PartTask.{step_sound}
 use Rattle.nd_array_core.proofs.tasks.PairTask.{step_within, agrees_seen, unnamed_stay, steps_apart, split_apart}
+use Rattle.nd_array_core.proofs.tasks.TaskStep.{still_holds}
 use Rattle.nd_array_core.proofs.scoped.pairs.ArrayBase+S+D.with_split_at.Goals as goal
+
+pub invariant_of-self : goal.invariant_of-self
+invariant_of-self g c =
+    let array = c.args.self.now in
+    let old = array.layout in
+    record {
+      inside = still_holds (g.S.Data.stored array.storage) old.offset (g.D.Dimension.lengths old.dim) (g.D.Strides.StrideList.strides_of old.strides) (g.S.Data.stored c.with_placement_pair.new.storage) c.with_placement_pair.ensures.there array.inside;
+      separated = array.separated;
+    }
 
 pub with_placement_pair-requires-clause-one : goal.with_placement_pair-requires-clause-one
 with_placement_pair-requires-clause-one g c =
