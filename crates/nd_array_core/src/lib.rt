@@ -24,26 +24,3 @@ pub use base::indexing::IndexLonger;
 pub use base::storage::{Data, DataMut, OwnedRepr, RegionRepr, ViewMutRepr, ViewRepr};
 pub use base::writing::GetMut;
 pub use layout::splitting::MultiSliceArg;
-
-#[cfg(test)]
-mod axes_tests;
-#[cfg(test)]
-mod broadcast_tests;
-#[cfg(test)]
-mod constructor_tests;
-#[cfg(test)]
-mod element_mut_tests;
-#[cfg(test)]
-mod fill_tests;
-#[cfg(test)]
-mod layout_tests;
-#[cfg(test)]
-mod multi_slice_tests;
-#[cfg(test)]
-mod scoped_tests;
-#[cfg(test)]
-mod slice_tests;
-#[cfg(test)]
-mod tests;
-#[cfg(test)]
-mod view_mut_tests;
