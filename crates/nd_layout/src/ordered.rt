@@ -1,7 +1,6 @@
 //! Lengths and strides of the axes from the fastest on.
 
-ghost use Rattle.std.specs.Prelude.{◌↔◌, ◌≡◌, ◌<◌, pos, length, IsTrue, slice_index, slice_index_or, slice_set};
-ghost use Rattle.nd_shape_and_slice.specs.Shape.{size_of};
+ghost use Rattle.std.specs.Prelude.{◌≡◌, ◌<◌, pos, length, slice_index, slice_index_or, slice_set};
 ghost use Rattle.nd_layout.specs.Ranks.{fastest_first, axis_in};
 
 use nd_shape_and_slice::Order;
@@ -41,16 +40,4 @@ pub(crate) fn put_at(out: &mut [isize], order: Order, place: usize, stride: isiz
 {
     let axis = axis_at(order, out.len(), place);
     out[axis] = stride;
-}
-
-/// Whether a shape has no elements: some length is 0.
-pub(crate) fn has_no_elements(lengths: &[usize]) -> bool
-    ensures { IsTrue result ↔ (size_of lengths.now ≡ 0) }
-{
-    for length in lengths {
-        if *length == 0 {
-            return true;
-        }
-    }
-    false
 }

@@ -12,17 +12,17 @@ use Rattle.nd_layout.proofs.Serving.{serves_all}
 use Rattle.nd_layout.proofs.Reshaped.{sizes_at, some_to_take, span_left, taken_more, size_left, none_left, all_taken, span_all, separated_all, Serves-empty}
 use Rattle.nd_layout.proofs.reshape.reshape_strides.Goals as goal
 
-pub returns-then-has_no_elements-clause-exact : goal.returns-then-has_no_elements-clause-exact
-returns-then-has_no_elements-clause-exact c =
+pub returns-then-is_empty_shape-clause-exact : goal.returns-then-is_empty_shape-clause-exact
+returns-then-is_empty_shape-clause-exact c =
     let zeros = replicate (length c.args.new.now) (pos 0) in
     (λ _. (zeros, Serves-empty c.args.order c.args.lengths.now c.args.strides.now c.args.new.now zeros (search rules) (length-replicate (length c.args.new.now) (pos 0))), λ _. refl)
 
-pub returns-then-has_no_elements-clause-serves : goal.returns-then-has_no_elements-clause-serves
-returns-then-has_no_elements-clause-serves c =
+pub returns-then-is_empty_shape-clause-serves : goal.returns-then-is_empty_shape-clause-serves
+returns-then-is_empty_shape-clause-serves c =
     λ _. Serves-empty c.args.order c.args.lengths.now c.args.strides.now c.args.new.now c.fill.new.self (search rules) (c.fill.ensures.len ∙ c.requires.as_long)
 
-pub returns-then-has_no_elements-clause-span : goal.returns-then-has_no_elements-clause-span
-returns-then-has_no_elements-clause-span c =
+pub returns-then-is_empty_shape-clause-span : goal.returns-then-is_empty_shape-clause-span
+returns-then-is_empty_shape-clause-span c =
     λ _.
     let zeros = c.fill.ensures.after (λ y is. search rules) in
     rw zeros (omega (arith, span_of-zeros c.args.new.now (length c.args.out.now)))

@@ -10,8 +10,8 @@ use Rattle.nd_layout.proofs.Orders.{length-ordered, size_of-ordered, rank_in-bel
 use Rattle.nd_layout.proofs.Standard.{StepsBy-at, StepsBy-back, StepsBy-none, StepsBy-from_standard, standard_from_StepsBy, part_of_size}
 use Rattle.nd_layout.proofs.runs.is_standard.Goals as goal
 
-pub returns-then-has_no_elements : goal.returns-then-has_no_elements
-returns-then-has_no_elements c =
+pub returns-then-is_empty_shape : goal.returns-then-is_empty_shape
+returns-then-is_empty_shape c =
     let none : size_of c.args.lengths.now ≡ 0 = search rules in
     (λ _ i h. absurd (omega (arith, rank_in-below RowMajor c.args.lengths.now i h)), λ _. refl)
 
