@@ -34,9 +34,9 @@ fn fill_strides(lengths: &[usize], axis: usize, order: Order, out: &mut [isize])
     ensures written { fastest_first order out.new ≡ column_strides_from 1 (fastest_first order (slice_set lengths.now axis 1)) }
 {
     let mut product: usize = 1;
-    for place in 0..lengths.len() {
-        put_at(out, order, place, product as isize);
-        product *= length_without(lengths, axis, axis_at(order, lengths.len(), place));
+    for nth in 0..lengths.len() {
+        put_at(out, order, nth, product as isize);
+        product *= length_without(lengths, axis, axis_at(order, lengths.len(), nth));
     }
     product
 }

@@ -211,10 +211,10 @@ pub fn reshape_strides(
         step: 0,
         next: 0,
     };
-    for place in 0..new.len() {
-        match take_length(lengths, strides, order, group, length_at(new, order, place)) {
+    for nth in 0..new.len() {
+        match take_length(lengths, strides, order, group, length_at(new, order, nth)) {
             Some((stride, left)) => {
-                put_at(out, order, place, stride);
+                put_at(out, order, nth, stride);
                 group = left;
             }
             None => return false,

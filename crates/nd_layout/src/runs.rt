@@ -29,9 +29,9 @@ pub fn is_standard(lengths: &[usize], strides: &[isize]) -> bool
         return true;
     }
     let mut expected: usize = 1;
-    for place in 0..lengths.len() {
-        let len = length_at(lengths, Order::RowMajor, place);
-        if !steps_by(len, stride_at(strides, Order::RowMajor, place), expected) {
+    for nth in 0..lengths.len() {
+        let len = length_at(lengths, Order::RowMajor, nth);
+        if !steps_by(len, stride_at(strides, Order::RowMajor, nth), expected) {
             return false;
         }
         expected *= len;
