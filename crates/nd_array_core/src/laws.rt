@@ -18,7 +18,7 @@ use crate::base::array::ArrayBase;
 use crate::base::storage::{Data, DataMut};
 use nd_shape_and_slice::Dimension;
 
-/// Axes put in one order, and then in the order that leads back, give the same meaning.
+/// Permuting axes and permuting them back gives the same meaning.
 #[tactic(auto, using(crate::proofs::LawProofs::permuted_back))]
 pub fn permuted_back<A>()
     ensures { PermutedBack A }
@@ -35,13 +35,13 @@ pub fn inverted_twice<A>()
     ensures { InvertedTwice A }
 {}
 
-/// An axis put in and taken out again gives the same meaning.
+/// Inserting an axis and removing it gives the same meaning.
 #[tactic(auto, using(crate::proofs::LawProofs::inserted_and_removed))]
 pub fn inserted_and_removed<A>()
     ensures { InsertedAndRemoved A }
 {}
 
-/// Two slices of one axis are one map, their composition.
+/// A slice of a slice of one axis has as its map the composition of both.
 #[tactic(auto, using(crate::proofs::LawProofs::sliced_twice))]
 pub fn sliced_twice<A>()
     ensures { SlicedTwice A }
@@ -59,7 +59,7 @@ pub fn maps_lead_inside()
     ensures sliced { (ns : List ℕ) (a : ℕ) (s : Slice) → a < length ns → fits_axis (slice_index ns a) s ≡ true → LeadsInside (sliced_shape ns a s) (sliced_index ns a s) ns }
     ensures listed { (ns : List ℕ) (es : List SliceInfoElem) → each_fits ns es ≡ true → LeadsInside (shape_after ns es) (index_before ns es) ns }
     ensures collapsed_list { (ns : List ℕ) (es : List SliceInfoElem) → each_fits ns es ≡ true → LeadsInside (collapsed_after ns es) (collapsed_before ns es) ns }
-    ensures permuted_list { (ns : List ℕ) (axes : List ℕ) → HasEachAxis axes (length ns) → LeadsInside (permuted_list axes ns) (unpermuted_list axes) ns }
+    ensures permuted { (ns : List ℕ) (axes : List ℕ) → HasEachAxis axes (length ns) → LeadsInside (permuted_list axes ns) (unpermuted_list axes) ns }
     ensures reversed { (ns : List ℕ) → LeadsInside (reverse ns) reverse ns }
     ensures swapped { (ns : List ℕ) (a b : ℕ) → a < length ns → b < length ns → LeadsInside (swap ns a b) (λ i. swap i a b) ns }
     ensures inverted { (ns : List ℕ) (a : ℕ) → a < length ns → LeadsInside ns (inverted_index ns a) ns }
@@ -67,13 +67,13 @@ pub fn maps_lead_inside()
     ensures lower { (ns : List ℕ) (a k : ℕ) → a < length ns → k ≤ slice_index ns a → LeadsInside (lower_shape ns a k) (λ i. i) ns }
     ensures upper { (ns : List ℕ) (a k : ℕ) → a < length ns → k ≤ slice_index ns a → LeadsInside (upper_shape ns a k) (upper_index a k) ns }
     ensures indexed { (ns : List ℕ) (a k : ℕ) → a < length ns → k < slice_index ns a → LeadsInside (indexed_shape ns a) (indexed_index a k) ns }
-    ensures widened { (ns : List ℕ) (a : ℕ) → a ≤ length ns → LeadsInside (inserted_shape ns a) (inserted_index a) ns }
+    ensures inserted { (ns : List ℕ) (a : ℕ) → a ≤ length ns → LeadsInside (inserted_shape ns a) (inserted_index a) ns }
     ensures squeezed { (ns : List ℕ) → LeadsInside (squeezed_shape ns) (squeezed_index ns) ns }
     ensures diagonal { (ns : List ℕ) → LeadsInside (diagonal_length ns ∷ []) (diagonal_index ns) ns }
     ensures broadcast { (ns to : List ℕ) → broadcasts ns to ≡ true → LeadsInside to (broadcast_index ns to) ns }
 {}
 
-/// An array means nothing outside its shape's box, which the laws ask of a meaning.
+/// An array has no element outside its box, which the laws ask of a meaning.
 #[tactic(auto, unfolding(crate::specs::Meaning::shape_of, crate::specs::Meaning::element_at))]
 pub fn nothing_outside<S: Data, D: Dimension>(array: &ArrayBase<S, D>)
     ensures { NothingOutside (meaning_of array.now) }

@@ -34,7 +34,7 @@ fn copy_of<A: Clone>(value: &A) -> Result<A, NoMemory>
     }
 }
 
-/// Fills the line of an image that a list of two names, which keeps one axis; every other index keeps its element.
+/// Fills the row or column of an image that a list of two elements names; every other index keeps its element.
 fn fill_line<A: Clone + Drop, S: DataMut<Elem = A>>(
     image: &mut ArrayBase<S, Ix2>,
     list: &[SliceInfoElem],
@@ -55,8 +55,8 @@ fn fill_line<A: Clone + Drop, S: DataMut<Elem = A>>(
     }
 }
 
-/// Fills a row that the image has, counted from the end where its number is negative; every other index keeps its
-/// element. In ndarray: `image.slice_mut(s![row, ..]).fill(value)`.
+/// Fills a row of the image; a negative number counts from the end. Every other index keeps its element. In ndarray:
+/// `image.slice_mut(s![row, ..]).fill(value)`.
 pub fn fill_row<A: Clone + Drop, S: DataMut<Elem = A>>(
     image: &mut ArrayBase<S, Ix2>,
     row: isize,
@@ -90,7 +90,7 @@ pub fn fill_column<A: Clone + Drop, S: DataMut<Elem = A>>(
 }
 
 /// Draws the border of an image: its first and last row and its first and last column get the value, and every other
-/// index keeps its element, also where memory lacks. An image without elements has no border.
+/// index keeps its element, even if memory runs out. An image without elements has no border.
 pub fn draw_border<A: Clone + Drop, S: DataMut<Elem = A>>(
     image: &mut ArrayBase<S, Ix2>,
     value: A,

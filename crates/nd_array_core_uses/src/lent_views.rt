@@ -1,5 +1,4 @@
-//! Arrays, owned or mutable views themselves, filled through a mutable view of them: what is known of the array once the
-//! view is over.
+//! Arrays filled through a mutable view that is lent in the open, and what is known of the array once the view is over.
 ghost use Rattle.std.specs.Prelude.{◌≡◌, ℕ, true, List, length};
 ghost use Rattle.nd_shape_and_slice.specs.SliceInfo.{fits_shape};
 ghost use Rattle.nd_array_core.specs.Meaning.{shape_of, place_at};

@@ -44,7 +44,7 @@ pub fn try_slice_axis<'a, S: Data, D: Dimension>(
     }
 }
 
-/// A table of cells that are given row by row, seen column by column.
+/// A table whose cells are given row by row, with its axes exchanged.
 pub fn turned_table<A: Drop>(
     rows: usize,
     columns: usize,

@@ -6,7 +6,8 @@ ghost use Rattle.nd_array_core.specs.Meaning.{shape_of, element_at, layout_strid
 use nd_array_core::{ArrayView1, ArrayView2};
 use nd_shape_and_slice::{Axis, ShapeBuilder, ShapeError};
 
-/// One element under the least stride, its axis then turned round: the opposite stride doesn't fit, and becomes 0.
+/// One element under the least stride, with its axis inverted: the opposite stride doesn't fit an `isize`, and becomes
+/// 0.
 pub fn turned_at_the_least_stride<A>(items: &[A]) -> Result<ArrayView1<'_, A>, ShapeError>
     ensures shape { IfOk result (λ v. shape_of v ≡ 1 ∷ []) }
     ensures strides { IfOk result (λ v. layout_strides v ≡ pos 0 ∷ []) }

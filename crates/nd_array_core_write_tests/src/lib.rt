@@ -1,4 +1,4 @@
-//! Tests of `nd_array_core` by its public calls: elements written, filled, by several slices at once and in scoped calls.
+//! Tests of `nd_array_core` by its public calls: elements written and filled, several slices at once, scoped calls.
 #![tactic(auto)]
 
 #[cfg(test)]

@@ -5,6 +5,8 @@ use Rattle.nd_shape_and_slice.specs.Shape.{in_box, size_of}
 use Rattle.nd_shape_and_slice.specs.Place.{place_of}
 use Rattle.nd_shape_and_slice.specs.Strides.{row_strides, column_strides_from}
 use Rattle.nd_layout.specs.Strides.{reach_down}
+use Rattle.nd_layout.specs.declared.grows.GrowthCase.{GrowthCase}
+use Rattle.nd_layout.specs.declared.grows.GrowthCase.TheVariants.{Empty, Unchanged, Fresh, Moved, LengthOne, Continued}
 
 -- the shape after `added` more lengths along an axis
 abbrev pub grown_shape : List ℕ → ℕ → ℕ → List ℕ
@@ -43,6 +45,15 @@ growth_case ns ss full axis added =
     if nat_eq (size_of ns) 0 then 3 else
     if not full || must_move ns ss axis then 4 else
     if nat_le (slice_index ns axis) 1 then 5 else 6
+
+-- the number of a case
+abbrev pub case_number : GrowthCase → ℕ
+case_number Empty = 1
+case_number Unchanged = 2
+case_number Fresh = 3
+case_number Moved = 4
+case_number LengthOne = 5
+case_number Continued = 6
 
 -- the strides of the result in each case
 abbrev pub strides_in_case : ℕ → List ℕ → List ℤ → ℕ → ℕ → List ℤ

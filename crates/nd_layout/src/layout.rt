@@ -75,7 +75,7 @@ impl<D: Dimension> Layout<D, D::Strides> {
 }
 
 impl<D: Dimension, T: StrideList> Layout<D, T> {
-    /// The same layout once more.
+    /// A copy of the layout.
     pub fn copied(&self) -> Self
         ensures offset { result.offset ≡ self.now.offset }
         ensures lengths { D.lengths result.dim ≡ D.lengths self.now.dim }

@@ -9,7 +9,7 @@ ghost use Rattle.nd_layout.specs.Groups.{IsClosed, TakesLength};
 use crate::ordered::{has_no_elements, length_at, put_at, stride_at};
 use nd_shape_and_slice::Order;
 
-/// Axes that go on from one another, seen as one axis, and the number of the next axis.
+/// Axes that merge into one axis, and the number of the next axis.
 #[derive(Clone, Copy)]
 struct Group {
     length: usize,
@@ -17,7 +17,7 @@ struct Group {
     next: usize,
 }
 
-/// Whether an axis of this stride goes on where the group ends.
+/// Whether an axis of this stride continues the group.
 fn goes_on(group: Group, stride: isize) -> bool
     requires { group.length < 2 ^ 63 }
     ensures { IsTrue result ↔ (stride ≡ pos group.length *ℤ group.step) }
@@ -28,7 +28,7 @@ fn goes_on(group: Group, stride: isize) -> bool
     }
 }
 
-/// The group with the next axis, where that goes on from it. An axis of length 1 always does.
+/// The group with the next axis, if that continues it. An axis of length 1 always does.
 fn joined(group: Group, len: usize, stride: isize) -> Option<Group>
     requires fits { group.length * len < 2 ^ 63 }
     requires some { 0 < group.length * len }
@@ -61,7 +61,7 @@ fn joined(group: Group, len: usize, stride: isize) -> Option<Group>
     }
 }
 
-/// The axes from `from` on that go on from one another, as one axis that no further axis goes on from.
+/// The longest group of axes from `from` on, as one axis.
 fn next_group(lengths: &[usize], strides: &[isize], order: Order, from: usize) -> Group
     requires as_many { length strides.now ≡ length lengths.now }
     requires few { length lengths.now ≤ 32 }
@@ -100,7 +100,7 @@ fn times(stride: isize, count: usize) -> isize
     stride * count as isize
 }
 
-/// The stride of what is left of a group after a new axis of length `len`: none where nothing is left.
+/// The stride of what is left of a group after a new axis of length `len`; None if nothing is left.
 fn step_left(step: isize, len: usize, left: usize) -> isize
     requires small { len < 2 ^ 63 }
     requires fits { 1 < left → len * nat_abs step < 2 ^ 63 }
@@ -180,8 +180,8 @@ fn take_length(
     split_group(filled_group(lengths, strides, order, group), len)
 }
 
-/// Strides that give the new lengths the same places in the same order, written into `out`. False exactly
-/// where no integers do, and then `out` holds nothing of use.
+/// Strides that give the new lengths the same places in the same order, written into `out`. Returns false exactly if no
+/// integers do; `out` is then of no use.
 pub fn reshape_strides(
     lengths: &[usize],
     strides: &[isize],

@@ -1,4 +1,4 @@
-//! Whether the elements of a layout lie in order, or at least side by side.
+//! Whether a layout is standard, and whether its places are a run.
 
 ghost use Rattle.std.specs.Prelude.{◌↔◌, ◌≡◌, ◌≢◌, ◌<◌, ◌≤◌, ◌^◌, ◌⊎◌, pos, length, IsTrue};
 ghost use Rattle.nd_shape_and_slice.specs.Shape.{HasCheckedSize, size_of};
@@ -9,7 +9,7 @@ use crate::ordered::{has_no_elements, length_at, stride_at};
 use crate::spans::{separated, span};
 use nd_shape_and_slice::Order;
 
-/// Whether an axis steps by this number: one of length 1 makes no step.
+/// Whether an axis has this stride; an axis of length 1 may have any.
 fn steps_by(len: usize, stride: isize, count: usize) -> bool
     requires { count < 2 ^ 63 }
     ensures { IsTrue result ↔ (len ≢ 1 → stride ≡ pos count) }
@@ -39,7 +39,7 @@ pub fn is_standard(lengths: &[usize], strides: &[isize]) -> bool
     true
 }
 
-/// How many elements a shape has that has some.
+/// The size of a shape without a length of 0.
 fn count_of(lengths: &[usize]) -> usize
     requires some { 0 < size_of lengths.now }
     requires fits { size_of lengths.now < 2 ^ 63 }

@@ -26,7 +26,7 @@ pub fn span(lengths: &[usize], strides: &[isize]) -> Option<usize>
     if total <= LARGEST { Some(total) } else { None }
 }
 
-/// How far one axis reaches, counted only where its stride is of this magnitude at most.
+/// How far one axis reaches; 0 if its stride has a greater magnitude.
 fn reach_within(length: usize, stride: isize, magnitude: usize) -> Option<usize>
     ensures { let counted = if nat_le (nat_abs stride) magnitude then (length - 1) * nat_abs stride else 0 in
         MatchOption result (2 ^ 64 ≤ counted) (λ n. n ≡ counted) }
@@ -38,7 +38,7 @@ fn reach_within(length: usize, stride: isize, magnitude: usize) -> Option<usize>
     }
 }
 
-/// The length of an axis, 1 in place of that of the axis left out.
+/// The length of an axis, or 1 for the axis that is left out.
 pub(crate) fn length_without(lengths: &[usize], left_out: usize, axis: usize) -> usize
     requires on_axis { axis < length lengths.now }
     ensures { result ≡ slice_index (slice_set lengths.now left_out 1) axis }
@@ -65,8 +65,7 @@ fn reach_of_others(
     Some(total)
 }
 
-/// Whether this axis is of length 1 at most, or steps further than all others of at most its magnitude
-/// reach together.
+/// Whether this axis has length 1 at most, or steps further than all others of at most its magnitude reach together.
 fn stands_apart(lengths: &[usize], strides: &[isize], axis: usize) -> bool
     requires as_many { length strides.now ≡ length lengths.now }
     requires on_axis { axis < length lengths.now }

@@ -17,7 +17,7 @@ fn grows(
     requires few { length lengths.now ≤ 2 }
     requires checked { HasCheckedSize lengths.now }
     requires on_axis { axis < length lengths.now }
-    requires grown_shape { HasCheckedSize (grown_shape lengths.now axis added) }
+    requires grown { HasCheckedSize (grown_shape lengths.now axis added) }
 {
     if strides.len() != lengths.len() {
         return None;

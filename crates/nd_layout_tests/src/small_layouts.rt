@@ -34,7 +34,9 @@ fn same_displacements(
     size: usize,
 ) -> bool {
     for rank in 0..size {
-        if displacement_at(old.0, old.1, order, rank) != displacement_at(new.0, new.1, order, rank) {
+        if displacement_at(old.0, old.1, order, rank)
+            != displacement_at(new.0, new.1, order, rank)
+        {
             return false;
         }
     }

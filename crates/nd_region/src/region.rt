@@ -8,7 +8,8 @@ ghost use Rattle.nd_region.specs.Places.{names, names_not};
 use std::marker::{Model, PhantomData};
 use std::{mem, slice};
 
-/// A mutable borrow of elements, as a map from places to elements. One that goes out of scope ends, as by `end`.
+/// A mutable borrow of elements, as a map from places to elements. A region ends when it goes out of scope; `end` does
+/// it earlier.
 pub struct Region<'a, A> {
     pub(crate) ptr: *mut A,
     pub(crate) len: usize,
@@ -72,7 +73,7 @@ impl<'a, A> Region<'a, A> {
         unsafe { &mut *self.ptr.add(place) }
     }
 
-    /// Writes the element at a place, and gives back the one that it held.
+    /// Writes the element at a place, and returns the old one.
     pub fn replace(&mut self, place: usize, value: A) -> A
         requires { IsSome (region_stored self.old place) }
         ensures old { region_stored self.old place ≡ Some result }
@@ -81,7 +82,7 @@ impl<'a, A> Region<'a, A> {
         mem::replace(self.get_mut(place), value)
     }
 
-    /// Writes the element at a place. The one that it held is dropped.
+    /// Writes the element at a place, and drops the old one.
     pub fn set(&mut self, place: usize, value: A)
     where
         A: Drop,
@@ -91,8 +92,8 @@ impl<'a, A> Region<'a, A> {
         *self.get_mut(place) = value;
     }
 
-    /// Moves the places that the layout names by its offset, lengths and strides out of this region,
-    /// into one of exactly these under their old numbers.
+    /// Moves the places that the layout names by its offset, lengths and strides into a region of their own. They keep
+    /// their numbers.
     pub fn split(&mut self, offset: usize, lengths: &[usize], strides: &[isize]) -> Region<'a, A>
         requires as_many { length lengths.now ≡ length strides.now }
         requires within { HasPlaces self.old offset lengths.now strides.now }
@@ -107,7 +108,7 @@ impl<'a, A> Region<'a, A> {
         }
     }
 
-    /// All places, for a shorter time.
+    /// Borrows the region, with all its places, for a shorter time.
     pub fn reborrow(&mut self) -> Region<'_, A>
         ensures* follows { sem 𝓛 (region_follows A.row self.entry result) }
         ensures same { IsSameMap self.old result }
@@ -119,7 +120,7 @@ impl<'a, A> Region<'a, A> {
         }
     }
 
-    /// The same region, for a time that its borrow outlives.
+    /// The same region by value, for a shorter lifetime.
     pub fn shortened<'b>(self) -> Region<'b, A>
     where
         'a: 'b,
@@ -177,7 +178,7 @@ impl<'a, A> Region<'a, A> {
         unsafe { slice::from_raw_parts_mut(ptr.add(start), count) }
     }
 
-    /// Ends the region: each place keeps the element that it holds.
+    /// Ends the region. Each place keeps its element.
     pub fn end(self)
         ensures* { sem 𝓛 (keeps_elements A.row self.entry) }
     {

@@ -9,9 +9,9 @@ use crate::region::Region;
 use std::marker::PhantomData;
 use std::mem;
 
-/// Hands f the slice's elements as a region with all its places, and the slice then has the elements that
-/// the region has which f gives back. The type of f demands a region, so a function that gives none back
-/// doesn't compile; that it is the same one is the condition `returns`, so another in its place isn't proved.
+/// Lends f the slice's elements as a region with all places. f gives the region back, and the slice then holds what
+/// that region holds. The type of f demands a region, so a function that gives none back doesn't compile; that it is
+/// the same one is the condition `returns`.
 pub fn with_region<A, R, F: FnOnce(Region<'_, A>) -> (Region<'_, A>, R)>(slice: &mut [A], f: F) -> R
     requires callable { (r : RegionOf A) → IsWhole r slice.old → F.pre f r }
     requires returns { (r : RegionOf A) (out : RegionOf A × R) → IsWhole r slice.old → F.post f r out → IsSameBorrow r out.0 }
@@ -27,10 +27,9 @@ pub fn with_region<A, R, F: FnOnce(Region<'_, A>) -> (Region<'_, A>, R)>(slice: 
 }
 
 impl<'a, A> Region<'a, A> {
-    /// Splits off the places that the layout names by its offset, lengths and strides, and hands f
-    /// both parts: these places, and the others. This region then has at each place what the part of that
-    /// place has. As with `with_region`, the type of f demands both parts back, and the condition `returns`
-    /// that each is the same one.
+    /// Splits off the places that the layout names by its offset, lengths and strides, and lends f both parts: these
+    /// places, and the others. Afterwards each place of this region holds what the part with that place holds. As with
+    /// `with_region`, the type of f demands both parts back, and the condition `returns` that each is the same one.
     pub fn split_with<
         R,
         F: for<'b> FnOnce(Region<'b, A>, Region<'b, A>) -> (Region<'b, A>, Region<'b, A>, R),
@@ -44,9 +43,9 @@ impl<'a, A> Region<'a, A> {
         self.split_where(offset, lengths, strides, 0, &[], &[], f)
     }
 
-    /// Splits off the places that pass a test, and hands f both parts: these places, and the others. This region then
-    /// has at each place what the part of that place has. No machine sees the test, which says what each part owns: a caller
-    /// makes it of the layouts, of which the body reads nothing.
+    /// Splits off the places that pass a test, and lends f both parts: these places, and the others. Afterwards each
+    /// place of this region holds what the part with that place holds. The test is ghost, and says which part owns
+    /// which place. A caller makes it from the layouts, which the body never reads.
     fn split_where<
         R,
         F: for<'b> FnOnce(Region<'b, A>, Region<'b, A>) -> (Region<'b, A>, Region<'b, A>, R),
@@ -83,8 +82,8 @@ impl<'a, A> Region<'a, A> {
         answer
     }
 
-    /// Hands f the places that the layout names, for the length of the call. This region then has at each of
-    /// them what that part has which f gives back, and at every other place what it had.
+    /// Lends f the places that the layout names, for the length of the call. Afterwards each of them holds what f left
+    /// there, and every other place what it held before.
     pub fn with_part<R, F: for<'b> FnOnce(Region<'b, A>) -> (Region<'b, A>, R)>(
         &mut self,
         offset: usize,
@@ -143,8 +142,8 @@ impl<'a, A> Region<'a, A> {
         )
     }
 
-    /// Hands f the places that either of two layouts names, for the length of the call. This region then has at each of
-    /// them what that part has which f gives back, and at every other place what it had.
+    /// Lends f the places that either of two layouts names, for the length of the call. Afterwards each of them holds
+    /// what f left there, and every other place what it held before.
     pub fn with_either<R, F: for<'b> FnOnce(Region<'b, A>) -> (Region<'b, A>, R)>(
         &mut self,
         offset: usize,

@@ -45,7 +45,7 @@ impl<'a, A> SharedRegion<'a, A> {
         SharedRegion::Whole(rows.as_flattened())
     }
 
-    /// The same places, for a shorter time.
+    /// Borrows the same places, for a shorter time.
     pub fn reborrowed(&self) -> SharedRegion<'_, A>
         ensures { shared_stored result ≡ shared_stored self.now }
     {
@@ -55,7 +55,7 @@ impl<'a, A> SharedRegion<'a, A> {
         }
     }
 
-    /// The same places, for a time that the borrow outlives.
+    /// The same places by value, for a shorter lifetime.
     pub fn shortened<'b>(self) -> SharedRegion<'b, A>
     where
         'a: 'b,
@@ -94,7 +94,7 @@ impl<'a, A> Region<'a, A> {
     ghost use Rattle.nd_region.specs.Region.{region_stored};
     ghost use Rattle.nd_region.specs.Shared.{shared_stored};
 
-    /// The region's places, to be read.
+    /// Shares the region's places, to read them.
     pub fn share(&self) -> SharedRegion<'_, A>
         ensures { shared_stored result ≡ region_stored self.now }
     {

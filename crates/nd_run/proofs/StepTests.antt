@@ -36,8 +36,8 @@ unrefused : (t : Bool) (cause : Cause) → (t ≡ false → ⊥) → cond t None
 unrefused true cause h = refl
 unrefused false cause h = absurd (h refl)
 
-pub widening_allowed : (to ns : List ℕ) → length to ≤ 32 → (broadcasts ns to ≡ false → ⊥) → refusal (BroadcastTo to) ns ≡ None
-widening_allowed to ns few can = rw (le-leb (length to) 32 few) (unrefused (broadcasts ns to) causes.Broadcast can)
+pub broadcast_allowed : (to ns : List ℕ) → length to ≤ 32 → (broadcasts ns to ≡ false → ⊥) → refusal (BroadcastTo to) ns ≡ None
+broadcast_allowed to ns few can = rw (le-leb (length to) 32 few) (unrefused (broadcasts ns to) causes.Broadcast can)
 
 -- ---- one element before others
 

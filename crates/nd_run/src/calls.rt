@@ -2,18 +2,18 @@
 
 use nd_shape_and_slice::{Slice, SliceInfoElem};
 
-/// A call that gives another array of the same elements: which of them are seen, and along which axes.
+/// A layout call: another array of the same elements.
 #[derive(Debug, Drop)]
 pub enum Step {
     /// An axis, and the slice of it that stays.
     SliceAxis(usize, Slice),
-    /// What is done with each axis in order, and where new ones are put in.
+    /// A list of slices: what is kept of each axis in order, and where new axes are put in.
     Slice(Vec<SliceInfoElem>),
-    /// An axis, and its only coordinate that stays. The axis stays with length 1.
+    /// An axis and a coordinate. The axis keeps that coordinate alone, and has length 1.
     Collapse(usize, usize),
-    /// An axis that goes, and its only coordinate that stays.
+    /// An axis and a coordinate. The axis is taken out at that coordinate.
     IndexAxis(usize, usize),
-    /// The axes in the order in which they stand afterwards.
+    /// The axes in their new order.
     Permute(Vec<usize>),
     /// The axes in the opposite order.
     Reverse,
@@ -23,17 +23,17 @@ pub enum Step {
     Invert(usize),
     /// Where an axis of length 1 is put in.
     InsertAxis(usize),
-    /// An axis that goes. Its coordinate 0 stays.
+    /// An axis that is taken out at coordinate 0.
     RemoveAxis(usize),
-    /// The axes of length 1 that go, as long as another axis is left.
+    /// All axes of length 1 are taken out, but one stays if there is no other.
     Squeeze,
     /// The elements whose coordinates are all the same.
     Diag,
-    /// The lengths under which the same elements are seen again and again. Such a step can't be kept.
+    /// A larger shape, under which elements repeat (a broadcast). Such a step can't be kept.
     Broadcast(Vec<usize>),
 }
 
-/// What is asked of an array.
+/// A question about an array.
 #[derive(Debug, Drop)]
 pub enum Question {
     /// Its lengths.
@@ -44,14 +44,14 @@ pub enum Question {
     Get(Vec<usize>),
 }
 
-/// What is done to an array's elements.
+/// A change of an array's elements.
 #[derive(Debug, Drop)]
 pub enum Act<A> {
     /// Each element becomes a clone of this one.
     Fill(A),
     /// The element of an index becomes a clone of this one.
     Set(Vec<usize>, A),
-    /// The elements of two indexes change places.
+    /// The elements at two indexes are exchanged.
     Swap(Vec<usize>, Vec<usize>),
 }
 
@@ -64,7 +64,7 @@ pub enum Call<A> {
     Ask(Vec<Step>, Question),
     /// An act on what these steps lead to. It changes the array's own elements.
     Write(Vec<Step>, Act<A>),
-    /// An axis, the coordinate before which it is split, an act on the first part, and one on the second.
+    /// An axis, a coordinate at which it is split, and an act on each of the two parts.
     SplitWrite(usize, usize, Act<A>, Act<A>),
 }
 

@@ -5,15 +5,15 @@ ghost use Rattle.std.specs.Prelude.{◌≡◌};
 /// The cause of a refusal, by its number in a reply.
 #[derive(Clone, Copy, Debug, PartialEq, Eq)]
 pub enum Cause {
-    /// An axis that the array hasn't.
+    /// There is no such axis.
     Axis = 1,
-    /// A coordinate that the axis hasn't.
+    /// The axis has no such coordinate.
     Index = 2,
     /// A slice that doesn't fit its axis.
     Slice = 3,
     /// A list that doesn't name each axis once.
     Permutation = 4,
-    /// A list or a shape that doesn't go with the array's.
+    /// A list or a shape that doesn't fit the array's.
     Shape = 5,
     /// More axes than an array can have.
     TooManyAxes = 7,

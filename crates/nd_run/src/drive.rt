@@ -56,7 +56,7 @@ fn run_script(
     }
 }
 
-/// The end of a run that lacked memory.
+/// How a script ends whose run was refused memory.
 fn stopped(fault: RunFault<i64>) -> Outcome
     ensures { ending result ≡ OutOfMemory (replies_before fault) }
 {
@@ -65,9 +65,9 @@ fn stopped(fault: RunFault<i64>) -> Outcome
     }
 }
 
-/// Reads a script to the end of the input, carries it out, and writes its replies and its end. Answers the
-/// status: 0, or 1 where a line is bad, 2 where memory was refused, and 3 where a call of the reader or of the
-/// writer failed. ndarray has no such call.
+/// Reads a script to the end of the input, runs it, and writes its replies and its end. Returns the status: 0, or 1 if
+/// a line is bad, 2 if memory was refused, and 3 if a call of the reader or of the writer failed. ndarray has no such
+/// call.
 pub fn drive<R: Read, W: Write>(
     alloc: Global,
     input: &mut Watched<R>,

@@ -26,7 +26,7 @@ impl From<AllocError> for InputError {
     }
 }
 
-/// All bytes up to the end of the input. The first read that fails ends it, one before the call too.
+/// All bytes up to the end of the input. It stops at the first read that fails, and at once if one had failed before.
 pub fn read_input<R: Read>(alloc: Global, input: &mut Watched<R>) -> Result<Vec<u8>, InputError>
     ensures bytes { IfOk result (λ v. IfSome (R.remaining (watched_inner input.old)) (λ xs. xs ≡ v.items)) }
     ensures failed { watched_failed input.new ≡ is_read_failure result }

@@ -31,7 +31,7 @@ pub enum Keyword {
     Fill,
     Set,
     Swap,
-    /// No name that a script knows.
+    /// Any other word.
     Other,
 }
 
@@ -76,7 +76,7 @@ impl Keyword {
         Keyword::Other
     }
 
-    /// The word that names it: none for `Other`.
+    /// The word that stands for it; `Other` has none.
     fn spelling(self) -> &'static [u8]
         ensures { result.now ≡ spelling self }
     {

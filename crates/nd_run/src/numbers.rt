@@ -7,12 +7,12 @@ ghost use Rattle.nd_run.specs.Numerals.{is_numeral, without_minus, nat_of, int_o
 
 use std::str;
 
-/// A type of numbers that a word can write: decimal digits, with a minus sign before them where the type
-/// has negative numbers.
+/// A type of numbers that can be read from a word: decimal digits, with a minus sign in front where the type has
+/// negative numbers.
 pub trait Number: Copy {
     ghost number_of: { List ℕ → Option Self };
 
-    /// The number that the word writes, where it fits the type.
+    /// The number that the word stands for, if it fits the type.
     fn from_word(word: &[u8]) -> Option<Self>
         ensures { result ≡ number_of word.now };
 }

@@ -1,4 +1,4 @@
-//! How a script ends: loading it, and what is written at its end.
+//! How a script ends, and what is written then.
 
 ghost use Rattle.std.specs.Prelude.{◌≡◌, ◌≤◌, [], length, map, IfOk, IfSome, if◌then◌else◌};
 ghost use Rattle.nd_shape_and_slice.specs.Shape.{HasCheckedSize, size_of};
@@ -111,7 +111,7 @@ fn status(outcome: &Outcome, failed: bool) -> u8
     }
 }
 
-/// Writes what is due at this end, flushes once, and answers the status.
+/// Writes what is due at this end, flushes once, and returns the status.
 pub fn conclude<W: Write>(output: &mut Watched<W>, outcome: &Outcome) -> u8
     ensures text { TakesText W.contents output.old output.new (ending_text (ending outcome.now)) }
     ensures flushed { GetsFlushed output.old output.new }
@@ -122,7 +122,7 @@ pub fn conclude<W: Write>(output: &mut Watched<W>, outcome: &Outcome) -> u8
     status(outcome, output.failed())
 }
 
-/// Writes the elements of an array in row-major order, each behind a space, without memory.
+/// Writes the elements of an array in row-major order, each after a space. It takes no memory.
 fn put_elements<W: Write>(output: &mut Watched<W>, array: &Array<i64, IxDyn>)
     ensures { Puts W.contents output.old output.new (values_text (row_major_elements (meaning_of array.now))) }
 {
@@ -153,8 +153,7 @@ fn put_whole<W: Write>(output: &mut Watched<W>, replies: &[Reply<i64>], array: &
     put(output, b"\n");
 }
 
-/// Writes the replies and the array that the last call left, flushes once, and answers the status. It takes no
-/// memory.
+/// Writes the replies and the array that the last call left, flushes once, and returns the status. It takes no memory.
 pub fn conclude_whole<W: Write>(
     output: &mut Watched<W>,
     replies: &[Reply<i64>],

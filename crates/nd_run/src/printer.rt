@@ -12,7 +12,7 @@ use crate::watched::Watched;
 use itoa::Buffer;
 use std::io::Write;
 
-/// Writes the text, as often as the writer takes a part of it.
+/// Writes the whole text, in as many calls as the writer needs.
 pub fn put<W: Write>(out: &mut Watched<W>, text: &[u8])
     ensures { Puts W.contents out.old out.new text.now }
 {

@@ -49,7 +49,7 @@ fn start_at(alloc: Global, number: usize, line: &[u8]) -> Result<Parts, ScriptEr
     }
 }
 
-/// The calls of a text whose first line has this number.
+/// The calls of a text. Its lines are numbered from this number on.
 fn calls(alloc: Global, first: usize, text: &[u8]) -> Result<Vec<Call<i64>>, ScriptError>
     requires { first + length text.now < 2 ^ 64 }
     ensures { GivesScript (λ v. map asked_call v.items) result (calls_from first (lines_of text.now)) }
@@ -94,7 +94,7 @@ fn whole_script(alloc: Global, text: &[u8]) -> Result<Script, ScriptError>
     Err(ScriptError::BadLine(number))
 }
 
-/// The script of a text. Memory is asked for only where a line is not found bad before.
+/// The script of a text. No memory is taken once a line was found bad.
 pub fn read_script(alloc: Global, text: &[u8]) -> Result<Script, ScriptError>
     // What is read is what the lines write.
     ensures found { IfOk result (λ s. IsScript (lines_of text.now) (asked_script s)) }

@@ -14,7 +14,7 @@ use nd_array_core::{Array, ArrayView};
 use nd_shape_and_slice::{IxDyn, MAX_AXES, index_of_rank};
 use std::alloc::{AllocError, Global};
 
-/// Goes along a path of steps, or says why not.
+/// Follows a path of steps, or returns the cause of a refusal.
 fn follow_path<'a, A>(
     view: ArrayView<'a, A, IxDyn>,
     path: &[Step],
@@ -69,7 +69,7 @@ fn answer<A: Clone>(
     }
 }
 
-/// The reply to a question at the end of a path. It lacks memory only where no step is refused.
+/// The reply to a question at the end of a path. It can run out of memory only if no step was refused.
 fn ask<A: Clone>(
     alloc: Global,
     array: &Array<A, IxDyn>,
@@ -86,7 +86,7 @@ fn ask<A: Clone>(
     }
 }
 
-/// The step's result in the array's place. A refusal changes nothing.
+/// Replaces the array by the step's result. A refused step changes nothing.
 fn keep<A>(array: Array<A, IxDyn>, step: &Step) -> (Reply<A>, Array<A, IxDyn>)
     ensures reply { said_reply result.0 ≡ reply_to (Keeping (asked_step step.now)) (meaning_of array) }
     ensures array { meaning_of result.1 ≡ meaning_after (Keeping (asked_step step.now)) (meaning_of array) }
@@ -128,9 +128,8 @@ pub enum RunFault<A> {
     Memory(Vec<Reply<A>>),
 }
 
-/// Carries out the calls one after another, each with one reply. The list of replies is asked for before the
-/// first call. A call that is refused changes nothing. Where memory is refused, the replies are those to the calls
-/// before the one that lacked it. ndarray has no such call.
+/// Runs the calls in order; each has one reply. Room for the replies is taken before the first call. A call that is
+/// refused changes nothing. If memory is refused, the replies are those to the calls before. ndarray has no such call.
 pub fn run<A: Clone + Drop>(
     alloc: Global,
     start: Array<A, IxDyn>,

@@ -1,4 +1,4 @@
-//! Steps: what is against one, and what it gives.
+//! Steps of a path: the cause for which one is refused, and what it gives.
 
 ghost use Rattle.std.specs.Prelude.{◌≡◌, ◌<◌, ◌+◌, ◌^◌, ◌∷◌, [], ℕ, true, List, None, length, MatchResult, Ok, Err};
 ghost use Rattle.nd_shape_and_slice.specs.Axes.{names_each_axis, permuted_list, unpermuted_list};
@@ -28,7 +28,7 @@ fn slice_refusal(shape: &[usize], axis: usize, slice: Slice) -> Option<Cause>
     None
 }
 
-/// The cause against an element that reads this axis, if it reads one.
+/// The cause for which one refuses an element that reads this axis, if it reads one.
 fn element_refusal(shape: &[usize], axis: usize, element: SliceInfoElem) -> Option<Cause>
     requires { reads_axis element ≡ true → axis < length shape.now }
     ensures { result ≡ first_failed (element_tests axis shape.now (element ∷ [])) }
@@ -60,7 +60,7 @@ fn axis_past(axis: usize, element: SliceInfoElem) -> usize
     if element.reads_axis() { axis + 1 } else { axis }
 }
 
-/// The first cause against an element of a list that reads each axis.
+/// The first cause for which one refuses an element of a list that reads each axis.
 fn first_element_refusal(shape: &[usize], elements: &[SliceInfoElem]) -> Option<Cause>
     requires { axes_read elements.now ≡ length shape.now }
     ensures { result ≡ first_failed (element_tests 0 shape.now elements.now) }
@@ -142,7 +142,8 @@ fn insert_refusal(shape: &[usize], axis: usize) -> Option<Cause>
     None
 }
 
-/// The first cause against a step on an array of these lengths whose result is kept: a broadcast shares elements.
+/// The first cause for which one refuses a step on an array of these lengths whose result is kept: a broadcast shares
+/// elements.
 pub fn keep_refusal(shape: &[usize], step: &Step) -> Option<Cause>
     ensures { result ≡ keep_refusal (asked_step step.now) shape.now }
 {
@@ -162,7 +163,7 @@ pub fn keep_refusal(shape: &[usize], step: &Step) -> Option<Cause>
 }
 
 /// The array with its axes in this order.
-fn permuted_list<S: Data>(array: ArrayBase<S, IxDyn>, axes: &[usize]) -> ArrayBase<S, IxDyn>
+fn permuted<S: Data>(array: ArrayBase<S, IxDyn>, axes: &[usize]) -> ArrayBase<S, IxDyn>
     requires { names_each_axis axes.now (length (shape_of array)) ≡ true }
     ensures shape { shape_of result ≡ permuted_list axes.now (shape_of array) }
     ensures elements { (i : List ℕ) → element_at result i ≡ inside (shape_of result) i (element_at array (unpermuted_list axes.now i)) }
@@ -190,7 +191,7 @@ pub fn take_step<S: Data>(array: ArrayBase<S, IxDyn>, step: &Step) -> ArrayBase<
             array
         }
         Step::IndexAxis(axis, index) => array.index_axis_move(Axis(*axis), *index),
-        Step::Permute(axes) => permuted_list(array, axes.as_slice()),
+        Step::Permute(axes) => permuted(array, axes.as_slice()),
         Step::Reverse => array.reversed_axes(),
         Step::SwapAxes(a, b) => {
             let mut array = array;
@@ -210,8 +211,8 @@ pub fn take_step<S: Data>(array: ArrayBase<S, IxDyn>, step: &Step) -> ArrayBase<
     }
 }
 
-/// The view under a larger shape, or why not.
-fn widen<'a, A>(
+/// The view under a larger shape, or the cause of its refusal.
+fn broadcast_to<'a, A>(
     view: ArrayView<'a, A, IxDyn>,
     lengths: &[usize],
 ) -> Result<ArrayView<'a, A, IxDyn>, Cause>
@@ -226,7 +227,7 @@ fn widen<'a, A>(
     }
 }
 
-/// What a step on a view gives, or why not.
+/// What a step on a view gives, or the cause of its refusal.
 pub fn advance<'a, A>(
     view: ArrayView<'a, A, IxDyn>,
     step: &Step,
@@ -234,7 +235,7 @@ pub fn advance<'a, A>(
     ensures { MatchResult result (λ next. step_result (asked_step step.now) (meaning_of view.entry) ≡ Ok (meaning_of next)) (λ cause. step_result (asked_step step.now) (meaning_of view.entry) ≡ Err cause) }
 {
     if let Step::Broadcast(lengths) = step {
-        return widen(view, lengths.as_slice());
+        return broadcast_to(view, lengths.as_slice());
     }
     match keep_refusal(view.shape(), step) {
         None => Ok(take_step(view, step)),

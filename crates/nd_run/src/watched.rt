@@ -40,8 +40,8 @@ impl Flushes {
     }
 }
 
-/// A reader or a writer, and whether one of its calls failed: each `Err` counts, `Interrupted` too, and so
-/// does a write that takes no byte of a piece that isn't empty.
+/// A reader or a writer that remembers whether one of its calls failed. Each `Err` counts, `Interrupted` included, and
+/// so does a write that takes nothing of bytes that it was given.
 ///
 /// The standard `flush` ensures only that the bytes stay, so a contract over any writer can't see it. `flushes`
 /// is set beside the inner call, and lets contracts say when a flush is due.
@@ -53,7 +53,7 @@ pub struct Watched<T> {
 }
 
 impl<T> Watched<T> {
-    /// Nothing failed and nothing was flushed so far.
+    /// Watches a reader or a writer from now on.
     pub fn new(inner: T) -> Self
         ensures inner { watched_inner result ≡ inner }
         ensures failed { watched_failed result ≡ false }

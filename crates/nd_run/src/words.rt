@@ -10,14 +10,14 @@ fn is_blank(byte: u8) -> bool
     byte == b' ' || byte == b'\t' || byte == b'\r'
 }
 
-/// The place of the first line feed.
+/// The index of the first line feed.
 fn line_end(text: &[u8]) -> Option<usize>
     ensures { result ≡ position (λ b. b == 10) text.now }
 {
     text.iter().position(|byte| *byte == b'\n')
 }
 
-/// The place of the first blank.
+/// The index of the first blank.
 fn word_end(line: &[u8]) -> Option<usize>
     ensures { result ≡ position is_blank line.now }
 {

@@ -15,13 +15,12 @@ use crate::cause::Cause;
 use crate::laws::paths_lead_along;
 use crate::steps::{keep_refusal, take_step};
 use nd_array_core::laws::{distinct_places, elements_have_places, nothing_outside};
-use nd_array_core::scoped::{LentView, ViewTask};
-use nd_array_core::scoped::PairTask;
+use nd_array_core::scoped::{LentView, PairTask, ViewTask};
 use nd_array_core::{Array, ArrayBase, Data, DataMut, ViewMutRepr};
 use nd_shape_and_slice::{Axis, Dimension, IxDyn};
 use std::alloc::AllocError;
 
-/// Goes along a path that is written through, to its end or to the first step that is refused.
+/// Follows a path that is to be written through, to its end or to the first refused step.
 fn go_along<S: Data>(
     array: ArrayBase<S, IxDyn>,
     path: &[Step],
@@ -52,7 +51,7 @@ fn index_refusal<S: Data>(array: &ArrayBase<S, IxDyn>, index: &[usize]) -> Optio
     }
 }
 
-/// The first cause against an act on an array's elements.
+/// The first cause for which one refuses an act on an array's elements.
 fn act_refusal<S: Data>(array: &ArrayBase<S, IxDyn>, act: &Act<S::Elem>) -> Option<Cause>
     ensures { result ≡ act_refusal (acting act.now) (shape_of array.now) }
 {
@@ -69,7 +68,7 @@ fn act_refusal<S: Data>(array: &ArrayBase<S, IxDyn>, act: &Act<S::Elem>) -> Opti
     }
 }
 
-/// Does an act that nothing is against.
+/// Does an act that was checked before.
 fn do_act<S: DataMut>(array: &mut ArrayBase<S, IxDyn>, act: &Act<S::Elem>) -> Result<(), AllocError>
 where
     S::Elem: Clone + Drop,
@@ -99,7 +98,7 @@ where
     }
 }
 
-/// Goes along a path and acts at its end, or says why not.
+/// Follows a path and acts at its end, or returns the cause of a refusal.
 fn act_along<S: DataMut>(
     array: ArrayBase<S, IxDyn>,
     path: &[Step],
@@ -132,7 +131,7 @@ where
     }
 }
 
-/// Acts on two arrays, or says why not. Both acts are checked before either changes anything.
+/// Acts on two arrays, or returns the cause of a refusal. Both acts are checked before either changes anything.
 fn act_on_both<S: DataMut>(
     lower: &mut ArrayBase<S, IxDyn>,
     upper: &mut ArrayBase<S, IxDyn>,
@@ -165,7 +164,7 @@ where
     Ok(None)
 }
 
-/// Acts on two parts, or says why not.
+/// Acts on two parts, or returns the cause of a refusal.
 fn act_on_parts<S: DataMut>(
     lower: ArrayBase<S, IxDyn>,
     upper: ArrayBase<S, IxDyn>,
@@ -262,7 +261,7 @@ impl<'p, A: Clone + Drop, D: Dimension> PairTask<A, D, D> for ActOnParts<'p, A> 
     }
 }
 
-/// The cause against a split of an array of these lengths.
+/// The cause for which one refuses a split of an array of these lengths.
 fn place_refusal(shape: &[usize], axis: usize, index: usize) -> Option<Cause>
     ensures { result ≡ place_refusal axis index shape.now }
 {

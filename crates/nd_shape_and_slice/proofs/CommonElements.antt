@@ -225,14 +225,14 @@ met_more ns es fs k i j i' j' d g l s c l' s' c' h met in_e in_f p q share =
     let a = first_at ns es fs k i j i' d h met in_e in
     let b = second_at ns es fs k i j j' g h met in_f in
     let axis = axis_there ns k h in
-    let on_f = subst (λ x. NamesOn n (get_or fs j' g) x) (sym share.equal) (q.each share.at_second share.in_second) in
+    let on_f = subst (λ x. NamesOn n (get_or fs j' g) x) (sym share.equal) (q.is_named share.at_second share.in_second) in
     record {
       within_first = omega (arith, a.within);
       within_second = omega (arith, b.within);
       fits_first = a.rest_fits;
       fits_second = b.rest_fits;
       onward = λ whole. (split_both n (drop (k + 1) ns) es fs i i' j j' d g a b (subst (λ m. Intersect m (drop i es) (drop j fs)) axis (met.onward whole))).rest;
-      back = λ rest. met.back (subst (λ m. Intersect m (drop i es) (drop j fs)) (sym axis) (join_both n (drop (k + 1) ns) es fs i i' j j' (l + share.at_first * s) d g a b (p.each share.at_first share.in_first) on_f rest));
+      back = λ rest. met.back (subst (λ m. Intersect m (drop i es) (drop j fs)) (sym axis) (join_both n (drop (k + 1) ns) es fs i i' j j' (l + share.at_first * s) d g a b (p.is_named share.at_first share.in_first) on_f rest));
     }
 
 pub met_not : (ns : List ℕ) (es fs : List SliceInfoElem) (k i j i' j' : ℕ) (d g : SliceInfoElem) (l s c l' s' c' : ℕ) → k < length ns → IsMetUpTo ns es fs k i j → drop i' es ≡ from_reader (drop i es) → drop j' fs ≡ from_reader (drop j fs) → IsProgression (get_or ns k 0) (get_or es i' d) l s c → IsProgression (get_or ns k 0) (get_or fs j' g) l' s' c' → (Share l s c l' s' c' → ⊥) → Intersect ns es fs → ⊥

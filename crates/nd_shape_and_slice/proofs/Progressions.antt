@@ -35,7 +35,7 @@ up l p t = omega arith
 rises : (n p : ℕ) (start : ℤ) (end : Option ℤ) → 0 < p → IsProgression n (Part start end (pos p)) (sliced_from n (by_step start end (pos p)) 0) p (sliced_length n (by_step start end (pos p)))
 rises n p start end some = record {
   steps = some;
-  each = λ t h. (t, h, up (low_of n (by_step start end (pos p))) p t);
+  is_named = λ t h. (t, h, up (low_of n (by_step start end (pos p))) p t);
   only = λ x here. (here.0, here.1, sym (up (low_of n (by_step start end (pos p))) p here.0) ∙ here.2);
 }
 
@@ -75,7 +75,7 @@ place n d start end t h = down (high_down n d start end) (range_down n d start e
 sinks : (n d : ℕ) (start : ℤ) (end : Option ℤ) → IsProgression n (Part start end (negsuc d)) (sliced_from n (by_step start end (negsuc d)) 0 - (sliced_length n (by_step start end (negsuc d)) - 1) * suc d) (suc d) (sliced_length n (by_step start end (negsuc d)))
 sinks n d start end = record {
   steps = omega arith;
-  each = λ t h. (count_down n d start end - 1 - t, back_below (count_down n d start end) t h, place n d start end t h);
+  is_named = λ t h. (count_down n d start end - 1 - t, back_below (count_down n d start end) t h, place n d start end t h);
   only = λ x here. (count_down n d start end - 1 - here.0, back_below (count_down n d start end) here.0 here.1, (sym (place n d start end (count_down n d start end - 1 - here.0) (back_below (count_down n d start end) here.0 here.1)) ∙ ap (λ i. high_down n d start end - 1 - i * suc d) (turned (count_down n d start end) here.0 here.1)) ∙ here.2);
 }
 
@@ -106,6 +106,6 @@ stays_on n s first len at count = cases_of s.start s.end s.step first len at cou
 pub whole_axis : (n : ℕ) → IsProgression n NewAxis 0 1 n
 whole_axis n = record {
   steps = omega arith;
-  each = λ t h. omega (arith, h);
+  is_named = λ t h. omega (arith, h);
   only = λ x h. (x, h, omega arith);
 }

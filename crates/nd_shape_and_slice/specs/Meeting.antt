@@ -42,7 +42,7 @@ NamesOn n NewAxis x = x < n
 -- what an element names is a progression
 pub record IsProgression (n : ℕ) (e : SliceInfoElem) (low step count : ℕ) : Type 0 where
   pub steps : 0 < step
-  pub each : (t : ℕ) → t < count → NamesOn n e (low + t * step)
+  pub is_named : (t : ℕ) → t < count → NamesOn n e (low + t * step)
   pub only : (x : ℕ) → NamesOn n e x → (t : ℕ) × (t < count) × (low + t * step ≡ x)
 
 -- the list from its first element on that reads an axis

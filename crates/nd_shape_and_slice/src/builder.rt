@@ -192,7 +192,7 @@ fn with_strides<D: Dimension>(shape: Shape<D>, list: &[isize]) -> StrideShape<D>
     }
 }
 
-/// The order of F strides, or that of C strides.
+/// Column-major order for F strides, row-major order for C strides.
 fn order_of(is_f: bool) -> Order
     ensures { result ≡ (if is_f then Order.ColumnMajor else Order.RowMajor) }
 {
@@ -260,8 +260,8 @@ impl<D: Dimension> ShapeBuilder for Shape<D> {
     }
 }
 
-/// What gives a constructor its shape and strides: all that builds a shape, and a `StrideShape` itself. It stands
-/// for ndarray's `Into<StrideShape>`.
+/// What a constructor takes as its shape and strides: whatever builds a shape, or a `StrideShape`. It stands for
+/// ndarray's `Into<StrideShape>`.
 pub trait IntoStrideShape {
     /// The dimension of the shape.
     type Dim: Dimension;

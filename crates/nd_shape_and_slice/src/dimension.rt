@@ -22,7 +22,7 @@ pub trait StrideList: Copy {
     fn slice(&self) -> &[isize]
         ensures { result.now ≡ strides_of self.now };
 
-    /// Puts the stride of one axis; an axis past the last changes nothing.
+    /// Sets the stride of one axis; does nothing if there is no such axis.
     fn set(&mut self, axis: usize, stride: isize)
         ensures { strides_of self.new ≡ slice_set (strides_of self.old) axis stride };
 }
@@ -53,7 +53,7 @@ pub trait AxisCount {
 pub trait Dimension: AxisCount + Copy {
     /// The lengths as a number, a tuple or the dimension itself. ndarray's `Dimension::Pattern`.
     type Pattern;
-    /// The strides of as many axes.
+    /// The strides that go with it, one for each axis.
     type Strides: StrideList;
     /// The dimension with one axis fewer.
     type Smaller;
@@ -76,7 +76,7 @@ pub trait Dimension: AxisCount + Copy {
     fn set_length(&mut self, axis: usize, len: usize)
         ensures { lengths self.new ≡ slice_set (lengths self.old) axis len };
 
-    /// The dimension with these lengths; None exactly where it can't have as many axes.
+    /// The dimension with these lengths; None exactly if it can't have so many axes.
     fn from_lengths(list: &[usize]) -> Option<Self>
         ensures { MatchOption result (has_axes (length list.now) ≡ false) (λ d. lengths d ≡ list.now) };
 
@@ -107,7 +107,7 @@ pub trait Dimension: AxisCount + Copy {
 
 /// A dimension made from another. ndarray's `Dimension::from_dimension`.
 pub trait FromDimension: Dimension {
-    /// The dimension with another's lengths; None exactly where it can't have as many axes.
+    /// The dimension with another's lengths; None exactly if it can't have so many axes.
     fn from_dimension<E: Dimension>(other: &E) -> Option<Self>
         ensures { MatchOption result (Self.has_axes (length (E.lengths other.now)) ≡ false) (λ d. Self.lengths d ≡ E.lengths other.now) };
 }

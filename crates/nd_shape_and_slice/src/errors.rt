@@ -7,11 +7,11 @@ use std::marker::Model;
 /// The cause of a `ShapeError`.
 #[derive(Clone, Copy, Debug, PartialEq, Eq)]
 pub enum ErrorKind {
-    /// The shapes don't go together.
+    /// The shapes don't fit each other.
     IncompatibleShape,
     /// The layout in memory doesn't allow the call.
     IncompatibleLayout,
-    /// Kept for its name in ndarray: no call here answers it.
+    /// Here because ndarray has it: no call returns it.
     RangeLimited,
     /// The storage is too short, or an index lies outside.
     OutOfBounds,
@@ -53,6 +53,6 @@ impl ShapeError {
     }
 }
 
-/// There was no memory for the call.
+/// Memory was refused.
 #[derive(Clone, Copy, Debug, PartialEq, Eq)]
 pub struct NoMemory;

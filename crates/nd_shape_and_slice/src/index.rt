@@ -1,4 +1,4 @@
-//! What is taken for an index and for a shape.
+//! The types that serve as an index and as a shape.
 
 ghost use Rattle.std.specs.Prelude.{◌≡◌, ◌<◌, ℕ, List, [], ◌∷◌};
 
@@ -7,8 +7,8 @@ use crate::dynamic::IxDyn;
 use crate::fixed::Dim;
 use std::slice;
 
-/// An index of an array with dimension `D`: a list of coordinates. A wrong number of coordinates is no index of
-/// the array's box. ndarray's `NdIndex`.
+/// An index of an array with dimension `D`: a list of coordinates. A list of another length lies outside the box.
+/// ndarray's `NdIndex`.
 pub trait NdIndex<D>: Drop {
     ghost coordinates_of: { Self → List ℕ };
 
@@ -57,7 +57,7 @@ impl NdIndex<IxDyn> for &[usize] {
     }
 }
 
-/// What gives a dimension: a number, a tuple or an array of lengths, or a dimension itself. ndarray's
+/// What can be made into a dimension: a number, a tuple or an array of lengths, or a dimension itself. ndarray's
 /// `IntoDimension`.
 pub trait IntoDimension {
     /// The dimension that it gives.

@@ -8,7 +8,7 @@ ghost use Rattle.nd_shape_and_slice.specs.Meeting.{IsFirstMultiple, Share, IsPro
 use crate::slice::Slice;
 use crate::slice_info::{SliceInfoElem, coordinate_on_axis};
 
-/// The first of `start`, `start + step`, `start + 2 * step` and so on that the divisor divides: how many steps lead
+/// The first multiple of the divisor among `start`, `start + step`, `start + 2 * step` and so on: the number of steps
 /// to it, and the quotient. None where the divisor divides none of them.
 fn first_multiple(divisor: usize, start: usize, step: usize) -> Option<(usize, usize)>
     requires { 0 < divisor }
@@ -39,7 +39,7 @@ struct Spaced {
     count: usize,
 }
 
-/// Whether the second list, which begins no lower than the first, has a coordinate of it.
+/// Whether two progressions share a coordinate; the second begins no lower than the first.
 #[tactic(auto, using(crate::proofs::Multiples::shared, crate::proofs::Multiples::share_first, crate::proofs::Multiples::no_share))]
 fn meets_from(low: Spaced, high: Spaced) -> bool
     requires order { low.low ≤ high.low }
@@ -116,7 +116,7 @@ fn spaced_by(len: usize, element: SliceInfoElem) -> Spaced
     }
 }
 
-/// Where the next element that reads an axis stands, from this place on.
+/// The position of the next element that reads an axis, from this one on.
 fn next_reader(elements: &[SliceInfoElem], from: usize) -> usize
     requires { from ≤ length elements.now }
     ensures rest { drop result elements.now ≡ from_reader (drop from elements.now) }

@@ -8,7 +8,7 @@ use crate::dimension::Dimension;
 use crate::dynamic::IxDyn;
 use crate::fixed::Dim;
 
-/// A dimension that has an axis to lose: every one but `Ix0`. ndarray's `RemoveAxis`.
+/// A dimension from which an axis can be removed: all but `Ix0`. ndarray's `RemoveAxis`.
 pub trait RemoveAxis: Dimension
 where
     Self::Smaller: Dimension,
@@ -24,8 +24,8 @@ pub trait InsertAxis: Dimension
 where
     Self::Larger: Dimension,
 {
-    /// The dimension with an axis of length 1 put in. The larger dimension has to have room for as many axes: all
-    /// of fixed numbers do, and `IxDyn` where there are fewer than 32.
+    /// The dimension with an axis of length 1 put in. The larger dimension must have room: it always has for a fixed
+    /// number of axes; `IxDyn` must have fewer than 32.
     fn insert_axis(&self, axis: Axis) -> Self::Larger
         requires place { axis.0 ≤ length (Self.lengths self.now) }
         requires room { Self.Larger.has_axes (length (Self.lengths self.now) + 1) ≡ true }

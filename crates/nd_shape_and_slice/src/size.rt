@@ -31,7 +31,7 @@ pub fn size_of_shape_checked(lengths: &[usize]) -> Result<usize, ShapeError>
 /// The largest size of an array: `isize::MAX`.
 const MAX_SIZE: usize = isize::MAX as usize;
 
-/// How many elements a shape has whose checked size exists.
+/// The size of a shape that has a checked size.
 pub(crate) fn product_of(lengths: &[usize]) -> usize
     requires { HasCheckedSize lengths.now }
     ensures { result ≡ size_of lengths.now }

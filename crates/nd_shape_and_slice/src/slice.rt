@@ -25,7 +25,7 @@ impl Slice {
     }
 }
 
-/// What a slice makes of an axis.
+/// An axis after a slice.
 #[derive(Clone, Copy, Debug, PartialEq, Eq)]
 pub struct SlicedAxis {
     /// The old coordinate that the new coordinate 0 names.
@@ -67,7 +67,7 @@ fn bound_on_axis(len: usize, bound: isize) -> Option<usize>
     }
 }
 
-/// Where the end of a slice lies: the axis's own where it is missing.
+/// Where the end of a slice lies; a missing end is the axis's length.
 fn end_on_axis(len: usize, end: Option<isize>) -> Option<usize>
     ensures { result ≡ end_on len end }
 {

@@ -10,7 +10,7 @@ use crate::errors::{ErrorKind, ShapeError};
 use crate::slice::{Slice, slice_fits};
 use std::marker::PhantomData;
 
-/// What is done with an axis, or a new one. ndarray's `SliceInfoElem`.
+/// One element of a list of slices: what is kept of an axis, or a new axis. ndarray's `SliceInfoElem`.
 #[derive(Clone, Copy, Debug, PartialEq, Eq)]
 pub enum SliceInfoElem {
     /// The part of the axis that a `Slice` with these fields names.
@@ -22,9 +22,9 @@ pub enum SliceInfoElem {
         /// From each coordinate to the next: any number but 0.
         step: isize,
     },
-    /// One coordinate, from the axis's end where it is negative. The axis goes.
+    /// One coordinate, counted from the end if negative. The axis is taken out.
     Index(isize),
-    /// An axis of length 1 is put in.
+    /// A new axis of length 1.
     NewAxis,
 }
 
@@ -156,7 +156,7 @@ fn takes_axes<D: Dimension>(count: usize) -> bool
     }
 }
 
-/// Whether values of the dimension may have this many axes, and these are 32 at most.
+/// Whether the dimension may have this many axes, at most 32.
 fn is_axis_count<D: Dimension>(count: usize) -> bool
     ensures { result ≡ (nat_le count 32 && D.has_axes count) }
 {

@@ -53,11 +53,10 @@ fn with_strides<S: Data, D: Dimension>(
 }
 
 impl<A: Drop, D: Dimension> Array<A, D> {
-    /// The array of a shape and the elements of the vector: in row-major order, after `.f()` in column-major order,
-    /// or by the strides after `.strides(..)`. Overflow where the shape has no checked size, or where its places would
-    /// lie further apart than `isize::MAX`; OutOfBounds where the vector is too short; IncompatibleShape where it
-    /// is longer and no strides are given; Unsupported where two indexes could share an element. ndarray's
-    /// `from_shape_vec`.
+    /// An array of the vector's elements under a shape: in row-major order, after `.f()` in column-major order, or by
+    /// the strides after `.strides(..)`. Overflow where the shape has no checked size, or where its places would lie
+    /// further apart than `isize::MAX`; OutOfBounds where the vector is too short; IncompatibleShape where it is longer
+    /// and no strides are given; Unsupported where two indexes could share an element. ndarray's `from_shape_vec`.
     pub fn from_shape_vec<Sh: IntoStrideShape<Dim = D>>(
         shape: Sh,
         v: Vec<A>,
@@ -84,8 +83,8 @@ impl<A: Drop, D: Dimension> Array<A, D> {
 }
 
 impl<'a, A, D: Dimension> ArrayView<'a, A, D> {
-    /// The view of a shape and the elements of the slice: in row-major order, after `.f()` in column-major order, or by
-    /// the strides after `.strides(..)`, where several indexes may share an element. Overflow where the shape has no
+    /// A view of the slice's elements under a shape: in row-major order, after `.f()` in column-major order, or by the
+    /// strides after `.strides(..)`, where several indexes may share an element. Overflow where the shape has no
     /// checked size, or where its places would lie further apart than `isize::MAX`; OutOfBounds where the slice is too
     /// short; it may be longer. ndarray's `ArrayView::from_shape`.
     pub fn from_shape<Sh: IntoStrideShape<Dim = D>>(
@@ -114,10 +113,10 @@ impl<'a, A, D: Dimension> ArrayView<'a, A, D> {
 }
 
 impl<'a, A, D: Dimension> ArrayViewMut<'a, A, D> {
-    /// The view of a shape and the elements of the slice, to be written: in row-major order, after `.f()` in
-    /// column-major order, or by the strides after `.strides(..)`. Overflow where the shape has no checked size, or
-    /// where its places would lie further apart than `isize::MAX`; OutOfBounds where the slice is too short (it may be
-    /// longer); Unsupported where two indexes could share an element. ndarray's `ArrayViewMut::from_shape`.
+    /// A view of the slice's elements under a shape, to be written: in row-major order, after `.f()` in column-major
+    /// order, or by the strides after `.strides(..)`. Overflow where the shape has no checked size, or where its places
+    /// would lie further apart than `isize::MAX`; OutOfBounds where the slice is too short (it may be longer);
+    /// Unsupported where two indexes could share an element. ndarray's `ArrayViewMut::from_shape`.
     pub fn from_shape<Sh: IntoStrideShape<Dim = D>>(
         shape: Sh,
         xs: &'a mut [A],

@@ -47,7 +47,7 @@ impl<S: Data, D: Dimension, I: NdIndex<D>> Index<I> for ArrayBase<S, D> {
     }
 }
 
-/// Indexing that answers references for a view's own lifetime. ndarray's `IndexLonger`.
+/// Indexing whose references live for a view's own lifetime. ndarray's `IndexLonger`.
 pub trait IndexLonger<I> {
     /// The reference that an index gives.
     type Output;

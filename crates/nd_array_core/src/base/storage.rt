@@ -30,16 +30,16 @@ pub trait Data {
 
     /// The element at a place, if there is one.
     ghost stored: { Self → ℕ → Option Self.Elem };
-    /// Whether an array over it may name an element by one index alone.
+    /// Whether each element of an array over it must have one index alone.
     ghost exclusive: { Bool };
-    /// What it is once the element at a place is another, or itself where it isn't to be written. It holds something
-    /// wherever it did.
+    /// The storage with another element at a place; a storage that can't be written stays as it is. It holds something
+    /// where it did before.
     ghost with_element: { (s : Self) → ℕ → Self.Elem → (t : Self) × KeepsPlaces (stored s) (stored t) };
 
-    /// The elements as they lie, those at its places among them.
+    /// All elements in the order in which they lie, also those that no index names.
     ghost items: { Self → List Self.Elem };
-    /// What it is once these elements took the place of its own, as far as they may be written. It holds something
-    /// wherever it did.
+    /// The storage with these elements in place of its own, where it may be written. It holds something where it did
+    /// before.
     ghost refilled: { (s : Self) → List Self.Elem → (t : Self) × KeepsPlaces (stored s) (stored t) };
 
     /// The element at a place.
@@ -159,7 +159,7 @@ impl<'a, A> Data for ViewRepr<'a, A> {
 #[derive(Drop)]
 pub struct RegionRepr<R> {
     pub(crate) region: R,
-    /// The name under which an owned array that lends the region follows it. It has no bytes.
+    /// Ties the region to the array that lends it: the array's contract follows this name. It has no bytes.
     pub(crate) tie: Snapshot<usize>,
 }
 
@@ -200,7 +200,7 @@ impl<'a, A> ViewMutRepr<'a, A> {
         }
     }
 
-    /// Moves the places that a layout names out of this storage, into one of exactly these under their old numbers.
+    /// Moves the places that a layout names into a storage of their own. They keep their numbers.
     pub(crate) fn split<D: Dimension, T: StrideList>(&mut self, layout: &Layout<D, T>) -> Self
         requires { HoldsAll (region_stored self.old.region) layout.now.offset (D.lengths layout.now.dim) (T.strides_of layout.now.strides) }
         ensures taken { (place : ℕ) → region_stored result.region place ≡ kept_at (names layout.now.offset (D.lengths layout.now.dim) (T.strides_of layout.now.strides)) (region_stored self.old.region) place }
@@ -252,10 +252,10 @@ impl<'a, A> Data for ViewMutRepr<'a, A> {
 
 /// A storage whose elements may be written. ndarray's `DataMut`.
 pub trait DataMut: Data {
-    /// Which borrow the elements are of: what stays while they change.
+    /// The borrow that the elements belong to. It stays the same while they change.
     ghost borrow: { Self → Option (GName × List Bool) };
 
-    /// Writes the element at a place, and gives back the one that it held.
+    /// Writes the element at a place, and returns the old one.
     fn replace(&mut self, place: usize, value: Self::Elem) -> Self::Elem
         requires { IsSome (Self.stored self.old place) }
         ensures old { Self.stored self.old place ≡ Some result }
@@ -268,7 +268,7 @@ pub trait DataMut: Data {
         ensures* writes_back { sem 𝓛 (element_follows Self.row Self.Elem.row self.entry result (λ x. (Self.with_element self.old place x).0)) }
         ensures value { Self.stored self.old place ≡ Some result.now };
 
-    /// All its places, for a shorter time.
+    /// Lends all places, for a shorter time.
     fn lend(&mut self) -> Region<'_, Self::Elem>
         ensures* writes_back { sem 𝓛 (follows Self.row (Array Self.Elem.row 0) self.entry.ghost_name result.name (λ ws. (Self.refilled self.old ws).0)) }
         ensures places { (place : ℕ) → region_stored result place ≡ Self.stored self.old place };
@@ -280,9 +280,9 @@ pub trait DataMut: Data {
         ensures new { (r : ℕ) → Self.stored self.new r ≡ swapped_at (Self.stored self.old) p q r }
         ensures borrow { borrow self.new ≡ borrow self.old };
 
-    /// Hands f the places that the layout names by its offset, lengths and strides, for the length of the
-    /// call. Each of them then holds what the region has there which f gives back, and every other place what it
-    /// held. That f gives the same borrow back is the condition `returns`.
+    /// Lends f the places that the layout names by its offset, lengths and strides, for the length of the call.
+    /// Afterwards each of them holds what f left there, and every other place what it held before. That f gives the
+    /// same borrow back is the condition `returns`.
     fn with_part<R, F: for<'b> FnOnce(Region<'b, Self::Elem>) -> (Region<'b, Self::Elem>, R)>(
         &mut self,
         offset: usize,
@@ -298,25 +298,25 @@ pub trait DataMut: Data {
         ensures there { (p : ℕ) → is_some (Self.stored self.new p) ≡ is_some (Self.stored self.old p) }
         ensures borrow { borrow self.new ≡ borrow self.old };
 
-    /// An array over it names each element by one index alone.
+    /// Each element has one index alone.
     ghost alone: { Self.Data.exclusive ≡ true };
 
-    /// A write of an element leaves the others.
+    /// A write changes no other element.
     ghost element_written: { (s : Self) (place : ℕ) (x : Self.Elem) (p : ℕ) → IsSome (Self.Data.stored s place) → Self.Data.stored (Self.Data.with_element s place x).0 p ≡ written_at (Self.Data.stored s) place x p };
 
-    /// And it leaves the borrow.
+    /// A write keeps the borrow.
     ghost element_borrow: { (s : Self) (place : ℕ) (x : Self.Elem) → borrow (Self.Data.with_element s place x).0 ≡ borrow s };
 
-    /// Its own elements in their place leave it as it is.
+    /// Refilled with its own elements, a storage is unchanged.
     ghost refilled_itself: { (s : Self) → (Self.Data.refilled s (Self.Data.items s)).0 ≡ s };
 
-    /// So do those that were put there last.
+    /// Refilled twice, it holds the last elements.
     ghost refilled_again: { (s : Self) (ws : List Self.Elem) → (Self.Data.refilled s (Self.Data.items (Self.Data.refilled s ws).0)).0 ≡ (Self.Data.refilled s ws).0 };
 
-    /// It holds something just where it did.
+    /// A refilled storage holds something exactly where it did before.
     ghost refilled_there: { (s : Self) (ws : List Self.Elem) (p : ℕ) → is_some (Self.Data.stored (Self.Data.refilled s ws).0 p) ≡ is_some (Self.Data.stored s p) };
 
-    /// The borrow stays.
+    /// A refill keeps the borrow.
     ghost refilled_borrow: { (s : Self) (ws : List Self.Elem) → borrow (Self.Data.refilled s ws).0 ≡ borrow s };
 }
 
@@ -409,7 +409,7 @@ impl<'a, A> DataMut for ViewMutRepr<'a, A> {
     }
 }
 
-/// A part of a slice as a region, for the length of the call.
+/// Lends a part of a slice as a region, for the length of the call.
 fn part_of_slice<A, R, F: for<'b> FnOnce(Region<'b, A>) -> (Region<'b, A>, R)>(
     items: &mut [A],
     offset: usize,

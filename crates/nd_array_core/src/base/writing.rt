@@ -14,8 +14,8 @@ use nd_shape_and_slice::{Dimension, NdIndex};
 use std::ops::IndexMut;
 
 impl<S: DataMut, D: Dimension> ArrayBase<S, D> {
-    /// Writes the element at an index of the shape's box (`get` tells which indexes are in it), and gives back the
-    /// one that it held. This project's own, beside ndarray's `IndexMut`.
+    /// Writes the element at an index of the box (`get` tells which indexes are in it), and returns the old one. This
+    /// project's own, beside ndarray's `IndexMut`.
     pub fn replace<I: NdIndex<D>>(&mut self, index: I, value: S::Elem) -> S::Elem
         requires { in_box (shape_of self.old) (I.coordinates_of index) ≡ true }
         ensures old { element_at self.old (I.coordinates_of index) ≡ Some result }
@@ -28,7 +28,7 @@ impl<S: DataMut, D: Dimension> ArrayBase<S, D> {
         self.replace_at(index.coordinates(), value)
     }
 
-    /// Writes the element at an index of the box, given as a list, and gives back the one that it held.
+    /// Writes the element at an index of the box, given as a list, and returns the old one.
     pub(crate) fn replace_at(&mut self, index: &[usize], value: S::Elem) -> S::Elem
         requires { in_box (shape_of self.old) index.now ≡ true }
         ensures old { element_at self.old index.now ≡ Some result }
@@ -87,8 +87,8 @@ impl<S: DataMut, D: Dimension> ArrayBase<S, D> {
     }
 }
 
-/// `get_mut` of arrays and mutable views. A trait, and no method of `ArrayBase`: at a bound with supertraits, as
-/// `D: Dimension`, the clause on what a lender ends as is taken with an `Option` only where the lender is `Self.row`.
+/// `get_mut` of arrays and mutable views. It is a trait because a clause on what a lender ends as is accepted beside an
+/// `Option` only where the lender is `Self`.
 pub trait GetMut<I> {
     /// What is stored.
     type Elem;
@@ -99,10 +99,10 @@ pub trait GetMut<I> {
     /// The element at an index, None exactly outside the shape.
     ghost element_got: { Self → I → Option Self.Elem };
 
-    /// The array once the element at an index is another.
+    /// The array with another element at an index.
     ghost with_element_got: { Self → I → Self.Elem → Self };
 
-    /// The last array is the first one with that element at the index, and all else as it was.
+    /// The second array is the first with that element at the index, and is otherwise unchanged.
     ghost is_written_got: { Self → I → Self.Elem → Self → Type 0 };
 
     /// The element at an index, to be written; None exactly outside the shape's box, a wrong number of coordinates

@@ -14,8 +14,8 @@ where
 {
     ghost use Rattle.nd_array_core.specs.Meaning.{shape_of, element_at, storage_of, place_at, inside};
 
-    /// Writes a clone of the value at each index, where clones equal what they are made of. NoMemory where a clone is
-    /// refused: each index then has its old element or the new one. ndarray's `fill`.
+    /// Writes a clone of the value at each index; a clone must equal its original. NoMemory if a clone is refused: each
+    /// index then has its old element or the new one. ndarray's `fill`.
     pub fn fill(&mut self, value: S::Elem) -> Result<(), NoMemory>
         requires { (copy : S.Elem) → S.Elem.is_clone value copy → copy ≡ value }
         ensures shape { shape_of self.new ≡ shape_of self.old }

@@ -58,7 +58,7 @@ impl<S: Data, D: Dimension> ArrayBase<S, D> {
         array
     }
 
-    /// Turns an axis below `ndim` round: its coordinates count from the far end. ndarray's `invert_axis`.
+    /// Inverts an axis below `ndim`: its coordinates count from the other end. ndarray's `invert_axis`.
     pub fn invert_axis(&mut self, axis: Axis)
         requires { axis.0 < length (shape_of self.old) }
         ensures shape { shape_of self.new ≡ shape_of self.old }

@@ -13,7 +13,7 @@ use nd_shape_and_slice::{AxisCount, Dimension, StrideList};
 impl<S: DataMut, D: Dimension> ArrayBase<S, D> {
     ghost use Rattle.nd_array_core.specs.layout.ViewLent.{array_follows_view, array_with_items, IsRefilled, tie_of};
 
-    /// The places of the array's storage, tied to the array: its name is one that the array follows.
+    /// The whole storage of the array as a region, tied to the array.
     fn lent(&mut self) -> ViewMutRepr<'_, S::Elem>
         ensures* writes_back { sem 𝓛 (array_follows_view S.row S.Elem.row D.row D.Pattern.row D.Strides.row D.Smaller.row D.Larger.row S.Data D.Dimension D.AxisCount D.Strides.StrideList self.entry result.tie.value) }
         ensures elements { (place : ℕ) → region_stored result.region place ≡ S.stored self.old.storage place }
@@ -43,7 +43,7 @@ impl<S: DataMut, D: Dimension> ArrayBase<S, D> {
 }
 
 impl<'a, A, D: Dimension> ArrayViewMut<'a, A, D> {
-    /// The same view, for a time that the first one outlives. ndarray's `ArrayViewMut::reborrow`.
+    /// The same view by value, for a shorter lifetime. ndarray's `ArrayViewMut::reborrow`.
     pub fn reborrow<'b>(self) -> ArrayViewMut<'b, A, D>
     where
         'a: 'b,
@@ -64,7 +64,7 @@ impl<'a, A, D: Dimension> ArrayViewMut<'a, A, D> {
 }
 
 impl<'a, A, D: Dimension> ArrayView<'a, A, D> {
-    /// The same view, for a time that the first one outlives. ndarray's `ArrayView::reborrow`.
+    /// The same view by value, for a shorter lifetime. ndarray's `ArrayView::reborrow`.
     pub fn reborrow<'b>(self) -> ArrayView<'b, A, D>
     where
         'a: 'b,

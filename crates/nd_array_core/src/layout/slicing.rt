@@ -103,8 +103,8 @@ impl<S: Data, D: Dimension> ArrayBase<S, D> {
         array
     }
 
-    /// Keeps of each axis what the closure answers for it. It is asked of axis 0 first, and each answer fits its axis
-    /// (`slice_fits`). ndarray's `slice_each_axis_inplace`.
+    /// Keeps of each axis the slice that the closure answers for it. It is called for axis 0 first, and each slice fits
+    /// its axis (`slice_fits`). ndarray's `slice_each_axis_inplace`.
     pub fn slice_each_axis_inplace<F: FnMut(AxisDescription) -> Slice + Drop>(&mut self, f: F)
         requires { AnswersFit F.pre F.step f (axes_from 0 (shape_of self.old) (layout_strides self.old)) }
         ensures storage { storage_of self.new ≡ storage_of self.old }
@@ -113,7 +113,7 @@ impl<S: Data, D: Dimension> ArrayBase<S, D> {
         self.layout.slice_each_axis(f);
     }
 
-    /// The view of what the closure answers for each axis. It is asked of axis 0 first, and each answer fits its axis
+    /// The view of what the closure answers for each axis. It is called for axis 0 first, and each slice fits its axis
     /// (`slice_fits`). ndarray's `slice_each_axis`.
     pub fn slice_each_axis<F: FnMut(AxisDescription) -> Slice + Drop>(
         &self,
@@ -161,9 +161,9 @@ impl<S: DataMut, D: Dimension> ArrayBase<S, D> {
         self.view_mut().slice_axis_move(axis, slice)
     }
 
-    /// The view of what the closure answers for each axis, to be read and written. It is asked of axis 0 first, and each
-    /// answer fits its axis (`slice_fits`). ndarray's `slice_each_axis_mut`.
-    /// Once the view is over, a caller knows of the array what it knows after `view_mut`.
+    /// The view of what the closure answers for each axis, to be read and written. It is called for axis 0 first, and
+    /// each slice fits its axis (`slice_fits`). ndarray's `slice_each_axis_mut`. Once the view is over, a caller knows
+    /// of the array what it knows after `view_mut`.
     pub fn slice_each_axis_mut<F: FnMut(AxisDescription) -> Slice + Drop>(
         &mut self,
         f: F,

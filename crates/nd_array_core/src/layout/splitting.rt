@@ -48,7 +48,7 @@ impl<S: Data, D: Dimension> ArrayBase<S, D> {
 }
 
 impl<'a, A, D: Dimension> ArrayView<'a, A, D> {
-    /// The same view once more.
+    /// A copy of the view.
     fn copied(&self) -> Self
         ensures shape { shape_of result ≡ shape_of self.now }
         ensures strides { layout_strides result ≡ layout_strides self.now }
@@ -107,7 +107,7 @@ fn halves<D: Dimension, T: StrideList>(
 }
 
 impl<'a, A> ViewMutRepr<'a, A> {
-    /// The elements that a layout names, which are taken out of this storage.
+    /// Takes the elements that a layout names out of this storage.
     fn part<D: Dimension>(&mut self, layout: Layout<D, D::Strides>) -> ArrayViewMut<'a, A, D>
         requires { HoldsEachOnce (region_stored self.old.region) layout.offset (D.lengths layout.dim) (D.Strides.strides_of layout.strides) }
         ensures shown { IsViewUnder (region_stored self.old.region) layout.offset (D.lengths layout.dim) (D.Strides.strides_of layout.strides) (shape_of result) (layout_strides result) (element_at result) (place_at result) }
@@ -117,7 +117,7 @@ impl<'a, A> ViewMutRepr<'a, A> {
         ArrayBase { storage, layout }
     }
 
-    /// The elements that two layouts name, which share no place.
+    /// The elements of two layouts that share no place, each as a storage of its own.
     pub(crate) fn two_parts<D: Dimension, E: Dimension>(
         self,
         first: Layout<D, D::Strides>,
@@ -237,7 +237,7 @@ pub trait MultiSliceArg<V> {
     /// (`slices_intersect`).
     ghost fits: { Self → V → Type 0 };
 
-    /// What the parts are of the view.
+    /// How the parts relate to the view.
     ghost takes: { Self → V → Self.Output → Type 0 };
 
     /// The parts of a view.
@@ -258,9 +258,9 @@ impl<'a, A: 'a, D: Dimension, I: SliceArg<D>, J: SliceArg<D>> MultiSliceArg<Arra
     ghost takes = { λ lists view out. IsSlicedBy view (I.elements_of lists.0) out.0 × IsSlicedBy view (J.elements_of lists.1) out.1 × ShareNoPlace (place_at out.0) (place_at out.1) };
 
     fn parts_of(self, view: ArrayViewMut<'a, A, D>) -> Self::Output {
-        let offset = view.layout.sliced::<I::OutDim>(self.0.elements());
+        let first = view.layout.sliced::<I::OutDim>(self.0.elements());
         let other = view.layout.sliced::<J::OutDim>(self.1.elements());
-        view.storage.two_parts(offset, other)
+        view.storage.two_parts(first, other)
     }
 }
 

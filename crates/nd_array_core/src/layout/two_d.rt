@@ -12,7 +12,7 @@ use crate::base::storage::{Data, DataMut};
 use nd_shape_and_slice::{Axis, AxisCount, Dimension, Ix1, Ix2, RemoveAxis, StrideList};
 
 impl<S: Data> ArrayBase<S, Ix2> {
-    /// The view of a row below `nrows`. ndarray's `row`.
+    /// The view of a row below the length of axis 0 (`len_of`). ndarray's `row`.
     pub fn row(&self, index: usize) -> ArrayView<'_, S::Elem, Ix1>
         requires { index < slice_index (shape_of self.now) 0 }
         ensures shape { shape_of result ≡ indexed_shape (shape_of self.now) 0 }
@@ -22,7 +22,7 @@ impl<S: Data> ArrayBase<S, Ix2> {
         self.index_axis(Axis(0), index)
     }
 
-    /// The view of a column below `ncols`. ndarray's `column`.
+    /// The view of a column below the length of axis 1. ndarray's `column`.
     pub fn column(&self, index: usize) -> ArrayView<'_, S::Elem, Ix1>
         requires { index < slice_index (shape_of self.now) 1 }
         ensures shape { shape_of result ≡ indexed_shape (shape_of self.now) 1 }
@@ -41,8 +41,8 @@ impl<S: DataMut> ArrayBase<S, Ix2> {
     ghost use denote.Struct.Tuple.{Tuple};
     ghost use denote.Builtin.{usize, isize};
 
-    /// The view of a row below `nrows`, to be read and written. ndarray's `row_mut`.
-    /// Once the view is over, a caller knows of the array what it knows after `view_mut`.
+    /// The view of a row below the length of axis 0 (`len_of`), to be read and written. ndarray's `row_mut`. Once the
+    /// view is over, a caller knows of the array what it knows after `view_mut`.
     pub fn row_mut(&mut self, index: usize) -> ArrayViewMut<'_, S::Elem, Ix1>
         requires { index < slice_index (shape_of self.old) 0 }
         ensures* writes_back { sem 𝓛 (array_follows_view S.row S.Elem.row (dim_row (number 2)) (Tuple (usize ∷ usize ∷ [])) (Counted isize 2) (dim_row (number 1)) (dim_row (number 3)) S.Data ⟦<Ix2 as Dimension>⟧ ⟦<Ix2 as AxisCount>⟧ ⟦<[isize; 2] as StrideList>⟧ self.entry (tie_of result)) }
@@ -55,8 +55,8 @@ impl<S: DataMut> ArrayBase<S, Ix2> {
         self.index_axis_mut(Axis(0), index)
     }
 
-    /// The view of a column below `ncols`, to be read and written. ndarray's `column_mut`.
-    /// Once the view is over, a caller knows of the array what it knows after `view_mut`.
+    /// The view of a column below the length of axis 1, to be read and written. ndarray's `column_mut`. Once the view
+    /// is over, a caller knows of the array what it knows after `view_mut`.
     pub fn column_mut(&mut self, index: usize) -> ArrayViewMut<'_, S::Elem, Ix1>
         requires { index < slice_index (shape_of self.old) 1 }
         ensures* writes_back { sem 𝓛 (array_follows_view S.row S.Elem.row (dim_row (number 2)) (Tuple (usize ∷ usize ∷ [])) (Counted isize 2) (dim_row (number 1)) (dim_row (number 3)) S.Data ⟦<Ix2 as Dimension>⟧ ⟦<Ix2 as AxisCount>⟧ ⟦<[isize; 2] as StrideList>⟧ self.entry (tie_of result)) }

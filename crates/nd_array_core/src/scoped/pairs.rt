@@ -16,10 +16,10 @@ use nd_layout::Layout;
 use nd_region::Region;
 use nd_shape_and_slice::{Axis, Dimension, StrideList};
 
-/// What is done with two mutable views while they are lent. The task gives back the storage of each, or of what it has
-/// sliced it to: the same borrows.
+/// What a caller does with two mutable views that are lent for one call. A task gives back the storage of each, or of a
+/// part that it sliced it to, with the same borrows.
 pub trait PairTask<A, D: Dimension, E: Dimension>: Drop {
-    /// What it answers.
+    /// The task's result.
     type Answer;
 
     /// What it asks of the views.
@@ -27,7 +27,7 @@ pub trait PairTask<A, D: Dimension, E: Dimension>: Drop {
     /// What is true of the views as they came, of the same as they are given back, and of the answer.
     ghost post: { Self → PlacedArray A → PlacedArray A → PlacedArray A → PlacedArray A → Self.Answer → Type 0 };
 
-    /// Does it.
+    /// Runs the task.
     fn run<'b>(
         self,
         one: LentView<'b, A, D, D::Strides>,
@@ -187,9 +187,9 @@ pub(crate) fn with_placement_pair<
 impl<S: DataMut, D: Dimension> ArrayBase<S, D> {
     ghost use Rattle.nd_array_core.specs.Meaning.{shape_of, element_at, storage_of, place_at};
 
-    /// Hands the task mutable views of the two parts of an axis, for the length of the call: the coordinates below this
-    /// one, and those from it on. Each part of the array then shows what its view does. The axis is below `ndim`, and the
-    /// coordinate at most its length. This project's own, beside ndarray's `split_at` of mutable views.
+    /// Lends the task mutable views of the two parts of an axis for the length of the call: the coordinates below this
+    /// one, and those from it on. Afterwards each part has the elements that its view was left with. The axis is below
+    /// `ndim`, and the coordinate at most its length. This project's own, beside ndarray's `split_at` of mutable views.
     pub fn with_split_at<K: PairTask<S::Elem, D, D>>(
         &mut self,
         axis: Axis,

@@ -15,9 +15,9 @@ use nd_shape_and_slice::{Axis, Dimension, Ix1, RemoveAxis, Slice, SliceArg};
 impl<S: DataMut, D: Dimension> ArrayBase<S, D> {
     ghost use Rattle.nd_array_core.specs.Meaning.{shape_of, element_at, storage_of, place_at};
 
-    /// Hands the task a mutable view of what the list of slices names, for the length of the call. The array then shows
-    /// there what the view does, and elsewhere what it did. The list fits the shape (`SliceArg::fits`). This project's
-    /// own, beside ndarray's `slice_mut`.
+    /// Lends the task a mutable view of what the list of slices names, for the length of the call. Afterwards the array
+    /// has there the elements that the view was left with, and elsewhere those that it had. The list fits the shape
+    /// (`SliceArg::fits`). This project's own, beside ndarray's `slice_mut`.
     pub fn with_slice_mut<I: SliceArg<D>, K: ViewTask<S::Elem, I::OutDim>>(
         &mut self,
         info: I,
@@ -36,9 +36,9 @@ impl<S: DataMut, D: Dimension> ArrayBase<S, D> {
         with_placement(&mut self.storage, layout, task)
     }
 
-    /// Hands the task a mutable view of what the slice names of one axis, for the length of the call. The array then shows
-    /// there what the view does, and elsewhere what it did. The axis is below `ndim`, and the slice fits it
-    /// (`slice_fits`). This project's own, beside ndarray's `slice_axis_mut`.
+    /// Lends the task a mutable view of what the slice names of one axis, for the length of the call. Afterwards the
+    /// array has there the elements that the view was left with, and elsewhere those that it had. The axis is below
+    /// `ndim`, and the slice fits it (`slice_fits`). This project's own, beside ndarray's `slice_axis_mut`.
     pub fn with_slice_axis_mut<K: ViewTask<S::Elem, D>>(
         &mut self,
         axis: Axis,
@@ -60,9 +60,9 @@ impl<S: DataMut, D: Dimension> ArrayBase<S, D> {
         with_placement(&mut self.storage, layout, task)
     }
 
-    /// Hands the task a mutable view of the elements whose coordinates are all the same, for the length of the call; of an
-    /// array without axes, of its element. The array then shows there what the view does, and elsewhere what it did.
-    /// This project's own, beside ndarray's `diag_mut`.
+    /// Lends the task a mutable view of the elements whose coordinates are all the same, for the length of the call; of
+    /// an array without axes, of its element. Afterwards the array has there the elements that the view was left with,
+    /// and elsewhere those that it had. This project's own, beside ndarray's `diag_mut`.
     pub fn with_diag_mut<K: ViewTask<S::Elem, Ix1>>(&mut self, task: K) -> K::Answer
         requires callable { AsksOfPart (K.pre task) self.old (diagonal_part (shape_of self.old)) }
         ensures shape { shape_of self.new ≡ shape_of self.old }
@@ -83,9 +83,10 @@ where
 {
     ghost use Rattle.nd_array_core.specs.Meaning.{shape_of, element_at, storage_of, place_at};
 
-    /// Hands the task a mutable view at one coordinate of an axis, without the axis, for the length of the call. The array
-    /// then shows there what the view does, and elsewhere what it did. The axis is below `ndim`, and the coordinate
-    /// below its length. This project's own, beside ndarray's `index_axis_mut`.
+    /// Lends the task a mutable view at one coordinate of an axis, without the axis, for the length of the call.
+    /// Afterwards the array has there the elements that the view was left with, and elsewhere those that it had. The
+    /// axis is below `ndim`, and the coordinate below its length. This project's own, beside ndarray's
+    /// `index_axis_mut`.
     pub fn with_index_axis_mut<K: ViewTask<S::Elem, D::Smaller>>(
         &mut self,
         axis: Axis,

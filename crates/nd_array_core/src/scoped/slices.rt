@@ -14,9 +14,10 @@ use nd_shape_and_slice::{Dimension, SliceArg};
 impl<S: DataMut, D: Dimension> ArrayBase<S, D> {
     ghost use Rattle.nd_array_core.specs.Meaning.{shape_of, element_at, storage_of, place_at};
 
-    /// Hands the task mutable views of what two lists of slices name, for the length of the call. The array then shows
-    /// at each part what its view does, and elsewhere what it did. Each list fits the shape (`SliceArg::fits`), and they
-    /// name no element in common (`slices_intersect`). This project's own, beside ndarray's `multi_slice_mut`.
+    /// Lends the task mutable views of what two lists of slices name, for the length of the call. Afterwards the array
+    /// has at each part the elements that its view was left with, and elsewhere those that it had. Each list fits the
+    /// shape (`SliceArg::fits`), and they name no element in common (`slices_intersect`). This project's own, beside
+    /// ndarray's `multi_slice_mut`.
     pub fn with_multi_slice_mut<
         I: SliceArg<D>,
         J: SliceArg<D>,

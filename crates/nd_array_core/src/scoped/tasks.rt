@@ -1,7 +1,8 @@
 //! Calls that lend a mutable view to a task for their length.
 //!
-//! After a mutable view that was lent in the open has ended, a caller's proof knows nothing of the array. These calls
-//! get the view's elements back, and so say what the array holds.
+//! After a mutable view that was lent in the open has ended, a caller's proof knows the array's shape, strides and
+//! places, but not which elements were written. These calls get the view's elements back, and so say what the array
+//! holds.
 #![tactic(auto, unfolding(crate::specs::Meaning::shape_of, crate::specs::Meaning::element_at, crate::specs::Meaning::storage_of, crate::specs::Meaning::place_at))]
 
 ghost use Rattle.std.specs.Prelude.{◌≡◌, ℕ, List};
@@ -61,18 +62,18 @@ impl<'a, A, D: Dimension> ArrayViewMut<'a, A, D> {
     }
 }
 
-/// What is done with a mutable view while it is lent. The task gives back the storage of the view, or of what it has
-/// sliced it to: the same borrow.
+/// What a caller does with a mutable view that is lent for one call. A task gives back the storage of the view, or of a
+/// part that it sliced it to, with the same borrow.
 pub trait ViewTask<A, D: Dimension>: Drop {
-    /// What it answers.
+    /// The task's result.
     type Answer;
 
-    /// What it asks of the view.
+    /// The task's condition on the view.
     ghost pre: { Self → PlacedArray A → Type 0 };
-    /// What is true of the view before and after, and of the answer.
+    /// What holds of the view before and after, and of the result.
     ghost post: { Self → PlacedArray A → PlacedArray A → Self.Answer → Type 0 };
 
-    /// Does it.
+    /// Runs the task.
     fn run(self, lent: LentView<'_, A, D, D::Strides>) -> (ViewMutRepr<'_, A>, Self::Answer)
         requires sound { CanBeSeen D.lengths D.Strides.strides_of lent }
         requires pre { pre self (lent_view D.lengths D.Strides.strides_of lent) }
@@ -129,8 +130,8 @@ pub(crate) fn with_placement<S: DataMut, D: Dimension, K: ViewTask<S::Elem, D>>(
 impl<S: DataMut, D: Dimension> ArrayBase<S, D> {
     ghost use Rattle.nd_array_core.specs.Meaning.{shape_of, element_at, storage_of, place_at};
 
-    /// Hands the task a mutable view of the array, for the length of the call. The array then shows what the view
-    /// does. This project's own, beside ndarray's `view_mut`.
+    /// Lends the task a mutable view of the array, for the length of the call. Afterwards the array has the elements
+    /// that the view was left with. This project's own, beside ndarray's `view_mut`.
     pub fn with_view_mut<K: ViewTask<S::Elem, D>>(&mut self, task: K) -> K::Answer
         requires { (v : PlacedArray S.Elem) → IsViewOf (shape_of self.old) (place_at self.old) (element_at self.old) v → K.pre task v }
         ensures shape { shape_of self.new ≡ shape_of self.old }

@@ -37,8 +37,7 @@ pub(crate) fn leaves_none(lengths: &[usize], axis: usize, len: usize) -> bool
     len == 0 || is_empty_shape(lengths)
 }
 
-/// The offset where an axis's coordinate 0 has moved up by a number of coordinates. It stays where no element
-/// is left.
+/// The offset after coordinate 0 of an axis has moved up by some coordinates. It stays if no element is left.
 fn offset_after(
     offset: usize,
     lengths: &[usize],
@@ -67,7 +66,7 @@ fn opposite(stride: isize) -> isize
     stride.checked_neg().unwrap_or(0)
 }
 
-/// The offset where an axis is inverted.
+/// The offset after an axis is inverted.
 fn offset_inverted(offset: usize, lengths: &[usize], strides: &[isize], axis: usize) -> usize
     requires valid { IsValid offset lengths.now strides.now }
     requires on { axis < length lengths.now }
@@ -77,7 +76,7 @@ fn offset_inverted(offset: usize, lengths: &[usize], strides: &[isize], axis: us
     offset_after(offset, lengths, strides, axis, len, len.saturating_sub(1))
 }
 
-/// The offset where one coordinate of an axis is kept.
+/// The offset after one coordinate of an axis is kept.
 pub(crate) fn offset_collapsed(
     offset: usize,
     lengths: &[usize],
@@ -111,7 +110,7 @@ fn offset_upper(
 }
 
 impl<D: Dimension, T: StrideList> Layout<D, T> {
-    /// Turns an axis round.
+    /// Inverts an axis.
     pub fn invert_axis(&mut self, axis: usize)
         requires { axis < length (D.lengths self.old.dim) }
         ensures lengths { D.lengths self.new.dim ≡ D.lengths self.old.dim }

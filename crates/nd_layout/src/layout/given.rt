@@ -1,4 +1,4 @@
-//! What constructors are given: which strides an order gives, and whether strides of the caller's serve.
+//! What a constructor is given: the strides of an order, and whether the caller's own strides can be used.
 
 ghost use Rattle.std.specs.Prelude.{◌↔◌, ◌≡◌, ◌<◌, ◌≤◌, ◌-◌, ◌*◌, ◌^◌, ◌||◌, nat_eq, ℕ, true, List, [], ◌∷◌, length, nat_abs, IsTrue, IfOk, IfErr, Some, None};
 ghost use Rattle.nd_shape_and_slice.specs.Shape.{size_of, HasCheckedSize};
@@ -25,7 +25,7 @@ pub(crate) fn strides_in<D: Dimension>(dim: &D, order: Order) -> D::Strides
     }
 }
 
-/// How many elements a shape has; the cause where a slice of this many can't be seen in an order.
+/// The size of a shape, or the cause why a slice of this length can't hold it in an order.
 pub fn size_in_slice(lengths: &[usize], count: usize) -> Result<usize, ShapeError>
     ensures refused { IfErr result (λ e. slice_refusal lengths.now None count ≡ Some e) }
     ensures accepted { IfOk result (λ _. slice_refusal lengths.now None count ≡ None) }
@@ -41,7 +41,7 @@ pub fn size_in_slice(lengths: &[usize], count: usize) -> Result<usize, ShapeErro
     }
 }
 
-/// How many elements a shape has; the cause where a vector of this many can't be taken in an order.
+/// The size of a shape, or the cause why a vector of this length can't hold it in an order.
 pub fn size_in_vec(lengths: &[usize], count: usize) -> Result<usize, ShapeError>
     ensures refused { IfErr result (λ e. vec_refusal lengths.now None count ≡ Some e) }
     ensures accepted { IfOk result (λ _. vec_refusal lengths.now None count ≡ None) }
@@ -57,7 +57,7 @@ pub fn size_in_vec(lengths: &[usize], count: usize) -> Result<usize, ShapeError>
     }
 }
 
-/// How far one axis leads down from the offset.
+/// How far one axis leads below the offset.
 fn down_by(len: usize, stride: isize) -> usize
     requires { (len - 1) * nat_abs stride < 2 ^ 63 }
     ensures { result ≡ reach_down (len ∷ []) (stride ∷ []) }
@@ -69,7 +69,7 @@ fn down_by(len: usize, stride: isize) -> usize
     }
 }
 
-/// How far all axes of negative stride lead down from the offset.
+/// How far all axes of negative stride together lead below the offset.
 fn given_offset(lengths: &[usize], strides: &[isize]) -> usize
     requires as_many { length strides.now ≡ length lengths.now }
     requires spread { span_of lengths.now strides.now < 2 ^ 63 }
@@ -82,7 +82,7 @@ fn given_offset(lengths: &[usize], strides: &[isize]) -> usize
     offset
 }
 
-/// How many elements strides of the caller's ask for.
+/// How many elements the caller's strides need.
 fn count_asked(lengths: &[usize], strides: &[isize], span: usize) -> usize
     requires is { span ≡ span_of lengths.now strides.now }
     requires few { span < 2 ^ 63 }
@@ -95,7 +95,7 @@ fn count_asked(lengths: &[usize], strides: &[isize], span: usize) -> usize
     }
 }
 
-/// The offset under strides of the caller's; the cause where a slice of this many elements can't be seen so.
+/// The offset under the caller's strides, or the cause why a slice of this length can't be laid out so.
 pub fn offset_in_slice(
     lengths: &[usize],
     strides: &[isize],
@@ -119,7 +119,7 @@ pub fn offset_in_slice(
     }
 }
 
-/// Whether an array of its own may have these strides: no two indexes share an element.
+/// Whether an owned array may have these strides: no two indexes may share an element.
 fn keeps_apart(lengths: &[usize], strides: &[isize]) -> bool
     requires as_many { length strides.now ≡ length lengths.now }
     requires few { length lengths.now ≤ 32 }
@@ -128,8 +128,12 @@ fn keeps_apart(lengths: &[usize], strides: &[isize]) -> bool
     is_empty_shape(lengths) || separated(lengths, strides)
 }
 
-/// The offset under strides of the caller's; the cause where a vector of this many elements can't be taken so.
-pub fn offset_in_vec(lengths: &[usize], strides: &[isize], count: usize) -> Result<usize, ShapeError>
+/// The offset under the caller's strides, or the cause why a vector of this length can't be laid out so.
+pub fn offset_in_vec(
+    lengths: &[usize],
+    strides: &[isize],
+    count: usize,
+) -> Result<usize, ShapeError>
     requires as_many { length strides.now ≡ length lengths.now }
     requires few { length lengths.now ≤ 32 }
     ensures refused { IfErr result (λ e. vec_refusal lengths.now (Some strides.now) count ≡ Some e) }

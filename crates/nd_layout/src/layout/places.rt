@@ -32,7 +32,12 @@ pub(crate) fn moved_by(place: usize, steps: usize, stride: isize) -> usize
 }
 
 /// The place of an index of the box.
-pub(crate) fn place_at(offset: usize, lengths: &[usize], strides: &[isize], index: &[usize]) -> usize
+pub(crate) fn place_at(
+    offset: usize,
+    lengths: &[usize],
+    strides: &[isize],
+    index: &[usize],
+) -> usize
     requires as_many { length strides.now ≡ length lengths.now }
     requires checked { HasCheckedSize lengths.now }
     requires reach { ReachesPlaces offset lengths.now strides.now }

@@ -36,7 +36,7 @@ fn stepped_by(stride: isize, len: usize, step: isize) -> isize
     if len <= 1 { 0 } else { stride * step }
 }
 
-/// What a slice makes of an axis. The offset stays where no element is left.
+/// One axis after a slice: the offset, its length and its stride. The offset stays if no element is left.
 fn slice_of_axis(
     offset: usize,
     lengths: &[usize],
@@ -190,7 +190,8 @@ impl<D: Dimension, T: StrideList> Layout<D, T> {
         }
     }
 
-    /// What the elements make of the axes: a slice keeps its axis, an index takes it away, and new axes have length 1.
+    /// The layout that a list of slices leaves: a slice keeps its axis, an index takes it away, and new axes have
+    /// length 1.
     pub fn sliced<E: Dimension>(&self, elements: &[SliceInfoElem]) -> Layout<E, E::Strides>
         requires fits { fits_shape (D.lengths self.now.dim) elements.now ≡ true }
         requires room { E.has_axes (axes_kept elements.now) ≡ true }
@@ -202,7 +203,7 @@ impl<D: Dimension, T: StrideList> Layout<D, T> {
         layout.kept_axes(elements)
     }
 
-    /// What the element makes of the axis that it reads: the part that a slice names, or one coordinate.
+    /// The layout after one element of the list: the part that a slice names, or one coordinate.
     fn slice_element(&mut self, axis: usize, element: SliceInfoElem)
         requires { fits_next (slice_get (D.lengths self.old.dim) axis) element ≡ true }
         ensures lengths { D.lengths self.new.dim ≡ shape_with (D.lengths self.old.dim) axis element }
@@ -221,7 +222,7 @@ impl<D: Dimension, T: StrideList> Layout<D, T> {
         }
     }
 
-    /// What the elements make of the axes that they read, in order. An indexed axis keeps length 1.
+    /// The layout after the whole list, axis by axis. An indexed axis keeps length 1.
     pub fn slice_axes(&mut self, elements: &[SliceInfoElem])
         requires { each_fits (D.lengths self.old.dim) elements.now ≡ true }
         ensures lengths { D.lengths self.new.dim ≡ collapsed_after (D.lengths self.old.dim) elements.now }
@@ -236,7 +237,7 @@ impl<D: Dimension, T: StrideList> Layout<D, T> {
 }
 
 impl<D: Dimension, T: StrideList> Layout<D, T> {
-    /// Keeps of each axis what the closure answers, which is asked of axis 0 first.
+    /// Keeps of each axis the slice that the closure answers. It is called for axis 0 first.
     pub fn slice_each_axis<F: FnMut(AxisDescription) -> Slice + Drop>(&mut self, mut f: F)
         requires { AnswersFit F.pre F.step f (axes_from 0 (D.lengths self.old.dim) (T.strides_of self.old.strides)) }
         ensures { (slices : List Slice) × (last : F) × AnswersAre F.step f (axes_from 0 (D.lengths self.old.dim) (T.strides_of self.old.strides)) slices last × (D.lengths self.new.dim ≡ each_sliced_shape (D.lengths self.old.dim) slices) × IsStep self.old.offset (D.lengths self.old.dim) (T.strides_of self.old.strides) self.new.offset (D.lengths self.new.dim) (T.strides_of self.new.strides) (each_sliced_index (D.lengths self.old.dim) slices) }

@@ -9,7 +9,7 @@ use super::axes::length_at;
 use nd_shape_and_slice::{Dimension, DynStrides, IxDyn, StrideList};
 
 impl Layout<IxDyn, DynStrides> {
-    /// The layout without an axis, where that has length 1 and isn't the only one.
+    /// The layout without an axis, if that has length 1 and isn't the only one.
     fn squeezed_at(&self, axis: usize) -> Self
         requires { axis < length (⟦<IxDyn as Dimension>⟧.lengths self.now.dim) }
         ensures lengths { ⟦<IxDyn as Dimension>⟧.lengths result.dim ≡ shape_squeezed_at (⟦<IxDyn as Dimension>⟧.lengths self.now.dim) axis }
@@ -22,7 +22,7 @@ impl Layout<IxDyn, DynStrides> {
         }
     }
 
-    /// The layout without the axes of length 1, from the last axis to the first, as long as another is left.
+    /// The layout without its axes of length 1, taken out from the last axis on; one axis always stays.
     pub fn squeezed(&self) -> Self
         ensures lengths { ⟦<IxDyn as Dimension>⟧.lengths result.dim ≡ squeezed_shape (⟦<IxDyn as Dimension>⟧.lengths self.now.dim) }
         ensures step { IsStep self.now.offset (⟦<IxDyn as Dimension>⟧.lengths self.now.dim) (⟦<DynStrides as StrideList>⟧.strides_of self.now.strides) result.offset (⟦<IxDyn as Dimension>⟧.lengths result.dim) (⟦<DynStrides as StrideList>⟧.strides_of result.strides) (squeezed_index (⟦<IxDyn as Dimension>⟧.lengths self.now.dim)) }

@@ -37,7 +37,7 @@ pub fn number<N: Number>(line: &[u8]) -> Result<(N, &[u8]), LineFault>
     }
 }
 
-/// That many numbers. Where the line has fewer words it is bad, and no memory is asked for.
+/// As many numbers as asked for. A line with fewer words is bad; no memory is taken for it.
 pub fn numbers<N: Number>(
     alloc: Global,
     count: usize,
@@ -59,7 +59,7 @@ pub fn numbers<N: Number>(
     Ok((numbers, rest))
 }
 
-/// How many numbers there are, and then they.
+/// A LIST: a count, and then as many numbers.
 #[tactic(auto, unfolding(crate::specs::Reading::list_at))]
 pub fn list(alloc: Global, line: &[u8]) -> Result<(Vec<usize>, &[u8]), LineFault>
     ensures { Gives (λ x. (x.0.items, words_of x.1.now)) result (list_at (words_of line.now)) }
@@ -91,10 +91,10 @@ fn checked_size(lengths: &[usize]) -> Result<usize, LineFault>
     }
 }
 
-/// The lengths and the elements of an array.
+/// The lengths of an array, and its elements in row-major order.
 pub type Parts = (Vec<usize>, Vec<i64>);
 
-/// The lengths of an array, and as many elements as they ask for.
+/// The lengths of an array, and then as many elements as its shape has.
 #[tactic(auto, unfolding(crate::specs::Reading::array_at))]
 pub fn array(alloc: Global, line: &[u8]) -> Result<(Parts, &[u8]), LineFault>
     ensures { Gives (λ x. ((x.0.0.items, x.0.1.items), words_of x.1.now)) result (array_at (words_of line.now)) }

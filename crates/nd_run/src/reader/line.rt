@@ -14,7 +14,7 @@ use crate::reader::step::{begins_step, pair, step};
 use crate::words::split_word;
 use std::alloc::Global;
 
-/// A step and the slash after it.
+/// One step of a path, with the slash that follows it.
 #[tactic(auto, unfolding(crate::specs::Reading::leg_at))]
 fn leg(alloc: Global, line: &[u8]) -> Result<(Step, &[u8]), LineFault>
     ensures { Gives (λ x. (asked_step x.0, words_of x.1.now)) result (leg_at (words_of line.now)) }
@@ -27,7 +27,7 @@ fn leg(alloc: Global, line: &[u8]) -> Result<(Step, &[u8]), LineFault>
     }
 }
 
-/// Steps, each with a slash after it, as long as one begins and at most that many.
+/// The steps of a path, each followed by a slash; at most as many as asked for.
 fn path(alloc: Global, most: usize, line: &[u8]) -> Result<(Vec<Step>, &[u8]), LineFault>
     ensures { Gives (λ x. (map asked_step x.0.items, words_of x.1.now)) result (path_at most (words_of line.now)) }
 {
@@ -123,7 +123,7 @@ pub fn call(alloc: Global, line: &[u8]) -> Result<Call<i64>, LineFault>
     end_of_line(call, rest)
 }
 
-/// The value, where no word is left over.
+/// The value that was read, if it took the whole line.
 fn end_of_line<T: Drop>(value: T, line: &[u8]) -> Result<T, LineFault>
     ensures { Gives (λ x. x) result (ended (value, words_of line.now)) }
 {

@@ -95,7 +95,7 @@ fn element(line: &[u8]) -> Result<(SliceInfoElem, &[u8]), LineFault>
     Err(LineFault::Bad)
 }
 
-/// That many elements of a list of slices.
+/// As many elements of a list of slices as asked for.
 fn elements(
     alloc: Global,
     count: usize,
@@ -210,7 +210,7 @@ pub fn step(alloc: Global, line: &[u8]) -> Result<(Step, &[u8]), LineFault>
     }
 }
 
-/// Whether a step begins here.
+/// Whether the line goes on with a step.
 pub fn begins_step(line: &[u8]) -> bool
     ensures { result ≡ begins_step (words_of line.now) }
 {

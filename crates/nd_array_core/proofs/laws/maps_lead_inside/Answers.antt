@@ -31,8 +31,8 @@ returns-clause-upper c = upper_inside
 pub returns-clause-indexed : goal.returns-clause-indexed
 returns-clause-indexed c = indexed_inside
 
-pub returns-clause-widened : goal.returns-clause-widened
-returns-clause-widened c = inserted_inside
+pub returns-clause-inserted : goal.returns-clause-inserted
+returns-clause-inserted c = inserted_inside
 
 pub returns-clause-squeezed : goal.returns-clause-squeezed
 returns-clause-squeezed c = squeezed_inside

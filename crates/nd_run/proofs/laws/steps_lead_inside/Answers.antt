@@ -16,7 +16,7 @@ returns c (Permuted axes) ns e = c.maps_lead_inside.ensures.permuted ns axes (Ha
 returns c Reversed ns e = c.maps_lead_inside.ensures.reversed ns
 returns c (Exchanged a b) ns e = let p = all_passed _ _ _ e in c.maps_lead_inside.ensures.swapped ns a b (ltb-true a (length ns) p.0) (ltb-true b (length ns) (all_passed _ _ _ p.1).0)
 returns c (Inverted a) ns e = c.maps_lead_inside.ensures.inverted ns a (ltb-true a (length ns) (all_passed _ _ _ e).0)
-returns c (Inserted a) ns e = c.maps_lead_inside.ensures.widened ns a (leb-true a (length ns) (all_passed _ _ _ e).0)
+returns c (Inserted a) ns e = c.maps_lead_inside.ensures.inserted ns a (leb-true a (length ns) (all_passed _ _ _ e).0)
 returns c (Removed a) ns e = let p = all_passed _ _ _ e in c.maps_lead_inside.ensures.indexed ns a 0 (ltb-true a (length ns) p.0) (ltb-true 0 _ (all_passed _ _ _ p.1).0)
 returns c Squeezed ns e = c.maps_lead_inside.ensures.squeezed ns
 returns c Diagonal ns e = c.maps_lead_inside.ensures.diagonal ns

@@ -4,8 +4,8 @@ use Rattle.nd_shape_and_slice.specs.Broadcast.{broadcasts, broadcast_index}
 use Rattle.nd_run.specs.Calls.{BroadcastTo}
 use Rattle.nd_run.specs.Steps.{refusal}
 use Rattle.nd_run.proofs.FoldLemmas.{taken_ok}
-use Rattle.nd_run.proofs.StepTests.{widening_allowed}
-use Rattle.nd_run.proofs.steps.widen.Goals as goal
+use Rattle.nd_run.proofs.StepTests.{broadcast_allowed}
+use Rattle.nd_run.proofs.steps.broadcast_to.Goals as goal
 
 pub returns-in-Some : goal.returns-in-Some
 returns-in-Some g c =
@@ -13,5 +13,5 @@ returns-in-Some g c =
     let to = c.args.lengths.now in
     let shape : shape_of c.in-Some.wide ≡ to = c.in-Some.ensures.shape ∙ c.new.ensures in
     let elements : (i : List ℕ) → element_at c.in-Some.wide i ≡ inside (shape_of c.in-Some.wide) i (element_at old (broadcast_index (shape_of old) to i)) = λ i. c.in-Some.ensures.elements i ∙ ap (λ ls. inside (shape_of c.in-Some.wide) i (element_at old (broadcast_index (shape_of old) ls i))) shape in
-    let allowed : refusal (BroadcastTo to) (shape_of old) ≡ None = widening_allowed to (shape_of old) (omega arith) (λ no. (let clash : true ≡ false = c.in-Some.ensures.none.1 (ap (broadcasts (shape_of old)) c.new.ensures ∙ no) in absurd cc)) in
+    let allowed : refusal (BroadcastTo to) (shape_of old) ≡ None = broadcast_allowed to (shape_of old) (omega arith) (λ no. (let clash : true ≡ false = c.in-Some.ensures.none.1 (ap (broadcasts (shape_of old)) c.new.ensures ∙ no) in absurd cc)) in
     taken_ok (BroadcastTo to) (meaning_of old) (meaning_of c.in-Some.wide) allowed shape elements
