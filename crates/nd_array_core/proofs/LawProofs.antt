@@ -17,7 +17,7 @@ use Rattle.nd_shape_and_slice.specs.declared.slice_info.SliceInfoElem.TheVariant
 use Rattle.nd_layout.proofs.Sliced.{stepped_from-within}
 use Rattle.std.specs.Option.{unwrap_or}
 use Rattle.nd_shape_and_slice.proofs.RowMajor.{length-in_box}
-use Rattle.nd_layout.proofs.Bounds.{coordinate_below}
+use Rattle.nd_shape_and_slice.proofs.Boxes.{coordinate_below}
 use Rattle.nd_layout.proofs.Distinct.{in_box-set}
 use Rattle.nd_layout.proofs.Permuted.{axis_below, length-permuted, length-unpermuted, permuted-unpermuted, unpermuted-permuted, in_box-unpermuted}
 use Rattle.nd_layout.proofs.Totals.{times, times_is}

@@ -1,12 +1,12 @@
 -- A storage of which the places of a layout are taken out: what is taken has these, what is left has all others.
-use Rattle.std.proofs.Common.{◌≡◌, ℕ, ◌+◌, ◌-◌, ◌<◌, ◌≤◌, Bool, true, false, List, length, ℤ, pos, negsuc, refl, ap, sym, ◌∙◌, subst, get_or, arith}
+use Rattle.std.proofs.Common.{◌≡◌, ℕ, ◌+◌, ◌-◌, ◌<◌, ◌≤◌, Bool, true, false, List, length, ℤ, pos, negsuc, refl, ap, sym, ◌∙◌, get_or, arith}
 use Rattle.std.specs.Prelude.{Option, None, Some, not, slice_index, if◌then◌else◌}
 use Rattle.std.specs.Option.{is_some}
 use Rattle.std.proofs.lemmas.List.{get_or-set_same, length-set}
 use Rattle.nd_shape_and_slice.specs.Shape.{in_box, size_of}
 use Rattle.nd_shape_and_slice.specs.Place.{place_of, IsSeparated}
 use Rattle.nd_shape_and_slice.proofs.RowMajor.{length-in_box}
-use Rattle.nd_layout.proofs.Bounds.{coordinate_below}
+use Rattle.nd_shape_and_slice.proofs.Boxes.{coordinate_below}
 use Rattle.nd_region.specs.Places.{names, names_not, LayoutsShareNoPlace}
 use Rattle.nd_region.proofs.Names.{named_by, named_at}
 use Rattle.nd_shape_and_slice.specs.Maps.{lower_shape, upper_shape, upper_index}
@@ -65,10 +65,6 @@ pub steps_apart : (offset : ℕ) (ns : List ℕ) (ss : List ℤ) {offset' : ℕ}
     → IsStep offset ns ss offset' ns' ss' source → IsStep offset ns ss offset'' ns'' ss'' source' → ((i j : List ℕ) → in_box ns' i ≡ true → in_box ns'' j ≡ true → source i ≡ source' j → ⊥) → LayoutsShareNoPlace offset' ns' ss' offset'' ns'' ss''
 steps_apart offset ns ss {source = source} {source' = source'} as_many separated step step' differ i j h k e =
     differ i j h k (one_index ns ss offset (source i) (source' j) as_many separated (step.within i h) (step'.within j k) (sym (step.same i h) ∙ e ∙ step'.same j k))
-
--- a step from what is known to be the same layout
-pub step_from : {offset offset' : ℕ} {ns ns' : List ℕ} {ss ss' : List ℤ} {f : ℕ} {n : List ℕ} {s : List ℤ} {source : List ℕ → List ℕ} → offset ≡ offset' → ns ≡ ns' → ss ≡ ss' → IsStep offset ns ss f n s source → IsStep offset' ns' ss' f n s source
-step_from {f = f} {n = n} {s = s} {source = source} a b c step = subst (λ (z : ℕ × List ℕ × List ℤ). IsStep z.0 z.1 z.2 f n s source) (λ i. (a i, b i, c i)) step
 
 number_is : (z : ℤ) (p : ℕ) → place_number z ≡ Some p → z ≡ pos p
 number_is (pos q) p e = cc

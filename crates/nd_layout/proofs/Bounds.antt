@@ -1,28 +1,13 @@
 -- Where the indexes of a box lie: between the lowest and the highest place, and within the span.
-use Rattle.std.proofs.Common.{ℕ, zero, suc, ◌+◌, ◌-◌, ◌*◌, ◌<◌, ◌≤◌, ◌≡◌, List, [], ◌∷◌, length, get_or, ltb, true, arith, refl, ℤ, pos, negsuc, ◌+ℤ◌, nat_abs, ◌≤ℤ◌}
+use Rattle.std.proofs.Common.{ℕ, suc, ◌+◌, ◌-◌, ◌*◌, ◌<◌, ◌≤◌, ◌≡◌, List, [], ◌∷◌, ltb, true, arith, refl, ℤ, pos, negsuc, ◌+ℤ◌, nat_abs, ◌≤ℤ◌}
 use lib.IntN.{neg_ℤ}
 use borrow.Author.Differences.{up, down, neg_is, at_most_in, abs_is}
-use Rattle.std.proofs.lemmas.Bool.{ltb-true, and_parts, and_from, lt-ltb, false≢true}
+use Rattle.std.proofs.lemmas.Bool.{ltb-true, and_parts, false≢true}
 use Rattle.std.proofs.Math.Nat.{mul-le-mul_right}
 use Rattle.nd_shape_and_slice.specs.Shape.{in_box}
 use Rattle.nd_shape_and_slice.specs.Place.{displacement_of, place_of, span_of}
 use Rattle.nd_layout.specs.Strides.{reach_up, reach_down}
 use Rattle.nd_layout.proofs.Integers.{sums}
-
--- each coordinate is below its axis's length
-pub coordinate_below : (ns i : List ℕ) (a : ℕ) → in_box ns i ≡ true → a < length ns → get_or i a 0 < get_or ns a 0
-coordinate_below [] i a h q = absurd (omega arith)
-coordinate_below (n ∷ ns) [] a h q = absurd (false≢true h)
-coordinate_below (n ∷ ns) (k ∷ i) zero h q = ltb-true k n (and_parts (ltb k n) (in_box ns i) h).0
-coordinate_below (n ∷ ns) (k ∷ i) (suc a) h q = coordinate_below ns i a (and_parts (ltb k n) (in_box ns i) h).1 (omega arith)
-
--- and that puts an index into the box
-pub in_box-from_coordinates : (ns i : List ℕ) → length i ≡ length ns → ((a : ℕ) → a < length ns → get_or i a 0 < get_or ns a 0) → in_box ns i ≡ true
-in_box-from_coordinates [] [] e h = refl
-in_box-from_coordinates [] (k ∷ i) e h = absurd (omega arith)
-in_box-from_coordinates (n ∷ ns) [] e h = absurd (omega arith)
-in_box-from_coordinates (n ∷ ns) (k ∷ i) e h =
-    and_from (ltb k n) (in_box ns i) (lt-ltb k n (h 0 (omega arith))) (in_box-from_coordinates ns i (omega arith) (λ a q. h (suc a) (omega arith)))
 
 -- the two reaches are the span
 pub span_of-reaches : (ns : List ℕ) (ss : List ℤ) → span_of ns ss ≡ reach_up ns ss + reach_down ns ss

@@ -8,7 +8,7 @@ use Rattle.nd_shape_and_slice.specs.Shape.{in_box}
 use Rattle.nd_shape_and_slice.specs.Place.{displacement_of, span_of, IsSeparated}
 use Rattle.nd_layout.specs.Strides.{sum_of}
 use Rattle.nd_layout.proofs.Integers.{sums, mul-sum}
-use Rattle.nd_layout.proofs.Bounds.{in_box-from_coordinates}
+use Rattle.nd_shape_and_slice.proofs.Boxes.{in_box-from_coordinates}
 use Rattle.nd_layout.proofs.Reaches.{mul-pred}
 use Rattle.nd_layout.proofs.AxisChange.{on_axis}
 use Rattle.nd_layout.proofs.Distinct.{same_index}

@@ -10,7 +10,7 @@ use Rattle.nd_layout.proofs.Integers.{sums}
 use Rattle.nd_layout.proofs.Offsets.{displacement_of-at}
 use Rattle.nd_layout.proofs.AxisChange.{counted_cases, others_below}
 use Rattle.nd_shape_and_slice.proofs.RowMajor.{length-in_box}
-use Rattle.nd_layout.proofs.Bounds.{coordinate_below}
+use Rattle.nd_shape_and_slice.proofs.Boxes.{coordinate_below}
 
 -- an index with another coordinate is in the box with another length
 pub in_box-set : (ns i : List ℕ) (a m x : ℕ) → in_box ns i ≡ true → x < m → in_box (set ns a m) (set i a x) ≡ true

@@ -24,14 +24,14 @@ same_rest : (x y : ℤ) (xs ys : List ℤ) → x ∷ xs ≡ y ∷ ys → xs ≡ 
 same_rest x y xs ys e = ap (drop 1) e
 
 -- one more stride is written, and the product goes on
-pub stride_at_place : (ms : List ℕ) (cs : List ℤ) (p place : ℕ) → length cs ≡ length ms → place < length ms → drop place cs ≡ column_strides_from p (drop place ms) → (get_or cs place (pos 0) ≡ pos p) × (drop (place + 1) cs ≡ column_strides_from (p * get_or ms place 0) (drop (place + 1) ms))
-stride_at_place ms cs p place e h rest =
-    let h' : place < length cs = omega arith in
-    let n = get_or ms place 0 in
-    let both : get_or cs place (pos 0) ∷ drop (place + 1) cs ≡ pos p ∷ column_strides_from (p * n) (drop (place + 1) ms) =
-    sym (drop_more cs place (pos 0) h') ∙ rest ∙ ap (column_strides_from p) (drop_more ms place 0 h) in (
-      same_first (get_or cs place (pos 0)) (pos p) (drop (place + 1) cs) (column_strides_from (p * n) (drop (place + 1) ms)) both,
-      same_rest (get_or cs place (pos 0)) (pos p) (drop (place + 1) cs) (column_strides_from (p * n) (drop (place + 1) ms)) both,
+pub stride_at_nth : (ms : List ℕ) (cs : List ℤ) (p nth : ℕ) → length cs ≡ length ms → nth < length ms → drop nth cs ≡ column_strides_from p (drop nth ms) → (get_or cs nth (pos 0) ≡ pos p) × (drop (nth + 1) cs ≡ column_strides_from (p * get_or ms nth 0) (drop (nth + 1) ms))
+stride_at_nth ms cs p nth e h rest =
+    let h' : nth < length cs = omega arith in
+    let n = get_or ms nth 0 in
+    let both : get_or cs nth (pos 0) ∷ drop (nth + 1) cs ≡ pos p ∷ column_strides_from (p * n) (drop (nth + 1) ms) =
+    sym (drop_more cs nth (pos 0) h') ∙ rest ∙ ap (column_strides_from p) (drop_more ms nth 0 h) in (
+      same_first (get_or cs nth (pos 0)) (pos p) (drop (nth + 1) cs) (column_strides_from (p * n) (drop (nth + 1) ms)) both,
+      same_rest (get_or cs nth (pos 0)) (pos p) (drop (nth + 1) cs) (column_strides_from (p * n) (drop (nth + 1) ms)) both,
     )
 
 -- ---- in column-major order, where the axis is the last

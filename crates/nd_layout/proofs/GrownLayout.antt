@@ -14,7 +14,7 @@ use Rattle.nd_layout.specs.Ranks.{IsRun}
 use Rattle.nd_layout.specs.Growth.{growing_strides, greatest_end, greatest_step, grown_shape, growth_case, must_move, strides_in_case}
 use Rattle.nd_layout.proofs.Integers.{zero-mul}
 use Rattle.nd_layout.proofs.Offsets.{displacement_of-set}
-use Rattle.nd_layout.proofs.Bounds.{coordinate_below}
+use Rattle.nd_shape_and_slice.proofs.Boxes.{coordinate_below}
 use Rattle.nd_layout.proofs.Removed.{size_of-removed}
 use Rattle.nd_layout.proofs.RunTest.{run_span, run_strides}
 use Rattle.nd_layout.proofs.RunSteps.{slowest_axis}

@@ -13,73 +13,73 @@ use Rattle.nd_layout.proofs.Serving.{serves_rest}
 use Rattle.nd_layout.proofs.Grouping.{le-times}
 use Rattle.nd_layout.proofs.Orders.{rank_in-below}
 
--- the sizes of the lengths before a place and from it on
-pub sizes_at : (ms : List ℕ) (place : ℕ) → 0 < size_of ms → (0 < size_of (take place ms)) × (0 < size_of (drop place ms)) × (size_of (drop place ms) ≤ size_of ms)
-sizes_at ms place some =
-    let a = size_of-append (take place ms) (drop place ms) in
-    let whole : size_of ms ≡ size_of (take place ms) * size_of (drop place ms) = ap size_of (sym (take-append-drop place ms)) ∙ a in
-    let w = both_positive (size_of (take place ms)) (size_of (drop place ms)) (omega arith) in
-    let l = le-times (size_of (drop place ms)) (size_of (take place ms)) w.0 in
-    let c = mul_comm (size_of (drop place ms)) (size_of (take place ms)) in
+-- the sizes of the lengths before the nth and from it on
+pub sizes_at : (ms : List ℕ) (nth : ℕ) → 0 < size_of ms → (0 < size_of (take nth ms)) × (0 < size_of (drop nth ms)) × (size_of (drop nth ms) ≤ size_of ms)
+sizes_at ms nth some =
+    let a = size_of-append (take nth ms) (drop nth ms) in
+    let whole : size_of ms ≡ size_of (take nth ms) * size_of (drop nth ms) = ap size_of (sym (take-append-drop nth ms)) ∙ a in
+    let w = both_positive (size_of (take nth ms)) (size_of (drop nth ms)) (omega arith) in
+    let l = le-times (size_of (drop nth ms)) (size_of (take nth ms)) w.0 in
+    let c = mul_comm (size_of (drop nth ms)) (size_of (take nth ms)) in
     (w.0, w.1, omega arith)
 
 positive_times : (x y : ℕ) → 0 < x → 0 < y → 0 < x * y
 positive_times x y p q = let l = le-times x y q in omega arith
 
 -- what is to be taken has elements
-pub some_to_take : (ms : List ℕ) (place group : ℕ) → place < length ms → 0 < size_of ms → group ≡ size_of (drop place ms) → 0 < get_or ms place 0 * group
-some_to_take ms place group h some e =
-    let w = sizes_at ms place some in
-    let f = size_of-drop ms place h in
-    let v = both_positive (get_or ms place 0) (size_of (drop (place + 1) ms)) (omega arith) in
-    positive_times (get_or ms place 0) group v.0 (omega arith)
+pub some_to_take : (ms : List ℕ) (nth group : ℕ) → nth < length ms → 0 < size_of ms → group ≡ size_of (drop nth ms) → 0 < get_or ms nth 0 * group
+some_to_take ms nth group h some e =
+    let w = sizes_at ms nth some in
+    let f = size_of-drop ms nth h in
+    let v = both_positive (get_or ms nth 0) (size_of (drop (nth + 1) ms)) (omega arith) in
+    positive_times (get_or ms nth 0) group v.0 (omega arith)
 
 -- the group's span is a part of the whole span
-pub span_left : (os : List ℕ) (ps : List ℤ) (ms : List ℕ) (ts : List ℤ) (gn : List ℕ) (gs : List ℤ) (place : ℕ) → length ts ≡ length ms → Regroups os ps (take place ms ++ gn) (take place ts ++ gs) → span_of gn gs ≤ span_of os ps
-span_left os ps ms ts gn gs place e g =
-    let l : length (take place ts) ≡ length (take place ms) = simp length-take (ap (λ n. min place n) e) in
-    let a = span_of-append (take place ms) (take place ts) gn gs l in
+pub span_left : (os : List ℕ) (ps : List ℤ) (ms : List ℕ) (ts : List ℤ) (gn : List ℕ) (gs : List ℤ) (nth : ℕ) → length ts ≡ length ms → Regroups os ps (take nth ms ++ gn) (take nth ts ++ gs) → span_of gn gs ≤ span_of os ps
+span_left os ps ms ts gn gs nth e g =
+    let l : length (take nth ts) ≡ length (take nth ms) = simp length-take (ap (λ n. min nth n) e) in
+    let a = span_of-append (take nth ms) (take nth ts) gn gs l in
     omega (arith, g.span)
 
 -- one more new length
-pub taken_more : (os : List ℕ) (ps : List ℤ) (ms : List ℕ) (ts ts' : List ℤ) (place : ℕ) (gn : List ℕ) (gs : List ℤ) (hn : List ℕ) (hs : List ℤ) (t : ℤ) → place < length ms → length ts ≡ length ms → ts' ≡ set ts place t → Regroups os ps (take place ms ++ gn) (take place ts ++ gs) → Regroups gn gs (get_or ms place 0 ∷ hn) (t ∷ hs) → Regroups os ps (take (place + 1) ms ++ hn) (take (place + 1) ts' ++ hs)
-taken_more os ps ms ts ts' place gn gs hn hs t h e is g step =
-    let l : length (take place ts) ≡ length (take place ms) = simp length-take (ap (λ n. min place n) e) in
-    let m = get_or ms place 0 in
-    let next = Regroups-trans os ps (take place ms ++ gn) (take place ts ++ gs) (take place ms ++ (m ∷ hn)) (take place ts ++ (t ∷ hs)) g
-    (Regroups-prefix (take place ms) (take place ts) gn gs (m ∷ hn) (t ∷ hs) l step) in
-    let new : take (place + 1) ms ++ hn ≡ take place ms ++ (m ∷ hn) =
-    ap (λ xs. xs ++ hn) (take_more ms place 0 h) ∙ append_assoc (take place ms) (m ∷ []) hn in
-    let new' : take (place + 1) ts' ++ hs ≡ take place ts ++ (t ∷ hs) =
-    ap (λ xs. take (place + 1) xs ++ hs) is ∙ ap (λ xs. xs ++ hs) (take_more_set ts place t (omega arith)) ∙ append_assoc (take place ts) (t ∷ []) hs in
+pub taken_more : (os : List ℕ) (ps : List ℤ) (ms : List ℕ) (ts ts' : List ℤ) (nth : ℕ) (gn : List ℕ) (gs : List ℤ) (hn : List ℕ) (hs : List ℤ) (t : ℤ) → nth < length ms → length ts ≡ length ms → ts' ≡ set ts nth t → Regroups os ps (take nth ms ++ gn) (take nth ts ++ gs) → Regroups gn gs (get_or ms nth 0 ∷ hn) (t ∷ hs) → Regroups os ps (take (nth + 1) ms ++ hn) (take (nth + 1) ts' ++ hs)
+taken_more os ps ms ts ts' nth gn gs hn hs t h e is g step =
+    let l : length (take nth ts) ≡ length (take nth ms) = simp length-take (ap (λ n. min nth n) e) in
+    let m = get_or ms nth 0 in
+    let next = Regroups-trans os ps (take nth ms ++ gn) (take nth ts ++ gs) (take nth ms ++ (m ∷ hn)) (take nth ts ++ (t ∷ hs)) g
+    (Regroups-prefix (take nth ms) (take nth ts) gn gs (m ∷ hn) (t ∷ hs) l step) in
+    let new : take (nth + 1) ms ++ hn ≡ take nth ms ++ (m ∷ hn) =
+    ap (λ xs. xs ++ hn) (take_more ms nth 0 h) ∙ append_assoc (take nth ms) (m ∷ []) hn in
+    let new' : take (nth + 1) ts' ++ hs ≡ take nth ts ++ (t ∷ hs) =
+    ap (λ xs. take (nth + 1) xs ++ hs) is ∙ ap (λ xs. xs ++ hs) (take_more_set ts nth t (omega arith)) ∙ append_assoc (take nth ts) (t ∷ []) hs in
     rw (new, new') next
 
 -- what is left of the group has the size of the new lengths that are left
-pub size_left : (gn hn ms : List ℕ) (place : ℕ) → place < length ms → 0 < size_of ms → size_of gn ≡ size_of (drop place ms) → get_or ms place 0 * size_of hn ≡ size_of gn → size_of hn ≡ size_of (drop (place + 1) ms)
-size_left gn hn ms place h some e step =
-    let w = sizes_at ms place some in
-    let f = size_of-drop ms place h in
-    let v = both_positive (get_or ms place 0) (size_of (drop (place + 1) ms)) (omega arith) in
-    eq_of_mul-eq-mul_left (get_or ms place 0) v.0 (size_of hn) (size_of (drop (place + 1) ms)) (step ∙ e ∙ f)
+pub size_left : (gn hn ms : List ℕ) (nth : ℕ) → nth < length ms → 0 < size_of ms → size_of gn ≡ size_of (drop nth ms) → get_or ms nth 0 * size_of hn ≡ size_of gn → size_of hn ≡ size_of (drop (nth + 1) ms)
+size_left gn hn ms nth h some e step =
+    let w = sizes_at ms nth some in
+    let f = size_of-drop ms nth h in
+    let v = both_positive (get_or ms nth 0) (size_of (drop (nth + 1) ms)) (omega arith) in
+    eq_of_mul-eq-mul_left (get_or ms nth 0) v.0 (size_of hn) (size_of (drop (nth + 1) ms)) (step ∙ e ∙ f)
 
 -- where nothing serves what is left, nothing serves the whole
-pub none_left : (os : List ℕ) (ps : List ℤ) (ms : List ℕ) (ts us : List ℤ) (gn : List ℕ) (gs : List ℤ) (place : ℕ) → place < length ms → length ts ≡ length ms → 0 < size_of ms → Regroups os ps (take place ms ++ gn) (take place ts ++ gs) → ((vs : List ℤ) → ServesRanks gn gs (get_or ms place 0 ∷ drop (place + 1) ms) vs → ⊥) → ServesRanks os ps ms us → ⊥
-none_left os ps ms ts us gn gs place h e some g none serves =
-    let w = sizes_at ms place some in
-    let m_parts = take-append-drop place ms in
-    let u_parts = take-append-drop place us in
-    let l : length (take place ts) ≡ length (take place ms) = simp length-take (ap (λ n. min place n) e) in
-    let k : length (take place us) ≡ length (take place ms) = simp length-take (ap (λ n. min place n) serves.as_many) in
-    let d : length (drop place us) ≡ length (drop place ms) = simp length-drop (ap (λ n. n - place) serves.as_many) in
-    let whole : ServesRanks os ps (take place ms ++ drop place ms) (take place us ++ drop place us) = rw (m_parts, u_parts) serves in
-    let rest = serves_rest os ps (take place ms) (take place ts) gn gs (drop place ms) (take place us) (drop place us) l k w.0 g whole d in
-    none (drop place us) (rw (drop_more ms place 0 h) at rest)
+pub none_left : (os : List ℕ) (ps : List ℤ) (ms : List ℕ) (ts us : List ℤ) (gn : List ℕ) (gs : List ℤ) (nth : ℕ) → nth < length ms → length ts ≡ length ms → 0 < size_of ms → Regroups os ps (take nth ms ++ gn) (take nth ts ++ gs) → ((vs : List ℤ) → ServesRanks gn gs (get_or ms nth 0 ∷ drop (nth + 1) ms) vs → ⊥) → ServesRanks os ps ms us → ⊥
+none_left os ps ms ts us gn gs nth h e some g none serves =
+    let w = sizes_at ms nth some in
+    let m_parts = take-append-drop nth ms in
+    let u_parts = take-append-drop nth us in
+    let l : length (take nth ts) ≡ length (take nth ms) = simp length-take (ap (λ n. min nth n) e) in
+    let k : length (take nth us) ≡ length (take nth ms) = simp length-take (ap (λ n. min nth n) serves.as_many) in
+    let d : length (drop nth us) ≡ length (drop nth ms) = simp length-drop (ap (λ n. n - nth) serves.as_many) in
+    let whole : ServesRanks os ps (take nth ms ++ drop nth ms) (take nth us ++ drop nth us) = rw (m_parts, u_parts) serves in
+    let rest = serves_rest os ps (take nth ms) (take nth ts) gn gs (drop nth ms) (take nth us) (drop nth us) l k w.0 g whole d in
+    none (drop nth us) (rw (drop_more ms nth 0 h) at rest)
 
 -- at the end the front of the axes is the new shape
-pub all_taken : (os : List ℕ) (ps : List ℤ) (ms : List ℕ) (ts : List ℤ) (gn : List ℕ) (gs : List ℤ) (place : ℕ) → length ms ≤ place → length ts ≡ length ms → Regroups os ps (take place ms ++ gn) (take place ts ++ gs) → Regroups os ps (ms ++ gn) (ts ++ gs)
-all_taken os ps ms ts gn gs place h e g =
-    let a : take place ms ≡ ms = take_all place ms h in
-    let b : take place ts ≡ ts = take_all place ts (omega arith) in
+pub all_taken : (os : List ℕ) (ps : List ℤ) (ms : List ℕ) (ts : List ℤ) (gn : List ℕ) (gs : List ℤ) (nth : ℕ) → length ms ≤ nth → length ts ≡ length ms → Regroups os ps (take nth ms ++ gn) (take nth ts ++ gs) → Regroups os ps (ms ++ gn) (ts ++ gs)
+all_taken os ps ms ts gn gs nth h e g =
+    let a : take nth ms ≡ ms = take_all nth ms h in
+    let b : take nth ts ≡ ts = take_all nth ts (omega arith) in
     rw (a, b) at g
 
 -- the new axes span no more than the old

@@ -62,35 +62,35 @@ pub standard_from_StepsBy : (ns : List ℕ) (ss : List ℤ) → length ss ≡ le
 standard_from_StepsBy ns ss e steps = λ i h.
     sym (displacement-at_rank RowMajor ns ss i e h) ∙ steps (row_rank ns i) (omega (arith, rank_in-below RowMajor ns i h, size_of-ordered RowMajor ns)) ∙ ap pos (omega arith)
 
--- ---- at a place of whole lists
-pub StepsBy-at : (p : ℕ) (ns : List ℕ) (ss : List ℤ) (place : ℕ) → length ss ≡ length ns → place < length ns → 0 < size_of (drop place ns) → StepsBy p (drop place ns) (drop place ss) → (1 < get_or ns place 0 → get_or ss place (pos 0) ≡ pos p) × StepsBy (p * get_or ns place 0) (drop (place + 1) ns) (drop (place + 1) ss)
-StepsBy-at p ns ss place e h some steps =
-    let h' : place < length ss = omega arith in
-    let size = ap size_of (drop_more ns place 0 h) in
-    let w = both_positive (get_or ns place 0) (size_of (drop (place + 1) ns)) (omega arith) in
-    let here = rw (drop_more ns place 0 h, drop_more ss place (pos 0) h') at steps in (
-      λ long. StepsBy-first p (get_or ns place 0) (get_or ss place (pos 0)) (drop (place + 1) ns) (drop (place + 1) ss) w.1 long here,
-      StepsBy-rest p (get_or ns place 0) (get_or ss place (pos 0)) (drop (place + 1) ns) (drop (place + 1) ss) w.0 here,
+-- ---- at the nth of whole lists
+pub StepsBy-at : (p : ℕ) (ns : List ℕ) (ss : List ℤ) (nth : ℕ) → length ss ≡ length ns → nth < length ns → 0 < size_of (drop nth ns) → StepsBy p (drop nth ns) (drop nth ss) → (1 < get_or ns nth 0 → get_or ss nth (pos 0) ≡ pos p) × StepsBy (p * get_or ns nth 0) (drop (nth + 1) ns) (drop (nth + 1) ss)
+StepsBy-at p ns ss nth e h some steps =
+    let h' : nth < length ss = omega arith in
+    let size = ap size_of (drop_more ns nth 0 h) in
+    let w = both_positive (get_or ns nth 0) (size_of (drop (nth + 1) ns)) (omega arith) in
+    let here = rw (drop_more ns nth 0 h, drop_more ss nth (pos 0) h') at steps in (
+      λ long. StepsBy-first p (get_or ns nth 0) (get_or ss nth (pos 0)) (drop (nth + 1) ns) (drop (nth + 1) ss) w.1 long here,
+      StepsBy-rest p (get_or ns nth 0) (get_or ss nth (pos 0)) (drop (nth + 1) ns) (drop (nth + 1) ss) w.0 here,
     )
 
 -- the same, back
-pub StepsBy-back : (p : ℕ) (ns : List ℕ) (ss : List ℤ) (place : ℕ) → length ss ≡ length ns → place < length ns → 0 < size_of (drop place ns) → (1 < get_or ns place 0 → get_or ss place (pos 0) ≡ pos p) → StepsBy (p * get_or ns place 0) (drop (place + 1) ns) (drop (place + 1) ss) → StepsBy p (drop place ns) (drop place ss)
-StepsBy-back p ns ss place e h some first rest =
-    let h' : place < length ss = omega arith in
-    let size = ap size_of (drop_more ns place 0 h) in
-    let w = both_positive (get_or ns place 0) (size_of (drop (place + 1) ns)) (omega arith) in
-    rw (drop_more ns place 0 h, drop_more ss place (pos 0) h')
-    (StepsBy-from p (get_or ns place 0) (get_or ss place (pos 0)) (drop (place + 1) ns) (drop (place + 1) ss) w.0 first rest)
+pub StepsBy-back : (p : ℕ) (ns : List ℕ) (ss : List ℤ) (nth : ℕ) → length ss ≡ length ns → nth < length ns → 0 < size_of (drop nth ns) → (1 < get_or ns nth 0 → get_or ss nth (pos 0) ≡ pos p) → StepsBy (p * get_or ns nth 0) (drop (nth + 1) ns) (drop (nth + 1) ss) → StepsBy p (drop nth ns) (drop nth ss)
+StepsBy-back p ns ss nth e h some first rest =
+    let h' : nth < length ss = omega arith in
+    let size = ap size_of (drop_more ns nth 0 h) in
+    let w = both_positive (get_or ns nth 0) (size_of (drop (nth + 1) ns)) (omega arith) in
+    rw (drop_more ns nth 0 h, drop_more ss nth (pos 0) h')
+    (StepsBy-from p (get_or ns nth 0) (get_or ss nth (pos 0)) (drop (nth + 1) ns) (drop (nth + 1) ss) w.0 first rest)
 
 -- a part of the size, and the part with the next length
-pub part_of_size : (ns : List ℕ) (part place size : ℕ) → place < length ns → 0 < size → part * size_of (drop place ns) ≡ size → (part ≤ size) × (part * get_or ns place 0 ≤ size) × (0 < size_of (drop place ns)) × (0 < get_or ns place 0) × (part * get_or ns place 0 * size_of (drop (place + 1) ns) ≡ size)
-part_of_size ns part place size h some e =
-    let f = ap size_of (drop_more ns place 0 h) in
-    let n = get_or ns place 0 in
-    let w = both_positive part (size_of (drop place ns)) (omega arith) in
-    let v = both_positive n (size_of (drop (place + 1) ns)) (omega arith) in
-    let l = le-times part (size_of (drop place ns)) w.1 in
-    let k = le-times (part * n) (size_of (drop (place + 1) ns)) v.1 in
-    let a = mul_assoc part n (size_of (drop (place + 1) ns)) in
-    let b : part * size_of (drop place ns) ≡ part * (n * size_of (drop (place + 1) ns)) = ap (λ x. part * x) f in
+pub part_of_size : (ns : List ℕ) (part nth size : ℕ) → nth < length ns → 0 < size → part * size_of (drop nth ns) ≡ size → (part ≤ size) × (part * get_or ns nth 0 ≤ size) × (0 < size_of (drop nth ns)) × (0 < get_or ns nth 0) × (part * get_or ns nth 0 * size_of (drop (nth + 1) ns) ≡ size)
+part_of_size ns part nth size h some e =
+    let f = ap size_of (drop_more ns nth 0 h) in
+    let n = get_or ns nth 0 in
+    let w = both_positive part (size_of (drop nth ns)) (omega arith) in
+    let v = both_positive n (size_of (drop (nth + 1) ns)) (omega arith) in
+    let l = le-times part (size_of (drop nth ns)) w.1 in
+    let k = le-times (part * n) (size_of (drop (nth + 1) ns)) v.1 in
+    let a = mul_assoc part n (size_of (drop (nth + 1) ns)) in
+    let b : part * size_of (drop nth ns) ≡ part * (n * size_of (drop (nth + 1) ns)) = ap (λ x. part * x) f in
     (omega arith, omega arith, w.1, v.0, omega arith)

@@ -7,9 +7,9 @@ ghost use Rattle.nd_shape_and_slice.specs.Strides.{column_strides_from};
 ghost use Rattle.nd_layout.specs.Ranks.{fastest_first, IsRun};
 ghost use Rattle.nd_layout.specs.Growth.{IsContinued, case_number, greatest_end, greatest_step, grown_shape, growing_strides, growth_case, must_move, strides_in_case};
 
-use crate::ordered::{axis_at, has_no_elements, put_at};
+use crate::ordered::{axis_at, put_at};
 use crate::spans::length_without;
-use nd_shape_and_slice::Order;
+use nd_shape_and_slice::{Order, is_empty_shape};
 
 /// Whether some length other than this axis's is 0.
 fn others_are_empty(lengths: &[usize], axis: usize) -> bool
@@ -34,9 +34,9 @@ fn fill_strides(lengths: &[usize], axis: usize, order: Order, out: &mut [isize])
     ensures written { fastest_first order out.new ≡ column_strides_from 1 (fastest_first order (slice_set lengths.now axis 1)) }
 {
     let mut product: usize = 1;
-    for place in 0..lengths.len() {
-        put_at(out, order, place, product as isize);
-        product *= length_without(lengths, axis, axis_at(order, lengths.len(), place));
+    for nth in 0..lengths.len() {
+        put_at(out, order, nth, product as isize);
+        product *= length_without(lengths, axis, axis_at(order, lengths.len(), nth));
     }
     product
 }
@@ -179,7 +179,7 @@ fn case_of(
         GrowthCase::Empty
     } else if added == 0 {
         GrowthCase::Unchanged
-    } else if has_no_elements(lengths) {
+    } else if is_empty_shape(lengths) {
         GrowthCase::Fresh
     } else if !full || moves(lengths, strides, axis) {
         GrowthCase::Moved

@@ -1,56 +1,43 @@
 //! Lengths and strides of the axes from the fastest on.
 
-ghost use Rattle.std.specs.Prelude.{◌↔◌, ◌≡◌, ◌<◌, pos, length, IsTrue, slice_index, slice_index_or, slice_set};
-ghost use Rattle.nd_shape_and_slice.specs.Shape.{size_of};
+ghost use Rattle.std.specs.Prelude.{◌≡◌, ◌<◌, pos, length, slice_index, slice_index_or, slice_set};
 ghost use Rattle.nd_layout.specs.Ranks.{fastest_first, axis_in};
 
 use nd_shape_and_slice::Order;
 
-/// Which of `count` axes is the `place`-th fastest.
-pub(crate) fn axis_at(order: Order, count: usize, place: usize) -> usize
-    requires { place < count }
+/// Which of `count` axes is the `nth` fastest.
+pub(crate) fn axis_at(order: Order, count: usize, nth: usize) -> usize
+    requires { nth < count }
     ensures below { result < count }
-    ensures value { result ≡ axis_in order count place }
+    ensures value { result ≡ axis_in order count nth }
 {
     match order {
-        Order::RowMajor => count - 1 - place,
-        Order::ColumnMajor => place,
+        Order::RowMajor => count - 1 - nth,
+        Order::ColumnMajor => nth,
     }
 }
 
-/// The length of the `place`-th fastest axis.
-pub(crate) fn length_at(lengths: &[usize], order: Order, place: usize) -> usize
-    requires { place < length lengths.now }
-    ensures { result ≡ slice_index (fastest_first order lengths.now) place }
+/// The length of the `nth` fastest axis.
+pub(crate) fn length_at(lengths: &[usize], order: Order, nth: usize) -> usize
+    requires { nth < length lengths.now }
+    ensures { result ≡ slice_index (fastest_first order lengths.now) nth }
 {
-    lengths[axis_at(order, lengths.len(), place)]
+    lengths[axis_at(order, lengths.len(), nth)]
 }
 
-/// The stride of the `place`-th fastest axis.
-pub(crate) fn stride_at(strides: &[isize], order: Order, place: usize) -> isize
-    requires { place < length strides.now }
-    ensures { result ≡ slice_index_or (fastest_first order strides.now) place (pos 0) }
+/// The stride of the `nth` fastest axis.
+pub(crate) fn stride_at(strides: &[isize], order: Order, nth: usize) -> isize
+    requires { nth < length strides.now }
+    ensures { result ≡ slice_index_or (fastest_first order strides.now) nth (pos 0) }
 {
-    strides[axis_at(order, strides.len(), place)]
+    strides[axis_at(order, strides.len(), nth)]
 }
 
-/// Writes the stride of the `place`-th fastest axis.
-pub(crate) fn put_at(out: &mut [isize], order: Order, place: usize, stride: isize)
-    requires { place < length out.old }
-    ensures { fastest_first order out.new ≡ slice_set (fastest_first order out.old) place stride }
+/// Writes the stride of the `nth` fastest axis.
+pub(crate) fn put_at(out: &mut [isize], order: Order, nth: usize, stride: isize)
+    requires { nth < length out.old }
+    ensures { fastest_first order out.new ≡ slice_set (fastest_first order out.old) nth stride }
 {
-    let axis = axis_at(order, out.len(), place);
+    let axis = axis_at(order, out.len(), nth);
     out[axis] = stride;
-}
-
-/// Whether a shape has no elements: some length is 0.
-pub(crate) fn has_no_elements(lengths: &[usize]) -> bool
-    ensures { IsTrue result ↔ (size_of lengths.now ≡ 0) }
-{
-    for length in lengths {
-        if *length == 0 {
-            return true;
-        }
-    }
-    false
 }

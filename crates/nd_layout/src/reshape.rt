@@ -6,8 +6,8 @@ ghost use Rattle.nd_shape_and_slice.specs.Place.{span_of, IsSeparated};
 ghost use Rattle.nd_layout.specs.Ranks.{fastest_first, axis_in, Serves, ServesRanks, Regroups};
 ghost use Rattle.nd_layout.specs.Groups.{IsClosed, TakesLength};
 
-use crate::ordered::{has_no_elements, length_at, put_at, stride_at};
-use nd_shape_and_slice::Order;
+use crate::ordered::{length_at, put_at, stride_at};
+use nd_shape_and_slice::{Order, is_empty_shape};
 
 /// Axes that merge into one axis, and the number of the next axis.
 #[derive(Clone, Copy)]
@@ -202,7 +202,7 @@ pub fn reshape_strides(
     ensures separated { IsTrue result → 0 < size_of new.now → IsSeparated lengths.now strides.now → IsSeparated new.now out.new }
     ensures empty { size_of new.now ≡ 0 → out.new ≡ replicate (length new.now) (pos 0) }
 {
-    if has_no_elements(new) {
+    if is_empty_shape(new) {
         out.fill(0);
         return true;
     }
@@ -211,10 +211,10 @@ pub fn reshape_strides(
         step: 0,
         next: 0,
     };
-    for place in 0..new.len() {
-        match take_length(lengths, strides, order, group, length_at(new, order, place)) {
+    for nth in 0..new.len() {
+        match take_length(lengths, strides, order, group, length_at(new, order, nth)) {
             Some((stride, left)) => {
-                put_at(out, order, place, stride);
+                put_at(out, order, nth, stride);
                 group = left;
             }
             None => return false,

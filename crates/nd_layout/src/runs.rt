@@ -5,9 +5,9 @@ ghost use Rattle.nd_shape_and_slice.specs.Shape.{HasCheckedSize, size_of};
 ghost use Rattle.nd_shape_and_slice.specs.Place.{span_of};
 ghost use Rattle.nd_layout.specs.Ranks.{IsRun, IsStandard};
 
-use crate::ordered::{has_no_elements, length_at, stride_at};
+use crate::ordered::{length_at, stride_at};
 use crate::spans::{separated, span};
-use nd_shape_and_slice::Order;
+use nd_shape_and_slice::{Order, is_empty_shape};
 
 /// Whether an axis has this stride; an axis of length 1 may have any.
 fn steps_by(len: usize, stride: isize, count: usize) -> bool
@@ -25,13 +25,13 @@ pub fn is_standard(lengths: &[usize], strides: &[isize]) -> bool
     requires fits { span_of lengths.now strides.now < 2 ^ 63 }
     ensures { IsTrue result ↔ IsStandard lengths.now strides.now }
 {
-    if has_no_elements(lengths) {
+    if is_empty_shape(lengths) {
         return true;
     }
     let mut expected: usize = 1;
-    for place in 0..lengths.len() {
-        let len = length_at(lengths, Order::RowMajor, place);
-        if !steps_by(len, stride_at(strides, Order::RowMajor, place), expected) {
+    for nth in 0..lengths.len() {
+        let len = length_at(lengths, Order::RowMajor, nth);
+        if !steps_by(len, stride_at(strides, Order::RowMajor, nth), expected) {
             return false;
         }
         expected *= len;
@@ -60,7 +60,7 @@ pub fn is_run(lengths: &[usize], strides: &[isize]) -> bool
     requires fits { span_of lengths.now strides.now < 2 ^ 63 }
     ensures { IsTrue result ↔ ((size_of lengths.now ≡ 0) ⊎ IsRun lengths.now strides.now) }
 {
-    if has_no_elements(lengths) {
+    if is_empty_shape(lengths) {
         return true;
     }
     match span(lengths, strides) {

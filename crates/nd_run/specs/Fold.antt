@@ -5,9 +5,8 @@ use Rattle.std.specs.List.{filter_map}
 use Rattle.std.specs.Result.{result_unwrap_or}
 use Rattle.nd_shape_and_slice.specs.Shape.{indexes_of, in_box}
 use Rattle.nd_array_core.specs.Meaning.{Meaning, meaning_through}
-use Rattle.nd_run.specs.Calls.{AskedStep, Asking, AskShape, AskElements, AskElement, Asked, Keeping, About, Writing, SplitWriting, Said, SaidDone, SaidRefused, SaidShape, SaidElements, SaidElement}
+use Rattle.nd_run.specs.Calls.{AskedStep, Asking, AskShape, AskElements, AskElement, Asked, Keeping, About, Writing, SplitWriting, Said, SaidDone, SaidRefused, SaidShape, SaidElements, SaidElement, said_reply}
 use Rattle.std.specs.Prelude.{map}
-use Rattle.nd_run.specs.Calls.{said_reply}
 use Rattle.nd_run.specs.Steps.{refusal, keep_refusal, unless, step_shape, step_index, shape_along, index_along}
 use Rattle.nd_run.specs.Acts.{write_result, split_result, clones}
 use Rattle.nd_run.specs.declared.run.RunFault.{RunFault}

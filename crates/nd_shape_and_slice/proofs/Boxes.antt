@@ -12,13 +12,13 @@ coordinate_below (n ∷ ns) (i ∷ is) zero h lt = (in_box-cons n ns i is h).0
 coordinate_below (n ∷ ns) (i ∷ is) (suc k) h lt = coordinate_below ns is k (in_box-cons n ns i is h).1 (omega arith)
 
 -- an index with one coordinate for each axis, each below its length, is in the box
-pub in_box_from : (ns is : List ℕ) → length ns ≡ length is → ((k : ℕ) → k < length is → get_or is k 0 < get_or ns k 0) → in_box ns is ≡ true
-in_box_from [] [] e h = refl
-in_box_from [] (i ∷ is) e h = absurd (omega arith)
-in_box_from (n ∷ ns) [] e h = absurd (omega arith)
-in_box_from (n ∷ ns) (i ∷ is) e h =
+pub in_box-from_coordinates : (ns is : List ℕ) → length is ≡ length ns → ((k : ℕ) → k < length ns → get_or is k 0 < get_or ns k 0) → in_box ns is ≡ true
+in_box-from_coordinates [] [] e h = refl
+in_box-from_coordinates [] (i ∷ is) e h = absurd (omega arith)
+in_box-from_coordinates (n ∷ ns) [] e h = absurd (omega arith)
+in_box-from_coordinates (n ∷ ns) (i ∷ is) e h =
     let first : i < n = h zero (omega arith) in
-    let rest = in_box_from ns is (omega arith) (λ k lt. h (suc k) (omega arith)) in
+    let rest = in_box-from_coordinates ns is (omega arith) (λ k lt. h (suc k) (omega arith)) in
     grind (arith, nat_tests, first, rest)
 
 -- what is left of an index in the box is in what is left of the box

@@ -8,6 +8,7 @@ use Rattle.std.specs.Prelude.{slice_get, Option, None, Some}
 use Rattle.nd_shape_and_slice.specs.declared.slice_info.SliceInfoElem.{SliceInfoElem}
 use Rattle.nd_shape_and_slice.specs.declared.slice_info.SliceInfoElem.TheVariants.{Slice as Part, Index, NewAxis}
 use Rattle.nd_shape_and_slice.specs.SliceInfo.{reads_axis, keeps_axis, axes_kept, each_fits, fits_next}
+use Rattle.nd_shape_and_slice.specs.Slicing.{next_axis}
 
 -- how many axes an element reads
 abbrev pub reads : SliceInfoElem → ℕ
@@ -41,6 +42,11 @@ drop_more (n ∷ ns) (suc a) m = drop_more ns a m ∙ ap (λ k. drop k (n ∷ ns
   where
     next : suc (a + m) ≡ suc a + m
     next = omega arith
+
+pub next_axis-reads : (a : ℕ) (e : SliceInfoElem) → next_axis a e ≡ a + reads e
+next_axis-reads a (Part start end step) = omega arith
+next_axis-reads a (Index k) = omega arith
+next_axis-reads a NewAxis = omega arith
 
 -- the elements before the k-th fitted, and they read the axes before this one
 pub record IsFitUpTo (lengths : List ℕ) (elements : List SliceInfoElem) (axis k : ℕ) : Type 0 where

@@ -9,6 +9,7 @@ ghost use Rattle.nd_shape_and_slice.specs.declared.builder.Order.TheVariants.{Ro
 
 use crate::dimension::{Dimension, StrideList};
 use crate::index::IntoDimension;
+use crate::strides::strides_from;
 
 /// Which axis runs fastest. ndarray's `Order`.
 #[derive(Clone, Copy, Debug, PartialEq, Eq)]
@@ -131,18 +132,6 @@ impl<D: Dimension> StrideShape<D> {
     {
         self.dim.size()
     }
-}
-
-/// The strides of the list, one for each axis.
-fn strides_from<D: Dimension>(dim: &D, list: &[isize]) -> D::Strides
-    requires { length list.now ≡ length (D.lengths dim.now) }
-    ensures { D.Strides.strides_of result ≡ list.now }
-{
-    let mut strides = dim.zero_strides();
-    for axis in 0..list.len() {
-        strides.set(axis, list[axis]);
-    }
-    strides
 }
 
 /// What a shape is built from: lengths, or a shape with an order. ndarray's `ShapeBuilder`.

@@ -31,6 +31,7 @@ pub use resize::{InsertAxis, RemoveAxis};
 pub use size::{is_empty_shape, size_of_shape_checked};
 pub use slice::{Slice, SlicedAxis, slice_fits};
 pub use slice_info::{
-    SliceArg, SliceInfo, SliceInfoElem, axes_kept, axes_read, coordinate_on_axis, slices_fit,
+    SliceArg, SliceInfo, SliceInfoElem, axes_kept, axes_read, axis_after, coordinate_on_axis,
+    slices_fit,
 };
-pub use strides::{default_strides, fortran_strides};
+pub use strides::{default_strides, fortran_strides, strides_from};

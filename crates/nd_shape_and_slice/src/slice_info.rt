@@ -2,6 +2,7 @@
 
 ghost use Rattle.std.specs.Prelude.{◌↔◌, ◌≡◌, ◌≤◌, ◌==◌, ◌&&◌, not, nat_le, ℕ, Bool, true, false, List, length, drop, OnOk, IfOk, OnErr, IfErr, IsTrue, MatchOption, Option, Some, None, count_by, ◌∷◌, ◌+◌, ◌<◌, ◌^◌, if◌then◌else◌, slice_get};
 ghost use Rattle.nd_shape_and_slice.specs.SliceInfo.{reads_axis, keeps_axis, axes_read, axes_kept, coordinate_on, each_fits, fits_shape, fits_next, has_counts};
+ghost use Rattle.nd_shape_and_slice.specs.Slicing.{next_axis};
 ghost use Rattle.nd_shape_and_slice.specs.declared.slice_info.SliceInfoElem.{SliceInfoElem};
 
 use crate::dimension::{Dimension, MAX_AXES};
@@ -107,9 +108,9 @@ fn length_of(lengths: &[usize], axis: usize) -> Option<usize>
 }
 
 /// The axis after the one that the element reads, if it reads one.
-fn axis_past(axis: usize, element: SliceInfoElem) -> usize
+pub fn axis_after(axis: usize, element: SliceInfoElem) -> usize
     requires { axis < 2 ^ 63 }
-    ensures { result ≡ axis + (if reads_axis element then 1 else 0) }
+    ensures { result ≡ next_axis axis element }
 {
     if element.reads_axis() { axis + 1 } else { axis }
 }
@@ -123,7 +124,7 @@ fn elements_fit(lengths: &[usize], elements: &[SliceInfoElem]) -> bool
         if !element_fits(length_of(lengths, axis), *element) {
             return false;
         }
-        axis = axis_past(axis, *element);
+        axis = axis_after(axis, *element);
     }
     axis == lengths.len()
 }

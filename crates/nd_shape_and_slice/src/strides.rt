@@ -1,6 +1,6 @@
-//! The strides that a constructor gives.
+//! The strides that a constructor gives, and strides as they are listed.
 
-ghost use Rattle.std.specs.Prelude.{◌≡◌};
+ghost use Rattle.std.specs.Prelude.{◌≡◌, true, length};
 ghost use Rattle.nd_shape_and_slice.specs.Shape.{HasCheckedSize};
 ghost use Rattle.nd_shape_and_slice.specs.Strides.{c_strides, f_strides};
 
@@ -43,6 +43,19 @@ pub fn fortran_strides<D: Dimension>(dim: &D) -> D::Strides
     for axis in 0..lengths.len() {
         strides.set(axis, step as isize);
         step *= lengths[axis];
+    }
+    strides
+}
+
+/// The strides of a dimension's axes, as listed.
+pub fn strides_from<D: Dimension>(dim: &D, list: &[isize]) -> D::Strides
+    requires { length list.now ≡ length (D.lengths dim.now) }
+    ensures listed { D.Strides.strides_of result ≡ list.now }
+    ensures number { D.has_axes (length (D.lengths dim.now)) ≡ true }
+{
+    let mut strides = dim.zero_strides();
+    for axis in 0..dim.slice().len() {
+        strides.set(axis, list[axis]);
     }
     strides
 }

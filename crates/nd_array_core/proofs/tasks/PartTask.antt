@@ -12,8 +12,7 @@ use Rattle.nd_array_core.specs.scoped.Scoped.{with_named}
 use Rattle.nd_array_core.specs.scoped.Tasks.{array_placed_at, IsNamedMap, IsViewOf, IsViewThrough, OthersKeep, LiesSoundly}
 use Rattle.nd_array_core.specs.base.Writes.{OthersStay}
 use Rattle.nd_array_core.proofs.StepLemmas.{step_holds}
-use Rattle.nd_layout.proofs.steps.StepLemmas.{step_valid}
-use Rattle.nd_layout.proofs.steps.StepLemmas.{step_some}
+use Rattle.nd_layout.proofs.steps.StepLemmas.{step_valid, step_some}
 use Rattle.nd_array_core.proofs.WriteStep.{one_index}
 use Rattle.nd_array_core.proofs.tasks.TaskStep.{part_is_view, left_is_view}
 

@@ -15,53 +15,11 @@ ghost use Rattle.nd_array_core.specs.layout.Parts.{HoldsEachOnce, IsViewUnder};
 ghost use Rattle.nd_array_core.specs.Places.{kept_at, ShareNoPlace};
 
 use crate::base::array::{ArrayBase, ArrayView, ArrayViewMut};
-use crate::base::storage::{Data, DataMut, ViewMutRepr, ViewRepr};
+use crate::base::storage::{DataMut, ViewMutRepr, ViewRepr};
 use nd_layout::Layout;
 use nd_shape_and_slice::{Axis, Dimension, SliceArg, StrideList};
 
-impl<S: Data, D: Dimension> ArrayBase<S, D> {
-    /// Keeps the coordinates of an axis below this one.
-    fn keep_lower(&mut self, axis: usize, index: usize)
-        requires on { axis < length (shape_of self.old) }
-        requires within { index ≤ slice_index (shape_of self.old) axis }
-        ensures shape { shape_of self.new ≡ lower_shape (shape_of self.old) axis index }
-        ensures strides { layout_strides self.new ≡ layout_strides self.old }
-        ensures elements { (i : List ℕ) → element_at self.new i ≡ inside (shape_of self.new) i (element_at self.old i) }
-        ensures storage { storage_of self.new ≡ storage_of self.old }
-        ensures places { (i : List ℕ) → place_at self.new i ≡ inside (shape_of self.new) i (place_at self.old i) }
-    {
-        self.layout.keep_lower(axis, index);
-    }
-
-    /// Keeps the coordinates of an axis from this one on.
-    fn keep_upper(&mut self, axis: usize, index: usize)
-        requires on { axis < length (shape_of self.old) }
-        requires within { index ≤ slice_index (shape_of self.old) axis }
-        ensures shape { shape_of self.new ≡ upper_shape (shape_of self.old) axis index }
-        ensures strides { layout_strides self.new ≡ layout_strides self.old }
-        ensures elements { (i : List ℕ) → element_at self.new i ≡ inside (shape_of self.new) i (element_at self.old (upper_index axis index i)) }
-        ensures storage { storage_of self.new ≡ storage_of self.old }
-        ensures places { (i : List ℕ) → place_at self.new i ≡ inside (shape_of self.new) i (place_at self.old (upper_index axis index i)) }
-    {
-        self.layout.keep_upper(axis, index);
-    }
-}
-
 impl<'a, A, D: Dimension> ArrayView<'a, A, D> {
-    /// A copy of the view.
-    fn copied(&self) -> Self
-        ensures shape { shape_of result ≡ shape_of self.now }
-        ensures strides { layout_strides result ≡ layout_strides self.now }
-        ensures elements { (i : List ℕ) → element_at result i ≡ element_at self.now i }
-    {
-        ArrayBase {
-            storage: ViewRepr {
-                region: self.storage.region,
-            },
-            layout: self.layout.copied(),
-        }
-    }
-
     /// The two parts of an axis: the coordinates below this one, and those from it on. The axis is below `ndim`,
     /// and the coordinate at most its length. ndarray's `ArrayView::split_at`.
     pub fn split_at(self, axis: Axis, index: usize) -> (Self, Self)
@@ -74,15 +32,22 @@ impl<'a, A, D: Dimension> ArrayView<'a, A, D> {
         ensures upper_strides { layout_strides result.1 ≡ layout_strides self.entry }
         ensures upper { (i : List ℕ) → element_at result.1 i ≡ inside (shape_of result.1) i (element_at self.entry (upper_index axis.0 index i)) }
     {
-        let mut lower = self.copied();
-        let mut upper = self;
-        lower.keep_lower(axis.0, index);
-        upper.keep_upper(axis.0, index);
+        let (lower, upper) = self.layout.halves(axis.0, index);
+        let lower = ArrayBase {
+            storage: ViewRepr {
+                region: self.storage.region,
+            },
+            layout: lower,
+        };
+        let upper = ArrayBase {
+            storage: self.storage,
+            layout: upper,
+        };
         (lower, upper)
     }
 }
 
-/// The layouts of the two parts of an axis: the coordinates below this one, and those from it on.
+/// The layouts of the two parts of an axis, which share no place where the strides are separated.
 fn halves<D: Dimension, T: StrideList>(
     layout: &Layout<D, T>,
     axis: usize,
@@ -99,11 +64,7 @@ fn halves<D: Dimension, T: StrideList>(
     ensures upper { IsStep layout.now.offset (D.lengths layout.now.dim) (T.strides_of layout.now.strides) result.1.offset (D.lengths result.1.dim) (T.strides_of result.1.strides) (upper_index axis index) }
     ensures apart { LayoutsShareNoPlace result.0.offset (D.lengths result.0.dim) (T.strides_of result.0.strides) result.1.offset (D.lengths result.1.dim) (T.strides_of result.1.strides) }
 {
-    let mut lower = layout.copied();
-    let mut upper = layout.copied();
-    lower.keep_lower(axis, index);
-    upper.keep_upper(axis, index);
-    (lower, upper)
+    layout.halves(axis, index)
 }
 
 impl<'a, A> ViewMutRepr<'a, A> {

@@ -206,10 +206,7 @@ impl<S: DataMut, D: Dimension> ArrayBase<S, D> {
         ensures done { IsDoneOnParts (λ v0 v1 w0 w1. K.post task v0 v1 w0 w1 result) self.old self.new (lower_part (shape_of self.old) axis.0 index) (upper_part (shape_of self.old) axis.0 index) }
     {
         let whole = self.layout.copied();
-        let mut lower = self.layout.copied();
-        let mut upper = self.layout.copied();
-        lower.keep_lower(axis.0, index);
-        upper.keep_upper(axis.0, index);
+        let (lower, upper) = self.layout.halves(axis.0, index);
         with_placement_pair(&mut self.storage, whole, lower, upper, task)
     }
 }

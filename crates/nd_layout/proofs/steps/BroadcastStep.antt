@@ -8,11 +8,9 @@ use Rattle.nd_shape_and_slice.specs.Shape.{in_box, nonzero_product, HasCheckedSi
 use Rattle.nd_shape_and_slice.specs.Place.{displacement_of, span_of}
 use Rattle.nd_shape_and_slice.proofs.RowMajor.{length-in_box}
 use Rattle.nd_layout.proofs.Integers.{zero-mul}
-use Rattle.nd_layout.specs.Steps.{IsValid}
+use Rattle.nd_layout.specs.Steps.{IsValid, IsViewStep}
 use Rattle.nd_shape_and_slice.specs.Broadcast.{axes_added, stretches, broadcasts, stretched_index, broadcast_index}
-use Rattle.nd_layout.specs.Steps.{IsViewStep}
-use Rattle.nd_layout.specs.Strides.{stretched_strides}
-use Rattle.nd_layout.specs.Strides.{broadcast_strides}
+use Rattle.nd_layout.specs.Strides.{stretched_strides, broadcast_strides}
 use Rattle.nd_shape_and_slice.proofs.Boxes.{in_box-drop}
 use Rattle.nd_layout.proofs.steps.StepLemmas.{seen_reaches}
 

@@ -7,15 +7,14 @@ use Rattle.std.proofs.lemmas.Int.{ints}
 use Rattle.std.proofs.lemmas.List.{drop_more, drop_all}
 use Rattle.nd_shape_and_slice.specs.Shape.{in_box, HasCheckedSize}
 use Rattle.nd_shape_and_slice.specs.Place.{displacement_of, span_of}
-use Rattle.nd_layout.specs.Strides.{sum_of}
+use Rattle.nd_layout.specs.Strides.{sum_of, diagonal_stride}
 use Rattle.nd_layout.proofs.Integers.{zero-mul, sums}
-use Rattle.nd_layout.proofs.Bounds.{coordinate_below}
+use Rattle.nd_shape_and_slice.proofs.Boxes.{coordinate_below}
 use Rattle.nd_layout.proofs.Reaches.{span_of-drop}
 use Rattle.nd_layout.proofs.Sizes.{length-le-product}
 use Rattle.nd_layout.proofs.Diagonal.{displacement_of-diagonal, in_box-diagonal, diagonal-le-span, diagonal-moves, one_axis-separated}
 use Rattle.nd_layout.specs.Steps.{IsStep}
 use Rattle.nd_shape_and_slice.specs.Maps.{least_of, diagonal_length, diagonal_index}
-use Rattle.nd_layout.specs.Strides.{diagonal_stride}
 
 least-le : (m : ℕ) (ns : List ℕ) → least_of m ns ≤ m
 least-le m [] = omega arith

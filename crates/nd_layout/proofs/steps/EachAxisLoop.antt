@@ -10,8 +10,7 @@ use Rattle.nd_shape_and_slice.specs.Descriptions.{axes_from}
 use Rattle.nd_shape_and_slice.specs.Slice.{fits_axis, sliced_length, sliced_from, sliced_shape, sliced_index}
 use Rattle.nd_shape_and_slice.specs.EachAxis.{each_sliced_shape, each_sliced_index, AnswersFit, AnswersAre}
 use Rattle.nd_layout.specs.Steps.{IsStep}
-use Rattle.nd_layout.proofs.steps.StepLemmas.{step_then}
-use Rattle.nd_layout.proofs.steps.StepLemmas.{step_by}
+use Rattle.nd_layout.proofs.steps.StepLemmas.{step_then, step_by}
 use Rattle.nd_layout.proofs.steps.ResizeStep.{same_is_step}
 
 -- one axis more

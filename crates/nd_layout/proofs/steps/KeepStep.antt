@@ -18,8 +18,7 @@ use Rattle.nd_shape_and_slice.specs.SliceInfo.{coordinate_on, reads_axis, keeps_
 use Rattle.nd_layout.proofs.Integers.{zero-mul}
 use Rattle.nd_shape_and_slice.specs.Slicing.{collapsed_after, collapsed_before, next_axis, kept_items, put_back, indexed_ones}
 use Rattle.nd_layout.specs.Steps.{IsStep}
-use Rattle.nd_layout.proofs.steps.StepLemmas.{step_then}
-use Rattle.nd_layout.proofs.steps.StepLemmas.{step_by}
+use Rattle.nd_layout.proofs.steps.StepLemmas.{step_then, step_by}
 use Rattle.nd_shape_and_slice.proofs.FillLoop.{IsFilledBelow, filled_none, filled_more, filled_all}
 use Rattle.nd_layout.proofs.steps.SliceLoop.{one_more}
 

@@ -12,8 +12,7 @@ use Rattle.nd_layout.proofs.Integers.{zero-mul}
 use Rattle.nd_layout.proofs.Removed.{displacement_of-inserted, in_box-inserted, span_of-removed-le, IsSeparated-removed, HasCheckedSize-removed, displacement_of-inserted_zero, in_box-inserted_axis, span_of-inserted_axis, IsSeparated-inserted_axis, nonzero_product-inserted_axis}
 use Rattle.nd_layout.specs.Steps.{IsStep}
 use Rattle.nd_shape_and_slice.specs.Maps.{collapsed_shape, collapsed_index, indexed_shape, indexed_index, inserted_shape, inserted_index}
-use Rattle.nd_layout.proofs.steps.StepLemmas.{step_then}
-use Rattle.nd_layout.proofs.steps.StepLemmas.{step_by}
+use Rattle.nd_layout.proofs.steps.StepLemmas.{step_then, step_by}
 
 -- nothing changes
 pub same_is_step : (offset : ℕ) (ns : List ℕ) (ss : List ℤ) → length ss ≡ length ns → IsStep offset ns ss offset ns ss (λ i. i)

@@ -10,8 +10,7 @@ use Rattle.nd_shape_and_slice.specs.declared.slice_info.SliceInfoElem.TheVariant
 use Rattle.nd_shape_and_slice.specs.SliceInfo.{coordinate_on, each_fits, fits_next}
 use Rattle.nd_shape_and_slice.specs.Slicing.{collapsed_after, collapsed_before, shape_with, index_with, next_axis}
 use Rattle.nd_layout.specs.Steps.{IsStep}
-use Rattle.nd_layout.proofs.steps.StepLemmas.{step_then}
-use Rattle.nd_layout.proofs.steps.StepLemmas.{step_by}
+use Rattle.nd_layout.proofs.steps.StepLemmas.{step_then, step_by}
 use Rattle.nd_layout.proofs.steps.ResizeStep.{same_is_step}
 
 -- a fitting coordinate is on its axis

@@ -6,8 +6,7 @@ use Rattle.std.proofs.lemmas.List.{length-map, get_or-map}
 use Rattle.nd_shape_and_slice.proofs.RowMajor.{length-in_box}
 use Rattle.nd_shape_and_slice.specs.Squeeze.{isnt_one, all_one, stays, kept_of, spread_over, goes_at, shape_squeezed_at, index_squeezed_at}
 use Rattle.nd_layout.specs.Steps.{IsStep}
-use Rattle.nd_layout.proofs.steps.StepLemmas.{step_then}
-use Rattle.nd_layout.proofs.steps.StepLemmas.{step_by}
+use Rattle.nd_layout.proofs.steps.StepLemmas.{step_then, step_by}
 use Rattle.nd_layout.proofs.steps.ResizeStep.{same_is_step}
 
 -- the axes below k stay whatever they are

@@ -63,3 +63,7 @@ module _ {offset : ℕ} {ns : List ℕ} {ss : List ℤ} {offset' : ℕ} {ns' : L
     checked = step.checked;
     separated = step.separated;
   }
+
+-- a step from what is known to be the same layout
+pub step_from : {offset offset' : ℕ} {ns ns' : List ℕ} {ss ss' : List ℤ} {f : ℕ} {n : List ℕ} {s : List ℤ} {source : List ℕ → List ℕ} → offset ≡ offset' → ns ≡ ns' → ss ≡ ss' → IsStep offset ns ss f n s source → IsStep offset' ns' ss' f n s source
+step_from {f = f} {n = n} {s = s} {source = source} a b c step = subst (λ (z : ℕ × List ℕ × List ℤ). IsStep z.0 z.1 z.2 f n s source) (λ i. (a i, b i, c i)) step

@@ -6,8 +6,7 @@ use Rattle.std.proofs.lemmas.Bool.Decides.{nat_tests}
 use Rattle.nd_shape_and_slice.specs.Shape.{in_box}
 use Rattle.nd_shape_and_slice.specs.Place.{displacement_of, place_of}
 use Rattle.nd_shape_and_slice.proofs.RowMajor.{in_box-cons, zeros_in_box, displacement_of-origin}
-use Rattle.nd_layout.specs.Places.{is_place}
-use Rattle.nd_layout.specs.Places.{ReachesPlaces}
+use Rattle.nd_layout.specs.Places.{is_place, ReachesPlaces}
 
 -- a place is below 2^63
 pub place_below : (p : ℕ) → is_place (pos p) ≡ true → p < 9223372036854775808

@@ -3,9 +3,8 @@
 ghost use Rattle.std.specs.Prelude.{◌↔◌, ◌≡◌, ◌<◌, ◌≤◌, ◌-◌, ℕ, IsTrue, length, reverse, slice_index, slice_index_or, slice_set, swap, pos, ◌+ℤ◌, ◌*ℤ◌};
 ghost use Rattle.nd_shape_and_slice.specs.Shape.{size_of};
 ghost use Rattle.nd_shape_and_slice.specs.Axes.{HasEachAxis, permuted_list, unpermuted_list};
-ghost use Rattle.nd_layout.specs.Strides.{permuted_strides as permuted_ints};
+ghost use Rattle.nd_layout.specs.Strides.{permuted_strides as permuted_ints, opposite_stride};
 ghost use Rattle.nd_shape_and_slice.specs.Maps.{inverted_index, collapsed_shape, collapsed_index, lower_shape, upper_shape, upper_index};
-ghost use Rattle.nd_layout.specs.Strides.{opposite_stride};
 ghost use Rattle.nd_layout.specs.Steps.{IsStep, IsValid};
 
 use super::Layout;
@@ -171,6 +170,24 @@ impl<D: Dimension, T: StrideList> Layout<D, T> {
         let len = length_at(self.dim.slice(), axis);
         self.offset = offset;
         self.dim.set_length(axis, len - index);
+    }
+
+    /// The two parts of an axis: the coordinates below this one, and those from it on.
+    pub fn halves(&self, axis: usize, index: usize) -> (Self, Self)
+        requires on { axis < length (D.lengths self.now.dim) }
+        requires within { index ≤ slice_index (D.lengths self.now.dim) axis }
+        ensures lower_lengths { D.lengths result.0.dim ≡ lower_shape (D.lengths self.now.dim) axis index }
+        ensures lower_strides { T.strides_of result.0.strides ≡ T.strides_of self.now.strides }
+        ensures lower { IsStep self.now.offset (D.lengths self.now.dim) (T.strides_of self.now.strides) result.0.offset (D.lengths result.0.dim) (T.strides_of result.0.strides) (λ i. i) }
+        ensures upper_lengths { D.lengths result.1.dim ≡ upper_shape (D.lengths self.now.dim) axis index }
+        ensures upper_strides { T.strides_of result.1.strides ≡ T.strides_of self.now.strides }
+        ensures upper { IsStep self.now.offset (D.lengths self.now.dim) (T.strides_of self.now.strides) result.1.offset (D.lengths result.1.dim) (T.strides_of result.1.strides) (upper_index axis index) }
+    {
+        let mut lower = self.copied();
+        let mut upper = self.copied();
+        lower.keep_lower(axis, index);
+        upper.keep_upper(axis, index);
+        (lower, upper)
     }
 }
 

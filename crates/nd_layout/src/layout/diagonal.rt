@@ -2,9 +2,8 @@
 
 ghost use Rattle.std.specs.Prelude.{◌≡◌, ◌<◌, ◌^◌, ℕ, [], ◌∷◌, length, min, slice_index, nat_abs, ◌+ℤ◌};
 ghost use Rattle.nd_shape_and_slice.specs.Place.{span_of};
-ghost use Rattle.nd_layout.specs.Strides.{sum_of};
+ghost use Rattle.nd_layout.specs.Strides.{sum_of, diagonal_stride};
 ghost use Rattle.nd_shape_and_slice.specs.Maps.{diagonal_length, diagonal_index};
-ghost use Rattle.nd_layout.specs.Strides.{diagonal_stride};
 ghost use Rattle.nd_layout.specs.Steps.{IsStep};
 
 use super::Layout;

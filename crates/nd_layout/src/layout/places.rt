@@ -3,8 +3,7 @@
 ghost use Rattle.std.specs.Prelude.{◌↔◌, ◌≡◌, ◌<◌, ◌^◌, ℕ, true, IsTrue, List, length, pos, ◌+ℤ◌, ◌*ℤ◌};
 ghost use Rattle.nd_shape_and_slice.specs.Shape.{in_box, HasCheckedSize};
 ghost use Rattle.nd_shape_and_slice.specs.Place.{place_of};
-ghost use Rattle.nd_layout.specs.Places.{is_place};
-ghost use Rattle.nd_layout.specs.Places.{ReachesPlaces};
+ghost use Rattle.nd_layout.specs.Places.{is_place, ReachesPlaces};
 
 /// Whether the index has one coordinate for each axis, each below its length.
 pub(crate) fn is_in_box(lengths: &[usize], index: &[usize]) -> bool

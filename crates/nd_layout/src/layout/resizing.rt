@@ -7,20 +7,9 @@ ghost use Rattle.nd_layout.specs.Steps.{IsStep};
 
 use super::Layout;
 use super::axes::{offset_collapsed, stride_at};
-use nd_shape_and_slice::{Axis, Dimension, DynStrides, InsertAxis, IxDyn, RemoveAxis, StrideList};
-
-/// The strides of a dimension's axes, as listed.
-fn strides_from<E: Dimension>(dim: &E, list: &[isize]) -> E::Strides
-    requires { length list.now ≡ length (E.lengths dim.now) }
-    ensures listed { E.Strides.strides_of result ≡ list.now }
-    ensures number { E.has_axes (length (E.lengths dim.now)) ≡ true }
-{
-    let mut out = dim.zero_strides();
-    for k in 0..dim.slice().len() {
-        out.set(k, stride_at(list, k));
-    }
-    out
-}
+use nd_shape_and_slice::{
+    Axis, Dimension, DynStrides, InsertAxis, IxDyn, RemoveAxis, StrideList, strides_from,
+};
 
 /// The stride of an axis where another has been taken out.
 fn stride_without(list: &[isize], axis: usize, k: usize) -> isize

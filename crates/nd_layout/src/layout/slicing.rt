@@ -5,19 +5,17 @@ ghost use Rattle.nd_shape_and_slice.specs.declared.slice.Slice.{Slice};
 ghost use Rattle.nd_shape_and_slice.specs.Descriptions.{axes_from};
 ghost use Rattle.nd_shape_and_slice.specs.Slice.{fits_axis, sliced_length, sliced_shape, sliced_index};
 ghost use Rattle.nd_shape_and_slice.specs.SliceInfo.{reads_axis, axes_read, axes_kept, each_fits, fits_next, fits_shape, shape_after, index_before};
-ghost use Rattle.nd_layout.specs.Strides.{sliced_strides};
+ghost use Rattle.nd_layout.specs.Strides.{sliced_strides, stepped_stride, FitsStride};
 ghost use Rattle.nd_shape_and_slice.specs.EachAxis.{each_sliced_shape, each_sliced_index, AnswersFit, AnswersAre};
-ghost use Rattle.nd_shape_and_slice.specs.Slicing.{collapsed_after, collapsed_before, shape_with, index_with, next_axis, kept_items, put_back, indexed_ones};
+ghost use Rattle.nd_shape_and_slice.specs.Slicing.{collapsed_after, collapsed_before, shape_with, index_with, kept_items, put_back, indexed_ones};
 ghost use Rattle.nd_layout.specs.Steps.{IsStep, IsValid};
-ghost use Rattle.nd_layout.specs.Strides.{stepped_stride};
-ghost use Rattle.nd_layout.specs.Strides.{FitsStride};
 
 use super::Layout;
 use super::axes::{leaves_none, length_at, stride_at};
 use super::places::moved_by;
 use nd_shape_and_slice::{
     Axis, AxisDescription, Dimension, MAX_AXES, Slice, SliceInfoElem, StrideList, axes_kept,
-    coordinate_on_axis,
+    axis_after, coordinate_on_axis,
 };
 
 /// A layout of which one axis is changed: the offset, and the axis's length and stride.
@@ -85,14 +83,6 @@ impl<D: Dimension, T: StrideList> Layout<D, T> {
         self.dim.set_length(axis, after.len);
         self.strides.set(axis, after.stride);
     }
-}
-
-/// The axis after the one that the element reads, if it reads one.
-fn axis_after(axis: usize, element: SliceInfoElem) -> usize
-    requires { axis < 2 ^ 63 }
-    ensures { result ≡ next_axis axis element }
-{
-    if element.reads_axis() { axis + 1 } else { axis }
 }
 
 /// The length of the axis that the element reads; 1 for a new axis.

@@ -12,23 +12,23 @@ use Rattle.nd_layout.proofs.Serving.{serves_all}
 use Rattle.nd_layout.proofs.Reshaped.{sizes_at, some_to_take, span_left, taken_more, size_left, none_left, all_taken, span_all, separated_all, Serves-empty}
 use Rattle.nd_layout.proofs.reshape.reshape_strides.Goals as goal
 
-pub returns-then-has_no_elements-clause-exact : goal.returns-then-has_no_elements-clause-exact
-returns-then-has_no_elements-clause-exact c =
+pub returns-then-is_empty_shape-clause-exact : goal.returns-then-is_empty_shape-clause-exact
+returns-then-is_empty_shape-clause-exact c =
     let zeros = replicate (length c.args.new.now) (pos 0) in
     (λ _. (zeros, Serves-empty c.args.order c.args.lengths.now c.args.strides.now c.args.new.now zeros (search rules) (length-replicate (length c.args.new.now) (pos 0))), λ _. refl)
 
-pub returns-then-has_no_elements-clause-serves : goal.returns-then-has_no_elements-clause-serves
-returns-then-has_no_elements-clause-serves c =
+pub returns-then-is_empty_shape-clause-serves : goal.returns-then-is_empty_shape-clause-serves
+returns-then-is_empty_shape-clause-serves c =
     λ _. Serves-empty c.args.order c.args.lengths.now c.args.strides.now c.args.new.now c.fill.new.self (search rules) (c.fill.ensures.len ∙ c.requires.as_long)
 
-pub returns-then-has_no_elements-clause-span : goal.returns-then-has_no_elements-clause-span
-returns-then-has_no_elements-clause-span c =
+pub returns-then-is_empty_shape-clause-span : goal.returns-then-is_empty_shape-clause-span
+returns-then-is_empty_shape-clause-span c =
     λ _.
     let zeros = c.fill.ensures.after (λ y is. search rules) in
     rw zeros (omega (arith, span_of-zeros c.args.new.now (length c.args.out.now)))
 
-pub loop-place-init : goal.loop-place-init
-loop-place-init c =
+pub loop-nth-init : goal.loop-nth-init
+loop-nth-init c =
     let ns = fastest_first c.args.order c.args.lengths.now in
     let ss = fastest_first c.args.order c.args.strides.now in
     let ln = length-ordered c.args.order c.args.lengths.now in
@@ -46,23 +46,23 @@ take_length-requires-clause-some c =
     let lm = length-ordered c.args.order c.args.new.now in
     let z = size_of-ordered c.args.order c.args.new.now in
     let some : 0 < size_of c.args.new.now = search rules in
-    rw c.length_at.ensures (some_to_take ms c.loop-place.place _ (omega arith) (omega arith) c.loop-place.invariant.size)
+    rw c.length_at.ensures (some_to_take ms c.loop-nth.nth _ (omega arith) (omega arith) c.loop-nth.invariant.size)
 
 pub take_length-requires-clause-small : goal.take_length-requires-clause-small
 take_length-requires-clause-small c =
     let ms = fastest_first c.args.order c.args.new.now in
     let z = size_of-ordered c.args.order c.args.new.now in
     let some : 0 < size_of c.args.new.now = search rules in
-    let w = sizes_at ms c.loop-place.place (omega arith) in
-    omega (arith, c.loop-place.invariant.size)
+    let w = sizes_at ms c.loop-nth.nth (omega arith) in
+    omega (arith, c.loop-nth.invariant.size)
 
 pub take_length-requires-clause-fits : goal.take_length-requires-clause-fits
 take_length-requires-clause-fits c =
     let ms = fastest_first c.args.order c.args.new.now in
-    let ts = fastest_first c.args.order c.loop-place.out in
+    let ts = fastest_first c.args.order c.loop-nth.out in
     let lm = length-ordered c.args.order c.args.new.now in
-    let lt = length-ordered c.args.order c.loop-place.out in
-    let left = span_left _ _ ms ts _ _ c.loop-place.place (omega arith) c.loop-place.invariant.regroups in
+    let lt = length-ordered c.args.order c.loop-nth.out in
+    let left = span_left _ _ ms ts _ _ c.loop-nth.nth (omega arith) c.loop-nth.invariant.regroups in
     omega (arith, left, span_of-ordered c.args.order c.args.lengths.now c.args.strides.now c.requires.as_many)
 
 pub returns-in-None-clause-exact : goal.returns-in-None-clause-exact
@@ -71,87 +71,87 @@ returns-in-None-clause-exact c =
     let ns = fastest_first o c.args.lengths.now in
     let ss = fastest_first o c.args.strides.now in
     let ms = fastest_first o c.args.new.now in
-    let ts = fastest_first o c.loop-place.out in
-    let g = c.loop-place.group in
-    let place = c.loop-place.place in
+    let ts = fastest_first o c.loop-nth.out in
+    let g = c.loop-nth.group in
+    let nth = c.loop-nth.nth in
     let lm = length-ordered o c.args.new.now in
-    let lt = length-ordered o c.loop-place.out in
+    let lt = length-ordered o c.loop-nth.out in
     let z = size_of-ordered o c.args.new.now in
     let some : 0 < size_of c.args.new.now = search rules in
-    let e : c.length_at.result ≡ get_or ms place 0 = c.length_at.ensures in
-    let within : place < length ms = omega arith in
-    let sizes : c.length_at.result * size_of (drop (place + 1) ms) ≡ g.length * size_of (drop g.next ns) =
-    ap (λ (n : ℕ). n * size_of (drop (place + 1) ms)) e ∙ sym (size_of-drop ms place within) ∙ sym c.loop-place.invariant.size in (
+    let e : c.length_at.result ≡ get_or ms nth 0 = c.length_at.ensures in
+    let within : nth < length ms = omega arith in
+    let sizes : c.length_at.result * size_of (drop (nth + 1) ms) ≡ g.length * size_of (drop g.next ns) =
+    ap (λ (n : ℕ). n * size_of (drop (nth + 1) ms)) e ∙ sym (size_of-drop ms nth within) ∙ sym c.loop-nth.invariant.size in (
       λ no. absurd (false≢true no),
       λ w. absurd
-          (none_left ns ss ms ts (fastest_first o w.0) (g.length ∷ drop g.next ns) (g.step ∷ drop g.next ss) place within (omega arith) (omega arith) c.loop-place.invariant.regroups
-          (λ vs serves. c.in-None.ensures {u = tt} (drop (place + 1) ms) vs sizes
-          (subst (λ (n : ℕ). ServesRanks (g.length ∷ drop g.next ns) (g.step ∷ drop g.next ss) (n ∷ drop (place + 1) ms) vs) (sym e) serves))
+          (none_left ns ss ms ts (fastest_first o w.0) (g.length ∷ drop g.next ns) (g.step ∷ drop g.next ss) nth within (omega arith) (omega arith) c.loop-nth.invariant.regroups
+          (λ vs serves. c.in-None.ensures {u = tt} (drop (nth + 1) ms) vs sizes
+          (subst (λ (n : ℕ). ServesRanks (g.length ∷ drop g.next ns) (g.step ∷ drop g.next ss) (n ∷ drop (nth + 1) ms) vs) (sym e) serves))
           (ranks_from_Serves o c.args.lengths.now c.args.strides.now c.args.new.now w.0 c.requires.as_many c.requires.same_size w.1)),
     )
 
-pub loop-place-preserved : goal.loop-place-preserved
-loop-place-preserved c =
+pub loop-nth-preserved : goal.loop-nth-preserved
+loop-nth-preserved c =
     let o = c.args.order in
     let ns = fastest_first o c.args.lengths.now in
     let ss = fastest_first o c.args.strides.now in
     let ms = fastest_first o c.args.new.now in
-    let ts = fastest_first o c.loop-place.out in
-    let g = c.loop-place.group in
+    let ts = fastest_first o c.loop-nth.out in
+    let g = c.loop-nth.group in
     let h = c.in-Some.left in
-    let place = c.loop-place.place in
+    let nth = c.loop-nth.nth in
     let lm = length-ordered o c.args.new.now in
-    let lt = length-ordered o c.loop-place.out in
+    let lt = length-ordered o c.loop-nth.out in
     let z = size_of-ordered o c.args.new.now in
     let some : 0 < size_of c.args.new.now = search rules in
     let f : FitsSigned w64 c.in-Some.stride = search rules in
-    let put = c.put_at.ensures ∙ ap (λ t. set ts place t) (to_z-of_z w64 c.in-Some.stride f) in
-    let e : c.length_at.result ≡ get_or ms place 0 = c.length_at.ensures in
-    let within : place < length ms = omega arith in
+    let put = c.put_at.ensures ∙ ap (λ t. set ts nth t) (to_z-of_z w64 c.in-Some.stride f) in
+    let e : c.length_at.result ≡ get_or ms nth 0 = c.length_at.ensures in
+    let within : nth < length ms = omega arith in
     let taken = c.in-Some.ensures {u = tt} in
     let step = subst (λ (n : ℕ). Regroups (g.length ∷ drop g.next ns) (g.step ∷ drop g.next ss) (n ∷ h.length ∷ drop h.next ns) (c.in-Some.stride ∷ h.step ∷ drop h.next ss)) e taken.0 in
     record {
       on = taken.1;
       closed = taken.2;
-      size = size_left (g.length ∷ drop g.next ns) (h.length ∷ drop h.next ns) ms place within (omega arith) c.loop-place.invariant.size step.size;
-      regroups = taken_more ns ss ms ts _ place (g.length ∷ drop g.next ns) (g.step ∷ drop g.next ss) (h.length ∷ drop h.next ns) (h.step ∷ drop h.next ss) c.in-Some.stride within (omega arith) put c.loop-place.invariant.regroups step;
+      size = size_left (g.length ∷ drop g.next ns) (h.length ∷ drop h.next ns) ms nth within (omega arith) c.loop-nth.invariant.size step.size;
+      regroups = taken_more ns ss ms ts _ nth (g.length ∷ drop g.next ns) (g.step ∷ drop g.next ss) (h.length ∷ drop h.next ns) (h.step ∷ drop h.next ss) c.in-Some.stride within (omega arith) put c.loop-nth.invariant.regroups step;
     }
 
 pub returns-clause-exact : goal.returns-clause-exact
 returns-clause-exact c =
     let ms = fastest_first c.args.order c.args.new.now in
-    let ts = fastest_first c.args.order c.loop-place.out in
+    let ts = fastest_first c.args.order c.loop-nth.out in
     let lm = length-ordered c.args.order c.args.new.now in
-    let lt = length-ordered c.args.order c.loop-place.out in
-    let all = all_taken _ _ ms ts _ _ c.loop-place.place (omega arith) (omega arith) c.loop-place.invariant.regroups in
-    (λ _. (c.loop-place.out, Serves-from_ranks c.args.order c.args.lengths.now c.args.strides.now c.args.new.now c.loop-place.out c.requires.as_many (serves_all _ _ ms ts _ _ (omega arith) all)), λ _. refl)
+    let lt = length-ordered c.args.order c.loop-nth.out in
+    let all = all_taken _ _ ms ts _ _ c.loop-nth.nth (omega arith) (omega arith) c.loop-nth.invariant.regroups in
+    (λ _. (c.loop-nth.out, Serves-from_ranks c.args.order c.args.lengths.now c.args.strides.now c.args.new.now c.loop-nth.out c.requires.as_many (serves_all _ _ ms ts _ _ (omega arith) all)), λ _. refl)
 
 pub returns-clause-serves : goal.returns-clause-serves
 returns-clause-serves c =
     let ms = fastest_first c.args.order c.args.new.now in
-    let ts = fastest_first c.args.order c.loop-place.out in
+    let ts = fastest_first c.args.order c.loop-nth.out in
     let lm = length-ordered c.args.order c.args.new.now in
-    let lt = length-ordered c.args.order c.loop-place.out in
-    let all = all_taken _ _ ms ts _ _ c.loop-place.place (omega arith) (omega arith) c.loop-place.invariant.regroups in
-    λ _. Serves-from_ranks c.args.order c.args.lengths.now c.args.strides.now c.args.new.now c.loop-place.out c.requires.as_many (serves_all _ _ ms ts _ _ (omega arith) all)
+    let lt = length-ordered c.args.order c.loop-nth.out in
+    let all = all_taken _ _ ms ts _ _ c.loop-nth.nth (omega arith) (omega arith) c.loop-nth.invariant.regroups in
+    λ _. Serves-from_ranks c.args.order c.args.lengths.now c.args.strides.now c.args.new.now c.loop-nth.out c.requires.as_many (serves_all _ _ ms ts _ _ (omega arith) all)
 
 pub returns-clause-span : goal.returns-clause-span
 returns-clause-span c =
     let ms = fastest_first c.args.order c.args.new.now in
-    let ts = fastest_first c.args.order c.loop-place.out in
+    let ts = fastest_first c.args.order c.loop-nth.out in
     let lm = length-ordered c.args.order c.args.new.now in
-    let lt = length-ordered c.args.order c.loop-place.out in
-    let all = all_taken _ _ ms ts _ _ c.loop-place.place (omega arith) (omega arith) c.loop-place.invariant.regroups in
+    let lt = length-ordered c.args.order c.loop-nth.out in
+    let all = all_taken _ _ ms ts _ _ c.loop-nth.nth (omega arith) (omega arith) c.loop-nth.invariant.regroups in
     let less = span_all _ _ ms ts _ _ (omega arith) all in
-    λ _. omega (arith, less, span_of-ordered c.args.order c.args.lengths.now c.args.strides.now c.requires.as_many, span_of-ordered c.args.order c.args.new.now c.loop-place.out (omega arith))
+    λ _. omega (arith, less, span_of-ordered c.args.order c.args.lengths.now c.args.strides.now c.requires.as_many, span_of-ordered c.args.order c.args.new.now c.loop-nth.out (omega arith))
 
 pub returns-clause-separated : goal.returns-clause-separated
 returns-clause-separated c =
     let ms = fastest_first c.args.order c.args.new.now in
-    let ts = fastest_first c.args.order c.loop-place.out in
+    let ts = fastest_first c.args.order c.loop-nth.out in
     let lm = length-ordered c.args.order c.args.new.now in
-    let lt = length-ordered c.args.order c.loop-place.out in
-    let all = all_taken _ _ ms ts _ _ c.loop-place.place (omega arith) (omega arith) c.loop-place.invariant.regroups in
+    let lt = length-ordered c.args.order c.loop-nth.out in
+    let all = all_taken _ _ ms ts _ _ c.loop-nth.nth (omega arith) (omega arith) c.loop-nth.invariant.regroups in
     λ _ _ apart.
-    IsSeparated-unordered c.args.order c.args.new.now c.loop-place.out (omega arith)
+    IsSeparated-unordered c.args.order c.args.new.now c.loop-nth.out (omega arith)
     (separated_all _ _ ms ts _ _ (omega arith) all (IsSeparated-ordered c.args.order c.args.lengths.now c.args.strides.now c.requires.as_many apart))

@@ -4,10 +4,10 @@ use Rattle.nd_layout.specs.Ranks.{fastest_first, Regroups}
 use Rattle.nd_layout.specs.Groups.{IsClosed}
 use Rattle.nd_layout.proofs.reshape.reshape_strides.Given as goal
 
-abbrev pub invariant-loop-place : goal.invariant-loop-place
-invariant-loop-place l = record {
+abbrev pub invariant-loop-nth : goal.invariant-loop-nth
+invariant-loop-nth l = record {
   on : l.group.next ≤ length l.lengths;
   closed : IsClosed l.group (fastest_first l.order l.lengths) (fastest_first l.order l.strides);
-  size : l.group.length * size_of (drop l.group.next (fastest_first l.order l.lengths)) ≡ size_of (drop l.place (fastest_first l.order l.new));
-  regroups : Regroups (fastest_first l.order l.lengths) (fastest_first l.order l.strides) (take l.place (fastest_first l.order l.new) ++ (l.group.length ∷ drop l.group.next (fastest_first l.order l.lengths))) (take l.place (fastest_first l.order l.out) ++ (l.group.step ∷ drop l.group.next (fastest_first l.order l.strides)));
+  size : l.group.length * size_of (drop l.group.next (fastest_first l.order l.lengths)) ≡ size_of (drop l.nth (fastest_first l.order l.new));
+  regroups : Regroups (fastest_first l.order l.lengths) (fastest_first l.order l.strides) (take l.nth (fastest_first l.order l.new) ++ (l.group.length ∷ drop l.group.next (fastest_first l.order l.lengths))) (take l.nth (fastest_first l.order l.out) ++ (l.group.step ∷ drop l.group.next (fastest_first l.order l.strides)));
 }

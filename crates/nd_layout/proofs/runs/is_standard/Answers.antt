@@ -10,8 +10,8 @@ use Rattle.nd_layout.proofs.Orders.{length-ordered, size_of-ordered, rank_in-bel
 use Rattle.nd_layout.proofs.Standard.{StepsBy-at, StepsBy-back, StepsBy-none, StepsBy-from_standard, standard_from_StepsBy, part_of_size}
 use Rattle.nd_layout.proofs.runs.is_standard.Goals as goal
 
-pub returns-then-has_no_elements : goal.returns-then-has_no_elements
-returns-then-has_no_elements c =
+pub returns-then-is_empty_shape : goal.returns-then-is_empty_shape
+returns-then-is_empty_shape c =
     let none : size_of c.args.lengths.now ≡ 0 = search rules in
     (λ _ i h. absurd (omega (arith, rank_in-below RowMajor c.args.lengths.now i h)), λ _. refl)
 
@@ -21,7 +21,7 @@ steps_by-requires c =
     let ln = length-ordered RowMajor c.args.lengths.now in
     let z = size_of-ordered RowMajor c.args.lengths.now in
     let some : 0 < size_of c.args.lengths.now = search rules in
-    let p = part_of_size ns c.loop-place.expected c.loop-place.place (size_of ns) (omega arith) (omega arith) c.loop-place.invariant.size in
+    let p = part_of_size ns c.loop-nth.expected c.loop-nth.nth (size_of ns) (omega arith) (omega arith) c.loop-nth.invariant.size in
     omega (arith, p.0, size-le-product c.args.lengths.now)
 
 pub overflow_mul-expected : goal.overflow_mul-expected
@@ -30,7 +30,7 @@ overflow_mul-expected c =
     let ln = length-ordered RowMajor c.args.lengths.now in
     let z = size_of-ordered RowMajor c.args.lengths.now in
     let some : 0 < size_of c.args.lengths.now = search rules in
-    let p = part_of_size ns c.loop-place.expected c.loop-place.place (size_of ns) (omega arith) (omega arith) c.loop-place.invariant.size in
+    let p = part_of_size ns c.loop-nth.expected c.loop-nth.nth (size_of ns) (omega arith) (omega arith) c.loop-nth.invariant.size in
     rw c.length_at-len.ensures (omega (arith, p.1, size-le-product c.args.lengths.now))
 
 pub returns-then-not-steps_by : goal.returns-then-not-steps_by
@@ -41,37 +41,37 @@ returns-then-not-steps_by c =
     let ls = length-ordered RowMajor c.args.strides.now in
     let z = size_of-ordered RowMajor c.args.lengths.now in
     let some : 0 < size_of c.args.lengths.now = search rules in
-    let p = part_of_size ns c.loop-place.expected c.loop-place.place (size_of ns) (omega arith) (omega arith) c.loop-place.invariant.size in
-    let n_is : c.length_at-len.result ≡ get_or ns c.loop-place.place 0 = c.length_at-len.ensures in
+    let p = part_of_size ns c.loop-nth.expected c.loop-nth.nth (size_of ns) (omega arith) (omega arith) c.loop-nth.invariant.size in
+    let n_is : c.length_at-len.result ≡ get_or ns c.loop-nth.nth 0 = c.length_at-len.ensures in
     let f : FitsSigned w64 c.stride_at.result = search rules in (
       λ no. absurd (false≢true no),
       λ standard.
-          let here = c.loop-place.invariant.steps.0 (StepsBy-from_standard c.args.lengths.now c.args.strides.now c.requires.as_many standard) in
-          let first = (StepsBy-at c.loop-place.expected ns ss c.loop-place.place (omega arith) (omega arith) p.2 here).0 in
+          let here = c.loop-nth.invariant.steps.0 (StepsBy-from_standard c.args.lengths.now c.args.strides.now c.requires.as_many standard) in
+          let first = (StepsBy-at c.loop-nth.expected ns ss c.loop-nth.nth (omega arith) (omega arith) p.2 here).0 in
           (c.if-not-steps_by.ensures {u = tt}).1 (λ long. to_z-of_z w64 c.stride_at.result f ∙ c.stride_at.ensures ∙ first (omega arith)),
     )
 
-pub loop-place-preserved : goal.loop-place-preserved
-loop-place-preserved c =
+pub loop-nth-preserved : goal.loop-nth-preserved
+loop-nth-preserved c =
     let ns = fastest_first RowMajor c.args.lengths.now in
     let ss = fastest_first RowMajor c.args.strides.now in
     let ln = length-ordered RowMajor c.args.lengths.now in
     let ls = length-ordered RowMajor c.args.strides.now in
     let z = size_of-ordered RowMajor c.args.lengths.now in
     let some : 0 < size_of c.args.lengths.now = search rules in
-    let place = c.loop-place.place in
-    let expected = c.loop-place.expected in
-    let p = part_of_size ns expected place (size_of ns) (omega arith) (omega arith) c.loop-place.invariant.size in
-    let n_is : c.length_at-len.result ≡ get_or ns place 0 = c.length_at-len.ensures in
+    let nth = c.loop-nth.nth in
+    let expected = c.loop-nth.expected in
+    let p = part_of_size ns expected nth (size_of ns) (omega arith) (omega arith) c.loop-nth.invariant.size in
+    let n_is : c.length_at-len.result ≡ get_or ns nth 0 = c.length_at-len.ensures in
     let f : FitsSigned w64 c.stride_at.result = search rules in
-    let first : 1 < get_or ns place 0 → get_or ss place (pos 0) ≡ pos expected =
+    let first : 1 < get_or ns nth 0 → get_or ss nth (pos 0) ≡ pos expected =
     λ long. sym c.stride_at.ensures ∙ sym (to_z-of_z w64 c.stride_at.result f) ∙ (c.if-not-steps_by.ensures {u = tt}).0 refl (λ is. omega arith) in
     rw c.length_at-len.ensures
     (record {
       size = p.4;
       steps = (
-        λ steps. (StepsBy-at expected ns ss place (omega arith) (omega arith) p.2 (c.loop-place.invariant.steps.0 steps)).1,
-        λ rest. c.loop-place.invariant.steps.1 (StepsBy-back expected ns ss place (omega arith) (omega arith) p.2 first rest),
+        λ steps. (StepsBy-at expected ns ss nth (omega arith) (omega arith) p.2 (c.loop-nth.invariant.steps.0 steps)).1,
+        λ rest. c.loop-nth.invariant.steps.1 (StepsBy-back expected ns ss nth (omega arith) (omega arith) p.2 first rest),
       );
     })
 
@@ -80,6 +80,6 @@ returns c =
     let ns = fastest_first RowMajor c.args.lengths.now in
     let ss = fastest_first RowMajor c.args.strides.now in
     let ln = length-ordered RowMajor c.args.lengths.now in
-    let none : drop c.loop-place.place ns ≡ [] = drop_all c.loop-place.place ns (omega arith) in
-    let all = c.loop-place.invariant.steps.1 (rw none (StepsBy-none c.loop-place.expected (drop c.loop-place.place ss))) in
+    let none : drop c.loop-nth.nth ns ≡ [] = drop_all c.loop-nth.nth ns (omega arith) in
+    let all = c.loop-nth.invariant.steps.1 (rw none (StepsBy-none c.loop-nth.expected (drop c.loop-nth.nth ss))) in
     (λ _. standard_from_StepsBy c.args.lengths.now c.args.strides.now c.requires.as_many all, λ _. refl)

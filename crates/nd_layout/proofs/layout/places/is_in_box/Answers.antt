@@ -1,6 +1,6 @@
 use Rattle.std.proofs.Common.{sym, ◌<◌, arith, refl, length}
 use Rattle.nd_shape_and_slice.proofs.RowMajor.{length-in_box}
-use Rattle.nd_shape_and_slice.proofs.Boxes.{coordinate_below, in_box_from}
+use Rattle.nd_shape_and_slice.proofs.Boxes.{coordinate_below, in_box-from_coordinates}
 use Rattle.nd_layout.proofs.layout.places.is_in_box.Goals as goal
 
 pub returns-then-lengths-index : goal.returns-then-lengths-index
@@ -17,4 +17,4 @@ returns-then-index-axis c = (
 
 pub returns : goal.returns
 returns c =
-    (λ yes. in_box_from c.args.lengths.now c.args.index.now c.loop-axis.invariant.0 (λ k lt. c.loop-axis.invariant.1 k (omega arith)), λ inside. refl)
+    (λ yes. in_box-from_coordinates c.args.lengths.now c.args.index.now (sym c.loop-axis.invariant.0) (λ k lt. c.loop-axis.invariant.1 k (omega arith)), λ inside. refl)
