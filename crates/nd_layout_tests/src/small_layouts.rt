@@ -6,27 +6,27 @@ use crate::reshapes::{count, is_layout, reshaped};
 use nd_layout::{separated, span};
 use nd_shape_and_slice::Order;
 
-/// The offset of the index of this rank.
+/// The displacement of the index of this rank.
 fn displacement_at(lengths: &[usize], strides: &[isize], order: Order, rank: usize) -> isize {
     let mut rest = rank;
-    let mut offset: isize = 0;
-    for place in 0..lengths.len() {
+    let mut displacement: isize = 0;
+    for nth in 0..lengths.len() {
         let axis = match order {
-            Order::RowMajor => lengths.len() - 1 - place,
-            Order::ColumnMajor => place,
+            Order::RowMajor => lengths.len() - 1 - nth,
+            Order::ColumnMajor => nth,
         };
         let length = lengths[axis];
         if length == 0 || axis >= strides.len() {
             return 0;
         }
         let coordinate = isize::try_from(rest % length).unwrap_or(0);
-        offset = offset.wrapping_add(strides[axis].wrapping_mul(coordinate));
+        displacement = displacement.wrapping_add(strides[axis].wrapping_mul(coordinate));
         rest /= length;
     }
-    offset
+    displacement
 }
 
-/// Whether two layouts have the same offset at each rank below `size`.
+/// Whether two layouts have the same displacement at each rank below `size`.
 fn same_displacements(
     old: (&[usize], &[isize]),
     new: (&[usize], &[isize]),
@@ -43,14 +43,14 @@ fn same_displacements(
     true
 }
 
-/// The only strides that can serve: each is the offset at the rank of its axis's unit index.
+/// The only strides that can serve: each is the displacement at the rank of its axis's unit index.
 fn forced(lengths: &[usize], strides: &[isize], new: &[usize], order: Order) -> [isize; 3] {
     let mut result = [0; 3];
     let mut rank: usize = 1;
-    for place in 0..new.len() {
+    for nth in 0..new.len() {
         let axis = match order {
-            Order::RowMajor => new.len() - 1 - place,
-            Order::ColumnMajor => place,
+            Order::RowMajor => new.len() - 1 - nth,
+            Order::ColumnMajor => nth,
         };
         if new[axis] > 1 && axis < 3 {
             result[axis] = displacement_at(lengths, strides, order, rank);

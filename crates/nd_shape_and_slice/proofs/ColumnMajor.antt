@@ -1,4 +1,4 @@
--- Column-major ranks and F strides: an index lies as far from the first place as its column-major rank says.
+-- Column-major ranks and F strides: an index lies as far from the offset as its column-major rank says.
 use Rattle.std.proofs.Common.{◌≡◌, ℕ, zero, suc, ◌+◌, ◌-◌, ◌*◌, ◌<◌, ◌≤◌, Bool, true, false, cond, eqb, leb, List, [], ◌∷◌, length, get_or, replicate, ℤ, pos, ◌+ℤ◌, ◌*ℤ◌, nat_abs, refl, ap, sym, ◌∙◌, arith}
 use Rattle.std.proofs.Math.Nat.{mul-le-mul_left, mul_comm, mul_assoc}
 use Rattle.std.proofs.lemmas.Bool.Decides.{nat_tests}

@@ -1,4 +1,4 @@
--- Ranks and C strides: an index lies as far from the first place as its row-major rank says.
+-- Ranks and C strides: an index lies as far from the offset as its row-major rank says.
 use Rattle.std.proofs.Common.{◌≡◌, ℕ, zero, suc, ◌+◌, ◌-◌, ◌*◌, ◌<◌, ◌≤◌, Bool, true, false, cond, eqb, ltb, leb, List, [], ◌∷◌, length, drop, get_or, set, replicate, drop-cons, add-one, ℤ, pos, negsuc, ◌+ℤ◌, ◌*ℤ◌, nat_abs, refl, ap, sym, ◌∙◌, subst, arith}
 use Rattle.std.proofs.Math.Nat.{mul-le-mul_left, mul_comm}
 use Rattle.std.proofs.lemmas.Bool.{false≢true}
@@ -134,7 +134,7 @@ span_of-zeros [] n = refl
 span_of-zeros (m ∷ ns) zero = refl
 span_of-zeros (m ∷ ns) (suc n) = rw (span_of-zeros ns n) (omega arith)
 
--- an index of coordinates 0 lies at the first place
+-- an index of coordinates 0 lies at the offset
 pub zeros_in_box : (ns is : List ℕ) → in_box ns is ≡ true → in_box ns (replicate (length ns) 0) ≡ true
 zeros_in_box [] [] h = refl
 zeros_in_box [] (i ∷ is) h = cc

@@ -1,9 +1,9 @@
--- Where the elements of an array lie: the place of an index is the first place plus, for each axis, the
+-- Where the elements of an array lie: the place of an index is the offset plus, for each axis, the
 -- coordinate times the axis's stride, in whole numbers without bounds.
 use Rattle.std.specs.Prelude.{ℕ, ◌+◌, ◌-◌, ◌*◌, ◌<◌, nat_le, List, [], ◌∷◌, slice_index, ℤ, pos, ◌+ℤ◌, ◌*ℤ◌, nat_abs, if◌then◌else◌}
 use Rattle.std.proofs.Common.{get_or}
 
--- how far from the first place an index lies under these strides
+-- the displacement: how far from the offset an index lies under these strides
 abbrev pub displacement_of : List ℤ → List ℕ → ℤ
 displacement_of [] is = pos 0
 displacement_of (s ∷ ss) [] = pos 0
@@ -11,7 +11,7 @@ displacement_of (s ∷ ss) (i ∷ is) = (pos i *ℤ s) +ℤ displacement_of ss i
 
 -- the place of an index
 abbrev pub place_of : ℕ → List ℤ → List ℕ → ℤ
-place_of first strides index = pos first +ℤ displacement_of strides index
+place_of offset strides index = pos offset +ℤ displacement_of strides index
 
 -- how far apart two places of the array can lie at most: over the axes the sum of (length - 1) times the
 -- stride's magnitude
