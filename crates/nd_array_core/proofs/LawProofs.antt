@@ -23,18 +23,18 @@ use Rattle.nd_layout.proofs.Permuted.{axis_below, length-permuted, length-unperm
 use Rattle.nd_layout.proofs.Totals.{times, times_is}
 use Rattle.nd_layout.proofs.Removed.{in_box-inserted}
 use Rattle.nd_array_core.specs.Laws.{NothingOutside, inverse_of, PermutedBack, ReversedTwice, InvertedTwice, InsertedAndRemoved, twice_sliced_from, SlicedTwice, PathStep, path_shape, path_source, LeadsInside, StaysInside, PathIsOneMap}
-use Rattle.nd_array_core.specs.Maps.{inverted_index, collapsed_shape, collapsed_index, lower_shape, upper_shape, upper_index, indexed_shape, indexed_index, widened_shape, widened_index, diagonal_length, diagonal_index}
+use Rattle.nd_shape_and_slice.specs.Maps.{inverted_index, collapsed_shape, collapsed_index, lower_shape, upper_shape, upper_index, indexed_shape, indexed_index, widened_shape, widened_index, diagonal_length, diagonal_index}
 use Rattle.nd_array_core.specs.Meaning.{Meaning, seen, inside}
-use Rattle.nd_array_core.specs.Broadcast.{broadcasts, forget}
-use Rattle.nd_array_core.specs.Slicing.{collapsed_after, collapsed_before}
-use Rattle.nd_array_core.specs.Squeeze.{isnt_one, all_one, stays, kept_of, spread_over, squeezed_shape, squeezed_index}
-use Rattle.nd_array_core.proofs.ExchangeStep.{once_in_range, in_own_order, reverse_is_step, swap_is_step}
-use Rattle.nd_array_core.proofs.SliceStep.{slice_within, high_within, step_moves}
-use Rattle.nd_array_core.proofs.SliceLoop.{coordinate_within}
-use Rattle.nd_array_core.proofs.SqueezeStep.{length-stays}
-use Rattle.nd_array_core.proofs.ResizeStep.{widen_is_step}
-use Rattle.nd_array_core.proofs.DiagonalStep.{diagonal_is_step}
-use Rattle.nd_array_core.proofs.BroadcastStep.{broadcast_is_seen}
+use Rattle.nd_shape_and_slice.specs.Broadcast.{broadcasts, forget}
+use Rattle.nd_shape_and_slice.specs.Slicing.{collapsed_after, collapsed_before}
+use Rattle.nd_shape_and_slice.specs.Squeeze.{isnt_one, all_one, stays, kept_of, spread_over, squeezed_shape, squeezed_index}
+use Rattle.nd_layout.proofs.steps.ExchangeStep.{once_in_range, in_own_order, reverse_is_step, swap_is_step}
+use Rattle.nd_layout.proofs.steps.SliceStep.{slice_within, high_within, step_moves}
+use Rattle.nd_layout.proofs.steps.SliceLoop.{coordinate_within}
+use Rattle.nd_layout.proofs.steps.SqueezeStep.{length-stays}
+use Rattle.nd_layout.proofs.steps.ResizeStep.{widen_is_step}
+use Rattle.nd_layout.proofs.steps.DiagonalStep.{diagonal_is_step}
+use Rattle.nd_layout.proofs.steps.BroadcastStep.{broadcast_is_seen}
 
 -- the inverse of an order of the axes
 module _ (axes : List ℕ) (n : ℕ) (each : HasEachAxis axes n) where

@@ -7,10 +7,10 @@ use Rattle.nd_shape_and_slice.specs.Place.{place_of, IsSeparated}
 use Rattle.nd_shape_and_slice.specs.SliceInfo.{shape_after, index_before}
 use Rattle.nd_region.specs.Places.{ShareNoPlace as LayoutsShareNone}
 use Rattle.nd_array_core.specs.Meaning.{inside}
-use Rattle.nd_array_core.specs.MultiSlice.{NameNothingInCommon, IsPartBy}
-use Rattle.nd_array_core.specs.Parts.{IsSeenUnder}
+use Rattle.nd_array_core.specs.layout.MultiSlice.{NameNothingInCommon, IsPartBy}
+use Rattle.nd_array_core.specs.layout.Parts.{IsSeenUnder}
 use Rattle.nd_array_core.specs.Places.{stored_at, place_number}
-use Rattle.nd_array_core.specs.Steps.{IsStep}
+use Rattle.nd_layout.specs.Steps.{IsStep}
 use Rattle.nd_array_core.proofs.Parted.{steps_apart, seen_step, seen_place}
 
 -- lists that name nothing in common give layouts that share no place

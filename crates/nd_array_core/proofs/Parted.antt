@@ -9,12 +9,13 @@ use Rattle.nd_shape_and_slice.proofs.RowMajor.{length-in_box}
 use Rattle.nd_layout.proofs.Bounds.{coordinate_below}
 use Rattle.nd_region.specs.Places.{names, names_not, ShareNoPlace as LayoutsShareNone}
 use Rattle.nd_region.proofs.Names.{named_by, named_at}
-use Rattle.nd_array_core.specs.Maps.{lower_shape, upper_shape, upper_index}
+use Rattle.nd_shape_and_slice.specs.Maps.{lower_shape, upper_shape, upper_index}
 use Rattle.nd_array_core.specs.Meaning.{inside}
 use Rattle.nd_array_core.specs.Places.{stored_at, place_number, HoldsAll, kept_at, ShareNoPlace}
-use Rattle.nd_array_core.specs.Steps.{IsStep}
-use Rattle.nd_array_core.specs.Parts.{IsHeld, IsSeenUnder}
-use Rattle.nd_array_core.proofs.StepLemmas.{step_holds, step_some, step_element}
+use Rattle.nd_layout.specs.Steps.{IsStep}
+use Rattle.nd_array_core.specs.layout.Parts.{IsHeld, IsSeenUnder}
+use Rattle.nd_array_core.proofs.StepLemmas.{step_holds, step_element}
+use Rattle.nd_layout.proofs.steps.StepLemmas.{step_some}
 use Rattle.nd_array_core.proofs.WriteStep.{one_index}
 
 not_named : (b : Bool) → (b ≡ true → ⊥) → not b ≡ true

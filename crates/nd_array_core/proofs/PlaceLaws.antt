@@ -3,7 +3,9 @@ use Rattle.std.proofs.Common.{◌≡◌, ℕ, ◌<◌, Bool, true, false, List, 
 use Rattle.std.specs.Prelude.{Option, Some, None, is_some, if◌then◌else◌}
 use Rattle.nd_shape_and_slice.specs.Shape.{in_box, size_of}
 use Rattle.nd_shape_and_slice.specs.Place.{place_of, IsSeparated}
-use Rattle.nd_array_core.specs.Places.{is_place, place_number, stored_at, ReachesPlaces}
+use Rattle.nd_array_core.specs.Places.{place_number, stored_at}
+use Rattle.nd_layout.specs.Places.{is_place}
+use Rattle.nd_layout.specs.Places.{ReachesPlaces}
 use Rattle.nd_array_core.specs.Meaning.{inside}
 use Rattle.nd_array_core.specs.Placed.{found_at}
 use Rattle.nd_array_core.proofs.WriteStep.{one_index}

@@ -3,14 +3,11 @@ use Rattle.std.proofs.Common.{◌≡◌, ℕ, Bool, true, false, List, ℤ, refl
 use Rattle.std.specs.Prelude.{Option}
 use Rattle.nd_shape_and_slice.specs.Shape.{in_box}
 use Rattle.nd_shape_and_slice.specs.Place.{place_of}
-use Rattle.nd_array_core.specs.Places.{is_place, ReachesPlaces, stored_at, names_place, HoldsAll}
+use Rattle.nd_array_core.specs.Places.{stored_at, names_place, HoldsAll}
 use Rattle.nd_array_core.specs.Meaning.{inside}
-use Rattle.nd_array_core.specs.Broadcast.{IsSeen}
+use Rattle.nd_layout.specs.Steps.{IsSeen}
 
 module _ {first : ℕ} {ns : List ℕ} {ss : List ℤ} {first' : ℕ} {ns' : List ℕ} {ss' : List ℤ} {source : List ℕ → List ℕ} where
-  pub seen_reaches : IsSeen first ns ss first' ns' ss' source → ReachesPlaces first ns ss → ReachesPlaces first' ns' ss'
-  seen_reaches seen reach i h = ap is_place (seen.same i h) ∙ reach (source i) (seen.within i h)
-
   pub seen_holds : {A : Type 0} (stored : ℕ → Option A) → IsSeen first ns ss first' ns' ss' source → HoldsAll stored first ns ss → HoldsAll stored first' ns' ss'
   seen_holds stored seen holds i h = ap (names_place stored) (seen.same i h) ∙ holds (source i) (seen.within i h)
 

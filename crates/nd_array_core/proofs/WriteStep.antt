@@ -11,7 +11,7 @@ use Rattle.nd_layout.proofs.Integers.{sums}
 use Rattle.nd_layout.proofs.Distinct.{same_index}
 use Rattle.nd_array_core.specs.Places.{stored_at, names_place, HoldsAll, written_at, swapped_at}
 use Rattle.nd_array_core.specs.Meaning.{inside}
-use Rattle.nd_array_core.specs.Writes.{is_index, with_element_at, with_swapped}
+use Rattle.nd_array_core.specs.base.Writes.{is_index, with_element_at, with_swapped}
 
 pub is_index_refl : (i : List ℕ) → is_index i i ≡ true
 is_index_refl [] = refl

@@ -5,7 +5,7 @@ use Rattle.nd_shape_and_slice.specs.declared.slice.Slice.{Slice}
 use Rattle.nd_shape_and_slice.specs.Axes.{HasEachAxis, permuted, unpermuted}
 use Rattle.nd_shape_and_slice.specs.Shape.{in_box}
 use Rattle.nd_shape_and_slice.specs.Slice.{fits_axis, sliced_length, sliced_from, sliced_shape, sliced_index}
-use Rattle.nd_array_core.specs.Maps.{inverted_index, indexed_shape, indexed_index, widened_shape, widened_index}
+use Rattle.nd_shape_and_slice.specs.Maps.{inverted_index, indexed_shape, indexed_index, widened_shape, widened_index}
 use Rattle.nd_array_core.specs.Meaning.{Meaning, seen}
 use Rattle.nd_array_core.specs.Placed.{Placed, element_placed}
 

@@ -5,8 +5,8 @@ use Rattle.nd_shape_and_slice.specs.declared.dimension.AxisCount as axis_count
 use Rattle.nd_shape_and_slice.specs.declared.dimension.StrideList as stride_list
 use Rattle.nd_shape_and_slice.specs.Shape.{in_box}
 use Rattle.nd_shape_and_slice.specs.Place.{place_of}
-use Rattle.nd_array_core.specs.declared.data.Data as data_trait
-use Rattle.nd_array_core.specs.declared.array.ArrayBase.{ArrayBase}
+use Rattle.nd_array_core.specs.declared.base.storage.Data as data_trait
+use Rattle.nd_array_core.specs.declared.base.array.ArrayBase.{ArrayBase}
 use Rattle.nd_array_core.specs.Places.{stored_at, place_number}
 use Rattle.nd_array_core.specs.Placed.{Placed}
 

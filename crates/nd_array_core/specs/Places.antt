@@ -1,21 +1,12 @@
 -- Places of a storage.
-use Rattle.std.specs.Prelude.{ℕ, ◌^◌, ◌≡◌, Bool, true, false, nat_lt, List, ℤ, pos, negsuc, Option, None, Some, is_some, nat_eq, if◌then◌else◌}
+use Rattle.std.specs.Prelude.{ℕ, ◌≡◌, Bool, true, List, ℤ, pos, negsuc, Option, None, Some, is_some, nat_eq, if◌then◌else◌}
 use Rattle.nd_shape_and_slice.specs.Shape.{in_box}
 use Rattle.nd_shape_and_slice.specs.Place.{place_of}
-
--- a whole number that is a place: not negative, and below 2^63
-abbrev pub is_place : ℤ → Bool
-is_place (pos p) = nat_lt p (2 ^ 63)
-is_place (negsuc p) = false
 
 -- a whole number as that of a place, None where it is negative
 abbrev pub place_number : ℤ → Option ℕ
 place_number (pos p) = Some p
 place_number (negsuc p) = None
-
--- every index of the box has a place
-abbrev pub ReachesPlaces : ℕ → List ℕ → List ℤ → Type 0
-ReachesPlaces first lengths strides = (i : List ℕ) → in_box lengths i ≡ true → is_place (place_of first strides i) ≡ true
 
 -- what a storage holds at a whole number: nothing where it is no place
 abbrev pub stored_at : {A : Type 0} → (ℕ → Option A) → ℤ → Option A

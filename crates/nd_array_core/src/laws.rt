@@ -8,14 +8,14 @@ ghost use Rattle.nd_shape_and_slice.specs.Axes.{HasEachAxis, permuted, unpermute
 ghost use Rattle.nd_shape_and_slice.specs.Slice.{fits_axis, sliced_shape, sliced_index};
 ghost use Rattle.nd_shape_and_slice.specs.SliceInfo.{each_fits, shape_after, index_before};
 ghost use Rattle.nd_array_core.specs.Laws.{PermutedBack, ReversedTwice, InvertedTwice, InsertedAndRemoved, SlicedTwice, PathIsOneMap, LeadsInside, NothingOutside, HasPlaces, ShowsStored, DistinctPlaces};
-ghost use Rattle.nd_array_core.specs.Maps.{inverted_index, collapsed_shape, collapsed_index, lower_shape, upper_shape, upper_index, indexed_shape, indexed_index, widened_shape, widened_index, diagonal_length, diagonal_index};
-ghost use Rattle.nd_array_core.specs.Broadcast.{broadcasts, forget};
+ghost use Rattle.nd_shape_and_slice.specs.Maps.{inverted_index, collapsed_shape, collapsed_index, lower_shape, upper_shape, upper_index, indexed_shape, indexed_index, widened_shape, widened_index, diagonal_length, diagonal_index};
+ghost use Rattle.nd_shape_and_slice.specs.Broadcast.{broadcasts, forget};
 ghost use Rattle.nd_array_core.specs.Meaning.{element_at, meaning_of, placed_of};
-ghost use Rattle.nd_array_core.specs.Slicing.{collapsed_after, collapsed_before};
-ghost use Rattle.nd_array_core.specs.Squeeze.{squeezed_shape, squeezed_index};
+ghost use Rattle.nd_shape_and_slice.specs.Slicing.{collapsed_after, collapsed_before};
+ghost use Rattle.nd_shape_and_slice.specs.Squeeze.{squeezed_shape, squeezed_index};
 
-use crate::array::ArrayBase;
-use crate::data::{Data, DataMut};
+use crate::base::array::ArrayBase;
+use crate::base::storage::{Data, DataMut};
 use nd_shape_and_slice::Dimension;
 
 /// Axes put in one order, and then in the order that leads back, give the same meaning.

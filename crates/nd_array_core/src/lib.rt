@@ -1,71 +1,44 @@
 //! n-dimensional arrays and views: a storage, a first place, a shape and signed strides.
 #![tactic(auto)]
 
-mod aliases;
-mod array;
-mod axes;
-#[cfg(test)]
-mod axes_tests;
-mod axis_calls;
-mod axis_steps;
-mod broadcast;
-#[cfg(test)]
-mod broadcast_tests;
-#[cfg(test)]
-mod constructor_tests;
-mod constructors;
-mod data;
-mod diagonal;
-mod each_axis;
-mod element_mut;
-#[cfg(test)]
-mod element_mut_tests;
-mod fill;
-#[cfg(test)]
-mod fill_tests;
-mod from_slices;
-mod given;
-mod index_longer;
-mod indexing;
+mod base;
+mod elements;
 pub mod laws;
 mod layout;
-mod layout_calls;
-#[cfg(test)]
-mod layout_tests;
-mod multi_slice;
-#[cfg(test)]
-mod multi_slice_tests;
-mod places;
-mod resize_calls;
-mod resize_steps;
 pub mod scoped;
-pub mod scoped_pairs;
-mod scoped_parts;
-mod scoped_slices;
-#[cfg(test)]
-mod scoped_tests;
-mod slice_steps;
-#[cfg(test)]
-mod slice_tests;
-mod slices;
-mod split_mut;
-mod squeeze;
-mod steps;
-#[cfg(test)]
-mod tests;
-mod view_mut;
-#[cfg(test)]
-mod view_mut_tests;
-mod writes;
 
-pub use aliases::{
+pub use base::aliases::{
     Array0, Array1, Array2, Array3, Array4, Array5, Array6, ArrayD, ArrayView0, ArrayView1,
     ArrayView2, ArrayView3, ArrayView4, ArrayView5, ArrayView6, ArrayViewD, ArrayViewMut0,
     ArrayViewMut1, ArrayViewMut2, ArrayViewMut3, ArrayViewMut4, ArrayViewMut5, ArrayViewMut6,
     ArrayViewMutD,
 };
-pub use array::{Array, ArrayBase, ArrayView, ArrayViewMut};
-pub use data::{Data, DataMut, OwnedRepr, RegionRepr, ViewMutRepr, ViewRepr};
-pub use element_mut::GetMut;
-pub use index_longer::IndexLonger;
-pub use multi_slice::MultiSliceArg;
+pub use base::array::{Array, ArrayBase, ArrayView, ArrayViewMut};
+pub use base::indexing::IndexLonger;
+pub use base::storage::{Data, DataMut, OwnedRepr, RegionRepr, ViewMutRepr, ViewRepr};
+pub use base::writing::GetMut;
+pub use layout::splitting::MultiSliceArg;
+pub use scoped::pairs as scoped_pairs;
+
+#[cfg(test)]
+mod axes_tests;
+#[cfg(test)]
+mod broadcast_tests;
+#[cfg(test)]
+mod constructor_tests;
+#[cfg(test)]
+mod element_mut_tests;
+#[cfg(test)]
+mod fill_tests;
+#[cfg(test)]
+mod layout_tests;
+#[cfg(test)]
+mod multi_slice_tests;
+#[cfg(test)]
+mod scoped_tests;
+#[cfg(test)]
+mod slice_tests;
+#[cfg(test)]
+mod tests;
+#[cfg(test)]
+mod view_mut_tests;

@@ -1,7 +1,7 @@
 //! Several parts of a worked array, written at once.
 
 ghost use Rattle.std.specs.Prelude.{IsTrue};
-ghost use Rattle.nd_array_core.specs.MultiSlice.{TwoFit, ThreeFit, FourFit};
+ghost use Rattle.nd_array_core.specs.layout.MultiSlice.{TwoFit, ThreeFit, FourFit};
 
 use crate::{Array, ArrayViewMut};
 use nd_shape_and_slice::{IxDyn, SliceInfoElem, slices_fit, slices_intersect};

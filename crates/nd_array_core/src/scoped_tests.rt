@@ -4,16 +4,16 @@ ghost use Rattle.std.specs.Prelude.{◌≡◌, ◌<◌, ◌≤◌, ℕ, true, Li
 ghost use Rattle.nd_shape_and_slice.specs.Shape.{in_box};
 ghost use Rattle.nd_shape_and_slice.specs.Slice.{fits_axis, sliced_shape, sliced_index};
 ghost use Rattle.nd_shape_and_slice.specs.SliceInfo.{fits_shape, shape_after, index_before};
-ghost use Rattle.nd_array_core.specs.Maps.{lower_shape, upper_shape, upper_index, indexed_shape, indexed_index, diagonal_length, diagonal_index};
+ghost use Rattle.nd_shape_and_slice.specs.Maps.{lower_shape, upper_shape, upper_index, indexed_shape, indexed_index, diagonal_length, diagonal_index};
 ghost use Rattle.nd_array_core.specs.Meaning.{shape_of, element_at};
-ghost use Rattle.nd_array_core.specs.MultiSlice.{TwoFit};
+ghost use Rattle.nd_array_core.specs.layout.MultiSlice.{TwoFit};
 ghost use Rattle.nd_array_core.specs.Placed.{element_placed};
-ghost use Rattle.nd_array_core.specs.Tasks.{view_borrow, lent_borrow, lent_view, view_left, CanBeSeen};
-ghost use Rattle.nd_array_core.specs.PartTasks.{sliced_part, axis_part, coordinate_part, diagonal_part, KeepsBut, KeepsButTwo};
-ghost use Rattle.nd_array_core.specs.Writes.{with_element_at};
+ghost use Rattle.nd_array_core.specs.scoped.Tasks.{view_borrow, lent_borrow, lent_view, view_left, CanBeSeen};
+ghost use Rattle.nd_array_core.specs.scoped.PartTasks.{sliced_part, axis_part, coordinate_part, diagonal_part, KeepsBut, KeepsButTwo};
+ghost use Rattle.nd_array_core.specs.base.Writes.{with_element_at};
 
-use crate::array::{Array, ArrayBase};
-use crate::data::{DataMut, ViewMutRepr};
+use crate::base::array::{Array, ArrayBase};
+use crate::base::storage::{DataMut, ViewMutRepr};
 use crate::scoped::{LentView, ViewTask};
 use crate::scoped_pairs::PairTask;
 use nd_shape_and_slice::{

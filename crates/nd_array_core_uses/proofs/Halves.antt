@@ -11,7 +11,7 @@ use Rattle.nd_shape_and_slice.specs.declared.slice_info.SliceInfoElem.TheVariant
 use Rattle.nd_shape_and_slice.specs.Shape.{in_box}
 use Rattle.nd_shape_and_slice.specs.Slice.{bound_on, low_of, high_of, sliced_length, quotient_up}
 use Rattle.nd_shape_and_slice.specs.SliceInfo.{fits_shape, shape_after, index_before}
-use Rattle.nd_array_core.specs.Tasks.{OthersKeep}
+use Rattle.nd_array_core.specs.scoped.Tasks.{OthersKeep}
 
 -- the second number of a list
 abbrev second_of : List ℕ → ℕ

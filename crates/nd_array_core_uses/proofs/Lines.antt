@@ -8,7 +8,7 @@ use Rattle.nd_shape_and_slice.specs.declared.slice_info.SliceInfoElem.TheVariant
 use Rattle.nd_shape_and_slice.specs.Shape.{in_box}
 use Rattle.nd_shape_and_slice.specs.Slice.{low_of}
 use Rattle.nd_shape_and_slice.specs.SliceInfo.{coordinate_on, shape_after, index_before}
-use Rattle.nd_array_core.specs.Tasks.{OthersKeep}
+use Rattle.nd_array_core.specs.scoped.Tasks.{OthersKeep}
 use Rattle.nd_array_core_uses.specs.Painting.{is_at, in_row, in_column}
 use Rattle.nd_array_core_uses.proofs.Halves.{by_step, low_is, whole_length}
 

@@ -9,7 +9,7 @@ use Rattle.nd_shape_and_slice.specs.declared.slice_info.SliceInfoElem.TheVariant
 use Rattle.nd_shape_and_slice.specs.Shape.{in_box}
 use Rattle.nd_shape_and_slice.specs.Slice.{bound_on, low_of, high_of, sliced_length, quotient_up}
 use Rattle.nd_shape_and_slice.specs.SliceInfo.{fits_shape, shape_after, index_before}
-use Rattle.nd_array_core.specs.MultiSlice.{NameNothingInCommon, TwoFit}
+use Rattle.nd_array_core.specs.layout.MultiSlice.{NameNothingInCommon, TwoFit}
 use Rattle.nd_array_core_uses.proofs.Halves.{start_is, low_is, whole_length, two_in, two_below}
 
 -- every second from one on

@@ -2,7 +2,7 @@
 ghost use Rattle.std.specs.Prelude.{◌≡◌, ◌∷◌, [], ℕ, true, false, List, slice_index, is_some, Some, OnOk, IfOk};
 ghost use Rattle.nd_shape_and_slice.specs.SliceInfo.{axes_read, axes_kept, coordinate_on, fits_shape};
 ghost use Rattle.nd_array_core.specs.Meaning.{shape_of, element_at};
-ghost use Rattle.nd_array_core.specs.PartTasks.{sliced_part, IsFilledWith, KeepsBut};
+ghost use Rattle.nd_array_core.specs.scoped.PartTasks.{sliced_part, IsFilledWith, KeepsBut};
 ghost use Rattle.nd_array_core_uses.specs.Painting.{in_row, in_column, is_border};
 
 use crate::paint::fill_slice;

@@ -2,8 +2,8 @@
 ghost use Rattle.std.specs.Prelude.{◌≡◌, ◌%◌, ◌∷◌, [], ℕ, true, length, nat_eq, Some, IsSome, IfSome, OnOk, if◌then◌else◌};
 ghost use Rattle.nd_shape_and_slice.specs.Shape.{in_box};
 ghost use Rattle.nd_array_core.specs.Meaning.{shape_of, element_at};
-ghost use Rattle.nd_array_core.specs.MultiSlice.{TwoFit};
-ghost use Rattle.nd_array_core.specs.PartTasks.{sliced_part, IsFilledWith, KeepsButTwo};
+ghost use Rattle.nd_array_core.specs.layout.MultiSlice.{TwoFit};
+ghost use Rattle.nd_array_core.specs.scoped.PartTasks.{sliced_part, IsFilledWith, KeepsButTwo};
 
 use crate::two_parts::FillBoth;
 use nd_array_core::{ArrayBase, DataMut};

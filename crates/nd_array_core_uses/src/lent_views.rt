@@ -3,7 +3,7 @@
 ghost use Rattle.std.specs.Prelude.{◌≡◌, ℕ, true, List, length};
 ghost use Rattle.nd_shape_and_slice.specs.SliceInfo.{fits_shape};
 ghost use Rattle.nd_array_core.specs.Meaning.{shape_of, place_at};
-ghost use Rattle.nd_array_core.specs.ViewLent.{IsRefilled};
+ghost use Rattle.nd_array_core.specs.layout.ViewLent.{IsRefilled};
 
 use nd_array_core::{Array, ArrayBase, ArrayViewMut, DataMut};
 use nd_shape_and_slice::{Dimension, Ix2, IxDyn, NoMemory, SliceArg, SliceInfoElem};

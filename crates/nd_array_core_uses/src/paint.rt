@@ -3,8 +3,8 @@ ghost use Rattle.std.specs.Prelude.{◌≡◌, ℕ, true, List, Some, OnOk};
 ghost use Rattle.nd_shape_and_slice.specs.SliceInfo.{fits_shape};
 ghost use Rattle.nd_array_core.specs.Meaning.{shape_of, inside};
 ghost use Rattle.nd_array_core.specs.Placed.{element_placed};
-ghost use Rattle.nd_array_core.specs.Tasks.{view_borrow, lent_borrow, lent_view, view_left, CanBeSeen};
-ghost use Rattle.nd_array_core.specs.PartTasks.{sliced_part, IsFilledWith, KeepsBut};
+ghost use Rattle.nd_array_core.specs.scoped.Tasks.{view_borrow, lent_borrow, lent_view, view_left, CanBeSeen};
+ghost use Rattle.nd_array_core.specs.scoped.PartTasks.{sliced_part, IsFilledWith, KeepsBut};
 
 use nd_array_core::scoped::{LentView, ViewTask};
 use nd_array_core::{ArrayBase, DataMut, ViewMutRepr};

@@ -1,10 +1,10 @@
 //! The two parts of an axis, filled at once through two views.
 ghost use Rattle.std.specs.Prelude.{◌≡◌, ◌<◌, ◌≤◌, ℕ, true, List, length, slice_index, Some, OnOk, IsOk};
 ghost use Rattle.nd_shape_and_slice.specs.Shape.{in_box};
-ghost use Rattle.nd_array_core.specs.Maps.{lower_shape, upper_shape, upper_index};
+ghost use Rattle.nd_shape_and_slice.specs.Maps.{lower_shape, upper_shape, upper_index};
 ghost use Rattle.nd_array_core.specs.Meaning.{shape_of, element_at, inside};
 ghost use Rattle.nd_array_core.specs.Placed.{element_placed};
-ghost use Rattle.nd_array_core.specs.Tasks.{view_borrow, lent_borrow, lent_view, view_left, CanBeSeen};
+ghost use Rattle.nd_array_core.specs.scoped.Tasks.{view_borrow, lent_borrow, lent_view, view_left, CanBeSeen};
 
 use nd_array_core::scoped::LentView;
 use nd_array_core::scoped_pairs::PairTask;

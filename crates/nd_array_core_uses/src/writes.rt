@@ -3,7 +3,7 @@
 ghost use Rattle.std.specs.Prelude.{◌≡◌, ℕ, true, List};
 ghost use Rattle.nd_shape_and_slice.specs.Shape.{in_box};
 ghost use Rattle.nd_array_core.specs.Meaning.{shape_of, element_at};
-ghost use Rattle.nd_array_core.specs.Writes.{with_element_at};
+ghost use Rattle.nd_array_core.specs.base.Writes.{with_element_at};
 
 use nd_array_core::{Array, ArrayBase, ArrayViewMut, DataMut, GetMut};
 use nd_shape_and_slice::{Dimension, Ix2, NdIndex};

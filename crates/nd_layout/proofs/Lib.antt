@@ -31,3 +31,4 @@ pub mod GrownLayout
 pub mod Continued
 pub mod Ready
 pub mod GrownAgain
+pub mod steps

@@ -1,5 +1,10 @@
--- What a list of strides becomes when axes are put in another order, and how far strides reach to each side.
-use Rattle.std.specs.Prelude.{ℕ, suc, ◌+◌, ◌-◌, ◌*◌, List, [], ◌∷◌, map, slice_index_or, ℤ, pos, negsuc, ◌+ℤ◌}
+-- What each call makes of a list of strides, and how far strides reach to each side.
+use Rattle.std.specs.Prelude.{ℕ, suc, ◌+◌, ◌-◌, ◌*◌, ◌^◌, ◌<◌, nat_lt, nat_le, nat_eq, List, [], ◌∷◌, ◌++◌, drop, replicate, map, slice_set, slice_index, slice_index_or, ℤ, pos, negsuc, ◌+ℤ◌, ◌*ℤ◌, nat_abs, if◌then◌else◌}
+use Rattle.std.proofs.Math.IntN.{neg_ℤ}
+use Rattle.nd_shape_and_slice.specs.declared.slice.Slice.{Slice}
+use Rattle.nd_shape_and_slice.specs.Slice.{sliced_length}
+use Rattle.nd_shape_and_slice.specs.Maps.{diagonal_length}
+use Rattle.nd_shape_and_slice.specs.Broadcast.{axes_added}
 
 -- the strides in the order of the axes: at k the stride of the k-th of the axes
 abbrev pub permuted_strides : List ℕ → List ℤ → List ℤ
@@ -28,3 +33,37 @@ sum_of (s ∷ ss) = s +ℤ sum_of ss
 abbrev pub stepped_start : ℕ → ℕ → ℤ → ℕ
 stepped_start low high (pos step) = low
 stepped_start low high (negsuc step) = high - 1
+
+-- an inverted axis: the opposite stride, 0 where that doesn't fit
+abbrev pub opposite_stride : ℤ → ℤ
+opposite_stride stride = if nat_lt (nat_abs stride) (2 ^ 63) then neg_ℤ stride else pos 0
+
+abbrev pub inverted_strides : List ℤ → ℕ → List ℤ
+inverted_strides ss a = slice_set ss a (opposite_stride (slice_index_or ss a (pos 0)))
+
+-- the stride of an axis after a slice: 0 where one index is left at most
+abbrev pub stepped_stride : ℕ → ℤ → ℤ → ℤ
+stepped_stride len stride step = if nat_le len 1 then pos 0 else stride *ℤ step
+
+-- a stride that an `isize` holds, its least value aside
+abbrev pub FitsStride : ℤ → Type 0
+FitsStride z = nat_abs z < 2 ^ 63
+
+-- a sliced axis: its stride by the step
+abbrev pub sliced_strides : List ℕ → List ℤ → ℕ → Slice → List ℤ
+sliced_strides ns ss a s = slice_set ss a (stepped_stride (sliced_length (slice_index ns a) s) (slice_index_or ss a (pos 0)) s.step)
+
+-- the diagonal: the sum of strides, 0 where its length is at most 1
+abbrev pub diagonal_stride : List ℕ → List ℤ → ℤ
+diagonal_stride ns ss = if nat_le (diagonal_length ns) 1 then pos 0 else sum_of ss
+
+-- a broadcast: 0 for each axis that has grown
+abbrev pub grown_strides : List ℕ → List ℤ → List ℕ → List ℤ
+grown_strides [] ss ms = []
+grown_strides (n ∷ ns) [] ms = []
+grown_strides (n ∷ ns) (s ∷ ss) [] = []
+grown_strides (n ∷ ns) (s ∷ ss) (m ∷ ms) = (if nat_eq n m then s else pos 0) ∷ grown_strides ns ss ms
+
+-- and 0 for each new axis
+abbrev pub broadcast_strides : List ℕ → List ℤ → List ℕ → List ℤ
+broadcast_strides from strides to = replicate (axes_added from to) (pos 0) ++ grown_strides from strides (drop (axes_added from to) to)

@@ -3,12 +3,16 @@
 #![tactic(auto)]
 
 mod grows;
+mod layout;
 mod ordered;
 mod reshape;
 mod runs;
 mod spans;
 
 pub use grows::growth;
+pub use layout::Layout;
+pub use layout::axes::stride_at;
+pub use layout::given::{first_in_slice, first_in_vec, size_in_slice, size_in_vec};
 pub use reshape::reshape_strides;
 pub use runs::{is_run, is_standard};
 pub use spans::{separated, span};

@@ -5,7 +5,7 @@ use Rattle.nd_shape_and_slice.specs.Shape.{in_box, size_of, row_rank, index_at, 
 use Rattle.nd_shape_and_slice.proofs.RowMajor.{row_rank_below}
 use Rattle.nd_shape_and_slice.proofs.RankIndexes.{in_box-index_at, index_at-row_rank}
 use Rattle.nd_shape_and_slice.proofs.Ranks.{length-indexes_of, get_or-indexes_of}
-use Rattle.nd_array_core.specs.Writes.{is_index}
+use Rattle.nd_array_core.specs.base.Writes.{is_index}
 use Rattle.nd_array_core.proofs.WriteStep.{is_index_refl, is_index_same}
 use Rattle.nd_run.specs.Acts.{leading_to}
 

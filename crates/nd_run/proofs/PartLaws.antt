@@ -3,11 +3,11 @@ use Rattle.std.proofs.Common.{◌≡◌, ℕ, zero, suc, ◌+◌, ◌-◌, ◌<�
 use Rattle.std.specs.Prelude.{is_some, ◌||◌}
 use Rattle.std.proofs.lemmas.Bool.{and_parts, and_from, lt-ltb, ltb-true, ltb-false}
 use Rattle.nd_shape_and_slice.specs.Shape.{in_box}
-use Rattle.nd_array_core.specs.Maps.{lower_shape, upper_shape, upper_index}
+use Rattle.nd_shape_and_slice.specs.Maps.{lower_shape, upper_shape, upper_index}
 use Rattle.nd_array_core.specs.Meaning.{Meaning, inside, seen}
 use Rattle.nd_array_core.specs.Laws.{NothingOutside}
 use Rattle.nd_array_core.specs.Placed.{Placed, found_at, element_placed}
-use Rattle.nd_array_core.specs.Tasks.{IsSeenThrough}
+use Rattle.nd_array_core.specs.scoped.Tasks.{IsSeenThrough}
 use Rattle.nd_run.specs.declared.cause.Cause.{Cause}
 use Rattle.nd_run.specs.Calls.{Acting, Asked, SplitWriting}
 use Rattle.nd_run.specs.Acts.{joined, clones, lower_part, upper_part, parts_tests, parts_refusal, place_tests, place_refusal, split_refusal}

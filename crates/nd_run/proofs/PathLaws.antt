@@ -7,7 +7,7 @@ use Rattle.nd_shape_and_slice.specs.SliceInfo.{each_fits}
 use Rattle.nd_shape_and_slice.proofs.AxisTests.{HasEachAxis-test}
 use Rattle.nd_array_core.specs.Meaning.{Meaning}
 use Rattle.nd_array_core.specs.Laws.{LeadsInside}
-use Rattle.nd_array_core.proofs.BroadcastStep.{broadcast_is_seen}
+use Rattle.nd_layout.proofs.steps.BroadcastStep.{broadcast_is_seen}
 use Rattle.nd_array_core.proofs.LawProofs.{sliced_inside, listed_inside, permuted_inside, reversed_inside, swapped_inside, inverted_inside, collapsed_inside, indexed_inside, widened_inside, squeezed_inside, diagonal_inside}
 use Rattle.nd_run.specs.declared.cause.Cause.{Cause}
 use Rattle.nd_run.specs.Calls.{AskedStep, SlicedAxis, Sliced, Collapsed, Indexed, Permuted, Reversed, Exchanged, Inverted, Inserted, Removed, Squeezed, Diagonal, Widened}

@@ -10,7 +10,7 @@ use Rattle.nd_shape_and_slice.specs.Slice.{fits_axis}
 use Rattle.nd_shape_and_slice.specs.SliceInfo.{reads_axis, axes_read, axes_kept, coordinate_on, each_fits, fits_shape}
 use Rattle.nd_run.specs.declared.cause.Cause.{Cause}
 use Rattle.nd_run.specs.declared.cause.Cause.TheVariants as causes
-use Rattle.nd_array_core.specs.Broadcast.{broadcasts}
+use Rattle.nd_shape_and_slice.specs.Broadcast.{broadcasts}
 use Rattle.nd_run.specs.Calls.{AskedStep, Sliced, Widened}
 use Rattle.nd_run.specs.Steps.{first_failed, element_tests, reads, refusal, keep_refusal, shares}
 

@@ -5,7 +5,7 @@ use Rattle.nd_shape_and_slice.specs.Shape.{in_box}
 use Rattle.nd_array_core.specs.Meaning.{Meaning, inside}
 use Rattle.nd_array_core.specs.Placed.{Placed, found_at, element_placed, left_at}
 use Rattle.nd_array_core.specs.Laws.{HasPlaces, ShowsStored, DistinctPlaces}
-use Rattle.nd_array_core.specs.Writes.{OthersStay}
+use Rattle.nd_array_core.specs.base.Writes.{OthersStay}
 use Rattle.nd_run.specs.declared.cause.Cause.{Cause}
 use Rattle.nd_run.specs.Calls.{AskedStep, Acting, Asked, Writing}
 use Rattle.nd_run.specs.Steps.{shape_along, index_along}

@@ -2,9 +2,9 @@
 use Rattle.std.specs.Prelude.{ℕ, ◌-◌, nat_lt, nat_le, Bool, true, false, List, [], ◌∷◌, ◌++◌, slice_index, slice_set, Option, None, Some, Result, if◌then◌else◌}
 use Rattle.std.specs.List.{find}
 use Rattle.nd_shape_and_slice.specs.Shape.{in_box, indexes_of}
-use Rattle.nd_array_core.specs.Maps.{lower_shape, upper_shape, upper_index}
+use Rattle.nd_shape_and_slice.specs.Maps.{lower_shape, upper_shape, upper_index}
 use Rattle.nd_array_core.specs.Meaning.{Meaning, inside, seen}
-use Rattle.nd_array_core.specs.Writes.{is_index, with_element_at, with_swapped}
+use Rattle.nd_array_core.specs.base.Writes.{is_index, with_element_at, with_swapped}
 use Rattle.nd_run.specs.Calls.{AskedStep, Acting, Filling, Setting, Swapping}
 use Rattle.nd_run.specs.Steps.{Test, first_failed, has_axis, keep_tests, unless, shape_after, shape_along, index_along}
 use Rattle.nd_run.specs.declared.cause.Cause.{Cause}

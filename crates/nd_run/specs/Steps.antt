@@ -5,9 +5,9 @@ use Rattle.nd_shape_and_slice.specs.Slice.{fits_axis, sliced_shape, sliced_index
 use Rattle.nd_shape_and_slice.specs.declared.slice_info.SliceInfoElem.{SliceInfoElem}
 use Rattle.nd_shape_and_slice.specs.declared.slice_info.SliceInfoElem.TheVariants.{Slice as Part, Index, NewAxis}
 use Rattle.nd_shape_and_slice.specs.SliceInfo.{reads_axis, axes_read, axes_kept, coordinate_on, shape_after as shape_sliced, index_before as index_sliced}
-use Rattle.nd_array_core.specs.Squeeze.{squeezed_shape, squeezed_index}
-use Rattle.nd_array_core.specs.Broadcast.{broadcasts, forget}
-use Rattle.nd_array_core.specs.Maps.{inverted_index, collapsed_shape, collapsed_index, indexed_shape, indexed_index, widened_shape, widened_index, diagonal_length, diagonal_index}
+use Rattle.nd_shape_and_slice.specs.Squeeze.{squeezed_shape, squeezed_index}
+use Rattle.nd_shape_and_slice.specs.Broadcast.{broadcasts, forget}
+use Rattle.nd_shape_and_slice.specs.Maps.{inverted_index, collapsed_shape, collapsed_index, indexed_shape, indexed_index, widened_shape, widened_index, diagonal_length, diagonal_index}
 use Rattle.nd_run.specs.Calls.{AskedStep, SlicedAxis, Sliced, Collapsed, Indexed, Permuted, Reversed, Exchanged, Inverted, Inserted, Removed, Squeezed, Diagonal, Widened}
 use Rattle.nd_run.specs.declared.cause.Cause.{Cause}
 use Rattle.nd_run.specs.declared.cause.Cause.TheVariants as causes

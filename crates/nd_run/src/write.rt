@@ -3,8 +3,8 @@
 ghost use Rattle.std.specs.Prelude.{◌≡◌, ◌||◌, ℕ, true, List, map, Option, None, Some, IfOk, OnErr, if◌then◌else◌};
 ghost use Rattle.nd_shape_and_slice.specs.Shape.{in_box};
 ghost use Rattle.nd_array_core.specs.Meaning.{shape_of, element_at, meaning_of, storage_of, place_at, placed_of, inside};
-ghost use Rattle.nd_array_core.specs.Writes.{OthersStay};
-ghost use Rattle.nd_array_core.specs.Tasks.{view_borrow, lent_borrow, lent_view, view_left, CanBeSeen};
+ghost use Rattle.nd_array_core.specs.base.Writes.{OthersStay};
+ghost use Rattle.nd_array_core.specs.scoped.Tasks.{view_borrow, lent_borrow, lent_view, view_left, CanBeSeen};
 ghost use Rattle.nd_run.specs.Calls.{asked_step, acting, said, Writing, SplitWriting};
 ghost use Rattle.nd_run.specs.Acts.{act_refusal, acted, clones, path_refusal, write_refusal, parts_refusal, place_refusal};
 ghost use Rattle.nd_run.specs.Placing.{meaning_in, places_in, Leaves, acted_unless, WritesThrough, WritesParts, said_unless};

@@ -13,3 +13,6 @@ pub mod Multiples
 pub mod Progressions
 pub mod CommonElements
 pub mod SeenAxes
+pub mod Boxes
+pub mod FillLoop
+pub mod PermuteLoop

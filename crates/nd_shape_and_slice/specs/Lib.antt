@@ -7,3 +7,9 @@ pub mod SliceInfo
 pub mod Builder
 pub mod Descriptions
 pub mod Meeting
+pub mod Maps
+pub mod Slicing
+pub mod EachAxis
+pub mod Squeeze
+pub mod Broadcast
+pub mod Listed

@@ -1,8 +1,8 @@
 use Rattle.std.proofs.Common.{◌∙◌}
-use Rattle.nd_array_core.specs.Maps.{lower_shape, upper_shape, upper_index}
+use Rattle.nd_shape_and_slice.specs.Maps.{lower_shape, upper_shape, upper_index}
 use Rattle.nd_array_core.specs.Meaning.{shape_of, element_at, place_at}
 use Rattle.nd_array_core.specs.Placed.{element_placed}
-use Rattle.nd_array_core.proofs.TaskStep.{through, put_there}
+use Rattle.nd_array_core.proofs.tasks.TaskStep.{through, put_there}
 use Rattle.nd_array_core.proofs.scoped_tests.put_both.Goals as goal
 
 pub returns-clause-low : goal.returns-clause-low

@@ -2,7 +2,7 @@ use Rattle.std.proofs.Common.{◌∙◌}
 use Rattle.nd_shape_and_slice.specs.SliceInfo.{shape_after, index_before}
 use Rattle.nd_array_core.specs.Meaning.{shape_of, element_at, place_at}
 use Rattle.nd_array_core.specs.Placed.{element_placed}
-use Rattle.nd_array_core.proofs.TaskStep.{through, put_there}
+use Rattle.nd_array_core.proofs.tasks.TaskStep.{through, put_there}
 use Rattle.nd_array_core.proofs.scoped_tests.put_in_slices.Goals as goal
 
 pub returns-clause-low : goal.returns-clause-low

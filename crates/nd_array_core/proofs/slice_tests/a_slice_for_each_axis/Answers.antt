@@ -2,7 +2,7 @@ use Rattle.std.proofs.Common.{rules, ◌≡◌, ◌∙◌, ap, arith, pos, negsu
 use Rattle.std.specs.Prelude.{None}
 use Rattle.nd_shape_and_slice.specs.declared.slice.Slice.{Slice}
 use Rattle.nd_shape_and_slice.specs.Slice.{fits_axis}
-use Rattle.nd_array_core.proofs.EachAxisLoop.{answers_always_fit, whole_fits}
+use Rattle.nd_layout.proofs.steps.EachAxisLoop.{answers_always_fit, whole_fits}
 use Rattle.nd_array_core.proofs.slice_tests.a_slice_for_each_axis.Goals as goal
 
 pub slice_each_axis-turned-requires : goal.slice_each_axis-turned-requires

@@ -2,7 +2,7 @@ use Rattle.std.proofs.Common.{◌≡◌, ◌<◌, ◌∷◌, [], ℕ, Bool, true
 use Rattle.std.proofs.lemmas.Bool.{lt-ltb}
 use Rattle.std.proofs.lemmas.Bool.Decides.{nat_tests}
 use Rattle.nd_shape_and_slice.specs.Shape.{in_box}
-use Rattle.nd_array_core.specs.Broadcast.{forget}
+use Rattle.nd_shape_and_slice.specs.Broadcast.{forget}
 use Rattle.nd_array_core.specs.Meaning.{element_at, inside}
 use Rattle.nd_array_core_uses.proofs.broadcasts.table_of.Goals as goal
 

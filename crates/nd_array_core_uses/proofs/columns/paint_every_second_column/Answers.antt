@@ -5,7 +5,7 @@ use Rattle.nd_shape_and_slice.specs.declared.slice_info.SliceInfoElem.{SliceInfo
 use Rattle.nd_shape_and_slice.specs.Shape.{in_box}
 use Rattle.nd_shape_and_slice.specs.SliceInfo.{fits_shape, shape_after, index_before}
 use Rattle.nd_array_core.specs.Meaning.{shape_of, element_at}
-use Rattle.nd_array_core.specs.Tasks.{OthersKeep}
+use Rattle.nd_array_core.specs.scoped.Tasks.{OthersKeep}
 use Rattle.nd_array_core_uses.proofs.Halves.{columns, columns_fit, every_second_of, two_of}
 use Rattle.nd_array_core_uses.proofs.columns.paint_every_second_column.Goals as goal
 

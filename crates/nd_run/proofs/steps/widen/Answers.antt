@@ -1,6 +1,6 @@
 use Rattle.std.proofs.Common.{◌≡◌, ◌∙◌, ap, List, ℕ, true, false, None, arith}
 use Rattle.nd_array_core.specs.Meaning.{meaning_of, shape_of, element_at, inside}
-use Rattle.nd_array_core.specs.Broadcast.{broadcasts, forget}
+use Rattle.nd_shape_and_slice.specs.Broadcast.{broadcasts, forget}
 use Rattle.nd_run.specs.Calls.{Widened}
 use Rattle.nd_run.specs.Steps.{refusal}
 use Rattle.nd_run.proofs.FoldLemmas.{taken_ok}

@@ -1,5 +1,5 @@
 use Rattle.std.proofs.Common.{◌≡◌, ◌∙◌, sym, ap, None}
-use Rattle.nd_array_core.specs.Maps.{lower_shape, upper_shape, upper_index}
+use Rattle.nd_shape_and_slice.specs.Maps.{lower_shape, upper_shape, upper_index}
 use Rattle.nd_array_core.specs.Meaning.{shape_of, place_at, meaning_of}
 use Rattle.nd_run.specs.Calls.{acting}
 use Rattle.nd_run.specs.Acts.{parts_refusal, place_refusal, split_refusal}

@@ -2,7 +2,7 @@ use Rattle.std.proofs.Common.{ap, sym, ◌∙◌}
 use Rattle.std.proofs.Math.Path.{fun_ext}
 use Rattle.nd_region.specs.Region.{stored}
 use Rattle.nd_array_core.specs.Placed.{found_at}
-use Rattle.nd_array_core.specs.Writes.{with_element_at}
+use Rattle.nd_array_core.specs.base.Writes.{with_element_at}
 use Rattle.nd_array_core.proofs.scoped_tests.PutViewTask.run.Goals as goal
 
 pub returns-clause-elements : goal.returns-clause-elements

@@ -1,6 +1,6 @@
 use Rattle.std.proofs.Common.{◌∙◌, sym, ap, map}
 use Rattle.nd_array_core.specs.Meaning.{placed_of}
-use Rattle.nd_array_core.specs.Tasks.{lent_view, view_left}
+use Rattle.nd_array_core.specs.scoped.Tasks.{lent_view, view_left}
 use Rattle.nd_run.specs.Calls.{asked_step, acting}
 use Rattle.nd_run.proofs.WriteLaws.{lent_through}
 use Rattle.nd_run.proofs.write.ActAlongViewTask.run.Goals as goal

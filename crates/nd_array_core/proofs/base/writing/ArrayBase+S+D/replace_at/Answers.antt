@@ -1,0 +1,12 @@
+use Rattle.nd_array_core.specs.Meaning.{shape_of, element_at}
+use Rattle.nd_array_core.proofs.WriteStep.{written_element}
+use Rattle.nd_array_core.proofs.base.writing.ArrayBase+S+D.replace_at.Goals as goal
+
+pub returns-clause-elements : goal.returns-clause-elements
+unfolding shape_of element_at
+returns-clause-elements g c =
+    let array = c.args.self.now in
+    let layout = array.layout in
+    let strides = g.D.Strides.StrideList.strides_of layout.strides in
+    written_element (g.S.Data.stored array.storage) (g.S.Data.stored c.replace.new.self) (g.D.Dimension.lengths layout.dim) strides layout.first c.args.index.now
+    c.place_in_box-place.result c.args.value layout.as_many (array.separated g.met.S.DataMut.alone) c.requires c.place_in_box-place.ensures c.replace.ensures.new

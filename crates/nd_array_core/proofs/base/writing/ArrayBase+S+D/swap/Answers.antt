@@ -1,0 +1,15 @@
+use Rattle.std.proofs.Common.{◌∙◌, ap}
+use Rattle.nd_shape_and_slice.specs.Place.{place_of}
+use Rattle.nd_array_core.specs.Meaning.{shape_of, element_at}
+use Rattle.nd_array_core.proofs.WriteStep.{swapped_element}
+use Rattle.nd_array_core.proofs.base.writing.ArrayBase+S+D.swap.Goals as goal
+
+pub returns-clause-elements : goal.returns-clause-elements
+unfolding shape_of element_at
+returns-clause-elements g c =
+    let array = c.args.self.now in
+    let layout = array.layout in
+    let strides = g.D.Strides.StrideList.strides_of layout.strides in
+    swapped_element (g.S.Data.stored array.storage) (g.S.Data.stored c.swap.new.self) (g.D.Dimension.lengths layout.dim) strides layout.first (g.I.NdIndex.coordinates_of c.args.a) (g.I.NdIndex.coordinates_of c.args.b)
+    c.place_in_box-p.result c.place_in_box-q.result layout.as_many (array.separated g.met.S.DataMut.alone) c.requires.a c.requires.b
+    (c.place_in_box-p.ensures ∙ ap (place_of layout.first strides) c.coordinates.ensures) (c.place_in_box-q.ensures ∙ ap (place_of layout.first strides) c.coordinates-2.ensures) c.swap.ensures.new

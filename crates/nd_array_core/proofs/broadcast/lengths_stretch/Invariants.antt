@@ -1,6 +1,0 @@
-use Rattle.std.proofs.Common.{◌≡◌, drop}
-use Rattle.nd_array_core.specs.Broadcast.{stretches}
-use Rattle.nd_array_core.proofs.broadcast.lengths_stretch.Given as goal
-
-abbrev pub invariant-loop-axis : goal.invariant-loop-axis
-invariant-loop-axis l = stretches (drop l.axis l.from) (drop l.axis l.to) ≡ stretches l.from l.to

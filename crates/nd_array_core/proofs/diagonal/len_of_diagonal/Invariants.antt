@@ -1,6 +1,0 @@
-use Rattle.std.proofs.Common.{◌≡◌, drop}
-use Rattle.nd_array_core.specs.Maps.{least_of, diagonal_length}
-use Rattle.nd_array_core.proofs.diagonal.len_of_diagonal.Given as goal
-
-abbrev pub invariant-loop-k : goal.invariant-loop-k
-invariant-loop-k l = least_of l.least (drop l.k l.lengths) ≡ diagonal_length l.lengths

@@ -1,5 +1,0 @@
-use Rattle.nd_array_core.proofs.DiagonalStep.{IsSumBelow}
-use Rattle.nd_array_core.proofs.diagonal.sum_of_strides.Given as goal
-
-abbrev pub invariant-loop-k : goal.invariant-loop-k
-invariant-loop-k l = IsSumBelow l.lengths l.strides l.sum l.k

@@ -1,0 +1,9 @@
+use Rattle.nd_array_core.proofs.StepLemmas.{step_holds}
+use Rattle.nd_layout.proofs.steps.StepLemmas.{step_separated}
+use Rattle.nd_array_core.proofs.layout.axes.ArrayBase+S+D.invert_axis.Goals as goal
+
+pub invariant_of-self : goal.invariant_of-self
+invariant_of-self g c = record {
+  inside = step_holds (g.S.Data.stored c.args.self.now.storage) c.invert_axis.ensures.step c.args.self.now.inside;
+  separated = step_separated c.invert_axis.ensures.step c.args.self.now.separated;
+}

@@ -1,0 +1,24 @@
+use Rattle.nd_region.specs.Region.{stored}
+use Rattle.nd_array_core.proofs.Parted.{taken_holds, taken_element}
+use Rattle.std.proofs.Common.{refl}
+use Rattle.nd_array_core.specs.Meaning.{shape_of, element_at, place_at, layout_strides}
+use Rattle.nd_array_core.proofs.layout.splitting.ViewMutRepr+A.part.Goals as goal
+
+pub invariant_of-result : goal.invariant_of-result
+invariant_of-result g c =
+    let layout = c.args.layout in
+    record {
+      inside = taken_holds (stored c.args.self.now.region) (stored c.split-storage.result.region) layout.first (g.D.Dimension.lengths layout.dim) (g.D.Strides.StrideList.strides_of layout.strides) c.split-storage.ensures.taken c.requires.holds;
+      separated = λ _. c.requires.separated;
+    }
+
+pub returns-clause-shown : goal.returns-clause-shown
+unfolding shape_of element_at place_at layout_strides
+returns-clause-shown g c =
+    let layout = c.args.layout in
+    record {
+      shape_is = refl;
+      strides_are = refl;
+      elements = taken_element (stored c.args.self.now.region) (stored c.split-storage.result.region) layout.first (g.D.Dimension.lengths layout.dim) (g.D.Strides.StrideList.strides_of layout.strides) c.split-storage.ensures.taken;
+      places = λ i. refl;
+    }

@@ -1,0 +1,51 @@
+-- The storage of an array in memory, apart from its layout: taken out, and put back with other elements. Assumes `Logic`.
+use Prim.Native.Nat.{ℕ, ◌+◌}
+use mathlib.Core.List.{List, [], ◌∷◌}
+use seplogic.Ra.Ura.{Ura}
+use base.Fraction.{full_share}
+use base.Logic.{SProp, ent, sep}
+use prog.Memory.{align, up}
+use types.Logic.{Logic, sem}
+use denote.Laws.{Lawfuls}
+use denote.Memory.{mem}
+use denote.Param.{layout, param, copied}
+use denote.RattleType.{RattleType}
+use denote.Struct.Declared.{Declared}
+use denote.Struct.Members.{Member, rows_of}
+use denote.Struct.Parts.{PartsBack}
+use denote.Struct.Pick.{rest_at, record_field_out, record_field_back}
+use Rattle.nd_shape_and_slice.specs.declared.dimension.Dimension as dimension
+use Rattle.nd_shape_and_slice.specs.declared.dimension.AxisCount as axis_count
+use Rattle.nd_shape_and_slice.specs.declared.dimension.StrideList as stride_list
+use Rattle.nd_array_core.specs.declared.base.storage.Data as data_trait
+use Rattle.nd_array_core.specs.contracts.base.array.ArrayBase as A
+use Rattle.nd_layout.specs.contracts.layout.Layout as L
+use Rattle.nd_array_core.specs.layout.ViewLent.{array_with_items}
+
+abbrev member : RattleType → Member
+member R = record { row = R; ty = layout R }
+
+module _ (S D T E P G B : RattleType) (s : data_trait.Ghosts S.Denot E.Denot) (d : dimension.Ghosts D.Denot P.Denot T.Denot G.Denot B.Denot) (n : axis_count.Ghosts D.Denot) (t : stride_list.Ghosts T.Denot) where
+  abbrev pub Row : RattleType
+  Row = A.the_row (param 0 S) (copied 1 D) (copied 4 T) (param 2 E) (param 3 P) (copied 4 T) (param 5 G) (param 6 B) s d n t t
+
+  abbrev pub Whole : Declared
+  Whole = A.the_type (param 0 S) (copied 1 D) (copied 4 T) (param 2 E) (param 3 P) (copied 4 T) (param 5 G) (param 6 B) s d n t t
+
+  abbrev pub members : List Member
+  members = member (param 0 S) ∷ member (L.the_field (copied 1 D) (copied 4 T) (param 3 P) (copied 4 T) (param 5 G) (param 6 B) d n t t).row ∷ []
+
+  module _ {M : Type 1} {𝓤 : Ura M} (𝓛 : Logic 𝓤) (b o : ℕ) where
+    -- where the storage lies
+    abbrev pub storage_at : ℕ
+    storage_at = o + up (align (layout S)) 0
+
+    abbrev pub Beside : Row.Denot → SProp 𝓤
+    Beside a = sep 𝓤 (sem 𝓛 (rest_at full_share members 0 (Whole.to a) b o 0)) (PartsBack 𝓛 full_share Whole.name members b o)
+
+    pub storage_out : Lawfuls 𝓛 (rows_of members) → (a : Row.Denot) → ent 𝓤 (sem 𝓛 ((mem Row).own_at a b o)) (sep 𝓤 (sem 𝓛 ((mem (param 0 S)).own_at a.storage b storage_at)) (Beside a))
+    storage_out lawful a = record_field_out 𝓛 full_share Whole.name members Whole.D Whole.to Whole.to_one lawful a b o 0
+
+    pub storage_back : (a : Row.Denot) (us : List E.Denot) → ent 𝓤 (sep 𝓤 (sem 𝓛 ((mem (param 0 S)).own_at (s.refilled a.storage us).0 b storage_at)) (Beside a)) (sem 𝓛 ((mem Row).own_at (array_with_items s.refilled a us) b o))
+    unfolding array_with_items
+    storage_back a us = record_field_back 𝓛 full_share Whole.name members Whole.D Whole.to Whole.to_one (array_with_items s.refilled a us) b o 0

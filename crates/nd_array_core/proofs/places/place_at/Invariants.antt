@@ -1,5 +1,0 @@
-use Rattle.nd_array_core.proofs.Walks.{IsOnTheWay}
-use Rattle.nd_array_core.proofs.places.place_at.Given as goal
-
-abbrev pub invariant-loop-axis : goal.invariant-loop-axis
-invariant-loop-axis l = IsOnTheWay l.first l.axis l.place l.lengths l.index l.strides

@@ -1,8 +1,0 @@
-use Rattle.nd_array_core.proofs.StepLemmas.{step_holds, step_separated}
-use Rattle.nd_array_core.proofs.resize_calls.ArrayBase+S+D.insert_axis.Goals as goal
-
-pub invariant_of-result : goal.invariant_of-result
-invariant_of-result g c = record {
-  inside = step_holds (g.S.Data.stored c.args.self.storage) c.insert_axis-layout.ensures.step c.args.self.inside;
-  separated = step_separated c.insert_axis-layout.ensures.step c.args.self.separated;
-}

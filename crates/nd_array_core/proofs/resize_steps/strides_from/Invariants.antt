@@ -1,6 +1,0 @@
-use Rattle.std.proofs.Common.{pos}
-use Rattle.nd_array_core.proofs.FillLoop.{IsFilledBelow}
-use Rattle.nd_array_core.proofs.resize_steps.strides_from.Given as goal
-
-abbrev pub invariant-loop-k : goal.invariant-loop-k
-invariant-loop-k g l = IsFilledBelow (pos 0) l.list (g.E.Strides.StrideList.strides_of l.out) l.k

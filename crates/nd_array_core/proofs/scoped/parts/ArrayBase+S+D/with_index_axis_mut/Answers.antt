@@ -1,0 +1,86 @@
+use Rattle.std.proofs.Common.{refl}
+use Rattle.nd_shape_and_slice.specs.Maps.{indexed_shape, indexed_index}
+use Rattle.nd_array_core.specs.Meaning.{shape_of, element_at, storage_of, place_at}
+use Rattle.nd_array_core.specs.scoped.Tasks.{laid, LiesSoundly}
+use Rattle.nd_array_core.proofs.tasks.PartTask.{step_sound, part_seen, left_seen, part_others_stay, part_others_keep}
+use Rattle.nd_array_core.proofs.tasks.TaskStep.{still_holds}
+use Rattle.nd_array_core.proofs.scoped.parts.ArrayBase+S+D.with_index_axis_mut.Goals as goal
+
+pub invariant_of-self : goal.invariant_of-self
+invariant_of-self g c =
+    let array = c.args.self.now in
+    let old = array.layout in
+    record {
+      inside = still_holds (g.S.Data.stored array.storage) old.first (g.D.Dimension.lengths old.dim) (g.D.Strides.StrideList.strides_of old.strides) (g.S.Data.stored c.with_laid.new.storage) c.with_laid.ensures.there array.inside;
+      separated = array.separated;
+    }
+
+pub with_laid-requires-clause-sound : goal.with_laid-requires-clause-sound
+with_laid-requires-clause-sound g c =
+    let array = c.args.self.now in
+    let old = array.layout in
+    let ns = g.D.Dimension.lengths old.dim in
+    let ss = g.D.Strides.StrideList.strides_of old.strides in
+    let m = g.S.Data.stored array.storage in
+    let sound : LiesSoundly m old.first ns ss = record { valid = record { as_many = old.as_many; spread = old.spread; checked = old.checked; reach = old.reach }; holds = array.inside; separated = array.separated g.met.S.DataMut.alone } in
+    let new = c.index_axis-layout.result in
+    let step = c.index_axis-layout.ensures.step in
+    step_sound m old.first ns ss _ _ _ _ _ refl sound step
+
+pub with_laid-requires-clause-callable : goal.with_laid-requires-clause-callable
+unfolding shape_of element_at place_at
+with_laid-requires-clause-callable g c m' named =
+    let array = c.args.self.now in
+    let old = array.layout in
+    let ns = g.D.Dimension.lengths old.dim in
+    let ss = g.D.Strides.StrideList.strides_of old.strides in
+    let m = g.S.Data.stored array.storage in
+    let sound : LiesSoundly m old.first ns ss = record { valid = record { as_many = old.as_many; spread = old.spread; checked = old.checked; reach = old.reach }; holds = array.inside; separated = array.separated g.met.S.DataMut.alone } in
+    let new = c.index_axis-layout.result in
+    let step = c.index_axis-layout.ensures.step in
+    c.requires.callable (laid m' new.first (g.D.Smaller.Dimension.lengths new.dim) (g.D.Smaller.Strides.StrideList.strides_of new.strides)) (part_seen m old.first ns ss _ _ _ (indexed_index c.args.axis.0 c.args.index) (indexed_shape ns c.args.axis.0) c.index_axis-layout.ensures.lengths sound step m' named)
+
+pub returns-clause-others : goal.returns-clause-others
+unfolding storage_of place_at
+returns-clause-others g c =
+    let array = c.args.self.now in
+    let old = array.layout in
+    let ns = g.D.Dimension.lengths old.dim in
+    let ss = g.D.Strides.StrideList.strides_of old.strides in
+    let m = g.S.Data.stored array.storage in
+    let sound : LiesSoundly m old.first ns ss = record { valid = record { as_many = old.as_many; spread = old.spread; checked = old.checked; reach = old.reach }; holds = array.inside; separated = array.separated g.met.S.DataMut.alone } in
+    let new = c.index_axis-layout.result in
+    let step = c.index_axis-layout.ensures.step in
+    let stored = g.S.Data.stored c.with_laid.new.storage in
+    let done = c.with_laid.ensures.done in
+    part_others_stay m old.first ns ss _ _ _ (indexed_index c.args.axis.0 c.args.index) (indexed_shape ns c.args.axis.0) c.index_axis-layout.ensures.lengths sound step stored done.1 done.4
+
+pub returns-clause-kept : goal.returns-clause-kept
+unfolding shape_of element_at
+returns-clause-kept g c =
+    let array = c.args.self.now in
+    let old = array.layout in
+    let ns = g.D.Dimension.lengths old.dim in
+    let ss = g.D.Strides.StrideList.strides_of old.strides in
+    let m = g.S.Data.stored array.storage in
+    let sound : LiesSoundly m old.first ns ss = record { valid = record { as_many = old.as_many; spread = old.spread; checked = old.checked; reach = old.reach }; holds = array.inside; separated = array.separated g.met.S.DataMut.alone } in
+    let new = c.index_axis-layout.result in
+    let step = c.index_axis-layout.ensures.step in
+    let stored = g.S.Data.stored c.with_laid.new.storage in
+    let done = c.with_laid.ensures.done in
+    part_others_keep m old.first ns ss _ _ _ (indexed_index c.args.axis.0 c.args.index) (indexed_shape ns c.args.axis.0) c.index_axis-layout.ensures.lengths sound step stored done.1 done.4
+
+pub returns-clause-done : goal.returns-clause-done
+unfolding shape_of element_at place_at
+returns-clause-done g c =
+    let array = c.args.self.now in
+    let old = array.layout in
+    let ns = g.D.Dimension.lengths old.dim in
+    let ss = g.D.Strides.StrideList.strides_of old.strides in
+    let m = g.S.Data.stored array.storage in
+    let sound : LiesSoundly m old.first ns ss = record { valid = record { as_many = old.as_many; spread = old.spread; checked = old.checked; reach = old.reach }; holds = array.inside; separated = array.separated g.met.S.DataMut.alone } in
+    let new = c.index_axis-layout.result in
+    let step = c.index_axis-layout.ensures.step in
+    let stored = g.S.Data.stored c.with_laid.new.storage in
+    let done = c.with_laid.ensures.done in
+    (laid done.0 new.first (g.D.Smaller.Dimension.lengths new.dim) (g.D.Smaller.Strides.StrideList.strides_of new.strides), laid done.1 new.first (g.D.Smaller.Dimension.lengths new.dim) (g.D.Smaller.Strides.StrideList.strides_of new.strides), part_seen m old.first ns ss _ _ _ (indexed_index c.args.axis.0 c.args.index) (indexed_shape ns c.args.axis.0) c.index_axis-layout.ensures.lengths sound step done.0 done.2, left_seen m old.first ns ss _ _ _ (indexed_index c.args.axis.0 c.args.index) (indexed_shape ns c.args.axis.0) c.index_axis-layout.ensures.lengths sound step stored done.1 done.4, done.3)

@@ -1,0 +1,105 @@
+-- A task on a view by a layout: what it is handed, and what the storage and the array hold afterwards.
+use Rattle.std.proofs.Common.{◌≡◌, ℕ, Bool, true, false, List, ℤ, pos, negsuc, refl, ap, sym, ◌∙◌}
+use Rattle.std.specs.Prelude.{Option, Some, None, is_some, if◌then◌else◌}
+use Rattle.nd_shape_and_slice.specs.Shape.{in_box}
+use Rattle.nd_shape_and_slice.specs.Place.{place_of}
+use Rattle.nd_region.specs.Places.{names}
+use Rattle.nd_region.proofs.Names.{named_by, named_at}
+use Rattle.nd_array_core.specs.Places.{stored_at, names_place, place_number, HoldsAll}
+use Rattle.nd_array_core.specs.Placed.{Placed, found_at, element_placed}
+use Rattle.nd_array_core.specs.Meaning.{inside}
+use Rattle.nd_array_core.specs.scoped.Scoped.{with_named}
+use Rattle.nd_array_core.specs.scoped.Tasks.{laid, IsNamedMap, IsViewOf, IsSeenThrough, LiesSoundly}
+use Rattle.nd_array_core.specs.base.Writes.{OthersStay, with_element_at}
+use Rattle.nd_array_core.proofs.WriteStep.{is_index_refl}
+
+module _ {A : Type 0} (m : ℕ → Option A) (first : ℕ) (ns : List ℕ) (ss : List ℤ) where
+  -- the place of an index, and the element there
+  abbrev place_in : List ℕ → Option ℕ
+  place_in i = inside ns i (place_number (place_of first ss i))
+
+  abbrev element_in : List ℕ → Option A
+  element_in i = inside ns i (stored_at m (place_of first ss i))
+
+  some_is : {p q : ℕ} → Some p ≡ Some q → p ≡ q
+  some_is e = cc
+
+  -- a place that the layout names is that of an index
+  named_place : (p : ℕ) → names first ns ss p ≡ true → (i : List ℕ) × (place_in i ≡ Some p)
+  named_place p e = let i = named_by first ns ss p e in (i.0, rw (i.1, i.2) refl)
+
+  unnamed : (p : ℕ) → ((i : List ℕ) → place_in i ≡ Some p → ⊥) → names first ns ss p ≡ false
+  unnamed p none = by_test (names first ns ss p) refl
+    where
+      by_test : (b : Bool) → names first ns ss p ≡ b → names first ns ss p ≡ false
+      by_test true e = let i = named_place p e in absurd (none i.0 i.1)
+      by_test false e = e
+
+  -- ---- what the view holds
+  module _ (k : ℕ → Option A) (named : IsNamedMap m first ns ss k) where
+    at_named : (p : ℕ) (i : List ℕ) → in_box ns i ≡ true → place_of first ss i ≡ pos p → k p ≡ m p
+    at_named p i h e = named p ∙ ap (λ (b : Bool). if b then m p else None) (named_at first ns ss p i h e)
+
+    held_at : (z : ℤ) (i : List ℕ) → in_box ns i ≡ true → place_of first ss i ≡ z → names_place m z ≡ true → names_place k z ≡ true
+    held_at (pos p) i h e has = ap is_some (at_named p i h e) ∙ has
+    held_at (negsuc n) i h e has = has
+
+    pub part_holds : HoldsAll m first ns ss → HoldsAll k first ns ss
+    part_holds holds i h = held_at (place_of first ss i) i h refl (holds i h)
+
+    shown_at : (z : ℤ) (i : List ℕ) → in_box ns i ≡ true → place_of first ss i ≡ z → found_at k (place_number z) ≡ stored_at m z
+    shown_at (pos p) i h e = at_named p i h e
+    shown_at (negsuc n) i h e = refl
+
+    shown : (i : List ℕ) (b : Bool) → in_box ns i ≡ b → found_at k (place_in i) ≡ element_in i
+    shown i true h = rw h (shown_at (place_of first ss i) i h refl)
+    shown i false h = rw h refl
+
+    pub part_is_view : IsViewOf ns place_in element_in (laid k first ns ss)
+    part_is_view = record { same_shape = refl; same_place = λ i. refl; same_element = λ i. shown i (in_box ns i) refl }
+
+    pub part_sound : LiesSoundly m first ns ss → LiesSoundly k first ns ss
+    part_sound sound = record { valid = sound.valid; holds = part_holds sound.holds; separated = sound.separated }
+
+  -- ---- what the storage and the array hold afterwards
+  module _ (new : ℕ → Option A) where
+    there_at : (z : ℤ) → ((p : ℕ) → is_some (new p) ≡ is_some (m p)) → names_place m z ≡ true → names_place new z ≡ true
+    there_at (pos p) there has = there p ∙ has
+    there_at (negsuc n) there has = has
+
+    pub still_holds : ((p : ℕ) → is_some (new p) ≡ is_some (m p)) → HoldsAll m first ns ss → HoldsAll new first ns ss
+    still_holds there holds i h = there_at (place_of first ss i) there (holds i h)
+
+    module _ (w : ℕ → Option A) (is : (p : ℕ) → new p ≡ with_named m first ns ss w p) where
+      pub others_stay : OthersStay place_in m new
+      others_stay p none = is p ∙ ap (λ (b : Bool). if b then w p else m p) (unnamed p none)
+
+      left_there : (z : ℤ) (i : List ℕ) → in_box ns i ≡ true → place_of first ss i ≡ z → found_at w (place_number z) ≡ stored_at new z
+      left_there (pos p) i h e = sym (is p ∙ ap (λ (b : Bool). if b then w p else m p) (named_at first ns ss p i h e))
+      left_there (negsuc n) i h e = refl
+
+      left : (i : List ℕ) (b : Bool) → in_box ns i ≡ b → found_at w (place_in i) ≡ inside ns i (stored_at new (place_of first ss i))
+      left i true h = rw h (left_there (place_of first ss i) i h refl)
+      left i false h = rw h refl
+
+      -- the array shows what the view does
+      pub left_is_view : IsViewOf ns place_in (λ i. inside ns i (stored_at new (place_of first ss i))) (laid w first ns ss)
+      left_is_view = record { same_shape = refl; same_place = λ i. refl; same_element = λ i. left i (in_box ns i) refl }
+
+-- ---- for callers and tasks
+-- an array's element at an index is the one stored at its place
+shown_number : {A : Type 0} (stored : ℕ → Option A) (z : ℤ) → found_at stored (place_number z) ≡ stored_at stored z
+shown_number stored (pos p) = refl
+shown_number stored (negsuc n) = refl
+
+pub shown_inside : {A : Type 0} (stored : ℕ → Option A) (ns i : List ℕ) (z : ℤ) (b : Bool) → in_box ns i ≡ b → found_at stored (inside ns i (place_number z)) ≡ inside ns i (stored_at stored z)
+shown_inside stored ns i z true h = rw h (shown_number stored z)
+shown_inside stored ns i z false h = rw h refl
+
+-- the view through a map shows an element where the array does
+pub through : {A : Type 0} (shape : List ℕ) (source : List ℕ → List ℕ) (place : List ℕ → Option ℕ) (at : List ℕ → Option A) (w : Placed A) (i : List ℕ) (x : A) → IsSeenThrough shape source place at w → in_box shape i ≡ true → element_placed w i ≡ Some x → at (source i) ≡ Some x
+through shape source place at w i x seen h e = sym (seen.same_element i ∙ ap (λ (b : Bool). if b then at (source i) else None) h) ∙ e
+
+-- and shows what was put at an index
+pub put_there : {A : Type 0} (at : List ℕ → Option A) (i : List ℕ) (x : A) → with_element_at at i x i ≡ Some x
+put_there at i x = ap (λ (b : Bool). if b then Some x else at i) (is_index_refl i)

@@ -1,0 +1,58 @@
+-- What an array ends as, once a borrow of one of its elements is over.
+use Rattle.std.specs.Prelude.{◌≡◌, ℕ, List, Bool, true, Option, ℤ, pos, negsuc, nat_abs}
+use Rattle.std.specs.Borrow.{Fml, RattleType, MutBor, GName, Lends, LendsIf}
+use Rattle.nd_shape_and_slice.specs.Place.{place_of}
+use Rattle.nd_shape_and_slice.specs.declared.dimension.Dimension as dimension
+use Rattle.nd_shape_and_slice.specs.declared.dimension.AxisCount as axis_count
+use Rattle.nd_shape_and_slice.specs.declared.dimension.StrideList as stride_list
+use Rattle.nd_array_core.specs.declared.base.storage.Data as data_trait
+use Rattle.nd_array_core.specs.declared.base.array.ArrayBase.{ArrayBase}
+use Rattle.nd_array_core.specs.contracts.base.array.ArrayBase.{the_row}
+use Rattle.nd_array_core.specs.Meaning.{shape_of, element_at, storage_of, place_at}
+use Rattle.nd_array_core.specs.Places.{names_place}
+use Rattle.nd_array_core.specs.base.ElementMut.{KeepsPlaces}
+use Rattle.nd_array_core.specs.base.Writes.{with_element_at, OthersStay}
+
+pub kept_names : {A : Type 0} (old new : ℕ → Option A) → KeepsPlaces old new → (z : ℤ) → names_place old z ≡ true → names_place new z ≡ true
+kept_names old new kept (pos p) has = kept p has
+kept_names old new kept (negsuc p) has = has
+
+module _ {S D T A P R L M : Type 0} {s : data_trait.Ghosts S A} {d : dimension.Ghosts D P R L M} {n : axis_count.Ghosts D} {r : stride_list.Ghosts R} {t : stride_list.Ghosts T} where
+  -- the array once its storage is another that holds something wherever it did
+  abbrev pub with_storage : (a : ArrayBase S D T A P R L M s d n r t) → (x : S) × KeepsPlaces (s.stored a.storage) (s.stored x) → ArrayBase S D T A P R L M s d n r t
+  with_storage a x = record {
+    storage = x.0;
+    layout = a.layout;
+    inside = λ i h. kept_names (s.stored a.storage) (s.stored x.0) x.1 (place_of a.layout.first (t.strides_of a.layout.strides) i) (a.inside i h);
+    separated = a.separated;
+  }
+
+  -- the array once the element at an index is another
+  unfoldable pub with_element : ((x : S) → ℕ → A → (y : S) × KeepsPlaces (s.stored x) (s.stored y)) → ArrayBase S D T A P R L M s d n r t → List ℕ → A → ArrayBase S D T A P R L M s d n r t
+  with_element set a i x = with_storage a (set a.storage (nat_abs (place_of a.layout.first (t.strides_of a.layout.strides) i)) x)
+
+  -- new is old with x at an index: every other element, and every place that no index names, is as it was
+  abbrev pub IsWrittenAt : (S → Option (GName × List Bool)) → ArrayBase S D T A P R L M s d n r t → List ℕ → A → ArrayBase S D T A P R L M s d n r t → Type 0
+  IsWrittenAt borrow old index x new =
+      (shape_of new ≡ shape_of old)
+      × ((i : List ℕ) → element_at new i ≡ with_element_at (element_at old) index x i)
+      × ((i : List ℕ) → place_at new i ≡ place_at old i)
+      × OthersStay (place_at old) (s.stored (storage_of old)) (s.stored (storage_of new))
+      × (borrow (storage_of new) ≡ borrow (storage_of old))
+
+-- what a clause has as D.Dimension
+abbrev pub DimensionMembers : Type 0 → Type 0 → Type 0
+DimensionMembers D P = record { NDIM : Option ℕ; lengths : D → List ℕ; has_axes : ℕ → Bool; pattern_lengths : P → List ℕ }
+
+module _ (S A D P R L M : RattleType) (s : data_trait.Ghosts S.Denot A.Denot) (d : DimensionMembers D.Denot P.Denot) (n : axis_count.Ghosts D.Denot) (r : stride_list.Ghosts R.Denot) where
+  -- the type of an array over a storage, under a dimension
+  abbrev pub array_row : RattleType
+  array_row = the_row S D R A P R L M s (record { lengths = d.lengths; has_axes = d.has_axes; pattern_lengths = d.pattern_lengths }) n r r
+
+  -- the array ends with what is left behind the reference at the index
+  abbrev pub lends_element : MutBor array_row.Denot → List ℕ → MutBor A.Denot → Fml
+  lends_element a i x = Lends array_row A a x (with_element s.with_element a.now i)
+
+  -- the same where there is a reference, and else the array stays as it is
+  abbrev pub may_lend_element : MutBor array_row.Denot → List ℕ → Option (MutBor A.Denot) → Fml
+  may_lend_element a i x = LendsIf array_row A a x (with_element s.with_element a.now i) a.now

@@ -1,0 +1,3 @@
+pub mod Scoped
+pub mod Tasks
+pub mod PartTasks

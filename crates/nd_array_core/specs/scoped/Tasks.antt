@@ -1,0 +1,143 @@
+-- Tasks on mutable views: what a task is lent, and what an array holds after it.
+use Rattle.std.specs.Prelude.{◌≡◌, ℕ, ◌<◌, List, ℤ, Bool, true, false, Option, Some}
+use base.Fml.{GName}
+use Rattle.nd_shape_and_slice.specs.Shape.{in_box, size_of}
+use Rattle.nd_shape_and_slice.specs.Place.{place_of, IsSeparated}
+use Rattle.nd_region.specs.Places.{names, ShareNoPlace}
+use Rattle.nd_region.specs.Region.{stored, borrow_of}
+use Rattle.nd_region.specs.declared.region.Region.{Region}
+use Rattle.nd_shape_and_slice.specs.declared.dimension.Dimension as dimension
+use Rattle.nd_shape_and_slice.specs.declared.dimension.AxisCount as axis_count
+use Rattle.nd_shape_and_slice.specs.declared.dimension.StrideList as stride_list
+use Rattle.nd_array_core.specs.declared.base.storage.RegionRepr.{RegionRepr}
+use Rattle.nd_layout.specs.declared.layout.Layout.{Layout}
+use Rattle.nd_array_core.specs.declared.scoped.tasks.LentView.{LentView}
+use Rattle.nd_array_core.specs.Places.{place_number, HoldsAll}
+use Rattle.nd_array_core.specs.Placed.{Placed, element_placed}
+use Rattle.nd_array_core.specs.Meaning.{inside}
+use Rattle.nd_array_core.specs.scoped.Scoped.{named_part, with_named}
+use Rattle.nd_layout.specs.Steps.{IsValid}
+
+-- how a layout lies in a storage
+abbrev pub laid : {A : Type 0} → (ℕ → Option A) → ℕ → List ℕ → List ℤ → Placed A
+laid stored first lengths strides = record { shape = lengths; place = λ i. inside lengths i (place_number (place_of first strides i)); stored = stored }
+
+-- an array may lie so: each index has a place, where the storage holds something, and no other index has it
+pub record LiesSoundly {A : Type 0} (stored : ℕ → Option A) (first : ℕ) (lengths : List ℕ) (strides : List ℤ) : Type 0 where
+  pub valid : IsValid first lengths strides
+  pub holds : HoldsAll stored first lengths strides
+  pub separated : 0 < size_of lengths → IsSeparated lengths strides
+
+-- the map is a storage's at the places that a layout names, and has no other place
+abbrev pub IsNamedMap : {A : Type 0} → (ℕ → Option A) → ℕ → List ℕ → List ℤ → (ℕ → Option A) → Type 0
+IsNamedMap old first lengths strides part = (p : ℕ) → part p ≡ named_part old first lengths strides p
+
+-- a view of a whole array: its shape, its places, and the element at each index
+pub record IsViewOf {A : Type 0} (shape : List ℕ) (place : List ℕ → Option ℕ) (at : List ℕ → Option A) (v : Placed A) : Type 0 where
+  pub same_shape : v.shape ≡ shape
+  pub same_place : (i : List ℕ) → v.place i ≡ place i
+  pub same_element : (i : List ℕ) → element_placed v i ≡ at i
+
+-- which borrow a mutable view's elements are of
+abbrev pub view_borrow : {A : Type 0} → RegionRepr (Region A) → Option (GName × List Bool)
+view_borrow s = Some (borrow_of s.region)
+
+-- ---- a view as it is lent, by the words of its dimension for lengths and strides
+module _ {A D T : Type 0} (lengths : D → List ℕ) (strides : T → List ℤ) where
+  abbrev pub CanBeSeen : LentView A D T → Type 0
+  CanBeSeen l = LiesSoundly (stored l.region) l.first (lengths l.dim) (strides l.strides)
+
+  -- what the view shows
+  abbrev pub lent_view : LentView A D T → Placed A
+  lent_view l = laid (stored l.region) l.first (lengths l.dim) (strides l.strides)
+
+  -- and what it shows once its elements are those of a storage that is given back
+  abbrev pub view_left : LentView A D T → RegionRepr (Region A) → Placed A
+  view_left l s = laid (stored s.region) l.first (lengths l.dim) (strides l.strides)
+
+abbrev pub lent_borrow : {A D T : Type 0} → LentView A D T → Option (GName × List Bool)
+lent_borrow l = Some (borrow_of l.region)
+
+-- ---- a view of a part of an array: each index of its box names one of the array
+abbrev pub IsSeenThrough : {A : Type 0} → List ℕ → (List ℕ → List ℕ) → (List ℕ → Option ℕ) → (List ℕ → Option A) → Placed A → Type 0
+IsSeenThrough shape source place at v = IsViewOf shape (λ i. inside shape i (place (source i))) (λ i. inside shape i (at (source i))) v
+
+-- each index that none of the part names has the element that it had
+abbrev pub OthersKeep : {A : Type 0} → List ℕ → (List ℕ → List ℕ) → (List ℕ → Option A) → (List ℕ → Option A) → Type 0
+OthersKeep shape source old new = (i : List ℕ) → ((j : List ℕ) → in_box shape j ≡ true → source j ≡ i → ⊥) → new i ≡ old i
+
+-- each index that neither of two parts names has the element that it had
+abbrev pub OthersKeepTwo : {A : Type 0} → List ℕ → (List ℕ → List ℕ) → List ℕ → (List ℕ → List ℕ) → (List ℕ → Option A) → (List ℕ → Option A) → Type 0
+OthersKeepTwo shape source shape' source' old new = (i : List ℕ) → ((j : List ℕ) → in_box shape j ≡ true → source j ≡ i → ⊥) → ((j : List ℕ) → in_box shape' j ≡ true → source' j ≡ i → ⊥) → new i ≡ old i
+
+-- both maps have the same at each place that the layout names
+abbrev pub AgreesOnNamed : {A : Type 0} → (ℕ → Option A) → ℕ → List ℕ → List ℤ → (ℕ → Option A) → Type 0
+AgreesOnNamed old first lengths strides part = (p : ℕ) → names first lengths strides p ≡ true → part p ≡ old p
+
+-- ---- how elements lie, in words: the first place, the lengths and the strides
+abbrev pub Placement : Type 0
+Placement = ℕ × List ℕ × List ℤ
+
+abbrev pub placement_of : {D T P R L M : Type 0} {d : dimension.Ghosts D P R L M} {n : axis_count.Ghosts D} {r : stride_list.Ghosts R} {t : stride_list.Ghosts T} → Layout D T P R L M d n r t → Placement
+placement_of {d = d} {t = t} l = (l.first, d.lengths l.dim, t.strides_of l.strides)
+
+module _ {A : Type 0} where
+  -- an array may lie so in what is stored
+  abbrev pub LiesBy : (ℕ → Option A) → Placement → Type 0
+  LiesBy stored l = LiesSoundly stored l.0 l.1 l.2
+
+  -- the array that lies so
+  abbrev pub laid_by : (ℕ → Option A) → Placement → Placed A
+  laid_by stored l = laid stored l.0 l.1 l.2
+
+  -- each index has a place that holds something
+  abbrev pub HoldsBy : (ℕ → Option A) → Placement → Type 0
+  HoldsBy stored l = HoldsAll stored l.0 l.1 l.2
+
+  -- what a task asks holds of a view of these elements
+  abbrev pub AsksOfLaid : (Placed A → Type 0) → (ℕ → Option A) → Placement → Type 0
+  AsksOfLaid asks stored l = (m : ℕ → Option A) → IsNamedMap stored l.0 l.1 l.2 m → asks (laid_by m l)
+
+  -- it is done with a view of these elements, and they are now what it left
+  abbrev pub IsDoneOnLaid : (Placed A → Placed A → Type 0) → (ℕ → Option A) → (ℕ → Option A) → Placement → Type 0
+  IsDoneOnLaid done old new l =
+      (m : ℕ → Option A)
+      × (n : ℕ → Option A)
+      × IsNamedMap old l.0 l.1 l.2 m
+      × done (laid_by m l) (laid_by n l)
+      × ((p : ℕ) → new p ≡ with_named old l.0 l.1 l.2 n p)
+
+  -- each place that the layout doesn't name holds what it held
+  abbrev pub KeepsUnnamed : (ℕ → Option A) → (ℕ → Option A) → Placement → Type 0
+  KeepsUnnamed old new l = (p : ℕ) → names l.0 l.1 l.2 p ≡ false → new p ≡ old p
+
+  -- what is asked of two views by layouts that share no place, of whatever holds these elements
+  abbrev pub AsksOfPair : (Placed A → Placed A → Type 0) → (ℕ → Option A) → Placement → Placement → Type 0
+  AsksOfPair asks stored one two =
+      (m n : ℕ → Option A) → AgreesOnNamed stored one.0 one.1 one.2 m → AgreesOnNamed stored two.0 two.1 two.2 n → asks (laid_by m one) (laid_by n two)
+
+  -- it is done with views of these elements, and the new elements are what it left in them
+  abbrev pub IsDoneOnPair : (Placed A → Placed A → Placed A → Placed A → Type 0) → (ℕ → Option A) → (ℕ → Option A) → Placement → Placement → Type 0
+  IsDoneOnPair done old new one two =
+      (m : ℕ → Option A)
+      × (n : ℕ → Option A)
+      × (s : ℕ → Option A)
+      × (t : ℕ → Option A)
+      × AgreesOnNamed old one.0 one.1 one.2 m
+      × AgreesOnNamed old two.0 two.1 two.2 n
+      × done (laid_by m one) (laid_by n two) (laid_by s one) (laid_by t two)
+      × AgreesOnNamed new one.0 one.1 one.2 s
+      × AgreesOnNamed new two.0 two.1 two.2 t
+
+  -- each place that neither layout names holds what it held
+  abbrev pub KeepsUnnamedByTwo : (ℕ → Option A) → (ℕ → Option A) → Placement → Placement → Type 0
+  KeepsUnnamedByTwo old new one two =
+      (p : ℕ) → names one.0 one.1 one.2 p ≡ false → names two.0 two.1 two.2 p ≡ false → new p ≡ old p
+
+-- two layouts name no place in common
+abbrev pub AreApart : Placement → Placement → Type 0
+AreApart one two = ShareNoPlace one.0 one.1 one.2 two.0 two.1 two.2
+
+-- the whole names each place that the part does
+abbrev pub IsWithin : Placement → Placement → Type 0
+IsWithin part whole = (p : ℕ) → names part.0 part.1 part.2 p ≡ true → names whole.0 whole.1 whole.2 p ≡ true

@@ -1,0 +1,9 @@
+//! Arrays: the storages that hold their elements, the type, how one is made, and its elements read and written.
+
+pub mod aliases;
+pub mod array;
+pub mod constructors;
+pub mod conversions;
+pub mod indexing;
+pub mod storage;
+pub mod writing;

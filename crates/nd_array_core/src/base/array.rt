@@ -1,0 +1,113 @@
+//! Arrays over any storage, and the questions to them.
+#![tactic(auto, unfolding(crate::specs::Meaning::shape_of, crate::specs::Meaning::element_at, crate::specs::Meaning::layout_strides))]
+
+ghost use Rattle.std.specs.Prelude.{◌≡◌, ◌<◌, ◌≤◌, ℕ, true, List, length, slice_index, slice_index_or, pos};
+ghost use Rattle.nd_shape_and_slice.specs.Shape.{in_box, size_of};
+ghost use Rattle.nd_shape_and_slice.specs.Place.{place_of, IsSeparated};
+ghost use Rattle.nd_array_core.specs.Places.{names_place};
+
+use crate::base::storage::{Data, OwnedRepr, ViewMutRepr, ViewRepr};
+use nd_layout::{Layout, stride_at};
+use nd_shape_and_slice::{Axis, Dimension, StrideList};
+use std::alloc::AllocError;
+
+/// An n-dimensional array over a storage: a shape, and one element for each index of its box. ndarray's
+/// `ArrayBase`.
+#[derive(Drop)]
+pub struct ArrayBase<S: Data, D: Dimension, T = <D as Dimension>::Strides>
+where
+    T: StrideList,
+{
+    pub(crate) storage: S,
+    pub(crate) layout: Layout<D, T>,
+    ghost inside: { (i : List ℕ) → in_box (D.lengths layout.dim) i ≡ true → names_place (S.stored storage) (place_of layout.first (T.strides_of layout.strides) i) ≡ true },
+    ghost separated: { S.exclusive ≡ true → 0 < size_of (D.lengths layout.dim) → IsSeparated (D.lengths layout.dim) (T.strides_of layout.strides) },
+}
+
+/// An array that owns its elements. ndarray's `Array`.
+pub type Array<A, D> = ArrayBase<OwnedRepr<A>, D>;
+
+/// A read-only view of an array. ndarray's `ArrayView`.
+pub type ArrayView<'a, A, D> = ArrayBase<ViewRepr<'a, A>, D>;
+
+/// A view of an array, to be read and written. ndarray's `ArrayViewMut`.
+pub type ArrayViewMut<'a, A, D> = ArrayBase<ViewMutRepr<'a, A>, D>;
+
+impl<S: Data, D: Dimension> ArrayBase<S, D> {
+    ghost use Rattle.nd_array_core.specs.Meaning.{shape_of, element_at, layout_strides};
+
+    /// The length of each axis. ndarray's `shape`.
+    pub fn shape(&self) -> &[usize]
+        ensures { result.now ≡ shape_of self.now }
+    {
+        self.layout.dim.slice()
+    }
+
+    /// The number of axes, at most 32. ndarray's `ndim`.
+    pub fn ndim(&self) -> usize
+        ensures value { result ≡ length (shape_of self.now) }
+        ensures number { D.has_axes result ≡ true }
+        ensures few { result ≤ 32 }
+    {
+        let dim = &self.layout.dim;
+        dim.slice().len()
+    }
+
+    /// The number of elements. ndarray's `len`.
+    pub fn len(&self) -> usize
+        ensures { result ≡ size_of (shape_of self.now) }
+    {
+        self.layout.dim.size()
+    }
+
+    /// The length of an axis below `ndim`. ndarray's `len_of`.
+    pub fn len_of(&self, axis: Axis) -> usize
+        requires { axis.0 < length (shape_of self.now) }
+        ensures { result ≡ slice_index (shape_of self.now) axis.0 }
+    {
+        self.shape()[axis.0]
+    }
+
+    /// The stride of each axis. ndarray's `strides`.
+    pub fn strides(&self) -> &[isize]
+        ensures value { result.now ≡ layout_strides self.now }
+        ensures as_many { length result.now ≡ length (shape_of self.now) }
+    {
+        self.layout.strides.slice()
+    }
+
+    /// The stride of an axis below `ndim`. ndarray's `stride_of`.
+    pub fn stride_of(&self, axis: Axis) -> isize
+        requires { axis.0 < length (shape_of self.now) }
+        ensures { result ≡ slice_index_or (layout_strides self.now) axis.0 (pos 0) }
+    {
+        stride_at(self.layout.strides.slice(), axis.0)
+    }
+
+    /// A read-only view of the array, with the same strides. ndarray's `view`.
+    pub fn view(&self) -> ArrayView<'_, S::Elem, D>
+        ensures shape { shape_of result ≡ shape_of self.now }
+        ensures strides { layout_strides result ≡ layout_strides self.now }
+        ensures elements { (i : List ℕ) → element_at result i ≡ element_at self.now i }
+    {
+        ArrayBase {
+            storage: self.storage.borrowed(),
+            layout: self.layout.copied(),
+        }
+    }
+}
+
+impl<S: Data + Copy, D: Dimension, T: StrideList> Clone for ArrayBase<S, D, T> {
+    ghost use Rattle.nd_array_core.specs.Meaning.{shape_of, element_at};
+
+    ghost is_clone = { λ array copy. (shape_of copy ≡ shape_of array) × ((i : List ℕ) → element_at copy i ≡ element_at array i) };
+
+    fn clone(&self) -> Result<Self, AllocError> {
+        Ok(ArrayBase {
+            storage: self.storage,
+            layout: self.layout.copied(),
+        })
+    }
+}
+
+impl<S: Data + Copy, D: Dimension, T: StrideList> Copy for ArrayBase<S, D, T> {}

@@ -1,0 +1,144 @@
+//! Arrays and views made of a shape and its elements.
+#![tactic(auto, unfolding(crate::specs::Meaning::shape_of, crate::specs::Meaning::element_at, crate::specs::Meaning::layout_strides))]
+
+ghost use Rattle.std.specs.Prelude.{◌≡◌, ◌<◌, ◌≤◌, ℕ, List, true, length, MatchResult, IsSome, IfOk, IfErr, slice_get, Some, None, vec_len};
+ghost use Rattle.nd_shape_and_slice.specs.Shape.{size_of, HasCheckedSize};
+ghost use Rattle.nd_shape_and_slice.specs.Place.{place_of, IsSeparated};
+ghost use Rattle.nd_layout.specs.Strides.{reach_down};
+ghost use Rattle.nd_layout.specs.Ranks.{rank_in};
+ghost use Rattle.nd_layout.specs.Given.{given_place, ordered_strides, given_strides};
+ghost use Rattle.nd_layout.specs.Refusals.{vec_refusal, slice_refusal, slice_mut_refusal, elements_asked};
+ghost use Rattle.nd_array_core.specs.Meaning.{shape_of, element_at, layout_strides, inside};
+ghost use Rattle.nd_array_core.specs.Places.{stored_at};
+ghost use Rattle.nd_layout.specs.Steps.{IsValid};
+
+use crate::base::array::{Array, ArrayBase, ArrayView, ArrayViewMut};
+use crate::base::storage::{Data, OwnedRepr, ViewMutRepr, ViewRepr};
+use nd_layout::{Layout, first_in_slice, first_in_vec, size_in_slice, size_in_vec};
+use nd_shape_and_slice::{Dimension, IntoStrideShape, Order, ShapeError, StrideList};
+
+/// The elements of a storage under a shape, in an order.
+pub(crate) fn in_order<S: Data, D: Dimension>(storage: S, dim: D, order: Order) -> ArrayBase<S, D>
+    requires checked { HasCheckedSize (D.lengths dim) }
+    requires holds { (place : ℕ) → place < size_of (D.lengths dim) → IsSome (S.stored storage place) }
+    ensures shape { shape_of result ≡ D.lengths dim }
+    ensures strides { layout_strides result ≡ ordered_strides order (D.lengths dim) }
+    ensures elements { (i : List ℕ) → element_at result i ≡ inside (D.lengths dim) i (S.stored storage (rank_in order (D.lengths dim) i)) }
+{
+    ArrayBase {
+        storage,
+        layout: Layout::in_order(dim, order),
+    }
+}
+
+/// The elements of a storage under a shape and strides of the caller's.
+fn with_strides<S: Data, D: Dimension>(
+    storage: S,
+    first: usize,
+    dim: D,
+    strides: D::Strides,
+) -> ArrayBase<S, D>
+    requires valid { IsValid first (D.lengths dim) (D.Strides.strides_of strides) }
+    requires from { first ≡ reach_down (D.lengths dim) (D.Strides.strides_of strides) }
+    requires holds { (place : ℕ) → place < elements_asked (D.lengths dim) (D.Strides.strides_of strides) → IsSome (S.stored storage place) }
+    requires apart { S.exclusive ≡ true → 0 < size_of (D.lengths dim) → IsSeparated (D.lengths dim) (D.Strides.strides_of strides) }
+    ensures shape { shape_of result ≡ D.lengths dim }
+    ensures strides { layout_strides result ≡ D.Strides.strides_of strides }
+    ensures elements { (i : List ℕ) → element_at result i ≡ inside (D.lengths dim) i (stored_at (S.stored storage) (place_of first (D.Strides.strides_of strides) i)) }
+{
+    ArrayBase {
+        storage,
+        layout: Layout::strided(first, dim, strides),
+    }
+}
+
+impl<A: Drop, D: Dimension> Array<A, D> {
+    /// The array of a shape and the elements of the vector: in row-major order, after `.f()` in column-major order,
+    /// or by the strides after `.strides(..)`. Overflow where the shape has no checked size, or where its places would
+    /// lie further apart than `isize::MAX`; OutOfBounds where the vector is too short; IncompatibleShape where it
+    /// is longer and no strides are given; Unsupported where two indexes could share an element. ndarray's
+    /// `from_shape_vec`.
+    pub fn from_shape_vec<Sh: IntoStrideShape<Dim = D>>(
+        shape: Sh,
+        v: Vec<A>,
+    ) -> Result<Self, ShapeError>
+        ensures refused { IfErr result (λ e. vec_refusal (Sh.lengths_meant shape) (Sh.strides_meant shape) (vec_len v) ≡ Some e) }
+        ensures accepted { IfOk result (λ _. vec_refusal (Sh.lengths_meant shape) (Sh.strides_meant shape) (vec_len v) ≡ None) }
+        ensures shape { IfOk result (λ a. shape_of a ≡ Sh.lengths_meant shape) }
+        ensures strides { IfOk result (λ a. layout_strides a ≡ given_strides (Sh.lengths_meant shape) (Sh.order_meant shape) (Sh.strides_meant shape)) }
+        ensures elements { IfOk result (λ a. (i : List ℕ) → element_at a i ≡ inside (Sh.lengths_meant shape) i (stored_at (slice_get v.items) (given_place (Sh.lengths_meant shape) (Sh.order_meant shape) (Sh.strides_meant shape) i))) }
+    {
+        let given = shape.into_stride_shape();
+        let dim = *given.raw_dim();
+        match given.custom_strides() {
+            Some(strides) => {
+                let first = first_in_vec(dim.slice(), strides.slice(), v.len())?;
+                Ok(with_strides(OwnedRepr { items: v }, first, dim, strides))
+            }
+            None => {
+                size_in_vec(dim.slice(), v.len())?;
+                Ok(in_order(OwnedRepr { items: v }, dim, given.order()))
+            }
+        }
+    }
+}
+
+impl<'a, A, D: Dimension> ArrayView<'a, A, D> {
+    /// The view of a shape and the elements of the slice: in row-major order, after `.f()` in column-major order, or by
+    /// the strides after `.strides(..)`, where several indexes may share an element. Overflow where the shape has no
+    /// checked size, or where its places would lie further apart than `isize::MAX`; OutOfBounds where the slice is too
+    /// short; it may be longer. ndarray's `ArrayView::from_shape`.
+    pub fn from_shape<Sh: IntoStrideShape<Dim = D>>(
+        shape: Sh,
+        xs: &'a [A],
+    ) -> Result<Self, ShapeError>
+        ensures refused { IfErr result (λ e. slice_refusal (Sh.lengths_meant shape) (Sh.strides_meant shape) (length xs.now) ≡ Some e) }
+        ensures accepted { IfOk result (λ _. slice_refusal (Sh.lengths_meant shape) (Sh.strides_meant shape) (length xs.now) ≡ None) }
+        ensures shape { IfOk result (λ a. shape_of a ≡ Sh.lengths_meant shape) }
+        ensures strides { IfOk result (λ a. layout_strides a ≡ given_strides (Sh.lengths_meant shape) (Sh.order_meant shape) (Sh.strides_meant shape)) }
+        ensures elements { IfOk result (λ a. (i : List ℕ) → element_at a i ≡ inside (Sh.lengths_meant shape) i (stored_at (slice_get xs.now) (given_place (Sh.lengths_meant shape) (Sh.order_meant shape) (Sh.strides_meant shape) i))) }
+    {
+        let given = shape.into_stride_shape();
+        let dim = *given.raw_dim();
+        match given.custom_strides() {
+            Some(strides) => {
+                let first = first_in_slice(dim.slice(), strides.slice(), xs.len())?;
+                Ok(with_strides(ViewRepr::of_slice(xs), first, dim, strides))
+            }
+            None => {
+                size_in_slice(dim.slice(), xs.len())?;
+                Ok(in_order(ViewRepr::of_slice(xs), dim, given.order()))
+            }
+        }
+    }
+}
+
+impl<'a, A, D: Dimension> ArrayViewMut<'a, A, D> {
+    /// The view of a shape and the elements of the slice, to be written: in row-major order, after `.f()` in
+    /// column-major order, or by the strides after `.strides(..)`. Overflow where the shape has no checked size, or
+    /// where its places would lie further apart than `isize::MAX`; OutOfBounds where the slice is too short (it may be
+    /// longer); Unsupported where two indexes could share an element. ndarray's `ArrayViewMut::from_shape`.
+    pub fn from_shape<Sh: IntoStrideShape<Dim = D>>(
+        shape: Sh,
+        xs: &'a mut [A],
+    ) -> Result<Self, ShapeError>
+        ensures refused { IfErr result (λ e. slice_mut_refusal (Sh.lengths_meant shape) (Sh.strides_meant shape) (length xs.old) ≡ Some e) }
+        ensures accepted { IfOk result (λ _. slice_mut_refusal (Sh.lengths_meant shape) (Sh.strides_meant shape) (length xs.old) ≡ None) }
+        ensures shape { IfOk result (λ a. shape_of a ≡ Sh.lengths_meant shape) }
+        ensures strides { IfOk result (λ a. layout_strides a ≡ given_strides (Sh.lengths_meant shape) (Sh.order_meant shape) (Sh.strides_meant shape)) }
+        ensures elements { IfOk result (λ a. (i : List ℕ) → element_at a i ≡ inside (Sh.lengths_meant shape) i (stored_at (slice_get xs.old) (given_place (Sh.lengths_meant shape) (Sh.order_meant shape) (Sh.strides_meant shape) i))) }
+    {
+        let given = shape.into_stride_shape();
+        let dim = *given.raw_dim();
+        match given.custom_strides() {
+            Some(strides) => {
+                let first = first_in_vec(dim.slice(), strides.slice(), xs.len())?;
+                Ok(with_strides(ViewMutRepr::of_slice_mut(xs), first, dim, strides))
+            }
+            None => {
+                size_in_slice(dim.slice(), xs.len())?;
+                Ok(in_order(ViewMutRepr::of_slice_mut(xs), dim, given.order()))
+            }
+        }
+    }
+}

@@ -1,0 +1,100 @@
+//! Views of slices and of rows.
+#![tactic(auto, unfolding(crate::specs::Meaning::shape_of, crate::specs::Meaning::element_at, crate::specs::Meaning::layout_strides))]
+
+ghost use Rattle.std.specs.Prelude.{◌≡◌, ◌*◌, ◌<◌, ◌^◌, ℕ, List, [], ◌∷◌, length};
+ghost use Rattle.std.specs.List.{flat_map};
+ghost use Rattle.nd_shape_and_slice.specs.Shape.{HasCheckedSize};
+ghost use Rattle.nd_array_core.specs.base.Sources.{IsRowMajorOf};
+
+use crate::base::array::{ArrayView, ArrayViewMut};
+use crate::base::constructors::in_order;
+use crate::base::storage::{ViewMutRepr, ViewRepr};
+use nd_shape_and_slice::{IntoDimension, Ix1, Ix2, Order, size_of_shape_checked};
+
+/// The view of a slice, with one axis; empty where the slice has more than `isize::MAX` elements.
+impl<'a, A> From<&'a [A]> for ArrayView<'a, A, Ix1> {
+    ghost from_gives = { λ xs view. IsRowMajorOf (length xs.now ∷ []) xs.now view };
+
+    fn from(xs: &'a [A]) -> Self {
+        let len = xs.len();
+        let storage = ViewRepr::of_slice(xs);
+        match size_of_shape_checked(&[len]) {
+            Ok(_) => in_order(storage, len.into_dimension(), Order::RowMajor),
+            Err(_) => in_order(storage, 0.into_dimension(), Order::RowMajor),
+        }
+    }
+}
+
+/// The view of a slice, to be written, with one axis; empty where the slice has more than `isize::MAX` elements.
+impl<'a, A> From<&'a mut [A]> for ArrayViewMut<'a, A, Ix1> {
+    ghost from_gives = { λ xs view. IsRowMajorOf (length xs.now ∷ []) xs.now view };
+
+    fn from(xs: &'a mut [A]) -> Self {
+        let len = xs.len();
+        let elements = ViewMutRepr::of_slice_mut(xs);
+        match size_of_shape_checked(&[len]) {
+            Ok(_) => in_order(elements, len.into_dimension(), Order::RowMajor),
+            Err(_) => in_order(elements, 0.into_dimension(), Order::RowMajor),
+        }
+    }
+}
+
+/// The view of rows of N elements each; empty where rows and N have no checked size.
+impl<'a, A, const N: usize> From<&'a [[A; N]]> for ArrayView<'a, A, Ix2> {
+    ghost from_gives = { λ rows view. IsRowMajorOf (length rows.now ∷ N ∷ []) (flat_map (λ row. row) rows.now) view };
+
+    fn from(rows: &'a [[A; N]]) -> Self {
+        let len = rows.len();
+        match size_of_shape_checked(&[len, N]) {
+            Ok(_) => in_order(
+                ViewRepr::of_rows(rows),
+                (len, N).into_dimension(),
+                Order::RowMajor,
+            ),
+            Err(_) => in_order(
+                ViewRepr::of_rows(&rows[..0]),
+                (0, 0).into_dimension(),
+                Order::RowMajor,
+            ),
+        }
+    }
+}
+
+/// The view of rows of N elements each, to be written; empty where rows and N have no checked size.
+impl<'a, A, const N: usize> From<&'a mut [[A; N]]> for ArrayViewMut<'a, A, Ix2> {
+    ghost from_gives = { λ rows view. IsRowMajorOf (length rows.now ∷ N ∷ []) (flat_map (λ row. row) rows.now) view };
+
+    fn from(rows: &'a mut [[A; N]]) -> Self {
+        let count = rows.len();
+        match size_of_shape_checked(&[count, N]) {
+            Ok(_) => in_order(
+                ViewMutRepr::of_rows_mut(rows),
+                (count, N).into_dimension(),
+                Order::RowMajor,
+            ),
+            Err(_) => in_order(
+                ViewMutRepr::of_rows_mut(&mut rows[..0]),
+                (0, 0).into_dimension(),
+                Order::RowMajor,
+            ),
+        }
+    }
+}
+
+/// The view of M rows of N elements each; empty where M and N have no checked size.
+impl<'a, A, const N: usize, const M: usize> From<&'a [[A; N]; M]> for ArrayView<'a, A, Ix2> {
+    ghost from_gives = { λ rows view. IsRowMajorOf (M ∷ N ∷ []) (flat_map (λ row. row) rows.now) view };
+
+    fn from(rows: &'a [[A; N]; M]) -> Self {
+        ArrayView::from(rows.as_slice())
+    }
+}
+
+/// The view of M rows of N elements each, to be written; empty where M and N have no checked size.
+impl<'a, A, const N: usize, const M: usize> From<&'a mut [[A; N]; M]> for ArrayViewMut<'a, A, Ix2> {
+    ghost from_gives = { λ rows view. IsRowMajorOf (M ∷ N ∷ []) (flat_map (λ row. row) rows.now) view };
+
+    fn from(rows: &'a mut [[A; N]; M]) -> Self {
+        ArrayViewMut::from(&mut rows[..])
+    }
+}

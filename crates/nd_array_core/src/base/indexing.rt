@@ -1,0 +1,128 @@
+//! The element at an index, to be read; and references that live as long as what a view borrows.
+#![tactic(auto, unfolding(crate::specs::Meaning::shape_of, crate::specs::Meaning::element_at))]
+
+ghost use Rattle.std.specs.Prelude.{◌≡◌, Bool, true, false, is_some, MatchOption, Some};
+ghost use Rattle.std.specs.Option.{option_copied};
+ghost use Rattle.nd_shape_and_slice.specs.Shape.{in_box};
+
+use super::array::{ArrayBase, ArrayView, ArrayViewMut};
+use super::storage::{Data, RegionRepr};
+use nd_shape_and_slice::{Dimension, NdIndex};
+use std::ops::Index;
+
+impl<S: Data, D: Dimension> ArrayBase<S, D> {
+    ghost use Rattle.nd_array_core.specs.Meaning.{shape_of, element_at};
+
+    /// The element at an index; None exactly outside the shape's box, a wrong number of coordinates included.
+    /// ndarray's `get`.
+    pub fn get<I: NdIndex<D>>(&self, index: I) -> Option<&S::Elem>
+        ensures element { option_copied result ≡ element_at self.now (I.coordinates_of index) }
+        ensures within { is_some result ≡ in_box (shape_of self.now) (I.coordinates_of index) }
+    {
+        let place = self.layout.place_of(index.coordinates())?;
+        Some(self.storage.element(place))
+    }
+
+    /// The element at an index of the shape's box (`get` tells which indexes are in it). ndarray's `uget`.
+    pub fn uget<I: NdIndex<D>>(&self, index: I) -> &S::Elem
+        requires { in_box (shape_of self.now) (I.coordinates_of index) ≡ true }
+        ensures { element_at self.now (I.coordinates_of index) ≡ Some result.now }
+    {
+        let place = self.layout.place_in_box(index.coordinates());
+        self.storage.element(place)
+    }
+}
+
+impl<S: Data, D: Dimension, I: NdIndex<D>> Index<I> for ArrayBase<S, D> {
+    ghost use Rattle.nd_array_core.specs.Meaning.{shape_of, element_at};
+
+    type Output = S::Elem;
+
+    ghost can_index = { λ a i. in_box (shape_of a) (I.coordinates_of i) ≡ true };
+
+    ghost index_gives = { λ a i x. element_at a (I.coordinates_of i) ≡ Some x };
+
+    fn index(&self, index: I) -> &S::Elem {
+        self.uget(index)
+    }
+}
+
+/// Indexing that answers references for a view's own lifetime. ndarray's `IndexLonger`.
+pub trait IndexLonger<I> {
+    /// The reference that an index gives.
+    type Output;
+
+    /// Whether the index is in the shape.
+    ghost has_index: { Self → I → Bool };
+
+    /// What an index gives.
+    ghost longer_gives: { Self → I → Self.Output → Type 0 };
+
+    /// The element at an index of the shape. ndarray's `IndexLonger::index`.
+    fn index(self, index: I) -> Self::Output
+        requires { has_index self index ≡ true }
+        ensures { longer_gives self index result };
+
+    /// The element at an index, None exactly outside the shape. ndarray's `IndexLonger::get`.
+    fn get(self, index: I) -> Option<Self::Output>
+        ensures { MatchOption result (has_index self index ≡ false) (λ element. longer_gives self index element) };
+
+    /// The element at an index of the shape. ndarray's `IndexLonger::uget`.
+    fn uget(self, index: I) -> Self::Output
+        requires { has_index self index ≡ true }
+        ensures { longer_gives self index result };
+}
+
+impl<'a, 'b, A, D: Dimension, I: NdIndex<D>> IndexLonger<I> for &'b ArrayView<'a, A, D> {
+    ghost use Rattle.nd_array_core.specs.Meaning.{shape_of, element_at};
+
+    type Output = &'a A;
+
+    ghost has_index = { λ view index. in_box (shape_of view.now) (I.coordinates_of index) };
+
+    ghost longer_gives = { λ view index element. element_at view.now (I.coordinates_of index) ≡ Some element.now };
+
+    fn index(self, index: I) -> &'a A {
+        IndexLonger::uget(self, index)
+    }
+
+    fn get(self, index: I) -> Option<&'a A> {
+        let place = self.layout.place_of(index.coordinates())?;
+        let region = self.storage.region;
+        Some(region.get(place))
+    }
+
+    fn uget(self, index: I) -> &'a A {
+        let place = self.layout.place_in_box(index.coordinates());
+        let region = self.storage.region;
+        region.get(place)
+    }
+}
+
+impl<'a, A, D: Dimension, I: NdIndex<D>> IndexLonger<I> for ArrayViewMut<'a, A, D> {
+    ghost use Rattle.nd_array_core.specs.Meaning.{shape_of, element_at};
+
+    type Output = &'a mut A;
+
+    ghost has_index = { λ view index. in_box (shape_of view) (I.coordinates_of index) };
+
+    ghost longer_gives = { λ view index element. element_at view (I.coordinates_of index) ≡ Some element.now };
+
+    fn index(self, index: I) -> &'a mut A {
+        self.uget(index)
+    }
+
+    fn get(self, index: I) -> Option<&'a mut A> {
+        let ArrayBase { storage, layout } = self;
+        let RegionRepr { region, tie: _ } = storage;
+        let place = layout.place_of(index.coordinates())?;
+        Some(region.into_mut(place))
+    }
+
+    fn uget(self, index: I) -> &'a mut A {
+        let ArrayBase { storage, layout } = self;
+        let RegionRepr { region, tie: _ } = storage;
+        let place = layout.place_in_box(index.coordinates());
+        region.into_mut(place)
+    }
+}

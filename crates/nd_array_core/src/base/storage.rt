@@ -1,0 +1,440 @@
+//! The storages of arrays: an owned vector, or a borrow of elements, shared or to be written.
+
+ghost use Rattle.std.specs.Prelude.{◌≡◌, ◌*◌, ◌<◌, ◌^◌, ℕ, length, Bool, true, false, List, [], Option, IsSome, Some, None, slice_get, refl};
+ghost use Rattle.std.specs.Borrow.{sem, follows, Array};
+ghost use Rattle.std.specs.List.{flat_map};
+ghost use Rattle.std.specs.Option.{is_some};
+ghost use Rattle.std.specs.Vec.{with_item, with_items};
+ghost use base.Fml.{GName};
+ghost use Rattle.nd_region.specs.Scoped.{TakesPart, GivesPartBack, IsPartReturned};
+ghost use Rattle.nd_region.specs.Shared.{shared_stored};
+ghost use Rattle.nd_region.specs.Places.{names, names_not};
+ghost use Rattle.nd_region.specs.Region.{stored as region_stored, borrow_of, with_element as region_with, with_items as region_items, HasPlaces, IsAsLong};
+ghost use Rattle.nd_array_core.specs.Places.{HoldsAll, kept_at, written_at, swapped_at};
+ghost use Rattle.nd_array_core.specs.scoped.Scoped.{TakesNamed, GivesNamedBack, IsNamedReturned};
+ghost use Rattle.nd_array_core.specs.base.Storages.{shown_by};
+ghost use Rattle.nd_array_core.specs.base.ElementMut.{element_follows, KeepsPlaces, item_kept, item_written, place_kept, place_written};
+ghost use Rattle.nd_array_core.specs.base.Refilled.{overwritten, overwritten_itself, overwritten_again, places_there, places_kept, items_there, items_kept, items_itself, items_again};
+
+use nd_layout::Layout;
+use nd_region::{Region, SharedRegion, with_region};
+use nd_shape_and_slice::{Dimension, StrideList};
+use std::alloc::AllocError;
+use std::mem;
+use std::snapshot::Snapshot;
+
+/// A storage of elements, each at a place: a number from 0. ndarray's `Data`.
+pub trait Data {
+    /// What is stored. ndarray's `RawData::Elem`.
+    type Elem;
+
+    /// The element at a place, if there is one.
+    ghost stored: { Self → ℕ → Option Self.Elem };
+    /// Whether an array over it may name an element by one index alone.
+    ghost exclusive: { Bool };
+    /// What it is once the element at a place is another, or itself where it isn't to be written. It holds something
+    /// wherever it did.
+    ghost with_element: { (s : Self) → ℕ → Self.Elem → (t : Self) × KeepsPlaces (stored s) (stored t) };
+
+    /// The elements as they lie, those at its places among them.
+    ghost items: { Self → List Self.Elem };
+    /// What it is once these elements took the place of its own, as far as they may be written. It holds something
+    /// wherever it did.
+    ghost refilled: { (s : Self) → List Self.Elem → (t : Self) × KeepsPlaces (stored s) (stored t) };
+
+    /// The element at a place.
+    fn element(&self, place: usize) -> &Self::Elem
+        requires { IsSome (stored self.now place) }
+        ensures { stored self.now place ≡ Some result.now };
+
+    /// The same elements, borrowed.
+    fn borrowed(&self) -> ViewRepr<'_, Self::Elem>
+        ensures { (place : ℕ) → shown_by result place ≡ stored self.now place };
+}
+
+/// Elements in a vector that the array owns. ndarray's `OwnedRepr`.
+#[derive(Drop)]
+pub struct OwnedRepr<A> {
+    pub(crate) items: Vec<A>,
+}
+
+impl<A> OwnedRepr<A> {
+    ghost use Rattle.std.specs.Borrow.{sem};
+    ghost use Rattle.nd_array_core.specs.base.Lends.{items_follow};
+
+    /// The elements, to be written.
+    pub(crate) fn items_mut(&mut self) -> &mut [A]
+        ensures* writes_back { sem 𝓛 (items_follow A.row self.entry result) }
+        ensures value { result.now ≡ self.old.items.items }
+    {
+        self.items.as_mut_slice()
+    }
+}
+
+/// Elements that are borrowed, to be read. ndarray's `ViewRepr<&'a A>`.
+pub struct ViewRepr<'a, A> {
+    pub(crate) region: SharedRegion<'a, A>,
+}
+
+impl<'a, A> ViewRepr<'a, A> {
+    /// All places of a slice.
+    pub(crate) fn of_slice(items: &'a [A]) -> Self
+        ensures { (place : ℕ) → shared_stored result.region place ≡ slice_get items.now place }
+    {
+        ViewRepr {
+            region: SharedRegion::from_slice(items),
+        }
+    }
+
+    /// All places of rows of N elements each, one row after the other.
+    pub(crate) fn of_rows<const N: usize>(rows: &'a [[A; N]]) -> Self
+        requires { length rows.now * N < 2 ^ 63 }
+        ensures elements { (place : ℕ) → shared_stored result.region place ≡ slice_get (flat_map (λ row. row) rows.now) place }
+        ensures count { length (flat_map (λ row. row) rows.now) ≡ length rows.now * N }
+    {
+        ViewRepr::of_slice(rows.as_flattened())
+    }
+}
+
+impl<'a, A> Clone for ViewRepr<'a, A> {
+    ghost is_clone = { λ view copy. copy ≡ view };
+
+    fn clone(&self) -> Result<Self, AllocError> {
+        Ok(ViewRepr {
+            region: self.region,
+        })
+    }
+}
+
+impl<'a, A> Copy for ViewRepr<'a, A> {}
+
+impl<A> Data for OwnedRepr<A> {
+    type Elem = A;
+
+    ghost stored = { λ s place. slice_get s.items.items place };
+
+    ghost exclusive = { true };
+
+    ghost with_element = { λ s place x. (record { items = with_item s.items place x }, item_kept s.items.items place x) };
+
+    ghost items = { λ s. s.items.items };
+
+    ghost refilled = { λ s ws. (record { items = with_items s.items ws }, items_kept s.items ws) };
+
+    fn element(&self, place: usize) -> &A {
+        &self.items[place]
+    }
+
+    fn borrowed(&self) -> ViewRepr<'_, A> {
+        ViewRepr::of_slice(self.items.as_slice())
+    }
+}
+
+impl<'a, A> Data for ViewRepr<'a, A> {
+    type Elem = A;
+
+    ghost stored = { λ s place. shared_stored s.region place };
+
+    ghost exclusive = { false };
+
+    ghost with_element = { λ s _ _. (s, λ p has. has) };
+
+    ghost items = { λ _. [] };
+
+    ghost refilled = { λ s _. (s, λ p has. has) };
+
+    fn element(&self, place: usize) -> &A {
+        let region = self.region;
+        region.get(place)
+    }
+
+    fn borrowed(&self) -> ViewRepr<'_, A> {
+        ViewRepr {
+            region: self.region.reborrowed(),
+        }
+    }
+}
+
+/// Elements in a region. The region's type is a parameter, so that a borrow of the field needs no proof by hand.
+#[derive(Drop)]
+pub struct RegionRepr<R> {
+    pub(crate) region: R,
+    /// The name under which an owned array that lends the region follows it. It has no bytes.
+    pub(crate) tie: Snapshot<usize>,
+}
+
+/// Elements that are borrowed, to be read and written. ndarray's `ViewRepr<&'a mut A>`.
+pub type ViewMutRepr<'a, A> = RegionRepr<Region<'a, A>>;
+
+impl<'a, A> ViewMutRepr<'a, A> {
+    /// All places of a slice.
+    pub(crate) fn of_slice_mut(items: &'a mut [A]) -> Self
+        ensures { (place : ℕ) → region_stored result.region place ≡ slice_get items.old place }
+    {
+        RegionRepr {
+            region: Region::from_slice(items),
+            tie: Snapshot::of(&0),
+        }
+    }
+
+    /// A region as a storage.
+    pub(crate) fn of_region(region: Region<'a, A>) -> Self
+        ensures { result.region ≡ region.entry }
+    {
+        RegionRepr {
+            region,
+            tie: Snapshot::of(&0),
+        }
+    }
+
+    /// All places of rows of N elements each, one row after the other.
+    pub(crate) fn of_rows_mut<const N: usize>(rows: &'a mut [[A; N]]) -> Self
+        requires { length rows.old * N < 2 ^ 63 }
+        ensures elements { (place : ℕ) → region_stored result.region place ≡ slice_get (flat_map (λ row. row) rows.old) place }
+        ensures count { length (flat_map (λ row. row) rows.old) ≡ length rows.old * N }
+    {
+        let _ = rows.as_flattened().len();
+        RegionRepr {
+            region: Region::from_rows(rows),
+            tie: Snapshot::of(&0),
+        }
+    }
+
+    /// Moves the places that a layout names out of this storage, into one of exactly these under their old numbers.
+    pub(crate) fn split<D: Dimension, T: StrideList>(&mut self, layout: &Layout<D, T>) -> Self
+        requires { HoldsAll (region_stored self.old.region) layout.now.first (D.lengths layout.now.dim) (T.strides_of layout.now.strides) }
+        ensures taken { (place : ℕ) → region_stored result.region place ≡ kept_at (names layout.now.first (D.lengths layout.now.dim) (T.strides_of layout.now.strides)) (region_stored self.old.region) place }
+        ensures left { (place : ℕ) → region_stored self.new.region place ≡ kept_at (names_not layout.now.first (D.lengths layout.now.dim) (T.strides_of layout.now.strides)) (region_stored self.old.region) place }
+    {
+        RegionRepr {
+            region: self
+                .region
+                .split(layout.first, layout.dim.slice(), layout.strides.slice()),
+            tie: Snapshot::of(&0),
+        }
+    }
+}
+
+impl<R> RegionRepr<R> {
+    ghost use Rattle.nd_array_core.specs.base.RegionLent.{lends_region};
+
+    fn region_mut(&mut self) -> &mut R
+        ensures* writes_back { sem 𝓛 (lends_region R.row self.entry result) }
+        ensures value { result.now ≡ self.old.region }
+    {
+        &mut self.region
+    }
+}
+
+impl<'a, A> Data for ViewMutRepr<'a, A> {
+    type Elem = A;
+
+    ghost stored = { λ s place. region_stored s.region place };
+
+    ghost exclusive = { true };
+
+    ghost with_element = { λ s place x. (record { region = region_with s.region place x; tie = s.tie }, place_kept s.region.items s.region.held place x) };
+
+    ghost items = { λ s. s.region.items };
+
+    ghost refilled = { λ s ws. (record { region = region_items s.region (overwritten s.region.items ws); tie = s.tie }, places_kept s.region.items ws s.region.held) };
+
+    fn element(&self, place: usize) -> &A {
+        self.region.get(place)
+    }
+
+    fn borrowed(&self) -> ViewRepr<'_, A> {
+        ViewRepr {
+            region: self.region.share(),
+        }
+    }
+}
+
+/// A storage whose elements may be written. ndarray's `DataMut`.
+pub trait DataMut: Data {
+    /// Which borrow the elements are of: what stays while they change.
+    ghost borrow: { Self → Option (GName × List Bool) };
+
+    /// Writes the element at a place, and gives back the one that it held.
+    fn replace(&mut self, place: usize, value: Self::Elem) -> Self::Elem
+        requires { IsSome (Self.stored self.old place) }
+        ensures old { Self.stored self.old place ≡ Some result }
+        ensures new { (p : ℕ) → Self.stored self.new p ≡ written_at (Self.stored self.old) place value p }
+        ensures borrow { borrow self.new ≡ borrow self.old };
+
+    /// The element at a place, to be written.
+    fn element_mut(&mut self, place: usize) -> &mut Self::Elem
+        requires { IsSome (Self.stored self.old place) }
+        ensures* writes_back { sem 𝓛 (element_follows Self.row Self.Elem.row self.entry result (λ x. (Self.with_element self.old place x).0)) }
+        ensures value { Self.stored self.old place ≡ Some result.now };
+
+    /// All its places, for a shorter time.
+    fn lend(&mut self) -> Region<'_, Self::Elem>
+        ensures* writes_back { sem 𝓛 (follows Self.row (Array Self.Elem.row 0) self.entry.ghost_name result.name (λ ws. (Self.refilled self.old ws).0)) }
+        ensures places { (place : ℕ) → region_stored result place ≡ Self.stored self.old place };
+
+    /// Exchanges the elements at two places.
+    fn swap(&mut self, p: usize, q: usize)
+        requires p { IsSome (Self.stored self.old p) }
+        requires q { IsSome (Self.stored self.old q) }
+        ensures new { (r : ℕ) → Self.stored self.new r ≡ swapped_at (Self.stored self.old) p q r }
+        ensures borrow { borrow self.new ≡ borrow self.old };
+
+    /// Hands f the places that the layout names by its first place, lengths and strides, for the length of the
+    /// call. Each of them then holds what the region has there which f gives back, and every other place what it
+    /// held. That f gives the same borrow back is the condition `returns`.
+    fn with_part<R, F: for<'b> FnOnce(Region<'b, Self::Elem>) -> (Region<'b, Self::Elem>, R)>(
+        &mut self,
+        first: usize,
+        lengths: &[usize],
+        strides: &[isize],
+        f: F,
+    ) -> R
+        requires as_many { length lengths.now ≡ length strides.now }
+        requires holds { HoldsAll (Self.stored self.old) first lengths.now strides.now }
+        requires callable { TakesNamed (F.pre f) (Self.stored self.old) first lengths.now strides.now }
+        requires returns { GivesNamedBack (F.post f) (Self.stored self.old) first lengths.now strides.now }
+        ensures part { IsNamedReturned (F.post f) (Self.stored self.old) (Self.stored self.new) first lengths.now strides.now result }
+        ensures there { (p : ℕ) → is_some (Self.stored self.new p) ≡ is_some (Self.stored self.old p) }
+        ensures borrow { borrow self.new ≡ borrow self.old };
+
+    /// An array over it names each element by one index alone.
+    ghost alone: { Self.Data.exclusive ≡ true };
+
+    /// A write of an element leaves the others.
+    ghost element_written: { (s : Self) (place : ℕ) (x : Self.Elem) (p : ℕ) → IsSome (Self.Data.stored s place) → Self.Data.stored (Self.Data.with_element s place x).0 p ≡ written_at (Self.Data.stored s) place x p };
+
+    /// And it leaves the borrow.
+    ghost element_borrow: { (s : Self) (place : ℕ) (x : Self.Elem) → borrow (Self.Data.with_element s place x).0 ≡ borrow s };
+
+    /// Its own elements in their place leave it as it is.
+    ghost refilled_itself: { (s : Self) → (Self.Data.refilled s (Self.Data.items s)).0 ≡ s };
+
+    /// So do those that were put there last.
+    ghost refilled_again: { (s : Self) (ws : List Self.Elem) → (Self.Data.refilled s (Self.Data.items (Self.Data.refilled s ws).0)).0 ≡ (Self.Data.refilled s ws).0 };
+
+    /// It holds something just where it did.
+    ghost refilled_there: { (s : Self) (ws : List Self.Elem) (p : ℕ) → is_some (Self.Data.stored (Self.Data.refilled s ws).0 p) ≡ is_some (Self.Data.stored s p) };
+
+    /// The borrow stays.
+    ghost refilled_borrow: { (s : Self) (ws : List Self.Elem) → borrow (Self.Data.refilled s ws).0 ≡ borrow s };
+}
+
+impl<A> DataMut for OwnedRepr<A> {
+    ghost borrow = { λ _. None };
+
+    ghost alone = { refl };
+
+    ghost element_written = { λ s place x p has. item_written s.items.items place p x has };
+
+    ghost element_borrow = { λ s place x. refl };
+
+    ghost refilled_itself = { λ s k. record { items = items_itself s.items k } };
+
+    ghost refilled_again = { λ s ws k. record { items = items_again s.items ws k } };
+
+    ghost refilled_there = { λ s ws p. items_there s.items ws p };
+
+    ghost refilled_borrow = { λ s ws. refl };
+
+    fn element_mut(&mut self, place: usize) -> &mut A {
+        &mut self.items[place]
+    }
+
+    fn lend(&mut self) -> Region<'_, A> {
+        Region::from_slice(self.items_mut())
+    }
+
+    fn replace(&mut self, place: usize, value: A) -> A {
+        mem::replace(&mut self.items[place], value)
+    }
+
+    fn swap(&mut self, p: usize, q: usize) {
+        self.items.as_mut_slice().swap(p, q);
+    }
+
+    fn with_part<R, F: for<'b> FnOnce(Region<'b, A>) -> (Region<'b, A>, R)>(
+        &mut self,
+        first: usize,
+        lengths: &[usize],
+        strides: &[isize],
+        f: F,
+    ) -> R {
+        part_of_slice(self.items.as_mut_slice(), first, lengths, strides, f)
+    }
+}
+
+impl<'a, A> DataMut for ViewMutRepr<'a, A> {
+    ghost borrow = { λ s. Some (borrow_of s.region) };
+
+    ghost alone = { refl };
+
+    ghost element_written = { λ s place x p has. place_written s.region.items s.region.held place p x has };
+
+    ghost element_borrow = { λ s place x. refl };
+
+    ghost refilled_itself = { λ s k. record { region = region_items s.region (overwritten_itself s.region.items k); tie = s.tie } };
+
+    ghost refilled_again = { λ s ws k. record { region = region_items s.region (overwritten_again s.region.items ws k); tie = s.tie } };
+
+    ghost refilled_there = { λ s ws p. places_there s.region.items ws s.region.held p };
+
+    ghost refilled_borrow = { λ s ws. refl };
+
+    fn lend(&mut self) -> Region<'_, A> {
+        self.region.reborrow()
+    }
+
+    fn element_mut(&mut self, place: usize) -> &mut A {
+        let region = self.region_mut();
+        region.get_mut(place)
+    }
+
+    fn replace(&mut self, place: usize, value: A) -> A {
+        self.region.replace(place, value)
+    }
+
+    fn swap(&mut self, p: usize, q: usize) {
+        self.region.swap(p, q);
+    }
+
+    fn with_part<R, F: for<'b> FnOnce(Region<'b, A>) -> (Region<'b, A>, R)>(
+        &mut self,
+        first: usize,
+        lengths: &[usize],
+        strides: &[isize],
+        f: F,
+    ) -> R {
+        self.region.with_part(first, lengths, strides, f)
+    }
+}
+
+/// A part of a slice as a region, for the length of the call.
+fn part_of_slice<A, R, F: for<'b> FnOnce(Region<'b, A>) -> (Region<'b, A>, R)>(
+    items: &mut [A],
+    first: usize,
+    lengths: &[usize],
+    strides: &[isize],
+    f: F,
+) -> R
+    requires as_many { length lengths.now ≡ length strides.now }
+    requires holds { HoldsAll (slice_get items.old) first lengths.now strides.now }
+    requires callable { TakesNamed (F.pre f) (slice_get items.old) first lengths.now strides.now }
+    requires returns { GivesNamedBack (F.post f) (slice_get items.old) first lengths.now strides.now }
+    ensures part { IsNamedReturned (F.post f) (slice_get items.old) (slice_get items.new) first lengths.now strides.now result }
+    ensures long { length items.new ≡ length items.old }
+{
+    with_region(
+        items,
+        |region|
+            requires { (length lengths.now ≡ length strides.now) × HasPlaces region first lengths.now strides.now × TakesPart (F.pre f) (names first lengths.now strides.now) region × GivesPartBack (F.post f) (names first lengths.now strides.now) region }
+            ensures part { IsPartReturned (F.post f) (names first lengths.entry.now strides.entry.now) region.entry result.0 result.1 }
+            ensures same { borrow_of result.0 ≡ borrow_of region.entry }
+            ensures long { IsAsLong region.entry result.0 }
+        {
+            let mut region = region;
+            let answer = region.with_part(first, lengths, strides, f);
+            (region, answer)
+        },
+    )
+}

@@ -1,0 +1,3 @@
+//! Calls over all elements.
+
+pub mod fill;

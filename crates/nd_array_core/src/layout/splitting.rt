@@ -1,0 +1,329 @@
+//! Several parts of a view or an array at once: both sides of a coordinate, and what several lists of slices name.
+//! Parts to be written share no place.
+#![tactic(auto, unfolding(crate::specs::Meaning::shape_of, crate::specs::Meaning::element_at, crate::specs::Meaning::storage_of, crate::specs::Meaning::place_at, crate::specs::Meaning::layout_strides))]
+
+ghost use Rattle.std.specs.Prelude.{◌≡◌, ◌<◌, ◌≤◌, ℕ, List, Option, length, slice_index};
+ghost use Rattle.nd_shape_and_slice.specs.Maps.{lower_shape, upper_shape, upper_index};
+ghost use Rattle.nd_shape_and_slice.specs.Place.{IsSeparated};
+ghost use Rattle.nd_shape_and_slice.specs.Shape.{size_of};
+ghost use Rattle.nd_region.specs.Places.{names_not, ShareNoPlace as LayoutsShareNone};
+ghost use Rattle.nd_region.specs.Region.{stored as region_stored};
+ghost use Rattle.nd_layout.specs.Steps.{IsStep};
+ghost use Rattle.nd_array_core.specs.Meaning.{shape_of, element_at, storage_of, place_at, layout_strides, inside};
+ghost use Rattle.nd_array_core.specs.layout.MultiSlice.{TwoFit, ThreeFit, FourFit, ThreeShareNoPlace, FourShareNoPlace, IsSlicedBy, FitsEach, TakenOf};
+ghost use Rattle.nd_array_core.specs.layout.Parts.{IsHeld, IsSeenUnder};
+ghost use Rattle.nd_array_core.specs.Places.{kept_at, ShareNoPlace};
+
+use crate::base::array::{ArrayBase, ArrayView, ArrayViewMut};
+use crate::base::storage::{Data, DataMut, ViewMutRepr, ViewRepr};
+use nd_layout::Layout;
+use nd_shape_and_slice::{Axis, Dimension, SliceArg, StrideList};
+
+impl<S: Data, D: Dimension> ArrayBase<S, D> {
+    /// Keeps the coordinates of an axis below this one.
+    fn keep_lower(&mut self, axis: usize, index: usize)
+        requires on { axis < length (shape_of self.old) }
+        requires within { index ≤ slice_index (shape_of self.old) axis }
+        ensures shape { shape_of self.new ≡ lower_shape (shape_of self.old) axis index }
+        ensures strides { layout_strides self.new ≡ layout_strides self.old }
+        ensures elements { (i : List ℕ) → element_at self.new i ≡ inside (shape_of self.new) i (element_at self.old i) }
+        ensures storage { storage_of self.new ≡ storage_of self.old }
+        ensures places { (i : List ℕ) → place_at self.new i ≡ inside (shape_of self.new) i (place_at self.old i) }
+    {
+        self.layout.keep_lower(axis, index);
+    }
+
+    /// Keeps the coordinates of an axis from this one on.
+    fn keep_upper(&mut self, axis: usize, index: usize)
+        requires on { axis < length (shape_of self.old) }
+        requires within { index ≤ slice_index (shape_of self.old) axis }
+        ensures shape { shape_of self.new ≡ upper_shape (shape_of self.old) axis index }
+        ensures strides { layout_strides self.new ≡ layout_strides self.old }
+        ensures elements { (i : List ℕ) → element_at self.new i ≡ inside (shape_of self.new) i (element_at self.old (upper_index axis index i)) }
+        ensures storage { storage_of self.new ≡ storage_of self.old }
+        ensures places { (i : List ℕ) → place_at self.new i ≡ inside (shape_of self.new) i (place_at self.old (upper_index axis index i)) }
+    {
+        self.layout.keep_upper(axis, index);
+    }
+}
+
+impl<'a, A, D: Dimension> ArrayView<'a, A, D> {
+    /// The same view once more.
+    fn copied(&self) -> Self
+        ensures shape { shape_of result ≡ shape_of self.now }
+        ensures strides { layout_strides result ≡ layout_strides self.now }
+        ensures elements { (i : List ℕ) → element_at result i ≡ element_at self.now i }
+    {
+        ArrayBase {
+            storage: ViewRepr {
+                region: self.storage.region,
+            },
+            layout: self.layout.copied(),
+        }
+    }
+
+    /// The two parts of an axis: the coordinates below this one, and those from it on. The axis is below `ndim`,
+    /// and the coordinate at most its length. ndarray's `ArrayView::split_at`.
+    pub fn split_at(self, axis: Axis, index: usize) -> (Self, Self)
+        requires axis { axis.0 < length (shape_of self) }
+        requires within { index ≤ slice_index (shape_of self) axis.0 }
+        ensures lower_shape { shape_of result.0 ≡ lower_shape (shape_of self.entry) axis.0 index }
+        ensures lower_strides { layout_strides result.0 ≡ layout_strides self.entry }
+        ensures lower { (i : List ℕ) → element_at result.0 i ≡ inside (shape_of result.0) i (element_at self.entry i) }
+        ensures upper_shape { shape_of result.1 ≡ upper_shape (shape_of self.entry) axis.0 index }
+        ensures upper_strides { layout_strides result.1 ≡ layout_strides self.entry }
+        ensures upper { (i : List ℕ) → element_at result.1 i ≡ inside (shape_of result.1) i (element_at self.entry (upper_index axis.0 index i)) }
+    {
+        let mut lower = self.copied();
+        let mut upper = self;
+        lower.keep_lower(axis.0, index);
+        upper.keep_upper(axis.0, index);
+        (lower, upper)
+    }
+}
+
+/// The layouts of the two parts of an axis: the coordinates below this one, and those from it on.
+fn halves<D: Dimension, T: StrideList>(
+    layout: &Layout<D, T>,
+    axis: usize,
+    index: usize,
+) -> (Layout<D, T>, Layout<D, T>)
+    requires on { axis < length (D.lengths layout.now.dim) }
+    requires within { index ≤ slice_index (D.lengths layout.now.dim) axis }
+    requires separated { 0 < size_of (D.lengths layout.now.dim) → IsSeparated (D.lengths layout.now.dim) (T.strides_of layout.now.strides) }
+    ensures lower_lengths { D.lengths result.0.dim ≡ lower_shape (D.lengths layout.now.dim) axis index }
+    ensures lower_strides { T.strides_of result.0.strides ≡ T.strides_of layout.now.strides }
+    ensures lower { IsStep layout.now.first (D.lengths layout.now.dim) (T.strides_of layout.now.strides) result.0.first (D.lengths result.0.dim) (T.strides_of result.0.strides) (λ i. i) }
+    ensures upper_lengths { D.lengths result.1.dim ≡ upper_shape (D.lengths layout.now.dim) axis index }
+    ensures upper_strides { T.strides_of result.1.strides ≡ T.strides_of layout.now.strides }
+    ensures upper { IsStep layout.now.first (D.lengths layout.now.dim) (T.strides_of layout.now.strides) result.1.first (D.lengths result.1.dim) (T.strides_of result.1.strides) (upper_index axis index) }
+    ensures apart { LayoutsShareNone result.0.first (D.lengths result.0.dim) (T.strides_of result.0.strides) result.1.first (D.lengths result.1.dim) (T.strides_of result.1.strides) }
+{
+    let mut lower = layout.copied();
+    let mut upper = layout.copied();
+    lower.keep_lower(axis, index);
+    upper.keep_upper(axis, index);
+    (lower, upper)
+}
+
+impl<'a, A> ViewMutRepr<'a, A> {
+    /// The elements that a layout names, which are taken out of this storage.
+    fn part<D: Dimension>(&mut self, layout: Layout<D, D::Strides>) -> ArrayViewMut<'a, A, D>
+        requires { IsHeld (region_stored self.old.region) layout.first (D.lengths layout.dim) (D.Strides.strides_of layout.strides) }
+        ensures shown { IsSeenUnder (region_stored self.old.region) layout.first (D.lengths layout.dim) (D.Strides.strides_of layout.strides) (shape_of result) (layout_strides result) (element_at result) (place_at result) }
+        ensures left { (place : ℕ) → region_stored self.new.region place ≡ kept_at (names_not layout.first (D.lengths layout.dim) (D.Strides.strides_of layout.strides)) (region_stored self.old.region) place }
+    {
+        let storage = self.split(&layout);
+        ArrayBase { storage, layout }
+    }
+
+    /// The elements that two layouts name, which share no place.
+    pub(crate) fn two_parts<D: Dimension, E: Dimension>(
+        self,
+        first: Layout<D, D::Strides>,
+        second: Layout<E, E::Strides>,
+    ) -> (ArrayViewMut<'a, A, D>, ArrayViewMut<'a, A, E>)
+        requires first { IsHeld (region_stored self.region) first.first (D.lengths first.dim) (D.Strides.strides_of first.strides) }
+        requires second { IsHeld (region_stored self.region) second.first (E.lengths second.dim) (E.Strides.strides_of second.strides) }
+        requires apart { LayoutsShareNone first.first (D.lengths first.dim) (D.Strides.strides_of first.strides) second.first (E.lengths second.dim) (E.Strides.strides_of second.strides) }
+        ensures first { IsSeenUnder (region_stored self.entry.region) first.first (D.lengths first.dim) (D.Strides.strides_of first.strides) (shape_of result.0) (layout_strides result.0) (element_at result.0) (place_at result.0) }
+        ensures second { IsSeenUnder (region_stored self.entry.region) second.first (E.lengths second.dim) (E.Strides.strides_of second.strides) (shape_of result.1) (layout_strides result.1) (element_at result.1) (place_at result.1) }
+    {
+        let mut storage = self;
+        let part = storage.part(first);
+        (part, storage.part(second))
+    }
+
+    /// The elements that three layouts name, no two of which share a place.
+    pub(crate) fn three_parts<D: Dimension, E: Dimension, F: Dimension>(
+        self,
+        first: Layout<D, D::Strides>,
+        second: Layout<E, E::Strides>,
+        third: Layout<F, F::Strides>,
+    ) -> (
+        ArrayViewMut<'a, A, D>,
+        ArrayViewMut<'a, A, E>,
+        ArrayViewMut<'a, A, F>,
+    )
+        requires first { IsHeld (region_stored self.region) first.first (D.lengths first.dim) (D.Strides.strides_of first.strides) }
+        requires second { IsHeld (region_stored self.region) second.first (E.lengths second.dim) (E.Strides.strides_of second.strides) }
+        requires third { IsHeld (region_stored self.region) third.first (F.lengths third.dim) (F.Strides.strides_of third.strides) }
+        requires first_second { LayoutsShareNone first.first (D.lengths first.dim) (D.Strides.strides_of first.strides) second.first (E.lengths second.dim) (E.Strides.strides_of second.strides) }
+        requires first_third { LayoutsShareNone first.first (D.lengths first.dim) (D.Strides.strides_of first.strides) third.first (F.lengths third.dim) (F.Strides.strides_of third.strides) }
+        requires second_third { LayoutsShareNone second.first (E.lengths second.dim) (E.Strides.strides_of second.strides) third.first (F.lengths third.dim) (F.Strides.strides_of third.strides) }
+        ensures first { IsSeenUnder (region_stored self.entry.region) first.first (D.lengths first.dim) (D.Strides.strides_of first.strides) (shape_of result.0) (layout_strides result.0) (element_at result.0) (place_at result.0) }
+        ensures second { IsSeenUnder (region_stored self.entry.region) second.first (E.lengths second.dim) (E.Strides.strides_of second.strides) (shape_of result.1) (layout_strides result.1) (element_at result.1) (place_at result.1) }
+        ensures third { IsSeenUnder (region_stored self.entry.region) third.first (F.lengths third.dim) (F.Strides.strides_of third.strides) (shape_of result.2) (layout_strides result.2) (element_at result.2) (place_at result.2) }
+        ensures apart { ThreeShareNoPlace (place_at result.0) (place_at result.1) (place_at result.2) }
+    {
+        let mut storage = self;
+        let part = storage.part(first);
+        let (second, third) = storage.two_parts(second, third);
+        (part, second, third)
+    }
+
+    /// The elements that four layouts name, no two of which share a place.
+    pub(crate) fn four_parts<D: Dimension, E: Dimension, F: Dimension, G: Dimension>(
+        self,
+        first: Layout<D, D::Strides>,
+        second: Layout<E, E::Strides>,
+        third: Layout<F, F::Strides>,
+        fourth: Layout<G, G::Strides>,
+    ) -> (
+        ArrayViewMut<'a, A, D>,
+        ArrayViewMut<'a, A, E>,
+        ArrayViewMut<'a, A, F>,
+        ArrayViewMut<'a, A, G>,
+    )
+        requires first { IsHeld (region_stored self.region) first.first (D.lengths first.dim) (D.Strides.strides_of first.strides) }
+        requires second { IsHeld (region_stored self.region) second.first (E.lengths second.dim) (E.Strides.strides_of second.strides) }
+        requires third { IsHeld (region_stored self.region) third.first (F.lengths third.dim) (F.Strides.strides_of third.strides) }
+        requires fourth { IsHeld (region_stored self.region) fourth.first (G.lengths fourth.dim) (G.Strides.strides_of fourth.strides) }
+        requires first_second { LayoutsShareNone first.first (D.lengths first.dim) (D.Strides.strides_of first.strides) second.first (E.lengths second.dim) (E.Strides.strides_of second.strides) }
+        requires first_third { LayoutsShareNone first.first (D.lengths first.dim) (D.Strides.strides_of first.strides) third.first (F.lengths third.dim) (F.Strides.strides_of third.strides) }
+        requires first_fourth { LayoutsShareNone first.first (D.lengths first.dim) (D.Strides.strides_of first.strides) fourth.first (G.lengths fourth.dim) (G.Strides.strides_of fourth.strides) }
+        requires second_third { LayoutsShareNone second.first (E.lengths second.dim) (E.Strides.strides_of second.strides) third.first (F.lengths third.dim) (F.Strides.strides_of third.strides) }
+        requires second_fourth { LayoutsShareNone second.first (E.lengths second.dim) (E.Strides.strides_of second.strides) fourth.first (G.lengths fourth.dim) (G.Strides.strides_of fourth.strides) }
+        requires third_fourth { LayoutsShareNone third.first (F.lengths third.dim) (F.Strides.strides_of third.strides) fourth.first (G.lengths fourth.dim) (G.Strides.strides_of fourth.strides) }
+        ensures first { IsSeenUnder (region_stored self.entry.region) first.first (D.lengths first.dim) (D.Strides.strides_of first.strides) (shape_of result.0) (layout_strides result.0) (element_at result.0) (place_at result.0) }
+        ensures second { IsSeenUnder (region_stored self.entry.region) second.first (E.lengths second.dim) (E.Strides.strides_of second.strides) (shape_of result.1) (layout_strides result.1) (element_at result.1) (place_at result.1) }
+        ensures third { IsSeenUnder (region_stored self.entry.region) third.first (F.lengths third.dim) (F.Strides.strides_of third.strides) (shape_of result.2) (layout_strides result.2) (element_at result.2) (place_at result.2) }
+        ensures fourth { IsSeenUnder (region_stored self.entry.region) fourth.first (G.lengths fourth.dim) (G.Strides.strides_of fourth.strides) (shape_of result.3) (layout_strides result.3) (element_at result.3) (place_at result.3) }
+        ensures apart { FourShareNoPlace (place_at result.0) (place_at result.1) (place_at result.2) (place_at result.3) }
+    {
+        let mut storage = self;
+        let part = storage.part(first);
+        let (second, third, fourth) = storage.three_parts(second, third, fourth);
+        (part, second, third, fourth)
+    }
+}
+
+impl<'a, A, D: Dimension> ArrayViewMut<'a, A, D> {
+    /// The two parts of an axis: the coordinates below this one, and those from it on. The axis is below `ndim`,
+    /// and the coordinate at most its length. ndarray's `ArrayViewMut::split_at`.
+    pub fn split_at(self, axis: Axis, index: usize) -> (Self, Self)
+        requires axis { axis.0 < length (shape_of self) }
+        requires within { index ≤ slice_index (shape_of self) axis.0 }
+        ensures lower_shape { shape_of result.0 ≡ lower_shape (shape_of self.entry) axis.0 index }
+        ensures lower_strides { layout_strides result.0 ≡ layout_strides self.entry }
+        ensures lower { (i : List ℕ) → element_at result.0 i ≡ inside (shape_of result.0) i (element_at self.entry i) }
+        ensures lower_places { (i : List ℕ) → place_at result.0 i ≡ inside (shape_of result.0) i (place_at self.entry i) }
+        ensures upper_shape { shape_of result.1 ≡ upper_shape (shape_of self.entry) axis.0 index }
+        ensures upper_strides { layout_strides result.1 ≡ layout_strides self.entry }
+        ensures upper { (i : List ℕ) → element_at result.1 i ≡ inside (shape_of result.1) i (element_at self.entry (upper_index axis.0 index i)) }
+        ensures upper_places { (i : List ℕ) → place_at result.1 i ≡ inside (shape_of result.1) i (place_at self.entry (upper_index axis.0 index i)) }
+        ensures apart { ShareNoPlace (place_at result.0) (place_at result.1) }
+    {
+        let (lower, upper) = halves(&self.layout, axis.0, index);
+        self.storage.two_parts(lower, upper)
+    }
+
+    /// The parts that the lists name. Each list fits the shape (`SliceArg::fits`), and no two name an element in common
+    /// (`slices_intersect`). ndarray's `multi_slice_move`.
+    pub fn multi_slice_move<M: MultiSliceArg<ArrayViewMut<'a, A, D>>>(self, lists: M) -> M::Output
+        requires { M.fits lists self }
+        ensures { M.takes lists self.entry result }
+    {
+        lists.parts_of(self)
+    }
+}
+
+/// A pair, a triple or a quadruple of lists of slices, for views of the type V. ndarray's `MultiSliceArg`.
+pub trait MultiSliceArg<V> {
+    /// The parts, one for each list.
+    type Output;
+
+    /// The lists fit the view's shape (`SliceArg::fits`), and no two of them name an element in common
+    /// (`slices_intersect`).
+    ghost fits: { Self → V → Type 0 };
+
+    /// What the parts are of the view.
+    ghost takes: { Self → V → Self.Output → Type 0 };
+
+    /// The parts of a view.
+    fn parts_of(self, view: V) -> Self::Output
+        requires { fits self view }
+        ensures { takes self view result };
+}
+
+impl<'a, A: 'a, D: Dimension, I: SliceArg<D>, J: SliceArg<D>> MultiSliceArg<ArrayViewMut<'a, A, D>>
+    for (I, J) {
+    type Output = (
+        ArrayViewMut<'a, A, I::OutDim>,
+        ArrayViewMut<'a, A, J::OutDim>,
+    );
+
+    ghost fits = { λ lists view. TwoFit (shape_of view) (I.elements_of lists.0) (J.elements_of lists.1) };
+
+    ghost takes = { λ lists view out. IsSlicedBy view (I.elements_of lists.0) out.0 × IsSlicedBy view (J.elements_of lists.1) out.1 × ShareNoPlace (place_at out.0) (place_at out.1) };
+
+    fn parts_of(self, view: ArrayViewMut<'a, A, D>) -> Self::Output {
+        let first = view.layout.sliced::<I::OutDim>(self.0.elements());
+        let other = view.layout.sliced::<J::OutDim>(self.1.elements());
+        view.storage.two_parts(first, other)
+    }
+}
+
+impl<'a, A: 'a, D: Dimension, I: SliceArg<D>, J: SliceArg<D>, K: SliceArg<D>> MultiSliceArg<
+    ArrayViewMut<'a, A, D>,
+> for (I, J, K) {
+    type Output = (
+        ArrayViewMut<'a, A, I::OutDim>,
+        ArrayViewMut<'a, A, J::OutDim>,
+        ArrayViewMut<'a, A, K::OutDim>,
+    );
+
+    ghost fits = { λ lists view. ThreeFit (shape_of view) (I.elements_of lists.0) (J.elements_of lists.1) (K.elements_of lists.2) };
+
+    ghost takes = { λ lists view out. IsSlicedBy view (I.elements_of lists.0) out.0 × IsSlicedBy view (J.elements_of lists.1) out.1 × IsSlicedBy view (K.elements_of lists.2) out.2 × ThreeShareNoPlace (place_at out.0) (place_at out.1) (place_at out.2) };
+
+    fn parts_of(self, view: ArrayViewMut<'a, A, D>) -> Self::Output {
+        let first = view.layout.sliced::<I::OutDim>(self.0.elements());
+        let second = view.layout.sliced::<J::OutDim>(self.1.elements());
+        let last = view.layout.sliced::<K::OutDim>(self.2.elements());
+        view.storage.three_parts(first, second, last)
+    }
+}
+
+impl<
+    'a,
+    A: 'a,
+    D: Dimension,
+    I: SliceArg<D>,
+    J: SliceArg<D>,
+    K: SliceArg<D>,
+    L: SliceArg<D>,
+> MultiSliceArg<ArrayViewMut<'a, A, D>> for (I, J, K, L) {
+    type Output = (
+        ArrayViewMut<'a, A, I::OutDim>,
+        ArrayViewMut<'a, A, J::OutDim>,
+        ArrayViewMut<'a, A, K::OutDim>,
+        ArrayViewMut<'a, A, L::OutDim>,
+    );
+
+    ghost fits = { λ lists view. FourFit (shape_of view) (I.elements_of lists.0) (J.elements_of lists.1) (K.elements_of lists.2) (L.elements_of lists.3) };
+
+    ghost takes = { λ lists view out. IsSlicedBy view (I.elements_of lists.0) out.0 × IsSlicedBy view (J.elements_of lists.1) out.1 × IsSlicedBy view (K.elements_of lists.2) out.2 × IsSlicedBy view (L.elements_of lists.3) out.3 × FourShareNoPlace (place_at out.0) (place_at out.1) (place_at out.2) (place_at out.3) };
+
+    fn parts_of(self, view: ArrayViewMut<'a, A, D>) -> Self::Output {
+        let first = view.layout.sliced::<I::OutDim>(self.0.elements());
+        let second = view.layout.sliced::<J::OutDim>(self.1.elements());
+        let third = view.layout.sliced::<K::OutDim>(self.2.elements());
+        let fourth = view.layout.sliced::<L::OutDim>(self.3.elements());
+        view.storage.four_parts(first, second, third, fourth)
+    }
+}
+
+impl<S: DataMut, D: Dimension> ArrayBase<S, D> {
+    /// The parts that the lists name, to be read and written. Each list fits the shape (`SliceArg::fits`), and no two
+    /// name an element in common (`slices_intersect`). ndarray's `multi_slice_mut`.
+    pub fn multi_slice_mut<'a, M: MultiSliceArg<ArrayViewMut<'a, S::Elem, D>>>(
+        &'a mut self,
+        lists: M,
+    ) -> M::Output
+        requires { FitsEach (M.fits lists) shape_of (shape_of self.old) }
+        ensures { TakenOf (M.takes lists) shape_of element_at place_at (shape_of self.old) (element_at self.old) (place_at self.old) result }
+    {
+        lists.parts_of(self.view_mut())
+    }
+}

@@ -1,0 +1,215 @@
+//! Calls that lend two mutable views of parts of an array, which share no place, to a task for their length.
+#![tactic(auto, unfolding(crate::specs::Meaning::shape_of, crate::specs::Meaning::element_at, crate::specs::Meaning::storage_of, crate::specs::Meaning::place_at))]
+
+ghost use Rattle.std.specs.Prelude.{◌≡◌, ◌≤◌, ◌<◌, ℕ, List, length, slice_index};
+ghost use Rattle.std.specs.Option.{is_some};
+ghost use Rattle.nd_region.specs.Region.{stored as region_stored, borrow_of};
+ghost use Rattle.nd_array_core.specs.Placed.{Placed};
+ghost use Rattle.nd_array_core.specs.scoped.Tasks.{view_borrow, lent_borrow, lent_view, view_left, CanBeSeen, LiesBy, laid_by, placement_of, HoldsBy, AreApart, IsWithin, AsksOfPair, IsDoneOnPair, KeepsUnnamed, KeepsUnnamedByTwo};
+ghost use Rattle.nd_array_core.specs.scoped.PartTasks.{lower_part, upper_part, AsksOfParts, IsDoneOnParts};
+ghost use Rattle.nd_array_core.specs.base.Writes.{OthersStay};
+
+use super::tasks::LentView;
+use crate::base::array::ArrayBase;
+use crate::base::storage::{DataMut, ViewMutRepr};
+use nd_layout::Layout;
+use nd_region::Region;
+use nd_shape_and_slice::{Axis, Dimension, StrideList};
+
+/// What is done with two mutable views while they are lent. The task gives back the storage of each, or of what it has
+/// sliced it to: the same borrows.
+pub trait PairTask<A, D: Dimension, E: Dimension>: Drop {
+    /// What it answers.
+    type Answer;
+
+    /// What it asks of the views.
+    ghost pre: { Self → Placed A → Placed A → Type 0 };
+    /// What is true of the views as they came, of the same as they are given back, and of the answer.
+    ghost post: { Self → Placed A → Placed A → Placed A → Placed A → Self.Answer → Type 0 };
+
+    /// Does it.
+    fn run<'b>(
+        self,
+        one: LentView<'b, A, D, D::Strides>,
+        two: LentView<'b, A, E, E::Strides>,
+    ) -> (ViewMutRepr<'b, A>, ViewMutRepr<'b, A>, Self::Answer)
+        requires one { CanBeSeen D.lengths D.Strides.strides_of one }
+        requires two { CanBeSeen E.lengths E.Strides.strides_of two }
+        requires pre { pre self (lent_view D.lengths D.Strides.strides_of one) (lent_view E.lengths E.Strides.strides_of two) }
+        ensures one_borrow { view_borrow result.0 ≡ lent_borrow one.entry }
+        ensures two_borrow { view_borrow result.1 ≡ lent_borrow two.entry }
+        ensures done { post self (lent_view D.lengths D.Strides.strides_of one.entry) (lent_view E.lengths E.Strides.strides_of two.entry) (view_left D.lengths D.Strides.strides_of one.entry result.0) (view_left E.lengths E.Strides.strides_of two.entry result.1) result.2 };
+}
+
+/// Runs the task on the elements of two regions, each seen by a layout.
+fn run_pair<'b, A, D: Dimension, E: Dimension, K: PairTask<A, D, E>>(
+    part: Region<'b, A>,
+    one: Layout<D, D::Strides>,
+    rest: Region<'b, A>,
+    two: Layout<E, E::Strides>,
+    task: K,
+) -> (Region<'b, A>, Region<'b, A>, K::Answer)
+    requires one { LiesBy (region_stored part) (placement_of one) }
+    requires two { LiesBy (region_stored rest) (placement_of two) }
+    requires pre { K.pre task (laid_by (region_stored part) (placement_of one)) (laid_by (region_stored rest) (placement_of two)) }
+    ensures part { borrow_of result.0 ≡ borrow_of part.entry }
+    ensures rest { borrow_of result.1 ≡ borrow_of rest.entry }
+    ensures done { K.post task (laid_by (region_stored part.entry) (placement_of one)) (laid_by (region_stored rest.entry) (placement_of two)) (laid_by (region_stored result.0) (placement_of one)) (laid_by (region_stored result.1) (placement_of two)) result.2 }
+{
+    let first = LentView {
+        region: part,
+        first: one.first,
+        dim: one.dim,
+        strides: one.strides,
+    };
+    let second = LentView {
+        region: rest,
+        first: two.first,
+        dim: two.dim,
+        strides: two.strides,
+    };
+    let (first, second, answer) = task.run(first, second);
+    (first.region, second.region, answer)
+}
+
+/// Runs the task on two views of a region, by layouts that share no place.
+fn split_laid<'b, A, D: Dimension, E: Dimension, K: PairTask<A, D, E>>(
+    region: Region<'b, A>,
+    one: Layout<D, D::Strides>,
+    two: Layout<E, E::Strides>,
+    task: K,
+) -> (Region<'b, A>, K::Answer)
+    requires one { LiesBy (region_stored region) (placement_of one) }
+    requires two { LiesBy (region_stored region) (placement_of two) }
+    requires apart { AreApart (placement_of one) (placement_of two) }
+    requires callable { AsksOfPair (K.pre task) (region_stored region) (placement_of one) (placement_of two) }
+    ensures borrow { borrow_of result.0 ≡ borrow_of region.entry }
+    ensures done { IsDoneOnPair (λ v0 v1 w0 w1. K.post task v0 v1 w0 w1 result.1) (region_stored region.entry) (region_stored result.0) (placement_of one) (placement_of two) }
+{
+    let mut region = region;
+    let lent = one.copied();
+    let answer = region.split_with(
+        one.first,
+        one.dim.slice(),
+        one.strides.slice(),
+        move |part, rest|
+            requires one { LiesBy (region_stored part) (placement_of lent) }
+            requires two { LiesBy (region_stored rest) (placement_of two) }
+            requires pre { K.pre task (laid_by (region_stored part) (placement_of lent)) (laid_by (region_stored rest) (placement_of two)) }
+            ensures part { borrow_of result.0 ≡ borrow_of part.entry }
+            ensures rest { borrow_of result.1 ≡ borrow_of rest.entry }
+            ensures done { K.post task (laid_by (region_stored part.entry) (placement_of lent)) (laid_by (region_stored rest.entry) (placement_of two)) (laid_by (region_stored result.0) (placement_of lent)) (laid_by (region_stored result.1) (placement_of two)) result.2 }
+        { run_pair(part, lent, rest, two, task) },
+    );
+    (region, answer)
+}
+
+/// Runs the task on two views of a region, by layouts that share no place. No other place changes.
+fn either_laid<'b, A, D: Dimension, E: Dimension, K: PairTask<A, D, E>>(
+    region: Region<'b, A>,
+    one: Layout<D, D::Strides>,
+    two: Layout<E, E::Strides>,
+    task: K,
+) -> (Region<'b, A>, K::Answer)
+    requires one { LiesBy (region_stored region) (placement_of one) }
+    requires two { LiesBy (region_stored region) (placement_of two) }
+    requires apart { AreApart (placement_of one) (placement_of two) }
+    requires callable { AsksOfPair (K.pre task) (region_stored region) (placement_of one) (placement_of two) }
+    ensures borrow { borrow_of result.0 ≡ borrow_of region.entry }
+    ensures done { IsDoneOnPair (λ v0 v1 w0 w1. K.post task v0 v1 w0 w1 result.1) (region_stored region.entry) (region_stored result.0) (placement_of one) (placement_of two) }
+    ensures kept { KeepsUnnamedByTwo (region_stored region.entry) (region_stored result.0) (placement_of one) (placement_of two) }
+{
+    let mut region = region;
+    let first = one.copied();
+    let second = two.copied();
+    let answer = region.with_either(
+        first.first,
+        first.dim.slice(),
+        first.strides.slice(),
+        second.first,
+        second.dim.slice(),
+        second.strides.slice(),
+        move |both|
+            requires one { LiesBy (region_stored both) (placement_of one) }
+            requires two { LiesBy (region_stored both) (placement_of two) }
+            requires apart { AreApart (placement_of one) (placement_of two) }
+            requires callable { AsksOfPair (K.pre task) (region_stored both) (placement_of one) (placement_of two) }
+            ensures borrow { borrow_of result.0 ≡ borrow_of both.entry }
+            ensures done { IsDoneOnPair (λ v0 v1 w0 w1. K.post task v0 v1 w0 w1 result.1) (region_stored both.entry) (region_stored result.0) (placement_of one) (placement_of two) }
+        { split_laid(both, one, two, task) },
+    );
+    (region, answer)
+}
+
+/// Runs the task on two views of a storage, by layouts that share no place and whose places are among those of a third.
+pub(crate) fn pair_laid<
+    S: DataMut,
+    W: Dimension,
+    D: Dimension,
+    E: Dimension,
+    K: PairTask<S::Elem, D, E>,
+>(
+    storage: &mut S,
+    whole: Layout<W, W::Strides>,
+    one: Layout<D, D::Strides>,
+    two: Layout<E, E::Strides>,
+    task: K,
+) -> K::Answer
+    requires whole { HoldsBy (S.stored storage.old) (placement_of whole) }
+    requires one { LiesBy (S.stored storage.old) (placement_of one) }
+    requires two { LiesBy (S.stored storage.old) (placement_of two) }
+    requires one_within { IsWithin (placement_of one) (placement_of whole) }
+    requires two_within { IsWithin (placement_of two) (placement_of whole) }
+    requires apart { AreApart (placement_of one) (placement_of two) }
+    requires callable { AsksOfPair (K.pre task) (S.stored storage.old) (placement_of one) (placement_of two) }
+    ensures there { (p : ℕ) → is_some (S.stored storage.new p) ≡ is_some (S.stored storage.old p) }
+    ensures borrow { S.borrow storage.new ≡ S.borrow storage.old }
+    ensures others { KeepsUnnamed (S.stored storage.old) (S.stored storage.new) (placement_of whole) }
+    ensures kept { KeepsUnnamedByTwo (S.stored storage.old) (S.stored storage.new) (placement_of one) (placement_of two) }
+    ensures done { IsDoneOnPair (λ v0 v1 w0 w1. K.post task v0 v1 w0 w1 result) (S.stored storage.old) (S.stored storage.new) (placement_of one) (placement_of two) }
+{
+    storage.with_part(
+        whole.first,
+        whole.dim.slice(),
+        whole.strides.slice(),
+        move |region|
+            requires one { LiesBy (region_stored region) (placement_of one) }
+            requires two { LiesBy (region_stored region) (placement_of two) }
+            requires apart { AreApart (placement_of one) (placement_of two) }
+            requires callable { AsksOfPair (K.pre task) (region_stored region) (placement_of one) (placement_of two) }
+            ensures borrow { borrow_of result.0 ≡ borrow_of region.entry }
+            ensures done { IsDoneOnPair (λ v0 v1 w0 w1. K.post task v0 v1 w0 w1 result.1) (region_stored region.entry) (region_stored result.0) (placement_of one) (placement_of two) }
+            ensures kept { KeepsUnnamedByTwo (region_stored region.entry) (region_stored result.0) (placement_of one) (placement_of two) }
+        { either_laid(region, one, two, task) },
+    )
+}
+
+impl<S: DataMut, D: Dimension> ArrayBase<S, D> {
+    ghost use Rattle.nd_array_core.specs.Meaning.{shape_of, element_at, storage_of, place_at};
+
+    /// Hands the task mutable views of the two parts of an axis, for the length of the call: the coordinates below this
+    /// one, and those from it on. Each part of the array then shows what its view does. The axis is below `ndim`, and the
+    /// coordinate at most its length. This project's own, beside ndarray's `split_at` of mutable views.
+    pub fn with_split_at<K: PairTask<S::Elem, D, D>>(
+        &mut self,
+        axis: Axis,
+        index: usize,
+        task: K,
+    ) -> K::Answer
+        requires axis { axis.0 < length (shape_of self.old) }
+        requires within { index ≤ slice_index (shape_of self.old) axis.0 }
+        requires callable { AsksOfParts (K.pre task) self.old (lower_part (shape_of self.old) axis.0 index) (upper_part (shape_of self.old) axis.0 index) }
+        ensures shape { shape_of self.new ≡ shape_of self.old }
+        ensures places { (i : List ℕ) → place_at self.new i ≡ place_at self.old i }
+        ensures borrow { S.borrow (storage_of self.new) ≡ S.borrow (storage_of self.old) }
+        ensures others { OthersStay (place_at self.old) (S.stored (storage_of self.old)) (S.stored (storage_of self.new)) }
+        ensures done { IsDoneOnParts (λ v0 v1 w0 w1. K.post task v0 v1 w0 w1 result) self.old self.new (lower_part (shape_of self.old) axis.0 index) (upper_part (shape_of self.old) axis.0 index) }
+    {
+        let whole = self.layout.copied();
+        let mut lower = self.layout.copied();
+        let mut upper = self.layout.copied();
+        lower.keep_lower(axis.0, index);
+        upper.keep_upper(axis.0, index);
+        pair_laid(&mut self.storage, whole, lower, upper, task)
+    }
+}

@@ -1,0 +1,108 @@
+//! Calls that lend a mutable view of a part of an array to a task for their length.
+#![tactic(auto, unfolding(crate::specs::Meaning::shape_of, crate::specs::Meaning::element_at, crate::specs::Meaning::storage_of, crate::specs::Meaning::place_at))]
+
+ghost use Rattle.std.specs.Prelude.{◌≡◌, ◌<◌, ℕ, true, List, length, slice_index};
+ghost use Rattle.nd_shape_and_slice.specs.Slice.{fits_axis};
+ghost use Rattle.nd_shape_and_slice.specs.SliceInfo.{fits_shape};
+ghost use Rattle.nd_array_core.specs.scoped.PartTasks.{sliced_part, axis_part, coordinate_part, diagonal_part, AsksOfPart, IsDoneOnPart, KeepsBut};
+ghost use Rattle.nd_array_core.specs.base.Writes.{OthersStay};
+
+use super::tasks::{ViewTask, with_laid};
+use crate::base::array::ArrayBase;
+use crate::base::storage::DataMut;
+use nd_shape_and_slice::{Axis, Dimension, Ix1, RemoveAxis, Slice, SliceArg};
+
+impl<S: DataMut, D: Dimension> ArrayBase<S, D> {
+    ghost use Rattle.nd_array_core.specs.Meaning.{shape_of, element_at, storage_of, place_at};
+
+    /// Hands the task a mutable view of what the list of slices names, for the length of the call. The array then shows
+    /// there what the view does, and elsewhere what it did. The list fits the shape (`SliceArg::fits`). This project's
+    /// own, beside ndarray's `slice_mut`.
+    pub fn with_slice_mut<I: SliceArg<D>, K: ViewTask<S::Elem, I::OutDim>>(
+        &mut self,
+        info: I,
+        task: K,
+    ) -> K::Answer
+        requires fits { fits_shape (shape_of self.old) (I.elements_of info) ≡ true }
+        requires callable { AsksOfPart (K.pre task) self.old (sliced_part (shape_of self.old) (I.elements_of info)) }
+        ensures shape { shape_of self.new ≡ shape_of self.old }
+        ensures places { (i : List ℕ) → place_at self.new i ≡ place_at self.old i }
+        ensures borrow { S.borrow (storage_of self.new) ≡ S.borrow (storage_of self.old) }
+        ensures others { OthersStay (place_at self.old) (S.stored (storage_of self.old)) (S.stored (storage_of self.new)) }
+        ensures kept { KeepsBut self.old self.new (sliced_part (shape_of self.old) (I.elements_of info)) }
+        ensures done { IsDoneOnPart (λ v w. K.post task v w result) self.old self.new (sliced_part (shape_of self.old) (I.elements_of info)) }
+    {
+        let layout = self.layout.sliced::<I::OutDim>(info.elements());
+        with_laid(&mut self.storage, layout, task)
+    }
+
+    /// Hands the task a mutable view of what the slice names of one axis, for the length of the call. The array then shows
+    /// there what the view does, and elsewhere what it did. The axis is below `ndim`, and the slice fits it
+    /// (`slice_fits`). This project's own, beside ndarray's `slice_axis_mut`.
+    pub fn with_slice_axis_mut<K: ViewTask<S::Elem, D>>(
+        &mut self,
+        axis: Axis,
+        slice: Slice,
+        task: K,
+    ) -> K::Answer
+        requires axis { axis.0 < length (shape_of self.old) }
+        requires fits { fits_axis (slice_index (shape_of self.old) axis.0) slice ≡ true }
+        requires callable { AsksOfPart (K.pre task) self.old (axis_part (shape_of self.old) axis.0 slice) }
+        ensures shape { shape_of self.new ≡ shape_of self.old }
+        ensures places { (i : List ℕ) → place_at self.new i ≡ place_at self.old i }
+        ensures borrow { S.borrow (storage_of self.new) ≡ S.borrow (storage_of self.old) }
+        ensures others { OthersStay (place_at self.old) (S.stored (storage_of self.old)) (S.stored (storage_of self.new)) }
+        ensures kept { KeepsBut self.old self.new (axis_part (shape_of self.old) axis.0 slice) }
+        ensures done { IsDoneOnPart (λ v w. K.post task v w result) self.old self.new (axis_part (shape_of self.old) axis.0 slice) }
+    {
+        let mut layout = self.layout.copied();
+        layout.slice_axis(axis.0, slice);
+        with_laid(&mut self.storage, layout, task)
+    }
+
+    /// Hands the task a mutable view of the elements whose coordinates are all the same, for the length of the call; of an
+    /// array without axes, of its element. The array then shows there what the view does, and elsewhere what it did.
+    /// This project's own, beside ndarray's `diag_mut`.
+    pub fn with_diag_mut<K: ViewTask<S::Elem, Ix1>>(&mut self, task: K) -> K::Answer
+        requires callable { AsksOfPart (K.pre task) self.old (diagonal_part (shape_of self.old)) }
+        ensures shape { shape_of self.new ≡ shape_of self.old }
+        ensures places { (i : List ℕ) → place_at self.new i ≡ place_at self.old i }
+        ensures borrow { S.borrow (storage_of self.new) ≡ S.borrow (storage_of self.old) }
+        ensures others { OthersStay (place_at self.old) (S.stored (storage_of self.old)) (S.stored (storage_of self.new)) }
+        ensures kept { KeepsBut self.old self.new (diagonal_part (shape_of self.old)) }
+        ensures done { IsDoneOnPart (λ v w. K.post task v w result) self.old self.new (diagonal_part (shape_of self.old)) }
+    {
+        let layout = self.layout.diagonal();
+        with_laid(&mut self.storage, layout, task)
+    }
+}
+
+impl<S: DataMut, D: RemoveAxis> ArrayBase<S, D>
+where
+    D::Smaller: Dimension,
+{
+    ghost use Rattle.nd_array_core.specs.Meaning.{shape_of, element_at, storage_of, place_at};
+
+    /// Hands the task a mutable view at one coordinate of an axis, without the axis, for the length of the call. The array
+    /// then shows there what the view does, and elsewhere what it did. The axis is below `ndim`, and the coordinate
+    /// below its length. This project's own, beside ndarray's `index_axis_mut`.
+    pub fn with_index_axis_mut<K: ViewTask<S::Elem, D::Smaller>>(
+        &mut self,
+        axis: Axis,
+        index: usize,
+        task: K,
+    ) -> K::Answer
+        requires axis { axis.0 < length (shape_of self.old) }
+        requires within { index < slice_index (shape_of self.old) axis.0 }
+        requires callable { AsksOfPart (K.pre task) self.old (coordinate_part (shape_of self.old) axis.0 index) }
+        ensures shape { shape_of self.new ≡ shape_of self.old }
+        ensures places { (i : List ℕ) → place_at self.new i ≡ place_at self.old i }
+        ensures borrow { S.borrow (storage_of self.new) ≡ S.borrow (storage_of self.old) }
+        ensures others { OthersStay (place_at self.old) (S.stored (storage_of self.old)) (S.stored (storage_of self.new)) }
+        ensures kept { KeepsBut self.old self.new (coordinate_part (shape_of self.old) axis.0 index) }
+        ensures done { IsDoneOnPart (λ v w. K.post task v w result) self.old self.new (coordinate_part (shape_of self.old) axis.0 index) }
+    {
+        let layout = self.layout.index_axis(axis.0, index);
+        with_laid(&mut self.storage, layout, task)
+    }
+}

@@ -1,0 +1,39 @@
+//! Calls that lend mutable views of what two lists of slices name of an array to a task for their length.
+#![tactic(auto, unfolding(crate::specs::Meaning::shape_of, crate::specs::Meaning::element_at, crate::specs::Meaning::storage_of, crate::specs::Meaning::place_at))]
+
+ghost use Rattle.std.specs.Prelude.{◌≡◌, ℕ, List};
+ghost use Rattle.nd_array_core.specs.layout.MultiSlice.{TwoFit};
+ghost use Rattle.nd_array_core.specs.scoped.PartTasks.{sliced_part, AsksOfParts, IsDoneOnParts, KeepsButTwo};
+ghost use Rattle.nd_array_core.specs.base.Writes.{OthersStay};
+
+use super::pairs::{PairTask, pair_laid};
+use crate::base::array::ArrayBase;
+use crate::base::storage::DataMut;
+use nd_shape_and_slice::{Dimension, SliceArg};
+
+impl<S: DataMut, D: Dimension> ArrayBase<S, D> {
+    ghost use Rattle.nd_array_core.specs.Meaning.{shape_of, element_at, storage_of, place_at};
+
+    /// Hands the task mutable views of what two lists of slices name, for the length of the call. The array then shows
+    /// at each part what its view does, and elsewhere what it did. Each list fits the shape (`SliceArg::fits`), and they
+    /// name no element in common (`slices_intersect`). This project's own, beside ndarray's `multi_slice_mut`.
+    pub fn with_multi_slice_mut<
+        I: SliceArg<D>,
+        J: SliceArg<D>,
+        K: PairTask<S::Elem, I::OutDim, J::OutDim>,
+    >(&mut self, lists: (I, J), task: K) -> K::Answer
+        requires fits { TwoFit (shape_of self.old) (I.elements_of lists.0) (J.elements_of lists.1) }
+        requires callable { AsksOfParts (K.pre task) self.old (sliced_part (shape_of self.old) (I.elements_of lists.0)) (sliced_part (shape_of self.old) (J.elements_of lists.1)) }
+        ensures shape { shape_of self.new ≡ shape_of self.old }
+        ensures places { (i : List ℕ) → place_at self.new i ≡ place_at self.old i }
+        ensures borrow { S.borrow (storage_of self.new) ≡ S.borrow (storage_of self.old) }
+        ensures others { OthersStay (place_at self.old) (S.stored (storage_of self.old)) (S.stored (storage_of self.new)) }
+        ensures kept { KeepsButTwo self.old self.new (sliced_part (shape_of self.old) (I.elements_of lists.0)) (sliced_part (shape_of self.old) (J.elements_of lists.1)) }
+        ensures done { IsDoneOnParts (λ v0 v1 w0 w1. K.post task v0 v1 w0 w1 result) self.old self.new (sliced_part (shape_of self.old) (I.elements_of lists.0)) (sliced_part (shape_of self.old) (J.elements_of lists.1)) }
+    {
+        let whole = self.layout.copied();
+        let first = self.layout.sliced::<I::OutDim>(lists.0.elements());
+        let second = self.layout.sliced::<J::OutDim>(lists.1.elements());
+        pair_laid(&mut self.storage, whole, first, second, task)
+    }
+}

@@ -1,0 +1,34 @@
+use Rattle.std.proofs.Common.{◌≡◌, true, refl}
+use Rattle.nd_layout.specs.Steps.{IsValid}
+use Rattle.nd_shape_and_slice.specs.Broadcast.{broadcasts}
+use Rattle.nd_layout.proofs.steps.BroadcastStep.{broadcast_is_seen, broadcast_is_valid}
+use Rattle.nd_layout.proofs.layout.Layout.broadcast.Goals as goal
+
+pub returns-clause-seen : goal.returns-clause-seen
+returns-clause-seen g c =
+    let from = g.D.Dimension.lengths c.args.self.now.dim in
+    let to = g.E.Dimension.lengths c.args.to in
+    let strides = g.T.StrideList.strides_of c.args.self.now.strides in
+    let fits : broadcasts from to ≡ true = rw (c.slice.ensures.lengths, c.slice-2.ensures.lengths) at (c.if-not-can_broadcast.ensures.0 refl) in
+    rw (c.strides_under-strides.ensures, c.slice-3.ensures.lengths, c.slice-4.ensures) (broadcast_is_seen c.args.self.now.first from to strides c.args.self.now.as_many fits)
+
+pub invariant_of-result : goal.invariant_of-result
+invariant_of-result g c =
+    let from = g.D.Dimension.lengths c.args.self.now.dim in
+    let to = g.E.Dimension.lengths c.args.to in
+    let strides = g.T.StrideList.strides_of c.args.self.now.strides in
+    let fits : broadcasts from to ≡ true = rw (c.slice.ensures.lengths, c.slice-2.ensures.lengths) at (c.if-not-can_broadcast.ensures.0 refl) in
+    let old : IsValid c.args.self.now.first from strides = record {
+      as_many = c.args.self.now.as_many;
+      spread = c.args.self.now.spread;
+      checked = c.args.self.now.checked;
+      reach = c.args.self.now.reach;
+    } in
+    let valid : IsValid c.args.self.now.first to (g.E.Strides.StrideList.strides_of c.strides_under-strides.result) =
+    rw (c.strides_under-strides.ensures, c.slice-3.ensures.lengths, c.slice-4.ensures) (broadcast_is_valid c.args.self.now.first from to strides fits old) in
+    record {
+      as_many = valid.as_many;
+      spread = valid.spread;
+      checked = valid.checked;
+      reach = valid.reach;
+    }

@@ -1,0 +1,29 @@
+use Rattle.std.proofs.Common.{arith, rules, sym, w64, FitsSigned}
+use Rattle.std.proofs.lemmas.Int.{to_z-of_z}
+use Rattle.nd_layout.proofs.steps.EachAxisLoop.{each_none, each_on, each_fits_axis, each_more, each_all}
+use Rattle.nd_layout.proofs.layout.Layout.slice_each_axis.Goals as goal
+
+pub loop-axis-init : goal.loop-axis-init
+loop-axis-init g c =
+    rw (c.copied-before.ensures.first, c.copied-before.ensures.lengths, c.copied-before.ensures.strides)
+    (each_none _ _ c.args.f c.args.self.now.first (g.D.Dimension.lengths c.args.self.now.dim) (g.T.StrideList.strides_of c.args.self.now.strides) c.args.self.now.as_many c.requires)
+
+pub slice_axis-requires-clause-on : goal.slice_axis-requires-clause-on
+slice_axis-requires-clause-on g c = each_on _ _ c.args.f c.copied-before.result.first (g.D.Dimension.lengths c.copied-before.result.dim) (g.T.StrideList.strides_of c.copied-before.result.strides) c.copied-before.result.as_many c.loop-axis.axis c.loop-axis.f c.loop-axis.self.first (g.D.Dimension.lengths c.loop-axis.self.dim) (g.T.StrideList.strides_of c.loop-axis.self.strides) c.loop-axis.invariant (omega (arith, c.loop-axis-test.true, c.ndim-axis-end.ensures.value))
+
+pub slice_axis-requires-clause-fits : goal.slice_axis-requires-clause-fits
+slice_axis-requires-clause-fits g c =
+    let fits : FitsSigned w64 c.stride_at.result = search rules in
+    let answered = rw (c.length_at.ensures, to_z-of_z w64 c.stride_at.result fits, c.stride_at.ensures, c.slice.ensures.lengths, c.slice-in-loop-axis.ensures) at c.f-slice.ensures in
+    each_fits_axis _ _ c.args.f c.copied-before.result.first (g.D.Dimension.lengths c.copied-before.result.dim) (g.T.StrideList.strides_of c.copied-before.result.strides) c.copied-before.result.as_many c.loop-axis.axis c.loop-axis.f c.loop-axis.self.first (g.D.Dimension.lengths c.loop-axis.self.dim) (g.T.StrideList.strides_of c.loop-axis.self.strides) c.loop-axis.invariant (omega (arith, c.loop-axis-test.true, c.ndim-axis-end.ensures.value)) c.f-slice.result c.f-slice.new.self answered
+
+pub loop-axis-preserved : goal.loop-axis-preserved
+loop-axis-preserved g c =
+    let fits : FitsSigned w64 c.stride_at.result = search rules in
+    let answered = rw (c.length_at.ensures, to_z-of_z w64 c.stride_at.result fits, c.stride_at.ensures, c.slice.ensures.lengths, c.slice-in-loop-axis.ensures) at c.f-slice.ensures in
+    each_more _ _ c.args.f c.copied-before.result.first (g.D.Dimension.lengths c.copied-before.result.dim) (g.T.StrideList.strides_of c.copied-before.result.strides) c.copied-before.result.as_many c.loop-axis.axis c.loop-axis.f c.loop-axis.self.first (g.D.Dimension.lengths c.loop-axis.self.dim) (g.T.StrideList.strides_of c.loop-axis.self.strides) c.loop-axis.invariant (omega (arith, c.loop-axis-test.true, c.ndim-axis-end.ensures.value)) c.f-slice.result c.f-slice.new.self answered c.slice_axis.new.self.first (g.D.Dimension.lengths c.slice_axis.new.self.dim) (g.T.StrideList.strides_of c.slice_axis.new.self.strides) c.slice_axis.ensures.lengths c.slice_axis.ensures.step
+
+pub returns : goal.returns
+returns g c =
+    rw (sym c.copied-before.ensures.first, sym c.copied-before.ensures.lengths, sym c.copied-before.ensures.strides)
+    (each_all _ _ c.args.f c.copied-before.result.first (g.D.Dimension.lengths c.copied-before.result.dim) (g.T.StrideList.strides_of c.copied-before.result.strides) c.copied-before.result.as_many c.loop-axis.axis c.loop-axis.f c.loop-axis.self.first (g.D.Dimension.lengths c.loop-axis.self.dim) (g.T.StrideList.strides_of c.loop-axis.self.strides) c.loop-axis.invariant (omega (arith, c.loop-axis-test.false, c.ndim-axis-end.ensures.value)))

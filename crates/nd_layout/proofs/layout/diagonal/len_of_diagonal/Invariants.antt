@@ -1,0 +1,6 @@
+use Rattle.std.proofs.Common.{◌≡◌, drop}
+use Rattle.nd_shape_and_slice.specs.Maps.{least_of, diagonal_length}
+use Rattle.nd_layout.proofs.layout.diagonal.len_of_diagonal.Given as goal
+
+abbrev pub invariant-loop-k : goal.invariant-loop-k
+invariant-loop-k l = least_of l.least (drop l.k l.lengths) ≡ diagonal_length l.lengths

@@ -1,0 +1,6 @@
+use Rattle.std.proofs.Common.{pos}
+use Rattle.nd_shape_and_slice.proofs.FillLoop.{IsFilledBelow}
+use Rattle.nd_layout.proofs.layout.resizing.strides_from.Given as goal
+
+abbrev pub invariant-loop-k : goal.invariant-loop-k
+invariant-loop-k g l = IsFilledBelow (pos 0) l.list (g.E.Strides.StrideList.strides_of l.out) l.k

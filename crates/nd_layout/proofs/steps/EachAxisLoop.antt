@@ -1,0 +1,123 @@
+-- The axes sliced one after another, by what a closure answers.
+use Rattle.std.proofs.Common.{◌≡◌, ℕ, suc, ◌+◌, ◌<◌, ◌≤◌, true, false, eqb, List, [], ◌∷◌, ◌++◌, length, drop, get_or, ℤ, pos, nat_abs, refl, ap, sym, ◌∙◌, subst, arith}
+use Rattle.std.specs.Prelude.{None}
+use Rattle.std.proofs.lemmas.Bool.Decides.{nat_tests}
+use Rattle.std.proofs.Math.ListN.{drop_of_length-le}
+use Rattle.std.proofs.lemmas.List.{drop_more, append-nil, append_assoc, length-append}
+use Rattle.nd_shape_and_slice.specs.declared.slice.Slice.{Slice}
+use Rattle.nd_shape_and_slice.specs.declared.descriptions.AxisDescription.{AxisDescription}
+use Rattle.nd_shape_and_slice.specs.Descriptions.{axes_from}
+use Rattle.nd_shape_and_slice.specs.Slice.{fits_axis, sliced_length, sliced_from, sliced_shape, sliced_index}
+use Rattle.nd_shape_and_slice.specs.EachAxis.{each_sliced, each_sliced_index, AnswersFit, Answered}
+use Rattle.nd_layout.specs.Steps.{IsStep}
+use Rattle.nd_layout.proofs.steps.StepLemmas.{step_then}
+use Rattle.nd_layout.proofs.steps.StepLemmas.{step_by}
+use Rattle.nd_layout.proofs.steps.ResizeStep.{same_is_step}
+
+-- one axis more
+shape_more : (ns : List ℕ) (ys : List Slice) (s : Slice) → length ys < length ns → each_sliced ns (ys ++ s ∷ []) ≡ sliced_shape (each_sliced ns ys) (length ys) s
+shape_more [] ys s h = absurd (omega arith)
+shape_more (n ∷ ns) [] s h = refl
+shape_more (n ∷ ns) (y ∷ ys) s h = ap (λ l. sliced_length n y ∷ l) (shape_more ns ys s (omega (arith, h)))
+
+index_more : (ns : List ℕ) (ys : List Slice) (s : Slice) (i : List ℕ) → length ys < length ns → each_sliced_index ns (ys ++ s ∷ []) i ≡ each_sliced_index ns ys (sliced_index (each_sliced ns ys) (length ys) s i)
+index_more [] ys s i h = absurd (omega arith)
+index_more (n ∷ ns) [] s [] h = refl
+index_more (n ∷ ns) [] s (i ∷ is) h = refl
+index_more (n ∷ ns) (y ∷ ys) s [] h = refl
+index_more (n ∷ ns) (y ∷ ys) s (i ∷ is) h = ap (λ l. sliced_from n y i ∷ l) (index_more ns ys s is (omega (arith, h)))
+
+length_kept : (ns : List ℕ) (ys : List Slice) → length ys < length ns → get_or (each_sliced ns ys) (length ys) 0 ≡ get_or ns (length ys) 0
+length_kept [] ys h = absurd (omega arith)
+length_kept (n ∷ ns) [] h = refl
+length_kept (n ∷ ns) (y ∷ ys) h = length_kept ns ys (omega (arith, h))
+
+length-each_sliced : (ns : List ℕ) (ys : List Slice) → length ys ≤ length ns → length (each_sliced ns ys) ≡ length ns
+length-each_sliced ns [] h = refl
+length-each_sliced [] (y ∷ ys) h = absurd (omega arith)
+length-each_sliced (n ∷ ns) (y ∷ ys) h = ap suc (length-each_sliced ns ys (omega (arith, h)))
+
+axes_here : (ns : List ℕ) (ss : List ℤ) (k : ℕ) → k < length ns → length ss ≡ length ns → axes_from k (drop k ns) (drop k ss) ≡ record { axis = record { 0 = k }; len = get_or ns k 0; stride = get_or ss k (pos 0) } ∷ axes_from (k + 1) (drop (k + 1) ns) (drop (k + 1) ss)
+axes_here ns ss k h many =
+    ap (λ l. axes_from k l (drop k ss)) (drop_more ns k 0 h)
+    ∙ ap (λ l. axes_from k (get_or ns k 0 ∷ drop (k + 1) ns) l) (drop_more ss k (pos 0) (omega (arith, h, many)))
+
+axes_done : (ns : List ℕ) (ss : List ℤ) (k : ℕ) → length ns ≤ k → axes_from k (drop k ns) (drop k ss) ≡ []
+axes_done ns ss k h = ap (λ l. axes_from k l (drop k ss)) (drop_of_length-le ns h)
+
+module _ {F : Type 0} (pre : F → AxisDescription → Type 0) (steps : F → AxisDescription → Slice → F → Type 0) (start : F) (first : ℕ) (ns : List ℕ) (ss : List ℤ) where
+  -- the axes below k are sliced as the closure answered, which left it in state f
+  pub record IsEachTo (k : ℕ) (f : F) (new_first : ℕ) (new_ns : List ℕ) (new_ss : List ℤ) : Type 0 where
+    pub slices : List Slice
+    pub many : length slices ≡ k
+    pub fits : AnswersFit pre steps f (axes_from k (drop k ns) (drop k ss))
+    pub asked : (more : List Slice) (last : F) → Answered steps f (axes_from k (drop k ns) (drop k ss)) more last → Answered steps start (axes_from 0 ns ss) (slices ++ more) last
+    pub lengths : new_ns ≡ each_sliced ns slices
+    pub step : IsStep first ns ss new_first new_ns new_ss (each_sliced_index ns slices)
+
+  pub each_none : length ss ≡ length ns → AnswersFit pre steps start (axes_from 0 ns ss) → IsEachTo 0 start first ns ss
+  each_none many fits = record {
+    slices = [];
+    many = refl;
+    fits = fits;
+    asked = λ more last h. h;
+    lengths = refl;
+    step = same_is_step first ns ss many;
+  }
+
+  module _ (many : length ss ≡ length ns) (k : ℕ) (f : F) (f' : ℕ) (ns' : List ℕ) (ss' : List ℤ) (so_far : IsEachTo k f f' ns' ss') where
+    module _ (within : k < length ns) where
+      abbrev pub described : AxisDescription
+      described = record { axis = record { 0 = k }; len = get_or ns k 0; stride = get_or ss k (pos 0) }
+
+      fitting : AnswersFit pre steps f (described ∷ axes_from (k + 1) (drop (k + 1) ns) (drop (k + 1) ss))
+      fitting = subst (AnswersFit pre steps f) (axes_here ns ss k within many) so_far.fits
+
+      pub each_callable : pre f described
+      each_callable = fitting.0
+
+      pub each_on : k < length ns'
+      each_on = let long = ap length so_far.lengths ∙ length-each_sliced ns so_far.slices (omega (arith, so_far.many, within)) in omega (arith, long, within)
+
+      here : get_or ns' k 0 ≡ get_or ns k 0
+      here = ap (λ l. get_or l k 0) so_far.lengths ∙ subst (λ n. get_or (each_sliced ns so_far.slices) n 0 ≡ get_or ns n 0) so_far.many (length_kept ns so_far.slices (omega (arith, so_far.many, within)))
+
+      module _ (s : Slice) (g : F) (answered : steps f described s g) where
+        pub each_fits_axis : fits_axis (get_or ns' k 0) s ≡ true
+        each_fits_axis = ap (λ n. fits_axis n s) here ∙ (fitting.1 s g answered).0
+
+        pub each_more : (f'' : ℕ) (ns'' : List ℕ) (ss'' : List ℤ) → ns'' ≡ sliced_shape ns' k s → IsStep f' ns' ss' f'' ns'' ss'' (sliced_index ns' k s) → IsEachTo (k + 1) g f'' ns'' ss''
+        each_more f'' ns'' ss'' shape step =
+            let ys = so_far.slices in
+            let below : length ys < length ns = omega (arith, so_far.many, within) in
+            record {
+              slices = ys ++ s ∷ [];
+              many = let long = length-append ys (s ∷ []) in omega (arith, long, so_far.many);
+              fits = (fitting.1 s g answered).1;
+              asked = λ more last h.
+                  subst (λ l. Answered steps start (axes_from 0 ns ss) l last) (sym (append_assoc ys (s ∷ []) more))
+                  (so_far.asked (s ∷ more) last (subst (λ l. Answered steps f l (s ∷ more) last) (sym (axes_here ns ss k within many)) (g, answered, h)));
+              lengths = shape ∙ (ap (λ l. sliced_shape l k s) so_far.lengths ∙ (ap (λ n. sliced_shape (each_sliced ns ys) n s) (sym so_far.many) ∙ sym (shape_more ns ys s below)));
+              step = step_by (each_sliced_index ns (ys ++ s ∷ []))
+                  (λ i h.
+                  ap (λ l. each_sliced_index ns ys (sliced_index l k s i)) so_far.lengths
+                  ∙ (ap (λ n. each_sliced_index ns ys (sliced_index (each_sliced ns ys) n s i)) (sym so_far.many) ∙ sym (index_more ns ys s i below)))
+                  (step_then so_far.step step);
+            }
+
+    pub each_all : length ns ≤ k → (slices : List Slice) × (last : F) × Answered steps start (axes_from 0 ns ss) slices last × (ns' ≡ each_sliced ns slices) × IsStep first ns ss f' ns' ss' (each_sliced_index ns slices)
+    each_all done =
+        let end = so_far.asked [] f (subst (λ l. Answered steps f l [] f) (sym (axes_done ns ss k done)) refl) in
+        (so_far.slices, f, subst (λ l. Answered steps start (axes_from 0 ns ss) l f) (append-nil so_far.slices) end, so_far.lengths, so_far.step)
+
+-- a closure that may always be asked, and whose answers always fit
+pub answers_always_fit : {F : Type 0} (pre : F → AxisDescription → Type 0) (steps : F → AxisDescription → Slice → F → Type 0) → ((f : F) (d : AxisDescription) → pre f d) → ((f : F) (d : AxisDescription) (s : Slice) (g : F) → steps f d s g → fits_axis d.len s ≡ true) → (f : F) (ds : List AxisDescription) → AnswersFit pre steps f ds
+answers_always_fit pre steps callable fits f [] = tt
+answers_always_fit pre steps callable fits f (d ∷ ds) = (callable f d, λ s g st. (fits f d s g st, answers_always_fit pre steps callable fits g ds))
+
+-- the whole axis, step by step either way
+pub whole_fits : (n : ℕ) (step : ℤ) → 0 < nat_abs step → fits_axis n (record { start = pos 0; end = None; step = step }) ≡ true
+whole_fits n step moves = rw (moving (nat_abs step) moves) (grind (arith, nat_tests))
+  where
+    moving : (m : ℕ) → 0 < m → eqb m 0 ≡ false
+    moving m h = grind (arith, nat_tests, h)

@@ -1,0 +1,173 @@
+-- The axes sliced and collapsed one after another, as a list of slices says.
+use Rattle.std.proofs.Common.{◌≡◌, ℕ, zero, suc, ◌+◌, ◌-◌, ◌<◌, ◌≤◌, Bool, true, false, cond, ltb, List, [], ◌∷◌, length, drop, get_or, ℤ, pos, negsuc, refl, ap, sym, ◌∙◌, subst, arith}
+use Rattle.std.proofs.Math.ListN.{drop_of_length-le}
+use Rattle.std.proofs.lemmas.Bool.{and_parts, ltb-true}
+use Rattle.std.proofs.lemmas.List.{drop_more}
+use Rattle.std.specs.Prelude.{slice_get, None, Some, is_some}
+use Rattle.std.specs.Option.{unwrap_or}
+use Rattle.nd_shape_and_slice.specs.declared.slice_info.SliceInfoElem.{SliceInfoElem}
+use Rattle.nd_shape_and_slice.specs.declared.slice_info.SliceInfoElem.TheVariants.{Slice as Part, Index, NewAxis}
+use Rattle.nd_shape_and_slice.specs.SliceInfo.{coordinate_on, each_fits, fits_next}
+use Rattle.nd_shape_and_slice.specs.Slicing.{collapsed_after, collapsed_before, shape_with, index_with, next_axis}
+use Rattle.nd_layout.specs.Steps.{IsStep}
+use Rattle.nd_layout.proofs.steps.StepLemmas.{step_then}
+use Rattle.nd_layout.proofs.steps.StepLemmas.{step_by}
+use Rattle.nd_layout.proofs.steps.ResizeStep.{same_is_step}
+
+-- a fitting coordinate is on its axis
+pub coordinate_within : (n : ℕ) (k : ℤ) → is_some (coordinate_on n k) ≡ true → unwrap_or (coordinate_on n k) 0 < n
+coordinate_within n (pos k) = at (ltb k n) refl
+  where
+    at : (b : Bool) → ltb k n ≡ b → is_some (cond b (Some k) None) ≡ true → unwrap_or (cond b (Some k) None) 0 < n
+    at true e h = ltb-true k n e
+    at false e h = absurd cc
+coordinate_within n (negsuc k) = at (ltb k n) refl
+  where
+    at : (b : Bool) → ltb k n ≡ b → is_some (cond b (Some (n - suc k)) None) ≡ true → unwrap_or (cond b (Some (n - suc k)) None) 0 < n
+    at true e h = let below = ltb-true k n e in omega (arith, below)
+    at false e h = absurd cc
+
+-- the axes below a are done
+abbrev pub fits_from : ℕ → List ℕ → List SliceInfoElem → Bool
+fits_from zero ns es = each_fits ns es
+fits_from (suc a) [] es = false
+fits_from (suc a) (n ∷ ns) es = fits_from a ns es
+
+abbrev pub after_from : ℕ → List ℕ → List SliceInfoElem → List ℕ
+after_from zero ns es = collapsed_after ns es
+after_from (suc a) [] es = []
+after_from (suc a) (n ∷ ns) es = n ∷ after_from a ns es
+
+abbrev pub before_from : ℕ → List ℕ → List SliceInfoElem → List ℕ → List ℕ
+before_from zero ns es is = collapsed_before ns es is
+before_from (suc a) [] es is = []
+before_from (suc a) (n ∷ ns) es [] = []
+before_from (suc a) (n ∷ ns) es (i ∷ is) = i ∷ before_from a ns es is
+
+-- one element more
+fits_here : (a : ℕ) (ns : List ℕ) (e : SliceInfoElem) (es : List SliceInfoElem) → fits_from a ns (e ∷ es) ≡ true → fits_next (slice_get ns a) e ≡ true
+fits_here zero [] (Part start end step) es h = absurd cc
+fits_here zero (n ∷ ns) (Part start end step) es h = (and_parts _ _ h).0
+fits_here zero [] (Index k) es h = absurd cc
+fits_here zero (n ∷ ns) (Index k) es h = (and_parts _ _ h).0
+fits_here zero [] NewAxis es h = refl
+fits_here zero (n ∷ ns) NewAxis es h = refl
+fits_here (suc a) [] e es h = absurd cc
+fits_here (suc a) (n ∷ ns) e es h = fits_here a ns e es h
+
+fits_more : (a : ℕ) (ns : List ℕ) (e : SliceInfoElem) (es : List SliceInfoElem) → fits_from a ns (e ∷ es) ≡ true → fits_from (next_axis a e) (shape_with ns a e) es ≡ true
+fits_more zero [] (Part start end step) es h = absurd cc
+fits_more zero (n ∷ ns) (Part start end step) es h = (and_parts _ _ h).1
+fits_more zero [] (Index k) es h = absurd cc
+fits_more zero (n ∷ ns) (Index k) es h = (and_parts _ _ h).1
+fits_more zero [] NewAxis es h = h
+fits_more zero (n ∷ ns) NewAxis es h = h
+fits_more (suc a) [] e es h = absurd cc
+fits_more (suc a) (n ∷ ns) (Part start end step) es h = fits_more a ns (Part start end step) es h
+fits_more (suc a) (n ∷ ns) (Index k) es h = fits_more a ns (Index k) es h
+fits_more (suc a) (n ∷ ns) NewAxis es h = fits_more a ns NewAxis es h
+
+after_more : (a : ℕ) (ns : List ℕ) (e : SliceInfoElem) (es : List SliceInfoElem) → fits_from a ns (e ∷ es) ≡ true → after_from a ns (e ∷ es) ≡ after_from (next_axis a e) (shape_with ns a e) es
+after_more zero [] (Part start end step) es h = absurd cc
+after_more zero (n ∷ ns) (Part start end step) es h = refl
+after_more zero [] (Index k) es h = absurd cc
+after_more zero (n ∷ ns) (Index k) es h = refl
+after_more zero [] NewAxis es h = refl
+after_more zero (n ∷ ns) NewAxis es h = refl
+after_more (suc a) [] e es h = absurd cc
+after_more (suc a) (n ∷ ns) (Part start end step) es h = ap (λ l. n ∷ l) (after_more a ns (Part start end step) es h)
+after_more (suc a) (n ∷ ns) (Index k) es h = ap (λ l. n ∷ l) (after_more a ns (Index k) es h)
+after_more (suc a) (n ∷ ns) NewAxis es h = ap (λ l. n ∷ l) (after_more a ns NewAxis es h)
+
+before_more : (a : ℕ) (ns : List ℕ) (e : SliceInfoElem) (es : List SliceInfoElem) (i : List ℕ) → fits_from a ns (e ∷ es) ≡ true → before_from a ns (e ∷ es) i ≡ index_with ns a e (before_from (next_axis a e) (shape_with ns a e) es i)
+before_more zero [] (Part start end step) es i h = absurd cc
+before_more zero (n ∷ ns) (Part start end step) es [] h = refl
+before_more zero (n ∷ ns) (Part start end step) es (i ∷ is) h = refl
+before_more zero [] (Index k) es i h = absurd cc
+before_more zero (n ∷ ns) (Index k) es [] h = refl
+before_more zero (n ∷ ns) (Index k) es (i ∷ is) h = refl
+before_more zero [] NewAxis es i h = refl
+before_more zero (n ∷ ns) NewAxis es i h = refl
+before_more (suc a) [] e es i h = absurd cc
+before_more (suc a) (n ∷ ns) (Part start end step) es [] h = refl
+before_more (suc a) (n ∷ ns) (Part start end step) es (i ∷ is) h = ap (λ l. i ∷ l) (before_more a ns (Part start end step) es is h)
+before_more (suc a) (n ∷ ns) (Index k) es [] h = refl
+before_more (suc a) (n ∷ ns) (Index k) es (i ∷ is) h = ap (λ l. i ∷ l) (before_more a ns (Index k) es is h)
+before_more (suc a) (n ∷ ns) NewAxis es [] h = refl
+before_more (suc a) (n ∷ ns) NewAxis es (i ∷ is) h = ap (λ l. i ∷ l) (before_more a ns NewAxis es is h)
+
+-- no element is left
+after_none : (a : ℕ) (ns : List ℕ) → after_from a ns [] ≡ ns
+after_none zero ns = refl
+after_none (suc a) [] = refl
+after_none (suc a) (n ∷ ns) = ap (λ l. n ∷ l) (after_none a ns)
+
+before_none : (a : ℕ) (ns i : List ℕ) → fits_from a ns [] ≡ true → before_from a ns [] i ≡ i
+before_none zero ns i h = refl
+before_none (suc a) [] i h = absurd cc
+before_none (suc a) (n ∷ ns) [] h = refl
+before_none (suc a) (n ∷ ns) (i ∷ is) h = ap (λ l. i ∷ l) (before_none a ns is h)
+
+pub one_more : (a k : ℕ) (e : SliceInfoElem) → a ≤ k → next_axis a e ≤ k + 1
+one_more a k (Part start end step) h = omega arith
+one_more a k (Index i) h = omega arith
+one_more a k NewAxis h = omega arith
+
+-- the first k elements have been applied, and the next reads axis a
+pub record IsSlicedTo (first : ℕ) (ns : List ℕ) (ss : List ℤ) (es : List SliceInfoElem) (a k new_first : ℕ) (new_ns : List ℕ) (new_ss : List ℤ) : Type 0 where
+  pub source : List ℕ → List ℕ
+  pub few : a ≤ k
+  pub fits : fits_from a new_ns (drop k es) ≡ true
+  pub shape : collapsed_after ns es ≡ after_from a new_ns (drop k es)
+  pub index : (i : List ℕ) → collapsed_before ns es i ≡ source (before_from a new_ns (drop k es) i)
+  pub step : IsStep first ns ss new_first new_ns new_ss source
+
+module _ (first : ℕ) (ns : List ℕ) (ss : List ℤ) (es : List SliceInfoElem) where
+  pub sliced_none : length ss ≡ length ns → each_fits ns es ≡ true → IsSlicedTo first ns ss es 0 0 first ns ss
+  sliced_none many fits = record {
+    source = λ i. i;
+    few = omega arith;
+    fits = fits;
+    shape = refl;
+    index = λ i. refl;
+    step = same_is_step first ns ss many;
+  }
+
+  module _ (a k : ℕ) (f' : ℕ) (ns' : List ℕ) (ss' : List ℤ) (so_far : IsSlicedTo first ns ss es a k f' ns' ss') where
+    module _ (d : SliceInfoElem) (within : k < length es) where
+      here : drop k es ≡ get_or es k d ∷ drop (k + 1) es
+      here = drop_more es k d within
+
+      fitting : fits_from a ns' (get_or es k d ∷ drop (k + 1) es) ≡ true
+      fitting = subst (λ l. fits_from a ns' l ≡ true) here so_far.fits
+
+      pub sliced_fits : fits_next (slice_get ns' a) (get_or es k d) ≡ true
+      sliced_fits = fits_here a ns' (get_or es k d) (drop (k + 1) es) fitting
+
+      pub sliced_more : (f'' : ℕ) (ns'' : List ℕ) (ss'' : List ℤ) → ns'' ≡ shape_with ns' a (get_or es k d) → IsStep f' ns' ss' f'' ns'' ss'' (index_with ns' a (get_or es k d)) → IsSlicedTo first ns ss es (next_axis a (get_or es k d)) (k + 1) f'' ns'' ss''
+      sliced_more f'' ns'' ss'' shape step =
+          let e = get_or es k d in
+          let rest = drop (k + 1) es in
+          record {
+            source = λ i. so_far.source (index_with ns' a e i);
+            few = one_more a k e so_far.few;
+            fits = subst (λ l. fits_from (next_axis a e) l rest ≡ true) (sym shape) (fits_more a ns' e rest fitting);
+            shape = so_far.shape ∙ (ap (after_from a ns') here ∙ (after_more a ns' e rest fitting ∙ ap (λ l. after_from (next_axis a e) l rest) (sym shape)));
+            index = λ i.
+                so_far.index i
+                ∙ ap so_far.source
+                (ap (λ l. before_from a ns' l i) here
+                ∙ (before_more a ns' e rest i fitting ∙ ap (λ l. index_with ns' a e (before_from (next_axis a e) l rest i)) (sym shape)));
+            step = step_then so_far.step step;
+          }
+
+    pub sliced_all_shape : length es ≤ k → ns' ≡ collapsed_after ns es
+    sliced_all_shape done = sym (so_far.shape ∙ (ap (after_from a ns') (drop_of_length-le es done) ∙ after_none a ns'))
+
+    pub sliced_all : length es ≤ k → IsStep first ns ss f' ns' ss' (collapsed_before ns es)
+    sliced_all done =
+        let end = drop_of_length-le es done in
+        let fits : fits_from a ns' [] ≡ true = subst (λ l. fits_from a ns' l ≡ true) end so_far.fits in
+        step_by (collapsed_before ns es)
+        (λ i h. sym (so_far.index i ∙ ap so_far.source (ap (λ l. before_from a ns' l i) end ∙ before_none a ns' i fits)))
+        so_far.step

@@ -1,0 +1,29 @@
+-- A layout step: from the lengths and strides of an array to those of a view of it.
+use Rattle.std.specs.Prelude.{◌≡◌, ℕ, ◌≤◌, true, List, length, ℤ, ◌<◌, ◌^◌}
+use Rattle.nd_shape_and_slice.specs.Shape.{in_box, HasCheckedSize}
+use Rattle.nd_shape_and_slice.specs.Place.{place_of, span_of, IsSeparated}
+use Rattle.nd_layout.specs.Places.{ReachesPlaces}
+
+-- a first place, lengths and strides that an array may have: as many strides as lengths; a checked size; no two
+-- places further apart than `isize::MAX`; and a place for each index of the box
+pub record IsValid (first : ℕ) (lengths : List ℕ) (strides : List ℤ) : Type 0 where
+  pub as_many : length strides ≡ length lengths
+  pub spread : span_of lengths strides < 2 ^ 63
+  pub checked : HasCheckedSize lengths
+  pub reach : ReachesPlaces first lengths strides
+
+-- each index of the new box names, by the step's map, an old index that has the same place; and the new lengths
+-- and strides are as good as the old
+pub record IsStep (first : ℕ) (lengths : List ℕ) (strides : List ℤ) (new_first : ℕ) (new_lengths : List ℕ) (new_strides : List ℤ) (source : List ℕ → List ℕ) : Type 0 where
+  pub within : (i : List ℕ) → in_box new_lengths i ≡ true → in_box lengths (source i) ≡ true
+  pub same : (i : List ℕ) → in_box new_lengths i ≡ true → place_of new_first new_strides i ≡ place_of first strides (source i)
+  pub as_many : length new_strides ≡ length new_lengths
+  pub spread : span_of new_lengths new_strides ≤ span_of lengths strides
+  pub checked : HasCheckedSize lengths → HasCheckedSize new_lengths
+  pub separated : IsSeparated lengths strides → IsSeparated new_lengths new_strides
+
+-- each index of a new box names, by a map, an old index that has the same place: what a view needs, where several
+-- indexes may share an element
+pub record IsSeen (first : ℕ) (lengths : List ℕ) (strides : List ℤ) (new_first : ℕ) (new_lengths : List ℕ) (new_strides : List ℤ) (source : List ℕ → List ℕ) : Type 0 where
+  pub within : (i : List ℕ) → in_box new_lengths i ≡ true → in_box lengths (source i) ≡ true
+  pub same : (i : List ℕ) → in_box new_lengths i ≡ true → place_of new_first new_strides i ≡ place_of first strides (source i)

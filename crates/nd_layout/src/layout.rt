@@ -1,0 +1,109 @@
+//! Where the elements of an array lie: a first place, lengths and strides.
+
+ghost use Rattle.std.specs.Prelude.{◌≡◌, ◌<◌, ◌^◌, ℕ, Bool, true, false, List, length, pos, MatchOption};
+ghost use Rattle.nd_shape_and_slice.specs.Shape.{in_box, nonzero_product, HasCheckedSize};
+ghost use Rattle.nd_shape_and_slice.specs.Place.{place_of, span_of};
+ghost use Rattle.nd_layout.specs.Given.{ordered_strides};
+ghost use Rattle.nd_layout.specs.Places.{is_place};
+ghost use Rattle.nd_layout.specs.Steps.{IsValid};
+
+pub mod axes;
+mod broadcast;
+mod diagonal;
+pub mod given;
+mod places;
+mod resizing;
+mod slicing;
+mod squeeze;
+
+use given::strides_in;
+use nd_shape_and_slice::{Dimension, Order, StrideList};
+use places::{is_in_box, place_at};
+use std::alloc::AllocError;
+
+/// A first place, a shape and a signed stride for each axis. As many strides as lengths; the checked size exists;
+/// no two places lie further apart than `isize::MAX`; each index of the box has a place.
+pub struct Layout<D: Dimension, T: StrideList> {
+    pub first: usize,
+    pub dim: D,
+    pub strides: T,
+    ghost as_many: { length (T.strides_of strides) ≡ length (D.lengths dim) },
+    ghost spread: { span_of (D.lengths dim) (T.strides_of strides) < 2 ^ 63 },
+    ghost checked: { nonzero_product (D.lengths dim) < 2 ^ 63 },
+    ghost reach: { (i : List ℕ) → in_box (D.lengths dim) i ≡ true → is_place (place_of first (T.strides_of strides) i) ≡ true },
+}
+
+impl<D: Dimension, T: StrideList> Clone for Layout<D, T> {
+    ghost is_clone = { λ layout copy. (copy.first ≡ layout.first) × (D.lengths copy.dim ≡ D.lengths layout.dim) × (T.strides_of copy.strides ≡ T.strides_of layout.strides) };
+
+    fn clone(&self) -> Result<Self, AllocError> {
+        Ok(self.copied())
+    }
+}
+
+impl<D: Dimension, T: StrideList> Copy for Layout<D, T> {}
+
+impl<D: Dimension> Layout<D, D::Strides> {
+    /// The layout of a new array: the elements in an order, from place 0 on.
+    pub fn in_order(dim: D, order: Order) -> Self
+        requires { HasCheckedSize (D.lengths dim) }
+        ensures first { result.first ≡ 0 }
+        ensures lengths { D.lengths result.dim ≡ D.lengths dim }
+        ensures strides { D.Strides.strides_of result.strides ≡ ordered_strides order (D.lengths dim) }
+    {
+        let strides = strides_in(&dim, order);
+        Layout {
+            first: 0,
+            dim,
+            strides,
+        }
+    }
+
+    /// The layout under strides of the caller's.
+    pub fn strided(first: usize, dim: D, strides: D::Strides) -> Self
+        requires valid { IsValid first (D.lengths dim) (D.Strides.strides_of strides) }
+        ensures first { result.first ≡ first }
+        ensures lengths { D.lengths result.dim ≡ D.lengths dim }
+        ensures strides { D.Strides.strides_of result.strides ≡ D.Strides.strides_of strides }
+    {
+        Layout {
+            first,
+            dim,
+            strides,
+        }
+    }
+}
+
+impl<D: Dimension, T: StrideList> Layout<D, T> {
+    /// The same layout once more.
+    pub fn copied(&self) -> Self
+        ensures first { result.first ≡ self.now.first }
+        ensures lengths { D.lengths result.dim ≡ D.lengths self.now.dim }
+        ensures strides { T.strides_of result.strides ≡ T.strides_of self.now.strides }
+    {
+        Layout {
+            first: self.first,
+            dim: self.dim,
+            strides: self.strides,
+        }
+    }
+
+    /// The place of an index, None exactly outside the box.
+    pub fn place_of(&self, index: &[usize]) -> Option<usize>
+        ensures { MatchOption result (in_box (D.lengths self.now.dim) index.now ≡ false) (λ place. (in_box (D.lengths self.now.dim) index.now ≡ true) × (pos place ≡ place_of self.now.first (T.strides_of self.now.strides) index.now)) }
+    {
+        let lengths = self.dim.slice();
+        if is_in_box(lengths, index) {
+            Some(place_at(self.first, lengths, self.strides.slice(), index))
+        } else {
+            None
+        }
+    }
+    /// The place of an index of the box.
+    pub fn place_in_box(&self, index: &[usize]) -> usize
+        requires { in_box (D.lengths self.now.dim) index.now ≡ true }
+        ensures { pos result ≡ place_of self.now.first (T.strides_of self.now.strides) index.now }
+    {
+        place_at(self.first, self.dim.slice(), self.strides.slice(), index)
+    }
+}

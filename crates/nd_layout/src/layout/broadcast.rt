@@ -1,0 +1,82 @@
+//! Broadcast: a layout seen under a larger shape.
+
+ghost use Rattle.std.specs.Prelude.{◌↔◌, ◌≡◌, ◌<◌, ◌≤◌, ◌^◌, true, false, IsTrue, IsNone, IfSome, length, slice_index_or, pos};
+ghost use Rattle.nd_shape_and_slice.specs.Broadcast.{stretches, broadcasts, forget};
+ghost use Rattle.nd_layout.specs.Steps.{IsSeen};
+ghost use Rattle.nd_layout.specs.Strides.{broadcast_strides};
+
+use super::Layout;
+use nd_shape_and_slice::{Dimension, StrideList, size_of_shape_checked};
+
+/// Whether axis by axis a length is the one asked for, or 1.
+fn lengths_stretch(from: &[usize], to: &[usize]) -> bool
+    requires { length from.now ≡ length to.now }
+    ensures { IsTrue result ↔ (stretches from.now to.now ≡ true) }
+{
+    for axis in 0..from.len() {
+        if from[axis] != to[axis] && from[axis] != 1 {
+            return false;
+        }
+    }
+    true
+}
+
+/// Whether a shape can be seen as another.
+fn can_broadcast(from: &[usize], to: &[usize]) -> bool
+    ensures { IsTrue result ↔ (broadcasts from.now to.now ≡ true) }
+{
+    if size_of_shape_checked(to).is_err() || to.len() < from.len() {
+        return false;
+    }
+    lengths_stretch(from, &to[to.len() - from.len()..])
+}
+
+/// The stride of an axis under the shape asked for: 0 where the axis is new or has grown.
+fn stride_under(from: &[usize], strides: &[isize], to: &[usize], axis: usize) -> isize
+    requires as_many { length strides.now ≡ length from.now }
+    requires more { length from.now ≤ length to.now }
+    requires on { axis < length to.now }
+    ensures { result ≡ slice_index_or (broadcast_strides from.now strides.now to.now) axis (pos 0) }
+{
+    let added = to.len() - from.len();
+    if axis < added {
+        0
+    } else if from[axis - added] == to[axis] {
+        strides[axis - added]
+    } else {
+        0
+    }
+}
+
+/// The strides under the shape asked for.
+fn strides_under<E: Dimension>(from: &[usize], strides: &[isize], to: &E) -> E::Strides
+    requires as_many { length strides.now ≡ length from.now }
+    requires more { length from.now ≤ length (E.lengths to.now) }
+    ensures { E.Strides.strides_of result ≡ broadcast_strides from.now strides.now (E.lengths to.now) }
+{
+    let mut out = to.zero_strides();
+    for axis in 0..to.slice().len() {
+        out.set(axis, stride_under(from, strides, to.slice(), axis));
+    }
+    out
+}
+
+impl<D: Dimension, T: StrideList> Layout<D, T> {
+    /// The layout under a larger shape; None exactly where there is none.
+    pub fn broadcast<E: Dimension>(&self, to: E) -> Option<Layout<E, E::Strides>>
+        ensures none { IsNone result ↔ (broadcasts (D.lengths self.now.dim) (E.lengths to) ≡ false) }
+        ensures lengths { IfSome result (λ l. E.lengths l.dim ≡ E.lengths to) }
+        ensures strides { IfSome result (λ l. E.Strides.strides_of l.strides ≡ broadcast_strides (D.lengths self.now.dim) (T.strides_of self.now.strides) (E.lengths l.dim)) }
+        ensures seen { IfSome result (λ l. IsSeen self.now.first (D.lengths self.now.dim) (T.strides_of self.now.strides) l.first (E.lengths l.dim) (E.Strides.strides_of l.strides) (forget (D.lengths self.now.dim) (E.lengths l.dim))) }
+    {
+        if !can_broadcast(self.dim.slice(), to.slice()) {
+            return None;
+        }
+        let strides = strides_under(self.dim.slice(), self.strides.slice(), &to);
+        Some(Layout {
+            first: self.first,
+            dim: to,
+            strides,
+        })
+    }
+}

@@ -1,0 +1,148 @@
+//! What constructors are given: which strides an order gives, and whether strides of the caller's serve.
+
+ghost use Rattle.std.specs.Prelude.{◌↔◌, ◌≡◌, ◌<◌, ◌≤◌, ◌-◌, ◌*◌, ◌^◌, ◌||◌, nat_eq, ℕ, true, List, [], ◌∷◌, length, nat_abs, IsTrue, IfOk, IfErr, Some, None};
+ghost use Rattle.nd_shape_and_slice.specs.Shape.{size_of, HasCheckedSize};
+ghost use Rattle.nd_shape_and_slice.specs.Place.{span_of, IsSeparated};
+ghost use Rattle.nd_layout.specs.Strides.{reach_down};
+ghost use Rattle.nd_layout.specs.Given.{ordered_strides};
+ghost use Rattle.nd_layout.specs.Refusals.{slice_refusal, vec_refusal, elements_asked, is_separated};
+ghost use Rattle.nd_layout.specs.Steps.{IsValid};
+
+use crate::spans::{separated, span};
+use nd_shape_and_slice::{
+    Dimension, ErrorKind, Order, ShapeError, default_strides, fortran_strides, is_empty_shape,
+    size_of_shape_checked,
+};
+
+/// The strides that an order gives.
+pub(crate) fn strides_in<D: Dimension>(dim: &D, order: Order) -> D::Strides
+    requires { HasCheckedSize (D.lengths dim.now) }
+    ensures { D.Strides.strides_of result ≡ ordered_strides order (D.lengths dim.now) }
+{
+    match order {
+        Order::RowMajor => default_strides(dim),
+        Order::ColumnMajor => fortran_strides(dim),
+    }
+}
+
+/// How many elements a shape has; the cause where a slice of this many can't be seen in an order.
+pub fn size_in_slice(lengths: &[usize], count: usize) -> Result<usize, ShapeError>
+    ensures refused { IfErr result (λ e. slice_refusal lengths.now None count ≡ Some e) }
+    ensures accepted { IfOk result (λ _. slice_refusal lengths.now None count ≡ None) }
+    ensures checked { IfOk result (λ _. HasCheckedSize lengths.now) }
+    ensures size { IfOk result (λ size. size ≡ size_of lengths.now) }
+    ensures enough { IfOk result (λ size. size ≤ count) }
+{
+    let size = size_of_shape_checked(lengths)?;
+    if count < size {
+        Err(ShapeError::from_kind(ErrorKind::OutOfBounds))
+    } else {
+        Ok(size)
+    }
+}
+
+/// How many elements a shape has; the cause where a vector of this many can't be taken in an order.
+pub fn size_in_vec(lengths: &[usize], count: usize) -> Result<usize, ShapeError>
+    ensures refused { IfErr result (λ e. vec_refusal lengths.now None count ≡ Some e) }
+    ensures accepted { IfOk result (λ _. vec_refusal lengths.now None count ≡ None) }
+    ensures checked { IfOk result (λ _. HasCheckedSize lengths.now) }
+    ensures size { IfOk result (λ size. size ≡ size_of lengths.now) }
+    ensures enough { IfOk result (λ size. size ≤ count) }
+{
+    let size = size_in_slice(lengths, count)?;
+    if size < count {
+        Err(ShapeError::from_kind(ErrorKind::IncompatibleShape))
+    } else {
+        Ok(size)
+    }
+}
+
+/// How far one axis leads down from the first place.
+fn down_by(len: usize, stride: isize) -> usize
+    requires { (len - 1) * nat_abs stride < 2 ^ 63 }
+    ensures { result ≡ reach_down (len ∷ []) (stride ∷ []) }
+{
+    if stride < 0 {
+        len.saturating_sub(1) * stride.unsigned_abs()
+    } else {
+        0
+    }
+}
+
+/// How far all axes of negative stride lead down from the first place.
+fn first_place(lengths: &[usize], strides: &[isize]) -> usize
+    requires as_many { length strides.now ≡ length lengths.now }
+    requires spread { span_of lengths.now strides.now < 2 ^ 63 }
+    ensures { result ≡ reach_down lengths.now strides.now }
+{
+    let mut first = 0;
+    for axis in 0..lengths.len() {
+        first += down_by(lengths[axis], strides[axis]);
+    }
+    first
+}
+
+/// How many elements strides of the caller's ask for.
+fn count_asked(lengths: &[usize], strides: &[isize], span: usize) -> usize
+    requires is { span ≡ span_of lengths.now strides.now }
+    requires few { span < 2 ^ 63 }
+    ensures { result ≡ elements_asked lengths.now strides.now }
+{
+    if is_empty_shape(lengths) {
+        span
+    } else {
+        span + 1
+    }
+}
+
+/// The first place under strides of the caller's; the cause where a slice of this many elements can't be seen so.
+pub fn first_in_slice(
+    lengths: &[usize],
+    strides: &[isize],
+    count: usize,
+) -> Result<usize, ShapeError>
+    requires as_many { length strides.now ≡ length lengths.now }
+    requires few { length lengths.now ≤ 32 }
+    ensures refused { IfErr result (λ e. slice_refusal lengths.now (Some strides.now) count ≡ Some e) }
+    ensures accepted { IfOk result (λ _. slice_refusal lengths.now (Some strides.now) count ≡ None) }
+    ensures first { IfOk result (λ first. first ≡ reach_down lengths.now strides.now) }
+    ensures valid { IfOk result (λ first. IsValid first lengths.now strides.now) }
+    ensures enough { IfOk result (λ _. elements_asked lengths.now strides.now ≤ count) }
+{
+    size_of_shape_checked(lengths)?;
+    match span(lengths, strides) {
+        Some(span) if count_asked(lengths, strides, span) <= count => {
+            Ok(first_place(lengths, strides))
+        }
+        Some(_) => Err(ShapeError::from_kind(ErrorKind::OutOfBounds)),
+        None => Err(ShapeError::from_kind(ErrorKind::Overflow)),
+    }
+}
+
+/// Whether an array of its own may have these strides: no two indexes share an element.
+fn keeps_apart(lengths: &[usize], strides: &[isize]) -> bool
+    requires as_many { length strides.now ≡ length lengths.now }
+    requires few { length lengths.now ≤ 32 }
+    ensures { IsTrue result ↔ ((nat_eq (size_of lengths.now) 0 || is_separated lengths.now strides.now) ≡ true) }
+{
+    is_empty_shape(lengths) || separated(lengths, strides)
+}
+
+/// The first place under strides of the caller's; the cause where a vector of this many elements can't be taken so.
+pub fn first_in_vec(lengths: &[usize], strides: &[isize], count: usize) -> Result<usize, ShapeError>
+    requires as_many { length strides.now ≡ length lengths.now }
+    requires few { length lengths.now ≤ 32 }
+    ensures refused { IfErr result (λ e. vec_refusal lengths.now (Some strides.now) count ≡ Some e) }
+    ensures accepted { IfOk result (λ _. vec_refusal lengths.now (Some strides.now) count ≡ None) }
+    ensures first { IfOk result (λ first. first ≡ reach_down lengths.now strides.now) }
+    ensures valid { IfOk result (λ first. IsValid first lengths.now strides.now) }
+    ensures enough { IfOk result (λ _. elements_asked lengths.now strides.now ≤ count) }
+    ensures apart { IfOk result (λ _. 0 < size_of lengths.now → IsSeparated lengths.now strides.now) }
+{
+    let first = first_in_slice(lengths, strides, count)?;
+    if keeps_apart(lengths, strides) {
+        Ok(first)
+    } else {
+        Err(ShapeError::from_kind(ErrorKind::Unsupported))
+    }
+}

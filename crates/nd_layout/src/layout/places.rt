@@ -1,0 +1,47 @@
+//! Places, computed from a first place, strides and an index.
+
+ghost use Rattle.std.specs.Prelude.{◌↔◌, ◌≡◌, ◌<◌, ◌^◌, ℕ, true, IsTrue, List, length, pos, ◌+ℤ◌, ◌*ℤ◌};
+ghost use Rattle.nd_shape_and_slice.specs.Shape.{in_box, HasCheckedSize};
+ghost use Rattle.nd_shape_and_slice.specs.Place.{place_of};
+ghost use Rattle.nd_layout.specs.Places.{is_place};
+ghost use Rattle.nd_layout.specs.Places.{ReachesPlaces};
+
+/// Whether the index has one coordinate for each axis, each below its length.
+pub(crate) fn is_in_box(lengths: &[usize], index: &[usize]) -> bool
+    ensures { IsTrue result ↔ (in_box lengths.now index.now ≡ true) }
+{
+    if lengths.len() != index.len() {
+        return false;
+    }
+    for axis in 0..index.len() {
+        if index[axis] >= lengths[axis] {
+            return false;
+        }
+    }
+    true
+}
+
+/// The place that lies a number of steps from another.
+pub(crate) fn moved_by(place: usize, steps: usize, stride: isize) -> usize
+    requires from { place < 2 ^ 63 }
+    requires few { steps < 2 ^ 63 }
+    requires to { is_place (pos place +ℤ (pos steps *ℤ stride)) ≡ true }
+    ensures { pos result ≡ pos place +ℤ (pos steps *ℤ stride) }
+{
+    (place as isize + steps as isize * stride) as usize
+}
+
+/// The place of an index of the box.
+pub(crate) fn place_at(first: usize, lengths: &[usize], strides: &[isize], index: &[usize]) -> usize
+    requires as_many { length strides.now ≡ length lengths.now }
+    requires checked { HasCheckedSize lengths.now }
+    requires reach { ReachesPlaces first lengths.now strides.now }
+    requires inside { in_box lengths.now index.now ≡ true }
+    ensures { pos result ≡ place_of first strides.now index.now }
+{
+    let mut place = first;
+    for axis in 0..index.len() {
+        place = moved_by(place, index[axis], strides[axis]);
+    }
+    place
+}

@@ -1,0 +1,254 @@
+//! Slices of a layout's axes: of one axis, by a list of slices, and by a closure that is asked of each axis.
+
+ghost use Rattle.std.specs.Prelude.{◌≡◌, ◌<◌, ◌≤◌, ◌^◌, ℕ, ℤ, true, List, length, slice_index, slice_index_or, slice_get, slice_set, pos, replicate, ◌*ℤ◌, if◌then◌else◌};
+ghost use Rattle.nd_shape_and_slice.specs.declared.slice.Slice.{Slice};
+ghost use Rattle.nd_shape_and_slice.specs.Descriptions.{axes_from};
+ghost use Rattle.nd_shape_and_slice.specs.Slice.{fits_axis, sliced_length, sliced_shape, sliced_index};
+ghost use Rattle.nd_shape_and_slice.specs.SliceInfo.{reads_axis, axes_read, axes_kept, each_fits, fits_next, fits_shape, shape_after, index_before};
+ghost use Rattle.nd_layout.specs.Strides.{sliced_strides};
+ghost use Rattle.nd_shape_and_slice.specs.EachAxis.{each_sliced, each_sliced_index, AnswersFit, Answered};
+ghost use Rattle.nd_shape_and_slice.specs.Slicing.{collapsed_after, collapsed_before, shape_with, index_with, next_axis, kept_items, put_back, indexed_ones};
+ghost use Rattle.nd_layout.specs.Steps.{IsStep, IsValid};
+ghost use Rattle.nd_layout.specs.Strides.{stepped_stride};
+ghost use Rattle.nd_layout.specs.Strides.{FitsStride};
+
+use super::Layout;
+use super::axes::{leaves_none, length_at, stride_at};
+use super::places::moved_by;
+use nd_shape_and_slice::{
+    Axis, AxisDescription, Dimension, MAX_AXES, Slice, SliceInfoElem, StrideList, axes_kept,
+    coordinate_on_axis,
+};
+
+/// A layout of which one axis is changed: the first place, and the axis's length and stride.
+#[derive(Clone, Copy)]
+struct AxisChange {
+    first: usize,
+    len: usize,
+    stride: isize,
+}
+
+/// The stride of an axis after a slice that leaves it this length.
+fn stepped_by(stride: isize, len: usize, step: isize) -> isize
+    requires { 1 < len → FitsStride (stride *ℤ step) }
+    ensures { result ≡ stepped_stride len stride step }
+{
+    if len <= 1 { 0 } else { stride * step }
+}
+
+/// What a slice makes of an axis. The first place stays where no element is left.
+fn slice_of_axis(
+    first: usize,
+    lengths: &[usize],
+    strides: &[isize],
+    axis: usize,
+    slice: Slice,
+) -> AxisChange
+    requires valid { IsValid first lengths.now strides.now }
+    requires on { axis < length lengths.now }
+    requires fits { fits_axis (slice_index lengths.now axis) slice ≡ true }
+    ensures len { result.len ≡ sliced_length (slice_index lengths.now axis) slice }
+    ensures stride { result.stride ≡ stepped_stride result.len (slice_index_or strides.now axis (pos 0)) slice.step }
+    ensures step { IsStep first lengths.now strides.now result.first (slice_set lengths.now axis result.len) (slice_set strides.now axis result.stride) (sliced_index lengths.now axis slice) }
+{
+    let sliced = slice.on_axis(lengths[axis]);
+    let stride = strides[axis];
+    let first = if leaves_none(lengths, axis, sliced.len) {
+        first
+    } else {
+        moved_by(first, sliced.first, stride)
+    };
+    AxisChange {
+        first,
+        len: sliced.len,
+        stride: stepped_by(stride, sliced.len, slice.step),
+    }
+}
+
+impl<D: Dimension, T: StrideList> Layout<D, T> {
+    /// Keeps of one axis what the slice names.
+    pub fn slice_axis(&mut self, axis: usize, slice: Slice)
+        requires on { axis < length (D.lengths self.old.dim) }
+        requires fits { fits_axis (slice_index (D.lengths self.old.dim) axis) slice ≡ true }
+        ensures lengths { D.lengths self.new.dim ≡ sliced_shape (D.lengths self.old.dim) axis slice }
+        ensures strides { T.strides_of self.new.strides ≡ sliced_strides (D.lengths self.old.dim) (T.strides_of self.old.strides) axis slice }
+        ensures step { IsStep self.old.first (D.lengths self.old.dim) (T.strides_of self.old.strides) self.new.first (D.lengths self.new.dim) (T.strides_of self.new.strides) (sliced_index (D.lengths self.old.dim) axis slice) }
+    {
+        let after = slice_of_axis(
+            self.first,
+            self.dim.slice(),
+            self.strides.slice(),
+            axis,
+            slice,
+        );
+        self.first = after.first;
+        self.dim.set_length(axis, after.len);
+        self.strides.set(axis, after.stride);
+    }
+}
+
+/// The axis after the one that the element reads, if it reads one.
+fn axis_after(axis: usize, element: SliceInfoElem) -> usize
+    requires { axis < 2 ^ 63 }
+    ensures { result ≡ next_axis axis element }
+{
+    if element.reads_axis() { axis + 1 } else { axis }
+}
+
+/// The length of the axis that the element reads; 1 for a new axis.
+fn length_kept(lengths: &[usize], axis: usize, element: SliceInfoElem) -> usize
+    requires { reads_axis element ≡ true → axis < length lengths.now }
+    ensures { result ≡ (if reads_axis element then slice_index lengths.now axis else 1) }
+{
+    if element.reads_axis() {
+        length_at(lengths, axis)
+    } else {
+        1
+    }
+}
+
+/// The stride of the axis that the element reads; 0 for a new axis.
+fn stride_kept(strides: &[isize], axis: usize, element: SliceInfoElem) -> isize
+    requires { reads_axis element ≡ true → axis < length strides.now }
+    ensures { result ≡ (if reads_axis element then slice_index_or strides.now axis (pos 0) else pos 0) }
+{
+    if element.reads_axis() {
+        stride_at(strides, axis)
+    } else {
+        0
+    }
+}
+
+/// The dimension with this many axes of length 1.
+fn dim_of_ones<E: Dimension>(count: usize) -> E
+    requires few { count ≤ 32 }
+    requires room { E.has_axes count ≡ true }
+    ensures { E.lengths result ≡ replicate count 1 }
+{
+    let ones = [1; MAX_AXES];
+    E::from_lengths(&ones[..count]).unwrap()
+}
+
+/// The dimension of the axes that the elements keep, and of new axes of length 1.
+fn kept_dim<E: Dimension>(lengths: &[usize], elements: &[SliceInfoElem]) -> E
+    requires many { axes_read elements.now ≡ length lengths.now }
+    requires few { axes_kept elements.now ≤ 32 }
+    requires room { E.has_axes (axes_kept elements.now) ≡ true }
+    ensures { E.lengths result ≡ kept_items 1 elements.now lengths.now }
+{
+    let mut dim: E = dim_of_ones(axes_kept(elements));
+    let mut axis = 0;
+    let mut kept = 0;
+    for element in elements {
+        if !element.keeps_axis() {
+            axis += 1;
+            continue;
+        }
+        dim.set_length(kept, length_kept(lengths, axis, *element));
+        axis = axis_after(axis, *element);
+        kept += 1;
+    }
+    dim
+}
+
+/// The strides of the axes that the elements keep, and 0 for each new axis.
+fn kept_strides<E: Dimension>(dim: &E, list: &[isize], elements: &[SliceInfoElem]) -> E::Strides
+    requires many { axes_read elements.now ≡ length list.now }
+    requires kept { length (E.lengths dim.now) ≡ axes_kept elements.now }
+    ensures { E.Strides.strides_of result ≡ kept_items (pos 0) elements.now list.now }
+{
+    let mut strides = dim.zero_strides();
+    let mut axis = 0;
+    let mut kept = 0;
+    for element in elements {
+        if !element.keeps_axis() {
+            axis += 1;
+            continue;
+        }
+        strides.set(kept, stride_kept(list, axis, *element));
+        axis = axis_after(axis, *element);
+        kept += 1;
+    }
+    strides
+}
+
+impl<D: Dimension, T: StrideList> Layout<D, T> {
+    /// The layout without its indexed axes, which have length 1, and with the new ones, of stride 0.
+    fn kept_axes<E: Dimension>(&self, elements: &[SliceInfoElem]) -> Layout<E, E::Strides>
+        requires ones { indexed_ones elements.now (D.lengths self.now.dim) ≡ true }
+        requires few { axes_kept elements.now ≤ 32 }
+        requires room { E.has_axes (axes_kept elements.now) ≡ true }
+        ensures lengths { E.lengths result.dim ≡ kept_items 1 elements.now (D.lengths self.now.dim) }
+        ensures step { IsStep self.now.first (D.lengths self.now.dim) (T.strides_of self.now.strides) result.first (E.lengths result.dim) (E.Strides.strides_of result.strides) (put_back elements.now) }
+    {
+        let dim: E = kept_dim(self.dim.slice(), elements);
+        let strides = kept_strides(&dim, self.strides.slice(), elements);
+        Layout {
+            first: self.first,
+            dim,
+            strides,
+        }
+    }
+
+    /// What the elements make of the axes: a slice keeps its axis, an index takes it away, and new axes have length 1.
+    pub fn sliced<E: Dimension>(&self, elements: &[SliceInfoElem]) -> Layout<E, E::Strides>
+        requires fits { fits_shape (D.lengths self.now.dim) elements.now ≡ true }
+        requires room { E.has_axes (axes_kept elements.now) ≡ true }
+        ensures lengths { E.lengths result.dim ≡ shape_after (D.lengths self.now.dim) elements.now }
+        ensures step { IsStep self.now.first (D.lengths self.now.dim) (T.strides_of self.now.strides) result.first (E.lengths result.dim) (E.Strides.strides_of result.strides) (index_before (D.lengths self.now.dim) elements.now) }
+    {
+        let mut layout = self.copied();
+        layout.slice_axes(elements);
+        layout.kept_axes(elements)
+    }
+
+    /// What the element makes of the axis that it reads: the part that a slice names, or one coordinate.
+    fn slice_element(&mut self, axis: usize, element: SliceInfoElem)
+        requires { fits_next (slice_get (D.lengths self.old.dim) axis) element ≡ true }
+        ensures lengths { D.lengths self.new.dim ≡ shape_with (D.lengths self.old.dim) axis element }
+        ensures step { IsStep self.old.first (D.lengths self.old.dim) (T.strides_of self.old.strides) self.new.first (D.lengths self.new.dim) (T.strides_of self.new.strides) (index_with (D.lengths self.old.dim) axis element) }
+    {
+        match element {
+            SliceInfoElem::Slice { start, end, step } => {
+                self.slice_axis(axis, Slice::new(start, end, step))
+            }
+            SliceInfoElem::Index(coordinate) => {
+                let len = length_at(self.dim.slice(), axis);
+                let index = coordinate_on_axis(len, coordinate).unwrap_or(0);
+                self.collapse_axis(axis, index)
+            }
+            SliceInfoElem::NewAxis => {}
+        }
+    }
+
+    /// What the elements make of the axes that they read, in order. An indexed axis keeps length 1.
+    pub fn slice_axes(&mut self, elements: &[SliceInfoElem])
+        requires { each_fits (D.lengths self.old.dim) elements.now ≡ true }
+        ensures lengths { D.lengths self.new.dim ≡ collapsed_after (D.lengths self.old.dim) elements.now }
+        ensures step { IsStep self.old.first (D.lengths self.old.dim) (T.strides_of self.old.strides) self.new.first (D.lengths self.new.dim) (T.strides_of self.new.strides) (collapsed_before (D.lengths self.old.dim) elements.now) }
+    {
+        let mut axis = 0;
+        for element in elements {
+            self.slice_element(axis, *element);
+            axis = axis_after(axis, *element);
+        }
+    }
+}
+
+impl<D: Dimension, T: StrideList> Layout<D, T> {
+    /// Keeps of each axis what the closure answers, which is asked of axis 0 first.
+    pub fn slice_each_axis<F: FnMut(AxisDescription) -> Slice + Drop>(&mut self, mut f: F)
+        requires { AnswersFit F.pre F.step f (axes_from 0 (D.lengths self.old.dim) (T.strides_of self.old.strides)) }
+        ensures { (slices : List Slice) × (last : F) × Answered F.step f (axes_from 0 (D.lengths self.old.dim) (T.strides_of self.old.strides)) slices last × (D.lengths self.new.dim ≡ each_sliced (D.lengths self.old.dim) slices) × IsStep self.old.first (D.lengths self.old.dim) (T.strides_of self.old.strides) self.new.first (D.lengths self.new.dim) (T.strides_of self.new.strides) (each_sliced_index (D.lengths self.old.dim) slices) }
+    {
+        let before = self.copied();
+        for axis in 0..before.dim.ndim() {
+            let slice = f(AxisDescription {
+                axis: Axis(axis),
+                len: length_at(before.dim.slice(), axis),
+                stride: stride_at(before.strides.slice(), axis),
+            });
+            self.slice_axis(axis, slice);
+        }
+    }
+}

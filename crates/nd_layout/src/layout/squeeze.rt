@@ -1,0 +1,37 @@
+//! Layouts without their axes of length 1.
+
+ghost use Rattle.std.specs.Prelude.{◌≡◌, ◌<◌, length};
+ghost use Rattle.nd_shape_and_slice.specs.Squeeze.{squeezed_shape, squeezed_index, shape_squeezed_at, index_squeezed_at};
+ghost use Rattle.nd_layout.specs.Steps.{IsStep};
+
+use super::Layout;
+use super::axes::length_at;
+use nd_shape_and_slice::{Dimension, DynStrides, IxDyn, StrideList};
+
+impl Layout<IxDyn, DynStrides> {
+    /// The layout without an axis, where that has length 1 and isn't the only one.
+    fn squeezed_at(&self, axis: usize) -> Self
+        requires { axis < length (⟦<IxDyn as Dimension>⟧.lengths self.now.dim) }
+        ensures lengths { ⟦<IxDyn as Dimension>⟧.lengths result.dim ≡ shape_squeezed_at (⟦<IxDyn as Dimension>⟧.lengths self.now.dim) axis }
+        ensures step { IsStep self.now.first (⟦<IxDyn as Dimension>⟧.lengths self.now.dim) (⟦<DynStrides as StrideList>⟧.strides_of self.now.strides) result.first (⟦<IxDyn as Dimension>⟧.lengths result.dim) (⟦<DynStrides as StrideList>⟧.strides_of result.strides) (index_squeezed_at (⟦<IxDyn as Dimension>⟧.lengths self.now.dim) axis) }
+    {
+        if length_at(self.dim.slice(), axis) == 1 && self.dim.ndim() > 1 {
+            self.index_axis(axis, 0)
+        } else {
+            self.copied()
+        }
+    }
+
+    /// The layout without the axes of length 1, from the last axis to the first, as long as another is left.
+    pub fn squeezed(&self) -> Self
+        ensures lengths { ⟦<IxDyn as Dimension>⟧.lengths result.dim ≡ squeezed_shape (⟦<IxDyn as Dimension>⟧.lengths self.now.dim) }
+        ensures step { IsStep self.now.first (⟦<IxDyn as Dimension>⟧.lengths self.now.dim) (⟦<DynStrides as StrideList>⟧.strides_of self.now.strides) result.first (⟦<IxDyn as Dimension>⟧.lengths result.dim) (⟦<DynStrides as StrideList>⟧.strides_of result.strides) (squeezed_index (⟦<IxDyn as Dimension>⟧.lengths self.now.dim)) }
+    {
+        let mut layout = self.copied();
+        let count = self.dim.ndim();
+        for k in 0..count {
+            layout = layout.squeezed_at(count - 1 - k);
+        }
+        layout
+    }
+}
