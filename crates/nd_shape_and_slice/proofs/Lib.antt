@@ -16,3 +16,4 @@ pub mod SeenAxes
 pub mod Boxes
 pub mod FillLoop
 pub mod PermuteLoop
+pub mod EntryLoops

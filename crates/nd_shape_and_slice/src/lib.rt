@@ -10,6 +10,7 @@ mod dimension;
 #[cfg(test)]
 mod dimension_tests;
 mod dynamic;
+mod entries;
 mod errors;
 mod fixed;
 mod index;
