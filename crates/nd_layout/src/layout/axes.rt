@@ -28,38 +28,6 @@ pub fn stride_at(strides: &[isize], axis: usize) -> isize
     strides[axis]
 }
 
-/// Whether no element is left where one axis is shortened.
-pub(crate) fn leaves_none(lengths: &[usize], axis: usize, len: usize) -> bool
-    requires on { axis < length lengths.now }
-    requires shorter { len ≤ slice_index lengths.now axis }
-    ensures { IsTrue result ↔ (size_of (slice_set lengths.now axis len) ≡ 0) }
-{
-    len == 0 || is_empty_shape(lengths)
-}
-
-/// The first place where an axis's coordinate 0 has moved up by a number of coordinates. It stays where no element
-/// is left.
-fn first_after(
-    first: usize,
-    lengths: &[usize],
-    strides: &[isize],
-    axis: usize,
-    len: usize,
-    steps: usize,
-) -> usize
-    requires valid { IsValid first lengths.now strides.now }
-    requires on { axis < length lengths.now }
-    requires shorter { len ≤ slice_index lengths.now axis }
-    requires within { 0 < len → steps < slice_index lengths.now axis }
-    ensures { 0 < size_of (slice_set lengths.now axis len) → pos result ≡ pos first +ℤ (pos steps *ℤ slice_index_or strides.now axis (pos 0)) }
-{
-    if leaves_none(lengths, axis, len) {
-        first
-    } else {
-        moved_by(first, steps, stride_at(strides, axis))
-    }
-}
-
 /// The opposite stride; 0 where it doesn't fit.
 fn opposite(stride: isize) -> isize
     ensures { result ≡ opposite_stride stride }
@@ -67,64 +35,79 @@ fn opposite(stride: isize) -> isize
     stride.checked_neg().unwrap_or(0)
 }
 
-/// The first place where an axis is inverted.
-fn first_inverted(first: usize, lengths: &[usize], strides: &[isize], axis: usize) -> usize
-    requires valid { IsValid first lengths.now strides.now }
-    requires on { axis < length lengths.now }
-    ensures { IsStep first lengths.now strides.now result lengths.now (slice_set strides.now axis (opposite_stride (slice_index_or strides.now axis (pos 0)))) (inverted_index lengths.now axis) }
-{
-    let len = length_at(lengths, axis);
-    first_after(first, lengths, strides, axis, len, len.saturating_sub(1))
-}
-
-/// The first place where one coordinate of an axis is kept.
-pub(crate) fn first_collapsed(
-    first: usize,
-    lengths: &[usize],
-    strides: &[isize],
-    axis: usize,
-    index: usize,
-) -> usize
-    requires valid { IsValid first lengths.now strides.now }
-    requires on { axis < length lengths.now }
-    requires within { index < slice_index lengths.now axis }
-    ensures { IsStep first lengths.now strides.now result (collapsed_shape lengths.now axis) strides.now (collapsed_index axis index) }
-{
-    first_after(first, lengths, strides, axis, 1, index)
-}
-
-/// The first place of the part of an axis from a coordinate on.
-fn first_upper(
-    first: usize,
-    lengths: &[usize],
-    strides: &[isize],
-    axis: usize,
-    index: usize,
-) -> usize
-    requires valid { IsValid first lengths.now strides.now }
-    requires on { axis < length lengths.now }
-    requires within { index ≤ slice_index lengths.now axis }
-    ensures { IsStep first lengths.now strides.now result (upper_shape lengths.now axis index) strides.now (upper_index axis index) }
-{
-    let len = length_at(lengths, axis) - index;
-    first_after(first, lengths, strides, axis, len, index)
-}
-
 impl<D: Dimension, T: StrideList> Layout<D, T> {
+    /// Whether no element is left where one axis is shortened.
+    #[inline]
+    pub(crate) fn leaves_none(&self, axis: usize, len: usize) -> bool
+        requires on { axis < length (D.lengths self.now.dim) }
+        requires shorter { len ≤ slice_index (D.lengths self.now.dim) axis }
+        ensures { IsTrue result ↔ (size_of (slice_set (D.lengths self.now.dim) axis len) ≡ 0) }
+    {
+        len == 0 || is_empty_shape(self.dim.slice())
+    }
+
+    /// The first place where an axis's coordinate 0 has moved up by a number of coordinates. It stays where no element
+    /// is left.
+    #[inline]
+    fn first_after(&self, axis: usize, len: usize, steps: usize) -> usize
+        requires on { axis < length (D.lengths self.now.dim) }
+        requires shorter { len ≤ slice_index (D.lengths self.now.dim) axis }
+        requires within { 0 < len → steps < slice_index (D.lengths self.now.dim) axis }
+        ensures { 0 < size_of (slice_set (D.lengths self.now.dim) axis len) → pos result ≡ pos self.now.first +ℤ (pos steps *ℤ slice_index_or (T.strides_of self.now.strides) axis (pos 0)) }
+    {
+        if self.leaves_none(axis, len) {
+            self.first
+        } else {
+            moved_by(self.first, steps, self.strides.stride(axis))
+        }
+    }
+
+    /// The first place where an axis is inverted.
+    #[inline]
+    fn first_inverted(&self, axis: usize) -> usize
+        requires { axis < length (D.lengths self.now.dim) }
+        ensures { IsStep self.now.first (D.lengths self.now.dim) (T.strides_of self.now.strides) result (D.lengths self.now.dim) (slice_set (T.strides_of self.now.strides) axis (opposite_stride (slice_index_or (T.strides_of self.now.strides) axis (pos 0)))) (inverted_index (D.lengths self.now.dim) axis) }
+    {
+        let len = self.dim.length(axis);
+        self.first_after(axis, len, len.saturating_sub(1))
+    }
+
+    /// The first place where one coordinate of an axis is kept.
+    #[inline]
+    pub(crate) fn first_collapsed(&self, axis: usize, index: usize) -> usize
+        requires on { axis < length (D.lengths self.now.dim) }
+        requires within { index < slice_index (D.lengths self.now.dim) axis }
+        ensures { IsStep self.now.first (D.lengths self.now.dim) (T.strides_of self.now.strides) result (collapsed_shape (D.lengths self.now.dim) axis) (T.strides_of self.now.strides) (collapsed_index axis index) }
+    {
+        self.first_after(axis, 1, index)
+    }
+
+    /// The first place of the part of an axis from a coordinate on.
+    #[inline]
+    fn first_upper(&self, axis: usize, index: usize) -> usize
+        requires on { axis < length (D.lengths self.now.dim) }
+        requires within { index ≤ slice_index (D.lengths self.now.dim) axis }
+        ensures { IsStep self.now.first (D.lengths self.now.dim) (T.strides_of self.now.strides) result (upper_shape (D.lengths self.now.dim) axis index) (T.strides_of self.now.strides) (upper_index axis index) }
+    {
+        self.first_after(axis, self.dim.length(axis) - index, index)
+    }
+
     /// Turns an axis round.
+    #[inline]
     pub fn invert_axis(&mut self, axis: usize)
         requires { axis < length (D.lengths self.old.dim) }
         ensures lengths { D.lengths self.new.dim ≡ D.lengths self.old.dim }
         ensures strides { T.strides_of self.new.strides ≡ slice_set (T.strides_of self.old.strides) axis (opposite_stride (slice_index_or (T.strides_of self.old.strides) axis (pos 0))) }
         ensures step { IsStep self.old.first (D.lengths self.old.dim) (T.strides_of self.old.strides) self.new.first (D.lengths self.new.dim) (T.strides_of self.new.strides) (inverted_index (D.lengths self.old.dim) axis) }
     {
-        let first = first_inverted(self.first, self.dim.slice(), self.strides.slice(), axis);
-        let stride = opposite(stride_at(self.strides.slice(), axis));
+        let first = self.first_inverted(axis);
+        let stride = opposite(self.strides.stride(axis));
         self.first = first;
         self.strides.set(axis, stride);
     }
 
     /// Keeps one coordinate of an axis.
+    #[inline]
     pub fn collapse_axis(&mut self, axis: usize, index: usize)
         requires on { axis < length (D.lengths self.old.dim) }
         requires within { index < slice_index (D.lengths self.old.dim) axis }
@@ -132,18 +115,13 @@ impl<D: Dimension, T: StrideList> Layout<D, T> {
         ensures strides { T.strides_of self.new.strides ≡ T.strides_of self.old.strides }
         ensures step { IsStep self.old.first (D.lengths self.old.dim) (T.strides_of self.old.strides) self.new.first (D.lengths self.new.dim) (T.strides_of self.new.strides) (collapsed_index axis index) }
     {
-        let first = first_collapsed(
-            self.first,
-            self.dim.slice(),
-            self.strides.slice(),
-            axis,
-            index,
-        );
+        let first = self.first_collapsed(axis, index);
         self.first = first;
         self.dim.set_length(axis, 1);
     }
 
     /// Keeps the coordinates of an axis below this one.
+    #[inline]
     pub fn keep_lower(&mut self, axis: usize, index: usize)
         requires on { axis < length (D.lengths self.old.dim) }
         requires within { index ≤ slice_index (D.lengths self.old.dim) axis }
@@ -155,6 +133,7 @@ impl<D: Dimension, T: StrideList> Layout<D, T> {
     }
 
     /// Keeps the coordinates of an axis from this one on.
+    #[inline]
     pub fn keep_upper(&mut self, axis: usize, index: usize)
         requires on { axis < length (D.lengths self.old.dim) }
         requires within { index ≤ slice_index (D.lengths self.old.dim) axis }
@@ -162,14 +141,8 @@ impl<D: Dimension, T: StrideList> Layout<D, T> {
         ensures strides { T.strides_of self.new.strides ≡ T.strides_of self.old.strides }
         ensures step { IsStep self.old.first (D.lengths self.old.dim) (T.strides_of self.old.strides) self.new.first (D.lengths self.new.dim) (T.strides_of self.new.strides) (upper_index axis index) }
     {
-        let first = first_upper(
-            self.first,
-            self.dim.slice(),
-            self.strides.slice(),
-            axis,
-            index,
-        );
-        let len = length_at(self.dim.slice(), axis);
+        let first = self.first_upper(axis, index);
+        let len = self.dim.length(axis);
         self.first = first;
         self.dim.set_length(axis, len - index);
     }

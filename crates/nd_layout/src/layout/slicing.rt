@@ -13,7 +13,7 @@ ghost use Rattle.nd_layout.specs.Strides.{stepped_stride};
 ghost use Rattle.nd_layout.specs.Strides.{FitsStride};
 
 use super::Layout;
-use super::axes::{leaves_none, length_at, stride_at};
+use super::axes::{length_at, stride_at};
 use super::places::moved_by;
 use nd_shape_and_slice::{
     Axis, AxisDescription, Dimension, MAX_AXES, Slice, SliceInfoElem, StrideList, axes_kept,
@@ -36,37 +36,32 @@ fn stepped_by(stride: isize, len: usize, step: isize) -> isize
     if len <= 1 { 0 } else { stride * step }
 }
 
-/// What a slice makes of an axis. The first place stays where no element is left.
-fn slice_of_axis(
-    first: usize,
-    lengths: &[usize],
-    strides: &[isize],
-    axis: usize,
-    slice: Slice,
-) -> AxisChange
-    requires valid { IsValid first lengths.now strides.now }
-    requires on { axis < length lengths.now }
-    requires fits { fits_axis (slice_index lengths.now axis) slice ≡ true }
-    ensures len { result.len ≡ sliced_length (slice_index lengths.now axis) slice }
-    ensures stride { result.stride ≡ stepped_stride result.len (slice_index_or strides.now axis (pos 0)) slice.step }
-    ensures step { IsStep first lengths.now strides.now result.first (slice_set lengths.now axis result.len) (slice_set strides.now axis result.stride) (sliced_index lengths.now axis slice) }
-{
-    let sliced = slice.on_axis(lengths[axis]);
-    let stride = strides[axis];
-    let first = if leaves_none(lengths, axis, sliced.len) {
-        first
-    } else {
-        moved_by(first, sliced.first, stride)
-    };
-    AxisChange {
-        first,
-        len: sliced.len,
-        stride: stepped_by(stride, sliced.len, slice.step),
-    }
-}
-
 impl<D: Dimension, T: StrideList> Layout<D, T> {
+    /// What a slice makes of an axis. The first place stays where no element is left.
+    #[inline]
+    fn slice_of_axis(&self, axis: usize, slice: Slice) -> AxisChange
+        requires on { axis < length (D.lengths self.now.dim) }
+        requires fits { fits_axis (slice_index (D.lengths self.now.dim) axis) slice ≡ true }
+        ensures len { result.len ≡ sliced_length (slice_index (D.lengths self.now.dim) axis) slice }
+        ensures stride { result.stride ≡ stepped_stride result.len (slice_index_or (T.strides_of self.now.strides) axis (pos 0)) slice.step }
+        ensures step { IsStep self.now.first (D.lengths self.now.dim) (T.strides_of self.now.strides) result.first (slice_set (D.lengths self.now.dim) axis result.len) (slice_set (T.strides_of self.now.strides) axis result.stride) (sliced_index (D.lengths self.now.dim) axis slice) }
+    {
+        let sliced = slice.on_axis(self.dim.length(axis));
+        let stride = self.strides.stride(axis);
+        let first = if self.leaves_none(axis, sliced.len) {
+            self.first
+        } else {
+            moved_by(self.first, sliced.first, stride)
+        };
+        AxisChange {
+            first,
+            len: sliced.len,
+            stride: stepped_by(stride, sliced.len, slice.step),
+        }
+    }
+
     /// Keeps of one axis what the slice names.
+    #[inline]
     pub fn slice_axis(&mut self, axis: usize, slice: Slice)
         requires on { axis < length (D.lengths self.old.dim) }
         requires fits { fits_axis (slice_index (D.lengths self.old.dim) axis) slice ≡ true }
@@ -74,13 +69,7 @@ impl<D: Dimension, T: StrideList> Layout<D, T> {
         ensures strides { T.strides_of self.new.strides ≡ sliced_strides (D.lengths self.old.dim) (T.strides_of self.old.strides) axis slice }
         ensures step { IsStep self.old.first (D.lengths self.old.dim) (T.strides_of self.old.strides) self.new.first (D.lengths self.new.dim) (T.strides_of self.new.strides) (sliced_index (D.lengths self.old.dim) axis slice) }
     {
-        let after = slice_of_axis(
-            self.first,
-            self.dim.slice(),
-            self.strides.slice(),
-            axis,
-            slice,
-        );
+        let after = self.slice_of_axis(axis, slice);
         self.first = after.first;
         self.dim.set_length(axis, after.len);
         self.strides.set(axis, after.stride);
