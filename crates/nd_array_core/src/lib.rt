@@ -18,7 +18,6 @@ pub use base::indexing::IndexLonger;
 pub use base::storage::{Data, DataMut, OwnedRepr, RegionRepr, ViewMutRepr, ViewRepr};
 pub use base::writing::GetMut;
 pub use layout::splitting::MultiSliceArg;
-pub use scoped::pairs as scoped_pairs;
 
 #[cfg(test)]
 mod axes_tests;

@@ -7,7 +7,7 @@ ghost use Rattle.nd_array_core.specs.Placed.{element_placed};
 ghost use Rattle.nd_array_core.specs.scoped.Tasks.{view_borrow, lent_borrow, lent_view, view_left, CanBeSeen};
 
 use nd_array_core::scoped::LentView;
-use nd_array_core::scoped_pairs::PairTask;
+use nd_array_core::scoped::PairTask;
 use nd_array_core::{ArrayBase, DataMut, ViewMutRepr};
 use nd_shape_and_slice::{Axis, Dimension, NoMemory};
 

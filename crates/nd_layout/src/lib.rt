@@ -16,6 +16,3 @@ pub use layout::given::{first_in_slice, first_in_vec, size_in_slice, size_in_vec
 pub use reshape::reshape_strides;
 pub use runs::{is_run, is_standard};
 pub use spans::{separated, span};
-
-#[cfg(test)]
-mod tests;

@@ -8,6 +8,3 @@ mod shared;
 pub use region::Region;
 pub use scoped::with_region;
 pub use shared::SharedRegion;
-
-#[cfg(test)]
-mod tests;

@@ -1,12 +1,15 @@
 -- The indexes of a box one by one, and which of them a map leads to an index.
 use Rattle.std.proofs.Common.{◌≡◌, ℕ, zero, suc, ◌<◌, Bool, true, false, List, [], ◌∷◌, length, get_or, Some, None, refl, sym, ap, ◌∙◌, arith, if◌then◌else◌}
+use Rattle.std.specs.Bool.{Decides}
+use Rattle.std.specs.Cmp.{unsigned_Decides}
+use Rattle.std.specs.Cmp.Lexicographic.{pointwise}
 use Rattle.std.specs.List.{find}
+use Rattle.std.specs.Prelude.{nat_eq}
+use Rattle.std.proofs.lemmas.Slice.Eq.{slice_eq-Decides}
 use Rattle.nd_shape_and_slice.specs.Shape.{in_box, size_of, row_rank, index_at, indexes_of}
 use Rattle.nd_shape_and_slice.proofs.RowMajor.{row_rank_below}
 use Rattle.nd_shape_and_slice.proofs.RankIndexes.{in_box-index_at, index_at-row_rank}
 use Rattle.nd_shape_and_slice.proofs.Ranks.{length-indexes_of, get_or-indexes_of}
-use Rattle.nd_array_core.specs.base.Writes.{is_index}
-use Rattle.nd_array_core.proofs.WriteStep.{is_index_refl, is_index_same}
 use Rattle.nd_run.specs.Acts.{leading_to}
 
 -- ---- the first item that passes a test
@@ -37,13 +40,17 @@ module _ {X : Type 0} (p : X → Bool) where
 
 -- ---- the index that a map leads to another
 
+-- the test finds the same coordinates
+same_index : (i j : List ℕ) → Decides (pointwise nat_eq i j) (i ≡ j)
+same_index i j = slice_eq-Decides unsigned_Decides i j (pointwise nat_eq i j) refl
+
 module _ (shape : List ℕ) (source : List ℕ → List ℕ) (i : List ℕ) where
   pub leads_here : (j : List ℕ) → leading_to shape source i ≡ Some j → (in_box shape j ≡ true) × (source j ≡ i)
   leads_here j e =
-      let f = find_some (λ (k : List ℕ). is_index (source k) i) (indexes_of shape) j [] e in
+      let f = find_some (λ (k : List ℕ). pointwise nat_eq (source k) i) (indexes_of shape) j [] e in
       let below : f.place < size_of shape = omega (arith, f.below, length-indexes_of shape) in
       let at : index_at shape f.place ≡ j = sym (get_or-indexes_of shape f.place below) ∙ f.is in
-      (ap (in_box shape) (sym at) ∙ in_box-index_at shape f.place below, is_index_same (source j) i f.passes)
+      (ap (in_box shape) (sym at) ∙ in_box-index_at shape f.place below, (same_index (source j) i).0 f.passes)
 
   pub leads_nowhere : (j : List ℕ) → leading_to shape source i ≡ None → in_box shape j ≡ true → source j ≡ i → ⊥
   leads_nowhere j e h same =
@@ -51,6 +58,6 @@ module _ (shape : List ℕ) (source : List ℕ → List ℕ) (i : List ℕ) wher
       let below : rank < size_of shape = row_rank_below shape j h in
       let on : rank < length (indexes_of shape) = omega (arith, below, length-indexes_of shape) in
       let at : get_or (indexes_of shape) rank [] ≡ j = get_or-indexes_of shape rank below ∙ index_at-row_rank shape j h in
-      let no : is_index (source j) i ≡ false = ap (λ (k : List ℕ). is_index (source k) i) (sym at) ∙ find_none (λ (k : List ℕ). is_index (source k) i) (indexes_of shape) rank [] e on in
-      let yes : is_index (source j) i ≡ true = ap (λ k. is_index k i) same ∙ is_index_refl i in
+      let no : pointwise nat_eq (source j) i ≡ false = ap (λ (k : List ℕ). pointwise nat_eq (source k) i) (sym at) ∙ find_none (λ (k : List ℕ). pointwise nat_eq (source k) i) (indexes_of shape) rank [] e on in
+      let yes : pointwise nat_eq (source j) i ≡ true = (same_index (source j) i).1 same in
       absurd cc

@@ -9,9 +9,9 @@ use Rattle.nd_run.specs.Calls.{AskedStep, asked_step}
 use Rattle.nd_run.specs.Steps.{Test, first_failed, keep_tests, keep_refusal, unless, shape_after, index_before}
 use Rattle.nd_run.specs.Acts.{path_tests, path_refusal}
 use Rattle.nd_run.specs.Fold.{changed, kept, and_then, followed, LeadsAlong}
+use Rattle.nd_run.specs.Laws.{PathsLeadAlong}
 use Rattle.nd_run.proofs.FoldLemmas.{seen_is}
 use Rattle.nd_run.proofs.StepTests.{keep_allows}
-use Rattle.nd_run.proofs.PathLaws.{path_leads}
 
 pub is_none : {Y : Type 0} (o : Option Y) → is_some o ≡ false → o ≡ None
 is_none None e = refl
@@ -84,9 +84,9 @@ module _ {X : Type 0} where
   led_stops_at None path k step start now some e lt at so_far = absurd cc
   led_stops_at (Some cause) path k step start now some e lt at so_far = sym (led_stops path k step start now cause lt at (sym e) so_far)
 
-  pub led_all : (path : List Step) (k : ℕ) (start now : Meaning X) → length path ≤ k → led (map asked_step (drop k path)) now ≡ led (map asked_step path) start
+  pub led_all : PathsLeadAlong X → (path : List Step) (k : ℕ) (start now : Meaning X) → length path ≤ k → led (map asked_step (drop k path)) now ≡ led (map asked_step path) start
       → (path_refusal (map asked_step path) start.shape ≡ None) × LeadsAlong (map asked_step path) start now
-  led_all path k start now all so_far =
+  led_all leads path k start now all so_far =
       let whole : led (map asked_step path) start ≡ Ok now = sym so_far ∙ ap (λ steps. led (map asked_step steps) now) (drop_all k path all) in
       let h = led_allowed (map asked_step path) start now whole in
-      (h.0, path_leads (map asked_step path) start now h.1)
+      (h.0, leads (map asked_step path) start now h.1)

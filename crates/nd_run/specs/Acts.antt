@@ -1,10 +1,11 @@
 -- What an act makes of an array, and what a write through a path, or to the two parts of a split, leaves of the array.
-use Rattle.std.specs.Prelude.{ℕ, ◌-◌, nat_lt, nat_le, Bool, true, false, List, [], ◌∷◌, ◌++◌, slice_index, slice_set, Option, None, Some, Result, if◌then◌else◌}
+use Rattle.std.specs.Prelude.{ℕ, ◌-◌, nat_eq, nat_lt, nat_le, Bool, true, false, List, [], ◌∷◌, ◌++◌, slice_index, slice_set, Option, None, Some, Result, if◌then◌else◌}
+use Rattle.std.specs.Cmp.Lexicographic.{pointwise}
 use Rattle.std.specs.List.{find}
 use Rattle.nd_shape_and_slice.specs.Shape.{in_box, indexes_of}
 use Rattle.nd_shape_and_slice.specs.Maps.{lower_shape, upper_shape, upper_index}
 use Rattle.nd_array_core.specs.Meaning.{Meaning, inside, seen}
-use Rattle.nd_array_core.specs.base.Writes.{is_index, with_element_at, with_swapped}
+use Rattle.nd_array_core.specs.base.Writes.{with_element_at, with_swapped}
 use Rattle.nd_run.specs.Calls.{AskedStep, Acting, Filling, Setting, Swapping}
 use Rattle.nd_run.specs.Steps.{Test, first_failed, has_axis, keep_tests, unless, shape_after, shape_along, index_along}
 use Rattle.nd_run.specs.declared.cause.Cause.{Cause}
@@ -61,7 +62,7 @@ seen_along path m = seen (shape_along path m.shape) (index_along path m.shape) m
 
 -- the index of a box that a map leads to this one: the first of them
 abbrev pub leading_to : List ℕ → (List ℕ → List ℕ) → List ℕ → Option (List ℕ)
-leading_to shape source i = find (λ j. is_index (source j) i) (indexes_of shape)
+leading_to shape source i = find (λ j. pointwise nat_eq (source j) i) (indexes_of shape)
 
 -- the new element of that index, or the old one where there is no such index
 abbrev pub new_or_old : {A : Type 0} → (List ℕ → Option A) → Option A → Option (List ℕ) → Option A

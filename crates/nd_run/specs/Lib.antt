@@ -14,3 +14,4 @@ pub mod Text
 pub mod Watched
 pub mod Words
 pub mod Fold
+pub mod Laws

@@ -73,7 +73,7 @@ pub enum Call<A> {
 pub enum Reply<A> {
     /// The call was carried out.
     Done,
-    /// Nothing was changed, for this cause.
+    /// Nothing was changed, for the cause of this number (`Cause::number`).
     Refused(u8),
     /// The lengths.
     Shape(Vec<usize>),

@@ -66,7 +66,8 @@ fn stopped(fault: RunFault<i64>) -> Outcome
 }
 
 /// Reads a script to the end of the input, carries it out, and writes its replies and its end. Answers the
-/// status: 3 where a call of the reader or of the writer failed.
+/// status: 0, or 1 where a line is bad, 2 where memory was refused, and 3 where a call of the reader or of the
+/// writer failed. ndarray has no such call.
 pub fn drive<R: Read, W: Write>(
     alloc: Global,
     input: &mut Watched<R>,

@@ -168,3 +168,6 @@ pub fn conclude_whole<W: Write>(
     flush(output);
     whole_status(output.failed())
 }
+
+#[cfg(test)]
+mod tests;

@@ -109,3 +109,6 @@ pub fn read_script(alloc: Global, text: &[u8]) -> Result<Script, ScriptError>
 {
     whole_script(alloc, text)
 }
+
+#[cfg(test)]
+mod tests;

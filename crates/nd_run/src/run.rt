@@ -7,6 +7,7 @@ ghost use Rattle.nd_run.specs.Fold.{followed, LeadsAlong, answered, reply_to, af
 
 use crate::calls::{Call, Question, Reply, Step};
 use crate::cause::Cause;
+use crate::laws::paths_lead_along;
 use crate::steps::{advance, keep_refusal, take_step};
 use crate::write::{Acted, write_parts, write_through};
 use nd_array_core::{Array, ArrayView};
@@ -25,6 +26,7 @@ fn follow_path<'a, A>(
     for step in path {
         view = advance(view, step)?;
     }
+    paths_lead_along::<A>();
     Ok(view)
 }
 
@@ -127,7 +129,8 @@ pub enum RunFault<A> {
 }
 
 /// Carries out the calls one after another, each with one reply. The list of replies is asked for before the
-/// first call. Where memory is refused, the replies are those to the calls before the one that lacked it.
+/// first call. A call that is refused changes nothing. Where memory is refused, the replies are those to the calls
+/// before the one that lacked it. ndarray has no such call.
 pub fn run<A: Clone + Drop>(
     alloc: Global,
     start: Array<A, IxDyn>,

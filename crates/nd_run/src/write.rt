@@ -12,10 +12,11 @@ ghost use Rattle.nd_run.specs.Fold.{LeadsAlong, reply_to, after, MayLackMemory};
 
 use crate::calls::{Act, Reply, Step};
 use crate::cause::Cause;
+use crate::laws::paths_lead_along;
 use crate::steps::{keep_refusal, take_step};
 use nd_array_core::laws::{distinct_places, elements_have_places, nothing_outside};
 use nd_array_core::scoped::{LentView, ViewTask};
-use nd_array_core::scoped_pairs::PairTask;
+use nd_array_core::scoped::PairTask;
 use nd_array_core::{Array, ArrayBase, Data, DataMut, ViewMutRepr};
 use nd_shape_and_slice::{Axis, Dimension, IxDyn};
 use std::alloc::AllocError;
@@ -37,6 +38,7 @@ fn go_along<S: Data>(
         }
         array = take_step(array, step);
     }
+    paths_lead_along::<usize>();
     (array, None)
 }
 

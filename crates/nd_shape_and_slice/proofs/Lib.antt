@@ -12,8 +12,8 @@ pub mod SliceRows
 pub mod Multiples
 pub mod Progressions
 pub mod CommonElements
-pub mod SeenAxes
 pub mod Boxes
 pub mod FillLoop
 pub mod PermuteLoop
+pub mod SeenAxes
 pub mod EntryLoops

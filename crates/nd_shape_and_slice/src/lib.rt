@@ -3,28 +3,20 @@
 
 mod axes;
 mod builder;
-#[cfg(test)]
-mod builder_tests;
 mod descriptions;
 mod dimension;
-#[cfg(test)]
-mod dimension_tests;
 mod dynamic;
 mod entries;
 mod errors;
 mod fixed;
 mod index;
 mod meeting;
-#[cfg(test)]
-mod meeting_tests;
 mod rank;
 mod resize;
 mod size;
 mod slice;
 mod slice_info;
 mod strides;
-#[cfg(test)]
-mod tests;
 
 pub use axes::{Axis, axes_fit};
 pub use builder::{IntoStrideShape, Order, Shape, ShapeArg, ShapeBuilder, StrideShape};

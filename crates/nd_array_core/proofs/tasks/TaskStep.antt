@@ -6,12 +6,11 @@ use Rattle.nd_shape_and_slice.specs.Place.{place_of}
 use Rattle.nd_region.specs.Places.{names}
 use Rattle.nd_region.proofs.Names.{named_by, named_at}
 use Rattle.nd_array_core.specs.Places.{stored_at, names_place, place_number, HoldsAll}
-use Rattle.nd_array_core.specs.Placed.{Placed, found_at, element_placed}
+use Rattle.nd_array_core.specs.Placed.{found_at}
 use Rattle.nd_array_core.specs.Meaning.{inside}
 use Rattle.nd_array_core.specs.scoped.Scoped.{with_named}
-use Rattle.nd_array_core.specs.scoped.Tasks.{laid, IsNamedMap, IsViewOf, IsSeenThrough, LiesSoundly}
-use Rattle.nd_array_core.specs.base.Writes.{OthersStay, with_element_at}
-use Rattle.nd_array_core.proofs.WriteStep.{is_index_refl}
+use Rattle.nd_array_core.specs.scoped.Tasks.{laid, IsNamedMap, IsViewOf, LiesSoundly}
+use Rattle.nd_array_core.specs.base.Writes.{OthersStay}
 
 module _ {A : Type 0} (m : ℕ → Option A) (first : ℕ) (ns : List ℕ) (ss : List ℤ) where
   -- the place of an index, and the element there
@@ -95,11 +94,3 @@ shown_number stored (negsuc n) = refl
 pub shown_inside : {A : Type 0} (stored : ℕ → Option A) (ns i : List ℕ) (z : ℤ) (b : Bool) → in_box ns i ≡ b → found_at stored (inside ns i (place_number z)) ≡ inside ns i (stored_at stored z)
 shown_inside stored ns i z true h = rw h (shown_number stored z)
 shown_inside stored ns i z false h = rw h refl
-
--- the view through a map shows an element where the array does
-pub through : {A : Type 0} (shape : List ℕ) (source : List ℕ → List ℕ) (place : List ℕ → Option ℕ) (at : List ℕ → Option A) (w : Placed A) (i : List ℕ) (x : A) → IsSeenThrough shape source place at w → in_box shape i ≡ true → element_placed w i ≡ Some x → at (source i) ≡ Some x
-through shape source place at w i x seen h e = sym (seen.same_element i ∙ ap (λ (b : Bool). if b then at (source i) else None) h) ∙ e
-
--- and shows what was put at an index
-pub put_there : {A : Type 0} (at : List ℕ → Option A) (i : List ℕ) (x : A) → with_element_at at i x i ≡ Some x
-put_there at i x = ap (λ (b : Bool). if b then Some x else at i) (is_index_refl i)

@@ -5,7 +5,6 @@ use Rattle.nd_array_core.specs.Meaning.{meaning_of}
 use Rattle.nd_run.proofs.FoldLemmas.{path_refused}
 use Rattle.nd_run.specs.Calls.{asked_step}
 use Rattle.nd_run.specs.Fold.{followed}
-use Rattle.nd_run.proofs.PathLaws.{path_leads}
 use Rattle.nd_run.proofs.run.follow_path.Goals as goal
 
 pub returns-in_err-view-clause-path : goal.returns-in_err-view-clause-path
@@ -18,4 +17,4 @@ returns-clause-along g c =
     let old = meaning_of c.args.view in
     let end = meaning_of c.loop-step.view in
     let led : followed (map asked_step c.args.path.now) old ≡ Ok end = sym c.loop-step.invariant ∙ ap (λ path. followed (map asked_step path) end) (drop_all c.loop-step.step-index c.args.path.now c.loop-step-test.false) in
-    path_leads (map asked_step c.args.path.now) old end led
+    c.paths_lead_along.ensures (map asked_step c.args.path.now) old end led

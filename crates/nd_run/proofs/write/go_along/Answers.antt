@@ -23,7 +23,7 @@ loop-step-preserved g c =
     }
 
 pub returns-clause-refused : goal.returns-clause-refused
-returns-clause-refused g c = sym (led_all c.args.path.now c.loop-step.step-index (places_in (placed_of c.args.array)) (places_in (placed_of c.loop-step.array)) c.loop-step-test.false c.loop-step.invariant.led).0
+returns-clause-refused g c = sym (led_all c.paths_lead_along.ensures c.args.path.now c.loop-step.step-index (places_in (placed_of c.args.array)) (places_in (placed_of c.loop-step.array)) c.loop-step-test.false c.loop-step.invariant.led).0
 
 pub returns-clause-along : goal.returns-clause-along
-returns-clause-along g c = λ _. (led_all c.args.path.now c.loop-step.step-index (places_in (placed_of c.args.array)) (places_in (placed_of c.loop-step.array)) c.loop-step-test.false c.loop-step.invariant.led).1
+returns-clause-along g c = λ _. (led_all c.paths_lead_along.ensures c.args.path.now c.loop-step.step-index (places_in (placed_of c.args.array)) (places_in (placed_of c.loop-step.array)) c.loop-step-test.false c.loop-step.invariant.led).1

@@ -1,0 +1,13 @@
+//! Tests of `nd_array_core` by its public calls: constructors, indexes, axes, layout calls and broadcasts.
+#![tactic(auto)]
+
+#[cfg(test)]
+mod axes;
+#[cfg(test)]
+mod broadcasts;
+#[cfg(test)]
+mod constructors;
+#[cfg(test)]
+mod indexes;
+#[cfg(test)]
+mod layout_calls;

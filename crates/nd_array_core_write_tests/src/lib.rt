@@ -1,0 +1,13 @@
+//! Tests of `nd_array_core` by its public calls: elements written and filled, several slices at once, scoped calls.
+#![tactic(auto)]
+
+#[cfg(test)]
+mod elements;
+#[cfg(test)]
+mod fill;
+#[cfg(test)]
+mod scoped_calls;
+#[cfg(test)]
+mod several_slices;
+#[cfg(test)]
+mod views_of_slices;

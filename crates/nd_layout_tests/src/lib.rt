@@ -1,0 +1,11 @@
+//! Tests of `nd_layout` by its public calls: worked layouts, and the search for strides against every small layout.
+#![tactic(auto)]
+
+#[cfg(test)]
+mod growths;
+#[cfg(test)]
+mod reshapes;
+#[cfg(test)]
+mod small_layouts;
+#[cfg(test)]
+mod spans_and_runs;

@@ -1,0 +1,193 @@
+//! The search for strides against every small layout.
+
+ghost use Rattle.std.specs.Prelude.{◌≤◌};
+
+use crate::reshapes::{count, is_layout, reshaped};
+use nd_layout::{separated, span};
+use nd_shape_and_slice::Order;
+
+/// The offset of the index of this rank.
+fn offset_at(lengths: &[usize], strides: &[isize], order: Order, rank: usize) -> isize {
+    let mut rest = rank;
+    let mut offset: isize = 0;
+    for place in 0..lengths.len() {
+        let axis = match order {
+            Order::RowMajor => lengths.len() - 1 - place,
+            Order::ColumnMajor => place,
+        };
+        let length = lengths[axis];
+        if length == 0 || axis >= strides.len() {
+            return 0;
+        }
+        let coordinate = isize::try_from(rest % length).unwrap_or(0);
+        offset = offset.wrapping_add(strides[axis].wrapping_mul(coordinate));
+        rest /= length;
+    }
+    offset
+}
+
+/// Whether two layouts have the same offset at each rank below `size`.
+fn same_offsets(
+    old: (&[usize], &[isize]),
+    new: (&[usize], &[isize]),
+    order: Order,
+    size: usize,
+) -> bool {
+    for rank in 0..size {
+        if offset_at(old.0, old.1, order, rank) != offset_at(new.0, new.1, order, rank) {
+            return false;
+        }
+    }
+    true
+}
+
+/// The only strides that can serve: each is the offset at the rank of its axis's unit index.
+fn forced(lengths: &[usize], strides: &[isize], new: &[usize], order: Order) -> [isize; 3] {
+    let mut result = [0; 3];
+    let mut rank: usize = 1;
+    for place in 0..new.len() {
+        let axis = match order {
+            Order::RowMajor => new.len() - 1 - place,
+            Order::ColumnMajor => place,
+        };
+        if new[axis] > 1 && axis < 3 {
+            result[axis] = offset_at(lengths, strides, order, rank);
+        }
+        rank = rank.saturating_mul(new[axis]);
+    }
+    result
+}
+
+/// Strides beside their lengths.
+type Axes<'a> = (&'a [usize], &'a [isize]);
+
+/// How far a layout reaches, where it is one.
+fn reach(axes: Axes<'_>) -> Option<usize> {
+    if is_layout(axes.0, axes.1) {
+        span(axes.0, axes.1)
+    } else {
+        None
+    }
+}
+
+/// Whether a layout is one of separated strides.
+fn is_apart(axes: Axes<'_>) -> bool {
+    is_layout(axes.0, axes.1) && separated(axes.0, axes.1)
+}
+
+/// Whether the new layout has the old one's places in order, reaches no further and is separated where the
+/// old one is. Without elements, whether its strides are all 0.
+fn is_as_good(old: Axes<'_>, new: Axes<'_>, order: Order, size: usize) -> bool {
+    if size == 0 {
+        return new.1.iter().all(|stride: &isize| -> bool { *stride == 0 });
+    }
+    same_offsets(old, new, order, size)
+        && reach(new) <= reach(old)
+        && (is_apart(new) || !is_apart(old))
+}
+
+/// Whether the search answers as a trial of the only strides that can serve, and finds strides as good.
+fn search_is_right(old: Axes<'_>, new: &[usize], order: Order, size: usize) -> bool {
+    if new.len() > 3 {
+        return false;
+    }
+    let candidate = forced(old.0, old.1, new, order);
+    let serves = same_offsets(old, (new, &candidate), order, size);
+    let mut found = [9; 3];
+    let out = &mut found[..new.len()];
+    reshaped(old.0, old.1, new, order, out) == Some(serves)
+        && (!serves || is_as_good(old, (new, out), order, size))
+}
+
+/// How many searches were tried and how many of them were wrong, after one more.
+fn after(tally: (u64, u64), right: bool) -> (u64, u64) {
+    (
+        tally.0.saturating_add(1),
+        tally.1.saturating_add(if right { 0 } else { 1 }),
+    )
+}
+
+/// Tries every new shape of up to three axes of lengths 0 to 4, one of them 0.
+fn tries_empty(old: Axes<'_>, order: Order) -> (u64, u64) {
+    let mut tally = after((0, 0), search_is_right(old, &[0], order, 0));
+    for first in 0..5 {
+        for second in 0..5 {
+            if first == 0 || second == 0 {
+                let right = search_is_right(old, &[first, second], order, 0);
+                tally = after(tally, right);
+            }
+            for third in 0..5 {
+                if first == 0 || second == 0 || third == 0 {
+                    let right = search_is_right(old, &[first, second, third], order, 0);
+                    tally = after(tally, right);
+                }
+            }
+        }
+    }
+    tally
+}
+
+/// Tries every new shape of up to three axes and this size.
+fn tries_full(old: Axes<'_>, order: Order, size: usize) -> (u64, u64) {
+    let mut tally = after((0, 0), search_is_right(old, &[size], order, size));
+    if size == 1 {
+        tally = after(tally, search_is_right(old, &[], order, size));
+    }
+    for first in 1..=size {
+        if size % first == 0 {
+            let rest = size / first;
+            tally = after(tally, search_is_right(old, &[first, rest], order, size));
+            for second in 1..=rest {
+                if rest % second == 0 {
+                    let new = [first, second, rest / second];
+                    tally = after(tally, search_is_right(old, &new, order, size));
+                }
+            }
+        }
+    }
+    tally
+}
+
+/// A stride from -6 to 6.
+fn stride_of(code: usize) -> isize {
+    (code % 13) as isize - 6
+}
+
+/// Tries every layout of so many axes, of so many shapes of lengths 0 to 4 and so many strides.
+fn tries_all(axes: usize, shapes: usize, codes: usize, order: Order) -> (u64, u64)
+    requires { axes ≤ 3 }
+{
+    let mut tried = 0u64;
+    let mut wrong = 0u64;
+    for shape in 0..shapes {
+        let lengths = [shape % 5, shape / 5 % 5, shape / 25 % 5];
+        let size = count(&lengths[..axes]).unwrap_or(0);
+        for code in 0..codes {
+            let strides = [stride_of(code), stride_of(code / 13), stride_of(code / 169)];
+            let old = (&lengths[..axes], &strides[..axes]);
+            let more = if size == 0 {
+                tries_empty(old, order)
+            } else {
+                tries_full(old, order, size)
+            };
+            tried = tried.saturating_add(more.0);
+            wrong = wrong.saturating_add(more.1);
+        }
+    }
+    (tried, wrong)
+}
+
+/// Every layout of up to three axes with lengths 0 to 4 and strides -6 to 6 (278,916 of them), every new shape
+/// of equal size with up to three axes (where it is 0, of lengths up to 4), and both orders.
+#[test]
+fn every_small_layout(rt: HostRuntime) {
+    let mut tried = 0u64;
+    for order in [Order::RowMajor, Order::ColumnMajor] {
+        for (axes, shapes, codes) in [(0, 1, 1), (1, 5, 13), (2, 25, 169), (3, 125, 2197)] {
+            let (more, wrong) = tries_all(axes, shapes, codes, order);
+            assert_eq!(rt; wrong, 0);
+            tried = tried.saturating_add(more);
+        }
+    }
+    assert_eq!(rt; tried, 25_554_992);
+}

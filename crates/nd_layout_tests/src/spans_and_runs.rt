@@ -1,0 +1,52 @@
+//! How far layouts reach, which are separated, and which are runs.
+
+ghost use Rattle.std.specs.Prelude.{◌↔◌, ◌≡◌, ◌<◌, ◌≤◌, ◌^◌, length, IsTrue};
+ghost use Rattle.nd_shape_and_slice.specs.Place.{span_of, IsSeparated};
+
+use nd_layout::{is_run, is_standard, separated, span};
+
+/// Whether a vector of this many elements can hold an array of this layout, with no element shared.
+fn can_own(lengths: &[usize], strides: &[isize], count: usize) -> bool
+    requires as_many { length strides.now ≡ length lengths.now }
+    requires few { length lengths.now ≤ 32 }
+    requires small { count < 2 ^ 63 }
+    ensures { IsTrue result ↔ (span_of lengths.now strides.now < count) × IsSeparated lengths.now strides.now }
+{
+    match span(lengths, strides) {
+        Some(reach) => reach < count && separated(lengths, strides),
+        None => false,
+    }
+}
+
+#[test]
+fn spans_and_separation(rt: HostRuntime) {
+    assert_eq!(rt; span(&[2, 0, 3], &[3, 6, -1]), Some(5));
+    assert_eq!(rt; span(&[1 << 40, 1 << 40], &[1 << 40, 1]), None);
+    assert_eq!(rt; span(&[2], &[isize::MIN]), None);
+    assert_eq!(rt; span(&[2], &[isize::MAX]), Some(isize::MAX as usize));
+    assert_eq!(rt; span(&[], &[]), Some(0));
+    assert!(rt; separated(&[2, 3], &[3, 1]));
+    assert!(rt; separated(&[2, 3], &[1, -2]));
+    assert!(rt; !separated(&[2, 2], &[1, 1]));
+    assert!(rt; !separated(&[3, 2], &[1, 2]));
+    assert!(rt; !separated(&[2], &[0]));
+    assert!(rt; separated(&[1, 2], &[0, 1]));
+    assert!(rt; !separated(&[usize::MAX, usize::MAX], &[isize::MIN, isize::MAX]));
+    // two rows of two, four apart: enough elements, and too few; and rows that share an element
+    assert!(rt; can_own(&[2, 2], &[4, 1], 8));
+    assert!(rt; !can_own(&[2, 2], &[4, 1], 5));
+    assert!(rt; !can_own(&[2, 2], &[1, 1], 3));
+}
+
+#[test]
+fn runs(rt: HostRuntime) {
+    assert!(rt; is_standard(&[2, 3], &[3, 1]));
+    assert!(rt; is_standard(&[2, 1, 3], &[3, 7, 1]));
+    assert!(rt; !is_standard(&[3, 2], &[1, 3]));
+    assert!(rt; is_run(&[3, 2], &[1, 3]));
+    assert!(rt; is_run(&[3, 2], &[-1, 3]));
+    assert!(rt; !is_run(&[2, 2], &[3, 1]));
+    assert!(rt; !is_run(&[2, 2], &[1, 1]));
+    assert!(rt; is_run(&[0, 2], &[7, 7]));
+    assert!(rt; is_run(&[], &[]));
+}

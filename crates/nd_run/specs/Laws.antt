@@ -1,0 +1,15 @@
+-- Laws of steps and of paths.
+use Rattle.std.specs.Prelude.{◌≡◌, List, None, Ok, ℕ}
+use Rattle.nd_array_core.specs.Laws.{LeadsInside}
+use Rattle.nd_array_core.specs.Meaning.{Meaning}
+use Rattle.nd_run.specs.Calls.{AskedStep}
+use Rattle.nd_run.specs.Fold.{followed, LeadsAlong}
+use Rattle.nd_run.specs.Steps.{refusal, shape_after, index_before}
+
+-- each index of what a step leads to names one of what it came from
+abbrev pub StepsLeadInside : Type 0
+StepsLeadInside = (step : AskedStep) (ns : List ℕ) → refusal step ns ≡ None → LeadsInside (shape_after step ns) (index_before step ns) ns
+
+-- the map of a path that isn't refused is the composition of its steps' maps
+abbrev pub PathsLeadAlong : Type 0 → Type 0
+PathsLeadAlong A = (path : List AskedStep) (m n : Meaning A) → followed path m ≡ Ok n → LeadsAlong path m n

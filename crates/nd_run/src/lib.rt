@@ -1,0 +1,32 @@
+//! Scripts of calls on one array: the calls and their replies as values, and as text.
+//!
+//! `run::run` carries out a list of calls on an array and answers their replies. `drive::drive` reads a script from any
+//! reader, runs it, and writes its replies to any writer.
+#![tactic(auto)]
+
+// What callers use.
+mod calls;
+mod cause;
+pub mod drive;
+pub mod run;
+mod watched;
+
+// Carrying out a call.
+mod laws;
+mod steps;
+mod write;
+
+// Reading a script.
+mod input;
+mod keyword;
+mod numbers;
+mod reader;
+mod words;
+
+// Writing what is due at the end.
+mod outcome;
+mod printer;
+
+pub use calls::{Act, Call, Question, Reply, Step};
+pub use cause::Cause;
+pub use watched::{Flushes, Watched};

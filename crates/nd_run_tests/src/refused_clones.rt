@@ -1,0 +1,140 @@
+//! Calls on elements whose clones are refused.
+
+ghost use Rattle.std.specs.Prelude.{◌≡◌};
+
+use nd_array_core::Array;
+use nd_run::run::{RunFault, run};
+use nd_run::{Act, Call, Question, Reply, Step};
+use nd_shape_and_slice::{IxDyn, Slice};
+use std::alloc::{AllocError, Global};
+use std::cell::Cell;
+use std::test::Fail;
+
+// A number whose clone is refused when its turn comes.
+#[derive(Drop)]
+struct Refusing<'a> {
+    number: u64,
+    left: &'a Cell<u64>,
+}
+
+impl<'a> Clone for Refusing<'a> {
+    ghost is_clone = { λ x y. y ≡ x };
+
+    fn clone(&self) -> Result<Self, AllocError> {
+        let left = self.left.get();
+        if left == 0 {
+            return Err(AllocError);
+        }
+        self.left.set(left - 1);
+        Ok(Refusing {
+            number: self.number,
+            left: self.left,
+        })
+    }
+}
+
+// The array [10, 20, 30].
+fn three_numbers<'a>(
+    alloc: Global,
+    left: &'a Cell<u64>,
+) -> Result<Array<Refusing<'a>, IxDyn>, Fail> {
+    let mut items = Vec::new(alloc);
+    for number in [10, 20, 30] {
+        items.push(Refusing { number, left })?;
+    }
+    Ok(
+        Array::from_shape_vec(IxDyn::new(&[3]), items)
+            .ok()
+            .ok_or("shape")?,
+    )
+}
+
+// That array, sliced from the back and asked for its elements and for its first.
+fn replies_with(alloc: Global, left: &Cell<u64>) -> Result<(usize, bool), Fail> {
+    let start = three_numbers(alloc, left)?;
+    let mut calls = Vec::new(alloc);
+    calls.push(Call::Keep(Step::SliceAxis(0, Slice::new(0, None, -1))))?;
+    calls.push(Call::Ask(Vec::new(alloc), Question::Elements))?;
+    calls.push(Call::Ask(
+        Vec::new(alloc),
+        Question::Get(Vec::from_slice(alloc, &[0])?),
+    ))?;
+    match run(alloc, start, &calls) {
+        Ok((replies, _)) => Ok((replies.len(), true)),
+        Err(RunFault::Memory(replies)) => Ok((replies.len(), false)),
+    }
+}
+
+#[test]
+fn refused_clones(rt: HostRuntime) -> Result<(), Fail> {
+    for (allowed, replies, whole) in [
+        (0, 1, false),
+        (1, 1, false),
+        (2, 1, false),
+        (3, 2, false),
+        (4, 3, true),
+    ] {
+        let left = Cell::new(allowed);
+        assert_eq!(rt; replies_with(rt.alloc(), &left)?, (replies, whole));
+    }
+    Ok(())
+}
+
+// 0 where the array has no such element.
+fn number_at(array: &Array<Refusing<'_>, IxDyn>, i: usize) -> u64 {
+    match array.get([i]) {
+        Some(element) => element.number,
+        None => 0,
+    }
+}
+
+// That array with its last two elements filled, its first set and its ends exchanged, and then split: the
+// first filled, the second of the others set.
+fn writes_with(alloc: Global, left: &Cell<u64>) -> Result<(usize, bool), Fail> {
+    let start = three_numbers(alloc, left)?;
+    let mut path = Vec::new(alloc);
+    path.push(Step::SliceAxis(0, Slice::new(1, None, 1)))?;
+    let mut calls = Vec::new(alloc);
+    calls.push(Call::Write(path, Act::Fill(Refusing { number: 1, left })))?;
+    calls.push(Call::Write(
+        Vec::new(alloc),
+        Act::Set(Vec::from_slice(alloc, &[0])?, Refusing { number: 2, left }),
+    ))?;
+    calls.push(Call::Write(
+        Vec::new(alloc),
+        Act::Swap(Vec::from_slice(alloc, &[0])?, Vec::from_slice(alloc, &[2])?),
+    ))?;
+    calls.push(Call::SplitWrite(
+        0,
+        1,
+        Act::Fill(Refusing { number: 3, left }),
+        Act::Set(Vec::from_slice(alloc, &[1])?, Refusing { number: 4, left }),
+    ))?;
+    match run(alloc, start, &calls) {
+        Ok((replies, array)) => {
+            let first = number_at(&array, 0) == 3;
+            let second = number_at(&array, 1) == 1;
+            let third = number_at(&array, 2) == 4;
+            Ok((replies.len(), first && second && third))
+        }
+        Err(RunFault::Memory(replies)) => Ok((replies.len(), false)),
+    }
+}
+
+#[test]
+fn refused_clones_of_writes(rt: HostRuntime) -> Result<(), Fail> {
+    for (allowed, replies, whole) in [
+        (0, 0, false),
+        (1, 0, false),
+        (2, 0, false),
+        (3, 1, false),
+        (4, 3, false),
+        (5, 3, false),
+        (6, 3, false),
+        (7, 4, true),
+    ] {
+        let left = Cell::new(allowed);
+        assert_eq!(rt; writes_with(rt.alloc(), &left)?, (replies, whole));
+    }
+    Ok(())
+}

@@ -1,0 +1,73 @@
+//! Scripts from start to end.
+
+use crate::answers::written;
+
+#[test]
+fn arrays_at_the_end(rt: HostRuntime) {
+    let table: [(&[u8], &[u8]); 8] = [
+        (b"start 1 1 5", b"end 1 1 5\n"),
+        (b"\r\n \tstart\t1 1  -0\r\n\n", b"end 1 1 0\n"),
+        (b"start 01 001 -007\n", b"end 1 1 -7\n"),
+        (
+            b"start 1 2 9223372036854775807 -9223372036854775808\n",
+            b"end 1 2 9223372036854775807 -9223372036854775808\n",
+        ),
+        (b"start 0 7\n", b"end 0 7\n"),
+        (b"start 2 3 0\n", b"end 2 3 0\n"),
+        (
+            b"start 2 9223372036854775807 0",
+            b"end 2 9223372036854775807 0\n",
+        ),
+        (
+            b"start 32 1 1 1 1 1 1 1 1 1 1 1 1 1 1 1 1 1 1 1 1 1 1 1 1 1 1 1 1 1 1 1 1 5",
+            b"end 32 1 1 1 1 1 1 1 1 1 1 1 1 1 1 1 1 1 1 1 1 1 1 1 1 1 1 1 1 1 1 1 1 5\n",
+        ),
+    ];
+    written(&rt, rt.alloc(), &table);
+}
+
+#[test]
+fn scripts(rt: HostRuntime) {
+    let table: [(&[u8], &[u8]); 8] = [
+        // a slice of a list of cubes
+        (
+            b"start 1 10 0 1 8 27 64 125 216 343 512 729\nask cut 0 2 5 1 / elements\n",
+            b"array 1 3 8 27 64\nend 1 10 0 1 8 27 64 125 216 343 512 729\n",
+        ),
+        // axes exchanged, and refusals that change nothing
+        (
+            b"start 2 2 3 1 2 3 4 5 6\nkeep permute 2 1 0\nask shape\nask get 2 2 0\nkeep cut 2 0 _ 1\nkeep cut 0 0 4 1\nkeep permute 2 0 0\n",
+            b"done\nshape 2 3 2\nsome 3\nrefused 1\nrefused 3\nrefused 4\nend 2 3 2 1 4 2 5 3 6\n",
+        ),
+        // steps of -2, and then of -1
+        (
+            b"start 1 6 0 1 2 3 4 5\nask cut 0 0 6 -2 / elements\nkeep cut 0 0 6 -2\nask cut 0 0 3 -1 / elements",
+            b"array 1 3 5 3 1\ndone\narray 1 3 1 3 5\nend 1 3 5 3 1\n",
+        ),
+        // an index with a coordinate missing, and one outside
+        (
+            b"start 2 2 2 1 2 3 4\nask get 1 0\nask get 2 1 1\nask get 2 0 2\nask get 3 0 0 0\nask get 0\n",
+            b"none\nsome 4\nnone\nnone\nnone\nend 2 2 2 1 2 3 4\n",
+        ),
+        // a path is refused by its first refused step
+        (
+            b"start 1 3 7 8 9\nask cut 0 0 _ 1 / cut 1 0 _ 1 / cut 0 0 9 1 / shape\nask cut 0 0 9 1 / cut 1 0 _ 1 / shape\nask cut 0 0 _ 0 / shape\nask cut 0 -3 -1 1 / elements\n",
+            b"refused 1\nrefused 3\nrefused 3\narray 1 2 7 8\nend 1 3 7 8 9\n",
+        ),
+        // an array without elements, and one without axes
+        (
+            b"start 2 3 0\nask elements\nkeep permute 2 1 0\nask get 2 0 0\nkeep cut 1 1 3 1\n",
+            b"array 2 3 0\ndone\nnone\ndone\nend 2 0 2\n",
+        ),
+        (
+            b"start 0 5\nask elements\nask get 0\nkeep permute 0\nkeep cut 0 0 _ 1\n",
+            b"array 0 5\nsome 5\ndone\nrefused 1\nend 0 5\n",
+        ),
+        // the ends of the numbers
+        (
+            b"start 2 9223372036854775807 0\nkeep cut 0 0 9223372036854775807 -9223372036854775808\nask shape\nkeep cut 0 -9223372036854775808 _ 1\n",
+            b"done\nshape 2 1 0\nrefused 3\nend 2 1 0\n",
+        ),
+    ];
+    written(&rt, rt.alloc(), &table);
+}

@@ -1,0 +1,15 @@
+//! Tests of `nd_shape_and_slice` by its public calls: worked tables, and numbers at the ends of their types.
+#![tactic(auto)]
+
+#[cfg(test)]
+mod dimensions;
+#[cfg(test)]
+mod meeting_slices;
+#[cfg(test)]
+mod shape_builders;
+#[cfg(test)]
+mod sizes_and_orders;
+#[cfg(test)]
+mod slice_lists;
+#[cfg(test)]
+mod slices;

@@ -1,0 +1,158 @@
+//! Pairs of slices against a table of what each names, and lists of them.
+
+ghost use Rattle.std.specs.Prelude.{◌<◌, ◌≤◌, ◌^◌};
+
+use crate::slices::{LONGEST, part_from};
+use nd_shape_and_slice::{SliceInfoElem, slices_fit, slices_intersect};
+
+/// Whether a slice from `start` up to `end`, up or down by a distance, names a place.
+fn names(start: usize, end: usize, distance: usize, down: bool, place: usize) -> bool {
+    if place < start || place >= end || distance == 0 {
+        return false;
+    }
+    let from = if down { end - 1 - place } else { place - start };
+    from % distance == 0
+}
+
+/// A slice as an element of a list.
+fn part(start: usize, end: usize, distance: usize, down: bool) -> SliceInfoElem
+    requires start { start < 2 ^ 63 }
+    requires end { end < 2 ^ 63 }
+    requires distance { distance < 2 ^ 63 }
+{
+    SliceInfoElem::Slice {
+        start: start as isize,
+        end: Some(end as isize),
+        step: if down {
+            0 - distance as isize
+        } else {
+            distance as isize
+        },
+    }
+}
+
+/// The test after those of its conditions.
+fn intersect(shape: &[usize], a: &[SliceInfoElem], b: &[SliceInfoElem]) -> Option<bool> {
+    if slices_fit(shape, a) && slices_fit(shape, b) {
+        Some(slices_intersect(shape, a, b))
+    } else {
+        None
+    }
+}
+
+/// Whether every slice of an axis of this length meets this one exactly where the table says so.
+fn agrees(len: usize, start: usize, end: usize, distance: usize, down: bool) -> bool
+    requires len { len ≤ 8 }
+    requires start { start < 2 ^ 63 }
+    requires end { end < 2 ^ 63 }
+    requires distance { distance < 2 ^ 63 }
+{
+    let one = part(start, end, distance, down);
+    for other_start in 0..len + 1 {
+        for other_end in other_start..len + 1 {
+            for other_distance in 1..len + 2 {
+                for other_down in [false, true] {
+                    let mut common = false;
+                    for place in 0..len {
+                        if names(start, end, distance, down, place)
+                            && names(other_start, other_end, other_distance, other_down, place)
+                        {
+                            common = true;
+                        }
+                    }
+                    let other = part(other_start, other_end, other_distance, other_down);
+                    if intersect(&[len], &[one], &[other]) != Some(common) {
+                        return false;
+                    }
+                }
+            }
+        }
+    }
+    true
+}
+
+#[test]
+fn pairs_of_slices_on_lengths_to_8(rt: HostRuntime) {
+    for len in 0..9 {
+        for start in 0..len + 1 {
+            for end in start..len + 1 {
+                for distance in 1..len + 2 {
+                    assert!(rt; agrees(len, start, end, distance, false));
+                    assert!(rt; agrees(len, start, end, distance, true));
+                }
+            }
+        }
+    }
+}
+
+#[test]
+fn slices_that_meet(rt: HostRuntime) {
+    let up_by_4 = [part(1, 6, 4, false)];
+    let up_by_3 = [part(2, 6, 3, false)];
+    assert_eq!(rt; intersect(&[6], &up_by_4, &up_by_3), Some(true));
+    let one_and_four = [part(1, 5, 3, false)];
+    let none_and_three = [part(0, 4, 3, false)];
+    assert_eq!(rt;
+        intersect(&[6], &one_and_four, &none_and_three),
+        Some(false)
+    );
+    assert_eq!(rt; intersect(&[], &[], &[]), Some(true));
+    assert_eq!(rt; intersect(&[6], &[part_from(0, 0)], &up_by_3), None);
+}
+
+#[test]
+fn slices_of_the_longest_axis(rt: HostRuntime) {
+    let half = 4611686018427387904;
+    let rows = [
+        (part_from(0, 2), part_from(1, 2), false),
+        (part_from(0, 2), part_from(1, 3), true),
+        (part_from(0, isize::MAX), part_from(0, isize::MIN), false),
+        (part_from(0, isize::MIN), part_from(0, -2), true),
+        (part_from(0, isize::MIN), part_from(0, 2), true),
+        (part_from(0, isize::MIN), part_from(1, 2), false),
+        (part_from(1, half), part_from(2, 3), true),
+        (part_from(0, half), part_from(1, half - 1), true),
+        (part_from(0, half), part_from(2, half - 1), false),
+        (
+            part_from(0, 3037000500),
+            part_from(3037000498, 3037000499),
+            true,
+        ),
+        (
+            part_from(0, 3037000501),
+            part_from(3037000499, 3037000500),
+            false,
+        ),
+        (part_from(0, 3037000500), part_from(1, 3037000499), true),
+        (part_from(-1, 1), SliceInfoElem::Index(-1), true),
+        (
+            SliceInfoElem::Index(-2),
+            SliceInfoElem::Index(isize::MAX - 1),
+            false,
+        ),
+    ];
+    for (a, b, meet) in rows {
+        assert_eq!(rt; intersect(&[LONGEST], &[a], &[b]), Some(meet));
+        assert_eq!(rt; intersect(&[LONGEST], &[b], &[a]), Some(meet));
+    }
+}
+
+#[test]
+fn lists_that_meet(rt: HostRuntime) {
+    let new = SliceInfoElem::NewAxis;
+    let row_1 = [SliceInfoElem::Index(1), part_from(0, 1)];
+    let row_2 = [new, SliceInfoElem::Index(2), part_from(0, 1), new];
+    let last_column = [part_from(0, -1), new, SliceInfoElem::Index(-1)];
+    let even_columns = [new, part_from(0, 1), part_from(0, 2)];
+    assert_eq!(rt; intersect(&[3, 4], &row_1, &row_2), Some(false));
+    assert_eq!(rt; intersect(&[3, 4], &row_1, &last_column), Some(true));
+    assert_eq!(rt; intersect(&[3, 4], &row_2, &even_columns), Some(true));
+    assert_eq!(rt;
+        intersect(&[3, 4], &last_column, &even_columns),
+        Some(false)
+    );
+    assert_eq!(rt;
+        intersect(&[3, 0], &[part_from(0, 1), part_from(0, 1)], &even_columns),
+        Some(false)
+    );
+}

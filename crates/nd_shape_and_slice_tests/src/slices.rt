@@ -1,0 +1,98 @@
+//! Slices and coordinates of one axis, with numbers at the ends of their types.
+
+use nd_shape_and_slice::{Slice, SliceInfoElem, SlicedAxis, coordinate_on_axis, slice_fits};
+
+/// The largest length of an axis.
+pub const LONGEST: usize = 9223372036854775807;
+
+/// The part of an axis from this coordinate on, by this step.
+pub fn part_from(start: isize, step: isize) -> SliceInfoElem {
+    SliceInfoElem::Slice {
+        start,
+        end: None,
+        step,
+    }
+}
+
+#[test]
+fn slices_of_an_axis(rt: HostRuntime) {
+    let rows = [
+        (6, 0, Some(6), -2, 5, 3),
+        (3, 0, Some(3), -1, 2, 3),
+        (10, 2, Some(5), 1, 2, 3),
+        (10, 0, Some(6), 2, 0, 3),
+        (6, -2, None, 1, 4, 2),
+        (6, 4, Some(2), 1, 4, 0),
+        (LONGEST, 0, None, isize::MIN, LONGEST - 1, 1),
+        (
+            LONGEST,
+            -9223372036854775807,
+            None,
+            2,
+            0,
+            4611686018427387904,
+        ),
+        (LONGEST, 0, None, -1, LONGEST - 1, LONGEST),
+        (LONGEST, 0, Some(isize::MAX), isize::MAX, 0, 1),
+        (LONGEST, -9223372036854775807, Some(1), isize::MIN, 0, 1),
+        (LONGEST, isize::MAX, Some(-9223372036854775807), -1, 0, 0),
+        (usize::MAX, 0, None, 1, 0, usize::MAX),
+        (usize::MAX, isize::MIN, None, isize::MIN, usize::MAX - 1, 1),
+        (0, 0, None, isize::MIN, 0, 0),
+    ];
+    for (len, start, end, step, first, sliced) in rows {
+        let slice = Slice::new(start, end, step);
+        assert!(rt; slice_fits(len, slice), "on {len} from {start} by {step}");
+        let SlicedAxis {
+            first: begins,
+            len: new,
+        } = slice.on_axis(len);
+        assert_eq!(rt; new, sliced, "on {len} from {start} by {step}");
+        assert!(rt;
+            new == 0 || begins == first,
+            "on {len} from {start} by {step}"
+        );
+    }
+}
+
+#[test]
+fn slices_that_do_not_fit(rt: HostRuntime) {
+    let rows = [
+        (6, 0, Some(6), 0),
+        (6, 7, None, 1),
+        (6, 0, Some(7), 1),
+        (6, -7, None, 1),
+        (6, 0, Some(-7), -1),
+        (0, -1, None, 1),
+        (LONGEST, isize::MIN, None, 1),
+        (LONGEST, 0, Some(isize::MIN), 1),
+        (LONGEST - 1, isize::MAX, None, 1),
+        (LONGEST - 1, 0, Some(isize::MAX), 1),
+    ];
+    for (len, start, end, step) in rows {
+        assert!(rt;
+            !slice_fits(len, Slice::new(start, end, step)),
+            "on {len} from {start} by {step}"
+        );
+    }
+}
+
+#[test]
+fn coordinates_on_an_axis(rt: HostRuntime) {
+    let rows = [
+        (6, 0, Some(0)),
+        (6, 5, Some(5)),
+        (6, 6, None),
+        (6, -1, Some(5)),
+        (6, -6, Some(0)),
+        (6, -7, None),
+        (0, 0, None),
+        (LONGEST, isize::MAX, None),
+        (LONGEST, -9223372036854775807, Some(0)),
+        (LONGEST, isize::MIN, None),
+        (usize::MAX, isize::MAX, Some(LONGEST)),
+    ];
+    for (len, coordinate, place) in rows {
+        assert_eq!(rt; coordinate_on_axis(len, coordinate), place);
+    }
+}

@@ -1,0 +1,9 @@
+//! What tests of arrays share: arrays of given elements, an array's elements as a list, slices written out, and numbers
+//! whose clones are refused.
+#![tactic(auto)]
+
+mod elements;
+mod refusing;
+
+pub use elements::{array_of, listed, numbers, part, rows_listed};
+pub use refusing::Refusing;
