@@ -148,80 +148,56 @@ impl<D: Dimension, T: StrideList> Layout<D, T> {
     }
 }
 
-/// The dimension with its axes in this order.
-fn permuted_dim<D: Dimension>(dim: &D, axes: &[usize]) -> D
-    requires { HasEachAxis axes.now (length (D.lengths dim.now)) }
-    ensures { D.lengths result ≡ permuted axes.now (D.lengths dim.now) }
+/// Exchanges two axes of lengths and strides.
+#[inline]
+fn exchange<D: Dimension, T: StrideList>(dim: &mut D, strides: &mut T, a: usize, b: usize)
+    requires as_many { length (T.strides_of strides.old) ≡ length (D.lengths dim.old) }
+    requires a { a < length (D.lengths dim.old) }
+    requires b { b < length (D.lengths dim.old) }
+    ensures lengths { D.lengths dim.new ≡ swap (D.lengths dim.old) a b }
+    ensures strides { T.strides_of strides.new ≡ swap (T.strides_of strides.old) a b }
 {
-    let mut out = *dim;
+    let (len, stride) = (dim.length(a), strides.stride(a));
+    let (other_len, other_stride) = (dim.length(b), strides.stride(b));
+    dim.set_length(a, other_len);
+    strides.set(a, other_stride);
+    dim.set_length(b, len);
+    strides.set(b, stride);
+}
+
+/// Puts the axes of lengths and strides in the opposite order.
+#[inline]
+fn reverse<D: Dimension, T: StrideList>(dim: &mut D, strides: &mut T)
+    requires { length (T.strides_of strides.old) ≡ length (D.lengths dim.old) }
+    ensures lengths { D.lengths dim.new ≡ reverse (D.lengths dim.old) }
+    ensures strides { T.strides_of strides.new ≡ reverse (T.strides_of strides.old) }
+{
+    let (old_dim, old_strides) = (*dim, *strides);
+    let count = old_dim.ndim();
+    for k in 0..count {
+        dim.set_length(k, old_dim.length(count - 1 - k));
+        strides.set(k, old_strides.stride(count - 1 - k));
+    }
+}
+
+/// Puts the axes of lengths and strides in another order.
+#[inline]
+fn permute<D: Dimension, T: StrideList>(dim: &mut D, strides: &mut T, axes: &[usize])
+    requires as_many { length (T.strides_of strides.old) ≡ length (D.lengths dim.old) }
+    requires each { HasEachAxis axes.now (length (D.lengths dim.old)) }
+    ensures lengths { D.lengths dim.new ≡ permuted axes.now (D.lengths dim.old) }
+    ensures strides { T.strides_of strides.new ≡ permuted_ints axes.now (T.strides_of strides.old) }
+{
+    let (old_dim, old_strides) = (*dim, *strides);
     for k in 0..axes.len() {
-        out.set_length(k, length_at(dim.slice(), axes[k]));
+        dim.set_length(k, old_dim.length(axes[k]));
+        strides.set(k, old_strides.stride(axes[k]));
     }
-    out
-}
-
-/// The strides with their axes in this order.
-fn permuted_strides<T: StrideList>(strides: &T, axes: &[usize]) -> T
-    requires { HasEachAxis axes.now (length (T.strides_of strides.now)) }
-    ensures { T.strides_of result ≡ permuted_ints axes.now (T.strides_of strides.now) }
-{
-    let mut out = *strides;
-    for k in 0..axes.len() {
-        out.set(k, stride_at(strides.slice(), axes[k]));
-    }
-    out
-}
-
-/// The dimension with two of its axes exchanged.
-fn swapped_dim<D: Dimension>(dim: &D, a: usize, b: usize) -> D
-    requires a { a < length (D.lengths dim.now) }
-    requires b { b < length (D.lengths dim.now) }
-    ensures { D.lengths result ≡ swap (D.lengths dim.now) a b }
-{
-    let mut out = *dim;
-    out.set_length(a, length_at(dim.slice(), b));
-    out.set_length(b, length_at(dim.slice(), a));
-    out
-}
-
-/// The strides with two axes exchanged.
-fn swapped_strides<T: StrideList>(strides: &T, a: usize, b: usize) -> T
-    requires a { a < length (T.strides_of strides.now) }
-    requires b { b < length (T.strides_of strides.now) }
-    ensures { T.strides_of result ≡ swap (T.strides_of strides.now) a b }
-{
-    let mut out = *strides;
-    out.set(a, stride_at(strides.slice(), b));
-    out.set(b, stride_at(strides.slice(), a));
-    out
-}
-
-/// The dimension with its axes in the opposite order.
-fn reversed_dim<D: Dimension>(dim: &D) -> D
-    ensures { D.lengths result ≡ reverse (D.lengths dim.now) }
-{
-    let mut out = *dim;
-    let lengths = dim.slice();
-    for k in 0..lengths.len() {
-        out.set_length(k, length_at(lengths, lengths.len() - 1 - k));
-    }
-    out
-}
-
-/// The strides with the axes in the opposite order.
-fn reversed_strides<T: StrideList>(strides: &T) -> T
-    ensures { T.strides_of result ≡ reverse (T.strides_of strides.now) }
-{
-    let mut out = *strides;
-    let list = strides.slice();
-    for k in 0..list.len() {
-        out.set(k, stride_at(list, list.len() - 1 - k));
-    }
-    out
 }
 
 impl<D: Dimension, T: StrideList> Layout<D, T> {
     /// Exchanges two axes.
+    #[inline]
     pub fn swap_axes(&mut self, a: usize, b: usize)
         requires a { a < length (D.lengths self.old.dim) }
         requires b { b < length (D.lengths self.old.dim) }
@@ -229,34 +205,27 @@ impl<D: Dimension, T: StrideList> Layout<D, T> {
         ensures strides { T.strides_of self.new.strides ≡ swap (T.strides_of self.old.strides) a b }
         ensures step { IsStep self.old.first (D.lengths self.old.dim) (T.strides_of self.old.strides) self.new.first (D.lengths self.new.dim) (T.strides_of self.new.strides) (λ i. swap i a b) }
     {
-        let dim = swapped_dim(&self.dim, a, b);
-        let strides = swapped_strides(&self.strides, a, b);
-        self.dim = dim;
-        self.strides = strides;
+        exchange(&mut self.dim, &mut self.strides, a, b);
     }
 
     /// Puts the axes in the opposite order.
+    #[inline]
     pub fn reverse_axes(&mut self)
         ensures lengths { D.lengths self.new.dim ≡ reverse (D.lengths self.old.dim) }
         ensures strides { T.strides_of self.new.strides ≡ reverse (T.strides_of self.old.strides) }
         ensures step { IsStep self.old.first (D.lengths self.old.dim) (T.strides_of self.old.strides) self.new.first (D.lengths self.new.dim) (T.strides_of self.new.strides) reverse }
     {
-        let dim = reversed_dim(&self.dim);
-        let strides = reversed_strides(&self.strides);
-        self.dim = dim;
-        self.strides = strides;
+        reverse(&mut self.dim, &mut self.strides);
     }
 
     /// Puts the axes in another order.
+    #[inline]
     pub fn permute_axes(&mut self, axes: &[usize])
         requires { HasEachAxis axes.now (length (D.lengths self.old.dim)) }
         ensures lengths { D.lengths self.new.dim ≡ permuted axes.now (D.lengths self.old.dim) }
         ensures strides { T.strides_of self.new.strides ≡ permuted_ints axes.now (T.strides_of self.old.strides) }
         ensures step { IsStep self.old.first (D.lengths self.old.dim) (T.strides_of self.old.strides) self.new.first (D.lengths self.new.dim) (T.strides_of self.new.strides) (unpermuted axes.now) }
     {
-        let dim = permuted_dim(&self.dim, axes);
-        let strides = permuted_strides(&self.strides, axes);
-        self.dim = dim;
-        self.strides = strides;
+        permute(&mut self.dim, &mut self.strides, axes);
     }
 }
