@@ -16,3 +16,4 @@ pub mod Boxes
 pub mod FillLoop
 pub mod PermuteLoop
 pub mod SeenAxes
+pub mod EntryLoops

@@ -1,8 +1,9 @@
 //! Dimensions: lists of lengths and of strides, one for each axis.
 
-ghost use Rattle.std.specs.Prelude.{◌≡◌, ◌≤◌, ◌==◌, ◌&&◌, nat_le, ℕ, ℤ, pos, Bool, true, false, List, Option, Some, None, length, take, slice_set, slice_get, replicate, MatchOption, map};
+ghost use Rattle.std.specs.Prelude.{◌≡◌, ◌<◌, ◌≤◌, ◌==◌, ◌&&◌, nat_le, ℕ, ℤ, pos, Bool, true, false, List, Option, Some, None, length, take, slice_index, slice_index_or, slice_set, slice_get, replicate, MatchOption, map};
 ghost use Rattle.nd_shape_and_slice.specs.Shape.{HasCheckedSize, size_of};
 
+use crate::entries::{entry_at, set_entry};
 use crate::size::product_of;
 
 /// The largest number of axes of an array.
@@ -22,6 +23,11 @@ pub trait StrideList: Copy {
     fn slice(&self) -> &[isize]
         ensures { result.now ≡ strides_of self.now };
 
+    /// The stride of one axis.
+    fn stride(&self, axis: usize) -> isize
+        requires { axis < length (strides_of self.now) }
+        ensures { result ≡ slice_index_or (strides_of self.now) axis (pos 0) };
+
     /// Sets the stride of one axis; does nothing if there is no such axis.
     fn set(&mut self, axis: usize, stride: isize)
         ensures { strides_of self.new ≡ slice_set (strides_of self.old) axis stride };
@@ -34,10 +40,14 @@ impl<const N: usize> StrideList for [isize; N] {
         self
     }
 
+    #[inline]
+    fn stride(&self, axis: usize) -> isize {
+        entry_at(self, axis)
+    }
+
+    #[inline]
     fn set(&mut self, axis: usize, stride: isize) {
-        if axis < N {
-            self[axis] = stride;
-        }
+        set_entry(self, axis, stride);
     }
 }
 
@@ -71,6 +81,11 @@ pub trait Dimension: AxisCount + Copy {
         ensures lengths { result.now ≡ lengths self.now }
         ensures number { has_axes (length result.now) ≡ true }
         ensures few { length result.now ≤ 32 };
+
+    /// The length of one axis. ndarray's `Dimension` has brackets for it.
+    fn length(&self, axis: usize) -> usize
+        requires { axis < length (lengths self.now) }
+        ensures { result ≡ slice_index (lengths self.now) axis };
 
     /// Puts the length of one axis; an axis past the last changes nothing.
     fn set_length(&mut self, axis: usize, len: usize)

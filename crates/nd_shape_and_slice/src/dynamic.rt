@@ -27,6 +27,10 @@ impl StrideList for DynStrides {
         &self.strides[..self.count]
     }
 
+    fn stride(&self, axis: usize) -> isize {
+        self.strides[axis]
+    }
+
     fn set(&mut self, axis: usize, stride: isize) {
         if axis < self.count {
             self.strides[axis] = stride;
@@ -70,6 +74,10 @@ impl Dimension for IxDyn {
 
     fn slice(&self) -> &[usize] {
         &self.lens[..self.count]
+    }
+
+    fn length(&self, axis: usize) -> usize {
+        self.lens[axis]
     }
 
     fn set_length(&mut self, axis: usize, len: usize) {

@@ -4,6 +4,7 @@ ghost use Rattle.std.specs.Prelude.{◌≡◌, ◌≤◌, ◌==◌, ◌&&◌, na
 
 use crate::dimension::{AxisCount, Dimension, MAX_AXES, StrideList};
 use crate::dynamic::IxDyn;
+use crate::entries::{entry_at, set_entry};
 
 /// A fixed number of axes. ndarray's `Dim<[usize; N]>`.
 #[derive(Clone, Copy, Debug, PartialEq, Eq)]
@@ -66,10 +67,14 @@ where
         &self.lens
     }
 
+    #[inline]
+    fn length(&self, axis: usize) -> usize {
+        entry_at(&self.lens, axis)
+    }
+
+    #[inline]
     fn set_length(&mut self, axis: usize, len: usize) {
-        if axis < N {
-            self.lens[axis] = len;
-        }
+        set_entry(&mut self.lens, axis, len);
     }
 
     fn from_lengths(list: &[usize]) -> Option<Self> {

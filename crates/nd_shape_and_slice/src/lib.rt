@@ -6,6 +6,7 @@ mod builder;
 mod descriptions;
 mod dimension;
 mod dynamic;
+mod entries;
 mod errors;
 mod fixed;
 mod index;

@@ -1,10 +1,9 @@
 //! Calls that give another view of the same elements.
+//!
+//! The loops read the array and the arguments through references, and write the sum through another one: so the
+//! compiler has to take them as new in each turn.
 
-ghost use Rattle.std.specs.Prelude.{◌≡◌, ◌<◌, ◌≤◌, true, length, slice_index};
-ghost use Rattle.nd_array_core.specs.Meaning.{shape_of};
-ghost use Rattle.nd_shape_and_slice.specs.Axes.{HasEachAxis};
-ghost use Rattle.nd_shape_and_slice.specs.Slice.{fits_axis};
-ghost use Rattle.nd_shape_and_slice.specs.SliceInfo.{fits_shape};
+ghost use Rattle.std.specs.Prelude.{◌≡◌, ◌<◌, true};
 
 use crate::conditions::{Bounds, Lent, listed};
 use nd_array_core::{ArrayBase, ArrayView, Data};
@@ -23,43 +22,30 @@ fn viewed<'a, D: Dimension>(items: &'a [u64], lengths: &[usize]) -> Option<Array
     }
 }
 
-/// A number that depends on a result.
-#[inline]
-pub fn number_of<S: Data<Elem = u64>, D: Dimension>(view: &ArrayBase<S, D>) -> u64 {
-    let len = view.shape().last().copied().unwrap_or(1);
-    let stride = view.strides().last().copied().unwrap_or(1);
-    (len as u64).wrapping_add(stride.unsigned_abs() as u64) | 1
-}
-
-/// One `slice_axis`, which isn't inlined into the loop, so that its whole result is written.
+/// Adds a number that depends on a result. It isn't inlined, so that the whole result has to be there.
 #[inline(never)]
-fn slice_axis<'a, D: Dimension>(
-    view: &'a ArrayView<'_, u64, D>,
-    axis: Axis,
-    slice: Slice,
-) -> ArrayView<'a, u64, D>
-    requires axis { axis.0 < length (shape_of view.now) }
-    requires fits { fits_axis (slice_index (shape_of view.now) axis.0) slice ≡ true }
-{
-    view.slice_axis(axis, slice)
+pub fn add<S: Data<Elem = u64>, D: Dimension>(sum: &mut u64, part: &ArrayBase<S, D>) {
+    let len = part.shape().last().copied().unwrap_or(1);
+    let stride = part.strides().last().copied().unwrap_or(1);
+    *sum = sum
+        .wrapping_add(len as u64)
+        .wrapping_add(stride.unsigned_abs() as u64)
+        | 1;
 }
 
+#[inline(never)]
 fn slice_axis_many<D: Dimension>(
-    items: &[u64],
-    lengths: &[usize],
-    axis: Axis,
-    slice: Slice,
+    view: &ArrayView<'_, u64, D>,
+    axis: &Axis,
+    slice: &Slice,
     calls: usize,
-) -> u64 {
-    let mut sum: u64 = 0;
-    if let Some(view) = viewed::<D>(items, lengths) {
-        if axis.index() < view.ndim() && slice_fits(view.len_of(axis), slice) {
-            for _ in 0..calls {
-                sum = sum.wrapping_add(number_of(&slice_axis(&view, axis, slice)));
-            }
+    sum: &mut u64,
+) {
+    if axis.index() < view.ndim() && slice_fits(view.len_of(*axis), *slice) {
+        for _ in 0..calls {
+            add(sum, &view.slice_axis(*axis, *slice));
         }
     }
-    sum
 }
 
 /// `slice_axis` of one axis, up to its end.
@@ -73,45 +59,33 @@ pub extern "C" fn nd_speed_slice_axis(
     fixed: bool,
     calls: usize,
 ) -> u64 {
+    let mut sum = 0;
     let slice = Slice::new(start, None, step);
     if fixed {
-        slice_axis_many::<Ix2>(items, lengths, Axis(axis), slice, calls)
-    } else {
-        slice_axis_many::<IxDyn>(items, lengths, Axis(axis), slice, calls)
-    }
-}
-
-/// One `permuted_axes`.
-#[inline(never)]
-fn permuted_axes<'a, D: Dimension>(
-    view: &'a ArrayView<'_, u64, D>,
-    order: &D,
-) -> ArrayView<'a, u64, D>
-    requires { HasEachAxis (D.lengths order.now) (length (shape_of view.now)) }
-{
-    view.view().permuted_axes(*order)
-}
-
-fn permuted_axes_many<D: Dimension>(
-    items: &[u64],
-    lengths: &[usize],
-    order: &[usize],
-    calls: usize,
-) -> u64 {
-    let mut sum: u64 = 0;
-    if let Some(view) = viewed::<D>(items, lengths) {
-        if let Some(axes) = D::from_lengths(order) {
-            if axes_fit(axes.slice(), view.ndim()) {
-                for _ in 0..calls {
-                    sum = sum.wrapping_add(number_of(&permuted_axes(&view, &axes)));
-                }
-            }
+        if let Some(view) = viewed::<Ix2>(items, lengths) {
+            slice_axis_many(&view, &Axis(axis), &slice, calls, &mut sum);
         }
+    } else if let Some(view) = viewed::<IxDyn>(items, lengths) {
+        slice_axis_many(&view, &Axis(axis), &slice, calls, &mut sum);
     }
     sum
 }
 
-/// `permuted_axes` into an order.
+#[inline(never)]
+fn permuted_axes_many<D: Dimension>(
+    view: &ArrayView<'_, u64, D>,
+    order: &D,
+    calls: usize,
+    sum: &mut u64,
+) {
+    if axes_fit(order.slice(), view.ndim()) {
+        for _ in 0..calls {
+            add(sum, &view.view().permuted_axes(*order));
+        }
+    }
+}
+
+/// `permuted_axes` of a view, into an order.
 #[unsafe(no_mangle)]
 pub extern "C" fn nd_speed_permuted_axes(
     items: &[u64],
@@ -120,45 +94,33 @@ pub extern "C" fn nd_speed_permuted_axes(
     fixed: bool,
     calls: usize,
 ) -> u64 {
+    let mut sum = 0;
     if fixed {
-        permuted_axes_many::<Ix2>(items, lengths, order, calls)
-    } else {
-        permuted_axes_many::<IxDyn>(items, lengths, order, calls)
-    }
-}
-
-/// One `slice`.
-#[inline(never)]
-fn slice<'a, D: Dimension, I: SliceArg<D>>(
-    view: &'a ArrayView<'_, u64, D>,
-    list: &I,
-) -> ArrayView<'a, u64, I::OutDim>
-    requires { fits_shape (shape_of view.now) (I.elements_of list.now) ≡ true }
-{
-    view.slice(Lent(list))
-}
-
-fn slice_many<D: Dimension>(
-    items: &[u64],
-    lengths: &[usize],
-    bounds: &[Bounds],
-    calls: usize,
-) -> u64 {
-    let mut sum: u64 = 0;
-    if bounds.len() > MAX_AXES {
-        return sum;
-    }
-    let elements = listed(bounds);
-    if let Some(view) = viewed::<D>(items, lengths) {
-        if let Ok(list) = SliceInfo::<D, D>::new(&elements[..bounds.len()]) {
-            if list.fits(view.shape()) {
-                for _ in 0..calls {
-                    sum = sum.wrapping_add(number_of(&slice(&view, &list)));
-                }
+        if let Some(view) = viewed::<Ix2>(items, lengths) {
+            if let Some(axes) = Ix2::from_lengths(order) {
+                permuted_axes_many(&view, &axes, calls, &mut sum);
             }
+        }
+    } else if let Some(view) = viewed::<IxDyn>(items, lengths) {
+        if let Some(axes) = IxDyn::from_lengths(order) {
+            permuted_axes_many(&view, &axes, calls, &mut sum);
         }
     }
     sum
+}
+
+#[inline(never)]
+fn slice_many<D: Dimension>(
+    view: &ArrayView<'_, u64, D>,
+    list: &SliceInfo<'_, D, D>,
+    calls: usize,
+    sum: &mut u64,
+) {
+    if list.fits(view.shape()) {
+        for _ in 0..calls {
+            add(sum, &view.slice(Lent(list)));
+        }
+    }
 }
 
 /// `slice` by a list made before.
@@ -170,48 +132,44 @@ pub extern "C" fn nd_speed_slice(
     fixed: bool,
     calls: usize,
 ) -> u64 {
-    if fixed {
-        slice_many::<Ix2>(items, lengths, bounds, calls)
-    } else {
-        slice_many::<IxDyn>(items, lengths, bounds, calls)
+    let mut sum = 0;
+    if bounds.len() > MAX_AXES {
+        return sum;
     }
-}
-
-/// One `split_at`.
-#[inline(never)]
-fn split_at<'a, D: Dimension>(
-    view: &'a ArrayView<'_, u64, D>,
-    axis: Axis,
-    index: usize,
-) -> (ArrayView<'a, u64, D>, ArrayView<'a, u64, D>)
-    requires axis { axis.0 < length (shape_of view.now) }
-    requires within { index ≤ slice_index (shape_of view.now) axis.0 }
-{
-    view.view().split_at(axis, index)
-}
-
-fn split_at_many<D: Dimension>(
-    items: &[u64],
-    lengths: &[usize],
-    axis: Axis,
-    index: usize,
-    calls: usize,
-) -> u64 {
-    let mut sum: u64 = 0;
-    if let Some(view) = viewed::<D>(items, lengths) {
-        if axis.index() < view.ndim() && index <= view.len_of(axis) {
-            for _ in 0..calls {
-                let (lower, upper) = split_at(&view, axis, index);
-                sum = sum
-                    .wrapping_add(number_of(&lower))
-                    .wrapping_add(number_of(&upper));
+    let elements = listed(bounds);
+    let elements = &elements[..bounds.len()];
+    if fixed {
+        if let Some(view) = viewed::<Ix2>(items, lengths) {
+            if let Ok(list) = SliceInfo::<Ix2, Ix2>::new(elements) {
+                slice_many(&view, &list, calls, &mut sum);
             }
+        }
+    } else if let Some(view) = viewed::<IxDyn>(items, lengths) {
+        if let Ok(list) = SliceInfo::<IxDyn, IxDyn>::new(elements) {
+            slice_many(&view, &list, calls, &mut sum);
         }
     }
     sum
 }
 
-/// `split_at` of one axis.
+#[inline(never)]
+fn split_at_many<D: Dimension>(
+    view: &ArrayView<'_, u64, D>,
+    axis: &Axis,
+    index: &usize,
+    calls: usize,
+    sum: &mut u64,
+) {
+    if axis.index() < view.ndim() && *index <= view.len_of(*axis) {
+        for _ in 0..calls {
+            let (lower, upper) = view.view().split_at(*axis, *index);
+            add(sum, &lower);
+            add(sum, &upper);
+        }
+    }
+}
+
+/// `split_at` of a view, at one axis.
 #[unsafe(no_mangle)]
 pub extern "C" fn nd_speed_split_at(
     items: &[u64],
@@ -221,39 +179,24 @@ pub extern "C" fn nd_speed_split_at(
     fixed: bool,
     calls: usize,
 ) -> u64 {
+    let mut sum = 0;
     if fixed {
-        split_at_many::<Ix2>(items, lengths, Axis(axis), index, calls)
-    } else {
-        split_at_many::<IxDyn>(items, lengths, Axis(axis), index, calls)
-    }
-}
-
-/// One `broadcast`.
-#[inline(never)]
-fn broadcast<'a, D: Dimension>(
-    view: &'a ArrayView<'_, u64, D>,
-    to: &D,
-) -> Option<ArrayView<'a, u64, D>> {
-    view.broadcast(*to)
-}
-
-fn broadcast_many<D: Dimension>(
-    items: &[u64],
-    lengths: &[usize],
-    to: &[usize],
-    calls: usize,
-) -> u64 {
-    let mut sum: u64 = 0;
-    if let Some(view) = viewed::<D>(items, lengths) {
-        if let Some(dim) = D::from_lengths(to) {
-            for _ in 0..calls {
-                if let Some(larger) = broadcast(&view, &dim) {
-                    sum = sum.wrapping_add(number_of(&larger));
-                }
-            }
+        if let Some(view) = viewed::<Ix2>(items, lengths) {
+            split_at_many(&view, &Axis(axis), &index, calls, &mut sum);
         }
+    } else if let Some(view) = viewed::<IxDyn>(items, lengths) {
+        split_at_many(&view, &Axis(axis), &index, calls, &mut sum);
     }
     sum
+}
+
+#[inline(never)]
+fn broadcast_many<D: Dimension>(view: &ArrayView<'_, u64, D>, to: &D, calls: usize, sum: &mut u64) {
+    for _ in 0..calls {
+        if let Some(larger) = view.broadcast(*to) {
+            add(sum, &larger);
+        }
+    }
 }
 
 /// `broadcast` to a shape of as many axes.
@@ -265,9 +208,17 @@ pub extern "C" fn nd_speed_broadcast(
     fixed: bool,
     calls: usize,
 ) -> u64 {
+    let mut sum = 0;
     if fixed {
-        broadcast_many::<Ix2>(items, lengths, to, calls)
-    } else {
-        broadcast_many::<IxDyn>(items, lengths, to, calls)
+        if let Some(view) = viewed::<Ix2>(items, lengths) {
+            if let Some(dim) = Ix2::from_lengths(to) {
+                broadcast_many(&view, &dim, calls, &mut sum);
+            }
+        }
+    } else if let Some(view) = viewed::<IxDyn>(items, lengths) {
+        if let Some(dim) = IxDyn::from_lengths(to) {
+            broadcast_many(&view, &dim, calls, &mut sum);
+        }
     }
+    sum
 }

@@ -27,37 +27,6 @@ pub fn stride_at(strides: &[isize], axis: usize) -> isize
     strides[axis]
 }
 
-/// Whether no element is left where one axis is shortened.
-pub(crate) fn leaves_none(lengths: &[usize], axis: usize, len: usize) -> bool
-    requires on { axis < length lengths.now }
-    requires shorter { len ≤ slice_index lengths.now axis }
-    ensures { IsTrue result ↔ (size_of (slice_set lengths.now axis len) ≡ 0) }
-{
-    len == 0 || is_empty_shape(lengths)
-}
-
-/// The offset after coordinate 0 of an axis has moved up by some coordinates. It stays if no element is left.
-fn offset_after(
-    offset: usize,
-    lengths: &[usize],
-    strides: &[isize],
-    axis: usize,
-    len: usize,
-    steps: usize,
-) -> usize
-    requires valid { IsValid offset lengths.now strides.now }
-    requires on { axis < length lengths.now }
-    requires shorter { len ≤ slice_index lengths.now axis }
-    requires within { 0 < len → steps < slice_index lengths.now axis }
-    ensures { 0 < size_of (slice_set lengths.now axis len) → pos result ≡ pos offset +ℤ (pos steps *ℤ slice_index_or strides.now axis (pos 0)) }
-{
-    if leaves_none(lengths, axis, len) {
-        offset
-    } else {
-        moved_by(offset, steps, stride_at(strides, axis))
-    }
-}
-
 /// The opposite stride; 0 where it doesn't fit.
 fn opposite(stride: isize) -> isize
     ensures { result ≡ opposite_stride stride }
@@ -65,64 +34,78 @@ fn opposite(stride: isize) -> isize
     stride.checked_neg().unwrap_or(0)
 }
 
-/// The offset after an axis is inverted.
-fn offset_inverted(offset: usize, lengths: &[usize], strides: &[isize], axis: usize) -> usize
-    requires valid { IsValid offset lengths.now strides.now }
-    requires on { axis < length lengths.now }
-    ensures { IsStep offset lengths.now strides.now result lengths.now (slice_set strides.now axis (opposite_stride (slice_index_or strides.now axis (pos 0)))) (inverted_index lengths.now axis) }
-{
-    let len = length_at(lengths, axis);
-    offset_after(offset, lengths, strides, axis, len, len.saturating_sub(1))
-}
-
-/// The offset after one coordinate of an axis is kept.
-pub(crate) fn offset_collapsed(
-    offset: usize,
-    lengths: &[usize],
-    strides: &[isize],
-    axis: usize,
-    index: usize,
-) -> usize
-    requires valid { IsValid offset lengths.now strides.now }
-    requires on { axis < length lengths.now }
-    requires within { index < slice_index lengths.now axis }
-    ensures { IsStep offset lengths.now strides.now result (collapsed_shape lengths.now axis) strides.now (collapsed_index axis index) }
-{
-    offset_after(offset, lengths, strides, axis, 1, index)
-}
-
-/// The offset of the part of an axis from a coordinate on.
-fn offset_upper(
-    offset: usize,
-    lengths: &[usize],
-    strides: &[isize],
-    axis: usize,
-    index: usize,
-) -> usize
-    requires valid { IsValid offset lengths.now strides.now }
-    requires on { axis < length lengths.now }
-    requires within { index ≤ slice_index lengths.now axis }
-    ensures { IsStep offset lengths.now strides.now result (upper_shape lengths.now axis index) strides.now (upper_index axis index) }
-{
-    let len = length_at(lengths, axis) - index;
-    offset_after(offset, lengths, strides, axis, len, index)
-}
-
 impl<D: Dimension, T: StrideList> Layout<D, T> {
+    /// Whether no element is left where one axis is shortened.
+    #[inline]
+    pub(crate) fn leaves_none(&self, axis: usize, len: usize) -> bool
+        requires on { axis < length (D.lengths self.now.dim) }
+        requires shorter { len ≤ slice_index (D.lengths self.now.dim) axis }
+        ensures { IsTrue result ↔ (size_of (slice_set (D.lengths self.now.dim) axis len) ≡ 0) }
+    {
+        len == 0 || is_empty_shape(self.dim.slice())
+    }
+
+    /// The offset after coordinate 0 of an axis has moved up by some coordinates. It stays if no element is left.
+    #[inline]
+    fn offset_after(&self, axis: usize, len: usize, steps: usize) -> usize
+        requires on { axis < length (D.lengths self.now.dim) }
+        requires shorter { len ≤ slice_index (D.lengths self.now.dim) axis }
+        requires within { 0 < len → steps < slice_index (D.lengths self.now.dim) axis }
+        ensures { 0 < size_of (slice_set (D.lengths self.now.dim) axis len) → pos result ≡ pos self.now.offset +ℤ (pos steps *ℤ slice_index_or (T.strides_of self.now.strides) axis (pos 0)) }
+    {
+        if self.leaves_none(axis, len) {
+            self.offset
+        } else {
+            moved_by(self.offset, steps, self.strides.stride(axis))
+        }
+    }
+
+    /// The offset after an axis is inverted.
+    #[inline]
+    fn offset_inverted(&self, axis: usize) -> usize
+        requires { axis < length (D.lengths self.now.dim) }
+        ensures { IsStep self.now.offset (D.lengths self.now.dim) (T.strides_of self.now.strides) result (D.lengths self.now.dim) (slice_set (T.strides_of self.now.strides) axis (opposite_stride (slice_index_or (T.strides_of self.now.strides) axis (pos 0)))) (inverted_index (D.lengths self.now.dim) axis) }
+    {
+        let len = self.dim.length(axis);
+        self.offset_after(axis, len, len.saturating_sub(1))
+    }
+
+    /// The offset after one coordinate of an axis is kept.
+    #[inline]
+    pub(crate) fn offset_collapsed(&self, axis: usize, index: usize) -> usize
+        requires on { axis < length (D.lengths self.now.dim) }
+        requires within { index < slice_index (D.lengths self.now.dim) axis }
+        ensures { IsStep self.now.offset (D.lengths self.now.dim) (T.strides_of self.now.strides) result (collapsed_shape (D.lengths self.now.dim) axis) (T.strides_of self.now.strides) (collapsed_index axis index) }
+    {
+        self.offset_after(axis, 1, index)
+    }
+
+    /// The offset of the part of an axis from a coordinate on.
+    #[inline]
+    fn offset_upper(&self, axis: usize, index: usize) -> usize
+        requires on { axis < length (D.lengths self.now.dim) }
+        requires within { index ≤ slice_index (D.lengths self.now.dim) axis }
+        ensures { IsStep self.now.offset (D.lengths self.now.dim) (T.strides_of self.now.strides) result (upper_shape (D.lengths self.now.dim) axis index) (T.strides_of self.now.strides) (upper_index axis index) }
+    {
+        self.offset_after(axis, self.dim.length(axis) - index, index)
+    }
+
     /// Inverts an axis.
+    #[inline]
     pub fn invert_axis(&mut self, axis: usize)
         requires { axis < length (D.lengths self.old.dim) }
         ensures lengths { D.lengths self.new.dim ≡ D.lengths self.old.dim }
         ensures strides { T.strides_of self.new.strides ≡ slice_set (T.strides_of self.old.strides) axis (opposite_stride (slice_index_or (T.strides_of self.old.strides) axis (pos 0))) }
         ensures step { IsStep self.old.offset (D.lengths self.old.dim) (T.strides_of self.old.strides) self.new.offset (D.lengths self.new.dim) (T.strides_of self.new.strides) (inverted_index (D.lengths self.old.dim) axis) }
     {
-        let offset = offset_inverted(self.offset, self.dim.slice(), self.strides.slice(), axis);
-        let stride = opposite(stride_at(self.strides.slice(), axis));
+        let offset = self.offset_inverted(axis);
+        let stride = opposite(self.strides.stride(axis));
         self.offset = offset;
         self.strides.set(axis, stride);
     }
 
     /// Keeps one coordinate of an axis.
+    #[inline]
     pub fn collapse_axis(&mut self, axis: usize, index: usize)
         requires on { axis < length (D.lengths self.old.dim) }
         requires within { index < slice_index (D.lengths self.old.dim) axis }
@@ -130,18 +113,13 @@ impl<D: Dimension, T: StrideList> Layout<D, T> {
         ensures strides { T.strides_of self.new.strides ≡ T.strides_of self.old.strides }
         ensures step { IsStep self.old.offset (D.lengths self.old.dim) (T.strides_of self.old.strides) self.new.offset (D.lengths self.new.dim) (T.strides_of self.new.strides) (collapsed_index axis index) }
     {
-        let offset = offset_collapsed(
-            self.offset,
-            self.dim.slice(),
-            self.strides.slice(),
-            axis,
-            index,
-        );
+        let offset = self.offset_collapsed(axis, index);
         self.offset = offset;
         self.dim.set_length(axis, 1);
     }
 
     /// Keeps the coordinates of an axis below this one.
+    #[inline]
     pub fn keep_lower(&mut self, axis: usize, index: usize)
         requires on { axis < length (D.lengths self.old.dim) }
         requires within { index ≤ slice_index (D.lengths self.old.dim) axis }
@@ -153,6 +131,7 @@ impl<D: Dimension, T: StrideList> Layout<D, T> {
     }
 
     /// Keeps the coordinates of an axis from this one on.
+    #[inline]
     pub fn keep_upper(&mut self, axis: usize, index: usize)
         requires on { axis < length (D.lengths self.old.dim) }
         requires within { index ≤ slice_index (D.lengths self.old.dim) axis }
@@ -160,14 +139,8 @@ impl<D: Dimension, T: StrideList> Layout<D, T> {
         ensures strides { T.strides_of self.new.strides ≡ T.strides_of self.old.strides }
         ensures step { IsStep self.old.offset (D.lengths self.old.dim) (T.strides_of self.old.strides) self.new.offset (D.lengths self.new.dim) (T.strides_of self.new.strides) (upper_index axis index) }
     {
-        let offset = offset_upper(
-            self.offset,
-            self.dim.slice(),
-            self.strides.slice(),
-            axis,
-            index,
-        );
-        let len = length_at(self.dim.slice(), axis);
+        let offset = self.offset_upper(axis, index);
+        let len = self.dim.length(axis);
         self.offset = offset;
         self.dim.set_length(axis, len - index);
     }
@@ -191,80 +164,56 @@ impl<D: Dimension, T: StrideList> Layout<D, T> {
     }
 }
 
-/// The dimension with its axes in this order.
-fn permuted_dim<D: Dimension>(dim: &D, axes: &[usize]) -> D
-    requires { HasEachAxis axes.now (length (D.lengths dim.now)) }
-    ensures { D.lengths result ≡ permuted_list axes.now (D.lengths dim.now) }
+/// Exchanges two axes of lengths and strides.
+#[inline]
+fn exchange<D: Dimension, T: StrideList>(dim: &mut D, strides: &mut T, a: usize, b: usize)
+    requires as_many { length (T.strides_of strides.old) ≡ length (D.lengths dim.old) }
+    requires a { a < length (D.lengths dim.old) }
+    requires b { b < length (D.lengths dim.old) }
+    ensures lengths { D.lengths dim.new ≡ swap (D.lengths dim.old) a b }
+    ensures strides { T.strides_of strides.new ≡ swap (T.strides_of strides.old) a b }
 {
-    let mut out = *dim;
+    let (len, stride) = (dim.length(a), strides.stride(a));
+    let (other_len, other_stride) = (dim.length(b), strides.stride(b));
+    dim.set_length(a, other_len);
+    strides.set(a, other_stride);
+    dim.set_length(b, len);
+    strides.set(b, stride);
+}
+
+/// Puts the axes of lengths and strides in the opposite order.
+#[inline]
+fn reverse<D: Dimension, T: StrideList>(dim: &mut D, strides: &mut T)
+    requires { length (T.strides_of strides.old) ≡ length (D.lengths dim.old) }
+    ensures lengths { D.lengths dim.new ≡ reverse (D.lengths dim.old) }
+    ensures strides { T.strides_of strides.new ≡ reverse (T.strides_of strides.old) }
+{
+    let (old_dim, old_strides) = (*dim, *strides);
+    let count = old_dim.ndim();
+    for k in 0..count {
+        dim.set_length(k, old_dim.length(count - 1 - k));
+        strides.set(k, old_strides.stride(count - 1 - k));
+    }
+}
+
+/// Puts the axes of lengths and strides in another order.
+#[inline]
+fn permute<D: Dimension, T: StrideList>(dim: &mut D, strides: &mut T, axes: &[usize])
+    requires as_many { length (T.strides_of strides.old) ≡ length (D.lengths dim.old) }
+    requires each { HasEachAxis axes.now (length (D.lengths dim.old)) }
+    ensures lengths { D.lengths dim.new ≡ permuted_list axes.now (D.lengths dim.old) }
+    ensures strides { T.strides_of strides.new ≡ permuted_ints axes.now (T.strides_of strides.old) }
+{
+    let (old_dim, old_strides) = (*dim, *strides);
     for k in 0..axes.len() {
-        out.set_length(k, length_at(dim.slice(), axes[k]));
+        dim.set_length(k, old_dim.length(axes[k]));
+        strides.set(k, old_strides.stride(axes[k]));
     }
-    out
-}
-
-/// The strides with their axes in this order.
-fn permuted_strides<T: StrideList>(strides: &T, axes: &[usize]) -> T
-    requires { HasEachAxis axes.now (length (T.strides_of strides.now)) }
-    ensures { T.strides_of result ≡ permuted_ints axes.now (T.strides_of strides.now) }
-{
-    let mut out = *strides;
-    for k in 0..axes.len() {
-        out.set(k, stride_at(strides.slice(), axes[k]));
-    }
-    out
-}
-
-/// The dimension with two of its axes exchanged.
-fn swapped_dim<D: Dimension>(dim: &D, a: usize, b: usize) -> D
-    requires a { a < length (D.lengths dim.now) }
-    requires b { b < length (D.lengths dim.now) }
-    ensures { D.lengths result ≡ swap (D.lengths dim.now) a b }
-{
-    let mut out = *dim;
-    out.set_length(a, length_at(dim.slice(), b));
-    out.set_length(b, length_at(dim.slice(), a));
-    out
-}
-
-/// The strides with two axes exchanged.
-fn swapped_strides<T: StrideList>(strides: &T, a: usize, b: usize) -> T
-    requires a { a < length (T.strides_of strides.now) }
-    requires b { b < length (T.strides_of strides.now) }
-    ensures { T.strides_of result ≡ swap (T.strides_of strides.now) a b }
-{
-    let mut out = *strides;
-    out.set(a, stride_at(strides.slice(), b));
-    out.set(b, stride_at(strides.slice(), a));
-    out
-}
-
-/// The dimension with its axes in the opposite order.
-fn reversed_dim<D: Dimension>(dim: &D) -> D
-    ensures { D.lengths result ≡ reverse (D.lengths dim.now) }
-{
-    let mut out = *dim;
-    let lengths = dim.slice();
-    for k in 0..lengths.len() {
-        out.set_length(k, length_at(lengths, lengths.len() - 1 - k));
-    }
-    out
-}
-
-/// The strides with the axes in the opposite order.
-fn reversed_strides<T: StrideList>(strides: &T) -> T
-    ensures { T.strides_of result ≡ reverse (T.strides_of strides.now) }
-{
-    let mut out = *strides;
-    let list = strides.slice();
-    for k in 0..list.len() {
-        out.set(k, stride_at(list, list.len() - 1 - k));
-    }
-    out
 }
 
 impl<D: Dimension, T: StrideList> Layout<D, T> {
     /// Exchanges two axes.
+    #[inline]
     pub fn swap_axes(&mut self, a: usize, b: usize)
         requires a { a < length (D.lengths self.old.dim) }
         requires b { b < length (D.lengths self.old.dim) }
@@ -272,34 +221,27 @@ impl<D: Dimension, T: StrideList> Layout<D, T> {
         ensures strides { T.strides_of self.new.strides ≡ swap (T.strides_of self.old.strides) a b }
         ensures step { IsStep self.old.offset (D.lengths self.old.dim) (T.strides_of self.old.strides) self.new.offset (D.lengths self.new.dim) (T.strides_of self.new.strides) (λ i. swap i a b) }
     {
-        let dim = swapped_dim(&self.dim, a, b);
-        let strides = swapped_strides(&self.strides, a, b);
-        self.dim = dim;
-        self.strides = strides;
+        exchange(&mut self.dim, &mut self.strides, a, b);
     }
 
     /// Puts the axes in the opposite order.
+    #[inline]
     pub fn reverse_axes(&mut self)
         ensures lengths { D.lengths self.new.dim ≡ reverse (D.lengths self.old.dim) }
         ensures strides { T.strides_of self.new.strides ≡ reverse (T.strides_of self.old.strides) }
         ensures step { IsStep self.old.offset (D.lengths self.old.dim) (T.strides_of self.old.strides) self.new.offset (D.lengths self.new.dim) (T.strides_of self.new.strides) reverse }
     {
-        let dim = reversed_dim(&self.dim);
-        let strides = reversed_strides(&self.strides);
-        self.dim = dim;
-        self.strides = strides;
+        reverse(&mut self.dim, &mut self.strides);
     }
 
     /// Puts the axes in another order.
+    #[inline]
     pub fn permute_axes(&mut self, axes: &[usize])
         requires { HasEachAxis axes.now (length (D.lengths self.old.dim)) }
         ensures lengths { D.lengths self.new.dim ≡ permuted_list axes.now (D.lengths self.old.dim) }
         ensures strides { T.strides_of self.new.strides ≡ permuted_ints axes.now (T.strides_of self.old.strides) }
         ensures step { IsStep self.old.offset (D.lengths self.old.dim) (T.strides_of self.old.strides) self.new.offset (D.lengths self.new.dim) (T.strides_of self.new.strides) (unpermuted_list axes.now) }
     {
-        let dim = permuted_dim(&self.dim, axes);
-        let strides = permuted_strides(&self.strides, axes);
-        self.dim = dim;
-        self.strides = strides;
+        permute(&mut self.dim, &mut self.strides, axes);
     }
 }

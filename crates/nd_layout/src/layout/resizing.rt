@@ -6,7 +6,7 @@ ghost use Rattle.nd_shape_and_slice.specs.Maps.{indexed_shape, indexed_index, in
 ghost use Rattle.nd_layout.specs.Steps.{IsStep};
 
 use super::Layout;
-use super::axes::{offset_collapsed, stride_at};
+use super::axes::stride_at;
 use nd_shape_and_slice::{
     Axis, Dimension, DynStrides, InsertAxis, IxDyn, RemoveAxis, StrideList, strides_from,
 };
@@ -116,13 +116,7 @@ where
         ensures strides { D.Smaller.Strides.strides_of result.strides ≡ remove (T.strides_of self.now.strides) axis }
         ensures step { IsStep self.now.offset (D.lengths self.now.dim) (T.strides_of self.now.strides) result.offset (D.Smaller.lengths result.dim) (D.Smaller.Strides.strides_of result.strides) (indexed_index axis index) }
     {
-        let offset = offset_collapsed(
-            self.offset,
-            self.dim.slice(),
-            self.strides.slice(),
-            axis,
-            index,
-        );
+        let offset = self.offset_collapsed(axis, index);
         let dim = self.dim.remove_axis(Axis(axis));
         let strides = strides_without(&dim, self.strides.slice(), axis);
         Layout {

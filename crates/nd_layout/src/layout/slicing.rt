@@ -11,7 +11,7 @@ ghost use Rattle.nd_shape_and_slice.specs.Slicing.{collapsed_after, collapsed_be
 ghost use Rattle.nd_layout.specs.Steps.{IsStep, IsValid};
 
 use super::Layout;
-use super::axes::{leaves_none, length_at, stride_at};
+use super::axes::{length_at, stride_at};
 use super::places::moved_by;
 use nd_shape_and_slice::{
     Axis, AxisDescription, Dimension, MAX_AXES, Slice, SliceInfoElem, StrideList, axes_kept,
@@ -34,37 +34,32 @@ fn stepped_by(stride: isize, len: usize, step: isize) -> isize
     if len <= 1 { 0 } else { stride * step }
 }
 
-/// One axis after a slice: the offset, its length and its stride. The offset stays if no element is left.
-fn slice_of_axis(
-    offset: usize,
-    lengths: &[usize],
-    strides: &[isize],
-    axis: usize,
-    slice: Slice,
-) -> AxisChange
-    requires valid { IsValid offset lengths.now strides.now }
-    requires on { axis < length lengths.now }
-    requires fits { fits_axis (slice_index lengths.now axis) slice ≡ true }
-    ensures len { result.len ≡ sliced_length (slice_index lengths.now axis) slice }
-    ensures stride { result.stride ≡ stepped_stride result.len (slice_index_or strides.now axis (pos 0)) slice.step }
-    ensures step { IsStep offset lengths.now strides.now result.offset (slice_set lengths.now axis result.len) (slice_set strides.now axis result.stride) (sliced_index lengths.now axis slice) }
-{
-    let sliced = slice.on_axis(lengths[axis]);
-    let stride = strides[axis];
-    let offset = if leaves_none(lengths, axis, sliced.len) {
-        offset
-    } else {
-        moved_by(offset, sliced.first, stride)
-    };
-    AxisChange {
-        offset,
-        len: sliced.len,
-        stride: stepped_by(stride, sliced.len, slice.step),
-    }
-}
-
 impl<D: Dimension, T: StrideList> Layout<D, T> {
+    /// One axis after a slice: the offset, its length and its stride. The offset stays if no element is left.
+    #[inline]
+    fn slice_of_axis(&self, axis: usize, slice: Slice) -> AxisChange
+        requires on { axis < length (D.lengths self.now.dim) }
+        requires fits { fits_axis (slice_index (D.lengths self.now.dim) axis) slice ≡ true }
+        ensures len { result.len ≡ sliced_length (slice_index (D.lengths self.now.dim) axis) slice }
+        ensures stride { result.stride ≡ stepped_stride result.len (slice_index_or (T.strides_of self.now.strides) axis (pos 0)) slice.step }
+        ensures step { IsStep self.now.offset (D.lengths self.now.dim) (T.strides_of self.now.strides) result.offset (slice_set (D.lengths self.now.dim) axis result.len) (slice_set (T.strides_of self.now.strides) axis result.stride) (sliced_index (D.lengths self.now.dim) axis slice) }
+    {
+        let sliced = slice.on_axis(self.dim.length(axis));
+        let stride = self.strides.stride(axis);
+        let offset = if self.leaves_none(axis, sliced.len) {
+            self.offset
+        } else {
+            moved_by(self.offset, sliced.first, stride)
+        };
+        AxisChange {
+            offset,
+            len: sliced.len,
+            stride: stepped_by(stride, sliced.len, slice.step),
+        }
+    }
+
     /// Keeps of one axis what the slice names.
+    #[inline]
     pub fn slice_axis(&mut self, axis: usize, slice: Slice)
         requires on { axis < length (D.lengths self.old.dim) }
         requires fits { fits_axis (slice_index (D.lengths self.old.dim) axis) slice ≡ true }
@@ -72,13 +67,7 @@ impl<D: Dimension, T: StrideList> Layout<D, T> {
         ensures strides { T.strides_of self.new.strides ≡ sliced_strides (D.lengths self.old.dim) (T.strides_of self.old.strides) axis slice }
         ensures step { IsStep self.old.offset (D.lengths self.old.dim) (T.strides_of self.old.strides) self.new.offset (D.lengths self.new.dim) (T.strides_of self.new.strides) (sliced_index (D.lengths self.old.dim) axis slice) }
     {
-        let after = slice_of_axis(
-            self.offset,
-            self.dim.slice(),
-            self.strides.slice(),
-            axis,
-            slice,
-        );
+        let after = self.slice_of_axis(axis, slice);
         self.offset = after.offset;
         self.dim.set_length(axis, after.len);
         self.strides.set(axis, after.stride);

@@ -5,20 +5,14 @@ use Rattle.nd_layout.proofs.steps.StepLemmas.{step_reaches}
 use Rattle.nd_layout.proofs.steps.ExchangeStep.{swap_is_step}
 use Rattle.nd_layout.proofs.layout.Layout.swap_axes.Goals as goal
 
-pub swapped_strides-strides-requires-clause-a : goal.swapped_strides-strides-requires-clause-a
-swapped_strides-strides-requires-clause-a g c = omega (arith, c.args.self.now.as_many, c.requires.a)
-
-pub swapped_strides-strides-requires-clause-b : goal.swapped_strides-strides-requires-clause-b
-swapped_strides-strides-requires-clause-b g c = omega (arith, c.args.self.now.as_many, c.requires.b)
-
 pub returns-clause-step : goal.returns-clause-step
 returns-clause-step g c =
-    rw (c.swapped_dim-dim.ensures, c.swapped_strides-strides.ensures) (swap_is_step c.args.self.now.offset (g.D.Dimension.lengths c.args.self.now.dim) (g.T.StrideList.strides_of c.args.self.now.strides) c.args.a c.args.b c.args.self.now.as_many c.requires.a c.requires.b)
+    rw (c.exchange.ensures.lengths, c.exchange.ensures.strides) (swap_is_step c.args.self.now.offset (g.D.Dimension.lengths c.args.self.now.dim) (g.T.StrideList.strides_of c.args.self.now.strides) c.args.a c.args.b c.args.self.now.as_many c.requires.a c.requires.b)
 
 pub invariant_of-self : goal.invariant_of-self
 invariant_of-self g c =
-    let step : IsStep c.args.self.now.offset (g.D.Dimension.lengths c.args.self.now.dim) (g.T.StrideList.strides_of c.args.self.now.strides) c.args.self.now.offset (g.D.Dimension.lengths c.swapped_dim-dim.result) (g.T.StrideList.strides_of c.swapped_strides-strides.result) (λ i. swap i c.args.a c.args.b) =
-    rw (c.swapped_dim-dim.ensures, c.swapped_strides-strides.ensures) (swap_is_step c.args.self.now.offset (g.D.Dimension.lengths c.args.self.now.dim) (g.T.StrideList.strides_of c.args.self.now.strides) c.args.a c.args.b c.args.self.now.as_many c.requires.a c.requires.b) in
+    let step : IsStep c.args.self.now.offset (g.D.Dimension.lengths c.args.self.now.dim) (g.T.StrideList.strides_of c.args.self.now.strides) c.args.self.now.offset (g.D.Dimension.lengths c.exchange.new.dim) (g.T.StrideList.strides_of c.exchange.new.strides) (λ i. swap i c.args.a c.args.b) =
+    rw (c.exchange.ensures.lengths, c.exchange.ensures.strides) (swap_is_step c.args.self.now.offset (g.D.Dimension.lengths c.args.self.now.dim) (g.T.StrideList.strides_of c.args.self.now.strides) c.args.a c.args.b c.args.self.now.as_many c.requires.a c.requires.b) in
     record {
       as_many = step.as_many;
       spread = omega (arith, step.spread, c.args.self.now.spread);

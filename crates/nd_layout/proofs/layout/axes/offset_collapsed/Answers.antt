@@ -1,5 +1,0 @@
-use Rattle.nd_layout.proofs.steps.AxisStep.{collapse_is_step}
-use Rattle.nd_layout.proofs.layout.axes.offset_collapsed.Goals as goal
-
-pub returns : goal.returns
-returns c = collapse_is_step c.args.lengths.now c.args.strides.now c.args.axis c.requires.valid.as_many c.requires.on c.args.index c.args.offset c.offset_after.result c.requires.within c.offset_after.ensures

@@ -1,5 +1,0 @@
-use Rattle.nd_layout.proofs.steps.AxisStep.{upper_is_step}
-use Rattle.nd_layout.proofs.layout.axes.offset_upper.Goals as goal
-
-pub returns : goal.returns
-returns c = upper_is_step c.args.lengths.now c.args.strides.now c.args.axis c.requires.valid.as_many c.requires.on c.args.index c.args.offset c.offset_after.result c.requires.within (rw c.length_at.ensures at c.offset_after.ensures)
