@@ -14,6 +14,7 @@ impl<S: Data, D: Dimension> ArrayBase<S, D> {
     /// The view under a larger shape, where each new axis and each axis grown from length 1 repeats the same
     /// elements. None exactly where the shape has no checked size or fewer axes, or where, from the back, a length
     /// differs and the array's isn't 1. ndarray's `broadcast`.
+    #[inline]
     pub fn broadcast<E: IntoDimension>(&self, to: E) -> Option<ArrayView<'_, S::Elem, E::Dim>>
         ensures none { IsNone result ↔ (broadcasts (shape_of self.now) (E.lengths_given to) ≡ false) }
         ensures shape { IfSome result (λ v. shape_of v ≡ E.lengths_given to) }
@@ -26,6 +27,7 @@ impl<S: Data, D: Dimension> ArrayBase<S, D> {
 
 impl<'a, A, D: Dimension> ArrayView<'a, A, D> {
     /// `broadcast` of a view, for as long as the view itself lives. ndarray has no such call.
+    #[inline]
     pub fn broadcast_move<E: IntoDimension>(self, to: E) -> Option<ArrayView<'a, A, E::Dim>>
         ensures none { IsNone result ↔ (broadcasts (shape_of self.entry) (E.lengths_given to) ≡ false) }
         ensures shape { IfSome result (λ v. shape_of v ≡ E.lengths_given to) }

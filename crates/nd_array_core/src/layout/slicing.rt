@@ -22,6 +22,7 @@ use nd_shape_and_slice::{
 impl<S: Data, D: Dimension> ArrayBase<S, D> {
     /// The array of what the list names: a slice keeps its axis, an index takes its axis away, and a new axis has length
     /// 1. The list fits the shape (`SliceArg::fits`). ndarray's `slice_move`.
+    #[inline]
     pub fn slice_move<I: SliceArg<D>>(self, info: I) -> ArrayBase<S, I::OutDim>
         requires { fits_shape (shape_of self) (I.elements_of info) ≡ true }
         ensures shape { shape_of result ≡ shape_after (shape_of self) (I.elements_of info) }
@@ -38,6 +39,7 @@ impl<S: Data, D: Dimension> ArrayBase<S, D> {
 
     /// The view of what the list names: a slice keeps its axis, an index takes its axis away, and a new axis has length
     /// 1. The list fits the shape (`SliceArg::fits`). ndarray's `slice`.
+    #[inline]
     pub fn slice<I: SliceArg<D>>(&self, info: I) -> ArrayView<'_, S::Elem, I::OutDim>
         requires { fits_shape (shape_of self.now) (I.elements_of info) ≡ true }
         ensures shape { shape_of result ≡ shape_after (shape_of self.now) (I.elements_of info) }
@@ -61,6 +63,7 @@ impl<S: Data, D: Dimension> ArrayBase<S, D> {
 
     /// Keeps of one axis what the slice names. The axis is below `ndim`, and the slice fits it (`slice_fits`).
     /// ndarray's `slice_axis_inplace`.
+    #[inline]
     pub fn slice_axis_inplace(&mut self, axis: Axis, slice: Slice)
         requires axis { axis.0 < length (shape_of self.old) }
         requires fits { fits_axis (slice_index (shape_of self.old) axis.0) slice ≡ true }
@@ -75,6 +78,7 @@ impl<S: Data, D: Dimension> ArrayBase<S, D> {
 
     /// The view of what the slice names of one axis. The axis is below `ndim`, and the slice fits it
     /// (`slice_fits`). ndarray's `slice_axis`.
+    #[inline]
     pub fn slice_axis(&self, axis: Axis, slice: Slice) -> ArrayView<'_, S::Elem, D>
         requires axis { axis.0 < length (shape_of self.now) }
         requires fits { fits_axis (slice_index (shape_of self.now) axis.0) slice ≡ true }
@@ -89,6 +93,7 @@ impl<S: Data, D: Dimension> ArrayBase<S, D> {
 
     /// The array of what the slice names of one axis. The axis is below `ndim`, and the slice fits it
     /// (`slice_fits`). ndarray's `slice_axis_move`.
+    #[inline]
     pub fn slice_axis_move(self, axis: Axis, slice: Slice) -> Self
         requires axis { axis.0 < length (shape_of self) }
         requires fits { fits_axis (slice_index (shape_of self) axis.0) slice ≡ true }

@@ -63,6 +63,7 @@ fn strides_under<E: Dimension>(from: &[usize], strides: &[isize], to: &E) -> E::
 
 impl<D: Dimension, T: StrideList> Layout<D, T> {
     /// The layout under a larger shape; None exactly where there is none.
+    #[inline]
     pub fn broadcast<E: Dimension>(&self, to: E) -> Option<Layout<E, E::Strides>>
         ensures none { IsNone result ↔ (broadcasts (D.lengths self.now.dim) (E.lengths to) ≡ false) }
         ensures lengths { IfSome result (λ l. E.lengths l.dim ≡ E.lengths to) }
