@@ -21,7 +21,11 @@ impl<S: Data, D: Dimension> ArrayBase<S, D> {
         ensures strides { IfSome result (λ v. layout_strides v ≡ broadcast_strides (shape_of self.now) (layout_strides self.now) (shape_of v)) }
         ensures elements { IfSome result (λ v. (i : List ℕ) → element_at v i ≡ inside (shape_of v) i (element_at self.now (broadcast_index (shape_of self.now) (shape_of v) i))) }
     {
-        self.view().broadcast_move(to)
+        let layout = self.layout.broadcast(to.into_dimension())?;
+        Some(ArrayBase {
+            storage: self.storage.borrowed(),
+            layout,
+        })
     }
 }
 

@@ -45,7 +45,10 @@ impl<S: Data, D: Dimension> ArrayBase<S, D> {
         ensures shape { shape_of result ≡ shape_after (shape_of self.now) (I.elements_of info) }
         ensures elements { (i : List ℕ) → element_at result i ≡ inside (shape_of result) i (element_at self.now (index_before (shape_of self.now) (I.elements_of info) i)) }
     {
-        self.view().slice_move(info)
+        ArrayBase {
+            storage: self.storage.borrowed(),
+            layout: self.layout.sliced::<I::OutDim>(info.elements()),
+        }
     }
 
     /// Keeps of each axis what the list names; an indexed axis keeps length 1. The list fits the shape
