@@ -22,6 +22,7 @@ use nd_shape_and_slice::{
 impl<S: Data, D: Dimension> ArrayBase<S, D> {
     /// The array of what the list names: a slice keeps its axis, an index takes its axis away, and a new axis has length
     /// 1. The list fits the shape (`SliceArg::fits`). ndarray's `slice_move`.
+    #[inline]
     pub fn slice_move<I: SliceArg<D>>(self, info: I) -> ArrayBase<S, I::OutDim>
         requires { fits_shape (shape_of self) (I.elements_of info) ≡ true }
         ensures shape { shape_of result ≡ shape_after (shape_of self) (I.elements_of info) }
@@ -38,12 +39,16 @@ impl<S: Data, D: Dimension> ArrayBase<S, D> {
 
     /// The view of what the list names: a slice keeps its axis, an index takes its axis away, and a new axis has length
     /// 1. The list fits the shape (`SliceArg::fits`). ndarray's `slice`.
+    #[inline]
     pub fn slice<I: SliceArg<D>>(&self, info: I) -> ArrayView<'_, S::Elem, I::OutDim>
         requires { fits_shape (shape_of self.now) (I.elements_of info) ≡ true }
         ensures shape { shape_of result ≡ shape_after (shape_of self.now) (I.elements_of info) }
         ensures elements { (i : List ℕ) → element_at result i ≡ inside (shape_of result) i (element_at self.now (index_before (shape_of self.now) (I.elements_of info) i)) }
     {
-        self.view().slice_move(info)
+        ArrayBase {
+            storage: self.storage.borrowed(),
+            layout: self.layout.sliced::<I::OutDim>(info.elements()),
+        }
     }
 
     /// Keeps of each axis what the list names; an indexed axis keeps length 1. The list fits the shape
@@ -61,6 +66,7 @@ impl<S: Data, D: Dimension> ArrayBase<S, D> {
 
     /// Keeps of one axis what the slice names. The axis is below `ndim`, and the slice fits it (`slice_fits`).
     /// ndarray's `slice_axis_inplace`.
+    #[inline]
     pub fn slice_axis_inplace(&mut self, axis: Axis, slice: Slice)
         requires axis { axis.0 < length (shape_of self.old) }
         requires fits { fits_axis (slice_index (shape_of self.old) axis.0) slice ≡ true }
@@ -75,6 +81,7 @@ impl<S: Data, D: Dimension> ArrayBase<S, D> {
 
     /// The view of what the slice names of one axis. The axis is below `ndim`, and the slice fits it
     /// (`slice_fits`). ndarray's `slice_axis`.
+    #[inline]
     pub fn slice_axis(&self, axis: Axis, slice: Slice) -> ArrayView<'_, S::Elem, D>
         requires axis { axis.0 < length (shape_of self.now) }
         requires fits { fits_axis (slice_index (shape_of self.now) axis.0) slice ≡ true }
@@ -89,6 +96,7 @@ impl<S: Data, D: Dimension> ArrayBase<S, D> {
 
     /// The array of what the slice names of one axis. The axis is below `ndim`, and the slice fits it
     /// (`slice_fits`). ndarray's `slice_axis_move`.
+    #[inline]
     pub fn slice_axis_move(self, axis: Axis, slice: Slice) -> Self
         requires axis { axis.0 < length (shape_of self) }
         requires fits { fits_axis (slice_index (shape_of self) axis.0) slice ≡ true }

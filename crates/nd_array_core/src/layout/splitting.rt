@@ -22,6 +22,7 @@ use nd_shape_and_slice::{Axis, Dimension, SliceArg, StrideList};
 impl<'a, A, D: Dimension> ArrayView<'a, A, D> {
     /// The two parts of an axis: the coordinates below this one, and those from it on. The axis is below `ndim`,
     /// and the coordinate at most its length. ndarray's `ArrayView::split_at`.
+    #[inline]
     pub fn split_at(self, axis: Axis, index: usize) -> (Self, Self)
         requires axis { axis.0 < length (shape_of self) }
         requires within { index ≤ slice_index (shape_of self) axis.0 }
@@ -48,6 +49,7 @@ impl<'a, A, D: Dimension> ArrayView<'a, A, D> {
 }
 
 /// The layouts of the two parts of an axis, which share no place where the strides are separated.
+#[inline]
 fn halves<D: Dimension, T: StrideList>(
     layout: &Layout<D, T>,
     axis: usize,
@@ -162,6 +164,7 @@ impl<'a, A> ViewMutRepr<'a, A> {
 impl<'a, A, D: Dimension> ArrayViewMut<'a, A, D> {
     /// The two parts of an axis: the coordinates below this one, and those from it on. The axis is below `ndim`,
     /// and the coordinate at most its length. ndarray's `ArrayViewMut::split_at`.
+    #[inline]
     pub fn split_at(self, axis: Axis, index: usize) -> (Self, Self)
         requires axis { axis.0 < length (shape_of self) }
         requires within { index ≤ slice_index (shape_of self) axis.0 }
