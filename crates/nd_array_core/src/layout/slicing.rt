@@ -10,14 +10,28 @@ ghost use Rattle.nd_shape_and_slice.specs.EachAxis.{each_sliced_shape, each_slic
 ghost use Rattle.nd_shape_and_slice.specs.Slice.{fits_axis, sliced_shape, sliced_index};
 ghost use Rattle.nd_shape_and_slice.specs.SliceInfo.{fits_shape, shape_after, index_before, axes_read};
 ghost use Rattle.nd_shape_and_slice.specs.Slicing.{collapsed_after, collapsed_before};
+ghost use Rattle.nd_layout.specs.Steps.{IsStep};
 ghost use Rattle.nd_layout.specs.Strides.{sliced_strides};
 ghost use Rattle.nd_array_core.specs.Meaning.{shape_of, element_at, storage_of, place_at, layout_strides, inside};
 
 use crate::base::array::{ArrayBase, ArrayView, ArrayViewMut};
 use crate::base::storage::{Data, DataMut};
+use nd_layout::Layout;
 use nd_shape_and_slice::{
     Axis, AxisCount, AxisDescription, Dimension, Slice, SliceArg, StrideList,
 };
+
+/// The layout of what a list of slices names. The list fits the shape.
+pub(crate) fn sliced_by<D: Dimension, I: SliceArg<D>>(
+    layout: &Layout<D, D::Strides>,
+    list: I,
+) -> Layout<I::OutDim, <I::OutDim as Dimension>::Strides>
+    requires { fits_shape (D.lengths layout.now.dim) (I.elements_of list) ≡ true }
+    ensures lengths { I.OutDim.lengths result.dim ≡ shape_after (D.lengths layout.now.dim) (I.elements_of list) }
+    ensures step { IsStep layout.now.offset (D.lengths layout.now.dim) (D.Strides.strides_of layout.now.strides) result.offset (I.OutDim.lengths result.dim) (I.OutDim.Strides.strides_of result.strides) (index_before (D.lengths layout.now.dim) (I.elements_of list)) }
+{
+    layout.sliced::<I::OutDim>(list.elements())
+}
 
 impl<S: Data, D: Dimension> ArrayBase<S, D> {
     /// The array of what the list names: a slice keeps its axis, an index takes its axis away, and a new axis has length
@@ -30,7 +44,7 @@ impl<S: Data, D: Dimension> ArrayBase<S, D> {
         ensures storage { storage_of result ≡ storage_of self }
         ensures places { (i : List ℕ) → place_at result i ≡ inside (shape_of result) i (place_at self (index_before (shape_of self) (I.elements_of info) i)) }
     {
-        let layout = self.layout.sliced::<I::OutDim>(info.elements());
+        let layout = sliced_by(&self.layout, info);
         ArrayBase {
             storage: self.storage,
             layout,
