@@ -23,30 +23,49 @@ pub record Meaning (A : Type 0) : Type 0 where
 abbrev pub meaning_through : {A : Type 0} → List ℕ → (List ℕ → List ℕ) → Meaning A → Meaning A
 meaning_through shape source m = record { shape = shape; at = λ i. inside shape i (m.at (source i)) }
 
+-- how an array lies in memory: what holds its elements, the place there of each index's element, which is nothing
+-- outside the shape's box, and the stride of each axis; shape and elements don't tell any of it
+pub record MemoryLayout (S : Type 0) : Type 0 where
+  pub storage : S
+  pub place : List ℕ → Option ℕ
+  pub strides : List ℤ
+
 module _ {S D T A P R L M : Type 0} {s : data_trait.Ghosts S A} {d : dimension.Ghosts D P R L M} {n : axis_count.Ghosts D} {r : stride_list.Ghosts R} {t : stride_list.Ghosts T} where
+  -- what is seen of an array. This word and the next are opaque above this crate, and all that callers read of an
+  -- array is a field of one of them: the search looks through a field, and not through an opaque word's own arguments
+  unfoldable pub meaning_of : ArrayBase S D T A P R L M s d n r t → Meaning A
+  meaning_of a = record {
+    shape = d.lengths a.layout.dim;
+    at = λ i. inside (d.lengths a.layout.dim) i (stored_at (s.stored a.storage) (place_of a.layout.offset (t.strides_of a.layout.strides) i));
+  }
+
+  -- how it lies in memory
+  unfoldable pub memory_layout_of : ArrayBase S D T A P R L M s d n r t → MemoryLayout S
+  memory_layout_of a = record {
+    storage = a.storage;
+    place = λ i. inside (d.lengths a.layout.dim) i (place_number (place_of a.layout.offset (t.strides_of a.layout.strides) i));
+    strides = t.strides_of a.layout.strides;
+  }
+
   -- the length of each axis
-  unfoldable pub shape_of : ArrayBase S D T A P R L M s d n r t → List ℕ
-  shape_of a = d.lengths a.layout.dim
+  abbrev pub shape_of : ArrayBase S D T A P R L M s d n r t → List ℕ
+  shape_of a = (meaning_of a).shape
 
   -- the element at an index: nothing outside the shape's box
-  unfoldable pub element_at : ArrayBase S D T A P R L M s d n r t → List ℕ → Option A
-  element_at a i = inside (d.lengths a.layout.dim) i (stored_at (s.stored a.storage) (place_of a.layout.offset (t.strides_of a.layout.strides) i))
+  abbrev pub element_at : ArrayBase S D T A P R L M s d n r t → List ℕ → Option A
+  element_at a i = (meaning_of a).at i
 
-  -- the stride of each axis: how the elements lie, which shape and elements don't tell
-  unfoldable pub layout_strides : ArrayBase S D T A P R L M s d n r t → List ℤ
-  layout_strides a = t.strides_of a.layout.strides
+  -- the stride of each axis
+  abbrev pub layout_strides : ArrayBase S D T A P R L M s d n r t → List ℤ
+  layout_strides a = (memory_layout_of a).strides
 
   -- what the array lies in: its elements, each at a place
-  unfoldable pub storage_of : ArrayBase S D T A P R L M s d n r t → S
-  storage_of a = a.storage
+  abbrev pub storage_of : ArrayBase S D T A P R L M s d n r t → S
+  storage_of a = (memory_layout_of a).storage
 
   -- the place there of an index's element: nothing outside the shape's box
-  unfoldable pub place_at : ArrayBase S D T A P R L M s d n r t → List ℕ → Option ℕ
-  place_at a i = inside (d.lengths a.layout.dim) i (place_number (place_of a.layout.offset (t.strides_of a.layout.strides) i))
-
-  -- shape and elements together
-  abbrev pub meaning_of : ArrayBase S D T A P R L M s d n r t → Meaning A
-  meaning_of a = record { shape = shape_of a; at = element_at a }
+  abbrev pub place_at : ArrayBase S D T A P R L M s d n r t → List ℕ → Option ℕ
+  place_at a i = (memory_layout_of a).place i
 
   -- shape, places and storage together
   abbrev pub placed_array : ArrayBase S D T A P R L M s d n r t → PlacedArray A

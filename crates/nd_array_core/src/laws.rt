@@ -74,20 +74,20 @@ pub fn maps_lead_inside()
 {}
 
 /// An array has no element outside its box, which the laws ask of a meaning.
-#[tactic(auto, unfolding(crate::specs::Meaning::shape_of, crate::specs::Meaning::element_at))]
+#[tactic(auto, unfolding(crate::specs::Meaning::meaning_of))]
 pub fn nothing_outside<S: Data, D: Dimension>(array: &ArrayBase<S, D>)
     ensures { NothingOutside (meaning_of array.now) }
 {}
 
 /// Each index of an array's box has a place, no other index has one, and the element is what is stored there.
-#[tactic(auto, unfolding(crate::specs::Meaning::shape_of, crate::specs::Meaning::element_at, crate::specs::Meaning::storage_of, crate::specs::Meaning::place_at))]
+#[tactic(auto, unfolding(crate::specs::Meaning::meaning_of, crate::specs::Meaning::memory_layout_of))]
 pub fn elements_have_places<S: Data, D: Dimension>(array: &ArrayBase<S, D>)
     ensures places { IndexesHavePlaces (placed_array array.now) }
     ensures elements { ShowsStored (element_at array.now) (placed_array array.now) }
 {}
 
 /// Distinct indexes of an owned array or a mutable view have distinct places.
-#[tactic(auto, unfolding(crate::specs::Meaning::shape_of, crate::specs::Meaning::storage_of, crate::specs::Meaning::place_at))]
+#[tactic(auto, unfolding(crate::specs::Meaning::meaning_of, crate::specs::Meaning::memory_layout_of))]
 pub fn distinct_places<S: DataMut, D: Dimension>(array: &ArrayBase<S, D>)
     ensures { DistinctPlaces (placed_array array.now) }
 {}

@@ -1,14 +1,13 @@
 -- Rows and columns of an image, each named by a list of one index and one whole axis.
-use Rattle.std.proofs.Common.{◌≡◌, ℕ, ◌+◌, ◌*◌, ◌<◌, Bool, true, false, List, [], ◌∷◌, ℤ, pos, refl, ap, sym, subst, ◌∙◌, arith}
+use Rattle.std.proofs.Common.{◌≡◌, ℕ, ◌+◌, ◌*◌, ◌<◌, Bool, true, List, [], ◌∷◌, ℤ, pos, refl, ap, sym, subst, ◌∙◌, arith}
 use Rattle.std.specs.Prelude.{Option, Some, None, nat_eq, nat_lt, is_some, slice_index}
 use Rattle.std.specs.Option.{unwrap_or}
-use Rattle.std.proofs.lemmas.Bool.{and_parts, and_from, eqb-true, eq-eqb, lt-ltb, ltb-true}
+use Rattle.std.proofs.lemmas.Bool.{and_parts, and_from, eqb-true, lt-ltb, ltb-true}
 use Rattle.nd_shape_and_slice.specs.declared.slice_info.SliceInfoElem.{SliceInfoElem}
 use Rattle.nd_shape_and_slice.specs.declared.slice_info.SliceInfoElem.TheVariants.{Slice as Part, Index}
 use Rattle.nd_shape_and_slice.specs.Shape.{in_box}
 use Rattle.nd_shape_and_slice.specs.Slice.{low_of}
 use Rattle.nd_shape_and_slice.specs.SliceInfo.{coordinate_on, shape_after, index_before}
-use Rattle.nd_array_core.specs.scoped.Tasks.{OthersKeep}
 use Rattle.nd_array_core_uses.specs.Painting.{is_at, in_row, in_column}
 use Rattle.nd_array_core_uses.proofs.Halves.{by_step, low_is, whole_length}
 
@@ -34,14 +33,6 @@ module _ {A : Type 0} (m : ℕ) (shape : List ℕ) (source : List ℕ → List �
       let inside : in_box shape (at.0 ∷ []) ≡ true = ap (λ s. in_box s (at.0 ∷ [])) same_shape ∙ and_from (nat_lt at.0 m) true (lt-ltb at.0 m at.1) refl in
       ap new (sym (same_source at.0 ∙ at.2)) ∙ filled (at.0 ∷ []) inside
 
-  mask_kept : (old : List ℕ → Option A) → ((j : ℕ) → j < m → mask (line j) ≡ true) → OthersKeep shape source old new → (i : List ℕ) → mask i ≡ false → new i ≡ old i
-  mask_kept old on kept i off = kept i (λ j h e. on_axis j (sym (ap (λ s. in_box s j) same_shape) ∙ h) e)
-    where
-      on_axis : (j : List ℕ) → in_box (m ∷ []) j ≡ true → source j ≡ i → ⊥
-      on_axis [] h e = cc
-      on_axis (b ∷ []) h e = let both : true ≡ false = sym (on b (ltb-true b m (and_parts (nat_lt b m) true h).0)) ∙ ap mask (sym (same_source b) ∙ e) ∙ off in cc
-      on_axis (b ∷ c ∷ j) h e = let no = (and_parts (nat_lt b m) false h).1 in cc
-
 -- ---- a row
 module _ (n m : ℕ) (k : ℤ) where
   row_shape : shape_after (n ∷ m ∷ []) (row_of k) ≡ m ∷ []
@@ -59,9 +50,6 @@ module _ (n m : ℕ) (k : ℤ) where
         let same : nat_eq a r ≡ true = sym (ap (λ o. is_at o a) named) ∙ both.0 in
         (b, ltb-true b m both.1, ap (λ a. a ∷ b ∷ []) (sym (eqb-true a r same)))
     row_hit (a ∷ b ∷ c ∷ i) h = cc
-
-    row_on : (j : ℕ) → j < m → in_row (n ∷ m ∷ []) k (r ∷ j ∷ []) ≡ true
-    row_on j h = and_from (is_at (coordinate_on n k) r) (nat_lt j m) (ap (λ o. is_at o r) named ∙ eq-eqb r r refl) (lt-ltb j m h)
 
 -- ---- a column
 module _ (n m : ℕ) (k : ℤ) where
@@ -81,9 +69,6 @@ module _ (n m : ℕ) (k : ℤ) where
         (a, ltb-true a n both.0, ap (λ b. a ∷ b ∷ []) (sym (eqb-true b r same)))
     column_hit (a ∷ b ∷ c ∷ i) h = cc
 
-    column_on : (j : ℕ) → j < n → in_column (n ∷ m ∷ []) k (j ∷ r ∷ []) ≡ true
-    column_on j h = and_from (nat_lt j n) (is_at (coordinate_on m k) r) (lt-ltb j n h) (ap (λ o. is_at o r) named ∙ eq-eqb r r refl)
-
 -- ---- what a caller learns of a filled row, and of a filled column
 row_filled : {A : Type 0} (n m : ℕ) (k : ℤ) (x : A) (new : List ℕ → Option A) → is_some (coordinate_on n k) ≡ true
     → ((i : List ℕ) → in_box (shape_after (n ∷ m ∷ []) (row_of k)) i ≡ true → new (index_before (n ∷ m ∷ []) (row_of k) i) ≡ Some x)
@@ -92,26 +77,12 @@ row_filled n m k x new there filled =
     let r = some_of (coordinate_on n k) there in
     mask_filled m (shape_after (n ∷ m ∷ []) (row_of k)) (index_before (n ∷ m ∷ []) (row_of k)) (λ j. r.0 ∷ j ∷ []) (row_shape n m k) (row_at n m k r.0 r.1) (in_row (n ∷ m ∷ []) k) new x (row_hit n m k r.0 r.1) filled
 
-row_kept : {A : Type 0} (n m : ℕ) (k : ℤ) (old new : List ℕ → Option A) → is_some (coordinate_on n k) ≡ true
-    → OthersKeep (shape_after (n ∷ m ∷ []) (row_of k)) (index_before (n ∷ m ∷ []) (row_of k)) old new
-    → (i : List ℕ) → in_row (n ∷ m ∷ []) k i ≡ false → new i ≡ old i
-row_kept n m k old new there kept =
-    let r = some_of (coordinate_on n k) there in
-    mask_kept m (shape_after (n ∷ m ∷ []) (row_of k)) (index_before (n ∷ m ∷ []) (row_of k)) (λ j. r.0 ∷ j ∷ []) (row_shape n m k) (row_at n m k r.0 r.1) (in_row (n ∷ m ∷ []) k) new old (row_on n m k r.0 r.1) kept
-
 column_filled : {A : Type 0} (n m : ℕ) (k : ℤ) (x : A) (new : List ℕ → Option A) → is_some (coordinate_on m k) ≡ true
     → ((i : List ℕ) → in_box (shape_after (n ∷ m ∷ []) (column_of k)) i ≡ true → new (index_before (n ∷ m ∷ []) (column_of k) i) ≡ Some x)
     → (i : List ℕ) → in_column (n ∷ m ∷ []) k i ≡ true → new i ≡ Some x
 column_filled n m k x new there filled =
     let r = some_of (coordinate_on m k) there in
     mask_filled n (shape_after (n ∷ m ∷ []) (column_of k)) (index_before (n ∷ m ∷ []) (column_of k)) (λ j. j ∷ r.0 ∷ []) (column_shape n m k) (column_at n m k r.0 r.1) (in_column (n ∷ m ∷ []) k) new x (column_hit n m k r.0 r.1) filled
-
-column_kept : {A : Type 0} (n m : ℕ) (k : ℤ) (old new : List ℕ → Option A) → is_some (coordinate_on m k) ≡ true
-    → OthersKeep (shape_after (n ∷ m ∷ []) (column_of k)) (index_before (n ∷ m ∷ []) (column_of k)) old new
-    → (i : List ℕ) → in_column (n ∷ m ∷ []) k i ≡ false → new i ≡ old i
-column_kept n m k old new there kept =
-    let r = some_of (coordinate_on m k) there in
-    mask_kept n (shape_after (n ∷ m ∷ []) (column_of k)) (index_before (n ∷ m ∷ []) (column_of k)) (λ j. j ∷ r.0 ∷ []) (column_shape n m k) (column_at n m k r.0 r.1) (in_column (n ∷ m ∷ []) k) new old (column_on n m k r.0 r.1) kept
 
 -- the same of an image whose shape and whose list are those
 abbrev FillsRow : {A : Type 0} → ℤ → A → (List ℕ → Option A) → List ℕ → List SliceInfoElem → Type 0
@@ -120,20 +91,8 @@ FillsRow k x new ns es = is_some (coordinate_on (slice_index ns 0) k) ≡ true �
 pub row_filled_of : {A : Type 0} (n m : ℕ) (k : ℤ) (ns : List ℕ) (es : List SliceInfoElem) (x : A) (new : List ℕ → Option A) → ns ≡ n ∷ m ∷ [] → es ≡ row_of k → FillsRow k x new ns es
 row_filled_of n m k ns es x new shape list = subst (λ (ns : List ℕ). FillsRow k x new ns es) (sym shape) (subst (λ (es : List SliceInfoElem). FillsRow k x new (n ∷ m ∷ []) es) (sym list) (row_filled n m k x new))
 
-abbrev KeepsRow : {A : Type 0} → ℤ → (List ℕ → Option A) → (List ℕ → Option A) → List ℕ → List SliceInfoElem → Type 0
-KeepsRow k old new ns es = is_some (coordinate_on (slice_index ns 0) k) ≡ true → OthersKeep (shape_after ns es) (index_before ns es) old new → (i : List ℕ) → in_row ns k i ≡ false → new i ≡ old i
-
-pub row_kept_of : {A : Type 0} (n m : ℕ) (k : ℤ) (ns : List ℕ) (es : List SliceInfoElem) (old new : List ℕ → Option A) → ns ≡ n ∷ m ∷ [] → es ≡ row_of k → KeepsRow k old new ns es
-row_kept_of n m k ns es old new shape list = subst (λ (ns : List ℕ). KeepsRow k old new ns es) (sym shape) (subst (λ (es : List SliceInfoElem). KeepsRow k old new (n ∷ m ∷ []) es) (sym list) (row_kept n m k old new))
-
 abbrev FillsColumn : {A : Type 0} → ℤ → A → (List ℕ → Option A) → List ℕ → List SliceInfoElem → Type 0
 FillsColumn k x new ns es = is_some (coordinate_on (slice_index ns 1) k) ≡ true → ((i : List ℕ) → in_box (shape_after ns es) i ≡ true → new (index_before ns es i) ≡ Some x) → (i : List ℕ) → in_column ns k i ≡ true → new i ≡ Some x
 
 pub column_filled_of : {A : Type 0} (n m : ℕ) (k : ℤ) (ns : List ℕ) (es : List SliceInfoElem) (x : A) (new : List ℕ → Option A) → ns ≡ n ∷ m ∷ [] → es ≡ column_of k → FillsColumn k x new ns es
 column_filled_of n m k ns es x new shape list = subst (λ (ns : List ℕ). FillsColumn k x new ns es) (sym shape) (subst (λ (es : List SliceInfoElem). FillsColumn k x new (n ∷ m ∷ []) es) (sym list) (column_filled n m k x new))
-
-abbrev KeepsColumn : {A : Type 0} → ℤ → (List ℕ → Option A) → (List ℕ → Option A) → List ℕ → List SliceInfoElem → Type 0
-KeepsColumn k old new ns es = is_some (coordinate_on (slice_index ns 1) k) ≡ true → OthersKeep (shape_after ns es) (index_before ns es) old new → (i : List ℕ) → in_column ns k i ≡ false → new i ≡ old i
-
-pub column_kept_of : {A : Type 0} (n m : ℕ) (k : ℤ) (ns : List ℕ) (es : List SliceInfoElem) (old new : List ℕ → Option A) → ns ≡ n ∷ m ∷ [] → es ≡ column_of k → KeepsColumn k old new ns es
-column_kept_of n m k ns es old new shape list = subst (λ (ns : List ℕ). KeepsColumn k old new ns es) (sym shape) (subst (λ (es : List SliceInfoElem). KeepsColumn k old new (n ∷ m ∷ []) es) (sym list) (column_kept n m k old new))

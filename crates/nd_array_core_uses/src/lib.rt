@@ -12,6 +12,7 @@ mod interleaved;
 mod lent_views;
 mod paint;
 mod strides;
+mod two_calls;
 mod two_parts;
 mod writes;
 
@@ -24,6 +25,11 @@ use nd_array_core::{Array, ArrayBase, ArrayView, Data};
 use nd_shape_and_slice::{Axis, Dimension, Ix2, ShapeError, Slice, slice_fits};
 pub use paint::{Fill, fill_slice};
 pub use strides::{row_repeated, turned_at_the_least_stride};
+pub use two_calls::{
+    column_of, column_of_numbers, column_of_owned, fill_then_get, fill_then_get_number, flip_both,
+    flip_both_owned, flip_numbers, swap_in_column, swap_in_column_owned, swap_numbers_in_column,
+    transposed_row, transposed_row_of_numbers, transposed_row_owned,
+};
 pub use two_parts::fill_halves;
 pub use writes::{put, put_owned, put_seen, try_put};
 

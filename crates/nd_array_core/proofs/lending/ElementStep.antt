@@ -13,7 +13,7 @@ use Rattle.nd_shape_and_slice.specs.declared.dimension.StrideList as stride_list
 use Rattle.nd_array_core.specs.declared.base.storage.Data as data_trait
 use Rattle.nd_array_core.specs.declared.base.array.ArrayBase.{ArrayBase}
 use Rattle.nd_array_core.specs.Places.{names_place, written_at, place_number}
-use Rattle.nd_array_core.specs.Meaning.{shape_of, element_at, place_at, storage_of, inside}
+use Rattle.nd_array_core.specs.Meaning.{shape_of, inside, meaning_of, memory_layout_of}
 use Rattle.nd_array_core.specs.base.Writes.{OthersStay}
 use Rattle.nd_array_core.proofs.WriteStep.{written_element}
 use Rattle.nd_array_core.specs.base.ElementMut.{KeepsPlaces}
@@ -51,7 +51,7 @@ module _ {S D T A P R L M : Type 0} {s : data_trait.Ghosts S A} {d : dimension.G
   pub is_written : (set : (x : S) → ℕ → A → (y : S) × KeepsPlaces (s.stored x) (s.stored y)) (borrow : S → Option (GName × List Bool)) (a : ArrayBase S D T A P R L M s d n r t) (i : List ℕ) (x : A)
       → s.exclusive ≡ true → ((u : S) (q : ℕ) (y : A) (p : ℕ) → is_some (s.stored u q) ≡ true → s.stored (set u q y).0 p ≡ written_at (s.stored u) q y p)
       → ((u : S) (q : ℕ) (y : A) → borrow (set u q y).0 ≡ borrow u) → in_box (shape_of a) i ≡ true → IsWrittenAt borrow a i x (array_with_element set a i x)
-  unfolding array_with_element shape_of element_at place_at storage_of
+  unfolding array_with_element meaning_of memory_layout_of
   is_written set borrow a i x alone written same_borrow h =
       let ns = d.lengths a.layout.dim in let ss = t.strides_of a.layout.strides in
       let z = place_of a.layout.offset ss i in

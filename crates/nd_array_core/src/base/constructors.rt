@@ -1,5 +1,5 @@
 //! Arrays and views made of a shape and its elements.
-#![tactic(auto, unfolding(crate::specs::Meaning::shape_of, crate::specs::Meaning::element_at, crate::specs::Meaning::layout_strides))]
+#![tactic(auto, unfolding(crate::specs::Meaning::meaning_of, crate::specs::Meaning::memory_layout_of))]
 
 ghost use Rattle.std.specs.Prelude.{◌≡◌, ◌<◌, ◌≤◌, ℕ, List, true, length, MatchResult, IsSome, IfOk, IfErr, slice_get, Some, None, vec_len};
 ghost use Rattle.nd_shape_and_slice.specs.Shape.{size_of, HasCheckedSize};

@@ -1,5 +1,5 @@
 //! Views of slices and of rows.
-#![tactic(auto, unfolding(crate::specs::Meaning::shape_of, crate::specs::Meaning::element_at, crate::specs::Meaning::layout_strides))]
+#![tactic(auto, unfolding(crate::specs::Meaning::meaning_of, crate::specs::Meaning::memory_layout_of))]
 
 ghost use Rattle.std.specs.Prelude.{◌≡◌, ◌*◌, ◌<◌, ◌^◌, ℕ, List, [], ◌∷◌, length};
 ghost use Rattle.std.specs.List.{flat_map};

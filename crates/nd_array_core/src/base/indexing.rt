@@ -1,5 +1,5 @@
 //! The element at an index, to be read; and references that live as long as what a view borrows.
-#![tactic(auto, unfolding(crate::specs::Meaning::shape_of, crate::specs::Meaning::element_at))]
+#![tactic(auto, unfolding(crate::specs::Meaning::meaning_of))]
 
 ghost use Rattle.std.specs.Prelude.{◌≡◌, Bool, true, false, is_some, MatchOption, Some};
 ghost use Rattle.std.specs.Option.{option_copied};

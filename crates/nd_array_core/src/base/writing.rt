@@ -1,5 +1,5 @@
 //! Elements written: replaced, exchanged, and through references.
-#![tactic(auto, unfolding(crate::specs::Meaning::shape_of, crate::specs::Meaning::element_at, crate::specs::Meaning::storage_of, crate::specs::Meaning::place_at))]
+#![tactic(auto, unfolding(crate::specs::Meaning::meaning_of, crate::specs::Meaning::memory_layout_of))]
 
 ghost use Rattle.std.specs.Prelude.{◌≡◌, ℕ, true, List, Bool, Some, Option, is_some, OnSome};
 ghost use Rattle.std.specs.Option.{option_copied_mut};

@@ -1,6 +1,6 @@
 //! Axes: in another order, turned round, shortened to one coordinate, put in, taken out, the diagonal of all of them, and
 //! as another dimension; of arrays and views by value, in place, and as views to be read or written.
-#![tactic(auto, unfolding(crate::specs::Meaning::shape_of, crate::specs::Meaning::element_at, crate::specs::Meaning::storage_of, crate::specs::Meaning::place_at, crate::specs::Meaning::layout_strides))]
+#![tactic(auto, unfolding(crate::specs::Meaning::meaning_of, crate::specs::Meaning::memory_layout_of))]
 
 ghost use Rattle.std.specs.Prelude.{◌↔◌, ◌≡◌, ◌<◌, ◌≤◌, ◌+◌, ℕ, true, false, List, [], ◌∷◌, length, reverse, slice_index, swap, pos, IsErr, IfErr, IfOk};
 ghost use Rattle.std.specs.Borrow.{sem};

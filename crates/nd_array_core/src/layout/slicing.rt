@@ -1,6 +1,6 @@
 //! Slices: by a list of slices, of one axis, and of each axis as a closure answers it; of arrays and views by value, in
 //! place, and as views to be read or written.
-#![tactic(auto, unfolding(crate::specs::Meaning::shape_of, crate::specs::Meaning::element_at, crate::specs::Meaning::storage_of, crate::specs::Meaning::place_at, crate::specs::Meaning::layout_strides))]
+#![tactic(auto, unfolding(crate::specs::Meaning::meaning_of, crate::specs::Meaning::memory_layout_of))]
 
 ghost use Rattle.std.specs.Prelude.{◌≡◌, ◌<◌, ℕ, true, List, length, slice_index};
 ghost use Rattle.std.specs.Borrow.{sem};

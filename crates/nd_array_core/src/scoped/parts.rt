@@ -1,5 +1,5 @@
 //! Calls that lend a mutable view of a part of an array to a task for their length.
-#![tactic(auto, unfolding(crate::specs::Meaning::shape_of, crate::specs::Meaning::element_at, crate::specs::Meaning::storage_of, crate::specs::Meaning::place_at))]
+#![tactic(auto, unfolding(crate::specs::Meaning::meaning_of, crate::specs::Meaning::memory_layout_of))]
 
 ghost use Rattle.std.specs.Prelude.{◌≡◌, ◌<◌, ℕ, true, List, length, slice_index};
 ghost use Rattle.nd_shape_and_slice.specs.Slice.{fits_axis};

@@ -1,5 +1,5 @@
 //! Calls that lend mutable views of what two lists of slices name of an array to a task for their length.
-#![tactic(auto, unfolding(crate::specs::Meaning::shape_of, crate::specs::Meaning::element_at, crate::specs::Meaning::storage_of, crate::specs::Meaning::place_at))]
+#![tactic(auto, unfolding(crate::specs::Meaning::meaning_of, crate::specs::Meaning::memory_layout_of))]
 
 ghost use Rattle.std.specs.Prelude.{◌≡◌, ℕ, List};
 ghost use Rattle.nd_array_core.specs.layout.MultiSlice.{TwoFit};

@@ -3,7 +3,7 @@
 //! After a mutable view that was lent in the open has ended, a caller's proof knows the array's shape, strides and
 //! places, but not which elements were written. These calls get the view's elements back, and so say what the array
 //! holds.
-#![tactic(auto, unfolding(crate::specs::Meaning::shape_of, crate::specs::Meaning::element_at, crate::specs::Meaning::storage_of, crate::specs::Meaning::place_at))]
+#![tactic(auto, unfolding(crate::specs::Meaning::meaning_of, crate::specs::Meaning::memory_layout_of))]
 
 ghost use Rattle.std.specs.Prelude.{◌≡◌, ℕ, List};
 ghost use Rattle.std.specs.Option.{is_some};

@@ -1,9 +1,9 @@
-use Rattle.nd_array_core.specs.Meaning.{place_at}
+use Rattle.nd_array_core.specs.Meaning.{memory_layout_of}
 use Rattle.nd_array_core.proofs.PlaceLaws.{places_differ}
 use Rattle.nd_array_core.proofs.laws.distinct_places.Goals as goal
 
 pub returns : goal.returns
-unfolding place_at
+unfolding memory_layout_of
 returns g c =
     let array = c.args.array.now in
     let layout = array.layout in

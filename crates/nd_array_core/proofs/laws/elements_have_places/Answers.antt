@@ -1,15 +1,15 @@
-use Rattle.nd_array_core.specs.Meaning.{shape_of, element_at, storage_of, place_at}
+use Rattle.nd_array_core.specs.Meaning.{meaning_of, memory_layout_of}
 use Rattle.nd_array_core.proofs.PlaceLaws.{in_box_has_place, shows_stored}
 use Rattle.nd_array_core.proofs.laws.elements_have_places.Goals as goal
 
 pub returns-clause-places : goal.returns-clause-places
-unfolding shape_of place_at
+unfolding meaning_of memory_layout_of
 returns-clause-places g c =
     let layout = c.args.array.now.layout in
     in_box_has_place layout.offset (g.D.Dimension.lengths layout.dim) (g.D.Strides.StrideList.strides_of layout.strides) layout.reach
 
 pub returns-clause-elements : goal.returns-clause-elements
-unfolding element_at storage_of place_at
+unfolding meaning_of memory_layout_of
 returns-clause-elements g c =
     let array = c.args.array.now in
     let layout = array.layout in

@@ -2,7 +2,7 @@ use Rattle.std.proofs.Common.{FitsSigned, w64, rules, ap}
 use Rattle.std.proofs.lemmas.Int.{to_z-of_z}
 use Rattle.std.proofs.lemmas.Result.{on_ok_weaker}
 use Rattle.nd_array_core.specs.Meaning.{shape_of, element_at}
-use Rattle.nd_array_core_uses.proofs.Lines.{row_of, row_filled_of, row_kept_of}
+use Rattle.nd_array_core_uses.proofs.Lines.{row_of, row_filled_of}
 use Rattle.nd_array_core_uses.proofs.border.fill_row.Goals as goal
 
 pub returns-clause-filled : goal.returns-clause-filled
@@ -11,10 +11,3 @@ returns-clause-filled g c =
     let fits : FitsSigned w64 k = search rules in
     let size = c.rows_and_columns-size in
     on_ok_weaker c.fill_line.result (λ filled. row_filled_of size.result.0 size.result.1 k (shape_of c.args.image.now) _ c.args.value.now (element_at c.fill_line.new.image) size.ensures (ap row_of (to_z-of_z w64 k fits)) c.requires.there filled) c.fill_line.ensures.filled
-
-pub returns-clause-kept : goal.returns-clause-kept
-returns-clause-kept g c =
-    let k = c.args.row in
-    let fits : FitsSigned w64 k = search rules in
-    let size = c.rows_and_columns-size in
-    row_kept_of size.result.0 size.result.1 k (shape_of c.args.image.now) _ (element_at c.args.image.now) (element_at c.fill_line.new.image) size.ensures (ap row_of (to_z-of_z w64 k fits)) c.requires.there c.fill_line.ensures.kept

@@ -9,6 +9,3 @@ slice_mut-columns-requires c =
     let ns = shape_of c.args.grid.now in
     let two = two_of ns c.requires.two in
     ap (fits_shape ns) c.as_slice.ensures ∙ (ap (λ ns. fits_shape ns columns) two.2 ∙ columns_fit two.0 two.1)
-
-pub returns : goal.returns
-returns c = record { shape = (c.slice_mut-columns.ensures.refilled _).0 }

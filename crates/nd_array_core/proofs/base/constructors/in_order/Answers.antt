@@ -1,4 +1,4 @@
-use Rattle.nd_array_core.specs.Meaning.{element_at}
+use Rattle.nd_array_core.specs.Meaning.{meaning_of}
 use Rattle.nd_array_core.proofs.Ranked.{ranked_holds, ranked_element}
 use Rattle.nd_layout.proofs.steps.Ranked.{ordered_is_ranked}
 use Rattle.nd_array_core.proofs.base.constructors.in_order.Goals as goal
@@ -12,7 +12,7 @@ invariant_of-result g c =
     }
 
 pub returns-clause-elements : goal.returns-clause-elements
-unfolding element_at
+unfolding meaning_of
 returns-clause-elements g c i =
     let ranked = ordered_is_ranked c.args.order (g.D.Dimension.lengths c.args.dim) c.requires.checked in
     rw (c.in_order.ensures.offset, c.in_order.ensures.lengths, c.in_order.ensures.strides) (ranked_element ranked (g.S.Data.stored c.args.storage) i)

@@ -1,9 +1,9 @@
-use Rattle.nd_array_core.specs.Meaning.{shape_of, element_at}
+use Rattle.nd_array_core.specs.Meaning.{meaning_of}
 use Rattle.nd_array_core.proofs.WriteStep.{written_element}
 use Rattle.nd_array_core.proofs.base.writing.ArrayBase+S+D.replace_at.Goals as goal
 
 pub returns-clause-elements : goal.returns-clause-elements
-unfolding shape_of element_at
+unfolding meaning_of
 returns-clause-elements g c =
     let array = c.args.self.now in
     let layout = array.layout in

@@ -1,11 +1,11 @@
 use Rattle.std.proofs.Common.{◌∙◌, ap}
 use Rattle.nd_shape_and_slice.specs.Place.{place_of}
-use Rattle.nd_array_core.specs.Meaning.{shape_of, element_at}
+use Rattle.nd_array_core.specs.Meaning.{meaning_of}
 use Rattle.nd_array_core.proofs.WriteStep.{swapped_element}
 use Rattle.nd_array_core.proofs.base.writing.ArrayBase+S+D.swap.Goals as goal
 
 pub returns-clause-elements : goal.returns-clause-elements
-unfolding shape_of element_at
+unfolding meaning_of
 returns-clause-elements g c =
     let array = c.args.self.now in
     let layout = array.layout in

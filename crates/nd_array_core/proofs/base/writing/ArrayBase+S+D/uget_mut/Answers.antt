@@ -1,12 +1,12 @@
 use Rattle.std.proofs.Common.{◌≡◌, pos, ◌∙◌, ap, refl}
 use Rattle.std.specs.Prelude.{nat_abs}
 use Rattle.nd_shape_and_slice.specs.Place.{place_of}
-use Rattle.nd_array_core.specs.Meaning.{shape_of, element_at}
+use Rattle.nd_array_core.specs.Meaning.{meaning_of}
 use Rattle.nd_array_core.proofs.lending.ElementStep.{with_element_is, is_written}
 use Rattle.nd_array_core.proofs.base.writing.ArrayBase+S+D.uget_mut.Goals as goal
 
 pub returns : goal.returns
-unfolding shape_of element_at
+unfolding meaning_of
 returns g c =
     let array = c.args.self.now in
     let layout = array.layout in

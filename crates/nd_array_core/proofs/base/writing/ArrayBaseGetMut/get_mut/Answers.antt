@@ -4,12 +4,12 @@ use Rattle.std.proofs.Math.Path.{fun_ext}
 use Rattle.std.specs.Prelude.{nat_abs}
 use Rattle.nd_shape_and_slice.specs.Place.{place_of}
 use Rattle.nd_shape_and_slice.specs.Shape.{in_box}
-use Rattle.nd_array_core.specs.Meaning.{shape_of, element_at}
+use Rattle.nd_array_core.specs.Meaning.{meaning_of}
 use Rattle.nd_array_core.proofs.lending.ElementStep.{with_element_is, is_written}
 use Rattle.nd_array_core.proofs.base.writing.ArrayBaseGetMut.get_mut.Goals as goal
 
 pub returns-in-Some : goal.returns-in-Some
-unfolding shape_of element_at
+unfolding meaning_of
 returns-in-Some g c =
     let array = c.args.self.now in
     let layout = array.layout in

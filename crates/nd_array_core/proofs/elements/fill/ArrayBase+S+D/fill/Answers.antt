@@ -2,7 +2,7 @@ use Rattle.std.proofs.Common.{◌≡◌, ◌∙◌, ℕ, List, sym, ap, arith}
 use Rattle.nd_shape_and_slice.specs.Shape.{in_box, size_of, index_at}
 use Rattle.nd_shape_and_slice.proofs.RankIndexes.{in_box-index_at}
 use Rattle.nd_array_core.specs.base.Writes.{with_element_at}
-use Rattle.nd_array_core.specs.Meaning.{shape_of, element_at}
+use Rattle.nd_array_core.specs.Meaning.{shape_of, element_at, meaning_of}
 use Rattle.nd_array_core.proofs.Filling.{filled_more, filled_all, inside_itself}
 use Rattle.nd_array_core.proofs.elements.fill.ArrayBase+S+D.fill.Goals as goal
 
@@ -30,7 +30,7 @@ loop-rank-preserved g c =
     )
 
 pub returns-clause-filled : goal.returns-clause-filled
-unfolding shape_of element_at
+unfolding meaning_of
 returns-clause-filled g c =
     let start = c.args.self.now in
     filled_all (shape_of start) c.args.value (element_at start) (element_at c.loop-rank.self) c.loop-rank.rank (omega (arith, c.len-rank-end.ensures, c.loop-rank-test.false)) (λ i. sym (inside_itself (shape_of start) i _)) c.loop-rank.invariant.1

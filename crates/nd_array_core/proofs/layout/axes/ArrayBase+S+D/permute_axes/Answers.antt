@@ -1,10 +1,10 @@
-use Rattle.nd_array_core.specs.Meaning.{shape_of}
+use Rattle.nd_array_core.specs.Meaning.{meaning_of}
 use Rattle.nd_array_core.proofs.StepLemmas.{step_holds}
 use Rattle.nd_layout.proofs.steps.StepLemmas.{step_separated}
 use Rattle.nd_array_core.proofs.layout.axes.ArrayBase+S+D.permute_axes.Goals as goal
 
 pub permute_axes-requires : goal.permute_axes-requires
-unfolding shape_of
+unfolding meaning_of
 permute_axes-requires g c = rw (c.slice.ensures.lengths, c.into_dimension-order.ensures) c.requires
 
 pub invariant_of-self : goal.invariant_of-self

@@ -2,12 +2,12 @@ use Rattle.std.proofs.Common.{refl}
 use Rattle.std.proofs.Math.Path.{fun_ext}
 use Rattle.nd_shape_and_slice.specs.Place.{place_of}
 use Rattle.nd_array_core.specs.Places.{stored_at, place_number}
-use Rattle.nd_array_core.specs.Meaning.{shape_of, element_at, place_at, layout_strides, inside}
+use Rattle.nd_array_core.specs.Meaning.{inside, meaning_of, memory_layout_of}
 use Rattle.nd_array_core.proofs.lending.Refilled.{is_refilled}
 use Rattle.nd_array_core.proofs.layout.lending.ArrayBase+S+D.view_mut.Goals as goal
 
 pub returns : goal.returns
-unfolding shape_of element_at place_at layout_strides
+unfolding meaning_of memory_layout_of
 returns g c =
     let same = c.copied-layout.ensures in (
       (refl, λ w. refl),

@@ -1,12 +1,12 @@
 use Rattle.std.proofs.Common.{refl, ap, sym, ◌∙◌, List, ℕ}
 use Rattle.nd_shape_and_slice.specs.Slice.{sliced_shape, sliced_index}
 use Rattle.nd_layout.specs.Strides.{sliced_strides}
-use Rattle.nd_array_core.specs.Meaning.{shape_of, element_at, place_at, storage_of}
+use Rattle.nd_array_core.specs.Meaning.{shape_of, element_at, place_at, memory_layout_of}
 use Rattle.nd_array_core.proofs.lending.Tied.{shown_through}
 use Rattle.nd_array_core.proofs.layout.slicing.ArrayBase+S+D.slice_axis_mut.Goals as goal
 
 pub returns : goal.returns
-unfolding storage_of
+unfolding memory_layout_of
 returns g c =
     let view = c.view_mut.result in let array = c.args.self.now in let part = c.slice_axis_move.result in let same = c.view_mut.ensures.shape in
     let source : List ℕ → List ℕ → List ℕ = λ ns i. sliced_index ns c.args.axis.0 c.args.slice i in (

@@ -3,12 +3,12 @@ use Rattle.nd_shape_and_slice.specs.declared.descriptions.AxisDescription.{AxisD
 use denote.Param.Members.{Called}
 use Rattle.nd_shape_and_slice.specs.Descriptions.{axes_from}
 use Rattle.nd_shape_and_slice.specs.EachAxis.{each_sliced_shape, each_sliced_index, AnswersAre}
-use Rattle.nd_array_core.specs.Meaning.{shape_of, element_at, storage_of}
+use Rattle.nd_array_core.specs.Meaning.{shape_of, element_at, memory_layout_of}
 use Rattle.nd_array_core.proofs.lending.Tied.{shown_through}
 use Rattle.nd_array_core.proofs.layout.slicing.ArrayBase+S+D.slice_each_axis_mut.Goals as goal
 
 pub returns : goal.returns
-unfolding storage_of
+unfolding memory_layout_of
 returns g c =
     let view = c.view_mut-view.result in let array = c.args.self.now in let part = c.slice_each_axis_inplace.new.self in let known = c.view_mut-view.ensures in
     let sliced = c.slice_each_axis_inplace.ensures.sliced in let slices = sliced.0 in

@@ -1,7 +1,7 @@
 use Rattle.nd_region.specs.Region.{region_stored}
 use Rattle.nd_array_core.proofs.Parted.{taken_holds, taken_element}
 use Rattle.std.proofs.Common.{refl}
-use Rattle.nd_array_core.specs.Meaning.{shape_of, element_at, place_at, layout_strides}
+use Rattle.nd_array_core.specs.Meaning.{meaning_of, memory_layout_of}
 use Rattle.nd_array_core.proofs.layout.splitting.ViewMutRepr+A.part.Goals as goal
 
 pub invariant_of-result : goal.invariant_of-result
@@ -13,7 +13,7 @@ invariant_of-result g c =
     }
 
 pub returns-clause-shown : goal.returns-clause-shown
-unfolding shape_of element_at place_at layout_strides
+unfolding meaning_of memory_layout_of
 returns-clause-shown g c =
     let layout = c.args.layout in
     record {

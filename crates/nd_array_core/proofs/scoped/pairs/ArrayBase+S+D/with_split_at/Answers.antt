@@ -1,7 +1,7 @@
 use Rattle.std.proofs.Common.{◌≡◌, ◌∙◌, ap, sym, refl}
 use Rattle.nd_shape_and_slice.specs.Shape.{in_box}
 use Rattle.nd_shape_and_slice.specs.Maps.{lower_shape, upper_shape, upper_index}
-use Rattle.nd_array_core.specs.Meaning.{shape_of, element_at, storage_of, place_at}
+use Rattle.nd_array_core.specs.Meaning.{meaning_of, memory_layout_of}
 use Rattle.nd_layout.specs.Steps.{IsStep}
 use Rattle.nd_array_core.specs.scoped.Tasks.{array_placed_at, LiesSoundly}
 use Rattle.nd_array_core.proofs.tasks.PartTask.{step_sound}
@@ -121,7 +121,7 @@ with_placement_pair-requires-clause-two_within g c =
     rw (same.offset, same.lengths, same.strides) (step_within offset ns ss f2 n2 s2 (upper_index a k) two)
 
 pub with_placement_pair-requires-clause-apart : goal.with_placement_pair-requires-clause-apart
-unfolding shape_of
+unfolding meaning_of
 with_placement_pair-requires-clause-apart g c =
     let array = c.args.self.now in
     let old = array.layout in
@@ -148,7 +148,7 @@ with_placement_pair-requires-clause-apart g c =
     (λ i j b d e. split_apart ns a k c.requires.axis i j (ap (λ l. in_box l i) (sym shape1) ∙ b) (ap (λ l. in_box l j) (sym shape2) ∙ d) e)
 
 pub with_placement_pair-requires-clause-callable : goal.with_placement_pair-requires-clause-callable
-unfolding shape_of element_at place_at
+unfolding meaning_of memory_layout_of
 with_placement_pair-requires-clause-callable g c m1 m2 is_one is_two =
     let array = c.args.self.now in
     let old = array.layout in
@@ -174,7 +174,7 @@ with_placement_pair-requires-clause-callable g c m1 m2 is_one is_two =
     c.requires.callable (array_placed_at m1 f1 n1 s1) (array_placed_at m2 f2 n2 s2) (agrees_seen offset ns ss f1 n1 s1 (λ i. i) one m m1 is_one (lower_shape ns a k) shape1) (agrees_seen offset ns ss f2 n2 s2 (upper_index a k) two m m2 is_two (upper_shape ns a k) shape2)
 
 pub returns-clause-others : goal.returns-clause-others
-unfolding storage_of place_at
+unfolding memory_layout_of
 returns-clause-others g c =
     let array = c.args.self.now in
     let old = array.layout in
@@ -202,7 +202,7 @@ returns-clause-others g c =
     unnamed_stay m (g.S.Data.stored c.with_placement_pair.new.storage) offset ns ss others
 
 pub returns-clause-done : goal.returns-clause-done
-unfolding shape_of element_at place_at
+unfolding meaning_of memory_layout_of
 returns-clause-done g c =
     let array = c.args.self.now in
     let old = array.layout in

@@ -1,6 +1,6 @@
 use Rattle.std.proofs.Common.{refl, ◌∙◌, ap}
 use Rattle.nd_shape_and_slice.specs.Slice.{sliced_shape, sliced_index}
-use Rattle.nd_array_core.specs.Meaning.{shape_of, element_at, storage_of, place_at}
+use Rattle.nd_array_core.specs.Meaning.{meaning_of, memory_layout_of}
 use Rattle.nd_array_core.specs.scoped.Tasks.{array_placed_at, LiesSoundly}
 use Rattle.nd_array_core.proofs.tasks.PartTask.{step_sound, part_seen, left_seen, part_others_stay, part_others_keep}
 use Rattle.nd_array_core.proofs.scoped.parts.ArrayBase+S+D.with_slice_axis_mut.Goals as goal
@@ -19,7 +19,7 @@ with_placement-requires-clause-sound g c =
     step_sound m old.offset ns ss _ _ _ _ _ refl sound step
 
 pub with_placement-requires-clause-callable : goal.with_placement-requires-clause-callable
-unfolding shape_of element_at place_at
+unfolding meaning_of memory_layout_of
 with_placement-requires-clause-callable g c m' named =
     let array = c.args.self.now in
     let old = array.layout in
@@ -33,7 +33,7 @@ with_placement-requires-clause-callable g c m' named =
     c.requires.callable (array_placed_at m' new.offset (g.D.Dimension.lengths new.dim) (g.D.Strides.StrideList.strides_of new.strides)) (part_seen m old.offset ns ss _ _ _ (sliced_index ns c.args.axis.0 c.args.slice) (sliced_shape ns c.args.axis.0 c.args.slice) (c.slice_axis.ensures.lengths ∙ ap (λ l. sliced_shape l c.args.axis.0 c.args.slice) same.lengths) sound step m' named)
 
 pub returns-clause-others : goal.returns-clause-others
-unfolding storage_of place_at
+unfolding memory_layout_of
 returns-clause-others g c =
     let array = c.args.self.now in
     let old = array.layout in
@@ -49,7 +49,7 @@ returns-clause-others g c =
     part_others_stay m old.offset ns ss _ _ _ (sliced_index ns c.args.axis.0 c.args.slice) (sliced_shape ns c.args.axis.0 c.args.slice) (c.slice_axis.ensures.lengths ∙ ap (λ l. sliced_shape l c.args.axis.0 c.args.slice) same.lengths) sound step stored done.1 done.4
 
 pub returns-clause-kept : goal.returns-clause-kept
-unfolding shape_of element_at
+unfolding meaning_of
 returns-clause-kept g c =
     let array = c.args.self.now in
     let old = array.layout in
@@ -65,7 +65,7 @@ returns-clause-kept g c =
     part_others_keep m old.offset ns ss _ _ _ (sliced_index ns c.args.axis.0 c.args.slice) (sliced_shape ns c.args.axis.0 c.args.slice) (c.slice_axis.ensures.lengths ∙ ap (λ l. sliced_shape l c.args.axis.0 c.args.slice) same.lengths) sound step stored done.1 done.4
 
 pub returns-clause-done : goal.returns-clause-done
-unfolding shape_of element_at place_at
+unfolding meaning_of memory_layout_of
 returns-clause-done g c =
     let array = c.args.self.now in
     let old = array.layout in

@@ -1,6 +1,6 @@
 use Rattle.std.proofs.Common.{refl}
 use Rattle.nd_shape_and_slice.specs.SliceInfo.{shape_after, index_before}
-use Rattle.nd_array_core.specs.Meaning.{shape_of, element_at, storage_of, place_at}
+use Rattle.nd_array_core.specs.Meaning.{meaning_of, memory_layout_of}
 use Rattle.nd_layout.specs.Steps.{IsStep}
 use Rattle.nd_array_core.specs.scoped.Tasks.{array_placed_at, LiesSoundly}
 use Rattle.nd_array_core.proofs.tasks.PartTask.{step_sound, part_seen, left_seen, part_others_stay, part_others_keep}
@@ -22,7 +22,7 @@ with_placement-requires-clause-sound g c =
     step_sound m old.offset ns ss new.offset ns' ss' source ns' refl sound step
 
 pub with_placement-requires-clause-callable : goal.with_placement-requires-clause-callable
-unfolding shape_of element_at place_at
+unfolding meaning_of memory_layout_of
 with_placement-requires-clause-callable g c m' named =
     let array = c.args.self.now in
     let old = array.layout in
@@ -38,7 +38,7 @@ with_placement-requires-clause-callable g c m' named =
     c.requires.callable (array_placed_at m' new.offset ns' ss') (part_seen m old.offset ns ss new.offset ns' ss' source (shape_after ns (g.I.SliceArg.elements_of c.args.info)) c.sliced_by-layout.ensures.lengths sound step m' named)
 
 pub returns-clause-others : goal.returns-clause-others
-unfolding storage_of place_at
+unfolding memory_layout_of
 returns-clause-others g c =
     let array = c.args.self.now in
     let old = array.layout in
@@ -56,7 +56,7 @@ returns-clause-others g c =
     part_others_stay m old.offset ns ss new.offset ns' ss' source (shape_after ns (g.I.SliceArg.elements_of c.args.info)) c.sliced_by-layout.ensures.lengths sound step stored done.1 done.4
 
 pub returns-clause-kept : goal.returns-clause-kept
-unfolding shape_of element_at
+unfolding meaning_of
 returns-clause-kept g c =
     let array = c.args.self.now in
     let old = array.layout in
@@ -74,7 +74,7 @@ returns-clause-kept g c =
     part_others_keep m old.offset ns ss new.offset ns' ss' source (shape_after ns (g.I.SliceArg.elements_of c.args.info)) c.sliced_by-layout.ensures.lengths sound step stored done.1 done.4
 
 pub returns-clause-done : goal.returns-clause-done
-unfolding shape_of element_at place_at
+unfolding meaning_of memory_layout_of
 returns-clause-done g c =
     let array = c.args.self.now in
     let old = array.layout in

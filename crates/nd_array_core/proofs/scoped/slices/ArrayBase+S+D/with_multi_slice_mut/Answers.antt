@@ -75,7 +75,7 @@ with_placement_pair-requires-clause-two_within g c =
     rw (same.offset, same.lengths, same.strides) (step_within offset ns ss f2 n2 s2 (index_before ns fs) two)
 
 pub with_placement_pair-requires-clause-apart : goal.with_placement_pair-requires-clause-apart
-unfolding shape_of
+unfolding meaning_of
 with_placement_pair-requires-clause-apart g c =
     let array = c.args.self.now in
     let old = array.layout in
@@ -89,7 +89,7 @@ with_placement_pair-requires-clause-apart g c =
     lists_apart offset ns ss es fs old.as_many sound.separated c.sliced_by-first.ensures.lengths c.sliced_by-first.ensures.step c.sliced_by-second.ensures.lengths c.sliced_by-second.ensures.step c.requires.fits.2
 
 pub with_placement_pair-requires-clause-callable : goal.with_placement_pair-requires-clause-callable
-unfolding shape_of element_at place_at
+unfolding meaning_of memory_layout_of
 with_placement_pair-requires-clause-callable g c m1 m2 is_one is_two =
     let array = c.args.self.now in
     let old = array.layout in
@@ -114,7 +114,7 @@ with_placement_pair-requires-clause-callable g c m1 m2 is_one is_two =
     c.requires.callable (array_placed_at m1 f1 n1 s1) (array_placed_at m2 f2 n2 s2) (agrees_seen offset ns ss f1 n1 s1 (index_before ns es) one m m1 is_one (shape_after ns es) shape1) (agrees_seen offset ns ss f2 n2 s2 (index_before ns fs) two m m2 is_two (shape_after ns fs) shape2)
 
 pub returns-clause-others : goal.returns-clause-others
-unfolding storage_of place_at
+unfolding memory_layout_of
 returns-clause-others g c =
     let array = c.args.self.now in
     let old = array.layout in
@@ -127,7 +127,7 @@ returns-clause-others g c =
     unnamed_stay m (g.S.Data.stored c.with_placement_pair.new.storage) offset ns ss others
 
 pub returns-clause-kept : goal.returns-clause-kept
-unfolding shape_of element_at
+unfolding meaning_of
 returns-clause-kept g c =
     let array = c.args.self.now in
     let old = array.layout in
@@ -153,7 +153,7 @@ returns-clause-kept g c =
     neither_keeps m (g.S.Data.stored c.with_placement_pair.new.storage) offset ns ss sound f1 n1 s1 f2 n2 s2 (index_before ns es) (index_before ns fs) one two c.with_placement_pair.ensures.kept (shape_after ns es) (shape_after ns fs) shape1 shape2
 
 pub returns-clause-done : goal.returns-clause-done
-unfolding shape_of element_at place_at
+unfolding meaning_of memory_layout_of
 returns-clause-done g c =
     let array = c.args.self.now in
     let old = array.layout in

@@ -1,10 +1,10 @@
 use Rattle.nd_array_core.specs.scoped.Tasks.{array_placed_at}
-use Rattle.nd_array_core.specs.Meaning.{shape_of, element_at, storage_of, place_at}
+use Rattle.nd_array_core.specs.Meaning.{meaning_of, memory_layout_of}
 use Rattle.nd_array_core.proofs.tasks.TaskStep.{part_is_view, others_stay, left_is_view}
 use Rattle.nd_array_core.proofs.scoped.tasks.ArrayBase+S+D.with_view_mut.Goals as goal
 
 pub with_placement-requires-clause-callable : goal.with_placement-requires-clause-callable
-unfolding shape_of element_at place_at
+unfolding meaning_of memory_layout_of
 with_placement-requires-clause-callable g c m named =
     let array = c.args.self.now in
     let offset = array.layout.offset in
@@ -15,7 +15,7 @@ with_placement-requires-clause-callable g c m named =
     rw (same.offset, same.lengths, same.strides) (c.requires (array_placed_at m offset ns ss) (part_is_view (g.S.Data.stored array.storage) offset ns ss m is))
 
 pub returns-clause-others : goal.returns-clause-others
-unfolding storage_of place_at
+unfolding memory_layout_of
 returns-clause-others g c =
     let array = c.args.self.now in
     let offset = array.layout.offset in
@@ -26,7 +26,7 @@ returns-clause-others g c =
     others_stay (g.S.Data.stored array.storage) offset ns ss (g.S.Data.stored c.with_placement.new.storage) done.1 done.4
 
 pub returns-clause-done : goal.returns-clause-done
-unfolding shape_of element_at place_at
+unfolding meaning_of memory_layout_of
 returns-clause-done g c =
     let array = c.args.self.now in
     let stored = g.S.Data.stored array.storage in

@@ -1,0 +1,157 @@
+//! One call after another, each caller exact at every index and proved with no proof file: over every element type and
+//! storage that the calls take, and at one that is written out.
+ghost use Rattle.std.specs.Prelude.{◌≡◌, ◌<◌, ◌∷◌, [], ℕ, true, List, slice_index, reverse, Some, OnOk, IfOk};
+ghost use Rattle.nd_shape_and_slice.specs.Shape.{in_box};
+ghost use Rattle.nd_shape_and_slice.specs.Maps.{inverted_index, indexed_index};
+ghost use Rattle.nd_array_core.specs.Meaning.{shape_of, element_at, inside};
+ghost use Rattle.nd_array_core.specs.base.Writes.{with_swapped_at};
+
+use nd_array_core::{Array1, Array2, ArrayBase, ArrayView1, Data, DataMut};
+use nd_shape_and_slice::{Axis, Ix1, Ix2, NoMemory};
+
+/// An image with its rows in the opposite order, and its columns too.
+pub fn flip_both<S: Data>(image: &mut ArrayBase<S, Ix2>)
+    ensures shape { shape_of image.new ≡ shape_of image.old }
+    ensures elements { (i : List ℕ) → element_at image.new i ≡ inside (shape_of image.old) i (inside (shape_of image.old) (inverted_index (shape_of image.old) 1 i) (element_at image.old (inverted_index (shape_of image.old) 0 (inverted_index (shape_of image.old) 1 i)))) }
+{
+    let _two = image.ndim();
+    image.invert_axis(Axis(0));
+    image.invert_axis(Axis(1));
+}
+
+/// The same of an owned array of any elements.
+pub fn flip_both_owned<A>(image: &mut Array2<A>)
+    ensures shape { shape_of image.new ≡ shape_of image.old }
+    ensures elements { (i : List ℕ) → element_at image.new i ≡ inside (shape_of image.old) i (inside (shape_of image.old) (inverted_index (shape_of image.old) 1 i) (element_at image.old (inverted_index (shape_of image.old) 0 (inverted_index (shape_of image.old) 1 i)))) }
+{
+    let _two = image.ndim();
+    image.invert_axis(Axis(0));
+    image.invert_axis(Axis(1));
+}
+
+/// The same of numbers.
+pub fn flip_numbers(image: &mut Array2<i64>)
+    ensures shape { shape_of image.new ≡ shape_of image.old }
+    ensures elements { (i : List ℕ) → element_at image.new i ≡ inside (shape_of image.old) i (inside (shape_of image.old) (inverted_index (shape_of image.old) 1 i) (element_at image.old (inverted_index (shape_of image.old) 0 (inverted_index (shape_of image.old) 1 i)))) }
+{
+    let _two = image.ndim();
+    image.invert_axis(Axis(0));
+    image.invert_axis(Axis(1));
+}
+
+/// A column of an image.
+pub fn column_of<S: Data>(image: &ArrayBase<S, Ix2>, column: usize) -> ArrayView1<'_, S::Elem>
+    requires { column < slice_index (shape_of image.now) 1 }
+    ensures { (row : ℕ) → element_at result (row ∷ []) ≡ inside (shape_of result) (row ∷ []) (element_at image.now (row ∷ column ∷ [])) }
+{
+    image.column(column)
+}
+
+/// A column of an owned array of any elements.
+pub fn column_of_owned<A>(image: &Array2<A>, column: usize) -> ArrayView1<'_, A>
+    requires { column < slice_index (shape_of image.now) 1 }
+    ensures { (row : ℕ) → element_at result (row ∷ []) ≡ inside (shape_of result) (row ∷ []) (element_at image.now (row ∷ column ∷ [])) }
+{
+    image.column(column)
+}
+
+/// A column of numbers.
+pub fn column_of_numbers(image: &Array2<i64>, column: usize) -> ArrayView1<'_, i64>
+    requires { column < slice_index (shape_of image.now) 1 }
+    ensures { (row : ℕ) → element_at result (row ∷ []) ≡ inside (shape_of result) (row ∷ []) (element_at image.now (row ∷ column ∷ [])) }
+{
+    image.column(column)
+}
+
+/// A row of the transposed image, which is a column of the image.
+pub fn transposed_row<S: Data>(image: ArrayBase<S, Ix2>, row: usize) -> ArrayBase<S, Ix1>
+    requires { row < slice_index (shape_of image) 1 }
+    ensures { (i : List ℕ) → element_at result i ≡ inside (shape_of result) i (inside (reverse (shape_of image)) (indexed_index 0 row i) (element_at image (reverse (indexed_index 0 row i)))) }
+{
+    let _two = image.ndim();
+    image.reversed_axes().index_axis_move(Axis(0), row)
+}
+
+/// The same of an owned array of any elements.
+pub fn transposed_row_owned<A>(image: Array2<A>, row: usize) -> Array1<A>
+    requires { row < slice_index (shape_of image) 1 }
+    ensures { (i : List ℕ) → element_at result i ≡ inside (shape_of result) i (inside (reverse (shape_of image)) (indexed_index 0 row i) (element_at image (reverse (indexed_index 0 row i)))) }
+{
+    let _two = image.ndim();
+    image.reversed_axes().index_axis_move(Axis(0), row)
+}
+
+/// The same of numbers.
+pub fn transposed_row_of_numbers(image: Array2<i64>, row: usize) -> Array1<i64>
+    requires { row < slice_index (shape_of image) 1 }
+    ensures { (i : List ℕ) → element_at result i ≡ inside (shape_of result) i (inside (reverse (shape_of image)) (indexed_index 0 row i) (element_at image (reverse (indexed_index 0 row i)))) }
+{
+    let _two = image.ndim();
+    image.reversed_axes().index_axis_move(Axis(0), row)
+}
+
+/// One element of a row exchanged with that of another row in its column: a step of an exchange of two rows.
+pub fn swap_in_column<S: DataMut>(
+    image: &mut ArrayBase<S, Ix2>,
+    first: usize,
+    second: usize,
+    column: usize,
+)
+    requires first { in_box (shape_of image.old) (first ∷ column ∷ []) ≡ true }
+    requires second { in_box (shape_of image.old) (second ∷ column ∷ []) ≡ true }
+    ensures shape { shape_of image.new ≡ shape_of image.old }
+    ensures elements { (i : List ℕ) → element_at image.new i ≡ with_swapped_at (element_at image.old) (first ∷ column ∷ []) (second ∷ column ∷ []) i }
+{
+    image.swap([first, column], [second, column]);
+}
+
+/// The same of an owned array of any elements.
+pub fn swap_in_column_owned<A>(image: &mut Array2<A>, first: usize, second: usize, column: usize)
+    requires first { in_box (shape_of image.old) (first ∷ column ∷ []) ≡ true }
+    requires second { in_box (shape_of image.old) (second ∷ column ∷ []) ≡ true }
+    ensures shape { shape_of image.new ≡ shape_of image.old }
+    ensures elements { (i : List ℕ) → element_at image.new i ≡ with_swapped_at (element_at image.old) (first ∷ column ∷ []) (second ∷ column ∷ []) i }
+{
+    image.swap([first, column], [second, column]);
+}
+
+/// The same of numbers.
+pub fn swap_numbers_in_column(image: &mut Array2<i64>, first: usize, second: usize, column: usize)
+    requires first { in_box (shape_of image.old) (first ∷ column ∷ []) ≡ true }
+    requires second { in_box (shape_of image.old) (second ∷ column ∷ []) ≡ true }
+    ensures shape { shape_of image.new ≡ shape_of image.old }
+    ensures elements { (i : List ℕ) → element_at image.new i ≡ with_swapped_at (element_at image.old) (first ∷ column ∷ []) (second ∷ column ∷ []) i }
+{
+    image.swap([first, column], [second, column]);
+}
+
+/// Fills an image, and then reads a pixel.
+pub fn fill_then_get<A: Clone + Drop, S: DataMut<Elem = A>>(
+    image: &mut ArrayBase<S, Ix2>,
+    colour: A,
+    row: usize,
+    column: usize,
+) -> Result<bool, NoMemory>
+    requires clones { (copy : A) → A.is_clone colour copy → copy ≡ colour }
+    requires there { in_box (shape_of image.old) (row ∷ column ∷ []) ≡ true }
+    ensures there { OnOk result (element_at image.new (row ∷ column ∷ []) ≡ Some colour) }
+    ensures got { IfOk result (λ got. got ≡ true) }
+{
+    image.fill(colour)?;
+    Ok(image.get([row, column]).is_some())
+}
+
+/// The same of numbers.
+pub fn fill_then_get_number(
+    image: &mut Array2<i64>,
+    colour: i64,
+    row: usize,
+    column: usize,
+) -> Result<Option<i64>, NoMemory>
+    requires there { in_box (shape_of image.old) (row ∷ column ∷ []) ≡ true }
+    ensures there { OnOk result (element_at image.new (row ∷ column ∷ []) ≡ Some colour) }
+    ensures got { IfOk result (λ got. got ≡ Some colour) }
+{
+    image.fill(colour)?;
+    Ok(image.get([row, column]).copied())
+}
