@@ -1,6 +1,6 @@
 use Rattle.std.proofs.Common.{◌≡◌, ◌∙◌, ap, refl}
 use Rattle.nd_shape_and_slice.specs.SliceInfo.{shape_after, index_before}
-use Rattle.nd_array_core.specs.Meaning.{shape_of, element_at, storage_of, place_at}
+use Rattle.nd_array_core.specs.Meaning.{meaning_of, memory_layout_of}
 use Rattle.nd_layout.specs.Steps.{IsStep}
 use Rattle.nd_array_core.specs.scoped.Tasks.{array_placed_at, LiesSoundly}
 use Rattle.nd_array_core.proofs.ListParts.{lists_apart}
