@@ -103,9 +103,7 @@ impl<S: Data, D: Dimension> ArrayBase<S, D> {
         ensures strides { layout_strides result ≡ sliced_strides (shape_of self.now) (layout_strides self.now) axis.0 slice }
         ensures elements { (i : List ℕ) → element_at result i ≡ inside (shape_of result) i (element_at self.now (sliced_index (shape_of self.now) axis.0 slice i)) }
     {
-        let mut view = self.view();
-        view.slice_axis_inplace(axis, slice);
-        view
+        self.view().slice_axis_move(axis, slice)
     }
 
     /// The array of what the slice names of one axis. The axis is below `ndim`, and the slice fits it
