@@ -1,3 +1,4 @@
+pub mod Given
 pub mod Sources
 pub mod Storages
 pub mod Writes

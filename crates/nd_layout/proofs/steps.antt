@@ -10,6 +10,7 @@ pub mod KeepStep
 pub mod PermuteStep
 pub mod ResizeStep
 pub mod SliceLoop
+pub mod SliceOnce
 pub mod SliceStep
 pub mod SqueezeStep
 pub mod Ranked

@@ -6,3 +6,4 @@ pub mod Places
 pub mod Steps
 pub mod GivenStrides
 pub mod Refusals
+pub mod Elements

@@ -76,6 +76,7 @@ impl<D: Dimension> Layout<D, D::Strides> {
 
 impl<D: Dimension, T: StrideList> Layout<D, T> {
     /// A copy of the layout.
+    #[inline]
     pub fn copied(&self) -> Self
         ensures offset { result.offset ≡ self.now.offset }
         ensures lengths { D.lengths result.dim ≡ D.lengths self.now.dim }

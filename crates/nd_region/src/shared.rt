@@ -46,6 +46,7 @@ impl<'a, A> SharedRegion<'a, A> {
     }
 
     /// Borrows the same places, for a shorter time.
+    #[inline]
     pub fn reborrowed(&self) -> SharedRegion<'_, A>
         ensures { shared_stored result ≡ shared_stored self.now }
     {

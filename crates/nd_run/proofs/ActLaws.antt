@@ -6,7 +6,7 @@ use Rattle.nd_run.specs.declared.keyword.Keyword.TheVariants.{Fill, Set, Swap}
 use Rattle.nd_run.specs.Calls.{Acting, Filling, Setting, Swapping}
 use Rattle.nd_run.specs.Numerals.{IsInt, int_of}
 use Rattle.nd_run.specs.Grammar.{IsList, IsAct}
-use Rattle.nd_run.specs.Reading.{◌>>=◌, item_at, list_at, made, keyword_of, keyword_at, begins_step, is_slash, set_at, swap_at, act_by, act_at, acts_at}
+use Rattle.nd_run.specs.Reading.{◌>>=◌, item_at, list_at, map_read, keyword_of, keyword_at, begins_step, is_slash, set_at, swap_at, act_by, act_at, acts_at}
 use Rattle.nd_run.proofs.Keywords.{spelled_as, slash_takes}
 use Rattle.nd_run.proofs.NumberLaws.{some_under, int_takes, int_again}
 use Rattle.nd_run.proofs.LineLaws.{bind_some, some_pair, Front, with_word, item_takes, list_takes, list_again}
@@ -87,15 +87,15 @@ act_takes [] act rest e = absurd cc
 act_takes (word ∷ words) act rest e = act_by_takes (keyword_of word) word words act rest refl e
 
 fill_act : (word : List ℕ) (value : ℤ) (rest : List (List ℕ)) → IsInt word value → act_at (codes "fill" ∷ word ∷ rest) ≡ Some (Filling value, rest)
-unfolding act_at keyword_of made
+unfolding act_at keyword_of map_read
 fill_act word value rest h = rw (int_again word value h) refl
 
 set_act : (words : List (List ℕ)) (x : List ℕ × ℤ) (rest : List (List ℕ)) → IsSet words x → act_at (codes "set" ∷ (words ++ rest)) ≡ Some (Setting x.0 x.1, rest)
-unfolding act_at keyword_of made
+unfolding act_at keyword_of map_read
 set_act words x rest h = rw (set_again words x rest h) refl
 
 swap_act : (words : List (List ℕ)) (x : List ℕ × List ℕ) (rest : List (List ℕ)) → AreIndexes words x → act_at (codes "swap" ∷ (words ++ rest)) ≡ Some (Swapping x.0 x.1, rest)
-unfolding act_at keyword_of made
+unfolding act_at keyword_of map_read
 swap_act words x rest h = rw (swap_again words x rest h) refl
 
 pub act_again : (front : List (List ℕ)) (act : Acting ℤ) (rest : List (List ℕ)) → IsAct front act → act_at (front ++ rest) ≡ Some (act, rest)

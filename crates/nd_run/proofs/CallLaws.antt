@@ -5,7 +5,7 @@ use Rattle.nd_run.specs.declared.keyword.Keyword.{Keyword}
 use Rattle.nd_run.specs.declared.keyword.Keyword.TheVariants.{Start, Keep, Ask, Write, Split, Shape, Elements, Get}
 use Rattle.nd_run.specs.Calls.{AskedStep, Asking, AskShape, AskElements, AskElement, Acting, Asked, Keeping, About, Writing, SplitWriting}
 use Rattle.nd_run.specs.Grammar.{IsList, IsStepSpelling, IsPath, IsQuestion, IsAct, IsCall, IsStart}
-use Rattle.nd_run.specs.Reading.{◌>>=◌, list_at, pair_at, keyword_of, keyword_at, step_at, begins_step, is_slash, is_start, leg_at, path_at, get_at, question_by, question_at, act_at, acts_at, keep_at, ask_at, write_at, split_at, call_by, call_at, call_of, ended, array_at, start_of}
+use Rattle.nd_run.specs.Reading.{◌>>=◌, list_at, pair_at, keyword_of, keyword_at, step_at, begins_step, is_slash, is_start, leg_at, path_at, get_at, question_by, question_at, act_at, acts_at, keep_at, ask_at, write_at, split_at, call_by, call_at, call_of, read_to_end, array_at, start_of}
 use Rattle.nd_run.proofs.Keywords.{spelled_as, slash_takes}
 use Rattle.nd_run.proofs.NumberLaws.{some_by}
 use Rattle.nd_run.proofs.LineLaws.{bind_some, some_pair, Front, with_word, list_takes, list_again, IsParts, array_takes, array_again}
@@ -213,7 +213,7 @@ unfolding call_at
 call_at_takes n [] call rest e = absurd cc
 call_at_takes n (word ∷ words) call rest e = call_by_takes n (keyword_of word) word words call rest refl e
 
-ended_takes : {X : Type 0} (p : X × List (List ℕ)) (x : X) → ended p ≡ Some x → (p.0 ≡ x) × (p.1 ≡ [])
+ended_takes : {X : Type 0} (p : X × List (List ℕ)) (x : X) → read_to_end p ≡ Some x → (p.0 ≡ x) × (p.1 ≡ [])
 ended_takes (y, []) x e = (cc, refl)
 ended_takes (y, word ∷ words) x e = absurd cc
 
@@ -221,7 +221,7 @@ ended_takes (y, word ∷ words) x e = absurd cc
 pub call_takes : (n : ℕ) (words : List (List ℕ)) (call : Asked ℤ) → call_of n words ≡ Some call → IsCall words call
 unfolding call_of
 call_takes n words call e =
-    let a = bind_some (call_at n words) ended call e in
+    let a = bind_some (call_at n words) read_to_end call e in
     let p = ended_takes a.0 call a.2 in
     let read = call_at_takes n words a.0.0 a.0.1 a.1 in
     let whole : words ≡ read.front = read.parts ∙ ap (λ (ws : List (List ℕ)). read.front ++ ws) p.1 ∙ append-nil read.front in
@@ -276,7 +276,7 @@ pub start_takes : (words : List (List ℕ)) (array : List ℕ × List ℤ) → s
 unfolding start_of
 start_takes [] array e = absurd cc
 start_takes (word ∷ words) array e =
-    let a = bind_some (as_start (keyword_of word, words)) ended array e in
+    let a = bind_some (as_start (keyword_of word, words)) read_to_end array e in
     let p = ended_takes a.0 array a.2 in
     let h = start_word_takes (is_start (keyword_of word)) words a.0 a.1 in
     let read = array_takes words a.0.0 a.0.1 h.1 in

@@ -8,22 +8,22 @@ use Rattle.nd_shape_and_slice.specs.declared.slice_info.SliceInfoElem.{SliceInfo
 use Rattle.nd_shape_and_slice.specs.declared.slice_info.SliceInfoElem.TheVariants.{Slice as Part, Index as At, NewAxis}
 use Rattle.nd_run.specs.Numerals.{IsNat, IsInt, nat_of, int_of}
 use Rattle.nd_run.specs.Grammar.{IsSlice, IsElement, AreInTurn}
-use Rattle.nd_run.specs.Reading.{◌>>=◌, item_at, many_at, made, slice_at, slice_element_at, elements_at}
+use Rattle.nd_run.specs.Reading.{◌>>=◌, item_at, many_at, map_read, slice_at, slice_element_at, elements_at}
 use Rattle.nd_run.proofs.NumberLaws.{nat_takes, nat_again, int_takes, int_again}
 use Rattle.nd_run.proofs.LineLaws.{bind_some, some_pair, Front, with_word, item_takes, slice_takes, slice_again}
 
 -- what is made of what was read
 pub made_takes : {X Y : Type 0} (Is : List (List ℕ) → X → Type 0) (Js : List (List ℕ) → Y → Type 0) (make : X → Y) (read : Option (X × List (List ℕ))) (words : List (List ℕ)) (y : Y) (rest : List (List ℕ))
-    → ((x : X) → read ≡ Some (x, rest) → Front Is words x rest) → ((ws : List (List ℕ)) (x : X) → Is ws x → Js ws (make x)) → made make read ≡ Some (y, rest) → Front Js words y rest
-unfolding made
+    → ((x : X) → read ≡ Some (x, rest) → Front Is words x rest) → ((ws : List (List ℕ)) (x : X) → Is ws x → Js ws (make x)) → map_read make read ≡ Some (y, rest) → Front Js words y rest
+unfolding map_read
 made_takes {X} {Y} Is Js make read words y rest takes is e =
     let a = bind_some read (λ x. Some (make x.0, x.1)) (y, rest) e in
     let p = some_pair (make a.0.0, a.0.1) (y, rest) a.2 in
     let f = takes a.0.0 (a.1 ∙ ap (λ (ws : List (List ℕ)). Some (a.0.0, ws)) p.1) in
     record { front = f.front; parts = f.parts; is = subst (Js f.front) p.0 (is f.front a.0.0 f.is) }
 
-pub made_again : {X Y : Type 0} (make : X → Y) (read : Option (X × List (List ℕ))) (x : X) (rest : List (List ℕ)) → read ≡ Some (x, rest) → made make read ≡ Some (make x, rest)
-unfolding made
+pub made_again : {X Y : Type 0} (make : X → Y) (read : Option (X × List (List ℕ))) (x : X) (rest : List (List ℕ)) → read ≡ Some (x, rest) → map_read make read ≡ Some (make x, rest)
+unfolding map_read
 made_again make read x rest e = rw e refl
 
 -- ---- items one after another
@@ -59,7 +59,7 @@ many_again read Is again front (x ∷ xs) rest h =
 -- ---- one element
 
 element_by_takes : (s i n : Bool) (word : List ℕ) (words : List (List ℕ)) (element : SliceInfoElem) (rest : List (List ℕ)) → bytes_eq word (codes "s") ≡ s → bytes_eq word (codes "i") ≡ i → bytes_eq word (codes "n") ≡ n
-    → cond s (made (λ (t : Slice). Part t.start t.end t.step) (slice_at words)) (cond i (made At (item_at int_of words)) (cond n (Some (NewAxis, words)) None)) ≡ Some (element, rest)
+    → cond s (map_read (λ (t : Slice). Part t.start t.end t.step) (slice_at words)) (cond i (map_read At (item_at int_of words)) (cond n (Some (NewAxis, words)) None)) ≡ Some (element, rest)
     → Front IsElement (word ∷ words) element rest
 element_by_takes true i n word words element rest is_s is_i is_n e =
     let f = made_takes IsSlice (λ ws x. IsElement (codes "s" ∷ ws) x) (λ (t : Slice). Part t.start t.end t.step) (slice_at words) words element rest (λ t. slice_takes words t rest) (λ ws t h. (ws, refl, h)) e in
@@ -79,11 +79,11 @@ element_takes [] element rest e = absurd cc
 element_takes (word ∷ words) element rest e = element_by_takes (bytes_eq word (codes "s")) (bytes_eq word (codes "i")) (bytes_eq word (codes "n")) word words element rest refl refl refl e
 
 part_words : (words : List (List ℕ)) (t : Slice) (rest : List (List ℕ)) → IsSlice words t → slice_element_at (codes "s" ∷ (words ++ rest)) ≡ Some (Part t.start t.end t.step, rest)
-unfolding slice_element_at made
+unfolding slice_element_at map_read
 part_words words t rest h = rw (slice_again words t rest h) refl
 
 coordinate_words : (word : List ℕ) (k : ℤ) (rest : List (List ℕ)) → IsInt word k → slice_element_at (codes "i" ∷ word ∷ rest) ≡ Some (At k, rest)
-unfolding slice_element_at made
+unfolding slice_element_at map_read
 coordinate_words word k rest h = rw (int_again word k h) refl
 
 new_words : (rest : List (List ℕ)) → slice_element_at (codes "n" ∷ rest) ≡ Some (NewAxis, rest)

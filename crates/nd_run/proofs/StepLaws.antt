@@ -6,7 +6,7 @@ use Rattle.nd_run.specs.declared.keyword.Keyword.TheVariants.{Cut, Slice, Collap
 use Rattle.nd_run.specs.Calls.{AskedStep, SlicedAxis, Sliced, Collapsed, Indexed, Permuted, Reversed, Exchanged, Inverted, Inserted, Removed, Squeezed, Diagonal, BroadcastTo}
 use Rattle.nd_run.specs.Numerals.{IsNat, nat_of}
 use Rattle.nd_run.specs.Grammar.{AreAll, IsList, IsSlice, IsStepSpelling, IsRest, step_name}
-use Rattle.nd_run.specs.Reading.{◌>>=◌, item_at, list_at, slice_at, pair_at, cut_at, elements_at, made, keyword_of, spelling, is_step, step_by, step_at, begins_step}
+use Rattle.nd_run.specs.Reading.{◌>>=◌, item_at, list_at, slice_at, pair_at, cut_at, elements_at, map_read, keyword_of, spelling, is_step, step_by, step_at, begins_step}
 use Rattle.nd_run.proofs.Keywords.{spelled}
 use Rattle.nd_run.proofs.NumberLaws.{nat_takes, nat_again}
 use Rattle.nd_run.proofs.LineLaws.{bind_some, some_pair, Front, item_takes, list_takes, list_again, slice_takes, slice_again}
@@ -78,15 +78,15 @@ abbrev IsNamed : List ℕ → List (List ℕ) → AskedStep → Type 0
 IsNamed name words step = IsRest words step × (step_name step ≡ name)
 
 one_made : (make : ℕ → AskedStep) (name : List ℕ) (words : List (List ℕ)) (step : AskedStep) (rest : List (List ℕ))
-    → ((ws : List (List ℕ)) (n : ℕ) → IsOne ws n → IsNamed name ws (make n)) → made make (item_at nat_of words) ≡ Some (step, rest) → Front (IsNamed name) words step rest
+    → ((ws : List (List ℕ)) (n : ℕ) → IsOne ws n → IsNamed name ws (make n)) → map_read make (item_at nat_of words) ≡ Some (step, rest) → Front (IsNamed name) words step rest
 one_made make name words step rest is e = made_takes IsOne (IsNamed name) make (item_at nat_of words) words step rest (λ n. one_takes words n rest) is e
 
 pair_made : (make : ℕ × ℕ → AskedStep) (name : List ℕ) (words : List (List ℕ)) (step : AskedStep) (rest : List (List ℕ))
-    → ((ws : List (List ℕ)) (x : ℕ × ℕ) → IsPair ws x → IsNamed name ws (make x)) → made make (pair_at words) ≡ Some (step, rest) → Front (IsNamed name) words step rest
+    → ((ws : List (List ℕ)) (x : ℕ × ℕ) → IsPair ws x → IsNamed name ws (make x)) → map_read make (pair_at words) ≡ Some (step, rest) → Front (IsNamed name) words step rest
 pair_made make name words step rest is e = made_takes IsPair (IsNamed name) make (pair_at words) words step rest (λ x. pair_takes words x rest) is e
 
 list_made : (make : List ℕ → AskedStep) (name : List ℕ) (words : List (List ℕ)) (step : AskedStep) (rest : List (List ℕ))
-    → ((ws : List (List ℕ)) (ns : List ℕ) → IsList ws ns → IsNamed name ws (make ns)) → made make (list_at words) ≡ Some (step, rest) → Front (IsNamed name) words step rest
+    → ((ws : List (List ℕ)) (ns : List ℕ) → IsList ws ns → IsNamed name ws (make ns)) → map_read make (list_at words) ≡ Some (step, rest) → Front (IsNamed name) words step rest
 list_made make name words step rest is e = made_takes IsList (IsNamed name) make (list_at words) words step rest (λ ns. list_takes words ns rest) is e
 
 -- a step that is its name alone

@@ -145,8 +145,8 @@ cut_at words = do
   Some ((axis.0, slice.0), slice.1)
 
 -- what is made of what was read
-unfoldable pub made : {X Y : Type 0} → (X → Y) → Option (X × List (List ℕ)) → Option (Y × List (List ℕ))
-made make read = do
+unfoldable pub map_read : {X Y : Type 0} → (X → Y) → Option (X × List (List ℕ)) → Option (Y × List (List ℕ))
+map_read make read = do
   parts ← read
   Some (make parts.0, parts.1)
 
@@ -154,8 +154,8 @@ made make read = do
 abbrev pub element_by : List ℕ → List (List ℕ) → Option (SliceInfoElem × List (List ℕ))
 element_by word words =
     if bytes_eq word (codes "s")
-    then made (λ s. Part s.start s.end s.step) (slice_at words)
-    else (if bytes_eq word (codes "i") then made At (item_at int_of words) else (if bytes_eq word (codes "n") then Some (NewAxis, words) else None))
+    then map_read (λ s. Part s.start s.end s.step) (slice_at words)
+    else (if bytes_eq word (codes "i") then map_read At (item_at int_of words) else (if bytes_eq word (codes "n") then Some (NewAxis, words) else None))
 
 unfoldable pub slice_element_at : List (List ℕ) → Option (SliceInfoElem × List (List ℕ))
 slice_element_at words = do
@@ -170,19 +170,19 @@ elements_at words = do
 
 -- the step that this keyword begins
 abbrev pub step_by : Keyword → List (List ℕ) → Option (AskedStep × List (List ℕ))
-step_by Cut words = made (λ x. SlicedAxis x.0 x.1) (cut_at words)
-step_by SliceWord words = made Sliced (elements_at words)
-step_by Collapse words = made (λ x. Collapsed x.0 x.1) (pair_at words)
-step_by Index words = made (λ x. Indexed x.0 x.1) (pair_at words)
-step_by Permute words = made Permuted (list_at words)
+step_by Cut words = map_read (λ x. SlicedAxis x.0 x.1) (cut_at words)
+step_by SliceWord words = map_read Sliced (elements_at words)
+step_by Collapse words = map_read (λ x. Collapsed x.0 x.1) (pair_at words)
+step_by Index words = map_read (λ x. Indexed x.0 x.1) (pair_at words)
+step_by Permute words = map_read Permuted (list_at words)
 step_by Reverse words = Some (Reversed, words)
-step_by SwapAxes words = made (λ x. Exchanged x.0 x.1) (pair_at words)
-step_by Invert words = made Inverted (item_at nat_of words)
-step_by Insert words = made Inserted (item_at nat_of words)
-step_by Remove words = made Removed (item_at nat_of words)
+step_by SwapAxes words = map_read (λ x. Exchanged x.0 x.1) (pair_at words)
+step_by Invert words = map_read Inverted (item_at nat_of words)
+step_by Insert words = map_read Inserted (item_at nat_of words)
+step_by Remove words = map_read Removed (item_at nat_of words)
 step_by Squeeze words = Some (Squeezed, words)
 step_by Diag words = Some (Diagonal, words)
-step_by Broadcast words = made BroadcastTo (list_at words)
+step_by Broadcast words = map_read BroadcastTo (list_at words)
 step_by _ words = None
 
 unfoldable pub step_at : List (List ℕ) → Option (AskedStep × List (List ℕ))
@@ -258,9 +258,9 @@ swap_at words = do
   Some ((first.0, second.0), second.1)
 
 abbrev pub act_by : Keyword → List (List ℕ) → Option (Acting ℤ × List (List ℕ))
-act_by Fill words = made Filling (item_at int_of words)
-act_by Set words = made (λ x. Setting x.0 x.1) (set_at words)
-act_by Swap words = made (λ x. Swapping x.0 x.1) (swap_at words)
+act_by Fill words = map_read Filling (item_at int_of words)
+act_by Set words = map_read (λ x. Setting x.0 x.1) (set_at words)
+act_by Swap words = map_read (λ x. Swapping x.0 x.1) (swap_at words)
 act_by _ words = None
 
 unfoldable pub act_at : List (List ℕ) → Option (Acting ℤ × List (List ℕ))
@@ -312,15 +312,15 @@ call_at n words = do
   call_by n first.0 first.1
 
 -- what was read, where no word is left over
-abbrev pub ended : {X : Type 0} → X × List (List ℕ) → Option X
-ended (x, []) = Some x
-ended (x, word ∷ words) = None
+abbrev pub read_to_end : {X : Type 0} → X × List (List ℕ) → Option X
+read_to_end (x, []) = Some x
+read_to_end (x, word ∷ words) = None
 
 -- the call that the words of a line are, with at most n steps
 unfoldable pub call_of : ℕ → List (List ℕ) → Option (Asked ℤ)
 call_of n words = do
   call ← call_at n words
-  ended call
+  read_to_end call
 
 abbrev pub is_start : Keyword → Bool
 is_start Start = true
@@ -331,4 +331,4 @@ unfoldable pub start_of : List (List ℕ) → Option (List ℕ × List ℤ)
 start_of words = do
   first ← keyword_at words
   array ← (if is_start first.0 then array_at first.1 else None)
-  ended array
+  read_to_end array

@@ -1,47 +1,20 @@
 //! Calls on elements whose clones are refused.
 
-ghost use Rattle.std.specs.Prelude.{◌≡◌};
-
 use nd_array_core::Array;
 use nd_run::run::{RunFault, run};
 use nd_run::{Act, Call, Question, Reply, Step};
 use nd_shape_and_slice::{IxDyn, Slice};
-use std::alloc::{AllocError, Global};
+use nd_test_arrays::Refusing;
+use std::alloc::Global;
 use std::cell::Cell;
 use std::test::Fail;
-
-// A number whose clone is refused when its turn comes.
-#[derive(Drop)]
-struct Refusing<'a> {
-    number: u64,
-    left: &'a Cell<u64>,
-}
-
-impl<'a> Clone for Refusing<'a> {
-    ghost is_clone = { λ x y. y ≡ x };
-
-    fn clone(&self) -> Result<Self, AllocError> {
-        let left = self.left.get();
-        if left == 0 {
-            return Err(AllocError);
-        }
-        self.left.set(left - 1);
-        Ok(Refusing {
-            number: self.number,
-            left: self.left,
-        })
-    }
-}
 
 // The array [10, 20, 30].
 fn three_numbers<'a>(
     alloc: Global,
     left: &'a Cell<u64>,
 ) -> Result<Array<Refusing<'a>, IxDyn>, Fail> {
-    let mut items = Vec::new(alloc);
-    for number in [10, 20, 30] {
-        items.push(Refusing { number, left })?;
-    }
+    let items = Refusing::listed(alloc, &[10, 20, 30], left)?;
     Ok(
         Array::from_shape_vec(IxDyn::new(&[3]), items)
             .ok()

@@ -85,6 +85,7 @@ impl<S: Data, D: Dimension> ArrayBase<S, D> {
     }
 
     /// A read-only view of the array, with the same strides. ndarray's `view`.
+    #[inline]
     pub fn view(&self) -> ArrayView<'_, S::Elem, D>
         ensures shape { shape_of result ≡ shape_of self.now }
         ensures strides { layout_strides result ≡ layout_strides self.now }

@@ -10,6 +10,7 @@ ghost use Rattle.nd_layout.specs.GivenStrides.{given_place, ordered_strides, giv
 ghost use Rattle.nd_layout.specs.Refusals.{vec_refusal, slice_refusal, slice_mut_refusal, elements_asked};
 ghost use Rattle.nd_array_core.specs.Meaning.{shape_of, element_at, layout_strides, inside};
 ghost use Rattle.nd_array_core.specs.Places.{stored_at};
+ghost use Rattle.nd_array_core.specs.base.Given.{refusal_in, is_apart_in};
 ghost use Rattle.nd_layout.specs.Steps.{IsValid};
 
 use crate::base::array::{Array, ArrayBase, ArrayView, ArrayViewMut};
@@ -52,6 +53,84 @@ fn with_strides<S: Data, D: Dimension>(
     }
 }
 
+/// What a constructor is given its elements in.
+#[derive(Clone, Copy)]
+pub(crate) enum GivenIn {
+    /// A vector, which holds as many elements as the shape has unless the caller gives strides.
+    Vector,
+    /// A slice to be read, of which several indexes may name the same element.
+    Slice,
+    /// A slice to be written.
+    SliceMut,
+}
+
+/// The offset under the caller's strides, or the cause why that many elements can't be laid out so.
+fn given_offset(
+    given_in: GivenIn,
+    lengths: &[usize],
+    strides: &[isize],
+    count: usize,
+) -> Result<usize, ShapeError>
+    requires as_many { length strides.now ≡ length lengths.now }
+    requires few { length lengths.now ≤ 32 }
+    ensures refused { IfErr result (λ e. refusal_in given_in lengths.now (Some strides.now) count ≡ Some e) }
+    ensures accepted { IfOk result (λ _. refusal_in given_in lengths.now (Some strides.now) count ≡ None) }
+    ensures offset { IfOk result (λ offset. offset ≡ reach_down lengths.now strides.now) }
+    ensures valid { IfOk result (λ offset. IsValid offset lengths.now strides.now) }
+    ensures enough { IfOk result (λ _. elements_asked lengths.now strides.now ≤ count) }
+    ensures apart { IfOk result (λ _. is_apart_in given_in ≡ true → 0 < size_of lengths.now → IsSeparated lengths.now strides.now) }
+{
+    match given_in {
+        GivenIn::Vector => offset_in_vec(lengths, strides, count),
+        GivenIn::Slice => offset_in_slice(lengths, strides, count),
+        GivenIn::SliceMut => offset_in_vec(lengths, strides, count),
+    }
+}
+
+/// The size of a shape, or the cause why that many elements can't be laid out in an order.
+fn given_size(given_in: GivenIn, lengths: &[usize], count: usize) -> Result<usize, ShapeError>
+    ensures refused { IfErr result (λ e. refusal_in given_in lengths.now None count ≡ Some e) }
+    ensures accepted { IfOk result (λ _. refusal_in given_in lengths.now None count ≡ None) }
+    ensures checked { IfOk result (λ _. HasCheckedSize lengths.now) }
+    ensures size { IfOk result (λ size. size ≡ size_of lengths.now) }
+    ensures enough { IfOk result (λ size. size ≤ count) }
+{
+    match given_in {
+        GivenIn::Vector => size_in_vec(lengths, count),
+        GivenIn::Slice => size_in_slice(lengths, count),
+        GivenIn::SliceMut => size_in_slice(lengths, count),
+    }
+}
+
+/// The elements of a storage, that many from place 0 on, under a shape and the caller's strides or an order.
+fn under_shape<S: Data + Drop, D: Dimension, Sh: IntoStrideShape<Dim = D>>(
+    given_in: GivenIn,
+    storage: S,
+    count: usize,
+    shape: Sh,
+) -> Result<ArrayBase<S, D>, ShapeError>
+    requires holds { (place : ℕ) → place < count → IsSome (S.stored storage place) }
+    requires apart { S.exclusive ≡ true → is_apart_in given_in ≡ true }
+    ensures refused { IfErr result (λ e. refusal_in given_in (Sh.lengths_meant shape) (Sh.strides_meant shape) count ≡ Some e) }
+    ensures accepted { IfOk result (λ _. refusal_in given_in (Sh.lengths_meant shape) (Sh.strides_meant shape) count ≡ None) }
+    ensures shape { IfOk result (λ a. shape_of a ≡ Sh.lengths_meant shape) }
+    ensures strides { IfOk result (λ a. layout_strides a ≡ given_strides (Sh.lengths_meant shape) (Sh.order_meant shape) (Sh.strides_meant shape)) }
+    ensures elements { IfOk result (λ a. (i : List ℕ) → element_at a i ≡ inside (Sh.lengths_meant shape) i (stored_at (S.stored storage) (given_place (Sh.lengths_meant shape) (Sh.order_meant shape) (Sh.strides_meant shape) i))) }
+{
+    let given = shape.into_stride_shape();
+    let dim = *given.raw_dim();
+    match given.custom_strides() {
+        Some(strides) => {
+            let offset = given_offset(given_in, dim.slice(), strides.slice(), count)?;
+            Ok(with_strides(storage, offset, dim, strides))
+        }
+        None => {
+            given_size(given_in, dim.slice(), count)?;
+            Ok(in_order(storage, dim, given.order()))
+        }
+    }
+}
+
 impl<A: Drop, D: Dimension> Array<A, D> {
     /// An array of the vector's elements under a shape: in row-major order, after `.f()` in column-major order, or by
     /// the strides after `.strides(..)`. Overflow where the shape has no checked size, or where its places would lie
@@ -67,18 +146,8 @@ impl<A: Drop, D: Dimension> Array<A, D> {
         ensures strides { IfOk result (λ a. layout_strides a ≡ given_strides (Sh.lengths_meant shape) (Sh.order_meant shape) (Sh.strides_meant shape)) }
         ensures elements { IfOk result (λ a. (i : List ℕ) → element_at a i ≡ inside (Sh.lengths_meant shape) i (stored_at (slice_get v.items) (given_place (Sh.lengths_meant shape) (Sh.order_meant shape) (Sh.strides_meant shape) i))) }
     {
-        let given = shape.into_stride_shape();
-        let dim = *given.raw_dim();
-        match given.custom_strides() {
-            Some(strides) => {
-                let offset = offset_in_vec(dim.slice(), strides.slice(), v.len())?;
-                Ok(with_strides(OwnedRepr { items: v }, offset, dim, strides))
-            }
-            None => {
-                size_in_vec(dim.slice(), v.len())?;
-                Ok(in_order(OwnedRepr { items: v }, dim, given.order()))
-            }
-        }
+        let count = v.len();
+        under_shape(GivenIn::Vector, OwnedRepr { items: v }, count, shape)
     }
 }
 
@@ -97,18 +166,8 @@ impl<'a, A, D: Dimension> ArrayView<'a, A, D> {
         ensures strides { IfOk result (λ a. layout_strides a ≡ given_strides (Sh.lengths_meant shape) (Sh.order_meant shape) (Sh.strides_meant shape)) }
         ensures elements { IfOk result (λ a. (i : List ℕ) → element_at a i ≡ inside (Sh.lengths_meant shape) i (stored_at (slice_get xs.now) (given_place (Sh.lengths_meant shape) (Sh.order_meant shape) (Sh.strides_meant shape) i))) }
     {
-        let given = shape.into_stride_shape();
-        let dim = *given.raw_dim();
-        match given.custom_strides() {
-            Some(strides) => {
-                let offset = offset_in_slice(dim.slice(), strides.slice(), xs.len())?;
-                Ok(with_strides(ViewRepr::of_slice(xs), offset, dim, strides))
-            }
-            None => {
-                size_in_slice(dim.slice(), xs.len())?;
-                Ok(in_order(ViewRepr::of_slice(xs), dim, given.order()))
-            }
-        }
+        let count = xs.len();
+        under_shape(GivenIn::Slice, ViewRepr::of_slice(xs), count, shape)
     }
 }
 
@@ -127,17 +186,12 @@ impl<'a, A, D: Dimension> ArrayViewMut<'a, A, D> {
         ensures strides { IfOk result (λ a. layout_strides a ≡ given_strides (Sh.lengths_meant shape) (Sh.order_meant shape) (Sh.strides_meant shape)) }
         ensures elements { IfOk result (λ a. (i : List ℕ) → element_at a i ≡ inside (Sh.lengths_meant shape) i (stored_at (slice_get xs.old) (given_place (Sh.lengths_meant shape) (Sh.order_meant shape) (Sh.strides_meant shape) i))) }
     {
-        let given = shape.into_stride_shape();
-        let dim = *given.raw_dim();
-        match given.custom_strides() {
-            Some(strides) => {
-                let offset = offset_in_vec(dim.slice(), strides.slice(), xs.len())?;
-                Ok(with_strides(ViewMutRepr::of_slice_mut(xs), offset, dim, strides))
-            }
-            None => {
-                size_in_slice(dim.slice(), xs.len())?;
-                Ok(in_order(ViewMutRepr::of_slice_mut(xs), dim, given.order()))
-            }
-        }
+        let count = xs.len();
+        under_shape(
+            GivenIn::SliceMut,
+            ViewMutRepr::of_slice_mut(xs),
+            count,
+            shape,
+        )
     }
 }

@@ -1,15 +1,29 @@
 //! Views of slices and of rows.
 #![tactic(auto, unfolding(crate::specs::Meaning::meaning_of, crate::specs::Meaning::memory_layout_of))]
 
-ghost use Rattle.std.specs.Prelude.{◌≡◌, ◌*◌, ◌<◌, ◌^◌, ℕ, List, [], ◌∷◌, length};
+ghost use Rattle.std.specs.Prelude.{◌≡◌, ◌*◌, ◌<◌, ◌^◌, ℕ, List, [], ◌∷◌, length, IsSome};
 ghost use Rattle.std.specs.List.{flat_map};
-ghost use Rattle.nd_shape_and_slice.specs.Shape.{HasCheckedSize};
+ghost use Rattle.nd_shape_and_slice.specs.Shape.{row_rank, HasCheckedSize};
+ghost use Rattle.nd_shape_and_slice.specs.Strides.{c_strides};
+ghost use Rattle.nd_array_core.specs.Meaning.{shape_of, element_at, layout_strides, inside};
 ghost use Rattle.nd_array_core.specs.base.Sources.{IsRowMajorOf};
 
-use crate::base::array::{ArrayView, ArrayViewMut};
+use crate::base::array::{ArrayBase, ArrayView, ArrayViewMut};
 use crate::base::constructors::in_order;
-use crate::base::storage::{ViewMutRepr, ViewRepr};
+use crate::base::storage::{Data, ViewMutRepr, ViewRepr};
 use nd_shape_and_slice::{IntoDimension, Ix1, Ix2, Order, size_of_shape_checked};
+
+/// That many elements of a storage, from place 0 on, along one axis; none where they are more than `isize::MAX`.
+fn on_one_axis<S: Data>(storage: S, len: usize) -> ArrayBase<S, Ix1>
+    requires { (place : ℕ) → place < len → IsSome (S.stored storage place) }
+    ensures held { HasCheckedSize (len ∷ []) → (shape_of result ≡ len ∷ []) × (layout_strides result ≡ c_strides (len ∷ [])) × ((i : List ℕ) → element_at result i ≡ inside (len ∷ []) i (S.stored storage (row_rank (len ∷ []) i))) }
+    ensures empty { (HasCheckedSize (len ∷ []) → ⊥) → shape_of result ≡ 0 ∷ [] }
+{
+    match size_of_shape_checked(&[len]) {
+        Ok(_) => in_order(storage, len.into_dimension(), Order::RowMajor),
+        Err(_) => in_order(storage, 0.into_dimension(), Order::RowMajor),
+    }
+}
 
 /// The view of a slice, with one axis; empty where the slice has more than `isize::MAX` elements.
 impl<'a, A> From<&'a [A]> for ArrayView<'a, A, Ix1> {
@@ -17,11 +31,7 @@ impl<'a, A> From<&'a [A]> for ArrayView<'a, A, Ix1> {
 
     fn from(xs: &'a [A]) -> Self {
         let len = xs.len();
-        let storage = ViewRepr::of_slice(xs);
-        match size_of_shape_checked(&[len]) {
-            Ok(_) => in_order(storage, len.into_dimension(), Order::RowMajor),
-            Err(_) => in_order(storage, 0.into_dimension(), Order::RowMajor),
-        }
+        on_one_axis(ViewRepr::of_slice(xs), len)
     }
 }
 
@@ -31,11 +41,7 @@ impl<'a, A> From<&'a mut [A]> for ArrayViewMut<'a, A, Ix1> {
 
     fn from(xs: &'a mut [A]) -> Self {
         let len = xs.len();
-        let elements = ViewMutRepr::of_slice_mut(xs);
-        match size_of_shape_checked(&[len]) {
-            Ok(_) => in_order(elements, len.into_dimension(), Order::RowMajor),
-            Err(_) => in_order(elements, 0.into_dimension(), Order::RowMajor),
-        }
+        on_one_axis(ViewMutRepr::of_slice_mut(xs), len)
     }
 }
 

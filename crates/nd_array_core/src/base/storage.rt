@@ -48,6 +48,7 @@ pub trait Data {
         ensures { stored self.now place ≡ Some result.now };
 
     /// The same elements, borrowed.
+    #[inline]
     fn borrowed(&self) -> ViewRepr<'_, Self::Elem>
         ensures { (place : ℕ) → shown_by result place ≡ stored self.now place };
 }
@@ -125,6 +126,7 @@ impl<A> Data for OwnedRepr<A> {
         &self.items[place]
     }
 
+    #[inline]
     fn borrowed(&self) -> ViewRepr<'_, A> {
         ViewRepr::of_slice(self.items.as_slice())
     }
@@ -148,6 +150,7 @@ impl<'a, A> Data for ViewRepr<'a, A> {
         region.get(place)
     }
 
+    #[inline]
     fn borrowed(&self) -> ViewRepr<'_, A> {
         ViewRepr {
             region: self.region.reborrowed(),
@@ -243,6 +246,7 @@ impl<'a, A> Data for ViewMutRepr<'a, A> {
         self.region.get(place)
     }
 
+    #[inline]
     fn borrowed(&self) -> ViewRepr<'_, A> {
         ViewRepr {
             region: self.region.share(),

@@ -31,6 +31,7 @@ impl<S: Data, D: Dimension> ArrayBase<S, D> {
 
     /// Puts the axes in another order: axis k is the old axis `axes[k]`. Each axis stands once in the list
     /// (`axes_fit`). ndarray's `permute_axes`.
+    #[inline]
     pub fn permute_axes<I: IntoDimension<Dim = D>>(&mut self, axes: I)
         requires { HasEachAxis (I.lengths_given axes) (length (shape_of self.old)) }
         ensures shape { shape_of self.new ≡ permuted_list (I.lengths_given axes) (shape_of self.old) }
@@ -45,6 +46,7 @@ impl<S: Data, D: Dimension> ArrayBase<S, D> {
 
     /// The array with its axes in another order: axis k is the old axis `axes[k]`. Each axis stands once in the
     /// list (`axes_fit`). ndarray's `permuted_axes`.
+    #[inline]
     pub fn permuted_axes<I: IntoDimension<Dim = D>>(self, axes: I) -> Self
         requires { HasEachAxis (I.lengths_given axes) (length (shape_of self)) }
         ensures shape { shape_of result ≡ permuted_list (I.lengths_given axes) (shape_of self) }
@@ -59,6 +61,7 @@ impl<S: Data, D: Dimension> ArrayBase<S, D> {
     }
 
     /// Inverts an axis below `ndim`: its coordinates count from the other end. ndarray's `invert_axis`.
+    #[inline]
     pub fn invert_axis(&mut self, axis: Axis)
         requires { axis.0 < length (shape_of self.old) }
         ensures shape { shape_of self.new ≡ shape_of self.old }
@@ -72,6 +75,7 @@ impl<S: Data, D: Dimension> ArrayBase<S, D> {
 
     /// Keeps one coordinate of an axis, which then has length 1. The axis is below `ndim`, and the coordinate below
     /// its length. ndarray's `collapse_axis`.
+    #[inline]
     pub fn collapse_axis(&mut self, axis: Axis, index: usize)
         requires axis { axis.0 < length (shape_of self.old) }
         requires within { index < slice_index (shape_of self.old) axis.0 }
@@ -85,6 +89,7 @@ impl<S: Data, D: Dimension> ArrayBase<S, D> {
     }
 
     /// Exchanges two axes below `ndim`. ndarray's `swap_axes`.
+    #[inline]
     pub fn swap_axes(&mut self, a: usize, b: usize)
         requires a { a < length (shape_of self.old) }
         requires b { b < length (shape_of self.old) }
@@ -98,6 +103,7 @@ impl<S: Data, D: Dimension> ArrayBase<S, D> {
     }
 
     /// Puts the axes in the opposite order. ndarray's `reverse_axes`.
+    #[inline]
     pub fn reverse_axes(&mut self)
         ensures shape { shape_of self.new ≡ reverse (shape_of self.old) }
         ensures strides { layout_strides self.new ≡ reverse (layout_strides self.old) }
@@ -109,6 +115,7 @@ impl<S: Data, D: Dimension> ArrayBase<S, D> {
     }
 
     /// The array with its axes in the opposite order. ndarray's `reversed_axes`.
+    #[inline]
     pub fn reversed_axes(self) -> Self
         ensures shape { shape_of result ≡ reverse (shape_of self) }
         ensures strides { layout_strides result ≡ reverse (layout_strides self) }
@@ -122,6 +129,7 @@ impl<S: Data, D: Dimension> ArrayBase<S, D> {
     }
 
     /// The view with the axes in the opposite order. ndarray's `t`.
+    #[inline]
     pub fn t(&self) -> ArrayView<'_, S::Elem, D>
         ensures shape { shape_of result ≡ reverse (shape_of self.now) }
         ensures strides { layout_strides result ≡ reverse (layout_strides self.now) }

@@ -14,18 +14,24 @@ impl<S: Data, D: Dimension> ArrayBase<S, D> {
     /// The view under a larger shape, where each new axis and each axis grown from length 1 repeats the same
     /// elements. None exactly where the shape has no checked size or fewer axes, or where, from the back, a length
     /// differs and the array's isn't 1. ndarray's `broadcast`.
+    #[inline]
     pub fn broadcast<E: IntoDimension>(&self, to: E) -> Option<ArrayView<'_, S::Elem, E::Dim>>
         ensures none { IsNone result ↔ (broadcasts (shape_of self.now) (E.lengths_given to) ≡ false) }
         ensures shape { IfSome result (λ v. shape_of v ≡ E.lengths_given to) }
         ensures strides { IfSome result (λ v. layout_strides v ≡ broadcast_strides (shape_of self.now) (layout_strides self.now) (shape_of v)) }
         ensures elements { IfSome result (λ v. (i : List ℕ) → element_at v i ≡ inside (shape_of v) i (element_at self.now (broadcast_index (shape_of self.now) (shape_of v) i))) }
     {
-        self.view().broadcast_move(to)
+        let layout = self.layout.broadcast(to.into_dimension())?;
+        Some(ArrayBase {
+            storage: self.storage.borrowed(),
+            layout,
+        })
     }
 }
 
 impl<'a, A, D: Dimension> ArrayView<'a, A, D> {
     /// `broadcast` of a view, for as long as the view itself lives. ndarray has no such call.
+    #[inline]
     pub fn broadcast_move<E: IntoDimension>(self, to: E) -> Option<ArrayView<'a, A, E::Dim>>
         ensures none { IsNone result ↔ (broadcasts (shape_of self.entry) (E.lengths_given to) ≡ false) }
         ensures shape { IfSome result (λ v. shape_of v ≡ E.lengths_given to) }

@@ -10,18 +10,33 @@ ghost use Rattle.nd_shape_and_slice.specs.EachAxis.{each_sliced_shape, each_slic
 ghost use Rattle.nd_shape_and_slice.specs.Slice.{fits_axis, sliced_shape, sliced_index};
 ghost use Rattle.nd_shape_and_slice.specs.SliceInfo.{fits_shape, shape_after, index_before, axes_read};
 ghost use Rattle.nd_shape_and_slice.specs.Slicing.{collapsed_after, collapsed_before};
+ghost use Rattle.nd_layout.specs.Steps.{IsStep};
 ghost use Rattle.nd_layout.specs.Strides.{sliced_strides};
 ghost use Rattle.nd_array_core.specs.Meaning.{shape_of, element_at, storage_of, place_at, layout_strides, inside};
 
 use crate::base::array::{ArrayBase, ArrayView, ArrayViewMut};
 use crate::base::storage::{Data, DataMut};
+use nd_layout::Layout;
 use nd_shape_and_slice::{
     Axis, AxisCount, AxisDescription, Dimension, Slice, SliceArg, StrideList,
 };
 
+/// The layout of what a list of slices names. The list fits the shape.
+pub(crate) fn sliced_by<D: Dimension, I: SliceArg<D>>(
+    layout: &Layout<D, D::Strides>,
+    list: I,
+) -> Layout<I::OutDim, <I::OutDim as Dimension>::Strides>
+    requires { fits_shape (D.lengths layout.now.dim) (I.elements_of list) ≡ true }
+    ensures lengths { I.OutDim.lengths result.dim ≡ shape_after (D.lengths layout.now.dim) (I.elements_of list) }
+    ensures step { IsStep layout.now.offset (D.lengths layout.now.dim) (D.Strides.strides_of layout.now.strides) result.offset (I.OutDim.lengths result.dim) (I.OutDim.Strides.strides_of result.strides) (index_before (D.lengths layout.now.dim) (I.elements_of list)) }
+{
+    layout.sliced::<I::OutDim>(list.elements())
+}
+
 impl<S: Data, D: Dimension> ArrayBase<S, D> {
     /// The array of what the list names: a slice keeps its axis, an index takes its axis away, and a new axis has length
     /// 1. The list fits the shape (`SliceArg::fits`). ndarray's `slice_move`.
+    #[inline]
     pub fn slice_move<I: SliceArg<D>>(self, info: I) -> ArrayBase<S, I::OutDim>
         requires { fits_shape (shape_of self) (I.elements_of info) ≡ true }
         ensures shape { shape_of result ≡ shape_after (shape_of self) (I.elements_of info) }
@@ -29,7 +44,7 @@ impl<S: Data, D: Dimension> ArrayBase<S, D> {
         ensures storage { storage_of result ≡ storage_of self }
         ensures places { (i : List ℕ) → place_at result i ≡ inside (shape_of result) i (place_at self (index_before (shape_of self) (I.elements_of info) i)) }
     {
-        let layout = self.layout.sliced::<I::OutDim>(info.elements());
+        let layout = sliced_by(&self.layout, info);
         ArrayBase {
             storage: self.storage,
             layout,
@@ -38,12 +53,16 @@ impl<S: Data, D: Dimension> ArrayBase<S, D> {
 
     /// The view of what the list names: a slice keeps its axis, an index takes its axis away, and a new axis has length
     /// 1. The list fits the shape (`SliceArg::fits`). ndarray's `slice`.
+    #[inline]
     pub fn slice<I: SliceArg<D>>(&self, info: I) -> ArrayView<'_, S::Elem, I::OutDim>
         requires { fits_shape (shape_of self.now) (I.elements_of info) ≡ true }
         ensures shape { shape_of result ≡ shape_after (shape_of self.now) (I.elements_of info) }
         ensures elements { (i : List ℕ) → element_at result i ≡ inside (shape_of result) i (element_at self.now (index_before (shape_of self.now) (I.elements_of info) i)) }
     {
-        self.view().slice_move(info)
+        ArrayBase {
+            storage: self.storage.borrowed(),
+            layout: self.layout.sliced::<I::OutDim>(info.elements()),
+        }
     }
 
     /// Keeps of each axis what the list names; an indexed axis keeps length 1. The list fits the shape
@@ -61,6 +80,7 @@ impl<S: Data, D: Dimension> ArrayBase<S, D> {
 
     /// Keeps of one axis what the slice names. The axis is below `ndim`, and the slice fits it (`slice_fits`).
     /// ndarray's `slice_axis_inplace`.
+    #[inline]
     pub fn slice_axis_inplace(&mut self, axis: Axis, slice: Slice)
         requires axis { axis.0 < length (shape_of self.old) }
         requires fits { fits_axis (slice_index (shape_of self.old) axis.0) slice ≡ true }
@@ -75,6 +95,7 @@ impl<S: Data, D: Dimension> ArrayBase<S, D> {
 
     /// The view of what the slice names of one axis. The axis is below `ndim`, and the slice fits it
     /// (`slice_fits`). ndarray's `slice_axis`.
+    #[inline]
     pub fn slice_axis(&self, axis: Axis, slice: Slice) -> ArrayView<'_, S::Elem, D>
         requires axis { axis.0 < length (shape_of self.now) }
         requires fits { fits_axis (slice_index (shape_of self.now) axis.0) slice ≡ true }
@@ -82,13 +103,12 @@ impl<S: Data, D: Dimension> ArrayBase<S, D> {
         ensures strides { layout_strides result ≡ sliced_strides (shape_of self.now) (layout_strides self.now) axis.0 slice }
         ensures elements { (i : List ℕ) → element_at result i ≡ inside (shape_of result) i (element_at self.now (sliced_index (shape_of self.now) axis.0 slice i)) }
     {
-        let mut view = self.view();
-        view.slice_axis_inplace(axis, slice);
-        view
+        self.view().slice_axis_move(axis, slice)
     }
 
     /// The array of what the slice names of one axis. The axis is below `ndim`, and the slice fits it
     /// (`slice_fits`). ndarray's `slice_axis_move`.
+    #[inline]
     pub fn slice_axis_move(self, axis: Axis, slice: Slice) -> Self
         requires axis { axis.0 < length (shape_of self) }
         requires fits { fits_axis (slice_index (shape_of self) axis.0) slice ≡ true }

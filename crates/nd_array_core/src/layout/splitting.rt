@@ -14,6 +14,7 @@ ghost use Rattle.nd_array_core.specs.layout.MultiSlice.{TwoFit, ThreeFit, FourFi
 ghost use Rattle.nd_array_core.specs.layout.Parts.{HoldsEachOnce, IsViewUnder};
 ghost use Rattle.nd_array_core.specs.Places.{kept_at, ShareNoPlace};
 
+use super::slicing::sliced_by;
 use crate::base::array::{ArrayBase, ArrayView, ArrayViewMut};
 use crate::base::storage::{DataMut, ViewMutRepr, ViewRepr};
 use nd_layout::Layout;
@@ -22,6 +23,7 @@ use nd_shape_and_slice::{Axis, Dimension, SliceArg, StrideList};
 impl<'a, A, D: Dimension> ArrayView<'a, A, D> {
     /// The two parts of an axis: the coordinates below this one, and those from it on. The axis is below `ndim`,
     /// and the coordinate at most its length. ndarray's `ArrayView::split_at`.
+    #[inline]
     pub fn split_at(self, axis: Axis, index: usize) -> (Self, Self)
         requires axis { axis.0 < length (shape_of self) }
         requires within { index ≤ slice_index (shape_of self) axis.0 }
@@ -48,6 +50,7 @@ impl<'a, A, D: Dimension> ArrayView<'a, A, D> {
 }
 
 /// The layouts of the two parts of an axis, which share no place where the strides are separated.
+#[inline]
 fn halves<D: Dimension, T: StrideList>(
     layout: &Layout<D, T>,
     axis: usize,
@@ -162,6 +165,7 @@ impl<'a, A> ViewMutRepr<'a, A> {
 impl<'a, A, D: Dimension> ArrayViewMut<'a, A, D> {
     /// The two parts of an axis: the coordinates below this one, and those from it on. The axis is below `ndim`,
     /// and the coordinate at most its length. ndarray's `ArrayViewMut::split_at`.
+    #[inline]
     pub fn split_at(self, axis: Axis, index: usize) -> (Self, Self)
         requires axis { axis.0 < length (shape_of self) }
         requires within { index ≤ slice_index (shape_of self) axis.0 }
@@ -219,8 +223,8 @@ impl<'a, A: 'a, D: Dimension, I: SliceArg<D>, J: SliceArg<D>> MultiSliceArg<Arra
     ghost takes = { λ lists view out. IsSlicedBy view (I.elements_of lists.0) out.0 × IsSlicedBy view (J.elements_of lists.1) out.1 × ShareNoPlace (place_at out.0) (place_at out.1) };
 
     fn parts_of(self, view: ArrayViewMut<'a, A, D>) -> Self::Output {
-        let first = view.layout.sliced::<I::OutDim>(self.0.elements());
-        let other = view.layout.sliced::<J::OutDim>(self.1.elements());
+        let first = sliced_by(&view.layout, self.0);
+        let other = sliced_by(&view.layout, self.1);
         view.storage.two_parts(first, other)
     }
 }
@@ -239,9 +243,9 @@ impl<'a, A: 'a, D: Dimension, I: SliceArg<D>, J: SliceArg<D>, K: SliceArg<D>> Mu
     ghost takes = { λ lists view out. IsSlicedBy view (I.elements_of lists.0) out.0 × IsSlicedBy view (J.elements_of lists.1) out.1 × IsSlicedBy view (K.elements_of lists.2) out.2 × ThreeShareNoPlace (place_at out.0) (place_at out.1) (place_at out.2) };
 
     fn parts_of(self, view: ArrayViewMut<'a, A, D>) -> Self::Output {
-        let first = view.layout.sliced::<I::OutDim>(self.0.elements());
-        let second = view.layout.sliced::<J::OutDim>(self.1.elements());
-        let last = view.layout.sliced::<K::OutDim>(self.2.elements());
+        let first = sliced_by(&view.layout, self.0);
+        let second = sliced_by(&view.layout, self.1);
+        let last = sliced_by(&view.layout, self.2);
         view.storage.three_parts(first, second, last)
     }
 }
@@ -267,10 +271,10 @@ impl<
     ghost takes = { λ lists view out. IsSlicedBy view (I.elements_of lists.0) out.0 × IsSlicedBy view (J.elements_of lists.1) out.1 × IsSlicedBy view (K.elements_of lists.2) out.2 × IsSlicedBy view (L.elements_of lists.3) out.3 × FourShareNoPlace (place_at out.0) (place_at out.1) (place_at out.2) (place_at out.3) };
 
     fn parts_of(self, view: ArrayViewMut<'a, A, D>) -> Self::Output {
-        let first = view.layout.sliced::<I::OutDim>(self.0.elements());
-        let second = view.layout.sliced::<J::OutDim>(self.1.elements());
-        let third = view.layout.sliced::<K::OutDim>(self.2.elements());
-        let fourth = view.layout.sliced::<L::OutDim>(self.3.elements());
+        let first = sliced_by(&view.layout, self.0);
+        let second = sliced_by(&view.layout, self.1);
+        let third = sliced_by(&view.layout, self.2);
+        let fourth = sliced_by(&view.layout, self.3);
         view.storage.four_parts(first, second, third, fourth)
     }
 }

@@ -56,18 +56,8 @@ fn run_pair<'b, A, D: Dimension, E: Dimension, K: PairTask<A, D, E>>(
     ensures rest { borrow_of result.1 ≡ borrow_of rest.entry }
     ensures done { K.post task (array_placed_by (region_stored part.entry) (placement_of one)) (array_placed_by (region_stored rest.entry) (placement_of two)) (array_placed_by (region_stored result.0) (placement_of one)) (array_placed_by (region_stored result.1) (placement_of two)) result.2 }
 {
-    let first = LentView {
-        region: part,
-        offset: one.offset,
-        dim: one.dim,
-        strides: one.strides,
-    };
-    let second = LentView {
-        region: rest,
-        offset: two.offset,
-        dim: two.dim,
-        strides: two.strides,
-    };
+    let first = LentView::over(part, one);
+    let second = LentView::over(rest, two);
     let (first, second, answer) = task.run(first, second);
     (first.region, second.region, answer)
 }

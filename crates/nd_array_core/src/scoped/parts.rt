@@ -10,6 +10,7 @@ ghost use Rattle.nd_array_core.specs.base.Writes.{OthersStay};
 use super::tasks::{ViewTask, with_placement};
 use crate::base::array::ArrayBase;
 use crate::base::storage::DataMut;
+use crate::layout::slicing::sliced_by;
 use nd_shape_and_slice::{Axis, Dimension, Ix1, RemoveAxis, Slice, SliceArg};
 
 impl<S: DataMut, D: Dimension> ArrayBase<S, D> {
@@ -32,7 +33,7 @@ impl<S: DataMut, D: Dimension> ArrayBase<S, D> {
         ensures kept { KeepsBut self.old self.new (sliced_part (shape_of self.old) (I.elements_of info)) }
         ensures done { IsDoneOnPart (λ v w. K.post task v w result) self.old self.new (sliced_part (shape_of self.old) (I.elements_of info)) }
     {
-        let layout = self.layout.sliced::<I::OutDim>(info.elements());
+        let layout = sliced_by(&self.layout, info);
         with_placement(&mut self.storage, layout, task)
     }
 

@@ -9,6 +9,7 @@ ghost use Rattle.nd_array_core.specs.base.Writes.{OthersStay};
 use super::pairs::{PairTask, with_placement_pair};
 use crate::base::array::ArrayBase;
 use crate::base::storage::DataMut;
+use crate::layout::slicing::sliced_by;
 use nd_shape_and_slice::{Dimension, SliceArg};
 
 impl<S: DataMut, D: Dimension> ArrayBase<S, D> {
@@ -33,8 +34,8 @@ impl<S: DataMut, D: Dimension> ArrayBase<S, D> {
         ensures done { IsDoneOnParts (λ v0 v1 w0 w1. K.post task v0 v1 w0 w1 result) self.old self.new (sliced_part (shape_of self.old) (I.elements_of lists.0)) (sliced_part (shape_of self.old) (J.elements_of lists.1)) }
     {
         let whole = self.layout.copied();
-        let first = self.layout.sliced::<I::OutDim>(lists.0.elements());
-        let second = self.layout.sliced::<J::OutDim>(lists.1.elements());
+        let first = sliced_by(&self.layout, lists.0);
+        let second = sliced_by(&self.layout, lists.1);
         with_placement_pair(&mut self.storage, whole, first, second, task)
     }
 }

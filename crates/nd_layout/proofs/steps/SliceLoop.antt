@@ -44,7 +44,7 @@ before_from (suc a) (n ∷ ns) es [] = []
 before_from (suc a) (n ∷ ns) es (i ∷ is) = i ∷ before_from a ns es is
 
 -- one element more
-fits_here : (a : ℕ) (ns : List ℕ) (e : SliceInfoElem) (es : List SliceInfoElem) → fits_from a ns (e ∷ es) ≡ true → fits_next (slice_get ns a) e ≡ true
+pub fits_here : (a : ℕ) (ns : List ℕ) (e : SliceInfoElem) (es : List SliceInfoElem) → fits_from a ns (e ∷ es) ≡ true → fits_next (slice_get ns a) e ≡ true
 fits_here zero [] (Part start end step) es h = absurd cc
 fits_here zero (n ∷ ns) (Part start end step) es h = (and_parts _ _ h).0
 fits_here zero [] (Index k) es h = absurd cc
@@ -66,7 +66,7 @@ fits_more (suc a) (n ∷ ns) (Part start end step) es h = fits_more a ns (Part s
 fits_more (suc a) (n ∷ ns) (Index k) es h = fits_more a ns (Index k) es h
 fits_more (suc a) (n ∷ ns) NewAxis es h = fits_more a ns NewAxis es h
 
-after_more : (a : ℕ) (ns : List ℕ) (e : SliceInfoElem) (es : List SliceInfoElem) → fits_from a ns (e ∷ es) ≡ true → after_from a ns (e ∷ es) ≡ after_from (next_axis a e) (shape_with ns a e) es
+pub after_more : (a : ℕ) (ns : List ℕ) (e : SliceInfoElem) (es : List SliceInfoElem) → fits_from a ns (e ∷ es) ≡ true → after_from a ns (e ∷ es) ≡ after_from (next_axis a e) (shape_with ns a e) es
 after_more zero [] (Part start end step) es h = absurd cc
 after_more zero (n ∷ ns) (Part start end step) es h = refl
 after_more zero [] (Index k) es h = absurd cc

@@ -146,6 +146,7 @@ impl<D: Dimension, T: StrideList> Layout<D, T> {
     }
 
     /// The two parts of an axis: the coordinates below this one, and those from it on.
+    #[inline]
     pub fn halves(&self, axis: usize, index: usize) -> (Self, Self)
         requires on { axis < length (D.lengths self.now.dim) }
         requires within { index ≤ slice_index (D.lengths self.now.dim) axis }

@@ -48,21 +48,22 @@ fn stride_under(from: &[usize], strides: &[isize], to: &[usize], axis: usize) ->
     }
 }
 
-/// The strides under the shape asked for.
-fn strides_under<E: Dimension>(from: &[usize], strides: &[isize], to: &E) -> E::Strides
+/// Writes the strides under the shape asked for.
+#[inline]
+fn put_strides_under<T: StrideList>(from: &[usize], strides: &[isize], to: &[usize], out: &mut T)
     requires as_many { length strides.now ≡ length from.now }
-    requires more { length from.now ≤ length (E.lengths to.now) }
-    ensures { E.Strides.strides_of result ≡ broadcast_strides from.now strides.now (E.lengths to.now) }
+    requires more { length from.now ≤ length to.now }
+    requires wide { length (T.strides_of out.old) ≡ length to.now }
+    ensures { T.strides_of out.new ≡ broadcast_strides from.now strides.now to.now }
 {
-    let mut out = to.zero_strides();
-    for axis in 0..to.slice().len() {
-        out.set(axis, stride_under(from, strides, to.slice(), axis));
+    for axis in 0..to.len() {
+        out.set(axis, stride_under(from, strides, to, axis));
     }
-    out
 }
 
 impl<D: Dimension, T: StrideList> Layout<D, T> {
     /// The layout under a larger shape; None exactly where there is none.
+    #[inline]
     pub fn broadcast<E: Dimension>(&self, to: E) -> Option<Layout<E, E::Strides>>
         ensures none { IsNone result ↔ (broadcasts (D.lengths self.now.dim) (E.lengths to) ≡ false) }
         ensures lengths { IfSome result (λ l. E.lengths l.dim ≡ E.lengths to) }
@@ -72,7 +73,13 @@ impl<D: Dimension, T: StrideList> Layout<D, T> {
         if !can_broadcast(self.dim.slice(), to.slice()) {
             return None;
         }
-        let strides = strides_under(self.dim.slice(), self.strides.slice(), &to);
+        let mut strides = to.zero_strides();
+        put_strides_under(
+            self.dim.slice(),
+            self.strides.slice(),
+            to.slice(),
+            &mut strides,
+        );
         Some(Layout {
             offset: self.offset,
             dim: to,

@@ -1,6 +1,6 @@
 //! Places, computed from an offset, strides and an index.
 
-ghost use Rattle.std.specs.Prelude.{◌↔◌, ◌≡◌, ◌<◌, ◌^◌, ℕ, true, IsTrue, List, length, pos, ◌+ℤ◌, ◌*ℤ◌};
+ghost use Rattle.std.specs.Prelude.{◌↔◌, ◌≡◌, ◌<◌, ◌^◌, ℕ, true, false, IsTrue, List, length, pos, ◌+ℤ◌, ◌*ℤ◌};
 ghost use Rattle.nd_shape_and_slice.specs.Shape.{in_box, HasCheckedSize};
 ghost use Rattle.nd_shape_and_slice.specs.Place.{place_of};
 ghost use Rattle.nd_layout.specs.Places.{is_place, ReachesPlaces};
@@ -28,6 +28,21 @@ pub(crate) fn moved_by(place: usize, steps: usize, stride: isize) -> usize
     ensures { pos result ≡ pos place +ℤ (pos steps *ℤ stride) }
 {
     (place as isize + steps as isize * stride) as usize
+}
+
+/// The place that lies a number of steps from another; where it stays, the other itself.
+#[inline]
+pub(crate) fn moved_unless(stays: bool, place: usize, steps: usize, stride: isize) -> usize
+    requires from { stays ≡ false → place < 2 ^ 63 }
+    requires few { stays ≡ false → steps < 2 ^ 63 }
+    requires to { stays ≡ false → is_place (pos place +ℤ (pos steps *ℤ stride)) ≡ true }
+    ensures { stays ≡ false → pos result ≡ pos place +ℤ (pos steps *ℤ stride) }
+{
+    if stays {
+        place
+    } else {
+        moved_by(place, steps, stride)
+    }
 }
 
 /// The place of an index of the box.

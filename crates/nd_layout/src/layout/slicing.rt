@@ -1,21 +1,23 @@
 //! Slices of a layout's axes: of one axis, by a list of slices, and by a closure that is asked of each axis.
 
-ghost use Rattle.std.specs.Prelude.{◌≡◌, ◌<◌, ◌≤◌, ◌^◌, ℕ, ℤ, true, List, length, slice_index, slice_index_or, slice_get, slice_set, pos, replicate, ◌*ℤ◌, if◌then◌else◌};
+ghost use Rattle.std.specs.Prelude.{◌≡◌, ◌<◌, ◌≤◌, ◌^◌, ℕ, ℤ, true, false, is_some, nat_eq, ◌||◌, List, length, slice_index, slice_index_or, slice_get, slice_set, pos, replicate, ◌+ℤ◌, ◌*ℤ◌, if◌then◌else◌};
+ghost use Rattle.std.specs.Option.{unwrap_or};
 ghost use Rattle.nd_shape_and_slice.specs.declared.slice.Slice.{Slice};
 ghost use Rattle.nd_shape_and_slice.specs.Descriptions.{axes_from};
-ghost use Rattle.nd_shape_and_slice.specs.Slice.{fits_axis, sliced_length, sliced_shape, sliced_index};
-ghost use Rattle.nd_shape_and_slice.specs.SliceInfo.{reads_axis, axes_read, axes_kept, each_fits, fits_next, fits_shape, shape_after, index_before};
+ghost use Rattle.nd_shape_and_slice.specs.Slice.{fits_axis, sliced_from, sliced_length, sliced_shape, sliced_index};
+ghost use Rattle.nd_shape_and_slice.specs.SliceInfo.{coordinate_on, reads_axis, axes_read, axes_kept, each_fits, fits_next, fits_shape, shape_after, index_before};
 ghost use Rattle.nd_layout.specs.Strides.{sliced_strides, stepped_stride, FitsStride};
 ghost use Rattle.nd_shape_and_slice.specs.EachAxis.{each_sliced_shape, each_sliced_index, AnswersFit, AnswersAre};
 ghost use Rattle.nd_shape_and_slice.specs.Slicing.{collapsed_after, collapsed_before, shape_with, index_with, kept_items, put_back, indexed_ones};
+ghost use Rattle.nd_layout.specs.Elements.{length_by, start_by, stride_by, LeadsToPlaces};
 ghost use Rattle.nd_layout.specs.Steps.{IsStep, IsValid};
 
 use super::Layout;
 use super::axes::{length_at, stride_at};
-use super::places::moved_by;
+use super::places::{moved_by, moved_unless};
 use nd_shape_and_slice::{
     Axis, AxisDescription, Dimension, MAX_AXES, Slice, SliceInfoElem, StrideList, axes_kept,
-    axis_after, coordinate_on_axis,
+    axis_after, coordinate_on_axis, is_empty_shape,
 };
 
 /// A layout of which one axis is changed: the offset, and the axis's length and stride.
@@ -32,6 +34,82 @@ fn stepped_by(stride: isize, len: usize, step: isize) -> isize
     ensures { result ≡ stepped_stride len stride step }
 {
     if len <= 1 { 0 } else { stride * step }
+}
+
+/// Whether no element is left once an axis has this length.
+#[inline]
+fn none_left(is_empty: bool, len: usize) -> bool
+    ensures { result ≡ (is_empty || nat_eq len 0) }
+{
+    is_empty || len == 0
+}
+
+impl<D: Dimension, T: StrideList> Layout<D, T> {
+    /// One axis after a slice, where the axes before it have moved the offset. The offset stays if no element is left.
+    #[inline]
+    fn part_of_axis(&self, axis: usize, slice: Slice, offset: usize, is_empty: bool) -> AxisChange
+        requires on { axis < length (D.lengths self.now.dim) }
+        requires fits { fits_axis (slice_index (D.lengths self.now.dim) axis) slice ≡ true }
+        requires leads { is_empty ≡ false → LeadsToPlaces offset (slice_index (D.lengths self.now.dim) axis) (slice_index_or (T.strides_of self.now.strides) axis (pos 0)) }
+        ensures len { result.len ≡ sliced_length (slice_index (D.lengths self.now.dim) axis) slice }
+        ensures stride { result.stride ≡ stepped_stride result.len (slice_index_or (T.strides_of self.now.strides) axis (pos 0)) slice.step }
+        ensures offset { is_empty ≡ false → 0 < result.len → pos result.offset ≡ pos offset +ℤ (pos (sliced_from (slice_index (D.lengths self.now.dim) axis) slice 0) *ℤ slice_index_or (T.strides_of self.now.strides) axis (pos 0)) }
+    {
+        let sliced = slice.on_axis(self.dim.length(axis));
+        let stride = self.strides.stride(axis);
+        let stays = none_left(is_empty, sliced.len);
+        AxisChange {
+            offset: moved_unless(stays, offset, sliced.first, stride),
+            len: sliced.len,
+            stride: stepped_by(stride, sliced.len, slice.step),
+        }
+    }
+
+    /// The offset after an index of one axis, where the axes before it have moved it.
+    #[inline]
+    fn offset_at(&self, axis: usize, coordinate: isize, offset: usize, is_empty: bool) -> usize
+        requires on { axis < length (D.lengths self.now.dim) }
+        requires fits { is_some (coordinate_on (slice_index (D.lengths self.now.dim) axis) coordinate) ≡ true }
+        requires leads { is_empty ≡ false → LeadsToPlaces offset (slice_index (D.lengths self.now.dim) axis) (slice_index_or (T.strides_of self.now.strides) axis (pos 0)) }
+        ensures { is_empty ≡ false → pos result ≡ pos offset +ℤ (pos (unwrap_or (coordinate_on (slice_index (D.lengths self.now.dim) axis) coordinate) 0) *ℤ slice_index_or (T.strides_of self.now.strides) axis (pos 0)) }
+    {
+        let index = coordinate_on_axis(self.dim.length(axis), coordinate).unwrap_or(0);
+        moved_unless(is_empty, offset, index, self.strides.stride(axis))
+    }
+
+    /// One axis after an element of a list, where the elements before it have moved the offset. The offset stays if no
+    /// element of the array is left.
+    #[inline]
+    fn axis_by(
+        &self,
+        axis: usize,
+        element: SliceInfoElem,
+        offset: usize,
+        is_empty: bool,
+    ) -> AxisChange
+        requires fits { fits_next (slice_get (D.lengths self.now.dim) axis) element ≡ true }
+        requires leads { is_empty ≡ false → LeadsToPlaces offset (slice_index (D.lengths self.now.dim) axis) (slice_index_or (T.strides_of self.now.strides) axis (pos 0)) }
+        ensures len { result.len ≡ length_by (slice_index (D.lengths self.now.dim) axis) element }
+        ensures stride { result.stride ≡ stride_by (slice_index (D.lengths self.now.dim) axis) (slice_index_or (T.strides_of self.now.strides) axis (pos 0)) element }
+        ensures offset { is_empty ≡ false → 0 < result.len → pos result.offset ≡ pos offset +ℤ (pos (start_by (slice_index (D.lengths self.now.dim) axis) element) *ℤ slice_index_or (T.strides_of self.now.strides) axis (pos 0)) }
+        ensures new { reads_axis element ≡ false → result.offset ≡ offset }
+    {
+        match element {
+            SliceInfoElem::Slice { start, end, step } => {
+                self.part_of_axis(axis, Slice::new(start, end, step), offset, is_empty)
+            }
+            SliceInfoElem::Index(coordinate) => AxisChange {
+                offset: self.offset_at(axis, coordinate, offset, is_empty),
+                len: 1,
+                stride: self.strides.stride(axis),
+            },
+            SliceInfoElem::NewAxis => AxisChange {
+                offset,
+                len: 1,
+                stride: 0,
+            },
+        }
+    }
 }
 
 impl<D: Dimension, T: StrideList> Layout<D, T> {
@@ -74,30 +152,6 @@ impl<D: Dimension, T: StrideList> Layout<D, T> {
     }
 }
 
-/// The length of the axis that the element reads; 1 for a new axis.
-fn length_kept(lengths: &[usize], axis: usize, element: SliceInfoElem) -> usize
-    requires { reads_axis element ≡ true → axis < length lengths.now }
-    ensures { result ≡ (if reads_axis element then slice_index lengths.now axis else 1) }
-{
-    if element.reads_axis() {
-        length_at(lengths, axis)
-    } else {
-        1
-    }
-}
-
-/// The stride of the axis that the element reads; 0 for a new axis.
-fn stride_kept(strides: &[isize], axis: usize, element: SliceInfoElem) -> isize
-    requires { reads_axis element ≡ true → axis < length strides.now }
-    ensures { result ≡ (if reads_axis element then slice_index_or strides.now axis (pos 0) else pos 0) }
-{
-    if element.reads_axis() {
-        stride_at(strides, axis)
-    } else {
-        0
-    }
-}
-
 /// The dimension with this many axes of length 1.
 fn dim_of_ones<E: Dimension>(count: usize) -> E
     requires few { count ≤ 32 }
@@ -108,67 +162,7 @@ fn dim_of_ones<E: Dimension>(count: usize) -> E
     E::from_lengths(&ones[..count]).unwrap()
 }
 
-/// The dimension of the axes that the elements keep, and of new axes of length 1.
-fn kept_dim<E: Dimension>(lengths: &[usize], elements: &[SliceInfoElem]) -> E
-    requires many { axes_read elements.now ≡ length lengths.now }
-    requires few { axes_kept elements.now ≤ 32 }
-    requires room { E.has_axes (axes_kept elements.now) ≡ true }
-    ensures { E.lengths result ≡ kept_items 1 elements.now lengths.now }
-{
-    let mut dim: E = dim_of_ones(axes_kept(elements));
-    let mut axis = 0;
-    let mut kept = 0;
-    for element in elements {
-        if !element.keeps_axis() {
-            axis += 1;
-            continue;
-        }
-        dim.set_length(kept, length_kept(lengths, axis, *element));
-        axis = axis_after(axis, *element);
-        kept += 1;
-    }
-    dim
-}
-
-/// The strides of the axes that the elements keep, and 0 for each new axis.
-fn kept_strides<E: Dimension>(dim: &E, list: &[isize], elements: &[SliceInfoElem]) -> E::Strides
-    requires many { axes_read elements.now ≡ length list.now }
-    requires kept { length (E.lengths dim.now) ≡ axes_kept elements.now }
-    ensures { E.Strides.strides_of result ≡ kept_items (pos 0) elements.now list.now }
-{
-    let mut strides = dim.zero_strides();
-    let mut axis = 0;
-    let mut kept = 0;
-    for element in elements {
-        if !element.keeps_axis() {
-            axis += 1;
-            continue;
-        }
-        strides.set(kept, stride_kept(list, axis, *element));
-        axis = axis_after(axis, *element);
-        kept += 1;
-    }
-    strides
-}
-
 impl<D: Dimension, T: StrideList> Layout<D, T> {
-    /// The layout without its indexed axes, which have length 1, and with the new ones, of stride 0.
-    fn kept_axes<E: Dimension>(&self, elements: &[SliceInfoElem]) -> Layout<E, E::Strides>
-        requires ones { indexed_ones elements.now (D.lengths self.now.dim) ≡ true }
-        requires few { axes_kept elements.now ≤ 32 }
-        requires room { E.has_axes (axes_kept elements.now) ≡ true }
-        ensures lengths { E.lengths result.dim ≡ kept_items 1 elements.now (D.lengths self.now.dim) }
-        ensures step { IsStep self.now.offset (D.lengths self.now.dim) (T.strides_of self.now.strides) result.offset (E.lengths result.dim) (E.Strides.strides_of result.strides) (put_back elements.now) }
-    {
-        let dim: E = kept_dim(self.dim.slice(), elements);
-        let strides = kept_strides(&dim, self.strides.slice(), elements);
-        Layout {
-            offset: self.offset,
-            dim,
-            strides,
-        }
-    }
-
     /// The layout that a list of slices leaves: a slice keeps its axis, an index takes it away, and new axes have
     /// length 1.
     pub fn sliced<E: Dimension>(&self, elements: &[SliceInfoElem]) -> Layout<E, E::Strides>
@@ -177,9 +171,28 @@ impl<D: Dimension, T: StrideList> Layout<D, T> {
         ensures lengths { E.lengths result.dim ≡ shape_after (D.lengths self.now.dim) elements.now }
         ensures step { IsStep self.now.offset (D.lengths self.now.dim) (T.strides_of self.now.strides) result.offset (E.lengths result.dim) (E.Strides.strides_of result.strides) (index_before (D.lengths self.now.dim) elements.now) }
     {
-        let mut layout = self.copied();
-        layout.slice_axes(elements);
-        layout.kept_axes(elements)
+        let mut dim: E = dim_of_ones(axes_kept(elements));
+        let mut strides = dim.zero_strides();
+        let mut offset = self.offset;
+        let mut is_empty = is_empty_shape(self.dim.slice());
+        let mut axis = 0;
+        let mut kept = 0;
+        for element in elements {
+            let after = self.axis_by(axis, *element, offset, is_empty);
+            offset = after.offset;
+            is_empty = none_left(is_empty, after.len);
+            axis = axis_after(axis, *element);
+            if element.keeps_axis() {
+                dim.set_length(kept, after.len);
+                strides.set(kept, after.stride);
+                kept += 1;
+            }
+        }
+        Layout {
+            offset,
+            dim,
+            strides,
+        }
     }
 
     /// The layout after one element of the list: the part that a slice names, or one coordinate.

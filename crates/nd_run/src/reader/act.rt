@@ -4,7 +4,7 @@ ghost use Rattle.std.specs.Prelude.{◌≡◌};
 ghost use Rattle.nd_run.specs.Words.{words_of};
 ghost use Rattle.nd_run.specs.Numerals.{int_of};
 ghost use Rattle.nd_run.specs.Calls.{acting, Filling, Setting, Swapping};
-ghost use Rattle.nd_run.specs.Reading.{Gives, made, item_at, set_at, swap_at, act_at, acts_at};
+ghost use Rattle.nd_run.specs.Reading.{Gives, map_read, item_at, set_at, swap_at, act_at, acts_at};
 
 use crate::calls::Act;
 use crate::keyword::Keyword;
@@ -12,26 +12,26 @@ use crate::reader::fault::LineFault;
 use crate::reader::items::{keyword, list, number};
 use std::alloc::Global;
 
-#[tactic(auto, unfolding(crate::specs::Reading::made))]
+#[tactic(auto, unfolding(crate::specs::Reading::map_read))]
 fn fill(line: &[u8]) -> Result<(Act<i64>, &[u8]), LineFault>
-    ensures { Gives (λ x. (acting x.0, words_of x.1.now)) result (made Filling (item_at int_of (words_of line.now))) }
+    ensures { Gives (λ x. (acting x.0, words_of x.1.now)) result (map_read Filling (item_at int_of (words_of line.now))) }
 {
     let (value, rest) = number::<i64>(line)?;
     Ok((Act::Fill(value), rest))
 }
 
-#[tactic(auto, unfolding(crate::specs::Reading::made, crate::specs::Reading::set_at))]
+#[tactic(auto, unfolding(crate::specs::Reading::map_read, crate::specs::Reading::set_at))]
 fn set(alloc: Global, line: &[u8]) -> Result<(Act<i64>, &[u8]), LineFault>
-    ensures { Gives (λ x. (acting x.0, words_of x.1.now)) result (made (λ x. Setting x.0 x.1) (set_at (words_of line.now))) }
+    ensures { Gives (λ x. (acting x.0, words_of x.1.now)) result (map_read (λ x. Setting x.0 x.1) (set_at (words_of line.now))) }
 {
     let (index, rest) = list(alloc, line)?;
     let (value, rest) = number::<i64>(rest)?;
     Ok((Act::Set(index, value), rest))
 }
 
-#[tactic(auto, unfolding(crate::specs::Reading::made, crate::specs::Reading::swap_at))]
+#[tactic(auto, unfolding(crate::specs::Reading::map_read, crate::specs::Reading::swap_at))]
 fn swap(alloc: Global, line: &[u8]) -> Result<(Act<i64>, &[u8]), LineFault>
-    ensures { Gives (λ x. (acting x.0, words_of x.1.now)) result (made (λ x. Swapping x.0 x.1) (swap_at (words_of line.now))) }
+    ensures { Gives (λ x. (acting x.0, words_of x.1.now)) result (map_read (λ x. Swapping x.0 x.1) (swap_at (words_of line.now))) }
 {
     let (first, rest) = list(alloc, line)?;
     let (second, rest) = list(alloc, rest)?;

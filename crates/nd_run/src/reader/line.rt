@@ -3,7 +3,7 @@
 ghost use Rattle.std.specs.Prelude.{◌≡◌, map, length};
 ghost use Rattle.nd_run.specs.Words.{words_of};
 ghost use Rattle.nd_run.specs.Calls.{asked_step, asking, asked_call};
-ghost use Rattle.nd_run.specs.Reading.{Gives, leg_at, path_at, get_at, question_at, keep_at, ask_at, write_at, split_at, call_at, ended, call_of, start_of};
+ghost use Rattle.nd_run.specs.Reading.{Gives, leg_at, path_at, get_at, question_at, keep_at, ask_at, write_at, split_at, call_at, read_to_end, call_of, start_of};
 
 use crate::calls::{Call, Question, Step};
 use crate::keyword::Keyword;
@@ -125,7 +125,7 @@ pub fn call(alloc: Global, line: &[u8]) -> Result<Call<i64>, LineFault>
 
 /// The value that was read, if it took the whole line.
 fn end_of_line<T: Drop>(value: T, line: &[u8]) -> Result<T, LineFault>
-    ensures { Gives (λ x. x) result (ended (value, words_of line.now)) }
+    ensures { Gives (λ x. x) result (read_to_end (value, words_of line.now)) }
 {
     match split_word(line) {
         None => Ok(value),

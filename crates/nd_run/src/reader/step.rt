@@ -5,7 +5,7 @@ ghost use Rattle.nd_run.specs.Words.{words_of};
 ghost use Rattle.nd_run.specs.Numerals.{nat_of, int_of};
 ghost use Rattle.nd_shape_and_slice.specs.declared.slice_info.SliceInfoElem.TheVariants.{Slice as Part, Index as At};
 ghost use Rattle.nd_run.specs.Calls.{asked_step, SlicedAxis, Sliced, Collapsed, Indexed, Permuted, Exchanged, Inverted, Inserted, Removed, BroadcastTo};
-ghost use Rattle.nd_run.specs.Reading.{Gives, made, item_at, many_at, slice_element_at, elements_at, list_at, end_of, slice_at, pair_at, cut_at, step_at, begins_step};
+ghost use Rattle.nd_run.specs.Reading.{Gives, map_read, item_at, many_at, slice_element_at, elements_at, list_at, end_of, slice_at, pair_at, cut_at, step_at, begins_step};
 
 use crate::calls::Step;
 use crate::keyword::Keyword;
@@ -40,9 +40,9 @@ fn slice(line: &[u8]) -> Result<(Slice, &[u8]), LineFault>
     Ok((Slice { start, end, step }, rest))
 }
 
-#[tactic(auto, unfolding(crate::specs::Reading::made, crate::specs::Reading::cut_at))]
+#[tactic(auto, unfolding(crate::specs::Reading::map_read, crate::specs::Reading::cut_at))]
 fn cut(line: &[u8]) -> Result<(Step, &[u8]), LineFault>
-    ensures { Gives (λ x. (asked_step x.0, words_of x.1.now)) result (made (λ x. SlicedAxis x.0 x.1) (cut_at (words_of line.now))) }
+    ensures { Gives (λ x. (asked_step x.0, words_of x.1.now)) result (map_read (λ x. SlicedAxis x.0 x.1) (cut_at (words_of line.now))) }
 {
     let (axis, rest) = number::<usize>(line)?;
     let (slice, rest) = slice(rest)?;
@@ -60,18 +60,18 @@ pub fn pair(line: &[u8]) -> Result<((usize, usize), &[u8]), LineFault>
 }
 
 /// A slice as an element of a list.
-#[tactic(auto, unfolding(crate::specs::Reading::made))]
+#[tactic(auto, unfolding(crate::specs::Reading::map_read))]
 fn part(line: &[u8]) -> Result<(SliceInfoElem, &[u8]), LineFault>
-    ensures { Gives (λ x. (x.0, words_of x.1.now)) result (made (λ s. Part s.start s.end s.step) (slice_at (words_of line.now))) }
+    ensures { Gives (λ x. (x.0, words_of x.1.now)) result (map_read (λ s. Part s.start s.end s.step) (slice_at (words_of line.now))) }
 {
     let (Slice { start, end, step }, rest) = slice(line)?;
     Ok((SliceInfoElem::Slice { start, end, step }, rest))
 }
 
 /// A coordinate as an element of a list.
-#[tactic(auto, unfolding(crate::specs::Reading::made))]
+#[tactic(auto, unfolding(crate::specs::Reading::map_read))]
 fn coordinate(line: &[u8]) -> Result<(SliceInfoElem, &[u8]), LineFault>
-    ensures { Gives (λ x. (x.0, words_of x.1.now)) result (made At (item_at int_of (words_of line.now))) }
+    ensures { Gives (λ x. (x.0, words_of x.1.now)) result (map_read At (item_at int_of (words_of line.now))) }
 {
     let (coordinate, rest) = number::<isize>(line)?;
     Ok((SliceInfoElem::Index(coordinate), rest))
@@ -113,74 +113,74 @@ fn elements(
     Ok((elements, rest))
 }
 
-#[tactic(auto, unfolding(crate::specs::Reading::made, crate::specs::Reading::elements_at))]
+#[tactic(auto, unfolding(crate::specs::Reading::map_read, crate::specs::Reading::elements_at))]
 fn slice_list(alloc: Global, line: &[u8]) -> Result<(Step, &[u8]), LineFault>
-    ensures { Gives (λ x. (asked_step x.0, words_of x.1.now)) result (made Sliced (elements_at (words_of line.now))) }
+    ensures { Gives (λ x. (asked_step x.0, words_of x.1.now)) result (map_read Sliced (elements_at (words_of line.now))) }
 {
     let (count, rest) = number::<usize>(line)?;
     let (elements, rest) = elements(alloc, count, rest)?;
     Ok((Step::Slice(elements), rest))
 }
 
-#[tactic(auto, unfolding(crate::specs::Reading::made))]
+#[tactic(auto, unfolding(crate::specs::Reading::map_read))]
 fn collapse(line: &[u8]) -> Result<(Step, &[u8]), LineFault>
-    ensures { Gives (λ x. (asked_step x.0, words_of x.1.now)) result (made (λ x. Collapsed x.0 x.1) (pair_at (words_of line.now))) }
+    ensures { Gives (λ x. (asked_step x.0, words_of x.1.now)) result (map_read (λ x. Collapsed x.0 x.1) (pair_at (words_of line.now))) }
 {
     let ((axis, index), rest) = pair(line)?;
     Ok((Step::Collapse(axis, index), rest))
 }
 
-#[tactic(auto, unfolding(crate::specs::Reading::made))]
+#[tactic(auto, unfolding(crate::specs::Reading::map_read))]
 fn index_axis(line: &[u8]) -> Result<(Step, &[u8]), LineFault>
-    ensures { Gives (λ x. (asked_step x.0, words_of x.1.now)) result (made (λ x. Indexed x.0 x.1) (pair_at (words_of line.now))) }
+    ensures { Gives (λ x. (asked_step x.0, words_of x.1.now)) result (map_read (λ x. Indexed x.0 x.1) (pair_at (words_of line.now))) }
 {
     let ((axis, index), rest) = pair(line)?;
     Ok((Step::IndexAxis(axis, index), rest))
 }
 
-#[tactic(auto, unfolding(crate::specs::Reading::made))]
+#[tactic(auto, unfolding(crate::specs::Reading::map_read))]
 fn permute(alloc: Global, line: &[u8]) -> Result<(Step, &[u8]), LineFault>
-    ensures { Gives (λ x. (asked_step x.0, words_of x.1.now)) result (made Permuted (list_at (words_of line.now))) }
+    ensures { Gives (λ x. (asked_step x.0, words_of x.1.now)) result (map_read Permuted (list_at (words_of line.now))) }
 {
     let (axes, rest) = list(alloc, line)?;
     Ok((Step::Permute(axes), rest))
 }
 
-#[tactic(auto, unfolding(crate::specs::Reading::made))]
+#[tactic(auto, unfolding(crate::specs::Reading::map_read))]
 fn swap_axes(line: &[u8]) -> Result<(Step, &[u8]), LineFault>
-    ensures { Gives (λ x. (asked_step x.0, words_of x.1.now)) result (made (λ x. Exchanged x.0 x.1) (pair_at (words_of line.now))) }
+    ensures { Gives (λ x. (asked_step x.0, words_of x.1.now)) result (map_read (λ x. Exchanged x.0 x.1) (pair_at (words_of line.now))) }
 {
     let ((a, b), rest) = pair(line)?;
     Ok((Step::SwapAxes(a, b), rest))
 }
 
-#[tactic(auto, unfolding(crate::specs::Reading::made))]
+#[tactic(auto, unfolding(crate::specs::Reading::map_read))]
 fn invert(line: &[u8]) -> Result<(Step, &[u8]), LineFault>
-    ensures { Gives (λ x. (asked_step x.0, words_of x.1.now)) result (made Inverted (item_at nat_of (words_of line.now))) }
+    ensures { Gives (λ x. (asked_step x.0, words_of x.1.now)) result (map_read Inverted (item_at nat_of (words_of line.now))) }
 {
     let (axis, rest) = number::<usize>(line)?;
     Ok((Step::Invert(axis), rest))
 }
 
-#[tactic(auto, unfolding(crate::specs::Reading::made))]
+#[tactic(auto, unfolding(crate::specs::Reading::map_read))]
 fn insert(line: &[u8]) -> Result<(Step, &[u8]), LineFault>
-    ensures { Gives (λ x. (asked_step x.0, words_of x.1.now)) result (made Inserted (item_at nat_of (words_of line.now))) }
+    ensures { Gives (λ x. (asked_step x.0, words_of x.1.now)) result (map_read Inserted (item_at nat_of (words_of line.now))) }
 {
     let (axis, rest) = number::<usize>(line)?;
     Ok((Step::InsertAxis(axis), rest))
 }
 
-#[tactic(auto, unfolding(crate::specs::Reading::made))]
+#[tactic(auto, unfolding(crate::specs::Reading::map_read))]
 fn remove(line: &[u8]) -> Result<(Step, &[u8]), LineFault>
-    ensures { Gives (λ x. (asked_step x.0, words_of x.1.now)) result (made Removed (item_at nat_of (words_of line.now))) }
+    ensures { Gives (λ x. (asked_step x.0, words_of x.1.now)) result (map_read Removed (item_at nat_of (words_of line.now))) }
 {
     let (axis, rest) = number::<usize>(line)?;
     Ok((Step::RemoveAxis(axis), rest))
 }
 
-#[tactic(auto, unfolding(crate::specs::Reading::made))]
+#[tactic(auto, unfolding(crate::specs::Reading::map_read))]
 fn broadcast(alloc: Global, line: &[u8]) -> Result<(Step, &[u8]), LineFault>
-    ensures { Gives (λ x. (asked_step x.0, words_of x.1.now)) result (made BroadcastTo (list_at (words_of line.now))) }
+    ensures { Gives (λ x. (asked_step x.0, words_of x.1.now)) result (map_read BroadcastTo (list_at (words_of line.now))) }
 {
     let (lengths, rest) = list(alloc, line)?;
     Ok((Step::Broadcast(lengths), rest))

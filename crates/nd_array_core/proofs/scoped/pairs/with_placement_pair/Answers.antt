@@ -30,12 +30,6 @@ returns-clause-others g c p unnamed =
     let offset = c.args.whole.offset in
     let ns = g.W.Dimension.lengths c.args.whole.dim in
     let ss = g.W.Strides.StrideList.strides_of c.args.whole.strides in
-    let f1 = c.args.one.offset in
-    let n1 = g.D.Dimension.lengths c.args.one.dim in
-    let s1 = g.D.Strides.StrideList.strides_of c.args.one.strides in
-    let f2 = c.args.two.offset in
-    let n2 = g.E.Dimension.lengths c.args.two.dim in
-    let s2 = g.E.Strides.StrideList.strides_of c.args.two.strides in
     let e = rw (c.slice.ensures.lengths, c.slice-2.ensures) at c.with_part.ensures.part in
     unnamed_left m (g.S.Data.stored c.with_part.new.self) (region_stored e.1) offset ns ss e.4 p unnamed
 

@@ -10,7 +10,7 @@ returns-clause-seen g c =
     let to = g.E.Dimension.lengths c.args.to in
     let strides = g.T.StrideList.strides_of c.args.self.now.strides in
     let fits : broadcasts from to ≡ true = rw (c.slice.ensures.lengths, c.slice-2.ensures.lengths) at (c.if-not-can_broadcast.ensures.0 refl) in
-    rw (c.strides_under-strides.ensures, c.slice-3.ensures.lengths, c.slice-4.ensures) (broadcast_is_seen c.args.self.now.offset from to strides c.args.self.now.as_many fits)
+    rw (c.put_strides_under.ensures, c.slice-3.ensures.lengths, c.slice-4.ensures, c.slice-5.ensures.lengths) (broadcast_is_seen c.args.self.now.offset from to strides c.args.self.now.as_many fits)
 
 pub invariant_of-result : goal.invariant_of-result
 invariant_of-result g c =
@@ -24,8 +24,8 @@ invariant_of-result g c =
       checked = c.args.self.now.checked;
       reach = c.args.self.now.reach;
     } in
-    let valid : IsValid c.args.self.now.offset to (g.E.Strides.StrideList.strides_of c.strides_under-strides.result) =
-    rw (c.strides_under-strides.ensures, c.slice-3.ensures.lengths, c.slice-4.ensures) (broadcast_is_valid c.args.self.now.offset from to strides fits old) in
+    let valid : IsValid c.args.self.now.offset to (g.E.Strides.StrideList.strides_of c.put_strides_under.new.out) =
+    rw (c.put_strides_under.ensures, c.slice-3.ensures.lengths, c.slice-4.ensures, c.slice-5.ensures.lengths) (broadcast_is_valid c.args.self.now.offset from to strides fits old) in
     record {
       as_many = valid.as_many;
       spread = valid.spread;

@@ -22,24 +22,15 @@ pub with_placement_pair-requires-clause-one : goal.with_placement_pair-requires-
 with_placement_pair-requires-clause-one g c =
     let array = c.args.self.now in
     let old = array.layout in
-    let a = c.args.axis.0 in
-    let k = c.args.index in
     let m = g.S.Data.stored array.storage in
     let offset = old.offset in
     let ns = g.D.Dimension.lengths old.dim in
     let ss = g.D.Strides.StrideList.strides_of old.strides in
     let lower = c.halves-lower.result.0 in
-    let upper = c.halves-lower.result.1 in
     let f1 = lower.offset in
     let n1 = g.D.Dimension.lengths lower.dim in
     let s1 = g.D.Strides.StrideList.strides_of lower.strides in
-    let f2 = upper.offset in
-    let n2 = g.D.Dimension.lengths upper.dim in
-    let s2 = g.D.Strides.StrideList.strides_of upper.strides in
     let one : IsStep offset ns ss f1 n1 s1 (λ i. i) = c.halves-lower.ensures.lower in
-    let two : IsStep offset ns ss f2 n2 s2 (upper_index a k) = c.halves-lower.ensures.upper in
-    let shape1 : n1 ≡ lower_shape ns a k = c.halves-lower.ensures.lower_lengths in
-    let shape2 : n2 ≡ upper_shape ns a k = c.halves-lower.ensures.upper_lengths in
     let sound : LiesSoundly m offset ns ss = record { valid = record { as_many = old.as_many; spread = old.spread; checked = old.checked; reach = old.reach }; holds = array.inside; separated = array.separated g.met.S.DataMut.alone } in
     step_sound m offset ns ss f1 n1 s1 (λ i. i) n1 refl sound one
 
@@ -53,18 +44,11 @@ with_placement_pair-requires-clause-two g c =
     let offset = old.offset in
     let ns = g.D.Dimension.lengths old.dim in
     let ss = g.D.Strides.StrideList.strides_of old.strides in
-    let lower = c.halves-lower.result.0 in
     let upper = c.halves-lower.result.1 in
-    let f1 = lower.offset in
-    let n1 = g.D.Dimension.lengths lower.dim in
-    let s1 = g.D.Strides.StrideList.strides_of lower.strides in
     let f2 = upper.offset in
     let n2 = g.D.Dimension.lengths upper.dim in
     let s2 = g.D.Strides.StrideList.strides_of upper.strides in
-    let one : IsStep offset ns ss f1 n1 s1 (λ i. i) = c.halves-lower.ensures.lower in
     let two : IsStep offset ns ss f2 n2 s2 (upper_index a k) = c.halves-lower.ensures.upper in
-    let shape1 : n1 ≡ lower_shape ns a k = c.halves-lower.ensures.lower_lengths in
-    let shape2 : n2 ≡ upper_shape ns a k = c.halves-lower.ensures.upper_lengths in
     let sound : LiesSoundly m offset ns ss = record { valid = record { as_many = old.as_many; spread = old.spread; checked = old.checked; reach = old.reach }; holds = array.inside; separated = array.separated g.met.S.DataMut.alone } in
     step_sound m offset ns ss f2 n2 s2 (upper_index a k) n2 refl sound two
 
@@ -72,25 +56,14 @@ pub with_placement_pair-requires-clause-one_within : goal.with_placement_pair-re
 with_placement_pair-requires-clause-one_within g c =
     let array = c.args.self.now in
     let old = array.layout in
-    let a = c.args.axis.0 in
-    let k = c.args.index in
-    let m = g.S.Data.stored array.storage in
     let offset = old.offset in
     let ns = g.D.Dimension.lengths old.dim in
     let ss = g.D.Strides.StrideList.strides_of old.strides in
     let lower = c.halves-lower.result.0 in
-    let upper = c.halves-lower.result.1 in
     let f1 = lower.offset in
     let n1 = g.D.Dimension.lengths lower.dim in
     let s1 = g.D.Strides.StrideList.strides_of lower.strides in
-    let f2 = upper.offset in
-    let n2 = g.D.Dimension.lengths upper.dim in
-    let s2 = g.D.Strides.StrideList.strides_of upper.strides in
     let one : IsStep offset ns ss f1 n1 s1 (λ i. i) = c.halves-lower.ensures.lower in
-    let two : IsStep offset ns ss f2 n2 s2 (upper_index a k) = c.halves-lower.ensures.upper in
-    let shape1 : n1 ≡ lower_shape ns a k = c.halves-lower.ensures.lower_lengths in
-    let shape2 : n2 ≡ upper_shape ns a k = c.halves-lower.ensures.upper_lengths in
-    let sound : LiesSoundly m offset ns ss = record { valid = record { as_many = old.as_many; spread = old.spread; checked = old.checked; reach = old.reach }; holds = array.inside; separated = array.separated g.met.S.DataMut.alone } in
     let same = c.copied-whole.ensures in
     rw (same.offset, same.lengths, same.strides) (step_within offset ns ss f1 n1 s1 (λ i. i) one)
 
@@ -100,23 +73,14 @@ with_placement_pair-requires-clause-two_within g c =
     let old = array.layout in
     let a = c.args.axis.0 in
     let k = c.args.index in
-    let m = g.S.Data.stored array.storage in
     let offset = old.offset in
     let ns = g.D.Dimension.lengths old.dim in
     let ss = g.D.Strides.StrideList.strides_of old.strides in
-    let lower = c.halves-lower.result.0 in
     let upper = c.halves-lower.result.1 in
-    let f1 = lower.offset in
-    let n1 = g.D.Dimension.lengths lower.dim in
-    let s1 = g.D.Strides.StrideList.strides_of lower.strides in
     let f2 = upper.offset in
     let n2 = g.D.Dimension.lengths upper.dim in
     let s2 = g.D.Strides.StrideList.strides_of upper.strides in
-    let one : IsStep offset ns ss f1 n1 s1 (λ i. i) = c.halves-lower.ensures.lower in
     let two : IsStep offset ns ss f2 n2 s2 (upper_index a k) = c.halves-lower.ensures.upper in
-    let shape1 : n1 ≡ lower_shape ns a k = c.halves-lower.ensures.lower_lengths in
-    let shape2 : n2 ≡ upper_shape ns a k = c.halves-lower.ensures.upper_lengths in
-    let sound : LiesSoundly m offset ns ss = record { valid = record { as_many = old.as_many; spread = old.spread; checked = old.checked; reach = old.reach }; holds = array.inside; separated = array.separated g.met.S.DataMut.alone } in
     let same = c.copied-whole.ensures in
     rw (same.offset, same.lengths, same.strides) (step_within offset ns ss f2 n2 s2 (upper_index a k) two)
 
@@ -170,7 +134,6 @@ with_placement_pair-requires-clause-callable g c m1 m2 is_one is_two =
     let two : IsStep offset ns ss f2 n2 s2 (upper_index a k) = c.halves-lower.ensures.upper in
     let shape1 : n1 ≡ lower_shape ns a k = c.halves-lower.ensures.lower_lengths in
     let shape2 : n2 ≡ upper_shape ns a k = c.halves-lower.ensures.upper_lengths in
-    let sound : LiesSoundly m offset ns ss = record { valid = record { as_many = old.as_many; spread = old.spread; checked = old.checked; reach = old.reach }; holds = array.inside; separated = array.separated g.met.S.DataMut.alone } in
     c.requires.callable (array_placed_at m1 f1 n1 s1) (array_placed_at m2 f2 n2 s2) (agrees_seen offset ns ss f1 n1 s1 (λ i. i) one m m1 is_one (lower_shape ns a k) shape1) (agrees_seen offset ns ss f2 n2 s2 (upper_index a k) two m m2 is_two (upper_shape ns a k) shape2)
 
 pub returns-clause-others : goal.returns-clause-others
@@ -178,25 +141,10 @@ unfolding memory_layout_of
 returns-clause-others g c =
     let array = c.args.self.now in
     let old = array.layout in
-    let a = c.args.axis.0 in
-    let k = c.args.index in
     let m = g.S.Data.stored array.storage in
     let offset = old.offset in
     let ns = g.D.Dimension.lengths old.dim in
     let ss = g.D.Strides.StrideList.strides_of old.strides in
-    let lower = c.halves-lower.result.0 in
-    let upper = c.halves-lower.result.1 in
-    let f1 = lower.offset in
-    let n1 = g.D.Dimension.lengths lower.dim in
-    let s1 = g.D.Strides.StrideList.strides_of lower.strides in
-    let f2 = upper.offset in
-    let n2 = g.D.Dimension.lengths upper.dim in
-    let s2 = g.D.Strides.StrideList.strides_of upper.strides in
-    let one : IsStep offset ns ss f1 n1 s1 (λ i. i) = c.halves-lower.ensures.lower in
-    let two : IsStep offset ns ss f2 n2 s2 (upper_index a k) = c.halves-lower.ensures.upper in
-    let shape1 : n1 ≡ lower_shape ns a k = c.halves-lower.ensures.lower_lengths in
-    let shape2 : n2 ≡ upper_shape ns a k = c.halves-lower.ensures.upper_lengths in
-    let sound : LiesSoundly m offset ns ss = record { valid = record { as_many = old.as_many; spread = old.spread; checked = old.checked; reach = old.reach }; holds = array.inside; separated = array.separated g.met.S.DataMut.alone } in
     let same = c.copied-whole.ensures in
     let others = rw (same.offset, same.lengths, same.strides) at c.with_placement_pair.ensures.others in
     unnamed_stay m (g.S.Data.stored c.with_placement_pair.new.storage) offset ns ss others
@@ -224,7 +172,6 @@ returns-clause-done g c =
     let two : IsStep offset ns ss f2 n2 s2 (upper_index a k) = c.halves-lower.ensures.upper in
     let shape1 : n1 ≡ lower_shape ns a k = c.halves-lower.ensures.lower_lengths in
     let shape2 : n2 ≡ upper_shape ns a k = c.halves-lower.ensures.upper_lengths in
-    let sound : LiesSoundly m offset ns ss = record { valid = record { as_many = old.as_many; spread = old.spread; checked = old.checked; reach = old.reach }; holds = array.inside; separated = array.separated g.met.S.DataMut.alone } in
     let new = g.S.Data.stored c.with_placement_pair.new.storage in
     let done = c.with_placement_pair.ensures.done in (
       array_placed_at done.0 f1 n1 s1,

@@ -13,7 +13,6 @@ with_placement-requires-clause-sound g c =
     let ss = g.D.Strides.StrideList.strides_of old.strides in
     let m = g.S.Data.stored array.storage in
     let sound : LiesSoundly m old.offset ns ss = record { valid = record { as_many = old.as_many; spread = old.spread; checked = old.checked; reach = old.reach }; holds = array.inside; separated = array.separated g.met.S.DataMut.alone } in
-    let new = c.diagonal-layout.result in
     let step = c.diagonal-layout.ensures.step in
     step_sound m old.offset ns ss _ _ _ _ _ refl sound step
 
@@ -39,7 +38,6 @@ returns-clause-others g c =
     let ss = g.D.Strides.StrideList.strides_of old.strides in
     let m = g.S.Data.stored array.storage in
     let sound : LiesSoundly m old.offset ns ss = record { valid = record { as_many = old.as_many; spread = old.spread; checked = old.checked; reach = old.reach }; holds = array.inside; separated = array.separated g.met.S.DataMut.alone } in
-    let new = c.diagonal-layout.result in
     let step = c.diagonal-layout.ensures.step in
     let stored = g.S.Data.stored c.with_placement.new.storage in
     let done = c.with_placement.ensures.done in
@@ -54,7 +52,6 @@ returns-clause-kept g c =
     let ss = g.D.Strides.StrideList.strides_of old.strides in
     let m = g.S.Data.stored array.storage in
     let sound : LiesSoundly m old.offset ns ss = record { valid = record { as_many = old.as_many; spread = old.spread; checked = old.checked; reach = old.reach }; holds = array.inside; separated = array.separated g.met.S.DataMut.alone } in
-    let new = c.diagonal-layout.result in
     let step = c.diagonal-layout.ensures.step in
     let stored = g.S.Data.stored c.with_placement.new.storage in
     let done = c.with_placement.ensures.done in

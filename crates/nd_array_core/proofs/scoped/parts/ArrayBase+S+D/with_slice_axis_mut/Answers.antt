@@ -14,7 +14,6 @@ with_placement-requires-clause-sound g c =
     let m = g.S.Data.stored array.storage in
     let sound : LiesSoundly m old.offset ns ss = record { valid = record { as_many = old.as_many; spread = old.spread; checked = old.checked; reach = old.reach }; holds = array.inside; separated = array.separated g.met.S.DataMut.alone } in
     let same = c.copied-layout.ensures in
-    let new = c.slice_axis.new.self in
     let step = rw (same.offset, same.lengths, same.strides) at c.slice_axis.ensures.step in
     step_sound m old.offset ns ss _ _ _ _ _ refl sound step
 
@@ -42,7 +41,6 @@ returns-clause-others g c =
     let m = g.S.Data.stored array.storage in
     let sound : LiesSoundly m old.offset ns ss = record { valid = record { as_many = old.as_many; spread = old.spread; checked = old.checked; reach = old.reach }; holds = array.inside; separated = array.separated g.met.S.DataMut.alone } in
     let same = c.copied-layout.ensures in
-    let new = c.slice_axis.new.self in
     let step = rw (same.offset, same.lengths, same.strides) at c.slice_axis.ensures.step in
     let stored = g.S.Data.stored c.with_placement.new.storage in
     let done = c.with_placement.ensures.done in
@@ -58,7 +56,6 @@ returns-clause-kept g c =
     let m = g.S.Data.stored array.storage in
     let sound : LiesSoundly m old.offset ns ss = record { valid = record { as_many = old.as_many; spread = old.spread; checked = old.checked; reach = old.reach }; holds = array.inside; separated = array.separated g.met.S.DataMut.alone } in
     let same = c.copied-layout.ensures in
-    let new = c.slice_axis.new.self in
     let step = rw (same.offset, same.lengths, same.strides) at c.slice_axis.ensures.step in
     let stored = g.S.Data.stored c.with_placement.new.storage in
     let done = c.with_placement.ensures.done in

@@ -1,7 +1,0 @@
-use Rattle.std.proofs.Common.{pos}
-use Rattle.nd_layout.specs.Strides.{broadcast_strides}
-use Rattle.nd_shape_and_slice.proofs.FillLoop.{IsFilledBelow}
-use Rattle.nd_layout.proofs.layout.broadcast.strides_under.Given as goal
-
-abbrev pub invariant-loop-axis : goal.invariant-loop-axis
-invariant-loop-axis g l = IsFilledBelow (pos 0) (broadcast_strides l.from l.strides (g.E.Dimension.lengths l.to)) (g.E.Strides.StrideList.strides_of l.out) l.axis
