@@ -1,12 +1,16 @@
 pub mod Ranked
+pub mod ShortAxes
 pub mod SamePlaces
 pub mod StepLemmas
 pub mod LawProofs
 pub mod WriteStep
+pub mod Frames
 pub mod Filling
 pub mod Parted
 pub mod ListParts
 pub mod PlaceLaws
 pub mod GivenHolds
+pub mod LaidOut
 pub mod lending
 pub mod tasks
+pub mod Masks

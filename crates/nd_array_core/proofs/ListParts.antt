@@ -1,34 +1,26 @@
 -- Parts of an array that lists of slices name.
-use Rattle.std.proofs.Common.{◌≡◌, ℕ, ◌<◌, List, length, ℤ, refl, ap, sym, ◌∙◌}
-use Rattle.std.specs.Prelude.{Option}
+use Rattle.std.proofs.Common.{◌≡◌, ℕ, true, List, ℤ, refl, ap, sym, ◌∙◌}
 use Rattle.nd_shape_and_slice.specs.declared.slice_info.SliceInfoElem.{SliceInfoElem}
-use Rattle.nd_shape_and_slice.specs.Shape.{in_box, size_of}
-use Rattle.nd_shape_and_slice.specs.Place.{place_of, IsSeparated}
+use Rattle.nd_shape_and_slice.specs.declared.dimension.Dimension as dimension
+use Rattle.nd_shape_and_slice.specs.declared.dimension.AxisCount as axis_count
+use Rattle.nd_shape_and_slice.specs.declared.dimension.StrideList as stride_list
+use Rattle.nd_shape_and_slice.specs.Shape.{in_box}
 use Rattle.nd_shape_and_slice.specs.SliceInfo.{shape_after, index_before}
 use Rattle.nd_region.specs.Places.{LayoutsShareNoPlace}
-use Rattle.nd_array_core.specs.Meaning.{inside}
-use Rattle.nd_array_core.specs.layout.MultiSlice.{NameNothingInCommon, IsPartBy}
-use Rattle.nd_array_core.specs.layout.Parts.{IsViewUnder}
-use Rattle.nd_array_core.specs.Places.{stored_at, place_number}
+use Rattle.nd_array_core.specs.declared.base.storage.Data as data_trait
+use Rattle.nd_array_core.specs.declared.base.array.ArrayBase.{ArrayBase}
+use Rattle.nd_array_core.specs.layout.MultiSlice.{NameNothingInCommon}
 use Rattle.nd_layout.specs.Steps.{IsStep}
-use Rattle.nd_array_core.proofs.Parted.{steps_apart, seen_step, seen_place}
+use Rattle.nd_array_core.proofs.Parted.{steps_apart}
 
--- lists that name nothing in common give layouts that share no place
-pub lists_apart : (offset : ℕ) (ns : List ℕ) (ss : List ℤ) {offset' : ℕ} {ns' : List ℕ} {ss' : List ℤ} {offset'' : ℕ} {ns'' : List ℕ} {ss'' : List ℤ} (es fs : List SliceInfoElem) → length ss ≡ length ns → (0 < size_of ns → IsSeparated ns ss)
-    → ns' ≡ shape_after ns es → IsStep offset ns ss offset' ns' ss' (index_before ns es) → ns'' ≡ shape_after ns fs → IsStep offset ns ss offset'' ns'' ss'' (index_before ns fs) → NameNothingInCommon ns es fs → LayoutsShareNoPlace offset' ns' ss' offset'' ns'' ss''
-lists_apart offset ns ss es fs as_many separated is step is' step' nothing =
-    steps_apart offset ns ss as_many separated step step' (λ i j h k e. nothing (record {
-      common = index_before ns es i;
-      in_first = record { new = i; in_result = ap (λ m. in_box m i) (sym is) ∙ h; stands_for = refl };
-      in_second = record { new = j; in_result = ap (λ m. in_box m j) (sym is') ∙ k; stands_for = sym e };
-    }))
-
--- what is seen under a list's layout is the part that it names
-pub part_by : {A : Type 0} (stored : ℕ → Option A) {offset : ℕ} {ns : List ℕ} {ss : List ℤ} {offset' : ℕ} {ns' : List ℕ} {ss' : List ℤ} {es : List SliceInfoElem} {shape : List ℕ} {strides : List ℤ} {at : List ℕ → Option A} {place : List ℕ → Option ℕ}
-    → ns' ≡ shape_after ns es → IsStep offset ns ss offset' ns' ss' (index_before ns es) → IsViewUnder stored offset' ns' ss' shape strides at place
-    → IsPartBy ns (λ i. inside ns i (stored_at stored (place_of offset ss i))) (λ i. inside ns i (place_number (place_of offset ss i))) es shape at place
-part_by stored is step seen = record {
-  shape = seen.shape_is ∙ is;
-  elements = seen_step stored step seen;
-  places = seen_place stored step seen;
-}
+module _ {S D T A P R L M : Type 0} {s : data_trait.Ghosts S A} {d : dimension.Ghosts D P R L M} {n : axis_count.Ghosts D} {r : stride_list.Ghosts R} {t : stride_list.Ghosts T} (a : ArrayBase S D T A P R L M s d n r t) (alone : s.exclusive ≡ true)
+    {offset' : ℕ} {ns' : List ℕ} {ss' : List ℤ} {es : List SliceInfoElem} (is : ns' ≡ shape_after (d.lengths a.layout.dim) es) (step : IsStep a.layout.offset (d.lengths a.layout.dim) (t.strides_of a.layout.strides) offset' ns' ss' (index_before (d.lengths a.layout.dim) es)) where
+  -- lists that name nothing in common give layouts that share no place
+  pub lists_apart : {offset'' : ℕ} {ns'' : List ℕ} {ss'' : List ℤ} {fs : List SliceInfoElem} → ns'' ≡ shape_after (d.lengths a.layout.dim) fs → IsStep a.layout.offset (d.lengths a.layout.dim) (t.strides_of a.layout.strides) offset'' ns'' ss'' (index_before (d.lengths a.layout.dim) fs)
+      → NameNothingInCommon (d.lengths a.layout.dim) es fs → LayoutsShareNoPlace offset' ns' ss' offset'' ns'' ss''
+  lists_apart is' step' nothing =
+      steps_apart a.layout.offset (d.lengths a.layout.dim) (t.strides_of a.layout.strides) a.layout.as_many (a.separated alone) step step' (λ i j h k e. nothing (record {
+        common = index_before (d.lengths a.layout.dim) es i;
+        in_first = record { new = i; in_result = ap (λ m. in_box m i) (sym is) ∙ h; stands_for = refl };
+        in_second = record { new = j; in_result = ap (λ m. in_box m j) (sym is') ∙ k; stands_for = sym e };
+      }))

@@ -11,7 +11,7 @@ use Rattle.nd_region.specs.Places.{names, names_not, LayoutsShareNoPlace}
 use Rattle.nd_region.proofs.Names.{named_by, named_at}
 use Rattle.nd_shape_and_slice.specs.Maps.{lower_shape, upper_shape, upper_index}
 use Rattle.nd_array_core.specs.Meaning.{inside}
-use Rattle.nd_array_core.specs.Places.{stored_at, place_number, HoldsAll, kept_at, ShareNoPlace}
+use Rattle.nd_array_core.specs.Places.{stored_at, place_number, names_place, HoldsAll, kept_at, ShareNoPlace}
 use Rattle.nd_layout.specs.Steps.{IsStep}
 use Rattle.nd_array_core.specs.layout.Parts.{HoldsEachOnce, IsViewUnder}
 use Rattle.nd_array_core.proofs.StepLemmas.{step_holds, step_element}
@@ -48,6 +48,14 @@ module _ {A : Type 0} (stored new : ℕ → Option A) (offset : ℕ) (ns : List 
   pub taken_element : Taken → (i : List ℕ) → inside ns i (stored_at new (place_of offset ss i)) ≡ inside ns i (stored_at stored (place_of offset ss i))
   taken_element is i = shown ns i (stored_at new (place_of offset ss i)) (stored_at stored (place_of offset ss i)) (λ h. taken_there (place_of offset ss i) i is h refl)
 
+  -- and no other place
+  pub taken_places : Taken → HoldsAll stored offset ns ss → (p : ℕ) → is_some (new p) ≡ names offset ns ss p
+  taken_places is holds p = ap is_some (is p) ∙ by_test (names offset ns ss p) refl
+    where
+      by_test : (b : Bool) → names offset ns ss p ≡ b → is_some (if b then stored p else None) ≡ b
+      by_test true e = let at = named_by offset ns ss p e in ap (names_place stored) (sym at.2) ∙ holds at.0 at.1
+      by_test false e = refl
+
   module _ (offset' : ℕ) (ns' : List ℕ) (ss' : List ℤ) (apart : LayoutsShareNoPlace offset ns ss offset' ns' ss') where
     left_there : (z : ℤ) (j : List ℕ) → Left → in_box ns' j ≡ true → place_of offset' ss' j ≡ z → stored_at new z ≡ stored_at stored z
     left_there (pos p) j is h e = is p ∙ ap (λ (b : Bool). if b then stored p else None) (not_named (names offset ns ss p) (λ n. let at = named_by offset ns ss p n in apart at.0 j at.1 h (at.2 ∙ sym e)))
@@ -70,7 +78,8 @@ number_is : (z : ℤ) (p : ℕ) → place_number z ≡ Some p → z ≡ pos p
 number_is (pos q) p e = cc
 number_is (negsuc q) p e = cc
 
-has_place : (ns i : List ℕ) (z : ℤ) (p : ℕ) → inside ns i (place_number z) ≡ Some p → (in_box ns i ≡ true) × (z ≡ pos p)
+-- the place of an index is that of the layout
+pub has_place : (ns i : List ℕ) (z : ℤ) (p : ℕ) → inside ns i (place_number z) ≡ Some p → (in_box ns i ≡ true) × (z ≡ pos p)
 has_place ns i z p = at (in_box ns i) refl
   where
     at : (b : Bool) → in_box ns i ≡ b → (if b then place_number z else None) ≡ Some p → (in_box ns i ≡ true) × (z ≡ pos p)
@@ -104,22 +113,20 @@ step_held stored holds separated step = record {
   separated = λ some. step.separated (separated (step_some step some));
 }
 
--- what is left holds what it held of a layout that shares no place with the one taken out
-pub left_held : {A : Type 0} (stored new : ℕ → Option A) (offset : ℕ) (ns : List ℕ) (ss : List ℤ) (offset' : ℕ) (ns' : List ℕ) (ss' : List ℤ) → LayoutsShareNoPlace offset ns ss offset' ns' ss' → Left stored new offset ns ss → HoldsEachOnce stored offset' ns' ss' → HoldsEachOnce new offset' ns' ss'
-left_held stored new offset ns ss offset' ns' ss' apart left held = record {
-  holds = left_holds stored new offset ns ss offset' ns' ss' apart left held.holds;
-  separated = held.separated;
-}
+module _ {A : Type 0} {stored new : ℕ → Option A} {offset : ℕ} {ns : List ℕ} {ss : List ℤ} {offset' : ℕ} {ns' : List ℕ} {ss' : List ℤ} {shape : List ℕ} {strides : List ℤ} {at : List ℕ → Option A} {place : List ℕ → Option ℕ} where
+  -- what is left holds what it held of a layout that shares no place with the one taken out
+  pub left_held : LayoutsShareNoPlace offset ns ss offset' ns' ss' → IsViewUnder stored offset ns ss shape strides at place → Left stored new offset ns ss → HoldsEachOnce stored offset' ns' ss' → HoldsEachOnce new offset' ns' ss'
+  left_held apart taken left held = record { holds = left_holds stored new offset ns ss offset' ns' ss' apart left held.holds; separated = held.separated }
 
--- and shows it
-pub left_seen : {A : Type 0} (stored new : ℕ → Option A) (offset : ℕ) (ns : List ℕ) (ss : List ℤ) (offset' : ℕ) (ns' : List ℕ) (ss' : List ℤ) {shape : List ℕ} {strides : List ℤ} {at : List ℕ → Option A} {place : List ℕ → Option ℕ}
-    → LayoutsShareNoPlace offset ns ss offset' ns' ss' → Left stored new offset ns ss → IsViewUnder new offset' ns' ss' shape strides at place → IsViewUnder stored offset' ns' ss' shape strides at place
-left_seen stored new offset ns ss offset' ns' ss' apart left seen = record {
-  shape_is = seen.shape_is;
-  strides_are = seen.strides_are;
-  elements = λ i. seen.elements i ∙ left_element stored new offset ns ss offset' ns' ss' apart left i;
-  places = seen.places;
-}
+  -- and shows it
+  pub left_seen : {shape' : List ℕ} {strides' : List ℤ} {at' : List ℕ → Option A} {place' : List ℕ → Option ℕ}
+      → LayoutsShareNoPlace offset ns ss offset' ns' ss' → IsViewUnder stored offset ns ss shape strides at place → Left stored new offset ns ss → IsViewUnder new offset' ns' ss' shape' strides' at' place' → IsViewUnder stored offset' ns' ss' shape' strides' at' place'
+  left_seen apart taken left seen = record {
+    shape_is = seen.shape_is;
+    strides_are = seen.strides_are;
+    elements = λ i. seen.elements i ∙ left_element stored new offset ns ss offset' ns' ss' apart left i;
+    places = seen.places;
+  }
 
 -- what is seen under a step's layout is what the array shows at the index that the step's map names
 pub seen_step : {A : Type 0} (stored : ℕ → Option A) {offset : ℕ} {ns : List ℕ} {ss : List ℤ} {offset' : ℕ} {ns' : List ℕ} {ss' : List ℤ} {source : List ℕ → List ℕ} {shape : List ℕ} {strides : List ℤ} {at : List ℕ → Option A} {place : List ℕ → Option ℕ}
@@ -133,6 +140,19 @@ pub seen_place : {A : Type 0} (stored : ℕ → Option A) {offset : ℕ} {ns : L
 seen_place stored {offset = offset} {ns = ns} {ss = ss} {offset' = offset'} {ns' = ns'} {ss' = ss'} {source = source} step seen i =
     seen.places i ∙ shown ns' i (place_number (place_of offset' ss' i)) (inside ns (source i) (place_number (place_of offset ss (source i)))) (λ h. rw (step.within i h) (ap place_number (step.same i h)))
     ∙ (λ k. inside (sym seen.shape_is k) i (inside ns (source i) (place_number (place_of offset ss (source i)))))
+
+-- so what is seen under it is a part of the array
+pub seen_part : {A : Type 0} (stored : ℕ → Option A) {offset : ℕ} {ns : List ℕ} {ss : List ℤ} {offset' : ℕ} {ns' : List ℕ} {ss' : List ℤ} {source : List ℕ → List ℕ} {shape : List ℕ} {strides : List ℤ} {at : List ℕ → Option A} {place : List ℕ → Option ℕ} {shape' : List ℕ} {strides' : List ℤ}
+    → ns' ≡ shape' → ss' ≡ strides' → IsStep offset ns ss offset' ns' ss' source → IsViewUnder stored offset' ns' ss' shape strides at place
+    → (shape ≡ shape') × (strides ≡ strides') × ((i : List ℕ) → at i ≡ inside shape' i (inside ns (source i) (stored_at stored (place_of offset ss (source i)))))
+    × ((i : List ℕ) → place i ≡ inside shape' i (inside ns (source i) (place_number (place_of offset ss (source i)))))
+seen_part stored {offset = offset} {ns = ns} {ss = ss} {source = source} lengths strides step seen =
+    let shape = seen.shape_is ∙ lengths in (
+      shape,
+      seen.strides_are ∙ strides,
+      (λ i. seen_step stored step seen i ∙ (λ k. inside (shape k) i (inside ns (source i) (stored_at stored (place_of offset ss (source i)))))),
+      (λ i. seen_place stored step seen i ∙ (λ k. inside (shape k) i (inside ns (source i) (place_number (place_of offset ss (source i)))))),
+    )
 
 -- two that are seen under layouts that share no place share none
 pub seen_apart : {A : Type 0} {stored stored' : ℕ → Option A} {offset : ℕ} {ns : List ℕ} {ss : List ℤ} {offset' : ℕ} {ns' : List ℕ} {ss' : List ℤ} {shape shape' : List ℕ} {strides strides' : List ℤ} {at at' : List ℕ → Option A} {place place' : List ℕ → Option ℕ}

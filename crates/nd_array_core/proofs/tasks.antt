@@ -3,3 +3,4 @@ pub mod PairStep
 pub mod PairTask
 pub mod PartStep
 pub mod PartTask
+pub mod SliceTask

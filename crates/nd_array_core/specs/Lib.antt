@@ -1,6 +1,8 @@
 pub mod Places
 pub mod PlacedArray
 pub mod Meaning
+pub mod Part
+pub mod Coordinates
 pub mod Laws
 pub mod base
 pub mod layout

@@ -24,11 +24,13 @@ abbrev pub meaning_through : {A : Type 0} → List ℕ → (List ℕ → List �
 meaning_through shape source m = record { shape = shape; at = λ i. inside shape i (m.at (source i)) }
 
 -- how an array lies in memory: what holds its elements, the place there of each index's element, which is nothing
--- outside the shape's box, and the stride of each axis; shape and elements don't tell any of it
+-- outside the shape's box, the stride of each axis, and the offset, the place that the index of zeros has where there
+-- are elements; shape and elements don't tell any of it
 pub record MemoryLayout (S : Type 0) : Type 0 where
   pub storage : S
   pub place : List ℕ → Option ℕ
   pub strides : List ℤ
+  pub offset : ℕ
 
 module _ {S D T A P R L M : Type 0} {s : data_trait.Ghosts S A} {d : dimension.Ghosts D P R L M} {n : axis_count.Ghosts D} {r : stride_list.Ghosts R} {t : stride_list.Ghosts T} where
   -- what is seen of an array. This word and the next are opaque above this crate, and all that callers read of an
@@ -45,6 +47,7 @@ module _ {S D T A P R L M : Type 0} {s : data_trait.Ghosts S A} {d : dimension.G
     storage = a.storage;
     place = λ i. inside (d.lengths a.layout.dim) i (place_number (place_of a.layout.offset (t.strides_of a.layout.strides) i));
     strides = t.strides_of a.layout.strides;
+    offset = a.layout.offset;
   }
 
   -- the length of each axis
@@ -58,6 +61,10 @@ module _ {S D T A P R L M : Type 0} {s : data_trait.Ghosts S A} {d : dimension.G
   -- the stride of each axis
   abbrev pub layout_strides : ArrayBase S D T A P R L M s d n r t → List ℤ
   layout_strides a = (memory_layout_of a).strides
+
+  -- the offset: the place of the index of zeros, where there are elements
+  abbrev pub layout_offset : ArrayBase S D T A P R L M s d n r t → ℕ
+  layout_offset a = (memory_layout_of a).offset
 
   -- what the array lies in: its elements, each at a place
   abbrev pub storage_of : ArrayBase S D T A P R L M s d n r t → S

@@ -1,3 +1,4 @@
+pub mod StorageFrame
 pub mod Given
 pub mod Sources
 pub mod Storages

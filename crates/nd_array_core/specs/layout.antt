@@ -1,3 +1,4 @@
 pub mod Parts
 pub mod MultiSlice
 pub mod ViewLent
+pub mod RunLent

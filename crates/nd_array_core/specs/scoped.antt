@@ -1,3 +1,5 @@
 pub mod Scoped
 pub mod Tasks
 pub mod PartTasks
+pub mod Sources
+pub mod Fills

@@ -4,6 +4,7 @@ pub mod aliases;
 pub mod array;
 pub mod constructors;
 pub mod conversions;
+pub mod extents;
 pub mod indexing;
 pub mod storage;
 pub mod writing;

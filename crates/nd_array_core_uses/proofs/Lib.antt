@@ -2,3 +2,4 @@ pub mod Halves
 pub mod Lines
 pub mod Outcomes
 pub mod Rows
+pub mod Fronts

@@ -1,1 +1,3 @@
 pub mod Painting
+pub mod Slices
+pub mod Sums

@@ -1,5 +1,5 @@
 -- Which indexes of an image a row, a column and the border have. An image is an array of rows and columns.
-use Rattle.std.specs.Prelude.{ℕ, suc, ℤ, Bool, false, ◌&&◌, ◌||◌, nat_eq, nat_lt, List, [], ◌∷◌, Option, None, Some}
+use Rattle.std.specs.Prelude.{ℕ, suc, ℤ, Bool, false, ◌&&◌, ◌||◌, nat_eq, nat_lt, List, [], ◌∷◌, Option, None, Some, if◌then◌else◌}
 use Rattle.nd_shape_and_slice.specs.SliceInfo.{coordinate_on}
 
 -- the coordinate is that one
@@ -24,3 +24,7 @@ is_edge n i = nat_eq i 0 || nat_eq (suc i) n
 abbrev pub is_border : List ℕ → List ℕ → Bool
 is_border (rows ∷ columns ∷ []) (row ∷ column ∷ []) = (nat_lt row rows && nat_lt column columns) && (is_edge rows row || is_edge columns column)
 is_border ns is = false
+
+-- the row that stands in the place of this one once two rows are exchanged
+abbrev pub exchanged : ℕ → ℕ → ℕ → ℕ
+exchanged first second row = if nat_eq row first then second else (if nat_eq row second then first else row)

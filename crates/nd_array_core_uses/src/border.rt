@@ -2,10 +2,10 @@
 ghost use Rattle.std.specs.Prelude.{◌≡◌, ◌∷◌, [], ℕ, true, false, List, slice_index, is_some, Some, OnOk, IfOk};
 ghost use Rattle.nd_shape_and_slice.specs.SliceInfo.{axes_read, axes_kept, coordinate_on, fits_shape};
 ghost use Rattle.nd_array_core.specs.Meaning.{shape_of, element_at};
-ghost use Rattle.nd_array_core.specs.scoped.PartTasks.{sliced_part, IsFilledWith, KeepsBut};
+ghost use Rattle.nd_array_core.specs.scoped.PartTasks.{IsFilledWith, KeepsBut};
+ghost use Rattle.nd_array_core.specs.Part.{sliced_part};
 ghost use Rattle.nd_array_core_uses.specs.Painting.{in_row, in_column, is_border};
 
-use crate::paint::fill_slice;
 use nd_array_core::{ArrayBase, Data, DataMut};
 use nd_shape_and_slice::{Axis, Ix1, Ix2, NoMemory, SliceInfo, SliceInfoElem};
 
@@ -45,12 +45,12 @@ fn fill_line<A: Clone + Drop, S: DataMut<Elem = A>>(
     requires fits { fits_shape (shape_of image.old) list.now ≡ true }
     requires clones { (copy : A) → A.is_clone value.now copy → copy ≡ value.now }
     ensures shape { shape_of image.new ≡ shape_of image.old }
-    ensures filled { OnOk result (IsFilledWith image.new (sliced_part (shape_of image.old) list.now) value.now) }
-    ensures kept { KeepsBut image.old image.new (sliced_part (shape_of image.old) list.now) }
+    ensures filled { OnOk result (IsFilledWith image.new (sliced_part image.old list.now) value.now) }
+    ensures kept { KeepsBut image.old image.new (sliced_part image.old list.now) }
 {
     let copy = copy_of(value)?;
     match SliceInfo::<Ix2, Ix1>::new(list) {
-        Ok(line) => fill_slice(image, line, copy),
+        Ok(line) => image.fill_slice(line, copy),
         Err(_) => unreachable!(),
     }
 }

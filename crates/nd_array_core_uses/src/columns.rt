@@ -3,7 +3,6 @@ ghost use Rattle.std.specs.Prelude.{◌≡◌, ◌%◌, ◌∷◌, [], ℕ, true
 ghost use Rattle.nd_shape_and_slice.specs.Shape.{in_box};
 ghost use Rattle.nd_array_core.specs.Meaning.{shape_of, element_at};
 
-use crate::paint::fill_slice;
 use nd_array_core::{ArrayBase, DataMut};
 use nd_shape_and_slice::{IxDyn, NoMemory, SliceInfoElem};
 
@@ -29,7 +28,7 @@ pub fn paint_every_second_column<A: Clone + Drop, S: DataMut<Elem = A>>(
     ensures shape { shape_of grid.new ≡ shape_of grid.old }
     ensures painted { OnOk result ((row column : ℕ) → in_box (shape_of grid.old) (row ∷ column ∷ []) ≡ true → element_at grid.new (row ∷ column ∷ []) ≡ if nat_eq (column % 2) 0 then Some colour else element_at grid.old (row ∷ column ∷ [])) }
 {
-    fill_slice(grid, [ALL, EVERY_SECOND].as_slice(), colour)
+    grid.fill_slice([ALL, EVERY_SECOND].as_slice(), colour)
 }
 
 #[cfg(test)]

@@ -3,7 +3,8 @@ ghost use Rattle.std.specs.Prelude.{◌≡◌, ◌%◌, ◌∷◌, [], ℕ, true
 ghost use Rattle.nd_shape_and_slice.specs.Shape.{in_box};
 ghost use Rattle.nd_array_core.specs.Meaning.{shape_of, element_at};
 ghost use Rattle.nd_array_core.specs.layout.MultiSlice.{TwoFit};
-ghost use Rattle.nd_array_core.specs.scoped.PartTasks.{sliced_part, IsFilledWith, KeepsButTwo};
+ghost use Rattle.nd_array_core.specs.scoped.PartTasks.{IsFilledWith, KeepsButTwo};
+ghost use Rattle.nd_array_core.specs.Part.{sliced_part};
 
 use crate::two_parts::FillBoth;
 use nd_array_core::{ArrayBase, DataMut};
@@ -24,9 +25,9 @@ pub fn fill_slices<
     requires first { (copy : A) → A.is_clone first copy → copy ≡ first }
     requires second { (copy : A) → A.is_clone second copy → copy ≡ second }
     ensures shape { shape_of array.new ≡ shape_of array.old }
-    ensures first { OnOk result (IsFilledWith array.new (sliced_part (shape_of array.old) (I.elements_of lists.0)) first) }
-    ensures second { OnOk result (IsFilledWith array.new (sliced_part (shape_of array.old) (J.elements_of lists.1)) second) }
-    ensures kept { KeepsButTwo array.old array.new (sliced_part (shape_of array.old) (I.elements_of lists.0)) (sliced_part (shape_of array.old) (J.elements_of lists.1)) }
+    ensures first { OnOk result (IsFilledWith array.new (sliced_part array.old (I.elements_of lists.0)) first) }
+    ensures second { OnOk result (IsFilledWith array.new (sliced_part array.old (J.elements_of lists.1)) second) }
+    ensures kept { KeepsButTwo array.old array.new (sliced_part array.old (I.elements_of lists.0)) (sliced_part array.old (J.elements_of lists.1)) }
 {
     array.with_multi_slice_mut(lists, FillBoth { first, second })
 }
@@ -44,8 +45,8 @@ pub fn try_fill_slices<
     requires second { (copy : A) → A.is_clone second copy → copy ≡ second }
     ensures some { TwoFit (shape_of array.old) (I.elements_of lists.0) (J.elements_of lists.1) → IsSome result }
     ensures shape { shape_of array.new ≡ shape_of array.old }
-    ensures first { IfSome result (λ done. OnOk done (IsFilledWith array.new (sliced_part (shape_of array.old) (I.elements_of lists.0)) first)) }
-    ensures second { IfSome result (λ done. OnOk done (IsFilledWith array.new (sliced_part (shape_of array.old) (J.elements_of lists.1)) second)) }
+    ensures first { IfSome result (λ done. OnOk done (IsFilledWith array.new (sliced_part array.old (I.elements_of lists.0)) first)) }
+    ensures second { IfSome result (λ done. OnOk done (IsFilledWith array.new (sliced_part array.old (J.elements_of lists.1)) second)) }
 {
     let shape = array.shape();
     if !lists.0.fits(shape) || !lists.1.fits(shape) {

@@ -34,7 +34,7 @@ where
     requires clones { (copy : S.Elem) → S.Elem.is_clone value copy → copy ≡ value }
     ensures shape { shape_of array.new ≡ shape_of array.old }
     ensures places { (i : List ℕ) → place_at array.new i ≡ place_at array.old i }
-    ensures refilled { IsRefilled S.borrow array.old array.new }
+    ensures refilled { IsRefilled S.frame array.old array.new }
 {
     let mut part = array.slice_mut(info);
     part.fill(value)

@@ -5,25 +5,39 @@ ghost use Rattle.std.specs.Prelude.{◌≡◌, ◌<◌, ◌∷◌, [], ℕ, true
 ghost use Rattle.nd_shape_and_slice.specs.Slice.{fits_axis, sliced_shape, sliced_index};
 ghost use Rattle.nd_array_core.specs.Meaning.{shape_of, element_at, inside};
 
+mod blocks;
 mod border;
 mod broadcasts;
 mod columns;
+mod coordinates;
 mod interleaved;
+mod lent_slices;
 mod lent_views;
-mod paint;
+mod parts_written;
+mod pixels;
 mod strides;
 mod two_calls;
 mod two_parts;
 mod writes;
 
+pub use blocks::{fill_every_second_column, fill_rectangle, fill_two_blocks};
 pub use border::{draw_border, fill_column, fill_row};
 pub use broadcasts::table_of;
 pub use columns::paint_every_second_column;
+pub use coordinates::{
+    begin_alike, channel, column_seen, corner, crop, crop_by_axes, every_second_row, neighbourhood,
+    second_column, transpose_then_row, turn_half, turned_twice,
+};
 pub use interleaved::{fill_slices, interleave_rows, try_fill_slices};
+pub use lent_slices::{fill_front, fill_seen};
 pub use lent_views::{fill_again, fill_part, fill_view, paint_owned_columns, set_diagonal};
 use nd_array_core::{Array, ArrayBase, ArrayView, Data};
 use nd_shape_and_slice::{Axis, Dimension, Ix2, ShapeError, Slice, slice_fits};
-pub use paint::{Fill, fill_slice};
+pub use parts_written::{
+    fill_column_of_view, fill_diagonal, fill_inner, fill_named, fill_row_of_owned, swap_in_row,
+    swap_numbers_in_row, write_in_part,
+};
+pub use pixels::{checkerboard, checkerboard_of_references, row_sum, swap_rows};
 pub use strides::{row_repeated, turned_at_the_least_stride};
 pub use two_calls::{
     column_of, column_of_numbers, column_of_owned, fill_then_get, fill_then_get_number, flip_both,
@@ -31,7 +45,7 @@ pub use two_calls::{
     transposed_row, transposed_row_of_numbers, transposed_row_owned,
 };
 pub use two_parts::fill_halves;
-pub use writes::{put, put_owned, put_seen, try_put};
+pub use writes::{put, put_owned, put_seen, try_put, try_put_first};
 
 /// The part of an axis that a slice names; None where there is no such axis or the slice doesn't fit it.
 pub fn try_slice_axis<'a, S: Data, D: Dimension>(

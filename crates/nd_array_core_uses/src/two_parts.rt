@@ -4,7 +4,7 @@ ghost use Rattle.nd_shape_and_slice.specs.Shape.{in_box};
 ghost use Rattle.nd_shape_and_slice.specs.Maps.{lower_shape, upper_shape, upper_index};
 ghost use Rattle.nd_array_core.specs.Meaning.{shape_of, element_at, inside};
 ghost use Rattle.nd_array_core.specs.PlacedArray.{element_placed};
-ghost use Rattle.nd_array_core.specs.scoped.Tasks.{view_borrow, lent_borrow, lent_view, view_left, CanBeSeen};
+ghost use Rattle.nd_array_core.specs.scoped.Tasks.{view_frame, lent_frame, lent_view, view_left, CanBeSeen};
 
 use nd_array_core::scoped::{LentView, PairTask};
 use nd_array_core::{ArrayBase, DataMut, ViewMutRepr};
@@ -33,8 +33,8 @@ impl<A: Clone + Drop, D: Dimension, E: Dimension> PairTask<A, D, E> for FillBoth
         requires two { CanBeSeen E.lengths E.Strides.strides_of two }
         requires first { (copy : A) → A.is_clone self.first copy → copy ≡ self.first }
         requires second { (copy : A) → A.is_clone self.second copy → copy ≡ self.second }
-        ensures one_borrow { view_borrow result.0 ≡ lent_borrow one.entry }
-        ensures two_borrow { view_borrow result.1 ≡ lent_borrow two.entry }
+        ensures one_frame { view_frame result.0 ≡ lent_frame one.entry }
+        ensures two_frame { view_frame result.1 ≡ lent_frame two.entry }
         ensures filled { OnOk result.2 (((i : List ℕ) → element_placed (view_left D.lengths D.Strides.strides_of one.entry result.0) i ≡ inside (lent_view D.lengths D.Strides.strides_of one.entry).shape i (Some self.first)) × ((i : List ℕ) → element_placed (view_left E.lengths E.Strides.strides_of two.entry result.1) i ≡ inside (lent_view E.lengths E.Strides.strides_of two.entry).shape i (Some self.second))) }
     {
         let mut lower = one.into_view();

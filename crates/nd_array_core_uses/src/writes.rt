@@ -1,7 +1,8 @@
 //! Writes through references to elements: the shape stays, the element at the index is the new one, and every other
 //! is as it was.
 ghost use Rattle.std.specs.Prelude.{◌≡◌, ℕ, true, List};
-ghost use Rattle.nd_shape_and_slice.specs.Shape.{in_box};
+ghost use Rattle.nd_shape_and_slice.specs.Shape.{in_box, size_of};
+ghost use Rattle.nd_shape_and_slice.specs.FirstIndex.{first_index};
 ghost use Rattle.nd_array_core.specs.Meaning.{shape_of, element_at};
 ghost use Rattle.nd_array_core.specs.base.Writes.{with_element_at};
 
@@ -35,6 +36,19 @@ where
     ensures elements { in_box (shape_of array.old) (I.coordinates_of index) ≡ true → (i : List ℕ) → element_at array.new i ≡ with_element_at (element_at array.old) (I.coordinates_of index) value i }
 {
     match array.get_mut(index) {
+        Some(element) => *element = value,
+        None => (),
+    }
+}
+
+/// Writes the element at the index of zeros, where the array has elements.
+pub fn try_put_first<S: DataMut, D: Dimension>(array: &mut ArrayBase<S, D>, value: S::Elem)
+where
+    S::Elem: Drop,
+    ensures shape { shape_of array.new ≡ shape_of array.old }
+    ensures elements { (size_of (shape_of array.old) ≡ 0 → ⊥) → (i : List ℕ) → element_at array.new i ≡ with_element_at (element_at array.old) (first_index (shape_of array.old)) value i }
+{
+    match array.first_mut() {
         Some(element) => *element = value,
         None => (),
     }

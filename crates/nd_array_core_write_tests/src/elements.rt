@@ -44,6 +44,33 @@ fn writes_to_an_owned_array(rt: HostRuntime) -> Result<(), Fail> {
     Ok(())
 }
 
+#[test]
+fn writes_the_first_element(rt: HostRuntime) -> Result<(), Fail> {
+    let mut array = array_of((2, 3), numbers(rt.alloc(), 1, 6)?)?;
+    assert!(rt; array.ndim() == 2);
+    array.invert_axis(Axis(1));
+    // [[3, 2, 1], [6, 5, 4]]
+    assert_eq!(rt; array.first().copied(), Some(3));
+    *array.first_mut().ok_or("elements")? = 30;
+    assert_eq!(rt; array.first().copied(), Some(30));
+    assert_eq!(rt; array.get([0, 0]).copied(), Some(30));
+    assert_eq!(rt; array.get([0, 1]).copied(), Some(2));
+    let mut none = array_of((2, 0), numbers(rt.alloc(), 1, 0)?)?;
+    assert!(rt; none.first().is_none());
+    assert!(rt; none.first_mut().is_none());
+    let mut point = array_of((), numbers(rt.alloc(), 7, 1)?)?;
+    assert_eq!(rt; point.first().copied(), Some(7));
+    *point.first_mut().ok_or("elements")? = 8;
+    assert_eq!(rt; point.first().copied(), Some(8));
+    let mut items = [1, 2, 3, 4];
+    let mut view = strided(&mut items, (2, 2), &[2, 1]).ok_or("shape")?;
+    *view.first_mut().ok_or("elements")? = 10;
+    assert_eq!(rt; view.first().copied(), Some(10));
+    drop(view);
+    assert_eq!(rt; items, [10, 2, 3, 4]);
+    Ok(())
+}
+
 // The view of this shape's rows, by strides.
 fn strided<'a>(
     items: &'a mut [u64],

@@ -8,8 +8,9 @@ ghost use Rattle.nd_shape_and_slice.specs.Maps.{lower_shape, upper_shape, upper_
 ghost use Rattle.nd_array_core.specs.Meaning.{shape_of, element_at};
 ghost use Rattle.nd_array_core.specs.layout.MultiSlice.{TwoFit};
 ghost use Rattle.nd_array_core.specs.PlacedArray.{element_placed};
-ghost use Rattle.nd_array_core.specs.scoped.Tasks.{view_borrow, lent_borrow, lent_view, view_left, CanBeSeen};
-ghost use Rattle.nd_array_core.specs.scoped.PartTasks.{sliced_part, axis_part, coordinate_part, diagonal_part, KeepsBut, KeepsButTwo};
+ghost use Rattle.nd_array_core.specs.scoped.Tasks.{view_frame, lent_frame, lent_view, view_left, CanBeSeen};
+ghost use Rattle.nd_array_core.specs.scoped.PartTasks.{KeepsBut, KeepsButTwo};
+ghost use Rattle.nd_array_core.specs.Part.{sliced_part, axis_part, coordinate_part, diagonal_part};
 ghost use Rattle.nd_array_core.specs.base.Writes.{with_element_at};
 
 use nd_array_core::scoped::{LentView, PairTask, ViewTask};
@@ -20,9 +21,9 @@ use std::test::Fail;
 
 // Puts a value at an index of a view.
 #[derive(Drop)]
-struct Put<I: Drop, A: Drop> {
-    index: I,
-    value: A,
+pub(crate) struct Put<I: Drop, A: Drop> {
+    pub(crate) index: I,
+    pub(crate) value: A,
 }
 
 impl<A: Drop, D: Dimension, I: NdIndex<D>> ViewTask<A, D> for Put<I, A> {
@@ -35,7 +36,7 @@ impl<A: Drop, D: Dimension, I: NdIndex<D>> ViewTask<A, D> for Put<I, A> {
     fn run(self, lent: LentView<'_, A, D, D::Strides>) -> (ViewMutRepr<'_, A>, A)
         requires sound { CanBeSeen D.lengths D.Strides.strides_of lent }
         requires pre { in_box (lent_view D.lengths D.Strides.strides_of lent).shape (I.coordinates_of self.index) ≡ true }
-        ensures borrow { view_borrow result.0 ≡ lent_borrow lent.entry }
+        ensures frame { view_frame result.0 ≡ lent_frame lent.entry }
         ensures old { element_placed (lent_view D.lengths D.Strides.strides_of lent.entry) (I.coordinates_of self.index) ≡ Some result.1 }
         ensures elements { (i : List ℕ) → element_placed (view_left D.lengths D.Strides.strides_of lent.entry result.0) i ≡ with_element_at (element_placed (lent_view D.lengths D.Strides.strides_of lent.entry)) (I.coordinates_of self.index) self.value i }
     {
@@ -70,8 +71,8 @@ impl<A: Drop, D: Dimension, E: Dimension, I: NdIndex<D>, X: NdIndex<E>> PairTask
         requires one { CanBeSeen D.lengths D.Strides.strides_of one }
         requires two { CanBeSeen E.lengths E.Strides.strides_of two }
         requires pre { (in_box (lent_view D.lengths D.Strides.strides_of one).shape (I.coordinates_of self.low) ≡ true) × (in_box (lent_view E.lengths E.Strides.strides_of two).shape (X.coordinates_of self.high) ≡ true) }
-        ensures one_borrow { view_borrow result.0 ≡ lent_borrow one.entry }
-        ensures two_borrow { view_borrow result.1 ≡ lent_borrow two.entry }
+        ensures one_frame { view_frame result.0 ≡ lent_frame one.entry }
+        ensures two_frame { view_frame result.1 ≡ lent_frame two.entry }
         ensures lower { (i : List ℕ) → element_placed (view_left D.lengths D.Strides.strides_of one.entry result.0) i ≡ with_element_at (element_placed (lent_view D.lengths D.Strides.strides_of one.entry)) (I.coordinates_of self.low) self.lower i }
         ensures upper { (i : List ℕ) → element_placed (view_left E.lengths E.Strides.strides_of two.entry result.1) i ≡ with_element_at (element_placed (lent_view E.lengths E.Strides.strides_of two.entry)) (X.coordinates_of self.high) self.upper i }
     {
@@ -119,7 +120,7 @@ fn put_in_slices<
     requires high { in_box (shape_after (shape_of array.old) (J.elements_of lists.1)) (Y.coordinates_of task.high) ≡ true }
     ensures low { element_at array.new (index_before (shape_of array.old) (I.elements_of lists.0) (X.coordinates_of task.low)) ≡ Some task.lower }
     ensures high { element_at array.new (index_before (shape_of array.old) (J.elements_of lists.1) (Y.coordinates_of task.high)) ≡ Some task.upper }
-    ensures kept { KeepsButTwo array.old array.new (sliced_part (shape_of array.old) (I.elements_of lists.0)) (sliced_part (shape_of array.old) (J.elements_of lists.1)) }
+    ensures kept { KeepsButTwo array.old array.new (sliced_part array.old (I.elements_of lists.0)) (sliced_part array.old (J.elements_of lists.1)) }
 {
     array.with_multi_slice_mut(lists, task);
 }
@@ -134,7 +135,7 @@ fn put_in_slice<A: Drop, S: DataMut<Elem = A>, D: Dimension, I: SliceArg<D>, X: 
     requires within { in_box (shape_after (shape_of array.old) (I.elements_of info)) (X.coordinates_of index) ≡ true }
     ensures old { element_at array.old (index_before (shape_of array.old) (I.elements_of info) (X.coordinates_of index)) ≡ Some result }
     ensures new { element_at array.new (index_before (shape_of array.old) (I.elements_of info) (X.coordinates_of index)) ≡ Some value }
-    ensures kept { KeepsBut array.old array.new (sliced_part (shape_of array.old) (I.elements_of info)) }
+    ensures kept { KeepsBut array.old array.new (sliced_part array.old (I.elements_of info)) }
 {
     array.with_slice_mut(info, Put { index, value })
 }
@@ -163,7 +164,7 @@ fn put_along_axis<A: Drop, S: DataMut<Elem = A>, D: Dimension, X: NdIndex<D>>(
     ensures shape { shape_of array.new ≡ shape_of array.old }
     ensures old { element_at array.old (sliced_index (shape_of array.old) axis.0 slice (X.coordinates_of task.index)) ≡ Some result }
     ensures new { element_at array.new (sliced_index (shape_of array.old) axis.0 slice (X.coordinates_of task.index)) ≡ Some task.value }
-    ensures kept { KeepsBut array.old array.new (axis_part (shape_of array.old) axis.0 slice) }
+    ensures kept { KeepsBut array.old array.new (axis_part array.old axis.0 slice) }
 {
     array.with_slice_axis_mut(axis, slice, task)
 }
@@ -182,7 +183,7 @@ where
     ensures shape { shape_of array.new ≡ shape_of array.old }
     ensures old { element_at array.old (indexed_index axis.0 index (X.coordinates_of task.index)) ≡ Some result }
     ensures new { element_at array.new (indexed_index axis.0 index (X.coordinates_of task.index)) ≡ Some task.value }
-    ensures kept { KeepsBut array.old array.new (coordinate_part (shape_of array.old) axis.0 index) }
+    ensures kept { KeepsBut array.old array.new (coordinate_part array.old axis.0 index) }
 {
     array.with_index_axis_mut(axis, index, task)
 }
@@ -195,7 +196,7 @@ fn put_on_diagonal<A: Drop, S: DataMut<Elem = A>, D: Dimension, X: NdIndex<Ix1>>
     ensures shape { shape_of array.new ≡ shape_of array.old }
     ensures old { element_at array.old (diagonal_index (shape_of array.old) (X.coordinates_of task.index)) ≡ Some result }
     ensures new { element_at array.new (diagonal_index (shape_of array.old) (X.coordinates_of task.index)) ≡ Some task.value }
-    ensures kept { KeepsBut array.old array.new (diagonal_part (shape_of array.old)) }
+    ensures kept { KeepsBut array.old array.new (diagonal_part array.old) }
 {
     array.with_diag_mut(task)
 }

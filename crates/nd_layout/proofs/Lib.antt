@@ -7,6 +7,7 @@ pub mod Permuted
 pub mod Bounds
 pub mod Removed
 pub mod Distinct
+pub mod FirstPlace
 pub mod Diagonal
 pub mod Sliced
 pub mod Sizes

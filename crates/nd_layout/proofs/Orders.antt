@@ -1,5 +1,5 @@
 -- Lists of axes from the fastest on: in row-major order they are reversed.
-use Rattle.std.proofs.Common.{ℕ, ⊎_elim, ◌+◌, ◌-◌, ◌*◌, ◌<◌, ◌≡◌, List, [], ◌∷◌, ◌++◌, length, reverse, get_or, set, ltb, ◌&&◌, true, arith, refl, ap, sym, ◌∙◌, ℤ, pos, ◌+ℤ◌, ◌*ℤ◌}
+use Rattle.std.proofs.Common.{ℕ, zero, suc, ⊎_elim, ◌+◌, ◌-◌, ◌*◌, ◌<◌, ◌≡◌, List, [], ◌∷◌, ◌++◌, length, reverse, get_or, set, ltb, ◌&&◌, true, arith, refl, ap, sym, ◌∙◌, ℤ, pos, ◌+ℤ◌, ◌*ℤ◌}
 use mathlib.Core.List.{reverse-cons}
 use Rattle.std.proofs.Math.Nat.{mul_comm, mul_assoc}
 use Rattle.std.proofs.lemmas.Bool.{cases_eq}
@@ -11,6 +11,7 @@ use Rattle.nd_shape_and_slice.specs.declared.builder.Order.TheVariants.{RowMajor
 use Rattle.nd_shape_and_slice.proofs.RowMajor.{length-in_box}
 use Rattle.nd_shape_and_slice.proofs.ColumnMajor.{column_rank_below}
 use Rattle.nd_layout.specs.Ranks.{rank_in, Serves, fastest_first, axis_in, at_rank, ServesRanks}
+use Rattle.nd_layout.specs.Strides.{RestsAtOnes}
 use Rattle.nd_layout.proofs.Integers.{sums}
 use Rattle.nd_layout.proofs.Removed.{and_swap}
 use Rattle.nd_layout.proofs.Ranks.{at_rank-column_rank, column_index, in_box-column_index, column_rank-column_index}
@@ -186,6 +187,24 @@ IsSeparated-unordered ColumnMajor ns ss e apart = apart
 
 -- ---- strides that serve, by index and by rank
 -- the displacement of an index is that of its rank
+-- an axis of length 1 is one
+pub one_within : (ns : List ℕ) (a : ℕ) → get_or ns a 0 ≡ 1 → a < length ns
+one_within [] a h = absurd (omega (arith, h))
+one_within (n ∷ ns) zero h = omega arith
+one_within (n ∷ ns) (suc a) h = let rest = one_within ns a h in omega (arith, rest)
+
+-- strides of 0 at length 1, from the fastest axis on and as they stand
+pub rests-unordered : (o : Order) (ns : List ℕ) (ss : List ℤ) → length ss ≡ length ns → RestsAtOnes (fastest_first o ns) (fastest_first o ss) → RestsAtOnes ns ss
+rests-unordered ColumnMajor ns ss e rests a one = rests a one
+rests-unordered RowMajor ns ss e rests a one =
+    let on : a < length ns = one_within ns a one in
+    let there : length ns - 1 - a < length ns = omega (arith, on) in
+    let back : length ns - 1 - (length ns - 1 - a) ≡ a = omega (arith, on) in
+    let same : get_or (reverse ns) (length ns - 1 - a) 0 ≡ get_or ns a 0 = get_or-reverse ns (length ns - 1 - a) 0 there ∙ ap (λ k. get_or ns k 0) back in
+    let stride : get_or (reverse ss) (length ns - 1 - a) (pos 0) ≡ get_or ss a (pos 0) =
+    get_or-reverse ss (length ns - 1 - a) (pos 0) (omega (arith, there, e)) ∙ ap (λ k. get_or ss k (pos 0)) (ap (λ n. n - 1 - (length ns - 1 - a)) e ∙ back) in
+    sym stride ∙ rests (length ns - 1 - a) (same ∙ one)
+
 pub displacement-at_rank : (o : Order) (ns : List ℕ) (ss : List ℤ) (i : List ℕ) → length ss ≡ length ns → in_box ns i ≡ true → at_rank (fastest_first o ns) (fastest_first o ss) (rank_in o ns i) ≡ displacement_of ss i
 displacement-at_rank o ns ss i e h =
     let l = length-in_box ns i h in

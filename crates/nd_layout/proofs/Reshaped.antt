@@ -1,7 +1,7 @@
 -- Steps of the search for strides, over whole lists of axes from the fastest on.
-use Rattle.std.proofs.Common.{ℕ, ◌+◌, ◌-◌, ◌*◌, ◌<◌, ◌≤◌, ◌≡◌, min, List, [], ◌∷◌, ◌++◌, length, get_or, set, take, drop, arith, refl, ap, sym, ◌∙◌, append_assoc, ℤ}
+use Rattle.std.proofs.Common.{ℕ, ◌+◌, ◌-◌, ◌*◌, ◌<◌, ◌≤◌, ◌≡◌, min, List, [], ◌∷◌, ◌++◌, length, get_or, set, take, drop, Bool, true, false, eqb, ◌≢◌, arith, refl, ap, sym, ◌∙◌, append_assoc, ℤ, pos}
 use Rattle.std.proofs.Math.Nat.{eq_of_mul-eq-mul_left, mul_comm}
-use Rattle.std.proofs.lemmas.List.{drop_more, take_more, take_more_set, take-append-drop, take_all, length-take, length-drop}
+use Rattle.std.proofs.lemmas.List.{drop_more, take_more, take_more_set, take-append-drop, take_all, length-take, length-drop, get_or-set_other}
 use Rattle.nd_shape_and_slice.specs.Shape.{size_of}
 use Rattle.nd_shape_and_slice.specs.Place.{span_of, span_within, IsSeparated}
 use Rattle.nd_shape_and_slice.specs.declared.builder.Order.{Order}
@@ -11,7 +11,10 @@ use Rattle.nd_layout.proofs.Apart.{EachApart-parts, EachApart-weaker, EachApart-
 use Rattle.nd_layout.proofs.Regroups.{Regroups-trans, Regroups-prefix, both_positive, size_of-append}
 use Rattle.nd_layout.proofs.Serving.{serves_rest}
 use Rattle.nd_layout.proofs.Grouping.{le-times}
-use Rattle.nd_layout.proofs.Orders.{rank_in-below}
+use Rattle.std.proofs.lemmas.Grind.{get_or-set_at}
+use Rattle.std.proofs.lemmas.Bool.Decides.{nat_tests}
+use Rattle.nd_layout.specs.Strides.{RestsAtOnes}
+use Rattle.nd_layout.proofs.Orders.{rank_in-below, one_within}
 
 -- the sizes of the lengths before the nth and from it on
 pub sizes_at : (ms : List ℕ) (nth : ℕ) → 0 < size_of ms → (0 < size_of (take nth ms)) × (0 < size_of (drop nth ms)) × (size_of (drop nth ms) ≤ size_of ms)
@@ -97,6 +100,25 @@ IsSeparated-front cs ds ns ss e apart =
 -- and are separated where the old are
 pub separated_all : (os : List ℕ) (ps : List ℤ) (ms : List ℕ) (ts : List ℤ) (gn : List ℕ) (gs : List ℤ) → length ts ≡ length ms → Regroups os ps (ms ++ gn) (ts ++ gs) → IsSeparated os ps → IsSeparated ms ts
 separated_all os ps ms ts gn gs e g apart = IsSeparated-front ms ts gn gs e (g.apart [] [] refl apart)
+
+-- the new axes so far of length 1 have stride 0
+abbrev pub RestsBelow : ℕ → List ℕ → List ℤ → Type 0
+RestsBelow nth ms ts = (k : ℕ) → k < nth → get_or ms k 0 ≡ 1 → get_or ts k (pos 0) ≡ pos 0
+
+pub rests_more : (nth : ℕ) (ms : List ℕ) (ts ts' : List ℤ) (t : ℤ) → nth < length ts → ts' ≡ set ts nth t → (get_or ms nth 0 ≡ 1 → t ≡ pos 0) → RestsBelow nth ms ts → RestsBelow (nth + 1) ms ts'
+rests_more nth ms ts ts' t on put here rests k below one = at (eqb k nth) refl
+  where
+    at : (b : Bool) → eqb k nth ≡ b → get_or ts' k (pos 0) ≡ pos 0
+    at true e =
+        let same : k ≡ nth = grind (arith, nat_tests, e) in
+        ap (λ l. get_or l k (pos 0)) put ∙ (get_or-set_at ts nth k t (pos 0) same on ∙ here (ap (λ n. get_or ms n 0) (sym same) ∙ one))
+    at false e =
+        let other : k ≢ nth = grind (arith, nat_tests, e) in
+        let less : k < nth = grind (arith, nat_tests, e, below) in
+        ap (λ l. get_or l k (pos 0)) put ∙ (get_or-set_other ts nth k t (pos 0) other ∙ rests k less one)
+
+pub rests_all : (nth : ℕ) (ms : List ℕ) (ts : List ℤ) → length ts ≡ length ms → length ms ≤ nth → RestsBelow nth ms ts → RestsAtOnes ms ts
+rests_all nth ms ts e done rests a one = rests a (let on = one_within ms a one in omega (arith, done, on)) one
 
 -- any strides serve a shape without elements
 pub Serves-empty : (o : Order) (ns : List ℕ) (ss : List ℤ) (ms : List ℕ) (ts : List ℤ) → size_of ms ≡ 0 → length ts ≡ length ms → Serves o ns ss ms ts

@@ -1,6 +1,6 @@
 -- What one element of a list of slices makes of the axis that it reads: a slice shortens it, an index keeps one
 -- coordinate of it, and a new axis has length 1 and stride 0.
-use Rattle.std.specs.Prelude.{ℕ, ◌<◌, ◌≡◌, true, ℤ, pos, ◌+ℤ◌, ◌*ℤ◌}
+use Rattle.std.specs.Prelude.{ℕ, ◌<◌, ◌≡◌, true, List, slice_index, slice_index_or, slice_set, ℤ, pos, ◌+ℤ◌, ◌*ℤ◌}
 use Rattle.std.specs.Option.{unwrap_or}
 use Rattle.nd_shape_and_slice.specs.declared.slice_info.SliceInfoElem.{SliceInfoElem}
 use Rattle.nd_shape_and_slice.specs.declared.slice_info.SliceInfoElem.TheVariants.{Slice as Part, Index, NewAxis}
@@ -26,6 +26,12 @@ abbrev pub stride_by : ℕ → ℤ → SliceInfoElem → ℤ
 stride_by n s (Part start end step) = stepped_stride (sliced_length n (record { start = start; end = end; step = step })) s step
 stride_by n s (Index k) = s
 stride_by n s NewAxis = pos 0
+
+-- what one element makes of the strides of the axes, where an indexed axis stays
+abbrev pub strides_with : List ℕ → List ℤ → ℕ → SliceInfoElem → List ℤ
+strides_with ns ss a (Part start end step) = slice_set ss a (stride_by (slice_index ns a) (slice_index_or ss a (pos 0)) (Part start end step))
+strides_with ns ss a (Index k) = ss
+strides_with ns ss a NewAxis = ss
 
 -- each coordinate of an axis of length n leads from the offset to a place
 abbrev pub LeadsToPlaces : ℕ → ℕ → ℤ → Type 0

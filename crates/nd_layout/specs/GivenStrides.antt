@@ -13,6 +13,11 @@ abbrev pub given_place : List ℕ → Order → Option (List ℤ) → List ℕ �
 given_place lengths order None i = pos (rank_in order lengths i)
 given_place lengths order (Some strides) i = place_of (reach_down lengths strides) strides i
 
+-- the offset: 0 in an order; by the caller's strides the first place that leaves room for the negative ones
+abbrev pub offset_given : List ℕ → Option (List ℤ) → ℕ
+offset_given lengths None = 0
+offset_given lengths (Some strides) = reach_down lengths strides
+
 -- the strides that an order gives
 abbrev pub ordered_strides : Order → List ℕ → List ℤ
 ordered_strides RowMajor lengths = c_strides lengths

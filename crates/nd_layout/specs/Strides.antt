@@ -1,10 +1,14 @@
 -- What each call makes of a list of strides, and how far strides reach to each side.
-use Rattle.std.specs.Prelude.{ℕ, suc, ◌+◌, ◌-◌, ◌*◌, ◌^◌, ◌<◌, nat_lt, nat_le, nat_eq, List, [], ◌∷◌, ◌++◌, drop, replicate, map, slice_set, slice_index, slice_index_or, ℤ, pos, negsuc, ◌+ℤ◌, ◌*ℤ◌, nat_abs, if◌then◌else◌}
+use Rattle.std.specs.Prelude.{ℕ, suc, ◌+◌, ◌-◌, ◌*◌, ◌^◌, ◌<◌, ◌≡◌, nat_lt, nat_le, nat_eq, List, [], ◌∷◌, ◌++◌, drop, replicate, map, slice_set, slice_index, slice_index_or, ℤ, pos, negsuc, ◌+ℤ◌, ◌*ℤ◌, nat_abs, if◌then◌else◌}
+use Rattle.std.specs.List.{remove}
 use Rattle.std.proofs.Math.IntN.{neg_ℤ}
 use Rattle.nd_shape_and_slice.specs.declared.slice.Slice.{Slice}
 use Rattle.nd_shape_and_slice.specs.Slice.{sliced_length}
 use Rattle.nd_shape_and_slice.specs.Maps.{diagonal_length}
 use Rattle.nd_shape_and_slice.specs.Broadcast.{axes_added}
+use Rattle.nd_shape_and_slice.specs.Squeeze.{stays, kept_of, goes_at}
+use Rattle.nd_shape_and_slice.specs.declared.slice_info.SliceInfoElem.{SliceInfoElem}
+use Rattle.nd_shape_and_slice.specs.declared.slice_info.SliceInfoElem.TheVariants.{Slice as Part, Index, NewAxis}
 
 -- the strides in the order of the axes: at k the stride of the k-th of the axes
 abbrev pub permuted_strides : List ℕ → List ℤ → List ℤ
@@ -53,9 +57,50 @@ FitsStride z = nat_abs z < 2 ^ 63
 abbrev pub sliced_strides : List ℕ → List ℤ → ℕ → Slice → List ℤ
 sliced_strides ns ss a s = slice_set ss a (stepped_stride (sliced_length (slice_index ns a) s) (slice_index_or ss a (pos 0)) s.step)
 
+-- a slice for each axis: each stride by the step of its slice
+abbrev pub each_sliced_strides : List ℕ → List ℤ → List Slice → List ℤ
+each_sliced_strides ns ss [] = ss
+each_sliced_strides [] ss (y ∷ ys) = []
+each_sliced_strides (n ∷ ns) [] (y ∷ ys) = []
+each_sliced_strides (n ∷ ns) (s ∷ ss) (y ∷ ys) = stepped_stride (sliced_length n y) s y.step ∷ each_sliced_strides ns ss ys
+
+-- a list of slices: a slice steps along its axis, an index takes its axis away, and a new axis has stride 0
+abbrev pub strides_after : List ℕ → List ℤ → List SliceInfoElem → List ℤ
+strides_after ns ss [] = []
+strides_after [] ss (Part start end step ∷ es) = strides_after [] ss es
+strides_after (n ∷ ns) [] (Part start end step ∷ es) = strides_after ns [] es
+strides_after (n ∷ ns) (s ∷ ss) (Part start end step ∷ es) = stepped_stride (sliced_length n (record { start = start; end = end; step = step })) s step ∷ strides_after ns ss es
+strides_after [] ss (Index k ∷ es) = strides_after [] ss es
+strides_after (n ∷ ns) [] (Index k ∷ es) = strides_after ns [] es
+strides_after (n ∷ ns) (s ∷ ss) (Index k ∷ es) = strides_after ns ss es
+strides_after ns ss (NewAxis ∷ es) = pos 0 ∷ strides_after ns ss es
+
+-- the same where an indexed axis stays with length 1: it keeps its stride
+abbrev pub collapsed_strides : List ℕ → List ℤ → List SliceInfoElem → List ℤ
+collapsed_strides ns ss [] = ss
+collapsed_strides [] ss (Part start end step ∷ es) = []
+collapsed_strides (n ∷ ns) [] (Part start end step ∷ es) = []
+collapsed_strides (n ∷ ns) (s ∷ ss) (Part start end step ∷ es) = stepped_stride (sliced_length n (record { start = start; end = end; step = step })) s step ∷ collapsed_strides ns ss es
+collapsed_strides [] ss (Index k ∷ es) = []
+collapsed_strides (n ∷ ns) [] (Index k ∷ es) = []
+collapsed_strides (n ∷ ns) (s ∷ ss) (Index k ∷ es) = s ∷ collapsed_strides ns ss es
+collapsed_strides ns ss (NewAxis ∷ es) = collapsed_strides ns ss es
+
+-- a squeeze: the strides of the axes that stay
+abbrev pub squeezed_strides : List ℕ → List ℤ → List ℤ
+squeezed_strides ns ss = kept_of (stays ns) ss
+
+-- one axis considered
+abbrev pub strides_squeezed_at : List ℕ → List ℤ → ℕ → List ℤ
+strides_squeezed_at ns ss a = if goes_at ns a then remove ss a else ss
+
 -- the diagonal: the sum of strides, 0 where its length is at most 1
 abbrev pub diagonal_stride : List ℕ → List ℤ → ℤ
 diagonal_stride ns ss = if nat_le (diagonal_length ns) 1 then pos 0 else sum_of ss
+
+-- each axis of length 1 has stride 0
+abbrev pub RestsAtOnes : List ℕ → List ℤ → Type 0
+RestsAtOnes ns ss = (a : ℕ) → slice_index ns a ≡ 1 → slice_index_or ss a (pos 0) ≡ pos 0
 
 -- a broadcast: 0 for each axis that has grown
 abbrev pub stretched_strides : List ℕ → List ℤ → List ℕ → List ℤ

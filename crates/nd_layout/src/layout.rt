@@ -1,7 +1,8 @@
 //! Where the elements of an array lie: an offset, lengths and strides.
 
-ghost use Rattle.std.specs.Prelude.{◌≡◌, ◌<◌, ◌^◌, ℕ, Bool, true, false, List, length, pos, MatchOption};
-ghost use Rattle.nd_shape_and_slice.specs.Shape.{in_box, nonzero_product, HasCheckedSize};
+ghost use Rattle.std.specs.Prelude.{◌↔◌, ◌≡◌, ◌<◌, ◌^◌, ℕ, Bool, true, false, List, length, pos, MatchOption, IsNone};
+ghost use Rattle.nd_shape_and_slice.specs.Shape.{in_box, size_of, nonzero_product, HasCheckedSize};
+ghost use Rattle.nd_shape_and_slice.specs.FirstIndex.{first_index};
 ghost use Rattle.nd_shape_and_slice.specs.Place.{place_of, span_of};
 ghost use Rattle.nd_layout.specs.GivenStrides.{ordered_strides};
 ghost use Rattle.nd_layout.specs.Places.{is_place};
@@ -17,7 +18,7 @@ mod slicing;
 mod squeeze;
 
 use given::strides_in;
-use nd_shape_and_slice::{Dimension, Order, StrideList};
+use nd_shape_and_slice::{Dimension, Order, StrideList, is_empty_shape};
 use places::{is_in_box, place_at};
 use std::alloc::AllocError;
 
@@ -100,6 +101,20 @@ impl<D: Dimension, T: StrideList> Layout<D, T> {
             None
         }
     }
+
+    /// The place of the index of zeros, None exactly where the layout has no index.
+    #[tactic(auto, using(crate::proofs::FirstPlace::first_is_offset, crate::proofs::FirstPlace::first_outside, crate::proofs::FirstPlace::first_inside))]
+    pub fn first_place(&self) -> Option<usize>
+        ensures place { MatchOption result (in_box (D.lengths self.now.dim) (first_index (D.lengths self.now.dim)) ≡ false) (λ place. (in_box (D.lengths self.now.dim) (first_index (D.lengths self.now.dim)) ≡ true) × (pos place ≡ place_of self.now.offset (T.strides_of self.now.strides) (first_index (D.lengths self.now.dim)))) }
+        ensures none { IsNone result ↔ (size_of (D.lengths self.now.dim) ≡ 0) }
+    {
+        if is_empty_shape(self.dim.slice()) {
+            None
+        } else {
+            Some(self.offset)
+        }
+    }
+
     /// The place of an index of the box.
     pub fn place_in_box(&self, index: &[usize]) -> usize
         requires { in_box (D.lengths self.now.dim) index.now ≡ true }

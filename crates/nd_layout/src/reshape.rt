@@ -1,9 +1,10 @@
 //! Strides under which another shape names the same places in the same order.
 
-ghost use Rattle.std.specs.Prelude.{◌↔◌, ◌≡◌, ◌<◌, ◌≤◌, ◌^◌, ◌-◌, ◌*◌, ◌%◌, ◌+◌, ◌*ℤ◌, ℕ, ℤ, pos, List, ◌∷◌, length, drop, replicate, IsTrue, MatchOption, slice_index, slice_index_or, slice_set, nat_abs};
+ghost use Rattle.std.specs.Prelude.{◌↔◌, ◌≡◌, ◌<◌, ◌≤◌, ◌^◌, ◌-◌, ◌*◌, ◌%◌, ◌+◌, ◌*ℤ◌, ℕ, ℤ, pos, List, ◌∷◌, length, drop, replicate, IsTrue, IfSome, MatchOption, slice_index, slice_index_or, slice_set, nat_abs};
 ghost use Rattle.nd_shape_and_slice.specs.Shape.{size_of};
 ghost use Rattle.nd_shape_and_slice.specs.Place.{span_of, IsSeparated};
 ghost use Rattle.nd_layout.specs.Ranks.{fastest_first, axis_in, Serves, ServesRanks, Regroups};
+ghost use Rattle.nd_layout.specs.Strides.{RestsAtOnes};
 ghost use Rattle.nd_layout.specs.Groups.{IsClosed, TakesLength};
 
 use crate::ordered::{length_at, put_at, stride_at};
@@ -170,9 +171,10 @@ fn take_length(
     requires small { group.length * size_of (drop group.next (fastest_first order lengths.now)) < 2 ^ 63 }
     requires fits { (group.length - 1) * nat_abs group.step + span_of (drop group.next (fastest_first order lengths.now)) (drop group.next (fastest_first order strides.now)) < 2 ^ 63 }
     requires closed { IsClosed group (fastest_first order lengths.now) (fastest_first order strides.now) }
-    ensures { MatchOption result
+    ensures taken { MatchOption result
         ((ms : List ℕ) (ts : List ℤ) → len * size_of ms ≡ group.length * size_of (drop group.next (fastest_first order lengths.now)) → ServesRanks (group.length ∷ drop group.next (fastest_first order lengths.now)) (group.step ∷ drop group.next (fastest_first order strides.now)) (len ∷ ms) ts → ⊥)
         (λ r. TakesLength (fastest_first order lengths.now) (fastest_first order strides.now) group len r.0 r.1 × (r.1.next ≤ length lengths.now) × IsClosed r.1 (fastest_first order lengths.now) (fastest_first order strides.now)) }
+    ensures rests { len ≡ 1 → IfSome result (λ r. r.0 ≡ pos 0) }
 {
     if len == 1 {
         return Some((0, group));
@@ -180,8 +182,8 @@ fn take_length(
     split_group(filled_group(lengths, strides, order, group), len)
 }
 
-/// Strides that give the new lengths the same places in the same order, written into `out`. Returns false exactly if no
-/// integers do; `out` is then of no use.
+/// Strides that give the new lengths the same places in the same order, written into `out`. A new axis of length 1
+/// gets stride 0. Returns false exactly if no integers do; `out` is then of no use.
 pub fn reshape_strides(
     lengths: &[usize],
     strides: &[isize],
@@ -200,6 +202,7 @@ pub fn reshape_strides(
     ensures serves { IsTrue result → Serves order lengths.now strides.now new.now out.new }
     ensures span { IsTrue result → span_of new.now out.new ≤ span_of lengths.now strides.now }
     ensures separated { IsTrue result → 0 < size_of new.now → IsSeparated lengths.now strides.now → IsSeparated new.now out.new }
+    ensures rests { IsTrue result → RestsAtOnes new.now out.new }
     ensures empty { size_of new.now ≡ 0 → out.new ≡ replicate (length new.now) (pos 0) }
 {
     if is_empty_shape(new) {

@@ -3,6 +3,7 @@ pub mod Lent
 pub mod Loans
 pub mod Memory
 pub mod Names
+pub mod PartLoans
 pub mod Parts
 pub mod Rejoined
 pub mod RunLoans

@@ -1,4 +1,5 @@
--- What `split` does that no machine sees: which places it moves, and which it leaves.
+-- What `split` and `into_part` do that no machine sees: which places one moves, and which it leaves; which ones the other
+-- goes on with.
 use mathlib.Core.Bool.{Bool, not}
 use Prim.Native.Nat.{ℕ}
 use mathlib.Core.List.{List}
@@ -10,3 +11,6 @@ moves offset ns ss p = names offset ns ss p
 
 abbrev pub leaves : ℕ → List ℕ → List ℤ → ℕ → Bool
 leaves offset ns ss p = not (moves offset ns ss p)
+
+abbrev pub goes_on_with : ℕ → List ℕ → List ℤ → ℕ → Bool
+goes_on_with offset ns ss p = names offset ns ss p

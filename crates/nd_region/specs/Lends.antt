@@ -1,12 +1,12 @@
 -- What a lender ends as, once a borrow of a region's elements is over.
-use Rattle.std.specs.Prelude.{ℕ, List, [], length, slice_set}
+use Rattle.std.specs.Prelude.{ℕ, Bool, List, [], length, slice_set}
 use Rattle.std.specs.Borrow.{Fml, RattleType, MutBor, Array, follows}
 use denote.Follow.{follows_both}
 use Rattle.std.specs.Simd.{first_chunks}
 use mir.Syntax.{named}
 use Rattle.nd_region.specs.declared.region.Region.{Region}
 use Rattle.nd_region.specs.Region.{with_items, with_element, with_run}
-use Rattle.nd_region.specs.Places.{merged_rows, run_written}
+use Rattle.nd_region.specs.Places.{merged_rows, run_written, written_where}
 use Rattle.nd_region.specs.Memory.{ends_as}
 use Rattle.nd_region.specs.contracts.region.Region.{the_row}
 
@@ -29,6 +29,10 @@ region_follows R s r = follows (the_row (record { mir = named 1; lft = [] }) R) 
 -- the region's borrow ends with what is left behind the reference at the place
 abbrev pub borrow_follows : (R : RattleType) → Region R.Denot → ℕ → MutBor R.Denot → Fml
 borrow_follows R r p x = follows (Array R 0) R r.name x.ghost_name (λ w. slice_set r.items p w)
+
+-- the region's borrow ends with what the part ends with at the places that pass the test, and else with what it held
+abbrev pub borrow_part_follows : (R : RattleType) → Region R.Denot → (ℕ → Bool) → Region R.Denot → Fml
+borrow_part_follows R r test x = follows (Array R 0) (Array R 0) r.name x.name (written_where test r.items)
 
 -- the region ends with what is left behind the slice at the n places from p on
 abbrev pub run_follows : (R : RattleType) → MutBor (Region R.Denot) → ℕ → ℕ → MutBor (List R.Denot) → Fml

@@ -24,6 +24,12 @@ module _ {A : Type 0} where
   merged_rows (f ∷ fs) (x ∷ xs) [] = []
   merged_rows (f ∷ fs) (x ∷ xs) (y ∷ ys) = (if f then x else y) ∷ merged_rows fs xs ys
 
+  -- a row once its elements at the places that pass a test are those of ws, where these go on so far
+  abbrev pub written_where : (ℕ → Bool) → List A → List A → List A
+  written_where test [] ws = []
+  written_where test (x ∷ xs) [] = x ∷ xs
+  written_where test (x ∷ xs) (w ∷ ws) = (if test zero then w else x) ∷ written_where (λ k. test (suc k)) xs ws
+
   -- a row once n elements of it, from p on, are ws
   abbrev pub run_written : List A → ℕ → ℕ → List A → List A
   run_written xs p n ws = take p xs ++ (ws ++ drop (p + n) xs)

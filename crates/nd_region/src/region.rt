@@ -28,7 +28,7 @@ impl<'a, A> Model for Region<'a, A> {
 
 impl<'a, A> Region<'a, A> {
     ghost use Rattle.nd_region.specs.Region.{region_stored, with_element, IsSameMap, IsWhole, IsPartWhere, HasPlaces, HasRun, IsRunOf};
-    ghost use Rattle.nd_region.specs.Lends.{rows_follow, slice_follows, place_follows, parts_follow, region_follows, borrow_follows, run_follows, borrow_run_follows, keeps_elements};
+    ghost use Rattle.nd_region.specs.Lends.{rows_follow, slice_follows, place_follows, parts_follow, region_follows, borrow_follows, borrow_part_follows, run_follows, borrow_run_follows, keeps_elements};
 
     /// The region of a slice, with all its places.
     pub fn from_slice(slice: &'a mut [A]) -> Region<'a, A>
@@ -125,6 +125,17 @@ impl<'a, A> Region<'a, A> {
     where
         'a: 'b,
         ensures { result ≡ self.entry }
+    {
+        self
+    }
+
+    /// The part of the region with the places that the layout names, for as long as the region's borrow lasts. They keep
+    /// their numbers, and the other places their elements.
+    pub fn into_part(self, offset: usize, lengths: &[usize], strides: &[isize]) -> Region<'a, A>
+        requires as_many { length lengths.now ≡ length strides.now }
+        requires within { HasPlaces self offset lengths.now strides.now }
+        ensures* follows { sem 𝓛 (borrow_part_follows A.row self.entry (names offset lengths.now strides.now) result) }
+        ensures taken { IsPartWhere (names offset lengths.now strides.now) self.entry result }
     {
         self
     }

@@ -4,7 +4,7 @@ use Rattle.nd_shape_and_slice.specs.Axes.{names_each_axis, permuted_list, unperm
 use Rattle.nd_shape_and_slice.specs.Slice.{fits_axis, sliced_shape, sliced_index}
 use Rattle.nd_shape_and_slice.specs.declared.slice_info.SliceInfoElem.{SliceInfoElem}
 use Rattle.nd_shape_and_slice.specs.declared.slice_info.SliceInfoElem.TheVariants.{Slice as Part, Index, NewAxis}
-use Rattle.nd_shape_and_slice.specs.SliceInfo.{reads_axis, axes_read, axes_kept, coordinate_on, shape_after, index_before}
+use Rattle.nd_shape_and_slice.specs.SliceInfo.{axes_read, axes_kept, coordinate_on, shape_after, index_before}
 use Rattle.nd_shape_and_slice.specs.Squeeze.{squeezed_shape, squeezed_index}
 use Rattle.nd_shape_and_slice.specs.Broadcast.{broadcasts, broadcast_index}
 use Rattle.nd_shape_and_slice.specs.Maps.{inverted_index, collapsed_shape, collapsed_index, indexed_shape, indexed_index, inserted_shape, inserted_index, diagonal_length, diagonal_index}
@@ -26,10 +26,6 @@ has_axis axis ns = (nat_lt axis (length ns), causes.Axis)
 
 abbrev pub has_coordinate : ℕ → ℕ → List ℕ → Test
 has_coordinate axis index ns = (nat_lt index (slice_index ns axis), causes.Index)
-
--- how many axes an element reads
-abbrev pub reads : SliceInfoElem → ℕ
-reads e = if reads_axis e then 1 else 0
 
 -- the tests of a list's elements, which read the axes from this one on
 abbrev pub element_tests : ℕ → List ℕ → List SliceInfoElem → List Test

@@ -5,14 +5,14 @@ ghost use Rattle.nd_shape_and_slice.specs.Axes.{names_each_axis, permuted_list, 
 ghost use Rattle.nd_array_core.specs.Meaning.{shape_of, element_at, inside, meaning_of, storage_of, place_at};
 ghost use Rattle.nd_shape_and_slice.specs.SliceInfo.{reads_axis, axes_read};
 ghost use Rattle.nd_run.specs.Calls.{asked_step, SlicedAxis, Sliced, BroadcastTo, Indexed, Permuted, Exchanged, Inverted, Inserted};
-ghost use Rattle.nd_run.specs.Steps.{first_failed, element_tests, reads, refusal, keep_refusal, step_shape, step_index};
+ghost use Rattle.nd_run.specs.Steps.{first_failed, element_tests, refusal, keep_refusal, step_shape, step_index};
 ghost use Rattle.nd_run.specs.Fold.{step_result};
 
 use crate::calls::Step;
 use crate::cause::Cause;
 use nd_array_core::{ArrayBase, ArrayView, Data};
 use nd_shape_and_slice::{
-    Axis, IxDyn, MAX_AXES, Slice, SliceInfoElem, axes_fit, axes_kept, axes_read,
+    Axis, IxDyn, MAX_AXES, Slice, SliceInfoElem, axes_fit, axes_kept, axes_read, axis_after,
     coordinate_on_axis, slice_fits,
 };
 
@@ -52,14 +52,6 @@ fn element_refusal(shape: &[usize], axis: usize, element: SliceInfoElem) -> Opti
     }
 }
 
-/// The axis that is read after an element.
-fn axis_past(axis: usize, element: SliceInfoElem) -> usize
-    requires { axis + reads element < 2 ^ 64 }
-    ensures { result ≡ axis + reads element }
-{
-    if element.reads_axis() { axis + 1 } else { axis }
-}
-
 /// The first cause for which one refuses an element of a list that reads each axis.
 fn first_element_refusal(shape: &[usize], elements: &[SliceInfoElem]) -> Option<Cause>
     requires { axes_read elements.now ≡ length shape.now }
@@ -71,7 +63,7 @@ fn first_element_refusal(shape: &[usize], elements: &[SliceInfoElem]) -> Option<
         if refused.is_some() {
             return refused;
         }
-        axis = axis_past(axis, *element);
+        axis = axis_after(axis, *element);
     }
     None
 }

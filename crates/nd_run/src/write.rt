@@ -4,7 +4,7 @@ ghost use Rattle.std.specs.Prelude.{◌≡◌, ◌||◌, ℕ, true, List, map, O
 ghost use Rattle.nd_shape_and_slice.specs.Shape.{in_box};
 ghost use Rattle.nd_array_core.specs.Meaning.{shape_of, element_at, meaning_of, storage_of, place_at, placed_array, inside};
 ghost use Rattle.nd_array_core.specs.base.Writes.{OthersStay};
-ghost use Rattle.nd_array_core.specs.scoped.Tasks.{view_borrow, lent_borrow, lent_view, view_left, CanBeSeen};
+ghost use Rattle.nd_array_core.specs.scoped.Tasks.{view_frame, lent_frame, lent_view, view_left, CanBeSeen};
 ghost use Rattle.nd_run.specs.Calls.{asked_step, acting, said_reply, Writing, SplitWriting};
 ghost use Rattle.nd_run.specs.Acts.{act_refusal, acted_elements, clones, path_refusal, write_refusal, parts_refusal, place_refusal};
 ghost use Rattle.nd_run.specs.Placing.{meaning_in, places_in, Leaves, acted_elements_unless, WritesThrough, WritesParts, said_unless};
@@ -78,7 +78,7 @@ where
     ensures elements { IfOk result (λ _. (i : List ℕ) → element_at array.new i ≡ acted_elements (acting act.now) (meaning_of array.old) i) }
     ensures places { (i : List ℕ) → place_at array.new i ≡ place_at array.old i }
     ensures others { OthersStay (place_at array.old) (S.stored (storage_of array.old)) (S.stored (storage_of array.new)) }
-    ensures borrow { S.borrow (storage_of array.new) ≡ S.borrow (storage_of array.old) }
+    ensures frame { S.frame (storage_of array.new) ≡ S.frame (storage_of array.old) }
     ensures memory { OnErr result (clones (acting act.now) ≡ true) }
 {
     match act {
@@ -110,7 +110,7 @@ where
     ensures refused { IfOk result.1 (λ refused. refused ≡ write_refusal (map asked_step path.now) (acting act.now) (shape_of array)) }
     ensures elements { IfOk result.1 (λ refused. Leaves (placed_array array) (placed_array result.0) (meaning_after (Writing (map asked_step path.now) (acting act.now)) (meaning_in (placed_array array))).at) }
     ensures memory { OnErr result.1 (MayLackMemory (Writing (map asked_step path.now) (acting act.now)) (meaning_in (placed_array array))) }
-    ensures borrow { S.borrow (storage_of result.0) ≡ S.borrow (storage_of array) }
+    ensures frame { S.frame (storage_of result.0) ≡ S.frame (storage_of array) }
 {
     elements_have_places(&array);
     distinct_places(&array);
@@ -146,8 +146,8 @@ where
     ensures upper { IfOk result (λ refused. (i : List ℕ) → element_at upper.new i ≡ acted_elements_unless refused (acting second.now) (meaning_of upper.old) i) }
     ensures lower_places { (i : List ℕ) → place_at lower.new i ≡ place_at lower.old i }
     ensures upper_places { (i : List ℕ) → place_at upper.new i ≡ place_at upper.old i }
-    ensures lower_borrow { S.borrow (storage_of lower.new) ≡ S.borrow (storage_of lower.old) }
-    ensures upper_borrow { S.borrow (storage_of upper.new) ≡ S.borrow (storage_of upper.old) }
+    ensures lower_frame { S.frame (storage_of lower.new) ≡ S.frame (storage_of lower.old) }
+    ensures upper_frame { S.frame (storage_of upper.new) ≡ S.frame (storage_of upper.old) }
     ensures allowed { OnErr result (parts_refusal (acting first.now) (acting second.now) (shape_of lower.old) (shape_of upper.old) ≡ None) }
     ensures memory { OnErr result ((clones (acting first.now) || clones (acting second.now)) ≡ true) }
 {
@@ -179,8 +179,8 @@ where
     S::Elem: Clone + Drop,
     requires { (x y : S.Elem) → S.Elem.is_clone x y → y ≡ x }
     ensures done { WritesParts (acting first.now) (acting second.now) (placed_array lower) (placed_array upper) (placed_array result.0) (placed_array result.1) result.2 }
-    ensures lower_borrow { S.borrow (storage_of result.0) ≡ S.borrow (storage_of lower) }
-    ensures upper_borrow { S.borrow (storage_of result.1) ≡ S.borrow (storage_of upper) }
+    ensures lower_frame { S.frame (storage_of result.0) ≡ S.frame (storage_of lower) }
+    ensures upper_frame { S.frame (storage_of result.1) ≡ S.frame (storage_of upper) }
 {
     let mut lower = lower;
     let mut upper = upper;
@@ -212,7 +212,7 @@ impl<'p, A: Clone + Drop, D: Dimension> ViewTask<A, D> for ActAlong<'p, A> {
     ) -> (ViewMutRepr<'_, A>, Result<Option<Cause>, AllocError>)
         requires sound { CanBeSeen D.lengths D.Strides.strides_of lent }
         requires pre { (x y : A) → A.is_clone x y → y ≡ x }
-        ensures borrow { view_borrow result.0 ≡ lent_borrow lent.entry }
+        ensures frame { view_frame result.0 ≡ lent_frame lent.entry }
         ensures done { WritesThrough (map asked_step self.entry.path.now) (acting self.entry.act.now) (lent_view D.lengths D.Strides.strides_of lent.entry) (view_left D.lengths D.Strides.strides_of lent.entry result.0) result.1 }
     {
         let view = lent.into_view().into_dyn();
@@ -248,8 +248,8 @@ impl<'p, A: Clone + Drop, D: Dimension> PairTask<A, D, D> for ActOnParts<'p, A> 
         requires one { CanBeSeen D.lengths D.Strides.strides_of one }
         requires two { CanBeSeen D.lengths D.Strides.strides_of two }
         requires pre { (x y : A) → A.is_clone x y → y ≡ x }
-        ensures one_borrow { view_borrow result.0 ≡ lent_borrow one.entry }
-        ensures two_borrow { view_borrow result.1 ≡ lent_borrow two.entry }
+        ensures one_frame { view_frame result.0 ≡ lent_frame one.entry }
+        ensures two_frame { view_frame result.1 ≡ lent_frame two.entry }
         ensures done { WritesParts (acting self.entry.first.now) (acting self.entry.second.now) (lent_view D.lengths D.Strides.strides_of one.entry) (lent_view D.lengths D.Strides.strides_of two.entry) (view_left D.lengths D.Strides.strides_of one.entry result.0) (view_left D.lengths D.Strides.strides_of two.entry result.1) result.2 }
     {
         let lower = one.into_view().into_dyn();

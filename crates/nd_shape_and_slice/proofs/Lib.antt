@@ -17,3 +17,4 @@ pub mod FillLoop
 pub mod PermuteLoop
 pub mod SeenAxes
 pub mod EntryLoops
+pub mod NamedIndexes

@@ -27,3 +27,7 @@ AnswersAre step f [] [] last = f ≡ last
 AnswersAre step f [] (s ∷ ss) last = ⊥
 AnswersAre step f (d ∷ ds) [] last = ⊥
 AnswersAre {F} step f (d ∷ ds) (s ∷ ss) last = (g : F) × step f d s g × AnswersAre step g ds ss last
+
+-- asked of these axes in turn it answers slices of which this holds
+abbrev pub AnswersGive : {F : Type 0} → (F → AxisDescription → Slice → F → Type 0) → F → List AxisDescription → (List Slice → Type 0) → Type 0
+AnswersGive {F} step f axes holds = (slices : List Slice) × (last : F) × AnswersAre step f axes slices last × holds slices

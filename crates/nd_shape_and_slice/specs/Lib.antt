@@ -1,4 +1,5 @@
 pub mod Shape
+pub mod FirstIndex
 pub mod Slice
 pub mod Axes
 pub mod Place
@@ -13,3 +14,5 @@ pub mod EachAxis
 pub mod Squeeze
 pub mod Broadcast
 pub mod AxesLeft
+pub mod Ranges
+pub mod Naming

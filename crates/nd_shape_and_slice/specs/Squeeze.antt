@@ -17,11 +17,11 @@ stays [] = []
 stays (n ∷ ns) = (isnt_one n || all_one ns) ∷ map isnt_one ns
 
 -- the items of the axes that stay
-abbrev pub kept_of : List Bool → List ℕ → List ℕ
-kept_of [] ns = []
+abbrev pub kept_of : {A : Type 0} → List Bool → List A → List A
+kept_of [] xs = []
 kept_of (b ∷ bs) [] = []
-kept_of (true ∷ bs) (n ∷ ns) = n ∷ kept_of bs ns
-kept_of (false ∷ bs) (n ∷ ns) = kept_of bs ns
+kept_of (true ∷ bs) (x ∷ xs) = x ∷ kept_of bs xs
+kept_of (false ∷ bs) (x ∷ xs) = kept_of bs xs
 
 -- the coordinates of the axes that stay, and 0 at those that went
 abbrev pub spread_over : List Bool → List ℕ → List ℕ

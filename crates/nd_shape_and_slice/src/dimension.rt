@@ -95,6 +95,12 @@ pub trait Dimension: AxisCount + Copy {
     fn from_lengths(list: &[usize]) -> Option<Self>
         ensures { MatchOption result (has_axes (length list.now) ≡ false) (λ d. lengths d ≡ list.now) };
 
+    /// The dimension with this many axes, each of length 0. It can have so many. ndarray's `Dimension::zeros`.
+    fn zeros(count: usize) -> Self
+        requires number { has_axes count ≡ true }
+        requires few { count ≤ 32 }
+        ensures { lengths result ≡ replicate count 0 };
+
     /// Strides of 0, as many as there are axes.
     fn zero_strides(&self) -> Self::Strides
         ensures { Self.Strides.strides_of result ≡ replicate (length (lengths self.now)) (pos 0) };

@@ -94,6 +94,14 @@ impl Dimension for IxDyn {
         }
     }
 
+    #[inline]
+    fn zeros(count: usize) -> Self {
+        IxDyn {
+            lens: [0; 32],
+            count,
+        }
+    }
+
     fn into_pattern(self) -> IxDyn {
         self
     }

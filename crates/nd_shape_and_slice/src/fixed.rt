@@ -87,6 +87,11 @@ where
         }
     }
 
+    #[inline]
+    fn zeros(_count: usize) -> Self {
+        Dim { lens: [0; N] }
+    }
+
     fn into_pattern(self) -> Self::Pattern {
         <Dim<N> as FixedAxes<N>>::pattern_of(self.lens)
     }

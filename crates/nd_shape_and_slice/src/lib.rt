@@ -11,6 +11,7 @@ mod errors;
 mod fixed;
 mod index;
 mod meeting;
+mod ranges;
 mod rank;
 mod resize;
 mod size;

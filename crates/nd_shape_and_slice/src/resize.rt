@@ -4,7 +4,7 @@ ghost use Rattle.std.specs.Prelude.{◌≡◌, ◌≤◌, ◌<◌, ◌+◌, ◌-
 ghost use Rattle.std.specs.List.{remove, insert};
 
 use crate::axes::Axis;
-use crate::dimension::Dimension;
+use crate::dimension::{Dimension, MAX_AXES};
 use crate::dynamic::IxDyn;
 use crate::fixed::Dim;
 
@@ -104,62 +104,6 @@ impl RemoveAxis for Dim<6> {
     }
 }
 
-impl InsertAxis for Dim<0> {
-    fn insert_axis(&self, axis: Axis) -> Dim<1> {
-        let mut lengths = [0; 1];
-        copy_with(self.slice(), axis.0, &mut lengths);
-        Dim::new(lengths)
-    }
-}
-
-impl InsertAxis for Dim<1> {
-    fn insert_axis(&self, axis: Axis) -> Dim<2> {
-        let mut lengths = [0; 2];
-        copy_with(self.slice(), axis.0, &mut lengths);
-        Dim::new(lengths)
-    }
-}
-
-impl InsertAxis for Dim<2> {
-    fn insert_axis(&self, axis: Axis) -> Dim<3> {
-        let mut lengths = [0; 3];
-        copy_with(self.slice(), axis.0, &mut lengths);
-        Dim::new(lengths)
-    }
-}
-
-impl InsertAxis for Dim<3> {
-    fn insert_axis(&self, axis: Axis) -> Dim<4> {
-        let mut lengths = [0; 4];
-        copy_with(self.slice(), axis.0, &mut lengths);
-        Dim::new(lengths)
-    }
-}
-
-impl InsertAxis for Dim<4> {
-    fn insert_axis(&self, axis: Axis) -> Dim<5> {
-        let mut lengths = [0; 5];
-        copy_with(self.slice(), axis.0, &mut lengths);
-        Dim::new(lengths)
-    }
-}
-
-impl InsertAxis for Dim<5> {
-    fn insert_axis(&self, axis: Axis) -> Dim<6> {
-        let mut lengths = [0; 6];
-        copy_with(self.slice(), axis.0, &mut lengths);
-        Dim::new(lengths)
-    }
-}
-
-impl InsertAxis for Dim<6> {
-    fn insert_axis(&self, axis: Axis) -> IxDyn {
-        let mut lengths = [0; 7];
-        copy_with(self.slice(), axis.0, &mut lengths);
-        IxDyn::new(&lengths)
-    }
-}
-
 impl RemoveAxis for IxDyn {
     fn remove_axis(&self, axis: Axis) -> IxDyn {
         let mut lengths = [0; 32];
@@ -169,11 +113,14 @@ impl RemoveAxis for IxDyn {
     }
 }
 
-impl InsertAxis for IxDyn {
-    fn insert_axis(&self, axis: Axis) -> IxDyn {
-        let mut lengths = [0; 32];
+impl<D: Dimension> InsertAxis for D
+where
+    D::Larger: Dimension,
+{
+    fn insert_axis(&self, axis: Axis) -> D::Larger {
+        let mut lengths = [0; MAX_AXES + 1];
         let count = self.ndim() + 1;
         copy_with(self.slice(), axis.0, &mut lengths[..count]);
-        IxDyn::new(&lengths[..count])
+        D::Larger::from_lengths(&lengths[..count]).unwrap()
     }
 }

@@ -77,14 +77,15 @@ fn end_on_axis(len: usize, end: Option<isize>) -> Option<usize>
     }
 }
 
-/// How many coordinates a step names in a range. Most steps are 1 or -1, and then nothing is divided.
+/// How many coordinates a step names in a range. Most steps are 1 or -1, and then nothing is divided. With `<=` the
+/// compiler sees that no divisor is 0.
 #[tactic(auto, using(crate::proofs::Steps::div_ceil_is, crate::proofs::Steps::quotient_by_one))]
 fn steps_in(range: usize, step: isize) -> usize
     requires { 0 < nat_abs step }
     ensures { result ≡ quotient_up range (nat_abs step) }
 {
     let distance = step.unsigned_abs();
-    if distance == 1 {
+    if distance <= 1 {
         range
     } else {
         range.div_ceil(distance)

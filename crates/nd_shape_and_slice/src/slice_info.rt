@@ -55,7 +55,9 @@ pub fn axes_read(elements: &[SliceInfoElem]) -> usize
         .count()
 }
 
-/// How many axes the list leaves.
+/// How many axes the list leaves. It isn't inlined: without a loop before them, arrays that a caller fills are filled
+/// once.
+#[inline(never)]
 pub fn axes_kept(elements: &[SliceInfoElem]) -> usize
     ensures { result ≡ axes_kept elements.now }
 {
@@ -191,6 +193,19 @@ impl<'e, In: Dimension, Out: Dimension> SliceInfo<'e, In, Out> {
             })
         } else {
             Err(ShapeError::from_kind(ErrorKind::IncompatibleShape))
+        }
+    }
+
+    /// The list, which reads as many axes as `In` may have and leaves as many as `Out` may, 32 at most. ndarray's
+    /// `SliceInfo::new_unchecked`, which is unsafe there.
+    pub fn new_unchecked(elements: &'e [SliceInfoElem]) -> Self
+        requires { has_counts In.has_axes Out.has_axes elements.now ≡ true }
+        ensures { result.elements.now ≡ elements.now }
+    {
+        SliceInfo {
+            elements,
+            takes: PhantomData,
+            gives: PhantomData,
         }
     }
 }

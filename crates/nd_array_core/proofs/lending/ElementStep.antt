@@ -3,7 +3,6 @@ use Rattle.std.proofs.Common.{◌≡◌, ℕ, ◌<◌, Bool, true, false, List, 
 use Rattle.std.proofs.Props.{props}
 use mathlib.Core.HLevel.{is_prop→PathP}
 use Rattle.std.specs.Prelude.{nat_abs, nat_eq, Option, Some, is_some, if◌then◌else◌}
-use Rattle.std.specs.Borrow.{GName}
 use Rattle.std.specs.Cmp.{unsigned_Decides}
 use Rattle.nd_shape_and_slice.specs.Shape.{in_box, size_of}
 use Rattle.nd_shape_and_slice.specs.Place.{place_of, IsSeparated}
@@ -14,10 +13,11 @@ use Rattle.nd_array_core.specs.declared.base.storage.Data as data_trait
 use Rattle.nd_array_core.specs.declared.base.array.ArrayBase.{ArrayBase}
 use Rattle.nd_array_core.specs.Places.{names_place, written_at, place_number}
 use Rattle.nd_array_core.specs.Meaning.{shape_of, inside, meaning_of, memory_layout_of}
-use Rattle.nd_array_core.specs.base.Writes.{OthersStay}
+use Rattle.nd_array_core.specs.base.Writes.{OthersStay, IsWrittenAt}
 use Rattle.nd_array_core.proofs.WriteStep.{written_element}
 use Rattle.nd_array_core.specs.base.ElementMut.{KeepsPlaces}
-use Rattle.nd_array_core.specs.base.ElementLent.{array_with_element, IsWrittenAt}
+use Rattle.nd_array_core.specs.base.ElementLent.{array_with_element}
+use Rattle.nd_array_core.specs.layout.RunLent.{array_with_items}
 
 numbered : {A : Type 0} (stored : ℕ → Option A) (z : ℤ) → names_place stored z ≡ true → (pos (nat_abs z) ≡ z) × (is_some (stored (nat_abs z)) ≡ true)
 numbered stored (pos p) has = (refl, has)
@@ -47,20 +47,30 @@ module _ {S D T A P R L M : Type 0} {s : data_trait.Ghosts S A} {d : dimension.G
   unfolding array_with_element
   with_element_is set a p i x b at_p storage layout = same_array b (array_with_element set a i x) (storage ∙ ap (λ q. (set a.storage q x).0) at_p) layout
 
+  -- one whose storage has other elements
+  pub with_items_is : (refill : (x : S) → List A → (y : S) × KeepsPlaces (s.stored x) (s.stored y)) (a : ArrayBase S D T A P R L M s d n r t) (ws : List A) (b : ArrayBase S D T A P R L M s d n r t)
+      → b.storage ≡ (refill a.storage ws).0 → b.layout ≡ a.layout → b ≡ array_with_items refill a ws
+  unfolding array_with_items
+  with_items_is refill a ws b storage layout = same_array b (array_with_items refill a ws) storage layout
+
   -- it shows the new element at the index, and every other as it was
-  pub is_written : (set : (x : S) → ℕ → A → (y : S) × KeepsPlaces (s.stored x) (s.stored y)) (borrow : S → Option (GName × List Bool)) (a : ArrayBase S D T A P R L M s d n r t) (i : List ℕ) (x : A)
+  pub is_written : (set : (x : S) → ℕ → A → (y : S) × KeepsPlaces (s.stored x) (s.stored y)) {F : Type 0} (frame : S → F) (a : ArrayBase S D T A P R L M s d n r t) (i : List ℕ) (x : A)
       → s.exclusive ≡ true → ((u : S) (q : ℕ) (y : A) (p : ℕ) → is_some (s.stored u q) ≡ true → s.stored (set u q y).0 p ≡ written_at (s.stored u) q y p)
-      → ((u : S) (q : ℕ) (y : A) → borrow (set u q y).0 ≡ borrow u) → in_box (shape_of a) i ≡ true → IsWrittenAt borrow a i x (array_with_element set a i x)
+      → ((u : S) (q : ℕ) (y : A) → frame (set u q y).0 ≡ frame u) → in_box (shape_of a) i ≡ true → IsWrittenAt frame a i x (array_with_element set a i x)
   unfolding array_with_element meaning_of memory_layout_of
-  is_written set borrow a i x alone written same_borrow h =
+  is_written set frame a i x alone written same_frame h =
       let ns = d.lengths a.layout.dim in let ss = t.strides_of a.layout.strides in
       let z = place_of a.layout.offset ss i in
       let there = numbered (s.stored a.storage) z (a.inside i h) in
       let new = set a.storage (nat_abs z) x in
       let law : (p : ℕ) → s.stored new.0 p ≡ written_at (s.stored a.storage) (nat_abs z) x p = λ p. written a.storage (nat_abs z) x p there.1 in (
-        refl,
         written_element (s.stored a.storage) (s.stored new.0) ns ss a.layout.offset i (nat_abs z) x a.layout.as_many (a.separated alone) h there.0 law,
-        (λ k. refl),
-        others (s.stored a.storage) (s.stored new.0) (λ k. inside ns k (place_number (place_of a.layout.offset ss k))) i (nat_abs z) x (rw h (ap place_number (sym there.0))) law,
-        same_borrow a.storage (nat_abs z) x,
+        (
+          refl,
+          refl,
+          (λ k. refl),
+          others (s.stored a.storage) (s.stored new.0) (λ k. inside ns k (place_number (place_of a.layout.offset ss k))) i (nat_abs z) x (rw h (ap place_number (sym there.0))) law,
+          same_frame a.storage (nat_abs z) x,
+          refl,
+        ),
       )

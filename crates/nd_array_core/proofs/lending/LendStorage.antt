@@ -1,5 +1,6 @@
 -- The storage of an array in memory, apart from its layout: taken out, and put back with other elements. Assumes `Logic`.
 use Prim.Native.Nat.{ℕ, ◌+◌}
+use mathlib.Core.Bool.{Bool}
 use mathlib.Core.List.{List, [], ◌∷◌}
 use seplogic.Ra.Ura.{Ura}
 use base.Fraction.{full_share}
@@ -20,7 +21,8 @@ use Rattle.nd_shape_and_slice.specs.declared.dimension.StrideList as stride_list
 use Rattle.nd_array_core.specs.declared.base.storage.Data as data_trait
 use Rattle.nd_array_core.specs.contracts.base.array.ArrayBase as A
 use Rattle.nd_layout.specs.contracts.layout.Layout as L
-use Rattle.nd_array_core.specs.layout.ViewLent.{array_with_items}
+use Rattle.nd_region.specs.Places.{written_where}
+use Rattle.nd_array_core.specs.layout.ViewLent.{array_with_part}
 
 abbrev member : RattleType → Member
 member R = record { row = R; ty = layout R }
@@ -46,6 +48,7 @@ module _ (S D T E P G B : RattleType) (s : data_trait.Ghosts S.Denot E.Denot) (d
     pub storage_out : Lawfuls 𝓛 (rows_of members) → (a : Row.Denot) → ent 𝓤 (sem 𝓛 ((mem Row).own_at a b o)) (sep 𝓤 (sem 𝓛 ((mem (param 0 S)).own_at a.storage b storage_at)) (Beside a))
     storage_out lawful a = record_field_out 𝓛 full_share Whole.name members Whole.D Whole.to Whole.to_one lawful a b o 0
 
-    pub storage_back : (a : Row.Denot) (us : List E.Denot) → ent 𝓤 (sep 𝓤 (sem 𝓛 ((mem (param 0 S)).own_at (s.refilled a.storage us).0 b storage_at)) (Beside a)) (sem 𝓛 ((mem Row).own_at (array_with_items s.refilled a us) b o))
-    unfolding array_with_items
-    storage_back a us = record_field_back 𝓛 full_share Whole.name members Whole.D Whole.to Whole.to_one (array_with_items s.refilled a us) b o 0
+    pub storage_back : (a : Row.Denot) (test : ℕ → Bool) (us : List E.Denot)
+        → ent 𝓤 (sep 𝓤 (sem 𝓛 ((mem (param 0 S)).own_at (s.refilled a.storage (written_where test (s.items a.storage) us)).0 b storage_at)) (Beside a)) (sem 𝓛 ((mem Row).own_at (array_with_part s.refilled s.items a test us) b o))
+    unfolding array_with_part
+    storage_back a test us = record_field_back 𝓛 full_share Whole.name members Whole.D Whole.to Whole.to_one (array_with_part s.refilled s.items a test us) b o 0

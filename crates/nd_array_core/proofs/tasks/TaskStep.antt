@@ -9,8 +9,8 @@ use Rattle.nd_array_core.specs.Places.{stored_at, names_place, place_number, Hol
 use Rattle.nd_array_core.specs.PlacedArray.{found_at}
 use Rattle.nd_array_core.specs.Meaning.{inside}
 use Rattle.nd_array_core.specs.scoped.Scoped.{with_named}
-use Rattle.nd_array_core.specs.scoped.Tasks.{array_placed_at, IsNamedMap, IsViewOf, LiesSoundly}
 use Rattle.nd_array_core.specs.base.Writes.{OthersStay}
+use Rattle.nd_array_core.specs.scoped.Tasks.{array_placed_at, IsNamedMap, IsViewOf, LiesSoundly}
 
 module _ {A : Type 0} (m : ℕ → Option A) (offset : ℕ) (ns : List ℕ) (ss : List ℤ) where
   -- the place of an index, and the element there
@@ -20,14 +20,11 @@ module _ {A : Type 0} (m : ℕ → Option A) (offset : ℕ) (ns : List ℕ) (ss 
   abbrev element_in : List ℕ → Option A
   element_in i = inside ns i (stored_at m (place_of offset ss i))
 
-  some_is : {p q : ℕ} → Some p ≡ Some q → p ≡ q
-  some_is e = cc
-
   -- a place that the layout names is that of an index
   named_place : (p : ℕ) → names offset ns ss p ≡ true → (i : List ℕ) × (place_in i ≡ Some p)
   named_place p e = let i = named_by offset ns ss p e in (i.0, rw (i.1, i.2) refl)
 
-  unnamed : (p : ℕ) → ((i : List ℕ) → place_in i ≡ Some p → ⊥) → names offset ns ss p ≡ false
+  pub unnamed : (p : ℕ) → ((i : List ℕ) → place_in i ≡ Some p → ⊥) → names offset ns ss p ≡ false
   unnamed p none = by_test (names offset ns ss p) refl
     where
       by_test : (b : Bool) → names offset ns ss p ≡ b → names offset ns ss p ≡ false

@@ -1,6 +1,6 @@
 -- What an array ends as, once a borrow of one of its elements is over.
 use Rattle.std.specs.Prelude.{◌≡◌, ℕ, List, Bool, true, Option, ℤ, pos, negsuc, nat_abs}
-use Rattle.std.specs.Borrow.{Fml, RattleType, MutBor, GName, Lends, LendsIf}
+use Rattle.std.specs.Borrow.{Fml, RattleType, MutBor, Lends, LendsIf}
 use Rattle.nd_shape_and_slice.specs.Place.{place_of}
 use Rattle.nd_shape_and_slice.specs.declared.dimension.Dimension as dimension
 use Rattle.nd_shape_and_slice.specs.declared.dimension.AxisCount as axis_count
@@ -8,10 +8,8 @@ use Rattle.nd_shape_and_slice.specs.declared.dimension.StrideList as stride_list
 use Rattle.nd_array_core.specs.declared.base.storage.Data as data_trait
 use Rattle.nd_array_core.specs.declared.base.array.ArrayBase.{ArrayBase}
 use Rattle.nd_array_core.specs.contracts.base.array.ArrayBase.{the_row}
-use Rattle.nd_array_core.specs.Meaning.{shape_of, element_at, storage_of, place_at}
 use Rattle.nd_array_core.specs.Places.{names_place}
 use Rattle.nd_array_core.specs.base.ElementMut.{KeepsPlaces}
-use Rattle.nd_array_core.specs.base.Writes.{with_element_at, OthersStay}
 
 pub kept_names : {A : Type 0} (old new : ℕ → Option A) → KeepsPlaces old new → (z : ℤ) → names_place old z ≡ true → names_place new z ≡ true
 kept_names old new kept (pos p) has = kept p has
@@ -30,15 +28,6 @@ module _ {S D T A P R L M : Type 0} {s : data_trait.Ghosts S A} {d : dimension.G
   -- the array once the element at an index is another
   unfoldable pub array_with_element : ((x : S) → ℕ → A → (y : S) × KeepsPlaces (s.stored x) (s.stored y)) → ArrayBase S D T A P R L M s d n r t → List ℕ → A → ArrayBase S D T A P R L M s d n r t
   array_with_element set a i x = with_storage a (set a.storage (nat_abs (place_of a.layout.offset (t.strides_of a.layout.strides) i)) x)
-
-  -- new is old with x at an index: every other element, and every place that no index names, is as it was
-  abbrev pub IsWrittenAt : (S → Option (GName × List Bool)) → ArrayBase S D T A P R L M s d n r t → List ℕ → A → ArrayBase S D T A P R L M s d n r t → Type 0
-  IsWrittenAt borrow old index x new =
-      (shape_of new ≡ shape_of old)
-      × ((i : List ℕ) → element_at new i ≡ with_element_at (element_at old) index x i)
-      × ((i : List ℕ) → place_at new i ≡ place_at old i)
-      × OthersStay (place_at old) (s.stored (storage_of old)) (s.stored (storage_of new))
-      × (borrow (storage_of new) ≡ borrow (storage_of old))
 
 -- what a clause has as D.Dimension
 abbrev pub DimensionMembers : Type 0 → Type 0 → Type 0

@@ -1,5 +1,11 @@
--- What a constructor is given its elements in, and so why it refuses.
-use Rattle.std.specs.Prelude.{ℕ, Bool, true, false, List, ℤ, Option}
+-- What a constructor is given its elements in, and so why it refuses; and how it lays them out.
+use Rattle.std.specs.Prelude.{◌≡◌, ◌<◌, ℕ, nat_lt, Bool, true, false, List, ℤ, Option, Some, None, ⊤, if◌then◌else◌}
+use Rattle.nd_shape_and_slice.specs.Shape.{in_box, size_of}
+use Rattle.nd_shape_and_slice.specs.Place.{place_of, IsSeparated}
+use Rattle.nd_shape_and_slice.specs.declared.builder.Order.{Order}
+use Rattle.nd_layout.specs.GivenStrides.{given_place, given_strides, offset_given}
+use Rattle.nd_array_core.specs.Places.{HoldsAll}
+use Rattle.nd_array_core.specs.scoped.Tasks.{Placement}
 use Rattle.nd_shape_and_slice.specs.declared.errors.ErrorKind.{ErrorKind}
 use Rattle.nd_layout.specs.Refusals.{vec_refusal, slice_refusal, slice_mut_refusal}
 use Rattle.nd_array_core.specs.declared.base.constructors.GivenIn.{GivenIn}
@@ -16,3 +22,17 @@ abbrev pub is_apart_in : GivenIn → Bool
 is_apart_in Vector = true
 is_apart_in Slice = false
 is_apart_in SliceMut = true
+
+-- a map that holds something at the places below n alone
+abbrev pub first_places : ℕ → ℕ → Option ⊤
+first_places n p = if nat_lt p n then Some tt else None
+
+-- so many elements lie by the layout as a shape, an order and strides of the caller's say: each index of the box at the
+-- place that they give it, which is below the count; and no two at one place, where that is asked
+pub record IsLaidOut (lengths : List ℕ) (order : Order) (strides : Option (List ℤ)) (alone : Bool) (count : ℕ) (layout : Placement) : Type 0 where
+  pub offset_is : layout.0 ≡ offset_given lengths strides
+  pub lengths_are : layout.1 ≡ lengths
+  pub strides_are : layout.2 ≡ given_strides lengths order strides
+  pub places : (i : List ℕ) → in_box lengths i ≡ true → place_of layout.0 layout.2 i ≡ given_place lengths order strides i
+  pub holds : HoldsAll (first_places count) layout.0 layout.1 layout.2
+  pub separated : alone ≡ true → 0 < size_of lengths → IsSeparated layout.1 layout.2

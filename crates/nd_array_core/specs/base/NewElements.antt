@@ -1,15 +1,15 @@
--- Elements in the place of others, as many as before: what a storage is once all its elements were lent.
+-- Elements in the place of others, as many as before: what a storage is once all its elements, or some, were lent.
 use mathlib.Core.Path.{◌≡◌, refl, sym, ap, ◌∙◌}
 use mathlib.Core.HLevel.{is_prop→PathP}
 use native.Mathlib.Omega.{arith}
 use native.Mathlib.Nat.{not-suc-le-zero}
 use Rattle.std.proofs.Props.{props}
 use Rattle.std.proofs.Math.Seq.{take-append_seam}
-use Rattle.std.specs.Prelude.{ℕ, zero, suc, ◌≤◌, List, [], ◌∷◌, ◌++◌, Bool, true, false, length, take, drop, slice_get}
+use Rattle.std.specs.Prelude.{ℕ, zero, suc, ◌≤◌, List, [], ◌∷◌, ◌++◌, Bool, true, false, Some, length, take, drop, slice_get, if◌then◌else◌}
 use Rattle.std.specs.Option.{is_some}
 use Rattle.std.specs.Vec.{with_items}
 use Rattle.std.specs.declared.vec.Vec.{Vec}
-use Rattle.nd_region.specs.Places.{element_in, stored_in}
+use Rattle.nd_region.specs.Places.{element_in, stored_in, written_where}
 use Rattle.nd_array_core.specs.base.ElementMut.{KeepsPlaces}
 
 module _ {A : Type 0} where
@@ -65,6 +65,53 @@ module _ {A : Type 0} where
   pub places_kept : (xs ys : List A) (held : List Bool) → KeepsPlaces (stored_in xs held) (stored_in (overwritten_items xs ys) held)
   places_kept xs ys held p has = places_there xs ys held p ∙ has
 
+  -- ---- where a test passes alone
+  pub written_long : (test : ℕ → Bool) (xs ws : List A) → length (written_where test xs ws) ≡ length xs
+  written_long test [] ws = refl
+  written_long test (x ∷ xs) [] = refl
+  written_long test (x ∷ xs) (w ∷ ws) = ap suc (written_long (λ k. test (suc k)) xs ws)
+
+  either_same : (b : Bool) (x : A) → (if b then x else x) ≡ x
+  either_same true x = refl
+  either_same false x = refl
+
+  either_again : (b : Bool) (w x : A) → (if b then (if b then w else x) else x) ≡ (if b then w else x)
+  either_again true w x = refl
+  either_again false w x = refl
+
+  pub written_itself : (test : ℕ → Bool) (xs : List A) → written_where test xs xs ≡ xs
+  written_itself test [] = refl
+  written_itself test (x ∷ xs) = (λ k. either_same (test 0) x k ∷ written_itself (λ j. test (suc j)) xs k)
+
+  pub written_again : (test : ℕ → Bool) (xs ws : List A) → written_where test xs (written_where test xs ws) ≡ written_where test xs ws
+  written_again test [] ws = refl
+  written_again test (x ∷ xs) [] = written_itself test (x ∷ xs)
+  written_again test (x ∷ xs) (w ∷ ws) = (λ k. either_again (test 0) w x k ∷ written_again (λ j. test (suc j)) xs ws k)
+
+  other_got : (test : ℕ → Bool) (xs ws : List A) (p : ℕ) → test p ≡ false → slice_get (written_where test xs ws) p ≡ slice_get xs p
+  other_got test [] ws p other = refl
+  other_got test (x ∷ xs) [] p other = refl
+  other_got test (x ∷ xs) (w ∷ ws) zero other = ap (λ (b : Bool). Some (if b then w else x)) other
+  other_got test (x ∷ xs) (w ∷ ws) (suc p) other = other_got (λ j. test (suc j)) xs ws p other
+
+  other_in_mask : (test : ℕ → Bool) (xs ws : List A) (fs : List Bool) (p : ℕ) → test p ≡ false → element_in (written_where test xs ws) fs p ≡ element_in xs fs p
+  other_in_mask test [] ws fs p other = refl
+  other_in_mask test (x ∷ xs) [] fs p other = refl
+  other_in_mask test (x ∷ xs) (w ∷ ws) [] p other = refl
+  other_in_mask test (x ∷ xs) (w ∷ ws) (true ∷ fs) zero other = ap (λ (b : Bool). Some (if b then w else x)) other
+  other_in_mask test (x ∷ xs) (w ∷ ws) (false ∷ fs) zero other = refl
+  other_in_mask test (x ∷ xs) (w ∷ ws) (true ∷ fs) (suc p) other = other_in_mask (λ j. test (suc j)) xs ws fs p other
+  other_in_mask test (x ∷ xs) (w ∷ ws) (false ∷ fs) (suc p) other = other_in_mask (λ j. test (suc j)) xs ws fs p other
+
+  -- a region with as many elements has these
+  pub places_put : (xs ws : List A) → length ws ≡ length xs → overwritten_items xs ws ≡ ws
+  places_put xs ws long = overwritten_by xs ws long
+
+  -- and at a place that fails the test what it had
+  pub places_beside : (xs : List A) (held : List Bool) (test : ℕ → Bool) (ws : List A) (p : ℕ) → test p ≡ false → stored_in (overwritten_items xs (written_where test xs ws)) held p ≡ stored_in xs held p
+  unfolding stored_in
+  places_beside xs held test ws p other = ap (λ ys. element_in ys held p) (overwritten_by xs (written_where test xs ws) (written_long test xs ws)) ∙ other_in_mask test xs ws held p other
+
   -- the places of a vector with other elements
   module _ {Z : Type 0} (v : Vec A Z) where
     pub items_there : (ws : List A) (p : ℕ) → is_some (slice_get (with_items v ws).items p) ≡ is_some (slice_get v.items p)
@@ -75,6 +122,14 @@ module _ {A : Type 0} where
 
     filled : (ys zs : List A) → length ys ≡ v.len → take v.len (ys ++ zs) ≡ ys
     filled ys zs e = ap (λ k. take k (ys ++ zs)) (sym e) ∙ take-append_seam ys zs
+
+    -- a vector with as many elements has these
+    pub items_put : (ws : List A) → length ws ≡ length v.items → (with_items v ws).items ≡ ws
+    items_put ws long = filled ws (drop (length ws) v.items) (long ∙ sym v.ok.0)
+
+    -- and at a place that fails the test what it had
+    pub items_beside : (test : ℕ → Bool) (ws : List A) (p : ℕ) → test p ≡ false → slice_get (with_items v (written_where test v.items ws)).items p ≡ slice_get v.items p
+    items_beside test ws p other = ap (λ ys. slice_get ys p) (items_put (written_where test v.items ws) (written_long test v.items ws)) ∙ other_got test v.items ws p other
 
     pub items_itself : with_items v v.items ≡ v
     items_itself =

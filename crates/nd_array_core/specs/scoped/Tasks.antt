@@ -1,6 +1,6 @@
 -- Tasks on mutable views: what a task is lent, and what an array holds after it.
-use Rattle.std.specs.Prelude.{◌≡◌, ℕ, ◌<◌, List, ℤ, Bool, true, false, Option, Some}
-use base.Fml.{GName}
+use Rattle.std.specs.Prelude.{◌≡◌, ℕ, ◌<◌, List, ℤ, true, false, Option}
+use Rattle.nd_array_core.specs.base.StorageFrame.{StorageFrame, Borrowed}
 use Rattle.nd_shape_and_slice.specs.Shape.{in_box, size_of}
 use Rattle.nd_shape_and_slice.specs.Place.{place_of, IsSeparated}
 use Rattle.nd_region.specs.Places.{names, LayoutsShareNoPlace}
@@ -38,9 +38,9 @@ pub record IsViewOf {A : Type 0} (shape : List ℕ) (place : List ℕ → Option
   pub same_place : (i : List ℕ) → v.place i ≡ place i
   pub same_element : (i : List ℕ) → element_placed v i ≡ at i
 
--- which borrow a mutable view's elements are of
-abbrev pub view_borrow : {A : Type 0} → RegionRepr (Region A) → Option (GName × List Bool)
-view_borrow s = Some (borrow_of s.region)
+-- what a mutable view's storage keeps while its elements change
+abbrev pub view_frame : {A : Type 0} → RegionRepr (Region A) → StorageFrame
+view_frame s = Borrowed (borrow_of s.region)
 
 -- ---- a view as it is lent, by the words of its dimension for lengths and strides
 module _ {A D T : Type 0} (lengths : D → List ℕ) (strides : T → List ℤ) where
@@ -55,8 +55,8 @@ module _ {A D T : Type 0} (lengths : D → List ℕ) (strides : T → List ℤ) 
   abbrev pub view_left : LentView A D T → RegionRepr (Region A) → PlacedArray A
   view_left l s = array_placed_at (region_stored s.region) l.offset (lengths l.dim) (strides l.strides)
 
-abbrev pub lent_borrow : {A D T : Type 0} → LentView A D T → Option (GName × List Bool)
-lent_borrow l = Some (borrow_of l.region)
+abbrev pub lent_frame : {A D T : Type 0} → LentView A D T → StorageFrame
+lent_frame l = Borrowed (borrow_of l.region)
 
 -- ---- a view of a part of an array: each index of its box names one of the array
 abbrev pub IsViewThrough : {A : Type 0} → List ℕ → (List ℕ → List ℕ) → (List ℕ → Option ℕ) → (List ℕ → Option A) → PlacedArray A → Type 0

@@ -1,7 +1,7 @@
 //! Arrays over any storage, and the questions to them.
-#![tactic(auto, unfolding(crate::specs::Meaning::meaning_of, crate::specs::Meaning::memory_layout_of))]
+#![tactic(auto, unfolding(crate::specs::Meaning::meaning_of, crate::specs::Meaning::memory_layout_of), using(crate::proofs::ShortAxes::length_short, crate::proofs::ShortAxes::size_short))]
 
-ghost use Rattle.std.specs.Prelude.{◌≡◌, ◌<◌, ◌≤◌, ℕ, true, List, length, slice_index, slice_index_or, pos};
+ghost use Rattle.std.specs.Prelude.{◌≡◌, ◌<◌, ◌≤◌, ◌^◌, ℕ, true, List, length, slice_index, slice_index_or, pos};
 ghost use Rattle.nd_shape_and_slice.specs.Shape.{in_box, size_of};
 ghost use Rattle.nd_shape_and_slice.specs.Place.{place_of, IsSeparated};
 ghost use Rattle.nd_array_core.specs.Places.{names_place};
@@ -34,11 +34,13 @@ pub type ArrayView<'a, A, D> = ArrayBase<ViewRepr<'a, A>, D>;
 pub type ArrayViewMut<'a, A, D> = ArrayBase<ViewMutRepr<'a, A>, D>;
 
 impl<S: Data, D: Dimension> ArrayBase<S, D> {
-    ghost use Rattle.nd_array_core.specs.Meaning.{shape_of, element_at, layout_strides};
+    ghost use Rattle.nd_array_core.specs.Meaning.{shape_of, layout_strides};
+    ghost use Rattle.nd_array_core.specs.Part.{ShowsWhole};
 
     /// The length of each axis. ndarray's `shape`.
     pub fn shape(&self) -> &[usize]
-        ensures { result.now ≡ shape_of self.now }
+        ensures value { result.now ≡ shape_of self.now }
+        ensures short { (axis : ℕ) → slice_index (shape_of self.now) axis < 2 ^ 63 }
     {
         self.layout.dim.slice()
     }
@@ -55,7 +57,8 @@ impl<S: Data, D: Dimension> ArrayBase<S, D> {
 
     /// The number of elements. ndarray's `len`.
     pub fn len(&self) -> usize
-        ensures { result ≡ size_of (shape_of self.now) }
+        ensures value { result ≡ size_of (shape_of self.now) }
+        ensures short { result < 2 ^ 63 }
     {
         self.layout.dim.size()
     }
@@ -63,7 +66,8 @@ impl<S: Data, D: Dimension> ArrayBase<S, D> {
     /// The length of an axis below `ndim`. ndarray's `len_of`.
     pub fn len_of(&self, axis: Axis) -> usize
         requires { axis.0 < length (shape_of self.now) }
-        ensures { result ≡ slice_index (shape_of self.now) axis.0 }
+        ensures value { result ≡ slice_index (shape_of self.now) axis.0 }
+        ensures short { result < 2 ^ 63 }
     {
         self.shape()[axis.0]
     }
@@ -87,9 +91,7 @@ impl<S: Data, D: Dimension> ArrayBase<S, D> {
     /// A read-only view of the array, with the same strides. ndarray's `view`.
     #[inline]
     pub fn view(&self) -> ArrayView<'_, S::Elem, D>
-        ensures shape { shape_of result ≡ shape_of self.now }
-        ensures strides { layout_strides result ≡ layout_strides self.now }
-        ensures elements { (i : List ℕ) → element_at result i ≡ element_at self.now i }
+        ensures whole { ShowsWhole self.now result }
     {
         ArrayBase {
             storage: self.storage.borrowed(),
@@ -99,9 +101,9 @@ impl<S: Data, D: Dimension> ArrayBase<S, D> {
 }
 
 impl<S: Data + Copy, D: Dimension, T: StrideList> Clone for ArrayBase<S, D, T> {
-    ghost use Rattle.nd_array_core.specs.Meaning.{shape_of, element_at};
+    ghost use Rattle.nd_array_core.specs.Part.{ShowsWhole};
 
-    ghost is_clone = { λ array copy. (shape_of copy ≡ shape_of array) × ((i : List ℕ) → element_at copy i ≡ element_at array i) };
+    ghost is_clone = { λ array copy. ShowsWhole array copy };
 
     fn clone(&self) -> Result<Self, AllocError> {
         Ok(ArrayBase {

@@ -1,16 +1,19 @@
 //! Arrays and views made of a shape and its elements.
 #![tactic(auto, unfolding(crate::specs::Meaning::meaning_of, crate::specs::Meaning::memory_layout_of))]
 
-ghost use Rattle.std.specs.Prelude.{◌≡◌, ◌<◌, ◌≤◌, ℕ, List, true, length, MatchResult, IsSome, IfOk, IfErr, slice_get, Some, None, vec_len};
+ghost use Rattle.std.specs.Prelude.{◌≡◌, ◌<◌, ◌≤◌, ℕ, List, true, length, MatchResult, IsSome, IfOk, IfErr, slice_get, Some, None, vec_len, vec_capacity};
 ghost use Rattle.nd_shape_and_slice.specs.Shape.{size_of, HasCheckedSize};
 ghost use Rattle.nd_shape_and_slice.specs.Place.{place_of, IsSeparated};
 ghost use Rattle.nd_layout.specs.Strides.{reach_down};
 ghost use Rattle.nd_layout.specs.Ranks.{rank_in};
-ghost use Rattle.nd_layout.specs.GivenStrides.{given_place, ordered_strides, given_strides};
+ghost use Rattle.nd_layout.specs.GivenStrides.{given_place, ordered_strides, given_strides, offset_given};
 ghost use Rattle.nd_layout.specs.Refusals.{vec_refusal, slice_refusal, slice_mut_refusal, elements_asked};
-ghost use Rattle.nd_array_core.specs.Meaning.{shape_of, element_at, layout_strides, inside};
+ghost use Rattle.nd_array_core.specs.Meaning.{shape_of, element_at, storage_of, layout_strides, layout_offset, inside};
 ghost use Rattle.nd_array_core.specs.Places.{stored_at};
-ghost use Rattle.nd_array_core.specs.base.Given.{refusal_in, is_apart_in};
+ghost use Rattle.nd_array_core.specs.base.Storages.{stored_list, room_of};
+ghost use Rattle.nd_array_core.specs.base.Given.{refusal_in, is_apart_in, IsLaidOut};
+ghost use Rattle.nd_array_core.specs.scoped.Tasks.{placement_of};
+ghost use Rattle.nd_shape_and_slice.specs.declared.builder.Order.{Order};
 ghost use Rattle.nd_layout.specs.Steps.{IsValid};
 
 use crate::base::array::{Array, ArrayBase, ArrayView, ArrayViewMut};
@@ -25,31 +28,11 @@ pub(crate) fn in_order<S: Data, D: Dimension>(storage: S, dim: D, order: Order) 
     ensures shape { shape_of result ≡ D.lengths dim }
     ensures strides { layout_strides result ≡ ordered_strides order (D.lengths dim) }
     ensures elements { (i : List ℕ) → element_at result i ≡ inside (D.lengths dim) i (S.stored storage (rank_in order (D.lengths dim) i)) }
+    ensures storage { storage_of result ≡ storage }
 {
     ArrayBase {
         storage,
         layout: Layout::in_order(dim, order),
-    }
-}
-
-/// The elements of a storage under a shape and strides of the caller's.
-fn with_strides<S: Data, D: Dimension>(
-    storage: S,
-    offset: usize,
-    dim: D,
-    strides: D::Strides,
-) -> ArrayBase<S, D>
-    requires valid { IsValid offset (D.lengths dim) (D.Strides.strides_of strides) }
-    requires from { offset ≡ reach_down (D.lengths dim) (D.Strides.strides_of strides) }
-    requires holds { (place : ℕ) → place < elements_asked (D.lengths dim) (D.Strides.strides_of strides) → IsSome (S.stored storage place) }
-    requires apart { S.exclusive ≡ true → 0 < size_of (D.lengths dim) → IsSeparated (D.lengths dim) (D.Strides.strides_of strides) }
-    ensures shape { shape_of result ≡ D.lengths dim }
-    ensures strides { layout_strides result ≡ D.Strides.strides_of strides }
-    ensures elements { (i : List ℕ) → element_at result i ≡ inside (D.lengths dim) i (stored_at (S.stored storage) (place_of offset (D.Strides.strides_of strides) i)) }
-{
-    ArrayBase {
-        storage,
-        layout: Layout::strided(offset, dim, strides),
     }
 }
 
@@ -102,6 +85,56 @@ fn given_size(given_in: GivenIn, lengths: &[usize], count: usize) -> Result<usiz
     }
 }
 
+/// The layout of that many elements in an order, from the first on.
+fn laid_in_order<D: Dimension>(dim: D, order: Order, _count: usize) -> Layout<D, D::Strides>
+    requires checked { HasCheckedSize (D.lengths dim) }
+    requires enough { size_of (D.lengths dim) ≤ _count }
+    ensures laid { IsLaidOut (D.lengths dim) order None true _count (placement_of result) }
+{
+    Layout::in_order(dim, order)
+}
+
+/// The layout of that many elements under strides of the caller's.
+fn laid_by_strides<D: Dimension>(
+    offset: usize,
+    dim: D,
+    strides: D::Strides,
+    given_in: GivenIn,
+    _count: usize,
+) -> Layout<D, D::Strides>
+    requires valid { IsValid offset (D.lengths dim) (D.Strides.strides_of strides) }
+    requires from { offset ≡ reach_down (D.lengths dim) (D.Strides.strides_of strides) }
+    requires enough { elements_asked (D.lengths dim) (D.Strides.strides_of strides) ≤ _count }
+    requires apart { is_apart_in given_in ≡ true → 0 < size_of (D.lengths dim) → IsSeparated (D.lengths dim) (D.Strides.strides_of strides) }
+    ensures laid { (order : Order) → IsLaidOut (D.lengths dim) order (Some (D.Strides.strides_of strides)) (is_apart_in given_in) _count (placement_of result) }
+{
+    Layout::strided(offset, dim, strides)
+}
+
+/// How that many elements lie under a shape and the caller's strides or an order, or the cause why they can't.
+pub(crate) fn laid_out<D: Dimension, Sh: IntoStrideShape<Dim = D>>(
+    given_in: GivenIn,
+    count: usize,
+    shape: Sh,
+) -> Result<Layout<D, D::Strides>, ShapeError>
+    ensures refused { IfErr result (λ e. refusal_in given_in (Sh.lengths_meant shape) (Sh.strides_meant shape) count ≡ Some e) }
+    ensures accepted { IfOk result (λ _. refusal_in given_in (Sh.lengths_meant shape) (Sh.strides_meant shape) count ≡ None) }
+    ensures laid { IfOk result (λ l. IsLaidOut (Sh.lengths_meant shape) (Sh.order_meant shape) (Sh.strides_meant shape) (is_apart_in given_in) count (placement_of l)) }
+{
+    let given = shape.into_stride_shape();
+    let dim = *given.raw_dim();
+    match given.custom_strides() {
+        Some(strides) => {
+            let offset = given_offset(given_in, dim.slice(), strides.slice(), count)?;
+            Ok(laid_by_strides(offset, dim, strides, given_in, count))
+        }
+        None => {
+            given_size(given_in, dim.slice(), count)?;
+            Ok(laid_in_order(dim, given.order(), count))
+        }
+    }
+}
+
 /// The elements of a storage, that many from place 0 on, under a shape and the caller's strides or an order.
 fn under_shape<S: Data + Drop, D: Dimension, Sh: IntoStrideShape<Dim = D>>(
     given_in: GivenIn,
@@ -115,20 +148,12 @@ fn under_shape<S: Data + Drop, D: Dimension, Sh: IntoStrideShape<Dim = D>>(
     ensures accepted { IfOk result (λ _. refusal_in given_in (Sh.lengths_meant shape) (Sh.strides_meant shape) count ≡ None) }
     ensures shape { IfOk result (λ a. shape_of a ≡ Sh.lengths_meant shape) }
     ensures strides { IfOk result (λ a. layout_strides a ≡ given_strides (Sh.lengths_meant shape) (Sh.order_meant shape) (Sh.strides_meant shape)) }
+    ensures offset { IfOk result (λ a. layout_offset a ≡ offset_given (Sh.lengths_meant shape) (Sh.strides_meant shape)) }
+    ensures storage { IfOk result (λ a. storage_of a ≡ storage) }
     ensures elements { IfOk result (λ a. (i : List ℕ) → element_at a i ≡ inside (Sh.lengths_meant shape) i (stored_at (S.stored storage) (given_place (Sh.lengths_meant shape) (Sh.order_meant shape) (Sh.strides_meant shape) i))) }
 {
-    let given = shape.into_stride_shape();
-    let dim = *given.raw_dim();
-    match given.custom_strides() {
-        Some(strides) => {
-            let offset = given_offset(given_in, dim.slice(), strides.slice(), count)?;
-            Ok(with_strides(storage, offset, dim, strides))
-        }
-        None => {
-            given_size(given_in, dim.slice(), count)?;
-            Ok(in_order(storage, dim, given.order()))
-        }
-    }
+    let layout = laid_out(given_in, count, shape)?;
+    Ok(ArrayBase { storage, layout })
 }
 
 impl<A: Drop, D: Dimension> Array<A, D> {
@@ -144,6 +169,9 @@ impl<A: Drop, D: Dimension> Array<A, D> {
         ensures accepted { IfOk result (λ _. vec_refusal (Sh.lengths_meant shape) (Sh.strides_meant shape) (vec_len v) ≡ None) }
         ensures shape { IfOk result (λ a. shape_of a ≡ Sh.lengths_meant shape) }
         ensures strides { IfOk result (λ a. layout_strides a ≡ given_strides (Sh.lengths_meant shape) (Sh.order_meant shape) (Sh.strides_meant shape)) }
+        ensures offset { IfOk result (λ a. layout_offset a ≡ offset_given (Sh.lengths_meant shape) (Sh.strides_meant shape)) }
+        ensures stored { IfOk result (λ a. stored_list (storage_of a) ≡ v.items) }
+        ensures room { IfOk result (λ a. room_of (storage_of a) ≡ vec_capacity v) }
         ensures elements { IfOk result (λ a. (i : List ℕ) → element_at a i ≡ inside (Sh.lengths_meant shape) i (stored_at (slice_get v.items) (given_place (Sh.lengths_meant shape) (Sh.order_meant shape) (Sh.strides_meant shape) i))) }
     {
         let count = v.len();
@@ -164,6 +192,7 @@ impl<'a, A, D: Dimension> ArrayView<'a, A, D> {
         ensures accepted { IfOk result (λ _. slice_refusal (Sh.lengths_meant shape) (Sh.strides_meant shape) (length xs.now) ≡ None) }
         ensures shape { IfOk result (λ a. shape_of a ≡ Sh.lengths_meant shape) }
         ensures strides { IfOk result (λ a. layout_strides a ≡ given_strides (Sh.lengths_meant shape) (Sh.order_meant shape) (Sh.strides_meant shape)) }
+        ensures offset { IfOk result (λ a. layout_offset a ≡ offset_given (Sh.lengths_meant shape) (Sh.strides_meant shape)) }
         ensures elements { IfOk result (λ a. (i : List ℕ) → element_at a i ≡ inside (Sh.lengths_meant shape) i (stored_at (slice_get xs.now) (given_place (Sh.lengths_meant shape) (Sh.order_meant shape) (Sh.strides_meant shape) i))) }
     {
         let count = xs.len();
@@ -184,6 +213,7 @@ impl<'a, A, D: Dimension> ArrayViewMut<'a, A, D> {
         ensures accepted { IfOk result (λ _. slice_mut_refusal (Sh.lengths_meant shape) (Sh.strides_meant shape) (length xs.old) ≡ None) }
         ensures shape { IfOk result (λ a. shape_of a ≡ Sh.lengths_meant shape) }
         ensures strides { IfOk result (λ a. layout_strides a ≡ given_strides (Sh.lengths_meant shape) (Sh.order_meant shape) (Sh.strides_meant shape)) }
+        ensures offset { IfOk result (λ a. layout_offset a ≡ offset_given (Sh.lengths_meant shape) (Sh.strides_meant shape)) }
         ensures elements { IfOk result (λ a. (i : List ℕ) → element_at a i ≡ inside (Sh.lengths_meant shape) i (stored_at (slice_get xs.old) (given_place (Sh.lengths_meant shape) (Sh.order_meant shape) (Sh.strides_meant shape) i))) }
     {
         let count = xs.len();

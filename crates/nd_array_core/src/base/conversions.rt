@@ -5,12 +5,16 @@ ghost use Rattle.std.specs.Prelude.{◌≡◌, ◌*◌, ◌<◌, ◌^◌, ℕ, L
 ghost use Rattle.std.specs.List.{flat_map};
 ghost use Rattle.nd_shape_and_slice.specs.Shape.{row_rank, HasCheckedSize};
 ghost use Rattle.nd_shape_and_slice.specs.Strides.{c_strides};
-ghost use Rattle.nd_array_core.specs.Meaning.{shape_of, element_at, layout_strides, inside};
+ghost use Rattle.nd_array_core.specs.Meaning.{shape_of, element_at, layout_strides, inside, storage_of};
+ghost use Rattle.std.specs.Borrow.{sem};
+ghost use Rattle.nd_region.specs.Region.{region_stored};
+ghost use Rattle.nd_region.specs.Lends.{slice_follows};
 ghost use Rattle.nd_array_core.specs.base.Sources.{IsRowMajorOf};
 
 use crate::base::array::{ArrayBase, ArrayView, ArrayViewMut};
 use crate::base::constructors::in_order;
 use crate::base::storage::{Data, ViewMutRepr, ViewRepr};
+use nd_region::Region;
 use nd_shape_and_slice::{IntoDimension, Ix1, Ix2, Order, size_of_shape_checked};
 
 /// That many elements of a storage, from place 0 on, along one axis; none where they are more than `isize::MAX`.
@@ -18,6 +22,7 @@ fn on_one_axis<S: Data>(storage: S, len: usize) -> ArrayBase<S, Ix1>
     requires { (place : ℕ) → place < len → IsSome (S.stored storage place) }
     ensures held { HasCheckedSize (len ∷ []) → (shape_of result ≡ len ∷ []) × (layout_strides result ≡ c_strides (len ∷ [])) × ((i : List ℕ) → element_at result i ≡ inside (len ∷ []) i (S.stored storage (row_rank (len ∷ []) i))) }
     ensures empty { (HasCheckedSize (len ∷ []) → ⊥) → shape_of result ≡ 0 ∷ [] }
+    ensures storage { storage_of result ≡ storage }
 {
     match size_of_shape_checked(&[len]) {
         Ok(_) => in_order(storage, len.into_dimension(), Order::RowMajor),
@@ -35,13 +40,26 @@ impl<'a, A> From<&'a [A]> for ArrayView<'a, A, Ix1> {
     }
 }
 
+/// The region of a slice as a view with one axis.
+fn region_on_one_axis<'a, A>(region: Region<'a, A>, len: usize) -> ArrayViewMut<'a, A, Ix1>
+    requires { (place : ℕ) → place < len → IsSome (region_stored region place) }
+    ensures held { HasCheckedSize (len ∷ []) → (shape_of result ≡ len ∷ []) × (layout_strides result ≡ c_strides (len ∷ [])) × ((i : List ℕ) → element_at result i ≡ inside (len ∷ []) i (region_stored region.entry (row_rank (len ∷ []) i))) }
+    ensures empty { (HasCheckedSize (len ∷ []) → ⊥) → shape_of result ≡ 0 ∷ [] }
+    ensures region { (storage_of result).region ≡ region.entry }
+{
+    on_one_axis(ViewMutRepr::of_region(region), len)
+}
+
 /// The view of a slice, to be written, with one axis; empty where the slice has more than `isize::MAX` elements.
 impl<'a, A> From<&'a mut [A]> for ArrayViewMut<'a, A, Ix1> {
     ghost from_gives = { λ xs view. IsRowMajorOf (length xs.now ∷ []) xs.now view };
 
-    fn from(xs: &'a mut [A]) -> Self {
+    fn from(xs: &'a mut [A]) -> Self
+        ensures* follows { sem 𝓛 (slice_follows A.row xs.entry (storage_of result).region) }
+        ensures gives { IsRowMajorOf (length xs.old ∷ []) xs.old result }
+    {
         let len = xs.len();
-        on_one_axis(ViewMutRepr::of_slice_mut(xs), len)
+        region_on_one_axis(Region::from_slice(xs), len)
     }
 }
 

@@ -1,9 +1,10 @@
 //! The element at an index, to be read; and references that live as long as what a view borrows.
 #![tactic(auto, unfolding(crate::specs::Meaning::meaning_of))]
 
-ghost use Rattle.std.specs.Prelude.{◌≡◌, Bool, true, false, is_some, MatchOption, Some};
+ghost use Rattle.std.specs.Prelude.{◌↔◌, ◌≡◌, Bool, true, false, is_some, IsNone, MatchOption, Some};
 ghost use Rattle.std.specs.Option.{option_copied};
-ghost use Rattle.nd_shape_and_slice.specs.Shape.{in_box};
+ghost use Rattle.nd_shape_and_slice.specs.Shape.{in_box, size_of};
+ghost use Rattle.nd_shape_and_slice.specs.FirstIndex.{first_index};
 
 use super::array::{ArrayBase, ArrayView, ArrayViewMut};
 use super::storage::{Data, RegionRepr};
@@ -21,6 +22,15 @@ impl<S: Data, D: Dimension> ArrayBase<S, D> {
     {
         let place = self.layout.place_of(index.coordinates())?;
         Some(self.storage.element(place))
+    }
+
+    /// The element at the index of zeros; None exactly where the array has no elements. ndarray's `first`.
+    pub fn first(&self) -> Option<&S::Elem>
+        ensures element { option_copied result ≡ element_at self.now (first_index (shape_of self.now)) }
+        ensures none { IsNone result ↔ (size_of (shape_of self.now) ≡ 0) }
+    {
+        let first = self.layout.first_place()?;
+        Some(self.storage.element(first))
     }
 
     /// The element at an index of the shape's box (`get` tells which indexes are in it). ndarray's `uget`.

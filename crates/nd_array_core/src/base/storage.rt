@@ -1,20 +1,20 @@
 //! The storages of arrays: an owned vector, or a borrow of elements, shared or to be written.
 
-ghost use Rattle.std.specs.Prelude.{◌≡◌, ◌*◌, ◌<◌, ◌^◌, ℕ, length, Bool, true, false, List, [], Option, IsSome, Some, None, slice_get, refl};
+ghost use Rattle.std.specs.Prelude.{◌≡◌, ◌+◌, ◌*◌, ◌<◌, ◌≤◌, ◌^◌, ℕ, length, Bool, true, false, List, [], Option, IsSome, Some, None, slice_get, slice_range, refl};
 ghost use Rattle.std.specs.Borrow.{sem, follows, Array};
 ghost use Rattle.std.specs.List.{flat_map};
 ghost use Rattle.std.specs.Option.{is_some};
 ghost use Rattle.std.specs.Vec.{with_item, with_items};
-ghost use base.Fml.{GName};
+ghost use Rattle.nd_array_core.specs.base.StorageFrame.{StorageFrame, Owned, Borrowed};
 ghost use Rattle.nd_region.specs.Scoped.{TakesPart, GivesPartBack, IsPartReturned};
 ghost use Rattle.nd_region.specs.Shared.{shared_stored};
-ghost use Rattle.nd_region.specs.Places.{names, names_not};
-ghost use Rattle.nd_region.specs.Region.{region_stored, borrow_of, with_element as region_with, with_items as region_items, HasPlaces, IsAsLong};
+ghost use Rattle.nd_region.specs.Places.{names, names_not, written_where};
+ghost use Rattle.nd_region.specs.Region.{region_stored, borrow_of, elements_of, with_element as region_with, with_items as region_items, HasPlaces, IsAsLong};
 ghost use Rattle.nd_array_core.specs.Places.{HoldsAll, kept_at, written_at, swapped_at};
 ghost use Rattle.nd_array_core.specs.scoped.Scoped.{TakesNamed, GivesNamedBack, IsNamedReturned};
 ghost use Rattle.nd_array_core.specs.base.Storages.{shown_by};
 ghost use Rattle.nd_array_core.specs.base.ElementMut.{element_follows, KeepsPlaces, item_kept, item_written, place_kept, place_written};
-ghost use Rattle.nd_array_core.specs.base.NewElements.{overwritten_items, overwritten_itself, overwritten_again, places_there, places_kept, items_there, items_kept, items_itself, items_again};
+ghost use Rattle.nd_array_core.specs.base.NewElements.{overwritten_items, overwritten_itself, overwritten_again, places_there, places_kept, items_there, items_kept, items_itself, items_again, items_put, items_beside, places_put, places_beside};
 
 use nd_layout::Layout;
 use nd_region::{Region, SharedRegion, with_region};
@@ -61,7 +61,7 @@ pub struct OwnedRepr<A> {
 
 impl<A> OwnedRepr<A> {
     ghost use Rattle.std.specs.Borrow.{sem};
-    ghost use Rattle.nd_array_core.specs.base.Lends.{items_follow};
+    ghost use Rattle.nd_array_core.specs.base.Lends.{items_follow, run_follows};
 
     /// The elements, to be written.
     pub(crate) fn items_mut(&mut self) -> &mut [A]
@@ -69,6 +69,16 @@ impl<A> OwnedRepr<A> {
         ensures value { result.now ≡ self.old.items.items }
     {
         self.items.as_mut_slice()
+    }
+
+    /// That many elements from a place on, to be written.
+    pub(crate) fn run_mut(&mut self, first: usize, count: usize) -> &mut [A]
+        requires { first + count ≤ length self.old.items.items }
+        ensures* writes_back { sem 𝓛 (run_follows A.row self.entry first result) }
+        ensures value { result.now ≡ slice_range self.old.items.items first (first + count) }
+        ensures count { length result.now ≡ count }
+    {
+        self.items.slice_mut(first..first + count)
     }
 }
 
@@ -256,15 +266,16 @@ impl<'a, A> Data for ViewMutRepr<'a, A> {
 
 /// A storage whose elements may be written. ndarray's `DataMut`.
 pub trait DataMut: Data {
-    /// The borrow that the elements belong to. It stays the same while they change.
-    ghost borrow: { Self → Option (GName × List Bool) };
+    /// What stays the same while elements change: of owned elements how many there are and for how many there is room,
+    /// of borrowed ones which borrow they are of, and its places.
+    ghost frame: { Self → StorageFrame };
 
     /// Writes the element at a place, and returns the old one.
     fn replace(&mut self, place: usize, value: Self::Elem) -> Self::Elem
         requires { IsSome (Self.stored self.old place) }
         ensures old { Self.stored self.old place ≡ Some result }
         ensures new { (p : ℕ) → Self.stored self.new p ≡ written_at (Self.stored self.old) place value p }
-        ensures borrow { borrow self.new ≡ borrow self.old };
+        ensures frame { frame self.new ≡ frame self.old };
 
     /// The element at a place, to be written.
     fn element_mut(&mut self, place: usize) -> &mut Self::Elem
@@ -275,14 +286,15 @@ pub trait DataMut: Data {
     /// Lends all places, for a shorter time.
     fn lend(&mut self) -> Region<'_, Self::Elem>
         ensures* writes_back { sem 𝓛 (follows Self.row (Array Self.Elem.row 0) self.entry.ghost_name result.name (λ ws. (Self.refilled self.old ws).0)) }
-        ensures places { (place : ℕ) → region_stored result place ≡ Self.stored self.old place };
+        ensures places { (place : ℕ) → region_stored result place ≡ Self.stored self.old place }
+        ensures items { elements_of result ≡ Self.items self.old };
 
     /// Exchanges the elements at two places.
     fn swap(&mut self, p: usize, q: usize)
         requires p { IsSome (Self.stored self.old p) }
         requires q { IsSome (Self.stored self.old q) }
         ensures new { (r : ℕ) → Self.stored self.new r ≡ swapped_at (Self.stored self.old) p q r }
-        ensures borrow { borrow self.new ≡ borrow self.old };
+        ensures frame { frame self.new ≡ frame self.old };
 
     /// Lends f the places that the layout names by its offset, lengths and strides, for the length of the call.
     /// Afterwards each of them holds what f left there, and every other place what it held before. That f gives the
@@ -300,7 +312,7 @@ pub trait DataMut: Data {
         requires returns { GivesNamedBack (F.post f) (Self.stored self.old) offset lengths.now strides.now }
         ensures part { IsNamedReturned (F.post f) (Self.stored self.old) (Self.stored self.new) offset lengths.now strides.now result }
         ensures there { (p : ℕ) → is_some (Self.stored self.new p) ≡ is_some (Self.stored self.old p) }
-        ensures borrow { borrow self.new ≡ borrow self.old };
+        ensures frame { frame self.new ≡ frame self.old };
 
     /// Each element has one index alone.
     ghost alone: { Self.Data.exclusive ≡ true };
@@ -308,8 +320,8 @@ pub trait DataMut: Data {
     /// A write changes no other element.
     ghost element_written: { (s : Self) (place : ℕ) (x : Self.Elem) (p : ℕ) → IsSome (Self.Data.stored s place) → Self.Data.stored (Self.Data.with_element s place x).0 p ≡ written_at (Self.Data.stored s) place x p };
 
-    /// A write keeps the borrow.
-    ghost element_borrow: { (s : Self) (place : ℕ) (x : Self.Elem) → borrow (Self.Data.with_element s place x).0 ≡ borrow s };
+    /// A write keeps the frame.
+    ghost element_frame: { (s : Self) (place : ℕ) (x : Self.Elem) → frame (Self.Data.with_element s place x).0 ≡ frame s };
 
     /// Refilled with its own elements, a storage is unchanged.
     ghost refilled_itself: { (s : Self) → (Self.Data.refilled s (Self.Data.items s)).0 ≡ s };
@@ -317,29 +329,39 @@ pub trait DataMut: Data {
     /// Refilled twice, it holds the last elements.
     ghost refilled_again: { (s : Self) (ws : List Self.Elem) → (Self.Data.refilled s (Self.Data.items (Self.Data.refilled s ws).0)).0 ≡ (Self.Data.refilled s ws).0 };
 
+    /// Refilled with as many elements as it has, it has these.
+    ghost refilled_items: { (s : Self) (ws : List Self.Elem) → length ws ≡ length (Self.Data.items s) → Self.Data.items (Self.Data.refilled s ws).0 ≡ ws };
+
+    /// Refilled at the places that pass a test, it holds at every other what it held.
+    ghost refilled_elsewhere: { (s : Self) (test : ℕ → Bool) (ws : List Self.Elem) (p : ℕ) → test p ≡ false → Self.Data.stored (Self.Data.refilled s (written_where test (Self.Data.items s) ws)).0 p ≡ Self.Data.stored s p };
+
     /// A refilled storage holds something exactly where it did before.
     ghost refilled_there: { (s : Self) (ws : List Self.Elem) (p : ℕ) → is_some (Self.Data.stored (Self.Data.refilled s ws).0 p) ≡ is_some (Self.Data.stored s p) };
 
-    /// A refill keeps the borrow.
-    ghost refilled_borrow: { (s : Self) (ws : List Self.Elem) → borrow (Self.Data.refilled s ws).0 ≡ borrow s };
+    /// A refill keeps the frame.
+    ghost refilled_frame: { (s : Self) (ws : List Self.Elem) → frame (Self.Data.refilled s ws).0 ≡ frame s };
 }
 
 impl<A> DataMut for OwnedRepr<A> {
-    ghost borrow = { λ _. None };
+    ghost frame = { λ s. Owned s.items.len s.items.cap };
 
     ghost alone = { refl };
 
     ghost element_written = { λ s place x p has. item_written s.items.items place p x has };
 
-    ghost element_borrow = { λ s place x. refl };
+    ghost element_frame = { λ s place x. refl };
 
     ghost refilled_itself = { λ s k. record { items = items_itself s.items k } };
 
     ghost refilled_again = { λ s ws k. record { items = items_again s.items ws k } };
 
+    ghost refilled_items = { λ s ws long. items_put s.items ws long };
+
+    ghost refilled_elsewhere = { λ s test ws p other. items_beside s.items test ws p other };
+
     ghost refilled_there = { λ s ws p. items_there s.items ws p };
 
-    ghost refilled_borrow = { λ s ws. refl };
+    ghost refilled_frame = { λ s ws. refl };
 
     fn element_mut(&mut self, place: usize) -> &mut A {
         &mut self.items[place]
@@ -369,21 +391,25 @@ impl<A> DataMut for OwnedRepr<A> {
 }
 
 impl<'a, A> DataMut for ViewMutRepr<'a, A> {
-    ghost borrow = { λ s. Some (borrow_of s.region) };
+    ghost frame = { λ s. Borrowed (borrow_of s.region) };
 
     ghost alone = { refl };
 
     ghost element_written = { λ s place x p has. place_written s.region.items s.region.held place p x has };
 
-    ghost element_borrow = { λ s place x. refl };
+    ghost element_frame = { λ s place x. refl };
 
     ghost refilled_itself = { λ s k. record { region = region_items s.region (overwritten_itself s.region.items k); tie = s.tie } };
 
     ghost refilled_again = { λ s ws k. record { region = region_items s.region (overwritten_again s.region.items ws k); tie = s.tie } };
 
+    ghost refilled_items = { λ s ws long. places_put s.region.items ws long };
+
+    ghost refilled_elsewhere = { λ s test ws p other. places_beside s.region.items s.region.held test ws p other };
+
     ghost refilled_there = { λ s ws p. places_there s.region.items ws s.region.held p };
 
-    ghost refilled_borrow = { λ s ws. refl };
+    ghost refilled_frame = { λ s ws. refl };
 
     fn lend(&mut self) -> Region<'_, A> {
         self.region.reborrow()
@@ -414,7 +440,7 @@ impl<'a, A> DataMut for ViewMutRepr<'a, A> {
 }
 
 /// Lends a part of a slice as a region, for the length of the call.
-fn part_of_slice<A, R, F: for<'b> FnOnce(Region<'b, A>) -> (Region<'b, A>, R)>(
+pub(crate) fn part_of_slice<A, R, F: for<'b> FnOnce(Region<'b, A>) -> (Region<'b, A>, R)>(
     items: &mut [A],
     offset: usize,
     lengths: &[usize],

@@ -1,15 +1,17 @@
 //! Elements written: replaced, exchanged, and through references.
 #![tactic(auto, unfolding(crate::specs::Meaning::meaning_of, crate::specs::Meaning::memory_layout_of))]
 
-ghost use Rattle.std.specs.Prelude.{◌≡◌, ℕ, true, List, Bool, Some, Option, is_some, OnSome};
+ghost use Rattle.std.specs.Prelude.{◌↔◌, ◌≡◌, ◌<◌, length, slice_get, ℕ, true, List, Bool, Some, Option, is_some, IsNone, OnSome};
 ghost use Rattle.std.specs.Option.{option_copied_mut};
 ghost use Rattle.std.specs.Borrow.{sem, LendsIf};
-ghost use Rattle.nd_shape_and_slice.specs.Shape.{in_box};
-ghost use Rattle.nd_array_core.specs.Meaning.{shape_of, element_at, storage_of, place_at};
-ghost use Rattle.nd_array_core.specs.base.Writes.{with_element_at, with_swapped_at, OthersStay};
+ghost use Rattle.nd_shape_and_slice.specs.Shape.{in_box, size_of, row_rank};
+ghost use Rattle.nd_shape_and_slice.specs.FirstIndex.{first_index};
+ghost use Rattle.nd_array_core.specs.Meaning.{shape_of, element_at, layout_strides};
+ghost use Rattle.nd_layout.specs.Ranks.{IsStandard};
+ghost use Rattle.nd_array_core.specs.base.Writes.{IsWrittenAt, IsSwappedAt};
 
-use super::array::ArrayBase;
-use super::storage::DataMut;
+use super::array::{Array, ArrayBase};
+use super::storage::{Data, DataMut, OwnedRepr};
 use nd_shape_and_slice::{Dimension, NdIndex};
 use std::ops::IndexMut;
 
@@ -19,11 +21,7 @@ impl<S: DataMut, D: Dimension> ArrayBase<S, D> {
     pub fn replace<I: NdIndex<D>>(&mut self, index: I, value: S::Elem) -> S::Elem
         requires { in_box (shape_of self.old) (I.coordinates_of index) ≡ true }
         ensures old { element_at self.old (I.coordinates_of index) ≡ Some result }
-        ensures shape { shape_of self.new ≡ shape_of self.old }
-        ensures elements { (i : List ℕ) → element_at self.new i ≡ with_element_at (element_at self.old) (I.coordinates_of index) value i }
-        ensures places { (i : List ℕ) → place_at self.new i ≡ place_at self.old i }
-        ensures others { OthersStay (place_at self.old) (S.stored (storage_of self.old)) (S.stored (storage_of self.new)) }
-        ensures borrow { S.borrow (storage_of self.new) ≡ S.borrow (storage_of self.old) }
+        ensures new { IsWrittenAt S.frame self.old (I.coordinates_of index) value self.new }
     {
         self.replace_at(index.coordinates(), value)
     }
@@ -32,11 +30,7 @@ impl<S: DataMut, D: Dimension> ArrayBase<S, D> {
     pub(crate) fn replace_at(&mut self, index: &[usize], value: S::Elem) -> S::Elem
         requires { in_box (shape_of self.old) index.now ≡ true }
         ensures old { element_at self.old index.now ≡ Some result }
-        ensures shape { shape_of self.new ≡ shape_of self.old }
-        ensures elements { (i : List ℕ) → element_at self.new i ≡ with_element_at (element_at self.old) index.now value i }
-        ensures places { (i : List ℕ) → place_at self.new i ≡ place_at self.old i }
-        ensures others { OthersStay (place_at self.old) (S.stored (storage_of self.old)) (S.stored (storage_of self.new)) }
-        ensures borrow { S.borrow (storage_of self.new) ≡ S.borrow (storage_of self.old) }
+        ensures new { IsWrittenAt S.frame self.old index.now value self.new }
     {
         let place = self.layout.place_in_box(index);
         self.storage.replace(place, value)
@@ -46,11 +40,7 @@ impl<S: DataMut, D: Dimension> ArrayBase<S, D> {
     pub fn swap<I: NdIndex<D>>(&mut self, a: I, b: I)
         requires a { in_box (shape_of self.old) (I.coordinates_of a) ≡ true }
         requires b { in_box (shape_of self.old) (I.coordinates_of b) ≡ true }
-        ensures shape { shape_of self.new ≡ shape_of self.old }
-        ensures elements { (i : List ℕ) → element_at self.new i ≡ with_swapped_at (element_at self.old) (I.coordinates_of a) (I.coordinates_of b) i }
-        ensures places { (i : List ℕ) → place_at self.new i ≡ place_at self.old i }
-        ensures others { OthersStay (place_at self.old) (S.stored (storage_of self.old)) (S.stored (storage_of self.new)) }
-        ensures borrow { S.borrow (storage_of self.new) ≡ S.borrow (storage_of self.old) }
+        ensures new { IsSwappedAt S.frame self.old (I.coordinates_of a) (I.coordinates_of b) self.new }
     {
         let p = self.layout.place_in_box(a.coordinates());
         let q = self.layout.place_in_box(b.coordinates());
@@ -61,18 +51,14 @@ impl<S: DataMut, D: Dimension> ArrayBase<S, D> {
     pub fn uswap<I: NdIndex<D>>(&mut self, a: I, b: I)
         requires a { in_box (shape_of self.old) (I.coordinates_of a) ≡ true }
         requires b { in_box (shape_of self.old) (I.coordinates_of b) ≡ true }
-        ensures shape { shape_of self.new ≡ shape_of self.old }
-        ensures elements { (i : List ℕ) → element_at self.new i ≡ with_swapped_at (element_at self.old) (I.coordinates_of a) (I.coordinates_of b) i }
-        ensures places { (i : List ℕ) → place_at self.new i ≡ place_at self.old i }
-        ensures others { OthersStay (place_at self.old) (S.stored (storage_of self.old)) (S.stored (storage_of self.new)) }
-        ensures borrow { S.borrow (storage_of self.new) ≡ S.borrow (storage_of self.old) }
+        ensures new { IsSwappedAt S.frame self.old (I.coordinates_of a) (I.coordinates_of b) self.new }
     {
         self.swap(a, b);
     }
 }
 
 impl<S: DataMut, D: Dimension> ArrayBase<S, D> {
-    ghost use Rattle.nd_array_core.specs.base.ElementLent.{lends_element, array_with_element, IsWrittenAt};
+    ghost use Rattle.nd_array_core.specs.base.ElementLent.{lends_element, array_with_element};
 
     /// The element at an index of the shape's box (`get` tells which indexes are in it), to be written. ndarray's
     /// `uget_mut`.
@@ -80,69 +66,117 @@ impl<S: DataMut, D: Dimension> ArrayBase<S, D> {
         requires { in_box (shape_of self.old) (I.coordinates_of index) ≡ true }
         ensures* writes_back { sem 𝓛 (lends_element S.row S.Elem.row D.row D.Pattern.row D.Strides.row D.Smaller.row D.Larger.row S.Data D.Dimension D.AxisCount D.Strides.StrideList self.entry (I.coordinates_of index) result) }
         ensures value { element_at self.old (I.coordinates_of index) ≡ Some result.now }
-        ensures written { (x : S.Elem) → IsWrittenAt S.borrow self.old (I.coordinates_of index) x (array_with_element S.with_element self.old (I.coordinates_of index) x) }
+        ensures written { (x : S.Elem) → IsWrittenAt S.frame self.old (I.coordinates_of index) x (array_with_element S.with_element self.old (I.coordinates_of index) x) }
     {
         let place = self.layout.place_in_box(index.coordinates());
         self.storage.element_mut(place)
     }
 }
 
-/// `get_mut` of arrays and mutable views. It is a trait because a clause on what a lender ends as is accepted beside an
-/// `Option` only where the lender is `Self`.
-pub trait GetMut<I> {
+/// `get_mut` and `first_mut` of arrays and mutable views. They are a trait's because a clause on what a lender ends as is
+/// accepted beside an `Option` only where the lender is `Self`.
+pub trait GetMut {
     /// What is stored.
     type Elem;
 
+    /// The array's dimension.
+    type Dim;
+
     /// Whether the index is in the shape.
-    ghost has_index: { Self → I → Bool };
+    ghost has_index: { Self → List ℕ → Bool };
+
+    /// The index of zeros.
+    ghost first_got: { Self → List ℕ };
+
+    /// How many elements there are.
+    ghost size_got: { Self → ℕ };
 
     /// The element at an index, None exactly outside the shape.
-    ghost element_got: { Self → I → Option Self.Elem };
+    ghost element_got: { Self → List ℕ → Option Self.Elem };
 
     /// The array with another element at an index.
-    ghost with_element_got: { Self → I → Self.Elem → Self };
+    ghost with_element_got: { Self → List ℕ → Self.Elem → Self };
 
     /// The second array is the first with that element at the index, and is otherwise unchanged.
-    ghost is_written_got: { Self → I → Self.Elem → Self → Type 0 };
+    ghost is_written_got: { Self → List ℕ → Self.Elem → Self → Type 0 };
 
     /// The element at an index, to be written; None exactly outside the shape's box, a wrong number of coordinates
     /// included. ndarray's `get_mut`.
-    fn get_mut(&mut self, index: I) -> Option<&mut Self::Elem>
-        ensures* writes_back { sem 𝓛 (LendsIf Self.row Self.Elem.row self.entry result (with_element_got self.old index) self.old) }
-        ensures element { option_copied_mut result ≡ element_got self.old index }
-        ensures within { is_some result ≡ has_index self.old index }
-        ensures written { OnSome result ((x : Self.Elem) → is_written_got self.old index x (with_element_got self.old index x)) };
+    fn get_mut<I: NdIndex<Self::Dim>>(&mut self, index: I) -> Option<&mut Self::Elem>
+        ensures* writes_back { sem 𝓛 (LendsIf Self.row Self.Elem.row self.entry result (with_element_got self.old (I.coordinates_of index)) self.old) }
+        ensures element { option_copied_mut result ≡ element_got self.old (I.coordinates_of index) }
+        ensures within { is_some result ≡ has_index self.old (I.coordinates_of index) }
+        ensures written { OnSome result ((x : Self.Elem) → is_written_got self.old (I.coordinates_of index) x (with_element_got self.old (I.coordinates_of index) x)) };
+
+    /// The element at the index of zeros, to be written; None exactly where the array has no elements. ndarray's
+    /// `first_mut`.
+    fn first_mut(&mut self) -> Option<&mut Self::Elem>
+        ensures* writes_back { sem 𝓛 (LendsIf Self.row Self.Elem.row self.entry result (with_element_got self.old (first_got self.old)) self.old) }
+        ensures element { option_copied_mut result ≡ element_got self.old (first_got self.old) }
+        ensures none { IsNone result ↔ (size_got self.old ≡ 0) }
+        ensures written { OnSome result ((x : Self.Elem) → is_written_got self.old (first_got self.old) x (with_element_got self.old (first_got self.old) x)) };
 }
 
-impl<S: DataMut, D: Dimension, I: NdIndex<D>> GetMut<I> for ArrayBase<S, D> {
-    ghost use Rattle.nd_array_core.specs.base.ElementLent.{array_with_element, IsWrittenAt};
+impl<S: DataMut, D: Dimension> GetMut for ArrayBase<S, D> {
+    ghost use Rattle.nd_array_core.specs.base.ElementLent.{array_with_element};
 
     type Elem = S::Elem;
 
-    ghost has_index = { λ a i. in_box (shape_of a) (I.coordinates_of i) };
+    type Dim = D;
 
-    ghost element_got = { λ a i. element_at a (I.coordinates_of i) };
+    ghost has_index = { λ a i. in_box (shape_of a) i };
 
-    ghost with_element_got = { λ a i x. array_with_element S.with_element a (I.coordinates_of i) x };
+    ghost first_got = { λ a. first_index (shape_of a) };
 
-    ghost is_written_got = { λ a i x new. IsWrittenAt S.borrow a (I.coordinates_of i) x new };
+    ghost size_got = { λ a. size_of (shape_of a) };
 
-    fn get_mut(&mut self, index: I) -> Option<&mut S::Elem> {
+    ghost element_got = { λ a i. element_at a i };
+
+    ghost with_element_got = { λ a i x. array_with_element S.with_element a i x };
+
+    ghost is_written_got = { λ a i x new. IsWrittenAt S.frame a i x new };
+
+    fn get_mut<I: NdIndex<D>>(&mut self, index: I) -> Option<&mut S::Elem> {
         match self.layout.place_of(index.coordinates()) {
             Some(place) => Some(self.storage.element_mut(place)),
             None => None,
         }
     }
+
+    fn first_mut(&mut self) -> Option<&mut S::Elem> {
+        match self.layout.first_place() {
+            Some(first) => Some(self.storage.element_mut(first)),
+            None => None,
+        }
+    }
+}
+
+impl<A, D: Dimension> Array<A, D> {
+    ghost use Rattle.nd_array_core.specs.layout.RunLent.{lends_elements};
+    ghost use Rattle.nd_array_core.specs.contracts.base.storage.OwnedRepr.{the_row as owned_row};
+
+    /// The elements in logical order, to be written. The layout is the standard one, and there are elements.
+    pub(crate) fn elements_mut(&mut self) -> &mut [A]
+        requires standard { IsStandard (shape_of self.old) (layout_strides self.old) }
+        requires some { 0 < size_of (shape_of self.old) }
+        ensures* writes_back { sem 𝓛 (lends_elements (owned_row A.row) A.row D.row D.Pattern.row D.Strides.row D.Smaller.row D.Larger.row ⟦<OwnedRepr<A> as Data>⟧ D.Dimension D.AxisCount D.Strides.StrideList self.entry result) }
+        ensures count { length result.now ≡ size_of (shape_of self.old) }
+        ensures elements { (i : List ℕ) → in_box (shape_of self.old) i ≡ true → slice_get result.now (row_rank (shape_of self.old) i) ≡ element_at self.old i }
+    {
+        let first = self.layout.offset;
+        let count = self.layout.dim.size();
+        self.storage.run_mut(first, count)
+    }
 }
 
 impl<S: DataMut, D: Dimension, I: NdIndex<D>> IndexMut<I> for ArrayBase<S, D> {
-    ghost use Rattle.nd_array_core.specs.base.ElementLent.{lends_element, array_with_element, IsWrittenAt};
+    ghost use Rattle.nd_array_core.specs.base.ElementLent.{lends_element, array_with_element};
 
     fn index_mut(&mut self, index: I) -> &mut S::Elem
         requires { in_box (shape_of self.old) (I.coordinates_of index) ≡ true }
         ensures* writes_back { sem 𝓛 (lends_element S.row S.Elem.row D.row D.Pattern.row D.Strides.row D.Smaller.row D.Larger.row S.Data D.Dimension D.AxisCount D.Strides.StrideList self.entry (I.coordinates_of index) result) }
         ensures value { element_at self.old (I.coordinates_of index) ≡ Some result.now }
-        ensures written { (x : S.Elem) → IsWrittenAt S.borrow self.old (I.coordinates_of index) x (array_with_element S.with_element self.old (I.coordinates_of index) x) }
+        ensures written { (x : S.Elem) → IsWrittenAt S.frame self.old (I.coordinates_of index) x (array_with_element S.with_element self.old (I.coordinates_of index) x) }
     {
         self.uget_mut(index)
     }

@@ -2,7 +2,7 @@
 #![tactic(auto, unfolding(crate::specs::Meaning::meaning_of, crate::specs::Meaning::memory_layout_of))]
 
 ghost use Rattle.std.specs.Prelude.{◌≡◌, ℕ, List, Some, OnOk, OnErr};
-ghost use Rattle.nd_array_core.specs.base.Writes.{OthersStay, IsOldOrNew};
+ghost use Rattle.nd_array_core.specs.base.Writes.{KeepsFrame, IsOldOrNew};
 
 use crate::base::array::ArrayBase;
 use crate::base::storage::DataMut;
@@ -12,18 +12,15 @@ impl<S: DataMut, D: Dimension> ArrayBase<S, D>
 where
     S::Elem: Clone + Drop,
 {
-    ghost use Rattle.nd_array_core.specs.Meaning.{shape_of, element_at, storage_of, place_at, inside};
+    ghost use Rattle.nd_array_core.specs.Meaning.{shape_of, element_at, inside};
 
     /// Writes a clone of the value at each index; a clone must equal its original. NoMemory if a clone is refused: each
     /// index then has its old element or the new one. ndarray's `fill`.
     pub fn fill(&mut self, value: S::Elem) -> Result<(), NoMemory>
         requires { (copy : S.Elem) → S.Elem.is_clone value copy → copy ≡ value }
-        ensures shape { shape_of self.new ≡ shape_of self.old }
         ensures filled { OnOk result ((i : List ℕ) → element_at self.new i ≡ inside (shape_of self.old) i (Some value)) }
         ensures stopped { OnErr result (IsOldOrNew (shape_of self.old) (element_at self.old) value (element_at self.new)) }
-        ensures places { (i : List ℕ) → place_at self.new i ≡ place_at self.old i }
-        ensures others { OthersStay (place_at self.old) (S.stored (storage_of self.old)) (S.stored (storage_of self.new)) }
-        ensures borrow { S.borrow (storage_of self.new) ≡ S.borrow (storage_of self.old) }
+        ensures frame { KeepsFrame S.frame self.old self.new }
     {
         let mut coordinates = [0; MAX_AXES];
         for rank in 0..self.len() {

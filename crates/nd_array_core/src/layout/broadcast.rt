@@ -1,10 +1,10 @@
 //! Broadcast: an array seen under a larger shape, with no copy.
 #![tactic(auto, unfolding(crate::specs::Meaning::meaning_of, crate::specs::Meaning::memory_layout_of))]
 
-ghost use Rattle.std.specs.Prelude.{◌↔◌, ◌≡◌, ℕ, false, IsNone, IfSome, List};
-ghost use Rattle.nd_shape_and_slice.specs.Broadcast.{broadcasts, broadcast_index};
-ghost use Rattle.nd_layout.specs.Strides.{broadcast_strides};
-ghost use Rattle.nd_array_core.specs.Meaning.{shape_of, element_at, layout_strides, inside};
+ghost use Rattle.std.specs.Prelude.{◌↔◌, ◌≡◌, false, IsNone, IfSome};
+ghost use Rattle.nd_shape_and_slice.specs.Broadcast.{broadcasts};
+ghost use Rattle.nd_array_core.specs.Meaning.{shape_of};
+ghost use Rattle.nd_array_core.specs.Part.{broadcast_part, ShowsPart};
 
 use crate::base::array::{ArrayBase, ArrayView};
 use crate::base::storage::Data;
@@ -17,9 +17,7 @@ impl<S: Data, D: Dimension> ArrayBase<S, D> {
     #[inline]
     pub fn broadcast<E: IntoDimension>(&self, to: E) -> Option<ArrayView<'_, S::Elem, E::Dim>>
         ensures none { IsNone result ↔ (broadcasts (shape_of self.now) (E.lengths_given to) ≡ false) }
-        ensures shape { IfSome result (λ v. shape_of v ≡ E.lengths_given to) }
-        ensures strides { IfSome result (λ v. layout_strides v ≡ broadcast_strides (shape_of self.now) (layout_strides self.now) (shape_of v)) }
-        ensures elements { IfSome result (λ v. (i : List ℕ) → element_at v i ≡ inside (shape_of v) i (element_at self.now (broadcast_index (shape_of self.now) (shape_of v) i))) }
+        ensures part { IfSome result (λ v. ShowsPart self.now (broadcast_part self.now (E.lengths_given to)) v) }
     {
         let layout = self.layout.broadcast(to.into_dimension())?;
         Some(ArrayBase {
@@ -34,9 +32,7 @@ impl<'a, A, D: Dimension> ArrayView<'a, A, D> {
     #[inline]
     pub fn broadcast_move<E: IntoDimension>(self, to: E) -> Option<ArrayView<'a, A, E::Dim>>
         ensures none { IsNone result ↔ (broadcasts (shape_of self.entry) (E.lengths_given to) ≡ false) }
-        ensures shape { IfSome result (λ v. shape_of v ≡ E.lengths_given to) }
-        ensures strides { IfSome result (λ v. layout_strides v ≡ broadcast_strides (shape_of self.entry) (layout_strides self.entry) (shape_of v)) }
-        ensures elements { IfSome result (λ v. (i : List ℕ) → element_at v i ≡ inside (shape_of v) i (element_at self.entry (broadcast_index (shape_of self.entry) (shape_of v) i))) }
+        ensures part { IfSome result (λ v. ShowsPart self.entry (broadcast_part self.entry (E.lengths_given to)) v) }
     {
         let layout = self.layout.broadcast(to.into_dimension())?;
         Some(ArrayBase {

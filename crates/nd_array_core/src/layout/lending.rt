@@ -1,44 +1,74 @@
-//! Views of a whole array to be written, which the `_mut` calls take their parts of, and views for a shorter time.
+//! Views of an array to be written, of all of it and, for the other `_mut` calls, of what a layout names; and views for a
+//! shorter time.
 #![tactic(auto, unfolding(crate::specs::Meaning::meaning_of, crate::specs::Meaning::memory_layout_of))]
 
-ghost use Rattle.std.specs.Prelude.{◌≡◌, ℕ, List};
+ghost use Rattle.std.specs.Prelude.{◌≡◌, ◌<◌, ℕ, length, List};
 ghost use Rattle.std.specs.Borrow.{sem};
+ghost use Rattle.nd_shape_and_slice.specs.Shape.{size_of};
+ghost use Rattle.nd_shape_and_slice.specs.Place.{IsSeparated};
+ghost use Rattle.nd_region.specs.Places.{names};
 ghost use Rattle.nd_region.specs.Region.{region_stored};
-ghost use Rattle.nd_array_core.specs.Meaning.{shape_of, element_at, storage_of, place_at, layout_strides};
+ghost use Rattle.nd_array_core.specs.Places.{HoldsAll, kept_at};
+ghost use Rattle.nd_array_core.specs.layout.Parts.{IsViewUnder};
+ghost use Rattle.nd_array_core.specs.Meaning.{shape_of, element_at, place_at, layout_strides, layout_offset};
+ghost use Rattle.nd_array_core.specs.Part.{ShowsWhole, BecomesWhole};
 
 use crate::base::array::{ArrayBase, ArrayView, ArrayViewMut};
 use crate::base::storage::{DataMut, RegionRepr, ViewMutRepr, ViewRepr};
+use nd_layout::Layout;
 use nd_shape_and_slice::{AxisCount, Dimension, StrideList};
 
 impl<S: DataMut, D: Dimension> ArrayBase<S, D> {
-    ghost use Rattle.nd_array_core.specs.layout.ViewLent.{array_follows_view, array_with_items, IsRefilled, tie_of};
+    ghost use Rattle.nd_array_core.specs.layout.ViewLent.{array_follows_part, array_with_part, lent_places, tie_of, IsRefilled, KeepsPlacesBut};
 
-    /// The whole storage of the array as a region, tied to the array.
-    fn lent(&mut self) -> ViewMutRepr<'_, S::Elem>
-        ensures* writes_back { sem 𝓛 (array_follows_view S.row S.Elem.row D.row D.Pattern.row D.Strides.row D.Smaller.row D.Larger.row S.Data D.Dimension D.AxisCount D.Strides.StrideList self.entry result.tie.value) }
-        ensures elements { (place : ℕ) → region_stored result.region place ≡ S.stored self.old.storage place }
+    /// The places of the array's storage that a layout names as a region, tied to the array.
+    fn lent_part(
+        &mut self,
+        offset: usize,
+        lengths: &[usize],
+        strides: &[isize],
+    ) -> ViewMutRepr<'_, S::Elem>
+        requires as_many { length lengths.now ≡ length strides.now }
+        requires holds { HoldsAll (S.stored self.old.storage) offset lengths.now strides.now }
+        ensures* writes_back { sem 𝓛 (array_follows_part S.row S.Elem.row D.row D.Pattern.row D.Strides.row D.Smaller.row D.Larger.row S.Data D.Dimension D.AxisCount D.Strides.StrideList self.entry result.tie.value (names offset lengths.now strides.now)) }
+        ensures elements { (place : ℕ) → region_stored result.region place ≡ kept_at (names offset lengths.now strides.now) (S.stored self.old.storage) place }
     {
-        ViewMutRepr::of_region(self.storage.lend())
+        ViewMutRepr::of_region(self.storage.lend().into_part(offset, lengths, strides))
+    }
+
+    /// The view of what a layout names of the array's storage, where each index has a place of its own.
+    pub(crate) fn lent_as<E: Dimension>(
+        &mut self,
+        layout: Layout<E, E::Strides>,
+    ) -> ArrayViewMut<'_, S::Elem, E>
+        requires holds { HoldsAll (S.stored self.old.storage) layout.offset (E.lengths layout.dim) (E.Strides.strides_of layout.strides) }
+        requires separated { 0 < size_of (E.lengths layout.dim) → IsSeparated (E.lengths layout.dim) (E.Strides.strides_of layout.strides) }
+        ensures* writes_back { sem 𝓛 (array_follows_part S.row S.Elem.row D.row D.Pattern.row D.Strides.row D.Smaller.row D.Larger.row S.Data D.Dimension D.AxisCount D.Strides.StrideList self.entry (tie_of result) (lent_places result)) }
+        ensures seen { IsViewUnder (S.stored self.old.storage) layout.offset (E.lengths layout.dim) (E.Strides.strides_of layout.strides) (shape_of result) (layout_strides result) (element_at result) (place_at result) }
+        ensures offset { layout_offset result ≡ layout.offset }
+        ensures refilled { (ws : List S.Elem) → IsRefilled S.frame self.old (array_with_part S.refilled S.items self.old (lent_places result) ws) }
+        ensures others { (ws : List S.Elem) → KeepsPlacesBut (place_at result) self.old (array_with_part S.refilled S.items self.old (lent_places result) ws) }
+    {
+        ArrayBase {
+            storage: self.lent_part(layout.offset, layout.dim.slice(), layout.strides.slice()),
+            layout,
+        }
     }
 
     /// A view of the array, to be read and written, with the same strides. ndarray's `view_mut`.
     ///
     /// Once the view is over, a caller knows that the shape, the strides and the places of the array are as before, and so
-    /// are its borrow and the places at which its storage holds something (`refilled`). It doesn't know which elements
-    /// were written: for that, lend the view for a call (`with_view_mut`).
+    /// are its borrow and the places at which its storage holds something (`refilled`); and each place that is none of
+    /// the view's holds what it held (`others`). It doesn't know which elements were written: for that, lend the view
+    /// for a call (`with_view_mut`).
     pub fn view_mut(&mut self) -> ArrayViewMut<'_, S::Elem, D>
-        ensures* writes_back { sem 𝓛 (array_follows_view S.row S.Elem.row D.row D.Pattern.row D.Strides.row D.Smaller.row D.Larger.row S.Data D.Dimension D.AxisCount D.Strides.StrideList self.entry (tie_of result)) }
-        ensures shape { shape_of result ≡ shape_of self.old }
-        ensures strides { layout_strides result ≡ layout_strides self.old }
-        ensures elements { (i : List ℕ) → element_at result i ≡ element_at self.old i }
-        ensures places { (i : List ℕ) → place_at result i ≡ place_at self.old i }
-        ensures refilled { (ws : List S.Elem) → IsRefilled S.borrow self.old (array_with_items S.refilled self.old ws) }
+        ensures* writes_back { sem 𝓛 (array_follows_part S.row S.Elem.row D.row D.Pattern.row D.Strides.row D.Smaller.row D.Larger.row S.Data D.Dimension D.AxisCount D.Strides.StrideList self.entry (tie_of result) (lent_places result)) }
+        ensures whole { ShowsWhole self.old result }
+        ensures refilled { (ws : List S.Elem) → IsRefilled S.frame self.old (array_with_part S.refilled S.items self.old (lent_places result) ws) }
+        ensures others { (ws : List S.Elem) → KeepsPlacesBut (place_at result) self.old (array_with_part S.refilled S.items self.old (lent_places result) ws) }
     {
         let layout = self.layout.copied();
-        ArrayBase {
-            storage: self.lent(),
-            layout,
-        }
+        self.lent_as(layout)
     }
 }
 
@@ -47,11 +77,7 @@ impl<'a, A, D: Dimension> ArrayViewMut<'a, A, D> {
     pub fn reborrow<'b>(self) -> ArrayViewMut<'b, A, D>
     where
         'a: 'b,
-        ensures shape { shape_of result ≡ shape_of self.entry }
-        ensures strides { layout_strides result ≡ layout_strides self.entry }
-        ensures elements { (i : List ℕ) → element_at result i ≡ element_at self.entry i }
-        ensures places { (i : List ℕ) → place_at result i ≡ place_at self.entry i }
-        ensures storage { storage_of result ≡ storage_of self.entry }
+        ensures whole { BecomesWhole self.entry result }
     {
         ArrayBase {
             storage: RegionRepr {
@@ -68,9 +94,7 @@ impl<'a, A, D: Dimension> ArrayView<'a, A, D> {
     pub fn reborrow<'b>(self) -> ArrayView<'b, A, D>
     where
         'a: 'b,
-        ensures shape { shape_of result ≡ shape_of self.entry }
-        ensures strides { layout_strides result ≡ layout_strides self.entry }
-        ensures elements { (i : List ℕ) → element_at result i ≡ element_at self.entry i }
+        ensures whole { ShowsWhole self.entry result }
     {
         let layout = self.layout;
         ArrayBase {

@@ -2,17 +2,18 @@
 //! Parts to be written share no place.
 #![tactic(auto, unfolding(crate::specs::Meaning::meaning_of, crate::specs::Meaning::memory_layout_of))]
 
-ghost use Rattle.std.specs.Prelude.{◌≡◌, ◌<◌, ◌≤◌, ℕ, List, Option, length, slice_index};
+ghost use Rattle.std.specs.Prelude.{◌≡◌, ◌<◌, ◌≤◌, ℕ, length, slice_index};
 ghost use Rattle.nd_shape_and_slice.specs.Maps.{lower_shape, upper_shape, upper_index};
 ghost use Rattle.nd_shape_and_slice.specs.Place.{IsSeparated};
 ghost use Rattle.nd_shape_and_slice.specs.Shape.{size_of};
 ghost use Rattle.nd_region.specs.Places.{names_not, LayoutsShareNoPlace};
 ghost use Rattle.nd_region.specs.Region.{region_stored};
 ghost use Rattle.nd_layout.specs.Steps.{IsStep};
-ghost use Rattle.nd_array_core.specs.Meaning.{shape_of, element_at, storage_of, place_at, layout_strides, inside};
-ghost use Rattle.nd_array_core.specs.layout.MultiSlice.{TwoFit, ThreeFit, FourFit, ThreeShareNoPlace, FourShareNoPlace, IsSlicedBy, FitsEach, TakenOf};
+ghost use Rattle.nd_array_core.specs.Meaning.{shape_of, element_at, place_at, layout_strides};
+ghost use Rattle.nd_array_core.specs.layout.MultiSlice.{TwoFit, ThreeFit, FourFit, ThreeShareNoPlace, FourShareNoPlace, FitsEach, TakenOf};
 ghost use Rattle.nd_array_core.specs.layout.Parts.{HoldsEachOnce, IsViewUnder};
 ghost use Rattle.nd_array_core.specs.Places.{kept_at, ShareNoPlace};
+ghost use Rattle.nd_array_core.specs.Part.{lower_part, upper_part, sliced_part, ShowsPart, ShowsWhole};
 
 use super::slicing::sliced_by;
 use crate::base::array::{ArrayBase, ArrayView, ArrayViewMut};
@@ -27,31 +28,25 @@ impl<'a, A, D: Dimension> ArrayView<'a, A, D> {
     pub fn split_at(self, axis: Axis, index: usize) -> (Self, Self)
         requires axis { axis.0 < length (shape_of self) }
         requires within { index ≤ slice_index (shape_of self) axis.0 }
-        ensures lower_shape { shape_of result.0 ≡ lower_shape (shape_of self.entry) axis.0 index }
-        ensures lower_strides { layout_strides result.0 ≡ layout_strides self.entry }
-        ensures lower { (i : List ℕ) → element_at result.0 i ≡ inside (shape_of result.0) i (element_at self.entry i) }
-        ensures upper_shape { shape_of result.1 ≡ upper_shape (shape_of self.entry) axis.0 index }
-        ensures upper_strides { layout_strides result.1 ≡ layout_strides self.entry }
-        ensures upper { (i : List ℕ) → element_at result.1 i ≡ inside (shape_of result.1) i (element_at self.entry (upper_index axis.0 index i)) }
+        ensures lower { ShowsPart self.entry (lower_part self.entry axis.0 index) result.0 }
+        ensures upper { ShowsPart self.entry (upper_part self.entry axis.0 index) result.1 }
     {
-        let (lower, upper) = self.layout.halves(axis.0, index);
-        let lower = ArrayBase {
+        let mut lower = ArrayBase {
             storage: ViewRepr {
                 region: self.storage.region,
             },
-            layout: lower,
+            layout: self.layout.copied(),
         };
-        let upper = ArrayBase {
-            storage: self.storage,
-            layout: upper,
-        };
+        let mut upper = self;
+        lower.layout.keep_lower(axis.0, index);
+        upper.layout.keep_upper(axis.0, index);
         (lower, upper)
     }
 }
 
 /// The layouts of the two parts of an axis, which share no place where the strides are separated.
 #[inline]
-fn halves<D: Dimension, T: StrideList>(
+pub(crate) fn halves<D: Dimension, T: StrideList>(
     layout: &Layout<D, T>,
     axis: usize,
     index: usize,
@@ -80,86 +75,6 @@ impl<'a, A> ViewMutRepr<'a, A> {
         let storage = self.split(&layout);
         ArrayBase { storage, layout }
     }
-
-    /// The elements of two layouts that share no place, each as a storage of its own.
-    pub(crate) fn two_parts<D: Dimension, E: Dimension>(
-        self,
-        first: Layout<D, D::Strides>,
-        second: Layout<E, E::Strides>,
-    ) -> (ArrayViewMut<'a, A, D>, ArrayViewMut<'a, A, E>)
-        requires first { HoldsEachOnce (region_stored self.region) first.offset (D.lengths first.dim) (D.Strides.strides_of first.strides) }
-        requires second { HoldsEachOnce (region_stored self.region) second.offset (E.lengths second.dim) (E.Strides.strides_of second.strides) }
-        requires apart { LayoutsShareNoPlace first.offset (D.lengths first.dim) (D.Strides.strides_of first.strides) second.offset (E.lengths second.dim) (E.Strides.strides_of second.strides) }
-        ensures first { IsViewUnder (region_stored self.entry.region) first.offset (D.lengths first.dim) (D.Strides.strides_of first.strides) (shape_of result.0) (layout_strides result.0) (element_at result.0) (place_at result.0) }
-        ensures second { IsViewUnder (region_stored self.entry.region) second.offset (E.lengths second.dim) (E.Strides.strides_of second.strides) (shape_of result.1) (layout_strides result.1) (element_at result.1) (place_at result.1) }
-    {
-        let mut storage = self;
-        let part = storage.part(first);
-        (part, storage.part(second))
-    }
-
-    /// The elements that three layouts name, no two of which share a place.
-    pub(crate) fn three_parts<D: Dimension, E: Dimension, F: Dimension>(
-        self,
-        first: Layout<D, D::Strides>,
-        second: Layout<E, E::Strides>,
-        third: Layout<F, F::Strides>,
-    ) -> (
-        ArrayViewMut<'a, A, D>,
-        ArrayViewMut<'a, A, E>,
-        ArrayViewMut<'a, A, F>,
-    )
-        requires first { HoldsEachOnce (region_stored self.region) first.offset (D.lengths first.dim) (D.Strides.strides_of first.strides) }
-        requires second { HoldsEachOnce (region_stored self.region) second.offset (E.lengths second.dim) (E.Strides.strides_of second.strides) }
-        requires third { HoldsEachOnce (region_stored self.region) third.offset (F.lengths third.dim) (F.Strides.strides_of third.strides) }
-        requires first_second { LayoutsShareNoPlace first.offset (D.lengths first.dim) (D.Strides.strides_of first.strides) second.offset (E.lengths second.dim) (E.Strides.strides_of second.strides) }
-        requires first_third { LayoutsShareNoPlace first.offset (D.lengths first.dim) (D.Strides.strides_of first.strides) third.offset (F.lengths third.dim) (F.Strides.strides_of third.strides) }
-        requires second_third { LayoutsShareNoPlace second.offset (E.lengths second.dim) (E.Strides.strides_of second.strides) third.offset (F.lengths third.dim) (F.Strides.strides_of third.strides) }
-        ensures first { IsViewUnder (region_stored self.entry.region) first.offset (D.lengths first.dim) (D.Strides.strides_of first.strides) (shape_of result.0) (layout_strides result.0) (element_at result.0) (place_at result.0) }
-        ensures second { IsViewUnder (region_stored self.entry.region) second.offset (E.lengths second.dim) (E.Strides.strides_of second.strides) (shape_of result.1) (layout_strides result.1) (element_at result.1) (place_at result.1) }
-        ensures third { IsViewUnder (region_stored self.entry.region) third.offset (F.lengths third.dim) (F.Strides.strides_of third.strides) (shape_of result.2) (layout_strides result.2) (element_at result.2) (place_at result.2) }
-        ensures apart { ThreeShareNoPlace (place_at result.0) (place_at result.1) (place_at result.2) }
-    {
-        let mut storage = self;
-        let part = storage.part(first);
-        let (second, third) = storage.two_parts(second, third);
-        (part, second, third)
-    }
-
-    /// The elements that four layouts name, no two of which share a place.
-    pub(crate) fn four_parts<D: Dimension, E: Dimension, F: Dimension, G: Dimension>(
-        self,
-        first: Layout<D, D::Strides>,
-        second: Layout<E, E::Strides>,
-        third: Layout<F, F::Strides>,
-        fourth: Layout<G, G::Strides>,
-    ) -> (
-        ArrayViewMut<'a, A, D>,
-        ArrayViewMut<'a, A, E>,
-        ArrayViewMut<'a, A, F>,
-        ArrayViewMut<'a, A, G>,
-    )
-        requires first { HoldsEachOnce (region_stored self.region) first.offset (D.lengths first.dim) (D.Strides.strides_of first.strides) }
-        requires second { HoldsEachOnce (region_stored self.region) second.offset (E.lengths second.dim) (E.Strides.strides_of second.strides) }
-        requires third { HoldsEachOnce (region_stored self.region) third.offset (F.lengths third.dim) (F.Strides.strides_of third.strides) }
-        requires fourth { HoldsEachOnce (region_stored self.region) fourth.offset (G.lengths fourth.dim) (G.Strides.strides_of fourth.strides) }
-        requires first_second { LayoutsShareNoPlace first.offset (D.lengths first.dim) (D.Strides.strides_of first.strides) second.offset (E.lengths second.dim) (E.Strides.strides_of second.strides) }
-        requires first_third { LayoutsShareNoPlace first.offset (D.lengths first.dim) (D.Strides.strides_of first.strides) third.offset (F.lengths third.dim) (F.Strides.strides_of third.strides) }
-        requires first_fourth { LayoutsShareNoPlace first.offset (D.lengths first.dim) (D.Strides.strides_of first.strides) fourth.offset (G.lengths fourth.dim) (G.Strides.strides_of fourth.strides) }
-        requires second_third { LayoutsShareNoPlace second.offset (E.lengths second.dim) (E.Strides.strides_of second.strides) third.offset (F.lengths third.dim) (F.Strides.strides_of third.strides) }
-        requires second_fourth { LayoutsShareNoPlace second.offset (E.lengths second.dim) (E.Strides.strides_of second.strides) fourth.offset (G.lengths fourth.dim) (G.Strides.strides_of fourth.strides) }
-        requires third_fourth { LayoutsShareNoPlace third.offset (F.lengths third.dim) (F.Strides.strides_of third.strides) fourth.offset (G.lengths fourth.dim) (G.Strides.strides_of fourth.strides) }
-        ensures first { IsViewUnder (region_stored self.entry.region) first.offset (D.lengths first.dim) (D.Strides.strides_of first.strides) (shape_of result.0) (layout_strides result.0) (element_at result.0) (place_at result.0) }
-        ensures second { IsViewUnder (region_stored self.entry.region) second.offset (E.lengths second.dim) (E.Strides.strides_of second.strides) (shape_of result.1) (layout_strides result.1) (element_at result.1) (place_at result.1) }
-        ensures third { IsViewUnder (region_stored self.entry.region) third.offset (F.lengths third.dim) (F.Strides.strides_of third.strides) (shape_of result.2) (layout_strides result.2) (element_at result.2) (place_at result.2) }
-        ensures fourth { IsViewUnder (region_stored self.entry.region) fourth.offset (G.lengths fourth.dim) (G.Strides.strides_of fourth.strides) (shape_of result.3) (layout_strides result.3) (element_at result.3) (place_at result.3) }
-        ensures apart { FourShareNoPlace (place_at result.0) (place_at result.1) (place_at result.2) (place_at result.3) }
-    {
-        let mut storage = self;
-        let part = storage.part(first);
-        let (second, third, fourth) = storage.three_parts(second, third, fourth);
-        (part, second, third, fourth)
-    }
 }
 
 impl<'a, A, D: Dimension> ArrayViewMut<'a, A, D> {
@@ -169,18 +84,13 @@ impl<'a, A, D: Dimension> ArrayViewMut<'a, A, D> {
     pub fn split_at(self, axis: Axis, index: usize) -> (Self, Self)
         requires axis { axis.0 < length (shape_of self) }
         requires within { index ≤ slice_index (shape_of self) axis.0 }
-        ensures lower_shape { shape_of result.0 ≡ lower_shape (shape_of self.entry) axis.0 index }
-        ensures lower_strides { layout_strides result.0 ≡ layout_strides self.entry }
-        ensures lower { (i : List ℕ) → element_at result.0 i ≡ inside (shape_of result.0) i (element_at self.entry i) }
-        ensures lower_places { (i : List ℕ) → place_at result.0 i ≡ inside (shape_of result.0) i (place_at self.entry i) }
-        ensures upper_shape { shape_of result.1 ≡ upper_shape (shape_of self.entry) axis.0 index }
-        ensures upper_strides { layout_strides result.1 ≡ layout_strides self.entry }
-        ensures upper { (i : List ℕ) → element_at result.1 i ≡ inside (shape_of result.1) i (element_at self.entry (upper_index axis.0 index i)) }
-        ensures upper_places { (i : List ℕ) → place_at result.1 i ≡ inside (shape_of result.1) i (place_at self.entry (upper_index axis.0 index i)) }
+        ensures lower { ShowsPart self.entry (lower_part self.entry axis.0 index) result.0 }
+        ensures upper { ShowsPart self.entry (upper_part self.entry axis.0 index) result.1 }
         ensures apart { ShareNoPlace (place_at result.0) (place_at result.1) }
     {
         let (lower, upper) = halves(&self.layout, axis.0, index);
-        self.storage.two_parts(lower, upper)
+        let mut storage = self.storage;
+        (storage.part(lower), storage.part(upper))
     }
 
     /// The parts that the lists name. Each list fits the shape (`SliceArg::fits`), and no two name an element in common
@@ -220,12 +130,13 @@ impl<'a, A: 'a, D: Dimension, I: SliceArg<D>, J: SliceArg<D>> MultiSliceArg<Arra
 
     ghost fits = { λ lists view. TwoFit (shape_of view) (I.elements_of lists.0) (J.elements_of lists.1) };
 
-    ghost takes = { λ lists view out. IsSlicedBy view (I.elements_of lists.0) out.0 × IsSlicedBy view (J.elements_of lists.1) out.1 × ShareNoPlace (place_at out.0) (place_at out.1) };
+    ghost takes = { λ lists view out. ShowsPart view (sliced_part view (I.elements_of lists.0)) out.0 × ShowsPart view (sliced_part view (J.elements_of lists.1)) out.1 × ShareNoPlace (place_at out.0) (place_at out.1) };
 
     fn parts_of(self, view: ArrayViewMut<'a, A, D>) -> Self::Output {
         let first = sliced_by(&view.layout, self.0);
         let other = sliced_by(&view.layout, self.1);
-        view.storage.two_parts(first, other)
+        let mut storage = view.storage;
+        (storage.part(first), storage.part(other))
     }
 }
 
@@ -240,13 +151,18 @@ impl<'a, A: 'a, D: Dimension, I: SliceArg<D>, J: SliceArg<D>, K: SliceArg<D>> Mu
 
     ghost fits = { λ lists view. ThreeFit (shape_of view) (I.elements_of lists.0) (J.elements_of lists.1) (K.elements_of lists.2) };
 
-    ghost takes = { λ lists view out. IsSlicedBy view (I.elements_of lists.0) out.0 × IsSlicedBy view (J.elements_of lists.1) out.1 × IsSlicedBy view (K.elements_of lists.2) out.2 × ThreeShareNoPlace (place_at out.0) (place_at out.1) (place_at out.2) };
+    ghost takes = { λ lists view out. ShowsPart view (sliced_part view (I.elements_of lists.0)) out.0 × ShowsPart view (sliced_part view (J.elements_of lists.1)) out.1 × ShowsPart view (sliced_part view (K.elements_of lists.2)) out.2 × ThreeShareNoPlace (place_at out.0) (place_at out.1) (place_at out.2) };
 
     fn parts_of(self, view: ArrayViewMut<'a, A, D>) -> Self::Output {
         let first = sliced_by(&view.layout, self.0);
         let second = sliced_by(&view.layout, self.1);
         let last = sliced_by(&view.layout, self.2);
-        view.storage.three_parts(first, second, last)
+        let mut storage = view.storage;
+        (
+            storage.part(first),
+            storage.part(second),
+            storage.part(last),
+        )
     }
 }
 
@@ -268,14 +184,20 @@ impl<
 
     ghost fits = { λ lists view. FourFit (shape_of view) (I.elements_of lists.0) (J.elements_of lists.1) (K.elements_of lists.2) (L.elements_of lists.3) };
 
-    ghost takes = { λ lists view out. IsSlicedBy view (I.elements_of lists.0) out.0 × IsSlicedBy view (J.elements_of lists.1) out.1 × IsSlicedBy view (K.elements_of lists.2) out.2 × IsSlicedBy view (L.elements_of lists.3) out.3 × FourShareNoPlace (place_at out.0) (place_at out.1) (place_at out.2) (place_at out.3) };
+    ghost takes = { λ lists view out. ShowsPart view (sliced_part view (I.elements_of lists.0)) out.0 × ShowsPart view (sliced_part view (J.elements_of lists.1)) out.1 × ShowsPart view (sliced_part view (K.elements_of lists.2)) out.2 × ShowsPart view (sliced_part view (L.elements_of lists.3)) out.3 × FourShareNoPlace (place_at out.0) (place_at out.1) (place_at out.2) (place_at out.3) };
 
     fn parts_of(self, view: ArrayViewMut<'a, A, D>) -> Self::Output {
         let first = sliced_by(&view.layout, self.0);
         let second = sliced_by(&view.layout, self.1);
         let third = sliced_by(&view.layout, self.2);
         let fourth = sliced_by(&view.layout, self.3);
-        view.storage.four_parts(first, second, third, fourth)
+        let mut storage = view.storage;
+        (
+            storage.part(first),
+            storage.part(second),
+            storage.part(third),
+            storage.part(fourth),
+        )
     }
 }
 
@@ -287,7 +209,7 @@ impl<S: DataMut, D: Dimension> ArrayBase<S, D> {
         lists: M,
     ) -> M::Output
         requires { FitsEach (M.fits lists) shape_of (shape_of self.old) }
-        ensures { TakenOf (M.takes lists) shape_of element_at place_at (shape_of self.old) (element_at self.old) (place_at self.old) result }
+        ensures { TakenOf (M.takes lists) (λ v. ShowsWhole self.old v) result }
     {
         lists.parts_of(self.view_mut())
     }

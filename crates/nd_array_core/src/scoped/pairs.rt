@@ -1,17 +1,19 @@
 //! Calls that lend two mutable views of parts of an array, which share no place, to a task for their length.
 #![tactic(auto, unfolding(crate::specs::Meaning::meaning_of, crate::specs::Meaning::memory_layout_of))]
 
-ghost use Rattle.std.specs.Prelude.{◌≡◌, ◌≤◌, ◌<◌, ℕ, List, length, slice_index};
+ghost use Rattle.std.specs.Prelude.{◌≡◌, ◌≤◌, ◌<◌, ℕ, length, slice_index};
 ghost use Rattle.std.specs.Option.{is_some};
 ghost use Rattle.nd_region.specs.Region.{region_stored, borrow_of};
 ghost use Rattle.nd_array_core.specs.PlacedArray.{PlacedArray};
-ghost use Rattle.nd_array_core.specs.scoped.Tasks.{view_borrow, lent_borrow, lent_view, view_left, CanBeSeen, LiesBy, array_placed_by, placement_of, HoldsBy, AreApart, IsWithin, AsksOfPair, IsDoneOnPair, KeepsUnnamed, KeepsUnnamedByTwo};
-ghost use Rattle.nd_array_core.specs.scoped.PartTasks.{lower_part, upper_part, AsksOfParts, IsDoneOnParts};
-ghost use Rattle.nd_array_core.specs.base.Writes.{OthersStay};
+ghost use Rattle.nd_array_core.specs.scoped.Tasks.{view_frame, lent_frame, lent_view, view_left, CanBeSeen, LiesBy, array_placed_by, placement_of, HoldsBy, AreApart, IsWithin, AsksOfPair, IsDoneOnPair, KeepsUnnamed, KeepsUnnamedByTwo};
+ghost use Rattle.nd_array_core.specs.scoped.PartTasks.{AsksOfParts, IsDoneOnParts};
+ghost use Rattle.nd_array_core.specs.base.Writes.{KeepsFrame};
+ghost use Rattle.nd_array_core.specs.Part.{lower_part, upper_part};
 
 use super::tasks::LentView;
 use crate::base::array::ArrayBase;
 use crate::base::storage::{DataMut, ViewMutRepr};
+use crate::layout::splitting::halves;
 use nd_layout::Layout;
 use nd_region::Region;
 use nd_shape_and_slice::{Axis, Dimension, StrideList};
@@ -36,8 +38,8 @@ pub trait PairTask<A, D: Dimension, E: Dimension>: Drop {
         requires one { CanBeSeen D.lengths D.Strides.strides_of one }
         requires two { CanBeSeen E.lengths E.Strides.strides_of two }
         requires pre { pre self (lent_view D.lengths D.Strides.strides_of one) (lent_view E.lengths E.Strides.strides_of two) }
-        ensures one_borrow { view_borrow result.0 ≡ lent_borrow one.entry }
-        ensures two_borrow { view_borrow result.1 ≡ lent_borrow two.entry }
+        ensures one_frame { view_frame result.0 ≡ lent_frame one.entry }
+        ensures two_frame { view_frame result.1 ≡ lent_frame two.entry }
         ensures done { post self (lent_view D.lengths D.Strides.strides_of one.entry) (lent_view E.lengths E.Strides.strides_of two.entry) (view_left D.lengths D.Strides.strides_of one.entry result.0) (view_left E.lengths E.Strides.strides_of two.entry result.1) result.2 };
 }
 
@@ -140,21 +142,21 @@ pub(crate) fn with_placement_pair<
     K: PairTask<S::Elem, D, E>,
 >(
     storage: &mut S,
-    whole: Layout<W, W::Strides>,
+    whole: &Layout<W, W::Strides>,
     one: Layout<D, D::Strides>,
     two: Layout<E, E::Strides>,
     task: K,
 ) -> K::Answer
-    requires whole { HoldsBy (S.stored storage.old) (placement_of whole) }
+    requires whole { HoldsBy (S.stored storage.old) (placement_of whole.now) }
     requires one { LiesBy (S.stored storage.old) (placement_of one) }
     requires two { LiesBy (S.stored storage.old) (placement_of two) }
-    requires one_within { IsWithin (placement_of one) (placement_of whole) }
-    requires two_within { IsWithin (placement_of two) (placement_of whole) }
+    requires one_within { IsWithin (placement_of one) (placement_of whole.now) }
+    requires two_within { IsWithin (placement_of two) (placement_of whole.now) }
     requires apart { AreApart (placement_of one) (placement_of two) }
     requires callable { AsksOfPair (K.pre task) (S.stored storage.old) (placement_of one) (placement_of two) }
     ensures there { (p : ℕ) → is_some (S.stored storage.new p) ≡ is_some (S.stored storage.old p) }
-    ensures borrow { S.borrow storage.new ≡ S.borrow storage.old }
-    ensures others { KeepsUnnamed (S.stored storage.old) (S.stored storage.new) (placement_of whole) }
+    ensures frame { S.frame storage.new ≡ S.frame storage.old }
+    ensures others { KeepsUnnamed (S.stored storage.old) (S.stored storage.new) (placement_of whole.now) }
     ensures kept { KeepsUnnamedByTwo (S.stored storage.old) (S.stored storage.new) (placement_of one) (placement_of two) }
     ensures done { IsDoneOnPair (λ v0 v1 w0 w1. K.post task v0 v1 w0 w1 result) (S.stored storage.old) (S.stored storage.new) (placement_of one) (placement_of two) }
 {
@@ -188,15 +190,11 @@ impl<S: DataMut, D: Dimension> ArrayBase<S, D> {
     ) -> K::Answer
         requires axis { axis.0 < length (shape_of self.old) }
         requires within { index ≤ slice_index (shape_of self.old) axis.0 }
-        requires callable { AsksOfParts (K.pre task) self.old (lower_part (shape_of self.old) axis.0 index) (upper_part (shape_of self.old) axis.0 index) }
-        ensures shape { shape_of self.new ≡ shape_of self.old }
-        ensures places { (i : List ℕ) → place_at self.new i ≡ place_at self.old i }
-        ensures borrow { S.borrow (storage_of self.new) ≡ S.borrow (storage_of self.old) }
-        ensures others { OthersStay (place_at self.old) (S.stored (storage_of self.old)) (S.stored (storage_of self.new)) }
-        ensures done { IsDoneOnParts (λ v0 v1 w0 w1. K.post task v0 v1 w0 w1 result) self.old self.new (lower_part (shape_of self.old) axis.0 index) (upper_part (shape_of self.old) axis.0 index) }
+        requires callable { AsksOfParts (K.pre task) self.old (lower_part self.old axis.0 index) (upper_part self.old axis.0 index) }
+        ensures frame { KeepsFrame S.frame self.old self.new }
+        ensures done { IsDoneOnParts (λ v0 v1 w0 w1. K.post task v0 v1 w0 w1 result) self.old self.new (lower_part self.old axis.0 index) (upper_part self.old axis.0 index) }
     {
-        let whole = self.layout.copied();
-        let (lower, upper) = self.layout.halves(axis.0, index);
-        with_placement_pair(&mut self.storage, whole, lower, upper, task)
+        let (lower, upper) = halves(&self.layout, axis.0, index);
+        with_placement_pair(&mut self.storage, &self.layout, lower, upper, task)
     }
 }

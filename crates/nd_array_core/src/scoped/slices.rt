@@ -1,10 +1,10 @@
 //! Calls that lend mutable views of what two lists of slices name of an array to a task for their length.
 #![tactic(auto, unfolding(crate::specs::Meaning::meaning_of, crate::specs::Meaning::memory_layout_of))]
 
-ghost use Rattle.std.specs.Prelude.{◌≡◌, ℕ, List};
 ghost use Rattle.nd_array_core.specs.layout.MultiSlice.{TwoFit};
-ghost use Rattle.nd_array_core.specs.scoped.PartTasks.{sliced_part, AsksOfParts, IsDoneOnParts, KeepsButTwo};
-ghost use Rattle.nd_array_core.specs.base.Writes.{OthersStay};
+ghost use Rattle.nd_array_core.specs.scoped.PartTasks.{AsksOfParts, IsDoneOnParts, KeepsButTwo};
+ghost use Rattle.nd_array_core.specs.base.Writes.{KeepsFrame};
+ghost use Rattle.nd_array_core.specs.Part.{sliced_part};
 
 use super::pairs::{PairTask, with_placement_pair};
 use crate::base::array::ArrayBase;
@@ -25,17 +25,13 @@ impl<S: DataMut, D: Dimension> ArrayBase<S, D> {
         K: PairTask<S::Elem, I::OutDim, J::OutDim>,
     >(&mut self, lists: (I, J), task: K) -> K::Answer
         requires fits { TwoFit (shape_of self.old) (I.elements_of lists.0) (J.elements_of lists.1) }
-        requires callable { AsksOfParts (K.pre task) self.old (sliced_part (shape_of self.old) (I.elements_of lists.0)) (sliced_part (shape_of self.old) (J.elements_of lists.1)) }
-        ensures shape { shape_of self.new ≡ shape_of self.old }
-        ensures places { (i : List ℕ) → place_at self.new i ≡ place_at self.old i }
-        ensures borrow { S.borrow (storage_of self.new) ≡ S.borrow (storage_of self.old) }
-        ensures others { OthersStay (place_at self.old) (S.stored (storage_of self.old)) (S.stored (storage_of self.new)) }
-        ensures kept { KeepsButTwo self.old self.new (sliced_part (shape_of self.old) (I.elements_of lists.0)) (sliced_part (shape_of self.old) (J.elements_of lists.1)) }
-        ensures done { IsDoneOnParts (λ v0 v1 w0 w1. K.post task v0 v1 w0 w1 result) self.old self.new (sliced_part (shape_of self.old) (I.elements_of lists.0)) (sliced_part (shape_of self.old) (J.elements_of lists.1)) }
+        requires callable { AsksOfParts (K.pre task) self.old (sliced_part self.old (I.elements_of lists.0)) (sliced_part self.old (J.elements_of lists.1)) }
+        ensures frame { KeepsFrame S.frame self.old self.new }
+        ensures kept { KeepsButTwo self.old self.new (sliced_part self.old (I.elements_of lists.0)) (sliced_part self.old (J.elements_of lists.1)) }
+        ensures done { IsDoneOnParts (λ v0 v1 w0 w1. K.post task v0 v1 w0 w1 result) self.old self.new (sliced_part self.old (I.elements_of lists.0)) (sliced_part self.old (J.elements_of lists.1)) }
     {
-        let whole = self.layout.copied();
         let first = sliced_by(&self.layout, lists.0);
         let second = sliced_by(&self.layout, lists.1);
-        with_placement_pair(&mut self.storage, whole, first, second, task)
+        with_placement_pair(&mut self.storage, &self.layout, first, second, task)
     }
 }

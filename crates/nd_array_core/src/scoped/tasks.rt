@@ -10,8 +10,8 @@ ghost use Rattle.std.specs.Option.{is_some};
 ghost use Rattle.nd_region.specs.Region.{region_stored, borrow_of};
 ghost use Rattle.nd_array_core.specs.PlacedArray.{PlacedArray, element_placed, found_at};
 ghost use Rattle.nd_array_core.specs.base.Storages.{held_by};
-ghost use Rattle.nd_array_core.specs.scoped.Tasks.{view_borrow, lent_borrow, lent_view, view_left, CanBeSeen, LiesBy, array_placed_by, placement_of, AsksOfPlacement, IsDoneOnPlacement, IsViewOf};
-ghost use Rattle.nd_array_core.specs.base.Writes.{OthersStay};
+ghost use Rattle.nd_array_core.specs.scoped.Tasks.{view_frame, lent_frame, lent_view, view_left, CanBeSeen, LiesBy, array_placed_by, placement_of, AsksOfPlacement, IsDoneOnPlacement, IsViewOf, KeepsUnnamed};
+ghost use Rattle.nd_array_core.specs.base.Writes.{KeepsFrame};
 
 use crate::base::array::{ArrayBase, ArrayViewMut};
 use crate::base::storage::{DataMut, RegionRepr, ViewMutRepr};
@@ -53,7 +53,7 @@ impl<'a, A, D: Dimension> LentView<'a, A, D, D::Strides> {
         ensures shape { shape_of result ≡ (lent_view D.lengths D.Strides.strides_of self.entry).shape }
         ensures places { (i : List ℕ) → place_at result i ≡ (lent_view D.lengths D.Strides.strides_of self.entry).place i }
         ensures elements { (i : List ℕ) → element_at result i ≡ element_placed (lent_view D.lengths D.Strides.strides_of self.entry) i }
-        ensures borrow { view_borrow (storage_of result) ≡ lent_borrow self.entry }
+        ensures frame { view_frame (storage_of result) ≡ lent_frame self.entry }
     {
         ArrayBase {
             storage: RegionRepr {
@@ -92,12 +92,12 @@ pub trait ViewTask<A, D: Dimension>: Drop {
     fn run(self, lent: LentView<'_, A, D, D::Strides>) -> (ViewMutRepr<'_, A>, Self::Answer)
         requires sound { CanBeSeen D.lengths D.Strides.strides_of lent }
         requires pre { pre self (lent_view D.lengths D.Strides.strides_of lent) }
-        ensures borrow { view_borrow result.0 ≡ lent_borrow lent.entry }
+        ensures frame { view_frame result.0 ≡ lent_frame lent.entry }
         ensures done { post self (lent_view D.lengths D.Strides.strides_of lent.entry) (view_left D.lengths D.Strides.strides_of lent.entry result.0) result.1 };
 }
 
 /// Runs the task on a region's elements, seen by a layout.
-fn run_on_placement<'a, A, D: Dimension, K: ViewTask<A, D>>(
+pub(crate) fn run_on_placement<'a, A, D: Dimension, K: ViewTask<A, D>>(
     region: Region<'a, A>,
     layout: Layout<D, D::Strides>,
     task: K,
@@ -114,14 +114,15 @@ fn run_on_placement<'a, A, D: Dimension, K: ViewTask<A, D>>(
 /// Runs the task on a view of a storage, by a layout whose places the storage has.
 pub(crate) fn with_placement<S: DataMut, D: Dimension, K: ViewTask<S::Elem, D>>(
     storage: &mut S,
-    layout: Layout<D, D::Strides>,
+    layout: &Layout<D, D::Strides>,
     task: K,
 ) -> K::Answer
-    requires sound { LiesBy (S.stored storage.old) (placement_of layout) }
-    requires callable { AsksOfPlacement (K.pre task) (S.stored storage.old) (placement_of layout) }
+    requires sound { LiesBy (S.stored storage.old) (placement_of layout.now) }
+    requires callable { AsksOfPlacement (K.pre task) (S.stored storage.old) (placement_of layout.now) }
     ensures there { (p : ℕ) → is_some (S.stored storage.new p) ≡ is_some (S.stored storage.old p) }
-    ensures borrow { S.borrow storage.new ≡ S.borrow storage.old }
-    ensures done { IsDoneOnPlacement (λ v w. K.post task v w result) (S.stored storage.old) (S.stored storage.new) (placement_of layout) }
+    ensures frame { S.frame storage.new ≡ S.frame storage.old }
+    ensures done { IsDoneOnPlacement (λ v w. K.post task v w result) (S.stored storage.old) (S.stored storage.new) (placement_of layout.now) }
+    ensures kept { KeepsUnnamed (S.stored storage.old) (S.stored storage.new) (placement_of layout.now) }
 {
     let lent = layout.copied();
     storage.with_part(
@@ -144,13 +145,9 @@ impl<S: DataMut, D: Dimension> ArrayBase<S, D> {
     /// that the view was left with. This project's own, beside ndarray's `view_mut`.
     pub fn with_view_mut<K: ViewTask<S::Elem, D>>(&mut self, task: K) -> K::Answer
         requires { (v : PlacedArray S.Elem) → IsViewOf (shape_of self.old) (place_at self.old) (element_at self.old) v → K.pre task v }
-        ensures shape { shape_of self.new ≡ shape_of self.old }
-        ensures places { (i : List ℕ) → place_at self.new i ≡ place_at self.old i }
-        ensures borrow { S.borrow (storage_of self.new) ≡ S.borrow (storage_of self.old) }
-        ensures others { OthersStay (place_at self.old) (S.stored (storage_of self.old)) (S.stored (storage_of self.new)) }
+        ensures frame { KeepsFrame S.frame self.old self.new }
         ensures done { (v : PlacedArray S.Elem) × (w : PlacedArray S.Elem) × IsViewOf (shape_of self.old) (place_at self.old) (element_at self.old) v × IsViewOf (shape_of self.new) (place_at self.new) (element_at self.new) w × K.post task v w result }
     {
-        let layout = self.layout.copied();
-        with_placement(&mut self.storage, layout, task)
+        with_placement(&mut self.storage, &self.layout, task)
     }
 }

@@ -2,7 +2,7 @@
 use Rattle.std.proofs.Common.{◌≡◌, ℕ, zero, suc, ◌+◌, ◌-◌, ◌*◌, ◌<◌, ◌≤◌, Bool, true, false, max, List, length, get_or, set, replicate, ℤ, pos, ◌+ℤ◌, ◌*ℤ◌, nat_abs, refl, ap, sym, ◌∙◌, subst, arith, ⊎_elim}
 use Rattle.std.proofs.Math.Nat.{mul_assoc, mul-le-mul_right}
 use Rattle.std.proofs.Common.{ltb, cond}
-use Rattle.std.proofs.lemmas.Bool.{cases_lt, ltb-false}
+use Rattle.std.proofs.lemmas.Bool.{cases_lt, ltb-false, false≢true}
 use lib.IntN.{neg_ℤ}
 use Rattle.std.proofs.lemmas.List.{length-set, get_or-set_same, set-get_or, set-set}
 use Rattle.std.proofs.lemmas.Int.{ints}
@@ -16,6 +16,7 @@ use Rattle.nd_layout.proofs.Integers.{sums, zero-mul, add-mul, mul-neg}
 use Rattle.nd_layout.proofs.Offsets.{displacement_of-moved}
 use Rattle.nd_layout.proofs.Sizes.{HasCheckedSize-set, size_of-set, abs-neg}
 use Rattle.nd_layout.specs.Places.{is_place, ReachesPlaces}
+use Rattle.nd_layout.specs.Elements.{LeadsToPlaces}
 use Rattle.nd_layout.specs.Steps.{IsStep}
 use Rattle.nd_shape_and_slice.specs.Maps.{inverted_index, collapsed_shape, collapsed_index, lower_shape, upper_shape, upper_index}
 use Rattle.nd_layout.specs.Strides.{opposite_stride}
@@ -44,6 +45,10 @@ no_further n m s t steps =
 pub some_left : (ns : List ℕ) (a m : ℕ) → a < length ns → 0 < size_of (set ns a m) → 0 < m
 some_left ns a zero on some = let e = size_of-set ns a 0 on in absurd (omega (arith, e, some))
 some_left ns a (suc m) on some = omega arith
+
+pub positive : (n : ℕ) → (n ≡ 0 → ⊥) → 0 < n
+positive zero h = absurd (h refl)
+positive (suc n) h = omega arith
 
 add_nothing : (z w : ℤ) → w ≡ pos 0 → z +ℤ w ≡ z
 add_nothing z w e = rw e (omega (arith, ints))
@@ -143,6 +148,11 @@ module _ (ns : List ℕ) (ss : List ℤ) (a : ℕ) (many : length ss ≡ length 
       let nowhere : displacement_of (set ss a s) origin ≡ pos 0 = displacement_of-origin (set ss a s) (length (set ns a m)) in
       let whole : displacement_of ss (set origin a q) ≡ pos q *ℤ s = displacement_of-moved ss origin a s q (pos q *ℤ s) as_many on_strides still ∙ add_nothing (pos q *ℤ s) (displacement_of (set ss a s) origin) nowhere in
       sym (ap (λ z. is_place (pos offset +ℤ z)) whole) ∙ reach (set origin a q) there
+
+  pub whole_leads : (offset : ℕ) (none : Bool) → ReachesPlaces offset ns ss → (size_of ns ≡ 0 → none ≡ true) → none ≡ false → LeadsToPlaces offset (get_or ns a 0) (get_or ss a (pos 0))
+  whole_leads offset none reach only some c below =
+      let left : 0 < size_of (set ns a (get_or ns a 0)) = subst (λ l. 0 < size_of l) (sym (set-get_or ns a 0)) (positive (size_of ns) (λ z. false≢true (sym some ∙ only z))) in
+      moved_place offset (get_or ns a 0) c reach left below
 
   pub offset_below : (offset m : ℕ) → ReachesPlaces offset ns ss → 0 < size_of (set ns a m) → 0 < get_or ns a 0 → offset < 9223372036854775808
   offset_below offset m reach some long =

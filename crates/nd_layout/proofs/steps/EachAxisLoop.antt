@@ -9,8 +9,10 @@ use Rattle.nd_shape_and_slice.specs.declared.descriptions.AxisDescription.{AxisD
 use Rattle.nd_shape_and_slice.specs.Descriptions.{axes_from}
 use Rattle.nd_shape_and_slice.specs.Slice.{fits_axis, sliced_length, sliced_from, sliced_shape, sliced_index}
 use Rattle.nd_shape_and_slice.specs.EachAxis.{each_sliced_shape, each_sliced_index, AnswersFit, AnswersAre}
+use Rattle.nd_shape_and_slice.specs.Shape.{size_of}
 use Rattle.nd_layout.specs.Steps.{IsStep}
-use Rattle.nd_layout.proofs.steps.StepLemmas.{step_then, step_by}
+use Rattle.nd_layout.specs.Strides.{stepped_stride, sliced_strides, each_sliced_strides}
+use Rattle.nd_layout.proofs.steps.StepLemmas.{step_then, step_by, step_none}
 use Rattle.nd_layout.proofs.steps.ResizeStep.{same_is_step}
 
 -- one axis more
@@ -18,6 +20,12 @@ shape_more : (ns : List ℕ) (ys : List Slice) (s : Slice) → length ys < lengt
 shape_more [] ys s h = absurd (omega arith)
 shape_more (n ∷ ns) [] s h = refl
 shape_more (n ∷ ns) (y ∷ ys) s h = ap (λ l. sliced_length n y ∷ l) (shape_more ns ys s (omega (arith, h)))
+
+strides_more : (ns : List ℕ) (ss : List ℤ) (ys : List Slice) (s : Slice) → length ss ≡ length ns → length ys < length ns → each_sliced_strides ns ss (ys ++ s ∷ []) ≡ sliced_strides (each_sliced_shape ns ys) (each_sliced_strides ns ss ys) (length ys) s
+strides_more [] ss ys s many h = absurd (omega arith)
+strides_more (n ∷ ns) [] ys s many h = absurd (omega arith)
+strides_more (n ∷ ns) (t ∷ ss) [] s many h = refl
+strides_more (n ∷ ns) (t ∷ ss) (y ∷ ys) s many h = ap (λ l. stepped_stride (sliced_length n y) t y.step ∷ l) (strides_more ns ss ys s (omega (arith, many)) (omega (arith, h)))
 
 index_more : (ns : List ℕ) (ys : List Slice) (s : Slice) (i : List ℕ) → length ys < length ns → each_sliced_index ns (ys ++ s ∷ []) i ≡ each_sliced_index ns ys (sliced_index (each_sliced_shape ns ys) (length ys) s i)
 index_more [] ys s i h = absurd (omega arith)
@@ -53,6 +61,8 @@ module _ {F : Type 0} (pre : F → AxisDescription → Type 0) (steps : F → Ax
     pub asked : (more : List Slice) (last : F) → AnswersAre steps f (axes_from k (drop k ns) (drop k ss)) more last → AnswersAre steps start (axes_from 0 ns ss) (slices ++ more) last
     pub lengths : new_ns ≡ each_sliced_shape ns slices
     pub step : IsStep offset ns ss new_offset new_ns new_ss (each_sliced_index ns slices)
+    pub strides : new_ss ≡ each_sliced_strides ns ss slices
+    pub unmoved : size_of ns ≡ 0 → new_offset ≡ offset
 
   pub each_none : length ss ≡ length ns → AnswersFit pre steps start (axes_from 0 ns ss) → IsEachTo 0 start offset ns ss
   each_none many fits = record {
@@ -62,6 +72,8 @@ module _ {F : Type 0} (pre : F → AxisDescription → Type 0) (steps : F → Ax
     asked = λ more last h. h;
     lengths = refl;
     step = same_is_step offset ns ss many;
+    strides = refl;
+    unmoved = λ _. refl;
   }
 
   module _ (many : length ss ≡ length ns) (k : ℕ) (f : F) (f' : ℕ) (ns' : List ℕ) (ss' : List ℤ) (so_far : IsEachTo k f f' ns' ss') where
@@ -85,8 +97,8 @@ module _ {F : Type 0} (pre : F → AxisDescription → Type 0) (steps : F → Ax
         pub each_fits_axis : fits_axis (get_or ns' k 0) s ≡ true
         each_fits_axis = ap (λ n. fits_axis n s) here ∙ (fitting.1 s g answered).0
 
-        pub each_more : (f'' : ℕ) (ns'' : List ℕ) (ss'' : List ℤ) → ns'' ≡ sliced_shape ns' k s → IsStep f' ns' ss' f'' ns'' ss'' (sliced_index ns' k s) → IsEachTo (k + 1) g f'' ns'' ss''
-        each_more f'' ns'' ss'' shape step =
+        pub each_more : (f'' : ℕ) (ns'' : List ℕ) (ss'' : List ℤ) → ns'' ≡ sliced_shape ns' k s → ss'' ≡ sliced_strides ns' ss' k s → (size_of ns' ≡ 0 → f'' ≡ f') → IsStep f' ns' ss' f'' ns'' ss'' (sliced_index ns' k s) → IsEachTo (k + 1) g f'' ns'' ss''
+        each_more f'' ns'' ss'' shape stepped rests step =
             let ys = so_far.slices in
             let below : length ys < length ns = omega (arith, so_far.many, within) in
             record {
@@ -102,12 +114,17 @@ module _ {F : Type 0} (pre : F → AxisDescription → Type 0) (steps : F → Ax
                   ap (λ l. each_sliced_index ns ys (sliced_index l k s i)) so_far.lengths
                   ∙ (ap (λ n. each_sliced_index ns ys (sliced_index (each_sliced_shape ns ys) n s i)) (sym so_far.many) ∙ sym (index_more ns ys s i below)))
                   (step_then so_far.step step);
+              strides = stepped
+                  ∙ (ap (λ l. sliced_strides l ss' k s) so_far.lengths
+                  ∙ (ap (λ l. sliced_strides (each_sliced_shape ns ys) l k s) so_far.strides
+                  ∙ (ap (λ n. sliced_strides (each_sliced_shape ns ys) (each_sliced_strides ns ss ys) n s) (sym so_far.many) ∙ sym (strides_more ns ss ys s many below))));
+              unmoved = λ z. rests (step_none so_far.step z) ∙ so_far.unmoved z;
             }
 
-    pub each_all : length ns ≤ k → (slices : List Slice) × (last : F) × AnswersAre steps start (axes_from 0 ns ss) slices last × (ns' ≡ each_sliced_shape ns slices) × IsStep offset ns ss f' ns' ss' (each_sliced_index ns slices)
+    pub each_all : length ns ≤ k → (slices : List Slice) × (last : F) × AnswersAre steps start (axes_from 0 ns ss) slices last × (ns' ≡ each_sliced_shape ns slices) × IsStep offset ns ss f' ns' ss' (each_sliced_index ns slices) × (ss' ≡ each_sliced_strides ns ss slices)
     each_all done =
         let end = so_far.asked [] f (subst (λ l. AnswersAre steps f l [] f) (sym (axes_done ns ss k done)) refl) in
-        (so_far.slices, f, subst (λ l. AnswersAre steps start (axes_from 0 ns ss) l f) (append-nil so_far.slices) end, so_far.lengths, so_far.step)
+        (so_far.slices, f, subst (λ l. AnswersAre steps start (axes_from 0 ns ss) l f) (append-nil so_far.slices) end, so_far.lengths, so_far.step, so_far.strides)
 
 -- a closure that may always be asked, and whose answers always fit
 pub answers_always_fit : {F : Type 0} (pre : F → AxisDescription → Type 0) (steps : F → AxisDescription → Slice → F → Type 0) → ((f : F) (d : AxisDescription) → pre f d) → ((f : F) (d : AxisDescription) (s : Slice) (g : F) → steps f d s g → fits_axis d.len s ≡ true) → (f : F) (ds : List AxisDescription) → AnswersFit pre steps f ds

@@ -1,18 +1,17 @@
 -- Where the indexed axes, of length 1, go and new axes of length 1 come: a layout step.
-use Rattle.std.proofs.Common.{◌≡◌, ℕ, zero, suc, ◌+◌, ◌-◌, ◌*◌, ◌<◌, ◌≤◌, Bool, true, false, cond, eqb, ltb, leb, List, [], ◌∷◌, length, take, drop, replicate, get_or, set, ℤ, pos, ◌+ℤ◌, ◌*ℤ◌, nat_abs, refl, ap, sym, ◌∙◌, subst, arith, drop-cons}
+use Rattle.std.proofs.Common.{◌≡◌, ℕ, zero, suc, ◌+◌, ◌-◌, ◌*◌, ◌<◌, ◌≤◌, Bool, true, false, cond, eqb, ltb, leb, List, [], ◌∷◌, length, drop, get_or, set, ℤ, pos, ◌+ℤ◌, ◌*ℤ◌, nat_abs, refl, ap, sym, ◌∙◌, subst, arith, drop-cons}
 use lib.IntN.{+ℤ_idl}
 use Rattle.std.proofs.lemmas.Bool.{and_parts, and_from, lt-ltb}
 use Rattle.std.proofs.lemmas.Bool.Decides.{nat_tests}
 use Rattle.std.proofs.lemmas.Int.{ints}
 use Rattle.std.proofs.Math.ListN.{drop_of_length-le}
-use Rattle.std.proofs.lemmas.List.{drop_more, take-replicate}
+use Rattle.std.proofs.lemmas.List.{drop_more}
 use Rattle.std.proofs.lemmas.List.Sums.{sum_by-cons}
 use Rattle.nd_shape_and_slice.specs.declared.slice_info.SliceInfoElem.{SliceInfoElem}
 use Rattle.nd_shape_and_slice.specs.declared.slice_info.SliceInfoElem.TheVariants.{Slice as Part, Index, NewAxis}
 use Rattle.nd_shape_and_slice.specs.Shape.{in_box, nonzero_product}
 use Rattle.nd_shape_and_slice.specs.Place.{displacement_of, span_of, span_within, magnitude_at, IsSeparated}
 use Rattle.std.specs.Option.{unwrap_or}
-use Rattle.std.specs.Prelude.{Option, None, Some, MatchOption}
 use Rattle.nd_shape_and_slice.specs.Slice.{sliced_length, sliced_from}
 use Rattle.nd_shape_and_slice.specs.SliceInfo.{coordinate_on, reads_axis, keeps_axis, axes_read, axes_kept, each_fits, shape_after, index_before}
 use Rattle.nd_layout.proofs.Integers.{zero-mul}
@@ -297,13 +296,6 @@ module _ {A : Type 0} (d z : A) (es : List SliceInfoElem) (xs : List A) where
         none_after [] c h = omega arith
         none_after (y ∷ ys) zero h = absurd cc
         none_after (y ∷ ys) (suc c) h = let rest = none_after ys c h in omega (arith, rest)
-
-pub ones_taken : (n : ℕ) → n ≤ 32 → take n (replicate {A = ℕ} 32 1) ≡ replicate n 1
-ones_taken n h = take-replicate n 32 1 h
-
-pub lengths_found : {E : Type 0} (lengths : E → List ℕ) (refused : Type 0) (found : Option E) (wanted : List ℕ) (e : E) → MatchOption found refused (λ d. lengths d ≡ wanted) → found ≡ Some e → lengths e ≡ wanted
-lengths_found lengths refused (Some d) wanted e is same = (let equal : e ≡ d = cc in ap lengths equal ∙ is)
-lengths_found lengths refused None wanted e is same = absurd cc
 
 -- ---- the two passes together
 pub ones_collapsed : (ns : List ℕ) (es : List SliceInfoElem) → each_fits ns es ≡ true → indexed_ones es (collapsed_after ns es) ≡ true

@@ -9,8 +9,11 @@ use Rattle.nd_shape_and_slice.specs.declared.slice_info.SliceInfoElem.{SliceInfo
 use Rattle.nd_shape_and_slice.specs.declared.slice_info.SliceInfoElem.TheVariants.{Slice as Part, Index, NewAxis}
 use Rattle.nd_shape_and_slice.specs.SliceInfo.{coordinate_on, each_fits, fits_next}
 use Rattle.nd_shape_and_slice.specs.Slicing.{collapsed_after, collapsed_before, shape_with, index_with, next_axis}
+use Rattle.nd_layout.specs.Elements.{strides_with}
 use Rattle.nd_layout.specs.Steps.{IsStep}
-use Rattle.nd_layout.proofs.steps.StepLemmas.{step_then, step_by}
+use Rattle.nd_layout.specs.Strides.{collapsed_strides}
+use Rattle.nd_shape_and_slice.specs.Shape.{size_of}
+use Rattle.nd_layout.proofs.steps.StepLemmas.{step_then, step_by, step_none}
 use Rattle.nd_layout.proofs.steps.ResizeStep.{same_is_step}
 
 -- a fitting coordinate is on its axis
@@ -42,6 +45,12 @@ before_from zero ns es is = collapsed_before ns es is
 before_from (suc a) [] es is = []
 before_from (suc a) (n ∷ ns) es [] = []
 before_from (suc a) (n ∷ ns) es (i ∷ is) = i ∷ before_from a ns es is
+
+abbrev pub strides_from : ℕ → List ℕ → List ℤ → List SliceInfoElem → List ℤ
+strides_from zero ns ss es = collapsed_strides ns ss es
+strides_from (suc a) [] ss es = []
+strides_from (suc a) (n ∷ ns) [] es = []
+strides_from (suc a) (n ∷ ns) (s ∷ ss) es = s ∷ strides_from a ns ss es
 
 -- one element more
 pub fits_here : (a : ℕ) (ns : List ℕ) (e : SliceInfoElem) (es : List SliceInfoElem) → fits_from a ns (e ∷ es) ≡ true → fits_next (slice_get ns a) e ≡ true
@@ -95,6 +104,21 @@ before_more (suc a) (n ∷ ns) (Index k) es (i ∷ is) h = ap (λ l. i ∷ l) (b
 before_more (suc a) (n ∷ ns) NewAxis es [] h = refl
 before_more (suc a) (n ∷ ns) NewAxis es (i ∷ is) h = ap (λ l. i ∷ l) (before_more a ns NewAxis es is h)
 
+pub strides_more : (a : ℕ) (ns : List ℕ) (ss : List ℤ) (e : SliceInfoElem) (es : List SliceInfoElem) → length ss ≡ length ns → fits_from a ns (e ∷ es) ≡ true → strides_from a ns ss (e ∷ es) ≡ strides_from (next_axis a e) (shape_with ns a e) (strides_with ns ss a e) es
+strides_more zero [] ss (Part start end step) es many h = absurd cc
+strides_more zero (n ∷ ns) [] (Part start end step) es many h = absurd (omega arith)
+strides_more zero (n ∷ ns) (s ∷ ss) (Part start end step) es many h = refl
+strides_more zero [] ss (Index k) es many h = absurd cc
+strides_more zero (n ∷ ns) [] (Index k) es many h = absurd (omega arith)
+strides_more zero (n ∷ ns) (s ∷ ss) (Index k) es many h = refl
+strides_more zero [] ss NewAxis es many h = refl
+strides_more zero (n ∷ ns) ss NewAxis es many h = refl
+strides_more (suc a) [] ss e es many h = absurd cc
+strides_more (suc a) (n ∷ ns) [] e es many h = absurd (omega arith)
+strides_more (suc a) (n ∷ ns) (s ∷ ss) (Part start end step) es many h = ap (λ l. s ∷ l) (strides_more a ns ss (Part start end step) es (omega (arith, many)) h)
+strides_more (suc a) (n ∷ ns) (s ∷ ss) (Index k) es many h = ap (λ l. s ∷ l) (strides_more a ns ss (Index k) es (omega (arith, many)) h)
+strides_more (suc a) (n ∷ ns) (s ∷ ss) NewAxis es many h = ap (λ l. s ∷ l) (strides_more a ns ss NewAxis es (omega (arith, many)) h)
+
 -- no element is left
 after_none : (a : ℕ) (ns : List ℕ) → after_from a ns [] ≡ ns
 after_none zero ns = refl
@@ -107,6 +131,12 @@ before_none (suc a) [] i h = absurd cc
 before_none (suc a) (n ∷ ns) [] h = refl
 before_none (suc a) (n ∷ ns) (i ∷ is) h = ap (λ l. i ∷ l) (before_none a ns is h)
 
+strides_none : (a : ℕ) (ns : List ℕ) (ss : List ℤ) → length ss ≡ length ns → fits_from a ns [] ≡ true → strides_from a ns ss [] ≡ ss
+strides_none zero ns ss many h = refl
+strides_none (suc a) [] ss many h = absurd cc
+strides_none (suc a) (n ∷ ns) [] many h = absurd (omega arith)
+strides_none (suc a) (n ∷ ns) (s ∷ ss) many h = ap (λ l. s ∷ l) (strides_none a ns ss (omega (arith, many)) h)
+
 pub one_more : (a k : ℕ) (e : SliceInfoElem) → a ≤ k → next_axis a e ≤ k + 1
 one_more a k (Part start end step) h = omega arith
 one_more a k (Index i) h = omega arith
@@ -118,6 +148,8 @@ pub record IsSlicedTo (offset : ℕ) (ns : List ℕ) (ss : List ℤ) (es : List 
   pub few : a ≤ k
   pub fits : fits_from a new_ns (drop k es) ≡ true
   pub shape : collapsed_after ns es ≡ after_from a new_ns (drop k es)
+  pub strides : collapsed_strides ns ss es ≡ strides_from a new_ns new_ss (drop k es)
+  pub unmoved : size_of ns ≡ 0 → new_offset ≡ offset
   pub index : (i : List ℕ) → collapsed_before ns es i ≡ source (before_from a new_ns (drop k es) i)
   pub step : IsStep offset ns ss new_offset new_ns new_ss source
 
@@ -128,6 +160,8 @@ module _ (offset : ℕ) (ns : List ℕ) (ss : List ℤ) (es : List SliceInfoElem
     few = omega arith;
     fits = fits;
     shape = refl;
+    strides = refl;
+    unmoved = λ _. refl;
     index = λ i. refl;
     step = same_is_step offset ns ss many;
   }
@@ -143,8 +177,8 @@ module _ (offset : ℕ) (ns : List ℕ) (ss : List ℤ) (es : List SliceInfoElem
       pub sliced_fits : fits_next (slice_get ns' a) (get_or es k d) ≡ true
       sliced_fits = fits_here a ns' (get_or es k d) (drop (k + 1) es) fitting
 
-      pub sliced_more : (f'' : ℕ) (ns'' : List ℕ) (ss'' : List ℤ) → ns'' ≡ shape_with ns' a (get_or es k d) → IsStep f' ns' ss' f'' ns'' ss'' (index_with ns' a (get_or es k d)) → IsSlicedTo offset ns ss es (next_axis a (get_or es k d)) (k + 1) f'' ns'' ss''
-      sliced_more f'' ns'' ss'' shape step =
+      pub sliced_more : (f'' : ℕ) (ns'' : List ℕ) (ss'' : List ℤ) → ns'' ≡ shape_with ns' a (get_or es k d) → ss'' ≡ strides_with ns' ss' a (get_or es k d) → (size_of ns' ≡ 0 → f'' ≡ f') → IsStep f' ns' ss' f'' ns'' ss'' (index_with ns' a (get_or es k d)) → IsSlicedTo offset ns ss es (next_axis a (get_or es k d)) (k + 1) f'' ns'' ss''
+      sliced_more f'' ns'' ss'' shape strides rests step =
           let e = get_or es k d in
           let rest = drop (k + 1) es in
           record {
@@ -152,6 +186,8 @@ module _ (offset : ℕ) (ns : List ℕ) (ss : List ℤ) (es : List SliceInfoElem
             few = one_more a k e so_far.few;
             fits = subst (λ l. fits_from (next_axis a e) l rest ≡ true) (sym shape) (fits_more a ns' e rest fitting);
             shape = so_far.shape ∙ (ap (after_from a ns') here ∙ (after_more a ns' e rest fitting ∙ ap (λ l. after_from (next_axis a e) l rest) (sym shape)));
+            strides = so_far.strides ∙ (ap (strides_from a ns' ss') here ∙ (strides_more a ns' ss' e rest so_far.step.as_many fitting ∙ (ap (λ l. strides_from (next_axis a e) l (strides_with ns' ss' a e) rest) (sym shape) ∙ ap (λ l. strides_from (next_axis a e) ns'' l rest) (sym strides))));
+            unmoved = λ z. rests (step_none so_far.step z) ∙ so_far.unmoved z;
             index = λ i.
                 so_far.index i
                 ∙ ap so_far.source
@@ -162,6 +198,12 @@ module _ (offset : ℕ) (ns : List ℕ) (ss : List ℤ) (es : List SliceInfoElem
 
     pub sliced_all_shape : length es ≤ k → ns' ≡ collapsed_after ns es
     sliced_all_shape done = sym (so_far.shape ∙ (ap (after_from a ns') (drop_of_length-le es done) ∙ after_none a ns'))
+
+    pub sliced_all_strides : length es ≤ k → ss' ≡ collapsed_strides ns ss es
+    sliced_all_strides done =
+        let end = drop_of_length-le es done in
+        let fits : fits_from a ns' [] ≡ true = subst (λ l. fits_from a ns' l ≡ true) end so_far.fits in
+        sym (so_far.strides ∙ (ap (strides_from a ns' ss') end ∙ strides_none a ns' ss' so_far.step.as_many fits))
 
     pub sliced_all : length es ≤ k → IsStep offset ns ss f' ns' ss' (collapsed_before ns es)
     sliced_all done =

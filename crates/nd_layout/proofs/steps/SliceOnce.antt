@@ -7,22 +7,22 @@ use Rattle.std.specs.Prelude.{◌⊎◌}
 use Rattle.std.proofs.lemmas.Bool.{and_parts, or_parts, false≢true}
 use Rattle.std.proofs.lemmas.Bool.Decides.{nat_tests}
 use Rattle.std.proofs.lemmas.List.{drop_more, get_or-set_same, length-set, set-get_or}
-use Rattle.std.proofs.Math.ListN.{drop_of_length-le}
 use Rattle.std.proofs.lemmas.Int.{ints}
 use Rattle.nd_shape_and_slice.specs.declared.slice.Slice.{Slice}
 use Rattle.nd_shape_and_slice.specs.Slice.{fits_axis, low_of, high_of, sliced_length, sliced_from}
 use Rattle.nd_layout.specs.Places.{is_place, ReachesPlaces}
 use Rattle.nd_layout.specs.Steps.{IsStep}
-use Rattle.nd_layout.specs.Elements.{length_by, start_by, stride_by, LeadsToPlaces}
+use Rattle.nd_layout.specs.Elements.{length_by, start_by, stride_by, strides_with, LeadsToPlaces}
+use Rattle.nd_layout.specs.Strides.{strides_after, collapsed_strides}
 use Rattle.nd_shape_and_slice.specs.declared.slice_info.SliceInfoElem.{SliceInfoElem}
 use Rattle.nd_shape_and_slice.specs.declared.slice_info.SliceInfoElem.TheVariants.{Slice as Part, Index, NewAxis}
 use Rattle.nd_shape_and_slice.specs.Shape.{size_of}
 use Rattle.nd_shape_and_slice.specs.SliceInfo.{coordinate_on, fits_next, each_fits, reads_axis, keeps_axis, axes_read, axes_kept, shape_after, index_before}
 use Rattle.nd_shape_and_slice.specs.Slicing.{collapsed_after, collapsed_before, shape_with, index_with, next_axis, kept_items, put_back, indexed_ones}
-use Rattle.nd_layout.proofs.steps.AxisStep.{moved_place, collapse_is_step}
+use Rattle.nd_layout.proofs.steps.AxisStep.{positive, moved_place, collapse_is_step}
 use Rattle.nd_layout.proofs.steps.KeepStep.{IsKeptTo, kept_item, kept_none, kept_more, kept_gone, kept_all, read_all, ones_collapsed, keep_is_step, slice_list_is_step}
 use Rattle.nd_layout.proofs.steps.ResizeStep.{same_is_step}
-use Rattle.nd_layout.proofs.steps.SliceLoop.{IsSlicedTo, fits_from, after_from, after_more, coordinate_within, sliced_none, sliced_fits, sliced_more, sliced_all, sliced_all_shape}
+use Rattle.nd_layout.proofs.steps.SliceLoop.{IsSlicedTo, fits_from, after_from, after_more, strides_from, strides_more, coordinate_within, sliced_none, sliced_fits, sliced_more, sliced_all, sliced_all_shape, sliced_all_strides}
 use Rattle.nd_layout.proofs.steps.StepLemmas.{step_reaches}
 use Rattle.nd_layout.proofs.Sliced.{stepped_from-within}
 use Rattle.nd_layout.proofs.steps.SliceStep.{step_moves, high_within, slice_is_step, sliced_length-le, none_left, none_left_only}
@@ -53,51 +53,6 @@ leads_from offset n s some leads = place (subst (λ z. is_place z ≡ true) (not
 
     place : is_place (pos offset) ≡ true → offset < 9223372036854775808
     place h = grind (arith, h)
-
--- ---- the strides in two passes, as the lengths
-abbrev pub collapsed_strides : List ℕ → List ℤ → List SliceInfoElem → List ℤ
-collapsed_strides ns ss [] = ss
-collapsed_strides [] ss (Part start end step ∷ es) = []
-collapsed_strides (n ∷ ns) [] (Part start end step ∷ es) = []
-collapsed_strides (n ∷ ns) (s ∷ ss) (Part start end step ∷ es) = stride_by n s (Part start end step) ∷ collapsed_strides ns ss es
-collapsed_strides [] ss (Index k ∷ es) = []
-collapsed_strides (n ∷ ns) [] (Index k ∷ es) = []
-collapsed_strides (n ∷ ns) (s ∷ ss) (Index k ∷ es) = s ∷ collapsed_strides ns ss es
-collapsed_strides ns ss (NewAxis ∷ es) = collapsed_strides ns ss es
-
--- what one element makes of them
-abbrev pub strides_with : List ℕ → List ℤ → ℕ → SliceInfoElem → List ℤ
-strides_with ns ss a (Part start end step) = set ss a (stride_by (get_or ns a 0) (get_or ss a (pos 0)) (Part start end step))
-strides_with ns ss a (Index k) = ss
-strides_with ns ss a NewAxis = ss
-
--- the axes below a are done
-abbrev pub strides_from : ℕ → List ℕ → List ℤ → List SliceInfoElem → List ℤ
-strides_from zero ns ss es = collapsed_strides ns ss es
-strides_from (suc a) [] ss es = []
-strides_from (suc a) (n ∷ ns) [] es = []
-strides_from (suc a) (n ∷ ns) (s ∷ ss) es = s ∷ strides_from a ns ss es
-
-strides_more : (a : ℕ) (ns : List ℕ) (ss : List ℤ) (e : SliceInfoElem) (es : List SliceInfoElem) → length ss ≡ length ns → fits_from a ns (e ∷ es) ≡ true → strides_from a ns ss (e ∷ es) ≡ strides_from (next_axis a e) (shape_with ns a e) (strides_with ns ss a e) es
-strides_more zero [] ss (Part start end step) es many h = absurd cc
-strides_more zero (n ∷ ns) [] (Part start end step) es many h = absurd (omega arith)
-strides_more zero (n ∷ ns) (s ∷ ss) (Part start end step) es many h = refl
-strides_more zero [] ss (Index k) es many h = absurd cc
-strides_more zero (n ∷ ns) [] (Index k) es many h = absurd (omega arith)
-strides_more zero (n ∷ ns) (s ∷ ss) (Index k) es many h = refl
-strides_more zero [] ss NewAxis es many h = refl
-strides_more zero (n ∷ ns) ss NewAxis es many h = refl
-strides_more (suc a) [] ss e es many h = absurd cc
-strides_more (suc a) (n ∷ ns) [] e es many h = absurd (omega arith)
-strides_more (suc a) (n ∷ ns) (s ∷ ss) (Part start end step) es many h = ap (λ l. s ∷ l) (strides_more a ns ss (Part start end step) es (omega (arith, many)) h)
-strides_more (suc a) (n ∷ ns) (s ∷ ss) (Index k) es many h = ap (λ l. s ∷ l) (strides_more a ns ss (Index k) es (omega (arith, many)) h)
-strides_more (suc a) (n ∷ ns) (s ∷ ss) NewAxis es many h = ap (λ l. s ∷ l) (strides_more a ns ss NewAxis es (omega (arith, many)) h)
-
-strides_none : (a : ℕ) (ns : List ℕ) (ss : List ℤ) → length ss ≡ length ns → fits_from a ns [] ≡ true → strides_from a ns ss [] ≡ ss
-strides_none zero ns ss many h = refl
-strides_none (suc a) [] ss many h = absurd cc
-strides_none (suc a) (n ∷ ns) [] many h = absurd (omega arith)
-strides_none (suc a) (n ∷ ns) (s ∷ ss) many h = ap (λ l. s ∷ l) (strides_none a ns ss (omega (arith, many)) h)
 
 -- the items of the axes that are done
 after_done : (a : ℕ) (ns : List ℕ) (es : List SliceInfoElem) (j : ℕ) → j < a → get_or (after_from a ns es) j 0 ≡ get_or ns j 0
@@ -196,7 +151,6 @@ pub record IsSlicedOnce (offset : ℕ) (ns : List ℕ) (ss : List ℤ) (es : Lis
   pub lengths : List ℕ
   pub strides : List ℤ
   pub sliced : IsSlicedTo offset ns ss es a k new_offset lengths strides
-  pub taken : collapsed_strides ns ss es ≡ strides_from a lengths strides (drop k es)
   pub same_lengths : (j : ℕ) → a ≤ j → slice_get lengths j ≡ slice_get ns j
   pub same_strides : (j : ℕ) → a ≤ j → slice_get strides j ≡ slice_get ss j
   pub empty : none ≡ true → size_of lengths ≡ 0
@@ -205,17 +159,12 @@ pub record IsSlicedOnce (offset : ℕ) (ns : List ℕ) (ss : List ℤ) (es : Lis
 is_zero : (m : ℕ) → eqb m 0 ≡ true → m ≡ 0
 is_zero m h = grind (arith, nat_tests, h)
 
-positive : (n : ℕ) → (n ≡ 0 → ⊥) → 0 < n
-positive zero h = absurd (h refl)
-positive (suc n) h = omega arith
-
 module _ (offset : ℕ) (ns : List ℕ) (ss : List ℤ) (es : List SliceInfoElem) where
   pub once_none : (none : Bool) → length ss ≡ length ns → each_fits ns es ≡ true → (none ≡ true → size_of ns ≡ 0) → (size_of ns ≡ 0 → none ≡ true) → IsSlicedOnce offset ns ss es 0 0 offset none
   once_none none many fits empty only = record {
     lengths = ns;
     strides = ss;
     sliced = sliced_none offset ns ss es many fits;
-    taken = refl;
     same_lengths = λ j h. refl;
     same_strides = λ j h. refl;
     empty = empty;
@@ -256,14 +205,13 @@ module _ (offset : ℕ) (ns : List ℕ) (ss : List ℤ) (es : List SliceInfoElem
       fitting : fits_from a so_far.lengths (get_or es k d ∷ drop (k + 1) es) ≡ true
       fitting = subst (λ l. fits_from a so_far.lengths l ≡ true) here so_far.sliced.fits
 
-      pub once_more : (len f' : ℕ) (none' : Bool) (next : ℕ) → len ≡ length_by (get_or ns a 0) (get_or es k d) → (none ≡ false → 0 < len → pos f' ≡ pos f +ℤ (pos (start_by (get_or ns a 0) (get_or es k d)) *ℤ get_or ss a (pos 0))) → (reads_axis (get_or es k d) ≡ false → f' ≡ f) → none' ≡ none || eqb len 0 → next ≡ next_axis a (get_or es k d) → IsSlicedOnce offset ns ss es next (k + 1) f' none'
-      once_more len f' none' next is moved stays left past =
+      pub once_more : (len f' : ℕ) (none' : Bool) (next : ℕ) → len ≡ length_by (get_or ns a 0) (get_or es k d) → (none ≡ false → 0 < len → pos f' ≡ pos f +ℤ (pos (start_by (get_or ns a 0) (get_or es k d)) *ℤ get_or ss a (pos 0))) → (reads_axis (get_or es k d) ≡ false → f' ≡ f) → (none ≡ true → f' ≡ f) → none' ≡ none || eqb len 0 → next ≡ next_axis a (get_or es k d) → IsSlicedOnce offset ns ss es next (k + 1) f' none'
+      once_more len f' none' next is moved stays rests left past =
           subst (λ b. IsSlicedOnce offset ns ss es b (k + 1) f' none') (sym past)
           (record {
             lengths = shape_with so_far.lengths a e;
             strides = strides_with so_far.lengths so_far.strides a e;
-            sliced = sliced_more offset ns ss es a k f so_far.lengths so_far.strides so_far.sliced d within f' (shape_with so_far.lengths a e) (strides_with so_far.lengths so_far.strides a e) refl step;
-            taken = so_far.taken ∙ (ap (strides_from a so_far.lengths so_far.strides) here ∙ strides_more a so_far.lengths so_far.strides e (drop (k + 1) es) many fitting);
+            sliced = sliced_more offset ns ss es a k f so_far.lengths so_far.strides so_far.sliced d within f' (shape_with so_far.lengths a e) (strides_with so_far.lengths so_far.strides a e) refl refl (λ z. rests (never z)) step;
             same_lengths = λ j h. lengths_past so_far.lengths a e j h ∙ so_far.same_lengths j (next_after a e j h);
             same_strides = λ j h. strides_past so_far.lengths so_far.strides a e j h ∙ so_far.same_strides j (next_after a e j h);
             empty = λ t. element_none so_far.lengths a e fits (gone t);
@@ -275,6 +223,14 @@ module _ (offset : ℕ) (ns : List ℕ) (ss : List ℤ) (es : List SliceInfoElem
 
           long : len ≡ length_by (get_or so_far.lengths a 0) e
           long = is ∙ ap (λ n. length_by n e) (sym here_length)
+
+          -- without elements so far
+          never : size_of so_far.lengths ≡ 0 → none ≡ true
+          never z = at none refl
+            where
+              at : (b : Bool) → none ≡ b → none ≡ true
+              at true t = t
+              at false t = let left = so_far.some t in absurd (omega (arith, z, left))
 
           -- what the answer says of elements that are left
           gone : none' ≡ true → (length_by (get_or so_far.lengths a 0) e ≡ 0) ⊎ (size_of so_far.lengths ≡ 0)
@@ -331,7 +287,7 @@ module _ (offset : ℕ) (ns : List ℕ) (ss : List ℤ) (es : List SliceInfoElem
               let new = shape_with so_far.lengths a e in
               let as_many : length (set so_far.strides a s) ≡ length new = length-set so_far.strides a s ∙ (many ∙ sym (length-set so_far.lengths a _)) in
               let whole : collapsed_strides ns ss es ≡ strides_from (suc a) new (set so_far.strides a s) rest =
-              so_far.taken ∙ (ap (strides_from a so_far.lengths so_far.strides) first ∙ strides_more a so_far.lengths so_far.strides e rest many all) in
+              so_far.sliced.strides ∙ (ap (strides_from a so_far.lengths so_far.strides) first ∙ strides_more a so_far.lengths so_far.strides e rest many all) in
               rw (sym here_length, sym here_stride) refl
               ∙ (sym (get_or-set_same so_far.strides a s (pos 0) on)
               ∙ (sym (strides_done (suc a) new (set so_far.strides a s) rest a as_many (omega arith)) ∙ ap (λ l. get_or l a (pos 0)) (sym whole)))
@@ -340,15 +296,13 @@ module _ (offset : ℕ) (ns : List ℕ) (ss : List ℤ) (es : List SliceInfoElem
 
     -- all elements
     pub once_all : length es ≤ k → (lengths : List ℕ) × (strides : List ℤ) × (lengths ≡ collapsed_after ns es) × (strides ≡ collapsed_strides ns ss es) × IsStep offset ns ss f lengths strides (collapsed_before ns es)
-    once_all done =
-        let end = drop_of_length-le es done in
-        let fits : fits_from a so_far.lengths [] ≡ true = subst (λ l. fits_from a so_far.lengths l ≡ true) end so_far.sliced.fits in (
-          so_far.lengths,
-          so_far.strides,
-          sliced_all_shape offset ns ss es a k f so_far.lengths so_far.strides so_far.sliced done,
-          sym (so_far.taken ∙ (ap (strides_from a so_far.lengths so_far.strides) end ∙ strides_none a so_far.lengths so_far.strides many fits)),
-          sliced_all offset ns ss es a k f so_far.lengths so_far.strides so_far.sliced done,
-        )
+    once_all done = (
+      so_far.lengths,
+      so_far.strides,
+      sliced_all_shape offset ns ss es a k f so_far.lengths so_far.strides so_far.sliced done,
+      sliced_all_strides offset ns ss es a k f so_far.lengths so_far.strides so_far.sliced done,
+      sliced_all offset ns ss es a k f so_far.lengths so_far.strides so_far.sliced done,
+    )
 
 -- ---- with what is kept
 length-collapsed : (ns : List ℕ) (ss : List ℤ) (es : List SliceInfoElem) → length ss ≡ length ns → each_fits ns es ≡ true → length (collapsed_strides ns ss es) ≡ length (collapsed_after ns es)
@@ -361,6 +315,19 @@ length-collapsed (n ∷ ns) [] (Index k ∷ es) many h = absurd (omega arith)
 length-collapsed (n ∷ ns) (s ∷ ss) (Index k ∷ es) many h = ap suc (length-collapsed ns ss es (omega (arith, many)) (and_parts _ _ h).1)
 length-collapsed [] ss (NewAxis ∷ es) many h = length-collapsed [] ss es many h
 length-collapsed (n ∷ ns) ss (NewAxis ∷ es) many h = length-collapsed (n ∷ ns) ss es many h
+
+-- what the second pass leaves of the strides
+kept_strides : (ns : List ℕ) (ss : List ℤ) (es : List SliceInfoElem) → length ss ≡ length ns → each_fits ns es ≡ true → kept_items (pos 0) es (collapsed_strides ns ss es) ≡ strides_after ns ss es
+kept_strides [] ss [] many h = refl
+kept_strides (n ∷ ns) ss [] many h = absurd cc
+kept_strides [] ss (Part start end step ∷ es) many h = absurd cc
+kept_strides (n ∷ ns) [] (Part start end step ∷ es) many h = absurd (omega arith)
+kept_strides (n ∷ ns) (s ∷ ss) (Part start end step ∷ es) many h = ap (λ l. stride_by n s (Part start end step) ∷ l) (kept_strides ns ss es (omega (arith, many)) (and_parts _ _ h).1)
+kept_strides [] ss (Index k ∷ es) many h = absurd cc
+kept_strides (n ∷ ns) [] (Index k ∷ es) many h = absurd (omega arith)
+kept_strides (n ∷ ns) (s ∷ ss) (Index k ∷ es) many h = kept_strides ns ss es (omega (arith, many)) (and_parts _ _ h).1
+kept_strides [] ss (NewAxis ∷ es) many h = ap (λ l. pos 0 ∷ l) (kept_strides [] ss es many h)
+kept_strides (n ∷ ns) ss (NewAxis ∷ es) many h = ap (λ l. pos 0 ∷ l) (kept_strides (n ∷ ns) ss es many h)
 
 gone_axis : (a : ℕ) (e : SliceInfoElem) → keeps_axis e ≡ false → a + 1 ≡ next_axis a e
 gone_axis a (Part start end step) h = absurd cc
@@ -385,9 +352,9 @@ module _ (offset : ℕ) (ns : List ℕ) (ss : List ℤ) (es : List SliceInfoElem
   }
 
   module _ (a c k f : ℕ) (none : Bool) (ds : List ℕ) (ts : List ℤ) (so_far : IsCutTo offset ns ss es a c k f none ds ts) where
-    module _ (d : SliceInfoElem) (within : k < length es) (len f' : ℕ) (none' : Bool) (next : ℕ) (is : len ≡ length_by (get_or ns a 0) (get_or es k d)) (moved : none ≡ false → 0 < len → pos f' ≡ pos f +ℤ (pos (start_by (get_or ns a 0) (get_or es k d)) *ℤ get_or ss a (pos 0))) (stays : reads_axis (get_or es k d) ≡ false → f' ≡ f) (left : none' ≡ none || eqb len 0) (past : next ≡ next_axis a (get_or es k d)) where
+    module _ (d : SliceInfoElem) (within : k < length es) (len f' : ℕ) (none' : Bool) (next : ℕ) (is : len ≡ length_by (get_or ns a 0) (get_or es k d)) (moved : none ≡ false → 0 < len → pos f' ≡ pos f +ℤ (pos (start_by (get_or ns a 0) (get_or es k d)) *ℤ get_or ss a (pos 0))) (stays : reads_axis (get_or es k d) ≡ false → f' ≡ f) (rests : none ≡ true → f' ≡ f) (left : none' ≡ none || eqb len 0) (past : next ≡ next_axis a (get_or es k d)) where
       next_once : IsSlicedOnce offset ns ss es next (k + 1) f' none'
-      next_once = once_more offset ns ss es a k f none so_far.once d within len f' none' next is moved stays left past
+      next_once = once_more offset ns ss es a k f none so_far.once d within len f' none' next is moved stays rests left past
 
       pub cut_kept : (stride : ℤ) → stride ≡ stride_by (get_or ns a 0) (get_or ss a (pos 0)) (get_or es k d) → keeps_axis (get_or es k d) ≡ true → IsCutTo offset ns ss es next (c + 1) (k + 1) f' none' (set ds c len) (set ts c stride)
       cut_kept stride with_stride keeps = record {
@@ -405,7 +372,7 @@ module _ (offset : ℕ) (ns : List ℕ) (ss : List ℤ) (es : List SliceInfoElem
             strides = subst (λ b. IsKeptTo (pos 0) (pos 0) es (collapsed_strides ns ss es) ts b c (k + 1)) same (kept_gone (pos 0) (pos 0) es (collapsed_strides ns ss es) ts a c k so_far.strides d within gone);
           }
 
-    pub cut_all : length es ≤ k → (ds ≡ shape_after ns es) × IsStep offset ns ss f ds ts (index_before ns es)
+    pub cut_all : length es ≤ k → (ds ≡ shape_after ns es) × IsStep offset ns ss f ds ts (index_before ns es) × (ts ≡ strides_after ns ss es)
     cut_all done =
         let all = once_all offset ns ss es a k f none so_far.once done in
         let mid = all.0 in
@@ -417,4 +384,5 @@ module _ (offset : ℕ) (ns : List ℕ) (ss : List ℤ) (es : List SliceInfoElem
         let strides : ts ≡ kept_items (pos 0) es mid_strides = kept_all (pos 0) (pos 0) es (collapsed_strides ns ss es) ts a c k so_far.strides done ∙ ap (kept_items (pos 0) es) (sym strided) in
         let ones : indexed_ones es mid ≡ true = ap (indexed_ones es) collapsed ∙ ones_collapsed ns es fits in
         let kept : IsStep f mid mid_strides f ds ts (put_back es) = rw (lengths, strides) (keep_is_step f mid mid_strides es step.as_many ones) in
-        slice_list_is_step offset f f ns ss mid mid_strides ds ts es fits collapsed step lengths kept
+        let whole = slice_list_is_step offset f f ns ss mid mid_strides ds ts es fits collapsed step lengths kept in
+        (whole.0, whole.1, strides ∙ (ap (kept_items (pos 0) es) strided ∙ kept_strides ns ss es many fits))

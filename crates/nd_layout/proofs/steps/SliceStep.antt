@@ -229,6 +229,21 @@ module _ (ns : List ℕ) (ss : List ℤ) (a : ℕ) (s : Slice) (many : length ss
       (λ short. IsSeparated-changed ns ss a m (pos 0) many on (λ long. absurd (omega (arith, short, long))) apart)
       (λ _. IsSeparated-sliced ns ss a (low_of n s) (high_of n s) s.step many on (step_moves n s fits) (high_within n s) apart)
 
+  -- where elements are left, there were some, and the axis has some
+  pub some_sliced : (none : Bool) → (none ≡ true → size_of ns ≡ 0) → 0 < size_of (sliced_shape ns a s) → (none ≡ false) × (0 < sliced_length (get_or ns a 0) s)
+  some_sliced none empty some = (was none refl, long (sliced_length (get_or ns a 0) s) refl)
+    where
+      gone : (sliced_length (get_or ns a 0) s ≡ 0) ⊎ (size_of ns ≡ 0) → ⊥
+      gone h = let nothing = none_left ns a (sliced_length (get_or ns a 0) s) on (sliced_length-le (get_or ns a 0) s fits) h in omega (arith, some, nothing)
+
+      was : (b : Bool) → none ≡ b → none ≡ false
+      was true e = absurd (gone (inr (empty e)))
+      was false e = e
+
+      long : (m : ℕ) → sliced_length (get_or ns a 0) s ≡ m → 0 < sliced_length (get_or ns a 0) s
+      long zero e = absurd (gone (inl e))
+      long (suc m) e = omega (arith, e)
+
   -- slicing one axis is a layout step, from the place of the slice's first coordinate
   pub slice_is_step : (offset new_offset : ℕ) → (0 < size_of (sliced_shape ns a s) → pos new_offset ≡ pos offset +ℤ (pos (sliced_from (get_or ns a 0) s 0) *ℤ get_or ss a (pos 0))) → IsStep offset ns ss new_offset (sliced_shape ns a s) (set ss a (stepped_stride (sliced_length (get_or ns a 0) s) (get_or ss a (pos 0)) s.step)) (sliced_index ns a s)
   slice_is_step offset new_offset moved =
@@ -252,3 +267,9 @@ module _ (ns : List ℕ) (ss : List ℤ) (a : ℕ) (s : Slice) (many : length ss
 
       shorter : sliced_length (get_or ns a 0) s ≤ get_or ns a 0 → sliced_length (get_or ns a 0) s ≤ max 1 (get_or ns a 0)
       shorter h = omega (arith, h)
+
+  -- what the code knows of the axis after the slice, and of the layout that it makes
+  pub slice_makes_step : (offset new_offset len : ℕ) (stride : ℤ) (none : Bool) (new_ns : List ℕ) (new_ss : List ℤ) → (none ≡ true → size_of ns ≡ 0) → len ≡ sliced_length (get_or ns a 0) s → stride ≡ stepped_stride len (get_or ss a (pos 0)) s.step → (none ≡ false → 0 < len → pos new_offset ≡ pos offset +ℤ (pos (sliced_from (get_or ns a 0) s 0) *ℤ get_or ss a (pos 0))) → new_ns ≡ set ns a len → new_ss ≡ set ss a stride → IsStep offset ns ss new_offset new_ns new_ss (sliced_index ns a s)
+  slice_makes_step offset new_offset len stride none new_ns new_ss empty long stepped moved lengths strides =
+      let step = slice_is_step offset new_offset (λ left. let some = some_sliced none empty left in moved some.0 (subst (λ m. 0 < m) (sym long) some.1)) in
+      rw (lengths, strides, stepped, long) step

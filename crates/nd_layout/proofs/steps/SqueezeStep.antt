@@ -1,12 +1,20 @@
 -- A squeeze, axis by axis from the last to the first, is a layout step.
-use Rattle.std.proofs.Common.{◌≡◌, ℕ, zero, suc, ◌<◌, ◌≤◌, Bool, true, false, cond, not, ◌&&◌, ◌||◌, eqb, ltb, List, [], ◌∷◌, length, map, get_or, ℤ, refl, ap, sym, ◌∙◌, subst, arith}
+use Rattle.std.proofs.Common.{◌≡◌, ℕ, zero, suc, ◌<◌, ◌≤◌, Bool, true, false, cond, not, ◌&&◌, ◌||◌, eqb, ltb, List, [], ◌∷◌, length, map, get_or, replicate, ℤ, pos, ◌+ℤ◌, ◌*◌, refl, ap, sym, ◌∙◌, subst, arith}
 use Rattle.std.specs.List.{remove, insert}
 use Rattle.std.proofs.lemmas.Bool.{lt-ltb}
 use Rattle.std.proofs.lemmas.List.{length-map, get_or-map}
 use Rattle.nd_shape_and_slice.proofs.RowMajor.{length-in_box}
 use Rattle.nd_shape_and_slice.specs.Squeeze.{isnt_one, all_one, stays, kept_of, spread_over, goes_at, shape_squeezed_at, index_squeezed_at}
 use Rattle.nd_layout.specs.Steps.{IsStep}
-use Rattle.nd_layout.proofs.steps.StepLemmas.{step_then, step_by}
+use Rattle.nd_layout.specs.Strides.{strides_squeezed_at}
+use Rattle.nd_shape_and_slice.specs.Shape.{size_of}
+use Rattle.nd_shape_and_slice.specs.Place.{displacement_of}
+use Rattle.nd_shape_and_slice.specs.Maps.{indexed_index}
+use Rattle.nd_shape_and_slice.proofs.RowMajor.{displacement_of-origin}
+use Rattle.std.proofs.lemmas.Int.{ints}
+use Rattle.std.proofs.lemmas.List.Edits.{length-remove}
+use Rattle.nd_layout.proofs.Removed.{size_of-removed}
+use Rattle.nd_layout.proofs.steps.StepLemmas.{step_then, step_by, origin_in_box}
 use Rattle.nd_layout.proofs.steps.ResizeStep.{same_is_step}
 
 -- the axes below k stay whatever they are
@@ -20,7 +28,7 @@ length-stays [] = refl
 length-stays (n ∷ ns) = ap suc (length-map ns isnt_one)
 
 -- where all are opened, nothing changes
-kept-opened : (bs : List Bool) (ns : List ℕ) → length bs ≡ length ns → kept_of (opened (length ns) bs) ns ≡ ns
+kept-opened : {A : Type 0} (bs : List Bool) (ns : List A) → length bs ≡ length ns → kept_of (opened (length ns) bs) ns ≡ ns
 kept-opened [] [] e = refl
 kept-opened [] (n ∷ ns) e = absurd (omega arith)
 kept-opened (b ∷ bs) [] e = refl
@@ -40,7 +48,7 @@ opened-stays (suc k) [] e = refl
 opened-stays (suc k) (b ∷ bs) e = ap (λ l. true ∷ l) (opened-stays k bs e)
 
 -- an axis that goes
-kept-goes : (k : ℕ) (bs : List Bool) (ns : List ℕ) → get_or bs k true ≡ false → remove (kept_of (opened (suc k) bs) ns) k ≡ kept_of (opened k bs) ns
+kept-goes : {A : Type 0} (k : ℕ) (bs : List Bool) (ns : List A) → get_or bs k true ≡ false → remove (kept_of (opened (suc k) bs) ns) k ≡ kept_of (opened k bs) ns
 kept-goes zero [] ns e = absurd cc
 kept-goes zero (true ∷ bs) ns e = absurd cc
 kept-goes zero (false ∷ bs) [] e = refl
@@ -110,10 +118,36 @@ goes_is (n ∷ ns) (suc k) h =
     twice true = refl
     twice false = refl
 
+-- the place of index 0 is the offset, so the offset stays
+zeros_inserted : (n a : ℕ) → a ≤ n → insert {X = ℕ} (replicate n 0) a 0 ≡ replicate (suc n) 0
+zeros_inserted n zero h = refl
+zeros_inserted zero (suc a) h = absurd (omega arith)
+zeros_inserted (suc n) (suc a) h = ap (λ l. 0 ∷ l) (zeros_inserted n a (omega (arith, h)))
+
+same_offset : (p q : ℕ) (y z : ℤ) → y ≡ pos 0 → z ≡ pos 0 → pos p +ℤ y ≡ pos q +ℤ z → p ≡ q
+same_offset p q y z e f h = let sums : pos p +ℤ pos 0 ≡ pos q +ℤ pos 0 = rw (e, f) at h in omega (arith, ints, sums)
+
+pub squeezed_offset : (offset : ℕ) (ns : List ℕ) (ss : List ℤ) (a offset' : ℕ) (ss' : List ℤ) → a < length ns → get_or ns a 0 ≡ 1 → (size_of ns ≡ 0 → offset' ≡ offset) → IsStep offset ns ss offset' (remove ns a) ss' (indexed_index a 0) → offset' ≡ offset
+squeezed_offset offset ns ss a offset' ss' on one empty step = at (size_of ns) refl
+  where
+    rest : size_of ns ≡ 1 * size_of (remove ns a)
+    rest = size_of-removed ns a on ∙ ap (λ n. n * size_of (remove ns a)) one
+
+    at : (n : ℕ) → size_of ns ≡ n → offset' ≡ offset
+    at zero e = empty e
+    at (suc n) e =
+        let m = length (remove ns a) in
+        let here = step.same (replicate m 0) (origin_in_box (remove ns a) (omega (arith, e, rest))) in
+        let long = length-remove ns a on in
+        same_offset offset' offset (displacement_of ss' (replicate m 0)) (displacement_of ss (insert (replicate m 0) a 0)) (displacement_of-origin ss' m)
+        (ap (displacement_of ss) (zeros_inserted m a (omega (arith, on, long))) ∙ displacement_of-origin ss (suc m)) here
+
 -- the axes from k on squeezed
 pub record IsSqueezedFrom (offset : ℕ) (ns : List ℕ) (ss : List ℤ) (k new_offset : ℕ) (new_ns : List ℕ) (new_ss : List ℤ) : Type 0 where
   pub lengths : new_ns ≡ kept_of (opened k (stays ns)) ns
   pub step : IsStep offset ns ss new_offset new_ns new_ss (spread_over (opened k (stays ns)))
+  pub strides : new_ss ≡ kept_of (opened k (stays ns)) ss
+  pub unmoved : new_offset ≡ offset
 
 module _ (offset : ℕ) (ns : List ℕ) (ss : List ℤ) where
   pub squeezed_none : (new_offset : ℕ) (new_ns : List ℕ) (new_ss : List ℤ) → length ss ≡ length ns → new_offset ≡ offset → new_ns ≡ ns → new_ss ≡ ss → IsSqueezedFrom offset ns ss (length ns) new_offset new_ns new_ss
@@ -123,6 +157,8 @@ module _ (offset : ℕ) (ns : List ℕ) (ss : List ℤ) where
         lengths = sym (kept-opened (stays ns) ns (length-stays ns));
         step = step_by (spread_over (opened (length ns) (stays ns)))
             (λ i h. sym (all i (length-in_box ns i h))) (same_is_step offset ns ss many);
+        strides = sym (subst (λ n. kept_of (opened n (stays ns)) ss ≡ ss) many (kept-opened (stays ns) ss (length-stays ns ∙ sym many)));
+        unmoved = refl;
       })
     where
       all : (i : List ℕ) → length i ≡ length ns → spread_over (opened (length ns) (stays ns)) i ≡ i
@@ -132,8 +168,8 @@ module _ (offset : ℕ) (ns : List ℕ) (ss : List ℤ) where
     pub squeezed_on : k < length ns'
     squeezed_on = subst (λ l. k < length l) (sym so_far.lengths) (kept-long k (stays ns) ns (length-stays ns) within)
 
-    pub squeezed_more : (f'' : ℕ) (ns'' : List ℕ) (ss'' : List ℤ) → ns'' ≡ shape_squeezed_at ns' k → IsStep f' ns' ss' f'' ns'' ss'' (index_squeezed_at ns' k) → IsSqueezedFrom offset ns ss k f'' ns'' ss''
-    squeezed_more f'' ns'' ss'' shape step = at (get_or (stays ns) k true) refl
+    pub squeezed_more : (f'' : ℕ) (ns'' : List ℕ) (ss'' : List ℤ) → ns'' ≡ shape_squeezed_at ns' k → ss'' ≡ strides_squeezed_at ns' ss' k → f'' ≡ f' → IsStep f' ns' ss' f'' ns'' ss'' (index_squeezed_at ns' k) → IsSqueezedFrom offset ns ss k f'' ns'' ss''
+    squeezed_more f'' ns'' ss'' shape stepped rests step = at (get_or (stays ns) k true) refl
       where
         tested : goes_at ns' k ≡ not (get_or (stays ns) k true)
         tested = ap (λ l. goes_at l k) so_far.lengths ∙ goes_is ns k within
@@ -147,6 +183,8 @@ module _ (offset : ℕ) (ns : List ℕ) (ss : List ℤ) where
               step = step_by (spread_over (opened k (stays ns)))
                   (λ i h. ap (λ b. spread_over (opened (suc k) (stays ns)) (cond b (insert i k 0) i)) no ∙ ap (λ bs. spread_over bs i) same)
                   (step_then so_far.step step);
+              strides = stepped ∙ (ap (λ b. cond b (remove ss' k) ss') no ∙ (so_far.strides ∙ ap (λ bs. kept_of bs ss) same));
+              unmoved = rests ∙ so_far.unmoved;
             }
         at false gone =
             let yes : goes_at ns' k ≡ true = tested ∙ ap not gone in
@@ -160,4 +198,6 @@ module _ (offset : ℕ) (ns : List ℕ) (ss : List ℤ) where
                   ap (λ b. spread_over (opened (suc k) (stays ns)) (cond b (insert i k 0) i)) yes
                   ∙ spread-goes k (stays ns) i gone (omega (arith, counted, ap length left, front)))
                   (step_then so_far.step step);
+              strides = stepped ∙ (ap (λ b. cond b (remove ss' k) ss') yes ∙ (ap (λ l. remove l k) so_far.strides ∙ kept-goes k (stays ns) ss gone));
+              unmoved = rests ∙ so_far.unmoved;
             }

@@ -1,5 +1,5 @@
 -- What every layout step gives: places, a valid layout, separation; and one step after another.
-use Rattle.std.proofs.Common.{◌≡◌, ℕ, ◌<◌, true, List, [], ◌∷◌, length, replicate, ℤ, refl, ap, ◌∙◌, subst, arith}
+use Rattle.std.proofs.Common.{◌≡◌, ℕ, zero, suc, ◌<◌, true, List, [], ◌∷◌, length, replicate, ℤ, refl, ap, ◌∙◌, subst, arith}
 use Rattle.std.proofs.lemmas.Bool.Decides.{nat_tests}
 use Rattle.nd_shape_and_slice.specs.Shape.{in_box, size_of}
 use Rattle.nd_shape_and_slice.specs.Place.{place_of, IsSeparated}
@@ -29,6 +29,13 @@ module _ {offset : ℕ} {ns : List ℕ} {ss : List ℤ} {offset' : ℕ} {ns' : L
   step_some step some =
       let below = row_rank_below ns (source (replicate (length ns') 0)) (step.within (replicate (length ns') 0) (origin_in_box ns' some)) in
       omega (arith, below)
+
+  pub step_none : IsStep offset ns ss offset' ns' ss' source → size_of ns ≡ 0 → size_of ns' ≡ 0
+  step_none step none = at (size_of ns') refl
+    where
+      at : (n : ℕ) → size_of ns' ≡ n → n ≡ 0
+      at zero e = refl
+      at (suc n) e = let some = step_some step (omega (arith, e)) in absurd (omega (arith, none, some))
 
   -- separation is kept where it is asked for
   pub step_separated : {E : Type 0} → IsStep offset ns ss offset' ns' ss' source → (E → 0 < size_of ns → IsSeparated ns ss) → E → 0 < size_of ns' → IsSeparated ns' ss'

@@ -51,7 +51,8 @@ impl<D: Dimension, T: StrideList> Layout<D, T> {
         requires on { axis < length (D.lengths self.now.dim) }
         requires shorter { len ≤ slice_index (D.lengths self.now.dim) axis }
         requires within { 0 < len → steps < slice_index (D.lengths self.now.dim) axis }
-        ensures { 0 < size_of (slice_set (D.lengths self.now.dim) axis len) → pos result ≡ pos self.now.offset +ℤ (pos steps *ℤ slice_index_or (T.strides_of self.now.strides) axis (pos 0)) }
+        ensures moved { 0 < size_of (slice_set (D.lengths self.now.dim) axis len) → pos result ≡ pos self.now.offset +ℤ (pos steps *ℤ slice_index_or (T.strides_of self.now.strides) axis (pos 0)) }
+        ensures empty { size_of (D.lengths self.now.dim) ≡ 0 → result ≡ self.now.offset }
     {
         if self.leaves_none(axis, len) {
             self.offset
@@ -64,7 +65,8 @@ impl<D: Dimension, T: StrideList> Layout<D, T> {
     #[inline]
     fn offset_inverted(&self, axis: usize) -> usize
         requires { axis < length (D.lengths self.now.dim) }
-        ensures { IsStep self.now.offset (D.lengths self.now.dim) (T.strides_of self.now.strides) result (D.lengths self.now.dim) (slice_set (T.strides_of self.now.strides) axis (opposite_stride (slice_index_or (T.strides_of self.now.strides) axis (pos 0)))) (inverted_index (D.lengths self.now.dim) axis) }
+        ensures step { IsStep self.now.offset (D.lengths self.now.dim) (T.strides_of self.now.strides) result (D.lengths self.now.dim) (slice_set (T.strides_of self.now.strides) axis (opposite_stride (slice_index_or (T.strides_of self.now.strides) axis (pos 0)))) (inverted_index (D.lengths self.now.dim) axis) }
+        ensures empty { size_of (D.lengths self.now.dim) ≡ 0 → result ≡ self.now.offset }
     {
         let len = self.dim.length(axis);
         self.offset_after(axis, len, len.saturating_sub(1))
@@ -75,7 +77,8 @@ impl<D: Dimension, T: StrideList> Layout<D, T> {
     pub(crate) fn offset_collapsed(&self, axis: usize, index: usize) -> usize
         requires on { axis < length (D.lengths self.now.dim) }
         requires within { index < slice_index (D.lengths self.now.dim) axis }
-        ensures { IsStep self.now.offset (D.lengths self.now.dim) (T.strides_of self.now.strides) result (collapsed_shape (D.lengths self.now.dim) axis) (T.strides_of self.now.strides) (collapsed_index axis index) }
+        ensures step { IsStep self.now.offset (D.lengths self.now.dim) (T.strides_of self.now.strides) result (collapsed_shape (D.lengths self.now.dim) axis) (T.strides_of self.now.strides) (collapsed_index axis index) }
+        ensures empty { size_of (D.lengths self.now.dim) ≡ 0 → result ≡ self.now.offset }
     {
         self.offset_after(axis, 1, index)
     }
@@ -85,7 +88,8 @@ impl<D: Dimension, T: StrideList> Layout<D, T> {
     fn offset_upper(&self, axis: usize, index: usize) -> usize
         requires on { axis < length (D.lengths self.now.dim) }
         requires within { index ≤ slice_index (D.lengths self.now.dim) axis }
-        ensures { IsStep self.now.offset (D.lengths self.now.dim) (T.strides_of self.now.strides) result (upper_shape (D.lengths self.now.dim) axis index) (T.strides_of self.now.strides) (upper_index axis index) }
+        ensures step { IsStep self.now.offset (D.lengths self.now.dim) (T.strides_of self.now.strides) result (upper_shape (D.lengths self.now.dim) axis index) (T.strides_of self.now.strides) (upper_index axis index) }
+        ensures empty { size_of (D.lengths self.now.dim) ≡ 0 → result ≡ self.now.offset }
     {
         self.offset_after(axis, self.dim.length(axis) - index, index)
     }
@@ -97,6 +101,7 @@ impl<D: Dimension, T: StrideList> Layout<D, T> {
         ensures lengths { D.lengths self.new.dim ≡ D.lengths self.old.dim }
         ensures strides { T.strides_of self.new.strides ≡ slice_set (T.strides_of self.old.strides) axis (opposite_stride (slice_index_or (T.strides_of self.old.strides) axis (pos 0))) }
         ensures step { IsStep self.old.offset (D.lengths self.old.dim) (T.strides_of self.old.strides) self.new.offset (D.lengths self.new.dim) (T.strides_of self.new.strides) (inverted_index (D.lengths self.old.dim) axis) }
+        ensures empty { size_of (D.lengths self.old.dim) ≡ 0 → self.new.offset ≡ self.old.offset }
     {
         let offset = self.offset_inverted(axis);
         let stride = opposite(self.strides.stride(axis));
@@ -112,6 +117,7 @@ impl<D: Dimension, T: StrideList> Layout<D, T> {
         ensures lengths { D.lengths self.new.dim ≡ collapsed_shape (D.lengths self.old.dim) axis }
         ensures strides { T.strides_of self.new.strides ≡ T.strides_of self.old.strides }
         ensures step { IsStep self.old.offset (D.lengths self.old.dim) (T.strides_of self.old.strides) self.new.offset (D.lengths self.new.dim) (T.strides_of self.new.strides) (collapsed_index axis index) }
+        ensures empty { size_of (D.lengths self.old.dim) ≡ 0 → self.new.offset ≡ self.old.offset }
     {
         let offset = self.offset_collapsed(axis, index);
         self.offset = offset;
@@ -126,6 +132,7 @@ impl<D: Dimension, T: StrideList> Layout<D, T> {
         ensures lengths { D.lengths self.new.dim ≡ lower_shape (D.lengths self.old.dim) axis index }
         ensures strides { T.strides_of self.new.strides ≡ T.strides_of self.old.strides }
         ensures step { IsStep self.old.offset (D.lengths self.old.dim) (T.strides_of self.old.strides) self.new.offset (D.lengths self.new.dim) (T.strides_of self.new.strides) (λ i. i) }
+        ensures offset { self.new.offset ≡ self.old.offset }
     {
         self.dim.set_length(axis, index);
     }
@@ -138,6 +145,7 @@ impl<D: Dimension, T: StrideList> Layout<D, T> {
         ensures lengths { D.lengths self.new.dim ≡ upper_shape (D.lengths self.old.dim) axis index }
         ensures strides { T.strides_of self.new.strides ≡ T.strides_of self.old.strides }
         ensures step { IsStep self.old.offset (D.lengths self.old.dim) (T.strides_of self.old.strides) self.new.offset (D.lengths self.new.dim) (T.strides_of self.new.strides) (upper_index axis index) }
+        ensures empty { size_of (D.lengths self.old.dim) ≡ 0 → self.new.offset ≡ self.old.offset }
     {
         let offset = self.offset_upper(axis, index);
         let len = self.dim.length(axis);
@@ -156,6 +164,8 @@ impl<D: Dimension, T: StrideList> Layout<D, T> {
         ensures upper_lengths { D.lengths result.1.dim ≡ upper_shape (D.lengths self.now.dim) axis index }
         ensures upper_strides { T.strides_of result.1.strides ≡ T.strides_of self.now.strides }
         ensures upper { IsStep self.now.offset (D.lengths self.now.dim) (T.strides_of self.now.strides) result.1.offset (D.lengths result.1.dim) (T.strides_of result.1.strides) (upper_index axis index) }
+        ensures lower_offset { result.0.offset ≡ self.now.offset }
+        ensures upper_empty { size_of (D.lengths self.now.dim) ≡ 0 → result.1.offset ≡ self.now.offset }
     {
         let mut lower = self.copied();
         let mut upper = self.copied();
@@ -221,6 +231,7 @@ impl<D: Dimension, T: StrideList> Layout<D, T> {
         ensures lengths { D.lengths self.new.dim ≡ swap (D.lengths self.old.dim) a b }
         ensures strides { T.strides_of self.new.strides ≡ swap (T.strides_of self.old.strides) a b }
         ensures step { IsStep self.old.offset (D.lengths self.old.dim) (T.strides_of self.old.strides) self.new.offset (D.lengths self.new.dim) (T.strides_of self.new.strides) (λ i. swap i a b) }
+        ensures offset { self.new.offset ≡ self.old.offset }
     {
         exchange(&mut self.dim, &mut self.strides, a, b);
     }
@@ -231,6 +242,7 @@ impl<D: Dimension, T: StrideList> Layout<D, T> {
         ensures lengths { D.lengths self.new.dim ≡ reverse (D.lengths self.old.dim) }
         ensures strides { T.strides_of self.new.strides ≡ reverse (T.strides_of self.old.strides) }
         ensures step { IsStep self.old.offset (D.lengths self.old.dim) (T.strides_of self.old.strides) self.new.offset (D.lengths self.new.dim) (T.strides_of self.new.strides) reverse }
+        ensures offset { self.new.offset ≡ self.old.offset }
     {
         reverse(&mut self.dim, &mut self.strides);
     }
@@ -242,6 +254,7 @@ impl<D: Dimension, T: StrideList> Layout<D, T> {
         ensures lengths { D.lengths self.new.dim ≡ permuted_list axes.now (D.lengths self.old.dim) }
         ensures strides { T.strides_of self.new.strides ≡ permuted_ints axes.now (T.strides_of self.old.strides) }
         ensures step { IsStep self.old.offset (D.lengths self.old.dim) (T.strides_of self.old.strides) self.new.offset (D.lengths self.new.dim) (T.strides_of self.new.strides) (unpermuted_list axes.now) }
+        ensures offset { self.new.offset ≡ self.old.offset }
     {
         permute(&mut self.dim, &mut self.strides, axes);
     }

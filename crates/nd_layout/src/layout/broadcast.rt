@@ -69,6 +69,7 @@ impl<D: Dimension, T: StrideList> Layout<D, T> {
         ensures lengths { IfSome result (λ l. E.lengths l.dim ≡ E.lengths to) }
         ensures strides { IfSome result (λ l. E.Strides.strides_of l.strides ≡ broadcast_strides (D.lengths self.now.dim) (T.strides_of self.now.strides) (E.lengths l.dim)) }
         ensures seen { IfSome result (λ l. IsViewStep self.now.offset (D.lengths self.now.dim) (T.strides_of self.now.strides) l.offset (E.lengths l.dim) (E.Strides.strides_of l.strides) (broadcast_index (D.lengths self.now.dim) (E.lengths l.dim))) }
+        ensures offset { IfSome result (λ l. l.offset ≡ self.now.offset) }
     {
         if !can_broadcast(self.dim.slice(), to.slice()) {
             return None;

@@ -73,6 +73,7 @@ impl<D: Dimension, T: StrideList> Layout<D, T> {
         ensures lengths { ⟦<Ix1 as Dimension>⟧.lengths result.dim ≡ diagonal_length (D.lengths self.now.dim) ∷ [] }
         ensures strides { result.strides ≡ diagonal_stride (D.lengths self.now.dim) (T.strides_of self.now.strides) ∷ [] }
         ensures step { IsStep self.now.offset (D.lengths self.now.dim) (T.strides_of self.now.strides) result.offset (⟦<Ix1 as Dimension>⟧.lengths result.dim) result.strides (diagonal_index (D.lengths self.now.dim)) }
+        ensures offset { result.offset ≡ self.now.offset }
     {
         let len = len_of_diagonal(self.dim.slice());
         let stride = stride_of_diagonal(self.dim.slice(), self.strides.slice(), len);

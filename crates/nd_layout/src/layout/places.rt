@@ -36,7 +36,8 @@ pub(crate) fn moved_unless(stays: bool, place: usize, steps: usize, stride: isiz
     requires from { stays ≡ false → place < 2 ^ 63 }
     requires few { stays ≡ false → steps < 2 ^ 63 }
     requires to { stays ≡ false → is_place (pos place +ℤ (pos steps *ℤ stride)) ≡ true }
-    ensures { stays ≡ false → pos result ≡ pos place +ℤ (pos steps *ℤ stride) }
+    ensures moved { stays ≡ false → pos result ≡ pos place +ℤ (pos steps *ℤ stride) }
+    ensures kept { stays ≡ true → result ≡ place }
 {
     if stays {
         place

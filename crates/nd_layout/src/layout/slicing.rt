@@ -1,23 +1,24 @@
 //! Slices of a layout's axes: of one axis, by a list of slices, and by a closure that is asked of each axis.
 
-ghost use Rattle.std.specs.Prelude.{◌≡◌, ◌<◌, ◌≤◌, ◌^◌, ℕ, ℤ, true, false, is_some, nat_eq, ◌||◌, List, length, slice_index, slice_index_or, slice_get, slice_set, pos, replicate, ◌+ℤ◌, ◌*ℤ◌, if◌then◌else◌};
+ghost use Rattle.std.specs.Prelude.{◌≡◌, ◌<◌, ◌≤◌, ◌^◌, ℕ, ℤ, true, false, is_some, nat_eq, ◌||◌, List, length, slice_index, slice_index_or, slice_get, slice_set, pos, ◌+ℤ◌, ◌*ℤ◌, if◌then◌else◌};
 ghost use Rattle.std.specs.Option.{unwrap_or};
 ghost use Rattle.nd_shape_and_slice.specs.declared.slice.Slice.{Slice};
 ghost use Rattle.nd_shape_and_slice.specs.Descriptions.{axes_from};
 ghost use Rattle.nd_shape_and_slice.specs.Slice.{fits_axis, sliced_from, sliced_length, sliced_shape, sliced_index};
 ghost use Rattle.nd_shape_and_slice.specs.SliceInfo.{coordinate_on, reads_axis, axes_read, axes_kept, each_fits, fits_next, fits_shape, shape_after, index_before};
-ghost use Rattle.nd_layout.specs.Strides.{sliced_strides, stepped_stride, FitsStride};
+ghost use Rattle.nd_shape_and_slice.specs.Shape.{size_of};
+ghost use Rattle.nd_layout.specs.Strides.{sliced_strides, each_sliced_strides, strides_after, collapsed_strides, stepped_stride, FitsStride};
 ghost use Rattle.nd_shape_and_slice.specs.EachAxis.{each_sliced_shape, each_sliced_index, AnswersFit, AnswersAre};
 ghost use Rattle.nd_shape_and_slice.specs.Slicing.{collapsed_after, collapsed_before, shape_with, index_with, kept_items, put_back, indexed_ones};
-ghost use Rattle.nd_layout.specs.Elements.{length_by, start_by, stride_by, LeadsToPlaces};
+ghost use Rattle.nd_layout.specs.Elements.{length_by, start_by, stride_by, strides_with, LeadsToPlaces};
 ghost use Rattle.nd_layout.specs.Steps.{IsStep, IsValid};
 
 use super::Layout;
 use super::axes::{length_at, stride_at};
-use super::places::{moved_by, moved_unless};
+use super::places::moved_unless;
 use nd_shape_and_slice::{
-    Axis, AxisDescription, Dimension, MAX_AXES, Slice, SliceInfoElem, StrideList, axes_kept,
-    axis_after, coordinate_on_axis, is_empty_shape,
+    Axis, AxisDescription, Dimension, Slice, SliceInfoElem, StrideList, axes_kept, axis_after,
+    coordinate_on_axis, is_empty_shape,
 };
 
 /// A layout of which one axis is changed: the offset, and the axis's length and stride.
@@ -54,6 +55,7 @@ impl<D: Dimension, T: StrideList> Layout<D, T> {
         ensures len { result.len ≡ sliced_length (slice_index (D.lengths self.now.dim) axis) slice }
         ensures stride { result.stride ≡ stepped_stride result.len (slice_index_or (T.strides_of self.now.strides) axis (pos 0)) slice.step }
         ensures offset { is_empty ≡ false → 0 < result.len → pos result.offset ≡ pos offset +ℤ (pos (sliced_from (slice_index (D.lengths self.now.dim) axis) slice 0) *ℤ slice_index_or (T.strides_of self.now.strides) axis (pos 0)) }
+        ensures empty { is_empty ≡ true → result.offset ≡ offset }
     {
         let sliced = slice.on_axis(self.dim.length(axis));
         let stride = self.strides.stride(axis);
@@ -71,7 +73,8 @@ impl<D: Dimension, T: StrideList> Layout<D, T> {
         requires on { axis < length (D.lengths self.now.dim) }
         requires fits { is_some (coordinate_on (slice_index (D.lengths self.now.dim) axis) coordinate) ≡ true }
         requires leads { is_empty ≡ false → LeadsToPlaces offset (slice_index (D.lengths self.now.dim) axis) (slice_index_or (T.strides_of self.now.strides) axis (pos 0)) }
-        ensures { is_empty ≡ false → pos result ≡ pos offset +ℤ (pos (unwrap_or (coordinate_on (slice_index (D.lengths self.now.dim) axis) coordinate) 0) *ℤ slice_index_or (T.strides_of self.now.strides) axis (pos 0)) }
+        ensures moved { is_empty ≡ false → pos result ≡ pos offset +ℤ (pos (unwrap_or (coordinate_on (slice_index (D.lengths self.now.dim) axis) coordinate) 0) *ℤ slice_index_or (T.strides_of self.now.strides) axis (pos 0)) }
+        ensures empty { is_empty ≡ true → result ≡ offset }
     {
         let index = coordinate_on_axis(self.dim.length(axis), coordinate).unwrap_or(0);
         moved_unless(is_empty, offset, index, self.strides.stride(axis))
@@ -93,6 +96,7 @@ impl<D: Dimension, T: StrideList> Layout<D, T> {
         ensures stride { result.stride ≡ stride_by (slice_index (D.lengths self.now.dim) axis) (slice_index_or (T.strides_of self.now.strides) axis (pos 0)) element }
         ensures offset { is_empty ≡ false → 0 < result.len → pos result.offset ≡ pos offset +ℤ (pos (start_by (slice_index (D.lengths self.now.dim) axis) element) *ℤ slice_index_or (T.strides_of self.now.strides) axis (pos 0)) }
         ensures new { reads_axis element ≡ false → result.offset ≡ offset }
+        ensures empty { is_empty ≡ true → result.offset ≡ offset }
     {
         match element {
             SliceInfoElem::Slice { start, end, step } => {
@@ -113,29 +117,6 @@ impl<D: Dimension, T: StrideList> Layout<D, T> {
 }
 
 impl<D: Dimension, T: StrideList> Layout<D, T> {
-    /// One axis after a slice: the offset, its length and its stride. The offset stays if no element is left.
-    #[inline]
-    fn slice_of_axis(&self, axis: usize, slice: Slice) -> AxisChange
-        requires on { axis < length (D.lengths self.now.dim) }
-        requires fits { fits_axis (slice_index (D.lengths self.now.dim) axis) slice ≡ true }
-        ensures len { result.len ≡ sliced_length (slice_index (D.lengths self.now.dim) axis) slice }
-        ensures stride { result.stride ≡ stepped_stride result.len (slice_index_or (T.strides_of self.now.strides) axis (pos 0)) slice.step }
-        ensures step { IsStep self.now.offset (D.lengths self.now.dim) (T.strides_of self.now.strides) result.offset (slice_set (D.lengths self.now.dim) axis result.len) (slice_set (T.strides_of self.now.strides) axis result.stride) (sliced_index (D.lengths self.now.dim) axis slice) }
-    {
-        let sliced = slice.on_axis(self.dim.length(axis));
-        let stride = self.strides.stride(axis);
-        let offset = if self.leaves_none(axis, sliced.len) {
-            self.offset
-        } else {
-            moved_by(self.offset, sliced.first, stride)
-        };
-        AxisChange {
-            offset,
-            len: sliced.len,
-            stride: stepped_by(stride, sliced.len, slice.step),
-        }
-    }
-
     /// Keeps of one axis what the slice names.
     #[inline]
     pub fn slice_axis(&mut self, axis: usize, slice: Slice)
@@ -144,22 +125,14 @@ impl<D: Dimension, T: StrideList> Layout<D, T> {
         ensures lengths { D.lengths self.new.dim ≡ sliced_shape (D.lengths self.old.dim) axis slice }
         ensures strides { T.strides_of self.new.strides ≡ sliced_strides (D.lengths self.old.dim) (T.strides_of self.old.strides) axis slice }
         ensures step { IsStep self.old.offset (D.lengths self.old.dim) (T.strides_of self.old.strides) self.new.offset (D.lengths self.new.dim) (T.strides_of self.new.strides) (sliced_index (D.lengths self.old.dim) axis slice) }
+        ensures empty { size_of (D.lengths self.old.dim) ≡ 0 → self.new.offset ≡ self.old.offset }
     {
-        let after = self.slice_of_axis(axis, slice);
+        let is_empty = is_empty_shape(self.dim.slice());
+        let after = self.part_of_axis(axis, slice, self.offset, is_empty);
         self.offset = after.offset;
         self.dim.set_length(axis, after.len);
         self.strides.set(axis, after.stride);
     }
-}
-
-/// The dimension with this many axes of length 1.
-fn dim_of_ones<E: Dimension>(count: usize) -> E
-    requires few { count ≤ 32 }
-    requires room { E.has_axes count ≡ true }
-    ensures { E.lengths result ≡ replicate count 1 }
-{
-    let ones = [1; MAX_AXES];
-    E::from_lengths(&ones[..count]).unwrap()
 }
 
 impl<D: Dimension, T: StrideList> Layout<D, T> {
@@ -170,8 +143,10 @@ impl<D: Dimension, T: StrideList> Layout<D, T> {
         requires room { E.has_axes (axes_kept elements.now) ≡ true }
         ensures lengths { E.lengths result.dim ≡ shape_after (D.lengths self.now.dim) elements.now }
         ensures step { IsStep self.now.offset (D.lengths self.now.dim) (T.strides_of self.now.strides) result.offset (E.lengths result.dim) (E.Strides.strides_of result.strides) (index_before (D.lengths self.now.dim) elements.now) }
+        ensures strides { E.Strides.strides_of result.strides ≡ strides_after (D.lengths self.now.dim) (T.strides_of self.now.strides) elements.now }
+        ensures empty { size_of (D.lengths self.now.dim) ≡ 0 → result.offset ≡ self.now.offset }
     {
-        let mut dim: E = dim_of_ones(axes_kept(elements));
+        let mut dim = E::zeros(axes_kept(elements));
         let mut strides = dim.zero_strides();
         let mut offset = self.offset;
         let mut is_empty = is_empty_shape(self.dim.slice());
@@ -200,6 +175,8 @@ impl<D: Dimension, T: StrideList> Layout<D, T> {
         requires { fits_next (slice_get (D.lengths self.old.dim) axis) element ≡ true }
         ensures lengths { D.lengths self.new.dim ≡ shape_with (D.lengths self.old.dim) axis element }
         ensures step { IsStep self.old.offset (D.lengths self.old.dim) (T.strides_of self.old.strides) self.new.offset (D.lengths self.new.dim) (T.strides_of self.new.strides) (index_with (D.lengths self.old.dim) axis element) }
+        ensures strides { T.strides_of self.new.strides ≡ strides_with (D.lengths self.old.dim) (T.strides_of self.old.strides) axis element }
+        ensures empty { size_of (D.lengths self.old.dim) ≡ 0 → self.new.offset ≡ self.old.offset }
     {
         match element {
             SliceInfoElem::Slice { start, end, step } => {
@@ -219,6 +196,8 @@ impl<D: Dimension, T: StrideList> Layout<D, T> {
         requires { each_fits (D.lengths self.old.dim) elements.now ≡ true }
         ensures lengths { D.lengths self.new.dim ≡ collapsed_after (D.lengths self.old.dim) elements.now }
         ensures step { IsStep self.old.offset (D.lengths self.old.dim) (T.strides_of self.old.strides) self.new.offset (D.lengths self.new.dim) (T.strides_of self.new.strides) (collapsed_before (D.lengths self.old.dim) elements.now) }
+        ensures strides { T.strides_of self.new.strides ≡ collapsed_strides (D.lengths self.old.dim) (T.strides_of self.old.strides) elements.now }
+        ensures empty { size_of (D.lengths self.old.dim) ≡ 0 → self.new.offset ≡ self.old.offset }
     {
         let mut axis = 0;
         for element in elements {
@@ -232,7 +211,8 @@ impl<D: Dimension, T: StrideList> Layout<D, T> {
     /// Keeps of each axis the slice that the closure answers. It is called for axis 0 first.
     pub fn slice_each_axis<F: FnMut(AxisDescription) -> Slice + Drop>(&mut self, mut f: F)
         requires { AnswersFit F.pre F.step f (axes_from 0 (D.lengths self.old.dim) (T.strides_of self.old.strides)) }
-        ensures { (slices : List Slice) × (last : F) × AnswersAre F.step f (axes_from 0 (D.lengths self.old.dim) (T.strides_of self.old.strides)) slices last × (D.lengths self.new.dim ≡ each_sliced_shape (D.lengths self.old.dim) slices) × IsStep self.old.offset (D.lengths self.old.dim) (T.strides_of self.old.strides) self.new.offset (D.lengths self.new.dim) (T.strides_of self.new.strides) (each_sliced_index (D.lengths self.old.dim) slices) }
+        ensures sliced { (slices : List Slice) × (last : F) × AnswersAre F.step f (axes_from 0 (D.lengths self.old.dim) (T.strides_of self.old.strides)) slices last × (D.lengths self.new.dim ≡ each_sliced_shape (D.lengths self.old.dim) slices) × IsStep self.old.offset (D.lengths self.old.dim) (T.strides_of self.old.strides) self.new.offset (D.lengths self.new.dim) (T.strides_of self.new.strides) (each_sliced_index (D.lengths self.old.dim) slices) × (T.strides_of self.new.strides ≡ each_sliced_strides (D.lengths self.old.dim) (T.strides_of self.old.strides) slices) }
+        ensures empty { size_of (D.lengths self.old.dim) ≡ 0 → self.new.offset ≡ self.old.offset }
     {
         let before = self.copied();
         for axis in 0..before.dim.ndim() {

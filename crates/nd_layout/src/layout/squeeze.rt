@@ -3,6 +3,7 @@
 ghost use Rattle.std.specs.Prelude.{◌≡◌, ◌<◌, length};
 ghost use Rattle.nd_shape_and_slice.specs.Squeeze.{squeezed_shape, squeezed_index, shape_squeezed_at, index_squeezed_at};
 ghost use Rattle.nd_layout.specs.Steps.{IsStep};
+ghost use Rattle.nd_layout.specs.Strides.{squeezed_strides, strides_squeezed_at};
 
 use super::Layout;
 use super::axes::length_at;
@@ -14,6 +15,8 @@ impl Layout<IxDyn, DynStrides> {
         requires { axis < length (⟦<IxDyn as Dimension>⟧.lengths self.now.dim) }
         ensures lengths { ⟦<IxDyn as Dimension>⟧.lengths result.dim ≡ shape_squeezed_at (⟦<IxDyn as Dimension>⟧.lengths self.now.dim) axis }
         ensures step { IsStep self.now.offset (⟦<IxDyn as Dimension>⟧.lengths self.now.dim) (⟦<DynStrides as StrideList>⟧.strides_of self.now.strides) result.offset (⟦<IxDyn as Dimension>⟧.lengths result.dim) (⟦<DynStrides as StrideList>⟧.strides_of result.strides) (index_squeezed_at (⟦<IxDyn as Dimension>⟧.lengths self.now.dim) axis) }
+        ensures strides { ⟦<DynStrides as StrideList>⟧.strides_of result.strides ≡ strides_squeezed_at (⟦<IxDyn as Dimension>⟧.lengths self.now.dim) (⟦<DynStrides as StrideList>⟧.strides_of self.now.strides) axis }
+        ensures offset { result.offset ≡ self.now.offset }
     {
         if length_at(self.dim.slice(), axis) == 1 && self.dim.ndim() > 1 {
             self.index_axis(axis, 0)
@@ -26,6 +29,8 @@ impl Layout<IxDyn, DynStrides> {
     pub fn squeezed(&self) -> Self
         ensures lengths { ⟦<IxDyn as Dimension>⟧.lengths result.dim ≡ squeezed_shape (⟦<IxDyn as Dimension>⟧.lengths self.now.dim) }
         ensures step { IsStep self.now.offset (⟦<IxDyn as Dimension>⟧.lengths self.now.dim) (⟦<DynStrides as StrideList>⟧.strides_of self.now.strides) result.offset (⟦<IxDyn as Dimension>⟧.lengths result.dim) (⟦<DynStrides as StrideList>⟧.strides_of result.strides) (squeezed_index (⟦<IxDyn as Dimension>⟧.lengths self.now.dim)) }
+        ensures strides { ⟦<DynStrides as StrideList>⟧.strides_of result.strides ≡ squeezed_strides (⟦<IxDyn as Dimension>⟧.lengths self.now.dim) (⟦<DynStrides as StrideList>⟧.strides_of self.now.strides) }
+        ensures offset { result.offset ≡ self.now.offset }
     {
         let mut layout = self.copied();
         let count = self.dim.ndim();

@@ -18,7 +18,7 @@ fill_slice-requires-clause-fits g c =
 pub returns-clause-painted : goal.returns-clause-painted
 returns-clause-painted g c =
     let ns = shape_of c.args.grid.now in
-    let new = element_at c.fill_slice.new.array in
+    let new = element_at c.fill_slice.new.self in
     let list : c.as_slice.result.now ≡ columns = c.as_slice.ensures in
     let kept : OthersKeep (shape_after ns columns) (index_before ns columns) (element_at c.args.grid.now) new = subst (λ (es : List SliceInfoElem). OthersKeep (shape_after ns es) (index_before ns es) (element_at c.args.grid.now) new) list c.fill_slice.ensures.kept in
     on_ok_weaker c.fill_slice.result (λ filled. every_second_of ns c.args.colour (element_at c.args.grid.now) new c.requires.two (subst (λ (es : List SliceInfoElem). (i : List ℕ) → in_box (shape_after ns es) i ≡ true → new (index_before ns es i) ≡ Some c.args.colour) list filled) kept) c.fill_slice.ensures.filled

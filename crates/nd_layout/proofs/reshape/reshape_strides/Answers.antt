@@ -6,10 +6,10 @@ use Rattle.std.proofs.lemmas.Bool.{false≢true}
 use Rattle.nd_shape_and_slice.proofs.RowMajor.{span_of-zeros}
 use Rattle.nd_shape_and_slice.proofs.Sizes.{size_of-drop}
 use Rattle.nd_layout.specs.Ranks.{fastest_first, ServesRanks, Regroups}
-use Rattle.nd_layout.proofs.Orders.{length-ordered, size_of-ordered, span_of-ordered, IsSeparated-ordered, IsSeparated-unordered, Serves-from_ranks, ranks_from_Serves}
+use Rattle.nd_layout.proofs.Orders.{length-ordered, size_of-ordered, span_of-ordered, IsSeparated-ordered, IsSeparated-unordered, Serves-from_ranks, ranks_from_Serves, rests-unordered}
 use Rattle.nd_layout.proofs.Regroups.{Regroups-one_in}
 use Rattle.nd_layout.proofs.Serving.{serves_all}
-use Rattle.nd_layout.proofs.Reshaped.{sizes_at, some_to_take, span_left, taken_more, size_left, none_left, all_taken, span_all, separated_all, Serves-empty}
+use Rattle.nd_layout.proofs.Reshaped.{sizes_at, some_to_take, span_left, taken_more, size_left, none_left, all_taken, span_all, separated_all, Serves-empty, rests_more, rests_all}
 use Rattle.nd_layout.proofs.reshape.reshape_strides.Goals as goal
 
 pub returns-then-is_empty_shape-clause-exact : goal.returns-then-is_empty_shape-clause-exact
@@ -38,6 +38,7 @@ loop-nth-init c =
       closed = λ long _ _. omega arith;
       size = omega (arith, size_of-ordered c.args.order c.args.lengths.now, size_of-ordered c.args.order c.args.new.now);
       regroups = Regroups-one_in ns ss (pos 0) (omega arith);
+      rests = λ k below. absurd (omega (arith, below));
     }
 
 pub take_length-requires-clause-some : goal.take_length-requires-clause-some
@@ -85,7 +86,7 @@ returns-in-None-clause-exact c =
       λ no. absurd (false≢true no),
       λ w. absurd
           (none_left ns ss ms ts (fastest_first o w.0) (g.length ∷ drop g.next ns) (g.step ∷ drop g.next ss) nth within (omega arith) (omega arith) c.loop-nth.invariant.regroups
-          (λ vs serves. c.in-None.ensures {u = tt} (drop (nth + 1) ms) vs sizes
+          (λ vs serves. c.in-None.ensures.taken (drop (nth + 1) ms) vs sizes
           (subst (λ (n : ℕ). ServesRanks (g.length ∷ drop g.next ns) (g.step ∷ drop g.next ss) (n ∷ drop (nth + 1) ms) vs) (sym e) serves))
           (ranks_from_Serves o c.args.lengths.now c.args.strides.now c.args.new.now w.0 c.requires.as_many c.requires.same_size w.1)),
     )
@@ -108,13 +109,14 @@ loop-nth-preserved c =
     let put = c.put_at.ensures ∙ ap (λ t. set ts nth t) (to_z-of_z w64 c.in-Some.stride f) in
     let e : c.length_at.result ≡ get_or ms nth 0 = c.length_at.ensures in
     let within : nth < length ms = omega arith in
-    let taken = c.in-Some.ensures {u = tt} in
+    let taken = c.in-Some.ensures.taken in
     let step = subst (λ (n : ℕ). Regroups (g.length ∷ drop g.next ns) (g.step ∷ drop g.next ss) (n ∷ h.length ∷ drop h.next ns) (c.in-Some.stride ∷ h.step ∷ drop h.next ss)) e taken.0 in
     record {
       on = taken.1;
       closed = taken.2;
       size = size_left (g.length ∷ drop g.next ns) (h.length ∷ drop h.next ns) ms nth within (omega arith) c.loop-nth.invariant.size step.size;
       regroups = taken_more ns ss ms ts _ nth (g.length ∷ drop g.next ns) (g.step ∷ drop g.next ss) (h.length ∷ drop h.next ns) (h.step ∷ drop h.next ss) c.in-Some.stride within (omega arith) put c.loop-nth.invariant.regroups step;
+      rests = rests_more nth ms ts _ c.in-Some.stride (omega arith) put (λ one. c.in-Some.ensures.rests (e ∙ one)) c.loop-nth.invariant.rests;
     }
 
 pub returns-clause-exact : goal.returns-clause-exact
@@ -155,3 +157,11 @@ returns-clause-separated c =
     λ _ _ apart.
     IsSeparated-unordered c.args.order c.args.new.now c.loop-nth.out (omega arith)
     (separated_all _ _ ms ts _ _ (omega arith) all (IsSeparated-ordered c.args.order c.args.lengths.now c.args.strides.now c.requires.as_many apart))
+
+pub returns-clause-rests : goal.returns-clause-rests
+returns-clause-rests c =
+    let ms = fastest_first c.args.order c.args.new.now in
+    let ts = fastest_first c.args.order c.loop-nth.out in
+    let lm = length-ordered c.args.order c.args.new.now in
+    let lt = length-ordered c.args.order c.loop-nth.out in
+    λ _. rests-unordered c.args.order c.args.new.now c.loop-nth.out (omega arith) (rests_all c.loop-nth.nth ms ts (omega arith) (omega arith) c.loop-nth.invariant.rests)

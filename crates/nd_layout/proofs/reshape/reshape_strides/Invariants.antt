@@ -2,6 +2,7 @@ use Rattle.std.proofs.Common.{◌≡◌, ◌≤◌, ◌*◌, ◌∷◌, ◌++◌
 use Rattle.nd_shape_and_slice.specs.Shape.{size_of}
 use Rattle.nd_layout.specs.Ranks.{fastest_first, Regroups}
 use Rattle.nd_layout.specs.Groups.{IsClosed}
+use Rattle.nd_layout.proofs.Reshaped.{RestsBelow}
 use Rattle.nd_layout.proofs.reshape.reshape_strides.Given as goal
 
 abbrev pub invariant-loop-nth : goal.invariant-loop-nth
@@ -10,4 +11,5 @@ invariant-loop-nth l = record {
   closed : IsClosed l.group (fastest_first l.order l.lengths) (fastest_first l.order l.strides);
   size : l.group.length * size_of (drop l.group.next (fastest_first l.order l.lengths)) ≡ size_of (drop l.nth (fastest_first l.order l.new));
   regroups : Regroups (fastest_first l.order l.lengths) (fastest_first l.order l.strides) (take l.nth (fastest_first l.order l.new) ++ (l.group.length ∷ drop l.group.next (fastest_first l.order l.lengths))) (take l.nth (fastest_first l.order l.out) ++ (l.group.step ∷ drop l.group.next (fastest_first l.order l.strides)));
+  rests : RestsBelow l.nth (fastest_first l.order l.new) (fastest_first l.order l.out);
 }

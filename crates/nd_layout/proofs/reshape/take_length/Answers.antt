@@ -6,8 +6,8 @@ use Rattle.nd_layout.proofs.Regroups.{Regroups-one_in}
 use Rattle.nd_layout.proofs.Grouping.{taken}
 use Rattle.nd_layout.proofs.reshape.take_length.Goals as goal
 
-pub returns-then-len-eq1 : goal.returns-then-len-eq1
-returns-then-len-eq1 c =
+pub returns-then-len-eq1-clause-taken : goal.returns-then-len-eq1-clause-taken
+returns-then-len-eq1-clause-taken c =
     let ns = fastest_first c.args.order c.args.lengths.now in
     let ss = fastest_first c.args.order c.args.strides.now in
     let g = c.args.group in
@@ -16,8 +16,8 @@ returns-then-len-eq1 c =
     let l : length (drop g.next ss) ≡ length (drop g.next ns) = simp length-drop (omega arith) in
     rw c.if-len-eq1.true (Regroups-one_in (g.length ∷ drop g.next ns) (g.step ∷ drop g.next ss) (pos 0) (omega arith), c.requires.on, c.requires.closed)
 
-pub returns : goal.returns
-returns c =
+pub returns-clause-taken : goal.returns-clause-taken
+returns-clause-taken c =
     let ns = fastest_first c.args.order c.args.lengths.now in
     let ss = fastest_first c.args.order c.args.strides.now in
     let ln = length-ordered c.args.order c.args.lengths.now in

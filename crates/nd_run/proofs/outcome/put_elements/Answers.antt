@@ -10,8 +10,8 @@ pub loop-rank-preserved : goal.loop-rank-preserved
 loop-rank-preserved g c =
     let array = c.args.array.now in
     let rank = c.loop-rank.rank in
-    let index : c.index_of_rank.new.index ≡ index_at (shape_of array) rank = c.index_of_rank.ensures ∙ ap (λ l. index_at l rank) c.shape.ensures in
-    let below : rank < size_of (shape_of array) = omega (arith, c.len-rank-end.ensures, c.loop-rank-test.true) in
+    let index : c.index_of_rank.new.index ≡ index_at (shape_of array) rank = c.index_of_rank.ensures ∙ ap (λ l. index_at l rank) c.shape.ensures.value in
+    let below : rank < size_of (shape_of array) = omega (arith, c.len-rank-end.ensures.value, c.loop-rank-test.true) in
     let long : length (index_at (shape_of array) rank) ≡ length (shape_of array) = length-index_at (shape_of array) rank in
     rw index (elim c.match-get.branch [
       | in-Some w ↦
@@ -23,4 +23,4 @@ loop-rank-preserved g c =
     ])
 
 pub returns : goal.returns
-returns g c = written_all g.W.Write.contents (meaning_of c.args.array.now) c.args.output.now c.loop-rank.output c.loop-rank.index c.loop-rank.rank (omega (arith, c.len-rank-end.ensures, c.loop-rank-test.false)) c.loop-rank.invariant
+returns g c = written_all g.W.Write.contents (meaning_of c.args.array.now) c.args.output.now c.loop-rank.output c.loop-rank.index c.loop-rank.rank (omega (arith, c.len-rank-end.ensures.value, c.loop-rank-test.false)) c.loop-rank.invariant

@@ -10,8 +10,8 @@ pub loop-rank-preserved : goal.loop-rank-preserved
 loop-rank-preserved g c =
     let view = c.args.view.now in
     let rank = c.loop-rank.rank in
-    let index : c.index_of_rank.new.index ≡ index_at (shape_of view) rank = c.index_of_rank.ensures ∙ ap (λ l. index_at l rank) c.shape.ensures in
-    let below : rank < size_of (shape_of view) = omega (arith, c.len-rank-end.ensures, c.loop-rank-test.true) in
+    let index : c.index_of_rank.new.index ≡ index_at (shape_of view) rank = c.index_of_rank.ensures ∙ ap (λ l. index_at l rank) c.shape.ensures.value in
+    let below : rank < size_of (shape_of view) = omega (arith, c.len-rank-end.ensures.value, c.loop-rank-test.true) in
     let long : length (index_at (shape_of view) rank) ≡ length (shape_of view) = length-index_at (shape_of view) rank in
     rw index (elim c.match-get.branch [
       | in-Some+in_ok-clone+in_ok-push w ↦
@@ -25,4 +25,4 @@ loop-rank-preserved g c =
     ])
 
 pub returns : goal.returns
-returns g c = gathered_all (meaning_of c.args.view.now) c.loop-rank.items.items c.loop-rank.index c.loop-rank.rank (omega (arith, c.len-rank-end.ensures, c.loop-rank-test.false)) c.loop-rank.invariant
+returns g c = gathered_all (meaning_of c.args.view.now) c.loop-rank.items.items c.loop-rank.index c.loop-rank.rank (omega (arith, c.len-rank-end.ensures.value, c.loop-rank-test.false)) c.loop-rank.invariant

@@ -9,13 +9,13 @@ use Rattle.nd_run.proofs.write.go_along.Goals as goal
 pub returns-then-is_some-clause-refused : goal.returns-then-is_some-clause-refused
 returns-then-is_some-clause-refused g c =
     led_stops_at c.keep_refusal-refused.result c.args.path.now c.loop-step.step-index c.step-item.result (places_in (placed_array c.args.array)) (places_in (placed_array c.loop-step.array))
-    (sym c.is_some.ensures ∙ c.if-is_some.true) (c.keep_refusal-refused.ensures ∙ ap (keep_refusal (asked_step c.step-item.result)) c.shape.ensures) c.loop-step-test.true (sym c.step-item.is) c.loop-step.invariant.led
+    (sym c.is_some.ensures ∙ c.if-is_some.true) (c.keep_refusal-refused.ensures ∙ ap (keep_refusal (asked_step c.step-item.result)) c.shape.ensures.value) c.loop-step-test.true (sym c.step-item.is) c.loop-step.invariant.led
 
 pub loop-step-preserved : goal.loop-step-preserved
 loop-step-preserved g c =
     let step = asked_step c.step-item.result in
     let none = is_none c.keep_refusal-refused.result (sym c.is_some.ensures ∙ c.if-is_some.false) in
-    let allowed : keep_refusal step (shape_of c.loop-step.array) ≡ None = ap (keep_refusal step) (sym c.shape.ensures) ∙ (sym c.keep_refusal-refused.ensures ∙ none) in
+    let allowed : keep_refusal step (shape_of c.loop-step.array) ≡ None = ap (keep_refusal step) (sym c.shape.ensures.value) ∙ (sym c.keep_refusal-refused.ensures ∙ none) in
     record {
       storage = c.take_step-array.ensures.storage ∙ c.loop-step.invariant.storage;
       led = led_more c.args.path.now c.loop-step.step-index c.step-item.result (places_in (placed_array c.args.array)) (places_in (placed_array c.loop-step.array)) (places_in (placed_array c.take_step-array.result))

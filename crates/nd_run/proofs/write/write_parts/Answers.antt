@@ -18,12 +18,12 @@ returns-clause-array g c =
     let ns = shape_of array in
     let r = c.in_ok-refused.refused in
     let d = c.in_ok-refused.ensures.done in
-    let none : place_refusal axis index ns ≡ None = ap (place_refusal axis index) (sym c.shape.ensures) ∙ (sym c.place_refusal-refused.ensures ∙ is_none c.place_refusal-refused.result (sym c.is_some.ensures ∙ c.if-is_some.false)) in
+    let none : place_refusal axis index ns ≡ None = ap (place_refusal axis index) (sym c.shape.ensures.value) ∙ (sym c.place_refusal-refused.ensures ∙ is_none c.place_refusal-refused.result (sym c.is_some.ensures ∙ c.if-is_some.false)) in
     let shapes : parts_refusal first second d.0.shape d.1.shape ≡ parts_refusal first second (lower_shape ns axis index) (upper_shape ns axis index) =
     ap (λ s. parts_refusal first second s d.1.shape) d.4.same_shape ∙ ap (parts_refusal first second (lower_shape ns axis index)) d.5.same_shape in
     let refused : r ≡ split_refusal axis index first second ns = d.6.0 ∙ (shapes ∙ sym (parts_decide axis index first second ns none)) in
     let old = meaning_of array in
     let new = meaning_of after in
-    split_is axis index first second r old new refused c.nothing_outside.ensures c.nothing_outside-2.ensures c.with_split_at.ensures.shape
-    (part_is (lower_shape ns axis index) (λ i. i) first r d.0 d.2 (place_at array) (place_at after) old new d.4 d.7 c.with_split_at.ensures.places d.6.1)
-    (part_is (upper_shape ns axis index) (upper_index axis index) second r d.1 d.3 (place_at array) (place_at after) old new d.5 d.8 c.with_split_at.ensures.places d.6.2)
+    split_is axis index first second r old new refused c.nothing_outside.ensures c.nothing_outside-2.ensures c.with_split_at.ensures.frame.0
+    (part_is (lower_shape ns axis index) (λ i. i) first r d.0 d.2 (place_at array) (place_at after) old new d.4 d.7 c.with_split_at.ensures.frame.2 d.6.1)
+    (part_is (upper_shape ns axis index) (upper_index axis index) second r d.1 d.3 (place_at array) (place_at after) old new d.5 d.8 c.with_split_at.ensures.frame.2 d.6.2)

@@ -12,5 +12,5 @@ returns-clause-array g c =
     let d = c.in_ok-refused.ensures.done in
     let v = d.0 in
     let w = d.1 in
-    left_is (Writing path act) v w (meaning_of c.args.array) (meaning_of c.with_view_mut.new.self) (write_keeps path act) d.2.same_shape d.2.same_element c.with_view_mut.ensures.shape
-    (λ i. sym (d.3.same_element i) ∙ ap (found_at w.stored) (d.3.same_place i ∙ (c.with_view_mut.ensures.places i ∙ sym (d.2.same_place i)))) d.4.1
+    left_is (Writing path act) v w (meaning_of c.args.array) (meaning_of c.with_view_mut.new.self) (write_keeps path act) d.2.same_shape d.2.same_element c.with_view_mut.ensures.frame.0
+    (λ i. sym (d.3.same_element i) ∙ ap (found_at w.stored) (d.3.same_place i ∙ (c.with_view_mut.ensures.frame.2 i ∙ sym (d.2.same_place i)))) d.4.1

@@ -8,9 +8,9 @@ use Rattle.nd_array_core.proofs.scoped.pairs.with_placement_pair.Goals as goal
 pub with_part-requires-clause-callable : goal.with_part-requires-clause-callable
 with_part-requires-clause-callable g c x is_x =
     let m = g.S.Data.stored c.args.storage.now in
-    let offset = c.args.whole.offset in
-    let ns = g.W.Dimension.lengths c.args.whole.dim in
-    let ss = g.W.Strides.StrideList.strides_of c.args.whole.strides in
+    let offset = c.args.whole.now.offset in
+    let ns = g.W.Dimension.lengths c.args.whole.now.dim in
+    let ss = g.W.Strides.StrideList.strides_of c.args.whole.now.strides in
     let f1 = c.args.one.offset in
     let n1 = g.D.Dimension.lengths c.args.one.dim in
     let s1 = g.D.Strides.StrideList.strides_of c.args.one.strides in
@@ -27,18 +27,18 @@ with_part-requires-clause-callable g c x is_x =
 pub returns-clause-others : goal.returns-clause-others
 returns-clause-others g c p unnamed =
     let m = g.S.Data.stored c.args.storage.now in
-    let offset = c.args.whole.offset in
-    let ns = g.W.Dimension.lengths c.args.whole.dim in
-    let ss = g.W.Strides.StrideList.strides_of c.args.whole.strides in
+    let offset = c.args.whole.now.offset in
+    let ns = g.W.Dimension.lengths c.args.whole.now.dim in
+    let ss = g.W.Strides.StrideList.strides_of c.args.whole.now.strides in
     let e = rw (c.slice.ensures.lengths, c.slice-2.ensures) at c.with_part.ensures.part in
     unnamed_left m (g.S.Data.stored c.with_part.new.self) (region_stored e.1) offset ns ss e.4 p unnamed
 
 pub returns-clause-done : goal.returns-clause-done
 returns-clause-done g c =
     let m = g.S.Data.stored c.args.storage.now in
-    let offset = c.args.whole.offset in
-    let ns = g.W.Dimension.lengths c.args.whole.dim in
-    let ss = g.W.Strides.StrideList.strides_of c.args.whole.strides in
+    let offset = c.args.whole.now.offset in
+    let ns = g.W.Dimension.lengths c.args.whole.now.dim in
+    let ss = g.W.Strides.StrideList.strides_of c.args.whole.now.strides in
     let f1 = c.args.one.offset in
     let n1 = g.D.Dimension.lengths c.args.one.dim in
     let s1 = g.D.Strides.StrideList.strides_of c.args.one.strides in
@@ -66,8 +66,8 @@ returns-clause-done g c =
 pub returns-clause-kept : goal.returns-clause-kept
 returns-clause-kept g c p one two =
     let m = g.S.Data.stored c.args.storage.now in
-    let offset = c.args.whole.offset in
-    let ns = g.W.Dimension.lengths c.args.whole.dim in
-    let ss = g.W.Strides.StrideList.strides_of c.args.whole.strides in
+    let offset = c.args.whole.now.offset in
+    let ns = g.W.Dimension.lengths c.args.whole.now.dim in
+    let ss = g.W.Strides.StrideList.strides_of c.args.whole.now.strides in
     let e = rw (c.slice.ensures.lengths, c.slice-2.ensures) at c.with_part.ensures.part in
     named_left m (g.S.Data.stored c.with_part.new.self) (region_stored e.0) (region_stored e.1) offset ns ss e.2 e.4 p (e.3.1.1.1 p one two)

@@ -1,9 +1,11 @@
 use Rattle.std.proofs.Common.{◌≡◌, ◌<◌, ℕ, zero, suc, false, true, arith, rules, refl, set, w64, FitsSigned}
+use Rattle.std.proofs.Common.{inr}
 use Rattle.std.proofs.lemmas.Bool.{false≢true}
 use Rattle.std.proofs.lemmas.Int.{to_z-of_z}
 use Rattle.nd_shape_and_slice.specs.Shape.{size_of}
 use Rattle.nd_shape_and_slice.proofs.Sizes.{length_within}
 use Rattle.nd_layout.proofs.steps.AxisStep.{moved_place, offset_below, some_left}
+use Rattle.nd_layout.proofs.steps.SliceStep.{none_left}
 use Rattle.nd_layout.proofs.layout.Layout.offset_after.Goals as goal
 
 some_from : (n : ℕ) → (n ≡ 0 → false ≡ true) → 0 < n
@@ -29,3 +31,7 @@ moved_by-requires-clause-to g c =
     let below = c.requires.within (some_left (g.D.Dimension.lengths c.args.self.now.dim) c.args.axis c.args.len c.requires.on some) in
     let fits : FitsSigned w64 c.stride.result = search rules in
     rw (to_z-of_z w64 c.stride.result fits, c.stride.ensures) (moved_place (g.D.Dimension.lengths c.args.self.now.dim) (g.T.StrideList.strides_of c.args.self.now.strides) c.args.axis c.args.self.now.as_many c.requires.on c.args.self.now.offset c.args.len c.args.steps c.args.self.now.reach some below)
+
+pub returns-else-leaves_none-clause-empty : goal.returns-else-leaves_none-clause-empty
+returns-else-leaves_none-clause-empty g c none =
+    absurd (false≢true (c.if-leaves_none.ensures.1 (none_left (g.D.Dimension.lengths c.args.self.now.dim) c.args.axis c.args.len c.requires.on c.requires.shorter (inr none))))

@@ -1,5 +1,5 @@
 use Rattle.std.proofs.Common.{◌+◌, arith, sym, subst}
-use Rattle.nd_layout.proofs.steps.SliceLoop.{IsSlicedTo, sliced_none, sliced_fits, sliced_more, sliced_all, sliced_all_shape}
+use Rattle.nd_layout.proofs.steps.SliceLoop.{IsSlicedTo, sliced_none, sliced_fits, sliced_more, sliced_all, sliced_all_shape, sliced_all_strides}
 use Rattle.nd_layout.proofs.layout.Layout.slice_axes.Goals as goal
 
 pub loop-element-init : goal.loop-element-init
@@ -16,7 +16,7 @@ axis_after-axis-requires g c = omega (arith, c.loop-element.invariant.few, c.loo
 pub loop-element-preserved : goal.loop-element-preserved
 loop-element-preserved g c =
     subst (λ a. IsSlicedTo c.args.self.now.offset (g.D.Dimension.lengths c.args.self.now.dim) (g.T.StrideList.strides_of c.args.self.now.strides) c.args.elements.now a (c.loop-element.element-index + 1) c.slice_element.new.self.offset (g.D.Dimension.lengths c.slice_element.new.self.dim) (g.T.StrideList.strides_of c.slice_element.new.self.strides)) (sym c.axis_after-axis.ensures)
-    (sliced_more c.args.self.now.offset (g.D.Dimension.lengths c.args.self.now.dim) (g.T.StrideList.strides_of c.args.self.now.strides) c.args.elements.now c.loop-element.axis c.loop-element.element-index c.loop-element.self.offset (g.D.Dimension.lengths c.loop-element.self.dim) (g.T.StrideList.strides_of c.loop-element.self.strides) c.loop-element.invariant _ c.loop-element-test.true c.slice_element.new.self.offset (g.D.Dimension.lengths c.slice_element.new.self.dim) (g.T.StrideList.strides_of c.slice_element.new.self.strides) c.slice_element.ensures.lengths c.slice_element.ensures.step)
+    (sliced_more c.args.self.now.offset (g.D.Dimension.lengths c.args.self.now.dim) (g.T.StrideList.strides_of c.args.self.now.strides) c.args.elements.now c.loop-element.axis c.loop-element.element-index c.loop-element.self.offset (g.D.Dimension.lengths c.loop-element.self.dim) (g.T.StrideList.strides_of c.loop-element.self.strides) c.loop-element.invariant _ c.loop-element-test.true c.slice_element.new.self.offset (g.D.Dimension.lengths c.slice_element.new.self.dim) (g.T.StrideList.strides_of c.slice_element.new.self.strides) c.slice_element.ensures.lengths c.slice_element.ensures.strides c.slice_element.ensures.empty c.slice_element.ensures.step)
 
 pub returns-clause-lengths : goal.returns-clause-lengths
 returns-clause-lengths g c =
@@ -25,3 +25,10 @@ returns-clause-lengths g c =
 pub returns-clause-step : goal.returns-clause-step
 returns-clause-step g c =
     sliced_all c.args.self.now.offset (g.D.Dimension.lengths c.args.self.now.dim) (g.T.StrideList.strides_of c.args.self.now.strides) c.args.elements.now c.loop-element.axis c.loop-element.element-index c.loop-element.self.offset (g.D.Dimension.lengths c.loop-element.self.dim) (g.T.StrideList.strides_of c.loop-element.self.strides) c.loop-element.invariant (omega (arith, c.loop-element-test.false))
+
+pub returns-clause-strides : goal.returns-clause-strides
+returns-clause-strides g c =
+    sliced_all_strides c.args.self.now.offset (g.D.Dimension.lengths c.args.self.now.dim) (g.T.StrideList.strides_of c.args.self.now.strides) c.args.elements.now c.loop-element.axis c.loop-element.element-index c.loop-element.self.offset (g.D.Dimension.lengths c.loop-element.self.dim) (g.T.StrideList.strides_of c.loop-element.self.strides) c.loop-element.invariant (omega (arith, c.loop-element-test.false))
+
+pub returns-clause-empty : goal.returns-clause-empty
+returns-clause-empty g c = c.loop-element.invariant.unmoved

@@ -21,9 +21,12 @@ pub loop-axis-preserved : goal.loop-axis-preserved
 loop-axis-preserved g c =
     let fits : FitsSigned w64 c.stride_at.result = search rules in
     let answered = rw (c.length_at.ensures, to_z-of_z w64 c.stride_at.result fits, c.stride_at.ensures, c.slice.ensures.lengths, c.slice-in-loop-axis.ensures) at c.f-slice.ensures in
-    each_more _ _ c.args.f c.copied-before.result.offset (g.D.Dimension.lengths c.copied-before.result.dim) (g.T.StrideList.strides_of c.copied-before.result.strides) c.copied-before.result.as_many c.loop-axis.axis c.loop-axis.f c.loop-axis.self.offset (g.D.Dimension.lengths c.loop-axis.self.dim) (g.T.StrideList.strides_of c.loop-axis.self.strides) c.loop-axis.invariant (omega (arith, c.loop-axis-test.true, c.ndim-axis-end.ensures.value)) c.f-slice.result c.f-slice.new.self answered c.slice_axis.new.self.offset (g.D.Dimension.lengths c.slice_axis.new.self.dim) (g.T.StrideList.strides_of c.slice_axis.new.self.strides) c.slice_axis.ensures.lengths c.slice_axis.ensures.step
+    each_more _ _ c.args.f c.copied-before.result.offset (g.D.Dimension.lengths c.copied-before.result.dim) (g.T.StrideList.strides_of c.copied-before.result.strides) c.copied-before.result.as_many c.loop-axis.axis c.loop-axis.f c.loop-axis.self.offset (g.D.Dimension.lengths c.loop-axis.self.dim) (g.T.StrideList.strides_of c.loop-axis.self.strides) c.loop-axis.invariant (omega (arith, c.loop-axis-test.true, c.ndim-axis-end.ensures.value)) c.f-slice.result c.f-slice.new.self answered c.slice_axis.new.self.offset (g.D.Dimension.lengths c.slice_axis.new.self.dim) (g.T.StrideList.strides_of c.slice_axis.new.self.strides) c.slice_axis.ensures.lengths c.slice_axis.ensures.strides c.slice_axis.ensures.empty c.slice_axis.ensures.step
 
-pub returns : goal.returns
-returns g c =
+pub returns-clause-sliced : goal.returns-clause-sliced
+returns-clause-sliced g c =
     rw (sym c.copied-before.ensures.offset, sym c.copied-before.ensures.lengths, sym c.copied-before.ensures.strides)
     (each_all _ _ c.args.f c.copied-before.result.offset (g.D.Dimension.lengths c.copied-before.result.dim) (g.T.StrideList.strides_of c.copied-before.result.strides) c.copied-before.result.as_many c.loop-axis.axis c.loop-axis.f c.loop-axis.self.offset (g.D.Dimension.lengths c.loop-axis.self.dim) (g.T.StrideList.strides_of c.loop-axis.self.strides) c.loop-axis.invariant (omega (arith, c.loop-axis-test.false, c.ndim-axis-end.ensures.value)))
+
+pub returns-clause-empty : goal.returns-clause-empty
+returns-clause-empty g c = rw (sym c.copied-before.ensures.offset, sym c.copied-before.ensures.lengths) c.loop-axis.invariant.unmoved

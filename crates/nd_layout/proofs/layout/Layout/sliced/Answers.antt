@@ -12,9 +12,9 @@ pub loop-element-init : goal.loop-element-init
 loop-element-init g c =
     let fits = (and_parts (each_fits (g.D.Dimension.lengths c.args.self.now.dim) c.args.elements.now) (leb (axes_kept c.args.elements.now) 32) c.requires.fits).0 in
     let empty = rw c.slice.ensures.lengths at c.is_empty_shape-is_empty.ensures in
-    let wide = ap length c.dim_of_ones-dim.ensures ∙ (length-replicate c.axes_kept.result 1 ∙ c.axes_kept.ensures) in
-    cut_none c.args.self.now.offset (g.D.Dimension.lengths c.args.self.now.dim) (g.T.StrideList.strides_of c.args.self.now.strides) c.args.elements.now c.args.self.now.as_many fits c.is_empty_shape-is_empty.result (g.E.Dimension.lengths c.dim_of_ones-dim.result) (g.E.Strides.StrideList.strides_of c.zero_strides-strides.result) empty.0 empty.1 wide
-    (ap length c.zero_strides-strides.ensures ∙ (length-replicate (length (g.E.Dimension.lengths c.dim_of_ones-dim.result)) (pos 0) ∙ wide))
+    let wide = ap length c.zeros-dim.ensures ∙ (length-replicate c.axes_kept.result 0 ∙ c.axes_kept.ensures) in
+    cut_none c.args.self.now.offset (g.D.Dimension.lengths c.args.self.now.dim) (g.T.StrideList.strides_of c.args.self.now.strides) c.args.elements.now c.args.self.now.as_many fits c.is_empty_shape-is_empty.result (g.E.Dimension.lengths c.zeros-dim.result) (g.E.Strides.StrideList.strides_of c.zero_strides-strides.result) empty.0 empty.1 wide
+    (ap length c.zero_strides-strides.ensures ∙ (length-replicate (length (g.E.Dimension.lengths c.zeros-dim.result)) (pos 0) ∙ wide))
 
 pub axis_by-after-requires-clause-fits : goal.axis_by-after-requires-clause-fits
 axis_by-after-requires-clause-fits g c =
@@ -37,10 +37,10 @@ loop-element-preserved g c =
       | then-keeps_axis w ↦
           let stride : FitsSigned w64 c.axis_by-after.result.stride = search rules in
           rw (w.dim-is, w.strides-is, w.kept-is, w.set_length.ensures, w.set.ensures, to_z-of_z w64 c.axis_by-after.result.stride stride)
-          (cut_kept c.args.self.now.offset (g.D.Dimension.lengths c.args.self.now.dim) (g.T.StrideList.strides_of c.args.self.now.strides) c.args.elements.now c.args.self.now.as_many fits c.loop-element.axis c.loop-element.kept c.loop-element.element-index c.loop-element.offset c.loop-element.is_empty (g.E.Dimension.lengths c.loop-element.dim) (g.E.Strides.StrideList.strides_of c.loop-element.strides) c.loop-element.invariant _ c.loop-element-test.true c.axis_by-after.result.len c.axis_by-after.result.offset c.none_left-is_empty.result c.axis_after-axis.result c.axis_by-after.ensures.len c.axis_by-after.ensures.offset c.axis_by-after.ensures.new c.none_left-is_empty.ensures c.axis_after-axis.ensures c.axis_by-after.result.stride c.axis_by-after.ensures.stride (sym c.keeps_axis.ensures ∙ w.if-keeps_axis.true))
+          (cut_kept c.args.self.now.offset (g.D.Dimension.lengths c.args.self.now.dim) (g.T.StrideList.strides_of c.args.self.now.strides) c.args.elements.now c.args.self.now.as_many fits c.loop-element.axis c.loop-element.kept c.loop-element.element-index c.loop-element.offset c.loop-element.is_empty (g.E.Dimension.lengths c.loop-element.dim) (g.E.Strides.StrideList.strides_of c.loop-element.strides) c.loop-element.invariant _ c.loop-element-test.true c.axis_by-after.result.len c.axis_by-after.result.offset c.none_left-is_empty.result c.axis_after-axis.result c.axis_by-after.ensures.len c.axis_by-after.ensures.offset c.axis_by-after.ensures.new c.axis_by-after.ensures.empty c.none_left-is_empty.ensures c.axis_after-axis.ensures c.axis_by-after.result.stride c.axis_by-after.ensures.stride (sym c.keeps_axis.ensures ∙ w.if-keeps_axis.true))
       | else-keeps_axis w ↦
           rw (w.dim-is, w.strides-is, w.kept-is)
-          (cut_gone c.args.self.now.offset (g.D.Dimension.lengths c.args.self.now.dim) (g.T.StrideList.strides_of c.args.self.now.strides) c.args.elements.now c.args.self.now.as_many fits c.loop-element.axis c.loop-element.kept c.loop-element.element-index c.loop-element.offset c.loop-element.is_empty (g.E.Dimension.lengths c.loop-element.dim) (g.E.Strides.StrideList.strides_of c.loop-element.strides) c.loop-element.invariant _ c.loop-element-test.true c.axis_by-after.result.len c.axis_by-after.result.offset c.none_left-is_empty.result c.axis_after-axis.result c.axis_by-after.ensures.len c.axis_by-after.ensures.offset c.axis_by-after.ensures.new c.none_left-is_empty.ensures c.axis_after-axis.ensures (sym c.keeps_axis.ensures ∙ w.if-keeps_axis.false))
+          (cut_gone c.args.self.now.offset (g.D.Dimension.lengths c.args.self.now.dim) (g.T.StrideList.strides_of c.args.self.now.strides) c.args.elements.now c.args.self.now.as_many fits c.loop-element.axis c.loop-element.kept c.loop-element.element-index c.loop-element.offset c.loop-element.is_empty (g.E.Dimension.lengths c.loop-element.dim) (g.E.Strides.StrideList.strides_of c.loop-element.strides) c.loop-element.invariant _ c.loop-element-test.true c.axis_by-after.result.len c.axis_by-after.result.offset c.none_left-is_empty.result c.axis_after-axis.result c.axis_by-after.ensures.len c.axis_by-after.ensures.offset c.axis_by-after.ensures.new c.axis_by-after.ensures.empty c.none_left-is_empty.ensures c.axis_after-axis.ensures (sym c.keeps_axis.ensures ∙ w.if-keeps_axis.false))
     ]
 
 pub returns-clause-lengths : goal.returns-clause-lengths
@@ -52,6 +52,14 @@ pub returns-clause-step : goal.returns-clause-step
 returns-clause-step g c =
     let fits = (and_parts (each_fits (g.D.Dimension.lengths c.args.self.now.dim) c.args.elements.now) (leb (axes_kept c.args.elements.now) 32) c.requires.fits).0 in
     (cut_all c.args.self.now.offset (g.D.Dimension.lengths c.args.self.now.dim) (g.T.StrideList.strides_of c.args.self.now.strides) c.args.elements.now c.args.self.now.as_many fits c.loop-element.axis c.loop-element.kept c.loop-element.element-index c.loop-element.offset c.loop-element.is_empty (g.E.Dimension.lengths c.loop-element.dim) (g.E.Strides.StrideList.strides_of c.loop-element.strides) c.loop-element.invariant (omega (arith, c.loop-element-test.false))).1
+
+pub returns-clause-strides : goal.returns-clause-strides
+returns-clause-strides g c =
+    let fits = (and_parts (each_fits (g.D.Dimension.lengths c.args.self.now.dim) c.args.elements.now) (leb (axes_kept c.args.elements.now) 32) c.requires.fits).0 in
+    (cut_all c.args.self.now.offset (g.D.Dimension.lengths c.args.self.now.dim) (g.T.StrideList.strides_of c.args.self.now.strides) c.args.elements.now c.args.self.now.as_many fits c.loop-element.axis c.loop-element.kept c.loop-element.element-index c.loop-element.offset c.loop-element.is_empty (g.E.Dimension.lengths c.loop-element.dim) (g.E.Strides.StrideList.strides_of c.loop-element.strides) c.loop-element.invariant (omega (arith, c.loop-element-test.false))).2
+
+pub returns-clause-empty : goal.returns-clause-empty
+returns-clause-empty g c = c.loop-element.invariant.once.sliced.unmoved
 
 pub invariant_of-result : goal.invariant_of-result
 invariant_of-result g c =

@@ -13,8 +13,8 @@ returns-clause-done g c =
     let upper = c.args.two in
     lent_parts (acting c.args.self.first.now) (acting c.args.self.second.now) (placed_array c.into_dyn-lower.result) (placed_array c.act_on_parts-lower.result.0) (lent_view lengths strides lower) (view_left lengths strides lower c.into_storage.result)
     (placed_array c.into_dyn-upper.result) (placed_array c.act_on_parts-lower.result.1) (lent_view lengths strides upper) (view_left lengths strides upper c.into_storage-2.result) c.act_on_parts-lower.result.2
-    (c.into_dyn-lower.ensures.shape ∙ c.into_view.ensures.shape) (λ i. c.into_dyn-lower.ensures.places i ∙ c.into_view.ensures.places i)
-    (λ i. sym (c.elements_have_places.ensures.elements i) ∙ (c.into_dyn-lower.ensures.elements i ∙ c.into_view.ensures.elements i)) (ap (λ s. (view_left lengths strides lower s).stored) c.into_storage.ensures.same)
-    (c.into_dyn-upper.ensures.shape ∙ c.into_view-2.ensures.shape) (λ i. c.into_dyn-upper.ensures.places i ∙ c.into_view-2.ensures.places i)
-    (λ i. sym (c.elements_have_places-2.ensures.elements i) ∙ (c.into_dyn-upper.ensures.elements i ∙ c.into_view-2.ensures.elements i)) (ap (λ s. (view_left lengths strides upper s).stored) c.into_storage-2.ensures.same)
+    (c.into_dyn-lower.ensures.whole.0.0 ∙ c.into_view.ensures.shape) (λ i. c.into_dyn-lower.ensures.whole.0.3 i ∙ c.into_view.ensures.places i)
+    (λ i. sym (c.elements_have_places.ensures.elements i) ∙ (c.into_dyn-lower.ensures.whole.0.2 i ∙ c.into_view.ensures.elements i)) (ap (λ s. (view_left lengths strides lower s).stored) c.into_storage.ensures.same)
+    (c.into_dyn-upper.ensures.whole.0.0 ∙ c.into_view-2.ensures.shape) (λ i. c.into_dyn-upper.ensures.whole.0.3 i ∙ c.into_view-2.ensures.places i)
+    (λ i. sym (c.elements_have_places-2.ensures.elements i) ∙ (c.into_dyn-upper.ensures.whole.0.2 i ∙ c.into_view-2.ensures.elements i)) (ap (λ s. (view_left lengths strides upper s).stored) c.into_storage-2.ensures.same)
     c.act_on_parts-lower.ensures.done

@@ -29,11 +29,12 @@ use denote.Triple.Clauses.{Ended, Lasts, lasts}
 use denote.Triple.Entry.{on_entry}
 use denote.Triple.Spec.{triple_of}
 use denote.Triple.Table.{framed}
-use denote.Triple.Walked.{says, Stays, stay_dropped, walk_of, ends_at, Goes-spent_ref}
+use denote.Triple.Walked.{Stays, stay_dropped, walk_of, ends_at, Goes-spent_ref}
 use Rattle.std.proofs.raw_atomic.Walks.{proved}
 use Rattle.std.specs.Prelude.{slice_get}
 use Rattle.nd_region.specs.Region.{IsWhole}
 use Rattle.nd_region.specs.contracts.region.Region.{the_row as region_row}
+use Rattle.nd_region.proofs.Bodies.{says_two}
 use Rattle.nd_region.proofs.region.Region.TheLaws.{the_row_laws as region_laws}
 use Rattle.nd_array_core.specs.contracts.base.storage.OwnedRepr.{the_row as owned_row}
 use Rattle.nd_array_core.specs.base.Lends.{owned_with}
@@ -101,4 +102,4 @@ lend_spec 𝓤 𝓛 𝓜 𝓡 wired A lA =
     returns ! (look_at ! 0 refl) $ free_all ! refl $
     suffices ! _ (ends_at 𝓛 En hs c y v' x (tt, tt) (tt, tt)) $
     nothing ! $ nothing ! $ fjoin ! $ join ! $ move ! (1 ∷ 0 ∷ []) $ join ! $ frame ! $
-    says ! (λ p. whole_holds x r.now whole p ∙ ap (λ (us : List A.Denot). slice_get us p) same) $ done !)))))))))))))
+    says_two ! ((λ p. whole_holds x r.now whole p ∙ ap (λ (us : List A.Denot). slice_get us p) same), whole.0 ∙ same) $ done !)))))))))))))

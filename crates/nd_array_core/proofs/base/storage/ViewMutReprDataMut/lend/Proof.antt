@@ -37,11 +37,12 @@ use denote.Triple.Call.{calls_at}
 use denote.Triple.Clauses.{Ended, Lasts, lasts}
 use denote.Triple.Spec.{triple_of}
 use denote.Triple.Table.{framed}
-use denote.Triple.Walked.{says, Stays, stay_dropped, walk_of, ends_at, Goes-spent_ref}
+use denote.Triple.Walked.{Stays, stay_dropped, walk_of, ends_at, Goes-spent_ref}
 use Rattle.std.proofs.raw_atomic.Walks.{proved}
 use Rattle.std.proofs.mem.Param.{El, R, el_x}
 use Rattle.nd_region.specs.Places.{stored_in}
 use Rattle.nd_region.specs.Region.{IsSameMap, with_items}
+use Rattle.nd_region.proofs.Bodies.{says_two}
 use Rattle.nd_region.proofs.Memory.{Rg, rg_d, rg_val, rg_had, rg_made}
 use Rattle.nd_region.proofs.region.Region.TheLaws.{the_row_laws as region_laws}
 use Rattle.nd_array_core.proofs.base.storage.RegionRepr.TheLaws.{the_loose}
@@ -117,4 +118,4 @@ lend_spec 𝓤 𝓛 𝓜 𝓡 wired A lA =
     -- [what follows; the region; the tokens]
     move ! (3 ∷ 4 ∷ []) $ join ! $ move ! (3 ∷ 0 ∷ []) $ join ! $ move ! (0 ∷ 2 ∷ 1 ∷ []) $
     nothing ! $ nothing ! $ fjoin ! $ move ! (0 ∷ 2 ∷ []) $ join ! $ move ! (1 ∷ 0 ∷ []) $ join ! $ frame ! $
-    says ! (λ p i. stored_in (same.0 i) (same.1 i) p) $ done !))))))))))
+    says_two ! ((λ p i. stored_in (same.0 i) (same.1 i) p), same.0) $ done !))))))))))

@@ -14,5 +14,5 @@ returns g c =
     let index = g.I.NdIndex.coordinates_of c.args.index in
     let at_place : pos c.place_in_box-place.result ≡ place_of layout.offset strides index = c.place_in_box-place.ensures ∙ ap (place_of layout.offset strides) c.coordinates.ensures in (
       (refl, λ w. with_element_is g.S.Data.with_element array c.place_in_box-place.result index w _ (ap nat_abs at_place) refl refl),
-      record { writes_back = tt; value = rw (c.requires, ← at_place) c.element_mut.ensures.value; written = λ x. is_written g.S.Data.with_element g.S.DataMut.borrow array index x g.met.S.DataMut.alone g.met.S.DataMut.element_written g.met.S.DataMut.element_borrow c.requires },
+      record { writes_back = tt; value = rw (c.requires, ← at_place) c.element_mut.ensures.value; written = λ x. is_written g.S.Data.with_element g.S.DataMut.frame array index x g.met.S.DataMut.alone g.met.S.DataMut.element_written g.met.S.DataMut.element_frame c.requires },
     )

@@ -23,6 +23,6 @@ returns-in-Some g c =
         writes_back = tt;
         element = rw (within, ← at_place) (sym c.element_mut.ensures.value);
         within = sym within;
-        written = λ x. is_written g.S.Data.with_element g.S.DataMut.borrow array index x g.met.S.DataMut.alone g.met.S.DataMut.element_written g.met.S.DataMut.element_borrow within;
+        written = λ x. is_written g.S.Data.with_element g.S.DataMut.frame array index x g.met.S.DataMut.alone g.met.S.DataMut.element_written g.met.S.DataMut.element_frame within;
       },
     )

@@ -1,22 +1,33 @@
-use Rattle.std.proofs.Common.{refl, ap, sym, ◌∙◌, List, ℕ, [], ◌∷◌}
-use Rattle.nd_shape_and_slice.specs.Maps.{diagonal_length, diagonal_index}
-use Rattle.nd_layout.specs.Strides.{diagonal_stride}
-use Rattle.nd_array_core.specs.Meaning.{shape_of, element_at, place_at, memory_layout_of}
-use Rattle.nd_array_core.proofs.lending.Tied.{shown_through}
+use Rattle.std.proofs.Common.{refl, [], ◌∷◌}
+use Rattle.nd_shape_and_slice.specs.Maps.{diagonal_length}
+use Rattle.nd_layout.proofs.steps.StepLemmas.{step_some}
+use Rattle.nd_array_core.specs.Meaning.{meaning_of, memory_layout_of}
+use Rattle.nd_array_core.specs.layout.ViewLent.{lent_to, array_with_part}
+use Rattle.nd_array_core.proofs.StepLemmas.{step_holds}
+use Rattle.nd_array_core.proofs.Parted.{seen_part}
+use Rattle.nd_array_core.proofs.lending.KeptIndexes.{others_keep}
 use Rattle.nd_array_core.proofs.layout.axes.ArrayBase+S+D.diag_mut.Goals as goal
 
+pub lent_as-requires-clause-holds : goal.lent_as-requires-clause-holds
+lent_as-requires-clause-holds g c = step_holds (g.S.Data.stored c.args.self.now.storage) c.diagonal-diagonal.ensures.step c.args.self.now.inside
+
+pub lent_as-requires-clause-separated : goal.lent_as-requires-clause-separated
+lent_as-requires-clause-separated g c some = let step = c.diagonal-diagonal.ensures.step in step.separated (c.args.self.now.separated g.met.S.DataMut.alone (step_some step some))
+
 pub returns : goal.returns
-unfolding memory_layout_of
+unfolding meaning_of memory_layout_of array_with_part
 returns g c =
-    let view = c.view_mut.result in let array = c.args.self.now in let part = c.into_diag.result in let same = c.view_mut.ensures.shape in
-    let source : List ℕ → List ℕ → List ℕ = λ ns i. diagonal_index ns i in (
-      (sym (ap (λ x. x.tie.value) c.into_diag.ensures.storage), λ w. refl),
+    let array = c.args.self.now in let old = array.layout in
+    let ns = g.D.Dimension.lengths old.dim in let ss = g.D.Strides.StrideList.strides_of old.strides in let m = g.S.Data.stored array.storage in
+    let step = c.diagonal-diagonal.ensures.step in
+    let seen = c.lent_as.ensures.seen in let shaped = c.diagonal-diagonal.ensures.lengths in (
+      (refl, λ w. refl),
       record {
         writes_back = tt;
-        shape = c.into_diag.ensures.shape ∙ (λ k. diagonal_length (same k) ∷ []);
-        strides = c.into_diag.ensures.strides ∙ (λ k. diagonal_stride (same k) (c.view_mut.ensures.strides k) ∷ []);
-        elements = λ i. c.into_diag.ensures.elements i ∙ shown_through (element_at view) (element_at array) c.view_mut.ensures.elements (shape_of view) (shape_of array) same source (shape_of part) i;
-        places = λ i. c.into_diag.ensures.places i ∙ shown_through (place_at view) (place_at array) c.view_mut.ensures.places (shape_of view) (shape_of array) same source (shape_of part) i;
-        refilled = c.view_mut.ensures.refilled;
+        part = seen_part m shaped c.diagonal-diagonal.ensures.strides step seen;
+        refilled = c.lent_as.ensures.refilled;
+        others = c.lent_as.ensures.others;
+        kept = λ ws. let new = array_with_part g.S.Data.refilled g.S.Data.items array (lent_to c.lent_as.result.storage) ws in
+            others_keep m old.offset ns ss old.as_many (array.separated g.met.S.DataMut.alone) step seen (g.S.Data.stored new.storage) (c.lent_as.ensures.others ws) (diagonal_length ns ∷ []) shaped;
       },
     )

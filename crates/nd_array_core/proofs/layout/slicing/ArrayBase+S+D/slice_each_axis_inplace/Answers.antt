@@ -4,7 +4,7 @@ use Rattle.nd_array_core.proofs.layout.slicing.ArrayBase+S+D.slice_each_axis_inp
 
 pub invariant_of-self : goal.invariant_of-self
 invariant_of-self g c =
-    let (slices, last, asked, shape, step) = c.slice_each_axis.ensures in
+    let step = c.slice_each_axis.ensures.sliced.4 in
     record {
       inside = step_holds (g.S.Data.stored c.args.self.now.storage) step c.args.self.now.inside;
       separated = step_separated step c.args.self.now.separated;

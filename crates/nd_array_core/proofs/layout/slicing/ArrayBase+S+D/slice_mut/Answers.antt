@@ -1,20 +1,33 @@
-use Rattle.std.proofs.Common.{refl, ap, sym, ◌∙◌, List, ℕ}
-use Rattle.nd_shape_and_slice.specs.SliceInfo.{shape_after, index_before}
-use Rattle.nd_array_core.specs.Meaning.{shape_of, element_at, place_at, memory_layout_of}
-use Rattle.nd_array_core.proofs.lending.Tied.{shown_through}
+use Rattle.std.proofs.Common.{refl}
+use Rattle.nd_shape_and_slice.specs.SliceInfo.{shape_after}
+use Rattle.nd_layout.proofs.steps.StepLemmas.{step_some}
+use Rattle.nd_array_core.specs.Meaning.{meaning_of, memory_layout_of}
+use Rattle.nd_array_core.specs.layout.ViewLent.{lent_to, array_with_part}
+use Rattle.nd_array_core.proofs.StepLemmas.{step_holds}
+use Rattle.nd_array_core.proofs.Parted.{seen_part}
+use Rattle.nd_array_core.proofs.lending.KeptIndexes.{others_keep}
 use Rattle.nd_array_core.proofs.layout.slicing.ArrayBase+S+D.slice_mut.Goals as goal
 
+pub lent_as-requires-clause-holds : goal.lent_as-requires-clause-holds
+lent_as-requires-clause-holds g c = step_holds (g.S.Data.stored c.args.self.now.storage) c.sliced_by-named.ensures.step c.args.self.now.inside
+
+pub lent_as-requires-clause-separated : goal.lent_as-requires-clause-separated
+lent_as-requires-clause-separated g c some = let step = c.sliced_by-named.ensures.step in step.separated (c.args.self.now.separated g.met.S.DataMut.alone (step_some step some))
+
 pub returns : goal.returns
-unfolding memory_layout_of
+unfolding meaning_of memory_layout_of array_with_part
 returns g c =
-    let view = c.view_mut.result in let array = c.args.self.now in let part = c.slice_move.result in let same = c.view_mut.ensures.shape in
-    let source : List ℕ → List ℕ → List ℕ = λ ns i. index_before ns (g.I.SliceArg.elements_of c.args.info) i in (
-      (sym (ap (λ x. x.tie.value) c.slice_move.ensures.storage), λ w. refl),
+    let array = c.args.self.now in let old = array.layout in
+    let ns = g.D.Dimension.lengths old.dim in let ss = g.D.Strides.StrideList.strides_of old.strides in let m = g.S.Data.stored array.storage in
+    let step = c.sliced_by-named.ensures.step in
+    let seen = c.lent_as.ensures.seen in let shaped = c.sliced_by-named.ensures.lengths in (
+      (refl, λ w. refl),
       record {
         writes_back = tt;
-        shape = c.slice_move.ensures.shape ∙ (λ k. shape_after (same k) (g.I.SliceArg.elements_of c.args.info));
-        elements = λ i. c.slice_move.ensures.elements i ∙ shown_through (element_at view) (element_at array) c.view_mut.ensures.elements (shape_of view) (shape_of array) same source (shape_of part) i;
-        places = λ i. c.slice_move.ensures.places i ∙ shown_through (place_at view) (place_at array) c.view_mut.ensures.places (shape_of view) (shape_of array) same source (shape_of part) i;
-        refilled = c.view_mut.ensures.refilled;
+        part = seen_part m shaped c.sliced_by-named.ensures.strides step seen;
+        refilled = c.lent_as.ensures.refilled;
+        others = c.lent_as.ensures.others;
+        kept = λ ws. let new = array_with_part g.S.Data.refilled g.S.Data.items array (lent_to c.lent_as.result.storage) ws in
+            others_keep m old.offset ns ss old.as_many (array.separated g.met.S.DataMut.alone) step seen (g.S.Data.stored new.storage) (c.lent_as.ensures.others ws) (shape_after ns (g.I.SliceArg.elements_of c.args.info)) shaped;
       },
     )

@@ -1,73 +1,23 @@
-use Rattle.std.proofs.Common.{refl, [], ◌∷◌}
-use Rattle.nd_shape_and_slice.specs.Maps.{diagonal_length, diagonal_index}
+use Rattle.std.proofs.Common.{refl}
 use Rattle.nd_array_core.specs.Meaning.{meaning_of, memory_layout_of}
-use Rattle.nd_array_core.specs.scoped.Tasks.{array_placed_at, LiesSoundly}
-use Rattle.nd_array_core.proofs.tasks.PartTask.{step_sound, part_seen, left_seen, part_others_stay, part_others_keep}
+use Rattle.nd_array_core.proofs.tasks.PartTask.{part_lies, part_lent, part_stays, part_kept, part_done}
 use Rattle.nd_array_core.proofs.scoped.parts.ArrayBase+S+D.with_diag_mut.Goals as goal
 
 pub with_placement-requires-clause-sound : goal.with_placement-requires-clause-sound
-with_placement-requires-clause-sound g c =
-    let array = c.args.self.now in
-    let old = array.layout in
-    let ns = g.D.Dimension.lengths old.dim in
-    let ss = g.D.Strides.StrideList.strides_of old.strides in
-    let m = g.S.Data.stored array.storage in
-    let sound : LiesSoundly m old.offset ns ss = record { valid = record { as_many = old.as_many; spread = old.spread; checked = old.checked; reach = old.reach }; holds = array.inside; separated = array.separated g.met.S.DataMut.alone } in
-    let step = c.diagonal-layout.ensures.step in
-    step_sound m old.offset ns ss _ _ _ _ _ refl sound step
+with_placement-requires-clause-sound g c = part_lies c.args.self.now c.diagonal-layout.ensures.step g.met.S.DataMut.alone
 
 pub with_placement-requires-clause-callable : goal.with_placement-requires-clause-callable
-unfolding meaning_of memory_layout_of
-with_placement-requires-clause-callable g c m' named =
-    let array = c.args.self.now in
-    let old = array.layout in
-    let ns = g.D.Dimension.lengths old.dim in
-    let ss = g.D.Strides.StrideList.strides_of old.strides in
-    let m = g.S.Data.stored array.storage in
-    let sound : LiesSoundly m old.offset ns ss = record { valid = record { as_many = old.as_many; spread = old.spread; checked = old.checked; reach = old.reach }; holds = array.inside; separated = array.separated g.met.S.DataMut.alone } in
-    let new = c.diagonal-layout.result in
-    let step = c.diagonal-layout.ensures.step in
-    c.requires.callable (array_placed_at m' new.offset _ new.strides) (part_seen m old.offset ns ss _ _ _ (diagonal_index ns) (diagonal_length ns ∷ []) c.diagonal-layout.ensures.lengths sound step m' named)
+unfolding meaning_of
+with_placement-requires-clause-callable g c k named = c.requires.callable _ (part_lent c.args.self.now c.diagonal-layout.ensures.step c.diagonal-layout.ensures.lengths k named)
 
-pub returns-clause-others : goal.returns-clause-others
-unfolding memory_layout_of
-returns-clause-others g c =
-    let array = c.args.self.now in
-    let old = array.layout in
-    let ns = g.D.Dimension.lengths old.dim in
-    let ss = g.D.Strides.StrideList.strides_of old.strides in
-    let m = g.S.Data.stored array.storage in
-    let sound : LiesSoundly m old.offset ns ss = record { valid = record { as_many = old.as_many; spread = old.spread; checked = old.checked; reach = old.reach }; holds = array.inside; separated = array.separated g.met.S.DataMut.alone } in
-    let step = c.diagonal-layout.ensures.step in
-    let stored = g.S.Data.stored c.with_placement.new.storage in
-    let done = c.with_placement.ensures.done in
-    part_others_stay m old.offset ns ss _ _ _ (diagonal_index ns) (diagonal_length ns ∷ []) c.diagonal-layout.ensures.lengths sound step stored done.1 done.4
+pub returns-clause-frame : goal.returns-clause-frame
+unfolding meaning_of memory_layout_of
+returns-clause-frame g c = (refl, refl, (λ i. refl), part_stays c.args.self.now c.diagonal-layout.ensures.step c.with_placement.new.storage c.with_placement.ensures.kept, c.with_placement.ensures.frame, refl)
 
 pub returns-clause-kept : goal.returns-clause-kept
 unfolding meaning_of
-returns-clause-kept g c =
-    let array = c.args.self.now in
-    let old = array.layout in
-    let ns = g.D.Dimension.lengths old.dim in
-    let ss = g.D.Strides.StrideList.strides_of old.strides in
-    let m = g.S.Data.stored array.storage in
-    let sound : LiesSoundly m old.offset ns ss = record { valid = record { as_many = old.as_many; spread = old.spread; checked = old.checked; reach = old.reach }; holds = array.inside; separated = array.separated g.met.S.DataMut.alone } in
-    let step = c.diagonal-layout.ensures.step in
-    let stored = g.S.Data.stored c.with_placement.new.storage in
-    let done = c.with_placement.ensures.done in
-    part_others_keep m old.offset ns ss _ _ _ (diagonal_index ns) (diagonal_length ns ∷ []) c.diagonal-layout.ensures.lengths sound step stored done.1 done.4
+returns-clause-kept g c = part_kept c.args.self.now c.diagonal-layout.ensures.step c.diagonal-layout.ensures.lengths g.met.S.DataMut.alone c.with_placement.new.storage c.with_placement.ensures.kept
 
 pub returns-clause-done : goal.returns-clause-done
 unfolding meaning_of memory_layout_of
-returns-clause-done g c =
-    let array = c.args.self.now in
-    let old = array.layout in
-    let ns = g.D.Dimension.lengths old.dim in
-    let ss = g.D.Strides.StrideList.strides_of old.strides in
-    let m = g.S.Data.stored array.storage in
-    let sound : LiesSoundly m old.offset ns ss = record { valid = record { as_many = old.as_many; spread = old.spread; checked = old.checked; reach = old.reach }; holds = array.inside; separated = array.separated g.met.S.DataMut.alone } in
-    let new = c.diagonal-layout.result in
-    let step = c.diagonal-layout.ensures.step in
-    let stored = g.S.Data.stored c.with_placement.new.storage in
-    let done = c.with_placement.ensures.done in
-    (array_placed_at done.0 new.offset _ new.strides, array_placed_at done.1 new.offset _ new.strides, part_seen m old.offset ns ss _ _ _ (diagonal_index ns) (diagonal_length ns ∷ []) c.diagonal-layout.ensures.lengths sound step done.0 done.2, left_seen m old.offset ns ss _ _ _ (diagonal_index ns) (diagonal_length ns ∷ []) c.diagonal-layout.ensures.lengths sound step stored done.1 done.4, done.3)
+returns-clause-done g c = part_done c.args.self.now c.diagonal-layout.ensures.step c.diagonal-layout.ensures.lengths c.with_placement.new.storage c.with_placement.ensures.done

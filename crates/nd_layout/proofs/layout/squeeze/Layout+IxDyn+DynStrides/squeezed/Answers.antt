@@ -27,7 +27,7 @@ loop-k-preserved c =
     let here : c.ndim-count.result - 1 - c.loop-k.k ≡ c.ndim-count.result - (c.loop-k.k + 1) = omega arith in
     let so_far = subst (λ k. IsSqueezedFrom self.offset (take self.dim.count self.dim.lens) (take self.strides.count self.strides.strides) k old.offset (take old.dim.count old.dim.lens) (take old.strides.count old.strides.strides)) next c.loop-k.invariant in
     subst (λ k. IsSqueezedFrom self.offset (take self.dim.count self.dim.lens) (take self.strides.count self.strides.strides) k new.offset (take new.dim.count new.dim.lens) (take new.strides.count new.strides.strides)) here
-    (squeezed_more self.offset (take self.dim.count self.dim.lens) (take self.strides.count self.strides.strides) (c.ndim-count.result - 1 - c.loop-k.k) (omega (arith, c.ndim-count.ensures.value, c.loop-k-test.true)) old.offset (take old.dim.count old.dim.lens) (take old.strides.count old.strides.strides) so_far new.offset (take new.dim.count new.dim.lens) (take new.strides.count new.strides.strides) c.squeezed_at-layout.ensures.lengths c.squeezed_at-layout.ensures.step)
+    (squeezed_more self.offset (take self.dim.count self.dim.lens) (take self.strides.count self.strides.strides) (c.ndim-count.result - 1 - c.loop-k.k) (omega (arith, c.ndim-count.ensures.value, c.loop-k-test.true)) old.offset (take old.dim.count old.dim.lens) (take old.strides.count old.strides.strides) so_far new.offset (take new.dim.count new.dim.lens) (take new.strides.count new.strides.strides) c.squeezed_at-layout.ensures.lengths c.squeezed_at-layout.ensures.strides c.squeezed_at-layout.ensures.offset c.squeezed_at-layout.ensures.step)
 
 pub returns-clause-step : goal.returns-clause-step
 returns-clause-step c =
@@ -35,3 +35,17 @@ returns-clause-step c =
     let old = c.loop-k.layout in
     let none : c.ndim-count.result - c.loop-k.k ≡ 0 = omega (arith, c.loop-k-test.false) in
     (subst (λ k. IsSqueezedFrom self.offset (take self.dim.count self.dim.lens) (take self.strides.count self.strides.strides) k old.offset (take old.dim.count old.dim.lens) (take old.strides.count old.strides.strides)) none c.loop-k.invariant).step
+
+pub returns-clause-strides : goal.returns-clause-strides
+returns-clause-strides c =
+    let self = c.args.self.now in
+    let old = c.loop-k.layout in
+    let none : c.ndim-count.result - c.loop-k.k ≡ 0 = omega (arith, c.loop-k-test.false) in
+    (subst (λ k. IsSqueezedFrom self.offset (take self.dim.count self.dim.lens) (take self.strides.count self.strides.strides) k old.offset (take old.dim.count old.dim.lens) (take old.strides.count old.strides.strides)) none c.loop-k.invariant).strides
+
+pub returns-clause-offset : goal.returns-clause-offset
+returns-clause-offset c =
+    let self = c.args.self.now in
+    let old = c.loop-k.layout in
+    let none : c.ndim-count.result - c.loop-k.k ≡ 0 = omega (arith, c.loop-k-test.false) in
+    (subst (λ k. IsSqueezedFrom self.offset (take self.dim.count self.dim.lens) (take self.strides.count self.strides.strides) k old.offset (take old.dim.count old.dim.lens) (take old.strides.count old.strides.strides)) none c.loop-k.invariant).unmoved

@@ -1,0 +1,69 @@
+-- How a constructor lays out what it is given: the elements in an order or under strides of the caller's, and what a
+-- storage with so many elements shows.
+use Rattle.std.proofs.Common.{◌≡◌, ℕ, ◌<◌, ◌≤◌, Bool, true, false, List, ℤ, pos, negsuc, refl, ap, ◌∙◌, arith}
+use Rattle.std.proofs.lemmas.Bool.{lt-ltb, ltb-true}
+use Rattle.std.specs.Prelude.{Option, Some, None, nat_lt, is_some, IsSome, if◌then◌else◌, ⊤}
+use Rattle.nd_shape_and_slice.specs.Shape.{in_box, size_of, HasCheckedSize}
+use Rattle.nd_shape_and_slice.specs.Place.{place_of, IsSeparated}
+use Rattle.nd_shape_and_slice.specs.declared.builder.Order.{Order}
+use Rattle.nd_layout.specs.Strides.{reach_down}
+use Rattle.nd_layout.specs.Refusals.{elements_asked}
+use Rattle.nd_layout.specs.GivenStrides.{given_place, ordered_strides}
+use Rattle.nd_layout.proofs.steps.Ranked.{ordered_is_ranked, ranked_place}
+use Rattle.nd_array_core.specs.Places.{names_place, HoldsAll}
+use Rattle.nd_array_core.specs.Meaning.{inside}
+use Rattle.nd_array_core.specs.scoped.Tasks.{Placement}
+use Rattle.nd_array_core.specs.base.Given.{first_places, IsLaidOut}
+use Rattle.nd_array_core.proofs.GivenHolds.{given_holds}
+use Rattle.nd_array_core.proofs.Ranked.{ranked_holds}
+
+abbrev something_if : Bool → Option ⊤
+something_if b = if b then Some tt else None
+
+first_held : (n p : ℕ) → p < n → IsSome (first_places n p)
+first_held n p below = rw (lt-ltb p n below) refl
+
+pub order_laid : (order : Order) (ns : List ℕ) (count : ℕ) → HasCheckedSize ns → size_of ns ≤ count → IsLaidOut ns order None true count (0, ns, ordered_strides order ns)
+order_laid order ns count checked enough =
+    let ranked = ordered_is_ranked order ns checked in
+    record {
+      offset_is = refl;
+      lengths_are = refl;
+      strides_are = refl;
+      places = λ i h. ranked_place ranked i h;
+      holds = ranked_holds ranked (first_places count) (λ p below. first_held count p (omega (arith, below, enough)));
+      separated = λ _ some. ranked.apart some;
+    }
+
+pub strides_laid : (offset : ℕ) (ns : List ℕ) (ss : List ℤ) (alone : Bool) (count : ℕ) → offset ≡ reach_down ns ss → elements_asked ns ss ≤ count
+    → (alone ≡ true → 0 < size_of ns → IsSeparated ns ss) → (order : Order) → IsLaidOut ns order (Some ss) alone count (offset, ns, ss)
+strides_laid offset ns ss alone count from enough apart order = record {
+  offset_is = from;
+  lengths_are = refl;
+  strides_are = refl;
+  places = λ i h. ap (λ o. place_of o ss i) from;
+  holds = λ i h. ap (λ o. names_place (first_places count) (place_of o ss i)) from ∙ given_holds (first_places count) ns ss (λ p below. first_held count p (omega (arith, below, enough))) i h;
+  separated = apart;
+}
+
+module _ {A : Type 0} (stored : ℕ → Option A) (count : ℕ) (has : (p : ℕ) → p < count → IsSome (stored p)) where
+  held_below : (p : ℕ) (b : Bool) → nat_lt p count ≡ b → is_some (something_if b) ≡ true → IsSome (stored p)
+  held_below p true e some = has p (ltb-true p count e)
+  held_below p false e some = cc
+
+  held : (z : ℤ) → names_place (first_places count) z ≡ true → names_place stored z ≡ true
+  held (pos p) some = held_below p (nat_lt p count) refl some
+  held (negsuc n) some = some
+
+  -- what has so many elements has one at the place of each index
+  pub laid_holds : (l : Placement) → HoldsAll (first_places count) l.0 l.1 l.2 → HoldsAll stored l.0 l.1 l.2
+  laid_holds l holds i h = held (place_of l.0 l.2 i) (holds i h)
+
+-- what lies at an index's place lies where the caller's shape says
+pub laid_at : {lengths : List ℕ} {order : Order} {strides : Option (List ℤ)} {alone : Bool} {count : ℕ} {l : Placement} → IsLaidOut lengths order strides alone count l
+    → {X : Type 0} (f : ℤ → Option X) (i : List ℕ) → inside l.1 i (f (place_of l.0 l.2 i)) ≡ inside lengths i (f (given_place lengths order strides i))
+laid_at {lengths} {order} {strides} {l = l} laid f i = ap (λ ns. inside ns i (f (place_of l.0 l.2 i))) laid.lengths_are ∙ at (in_box lengths i) refl
+  where
+    at : (b : Bool) → in_box lengths i ≡ b → inside lengths i (f (place_of l.0 l.2 i)) ≡ inside lengths i (f (given_place lengths order strides i))
+    at true h = ap (λ z. inside lengths i (f z)) (laid.places i h)
+    at false h = rw h refl

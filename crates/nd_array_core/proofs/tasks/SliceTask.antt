@@ -1,0 +1,43 @@
+-- A task on a view of a slice, by the layout that a shape of the caller's asks for.
+use Rattle.std.proofs.Common.{◌≡◌, ◌⊎◌, inl, inr, ℕ, ◌<◌, ◌≤◌, true, List, length, get_or, refl, ap, sym, ◌∙◌, arith}
+use Rattle.std.proofs.lemmas.Option.{slice_get_cases}
+use Rattle.std.specs.Prelude.{Option, Some, None, is_some, IsSome, slice_get}
+use Rattle.nd_shape_and_slice.specs.Shape.{size_of}
+use Rattle.nd_shape_and_slice.specs.Place.{place_of}
+use Rattle.nd_layout.specs.Steps.{IsValid}
+use Rattle.nd_array_core.specs.Places.{place_number, stored_at}
+use Rattle.nd_array_core.specs.PlacedArray.{PlacedArray}
+use Rattle.nd_array_core.specs.Meaning.{inside}
+use Rattle.nd_array_core.specs.base.Given.{IsLaidOut}
+use Rattle.nd_array_core.specs.base.Writes.{OthersStay}
+use Rattle.nd_array_core.specs.scoped.Tasks.{Placement, LiesBy, IsViewOf}
+use Rattle.nd_array_core.specs.scoped.Sources.{GivenShape, place_in_slice, IsViewOfSlice}
+use Rattle.nd_array_core.proofs.LaidOut.{laid_holds, laid_at}
+
+-- a slice has an element at each place below its length
+pub slice_has : {A : Type 0} (xs : List A) (p : ℕ) → p < length xs → IsSome (slice_get xs p)
+slice_has {A} xs p below = first (slice_get_cases xs p)
+  where
+    first : (slice_get xs p ≡ slice_get xs p) × (((x : A) × (p < length xs) × (slice_get xs p ≡ Some x) × (get_or xs p x ≡ x)) ⊎ ((length xs ≤ p) × (slice_get xs p ≡ None))) → IsSome (slice_get xs p)
+    first (_, inl there) = ap is_some there.2
+    first (_, inr past) = let le = past.0 in absurd (omega (arith, below, le))
+
+module _ {A : Type 0} (xs : List A) (given : GivenShape) (l : Placement) (laid : IsLaidOut given.0 given.1 given.2 true (length xs) l) where
+  -- the slice has an element for each index, and no two share one
+  pub slice_sound : IsValid l.0 l.1 l.2 → LiesBy (slice_get xs) l
+  slice_sound valid = record {
+    valid = valid;
+    holds = laid_holds (slice_get xs) (length xs) (slice_has xs) l laid.holds;
+    separated = λ some. laid.separated refl (let e = ap size_of laid.lengths_are in omega (arith, some, e));
+  }
+
+  -- what is seen by the layout is what the shape says, of this slice and of it with other elements
+  pub seen_in_slice : (ys : List A) (v : PlacedArray A) → IsViewOf l.1 (λ i. inside l.1 i (place_number (place_of l.0 l.2 i))) (λ i. inside l.1 i (stored_at (slice_get ys) (place_of l.0 l.2 i))) v → IsViewOfSlice ys given v
+  seen_in_slice ys v view = record {
+    same_shape = view.same_shape ∙ laid.lengths_are;
+    same_place = λ i. view.same_place i ∙ laid_at laid place_number i;
+    same_element = λ i. view.same_element i ∙ laid_at laid (stored_at (slice_get ys)) i;
+  }
+
+  pub unseen_kept : (old new : ℕ → Option A) → OthersStay (λ i. inside l.1 i (place_number (place_of l.0 l.2 i))) old new → OthersStay (place_in_slice given) old new
+  unseen_kept old new others p none = others p (λ i e. none i (sym (laid_at laid place_number i) ∙ e))

@@ -1,0 +1,29 @@
+-- An array after a part of it was filled, and where a clone was refused on the way.
+use Rattle.std.specs.Prelude.{◌≡◌, ◌⊎◌, ℕ, List, true, false, Some, if◌then◌else◌}
+use Rattle.nd_shape_and_slice.specs.Shape.{in_box}
+use Rattle.nd_shape_and_slice.specs.declared.dimension.Dimension as dimension
+use Rattle.nd_shape_and_slice.specs.declared.dimension.AxisCount as axis_count
+use Rattle.nd_shape_and_slice.specs.declared.dimension.StrideList as stride_list
+use Rattle.nd_array_core.specs.declared.base.storage.Data as data_trait
+use Rattle.nd_array_core.specs.declared.base.array.ArrayBase.{ArrayBase}
+use Rattle.nd_shape_and_slice.specs.declared.slice_info.SliceInfoElem.{SliceInfoElem}
+use Rattle.nd_shape_and_slice.specs.Naming.{names_index}
+use Rattle.nd_array_core.specs.Meaning.{shape_of, element_at}
+use Rattle.nd_array_core.specs.Part.{Part}
+
+module _ {S D A T P R L M : Type 0} {s : data_trait.Ghosts S A} {d : dimension.Ghosts D P R L M} {n : axis_count.Ghosts D} {r : stride_list.Ghosts R} {t : stride_list.Ghosts T} where
+  -- each index that one of the part names has its old element or x
+  abbrev pub IsOldOrFilled : ArrayBase S D T A P R L M s d n r t → ArrayBase S D T A P R L M s d n r t → Part → A → Type 0
+  IsOldOrFilled old new part x = (i : List ℕ) → in_box part.shape i ≡ true → (element_at new (part.source i) ≡ element_at old (part.source i)) ⊎ (element_at new (part.source i) ≡ Some x)
+
+  -- each index of the array has x where the list names it, and else the element that it had
+  abbrev pub IsFilledWhere : ArrayBase S D T A P R L M s d n r t → ArrayBase S D T A P R L M s d n r t → List SliceInfoElem → A → Type 0
+  IsFilledWhere old new slices x = (i : List ℕ) → in_box (shape_of old) i ≡ true → element_at new i ≡ (if names_index (shape_of old) slices i then Some x else element_at old i)
+
+  -- each index that the list doesn't name has the element that it had
+  abbrev pub KeepsOtherIndexes : ArrayBase S D T A P R L M s d n r t → ArrayBase S D T A P R L M s d n r t → List SliceInfoElem → Type 0
+  KeepsOtherIndexes old new slices = (i : List ℕ) → names_index (shape_of old) slices i ≡ false → element_at new i ≡ element_at old i
+
+  -- each index of the array that the list names has x
+  abbrev pub FillsNamed : ArrayBase S D T A P R L M s d n r t → ArrayBase S D T A P R L M s d n r t → List SliceInfoElem → A → Type 0
+  FillsNamed old new slices x = (i : List ℕ) → in_box (shape_of old) i ≡ true → names_index (shape_of old) slices i ≡ true → element_at new i ≡ Some x

@@ -1,0 +1,61 @@
+-- A slice of a caller's lent to a task as a view: how its elements are seen under a shape, and what the slice holds
+-- afterwards.
+use Rattle.std.specs.Prelude.{ℕ, List, ℤ, Option, slice_get}
+use Rattle.nd_shape_and_slice.specs.declared.builder.Order.{Order}
+use Rattle.nd_shape_and_slice.specs.declared.builder.IntoStrideShape as given_shape
+use Rattle.nd_shape_and_slice.specs.declared.errors.ErrorKind.{ErrorKind}
+use Rattle.nd_layout.specs.GivenStrides.{given_place}
+use Rattle.nd_layout.specs.Refusals.{slice_mut_refusal}
+use Rattle.nd_array_core.specs.Places.{place_number, stored_at}
+use Rattle.nd_array_core.specs.PlacedArray.{PlacedArray}
+use Rattle.nd_array_core.specs.Meaning.{inside}
+use Rattle.nd_array_core.specs.base.Writes.{OthersStay}
+use Rattle.nd_array_core.specs.scoped.Tasks.{Placement, IsViewOf, IsDoneOnPlacement}
+
+-- what a caller gives as a shape: lengths, an order, and strides where there are any
+abbrev pub GivenShape : Type 0
+GivenShape = List ℕ × Order × Option (List ℤ)
+
+abbrev pub meant_by : {S D P R L M : Type 0} → given_shape.Ghosts S D P R L M → S → GivenShape
+meant_by g shape = (g.lengths_meant shape, g.order_meant shape, g.strides_meant shape)
+
+-- why a slice of so many elements can't be seen so, to be written
+abbrev pub refusal_for : GivenShape → ℕ → Option ErrorKind
+refusal_for given count = slice_mut_refusal given.0 given.2 count
+
+-- the place in the slice of an index's element: nothing outside the shape's box
+abbrev pub place_in_slice : GivenShape → List ℕ → Option ℕ
+place_in_slice given i = inside given.0 i (place_number (given_place given.0 given.1 given.2 i))
+
+module _ {A : Type 0} where
+  -- the slice's element there
+  abbrev pub element_in_slice : List A → GivenShape → List ℕ → Option A
+  element_in_slice xs given i = inside given.0 i (stored_at (slice_get xs) (given_place given.0 given.1 given.2 i))
+
+  -- v is a view of the slice: its shape, and at each index its place and its element
+  abbrev pub IsViewOfSlice : List A → GivenShape → PlacedArray A → Type 0
+  IsViewOfSlice xs given v = IsViewOf given.0 (place_in_slice given) (element_in_slice xs given) v
+
+  -- what a task asks holds of a view of the slice
+  abbrev pub AsksOfSlice : (PlacedArray A → Type 0) → List A → GivenShape → Type 0
+  AsksOfSlice asks xs given = (v : PlacedArray A) → IsViewOfSlice xs given v → asks v
+
+  -- each element whose place no index has is as it was
+  abbrev pub KeepsUnseen : List A → List A → GivenShape → Type 0
+  KeepsUnseen old new given = OthersStay (place_in_slice given) (slice_get old) (slice_get new)
+
+-- what a task answers is of the type R
+module _ {A R : Type 0} where
+  -- it is done with a view of the slice, and the new slice has at each index's place the element that it left there
+  abbrev pub IsDoneOnSlice : (PlacedArray A → PlacedArray A → R → Type 0) → List A → List A → GivenShape → R → Type 0
+  IsDoneOnSlice done old new given answer =
+      (v : PlacedArray A)
+      × (w : PlacedArray A)
+      × IsViewOfSlice old given v
+      × IsViewOfSlice new given w
+      × done v w answer
+
+  -- the same by a layout
+  abbrev pub IsDoneByLayout : (PlacedArray A → PlacedArray A → R → Type 0) → List A → List A → Placement → R → Type 0
+  IsDoneByLayout done old new layout answer =
+      IsDoneOnPlacement (λ v w. done v w answer) (slice_get old) (slice_get new) layout

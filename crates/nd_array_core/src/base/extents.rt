@@ -1,0 +1,54 @@
+//! How far an array goes: its lengths as numbers, and whether it has elements.
+#![tactic(auto, unfolding(crate::specs::Meaning::meaning_of), using(crate::proofs::ShortAxes::length_short, crate::proofs::ShortAxes::all_short))]
+
+ghost use Rattle.std.specs.Prelude.{◌↔◌, ◌≡◌, ◌<◌, ◌^◌, ◌∷◌, [], ℕ, IsTrue, slice_index};
+ghost use Rattle.nd_shape_and_slice.specs.Shape.{size_of};
+ghost use Rattle.nd_array_core.specs.Meaning.{shape_of};
+ghost use Rattle.nd_array_core.specs.Coordinates.{AllShort};
+
+use crate::base::array::ArrayBase;
+use crate::base::storage::Data;
+use nd_shape_and_slice::{Axis, Dimension, Ix2, is_empty_shape};
+
+impl<S: Data, D: Dimension> ArrayBase<S, D> {
+    /// The lengths: a number, a tuple of them, or the dimension itself. ndarray's `dim`.
+    pub fn dim(&self) -> D::Pattern
+        ensures lengths { D.pattern_lengths result ≡ shape_of self.now }
+        ensures short { AllShort (D.pattern_lengths result) }
+    {
+        self.layout.dim.into_pattern()
+    }
+
+    /// Whether the array has no elements. ndarray's `is_empty`.
+    pub fn is_empty(&self) -> bool
+        ensures { IsTrue result ↔ (size_of (shape_of self.now) ≡ 0) }
+    {
+        is_empty_shape(self.shape())
+    }
+}
+
+impl<S: Data> ArrayBase<S, Ix2> {
+    /// The number of rows, the length of axis 0. ndarray's `nrows`.
+    pub fn nrows(&self) -> usize
+        ensures rows { shape_of self.now ≡ result ∷ slice_index (shape_of self.now) 1 ∷ [] }
+        ensures short { result < 2 ^ 63 }
+    {
+        self.dim().0
+    }
+
+    /// The number of columns, the length of axis 1. ndarray's `ncols`.
+    pub fn ncols(&self) -> usize
+        ensures columns { shape_of self.now ≡ slice_index (shape_of self.now) 0 ∷ result ∷ [] }
+        ensures short { result < 2 ^ 63 }
+    {
+        self.dim().1
+    }
+
+    /// Whether the array has as many rows as columns. ndarray's `is_square`.
+    pub fn is_square(&self) -> bool
+        ensures { IsTrue result ↔ (slice_index (shape_of self.now) 0 ≡ slice_index (shape_of self.now) 1) }
+    {
+        let (rows, columns) = self.dim();
+        rows == columns
+    }
+}

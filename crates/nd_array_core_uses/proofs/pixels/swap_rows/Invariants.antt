@@ -1,0 +1,11 @@
+use Rattle.std.proofs.Common.{◌≡◌, ℕ, nat_eq, nat_lt, if◌then◌else◌, ◌∷◌, [], slice_index}
+use Rattle.nd_array_core.specs.Meaning.{shape_of, element_at}
+use Rattle.nd_array_core.specs.Coordinates.{element_of_2}
+use Rattle.nd_array_core_uses.specs.Painting.{exchanged}
+use Rattle.nd_array_core_uses.proofs.pixels.swap_rows.Given as goal
+
+abbrev pub invariant-loop-column : goal.invariant-loop-column
+invariant-loop-column g l = record {
+  shape : shape_of l.image ≡ shape_of l.fn.image;
+  elements : (i j : ℕ) → element_of_2 l.image i j ≡ element_of_2 l.fn.image (if nat_lt j l.column then exchanged l.first l.second i else i) j;
+}

@@ -1,0 +1,13 @@
+-- What a fill leaves of a slice of the caller's.
+use Rattle.std.specs.Prelude.{◌≡◌, ℕ, nat_lt, List, true, Some, slice_get, if◌then◌else◌}
+use Rattle.nd_shape_and_slice.specs.Shape.{in_box}
+use Rattle.nd_array_core.specs.scoped.Sources.{GivenShape, element_in_slice}
+
+module _ {A : Type 0} where
+  -- the slice has x at the place of each index of the shape
+  abbrev pub IsFilledWhereSeen : List A → GivenShape → A → Type 0
+  IsFilledWhereSeen xs given x = (i : List ℕ) → in_box given.0 i ≡ true → element_in_slice xs given i ≡ Some x
+
+  -- the first n elements are x, and the others as they were
+  abbrev pub IsFrontFilled : List A → List A → ℕ → A → Type 0
+  IsFrontFilled old new n x = (p : ℕ) → slice_get new p ≡ (if nat_lt p n then Some x else slice_get old p)

@@ -1,0 +1,65 @@
+//! Parts of an image filled by lists of slices, each caller in coordinates and with no proof file. `?` and then `Ok(())`
+//! lets the proof read what the fill tells.
+ghost use Rattle.std.specs.Prelude.{◌≡◌, ◌<◌, ◌≤◌, ◌%◌, ℕ, slice_index, Some, OnOk};
+ghost use Rattle.nd_array_core.specs.Meaning.{shape_of};
+ghost use Rattle.nd_array_core.specs.Coordinates.{element_of_2};
+
+use nd_array_core::{Array2, ArrayBase, DataMut};
+use nd_shape_and_slice::{Ix2, NoMemory, Slice, slices};
+
+/// Fills a rectangle of an image: the rows from one up to another, in the columns from one up to another.
+pub fn fill_rectangle<A: Clone + Drop, S: DataMut<Elem = A>>(
+    image: &mut ArrayBase<S, Ix2>,
+    top: usize,
+    bottom: usize,
+    left: usize,
+    right: usize,
+    colour: A,
+) -> Result<(), NoMemory>
+    requires clones { (copy : A) → A.is_clone colour copy → copy ≡ colour }
+    requires rows { top ≤ bottom }
+    requires rows_within { bottom ≤ slice_index (shape_of image.old) 0 }
+    requires columns { left ≤ right }
+    requires columns_within { right ≤ slice_index (shape_of image.old) 1 }
+    ensures shape { shape_of image.new ≡ shape_of image.old }
+    ensures within { OnOk result ((row column : ℕ) → top ≤ row → row < bottom → left ≤ column → column < right → element_of_2 image.new row column ≡ Some colour) }
+    ensures above { (row column : ℕ) → row < top → element_of_2 image.new row column ≡ element_of_2 image.old row column }
+    ensures below { (row column : ℕ) → bottom ≤ row → element_of_2 image.new row column ≡ element_of_2 image.old row column }
+    ensures before { (row column : ℕ) → column < left → element_of_2 image.new row column ≡ element_of_2 image.old row column }
+    ensures after { (row column : ℕ) → right ≤ column → element_of_2 image.new row column ≡ element_of_2 image.old row column }
+{
+    let (_rows, _columns) = image.dim();
+    image.fill_slice(slices![top..bottom, left..right], colour)?;
+    Ok(())
+}
+
+/// Fills every second column.
+pub fn fill_every_second_column<A: Clone + Drop, S: DataMut<Elem = A>>(
+    image: &mut ArrayBase<S, Ix2>,
+    colour: A,
+) -> Result<(), NoMemory>
+    requires clones { (copy : A) → A.is_clone colour copy → copy ≡ colour }
+    ensures shape { shape_of image.new ≡ shape_of image.old }
+    ensures even { OnOk result ((i j : ℕ) → i < slice_index (shape_of image.old) 0 → j < slice_index (shape_of image.old) 1 → j % 2 ≡ 0 → element_of_2 image.new i j ≡ Some colour) }
+    ensures odd { (i j : ℕ) → j % 2 ≡ 1 → element_of_2 image.new i j ≡ element_of_2 image.old i j }
+{
+    let (_rows, _columns) = image.dim();
+    image.fill_slice(slices![.., Slice::from(..).step_by(2)], colour)?;
+    Ok(())
+}
+
+/// Fills the two blocks on the diagonal of a matrix that is cut at a row and a column of the same number.
+pub fn fill_two_blocks(matrix: &mut Array2<i64>, cut: usize, value: i64) -> Result<(), NoMemory>
+    requires rows { cut ≤ slice_index (shape_of matrix.old) 0 }
+    requires columns { cut ≤ slice_index (shape_of matrix.old) 1 }
+    ensures shape { shape_of matrix.new ≡ shape_of matrix.old }
+    ensures first { OnOk result ((row column : ℕ) → row < cut → column < cut → element_of_2 matrix.new row column ≡ Some value) }
+    ensures second { OnOk result ((row column : ℕ) → cut ≤ row → row < slice_index (shape_of matrix.old) 0 → cut ≤ column → column < slice_index (shape_of matrix.old) 1 → element_of_2 matrix.new row column ≡ Some value) }
+    ensures above { (row column : ℕ) → row < cut → cut ≤ column → element_of_2 matrix.new row column ≡ element_of_2 matrix.old row column }
+    ensures below { (row column : ℕ) → cut ≤ row → column < cut → element_of_2 matrix.new row column ≡ element_of_2 matrix.old row column }
+{
+    let (_rows, _columns) = matrix.dim();
+    matrix.fill_slice(slices![..cut, ..cut], value)?;
+    matrix.fill_slice(slices![cut.., cut..], value)?;
+    Ok(())
+}

@@ -1,0 +1,57 @@
+//! Slices of a caller's, filled through a view that is lent for the call.
+ghost use Rattle.std.specs.Prelude.{◌≡◌, OnOk, IfOk, IfErr};
+ghost use Rattle.nd_array_core.specs.scoped.Sources.{meant_by, KeepsUnseen};
+ghost use Rattle.nd_array_core_uses.specs.Slices.{IsFilledWhereSeen, IsFrontFilled};
+
+use nd_array_core::scoped::{Fill, with_view_of};
+use nd_shape_and_slice::{Dimension, IntoStrideShape, NoMemory, ShapeError};
+
+/// Fills the elements of a slice that a shape sees, in its order or by its strides; the others stay. Refused as
+/// `ArrayViewMut::from_shape` is.
+pub fn fill_seen<A: Clone + Drop, D: Dimension, Sh: IntoStrideShape<Dim = D>>(
+    slice: &mut [A],
+    shape: Sh,
+    value: A,
+) -> Result<Result<(), NoMemory>, ShapeError>
+    requires clones { (copy : A) → A.is_clone value copy → copy ≡ value }
+    ensures unchanged { IfErr result (λ _. slice.new ≡ slice.old) }
+    ensures filled { IfOk result (λ r. OnOk r (IsFilledWhereSeen slice.new (meant_by Sh.IntoStrideShape shape) value)) }
+    ensures kept { KeepsUnseen slice.old slice.new (meant_by Sh.IntoStrideShape shape) }
+{
+    with_view_of(slice, shape, Fill { value })
+}
+
+/// Fills the first `count` elements of a slice, and no other; the slice stays as it is where it has fewer.
+pub fn fill_front<A: Clone + Drop>(
+    slice: &mut [A],
+    count: usize,
+    value: A,
+) -> Result<Result<(), NoMemory>, ShapeError>
+    requires clones { (copy : A) → A.is_clone value copy → copy ≡ value }
+    ensures unchanged { IfErr result (λ _. slice.new ≡ slice.old) }
+    ensures elements { IfOk result (λ done. OnOk done (IsFrontFilled slice.old slice.new count value)) }
+{
+    fill_seen(slice, count, value)
+}
+
+#[cfg(test)]
+mod tests {
+    use super::*;
+    use nd_shape_and_slice::ShapeBuilder;
+
+    #[test]
+    fn the_front_of_a_slice(rt: HostRuntime) {
+        let mut items = [1, 2, 3, 4];
+        assert!(rt; matches!(fill_front(&mut items, 3, 7), Ok(Ok(()))));
+        assert_eq!(rt; items, [7, 7, 7, 4]);
+        assert!(rt; fill_front(&mut items, 5, 9).is_err());
+        assert_eq!(rt; items, [7, 7, 7, 4]);
+    }
+
+    #[test]
+    fn every_second_element(rt: HostRuntime) {
+        let mut items = [1, 2, 3, 4, 5, 6];
+        assert!(rt; matches!(fill_seen(&mut items, 3.strides(&[2]), 0), Ok(Ok(()))));
+        assert_eq!(rt; items, [0, 2, 0, 4, 0, 6]);
+    }
+}

@@ -1,0 +1,146 @@
+//! Parts of arrays written through mutable views in the open: each index that the view doesn't name has the element that
+//! it had.
+ghost use Rattle.std.specs.Prelude.{◌≡◌, ◌<◌, ◌∷◌, [], ℕ, true, List, length, slice_index};
+ghost use Rattle.nd_shape_and_slice.specs.Maps.{indexed_shape};
+ghost use Rattle.nd_shape_and_slice.specs.Shape.{in_box};
+ghost use Rattle.nd_shape_and_slice.specs.Slice.{fits_axis, sliced_shape};
+ghost use Rattle.nd_shape_and_slice.specs.SliceInfo.{fits_shape};
+ghost use Rattle.nd_array_core.specs.Meaning.{shape_of, element_at};
+ghost use Rattle.nd_array_core.specs.Part.{sliced_part, axis_part, coordinate_part, diagonal_part};
+ghost use Rattle.nd_array_core.specs.scoped.PartTasks.{KeepsBut};
+
+use nd_array_core::{Array2, ArrayBase, ArrayViewMut, DataMut, GetMut};
+use nd_shape_and_slice::{Axis, Dimension, Ix2, NdIndex, NoMemory, Slice, SliceArg};
+
+/// Fills what a list of slices names.
+pub fn fill_named<S: DataMut, D: Dimension, I: SliceArg<D>>(
+    array: &mut ArrayBase<S, D>,
+    info: I,
+    value: S::Elem,
+) -> Result<(), NoMemory>
+where
+    S::Elem: Clone + Drop,
+    requires fits { fits_shape (shape_of array.old) (I.elements_of info) ≡ true }
+    requires clones { (copy : S.Elem) → S.Elem.is_clone value copy → copy ≡ value }
+    ensures shape { shape_of array.new ≡ shape_of array.old }
+    ensures kept { KeepsBut array.old array.new (sliced_part array.old (I.elements_of info)) }
+{
+    array.slice_mut(info).fill(value)?;
+    Ok(())
+}
+
+/// Exchanges two elements of a row of an image.
+pub fn swap_in_row<S: DataMut>(
+    image: &mut ArrayBase<S, Ix2>,
+    row: usize,
+    first: usize,
+    second: usize,
+)
+    requires row { row < slice_index (shape_of image.old) 0 }
+    requires first { in_box (indexed_shape (shape_of image.old) 0) (first ∷ []) ≡ true }
+    requires second { in_box (indexed_shape (shape_of image.old) 0) (second ∷ []) ≡ true }
+    ensures shape { shape_of image.new ≡ shape_of image.old }
+    ensures kept { KeepsBut image.old image.new (coordinate_part image.old 0 row) }
+    ensures other_rows { (r c : ℕ) → (r ≡ row → ⊥) → element_at image.new (r ∷ c ∷ []) ≡ element_at image.old (r ∷ c ∷ []) }
+{
+    image.row_mut(row).swap([first], [second]);
+}
+
+/// Writes one value at each index of a list, of the part that a slice names of an axis, as far as the part has them.
+pub fn write_in_part<S: DataMut, D: Dimension, I: NdIndex<D> + Copy>(
+    array: &mut ArrayBase<S, D>,
+    axis: Axis,
+    slice: Slice,
+    indexes: &[I],
+    value: S::Elem,
+)
+where
+    S::Elem: Copy + Drop,
+    requires axis { axis.0 < length (shape_of array.old) }
+    requires fits { fits_axis (slice_index (shape_of array.old) axis.0) slice ≡ true }
+    ensures shape { shape_of array.new ≡ shape_of array.old }
+    ensures kept { KeepsBut array.old array.new (axis_part array.old axis.0 slice) }
+{
+    let mut part = array.slice_axis_mut(axis, slice);
+    for k in 0..indexes.len() {
+        match part.get_mut(indexes[k]) {
+            Some(element) => *element = value,
+            None => (),
+        }
+    }
+}
+
+/// Fills a part of a part of an array.
+pub fn fill_inner<S: DataMut, D: Dimension>(
+    array: &mut ArrayBase<S, D>,
+    axis: Axis,
+    outer: Slice,
+    inner: Slice,
+    value: S::Elem,
+) -> Result<(), NoMemory>
+where
+    S::Elem: Clone + Drop,
+    requires axis { axis.0 < length (shape_of array.old) }
+    requires outer { fits_axis (slice_index (shape_of array.old) axis.0) outer ≡ true }
+    requires inner { axis.0 < length (sliced_shape (shape_of array.old) axis.0 outer) }
+    requires within { fits_axis (slice_index (sliced_shape (shape_of array.old) axis.0 outer) axis.0) inner ≡ true }
+    requires clones { (copy : S.Elem) → S.Elem.is_clone value copy → copy ≡ value }
+    ensures shape { shape_of array.new ≡ shape_of array.old }
+    ensures kept { KeepsBut array.old array.new (axis_part array.old axis.0 outer) }
+{
+    let mut part = array.slice_axis_mut(axis, outer);
+    let mut most = part.slice_axis_mut(axis, inner);
+    most.fill(value)
+}
+
+/// Fills the diagonal of an array.
+pub fn fill_diagonal<S: DataMut, D: Dimension>(
+    grid: &mut ArrayBase<S, D>,
+    value: S::Elem,
+) -> Result<(), NoMemory>
+where
+    S::Elem: Clone + Drop,
+    requires clones { (copy : S.Elem) → S.Elem.is_clone value copy → copy ≡ value }
+    ensures shape { shape_of grid.new ≡ shape_of grid.old }
+    ensures kept { KeepsBut grid.old grid.new (diagonal_part grid.old) }
+{
+    grid.diag_mut().fill(value)
+}
+
+/// Fills a column of a mutable view, and leaves the view to be used again.
+pub fn fill_column_of_view<A: Clone + Drop>(
+    view: &mut ArrayViewMut<'_, A, Ix2>,
+    column: usize,
+    value: A,
+) -> Result<(), NoMemory>
+    requires column { column < slice_index (shape_of view.old) 1 }
+    requires clones { (copy : A) → A.is_clone value copy → copy ≡ value }
+    ensures shape { shape_of view.new ≡ shape_of view.old }
+    ensures kept { KeepsBut view.old view.new (coordinate_part view.old 1 column) }
+{
+    view.column_mut(column).fill(value)
+}
+
+/// Fills a row of an owned image.
+pub fn fill_row_of_owned<A: Clone + Drop>(
+    image: &mut Array2<A>,
+    row: usize,
+    value: A,
+) -> Result<(), NoMemory>
+    requires row { row < slice_index (shape_of image.old) 0 }
+    requires clones { (copy : A) → A.is_clone value copy → copy ≡ value }
+    ensures shape { shape_of image.new ≡ shape_of image.old }
+    ensures other_rows { (r c : ℕ) → (r ≡ row → ⊥) → element_at image.new (r ∷ c ∷ []) ≡ element_at image.old (r ∷ c ∷ []) }
+{
+    image.row_mut(row).fill(value)
+}
+
+/// Exchanges two numbers of a row.
+pub fn swap_numbers_in_row(image: &mut Array2<i64>, row: usize, first: usize, second: usize)
+    requires row { row < slice_index (shape_of image.old) 0 }
+    requires first { in_box (indexed_shape (shape_of image.old) 0) (first ∷ []) ≡ true }
+    requires second { in_box (indexed_shape (shape_of image.old) 0) (second ∷ []) ≡ true }
+    ensures other_rows { (r c : ℕ) → (r ≡ row → ⊥) → element_at image.new (r ∷ c ∷ []) ≡ element_at image.old (r ∷ c ∷ []) }
+{
+    swap_in_row(image, row, first, second);
+}
