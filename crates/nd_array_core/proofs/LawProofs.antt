@@ -155,25 +155,25 @@ path_inside ns [] i stays h = h
 path_inside ns (p ∷ ps) i stays h = stays.0 (path_source ps i) (path_inside p.shape ps i stays.1 h)
 
 module _ {A : Type 0} where
-  same_meaning : (m : Meaning A) (shape : List ℕ) (at : List ℕ → Option A) → shape ≡ m.shape → ((i : List ℕ) → at i ≡ m.at i) → (let n : Meaning A = record { shape = shape; at = at } in n) ≡ m
+  pub same_meaning : (m : Meaning A) (shape : List ℕ) (at : List ℕ → Option A) → shape ≡ m.shape → ((i : List ℕ) → at i ≡ m.at i) → (let n : Meaning A = record { shape = shape; at = at } in n) ≡ m
   same_meaning m shape at e h = rw (fun_ext h, e) refl
 
   -- what is seen, where each new index names an old one
-  inside_here : (ns i : List ℕ) (x y : Option A) → (in_box ns i ≡ true → x ≡ y) → inside ns i x ≡ inside ns i y
+  pub inside_here : (ns i : List ℕ) (x y : Option A) → (in_box ns i ≡ true → x ≡ y) → inside ns i x ≡ inside ns i y
   inside_here ns i x y same = at (in_box ns i) same
     where
       at : (b : Bool) → (b ≡ true → x ≡ y) → cond b x None ≡ cond b y None
       at true same = same refl
       at false same = refl
 
-  inside_kept : (ns i : List ℕ) (x : Option A) → (in_box ns i ≡ false → x ≡ None) → inside ns i x ≡ x
+  pub inside_kept : (ns i : List ℕ) (x : Option A) → (in_box ns i ≡ false → x ≡ None) → inside ns i x ≡ x
   inside_kept ns i x nothing = at (in_box ns i) nothing
     where
       at : (b : Bool) → (b ≡ false → x ≡ None) → cond b x None ≡ x
       at true nothing = refl
       at false nothing = sym (nothing refl)
 
-  inside_box : (ns i : List ℕ) (x : Option A) → in_box ns i ≡ true → inside ns i x ≡ x
+  pub inside_box : (ns i : List ℕ) (x : Option A) → in_box ns i ≡ true → inside ns i x ≡ x
   inside_box ns i x h = rw h refl
 
   -- two maps, the second of which leads into the box of the first

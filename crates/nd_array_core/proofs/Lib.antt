@@ -3,6 +3,7 @@ pub mod ShortAxes
 pub mod SamePlaces
 pub mod StepLemmas
 pub mod LawProofs
+pub mod JoinedParts
 pub mod WriteStep
 pub mod Frames
 pub mod Filling

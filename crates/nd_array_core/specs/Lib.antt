@@ -4,6 +4,7 @@ pub mod Meaning
 pub mod Part
 pub mod Coordinates
 pub mod Laws
+pub mod Joined
 pub mod base
 pub mod layout
 pub mod scoped

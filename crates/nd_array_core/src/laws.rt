@@ -10,6 +10,7 @@ ghost use Rattle.nd_shape_and_slice.specs.SliceInfo.{each_fits, shape_after, ind
 ghost use Rattle.nd_array_core.specs.Laws.{PermutedBack, ReversedTwice, InvertedTwice, InsertedAndRemoved, SlicedTwice, PathIsOneMap, LeadsInside, NothingOutside, IndexesHavePlaces, ShowsStored, DistinctPlaces};
 ghost use Rattle.nd_shape_and_slice.specs.Maps.{inverted_index, collapsed_shape, collapsed_index, lower_shape, upper_shape, upper_index, indexed_shape, indexed_index, inserted_shape, inserted_index, diagonal_length, diagonal_index};
 ghost use Rattle.nd_shape_and_slice.specs.Broadcast.{broadcasts, broadcast_index};
+ghost use Rattle.nd_array_core.specs.Joined.{SplitAndJoined};
 ghost use Rattle.nd_array_core.specs.Meaning.{element_at, meaning_of, placed_array};
 ghost use Rattle.nd_shape_and_slice.specs.Slicing.{collapsed_after, collapsed_before};
 ghost use Rattle.nd_shape_and_slice.specs.Squeeze.{squeezed_shape, squeezed_index};
@@ -45,6 +46,12 @@ pub fn inserted_and_removed<A>()
 #[tactic(auto, using(crate::proofs::LawProofs::sliced_twice))]
 pub fn sliced_twice<A>()
     ensures { SlicedTwice A }
+{}
+
+/// The parts of a split, one behind the other along its axis, are the array.
+#[tactic(auto, using(crate::proofs::JoinedParts::split_and_joined))]
+pub fn split_and_joined<A>()
+    ensures { SplitAndJoined A }
 {}
 
 /// A path of layout steps is one map: the composition of its steps' maps.

@@ -1,0 +1,61 @@
+-- The parts of a split, one behind the other, are the array.
+use Rattle.std.proofs.Common.{◌≡◌, ℕ, ◌+◌, ◌-◌, ◌<◌, ◌≤◌, true, cond, ltb, List, length, get_or, set, ap, ◌∙◌, subst, arith, ⊎_elim}
+use Rattle.std.proofs.lemmas.Bool.{lt-ltb, le-ltb, cases_lt}
+use Rattle.std.proofs.lemmas.List.{get_or-set_same, set-get_or, set-set}
+use Rattle.nd_shape_and_slice.proofs.RowMajor.{length-in_box}
+use Rattle.nd_shape_and_slice.proofs.Boxes.{coordinate_below}
+use Rattle.nd_shape_and_slice.specs.Shape.{in_box}
+use Rattle.nd_shape_and_slice.specs.Maps.{lower_shape, upper_shape, upper_index}
+use Rattle.nd_layout.proofs.Distinct.{in_box-set}
+use Rattle.nd_array_core.specs.Meaning.{Meaning, inside}
+use Rattle.nd_array_core.specs.Laws.{NothingOutside}
+use Rattle.nd_array_core.specs.Joined.{lower_of, upper_of, joined_shape, joined, SplitAndJoined}
+use Rattle.nd_array_core.proofs.LawProofs.{same_meaning, inside_here, inside_kept, inside_box}
+
+-- the axis is as long as both parts
+parts_shape : (ns : List ℕ) (a k : ℕ) → a < length ns → k ≤ get_or ns a 0 → joined_shape (lower_shape ns a k) (upper_shape ns a k) a ≡ ns
+parts_shape ns a k on within =
+    let n = get_or ns a 0 in
+    set-set ns a k (get_or (set ns a k) a 0 + get_or (set ns a (n - k)) a 0)
+    ∙ (ap (λ c. set ns a (c + get_or (set ns a (n - k)) a 0)) (get_or-set_same ns a k 0 on)
+    ∙ (ap (λ c. set ns a (k + c)) (get_or-set_same ns a (n - k) 0 on)
+    ∙ (ap (set ns a) (omega (arith, within)) ∙ set-get_or ns a 0)))
+
+-- an index whose coordinate is another, and then the old one again
+set_back : (i : List ℕ) (a k : ℕ) → a < length i → k ≤ get_or i a 0 → upper_index a k (set i a (get_or i a 0 - k)) ≡ i
+set_back i a k on within =
+    let c = get_or i a 0 in
+    ap (λ d. set (set i a (c - k)) a (d + k)) (get_or-set_same i a (c - k) 0 on)
+    ∙ (set-set i a (c - k) (c - k + k)
+    ∙ (ap (set i a) (omega (arith, within)) ∙ set-get_or i a 0))
+
+module _ {A : Type 0} (m : Meaning A) (a k : ℕ) (on : a < length m.shape) (within : k ≤ get_or m.shape a 0) where
+  either_part : (i : List ℕ) → in_box m.shape i ≡ true →
+      cond (ltb (get_or i a 0) (get_or (lower_shape m.shape a k) a 0)) ((lower_of a k m).at i) ((upper_of a k m).at (set i a (get_or i a 0 - get_or (lower_shape m.shape a k) a 0))) ≡ m.at i
+  either_part i h =
+      let c = get_or i a 0 in
+      let n = get_or m.shape a 0 in
+      let here = get_or-set_same m.shape a k 0 on in
+      let below = coordinate_below m.shape i a h on in
+      let wide : a < length i = omega (arith, length-in_box m.shape i h, on) in
+      ap (λ q. cond (ltb c q) (inside (set m.shape a k) i (m.at i)) (inside (set m.shape a (n - k)) (set i a (c - q)) (m.at (upper_index a k (set i a (c - q)))))) here
+      ∙ ⊎_elim
+      (λ (low : c < k).
+      ap (λ b. cond b (inside (set m.shape a k) i (m.at i)) (inside (set m.shape a (n - k)) (set i a (c - k)) (m.at (upper_index a k (set i a (c - k)))))) (lt-ltb c k low)
+      ∙ inside_box (set m.shape a k) i (m.at i) (subst (λ j. in_box (set m.shape a k) j ≡ true) (set-get_or i a 0) (in_box-set m.shape i a k c h low)))
+      (λ (high : k ≤ c).
+      ap (λ b. cond b (inside (set m.shape a k) i (m.at i)) (inside (set m.shape a (n - k)) (set i a (c - k)) (m.at (upper_index a k (set i a (c - k)))))) (le-ltb c k high)
+      ∙ (inside_box (set m.shape a (n - k)) (set i a (c - k)) (m.at (upper_index a k (set i a (c - k)))) (in_box-set m.shape i a (n - k) (c - k) h (omega (arith, below, high)))
+      ∙ ap m.at (set_back i a k wide high)))
+      (cases_lt c k)
+
+  pub split_and_joined_at : NothingOutside m → joined a (lower_of a k m) (upper_of a k m) ≡ m
+  split_and_joined_at nothing =
+      let shape = parts_shape m.shape a k on within in
+      same_meaning m (joined a (lower_of a k m) (upper_of a k m)).shape (joined a (lower_of a k m) (upper_of a k m)).at shape
+      (λ i.
+      let x = cond (ltb (get_or i a 0) (get_or (lower_shape m.shape a k) a 0)) ((lower_of a k m).at i) ((upper_of a k m).at (set i a (get_or i a 0 - get_or (lower_shape m.shape a k) a 0))) in
+      ap (λ l. inside l i x) shape ∙ (inside_here m.shape i x (m.at i) (either_part i) ∙ inside_kept m.shape i (m.at i) (nothing i)))
+
+pub split_and_joined : {A : Type 0} → SplitAndJoined A
+split_and_joined m a k nothing on within = split_and_joined_at m a k on within nothing

@@ -1,0 +1,33 @@
+-- An array's elements as a list, the parts of a split, and one array behind another along an axis.
+use Rattle.std.specs.Prelude.{◌≡◌, ◌+◌, ◌-◌, ◌<◌, ◌≤◌, nat_lt, ℕ, List, length, slice_index, slice_set, if◌then◌else◌}
+use Rattle.std.specs.List.{filter_map}
+use Rattle.nd_shape_and_slice.specs.Shape.{indexes_of}
+use Rattle.nd_shape_and_slice.specs.Maps.{lower_shape, upper_shape, upper_index}
+use Rattle.nd_array_core.specs.Meaning.{Meaning, inside, meaning_through}
+use Rattle.nd_array_core.specs.Laws.{NothingOutside}
+
+-- the elements in row-major order
+abbrev pub elements_of : {A : Type 0} → Meaning A → List A
+elements_of m = filter_map m.at (indexes_of m.shape)
+
+-- the coordinates of an axis below k, and those from k on
+abbrev pub lower_of : {A : Type 0} → ℕ → ℕ → Meaning A → Meaning A
+lower_of a k m = meaning_through (lower_shape m.shape a k) (λ i. i) m
+
+abbrev pub upper_of : {A : Type 0} → ℕ → ℕ → Meaning A → Meaning A
+upper_of a k m = meaning_through (upper_shape m.shape a k) (upper_index a k) m
+
+-- the first array's lengths, but that the axis is as long as in both
+abbrev pub joined_shape : List ℕ → List ℕ → ℕ → List ℕ
+joined_shape ns ms a = slice_set ns a (slice_index ns a + slice_index ms a)
+
+-- one array behind another along an axis
+abbrev pub joined : {A : Type 0} → ℕ → Meaning A → Meaning A → Meaning A
+joined a m n = record {
+  shape = joined_shape m.shape n.shape a;
+  at = λ i. inside (joined_shape m.shape n.shape a) i (if nat_lt (slice_index i a) (slice_index m.shape a) then m.at i else n.at (slice_set i a (slice_index i a - slice_index m.shape a)));
+}
+
+-- the parts of a split, one behind the other, are the array
+abbrev pub SplitAndJoined : Type 0 → Type 0
+SplitAndJoined A = (m : Meaning A) (a k : ℕ) → NothingOutside m → a < length m.shape → k ≤ slice_index m.shape a → joined a (lower_of a k m) (upper_of a k m) ≡ m
