@@ -12,7 +12,7 @@ use Rattle.nd_layout.specs.GivenStrides.{given_place, ordered_strides}
 use Rattle.nd_layout.proofs.steps.Ranked.{ordered_is_ranked, ranked_place}
 use Rattle.nd_array_core.specs.Places.{names_place, HoldsAll}
 use Rattle.nd_array_core.specs.Meaning.{inside}
-use Rattle.nd_array_core.specs.scoped.Tasks.{Placement}
+use Rattle.nd_layout.specs.Placements.{Placement}
 use Rattle.nd_array_core.specs.base.Given.{first_places, IsLaidOut}
 use Rattle.nd_array_core.proofs.GivenHolds.{given_holds}
 use Rattle.nd_array_core.proofs.Ranked.{ranked_holds}
@@ -23,7 +23,7 @@ something_if b = if b then Some tt else None
 first_held : (n p : ℕ) → p < n → IsSome (first_places n p)
 first_held n p below = rw (lt-ltb p n below) refl
 
-pub order_laid : (order : Order) (ns : List ℕ) (count : ℕ) → HasCheckedSize ns → size_of ns ≤ count → IsLaidOut ns order None true count (0, ns, ordered_strides order ns)
+pub order_laid : (order : Order) (ns : List ℕ) (count : ℕ) → HasCheckedSize ns → size_of ns ≤ count → IsLaidOut ns order None true count (record { offset = 0; lengths = ns; strides = ordered_strides order ns })
 order_laid order ns count checked enough =
     let ranked = ordered_is_ranked order ns checked in
     record {
@@ -36,7 +36,7 @@ order_laid order ns count checked enough =
     }
 
 pub strides_laid : (offset : ℕ) (ns : List ℕ) (ss : List ℤ) (alone : Bool) (count : ℕ) → offset ≡ reach_down ns ss → elements_asked ns ss ≤ count
-    → (alone ≡ true → 0 < size_of ns → IsSeparated ns ss) → (order : Order) → IsLaidOut ns order (Some ss) alone count (offset, ns, ss)
+    → (alone ≡ true → 0 < size_of ns → IsSeparated ns ss) → (order : Order) → IsLaidOut ns order (Some ss) alone count (record { offset = offset; lengths = ns; strides = ss })
 strides_laid offset ns ss alone count from enough apart order = record {
   offset_is = from;
   lengths_are = refl;
@@ -56,14 +56,14 @@ module _ {A : Type 0} (stored : ℕ → Option A) (count : ℕ) (has : (p : ℕ)
   held (negsuc n) some = some
 
   -- what has so many elements has one at the place of each index
-  pub laid_holds : (l : Placement) → HoldsAll (first_places count) l.0 l.1 l.2 → HoldsAll stored l.0 l.1 l.2
-  laid_holds l holds i h = held (place_of l.0 l.2 i) (holds i h)
+  pub laid_holds : (l : Placement) → HoldsAll (first_places count) l.offset l.lengths l.strides → HoldsAll stored l.offset l.lengths l.strides
+  laid_holds l holds i h = held (place_of l.offset l.strides i) (holds i h)
 
 -- what lies at an index's place lies where the caller's shape says
 pub laid_at : {lengths : List ℕ} {order : Order} {strides : Option (List ℤ)} {alone : Bool} {count : ℕ} {l : Placement} → IsLaidOut lengths order strides alone count l
-    → {X : Type 0} (f : ℤ → Option X) (i : List ℕ) → inside l.1 i (f (place_of l.0 l.2 i)) ≡ inside lengths i (f (given_place lengths order strides i))
-laid_at {lengths} {order} {strides} {l = l} laid f i = ap (λ ns. inside ns i (f (place_of l.0 l.2 i))) laid.lengths_are ∙ at (in_box lengths i) refl
+    → {X : Type 0} (f : ℤ → Option X) (i : List ℕ) → inside l.lengths i (f (place_of l.offset l.strides i)) ≡ inside lengths i (f (given_place lengths order strides i))
+laid_at {lengths} {order} {strides} {l = l} laid f i = ap (λ ns. inside ns i (f (place_of l.offset l.strides i))) laid.lengths_are ∙ at (in_box lengths i) refl
   where
-    at : (b : Bool) → in_box lengths i ≡ b → inside lengths i (f (place_of l.0 l.2 i)) ≡ inside lengths i (f (given_place lengths order strides i))
+    at : (b : Bool) → in_box lengths i ≡ b → inside lengths i (f (place_of l.offset l.strides i)) ≡ inside lengths i (f (given_place lengths order strides i))
     at true h = ap (λ z. inside lengths i (f z)) (laid.places i h)
     at false h = rw h refl

@@ -16,7 +16,8 @@ use Rattle.nd_array_core.specs.Places.{stored_at, place_number}
 use Rattle.nd_array_core.specs.PlacedArray.{PlacedArray, found_at}
 use Rattle.nd_array_core.specs.Meaning.{inside, meaning_of, memory_layout_of, element_at, place_at}
 use Rattle.nd_array_core.specs.scoped.Scoped.{with_named}
-use Rattle.nd_array_core.specs.scoped.Tasks.{array_placed_at, placement_of, LiesBy, IsWithin, IsNamedMap, AgreesOnNamed, IsViewThrough, OthersKeep, OthersKeepTwo, IsDoneOnPlacement, IsDoneOnPair, KeepsUnnamed, KeepsUnnamedByTwo}
+use Rattle.nd_array_core.specs.scoped.Tasks.{array_placed_at, LiesBy, IsWithin, IsNamedMap, AgreesOnNamed, IsViewThrough, OthersKeep, OthersKeepTwo, IsDoneOnPlacement, IsDoneOnPair, KeepsUnnamed, KeepsUnnamedByTwo}
+use Rattle.nd_layout.specs.Placements.{placement_of}
 use Rattle.nd_array_core.specs.base.Writes.{OthersStay}
 use Rattle.nd_array_core.proofs.StepLemmas.{step_holds}
 use Rattle.nd_array_core.proofs.WriteStep.{one_index}
@@ -66,10 +67,10 @@ module _ {S D T A P R L M : Type 0} {s : data_trait.Ghosts S A} {d : dimension.G
 
   -- ---- a part by a layout step
   module _ {offset' : ℕ} {ns' : List ℕ} {ss' : List ℤ} {source : List ℕ → List ℕ} (step : IsStep a.layout.offset (d.lengths a.layout.dim) (t.strides_of a.layout.strides) offset' ns' ss' source) where
-    pub part_within : IsWithin (offset', ns', ss') (placement_of a.layout)
+    pub part_within : IsWithin (record { offset = offset'; lengths = ns'; strides = ss' }) (placement_of a.layout)
     part_within p e = let j = named_by offset' ns' ss' p e in named_at a.layout.offset (d.lengths a.layout.dim) (t.strides_of a.layout.strides) p (source j.0) (step.within j.0 j.1) (sym (step.same j.0 j.1) ∙ j.2)
 
-    pub part_lies : s.exclusive ≡ true → LiesBy (s.stored a.storage) (offset', ns', ss')
+    pub part_lies : s.exclusive ≡ true → LiesBy (s.stored a.storage) (record { offset = offset'; lengths = ns'; strides = ss' })
     part_lies alone =
         let whole = array_lies alone in
         record { valid = step_valid step whole.valid; holds = step_holds (s.stored a.storage) step whole.holds; separated = λ some. step.separated (whole.separated (step_some step some)) }
@@ -108,7 +109,7 @@ module _ {S D T A P R L M : Type 0} {s : data_trait.Ghosts S A} {d : dimension.G
         by_test true is = absurd (let there = part_within p is in cc)
         by_test false none = none
 
-    pub part_stays : (new : S) → KeepsUnnamed (s.stored a.storage) (s.stored new) (offset', ns', ss') → OthersStay (place_at a) (s.stored a.storage) (s.stored new)
+    pub part_stays : (new : S) → KeepsUnnamed (s.stored a.storage) (s.stored new) (record { offset = offset'; lengths = ns'; strides = ss' }) → OthersStay (place_at a) (s.stored a.storage) (s.stored new)
     part_stays new keeps = others_stay new (λ p e. keeps p (not_within p e))
 
     module _ {shape : List ℕ} (shaped : ns' ≡ shape) where
@@ -121,11 +122,11 @@ module _ {S D T A P R L M : Type 0} {s : data_trait.Ghosts S A} {d : dimension.G
           by_test false none = none
 
       -- each index that the part names none of keeps its element
-      pub part_kept : s.exclusive ≡ true → (new : S) → KeepsUnnamed (s.stored a.storage) (s.stored new) (offset', ns', ss') → OthersKeep shape source (element_in a.storage) (element_in new)
+      pub part_kept : s.exclusive ≡ true → (new : S) → KeepsUnnamed (s.stored a.storage) (s.stored new) (record { offset = offset'; lengths = ns'; strides = ss' }) → OthersKeep shape source (element_in a.storage) (element_in new)
       part_kept alone new keeps i none = element_kept new i (box i) refl (λ p h e. keeps p (not_named alone p i h e none))
 
       -- the task is done on the part
-      pub part_done : {done : PlacedArray A → PlacedArray A → Type 0} (new : S) → IsDoneOnPlacement done (s.stored a.storage) (s.stored new) (offset', ns', ss')
+      pub part_done : {done : PlacedArray A → PlacedArray A → Type 0} (new : S) → IsDoneOnPlacement done (s.stored a.storage) (s.stored new) (record { offset = offset'; lengths = ns'; strides = ss' })
           → (v : PlacedArray A) × (w : PlacedArray A) × IsViewThrough shape source (place_at a) (element_at a) v × IsViewThrough shape source (place_at a) (element_in new) w × done v w
       part_done new did = (
         array_placed_at did.0 offset' ns' ss',
@@ -138,10 +139,10 @@ module _ {S D T A P R L M : Type 0} {s : data_trait.Ghosts S A} {d : dimension.G
   -- ---- two parts
   module _ {f1 : ℕ} {n1 : List ℕ} {s1 : List ℤ} {g1 : List ℕ → List ℕ} {f2 : ℕ} {n2 : List ℕ} {s2 : List ℤ} {g2 : List ℕ → List ℕ} {shape1 shape2 : List ℕ}
       (one : IsStep a.layout.offset (d.lengths a.layout.dim) (t.strides_of a.layout.strides) f1 n1 s1 g1) (two : IsStep a.layout.offset (d.lengths a.layout.dim) (t.strides_of a.layout.strides) f2 n2 s2 g2) (shaped1 : n1 ≡ shape1) (shaped2 : n2 ≡ shape2) where
-    pub parts_kept : s.exclusive ≡ true → (new : S) → KeepsUnnamedByTwo (s.stored a.storage) (s.stored new) (f1, n1, s1) (f2, n2, s2) → OthersKeepTwo shape1 g1 shape2 g2 (element_in a.storage) (element_in new)
+    pub parts_kept : s.exclusive ≡ true → (new : S) → KeepsUnnamedByTwo (s.stored a.storage) (s.stored new) (record { offset = f1; lengths = n1; strides = s1 }) (record { offset = f2; lengths = n2; strides = s2 }) → OthersKeepTwo shape1 g1 shape2 g2 (element_in a.storage) (element_in new)
     parts_kept alone new keeps i none none' = element_kept new i (box i) refl (λ p h e. keeps p (not_named one shaped1 alone p i h e none) (not_named two shaped2 alone p i h e none'))
 
-    pub parts_done : {done : PlacedArray A → PlacedArray A → PlacedArray A → PlacedArray A → Type 0} (new : S) → IsDoneOnPair done (s.stored a.storage) (s.stored new) (f1, n1, s1) (f2, n2, s2)
+    pub parts_done : {done : PlacedArray A → PlacedArray A → PlacedArray A → PlacedArray A → Type 0} (new : S) → IsDoneOnPair done (s.stored a.storage) (s.stored new) (record { offset = f1; lengths = n1; strides = s1 }) (record { offset = f2; lengths = n2; strides = s2 })
         → (v0 : PlacedArray A) × (v1 : PlacedArray A) × (w0 : PlacedArray A) × (w1 : PlacedArray A) × IsViewThrough shape1 g1 (place_at a) (element_at a) v0 × IsViewThrough shape2 g2 (place_at a) (element_at a) v1 × done v0 v1 w0 w1
         × IsViewThrough shape1 g1 (place_at a) (element_in new) w0 × IsViewThrough shape2 g2 (place_at a) (element_in new) w1
     parts_done new did = (

@@ -10,7 +10,8 @@ use Rattle.nd_array_core.specs.PlacedArray.{PlacedArray}
 use Rattle.nd_array_core.specs.Meaning.{inside}
 use Rattle.nd_array_core.specs.base.Given.{IsLaidOut}
 use Rattle.nd_array_core.specs.base.Writes.{OthersStay}
-use Rattle.nd_array_core.specs.scoped.Tasks.{Placement, LiesBy, IsViewOf}
+use Rattle.nd_array_core.specs.scoped.Tasks.{LiesBy, IsViewOf}
+use Rattle.nd_layout.specs.Placements.{Placement}
 use Rattle.nd_array_core.specs.scoped.Sources.{GivenShape, place_in_slice, IsViewOfSlice}
 use Rattle.nd_array_core.proofs.LaidOut.{laid_holds, laid_at}
 
@@ -24,7 +25,7 @@ slice_has {A} xs p below = first (slice_get_cases xs p)
 
 module _ {A : Type 0} (xs : List A) (given : GivenShape) (l : Placement) (laid : IsLaidOut given.0 given.1 given.2 true (length xs) l) where
   -- the slice has an element for each index, and no two share one
-  pub slice_sound : IsValid l.0 l.1 l.2 → LiesBy (slice_get xs) l
+  pub slice_sound : IsValid l.offset l.lengths l.strides → LiesBy (slice_get xs) l
   slice_sound valid = record {
     valid = valid;
     holds = laid_holds (slice_get xs) (length xs) (slice_has xs) l laid.holds;
@@ -32,12 +33,12 @@ module _ {A : Type 0} (xs : List A) (given : GivenShape) (l : Placement) (laid :
   }
 
   -- what is seen by the layout is what the shape says, of this slice and of it with other elements
-  pub seen_in_slice : (ys : List A) (v : PlacedArray A) → IsViewOf l.1 (λ i. inside l.1 i (place_number (place_of l.0 l.2 i))) (λ i. inside l.1 i (stored_at (slice_get ys) (place_of l.0 l.2 i))) v → IsViewOfSlice ys given v
+  pub seen_in_slice : (ys : List A) (v : PlacedArray A) → IsViewOf l.lengths (λ i. inside l.lengths i (place_number (place_of l.offset l.strides i))) (λ i. inside l.lengths i (stored_at (slice_get ys) (place_of l.offset l.strides i))) v → IsViewOfSlice ys given v
   seen_in_slice ys v view = record {
     same_shape = view.same_shape ∙ laid.lengths_are;
     same_place = λ i. view.same_place i ∙ laid_at laid place_number i;
     same_element = λ i. view.same_element i ∙ laid_at laid (stored_at (slice_get ys)) i;
   }
 
-  pub unseen_kept : (old new : ℕ → Option A) → OthersStay (λ i. inside l.1 i (place_number (place_of l.0 l.2 i))) old new → OthersStay (place_in_slice given) old new
+  pub unseen_kept : (old new : ℕ → Option A) → OthersStay (λ i. inside l.lengths i (place_number (place_of l.offset l.strides i))) old new → OthersStay (place_in_slice given) old new
   unseen_kept old new others p none = others p (λ i e. none i (sym (laid_at laid place_number i) ∙ e))

@@ -5,7 +5,7 @@ use Rattle.nd_shape_and_slice.specs.Place.{place_of, IsSeparated}
 use Rattle.nd_shape_and_slice.specs.declared.builder.Order.{Order}
 use Rattle.nd_layout.specs.GivenStrides.{given_place, given_strides, offset_given}
 use Rattle.nd_array_core.specs.Places.{HoldsAll}
-use Rattle.nd_array_core.specs.scoped.Tasks.{Placement}
+use Rattle.nd_layout.specs.Placements.{Placement}
 use Rattle.nd_shape_and_slice.specs.declared.errors.ErrorKind.{ErrorKind}
 use Rattle.nd_layout.specs.Refusals.{vec_refusal, slice_refusal, slice_mut_refusal}
 use Rattle.nd_array_core.specs.declared.base.constructors.GivenIn.{GivenIn}
@@ -30,9 +30,9 @@ first_places n p = if nat_lt p n then Some tt else None
 -- so many elements lie by the layout as a shape, an order and strides of the caller's say: each index of the box at the
 -- place that they give it, which is below the count; and no two at one place, where that is asked
 pub record IsLaidOut (lengths : List ℕ) (order : Order) (strides : Option (List ℤ)) (alone : Bool) (count : ℕ) (layout : Placement) : Type 0 where
-  pub offset_is : layout.0 ≡ offset_given lengths strides
-  pub lengths_are : layout.1 ≡ lengths
-  pub strides_are : layout.2 ≡ given_strides lengths order strides
-  pub places : (i : List ℕ) → in_box lengths i ≡ true → place_of layout.0 layout.2 i ≡ given_place lengths order strides i
-  pub holds : HoldsAll (first_places count) layout.0 layout.1 layout.2
-  pub separated : alone ≡ true → 0 < size_of lengths → IsSeparated layout.1 layout.2
+  pub offset_is : layout.offset ≡ offset_given lengths strides
+  pub lengths_are : layout.lengths ≡ lengths
+  pub strides_are : layout.strides ≡ given_strides lengths order strides
+  pub places : (i : List ℕ) → in_box lengths i ≡ true → place_of layout.offset layout.strides i ≡ given_place lengths order strides i
+  pub holds : HoldsAll (first_places count) layout.offset layout.lengths layout.strides
+  pub separated : alone ≡ true → 0 < size_of lengths → IsSeparated layout.lengths layout.strides

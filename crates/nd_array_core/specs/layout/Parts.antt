@@ -2,6 +2,7 @@
 use Rattle.std.specs.Prelude.{◌≡◌, ◌<◌, ℕ, List, ℤ, Option}
 use Rattle.nd_shape_and_slice.specs.Shape.{size_of}
 use Rattle.nd_shape_and_slice.specs.Place.{place_of, IsSeparated}
+use Rattle.nd_layout.specs.Placements.{Placement}
 use Rattle.nd_array_core.specs.Meaning.{inside}
 use Rattle.nd_array_core.specs.Places.{HoldsAll, stored_at, place_number}
 
@@ -16,3 +17,7 @@ pub record IsViewUnder {A : Type 0} (stored : ℕ → Option A) (offset : ℕ) (
   pub strides_are : shape_strides ≡ strides
   pub elements : (i : List ℕ) → at i ≡ inside lengths i (stored_at stored (place_of offset strides i))
   pub places : (i : List ℕ) → place i ≡ inside lengths i (place_number (place_of offset strides i))
+
+-- the same of what lies by a placement
+abbrev pub IsViewBy : {A : Type 0} → (ℕ → Option A) → Placement → List ℕ → List ℤ → (List ℕ → Option A) → (List ℕ → Option ℕ) → Type 0
+IsViewBy stored l shape shape_strides at place = IsViewUnder stored l.offset l.lengths l.strides shape shape_strides at place

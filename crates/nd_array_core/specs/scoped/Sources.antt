@@ -10,7 +10,8 @@ use Rattle.nd_array_core.specs.Places.{place_number, stored_at}
 use Rattle.nd_array_core.specs.PlacedArray.{PlacedArray}
 use Rattle.nd_array_core.specs.Meaning.{inside}
 use Rattle.nd_array_core.specs.base.Writes.{OthersStay}
-use Rattle.nd_array_core.specs.scoped.Tasks.{Placement, IsViewOf, IsDoneOnPlacement}
+use Rattle.nd_array_core.specs.scoped.Tasks.{IsViewOf, IsDoneOnPlacement}
+use Rattle.nd_layout.specs.Placements.{Placement}
 
 -- what a caller gives as a shape: lengths, an order, and strides where there are any
 abbrev pub GivenShape : Type 0

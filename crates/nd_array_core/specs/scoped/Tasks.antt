@@ -6,17 +6,14 @@ use Rattle.nd_shape_and_slice.specs.Place.{place_of, IsSeparated}
 use Rattle.nd_region.specs.Places.{names, LayoutsShareNoPlace}
 use Rattle.nd_region.specs.Region.{region_stored, borrow_of}
 use Rattle.nd_region.specs.declared.region.Region.{Region}
-use Rattle.nd_shape_and_slice.specs.declared.dimension.Dimension as dimension
-use Rattle.nd_shape_and_slice.specs.declared.dimension.AxisCount as axis_count
-use Rattle.nd_shape_and_slice.specs.declared.dimension.StrideList as stride_list
 use Rattle.nd_array_core.specs.declared.base.storage.RegionRepr.{RegionRepr}
-use Rattle.nd_layout.specs.declared.layout.Layout.{Layout}
 use Rattle.nd_array_core.specs.declared.scoped.tasks.LentView.{LentView}
 use Rattle.nd_array_core.specs.Places.{place_number, HoldsAll}
 use Rattle.nd_array_core.specs.PlacedArray.{PlacedArray, element_placed}
 use Rattle.nd_array_core.specs.Meaning.{inside}
 use Rattle.nd_array_core.specs.scoped.Scoped.{named_part, with_named}
 use Rattle.nd_layout.specs.Steps.{IsValid}
+use Rattle.nd_layout.specs.Placements.{Placement}
 
 -- how a layout lies in a storage
 abbrev pub array_placed_at : {A : Type 0} → (ℕ → Option A) → ℕ → List ℕ → List ℤ → PlacedArray A
@@ -74,47 +71,41 @@ OthersKeepTwo shape source shape' source' old new = (i : List ℕ) → ((j : Lis
 abbrev pub AgreesOnNamed : {A : Type 0} → (ℕ → Option A) → ℕ → List ℕ → List ℤ → (ℕ → Option A) → Type 0
 AgreesOnNamed old offset lengths strides part = (p : ℕ) → names offset lengths strides p ≡ true → part p ≡ old p
 
--- ---- how elements lie, in words: the offset, the lengths and the strides
-abbrev pub Placement : Type 0
-Placement = ℕ × List ℕ × List ℤ
-
-abbrev pub placement_of : {D T P R L M : Type 0} {d : dimension.Ghosts D P R L M} {n : axis_count.Ghosts D} {r : stride_list.Ghosts R} {t : stride_list.Ghosts T} → Layout D T P R L M d n r t → Placement
-placement_of {d = d} {t = t} l = (l.offset, d.lengths l.dim, t.strides_of l.strides)
-
+-- ---- by a placement: an offset, lengths and strides
 module _ {A : Type 0} where
   -- an array may lie so in what is stored
   abbrev pub LiesBy : (ℕ → Option A) → Placement → Type 0
-  LiesBy region_stored l = LiesSoundly region_stored l.0 l.1 l.2
+  LiesBy region_stored l = LiesSoundly region_stored l.offset l.lengths l.strides
 
   -- the array that lies so
   abbrev pub array_placed_by : (ℕ → Option A) → Placement → PlacedArray A
-  array_placed_by region_stored l = array_placed_at region_stored l.0 l.1 l.2
+  array_placed_by region_stored l = array_placed_at region_stored l.offset l.lengths l.strides
 
   -- each index has a place that holds something
   abbrev pub HoldsBy : (ℕ → Option A) → Placement → Type 0
-  HoldsBy region_stored l = HoldsAll region_stored l.0 l.1 l.2
+  HoldsBy region_stored l = HoldsAll region_stored l.offset l.lengths l.strides
 
   -- what a task asks holds of a view of these elements
   abbrev pub AsksOfPlacement : (PlacedArray A → Type 0) → (ℕ → Option A) → Placement → Type 0
-  AsksOfPlacement asks region_stored l = (m : ℕ → Option A) → IsNamedMap region_stored l.0 l.1 l.2 m → asks (array_placed_by m l)
+  AsksOfPlacement asks region_stored l = (m : ℕ → Option A) → IsNamedMap region_stored l.offset l.lengths l.strides m → asks (array_placed_by m l)
 
   -- it is done with a view of these elements, and they are now what it left
   abbrev pub IsDoneOnPlacement : (PlacedArray A → PlacedArray A → Type 0) → (ℕ → Option A) → (ℕ → Option A) → Placement → Type 0
   IsDoneOnPlacement done old new l =
       (m : ℕ → Option A)
       × (n : ℕ → Option A)
-      × IsNamedMap old l.0 l.1 l.2 m
+      × IsNamedMap old l.offset l.lengths l.strides m
       × done (array_placed_by m l) (array_placed_by n l)
-      × ((p : ℕ) → new p ≡ with_named old l.0 l.1 l.2 n p)
+      × ((p : ℕ) → new p ≡ with_named old l.offset l.lengths l.strides n p)
 
   -- each place that the layout doesn't name holds what it held
   abbrev pub KeepsUnnamed : (ℕ → Option A) → (ℕ → Option A) → Placement → Type 0
-  KeepsUnnamed old new l = (p : ℕ) → names l.0 l.1 l.2 p ≡ false → new p ≡ old p
+  KeepsUnnamed old new l = (p : ℕ) → names l.offset l.lengths l.strides p ≡ false → new p ≡ old p
 
   -- what is asked of two views by layouts that share no place, of whatever holds these elements
   abbrev pub AsksOfPair : (PlacedArray A → PlacedArray A → Type 0) → (ℕ → Option A) → Placement → Placement → Type 0
   AsksOfPair asks stored one two =
-      (m n : ℕ → Option A) → AgreesOnNamed stored one.0 one.1 one.2 m → AgreesOnNamed stored two.0 two.1 two.2 n → asks (array_placed_by m one) (array_placed_by n two)
+      (m n : ℕ → Option A) → AgreesOnNamed stored one.offset one.lengths one.strides m → AgreesOnNamed stored two.offset two.lengths two.strides n → asks (array_placed_by m one) (array_placed_by n two)
 
   -- it is done with views of these elements, and the new elements are what it left in them
   abbrev pub IsDoneOnPair : (PlacedArray A → PlacedArray A → PlacedArray A → PlacedArray A → Type 0) → (ℕ → Option A) → (ℕ → Option A) → Placement → Placement → Type 0
@@ -123,21 +114,21 @@ module _ {A : Type 0} where
       × (n : ℕ → Option A)
       × (s : ℕ → Option A)
       × (t : ℕ → Option A)
-      × AgreesOnNamed old one.0 one.1 one.2 m
-      × AgreesOnNamed old two.0 two.1 two.2 n
+      × AgreesOnNamed old one.offset one.lengths one.strides m
+      × AgreesOnNamed old two.offset two.lengths two.strides n
       × done (array_placed_by m one) (array_placed_by n two) (array_placed_by s one) (array_placed_by t two)
-      × AgreesOnNamed new one.0 one.1 one.2 s
-      × AgreesOnNamed new two.0 two.1 two.2 t
+      × AgreesOnNamed new one.offset one.lengths one.strides s
+      × AgreesOnNamed new two.offset two.lengths two.strides t
 
   -- each place that neither layout names holds what it held
   abbrev pub KeepsUnnamedByTwo : (ℕ → Option A) → (ℕ → Option A) → Placement → Placement → Type 0
   KeepsUnnamedByTwo old new one two =
-      (p : ℕ) → names one.0 one.1 one.2 p ≡ false → names two.0 two.1 two.2 p ≡ false → new p ≡ old p
+      (p : ℕ) → names one.offset one.lengths one.strides p ≡ false → names two.offset two.lengths two.strides p ≡ false → new p ≡ old p
 
 -- two layouts name no place in common
 abbrev pub AreApart : Placement → Placement → Type 0
-AreApart one two = LayoutsShareNoPlace one.0 one.1 one.2 two.0 two.1 two.2
+AreApart one two = LayoutsShareNoPlace one.offset one.lengths one.strides two.offset two.lengths two.strides
 
 -- the whole names each place that the part does
 abbrev pub IsWithin : Placement → Placement → Type 0
-IsWithin part whole = (p : ℕ) → names part.0 part.1 part.2 p ≡ true → names whole.0 whole.1 whole.2 p ≡ true
+IsWithin part whole = (p : ℕ) → names part.offset part.lengths part.strides p ≡ true → names whole.offset whole.lengths whole.strides p ≡ true

@@ -12,7 +12,7 @@ ghost use Rattle.nd_array_core.specs.Meaning.{shape_of, element_at, storage_of, 
 ghost use Rattle.nd_array_core.specs.Places.{stored_at};
 ghost use Rattle.nd_array_core.specs.base.Storages.{stored_list, room_of};
 ghost use Rattle.nd_array_core.specs.base.Given.{refusal_in, is_apart_in, IsLaidOut};
-ghost use Rattle.nd_array_core.specs.scoped.Tasks.{placement_of};
+ghost use Rattle.nd_layout.specs.Placements.{placement_of};
 ghost use Rattle.nd_shape_and_slice.specs.declared.builder.Order.{Order};
 ghost use Rattle.nd_layout.specs.Steps.{IsValid};
 

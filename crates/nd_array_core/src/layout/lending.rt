@@ -2,14 +2,14 @@
 //! shorter time.
 #![tactic(auto, unfolding(crate::specs::Meaning::meaning_of, crate::specs::Meaning::memory_layout_of))]
 
-ghost use Rattle.std.specs.Prelude.{◌≡◌, ◌<◌, ℕ, length, List};
+ghost use Rattle.std.specs.Prelude.{◌≡◌, ℕ, length, List};
 ghost use Rattle.std.specs.Borrow.{sem};
-ghost use Rattle.nd_shape_and_slice.specs.Shape.{size_of};
-ghost use Rattle.nd_shape_and_slice.specs.Place.{IsSeparated};
 ghost use Rattle.nd_region.specs.Places.{names};
 ghost use Rattle.nd_region.specs.Region.{region_stored};
 ghost use Rattle.nd_array_core.specs.Places.{HoldsAll, kept_at};
-ghost use Rattle.nd_array_core.specs.layout.Parts.{IsViewUnder};
+ghost use Rattle.nd_array_core.specs.layout.Parts.{IsViewBy};
+ghost use Rattle.nd_array_core.specs.scoped.Tasks.{HoldsBy};
+ghost use Rattle.nd_layout.specs.Placements.{placement_of, KeepsApart};
 ghost use Rattle.nd_array_core.specs.Meaning.{shape_of, element_at, place_at, layout_strides, layout_offset};
 ghost use Rattle.nd_array_core.specs.Part.{ShowsWhole, BecomesWhole};
 
@@ -41,10 +41,10 @@ impl<S: DataMut, D: Dimension> ArrayBase<S, D> {
         &mut self,
         layout: Layout<E, E::Strides>,
     ) -> ArrayViewMut<'_, S::Elem, E>
-        requires holds { HoldsAll (S.stored self.old.storage) layout.offset (E.lengths layout.dim) (E.Strides.strides_of layout.strides) }
-        requires separated { 0 < size_of (E.lengths layout.dim) → IsSeparated (E.lengths layout.dim) (E.Strides.strides_of layout.strides) }
+        requires holds { HoldsBy (S.stored self.old.storage) (placement_of layout) }
+        requires separated { KeepsApart (placement_of layout) }
         ensures* writes_back { sem 𝓛 (array_follows_part S.row S.Elem.row D.row D.Pattern.row D.Strides.row D.Smaller.row D.Larger.row S.Data D.Dimension D.AxisCount D.Strides.StrideList self.entry (tie_of result) (lent_places result)) }
-        ensures seen { IsViewUnder (S.stored self.old.storage) layout.offset (E.lengths layout.dim) (E.Strides.strides_of layout.strides) (shape_of result) (layout_strides result) (element_at result) (place_at result) }
+        ensures seen { IsViewBy (S.stored self.old.storage) (placement_of layout) (shape_of result) (layout_strides result) (element_at result) (place_at result) }
         ensures offset { layout_offset result ≡ layout.offset }
         ensures refilled { (ws : List S.Elem) → IsRefilled S.frame self.old (array_with_part S.refilled S.items self.old (lent_places result) ws) }
         ensures others { (ws : List S.Elem) → KeepsPlacesBut (place_at result) self.old (array_with_part S.refilled S.items self.old (lent_places result) ws) }

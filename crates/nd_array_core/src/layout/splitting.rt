@@ -4,13 +4,12 @@
 
 ghost use Rattle.std.specs.Prelude.{◌≡◌, ◌<◌, ◌≤◌, ℕ, length, slice_index};
 ghost use Rattle.nd_shape_and_slice.specs.Maps.{lower_shape, upper_shape, upper_index};
-ghost use Rattle.nd_shape_and_slice.specs.Place.{IsSeparated};
-ghost use Rattle.nd_shape_and_slice.specs.Shape.{size_of};
-ghost use Rattle.nd_region.specs.Places.{names_not, LayoutsShareNoPlace};
+ghost use Rattle.nd_region.specs.Places.{names_not};
 ghost use Rattle.nd_region.specs.Region.{region_stored};
-ghost use Rattle.nd_layout.specs.Steps.{IsStep};
+ghost use Rattle.nd_layout.specs.Placements.{placement_of, IsStepOf, KeepsApart};
 ghost use Rattle.nd_array_core.specs.Meaning.{shape_of, element_at, place_at, layout_strides};
 ghost use Rattle.nd_array_core.specs.layout.MultiSlice.{TwoFit, ThreeFit, FourFit, ThreeShareNoPlace, FourShareNoPlace, FitsEach, TakenOf};
+ghost use Rattle.nd_array_core.specs.scoped.Tasks.{AreApart};
 ghost use Rattle.nd_array_core.specs.layout.Parts.{HoldsEachOnce, IsViewUnder};
 ghost use Rattle.nd_array_core.specs.Places.{kept_at, ShareNoPlace};
 ghost use Rattle.nd_array_core.specs.Part.{lower_part, upper_part, sliced_part, ShowsPart, ShowsWhole};
@@ -53,14 +52,14 @@ pub(crate) fn halves<D: Dimension, T: StrideList>(
 ) -> (Layout<D, T>, Layout<D, T>)
     requires on { axis < length (D.lengths layout.now.dim) }
     requires within { index ≤ slice_index (D.lengths layout.now.dim) axis }
-    requires separated { 0 < size_of (D.lengths layout.now.dim) → IsSeparated (D.lengths layout.now.dim) (T.strides_of layout.now.strides) }
+    requires separated { KeepsApart (placement_of layout.now) }
     ensures lower_lengths { D.lengths result.0.dim ≡ lower_shape (D.lengths layout.now.dim) axis index }
     ensures lower_strides { T.strides_of result.0.strides ≡ T.strides_of layout.now.strides }
-    ensures lower { IsStep layout.now.offset (D.lengths layout.now.dim) (T.strides_of layout.now.strides) result.0.offset (D.lengths result.0.dim) (T.strides_of result.0.strides) (λ i. i) }
+    ensures lower { IsStepOf (placement_of layout.now) (placement_of result.0) (λ i. i) }
     ensures upper_lengths { D.lengths result.1.dim ≡ upper_shape (D.lengths layout.now.dim) axis index }
     ensures upper_strides { T.strides_of result.1.strides ≡ T.strides_of layout.now.strides }
-    ensures upper { IsStep layout.now.offset (D.lengths layout.now.dim) (T.strides_of layout.now.strides) result.1.offset (D.lengths result.1.dim) (T.strides_of result.1.strides) (upper_index axis index) }
-    ensures apart { LayoutsShareNoPlace result.0.offset (D.lengths result.0.dim) (T.strides_of result.0.strides) result.1.offset (D.lengths result.1.dim) (T.strides_of result.1.strides) }
+    ensures upper { IsStepOf (placement_of layout.now) (placement_of result.1) (upper_index axis index) }
+    ensures apart { AreApart (placement_of result.0) (placement_of result.1) }
 {
     layout.halves(axis, index)
 }

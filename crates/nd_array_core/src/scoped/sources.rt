@@ -5,7 +5,8 @@
 
 ghost use Rattle.std.specs.Prelude.{◌≡◌, length, IfOk, IfErr, Some, None, slice_get};
 ghost use Rattle.nd_region.specs.Region.{region_stored, borrow_of};
-ghost use Rattle.nd_array_core.specs.scoped.Tasks.{LiesBy, array_placed_by, placement_of, AsksOfPlacement};
+ghost use Rattle.nd_array_core.specs.scoped.Tasks.{LiesBy, array_placed_by, AsksOfPlacement};
+ghost use Rattle.nd_layout.specs.Placements.{placement_of};
 ghost use Rattle.nd_array_core.specs.scoped.Sources.{meant_by, refusal_for, AsksOfSlice, IsDoneOnSlice, IsDoneByLayout, KeepsUnseen};
 
 use super::tasks::{ViewTask, run_on_placement};

@@ -10,7 +10,8 @@ ghost use Rattle.std.specs.Option.{is_some};
 ghost use Rattle.nd_region.specs.Region.{region_stored, borrow_of};
 ghost use Rattle.nd_array_core.specs.PlacedArray.{PlacedArray, element_placed, found_at};
 ghost use Rattle.nd_array_core.specs.base.Storages.{held_by};
-ghost use Rattle.nd_array_core.specs.scoped.Tasks.{view_frame, lent_frame, lent_view, view_left, CanBeSeen, LiesBy, array_placed_by, placement_of, AsksOfPlacement, IsDoneOnPlacement, IsViewOf, KeepsUnnamed};
+ghost use Rattle.nd_array_core.specs.scoped.Tasks.{view_frame, lent_frame, lent_view, view_left, CanBeSeen, LiesBy, array_placed_by, AsksOfPlacement, IsDoneOnPlacement, IsViewOf, KeepsUnnamed};
+ghost use Rattle.nd_layout.specs.Placements.{placement_of};
 ghost use Rattle.nd_array_core.specs.base.Writes.{KeepsFrame};
 
 use crate::base::array::{ArrayBase, ArrayViewMut};

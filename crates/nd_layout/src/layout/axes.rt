@@ -5,7 +5,8 @@ ghost use Rattle.nd_shape_and_slice.specs.Shape.{size_of};
 ghost use Rattle.nd_shape_and_slice.specs.Axes.{HasEachAxis, permuted_list, unpermuted_list};
 ghost use Rattle.nd_layout.specs.Strides.{permuted_strides as permuted_ints, opposite_stride};
 ghost use Rattle.nd_shape_and_slice.specs.Maps.{inverted_index, collapsed_shape, collapsed_index, lower_shape, upper_shape, upper_index};
-ghost use Rattle.nd_layout.specs.Steps.{IsStep, IsValid};
+ghost use Rattle.nd_layout.specs.Steps.{IsStep};
+ghost use Rattle.nd_layout.specs.Placements.{placement_of, IsStepOf};
 
 use super::Layout;
 use super::places::moved_by;
@@ -100,7 +101,7 @@ impl<D: Dimension, T: StrideList> Layout<D, T> {
         requires { axis < length (D.lengths self.old.dim) }
         ensures lengths { D.lengths self.new.dim ≡ D.lengths self.old.dim }
         ensures strides { T.strides_of self.new.strides ≡ slice_set (T.strides_of self.old.strides) axis (opposite_stride (slice_index_or (T.strides_of self.old.strides) axis (pos 0))) }
-        ensures step { IsStep self.old.offset (D.lengths self.old.dim) (T.strides_of self.old.strides) self.new.offset (D.lengths self.new.dim) (T.strides_of self.new.strides) (inverted_index (D.lengths self.old.dim) axis) }
+        ensures step { IsStepOf (placement_of self.old) (placement_of self.new) (inverted_index (D.lengths self.old.dim) axis) }
         ensures empty { size_of (D.lengths self.old.dim) ≡ 0 → self.new.offset ≡ self.old.offset }
     {
         let offset = self.offset_inverted(axis);
@@ -116,7 +117,7 @@ impl<D: Dimension, T: StrideList> Layout<D, T> {
         requires within { index < slice_index (D.lengths self.old.dim) axis }
         ensures lengths { D.lengths self.new.dim ≡ collapsed_shape (D.lengths self.old.dim) axis }
         ensures strides { T.strides_of self.new.strides ≡ T.strides_of self.old.strides }
-        ensures step { IsStep self.old.offset (D.lengths self.old.dim) (T.strides_of self.old.strides) self.new.offset (D.lengths self.new.dim) (T.strides_of self.new.strides) (collapsed_index axis index) }
+        ensures step { IsStepOf (placement_of self.old) (placement_of self.new) (collapsed_index axis index) }
         ensures empty { size_of (D.lengths self.old.dim) ≡ 0 → self.new.offset ≡ self.old.offset }
     {
         let offset = self.offset_collapsed(axis, index);
@@ -131,7 +132,7 @@ impl<D: Dimension, T: StrideList> Layout<D, T> {
         requires within { index ≤ slice_index (D.lengths self.old.dim) axis }
         ensures lengths { D.lengths self.new.dim ≡ lower_shape (D.lengths self.old.dim) axis index }
         ensures strides { T.strides_of self.new.strides ≡ T.strides_of self.old.strides }
-        ensures step { IsStep self.old.offset (D.lengths self.old.dim) (T.strides_of self.old.strides) self.new.offset (D.lengths self.new.dim) (T.strides_of self.new.strides) (λ i. i) }
+        ensures step { IsStepOf (placement_of self.old) (placement_of self.new) (λ i. i) }
         ensures offset { self.new.offset ≡ self.old.offset }
     {
         self.dim.set_length(axis, index);
@@ -144,7 +145,7 @@ impl<D: Dimension, T: StrideList> Layout<D, T> {
         requires within { index ≤ slice_index (D.lengths self.old.dim) axis }
         ensures lengths { D.lengths self.new.dim ≡ upper_shape (D.lengths self.old.dim) axis index }
         ensures strides { T.strides_of self.new.strides ≡ T.strides_of self.old.strides }
-        ensures step { IsStep self.old.offset (D.lengths self.old.dim) (T.strides_of self.old.strides) self.new.offset (D.lengths self.new.dim) (T.strides_of self.new.strides) (upper_index axis index) }
+        ensures step { IsStepOf (placement_of self.old) (placement_of self.new) (upper_index axis index) }
         ensures empty { size_of (D.lengths self.old.dim) ≡ 0 → self.new.offset ≡ self.old.offset }
     {
         let offset = self.offset_upper(axis, index);
@@ -160,10 +161,10 @@ impl<D: Dimension, T: StrideList> Layout<D, T> {
         requires within { index ≤ slice_index (D.lengths self.now.dim) axis }
         ensures lower_lengths { D.lengths result.0.dim ≡ lower_shape (D.lengths self.now.dim) axis index }
         ensures lower_strides { T.strides_of result.0.strides ≡ T.strides_of self.now.strides }
-        ensures lower { IsStep self.now.offset (D.lengths self.now.dim) (T.strides_of self.now.strides) result.0.offset (D.lengths result.0.dim) (T.strides_of result.0.strides) (λ i. i) }
+        ensures lower { IsStepOf (placement_of self.now) (placement_of result.0) (λ i. i) }
         ensures upper_lengths { D.lengths result.1.dim ≡ upper_shape (D.lengths self.now.dim) axis index }
         ensures upper_strides { T.strides_of result.1.strides ≡ T.strides_of self.now.strides }
-        ensures upper { IsStep self.now.offset (D.lengths self.now.dim) (T.strides_of self.now.strides) result.1.offset (D.lengths result.1.dim) (T.strides_of result.1.strides) (upper_index axis index) }
+        ensures upper { IsStepOf (placement_of self.now) (placement_of result.1) (upper_index axis index) }
         ensures lower_offset { result.0.offset ≡ self.now.offset }
         ensures upper_empty { size_of (D.lengths self.now.dim) ≡ 0 → result.1.offset ≡ self.now.offset }
     {
@@ -230,7 +231,7 @@ impl<D: Dimension, T: StrideList> Layout<D, T> {
         requires b { b < length (D.lengths self.old.dim) }
         ensures lengths { D.lengths self.new.dim ≡ swap (D.lengths self.old.dim) a b }
         ensures strides { T.strides_of self.new.strides ≡ swap (T.strides_of self.old.strides) a b }
-        ensures step { IsStep self.old.offset (D.lengths self.old.dim) (T.strides_of self.old.strides) self.new.offset (D.lengths self.new.dim) (T.strides_of self.new.strides) (λ i. swap i a b) }
+        ensures step { IsStepOf (placement_of self.old) (placement_of self.new) (λ i. swap i a b) }
         ensures offset { self.new.offset ≡ self.old.offset }
     {
         exchange(&mut self.dim, &mut self.strides, a, b);
@@ -241,7 +242,7 @@ impl<D: Dimension, T: StrideList> Layout<D, T> {
     pub fn reverse_axes(&mut self)
         ensures lengths { D.lengths self.new.dim ≡ reverse (D.lengths self.old.dim) }
         ensures strides { T.strides_of self.new.strides ≡ reverse (T.strides_of self.old.strides) }
-        ensures step { IsStep self.old.offset (D.lengths self.old.dim) (T.strides_of self.old.strides) self.new.offset (D.lengths self.new.dim) (T.strides_of self.new.strides) reverse }
+        ensures step { IsStepOf (placement_of self.old) (placement_of self.new) reverse }
         ensures offset { self.new.offset ≡ self.old.offset }
     {
         reverse(&mut self.dim, &mut self.strides);
@@ -253,7 +254,7 @@ impl<D: Dimension, T: StrideList> Layout<D, T> {
         requires { HasEachAxis axes.now (length (D.lengths self.old.dim)) }
         ensures lengths { D.lengths self.new.dim ≡ permuted_list axes.now (D.lengths self.old.dim) }
         ensures strides { T.strides_of self.new.strides ≡ permuted_ints axes.now (T.strides_of self.old.strides) }
-        ensures step { IsStep self.old.offset (D.lengths self.old.dim) (T.strides_of self.old.strides) self.new.offset (D.lengths self.new.dim) (T.strides_of self.new.strides) (unpermuted_list axes.now) }
+        ensures step { IsStepOf (placement_of self.old) (placement_of self.new) (unpermuted_list axes.now) }
         ensures offset { self.new.offset ≡ self.old.offset }
     {
         permute(&mut self.dim, &mut self.strides, axes);

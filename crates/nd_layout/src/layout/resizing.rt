@@ -4,7 +4,7 @@ ghost use Rattle.std.specs.Prelude.{◌↔◌, ◌≡◌, ◌<◌, ◌≤◌, �
 ghost use Rattle.std.specs.List.{remove, insert};
 ghost use Rattle.nd_shape_and_slice.specs.Shape.{size_of};
 ghost use Rattle.nd_shape_and_slice.specs.Maps.{indexed_shape, indexed_index, inserted_shape, inserted_index};
-ghost use Rattle.nd_layout.specs.Steps.{IsStep};
+ghost use Rattle.nd_layout.specs.Placements.{placement_of, IsStepOf};
 
 use super::Layout;
 use super::axes::stride_at;
@@ -72,7 +72,7 @@ impl<D: Dimension, T: StrideList> Layout<D, T> {
         ensures none { IsNone result ↔ (E.has_axes (length (D.lengths self.now.dim)) ≡ false) }
         ensures lengths { IfSome result (λ l. E.lengths l.dim ≡ D.lengths self.now.dim) }
         ensures strides { IfSome result (λ l. E.Strides.strides_of l.strides ≡ T.strides_of self.now.strides) }
-        ensures step { IfSome result (λ l. IsStep self.now.offset (D.lengths self.now.dim) (T.strides_of self.now.strides) l.offset (E.lengths l.dim) (E.Strides.strides_of l.strides) (λ i. i)) }
+        ensures step { IfSome result (λ l. IsStepOf (placement_of self.now) (placement_of l) (λ i. i)) }
         ensures offset { IfSome result (λ l. l.offset ≡ self.now.offset) }
     {
         let dim = E::from_lengths(self.dim.slice())?;
@@ -90,7 +90,7 @@ impl<D: Dimension, T: StrideList> Layout<D, T> {
     pub fn as_dynamic(&self) -> Layout<IxDyn, <IxDyn as Dimension>::Strides>
         ensures lengths { ⟦<IxDyn as Dimension>⟧.lengths result.dim ≡ D.lengths self.now.dim }
         ensures strides { ⟦<DynStrides as StrideList>⟧.strides_of result.strides ≡ T.strides_of self.now.strides }
-        ensures step { IsStep self.now.offset (D.lengths self.now.dim) (T.strides_of self.now.strides) result.offset (⟦<IxDyn as Dimension>⟧.lengths result.dim) (⟦<DynStrides as StrideList>⟧.strides_of result.strides) (λ i. i) }
+        ensures step { IsStepOf (placement_of self.now) (placement_of result) (λ i. i) }
         ensures offset { result.offset ≡ self.now.offset }
     {
         let dim = IxDyn::new(self.dim.slice());
@@ -117,7 +117,7 @@ where
         requires within { index < slice_index (D.lengths self.now.dim) axis }
         ensures lengths { D.Smaller.lengths result.dim ≡ indexed_shape (D.lengths self.now.dim) axis }
         ensures strides { D.Smaller.Strides.strides_of result.strides ≡ remove (T.strides_of self.now.strides) axis }
-        ensures step { IsStep self.now.offset (D.lengths self.now.dim) (T.strides_of self.now.strides) result.offset (D.Smaller.lengths result.dim) (D.Smaller.Strides.strides_of result.strides) (indexed_index axis index) }
+        ensures step { IsStepOf (placement_of self.now) (placement_of result) (indexed_index axis index) }
         ensures empty { size_of (D.lengths self.now.dim) ≡ 0 → result.offset ≡ self.now.offset }
     {
         let offset = self.offset_collapsed(axis, index);
@@ -141,7 +141,7 @@ where
         requires room { D.Larger.has_axes (length (D.lengths self.now.dim) + 1) ≡ true }
         ensures lengths { D.Larger.lengths result.dim ≡ inserted_shape (D.lengths self.now.dim) axis }
         ensures strides { D.Larger.Strides.strides_of result.strides ≡ insert (T.strides_of self.now.strides) axis (pos 1) }
-        ensures step { IsStep self.now.offset (D.lengths self.now.dim) (T.strides_of self.now.strides) result.offset (D.Larger.lengths result.dim) (D.Larger.Strides.strides_of result.strides) (inserted_index axis) }
+        ensures step { IsStepOf (placement_of self.now) (placement_of result) (inserted_index axis) }
         ensures offset { result.offset ≡ self.now.offset }
     {
         let dim = self.dim.insert_axis(Axis(axis));

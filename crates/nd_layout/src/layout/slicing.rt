@@ -11,7 +11,7 @@ ghost use Rattle.nd_layout.specs.Strides.{sliced_strides, each_sliced_strides, s
 ghost use Rattle.nd_shape_and_slice.specs.EachAxis.{each_sliced_shape, each_sliced_index, AnswersFit, AnswersAre};
 ghost use Rattle.nd_shape_and_slice.specs.Slicing.{collapsed_after, collapsed_before, shape_with, index_with, kept_items, put_back, indexed_ones};
 ghost use Rattle.nd_layout.specs.Elements.{length_by, start_by, stride_by, strides_with, LeadsToPlaces};
-ghost use Rattle.nd_layout.specs.Steps.{IsStep, IsValid};
+ghost use Rattle.nd_layout.specs.Placements.{placement_of, IsStepOf};
 
 use super::Layout;
 use super::axes::{length_at, stride_at};
@@ -124,7 +124,7 @@ impl<D: Dimension, T: StrideList> Layout<D, T> {
         requires fits { fits_axis (slice_index (D.lengths self.old.dim) axis) slice ≡ true }
         ensures lengths { D.lengths self.new.dim ≡ sliced_shape (D.lengths self.old.dim) axis slice }
         ensures strides { T.strides_of self.new.strides ≡ sliced_strides (D.lengths self.old.dim) (T.strides_of self.old.strides) axis slice }
-        ensures step { IsStep self.old.offset (D.lengths self.old.dim) (T.strides_of self.old.strides) self.new.offset (D.lengths self.new.dim) (T.strides_of self.new.strides) (sliced_index (D.lengths self.old.dim) axis slice) }
+        ensures step { IsStepOf (placement_of self.old) (placement_of self.new) (sliced_index (D.lengths self.old.dim) axis slice) }
         ensures empty { size_of (D.lengths self.old.dim) ≡ 0 → self.new.offset ≡ self.old.offset }
     {
         let is_empty = is_empty_shape(self.dim.slice());
@@ -142,7 +142,7 @@ impl<D: Dimension, T: StrideList> Layout<D, T> {
         requires fits { fits_shape (D.lengths self.now.dim) elements.now ≡ true }
         requires room { E.has_axes (axes_kept elements.now) ≡ true }
         ensures lengths { E.lengths result.dim ≡ shape_after (D.lengths self.now.dim) elements.now }
-        ensures step { IsStep self.now.offset (D.lengths self.now.dim) (T.strides_of self.now.strides) result.offset (E.lengths result.dim) (E.Strides.strides_of result.strides) (index_before (D.lengths self.now.dim) elements.now) }
+        ensures step { IsStepOf (placement_of self.now) (placement_of result) (index_before (D.lengths self.now.dim) elements.now) }
         ensures strides { E.Strides.strides_of result.strides ≡ strides_after (D.lengths self.now.dim) (T.strides_of self.now.strides) elements.now }
         ensures empty { size_of (D.lengths self.now.dim) ≡ 0 → result.offset ≡ self.now.offset }
     {
@@ -174,7 +174,7 @@ impl<D: Dimension, T: StrideList> Layout<D, T> {
     fn slice_element(&mut self, axis: usize, element: SliceInfoElem)
         requires { fits_next (slice_get (D.lengths self.old.dim) axis) element ≡ true }
         ensures lengths { D.lengths self.new.dim ≡ shape_with (D.lengths self.old.dim) axis element }
-        ensures step { IsStep self.old.offset (D.lengths self.old.dim) (T.strides_of self.old.strides) self.new.offset (D.lengths self.new.dim) (T.strides_of self.new.strides) (index_with (D.lengths self.old.dim) axis element) }
+        ensures step { IsStepOf (placement_of self.old) (placement_of self.new) (index_with (D.lengths self.old.dim) axis element) }
         ensures strides { T.strides_of self.new.strides ≡ strides_with (D.lengths self.old.dim) (T.strides_of self.old.strides) axis element }
         ensures empty { size_of (D.lengths self.old.dim) ≡ 0 → self.new.offset ≡ self.old.offset }
     {
@@ -195,7 +195,7 @@ impl<D: Dimension, T: StrideList> Layout<D, T> {
     pub fn slice_axes(&mut self, elements: &[SliceInfoElem])
         requires { each_fits (D.lengths self.old.dim) elements.now ≡ true }
         ensures lengths { D.lengths self.new.dim ≡ collapsed_after (D.lengths self.old.dim) elements.now }
-        ensures step { IsStep self.old.offset (D.lengths self.old.dim) (T.strides_of self.old.strides) self.new.offset (D.lengths self.new.dim) (T.strides_of self.new.strides) (collapsed_before (D.lengths self.old.dim) elements.now) }
+        ensures step { IsStepOf (placement_of self.old) (placement_of self.new) (collapsed_before (D.lengths self.old.dim) elements.now) }
         ensures strides { T.strides_of self.new.strides ≡ collapsed_strides (D.lengths self.old.dim) (T.strides_of self.old.strides) elements.now }
         ensures empty { size_of (D.lengths self.old.dim) ≡ 0 → self.new.offset ≡ self.old.offset }
     {
@@ -211,7 +211,7 @@ impl<D: Dimension, T: StrideList> Layout<D, T> {
     /// Keeps of each axis the slice that the closure answers. It is called for axis 0 first.
     pub fn slice_each_axis<F: FnMut(AxisDescription) -> Slice + Drop>(&mut self, mut f: F)
         requires { AnswersFit F.pre F.step f (axes_from 0 (D.lengths self.old.dim) (T.strides_of self.old.strides)) }
-        ensures sliced { (slices : List Slice) × (last : F) × AnswersAre F.step f (axes_from 0 (D.lengths self.old.dim) (T.strides_of self.old.strides)) slices last × (D.lengths self.new.dim ≡ each_sliced_shape (D.lengths self.old.dim) slices) × IsStep self.old.offset (D.lengths self.old.dim) (T.strides_of self.old.strides) self.new.offset (D.lengths self.new.dim) (T.strides_of self.new.strides) (each_sliced_index (D.lengths self.old.dim) slices) × (T.strides_of self.new.strides ≡ each_sliced_strides (D.lengths self.old.dim) (T.strides_of self.old.strides) slices) }
+        ensures sliced { (slices : List Slice) × (last : F) × AnswersAre F.step f (axes_from 0 (D.lengths self.old.dim) (T.strides_of self.old.strides)) slices last × (D.lengths self.new.dim ≡ each_sliced_shape (D.lengths self.old.dim) slices) × IsStepOf (placement_of self.old) (placement_of self.new) (each_sliced_index (D.lengths self.old.dim) slices) × (T.strides_of self.new.strides ≡ each_sliced_strides (D.lengths self.old.dim) (T.strides_of self.old.strides) slices) }
         ensures empty { size_of (D.lengths self.old.dim) ≡ 0 → self.new.offset ≡ self.old.offset }
     {
         let before = self.copied();

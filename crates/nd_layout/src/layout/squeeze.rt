@@ -2,7 +2,7 @@
 
 ghost use Rattle.std.specs.Prelude.{◌≡◌, ◌<◌, length};
 ghost use Rattle.nd_shape_and_slice.specs.Squeeze.{squeezed_shape, squeezed_index, shape_squeezed_at, index_squeezed_at};
-ghost use Rattle.nd_layout.specs.Steps.{IsStep};
+ghost use Rattle.nd_layout.specs.Placements.{placement_of, IsStepOf};
 ghost use Rattle.nd_layout.specs.Strides.{squeezed_strides, strides_squeezed_at};
 
 use super::Layout;
@@ -14,7 +14,7 @@ impl Layout<IxDyn, DynStrides> {
     fn squeezed_at(&self, axis: usize) -> Self
         requires { axis < length (⟦<IxDyn as Dimension>⟧.lengths self.now.dim) }
         ensures lengths { ⟦<IxDyn as Dimension>⟧.lengths result.dim ≡ shape_squeezed_at (⟦<IxDyn as Dimension>⟧.lengths self.now.dim) axis }
-        ensures step { IsStep self.now.offset (⟦<IxDyn as Dimension>⟧.lengths self.now.dim) (⟦<DynStrides as StrideList>⟧.strides_of self.now.strides) result.offset (⟦<IxDyn as Dimension>⟧.lengths result.dim) (⟦<DynStrides as StrideList>⟧.strides_of result.strides) (index_squeezed_at (⟦<IxDyn as Dimension>⟧.lengths self.now.dim) axis) }
+        ensures step { IsStepOf (placement_of self.now) (placement_of result) (index_squeezed_at (⟦<IxDyn as Dimension>⟧.lengths self.now.dim) axis) }
         ensures strides { ⟦<DynStrides as StrideList>⟧.strides_of result.strides ≡ strides_squeezed_at (⟦<IxDyn as Dimension>⟧.lengths self.now.dim) (⟦<DynStrides as StrideList>⟧.strides_of self.now.strides) axis }
         ensures offset { result.offset ≡ self.now.offset }
     {
@@ -28,7 +28,7 @@ impl Layout<IxDyn, DynStrides> {
     /// The layout without its axes of length 1, taken out from the last axis on; one axis always stays.
     pub fn squeezed(&self) -> Self
         ensures lengths { ⟦<IxDyn as Dimension>⟧.lengths result.dim ≡ squeezed_shape (⟦<IxDyn as Dimension>⟧.lengths self.now.dim) }
-        ensures step { IsStep self.now.offset (⟦<IxDyn as Dimension>⟧.lengths self.now.dim) (⟦<DynStrides as StrideList>⟧.strides_of self.now.strides) result.offset (⟦<IxDyn as Dimension>⟧.lengths result.dim) (⟦<DynStrides as StrideList>⟧.strides_of result.strides) (squeezed_index (⟦<IxDyn as Dimension>⟧.lengths self.now.dim)) }
+        ensures step { IsStepOf (placement_of self.now) (placement_of result) (squeezed_index (⟦<IxDyn as Dimension>⟧.lengths self.now.dim)) }
         ensures strides { ⟦<DynStrides as StrideList>⟧.strides_of result.strides ≡ squeezed_strides (⟦<IxDyn as Dimension>⟧.lengths self.now.dim) (⟦<DynStrides as StrideList>⟧.strides_of self.now.strides) }
         ensures offset { result.offset ≡ self.now.offset }
     {
