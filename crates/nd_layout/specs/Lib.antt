@@ -7,3 +7,4 @@ pub mod Steps
 pub mod GivenStrides
 pub mod Refusals
 pub mod Elements
+pub mod Walk
