@@ -7,3 +7,4 @@ pub mod Laws
 pub mod base
 pub mod layout
 pub mod scoped
+pub mod Filled

@@ -1,5 +1,5 @@
 -- The places of a layout, cut into lanes along its last axis.
-use Rattle.std.proofs.Common.{◌≡◌, ℕ, zero, suc, ◌+◌, ◌-◌, ◌*◌, ◌/◌, ◌%◌, ◌<◌, ◌≤◌, List, [], ◌∷◌, length, take, get_or, min, refl, ap, sym, ◌∙◌, arith, ℤ, pos, ◌+ℤ◌, ◌*ℤ◌}
+use Rattle.std.proofs.Common.{◌≡◌, ℕ, zero, suc, ◌+◌, ◌-◌, ◌*◌, ◌/◌, ◌%◌, ◌<◌, ◌≤◌, true, List, [], ◌∷◌, length, take, get_or, min, refl, ap, sym, ◌∙◌, arith, ℤ, pos, ◌+ℤ◌, ◌*ℤ◌}
 use Rattle.std.proofs.Math.Nat.{mul_comm, mul-le-mul_left, mul-le-mul_right, div-div-eq-div-mul}
 use lib.Arith.{mod-mul}
 use Rattle.std.proofs.lemmas.Nat.{div-mul-add, mod-mul-add, mod_below}
@@ -13,6 +13,7 @@ use Rattle.nd_layout.specs.Places.{is_place, ReachesPlaces}
 use Rattle.nd_layout.specs.Walk.{place_at_rank, IsLane, IsCutInLanes}
 use Rattle.nd_layout.proofs.Integers.{sums, zero-mul}
 use Rattle.nd_layout.proofs.Sizes.{size-le-product}
+use Rattle.nd_layout.proofs.WalkSteps.{place_small}
 
 -- ---- all axes but the last
 pub size_of-front : (ns : List ℕ) (k : ℕ) → length ns ≡ k + 1 → size_of (take k ns) * get_or ns k 0 ≡ size_of ns
@@ -145,6 +146,19 @@ module _ (first : ℕ) (ns : List ℕ) (ss : List ℤ) (outer_first : ℕ) (ms :
     within = more_ranks h;
     places = λ k below. ap (λ z. z +ℤ (pos k *ℤ stride)) at ∙ (cut.places r k h below ∙ ap (λ x. place_at_rank first ns ss (x + k)) (sym passed));
   }
+
+  pub next_reach : ReachesPlaces first ns ss → (place : ℕ) → 0 < count → r < size_of ms → pos place ≡ place_at_rank outer_first ms ts r → (k : ℕ) → k < count → is_place (pos place +ℤ (pos k *ℤ stride)) ≡ true
+  next_reach reach place some h at k below =
+      let within = more_ranks h in
+      ap is_place ((next_lane place some h at).places k below) ∙ reach (index_at ns (rank + k)) (in_box-index_at ns (rank + k) (omega (arith, within, below)))
+
+  pub next_from : ReachesPlaces first ns ss → (place : ℕ) → 0 < count → r < size_of ms → pos place ≡ place_at_rank outer_first ms ts r → place < 9223372036854775808
+  next_from reach place some h at =
+      let first_here = next_reach reach place some h at 0 some in
+      place_small place (pos place +ℤ (pos 0 *ℤ stride)) (start place stride) first_here
+    where
+      start : (p : ℕ) (s : ℤ) → pos p ≡ pos p +ℤ (pos 0 *ℤ s)
+      start p s = let none : pos 0 *ℤ s ≡ pos 0 = zero-mul s in omega (arith, sums, none)
 
   pub next_passed : (q : ℕ) → r < size_of ms → q ≡ min (r + 1) (size_of ms) → rank + count ≡ q * count
   next_passed q h e =

@@ -34,4 +34,5 @@ pub mod Ready
 pub mod GrownAgain
 pub mod WalkSteps
 pub mod LaneSteps
+pub mod Rearranged
 pub mod steps

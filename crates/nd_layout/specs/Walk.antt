@@ -25,3 +25,14 @@ pub record IsLane (offset : ℕ) (lengths : List ℕ) (strides : List ℤ) (rank
 pub record IsCutInLanes (offset : ℕ) (lengths : List ℕ) (strides : List ℤ) (outer_offset : ℕ) (outer_lengths : List ℕ) (outer_strides : List ℤ) (count : ℕ) (stride : ℤ) : Type 0 where
   pub size : size_of outer_lengths * count ≡ size_of lengths
   pub places : (rank k : ℕ) → rank < size_of outer_lengths → k < count → place_at_rank outer_offset outer_lengths outer_strides rank +ℤ (pos k *ℤ stride) ≡ place_at_rank offset lengths strides (rank * count + k)
+
+-- The second layout has the places of the first, each as often, in an order of its own: its ranks and the indexes of
+-- the first name each other, and where they do, the places are the same.
+pub record IsRearranged (offset : ℕ) (lengths : List ℕ) (strides : List ℤ) (new_offset : ℕ) (new_lengths : List ℕ) (new_strides : List ℤ) : Type 0 where
+  pub index_of : ℕ → List ℕ
+  pub rank_of : List ℕ → ℕ
+  pub within : (rank : ℕ) → rank < size_of new_lengths → in_box lengths (index_of rank) ≡ true
+  pub below : (i : List ℕ) → in_box lengths i ≡ true → rank_of i < size_of new_lengths
+  pub there : (rank : ℕ) → rank < size_of new_lengths → rank_of (index_of rank) ≡ rank
+  pub back : (i : List ℕ) → in_box lengths i ≡ true → index_of (rank_of i) ≡ i
+  pub same : (rank : ℕ) → rank < size_of new_lengths → place_at_rank new_offset new_lengths new_strides rank ≡ place_of offset strides (index_of rank)

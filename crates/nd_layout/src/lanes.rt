@@ -1,10 +1,11 @@
 //! The places of a layout by lanes: places that lie a stride apart, as many as the last axis is long.
 
-ghost use Rattle.std.specs.Prelude.{◌≡◌, ◌+◌, ◌-◌, ◌*◌, ◌<◌, ◌≤◌, pos, length, slice_index, slice_index_or, MatchOption, IfSome};
+ghost use Rattle.std.specs.Prelude.{◌≡◌, ◌+◌, ◌-◌, ◌*◌, ◌<◌, ◌≤◌, ◌^◌, ◌+ℤ◌, ◌*ℤ◌, ℕ, true, pos, length, slice_index, slice_index_or, MatchOption, IfSome};
 ghost use Rattle.nd_shape_and_slice.specs.Shape.{size_of, HasCheckedSize};
-ghost use Rattle.nd_layout.specs.Places.{ReachesPlaces};
+ghost use Rattle.nd_layout.specs.Places.{is_place, ReachesPlaces};
 ghost use Rattle.nd_layout.specs.Walk.{place_at_rank, IsLane, IsCutInLanes};
 
+use crate::layout::places::moved_by;
 use crate::walk::Walk;
 
 /// Places that lie a stride apart.
@@ -15,6 +16,20 @@ pub struct Lane {
     /// How many there are.
     pub count: usize,
     pub stride: isize,
+    ghost few: { count < 2 ^ 63 },
+    ghost from: { 0 < count → place < 2 ^ 63 },
+    ghost reach: { (k : ℕ) → k < count → is_place (pos place +ℤ (pos k *ℤ stride)) ≡ true },
+}
+
+impl Lane {
+    /// The place of the `nth`.
+    #[inline]
+    pub fn place_of(&self, nth: usize) -> usize
+        requires { nth < self.now.count }
+        ensures { pos result ≡ pos self.now.place +ℤ (pos nth *ℤ self.now.stride) }
+    {
+        moved_by(self.place, nth, self.stride)
+    }
 }
 
 /// The places of a layout in row-major order of their indexes, lane by lane.
@@ -32,6 +47,7 @@ pub struct Lanes<'a> {
     ghost some: { 0 < count },
     ghost passed: { rank ≡ outer.rank * count },
     ghost checked: { HasCheckedSize lengths.now },
+    ghost reach: { ReachesPlaces first lengths.now strides.now },
     ghost cut: { IsCutInLanes first lengths.now strides.now outer.first outer.lengths.now outer.strides.now count stride },
     ghost along: { 0 < size_of lengths.now → (count ≡ slice_index_or lengths.now (length lengths.now - 1) 1) × (stride ≡ slice_index_or strides.now (length strides.now - 1) (pos 0)) },
 }

@@ -6,6 +6,7 @@
 mod grows;
 mod lanes;
 mod layout;
+mod order;
 mod ordered;
 mod reshape;
 mod runs;

@@ -8,6 +8,7 @@ invariant_of-result c = record {
   some = omega arith;
   passed = nothing_passed c.new.result.rank 1 c.new.ensures.rank;
   checked = c.requires.checked;
+  reach = c.requires.reach;
   cut = rw (c.new.ensures.over.0, c.new.ensures.over.1, c.new.ensures.over.2) (cut_whole c.args.first c.args.lengths.now c.args.strides.now);
   along = λ some. along_none c.args.lengths.now c.args.strides.now c.requires.as_many (c.outer_axes-outer.ensures.whole c.if-outer-lengths.true some);
 }
@@ -29,6 +30,7 @@ invariant_of-result-2 c =
       some = last.1;
       passed = nothing_passed c.new-2.result.rank (slice_index_or c.args.lengths.now k 0) c.new-2.ensures.rank;
       checked = c.requires.checked;
+  reach = c.requires.reach;
       cut = rw (to_z-of_z w64 (slice_index_or c.args.strides.now k (pos 0)) fits, c.new-2.ensures.over.0, c.new-2.ensures.over.1, c.new-2.ensures.over.2) (cut_last c.args.first c.args.lengths.now c.args.strides.now c.requires.as_many k last.0 last.1);
       along = λ some. rw (to_z-of_z w64 (slice_index_or c.args.strides.now k (pos 0)) fits) (along_last c.args.lengths.now c.args.strides.now k c.requires.as_many last.0);
     }
