@@ -32,4 +32,7 @@ pub mod GrownLayout
 pub mod Continued
 pub mod Ready
 pub mod GrownAgain
+pub mod WalkSteps
+pub mod LaneSteps
+pub mod Rearranged
 pub mod steps

@@ -8,3 +8,4 @@ pub mod GivenStrides
 pub mod Refusals
 pub mod Elements
 pub mod Placements
+pub mod Walk

@@ -12,7 +12,7 @@ pub mod axes;
 mod broadcast;
 mod diagonal;
 pub mod given;
-mod places;
+pub(crate) mod places;
 mod resizing;
 mod slicing;
 mod squeeze;

@@ -4,16 +4,21 @@
 #![tactic(auto)]
 
 mod grows;
+mod lanes;
 mod layout;
+mod order;
 mod ordered;
 mod reshape;
 mod runs;
 mod spans;
+mod walk;
 
 pub use grows::growth;
+pub use lanes::{Lane, Lanes};
 pub use layout::Layout;
 pub use layout::axes::stride_at;
 pub use layout::given::{offset_in_slice, offset_in_vec, size_in_slice, size_in_vec};
 pub use reshape::reshape_strides;
 pub use runs::{is_run, is_standard};
 pub use spans::{separated, span};
+pub use walk::Walk;

@@ -40,7 +40,7 @@ pub fn is_standard(lengths: &[usize], strides: &[isize]) -> bool
 }
 
 /// The size of a shape without a length of 0.
-fn count_of(lengths: &[usize]) -> usize
+pub(crate) fn count_of(lengths: &[usize]) -> usize
     requires some { 0 < size_of lengths.now }
     requires fits { size_of lengths.now < 2 ^ 63 }
     ensures { result ≡ size_of lengths.now }

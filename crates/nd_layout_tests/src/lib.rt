@@ -9,3 +9,5 @@ mod reshapes;
 mod small_layouts;
 #[cfg(test)]
 mod spans_and_runs;
+#[cfg(test)]
+mod walks;

@@ -1,0 +1,38 @@
+-- The places of a layout in row-major order of its indexes, one by one or by lanes.
+use Rattle.std.specs.Prelude.{ℕ, ◌+◌, ◌*◌, ◌<◌, ◌≤◌, ◌≡◌, true, List, length, take, ℤ, pos, ◌+ℤ◌, ◌*ℤ◌}
+use Rattle.nd_shape_and_slice.specs.Shape.{in_box, size_of, row_rank, index_at}
+use Rattle.nd_shape_and_slice.specs.Place.{place_of}
+
+-- where the index of a row-major rank lies
+abbrev pub place_at_rank : ℕ → List ℕ → List ℤ → ℕ → ℤ
+place_at_rank offset lengths strides rank = place_of offset strides (index_at lengths rank)
+
+-- the first coordinates of the list are the index of this rank, and it lies at the place
+pub record StandsAt (offset : ℕ) (lengths : List ℕ) (strides : List ℤ) (rank place : ℕ) (index : List ℕ) : Type 0 where
+  pub inside : in_box lengths (take (length lengths) index) ≡ true
+  pub ranked : row_rank lengths (take (length lengths) index) ≡ rank
+  pub lies : pos place ≡ place_of offset strides (take (length lengths) index)
+
+-- The lane has the places of the ranks from this one on, as many as it counts: the first lies at `place`, each
+-- next one a stride further. All of them are ranks of the box, and there is at least one.
+pub record IsLane (offset : ℕ) (lengths : List ℕ) (strides : List ℤ) (rank place count : ℕ) (stride : ℤ) : Type 0 where
+  pub some : 0 < count
+  pub within : rank + count ≤ size_of lengths
+  pub places : (k : ℕ) → k < count → pos place +ℤ (pos k *ℤ stride) ≡ place_at_rank offset lengths strides (rank + k)
+
+-- The places of a layout are those of an outer one, each with as many lane-mates, a stride apart: those of outer rank
+-- r have the ranks from r times the count on.
+pub record IsCutInLanes (offset : ℕ) (lengths : List ℕ) (strides : List ℤ) (outer_offset : ℕ) (outer_lengths : List ℕ) (outer_strides : List ℤ) (count : ℕ) (stride : ℤ) : Type 0 where
+  pub size : size_of outer_lengths * count ≡ size_of lengths
+  pub places : (rank k : ℕ) → rank < size_of outer_lengths → k < count → place_at_rank outer_offset outer_lengths outer_strides rank +ℤ (pos k *ℤ stride) ≡ place_at_rank offset lengths strides (rank * count + k)
+
+-- The second layout has the places of the first, each as often, in an order of its own: its ranks and the indexes of
+-- the first name each other, and where they do, the places are the same.
+pub record IsRearranged (offset : ℕ) (lengths : List ℕ) (strides : List ℤ) (new_offset : ℕ) (new_lengths : List ℕ) (new_strides : List ℤ) : Type 0 where
+  pub index_of : ℕ → List ℕ
+  pub rank_of : List ℕ → ℕ
+  pub within : (rank : ℕ) → rank < size_of new_lengths → in_box lengths (index_of rank) ≡ true
+  pub below : (i : List ℕ) → in_box lengths i ≡ true → rank_of i < size_of new_lengths
+  pub there : (rank : ℕ) → rank < size_of new_lengths → rank_of (index_of rank) ≡ rank
+  pub back : (i : List ℕ) → in_box lengths i ≡ true → index_of (rank_of i) ≡ i
+  pub same : (rank : ℕ) → rank < size_of new_lengths → place_at_rank new_offset new_lengths new_strides rank ≡ place_of offset strides (index_of rank)

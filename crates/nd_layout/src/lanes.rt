@@ -1,0 +1,125 @@
+//! The places of a layout by lanes: places that lie a stride apart, as many as the last axis is long.
+
+ghost use Rattle.std.specs.Prelude.{◌≡◌, ◌+◌, ◌-◌, ◌*◌, ◌<◌, ◌≤◌, ◌^◌, ◌+ℤ◌, ◌*ℤ◌, ℕ, true, pos, length, slice_index, slice_index_or, MatchOption, IfSome};
+ghost use Rattle.nd_shape_and_slice.specs.Shape.{size_of, HasCheckedSize};
+ghost use Rattle.nd_layout.specs.Places.{is_place, ReachesPlaces};
+ghost use Rattle.nd_layout.specs.Walk.{place_at_rank, IsLane, IsCutInLanes};
+
+use crate::layout::places::moved_by;
+use crate::walk::Walk;
+
+/// Places that lie a stride apart.
+#[derive(Clone, Copy, Debug, PartialEq, Eq)]
+pub struct Lane {
+    /// The first of them.
+    pub place: usize,
+    /// How many there are.
+    pub count: usize,
+    pub stride: isize,
+    ghost few: { count < 2 ^ 63 },
+    ghost from: { 0 < count → place < 2 ^ 63 },
+    ghost reach: { (k : ℕ) → k < count → is_place (pos place +ℤ (pos k *ℤ stride)) ≡ true },
+}
+
+impl Lane {
+    /// The place of the `nth`.
+    #[inline]
+    pub fn place_of(&self, nth: usize) -> usize
+        requires { nth < self.now.count }
+        ensures { pos result ≡ pos self.now.place +ℤ (pos nth *ℤ self.now.stride) }
+    {
+        moved_by(self.place, nth, self.stride)
+    }
+}
+
+/// The places of a layout in row-major order of their indexes, lane by lane.
+#[derive(Drop)]
+pub struct Lanes<'a> {
+    /// The place of the index of zeros.
+    pub first: usize,
+    pub lengths: &'a [usize],
+    pub strides: &'a [isize],
+    /// How many places the lanes so far have.
+    pub rank: usize,
+    outer: Walk<'a>,
+    count: usize,
+    stride: isize,
+    ghost some: { 0 < count },
+    ghost passed: { rank ≡ outer.rank * count },
+    ghost checked: { HasCheckedSize lengths.now },
+    ghost reach: { ReachesPlaces first lengths.now strides.now },
+    ghost cut: { IsCutInLanes first lengths.now strides.now outer.first outer.lengths.now outer.strides.now count stride },
+    ghost along: { 0 < size_of lengths.now → (count ≡ slice_index_or lengths.now (length lengths.now - 1) 1) × (stride ≡ slice_index_or strides.now (length strides.now - 1) (pos 0)) },
+}
+
+/// How many axes the walk from lane to lane goes over: all but the last; all where there are no places, or no axes.
+#[tactic(auto, using(crate::proofs::LaneSteps::none_at_last))]
+fn outer_axes(lengths: &[usize]) -> usize
+    ensures within { result ≤ length lengths.now }
+    ensures whole { result ≡ length lengths.now → 0 < size_of lengths.now → length lengths.now ≡ 0 }
+    ensures last { result < length lengths.now → (length lengths.now ≡ result + 1) × (0 < slice_index lengths.now result) }
+{
+    let axes = lengths.len();
+    if axes == 0 || lengths[axes - 1] == 0 {
+        axes
+    } else {
+        axes - 1
+    }
+}
+
+impl<'a> Lanes<'a> {
+    /// The lanes of a layout. Each index has a place.
+    pub fn new(first: usize, lengths: &'a [usize], strides: &'a [isize]) -> Self
+        requires as_many { length strides.now ≡ length lengths.now }
+        requires few { length lengths.now ≤ 32 }
+        requires checked { HasCheckedSize lengths.now }
+        requires reach { ReachesPlaces first lengths.now strides.now }
+        ensures over { (result.first ≡ first) × (result.lengths.now ≡ lengths.now) × (result.strides.now ≡ strides.now) }
+        ensures rank { result.rank ≡ 0 }
+    {
+        let outer = outer_axes(lengths);
+        if outer == lengths.len() {
+            return Lanes {
+                first,
+                lengths,
+                strides,
+                rank: 0,
+                outer: Walk::new(first, lengths, strides),
+                count: 1,
+                stride: 0,
+            };
+        }
+        Lanes {
+            first,
+            lengths,
+            strides,
+            rank: 0,
+            outer: Walk::new(first, &lengths[..outer], &strides[..outer]),
+            count: lengths[outer],
+            stride: strides[outer],
+        }
+    }
+
+    /// The next lane; None once all places are through.
+    #[inline]
+    pub fn next(&mut self) -> Option<Lane>
+        ensures over { (self.new.first ≡ self.old.first) × (self.new.lengths.now ≡ self.old.lengths.now) × (self.new.strides.now ≡ self.old.strides.now) }
+        ensures lane { MatchOption result
+            ((self.old.rank ≡ size_of self.old.lengths.now) × (self.new.rank ≡ self.old.rank))
+            (λ lane. IsLane self.old.first self.old.lengths.now self.old.strides.now self.old.rank lane.place lane.count lane.stride × (self.new.rank ≡ self.old.rank + lane.count)) }
+        ensures along { IfSome result (λ lane. (lane.count ≡ slice_index_or self.old.lengths.now (length self.old.lengths.now - 1) 1) × (lane.stride ≡ slice_index_or self.old.strides.now (length self.old.strides.now - 1) (pos 0))) }
+    {
+        match self.outer.place() {
+            Some(place) => {
+                self.outer.advance();
+                self.rank += self.count;
+                Some(Lane {
+                    place,
+                    count: self.count,
+                    stride: self.stride,
+                })
+            }
+            None => None,
+        }
+    }
+}

@@ -1,0 +1,167 @@
+//! A walk over the indexes of a box in row-major order. It moves a place along, and computes none from an index.
+
+ghost use Rattle.std.specs.Prelude.{◌≡◌, ◌+◌, ◌<◌, ◌≤◌, ◌^◌, ◌-ℤ◌, ◌*ℤ◌, ℕ, true, min, pos, length, take, MatchOption};
+ghost use Rattle.nd_shape_and_slice.specs.Shape.{in_box, size_of, row_rank, index_at, HasCheckedSize};
+ghost use Rattle.nd_shape_and_slice.specs.Place.{place_of};
+ghost use Rattle.nd_layout.specs.Places.{is_place, ReachesPlaces};
+ghost use Rattle.nd_layout.specs.Walk.{place_at_rank, StandsAt};
+
+use crate::layout::places::moved_by;
+use crate::runs::count_of;
+use nd_shape_and_slice::{MAX_AXES, is_empty_shape};
+
+/// The place that lies a number of steps before another.
+#[inline]
+fn moved_back(place: usize, steps: usize, stride: isize) -> usize
+    requires from { place < 2 ^ 63 }
+    requires few { steps < 2 ^ 63 }
+    requires to { is_place (pos place -ℤ (pos steps *ℤ stride)) ≡ true }
+    ensures { pos result ≡ pos place -ℤ (pos steps *ℤ stride) }
+{
+    (place as isize - steps as isize * stride) as usize
+}
+
+/// How many indexes a box has.
+fn size(lengths: &[usize]) -> usize
+    requires { HasCheckedSize lengths.now }
+    ensures { result ≡ size_of lengths.now }
+{
+    if is_empty_shape(lengths) {
+        0
+    } else {
+        count_of(lengths)
+    }
+}
+
+/// Moves an index of the box, at a place, to the next index in row-major order, and answers the place of that. The last
+/// axis advances by one stride; an axis that is at its end starts again, a stride back for each of its coordinates, and
+/// the axis before it advances. After the last index comes the first.
+fn advanced(
+    first: usize,
+    lengths: &[usize],
+    strides: &[isize],
+    index: &mut [usize],
+    place: usize,
+) -> usize
+    requires as_many { length strides.now ≡ length lengths.now }
+    requires checked { HasCheckedSize lengths.now }
+    requires reach { ReachesPlaces first lengths.now strides.now }
+    requires inside { in_box lengths.now index.old ≡ true }
+    requires lies { pos place ≡ place_of first strides.now index.old }
+    ensures inside { in_box lengths.now index.new ≡ true }
+    ensures rank { row_rank lengths.now index.old + 1 < size_of lengths.now → row_rank lengths.now index.new ≡ row_rank lengths.now index.old + 1 }
+    ensures lies { pos result ≡ place_of first strides.now index.new }
+{
+    let mut place = place;
+    let mut axis = lengths.len();
+    while axis > 0 {
+        axis -= 1;
+        let coordinate = index[axis];
+        if coordinate + 1 < lengths[axis] {
+            index[axis] = coordinate + 1;
+            return moved_by(place, 1, strides[axis]);
+        }
+        index[axis] = 0;
+        place = moved_back(place, coordinate, strides[axis]);
+    }
+    place
+}
+
+/// The same for an index that stands at the front of an array.
+fn advanced_front(
+    first: usize,
+    lengths: &[usize],
+    strides: &[isize],
+    index: &mut [usize; MAX_AXES],
+    place: usize,
+) -> usize
+    requires as_many { length strides.now ≡ length lengths.now }
+    requires few { length lengths.now ≤ 32 }
+    requires checked { HasCheckedSize lengths.now }
+    requires reach { ReachesPlaces first lengths.now strides.now }
+    requires inside { in_box lengths.now (take (length lengths.now) index.old) ≡ true }
+    requires lies { pos place ≡ place_of first strides.now (take (length lengths.now) index.old) }
+    ensures inside { in_box lengths.now (take (length lengths.now) index.new) ≡ true }
+    ensures rank { row_rank lengths.now (take (length lengths.now) index.old) + 1 < size_of lengths.now → row_rank lengths.now (take (length lengths.now) index.new) ≡ row_rank lengths.now (take (length lengths.now) index.old) + 1 }
+    ensures lies { pos result ≡ place_of first strides.now (take (length lengths.now) index.new) }
+{
+    let axes = lengths.len();
+    advanced(first, lengths, strides, &mut index[..axes], place)
+}
+
+/// A walk over the places of a layout, in row-major order of their indexes: a place, and a coordinate for each axis. It
+/// holds no element, no pointer and no memory of its own.
+#[derive(Drop)]
+pub struct Walk<'a> {
+    /// The place of the index of zeros.
+    pub first: usize,
+    pub lengths: &'a [usize],
+    pub strides: &'a [isize],
+    /// How many places the walk has passed.
+    pub rank: usize,
+    size: usize,
+    place: usize,
+    index: [usize; MAX_AXES],
+    ghost as_many: { length strides.now ≡ length lengths.now },
+    ghost few: { length lengths.now ≤ 32 },
+    ghost checked: { HasCheckedSize lengths.now },
+    ghost reach: { ReachesPlaces first lengths.now strides.now },
+    ghost counted: { size ≡ size_of lengths.now },
+    ghost within: { rank ≤ size_of lengths.now },
+    ghost stands: { rank < size_of lengths.now → StandsAt first lengths.now strides.now rank place index },
+}
+
+impl<'a> Walk<'a> {
+    /// The walk that stands at the first index, where there is one. Each index has a place.
+    pub fn new(first: usize, lengths: &'a [usize], strides: &'a [isize]) -> Self
+        requires as_many { length strides.now ≡ length lengths.now }
+        requires few { length lengths.now ≤ 32 }
+        requires checked { HasCheckedSize lengths.now }
+        requires reach { ReachesPlaces first lengths.now strides.now }
+        ensures over { (result.first ≡ first) × (result.lengths.now ≡ lengths.now) × (result.strides.now ≡ strides.now) }
+        ensures rank { result.rank ≡ 0 }
+    {
+        Walk {
+            first,
+            lengths,
+            strides,
+            rank: 0,
+            size: size(lengths),
+            place: first,
+            index: [0; MAX_AXES],
+        }
+    }
+
+    /// The place of the index at which the walk stands; None once it has passed all.
+    #[inline]
+    #[tactic(auto, using(crate::proofs::WalkSteps::stands_there))]
+    pub fn place(&self) -> Option<usize>
+        ensures { MatchOption result (self.now.rank ≡ size_of self.now.lengths.now) (λ place. (self.now.rank < size_of self.now.lengths.now) × (pos place ≡ place_at_rank self.now.first self.now.lengths.now self.now.strides.now self.now.rank)) }
+    {
+        if self.rank < self.size {
+            Some(self.place)
+        } else {
+            None
+        }
+    }
+
+    /// Moves on to the next index. Once all are passed it stays.
+    #[inline]
+    pub fn advance(&mut self)
+        ensures over { (self.new.first ≡ self.old.first) × (self.new.lengths.now ≡ self.old.lengths.now) × (self.new.strides.now ≡ self.old.strides.now) }
+        ensures rank { self.new.rank ≡ min (self.old.rank + 1) (size_of self.old.lengths.now) }
+    {
+        if self.size - self.rank > 1 {
+            self.place = advanced_front(
+                self.first,
+                self.lengths,
+                self.strides,
+                &mut self.index,
+                self.place,
+            );
+            self.rank += 1;
+        } else {
+            self.rank = self.size;
+        }
+    }
+}

@@ -1,0 +1,86 @@
+//! Walks and lanes over layouts.
+
+ghost use Rattle.std.specs.Prelude.{◌≡◌, ◌<◌, ◌≤◌, ℕ, length, pos, slice_index};
+ghost use Rattle.nd_shape_and_slice.specs.Shape.{size_of, HasCheckedSize};
+ghost use Rattle.nd_layout.specs.Places.{ReachesPlaces};
+ghost use Rattle.nd_layout.specs.Walk.{place_at_rank};
+
+use nd_layout::Walk;
+
+/// Writes the place of each index, in row-major order.
+fn list_places(first: usize, lengths: &[usize], strides: &[isize], out: &mut [usize])
+    requires as_many { length strides.now ≡ length lengths.now }
+    requires few { length lengths.now ≤ 32 }
+    requires checked { HasCheckedSize lengths.now }
+    requires reach { ReachesPlaces first lengths.now strides.now }
+    requires long { length out.old ≡ size_of lengths.now }
+    ensures { (rank : ℕ) → rank < size_of lengths.now → pos (slice_index out.new rank) ≡ place_at_rank first lengths.now strides.now rank }
+{
+    let mut walk = Walk::new(first, lengths, strides);
+    for rank in 0..out.len() {
+        match walk.place() {
+            Some(place) => out[rank] = place,
+            None => unreachable!(),
+        }
+        walk.advance();
+    }
+}
+
+#[test]
+fn walks(rt: HostRuntime) {
+    let mut out = [0; 6];
+    list_places(0, &[2, 3], &[3, 1], &mut out);
+    assert_eq!(rt; out, [0, 1, 2, 3, 4, 5]);
+    // the columns of two rows, the rows from the last on, and a row that is there twice
+    list_places(0, &[3, 2], &[1, 3], &mut out);
+    assert_eq!(rt; out, [0, 3, 1, 4, 2, 5]);
+    list_places(3, &[2, 3], &[-3, 1], &mut out);
+    assert_eq!(rt; out, [3, 4, 5, 0, 1, 2]);
+    list_places(2, &[2, 3], &[0, 2], &mut out);
+    assert_eq!(rt; out, [2, 4, 6, 2, 4, 6]);
+    list_places(1, &[1, 3, 1, 2], &[9, 4, 9, 1], &mut out);
+    assert_eq!(rt; out, [1, 2, 5, 6, 9, 10]);
+}
+
+#[test]
+fn walks_end(rt: HostRuntime) {
+    let mut walk = Walk::new(7, &[], &[]);
+    assert_eq!(rt; walk.place(), Some(7));
+    walk.advance();
+    assert_eq!(rt; walk.place(), None);
+    walk.advance();
+    assert_eq!(rt; walk.place(), None);
+    assert_eq!(rt; Walk::new(7, &[2, 0], &[1, 1]).place(), None);
+}
+
+/// Whether each lane is a run of consecutive places.
+fn all_steps_are_one(first: usize, lengths: &[usize], strides: &[isize]) -> bool
+    requires as_many { length strides.now ≡ length lengths.now }
+    requires few { length lengths.now ≤ 32 }
+    requires checked { HasCheckedSize lengths.now }
+    requires reach { ReachesPlaces first lengths.now strides.now }
+{
+    let mut lanes = Lanes::new(first, lengths, strides);
+    for _ in 0..lengths.len() {
+        if let Some(lane) = lanes.next() {
+            if lane.stride != 1 {
+                return false;
+            }
+        }
+    }
+    true
+}
+
+#[test]
+fn lanes(rt: HostRuntime) {
+    let mut rows = Lanes::new(4, &[2, 3], &[-3, 1]);
+    assert_eq!(rt; rows.next(), Some(lane(4, 3, 1)));
+    assert_eq!(rt; rows.next(), Some(lane(1, 3, 1)));
+    assert_eq!(rt; rows.next(), None);
+    assert_eq!(rt; rows.next(), None);
+    let mut one = Lanes::new(7, &[], &[]);
+    assert_eq!(rt; one.next(), Some(lane(7, 1, 0)));
+    assert_eq!(rt; one.next(), None);
+    assert_eq!(rt; Lanes::new(7, &[2, 0], &[1, 1]).next(), None);
+    assert_eq!(rt; Lanes::new(7, &[0, 2], &[1, 1]).next(), None);
+}
