@@ -14,3 +14,5 @@ pub mod LaidOut
 pub mod lending
 pub mod tasks
 pub mod Masks
+pub mod Fresh
+pub mod Diagonals

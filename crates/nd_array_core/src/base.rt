@@ -5,6 +5,8 @@ pub mod array;
 pub mod constructors;
 pub mod conversions;
 pub mod extents;
+pub mod fresh;
 pub mod indexing;
+pub mod square;
 pub mod storage;
 pub mod writing;

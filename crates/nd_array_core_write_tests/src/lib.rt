@@ -6,6 +6,8 @@ mod elements;
 #[cfg(test)]
 mod fill;
 #[cfg(test)]
+mod fresh;
+#[cfg(test)]
 mod lent_slices;
 #[cfg(test)]
 mod scoped_calls;
