@@ -16,3 +16,8 @@ pub mod tasks
 pub mod Masks
 pub mod Fresh
 pub mod Diagonals
+pub mod FreeOrder
+pub mod Numbered
+pub mod Answered
+pub mod ColumnIndexes
+pub mod LastIndexes
