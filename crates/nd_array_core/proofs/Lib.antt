@@ -15,3 +15,10 @@ pub mod LaidOut
 pub mod lending
 pub mod tasks
 pub mod Masks
+pub mod Fresh
+pub mod Diagonals
+pub mod FreeOrder
+pub mod Numbered
+pub mod Answered
+pub mod ColumnIndexes
+pub mod LastIndexes

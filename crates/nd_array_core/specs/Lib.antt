@@ -3,6 +3,8 @@ pub mod PlacedArray
 pub mod Meaning
 pub mod Part
 pub mod Coordinates
+pub mod FreeOrder
+pub mod LastIndex
 pub mod Laws
 pub mod Joined
 pub mod base

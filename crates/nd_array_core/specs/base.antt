@@ -8,3 +8,4 @@ pub mod ElementLent
 pub mod Lends
 pub mod RegionLent
 pub mod NewElements
+pub mod Fresh

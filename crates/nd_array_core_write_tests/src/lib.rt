@@ -2,9 +2,13 @@
 #![tactic(auto)]
 
 #[cfg(test)]
+mod answers;
+#[cfg(test)]
 mod elements;
 #[cfg(test)]
 mod fill;
+#[cfg(test)]
+mod fresh;
 #[cfg(test)]
 mod lent_slices;
 #[cfg(test)]

@@ -29,6 +29,7 @@ pub(crate) fn in_order<S: Data, D: Dimension>(storage: S, dim: D, order: Order) 
     ensures strides { layout_strides result ≡ ordered_strides order (D.lengths dim) }
     ensures elements { (i : List ℕ) → element_at result i ≡ inside (D.lengths dim) i (S.stored storage (rank_in order (D.lengths dim) i)) }
     ensures storage { storage_of result ≡ storage }
+    ensures offset { layout_offset result ≡ 0 }
 {
     ArrayBase {
         storage,

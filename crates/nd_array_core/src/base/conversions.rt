@@ -1,7 +1,7 @@
-//! Views of slices and of rows.
+//! Views of slices, of rows and of arrays, and an array of a vector.
 #![tactic(auto, unfolding(crate::specs::Meaning::meaning_of, crate::specs::Meaning::memory_layout_of))]
 
-ghost use Rattle.std.specs.Prelude.{◌≡◌, ◌*◌, ◌<◌, ◌^◌, ℕ, List, [], ◌∷◌, length, IsSome};
+ghost use Rattle.std.specs.Prelude.{◌≡◌, ◌*◌, ◌<◌, ◌^◌, ℕ, List, [], ◌∷◌, length, IsSome, vec_len, vec_capacity};
 ghost use Rattle.std.specs.List.{flat_map};
 ghost use Rattle.nd_shape_and_slice.specs.Shape.{row_rank, HasCheckedSize};
 ghost use Rattle.nd_shape_and_slice.specs.Strides.{c_strides};
@@ -9,13 +9,16 @@ ghost use Rattle.nd_array_core.specs.Meaning.{shape_of, element_at, layout_strid
 ghost use Rattle.std.specs.Borrow.{sem};
 ghost use Rattle.nd_region.specs.Region.{region_stored};
 ghost use Rattle.nd_region.specs.Lends.{slice_follows};
+ghost use Rattle.nd_shape_and_slice.specs.declared.builder.Order.TheVariants.{RowMajor};
+ghost use Rattle.nd_array_core.specs.Part.{ShowsWhole};
+ghost use Rattle.nd_array_core.specs.base.Fresh.{OwnsInOrder, OwnsVec};
 ghost use Rattle.nd_array_core.specs.base.Sources.{IsRowMajorOf};
 
-use crate::base::array::{ArrayBase, ArrayView, ArrayViewMut};
+use crate::base::array::{Array, ArrayBase, ArrayView, ArrayViewMut};
 use crate::base::constructors::in_order;
 use crate::base::storage::{Data, ViewMutRepr, ViewRepr};
 use nd_region::Region;
-use nd_shape_and_slice::{IntoDimension, Ix1, Ix2, Order, size_of_shape_checked};
+use nd_shape_and_slice::{Dimension, IntoDimension, Ix1, Ix2, Order, size_of_shape_checked};
 
 /// That many elements of a storage, from place 0 on, along one axis; none where they are more than `isize::MAX`.
 fn on_one_axis<S: Data>(storage: S, len: usize) -> ArrayBase<S, Ix1>
@@ -27,6 +30,24 @@ fn on_one_axis<S: Data>(storage: S, len: usize) -> ArrayBase<S, Ix1>
     match size_of_shape_checked(&[len]) {
         Ok(_) => in_order(storage, len.into_dimension(), Order::RowMajor),
         Err(_) => in_order(storage, 0.into_dimension(), Order::RowMajor),
+    }
+}
+
+/// The array of a vector's elements, with one axis, over the vector itself: that of `from_vec`.
+impl<A> From<Vec<A>> for Array<A, Ix1> {
+    ghost from_gives = { λ v array. OwnsInOrder (vec_len v ∷ [], RowMajor) array × OwnsVec v.items (vec_capacity v) array };
+
+    fn from(v: Vec<A>) -> Self {
+        Array::from_vec(v)
+    }
+}
+
+/// The view of an array, with the same strides: that of `view`.
+impl<'a, S: Data, D: Dimension> From<&'a ArrayBase<S, D>> for ArrayView<'a, S::Elem, D> {
+    ghost from_gives = { λ array view. ShowsWhole array.now view };
+
+    fn from(array: &'a ArrayBase<S, D>) -> Self {
+        array.view()
     }
 }
 

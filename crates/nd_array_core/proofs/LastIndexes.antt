@@ -1,0 +1,31 @@
+-- The last index of a shape is that of the greatest rank.
+use Rattle.std.proofs.Common.{◌≡◌, ℕ, zero, suc, ◌+◌, ◌-◌, ◌*◌, ◌/◌, ◌%◌, ◌<◌, Bool, true, false, List, [], ◌∷◌, refl, ap, sym, ◌∙◌, arith}
+use Rattle.std.proofs.lemmas.Nat.{div-mul-add, mod-mul-add}
+use Rattle.nd_shape_and_slice.specs.Shape.{in_box, size_of, index_at}
+use Rattle.nd_shape_and_slice.proofs.RowMajor.{positive-cons, row_rank_below}
+use Rattle.nd_shape_and_slice.proofs.RankIndexes.{in_box-index_at}
+use Rattle.nd_array_core.specs.LastIndex.{last_index}
+
+pub last_by_rank : (ns : List ℕ) → 0 < size_of ns → index_at ns (size_of ns - 1) ≡ last_index ns
+last_by_rank [] some = refl
+last_by_rank (zero ∷ ns) some = absurd (omega (arith, some))
+last_by_rank (suc m ∷ ns) some =
+    let s = size_of ns in
+    let rest : 0 < s = (positive-cons (suc m) ns some).1 in
+    let low : s - 1 < s = omega (arith, rest) in
+    let product : suc m * s ≡ m * s + s = grind arith in
+    let rank : suc m * s - 1 ≡ m * s + (s - 1) = omega (arith, product, rest) in
+    let first : (suc m * s - 1) / s ≡ suc m - 1 = ap (λ r. r / s) rank ∙ (div-mul-add m s (s - 1) low ∙ omega arith) in
+    let later : (suc m * s - 1) % s ≡ s - 1 = ap (λ r. r % s) rank ∙ mod-mul-add m s (s - 1) low in
+    (λ k. first k ∷ (ap (index_at ns) later ∙ last_by_rank ns rest) k)
+
+pub last_inside : (ns : List ℕ) → 0 < size_of ns → in_box ns (last_index ns) ≡ true
+last_inside ns some = ap (in_box ns) (sym (last_by_rank ns some)) ∙ in_box-index_at ns (size_of ns - 1) (omega (arith, some))
+
+-- a shape without elements has none
+pub last_outside : (ns : List ℕ) → size_of ns ≡ 0 → in_box ns (last_index ns) ≡ false
+last_outside ns none = by_test (in_box ns (last_index ns)) refl
+  where
+    by_test : (b : Bool) → in_box ns (last_index ns) ≡ b → in_box ns (last_index ns) ≡ false
+    by_test true h = absurd (let below = row_rank_below ns (last_index ns) h in omega (arith, below, none))
+    by_test false h = h

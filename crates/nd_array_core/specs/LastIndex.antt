@@ -1,0 +1,11 @@
+-- The last index of a shape.
+use Rattle.std.specs.Prelude.{ℕ, ◌-◌, List, map, nat_eq, Option, None, Some, if◌then◌else◌}
+use Rattle.nd_shape_and_slice.specs.Shape.{size_of}
+
+-- the last coordinate on each axis: where there are elements the index of the greatest row-major rank
+abbrev pub last_index : List ℕ → List ℕ
+last_index shape = map (λ n. n - 1) shape
+
+-- the offset, where there are elements
+abbrev pub offset_if_any : List ℕ → ℕ → Option ℕ
+offset_if_any shape offset = if nat_eq (size_of shape) 0 then None else Some offset

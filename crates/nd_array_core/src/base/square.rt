@@ -1,0 +1,82 @@
+//! New square matrices: identities, and diagonals with zeros around them.
+#![tactic(auto, unfolding(crate::specs::Meaning::meaning_of, crate::specs::Meaning::memory_layout_of))]
+
+ghost use Rattle.std.specs.Prelude.{◌≡◌, [], ◌∷◌, IfOk, Some, slice_index};
+ghost use Rattle.nd_shape_and_slice.specs.Shape.{HasCheckedSize};
+ghost use Rattle.nd_shape_and_slice.specs.declared.builder.Order.TheVariants.{RowMajor};
+ghost use Rattle.nd_array_core.specs.Meaning.{shape_of, element_at};
+ghost use Rattle.nd_array_core.specs.Coordinates.{element_of_1};
+ghost use Rattle.nd_array_core.specs.base.Fresh.{ClonesAreEqual, ClonesOfAllAreEqual, OwnsInOrder, ShowsOnDiagonal};
+
+use crate::base::array::{Array, ArrayBase};
+use crate::base::storage::Data;
+use nd_shape_and_slice::{Ix1, Ix2, NoMemory};
+use num_traits::{One, Zero};
+use std::alloc::Global;
+
+/// A clone that equals its original.
+fn cloned<A: Clone>(elem: &A) -> Result<A, NoMemory>
+    requires { ClonesAreEqual A.is_clone elem.now }
+    ensures { IfOk result (λ copy. copy ≡ elem.now) }
+{
+    match elem.clone() {
+        Ok(copy) => Ok(copy),
+        Err(_) => Err(NoMemory),
+    }
+}
+
+impl<A: Clone + Zero> Array<A, Ix2> {
+    /// The identity matrix of n rows and n columns: one at (i, i), zero elsewhere. (n, n) has a checked size, and a
+    /// clone equals its original. NoMemory if the storage or a clone is refused. ndarray's `eye`.
+    pub fn eye(alloc: Global, n: usize) -> Result<Self, NoMemory>
+    where
+        A: One,
+        requires checked { HasCheckedSize (n ∷ n ∷ []) }
+        requires zeros { ClonesAreEqual A.is_clone A.zero }
+        ensures owns { IfOk result (OwnsInOrder (n ∷ n ∷ [], RowMajor)) }
+        ensures elements { IfOk result (ShowsOnDiagonal n (λ k. Some A.one) A.zero) }
+    {
+        let mut eye = Array::zeros(alloc, (n, n))?;
+        for k in 0..n {
+            eye.replace([k, k], A::one());
+        }
+        Ok(eye)
+    }
+
+    /// A square matrix with the elements of an array on the diagonal and zero elsewhere. (n, n) has a checked size for
+    /// the array's n elements, and a clone equals its original. NoMemory if the storage or a clone is refused. ndarray's
+    /// `from_diag`.
+    pub fn from_diag<S: Data<Elem = A>>(
+        alloc: Global,
+        diag: &ArrayBase<S, Ix1>,
+    ) -> Result<Self, NoMemory>
+        requires checked { HasCheckedSize (slice_index (shape_of diag.now) 0 ∷ slice_index (shape_of diag.now) 0 ∷ []) }
+        requires zeros { ClonesAreEqual A.is_clone A.zero }
+        requires clones { ClonesOfAllAreEqual A.is_clone (element_at diag.now) }
+        ensures owns { IfOk result (OwnsInOrder (slice_index (shape_of diag.now) 0 ∷ slice_index (shape_of diag.now) 0 ∷ [], RowMajor)) }
+        ensures elements { IfOk result (ShowsOnDiagonal (slice_index (shape_of diag.now) 0) (element_of_1 diag.now) A.zero) }
+    {
+        let n = diag.dim();
+        let mut matrix = Array::zeros(alloc, (n, n))?;
+        for k in 0..n {
+            matrix.replace([k, k], cloned(diag.uget(k))?);
+        }
+        Ok(matrix)
+    }
+
+    /// A matrix of n rows and n columns with one value on the diagonal and zero elsewhere. (n, n) has a checked size, and
+    /// a clone equals its original. NoMemory if the storage or a clone is refused. ndarray's `from_diag_elem`.
+    pub fn from_diag_elem(alloc: Global, n: usize, elem: A) -> Result<Self, NoMemory>
+        requires checked { HasCheckedSize (n ∷ n ∷ []) }
+        requires zeros { ClonesAreEqual A.is_clone A.zero }
+        requires clones { ClonesAreEqual A.is_clone elem }
+        ensures owns { IfOk result (OwnsInOrder (n ∷ n ∷ [], RowMajor)) }
+        ensures elements { IfOk result (ShowsOnDiagonal n (λ k. Some elem) A.zero) }
+    {
+        let mut matrix = Array::zeros(alloc, (n, n))?;
+        for k in 0..n {
+            matrix.replace([k, k], cloned(&elem)?);
+        }
+        Ok(matrix)
+    }
+}
