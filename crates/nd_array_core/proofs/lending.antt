@@ -6,3 +6,4 @@ pub mod Tied
 pub mod Refilled
 pub mod ElementStep
 pub mod Run
+pub mod Longer

@@ -6,6 +6,7 @@ pub mod Writes
 pub mod ElementMut
 pub mod ElementLent
 pub mod Lends
+pub mod LongerLent
 pub mod RegionLent
 pub mod NewElements
 pub mod Fresh

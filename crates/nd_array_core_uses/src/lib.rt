@@ -34,8 +34,9 @@ pub use lent_views::{fill_again, fill_part, fill_view, paint_owned_columns, set_
 use nd_array_core::{Array, ArrayBase, ArrayView, Data};
 use nd_shape_and_slice::{Axis, Dimension, Ix2, ShapeError, Slice, slice_fits};
 pub use parts_written::{
-    fill_column_of_view, fill_diagonal, fill_inner, fill_named, fill_row_of_owned, swap_in_row,
-    swap_numbers_in_row, write_in_part,
+    fill_column_of_numbers, fill_column_of_view, fill_diagonal, fill_inner, fill_line_at,
+    fill_named, fill_one_of_part, fill_row_of_owned, swap_in_row, swap_numbers_in_row,
+    write_in_part,
 };
 pub use pixels::{checkerboard, checkerboard_of_references, row_sum, swap_rows};
 pub use strides::{row_repeated, turned_at_the_least_stride};

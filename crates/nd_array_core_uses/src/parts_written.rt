@@ -10,7 +10,7 @@ ghost use Rattle.nd_array_core.specs.Part.{sliced_part, axis_part, coordinate_pa
 ghost use Rattle.nd_array_core.specs.scoped.PartTasks.{KeepsBut};
 
 use nd_array_core::{Array2, ArrayBase, ArrayViewMut, DataMut, GetMut};
-use nd_shape_and_slice::{Axis, Dimension, Ix2, NdIndex, NoMemory, Slice, SliceArg};
+use nd_shape_and_slice::{Axis, Dimension, Ix2, NdIndex, NoMemory, RemoveAxis, Slice, SliceArg};
 
 /// Fills what a list of slices names.
 pub fn fill_named<S: DataMut, D: Dimension, I: SliceArg<D>>(
@@ -143,4 +143,55 @@ pub fn swap_numbers_in_row(image: &mut Array2<i64>, row: usize, first: usize, se
     ensures other_rows { (r c : ℕ) → (r ≡ row → ⊥) → element_at image.new (r ∷ c ∷ []) ≡ element_at image.old (r ∷ c ∷ []) }
 {
     swap_in_row(image, row, first, second);
+}
+
+/// Fills one coordinate of a part of an array, through a view of a view of the part.
+pub fn fill_one_of_part<S: DataMut, D: RemoveAxis>(
+    array: &mut ArrayBase<S, D>,
+    axis: Axis,
+    slice: Slice,
+    index: usize,
+    value: S::Elem,
+) -> Result<(), NoMemory>
+where
+    D::Smaller: Dimension,
+    S::Elem: Clone + Drop,
+    requires axis { axis.0 < length (shape_of array.old) }
+    requires fits { fits_axis (slice_index (shape_of array.old) axis.0) slice ≡ true }
+    requires part { axis.0 < length (sliced_shape (shape_of array.old) axis.0 slice) }
+    requires within { index < slice_index (sliced_shape (shape_of array.old) axis.0 slice) axis.0 }
+    requires clones { (copy : S.Elem) → S.Elem.is_clone value copy → copy ≡ value }
+    ensures shape { shape_of array.new ≡ shape_of array.old }
+    ensures kept { KeepsBut array.old array.new (axis_part array.old axis.0 slice) }
+{
+    let mut part = array.slice_axis_mut(axis, slice).reborrow();
+    part.index_axis_mut(axis, index).fill(value)
+}
+
+/// Fills a column of a mutable view of numbers.
+pub fn fill_column_of_numbers(
+    view: &mut ArrayViewMut<'_, i64, Ix2>,
+    column: usize,
+    value: i64,
+) -> Result<(), NoMemory>
+    requires column { column < slice_index (shape_of view.old) 1 }
+    ensures shape { shape_of view.new ≡ shape_of view.old }
+    ensures kept { KeepsBut view.old view.new (coordinate_part view.old 1 column) }
+{
+    view.column_mut(column).fill(value)
+}
+
+/// Fills what lies at one coordinate of an axis of an image.
+pub fn fill_line_at<S: DataMut<Elem = i64>>(
+    image: &mut ArrayBase<S, Ix2>,
+    axis: Axis,
+    index: usize,
+    value: i64,
+) -> Result<(), NoMemory>
+    requires axis { axis.0 < length (shape_of image.old) }
+    requires index { index < slice_index (shape_of image.old) axis.0 }
+    ensures shape { shape_of image.new ≡ shape_of image.old }
+    ensures kept { KeepsBut image.old image.new (coordinate_part image.old axis.0 index) }
+{
+    image.index_axis_mut(axis, index).fill(value)
 }

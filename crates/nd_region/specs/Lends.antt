@@ -1,6 +1,7 @@
 -- What a lender ends as, once a borrow of a region's elements is over.
-use Rattle.std.specs.Prelude.{ℕ, Bool, List, [], length, slice_set}
-use Rattle.std.specs.Borrow.{Fml, RattleType, MutBor, Array, follows}
+use Rattle.std.specs.Prelude.{ℕ, Bool, List, [], length, slice_set, Option}
+use Rattle.std.specs.Borrow.{Fml, RattleType, MutBor, Array, follows, follows_if}
+use Rattle.std.specs.Option.{ghost_name_of}
 use denote.Follow.{follows_both}
 use Rattle.std.specs.Simd.{first_chunks}
 use mir.Syntax.{named}
@@ -29,6 +30,10 @@ region_follows R s r = follows (the_row (record { mir = named 1; lft = [] }) R) 
 -- the region's borrow ends with what is left behind the reference at the place
 abbrev pub borrow_follows : (R : RattleType) → Region R.Denot → ℕ → MutBor R.Denot → Fml
 borrow_follows R r p x = follows (Array R 0) R r.name x.ghost_name (λ w. slice_set r.items p w)
+
+-- the same where there is a reference, and else each place ends with what it held
+abbrev pub borrow_may_follow : (R : RattleType) → Region R.Denot → ℕ → Option (MutBor R.Denot) → Fml
+borrow_may_follow R r p x = follows_if (Array R 0) R r.name (ghost_name_of x) (λ w. slice_set r.items p w) r.items
 
 -- the region's borrow ends with what the part ends with at the places that pass the test, and else with what it held
 abbrev pub borrow_part_follows : (R : RattleType) → Region R.Denot → (ℕ → Bool) → Region R.Denot → Fml

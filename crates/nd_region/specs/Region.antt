@@ -1,5 +1,5 @@
 -- What contracts say of a region.
-use Rattle.std.specs.Prelude.{◌≡◌, ℕ, ◌+◌, ◌<◌, slice_index_or, ℤ, List, Bool, true, Option, Some, length, replicate, slice_set}
+use Rattle.std.specs.Prelude.{◌≡◌, ℕ, ◌+◌, ◌<◌, slice_index_or, ℤ, List, Bool, true, Option, Some, None, if◌then◌else◌, length, replicate, slice_set}
 use Rattle.nd_shape_and_slice.specs.Shape.{in_box}
 use Rattle.nd_shape_and_slice.specs.Place.{place_of}
 use Rattle.nd_region.specs.Places.{stored_in, run_written, merged_rows, has_place, kept_where}
@@ -12,6 +12,10 @@ module _ {A : Type 0} where
   -- the element at each place of the region's set, and None at every other number
   abbrev pub region_stored : Region A → ℕ → Option A
   region_stored r = stored_in r.items r.held
+
+  -- what is stored, where it is asked for
+  abbrev pub stored_if : Bool → Option A → Option A
+  stored_if asked stored = if asked then stored else None
 
   -- the row that the region is of: the elements at its places, and what is known of the others
   abbrev pub elements_of : Region A → List A

@@ -1,4 +1,5 @@
-ghost use Rattle.std.specs.Prelude.{length, ◌*◌, ◌≡◌, ℕ, ◌<◌, ◌^◌, List, Bool, Option, Some, IsSome};
+ghost use Rattle.std.specs.Prelude.{length, ◌*◌, ◌≡◌, ℕ, ◌<◌, ◌^◌, List, Bool, true, Option, Some, IsSome};
+ghost use Rattle.std.specs.Option.{option_copied_mut};
 ghost use Rattle.std.specs.Borrow.{sem};
 ghost use Rattle.std.specs.List.{flat_map};
 ghost use base.Fml.{GName};
@@ -27,8 +28,8 @@ impl<'a, A> Model for Region<'a, A> {
 }
 
 impl<'a, A> Region<'a, A> {
-    ghost use Rattle.nd_region.specs.Region.{region_stored, with_element, IsSameMap, IsWhole, IsPartWhere, HasPlaces, HasRun, IsRunOf};
-    ghost use Rattle.nd_region.specs.Lends.{rows_follow, slice_follows, place_follows, parts_follow, region_follows, borrow_follows, borrow_part_follows, run_follows, borrow_run_follows, keeps_elements};
+    ghost use Rattle.nd_region.specs.Region.{region_stored, with_element, IsSameMap, IsWhole, IsPartWhere, HasPlaces, HasRun, IsRunOf, stored_if};
+    ghost use Rattle.nd_region.specs.Lends.{rows_follow, slice_follows, place_follows, parts_follow, region_follows, borrow_follows, borrow_may_follow, borrow_part_follows, run_follows, borrow_run_follows, keeps_elements};
 
     /// The region of a slice, with all its places.
     pub fn from_slice(slice: &'a mut [A]) -> Region<'a, A>
@@ -152,6 +153,24 @@ impl<'a, A> Region<'a, A> {
             mark: _,
         } = self;
         unsafe { &mut *ptr.add(place) }
+    }
+
+    /// The element at a place, to be written for as long as the region's borrow lasts, where the place is asked for. The
+    /// other places keep theirs; where it isn't, the region ends, and each place keeps its element.
+    pub fn into_mut_if(self, place: usize, asked: bool) -> Option<&'a mut A>
+        requires { asked ≡ true → IsSome (region_stored self place) }
+        ensures* writes_back { sem 𝓛 (borrow_may_follow A.row self.entry place result) }
+        ensures value { option_copied_mut result ≡ stored_if asked (region_stored self.entry place) }
+    {
+        let Region {
+            ptr,
+            len: _,
+            mark: _,
+        } = self;
+        if !asked {
+            return None;
+        }
+        Some(unsafe { &mut *ptr.add(place) })
     }
 
     /// The `count` elements from a place on.

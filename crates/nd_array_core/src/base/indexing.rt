@@ -1,19 +1,22 @@
 //! The element at an index, to be read; and references that live as long as what a view borrows.
-#![tactic(auto, unfolding(crate::specs::Meaning::meaning_of))]
+#![tactic(auto, unfolding(crate::specs::Meaning::meaning_of, crate::specs::Meaning::memory_layout_of))]
 
-ghost use Rattle.std.specs.Prelude.{◌↔◌, ◌≡◌, Bool, true, false, is_some, IsNone, MatchOption, Some};
+ghost use Rattle.std.specs.Prelude.{◌↔◌, ◌≡◌, Bool, true, false, is_some, IsNone, IsSome, MatchOption, Some};
+ghost use Rattle.std.specs.Borrow.{sem};
 ghost use Rattle.std.specs.Option.{option_copied};
 ghost use Rattle.nd_shape_and_slice.specs.Shape.{in_box, size_of};
 ghost use Rattle.nd_shape_and_slice.specs.FirstIndex.{first_index};
+ghost use Rattle.nd_region.specs.Region.{region_stored, stored_if};
+ghost use Rattle.nd_array_core.specs.Meaning.{shape_of, element_at, place_at};
+ghost use Rattle.nd_array_core.specs.base.LongerLent.{region_of, follows_index, may_follow_index};
 
 use super::array::{ArrayBase, ArrayView, ArrayViewMut};
 use super::storage::{Data, RegionRepr};
+use nd_region::Region;
 use nd_shape_and_slice::{Dimension, NdIndex};
 use std::ops::Index;
 
 impl<S: Data, D: Dimension> ArrayBase<S, D> {
-    ghost use Rattle.nd_array_core.specs.Meaning.{shape_of, element_at};
-
     /// The element at an index; None exactly outside the shape's box, a wrong number of coordinates included.
     /// ndarray's `get`.
     pub fn get<I: NdIndex<D>>(&self, index: I) -> Option<&S::Elem>
@@ -44,8 +47,6 @@ impl<S: Data, D: Dimension> ArrayBase<S, D> {
 }
 
 impl<S: Data, D: Dimension, I: NdIndex<D>> Index<I> for ArrayBase<S, D> {
-    ghost use Rattle.nd_array_core.specs.Meaning.{shape_of, element_at};
-
     type Output = S::Elem;
 
     ghost can_index = { λ a i. in_box (shape_of a) (I.coordinates_of i) ≡ true };
@@ -84,8 +85,6 @@ pub trait IndexLonger<I> {
 }
 
 impl<'a, 'b, A, D: Dimension, I: NdIndex<D>> IndexLonger<I> for &'b ArrayView<'a, A, D> {
-    ghost use Rattle.nd_array_core.specs.Meaning.{shape_of, element_at};
-
     type Output = &'a A;
 
     ghost has_index = { λ view index. in_box (shape_of view.now) (I.coordinates_of index) };
@@ -109,30 +108,74 @@ impl<'a, 'b, A, D: Dimension, I: NdIndex<D>> IndexLonger<I> for &'b ArrayView<'a
     }
 }
 
-impl<'a, A, D: Dimension, I: NdIndex<D>> IndexLonger<I> for ArrayViewMut<'a, A, D> {
-    ghost use Rattle.nd_array_core.specs.Meaning.{shape_of, element_at};
+/// The region of a mutable view, the place in it of an index, and whether the index is in the shape's box.
+fn sought<'a, A, D: Dimension, I: NdIndex<D>>(
+    view: ArrayViewMut<'a, A, D>,
+    index: I,
+) -> (Region<'a, A>, usize, bool)
+    ensures region { result.0 ≡ region_of view.entry }
+    ensures within { result.2 ≡ in_box (shape_of view.entry) (I.coordinates_of index) }
+    ensures place { result.2 ≡ true → place_at view.entry (I.coordinates_of index) ≡ Some result.1 }
+    ensures element { element_at view.entry (I.coordinates_of index) ≡ stored_if result.2 (region_stored result.0 result.1) }
+    ensures there { result.2 ≡ true → IsSome (region_stored result.0 result.1) }
+{
+    let ArrayBase { storage, layout } = view;
+    let RegionRepr { region, tie: _ } = storage;
+    match layout.place_of(index.coordinates()) {
+        Some(place) => (region, place, true),
+        None => (region, 0, false),
+    }
+}
 
+/// The region of a mutable view, and the place in it of an index of the shape's box.
+fn sought_in_box<'a, A, D: Dimension, I: NdIndex<D>>(
+    view: ArrayViewMut<'a, A, D>,
+    index: I,
+) -> (Region<'a, A>, usize)
+    requires { in_box (shape_of view) (I.coordinates_of index) ≡ true }
+    ensures region { result.0 ≡ region_of view.entry }
+    ensures place { place_at view.entry (I.coordinates_of index) ≡ Some result.1 }
+    ensures element { element_at view.entry (I.coordinates_of index) ≡ region_stored result.0 result.1 }
+    ensures there { IsSome (region_stored result.0 result.1) }
+{
+    let ArrayBase { storage, layout } = view;
+    let RegionRepr { region, tie: _ } = storage;
+    let place = layout.place_in_box(index.coordinates());
+    (region, place)
+}
+
+/// The references live as long as what the view borrows, which then ends with what is left behind the reference at the
+/// place of the index, and with what it held at every other place; where there is no reference, with what it held.
+impl<'a, A, D: Dimension, I: NdIndex<D>> IndexLonger<I> for ArrayViewMut<'a, A, D> {
     type Output = &'a mut A;
 
     ghost has_index = { λ view index. in_box (shape_of view) (I.coordinates_of index) };
 
     ghost longer_gives = { λ view index element. element_at view (I.coordinates_of index) ≡ Some element.now };
 
-    fn index(self, index: I) -> &'a mut A {
-        self.uget(index)
+    fn index(self, index: I) -> &'a mut A
+        requires { in_box (shape_of self) (I.coordinates_of index) ≡ true }
+        ensures* writes_back { sem 𝓛 (follows_index A.row self.entry (I.coordinates_of index) result) }
+        ensures element { element_at self.entry (I.coordinates_of index) ≡ Some result.now }
+    {
+        let (region, place) = sought_in_box(self, index);
+        region.into_mut(place)
     }
 
-    fn get(self, index: I) -> Option<&'a mut A> {
-        let ArrayBase { storage, layout } = self;
-        let RegionRepr { region, tie: _ } = storage;
-        let place = layout.place_of(index.coordinates())?;
-        Some(region.into_mut(place))
+    fn get(self, index: I) -> Option<&'a mut A>
+        ensures* writes_back { sem 𝓛 (may_follow_index A.row self.entry (I.coordinates_of index) result) }
+        ensures element { MatchOption result (in_box (shape_of self.entry) (I.coordinates_of index) ≡ false) (λ element. element_at self.entry (I.coordinates_of index) ≡ Some element.now) }
+    {
+        let (region, place, within) = sought(self, index);
+        region.into_mut_if(place, within)
     }
 
-    fn uget(self, index: I) -> &'a mut A {
-        let ArrayBase { storage, layout } = self;
-        let RegionRepr { region, tie: _ } = storage;
-        let place = layout.place_in_box(index.coordinates());
+    fn uget(self, index: I) -> &'a mut A
+        requires { in_box (shape_of self) (I.coordinates_of index) ≡ true }
+        ensures* writes_back { sem 𝓛 (follows_index A.row self.entry (I.coordinates_of index) result) }
+        ensures element { element_at self.entry (I.coordinates_of index) ≡ Some result.now }
+    {
+        let (region, place) = sought_in_box(self, index);
         region.into_mut(place)
     }
 }

@@ -1,0 +1,35 @@
+-- What the borrow that a mutable view is of ends as, once a reference that lives as long as it is over.
+use Rattle.std.specs.Prelude.{ℕ, List, Option, Some, None, slice_set}
+use Rattle.std.specs.Option.{ghost_name_of}
+use Rattle.std.specs.Borrow.{Fml, RattleType, MutBor, Array, follows, follows_if}
+use Rattle.nd_shape_and_slice.specs.declared.dimension.Dimension as dimension
+use Rattle.nd_shape_and_slice.specs.declared.dimension.AxisCount as axis_count
+use Rattle.nd_shape_and_slice.specs.declared.dimension.StrideList as stride_list
+use Rattle.nd_region.specs.declared.region.Region.{Region}
+use Rattle.nd_array_core.specs.declared.base.storage.Data as data_trait
+use Rattle.nd_array_core.specs.declared.base.storage.RegionRepr.{RegionRepr}
+use Rattle.nd_array_core.specs.declared.base.array.ArrayBase.{ArrayBase}
+use Rattle.nd_array_core.specs.Meaning.{place_at, storage_of}
+
+-- a list with another item at a place, where one is given
+abbrev pub with_item_at : {A : Type 0} → List A → Option ℕ → A → List A
+with_item_at xs None x = xs
+with_item_at xs (Some p) x = slice_set xs p x
+
+module _ {A D T P R L M : Type 0} {s : data_trait.Ghosts (RegionRepr (Region A)) A} {d : dimension.Ghosts D P R L M} {n : axis_count.Ghosts D} {r : stride_list.Ghosts R} {t : stride_list.Ghosts T} where
+  -- the region that a mutable view holds
+  abbrev pub region_of : ArrayBase (RegionRepr (Region A)) D T A P R L M s d n r t → Region A
+  region_of v = (storage_of v).region
+
+  -- its elements, with another at an index
+  abbrev pub items_with : ArrayBase (RegionRepr (Region A)) D T A P R L M s d n r t → List ℕ → A → List A
+  items_with v i x = with_item_at (region_of v).items (place_at v i) x
+
+module _ (A : RattleType) {D T P R L M : Type 0} {s : data_trait.Ghosts (RegionRepr (Region A.Denot)) A.Denot} {d : dimension.Ghosts D P R L M} {n : axis_count.Ghosts D} {r : stride_list.Ghosts R} {t : stride_list.Ghosts T} where
+  -- the borrow ends with what is left behind the reference at the place of the index, and with what it held at every other
+  abbrev pub follows_index : ArrayBase (RegionRepr (Region A.Denot)) D T A.Denot P R L M s d n r t → List ℕ → MutBor A.Denot → Fml
+  follows_index v i x = follows (Array A 0) A (region_of v).name x.ghost_name (items_with v i)
+
+  -- the same where there is a reference, and else with what it held at each place
+  abbrev pub may_follow_index : ArrayBase (RegionRepr (Region A.Denot)) D T A.Denot P R L M s d n r t → List ℕ → Option (MutBor A.Denot) → Fml
+  may_follow_index v i x = follows_if (Array A 0) A (region_of v).name (ghost_name_of x) (items_with v i) (region_of v).items
