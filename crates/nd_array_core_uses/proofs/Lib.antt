@@ -1,3 +1,4 @@
+pub mod DiagonalBlocks
 pub mod Halves
 pub mod Lines
 pub mod Outcomes

@@ -1,6 +1,6 @@
-//! Parts of an image filled by lists of slices, each caller in coordinates and with no proof file. `?` and then `Ok(())`
-//! lets the proof read what the fill tells.
-ghost use Rattle.std.specs.Prelude.{◌≡◌, ◌<◌, ◌≤◌, ◌%◌, ℕ, slice_index, Some, OnOk};
+//! Parts of an image filled by lists of slices, each caller in coordinates and all but the last with no proof file. `?`
+//! and then `Ok(())` lets the proof read what the fill tells.
+ghost use Rattle.std.specs.Prelude.{◌≡◌, ◌≢◌, ◌<◌, ◌≤◌, ◌%◌, ◌/◌, ℕ, slice_index, Some, OnOk};
 ghost use Rattle.nd_array_core.specs.Meaning.{shape_of};
 ghost use Rattle.nd_array_core.specs.Coordinates.{element_of_2};
 
@@ -62,4 +62,49 @@ pub fn fill_two_blocks(matrix: &mut Array2<i64>, cut: usize, value: i64) -> Resu
     matrix.fill_slice(slices![..cut, ..cut], value)?;
     matrix.fill_slice(slices![cut.., cut..], value)?;
     Ok(())
+}
+
+/// Fills the square blocks of a size that lie one after another down the diagonal of a matrix; the last is cut where the
+/// matrix ends.
+pub fn fill_diagonal_blocks<A: Copy + Drop, S: DataMut<Elem = A>>(
+    matrix: &mut ArrayBase<S, Ix2>,
+    size: usize,
+    value: A,
+) -> Result<(), NoMemory>
+    requires clones { (copy : A) → A.is_clone value copy → copy ≡ value }
+    requires size { 0 < size }
+    ensures shape { shape_of matrix.new ≡ shape_of matrix.old }
+    ensures within { OnOk result ((row column : ℕ) → row < slice_index (shape_of matrix.old) 0 → column < slice_index (shape_of matrix.old) 1 → row / size ≡ column / size → element_of_2 matrix.new row column ≡ Some value) }
+    ensures outside { (row column : ℕ) → row / size ≢ column / size → element_of_2 matrix.new row column ≡ element_of_2 matrix.old row column }
+{
+    let (rows, columns) = matrix.dim();
+    for block in 0..rows.min(columns).div_ceil(size) {
+        let from = block * size;
+        let to = from.saturating_add(size);
+        fill_rectangle(matrix, from, to.min(rows), from, to.min(columns), value)?;
+    }
+    Ok(())
+}
+
+#[cfg(test)]
+mod tests {
+    use super::*;
+    use std::test::Fail;
+
+    // Blocks of 2 by 2 in 5 rows of 3: 9 9 0 / 9 9 0 / 0 0 9 / 0 0 9 / 0 0 0
+    #[test]
+    fn blocks_down_the_diagonal(rt: HostRuntime) -> Result<(), Fail> {
+        let cells = Vec::from_slice(rt.alloc(), &[0; 15])?;
+        let mut matrix: Array2<u64> = Array2::from_shape_vec((5, 3), cells).ok().ok_or("shape")?;
+        fill_diagonal_blocks(&mut matrix, 2, 9)?;
+        let rows = [[9, 9, 0], [9, 9, 0], [0, 0, 9], [0, 0, 9], [0, 0, 0]];
+        for row in 0..5 {
+            for column in 0..3 {
+                assert_eq!(rt; matrix.get([row, column]).copied(), Some(rows[row][column]));
+            }
+        }
+        fill_diagonal_blocks(&mut matrix, usize::MAX, 7)?;
+        assert_eq!(rt; matrix.get([4, 2]).copied(), Some(7));
+        Ok(())
+    }
 }

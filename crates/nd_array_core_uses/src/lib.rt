@@ -15,12 +15,13 @@ mod lent_slices;
 mod lent_views;
 mod parts_written;
 mod pixels;
+mod rebuilt;
 mod strides;
 mod two_calls;
 mod two_parts;
 mod writes;
 
-pub use blocks::{fill_every_second_column, fill_rectangle, fill_two_blocks};
+pub use blocks::{fill_diagonal_blocks, fill_every_second_column, fill_rectangle, fill_two_blocks};
 pub use border::{draw_border, fill_column, fill_row};
 pub use broadcasts::table_of;
 pub use columns::paint_every_second_column;
@@ -39,6 +40,7 @@ pub use parts_written::{
     write_in_part,
 };
 pub use pixels::{checkerboard, checkerboard_of_references, row_sum, swap_rows};
+pub use rebuilt::{rows_reversed, rows_reversed_twice};
 pub use strides::{row_repeated, turned_at_the_least_stride};
 pub use two_calls::{
     column_of, column_of_numbers, column_of_owned, fill_then_get, fill_then_get_number, flip_both,

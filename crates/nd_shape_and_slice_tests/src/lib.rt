@@ -6,6 +6,8 @@ mod dimensions;
 #[cfg(test)]
 mod meeting_slices;
 #[cfg(test)]
+mod ranges;
+#[cfg(test)]
 mod shape_builders;
 #[cfg(test)]
 mod sizes_and_orders;

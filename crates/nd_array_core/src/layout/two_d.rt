@@ -1,10 +1,11 @@
 //! Rows and columns of arrays with two axes.
 #![tactic(auto, unfolding(crate::specs::Meaning::meaning_of, crate::specs::Meaning::memory_layout_of))]
 
-ghost use Rattle.std.specs.Prelude.{◌<◌, [], ◌∷◌, slice_index, List};
+ghost use Rattle.std.specs.Prelude.{◌≡◌, ◌<◌, [], ◌∷◌, ℕ, slice_index, List};
 ghost use Rattle.std.specs.Borrow.{sem};
 ghost use Rattle.nd_array_core.specs.Meaning.{shape_of, place_at};
 ghost use Rattle.nd_array_core.specs.Part.{coordinate_part, ShowsPart};
+ghost use Rattle.nd_array_core.specs.Coordinates.{element_of_1, element_of_2};
 
 use crate::base::array::{ArrayBase, ArrayView, ArrayViewMut};
 use crate::base::storage::{Data, DataMut};
@@ -15,6 +16,7 @@ impl<S: Data> ArrayBase<S, Ix2> {
     pub fn row(&self, index: usize) -> ArrayView<'_, S::Elem, Ix1>
         requires { index < slice_index (shape_of self.now) 0 }
         ensures part { ShowsPart self.now (coordinate_part self.now 0 index) result }
+        ensures elements { (i : ℕ) → element_of_1 result i ≡ element_of_2 self.now index i }
     {
         self.index_axis(Axis(0), index)
     }
@@ -23,6 +25,7 @@ impl<S: Data> ArrayBase<S, Ix2> {
     pub fn column(&self, index: usize) -> ArrayView<'_, S::Elem, Ix1>
         requires { index < slice_index (shape_of self.now) 1 }
         ensures part { ShowsPart self.now (coordinate_part self.now 1 index) result }
+        ensures elements { (i : ℕ) → element_of_1 result i ≡ element_of_2 self.now i index }
     {
         self.index_axis(Axis(1), index)
     }

@@ -1,0 +1,61 @@
+//! Matrices built anew from the rows of others, by one invariant a loop.
+ghost use Rattle.std.specs.Prelude.{◌≡◌, ◌<◌, ◌-◌, ℕ, slice_index, IfOk};
+ghost use Rattle.nd_array_core.specs.Meaning.{shape_of};
+ghost use Rattle.nd_array_core.specs.Coordinates.{element_of_2};
+
+use nd_array_core::{Array2, ArrayBase, Data};
+use nd_shape_and_slice::Ix2;
+use std::alloc::{AllocError, Global};
+
+/// A matrix with the rows of another, the last one first.
+pub fn rows_reversed<A: Copy + Drop, S: Data<Elem = A>>(
+    alloc: Global,
+    matrix: &ArrayBase<S, Ix2>,
+) -> Result<Array2<A>, AllocError>
+    ensures shape { IfOk result (λ built. shape_of built ≡ shape_of matrix.now) }
+    ensures elements { IfOk result (λ built. (row column : ℕ) → row < slice_index (shape_of matrix.now) 0 → column < slice_index (shape_of matrix.now) 1 → element_of_2 built row column ≡ element_of_2 matrix.now (slice_index (shape_of matrix.now) 0 - 1 - row) column) }
+{
+    let (rows, columns) = matrix.dim();
+    let mut cells = Vec::with_capacity(alloc, matrix.len())?;
+    for row in 0..rows {
+        for column in 0..columns {
+            cells.push(matrix[[rows - 1 - row, column]])?;
+        }
+    }
+    match Array2::from_shape_vec((rows, columns), cells) {
+        Ok(built) => Ok(built),
+        Err(_) => unreachable!(),
+    }
+}
+
+/// A matrix built from the rows of another twice, each time in the opposite order: the matrix itself, with every element.
+pub fn rows_reversed_twice<A: Copy + Drop, S: Data<Elem = A>>(
+    alloc: Global,
+    matrix: &ArrayBase<S, Ix2>,
+) -> Result<Array2<A>, AllocError>
+    ensures shape { IfOk result (λ built. shape_of built ≡ shape_of matrix.now) }
+    ensures elements { IfOk result (λ built. (row column : ℕ) → row < slice_index (shape_of matrix.now) 0 → column < slice_index (shape_of matrix.now) 1 → element_of_2 built row column ≡ element_of_2 matrix.now row column) }
+{
+    let reversed = rows_reversed(alloc, matrix)?;
+    rows_reversed(alloc, &reversed)
+}
+
+#[cfg(test)]
+mod tests {
+    use super::*;
+    use std::test::Fail;
+
+    // 1 2 3 / 4 5 6
+    #[test]
+    fn rows_of_a_matrix(rt: HostRuntime) -> Result<(), Fail> {
+        let cells = Vec::from_slice(rt.alloc(), &[1, 2, 3, 4, 5, 6])?;
+        let matrix: Array2<u64> = Array2::from_shape_vec((2, 3), cells).ok().ok_or("shape")?;
+        let reversed = rows_reversed(rt.alloc(), &matrix)?;
+        assert_eq!(rt; reversed.get([0, 1]).copied(), Some(5));
+        assert_eq!(rt; reversed.get([1, 2]).copied(), Some(3));
+        let again = rows_reversed_twice(rt.alloc(), &matrix)?;
+        assert_eq!(rt; again.get([0, 1]).copied(), Some(2));
+        assert_eq!(rt; again.get([1, 2]).copied(), Some(6));
+        Ok(())
+    }
+}

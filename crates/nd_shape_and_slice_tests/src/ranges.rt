@@ -1,0 +1,205 @@
+//! Slices made of ranges, and lists of slices written by `s!` and `slices!`.
+
+use crate::slices::LONGEST;
+use nd_shape_and_slice::{
+    Ix0, Ix1, Ix2, Ix3, Slice, SliceArg, SliceInfo, SliceInfoElem, s, slice_fits, slices,
+    slices_fit,
+};
+
+/// The coordinates from `start` up to `end`, as an element of a list.
+fn part(start: isize, end: Option<isize>, step: isize) -> SliceInfoElem {
+    SliceInfoElem::Slice { start, end, step }
+}
+
+#[test]
+fn ranges_as_slices(rt: HostRuntime) {
+    let rows = [
+        (Slice::from(..), 0, None, 1),
+        (Slice::from(1..), 1, None, 1),
+        (Slice::from(-2..), -2, None, 1),
+        (Slice::from(..-1), 0, Some(-1), 1),
+        (Slice::from(..=-1), 0, None, 1),
+        (Slice::from(..=-2), 0, Some(-1), 1),
+        (Slice::from(..=4), 0, Some(5), 1),
+        (Slice::from(1..5), 1, Some(5), 1),
+        (Slice::from(1..=5), 1, Some(6), 1),
+        (Slice::from(-4..=-1), -4, None, 1),
+        (Slice::from(4..2), 4, Some(2), 1),
+        (Slice::between(2, 5), 2, Some(5), 1),
+        (Slice::between(0, LONGEST), 0, Some(isize::MAX), 1),
+    ];
+    for (slice, start, end, step) in rows {
+        assert!(rt;
+            slice == Slice::new(start, end, step),
+            "from {start} by {step}"
+        );
+    }
+}
+
+#[test]
+fn ranges_of_each_type(rt: HostRuntime) {
+    let rows = [
+        (Slice::from(1isize..5), Slice::from(1usize..5)),
+        (Slice::from(1isize..), Slice::from(1usize..)),
+        (Slice::from(..5isize), Slice::from(..5usize)),
+        (Slice::from(1isize..=5), Slice::from(1usize..=5)),
+        (Slice::from(..=5isize), Slice::from(..=5usize)),
+        (Slice::from(-1isize..-3), Slice::from(-1i32..-3)),
+        (Slice::from(-1isize..), Slice::from(-1i32..)),
+        (Slice::from(..-3isize), Slice::from(..-3i32)),
+        (Slice::from(-3isize..=-1), Slice::from(-3i32..=-1)),
+        (Slice::from(..=-2isize), Slice::from(..=-2i32)),
+    ];
+    for (slice, other) in rows {
+        assert!(rt; slice == other, "from {} by {}", slice.start, slice.step);
+    }
+}
+
+#[test]
+fn slices_by_a_step(rt: HostRuntime) {
+    let rows = [
+        (Slice::from(..).step_by(1), 0, None, 1),
+        (Slice::from(..).step_by(2), 0, None, 2),
+        (Slice::from(..).step_by(-1), 0, None, -1),
+        (Slice::from(1..5).step_by(-2), 1, Some(5), -2),
+        (Slice::from(1..5).step_by(2).step_by(-3), 1, Some(5), -6),
+        (Slice::between(1, 5).step_by(-1).step_by(-1), 1, Some(5), 1),
+        (Slice::from(..).step_by(isize::MIN), 0, None, isize::MIN),
+        (Slice::from(..).step_by(0), 0, None, 0),
+    ];
+    for (slice, start, end, step) in rows {
+        assert!(rt;
+            slice == Slice::new(start, end, step),
+            "from {start} by {step}"
+        );
+    }
+    assert!(rt; !slice_fits(4, Slice::from(..).step_by(0)));
+}
+
+// The coordinates of an axis of length 6 that a range names: the first, and how many.
+#[test]
+fn ranges_on_an_axis(rt: HostRuntime) {
+    let rows = [
+        (Slice::from(..), 0, 6),
+        (Slice::from(1..5), 1, 4),
+        (Slice::from(1..=5), 1, 5),
+        (Slice::from(-2..), 4, 2),
+        (Slice::from(..-1), 0, 5),
+        (Slice::from(..=-1), 0, 6),
+        (Slice::from(-4..=-2), 2, 3),
+        (Slice::from(4..2), 4, 0),
+        (Slice::from(..).step_by(2), 0, 3),
+        (Slice::from(1..).step_by(2), 1, 3),
+        (Slice::from(..).step_by(-1), 5, 6),
+        (Slice::from(..).step_by(-2), 5, 3),
+        (Slice::from(1..5).step_by(-3), 4, 2),
+        (Slice::between(2, 5), 2, 3),
+    ];
+    for (slice, first, len) in rows {
+        assert!(rt;
+            slice_fits(6, slice),
+            "from {} by {}",
+            slice.start,
+            slice.step
+        );
+        let named = slice.on_axis(6);
+        assert_eq!(rt;
+            named.first,
+            first,
+            "from {} by {}",
+            slice.start, slice.step
+        );
+        assert_eq!(rt; named.len, len, "from {} by {}", slice.start, slice.step);
+    }
+}
+
+// A bound that no axis has: the last number of a type, and one more than the axis's length.
+#[test]
+fn ranges_past_an_axis(rt: HostRuntime) {
+    let rows = [
+        Slice::from(..7),
+        Slice::from(7..),
+        Slice::from(-7..),
+        Slice::from(..-7),
+        Slice::from(..=6),
+        Slice::from(..=isize::MAX),
+        Slice::from(0..=usize::MAX >> 1),
+        Slice::between(0, LONGEST),
+    ];
+    for slice in rows {
+        assert!(rt;
+            !slice_fits(6, slice),
+            "from {} by {}",
+            slice.start,
+            slice.step
+        );
+    }
+    assert!(rt; Slice::from(..usize::MAX) == Slice::from(..-1));
+}
+
+#[test]
+fn lists_of_ranges_and_numbers(rt: HostRuntime) {
+    let list = slices![
+        ..,
+        1..4,
+        2,
+        -1,
+        Slice::from(..).step_by(-1),
+        SliceInfoElem::NewAxis
+    ];
+    let row = 3usize;
+    let other = slices![..row, row, -1isize, row..=row,];
+    assert!(rt;
+        list == [
+            part(0, None, 1),
+            part(1, Some(4), 1),
+            SliceInfoElem::Index(2),
+            SliceInfoElem::Index(-1),
+            part(0, None, -1),
+            SliceInfoElem::NewAxis,
+        ]
+    );
+    assert!(rt;
+        other
+            == [
+                part(0, Some(3), 1),
+                SliceInfoElem::Index(3),
+                SliceInfoElem::Index(-1),
+                part(3, Some(4), 1),
+            ]
+    );
+    assert!(rt; slices_fit(&[5, 4, 3, 2, 1], &list) && !slices_fit(&[5, 3, 3, 2, 1], &list));
+    assert!(rt; slices_fit(&[4, 4, 1, 4], &other) && !slices_fit(&[4, 3, 1, 4], &other));
+}
+
+/// Whether a list that leaves one axis of two has these elements, and fits this shape.
+fn leaves_one(list: SliceInfo<'_, Ix2, Ix1>, elements: &[SliceInfoElem], shape: &[usize]) -> bool {
+    list.elements() == elements && list.fits(shape)
+}
+
+/// Whether a list that leaves two axes of three fits this shape.
+fn leaves_two(list: SliceInfo<'_, Ix3, Ix2>, shape: &[usize]) -> bool {
+    list.fits(shape)
+}
+
+/// Whether a list that leaves no axis of two fits this shape.
+fn leaves_none(list: SliceInfo<'_, Ix2, Ix0>, shape: &[usize]) -> bool {
+    list.fits(shape)
+}
+
+/// Whether a list that makes two axes of one fits this shape.
+fn makes_two(list: SliceInfo<'_, Ix1, Ix2>, shape: &[usize]) -> bool {
+    list.fits(shape)
+}
+
+#[test]
+fn lists_from_dimension_to_dimension(rt: HostRuntime) {
+    let line = [part(1, None, 1), SliceInfoElem::Index(1)];
+    assert!(rt; leaves_one(s![1.., 1], &line, &[1, 2]));
+    assert!(rt; !leaves_one(s![1.., 1], &line, &[1, 1]));
+    assert!(rt; !leaves_one(s![1.., 1], &line, &[0, 2]));
+    assert!(rt; leaves_two(s![.., .., -1], &[0, 0, 1]) && !leaves_two(s![.., .., -1], &[1, 1, 0]));
+    assert!(rt; leaves_none(s![0, 0], &[1, 1]) && !leaves_none(s![0, 0], &[1, 0]));
+    assert!(rt; makes_two(s![.., SliceInfoElem::NewAxis], &[3]));
+    assert!(rt; !makes_two(s![1..5, SliceInfoElem::NewAxis], &[4]));
+}
