@@ -102,7 +102,7 @@ const BAD_WRITES: [&[u8]; 34] = [
 ];
 
 // So is each of these: steps with a word too few or too many, or with one that is no such number.
-const BAD_STEPS: [&[u8]; 45] = [
+const BAD_STEPS: [&[u8]; 48] = [
     b"reverse",
     b"keep reverse 0",
     b"keep Reverse",
@@ -134,6 +134,9 @@ const BAD_STEPS: [&[u8]; 45] = [
     b"keep slice -1",
     b"keep slice 1",
     b"keep slice 2 n",
+    b"keep slice 9 n",
+    b"keep slice 9 n n n n n n n n",
+    b"keep slice 4 s 0 _ 1",
     b"keep slice 1 n n",
     b"keep slice 1 s 0 _",
     b"keep slice 1 s _ 0 1",
