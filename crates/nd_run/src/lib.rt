@@ -25,6 +25,7 @@ mod words;
 
 // Writing what is due at the end.
 mod outcome;
+mod page;
 mod printer;
 
 pub use calls::{Act, Call, Question, Reply, Step};
