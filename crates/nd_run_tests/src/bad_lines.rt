@@ -38,7 +38,7 @@ fn bad_starts(rt: HostRuntime) {
 }
 
 // Each of these is a bad line.
-const BAD_CALLS: [&[u8]; 22] = [
+const BAD_CALLS: [&[u8]; 25] = [
     b"start 1 1 5",
     b"keep",
     b"keep shape",
@@ -61,6 +61,9 @@ const BAD_CALLS: [&[u8]; 22] = [
     b"ask / shape",
     b"ask cut 0 0 1 1 /",
     b"ask get 1",
+    b"ask first 0",
+    b"ask last shape",
+    b"keep first",
 ];
 
 // So is each of these: writes with a word too few or too many, or with one that is no such number.
