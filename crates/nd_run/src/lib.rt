@@ -8,11 +8,11 @@
 mod calls;
 mod cause;
 pub mod drive;
+pub mod laws;
 pub mod run;
 mod watched;
 
 // Carrying out a call.
-mod laws;
 mod steps;
 mod write;
 
