@@ -2,10 +2,10 @@
 use Rattle.std.proofs.Common.{◌≡◌, ℕ, zero, suc, ◌≤◌, Bool, true, false, cond, List, [], ◌∷◌, ◌++◌, length, ℤ, Option, Some, None, refl, sym, ap, subst, ◌∙◌, append_assoc, append-nil, length-append, arith}
 use Rattle.std.specs.Prelude.{codes}
 use Rattle.nd_run.specs.declared.keyword.Keyword.{Keyword}
-use Rattle.nd_run.specs.declared.keyword.Keyword.TheVariants.{Start, Keep, Ask, Write, Split, Shape, Elements, Get}
-use Rattle.nd_run.specs.Calls.{AskedStep, Asking, AskShape, AskElements, AskElement, Acting, Asked, Keeping, About, Writing, SplitWriting}
+use Rattle.nd_run.specs.declared.keyword.Keyword.TheVariants.{Start, Keep, Ask, Write, Split, Shape, Elements, Get, First, Last}
+use Rattle.nd_run.specs.Calls.{AskedStep, Asking, AskShape, AskElements, AskElement, AskFirst, AskLast, Acting, Asked, Keeping, About, Writing, SplitWriting}
 use Rattle.nd_run.specs.Grammar.{IsList, IsStepSpelling, IsPath, IsQuestion, IsAct, IsCall, IsStart}
-use Rattle.nd_run.specs.Reading.{◌>>=◌, list_at, pair_at, keyword_of, keyword_at, step_at, begins_step, is_slash, is_start, leg_at, path_at, get_at, question_by, question_at, act_at, acts_at, keep_at, ask_at, write_at, split_at, call_by, call_at, call_of, read_to_end, array_at, start_of}
+use Rattle.nd_run.specs.Reading.{◌>>=◌, spelling, list_at, pair_at, keyword_of, keyword_at, step_at, begins_step, is_slash, is_start, leg_at, path_at, get_at, question_by, question_at, act_at, acts_at, keep_at, ask_at, write_at, split_at, call_by, call_at, call_of, read_to_end, array_at, start_of}
 use Rattle.nd_run.proofs.Keywords.{spelled_as, slash_takes}
 use Rattle.nd_run.proofs.NumberLaws.{some_by}
 use Rattle.nd_run.proofs.LineLaws.{bind_some, some_pair, Front, with_word, list_takes, list_again, IsParts, array_takes, array_again}
@@ -104,13 +104,17 @@ get_takes word words question rest is e =
     let made : IsQuestion (codes "get" ∷ index.front) (AskElement a.0.0) = (index.front, refl, index.is) in
     with_word word (codes "get") index.front rest words question is (index.parts ∙ ap (λ (ws : List (List ℕ)). index.front ++ ws) p.1) (subst (IsQuestion (codes "get" ∷ index.front)) p.0 made)
 
+-- a question of one word
+word_takes : (k : Keyword) (asked : Asking) (word : List ℕ) (words : List (List ℕ)) (question : Asking) (rest : List (List ℕ)) → word ≡ spelling k → IsQuestion (spelling k ∷ []) asked → ◌≡◌ {A = Option (Asking × List (List ℕ))} (Some (asked, words)) (Some (question, rest)) → Front IsQuestion (word ∷ words) question rest
+word_takes k asked word words question rest is made e =
+    let p = some_pair (asked, words) (question, rest) e in
+    with_word word (spelling k) [] rest words question is p.1 (subst (IsQuestion (spelling k ∷ [])) p.0 made)
+
 question_by_takes : (k : Keyword) (word : List ℕ) (words : List (List ℕ)) (question : Asking) (rest : List (List ℕ)) → keyword_of word ≡ k → question_by k words ≡ Some (question, rest) → Front IsQuestion (word ∷ words) question rest
-question_by_takes Shape word words question rest is e =
-    let p = some_pair (AskShape, words) (question, rest) e in
-    with_word word (codes "shape") [] rest words question (spelled_as word Shape is (λ other. absurd cc)) p.1 (subst (IsQuestion (codes "shape" ∷ [])) p.0 refl)
-question_by_takes Elements word words question rest is e =
-    let p = some_pair (AskElements, words) (question, rest) e in
-    with_word word (codes "elements") [] rest words question (spelled_as word Elements is (λ other. absurd cc)) p.1 (subst (IsQuestion (codes "elements" ∷ [])) p.0 refl)
+question_by_takes Shape word words question rest is e = word_takes Shape AskShape word words question rest (spelled_as word Shape is (λ other. absurd cc)) refl e
+question_by_takes Elements word words question rest is e = word_takes Elements AskElements word words question rest (spelled_as word Elements is (λ other. absurd cc)) refl e
+question_by_takes First word words question rest is e = word_takes First AskFirst word words question rest (spelled_as word First is (λ other. absurd cc)) refl e
+question_by_takes Last word words question rest is e = word_takes Last AskLast word words question rest (spelled_as word Last is (λ other. absurd cc)) refl e
 question_by_takes Get word words question rest is e = get_takes word words question rest (spelled_as word Get is (λ other. absurd cc)) e
 question_by_takes _ word words question rest is e = absurd cc
 
@@ -119,39 +123,29 @@ unfolding question_at
 question_takes [] question rest e = absurd cc
 question_takes (word ∷ words) question rest e = question_by_takes (keyword_of word) word words question rest refl e
 
-shape_words : (rest : List (List ℕ)) → question_at (codes "shape" ∷ rest) ≡ Some (AskShape, rest)
-unfolding question_at keyword_of
-shape_words rest = refl
-
-elements_words : (rest : List (List ℕ)) → question_at (codes "elements" ∷ rest) ≡ Some (AskElements, rest)
-unfolding question_at keyword_of
-elements_words rest = refl
-
 get_words : (words : List (List ℕ)) (index : List ℕ) (rest : List (List ℕ)) → IsList words index → question_at (codes "get" ∷ (words ++ rest)) ≡ Some (AskElement index, rest)
 unfolding question_at keyword_of get_at
 get_words words index rest h = rw (list_again words index rest h) refl
 
 question_again : (front : List (List ℕ)) (question : Asking) (rest : List (List ℕ)) → IsQuestion front question → question_at (front ++ rest) ≡ Some (question, rest)
-question_again front AskShape rest h = ap (λ (ws : List (List ℕ)). question_at (ws ++ rest)) h ∙ shape_words rest
-question_again front AskElements rest h = ap (λ (ws : List (List ℕ)). question_at (ws ++ rest)) h ∙ elements_words rest
+unfolding question_at keyword_of
+question_again front AskShape rest h = ap (λ (ws : List (List ℕ)). question_at (ws ++ rest)) h
+question_again front AskElements rest h = ap (λ (ws : List (List ℕ)). question_at (ws ++ rest)) h
+question_again front AskFirst rest h = ap (λ (ws : List (List ℕ)). question_at (ws ++ rest)) h
+question_again front AskLast rest h = ap (λ (ws : List (List ℕ)). question_at (ws ++ rest)) h
 question_again front (AskElement index) rest h = ap (λ (ws : List (List ℕ)). question_at (ws ++ rest)) h.1 ∙ get_words h.0 index rest h.2
 
 -- no question begins as a step does
-shape_no_step : (rest : List (List ℕ)) → begins_step (codes "shape" ∷ rest) ≡ false
-unfolding keyword_of
-shape_no_step rest = refl
-
-elements_no_step : (rest : List (List ℕ)) → begins_step (codes "elements" ∷ rest) ≡ false
-unfolding keyword_of
-elements_no_step rest = refl
-
 get_no_step : (rest : List (List ℕ)) → begins_step (codes "get" ∷ rest) ≡ false
 unfolding keyword_of
 get_no_step rest = refl
 
 question_no_step : (words : List (List ℕ)) (question : Asking) → IsQuestion words question → begins_step words ≡ false
-question_no_step words AskShape h = ap begins_step h ∙ shape_no_step []
-question_no_step words AskElements h = ap begins_step h ∙ elements_no_step []
+unfolding keyword_of
+question_no_step words AskShape h = ap begins_step h
+question_no_step words AskElements h = ap begins_step h
+question_no_step words AskFirst h = ap begins_step h
+question_no_step words AskLast h = ap begins_step h
 question_no_step words (AskElement index) h = ap begins_step h.1 ∙ get_no_step h.0
 
 -- ---- calls

@@ -1,5 +1,5 @@
 -- The list of slices that is read of words is what they write, and what they write is read.
-use Rattle.std.proofs.Common.{◌≡◌, ℕ, zero, suc, Bool, true, false, cond, List, [], ◌∷◌, ◌++◌, length, ℤ, Option, Some, None, refl, sym, ap, subst, ◌∙◌, append_assoc}
+use Rattle.std.proofs.Common.{◌≡◌, ℕ, zero, suc, Bool, true, false, cond, List, [], ◌∷◌, ◌++◌, length, length-append, ◌<◌, ℤ, Option, Some, None, refl, sym, ap, subst, ◌∙◌, append_assoc, arith}
 use Rattle.std.specs.Prelude.{codes}
 use Rattle.std.specs.Str.{bytes_eq}
 use Rattle.std.proofs.lemmas.Slice.Eq.{bytes_eq-Decides}
@@ -10,6 +10,7 @@ use Rattle.nd_run.specs.Numerals.{IsNat, IsInt, nat_of, int_of}
 use Rattle.nd_run.specs.Grammar.{IsSlice, IsElement, AreInTurn}
 use Rattle.nd_run.specs.Reading.{◌>>=◌, item_at, many_at, map_read, slice_at, slice_element_at, elements_at}
 use Rattle.nd_run.proofs.NumberLaws.{nat_takes, nat_again, int_takes, int_again}
+use Rattle.nd_run.proofs.Items.{TakesWords}
 use Rattle.nd_run.proofs.LineLaws.{bind_some, some_pair, Front, with_word, item_takes, slice_takes, slice_again}
 
 -- what is made of what was read
@@ -77,6 +78,19 @@ element_takes : (words : List (List ℕ)) (element : SliceInfoElem) (rest : List
 unfolding slice_element_at
 element_takes [] element rest e = absurd cc
 element_takes (word ∷ words) element rest e = element_by_takes (bytes_eq word (codes "s")) (bytes_eq word (codes "i")) (bytes_eq word (codes "n")) word words element rest refl refl refl e
+
+no_element : (element : SliceInfoElem) → ¬ (IsElement [] element)
+no_element (Part start end step) is = absurd cc
+no_element (At k) is = absurd cc
+no_element NewAxis is = absurd cc
+
+fewer_by : (words front rest : List (List ℕ)) (element : SliceInfoElem) → words ≡ front ++ rest → IsElement front element → length rest < length words
+fewer_by words [] rest element parts is = absurd (no_element element is)
+fewer_by words (word ∷ front) rest element parts is = omega (arith, ap (length {A = List ℕ}) parts, length-append (word ∷ front) rest)
+
+-- an element is a word or more
+pub element_words : TakesWords slice_element_at
+element_words words element rest e = let f = element_takes words element rest e in fewer_by words f.front rest element f.parts f.is
 
 part_words : (words : List (List ℕ)) (t : Slice) (rest : List (List ℕ)) → IsSlice words t → slice_element_at (codes "s" ∷ (words ++ rest)) ≡ Some (Part t.start t.end t.step, rest)
 unfolding slice_element_at map_read

@@ -43,31 +43,31 @@ module _ {A : Type 0} (m : Meaning A) where
   gathered_all items index rank h all = all.gathered ∙ ap (filter_map m.at) (take_all rank (indexes_of m.shape) (omega (arith, h, length-indexes_of m.shape)))
 
 -- the same for elements that are written: the text of those of the ranks below this one was put
-pub record IsWrittenBelow {W : Type 0} (contents : W → Option (List ℕ)) (m : Meaning ℤ) (old new : Watched W) (index : List ℕ) (rank : ℕ) : Type 0 where
+pub record IsWrittenBelow {W : Type 0} (contents : W → Option (List ℕ)) (m : Meaning ℤ) (old : Watched W) (held : List ℕ) (new : Watched W) (left : List ℕ) (index : List ℕ) (rank : ℕ) : Type 0 where
   pub as_long : length index ≡ length m.shape
-  pub written : Puts contents old new (values_text (filter_map m.at (take rank (indexes_of m.shape))))
+  pub written : Puts contents old held new left (values_text (filter_map m.at (take rank (indexes_of m.shape))))
 
-module _ {W : Type 0} (contents : W → Option (List ℕ)) (m : Meaning ℤ) (old : Watched W) where
-  pub written_none : (index : List ℕ) → length index ≡ length m.shape → IsWrittenBelow contents m old old index 0
-  written_none index long = record { as_long = long; written = puts_nothing old }
+module _ {W : Type 0} (contents : W → Option (List ℕ)) (m : Meaning ℤ) (old : Watched W) (held : List ℕ) where
+  pub written_none : (index : List ℕ) → length index ≡ length m.shape → IsWrittenBelow contents m old held old held index 0
+  written_none index long = record { as_long = long; written = puts_nothing old held }
 
-  pub written_some : (mid next new : Watched W) (index : List ℕ) (rank : ℕ) (x : ℤ) → rank < size_of m.shape → length (index_at m.shape rank) ≡ length m.shape → m.at (index_at m.shape rank) ≡ Some x → Puts contents mid next (codes " ") → Puts contents next new (signed_decimal x) → IsWrittenBelow contents m old mid index rank → IsWrittenBelow contents m old new (index_at m.shape rank) (rank + 1)
-  written_some mid next new index rank x h long e space value so_far = record {
+  pub written_some : (mid next new : Watched W) (one two left : List ℕ) (index : List ℕ) (rank : ℕ) (x : ℤ) → rank < size_of m.shape → length (index_at m.shape rank) ≡ length m.shape → m.at (index_at m.shape rank) ≡ Some x → Puts contents mid one next two (codes " ") → Puts contents next two new left (signed_decimal x) → IsWrittenBelow contents m old held mid one index rank → IsWrittenBelow contents m old held new left (index_at m.shape rank) (rank + 1)
+  written_some mid next new one two left index rank x h long e space value so_far = record {
     as_long = long;
     written =
         let more : filter_map m.at (take (rank + 1) (indexes_of m.shape)) ≡ filter_map m.at (take rank (indexes_of m.shape)) ++ x ∷ [] = one_more m rank h ∙ ap (λ o. filter_map m.at (take rank (indexes_of m.shape)) ++ cons_option o []) e in
         let text : values_text (filter_map m.at (take (rank + 1) (indexes_of m.shape))) ≡ values_text (filter_map m.at (take rank (indexes_of m.shape))) ++ (codes " " ++ signed_decimal x) =
         (ap values_text more ∙ flat_map-append (λ v. codes " " ++ signed_decimal v) (filter_map m.at (take rank (indexes_of m.shape))) (x ∷ [])) ∙ ap (λ t. values_text (filter_map m.at (take rank (indexes_of m.shape))) ++ t) (append-nil (codes " " ++ signed_decimal x)) in
-        subst (Puts contents old new) (sym text) (puts_then so_far.written (puts_then space value));
+        subst (Puts contents old held new left) (sym text) (puts_then so_far.written (puts_then space value));
   }
 
-  pub written_skip : (new : Watched W) (index : List ℕ) (rank : ℕ) → rank < size_of m.shape → length (index_at m.shape rank) ≡ length m.shape → m.at (index_at m.shape rank) ≡ None → IsWrittenBelow contents m old new index rank → IsWrittenBelow contents m old new (index_at m.shape rank) (rank + 1)
-  written_skip new index rank h long e so_far = record {
+  pub written_skip : (new : Watched W) (left : List ℕ) (index : List ℕ) (rank : ℕ) → rank < size_of m.shape → length (index_at m.shape rank) ≡ length m.shape → m.at (index_at m.shape rank) ≡ None → IsWrittenBelow contents m old held new left index rank → IsWrittenBelow contents m old held new left (index_at m.shape rank) (rank + 1)
+  written_skip new left index rank h long e so_far = record {
     as_long = long;
     written =
         let same : filter_map m.at (take rank (indexes_of m.shape)) ≡ filter_map m.at (take (rank + 1) (indexes_of m.shape)) = sym (one_more m rank h ∙ (ap (λ o. filter_map m.at (take rank (indexes_of m.shape)) ++ cons_option o []) e ∙ append-nil (filter_map m.at (take rank (indexes_of m.shape))))) in
-        subst (λ es. Puts contents old new (values_text es)) same so_far.written;
+        subst (λ es. Puts contents old held new left (values_text es)) same so_far.written;
   }
 
-  pub written_all : (new : Watched W) (index : List ℕ) (rank : ℕ) → size_of m.shape ≤ rank → IsWrittenBelow contents m old new index rank → Puts contents old new (values_text (row_major_elements m))
-  written_all new index rank h all = subst (λ is. Puts contents old new (values_text (filter_map m.at is))) (take_all rank (indexes_of m.shape) (omega (arith, h, length-indexes_of m.shape))) all.written
+  pub written_all : (new : Watched W) (left : List ℕ) (index : List ℕ) (rank : ℕ) → size_of m.shape ≤ rank → IsWrittenBelow contents m old held new left index rank → Puts contents old held new left (values_text (row_major_elements m))
+  written_all new left index rank h all = subst (λ is. Puts contents old held new left (values_text (filter_map m.at is))) (take_all rank (indexes_of m.shape) (omega (arith, h, length-indexes_of m.shape))) all.written

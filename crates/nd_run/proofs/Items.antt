@@ -3,7 +3,7 @@ use Rattle.std.proofs.Common.{◌≡◌, ℕ, zero, suc, ◌-◌, ◌+◌, ◌�
 use Rattle.std.proofs.lemmas.List.{append-nil}
 use Rattle.nd_run.specs.declared.reader.fault.LineFault.{LineFault}
 use Rattle.nd_run.specs.declared.reader.fault.LineFault.TheVariants.{Bad, Memory}
-use Rattle.nd_run.specs.Reading.{◌>>=◌, Fails, items_at, many_at}
+use Rattle.nd_run.specs.Reading.{◌>>=◌, Fails, item_at, many_at}
 
 -- what was read before, and what is still read
 abbrev pub with_front : {X : Type 0} → List X → Option (List X × List (List ℕ)) → Option (List X × List (List ℕ))
@@ -37,14 +37,26 @@ is_done {X} read front count i words total le so_far =
     let one : with_front front (many_at read (count - i) words) ≡ Some (front, words) = rw k (ap (λ (xs : List X). Some (xs, words)) (append-nil front)) in
     sym so_far ∙ one
 
-short_by : {X : Type 0} (of : List ℕ → Option X) (n : ℕ) (words : List (List ℕ)) (word : List ℕ) (r : Option X) → of word ≡ r → items_at of n words ≡ None → items_at of (suc n) (word ∷ words) ≡ None
-unfolding many_at
-short_by of n words word None e h = rw e refl
-short_by of n words word (Some x) e h = rw (e, h) refl
+-- a reader that takes a word or more
+abbrev pub TakesWords : {X : Type 0} → (List (List ℕ) → Option (X × List (List ℕ))) → Type 0
+TakesWords {X} read = (words : List (List ℕ)) (x : X) (rest : List (List ℕ)) → read words ≡ Some (x, rest) → length rest < length words
 
--- a line with fewer words than are to be read
-pub short : {X : Type 0} (of : List ℕ → Option X) (n : ℕ) (words : List (List ℕ)) → length words < n → items_at of n words ≡ None
+short_by : {X : Type 0} (read : List (List ℕ) → Option (X × List (List ℕ))) (n : ℕ) (words : List (List ℕ)) (r : Option (X × List (List ℕ))) → read words ≡ r
+    → ((x : X) (rest : List (List ℕ)) → r ≡ Some (x, rest) → many_at read n rest ≡ None) → many_at read (suc n) words ≡ None
 unfolding many_at
-short of zero words h = absurd (omega arith)
-short of (suc n) [] h = refl
-short of (suc n) (word ∷ words) h = short_by of n words word (of word) refl (short of n words (omega arith))
+short_by read n words None e h = rw e refl
+short_by read n words (Some first) e h = rw (e, h first.0 first.1 refl) refl
+
+-- a line with fewer words than items are to be read
+pub short : {X : Type 0} (read : List (List ℕ) → Option (X × List (List ℕ))) → TakesWords read → (n : ℕ) (words : List (List ℕ)) → length words < n → many_at read n words ≡ None
+short read takes zero words few = absurd (omega arith)
+short read takes (suc n) words few = short_by read n words (read words) refl (λ x rest e. short read takes n rest (omega (arith, takes words x rest e, few)))
+
+left_by : {X : Type 0} (r : Option X) (words : List (List ℕ)) (x : X) (rest : List (List ℕ)) → ◌>>=◌ {B = X × List (List ℕ)} r (λ y. Some (y, words)) ≡ Some (x, rest) → words ≡ rest
+left_by None words x rest e = absurd cc
+left_by {X} (Some y) words x rest e = let same : (y, words) ≡ (x, rest) = cc in ap (λ (p : X × List (List ℕ)). p.1) same
+
+-- one word is read
+pub item_words : {X : Type 0} (of : List ℕ → Option X) → TakesWords (item_at of)
+item_words of [] x rest e = absurd cc
+item_words of (word ∷ words) x rest e = let same : words ≡ rest = left_by (of word) words x rest e in omega (arith, ap length same)

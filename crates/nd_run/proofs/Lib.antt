@@ -23,3 +23,4 @@ pub mod PathLaws
 pub mod WritePaths
 pub mod WriteLaws
 pub mod PartLaws
+pub mod TextLaws

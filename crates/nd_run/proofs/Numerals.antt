@@ -1,85 +1,76 @@
--- What `parse` reads is what a word writes.
-use Rattle.std.proofs.Common.{◌≡◌, ℕ, zero, suc, ◌<◌, ◌≤◌, ◌^◌, Bool, true, false, cond, eqb, ltb, leb, not, ◌&&◌, List, [], ◌∷◌, length, ℤ, pos, neg_ℤ, Some, None, Result, Ok, Err, w64, refl, sym, ap, ◌∙◌, arith}
+-- What is read digit by digit is what a word writes.
+use Rattle.std.proofs.Common.{◌≡◌, ℕ, ◌+◌, ◌-◌, ◌*◌, ◌<◌, ◌≤◌, ◌^◌, Bool, true, false, cond, eqb, ltb, leb, ◌&&◌, List, [], ◌∷◌, length, drop, drop-cons, get_or, Option, Some, None, refl, sym, ◌∙◌, arith}
 use Rattle.std.specs.List.{list_all}
-use Rattle.std.specs.Char.{is_ascii_digit}
-use Rattle.std.specs.Str.{all_ascii_digits, IsUtf8, IsAscii}
-use Rattle.std.specs.Str.Parse.{digits_value, ParsesUnsigned, ParsesSigned}
-use Rattle.std.specs.Result.{OkIff, result_ok}
-use Rattle.std.proofs.lemmas.Str.Parse.{IsNumeralModel, numerals_by_value, tells_all_ascii_digits, parse_digits, parse_signed_digits, parse_signed_minus}
-use Rattle.std.proofs.lemmas.Str.{IsUtf8-from_ascii}
-use Rattle.std.proofs.lemmas.Fmt.{IsAscii-from_digits}
-use Rattle.std.proofs.lemmas.Bool.{eqb-true, ltb-true, lt-ltb, leb-true, le-leb, and_parts}
-use Rattle.nd_run.specs.Numerals.{is_numeral, nat_of, int_of, without_minus, signed_of}
+use Rattle.std.specs.Char.{is_ascii_digit, digit_value}
+use Rattle.std.specs.Str.Parse.{digits_value, digits_value_after}
+use Rattle.std.proofs.lemmas.Bool.{ltb-true, ltb-false, lt-ltb, le-ltb}
+use Rattle.std.proofs.lemmas.Bool.Decides.{nat_tests}
+use Rattle.std.proofs.lemmas.List.{drop_all}
+use Rattle.nd_run.specs.Numerals.{is_numeral, nat_of, int_of, with_digit, without_minus, has_minus, signed_of, signed_from}
+use Rattle.nd_run.specs.Reading.{◌>>=◌}
 
-abbrev AreDigits : List ℕ → Type 0
-AreDigits ds = list_all is_ascii_digit ds ≡ true
+-- the number that digits write behind those of n, digit by digit
+abbrev pub behind : ℕ → List ℕ → Option ℕ
+behind n [] = Some n
+behind n (c ∷ cs) = with_digit n c >>= λ m. behind m cs
 
-digits_same : (ds : List ℕ) → list_all is_ascii_digit ds ≡ all_ascii_digits ds
-digits_same [] = refl
-digits_same (d ∷ ds) = ap (λ (b : Bool). is_ascii_digit d && b) (digits_same ds)
+grows : (n : ℕ) (ds : List ℕ) → n ≤ digits_value_after 10 n ds
+grows n [] = omega arith
+grows n (d ∷ ds) = omega (arith, grows (n * 10 + digit_value d) ds)
 
-model : IsNumeralModel (λ ds. all_ascii_digits ds ≡ true) (digits_value 10)
-model = numerals_by_value (λ ds. all_ascii_digits ds ≡ true) tells_all_ascii_digits
+worth : (c : ℕ) → is_ascii_digit c ≡ true → digit_value c ≡ c - 48
+worth c digit = grind (arith, nat_tests)
 
-are_digits : (ds : List ℕ) → is_numeral ds ≡ true → all_ascii_digits ds ≡ true
-are_digits ds e = sym (digits_same ds) ∙ (and_parts (not (eqb (length ds) 0)) (list_all is_ascii_digit ds) e).1
+no_more : (b : Bool) (n : ℕ) → 2 ^ 64 ≤ n → cond (b && ltb n (2 ^ 64)) (Some n) None ≡ None
+no_more true n large = rw (le-ltb n (2 ^ 64) large) refl
+no_more false n large = refl
 
--- a numeral is ASCII, and so is one with a minus sign before it
-numeral_ascii : (ds : List ℕ) → is_numeral ds ≡ true → IsAscii ds
-numeral_ascii ds e = IsAscii-from_digits ds (model.to ds (are_digits ds e))
+behind_by : (d t : Bool) (n c v : ℕ) (cs : List ℕ) → is_ascii_digit c ≡ d → (is_ascii_digit c ≡ true → v ≡ c - 48) → ltb (n * 10 + (c - 48)) (2 ^ 64) ≡ t
+    → (n * 10 + (c - 48) < 2 ^ 64 → behind (n * 10 + (c - 48)) cs ≡ cond (list_all is_ascii_digit cs && ltb (digits_value_after 10 (n * 10 + (c - 48)) cs) (2 ^ 64)) (Some (digits_value_after 10 (n * 10 + (c - 48)) cs)) None)
+    → behind n (c ∷ cs) ≡ cond ((is_ascii_digit c && list_all is_ascii_digit cs) && ltb (digits_value_after 10 (n * 10 + v) cs) (2 ^ 64)) (Some (digits_value_after 10 (n * 10 + v) cs)) None
+behind_by false t n c v cs digit worth fits h = rw digit refl
+behind_by true true n c v cs digit worth fits h = rw (worth digit, digit, fits) (h (ltb-true (n * 10 + (c - 48)) (2 ^ 64) fits))
+behind_by true false n c v cs digit worth fits h =
+    let large : 2 ^ 64 ≤ digits_value_after 10 (n * 10 + (c - 48)) cs = omega (arith, ltb-false (n * 10 + (c - 48)) (2 ^ 64) fits, grows (n * 10 + (c - 48)) cs) in
+    rw (worth digit, digit, fits) (sym (no_more (list_all is_ascii_digit cs) (digits_value_after 10 (n * 10 + (c - 48)) cs) large))
 
-before_ascii : (b : ℕ) (bs : List ℕ) → b < 128 → IsAscii bs → IsAscii (b ∷ bs)
-before_ascii b bs h all zero = h
-before_ascii b bs h all (suc i) = all i
+behind_is : (n : ℕ) (ds : List ℕ) → n < 2 ^ 64 → behind n ds ≡ cond (list_all is_ascii_digit ds && ltb (digits_value_after 10 n ds) (2 ^ 64)) (Some (digits_value_after 10 n ds)) None
+behind_is n [] fits = rw (lt-ltb n (2 ^ 64) fits) refl
+behind_is n (c ∷ cs) fits = behind_by (is_ascii_digit c) (ltb (n * 10 + (c - 48)) (2 ^ 64)) n c (digit_value c) cs refl (worth c) refl (behind_is (n * 10 + (c - 48)) cs)
 
-pub text_from_numeral : (ds : List ℕ) → is_numeral ds ≡ true → IsUtf8 ds
-text_from_numeral ds e = IsUtf8-from_ascii ds (numeral_ascii ds e)
-
-ascii_by : (t : Bool) (b : ℕ) (bs : List ℕ) → eqb b 45 ≡ t → is_numeral (cond t bs (b ∷ bs)) ≡ true → IsAscii (b ∷ bs)
-ascii_by true b bs is e = let code : b ≡ 45 = eqb-true b 45 is in before_ascii b bs (omega arith) (numeral_ascii bs e)
-ascii_by false b bs is e = numeral_ascii (b ∷ bs) e
-
-pub text_from_signed : (word : List ℕ) → is_numeral (without_minus word) ≡ true → IsUtf8 word
-text_from_signed [] e = IsUtf8-from_ascii [] (numeral_ascii [] e)
-text_from_signed (b ∷ bs) e = IsUtf8-from_ascii (b ∷ bs) (ascii_by (eqb b 45) b bs refl e)
-
--- ---- what is parsed
-
-numeral_length : (ds : List ℕ) → is_numeral ds ≡ true → 0 < length ds
-numeral_length [] e = absurd cc
-numeral_length (d ∷ ds) e = omega arith
-
--- an answer that is there just where a test passes
-ok_by : {X E : Type 0} (t : Bool) (r : Result X E) (Q : Type 0) (x : X) → OkIff r Q x → (Q → t ≡ true) → (t ≡ true → Q) → result_ok r ≡ cond t (Some x) None
-ok_by t (Ok y) Q x h to from = rw (to h.0) (ap Some h.1)
-ok_by true (Err e) Q x h to from = absurd (h (from refl))
-ok_by false (Err e) Q x h to from = refl
+pub nat_none : (word : List ℕ) → eqb (length word) 0 ≡ true → nat_of word ≡ None
+unfolding nat_of
+nat_none word empty = rw empty refl
 
 -- the `usize`
-pub nat_parse : {E : Type 0} (ds : List ℕ) (r : Result ℕ E) → ParsesUnsigned 64 10 ds r → is_numeral ds ≡ true → result_ok r ≡ nat_of ds
+pub nat_behind : (word : List ℕ) → eqb (length word) 0 ≡ false → nat_of word ≡ behind 0 word
 unfolding nat_of
-nat_parse ds r p e =
-    let v = digits_value 10 ds in
-    rw e (ok_by (ltb v (2 ^ 64)) r ((0 < length ds) × (v < 2 ^ 64)) v (parse_digits model 64 ds r p (are_digits ds e)) (λ q. lt-ltb v (2 ^ 64) q.1) (λ t. (numeral_length ds e, ltb-true v (2 ^ 64) t)))
+nat_behind word some = rw some (sym (behind_is 0 word (omega arith)))
 
-pub nat_none : (ds : List ℕ) → is_numeral ds ≡ false → nat_of ds ≡ None
-unfolding nat_of
-nat_none ds e = rw e refl
+-- a byte that can't be read behind those before it
+pub nat_stuck : (word : List ℕ) (n i : ℕ) → eqb (length word) 0 ≡ false → i < length word → with_digit n (get_or word i 0) ≡ None → behind n (drop i word) ≡ behind 0 word → nat_of word ≡ None
+nat_stuck word n i some inside none so_far =
+    let cut : behind n (drop i word) ≡ None = rw (drop-cons word i 0, none) refl in
+    nat_behind word some ∙ sym so_far ∙ cut
+
+-- all bytes were read
+pub nat_read : (word : List ℕ) (n i : ℕ) → eqb (length word) 0 ≡ false → length word ≤ i → behind n (drop i word) ≡ behind 0 word → nat_of word ≡ Some n
+nat_read word n i some end so_far =
+    let all : behind n (drop i word) ≡ Some n = rw (drop_all i word end) refl in
+    nat_behind word some ∙ sym so_far ∙ all
 
 -- the `isize` or `i64`
-int_by : {E : Type 0} (t : Bool) (b : ℕ) (bs : List ℕ) (r : Result ℤ E) → eqb b 45 ≡ t → ParsesSigned w64 10 (b ∷ bs) r → is_numeral (cond t bs (b ∷ bs)) ≡ true → result_ok r ≡ signed_of t (digits_value 10 (cond t bs (b ∷ bs)))
-int_by true b bs r is p e =
-    let v = digits_value 10 bs in
-    ok_by (leb v (2 ^ 63)) r ((all_ascii_digits bs ≡ true) × (0 < length bs) × (v ≤ 2 ^ 63)) (neg_ℤ (pos v)) (parse_signed_minus model w64 (b ∷ bs) r p (eqb-true b 45 is)) (λ q. le-leb v (2 ^ 63) q.2) (λ t. (are_digits bs e, numeral_length bs e, leb-true v (2 ^ 63) t))
-int_by false b bs r is p e =
-    let v = digits_value 10 (b ∷ bs) in
-    ok_by (ltb v (2 ^ 63)) r ((0 < length (b ∷ bs)) × (v < 2 ^ 63)) (pos v) (parse_signed_digits model w64 (b ∷ bs) r p (are_digits (b ∷ bs) e)) (λ q. lt-ltb v (2 ^ 63) q.1) (λ t. (numeral_length (b ∷ bs) e, ltb-true v (2 ^ 63) t))
+signed_none : (minus : Bool) (n : ℕ) → 2 ^ 64 ≤ n → signed_of minus n ≡ None
+signed_none true n large = let no : leb n (2 ^ 63) ≡ false = grind (arith, nat_tests) in rw no refl
+signed_none false n large = let no : ltb n (2 ^ 63) ≡ false = le-ltb n (2 ^ 63) (omega arith) in rw no refl
 
-pub int_parse : {E : Type 0} (word : List ℕ) (r : Result ℤ E) → ParsesSigned w64 10 word r → is_numeral (without_minus word) ≡ true → result_ok r ≡ int_of word
-unfolding int_of
-int_parse [] r p e = absurd cc
-int_parse (b ∷ bs) r p e = rw e (int_by (eqb b 45) b bs r refl p e)
+signed_by : (minus numeral fits : Bool) (n : ℕ) → ltb n (2 ^ 64) ≡ fits → cond numeral (signed_of minus n) None ≡ signed_from minus (cond (numeral && fits) (Some n) None)
+signed_by minus false fits n e = refl
+signed_by minus true true n e = refl
+signed_by minus true false n e = signed_none minus n (ltb-false n (2 ^ 64) e)
 
-pub int_none : (word : List ℕ) → is_numeral (without_minus word) ≡ false → int_of word ≡ None
-unfolding int_of
-int_none word e = rw e refl
+pub int_behind : (word : List ℕ) → int_of word ≡ signed_from (has_minus word) (nat_of (without_minus word))
+unfolding nat_of int_of
+int_behind word =
+    let digits = without_minus word in
+    signed_by (has_minus word) (is_numeral digits) (ltb (digits_value 10 digits) (2 ^ 64)) (digits_value 10 digits) refl

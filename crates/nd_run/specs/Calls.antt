@@ -31,11 +31,13 @@ pub data AskedStep : Type 0 where
   Diagonal : AskedStep
   BroadcastTo : (lengths : List ℕ) → AskedStep
 
--- a question: the lengths, all elements, or the element of an index
+-- a question: the lengths, all elements, the element of an index, or the first or last one
 pub data Asking : Type 0 where
   AskShape : Asking
   AskElements : Asking
   AskElement : (index : List ℕ) → Asking
+  AskFirst : Asking
+  AskLast : Asking
 
 -- an act: each element is set to one value, or that of an index is; or the elements of two indexes change places
 pub data Acting (A : Type 0) : Type 0 where
@@ -78,6 +80,8 @@ abbrev pub asking : Question → Asking
 asking questions.Shape = AskShape
 asking questions.Elements = AskElements
 asking (questions.Get index) = AskElement index.items
+asking questions.First = AskFirst
+asking questions.Last = AskLast
 
 abbrev pub acting : {A : Type 0} → Act A → Acting A
 acting (acts.Fill value) = Filling value

@@ -1,11 +1,11 @@
 -- What a list of calls answers, and what it leaves of an array's meaning: a fold over the calls. No view, borrow
 -- or storage occurs.
-use Rattle.std.specs.Prelude.{◌≡◌, ℕ, true, ◌||◌, List, [], ◌∷◌, ◌++◌, Result, Ok, Err, IsOk, ◌⊎◌}
+use Rattle.std.specs.Prelude.{◌≡◌, ℕ, ◌-◌, nat_lt, Option, None, if◌then◌else◌, true, ◌||◌, List, [], ◌∷◌, ◌++◌, Result, Ok, Err, IsOk, ◌⊎◌}
 use Rattle.std.specs.List.{filter_map}
 use Rattle.std.specs.Result.{result_unwrap_or}
-use Rattle.nd_shape_and_slice.specs.Shape.{indexes_of, in_box}
+use Rattle.nd_shape_and_slice.specs.Shape.{indexes_of, in_box, index_at, size_of}
 use Rattle.nd_array_core.specs.Meaning.{Meaning, meaning_through}
-use Rattle.nd_run.specs.Calls.{AskedStep, Asking, AskShape, AskElements, AskElement, Asked, Keeping, About, Writing, SplitWriting, Said, SaidDone, SaidRefused, SaidShape, SaidElements, SaidElement, said_reply}
+use Rattle.nd_run.specs.Calls.{AskedStep, Asking, AskShape, AskElements, AskElement, AskFirst, AskLast, Asked, Keeping, About, Writing, SplitWriting, Said, SaidDone, SaidRefused, SaidShape, SaidElements, SaidElement, said_reply}
 use Rattle.std.specs.Prelude.{map}
 use Rattle.nd_run.specs.Steps.{refusal, keep_refusal, unless, step_shape, step_index, shape_along, index_along}
 use Rattle.nd_run.specs.Acts.{write_result, split_result, clones}
@@ -46,10 +46,16 @@ LeadsAlong path m n =
     (n.shape ≡ shape_along path m.shape)
     × ((i : List ℕ) → in_box n.shape i ≡ true → (in_box m.shape (index_along path m.shape i) ≡ true) × (n.at i ≡ m.at (index_along path m.shape i)))
 
+-- the element of a row-major rank
+abbrev pub element_of_rank : {A : Type 0} → Meaning A → ℕ → Option A
+element_of_rank m rank = if nat_lt rank (size_of m.shape) then m.at (index_at m.shape rank) else None
+
 abbrev pub answer_to : {A : Type 0} → Asking → Meaning A → Said A
 answer_to AskShape m = SaidShape m.shape
 answer_to AskElements m = SaidElements m.shape (row_major_elements m)
 answer_to (AskElement index) m = SaidElement (m.at index)
+answer_to AskFirst m = SaidElement (element_of_rank m 0)
+answer_to AskLast m = SaidElement (element_of_rank m (size_of m.shape - 1))
 
 -- the number of a cause in a reply
 abbrev pub number_of : Cause → ℕ

@@ -4,7 +4,7 @@ use Rattle.nd_shape_and_slice.specs.Shape.{HasCheckedSize, size_of}
 use Rattle.nd_shape_and_slice.specs.declared.slice.Slice.{Slice}
 use Rattle.nd_shape_and_slice.specs.declared.slice_info.SliceInfoElem.{SliceInfoElem}
 use Rattle.nd_shape_and_slice.specs.declared.slice_info.SliceInfoElem.TheVariants.{Slice as Part, Index, NewAxis}
-use Rattle.nd_run.specs.Calls.{AskedStep, SlicedAxis, Sliced, Collapsed, Indexed, Permuted, Reversed, Exchanged, Inverted, Inserted, Removed, Squeezed, Diagonal, BroadcastTo, Asking, AskShape, AskElements, AskElement, Acting, Filling, Setting, Swapping, Asked, Keeping, About, Writing, SplitWriting}
+use Rattle.nd_run.specs.Calls.{AskedStep, SlicedAxis, Sliced, Collapsed, Indexed, Permuted, Reversed, Exchanged, Inverted, Inserted, Removed, Squeezed, Diagonal, BroadcastTo, Asking, AskShape, AskElements, AskElement, AskFirst, AskLast, Acting, Filling, Setting, Swapping, Asked, Keeping, About, Writing, SplitWriting}
 use Rattle.nd_run.specs.Numerals.{IsNat, IsInt}
 
 -- as many writings as items, each writing the item at its place
@@ -90,6 +90,8 @@ IsPath words (step ∷ steps) = (front : List (List ℕ)) × (back : List (List 
 abbrev pub IsQuestion : List (List ℕ) → Asking → Type 0
 IsQuestion words AskShape = words ≡ codes "shape" ∷ []
 IsQuestion words AskElements = words ≡ codes "elements" ∷ []
+IsQuestion words AskFirst = words ≡ codes "first" ∷ []
+IsQuestion words AskLast = words ≡ codes "last" ∷ []
 IsQuestion words (AskElement index) = (rest : List (List ℕ)) × (words ≡ codes "get" ∷ rest) × IsList rest index
 
 -- an act: its name, an index or two, and the value that is set

@@ -1,9 +1,13 @@
--- Laws of steps and of paths.
-use Rattle.std.specs.Prelude.{◌≡◌, List, None, Ok, ℕ}
+-- Laws of steps, of paths and of texts.
+use Rattle.std.specs.Prelude.{◌≡◌, ◌==◌, [], ◌∷◌, ◌++◌, List, None, Ok, ℕ, ℤ, codes, if◌then◌else◌}
+use Rattle.std.specs.List.{flat_map}
 use Rattle.nd_array_core.specs.Laws.{LeadsInside}
 use Rattle.nd_array_core.specs.Meaning.{Meaning}
-use Rattle.nd_run.specs.Calls.{AskedStep}
+use Rattle.nd_run.specs.Calls.{AskedStep, Asked}
 use Rattle.nd_run.specs.Fold.{path_result, LeadsAlong}
+use Rattle.nd_run.specs.Grammar.{IsCall}
+use Rattle.nd_run.specs.Script.{AskedScript, IsScript, IsFirstBad}
+use Rattle.nd_run.specs.Words.{lines_of}
 use Rattle.nd_run.specs.Steps.{refusal, step_shape, step_index}
 
 -- each index of what a step leads to names one of what it came from
@@ -13,3 +17,28 @@ StepsLeadInside = (step : AskedStep) (ns : List ℕ) → refusal step ns ≡ Non
 -- the map of a path that isn't refused is the composition of its steps' maps
 abbrev pub PathsLeadAlong : Type 0 → Type 0
 PathsLeadAlong A = (path : List AskedStep) (m n : Meaning A) → path_result path m ≡ Ok n → LeadsAlong path m n
+
+-- the words of a line mean one call at most
+abbrev pub MeansOneCall : Type 0
+MeansOneCall = (words : List (List ℕ)) (one other : Asked ℤ) → IsCall words one → IsCall words other → one ≡ other
+
+-- lines mean one script at most, and then none of them is bad
+abbrev pub MeansOneScript : Type 0
+MeansOneScript = (lines : List (List ℕ)) (one other : AskedScript) → IsScript lines one → IsScript lines other → one ≡ other
+
+abbrev pub HasNoBadLine : Type 0
+HasNoBadLine = (lines : List (List ℕ)) (script : AskedScript) (n : ℕ) → IsScript lines script → ¬ (IsFirstBad lines n)
+
+-- the lines one after another, each with its line feed
+abbrev pub joined : List (List ℕ) → List ℕ
+joined lines = flat_map (λ line. line ++ codes "\n") lines
+
+-- a text with a line feed after its last line
+abbrev pub with_last_feed : List ℕ → List ℕ
+with_last_feed [] = []
+with_last_feed (b ∷ []) = if b == 10 then b ∷ [] else b ∷ 10 ∷ []
+with_last_feed (b ∷ c ∷ cs) = b ∷ with_last_feed (c ∷ cs)
+
+-- the lines of a text joined again are the text
+abbrev pub LinesJoinAgain : Type 0
+LinesJoinAgain = (text : List ℕ) → joined (lines_of text) ≡ with_last_feed text

@@ -1,5 +1,5 @@
 -- The number that a word writes in decimal digits.
-use Rattle.std.specs.Prelude.{◌≡◌, ℕ, ◌^◌, ◌<◌, ◌≤◌, Bool, true, false, ◌&&◌, not, ◌==◌, nat_lt, nat_le, List, [], ◌∷◌, length, ℤ, pos, neg_ℤ, Option, Some, None, ◌⊎◌, if◌then◌else◌}
+use Rattle.std.specs.Prelude.{◌≡◌, ℕ, ◌+◌, ◌-◌, ◌*◌, ◌^◌, ◌<◌, ◌≤◌, Bool, true, false, ◌&&◌, not, ◌==◌, nat_lt, nat_le, List, [], ◌∷◌, length, ℤ, pos, neg_ℤ, Option, Some, None, ◌⊎◌, if◌then◌else◌}
 use Rattle.std.specs.Char.{is_ascii_digit}
 use Rattle.std.specs.List.{list_all}
 use Rattle.std.specs.Str.Parse.{digits_value}
@@ -26,6 +26,10 @@ IsInt word z =
 unfoldable pub nat_of : List ℕ → Option ℕ
 nat_of word = if is_numeral word && nat_lt (digits_value 10 word) (2 ^ 64) then Some (digits_value 10 word) else None
 
+-- the number with one digit more behind its own, if that is a `usize`
+abbrev pub with_digit : ℕ → ℕ → Option ℕ
+with_digit n c = if is_ascii_digit c && nat_lt (n * 10 + (c - 48)) (2 ^ 64) then Some (n * 10 + (c - 48)) else None
+
 -- what follows the minus sign, where there is one
 abbrev pub without_minus : List ℕ → List ℕ
 without_minus [] = []
@@ -38,6 +42,11 @@ has_minus (b ∷ bs) = b == 45
 abbrev pub signed_of : Bool → ℕ → Option ℤ
 signed_of true n = if nat_le n (2 ^ 63) then Some (neg_ℤ (pos n)) else None
 signed_of false n = if nat_lt n (2 ^ 63) then Some (pos n) else None
+
+-- the number with this sign, of what its digits write
+abbrev pub signed_from : Bool → Option ℕ → Option ℤ
+signed_from minus None = None
+signed_from minus (Some n) = signed_of minus n
 
 -- the `isize` or `i64` that a word writes
 unfoldable pub int_of : List ℕ → Option ℤ

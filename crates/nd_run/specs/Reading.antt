@@ -7,10 +7,10 @@ use Rattle.nd_shape_and_slice.specs.declared.slice.Slice.{Slice}
 use Rattle.nd_shape_and_slice.specs.declared.slice_info.SliceInfoElem.{SliceInfoElem}
 use Rattle.nd_shape_and_slice.specs.declared.slice_info.SliceInfoElem.TheVariants.{Slice as Part, Index as At, NewAxis}
 use Rattle.nd_run.specs.declared.keyword.Keyword.{Keyword}
-use Rattle.nd_run.specs.declared.keyword.Keyword.TheVariants.{Start, Keep, Ask, Write, Split, Slash, Cut, Slice as SliceWord, Collapse, Index, Permute, Reverse, SwapAxes, Invert, Insert, Remove, Squeeze, Diag, Broadcast, Shape, Elements, Get, Fill, Set, Swap, Other}
+use Rattle.nd_run.specs.declared.keyword.Keyword.TheVariants.{Start, Keep, Ask, Write, Split, Slash, Cut, Slice as SliceWord, Collapse, Index, Permute, Reverse, SwapAxes, Invert, Insert, Remove, Squeeze, Diag, Broadcast, Shape, Elements, Get, First, Last, Fill, Set, Swap, Other}
 use Rattle.nd_run.specs.declared.reader.fault.LineFault.{LineFault}
 use Rattle.nd_run.specs.declared.reader.fault.LineFault.TheVariants.{Bad, Memory}
-use Rattle.nd_run.specs.Calls.{AskedStep, SlicedAxis, Sliced, Collapsed, Indexed, Permuted, Reversed, Exchanged, Inverted, Inserted, Removed, Squeezed, Diagonal, BroadcastTo, Asking, AskShape, AskElements, AskElement, Acting, Filling, Setting, Swapping, Asked, Keeping, About, Writing, SplitWriting}
+use Rattle.nd_run.specs.Calls.{AskedStep, SlicedAxis, Sliced, Collapsed, Indexed, Permuted, Reversed, Exchanged, Inverted, Inserted, Removed, Squeezed, Diagonal, BroadcastTo, Asking, AskShape, AskElements, AskElement, AskFirst, AskLast, Acting, Filling, Setting, Swapping, Asked, Keeping, About, Writing, SplitWriting}
 use Rattle.nd_run.specs.Numerals.{nat_of, int_of}
 
 infixl 10 ◌>>=◌
@@ -98,6 +98,8 @@ spelling Broadcast = codes "broadcast"
 spelling Shape = codes "shape"
 spelling Elements = codes "elements"
 spelling Get = codes "get"
+spelling First = codes "first"
+spelling Last = codes "last"
 spelling Fill = codes "fill"
 spelling Set = codes "set"
 spelling Swap = codes "swap"
@@ -109,7 +111,7 @@ keyword_among [] word = Other
 keyword_among (k ∷ ks) word = if bytes_eq word (spelling k) then k else keyword_among ks word
 
 abbrev pub named_keywords : List Keyword
-named_keywords = Start ∷ Keep ∷ Ask ∷ Write ∷ Split ∷ Slash ∷ Cut ∷ SliceWord ∷ Collapse ∷ Index ∷ Permute ∷ Reverse ∷ SwapAxes ∷ Invert ∷ Insert ∷ Remove ∷ Squeeze ∷ Diag ∷ Broadcast ∷ Shape ∷ Elements ∷ Get ∷ Fill ∷ Set ∷ Swap ∷ []
+named_keywords = Start ∷ Keep ∷ Ask ∷ Write ∷ Split ∷ Slash ∷ Cut ∷ SliceWord ∷ Collapse ∷ Index ∷ Permute ∷ Reverse ∷ SwapAxes ∷ Invert ∷ Insert ∷ Remove ∷ Squeeze ∷ Diag ∷ Broadcast ∷ Shape ∷ Elements ∷ Get ∷ First ∷ Last ∷ Fill ∷ Set ∷ Swap ∷ []
 
 unfoldable pub keyword_of : List ℕ → Keyword
 keyword_of word = keyword_among named_keywords word
@@ -236,6 +238,8 @@ abbrev pub question_by : Keyword → List (List ℕ) → Option (Asking × List 
 question_by Shape words = Some (AskShape, words)
 question_by Elements words = Some (AskElements, words)
 question_by Get words = get_at words
+question_by First words = Some (AskFirst, words)
+question_by Last words = Some (AskLast, words)
 question_by _ words = None
 
 unfoldable pub question_at : List (List ℕ) → Option (Asking × List (List ℕ))

@@ -42,6 +42,10 @@ pub enum Question {
     Elements,
     /// The element of this index.
     Get(Vec<usize>),
+    /// The first element in row-major order.
+    First,
+    /// The last element in row-major order.
+    Last,
 }
 
 /// A change of an array's elements.

@@ -28,6 +28,8 @@ pub enum Keyword {
     Shape,
     Elements,
     Get,
+    First,
+    Last,
     Fill,
     Set,
     Swap,
@@ -35,7 +37,7 @@ pub enum Keyword {
     Other,
 }
 
-const NAMED: [Keyword; 25] = [
+const NAMED: [Keyword; 27] = [
     Keyword::Start,
     Keyword::Keep,
     Keyword::Ask,
@@ -58,6 +60,8 @@ const NAMED: [Keyword; 25] = [
     Keyword::Shape,
     Keyword::Elements,
     Keyword::Get,
+    Keyword::First,
+    Keyword::Last,
     Keyword::Fill,
     Keyword::Set,
     Keyword::Swap,
@@ -103,6 +107,8 @@ impl Keyword {
             Keyword::Shape => b"shape",
             Keyword::Elements => b"elements",
             Keyword::Get => b"get",
+            Keyword::First => b"first",
+            Keyword::Last => b"last",
             Keyword::Fill => b"fill",
             Keyword::Set => b"set",
             Keyword::Swap => b"swap",

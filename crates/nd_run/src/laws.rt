@@ -1,6 +1,6 @@
-//! Laws of steps and of paths, over meanings alone. Nothing here runs: each function's clause is the law.
+//! Laws of steps and of paths, over meanings alone, and of texts. Nothing here runs: each function's clause is the law.
 
-ghost use Rattle.nd_run.specs.Laws.{StepsLeadInside, PathsLeadAlong};
+ghost use Rattle.nd_run.specs.Laws.{StepsLeadInside, PathsLeadAlong, MeansOneCall, MeansOneScript, HasNoBadLine, LinesJoinAgain};
 
 use nd_array_core::laws::maps_lead_inside;
 
@@ -17,3 +17,19 @@ pub fn paths_lead_along<A>()
 {
     steps_lead_inside();
 }
+
+/// The words of a line mean one call at most.
+pub fn line_means_one_call()
+    ensures { MeansOneCall }
+{}
+
+/// Lines mean one script at most, and then no line is bad.
+pub fn lines_mean_one_script()
+    ensures one { MeansOneScript }
+    ensures none_bad { HasNoBadLine }
+{}
+
+/// The lines of a text, joined again by line feeds, are the text.
+pub fn lines_join_again()
+    ensures { LinesJoinAgain }
+{}

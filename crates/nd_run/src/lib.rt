@@ -8,11 +8,11 @@
 mod calls;
 mod cause;
 pub mod drive;
+pub mod laws;
 pub mod run;
 mod watched;
 
 // Carrying out a call.
-mod laws;
 mod steps;
 mod write;
 
@@ -25,6 +25,7 @@ mod words;
 
 // Writing what is due at the end.
 mod outcome;
+mod page;
 mod printer;
 
 pub use calls::{Act, Call, Question, Reply, Step};

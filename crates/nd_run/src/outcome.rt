@@ -12,7 +12,8 @@ ghost use Rattle.nd_run.specs.Watched.{watched_inner, watched_failed, GetsFlushe
 
 use crate::calls::Reply;
 use crate::input::{InputError, read_input};
-use crate::printer::{put, put_list, put_natural, put_replies, put_value};
+use crate::page::Page;
+use crate::printer::{put, put_list, put_natural, put_replies, put_value, write_text};
 use crate::reader::fault::ScriptError;
 use crate::reader::{Script, read_script};
 use crate::watched::Watched;
@@ -72,21 +73,30 @@ pub fn unloaded(alloc: Global, error: LoadError) -> Outcome
     }
 }
 
-fn put_end<W: Write>(output: &mut Watched<W>, outcome: &Outcome)
-    ensures { Puts W.contents output.old output.new (ending_text (ending outcome.now)) }
+fn put_end<W: Write>(output: &mut Watched<W>, page: &mut Page, outcome: &Outcome)
+    ensures { Puts W.contents output.old page.old output.new page.new (ending_text (ending outcome.now)) }
 {
     match outcome {
         Outcome::BadLine(number) => {
-            put(output, b"bad line ");
-            put_natural(output, *number);
-            put(output, b"\n");
+            put(output, page, b"bad line ");
+            put_natural(output, page, *number);
+            put(output, page, b"\n");
         }
         Outcome::Memory(replies) => {
-            put_replies(output, replies);
-            put(output, b"out of memory\n");
+            put_replies(output, page, replies);
+            put(output, page, b"out of memory\n");
         }
-        Outcome::ReadFailed => put(output, b"read failed\n"),
+        Outcome::ReadFailed => put(output, page, b"read failed\n"),
     }
+}
+
+/// Writes the bytes that wait, and flushes once.
+fn finish<W: Write>(output: &mut Watched<W>, page: &Page)
+    ensures text { TakesText W.contents output.old output.new page.now }
+    ensures flushed { GetsFlushed output.old output.new }
+{
+    write_text(output, page.as_slice());
+    flush(output);
 }
 
 fn flush<W: Write>(output: &mut Watched<W>)
@@ -117,22 +127,23 @@ pub fn conclude<W: Write>(output: &mut Watched<W>, outcome: &Outcome) -> u8
     ensures flushed { GetsFlushed output.old output.new }
     ensures status { result ≡ status_of (watched_failed output.new) (ending outcome.now) }
 {
-    put_end(output, outcome);
-    flush(output);
+    let mut page = Page::new();
+    put_end(output, &mut page, outcome);
+    finish(output, &page);
     status(outcome, output.failed())
 }
 
 /// Writes the elements of an array in row-major order, each after a space. It takes no memory.
-fn put_elements<W: Write>(output: &mut Watched<W>, array: &Array<i64, IxDyn>)
-    ensures { Puts W.contents output.old output.new (values_text (row_major_elements (meaning_of array.now))) }
+fn put_elements<W: Write>(output: &mut Watched<W>, page: &mut Page, array: &Array<i64, IxDyn>)
+    ensures { Puts W.contents output.old page.old output.new page.new (values_text (row_major_elements (meaning_of array.now))) }
 {
     let mut coordinates = [0; MAX_AXES];
     let index = &mut coordinates[..array.ndim()];
     for rank in 0..array.len() {
         index_of_rank(array.shape(), rank, index);
         if let Some(value) = array.get(&*index) {
-            put(output, b" ");
-            put_value(output, value);
+            put(output, page, b" ");
+            put_value(output, page, value);
         }
     }
 }
@@ -143,14 +154,19 @@ fn whole_status(failed: bool) -> u8
     if failed { 3 } else { 0 }
 }
 
-fn put_whole<W: Write>(output: &mut Watched<W>, replies: &[Reply<i64>], array: &Array<i64, IxDyn>)
-    ensures { Puts W.contents output.old output.new (ending_text (Finished (map said_reply replies.now) (shape_of array.now) (row_major_elements (meaning_of array.now)))) }
+fn put_whole<W: Write>(
+    output: &mut Watched<W>,
+    page: &mut Page,
+    replies: &[Reply<i64>],
+    array: &Array<i64, IxDyn>,
+)
+    ensures { Puts W.contents output.old page.old output.new page.new (ending_text (Finished (map said_reply replies.now) (shape_of array.now) (row_major_elements (meaning_of array.now)))) }
 {
-    put_replies(output, replies);
-    put(output, b"end ");
-    put_list(output, array.shape());
-    put_elements(output, array);
-    put(output, b"\n");
+    put_replies(output, page, replies);
+    put(output, page, b"end ");
+    put_list(output, page, array.shape());
+    put_elements(output, page, array);
+    put(output, page, b"\n");
 }
 
 /// Writes the replies and the array that the last call left, flushes once, and returns the status. It takes no memory.
@@ -163,8 +179,9 @@ pub fn conclude_whole<W: Write>(
     ensures flushed { GetsFlushed output.old output.new }
     ensures status { result ≡ (if watched_failed output.new then 3 else 0) }
 {
-    put_whole(output, replies, array);
-    flush(output);
+    let mut page = Page::new();
+    put_whole(output, &mut page, replies, array);
+    finish(output, &page);
     whole_status(output.failed())
 }
 

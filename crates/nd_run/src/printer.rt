@@ -1,20 +1,21 @@
-//! Printing to a watched writer, without memory. Once a call of the writer has failed nothing more is
-//! written.
+//! Printing to a watched writer, through a page of bytes that wait, without memory. Once a call of the writer has failed
+//! nothing more is written.
 
 ghost use Rattle.std.specs.Prelude.{◌≡◌, ◌++◌, map, codes};
 ghost use Rattle.std.specs.Fmt.{decimal, signed_decimal};
 ghost use Rattle.nd_run.specs.Calls.{said_reply};
-ghost use Rattle.nd_run.specs.Puts.{Puts};
+ghost use Rattle.nd_run.specs.Puts.{Puts, Writes};
 ghost use Rattle.nd_run.specs.Text.{naturals_text, values_text, list_text, array_text, element_text, reply_words, reply_text, replies_text};
 
 use crate::calls::Reply;
+use crate::page::Page;
 use crate::watched::Watched;
 use itoa::Buffer;
 use std::io::Write;
 
 /// Writes the whole text, in as many calls as the writer needs.
-pub fn put<W: Write>(out: &mut Watched<W>, text: &[u8])
-    ensures { Puts W.contents out.old out.new text.now }
+pub fn write_text<W: Write>(out: &mut Watched<W>, text: &[u8])
+    ensures { Writes W.contents out.old out.new text.now }
 {
     let mut rest = text;
     while !rest.is_empty() && !out.failed() {
@@ -25,91 +26,113 @@ pub fn put<W: Write>(out: &mut Watched<W>, text: &[u8])
     }
 }
 
-pub fn put_natural<W: Write>(out: &mut Watched<W>, number: usize)
-    ensures { Puts W.contents out.old out.new (decimal number) }
+/// Puts a text behind the bytes that wait. Where there is no room for it they are written first.
+pub fn put<W: Write>(out: &mut Watched<W>, page: &mut Page, text: &[u8])
+    ensures { Puts W.contents out.old page.old out.new page.new text.now }
 {
-    let mut buffer = Buffer::new();
-    put(out, buffer.format(number).as_bytes());
+    if page.add(text) {
+        return;
+    }
+    put_on_next(out, page, text);
 }
 
-pub fn put_value<W: Write>(out: &mut Watched<W>, value: &i64)
-    ensures { Puts W.contents out.old out.new (signed_decimal value.now) }
+/// Writes the bytes that wait, and then puts the text on the empty page, or writes it where it is longer than a page.
+fn put_on_next<W: Write>(out: &mut Watched<W>, page: &mut Page, text: &[u8])
+    ensures { Puts W.contents out.old page.old out.new page.new text.now }
 {
-    let mut buffer = Buffer::new();
-    put(out, buffer.format(*value).as_bytes());
+    write_text(out, page.as_slice());
+    page.clear();
+    if page.add(text) {
+        return;
+    }
+    write_text(out, text);
 }
 
-pub fn put_naturals<W: Write>(out: &mut Watched<W>, numbers: &[usize])
-    ensures { Puts W.contents out.old out.new (naturals_text numbers.now) }
+pub fn put_natural<W: Write>(out: &mut Watched<W>, page: &mut Page, number: usize)
+    ensures { Puts W.contents out.old page.old out.new page.new (decimal number) }
+{
+    let mut buffer = Buffer::new();
+    put(out, page, buffer.format(number).as_bytes());
+}
+
+pub fn put_value<W: Write>(out: &mut Watched<W>, page: &mut Page, value: &i64)
+    ensures { Puts W.contents out.old page.old out.new page.new (signed_decimal value.now) }
+{
+    let mut buffer = Buffer::new();
+    put(out, page, buffer.format(*value).as_bytes());
+}
+
+pub fn put_naturals<W: Write>(out: &mut Watched<W>, page: &mut Page, numbers: &[usize])
+    ensures { Puts W.contents out.old page.old out.new page.new (naturals_text numbers.now) }
 {
     for number in numbers {
-        put(out, b" ");
-        put_natural(out, *number);
+        put(out, page, b" ");
+        put_natural(out, page, *number);
     }
 }
 
-fn put_values<W: Write>(out: &mut Watched<W>, values: &[i64])
-    ensures { Puts W.contents out.old out.new (values_text values.now) }
+fn put_values<W: Write>(out: &mut Watched<W>, page: &mut Page, values: &[i64])
+    ensures { Puts W.contents out.old page.old out.new page.new (values_text values.now) }
 {
     for value in values {
-        put(out, b" ");
-        put_value(out, value);
+        put(out, page, b" ");
+        put_value(out, page, value);
     }
 }
 
-pub fn put_list<W: Write>(out: &mut Watched<W>, numbers: &[usize])
-    ensures { Puts W.contents out.old out.new (list_text numbers.now) }
+pub fn put_list<W: Write>(out: &mut Watched<W>, page: &mut Page, numbers: &[usize])
+    ensures { Puts W.contents out.old page.old out.new page.new (list_text numbers.now) }
 {
-    put_natural(out, numbers.len());
-    put_naturals(out, numbers);
+    put_natural(out, page, numbers.len());
+    put_naturals(out, page, numbers);
 }
 
-fn put_array<W: Write>(out: &mut Watched<W>, lengths: &[usize], elements: &[i64])
-    ensures { Puts W.contents out.old out.new (array_text lengths.now elements.now) }
+fn put_array<W: Write>(out: &mut Watched<W>, page: &mut Page, lengths: &[usize], elements: &[i64])
+    ensures { Puts W.contents out.old page.old out.new page.new (array_text lengths.now elements.now) }
 {
-    put_list(out, lengths);
-    put_values(out, elements);
+    put_list(out, page, lengths);
+    put_values(out, page, elements);
 }
 
-fn put_element<W: Write>(out: &mut Watched<W>, element: &Option<i64>)
-    ensures { Puts W.contents out.old out.new (element_text element.now) }
+fn put_element<W: Write>(out: &mut Watched<W>, page: &mut Page, element: &Option<i64>)
+    ensures { Puts W.contents out.old page.old out.new page.new (element_text element.now) }
 {
     match element {
-        None => put(out, b"none"),
+        None => put(out, page, b"none"),
         Some(value) => {
-            put(out, b"some ");
-            put_value(out, value);
+            put(out, page, b"some ");
+            put_value(out, page, value);
         }
     }
 }
 
-fn put_words<W: Write>(out: &mut Watched<W>, reply: &Reply<i64>)
-    ensures { Puts W.contents out.old out.new (reply_words (said_reply reply.now)) }
+fn put_words<W: Write>(out: &mut Watched<W>, page: &mut Page, reply: &Reply<i64>)
+    ensures { Puts W.contents out.old page.old out.new page.new (reply_words (said_reply reply.now)) }
 {
     match reply {
-        Reply::Done => put(out, b"done"),
+        Reply::Done => put(out, page, b"done"),
         Reply::Refused(cause) => {
-            put(out, b"refused ");
-            put_natural(out, *cause as usize);
+            put(out, page, b"refused ");
+            put_natural(out, page, *cause as usize);
         }
         Reply::Shape(lengths) => {
-            put(out, b"shape ");
-            put_list(out, lengths);
+            put(out, page, b"shape ");
+            put_list(out, page, lengths);
         }
         Reply::Elements(lengths, elements) => {
-            put(out, b"array ");
-            put_array(out, lengths, elements);
+            put(out, page, b"array ");
+            put_array(out, page, lengths, elements);
         }
-        Reply::Element(element) => put_element(out, element),
+        Reply::Element(element) => put_element(out, page, element),
     }
 }
 
 /// Writes the line of each reply.
-pub fn put_replies<W: Write>(out: &mut Watched<W>, replies: &[Reply<i64>])
-    ensures { Puts W.contents out.old out.new (replies_text (map said_reply replies.now)) }
+pub fn put_replies<W: Write>(out: &mut Watched<W>, page: &mut Page, replies: &[Reply<i64>])
+    ensures { Puts W.contents out.old page.old out.new page.new (replies_text (map said_reply replies.now)) }
 {
     for reply in replies {
-        put_words(out, reply);
-        put(out, b"\n");
+        put_words(out, page, reply);
+        put(out, page, b"\n");
     }
 }

@@ -1,9 +1,9 @@
 //! A list of calls on one array.
 
 ghost use Rattle.std.specs.Prelude.{◌≡◌, map, MatchResult, Ok, Err, IfOk, IfErr, OnErr};
-ghost use Rattle.nd_array_core.specs.Meaning.{meaning_of};
-ghost use Rattle.nd_run.specs.Calls.{asked_call, asked_step, asking, said_reply, Keeping, About};
-ghost use Rattle.nd_run.specs.Fold.{path_result, LeadsAlong, answer_to, reply_to, meaning_after, replies_to, end_of, row_major_elements, number_of, MayLackMemory, StopsBefore, replies_before};
+ghost use Rattle.nd_array_core.specs.Meaning.{meaning_of, element_at};
+ghost use Rattle.nd_run.specs.Calls.{asked_call, asked_step, asking, said_reply, Keeping, About, SaidElement};
+ghost use Rattle.nd_run.specs.Fold.{path_result, LeadsAlong, answer_to, element_of_rank, reply_to, meaning_after, replies_to, end_of, row_major_elements, number_of, MayLackMemory, StopsBefore, replies_before};
 
 use crate::calls::{Call, Question, Reply, Step};
 use crate::cause::Cause;
@@ -47,6 +47,37 @@ fn elements<A: Clone>(alloc: Global, view: &ArrayView<'_, A, IxDyn>) -> Result<V
     Ok(items)
 }
 
+/// The element of a row-major rank, where there is one.
+fn element_of_rank<A: Clone>(
+    view: &ArrayView<'_, A, IxDyn>,
+    rank: usize,
+) -> Result<Reply<A>, AllocError>
+    requires { (x y : A) → A.is_clone x y → y ≡ x }
+    ensures { IfOk result (λ reply. said_reply reply ≡ SaidElement (element_of_rank (meaning_of view.now) rank)) }
+{
+    if rank >= view.len() {
+        return Ok(Reply::Element(None));
+    }
+    let mut coordinates = [0; MAX_AXES];
+    let index = &mut coordinates[..view.ndim()];
+    index_of_rank(view.shape(), rank, index);
+    element(view, index)
+}
+
+/// The element of an index, where there is one.
+fn element<A: Clone>(
+    view: &ArrayView<'_, A, IxDyn>,
+    index: &[usize],
+) -> Result<Reply<A>, AllocError>
+    requires { (x y : A) → A.is_clone x y → y ≡ x }
+    ensures { IfOk result (λ reply. said_reply reply ≡ SaidElement (element_at view.now index.now)) }
+{
+    match view.get(index) {
+        Some(element) => Ok(Reply::Element(Some(element.clone()?))),
+        None => Ok(Reply::Element(None)),
+    }
+}
+
 /// The answer to a question.
 fn answer<A: Clone>(
     alloc: Global,
@@ -62,10 +93,9 @@ fn answer<A: Clone>(
             let shape = view.shape().to_vec(alloc)?;
             Ok(Reply::Elements(shape, elements(alloc, view)?))
         }
-        Question::Get(index) => match view.get(index.as_slice()) {
-            Some(element) => Ok(Reply::Element(Some(element.clone()?))),
-            None => Ok(Reply::Element(None)),
-        },
+        Question::Get(index) => element(view, index.as_slice()),
+        Question::First => element_of_rank(view, 0),
+        Question::Last => element_of_rank(view, view.len().saturating_sub(1)),
     }
 }
 

@@ -38,7 +38,7 @@ fn bad_starts(rt: HostRuntime) {
 }
 
 // Each of these is a bad line.
-const BAD_CALLS: [&[u8]; 22] = [
+const BAD_CALLS: [&[u8]; 25] = [
     b"start 1 1 5",
     b"keep",
     b"keep shape",
@@ -61,6 +61,9 @@ const BAD_CALLS: [&[u8]; 22] = [
     b"ask / shape",
     b"ask cut 0 0 1 1 /",
     b"ask get 1",
+    b"ask first 0",
+    b"ask last shape",
+    b"keep first",
 ];
 
 // So is each of these: writes with a word too few or too many, or with one that is no such number.
@@ -102,7 +105,7 @@ const BAD_WRITES: [&[u8]; 34] = [
 ];
 
 // So is each of these: steps with a word too few or too many, or with one that is no such number.
-const BAD_STEPS: [&[u8]; 45] = [
+const BAD_STEPS: [&[u8]; 48] = [
     b"reverse",
     b"keep reverse 0",
     b"keep Reverse",
@@ -134,6 +137,9 @@ const BAD_STEPS: [&[u8]; 45] = [
     b"keep slice -1",
     b"keep slice 1",
     b"keep slice 2 n",
+    b"keep slice 9 n",
+    b"keep slice 9 n n n n n n n n",
+    b"keep slice 4 s 0 _ 1",
     b"keep slice 1 n n",
     b"keep slice 1 s 0 _",
     b"keep slice 1 s _ 0 1",

@@ -27,6 +27,25 @@ fn arrays_at_the_end(rt: HostRuntime) {
 }
 
 #[test]
+fn first_and_last(rt: HostRuntime) {
+    let table: [(&[u8], &[u8]); 3] = [
+        (
+            b"start 2 2 3 1 2 3 4 5 6\nask first\nask last\nask invert 0 / first\nask diag / last\n",
+            b"some 1\nsome 6\nsome 4\nsome 5\nend 2 2 3 1 2 3 4 5 6\n",
+        ),
+        (
+            b"start 2 2 0\nask first\nask last\nask cut 2 0 1 1 / last\n",
+            b"none\nnone\nrefused 1\nend 2 2 0\n",
+        ),
+        (
+            b"start 0 7\nask first\nask last\n",
+            b"some 7\nsome 7\nend 0 7\n",
+        ),
+    ];
+    written(&rt, rt.alloc(), &table);
+}
+
+#[test]
 fn scripts(rt: HostRuntime) {
     let table: [(&[u8], &[u8]); 8] = [
         // a slice of a list of cubes

@@ -61,6 +61,8 @@ fn question(alloc: Global, line: &[u8]) -> Result<(Question, &[u8]), LineFault>
         Keyword::Shape => Ok((Question::Shape, rest)),
         Keyword::Elements => Ok((Question::Elements, rest)),
         Keyword::Get => get(alloc, rest),
+        Keyword::First => Ok((Question::First, rest)),
+        Keyword::Last => Ok((Question::Last, rest)),
         _ => Err(LineFault::Bad),
     }
 }

@@ -1,6 +1,6 @@
 //! Steps from the words of a line.
 
-ghost use Rattle.std.specs.Prelude.{◌≡◌};
+ghost use Rattle.std.specs.Prelude.{◌≡◌, ◌<◌, length};
 ghost use Rattle.nd_run.specs.Words.{words_of};
 ghost use Rattle.nd_run.specs.Numerals.{nat_of, int_of};
 ghost use Rattle.nd_shape_and_slice.specs.declared.slice_info.SliceInfoElem.TheVariants.{Slice as Part, Index as At};
@@ -12,7 +12,7 @@ use crate::keyword::Keyword;
 use crate::numbers::Number;
 use crate::reader::fault::LineFault;
 use crate::reader::items::{keyword, list, number, word};
-use crate::words::split_word;
+use crate::words::{has_words, split_word};
 use nd_shape_and_slice::{Slice, SliceInfoElem};
 use std::alloc::Global;
 
@@ -95,15 +95,19 @@ fn element(line: &[u8]) -> Result<(SliceInfoElem, &[u8]), LineFault>
     Err(LineFault::Bad)
 }
 
-/// As many elements of a list of slices as asked for.
+/// As many elements of a list of slices as asked for. A line with fewer words is bad; no memory is taken for it.
 fn elements(
     alloc: Global,
     count: usize,
     line: &[u8],
 ) -> Result<(Vec<SliceInfoElem>, &[u8]), LineFault>
-    ensures { Gives (λ x. (x.0.items, words_of x.1.now)) result (many_at slice_element_at count (words_of line.now)) }
+    ensures read { Gives (λ x. (x.0.items, words_of x.1.now)) result (many_at slice_element_at count (words_of line.now)) }
+    ensures few { length (words_of line.now) < count → result ≡ Err LineFault.Bad }
 {
-    let mut elements = Vec::new(alloc);
+    if !has_words(line, count) {
+        return Err(LineFault::Bad);
+    }
+    let mut elements = Vec::with_capacity(alloc, count)?;
     let mut rest = line;
     for _ in 0..count {
         let (item, after) = element(rest)?;

@@ -3,13 +3,13 @@ use Rattle.std.proofs.lemmas.Result.{err_from_is_err_and}
 use Rattle.std.proofs.lemmas.Bool.{cases_lt}
 use Rattle.nd_run.specs.Words.{words_of}
 use Rattle.nd_run.specs.Reading.{item_at, items_at}
-use Rattle.nd_run.proofs.Items.{goes_on, stops, is_done, short}
+use Rattle.nd_run.proofs.Items.{goes_on, stops, is_done, short, item_words}
 use Rattle.nd_run.proofs.reader.items.numbers.Goals as goal
 
 pub returns-then-not-has_words-clause-read : goal.returns-then-not-has_words-clause-read
 returns-then-not-has_words-clause-read g c =
     let few : length (words_of c.args.line.now) < c.args.count = elim (cases_lt (length (words_of c.args.line.now)) c.args.count) [ inl lt ↦ lt | inr le ↦ (let clash : false ≡ true = c.if-not-has_words.ensures.1 le in absurd cc) ] in
-    short g.N.Number.number_of c.args.count (words_of c.args.line.now) few
+    short (item_at g.N.Number.number_of) (item_words g.N.Number.number_of) c.args.count (words_of c.args.line.now) few
 
 pub returns-in_err-item-clause-read : goal.returns-in_err-item-clause-read
 returns-in_err-item-clause-read g c =

@@ -1,11 +1,11 @@
 use Rattle.std.proofs.Common.{◌≡◌, ◌++◌, ◌+◌, ℕ, List, length, cond}
-use Rattle.nd_run.specs.Puts.{Puts}
+use Rattle.nd_run.specs.Puts.{Writes}
 use Rattle.nd_run.specs.Watched.{watched_failed}
-use Rattle.nd_run.proofs.printer.put.Given as goal
+use Rattle.nd_run.proofs.printer.write_text.Given as goal
 
 -- what was put so far, and what is left
 abbrev pub invariant-loop-out : goal.invariant-loop-out
-invariant-loop-out g l = (front : List ℕ) × (l.fn.text ≡ front ++ l.rest) × Puts g.W.Write.contents l.fn.out l.out front
+invariant-loop-out g l = (front : List ℕ) × (l.fn.text ≡ front ++ l.rest) × Writes g.W.Write.contents l.fn.out l.out front
 
 -- each turn takes bytes or fails
 abbrev pub decreases-loop-out : goal.decreases-loop-out
