@@ -6,3 +6,6 @@ pub mod Tied
 pub mod Refilled
 pub mod ElementStep
 pub mod Run
+pub mod ResultParts
+pub mod SliceView
+pub mod Said

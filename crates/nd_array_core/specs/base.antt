@@ -7,4 +7,5 @@ pub mod ElementMut
 pub mod ElementLent
 pub mod Lends
 pub mod RegionLent
+pub mod SliceLent
 pub mod NewElements
