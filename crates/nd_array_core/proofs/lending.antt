@@ -7,3 +7,6 @@ pub mod Refilled
 pub mod ElementStep
 pub mod Run
 pub mod Longer
+pub mod ResultParts
+pub mod SliceView
+pub mod Said

@@ -8,5 +8,6 @@ pub mod ElementLent
 pub mod Lends
 pub mod LongerLent
 pub mod RegionLent
+pub mod SliceLent
 pub mod NewElements
 pub mod Fresh

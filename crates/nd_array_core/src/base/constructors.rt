@@ -2,8 +2,10 @@
 #![tactic(auto, unfolding(crate::specs::Meaning::meaning_of, crate::specs::Meaning::memory_layout_of))]
 
 ghost use Rattle.std.specs.Prelude.{◌≡◌, ◌<◌, ◌≤◌, ℕ, List, true, length, MatchResult, IsSome, IfOk, IfErr, slice_get, Some, None, vec_len, vec_capacity};
+ghost use Rattle.std.specs.Borrow.{sem};
 ghost use Rattle.nd_shape_and_slice.specs.Shape.{size_of, HasCheckedSize};
 ghost use Rattle.nd_shape_and_slice.specs.Place.{place_of, IsSeparated};
+ghost use Rattle.nd_region.specs.Region.{region_stored};
 ghost use Rattle.nd_layout.specs.Strides.{reach_down};
 ghost use Rattle.nd_layout.specs.Ranks.{rank_in};
 ghost use Rattle.nd_layout.specs.GivenStrides.{given_place, ordered_strides, given_strides, offset_given};
@@ -13,12 +15,15 @@ ghost use Rattle.nd_array_core.specs.Places.{stored_at};
 ghost use Rattle.nd_array_core.specs.base.Storages.{stored_list, room_of};
 ghost use Rattle.nd_array_core.specs.base.Given.{refusal_in, is_apart_in, IsLaidOut};
 ghost use Rattle.nd_layout.specs.Placements.{placement_of};
+ghost use Rattle.nd_array_core.specs.base.SliceLent.{slice_follows_view};
+ghost use Rattle.nd_array_core.specs.scoped.Tasks.{LiesBy};
 ghost use Rattle.nd_shape_and_slice.specs.declared.builder.Order.{Order};
 ghost use Rattle.nd_layout.specs.Steps.{IsValid};
 
 use crate::base::array::{Array, ArrayBase, ArrayView, ArrayViewMut};
 use crate::base::storage::{Data, OwnedRepr, ViewMutRepr, ViewRepr};
 use nd_layout::{Layout, offset_in_slice, offset_in_vec, size_in_slice, size_in_vec};
+use nd_region::Region;
 use nd_shape_and_slice::{Dimension, IntoStrideShape, Order, ShapeError, StrideList};
 
 /// The elements of a storage under a shape, in an order.
@@ -136,6 +141,22 @@ pub(crate) fn laid_out<D: Dimension, Sh: IntoStrideShape<Dim = D>>(
     }
 }
 
+/// A region as a view, by a layout whose places the region has.
+fn region_laid_out<'a, A, D: Dimension>(
+    region: Region<'a, A>,
+    layout: Layout<D, D::Strides>,
+) -> ArrayViewMut<'a, A, D>
+    requires sound { LiesBy (region_stored region) (placement_of layout) }
+    ensures region { (storage_of result).region ≡ region.entry }
+    ensures placement { (layout_offset result, shape_of result, layout_strides result) ≡ placement_of layout }
+    ensures elements { (i : List ℕ) → element_at result i ≡ inside (shape_of result) i (stored_at (region_stored region.entry) (place_of (layout_offset result) (layout_strides result) i)) }
+{
+    ArrayBase {
+        storage: ViewMutRepr::of_region(region),
+        layout,
+    }
+}
+
 /// The elements of a storage, that many from place 0 on, under a shape and the caller's strides or an order.
 fn under_shape<S: Data + Drop, D: Dimension, Sh: IntoStrideShape<Dim = D>>(
     given_in: GivenIn,
@@ -210,6 +231,7 @@ impl<'a, A, D: Dimension> ArrayViewMut<'a, A, D> {
         shape: Sh,
         xs: &'a mut [A],
     ) -> Result<Self, ShapeError>
+        ensures* follows { sem 𝓛 (slice_follows_view A.row xs.entry result) }
         ensures refused { IfErr result (λ e. slice_mut_refusal (Sh.lengths_meant shape) (Sh.strides_meant shape) (length xs.old) ≡ Some e) }
         ensures accepted { IfOk result (λ _. slice_mut_refusal (Sh.lengths_meant shape) (Sh.strides_meant shape) (length xs.old) ≡ None) }
         ensures shape { IfOk result (λ a. shape_of a ≡ Sh.lengths_meant shape) }
@@ -217,12 +239,9 @@ impl<'a, A, D: Dimension> ArrayViewMut<'a, A, D> {
         ensures offset { IfOk result (λ a. layout_offset a ≡ offset_given (Sh.lengths_meant shape) (Sh.strides_meant shape)) }
         ensures elements { IfOk result (λ a. (i : List ℕ) → element_at a i ≡ inside (Sh.lengths_meant shape) i (stored_at (slice_get xs.old) (given_place (Sh.lengths_meant shape) (Sh.order_meant shape) (Sh.strides_meant shape) i))) }
     {
-        let count = xs.len();
-        under_shape(
-            GivenIn::SliceMut,
-            ViewMutRepr::of_slice_mut(xs),
-            count,
-            shape,
-        )
+        match laid_out(GivenIn::SliceMut, xs.len(), shape) {
+            Ok(layout) => Ok(region_laid_out(Region::from_slice(xs), layout)),
+            Err(cause) => Err(cause),
+        }
     }
 }

@@ -180,16 +180,6 @@ pub struct RegionRepr<R> {
 pub type ViewMutRepr<'a, A> = RegionRepr<Region<'a, A>>;
 
 impl<'a, A> ViewMutRepr<'a, A> {
-    /// All places of a slice.
-    pub(crate) fn of_slice_mut(items: &'a mut [A]) -> Self
-        ensures { (place : ℕ) → region_stored result.region place ≡ slice_get items.old place }
-    {
-        RegionRepr {
-            region: Region::from_slice(items),
-            tie: Snapshot::of(&0),
-        }
-    }
-
     /// A region as a storage.
     pub(crate) fn of_region(region: Region<'a, A>) -> Self
         ensures { result.region ≡ region.entry }

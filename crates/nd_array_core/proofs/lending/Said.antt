@@ -1,0 +1,23 @@
+-- Six plain clauses at the end of a proof by hand, each a clause of its own. Assumes `Logic`.
+use mathlib.Core.List.{List}
+use seplogic.Ra.Ura.{Ura}
+use base.Logic.{SProp, ent, sep, emp, via, comm∗, mono_l, mono_r, emp∗}
+use types.Logic.{Logic}
+use types.Kit.{Item, prop, Step, step}
+use contract.Monad.{fact, fact_i}
+
+module _ {M : Type 1} (𝓤 : Ura M) where
+  beside : (φ : Type 0) (F : SProp 𝓤) → φ → ent 𝓤 (emp 𝓤) F → ent 𝓤 (emp 𝓤) (sep 𝓤 (fact 𝓤 φ) F)
+  beside φ F x f = via 𝓤 (sep 𝓤 (emp 𝓤) (emp 𝓤)) (emp∗ 𝓤 (emp 𝓤)) (via 𝓤 (sep 𝓤 (fact 𝓤 φ) (emp 𝓤)) (mono_l 𝓤 (emp 𝓤) (fact_i 𝓤 φ (emp 𝓤) x)) (mono_r 𝓤 (fact 𝓤 φ) {Q = emp 𝓤} {Q' = F} f))
+
+  added : (P F : SProp 𝓤) → ent 𝓤 (emp 𝓤) F → ent 𝓤 P (sep 𝓤 P F)
+  added P F f = via 𝓤 (sep 𝓤 (emp 𝓤) P) (emp∗ 𝓤 P) (via 𝓤 (sep 𝓤 F P) (mono_l 𝓤 P f) (comm∗ 𝓤 F P))
+
+  abbrev Six : Type 0 → Type 0 → Type 0 → Type 0 → Type 0 → Type 0 → SProp 𝓤
+  Six α β γ δ ε ζ = sep 𝓤 (fact 𝓤 α) (sep 𝓤 (fact 𝓤 β) (sep 𝓤 (fact 𝓤 γ) (sep 𝓤 (fact 𝓤 δ) (sep 𝓤 (fact 𝓤 ε) (fact 𝓤 ζ)))))
+
+  six : (α β γ δ ε ζ : Type 0) → α × β × γ × δ × ε × ζ → ent 𝓤 (emp 𝓤) (Six α β γ δ ε ζ)
+  six α β γ δ ε ζ x = beside α _ x.0 (beside β _ x.1 (beside γ _ x.2 (beside δ _ x.3 (beside ε _ x.4 (fact_i 𝓤 ζ (emp 𝓤) x.5)))))
+
+pub says_six : {M : Type 1} {𝓤 : Ura M} {𝓛 : Logic 𝓤} {K : Type 0} {Γ : List (Item 𝓤)} → K → {α β γ δ ε ζ : Type 0} {P : SProp 𝓤} → α × β × γ × δ × ε × ζ → Step K 𝓛 Γ (prop P) Γ (prop (sep 𝓤 P (Six 𝓤 α β γ δ ε ζ)))
+says_six {𝓤 = 𝓤} t {α} {β} {γ} {δ} {ε} {ζ} {P} x = step (λ s. record { prf = via 𝓤 P s.prf (added 𝓤 P (Six 𝓤 α β γ δ ε ζ) (six 𝓤 α β γ δ ε ζ x)) })

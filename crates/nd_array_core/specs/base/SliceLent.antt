@@ -1,0 +1,21 @@
+-- What a slice ends as, once a mutable view of its elements is over.
+use Rattle.std.specs.Prelude.{List, Result}
+use Rattle.std.specs.Borrow.{Fml, GName, RattleType, MutBor, Array, follows_if, name_if_ok}
+use Rattle.nd_region.specs.declared.region.Region.{Region}
+use Rattle.nd_shape_and_slice.specs.declared.dimension.Dimension as dimension
+use Rattle.nd_shape_and_slice.specs.declared.dimension.AxisCount as axis_count
+use Rattle.nd_shape_and_slice.specs.declared.dimension.StrideList as stride_list
+use Rattle.nd_array_core.specs.declared.base.storage.Data as data_trait
+use Rattle.nd_array_core.specs.declared.base.storage.RegionRepr.{RegionRepr}
+use Rattle.nd_array_core.specs.declared.base.array.ArrayBase.{ArrayBase}
+use Rattle.nd_array_core.specs.Meaning.{storage_of}
+
+module _ {A D T P R L M : Type 0} {s : data_trait.Ghosts (RegionRepr (Region A)) A} {d : dimension.Ghosts D P R L M} {n : axis_count.Ghosts D} {r : stride_list.Ghosts R} {t : stride_list.Ghosts T} where
+  -- the name under which a mutable view's region holds its elements
+  abbrev pub view_name : ArrayBase (RegionRepr (Region A)) D T A P R L M s d n r t → GName
+  view_name a = (storage_of a).region.name
+
+module _ (E : RattleType) {D T P R L M V : Type 0} {s : data_trait.Ghosts (RegionRepr (Region E.Denot)) E.Denot} {d : dimension.Ghosts D P R L M} {n : axis_count.Ghosts D} {r : stride_list.Ghosts R} {t : stride_list.Ghosts T} where
+  -- the slice ends with the elements of the view's region; where there is no view it ends as it was
+  abbrev pub slice_follows_view : MutBor (List E.Denot) → Result (ArrayBase (RegionRepr (Region E.Denot)) D T E.Denot P R L M s d n r t) V → Fml
+  slice_follows_view xs view = follows_if (Array E 0) (Array E 0) xs.ghost_name (name_if_ok view_name view) (λ ws. ws) xs.now
