@@ -134,6 +134,18 @@ pub fn channel<S: Data>(image: &ArrayBase<S, Ix3>, channel: usize) -> ArrayView2
     image.slice(s![.., .., channel])
 }
 
+/// The element of a row at a column; None where the row has none there.
+pub fn in_row<A: Copy, S: Data<Elem = A>>(
+    image: &ArrayBase<S, Ix2>,
+    row: usize,
+    column: usize,
+) -> Option<A>
+    requires { row < slice_index (shape_of image.now) 0 }
+    ensures { result ≡ element_of_2 image.now row column }
+{
+    image.row(row).get(column).copied()
+}
+
 /// Whether a row begins as a column does.
 pub fn begin_alike<S: Data<Elem = u8>>(image: &ArrayBase<S, Ix2>, row: usize, column: usize) -> bool
     requires row { row < slice_index (shape_of image.now) 0 }
@@ -173,6 +185,8 @@ mod tests {
         let mut image: Array2<u64> = turned_twice(3, 4, cells).ok().ok_or("shape")?;
         assert_eq!(rt; image.get([1, 2]).copied(), Some(7));
         assert_eq!(rt; corner(&image).copied(), Some(1));
+        assert_eq!(rt; in_row(&image, 1, 2), Some(7));
+        assert_eq!(rt; in_row(&image, 1, 4), None);
         assert!(rt; neighbourhood(&image, 0, 1).is_none());
         assert!(rt; neighbourhood(&image, 1, 3).is_none());
         let around = neighbourhood(&image, 1, 2).ok_or("border")?;
