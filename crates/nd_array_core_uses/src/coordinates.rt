@@ -178,6 +178,19 @@ mod tests {
     use super::*;
     use std::test::Fail;
 
+    /// The pixel of a neighbourhood at an index; None at the border.
+    fn around(image: &Array2<u64>, row: usize, column: usize, at: [usize; 2]) -> Option<u64> {
+        match neighbourhood(image, row, column) {
+            Some(part) => part.get(at).copied(),
+            None => None,
+        }
+    }
+
+    /// The pixel of the part that has every second row.
+    fn in_second_row(image: &Array2<u64>, row: usize, column: usize) -> Option<u64> {
+        every_second_row(image).get([row, column]).copied()
+    }
+
     // 1 2 3 4 / 5 6 7 8 / 9 10 11 12
     #[test]
     fn parts_of_an_image(rt: HostRuntime) -> Result<(), Fail> {
@@ -187,12 +200,11 @@ mod tests {
         assert_eq!(rt; corner(&image).copied(), Some(1));
         assert_eq!(rt; in_row(&image, 1, 2), Some(7));
         assert_eq!(rt; in_row(&image, 1, 4), None);
-        assert!(rt; neighbourhood(&image, 0, 1).is_none());
-        assert!(rt; neighbourhood(&image, 1, 3).is_none());
-        let around = neighbourhood(&image, 1, 2).ok_or("border")?;
-        assert_eq!(rt; around.get([0, 0]).copied(), Some(2));
-        assert_eq!(rt; around.get([2, 2]).copied(), Some(12));
-        assert_eq!(rt; every_second_row(&image).get([1, 3]).copied(), Some(12));
+        assert_eq!(rt; around(&image, 0, 1, [0, 0]), None);
+        assert_eq!(rt; around(&image, 1, 3, [0, 0]), None);
+        assert_eq!(rt; around(&image, 1, 2, [0, 0]), Some(2));
+        assert_eq!(rt; around(&image, 1, 2, [2, 2]), Some(12));
+        assert_eq!(rt; in_second_row(&image, 1, 3), Some(12));
         turn_half(&mut image);
         assert_eq!(rt; image.get([0, 1]).copied(), Some(11));
         Ok(())
