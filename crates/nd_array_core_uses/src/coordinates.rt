@@ -134,6 +134,18 @@ pub fn channel<S: Data>(image: &ArrayBase<S, Ix3>, channel: usize) -> ArrayView2
     image.slice(s![.., .., channel])
 }
 
+/// The element of a row at a column; None where the row has none there.
+pub fn in_row<A: Copy, S: Data<Elem = A>>(
+    image: &ArrayBase<S, Ix2>,
+    row: usize,
+    column: usize,
+) -> Option<A>
+    requires { row < slice_index (shape_of image.now) 0 }
+    ensures { result ≡ element_of_2 image.now row column }
+{
+    image.row(row).get(column).copied()
+}
+
 /// Whether a row begins as a column does.
 pub fn begin_alike<S: Data<Elem = u8>>(image: &ArrayBase<S, Ix2>, row: usize, column: usize) -> bool
     requires row { row < slice_index (shape_of image.now) 0 }
@@ -166,17 +178,17 @@ mod tests {
     use super::*;
     use std::test::Fail;
 
-    // What the neighbourhood of a pixel has there; None at the border.
-    fn seen_around(
-        image: &Array2<u64>,
-        row: usize,
-        column: usize,
-        index: [usize; 2],
-    ) -> Option<u64> {
+    /// The pixel of a neighbourhood at an index; None at the border.
+    fn around(image: &Array2<u64>, row: usize, column: usize, at: [usize; 2]) -> Option<u64> {
         match neighbourhood(image, row, column) {
-            Some(around) => around.get(index).copied(),
+            Some(part) => part.get(at).copied(),
             None => None,
         }
+    }
+
+    /// The pixel of the part that has every second row.
+    fn in_second_row(image: &Array2<u64>, row: usize, column: usize) -> Option<u64> {
+        every_second_row(image).get([row, column]).copied()
     }
 
     // 1 2 3 4 / 5 6 7 8 / 9 10 11 12
@@ -186,11 +198,13 @@ mod tests {
         let mut image: Array2<u64> = turned_twice(3, 4, cells).ok().ok_or("shape")?;
         assert_eq!(rt; image.get([1, 2]).copied(), Some(7));
         assert_eq!(rt; corner(&image).copied(), Some(1));
-        assert_eq!(rt; seen_around(&image, 0, 1, [0, 0]), None);
-        assert_eq!(rt; seen_around(&image, 1, 3, [0, 0]), None);
-        assert_eq!(rt; seen_around(&image, 1, 2, [0, 0]), Some(2));
-        assert_eq!(rt; seen_around(&image, 1, 2, [2, 2]), Some(12));
-        assert_eq!(rt; every_second_row(&image).get([1, 3]).copied(), Some(12));
+        assert_eq!(rt; in_row(&image, 1, 2), Some(7));
+        assert_eq!(rt; in_row(&image, 1, 4), None);
+        assert_eq!(rt; around(&image, 0, 1, [0, 0]), None);
+        assert_eq!(rt; around(&image, 1, 3, [0, 0]), None);
+        assert_eq!(rt; around(&image, 1, 2, [0, 0]), Some(2));
+        assert_eq!(rt; around(&image, 1, 2, [2, 2]), Some(12));
+        assert_eq!(rt; in_second_row(&image, 1, 3), Some(12));
         turn_half(&mut image);
         assert_eq!(rt; image.get([0, 1]).copied(), Some(11));
         Ok(())

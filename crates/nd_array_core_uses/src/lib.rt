@@ -26,8 +26,8 @@ pub use border::{draw_border, fill_column, fill_row};
 pub use broadcasts::table_of;
 pub use columns::paint_every_second_column;
 pub use coordinates::{
-    begin_alike, channel, column_seen, corner, crop, crop_by_axes, every_second_row, neighbourhood,
-    second_column, transpose_then_row, turn_half, turned_twice,
+    begin_alike, channel, column_seen, corner, crop, crop_by_axes, every_second_row, in_row,
+    neighbourhood, second_column, transpose_then_row, turn_half, turned_twice,
 };
 pub use interleaved::{fill_slices, interleave_rows, try_fill_slices};
 pub use lent_slices::{fill_front, fill_seen};

@@ -1,5 +1,5 @@
 -- A view of a slice under a shape: its region holds the slice's elements, and each index shows the one that the shape says.
-use Rattle.std.proofs.Common.{◌≡◌, ℕ, true, List, length, sym, ap, subst, ◌∙◌}
+use Rattle.std.proofs.Common.{◌≡◌, ℕ, ℤ, true, List, length, sym, ap, subst, ◌∙◌}
 use Rattle.std.specs.Prelude.{slice_get}
 use Rattle.nd_shape_and_slice.specs.Place.{place_of}
 use Rattle.nd_layout.specs.Steps.{IsValid}
@@ -9,19 +9,24 @@ use Rattle.nd_region.specs.Region.{region_stored, IsWhole}
 use Rattle.nd_array_core.specs.Places.{stored_at}
 use Rattle.nd_array_core.specs.Meaning.{inside}
 use Rattle.nd_array_core.specs.base.Given.{IsLaidOut}
-use Rattle.nd_array_core.specs.scoped.Tasks.{Placement, LiesBy}
+use Rattle.nd_layout.specs.Placements.{Placement}
+use Rattle.nd_array_core.specs.scoped.Tasks.{LiesBy}
 use Rattle.nd_array_core.specs.scoped.Sources.{GivenShape}
 use Rattle.nd_array_core.proofs.LaidOut.{laid_at}
 use Rattle.nd_array_core.proofs.tasks.PartStep.{whole_holds}
 use Rattle.nd_array_core.proofs.tasks.SliceTask.{slice_sound}
+
+-- an array's offset, lengths and strides as one value
+abbrev pub seen_placement : ℕ → List ℕ → List ℤ → Placement
+seen_placement offset lengths strides = record { offset = offset; lengths = lengths; strides = strides }
 
 module _ {A : Type 0} (xs : List A) (given : GivenShape) (l : Placement) (laid : IsLaidOut given.0 given.1 given.2 true (length xs) l) (r : Region A) (whole : IsWhole r xs) where
   -- what the region holds is what the slice holds
   holds_slice : region_stored r ≡ slice_get xs
   holds_slice = λ i p. whole_holds r xs whole p i
 
-  pub region_sound : IsValid l.0 l.1 l.2 → LiesBy (region_stored r) l
+  pub region_sound : IsValid l.offset l.lengths l.strides → LiesBy (region_stored r) l
   region_sound valid = subst (λ (stored : ℕ → _). LiesBy stored l) (sym holds_slice) (slice_sound xs given l laid valid)
 
-  pub element_given : (m : Placement) → m ≡ l → (i : List ℕ) → inside m.1 i (stored_at (region_stored r) (place_of m.0 m.2 i)) ≡ inside given.0 i (stored_at (slice_get xs) (given_place given.0 given.1 given.2 i))
-  element_given m same i = ap (λ n. inside n.1 i (stored_at (region_stored r) (place_of n.0 n.2 i))) same ∙ ap (λ stored. inside l.1 i (stored_at stored (place_of l.0 l.2 i))) holds_slice ∙ laid_at laid (stored_at (slice_get xs)) i
+  pub element_given : (m : Placement) → m ≡ l → (i : List ℕ) → inside m.lengths i (stored_at (region_stored r) (place_of m.offset m.strides i)) ≡ inside given.0 i (stored_at (slice_get xs) (given_place given.0 given.1 given.2 i))
+  element_given m same i = ap (λ n. inside n.lengths i (stored_at (region_stored r) (place_of n.offset n.strides i))) same ∙ ap (λ stored. inside l.lengths i (stored_at stored (place_of l.offset l.strides i))) holds_slice ∙ laid_at laid (stored_at (slice_get xs)) i
