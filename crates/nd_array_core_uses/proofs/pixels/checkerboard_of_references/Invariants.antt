@@ -1,4 +1,4 @@
-use Rattle.std.proofs.Common.{◌≡◌, ℕ, ◌<◌, ◌+◌, ◌%◌, nat_eq, if◌then◌else◌, Some}
+use Rattle.std.proofs.Common.{◌≡◌, ℕ, ◌<◌, ◌+◌, ◌%◌, Some}
 use Rattle.nd_array_core.specs.Meaning.{shape_of}
 use Rattle.nd_array_core.specs.Coordinates.{element_of_2}
 use Rattle.nd_array_core_uses.proofs.pixels.checkerboard_of_references.Given as goal

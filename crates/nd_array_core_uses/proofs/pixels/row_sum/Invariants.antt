@@ -1,4 +1,4 @@
-use Rattle.std.proofs.Common.{◌≡◌, ℕ, ◌%◌, ◌^◌}
+use Rattle.std.proofs.Common.{◌≡◌, ◌%◌, ◌^◌}
 use Rattle.nd_array_core.specs.Coordinates.{element_of_2}
 use Rattle.nd_array_core_uses.specs.Sums.{sum_of, value_or_0}
 use Rattle.nd_array_core_uses.proofs.pixels.row_sum.Given as goal

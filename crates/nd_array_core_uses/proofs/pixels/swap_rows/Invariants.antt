@@ -1,5 +1,5 @@
-use Rattle.std.proofs.Common.{◌≡◌, ℕ, nat_eq, nat_lt, if◌then◌else◌, ◌∷◌, [], slice_index}
-use Rattle.nd_array_core.specs.Meaning.{shape_of, element_at}
+use Rattle.std.proofs.Common.{◌≡◌, ℕ, nat_lt, if◌then◌else◌}
+use Rattle.nd_array_core.specs.Meaning.{shape_of}
 use Rattle.nd_array_core.specs.Coordinates.{element_of_2}
 use Rattle.nd_array_core_uses.specs.Painting.{exchanged}
 use Rattle.nd_array_core_uses.proofs.pixels.swap_rows.Given as goal
