@@ -21,3 +21,4 @@ pub mod Numbered
 pub mod Answered
 pub mod ColumnIndexes
 pub mod LastIndexes
+pub mod Clones
