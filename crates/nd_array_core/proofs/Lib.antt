@@ -22,3 +22,4 @@ pub mod Numbered
 pub mod Answered
 pub mod ColumnIndexes
 pub mod LastIndexes
+pub mod Clones

@@ -4,6 +4,7 @@ pub mod aliases;
 pub mod array;
 pub mod constructors;
 pub mod conversions;
+pub mod copies;
 pub mod ends;
 pub mod extents;
 pub mod fresh;

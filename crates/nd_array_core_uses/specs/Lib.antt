@@ -1,3 +1,4 @@
 pub mod Painting
 pub mod Slices
 pub mod Sums
+pub mod Tables

@@ -13,6 +13,7 @@ mod coordinates;
 mod interleaved;
 mod lent_slices;
 mod lent_views;
+mod made;
 mod parts_written;
 mod pixels;
 mod rebuilt;
@@ -32,6 +33,7 @@ pub use coordinates::{
 pub use interleaved::{fill_slices, interleave_rows, try_fill_slices};
 pub use lent_slices::{fill_front, fill_seen};
 pub use lent_views::{fill_again, fill_part, fill_view, paint_owned_columns, set_diagonal};
+pub use made::{identity, numbered_table, zero_grid};
 use nd_array_core::{Array, ArrayBase, ArrayView, Data};
 use nd_shape_and_slice::{Axis, Dimension, Ix2, ShapeError, Slice, slice_fits};
 pub use parts_written::{

@@ -29,6 +29,10 @@ ClonesAreEqual {A} is_clone x = (copy : A) → is_clone x copy → copy ≡ x
 abbrev pub ClonesOfAllAreEqual : {A : Type 0} → (A → A → Type 0) → (List ℕ → Option A) → Type 0
 ClonesOfAllAreEqual {A} is_clone at = (i : List ℕ) (x : A) → at i ≡ Some x → ClonesAreEqual is_clone x
 
+-- each clone of an item is the item
+abbrev pub StoredClonesAreEqual : {A : Type 0} → (A → A → Type 0) → List A → Type 0
+StoredClonesAreEqual {A} is_clone items = (place : ℕ) (x : A) → slice_get items place ≡ Some x → ClonesAreEqual is_clone x
+
 -- nothing else has the property
 abbrev pub IsOnly : {A : Type 0} → (A → Type 0) → A → Type 0
 IsOnly {A} is_such x = (y : A) → is_such y → y ≡ x

@@ -5,7 +5,7 @@ ghost use Rattle.std.specs.Prelude.{◌≡◌, ◌*◌, ◌<◌, ◌^◌, ℕ, L
 ghost use Rattle.std.specs.List.{flat_map};
 ghost use Rattle.nd_shape_and_slice.specs.Shape.{row_rank, HasCheckedSize};
 ghost use Rattle.nd_shape_and_slice.specs.Strides.{c_strides};
-ghost use Rattle.nd_array_core.specs.Meaning.{shape_of, element_at, layout_strides, inside, storage_of};
+ghost use Rattle.nd_array_core.specs.Meaning.{shape_of, element_at, layout_strides, inside, place_at, storage_of};
 ghost use Rattle.std.specs.Borrow.{sem};
 ghost use Rattle.nd_region.specs.Region.{region_stored};
 ghost use Rattle.nd_region.specs.Lends.{slice_follows};
@@ -16,7 +16,7 @@ ghost use Rattle.nd_array_core.specs.base.Sources.{IsRowMajorOf};
 
 use crate::base::array::{Array, ArrayBase, ArrayView, ArrayViewMut};
 use crate::base::constructors::in_order;
-use crate::base::storage::{Data, ViewMutRepr, ViewRepr};
+use crate::base::storage::{Data, DataMut, ViewMutRepr, ViewRepr};
 use nd_region::Region;
 use nd_shape_and_slice::{Dimension, IntoDimension, Ix1, Ix2, Order, size_of_shape_checked};
 
@@ -48,6 +48,22 @@ impl<'a, S: Data, D: Dimension> From<&'a ArrayBase<S, D>> for ArrayView<'a, S::E
 
     fn from(array: &'a ArrayBase<S, D>) -> Self {
         array.view()
+    }
+}
+
+/// The view of an array, to be written, with the same strides: that of `view_mut`.
+impl<'a, S: DataMut, D: Dimension> From<&'a mut ArrayBase<S, D>> for ArrayViewMut<'a, S::Elem, D> {
+    ghost use Rattle.nd_array_core.specs.layout.ViewLent.{array_follows_part, array_with_part, lent_places, tie_of, IsRefilled, KeepsPlacesBut};
+
+    ghost from_gives = { λ array view. ShowsWhole array.now view };
+
+    fn from(array: &'a mut ArrayBase<S, D>) -> Self
+        ensures* writes_back { sem 𝓛 (array_follows_part S.row S.Elem.row D.row D.Pattern.row D.Strides.row D.Smaller.row D.Larger.row S.Data D.Dimension D.AxisCount D.Strides.StrideList array.entry (tie_of result) (lent_places result)) }
+        ensures gives { ShowsWhole array.old result }
+        ensures refilled { (ws : List S.Elem) → IsRefilled S.frame array.old (array_with_part S.refilled S.items array.old (lent_places result) ws) }
+        ensures others { (ws : List S.Elem) → KeepsPlacesBut (place_at result) array.old (array_with_part S.refilled S.items array.old (lent_places result) ws) }
+    {
+        array.view_mut()
     }
 }
 

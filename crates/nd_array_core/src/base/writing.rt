@@ -6,11 +6,13 @@ ghost use Rattle.std.specs.Option.{option_copied_mut};
 ghost use Rattle.std.specs.Borrow.{sem, LendsIf};
 ghost use Rattle.nd_shape_and_slice.specs.Shape.{in_box, size_of, row_rank};
 ghost use Rattle.nd_shape_and_slice.specs.FirstIndex.{first_index};
+ghost use Rattle.nd_array_core.specs.LastIndex.{last_index};
 ghost use Rattle.nd_array_core.specs.Meaning.{shape_of, element_at, layout_strides};
 ghost use Rattle.nd_layout.specs.Ranks.{IsStandard};
 ghost use Rattle.nd_array_core.specs.base.Writes.{IsWrittenAt, IsSwappedAt};
 
 use super::array::{Array, ArrayBase};
+use super::ends::last_place;
 use super::storage::{Data, DataMut, OwnedRepr};
 use nd_shape_and_slice::{Dimension, NdIndex};
 use std::ops::IndexMut;
@@ -88,6 +90,9 @@ pub trait GetMut {
     /// The index of zeros.
     ghost first_got: { Self → List ℕ };
 
+    /// The last index.
+    ghost last_got: { Self → List ℕ };
+
     /// How many elements there are.
     ghost size_got: { Self → ℕ };
 
@@ -115,6 +120,14 @@ pub trait GetMut {
         ensures element { option_copied_mut result ≡ element_got self.old (first_got self.old) }
         ensures none { IsNone result ↔ (size_got self.old ≡ 0) }
         ensures written { OnSome result ((x : Self.Elem) → is_written_got self.old (first_got self.old) x (with_element_got self.old (first_got self.old) x)) };
+
+    /// The element at the last index, that of the greatest row-major rank, to be written; None exactly where the array
+    /// has no elements. ndarray's `last_mut`.
+    fn last_mut(&mut self) -> Option<&mut Self::Elem>
+        ensures* writes_back { sem 𝓛 (LendsIf Self.row Self.Elem.row self.entry result (with_element_got self.old (last_got self.old)) self.old) }
+        ensures element { option_copied_mut result ≡ element_got self.old (last_got self.old) }
+        ensures none { IsNone result ↔ (size_got self.old ≡ 0) }
+        ensures written { OnSome result ((x : Self.Elem) → is_written_got self.old (last_got self.old) x (with_element_got self.old (last_got self.old) x)) };
 }
 
 impl<S: DataMut, D: Dimension> GetMut for ArrayBase<S, D> {
@@ -127,6 +140,8 @@ impl<S: DataMut, D: Dimension> GetMut for ArrayBase<S, D> {
     ghost has_index = { λ a i. in_box (shape_of a) i };
 
     ghost first_got = { λ a. first_index (shape_of a) };
+
+    ghost last_got = { λ a. last_index (shape_of a) };
 
     ghost size_got = { λ a. size_of (shape_of a) };
 
@@ -146,6 +161,13 @@ impl<S: DataMut, D: Dimension> GetMut for ArrayBase<S, D> {
     fn first_mut(&mut self) -> Option<&mut S::Elem> {
         match self.layout.first_place() {
             Some(first) => Some(self.storage.element_mut(first)),
+            None => None,
+        }
+    }
+
+    fn last_mut(&mut self) -> Option<&mut S::Elem> {
+        match last_place(&self.layout) {
+            Some(last) => Some(self.storage.element_mut(last)),
             None => None,
         }
     }

@@ -1,0 +1,52 @@
+//! Copies of owned arrays.
+#![tactic(auto, unfolding(crate::specs::Meaning::meaning_of, crate::specs::Meaning::memory_layout_of))]
+
+ghost use Rattle.std.specs.Prelude.{◌≡◌, IfOk, OnOk, OnErr};
+ghost use Rattle.nd_array_core.specs.Meaning.{storage_of};
+ghost use Rattle.nd_array_core.specs.Part.{ShowsWhole};
+ghost use Rattle.nd_array_core.specs.base.Storages.{stored_list};
+ghost use Rattle.nd_array_core.specs.base.Fresh.{StoredClonesAreEqual};
+
+use crate::base::array::{Array, ArrayBase};
+use crate::base::storage::OwnedRepr;
+use nd_shape_and_slice::Dimension;
+use std::alloc::AllocError;
+
+/// A storage of clones.
+#[tactic(auto, using(crate::proofs::Clones::clones_same))]
+fn cloned_storage<A: Clone>(storage: &OwnedRepr<A>) -> Result<OwnedRepr<A>, AllocError>
+    requires { StoredClonesAreEqual A.is_clone (stored_list storage.now) }
+    ensures { IfOk result (λ copy. stored_list copy ≡ stored_list storage.now) }
+{
+    Ok(OwnedRepr {
+        items: storage.items.clone()?,
+    })
+}
+
+impl<A: Clone, D: Dimension> Array<A, D> {
+    /// An array with the same shape, strides and offset, over clones of all stored elements, also of those that no index
+    /// names; a clone equals its original. AllocError if the storage or a clone is refused. ndarray's `clone`.
+    pub fn clone(&self) -> Result<Self, AllocError>
+        requires { StoredClonesAreEqual A.is_clone (stored_list (storage_of self.now)) }
+        ensures whole { IfOk result (λ copy. ShowsWhole self.now copy) }
+        ensures stored { IfOk result (λ copy. stored_list (storage_of copy) ≡ stored_list (storage_of self.now)) }
+    {
+        let storage = cloned_storage(&self.storage)?;
+        Ok(ArrayBase {
+            storage,
+            layout: self.layout.copied(),
+        })
+    }
+
+    /// Makes the array a clone of another, which is made first. AllocError if that is refused: the array then is as it
+    /// was. ndarray's `clone_from`.
+    pub fn clone_from(&mut self, source: &Self) -> Result<(), AllocError>
+        requires { StoredClonesAreEqual A.is_clone (stored_list (storage_of source.now)) }
+        ensures whole { OnOk result (ShowsWhole source.now self.new) }
+        ensures stored { OnOk result (stored_list (storage_of self.new) ≡ stored_list (storage_of source.now)) }
+        ensures refused { OnErr result (self.new ≡ self.old) }
+    {
+        *self = source.clone()?;
+        Ok(())
+    }
+}
