@@ -15,3 +15,5 @@ pub mod LaidOut
 pub mod lending
 pub mod tasks
 pub mod Masks
+pub mod RunElements
+pub mod Regrouped

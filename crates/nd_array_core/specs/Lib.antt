@@ -8,3 +8,4 @@ pub mod Joined
 pub mod base
 pub mod layout
 pub mod scoped
+pub mod reshape
