@@ -17,3 +17,4 @@ pub mod tasks
 pub mod Masks
 pub mod RunElements
 pub mod Regrouped
+pub mod MemoryOrder

@@ -15,7 +15,8 @@ use Rattle.nd_layout.proofs.steps.StepLemmas.{seen_reaches}
 use Rattle.nd_layout.proofs.Ranks.{column_index, in_box-column_index, column_rank-column_index}
 use Rattle.nd_layout.proofs.Orders.{rank_in-below, in_box-ordered, displacement_of-ordered, rank_in-ordered}
 use Rattle.nd_layout.proofs.steps.Ranked.{ordered_is_ranked}
-use Rattle.nd_array_core.specs.reshape.Regrouped.{column_index_at, index_in, regrouped_index, IsInOrder, IsShapeOf}
+use Rattle.nd_array_core.specs.reshape.Regrouped.{column_index_at, index_in, regrouped_index, IsInOrder, IsShapeOf, IsRefused, NoShape, NotInOrder, IsOrderTried, Rows, Columns}
+use Rattle.nd_shape_and_slice.specs.declared.errors.ErrorKind.{ErrorKind}
 
 same_column : (ns : List ℕ) (r : ℕ) → column_index_at ns r ≡ column_index ns r
 same_column [] r = refl
@@ -83,3 +84,20 @@ module _ (ns : List ℕ) (ss : List ℤ) (long : length ss ≡ length ns) where
       ∙ ap (λ ts. displacement_of ts (reverse i)) (reverse-reverse ss)
       ∙ laid (reverse i) there
       ∙ ap pos (ap (λ ms. column_rank ms (reverse i)) (sym (reverse-reverse ns)) ∙ rank)
+
+-- ---- in the first order in which the elements lie
+module _ {ns : List ℕ} {ss : List ℤ} {ms : List ℕ} where
+  pub refused_in_both : (order : Order) (e : ErrorKind) → IsOrderTried ns ss order → IsRefused order ns ss ms e → IsRefused RowMajor ns ss ms e × IsRefused ColumnMajor ns ss ms e
+  refused_in_both RowMajor e (Rows lie) (NoShape f) = (NoShape f, NoShape f)
+  refused_in_both RowMajor e (Rows lie) (NotInOrder f g) = absurd (g lie)
+  refused_in_both ColumnMajor e (Columns h) (NoShape f) = (NoShape f, NoShape f)
+  refused_in_both ColumnMajor e (Columns h) (NotInOrder f g) = (NotInOrder f h, NotInOrder f g)
+
+module _ {ns : List ℕ} {ss : List ℤ} where
+  pub tried_rows : (order : Order) → IsOrderTried ns ss order → IsInOrder RowMajor ns ss → order ≡ RowMajor
+  tried_rows RowMajor (Rows lie) there = refl
+  tried_rows ColumnMajor (Columns h) there = absurd (h there)
+
+  pub tried_columns : (order : Order) → IsOrderTried ns ss order → (IsInOrder RowMajor ns ss → ⊥) → order ≡ ColumnMajor
+  tried_columns RowMajor (Rows lie) none = absurd (none lie)
+  tried_columns ColumnMajor (Columns h) none = refl

@@ -1,2 +1,2 @@
-pub mod Greatest
 pub mod Regrouped
+pub mod RunSlices

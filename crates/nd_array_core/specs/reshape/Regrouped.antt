@@ -44,6 +44,11 @@ pub data IsRefused (order : Order) (ns : List ℕ) (ss : List ℤ) (ms : List �
   NoShape : (IsShapeOf ns ms → ⊥) → IsRefused order ns ss ms IncompatibleShape
   NotInOrder : IsShapeOf ns ms → (IsInOrder order ns ss → ⊥) → IsRefused order ns ss ms IncompatibleLayout
 
+-- row-major order where the elements lie so, and else column-major
+pub data IsOrderTried (ns : List ℕ) (ss : List ℤ) : Order → Type 0 where
+  Rows : IsInOrder RowMajor ns ss → IsOrderTried ns ss RowMajor
+  Columns : (IsInOrder RowMajor ns ss → ⊥) → IsOrderTried ns ss ColumnMajor
+
 module _ {S D T A P R L M : Type 0} {s : data_trait.Ghosts S A} {d : dimension.Ghosts D P R L M} {n : axis_count.Ghosts D} {r : stride_list.Ghosts R} {t : stride_list.Ghosts T} where
   -- the elements under other lengths, each with its rank in an order, and the strides of a new array
   abbrev pub ordered_part : ArrayBase S D T A P R L M s d n r t → Order → List ℕ → Part

@@ -8,13 +8,14 @@ ghost use Rattle.nd_layout.specs.Steps.{IsViewStep};
 ghost use Rattle.nd_layout.specs.GivenStrides.{ordered_strides};
 ghost use Rattle.nd_array_core.specs.Meaning.{shape_of, layout_strides, layout_offset};
 ghost use Rattle.nd_array_core.specs.Part.{BecomesPart};
-ghost use Rattle.nd_array_core.specs.reshape.Regrouped.{IsInOrder, IsShapeOf, IsRefused, ordered_part, regrouped_index};
+ghost use Rattle.nd_array_core.specs.reshape.Regrouped.{IsInOrder, IsShapeOf, IsRefused, IsOrderTried, ordered_part, regrouped_index};
+ghost use Rattle.nd_shape_and_slice.specs.declared.builder.Order.TheVariants.{RowMajor, ColumnMajor};
 
 use crate::base::array::ArrayBase;
 use crate::base::storage::Data;
 use nd_layout::{Layout, is_standard};
 use nd_shape_and_slice::{
-    Dimension, ErrorKind, Order, ShapeArg, ShapeError, StrideList, default_strides,
+    Dimension, ErrorKind, IntoDimension, Order, ShapeArg, ShapeError, StrideList, default_strides,
     fortran_strides, size_of_shape_checked,
 };
 
@@ -93,6 +94,17 @@ fn ordered_layout<D: Dimension, E: Dimension>(
     Layout::strided(layout.offset, dim, strides)
 }
 
+/// Row-major order where the elements lie so, and else column-major.
+fn order_tried<D: Dimension, T: StrideList>(layout: &Layout<D, T>) -> Order
+    ensures { IsOrderTried (D.lengths layout.now.dim) (T.strides_of layout.now.strides) result }
+{
+    if is_in_order(layout, Order::RowMajor) {
+        Order::RowMajor
+    } else {
+        Order::ColumnMajor
+    }
+}
+
 impl<S: Data + Drop, D: Dimension> ArrayBase<S, D> {
     /// The array under another shape, with the strides of a new array: each element keeps its rank in the order asked
     /// for, row-major unless another is. None is copied. IncompatibleShape where the shape has no checked size, or
@@ -115,5 +127,19 @@ impl<S: Data + Drop, D: Dimension> ArrayBase<S, D> {
             storage: self.storage,
             layout,
         })
+    }
+
+    /// The array under another shape, in row-major order if its elements lie so, and else in column-major order. None is
+    /// copied. IncompatibleShape where the shape has no checked size, or another one than the array;
+    /// IncompatibleLayout where the elements lie in neither order; the array is then dropped. ndarray's `into_shape`.
+    pub fn into_shape<E: IntoDimension>(self, shape: E) -> Result<ArrayBase<S, E::Dim>, ShapeError>
+        ensures refused { IfErr result (λ e. IsRefused RowMajor (shape_of self) (layout_strides self) (E.lengths_given shape) e × IsRefused ColumnMajor (shape_of self) (layout_strides self) (E.lengths_given shape) e) }
+        ensures rows { IsInOrder RowMajor (shape_of self) (layout_strides self) → IfOk result (λ a. BecomesPart self (ordered_part self RowMajor (E.lengths_given shape)) a) }
+        ensures columns { (IsInOrder RowMajor (shape_of self) (layout_strides self) → ⊥) → IfOk result (λ a. BecomesPart self (ordered_part self ColumnMajor (E.lengths_given shape)) a) }
+        ensures shape { IfOk result (λ _. IsShapeOf (shape_of self) (E.lengths_given shape)) }
+        ensures offset { IfOk result (λ a. layout_offset a ≡ layout_offset self) }
+    {
+        let order = order_tried(&self.layout);
+        self.into_shape_with_order((shape, order))
     }
 }

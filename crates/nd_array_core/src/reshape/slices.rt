@@ -1,16 +1,18 @@
 //! The elements as one slice, where they lie so.
 #![tactic(auto, unfolding(crate::specs::Meaning::meaning_of, crate::specs::Meaning::memory_layout_of))]
 
-ghost use Rattle.std.specs.Prelude.{◌↔◌, ◌≡◌, ◌+◌, ◌<◌, ℕ, true, IsSome, IfSome, Some, length, slice_index_or};
+ghost use Rattle.std.specs.Prelude.{◌↔◌, ◌≡◌, ◌+◌, ◌-◌, ◌<◌, ℕ, true, IsSome, IfSome, Some, length, slice_index_or};
 ghost use Rattle.std.specs.Option.{is_some};
-ghost use Rattle.nd_layout.specs.Ranks.{IsStandard};
-ghost use Rattle.nd_array_core.specs.Meaning.{shape_of, layout_strides, meaning_of};
+ghost use Rattle.nd_layout.specs.Strides.{reach_down};
+ghost use Rattle.nd_array_core.specs.Meaning.{meaning_of};
 ghost use Rattle.nd_array_core.specs.Joined.{elements_of};
 ghost use Rattle.nd_array_core.specs.base.Storages.{shown_by};
+ghost use Rattle.nd_array_core.specs.reshape.RunSlices.{IsStandardArray, IsRunArray, IsInMemoryOrder};
 
 use crate::base::array::{ArrayBase, ArrayView};
 use crate::base::storage::{Data, ViewRepr};
-use nd_shape_and_slice::Dimension;
+use nd_layout::{Layout, is_run, reach_below};
+use nd_shape_and_slice::{Dimension, StrideList};
 
 impl<'a, A> ViewRepr<'a, A> {
     /// That many elements from a place on.
@@ -23,16 +25,40 @@ impl<'a, A> ViewRepr<'a, A> {
     }
 }
 
+/// The lowest place of an index, where there is one.
+fn lowest_place<D: Dimension, T: StrideList>(layout: &Layout<D, T>) -> usize
+    ensures { result ≡ layout.now.offset - reach_down (D.lengths layout.now.dim) (T.strides_of layout.now.strides) }
+{
+    let below = reach_below(layout.dim.slice(), layout.strides.slice());
+    layout.offset.saturating_sub(below)
+}
+
 impl<'a, A, D: Dimension> ArrayView<'a, A, D> {
     /// The elements in row-major order as one slice, for as long as what the view is of; None exactly where they don't
     /// lie so (`is_standard_layout`). ndarray's `to_slice`.
     pub fn to_slice(&self) -> Option<&'a [A]>
-        ensures some { IsSome result ↔ IsStandard (shape_of self.now) (layout_strides self.now) }
+        ensures some { IsSome result ↔ IsStandardArray self.now }
         ensures elements { IfSome result (λ xs. xs.now ≡ elements_of (meaning_of self.now)) }
     {
         if self.is_standard_layout() {
             let storage = self.storage;
             Some(storage.run(self.layout.offset, self.layout.dim.size()))
+        } else {
+            None
+        }
+    }
+
+    /// The elements in the order in which they lie as one slice, for as long as what the view is of; None exactly where
+    /// their places aren't as many consecutive numbers as there are elements, each once. ndarray's
+    /// `to_slice_memory_order`.
+    pub fn to_slice_memory_order(&self) -> Option<&'a [A]>
+        ensures some { IsSome result ↔ IsRunArray self.now }
+        ensures elements { IfSome result (λ xs. IsInMemoryOrder self.now xs.now) }
+    {
+        if is_run(self.layout.dim.slice(), self.layout.strides.slice()) {
+            let storage = self.storage;
+            let first = lowest_place(&self.layout);
+            Some(storage.run(first, self.layout.dim.size()))
         } else {
             None
         }
@@ -43,9 +69,19 @@ impl<S: Data, D: Dimension> ArrayBase<S, D> {
     /// The elements in row-major order as one slice; None exactly where they don't lie so (`is_standard_layout`).
     /// ndarray's `as_slice`.
     pub fn as_slice(&self) -> Option<&[S::Elem]>
-        ensures some { IsSome result ↔ IsStandard (shape_of self.now) (layout_strides self.now) }
+        ensures some { IsSome result ↔ IsStandardArray self.now }
         ensures elements { IfSome result (λ xs. xs.now ≡ elements_of (meaning_of self.now)) }
     {
         self.view().to_slice()
+    }
+
+    /// The elements in the order in which they lie as one slice; None exactly where their places aren't as many
+    /// consecutive numbers as there are elements, each once. Of an array without elements it is empty. ndarray's
+    /// `as_slice_memory_order`.
+    pub fn as_slice_memory_order(&self) -> Option<&[S::Elem]>
+        ensures some { IsSome result ↔ IsRunArray self.now }
+        ensures elements { IfSome result (λ xs. IsInMemoryOrder self.now xs.now) }
+    {
+        self.view().to_slice_memory_order()
     }
 }
