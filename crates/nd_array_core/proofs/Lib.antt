@@ -23,3 +23,6 @@ pub mod Answered
 pub mod ColumnIndexes
 pub mod LastIndexes
 pub mod Clones
+pub mod RunElements
+pub mod Regrouped
+pub mod MemoryOrder

@@ -11,3 +11,4 @@ pub mod base
 pub mod layout
 pub mod scoped
 pub mod Filled
+pub mod reshape

@@ -3,6 +3,7 @@
 //! - `base`: the storages, the type, what makes an array, and its elements read and written
 //! - `layout`: slices, axes, rows and columns, parts, broadcasts, and views to be written
 //! - `elements`: calls over all elements
+//! - `reshape`: questions about the layout, elements as slices, and other shapes of the same elements
 //! - `scoped`: calls that lend views to be written to a task
 //! - `laws`: what follows from the contracts of several calls
 #![tactic(auto)]
@@ -11,6 +12,7 @@ mod base;
 mod elements;
 pub mod laws;
 mod layout;
+mod reshape;
 pub mod scoped;
 
 pub use base::aliases::{

@@ -11,3 +11,5 @@ mod constructors;
 mod indexes;
 #[cfg(test)]
 mod layout_calls;
+#[cfg(test)]
+mod reshapes;

@@ -17,7 +17,7 @@ pub use grows::growth;
 pub use lanes::{Lane, Lanes};
 pub use layout::Layout;
 pub use layout::axes::stride_at;
-pub use layout::given::{offset_in_slice, offset_in_vec, size_in_slice, size_in_vec};
+pub use layout::given::{offset_in_slice, offset_in_vec, reach_below, size_in_slice, size_in_vec};
 pub use reshape::reshape_strides;
 pub use runs::{is_run, is_standard};
 pub use spans::{separated, span};

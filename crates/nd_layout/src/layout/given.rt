@@ -70,7 +70,7 @@ fn down_by(len: usize, stride: isize) -> usize
 }
 
 /// How far all axes of negative stride together lead below the offset.
-fn given_offset(lengths: &[usize], strides: &[isize]) -> usize
+pub fn reach_below(lengths: &[usize], strides: &[isize]) -> usize
     requires as_many { length strides.now ≡ length lengths.now }
     requires spread { span_of lengths.now strides.now < 2 ^ 63 }
     ensures { result ≡ reach_down lengths.now strides.now }
@@ -112,7 +112,7 @@ pub fn offset_in_slice(
     size_of_shape_checked(lengths)?;
     match span(lengths, strides) {
         Some(span) if count_asked(lengths, strides, span) <= count => {
-            Ok(given_offset(lengths, strides))
+            Ok(reach_below(lengths, strides))
         }
         Some(_) => Err(ShapeError::from_kind(ErrorKind::OutOfBounds)),
         None => Err(ShapeError::from_kind(ErrorKind::Overflow)),

@@ -3,7 +3,7 @@ use Rattle.std.proofs.lemmas.Int.{to_z-of_z}
 use Rattle.nd_layout.specs.Strides.{reach_down}
 use Rattle.nd_layout.proofs.AxisChange.{span_of-at}
 use Rattle.nd_layout.proofs.steps.GivenStrides.{reach_down-le-span, reach_down-drop}
-use Rattle.nd_layout.proofs.layout.given.given_offset.Goals as goal
+use Rattle.nd_layout.proofs.layout.given.reach_below.Goals as goal
 
 pub down_by-offset-requires : goal.down_by-offset-requires
 down_by-offset-requires c =

@@ -1,0 +1,138 @@
+-- The elements of an array whose places are a run, in the order of their places.
+use Rattle.std.proofs.Common.{◌≡◌, ℕ, ◌+◌, ◌-◌, ◌<◌, ◌≤◌, true, List, length, get_or, ℤ, pos, negsuc, ◌+ℤ◌, neg_ℤ, refl, ap, sym, ◌∙◌, subst, ⊎_elim, arith}
+use Rattle.std.proofs.Math.Path.{fun_ext}
+use Rattle.std.specs.Prelude.{◌⊎◌, Option, Some, None, is_some, slice_get}
+use Rattle.std.specs.Option.{unwrap_or}
+use Rattle.std.proofs.Common.{inl, inr}
+use Rattle.std.proofs.lemmas.Option.{slice_get_cases}
+use borrow.Author.Differences.{neg_is}
+use Rattle.nd_shape_and_slice.specs.Shape.{in_box, size_of}
+use Rattle.nd_shape_and_slice.specs.Place.{displacement_of, place_of, span_of, IsSeparated}
+use Rattle.nd_shape_and_slice.proofs.RowMajor.{row_rank_below}
+use Rattle.nd_layout.specs.Ranks.{IsRun}
+use Rattle.nd_layout.specs.Strides.{reach_down}
+use Rattle.nd_layout.proofs.Integers.{sums}
+use Rattle.nd_layout.proofs.Distinct.{same_index}
+use Rattle.nd_layout.proofs.RunFrom.{above_low, above_low-is, above_low-lt, each_above_low}
+use Rattle.nd_layout.proofs.RunTest.{run_strides, run_span}
+use Rattle.nd_layout.proofs.steps.Ranked.{none_or_some}
+use Rattle.nd_array_core.specs.Meaning.{inside}
+use Rattle.nd_array_core.specs.Places.{place_number, stored_at, names_place, HoldsAll}
+use Rattle.nd_array_core.specs.reshape.RunSlices.{LiesAlong}
+
+-- a number that names a place is none below 0
+is_number : {A : Type 0} (stored : ℕ → Option A) (z : ℤ) → names_place stored z ≡ true → (p : ℕ) × (z ≡ pos p)
+is_number stored (pos p) has = (p, refl)
+is_number stored (negsuc p) has = absurd cc
+
+-- so far above the lowest place
+from_low : (offset down k : ℕ) (z : ℤ) → down ≤ offset → z ≡ neg_ℤ (pos down) +ℤ pos k → pos offset +ℤ z ≡ pos (offset - down + k)
+from_low offset down k z room e = omega (arith, sums, neg_is (pos down), e, room)
+
+low_room : (offset down p : ℕ) (z : ℤ) → z ≡ neg_ℤ (pos down) +ℤ pos 0 → pos offset +ℤ z ≡ pos p → down ≤ offset
+low_room offset down p z e q = omega (arith, sums, neg_is (pos down), e, q)
+
+-- what a list holds, where a map holds it
+held_by_list : {A : Type 0} (xs : List A) (k : ℕ) (o : Option A) → k < length xs → ((d : A) → o ≡ Some (get_or xs k d)) → o ≡ slice_get xs k
+held_by_list {A} xs k o below each = by_cases (slice_get_cases xs k).1
+  where
+    by_cases : ((x : A) × (k < length xs) × (slice_get xs k ≡ Some x) × (get_or xs k x ≡ x)) ⊎ ((length xs ≤ k) × (slice_get xs k ≡ None)) → o ≡ slice_get xs k
+    by_cases (inl there) = each there.0 ∙ ap Some there.3 ∙ sym there.2
+    by_cases (inr past) = absurd (let far = past.0 in omega (arith, far, below))
+
+module _ {A : Type 0} (stored : ℕ → Option A) (offset : ℕ) (ns : List ℕ) (ss : List ℤ) (long : length ss ≡ length ns) (holds : HoldsAll stored offset ns ss) where
+  abbrev low : ℕ
+  low = offset - reach_down ns ss
+
+  abbrev place : List ℕ → Option ℕ
+  place i = inside ns i (place_number (place_of offset ss i))
+
+  abbrev at : List ℕ → Option A
+  at i = inside ns i (stored_at stored (place_of offset ss i))
+
+  -- where there are elements
+  module _ (apart : IsSeparated ns ss) (full : span_of ns ss + 1 ≡ size_of ns) (some : 0 < size_of ns) where
+    room : reach_down ns ss ≤ offset
+    room =
+        let i = each_above_low ns ss long apart full 0 some in
+        let p = is_number stored (place_of offset ss i.0) (holds i.0 i.1) in
+        low_room offset (reach_down ns ss) p.0 (displacement_of ss i.0) i.2 p.1
+
+    at_place : (i : List ℕ) (k : ℕ) → displacement_of ss i ≡ neg_ℤ (pos (reach_down ns ss)) +ℤ pos k → place_of offset ss i ≡ pos (low + k)
+    at_place i k e = from_low offset (reach_down ns ss) k (displacement_of ss i) room e
+
+    full_has : (k : ℕ) → k < size_of ns → is_some (stored (low + k)) ≡ true
+    full_has k below =
+        let i = each_above_low ns ss long apart full k below in
+        ap (names_place stored) (sym (at_place i.0 k i.2)) ∙ holds i.0 i.1
+
+    module _ (xs : List A) (count : length xs ≡ size_of ns) (held : (k : ℕ) (d : A) → k < size_of ns → stored (low + k) ≡ Some (get_or xs k d)) where
+      shown : (i : List ℕ) (k : ℕ) → in_box ns i ≡ true → k < size_of ns → place_of offset ss i ≡ pos (low + k) → at i ≡ slice_get xs k
+      shown i k h below e = rw (h, e) (held_by_list xs k (stored (low + k)) (omega (arith, count, below)) (λ d. held k d below))
+
+      number : (i : List ℕ) (k : ℕ) → in_box ns i ≡ true → place_of offset ss i ≡ pos (low + k) → place i ≡ Some (low + k)
+      number i k h e = rw (h, e) refl
+
+      same_number : (i j : List ℕ) → in_box ns i ≡ true → in_box ns j ≡ true → place i ≡ place j → displacement_of ss i ≡ displacement_of ss j
+      same_number i j h q same =
+          let m = above_low ns ss (displacement_of ss i) in
+          let n = above_low ns ss (displacement_of ss j) in
+          let one = number i m h (at_place i m (above_low-is ns ss i h)) in
+          let other = number j n q (at_place j n (above_low-is ns ss j q)) in
+          let equal : low + m ≡ low + n = ap (λ o. unwrap_or o 0) (sym one ∙ same ∙ other) in
+          let e : m ≡ n = omega (arith, equal) in
+          above_low-is ns ss i h ∙ ap (λ k. neg_ℤ (pos (reach_down ns ss)) +ℤ pos k) e ∙ sym (above_low-is ns ss j q)
+
+      full_lies : LiesAlong ns place at xs
+      full_lies = record {
+        first = low;
+        count = count;
+        within = λ i h.
+            let k = above_low ns ss (displacement_of ss i) in
+            let e = at_place i k (above_low-is ns ss i h) in
+            let below = above_low-lt ns ss i full h in
+            (k, below, number i k h e, shown i k h below e);
+        each = λ k below.
+            let i = each_above_low ns ss long apart full k below in
+            let e = at_place i.0 k i.2 in
+            (i.0, i.1, number i.0 k i.1 e, shown i.0 k i.1 below e);
+        once = λ i j h q same. same_index ns ss i j long apart h q (same_number i j h q same);
+      }
+
+  -- and where there is none
+  empty_lies : (xs : List A) → length xs ≡ size_of ns → size_of ns ≡ 0 → LiesAlong ns place at xs
+  empty_lies xs count none = record {
+    first = low;
+    count = count;
+    within = λ i h. absurd (omega (arith, none, row_rank_below ns i h));
+    each = λ k below. absurd (omega (arith, none, below));
+    once = λ i j h q same. absurd (omega (arith, none, row_rank_below ns i h));
+  }
+
+  module _ (which : (size_of ns ≡ 0) ⊎ IsRun ns ss) where
+    pub run_has : (k : ℕ) → k < size_of ns → is_some (stored (low + k)) ≡ true
+    run_has k below =
+        ⊎_elim
+        (λ (none : size_of ns ≡ 0). absurd (omega (arith, none, below)))
+        (λ (run : IsRun ns ss).
+        let some : 0 < size_of ns = omega (arith, below) in
+        full_has (run_strides ns ss long some run) (run_span ns ss long some run) some k below)
+        which
+
+    pub run_lies : (xs : List A) → length xs ≡ size_of ns → ((k : ℕ) (d : A) → k < size_of ns → stored (low + k) ≡ Some (get_or xs k d)) → LiesAlong ns place at xs
+    run_lies xs count held =
+        none_or_some (LiesAlong ns place at xs) (size_of ns)
+        (λ none. empty_lies xs count none)
+        (λ some.
+        ⊎_elim
+        (λ (none : size_of ns ≡ 0). empty_lies xs count none)
+        (λ (run : IsRun ns ss). full_lies (run_strides ns ss long some run) (run_span ns ss long some run) some xs count held)
+        which)
+
+-- two arrays with the same shape, places and elements have the same elements in the order of their places
+module _ {A : Type 0} {shape shape' : List ℕ} {place place' : List ℕ → Option ℕ} {at at' : List ℕ → Option A} {xs : List A} where
+  pub lies_alike : shape ≡ shape' → ((i : List ℕ) → place i ≡ place' i) → ((i : List ℕ) → at i ≡ at' i) → LiesAlong shape place at xs → LiesAlong shape' place' at' xs
+  lies_alike same places elements lies =
+      let one = subst (λ ns. LiesAlong ns place at xs) same lies in
+      let two = subst (λ f. LiesAlong shape' f at xs) (fun_ext places) one in
+      subst (λ f. LiesAlong shape' place' f xs) (fun_ext elements) two

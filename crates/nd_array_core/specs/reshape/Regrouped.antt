@@ -1,0 +1,55 @@
+-- Another shape of the same elements: each keeps its rank in an order.
+use Rattle.std.specs.Prelude.{ℕ, ◌≡◌, ◌/◌, ◌%◌, true, List, [], ◌∷◌, ℤ, pos}
+use Rattle.nd_shape_and_slice.specs.declared.dimension.Dimension as dimension
+use Rattle.nd_shape_and_slice.specs.declared.dimension.AxisCount as axis_count
+use Rattle.nd_shape_and_slice.specs.declared.dimension.StrideList as stride_list
+use Rattle.nd_shape_and_slice.specs.declared.builder.Order.{Order}
+use Rattle.nd_shape_and_slice.specs.declared.builder.Order.TheVariants.{RowMajor, ColumnMajor}
+use Rattle.nd_shape_and_slice.specs.declared.errors.ErrorKind.{ErrorKind}
+use Rattle.nd_shape_and_slice.specs.declared.errors.ErrorKind.TheVariants.{IncompatibleShape, IncompatibleLayout}
+use Rattle.nd_shape_and_slice.specs.Shape.{in_box, size_of, index_at, HasCheckedSize}
+use Rattle.nd_shape_and_slice.specs.Place.{displacement_of}
+use Rattle.nd_layout.specs.Ranks.{rank_in}
+use Rattle.nd_layout.specs.GivenStrides.{ordered_strides}
+use Rattle.nd_array_core.specs.declared.base.storage.Data as data_trait
+use Rattle.nd_array_core.specs.declared.base.array.ArrayBase.{ArrayBase}
+use Rattle.nd_array_core.specs.Meaning.{shape_of}
+use Rattle.nd_array_core.specs.Part.{Part}
+
+-- the index of a column-major rank
+abbrev pub column_index_at : List ℕ → ℕ → List ℕ
+column_index_at [] rank = []
+column_index_at (n ∷ ns) rank = (rank % n) ∷ column_index_at ns (rank / n)
+
+-- the index of a rank in an order
+abbrev pub index_in : Order → List ℕ → ℕ → List ℕ
+index_in RowMajor ns rank = index_at ns rank
+index_in ColumnMajor ns rank = column_index_at ns rank
+
+-- the index of the lengths ns that has the rank of an index of the lengths ms
+abbrev pub regrouped_index : Order → List ℕ → List ℕ → List ℕ → List ℕ
+regrouped_index order ns ms i = index_in order ns (rank_in order ms i)
+
+-- each index lies at its rank in the order, from the offset on
+abbrev pub IsInOrder : Order → List ℕ → List ℤ → Type 0
+IsInOrder order ns ss = (i : List ℕ) → in_box ns i ≡ true → displacement_of ss i ≡ pos (rank_in order ns i)
+
+-- a shape with a checked size, which is the number of elements
+abbrev pub IsShapeOf : List ℕ → List ℕ → Type 0
+IsShapeOf ns ms = HasCheckedSize ms × (size_of ms ≡ size_of ns)
+
+-- why elements of these lengths and strides can't be seen under other lengths in an order, where the strides are to be
+-- those of a new array
+pub data IsRefused (order : Order) (ns : List ℕ) (ss : List ℤ) (ms : List ℕ) : ErrorKind → Type 0 where
+  NoShape : (IsShapeOf ns ms → ⊥) → IsRefused order ns ss ms IncompatibleShape
+  NotInOrder : IsShapeOf ns ms → (IsInOrder order ns ss → ⊥) → IsRefused order ns ss ms IncompatibleLayout
+
+-- row-major order where the elements lie so, and else column-major
+pub data IsOrderTried (ns : List ℕ) (ss : List ℤ) : Order → Type 0 where
+  Rows : IsInOrder RowMajor ns ss → IsOrderTried ns ss RowMajor
+  Columns : (IsInOrder RowMajor ns ss → ⊥) → IsOrderTried ns ss ColumnMajor
+
+module _ {S D T A P R L M : Type 0} {s : data_trait.Ghosts S A} {d : dimension.Ghosts D P R L M} {n : axis_count.Ghosts D} {r : stride_list.Ghosts R} {t : stride_list.Ghosts T} where
+  -- the elements under other lengths, each with its rank in an order, and the strides of a new array
+  abbrev pub ordered_part : ArrayBase S D T A P R L M s d n r t → Order → List ℕ → Part
+  ordered_part a order ms = record { shape = ms; strides = ordered_strides order ms; source = regrouped_index order (shape_of a) ms }

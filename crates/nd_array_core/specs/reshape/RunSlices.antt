@@ -1,0 +1,32 @@
+-- Which arrays show their elements as one slice, and in which order.
+use Rattle.std.specs.Prelude.{ℕ, ◌≡◌, ◌<◌, ◌+◌, ◌⊎◌, true, List, length, Option, Some, slice_get}
+use Rattle.nd_shape_and_slice.specs.declared.dimension.Dimension as dimension
+use Rattle.nd_shape_and_slice.specs.declared.dimension.AxisCount as axis_count
+use Rattle.nd_shape_and_slice.specs.declared.dimension.StrideList as stride_list
+use Rattle.nd_shape_and_slice.specs.Shape.{in_box, size_of}
+use Rattle.nd_layout.specs.Ranks.{IsStandard, IsRun}
+use Rattle.nd_array_core.specs.declared.base.storage.Data as data_trait
+use Rattle.nd_array_core.specs.declared.base.array.ArrayBase.{ArrayBase}
+use Rattle.nd_array_core.specs.Meaning.{shape_of, layout_strides, element_at, place_at}
+
+-- The elements xs lie one beside the other from a place on, one for each index: the element of each index stands in xs
+-- as far from the front as its place from the first, and each of xs is that of an index.
+pub record LiesAlong {A : Type 0} (shape : List ℕ) (place : List ℕ → Option ℕ) (at : List ℕ → Option A) (xs : List A) : Type 0 where
+  pub first : ℕ
+  pub count : length xs ≡ size_of shape
+  pub within : (i : List ℕ) → in_box shape i ≡ true → (k : ℕ) × (k < size_of shape) × (place i ≡ Some (first + k)) × (at i ≡ slice_get xs k)
+  pub each : (k : ℕ) → k < size_of shape → (i : List ℕ) × (in_box shape i ≡ true) × (place i ≡ Some (first + k)) × (at i ≡ slice_get xs k)
+  pub once : (i j : List ℕ) → in_box shape i ≡ true → in_box shape j ≡ true → place i ≡ place j → i ≡ j
+
+module _ {S D T A P R L M : Type 0} {s : data_trait.Ghosts S A} {d : dimension.Ghosts D P R L M} {n : axis_count.Ghosts D} {r : stride_list.Ghosts R} {t : stride_list.Ghosts T} where
+  -- each index lies at its row-major rank from the offset on
+  abbrev pub IsStandardArray : ArrayBase S D T A P R L M s d n r t → Type 0
+  IsStandardArray a = IsStandard (shape_of a) (layout_strides a)
+
+  -- there is no element, or the places are as many consecutive numbers as there are elements, each once
+  abbrev pub IsRunArray : ArrayBase S D T A P R L M s d n r t → Type 0
+  IsRunArray a = (size_of (shape_of a) ≡ 0) ⊎ IsRun (shape_of a) (layout_strides a)
+
+  -- xs are the elements in the order of their places
+  abbrev pub IsInMemoryOrder : ArrayBase S D T A P R L M s d n r t → List A → Type 0
+  IsInMemoryOrder a xs = LiesAlong (shape_of a) (place_at a) (element_at a) xs

@@ -1,0 +1,145 @@
+//! Other shapes of the same elements, in the same storage.
+#![tactic(auto, unfolding(crate::specs::Meaning::meaning_of, crate::specs::Meaning::memory_layout_of))]
+
+ghost use Rattle.std.specs.Prelude.{◌↔◌, ◌≡◌, ◌<◌, IsTrue, IfOk, IfErr};
+ghost use Rattle.nd_shape_and_slice.specs.Shape.{HasCheckedSize, size_of};
+ghost use Rattle.nd_shape_and_slice.specs.Place.{IsSeparated};
+ghost use Rattle.nd_layout.specs.Steps.{IsViewStep};
+ghost use Rattle.nd_layout.specs.GivenStrides.{ordered_strides};
+ghost use Rattle.nd_array_core.specs.Meaning.{shape_of, layout_strides, layout_offset};
+ghost use Rattle.nd_array_core.specs.Part.{BecomesPart};
+ghost use Rattle.nd_array_core.specs.reshape.Regrouped.{IsInOrder, IsShapeOf, IsRefused, IsOrderTried, ordered_part, regrouped_index};
+ghost use Rattle.nd_shape_and_slice.specs.declared.builder.Order.TheVariants.{RowMajor, ColumnMajor};
+
+use crate::base::array::ArrayBase;
+use crate::base::storage::Data;
+use nd_layout::{Layout, is_standard};
+use nd_shape_and_slice::{
+    Dimension, ErrorKind, IntoDimension, Order, ShapeArg, ShapeError, StrideList, default_strides,
+    fortran_strides, size_of_shape_checked,
+};
+
+/// Whether each index lies at its rank in an order, from the offset on.
+fn is_in_order<D: Dimension, T: StrideList>(layout: &Layout<D, T>, order: Order) -> bool
+    ensures { IsTrue result ↔ IsInOrder order (D.lengths layout.now.dim) (T.strides_of layout.now.strides) }
+{
+    match order {
+        Order::RowMajor => is_standard(layout.dim.slice(), layout.strides.slice()),
+        Order::ColumnMajor => {
+            let mut turned = layout.copied();
+            turned.reverse_axes();
+            is_standard(turned.dim.slice(), turned.strides.slice())
+        }
+    }
+}
+
+/// The strides of a new array in an order.
+fn strides_in<D: Dimension>(dim: &D, order: Order) -> D::Strides
+    requires { HasCheckedSize (D.lengths dim.now) }
+    ensures { D.Strides.strides_of result ≡ ordered_strides order (D.lengths dim.now) }
+{
+    match order {
+        Order::RowMajor => default_strides(dim),
+        Order::ColumnMajor => fortran_strides(dim),
+    }
+}
+
+/// Whether a shape has a checked size, and it is this one.
+fn has_size(lengths: &[usize], size: usize) -> bool
+    ensures { IsTrue result ↔ (HasCheckedSize lengths.now × (size_of lengths.now ≡ size)) }
+{
+    match size_of_shape_checked(lengths) {
+        Ok(count) => count == size,
+        Err(_) => false,
+    }
+}
+
+/// Whether the elements of a layout, as they lie, can be seen under other lengths in an order with the strides of a new
+/// array.
+fn check_order<D: Dimension, T: StrideList>(
+    layout: &Layout<D, T>,
+    lengths: &[usize],
+    order: Order,
+) -> Result<(), ShapeError>
+    ensures refused { IfErr result (λ e. IsRefused order (D.lengths layout.now.dim) (T.strides_of layout.now.strides) lengths.now e) }
+    ensures shape { IfOk result (λ _. IsShapeOf (D.lengths layout.now.dim) lengths.now) }
+    ensures order { IfOk result (λ _. IsInOrder order (D.lengths layout.now.dim) (T.strides_of layout.now.strides)) }
+{
+    if has_size(lengths, layout.dim.size()) {
+        if is_in_order(layout, order) {
+            Ok(())
+        } else {
+            Err(ShapeError::from_kind(ErrorKind::IncompatibleLayout))
+        }
+    } else {
+        Err(ShapeError::from_kind(ErrorKind::IncompatibleShape))
+    }
+}
+
+/// The layout with other lengths, and the strides of a new array in an order.
+fn ordered_layout<D: Dimension, E: Dimension>(
+    layout: &Layout<D, D::Strides>,
+    dim: E,
+    order: Order,
+) -> Layout<E, E::Strides>
+    requires shape { IsShapeOf (D.lengths layout.now.dim) (E.lengths dim) }
+    requires order { IsInOrder order (D.lengths layout.now.dim) (D.Strides.strides_of layout.now.strides) }
+    ensures offset { result.offset ≡ layout.now.offset }
+    ensures lengths { E.lengths result.dim ≡ E.lengths dim }
+    ensures strides { E.Strides.strides_of result.strides ≡ ordered_strides order (E.lengths dim) }
+    ensures seen { IsViewStep layout.now.offset (D.lengths layout.now.dim) (D.Strides.strides_of layout.now.strides) result.offset (E.lengths result.dim) (E.Strides.strides_of result.strides) (regrouped_index order (D.lengths layout.now.dim) (E.lengths dim)) }
+    ensures separated { 0 < size_of (E.lengths dim) → IsSeparated (E.lengths result.dim) (E.Strides.strides_of result.strides) }
+{
+    let strides = strides_in(&dim, order);
+    Layout::strided(layout.offset, dim, strides)
+}
+
+/// Row-major order where the elements lie so, and else column-major.
+fn order_tried<D: Dimension, T: StrideList>(layout: &Layout<D, T>) -> Order
+    ensures { IsOrderTried (D.lengths layout.now.dim) (T.strides_of layout.now.strides) result }
+{
+    if is_in_order(layout, Order::RowMajor) {
+        Order::RowMajor
+    } else {
+        Order::ColumnMajor
+    }
+}
+
+impl<S: Data + Drop, D: Dimension> ArrayBase<S, D> {
+    /// The array under another shape, with the strides of a new array: each element keeps its rank in the order asked
+    /// for, row-major unless another is. None is copied. IncompatibleShape where the shape has no checked size, or
+    /// another one than the array; IncompatibleLayout where the elements don't lie in that order (axes of length 1
+    /// don't count); the array is then dropped. ndarray's `into_shape_with_order`.
+    pub fn into_shape_with_order<E: ShapeArg>(
+        self,
+        shape: E,
+    ) -> Result<ArrayBase<S, E::Dim>, ShapeError>
+        ensures refused { IfErr result (λ e. IsRefused (E.order_asked shape) (shape_of self) (layout_strides self) (E.shape_asked shape) e) }
+        ensures shape { IfOk result (λ _. IsShapeOf (shape_of self) (E.shape_asked shape)) }
+        ensures order { IfOk result (λ _. IsInOrder (E.order_asked shape) (shape_of self) (layout_strides self)) }
+        ensures part { IfOk result (λ a. BecomesPart self (ordered_part self (E.order_asked shape) (E.shape_asked shape)) a) }
+        ensures offset { IfOk result (λ a. layout_offset a ≡ layout_offset self) }
+    {
+        let (dim, order) = shape.into_shape_and_order();
+        check_order(&self.layout, dim.slice(), order)?;
+        let layout = ordered_layout(&self.layout, dim, order);
+        Ok(ArrayBase {
+            storage: self.storage,
+            layout,
+        })
+    }
+
+    /// The array under another shape, in row-major order if its elements lie so, and else in column-major order. None is
+    /// copied. IncompatibleShape where the shape has no checked size, or another one than the array;
+    /// IncompatibleLayout where the elements lie in neither order; the array is then dropped. ndarray's `into_shape`.
+    pub fn into_shape<E: IntoDimension>(self, shape: E) -> Result<ArrayBase<S, E::Dim>, ShapeError>
+        ensures refused { IfErr result (λ e. IsRefused RowMajor (shape_of self) (layout_strides self) (E.lengths_given shape) e × IsRefused ColumnMajor (shape_of self) (layout_strides self) (E.lengths_given shape) e) }
+        ensures rows { IsInOrder RowMajor (shape_of self) (layout_strides self) → IfOk result (λ a. BecomesPart self (ordered_part self RowMajor (E.lengths_given shape)) a) }
+        ensures columns { (IsInOrder RowMajor (shape_of self) (layout_strides self) → ⊥) → IfOk result (λ a. BecomesPart self (ordered_part self ColumnMajor (E.lengths_given shape)) a) }
+        ensures shape { IfOk result (λ _. IsShapeOf (shape_of self) (E.lengths_given shape)) }
+        ensures offset { IfOk result (λ a. layout_offset a ≡ layout_offset self) }
+    {
+        let order = order_tried(&self.layout);
+        self.into_shape_with_order((shape, order))
+    }
+}

@@ -1,0 +1,93 @@
+//! Other shapes of the same elements, and elements as slices.
+
+use nd_array_core::{Array, Array2, Array3};
+use nd_shape_and_slice::{Axis, Dimension, ErrorKind, Order, ShapeBuilder, ShapeError, Slice};
+use nd_test_arrays::{array_of, numbers, rows_listed};
+use std::test::Fail;
+
+// Why a reshape was refused.
+fn cause<D: Dimension>(outcome: Result<Array<u64, D>, ShapeError>) -> Option<ErrorKind> {
+    match outcome {
+        Ok(_) => None,
+        Err(error) => Some(error.kind()),
+    }
+}
+
+// The array, where a reshape was not refused.
+fn reshaped<D: Dimension>(
+    outcome: Result<Array<u64, D>, ShapeError>,
+) -> Result<Array<u64, D>, Fail> {
+    match outcome {
+        Ok(array) => Ok(array),
+        Err(_) => Err("refused".into()),
+    }
+}
+
+fn one_to_six(rt: &HostRuntime) -> Result<Array2<u64>, Fail> {
+    array_of((2, 3), numbers(rt.alloc(), 1, 6)?)
+}
+
+#[test]
+fn reversed_axes_in_both_orders(rt: HostRuntime) -> Result<(), Fail> {
+    let turned = one_to_six(&rt)?.reversed_axes();
+    let refused = cause(turned.into_shape_with_order((2, 3)));
+    assert_eq!(rt; refused, Some(ErrorKind::IncompatibleLayout));
+    let turned = one_to_six(&rt)?.reversed_axes();
+    let columns = reshaped(turned.into_shape_with_order(((2, 3), Order::ColumnMajor)))?;
+    assert_eq!(rt;
+        rows_listed(rt.alloc(), &columns)?.as_slice(),
+        [1, 3, 5, 2, 4, 6].as_slice()
+    );
+    assert_eq!(rt; columns.strides(), [1, 2].as_slice());
+    let turned = one_to_six(&rt)?.reversed_axes();
+    let refused = cause(turned.into_shape_with_order(5));
+    assert_eq!(rt; refused, Some(ErrorKind::IncompatibleShape));
+    Ok(())
+}
+
+#[test]
+fn a_new_array_in_another_shape(rt: HostRuntime) -> Result<(), Fail> {
+    let rows = reshaped(one_to_six(&rt)?.into_shape_with_order((3, 2)))?;
+    assert_eq!(rt;
+        rows_listed(rt.alloc(), &rows)?.as_slice(),
+        [1, 2, 3, 4, 5, 6].as_slice()
+    );
+    assert_eq!(rt; rows.strides(), [2, 1].as_slice());
+    let list = reshaped(rows.into_shape_with_order((6, Order::RowMajor)))?;
+    assert_eq!(rt; list.as_slice(), Some([1, 2, 3, 4, 5, 6].as_slice()));
+    let refused = cause(list.into_shape_with_order((3, usize::MAX)));
+    assert_eq!(rt; refused, Some(ErrorKind::IncompatibleShape));
+    let columns: Array2<u64> = array_of((2, 3).f(), numbers(rt.alloc(), 1, 6)?)?;
+    let list = reshaped(columns.into_shape_with_order((6, Order::ColumnMajor)))?;
+    assert_eq!(rt; list.as_slice(), Some([1, 2, 3, 4, 5, 6].as_slice()));
+    Ok(())
+}
+
+#[test]
+fn no_elements_in_another_shape(rt: HostRuntime) -> Result<(), Fail> {
+    let empty: Array2<u64> = array_of((3, 0), numbers(rt.alloc(), 0, 0)?)?;
+    let other: Array3<u64> = reshaped(empty.reversed_axes().into_shape_with_order((2, 0, 7)))?;
+    assert_eq!(rt; other.shape(), [2, 0, 7].as_slice());
+    assert_eq!(rt; other.strides(), [0, 0, 0].as_slice());
+    assert!(rt; other.is_standard_layout());
+    assert!(rt; other.as_slice().is_some());
+    Ok(())
+}
+
+#[test]
+fn slices_of_the_standard_layout(rt: HostRuntime) -> Result<(), Fail> {
+    let array = one_to_six(&rt)?;
+    assert!(rt; array.is_standard_layout());
+    assert_eq!(rt; array.as_slice(), Some([1, 2, 3, 4, 5, 6].as_slice()));
+    let second = array.index_axis(Axis(0), 1);
+    assert_eq!(rt; second.to_slice(), Some([4, 5, 6].as_slice()));
+    let columns = array.slice_axis(Axis(1), Slice::new(0, Some(2), 1));
+    assert!(rt; !columns.is_standard_layout());
+    assert_eq!(rt; columns.as_slice(), None);
+    assert_eq!(rt; array.t().as_slice(), None);
+    assert_eq!(rt;
+        columns.index_axis(Axis(0), 1).to_slice(),
+        Some([4, 5].as_slice())
+    );
+    Ok(())
+}
