@@ -35,4 +35,5 @@ pub mod GrownAgain
 pub mod WalkSteps
 pub mod LaneSteps
 pub mod Rearranged
+pub mod AxisJoins
 pub mod steps

@@ -1,7 +1,7 @@
 -- The places of a layout in row-major order of its indexes, one by one or by lanes.
-use Rattle.std.specs.Prelude.{ℕ, ◌+◌, ◌*◌, ◌<◌, ◌≤◌, ◌≡◌, true, List, length, take, ℤ, pos, ◌+ℤ◌, ◌*ℤ◌}
+use Rattle.std.specs.Prelude.{◌∷◌, ◌⊎◌, ℕ, ◌+◌, ◌*◌, ◌<◌, ◌≤◌, ◌≡◌, true, List, length, take, ℤ, pos, ◌+ℤ◌, ◌*ℤ◌}
 use Rattle.nd_shape_and_slice.specs.Shape.{in_box, size_of, row_rank, index_at}
-use Rattle.nd_shape_and_slice.specs.Place.{place_of}
+use Rattle.nd_shape_and_slice.specs.Place.{place_of, displacement_of, span_of}
 
 -- where the index of a row-major rank lies
 abbrev pub place_at_rank : ℕ → List ℕ → List ℤ → ℕ → ℤ
@@ -36,3 +36,16 @@ pub record IsRearranged (offset : ℕ) (lengths : List ℕ) (strides : List ℤ)
   pub there : (rank : ℕ) → rank < size_of new_lengths → rank_of (index_of rank) ≡ rank
   pub back : (i : List ℕ) → in_box lengths i ≡ true → index_of (rank_of i) ≡ i
   pub same : (rank : ℕ) → rank < size_of new_lengths → place_at_rank new_offset new_lengths new_strides rank ≡ place_of offset strides (index_of rank)
+
+-- the second lengths and strides name the same places in the same row-major order, and reach as far
+pub record IsRejoined (lengths : List ℕ) (strides : List ℤ) (new_lengths : List ℕ) (new_strides : List ℤ) : Type 0 where
+  pub size : size_of new_lengths ≡ size_of lengths
+  pub same : (rank : ℕ) → rank < size_of lengths → displacement_of new_strides (index_at new_lengths rank) ≡ displacement_of strides (index_at lengths rank)
+  pub span : span_of new_lengths new_strides ≡ span_of lengths strides
+
+-- What is made of an axis of length n and stride s before one of length m and stride t, which stands at `at`: both are
+-- one axis there, or the first is an axis of its own.
+abbrev pub IsJoint : ℕ → ℤ → ℕ → ℕ → ℤ → ℕ → ℕ → ℤ → Type 0
+IsJoint n s at m t new_at len stride =
+    ((new_at ≡ at) × ((ns : List ℕ) (ss : List ℤ) → 0 < size_of (n ∷ m ∷ ns) → IsRejoined (n ∷ m ∷ ns) (s ∷ t ∷ ss) (len ∷ ns) (stride ∷ ss)))
+    ⊎ ((new_at + 1 ≡ at) × (len ≡ n) × (stride ≡ s))

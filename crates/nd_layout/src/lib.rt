@@ -4,6 +4,7 @@
 #![tactic(auto)]
 
 mod grows;
+mod joined;
 mod lanes;
 mod layout;
 mod order;

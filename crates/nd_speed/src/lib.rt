@@ -6,5 +6,6 @@
 #![tactic(auto)]
 
 mod conditions;
+mod fills;
 mod parts;
 mod views;

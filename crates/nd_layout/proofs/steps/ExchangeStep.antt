@@ -89,7 +89,7 @@ module _ {A : Type 0} (d : A) (xs : List A) where
       plus : (k : ℕ) → 0 + k ≡ k
       plus k = omega arith
 
-swap_back : (xs : List ℕ) (a b : ℕ) → a < length xs → b < length xs → swap (swap xs a b) a b ≡ xs
+pub swap_back : (xs : List ℕ) (a b : ℕ) → a < length xs → b < length xs → swap (swap xs a b) a b ≡ xs
 swap_back xs a b on_a on_b =
     let ys = swap xs a b in
     let zs = swap ys a b in

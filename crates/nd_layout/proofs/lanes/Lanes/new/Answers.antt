@@ -30,7 +30,7 @@ invariant_of-result-2 c =
       some = last.1;
       passed = nothing_passed c.new-2.result.rank (slice_index_or c.args.lengths.now k 0) c.new-2.ensures.rank;
       checked = c.requires.checked;
-  reach = c.requires.reach;
+      reach = c.requires.reach;
       cut = rw (to_z-of_z w64 (slice_index_or c.args.strides.now k (pos 0)) fits, c.new-2.ensures.over.0, c.new-2.ensures.over.1, c.new-2.ensures.over.2) (cut_last c.args.first c.args.lengths.now c.args.strides.now c.requires.as_many k last.0 last.1);
       along = λ some. rw (to_z-of_z w64 (slice_index_or c.args.strides.now k (pos 0)) fits) (along_last c.args.lengths.now c.args.strides.now k c.requires.as_many last.0);
     }
