@@ -15,6 +15,7 @@ mod lent_slices;
 mod lent_views;
 mod parts_written;
 mod pixels;
+mod reshaped;
 mod strides;
 mod two_calls;
 mod two_parts;
@@ -38,6 +39,7 @@ pub use parts_written::{
     swap_numbers_in_row, write_in_part,
 };
 pub use pixels::{checkerboard, checkerboard_of_references, row_sum, swap_rows};
+pub use reshaped::{pixels_of, row_major_slice, run_or};
 pub use strides::{row_repeated, turned_at_the_least_stride};
 pub use two_calls::{
     column_of, column_of_numbers, column_of_owned, fill_then_get, fill_then_get_number, flip_both,
