@@ -91,3 +91,45 @@ fn slices_of_the_standard_layout(rt: HostRuntime) -> Result<(), Fail> {
     );
     Ok(())
 }
+
+#[test]
+fn the_first_order_that_fits(rt: HostRuntime) -> Result<(), Fail> {
+    let rows = reshaped(one_to_six(&rt)?.into_shape((3, 2)))?;
+    assert_eq!(rt; rows.strides(), [2, 1].as_slice());
+    let columns = reshaped(one_to_six(&rt)?.reversed_axes().into_shape((2, 3)))?;
+    assert_eq!(rt; columns.strides(), [1, 2].as_slice());
+    assert_eq!(rt;
+        rows_listed(rt.alloc(), &columns)?.as_slice(),
+        [1, 3, 5, 2, 4, 6].as_slice()
+    );
+    let mut inverted = one_to_six(&rt)?;
+    inverted.invert_axis(Axis(0));
+    let refused = cause(inverted.into_shape(6));
+    assert_eq!(rt; refused, Some(ErrorKind::IncompatibleLayout));
+    let refused = cause(one_to_six(&rt)?.into_shape((2, 2)));
+    assert_eq!(rt; refused, Some(ErrorKind::IncompatibleShape));
+    Ok(())
+}
+
+#[test]
+fn slices_of_runs(rt: HostRuntime) -> Result<(), Fail> {
+    let mut array = one_to_six(&rt)?;
+    array.invert_axis(Axis(1));
+    assert_eq!(rt; array.as_slice(), None);
+    assert_eq!(rt;
+        array.as_slice_memory_order(),
+        Some([1, 2, 3, 4, 5, 6].as_slice())
+    );
+    let turned = array.t();
+    assert_eq!(rt;
+        turned.to_slice_memory_order(),
+        Some([1, 2, 3, 4, 5, 6].as_slice())
+    );
+    let second = turned.slice_axis(Axis(1), Slice::new(1, Some(2), 1));
+    assert_eq!(rt; second.to_slice_memory_order(), Some([4, 5, 6].as_slice()));
+    let outer = turned.slice_axis(Axis(0), Slice::new(0, None, 2));
+    assert_eq!(rt; outer.to_slice_memory_order(), None);
+    let none = turned.slice_axis(Axis(1), Slice::new(1, Some(1), 1));
+    assert!(rt; none.as_slice_memory_order().is_some());
+    Ok(())
+}

@@ -1,5 +1,5 @@
 -- A view of a slice under a shape: its region holds the slice's elements, and each index shows the one that the shape says.
-use Rattle.std.proofs.Common.{◌≡◌, ℕ, ℤ, true, List, length, sym, ap, subst, ◌∙◌}
+use Rattle.std.proofs.Common.{◌≡◌, ℕ, true, List, length, sym, ap, subst, ◌∙◌}
 use Rattle.std.specs.Prelude.{slice_get}
 use Rattle.nd_shape_and_slice.specs.Place.{place_of}
 use Rattle.nd_layout.specs.Steps.{IsValid}
@@ -15,10 +15,6 @@ use Rattle.nd_array_core.specs.scoped.Sources.{GivenShape}
 use Rattle.nd_array_core.proofs.LaidOut.{laid_at}
 use Rattle.nd_array_core.proofs.tasks.PartStep.{whole_holds}
 use Rattle.nd_array_core.proofs.tasks.SliceTask.{slice_sound}
-
--- an array's offset, lengths and strides as one value
-abbrev pub seen_placement : ℕ → List ℕ → List ℤ → Placement
-seen_placement offset lengths strides = record { offset = offset; lengths = lengths; strides = strides }
 
 module _ {A : Type 0} (xs : List A) (given : GivenShape) (l : Placement) (laid : IsLaidOut given.0 given.1 given.2 true (length xs) l) (r : Region A) (whole : IsWhole r xs) where
   -- what the region holds is what the slice holds

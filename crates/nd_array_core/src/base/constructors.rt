@@ -14,7 +14,7 @@ ghost use Rattle.nd_array_core.specs.Meaning.{shape_of, element_at, storage_of, 
 ghost use Rattle.nd_array_core.specs.Places.{stored_at};
 ghost use Rattle.nd_array_core.specs.base.Storages.{stored_list, room_of};
 ghost use Rattle.nd_array_core.specs.base.Given.{refusal_in, is_apart_in, IsLaidOut};
-ghost use Rattle.nd_layout.specs.Placements.{placement_of};
+ghost use Rattle.nd_layout.specs.Placements.{as_placement, placement_of};
 ghost use Rattle.nd_array_core.specs.base.SliceLent.{slice_follows_view};
 ghost use Rattle.nd_array_core.specs.scoped.Tasks.{LiesBy};
 ghost use Rattle.nd_shape_and_slice.specs.declared.builder.Order.{Order};
@@ -148,7 +148,7 @@ fn region_laid_out<'a, A, D: Dimension>(
 ) -> ArrayViewMut<'a, A, D>
     requires sound { LiesBy (region_stored region) (placement_of layout) }
     ensures region { (storage_of result).region ≡ region.entry }
-    ensures placement { (layout_offset result, shape_of result, layout_strides result) ≡ placement_of layout }
+    ensures placement { as_placement (layout_offset result) (shape_of result) (layout_strides result) ≡ placement_of layout }
     ensures elements { (i : List ℕ) → element_at result i ≡ inside (shape_of result) i (stored_at (region_stored region.entry) (place_of (layout_offset result) (layout_strides result) i)) }
 {
     ArrayBase {

@@ -80,7 +80,7 @@ use Rattle.nd_region.proofs.region.Region.from_slice.Met.{met as of_met}
 use Rattle.nd_array_core.specs.Meaning.{shape_of, element_at, layout_strides, layout_offset, storage_of, inside}
 use Rattle.nd_array_core.specs.Places.{stored_at}
 use Rattle.nd_array_core.specs.base.Given.{IsLaidOut}
-use Rattle.nd_layout.specs.Placements.{placement_of}
+use Rattle.nd_layout.specs.Placements.{as_placement, placement_of}
 use Rattle.nd_array_core.specs.scoped.Tasks.{LiesBy}
 use Rattle.nd_array_core.specs.scoped.Sources.{GivenShape, meant_by}
 use Rattle.nd_array_core.specs.contracts.base.constructors.GivenIn as given_in
@@ -92,7 +92,7 @@ use Rattle.nd_array_core.specs.contracts.base.array.ArrayBase.{the_row as array_
 use Rattle.nd_array_core.proofs.base.array.ArrayBase.TheLaws.{the_row_laws as array_laws}
 use Rattle.nd_array_core.proofs.lending.ResultParts.{ok_typed, err_typed, ok_of, err_of, result_parts}
 use Rattle.nd_array_core.proofs.lending.Said.{says_six}
-use Rattle.nd_array_core.proofs.lending.SliceView.{seen_placement, region_sound, element_given}
+use Rattle.nd_array_core.proofs.lending.SliceView.{region_sound, element_given}
 use Rattle.nd_array_core.specs.contracts.base.constructors.laid_out as W
 use Rattle.nd_array_core.proofs.base.constructors.laid_out.Met.{met as laid_met}
 use Rattle.nd_array_core.specs.contracts.base.constructors.region_laid_out as V
@@ -253,13 +253,13 @@ module _ (A D P T G B S : RattleType) (d : dimension.Ghosts D.Denot P.Denot T.De
       Shows r = (shape_of r ≡ given.0) × (layout_strides r ≡ given_strides given.0 given.1 given.2) × (layout_offset r ≡ offset_given given.0 given.2)
           × ((i : List ℕ) → element_at r i ≡ inside given.0 i (stored_at (slice_get xs.now) (given_place given.0 given.1 given.2 i)))
 
-      shows_given : (lay : Lay.Denot) (x : (Rg κs).Denot) (r : (View κs).Denot) → Lies (Ok lay) → IsWhole x xs.now → seen_placement (layout_offset r) (shape_of r) (layout_strides r) ≡ placement_of lay
+      shows_given : (lay : Lay.Denot) (x : (Rg κs).Denot) (r : (View κs).Denot) → Lies (Ok lay) → IsWhole x xs.now → as_placement (layout_offset r) (shape_of r) (layout_strides r) ≡ placement_of lay
           → ((i : List ℕ) → element_at r i ≡ inside (shape_of r) i (stored_at (region_stored x) (place_of (layout_offset r) (layout_strides r) i))) → Shows r
       shows_given lay x r lies is_whole placement elements = (
         ap (λ m. m.lengths) placement ∙ lies.lengths_are,
         ap (λ m. m.strides) placement ∙ lies.strides_are,
         ap (λ m. m.offset) placement ∙ lies.offset_is,
-        λ i. elements i ∙ element_given xs.now given (placement_of lay) lies x is_whole (seen_placement (layout_offset r) (shape_of r) (layout_strides r)) placement i,
+        λ i. elements i ∙ element_given xs.now given (placement_of lay) lies x is_whole (as_placement (layout_offset r) (shape_of r) (layout_strides r)) placement i,
       )
 
       accepted_end : (lay : Lay.Denot) (x : (Rg κs).Denot) (r : (View κs).Denot) (v : Val) → Accepted (Ok lay) → (storage_of r).region ≡ x → Shows r
@@ -275,7 +275,7 @@ module _ (A D P T G B S : RattleType) (d : dimension.Ghosts D.Denot P.Denot T.De
           says_six ! (tt, accepted, shown.0, shown.1, shown.2, shown.3) $ done !
 
       abbrev Lays : Lay.Denot → (View κs).Denot → Type 0
-      Lays lay m = seen_placement (layout_offset m) (shape_of m) (layout_strides m) ≡ placement_of lay
+      Lays lay m = as_placement (layout_offset m) (shape_of m) (layout_strides m) ≡ placement_of lay
 
       abbrev Elements : (Rg κs).Denot → (View κs).Denot → Type 0
       Elements x m = (i : List ℕ) → element_at m i ≡ inside (shape_of m) i (stored_at (region_stored x) (place_of (layout_offset m) (layout_strides m) i))

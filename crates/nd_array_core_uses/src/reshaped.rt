@@ -1,0 +1,41 @@
+//! Arrays under another shape, and their elements as one slice: no element is copied.
+ghost use Rattle.std.specs.Prelude.{◌≡◌, ◌∷◌, [], ℕ, List, IfOk};
+ghost use Rattle.nd_shape_and_slice.specs.declared.builder.Order.TheVariants.{RowMajor};
+ghost use Rattle.nd_array_core.specs.Meaning.{shape_of, element_at, meaning_of, inside};
+ghost use Rattle.nd_array_core.specs.Joined.{elements_of};
+ghost use Rattle.nd_array_core.specs.reshape.Regrouped.{regrouped_index};
+ghost use Rattle.nd_array_core.specs.reshape.RunSlices.{IsStandardArray, IsRunArray, IsInMemoryOrder};
+
+use nd_array_core::{Array, ArrayView};
+use nd_shape_and_slice::{Dimension, Ix2, Ix3, ShapeError};
+
+/// An image of a height, a width and colours, as a list of that many pixels with their colours. Each sample keeps its
+/// row-major rank.
+pub fn pixels_of<A: Drop>(
+    image: Array<A, Ix3>,
+    count: usize,
+    colours: usize,
+) -> Result<Array<A, Ix2>, ShapeError>
+    ensures shape { IfOk result (λ pixels. shape_of pixels ≡ count ∷ colours ∷ []) }
+    ensures elements { IfOk result (λ pixels. (i : List ℕ) → element_at pixels i ≡ inside (count ∷ colours ∷ []) i (element_at image (regrouped_index RowMajor (shape_of image) (count ∷ colours ∷ []) i))) }
+{
+    image.into_shape_with_order((count, colours))
+}
+
+/// The elements of a view in the standard layout, for as long as what it is a view of.
+pub fn row_major_slice<'a, A, D: Dimension>(view: &ArrayView<'a, A, D>) -> &'a [A]
+    requires { IsStandardArray view.now }
+    ensures { result.now ≡ elements_of (meaning_of view.now) }
+{
+    view.to_slice().unwrap()
+}
+
+/// The elements of a view whose places are a run, in the order of their places, or else a slice of the caller's.
+pub fn run_or<'a, A, D: Dimension>(view: &ArrayView<'a, A, D>, other: &'a [A]) -> &'a [A]
+    ensures { IsRunArray view.now → IsInMemoryOrder view.now result.now }
+{
+    match view.to_slice_memory_order() {
+        Some(elements) => elements,
+        None => other,
+    }
+}
