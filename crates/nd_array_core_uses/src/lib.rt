@@ -16,11 +16,8 @@ mod lent_views;
 mod made;
 mod parts_written;
 mod pixels;
-<<<<<<< HEAD
 mod rebuilt;
-=======
 mod reshaped;
->>>>>>> h_rs
 mod strides;
 mod two_calls;
 mod two_parts;
@@ -46,11 +43,8 @@ pub use parts_written::{
     write_in_part,
 };
 pub use pixels::{checkerboard, checkerboard_of_references, row_sum, swap_rows};
-<<<<<<< HEAD
 pub use rebuilt::{rows_reversed, rows_reversed_twice};
-=======
 pub use reshaped::{pixels_of, row_major_slice, run_or};
->>>>>>> h_rs
 pub use strides::{row_repeated, turned_at_the_least_stride};
 pub use two_calls::{
     column_of, column_of_numbers, column_of_owned, fill_then_get, fill_then_get_number, flip_both,
