@@ -1,7 +1,7 @@
 //! Other shapes of the same elements, and elements as slices.
 
 use nd_array_core::{Array, Array2, Array3};
-use nd_shape_and_slice::{Axis, Dimension, ErrorKind, Order, ShapeBuilder, ShapeError, Slice};
+use nd_shape_and_slice::{Axis, Dimension, ErrorKind, Order, ShapeBuilder, ShapeError};
 use nd_test_arrays::{array_of, numbers, rows_listed};
 use std::test::Fail;
 
@@ -75,24 +75,6 @@ fn no_elements_in_another_shape(rt: HostRuntime) -> Result<(), Fail> {
 }
 
 #[test]
-fn slices_of_the_standard_layout(rt: HostRuntime) -> Result<(), Fail> {
-    let array = one_to_six(&rt)?;
-    assert!(rt; array.is_standard_layout());
-    assert_eq!(rt; array.as_slice(), Some([1, 2, 3, 4, 5, 6].as_slice()));
-    let second = array.index_axis(Axis(0), 1);
-    assert_eq!(rt; second.to_slice(), Some([4, 5, 6].as_slice()));
-    let columns = array.slice_axis(Axis(1), Slice::new(0, Some(2), 1));
-    assert!(rt; !columns.is_standard_layout());
-    assert_eq!(rt; columns.as_slice(), None);
-    assert_eq!(rt; array.t().as_slice(), None);
-    assert_eq!(rt;
-        columns.index_axis(Axis(0), 1).to_slice(),
-        Some([4, 5].as_slice())
-    );
-    Ok(())
-}
-
-#[test]
 fn the_first_order_that_fits(rt: HostRuntime) -> Result<(), Fail> {
     let rows = reshaped(one_to_six(&rt)?.into_shape((3, 2)))?;
     assert_eq!(rt; rows.strides(), [2, 1].as_slice());
@@ -108,28 +90,5 @@ fn the_first_order_that_fits(rt: HostRuntime) -> Result<(), Fail> {
     assert_eq!(rt; refused, Some(ErrorKind::IncompatibleLayout));
     let refused = cause(one_to_six(&rt)?.into_shape((2, 2)));
     assert_eq!(rt; refused, Some(ErrorKind::IncompatibleShape));
-    Ok(())
-}
-
-#[test]
-fn slices_of_runs(rt: HostRuntime) -> Result<(), Fail> {
-    let mut array = one_to_six(&rt)?;
-    array.invert_axis(Axis(1));
-    assert_eq!(rt; array.as_slice(), None);
-    assert_eq!(rt;
-        array.as_slice_memory_order(),
-        Some([1, 2, 3, 4, 5, 6].as_slice())
-    );
-    let turned = array.t();
-    assert_eq!(rt;
-        turned.to_slice_memory_order(),
-        Some([1, 2, 3, 4, 5, 6].as_slice())
-    );
-    let second = turned.slice_axis(Axis(1), Slice::new(1, Some(2), 1));
-    assert_eq!(rt; second.to_slice_memory_order(), Some([4, 5, 6].as_slice()));
-    let outer = turned.slice_axis(Axis(0), Slice::new(0, None, 2));
-    assert_eq!(rt; outer.to_slice_memory_order(), None);
-    let none = turned.slice_axis(Axis(1), Slice::new(1, Some(1), 1));
-    assert!(rt; none.as_slice_memory_order().is_some());
     Ok(())
 }
