@@ -5,7 +5,7 @@ ghost use Rattle.nd_shape_and_slice.specs.Shape.{size_of, HasCheckedSize};
 ghost use Rattle.nd_layout.specs.Places.{ReachesPlaces};
 ghost use Rattle.nd_layout.specs.Walk.{place_at_rank};
 
-use nd_layout::Walk;
+use nd_layout::{Lanes, Walk};
 
 /// Writes the place of each index, in row-major order.
 fn list_places(first: usize, lengths: &[usize], strides: &[isize], out: &mut [usize])
@@ -53,34 +53,24 @@ fn walks_end(rt: HostRuntime) {
     assert_eq!(rt; Walk::new(7, &[2, 0], &[1, 1]).place(), None);
 }
 
-/// Whether each lane is a run of consecutive places.
-fn all_steps_are_one(first: usize, lengths: &[usize], strides: &[isize]) -> bool
-    requires as_many { length strides.now ≡ length lengths.now }
-    requires few { length lengths.now ≤ 32 }
-    requires checked { HasCheckedSize lengths.now }
-    requires reach { ReachesPlaces first lengths.now strides.now }
-{
-    let mut lanes = Lanes::new(first, lengths, strides);
-    for _ in 0..lengths.len() {
-        if let Some(lane) = lanes.next() {
-            if lane.stride != 1 {
-                return false;
-            }
-        }
+/// The place, the count and the stride of the next lane.
+fn next_lane(lanes: &mut Lanes<'_>) -> Option<(usize, usize, isize)> {
+    match lanes.next() {
+        Some(lane) => Some((lane.place, lane.count, lane.stride)),
+        None => None,
     }
-    true
 }
 
 #[test]
 fn lanes(rt: HostRuntime) {
     let mut rows = Lanes::new(4, &[2, 3], &[-3, 1]);
-    assert_eq!(rt; rows.next(), Some(lane(4, 3, 1)));
-    assert_eq!(rt; rows.next(), Some(lane(1, 3, 1)));
-    assert_eq!(rt; rows.next(), None);
-    assert_eq!(rt; rows.next(), None);
+    assert_eq!(rt; next_lane(&mut rows), Some((4, 3, 1)));
+    assert_eq!(rt; next_lane(&mut rows), Some((1, 3, 1)));
+    assert_eq!(rt; next_lane(&mut rows), None);
+    assert_eq!(rt; next_lane(&mut rows), None);
     let mut one = Lanes::new(7, &[], &[]);
-    assert_eq!(rt; one.next(), Some(lane(7, 1, 0)));
-    assert_eq!(rt; one.next(), None);
-    assert_eq!(rt; Lanes::new(7, &[2, 0], &[1, 1]).next(), None);
-    assert_eq!(rt; Lanes::new(7, &[0, 2], &[1, 1]).next(), None);
+    assert_eq!(rt; next_lane(&mut one), Some((7, 1, 0)));
+    assert_eq!(rt; next_lane(&mut one), None);
+    assert_eq!(rt; next_lane(&mut Lanes::new(7, &[2, 0], &[1, 1])), None);
+    assert_eq!(rt; next_lane(&mut Lanes::new(7, &[0, 2], &[1, 1])), None);
 }
