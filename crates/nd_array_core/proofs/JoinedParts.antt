@@ -9,11 +9,11 @@ use Rattle.nd_shape_and_slice.specs.Maps.{lower_shape, upper_shape, upper_index}
 use Rattle.nd_layout.proofs.Distinct.{in_box-set}
 use Rattle.nd_array_core.specs.Meaning.{Meaning, inside}
 use Rattle.nd_array_core.specs.Laws.{NothingOutside}
-use Rattle.nd_array_core.specs.Joined.{lower_of, upper_of, joined_shape, joined, SplitAndJoined}
+use Rattle.nd_array_core.specs.Joined.{lower_of, upper_of, concatenated_shape, concatenated, SplitAndJoined}
 use Rattle.nd_array_core.proofs.LawProofs.{same_meaning, inside_here, inside_kept, inside_box}
 
 -- the axis is as long as both parts
-parts_shape : (ns : List ℕ) (a k : ℕ) → a < length ns → k ≤ get_or ns a 0 → joined_shape (lower_shape ns a k) (upper_shape ns a k) a ≡ ns
+parts_shape : (ns : List ℕ) (a k : ℕ) → a < length ns → k ≤ get_or ns a 0 → concatenated_shape (lower_shape ns a k) (upper_shape ns a k) a ≡ ns
 parts_shape ns a k on within =
     let n = get_or ns a 0 in
     set-set ns a k (get_or (set ns a k) a 0 + get_or (set ns a (n - k)) a 0)
@@ -49,10 +49,10 @@ module _ {A : Type 0} (m : Meaning A) (a k : ℕ) (on : a < length m.shape) (wit
       ∙ ap m.at (set_back i a k wide high)))
       (cases_lt c k)
 
-  pub split_and_joined_at : NothingOutside m → joined a (lower_of a k m) (upper_of a k m) ≡ m
+  pub split_and_joined_at : NothingOutside m → concatenated a (lower_of a k m) (upper_of a k m) ≡ m
   split_and_joined_at nothing =
       let shape = parts_shape m.shape a k on within in
-      same_meaning m (joined a (lower_of a k m) (upper_of a k m)).shape (joined a (lower_of a k m) (upper_of a k m)).at shape
+      same_meaning m (concatenated a (lower_of a k m) (upper_of a k m)).shape (concatenated a (lower_of a k m) (upper_of a k m)).at shape
       (λ i.
       let x = cond (ltb (get_or i a 0) (get_or (lower_shape m.shape a k) a 0)) ((lower_of a k m).at i) ((upper_of a k m).at (set i a (get_or i a 0 - get_or (lower_shape m.shape a k) a 0))) in
       ap (λ l. inside l i x) shape ∙ (inside_here m.shape i x (m.at i) (either_part i) ∙ inside_kept m.shape i (m.at i) (nothing i)))

@@ -9,7 +9,7 @@ use Rattle.nd_shape_and_slice.proofs.RankIndexes.{in_box-index_at, row_rank-inde
 use Rattle.nd_layout.proofs.Integers.{sums}
 use Rattle.nd_layout.specs.Ranks.{IsStandard}
 use Rattle.nd_array_core.specs.Meaning.{Meaning, inside}
-use Rattle.nd_array_core.specs.Joined.{elements_of}
+use Rattle.nd_array_core.specs.Joined.{row_major_elements}
 use Rattle.nd_array_core.specs.Places.{stored_at, names_place, HoldsAll}
 
 -- what a map shows along a list of indexes, one after the other
@@ -41,5 +41,5 @@ module _ {A : Type 0} (stored : ℕ → Option A) (offset : ℕ) (ns : List ℕ)
       ∙ rw (in_box-index_at ns k under, rank_place k under) (each k d under))
 
 -- two meanings with the same shape and the same element at each index have the same elements
-pub same_elements : {A : Type 0} (m n : Meaning A) → m.shape ≡ n.shape → ((i : List ℕ) → m.at i ≡ n.at i) → elements_of m ≡ elements_of n
+pub same_elements : {A : Type 0} (m n : Meaning A) → m.shape ≡ n.shape → ((i : List ℕ) → m.at i ≡ n.at i) → row_major_elements m ≡ row_major_elements n
 same_elements m n shape at = λ k. filter_map (λ i. at i k) (indexes_of (shape k))

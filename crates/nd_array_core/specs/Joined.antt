@@ -7,8 +7,8 @@ use Rattle.nd_array_core.specs.Meaning.{Meaning, inside, meaning_through}
 use Rattle.nd_array_core.specs.Laws.{NothingOutside}
 
 -- the elements in row-major order
-abbrev pub elements_of : {A : Type 0} → Meaning A → List A
-elements_of m = filter_map m.at (indexes_of m.shape)
+abbrev pub row_major_elements : {A : Type 0} → Meaning A → List A
+row_major_elements m = filter_map m.at (indexes_of m.shape)
 
 -- the coordinates of an axis below k, and those from k on
 abbrev pub lower_of : {A : Type 0} → ℕ → ℕ → Meaning A → Meaning A
@@ -18,16 +18,16 @@ abbrev pub upper_of : {A : Type 0} → ℕ → ℕ → Meaning A → Meaning A
 upper_of a k m = meaning_through (upper_shape m.shape a k) (upper_index a k) m
 
 -- the first array's lengths, but that the axis is as long as in both
-abbrev pub joined_shape : List ℕ → List ℕ → ℕ → List ℕ
-joined_shape ns ms a = slice_set ns a (slice_index ns a + slice_index ms a)
+abbrev pub concatenated_shape : List ℕ → List ℕ → ℕ → List ℕ
+concatenated_shape ns ms a = slice_set ns a (slice_index ns a + slice_index ms a)
 
 -- one array behind another along an axis
-abbrev pub joined : {A : Type 0} → ℕ → Meaning A → Meaning A → Meaning A
-joined a m n = record {
-  shape = joined_shape m.shape n.shape a;
-  at = λ i. inside (joined_shape m.shape n.shape a) i (if nat_lt (slice_index i a) (slice_index m.shape a) then m.at i else n.at (slice_set i a (slice_index i a - slice_index m.shape a)));
+abbrev pub concatenated : {A : Type 0} → ℕ → Meaning A → Meaning A → Meaning A
+concatenated a m n = record {
+  shape = concatenated_shape m.shape n.shape a;
+  at = λ i. inside (concatenated_shape m.shape n.shape a) i (if nat_lt (slice_index i a) (slice_index m.shape a) then m.at i else n.at (slice_set i a (slice_index i a - slice_index m.shape a)));
 }
 
 -- the parts of a split, one behind the other, are the array
 abbrev pub SplitAndJoined : Type 0 → Type 0
-SplitAndJoined A = (m : Meaning A) (a k : ℕ) → NothingOutside m → a < length m.shape → k ≤ slice_index m.shape a → joined a (lower_of a k m) (upper_of a k m) ≡ m
+SplitAndJoined A = (m : Meaning A) (a k : ℕ) → NothingOutside m → a < length m.shape → k ≤ slice_index m.shape a → concatenated a (lower_of a k m) (upper_of a k m) ≡ m

@@ -2,7 +2,7 @@
 ghost use Rattle.std.specs.Prelude.{◌≡◌, ◌∷◌, [], ℕ, List, IfOk};
 ghost use Rattle.nd_shape_and_slice.specs.declared.builder.Order.TheVariants.{RowMajor};
 ghost use Rattle.nd_array_core.specs.Meaning.{shape_of, element_at, meaning_of, inside};
-ghost use Rattle.nd_array_core.specs.Joined.{elements_of};
+ghost use Rattle.nd_array_core.specs.Joined.{row_major_elements};
 ghost use Rattle.nd_array_core.specs.reshape.Regrouped.{regrouped_index};
 ghost use Rattle.nd_array_core.specs.reshape.RunSlices.{IsStandardArray, IsRunArray, IsInMemoryOrder};
 
@@ -25,7 +25,7 @@ pub fn pixels_of<A: Drop>(
 /// The elements of a view in the standard layout, for as long as what it is a view of.
 pub fn row_major_slice<'a, A, D: Dimension>(view: &ArrayView<'a, A, D>) -> &'a [A]
     requires { IsStandardArray view.now }
-    ensures { result.now ≡ elements_of (meaning_of view.now) }
+    ensures { result.now ≡ row_major_elements (meaning_of view.now) }
 {
     view.to_slice().unwrap()
 }

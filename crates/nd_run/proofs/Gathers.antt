@@ -13,7 +13,7 @@ use Rattle.std.proofs.lemmas.List.Elements.{filter_map-append}
 use Rattle.nd_shape_and_slice.specs.Shape.{size_of, index_at, indexes_of}
 use Rattle.nd_shape_and_slice.proofs.Ranks.{length-indexes_of, get_or-indexes_of}
 use Rattle.nd_array_core.specs.Meaning.{Meaning}
-use Rattle.nd_run.specs.Fold.{row_major_elements}
+use Rattle.nd_array_core.specs.Joined.{row_major_elements}
 
 -- the items are the elements of the ranks below this one, and the buffer has a place for each coordinate
 pub record IsGatheredBelow {A : Type 0} (m : Meaning A) (items : List A) (index : List ℕ) (rank : ℕ) : Type 0 where

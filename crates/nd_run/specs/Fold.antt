@@ -1,10 +1,10 @@
 -- What a list of calls answers, and what it leaves of an array's meaning: a fold over the calls. No view, borrow
 -- or storage occurs.
 use Rattle.std.specs.Prelude.{◌≡◌, ℕ, ◌-◌, nat_lt, Option, None, if◌then◌else◌, true, ◌||◌, List, [], ◌∷◌, ◌++◌, Result, Ok, Err, IsOk, ◌⊎◌}
-use Rattle.std.specs.List.{filter_map}
 use Rattle.std.specs.Result.{result_unwrap_or}
 use Rattle.nd_shape_and_slice.specs.Shape.{indexes_of, in_box, index_at, size_of}
 use Rattle.nd_array_core.specs.Meaning.{Meaning, meaning_through}
+use Rattle.nd_array_core.specs.Joined.{row_major_elements}
 use Rattle.nd_run.specs.Calls.{AskedStep, Asking, AskShape, AskElements, AskElement, AskFirst, AskLast, Asked, Keeping, About, Writing, SplitWriting, Said, SaidDone, SaidRefused, SaidShape, SaidElements, SaidElement, said_reply}
 use Rattle.std.specs.Prelude.{map}
 use Rattle.nd_run.specs.Steps.{refusal, keep_refusal, unless, step_shape, step_index, shape_along, index_along}
@@ -13,10 +13,6 @@ use Rattle.nd_run.specs.declared.run.RunFault.{RunFault}
 use Rattle.nd_run.specs.declared.run.RunFault.TheVariants as faults
 use Rattle.nd_run.specs.declared.cause.Cause.{Cause}
 use Rattle.nd_run.specs.declared.cause.Cause.TheVariants as causes
-
--- the elements in row-major order
-abbrev pub row_major_elements : {A : Type 0} → Meaning A → List A
-row_major_elements m = filter_map m.at (indexes_of m.shape)
 
 -- what is seen after a step
 abbrev pub step_meaning : {A : Type 0} → AskedStep → Meaning A → Meaning A

@@ -3,7 +3,8 @@ use Rattle.std.specs.Prelude.{◌≡◌, ℕ, ℤ, List, slice_get}
 use Rattle.nd_shape_and_slice.specs.Shape.{row_rank}
 use Rattle.nd_array_core.specs.Meaning.{Meaning, inside}
 use Rattle.nd_run.specs.Calls.{Said}
-use Rattle.nd_run.specs.Fold.{replies_to, end_of, row_major_elements, StopsBefore}
+use Rattle.nd_run.specs.Fold.{replies_to, end_of, StopsBefore}
+use Rattle.nd_array_core.specs.Joined.{row_major_elements}
 use Rattle.nd_run.specs.Script.{AskedScript}
 
 -- the array that a script starts with: its elements in row-major order

@@ -4,7 +4,8 @@ ghost use Rattle.std.specs.Prelude.{◌≡◌, ◌≤◌, ◌||◌, ◌==◌, le
 ghost use Rattle.nd_shape_and_slice.specs.Shape.{HasCheckedSize, size_of, row_rank};
 ghost use Rattle.nd_array_core.specs.Meaning.{shape_of, meaning_of, inside};
 ghost use Rattle.nd_run.specs.Calls.{said_reply};
-ghost use Rattle.nd_run.specs.Fold.{row_major_elements, replies_before};
+ghost use Rattle.nd_run.specs.Fold.{replies_before};
+ghost use Rattle.nd_array_core.specs.Joined.{row_major_elements};
 ghost use Rattle.nd_run.specs.Meaning.{Runs, Stops, start_of};
 ghost use Rattle.nd_run.specs.Endings.{OutOfMemory, Driven, ending};
 ghost use Rattle.nd_run.specs.Script.{asked_script};

@@ -3,7 +3,8 @@
 ghost use Rattle.std.specs.Prelude.{◌≡◌, map, MatchResult, Ok, Err, IfOk, IfErr, OnErr};
 ghost use Rattle.nd_array_core.specs.Meaning.{meaning_of, element_at};
 ghost use Rattle.nd_run.specs.Calls.{asked_call, asked_step, asking, said_reply, Keeping, About, SaidElement};
-ghost use Rattle.nd_run.specs.Fold.{path_result, LeadsAlong, answer_to, element_of_rank, reply_to, meaning_after, replies_to, end_of, row_major_elements, number_of, MayLackMemory, StopsBefore, replies_before};
+ghost use Rattle.nd_run.specs.Fold.{path_result, LeadsAlong, answer_to, element_of_rank, reply_to, meaning_after, replies_to, end_of, number_of, MayLackMemory, StopsBefore, replies_before};
+ghost use Rattle.nd_array_core.specs.Joined.{row_major_elements};
 
 use crate::calls::{Call, Question, Reply, Step};
 use crate::cause::Cause;

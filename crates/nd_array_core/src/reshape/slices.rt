@@ -5,7 +5,7 @@ ghost use Rattle.std.specs.Prelude.{◌↔◌, ◌≡◌, ◌+◌, ◌-◌, ◌<
 ghost use Rattle.std.specs.Option.{is_some};
 ghost use Rattle.nd_layout.specs.Strides.{reach_down};
 ghost use Rattle.nd_array_core.specs.Meaning.{meaning_of};
-ghost use Rattle.nd_array_core.specs.Joined.{elements_of};
+ghost use Rattle.nd_array_core.specs.Joined.{row_major_elements};
 ghost use Rattle.nd_array_core.specs.base.Storages.{shown_by};
 ghost use Rattle.nd_array_core.specs.reshape.RunSlices.{IsStandardArray, IsRunArray, IsInMemoryOrder};
 
@@ -38,7 +38,7 @@ impl<'a, A, D: Dimension> ArrayView<'a, A, D> {
     /// lie so (`is_standard_layout`). ndarray's `to_slice`.
     pub fn to_slice(&self) -> Option<&'a [A]>
         ensures some { IsSome result ↔ IsStandardArray self.now }
-        ensures elements { IfSome result (λ xs. xs.now ≡ elements_of (meaning_of self.now)) }
+        ensures elements { IfSome result (λ xs. xs.now ≡ row_major_elements (meaning_of self.now)) }
     {
         if self.is_standard_layout() {
             let storage = self.storage;
@@ -70,7 +70,7 @@ impl<S: Data, D: Dimension> ArrayBase<S, D> {
     /// ndarray's `as_slice`.
     pub fn as_slice(&self) -> Option<&[S::Elem]>
         ensures some { IsSome result ↔ IsStandardArray self.now }
-        ensures elements { IfSome result (λ xs. xs.now ≡ elements_of (meaning_of self.now)) }
+        ensures elements { IfSome result (λ xs. xs.now ≡ row_major_elements (meaning_of self.now)) }
     {
         self.view().to_slice()
     }

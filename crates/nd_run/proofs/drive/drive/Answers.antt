@@ -3,7 +3,8 @@ use Rattle.nd_array_core.specs.Meaning.{meaning_of, shape_of}
 use Rattle.nd_run.specs.Calls.{said_reply}
 use Rattle.nd_run.specs.Endings.{Finished, OutOfMemory, ending_text, status_of}
 use Rattle.nd_run.specs.Puts.{TakesText}
-use Rattle.nd_run.specs.Fold.{row_major_elements, replies_before}
+use Rattle.nd_run.specs.Fold.{replies_before}
+use Rattle.nd_array_core.specs.Joined.{row_major_elements}
 use Rattle.nd_run.specs.Meaning.{Runs, Stops}
 use Rattle.nd_run.specs.Watched.{watched_inner, watched_failed}
 use Rattle.nd_run.proofs.Driving.{ran_is_driven, unloaded_is_driven}

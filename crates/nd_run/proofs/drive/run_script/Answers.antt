@@ -1,7 +1,7 @@
 use Rattle.std.proofs.Common.{◌≡◌, ap, map}
 use Rattle.nd_array_core.specs.Meaning.{meaning_of}
 use Rattle.nd_run.specs.Calls.{asked_call}
-use Rattle.nd_run.specs.Fold.{row_major_elements}
+use Rattle.nd_array_core.specs.Joined.{row_major_elements}
 use Rattle.nd_run.specs.Meaning.{start_of}
 use Rattle.nd_run.specs.Script.{asked_script}
 use Rattle.nd_run.proofs.drive.run_script.Goals as goal
