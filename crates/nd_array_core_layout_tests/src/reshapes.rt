@@ -85,6 +85,7 @@ fn the_first_order_that_fits(rt: HostRuntime) -> Result<(), Fail> {
         [1, 3, 5, 2, 4, 6].as_slice()
     );
     let mut inverted = one_to_six(&rt)?;
+    let (_rows, _columns) = inverted.dim();
     inverted.invert_axis(Axis(0));
     let refused = cause(inverted.into_shape(6));
     assert_eq!(rt; refused, Some(ErrorKind::IncompatibleLayout));
