@@ -3,9 +3,9 @@ use Rattle.std.proofs.Common.{◌≡◌, ℕ, zero, suc, ◌+◌, ◌<◌, Bool,
 use Rattle.std.specs.Prelude.{Option, None, Some, slice_get, if◌then◌else◌}
 use Rattle.std.specs.List.{FoldsTo}
 use Rattle.nd_shape_and_slice.specs.Shape.{in_box, size_of}
-use Rattle.nd_layout.specs.Ranks.{rank_in}
+use Rattle.nd_layout.specs.Ranks.{rank_in, index_in}
 use Rattle.nd_array_core.specs.Meaning.{inside}
-use Rattle.nd_array_core.specs.FreeOrder.{index_in, AnswersThere, HasAnswers, AskableInAnyOrder}
+use Rattle.nd_array_core.specs.FreeOrder.{AnswersThere, HasAnswers, AskableInAnyOrder}
 use Rattle.nd_array_core.specs.base.Fresh.{BuiltShape, found_by_rank}
 use Rattle.nd_array_core.proofs.FreeOrder.{IsNumbering, listed, listed_part, listed_all, folds_weaker, folds_more, done_at_each}
 use Rattle.nd_array_core.proofs.Numbered.{order_numbers}
@@ -22,7 +22,7 @@ got_still (x ∷ xs) ys zero y e = e
 got_still (x ∷ xs) ys (suc k) y e = got_still xs ys k y e
 
 module _ {P A : Type 0} (answers : P → List ℕ → A → P → Type 0) (built : BuiltShape) where
-  abbrev numbers : IsNumbering built.0 (index_in built.1 built.0) (rank_in built.1 built.0)
+  abbrev numbers : IsNumbering built.0 (size_of built.0) (index_in built.1 built.0) (rank_in built.1 built.0)
   numbers = order_numbers built.1 built.0
 
   -- the calls for the ranks below k answered the items

@@ -4,19 +4,19 @@ use Rattle.std.specs.Prelude.{◌&&◌, nat_lt}
 use Rattle.std.specs.List.{FoldsTo, count_by}
 use Rattle.std.proofs.lemmas.Bool.Decides.{nat_tests}
 use Rattle.std.proofs.lemmas.List.Sums.{sum_by-cons, sum_by_push}
-use Rattle.nd_shape_and_slice.specs.Shape.{in_box, size_of}
+use Rattle.nd_shape_and_slice.specs.Shape.{in_box}
 use Rattle.nd_array_core.specs.base.Writes.{is_index}
 use Rattle.nd_array_core.specs.FreeOrder.{ListsBox, ListsPartOfBox}
 use Rattle.nd_array_core.proofs.WriteStep.{is_index_same, is_index_refl}
 
 -- how often an index stands in a list: one more where it stands at the head, or at the end
-abbrev times : List ℕ → List (List ℕ) → ℕ
+abbrev pub times : List ℕ → List (List ℕ) → ℕ
 times i listing = count_by (is_index i) listing
 
-abbrev once_if : Bool → ℕ
+abbrev pub once_if : Bool → ℕ
 once_if b = cond b 1 0
 
-times_head : (i j : List ℕ) (js : List (List ℕ)) → times i (j ∷ js) ≡ once_if (is_index i j) + times i js
+pub times_head : (i j : List ℕ) (js : List (List ℕ)) → times i (j ∷ js) ≡ once_if (is_index i j) + times i js
 times_head i j js = sum_by-cons (λ x. cond (is_index i x) 1 0) j js
 
 times_end : (i j : List ℕ) (js : List (List ℕ)) → times i (js ++ j ∷ []) ≡ times i js + once_if (is_index i j)
@@ -32,21 +32,21 @@ pub folds_more : {P A : Type 0} (R : P → A → P → Type 0) (xs : List A) (x 
 folds_more R [] x p q r run step = (r, subst (λ s. R s x r) (sym run) step, refl)
 folds_more R (y ∷ ys) x p q r run step = (run.0, run.1, folds_more R ys x run.0 q r run.2 step)
 
--- the indexes of a shape, numbered from 0 on
-pub record IsNumbering (shape : List ℕ) (index : ℕ → List ℕ) (rank : List ℕ → ℕ) : Type 0 where
-  pub inside : (r : ℕ) → r < size_of shape → in_box shape (index r) ≡ true
-  pub rank_is : (r : ℕ) → r < size_of shape → rank (index r) ≡ r
+-- the indexes of a shape, numbered from 0 on, as many as counted
+pub record IsNumbering (shape : List ℕ) (count : ℕ) (index : ℕ → List ℕ) (rank : List ℕ → ℕ) : Type 0 where
+  pub inside : (r : ℕ) → r < count → in_box shape (index r) ≡ true
+  pub rank_is : (r : ℕ) → r < count → rank (index r) ≡ r
   pub index_is : (i : List ℕ) → in_box shape i ≡ true → index (rank i) ≡ i
-  pub below : (i : List ℕ) → in_box shape i ≡ true → rank i < size_of shape
+  pub below : (i : List ℕ) → in_box shape i ≡ true → rank i < count
 
 -- the indexes of the ranks below k
 abbrev pub listed : (ℕ → List ℕ) → ℕ → List (List ℕ)
 listed index zero = []
 listed index (suc k) = listed index k ++ index k ∷ []
 
-module _ {shape : List ℕ} {index : ℕ → List ℕ} {rank : List ℕ → ℕ} (numbered : IsNumbering shape index rank) where
+module _ {shape : List ℕ} {count : ℕ} {index : ℕ → List ℕ} {rank : List ℕ → ℕ} (numbered : IsNumbering shape count index rank) where
   -- an index is the next one exactly where its rank is
-  next_by : (i : List ℕ) (k : ℕ) → k < size_of shape → (t u : Bool) → is_index i (index k) ≡ t → in_box shape i ≡ u
+  next_by : (i : List ℕ) (k : ℕ) → k < count → (t u : Bool) → is_index i (index k) ≡ t → in_box shape i ≡ u
       → once_if (u && nat_lt (rank i) k) + once_if t ≡ once_if (u && nat_lt (rank i) (k + 1))
   next_by i k below true true e h =
       let same : rank i ≡ k = ap rank (is_index_same i (index k) e) ∙ numbered.rank_is k below in
@@ -64,7 +64,7 @@ module _ {shape : List ℕ} {index : ℕ → List ℕ} {rank : List ℕ → ℕ}
       by_rank false e = let new : nat_lt (rank i) (k + 1) ≡ false = grind (arith, nat_tests, e, other) in rw new refl
   next_by i k below false false e h = refl
 
-  count_listed : (k : ℕ) → k ≤ size_of shape → (i : List ℕ) → times i (listed index k) ≡ once_if (in_box shape i && nat_lt (rank i) k)
+  count_listed : (k : ℕ) → k ≤ count → (i : List ℕ) → times i (listed index k) ≡ once_if (in_box shape i && nat_lt (rank i) k)
   count_listed zero within i = by_box (in_box shape i)
     where
       by_box : (b : Bool) → 0 ≡ once_if (b && nat_lt (rank i) 0)
@@ -77,7 +77,7 @@ module _ {shape : List ℕ} {index : ℕ → List ℕ} {rank : List ℕ → ℕ}
       ∙ ap (λ m. once_if (in_box shape i && nat_lt (rank i) m)) (add-one k)))
 
   -- the next index stands in the list not yet
-  pub listed_part : (k : ℕ) → k < size_of shape → ListsPartOfBox shape (index k ∷ listed index k)
+  pub listed_part : (k : ℕ) → k < count → ListsPartOfBox shape (index k ∷ listed index k)
   listed_part k below i =
       let counted = times_head i (index k) (listed index k) in
       let so_far = count_listed k (omega (arith, below)) i in
@@ -91,11 +91,11 @@ module _ {shape : List ℕ} {index : ℕ → List ℕ} {rank : List ℕ → ℕ}
       at_most false c = omega arith
 
   -- all of them are the box
-  pub listed_all : ListsBox shape (listed index (size_of shape))
-  listed_all i = count_listed (size_of shape) (omega arith) i ∙ by_box (in_box shape i) refl
+  pub listed_all : ListsBox shape (listed index (count))
+  listed_all i = count_listed (count) (omega arith) i ∙ by_box (in_box shape i) refl
     where
-      by_box : (b : Bool) → in_box shape i ≡ b → once_if (b && nat_lt (rank i) (size_of shape)) ≡ once_if b
-      by_box true h = let under = numbered.below i h in let yes : nat_lt (rank i) (size_of shape) ≡ true = grind (arith, nat_tests, under) in rw yes refl
+      by_box : (b : Bool) → in_box shape i ≡ b → once_if (b && nat_lt (rank i) (count)) ≡ once_if b
+      by_box true h = let under = numbered.below i h in let yes : nat_lt (rank i) (count) ≡ true = grind (arith, nat_tests, under) in rw yes refl
       by_box false h = refl
 
 -- where each call leaves the state as it was and does something at its index, that is done at every index of the box

@@ -1,6 +1,6 @@
 -- The laws of layout calls.
 use Rattle.std.proofs.Common.{◌≡◌, ℕ, zero, suc, ◌+◌, ◌-◌, ◌<◌, ◌≤◌, Bool, true, false, not, ◌||◌, cond, eqb, ltb, List, [], ◌∷◌, length, map, reverse, replicate, get_or, set, ℤ, pos, refl, ap, sym, ◌∙◌, subst, arith, ⊎_elim}
-use Rattle.std.specs.Prelude.{Option, None, is_some}
+use Rattle.std.specs.Prelude.{Option, None, is_some, if◌then◌else◌}
 use Rattle.std.specs.List.{insert, remove, swap, position_or_len, range_with_len}
 use Rattle.std.proofs.Math.Path.{fun_ext}
 use Rattle.std.proofs.lemmas.Bool.{and_parts, and_from, lt-ltb, ltb-true, eqb-true, eq-eqb, ne_eqb, cases_eq, cases_lt}
@@ -294,6 +294,17 @@ permuted_inside ns axes each i h = in_box-unpermuted axes ns i each (length-in_b
 
 pub reversed_inside : (ns : List ℕ) → LeadsInside (reverse ns) reverse ns
 reversed_inside ns = (reverse_is_step 0 ns (zeros ns) (as_many ns)).within
+
+-- the element at a row and a column, seen through the transpose: both boxes have the same bounds
+seen_by : {A : Type 0} (x : Option A) (new old : Bool) → (old ≡ true → new ≡ true) → (if new then (if old then x else None) else None) ≡ (if old then x else None)
+seen_by x true old leads = refl
+seen_by x false true leads = absurd (cc (leads refl))
+seen_by x false false leads = refl
+
+pub transposed_pair : {A : Type 0} (ns : List ℕ) (row column : ℕ) (x : Option A) → inside (reverse ns) (row ∷ column ∷ []) (inside ns (column ∷ row ∷ []) x) ≡ inside ns (column ∷ row ∷ []) x
+transposed_pair ns row column x =
+    seen_by x (in_box (reverse ns) (row ∷ column ∷ [])) (in_box ns (column ∷ row ∷ []))
+    (λ h. reversed_inside (reverse ns) (column ∷ row ∷ []) (ap (λ l. in_box l (column ∷ row ∷ [])) (reverse-reverse ns) ∙ h))
 
 pub swapped_inside : (ns : List ℕ) (a b : ℕ) → a < length ns → b < length ns → LeadsInside (swap ns a b) (λ i. swap i a b) ns
 swapped_inside ns a b on_a on_b = (swap_is_step 0 ns (zeros ns) a b (as_many ns) on_a on_b).within

@@ -1,22 +1,25 @@
 -- The elements of an array whose places are a run, in the order of their places.
-use Rattle.std.proofs.Common.{◌≡◌, ℕ, ◌+◌, ◌-◌, ◌<◌, ◌≤◌, true, List, length, get_or, ℤ, pos, negsuc, ◌+ℤ◌, neg_ℤ, refl, ap, sym, ◌∙◌, subst, ⊎_elim, arith}
+use Rattle.std.proofs.Common.{◌≡◌, ℕ, ◌+◌, ◌-◌, ◌<◌, ◌≤◌, Bool, true, false, List, length, get_or, ℤ, pos, negsuc, ◌+ℤ◌, neg_ℤ, refl, ap, sym, ◌∙◌, subst, ⊎_elim, arith}
 use Rattle.std.proofs.Math.Path.{fun_ext}
-use Rattle.std.specs.Prelude.{◌⊎◌, Option, Some, None, is_some, slice_get}
+use Rattle.std.specs.Prelude.{◌⊎◌, Option, Some, None, is_some, IsSome, slice_get, if◌then◌else◌}
 use Rattle.std.specs.Option.{unwrap_or}
 use Rattle.std.proofs.Common.{inl, inr}
 use Rattle.std.proofs.lemmas.Option.{slice_get_cases}
-use borrow.Author.Differences.{neg_is}
 use Rattle.nd_shape_and_slice.specs.Shape.{in_box, size_of}
 use Rattle.nd_shape_and_slice.specs.Place.{displacement_of, place_of, span_of, IsSeparated}
 use Rattle.nd_shape_and_slice.proofs.RowMajor.{row_rank_below}
 use Rattle.nd_layout.specs.Ranks.{IsRun}
 use Rattle.nd_layout.specs.Strides.{reach_down}
-use Rattle.nd_layout.proofs.Integers.{sums}
 use Rattle.nd_layout.proofs.Distinct.{same_index}
 use Rattle.nd_layout.proofs.RunFrom.{above_low, above_low-is, above_low-lt, each_above_low}
+use Rattle.nd_layout.proofs.OneLane.{from_low, low_room}
 use Rattle.nd_layout.proofs.RunTest.{run_strides, run_span}
 use Rattle.nd_layout.proofs.steps.Ranked.{none_or_some}
+use Rattle.nd_layout.specs.Refusals.{elements_asked}
+use Rattle.nd_layout.proofs.steps.GivenStrides.{asked_of_some}
 use Rattle.nd_array_core.specs.Meaning.{inside}
+use Rattle.nd_array_core.specs.base.Fresh.{ClonesAreEqual, ClonesOfAllAreEqual, StoredClonesAreEqual}
+use Rattle.nd_array_core.proofs.GivenHolds.{given_holds}
 use Rattle.nd_array_core.specs.Places.{place_number, stored_at, names_place, HoldsAll}
 use Rattle.nd_array_core.specs.reshape.RunSlices.{LiesAlong}
 
@@ -25,19 +28,27 @@ is_number : {A : Type 0} (stored : ℕ → Option A) (z : ℤ) → names_place s
 is_number stored (pos p) has = (p, refl)
 is_number stored (negsuc p) has = absurd cc
 
--- so far above the lowest place
-from_low : (offset down k : ℕ) (z : ℤ) → down ≤ offset → z ≡ neg_ℤ (pos down) +ℤ pos k → pos offset +ℤ z ≡ pos (offset - down + k)
-from_low offset down k z room e = omega (arith, sums, neg_is (pos down), e, room)
-
-low_room : (offset down p : ℕ) (z : ℤ) → z ≡ neg_ℤ (pos down) +ℤ pos 0 → pos offset +ℤ z ≡ pos p → down ≤ offset
-low_room offset down p z e q = omega (arith, sums, neg_is (pos down), e, q)
-
 -- what a list holds, where a map holds it
 held_by_list : {A : Type 0} (xs : List A) (k : ℕ) (o : Option A) → k < length xs → ((d : A) → o ≡ Some (get_or xs k d)) → o ≡ slice_get xs k
 held_by_list {A} xs k o below each = by_cases (slice_get_cases xs k).1
   where
     by_cases : ((x : A) × (k < length xs) × (slice_get xs k ≡ Some x) × (get_or xs k x ≡ x)) ⊎ ((length xs ≤ k) × (slice_get xs k ≡ None)) → o ≡ slice_get xs k
     by_cases (inl there) = each there.0 ∙ ap Some there.3 ∙ sym there.2
+    by_cases (inr past) = absurd (let far = past.0 in omega (arith, far, below))
+
+-- asked twice, it is the same
+inside_twice : {A : Type 0} (ns i : List ℕ) (o : Option A) → inside ns i (inside ns i o) ≡ inside ns i o
+inside_twice ns i o = by_test (in_box ns i)
+  where
+    by_test : (t : Bool) → (if t then (if t then o else None) else None) ≡ (if t then o else None)
+    by_test true = refl
+    by_test false = refl
+
+is_there : {A : Type 0} (xs : List A) (p : ℕ) → p < length xs → IsSome (slice_get xs p)
+is_there {A} xs p below = by_cases (slice_get_cases xs p).1
+  where
+    by_cases : ((x : A) × (p < length xs) × (slice_get xs p ≡ Some x) × (get_or xs p x ≡ x)) ⊎ ((length xs ≤ p) × (slice_get xs p ≡ None)) → IsSome (slice_get xs p)
+    by_cases (inl there) = let some = there.2 in rw some refl
     by_cases (inr past) = absurd (let far = past.0 in omega (arith, far, below))
 
 module _ {A : Type 0} (stored : ℕ → Option A) (offset : ℕ) (ns : List ℕ) (ss : List ℤ) (long : length ss ≡ length ns) (holds : HoldsAll stored offset ns ss) where
@@ -99,6 +110,16 @@ module _ {A : Type 0} (stored : ℕ → Option A) (offset : ℕ) (ns : List ℕ)
         once = λ i j h q same. same_index ns ss i j long apart h q (same_number i j h q same);
       }
 
+      -- laid from the lowest place on, a list of the elements shows the same
+      full_shifted : (i : List ℕ) → in_box ns i ≡ true → stored_at (slice_get xs) (place_of (reach_down ns ss) ss i) ≡ at i
+      full_shifted i h =
+          let k = above_low ns ss (displacement_of ss i) in
+          let is = above_low-is ns ss i h in
+          let below = above_low-lt ns ss i full h in
+          let there : pos (reach_down ns ss) +ℤ displacement_of ss i ≡ pos (reach_down ns ss - reach_down ns ss + k) = from_low (reach_down ns ss) (reach_down ns ss) k (displacement_of ss i) (omega arith) is in
+          let nothing : reach_down ns ss - reach_down ns ss + k ≡ k = omega arith in
+          ap (stored_at (slice_get xs)) (there ∙ ap pos nothing) ∙ sym (shown i k h below (at_place i k is))
+
   -- and where there is none
   empty_lies : (xs : List A) → length xs ≡ size_of ns → size_of ns ≡ 0 → LiesAlong ns place at xs
   empty_lies xs count none = record {
@@ -129,6 +150,20 @@ module _ {A : Type 0} (stored : ℕ → Option A) (offset : ℕ) (ns : List ℕ)
         (λ (run : IsRun ns ss). full_lies (run_strides ns ss long some run) (run_span ns ss long some run) some xs count held)
         which)
 
+    pub run_shifted : (xs : List A) → length xs ≡ size_of ns → ((k : ℕ) (d : A) → k < size_of ns → stored (low + k) ≡ Some (get_or xs k d)) → (i : List ℕ) → inside ns i (stored_at (slice_get xs) (place_of (reach_down ns ss) ss i)) ≡ at i
+    run_shifted xs count held i = by_test (in_box ns i) refl
+      where
+        by_test : (t : Bool) → in_box ns i ≡ t → inside ns i (stored_at (slice_get xs) (place_of (reach_down ns ss) ss i)) ≡ at i
+        by_test false out = rw out refl
+        by_test true h =
+            let some : 0 < size_of ns = omega (arith, row_rank_below ns i h) in
+            let same : stored_at (slice_get xs) (place_of (reach_down ns ss) ss i) ≡ at i =
+            ⊎_elim
+            (λ (none : size_of ns ≡ 0). absurd (omega (arith, none, some)))
+            (λ (run : IsRun ns ss). full_shifted (run_strides ns ss long some run) (run_span ns ss long some run) some xs count held i h)
+            which in
+            ap (inside ns i) same ∙ inside_twice ns i (stored_at stored (place_of offset ss i))
+
 -- two arrays with the same shape, places and elements have the same elements in the order of their places
 module _ {A : Type 0} {shape shape' : List ℕ} {place place' : List ℕ → Option ℕ} {at at' : List ℕ → Option A} {xs : List A} where
   pub lies_alike : shape ≡ shape' → ((i : List ℕ) → place i ≡ place' i) → ((i : List ℕ) → at i ≡ at' i) → LiesAlong shape place at xs → LiesAlong shape' place' at' xs
@@ -136,3 +171,30 @@ module _ {A : Type 0} {shape shape' : List ℕ} {place place' : List ℕ → Opt
       let one = subst (λ ns. LiesAlong ns place at xs) same lies in
       let two = subst (λ f. LiesAlong shape' f at xs) (fun_ext places) one in
       subst (λ f. LiesAlong shape' place' f xs) (fun_ext elements) two
+
+module _ (ns : List ℕ) (ss : List ℤ) (long : length ss ≡ length ns) (which : (size_of ns ≡ 0) ⊎ IsRun ns ss) where
+  pub run_apart : 0 < size_of ns → IsSeparated ns ss
+  run_apart some = ⊎_elim (λ (none : size_of ns ≡ 0). absurd (omega (arith, none, some))) (λ (run : IsRun ns ss). run_strides ns ss long some run) which
+
+  -- a vector of as many elements as a run has holds one at each place of it, from the lowest on
+  pub run_holds : {A : Type 0} (xs : List A) → length xs ≡ size_of ns → HoldsAll (slice_get xs) (reach_down ns ss) ns ss
+  run_holds xs count i h =
+      let some : 0 < size_of ns = omega (arith, row_rank_below ns i h) in
+      let asked : elements_asked ns ss ≡ size_of ns =
+      ⊎_elim
+      (λ (none : size_of ns ≡ 0). absurd (omega (arith, none, some)))
+      (λ (run : IsRun ns ss). asked_of_some ns ss some ∙ run_span ns ss long some run)
+      which in
+      given_holds (slice_get xs) ns ss (λ p below. is_there xs p (omega (arith, below, asked, count))) i h
+
+-- clones of what lies along a list are clones of its items
+pub lies_clones : {A : Type 0} {shape : List ℕ} {place : List ℕ → Option ℕ} {at : List ℕ → Option A} (is_clone : A → A → Type 0) (xs : List A) → LiesAlong shape place at xs → ClonesOfAllAreEqual is_clone at → StoredClonesAreEqual is_clone xs
+lies_clones {A} {shape} {place} {at} is_clone xs lies equal p x e = by_cases (slice_get_cases xs p).1
+  where
+    by_cases : ((y : A) × (p < length xs) × (slice_get xs p ≡ Some y) × (get_or xs p y ≡ y)) ⊎ ((length xs ≤ p) × (slice_get xs p ≡ None)) → ClonesAreEqual is_clone x
+    by_cases (inl there) =
+        let below = there.1 in
+        let count = lies.count in
+        let i = lies.each p (omega (arith, below, count)) in
+        equal i.0 x (i.3 ∙ e)
+    by_cases (inr past) = let none = past.1 in absurd cc

@@ -1,5 +1,5 @@
 -- Under other lengths each index names the index of its rank.
-use Rattle.std.proofs.Common.{◌≡◌, ℕ, ◌%◌, ◌/◌, ◌<◌, true, List, [], ◌∷◌, length, reverse, ℤ, pos, ◌+ℤ◌, refl, ap, sym, ◌∙◌, arith}
+use Rattle.std.proofs.Common.{◌≡◌, ℕ, ◌<◌, true, List, length, reverse, ℤ, pos, ◌+ℤ◌, refl, ap, sym, ◌∙◌, arith}
 use Rattle.std.proofs.lemmas.List.{reverse-reverse, length-reverse}
 use Rattle.nd_shape_and_slice.specs.declared.builder.Order.{Order}
 use Rattle.nd_shape_and_slice.specs.declared.builder.Order.TheVariants.{RowMajor, ColumnMajor}
@@ -7,29 +7,25 @@ use Rattle.nd_shape_and_slice.specs.Shape.{in_box, size_of, column_rank, HasChec
 use Rattle.nd_shape_and_slice.specs.Place.{displacement_of, IsSeparated}
 use Rattle.nd_shape_and_slice.proofs.RankIndexes.{in_box-index_at, row_rank-index_at}
 use Rattle.nd_shape_and_slice.proofs.RowMajor.{length-in_box}
-use Rattle.nd_layout.specs.Ranks.{rank_in, Serves, IsStandard}
+use Rattle.nd_layout.specs.Ranks.{rank_in, index_in, Serves, IsStandard}
 use Rattle.nd_layout.specs.GivenStrides.{ordered_strides}
 use Rattle.nd_layout.specs.Steps.{IsViewStep, IsValid}
 use Rattle.nd_layout.specs.Places.{ReachesPlaces}
 use Rattle.nd_layout.proofs.steps.StepLemmas.{seen_reaches}
-use Rattle.nd_layout.proofs.Ranks.{column_index, in_box-column_index, column_rank-column_index}
+use Rattle.nd_layout.proofs.Ranks.{in_box-column_index, column_rank-column_index}
 use Rattle.nd_layout.proofs.Orders.{rank_in-below, in_box-ordered, displacement_of-ordered, rank_in-ordered}
 use Rattle.nd_layout.proofs.steps.Ranked.{ordered_is_ranked}
-use Rattle.nd_array_core.specs.reshape.Regrouped.{column_index_at, index_in, regrouped_index, IsInOrder, IsShapeOf, IsRefused, NoShape, NotInOrder, IsOrderTried, Rows, Columns}
+use Rattle.nd_array_core.specs.reshape.Regrouped.{regrouped_index, IsInOrder, IsShapeOf, IsRefused, NoShape, NotInOrder, IsOrderTried, Rows, Columns}
 use Rattle.nd_shape_and_slice.specs.declared.errors.ErrorKind.{ErrorKind}
-
-same_column : (ns : List ℕ) (r : ℕ) → column_index_at ns r ≡ column_index ns r
-same_column [] r = refl
-same_column (n ∷ ns) r = ap (λ is. r % n ∷ is) (same_column ns (r / n))
 
 -- the index of a rank is in the box, and has that rank
 pub index_in_within : (order : Order) (ns : List ℕ) (r : ℕ) → r < size_of ns → in_box ns (index_in order ns r) ≡ true
 index_in_within RowMajor ns r below = in_box-index_at ns r below
-index_in_within ColumnMajor ns r below = ap (in_box ns) (same_column ns r) ∙ in_box-column_index ns r below
+index_in_within ColumnMajor ns r below = in_box-column_index ns r below
 
 pub rank_of_index_in : (order : Order) (ns : List ℕ) (r : ℕ) → r < size_of ns → rank_in order ns (index_in order ns r) ≡ r
 rank_of_index_in RowMajor ns r below = row_rank-index_at ns r below
-rank_of_index_in ColumnMajor ns r below = ap (column_rank ns) (same_column ns r) ∙ column_rank-column_index ns r below
+rank_of_index_in ColumnMajor ns r below = column_rank-column_index ns r below
 
 -- strides that serve give each new index the place of the old one that it names
 pub served_seen : (order : Order) (offset : ℕ) (ns : List ℕ) (ss : List ℤ) (ms : List ℕ) (ts : List ℤ) → size_of ms ≡ size_of ns → Serves order ns ss ms ts → IsViewStep offset ns ss offset ms ts (regrouped_index order ns ms)

@@ -10,3 +10,5 @@ pub mod Longer
 pub mod ResultParts
 pub mod SliceView
 pub mod Said
+pub mod RowsLent
+pub mod RowsView

@@ -2,16 +2,8 @@
 use Rattle.std.specs.Prelude.{◌≡◌, ◌≤◌, ℕ, true, List, ◌∷◌, Option, Some, if◌then◌else◌}
 use Rattle.std.specs.Fn.{Mut, Called}
 use Rattle.std.specs.List.{FoldsTo, count_by}
-use Rattle.nd_shape_and_slice.specs.Shape.{in_box, index_at}
-use Rattle.nd_shape_and_slice.specs.declared.builder.Order.{Order}
-use Rattle.nd_shape_and_slice.specs.declared.builder.Order.TheVariants.{RowMajor, ColumnMajor}
-use Rattle.nd_layout.proofs.Ranks.{column_index}
+use Rattle.nd_shape_and_slice.specs.Shape.{in_box}
 use Rattle.nd_array_core.specs.base.Writes.{is_index}
-
--- the index of a rank in an order
-abbrev pub index_in : Order → List ℕ → ℕ → List ℕ
-index_in RowMajor shape rank = index_at shape rank
-index_in ColumnMajor shape rank = column_index shape rank
 
 -- the list has each index of the box once, and nothing else
 abbrev pub ListsBox : List ℕ → List (List ℕ) → Type 0

@@ -11,4 +11,7 @@ pub mod base
 pub mod layout
 pub mod scoped
 pub mod Filled
+pub mod Collected
+pub mod Equality
 pub mod reshape
+pub mod elements

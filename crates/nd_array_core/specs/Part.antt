@@ -16,6 +16,7 @@ use Rattle.nd_shape_and_slice.specs.Slicing.{collapsed_after, collapsed_before}
 use Rattle.nd_shape_and_slice.specs.Squeeze.{squeezed_shape, squeezed_index}
 use Rattle.nd_shape_and_slice.specs.declared.descriptions.AxisDescription.{AxisDescription}
 use Rattle.nd_shape_and_slice.specs.declared.slice_info.SliceInfoElem.{SliceInfoElem}
+use Rattle.nd_layout.specs.Merging.{merged_shape, merged_strides, merged_index}
 use Rattle.nd_layout.specs.Strides.{permuted_strides, inverted_strides, sliced_strides, diagonal_stride, broadcast_strides, strides_after, collapsed_strides, each_sliced_strides, squeezed_strides}
 use Rattle.nd_array_core.specs.declared.base.storage.Data as data_trait
 use Rattle.nd_array_core.specs.declared.base.array.ArrayBase.{ArrayBase}
@@ -83,6 +84,10 @@ module _ {S D A T P R L M : Type 0} {s : data_trait.Ghosts S A} {d : dimension.G
   -- the axes but those of length 1; the first of these stays where there is no other
   abbrev pub squeezed_part : ArrayBase S D T A P R L M s d n r t → Part
   squeezed_part a = record { shape = squeezed_shape (shape_of a); strides = squeezed_strides (shape_of a) (layout_strides a); source = squeezed_index (shape_of a) }
+
+  -- one axis merged into another
+  abbrev pub merged_part : ArrayBase S D T A P R L M s d n r t → ℕ → ℕ → Part
+  merged_part a take into = record { shape = merged_shape (shape_of a) take into; strides = merged_strides (shape_of a) (layout_strides a) take into; source = merged_index (shape_of a) take into }
 
   -- the coordinates of an axis below k, and those from k on
   abbrev pub lower_part : ArrayBase S D T A P R L M s d n r t → ℕ → ℕ → Part

@@ -1,7 +1,7 @@
-//! Laws of layout calls, over meanings alone: a shape, and an element at each index of its box; and of places. Nothing here
-//! runs: each function's clause is the law.
+//! Laws of layout calls, over meanings alone: a shape, and an element at each index of its box; of places; and of
+//! quotients, for callers that divide. Nothing here runs: each function's clause is the law.
 
-ghost use Rattle.std.specs.Prelude.{◌≡◌, ◌<◌, ◌≤◌, ℕ, true, List, [], ◌∷◌, length, reverse, swap, slice_index};
+ghost use Rattle.std.specs.Prelude.{◌≡◌, ◌<◌, ◌≤◌, ◌+◌, ◌*◌, ◌/◌, ℕ, true, List, [], ◌∷◌, length, reverse, swap, slice_index};
 ghost use Rattle.nd_shape_and_slice.specs.declared.slice.Slice.{Slice};
 ghost use Rattle.nd_shape_and_slice.specs.declared.slice_info.SliceInfoElem.{SliceInfoElem};
 ghost use Rattle.nd_shape_and_slice.specs.Axes.{HasEachAxis, permuted_list, unpermuted_list};
@@ -97,4 +97,14 @@ pub fn elements_have_places<S: Data, D: Dimension>(array: &ArrayBase<S, D>)
 #[tactic(auto, unfolding(crate::specs::Meaning::meaning_of, crate::specs::Meaning::memory_layout_of))]
 pub fn distinct_places<S: DataMut, D: Dimension>(array: &ArrayBase<S, D>)
     ensures { DistinctPlaces (placed_array array.now) }
+{}
+
+/// Which numbers have a quotient: those from the quotient times the size on, as many as the size. A caller that divides
+/// by a variable calls it for the quotient at hand.
+#[tactic(auto, using(crate::proofs::Quotients::quotient_holds, crate::proofs::Quotients::quotient_of, crate::proofs::Quotients::before_quotient))]
+pub fn quotients(size: usize, quotient: usize)
+    requires { 0 < size }
+    ensures equal { (i : ℕ) → i / size ≡ quotient → (quotient * size ≤ i) × (i < quotient * size + size) }
+    ensures within { (i : ℕ) → quotient * size ≤ i → i < quotient * size + size → i / size ≡ quotient }
+    ensures below { (i : ℕ) → i / size < quotient → i < quotient * size }
 {}

@@ -5,7 +5,7 @@
 //! - `elements`: calls over all elements
 //! - `reshape`: questions about the layout, elements as slices, and other shapes of the same elements
 //! - `scoped`: calls that lend views to be written to a task
-//! - `laws`: what follows from the contracts of several calls
+//! - `laws`: what follows from the contracts of several calls, and what callers need of quotients
 #![tactic(auto)]
 
 mod base;

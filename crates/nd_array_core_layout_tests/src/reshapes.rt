@@ -1,6 +1,6 @@
 //! Other shapes of the same elements, and elements as slices.
 
-use nd_array_core::{Array, Array2, Array3};
+use nd_array_core::{Array, Array1, Array2, Array3};
 use nd_shape_and_slice::{Axis, Dimension, ErrorKind, Order, ShapeBuilder, ShapeError};
 use nd_test_arrays::{array_of, numbers, rows_listed};
 use std::test::Fail;
@@ -91,5 +91,71 @@ fn the_first_order_that_fits(rt: HostRuntime) -> Result<(), Fail> {
     assert_eq!(rt; refused, Some(ErrorKind::IncompatibleLayout));
     let refused = cause(one_to_six(&rt)?.into_shape((2, 2)));
     assert_eq!(rt; refused, Some(ErrorKind::IncompatibleShape));
+    Ok(())
+}
+
+#[test]
+fn axes_merged(rt: HostRuntime) -> Result<(), Fail> {
+    let mut rows = one_to_six(&rt)?;
+    let (_rows, _columns) = rows.dim();
+    assert!(rt; rows.merge_axes(Axis(0), Axis(1)));
+    assert_eq!(rt; rows.shape(), [1, 6].as_slice());
+    assert_eq!(rt;
+        rows_listed(rt.alloc(), &rows)?.as_slice(),
+        [1, 2, 3, 4, 5, 6].as_slice()
+    );
+    let mut rows = one_to_six(&rt)?;
+    let (_rows, _columns) = rows.dim();
+    assert!(rt; !rows.merge_axes(Axis(1), Axis(0)));
+    assert_eq!(rt; rows.shape(), [2, 3].as_slice());
+    let mut column: Array2<u64> = array_of((3, 1), numbers(rt.alloc(), 1, 3)?)?;
+    let (_rows, _columns) = column.dim();
+    assert!(rt; column.merge_axes(Axis(0), Axis(1)));
+    assert_eq!(rt; column.shape(), [1, 3].as_slice());
+    assert_eq!(rt;
+        rows_listed(rt.alloc(), &column)?.as_slice(),
+        [1, 2, 3].as_slice()
+    );
+    let mut empty: Array2<u64> = array_of((3, 0), numbers(rt.alloc(), 0, 0)?)?;
+    let (_rows, _columns) = empty.dim();
+    assert!(rt; empty.merge_axes(Axis(0), Axis(1)));
+    assert_eq!(rt; empty.shape(), [0, 0].as_slice());
+    Ok(())
+}
+
+#[test]
+fn an_axis_merged_with_itself(rt: HostRuntime) -> Result<(), Fail> {
+    let one: Array1<u64> = array_of(1, numbers(rt.alloc(), 5, 1)?)?;
+    match one.view().broadcast_move(3) {
+        Some(view) => {
+            let mut wide = view;
+            let _count = wide.dim();
+            assert!(rt; !wide.merge_axes(Axis(0), Axis(0)));
+            assert_eq!(rt; wide.shape(), [3].as_slice());
+        }
+        None => return Err("no broadcast".into()),
+    }
+    let mut same = one;
+    let _count = same.dim();
+    assert!(rt; same.merge_axes(Axis(0), Axis(0)));
+    assert_eq!(rt; same.shape(), [1].as_slice());
+    Ok(())
+}
+
+#[test]
+fn the_axis_that_steps_furthest(rt: HostRuntime) -> Result<(), Fail> {
+    let mut rows = one_to_six(&rt)?;
+    let (_rows, _columns) = rows.dim();
+    assert_eq!(rt; rows.max_stride_axis().0, 0);
+    rows.invert_axis(Axis(0));
+    assert_eq!(rt; rows.max_stride_axis().0, 0);
+    rows.swap_axes(0, 1);
+    assert_eq!(rt; rows.max_stride_axis().0, 1);
+    let row: Array2<u64> = array_of((1, 3), numbers(rt.alloc(), 1, 3)?)?;
+    let (_rows, _columns) = row.dim();
+    assert_eq!(rt; row.max_stride_axis().0, 1);
+    let one: Array2<u64> = array_of((1, 1), numbers(rt.alloc(), 1, 1)?)?;
+    let (_rows, _columns) = one.dim();
+    assert_eq!(rt; one.max_stride_axis().0, 0);
     Ok(())
 }

@@ -1,4 +1,3 @@
-pub mod DiagonalBlocks
 pub mod Halves
 pub mod Lines
 pub mod Outcomes

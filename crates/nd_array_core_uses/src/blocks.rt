@@ -1,9 +1,10 @@
-//! Parts of an image filled by lists of slices, each caller in coordinates and all but the last with no proof file. `?`
-//! and then `Ok(())` lets the proof read what the fill tells.
+//! Parts of an image filled by lists of slices, each caller in coordinates and with no proof file but the last one's
+//! invariant. `?` and then `Ok(())` lets the proof read what the fill tells.
 ghost use Rattle.std.specs.Prelude.{◌≡◌, ◌≢◌, ◌<◌, ◌≤◌, ◌%◌, ◌/◌, ℕ, slice_index, Some, OnOk};
 ghost use Rattle.nd_array_core.specs.Meaning.{shape_of};
 ghost use Rattle.nd_array_core.specs.Coordinates.{element_of_2};
 
+use nd_array_core::laws::quotients;
 use nd_array_core::{Array2, ArrayBase, DataMut};
 use nd_shape_and_slice::{Ix2, NoMemory, Slice, slices};
 
@@ -66,24 +67,25 @@ pub fn fill_two_blocks(matrix: &mut Array2<i64>, cut: usize, value: i64) -> Resu
 
 /// Fills the square blocks of a size that lie one after another down the diagonal of a matrix; the last is cut where the
 /// matrix ends.
+#[tactic(auto, using(std::proofs::lemmas::Bool::Decides::nat_tests))]
 pub fn fill_diagonal_blocks<A: Copy + Drop, S: DataMut<Elem = A>>(
     matrix: &mut ArrayBase<S, Ix2>,
     size: usize,
     value: A,
-) -> Result<(), NoMemory>
-    requires clones { (copy : A) → A.is_clone value copy → copy ≡ value }
+)
     requires size { 0 < size }
     ensures shape { shape_of matrix.new ≡ shape_of matrix.old }
-    ensures within { OnOk result ((row column : ℕ) → row < slice_index (shape_of matrix.old) 0 → column < slice_index (shape_of matrix.old) 1 → row / size ≡ column / size → element_of_2 matrix.new row column ≡ Some value) }
+    ensures within { (row column : ℕ) → row < slice_index (shape_of matrix.old) 0 → column < slice_index (shape_of matrix.old) 1 → row / size ≡ column / size → element_of_2 matrix.new row column ≡ Some value }
     ensures outside { (row column : ℕ) → row / size ≢ column / size → element_of_2 matrix.new row column ≡ element_of_2 matrix.old row column }
 {
     let (rows, columns) = matrix.dim();
-    for block in 0..rows.min(columns).div_ceil(size) {
-        let from = block * size;
-        let to = from.saturating_add(size);
-        fill_rectangle(matrix, from, to.min(rows), from, to.min(columns), value)?;
+    for row in 0..rows {
+        quotients(size, row / size);
+        let from = row / size * size;
+        for column in from..from.saturating_add(size).min(columns) {
+            matrix[[row, column]] = value;
+        }
     }
-    Ok(())
 }
 
 #[cfg(test)]
@@ -96,14 +98,14 @@ mod tests {
     fn blocks_down_the_diagonal(rt: HostRuntime) -> Result<(), Fail> {
         let cells = Vec::from_slice(rt.alloc(), &[0; 15])?;
         let mut matrix: Array2<u64> = Array2::from_shape_vec((5, 3), cells).ok().ok_or("shape")?;
-        fill_diagonal_blocks(&mut matrix, 2, 9)?;
+        fill_diagonal_blocks(&mut matrix, 2, 9);
         let rows = [[9, 9, 0], [9, 9, 0], [0, 0, 9], [0, 0, 9], [0, 0, 0]];
         for row in 0..5 {
             for column in 0..3 {
                 assert_eq!(rt; matrix.get([row, column]).copied(), Some(rows[row][column]));
             }
         }
-        fill_diagonal_blocks(&mut matrix, usize::MAX, 7)?;
+        fill_diagonal_blocks(&mut matrix, usize::MAX, 7);
         assert_eq!(rt; matrix.get([4, 2]).copied(), Some(7));
         Ok(())
     }

@@ -117,6 +117,23 @@ pub fn transpose_then_row<S: Data>(image: ArrayBase<S, Ix2>, row: usize) -> Arra
     image.reversed_axes().index_axis_move(Axis(0), row)
 }
 
+/// A part of a row of the transposed image, by three calls: a part of a column.
+pub fn part_of_transposed_row<S: Data>(
+    image: &ArrayBase<S, Ix2>,
+    row: usize,
+    from: usize,
+    to: usize,
+) -> ArrayView1<'_, S::Elem>
+    requires row { row < slice_index (shape_of image.now) 1 }
+    requires from { from ≤ to }
+    requires to { to ≤ slice_index (shape_of image.now) 0 }
+    ensures elements { (i : ℕ) → i < to - from → element_of_1 result i ≡ element_of_2 image.now (from + i) row }
+{
+    let (_rows, _columns) = image.dim();
+    let part = image.t().slice_axis_move(Axis(1), Slice::between(from, to));
+    part.index_axis_move(Axis(0), row)
+}
+
 /// The element at the first index; None where there are no elements.
 pub fn corner<S: Data, D: Dimension>(array: &ArrayBase<S, D>) -> Option<&S::Elem>
     ensures element { option_copied result ≡ element_at array.now (replicate (length (shape_of array.now)) 0) }

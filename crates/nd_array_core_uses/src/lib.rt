@@ -10,6 +10,7 @@ mod border;
 mod broadcasts;
 mod columns;
 mod coordinates;
+mod folded;
 mod interleaved;
 mod lent_slices;
 mod lent_views;
@@ -29,8 +30,10 @@ pub use broadcasts::table_of;
 pub use columns::paint_every_second_column;
 pub use coordinates::{
     begin_alike, channel, column_seen, corner, crop, crop_by_axes, every_second_row, in_row,
-    neighbourhood, second_column, transpose_then_row, turn_half, turned_twice,
+    neighbourhood, part_of_transposed_row, second_column, transpose_then_row, turn_half,
+    turned_twice,
 };
+pub use folded::{double_all, largest, wrapping_sum};
 pub use interleaved::{fill_slices, interleave_rows, try_fill_slices};
 pub use lent_slices::{fill_front, fill_seen};
 pub use lent_views::{fill_again, fill_part, fill_view, paint_owned_columns, set_diagonal};
@@ -43,7 +46,7 @@ pub use parts_written::{
     write_in_part,
 };
 pub use pixels::{checkerboard, checkerboard_of_references, row_sum, swap_rows};
-pub use rebuilt::{rows_reversed, rows_reversed_twice};
+pub use rebuilt::{push_rows_reversed, rows_reversed, rows_reversed_twice};
 pub use reshaped::{pixels_of, row_major_slice, run_or};
 pub use strides::{row_repeated, turned_at_the_least_stride};
 pub use two_calls::{

@@ -3,7 +3,7 @@
 ghost use Rattle.std.specs.Prelude.{◌≡◌, ◌<◌, ◌+◌, ◌%◌, ◌^◌, ℕ, nat_eq, slice_index, Some, if◌then◌else◌};
 ghost use Rattle.nd_array_core.specs.Meaning.{shape_of};
 ghost use Rattle.nd_array_core.specs.Coordinates.{element_of_2};
-ghost use Rattle.nd_array_core_uses.specs.Sums.{sum_of, value_or_0};
+ghost use Rattle.nd_array_core_uses.specs.Sums.{sum_below, value_or_0};
 ghost use Rattle.nd_array_core_uses.specs.Painting.{exchanged};
 
 use nd_array_core::{ArrayBase, Data, DataMut, GetMut};
@@ -60,7 +60,7 @@ pub fn checkerboard_of_references<S: DataMut<Elem = u8>>(image: &mut ArrayBase<S
 /// The sum of a row, as it wraps at 2 ^ 64.
 pub fn row_sum<S: Data<Elem = u64>>(image: &ArrayBase<S, Ix2>, row: usize) -> u64
     requires { row < slice_index (shape_of image.now) 0 }
-    ensures { result ≡ sum_of (λ column. value_or_0 (element_of_2 image.now row column)) (slice_index (shape_of image.now) 1) % 2 ^ 64 }
+    ensures { result ≡ sum_below (λ column. value_or_0 (element_of_2 image.now row column)) (slice_index (shape_of image.now) 1) % 2 ^ 64 }
 {
     let (_rows, columns) = image.dim();
     let mut total: u64 = 0;

@@ -1,14 +1,42 @@
-//! Matrices built anew from the rows of others, by one invariant a loop.
+//! Matrices built anew from the rows of others.
 ghost use Rattle.std.specs.Prelude.{◌≡◌, ◌<◌, ◌-◌, ℕ, slice_index, IfOk};
 ghost use Rattle.nd_array_core.specs.Meaning.{shape_of};
 ghost use Rattle.nd_array_core.specs.Coordinates.{element_of_2};
 
 use nd_array_core::{Array2, ArrayBase, Data};
-use nd_shape_and_slice::Ix2;
+use nd_shape_and_slice::{Axis, Ix2, NoMemory};
 use std::alloc::{AllocError, Global};
 
 /// A matrix with the rows of another, the last one first.
-pub fn rows_reversed<A: Copy + Drop, S: Data<Elem = A>>(
+pub fn rows_reversed<A: Clone + Drop, S: Data<Elem = A>>(
+    alloc: Global,
+    matrix: &ArrayBase<S, Ix2>,
+) -> Result<Array2<A>, NoMemory>
+    requires clones { (x copy : A) → A.is_clone x copy → copy ≡ x }
+    ensures shape { IfOk result (λ built. shape_of built ≡ shape_of matrix.now) }
+    ensures elements { IfOk result (λ built. (row column : ℕ) → row < slice_index (shape_of matrix.now) 0 → column < slice_index (shape_of matrix.now) 1 → element_of_2 built row column ≡ element_of_2 matrix.now (slice_index (shape_of matrix.now) 0 - 1 - row) column) }
+{
+    let (_rows, _columns) = matrix.dim();
+    let mut turned = matrix.view();
+    turned.invert_axis(Axis(0));
+    turned.to_owned(alloc)
+}
+
+/// A matrix built from the rows of another twice, each time in the opposite order: the matrix itself, with every element.
+pub fn rows_reversed_twice<A: Clone + Drop, S: Data<Elem = A>>(
+    alloc: Global,
+    matrix: &ArrayBase<S, Ix2>,
+) -> Result<Array2<A>, NoMemory>
+    requires clones { (x copy : A) → A.is_clone x copy → copy ≡ x }
+    ensures shape { IfOk result (λ built. shape_of built ≡ shape_of matrix.now) }
+    ensures elements { IfOk result (λ built. (row column : ℕ) → row < slice_index (shape_of matrix.now) 0 → column < slice_index (shape_of matrix.now) 1 → element_of_2 built row column ≡ element_of_2 matrix.now row column) }
+{
+    let reversed = rows_reversed(alloc, matrix)?;
+    rows_reversed(alloc, &reversed)
+}
+
+/// A matrix with the rows of another, the last one first, its elements pushed one by one.
+pub fn push_rows_reversed<A: Copy + Drop, S: Data<Elem = A>>(
     alloc: Global,
     matrix: &ArrayBase<S, Ix2>,
 ) -> Result<Array2<A>, AllocError>
@@ -28,18 +56,6 @@ pub fn rows_reversed<A: Copy + Drop, S: Data<Elem = A>>(
     }
 }
 
-/// A matrix built from the rows of another twice, each time in the opposite order: the matrix itself, with every element.
-pub fn rows_reversed_twice<A: Copy + Drop, S: Data<Elem = A>>(
-    alloc: Global,
-    matrix: &ArrayBase<S, Ix2>,
-) -> Result<Array2<A>, AllocError>
-    ensures shape { IfOk result (λ built. shape_of built ≡ shape_of matrix.now) }
-    ensures elements { IfOk result (λ built. (row column : ℕ) → row < slice_index (shape_of matrix.now) 0 → column < slice_index (shape_of matrix.now) 1 → element_of_2 built row column ≡ element_of_2 matrix.now row column) }
-{
-    let reversed = rows_reversed(alloc, matrix)?;
-    rows_reversed(alloc, &reversed)
-}
-
 #[cfg(test)]
 mod tests {
     use super::*;
@@ -53,6 +69,8 @@ mod tests {
         let reversed = rows_reversed(rt.alloc(), &matrix)?;
         assert_eq!(rt; reversed.get([0, 1]).copied(), Some(5));
         assert_eq!(rt; reversed.get([1, 2]).copied(), Some(3));
+        let pushed = push_rows_reversed(rt.alloc(), &matrix)?;
+        assert_eq!(rt; pushed.get([0, 1]).copied(), Some(5));
         let again = rows_reversed_twice(rt.alloc(), &matrix)?;
         assert_eq!(rt; again.get([0, 1]).copied(), Some(2));
         assert_eq!(rt; again.get([1, 2]).copied(), Some(6));

@@ -8,6 +8,8 @@ mod copies;
 #[cfg(test)]
 mod elements;
 #[cfg(test)]
+mod equality;
+#[cfg(test)]
 mod fill;
 #[cfg(test)]
 mod fresh;

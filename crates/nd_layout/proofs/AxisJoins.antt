@@ -94,6 +94,15 @@ joint_taken n s at t = inl (refl, λ ns ss some. rejoined_cons n s (1 ∷ ns) (t
 pub joint_glued : (n : ℕ) (s : ℤ) (at m : ℕ) (t : ℤ) → s ≡ pos m *ℤ t → IsJoint n s at m t at (n * m) t
 joint_glued n s at m t e = inl (refl, λ ns ss some. rw e (rejoined_glued n m t ns ss some))
 
+-- axes of length 1 in front change nothing
+pub ones_in_front : (at : ℕ) (ms : List ℕ) (ts : List ℤ) → length ts ≡ length ms → at < length ms → ((k : ℕ) → k < at → get_or ms k 0 ≡ 1) → IsRejoined (drop at ms) (drop at ts) ms ts
+ones_in_front zero ms ts e on ones = rejoined_itself ms ts
+ones_in_front (suc at) [] ts e on ones = absurd (omega (arith, on))
+ones_in_front (suc at) (m ∷ ms) [] e on ones = absurd (omega (arith, e))
+ones_in_front (suc at) (m ∷ ms) (t ∷ ts) e on ones =
+    let first : m ≡ 1 = ones 0 (omega arith) in
+    rw first (rejoined_again (drop at ms) (drop at ts) ms ts (1 ∷ ms) (t ∷ ts) (ones_in_front at ms ts (omega (arith, e)) (omega (arith, on)) (λ k h. ones (suc k) (omega (arith, h)))) (rejoined_one t ms ts))
+
 -- ---- the loop: the axes from this one on are joined, and stand from `at` on; between both are axes of length 1
 module _ (ns : List ℕ) (ss : List ℤ) where
   pub record IsJoinedFrom (axis at : ℕ) (ms : List ℕ) (ts : List ℤ) : Type 0 where
@@ -206,15 +215,6 @@ module _ (ns : List ℕ) (ss : List ℤ) where
       joined_more (inr own) =
           let whole = subst (λ a. IsRejoined (drop k ns) (drop k ss) (get_or ms k 0 ∷ drop a ms) (get_or ts k (pos 0) ∷ drop a ts)) (sym own.0) one_before in
           built (omega (arith, own.0, so_far.within, next)) (omega (arith, own.0)) (rw (own.1, own.2) whole)
-
-  -- axes of length 1 in front change nothing
-  ones_in_front : (at : ℕ) (ms : List ℕ) (ts : List ℤ) → length ts ≡ length ms → at < length ms → ((k : ℕ) → k < at → get_or ms k 0 ≡ 1) → IsRejoined (drop at ms) (drop at ts) ms ts
-  ones_in_front zero ms ts e on ones = rejoined_itself ms ts
-  ones_in_front (suc at) [] ts e on ones = absurd (omega (arith, on))
-  ones_in_front (suc at) (m ∷ ms) [] e on ones = absurd (omega (arith, e))
-  ones_in_front (suc at) (m ∷ ms) (t ∷ ts) e on ones =
-      let first : m ≡ 1 = ones 0 (omega arith) in
-      rw first (rejoined_again (drop at ms) (drop at ts) ms ts (1 ∷ ms) (t ∷ ts) (ones_in_front at ms ts (omega (arith, e)) (omega (arith, on)) (λ k h. ones (suc k) (omega (arith, h)))) (rejoined_one t ms ts))
 
   pub joined_all : (at : ℕ) (ms : List ℕ) (ts : List ℤ) → IsJoinedFrom 0 at ms ts → IsRejoined ns ss ms ts
   joined_all at ms ts all =

@@ -9,7 +9,8 @@ use Rattle.nd_shape_and_slice.proofs.RowMajor.{span_within-le}
 use Rattle.nd_layout.specs.Growth.{greatest_end, greatest_step}
 use Rattle.nd_layout.proofs.Reaches.{mul-pred}
 use Rattle.nd_layout.proofs.AxisChange.{on_axis, counted_cases, counted_none, span_of-set, span_within-set, others_below, separated_by_others}
-use Rattle.nd_layout.proofs.Ranks.{column_index, in_box-column_index, column_rank-column_index}
+use Rattle.nd_layout.specs.Ranks.{column_index}
+use Rattle.nd_layout.proofs.Ranks.{in_box-column_index, column_rank-column_index}
 use Rattle.nd_layout.proofs.RunFrom.{above_low, above_low-is, above_low-le}
 use Rattle.nd_layout.proofs.Pigeonhole.{pigeonhole}
 use Rattle.nd_layout.proofs.Distinct.{same_index}

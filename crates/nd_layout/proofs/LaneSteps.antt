@@ -1,5 +1,5 @@
 -- The places of a layout, cut into lanes along its last axis.
-use Rattle.std.proofs.Common.{◌≡◌, ℕ, zero, suc, ◌+◌, ◌-◌, ◌*◌, ◌/◌, ◌%◌, ◌<◌, ◌≤◌, true, List, [], ◌∷◌, length, take, get_or, min, refl, ap, sym, ◌∙◌, arith, ℤ, pos, ◌+ℤ◌, ◌*ℤ◌}
+use Rattle.std.proofs.Common.{◌≡◌, ℕ, zero, suc, ◌+◌, ◌-◌, ◌*◌, ◌/◌, ◌%◌, ◌<◌, ◌≤◌, true, List, [], ◌∷◌, ◌++◌, length, take, get_or, min, refl, ap, sym, ◌∙◌, arith, ℤ, pos, ◌+ℤ◌, ◌*ℤ◌}
 use Rattle.std.proofs.Math.Nat.{mul_comm, mul-le-mul_left, mul-le-mul_right, div-div-eq-div-mul}
 use lib.Arith.{mod-mul}
 use Rattle.std.proofs.lemmas.Nat.{div-mul-add, mod-mul-add, mod_below}
@@ -58,14 +58,36 @@ displacement_of-front (n ∷ ns) (s ∷ ss) (suc k) r j e f some h below =
     digits : (r c j front : ℕ) → j < c → (r * c + j) / c % front * c + (r * c + j) % c ≡ r % front * c + j
     digits r c j front h = rw (div-mul-add r c j h, mod-mul-add r c j h) refl
 
+-- the index of such a rank: the last coordinate stands behind the others
+pub index_at-front : (ns : List ℕ) (k r j : ℕ) → length ns ≡ k + 1 → 0 < size_of ns → r < size_of (take k ns) → j < get_or ns k 0 → index_at ns (r * get_or ns k 0 + j) ≡ index_at (take k ns) r ++ j ∷ []
+index_at-front [] k r j e some h below = absurd (omega arith)
+index_at-front (n ∷ m ∷ ns) zero r j e some h below = absurd (omega arith)
+index_at-front (n ∷ []) zero r j e some h below =
+    let none : r ≡ 0 = omega arith in
+    let first : (r * n + j) / 1 ≡ j = rw none (omega arith) in
+    ap (λ i. i ∷ []) first
+index_at-front (n ∷ ns) (suc k) r j e some h below =
+    let c = get_or ns k 0 in
+    let front = size_of (take k ns) in
+    let whole : front * c ≡ size_of ns = size_of-front ns k (omega arith) in
+    let later : 0 < size_of ns = (positive-cons n ns some).1 in
+    let some_front : 0 < front = (positive-cons n (take k ns) (omega (arith, h))).1 in
+    let some_c : 0 < c = omega (arith, below) in
+    let q : (r * c + j) / size_of ns ≡ r / front = ap (λ m. (r * c + j) / m) (sym whole ∙ mul_comm front c) ∙ (sym (div-div-eq-div-mul (r * c + j) c front) ∙ ap (λ x. x / front) (div-mul-add r c j below)) in
+    let d : (r * c + j) % size_of ns ≡ r % front * c + j = ap (λ m. (r * c + j) % m) (sym whole) ∙ (mod-mul (r * c + j) some_front some_c ∙ digits r c j front below) in
+    rw (q, d) (ap (λ is. (r / front) ∷ is) (index_at-front ns k (r % front) j (omega arith) later (mod_below r front some_front) below))
+  where
+    digits : (r c j front : ℕ) → j < c → (r * c + j) / c % front * c + (r * c + j) % c ≡ r % front * c + j
+    digits r c j front h = rw (div-mul-add r c j h, mod-mul-add r c j h) refl
+
 module _ (first : ℕ) (ns : List ℕ) (ss : List ℤ) where
   -- no axis is taken off: each place is a lane of its own
-  pub cut_whole : IsCutInLanes first ns ss first ns ss 1 (pos 0)
-  cut_whole = record {
+  pub cut_whole : (stride : ℤ) → IsCutInLanes first ns ss first ns ss 1 stride
+  cut_whole stride = record {
     size = omega arith;
     places = λ r k h below.
         let same : r * 1 + k ≡ r = omega (arith, below) in
-        let none : pos k *ℤ pos 0 ≡ pos 0 = ap (λ i. pos i *ℤ pos 0) (zero_only k below) ∙ zero-mul (pos 0) in
+        let none : pos k *ℤ stride ≡ pos 0 = ap (λ i. pos i *ℤ stride) (zero_only k below) ∙ zero-mul stride in
         rw (same, none) (nothing (place_at_rank first ns ss r));
   }
     where
@@ -115,16 +137,16 @@ other_default (z ∷ xs) zero x y h = refl
 other_default (z ∷ xs) (suc k) x y h = other_default xs k x y (omega arith)
 
 -- where there is none, a lane has one place
-pub along_none : (ns : List ℕ) (ss : List ℤ) → length ss ≡ length ns → length ns ≡ 0 → (1 ≡ get_or ns (length ns - 1) 1) × (pos 0 ≡ get_or ss (length ss - 1) (pos 0))
+pub along_none : (ns : List ℕ) (ss : List ℤ) → length ss ≡ length ns → length ns ≡ 0 → (1 ≡ get_or ns (length ns - 1) 1) × (pos 1 ≡ get_or ss (length ss - 1) (pos 1))
 along_none [] [] e none = (refl, refl)
 along_none [] (s ∷ ss) e none = absurd (omega arith)
 along_none (n ∷ ns) ss e none = absurd (omega arith)
 
-pub along_last : (ns : List ℕ) (ss : List ℤ) (k : ℕ) → length ss ≡ length ns → length ns ≡ k + 1 → (get_or ns k 0 ≡ get_or ns (length ns - 1) 1) × (get_or ss k (pos 0) ≡ get_or ss (length ss - 1) (pos 0))
+pub along_last : (ns : List ℕ) (ss : List ℤ) (k : ℕ) → length ss ≡ length ns → length ns ≡ k + 1 → (get_or ns k 0 ≡ get_or ns (length ns - 1) 1) × (get_or ss k (pos 0) ≡ get_or ss (length ss - 1) (pos 1))
 along_last ns ss k e last =
     let here : k ≡ length ns - 1 = omega arith in
     let there : k ≡ length ss - 1 = omega arith in
-    (other_default ns k 0 1 (omega arith) ∙ ap (λ i. get_or ns i 1) here, ap (λ i. get_or ss i (pos 0)) there)
+    (other_default ns k 0 1 (omega arith) ∙ ap (λ i. get_or ns i 1) here, other_default ss k (pos 0) (pos 1) (omega (arith, e, last)) ∙ ap (λ i. get_or ss i (pos 1)) there)
 
 -- ---- from lane to lane
 pub nothing_passed : (r count : ℕ) → r ≡ 0 → 0 ≡ r * count

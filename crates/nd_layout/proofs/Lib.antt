@@ -36,4 +36,7 @@ pub mod WalkSteps
 pub mod LaneSteps
 pub mod Rearranged
 pub mod AxisJoins
+pub mod OneLane
+pub mod LaneIndexes
 pub mod steps
+pub mod Furthest

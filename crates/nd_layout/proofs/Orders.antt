@@ -10,11 +10,11 @@ use Rattle.nd_shape_and_slice.specs.declared.builder.Order.{Order}
 use Rattle.nd_shape_and_slice.specs.declared.builder.Order.TheVariants.{RowMajor, ColumnMajor}
 use Rattle.nd_shape_and_slice.proofs.RowMajor.{length-in_box}
 use Rattle.nd_shape_and_slice.proofs.ColumnMajor.{column_rank_below}
-use Rattle.nd_layout.specs.Ranks.{rank_in, Serves, fastest_first, axis_in, at_rank, ServesRanks}
+use Rattle.nd_layout.specs.Ranks.{rank_in, Serves, fastest_first, axis_in, at_rank, ServesRanks, column_index}
 use Rattle.nd_layout.specs.Strides.{RestsAtOnes}
 use Rattle.nd_layout.proofs.Integers.{sums}
 use Rattle.nd_layout.proofs.Removed.{and_swap}
-use Rattle.nd_layout.proofs.Ranks.{at_rank-column_rank, column_index, in_box-column_index, column_rank-column_index}
+use Rattle.nd_layout.proofs.Ranks.{at_rank-column_rank, in_box-column_index, column_rank-column_index}
 use Rattle.nd_layout.proofs.Apart.{EachApart, EachApart-append, EachApart-weaker, EachApart-from_separated, separated_from_each, span_within-append, span_of-append}
 use Rattle.nd_layout.proofs.Regroups.{size_of-append}
 

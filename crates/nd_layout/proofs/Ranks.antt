@@ -6,7 +6,7 @@ use Rattle.std.proofs.Math.Nat.{mul_comm, zero-add, zero-mod, zero-div, mod-one,
 use Rattle.std.proofs.lemmas.Bool.{ltb-true, lt-ltb, and_parts, and_from, false≢true}
 use Rattle.nd_shape_and_slice.specs.Shape.{in_box, size_of, column_rank}
 use Rattle.nd_shape_and_slice.specs.Place.{displacement_of}
-use Rattle.nd_layout.specs.Ranks.{at_rank}
+use Rattle.nd_layout.specs.Ranks.{at_rank, column_index}
 use Rattle.nd_layout.proofs.Integers.{sums, zero-mul, add-mul, mul-mul}
 
 -- rank 0 is the offset
@@ -54,11 +54,7 @@ at_rank-column_rank (n ∷ ns) (s ∷ ss) (k ∷ i) h =
     add-mul-div_left k (column_rank ns i) some ∙ ap (λ v. v + column_rank ns i) (div-eq_of_lt below) ∙ zero-add (column_rank ns i) in
     rw (m, d) (ap (λ v. (pos k *ℤ s) +ℤ v) (at_rank-column_rank ns ss i w.1))
 
--- the index of a column-major rank
-abbrev pub column_index : List ℕ → ℕ → List ℕ
-column_index [] r = []
-column_index (n ∷ ns) r = r % n ∷ column_index ns (r / n)
-
+-- ---- the index of a column-major rank
 -- is in the box where the rank is below the size
 pub in_box-column_index : (ns : List ℕ) (r : ℕ) → r < size_of ns → in_box ns (column_index ns r) ≡ true
 in_box-column_index [] r h = refl

@@ -5,11 +5,11 @@ use borrow.Author.Differences.{up, down, neg_is}
 use Rattle.nd_shape_and_slice.specs.Shape.{in_box, size_of, column_rank}
 use Rattle.nd_shape_and_slice.specs.Place.{displacement_of, span_of, IsSeparated}
 use Rattle.nd_layout.specs.Strides.{reach_down}
-use Rattle.nd_layout.specs.Ranks.{IsRun}
+use Rattle.nd_layout.specs.Ranks.{IsRun, column_index}
 use Rattle.nd_layout.proofs.Integers.{sums}
 use Rattle.nd_layout.proofs.Bounds.{offset_bounds, span_of-reaches}
 use Rattle.nd_layout.proofs.Distinct.{same_index}
-use Rattle.nd_layout.proofs.Ranks.{column_index, in_box-column_index, column_rank-column_index}
+use Rattle.nd_layout.proofs.Ranks.{in_box-column_index, column_rank-column_index}
 use Rattle.nd_layout.proofs.Pigeonhole.{pigeonhole}
 
 -- how far above the lowest place a displacement lies

@@ -173,3 +173,6 @@ stands_first first ns ss index few zeros some =
 pub stands_there : (first : ℕ) (ns : List ℕ) (ss : List ℤ) (rank place : ℕ) (index : List ℕ) → StandsAt first ns ss rank place index → pos place ≡ place_at_rank first ns ss rank
 stands_there first ns ss rank place index at =
     at.lies ∙ ap (place_of first ss) (sym (index_at-row_rank ns (take (length ns) index) at.inside) ∙ ap (index_at ns) at.ranked)
+
+pub index_there : (first : ℕ) (ns : List ℕ) (ss : List ℤ) (rank place : ℕ) (index : List ℕ) → StandsAt first ns ss rank place index → take (length ns) index ≡ index_at ns rank
+index_there first ns ss rank place index at = sym (index_at-row_rank ns (take (length ns) index) at.inside) ∙ ap (index_at ns) at.ranked

@@ -14,3 +14,4 @@ pub mod SliceOnce
 pub mod SliceStep
 pub mod SqueezeStep
 pub mod Ranked
+pub mod MergeStep

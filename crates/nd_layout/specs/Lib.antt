@@ -9,3 +9,4 @@ pub mod Refusals
 pub mod Elements
 pub mod Placements
 pub mod Walk
+pub mod Merging

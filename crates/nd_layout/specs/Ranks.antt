@@ -1,6 +1,6 @@
 -- The indexes of a shape by their ranks, and what it means that strides serve another shape.
 use Rattle.std.specs.Prelude.{ℕ, ◌-◌, ◌*◌, ◌/◌, ◌%◌, ◌<◌, ◌≡◌, true, nat_lt, nat_abs, if◌then◌else◌, slice_index, List, [], ◌∷◌, ◌++◌, length, reverse, ℤ, pos, ◌+ℤ◌, ◌*ℤ◌}
-use Rattle.nd_shape_and_slice.specs.Shape.{in_box, size_of, row_rank, column_rank}
+use Rattle.nd_shape_and_slice.specs.Shape.{in_box, size_of, row_rank, column_rank, index_at}
 use Rattle.nd_shape_and_slice.specs.Place.{displacement_of, span_of, magnitude_at, IsSeparated}
 use Rattle.nd_shape_and_slice.specs.declared.builder.Order.{Order}
 use Rattle.nd_shape_and_slice.specs.declared.builder.Order.TheVariants.{RowMajor, ColumnMajor}
@@ -9,6 +9,16 @@ use Rattle.nd_shape_and_slice.specs.declared.builder.Order.TheVariants.{RowMajor
 abbrev pub rank_in : Order → List ℕ → List ℕ → ℕ
 rank_in RowMajor ns i = row_rank ns i
 rank_in ColumnMajor ns i = column_rank ns i
+
+-- the index of a column-major rank
+abbrev pub column_index : List ℕ → ℕ → List ℕ
+column_index [] rank = []
+column_index (n ∷ ns) rank = (rank % n) ∷ column_index ns (rank / n)
+
+-- the index of a rank in an order
+abbrev pub index_in : Order → List ℕ → ℕ → List ℕ
+index_in RowMajor ns rank = index_at ns rank
+index_in ColumnMajor ns rank = column_index ns rank
 
 -- The strides ts serve the new lengths over a layout of these lengths and strides: each new index lies where
 -- the old index of equal rank lies, from the same offset. Any integers may serve.
@@ -47,6 +57,16 @@ fastest_first ColumnMajor xs = xs
 abbrev pub axis_in : Order → ℕ → ℕ → ℕ
 axis_in RowMajor n k = n - 1 - k
 axis_in ColumnMajor n k = k
+
+-- ---- and from the slowest on
+abbrev pub slowest_first : {X : Type 0} → Order → List X → List X
+slowest_first RowMajor xs = xs
+slowest_first ColumnMajor xs = reverse xs
+
+-- which of n axes is the k-th slowest
+abbrev pub slow_axis_in : Order → ℕ → ℕ → ℕ
+slow_axis_in RowMajor n k = k
+slow_axis_in ColumnMajor n k = n - 1 - k
 
 -- the displacement of the index of column-major rank r
 abbrev pub at_rank : List ℕ → List ℤ → ℕ → ℤ

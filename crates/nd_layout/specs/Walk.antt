@@ -1,5 +1,5 @@
 -- The places of a layout in row-major order of its indexes, one by one or by lanes.
-use Rattle.std.specs.Prelude.{◌∷◌, ◌⊎◌, ℕ, ◌+◌, ◌*◌, ◌<◌, ◌≤◌, ◌≡◌, true, List, length, take, ℤ, pos, ◌+ℤ◌, ◌*ℤ◌}
+use Rattle.std.specs.Prelude.{◌∷◌, ◌⊎◌, ℕ, ◌+◌, ◌-◌, ◌*◌, ◌<◌, ◌≤◌, ◌≡◌, true, List, length, take, slice_index, slice_index_or, ℤ, pos, ◌+ℤ◌, ◌*ℤ◌}
 use Rattle.nd_shape_and_slice.specs.Shape.{in_box, size_of, row_rank, index_at}
 use Rattle.nd_shape_and_slice.specs.Place.{place_of, displacement_of, span_of}
 
@@ -49,3 +49,9 @@ abbrev pub IsJoint : ℕ → ℤ → ℕ → ℕ → ℤ → ℕ → ℕ → ℤ
 IsJoint n s at m t new_at len stride =
     ((new_at ≡ at) × ((ns : List ℕ) (ss : List ℤ) → 0 < size_of (n ∷ m ∷ ns) → IsRejoined (n ∷ m ∷ ns) (s ∷ t ∷ ss) (len ∷ ns) (stride ∷ ss)))
     ⊎ ((new_at + 1 ≡ at) × (len ≡ n) × (stride ≡ s))
+
+-- the last axis is as long as all together, and steps by 1; the others have length 1
+pub record IsOneLane (count : ℕ) (lengths : List ℕ) (strides : List ℤ) : Type 0 where
+  pub long : slice_index_or lengths (length lengths - 1) 1 ≡ count
+  pub by_one : slice_index_or strides (length strides - 1) (pos 1) ≡ pos 1
+  pub ones : (k : ℕ) → k + 1 < length lengths → slice_index lengths k ≡ 1

@@ -16,7 +16,7 @@ struct Joint {
 }
 
 /// Whether an axis of this stride goes on where one of `len` steps ends.
-fn continues(stride: isize, len: usize, step: isize) -> bool
+pub(crate) fn continues(stride: isize, len: usize, step: isize) -> bool
     requires { len < 2 ^ 63 }
     ensures { IsTrue result ↔ (stride ≡ pos len *ℤ step) }
 {

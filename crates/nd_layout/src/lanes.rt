@@ -49,7 +49,7 @@ pub struct Lanes<'a> {
     ghost checked: { HasCheckedSize lengths.now },
     ghost reach: { ReachesPlaces first lengths.now strides.now },
     ghost cut: { IsCutInLanes first lengths.now strides.now outer.first outer.lengths.now outer.strides.now count stride },
-    ghost along: { 0 < size_of lengths.now → (count ≡ slice_index_or lengths.now (length lengths.now - 1) 1) × (stride ≡ slice_index_or strides.now (length strides.now - 1) (pos 0)) },
+    ghost along: { 0 < size_of lengths.now → (count ≡ slice_index_or lengths.now (length lengths.now - 1) 1) × (stride ≡ slice_index_or strides.now (length strides.now - 1) (pos 1)) },
 }
 
 /// How many axes the walk from lane to lane goes over: all but the last; all where there are no places, or no axes.
@@ -86,7 +86,7 @@ impl<'a> Lanes<'a> {
                 rank: 0,
                 outer: Walk::new(first, lengths, strides),
                 count: 1,
-                stride: 0,
+                stride: 1,
             };
         }
         Lanes {
@@ -107,7 +107,7 @@ impl<'a> Lanes<'a> {
         ensures lane { MatchOption result
             ((self.old.rank ≡ size_of self.old.lengths.now) × (self.new.rank ≡ self.old.rank))
             (λ lane. IsLane self.old.first self.old.lengths.now self.old.strides.now self.old.rank lane.place lane.count lane.stride × (self.new.rank ≡ self.old.rank + lane.count)) }
-        ensures along { IfSome result (λ lane. (lane.count ≡ slice_index_or self.old.lengths.now (length self.old.lengths.now - 1) 1) × (lane.stride ≡ slice_index_or self.old.strides.now (length self.old.strides.now - 1) (pos 0))) }
+        ensures along { IfSome result (λ lane. (lane.count ≡ slice_index_or self.old.lengths.now (length self.old.lengths.now - 1) 1) × (lane.stride ≡ slice_index_or self.old.strides.now (length self.old.strides.now - 1) (pos 1))) }
     {
         match self.outer.place() {
             Some(place) => {

@@ -12,6 +12,7 @@ pub mod axes;
 mod broadcast;
 mod diagonal;
 pub mod given;
+pub mod merging;
 pub(crate) mod places;
 mod resizing;
 mod slicing;

@@ -4,6 +4,7 @@
 #![tactic(auto)]
 
 mod grows;
+mod in_line;
 mod joined;
 mod lanes;
 mod layout;
@@ -19,6 +20,8 @@ pub use lanes::{Lane, Lanes};
 pub use layout::Layout;
 pub use layout::axes::stride_at;
 pub use layout::given::{offset_in_slice, offset_in_vec, reach_below, size_in_slice, size_in_vec};
+pub use layout::merging::furthest_axis;
+pub use ordered::slow_axis_at;
 pub use reshape::reshape_strides;
 pub use runs::{is_run, is_standard};
 pub use spans::{separated, span};

@@ -1,7 +1,7 @@
 //! Lengths and strides of the axes from the fastest on.
 
 ghost use Rattle.std.specs.Prelude.{◌≡◌, ◌<◌, pos, length, slice_index, slice_index_or, slice_set};
-ghost use Rattle.nd_layout.specs.Ranks.{fastest_first, axis_in};
+ghost use Rattle.nd_layout.specs.Ranks.{fastest_first, axis_in, slow_axis_in};
 
 use nd_shape_and_slice::Order;
 
@@ -14,6 +14,19 @@ pub(crate) fn axis_at(order: Order, count: usize, nth: usize) -> usize
     match order {
         Order::RowMajor => count - 1 - nth,
         Order::ColumnMajor => nth,
+    }
+}
+
+/// Which of `count` axes is the `nth` slowest.
+#[inline]
+pub fn slow_axis_at(order: Order, count: usize, nth: usize) -> usize
+    requires { nth < count }
+    ensures below { result < count }
+    ensures value { result ≡ slow_axis_in order count nth }
+{
+    match order {
+        Order::RowMajor => nth,
+        Order::ColumnMajor => count - 1 - nth,
     }
 }
 

@@ -145,6 +145,15 @@ impl<'a> Walk<'a> {
         }
     }
 
+    /// The index at which the walk stands, while there is one.
+    #[inline]
+    #[tactic(auto, using(crate::proofs::WalkSteps::index_there))]
+    pub fn index(&self) -> &[usize]
+        ensures { self.now.rank < size_of self.now.lengths.now → result.now ≡ index_at self.now.lengths.now self.now.rank }
+    {
+        &self.index[..self.lengths.len()]
+    }
+
     /// Moves on to the next index. Once all are passed it stays.
     #[inline]
     pub fn advance(&mut self)

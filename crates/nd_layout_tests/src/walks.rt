@@ -1,11 +1,13 @@
 //! Walks and lanes over layouts.
 
-ghost use Rattle.std.specs.Prelude.{◌≡◌, ◌<◌, ◌≤◌, ℕ, length, pos, slice_index};
+ghost use Rattle.std.specs.Prelude.{◌≡◌, ◌<◌, ◌≤◌, ℕ, length, pos, slice_index, IfSome};
 ghost use Rattle.nd_shape_and_slice.specs.Shape.{size_of, HasCheckedSize};
+ghost use Rattle.nd_layout.specs.Ranks.{IsRun};
 ghost use Rattle.nd_layout.specs.Places.{ReachesPlaces};
 ghost use Rattle.nd_layout.specs.Walk.{place_at_rank};
 
-use nd_layout::{Lanes, Walk};
+use nd_layout::{Lane, Lanes, Layout, Walk};
+use nd_shape_and_slice::{Dimension, IntoDimension, Order, StrideList};
 
 /// Writes the place of each index, in row-major order.
 fn list_places(first: usize, lengths: &[usize], strides: &[isize], out: &mut [usize])
@@ -69,8 +71,68 @@ fn lanes(rt: HostRuntime) {
     assert_eq!(rt; next_lane(&mut rows), None);
     assert_eq!(rt; next_lane(&mut rows), None);
     let mut one = Lanes::new(7, &[], &[]);
-    assert_eq!(rt; next_lane(&mut one), Some((7, 1, 0)));
+    assert_eq!(rt; next_lane(&mut one), Some((7, 1, 1)));
     assert_eq!(rt; next_lane(&mut one), None);
     assert_eq!(rt; next_lane(&mut Lanes::new(7, &[2, 0], &[1, 1])), None);
     assert_eq!(rt; next_lane(&mut Lanes::new(7, &[0, 2], &[1, 1])), None);
+}
+
+/// The first lane of a layout in an order of its own choice; of a run it has all places, and steps by 1.
+fn first_lane<D: Dimension, T: StrideList>(layout: &Layout<D, T>) -> Option<Lane>
+    ensures { 0 < size_of (D.lengths layout.now.dim) → IsRun (D.lengths layout.now.dim) (T.strides_of layout.now.strides) → IfSome result (λ lane. (lane.count ≡ size_of (D.lengths layout.now.dim)) × (lane.stride ≡ pos 1)) }
+{
+    let order = layout.free_order();
+    Lanes::new(order.offset, order.dim.slice(), order.strides.slice()).next()
+}
+
+/// The first two lanes in an order of the layout's own choice.
+fn two_lanes<D: Dimension, T: StrideList>(
+    layout: &Layout<D, T>,
+) -> (Option<(usize, usize, isize)>, Option<(usize, usize, isize)>) {
+    let order = layout.free_order();
+    let mut lanes = Lanes::new(order.offset, order.dim.slice(), order.strides.slice());
+    let first = next_lane(&mut lanes);
+    (first, next_lane(&mut lanes))
+}
+
+#[test]
+fn a_run_is_one_lane(rt: HostRuntime) {
+    let mut layout = Layout::in_order((2, 3, 4).into_dimension(), Order::ColumnMajor);
+    assert_eq!(rt; two_lanes(&layout), (Some((0, 24, 1)), None));
+    // its axes turned and exchanged
+    layout.invert_axis(1);
+    layout.invert_axis(2);
+    layout.swap_axes(0, 2);
+    assert_eq!(rt; layout.offset, 22);
+    assert_eq!(rt; two_lanes(&layout), (Some((0, 24, 1)), None));
+    assert!(rt;
+        matches!(
+            first_lane(&layout),
+            Some(Lane {
+                place: 0,
+                count: 24,
+                stride: 1,
+                ..
+            })
+        )
+    );
+    // one plane of it is no run
+    layout.collapse_axis(1, 2);
+    assert_eq!(rt; two_lanes(&layout), (Some((0, 2, 1)), Some((6, 2, 1))));
+}
+
+#[test]
+fn a_run_without_axes_or_places(rt: HostRuntime) {
+    assert_eq!(rt;
+        two_lanes(&Layout::in_order(().into_dimension(), Order::RowMajor)),
+        (Some((0, 1, 1)), None)
+    );
+    assert_eq!(rt;
+        two_lanes(&Layout::in_order((2, 0).into_dimension(), Order::RowMajor)),
+        (None, None)
+    );
+    assert_eq!(rt;
+        two_lanes(&Layout::in_order((1, 1).into_dimension(), Order::RowMajor)),
+        (Some((0, 1, 1)), None)
+    );
 }

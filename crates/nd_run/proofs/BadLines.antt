@@ -1,10 +1,11 @@
 -- The number that reading answers is that of the first bad line.
 use Rattle.std.proofs.Common.{◌≡◌, ℕ, ◌+◌, Bool, true, false, cond, List, [], ◌∷◌, ◌++◌, length, ℤ, Some, None, Result, Ok, Err, refl, sym, ap, subst, ◌∙◌, arith, inl, inr}
+use Rattle.nd_array_core.specs.Meaning.{Meaning}
 use Rattle.nd_run.specs.Calls.{Asked}
 use Rattle.nd_run.specs.Grammar.{AreAll, IsStart, IsCall}
 use Rattle.nd_run.specs.Words.{words_of, is_wordless}
 use Rattle.nd_run.specs.Script.{◌>>=◌, AskedScript, worded_lines, IsScript, IsNoStart, IsNoCall, IsBadFrom, read_or_number, call_in, start_in, calls_from, script_from}
-use Rattle.nd_run.proofs.CallLaws.{call_takes, start_takes, start_again}
+use Rattle.nd_run.proofs.Rows.{call_takes, start_takes, start_again}
 use Rattle.nd_run.proofs.ScriptLaws.{no_call, no_start, call_none, start_none, call_line, bind_err, numbered_ok, numbered_err, parts_are}
 
 -- the first line that isn't a call, where each line before it is
@@ -84,16 +85,16 @@ later n line lines bad is (inr (front, bad_line, back, parts, number, some, inr 
     inr (line ∷ front, bad_line, back, ap (λ (ls : List (List ℕ)). line ∷ ls) parts, omega (arith, number), some, inr (script, (good.0, good.1, same, good.3, good.4), call))
 
 -- the start is good, and a call after it isn't
-call_after_start : (n : ℕ) (line : List ℕ) (lines : List (List ℕ)) (bad : ℕ) (start : List ℕ × List ℤ) → is_wordless (words_of line) ≡ false → start_in line ≡ Some start → BadCall (n + 1) lines bad → IsBadFrom n (line ∷ lines) bad
+call_after_start : (n : ℕ) (line : List ℕ) (lines : List (List ℕ)) (bad : ℕ) (start : Meaning ℤ) → is_wordless (words_of line) ≡ false → start_in line ≡ Some start → BadCall (n + 1) lines bad → IsBadFrom n (line ∷ lines) bad
 call_after_start n line lines bad start is read h =
-    let script : AskedScript = record { lengths = start.0; elements = start.1; calls = h.calls } in
+    let script : AskedScript = record { start = start; calls = h.calls } in
     let same : worded_lines (line ∷ h.front) ≡ words_of line ∷ worded_lines h.front = rw is refl in
     inr (line ∷ h.front, h.line, h.back, ap (λ (ls : List (List ℕ)). line ∷ ls) h.parts, omega (arith, h.number), h.some, inr (script, (words_of line, worded_lines h.front, same, start_takes (words_of line) start read, h.good), h.is))
 
-abbrev script_with : List ℕ × List ℤ → List (Asked ℤ) → Result AskedScript ℕ
-script_with start calls = Ok (record { lengths = start.0; elements = start.1; calls = calls })
+abbrev script_with : Meaning ℤ → List (Asked ℤ) → Result AskedScript ℕ
+script_with start calls = Ok (record { start = start; calls = calls })
 
-script_bad_after : (n : ℕ) (line : List ℕ) (lines : List (List ℕ)) (bad : ℕ) (start : List ℕ × List ℤ) → is_wordless (words_of line) ≡ false → start_in line ≡ Some start → (calls_from (n + 1) lines >>= script_with start) ≡ Err bad → IsBadFrom n (line ∷ lines) bad
+script_bad_after : (n : ℕ) (line : List ℕ) (lines : List (List ℕ)) (bad : ℕ) (start : Meaning ℤ) → is_wordless (words_of line) ≡ false → start_in line ≡ Some start → (calls_from (n + 1) lines >>= script_with start) ≡ Err bad → IsBadFrom n (line ∷ lines) bad
 script_bad_after n line lines bad start is read e =
     elim (bind_err (calls_from (n + 1) lines) (script_with start) bad e) [
       | inl err ↦ call_after_start n line lines bad start is read (calls_bad (n + 1) lines bad err)
@@ -156,13 +157,13 @@ start_again_bad n (first ∷ front) line back none some bad_start bad number =
     skips n first (front ++ (line ∷ back)) bad h.0 (start_again_bad (n + 1) front line back h.1 some bad_start bad (omega (arith, number)))
 
 after_start : (t : Bool) (n : ℕ) (first : List ℕ) (front rest : List (List ℕ)) (script : AskedScript) (bad : ℕ) → is_wordless (words_of first) ≡ t
-    → (start : List (List ℕ)) (others : List (List (List ℕ))) → cond t (worded_lines front) (words_of first ∷ worded_lines front) ≡ start ∷ others → IsStart start script.lengths script.elements → AreAll IsCall others script.calls
+    → (start : List (List ℕ)) (others : List (List (List ℕ))) → cond t (worded_lines front) (words_of first ∷ worded_lines front) ≡ start ∷ others → IsStart start script.start → AreAll IsCall others script.calls
     → (IsScript front script → script_from (n + 1) rest ≡ Err bad) → ((calls : List (Asked ℤ)) → AreAll IsCall (worded_lines front) calls → calls_from (n + 1) rest ≡ Err bad) → script_from n (first ∷ rest) ≡ Err bad
 unfolding script_from
 after_start true n first front rest script bad is start others e h calls later_script later_calls = rw is (later_script (start, others, e, h, calls))
 after_start false n first front rest script bad is start others e h calls later_script later_calls =
     let p = parts_are (words_of first) start (worded_lines front) others e in
-    let read : start_in first ≡ Some (script.lengths, script.elements) = start_again (words_of first) (script.lengths, script.elements) (subst (λ (ws : List (List ℕ)). IsStart ws script.lengths script.elements) (sym p.0) h) in
+    let read : start_in first ≡ Some script.start = start_again (words_of first) script.start (subst (λ (ws : List (List ℕ)). IsStart ws script.start) (sym p.0) h) in
     let more : calls_from (n + 1) rest ≡ Err bad = later_calls script.calls (subst (λ (ws : List (List (List ℕ))). AreAll IsCall ws script.calls) (sym p.1) calls) in
     rw (is, read, more) refl
 

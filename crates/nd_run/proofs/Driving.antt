@@ -3,10 +3,9 @@ use Rattle.std.proofs.Common.{◌≡◌, ◌∙◌, ℕ, ℤ, Bool, false, List,
 use Rattle.std.specs.Prelude.{IfSome}
 use Rattle.nd_run.specs.declared.outcome.LoadError.{LoadError}
 use Rattle.nd_run.specs.declared.outcome.LoadError.TheVariants.{BadLine, Memory, ReadFailed}
-use Rattle.nd_run.specs.declared.reader.Script.{Script}
 use Rattle.nd_run.specs.declared.watched.Watched.{Watched}
 use Rattle.nd_run.specs.Calls.{Said}
-use Rattle.nd_run.specs.Script.{AskedScript, asked_script, IsScript}
+use Rattle.nd_run.specs.Script.{AskedScript, IsScript}
 use Rattle.nd_run.specs.Puts.{TakesText}
 use Rattle.nd_run.specs.Watched.{watched_failed}
 use Rattle.nd_run.specs.Words.{lines_of}
@@ -25,29 +24,29 @@ module _ (Runs : AskedScript → List (Said ℤ) → List ℕ → List ℤ → T
   run_reads script (OutOfMemory replies) h = refl
   run_reads script NoInput h = absurd h
 
-  load_ends : (bytes : List ℕ) (error : LoadError) → Loads bytes (Err error) → Ends Runs Stops bytes (load_ending error)
-  load_ends bytes (BadLine number) loads = loads
-  load_ends bytes Memory loads = inl refl
-  load_ends bytes ReadFailed loads = tt
+  load_ends : {X : Type 0} (view : X → AskedScript) (bytes : List ℕ) (error : LoadError) → Loads view bytes (Err error) → Ends Runs Stops bytes (load_ending error)
+  load_ends view bytes (BadLine number) loads = loads
+  load_ends view bytes Memory loads = inl refl
+  load_ends view bytes ReadFailed loads = tt
 
-  load_reads : (error : LoadError) → is_no_input (load_ending error) ≡ is_load_failure {X = Script} (Err error)
+  load_reads : (error : LoadError) → is_no_input (load_ending error) ≡ is_load_failure {X = Unit {0}} (Err error)
   load_reads (BadLine number) = refl
   load_reads Memory = refl
   load_reads ReadFailed = refl
 
-  module _ {W : Type 0} (contents : W → Option (List ℕ)) (remaining : Option (List ℕ)) (failed : Bool) (r : Result Script LoadError) (old new : Watched W) (status : ℕ) (loads : IfSome remaining (λ bytes. Loads bytes r)) (is : failed ≡ is_load_failure r) where
+  module _ {X W : Type 0} (view : X → AskedScript) (contents : W → Option (List ℕ)) (remaining : Option (List ℕ)) (failed : Bool) (r : Result X LoadError) (old new : Watched W) (status : ℕ) (loads : IfSome remaining (λ bytes. Loads view bytes r)) (is : failed ≡ is_load_failure r) where
     -- a script that was loaded and run
-    pub ran_is_driven : (script : Script) (end : Ending) → r ≡ Ok script → RunsTo Runs Stops (asked_script script) end → TakesText contents old new (ending_text end) → status ≡ status_of (watched_failed new) end → IfSome remaining (λ bytes. Driven Runs Stops contents bytes failed old new status)
+    pub ran_is_driven : (script : X) (end : Ending) → r ≡ Ok script → RunsTo Runs Stops (view script) end → TakesText contents old new (ending_text end) → status ≡ status_of (watched_failed new) end → IfSome remaining (λ bytes. Driven Runs Stops contents bytes failed old new status)
     ran_is_driven script end e how puts number = at remaining loads
       where
-        at : (known : Option (List ℕ)) → IfSome known (λ bytes. Loads bytes r) → IfSome known (λ bytes. Driven Runs Stops contents bytes failed old new status)
+        at : (known : Option (List ℕ)) → IfSome known (λ bytes. Loads view bytes r) → IfSome known (λ bytes. Driven Runs Stops contents bytes failed old new status)
         at None loads = tt
-        at (Some bytes) loads = (end, (is ∙ ap is_load_failure e) ∙ sym (run_reads (asked_script script) end how), run_ends bytes (asked_script script) end (subst (Loads bytes) e loads) how, puts, number)
+        at (Some bytes) loads = (end, (is ∙ ap is_load_failure e) ∙ sym (run_reads (view script) end how), run_ends bytes (view script) end (subst (Loads view bytes) e loads) how, puts, number)
 
     -- one that wasn't loaded
     pub unloaded_is_driven : (error : LoadError) → r ≡ Err error → TakesText contents old new (ending_text (load_ending error)) → status ≡ status_of (watched_failed new) (load_ending error) → IfSome remaining (λ bytes. Driven Runs Stops contents bytes failed old new status)
     unloaded_is_driven error e puts number = at remaining loads
       where
-        at : (known : Option (List ℕ)) → IfSome known (λ bytes. Loads bytes r) → IfSome known (λ bytes. Driven Runs Stops contents bytes failed old new status)
+        at : (known : Option (List ℕ)) → IfSome known (λ bytes. Loads view bytes r) → IfSome known (λ bytes. Driven Runs Stops contents bytes failed old new status)
         at None loads = tt
-        at (Some bytes) loads = (load_ending error, (is ∙ ap is_load_failure e) ∙ sym (load_reads error), load_ends bytes error (subst (Loads bytes) e loads), puts, number)
+        at (Some bytes) loads = (load_ending error, (is ∙ ap is_load_failure e) ∙ sym (load_reads error), load_ends view bytes error (subst (Loads view bytes) e loads), puts, number)

@@ -1,12 +1,34 @@
 -- Steps and replies, one at a time.
-use Rattle.std.proofs.Common.{◌≡◌, ℕ, suc, ◌<◌, ◌∷◌, List, length, map, drop, get_or, drop-cons, refl, ap, sym, ◌∙◌, Ok, Err, Option, Some, None}
+use Rattle.std.proofs.Common.{◌≡◌, ℕ, Bool, true, false, List, refl, ap, sym, ◌∙◌, cond, [], ◌∷◌, ◌++◌, Ok, Err, Option, Some, None, Result}
+use Rattle.std.specs.Prelude.{is_some, OnErr}
+use Rattle.nd_shape_and_slice.specs.Shape.{in_box}
+use Rattle.nd_array_core.specs.Laws.{NothingOutside}
 use Rattle.std.proofs.Math.Path.{fun_ext}
 use Rattle.nd_array_core.specs.Meaning.{Meaning, meaning_through, inside}
 use Rattle.nd_run.specs.declared.cause.Cause.{Cause}
-use Rattle.nd_run.specs.declared.calls.Step.{Step}
-use Rattle.nd_run.specs.Calls.{AskedStep, asked_step}
-use Rattle.nd_run.specs.Steps.{refusal, step_shape, step_index}
-use Rattle.nd_run.specs.Fold.{step_result, path_result}
+use Rattle.nd_run.specs.Calls.{AskedStep, Asking, Asked, About, Said, SaidDone, SaidRefused}
+use Rattle.nd_run.specs.Steps.{Test, first_failed, tests_of, refusal, unless, step_shape, step_index, shape_along, index_along}
+use Rattle.nd_run.specs.Acts.{path_tests, meaning_at_end}
+use Rattle.nd_run.specs.Placing.{unless_refused, said_unless}
+use Rattle.nd_run.specs.Fold.{LeadsAlong, step_result, answer_to, number_of, question_tests, answers_in_memory, look_refusal, MayLackMemory, tests_for, done, outcome, given_by, reply_to}
+
+-- ---- tests before others
+
+pub tests_pass : (xs ys : List Test) → first_failed xs ≡ None → first_failed (xs ++ ys) ≡ first_failed ys
+tests_pass [] ys h = refl
+tests_pass (x ∷ xs) ys h = by_test x.0 h (tests_pass xs ys)
+  where
+    by_test : (t : Bool) → cond t (first_failed xs) (Some x.1) ≡ None → (first_failed xs ≡ None → first_failed (xs ++ ys) ≡ first_failed ys) → cond t (first_failed (xs ++ ys)) (Some x.1) ≡ first_failed ys
+    by_test true e rest = rest e
+    by_test false e rest = absurd cc
+
+pub tests_fail : (xs ys : List Test) (cause : Cause) → first_failed xs ≡ Some cause → first_failed (xs ++ ys) ≡ Some cause
+tests_fail [] ys cause h = absurd cc
+tests_fail (x ∷ xs) ys cause h = by_test x.0 h (tests_fail xs ys cause)
+  where
+    by_test : (t : Bool) → cond t (first_failed xs) (Some x.1) ≡ Some cause → (first_failed xs ≡ Some cause → first_failed (xs ++ ys) ≡ Some cause) → cond t (first_failed (xs ++ ys)) (Some x.1) ≡ Some cause
+    by_test true e rest = rest e
+    by_test false e rest = e
 
 module _ {A : Type 0} where
   meaning_from : List ℕ → (List ℕ → Option A) → Meaning A
@@ -34,8 +56,43 @@ module _ {A : Type 0} where
       go : (s : List ℕ) (at : List ℕ → Option A) → s ≡ old.shape → ((i : List ℕ) → at i ≡ old.at i) → (let m : Meaning A = record { shape = s; at = at } in m) ≡ old
       go s at e h = rw (fun_ext h, e) refl
 
-  -- a path is refused by the cause against its first refused step
-  pub path_refused : (path : List Step) (k : ℕ) (step : Step) (start m : Meaning A) (cause : Cause) → k < length path → get_or path k step ≡ step → step_result (asked_step step) m ≡ Err cause → path_result (map asked_step (drop k path)) m ≡ path_result (map asked_step path) start → path_result (map asked_step path) start ≡ Err cause
-  path_refused path k step start m cause lt at refused so_far =
-      let rest : drop k path ≡ step ∷ drop (suc k) path = rw (drop-cons path k step) (ap (λ s. s ∷ drop (suc k) path) at) in
-      sym so_far ∙ (ap (λ steps. path_result (map asked_step steps) m) rest ∙ rw refused refl)
+  -- what a path leads to, as one equation
+  pub leads_is : (path : List AskedStep) (m n : Meaning A) → LeadsAlong path m n → NothingOutside n → n ≡ meaning_at_end path m
+  leads_is path m n along outside = seen_is m n (shape_along path m.shape) (index_along path m.shape) along.0 (λ i. by_test i (in_box n.shape i) refl)
+    where
+      by_test : (i : List ℕ) (b : Bool) → in_box n.shape i ≡ b → n.at i ≡ inside n.shape i (m.at (index_along path m.shape i))
+      by_test i true h = rw h (along.1 i h).1
+      by_test i false h = rw h (outside i h)
+
+  -- a call that is checked first and answers no question: its reply, and the array after it
+  pub carried : (eq : A → A → Bool) (call : Asked A) (m : Meaning A) (r : Option Cause) (new : Meaning A) → r ≡ first_failed (tests_for call m.shape) → (done eq call m).0 ≡ SaidDone → new ≡ unless_refused r (done eq call m).1 m
+      → ◌≡◌ {A = Said A × Meaning A} (said_unless r, new) (given_by (outcome eq call m) m)
+  carried eq call m None new e says is = ap (λ s. (s, new)) (sym says) ∙ (ap (λ n. ((done eq call m).0, n)) is ∙ ap (λ r. given_by (unless r (done eq call m)) m) e)
+  carried eq call m (Some cause) new e says is = ap (λ n. (SaidRefused (number_of cause), n)) is ∙ ap (λ r. given_by (unless r (done eq call m)) m) e
+
+  pub unchanged : (r : Option Cause) (new m : Meaning A) → is_some r ≡ true → m ≡ unless_refused r new m
+  unchanged None new m some = absurd cc
+  unchanged (Some cause) new m some = refl
+
+  -- a question at the end of a path
+  module _ (eq : A → A → Bool) (path : List AskedStep) (question : Asking A) (m : Meaning A) where
+    ask_allowed : look_refusal path m.shape ≡ None → first_failed (tests_for (About path question) m.shape) ≡ None
+    ask_allowed h = tests_pass (path_tests tests_of path m.shape) (question_tests question (shape_along path m.shape)) h
+
+    pub ask_lacks : {X E : Type 0} (r : Result X E) → look_refusal path m.shape ≡ None → OnErr r (answers_in_memory question ≡ true) → OnErr r (MayLackMemory (About path question) m)
+    ask_lacks (Ok x) h takes = tt
+    ask_lacks (Err e) h takes = (ask_allowed h, takes)
+
+    pub answer_is : (n : Meaning A) → look_refusal path m.shape ≡ None → n ≡ meaning_at_end path m → answer_to eq question n ≡ reply_to eq (About path question) m
+    answer_is n h e = ap (answer_to eq question) e ∙ ap (λ r. (given_by (unless r (done eq (About path question) m)) m).0) (sym (ask_allowed h))
+
+    pub ask_refused : (cause : Cause) → look_refusal path m.shape ≡ Some cause → SaidRefused (number_of cause) ≡ reply_to eq (About path question) m
+    ask_refused cause h = ap (λ r. (given_by (unless r (done eq (About path question) m)) m).0) (sym (tests_fail (path_tests tests_of path m.shape) (question_tests question (shape_along path m.shape)) cause h))
+
+    -- it leaves the array as it is
+    pub asked_is : (reply : Said A) → reply ≡ reply_to eq (About path question) m → ◌≡◌ {A = Said A × Meaning A} (reply, m) (given_by (outcome eq (About path question) m) m)
+    asked_is reply e = ap (λ s. (s, m)) e ∙ kept (first_failed (tests_for (About path question) m.shape))
+      where
+        kept : (r : Option Cause) → ◌≡◌ {A = Said A × Meaning A} ((given_by (unless r (done eq (About path question) m)) m).0, m) (given_by (unless r (done eq (About path question) m)) m)
+        kept None = refl
+        kept (Some cause) = refl

@@ -1,40 +1,51 @@
 -- Reading items one after the other, as a loop does.
-use Rattle.std.proofs.Common.{◌≡◌, ℕ, zero, suc, ◌-◌, ◌+◌, ◌≤◌, ◌<◌, List, [], ◌∷◌, ◌++◌, length, Option, Some, None, refl, sym, ap, ◌∙◌, append_assoc, arith}
+use Rattle.std.proofs.Common.{◌≡◌, ℕ, zero, suc, ◌-◌, ◌+◌, ◌≤◌, ◌<◌, Bool, true, false, List, [], ◌∷◌, ◌++◌, length, Option, Some, None, refl, sym, ap, ◌∙◌, append_assoc, arith}
 use Rattle.std.proofs.lemmas.List.{append-nil}
 use Rattle.nd_run.specs.declared.reader.fault.LineFault.{LineFault}
 use Rattle.nd_run.specs.declared.reader.fault.LineFault.TheVariants.{Bad, Memory}
-use Rattle.nd_run.specs.Reading.{◌>>=◌, Fails, item_at, many_at}
+use Rattle.nd_run.specs.Reading.{◌>>=◌, Fails, item_at, both_at, map_read, many_while, many_at}
 
 -- what was read before, and what is still read
 abbrev pub with_front : {X : Type 0} → List X → Option (List X × List (List ℕ)) → Option (List X × List (List ℕ))
 with_front front read = read >>= λ x. Some (front ++ x.0, x.1)
 
-pub regroup : {X : Type 0} (front : List X) (x : X) (read : Option (List X × List (List ℕ))) → with_front front (read >>= λ y. Some (x ∷ y.0, y.1)) ≡ with_front (front ++ x ∷ []) read
+regroup : {X : Type 0} (front : List X) (x : X) (read : Option (List X × List (List ℕ))) → with_front front (map_read {X = X × List X} (λ p. p.0 ∷ p.1) (read >>= λ y. Some ((x, y.0), y.1))) ≡ with_front (front ++ x ∷ []) read
+unfolding map_read
 regroup {X} front x None = refl
 regroup {X} front x (Some y) = ap (λ (xs : List X). Some (xs, y.1)) (simp append_assoc)
 
-pub goes_on : {X : Type 0} (read : List (List ℕ) → Option (X × List (List ℕ))) (front : List X) (count i : ℕ) (words : List (List ℕ)) (x : X) (after : List (List ℕ)) (total : Option (List X × List (List ℕ))) → i < count → read words ≡ Some (x, after)
-    → with_front front (many_at read (count - i) words) ≡ total → with_front (front ++ x ∷ []) (many_at read (count - (i + 1)) after) ≡ total
-unfolding many_at
-goes_on read front count i words x after total lt h so_far =
+pub goes_on : {X : Type 0} (begins : List (List ℕ) → Bool) (read : List (List ℕ) → Option (X × List (List ℕ))) (front : List X) (count i : ℕ) (words : List (List ℕ)) (x : X) (after : List (List ℕ)) (total : Option (List X × List (List ℕ))) → i < count → begins words ≡ true → read words ≡ Some (x, after)
+    → with_front front (many_while begins read (count - i) words) ≡ total → with_front (front ++ x ∷ []) (many_while begins read (count - (i + 1)) after) ≡ total
+unfolding many_while both_at
+goes_on begins read front count i words x after total lt on h so_far =
     let k : count - i ≡ suc (count - (i + 1)) = omega arith in
-    let one : with_front front (many_at read (count - i) words) ≡ with_front (front ++ x ∷ []) (many_at read (count - (i + 1)) after) = rw (k, h) (regroup front x (many_at read (count - (i + 1)) after)) in
+    let one : with_front front (many_while begins read (count - i) words) ≡ with_front (front ++ x ∷ []) (many_while begins read (count - (i + 1)) after) = rw (k, on, h) (regroup front x (many_while begins read (count - (i + 1)) after)) in
     sym one ∙ so_far
 
-pub stops : {X : Type 0} (read : List (List ℕ) → Option (X × List (List ℕ))) (fault : LineFault) (front : List X) (count i : ℕ) (words : List (List ℕ)) (total : Option (List X × List (List ℕ))) → i < count → Fails fault (read words)
-    → with_front front (many_at read (count - i) words) ≡ total → Fails fault total
-unfolding many_at
-stops read Memory front count i words total lt h so_far = tt
-stops read Bad front count i words total lt h so_far =
+pub stops : {X : Type 0} (begins : List (List ℕ) → Bool) (read : List (List ℕ) → Option (X × List (List ℕ))) (fault : LineFault) (front : List X) (count i : ℕ) (words : List (List ℕ)) (total : Option (List X × List (List ℕ))) → i < count → begins words ≡ true → Fails fault (read words)
+    → with_front front (many_while begins read (count - i) words) ≡ total → Fails fault total
+unfolding many_while both_at map_read
+stops begins read Memory front count i words total lt on h so_far = tt
+stops begins read Bad front count i words total lt on h so_far =
     let k : count - i ≡ suc (count - (i + 1)) = omega arith in
-    let one : with_front front (many_at read (count - i) words) ≡ None = rw (k, h) refl in
+    let one : with_front front (many_while begins read (count - i) words) ≡ None = rw (k, on, h) refl in
     sym so_far ∙ one
 
-pub is_done : {X : Type 0} (read : List (List ℕ) → Option (X × List (List ℕ))) (front : List X) (count i : ℕ) (words : List (List ℕ)) (total : Option (List X × List (List ℕ))) → count ≤ i → with_front front (many_at read (count - i) words) ≡ total → total ≡ Some (front, words)
-unfolding many_at
-is_done {X} read front count i words total le so_far =
+-- no more begins
+pub ends : {X : Type 0} (begins : List (List ℕ) → Bool) (read : List (List ℕ) → Option (X × List (List ℕ))) (front : List X) (count i : ℕ) (words : List (List ℕ)) (total : Option (List X × List (List ℕ))) → i < count → begins words ≡ false
+    → with_front front (many_while begins read (count - i) words) ≡ total → total ≡ Some (front, words)
+unfolding many_while
+ends {X} begins read front count i words total lt stop so_far =
+    let k : count - i ≡ suc (count - (i + 1)) = omega arith in
+    let one : with_front front (many_while begins read (count - i) words) ≡ Some (front, words) = rw (k, stop) (ap (λ (xs : List X). Some (xs, words)) (append-nil front)) in
+    sym so_far ∙ one
+
+-- no more are wanted
+pub is_done : {X : Type 0} (begins : List (List ℕ) → Bool) (read : List (List ℕ) → Option (X × List (List ℕ))) (front : List X) (count i : ℕ) (words : List (List ℕ)) (total : Option (List X × List (List ℕ))) → count ≤ i → with_front front (many_while begins read (count - i) words) ≡ total → total ≡ Some (front, words)
+unfolding many_while
+is_done {X} begins read front count i words total le so_far =
     let k : count - i ≡ 0 = omega arith in
-    let one : with_front front (many_at read (count - i) words) ≡ Some (front, words) = rw k (ap (λ (xs : List X). Some (xs, words)) (append-nil front)) in
+    let one : with_front front (many_while begins read (count - i) words) ≡ Some (front, words) = rw k (ap (λ (xs : List X). Some (xs, words)) (append-nil front)) in
     sym so_far ∙ one
 
 -- a reader that takes a word or more
@@ -43,7 +54,7 @@ TakesWords {X} read = (words : List (List ℕ)) (x : X) (rest : List (List ℕ))
 
 short_by : {X : Type 0} (read : List (List ℕ) → Option (X × List (List ℕ))) (n : ℕ) (words : List (List ℕ)) (r : Option (X × List (List ℕ))) → read words ≡ r
     → ((x : X) (rest : List (List ℕ)) → r ≡ Some (x, rest) → many_at read n rest ≡ None) → many_at read (suc n) words ≡ None
-unfolding many_at
+unfolding many_while both_at map_read
 short_by read n words None e h = rw e refl
 short_by read n words (Some first) e h = rw (e, h first.0 first.1 refl) refl
 

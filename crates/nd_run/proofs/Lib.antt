@@ -1,17 +1,12 @@
-pub mod ActLaws
 pub mod BadLines
-pub mod CallLaws
-pub mod ElementLaws
 pub mod StepTests
-pub mod StepLaws
 pub mod Driving
+pub mod Equals
 pub mod Indexes
 pub mod Items
 pub mod Keywords
-pub mod LineLaws
 pub mod NumberLaws
 pub mod Numerals
-pub mod Paths
 pub mod Puts
 pub mod ScriptLaws
 pub mod Scripts
@@ -24,3 +19,6 @@ pub mod WritePaths
 pub mod WriteLaws
 pub mod PartLaws
 pub mod TextLaws
+pub mod Forms
+pub mod Rows
+pub mod ArrayLaws

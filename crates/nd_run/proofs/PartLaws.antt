@@ -1,6 +1,6 @@
 -- The two parts of an array that is split along an axis: each index lies in one of them.
 use Rattle.std.proofs.Common.{◌≡◌, ℕ, zero, suc, ◌+◌, ◌-◌, ◌<◌, ◌≤◌, Bool, true, false, ltb, List, [], ◌∷◌, get_or, set, Option, None, Some, refl, sym, ap, ◌∙◌, arith, if◌then◌else◌}
-use Rattle.std.specs.Prelude.{is_some, ◌||◌}
+use Rattle.std.specs.Prelude.{is_some}
 use Rattle.std.proofs.lemmas.Bool.{and_parts, and_from, lt-ltb, ltb-true, ltb-false}
 use Rattle.nd_shape_and_slice.specs.Shape.{in_box}
 use Rattle.nd_shape_and_slice.specs.Maps.{lower_shape, upper_shape, upper_index}
@@ -9,12 +9,10 @@ use Rattle.nd_array_core.specs.Laws.{NothingOutside}
 use Rattle.nd_array_core.specs.PlacedArray.{PlacedArray, found_at, element_placed}
 use Rattle.nd_array_core.specs.scoped.Tasks.{IsViewThrough}
 use Rattle.nd_run.specs.declared.cause.Cause.{Cause}
-use Rattle.nd_run.specs.Calls.{Acting, Asked, SplitWriting}
-use Rattle.nd_run.specs.Acts.{joined_elements, clones, lower_meaning, upper_meaning, parts_tests, parts_refusal, place_tests, place_refusal, split_refusal}
-use Rattle.nd_run.specs.Placing.{meaning_in, Leaves, acted_elements_unless, said_unless}
-use Rattle.nd_run.specs.Fold.{reply_to, meaning_after, MayLackMemory}
-use Rattle.nd_run.proofs.FoldLemmas.{same_meaning}
-use Rattle.nd_run.proofs.WritePaths.{tests_pass, tests_fail}
+use Rattle.nd_run.specs.Calls.{Acting}
+use Rattle.nd_run.specs.Acts.{joined_elements, lower_meaning, upper_meaning, parts_tests, parts_refusal, point_tests, point_refusal, split_refusal, split_written}
+use Rattle.nd_run.specs.Placing.{meaning_in, Leaves, unless_refused, acted_elements_unless}
+use Rattle.nd_run.proofs.FoldLemmas.{tests_pass, tests_fail, same_meaning}
 
 -- an index whose coordinate is below the split lies in the first part
 pub in_lower : (ns i : List ℕ) (a k : ℕ) → in_box ns i ≡ true → get_or i a 0 < k → in_box (lower_shape ns a k) i ≡ true
@@ -69,41 +67,27 @@ module _ {A : Type 0} where
 -- ---- a split, and an act on each part
 
 module _ {A : Type 0} (axis index : ℕ) (first second : Acting A) where
-  abbrev call : Asked A
-  call = SplitWriting axis index first second
-
   -- the parts' refusal is the call's, where the array can be split so
-  pub parts_decide : (ns : List ℕ) → place_refusal axis index ns ≡ None → split_refusal axis index first second ns ≡ parts_refusal first second (lower_shape ns axis index) (upper_shape ns axis index)
-  parts_decide ns h = tests_pass (place_tests axis index ns) (parts_tests first second (lower_shape ns axis index) (upper_shape ns axis index)) h
+  pub parts_decide : (ns : List ℕ) → point_refusal axis index ns ≡ None → split_refusal axis index first second ns ≡ parts_refusal first second (lower_shape ns axis index) (upper_shape ns axis index)
+  parts_decide ns h = tests_pass (point_tests axis index ns) (parts_tests first second (lower_shape ns axis index) (upper_shape ns axis index)) h
 
-  pub place_decides : (r : Option Cause) (ns : List ℕ) → is_some r ≡ true → r ≡ place_refusal axis index ns → r ≡ split_refusal axis index first second ns
-  place_decides None ns some e = absurd cc
-  place_decides (Some cause) ns some e = sym (tests_fail (place_tests axis index ns) (parts_tests first second (lower_shape ns axis index) (upper_shape ns axis index)) cause (sym e))
-
-  pub split_reply : (r : Option Cause) (m : Meaning A) → r ≡ split_refusal axis index first second m.shape → said_unless r ≡ reply_to call m
-  split_reply None m e = rw (sym e) refl
-  split_reply (Some cause) m e = rw (sym e) refl
-
-  pub split_refused : (r : Option Cause) (m : Meaning A) → is_some r ≡ true → r ≡ split_refusal axis index first second m.shape → meaning_after call m ≡ m
-  split_refused None m some e = absurd cc
-  split_refused (Some cause) m some e = rw (sym e) refl
-
-  pub split_lacks : (m : Meaning A) → split_refusal axis index first second m.shape ≡ None → (clones first || clones second) ≡ true → MayLackMemory call m
-  split_lacks m allowed clones = (rw allowed refl, clones)
+  pub point_decides : (r : Option Cause) (ns : List ℕ) → is_some r ≡ true → r ≡ point_refusal axis index ns → r ≡ split_refusal axis index first second ns
+  point_decides None ns some e = absurd cc
+  point_decides (Some cause) ns some e = sym (tests_fail (point_tests axis index ns) (parts_tests first second (lower_shape ns axis index) (upper_shape ns axis index)) cause (sym e))
 
   -- an array is its parts end to end
   rejoined : (m : Meaning A) → NothingOutside m → (i : List ℕ) → m.at i ≡ inside m.shape i (joined_elements axis index (lower_meaning axis index m).at (upper_meaning axis index m).at i)
   rejoined m outside = joined_is m.shape axis index m.at (lower_meaning axis index m).at (upper_meaning axis index m).at outside (λ i h. rw h refl) (λ i h. rw h refl)
 
   -- what the acts leave in each part is what the call leaves of the array
-  pub split_is : (r : Option Cause) (old new : Meaning A) → r ≡ split_refusal axis index first second old.shape → NothingOutside old → NothingOutside new → new.shape ≡ old.shape
+  pub split_is : (r : Option Cause) (old new : Meaning A) → NothingOutside old → NothingOutside new → new.shape ≡ old.shape
       → ((i : List ℕ) → in_box (lower_shape old.shape axis index) i ≡ true → new.at i ≡ acted_elements_unless r first (lower_meaning axis index old) i)
-      → ((i : List ℕ) → in_box (upper_shape old.shape axis index) i ≡ true → new.at (upper_index axis index i) ≡ acted_elements_unless r second (upper_meaning axis index old) i) → new ≡ meaning_after call old
-  split_is r old new e outside outside' shape low high = by_refusal r e joined_so
+      → ((i : List ℕ) → in_box (upper_shape old.shape axis index) i ≡ true → new.at (upper_index axis index i) ≡ acted_elements_unless r second (upper_meaning axis index old) i) → new ≡ unless_refused r (split_written axis index first second old) old
+  split_is r old new outside outside' shape low high = by_refusal r joined_so
     where
       joined_so : (i : List ℕ) → new.at i ≡ inside old.shape i (joined_elements axis index (acted_elements_unless r first (lower_meaning axis index old)) (acted_elements_unless r second (upper_meaning axis index old)) i)
       joined_so = joined_is old.shape axis index new.at (acted_elements_unless r first (lower_meaning axis index old)) (acted_elements_unless r second (upper_meaning axis index old)) (λ i h. outside' i (ap (λ ns. in_box ns i) shape ∙ h)) low high
 
-      by_refusal : (r : Option Cause) → r ≡ split_refusal axis index first second old.shape → ((i : List ℕ) → new.at i ≡ inside old.shape i (joined_elements axis index (acted_elements_unless r first (lower_meaning axis index old)) (acted_elements_unless r second (upper_meaning axis index old)) i)) → new ≡ meaning_after call old
-      by_refusal None e so = rw (sym e) (same_meaning (record { shape = old.shape; at = λ i. inside old.shape i (joined_elements axis index (acted_elements_unless None first (lower_meaning axis index old)) (acted_elements_unless None second (upper_meaning axis index old)) i) }) new shape so)
-      by_refusal (Some cause) e so = rw (sym e) (same_meaning old new shape (λ i. so i ∙ sym (rejoined old outside i)))
+      by_refusal : (r : Option Cause) → ((i : List ℕ) → new.at i ≡ inside old.shape i (joined_elements axis index (acted_elements_unless r first (lower_meaning axis index old)) (acted_elements_unless r second (upper_meaning axis index old)) i)) → new ≡ unless_refused r (split_written axis index first second old) old
+      by_refusal None so = same_meaning (split_written axis index first second old) new shape so
+      by_refusal (Some cause) so = same_meaning old new shape (λ i. so i ∙ sym (rejoined old outside i))

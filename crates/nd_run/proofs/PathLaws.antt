@@ -3,12 +3,12 @@ use Rattle.std.proofs.Common.{◌≡◌, ◌∙◌, List, [], ◌∷◌, Option,
 use Rattle.nd_array_core.specs.Meaning.{Meaning}
 use Rattle.nd_run.specs.declared.cause.Cause.{Cause}
 use Rattle.nd_run.specs.Calls.{AskedStep}
-use Rattle.nd_run.specs.Steps.{refusal, unless, step_shape, index_along}
+use Rattle.nd_run.specs.Steps.{tests_of, refusal, unless, step_shape, index_along}
 use Rattle.nd_run.specs.Fold.{and_then, step_meaning, path_result, LeadsAlong}
 use Rattle.nd_run.specs.Laws.{StepsLeadInside, PathsLeadAlong}
 
 module _ {A : Type 0} (inside : StepsLeadInside) where
-  step_leads : (r : Option Cause) (step : AskedStep) (path : List AskedStep) (m n : Meaning A) → refusal step m.shape ≡ r → ((x : Meaning A) → path_result path x ≡ Ok n → LeadsAlong path x n) → and_then (unless r (step_meaning step m)) (path_result path) ≡ Ok n → LeadsAlong (step ∷ path) m n
+  step_leads : (r : Option Cause) (step : AskedStep) (path : List AskedStep) (m n : Meaning A) → refusal step m.shape ≡ r → ((x : Meaning A) → path_result tests_of path x ≡ Ok n → LeadsAlong path x n) → and_then (unless r (step_meaning step m)) (path_result tests_of path) ≡ Ok n → LeadsAlong (step ∷ path) m n
   step_leads None step path m n allowed rest e =
       let more = rest (step_meaning step m) e in
       (more.0, λ i h. (let r = more.1 i h in (inside step m.shape allowed (index_along path (step_shape step m.shape) i) r.0, r.1 ∙ rw r.0 refl)))

@@ -5,7 +5,7 @@ use Rattle.nd_run.specs.Calls.{Asked}
 use Rattle.nd_run.specs.Grammar.{AreAll, IsStart, IsCall}
 use Rattle.nd_run.specs.Words.{before_first, goes_on, is_blank, words_of, is_wordless}
 use Rattle.nd_run.specs.Script.{◌>>=◌, AskedScript, worded_lines, IsScript, IsNoStart, IsNoCall, read_or_number, call_in, start_in, calls_from, script_from}
-use Rattle.nd_run.proofs.CallLaws.{call_takes, call_again, start_takes, start_again}
+use Rattle.nd_run.proofs.Rows.{call_takes, call_again, start_takes, start_again}
 
 -- ---- lines
 
@@ -34,7 +34,7 @@ pub no_call : (line : List ℕ) → call_in line ≡ None → IsNoCall line
 no_call line e call h = not_both (call_in line) call e (call_line line call h)
 
 pub no_start : (line : List ℕ) → start_in line ≡ None → IsNoStart line
-no_start line e lengths elements h = not_both (start_in line) (lengths, elements) e (start_again (words_of line) (lengths, elements) h)
+no_start line e start h = not_both (start_in line) start e (start_again (words_of line) start h)
 
 none_by : {X : Type 0} (r : Option X) → ((x : X) → r ≡ Some x → ⊥) → r ≡ None
 none_by None h = refl
@@ -44,7 +44,7 @@ pub call_none : (line : List ℕ) → IsNoCall line → call_in line ≡ None
 call_none line h = none_by (call_in line) (λ call e. h call (call_takes (length line) (words_of line) call e))
 
 pub start_none : (line : List ℕ) → IsNoStart line → start_in line ≡ None
-start_none line h = none_by (start_in line) (λ array e. h array.0 array.1 (start_takes (words_of line) array e))
+start_none line h = none_by (start_in line) (λ array e. h array (start_takes (words_of line) array e))
 
 -- ---- steps that read something, or not
 
@@ -108,12 +108,12 @@ script_by true n line lines script is others e =
     let same : worded_lines (line ∷ lines) ≡ h.0 ∷ h.1 = rw is h.2 in
     (h.0, h.1, same, h.3, h.4)
 script_by false n line lines script is others e =
-    let read : (read_or_number n (start_in line) >>= λ start. calls_from (n + 1) lines >>= λ calls. Ok (record { lengths = start.0; elements = start.1; calls = calls })) ≡ Ok script = rw is at e in
-    let a = bind_ok (read_or_number n (start_in line)) (λ start. calls_from (n + 1) lines >>= λ calls. Ok (record { lengths = start.0; elements = start.1; calls = calls })) script read in
-    let b = bind_ok (calls_from (n + 1) lines) (λ calls. Ok (record { lengths = a.0.0; elements = a.0.1; calls = calls })) script a.2 in
-    let made : AskedScript = record { lengths = a.0.0; elements = a.0.1; calls = b.0 } in
+    let read : (read_or_number n (start_in line) >>= λ start. calls_from (n + 1) lines >>= λ calls. Ok (record { start = start; calls = calls })) ≡ Ok script = rw is at e in
+    let a = bind_ok (read_or_number n (start_in line)) (λ start. calls_from (n + 1) lines >>= λ calls. Ok (record { start = start; calls = calls })) script read in
+    let b = bind_ok (calls_from (n + 1) lines) (λ calls. Ok (record { start = a.0; calls = calls })) script a.2 in
+    let made : AskedScript = record { start = a.0; calls = b.0 } in
     let whole : made ≡ script = cc in
-    let first : IsStart (words_of line) a.0.0 a.0.1 = start_takes (words_of line) a.0 (numbered_ok n (start_in line) a.0 a.1) in
+    let first : IsStart (words_of line) a.0 = start_takes (words_of line) a.0 (numbered_ok n (start_in line) a.0 a.1) in
     let same : worded_lines (line ∷ lines) ≡ words_of line ∷ worded_lines lines = rw is refl in
     let is_script : IsScript (line ∷ lines) made = (words_of line, worded_lines lines, same, first, calls_take (n + 1) lines b.0 b.1) in
     subst (IsScript (line ∷ lines)) whole is_script
@@ -129,12 +129,12 @@ parts_are x y xs ys e = (cc, cc)
 
 script_again_by : (t : Bool) (n : ℕ) (line : List ℕ) (lines : List (List ℕ)) (script : AskedScript) → is_wordless (words_of line) ≡ t
     → ((s : AskedScript) → IsScript lines s → script_from (n + 1) lines ≡ Ok s) → (first : List (List ℕ)) (others : List (List (List ℕ))) → cond t (worded_lines lines) (words_of line ∷ worded_lines lines) ≡ first ∷ others
-    → IsStart first script.lengths script.elements → AreAll IsCall others script.calls → script_from n (line ∷ lines) ≡ Ok script
+    → IsStart first script.start → AreAll IsCall others script.calls → script_from n (line ∷ lines) ≡ Ok script
 unfolding script_from
 script_again_by true n line lines script is rest first others e start calls = rw is (rest script (first, others, e, start, calls))
 script_again_by false n line lines script is rest first others e start calls =
     let p = parts_are (words_of line) first (worded_lines lines) others e in
-    let read : start_in line ≡ Some (script.lengths, script.elements) = start_again (words_of line) (script.lengths, script.elements) (subst (λ (ws : List (List ℕ)). IsStart ws script.lengths script.elements) (sym p.0) start) in
+    let read : start_in line ≡ Some script.start = start_again (words_of line) script.start (subst (λ (ws : List (List ℕ)). IsStart ws script.start) (sym p.0) start) in
     let more : calls_from (n + 1) lines ≡ Ok script.calls = calls_again (n + 1) lines script.calls (subst (λ (ws : List (List (List ℕ))). AreAll IsCall ws script.calls) (sym p.1) calls) in
     rw (is, read, more) refl
 

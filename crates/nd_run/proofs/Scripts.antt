@@ -2,6 +2,7 @@
 use Rattle.std.proofs.Common.{◌≡◌, ℕ, ◌+◌, true, false, eqb, length, List, [], ◌∷◌, ◌++◌, ℤ, Result, Ok, Err, refl, sym, ap, ◌∙◌, append_assoc, arith}
 use Rattle.std.proofs.lemmas.List.{append-nil}
 use Rattle.std.proofs.lemmas.Bool.{eqb-true}
+use Rattle.nd_array_core.specs.Meaning.{Meaning}
 use Rattle.nd_run.specs.declared.reader.fault.ScriptError.{ScriptError}
 use Rattle.nd_run.specs.declared.reader.fault.ScriptError.TheVariants.{BadLine, Memory}
 use Rattle.nd_run.specs.Calls.{Asked}
@@ -71,7 +72,7 @@ script_bad (BadLine m) n line lines rest total e some h so_far =
     let one : script_from n lines ≡ Err m = rw (e, some, h) refl in
     sym so_far ∙ one
 
-pub script_bad_call : (fault : ScriptError) (n : ℕ) (line : List ℕ) (lines rest : List (List ℕ)) (start : List ℕ × List ℤ) (total : Result AskedScript ℕ) → lines ≡ line ∷ rest → is_wordless (words_of line) ≡ false → read_or_number n (start_in line) ≡ Ok start → FailsAt fault (calls_from (n + 1) rest)
+pub script_bad_call : (fault : ScriptError) (n : ℕ) (line : List ℕ) (lines rest : List (List ℕ)) (start : Meaning ℤ) (total : Result AskedScript ℕ) → lines ≡ line ∷ rest → is_wordless (words_of line) ≡ false → read_or_number n (start_in line) ≡ Ok start → FailsAt fault (calls_from (n + 1) rest)
     → script_from n lines ≡ total → FailsAt fault total
 unfolding script_from
 script_bad_call Memory n line lines rest start total e some h g so_far = tt
@@ -79,9 +80,9 @@ script_bad_call (BadLine m) n line lines rest start total e some h g so_far =
     let one : script_from n lines ≡ Err m = rw (e, some, h, g) refl in
     sym so_far ∙ one
 
-pub script_read : (n : ℕ) (line : List ℕ) (lines rest : List (List ℕ)) (start : List ℕ × List ℤ) (calls : List (Asked ℤ)) (total : Result AskedScript ℕ) → lines ≡ line ∷ rest → is_wordless (words_of line) ≡ false → read_or_number n (start_in line) ≡ Ok start → calls_from (n + 1) rest ≡ Ok calls
-    → script_from n lines ≡ total → total ≡ Ok (record { lengths = start.0; elements = start.1; calls = calls })
+pub script_read : (n : ℕ) (line : List ℕ) (lines rest : List (List ℕ)) (start : Meaning ℤ) (calls : List (Asked ℤ)) (total : Result AskedScript ℕ) → lines ≡ line ∷ rest → is_wordless (words_of line) ≡ false → read_or_number n (start_in line) ≡ Ok start → calls_from (n + 1) rest ≡ Ok calls
+    → script_from n lines ≡ total → total ≡ Ok (record { start = start; calls = calls })
 unfolding script_from
 script_read n line lines rest start calls total e some h g so_far =
-    let one : script_from n lines ≡ Ok (record { lengths = start.0; elements = start.1; calls = calls }) = rw (e, some, h, g) refl in
+    let one : script_from n lines ≡ Ok (record { start = start; calls = calls }) = rw (e, some, h, g) refl in
     sym so_far ∙ one

@@ -5,7 +5,7 @@ use Rattle.nd_run.specs.Words.{before_first, lines_of}
 use Rattle.nd_run.specs.Reading.{call_of}
 use Rattle.nd_run.specs.Script.{script_from}
 use Rattle.nd_run.specs.Laws.{MeansOneCall, MeansOneScript, HasNoBadLine, joined, with_last_feed, LinesJoinAgain}
-use Rattle.nd_run.proofs.CallLaws.{call_again}
+use Rattle.nd_run.proofs.Rows.{call_again}
 use Rattle.nd_run.proofs.ScriptLaws.{script_again}
 use Rattle.nd_run.proofs.BadLines.{bad_again}
 

@@ -1,45 +1,38 @@
 -- What a write through a path leaves at the indexes of the array that the path starts at.
-use Rattle.std.proofs.Common.{◌≡◌, ℕ, Bool, true, false, List, Option, Some, None, refl, sym, ap, subst, ◌∙◌}
-use Rattle.std.specs.Prelude.{is_some, ◌||◌, IsOk, IfOk, OnErr, Result, Ok, Err}
+use Rattle.std.proofs.Common.{◌≡◌, ℕ, true, List, Option, Some, None, refl, sym, ap, ◌∙◌}
+use Rattle.std.specs.Prelude.{is_some, ◌||◌, IfOk, OnErr, Result, Ok, Err}
 use Rattle.nd_shape_and_slice.specs.Shape.{in_box}
-use Rattle.nd_array_core.specs.Meaning.{Meaning, inside}
+use Rattle.nd_array_core.specs.Meaning.{Meaning}
 use Rattle.nd_array_core.specs.PlacedArray.{PlacedArray, found_at, element_placed, left_at}
 use Rattle.nd_array_core.specs.Laws.{IndexesHavePlaces, ShowsStored, DistinctPlaces}
 use Rattle.nd_array_core.specs.base.Writes.{OthersStay}
 use Rattle.nd_run.specs.declared.cause.Cause.{Cause}
-use Rattle.nd_run.specs.Calls.{AskedStep, Acting, Asked, Writing}
-use Rattle.nd_run.specs.Steps.{shape_along, index_along}
-use Rattle.nd_run.specs.Acts.{act_tests, act_refusal, acted_elements, path_tests, path_refusal, write_refusal, meaning_at_end, leading_to, new_or_old, written_through, write_result, clones, parts_refusal}
-use Rattle.nd_run.specs.Placing.{meaning_in, places_in, Leaves, acted_elements_unless, WritesThrough, WritesParts, said_unless}
-use Rattle.nd_run.specs.Fold.{LeadsAlong, reply_to, meaning_after, MayLackMemory}
-use Rattle.nd_run.proofs.FoldLemmas.{seen_is, same_meaning}
+use Rattle.nd_run.specs.Calls.{AskedStep, Acting}
+use Rattle.nd_run.specs.Steps.{keep_tests, shape_along, index_along}
+use Rattle.nd_run.specs.Acts.{act_tests, act_refusal, acted_elements, path_tests, path_refusal, write_refusal, meaning_at_end, leading_to, new_or_old, written_through, written, clones, parts_refusal}
+use Rattle.nd_run.specs.Placing.{meaning_in, places_in, Leaves, unless_refused, acted_elements_unless, WritesThrough, WritesParts}
+use Rattle.nd_run.specs.Fold.{LeadsAlong}
+use Rattle.nd_run.proofs.FoldLemmas.{tests_pass, tests_fail, leads_is, same_meaning}
 use Rattle.nd_run.proofs.Indexes.{leads_here, leads_nowhere}
-use Rattle.nd_run.proofs.WritePaths.{is_none, tests_pass, tests_fail}
+use Rattle.nd_run.proofs.WritePaths.{is_none}
 
--- ---- refusals
+-- ---- refusals: nothing is changed
 
 module _ {A : Type 0} (path : List AskedStep) (act : Acting A) where
-  pub refused_on_path : (ns : List ℕ) (cause : Cause) → path_refusal path ns ≡ Some cause → write_refusal path act ns ≡ Some cause
-  refused_on_path ns cause h = tests_fail (path_tests path ns) (act_tests act (shape_along path ns)) cause h
+  abbrev pub Leads : Option Cause → PlacedArray A → PlacedArray A → Type 0
+  Leads r v w = WritesThrough {E = Unit {0}} path act v w (Ok r)
 
-  pub refused_at_end : (ns end : List ℕ) → path_refusal path ns ≡ None → end ≡ shape_along path ns → write_refusal path act ns ≡ act_refusal act end
-  refused_at_end ns end h e = tests_pass (path_tests path ns) (act_tests act (shape_along path ns)) h ∙ ap (act_refusal act) (sym e)
+  pub refused_on_path : (r : Option Cause) (v w : PlacedArray A) → is_some r ≡ true → r ≡ path_refusal path v.shape → w.stored ≡ v.stored → Leads r v w
+  refused_on_path None v w some e same = absurd cc
+  refused_on_path (Some cause) v w some e same = (sym (tests_fail (path_tests keep_tests path v.shape) (act_tests act (shape_along path v.shape)) cause (sym e)), λ i. ap (λ s. found_at s (v.place i)) same)
 
-  -- a refusal changes nothing
-  pub refused_leaves : (v w : PlacedArray A) (cause : Cause) → write_refusal path act v.shape ≡ Some cause → w.stored ≡ v.stored → Leaves v w (meaning_after (Writing path act) (meaning_in v)).at
-  refused_leaves v w cause refused same i = rw refused (ap (λ s. found_at s (v.place i)) same)
+  -- at the end of a path that isn't refused the act decides
+  pub end_decides : (ns end : List ℕ) → path_refusal path ns ≡ None → end ≡ shape_along path ns → act_refusal act end ≡ write_refusal path act ns
+  end_decides ns end h e = ap (act_refusal act) e ∙ sym (tests_pass (path_tests keep_tests path ns) (act_tests act (shape_along path ns)) h)
 
-  -- the same of the answer of a check
-  pub refused_on_path_at : (r : Option Cause) (ns : List ℕ) → is_some r ≡ true → r ≡ path_refusal path ns → r ≡ write_refusal path act ns
-  refused_on_path_at None ns some e = absurd cc
-  refused_on_path_at (Some cause) ns some e = sym (refused_on_path ns cause (sym e))
-
-  pub refused_leaves_at : (r : Option Cause) (v w : PlacedArray A) → is_some r ≡ true → r ≡ write_refusal path act v.shape → w.stored ≡ v.stored → Leaves v w (meaning_after (Writing path act) (meaning_in v)).at
-  refused_leaves_at None v w some e same = absurd cc
-  refused_leaves_at (Some cause) v w some e same = refused_leaves v w cause (sym e) same
-
-  pub allowed_is_ok : (m : Meaning A) → write_refusal path act m.shape ≡ None → IsOk (write_result path act m)
-  allowed_is_ok m allowed = rw allowed refl
+  pub refused_at_end : (r : Option Cause) (v w : PlacedArray A) → is_some r ≡ true → r ≡ write_refusal path act v.shape → w.stored ≡ v.stored → Leads r v w
+  refused_at_end None v w some e same = absurd cc
+  refused_at_end (Some cause) v w some e same = (e, λ i. ap (λ s. found_at s (v.place i)) same)
 
 -- ---- a write at the end e of a path from v, after which the end lies as w
 
@@ -47,16 +40,11 @@ module _ {A : Type 0} (path : List AskedStep) (act : Acting A) (v e w : PlacedAr
   abbrev source : List ℕ → List ℕ
   source = index_along path v.shape
 
-  end_element : (i : List ℕ) → element_placed e i ≡ inside e.shape i (element_placed v (source i))
-  end_element i = by_test (in_box e.shape i) refl
-    where
-      by_test : (b : Bool) → in_box e.shape i ≡ b → element_placed e i ≡ inside e.shape i (element_placed v (source i))
-      by_test true h = rw h (ap (found_at e.stored) (along.1 i h).1 ∙ ap (λ s. found_at s (v.place (source i))) kept)
-      by_test false h = rw (h, is_none (e.place i) (has i ∙ h)) refl
-
   -- the end means what is seen along the path
   pub end_is : meaning_in e ≡ meaning_at_end path (meaning_in v)
-  end_is = seen_is (meaning_in v) (meaning_in e) (shape_along path v.shape) source along.0 end_element
+  end_is =
+      leads_is path (meaning_in v) (meaning_in e) (along.0, λ i h. ((along.1 i h).0, ap (found_at e.stored) (along.1 i h).1 ∙ ap (λ s. found_at s (v.place (source i))) kept))
+      (λ i h. ap (found_at e.stored) (is_none (e.place i) (has i ∙ h)))
 
   module _ (distinct : DistinctPlaces v) (places : (i : List ℕ) → w.place i ≡ e.place i) (elements : (i : List ℕ) → element_placed w i ≡ acted_elements act (meaning_in e) i) (others : OthersStay e.place e.stored w.stored) where
     written_at : (i : List ℕ) → left_at v w i ≡ (written_through (shape_along path v.shape) source (acted_elements act (meaning_at_end path (meaning_in v))) (meaning_in v)).at i
@@ -80,30 +68,23 @@ module _ {A : Type 0} (path : List AskedStep) (act : Acting A) (v e w : PlacedAr
             let place : v.place i ≡ w.place j = ap v.place (sym h.1) ∙ (sym (along.1 j box).1 ∙ sym (places j)) in
             ap (found_at w.stored) place ∙ (elements j ∙ ap (λ m. acted_elements act m j) end_is)
 
-    pub write_leaves : write_refusal path act v.shape ≡ None → Leaves v w (meaning_after (Writing path act) (meaning_in v)).at
-    write_leaves allowed i = rw allowed (written_at i)
+    pub write_leaves : write_refusal path act v.shape ≡ None → Leads path act None v w
+    write_leaves allowed = (sym allowed, written_at)
 
--- ---- the array after a call on a view of it
-
-module _ {A : Type 0} where
-  -- a call that changes elements alone leaves an array of this meaning
-  pub left_is : (call : Asked A) (v w : PlacedArray A) (old new : Meaning A) → ((m : Meaning A) → (meaning_after call m).shape ≡ m.shape) → v.shape ≡ old.shape → ((i : List ℕ) → element_placed v i ≡ old.at i) → new.shape ≡ old.shape
-      → ((i : List ℕ) → new.at i ≡ left_at v w i) → Leaves v w (meaning_after call (meaning_in v)).at → new ≡ meaning_after call old
-  left_is call v w old new keeps shape elements new_shape left leaves =
-      let start : meaning_in v ≡ old = same_meaning old (meaning_in v) shape elements in
-      same_meaning (meaning_after call old) new (new_shape ∙ sym (keeps old)) (λ i. left i ∙ (leaves i ∙ ap (λ m. (meaning_after call m).at i) start))
+-- ---- the array after a write to a view of it
 
 module _ {A : Type 0} (path : List AskedStep) (act : Acting A) where
-  write_keeps_by : (r : Option Cause) (m : Meaning A) → write_refusal path act m.shape ≡ r → (meaning_after (Writing path act) m).shape ≡ m.shape
-  write_keeps_by None m e = rw e refl
-  write_keeps_by (Some cause) m e = rw e refl
+  abbrev left : Option Cause → Meaning A → Meaning A
+  left r m = unless_refused r (written path act m) m
 
-  pub write_keeps : (m : Meaning A) → (meaning_after (Writing path act) m).shape ≡ m.shape
-  write_keeps m = write_keeps_by (write_refusal path act m.shape) m refl
+  shape_kept : (r : Option Cause) (m : Meaning A) → (left r m).shape ≡ m.shape
+  shape_kept None m = refl
+  shape_kept (Some cause) m = refl
 
-  pub write_reply : (r : Option Cause) (m : Meaning A) → r ≡ write_refusal path act m.shape → said_unless r ≡ reply_to (Writing path act) m
-  write_reply None m e = rw (sym e) refl
-  write_reply (Some cause) m e = rw (sym e) refl
+  pub left_is : (r : Option Cause) (v w : PlacedArray A) (old new : Meaning A) → v.shape ≡ old.shape → ((i : List ℕ) → element_placed v i ≡ old.at i) → new.shape ≡ old.shape → ((i : List ℕ) → new.at i ≡ left_at v w i) → Leaves v w (left r (meaning_in v)).at → new ≡ left r old
+  left_is r v w old new shape elements new_shape shown leaves =
+      let start : meaning_in v ≡ old = same_meaning old (meaning_in v) shape elements in
+      same_meaning (left r old) new (new_shape ∙ sym (shape_kept r old)) (λ i. shown i ∙ (leaves i ∙ ap (λ m. (left r m).at i) start))
 
 -- ---- acts on two parts
 
@@ -133,10 +114,10 @@ module _ {A : Type 0} where
 
   -- a is the view that is lent as v, and b what it is left as
   pub lent_through : {E : Type 0} (path : List AskedStep) (act : Acting A) (a b v w : PlacedArray A) (answer : Result (Option Cause) E) → a.shape ≡ v.shape → ((i : List ℕ) → a.place i ≡ v.place i) → ((i : List ℕ) → element_placed a i ≡ element_placed v i) → w.stored ≡ b.stored
-      → IfOk answer (λ r. r ≡ write_refusal path act a.shape) → IfOk answer (λ r. Leaves a b (meaning_after (Writing path act) (meaning_in a)).at) → OnErr answer (MayLackMemory (Writing path act) (meaning_in a)) → WritesThrough path act v w answer
-  lent_through path act a b v w (Ok r) shape places elements stored refused leaves memory =
-      (refused ∙ ap (write_refusal path act) shape, λ i. ap (λ s. found_at s (v.place i)) stored ∙ (ap (found_at b.stored) (sym (places i)) ∙ (leaves i ∙ ap (λ m. (meaning_after (Writing path act) m).at i) (same_start a v shape elements))))
-  lent_through path act a b v w (Err error) shape places elements stored refused leaves memory = subst (MayLackMemory (Writing path act)) (same_start a v shape elements) memory
+      → WritesThrough path act a b answer → WritesThrough path act v w answer
+  lent_through path act a b v w (Ok r) shape places elements stored done =
+      (done.0 ∙ ap (write_refusal path act) shape, λ i. ap (λ s. found_at s (v.place i)) stored ∙ (ap (found_at b.stored) (sym (places i)) ∙ (done.1 i ∙ ap (λ m. (left path act r m).at i) (same_start a v shape elements))))
+  lent_through path act a b v w (Err error) shape places elements stored done = (ap (write_refusal path act) (sym shape) ∙ done.0, done.1)
 
   -- the same of two views
   lent_leaves : (act : Acting A) (r : Option Cause) (a b v w : PlacedArray A) → a.shape ≡ v.shape → ((i : List ℕ) → a.place i ≡ v.place i) → ((i : List ℕ) → element_placed a i ≡ element_placed v i) → w.stored ≡ b.stored

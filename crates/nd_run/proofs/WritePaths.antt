@@ -1,92 +1,73 @@
 -- Paths that are written through, a step at a time.
-use Rattle.std.proofs.Common.{◌≡◌, ℕ, suc, ◌+◌, ◌<◌, ◌≤◌, Bool, true, false, cond, List, [], ◌∷◌, ◌++◌, length, map, drop, get_or, Option, Some, None, Result, Ok, Err, refl, sym, ap, ◌∙◌, add-one, drop-cons}
+use Rattle.std.proofs.Common.{◌≡◌, ℕ, suc, ◌+◌, ◌<◌, ◌≤◌, true, false, List, [], ◌∷◌, length, map, drop, get_or, Option, Some, None, Ok, Err, refl, sym, ap, ◌∙◌, add-one, drop-cons}
 use Rattle.std.specs.Prelude.{is_some}
 use Rattle.std.proofs.lemmas.List.{drop_all}
 use Rattle.nd_array_core.specs.Meaning.{Meaning, inside}
 use Rattle.nd_run.specs.declared.cause.Cause.{Cause}
 use Rattle.nd_run.specs.declared.calls.Step.{Step}
 use Rattle.nd_run.specs.Calls.{AskedStep, asked_step}
-use Rattle.nd_run.specs.Steps.{Test, first_failed, keep_tests, keep_refusal, unless, step_shape, step_index}
-use Rattle.nd_run.specs.Acts.{path_tests, path_refusal}
-use Rattle.nd_run.specs.Fold.{step_meaning, kept_result, and_then, path_result, LeadsAlong}
+use Rattle.nd_run.specs.Steps.{Test, first_failed, tests_of, refusal, unless, step_shape, step_index}
+use Rattle.nd_run.specs.Acts.{path_tests}
+use Rattle.nd_run.specs.Fold.{step_meaning, and_then, path_result, LeadsAlong}
 use Rattle.nd_run.specs.Laws.{PathsLeadAlong}
-use Rattle.nd_run.proofs.FoldLemmas.{seen_is}
-use Rattle.nd_run.proofs.StepTests.{keep_allows}
+use Rattle.nd_run.proofs.FoldLemmas.{tests_pass, tests_fail, seen_is}
 
 pub is_none : {Y : Type 0} (o : Option Y) → is_some o ≡ false → o ≡ None
 is_none None e = refl
 is_none (Some x) e = absurd cc
 
--- ---- tests before others
-
-pub tests_pass : (xs ys : List Test) → first_failed xs ≡ None → first_failed (xs ++ ys) ≡ first_failed ys
-tests_pass [] ys h = refl
-tests_pass (x ∷ xs) ys h = by_test x.0 h (tests_pass xs ys)
-  where
-    by_test : (t : Bool) → cond t (first_failed xs) (Some x.1) ≡ None → (first_failed xs ≡ None → first_failed (xs ++ ys) ≡ first_failed ys) → cond t (first_failed (xs ++ ys)) (Some x.1) ≡ first_failed ys
-    by_test true e rest = rest e
-    by_test false e rest = absurd cc
-
-pub tests_fail : (xs ys : List Test) (cause : Cause) → first_failed xs ≡ Some cause → first_failed (xs ++ ys) ≡ Some cause
-tests_fail [] ys cause h = absurd cc
-tests_fail (x ∷ xs) ys cause h = by_test x.0 h (tests_fail xs ys cause)
-  where
-    by_test : (t : Bool) → cond t (first_failed xs) (Some x.1) ≡ Some cause → (first_failed xs ≡ Some cause → first_failed (xs ++ ys) ≡ Some cause) → cond t (first_failed (xs ++ ys)) (Some x.1) ≡ Some cause
-    by_test true e rest = rest e
-    by_test false e rest = e
-
 next_steps : (path : List Step) (k : ℕ) (step : Step) → k < length path → get_or path k step ≡ step → drop k path ≡ step ∷ drop (k + 1) path
 next_steps path k step lt at = rw (add-one, drop-cons path k step lt) (ap (λ s. s ∷ drop (suc k) path) at)
 
-module _ {X : Type 0} where
-  -- what a path leads to on none of whose steps indexes share anything, or the cause against its first refused step
-  abbrev pub led : List AskedStep → Meaning X → Result (Meaning X) Cause
-  led [] m = Ok m
-  led (step ∷ steps) m = and_then (kept_result step m) (led steps)
+-- ---- a path, where these are the tests of a step
 
-  led_refused : (path : List AskedStep) (m : Meaning X) (cause : Cause) → led path m ≡ Err cause → path_refusal path m.shape ≡ Some cause
+module _ {X : Type 0} (tests : AskedStep → List ℕ → List Test) where
+  led_refused : (path : List AskedStep) (m : Meaning X) (cause : Cause) → path_result tests path m ≡ Err cause → first_failed (path_tests tests path m.shape) ≡ Some cause
   led_refused [] m cause e = absurd cc
-  led_refused (step ∷ path) m cause e = by_refusal (keep_refusal step m.shape) refl e (led_refused path (step_meaning step m) cause)
+  led_refused (step ∷ path) m cause e = by_refusal (first_failed (tests step m.shape)) refl e (led_refused path (step_meaning step m) cause)
     where
-      by_refusal : (r : Option Cause) → keep_refusal step m.shape ≡ r → and_then (unless r (step_meaning step m)) (led path) ≡ Err cause → (led path (step_meaning step m) ≡ Err cause → path_refusal path (step_shape step m.shape) ≡ Some cause) → path_refusal (step ∷ path) m.shape ≡ Some cause
-      by_refusal None h e later = tests_pass (keep_tests step m.shape) (path_tests path (step_shape step m.shape)) h ∙ later e
-      by_refusal (Some given) h e later = let same : given ≡ cause = cc in tests_fail (keep_tests step m.shape) (path_tests path (step_shape step m.shape)) cause (h ∙ ap Some same)
+      by_refusal : (r : Option Cause) → first_failed (tests step m.shape) ≡ r → and_then (unless r (step_meaning step m)) (path_result tests path) ≡ Err cause → (path_result tests path (step_meaning step m) ≡ Err cause → first_failed (path_tests tests path (step_shape step m.shape)) ≡ Some cause) → first_failed (path_tests tests (step ∷ path) m.shape) ≡ Some cause
+      by_refusal None h e later = tests_pass (tests step m.shape) (path_tests tests path (step_shape step m.shape)) h ∙ later e
+      by_refusal (Some given) h e later = let same : given ≡ cause = cc in tests_fail (tests step m.shape) (path_tests tests path (step_shape step m.shape)) cause (h ∙ ap Some same)
 
-  led_allowed : (path : List AskedStep) (m n : Meaning X) → led path m ≡ Ok n → (path_refusal path m.shape ≡ None) × (path_result path m ≡ Ok n)
-  led_allowed [] m n e = (refl, e)
-  led_allowed (step ∷ path) m n e = by_refusal (keep_refusal step m.shape) refl e (led_allowed path (step_meaning step m) n)
-    where
-      by_refusal : (r : Option Cause) → keep_refusal step m.shape ≡ r → and_then (unless r (step_meaning step m)) (led path) ≡ Ok n → (led path (step_meaning step m) ≡ Ok n → (path_refusal path (step_shape step m.shape) ≡ None) × (path_result path (step_meaning step m) ≡ Ok n)) → (path_refusal (step ∷ path) m.shape ≡ None) × (path_result (step ∷ path) m ≡ Ok n)
-      by_refusal None h e later =
-          let more = later e in
-          (tests_pass (keep_tests step m.shape) (path_tests path (step_shape step m.shape)) h ∙ more.0, rw (keep_allows step m.shape h) more.1)
-      by_refusal (Some given) h e later = absurd cc
-
-  -- ---- as a loop goes along a path
-
-  pub led_more : (path : List Step) (k : ℕ) (step : Step) (start now next : Meaning X) → k < length path → get_or path k step ≡ step → keep_refusal (asked_step step) now.shape ≡ None → next.shape ≡ step_shape (asked_step step) now.shape
-      → ((i : List ℕ) → next.at i ≡ inside next.shape i (now.at (step_index (asked_step step) now.shape i))) → led (map asked_step (drop k path)) now ≡ led (map asked_step path) start → led (map asked_step (drop (k + 1) path)) next ≡ led (map asked_step path) start
-  led_more path k step start now next lt at allowed shape elements so_far =
-      let one = asked_step step in
-      let taken : next ≡ step_meaning one now = seen_is now next (step_shape one now.shape) (step_index one now.shape) shape elements in
-      let here : led (map asked_step (drop k path)) now ≡ led (map asked_step (drop (k + 1) path)) (step_meaning one now) = ap (λ steps. led (map asked_step steps) now) (next_steps path k step lt at) ∙ rw allowed refl in
-      ap (led (map asked_step (drop (k + 1) path))) taken ∙ (sym here ∙ so_far)
-
-  pub led_stops : (path : List Step) (k : ℕ) (step : Step) (start now : Meaning X) (cause : Cause) → k < length path → get_or path k step ≡ step → keep_refusal (asked_step step) now.shape ≡ Some cause
-      → led (map asked_step (drop k path)) now ≡ led (map asked_step path) start → path_refusal (map asked_step path) start.shape ≡ Some cause
+  -- the first step that is refused, as a loop goes along a path
+  pub led_stops : (path : List Step) (k : ℕ) (step : Step) (start now : Meaning X) (cause : Cause) → k < length path → get_or path k step ≡ step → unless (first_failed (tests (asked_step step) now.shape)) (step_meaning (asked_step step) now) ≡ Err cause
+      → path_result tests (map asked_step (drop k path)) now ≡ path_result tests (map asked_step path) start → first_failed (path_tests tests (map asked_step path) start.shape) ≡ Some cause
   led_stops path k step start now cause lt at refused so_far =
-      let here : led (map asked_step (drop k path)) now ≡ Err cause = ap (λ steps. led (map asked_step steps) now) (next_steps path k step lt at) ∙ rw refused refl in
+      let here : path_result tests (map asked_step (drop k path)) now ≡ Err cause = ap (λ steps. path_result tests (map asked_step steps) now) (next_steps path k step lt at) ∙ ap (λ r. and_then r (path_result tests (map asked_step (drop (k + 1) path)))) refused in
       led_refused (map asked_step path) start cause (sym so_far ∙ here)
 
   -- the same of the answer of a check
-  pub led_stops_at : (r : Option Cause) (path : List Step) (k : ℕ) (step : Step) (start now : Meaning X) → is_some r ≡ true → r ≡ keep_refusal (asked_step step) now.shape → k < length path → get_or path k step ≡ step
-      → led (map asked_step (drop k path)) now ≡ led (map asked_step path) start → r ≡ path_refusal (map asked_step path) start.shape
+  pub led_stops_at : (r : Option Cause) (path : List Step) (k : ℕ) (step : Step) (start now : Meaning X) → is_some r ≡ true → r ≡ first_failed (tests (asked_step step) now.shape) → k < length path → get_or path k step ≡ step
+      → path_result tests (map asked_step (drop k path)) now ≡ path_result tests (map asked_step path) start → r ≡ first_failed (path_tests tests (map asked_step path) start.shape)
   led_stops_at None path k step start now some e lt at so_far = absurd cc
-  led_stops_at (Some cause) path k step start now some e lt at so_far = sym (led_stops path k step start now cause lt at (sym e) so_far)
+  led_stops_at (Some cause) path k step start now some e lt at so_far = sym (led_stops path k step start now cause lt at (ap (λ r. unless r (step_meaning (asked_step step) now)) (sym e)) so_far)
 
-  pub led_all : PathsLeadAlong X → (path : List Step) (k : ℕ) (start now : Meaning X) → length path ≤ k → led (map asked_step (drop k path)) now ≡ led (map asked_step path) start
-      → (path_refusal (map asked_step path) start.shape ≡ None) × LeadsAlong (map asked_step path) start now
-  led_all leads path k start now all so_far =
-      let whole : led (map asked_step path) start ≡ Ok now = sym so_far ∙ ap (λ steps. led (map asked_step steps) now) (drop_all k path all) in
-      let h = led_allowed (map asked_step path) start now whole in
-      (h.0, leads (map asked_step path) start now h.1)
+  pub led_more : (path : List Step) (k : ℕ) (step : Step) (start now next : Meaning X) → k < length path → get_or path k step ≡ step → first_failed (tests (asked_step step) now.shape) ≡ None → next.shape ≡ step_shape (asked_step step) now.shape
+      → ((i : List ℕ) → next.at i ≡ inside next.shape i (now.at (step_index (asked_step step) now.shape i))) → path_result tests (map asked_step (drop k path)) now ≡ path_result tests (map asked_step path) start
+      → path_result tests (map asked_step (drop (k + 1) path)) next ≡ path_result tests (map asked_step path) start
+  led_more path k step start now next lt at allowed shape elements so_far =
+      let one = asked_step step in
+      let taken : next ≡ step_meaning one now = seen_is now next (step_shape one now.shape) (step_index one now.shape) shape elements in
+      let here : path_result tests (map asked_step (drop k path)) now ≡ path_result tests (map asked_step (drop (k + 1) path)) (step_meaning one now) = ap (λ steps. path_result tests (map asked_step steps) now) (next_steps path k step lt at) ∙ rw allowed refl in
+      ap (path_result tests (map asked_step (drop (k + 1) path))) taken ∙ (sym here ∙ so_far)
+
+  -- where a step that passes may be looked at
+  module _ (allows : (step : AskedStep) (ns : List ℕ) → first_failed (tests step ns) ≡ None → refusal step ns ≡ None) where
+    led_allowed : (path : List AskedStep) (m n : Meaning X) → path_result tests path m ≡ Ok n → (first_failed (path_tests tests path m.shape) ≡ None) × (path_result tests_of path m ≡ Ok n)
+    led_allowed [] m n e = (refl, e)
+    led_allowed (step ∷ path) m n e = by_refusal (first_failed (tests step m.shape)) refl e (led_allowed path (step_meaning step m) n)
+      where
+        by_refusal : (r : Option Cause) → first_failed (tests step m.shape) ≡ r → and_then (unless r (step_meaning step m)) (path_result tests path) ≡ Ok n → (path_result tests path (step_meaning step m) ≡ Ok n → (first_failed (path_tests tests path (step_shape step m.shape)) ≡ None) × (path_result tests_of path (step_meaning step m) ≡ Ok n)) → (first_failed (path_tests tests (step ∷ path) m.shape) ≡ None) × (path_result tests_of (step ∷ path) m ≡ Ok n)
+        by_refusal None h e later =
+            let more = later e in
+            (tests_pass (tests step m.shape) (path_tests tests path (step_shape step m.shape)) h ∙ more.0, rw (allows step m.shape h) more.1)
+        by_refusal (Some given) h e later = absurd cc
+
+    -- the end of a path
+    pub led_all : PathsLeadAlong X → (path : List Step) (k : ℕ) (start now : Meaning X) → length path ≤ k → path_result tests (map asked_step (drop k path)) now ≡ path_result tests (map asked_step path) start
+        → (first_failed (path_tests tests (map asked_step path) start.shape) ≡ None) × LeadsAlong (map asked_step path) start now
+    led_all leads path k start now all so_far =
+        let whole : path_result tests (map asked_step path) start ≡ Ok now = sym so_far ∙ ap (λ steps. path_result tests (map asked_step steps) now) (drop_all k path all) in
+        let h = led_allowed (map asked_step path) start now whole in
+        (h.0, leads (map asked_step path) start now h.1)

@@ -1,5 +1,5 @@
 -- What an act makes of an array, and what a write through a path, or to the two parts of a split, leaves of the array.
-use Rattle.std.specs.Prelude.{ℕ, ◌-◌, nat_eq, nat_lt, nat_le, Bool, true, false, List, [], ◌∷◌, ◌++◌, slice_index, slice_set, Option, None, Some, Result, if◌then◌else◌}
+use Rattle.std.specs.Prelude.{ℕ, ◌-◌, nat_eq, nat_lt, nat_le, Bool, true, false, List, [], ◌∷◌, ◌++◌, slice_index, slice_set, Option, None, Some, if◌then◌else◌}
 use Rattle.std.specs.Cmp.Lexicographic.{pointwise}
 use Rattle.std.specs.List.{find}
 use Rattle.nd_shape_and_slice.specs.Shape.{in_box, indexes_of}
@@ -7,7 +7,7 @@ use Rattle.nd_shape_and_slice.specs.Maps.{lower_shape, upper_shape, upper_index}
 use Rattle.nd_array_core.specs.Meaning.{Meaning, inside, meaning_through}
 use Rattle.nd_array_core.specs.base.Writes.{with_element_at, with_swapped_at}
 use Rattle.nd_run.specs.Calls.{AskedStep, Acting, Filling, Setting, Swapping}
-use Rattle.nd_run.specs.Steps.{Test, first_failed, has_axis, keep_tests, unless, step_shape, shape_along, index_along}
+use Rattle.nd_run.specs.Steps.{Test, first_failed, has_axis, keep_tests, step_shape, shape_along, index_along}
 use Rattle.nd_run.specs.declared.cause.Cause.{Cause}
 use Rattle.nd_run.specs.declared.cause.Cause.TheVariants as causes
 
@@ -40,18 +40,18 @@ clones (Swapping a b) = false
 
 -- ---- writes through a path
 
--- the tests of a path's steps, on none of which indexes share an element
-abbrev pub path_tests : List AskedStep → List ℕ → List Test
-path_tests [] ns = []
-path_tests (step ∷ steps) ns = keep_tests step ns ++ path_tests steps (step_shape step ns)
+-- the tests of a path's steps, where these are those of each step
+abbrev pub path_tests : (AskedStep → List ℕ → List Test) → List AskedStep → List ℕ → List Test
+path_tests tests [] ns = []
+path_tests tests (step ∷ steps) ns = tests step ns ++ path_tests tests steps (step_shape step ns)
 
--- the first cause against such a path
+-- the first cause against a path on none of whose steps indexes share an element
 abbrev pub path_refusal : List AskedStep → List ℕ → Option Cause
-path_refusal path ns = first_failed (path_tests path ns)
+path_refusal path ns = first_failed (path_tests keep_tests path ns)
 
 -- a path's tests, and then those of the act at its end
 abbrev pub write_tests : {A : Type 0} → List AskedStep → Acting A → List ℕ → List Test
-write_tests path act ns = path_tests path ns ++ act_tests act (shape_along path ns)
+write_tests path act ns = path_tests keep_tests path ns ++ act_tests act (shape_along path ns)
 
 abbrev pub write_refusal : {A : Type 0} → List AskedStep → Acting A → List ℕ → Option Cause
 write_refusal path act ns = first_failed (write_tests path act ns)
@@ -74,9 +74,9 @@ new_or_old new old (Some j) = new j
 abbrev pub written_through : {A : Type 0} → List ℕ → (List ℕ → List ℕ) → (List ℕ → Option A) → Meaning A → Meaning A
 written_through shape source new m = record { shape = m.shape; at = λ i. new_or_old new (m.at i) (leading_to shape source i) }
 
--- a write through a path, or the first cause against it
-abbrev pub write_result : {A : Type 0} → List AskedStep → Acting A → Meaning A → Result (Meaning A) Cause
-write_result path act m = unless (write_refusal path act m.shape) (written_through (shape_along path m.shape) (index_along path m.shape) (acted_elements act (meaning_at_end path m)) m)
+-- a write through a path
+abbrev pub written : {A : Type 0} → List AskedStep → Acting A → Meaning A → Meaning A
+written path act m = written_through (shape_along path m.shape) (index_along path m.shape) (acted_elements act (meaning_at_end path m)) m
 
 -- ---- writes to the parts of a split
 
@@ -88,15 +88,15 @@ abbrev pub parts_refusal : {A : Type 0} → Acting A → Acting A → List ℕ �
 parts_refusal first second lower upper = first_failed (parts_tests first second lower upper)
 
 -- the tests of where an array is split
-abbrev pub place_tests : ℕ → ℕ → List ℕ → List Test
-place_tests axis index ns = has_axis axis ns ∷ (nat_le index (slice_index ns axis), causes.Index) ∷ []
+abbrev pub point_tests : ℕ → ℕ → List ℕ → List Test
+point_tests axis index ns = has_axis axis ns ∷ (nat_le index (slice_index ns axis), causes.Index) ∷ []
 
-abbrev pub place_refusal : ℕ → ℕ → List ℕ → Option Cause
-place_refusal axis index ns = first_failed (place_tests axis index ns)
+abbrev pub point_refusal : ℕ → ℕ → List ℕ → Option Cause
+point_refusal axis index ns = first_failed (point_tests axis index ns)
 
 -- those, and then those of both acts
 abbrev pub split_tests : {A : Type 0} → ℕ → ℕ → Acting A → Acting A → List ℕ → List Test
-split_tests axis index first second ns = place_tests axis index ns ++ parts_tests first second (lower_shape ns axis index) (upper_shape ns axis index)
+split_tests axis index first second ns = point_tests axis index ns ++ parts_tests first second (lower_shape ns axis index) (upper_shape ns axis index)
 
 abbrev pub split_refusal : {A : Type 0} → ℕ → ℕ → Acting A → Acting A → List ℕ → Option Cause
 split_refusal axis index first second ns = first_failed (split_tests axis index first second ns)
@@ -112,6 +112,6 @@ upper_meaning axis index m = meaning_through (upper_shape m.shape axis index) (u
 abbrev pub joined_elements : {A : Type 0} → ℕ → ℕ → (List ℕ → Option A) → (List ℕ → Option A) → List ℕ → Option A
 joined_elements axis index lower upper i = if nat_lt (slice_index i axis) index then lower i else upper (slice_set i axis (slice_index i axis - index))
 
--- an act on each part, or the first cause against them
-abbrev pub split_result : {A : Type 0} → ℕ → ℕ → Acting A → Acting A → Meaning A → Result (Meaning A) Cause
-split_result axis index first second m = unless (split_refusal axis index first second m.shape) (record { shape = m.shape; at = λ i. inside m.shape i (joined_elements axis index (acted_elements first (lower_meaning axis index m)) (acted_elements second (upper_meaning axis index m)) i) })
+-- an act on each part
+abbrev pub split_written : {A : Type 0} → ℕ → ℕ → Acting A → Acting A → Meaning A → Meaning A
+split_written axis index first second m = record { shape = m.shape; at = λ i. inside m.shape i (joined_elements axis index (acted_elements first (lower_meaning axis index m)) (acted_elements second (upper_meaning axis index m)) i) }

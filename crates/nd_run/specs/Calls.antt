@@ -1,7 +1,10 @@
 -- Calls and replies without where they lie in memory.
-use Rattle.std.specs.Prelude.{ℕ, List, map, Option}
+use Rattle.std.specs.Prelude.{ℕ, Bool, List, map, Option}
 use Rattle.nd_shape_and_slice.specs.declared.slice.Slice.{Slice}
 use Rattle.nd_shape_and_slice.specs.declared.slice_info.SliceInfoElem.{SliceInfoElem}
+use Rattle.nd_array_core.specs.declared.base.storage.Data as data_trait
+use Rattle.nd_array_core.specs.declared.base.storage.OwnedRepr.{OwnedRepr}
+use Rattle.nd_array_core.specs.Meaning.{Meaning, meaning_of}
 use Rattle.nd_run.specs.declared.calls.Step.{Step}
 use Rattle.nd_run.specs.declared.calls.Step.TheVariants as steps
 use Rattle.nd_run.specs.declared.calls.Question.{Question}
@@ -31,13 +34,14 @@ pub data AskedStep : Type 0 where
   Diagonal : AskedStep
   BroadcastTo : (lengths : List ℕ) → AskedStep
 
--- a question: the lengths, all elements, the element of an index, or the first or last one
-pub data Asking : Type 0 where
-  AskShape : Asking
-  AskElements : Asking
-  AskElement : (index : List ℕ) → Asking
-  AskFirst : Asking
-  AskLast : Asking
+-- a question: the lengths, all elements, the element of an index, the first or last one, or whether it equals an array
+pub data Asking (A : Type 0) : Type 0 where
+  AskShape : Asking A
+  AskElements : Asking A
+  AskElement : (index : List ℕ) → Asking A
+  AskFirst : Asking A
+  AskLast : Asking A
+  AskEqual : (other : Meaning A) → Asking A
 
 -- an act: each element is set to one value, or that of an index is; or the elements of two indexes change places
 pub data Acting (A : Type 0) : Type 0 where
@@ -49,7 +53,7 @@ pub data Acting (A : Type 0) : Type 0 where
 -- array split before a coordinate of an axis
 pub data Asked (A : Type 0) : Type 0 where
   Keeping : (step : AskedStep) → Asked A
-  About : (path : List AskedStep) (question : Asking) → Asked A
+  About : (path : List AskedStep) (question : Asking A) → Asked A
   Writing : (path : List AskedStep) (act : Acting A) → Asked A
   SplitWriting : (axis index : ℕ) (first second : Acting A) → Asked A
 
@@ -60,6 +64,7 @@ pub data Said (A : Type 0) : Type 0 where
   SaidShape : (lengths : List ℕ) → Said A
   SaidElements : (lengths : List ℕ) (elements : List A) → Said A
   SaidElement : (element : Option A) → Said A
+  SaidTruth : (truth : Bool) → Said A
 
 abbrev pub asked_step : Step → AskedStep
 asked_step (steps.SliceAxis axis slice) = SlicedAxis axis slice
@@ -76,23 +81,25 @@ asked_step steps.Squeeze = Squeezed
 asked_step steps.Diag = Diagonal
 asked_step (steps.Broadcast lengths) = BroadcastTo lengths.items
 
-abbrev pub asking : Question → Asking
-asking questions.Shape = AskShape
-asking questions.Elements = AskElements
-asking (questions.Get index) = AskElement index.items
-asking questions.First = AskFirst
-asking questions.Last = AskLast
-
 abbrev pub acting : {A : Type 0} → Act A → Acting A
 acting (acts.Fill value) = Filling value
 acting (acts.Set index value) = Setting index.items value
 acting (acts.Swap a b) = Swapping a.items b.items
 
-abbrev pub asked_call : {A : Type 0} → Call A → Asked A
-asked_call (calls.Keep step) = Keeping (asked_step step)
-asked_call (calls.Ask path question) = About (map asked_step path.items) (asking question)
-asked_call (calls.Write path act) = Writing (map asked_step path.items) (acting act)
-asked_call (calls.SplitWrite axis index first second) = SplitWriting axis index (acting first) (acting second)
+module _ {A : Type 0} {s : data_trait.Ghosts (OwnedRepr A) A} where
+  abbrev pub asking : Question A (OwnedRepr A) s → Asking A
+  asking questions.Shape = AskShape
+  asking questions.Elements = AskElements
+  asking (questions.Get index) = AskElement index.items
+  asking questions.First = AskFirst
+  asking questions.Last = AskLast
+  asking (questions.EqualTo other) = AskEqual (meaning_of other)
+
+  abbrev pub asked_call : Call A (OwnedRepr A) s → Asked A
+  asked_call (calls.Keep step) = Keeping (asked_step step)
+  asked_call (calls.Ask path question) = About (map asked_step path.items) (asking question)
+  asked_call (calls.Write path act) = Writing (map asked_step path.items) (acting act)
+  asked_call (calls.SplitWrite axis index first second) = SplitWriting axis index (acting first) (acting second)
 
 abbrev pub said_reply : {A : Type 0} → Reply A → Said A
 said_reply replies.Done = SaidDone
@@ -100,3 +107,4 @@ said_reply (replies.Refused cause) = SaidRefused cause
 said_reply (replies.Shape lengths) = SaidShape lengths.items
 said_reply (replies.Elements lengths elements) = SaidElements lengths.items elements.items
 said_reply (replies.Element element) = SaidElement element
+said_reply (replies.Truth truth) = SaidTruth truth

@@ -6,10 +6,9 @@ use Rattle.nd_run.specs.declared.outcome.Outcome.{Outcome}
 use Rattle.nd_run.specs.declared.outcome.Outcome.TheVariants as outcomes
 use Rattle.nd_run.specs.declared.outcome.LoadError.{LoadError}
 use Rattle.nd_run.specs.declared.outcome.LoadError.TheVariants as load_errors
-use Rattle.nd_run.specs.declared.reader.Script.{Script}
 use Rattle.nd_run.specs.Calls.{Said, said_reply}
 use Rattle.nd_run.specs.Puts.{TakesText}
-use Rattle.nd_run.specs.Script.{AskedScript, asked_script, IsScript, IsFirstBad}
+use Rattle.nd_run.specs.Script.{AskedScript, IsScript, IsFirstBad}
 use Rattle.nd_run.specs.Text.{replies_text, array_text}
 use Rattle.nd_run.specs.Watched.{watched_failed}
 use Rattle.nd_run.specs.Words.{lines_of}
@@ -61,11 +60,11 @@ is_load_failure (Err load_errors.Memory) = false
 is_load_failure (Err load_errors.ReadFailed) = true
 
 -- what loading gives of these bytes
-abbrev pub Loads : List ℕ → Result Script LoadError → Type 0
-Loads bytes (Ok script) = IsScript (lines_of bytes) (asked_script script)
-Loads bytes (Err (load_errors.BadLine number)) = IsFirstBad (lines_of bytes) number
-Loads bytes (Err load_errors.Memory) = Unit {0}
-Loads bytes (Err load_errors.ReadFailed) = Unit {0}
+abbrev pub Loads : {X : Type 0} → (X → AskedScript) → List ℕ → Result X LoadError → Type 0
+Loads view bytes (Ok script) = IsScript (lines_of bytes) (view script)
+Loads view bytes (Err (load_errors.BadLine number)) = IsFirstBad (lines_of bytes) number
+Loads view bytes (Err load_errors.Memory) = Unit {0}
+Loads view bytes (Err load_errors.ReadFailed) = Unit {0}
 
 -- the end where no script was loaded
 abbrev pub load_ending : LoadError → Ending

@@ -1,14 +1,18 @@
 -- What a list of calls answers, and what it leaves of an array's meaning: a fold over the calls. No view, borrow
 -- or storage occurs.
-use Rattle.std.specs.Prelude.{◌≡◌, ℕ, ◌-◌, nat_lt, Option, None, if◌then◌else◌, true, ◌||◌, List, [], ◌∷◌, ◌++◌, Result, Ok, Err, IsOk, ◌⊎◌}
-use Rattle.std.specs.Result.{result_unwrap_or}
-use Rattle.nd_shape_and_slice.specs.Shape.{indexes_of, in_box, index_at, size_of}
+use Rattle.std.specs.Prelude.{◌≡◌, ℕ, nat_eq, Bool, Option, None, Some, true, false, ◌||◌, ◌&&◌, List, [], ◌∷◌, ◌++◌, Result, Ok, Err, ◌⊎◌}
+use Rattle.std.specs.Cmp.Lexicographic.{pointwise}
+use Rattle.std.specs.List.{list_all}
+use Rattle.nd_shape_and_slice.specs.Shape.{indexes_of, in_box}
 use Rattle.nd_array_core.specs.Meaning.{Meaning, meaning_through}
+use Rattle.nd_shape_and_slice.specs.FirstIndex.{first_index}
+use Rattle.nd_array_core.specs.LastIndex.{last_index}
 use Rattle.nd_array_core.specs.Joined.{row_major_elements}
-use Rattle.nd_run.specs.Calls.{AskedStep, Asking, AskShape, AskElements, AskElement, AskFirst, AskLast, Asked, Keeping, About, Writing, SplitWriting, Said, SaidDone, SaidRefused, SaidShape, SaidElements, SaidElement, said_reply}
+use Rattle.nd_run.specs.Calls.{AskedStep, Asking, AskShape, AskElements, AskElement, AskFirst, AskLast, AskEqual, Asked, Keeping, About, Writing, SplitWriting, Said, SaidDone, SaidRefused, SaidShape, SaidElements, SaidElement, SaidTruth, said_reply}
 use Rattle.std.specs.Prelude.{map}
-use Rattle.nd_run.specs.Steps.{refusal, keep_refusal, unless, step_shape, step_index, shape_along, index_along}
-use Rattle.nd_run.specs.Acts.{write_result, split_result, clones}
+use Rattle.nd_run.specs.Steps.{Test, first_failed, tests_of, keep_tests, refusal, unless, step_shape, step_index, shape_along, index_along}
+use Rattle.nd_run.specs.Acts.{path_tests, meaning_at_end, write_tests, written, split_tests, split_written, clones}
+use Rattle.nd_run.specs.declared.calls.Reply.{Reply}
 use Rattle.nd_run.specs.declared.run.RunFault.{RunFault}
 use Rattle.nd_run.specs.declared.run.RunFault.TheVariants as faults
 use Rattle.nd_run.specs.declared.cause.Cause.{Cause}
@@ -18,22 +22,20 @@ use Rattle.nd_run.specs.declared.cause.Cause.TheVariants as causes
 abbrev pub step_meaning : {A : Type 0} → AskedStep → Meaning A → Meaning A
 step_meaning step m = meaning_through (step_shape step m.shape) (step_index step m.shape) m
 
--- that, or the first cause against the step: where it is only looked at, and where it is kept
+-- that, or the first cause against the step
 abbrev pub step_result : {A : Type 0} → AskedStep → Meaning A → Result (Meaning A) Cause
 step_result step m = unless (refusal step m.shape) (step_meaning step m)
-
-abbrev pub kept_result : {A : Type 0} → AskedStep → Meaning A → Result (Meaning A) Cause
-kept_result step m = unless (keep_refusal step m.shape) (step_meaning step m)
 
 -- what comes after what went well
 abbrev pub and_then : {X Y E : Type 0} → Result X E → (X → Result Y E) → Result Y E
 and_then (Ok x) f = f x
 and_then (Err e) f = Err e
 
--- a path of steps: the composition of their maps, or the cause against its first refused step
-abbrev pub path_result : {A : Type 0} → List AskedStep → Meaning A → Result (Meaning A) Cause
-path_result [] m = Ok m
-path_result (step ∷ steps) m = and_then (step_result step m) (path_result steps)
+-- a path of steps, each taken after the one before, or the cause against its first refused step, where these are the
+-- tests of a step
+abbrev pub path_result : {A : Type 0} → (AskedStep → List ℕ → List Test) → List AskedStep → Meaning A → Result (Meaning A) Cause
+path_result tests [] m = Ok m
+path_result tests (step ∷ steps) m = and_then (unless (first_failed (tests step m.shape)) (step_meaning step m)) (path_result tests steps)
 
 -- a path's meaning by the composition of its steps' maps: each index at its end names one at its start, and the same
 -- element
@@ -42,16 +44,25 @@ LeadsAlong path m n =
     (n.shape ≡ shape_along path m.shape)
     × ((i : List ℕ) → in_box n.shape i ≡ true → (in_box m.shape (index_along path m.shape i) ≡ true) × (n.at i ≡ m.at (index_along path m.shape i)))
 
--- the element of a row-major rank
-abbrev pub element_of_rank : {A : Type 0} → Meaning A → ℕ → Option A
-element_of_rank m rank = if nat_lt rank (size_of m.shape) then m.at (index_at m.shape rank) else None
+-- equal elements, or none on either side
+abbrev pub equal_there : {A : Type 0} → (A → A → Bool) → Option A → Option A → Bool
+equal_there eq None None = true
+equal_there eq None (Some y) = false
+equal_there eq (Some x) None = false
+equal_there eq (Some x) (Some y) = eq x y
 
-abbrev pub answer_to : {A : Type 0} → Asking → Meaning A → Said A
-answer_to AskShape m = SaidShape m.shape
-answer_to AskElements m = SaidElements m.shape (row_major_elements m)
-answer_to (AskElement index) m = SaidElement (m.at index)
-answer_to AskFirst m = SaidElement (element_of_rank m 0)
-answer_to AskLast m = SaidElement (element_of_rank m (size_of m.shape - 1))
+-- the same lengths, and equal elements at every index
+abbrev pub equal_arrays : {A : Type 0} → (A → A → Bool) → Meaning A → Meaning A → Bool
+equal_arrays eq m n = pointwise nat_eq m.shape n.shape && list_all (λ i. equal_there eq (m.at i) (n.at i)) (indexes_of m.shape)
+
+-- the answer to a question, where elements compare by eq
+abbrev pub answer_to : {A : Type 0} → (A → A → Bool) → Asking A → Meaning A → Said A
+answer_to eq AskShape m = SaidShape m.shape
+answer_to eq AskElements m = SaidElements m.shape (row_major_elements m)
+answer_to eq (AskElement index) m = SaidElement (m.at index)
+answer_to eq AskFirst m = SaidElement (m.at (first_index m.shape))
+answer_to eq AskLast m = SaidElement (m.at (last_index m.shape))
+answer_to eq (AskEqual other) m = SaidTruth (equal_arrays eq m other)
 
 -- the number of a cause in a reply
 abbrev pub number_of : Cause → ℕ
@@ -63,45 +74,88 @@ number_of causes.Shape = 5
 number_of causes.TooManyAxes = 7
 number_of causes.Broadcast = 8
 
-abbrev pub refused_or : {A X : Type 0} → Result X Cause → (X → Said A) → Said A
-refused_or (Ok x) reply = reply x
-refused_or (Err cause) reply = SaidRefused (number_of cause)
+-- ---- a call: its tests in order, what it does where they all pass, and whether it may lack memory then
 
--- the reply to a call
-abbrev pub reply_to : {A : Type 0} → Asked A → Meaning A → Said A
-reply_to (Keeping step) m = refused_or (kept_result step m) (λ _. SaidDone)
-reply_to (About path question) m = refused_or (path_result path m) (answer_to question)
-reply_to (Writing path act) m = refused_or (write_result path act m) (λ _. SaidDone)
-reply_to (SplitWriting axis index first second) m = refused_or (split_result axis index first second m) (λ _. SaidDone)
+-- the tests of a question on an array of these lengths
+abbrev pub question_tests : {A : Type 0} → Asking A → List ℕ → List Test
+question_tests question ns = []
 
--- the array after a call: a refusal changes nothing
-abbrev pub meaning_after : {A : Type 0} → Asked A → Meaning A → Meaning A
-meaning_after (Keeping step) m = result_unwrap_or (kept_result step m) m
-meaning_after (About path question) m = m
-meaning_after (Writing path act) m = result_unwrap_or (write_result path act m) m
-meaning_after (SplitWriting axis index first second) m = result_unwrap_or (split_result axis index first second m) m
+-- a question whose answer takes memory
+abbrev pub answers_in_memory : {A : Type 0} → Asking A → Bool
+answers_in_memory (AskEqual other) = false
+answers_in_memory _ = true
 
-abbrev pub replies_to : {A : Type 0} → List (Asked A) → Meaning A → List (Said A)
-replies_to [] m = []
-replies_to (call ∷ calls) m = reply_to call m ∷ replies_to calls (meaning_after call m)
+-- the first cause against a path that is only looked along
+abbrev pub look_refusal : List AskedStep → List ℕ → Option Cause
+look_refusal path ns = first_failed (path_tests tests_of path ns)
 
-abbrev pub end_of : {A : Type 0} → List (Asked A) → Meaning A → Meaning A
-end_of [] m = m
-end_of (call ∷ calls) m = end_of calls (meaning_after call m)
+-- the tests of the path, and then those of the question at its end
+abbrev pub ask_tests : {A : Type 0} → List AskedStep → Asking A → List ℕ → List Test
+ask_tests path question ns = path_tests tests_of path ns ++ question_tests question (shape_along path ns)
 
--- a call that may lack memory: a question that isn't refused, or such a write that clones a value
+abbrev pub tests_for : {A : Type 0} → Asked A → List ℕ → List Test
+tests_for (Keeping step) ns = keep_tests step ns
+tests_for (About path question) ns = ask_tests path question ns
+tests_for (Writing path act) ns = write_tests path act ns
+tests_for (SplitWriting axis index first second) ns = split_tests axis index first second ns
+
+-- the reply, and the array afterwards
+abbrev pub done : {A : Type 0} → (A → A → Bool) → Asked A → Meaning A → Said A × Meaning A
+done eq (Keeping step) m = (SaidDone, step_meaning step m)
+done eq (About path question) m = (answer_to eq question (meaning_at_end path m), m)
+done eq (Writing path act) m = (SaidDone, written path act m)
+done eq (SplitWriting axis index first second) m = (SaidDone, split_written axis index first second m)
+
+abbrev pub takes_memory : {A : Type 0} → Asked A → Bool
+takes_memory (Keeping step) = false
+takes_memory (About path question) = answers_in_memory question
+takes_memory (Writing path act) = clones act
+takes_memory (SplitWriting axis index first second) = clones first || clones second
+
+-- ---- what comes of a call
+
+abbrev pub outcome : {A : Type 0} → (A → A → Bool) → Asked A → Meaning A → Result (Said A × Meaning A) Cause
+outcome eq call m = unless (first_failed (tests_for call m.shape)) (done eq call m)
+
+-- a refusal is told by its number, and changes nothing
+abbrev pub given_by : {A : Type 0} → Result (Said A × Meaning A) Cause → Meaning A → Said A × Meaning A
+given_by (Ok given) m = given
+given_by (Err cause) m = (SaidRefused (number_of cause), m)
+
+-- the reply to a call, and the array after it
+abbrev pub reply_to : {A : Type 0} → (A → A → Bool) → Asked A → Meaning A → Said A
+reply_to eq call m = (given_by (outcome eq call m) m).0
+
+abbrev pub meaning_after : {A : Type 0} → (A → A → Bool) → Asked A → Meaning A → Meaning A
+meaning_after eq call m = (given_by (outcome eq call m) m).1
+
+-- a call that may lack memory: it isn't refused, and it takes some
 abbrev pub MayLackMemory : {A : Type 0} → Asked A → Meaning A → Type 0
-MayLackMemory (Keeping step) m = ⊥
-MayLackMemory (About path question) m = IsOk (path_result path m)
-MayLackMemory (Writing path act) m = IsOk (write_result path act m) × (clones act ≡ true)
-MayLackMemory (SplitWriting axis index first second) m = IsOk (split_result axis index first second m) × ((clones first || clones second) ≡ true)
+MayLackMemory call m = (first_failed (tests_for call m.shape) ≡ None) × (takes_memory call ≡ true)
+
+-- the code carried out a call: its reply, and what it left seen by view, are those of the call
+abbrev pub IsCarriedOut : {A B : Type 0} → (A → A → Bool) → Asked A → Meaning A → (B → Meaning A) → Reply A × B → Type 0
+IsCarriedOut {A = A} eq call m view acted = ◌≡◌ {A = Said A × Meaning A} (said_reply acted.0, view acted.1) (given_by (outcome eq call m) m)
+
+-- so it did, or lacked memory
+abbrev pub CarriesOut : {A B E : Type 0} → (A → A → Bool) → Asked A → Meaning A → (B → Meaning A) → Result (Reply A × B) E → Type 0
+CarriesOut eq call m view (Ok acted) = IsCarriedOut eq call m view acted
+CarriesOut eq call m view (Err error) = MayLackMemory call m
+
+abbrev pub replies_to : {A : Type 0} → (A → A → Bool) → List (Asked A) → Meaning A → List (Said A)
+replies_to eq [] m = []
+replies_to eq (call ∷ calls) m = reply_to eq call m ∷ replies_to eq calls (meaning_after eq call m)
+
+abbrev pub end_of : {A : Type 0} → (A → A → Bool) → List (Asked A) → Meaning A → Meaning A
+end_of eq [] m = m
+end_of eq (call ∷ calls) m = end_of eq calls (meaning_after eq call m)
 
 -- The replies up to a want of memory: none, or those to a front of the calls whose next one may lack memory.
-abbrev pub StopsBefore : {A : Type 0} → List (Asked A) → Meaning A → List (Said A) → Type 0
-StopsBefore {A = A} calls m replies =
+abbrev pub StopsBefore : {A : Type 0} → (A → A → Bool) → List (Asked A) → Meaning A → List (Said A) → Type 0
+StopsBefore {A = A} eq calls m replies =
     (replies ≡ [])
     ⊎ ((front : List (Asked A)) × (call : Asked A) × (rest : List (Asked A)) × (calls ≡ front ++ (call ∷ rest))
-    × (replies ≡ replies_to front m) × MayLackMemory call (end_of front m))
+    × (replies ≡ replies_to eq front m) × MayLackMemory call (end_of eq front m))
 
 -- the replies of a run that stopped
 abbrev pub replies_before : {A : Type 0} → RunFault A → List (Said A)

@@ -8,7 +8,7 @@ use Rattle.nd_run.specs.Fold.{path_result, LeadsAlong}
 use Rattle.nd_run.specs.Grammar.{IsCall}
 use Rattle.nd_run.specs.Script.{AskedScript, IsScript, IsFirstBad}
 use Rattle.nd_run.specs.Words.{lines_of}
-use Rattle.nd_run.specs.Steps.{refusal, step_shape, step_index}
+use Rattle.nd_run.specs.Steps.{tests_of, refusal, step_shape, step_index}
 
 -- each index of what a step leads to names one of what it came from
 abbrev pub StepsLeadInside : Type 0
@@ -16,7 +16,7 @@ StepsLeadInside = (step : AskedStep) (ns : List ℕ) → refusal step ns ≡ Non
 
 -- the map of a path that isn't refused is the composition of its steps' maps
 abbrev pub PathsLeadAlong : Type 0 → Type 0
-PathsLeadAlong A = (path : List AskedStep) (m n : Meaning A) → path_result path m ≡ Ok n → LeadsAlong path m n
+PathsLeadAlong A = (path : List AskedStep) (m n : Meaning A) → path_result tests_of path m ≡ Ok n → LeadsAlong path m n
 
 -- the words of a line mean one call at most
 abbrev pub MeansOneCall : Type 0

@@ -9,6 +9,7 @@ pub mod Input
 pub mod Numerals
 pub mod Puts
 pub mod Reading
+pub mod Spelling
 pub mod Script
 pub mod Text
 pub mod Watched

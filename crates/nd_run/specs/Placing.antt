@@ -3,9 +3,9 @@ use Rattle.std.specs.Prelude.{◌≡◌, ◌||◌, ℕ, true, List, Option, None
 use Rattle.nd_array_core.specs.Meaning.{Meaning}
 use Rattle.nd_array_core.specs.PlacedArray.{PlacedArray, element_placed, left_at}
 use Rattle.nd_run.specs.declared.cause.Cause.{Cause}
-use Rattle.nd_run.specs.Calls.{AskedStep, Acting, Writing, Said, SaidDone, SaidRefused}
-use Rattle.nd_run.specs.Acts.{acted_elements, clones, write_refusal, parts_refusal}
-use Rattle.nd_run.specs.Fold.{meaning_after, number_of, MayLackMemory}
+use Rattle.nd_run.specs.Calls.{AskedStep, Acting, Said, SaidDone, SaidRefused}
+use Rattle.nd_run.specs.Acts.{acted_elements, clones, written, write_refusal, parts_refusal}
+use Rattle.nd_run.specs.Fold.{number_of}
 
 -- the meaning of an array that lies so
 abbrev pub meaning_in : {A : Type 0} → PlacedArray A → Meaning A
@@ -19,15 +19,19 @@ places_in v = record { shape = v.shape; at = v.place }
 abbrev pub Leaves : {A : Type 0} → PlacedArray A → PlacedArray A → (List ℕ → Option A) → Type 0
 Leaves v w at = (i : List ℕ) → left_at v w i ≡ at i
 
+-- what comes of it, or what was, where there is a cause against it
+abbrev pub unless_refused : {X : Type 0} → Option Cause → X → X → X
+unless_refused None new old = new
+unless_refused (Some cause) new old = old
+
 -- the elements after an act, or the old ones where there is a cause against it
 abbrev pub acted_elements_unless : {A : Type 0} → Option Cause → Acting A → Meaning A → List ℕ → Option A
-acted_elements_unless None act m = acted_elements act m
-acted_elements_unless (Some cause) act m = m.at
+acted_elements_unless refused act m = unless_refused refused (acted_elements act m) m.at
 
 -- what an act at the end of a path does to the view that the path starts at: the first cause against them, or the act
 abbrev pub WritesThrough : {A E : Type 0} → List AskedStep → Acting A → PlacedArray A → PlacedArray A → Result (Option Cause) E → Type 0
-WritesThrough path act v w (Ok refused) = (refused ≡ write_refusal path act v.shape) × Leaves v w (meaning_after (Writing path act) (meaning_in v)).at
-WritesThrough path act v w (Err error) = MayLackMemory (Writing path act) (meaning_in v)
+WritesThrough path act v w (Ok refused) = (refused ≡ write_refusal path act v.shape) × Leaves v w (unless_refused refused (written path act (meaning_in v)) (meaning_in v)).at
+WritesThrough path act v w (Err error) = (write_refusal path act v.shape ≡ None) × (clones act ≡ true)
 
 -- what two acts do to two views: the first cause against them, or both acts
 abbrev pub WritesParts : {A E : Type 0} → Acting A → Acting A → PlacedArray A → PlacedArray A → PlacedArray A → PlacedArray A → Result (Option Cause) E → Type 0

@@ -1,5 +1,8 @@
 -- A script: a line that starts with an array, and a call in each later line with words.
 use Rattle.std.specs.Prelude.{◌≡◌, ℕ, ◌+◌, false, List, [], ◌∷◌, ◌++◌, length, ℤ, Option, None, Some, Result, Ok, Err, ◌⊎◌, if◌then◌else◌, map}
+use Rattle.nd_array_core.specs.declared.base.storage.Data as data_trait
+use Rattle.nd_array_core.specs.declared.base.storage.OwnedRepr.{OwnedRepr}
+use Rattle.nd_array_core.specs.Meaning.{Meaning, meaning_of}
 use Rattle.nd_run.specs.declared.reader.fault.ScriptError.{ScriptError}
 use Rattle.nd_run.specs.declared.reader.fault.ScriptError.TheVariants.{BadLine, Memory}
 use Rattle.nd_run.specs.declared.reader.Script.{Script}
@@ -10,12 +13,11 @@ use Rattle.nd_run.specs.Words.{words_of, is_wordless}
 
 -- a script without where it lies in memory
 pub record AskedScript : Type 0 where
-  pub lengths : List ℕ
-  pub elements : List ℤ
+  pub start : Meaning ℤ
   pub calls : List (Asked ℤ)
 
-abbrev pub asked_script : Script → AskedScript
-asked_script s = record { lengths = s.lengths.items; elements = s.elements.items; calls = map asked_call s.calls.items }
+abbrev pub asked_script : {s : data_trait.Ghosts (OwnedRepr ℤ) ℤ} → Script ℤ (OwnedRepr ℤ) s → AskedScript
+asked_script script = record { start = meaning_of script.start; calls = map asked_call script.calls.items }
 
 -- the words of each line that has some
 abbrev pub worded_lines : List (List ℕ) → List (List (List ℕ))
@@ -26,11 +28,11 @@ worded_lines (line ∷ lines) = if is_wordless (words_of line) then worded_lines
 abbrev pub IsScript : List (List ℕ) → AskedScript → Type 0
 IsScript lines script =
     (first : List (List ℕ)) × (others : List (List (List ℕ))) × (worded_lines lines ≡ first ∷ others)
-    × IsStart first script.lengths script.elements × AreAll IsCall others script.calls
+    × IsStart first script.start × AreAll IsCall others script.calls
 
 -- no array can be read from the line, or no call
 abbrev pub IsNoStart : List ℕ → Type 0
-IsNoStart line = (lengths : List ℕ) (elements : List ℤ) → ¬ (IsStart (words_of line) lengths elements)
+IsNoStart line = (start : Meaning ℤ) → ¬ (IsStart (words_of line) start)
 
 abbrev pub IsNoCall : List ℕ → Type 0
 IsNoCall line = (call : Asked ℤ) → ¬ (IsCall (words_of line) call)
@@ -62,7 +64,7 @@ read_or_number n (Some x) = Ok x
 abbrev pub call_in : List ℕ → Option (Asked ℤ)
 call_in line = call_of (length line) (words_of line)
 
-abbrev pub start_in : List ℕ → Option (List ℕ × List ℤ)
+abbrev pub start_in : List ℕ → Option (Meaning ℤ)
 start_in line = start_of (words_of line)
 
 unfoldable pub calls_from : ℕ → List (List ℕ) → Result (List (Asked ℤ)) ℕ
@@ -71,7 +73,7 @@ calls_from n (line ∷ lines) = if is_wordless (words_of line) then calls_from (
 
 unfoldable pub script_from : ℕ → List (List ℕ) → Result AskedScript ℕ
 script_from n [] = Err n
-script_from n (line ∷ lines) = if is_wordless (words_of line) then script_from (n + 1) lines else (read_or_number n (start_in line) >>= λ start. calls_from (n + 1) lines >>= λ calls. Ok (record { lengths = start.0; elements = start.1; calls = calls }))
+script_from n (line ∷ lines) = if is_wordless (words_of line) then script_from (n + 1) lines else (read_or_number n (start_in line) >>= λ start. calls_from (n + 1) lines >>= λ calls. Ok (record { start = start; calls = calls }))
 
 -- A reader of the code gives what reading gives, unless memory ran out.
 abbrev pub FailsAt : {Y : Type 0} → ScriptError → Result Y ℕ → Type 0

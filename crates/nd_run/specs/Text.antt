@@ -1,8 +1,8 @@
 -- How replies are written: words with one space between them, and a line feed at the end of each line.
-use Rattle.std.specs.Prelude.{ℕ, ℤ, List, ◌++◌, length, Option, Some, None, codes}
+use Rattle.std.specs.Prelude.{ℕ, ℤ, Bool, true, false, List, ◌++◌, length, Option, Some, None, codes}
 use Rattle.std.specs.List.{flat_map}
 use Rattle.std.specs.Fmt.{decimal, signed_decimal}
-use Rattle.nd_run.specs.Calls.{Said, SaidDone, SaidRefused, SaidShape, SaidElements, SaidElement}
+use Rattle.nd_run.specs.Calls.{Said, SaidDone, SaidRefused, SaidShape, SaidElements, SaidElement, SaidTruth}
 
 -- the numbers, each behind a space
 abbrev pub naturals_text : List ℕ → List ℕ
@@ -24,6 +24,10 @@ abbrev pub element_text : Option ℤ → List ℕ
 element_text None = codes "none"
 element_text (Some v) = codes "some " ++ signed_decimal v
 
+abbrev pub truth_text : Bool → List ℕ
+truth_text true = codes "true"
+truth_text false = codes "false"
+
 -- a reply without its line feed
 abbrev pub reply_words : Said ℤ → List ℕ
 reply_words SaidDone = codes "done"
@@ -31,6 +35,7 @@ reply_words (SaidRefused cause) = codes "refused " ++ decimal cause
 reply_words (SaidShape lengths) = codes "shape " ++ list_text lengths
 reply_words (SaidElements lengths elements) = codes "array " ++ array_text lengths elements
 reply_words (SaidElement element) = element_text element
+reply_words (SaidTruth truth) = truth_text truth
 
 abbrev pub reply_text : Said ℤ → List ℕ
 reply_text reply = reply_words reply ++ codes "\n"

@@ -1,6 +1,7 @@
 //! The calls that a script makes on its array, and the replies to them.
 
-use nd_shape_and_slice::{Slice, SliceInfoElem};
+use nd_array_core::{ArrayBase, Data, OwnedRepr};
+use nd_shape_and_slice::{IxDyn, Slice, SliceInfoElem};
 
 /// A layout call: another array of the same elements.
 #[derive(Debug, Drop)]
@@ -33,9 +34,9 @@ pub enum Step {
     Broadcast(Vec<usize>),
 }
 
-/// A question about an array.
-#[derive(Debug, Drop)]
-pub enum Question {
+/// A question about an array. Users write `Question<A>`: arrays in it own their elements.
+#[derive(Drop)]
+pub enum Question<A, S: Data<Elem = A> = OwnedRepr<A>> {
     /// Its lengths.
     Shape,
     /// Its lengths, and its elements in row-major order.
@@ -46,6 +47,8 @@ pub enum Question {
     First,
     /// The last element in row-major order.
     Last,
+    /// Whether it equals this array: the same lengths, and equal elements.
+    EqualTo(ArrayBase<S, IxDyn>),
 }
 
 /// A change of an array's elements.
@@ -59,13 +62,13 @@ pub enum Act<A> {
     Swap(Vec<usize>, Vec<usize>),
 }
 
-/// One line of a script.
-#[derive(Debug, Drop)]
-pub enum Call<A> {
+/// One line of a script. Users write `Call<A>`: arrays in it own their elements.
+#[derive(Drop)]
+pub enum Call<A, S: Data<Elem = A> = OwnedRepr<A>> {
     /// The step's result takes the array's place.
     Keep(Step),
     /// A question about what these steps lead to. The array stays.
-    Ask(Vec<Step>, Question),
+    Ask(Vec<Step>, Question<A, S>),
     /// An act on what these steps lead to. It changes the array's own elements.
     Write(Vec<Step>, Act<A>),
     /// An axis, a coordinate at which it is split, and an act on each of the two parts.
@@ -85,4 +88,6 @@ pub enum Reply<A> {
     Elements(Vec<usize>, Vec<A>),
     /// The element of an index, where the array has one there.
     Element(Option<A>),
+    /// Whether something is so.
+    Truth(bool),
 }

@@ -1,12 +1,11 @@
 //! The whole program, over any reader and writer.
 
-ghost use Rattle.std.specs.Prelude.{◌≡◌, ◌≤◌, ◌||◌, ◌==◌, length, slice_get, map, IfOk, IfErr, IfSome};
-ghost use Rattle.nd_shape_and_slice.specs.Shape.{HasCheckedSize, size_of, row_rank};
-ghost use Rattle.nd_array_core.specs.Meaning.{shape_of, meaning_of, inside};
+ghost use Rattle.std.specs.Prelude.{◌≡◌, ◌||◌, ◌==◌, map, IfOk, IfErr, IfSome};
+ghost use Rattle.nd_array_core.specs.Meaning.{shape_of, meaning_of};
 ghost use Rattle.nd_run.specs.Calls.{said_reply};
 ghost use Rattle.nd_run.specs.Fold.{replies_before};
 ghost use Rattle.nd_array_core.specs.Joined.{row_major_elements};
-ghost use Rattle.nd_run.specs.Meaning.{Runs, Stops, start_of};
+ghost use Rattle.nd_run.specs.Meaning.{Runs, Stops};
 ghost use Rattle.nd_run.specs.Endings.{OutOfMemory, Driven, ending};
 ghost use Rattle.nd_run.specs.Script.{asked_script};
 ghost use Rattle.nd_run.specs.Watched.{watched_inner, watched_failed, GetsFlushed};
@@ -21,40 +20,16 @@ use nd_shape_and_slice::IxDyn;
 use std::alloc::Global;
 use std::io::{Read, Write};
 
-/// The array that a script starts with.
-fn start_array(lengths: &[usize], elements: Vec<i64>) -> Array<i64, IxDyn>
-    requires checked { HasCheckedSize lengths.now }
-    requires few { length lengths.now ≤ 32 }
-    requires full { length elements.items ≡ size_of lengths.now }
-    ensures { meaning_of result ≡ record { shape = lengths.now; at = λ i. inside lengths.now i (slice_get elements.items (row_rank lengths.now i)) } }
-{
-    match Array::from_shape_vec(IxDyn::new(lengths), elements) {
-        Ok(array) => array,
-        Err(_) => unreachable!(),
-    }
-}
-
 /// Carries out the calls of a script.
 fn run_script(
     alloc: Global,
-    script: Script,
+    script: Script<i64>,
 ) -> Result<(Vec<Reply<i64>>, Array<i64, IxDyn>), RunFault<i64>>
-    requires checked { HasCheckedSize script.lengths.items }
-    requires few { length script.lengths.items ≤ 32 }
-    requires full { length script.elements.items ≡ size_of script.lengths.items }
     ensures done { IfOk result (λ r. Runs (asked_script script) (map said_reply r.0.items) (shape_of r.1) (row_major_elements (meaning_of r.1))) }
     ensures memory { IfErr result (λ fault. Stops (asked_script script) (replies_before fault)) }
 {
-    let Script {
-        lengths,
-        elements,
-        calls,
-    } = script;
-    let start = start_array(&lengths, elements);
-    match run(alloc, start, &calls) {
-        Ok((replies, array)) => Ok((replies, array)),
-        Err(fault) => Err(fault),
-    }
+    let Script { start, calls } = script;
+    run(alloc, start, &calls)
 }
 
 /// How a script ends whose run was refused memory.

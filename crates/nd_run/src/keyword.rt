@@ -1,7 +1,8 @@
 //! The words that name calls, steps, questions and acts.
 
 ghost use Rattle.std.specs.Prelude.{◌≡◌};
-ghost use Rattle.nd_run.specs.Reading.{keyword_of, spelling, is_step};
+ghost use Rattle.nd_run.specs.Reading.{keyword_of, keyword_among, long_keywords};
+ghost use Rattle.nd_run.specs.Spelling.{is_step};
 
 /// What a word names.
 #[derive(Clone, Copy, Debug, PartialEq, Eq)]
@@ -25,11 +26,15 @@ pub enum Keyword {
     Squeeze,
     Diag,
     Broadcast,
+    Part,
+    Coordinate,
+    New,
     Shape,
     Elements,
     Get,
     First,
     Last,
+    Equal,
     Fill,
     Set,
     Swap,
@@ -37,83 +42,64 @@ pub enum Keyword {
     Other,
 }
 
-const NAMED: [Keyword; 27] = [
-    Keyword::Start,
-    Keyword::Keep,
-    Keyword::Ask,
-    Keyword::Write,
-    Keyword::Split,
-    Keyword::Slash,
-    Keyword::Cut,
-    Keyword::Slice,
-    Keyword::Collapse,
-    Keyword::Index,
-    Keyword::Permute,
-    Keyword::Reverse,
-    Keyword::SwapAxes,
-    Keyword::Invert,
-    Keyword::Insert,
-    Keyword::Remove,
-    Keyword::Squeeze,
-    Keyword::Diag,
-    Keyword::Broadcast,
-    Keyword::Shape,
-    Keyword::Elements,
-    Keyword::Get,
-    Keyword::First,
-    Keyword::Last,
-    Keyword::Fill,
-    Keyword::Set,
-    Keyword::Swap,
-];
-
 impl Keyword {
-    /// What the word names.
+    /// What the word names: told by its length and its bytes in turn.
+    #[tactic(auto, unfolding(crate::specs::Reading::keyword_of))]
     pub fn of(word: &[u8]) -> Keyword
         ensures { result ≡ keyword_of word.now }
     {
-        for keyword in &NAMED {
-            if word == keyword.spelling() {
-                return *keyword;
-            }
+        if word.len() > 7 {
+            return Keyword::of_long(word);
         }
-        Keyword::Other
+        match word {
+            b"start" => Keyword::Start,
+            b"keep" => Keyword::Keep,
+            b"ask" => Keyword::Ask,
+            b"write" => Keyword::Write,
+            b"split" => Keyword::Split,
+            b"/" => Keyword::Slash,
+            b"cut" => Keyword::Cut,
+            b"slice" => Keyword::Slice,
+            b"index" => Keyword::Index,
+            b"permute" => Keyword::Permute,
+            b"reverse" => Keyword::Reverse,
+            b"invert" => Keyword::Invert,
+            b"insert" => Keyword::Insert,
+            b"remove" => Keyword::Remove,
+            b"squeeze" => Keyword::Squeeze,
+            b"diag" => Keyword::Diag,
+            b"s" => Keyword::Part,
+            b"i" => Keyword::Coordinate,
+            b"n" => Keyword::New,
+            b"shape" => Keyword::Shape,
+            b"get" => Keyword::Get,
+            b"first" => Keyword::First,
+            b"last" => Keyword::Last,
+            b"equal" => Keyword::Equal,
+            b"fill" => Keyword::Fill,
+            b"set" => Keyword::Set,
+            b"swap" => Keyword::Swap,
+            _ => Keyword::Other,
+        }
     }
 
-    /// The word that stands for it; `Other` has none.
-    fn spelling(self) -> &'static [u8]
-        ensures { result.now ≡ spelling self }
+    /// What a word of more than seven bytes names.
+    fn of_long(word: &[u8]) -> Keyword
+        ensures { result ≡ keyword_among long_keywords word.now }
     {
-        match self {
-            Keyword::Start => b"start",
-            Keyword::Keep => b"keep",
-            Keyword::Ask => b"ask",
-            Keyword::Write => b"write",
-            Keyword::Split => b"split",
-            Keyword::Slash => b"/",
-            Keyword::Cut => b"cut",
-            Keyword::Slice => b"slice",
-            Keyword::Collapse => b"collapse",
-            Keyword::Index => b"index",
-            Keyword::Permute => b"permute",
-            Keyword::Reverse => b"reverse",
-            Keyword::SwapAxes => b"swapaxes",
-            Keyword::Invert => b"invert",
-            Keyword::Insert => b"insert",
-            Keyword::Remove => b"remove",
-            Keyword::Squeeze => b"squeeze",
-            Keyword::Diag => b"diag",
-            Keyword::Broadcast => b"broadcast",
-            Keyword::Shape => b"shape",
-            Keyword::Elements => b"elements",
-            Keyword::Get => b"get",
-            Keyword::First => b"first",
-            Keyword::Last => b"last",
-            Keyword::Fill => b"fill",
-            Keyword::Set => b"set",
-            Keyword::Swap => b"swap",
-            Keyword::Other => b"",
+        if word == b"collapse".as_slice() {
+            return Keyword::Collapse;
         }
+        if word == b"swapaxes".as_slice() {
+            return Keyword::SwapAxes;
+        }
+        if word == b"elements".as_slice() {
+            return Keyword::Elements;
+        }
+        if word == b"broadcast".as_slice() {
+            return Keyword::Broadcast;
+        }
+        Keyword::Other
     }
 
     /// Whether a step begins with this word.

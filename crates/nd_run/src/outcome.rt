@@ -1,9 +1,9 @@
 //! How a script ends, and what is written then.
 
-ghost use Rattle.std.specs.Prelude.{◌≡◌, ◌≤◌, [], length, map, IfOk, IfSome, if◌then◌else◌};
-ghost use Rattle.nd_shape_and_slice.specs.Shape.{HasCheckedSize, size_of};
+ghost use Rattle.std.specs.Prelude.{◌≡◌, [], map, IfSome, if◌then◌else◌};
 ghost use Rattle.nd_array_core.specs.Meaning.{shape_of, meaning_of};
 ghost use Rattle.nd_run.specs.Calls.{said_reply};
+ghost use Rattle.nd_run.specs.Script.{asked_script};
 ghost use Rattle.nd_array_core.specs.Joined.{row_major_elements};
 ghost use Rattle.nd_run.specs.Text.{values_text};
 ghost use Rattle.nd_run.specs.Endings.{Finished, ending, ending_text, status_of, is_load_failure, Loads, load_ending};
@@ -45,9 +45,8 @@ pub enum LoadError {
 }
 
 /// The script of the whole input.
-pub fn load<R: Read>(alloc: Global, input: &mut Watched<R>) -> Result<Script, LoadError>
-    ensures script { IfSome (R.remaining (watched_inner input.old)) (λ xs. Loads xs result) }
-    ensures fits { IfOk result (λ s. HasCheckedSize s.lengths.items × (length s.lengths.items ≤ 32) × (length s.elements.items ≡ size_of s.lengths.items)) }
+pub fn load<R: Read>(alloc: Global, input: &mut Watched<R>) -> Result<Script<i64>, LoadError>
+    ensures script { IfSome (R.remaining (watched_inner input.old)) (λ xs. Loads asked_script xs result) }
     ensures failed { watched_failed input.new ≡ is_load_failure result }
 {
     let text = match read_input(alloc, input) {

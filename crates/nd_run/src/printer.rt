@@ -5,7 +5,7 @@ ghost use Rattle.std.specs.Prelude.{◌≡◌, ◌++◌, map, codes};
 ghost use Rattle.std.specs.Fmt.{decimal, signed_decimal};
 ghost use Rattle.nd_run.specs.Calls.{said_reply};
 ghost use Rattle.nd_run.specs.Puts.{Puts, Writes};
-ghost use Rattle.nd_run.specs.Text.{naturals_text, values_text, list_text, array_text, element_text, reply_words, reply_text, replies_text};
+ghost use Rattle.nd_run.specs.Text.{naturals_text, values_text, list_text, array_text, element_text, truth_text, reply_words, reply_text, replies_text};
 
 use crate::calls::Reply;
 use crate::page::Page;
@@ -106,6 +106,12 @@ fn put_element<W: Write>(out: &mut Watched<W>, page: &mut Page, element: &Option
     }
 }
 
+fn put_truth<W: Write>(out: &mut Watched<W>, page: &mut Page, truth: bool)
+    ensures { Puts W.contents out.old page.old out.new page.new (truth_text truth) }
+{
+    put(out, page, if truth { b"true" } else { b"false" });
+}
+
 fn put_words<W: Write>(out: &mut Watched<W>, page: &mut Page, reply: &Reply<i64>)
     ensures { Puts W.contents out.old page.old out.new page.new (reply_words (said_reply reply.now)) }
 {
@@ -124,6 +130,7 @@ fn put_words<W: Write>(out: &mut Watched<W>, page: &mut Page, reply: &Reply<i64>
             put_array(out, page, lengths, elements);
         }
         Reply::Element(element) => put_element(out, page, element),
+        Reply::Truth(truth) => put_truth(out, page, *truth),
     }
 }
 

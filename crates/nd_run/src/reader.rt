@@ -1,7 +1,7 @@
 //! Reading scripts.
 
-ghost use Rattle.std.specs.Prelude.{◌≡◌, ℕ, ◌+◌, ◌^◌, ◌<◌, ◌≤◌, map, length, IfOk};
-ghost use Rattle.nd_shape_and_slice.specs.Shape.{HasCheckedSize, size_of};
+ghost use Rattle.std.specs.Prelude.{◌≡◌, ℕ, ◌+◌, ◌^◌, ◌<◌, map, length, IfOk};
+ghost use Rattle.nd_array_core.specs.Meaning.{meaning_of};
 ghost use Rattle.nd_run.specs.Words.{lines_of, words_of};
 ghost use Rattle.nd_run.specs.Calls.{asked_call};
 ghost use Rattle.nd_run.specs.Script.{AskedScript, IsScript, IsFirstBad, GivesScript, asked_script, read_or_number, call_in, start_in, calls_from, script_from};
@@ -15,18 +15,17 @@ mod step;
 use crate::calls::Call;
 use crate::words::{is_wordless, split_line};
 use fault::{LineFault, ScriptError};
-use items::Parts;
+use nd_array_core::{Array, ArrayBase, Data, OwnedRepr};
+use nd_shape_and_slice::IxDyn;
 use std::alloc::Global;
 
-/// A script: an array, and the calls on it.
-#[derive(Debug, Drop)]
-pub struct Script {
-    /// The lengths of the array that the script starts with.
-    pub lengths: Vec<usize>,
-    /// Its elements in row-major order.
-    pub elements: Vec<i64>,
+/// A script: an array, and the calls on it. Its arrays own their elements: `Script<i64>`.
+#[derive(Drop)]
+pub struct Script<A, S: Data<Elem = A> = OwnedRepr<A>> {
+    /// The array that the script starts with.
+    pub start: ArrayBase<S, IxDyn>,
     /// The calls, in order.
-    pub calls: Vec<Call<i64>>,
+    pub calls: Vec<Call<A, S>>,
 }
 
 fn call_at(alloc: Global, number: usize, line: &[u8]) -> Result<Call<i64>, ScriptError>
@@ -39,11 +38,11 @@ fn call_at(alloc: Global, number: usize, line: &[u8]) -> Result<Call<i64>, Scrip
     }
 }
 
-fn start_at(alloc: Global, number: usize, line: &[u8]) -> Result<Parts, ScriptError>
-    ensures { GivesScript (λ x. (x.0.items, x.1.items)) result (read_or_number number (start_in line.now)) }
+fn start_at(alloc: Global, number: usize, line: &[u8]) -> Result<Array<i64, IxDyn>, ScriptError>
+    ensures { GivesScript meaning_of result (read_or_number number (start_in line.now)) }
 {
     match line::start(alloc, line) {
-        Ok(parts) => Ok(parts),
+        Ok(start) => Ok(start),
         Err(LineFault::Bad) => Err(ScriptError::BadLine(number)),
         Err(LineFault::Memory) => Err(ScriptError::Memory),
     }
@@ -72,7 +71,7 @@ fn calls(alloc: Global, first: usize, text: &[u8]) -> Result<Vec<Call<i64>>, Scr
 }
 
 /// The script of a text, read line by line up to the first bad one.
-fn whole_script(alloc: Global, text: &[u8]) -> Result<Script, ScriptError>
+fn whole_script(alloc: Global, text: &[u8]) -> Result<Script<i64>, ScriptError>
     ensures { GivesScript asked_script result (script_from 1 (lines_of text.now)) }
 {
     let mut rest = text;
@@ -80,13 +79,9 @@ fn whole_script(alloc: Global, text: &[u8]) -> Result<Script, ScriptError>
     while !rest.is_empty() {
         let (line, after) = split_line(rest);
         if !is_wordless(line) {
-            let (lengths, elements) = start_at(alloc, number, line)?;
+            let start = start_at(alloc, number, line)?;
             let calls = calls(alloc, number + 1, after)?;
-            return Ok(Script {
-                lengths,
-                elements,
-                calls,
-            });
+            return Ok(Script { start, calls });
         }
         rest = after;
         number += 1;
@@ -95,11 +90,9 @@ fn whole_script(alloc: Global, text: &[u8]) -> Result<Script, ScriptError>
 }
 
 /// The script of a text. No memory is taken once a line was found bad.
-pub fn read_script(alloc: Global, text: &[u8]) -> Result<Script, ScriptError>
+pub fn read_script(alloc: Global, text: &[u8]) -> Result<Script<i64>, ScriptError>
     // What is read is what the lines write.
     ensures found { IfOk result (λ s. IsScript (lines_of text.now) (asked_script s)) }
-    // Its lengths have a checked size, and there are as many elements.
-    ensures fits { IfOk result (λ s. HasCheckedSize s.lengths.items × (length s.lengths.items ≤ 32) × (length s.elements.items ≡ size_of s.lengths.items)) }
     // What the lines write is read, unless memory runs out.
     ensures only { (s : AskedScript) → IsScript (lines_of text.now) s → GivesScript asked_script result (Ok s) }
     // The number is that of the first bad line.

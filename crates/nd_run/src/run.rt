@@ -1,9 +1,10 @@
 //! A list of calls on one array.
 
-ghost use Rattle.std.specs.Prelude.{◌≡◌, map, MatchResult, Ok, Err, IfOk, IfErr, OnErr};
-ghost use Rattle.nd_array_core.specs.Meaning.{meaning_of, element_at};
+ghost use Rattle.std.specs.Prelude.{◌≡◌, map, Some, None, true, MatchResult, IfOk, IfErr, OnErr};
+ghost use Rattle.std.specs.Option.{option_copied};
+ghost use Rattle.nd_array_core.specs.Meaning.{meaning_of, shape_of, element_at};
 ghost use Rattle.nd_run.specs.Calls.{asked_call, asked_step, asking, said_reply, Keeping, About, SaidElement};
-ghost use Rattle.nd_run.specs.Fold.{path_result, LeadsAlong, answer_to, element_of_rank, reply_to, meaning_after, replies_to, end_of, number_of, MayLackMemory, StopsBefore, replies_before};
+ghost use Rattle.nd_run.specs.Fold.{LeadsAlong, look_refusal, answer_to, answers_in_memory, equal_there, equal_arrays, reply_to, replies_to, end_of, MayLackMemory, IsCarriedOut, CarriesOut, StopsBefore, replies_before};
 ghost use Rattle.nd_array_core.specs.Joined.{row_major_elements};
 
 use crate::calls::{Call, Question, Reply, Step};
@@ -11,6 +12,7 @@ use crate::cause::Cause;
 use crate::laws::paths_lead_along;
 use crate::steps::{advance, keep_refusal, take_step};
 use crate::write::{Acted, write_parts, write_through};
+use nd_array_core::laws::nothing_outside;
 use nd_array_core::{Array, ArrayView};
 use nd_shape_and_slice::{IxDyn, MAX_AXES, index_of_rank};
 use std::alloc::{AllocError, Global};
@@ -20,7 +22,7 @@ fn follow_path<'a, A>(
     view: ArrayView<'a, A, IxDyn>,
     path: &[Step],
 ) -> Result<ArrayView<'a, A, IxDyn>, Cause>
-    ensures path { MatchResult result (λ end. path_result (map asked_step path.now) (meaning_of view.entry) ≡ Ok (meaning_of end)) (λ cause. path_result (map asked_step path.now) (meaning_of view.entry) ≡ Err cause) }
+    ensures refused { MatchResult result (λ _. look_refusal (map asked_step path.now) (shape_of view.entry) ≡ None) (λ cause. look_refusal (map asked_step path.now) (shape_of view.entry) ≡ Some cause) }
     ensures along { IfOk result (λ end. LeadsAlong (map asked_step path.now) (meaning_of view.entry) (meaning_of end)) }
 {
     let mut view = view;
@@ -48,45 +50,69 @@ fn elements<A: Clone>(alloc: Global, view: &ArrayView<'_, A, IxDyn>) -> Result<V
     Ok(items)
 }
 
-/// The element of a row-major rank, where there is one.
-fn element_of_rank<A: Clone>(
-    view: &ArrayView<'_, A, IxDyn>,
-    rank: usize,
-) -> Result<Reply<A>, AllocError>
+/// The reply of an element, where there is one.
+fn told<A: Clone>(element: Option<&A>) -> Result<Reply<A>, AllocError>
     requires { (x y : A) → A.is_clone x y → y ≡ x }
-    ensures { IfOk result (λ reply. said_reply reply ≡ SaidElement (element_of_rank (meaning_of view.now) rank)) }
+    ensures { IfOk result (λ reply. said_reply reply ≡ SaidElement (option_copied element.entry)) }
 {
-    if rank >= view.len() {
-        return Ok(Reply::Element(None));
-    }
-    let mut coordinates = [0; MAX_AXES];
-    let index = &mut coordinates[..view.ndim()];
-    index_of_rank(view.shape(), rank, index);
-    element(view, index)
-}
-
-/// The element of an index, where there is one.
-fn element<A: Clone>(
-    view: &ArrayView<'_, A, IxDyn>,
-    index: &[usize],
-) -> Result<Reply<A>, AllocError>
-    requires { (x y : A) → A.is_clone x y → y ≡ x }
-    ensures { IfOk result (λ reply. said_reply reply ≡ SaidElement (element_at view.now index.now)) }
-{
-    match view.get(index) {
+    match element {
         Some(element) => Ok(Reply::Element(Some(element.clone()?))),
         None => Ok(Reply::Element(None)),
     }
 }
 
+/// Whether the element of an index equals this one.
+fn equals_there<A: Eq>(element: &A, other: &Array<A, IxDyn>, index: &[usize]) -> bool
+    ensures { result ≡ equal_there A.eq (Some element.now) (element_at other.now index.now) }
+{
+    match other.get(index) {
+        Some(value) => element.eq(value),
+        None => false,
+    }
+}
+
+/// Whether the two arrays have equal elements at an index, or none.
+fn equal_there<A: Eq>(
+    view: &ArrayView<'_, A, IxDyn>,
+    other: &Array<A, IxDyn>,
+    index: &[usize],
+) -> bool
+    ensures { result ≡ equal_there A.eq (element_at view.now index.now) (element_at other.now index.now) }
+{
+    match view.get(index) {
+        Some(element) => equals_there(element, other, index),
+        None => other.get(index).is_none(),
+    }
+}
+
+/// Whether the lengths are the same and the elements equal.
+fn equal<A: Eq>(view: &ArrayView<'_, A, IxDyn>, other: &Array<A, IxDyn>) -> bool
+    ensures { result ≡ equal_arrays A.eq (meaning_of view.now) (meaning_of other.now) }
+{
+    if view.shape() != other.shape() {
+        return false;
+    }
+    let mut coordinates = [0; MAX_AXES];
+    let index = &mut coordinates[..view.ndim()];
+    let count = view.len();
+    for rank in 0..count {
+        index_of_rank(view.shape(), rank, index);
+        if !equal_there(view, other, index) {
+            return false;
+        }
+    }
+    true
+}
+
 /// The answer to a question.
-fn answer<A: Clone>(
+fn answer<A: Clone + Eq>(
     alloc: Global,
     view: &ArrayView<'_, A, IxDyn>,
-    question: &Question,
+    question: &Question<A>,
 ) -> Result<Reply<A>, AllocError>
     requires { (x y : A) → A.is_clone x y → y ≡ x }
-    ensures { IfOk result (λ reply. said_reply reply ≡ answer_to (asking question.now) (meaning_of view.now)) }
+    ensures reply { IfOk result (λ reply. said_reply reply ≡ answer_to A.eq (asking question.now) (meaning_of view.now)) }
+    ensures memory { OnErr result (answers_in_memory (asking question.now) ≡ true) }
 {
     match question {
         Question::Shape => Ok(Reply::Shape(view.shape().to_vec(alloc)?)),
@@ -94,33 +120,36 @@ fn answer<A: Clone>(
             let shape = view.shape().to_vec(alloc)?;
             Ok(Reply::Elements(shape, elements(alloc, view)?))
         }
-        Question::Get(index) => element(view, index.as_slice()),
-        Question::First => element_of_rank(view, 0),
-        Question::Last => element_of_rank(view, view.len().saturating_sub(1)),
+        Question::Get(index) => told(view.get(index.as_slice())),
+        Question::First => told(view.first()),
+        Question::Last => told(view.last()),
+        Question::EqualTo(other) => Ok(Reply::Truth(equal(view, other))),
     }
 }
 
 /// The reply to a question at the end of a path. It can run out of memory only if no step was refused.
-fn ask<A: Clone>(
+fn ask<A: Clone + Eq>(
     alloc: Global,
     array: &Array<A, IxDyn>,
     path: &[Step],
-    question: &Question,
+    question: &Question<A>,
 ) -> Result<Reply<A>, AllocError>
     requires { (x y : A) → A.is_clone x y → y ≡ x }
-    ensures reply { IfOk result (λ reply. said_reply reply ≡ reply_to (About (map asked_step path.now) (asking question.now)) (meaning_of array.now)) }
+    ensures reply { IfOk result (λ reply. said_reply reply ≡ reply_to A.eq (About (map asked_step path.now) (asking question.now)) (meaning_of array.now)) }
     ensures memory { OnErr result (MayLackMemory (About (map asked_step path.now) (asking question.now)) (meaning_of array.now)) }
 {
     match follow_path(array.view(), path) {
-        Ok(view) => answer(alloc, &view, question),
+        Ok(view) => {
+            nothing_outside(&view);
+            answer(alloc, &view, question)
+        }
         Err(cause) => Ok(Reply::Refused(cause.number())),
     }
 }
 
 /// Replaces the array by the step's result. A refused step changes nothing.
-fn keep<A>(array: Array<A, IxDyn>, step: &Step) -> (Reply<A>, Array<A, IxDyn>)
-    ensures reply { said_reply result.0 ≡ reply_to (Keeping (asked_step step.now)) (meaning_of array) }
-    ensures array { meaning_of result.1 ≡ meaning_after (Keeping (asked_step step.now)) (meaning_of array) }
+fn keep<A: Eq>(array: Array<A, IxDyn>, step: &Step) -> Acted<A>
+    ensures { IsCarriedOut A.eq (Keeping (asked_step step.now)) (meaning_of array) meaning_of result }
 {
     match keep_refusal(array.shape(), step) {
         None => (Reply::Done, take_step(array, step)),
@@ -129,15 +158,13 @@ fn keep<A>(array: Array<A, IxDyn>, step: &Step) -> (Reply<A>, Array<A, IxDyn>)
 }
 
 /// Carries out one call.
-fn act<A: Clone + Drop>(
+fn act<A: Clone + Eq + Drop>(
     alloc: Global,
     array: Array<A, IxDyn>,
     call: &Call<A>,
 ) -> Result<Acted<A>, AllocError>
     requires { (x y : A) → A.is_clone x y → y ≡ x }
-    ensures reply { IfOk result (λ acted. said_reply acted.0 ≡ reply_to (asked_call call.now) (meaning_of array)) }
-    ensures array { IfOk result (λ acted. meaning_of acted.1 ≡ meaning_after (asked_call call.now) (meaning_of array)) }
-    ensures memory { OnErr result (MayLackMemory (asked_call call.now) (meaning_of array)) }
+    ensures { CarriesOut A.eq (asked_call call.now) (meaning_of array) meaning_of result }
 {
     match call {
         Call::Keep(step) => Ok(keep(array, step)),
@@ -161,15 +188,15 @@ pub enum RunFault<A> {
 
 /// Runs the calls in order; each has one reply. Room for the replies is taken before the first call. A call that is
 /// refused changes nothing. If memory is refused, the replies are those to the calls before. ndarray has no such call.
-pub fn run<A: Clone + Drop>(
+pub fn run<A: Clone + Eq + Drop>(
     alloc: Global,
     start: Array<A, IxDyn>,
     calls: &[Call<A>],
 ) -> Result<(Vec<Reply<A>>, Array<A, IxDyn>), RunFault<A>>
     requires { (x y : A) → A.is_clone x y → y ≡ x }
-    ensures replies { IfOk result (λ r. map said_reply r.0.items ≡ replies_to (map asked_call calls.now) (meaning_of start)) }
-    ensures array { IfOk result (λ r. meaning_of r.1 ≡ end_of (map asked_call calls.now) (meaning_of start)) }
-    ensures memory { IfErr result (λ fault. StopsBefore (map asked_call calls.now) (meaning_of start) (replies_before fault)) }
+    ensures replies { IfOk result (λ r. map said_reply r.0.items ≡ replies_to A.eq (map asked_call calls.now) (meaning_of start)) }
+    ensures array { IfOk result (λ r. meaning_of r.1 ≡ end_of A.eq (map asked_call calls.now) (meaning_of start)) }
+    ensures memory { IfErr result (λ fault. StopsBefore A.eq (map asked_call calls.now) (meaning_of start) (replies_before fault)) }
 {
     let mut replies = match Vec::with_capacity(alloc, calls.len()) {
         Ok(replies) => replies,

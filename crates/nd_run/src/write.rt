@@ -6,9 +6,9 @@ ghost use Rattle.nd_array_core.specs.Meaning.{shape_of, element_at, meaning_of, 
 ghost use Rattle.nd_array_core.specs.base.Writes.{OthersStay};
 ghost use Rattle.nd_array_core.specs.scoped.Tasks.{view_frame, lent_frame, lent_view, view_left, CanBeSeen};
 ghost use Rattle.nd_run.specs.Calls.{asked_step, acting, said_reply, Writing, SplitWriting};
-ghost use Rattle.nd_run.specs.Acts.{act_refusal, acted_elements, clones, path_refusal, write_refusal, parts_refusal, place_refusal};
-ghost use Rattle.nd_run.specs.Placing.{meaning_in, places_in, Leaves, acted_elements_unless, WritesThrough, WritesParts, said_unless};
-ghost use Rattle.nd_run.specs.Fold.{LeadsAlong, reply_to, meaning_after, MayLackMemory};
+ghost use Rattle.nd_run.specs.Acts.{act_refusal, acted_elements, clones, path_refusal, parts_refusal, point_refusal};
+ghost use Rattle.nd_run.specs.Placing.{places_in, acted_elements_unless, WritesThrough, WritesParts, said_unless};
+ghost use Rattle.nd_run.specs.Fold.{LeadsAlong, CarriesOut};
 
 use crate::calls::{Act, Reply, Step};
 use crate::cause::Cause;
@@ -107,9 +107,7 @@ fn act_along<S: DataMut>(
 where
     S::Elem: Clone + Drop,
     requires { (x y : S.Elem) → S.Elem.is_clone x y → y ≡ x }
-    ensures refused { IfOk result.1 (λ refused. refused ≡ write_refusal (map asked_step path.now) (acting act.now) (shape_of array)) }
-    ensures elements { IfOk result.1 (λ refused. Leaves (placed_array array) (placed_array result.0) (meaning_after (Writing (map asked_step path.now) (acting act.now)) (meaning_in (placed_array array))).at) }
-    ensures memory { OnErr result.1 (MayLackMemory (Writing (map asked_step path.now) (acting act.now)) (meaning_in (placed_array array))) }
+    ensures done { WritesThrough (map asked_step path.now) (acting act.now) (placed_array array) (placed_array result.0) result.1 }
     ensures frame { S.frame (storage_of result.0) ≡ S.frame (storage_of array) }
 {
     elements_have_places(&array);
@@ -262,8 +260,8 @@ impl<'p, A: Clone + Drop, D: Dimension> PairTask<A, D, D> for ActOnParts<'p, A> 
 }
 
 /// The cause for which one refuses a split of an array of these lengths.
-fn place_refusal(shape: &[usize], axis: usize, index: usize) -> Option<Cause>
-    ensures { result ≡ place_refusal axis index shape.now }
+fn point_refusal(shape: &[usize], axis: usize, index: usize) -> Option<Cause>
+    ensures { result ≡ point_refusal axis index shape.now }
 {
     if axis >= shape.len() {
         return Some(Cause::Axis);
@@ -288,15 +286,13 @@ fn write_reply<A>(refused: Option<Cause>) -> Reply<A>
 pub type Acted<A> = (Reply<A>, Array<A, IxDyn>);
 
 /// An act at the end of a path. It changes the array's own elements, and nothing where a step or the act is refused.
-pub fn write_through<A: Clone + Drop>(
+pub fn write_through<A: Clone + Eq + Drop>(
     array: Array<A, IxDyn>,
     path: &[Step],
     act: &Act<A>,
 ) -> Result<Acted<A>, AllocError>
     requires { (x y : A) → A.is_clone x y → y ≡ x }
-    ensures reply { IfOk result (λ acted_elements. said_reply acted_elements.0 ≡ reply_to (Writing (map asked_step path.now) (acting act.now)) (meaning_of array)) }
-    ensures array { IfOk result (λ acted_elements. meaning_of acted_elements.1 ≡ meaning_after (Writing (map asked_step path.now) (acting act.now)) (meaning_of array)) }
-    ensures memory { OnErr result (MayLackMemory (Writing (map asked_step path.now) (acting act.now)) (meaning_of array)) }
+    ensures { CarriesOut A.eq (Writing (map asked_step path.now) (acting act.now)) (meaning_of array) meaning_of result }
 {
     let mut array = array;
     let refused = array.with_view_mut(ActAlong { path, act })?;
@@ -304,7 +300,7 @@ pub fn write_through<A: Clone + Drop>(
 }
 
 /// An act on each part of the array split along an axis. Both are checked before either changes anything.
-pub fn write_parts<A: Clone + Drop>(
+pub fn write_parts<A: Clone + Eq + Drop>(
     array: Array<A, IxDyn>,
     axis: usize,
     index: usize,
@@ -312,12 +308,10 @@ pub fn write_parts<A: Clone + Drop>(
     second: &Act<A>,
 ) -> Result<Acted<A>, AllocError>
     requires { (x y : A) → A.is_clone x y → y ≡ x }
-    ensures reply { IfOk result (λ acted_elements. said_reply acted_elements.0 ≡ reply_to (SplitWriting axis index (acting first.now) (acting second.now)) (meaning_of array)) }
-    ensures array { IfOk result (λ acted_elements. meaning_of acted_elements.1 ≡ meaning_after (SplitWriting axis index (acting first.now) (acting second.now)) (meaning_of array)) }
-    ensures memory { OnErr result (MayLackMemory (SplitWriting axis index (acting first.now) (acting second.now)) (meaning_of array)) }
+    ensures { CarriesOut A.eq (SplitWriting axis index (acting first.now) (acting second.now)) (meaning_of array) meaning_of result }
 {
     let mut array = array;
-    let refused = place_refusal(array.shape(), axis, index);
+    let refused = point_refusal(array.shape(), axis, index);
     if refused.is_some() {
         return Ok((write_reply(refused), array));
     }

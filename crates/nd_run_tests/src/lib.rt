@@ -7,6 +7,8 @@ mod answers;
 #[cfg(test)]
 mod bad_lines;
 #[cfg(test)]
+mod questions;
+#[cfg(test)]
 mod refused_clones;
 #[cfg(test)]
 mod scripts;

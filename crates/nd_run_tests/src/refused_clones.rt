@@ -1,5 +1,7 @@
 //! Calls on elements whose clones are refused.
 
+ghost use Rattle.std.specs.Prelude.{◌≡◌};
+
 use nd_array_core::Array;
 use nd_run::run::{RunFault, run};
 use nd_run::{Act, Call, Question, Reply, Step};
@@ -22,9 +24,14 @@ fn three_numbers<'a>(
     )
 }
 
-// That array, sliced from the back and asked for its elements and for its first.
-fn replies_with(alloc: Global, left: &Cell<u64>) -> Result<(usize, bool), Fail> {
-    let start = three_numbers(alloc, left)?;
+// An array of three elements, sliced from the back and asked for its elements and for its first. It is over any
+// elements, since a list of calls isn't made at a type that names a lifetime.
+fn asked_from_the_back<A: Clone + Eq + Drop>(
+    alloc: Global,
+    start: Array<A, IxDyn>,
+) -> Result<(usize, bool), Fail>
+    requires { (x y : A) → A.is_clone x y → y ≡ x }
+{
     let mut calls = Vec::new(alloc);
     calls.push(Call::Keep(Step::SliceAxis(0, Slice::new(0, None, -1))))?;
     calls.push(Call::Ask(Vec::new(alloc), Question::Elements))?;
@@ -36,6 +43,10 @@ fn replies_with(alloc: Global, left: &Cell<u64>) -> Result<(usize, bool), Fail> 
         Ok((replies, _)) => Ok((replies.len(), true)),
         Err(RunFault::Memory(replies)) => Ok((replies.len(), false)),
     }
+}
+
+fn replies_with(alloc: Global, left: &Cell<u64>) -> Result<(usize, bool), Fail> {
+    asked_from_the_back(alloc, three_numbers(alloc, left)?)
 }
 
 #[test]
@@ -61,17 +72,25 @@ fn number_at(array: &Array<Refusing<'_>, IxDyn>, i: usize) -> u64 {
     }
 }
 
-// That array with its last two elements filled, its first set and its ends exchanged, and then split: the
-// first filled, the second of the others set.
-fn writes_with(alloc: Global, left: &Cell<u64>) -> Result<(usize, bool), Fail> {
-    let start = three_numbers(alloc, left)?;
+// An array of three elements with its last two filled, its first set and its ends exchanged, and then split: the first
+// filled, the second of the others set.
+fn written<A: Clone + Eq + Drop>(
+    alloc: Global,
+    start: Array<A, IxDyn>,
+    one: A,
+    two: A,
+    three: A,
+    four: A,
+) -> Result<(usize, Option<Array<A, IxDyn>>), Fail>
+    requires { (x y : A) → A.is_clone x y → y ≡ x }
+{
     let mut path = Vec::new(alloc);
     path.push(Step::SliceAxis(0, Slice::new(1, None, 1)))?;
     let mut calls = Vec::new(alloc);
-    calls.push(Call::Write(path, Act::Fill(Refusing { number: 1, left })))?;
+    calls.push(Call::Write(path, Act::Fill(one)))?;
     calls.push(Call::Write(
         Vec::new(alloc),
-        Act::Set(Vec::from_slice(alloc, &[0])?, Refusing { number: 2, left }),
+        Act::Set(Vec::from_slice(alloc, &[0])?, two),
     ))?;
     calls.push(Call::Write(
         Vec::new(alloc),
@@ -80,17 +99,30 @@ fn writes_with(alloc: Global, left: &Cell<u64>) -> Result<(usize, bool), Fail> {
     calls.push(Call::SplitWrite(
         0,
         1,
-        Act::Fill(Refusing { number: 3, left }),
-        Act::Set(Vec::from_slice(alloc, &[1])?, Refusing { number: 4, left }),
+        Act::Fill(three),
+        Act::Set(Vec::from_slice(alloc, &[1])?, four),
     ))?;
     match run(alloc, start, &calls) {
-        Ok((replies, array)) => {
+        Ok((replies, array)) => Ok((replies.len(), Some(array))),
+        Err(RunFault::Memory(replies)) => Ok((replies.len(), None)),
+    }
+}
+
+fn writes_with(alloc: Global, left: &Cell<u64>) -> Result<(usize, bool), Fail> {
+    let start = three_numbers(alloc, left)?;
+    let one = Refusing { number: 1, left };
+    let two = Refusing { number: 2, left };
+    let three = Refusing { number: 3, left };
+    let four = Refusing { number: 4, left };
+    let (replies, end) = written(alloc, start, one, two, three, four)?;
+    match end {
+        Some(array) => {
             let first = number_at(&array, 0) == 3;
             let second = number_at(&array, 1) == 1;
             let third = number_at(&array, 2) == 4;
-            Ok((replies.len(), first && second && third))
+            Ok((replies, first && second && third))
         }
-        Err(RunFault::Memory(replies)) => Ok((replies.len(), false)),
+        None => Ok((replies, false)),
     }
 }
 

@@ -1,6 +1,7 @@
 //! Slices of one axis.
 
-ghost use Rattle.std.specs.Prelude.{◌↔◌, ◌≡◌, ◌<◌, nat_abs, IsTrue, true};
+ghost use Rattle.std.specs.Prelude.{◌↔◌, ◌≡◌, ◌<◌, nat_abs, IsTrue, true, is_some};
+ghost use Rattle.std.specs.Option.{unwrap_or};
 ghost use Rattle.nd_shape_and_slice.specs.Slice.{fits_axis, bound_on, end_on, quotient_up, sliced_length, sliced_from};
 
 /// The part of an axis from `start` up to `end` in steps. A negative bound counts from the axis's end, and a
@@ -41,8 +42,8 @@ impl Slice {
         ensures first { result.first ≡ sliced_from len self 0 }
         ensures len { result.len ≡ sliced_length len self }
     {
-        let low = bound_on_axis(len, self.start).unwrap_or(0);
-        let high = low.max(end_on_axis(len, self.end).unwrap_or(0));
+        let low = place_of_bound(len, self.start);
+        let high = low.max(place_of_end(len, self.end));
         SlicedAxis {
             first: if self.step < 0 {
                 high.saturating_sub(1)
@@ -77,8 +78,33 @@ fn end_on_axis(len: usize, end: Option<isize>) -> Option<usize>
     }
 }
 
-/// How many coordinates a step names in a range. Most steps are 1 or -1, and then nothing is divided. With `<=` the
-/// compiler sees that no divisor is 0.
+/// Where a bound that lies on an axis of this length lies: nothing is left to test.
+#[inline]
+fn place_of_bound(len: usize, bound: isize) -> usize
+    requires { is_some (bound_on len bound) ≡ true }
+    ensures { result ≡ unwrap_or (bound_on len bound) 0 }
+{
+    if bound < 0 {
+        len - bound.unsigned_abs()
+    } else {
+        bound as usize
+    }
+}
+
+/// Where the end of a slice lies that fits an axis of this length.
+#[inline]
+fn place_of_end(len: usize, end: Option<isize>) -> usize
+    requires { is_some (end_on len end) ≡ true }
+    ensures { result ≡ unwrap_or (end_on len end) 0 }
+{
+    match end {
+        None => len,
+        Some(bound) => place_of_bound(len, bound),
+    }
+}
+
+/// How many coordinates a step names in a range. Most steps are 1 or 2 either way, and then nothing is divided but by a
+/// constant. With `<=` the compiler sees that no divisor is 0.
 #[tactic(auto, using(crate::proofs::Steps::div_ceil_is, crate::proofs::Steps::quotient_by_one))]
 fn steps_in(range: usize, step: isize) -> usize
     requires { 0 < nat_abs step }
@@ -87,6 +113,8 @@ fn steps_in(range: usize, step: isize) -> usize
     let distance = step.unsigned_abs();
     if distance <= 1 {
         range
+    } else if distance == 2 {
+        range.div_ceil(2)
     } else {
         range.div_ceil(distance)
     }

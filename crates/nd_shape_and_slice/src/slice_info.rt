@@ -55,16 +55,20 @@ pub fn axes_read(elements: &[SliceInfoElem]) -> usize
         .count()
 }
 
-/// How many axes the list leaves. It isn't inlined: without a loop before them, arrays that a caller fills are filled
-/// once.
-#[inline(never)]
+/// How many axes the list leaves. Where the number isn't read, as of a dimension that is fixed, the compiler drops a loop
+/// whose turns it can count.
+#[tactic(auto, using(std::proofs::lemmas::List::Sums::count_by_more_yes, std::proofs::lemmas::List::Sums::count_by_more_no))]
+#[inline]
 pub fn axes_kept(elements: &[SliceInfoElem]) -> usize
     ensures { result ≡ axes_kept elements.now }
 {
-    elements
-        .iter()
-        .filter(|element| element.keeps_axis())
-        .count()
+    let mut kept = 0;
+    for element in elements {
+        if element.keeps_axis() {
+            kept += 1;
+        }
+    }
+    kept
 }
 
 /// Where a coordinate lies on an axis of this length: a negative one counts from the end. None where it lies outside.

@@ -1,12 +1,15 @@
 //! Numbers whose clones are refused when their turn comes.
 
-ghost use Rattle.std.specs.Prelude.{◌≡◌};
+ghost use Rattle.std.specs.Prelude.{◌≡◌, nat_eq};
+ghost use Rattle.std.specs.Ordering.{on};
+ghost use Rattle.std.specs.Cmp.Rules.{comparing};
+ghost use Rattle.std.proofs.Common.{rules};
 
 use std::alloc::{AllocError, Global};
 use std::cell::Cell;
 use std::test::Fail;
 
-/// A number whose clones are counted down: the one that finds 0 left is refused.
+/// A number whose clones are counted down: the one that finds 0 left is refused. Two are equal if their numbers are.
 #[derive(Drop)]
 pub struct Refusing<'a> {
     pub number: u64,
@@ -29,6 +32,20 @@ impl<'a> Refusing<'a> {
         }
         Ok(items)
     }
+}
+
+impl<'a> PartialEq for Refusing<'a> {
+    ghost eq = { on (λ x. x.number) nat_eq };
+
+    ghost laws = { Prim.search (comparing, rules) };
+
+    fn eq(&self, other: &Self) -> bool {
+        self.number == other.number
+    }
+}
+
+impl<'a> Eq for Refusing<'a> {
+    ghost laws = { Prim.search (comparing, rules) };
 }
 
 impl<'a> Clone for Refusing<'a> {

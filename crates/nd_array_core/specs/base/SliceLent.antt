@@ -1,6 +1,7 @@
 -- What a slice ends as, once a mutable view of its elements is over.
-use Rattle.std.specs.Prelude.{List, Result}
-use Rattle.std.specs.Borrow.{Fml, GName, RattleType, MutBor, Array, follows_if, name_if_ok}
+use Rattle.std.specs.Prelude.{ℕ, zero, List, [], ◌∷◌, ◌++◌, drop, Result}
+use Rattle.std.specs.Borrow.{Fml, GName, RattleType, MutBor, Array, follows, follows_if, name_if_ok}
+use Rattle.std.specs.Simd.{first_chunks}
 use Rattle.nd_region.specs.declared.region.Region.{Region}
 use Rattle.nd_shape_and_slice.specs.declared.dimension.Dimension as dimension
 use Rattle.nd_shape_and_slice.specs.declared.dimension.AxisCount as axis_count
@@ -8,7 +9,7 @@ use Rattle.nd_shape_and_slice.specs.declared.dimension.StrideList as stride_list
 use Rattle.nd_array_core.specs.declared.base.storage.Data as data_trait
 use Rattle.nd_array_core.specs.declared.base.storage.RegionRepr.{RegionRepr}
 use Rattle.nd_array_core.specs.declared.base.array.ArrayBase.{ArrayBase}
-use Rattle.nd_array_core.specs.Meaning.{storage_of}
+use Rattle.nd_array_core.specs.Meaning.{storage_of, shape_of}
 
 module _ {A D T P R L M : Type 0} {s : data_trait.Ghosts (RegionRepr (Region A)) A} {d : dimension.Ghosts D P R L M} {n : axis_count.Ghosts D} {r : stride_list.Ghosts R} {t : stride_list.Ghosts T} where
   -- the name under which a mutable view's region holds its elements
@@ -19,3 +20,21 @@ module _ (E : RattleType) {D T P R L M V : Type 0} {s : data_trait.Ghosts (Regio
   -- the slice ends with the elements of the view's region; where there is no view it ends as it was
   abbrev pub slice_follows_view : MutBor (List E.Denot) → Result (ArrayBase (RegionRepr (Region E.Denot)) D T E.Denot P R L M s d n r t) V → Fml
   slice_follows_view xs view = follows_if (Array E 0) (Array E 0) xs.ghost_name (name_if_ok view_name view) (λ ws. ws) xs.now
+
+-- the number of rows of a shape
+abbrev pub row_count : List ℕ → ℕ
+row_count [] = zero
+row_count (n ∷ ns) = n
+
+-- rows of n elements each, the first k of them rewritten with the elements ws, one row after the other
+abbrev pub rows_rewritten : {X : Type 0} → ℕ → ℕ → List (List X) → List X → List (List X)
+rows_rewritten n k rows ws = first_chunks n k ws ++ drop k rows
+
+module _ (E : RattleType) {D T P R L M : Type 0} {s : data_trait.Ghosts (RegionRepr (Region E.Denot)) E.Denot} {d : dimension.Ghosts D P R L M} {n : axis_count.Ghosts D} {r : stride_list.Ghosts R} {t : stride_list.Ghosts T} where
+  -- the rows that the view shows end with the elements of its region, and the others as they were
+  abbrev pub rows_follow_view : (m : ℕ) → MutBor (List (List E.Denot)) → ArrayBase (RegionRepr (Region E.Denot)) D T E.Denot P R L M s d n r t → Fml
+  rows_follow_view m rows view = follows (Array (Array E m) 0) (Array E 0) rows.ghost_name (view_name view) (rows_rewritten m (row_count (shape_of view)) rows.now)
+
+  -- the same, where the rows stand in an array of c rows
+  abbrev pub array_follows_view : (c m : ℕ) → MutBor (List (List E.Denot)) → ArrayBase (RegionRepr (Region E.Denot)) D T E.Denot P R L M s d n r t → Fml
+  array_follows_view c m rows view = follows (Array (Array E m) c) (Array E 0) rows.ghost_name (view_name view) (rows_rewritten m (row_count (shape_of view)) rows.now)

@@ -1,5 +1,5 @@
 -- Another shape of the same elements: each keeps its rank in an order.
-use Rattle.std.specs.Prelude.{ℕ, ◌≡◌, ◌/◌, ◌%◌, true, List, [], ◌∷◌, ℤ, pos}
+use Rattle.std.specs.Prelude.{ℕ, ◌≡◌, true, List, ℤ, pos}
 use Rattle.nd_shape_and_slice.specs.declared.dimension.Dimension as dimension
 use Rattle.nd_shape_and_slice.specs.declared.dimension.AxisCount as axis_count
 use Rattle.nd_shape_and_slice.specs.declared.dimension.StrideList as stride_list
@@ -7,24 +7,14 @@ use Rattle.nd_shape_and_slice.specs.declared.builder.Order.{Order}
 use Rattle.nd_shape_and_slice.specs.declared.builder.Order.TheVariants.{RowMajor, ColumnMajor}
 use Rattle.nd_shape_and_slice.specs.declared.errors.ErrorKind.{ErrorKind}
 use Rattle.nd_shape_and_slice.specs.declared.errors.ErrorKind.TheVariants.{IncompatibleShape, IncompatibleLayout}
-use Rattle.nd_shape_and_slice.specs.Shape.{in_box, size_of, index_at, HasCheckedSize}
+use Rattle.nd_shape_and_slice.specs.Shape.{in_box, size_of, HasCheckedSize}
 use Rattle.nd_shape_and_slice.specs.Place.{displacement_of}
-use Rattle.nd_layout.specs.Ranks.{rank_in}
+use Rattle.nd_layout.specs.Ranks.{rank_in, index_in}
 use Rattle.nd_layout.specs.GivenStrides.{ordered_strides}
 use Rattle.nd_array_core.specs.declared.base.storage.Data as data_trait
 use Rattle.nd_array_core.specs.declared.base.array.ArrayBase.{ArrayBase}
 use Rattle.nd_array_core.specs.Meaning.{shape_of}
 use Rattle.nd_array_core.specs.Part.{Part}
-
--- the index of a column-major rank
-abbrev pub column_index_at : List ℕ → ℕ → List ℕ
-column_index_at [] rank = []
-column_index_at (n ∷ ns) rank = (rank % n) ∷ column_index_at ns (rank / n)
-
--- the index of a rank in an order
-abbrev pub index_in : Order → List ℕ → ℕ → List ℕ
-index_in RowMajor ns rank = index_at ns rank
-index_in ColumnMajor ns rank = column_index_at ns rank
 
 -- the index of the lengths ns that has the rank of an index of the lengths ms
 abbrev pub regrouped_index : Order → List ℕ → List ℕ → List ℕ → List ℕ

@@ -7,7 +7,10 @@ use Rattle.nd_shape_and_slice.specs.Shape.{in_box, size_of}
 use Rattle.nd_layout.specs.Ranks.{IsStandard, IsRun}
 use Rattle.nd_array_core.specs.declared.base.storage.Data as data_trait
 use Rattle.nd_array_core.specs.declared.base.array.ArrayBase.{ArrayBase}
-use Rattle.nd_array_core.specs.Meaning.{shape_of, layout_strides, element_at, place_at}
+use Rattle.nd_array_core.specs.Meaning.{shape_of, layout_strides, layout_offset, element_at, place_at, storage_of}
+use Rattle.nd_layout.specs.Strides.{reach_down}
+use Rattle.nd_array_core.specs.base.Storages.{stored_list}
+use Rattle.nd_array_core.specs.declared.base.storage.OwnedRepr.{OwnedRepr}
 
 -- The elements xs lie one beside the other from a place on, one for each index: the element of each index stands in xs
 -- as far from the front as its place from the first, and each of xs is that of an index.
@@ -30,3 +33,10 @@ module _ {S D T A P R L M : Type 0} {s : data_trait.Ghosts S A} {d : dimension.G
   -- xs are the elements in the order of their places
   abbrev pub IsInMemoryOrder : ArrayBase S D T A P R L M s d n r t → List A → Type 0
   IsInMemoryOrder a xs = LiesAlong (shape_of a) (place_at a) (element_at a) xs
+
+module _
+    {S D A T P R L M : Type 0} {s : data_trait.Ghosts S A} {d : dimension.Ghosts D P R L M} {n : axis_count.Ghosts D} {r : stride_list.Ghosts R} {t : stride_list.Ghosts T}
+    {U : Type 0} {z : data_trait.Ghosts (OwnedRepr A) A} {u : stride_list.Ghosts U} where
+  -- b has a's strides, and owns a's elements in the order of their places, from the lowest on
+  abbrev pub CopiesRun : ArrayBase S D T A P R L M s d n r t → ArrayBase (OwnedRepr A) D U A P R L M z d n r u → Type 0
+  CopiesRun a b = (layout_strides b ≡ layout_strides a) × (layout_offset b ≡ reach_down (shape_of a) (layout_strides a)) × IsInMemoryOrder a (stored_list (storage_of b))

@@ -1,14 +1,19 @@
 -- A slice of a caller's lent to a task as a view: how its elements are seen under a shape, and what the slice holds
 -- afterwards.
-use Rattle.std.specs.Prelude.{ℕ, List, ℤ, Option, slice_get}
+use Rattle.std.specs.Prelude.{◌≡◌, ℕ, List, ℤ, Option, slice_get}
 use Rattle.nd_shape_and_slice.specs.declared.builder.Order.{Order}
 use Rattle.nd_shape_and_slice.specs.declared.builder.IntoStrideShape as given_shape
 use Rattle.nd_shape_and_slice.specs.declared.errors.ErrorKind.{ErrorKind}
-use Rattle.nd_layout.specs.GivenStrides.{given_place}
-use Rattle.nd_layout.specs.Refusals.{slice_mut_refusal}
+use Rattle.nd_layout.specs.GivenStrides.{given_place, given_strides, offset_given}
+use Rattle.nd_layout.specs.Refusals.{slice_mut_refusal, slice_refusal, vec_refusal}
 use Rattle.nd_array_core.specs.Places.{place_number, stored_at}
 use Rattle.nd_array_core.specs.PlacedArray.{PlacedArray}
-use Rattle.nd_array_core.specs.Meaning.{inside}
+use Rattle.nd_shape_and_slice.specs.declared.dimension.Dimension as dimension
+use Rattle.nd_shape_and_slice.specs.declared.dimension.AxisCount as axis_count
+use Rattle.nd_shape_and_slice.specs.declared.dimension.StrideList as stride_list
+use Rattle.nd_array_core.specs.declared.base.storage.Data as data_trait
+use Rattle.nd_array_core.specs.declared.base.array.ArrayBase.{ArrayBase}
+use Rattle.nd_array_core.specs.Meaning.{inside, element_at}
 use Rattle.nd_array_core.specs.base.Writes.{OthersStay}
 use Rattle.nd_array_core.specs.scoped.Tasks.{IsViewOf, IsDoneOnPlacement}
 use Rattle.nd_layout.specs.Placements.{Placement}
@@ -23,6 +28,21 @@ meant_by g shape = (g.lengths_meant shape, g.order_meant shape, g.strides_meant 
 -- why a slice of so many elements can't be seen so, to be written
 abbrev pub refusal_for : GivenShape → ℕ → Option ErrorKind
 refusal_for given count = slice_mut_refusal given.0 given.2 count
+
+-- why one can't be seen so, to be read
+abbrev pub read_refusal : GivenShape → ℕ → Option ErrorKind
+read_refusal given count = slice_refusal given.0 given.2 count
+
+-- why a vector of so many elements can't be an array so
+abbrev pub vec_refusal_for : GivenShape → ℕ → Option ErrorKind
+vec_refusal_for given count = vec_refusal given.0 given.2 count
+
+-- the strides under it, and the offset
+abbrev pub strides_under : GivenShape → List ℤ
+strides_under given = given_strides given.0 given.1 given.2
+
+abbrev pub offset_under : GivenShape → ℕ
+offset_under given = offset_given given.0 given.2
 
 -- the place in the slice of an index's element: nothing outside the shape's box
 abbrev pub place_in_slice : GivenShape → List ℕ → Option ℕ
@@ -60,3 +80,8 @@ module _ {A R : Type 0} where
   abbrev pub IsDoneByLayout : (PlacedArray A → PlacedArray A → R → Type 0) → List A → List A → Placement → R → Type 0
   IsDoneByLayout done old new layout answer =
       IsDoneOnPlacement (λ v w. done v w answer) (slice_get old) (slice_get new) layout
+
+module _ {S D T A P R L M : Type 0} {s : data_trait.Ghosts S A} {d : dimension.Ghosts D P R L M} {n : axis_count.Ghosts D} {r : stride_list.Ghosts R} {t : stride_list.Ghosts T} where
+  -- the array shows at each index the element that the list has at its place
+  abbrev pub ShowsUnder : GivenShape → List A → ArrayBase S D T A P R L M s d n r t → Type 0
+  ShowsUnder given xs a = (i : List ℕ) → element_at a i ≡ element_in_slice xs given i

@@ -1,7 +1,7 @@
 //! Arrays and views made of a shape and its elements.
 #![tactic(auto, unfolding(crate::specs::Meaning::meaning_of, crate::specs::Meaning::memory_layout_of))]
 
-ghost use Rattle.std.specs.Prelude.{◌≡◌, ◌<◌, ◌≤◌, ℕ, List, true, length, MatchResult, IsSome, IfOk, IfErr, slice_get, Some, None, vec_len, vec_capacity};
+ghost use Rattle.std.specs.Prelude.{◌≡◌, ◌<◌, ◌≤◌, ℕ, List, true, length, MatchResult, IsSome, IfOk, IfErr, Some, None, vec_len, vec_capacity};
 ghost use Rattle.std.specs.Borrow.{sem};
 ghost use Rattle.nd_shape_and_slice.specs.Shape.{size_of, HasCheckedSize};
 ghost use Rattle.nd_shape_and_slice.specs.Place.{place_of, IsSeparated};
@@ -9,7 +9,7 @@ ghost use Rattle.nd_region.specs.Region.{region_stored};
 ghost use Rattle.nd_layout.specs.Strides.{reach_down};
 ghost use Rattle.nd_layout.specs.Ranks.{rank_in};
 ghost use Rattle.nd_layout.specs.GivenStrides.{given_place, ordered_strides, given_strides, offset_given};
-ghost use Rattle.nd_layout.specs.Refusals.{vec_refusal, slice_refusal, slice_mut_refusal, elements_asked};
+ghost use Rattle.nd_layout.specs.Refusals.{elements_asked};
 ghost use Rattle.nd_array_core.specs.Meaning.{shape_of, element_at, storage_of, layout_strides, layout_offset, inside};
 ghost use Rattle.nd_array_core.specs.Places.{stored_at};
 ghost use Rattle.nd_array_core.specs.base.Storages.{stored_list, room_of};
@@ -17,6 +17,7 @@ ghost use Rattle.nd_array_core.specs.base.Given.{refusal_in, is_apart_in, IsLaid
 ghost use Rattle.nd_layout.specs.Placements.{as_placement, placement_of};
 ghost use Rattle.nd_array_core.specs.base.SliceLent.{slice_follows_view};
 ghost use Rattle.nd_array_core.specs.scoped.Tasks.{LiesBy};
+ghost use Rattle.nd_array_core.specs.scoped.Sources.{meant_by, refusal_for, read_refusal, vec_refusal_for, strides_under, offset_under, ShowsUnder};
 ghost use Rattle.nd_shape_and_slice.specs.declared.builder.Order.{Order};
 ghost use Rattle.nd_layout.specs.Steps.{IsValid};
 
@@ -187,14 +188,14 @@ impl<A: Drop, D: Dimension> Array<A, D> {
         shape: Sh,
         v: Vec<A>,
     ) -> Result<Self, ShapeError>
-        ensures refused { IfErr result (λ e. vec_refusal (Sh.lengths_meant shape) (Sh.strides_meant shape) (vec_len v) ≡ Some e) }
-        ensures accepted { IfOk result (λ _. vec_refusal (Sh.lengths_meant shape) (Sh.strides_meant shape) (vec_len v) ≡ None) }
+        ensures refused { IfErr result (λ e. vec_refusal_for (meant_by Sh.IntoStrideShape shape) (vec_len v) ≡ Some e) }
+        ensures accepted { IfOk result (λ _. vec_refusal_for (meant_by Sh.IntoStrideShape shape) (vec_len v) ≡ None) }
         ensures shape { IfOk result (λ a. shape_of a ≡ Sh.lengths_meant shape) }
-        ensures strides { IfOk result (λ a. layout_strides a ≡ given_strides (Sh.lengths_meant shape) (Sh.order_meant shape) (Sh.strides_meant shape)) }
-        ensures offset { IfOk result (λ a. layout_offset a ≡ offset_given (Sh.lengths_meant shape) (Sh.strides_meant shape)) }
+        ensures strides { IfOk result (λ a. layout_strides a ≡ strides_under (meant_by Sh.IntoStrideShape shape)) }
+        ensures offset { IfOk result (λ a. layout_offset a ≡ offset_under (meant_by Sh.IntoStrideShape shape)) }
         ensures stored { IfOk result (λ a. stored_list (storage_of a) ≡ v.items) }
         ensures room { IfOk result (λ a. room_of (storage_of a) ≡ vec_capacity v) }
-        ensures elements { IfOk result (λ a. (i : List ℕ) → element_at a i ≡ inside (Sh.lengths_meant shape) i (stored_at (slice_get v.items) (given_place (Sh.lengths_meant shape) (Sh.order_meant shape) (Sh.strides_meant shape) i))) }
+        ensures elements { IfOk result (ShowsUnder (meant_by Sh.IntoStrideShape shape) v.items) }
     {
         let count = v.len();
         under_shape(GivenIn::Vector, OwnedRepr { items: v }, count, shape)
@@ -210,12 +211,12 @@ impl<'a, A, D: Dimension> ArrayView<'a, A, D> {
         shape: Sh,
         xs: &'a [A],
     ) -> Result<Self, ShapeError>
-        ensures refused { IfErr result (λ e. slice_refusal (Sh.lengths_meant shape) (Sh.strides_meant shape) (length xs.now) ≡ Some e) }
-        ensures accepted { IfOk result (λ _. slice_refusal (Sh.lengths_meant shape) (Sh.strides_meant shape) (length xs.now) ≡ None) }
+        ensures refused { IfErr result (λ e. read_refusal (meant_by Sh.IntoStrideShape shape) (length xs.now) ≡ Some e) }
+        ensures accepted { IfOk result (λ _. read_refusal (meant_by Sh.IntoStrideShape shape) (length xs.now) ≡ None) }
         ensures shape { IfOk result (λ a. shape_of a ≡ Sh.lengths_meant shape) }
-        ensures strides { IfOk result (λ a. layout_strides a ≡ given_strides (Sh.lengths_meant shape) (Sh.order_meant shape) (Sh.strides_meant shape)) }
-        ensures offset { IfOk result (λ a. layout_offset a ≡ offset_given (Sh.lengths_meant shape) (Sh.strides_meant shape)) }
-        ensures elements { IfOk result (λ a. (i : List ℕ) → element_at a i ≡ inside (Sh.lengths_meant shape) i (stored_at (slice_get xs.now) (given_place (Sh.lengths_meant shape) (Sh.order_meant shape) (Sh.strides_meant shape) i))) }
+        ensures strides { IfOk result (λ a. layout_strides a ≡ strides_under (meant_by Sh.IntoStrideShape shape)) }
+        ensures offset { IfOk result (λ a. layout_offset a ≡ offset_under (meant_by Sh.IntoStrideShape shape)) }
+        ensures elements { IfOk result (ShowsUnder (meant_by Sh.IntoStrideShape shape) xs.now) }
     {
         let count = xs.len();
         under_shape(GivenIn::Slice, ViewRepr::of_slice(xs), count, shape)
@@ -232,12 +233,12 @@ impl<'a, A, D: Dimension> ArrayViewMut<'a, A, D> {
         xs: &'a mut [A],
     ) -> Result<Self, ShapeError>
         ensures* follows { sem 𝓛 (slice_follows_view A.row xs.entry result) }
-        ensures refused { IfErr result (λ e. slice_mut_refusal (Sh.lengths_meant shape) (Sh.strides_meant shape) (length xs.old) ≡ Some e) }
-        ensures accepted { IfOk result (λ _. slice_mut_refusal (Sh.lengths_meant shape) (Sh.strides_meant shape) (length xs.old) ≡ None) }
+        ensures refused { IfErr result (λ e. refusal_for (meant_by Sh.IntoStrideShape shape) (length xs.old) ≡ Some e) }
+        ensures accepted { IfOk result (λ _. refusal_for (meant_by Sh.IntoStrideShape shape) (length xs.old) ≡ None) }
         ensures shape { IfOk result (λ a. shape_of a ≡ Sh.lengths_meant shape) }
-        ensures strides { IfOk result (λ a. layout_strides a ≡ given_strides (Sh.lengths_meant shape) (Sh.order_meant shape) (Sh.strides_meant shape)) }
-        ensures offset { IfOk result (λ a. layout_offset a ≡ offset_given (Sh.lengths_meant shape) (Sh.strides_meant shape)) }
-        ensures elements { IfOk result (λ a. (i : List ℕ) → element_at a i ≡ inside (Sh.lengths_meant shape) i (stored_at (slice_get xs.old) (given_place (Sh.lengths_meant shape) (Sh.order_meant shape) (Sh.strides_meant shape) i))) }
+        ensures strides { IfOk result (λ a. layout_strides a ≡ strides_under (meant_by Sh.IntoStrideShape shape)) }
+        ensures offset { IfOk result (λ a. layout_offset a ≡ offset_under (meant_by Sh.IntoStrideShape shape)) }
+        ensures elements { IfOk result (ShowsUnder (meant_by Sh.IntoStrideShape shape) xs.old) }
     {
         match laid_out(GivenIn::SliceMut, xs.len(), shape) {
             Ok(layout) => Ok(region_laid_out(Region::from_slice(xs), layout)),

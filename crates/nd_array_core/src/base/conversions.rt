@@ -1,7 +1,7 @@
 //! Views of slices, of rows and of arrays, and an array of a vector.
 #![tactic(auto, unfolding(crate::specs::Meaning::meaning_of, crate::specs::Meaning::memory_layout_of))]
 
-ghost use Rattle.std.specs.Prelude.{◌≡◌, ◌*◌, ◌<◌, ◌^◌, ℕ, List, [], ◌∷◌, length, IsSome, vec_len, vec_capacity};
+ghost use Rattle.std.specs.Prelude.{◌≡◌, ◌*◌, ◌<◌, ◌≤◌, ◌^◌, ℕ, List, [], ◌∷◌, length, IsSome, vec_len, vec_capacity};
 ghost use Rattle.std.specs.List.{flat_map};
 ghost use Rattle.nd_shape_and_slice.specs.Shape.{row_rank, HasCheckedSize};
 ghost use Rattle.nd_shape_and_slice.specs.Strides.{c_strides};
@@ -13,6 +13,7 @@ ghost use Rattle.nd_shape_and_slice.specs.declared.builder.Order.TheVariants.{Ro
 ghost use Rattle.nd_array_core.specs.Part.{ShowsWhole};
 ghost use Rattle.nd_array_core.specs.base.Fresh.{OwnsInOrder, OwnsVec};
 ghost use Rattle.nd_array_core.specs.base.Sources.{IsRowMajorOf};
+ghost use Rattle.nd_array_core.specs.base.SliceLent.{rows_follow_view, array_follows_view};
 
 use crate::base::array::{Array, ArrayBase, ArrayView, ArrayViewMut};
 use crate::base::constructors::in_order;
@@ -121,24 +122,48 @@ impl<'a, A, const N: usize> From<&'a [[A; N]]> for ArrayView<'a, A, Ix2> {
     }
 }
 
+/// That many of the rows of a number of elements each have places: all of them, or none where they have no checked size.
+fn rows_with_places(rows: usize, columns: usize) -> usize
+    ensures all { HasCheckedSize (rows ∷ columns ∷ []) → result ≡ rows }
+    ensures none { (HasCheckedSize (rows ∷ columns ∷ []) → ⊥) → result ≡ 0 }
+    ensures few { result ≤ rows }
+    ensures small { result * columns < 2 ^ 63 }
+{
+    match size_of_shape_checked(&[rows, columns]) {
+        Ok(_) => rows,
+        Err(_) => 0,
+    }
+}
+
+/// The region of rows as a view with two axes; empty where they have no checked size.
+fn region_on_two_axes<'a, A>(
+    region: Region<'a, A>,
+    rows: usize,
+    columns: usize,
+) -> ArrayViewMut<'a, A, Ix2>
+    requires { HasCheckedSize (rows ∷ columns ∷ []) → (place : ℕ) → place < rows * columns → IsSome (region_stored region place) }
+    ensures held { HasCheckedSize (rows ∷ columns ∷ []) → (shape_of result ≡ rows ∷ columns ∷ []) × (layout_strides result ≡ c_strides (rows ∷ columns ∷ [])) × ((i : List ℕ) → element_at result i ≡ inside (rows ∷ columns ∷ []) i (region_stored region.entry (row_rank (rows ∷ columns ∷ []) i))) }
+    ensures empty { (HasCheckedSize (rows ∷ columns ∷ []) → ⊥) → shape_of result ≡ 0 ∷ 0 ∷ [] }
+    ensures region { (storage_of result).region ≡ region.entry }
+{
+    let storage = ViewMutRepr::of_region(region);
+    match size_of_shape_checked(&[rows, columns]) {
+        Ok(_) => in_order(storage, (rows, columns).into_dimension(), Order::RowMajor),
+        Err(_) => in_order(storage, (0, 0).into_dimension(), Order::RowMajor),
+    }
+}
+
 /// The view of rows of N elements each, to be written; empty where rows and N have no checked size.
 impl<'a, A, const N: usize> From<&'a mut [[A; N]]> for ArrayViewMut<'a, A, Ix2> {
     ghost from_gives = { λ rows view. IsRowMajorOf (length rows.now ∷ N ∷ []) (flat_map (λ row. row) rows.now) view };
 
-    fn from(rows: &'a mut [[A; N]]) -> Self {
-        let count = rows.len();
-        match size_of_shape_checked(&[count, N]) {
-            Ok(_) => in_order(
-                ViewMutRepr::of_rows_mut(rows),
-                (count, N).into_dimension(),
-                Order::RowMajor,
-            ),
-            Err(_) => in_order(
-                ViewMutRepr::of_rows_mut(&mut rows[..0]),
-                (0, 0).into_dimension(),
-                Order::RowMajor,
-            ),
-        }
+    fn from(rows: &'a mut [[A; N]]) -> Self
+        ensures* follows { sem 𝓛 (rows_follow_view A.row N rows.entry result) }
+        ensures gives { IsRowMajorOf (length rows.old ∷ N ∷ []) (flat_map (λ row. row) rows.old) result }
+    {
+        let len = rows.len();
+        let count = rows_with_places(len, N);
+        region_on_two_axes(Region::from_rows(&mut rows[..count]), len, N)
     }
 }
 
@@ -155,7 +180,10 @@ impl<'a, A, const N: usize, const M: usize> From<&'a [[A; N]; M]> for ArrayView<
 impl<'a, A, const N: usize, const M: usize> From<&'a mut [[A; N]; M]> for ArrayViewMut<'a, A, Ix2> {
     ghost from_gives = { λ rows view. IsRowMajorOf (M ∷ N ∷ []) (flat_map (λ row. row) rows.now) view };
 
-    fn from(rows: &'a mut [[A; N]; M]) -> Self {
+    fn from(rows: &'a mut [[A; N]; M]) -> Self
+        ensures* follows { sem 𝓛 (array_follows_view A.row M N rows.entry result) }
+        ensures gives { IsRowMajorOf (M ∷ N ∷ []) (flat_map (λ row. row) rows.old) result }
+    {
         ArrayViewMut::from(&mut rows[..])
     }
 }

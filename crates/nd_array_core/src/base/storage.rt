@@ -61,7 +61,7 @@ pub struct OwnedRepr<A> {
 
 impl<A> OwnedRepr<A> {
     ghost use Rattle.std.specs.Borrow.{sem};
-    ghost use Rattle.nd_array_core.specs.base.Lends.{items_follow, run_follows};
+    ghost use Rattle.nd_array_core.specs.base.Lends.{items_follow, vec_run_follows};
 
     /// The elements, to be written.
     pub(crate) fn items_mut(&mut self) -> &mut [A]
@@ -74,7 +74,7 @@ impl<A> OwnedRepr<A> {
     /// That many elements from a place on, to be written.
     pub(crate) fn run_mut(&mut self, first: usize, count: usize) -> &mut [A]
         requires { first + count ≤ length self.old.items.items }
-        ensures* writes_back { sem 𝓛 (run_follows A.row self.entry first result) }
+        ensures* writes_back { sem 𝓛 (vec_run_follows A.row self.entry first result) }
         ensures value { result.now ≡ slice_range self.old.items.items first (first + count) }
         ensures count { length result.now ≡ count }
     {
@@ -186,19 +186,6 @@ impl<'a, A> ViewMutRepr<'a, A> {
     {
         RegionRepr {
             region,
-            tie: Snapshot::of(&0),
-        }
-    }
-
-    /// All places of rows of N elements each, one row after the other.
-    pub(crate) fn of_rows_mut<const N: usize>(rows: &'a mut [[A; N]]) -> Self
-        requires { length rows.old * N < 2 ^ 63 }
-        ensures elements { (place : ℕ) → region_stored result.region place ≡ slice_get (flat_map (λ row. row) rows.old) place }
-        ensures count { length (flat_map (λ row. row) rows.old) ≡ length rows.old * N }
-    {
-        let _ = rows.as_flattened().len();
-        RegionRepr {
-            region: Region::from_rows(rows),
             tie: Snapshot::of(&0),
         }
     }

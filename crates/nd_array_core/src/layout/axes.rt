@@ -2,13 +2,14 @@
 //! as another dimension; of arrays and views by value, in place, and as views to be read or written.
 #![tactic(auto, unfolding(crate::specs::Meaning::meaning_of, crate::specs::Meaning::memory_layout_of))]
 
-ghost use Rattle.std.specs.Prelude.{◌↔◌, ◌≡◌, ◌<◌, ◌≤◌, ◌+◌, true, false, length, slice_index, IsErr, IfErr, IfOk, List};
+ghost use Rattle.std.specs.Prelude.{◌↔◌, ◌≡◌, ◌<◌, ◌≤◌, ◌+◌, ℕ, true, false, length, slice_index, IsErr, IfErr, IfOk, List};
 ghost use Rattle.std.specs.Borrow.{sem};
 ghost use Rattle.nd_shape_and_slice.specs.declared.errors.ErrorKind.{ErrorKind};
 ghost use Rattle.nd_shape_and_slice.specs.Axes.{HasEachAxis};
 ghost use Rattle.nd_shape_and_slice.specs.Descriptions.{axes_from};
 ghost use Rattle.nd_shape_and_slice.specs.AxesLeft.{axes_left};
 ghost use Rattle.nd_array_core.specs.Meaning.{shape_of, place_at, layout_strides};
+ghost use Rattle.nd_array_core.specs.Coordinates.{element_of_2};
 ghost use Rattle.nd_array_core.specs.Part.{permuted_part, inverted_part, collapsed_part, swapped_part, reversed_part, diagonal_part, coordinate_part, inserted_part, squeezed_part, ShowsPart, BecomesPart, BecomesWhole};
 
 use crate::base::array::{ArrayBase, ArrayView, ArrayViewMut};
@@ -98,9 +99,11 @@ impl<S: Data, D: Dimension> ArrayBase<S, D> {
     }
 
     /// The view with the axes in the opposite order. ndarray's `t`.
+    #[tactic(auto, using(crate::proofs::LawProofs::transposed_pair), unfolding(crate::specs::Meaning::meaning_of, crate::specs::Meaning::memory_layout_of))]
     #[inline]
     pub fn t(&self) -> ArrayView<'_, S::Elem, D>
         ensures part { ShowsPart self.now (reversed_part self.now) result }
+        ensures elements { (row column : ℕ) → element_of_2 result row column ≡ element_of_2 self.now column row }
     {
         self.view().reversed_axes()
     }

@@ -1,9 +1,8 @@
 //! The elements as one slice, where they lie so.
 #![tactic(auto, unfolding(crate::specs::Meaning::meaning_of, crate::specs::Meaning::memory_layout_of))]
 
-ghost use Rattle.std.specs.Prelude.{◌↔◌, ◌≡◌, ◌+◌, ◌-◌, ◌<◌, ℕ, true, IsSome, IfSome, Some, length, slice_index_or};
+ghost use Rattle.std.specs.Prelude.{◌↔◌, ◌≡◌, ◌+◌, ◌<◌, ℕ, true, IsSome, IfSome, Some, length, slice_index_or};
 ghost use Rattle.std.specs.Option.{is_some};
-ghost use Rattle.nd_layout.specs.Strides.{reach_down};
 ghost use Rattle.nd_array_core.specs.Meaning.{meaning_of};
 ghost use Rattle.nd_array_core.specs.Joined.{row_major_elements};
 ghost use Rattle.nd_array_core.specs.base.Storages.{shown_by};
@@ -11,26 +10,18 @@ ghost use Rattle.nd_array_core.specs.reshape.RunSlices.{IsStandardArray, IsRunAr
 
 use crate::base::array::{ArrayBase, ArrayView};
 use crate::base::storage::{Data, ViewRepr};
-use nd_layout::{Layout, is_run, reach_below};
+use nd_layout::is_run;
 use nd_shape_and_slice::{Dimension, StrideList};
 
 impl<'a, A> ViewRepr<'a, A> {
     /// That many elements from a place on.
-    fn run(self, first: usize, count: usize) -> &'a [A]
+    pub(crate) fn run(self, first: usize, count: usize) -> &'a [A]
         requires { (k : ℕ) → k < count → is_some (shown_by self (first + k)) ≡ true }
         ensures count { length result.now ≡ count }
         ensures elements { (k : ℕ) (d : A) → k < count → shown_by self.entry (first + k) ≡ Some (slice_index_or result.now k d) }
     {
         self.region.run(first, count)
     }
-}
-
-/// The lowest place of an index, where there is one.
-fn lowest_place<D: Dimension, T: StrideList>(layout: &Layout<D, T>) -> usize
-    ensures { result ≡ layout.now.offset - reach_down (D.lengths layout.now.dim) (T.strides_of layout.now.strides) }
-{
-    let below = reach_below(layout.dim.slice(), layout.strides.slice());
-    layout.offset.saturating_sub(below)
 }
 
 impl<'a, A, D: Dimension> ArrayView<'a, A, D> {
@@ -57,7 +48,7 @@ impl<'a, A, D: Dimension> ArrayView<'a, A, D> {
     {
         if is_run(self.layout.dim.slice(), self.layout.strides.slice()) {
             let storage = self.storage;
-            let first = lowest_place(&self.layout);
+            let first = self.layout.lowest_place();
             Some(storage.run(first, self.layout.dim.size()))
         } else {
             None

@@ -137,7 +137,8 @@ impl<D: Dimension, T: StrideList> Layout<D, T> {
 
 impl<D: Dimension, T: StrideList> Layout<D, T> {
     /// The layout that a list of slices leaves: a slice keeps its axis, an index takes it away, and new axes have
-    /// length 1.
+    /// length 1. It is inlined, so that the caller's result is filled where it lies.
+    #[inline(always)]
     pub fn sliced<E: Dimension>(&self, elements: &[SliceInfoElem]) -> Layout<E, E::Strides>
         requires fits { fits_shape (D.lengths self.now.dim) elements.now ≡ true }
         requires room { E.has_axes (axes_kept elements.now) ≡ true }

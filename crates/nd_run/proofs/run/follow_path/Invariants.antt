@@ -1,9 +1,10 @@
 use Rattle.std.proofs.Common.{◌≡◌, map, drop}
 use Rattle.nd_array_core.specs.Meaning.{meaning_of}
 use Rattle.nd_run.specs.Calls.{asked_step}
+use Rattle.nd_run.specs.Steps.{tests_of}
 use Rattle.nd_run.specs.Fold.{path_result}
 use Rattle.nd_run.proofs.run.follow_path.Given as goal
 
 -- the rest of the path leads where the whole path leads
 abbrev pub invariant-loop-step : goal.invariant-loop-step
-invariant-loop-step g l = path_result (map asked_step (drop l.step-index l.path)) (meaning_of l.view) ≡ path_result (map asked_step l.path) (meaning_of l.fn.view)
+invariant-loop-step g l = path_result tests_of (map asked_step (drop l.step-index l.path)) (meaning_of l.view) ≡ path_result tests_of (map asked_step l.path) (meaning_of l.fn.view)

@@ -1,7 +1,7 @@
 use Rattle.std.proofs.Common.{◌≡◌, ◌∙◌, ◌<◌, ◌++◌, ◌∷◌, [], sym, ap, arith, map, length, get_or}
 use Rattle.std.proofs.lemmas.List.{length-map, get_or-map, map-append}
-use Rattle.nd_array_core.specs.Meaning.{meaning_of}
-use Rattle.nd_run.specs.Calls.{asked_call, said_reply}
+use Rattle.nd_array_core.specs.Meaning.{Meaning, meaning_of}
+use Rattle.nd_run.specs.Calls.{Said, asked_call, said_reply}
 use Rattle.nd_run.proofs.Runs.{run_more, run_stops}
 use Rattle.nd_run.proofs.run.run.Goals as goal
 
@@ -13,7 +13,7 @@ returns-in-Err-act-clause-memory g c =
     let within : k < length calls = omega arith in
     let mapped : k < length (map asked_call calls) = omega (arith, length-map calls asked_call) in
     let at : get_or (map asked_call calls) k (asked_call call) ≡ asked_call call = get_or-map asked_call calls k call (asked_call call) within ∙ ap asked_call (sym c.call-item.is) in
-    run_stops (map asked_call calls) (meaning_of c.args.start) (meaning_of c.loop-call.array) (map said_reply c.loop-call.replies.items) k (asked_call call) mapped at c.in-Err-act.ensures.memory c.loop-call.invariant.2
+    run_stops g.A.PartialEq.eq (map asked_call calls) (meaning_of c.args.start) (meaning_of c.loop-call.array) (map said_reply c.loop-call.replies.items) k (asked_call call) mapped at c.in-Err-act.ensures c.loop-call.invariant.2
 
 pub loop-call-preserved : goal.loop-call-preserved
 loop-call-preserved g c =
@@ -26,5 +26,5 @@ loop-call-preserved g c =
     let items : map said_reply c.push_reserved.new.self.items ≡ map said_reply c.loop-call.replies.items ++ said_reply c.in-Ok-act.reply ∷ [] = ap (map said_reply) c.push_reserved.ensures.items ∙ map-append said_reply c.loop-call.replies.items (c.in-Ok-act.reply ∷ []) in (
       omega (arith, c.push_reserved.ensures.len),
       omega (arith, c.push_reserved.ensures.capacity),
-      rw items (run_more (map asked_call calls) (meaning_of c.args.start) (meaning_of c.loop-call.array) (meaning_of c.in-Ok-act.left) (map said_reply c.loop-call.replies.items) k (asked_call call) (said_reply c.in-Ok-act.reply) mapped at c.in-Ok-act.ensures.reply c.in-Ok-act.ensures.array c.loop-call.invariant.2),
+      rw items (run_more g.A.PartialEq.eq (map asked_call calls) (meaning_of c.args.start) (meaning_of c.loop-call.array) (meaning_of c.in-Ok-act.left) (map said_reply c.loop-call.replies.items) k (asked_call call) (said_reply c.in-Ok-act.reply) mapped at (ap (λ (x : Said _ × Meaning _). x.0) c.in-Ok-act.ensures) (ap (λ (x : Said _ × Meaning _). x.1) c.in-Ok-act.ensures) c.loop-call.invariant.2),
     )

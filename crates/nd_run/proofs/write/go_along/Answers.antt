@@ -1,14 +1,15 @@
 use Rattle.std.proofs.Common.{◌≡◌, ◌∙◌, sym, ap, None}
 use Rattle.nd_array_core.specs.Meaning.{shape_of, placed_array}
 use Rattle.nd_run.specs.Calls.{asked_step}
-use Rattle.nd_run.specs.Steps.{keep_refusal}
+use Rattle.nd_run.specs.Steps.{keep_tests, keep_refusal}
+use Rattle.nd_run.proofs.StepTests.{keep_allows}
 use Rattle.nd_run.specs.Placing.{places_in}
 use Rattle.nd_run.proofs.WritePaths.{is_none, led_more, led_stops_at, led_all}
 use Rattle.nd_run.proofs.write.go_along.Goals as goal
 
 pub returns-then-is_some-clause-refused : goal.returns-then-is_some-clause-refused
 returns-then-is_some-clause-refused g c =
-    led_stops_at c.keep_refusal-refused.result c.args.path.now c.loop-step.step-index c.step-item.result (places_in (placed_array c.args.array)) (places_in (placed_array c.loop-step.array))
+    led_stops_at keep_tests c.keep_refusal-refused.result c.args.path.now c.loop-step.step-index c.step-item.result (places_in (placed_array c.args.array)) (places_in (placed_array c.loop-step.array))
     (sym c.is_some.ensures ∙ c.if-is_some.true) (c.keep_refusal-refused.ensures ∙ ap (keep_refusal (asked_step c.step-item.result)) c.shape.ensures.value) c.loop-step-test.true (sym c.step-item.is) c.loop-step.invariant.led
 
 pub loop-step-preserved : goal.loop-step-preserved
@@ -18,12 +19,12 @@ loop-step-preserved g c =
     let allowed : keep_refusal step (shape_of c.loop-step.array) ≡ None = ap (keep_refusal step) (sym c.shape.ensures.value) ∙ (sym c.keep_refusal-refused.ensures ∙ none) in
     record {
       storage = c.take_step-array.ensures.storage ∙ c.loop-step.invariant.storage;
-      led = led_more c.args.path.now c.loop-step.step-index c.step-item.result (places_in (placed_array c.args.array)) (places_in (placed_array c.loop-step.array)) (places_in (placed_array c.take_step-array.result))
+      led = led_more keep_tests c.args.path.now c.loop-step.step-index c.step-item.result (places_in (placed_array c.args.array)) (places_in (placed_array c.loop-step.array)) (places_in (placed_array c.take_step-array.result))
           c.loop-step-test.true (sym c.step-item.is) allowed c.take_step-array.ensures.shape c.take_step-array.ensures.places c.loop-step.invariant.led;
     }
 
 pub returns-clause-refused : goal.returns-clause-refused
-returns-clause-refused g c = sym (led_all c.paths_lead_along.ensures c.args.path.now c.loop-step.step-index (places_in (placed_array c.args.array)) (places_in (placed_array c.loop-step.array)) c.loop-step-test.false c.loop-step.invariant.led).0
+returns-clause-refused g c = sym (led_all keep_tests keep_allows c.paths_lead_along.ensures c.args.path.now c.loop-step.step-index (places_in (placed_array c.args.array)) (places_in (placed_array c.loop-step.array)) c.loop-step-test.false c.loop-step.invariant.led).0
 
 pub returns-clause-along : goal.returns-clause-along
-returns-clause-along g c = λ _. (led_all c.paths_lead_along.ensures c.args.path.now c.loop-step.step-index (places_in (placed_array c.args.array)) (places_in (placed_array c.loop-step.array)) c.loop-step-test.false c.loop-step.invariant.led).1
+returns-clause-along g c = λ _. (led_all keep_tests keep_allows c.paths_lead_along.ensures c.args.path.now c.loop-step.step-index (places_in (placed_array c.args.array)) (places_in (placed_array c.loop-step.array)) c.loop-step-test.false c.loop-step.invariant.led).1

@@ -9,7 +9,7 @@ invariant_of-result c = record {
   passed = nothing_passed c.new.result.rank 1 c.new.ensures.rank;
   checked = c.requires.checked;
   reach = c.requires.reach;
-  cut = rw (c.new.ensures.over.0, c.new.ensures.over.1, c.new.ensures.over.2) (cut_whole c.args.first c.args.lengths.now c.args.strides.now);
+  cut = rw (c.new.ensures.over.0, c.new.ensures.over.1, c.new.ensures.over.2) (cut_whole c.args.first c.args.lengths.now c.args.strides.now (pos 1));
   along = λ some. along_none c.args.lengths.now c.args.strides.now c.requires.as_many (c.outer_axes-outer.ensures.whole c.if-outer-lengths.true some);
 }
 

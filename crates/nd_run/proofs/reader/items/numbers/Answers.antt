@@ -1,8 +1,8 @@
-use Rattle.std.proofs.Common.{◌≡◌, ◌<◌, length, true, false, inl, inr}
+use Rattle.std.proofs.Common.{◌≡◌, ◌<◌, length, true, false, refl, inl, inr}
 use Rattle.std.proofs.lemmas.Result.{err_from_is_err_and}
 use Rattle.std.proofs.lemmas.Bool.{cases_lt}
 use Rattle.nd_run.specs.Words.{words_of}
-use Rattle.nd_run.specs.Reading.{item_at, items_at}
+use Rattle.nd_run.specs.Reading.{item_at, many_at}
 use Rattle.nd_run.proofs.Items.{goes_on, stops, is_done, short, item_words}
 use Rattle.nd_run.proofs.reader.items.numbers.Goals as goal
 
@@ -14,11 +14,11 @@ returns-then-not-has_words-clause-read g c =
 pub returns-in_err-item-clause-read : goal.returns-in_err-item-clause-read
 returns-in_err-item-clause-read g c =
     let p = err_from_is_err_and c.from_residual-in_err-item.result c.from_residual-in_err-item.ensures.1 in
-    rw (p.1, p.2) (stops (item_at g.N.Number.number_of) c.in_err-item.field-0.0 c.loop.numbers.items c.args.count c.loop.counter (words_of c.loop.rest.now) (items_at g.N.Number.number_of c.args.count (words_of c.args.line.now)) c.loop-test.true c.in_err-item.ensures c.loop.invariant)
+    rw (p.1, p.2) (stops (λ ws. true) (item_at g.N.Number.number_of) c.in_err-item.field-0.0 c.loop.numbers.items c.args.count c.loop.counter (words_of c.loop.rest.now) (many_at (item_at g.N.Number.number_of) c.args.count (words_of c.args.line.now)) c.loop-test.true refl c.in_err-item.ensures c.loop.invariant)
 
 pub loop-preserved : goal.loop-preserved
 loop-preserved g c =
-    rw c.in_ok-push.ensures.items (goes_on (item_at g.N.Number.number_of) c.loop.numbers.items c.args.count c.loop.counter (words_of c.loop.rest.now) c.in_ok-item.item (words_of c.in_ok-item.after.now) (items_at g.N.Number.number_of c.args.count (words_of c.args.line.now)) c.loop-test.true c.in_ok-item.ensures c.loop.invariant)
+    rw c.in_ok-push.ensures.items (goes_on (λ ws. true) (item_at g.N.Number.number_of) c.loop.numbers.items c.args.count c.loop.counter (words_of c.loop.rest.now) c.in_ok-item.item (words_of c.in_ok-item.after.now) (many_at (item_at g.N.Number.number_of) c.args.count (words_of c.args.line.now)) c.loop-test.true refl c.in_ok-item.ensures c.loop.invariant)
 
 pub returns-clause-read : goal.returns-clause-read
-returns-clause-read g c = is_done (item_at g.N.Number.number_of) c.loop.numbers.items c.args.count c.loop.counter (words_of c.loop.rest.now) (items_at g.N.Number.number_of c.args.count (words_of c.args.line.now)) c.loop-test.false c.loop.invariant
+returns-clause-read g c = is_done (λ ws. true) (item_at g.N.Number.number_of) c.loop.numbers.items c.args.count c.loop.counter (words_of c.loop.rest.now) (many_at (item_at g.N.Number.number_of) c.args.count (words_of c.args.line.now)) c.loop-test.false c.loop.invariant

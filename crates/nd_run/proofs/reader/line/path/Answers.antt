@@ -3,21 +3,21 @@ use Rattle.std.proofs.lemmas.Result.{err_from_is_err_and}
 use Rattle.std.proofs.lemmas.List.{map_push}
 use Rattle.nd_run.specs.Words.{words_of}
 use Rattle.nd_run.specs.Calls.{asked_step}
-use Rattle.nd_run.specs.Reading.{path_at}
-use Rattle.nd_run.proofs.Paths.{path_goes_on, path_stops, path_ends, path_is_done}
+use Rattle.nd_run.specs.Reading.{begins_step, step_at, slashed_at, path_at}
+use Rattle.nd_run.proofs.Items.{goes_on, stops, ends, is_done}
 use Rattle.nd_run.proofs.reader.line.path.Goals.{else-loop-test, then-loop-test+then-not-begins_step}
 use Rattle.nd_run.proofs.reader.line.path.Goals as goal
 
 pub returns-in_err-step : goal.returns-in_err-step
 returns-in_err-step c =
     let p = err_from_is_err_and c.from_residual.result c.from_residual.ensures.1 in
-    rw (p.1, p.2) (path_stops c.in_err-step.field-0.0 (map asked_step c.loop.steps.items) c.args.most c.loop.counter (words_of c.loop.rest.now) (path_at c.args.most (words_of c.args.line.now)) c.loop-test.true (sym c.begins_step.ensures ∙ c.if-not-begins_step.false) c.in_err-step.ensures c.loop.invariant)
+    rw (p.1, p.2) (stops begins_step (slashed_at step_at) c.in_err-step.field-0.0 (map asked_step c.loop.steps.items) c.args.most c.loop.counter (words_of c.loop.rest.now) (path_at c.args.most (words_of c.args.line.now)) c.loop-test.true (sym c.begins_step.ensures ∙ c.if-not-begins_step.false) c.in_err-step.ensures c.loop.invariant)
 
 pub loop-preserved : goal.loop-preserved
 loop-preserved c =
     let step = asked_step c.in_ok-step.step in
     let e : map asked_step c.push.new.self.items ≡ map asked_step c.loop.steps.items ++ step ∷ [] = rw c.in_ok-push.ensures.items (map_push _ c.loop.steps.items c.in_ok-step.step) in
-    rw e (path_goes_on (map asked_step c.loop.steps.items) c.args.most c.loop.counter (words_of c.loop.rest.now) step (words_of c.in_ok-step.after.now) (path_at c.args.most (words_of c.args.line.now)) c.loop-test.true (sym c.begins_step.ensures ∙ c.if-not-begins_step.false) c.in_ok-step.ensures c.loop.invariant)
+    rw e (goes_on begins_step (slashed_at step_at) (map asked_step c.loop.steps.items) c.args.most c.loop.counter (words_of c.loop.rest.now) step (words_of c.in_ok-step.after.now) (path_at c.args.most (words_of c.args.line.now)) c.loop-test.true (sym c.begins_step.ensures ∙ c.if-not-begins_step.false) c.in_ok-step.ensures c.loop.invariant)
 
 pub returns : goal.returns
 returns c =
@@ -25,6 +25,6 @@ returns c =
     let words = words_of c.loop.rest.now in
     let total = path_at c.args.most (words_of c.args.line.now) in
     elim c.loop-test.branch [
-      | else-loop-test w ↦ path_is_done front c.args.most c.loop.counter words total w.loop-test.false c.loop.invariant
-      | then-loop-test+then-not-begins_step w ↦ path_ends front c.args.most c.loop.counter words total w.loop-test.true (sym w.begins_step.ensures ∙ w.if-not-begins_step.true) c.loop.invariant
+      | else-loop-test w ↦ is_done begins_step (slashed_at step_at) front c.args.most c.loop.counter words total w.loop-test.false c.loop.invariant
+      | then-loop-test+then-not-begins_step w ↦ ends begins_step (slashed_at step_at) front c.args.most c.loop.counter words total w.loop-test.true (sym w.begins_step.ensures ∙ w.if-not-begins_step.true) c.loop.invariant
     ]

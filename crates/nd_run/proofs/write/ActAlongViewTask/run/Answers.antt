@@ -12,4 +12,4 @@ returns-clause-done g c =
     lent_through (map asked_step c.args.self.path.now) (acting c.args.self.act.now) (placed_array c.into_dyn-view.result) (placed_array c.act_along-end.result.0) v w c.act_along-end.result.1
     (c.into_dyn-view.ensures.whole.0.0 ∙ c.into_view.ensures.shape) (λ i. c.into_dyn-view.ensures.whole.0.3 i ∙ c.into_view.ensures.places i)
     (λ i. sym (c.elements_have_places.ensures.elements i) ∙ (c.into_dyn-view.ensures.whole.0.2 i ∙ c.into_view.ensures.elements i)) (ap (λ s. (view_left g.D.Dimension.lengths g.D.Strides.StrideList.strides_of c.args.lent s).stored) c.into_storage.ensures.same)
-    c.act_along-end.ensures.refused c.act_along-end.ensures.elements c.act_along-end.ensures.memory
+    c.act_along-end.ensures.done

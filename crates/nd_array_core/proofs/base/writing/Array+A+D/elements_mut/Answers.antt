@@ -4,7 +4,7 @@ use Rattle.nd_shape_and_slice.specs.Shape.{row_rank}
 use Rattle.nd_shape_and_slice.specs.Place.{place_of}
 use Rattle.nd_array_core.specs.Meaning.{meaning_of, memory_layout_of}
 use Rattle.std.specs.Vec.{with_items}
-use Rattle.nd_array_core.specs.base.Lends.{with_run}
+use Rattle.nd_array_core.specs.base.Lends.{written_from}
 use Rattle.nd_array_core.specs.base.ElementLent.{kept_names}
 use Rattle.nd_array_core.specs.base.NewElements.{items_kept}
 use Rattle.nd_array_core.proofs.lending.Run.{run_within, run_shows}
@@ -20,7 +20,7 @@ run_mut-requires g c =
 pub invariant_of-self-lent : goal.invariant_of-self-lent
 invariant_of-self-lent g c w =
     let array = c.args.self.now in
-    let ws = with_run array.storage.items.items array.layout.offset w in
+    let ws = written_from array.storage.items.items array.layout.offset w in
     (λ i h. kept_names (slice_get array.storage.items.items) (slice_get (with_items array.storage.items ws).items) (items_kept array.storage.items ws) (place_of array.layout.offset (g.D.Strides.StrideList.strides_of array.layout.strides) i) (array.inside i h), (array.separated, tt))
 
 pub returns : goal.returns
@@ -31,7 +31,7 @@ returns g c =
     let ss = g.D.Strides.StrideList.strides_of array.layout.strides in
     let xs = array.storage.items.items in
     let room = run_within xs array.layout.offset ns ss c.requires.standard array.inside c.requires.some in (
-      (refl, λ w. with_items_is _ array (with_run xs array.layout.offset w) _ refl refl),
+      (refl, λ w. with_items_is _ array (written_from xs array.layout.offset w) _ refl refl),
       record {
         writes_back = tt;
         count = c.run_mut.ensures.count ∙ c.size-count.ensures;

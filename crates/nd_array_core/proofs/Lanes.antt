@@ -1,0 +1,85 @@
+-- A shape's indexes lane by lane: what a loop over a walk of the outer axes keeps.
+use Rattle.std.proofs.Common.{◌≡◌, ℕ, zero, suc, ◌+◌, ◌*◌, ◌<◌, ◌≤◌, List, [], ◌∷◌, ◌++◌, length, take, replicate, get_or, set, refl, ap, sym, ◌∙◌, arith, add-one, pos, ◌+ℤ◌, ◌*ℤ◌}
+use Rattle.std.proofs.Math.Seq.{take-suc}
+use Rattle.std.proofs.lemmas.List.{take_more_set}
+use Rattle.nd_shape_and_slice.specs.declared.builder.Order.{Order}
+use Rattle.nd_shape_and_slice.specs.declared.builder.Order.TheVariants.{RowMajor, ColumnMajor}
+use Rattle.nd_shape_and_slice.specs.Shape.{size_of, HasCheckedSize}
+use Rattle.nd_shape_and_slice.specs.Place.{displacement_of}
+use Rattle.nd_shape_and_slice.proofs.RowMajor.{nonzero_product-size_of}
+use Rattle.nd_layout.specs.Places.{is_place, ReachesPlaces}
+use Rattle.nd_layout.specs.Ranks.{slowest_first, slow_axis_in}
+use Rattle.nd_layout.proofs.Integers.{sums}
+use Rattle.nd_layout.proofs.LaneSteps.{checked-front}
+use Rattle.nd_layout.proofs.LaneIndexes.{length-slow, slow-set, size_of-slow, lane_size, lane_kept, lane_index}
+use Rattle.nd_layout.specs.Ranks.{index_in}
+use Rattle.nd_shape_and_slice.specs.Shape.{index_at}
+use Rattle.nd_shape_and_slice.proofs.RowMajor.{length-in_box}
+use Rattle.nd_shape_and_slice.proofs.RankIndexes.{in_box-index_at}
+use Rattle.std.proofs.Math.Nat.{mul-le-mul_right}
+use Rattle.std.proofs.lemmas.List.{length-take-le}
+
+-- one more coordinate
+pub outer_more : (o : Order) (xs outer : List ℕ) (k v : ℕ) → k < length xs → k < length outer → v ≡ get_or outer k 0 → take k (slowest_first o xs) ≡ take k outer → take (k + 1) (slowest_first o (set xs (slow_axis_in o (length xs) k) v)) ≡ take (k + 1) outer
+outer_more o xs outer k v on below is so_far =
+    let next : take (k + 1) outer ≡ take k outer ++ v ∷ [] = rw (add-one k, is) (take-suc outer k 0 below) in
+    ap (take (k + 1)) (slow-set o xs k v on)
+    ∙ (take_more_set (slowest_first o xs) k v (omega (arith, on, length-slow o xs))
+    ∙ (ap (λ l. l ++ v ∷ []) so_far ∙ sym next))
+
+-- strides of 0 keep all places at the first
+rests : (n k : ℕ) (i : List ℕ) → displacement_of (take k (replicate n (pos 0))) i ≡ pos 0
+rests zero zero i = refl
+rests zero (suc k) i = refl
+rests (suc n) zero i = refl
+rests (suc n) (suc k) [] = refl
+rests (suc n) (suc k) (x ∷ i) = let here : pos x *ℤ pos 0 ≡ pos 0 = zero-product x in omega (arith, sums, here, rests n k i)
+  where
+    zero-product : (x : ℕ) → pos x *ℤ pos 0 ≡ pos 0
+    zero-product x = omega (arith, sums)
+
+pub rests_reach : (n k : ℕ) (ms : List ℕ) → ReachesPlaces 0 ms (take k (replicate n (pos 0)))
+rests_reach n k ms i h = ap (λ z. is_place (pos 0 +ℤ z)) (rests n k i)
+
+pub outer_checked : (o : Order) (ns : List ℕ) (k : ℕ) → 0 < size_of ns → HasCheckedSize ns → HasCheckedSize (take k (slowest_first o ns))
+outer_checked o ns k some checked =
+    let slow = slowest_first o ns in
+    let size = size_of-slow o ns in
+    let whole = nonzero_product-size_of ns some in
+    let other = nonzero_product-size_of slow (omega (arith, some, size)) in
+    omega (arith, checked-front slow k, checked, whole, other, size)
+
+-- a walk over the outer axes has a coordinate for each
+pub outer_long : (o : Order) (ns : List ℕ) (n r : ℕ) → length ns ≡ n + 1 → r < size_of (take n (slowest_first o ns)) → length (index_at (take n (slowest_first o ns)) r) ≡ n
+outer_long o ns n r axes h =
+    let ms = take n (slowest_first o ns) in
+    let many = length-in_box ms (index_at ms r) (in_box-index_at ms r h) in
+    many ∙ length-take-le n (slowest_first o ns) (omega (arith, axes, length-slow o ns))
+
+-- the index along a lane: its rank, which is below the size; and the other coordinates stay
+pub lane_at : (o : Order) (ns xs : List ℕ) (n q k fastest count : ℕ) → length ns ≡ n + 1 → length xs ≡ length ns → fastest ≡ slow_axis_in o (n + 1) n → count ≡ get_or (slowest_first o ns) n 0 → 0 < size_of ns → q < size_of (take n (slowest_first o ns)) → k < count → take n (slowest_first o xs) ≡ index_at (take n (slowest_first o ns)) q
+    → (set xs fastest k ≡ index_in o ns (q * count + k)) × (q * count + k < size_of ns) × (take n (slowest_first o (set xs fastest k)) ≡ take n (slowest_first o xs))
+lane_at o ns xs n q k fastest count axes many axis is some outer inner walked =
+    let long : length xs ≡ n + 1 = many ∙ axes in
+    let at : fastest ≡ slow_axis_in o (length xs) n = axis ∙ ap (λ m. slow_axis_in o m n) (sym long) in
+    let c = get_or (slowest_first o ns) n 0 in
+    let below : k < c = omega (arith, inner, is) in
+    let index = lane_index o ns xs n q k axes long some outer below walked in
+    let whole = lane_size o ns xs n q k axes long in
+    let more : (q + 1) * c ≤ size_of (take n (slowest_first o ns)) * c = mul-le-mul_right {m = q + 1} {n = size_of (take n (slowest_first o ns))} c (omega (arith, outer)) in
+    let next : (q + 1) * c ≡ q * c + c = grind arith in
+    rw (at, is) (index, omega (arith, whole, more, next, below), lane_kept o ns xs n q k axes long)
+
+-- all lanes are through
+pub lanes_done : (o : Order) (ns ms : List ℕ) (n q count : ℕ) → length ns ≡ n + 1 → ms ≡ take n (slowest_first o ns) → count ≡ get_or (slowest_first o ns) n 0 → q ≡ size_of ms → q * count ≡ size_of ns
+lanes_done o ns ms n q count axes these is all = rw (all, these, is) (lane_size o ns ns n 0 0 axes axes)
+
+-- where there are no axes there is one index
+pub no_axes_index : (o : Order) (ns : List ℕ) → length ns ≡ 0 → ns ≡ index_in o ns 0
+no_axes_index RowMajor [] none = refl
+no_axes_index ColumnMajor [] none = refl
+no_axes_index o (n ∷ ns) none = absurd (omega (arith, none))
+
+pub no_axes_size : (ns : List ℕ) → length ns ≡ 0 → size_of ns ≡ 1
+no_axes_size [] none = refl
+no_axes_size (n ∷ ns) none = absurd (omega (arith, none))

@@ -1,0 +1,43 @@
+-- When two arrays are equal, and what of an array a hasher is fed.
+use Rattle.std.specs.Prelude.{◌≡◌, ℕ, Bool, true, ◌&&◌, nat_eq, List, [], ◌∷◌, ◌++◌, Some}
+use Rattle.std.specs.Cmp.{IsPartialEquivalence, IsEquivalence, partial_equiv_from_equiv, and_per, and_equiv, on_per, on_equiv, nat_eq_equiv, unsigned_Decides, first_so, second_so}
+use Rattle.std.specs.Cmp.Lexicographic.{pointwise, lists_per, lists_equiv}
+use Rattle.std.specs.Hash.{HashWrites, Alike, and-Alike, on_Alike, items_Alike, same_Alike, slice, usize}
+use Rattle.std.specs.List.{flat_map}
+use Rattle.std.proofs.Common.{refl}
+use Rattle.nd_array_core.specs.Meaning.{Meaning}
+use Rattle.nd_array_core.specs.Joined.{row_major_elements}
+
+module _ {A : Type 0} where
+  -- the lengths are the same, and the elements in row-major order are equal one by one
+  abbrev pub equal_meanings : (A → A → Bool) → Meaning A → Meaning A → Bool
+  equal_meanings equal m n = pointwise nat_eq m.shape n.shape && pointwise equal (row_major_elements m) (row_major_elements n)
+
+  -- the shapes are the same, and the elements at each index are equal
+  abbrev pub EqualEverywhere : (A → A → Bool) → Meaning A → Meaning A → Type 0
+  EqualEverywhere equal m n = (m.shape ≡ n.shape) × ((i : List ℕ) (x y : A) → m.at i ≡ Some x → n.at i ≡ Some y → equal x y ≡ true)
+
+  -- the lengths as a slice, and then each element in row-major order
+  abbrev pub fed_meaning : (A → HashWrites) → Meaning A → HashWrites
+  fed_meaning feed m = slice usize m.shape ++ flat_map feed (row_major_elements m)
+
+  -- equality of arrays is as good as that of elements
+  pub meanings_per : {E : A → A → Bool} → IsPartialEquivalence E → IsPartialEquivalence (equal_meanings E)
+  meanings_per p = and_per (on_per (λ m. m.shape) (lists_per (partial_equiv_from_equiv nat_eq_equiv))) (on_per row_major_elements (lists_per p))
+
+  pub meanings_equiv : {E : A → A → Bool} → IsEquivalence E → IsEquivalence (equal_meanings E)
+  meanings_equiv e = and_equiv (on_equiv (λ m. m.shape) (lists_equiv nat_eq_equiv)) (on_equiv row_major_elements (lists_equiv e))
+
+  module _ {E : A → A → Bool} {F : A → HashWrites} (alike : (x y : A) → E x y ≡ true → F x ≡ F y) where
+    each_fed : (xs ys : List A) → pointwise E xs ys ≡ true → flat_map F xs ≡ flat_map F ys
+    each_fed [] [] h = refl
+    each_fed [] (y ∷ ys) h = absurd cc
+    each_fed (x ∷ xs) [] h = absurd cc
+    each_fed (x ∷ xs) (y ∷ ys) h = λ i. alike x y (first_so (E x y) (pointwise E xs ys) h) i ++ each_fed xs ys (second_so (E x y) (pointwise E xs ys) h) i
+
+    elements_alike : Alike (λ (m n : Meaning A). pointwise E (row_major_elements m) (row_major_elements n)) (λ m. flat_map F (row_major_elements m))
+    elements_alike = record { fed = λ m n. each_fed (row_major_elements m) (row_major_elements n) }
+
+    -- equal arrays are fed alike, where equal elements are
+    pub meanings_alike : Alike (equal_meanings E) (fed_meaning F)
+    meanings_alike = and-Alike (on_Alike (λ m. m.shape) (items_Alike (same_Alike usize unsigned_Decides))) elements_alike

@@ -1,0 +1,176 @@
+//! The elements as a vector.
+#![tactic(auto, unfolding(crate::specs::Meaning::meaning_of, crate::specs::Meaning::memory_layout_of))]
+
+ghost use Rattle.std.specs.Prelude.{◌≡◌, ◌+◌, ◌<◌, ◌≤◌, ◌++◌, ℕ, true, [], Some, IfOk, OnOk, length, is_some, pos, vec_len, vec_capacity};
+ghost use Rattle.nd_shape_and_slice.specs.Shape.{size_of, HasCheckedSize};
+ghost use Rattle.nd_layout.specs.Places.{ReachesPlaces};
+ghost use Rattle.nd_array_core.specs.Collected.{collected, stored_along, stored_by_rank};
+ghost use Rattle.nd_array_core.specs.Joined.{row_major_elements};
+ghost use Rattle.nd_array_core.specs.Meaning.{meaning_of, shape_of, element_at};
+ghost use Rattle.nd_array_core.specs.base.Fresh.{ClonesAreEqual, StoredClonesAreEqual, ClonesOfAllAreEqual};
+
+use crate::base::array::ArrayBase;
+use crate::base::storage::Data;
+use nd_layout::{Lane, Lanes};
+use nd_shape_and_slice::{Dimension, NoMemory, StrideList};
+use std::alloc::Global;
+
+/// A new vector of clones.
+#[tactic(auto, using(crate::proofs::Clones::clones_same))]
+pub(crate) fn clones_of<A: Clone>(alloc: Global, xs: &[A]) -> Result<Vec<A>, NoMemory>
+    requires { StoredClonesAreEqual A.is_clone xs.now }
+    ensures items { IfOk result (λ v. v.items ≡ xs.now) }
+    ensures count { IfOk result (λ v. vec_len v ≡ length xs.now) }
+{
+    match Vec::from_clones(alloc, xs) {
+        Ok(items) => Ok(items),
+        Err(_) => Err(NoMemory),
+    }
+}
+
+/// Puts clones of the elements of a lane behind those that a vector has.
+fn extend_by_steps<S: Data>(
+    items: &mut Vec<S::Elem>,
+    storage: &S,
+    lane: Lane,
+) -> Result<(), NoMemory>
+where
+    S::Elem: Clone,
+    requires clones { (k : ℕ) (x : S.Elem) → k < lane.count → stored_along (S.stored storage.now) lane.place lane.stride k ≡ Some x → ClonesAreEqual S.Elem.is_clone x }
+    requires holds { (k : ℕ) → k < lane.count → is_some (stored_along (S.stored storage.now) lane.place lane.stride k) ≡ true }
+    requires room { vec_len items.old + lane.count ≤ vec_capacity items.old }
+    ensures items { OnOk result (items.new.items ≡ items.old.items ++ collected (stored_along (S.stored storage.now) lane.place lane.stride) lane.count) }
+    ensures len { OnOk result (vec_len items.new ≡ vec_len items.old + lane.count) }
+    ensures room { vec_capacity items.new ≡ vec_capacity items.old }
+{
+    for nth in 0..lane.count {
+        match storage.element(lane.place_of(nth)).clone() {
+            Ok(copy) => items.push_reserved(copy),
+            Err(_) => return Err(NoMemory),
+        }
+    }
+    Ok(())
+}
+
+/// The same where they lie side by side.
+fn extend_by_run<S: Data>(items: &mut Vec<S::Elem>, storage: &S, lane: Lane) -> Result<(), NoMemory>
+where
+    S::Elem: Clone + Drop,
+    requires beside { lane.stride ≡ pos 1 }
+    requires clones { (k : ℕ) (x : S.Elem) → k < lane.count → stored_along (S.stored storage.now) lane.place lane.stride k ≡ Some x → ClonesAreEqual S.Elem.is_clone x }
+    requires holds { (k : ℕ) → k < lane.count → is_some (stored_along (S.stored storage.now) lane.place lane.stride k) ≡ true }
+    ensures items { OnOk result (items.new.items ≡ items.old.items ++ collected (stored_along (S.stored storage.now) lane.place lane.stride) lane.count) }
+    ensures len { OnOk result (vec_len items.new ≡ vec_len items.old + lane.count) }
+    ensures room { vec_capacity items.old ≤ vec_capacity items.new }
+{
+    let run = storage.borrowed().run(lane.place, lane.count);
+    match items.extend_with_clones(run) {
+        Ok(()) => Ok(()),
+        Err(_) => Err(NoMemory),
+    }
+}
+
+/// The same of any lane.
+fn extend_by_lane<S: Data>(
+    items: &mut Vec<S::Elem>,
+    storage: &S,
+    lane: Lane,
+) -> Result<(), NoMemory>
+where
+    S::Elem: Clone + Drop,
+    requires clones { (k : ℕ) (x : S.Elem) → k < lane.count → stored_along (S.stored storage.now) lane.place lane.stride k ≡ Some x → ClonesAreEqual S.Elem.is_clone x }
+    requires holds { (k : ℕ) → k < lane.count → is_some (stored_along (S.stored storage.now) lane.place lane.stride k) ≡ true }
+    requires room { vec_len items.old + lane.count ≤ vec_capacity items.old }
+    ensures items { OnOk result (items.new.items ≡ items.old.items ++ collected (stored_along (S.stored storage.now) lane.place lane.stride) lane.count) }
+    ensures len { OnOk result (vec_len items.new ≡ vec_len items.old + lane.count) }
+    ensures room { vec_capacity items.old ≤ vec_capacity items.new }
+{
+    if lane.stride == 1 {
+        return extend_by_run(items, storage, lane);
+    }
+    extend_by_steps(items, storage, lane)
+}
+
+/// Clones of the elements of a layout, by row-major rank.
+fn listed<S: Data>(
+    room: Vec<S::Elem>,
+    storage: &S,
+    first: usize,
+    lengths: &[usize],
+    strides: &[isize],
+) -> Result<Vec<S::Elem>, NoMemory>
+where
+    S::Elem: Clone + Drop,
+    requires as_many { length strides.now ≡ length lengths.now }
+    requires few { length lengths.now ≤ 32 }
+    requires checked { HasCheckedSize lengths.now }
+    requires reach { ReachesPlaces first lengths.now strides.now }
+    requires clones { (rank : ℕ) (x : S.Elem) → rank < size_of lengths.now → stored_by_rank (S.stored storage.now) first lengths.now strides.now rank ≡ Some x → ClonesAreEqual S.Elem.is_clone x }
+    requires holds { (rank : ℕ) → rank < size_of lengths.now → is_some (stored_by_rank (S.stored storage.now) first lengths.now strides.now rank) ≡ true }
+    requires empty { (room.items ≡ []) × (vec_len room ≡ 0) }
+    requires room { size_of lengths.now ≤ vec_capacity room }
+    ensures items { IfOk result (λ v. v.items ≡ collected (stored_by_rank (S.stored storage.now) first lengths.now strides.now) (size_of lengths.now)) }
+    ensures count { IfOk result (λ v. vec_len v ≡ size_of lengths.now) }
+{
+    let mut items = room;
+    let mut lanes = Lanes::new(first, lengths, strides);
+    while let Some(lane) = lanes.next() {
+        match extend_by_lane(&mut items, storage, lane) {
+            Ok(()) => {}
+            Err(refused) => return Err(refused),
+        }
+    }
+    Ok(items)
+}
+
+/// A new vector with room for that many elements.
+fn room_of<A>(alloc: Global, count: usize) -> Result<Vec<A>, NoMemory>
+    ensures none { IfOk result (λ v. (v.items ≡ []) × (vec_len v ≡ 0)) }
+    ensures room { IfOk result (λ v. vec_capacity v ≡ count) }
+{
+    match Vec::with_capacity(alloc, count) {
+        Ok(items) => Ok(items),
+        Err(_) => Err(NoMemory),
+    }
+}
+
+/// Clones of the elements, by lanes of axes that are joined where they continue one another.
+fn listed_by_lanes<S: Data, D: Dimension>(
+    alloc: Global,
+    array: &ArrayBase<S, D>,
+) -> Result<Vec<S::Elem>, NoMemory>
+where
+    S::Elem: Clone + Drop,
+    requires clones { ClonesOfAllAreEqual S.Elem.is_clone (element_at array.now) }
+    ensures items { IfOk result (λ v. v.items ≡ row_major_elements (meaning_of array.now)) }
+    ensures count { IfOk result (λ v. vec_len v ≡ size_of (shape_of array.now)) }
+{
+    let room = room_of(alloc, array.len())?;
+    let mut joined = array.layout.copied();
+    joined.join_axes();
+    listed(
+        room,
+        &array.storage,
+        joined.offset,
+        joined.dim.slice(),
+        joined.strides.slice(),
+    )
+}
+
+impl<S: Data, D: Dimension> ArrayBase<S, D>
+where
+    S::Elem: Clone + Drop,
+{
+    /// The elements in row-major order, as a new vector; a clone equals its original. NoMemory if the storage or a clone
+    /// is refused. ndarray's `to_vec`, here of any number of axes.
+    pub fn to_vec(&self, alloc: Global) -> Result<Vec<S::Elem>, NoMemory>
+        requires clones { ClonesOfAllAreEqual S.Elem.is_clone (element_at self.now) }
+        ensures items { IfOk result (λ v. v.items ≡ row_major_elements (meaning_of self.now)) }
+        ensures count { IfOk result (λ v. vec_len v ≡ size_of (shape_of self.now)) }
+    {
+        match self.as_slice() {
+            Some(xs) => clones_of(alloc, xs),
+            None => listed_by_lanes(alloc, self),
+        }
+    }
+}

@@ -1,0 +1,115 @@
+//! Arrays of their own made of any array.
+#![tactic(auto, unfolding(crate::specs::Meaning::meaning_of, crate::specs::Meaning::memory_layout_of))]
+
+ghost use Rattle.std.specs.Prelude.{◌≡◌, ◌⊎◌, ℕ, List, IfOk, length, slice_get};
+ghost use Rattle.nd_shape_and_slice.specs.Shape.{size_of};
+ghost use Rattle.nd_shape_and_slice.specs.Place.{place_of};
+ghost use Rattle.nd_shape_and_slice.specs.declared.builder.Order.TheVariants.{RowMajor};
+ghost use Rattle.nd_layout.specs.Ranks.{IsRun};
+ghost use Rattle.nd_layout.specs.Strides.{reach_down};
+ghost use Rattle.nd_array_core.specs.Joined.{row_major_elements};
+ghost use Rattle.nd_array_core.specs.Meaning.{meaning_of, shape_of, element_at, storage_of, layout_strides, layout_offset, inside};
+ghost use Rattle.nd_array_core.specs.Places.{stored_at};
+ghost use Rattle.nd_array_core.specs.base.Fresh.{ClonesOfAllAreEqual, OwnsInOrder};
+ghost use Rattle.nd_array_core.specs.base.Storages.{stored_list};
+ghost use Rattle.nd_array_core.specs.reshape.RunSlices.{IsRunArray, IsInMemoryOrder, CopiesRun};
+
+use crate::base::array::{Array, ArrayBase};
+use crate::base::fresh::of_items;
+use crate::base::storage::{Data, OwnedRepr};
+use crate::elements::listing::clones_of;
+use nd_layout::{Layout, is_run, reach_below};
+use nd_shape_and_slice::{Dimension, NoMemory, Order, StrideList};
+use std::alloc::Global;
+
+/// The array of a run's elements by rising place, under the run's strides.
+fn of_run<A, D: Dimension>(
+    items: Vec<A>,
+    offset: usize,
+    layout: &Layout<D, D::Strides>,
+) -> Array<A, D>
+    requires run { (size_of (D.lengths layout.now.dim) ≡ 0) ⊎ IsRun (D.lengths layout.now.dim) (D.Strides.strides_of layout.now.strides) }
+    requires from { offset ≡ reach_down (D.lengths layout.now.dim) (D.Strides.strides_of layout.now.strides) }
+    requires count { length items.items ≡ size_of (D.lengths layout.now.dim) }
+    ensures shape { shape_of result ≡ D.lengths layout.now.dim }
+    ensures strides { layout_strides result ≡ D.Strides.strides_of layout.now.strides }
+    ensures offset { layout_offset result ≡ offset }
+    ensures stored { stored_list (storage_of result) ≡ items.items }
+    ensures elements { (i : List ℕ) → element_at result i ≡ inside (D.lengths layout.now.dim) i (stored_at (slice_get items.items) (place_of offset (D.Strides.strides_of layout.now.strides) i)) }
+{
+    ArrayBase {
+        storage: OwnedRepr { items },
+        layout: Layout::strided(offset, layout.dim, layout.strides),
+    }
+}
+
+/// The elements of a run by rising place.
+fn run_elements<'a, S: Data, D: Dimension>(array: &'a ArrayBase<S, D>) -> &'a [S::Elem]
+    requires { IsRunArray array.now }
+    ensures order { IsInMemoryOrder array.now result.now }
+    ensures count { length result.now ≡ size_of (shape_of array.now) }
+    ensures shifted { (i : List ℕ) → inside (shape_of array.now) i (stored_at (slice_get result.now) (place_of (reach_down (shape_of array.now) (layout_strides array.now)) (layout_strides array.now) i)) ≡ element_at array.now i }
+{
+    let below = reach_below(array.layout.dim.slice(), array.layout.strides.slice());
+    let first = array.layout.offset.saturating_sub(below);
+    array.storage.borrowed().run(first, array.layout.dim.size())
+}
+
+/// The array of clones of a run's elements, as they lie.
+fn run_to_owned<S: Data, D: Dimension>(
+    alloc: Global,
+    array: &ArrayBase<S, D>,
+) -> Result<Array<S::Elem, D>, NoMemory>
+where
+    S::Elem: Clone,
+    requires run { IsRunArray array.now }
+    requires clones { ClonesOfAllAreEqual S.Elem.is_clone (element_at array.now) }
+    ensures shape { IfOk result (λ a. shape_of a ≡ shape_of array.now) }
+    ensures elements { IfOk result (λ a. (i : List ℕ) → element_at a i ≡ element_at array.now i) }
+    ensures run { IfOk result (CopiesRun array.now) }
+{
+    let items = clones_of(alloc, run_elements(array))?;
+    let below = reach_below(array.layout.dim.slice(), array.layout.strides.slice());
+    Ok(of_run(items, below, &array.layout))
+}
+
+/// The array of clones of all elements, in row-major order.
+fn ordered_to_owned<S: Data, D: Dimension>(
+    alloc: Global,
+    array: &ArrayBase<S, D>,
+) -> Result<Array<S::Elem, D>, NoMemory>
+where
+    S::Elem: Clone + Drop,
+    requires clones { ClonesOfAllAreEqual S.Elem.is_clone (element_at array.now) }
+    ensures shape { IfOk result (λ a. shape_of a ≡ shape_of array.now) }
+    ensures elements { IfOk result (λ a. (i : List ℕ) → element_at a i ≡ element_at array.now i) }
+    ensures owns { IfOk result (OwnsInOrder (shape_of array.now, RowMajor)) }
+    ensures stored { IfOk result (λ a. stored_list (storage_of a) ≡ row_major_elements (meaning_of array.now)) }
+{
+    let items = array.to_vec(alloc)?;
+    Ok(of_items(items, array.raw_dim(), Order::RowMajor))
+}
+
+impl<S: Data, D: Dimension> ArrayBase<S, D>
+where
+    S::Elem: Clone + Drop,
+{
+    /// An array of its own with the same shape and clones of the elements; a clone equals its original. Where the places
+    /// are consecutive numbers, each once, the strides stay as they are, negative ones too, and the elements lie in the
+    /// order in which they lay; else they lie in row-major order. NoMemory if the storage or a clone is refused.
+    /// ndarray's `to_owned`.
+    pub fn to_owned(&self, alloc: Global) -> Result<Array<S::Elem, D>, NoMemory>
+        requires clones { ClonesOfAllAreEqual S.Elem.is_clone (element_at self.now) }
+        ensures shape { IfOk result (λ a. shape_of a ≡ shape_of self.now) }
+        ensures elements { IfOk result (λ a. (i : List ℕ) → element_at a i ≡ element_at self.now i) }
+        ensures run { IsRunArray self.now → IfOk result (CopiesRun self.now) }
+        ensures owns { (IsRunArray self.now → ⊥) → IfOk result (OwnsInOrder (shape_of self.now, RowMajor)) }
+        ensures stored { (IsRunArray self.now → ⊥) → IfOk result (λ a. stored_list (storage_of a) ≡ row_major_elements (meaning_of self.now)) }
+    {
+        if is_run(self.layout.dim.slice(), self.layout.strides.slice()) {
+            run_to_owned(alloc, self)
+        } else {
+            ordered_to_owned(alloc, self)
+        }
+    }
+}

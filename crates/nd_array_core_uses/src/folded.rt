@@ -1,0 +1,33 @@
+//! Closures that are handed each element: a sum, the largest, and elements changed where they lie.
+#![tactic(auto)]
+
+ghost use Rattle.std.specs.Prelude.{◌≡◌, ◌+◌, ◌*◌, ◌%◌, ◌^◌, ◌<◌, ℕ, List, max};
+ghost use Rattle.std.specs.List.{fold};
+ghost use Rattle.std.specs.Option.{option_map};
+ghost use Rattle.nd_array_core.specs.Meaning.{meaning_of, shape_of, element_at};
+ghost use Rattle.nd_array_core.specs.Joined.{row_major_elements};
+
+use nd_array_core::{ArrayBase, Data, DataMut};
+use nd_shape_and_slice::Dimension;
+
+/// The sum of all elements, modulo 2 to the 64th.
+pub fn wrapping_sum<S: Data<Elem = u64>, D: Dimension>(array: &ArrayBase<S, D>) -> u64
+    ensures { result ≡ fold (λ sum x. (sum + x) % 2 ^ 64) 0 (row_major_elements (meaning_of array.now)) }
+{
+    array.fold(0, |sum, x| sum.wrapping_add(*x))
+}
+
+/// The largest element, 0 where there is none.
+pub fn largest<S: Data<Elem = u64>, D: Dimension>(array: &ArrayBase<S, D>) -> u64
+    ensures { result ≡ fold max 0 (row_major_elements (meaning_of array.now)) }
+{
+    array.fold(0, |most, x| most.max(*x))
+}
+
+/// Doubles every element, modulo 2 to the 64th.
+pub fn double_all<S: DataMut<Elem = u64>, D: Dimension>(array: &mut ArrayBase<S, D>)
+    ensures shape { shape_of array.new ≡ shape_of array.old }
+    ensures elements { (i : List ℕ) → element_at array.new i ≡ option_map (λ x. (x * 2) % 2 ^ 64) (element_at array.old i) }
+{
+    array.map_inplace(|x| *x = x.wrapping_mul(2));
+}

@@ -1,0 +1,54 @@
+-- How keywords are spelled, and which of them begin a step.
+use Rattle.std.specs.Prelude.{Bool, true, false, ℕ, List, [], codes}
+use Rattle.nd_run.specs.declared.keyword.Keyword.{Keyword}
+use Rattle.nd_run.specs.declared.keyword.Keyword.TheVariants.{Start, Keep, Ask, Write, Split, Slash, Cut, Slice, Collapse, Index, Permute, Reverse, SwapAxes, Invert, Insert, Remove, Squeeze, Diag, Broadcast, Part, Coordinate, New, Shape, Elements, Get, First, Last, Equal, Fill, Set, Swap, Other}
+
+abbrev pub spelling : Keyword → List ℕ
+spelling Start = codes "start"
+spelling Keep = codes "keep"
+spelling Ask = codes "ask"
+spelling Write = codes "write"
+spelling Split = codes "split"
+spelling Slash = codes "/"
+spelling Cut = codes "cut"
+spelling Slice = codes "slice"
+spelling Collapse = codes "collapse"
+spelling Index = codes "index"
+spelling Permute = codes "permute"
+spelling Reverse = codes "reverse"
+spelling SwapAxes = codes "swapaxes"
+spelling Invert = codes "invert"
+spelling Insert = codes "insert"
+spelling Remove = codes "remove"
+spelling Squeeze = codes "squeeze"
+spelling Diag = codes "diag"
+spelling Broadcast = codes "broadcast"
+spelling Part = codes "s"
+spelling Coordinate = codes "i"
+spelling New = codes "n"
+spelling Shape = codes "shape"
+spelling Elements = codes "elements"
+spelling Get = codes "get"
+spelling First = codes "first"
+spelling Last = codes "last"
+spelling Equal = codes "equal"
+spelling Fill = codes "fill"
+spelling Set = codes "set"
+spelling Swap = codes "swap"
+spelling Other = []
+
+abbrev pub is_step : Keyword → Bool
+is_step Cut = true
+is_step Slice = true
+is_step Collapse = true
+is_step Index = true
+is_step Permute = true
+is_step Reverse = true
+is_step SwapAxes = true
+is_step Invert = true
+is_step Insert = true
+is_step Remove = true
+is_step Squeeze = true
+is_step Diag = true
+is_step Broadcast = true
+is_step _ = false
