@@ -43,8 +43,9 @@ fn calls_are_read(rt: HostRuntime) -> Result<(), ScriptError> {
     let text =
         b"start 0 7\nkeep cut 1 -2 -1 3\nkeep permute 2 1 0\nask shape\nask permute 1 0 / cut 0 0 _ 1 / get 0\nwrite reverse / invert 2 / set 2 5 6 -9\nsplit 3 1 swap 0 1 8 / fill 4\n";
     let script = read_script(rt.alloc(), text)?;
-    assert!(rt; script.lengths.is_empty());
-    assert_eq!(rt; script.elements.as_slice(), [7].as_slice());
+    let no_coordinates: [usize; 0] = [];
+    assert!(rt; script.start.shape().is_empty());
+    assert_eq!(rt; script.start.get(no_coordinates).copied(), Some(7));
     assert!(rt; are_calls(&script.calls));
     Ok(())
 }
