@@ -347,6 +347,28 @@ pub trait DataMut: Data {
     ghost refilled_frame: { (s : Self) (ws : List Self.Elem) → frame (Self.Data.refilled s ws).0 ≡ frame s };
 }
 
+/// A storage that owns its elements. ndarray's `DataOwned`.
+pub trait DataOwned: Data {
+    /// It does.
+    ghost owns: { Self.Data.owned ≡ true };
+
+    /// A storage of a vector's elements, at the places from 0.
+    fn from_items(vector: Vec<Self::Elem>) -> Self
+        ensures items { Self.items result ≡ vector.items }
+        ensures elements { (place : ℕ) → Self.stored result place ≡ slice_get vector.items place };
+}
+
+impl<A> DataOwned for OwnedRepr<A> {
+    ghost owns = { refl };
+
+    fn from_items(vector: Vec<A>) -> Self
+        ensures items { result.items.items ≡ vector.items }
+        ensures elements { (place : ℕ) → slice_get result.items.items place ≡ slice_get vector.items place }
+    {
+        OwnedRepr { items: vector }
+    }
+}
+
 impl<A> DataMut for OwnedRepr<A> {
     ghost frame = { λ s. Owned s.items.len s.items.cap };
 
