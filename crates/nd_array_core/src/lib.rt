@@ -23,6 +23,6 @@ pub use base::aliases::{
 };
 pub use base::array::{Array, ArrayBase, ArrayView, ArrayViewMut};
 pub use base::indexing::IndexLonger;
-pub use base::storage::{Data, DataMut, OwnedRepr, RegionRepr, ViewMutRepr, ViewRepr};
+pub use base::storage::{Data, DataMut, DataOwned, OwnedRepr, RegionRepr, ViewMutRepr, ViewRepr};
 pub use base::writing::GetMut;
 pub use layout::splitting::MultiSliceArg;

@@ -1,6 +1,6 @@
 //! The storages of arrays: an owned vector, or a borrow of elements, shared or to be written.
 
-ghost use Rattle.std.specs.Prelude.{◌≡◌, ◌+◌, ◌*◌, ◌<◌, ◌≤◌, ◌^◌, ℕ, length, Bool, true, false, List, [], Option, IsSome, Some, None, slice_get, slice_range, refl};
+ghost use Rattle.std.specs.Prelude.{◌≡◌, ◌+◌, ◌*◌, ◌<◌, ◌≤◌, ◌^◌, ℕ, length, Bool, true, false, List, [], Option, IsSome, Some, None, IfOk, IfErr, is_ok, slice_get, slice_range, refl};
 ghost use Rattle.std.specs.Borrow.{sem, follows, Array};
 ghost use Rattle.std.specs.List.{flat_map};
 ghost use Rattle.std.specs.Option.{is_some};
@@ -32,6 +32,8 @@ pub trait Data {
     ghost stored: { Self → ℕ → Option Self.Elem };
     /// Whether each element of an array over it must have one index alone.
     ghost exclusive: { Bool };
+    /// Whether it owns its elements.
+    ghost owned: { Bool };
     /// The storage with another element at a place; a storage that can't be written stays as it is. It holds something
     /// where it did before.
     ghost with_element: { (s : Self) → ℕ → Self.Elem → (t : Self) × KeepsPlaces (stored s) (stored t) };
@@ -51,6 +53,14 @@ pub trait Data {
     #[inline]
     fn borrowed(&self) -> ViewRepr<'_, Self::Elem>
         ensures { (place : ℕ) → shown_by result place ≡ stored self.now place };
+
+    /// The elements themselves where it owns them, and else the storage as it is.
+    fn into_items(self) -> Result<Vec<Self::Elem>, Self>
+        ensures owned { is_ok result ≡ owned }
+        ensures alone { IfOk result (λ _. exclusive ≡ true) }
+        ensures items { IfOk result (λ v. v.items ≡ items self) }
+        ensures elements { IfOk result (λ v. (place : ℕ) → slice_get v.items place ≡ stored self place) }
+        ensures kept { IfErr result (λ s. s ≡ self) };
 }
 
 /// Elements in a vector that the array owns. ndarray's `OwnedRepr`.
@@ -126,6 +136,8 @@ impl<A> Data for OwnedRepr<A> {
 
     ghost exclusive = { true };
 
+    ghost owned = { true };
+
     ghost with_element = { λ s place x. (record { items = with_item s.items place x }, item_kept s.items.items place x) };
 
     ghost items = { λ s. s.items.items };
@@ -140,6 +152,10 @@ impl<A> Data for OwnedRepr<A> {
     fn borrowed(&self) -> ViewRepr<'_, A> {
         ViewRepr::of_slice(self.items.as_slice())
     }
+
+    fn into_items(self) -> Result<Vec<A>, Self> {
+        Ok(self.items)
+    }
 }
 
 impl<'a, A> Data for ViewRepr<'a, A> {
@@ -148,6 +164,8 @@ impl<'a, A> Data for ViewRepr<'a, A> {
     ghost stored = { λ s place. shared_stored s.region place };
 
     ghost exclusive = { false };
+
+    ghost owned = { false };
 
     ghost with_element = { λ s _ _. (s, λ p has. has) };
 
@@ -165,6 +183,10 @@ impl<'a, A> Data for ViewRepr<'a, A> {
         ViewRepr {
             region: self.region.reborrowed(),
         }
+    }
+
+    fn into_items(self) -> Result<Vec<A>, Self> {
+        Err(self)
     }
 }
 
@@ -223,6 +245,8 @@ impl<'a, A> Data for ViewMutRepr<'a, A> {
 
     ghost exclusive = { true };
 
+    ghost owned = { false };
+
     ghost with_element = { λ s place x. (record { region = region_with s.region place x; tie = s.tie }, place_kept s.region.items s.region.held place x) };
 
     ghost items = { λ s. s.region.items };
@@ -238,6 +262,10 @@ impl<'a, A> Data for ViewMutRepr<'a, A> {
         ViewRepr {
             region: self.region.share(),
         }
+    }
+
+    fn into_items(self) -> Result<Vec<A>, Self> {
+        Err(self)
     }
 }
 
@@ -317,6 +345,28 @@ pub trait DataMut: Data {
 
     /// A refill keeps the frame.
     ghost refilled_frame: { (s : Self) (ws : List Self.Elem) → frame (Self.Data.refilled s ws).0 ≡ frame s };
+}
+
+/// A storage that owns its elements. ndarray's `DataOwned`.
+pub trait DataOwned: Data {
+    /// It does.
+    ghost owns: { Self.Data.owned ≡ true };
+
+    /// A storage of a vector's elements, at the places from 0.
+    fn from_items(vector: Vec<Self::Elem>) -> Self
+        ensures items { Self.items result ≡ vector.items }
+        ensures elements { (place : ℕ) → Self.stored result place ≡ slice_get vector.items place };
+}
+
+impl<A> DataOwned for OwnedRepr<A> {
+    ghost owns = { refl };
+
+    fn from_items(vector: Vec<A>) -> Self
+        ensures items { result.items.items ≡ vector.items }
+        ensures elements { (place : ℕ) → slice_get result.items.items place ≡ slice_get vector.items place }
+    {
+        OwnedRepr { items: vector }
+    }
 }
 
 impl<A> DataMut for OwnedRepr<A> {

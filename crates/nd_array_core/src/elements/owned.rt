@@ -1,15 +1,16 @@
 //! Arrays of their own made of any array.
 #![tactic(auto, unfolding(crate::specs::Meaning::meaning_of, crate::specs::Meaning::memory_layout_of))]
 
-ghost use Rattle.std.specs.Prelude.{◌≡◌, ◌⊎◌, ℕ, List, IfOk, length, slice_get};
+ghost use Rattle.std.specs.Prelude.{◌≡◌, ◌⊎◌, ◌<◌, ℕ, List, IfOk, IfErr, length, true, false, is_ok, slice_get};
 ghost use Rattle.nd_shape_and_slice.specs.Shape.{size_of};
-ghost use Rattle.nd_shape_and_slice.specs.Place.{place_of};
+ghost use Rattle.nd_shape_and_slice.specs.Place.{place_of, IsSeparated};
 ghost use Rattle.nd_shape_and_slice.specs.declared.builder.Order.TheVariants.{RowMajor};
 ghost use Rattle.nd_layout.specs.Ranks.{IsRun};
 ghost use Rattle.nd_layout.specs.Strides.{reach_down};
 ghost use Rattle.nd_array_core.specs.Joined.{row_major_elements};
 ghost use Rattle.nd_array_core.specs.Meaning.{meaning_of, shape_of, element_at, storage_of, layout_strides, layout_offset, inside};
-ghost use Rattle.nd_array_core.specs.Places.{stored_at};
+ghost use Rattle.nd_array_core.specs.Part.{ShowsWhole, BecomesWhole};
+ghost use Rattle.nd_array_core.specs.Places.{HoldsAll, stored_at};
 ghost use Rattle.nd_array_core.specs.base.Fresh.{ClonesOfAllAreEqual, OwnsInOrder};
 ghost use Rattle.nd_array_core.specs.base.Storages.{stored_list};
 ghost use Rattle.nd_array_core.specs.reshape.RunSlices.{IsRunArray, IsInMemoryOrder, CopiesRun};
@@ -110,6 +111,61 @@ where
             run_to_owned(alloc, self)
         } else {
             ordered_to_owned(alloc, self)
+        }
+    }
+}
+
+/// The array of a vector's elements under a layout.
+fn of_vector<A, D: Dimension>(items: Vec<A>, layout: Layout<D, D::Strides>) -> Array<A, D>
+    requires holds { HoldsAll (slice_get items.items) layout.offset (D.lengths layout.dim) (D.Strides.strides_of layout.strides) }
+    requires apart { 0 < size_of (D.lengths layout.dim) → IsSeparated (D.lengths layout.dim) (D.Strides.strides_of layout.strides) }
+    ensures storage { stored_list (storage_of result) ≡ items.items }
+    ensures layout { result.layout ≡ layout }
+{
+    ArrayBase {
+        storage: OwnedRepr { items },
+        layout,
+    }
+}
+
+impl<S: Data, D: Dimension> ArrayBase<S, D> {
+    /// The array in an owned storage, if it has one, and else the array as it is. It takes no memory. ndarray's
+    /// `try_into_owned_nocopy`.
+    pub fn try_into_owned_nocopy(self) -> Result<Array<S::Elem, D>, Self>
+        ensures owned { is_ok result ≡ S.owned }
+        ensures whole { IfOk result (ShowsWhole self) }
+        ensures stored { IfOk result (λ a. stored_list (storage_of a) ≡ S.items (storage_of self)) }
+        ensures kept { IfErr result (BecomesWhole self) }
+    {
+        match self.storage.into_items() {
+            Ok(items) => Ok(of_vector(items, self.layout)),
+            Err(storage) => Err(ArrayBase {
+                storage,
+                layout: self.layout,
+            }),
+        }
+    }
+}
+
+impl<S: Data + Drop, D: Dimension> ArrayBase<S, D>
+where
+    S::Elem: Clone + Drop,
+{
+    /// An array that owns its elements: the array itself if it does, which takes no memory, and else one of clones, as
+    /// `to_owned` makes it. NoMemory if the storage or a clone is refused. ndarray's `into_owned`.
+    pub fn into_owned(self, alloc: Global) -> Result<Array<S::Elem, D>, NoMemory>
+        requires clones { S.owned ≡ false → ClonesOfAllAreEqual S.Elem.is_clone (element_at self) }
+        ensures shape { IfOk result (λ a. shape_of a ≡ shape_of self) }
+        ensures elements { IfOk result (λ a. (i : List ℕ) → element_at a i ≡ element_at self i) }
+        ensures owned { S.owned ≡ true → is_ok result ≡ true }
+        ensures whole { S.owned ≡ true → IfOk result (ShowsWhole self) }
+        ensures items { S.owned ≡ true → IfOk result (λ a. stored_list (storage_of a) ≡ S.items (storage_of self)) }
+        ensures run { S.owned ≡ false → IsRunArray self → IfOk result (CopiesRun self) }
+        ensures owns { S.owned ≡ false → (IsRunArray self → ⊥) → IfOk result (OwnsInOrder (shape_of self, RowMajor)) }
+    {
+        match self.try_into_owned_nocopy() {
+            Ok(array) => Ok(array),
+            Err(array) => array.to_owned(alloc),
         }
     }
 }
