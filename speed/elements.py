@@ -9,8 +9,11 @@ import numpy
 
 ROWS, COLUMNS = 1000, 1000
 
-# What numpy writes for a case of `fill`.
+# What numpy writes for a call in a case.
 FILLS = {"all": "a[...] = 7", "every second column": "a[:, ::2] = 7", "turned": "a.T[...] = 7"}
+COPIES = {"all": "a.copy(order='K')", "every second column": "a[:, ::2].copy()", "turned": "a.T.copy(order='K')"}
+LISTS = {"all": "a.flatten()", "every second column": "a[:, ::2].flatten()", "turned": "a.T.flatten()"}
+COMPARISONS = {"both in row-major order": "numpy.array_equal(a, b)", "in both orders": "numpy.array_equal(a, b.T)"}
 
 
 def least_of(statement, names):
@@ -23,6 +26,14 @@ def of_numpy():
         names = {"a": numpy.zeros((ROWS, COLUMNS), dtype={"u64": numpy.uint64, "u8": numpy.uint8}[kind])}
         for case, statement in FILLS.items():
             times[f"`fill` of `{kind}`, {case}"] = least_of(statement, names)
+    for kind in ["i64", "u8"]:
+        sums = numpy.add.outer(numpy.arange(ROWS), numpy.arange(COLUMNS)).astype({"i64": numpy.int64, "u8": numpy.uint8}[kind])
+        names = {"a": sums, "b": sums.copy(), "numpy": numpy}
+        for call, statements in [("to_owned", COPIES), ("to_vec", LISTS), ("==", COMPARISONS)]:
+            for case, statement in statements.items():
+                times[f"`{call}` of `{kind}`, {case}"] = least_of(statement, names)
+    owned = {"a": numpy.zeros((ROWS, COLUMNS), dtype=numpy.int64)}
+    times["`fill` of `i64`, an owned array"] = least_of("a[...] = 7", owned)
     return times
 
 

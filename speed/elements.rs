@@ -20,31 +20,147 @@ const PROCESS_CPU_TIME: i32 = 2;
 unsafe extern "C" {
     fn clock_gettime(clock: i32, time: *mut TimeSpec) -> i32;
 
-    fn nd_speed_fill(items: *mut u64, count: usize, lengths: *const usize, ndim: usize, reversed: bool, step: isize, fixed: bool, calls: usize) -> u64;
-    fn nd_speed_fill_bytes(items: *mut u8, count: usize, lengths: *const usize, ndim: usize, reversed: bool, step: isize, fixed: bool, calls: usize) -> u64;
+    fn nd_speed_fill(
+        items: *mut u64,
+        count: usize,
+        lengths: *const usize,
+        ndim: usize,
+        reversed: bool,
+        step: isize,
+        fixed: bool,
+        calls: usize,
+    ) -> u64;
+    fn nd_speed_fill_bytes(
+        items: *mut u8,
+        count: usize,
+        lengths: *const usize,
+        ndim: usize,
+        reversed: bool,
+        step: isize,
+        fixed: bool,
+        calls: usize,
+    ) -> u64;
+    fn nd_speed_fill_owned(rows: usize, columns: usize, calls: usize) -> u64;
+    fn nd_speed_from_shape_fn(rows: usize, columns: usize, calls: usize) -> u64;
+    fn nd_speed_to_owned(
+        items: *const i64,
+        count: usize,
+        lengths: *const usize,
+        ndim: usize,
+        reversed: bool,
+        step: isize,
+        calls: usize,
+    ) -> u64;
+    fn nd_speed_to_owned_bytes(
+        items: *const u8,
+        count: usize,
+        lengths: *const usize,
+        ndim: usize,
+        reversed: bool,
+        step: isize,
+        calls: usize,
+    ) -> u64;
+    fn nd_speed_to_vec(
+        items: *const i64,
+        count: usize,
+        lengths: *const usize,
+        ndim: usize,
+        reversed: bool,
+        step: isize,
+        calls: usize,
+    ) -> u64;
+    fn nd_speed_to_vec_bytes(
+        items: *const u8,
+        count: usize,
+        lengths: *const usize,
+        ndim: usize,
+        reversed: bool,
+        step: isize,
+        calls: usize,
+    ) -> u64;
+    fn nd_speed_equal(
+        left: *const i64,
+        left_count: usize,
+        right: *const i64,
+        right_count: usize,
+        lengths: *const usize,
+        ndim: usize,
+        reversed: bool,
+        calls: usize,
+    ) -> u64;
+    fn nd_speed_equal_bytes(
+        left: *const u8,
+        left_count: usize,
+        right: *const u8,
+        right_count: usize,
+        lengths: *const usize,
+        ndim: usize,
+        reversed: bool,
+        calls: usize,
+    ) -> u64;
+}
+
+/// What the library's allocator answers: whether there was memory, and where.
+#[repr(C)]
+struct Tried {
+    ok: bool,
+    place: *mut u8,
+}
+
+unsafe extern "C" {
+    fn malloc(size: usize) -> *mut u8;
+    fn realloc(block: *mut u8, size: usize) -> *mut u8;
+    fn free(block: *mut u8);
+}
+
+#[unsafe(no_mangle)]
+unsafe extern "C" fn rattle_alloc(size: usize, _align: usize) -> Tried {
+    let place = unsafe { malloc(size) };
+    Tried {
+        ok: !place.is_null(),
+        place,
+    }
+}
+
+#[unsafe(no_mangle)]
+unsafe extern "C" fn rattle_realloc(block: *mut u8, _kept: usize, size: usize, _align: usize) -> Tried {
+    let place = unsafe { realloc(block, size) };
+    Tried {
+        ok: !place.is_null(),
+        place,
+    }
+}
+
+#[unsafe(no_mangle)]
+unsafe extern "C" fn rattle_dealloc(block: *mut u8) {
+    unsafe { free(block) }
 }
 
 /// The processor time of this process, which other work on the machine doesn't lengthen much.
 fn microseconds() -> f64 {
-    let mut time = TimeSpec { seconds: 0, nanoseconds: 0 };
+    let mut time = TimeSpec {
+        seconds: 0,
+        nanoseconds: 0,
+    };
     unsafe { clock_gettime(PROCESS_CPU_TIME, &mut time) };
     time.seconds as f64 * 1e6 + time.nanoseconds as f64 / 1e3
 }
 
-/// The least over several repeats of the microseconds of one call.
-fn least_of(call: &mut dyn FnMut(usize) -> u64) -> f64 {
-    let calls = 20;
-    let mut least = f64::MAX;
-    for _ in 0..15 {
-        let start = microseconds();
-        assert_ne!(black_box(call(black_box(calls))), 0, "arguments that don't fit");
-        least = least.min((microseconds() - start) / calls as f64);
-    }
-    least
+/// The microseconds of one call.
+fn time_of(call: &mut dyn FnMut(usize) -> u64) -> f64 {
+    let calls = 5;
+    let start = microseconds();
+    assert_ne!(black_box(call(black_box(calls))), 0, "arguments that don't fit");
+    (microseconds() - start) / calls as f64
 }
 
-fn row(name: &str, who: &str, call: &mut dyn FnMut(usize) -> u64) {
-    println!("{name}\t{who}\t{:.1}", least_of(call));
+/// The least over many repeats, which take turns: other work on the machine then slows both alike.
+fn row(name: &str, plain: &mut dyn FnMut(usize) -> u64, here: &mut dyn FnMut(usize) -> u64) {
+    let mut least = (f64::MAX, f64::MAX);
+    for _ in 0..60 {
+        least = (least.0.min(time_of(plain)), least.1.min(time_of(here)));
+    }
+    println!("{name}\tplain\t{:.1}\n{name}\there\t{:.1}", least.0, least.1);
 }
 
 /// The same value at each index, by every `step`-th column.
@@ -62,24 +178,174 @@ fn plain_fill<A: Copy>(items: &mut [A], rows: usize, columns: usize, step: usize
     }
 }
 
-fn fills<A: Copy>(kind: &str, items: &mut [A], value: fn(usize) -> A, ours: unsafe extern "C" fn(*mut A, usize, *const usize, usize, bool, isize, bool, usize) -> u64) {
+fn fills<A: Copy>(
+    kind: &str,
+    items: &mut [A],
+    value: fn(usize) -> A,
+    ours: unsafe extern "C" fn(*mut A, usize, *const usize, usize, bool, isize, bool, usize) -> u64,
+) {
     let lengths = black_box([ROWS, COLUMNS]);
     let cases = [("all", false, 1), ("every second column", false, 2), ("turned", true, 1)];
     for (case, turned, step) in cases {
         let name = format!("`fill` of `{kind}`, {case}");
         let (rows, columns, step) = black_box((ROWS, COLUMNS, step));
-        row(&name, "plain", &mut |calls| {
+        let (place, count) = (items.as_mut_ptr(), items.len());
+        row(
+            &name,
+            &mut |calls| {
+                for call in 0..calls {
+                    plain_fill(black_box(&mut *items), rows, columns, step, value(call));
+                }
+                1
+            },
+            &mut |calls| unsafe { ours(place, count, lengths.as_ptr(), 2, turned, step as isize, true, calls) },
+        );
+    }
+}
+
+type OfItems<A> = unsafe extern "C" fn(*const A, usize, *const usize, usize, bool, isize, usize) -> u64;
+type OfPairs<A> = unsafe extern "C" fn(*const A, usize, *const A, usize, *const usize, usize, bool, usize) -> u64;
+
+/// The elements in the order of the indexes: rows of the whole, every `step`-th column of them, or the columns.
+fn plain_listed<A: Copy>(items: &[A], rows: usize, columns: usize, turned: bool, step: usize) -> Vec<A> {
+    let mut listed = Vec::with_capacity(if turned { rows * columns } else { rows * columns.div_ceil(step) });
+    if turned {
+        for column in 0..columns {
+            for row in 0..rows {
+                listed.push(items[row * columns + column]);
+            }
+        }
+    } else {
+        for row in items.chunks_exact(columns).take(rows) {
+            listed.extend(row.iter().step_by(step));
+        }
+    }
+    listed
+}
+
+/// Copies: of a run as its elements lie, else in the order of the indexes.
+fn copies<A: Copy>(kind: &str, items: &[A], owned: OfItems<A>, listed: OfItems<A>) {
+    let lengths = black_box([ROWS, COLUMNS]);
+    let cases = [("all", false, 1), ("every second column", false, 2), ("turned", true, 1)];
+    for (case, turned, step) in cases {
+        let (rows, columns, turned, step) = black_box((ROWS, COLUMNS, turned, step));
+        let name = format!("`to_owned` of `{kind}`, {case}");
+        row(
+            &name,
+            &mut |calls| {
+                for _ in 0..calls {
+                    let items = black_box(items);
+                    black_box(if step == 1 {
+                        items.to_vec()
+                    } else {
+                        plain_listed(items, rows, columns, turned, step)
+                    });
+                }
+                1
+            },
+            &mut |calls| unsafe { owned(items.as_ptr(), items.len(), lengths.as_ptr(), 2, turned, step as isize, calls) },
+        );
+        let name = format!("`to_vec` of `{kind}`, {case}");
+        row(
+            &name,
+            &mut |calls| {
+                for _ in 0..calls {
+                    let items = black_box(items);
+                    black_box(if step == 1 && !turned {
+                        items.to_vec()
+                    } else {
+                        plain_listed(items, rows, columns, turned, step)
+                    });
+                }
+                1
+            },
+            &mut |calls| unsafe { listed(items.as_ptr(), items.len(), lengths.as_ptr(), 2, turned, step as isize, calls) },
+        );
+    }
+}
+
+/// Whether two arrays of as many rows as columns are equal, the second one in column-major order where `turned`.
+fn plain_equal<A: PartialEq>(left: &[A], right: &[A], side: usize, turned: bool) -> bool {
+    if turned {
+        left.chunks_exact(side)
+            .enumerate()
+            .all(|(row, items)| items.iter().enumerate().all(|(column, item)| *item == right[column * side + row]))
+    } else {
+        left == right
+    }
+}
+
+fn comparisons<A: PartialEq>(kind: &str, items: &[A], equal: &[A], ours: OfPairs<A>) {
+    let lengths = black_box([ROWS, COLUMNS]);
+    for (case, turned) in [("both in row-major order", false), ("in both orders", true)] {
+        let name = format!("`==` of `{kind}`, {case}");
+        let (side, turned) = black_box((ROWS, turned));
+        row(
+            &name,
+            &mut |calls| {
+                (0..calls)
+                    .filter(|_| plain_equal(black_box(items), black_box(equal), side, turned))
+                    .count() as u64
+            },
+            &mut |calls| unsafe {
+                ours(
+                    items.as_ptr(),
+                    items.len(),
+                    equal.as_ptr(),
+                    equal.len(),
+                    lengths.as_ptr(),
+                    2,
+                    turned,
+                    calls,
+                )
+            },
+        );
+    }
+}
+
+/// Arrays that own their elements.
+fn owned() {
+    let (rows, columns) = black_box((ROWS, COLUMNS));
+    let name = "`fill` of `i64`, an owned array";
+    let mut items = vec![0i64; rows * columns];
+    row(
+        name,
+        &mut |calls| {
             for call in 0..calls {
-                plain_fill(black_box(&mut *items), rows, columns, step, value(call));
+                plain_fill(black_box(&mut items[..]), rows, columns, 1, call as i64);
             }
             1
-        });
-        let (place, count) = (items.as_mut_ptr(), items.len());
-        row(&name, "here", &mut |calls| unsafe { ours(place, count, lengths.as_ptr(), 2, turned, step as isize, true, calls) });
-    }
+        },
+        &mut |calls| unsafe { nd_speed_fill_owned(rows, columns, calls) },
+    );
+    let name = "`from_shape_fn` of `usize`, the sum of the coordinates";
+    row(
+        name,
+        &mut |calls| {
+            for _ in 0..calls {
+                let mut items = Vec::with_capacity(rows * columns);
+                for row in 0..rows {
+                    items.extend((0..columns).map(|column| row.wrapping_add(column)));
+                }
+                black_box(&items);
+            }
+            1
+        },
+        &mut |calls| unsafe { nd_speed_from_shape_fn(rows, columns, calls) },
+    );
+}
+
+/// Elements that are the same at (i, j) and at (j, i), so that an array and its transpose are equal.
+fn symmetric<A>(element: fn(usize) -> A) -> Vec<A> {
+    (0..ROWS * COLUMNS).map(|rank| element(rank / COLUMNS + rank % COLUMNS)).collect()
 }
 
 fn main() {
     fills("u64", &mut vec![0; ROWS * COLUMNS], |call| call as u64, nd_speed_fill);
     fills("u8", &mut vec![0; ROWS * COLUMNS], |call| call as u8, nd_speed_fill_bytes);
+    owned();
+    copies("i64", &symmetric(|sum| sum as i64), nd_speed_to_owned, nd_speed_to_vec);
+    copies("u8", &symmetric(|sum| sum as u8), nd_speed_to_owned_bytes, nd_speed_to_vec_bytes);
+    comparisons("i64", &symmetric(|sum| sum as i64), &symmetric(|sum| sum as i64), nd_speed_equal);
+    comparisons("u8", &symmetric(|sum| sum as u8), &symmetric(|sum| sum as u8), nd_speed_equal_bytes);
 }

@@ -6,6 +6,7 @@
 #![tactic(auto)]
 
 mod conditions;
+mod copies;
 mod fills;
 mod parts;
 mod views;
