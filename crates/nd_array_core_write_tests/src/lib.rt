@@ -16,6 +16,8 @@ mod fresh;
 #[cfg(test)]
 mod lent_slices;
 #[cfg(test)]
+mod owned;
+#[cfg(test)]
 mod scoped_calls;
 #[cfg(test)]
 mod several_slices;
