@@ -349,13 +349,13 @@ pub trait DataMut: Data {
 
 /// A storage that owns its elements. ndarray's `DataOwned`.
 pub trait DataOwned: Data {
-    /// It does.
-    ghost owns: { Self.Data.owned ≡ true };
-
     /// A storage of a vector's elements, at the places from 0.
     fn from_items(vector: Vec<Self::Elem>) -> Self
         ensures items { Self.items result ≡ vector.items }
         ensures elements { (place : ℕ) → Self.stored result place ≡ slice_get vector.items place };
+
+    /// It owns them.
+    ghost owns: { Self.Data.owned ≡ true };
 }
 
 impl<A> DataOwned for OwnedRepr<A> {
