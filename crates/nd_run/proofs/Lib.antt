@@ -1,7 +1,6 @@
 pub mod BadLines
 pub mod StepTests
 pub mod Driving
-pub mod Equals
 pub mod Indexes
 pub mod Items
 pub mod Keywords

@@ -1,12 +1,11 @@
 -- What a list of calls answers, and what it leaves of an array's meaning: a fold over the calls. No view, borrow
 -- or storage occurs.
-use Rattle.std.specs.Prelude.{◌≡◌, ℕ, nat_eq, Bool, Option, None, Some, true, false, ◌||◌, ◌&&◌, List, [], ◌∷◌, ◌++◌, Result, Ok, Err, ◌⊎◌}
-use Rattle.std.specs.Cmp.Lexicographic.{pointwise}
-use Rattle.std.specs.List.{list_all}
-use Rattle.nd_shape_and_slice.specs.Shape.{indexes_of, in_box}
+use Rattle.std.specs.Prelude.{◌≡◌, ℕ, Bool, Option, None, Some, true, false, ◌||◌, List, [], ◌∷◌, ◌++◌, Result, Ok, Err, ◌⊎◌}
+use Rattle.nd_shape_and_slice.specs.Shape.{in_box}
 use Rattle.nd_array_core.specs.Meaning.{Meaning, meaning_through}
 use Rattle.nd_shape_and_slice.specs.FirstIndex.{first_index}
 use Rattle.nd_array_core.specs.LastIndex.{last_index}
+use Rattle.nd_array_core.specs.Equality.{equal_meanings}
 use Rattle.nd_array_core.specs.Joined.{row_major_elements}
 use Rattle.nd_run.specs.Calls.{AskedStep, Asking, AskShape, AskElements, AskElement, AskFirst, AskLast, AskEqual, Asked, Keeping, About, Writing, SplitWriting, Said, SaidDone, SaidRefused, SaidShape, SaidElements, SaidElement, SaidTruth, said_reply}
 use Rattle.std.specs.Prelude.{map}
@@ -44,17 +43,6 @@ LeadsAlong path m n =
     (n.shape ≡ shape_along path m.shape)
     × ((i : List ℕ) → in_box n.shape i ≡ true → (in_box m.shape (index_along path m.shape i) ≡ true) × (n.at i ≡ m.at (index_along path m.shape i)))
 
--- equal elements, or none on either side
-abbrev pub equal_there : {A : Type 0} → (A → A → Bool) → Option A → Option A → Bool
-equal_there eq None None = true
-equal_there eq None (Some y) = false
-equal_there eq (Some x) None = false
-equal_there eq (Some x) (Some y) = eq x y
-
--- the same lengths, and equal elements at every index
-abbrev pub equal_arrays : {A : Type 0} → (A → A → Bool) → Meaning A → Meaning A → Bool
-equal_arrays eq m n = pointwise nat_eq m.shape n.shape && list_all (λ i. equal_there eq (m.at i) (n.at i)) (indexes_of m.shape)
-
 -- the answer to a question, where elements compare by eq
 abbrev pub answer_to : {A : Type 0} → (A → A → Bool) → Asking A → Meaning A → Said A
 answer_to eq AskShape m = SaidShape m.shape
@@ -62,7 +50,7 @@ answer_to eq AskElements m = SaidElements m.shape (row_major_elements m)
 answer_to eq (AskElement index) m = SaidElement (m.at index)
 answer_to eq AskFirst m = SaidElement (m.at (first_index m.shape))
 answer_to eq AskLast m = SaidElement (m.at (last_index m.shape))
-answer_to eq (AskEqual other) m = SaidTruth (equal_arrays eq m other)
+answer_to eq (AskEqual other) m = SaidTruth (equal_meanings eq m other)
 
 -- the number of a cause in a reply
 abbrev pub number_of : Cause → ℕ

@@ -4,7 +4,8 @@ ghost use Rattle.std.specs.Prelude.{◌≡◌, map, Some, None, true, MatchResul
 ghost use Rattle.std.specs.Option.{option_copied};
 ghost use Rattle.nd_array_core.specs.Meaning.{meaning_of, shape_of, element_at};
 ghost use Rattle.nd_run.specs.Calls.{asked_call, asked_step, asking, said_reply, Keeping, About, SaidElement};
-ghost use Rattle.nd_run.specs.Fold.{LeadsAlong, look_refusal, answer_to, answers_in_memory, equal_there, equal_arrays, reply_to, replies_to, end_of, MayLackMemory, IsCarriedOut, CarriesOut, StopsBefore, replies_before};
+ghost use Rattle.nd_run.specs.Fold.{LeadsAlong, look_refusal, answer_to, answers_in_memory, reply_to, replies_to, end_of, MayLackMemory, IsCarriedOut, CarriesOut, StopsBefore, replies_before};
+ghost use Rattle.nd_array_core.specs.Equality.{equal_meanings};
 ghost use Rattle.nd_array_core.specs.Joined.{row_major_elements};
 
 use crate::calls::{Call, Question, Reply, Step};
@@ -14,7 +15,7 @@ use crate::steps::{advance, keep_refusal, take_step};
 use crate::write::{Acted, write_parts, write_through};
 use nd_array_core::laws::nothing_outside;
 use nd_array_core::{Array, ArrayView};
-use nd_shape_and_slice::{IxDyn, MAX_AXES, index_of_rank};
+use nd_shape_and_slice::IxDyn;
 use std::alloc::{AllocError, Global};
 
 /// Follows a path of steps, or returns the cause of a refusal.
@@ -34,20 +35,17 @@ fn follow_path<'a, A>(
 }
 
 /// The elements in row-major order.
-fn elements<A: Clone>(alloc: Global, view: &ArrayView<'_, A, IxDyn>) -> Result<Vec<A>, AllocError>
+fn elements<A: Clone + Drop>(
+    alloc: Global,
+    view: &ArrayView<'_, A, IxDyn>,
+) -> Result<Vec<A>, AllocError>
     requires { (x y : A) → A.is_clone x y → y ≡ x }
     ensures { IfOk result (λ v. v.items ≡ row_major_elements (meaning_of view.now)) }
 {
-    let mut items = Vec::with_capacity(alloc, view.len())?;
-    let mut coordinates = [0; MAX_AXES];
-    let index = &mut coordinates[..view.ndim()];
-    for rank in 0..view.len() {
-        index_of_rank(view.shape(), rank, index);
-        if let Some(element) = view.get(&*index) {
-            items.push(element.clone()?)?;
-        }
+    match view.to_vec(alloc) {
+        Ok(items) => Ok(items),
+        Err(_) => Err(AllocError),
     }
-    Ok(items)
 }
 
 /// The reply of an element, where there is one.
@@ -61,51 +59,15 @@ fn told<A: Clone>(element: Option<&A>) -> Result<Reply<A>, AllocError>
     }
 }
 
-/// Whether the element of an index equals this one.
-fn equals_there<A: Eq>(element: &A, other: &Array<A, IxDyn>, index: &[usize]) -> bool
-    ensures { result ≡ equal_there A.eq (Some element.now) (element_at other.now index.now) }
-{
-    match other.get(index) {
-        Some(value) => element.eq(value),
-        None => false,
-    }
-}
-
-/// Whether the two arrays have equal elements at an index, or none.
-fn equal_there<A: Eq>(
-    view: &ArrayView<'_, A, IxDyn>,
-    other: &Array<A, IxDyn>,
-    index: &[usize],
-) -> bool
-    ensures { result ≡ equal_there A.eq (element_at view.now index.now) (element_at other.now index.now) }
-{
-    match view.get(index) {
-        Some(element) => equals_there(element, other, index),
-        None => other.get(index).is_none(),
-    }
-}
-
 /// Whether the lengths are the same and the elements equal.
-fn equal<A: Eq>(view: &ArrayView<'_, A, IxDyn>, other: &Array<A, IxDyn>) -> bool
-    ensures { result ≡ equal_arrays A.eq (meaning_of view.now) (meaning_of other.now) }
+fn equal<'a, A: Eq>(view: &'a ArrayView<'_, A, IxDyn>, other: &'a Array<A, IxDyn>) -> bool
+    ensures { result ≡ equal_meanings A.eq (meaning_of view.now) (meaning_of other.now) }
 {
-    if view.shape() != other.shape() {
-        return false;
-    }
-    let mut coordinates = [0; MAX_AXES];
-    let index = &mut coordinates[..view.ndim()];
-    let count = view.len();
-    for rank in 0..count {
-        index_of_rank(view.shape(), rank, index);
-        if !equal_there(view, other, index) {
-            return false;
-        }
-    }
-    true
+    view.view() == other.view()
 }
 
 /// The answer to a question.
-fn answer<A: Clone + Eq>(
+fn answer<A: Clone + Eq + Drop>(
     alloc: Global,
     view: &ArrayView<'_, A, IxDyn>,
     question: &Question<A>,
@@ -128,7 +90,7 @@ fn answer<A: Clone + Eq>(
 }
 
 /// The reply to a question at the end of a path. It can run out of memory only if no step was refused.
-fn ask<A: Clone + Eq>(
+fn ask<A: Clone + Eq + Drop>(
     alloc: Global,
     array: &Array<A, IxDyn>,
     path: &[Step],
