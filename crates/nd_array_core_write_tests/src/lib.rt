@@ -16,8 +16,14 @@ mod fresh;
 #[cfg(test)]
 mod lent_slices;
 #[cfg(test)]
+mod refused_clones;
+#[cfg(test)]
+mod refused_memory;
+#[cfg(test)]
 mod scoped_calls;
 #[cfg(test)]
 mod several_slices;
+#[cfg(test)]
+mod sparing;
 #[cfg(test)]
 mod views_of_slices;

@@ -6,4 +6,4 @@ mod elements;
 mod refusing;
 
 pub use elements::{array_of, listed, numbers, part, rows_listed};
-pub use refusing::Refusing;
+pub use refusing::{Refusing, Tally};
