@@ -2,9 +2,11 @@
 # Runs the tests of src/refused_memory.rt with the n-th request for memory of each refused, for n = 1, 2 and so on until no
 # test meets a refusal. A test may then end in the error `refused: CALL`, which says that the call answered it and that all
 # is as it must be, or in AllocFailed, where the request was one of the test's own. Each call named below must have been
-# refused once at least. Takes some ten minutes. Nothing is proved here, and `rt ci` doesn't run it.
+# refused once at least. `from_iter` isn't among them: where a request of its is refused it asks for less, so that one
+# refusal doesn't stop it, and its answer must be right. Takes some ten minutes. Nothing is proved here, and `rt ci` doesn't
+# run it.
 cd "$(dirname "$0")" || exit 1
-calls='zeros ones default from_elem from_shape_fn from_shape_simple_fn eye from_diag from_diag_elem from_iter
+calls='zeros ones default from_elem from_shape_fn from_shape_simple_fn eye from_diag from_diag_elem
     to_owned to_vec clone clone_from'
 work=$(mktemp -d) || exit 1
 trap 'rm -rf "$work"' EXIT

@@ -70,10 +70,10 @@ fn new_numbers(rt: HostRuntime) -> Result<(), Fail> {
         Err(_) => return refused("refused: from_elem", &tally, 0),
     }
     let items = Refusing::listed(rt.alloc(), &[1, 2, 3, 4, 5, 6], &tally)?;
-    match Array1::from_iter(rt.alloc(), items) {
+    match Array1::from_iter(rt.alloc(), items.into_iter().rev()) {
         Ok(array) => assert_eq!(rt;
             (array.len(), array.get(5).ok_or("outside")?.number),
-            (6, 6)
+            (6, 1)
         ),
         Err(_) => return refused("refused: from_iter", &tally, 0),
     }

@@ -5,19 +5,17 @@ ghost use Rattle.std.specs.Ordering.{nat_cmp, on};
 ghost use Rattle.std.specs.Cmp.Rules.{comparing};
 ghost use Rattle.std.proofs.Common.{rules};
 
-use nd_array_core::Array2;
-use nd_test_arrays::{Refusing, Tally};
+use nd_test_arrays::{Numbered, Refusing, Tally};
 use num_traits::{Number, One, Zero};
-use std::alloc::{AllocError, Global};
+use std::alloc::AllocError;
 use std::cell::Cell;
 use std::cmp::Ordering;
 use std::ops::{Add, Mul};
-use std::test::Fail;
 
 /// A number that allows so many clones of it. It may be counted in a tally beside that, which then refuses clones too.
 #[derive(Drop)]
 pub struct Sparing<'a, const CLONES: usize> {
-    pub number: u64,
+    number: u64,
     left: Cell<usize>,
     counted: Option<Refusing<'a>>,
 }
@@ -41,6 +39,12 @@ impl<'a, const CLONES: usize> Sparing<'a, CLONES> {
             left: Cell::new(CLONES),
             counted: Some(Refusing::new(number, tally)),
         }
+    }
+}
+
+impl<'a, const CLONES: usize> Numbered for Sparing<'a, CLONES> {
+    fn number(&self) -> u64 {
+        self.number
     }
 }
 
@@ -151,19 +155,4 @@ impl<'a, const CLONES: usize> One for Sparing<'a, CLONES> {
     ghost can_mul_law = { λ a b h. tt };
 
     ghost mul_law = { λ a b r h no. absurd no };
-}
-
-/// The numbers of a matrix, row by row.
-pub fn cells<'a, const CLONES: usize>(
-    alloc: Global,
-    matrix: &Array2<Sparing<'a, CLONES>>,
-) -> Result<Vec<u64>, Fail> {
-    let (rows, columns) = matrix.dim();
-    let mut numbers = Vec::new(alloc);
-    for row in 0..rows {
-        for column in 0..columns {
-            numbers.push(matrix.get([row, column]).ok_or("outside")?.number)?;
-        }
-    }
-    Ok(numbers)
 }

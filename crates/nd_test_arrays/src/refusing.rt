@@ -5,6 +5,7 @@ ghost use Rattle.std.specs.Ordering.{on};
 ghost use Rattle.std.specs.Cmp.Rules.{comparing};
 ghost use Rattle.std.proofs.Common.{rules};
 
+use crate::elements::Numbered;
 use std::alloc::{AllocError, Global};
 use std::cell::Cell;
 use std::test::Fail;
@@ -95,6 +96,12 @@ impl<'a> Refusing<'a> {
             items.push(Refusing::new(*number, tally))?;
         }
         Ok(items)
+    }
+}
+
+impl<'a> Numbered for Refusing<'a> {
+    fn number(&self) -> u64 {
+        self.number
     }
 }
 
