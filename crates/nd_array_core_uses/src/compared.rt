@@ -67,29 +67,27 @@ pub fn equal_either_way<S: Data<Elem = u64>>(
 #[cfg(test)]
 mod tests {
     use super::*;
-    use nd_array_core::ArrayView2;
+    use nd_array_core::Array2;
     use nd_shape_and_slice::ShapeBuilder;
     use std::test::Fail;
 
-    // 1 2 / 3 4 beside other images, by lengths, strides and places
+    // 1 2 / 3 4 beside other images, by lengths, strides and what is stored
     #[test]
     fn images_compared(rt: HostRuntime) -> Result<(), Fail> {
-        let rows: &[[u64; 2]] = &[[1, 2], [3, 4]];
-        let image = ArrayView2::from(rows);
-        for (lengths, strides, items, wanted) in [
-            ((2, 2), [1, 2], [1u64, 3, 2, 4], true),
+        let items = Vec::from_slice(rt.alloc(), &[1, 2, 3, 4])?;
+        let image: Array2<u64> = Array2::from_shape_vec((2, 2), items).ok().ok_or("shape")?;
+        for (lengths, strides, stored, wanted) in [
+            ((2, 2), [1, 2], [1, 3, 2, 4], true),
             ((2, 2), [2, 1], [1, 2, 3, 5], false),
             ((2, 2), [2, 1], [0, 2, 3, 4], false),
             ((1, 2), [2, 1], [1, 2, 3, 4], false),
             ((2, 1), [2, 1], [1, 2, 3, 4], false),
         ] {
-            match ArrayView2::from_shape(lengths.strides(&strides), &items) {
-                Ok(other) => {
-                    assert_eq!(rt; pixels_equal(&image, &other), wanted);
-                    assert!(rt; equal_either_way(&image, &other));
-                }
-                Err(_) => return Err("shape".into()),
-            }
+            let items = Vec::from_slice(rt.alloc(), &stored)?;
+            let shape = lengths.strides(&strides);
+            let other: Array2<u64> = Array2::from_shape_vec(shape, items).ok().ok_or("shape")?;
+            assert_eq!(rt; pixels_equal(&image, &other), wanted);
+            assert!(rt; equal_either_way(&image, &other));
         }
         Ok(())
     }
