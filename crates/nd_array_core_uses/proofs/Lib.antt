@@ -3,3 +3,4 @@ pub mod Lines
 pub mod Outcomes
 pub mod Rows
 pub mod Fronts
+pub mod Images

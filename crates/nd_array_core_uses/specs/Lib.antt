@@ -1,3 +1,4 @@
+pub mod Images
 pub mod Painting
 pub mod Slices
 pub mod Sums

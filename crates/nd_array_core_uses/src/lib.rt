@@ -9,7 +9,9 @@ mod blocks;
 mod border;
 mod broadcasts;
 mod columns;
+mod compared;
 mod coordinates;
+mod copies;
 mod folded;
 mod interleaved;
 mod lent_slices;
@@ -28,11 +30,13 @@ pub use blocks::{fill_diagonal_blocks, fill_every_second_column, fill_rectangle,
 pub use border::{draw_border, fill_column, fill_row};
 pub use broadcasts::table_of;
 pub use columns::paint_every_second_column;
+pub use compared::{equal_either_way, pixels_equal};
 pub use coordinates::{
     begin_alike, channel, column_seen, corner, crop, crop_by_axes, every_second_row, in_row,
     neighbourhood, part_of_transposed_row, second_column, transpose_then_row, turn_half,
     turned_twice,
 };
+pub use copies::{transposed_copy, transposed_copy_is_equal};
 pub use folded::{double_all, largest, wrapping_sum};
 pub use interleaved::{fill_slices, interleave_rows, try_fill_slices};
 pub use lent_slices::{fill_front, fill_seen};

@@ -2,8 +2,7 @@
 
 use nd_array_core::{Array, ArrayView, ArrayViewMut, GetMut};
 use nd_shape_and_slice::{Axis, Ix2, ShapeBuilder};
-use nd_test_arrays::{Refusing, array_of, numbers, rows_listed};
-use std::cell::Cell;
+use nd_test_arrays::{array_of, numbers, rows_listed};
 use std::test::Fail;
 
 #[test]
@@ -24,25 +23,6 @@ fn a_clone_lies_as_its_original_does(rt: HostRuntime) -> Result<(), Fail> {
         }
         Err(_) => Err("memory".into()),
     }
-}
-
-#[test]
-fn a_clone_that_is_refused(rt: HostRuntime) -> Result<(), Fail> {
-    for allowed in 0..3u64 {
-        let left = Cell::new(allowed);
-        let source = array_of(3, Refusing::listed(rt.alloc(), &[7, 8, 9], &left)?)?;
-        let mut array = array_of(2, Refusing::listed(rt.alloc(), &[1, 2], &left)?)?;
-        assert!(rt; array.clone_from(&source).is_err());
-        assert_eq!(rt; array.len(), 2);
-        assert_eq!(rt; array.get(1).ok_or("outside")?.number, 2);
-    }
-    let left = Cell::new(3u64);
-    let source = array_of(3, Refusing::listed(rt.alloc(), &[7, 8, 9], &left)?)?;
-    let mut array = array_of(2, Refusing::listed(rt.alloc(), &[1, 2], &left)?)?;
-    assert!(rt; array.clone_from(&source).is_ok());
-    assert_eq!(rt; array.len(), 3);
-    assert_eq!(rt; array.get(2).ok_or("outside")?.number, 9);
-    Ok(())
 }
 
 #[test]

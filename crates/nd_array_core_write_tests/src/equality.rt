@@ -1,8 +1,10 @@
 //! Equality and hash of arrays, and copies of views.
 
+ghost use Rattle.std.specs.Prelude.{ℕ};
+
 use nd_array_core::{Array2, ArrayView2};
 use nd_shape_and_slice::{Axis, ShapeBuilder, Slice};
-use nd_test_arrays::{Refusing, array_of, numbers, rows_listed};
+use nd_test_arrays::{array_of, numbers, rows_listed};
 use std::cell::Cell;
 use std::hash::{DefaultHasher, Hash, Hasher};
 use std::test::Fail;
@@ -12,6 +14,71 @@ fn hashed(image: &ArrayView2<'_, u64>) -> u64 {
     let mut hasher = DefaultHasher::default();
     image.hash(&mut hasher);
     hasher.finish()
+}
+
+/// A hasher that keeps what it is fed: of each call how many bytes it had, and the number that they are, the lowest first.
+/// It keeps this in cells, and so is the same to a proof throughout.
+#[derive(Drop)]
+struct Recorder {
+    calls: Cell<[(usize, u64); 16]>,
+    count: Cell<usize>,
+}
+
+impl Recorder {
+    fn new() -> Recorder {
+        Recorder {
+            calls: Cell::new([(0, 0); 16]),
+            count: Cell::new(0),
+        }
+    }
+}
+
+impl Hasher for Recorder {
+    ghost write = { λ s bytes. s };
+
+    ghost finish = { λ s. 0 };
+
+    fn finish(&self) -> u64 {
+        0
+    }
+
+    fn write(&mut self, bytes: &[u8]) {
+        let mut number = 0u64;
+        for byte in bytes.iter().rev() {
+            number = number.wrapping_mul(256) | *byte as u64;
+        }
+        let mut calls = self.calls.get();
+        let count = self.count.get();
+        if count < calls.len() {
+            calls[count] = (bytes.len(), number);
+        }
+        self.calls.set(calls);
+        self.count.set(count.wrapping_add(1));
+    }
+}
+
+#[test]
+fn equal_arrays_are_fed_alike(rt: HostRuntime) -> Result<(), Fail> {
+    let items = Vec::from_slice(rt.alloc(), &[(1u8, 10u16), (2, 20), (3, 30), (4, 40)])?;
+    let rows: Array2<(u8, u16)> = array_of((2, 2), items)?;
+    let items = Vec::from_slice(rt.alloc(), &[(1u8, 10u16), (3, 30), (2, 20), (4, 40)])?;
+    let columns: Array2<(u8, u16)> = array_of((2, 2).f(), items)?;
+    assert!(rt; rows == columns);
+    let mut of_rows = Recorder::new();
+    rows.hash(&mut of_rows);
+    let mut of_columns = Recorder::new();
+    columns.hash(&mut of_columns);
+    let mut wanted = Recorder::new();
+    [2usize, 2].as_slice().hash(&mut wanted);
+    for element in [(1u8, 10u16), (2, 20), (3, 30), (4, 40)] {
+        element.hash(&mut wanted);
+    }
+    assert_eq!(rt; (wanted.count.get(), wanted.calls.get()[10]), (11, (2, 40)));
+    assert_eq!(rt; of_rows.count.get(), 11);
+    assert_eq!(rt; of_rows.calls.get(), wanted.calls.get());
+    assert_eq!(rt; of_columns.count.get(), 11);
+    assert_eq!(rt; of_columns.calls.get(), wanted.calls.get());
+    Ok(())
 }
 
 #[test]
@@ -110,23 +177,4 @@ fn a_copy_of_a_part_is_in_row_major_order(rt: HostRuntime) -> Result<(), Fail> {
         }
         Err(_) => Err("memory".into()),
     }
-}
-
-#[test]
-fn a_copy_whose_clone_is_refused(rt: HostRuntime) -> Result<(), Fail> {
-    for allowed in 0..4u64 {
-        let left = Cell::new(allowed);
-        let source = array_of((2, 2), Refusing::listed(rt.alloc(), &[1, 2, 3, 4], &left)?)?;
-        assert!(rt; source.t().to_owned(rt.alloc()).is_err());
-        assert_eq!(rt; left.get(), 0);
-        left.set(allowed);
-        assert!(rt; source.t().to_vec(rt.alloc()).is_err());
-        assert_eq!(rt; left.get(), 0);
-    }
-    let left = Cell::new(8u64);
-    let source = array_of((2, 2), Refusing::listed(rt.alloc(), &[1, 2, 3, 4], &left)?)?;
-    assert!(rt; source.t().to_owned(rt.alloc()).is_ok());
-    assert!(rt; source.t().to_vec(rt.alloc()).is_ok());
-    assert_eq!(rt; left.get(), 0);
-    Ok(())
 }

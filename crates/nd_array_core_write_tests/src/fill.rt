@@ -1,8 +1,7 @@
-//! One value at every index, and a clone that is refused on the way.
+//! One value at every index.
 
 use nd_shape_and_slice::{Axis, Slice, slice_fits};
-use nd_test_arrays::{Refusing, array_of, numbers};
-use std::cell::Cell;
+use nd_test_arrays::{array_of, numbers};
 use std::test::Fail;
 
 #[test]
@@ -28,25 +27,6 @@ fn fills_every_index(rt: HostRuntime) -> Result<(), Fail> {
         for column in 0..2 {
             assert_eq!(rt; array.get([row, column]).copied(), Some(7));
         }
-    }
-    Ok(())
-}
-
-#[test]
-fn keeps_old_or_new_where_a_clone_is_refused(rt: HostRuntime) -> Result<(), Fail> {
-    let left = Cell::new(2u64);
-    let mut array = array_of(4, Refusing::listed(rt.alloc(), &[1, 2, 3, 4], &left)?)?;
-    assert!(rt;
-        array
-            .fill(Refusing {
-                number: 9,
-                left: &left
-            })
-            .is_err()
-    );
-    for k in 0..4 {
-        let element = array.get(k).ok_or("outside")?;
-        assert!(rt; element.number == 9 || element.number == k as u64 + 1);
     }
     Ok(())
 }

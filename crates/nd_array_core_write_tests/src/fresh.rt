@@ -2,8 +2,7 @@
 
 use nd_array_core::{Array, ArrayD};
 use nd_shape_and_slice::{Ix1, Ix2, IxDyn, ShapeBuilder};
-use nd_test_arrays::{Refusing, array_of, listed, rows_listed};
-use std::cell::Cell;
+use nd_test_arrays::{array_of, listed, rows_listed};
 use std::test::Fail;
 
 #[test]
@@ -46,38 +45,7 @@ fn one_value_without_elements(rt: HostRuntime) -> Result<(), Fail> {
     match Array::from_elem(rt.alloc(), (2, 0), 5u64) {
         Ok(none) => {
             assert_eq!(rt; none.strides(), [0, 0].as_slice());
-            assert_eq!(rt; none.len(), 0);
-            Ok(())
-        }
-        Err(_) => Err("memory".into()),
-    }
-}
-
-#[test]
-fn one_value_whose_clone_is_refused(rt: HostRuntime) -> Result<(), Fail> {
-    for allowed in 0..3u64 {
-        let left = Cell::new(allowed);
-        let refused = Array::from_elem(
-            rt.alloc(),
-            (2, 2),
-            Refusing {
-                number: 9,
-                left: &left,
-            },
-        );
-        assert!(rt; refused.is_err());
-    }
-    let left = Cell::new(3u64);
-    match Array::from_elem(
-        rt.alloc(),
-        (2, 2),
-        Refusing {
-            number: 9,
-            left: &left,
-        },
-    ) {
-        Ok(array) => {
-            assert_eq!(rt; array.get([1, 1]).ok_or("outside")?.number, 9);
+            assert_eq!(rt; none.into_raw_vec().len(), 0);
             Ok(())
         }
         Err(_) => Err("memory".into()),

@@ -18,8 +18,14 @@ mod lent_slices;
 #[cfg(test)]
 mod owned;
 #[cfg(test)]
+mod refused_clones;
+#[cfg(test)]
+mod refused_memory;
+#[cfg(test)]
 mod scoped_calls;
 #[cfg(test)]
 mod several_slices;
+#[cfg(test)]
+mod sparing;
 #[cfg(test)]
 mod views_of_slices;

@@ -2,14 +2,13 @@
 
 use nd_array_core::Array2;
 use nd_shape_and_slice::Axis;
-use nd_test_arrays::{Refusing, array_of, numbers, rows_listed};
-use std::cell::Cell;
+use nd_test_arrays::{Refusing, Tally, array_of, numbers, rows_listed};
 use std::test::Fail;
 
 #[test]
 fn an_owned_array_is_kept_as_it_is(rt: HostRuntime) -> Result<(), Fail> {
-    let left = Cell::new(0u64);
-    let mut source = array_of((2, 2), Refusing::listed(rt.alloc(), &[1, 2, 3, 4], &left)?)?;
+    let tally = Tally::allowing(0);
+    let mut source = array_of((2, 2), Refusing::listed(rt.alloc(), &[1, 2, 3, 4], &tally)?)?;
     source.invert_axis(Axis(0));
     match source.into_owned(rt.alloc()) {
         Ok(array) => {
@@ -38,10 +37,11 @@ fn a_view_is_copied(rt: HostRuntime) -> Result<(), Fail> {
 
 #[test]
 fn a_view_whose_clone_is_refused(rt: HostRuntime) -> Result<(), Fail> {
-    let left = Cell::new(3u64);
-    let source = array_of((2, 2), Refusing::listed(rt.alloc(), &[1, 2, 3, 4], &left)?)?;
+    let tally = Tally::allowing(3);
+    let source = array_of((2, 2), Refusing::listed(rt.alloc(), &[1, 2, 3, 4], &tally)?)?;
     assert!(rt; source.view().into_owned(rt.alloc()).is_err());
-    assert_eq!(rt; left.get(), 0);
+    assert_eq!(rt; tally.left(), 0);
+    assert_eq!(rt; tally.living(), Some(4));
     Ok(())
 }
 

@@ -1,4 +1,4 @@
-//! Calls on elements whose clones are refused.
+//! Calls on elements whose clones are refused. Each element is dropped once.
 
 ghost use Rattle.std.specs.Prelude.{◌≡◌};
 
@@ -6,17 +6,13 @@ use nd_array_core::Array;
 use nd_run::run::{RunFault, run};
 use nd_run::{Act, Call, Question, Reply, Step};
 use nd_shape_and_slice::{IxDyn, Slice};
-use nd_test_arrays::Refusing;
+use nd_test_arrays::{Refusing, Tally};
 use std::alloc::Global;
-use std::cell::Cell;
 use std::test::Fail;
 
 // The array [10, 20, 30].
-fn three_numbers<'a>(
-    alloc: Global,
-    left: &'a Cell<u64>,
-) -> Result<Array<Refusing<'a>, IxDyn>, Fail> {
-    let items = Refusing::listed(alloc, &[10, 20, 30], left)?;
+fn three_numbers<'a>(alloc: Global, tally: &'a Tally) -> Result<Array<Refusing<'a>, IxDyn>, Fail> {
+    let items = Refusing::listed(alloc, &[10, 20, 30], tally)?;
     Ok(
         Array::from_shape_vec(IxDyn::new(&[3]), items)
             .ok()
@@ -45,8 +41,8 @@ fn asked_from_the_back<A: Clone + Eq + Drop>(
     }
 }
 
-fn replies_with(alloc: Global, left: &Cell<u64>) -> Result<(usize, bool), Fail> {
-    asked_from_the_back(alloc, three_numbers(alloc, left)?)
+fn replies_with(alloc: Global, tally: &Tally) -> Result<(usize, bool), Fail> {
+    asked_from_the_back(alloc, three_numbers(alloc, tally)?)
 }
 
 #[test]
@@ -58,8 +54,9 @@ fn refused_clones(rt: HostRuntime) -> Result<(), Fail> {
         (3, 2, false),
         (4, 3, true),
     ] {
-        let left = Cell::new(allowed);
-        assert_eq!(rt; replies_with(rt.alloc(), &left)?, (replies, whole));
+        let tally = Tally::allowing(allowed);
+        assert_eq!(rt; replies_with(rt.alloc(), &tally)?, (replies, whole));
+        assert_eq!(rt; tally.living(), Some(0));
     }
     Ok(())
 }
@@ -108,12 +105,12 @@ fn written<A: Clone + Eq + Drop>(
     }
 }
 
-fn writes_with(alloc: Global, left: &Cell<u64>) -> Result<(usize, bool), Fail> {
-    let start = three_numbers(alloc, left)?;
-    let one = Refusing { number: 1, left };
-    let two = Refusing { number: 2, left };
-    let three = Refusing { number: 3, left };
-    let four = Refusing { number: 4, left };
+fn writes_with(alloc: Global, tally: &Tally) -> Result<(usize, bool), Fail> {
+    let start = three_numbers(alloc, tally)?;
+    let one = Refusing::new(1, tally);
+    let two = Refusing::new(2, tally);
+    let three = Refusing::new(3, tally);
+    let four = Refusing::new(4, tally);
     let (replies, end) = written(alloc, start, one, two, three, four)?;
     match end {
         Some(array) => {
@@ -138,8 +135,9 @@ fn refused_clones_of_writes(rt: HostRuntime) -> Result<(), Fail> {
         (6, 3, false),
         (7, 4, true),
     ] {
-        let left = Cell::new(allowed);
-        assert_eq!(rt; writes_with(rt.alloc(), &left)?, (replies, whole));
+        let tally = Tally::allowing(allowed);
+        assert_eq!(rt; writes_with(rt.alloc(), &tally)?, (replies, whole));
+        assert_eq!(rt; tally.living(), Some(0));
     }
     Ok(())
 }

@@ -42,8 +42,20 @@ pub fn listed<S: Data<Elem = u64>>(
     Ok(items)
 }
 
-/// The elements of an array with two axes, row by row; none where it has another number of axes.
-pub fn rows_listed<S: Data<Elem = u64>, D: Dimension>(
+/// An element that has a number.
+pub trait Numbered {
+    /// Its number.
+    fn number(&self) -> u64;
+}
+
+impl Numbered for u64 {
+    fn number(&self) -> u64 {
+        *self
+    }
+}
+
+/// The numbers of an array with two axes, row by row; none where it has another number of axes.
+pub fn rows_listed<A: Numbered, S: Data<Elem = A>, D: Dimension>(
     alloc: Global,
     array: &ArrayBase<S, D>,
 ) -> Result<Vec<u64>, Fail>
@@ -54,7 +66,7 @@ where
     if let [rows, columns] = array.shape() {
         for i in 0..*rows {
             for j in 0..*columns {
-                items.push(*array.get([i, j]).ok_or("outside")?)?;
+                items.push(array.get([i, j]).ok_or("outside")?.number())?;
             }
         }
     }

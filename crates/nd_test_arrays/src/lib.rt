@@ -5,5 +5,5 @@
 mod elements;
 mod refusing;
 
-pub use elements::{array_of, listed, numbers, part, rows_listed};
-pub use refusing::Refusing;
+pub use elements::{Numbered, array_of, listed, numbers, part, rows_listed};
+pub use refusing::{Refusing, Tally};

@@ -1,36 +1,118 @@
-//! Numbers whose clones are refused when their turn comes.
+//! Numbers whose clones are refused when their turn comes, and of which it is known whether each is dropped once.
 
 ghost use Rattle.std.specs.Prelude.{◌≡◌, nat_eq};
 ghost use Rattle.std.specs.Ordering.{on};
 ghost use Rattle.std.specs.Cmp.Rules.{comparing};
 ghost use Rattle.std.proofs.Common.{rules};
 
+use crate::elements::Numbered;
 use std::alloc::{AllocError, Global};
 use std::cell::Cell;
 use std::test::Fail;
 
-/// A number whose clones are counted down: the one that finds 0 left is refused. Two are equal if their numbers are.
+/// What the numbers of a test share: how many clones are left, and which numbers are there.
 #[derive(Drop)]
+pub struct Tally {
+    left: Cell<u64>,
+    // How many numbers were made so far, and a bit for each that is there.
+    made: Cell<u32>,
+    living: Cell<u64>,
+    // Whether one was dropped that wasn't there, or more were made than there are bits.
+    amiss: Cell<bool>,
+}
+
+impl Tally {
+    /// A tally that allows so many clones.
+    pub fn allowing(clones: u64) -> Tally {
+        Tally {
+            left: Cell::new(clones),
+            made: Cell::new(0),
+            living: Cell::new(0),
+            amiss: Cell::new(false),
+        }
+    }
+
+    /// How many clones are left.
+    pub fn left(&self) -> u64 {
+        self.left.get()
+    }
+
+    /// How many numbers were made and not yet dropped; None if one was dropped twice, or more than 64 were made.
+    pub fn living(&self) -> Option<u32> {
+        if self.amiss.get() {
+            None
+        } else {
+            Some(self.living.get().count_ones())
+        }
+    }
+
+    // A number comes in: which one it is.
+    fn enter(&self) -> u32 {
+        let nth = self.made.get();
+        if nth >= 64 {
+            self.amiss.set(true);
+        }
+        self.made.set(nth.wrapping_add(1));
+        self.living.set(self.living.get() | 1u64.wrapping_shl(nth));
+        nth
+    }
+
+    // The number that came in as that one is dropped.
+    fn leave(&self, nth: u32) {
+        let bit = 1u64.wrapping_shl(nth);
+        if self.living.get() & bit == 0 {
+            self.amiss.set(true);
+        }
+        self.living.set(self.living.get() & !bit);
+    }
+}
+
+/// A number whose clones are counted down by its tally: the one that finds 0 left is refused. Two are equal if their
+/// numbers are. Which one it is to its tally stands in a cell, so that a proof sees a clone as its original.
 pub struct Refusing<'a> {
     pub number: u64,
-    pub left: &'a Cell<u64>,
+    nth: Cell<u32>,
+    tally: &'a Tally,
 }
 
 impl<'a> Refusing<'a> {
-    /// These numbers, with one count of the clones that are left.
+    /// A number that comes into a tally.
+    pub fn new(number: u64, tally: &'a Tally) -> Refusing<'a> {
+        Refusing {
+            number,
+            nth: Cell::new(tally.enter()),
+            tally,
+        }
+    }
+
+    /// These numbers, in one tally.
     pub fn listed(
         alloc: Global,
         numbers: &[u64],
-        left: &'a Cell<u64>,
+        tally: &'a Tally,
     ) -> Result<Vec<Refusing<'a>>, Fail> {
         let mut items = Vec::new(alloc);
         for number in numbers {
-            items.push(Refusing {
-                number: *number,
-                left,
-            })?;
+            items.push(Refusing::new(*number, tally))?;
         }
         Ok(items)
+    }
+}
+
+impl<'a> Numbered for Refusing<'a> {
+    fn number(&self) -> u64 {
+        self.number
+    }
+}
+
+impl<'a> Drop for Refusing<'a> {
+    fn drop(self) {
+        self.tally.leave(self.nth.get());
+        let Refusing {
+            number: _,
+            nth: _,
+            tally: _,
+        } = self;
     }
 }
 
@@ -52,14 +134,15 @@ impl<'a> Clone for Refusing<'a> {
     ghost is_clone = { λ x y. y ≡ x };
 
     fn clone(&self) -> Result<Self, AllocError> {
-        let left = self.left.get();
+        let left = self.tally.left();
         if left == 0 {
             return Err(AllocError);
         }
-        self.left.set(left - 1);
+        self.tally.left.set(left - 1);
         Ok(Refusing {
             number: self.number,
-            left: self.left,
+            nth: Cell::new(self.tally.enter()),
+            tally: self.tally,
         })
     }
 }

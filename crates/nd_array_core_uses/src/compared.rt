@@ -1,0 +1,94 @@
+//! Images compared pixel by pixel.
+ghost use Rattle.std.specs.Prelude.{◌↔◌, ◌≡◌, ◌<◌, true, nat_eq, IsTrue, slice_index};
+ghost use Rattle.nd_array_core.specs.Equality.{EqualEverywhere};
+ghost use Rattle.nd_array_core.specs.Meaning.{meaning_of, shape_of};
+ghost use Rattle.nd_array_core.specs.Coordinates.{element_of_2};
+ghost use Rattle.nd_array_core_uses.specs.Images.{SamePixels};
+
+use nd_array_core::laws::nothing_outside;
+use nd_array_core::{ArrayBase, Data};
+use nd_shape_and_slice::Ix2;
+
+/// Whether two images of numbers have the same pixel at a row and a column of both: it takes that for them to be equal.
+fn pixel_equal<S: Data<Elem = u64>>(
+    one: &ArrayBase<S, Ix2>,
+    other: &ArrayBase<S, Ix2>,
+    row: usize,
+    column: usize,
+) -> bool
+    requires shape { shape_of one.now ≡ shape_of other.now }
+    requires row { row < slice_index (shape_of one.now) 0 }
+    requires column { column < slice_index (shape_of one.now) 1 }
+    ensures same { IsTrue result ↔ (element_of_2 one.now row column ≡ element_of_2 other.now row column) }
+    ensures needed { EqualEverywhere nat_eq (meaning_of one.now) (meaning_of other.now) → IsTrue result }
+{
+    let (_rows, _columns) = one.dim();
+    match (one.get([row, column]), other.get([row, column])) {
+        (Some(x), Some(y)) => *x == *y,
+        _ => unreachable!(),
+    }
+}
+
+/// Whether two images of numbers have the same shape and, pixel by pixel, the same numbers.
+#[tactic(auto, using(crate::proofs::Images::equal_everywhere))]
+pub fn pixels_equal<S: Data<Elem = u64>>(one: &ArrayBase<S, Ix2>, other: &ArrayBase<S, Ix2>) -> bool
+    ensures pixels { IsTrue result ↔ SamePixels (meaning_of one.now) (meaning_of other.now) }
+    ensures everywhere { IsTrue result ↔ EqualEverywhere nat_eq (meaning_of one.now) (meaning_of other.now) }
+{
+    nothing_outside(one);
+    let (rows, columns) = one.dim();
+    let (their_rows, their_columns) = other.dim();
+    if their_rows != rows {
+        return false;
+    }
+    if their_columns != columns {
+        return false;
+    }
+    for row in 0..rows {
+        for column in 0..columns {
+            if !pixel_equal(one, other, row, column) {
+                return false;
+            }
+        }
+    }
+    true
+}
+
+/// Whether `==` answers what the comparison pixel by pixel answers, which it always does.
+pub fn equal_either_way<S: Data<Elem = u64>>(
+    one: &ArrayBase<S, Ix2>,
+    other: &ArrayBase<S, Ix2>,
+) -> bool
+    ensures { result ≡ true }
+{
+    pixels_equal(one, other) == (*one == *other)
+}
+
+#[cfg(test)]
+mod tests {
+    use super::*;
+    use nd_array_core::Array2;
+    use nd_shape_and_slice::ShapeBuilder;
+    use std::test::Fail;
+
+    // 1 2 / 3 4 beside other images, by lengths, strides and what is stored
+    #[test]
+    fn images_compared(rt: HostRuntime) -> Result<(), Fail> {
+        let items = Vec::from_slice(rt.alloc(), &[1, 2, 3, 4])?;
+        let image: Array2<u64> = Array2::from_shape_vec((2, 2), items).ok().ok_or("shape")?;
+        for (lengths, strides, stored, wanted) in [
+            ((2, 2), [1, 2], [1, 3, 2, 4], true),
+            ((2, 2), [2, 1], [1, 2, 3, 5], false),
+            ((2, 2), [2, 1], [0, 2, 3, 4], false),
+            ((1, 2), [2, 1], [1, 2, 3, 4], false),
+            ((2, 1), [2, 1], [1, 2, 3, 4], false),
+        ] {
+            let items = Vec::from_slice(rt.alloc(), &stored)?;
+            let shape = lengths.strides(&strides);
+            let other: Array2<u64> = Array2::from_shape_vec(shape, items).ok().ok_or("shape")?;
+            assert_eq!(rt; pixels_equal(&image, &other), wanted);
+            assert!(rt; equal_either_way(&image, &other));
+        }
+        Ok(())
+    }
+}

@@ -1,0 +1,54 @@
+//! Copies of views, and that they are equal to what they were made from.
+ghost use Rattle.std.specs.Prelude.{◌≡◌, ℕ, reverse, IsTrue, IfOk};
+ghost use Rattle.nd_array_core.specs.Meaning.{meaning_of, shape_of};
+ghost use Rattle.nd_array_core.specs.Coordinates.{element_of_2};
+ghost use Rattle.nd_array_core_uses.specs.Images.{IsTransposed};
+
+use nd_array_core::{Array2, ArrayBase, Data};
+use nd_shape_and_slice::{Ix2, NoMemory};
+use std::alloc::Global;
+
+/// A matrix of its own with the columns of another as its rows.
+pub fn transposed_copy<A: Clone + Drop, S: Data<Elem = A>>(
+    alloc: Global,
+    matrix: &ArrayBase<S, Ix2>,
+) -> Result<Array2<A>, NoMemory>
+    requires clones { (x copy : A) → A.is_clone x copy → copy ≡ x }
+    ensures shape { IfOk result (λ copy. shape_of copy ≡ reverse (shape_of matrix.now)) }
+    ensures elements { IfOk result (λ copy. (i j : ℕ) → element_of_2 copy i j ≡ element_of_2 matrix.now j i) }
+    ensures transposed { IfOk result (λ copy. IsTransposed (meaning_of matrix.now) (meaning_of copy)) }
+{
+    let (_rows, _columns) = matrix.dim();
+    matrix.t().to_owned(alloc)
+}
+
+/// Whether a copy of the transpose equals the transpose, which it always does.
+pub fn transposed_copy_is_equal<A: Clone + Eq + Drop, S: Data<Elem = A>>(
+    alloc: Global,
+    matrix: &ArrayBase<S, Ix2>,
+) -> Result<bool, NoMemory>
+    requires clones { (x copy : A) → A.is_clone x copy → copy ≡ x }
+    ensures { IfOk result (λ equal. IsTrue equal) }
+{
+    let copy = transposed_copy(alloc, matrix)?;
+    Ok(copy.view() == matrix.t())
+}
+
+#[cfg(test)]
+mod tests {
+    use super::*;
+    use nd_array_core::ArrayView2;
+    use std::test::Fail;
+
+    #[test]
+    fn copies_of_a_transpose(rt: HostRuntime) -> Result<(), Fail> {
+        let rows: &[[u64; 3]] = &[[1, 2, 3], [4, 5, 6]];
+        let matrix = ArrayView2::from(rows);
+        let copy = transposed_copy(rt.alloc(), &matrix)?;
+        assert_eq!(rt; copy.shape(), [3, 2].as_slice());
+        assert_eq!(rt; copy.get([2, 0]).copied(), Some(3));
+        assert_eq!(rt; copy.get([0, 1]).copied(), Some(4));
+        assert!(rt; transposed_copy_is_equal(rt.alloc(), &matrix)?);
+        Ok(())
+    }
+}
