@@ -34,7 +34,3 @@ module _ (E : RattleType) {D T P R L M : Type 0} {s : data_trait.Ghosts (RegionR
   -- the rows that the view shows end with the elements of its region, and the others as they were
   abbrev pub rows_follow_view : (m : ℕ) → MutBor (List (List E.Denot)) → ArrayBase (RegionRepr (Region E.Denot)) D T E.Denot P R L M s d n r t → Fml
   rows_follow_view m rows view = follows (Array (Array E m) 0) (Array E 0) rows.ghost_name (view_name view) (rows_rewritten m (row_count (shape_of view)) rows.now)
-
-  -- the same, where the rows stand in an array of c rows
-  abbrev pub array_follows_view : (c m : ℕ) → MutBor (List (List E.Denot)) → ArrayBase (RegionRepr (Region E.Denot)) D T E.Denot P R L M s d n r t → Fml
-  array_follows_view c m rows view = follows (Array (Array E m) c) (Array E 0) rows.ghost_name (view_name view) (rows_rewritten m (row_count (shape_of view)) rows.now)
