@@ -76,26 +76,3 @@ module _ {M : Type 1} {𝓤 : Ura M} (𝓛 : Logic 𝓤) (ℓ : Lifetime) (κ : 
       use1 𝓛 (later (some (λ (δ : GName). ‵ (fobs δ ((coded_list Row.coded).code front)) ⊛ ‵ (fbor κ (Body (Arr (mem Row) (length front)) b o δ)) ⊛ ‵ (flft κ q) ⊛ ‵ (follows (Array Row 0) (Array Row 0) γ δ with_back))))
       (takes_part 𝓛 (Arr (mem Row) (length whole)) (Arr (mem Row) (length front)) with_back κ q b o b o γ (sem 𝓛 (cells (mem Row) back b (at o (mem Row).size (length front)))) put ((coded_list Row.coded).code whole) ((coded_list Row.coded).code whole) front) $ await ! tt $ pick ! (λ δ. split3 ! $
       use2 𝓛 (‵ ((MutSlice ℓ κ Row).own_val (record { ref_ptr = (b, o); ghost_name = δ; now = front }) (slice_val (b, o) (length front) ∷ []))) (slice_of 𝓛 Row ℓ κ b o δ front rm) $ now ! $ show ! FirstLent δ $ check ! long $ done !))
-
--- an array is lent as the slice of its elements
-module _ {M : Type 1} {𝓤 : Ura M} (𝓛 : Logic 𝓤) (ℓ : Lifetime) (κ : Lft) (q : Share) (b o : ℕ) (γ : GName) (R : RattleType) (single : Single R.mir) (m : ℕ) (ys : List R.Denot) where
-  open 𝓛 use {H, A}
-
-  abbrev pub whole_lent : GName → Item 𝓤
-  whole_lent δ = given (length ys ≡ m) (‵ ((MutSlice ℓ κ R).own_val (record { ref_ptr = (b, o); ghost_name = δ; now = ys }) (slice_val (b, o) (length ys) ∷ [])) ⊛ ‵ (flft κ q) ⊛ ‵ (follows (Array R m) (Array R 0) γ δ (λ ws. ws)))
-
-  abbrev WholeLent : GName → SProp 𝓤
-  WholeLent δ = guard 𝓤 (length ys ≡ m) (SliceLent 𝓛 ℓ κ q b o γ (Array R m) R (λ ws. ws) ys δ)
-
-  put_array : length ys ≡ m → (ws : List R.Denot) → length ws ≡ length ys → ent 𝓤 (sep 𝓤 (sem 𝓛 (cells (mem R) ws b o)) (emp 𝓤)) (sem 𝓛 ((mem (Array R m)).own_at ws b o))
-  put_array e ws l = qed 𝓛 (‵ (cells (mem R) ws b o) ∷ raw (emp 𝓤) ∷ []) ∵ keep ! (0 ∷ []) $ by ! (array_in 𝓛 R single m b ws o (l ∙ e))
-
-  pub lends_whole : (length ys ≡ m → Room R (length ys)) → (vs : List Val)
-      → ent 𝓤 (sep 𝓤 (sem 𝓛 ((MutRef ℓ κ (Array R m)).own_val (record { ref_ptr = (b, o); ghost_name = γ; now = ys }) vs)) (A.lft κ q)) (H.⇛ (ex 𝓤 WholeLent))
-  lends_whole rm vs =
-      qed 𝓛 (‵ ((MutRef ℓ κ (Array R m)).own_val (record { ref_ptr = (b, o); ghost_name = γ; now = ys }) vs) ∷ ‵ (flft κ q) ∷ []) ∵ updating ! $ fsplit3 ! $ drop ! $
-      open_ref ! tt (mem (Array R m)) {b = b} {o = o} $ use1 𝓛 (given (length ys ≡ m) (‵ (cells (mem R) ys b o))) (array_out 𝓛 R single m b ys o) $ learn ! (λ e.
-      nothing ! $ move ! (2 ∷ 3 ∷ 4 ∷ 1 ∷ 0 ∷ []) $ group ! 5 $
-      use1 𝓛 (later (some (λ (δ : GName). raw (SliceLent 𝓛 ℓ κ q b o γ (Array R m) R (λ ws. ws) ys δ))))
-      (lends_Elements 𝓛 (Array R m) R (λ ws. ws) ℓ κ q b o b o γ ys (rm e) (emp 𝓤) (put_array e) ((Array R m).coded.code ys) ((Array R m).coded.code ys)) $ await ! tt $ pick ! (λ δ.
-      now ! $ show ! WholeLent δ $ check ! e $ done !))
