@@ -12,21 +12,19 @@ use base.Fml.{Lft, GName, Share, flft, fobs, fbor}
 use borrow.Table.Elements.{at, cut_app, join_app}
 use contract.Monad.{fact_i, fact_use}
 use types.Logic.{Logic, sem}
-use types.Kit.{Item, ‵, ◌⊛◌, raw, given, later, some, ◌$◌, ◌∵◌, !, qed, by, move, keep, drop, use1, use2, split, split3, fsplit, fsplit3, fjoin, feq_l, feq_i, rewrite, learn, check, group, pick, updating, await, now, show, done}
+use types.Kit.{Item, ‵, ◌⊛◌, given, later, some, ◌$◌, ◌∵◌, !, qed, by, move, keep, drop, use1, use2, split, split3, fsplit, fsplit3, fjoin, feq_l, feq_i, rewrite, learn, check, group, pick, updating, await, now, show, done}
 use types.SemTy.{cells, Arr, Body}
 use types.Follow.{takes_part}
 use types.Mut.{open_ref}
 use denote.Array.{Array}
 use denote.ArrayMemory.{Single}
 use denote.Follow.{follows}
-use denote.FollowSlice.{heres_id, slice_of, lends_Elements}
+use denote.FollowSlice.{heres_id, slice_of}
 use denote.Memory.{mem}
 use denote.RattleType.{RattleType}
-use denote.Ref.{MutRef}
 use denote.Slice.{MutSlice, Room, slice_val}
-use denote.Steps.{nothing}
 use Rattle.std.specs.List.{flat_map}
-use Rattle.std.proofs.slice.Relends.{runs_out, array_in, array_out, SliceLent}
+use Rattle.std.proofs.slice.Relends.{runs_out, SliceLent}
 
 -- rows of n elements have n elements each
 long_rows : {M : Type 1} {𝓤 : Ura M} (𝓛 : Logic 𝓤) (R : RattleType) (single : Single R.mir) (n b : ℕ) (ys : List (List R.Denot)) (o : ℕ)
