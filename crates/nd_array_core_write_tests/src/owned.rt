@@ -14,7 +14,8 @@ fn an_owned_array_is_kept_as_it_is(rt: HostRuntime) -> Result<(), Fail> {
         Ok(array) => {
             assert_eq!(rt; array.strides(), [-2, 1].as_slice());
             assert_eq!(rt; array.first().map(|x| x.number), Some(3));
-            assert_eq!(rt; array.into_raw_vec()[0].number, 1);
+            let stored = array.into_raw_vec();
+            assert_eq!(rt; stored.first().map(|x| x.number), Some(1));
             Ok(())
         }
         Err(_) => Err("an owned array takes no memory".into()),
