@@ -15,7 +15,8 @@ use nd_layout::{Lane, Lanes};
 use nd_shape_and_slice::{Dimension, NoMemory, StrideList};
 
 /// Writes a clone of the value at each place of a lane.
-fn fill_lane<S: DataMut>(storage: &mut S, lane: Lane, value: &S::Elem) -> Result<(), NoMemory>
+#[inline(always)]
+fn fill_along<S: DataMut>(storage: &mut S, lane: Lane, value: &S::Elem) -> Result<(), NoMemory>
 where
     S::Elem: Clone + Drop,
     requires clones { (copy : S.Elem) → S.Elem.is_clone value.now copy → copy ≡ value.now }
@@ -35,7 +36,30 @@ where
     Ok(())
 }
 
+/// The same; where the places lie side by side the compiler is told so, and may write them as one block.
+#[inline(always)]
+fn fill_lane<S: DataMut>(storage: &mut S, lane: Lane, value: &S::Elem) -> Result<(), NoMemory>
+where
+    S::Elem: Clone + Drop,
+    requires clones { (copy : S.Elem) → S.Elem.is_clone value.now copy → copy ≡ value.now }
+    requires holds { (k : ℕ) → k < lane.count → names_place (S.stored storage.old) (pos lane.place +ℤ (pos k *ℤ lane.stride)) ≡ true }
+    ensures filled { OnOk result (IsFilledTo (λ k. pos lane.place +ℤ (pos k *ℤ lane.stride)) lane.count value.now (S.stored storage.old) (S.stored storage.new)) }
+    ensures stopped { OnErr result (IsPartlyFilled (λ k. pos lane.place +ℤ (pos k *ℤ lane.stride)) lane.count value.now (S.stored storage.old) (S.stored storage.new)) }
+    ensures frame { S.frame storage.new ≡ S.frame storage.old }
+{
+    if lane.stride == 1 {
+        let beside = Lane {
+            place: lane.place,
+            count: lane.count,
+            stride: 1,
+        };
+        return fill_along(storage, beside, value);
+    }
+    fill_along(storage, lane, value)
+}
+
 /// Writes a clone of the value at the place of each index of a layout.
+#[inline(always)]
 fn fill_places<S: DataMut>(
     storage: &mut S,
     first: usize,

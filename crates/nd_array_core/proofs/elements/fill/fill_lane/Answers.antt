@@ -1,16 +1,23 @@
-use Rattle.std.proofs.Common.{◌≡◌, ◌∙◌, ℕ, pos, ◌+ℤ◌, ◌*ℤ◌, ap}
-use Rattle.nd_array_core.specs.Places.{written_at}
-use Rattle.nd_array_core.proofs.Filling.{filled_more}
+use Rattle.std.proofs.Common.{rules, ◌≡◌, true, pos, ◌+ℤ◌, ◌*ℤ◌, OnOk, OnErr, sym, subst}
+use Rattle.nd_array_core.specs.Filled.{IsFilledTo, IsPartlyFilled}
+use Rattle.nd_array_core.specs.Places.{names_place}
 use Rattle.nd_array_core.proofs.elements.fill.fill_lane.Goals as goal
 
-pub loop-nth-preserved : goal.loop-nth-preserved
-loop-nth-preserved g c =
+pub fill_along-requires-clause-holds : goal.fill_along-requires-clause-holds
+fill_along-requires-clause-holds g c k below =
+    let beside : c.args.lane.stride ≡ pos 1 = search rules in
+    subst (λ s. names_place (g.S.Data.stored c.args.storage.now) (pos c.args.lane.place +ℤ (pos k *ℤ s)) ≡ true) beside (c.requires.holds k below)
+
+pub returns-then-lane-eq1-clause-filled : goal.returns-then-lane-eq1-clause-filled
+returns-then-lane-eq1-clause-filled g c =
     let lane = c.args.lane in
-    let old = g.S.Data.stored c.args.storage.now in
-    let now = g.S.Data.stored c.loop-nth.storage in
-    let new = g.S.Data.stored c.replace.new.self in
-    let copied : c.in-Ok.copy ≡ c.args.value.now = c.requires.clones c.in-Ok.copy c.in-Ok.ensures.cases in
-    let is : (q : ℕ) → new q ≡ written_at now c.place_of.result c.args.value.now q = λ q. c.replace.ensures.new q ∙ ap (λ x. written_at now c.place_of.result x q) copied in (
-      filled_more c.args.value.now (λ k. pos lane.place +ℤ (pos k *ℤ lane.stride)) old now new c.loop-nth.nth c.place_of.result c.place_of.ensures is c.loop-nth.invariant.0,
-      c.replace.ensures.frame ∙ c.loop-nth.invariant.1,
-    )
+    let beside : lane.stride ≡ pos 1 = search rules in
+    subst (λ s. OnOk c.fill_along.result (IsFilledTo (λ k. pos lane.place +ℤ (pos k *ℤ s)) lane.count c.args.value.now (g.S.Data.stored c.args.storage.now) (g.S.Data.stored c.fill_along.new.storage)))
+    (sym beside) c.fill_along.ensures.filled
+
+pub returns-then-lane-eq1-clause-stopped : goal.returns-then-lane-eq1-clause-stopped
+returns-then-lane-eq1-clause-stopped g c =
+    let lane = c.args.lane in
+    let beside : lane.stride ≡ pos 1 = search rules in
+    subst (λ s. OnErr c.fill_along.result (IsPartlyFilled (λ k. pos lane.place +ℤ (pos k *ℤ s)) lane.count c.args.value.now (g.S.Data.stored c.args.storage.now) (g.S.Data.stored c.fill_along.new.storage)))
+    (sym beside) c.fill_along.ensures.stopped

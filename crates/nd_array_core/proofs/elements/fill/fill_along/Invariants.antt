@@ -1,6 +1,6 @@
 use Rattle.std.specs.Prelude.{◌≡◌, pos, ◌+ℤ◌, ◌*ℤ◌}
 use Rattle.nd_array_core.specs.Filled.{IsFilledTo}
-use Rattle.nd_array_core.proofs.elements.fill.fill_lane.Given as goal
+use Rattle.nd_array_core.proofs.elements.fill.fill_along.Given as goal
 
 abbrev pub invariant-loop-nth : goal.invariant-loop-nth
 invariant-loop-nth g l =
