@@ -147,20 +147,23 @@ fn microseconds() -> f64 {
 }
 
 /// The microseconds of one call.
-fn time_of(call: &mut dyn FnMut(usize) -> u64) -> f64 {
-    let calls = 5;
+fn time_of(calls: usize, call: &mut dyn FnMut(usize) -> u64) -> f64 {
     let start = microseconds();
     assert_ne!(black_box(call(black_box(calls))), 0, "arguments that don't fit");
     (microseconds() - start) / calls as f64
 }
 
-/// The least over many repeats, which take turns: other work on the machine then slows both alike.
-fn row(name: &str, plain: &mut dyn FnMut(usize) -> u64, here: &mut dyn FnMut(usize) -> u64) {
+/// The least over several repeats of some calls, which take turns: other work on the machine then slows both alike.
+fn row_of(name: &str, repeats: usize, calls: usize, plain: &mut dyn FnMut(usize) -> u64, here: &mut dyn FnMut(usize) -> u64) {
     let mut least = (f64::MAX, f64::MAX);
-    for _ in 0..60 {
-        least = (least.0.min(time_of(plain)), least.1.min(time_of(here)));
+    for _ in 0..repeats {
+        least = (least.0.min(time_of(calls, plain)), least.1.min(time_of(calls, here)));
     }
     println!("{name}\tplain\t{:.1}\n{name}\there\t{:.1}", least.0, least.1);
+}
+
+fn row(name: &str, plain: &mut dyn FnMut(usize) -> u64, here: &mut dyn FnMut(usize) -> u64) {
+    row_of(name, 60, 5, plain, here);
 }
 
 /// The same value at each index, by every `step`-th column.
@@ -308,8 +311,11 @@ fn owned() {
     let (rows, columns) = black_box((ROWS, COLUMNS));
     let name = "`fill` of `i64`, an owned array";
     let mut items = vec![0i64; rows * columns];
-    row(
+    // The array is made anew in each repeat, so each has many calls.
+    row_of(
         name,
+        10,
+        60,
         &mut |calls| {
             for call in 0..calls {
                 plain_fill(black_box(&mut items[..]), rows, columns, 1, call as i64);
