@@ -1,6 +1,6 @@
 -- What a reader takes from the front of words is what they write, and what they write it takes: for each way to put
 -- readers together.
-use Rattle.std.proofs.Common.{◌≡◌, ℕ, zero, suc, ◌≤◌, ◌<◌, ◌⊎◌, Bool, true, false, List, [], ◌∷◌, ◌++◌, length, length-append, Option, Some, None, refl, sym, ap, subst, ◌∙◌, append_assoc, append-nil, arith, inl, inr}
+use Rattle.std.proofs.Common.{◌≡◌, ℕ, zero, suc, ◌≤◌, ◌<◌, Bool, true, false, List, [], ◌∷◌, ◌++◌, length, length-append, Option, Some, None, refl, sym, ap, subst, ◌∙◌, append_assoc, append-nil, arith, inl, inr}
 use Rattle.nd_run.specs.declared.keyword.Keyword.{Keyword}
 use Rattle.nd_run.specs.declared.keyword.Keyword.TheVariants.{Other, Slash}
 use Rattle.nd_run.specs.Numerals.{IsNat, nat_of}

@@ -1,4 +1,4 @@
-use Rattle.std.proofs.Common.{◌≡◌, ◌∙◌, ap}
+use Rattle.std.proofs.Common.{◌∙◌}
 use Rattle.nd_array_core.specs.Equality.{equal_meanings}
 use Rattle.nd_array_core.specs.Meaning.{meaning_of}
 use Rattle.nd_run.proofs.FoldLemmas.{same_meaning}
