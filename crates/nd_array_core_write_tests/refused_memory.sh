@@ -7,7 +7,7 @@
 # run it.
 cd "$(dirname "$0")" || exit 1
 calls='zeros ones default from_elem from_shape_fn from_shape_simple_fn eye from_diag from_diag_elem
-    to_owned to_vec clone clone_from'
+    to_owned to_vec clone clone_from map mapv'
 work=$(mktemp -d) || exit 1
 trap 'rm -rf "$work"' EXIT
 

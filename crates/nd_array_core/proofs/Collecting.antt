@@ -90,8 +90,17 @@ module _ {A : Type 0} where
         ∙ ap (λ xs. collected (stored_by_rank stored first ns ss) rank ++ xs)
         (collected_alike (λ j. stored_by_rank stored first ns ss (rank + j)) (stored_along stored place stride) count (λ j below. ap (stored_at stored) (sym (lane.places j below))))
 
+    -- the same behind others
+    pub lane_behind : (before old new : List A) (rank next place count : ℕ) (stride : ℤ) → IsLane first ns ss rank place count stride → next ≡ rank + count
+        → old ≡ before ++ collected (stored_by_rank stored first ns ss) rank → new ≡ old ++ collected (stored_along stored place stride) count → new ≡ before ++ collected (stored_by_rank stored first ns ss) next
+    lane_behind before old new rank next place count stride lane further so_far put =
+        put
+        ∙ ap (λ xs. xs ++ collected (stored_along stored place stride) count) so_far
+        ∙ append_assoc before (collected (stored_by_rank stored first ns ss) rank) (collected (stored_along stored place stride) count)
+        ∙ ap (λ xs. before ++ xs) (sym (lane_collected rank place count stride lane) ∙ ap (collected (stored_by_rank stored first ns ss)) (sym further))
+
   -- elements side by side
-  beside : (stored : ℕ → Option A) (place k : ℕ) (s : ℤ) → s ≡ pos 1 → stored_along stored place s k ≡ stored (place + k)
+  pub beside : (stored : ℕ → Option A) (place k : ℕ) (s : ℤ) → s ≡ pos 1 → stored_along stored place s k ≡ stored (place + k)
   beside stored place k s one = ap (stored_at stored) same
     where
       same : pos place +ℤ (pos k *ℤ s) ≡ pos (place + k)
@@ -204,3 +213,24 @@ module _ {A : Type 0} where
         by_test : (t : Bool) → in_box ns i ≡ t → inside ns i (slice_get (filter_map (λ j. inside ns j (stored_at stored (place_of first ss j))) (indexes_of ns)) (row_rank ns i)) ≡ inside ns i (stored_at stored (place_of first ss i))
         by_test true h = ap (inside ns i) (listed_get i h)
         by_test false h = rw h refl
+
+  -- the elements of any meaning that has one at each index: as many as indexes, each at its index's row-major rank
+  module _ (m : Meaning A) (has : (i : List ℕ) → in_box m.shape i ≡ true → is_some (m.at i) ≡ true) where
+    abbrev by_rank : ℕ → Option A
+    by_rank k = m.at (get_or (indexes_of m.shape) k [])
+
+    some_by_rank : (k : ℕ) → k < length (indexes_of m.shape) → is_some (by_rank k) ≡ true
+    some_by_rank k below =
+        let under : k < size_of m.shape = omega (arith, below, length-indexes_of m.shape) in
+        ap (λ i. is_some (m.at i)) (get_or-indexes_of m.shape k under) ∙ has (index_at m.shape k) (in_box-index_at m.shape k under)
+
+    pub meaning_count : length (row_major_elements m) ≡ size_of m.shape
+    meaning_count = ap length (sym (collected_list m.at (indexes_of m.shape))) ∙ length-collected by_rank (length (indexes_of m.shape)) some_by_rank ∙ length-indexes_of m.shape
+
+    pub meaning_get : (i : List ℕ) → in_box m.shape i ≡ true → slice_get (row_major_elements m) (row_rank m.shape i) ≡ m.at i
+    meaning_get i h =
+        let below = row_rank_below m.shape i h in
+        let under : row_rank m.shape i < length (indexes_of m.shape) = omega (arith, below, length-indexes_of m.shape) in
+        ap (λ xs. slice_get xs (row_rank m.shape i)) (sym (collected_list m.at (indexes_of m.shape)))
+        ∙ get-collected by_rank (length (indexes_of m.shape)) (row_rank m.shape i) under some_by_rank
+        ∙ ap m.at (get_or-indexes_of m.shape (row_rank m.shape i) below ∙ index_at-row_rank m.shape i h)

@@ -1,6 +1,6 @@
 -- Elements compared one by one: block behind block, and lane behind lane.
 use Rattle.std.proofs.Common.{◌≡◌, ℕ, ◌+◌, ◌-◌, ◌<◌, ◌≤◌, Bool, true, false, ◌&&◌, List, [], ◌∷◌, ◌++◌, length, get_or, zero, suc, inl, inr, ℤ, refl, ap, sym, ◌∙◌, subst, arith}
-use Rattle.std.specs.Prelude.{◌⊎◌, Option, Some, None, is_some, nat_eq, slice_get, if◌then◌else◌}
+use Rattle.std.specs.Prelude.{◌⊎◌, Option, Some, None, is_some, nat_eq, slice_get, take, drop, if◌then◌else◌}
 use Rattle.std.specs.Option.{unwrap_or}
 use Rattle.std.specs.Cmp.{unsigned_Decides, first_so, second_so}
 use Rattle.std.proofs.lemmas.Slice.Eq.{slice_eq-Decides}
@@ -54,6 +54,25 @@ module _ {A : Type 0} (E : A → A → Bool) where
   pointwise_append (x ∷ xs) [] zs ws long = absurd (omega (arith, long))
   pointwise_append (x ∷ xs) (y ∷ ys) zs ws long =
       ap (λ t. E x y && t) (pointwise_append xs ys zs ws (omega (arith, long))) ∙ sym (and_assoc (E x y) (pointwise E xs ys) (pointwise E zs ws))
+
+  -- a pair more from the front of two lists
+  pub pair_more : (k : ℕ) (xs ys : List A) (x y : A) → k < length xs → k < length ys → x ≡ get_or xs k x → y ≡ get_or ys k y
+      → (pointwise E (take k xs) (take k ys) && E x y) ≡ pointwise E (take (suc k) xs) (take (suc k) ys)
+  pair_more k [] ys x y below other e f = absurd (omega (arith, below))
+  pair_more k (a ∷ xs) [] x y below other e f = absurd (omega (arith, other))
+  pair_more zero (a ∷ xs) (b ∷ ys) x y below other e f = (λ k. E (e k) (f k)) ∙ sym (and_true (E a b))
+  pair_more (suc k) (a ∷ xs) (b ∷ ys) x y below other e f =
+      and_assoc (E a b) (pointwise E (take k xs) (take k ys)) (E x y)
+      ∙ ap (λ t. E a b && t) (pair_more k xs ys x y (omega (arith, below)) (omega (arith, other)) e f)
+
+  -- the fronts of two lists, and what stands behind them
+  pub front_then : (n : ℕ) (xs ys : List A) → length ys ≡ length xs → pointwise E xs ys ≡ (pointwise E (take n xs) (take n ys) && pointwise E (drop n xs) (drop n ys))
+  front_then zero xs ys as_long = refl
+  front_then (suc n) [] [] as_long = refl
+  front_then (suc n) [] (y ∷ ys) as_long = absurd (omega (arith, as_long))
+  front_then (suc n) (x ∷ xs) [] as_long = absurd (omega (arith, as_long))
+  front_then (suc n) (x ∷ xs) (y ∷ ys) as_long =
+      ap (λ t. E x y && t) (front_then n xs ys (omega (arith, as_long))) ∙ sym (and_assoc (E x y) (pointwise E (take n xs) (take n ys)) (pointwise E (drop n xs) (drop n ys)))
 
   module _ (f h : ℕ → Option A) where
     long : (n : ℕ) → ((k : ℕ) → k < n → is_some (f k) ≡ true) → ((k : ℕ) → k < n → is_some (h k) ≡ true) → length (collected f n) ≡ length (collected h n)

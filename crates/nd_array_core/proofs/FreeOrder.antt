@@ -64,7 +64,7 @@ module _ {shape : List ℕ} {count : ℕ} {index : ℕ → List ℕ} {rank : Lis
       by_rank false e = let new : nat_lt (rank i) (k + 1) ≡ false = grind (arith, nat_tests, e, other) in rw new refl
   next_by i k below false false e h = refl
 
-  count_listed : (k : ℕ) → k ≤ count → (i : List ℕ) → times i (listed index k) ≡ once_if (in_box shape i && nat_lt (rank i) k)
+  pub count_listed : (k : ℕ) → k ≤ count → (i : List ℕ) → times i (listed index k) ≡ once_if (in_box shape i && nat_lt (rank i) k)
   count_listed zero within i = by_box (in_box shape i)
     where
       by_box : (b : Bool) → 0 ≡ once_if (b && nat_lt (rank i) 0)
@@ -100,7 +100,7 @@ module _ {shape : List ℕ} {count : ℕ} {index : ℕ → List ℕ} {rank : Lis
 
 -- where each call leaves the state as it was and does something at its index, that is done at every index of the box
 module _ {P : Type 0} (shape : List ℕ) (call : P → List ℕ → P → Type 0) (state : P) (Done : List ℕ → Type 0) (does : (i : List ℕ) (q : P) → in_box shape i ≡ true → call state i q → (q ≡ state) × Done i) where
-  done_along : (listing : List (List ℕ)) → ((i : List ℕ) → 0 < times i listing → in_box shape i ≡ true) → (p q : P) → p ≡ state → FoldsTo call p listing q → (i : List ℕ) → 0 < times i listing → Done i
+  pub done_along : (listing : List (List ℕ)) → ((i : List ℕ) → 0 < times i listing → in_box shape i ≡ true) → (p q : P) → p ≡ state → FoldsTo call p listing q → (i : List ℕ) → 0 < times i listing → Done i
   done_along [] inside p q same run i some = absurd (omega (arith, some))
   done_along (j ∷ js) inside p q same run i some = by_test (is_index i j) refl (done_along js rest run.0 q step.0 run.2 i)
     where

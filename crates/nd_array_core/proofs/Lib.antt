@@ -15,9 +15,16 @@ pub mod LaidOut
 pub mod lending
 pub mod tasks
 pub mod Ran
+pub mod Mapped
+pub mod RunNumbers
+pub mod Replaced
 pub mod FoldOrder
 pub mod Folded
 pub mod Changed
+pub mod Rewritten
+pub mod Paired
+pub mod Assigned
+pub mod OwnShape
 pub mod Masks
 pub mod Fresh
 pub mod Diagonals
@@ -29,8 +36,15 @@ pub mod LastIndexes
 pub mod Clones
 pub mod RunElements
 pub mod Regrouped
+pub mod ServedStrides
+pub mod Relisted
 pub mod MemoryOrder
 pub mod Collecting
 pub mod Comparing
 pub mod Feeding
 pub mod Quotients
+mod Selecting
+mod AxisLanes
+mod Rotating
+mod AxisIndexes
+mod Removing

@@ -15,3 +15,4 @@ pub mod Collected
 pub mod Equality
 pub mod reshape
 pub mod elements
+pub mod along

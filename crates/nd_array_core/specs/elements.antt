@@ -1,2 +1,5 @@
 pub mod Folds
 pub mod Changes
+pub mod Maps
+pub mod Pairs
+pub mod Assigns

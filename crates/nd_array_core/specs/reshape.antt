@@ -1,2 +1,4 @@
 pub mod Regrouped
 pub mod RunSlices
+pub mod Serving
+pub mod Either

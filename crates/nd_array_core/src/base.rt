@@ -6,6 +6,7 @@ pub mod constructors;
 pub mod conversions;
 pub mod copies;
 pub mod ends;
+pub mod errors;
 pub mod extents;
 pub mod fresh;
 pub mod from_functions;

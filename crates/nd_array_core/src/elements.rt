@@ -1,9 +1,16 @@
 //! Calls over all elements.
 
+mod assigns;
 mod changes;
 pub mod equality;
 pub mod fill;
 mod folds;
 pub mod hashing;
+mod inplace;
 pub mod listing;
+mod maps;
 pub mod owned;
+mod pairs;
+mod scalars;
+mod values;
+mod visits;

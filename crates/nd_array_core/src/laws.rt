@@ -11,7 +11,9 @@ ghost use Rattle.nd_array_core.specs.Laws.{PermutedBack, ReversedTwice, Inverted
 ghost use Rattle.nd_shape_and_slice.specs.Maps.{inverted_index, collapsed_shape, collapsed_index, lower_shape, upper_shape, upper_index, indexed_shape, indexed_index, inserted_shape, inserted_index, diagonal_length, diagonal_index};
 ghost use Rattle.nd_shape_and_slice.specs.Broadcast.{broadcasts, broadcast_index};
 ghost use Rattle.nd_array_core.specs.Joined.{SplitAndJoined};
-ghost use Rattle.nd_array_core.specs.Meaning.{element_at, meaning_of, placed_array};
+ghost use Rattle.nd_array_core.specs.Meaning.{element_at, meaning_of, placed_array, shape_of};
+ghost use Rattle.nd_shape_and_slice.specs.Shape.{HasCheckedSize};
+ghost use Rattle.nd_array_core.specs.elements.Pairs.{broadcast_at};
 ghost use Rattle.nd_shape_and_slice.specs.Slicing.{collapsed_after, collapsed_before};
 ghost use Rattle.nd_shape_and_slice.specs.Squeeze.{squeezed_shape, squeezed_index};
 
@@ -107,4 +109,17 @@ pub fn quotients(size: usize, quotient: usize)
     ensures equal { (i : ℕ) → i / size ≡ quotient → (quotient * size ≤ i) × (i < quotient * size + size) }
     ensures within { (i : ℕ) → quotient * size ≤ i → i < quotient * size + size → i / size ≡ quotient }
     ensures below { (i : ℕ) → i / size < quotient → i < quotient * size }
+{}
+
+/// An array's shape has a checked size: a caller that broadcasts to it has that to show.
+#[tactic(auto, unfolding(crate::specs::Meaning::meaning_of))]
+pub fn shape_is_checked<S: Data, D: Dimension>(array: &ArrayBase<S, D>)
+    ensures { HasCheckedSize (shape_of array.now) }
+{}
+
+/// An array broadcast to its own shape shows what it shows.
+#[tactic(auto, unfolding(crate::specs::Meaning::meaning_of))]
+pub fn broadcast_to_itself<S: Data, D: Dimension>(array: &ArrayBase<S, D>)
+    ensures some { (to : List ℕ) → to ≡ shape_of array.now → broadcasts (shape_of array.now) to ≡ true }
+    ensures elements { (to : List ℕ) → to ≡ shape_of array.now → (i : List ℕ) → broadcast_at to (meaning_of array.now) i ≡ element_at array.now i }
 {}

@@ -3,11 +3,13 @@
 //! - `base`: the storages, the type, what makes an array, and its elements read and written
 //! - `layout`: slices, axes, rows and columns, parts, broadcasts, and views to be written
 //! - `elements`: calls over all elements
+//! - `along`: calls along one axis
 //! - `reshape`: questions about the layout, elements as slices, and other shapes of the same elements
 //! - `scoped`: calls that lend views to be written to a task
 //! - `laws`: what follows from the contracts of several calls, and what callers need of quotients
 #![tactic(auto)]
 
+mod along;
 mod base;
 mod elements;
 pub mod laws;
@@ -22,7 +24,9 @@ pub use base::aliases::{
     ArrayViewMutD,
 };
 pub use base::array::{Array, ArrayBase, ArrayView, ArrayViewMut};
+pub use base::errors::ArrayError;
 pub use base::indexing::IndexLonger;
 pub use base::storage::{Data, DataMut, DataOwned, OwnedRepr, RegionRepr, ViewMutRepr, ViewRepr};
 pub use base::writing::GetMut;
 pub use layout::splitting::MultiSliceArg;
+pub use reshape::either::{EitherArray, ViewOrOwned};

@@ -12,4 +12,6 @@ mod indexes;
 #[cfg(test)]
 mod layout_calls;
 #[cfg(test)]
+mod regrouped;
+#[cfg(test)]
 mod reshapes;

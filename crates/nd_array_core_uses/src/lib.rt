@@ -5,6 +5,7 @@ ghost use Rattle.std.specs.Prelude.{◌≡◌, ◌<◌, ◌∷◌, [], ℕ, true
 ghost use Rattle.nd_shape_and_slice.specs.Slice.{fits_axis, sliced_shape, sliced_index};
 ghost use Rattle.nd_array_core.specs.Meaning.{shape_of, element_at, inside};
 
+mod along;
 mod blocks;
 mod border;
 mod broadcasts;
@@ -17,6 +18,8 @@ mod interleaved;
 mod lent_slices;
 mod lent_views;
 mod made;
+pub mod mapped;
+pub mod paired;
 mod parts_written;
 mod pixels;
 mod rebuilt;
@@ -26,6 +29,7 @@ mod two_calls;
 mod two_parts;
 mod writes;
 
+pub use along::{rows_chosen, take_row_out};
 pub use blocks::{fill_diagonal_blocks, fill_every_second_column, fill_rectangle, fill_two_blocks};
 pub use border::{draw_border, fill_column, fill_row};
 pub use broadcasts::table_of;

@@ -2,6 +2,8 @@
 #![tactic(auto)]
 
 #[cfg(test)]
+mod along;
+#[cfg(test)]
 mod answers;
 #[cfg(test)]
 mod copies;
@@ -16,7 +18,11 @@ mod fresh;
 #[cfg(test)]
 mod lent_slices;
 #[cfg(test)]
+mod mapped;
+#[cfg(test)]
 mod owned;
+#[cfg(test)]
+mod pairs;
 #[cfg(test)]
 mod refused_clones;
 #[cfg(test)]

@@ -237,3 +237,104 @@ fn diagonals(rt: HostRuntime) -> Result<(), Fail> {
     }
     Ok(())
 }
+
+/// The numbers of clones of an image's elements, by `mapv`, row by row; none if a clone was refused.
+fn numbers_by_value<A: Numbered + Clone + Drop, S: Data<Elem = A>>(
+    alloc: Global,
+    image: &ArrayBase<S, Ix2>,
+) -> Result<Vec<u64>, Fail>
+    requires { (x y : A) → A.is_clone x y → y ≡ x }
+{
+    match image.mapv(alloc, |x| x.number()) {
+        Ok(numbers) => rows_listed(alloc, &numbers),
+        Err(_) => Ok(Vec::new(alloc)),
+    }
+}
+
+/// The same of every second column, which is no run of places, or of the whole transpose, which is one.
+fn numbers_of_part<A: Numbered + Clone + Drop>(
+    alloc: Global,
+    image: &Array2<A>,
+    stepped: bool,
+) -> Result<Vec<u64>, Fail>
+    requires { (x y : A) → A.is_clone x y → y ≡ x }
+{
+    let (_rows, _columns) = image.dim();
+    if stepped {
+        numbers_by_value(alloc, &image.slice_axis(Axis(1), Slice::new(0, None, 2)))
+    } else {
+        numbers_by_value(alloc, &image.t())
+    }
+}
+
+#[test]
+fn values_handed_to_a_closure(rt: HostRuntime) -> Result<(), Fail> {
+    for (stepped, wanted) in [
+        (false, [1, 4, 2, 5, 3, 6].as_slice()),
+        (true, [1, 3, 4, 6].as_slice()),
+    ] {
+        for allowed in 0..wanted.len().saturating_add(1) {
+            let tally = Tally::allowing(allowed as u64);
+            {
+                let items = Refusing::listed(rt.alloc(), &[1, 2, 3, 4, 5, 6], &tally)?;
+                let image: Array2<Refusing<'_>> = array_of((2, 3), items)?;
+                let numbers = numbers_of_part(rt.alloc(), &image, stepped)?;
+                let answer = if allowed < wanted.len() { &[] } else { wanted };
+                assert_eq!(rt; numbers.as_slice(), answer, "{allowed} clones");
+                assert_eq!(rt; (tally.left(), tally.living()), (0, Some(6)));
+            }
+            assert_eq!(rt; tally.living(), Some(0), "{allowed} clones");
+        }
+    }
+    Ok(())
+}
+
+#[test]
+fn values_exchanged_in_place(rt: HostRuntime) -> Result<(), Fail> {
+    for allowed in 0..=4u64 {
+        let tally = Tally::allowing(allowed);
+        {
+            let items = Refusing::listed(rt.alloc(), &[1, 2, 3, 4], &tally)?;
+            let mut array: Array2<Refusing<'_>> = array_of((2, 2), items)?;
+            let mut calls = 0u64;
+            let done = array.mapv_inplace(|x| {
+                calls = calls.wrapping_add(1);
+                Refusing::new(x.number.wrapping_add(10), &tally)
+            });
+            assert_eq!(rt; (done.is_ok(), calls), (allowed == 4, allowed));
+            assert_eq!(rt; tally.living(), Some(4), "{allowed} clones");
+            let numbers = rows_listed(rt.alloc(), &array)?;
+            let mut changed = 0u64;
+            for k in 0..4usize {
+                let number = *numbers.get(k).ok_or("short")?;
+                if number == (k as u64).wrapping_add(11) {
+                    changed = changed.wrapping_add(1);
+                } else {
+                    assert_eq!(rt; number, (k as u64).wrapping_add(1));
+                }
+            }
+            assert_eq!(rt; changed, allowed);
+        }
+        assert_eq!(rt; tally.living(), Some(0), "{allowed} clones");
+    }
+    Ok(())
+}
+
+#[test]
+fn values_exchanged_in_an_array_handed_over(rt: HostRuntime) -> Result<(), Fail> {
+    for allowed in 0..=4u64 {
+        let tally = Tally::allowing(allowed);
+        let items = Refusing::listed(rt.alloc(), &[1, 2, 3, 4], &tally)?;
+        let array: Array2<Refusing<'_>> = array_of((2, 2), items)?;
+        match array.mapv_into(|x| Refusing::new(x.number.wrapping_add(10), &tally)) {
+            Ok(array) => {
+                assert_eq!(rt; (allowed, tally.living()), (4, Some(4)));
+                let numbers = rows_listed(rt.alloc(), &array)?;
+                assert_eq!(rt; numbers.as_slice(), [11, 12, 13, 14].as_slice());
+            }
+            Err(_) => assert!(rt; allowed < 4),
+        }
+        assert_eq!(rt; tally.living(), Some(0), "{allowed} clones");
+    }
+    Ok(())
+}

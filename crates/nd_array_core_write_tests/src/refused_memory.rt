@@ -24,7 +24,9 @@ fn matrix(alloc: Global, way: u64) -> Result<Array2<u64>, NoMemory> {
         5 => Array::eye(alloc, 2),
         6 => Array::from_diag(alloc, &ArrayView1::from(line)),
         7 => Array::from_diag_elem(alloc, 2, 5),
-        _ => ArrayView2::from(rows).to_owned(alloc),
+        8 => ArrayView2::from(rows).to_owned(alloc),
+        9 => ArrayView2::from(rows).map(alloc, |x| x.wrapping_add(5)),
+        _ => ArrayView2::from(rows).mapv(alloc, |x| x.wrapping_mul(5)),
     }
 }
 
@@ -40,6 +42,8 @@ fn matrices(rt: HostRuntime) -> Result<(), Fail> {
         (6, "refused: from_diag", [7, 0, 0, 8]),
         (7, "refused: from_diag_elem", [5, 0, 0, 5]),
         (8, "refused: to_owned", [1, 2, 3, 4]),
+        (9, "refused: map", [6, 7, 8, 9]),
+        (10, "refused: mapv", [5, 10, 15, 20]),
     ] {
         match matrix(rt.alloc(), way) {
             Ok(matrix) => assert_eq!(rt; matrix.into_raw_vec().as_slice(), wanted.as_slice()),

@@ -10,6 +10,12 @@ use Rattle.nd_array_core.specs.elements.Folds.{RanTo}
 abbrev pub AreDistinct : (ℕ → ℤ) → ℕ → Type 0
 AreDistinct place count = (j k : ℕ) → j < count → k < count → place j ≡ place k → j ≡ k
 
+-- `call before after p q` says that a call found an element before it, left one after it, and led from p to q: there was
+-- one for each of the places numbered below a count, one after the other, and nothing else changed
+pub record IsChangedBy {P A : Type 0} (call : Option A → Option A → P → P → Type 0) (place : ℕ → ℤ) (count : ℕ) (old new : ℕ → Option A) (first last : P) : Type 0 where
+  pub calls : RanTo (λ p k q. call (stored_at old (place k)) (stored_at new (place k)) p q) first count last
+  pub left : (p : ℕ) → ((k : ℕ) → k < count → place k ≡ pos p → ⊥) → new p ≡ old p
+
 module _ {F A : Type 0} (g : Mut F (MutBor A × Unit {0}) (Unit {0} × (MutBor A × Unit {0}))) where
   -- a call that is handed an element and leaves another
   abbrev pub ChangesElement : Option A → Option A → F → F → Type 0
@@ -24,9 +30,8 @@ module _ {F A : Type 0} (g : Mut F (MutBor A × Unit {0}) (Unit {0} × (MutBor A
   TakesElementMut element p = (x : MutBor A) → element ≡ Some x.now → g.pre p (x, tt)
 
   -- the places numbered below a count were handed out one after the other, and nothing else changed
-  pub record IsChangedTo (place : ℕ → ℤ) (count : ℕ) (old new : ℕ → Option A) (first last : F) : Type 0 where
-    pub calls : RanTo (λ p k q. ChangesElement (stored_at old (place k)) (stored_at new (place k)) p q) first count last
-    pub left : (p : ℕ) → ((k : ℕ) → k < count → place k ≡ pos p → ⊥) → new p ≡ old p
+  abbrev pub IsChangedTo : (ℕ → ℤ) → ℕ → (ℕ → Option A) → (ℕ → Option A) → F → F → Type 0
+  IsChangedTo = IsChangedBy ChangesElement
 
   -- whichever of them came before, the next may be called
   abbrev pub TakesPlacesMut : (ℕ → Option A) → (ℕ → ℤ) → F → ℕ → Type 0

@@ -28,7 +28,8 @@ fn change_element<S: DataMut, F: FnMut(&mut S::Elem)>(storage: &mut S, place: us
 }
 
 /// Hands the elements of a lane to the function, one after the other.
-fn change_lane<S: DataMut, F: FnMut(&mut S::Elem)>(storage: &mut S, lane: Lane, f: F) -> F
+#[inline(always)]
+fn change_along<S: DataMut, F: FnMut(&mut S::Elem)>(storage: &mut S, lane: Lane, f: F) -> F
     requires apart { AreDistinct (λ k. pos lane.place +ℤ (pos k *ℤ lane.stride)) lane.count }
     requires holds { (k : ℕ) → k < lane.count → names_place (S.stored storage.old) (pos lane.place +ℤ (pos k *ℤ lane.stride)) ≡ true }
     requires callable { TakesPlacesMut F.FnMut (S.stored storage.old) (λ k. pos lane.place +ℤ (pos k *ℤ lane.stride)) f lane.count }
@@ -40,6 +41,26 @@ fn change_lane<S: DataMut, F: FnMut(&mut S::Elem)>(storage: &mut S, lane: Lane, 
         now = change_element(storage, lane.place_of(nth), now);
     }
     now
+}
+
+/// The same; where they lie side by side the compiler is told so.
+#[inline(always)]
+fn change_lane<S: DataMut, F: FnMut(&mut S::Elem)>(storage: &mut S, lane: Lane, f: F) -> F
+    requires apart { AreDistinct (λ k. pos lane.place +ℤ (pos k *ℤ lane.stride)) lane.count }
+    requires holds { (k : ℕ) → k < lane.count → names_place (S.stored storage.old) (pos lane.place +ℤ (pos k *ℤ lane.stride)) ≡ true }
+    requires callable { TakesPlacesMut F.FnMut (S.stored storage.old) (λ k. pos lane.place +ℤ (pos k *ℤ lane.stride)) f lane.count }
+    ensures changed { IsChangedTo F.FnMut (λ k. pos lane.place +ℤ (pos k *ℤ lane.stride)) lane.count (S.stored storage.old) (S.stored storage.new) f result }
+    ensures frame { S.frame storage.new ≡ S.frame storage.old }
+{
+    if lane.stride == 1 {
+        let beside = Lane {
+            place: lane.place,
+            count: lane.count,
+            stride: 1,
+        };
+        return change_along(storage, beside, f);
+    }
+    change_along(storage, lane, f)
 }
 
 /// Hands the elements at the places of a layout to the function, in row-major order of its indexes.

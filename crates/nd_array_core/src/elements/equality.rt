@@ -1,7 +1,7 @@
 //! Equality of arrays.
 #![tactic(auto, unfolding(crate::specs::Meaning::meaning_of, crate::specs::Meaning::memory_layout_of))]
 
-ghost use Rattle.std.specs.Prelude.{◌↔◌, ◌≡◌, ◌+◌, ◌<◌, ◌≤◌, ℕ, true, IsTrue, is_some};
+ghost use Rattle.std.specs.Prelude.{◌↔◌, ◌≡◌, ◌+◌, ◌<◌, ◌≤◌, ℕ, true, IsTrue, is_some, length};
 ghost use Rattle.std.specs.Cmp.Lexicographic.{pointwise};
 ghost use Rattle.nd_array_core.specs.Collected.{collected, stored_along};
 ghost use Rattle.nd_array_core.specs.Equality.{equal_meanings, EqualEverywhere, meanings_per, meanings_equiv};
@@ -16,6 +16,35 @@ use nd_shape_and_slice::{Dimension, StrideList};
 
 /// How many elements are compared between two tests whether to go on.
 const BLOCK: usize = 64;
+
+/// Whether the items of two blocks are equal.
+fn blocks_equal<A: PartialEq>(xs: &[A], ys: &[A]) -> bool
+    requires { (length xs.now ≡ 64) × (length ys.now ≡ 64) }
+    ensures { result ≡ pointwise A.eq xs.now ys.now }
+{
+    let mut same = true;
+    for nth in 0..BLOCK {
+        same = same & xs[nth].eq(&ys[nth]);
+    }
+    same
+}
+
+/// Whether the items of two slices of one length are equal.
+fn slices_equal<A: PartialEq>(xs: &[A], ys: &[A]) -> bool
+    requires { length ys.now ≡ length xs.now }
+    ensures { result ≡ pointwise A.eq xs.now ys.now }
+{
+    let (mut ours, mut theirs) = (xs, ys);
+    while ours.len() >= BLOCK {
+        let (block, rest) = ours.split_at(BLOCK);
+        let (other, others) = theirs.split_at(BLOCK);
+        if !blocks_equal(block, other) {
+            return false;
+        }
+        (ours, theirs) = (rest, others);
+    }
+    ours == theirs
+}
 
 /// Whether that many elements along two lanes are equal, from a number on.
 fn block_equal<S: Data>(a: &S, ours: Lane, b: &S, theirs: Lane, from: usize, count: usize) -> bool
@@ -86,7 +115,7 @@ where
     ensures { result ≡ pointwise S.Elem.eq (row_major_elements (meaning_of a.now)) (row_major_elements (meaning_of b.now)) }
 {
     match (a.as_slice(), b.as_slice()) {
-        (Some(xs), Some(ys)) => xs == ys,
+        (Some(xs), Some(ys)) => slices_equal(xs, ys),
         _ => equal_by_lanes(a, b),
     }
 }

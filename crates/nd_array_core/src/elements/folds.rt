@@ -16,7 +16,8 @@ use nd_layout::{Lane, Lanes};
 use nd_shape_and_slice::{Dimension, StrideList};
 
 /// Folds the elements of a lane, one after the other. It answers the closure too, as the calls left it.
-fn fold_lane<S: Data, B, F: FnMut(B, &S::Elem) -> B>(
+#[inline(always)]
+fn fold_along<S: Data, B, F: FnMut(B, &S::Elem) -> B>(
     storage: &S,
     lane: Lane,
     init: B,
@@ -31,6 +32,29 @@ fn fold_lane<S: Data, B, F: FnMut(B, &S::Elem) -> B>(
         total = f(total, storage.element(lane.place_of(nth)));
     }
     (f, total)
+}
+
+/// The same; where they lie side by side the compiler is told so.
+#[inline(always)]
+fn fold_lane<S: Data, B, F: FnMut(B, &S::Elem) -> B>(
+    storage: &S,
+    lane: Lane,
+    init: B,
+    f: F,
+) -> (F, B)
+    requires holds { (k : ℕ) → k < lane.count → names_place (S.stored storage.now) (pos lane.place +ℤ (pos k *ℤ lane.stride)) ≡ true }
+    requires callable { TakesPlaces F.FnMut (S.stored storage.now) (λ k. pos lane.place +ℤ (pos k *ℤ lane.stride)) (f, init) lane.count }
+    ensures ran { FoldsPlaces F.FnMut (S.stored storage.now) (λ k. pos lane.place +ℤ (pos k *ℤ lane.stride)) (f, init) lane.count (result.0, result.1) }
+{
+    if lane.stride == 1 {
+        let beside = Lane {
+            place: lane.place,
+            count: lane.count,
+            stride: 1,
+        };
+        return fold_along(storage, beside, init, f);
+    }
+    fold_along(storage, lane, init, f)
 }
 
 /// Folds the elements at the places of a layout, in row-major order of its indexes.

@@ -43,8 +43,10 @@ where
     ensures len { OnOk result (vec_len items.new ≡ vec_len items.old + lane.count) }
     ensures room { vec_capacity items.new ≡ vec_capacity items.old }
 {
+    // A region in hand: what a write may not change isn't read anew for each element.
+    let region = storage.borrowed();
     for nth in 0..lane.count {
-        match storage.element(lane.place_of(nth)).clone() {
+        match region.element(lane.place_of(nth)).clone() {
             Ok(copy) => items.push_reserved(copy),
             Err(_) => return Err(NoMemory),
         }
@@ -91,9 +93,9 @@ where
     extend_by_steps(items, storage, lane)
 }
 
-/// Clones of the elements of a layout, by row-major rank.
+/// Puts clones of the elements of a layout, by row-major rank, behind those that a vector has.
 fn listed<S: Data>(
-    room: Vec<S::Elem>,
+    before: Vec<S::Elem>,
     storage: &S,
     first: usize,
     lengths: &[usize],
@@ -107,12 +109,12 @@ where
     requires reach { ReachesPlaces first lengths.now strides.now }
     requires clones { (rank : ℕ) (x : S.Elem) → rank < size_of lengths.now → stored_by_rank (S.stored storage.now) first lengths.now strides.now rank ≡ Some x → ClonesAreEqual S.Elem.is_clone x }
     requires holds { (rank : ℕ) → rank < size_of lengths.now → is_some (stored_by_rank (S.stored storage.now) first lengths.now strides.now rank) ≡ true }
-    requires empty { (room.items ≡ []) × (vec_len room ≡ 0) }
-    requires room { size_of lengths.now ≤ vec_capacity room }
-    ensures items { IfOk result (λ v. v.items ≡ collected (stored_by_rank (S.stored storage.now) first lengths.now strides.now) (size_of lengths.now)) }
-    ensures count { IfOk result (λ v. vec_len v ≡ size_of lengths.now) }
+    requires room { vec_len before + size_of lengths.now ≤ vec_capacity before }
+    ensures items { IfOk result (λ v. v.items ≡ before.items ++ collected (stored_by_rank (S.stored storage.now) first lengths.now strides.now) (size_of lengths.now)) }
+    ensures count { IfOk result (λ v. vec_len v ≡ vec_len before + size_of lengths.now) }
+    ensures room { IfOk result (λ v. vec_capacity before ≤ vec_capacity v) }
 {
-    let mut items = room;
+    let mut items = before;
     let mut lanes = Lanes::new(first, lengths, strides);
     while let Some(lane) = lanes.next() {
         match extend_by_lane(&mut items, storage, lane) {
@@ -124,7 +126,7 @@ where
 }
 
 /// A new vector with room for that many elements.
-fn room_of<A>(alloc: Global, count: usize) -> Result<Vec<A>, NoMemory>
+pub(crate) fn room_of<A>(alloc: Global, count: usize) -> Result<Vec<A>, NoMemory>
     ensures none { IfOk result (λ v. (v.items ≡ []) × (vec_len v ≡ 0)) }
     ensures room { IfOk result (λ v. vec_capacity v ≡ count) }
 {
@@ -134,7 +136,32 @@ fn room_of<A>(alloc: Global, count: usize) -> Result<Vec<A>, NoMemory>
     }
 }
 
-/// Clones of the elements, by lanes of axes that are joined where they continue one another.
+/// Puts clones of the elements, in row-major order, behind those that a vector has: by lanes of axes that are joined where
+/// they continue one another.
+pub(crate) fn listed_behind<S: Data, D: Dimension>(
+    before: Vec<S::Elem>,
+    array: &ArrayBase<S, D>,
+) -> Result<Vec<S::Elem>, NoMemory>
+where
+    S::Elem: Clone + Drop,
+    requires clones { ClonesOfAllAreEqual S.Elem.is_clone (element_at array.now) }
+    requires room { vec_len before + size_of (shape_of array.now) ≤ vec_capacity before }
+    ensures items { IfOk result (λ v. v.items ≡ before.items ++ row_major_elements (meaning_of array.now)) }
+    ensures count { IfOk result (λ v. vec_len v ≡ vec_len before + size_of (shape_of array.now)) }
+    ensures room { IfOk result (λ v. vec_capacity before ≤ vec_capacity v) }
+{
+    let mut joined = array.layout.copied();
+    joined.join_axes();
+    listed(
+        before,
+        &array.storage,
+        joined.offset,
+        joined.dim.slice(),
+        joined.strides.slice(),
+    )
+}
+
+/// Clones of the elements.
 fn listed_by_lanes<S: Data, D: Dimension>(
     alloc: Global,
     array: &ArrayBase<S, D>,
@@ -146,15 +173,7 @@ where
     ensures count { IfOk result (λ v. vec_len v ≡ size_of (shape_of array.now)) }
 {
     let room = room_of(alloc, array.len())?;
-    let mut joined = array.layout.copied();
-    joined.join_axes();
-    listed(
-        room,
-        &array.storage,
-        joined.offset,
-        joined.dim.slice(),
-        joined.strides.slice(),
-    )
+    listed_behind(room, array)
 }
 
 impl<S: Data, D: Dimension> ArrayBase<S, D>

@@ -24,7 +24,7 @@ use nd_shape_and_slice::{Dimension, NoMemory, Order, StrideList};
 use std::alloc::Global;
 
 /// The array of a run's elements by rising place, under the run's strides.
-fn of_run<A, D: Dimension>(
+pub(crate) fn of_run<A, D: Dimension>(
     items: Vec<A>,
     offset: usize,
     layout: &Layout<D, D::Strides>,
@@ -45,7 +45,7 @@ fn of_run<A, D: Dimension>(
 }
 
 /// The elements of a run by rising place.
-fn run_elements<'a, S: Data, D: Dimension>(array: &'a ArrayBase<S, D>) -> &'a [S::Elem]
+pub(crate) fn run_elements<'a, S: Data, D: Dimension>(array: &'a ArrayBase<S, D>) -> &'a [S::Elem]
     requires { IsRunArray array.now }
     ensures order { IsInMemoryOrder array.now result.now }
     ensures count { length result.now ≡ size_of (shape_of array.now) }

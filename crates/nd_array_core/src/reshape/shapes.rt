@@ -45,7 +45,7 @@ fn strides_in<D: Dimension>(dim: &D, order: Order) -> D::Strides
 }
 
 /// Whether a shape has a checked size, and it is this one.
-fn has_size(lengths: &[usize], size: usize) -> bool
+pub(crate) fn has_size(lengths: &[usize], size: usize) -> bool
     ensures { IsTrue result ↔ (HasCheckedSize lengths.now × (size_of lengths.now ≡ size)) }
 {
     match size_of_shape_checked(lengths) {

@@ -1,20 +1,28 @@
-use Rattle.std.proofs.Common.{ℕ, ℤ, pos, ◌+ℤ◌, ◌*ℤ◌, ap, sym, ◌∙◌}
-use Rattle.nd_array_core.specs.Places.{stored_at}
-use Rattle.nd_array_core.proofs.Changed.{changed_more, next_taken}
+use Rattle.std.proofs.Common.{rules, ◌≡◌, true, pos, ◌+ℤ◌, ◌*ℤ◌, sym, subst}
+use Rattle.nd_array_core.specs.Places.{names_place}
+use Rattle.nd_array_core.specs.elements.Changes.{AreDistinct, TakesPlacesMut, IsChangedTo}
 use Rattle.nd_array_core.proofs.elements.changes.change_lane.Goals as goal
 
-pub change_element-now-requires-clause-callable : goal.change_element-now-requires-clause-callable
-change_element-now-requires-clause-callable g c x is =
+pub change_along-requires-clause-apart : goal.change_along-requires-clause-apart
+change_along-requires-clause-apart g c =
     let lane = c.args.lane in
-    let place : ℕ → ℤ = λ k. pos lane.place +ℤ (pos k *ℤ lane.stride) in
-    next_taken g.F.FnMut place lane.count c.loop-nth.nth c.loop-nth-test.true c.requires.apart (g.S.Data.stored c.args.storage.now) (g.S.Data.stored c.loop-nth.storage) c.args.f c.loop-nth.now c.loop-nth.invariant.0 c.requires.callable x
-    (ap (stored_at (g.S.Data.stored c.loop-nth.storage)) (sym c.place_of.ensures) ∙ is)
+    let beside : lane.stride ≡ pos 1 = search rules in
+    subst (λ s. AreDistinct (λ k. pos lane.place +ℤ (pos k *ℤ s)) lane.count) beside c.requires.apart
 
-pub loop-nth-preserved : goal.loop-nth-preserved
-loop-nth-preserved g c =
-    let lane = c.args.lane in (
-      changed_more g.F.FnMut (λ k. pos lane.place +ℤ (pos k *ℤ lane.stride)) c.loop-nth.nth lane.count c.place_of.result c.loop-nth-test.true c.requires.apart c.place_of.ensures
-          (g.S.Data.stored c.args.storage.now) (g.S.Data.stored c.loop-nth.storage) (g.S.Data.stored c.change_element-now.new.storage) c.args.f c.loop-nth.now c.change_element-now.result
-          c.loop-nth.invariant.0 c.change_element-now.ensures.called c.change_element-now.ensures.left,
-      c.change_element-now.ensures.frame ∙ c.loop-nth.invariant.1,
-    )
+pub change_along-requires-clause-holds : goal.change_along-requires-clause-holds
+change_along-requires-clause-holds g c k below =
+    let beside : c.args.lane.stride ≡ pos 1 = search rules in
+    subst (λ s. names_place (g.S.Data.stored c.args.storage.now) (pos c.args.lane.place +ℤ (pos k *ℤ s)) ≡ true) beside (c.requires.holds k below)
+
+pub change_along-requires-clause-callable : goal.change_along-requires-clause-callable
+change_along-requires-clause-callable g c =
+    let lane = c.args.lane in
+    let beside : lane.stride ≡ pos 1 = search rules in
+    subst (λ s. TakesPlacesMut g.F.FnMut (g.S.Data.stored c.args.storage.now) (λ k. pos lane.place +ℤ (pos k *ℤ s)) c.args.f lane.count) beside c.requires.callable
+
+pub returns-then-lane-eq1-clause-changed : goal.returns-then-lane-eq1-clause-changed
+returns-then-lane-eq1-clause-changed g c =
+    let lane = c.args.lane in
+    let beside : lane.stride ≡ pos 1 = search rules in
+    subst (λ s. IsChangedTo g.F.FnMut (λ k. pos lane.place +ℤ (pos k *ℤ s)) lane.count (g.S.Data.stored c.args.storage.now) (g.S.Data.stored c.change_along.new.storage) c.args.f c.change_along.result)
+    (sym beside) c.change_along.ensures.changed

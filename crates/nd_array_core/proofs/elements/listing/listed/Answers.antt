@@ -1,7 +1,6 @@
-use Rattle.std.proofs.Common.{◌∙◌, ◌++◌, ap, sym, arith, ◌≡◌}
+use Rattle.std.proofs.Common.{◌∙◌, arith}
 use Rattle.nd_layout.specs.Walk.{IsLane}
-use Rattle.nd_array_core.specs.Collected.{collected, stored_along, stored_by_rank}
-use Rattle.nd_array_core.proofs.Collecting.{lane_collected}
+use Rattle.nd_array_core.proofs.Collecting.{lane_behind}
 use Rattle.nd_array_core.proofs.elements.listing.listed.Goals as goal
 
 pub loop-lane-preserved : goal.loop-lane-preserved
@@ -10,14 +9,9 @@ loop-lane-preserved g c =
     let lane = c.in-Some.lane in
     let given = c.in-Some.ensures.lane in
     let stored = g.S.Data.stored c.args.storage.now in
-    let by_rank = stored_by_rank stored c.args.first c.args.lengths.now c.args.strides.now in
     let along : IsLane c.args.first c.args.lengths.now c.args.strides.now c.loop-lane.lanes.rank lane.place lane.count lane.stride = rw (so_far.0, so_far.1, so_far.2) at given.0 in
     let put = c.in-Ok.ensures.items in
-    let items : c.extend_by_lane.new.items.items ≡ collected by_rank c.next.new.self.rank =
-    put
-    ∙ ap (λ xs. xs ++ collected (stored_along stored lane.place lane.stride) lane.count) so_far.3
-    ∙ sym (lane_collected stored c.args.first c.args.lengths.now c.args.strides.now c.loop-lane.lanes.rank lane.place lane.count lane.stride along)
-    ∙ ap (collected by_rank) (sym given.1) in (
+    let items = lane_behind stored c.args.first c.args.lengths.now c.args.strides.now c.args.before.items c.loop-lane.items.items c.extend_by_lane.new.items.items c.loop-lane.lanes.rank c.next.new.self.rank lane.place lane.count lane.stride along given.1 so_far.3 put in (
       c.in-Some.ensures.over.0 ∙ so_far.0,
       c.in-Some.ensures.over.1 ∙ so_far.1,
       c.in-Some.ensures.over.2 ∙ so_far.2,

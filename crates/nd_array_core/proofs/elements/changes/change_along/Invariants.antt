@@ -1,6 +1,6 @@
 use Rattle.std.specs.Prelude.{◌≡◌, pos, ◌+ℤ◌, ◌*ℤ◌}
 use Rattle.nd_array_core.specs.elements.Changes.{IsChangedTo}
-use Rattle.nd_array_core.proofs.elements.changes.change_lane.Given as goal
+use Rattle.nd_array_core.proofs.elements.changes.change_along.Given as goal
 
 abbrev pub invariant-loop-nth : goal.invariant-loop-nth
 invariant-loop-nth g l =

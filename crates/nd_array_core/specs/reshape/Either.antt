@@ -1,0 +1,63 @@
+-- A view or an array of its own: which it is, what is seen of it, and which one a reshape answers.
+use Rattle.std.specs.Prelude.{ℕ, ◌≡◌, ◌⊎◌, Bool, true, false, List, ℤ}
+use Rattle.nd_shape_and_slice.specs.declared.dimension.Dimension as dimension
+use Rattle.nd_shape_and_slice.specs.declared.dimension.AxisCount as axis_count
+use Rattle.nd_shape_and_slice.specs.declared.dimension.StrideList as stride_list
+use Rattle.nd_shape_and_slice.specs.declared.builder.Order.{Order}
+use Rattle.nd_shape_and_slice.specs.declared.errors.ErrorKind.TheVariants.{IncompatibleShape}
+use Rattle.nd_array_core.specs.declared.base.array.ArrayBase.{ArrayBase}
+use Rattle.nd_array_core.specs.declared.base.errors.ArrayError.{ArrayError}
+use Rattle.nd_array_core.specs.declared.base.errors.ArrayError.TheVariants.{Shape, NoMemory}
+use Rattle.nd_array_core.specs.declared.base.storage.Data as data_trait
+use Rattle.nd_array_core.specs.declared.base.storage.OwnedRepr.{OwnedRepr}
+use Rattle.nd_array_core.specs.declared.reshape.either.EitherArray.{EitherArray}
+use Rattle.nd_array_core.specs.declared.reshape.either.EitherArray.TheVariants.{View, Owned}
+use Rattle.nd_array_core.specs.Meaning.{Meaning, meaning_of, storage_of}
+use Rattle.nd_array_core.specs.Part.{ShowsWhole}
+use Rattle.nd_array_core.specs.base.Fresh.{OwnsInOrder}
+use Rattle.nd_array_core.specs.reshape.Regrouped.{IsShapeOf}
+use Rattle.nd_array_core.specs.reshape.Serving.{SomeServe, StridesServe, ShowsServed, KeepsRanks}
+
+module _ {A V S D P R L M : Type 0} {v : data_trait.Ghosts V A} {s : data_trait.Ghosts S A} {d : dimension.Ghosts D P R L M} {n : axis_count.Ghosts D} {r : stride_list.Ghosts R} where
+  -- whether it is a view
+  abbrev pub is_view_in : EitherArray A V S D P R L M v s d n r → Bool
+  is_view_in (View a) = true
+  is_view_in (Owned a) = false
+
+  -- what is seen of it
+  abbrev pub meaning_in : EitherArray A V S D P R L M v s d n r → Meaning A
+  meaning_in (View a) = meaning_of a
+  meaning_in (Owned a) = meaning_of a
+
+module _
+    {A V S D P R L M : Type 0} {v : data_trait.Ghosts V A} {s : data_trait.Ghosts S A} {d : dimension.Ghosts D P R L M} {n : axis_count.Ghosts D} {r : stride_list.Ghosts R}
+    {Z E U Q X W Y : Type 0} {z : data_trait.Ghosts Z A} {e : dimension.Ghosts E Q X W Y} {k : axis_count.Ghosts E} {x : stride_list.Ghosts X} {u : stride_list.Ghosts U} where
+  -- b shows all that it shows, in the same places
+  abbrev pub ShowsEither : EitherArray A V S D P R L M v s d n r → ArrayBase Z E U A Q X W Y z e k x u → Type 0
+  ShowsEither (View a) b = ShowsWhole a b
+  ShowsEither (Owned a) b = ShowsWhole a b
+
+-- why elements can't be had under other lengths, each with its rank in an order: the lengths aren't a shape of as many
+-- elements; or no strides serve, and memory for copies was refused
+pub data IsReshapeRefused (order : Order) (ns : List ℕ) (ss : List ℤ) (ms : List ℕ) : ArrayError → Type 0 where
+  NotAsMany : (IsShapeOf ns ms → ⊥) → IsReshapeRefused order ns ss ms (Shape IncompatibleShape)
+  NotCopied : IsShapeOf ns ms → (SomeServe order ns ss ms → ⊥) → IsReshapeRefused order ns ss ms NoMemory
+
+module _
+    {S D A T P R L M : Type 0} {s : data_trait.Ghosts S A} {d : dimension.Ghosts D P R L M} {n : axis_count.Ghosts D} {r : stride_list.Ghosts R} {t : stride_list.Ghosts T}
+    {Z E Q X V W : Type 0} {z : data_trait.Ghosts Z A} {o : data_trait.Ghosts (OwnedRepr A) A} {e : dimension.Ghosts E Q X V W} {k : axis_count.Ghosts E} {x : stride_list.Ghosts X} where
+  -- the elements of an array under the lengths ms, each with its rank in an order: a view just where strides serve, each
+  -- element where it is; else copies in that order, from place 0 on
+  abbrev pub ViewsOrCopies : ArrayBase S D T A P R L M s d n r t → Order → List ℕ → EitherArray A Z (OwnedRepr A) E Q X V W z o e k x → Type 0
+  ViewsOrCopies a order ms (View b) = StridesServe a order ms × ShowsServed a order ms b
+  ViewsOrCopies a order ms (Owned b) = (StridesServe a order ms → ⊥) × OwnsInOrder (ms, order) b × KeepsRanks a order ms b
+
+module _
+    {D T A P R L M : Type 0} {s : data_trait.Ghosts (OwnedRepr A) A} {d : dimension.Ghosts D P R L M} {n : axis_count.Ghosts D} {r : stride_list.Ghosts R} {t : stride_list.Ghosts T}
+    {E U Q X V W : Type 0} {e : dimension.Ghosts E Q X V W} {k : axis_count.Ghosts E} {x : stride_list.Ghosts X} {u : stride_list.Ghosts U} where
+  -- the elements of an owned array under the lengths ms, each with its rank in an order: where strides serve in its own
+  -- storage, as that is, each element where it is; else copies in that order, from place 0 on
+  abbrev pub KeptOrCopied : ArrayBase (OwnedRepr A) D T A P R L M s d n r t → Order → List ℕ → ArrayBase (OwnedRepr A) E U A Q X V W s e k x u → Type 0
+  KeptOrCopied a order ms b =
+      (StridesServe a order ms × ShowsServed a order ms b × (storage_of b ≡ storage_of a))
+      ⊎ ((StridesServe a order ms → ⊥) × OwnsInOrder (ms, order) b × KeepsRanks a order ms b)

@@ -1,0 +1,58 @@
+-- Another shape of the same elements under strides that give them the same places, where some do.
+use Rattle.std.specs.Prelude.{ℕ, ◌≡◌, ◌<◌, ◌≤◌, List, ℤ, pos, length, replicate}
+use Rattle.nd_shape_and_slice.specs.declared.dimension.Dimension as dimension
+use Rattle.nd_shape_and_slice.specs.declared.dimension.AxisCount as axis_count
+use Rattle.nd_shape_and_slice.specs.declared.dimension.StrideList as stride_list
+use Rattle.nd_shape_and_slice.specs.declared.builder.Order.{Order}
+use Rattle.nd_shape_and_slice.specs.Shape.{size_of}
+use Rattle.nd_shape_and_slice.specs.Place.{span_of, IsSeparated}
+use Rattle.nd_layout.specs.Ranks.{Serves}
+use Rattle.nd_layout.specs.Strides.{RestsAtOnes}
+use Rattle.nd_array_core.specs.declared.base.storage.Data as data_trait
+use Rattle.nd_array_core.specs.declared.base.array.ArrayBase.{ArrayBase}
+use Rattle.nd_array_core.specs.Meaning.{Meaning, meaning_of, shape_of, element_at, layout_strides, layout_offset, inside}
+use Rattle.nd_array_core.specs.Part.{Part, ShowsPart}
+use Rattle.nd_array_core.specs.reshape.Regrouped.{regrouped_index}
+
+-- some integers, one for each axis, give every index of the lengths ms the place of the index that has its rank in the
+-- order among those of a layout
+abbrev pub SomeServe : Order → List ℕ → List ℤ → List ℕ → Type 0
+SomeServe order ns ss ms = (ts : List ℤ) × Serves order ns ss ms ts
+
+-- strides that do, with 0 for an axis of length 1, and for each where there is no element; no two places lie further
+-- apart than before, and where each element had one index alone it has
+pub record IsServedBy (order : Order) (ns : List ℕ) (ss : List ℤ) (ms : List ℕ) (ts : List ℤ) : Type 0 where
+  pub serve : Serves order ns ss ms ts
+  pub spread : span_of ms ts ≤ span_of ns ss
+  pub apart : 0 < size_of ms → IsSeparated ns ss → IsSeparated ms ts
+  pub rests : RestsAtOnes ms ts
+  pub empty : size_of ms ≡ 0 → ts ≡ replicate (length ms) (pos 0)
+
+-- what is seen under other lengths, where each element keeps its rank in an order
+abbrev pub regrouped_meaning : {A : Type 0} → Order → List ℕ → Meaning A → Meaning A
+regrouped_meaning order ms m = record { shape = ms; at = λ i. inside ms i (m.at (regrouped_index order m.shape ms i)) }
+
+module _ {S D A T P R L M : Type 0} {s : data_trait.Ghosts S A} {d : dimension.Ghosts D P R L M} {n : axis_count.Ghosts D} {r : stride_list.Ghosts R} {t : stride_list.Ghosts T} where
+  -- some integers serve the lengths ms
+  abbrev pub StridesServe : ArrayBase S D T A P R L M s d n r t → Order → List ℕ → Type 0
+  StridesServe a order ms = SomeServe order (shape_of a) (layout_strides a) ms
+
+  -- the elements under other lengths, each with its rank in an order, and some strides
+  abbrev pub regrouped_part : ArrayBase S D T A P R L M s d n r t → Order → List ℕ → List ℤ → Part
+  regrouped_part a order ms ts = record { shape = ms; strides = ts; source = regrouped_index order (shape_of a) ms }
+
+module _
+    {S D A T P R L M : Type 0} {s : data_trait.Ghosts S A} {d : dimension.Ghosts D P R L M} {n : axis_count.Ghosts D} {r : stride_list.Ghosts R} {t : stride_list.Ghosts T}
+    {Z E U Q X V W : Type 0} {z : data_trait.Ghosts Z A} {e : dimension.Ghosts E Q X V W} {k : axis_count.Ghosts E} {x : stride_list.Ghosts X} {u : stride_list.Ghosts U} where
+  -- b has the lengths ms, and each element has in b the rank in an order that it has in a
+  abbrev pub KeepsRanks : ArrayBase S D T A P R L M s d n r t → Order → List ℕ → ArrayBase Z E U A Q X V W z e k x u → Type 0
+  KeepsRanks a order ms b =
+      (shape_of b ≡ ms)
+      × ((i : List ℕ) → element_at b i ≡ inside ms i (element_at a (regrouped_index order (shape_of a) ms i)))
+
+  -- and it is where it was, by strides that serve
+  abbrev pub ShowsServed : ArrayBase S D T A P R L M s d n r t → Order → List ℕ → ArrayBase Z E U A Q X V W z e k x u → Type 0
+  ShowsServed a order ms b =
+      ShowsPart a (regrouped_part a order ms (layout_strides b)) b
+      × IsServedBy order (shape_of a) (layout_strides a) ms (layout_strides b)
+      × (layout_offset b ≡ layout_offset a)

@@ -1,0 +1,5 @@
+//! Calls along one axis.
+
+mod lanes;
+mod removal;
+mod selection;

@@ -1,0 +1,171 @@
+//! The elements of another array at every index.
+#![tactic(auto, unfolding(crate::specs::Meaning::meaning_of, crate::specs::Meaning::memory_layout_of))]
+
+ghost use Rattle.std.specs.Prelude.{◌≡◌, ◌<◌, ◌≤◌, ℕ, true, List, Some, OnOk, OnErr, pos, length, ◌+ℤ◌, ◌*ℤ◌};
+ghost use Rattle.nd_shape_and_slice.specs.Broadcast.{broadcasts};
+ghost use Rattle.nd_shape_and_slice.specs.Shape.{size_of, HasCheckedSize};
+ghost use Rattle.nd_layout.specs.Places.{ReachesPlaces};
+ghost use Rattle.nd_layout.specs.Walk.{place_at_rank};
+ghost use Rattle.nd_array_core.specs.Places.{names_place, stored_at};
+ghost use Rattle.nd_array_core.specs.base.Fresh.{ClonesAreEqual, ClonesOfAllAreEqual};
+ghost use Rattle.nd_array_core.specs.base.Writes.{KeepsFrame};
+ghost use Rattle.nd_array_core.specs.elements.Assigns.{IsAssignedTo, IsPartlyAssigned};
+ghost use Rattle.nd_array_core.specs.elements.Changes.{AreDistinct};
+ghost use Rattle.nd_array_core.specs.elements.Pairs.{broadcast_at, IsOldOrOf};
+
+use crate::base::array::ArrayBase;
+use crate::base::storage::{Data, DataMut};
+use crate::laws::broadcast_to_itself;
+use nd_layout::{Lane, Lanes};
+use nd_shape_and_slice::{Dimension, NoMemory, StrideList};
+
+/// Writes clones of the elements along a second lane at the places of a lane.
+#[inline(always)]
+fn assign_along<A: Clone + Drop, S: DataMut<Elem = A>, Z: Data<Elem = A>>(
+    storage: &mut S,
+    lane: Lane,
+    others: &Z,
+    beside: Lane,
+) -> Result<(), NoMemory>
+    requires as_long { beside.count ≡ lane.count }
+    requires apart { AreDistinct (λ k. pos lane.place +ℤ (pos k *ℤ lane.stride)) lane.count }
+    requires holds { (k : ℕ) → k < lane.count → names_place (S.stored storage.old) (pos lane.place +ℤ (pos k *ℤ lane.stride)) ≡ true }
+    requires others_hold { (k : ℕ) → k < lane.count → names_place (Z.stored others.now) (pos beside.place +ℤ (pos k *ℤ beside.stride)) ≡ true }
+    requires clones { (k : ℕ) (x : A) → k < lane.count → stored_at (Z.stored others.now) (pos beside.place +ℤ (pos k *ℤ beside.stride)) ≡ Some x → ClonesAreEqual A.is_clone x }
+    ensures assigned { OnOk result (IsAssignedTo (λ k. stored_at (Z.stored others.now) (pos beside.place +ℤ (pos k *ℤ beside.stride))) (λ k. pos lane.place +ℤ (pos k *ℤ lane.stride)) lane.count (S.stored storage.old) (S.stored storage.new)) }
+    ensures stopped { OnErr result (IsPartlyAssigned (λ k. stored_at (Z.stored others.now) (pos beside.place +ℤ (pos k *ℤ beside.stride))) (λ k. pos lane.place +ℤ (pos k *ℤ lane.stride)) lane.count (S.stored storage.old) (S.stored storage.new)) }
+    ensures frame { S.frame storage.new ≡ S.frame storage.old }
+{
+    for nth in 0..lane.count {
+        let other = others.element(beside.place_of(nth));
+        match other.clone() {
+            Ok(copy) => {
+                storage.replace(lane.place_of(nth), copy);
+            }
+            Err(_) => return Err(NoMemory),
+        }
+    }
+    Ok(())
+}
+
+/// The same, with the second storage's region in hand: what a write may not change isn't read anew for each element. Where
+/// both lanes' elements lie side by side the compiler is told so.
+#[inline(always)]
+fn assign_lane<A: Clone + Drop, S: DataMut<Elem = A>, Z: Data<Elem = A>>(
+    storage: &mut S,
+    lane: Lane,
+    others: &Z,
+    beside: Lane,
+) -> Result<(), NoMemory>
+    requires as_long { beside.count ≡ lane.count }
+    requires apart { AreDistinct (λ k. pos lane.place +ℤ (pos k *ℤ lane.stride)) lane.count }
+    requires holds { (k : ℕ) → k < lane.count → names_place (S.stored storage.old) (pos lane.place +ℤ (pos k *ℤ lane.stride)) ≡ true }
+    requires others_hold { (k : ℕ) → k < lane.count → names_place (Z.stored others.now) (pos beside.place +ℤ (pos k *ℤ beside.stride)) ≡ true }
+    requires clones { (k : ℕ) (x : A) → k < lane.count → stored_at (Z.stored others.now) (pos beside.place +ℤ (pos k *ℤ beside.stride)) ≡ Some x → ClonesAreEqual A.is_clone x }
+    ensures assigned { OnOk result (IsAssignedTo (λ k. stored_at (Z.stored others.now) (pos beside.place +ℤ (pos k *ℤ beside.stride))) (λ k. pos lane.place +ℤ (pos k *ℤ lane.stride)) lane.count (S.stored storage.old) (S.stored storage.new)) }
+    ensures stopped { OnErr result (IsPartlyAssigned (λ k. stored_at (Z.stored others.now) (pos beside.place +ℤ (pos k *ℤ beside.stride))) (λ k. pos lane.place +ℤ (pos k *ℤ lane.stride)) lane.count (S.stored storage.old) (S.stored storage.new)) }
+    ensures frame { S.frame storage.new ≡ S.frame storage.old }
+{
+    let region = others.borrowed();
+    if lane.stride == 1 && beside.stride == 1 {
+        let ours = Lane {
+            place: lane.place,
+            count: lane.count,
+            stride: 1,
+        };
+        let theirs = Lane {
+            place: beside.place,
+            count: beside.count,
+            stride: 1,
+        };
+        return assign_along(storage, ours, &region, theirs);
+    }
+    assign_along(storage, lane, &region, beside)
+}
+
+/// Writes at the place of each index of a layout a clone of the element that a second storage has at the place of that index
+/// under other strides.
+fn assign_places<A: Clone + Drop, S: DataMut<Elem = A>, Z: Data<Elem = A>>(
+    storage: &mut S,
+    first: usize,
+    lengths: &[usize],
+    strides: &[isize],
+    others: &Z,
+    from: usize,
+    steps: &[isize],
+) -> Result<(), NoMemory>
+    requires as_many { length strides.now ≡ length lengths.now }
+    requires steps_as_many { length steps.now ≡ length lengths.now }
+    requires few { length lengths.now ≤ 32 }
+    requires checked { HasCheckedSize lengths.now }
+    requires reach { ReachesPlaces first lengths.now strides.now }
+    requires others_reach { ReachesPlaces from lengths.now steps.now }
+    requires apart { AreDistinct (place_at_rank first lengths.now strides.now) (size_of lengths.now) }
+    requires holds { (rank : ℕ) → rank < size_of lengths.now → names_place (S.stored storage.old) (place_at_rank first lengths.now strides.now rank) ≡ true }
+    requires others_hold { (rank : ℕ) → rank < size_of lengths.now → names_place (Z.stored others.now) (place_at_rank from lengths.now steps.now rank) ≡ true }
+    requires clones { (rank : ℕ) (x : A) → rank < size_of lengths.now → stored_at (Z.stored others.now) (place_at_rank from lengths.now steps.now rank) ≡ Some x → ClonesAreEqual A.is_clone x }
+    ensures assigned { OnOk result (IsAssignedTo (λ rank. stored_at (Z.stored others.now) (place_at_rank from lengths.now steps.now rank)) (place_at_rank first lengths.now strides.now) (size_of lengths.now) (S.stored storage.old) (S.stored storage.new)) }
+    ensures stopped { OnErr result (IsPartlyAssigned (λ rank. stored_at (Z.stored others.now) (place_at_rank from lengths.now steps.now rank)) (place_at_rank first lengths.now strides.now) (size_of lengths.now) (S.stored storage.old) (S.stored storage.new)) }
+    ensures frame { S.frame storage.new ≡ S.frame storage.old }
+{
+    let mut ours = Lanes::new(first, lengths, strides);
+    let mut theirs = Lanes::new(from, lengths, steps);
+    while let Some(lane) = ours.next() {
+        match theirs.next() {
+            Some(beside) => match assign_lane(storage, lane, others, beside) {
+                Ok(()) => {}
+                Err(refused) => return Err(refused),
+            },
+            None => unreachable!(),
+        }
+    }
+    Ok(())
+}
+
+impl<A: Clone + Drop, S: DataMut<Elem = A>, D: Dimension> ArrayBase<S, D> {
+    ghost use Rattle.nd_array_core.specs.Meaning.{meaning_of, shape_of, element_at};
+
+    /// Writes at each index a clone of the element that the right side has there once it is broadcast to this shape, which must
+    /// be possible; a clone must equal its original. NoMemory if a clone is refused: each index then has its old element or
+    /// the new one. ndarray's `assign`.
+    pub fn assign<Z: Data<Elem = A>, E: Dimension>(
+        &mut self,
+        rhs: &ArrayBase<Z, E>,
+    ) -> Result<(), NoMemory>
+        requires broadcasts { broadcasts (shape_of rhs.now) (shape_of self.old) ≡ true }
+        requires clones { ClonesOfAllAreEqual A.is_clone (element_at rhs.now) }
+        ensures assigned { OnOk result ((i : List ℕ) → element_at self.new i ≡ broadcast_at (shape_of self.old) (meaning_of rhs.now) i) }
+        ensures stopped { OnErr result (IsOldOrOf (element_at self.old) (broadcast_at (shape_of self.old) (meaning_of rhs.now)) (element_at self.new)) }
+        ensures frame { KeepsFrame S.frame self.old self.new }
+    {
+        match rhs.layout.broadcast(self.layout.dim) {
+            Some(seen) => assign_places(
+                &mut self.storage,
+                self.layout.offset,
+                self.layout.dim.slice(),
+                self.layout.strides.slice(),
+                &rhs.storage,
+                seen.offset,
+                seen.strides.slice(),
+            ),
+            None => unreachable!(),
+        }
+    }
+}
+
+impl<A: Clone + Drop, S: Data<Elem = A>, D: Dimension> ArrayBase<S, D> {
+    ghost use Rattle.nd_array_core.specs.Meaning.{shape_of, element_at};
+
+    /// Writes a clone of each element to an array of the same shape; a clone must equal its original. NoMemory if a clone is
+    /// refused: each index of the other array then has its old element or the new one. ndarray's `assign_to`.
+    pub fn assign_to<Z: DataMut<Elem = A>>(&self, to: &mut ArrayBase<Z, D>) -> Result<(), NoMemory>
+        requires same { shape_of to.old ≡ shape_of self.now }
+        requires clones { ClonesOfAllAreEqual A.is_clone (element_at self.now) }
+        ensures assigned { OnOk result ((i : List ℕ) → element_at to.new i ≡ element_at self.now i) }
+        ensures stopped { OnErr result (IsOldOrOf (element_at to.old) (element_at self.now) (element_at to.new)) }
+        ensures frame { KeepsFrame Z.frame to.old to.new }
+    {
+        broadcast_to_itself(self);
+        to.assign(self)
+    }
+}

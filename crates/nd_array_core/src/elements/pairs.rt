@@ -1,0 +1,169 @@
+//! Closures that are handed the elements of two arrays: one to be written, and one beside it.
+#![tactic(auto, unfolding(crate::specs::Meaning::meaning_of, crate::specs::Meaning::memory_layout_of))]
+
+ghost use Rattle.std.specs.Prelude.{◌≡◌, ◌<◌, ◌≤◌, ℕ, true, List, Some, IsSome, pos, length, ◌+ℤ◌, ◌*ℤ◌};
+ghost use Rattle.nd_shape_and_slice.specs.Broadcast.{broadcasts};
+ghost use Rattle.nd_shape_and_slice.specs.Shape.{size_of, HasCheckedSize};
+ghost use Rattle.nd_layout.specs.Places.{ReachesPlaces};
+ghost use Rattle.nd_layout.specs.Walk.{place_at_rank};
+ghost use Rattle.nd_array_core.specs.Places.{names_place};
+ghost use Rattle.nd_array_core.specs.base.Writes.{KeepsFrame};
+ghost use Rattle.nd_array_core.specs.elements.Changes.{AreDistinct};
+ghost use Rattle.nd_array_core.specs.elements.Pairs.{broadcast_at, option_both, ChangesWith, TakesBoth, IsZippedTo, TakesPairs, ZipsBy, ZipsAll, ZippableInAnyOrder};
+
+use crate::base::array::ArrayBase;
+use crate::base::storage::{Data, DataMut};
+use nd_layout::{Lane, Lanes};
+use nd_shape_and_slice::{Dimension, StrideList};
+
+/// Hands the element at a place to the function, to be written, with another one beside it. It answers the function, as
+/// the call left it.
+fn change_with<B, S: DataMut, F: FnMut(&mut S::Elem, &B)>(
+    storage: &mut S,
+    place: usize,
+    other: &B,
+    mut f: F,
+) -> F
+    requires holds { IsSome (S.stored storage.old place) }
+    requires callable { TakesBoth F.FnMut (Some other.now) (S.stored storage.old place) f }
+    ensures called { ChangesWith F.FnMut (Some other.now) (S.stored storage.old place) (S.stored storage.new place) f result }
+    ensures left { (p : ℕ) → (p ≡ place → ⊥) → S.stored storage.new p ≡ S.stored storage.old p }
+    ensures frame { S.frame storage.new ≡ S.frame storage.old }
+{
+    f(storage.element_mut(place), other);
+    f
+}
+
+/// Hands the elements of a lane to the function, one after the other, each with the one of a second lane beside it.
+#[inline(always)]
+fn zip_along<B, S: DataMut, Z: Data<Elem = B>, F: FnMut(&mut S::Elem, &B)>(
+    storage: &mut S,
+    lane: Lane,
+    others: &Z,
+    beside: Lane,
+    f: F,
+) -> F
+    requires as_long { beside.count ≡ lane.count }
+    requires apart { AreDistinct (λ k. pos lane.place +ℤ (pos k *ℤ lane.stride)) lane.count }
+    requires holds { (k : ℕ) → k < lane.count → names_place (S.stored storage.old) (pos lane.place +ℤ (pos k *ℤ lane.stride)) ≡ true }
+    requires others_hold { (k : ℕ) → k < lane.count → names_place (Z.stored others.now) (pos beside.place +ℤ (pos k *ℤ beside.stride)) ≡ true }
+    requires callable { TakesPairs F.FnMut (S.stored storage.old) (λ k. pos lane.place +ℤ (pos k *ℤ lane.stride)) (Z.stored others.now) (λ k. pos beside.place +ℤ (pos k *ℤ beside.stride)) f lane.count }
+    ensures changed { IsZippedTo F.FnMut (λ k. pos lane.place +ℤ (pos k *ℤ lane.stride)) (Z.stored others.now) (λ k. pos beside.place +ℤ (pos k *ℤ beside.stride)) lane.count (S.stored storage.old) (S.stored storage.new) f result }
+    ensures frame { S.frame storage.new ≡ S.frame storage.old }
+{
+    let mut now = f;
+    for nth in 0..lane.count {
+        let other = others.element(beside.place_of(nth));
+        now = change_with(storage, lane.place_of(nth), other, now);
+    }
+    now
+}
+
+/// The same, with the second storage's region in hand: what a write may not change isn't read anew for each element. Where
+/// both lanes' elements lie side by side the compiler is told so.
+#[inline(always)]
+fn zip_lane<B, S: DataMut, Z: Data<Elem = B>, F: FnMut(&mut S::Elem, &B)>(
+    storage: &mut S,
+    lane: Lane,
+    others: &Z,
+    beside: Lane,
+    f: F,
+) -> F
+    requires as_long { beside.count ≡ lane.count }
+    requires apart { AreDistinct (λ k. pos lane.place +ℤ (pos k *ℤ lane.stride)) lane.count }
+    requires holds { (k : ℕ) → k < lane.count → names_place (S.stored storage.old) (pos lane.place +ℤ (pos k *ℤ lane.stride)) ≡ true }
+    requires others_hold { (k : ℕ) → k < lane.count → names_place (Z.stored others.now) (pos beside.place +ℤ (pos k *ℤ beside.stride)) ≡ true }
+    requires callable { TakesPairs F.FnMut (S.stored storage.old) (λ k. pos lane.place +ℤ (pos k *ℤ lane.stride)) (Z.stored others.now) (λ k. pos beside.place +ℤ (pos k *ℤ beside.stride)) f lane.count }
+    ensures changed { IsZippedTo F.FnMut (λ k. pos lane.place +ℤ (pos k *ℤ lane.stride)) (Z.stored others.now) (λ k. pos beside.place +ℤ (pos k *ℤ beside.stride)) lane.count (S.stored storage.old) (S.stored storage.new) f result }
+    ensures frame { S.frame storage.new ≡ S.frame storage.old }
+{
+    let region = others.borrowed();
+    if lane.stride == 1 && beside.stride == 1 {
+        let ours = Lane {
+            place: lane.place,
+            count: lane.count,
+            stride: 1,
+        };
+        let theirs = Lane {
+            place: beside.place,
+            count: beside.count,
+            stride: 1,
+        };
+        return zip_along(storage, ours, &region, theirs, f);
+    }
+    zip_along(storage, lane, &region, beside, f)
+}
+
+/// Hands the elements at the places of a layout to the function, in row-major order of its indexes, each with the element
+/// that a second storage has at the place of that index under other strides.
+fn zip_places<B, S: DataMut, Z: Data<Elem = B>, F: FnMut(&mut S::Elem, &B)>(
+    storage: &mut S,
+    first: usize,
+    lengths: &[usize],
+    strides: &[isize],
+    others: &Z,
+    from: usize,
+    steps: &[isize],
+    f: F,
+) -> F
+    requires as_many { length strides.now ≡ length lengths.now }
+    requires steps_as_many { length steps.now ≡ length lengths.now }
+    requires few { length lengths.now ≤ 32 }
+    requires checked { HasCheckedSize lengths.now }
+    requires reach { ReachesPlaces first lengths.now strides.now }
+    requires others_reach { ReachesPlaces from lengths.now steps.now }
+    requires apart { AreDistinct (place_at_rank first lengths.now strides.now) (size_of lengths.now) }
+    requires holds { (rank : ℕ) → rank < size_of lengths.now → names_place (S.stored storage.old) (place_at_rank first lengths.now strides.now rank) ≡ true }
+    requires others_hold { (rank : ℕ) → rank < size_of lengths.now → names_place (Z.stored others.now) (place_at_rank from lengths.now steps.now rank) ≡ true }
+    requires callable { TakesPairs F.FnMut (S.stored storage.old) (place_at_rank first lengths.now strides.now) (Z.stored others.now) (place_at_rank from lengths.now steps.now) f (size_of lengths.now) }
+    ensures changed { IsZippedTo F.FnMut (place_at_rank first lengths.now strides.now) (Z.stored others.now) (place_at_rank from lengths.now steps.now) (size_of lengths.now) (S.stored storage.old) (S.stored storage.new) f result }
+    ensures frame { S.frame storage.new ≡ S.frame storage.old }
+{
+    let mut ours = Lanes::new(first, lengths, strides);
+    let mut theirs = Lanes::new(from, lengths, steps);
+    let mut now = f;
+    while let Some(lane) = ours.next() {
+        match theirs.next() {
+            Some(beside) => {
+                now = zip_lane(storage, lane, others, beside, now);
+            }
+            None => unreachable!(),
+        }
+    }
+    now
+}
+
+impl<S: DataMut, D: Dimension> ArrayBase<S, D> {
+    ghost use Rattle.nd_array_core.specs.Meaning.{meaning_of, shape_of, element_at};
+
+    /// Hands each element to the function, to be written, with the element that the right side has there once it is broadcast
+    /// to this shape, which must be possible; each once, in an order that is free, and the function may be called with
+    /// whatever such calls lead to. It takes no memory. ndarray's `zip_mut_with`.
+    pub fn zip_mut_with<B, Z: Data<Elem = B>, E: Dimension, F: FnMut(&mut S::Elem, &B)>(
+        &mut self,
+        rhs: &ArrayBase<Z, E>,
+        f: F,
+    )
+        requires broadcasts { broadcasts (shape_of rhs.now) (shape_of self.old) ≡ true }
+        requires callable { ZippableInAnyOrder F.FnMut (shape_of self.old) (element_at self.old) (broadcast_at (shape_of self.old) (meaning_of rhs.now)) f }
+        ensures visits { ZipsAll F.FnMut (shape_of self.old) (element_at self.old) (broadcast_at (shape_of self.old) (meaning_of rhs.now)) (element_at self.new) f }
+        ensures alike { (h : _) → ZipsBy F.FnMut h f → (i : _) → element_at self.new i ≡ option_both h (element_at self.old i) (broadcast_at (shape_of self.old) (meaning_of rhs.now) i) }
+        ensures frame { KeepsFrame S.frame self.old self.new }
+    {
+        match rhs.layout.broadcast(self.layout.dim) {
+            Some(seen) => {
+                zip_places(
+                    &mut self.storage,
+                    self.layout.offset,
+                    self.layout.dim.slice(),
+                    self.layout.strides.slice(),
+                    &rhs.storage,
+                    seen.offset,
+                    seen.strides.slice(),
+                    f,
+                );
+            }
+            None => unreachable!(),
+        }
+    }
+}

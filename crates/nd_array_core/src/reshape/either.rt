@@ -1,0 +1,52 @@
+//! A view of an array where that serves, and else an array of its own.
+#![tactic(auto, unfolding(crate::specs::Meaning::meaning_of, crate::specs::Meaning::memory_layout_of))]
+
+ghost use Rattle.std.specs.Prelude.{◌↔◌, ◌≡◌, IsTrue, true, false};
+
+use crate::base::array::{ArrayBase, ArrayView};
+use crate::base::storage::{Data, OwnedRepr, ViewRepr};
+use nd_shape_and_slice::Dimension;
+
+/// A view, or an array that owns its elements. Users write `ViewOrOwned`.
+#[derive(Drop)]
+pub enum EitherArray<A, V: Data<Elem = A>, S: Data<Elem = A>, D: Dimension> {
+    /// A view of another array.
+    View(ArrayBase<V, D>),
+    /// Elements of its own.
+    Owned(ArrayBase<S, D>),
+}
+
+/// What a reshape of a borrowed array answers: a view of it, or a copy in the asked order. It stands for ndarray's
+/// `CowArray`.
+pub type ViewOrOwned<'a, A, D> = EitherArray<A, ViewRepr<'a, A>, OwnedRepr<A>, D>;
+
+impl<A, V: Data<Elem = A>, S: Data<Elem = A>, D: Dimension> EitherArray<A, V, S, D> {
+    ghost use Rattle.nd_array_core.specs.reshape.Either.{is_view_in, ShowsEither};
+
+    /// Whether it is a view, so that nothing was copied. ndarray's `CowArray::is_view`.
+    pub fn is_view(&self) -> bool
+        ensures { result ≡ is_view_in self.now }
+    {
+        match self {
+            EitherArray::View(_) => true,
+            EitherArray::Owned(_) => false,
+        }
+    }
+
+    /// Whether it owns its elements. ndarray's `CowArray::is_owned`.
+    pub fn is_owned(&self) -> bool
+        ensures { result ≡ false ↔ is_view_in self.now ≡ true }
+    {
+        !self.is_view()
+    }
+
+    /// A read-only view of it, with the same strides. ndarray's `CowArray::view`.
+    pub fn view(&self) -> ArrayView<'_, A, D>
+        ensures whole { ShowsEither self.now result }
+    {
+        match self {
+            EitherArray::View(view) => view.view(),
+            EitherArray::Owned(array) => array.view(),
+        }
+    }
+}

@@ -1,0 +1,83 @@
+//! Strides under which another shape gives the same elements the same places.
+#![tactic(auto, unfolding(crate::specs::Meaning::meaning_of, crate::specs::Meaning::memory_layout_of))]
+
+ghost use Rattle.std.specs.Prelude.{◌↔◌, ◌≡◌, ◌<◌, IsSome, IfSome};
+ghost use Rattle.nd_shape_and_slice.specs.Shape.{size_of};
+ghost use Rattle.nd_shape_and_slice.specs.Place.{IsSeparated};
+ghost use Rattle.nd_layout.specs.Steps.{IsViewStep};
+ghost use Rattle.nd_array_core.specs.reshape.Regrouped.{IsShapeOf, regrouped_index};
+ghost use Rattle.nd_array_core.specs.reshape.Serving.{SomeServe, IsServedBy, StridesServe, ShowsServed};
+ghost use Rattle.nd_array_core.specs.Meaning.{shape_of, storage_of};
+
+use crate::base::array::{ArrayBase, ArrayView};
+use crate::base::storage::Data;
+use nd_layout::{Layout, reshape_strides};
+use nd_shape_and_slice::{Dimension, Order, StrideList, strides_from};
+
+/// Strides under which other lengths give each element, by its rank in an order, the place that it has; None exactly
+/// where no integers do.
+fn serving_strides<D: Dimension, E: Dimension>(
+    layout: &Layout<D, D::Strides>,
+    dim: &E,
+    order: Order,
+) -> Option<E::Strides>
+    requires shape { IsShapeOf (D.lengths layout.now.dim) (E.lengths dim.now) }
+    ensures some { IsSome result ↔ SomeServe order (D.lengths layout.now.dim) (D.Strides.strides_of layout.now.strides) (E.lengths dim.now) }
+    ensures served { IfSome result (λ ts. IsServedBy order (D.lengths layout.now.dim) (D.Strides.strides_of layout.now.strides) (E.lengths dim.now) (E.Strides.strides_of ts)) }
+{
+    let lengths = dim.slice();
+    let mut list = [0; 32];
+    let strides = &mut list[..lengths.len()];
+    if reshape_strides(
+        layout.dim.slice(),
+        layout.strides.slice(),
+        lengths,
+        order,
+        strides,
+    ) {
+        Some(strides_from(dim, strides))
+    } else {
+        None
+    }
+}
+
+/// The layout with other lengths, in which each element keeps its rank in an order and its place; None exactly where no
+/// strides serve.
+pub(crate) fn served_layout<D: Dimension, E: Dimension>(
+    layout: &Layout<D, D::Strides>,
+    dim: E,
+    order: Order,
+) -> Option<Layout<E, E::Strides>>
+    requires shape { IsShapeOf (D.lengths layout.now.dim) (E.lengths dim) }
+    ensures some { IsSome result ↔ SomeServe order (D.lengths layout.now.dim) (D.Strides.strides_of layout.now.strides) (E.lengths dim) }
+    ensures offset { IfSome result (λ l. l.offset ≡ layout.now.offset) }
+    ensures lengths { IfSome result (λ l. E.lengths l.dim ≡ E.lengths dim) }
+    ensures served { IfSome result (λ l. IsServedBy order (D.lengths layout.now.dim) (D.Strides.strides_of layout.now.strides) (E.lengths dim) (E.Strides.strides_of l.strides)) }
+    ensures seen { IfSome result (λ l. IsViewStep layout.now.offset (D.lengths layout.now.dim) (D.Strides.strides_of layout.now.strides) l.offset (E.lengths l.dim) (E.Strides.strides_of l.strides) (regrouped_index order (D.lengths layout.now.dim) (E.lengths dim))) }
+    ensures separated { IfSome result (λ l. 0 < size_of (E.lengths dim) → IsSeparated (D.lengths layout.now.dim) (D.Strides.strides_of layout.now.strides) → IsSeparated (E.lengths l.dim) (E.Strides.strides_of l.strides)) }
+{
+    match serving_strides(layout, &dim, order) {
+        Some(strides) => Some(Layout::strided(layout.offset, dim, strides)),
+        None => None,
+    }
+}
+
+/// The view of an array under other lengths, each element with its rank in an order and at its place; None exactly where
+/// no strides serve.
+pub(crate) fn served_view<S: Data, D: Dimension, E: Dimension>(
+    array: &ArrayBase<S, D>,
+    dim: E,
+    order: Order,
+) -> Option<ArrayView<'_, S::Elem, E>>
+    requires shape { IsShapeOf (shape_of array.now) (E.lengths dim) }
+    ensures some { IsSome result ↔ StridesServe array.now order (E.lengths dim) }
+    ensures shows { IfSome result (λ v. ShowsServed array.now order (E.lengths dim) v) }
+{
+    match served_layout(&array.layout, dim, order) {
+        Some(layout) => Some(ArrayBase {
+            storage: array.storage.borrowed(),
+            layout,
+        }),
+        None => None,
+    }
+}

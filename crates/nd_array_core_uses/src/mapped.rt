@@ -1,0 +1,99 @@
+//! New arrays of what a closure answers for each element, and elements exchanged for it.
+#![tactic(auto)]
+
+ghost use Rattle.std.specs.Prelude.{◌≡◌, ◌+◌, ◌*◌, ◌%◌, ◌^◌, ◌<◌, ℕ, nat_lt, List, IfOk, OnOk, OnErr, if◌then◌else◌};
+ghost use Rattle.std.specs.Option.{option_map};
+ghost use Rattle.nd_array_core.specs.Coordinates.{element_of_2};
+ghost use Rattle.nd_array_core.specs.Meaning.{shape_of, element_at};
+ghost use Rattle.nd_array_core.specs.elements.Maps.{IsOldOrMapped};
+
+use nd_array_core::{Array, Array2, ArrayBase, Data, DataMut};
+use nd_shape_and_slice::{Dimension, Ix2, NoMemory};
+use std::alloc::Global;
+
+/// A new array of every element doubled, modulo 2 to the 64th.
+pub fn doubled<S: Data<Elem = u64>, D: Dimension>(
+    alloc: Global,
+    array: &ArrayBase<S, D>,
+) -> Result<Array<u64, D>, NoMemory>
+    ensures shape { IfOk result (λ a. shape_of a ≡ shape_of array.now) }
+    ensures elements { IfOk result (λ a. (i : List ℕ) → element_at a i ≡ option_map (λ x. (x * 2) % 2 ^ 64) (element_at array.now i)) }
+{
+    let doubled = array.map(alloc, |x| x.wrapping_mul(2))?;
+    Ok(doubled)
+}
+
+/// A new image of every pixel doubled, modulo 2 to the 64th, row by row and column by column.
+pub fn doubled_pixels<S: Data<Elem = u64>>(
+    alloc: Global,
+    image: &ArrayBase<S, Ix2>,
+) -> Result<Array2<u64>, NoMemory>
+    ensures shape { IfOk result (λ a. shape_of a ≡ shape_of image.now) }
+    ensures pixels { IfOk result (λ a. (row column : ℕ) → element_of_2 a row column ≡ option_map (λ x. (x * 2) % 2 ^ 64) (element_of_2 image.now row column)) }
+{
+    let doubled = image.map(alloc, |x| x.wrapping_mul(2))?;
+    Ok(doubled)
+}
+
+/// A grey image as black and white: 0 where a pixel is below a level, and 255 where it isn't.
+pub fn thresholded<S: Data<Elem = u8>>(
+    alloc: Global,
+    image: &ArrayBase<S, Ix2>,
+    level: u8,
+) -> Result<Array2<u8>, NoMemory>
+    ensures shape { IfOk result (λ a. shape_of a ≡ shape_of image.now) }
+    ensures pixels { IfOk result (λ a. (row column : ℕ) → element_of_2 a row column ≡ option_map (λ x. if nat_lt x level then 0 else 255) (element_of_2 image.now row column)) }
+{
+    let seen = image.mapv(alloc, |x| if x < level { 0 } else { 255 })?;
+    Ok(seen)
+}
+
+/// Adds a number to every element, modulo 2 to the 64th. Want of memory leaves each element as it was or as it is to be.
+pub fn raise_all<S: DataMut<Elem = u64>, D: Dimension>(
+    array: &mut ArrayBase<S, D>,
+    by: u64,
+) -> Result<(), NoMemory>
+    ensures shape { shape_of array.new ≡ shape_of array.old }
+    ensures elements { OnOk result ((i : List ℕ) → element_at array.new i ≡ option_map (λ x. (x + by) % 2 ^ 64) (element_at array.old i)) }
+    ensures stopped { OnErr result (IsOldOrMapped (λ x. (x + by) % 2 ^ 64) (element_at array.old) (element_at array.new)) }
+{
+    array.mapv_inplace(|x| x.wrapping_add(by))?;
+    Ok(())
+}
+
+/// The array itself with every element doubled, modulo 2 to the 64th.
+pub fn doubled_itself<D: Dimension>(array: Array<u64, D>) -> Result<Array<u64, D>, NoMemory>
+    ensures shape { IfOk result (λ a. shape_of a ≡ shape_of array) }
+    ensures elements { IfOk result (λ a. (i : List ℕ) → element_at a i ≡ option_map (λ x. (x * 2) % 2 ^ 64) (element_at array i)) }
+{
+    let doubled = array.mapv_into(|x| x.wrapping_mul(2))?;
+    Ok(doubled)
+}
+
+/// Shows every element to a function that may always be called.
+pub fn show_all<A, S: Data<Elem = A>, D: Dimension, F: FnMut(&A)>(array: &ArrayBase<S, D>, f: F)
+    requires { (state : F) (x : _) → F.pre state x }
+{
+    array.for_each(f);
+}
+
+#[cfg(test)]
+mod tests {
+    use super::*;
+    use nd_array_core::Array2;
+    use std::test::Fail;
+
+    #[test]
+    fn a_threshold(rt: HostRuntime) -> Result<(), Fail> {
+        let cells = Vec::from_slice(rt.alloc(), &[10, 20, 30, 30, 20, 10])?;
+        let image: Array2<u8> = Array::from_shape_vec((2, 3), cells).ok().ok_or("shape")?;
+        let turned = image.reversed_axes();
+        let seen = thresholded(rt.alloc(), &turned, 20).ok().ok_or("memory")?;
+        assert_eq!(rt; seen.shape(), [3, 2].as_slice());
+        assert_eq!(rt; seen.get([0, 0]).copied(), Some(0));
+        assert_eq!(rt; seen.get([1, 0]).copied(), Some(255));
+        assert_eq!(rt; seen.get([0, 1]).copied(), Some(255));
+        assert_eq!(rt; seen.get([2, 1]).copied(), Some(0));
+        Ok(())
+    }
+}

@@ -1,0 +1,77 @@
+//! Two arrays side by side: one added to another, a row added to each row, and a view copied into another array.
+#![tactic(auto)]
+
+ghost use Rattle.std.specs.Prelude.{◌≡◌, ◌+◌, ◌%◌, ◌^◌, ◌<◌, ◌∷◌, [], ℕ, true, List, OnOk, slice_index};
+ghost use Rattle.nd_shape_and_slice.specs.Broadcast.{broadcasts};
+ghost use Rattle.nd_array_core.specs.Meaning.{meaning_of, shape_of, element_at};
+ghost use Rattle.nd_array_core.specs.Coordinates.{element_of_1, element_of_2};
+ghost use Rattle.nd_array_core.specs.Part.{sliced_part};
+ghost use Rattle.nd_array_core.specs.scoped.PartTasks.{KeepsBut};
+ghost use Rattle.nd_shape_and_slice.specs.SliceInfo.{fits_shape, shape_after};
+ghost use Rattle.nd_array_core.specs.elements.Pairs.{broadcast_at, option_both};
+
+use nd_array_core::laws::{broadcast_to_itself, shape_is_checked};
+use nd_array_core::{ArrayBase, Data, DataMut};
+use nd_shape_and_slice::{Dimension, Ix1, Ix2, NoMemory, SliceArg};
+
+/// Adds to each element the one that another array, broadcast to this shape, has there, modulo 2 to the 64th.
+pub fn add_all<S: DataMut<Elem = u64>, D: Dimension, Z: Data<Elem = u64>, E: Dimension>(
+    array: &mut ArrayBase<S, D>,
+    other: &ArrayBase<Z, E>,
+)
+    requires { broadcasts (shape_of other.now) (shape_of array.old) ≡ true }
+    ensures shape { shape_of array.new ≡ shape_of array.old }
+    ensures elements { (i : List ℕ) → element_at array.new i ≡ option_both (λ x y. (x + y) % 2 ^ 64) (element_at array.old i) (broadcast_at (shape_of array.old) (meaning_of other.now) i) }
+{
+    array.zip_mut_with(other, |x, y| *x = x.wrapping_add(*y));
+}
+
+/// Adds a row to each row of an image, modulo 2 to the 64th.
+#[tactic(auto, using(std::proofs::lemmas::Bool::Decides::nat_tests))]
+pub fn add_row<S: DataMut<Elem = u64>, Z: Data<Elem = u64>>(
+    image: &mut ArrayBase<S, Ix2>,
+    row: &ArrayBase<Z, Ix1>,
+)
+    requires { slice_index (shape_of row.now) 0 ≡ slice_index (shape_of image.old) 1 }
+    ensures shape { shape_of image.new ≡ shape_of image.old }
+    ensures elements { (i j : ℕ) → i < slice_index (shape_of image.old) 0 → j < slice_index (shape_of image.old) 1 → element_of_2 image.new i j ≡ option_both (λ x y. (x + y) % 2 ^ 64) (element_of_2 image.old i j) (element_of_1 row.now j) }
+{
+    let (_rows, _columns) = image.dim();
+    let _columns = row.dim();
+    shape_is_checked(image);
+    add_all(image, row);
+}
+
+/// Makes an array show what another of the same shape does.
+pub fn overwrite<A: Clone + Drop, S: DataMut<Elem = A>, Z: Data<Elem = A>, D: Dimension>(
+    array: &mut ArrayBase<S, D>,
+    source: &ArrayBase<Z, D>,
+) -> Result<(), NoMemory>
+    requires same { shape_of source.now ≡ shape_of array.old }
+    requires clones { (x copy : A) → A.is_clone x copy → copy ≡ x }
+    ensures shape { shape_of array.new ≡ shape_of array.old }
+    ensures elements { OnOk result ((i : List ℕ) → element_at array.new i ≡ element_at source.now i) }
+{
+    broadcast_to_itself(source);
+    array.assign(source)?;
+    Ok(())
+}
+
+/// Copies an array into the part of another that a list of slices names.
+pub fn paste<
+    A: Clone + Drop,
+    S: DataMut<Elem = A>,
+    D: Dimension,
+    I: SliceArg<D>,
+    Z: Data<Elem = A>,
+    E: Dimension,
+>(array: &mut ArrayBase<S, D>, info: I, source: &ArrayBase<Z, E>) -> Result<(), NoMemory>
+    requires fits { fits_shape (shape_of array.old) (I.elements_of info) ≡ true }
+    requires broadcasts { broadcasts (shape_of source.now) (shape_after (shape_of array.old) (I.elements_of info)) ≡ true }
+    requires clones { (x copy : A) → A.is_clone x copy → copy ≡ x }
+    ensures shape { shape_of array.new ≡ shape_of array.old }
+    ensures kept { KeepsBut array.old array.new (sliced_part array.old (I.elements_of info)) }
+{
+    array.slice_mut(info).assign(source)?;
+    Ok(())
+}
