@@ -1,5 +1,6 @@
 pub mod BadLines
 pub mod StepTests
+pub mod Counts
 pub mod Driving
 pub mod Indexes
 pub mod Items

@@ -1,10 +1,10 @@
 -- A row for each keyword: what is read behind it is what is written there.
 use Rattle.std.proofs.Common.{◌≡◌, ℕ, ◌≤◌, ◌<◌, true, false, List, [], ◌∷◌, ◌++◌, length, length-append, ℤ, Option, Some, refl, ap, ◌∙◌, arith}
 use Rattle.nd_run.specs.declared.keyword.Keyword.{Keyword}
-use Rattle.nd_run.specs.declared.keyword.Keyword.TheVariants.{Start, Keep, Ask, Write, Split, Cut, Slice as SliceWord, Collapse, Index, Permute, Reverse, SwapAxes, Invert, Insert, Remove, Squeeze, Diag, Broadcast, Part, Coordinate, New, Shape, Elements, Get, First, Last, Equal, Fill, Set, Swap}
+use Rattle.nd_run.specs.declared.keyword.Keyword.TheVariants.{Start, Keep, Ask, Write, Split, Cut, Slice as SliceWord, Collapse, Index, Permute, Reverse, SwapAxes, Invert, Insert, Remove, Squeeze, Diag, Broadcast, Part, Coordinate, New, Shape, Elements, Get, First, Last, Equal, Count, Select, RemoveIndex, Fill, Set, Swap}
 use Rattle.nd_shape_and_slice.specs.declared.slice_info.SliceInfoElem.TheVariants.{Slice as Cutting, Index as At, NewAxis}
 use Rattle.nd_array_core.specs.Meaning.{Meaning}
-use Rattle.nd_run.specs.Calls.{AskedStep, SlicedAxis, Sliced, Collapsed, Indexed, Permuted, Reversed, Exchanged, Inverted, Inserted, Removed, Squeezed, Diagonal, BroadcastTo, Asking, AskShape, AskElements, AskElement, AskFirst, AskLast, AskEqual, Acting, Filling, Setting, Swapping, Asked, Keeping, About, Writing, SplitWriting}
+use Rattle.nd_run.specs.Calls.{AskedStep, SlicedAxis, Sliced, Collapsed, Indexed, Permuted, Reversed, Exchanged, Inverted, Inserted, Removed, Squeezed, Diagonal, BroadcastTo, Asking, AskShape, AskElements, AskElement, AskFirst, AskLast, AskEqual, AskCount, Acting, Filling, Setting, Swapping, Asked, Keeping, About, Writing, SplitWriting, Selecting, Removing}
 use Rattle.nd_run.specs.Spelling.{spelling, is_step}
 use Rattle.nd_run.specs.Grammar.{IsBoth, IsNamed, IsSlashed, IsPair, IsEnd, IsSlice, IsElementBehind, IsElement, IsStepBehind, IsStep, IsPath, IsQuestionBehind, IsActBehind, IsAct, IsCallBehind, IsCall, IsStartBehind, IsStart}
 use Rattle.nd_run.specs.Reading.{both_at, slashed_at, named_at, pair_at, end_of, slice_at, element_by, element_at, step_by, step_at, begins_step, path_at, question_by, act_by, act_at, call_by, call_at, call_of, start_by, start_of}
@@ -111,6 +111,7 @@ question_rows Get = made_reads AskElement list_reads
 question_rows First = bare_reads AskFirst
 question_rows Last = bare_reads AskLast
 question_rows Equal = made_reads AskEqual array_reads
+question_rows Count = made_reads AskCount int_reads
 question_rows _ = none_reads
 
 no_step_question : (k : Keyword) (words : List (List ℕ)) (question : Asking ℤ) → IsQuestionBehind k words question → is_step k ≡ false
@@ -120,6 +121,7 @@ no_step_question Get words question h = refl
 no_step_question First words question h = refl
 no_step_question Last words question h = refl
 no_step_question Equal words question h = refl
+no_step_question Count words question h = refl
 no_step_question _ words question h = absurd h
 
 act_rows : {n : ℕ} (k : Keyword) → Reads n (act_by k) (IsActBehind k)
@@ -144,6 +146,8 @@ call_rows Keep = made_reads Keeping step_reads
 call_rows Ask = made_reads (λ x. About x.0 x.1) (path_then question_by IsQuestionBehind (named_reads question_rows (λ words x h. h)) no_step_question)
 call_rows Write = made_reads (λ x. Writing x.0 x.1) (path_then act_by IsActBehind act_reads no_step_act)
 call_rows Split = made_reads (λ x. SplitWriting x.0.0 x.0.1 x.1.0 x.1.1) (both_reads pair_reads (both_reads (slashed_reads act_reads) act_reads))
+call_rows Select = made_reads (λ x. Selecting x.0 x.1) (both_reads nat_reads list_reads)
+call_rows RemoveIndex = made_reads (λ x. Removing x.0 x.1) pair_reads
 call_rows _ = none_reads
 
 call_reads : {n : ℕ} → Reads n (call_at n) IsCall

@@ -34,7 +34,8 @@ pub data AskedStep : Type 0 where
   Diagonal : AskedStep
   BroadcastTo : (lengths : List ℕ) → AskedStep
 
--- a question: the lengths, all elements, the element of an index, the first or last one, or whether it equals an array
+-- a question: the lengths, all elements, the element of an index, the first or last one, whether it equals an array, or
+-- how many elements equal one
 pub data Asking (A : Type 0) : Type 0 where
   AskShape : Asking A
   AskElements : Asking A
@@ -42,6 +43,7 @@ pub data Asking (A : Type 0) : Type 0 where
   AskFirst : Asking A
   AskLast : Asking A
   AskEqual : (other : Meaning A) → Asking A
+  AskCount : (element : A) → Asking A
 
 -- an act: each element is set to one value, or that of an index is; or the elements of two indexes change places
 pub data Acting (A : Type 0) : Type 0 where
@@ -49,13 +51,15 @@ pub data Acting (A : Type 0) : Type 0 where
   Setting : (index : List ℕ) (value : A) → Acting A
   Swapping : (a b : List ℕ) → Acting A
 
--- a call: a step whose result is kept, a question at the end of some steps, an act there, or an act on each part of the
--- array split before a coordinate of an axis
+-- a call: a step whose result is kept, a question at the end of some steps, an act there, an act on each part of the
+-- array split before a coordinate of an axis; coordinates of an axis chosen, or one taken out
 pub data Asked (A : Type 0) : Type 0 where
   Keeping : (step : AskedStep) → Asked A
   About : (path : List AskedStep) (question : Asking A) → Asked A
   Writing : (path : List AskedStep) (act : Acting A) → Asked A
   SplitWriting : (axis index : ℕ) (first second : Acting A) → Asked A
+  Selecting : (axis : ℕ) (indexes : List ℕ) → Asked A
+  Removing : (axis index : ℕ) → Asked A
 
 -- a reply
 pub data Said (A : Type 0) : Type 0 where
@@ -65,6 +69,7 @@ pub data Said (A : Type 0) : Type 0 where
   SaidElements : (lengths : List ℕ) (elements : List A) → Said A
   SaidElement : (element : Option A) → Said A
   SaidTruth : (truth : Bool) → Said A
+  SaidNumber : (number : ℕ) → Said A
 
 abbrev pub asked_step : Step → AskedStep
 asked_step (steps.SliceAxis axis slice) = SlicedAxis axis slice
@@ -94,12 +99,15 @@ module _ {A : Type 0} {s : data_trait.Ghosts (OwnedRepr A) A} where
   asking questions.First = AskFirst
   asking questions.Last = AskLast
   asking (questions.EqualTo other) = AskEqual (meaning_of other)
+  asking (questions.Count element) = AskCount element
 
   abbrev pub asked_call : Call A (OwnedRepr A) s → Asked A
   asked_call (calls.Keep step) = Keeping (asked_step step)
   asked_call (calls.Ask path question) = About (map asked_step path.items) (asking question)
   asked_call (calls.Write path act) = Writing (map asked_step path.items) (acting act)
   asked_call (calls.SplitWrite axis index first second) = SplitWriting axis index (acting first) (acting second)
+  asked_call (calls.Select axis indexes) = Selecting axis indexes.items
+  asked_call (calls.RemoveIndex axis index) = Removing axis index
 
 abbrev pub said_reply : {A : Type 0} → Reply A → Said A
 said_reply replies.Done = SaidDone
@@ -108,3 +116,4 @@ said_reply (replies.Shape lengths) = SaidShape lengths.items
 said_reply (replies.Elements lengths elements) = SaidElements lengths.items elements.items
 said_reply (replies.Element element) = SaidElement element
 said_reply (replies.Truth truth) = SaidTruth truth
+said_reply (replies.Number number) = SaidNumber number

@@ -1,15 +1,19 @@
 -- What a list of calls answers, and what it leaves of an array's meaning: a fold over the calls. No view, borrow
 -- or storage occurs.
-use Rattle.std.specs.Prelude.{◌≡◌, ℕ, Bool, Option, None, true, false, ◌||◌, List, [], ◌∷◌, ◌++◌, Result, Ok, Err, ◌⊎◌}
+use Rattle.std.specs.Prelude.{◌≡◌, ◌^◌, ℕ, nat_lt, slice_index, Bool, Option, None, true, false, ◌||◌, List, [], ◌∷◌, ◌++◌, Result, Ok, Err, ◌⊎◌}
 use Rattle.nd_shape_and_slice.specs.Shape.{in_box}
 use Rattle.nd_array_core.specs.Meaning.{Meaning, meaning_through}
 use Rattle.nd_shape_and_slice.specs.FirstIndex.{first_index}
 use Rattle.nd_array_core.specs.LastIndex.{last_index}
 use Rattle.nd_array_core.specs.Equality.{equal_meanings}
 use Rattle.nd_array_core.specs.Joined.{row_major_elements}
-use Rattle.nd_run.specs.Calls.{AskedStep, Asking, AskShape, AskElements, AskElement, AskFirst, AskLast, AskEqual, Asked, Keeping, About, Writing, SplitWriting, Said, SaidDone, SaidRefused, SaidShape, SaidElements, SaidElement, SaidTruth, said_reply}
+use Rattle.nd_run.specs.Calls.{AskedStep, Asking, AskShape, AskElements, AskElement, AskFirst, AskLast, AskEqual, AskCount, Asked, Keeping, About, Writing, SplitWriting, Selecting, Removing, Said, SaidDone, SaidRefused, SaidShape, SaidElements, SaidElement, SaidTruth, SaidNumber, said_reply}
 use Rattle.std.specs.Prelude.{map}
-use Rattle.nd_run.specs.Steps.{Test, first_failed, tests_of, keep_tests, refusal, unless, step_shape, step_index, shape_along, index_along}
+use Rattle.std.specs.List.{count_by, list_all}
+use Rattle.nd_shape_and_slice.specs.Shape.{nonzero_product}
+use Rattle.nd_array_core.specs.along.Selected.{selected_shape, selected_index}
+use Rattle.nd_array_core.specs.along.Removed.{removed_shape, removed_index}
+use Rattle.nd_run.specs.Steps.{Test, first_failed, has_axis, has_coordinate, tests_of, keep_tests, refusal, unless, step_shape, step_index, shape_along, index_along}
 use Rattle.nd_run.specs.Acts.{path_tests, meaning_at_end, write_tests, written, split_tests, split_written, clones}
 use Rattle.nd_run.specs.declared.calls.Reply.{Reply}
 use Rattle.nd_run.specs.declared.run.RunFault.{RunFault}
@@ -51,6 +55,7 @@ answer_to eq (AskElement index) m = SaidElement (m.at index)
 answer_to eq AskFirst m = SaidElement (m.at (first_index m.shape))
 answer_to eq AskLast m = SaidElement (m.at (last_index m.shape))
 answer_to eq (AskEqual other) m = SaidTruth (equal_meanings eq m other)
+answer_to eq (AskCount x) m = SaidNumber (count_by (λ y. eq y x) (row_major_elements m))
 
 -- the number of a cause in a reply
 abbrev pub number_of : Cause → ℕ
@@ -59,6 +64,7 @@ number_of causes.Index = 2
 number_of causes.Slice = 3
 number_of causes.Permutation = 4
 number_of causes.Shape = 5
+number_of causes.Overflow = 6
 number_of causes.TooManyAxes = 7
 number_of causes.Broadcast = 8
 
@@ -71,6 +77,7 @@ question_tests question ns = []
 -- a question whose answer takes memory
 abbrev pub answers_in_memory : {A : Type 0} → Asking A → Bool
 answers_in_memory (AskEqual other) = false
+answers_in_memory (AskCount x) = false
 answers_in_memory _ = true
 
 -- the first cause against a path that is only looked along
@@ -81,11 +88,19 @@ look_refusal path ns = first_failed (path_tests tests_of path ns)
 abbrev pub ask_tests : {A : Type 0} → List AskedStep → Asking A → List ℕ → List Test
 ask_tests path question ns = path_tests tests_of path ns ++ question_tests question (shape_along path ns)
 
+-- the tests of coordinates that are chosen on an axis
+abbrev pub select_tests : ℕ → List ℕ → List ℕ → List Test
+select_tests axis indexes ns =
+    has_axis axis ns ∷ (list_all (λ k. nat_lt k (slice_index ns axis)) indexes, causes.Index)
+    ∷ (nat_lt (nonzero_product (selected_shape ns axis indexes)) (2 ^ 63), causes.Overflow) ∷ []
+
 abbrev pub tests_for : {A : Type 0} → Asked A → List ℕ → List Test
 tests_for (Keeping step) ns = keep_tests step ns
 tests_for (About path question) ns = ask_tests path question ns
 tests_for (Writing path act) ns = write_tests path act ns
 tests_for (SplitWriting axis index first second) ns = split_tests axis index first second ns
+tests_for (Selecting axis indexes) ns = select_tests axis indexes ns
+tests_for (Removing axis index) ns = has_axis axis ns ∷ has_coordinate axis index ns ∷ []
 
 -- the reply, and the array afterwards
 abbrev pub done : {A : Type 0} → (A → A → Bool) → Asked A → Meaning A → Said A × Meaning A
@@ -93,12 +108,16 @@ done eq (Keeping step) m = (SaidDone, step_meaning step m)
 done eq (About path question) m = (answer_to eq question (meaning_at_end path m), m)
 done eq (Writing path act) m = (SaidDone, written path act m)
 done eq (SplitWriting axis index first second) m = (SaidDone, split_written axis index first second m)
+done eq (Selecting axis indexes) m = (SaidDone, meaning_through (selected_shape m.shape axis indexes) (selected_index axis indexes) m)
+done eq (Removing axis index) m = (SaidDone, meaning_through (removed_shape m.shape axis) (removed_index axis index) m)
 
 abbrev pub takes_memory : {A : Type 0} → Asked A → Bool
 takes_memory (Keeping step) = false
 takes_memory (About path question) = answers_in_memory question
 takes_memory (Writing path act) = clones act
 takes_memory (SplitWriting axis index first second) = clones first || clones second
+takes_memory (Selecting axis indexes) = true
+takes_memory (Removing axis index) = false
 
 -- ---- what comes of a call
 

@@ -6,8 +6,8 @@ use Rattle.nd_shape_and_slice.specs.declared.slice.Slice.{Slice}
 use Rattle.nd_shape_and_slice.specs.declared.slice_info.SliceInfoElem.{SliceInfoElem}
 use Rattle.nd_shape_and_slice.specs.declared.slice_info.SliceInfoElem.TheVariants.{Slice as Cutting, Index as At, NewAxis}
 use Rattle.nd_run.specs.declared.keyword.Keyword.{Keyword}
-use Rattle.nd_run.specs.declared.keyword.Keyword.TheVariants.{Start, Keep, Ask, Write, Split, Slash, Cut, Slice as SliceWord, Collapse, Index, Permute, Reverse, SwapAxes, Invert, Insert, Remove, Squeeze, Diag, Broadcast, Part, Coordinate, New, Shape, Elements, Get, First, Last, Equal, Fill, Set, Swap}
-use Rattle.nd_run.specs.Calls.{AskedStep, SlicedAxis, Sliced, Collapsed, Indexed, Permuted, Reversed, Exchanged, Inverted, Inserted, Removed, Squeezed, Diagonal, BroadcastTo, Asking, AskShape, AskElements, AskElement, AskFirst, AskLast, AskEqual, Acting, Filling, Setting, Swapping, Asked, Keeping, About, Writing, SplitWriting}
+use Rattle.nd_run.specs.declared.keyword.Keyword.TheVariants.{Start, Keep, Ask, Write, Split, Slash, Cut, Slice as SliceWord, Collapse, Index, Permute, Reverse, SwapAxes, Invert, Insert, Remove, Squeeze, Diag, Broadcast, Part, Coordinate, New, Shape, Elements, Get, First, Last, Equal, Count, Select, RemoveIndex, Fill, Set, Swap}
+use Rattle.nd_run.specs.Calls.{AskedStep, SlicedAxis, Sliced, Collapsed, Indexed, Permuted, Reversed, Exchanged, Inverted, Inserted, Removed, Squeezed, Diagonal, BroadcastTo, Asking, AskShape, AskElements, AskElement, AskFirst, AskLast, AskEqual, AskCount, Acting, Filling, Setting, Swapping, Asked, Keeping, About, Writing, SplitWriting, Selecting, Removing}
 use Rattle.nd_run.specs.Numerals.{IsNat, IsInt}
 use Rattle.nd_run.specs.Spelling.{spelling}
 
@@ -133,6 +133,7 @@ IsQuestionBehind Get words question = IsMade AskElement IsList words question
 IsQuestionBehind First words question = IsBare AskFirst words question
 IsQuestionBehind Last words question = IsBare AskLast words question
 IsQuestionBehind Equal words question = IsMade AskEqual IsArray words question
+IsQuestionBehind Count words question = IsMade AskCount (IsWord IsInt) words question
 IsQuestionBehind _ words question = ⊥
 
 abbrev pub IsQuestion : List (List ℕ) → Asking ℤ → Type 0
@@ -152,6 +153,8 @@ IsCallBehind Keep words call = IsMade Keeping IsStep words call
 IsCallBehind Ask words call = IsMade (λ x. About x.0 x.1) (IsBoth IsPath IsQuestion) words call
 IsCallBehind Write words call = IsMade (λ x. Writing x.0 x.1) (IsBoth IsPath IsAct) words call
 IsCallBehind Split words call = IsMade (λ x. SplitWriting x.0.0 x.0.1 x.1.0 x.1.1) (IsBoth IsPair (IsBoth (IsSlashed IsAct) IsAct)) words call
+IsCallBehind Select words call = IsMade (λ x. Selecting x.0 x.1) (IsBoth (IsWord IsNat) IsList) words call
+IsCallBehind RemoveIndex words call = IsMade (λ x. Removing x.0 x.1) IsPair words call
 IsCallBehind _ words call = ⊥
 
 -- the words of a line are this call

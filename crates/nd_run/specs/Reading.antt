@@ -7,10 +7,10 @@ use Rattle.nd_shape_and_slice.specs.declared.slice.Slice.{Slice}
 use Rattle.nd_shape_and_slice.specs.declared.slice_info.SliceInfoElem.{SliceInfoElem}
 use Rattle.nd_shape_and_slice.specs.declared.slice_info.SliceInfoElem.TheVariants.{Slice as Cutting, Index as At, NewAxis}
 use Rattle.nd_run.specs.declared.keyword.Keyword.{Keyword}
-use Rattle.nd_run.specs.declared.keyword.Keyword.TheVariants.{Start, Keep, Ask, Write, Split, Slash, Cut, Slice as SliceWord, Collapse, Index, Permute, Reverse, SwapAxes, Invert, Insert, Remove, Squeeze, Diag, Broadcast, Part, Coordinate, New, Shape, Elements, Get, First, Last, Equal, Fill, Set, Swap, Other}
+use Rattle.nd_run.specs.declared.keyword.Keyword.TheVariants.{Start, Keep, Ask, Write, Split, Slash, Cut, Slice as SliceWord, Collapse, Index, Permute, Reverse, SwapAxes, Invert, Insert, Remove, Squeeze, Diag, Broadcast, Part, Coordinate, New, Shape, Elements, Get, First, Last, Equal, Count, Select, RemoveIndex, Fill, Set, Swap, Other}
 use Rattle.nd_run.specs.declared.reader.fault.LineFault.{LineFault}
 use Rattle.nd_run.specs.declared.reader.fault.LineFault.TheVariants.{Bad, Memory}
-use Rattle.nd_run.specs.Calls.{AskedStep, SlicedAxis, Sliced, Collapsed, Indexed, Permuted, Reversed, Exchanged, Inverted, Inserted, Removed, Squeezed, Diagonal, BroadcastTo, Asking, AskShape, AskElements, AskElement, AskFirst, AskLast, AskEqual, Acting, Filling, Setting, Swapping, Asked, Keeping, About, Writing, SplitWriting}
+use Rattle.nd_run.specs.Calls.{AskedStep, SlicedAxis, Sliced, Collapsed, Indexed, Permuted, Reversed, Exchanged, Inverted, Inserted, Removed, Squeezed, Diagonal, BroadcastTo, Asking, AskShape, AskElements, AskElement, AskFirst, AskLast, AskEqual, AskCount, Acting, Filling, Setting, Swapping, Asked, Keeping, About, Writing, SplitWriting, Selecting, Removing}
 use Rattle.nd_array_core.specs.Meaning.{Meaning}
 use Rattle.nd_run.specs.Grammar.{array_of}
 use Rattle.nd_run.specs.Numerals.{nat_of, int_of}
@@ -76,11 +76,11 @@ keyword_among [] word = Other
 keyword_among (k ∷ ks) word = if bytes_eq word (spelling k) then k else keyword_among ks word
 
 abbrev pub long_keywords : List Keyword
-long_keywords = Collapse ∷ SwapAxes ∷ Elements ∷ Broadcast ∷ []
+long_keywords = Collapse ∷ SwapAxes ∷ Elements ∷ Broadcast ∷ RemoveIndex ∷ []
 
 -- the keywords of n bytes, or of more than seven
 abbrev pub keywords_of : ℕ → List Keyword
-keywords_of n = if nat_lt 7 n then long_keywords else (if n == 7 then Permute ∷ Reverse ∷ Squeeze ∷ [] else (if n == 6 then Invert ∷ Insert ∷ Remove ∷ [] else (if n == 5 then Start ∷ Write ∷ Split ∷ SliceWord ∷ Index ∷ Shape ∷ First ∷ Equal ∷ [] else (if n == 4 then Keep ∷ Diag ∷ Last ∷ Fill ∷ Swap ∷ [] else (if n == 3 then Ask ∷ Cut ∷ Get ∷ Set ∷ [] else (if n == 1 then Slash ∷ Part ∷ Coordinate ∷ New ∷ [] else []))))))
+keywords_of n = if nat_lt 7 n then long_keywords else (if n == 7 then Permute ∷ Reverse ∷ Squeeze ∷ [] else (if n == 6 then Invert ∷ Insert ∷ Remove ∷ Select ∷ [] else (if n == 5 then Start ∷ Write ∷ Split ∷ SliceWord ∷ Index ∷ Shape ∷ First ∷ Equal ∷ Count ∷ [] else (if n == 4 then Keep ∷ Diag ∷ Last ∷ Fill ∷ Swap ∷ [] else (if n == 3 then Ask ∷ Cut ∷ Get ∷ Set ∷ [] else (if n == 1 then Slash ∷ Part ∷ Coordinate ∷ New ∷ [] else []))))))
 
 unfoldable pub keyword_of : List ℕ → Keyword
 keyword_of word = keyword_among (keywords_of (length word)) word
@@ -189,6 +189,7 @@ question_by Get words = map_read AskElement (list_at words)
 question_by First words = Some (AskFirst, words)
 question_by Last words = Some (AskLast, words)
 question_by Equal words = map_read AskEqual (array_at words)
+question_by Count words = map_read AskCount (item_at int_of words)
 question_by _ words = None
 
 abbrev pub question_at : List (List ℕ) → Option (Asking ℤ × List (List ℕ))
@@ -212,6 +213,8 @@ call_by n Keep words = map_read Keeping (step_at words)
 call_by n Ask words = map_read (λ x. About x.0 x.1) (both_at (path_at n) question_at words)
 call_by n Write words = map_read (λ x. Writing x.0 x.1) (both_at (path_at n) act_at words)
 call_by n Split words = map_read (λ x. SplitWriting x.0.0 x.0.1 x.1.0 x.1.1) (both_at pair_at acts_at words)
+call_by n Select words = map_read (λ x. Selecting x.0 x.1) (both_at (item_at nat_of) list_at words)
+call_by n RemoveIndex words = map_read (λ x. Removing x.0 x.1) (pair_at words)
 call_by n _ words = None
 
 abbrev pub call_at : ℕ → List (List ℕ) → Option (Asked ℤ × List (List ℕ))

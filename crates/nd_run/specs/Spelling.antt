@@ -1,7 +1,7 @@
 -- How keywords are spelled, and which of them begin a step.
 use Rattle.std.specs.Prelude.{Bool, true, false, ℕ, List, [], codes}
 use Rattle.nd_run.specs.declared.keyword.Keyword.{Keyword}
-use Rattle.nd_run.specs.declared.keyword.Keyword.TheVariants.{Start, Keep, Ask, Write, Split, Slash, Cut, Slice, Collapse, Index, Permute, Reverse, SwapAxes, Invert, Insert, Remove, Squeeze, Diag, Broadcast, Part, Coordinate, New, Shape, Elements, Get, First, Last, Equal, Fill, Set, Swap, Other}
+use Rattle.nd_run.specs.declared.keyword.Keyword.TheVariants.{Start, Keep, Ask, Write, Split, Slash, Cut, Slice, Collapse, Index, Permute, Reverse, SwapAxes, Invert, Insert, Remove, Squeeze, Diag, Broadcast, Part, Coordinate, New, Shape, Elements, Get, First, Last, Equal, Count, Select, RemoveIndex, Fill, Set, Swap, Other}
 
 abbrev pub spelling : Keyword → List ℕ
 spelling Start = codes "start"
@@ -32,6 +32,9 @@ spelling Get = codes "get"
 spelling First = codes "first"
 spelling Last = codes "last"
 spelling Equal = codes "equal"
+spelling Count = codes "count"
+spelling Select = codes "select"
+spelling RemoveIndex = codes "removeindex"
 spelling Fill = codes "fill"
 spelling Set = codes "set"
 spelling Swap = codes "swap"

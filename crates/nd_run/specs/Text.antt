@@ -2,7 +2,7 @@
 use Rattle.std.specs.Prelude.{ℕ, ℤ, Bool, true, false, List, ◌++◌, length, Option, Some, None, codes}
 use Rattle.std.specs.List.{flat_map}
 use Rattle.std.specs.Fmt.{decimal, signed_decimal}
-use Rattle.nd_run.specs.Calls.{Said, SaidDone, SaidRefused, SaidShape, SaidElements, SaidElement, SaidTruth}
+use Rattle.nd_run.specs.Calls.{Said, SaidDone, SaidRefused, SaidShape, SaidElements, SaidElement, SaidTruth, SaidNumber}
 
 -- the numbers, each behind a space
 abbrev pub naturals_text : List ℕ → List ℕ
@@ -36,6 +36,7 @@ reply_words (SaidShape lengths) = codes "shape " ++ list_text lengths
 reply_words (SaidElements lengths elements) = codes "array " ++ array_text lengths elements
 reply_words (SaidElement element) = element_text element
 reply_words (SaidTruth truth) = truth_text truth
+reply_words (SaidNumber number) = codes "number " ++ decimal number
 
 abbrev pub reply_text : Said ℤ → List ℕ
 reply_text reply = reply_words reply ++ codes "\n"

@@ -49,6 +49,8 @@ pub enum Question<A, S: Data<Elem = A> = OwnedRepr<A>> {
     Last,
     /// Whether it equals this array: the same lengths, and equal elements.
     EqualTo(ArrayBase<S, IxDyn>),
+    /// How many of its elements equal this one.
+    Count(A),
 }
 
 /// A change of an array's elements.
@@ -73,6 +75,10 @@ pub enum Call<A, S: Data<Elem = A> = OwnedRepr<A>> {
     Write(Vec<Step>, Act<A>),
     /// An axis, a coordinate at which it is split, and an act on each of the two parts.
     SplitWrite(usize, usize, Act<A>, Act<A>),
+    /// An axis, and the coordinates of it that are chosen, in their new order.
+    Select(usize, Vec<usize>),
+    /// An axis, and a coordinate of it that is taken out.
+    RemoveIndex(usize, usize),
 }
 
 /// What a call answers.
@@ -90,4 +96,6 @@ pub enum Reply<A> {
     Element(Option<A>),
     /// Whether something is so.
     Truth(bool),
+    /// How many there are.
+    Number(usize),
 }

@@ -15,6 +15,8 @@ pub enum Cause {
     Permutation = 4,
     /// A list or a shape that doesn't fit the array's.
     Shape = 5,
+    /// The result has no checked size.
+    Overflow = 6,
     /// More axes than an array can have.
     TooManyAxes = 7,
     /// No broadcast to these lengths.

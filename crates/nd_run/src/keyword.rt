@@ -35,6 +35,9 @@ pub enum Keyword {
     First,
     Last,
     Equal,
+    Count,
+    Select,
+    RemoveIndex,
     Fill,
     Set,
     Swap,
@@ -76,6 +79,8 @@ impl Keyword {
             b"first" => Keyword::First,
             b"last" => Keyword::Last,
             b"equal" => Keyword::Equal,
+            b"count" => Keyword::Count,
+            b"select" => Keyword::Select,
             b"fill" => Keyword::Fill,
             b"set" => Keyword::Set,
             b"swap" => Keyword::Swap,
@@ -98,6 +103,9 @@ impl Keyword {
         }
         if word == b"broadcast".as_slice() {
             return Keyword::Broadcast;
+        }
+        if word == b"removeindex".as_slice() {
+            return Keyword::RemoveIndex;
         }
         Keyword::Other
     }

@@ -131,6 +131,10 @@ fn put_words<W: Write>(out: &mut Watched<W>, page: &mut Page, reply: &Reply<i64>
         }
         Reply::Element(element) => put_element(out, page, element),
         Reply::Truth(truth) => put_truth(out, page, *truth),
+        Reply::Number(number) => {
+            put(out, page, b"number ");
+            put_natural(out, page, *number);
+        }
     }
 }
 

@@ -1,21 +1,23 @@
 //! A list of calls on one array.
 
-ghost use Rattle.std.specs.Prelude.{◌≡◌, map, Some, None, true, MatchResult, IfOk, IfErr, OnErr};
+ghost use Rattle.std.specs.Prelude.{◌≡◌, nat_lt, map, Some, None, true, MatchResult, IfOk, IfErr, OnErr};
 ghost use Rattle.std.specs.Option.{option_copied};
 ghost use Rattle.nd_array_core.specs.Meaning.{meaning_of, shape_of, element_at};
-ghost use Rattle.nd_run.specs.Calls.{asked_call, asked_step, asking, said_reply, Keeping, About, SaidElement};
-ghost use Rattle.nd_run.specs.Fold.{LeadsAlong, look_refusal, answer_to, answers_in_memory, reply_to, replies_to, end_of, MayLackMemory, IsCarriedOut, CarriesOut, StopsBefore, replies_before};
+ghost use Rattle.std.specs.List.{count_by, list_all};
+ghost use Rattle.nd_run.specs.Steps.{first_failed};
+ghost use Rattle.nd_run.specs.Calls.{asked_call, asked_step, asking, said_reply, Keeping, About, Selecting, Removing, SaidElement};
+ghost use Rattle.nd_run.specs.Fold.{LeadsAlong, look_refusal, select_tests, answer_to, answers_in_memory, reply_to, replies_to, end_of, MayLackMemory, IsCarriedOut, CarriesOut, StopsBefore, replies_before};
 ghost use Rattle.nd_array_core.specs.Equality.{equal_meanings};
 ghost use Rattle.nd_array_core.specs.Joined.{row_major_elements};
 
 use crate::calls::{Call, Question, Reply, Step};
 use crate::cause::Cause;
 use crate::laws::paths_lead_along;
-use crate::steps::{advance, keep_refusal, take_step};
+use crate::steps::{advance, index_refusal, keep_refusal, take_step};
 use crate::write::{Acted, write_parts, write_through};
 use nd_array_core::laws::nothing_outside;
-use nd_array_core::{Array, ArrayView};
-use nd_shape_and_slice::IxDyn;
+use nd_array_core::{Array, ArrayBase, ArrayView, Data};
+use nd_shape_and_slice::{Axis, Dimension, IxDyn, size_of_shape_checked};
 use std::alloc::{AllocError, Global};
 
 /// Follows a path of steps, or returns the cause of a refusal.
@@ -66,6 +68,21 @@ fn equal<'a, A: Eq>(view: &'a ArrayView<'_, A, IxDyn>, other: &'a Array<A, IxDyn
     view.view() == other.view()
 }
 
+/// How many elements equal this one.
+fn count<A: Eq>(view: &ArrayView<'_, A, IxDyn>, element: &A) -> usize
+    ensures { result ≡ count_by (λ x. A.eq x element.now) (row_major_elements (meaning_of view.now)) }
+{
+    // No more than there are elements, so that no sum wraps.
+    let _size = view.len();
+    view.fold(0, |count: usize, x| {
+        if x.eq(element) {
+            count.wrapping_add(1)
+        } else {
+            count
+        }
+    })
+}
+
 /// The answer to a question.
 fn answer<A: Clone + Eq + Drop>(
     alloc: Global,
@@ -86,6 +103,7 @@ fn answer<A: Clone + Eq + Drop>(
         Question::First => told(view.first()),
         Question::Last => told(view.last()),
         Question::EqualTo(other) => Ok(Reply::Truth(equal(view, other))),
+        Question::Count(element) => Ok(Reply::Number(count(view, element))),
     }
 }
 
@@ -119,6 +137,68 @@ fn keep<A: Eq>(array: Array<A, IxDyn>, step: &Step) -> Acted<A>
     }
 }
 
+/// Whether all of them are below a length.
+fn all_below(indexes: &[usize], len: usize) -> bool
+    ensures { result ≡ list_all (λ k. nat_lt k len) indexes.now }
+{
+    indexes.iter().all(|k| *k < len)
+}
+
+/// The first cause for which one refuses to choose coordinates of an axis.
+fn select_refusal<S: Data>(
+    array: &ArrayBase<S, IxDyn>,
+    axis: usize,
+    indexes: &[usize],
+) -> Option<Cause>
+    ensures { result ≡ first_failed (select_tests axis indexes.now (shape_of array.now)) }
+{
+    let mut dim = array.raw_dim();
+    if axis >= dim.ndim() {
+        return Some(Cause::Axis);
+    }
+    if !all_below(indexes, array.len_of(Axis(axis))) {
+        return Some(Cause::Index);
+    }
+    dim.set_length(axis, indexes.len());
+    if size_of_shape_checked(dim.slice()).is_err() {
+        return Some(Cause::Overflow);
+    }
+    None
+}
+
+/// Replaces the array by one of the chosen coordinates of an axis. A refusal changes nothing.
+fn select<A: Clone + Eq + Drop>(
+    alloc: Global,
+    array: Array<A, IxDyn>,
+    axis: usize,
+    indexes: &[usize],
+) -> Result<Acted<A>, AllocError>
+    requires { (x y : A) → A.is_clone x y → y ≡ x }
+    ensures { CarriesOut A.eq (Selecting axis indexes.now) (meaning_of array) meaning_of result }
+{
+    match select_refusal(&array, axis, indexes) {
+        None => match array.select(alloc, Axis(axis), indexes) {
+            Ok(selected) => Ok((Reply::Done, selected)),
+            Err(_) => Err(AllocError),
+        },
+        Some(cause) => Ok((Reply::Refused(cause.number()), array)),
+    }
+}
+
+/// Takes a coordinate of an axis out. A refusal changes nothing.
+fn remove_index<A: Eq>(array: Array<A, IxDyn>, axis: usize, index: usize) -> Acted<A>
+    ensures { IsCarriedOut A.eq (Removing axis index) (meaning_of array) meaning_of result }
+{
+    match index_refusal(array.shape(), axis, index) {
+        None => {
+            let mut array = array;
+            array.remove_index(Axis(axis), index);
+            (Reply::Done, array)
+        }
+        Some(refused) => (Reply::Refused(refused.number()), array),
+    }
+}
+
 /// Carries out one call.
 fn act<A: Clone + Eq + Drop>(
     alloc: Global,
@@ -138,6 +218,8 @@ fn act<A: Clone + Eq + Drop>(
         Call::SplitWrite(axis, index, first, second) => {
             write_parts(array, *axis, *index, first, second)
         }
+        Call::Select(axis, indexes) => select(alloc, array, *axis, indexes.as_slice()),
+        Call::RemoveIndex(axis, index) => Ok(remove_index(array, *axis, *index)),
     }
 }
 

@@ -80,7 +80,8 @@ fn list_refusal(shape: &[usize], elements: &[SliceInfoElem]) -> Option<Cause>
     first_element_refusal(shape, elements)
 }
 
-fn index_refusal(shape: &[usize], axis: usize, index: usize) -> Option<Cause>
+/// The first cause for which one refuses a coordinate of an axis.
+pub fn index_refusal(shape: &[usize], axis: usize, index: usize) -> Option<Cause>
     ensures { result ≡ refusal (Indexed axis index) shape.now }
 {
     if axis >= shape.len() {

@@ -38,7 +38,7 @@ fn bad_starts(rt: HostRuntime) {
 }
 
 // Each of these is a bad line.
-const BAD_CALLS: [&[u8]; 25] = [
+const BAD_CALLS: [&[u8]; 40] = [
     b"start 1 1 5",
     b"keep",
     b"keep shape",
@@ -64,6 +64,21 @@ const BAD_CALLS: [&[u8]; 25] = [
     b"ask first 0",
     b"ask last shape",
     b"keep first",
+    b"ask count",
+    b"ask count 1 1",
+    b"ask count _",
+    b"count 1",
+    b"select",
+    b"select 0",
+    b"select 0 1",
+    b"select 0 1 -1",
+    b"select 0 0 0",
+    b"select 0 18446744073709551615 0",
+    b"keep select 0 0",
+    b"removeindex 0",
+    b"removeindex 0 0 0",
+    b"removeindex 0 -1",
+    b"keep removeindex 0 0",
 ];
 
 // So is each of these: writes with a word too few or too many, or with one that is no such number.

@@ -46,6 +46,72 @@ fn first_and_last(rt: HostRuntime) {
 }
 
 #[test]
+fn counts(rt: HostRuntime) {
+    let table: [(&[u8], &[u8]); 3] = [
+        (
+            b"start 2 2 3 1 2 1 2 1 1\nask count 1\nask cut 1 0 1 1 / count 1\nask count -1\nask index 2 0 / count 1\n",
+            b"number 4\nnumber 1\nnumber 0\nrefused 1\nend 2 2 3 1 2 1 2 1 1\n",
+        ),
+        (b"start 2 3 0\nask count 0\n", b"number 0\nend 2 3 0\n"),
+        (
+            b"start 1 1 5\nask broadcast 2 40 50 / count 5\nask invert 0 / count 5\n",
+            b"number 2000\nnumber 1\nend 1 1 5\n",
+        ),
+    ];
+    written(&rt, rt.alloc(), &table);
+}
+
+#[test]
+fn coordinates_chosen(rt: HostRuntime) {
+    let table: [(&[u8], &[u8]); 5] = [
+        (
+            b"start 2 3 2 0 1 2 3 4 5\nselect 0 3 2 0 2\nask shape\n",
+            b"done\nshape 2 3 2\nend 2 3 2 4 5 0 1 4 5\n",
+        ),
+        (
+            b"start 2 3 2 0 1 2 3 4 5\nselect 0 0\nselect 1 1 1\n",
+            b"done\ndone\nend 2 0 1\n",
+        ),
+        (
+            b"start 2 3 2 0 1 2 3 4 5\nselect 2 0\nselect 1 2 0 2\nselect 1 3 1 0 1\n",
+            b"refused 1\nrefused 2\ndone\nend 2 3 3 1 0 1 3 2 3 5 4 5\n",
+        ),
+        (
+            b"start 3 1 0 9223372036854775807\nselect 0 2 0 0\nselect 1 0\n",
+            b"refused 6\ndone\nend 3 1 0 9223372036854775807\n",
+        ),
+        (
+            b"start 2 2 2 1 2 3 4\nkeep invert 0\nkeep reverse\nselect 1 1 0\n",
+            b"done\ndone\ndone\nend 2 2 1 3 4\n",
+        ),
+    ];
+    written(&rt, rt.alloc(), &table);
+}
+
+#[test]
+fn coordinates_taken_out(rt: HostRuntime) {
+    let table: [(&[u8], &[u8]); 4] = [
+        (
+            b"start 1 4 1 2 3 4\nremoveindex 0 1\nselect 0 3 2 0 2\nselect 0 1 3\n",
+            b"done\ndone\nrefused 2\nend 1 3 4 1 4\n",
+        ),
+        (
+            b"start 2 2 3 1 2 3 4 5 6\nremoveindex 1 0\nask shape\nremoveindex 0 1\n",
+            b"done\nshape 2 2 2\ndone\nend 2 1 2 2 3\n",
+        ),
+        (
+            b"start 2 2 3 1 2 3 4 5 6\nkeep reverse\nkeep invert 0\nremoveindex 0 0\nremoveindex 2 0\nremoveindex 0 2\n",
+            b"done\ndone\ndone\nrefused 1\nrefused 2\nend 2 2 2 2 5 1 4\n",
+        ),
+        (
+            b"start 2 1 3 7 8 9\nremoveindex 0 0\nremoveindex 0 0\n",
+            b"done\nrefused 2\nend 2 0 3\n",
+        ),
+    ];
+    written(&rt, rt.alloc(), &table);
+}
+
+#[test]
 fn scripts(rt: HostRuntime) {
     let table: [(&[u8], &[u8]); 8] = [
         // a slice of a list of cubes

@@ -10,7 +10,7 @@ use crate::calls::{Call, Question, Step};
 use crate::keyword::Keyword;
 use crate::reader::act::{act, acts};
 use crate::reader::fault::LineFault;
-use crate::reader::items::{array, keyword, list, pair, slash};
+use crate::reader::items::{array, keyword, list, number, pair, slash};
 use crate::reader::step::{begins_step, step};
 use crate::words::split_word;
 use nd_array_core::Array;
@@ -62,6 +62,7 @@ fn question(alloc: Global, line: &[u8]) -> Result<(Question<i64>, &[u8]), LineFa
             let (other, rest) = array(alloc, rest)?;
             Ok((Question::EqualTo(other), rest))
         }
+        Keyword::Count => number(rest).map(|(element, rest)| (Question::Count(element), rest)),
         _ => Err(LineFault::Bad),
     }
 }
@@ -90,6 +91,14 @@ fn any_call(alloc: Global, most: usize, line: &[u8]) -> Result<(Call<i64>, &[u8]
             let ((axis, index), rest) = pair(rest)?;
             let ((first, second), rest) = acts(alloc, rest)?;
             Ok((Call::SplitWrite(axis, index, first, second), rest))
+        }
+        Keyword::Select => {
+            let (axis, rest) = number(rest)?;
+            let (indexes, rest) = list(alloc, rest)?;
+            Ok((Call::Select(axis, indexes), rest))
+        }
+        Keyword::RemoveIndex => {
+            pair(rest).map(|((axis, index), rest)| (Call::RemoveIndex(axis, index), rest))
         }
         _ => Err(LineFault::Bad),
     }

@@ -9,3 +9,6 @@ returns-in-Shape g c = rw (c.in-Shape.is, ← c.deref.ensures.value) (puts_then 
 
 pub returns-in-Elements : goal.returns-in-Elements
 returns-in-Elements g c = rw (c.in-Elements.is, ← c.deref-in-Elements.ensures.value, ← c.deref-in-Elements-2.ensures.value) (puts_then c.put-in-Elements.ensures c.put_array.ensures)
+
+pub returns-in-Number : goal.returns-in-Number
+returns-in-Number g c = rw c.in-Number.is (puts_then c.put-in-Number.ensures c.put_natural-in-Number.ensures)
