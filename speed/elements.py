@@ -15,6 +15,12 @@ COPIES = {"all": "a.copy(order='K')", "every second column": "a[:, ::2].copy()",
 LISTS = {"all": "a.flatten()", "every second column": "a[:, ::2].flatten()", "turned": "a.T.flatten()"}
 COMPARISONS = {"both in row-major order": "numpy.array_equal(a, b)", "in both orders": "numpy.array_equal(a, b.T)"}
 
+PARTS = {"all": "a", "turned": "a.T", "every second row and column backwards": "a[::-2, ::-2]"}
+CLOSURES = {"fold": "{0}.sum(dtype={0}.dtype)", "map": "{0} + {0}", "map_inplace": "numpy.add({0}, {0}, out={0})"}
+
+RIGHT_SIDES = {"both in row-major order": "b", "the right side one row": "b[:1]", "the right side in column-major order": "b.T"}
+PAIRS = {"zip_mut_with": "numpy.add(a, {0}, out=a)", "assign": "a[...] = {0}"}
+
 
 def least_of(statement, names):
     return min(timeit.Timer(statement, globals=names, timer=time.process_time).repeat(15, 20)) / 20 * 1e6
@@ -32,6 +38,14 @@ def of_numpy():
         for call, statements in [("to_owned", COPIES), ("to_vec", LISTS), ("==", COMPARISONS)]:
             for case, statement in statements.items():
                 times[f"`{call}` of `{kind}`, {case}"] = least_of(statement, names)
+        for call, statement in CLOSURES.items():
+            for case, part in PARTS.items():
+                times[f"`{call}` of `{kind}`, {case}"] = least_of(statement.format(part), names)
+        for call, statement in PAIRS.items():
+            for case, right in RIGHT_SIDES.items():
+                times[f"`{call}` of `{kind}`, {case}"] = least_of(statement.format(right), names)
+    chosen = {"a": numpy.zeros((ROWS, COLUMNS), dtype=numpy.int64), "rows": numpy.arange(ROWS)[::-1]}
+    times["`select` of 1,000 rows of `i64`"] = least_of("a[rows]", chosen)
     owned = {"a": numpy.zeros((ROWS, COLUMNS), dtype=numpy.int64)}
     times["`fill` of `i64`, an owned array"] = least_of("a[...] = 7", owned)
     return times

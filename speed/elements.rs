@@ -4,6 +4,8 @@
 //! A row is added by an export in crates/nd_speed, its declaration and a line here, and the nearest call of numpy in
 //! elements.py.
 
+mod elementwise;
+
 use std::hint::black_box;
 
 const ROWS: usize = 1000;
@@ -226,6 +228,36 @@ fn plain_listed<A: Copy>(items: &[A], rows: usize, columns: usize, turned: bool,
     listed
 }
 
+/// A copy by a loop over two places that the compiler doesn't know to be apart, so that it stays a loop and becomes no call
+/// of memcpy.
+#[inline(never)]
+unsafe fn copy_by_steps<A: Copy>(from: *const A, to: *mut A, count: usize) {
+    for nth in 0..count {
+        unsafe { to.add(nth).write(from.add(nth).read()) };
+    }
+}
+
+/// The copy of a run beside such a loop.
+fn copies_by_steps<A: Copy>(kind: &str, items: &[A], owned: OfItems<A>) {
+    let lengths = black_box([ROWS, COLUMNS]);
+    row(
+        &format!("`to_owned` of `{kind}`, all, beside a loop that is no call of memcpy"),
+        &mut |calls| {
+            for _ in 0..calls {
+                let items = black_box(items);
+                let mut copied = Vec::with_capacity(items.len());
+                unsafe {
+                    copy_by_steps(items.as_ptr(), copied.as_mut_ptr(), items.len());
+                    copied.set_len(items.len());
+                }
+                black_box(copied);
+            }
+            1
+        },
+        &mut |calls| unsafe { owned(items.as_ptr(), items.len(), lengths.as_ptr(), 2, false, 1, calls) },
+    );
+}
+
 /// Copies: of a run as its elements lie, else in the order of the indexes.
 fn copies<A: Copy>(kind: &str, items: &[A], owned: OfItems<A>, listed: OfItems<A>) {
     let lengths = black_box([ROWS, COLUMNS]);
@@ -352,6 +384,8 @@ fn main() {
     owned();
     copies("i64", &symmetric(|sum| sum as i64), nd_speed_to_owned, nd_speed_to_vec);
     copies("u8", &symmetric(|sum| sum as u8), nd_speed_to_owned_bytes, nd_speed_to_vec_bytes);
+    copies_by_steps("u8", &symmetric(|sum| sum as u8), nd_speed_to_owned_bytes);
     comparisons("i64", &symmetric(|sum| sum as i64), &symmetric(|sum| sum as i64), nd_speed_equal);
     comparisons("u8", &symmetric(|sum| sum as u8), &symmetric(|sum| sum as u8), nd_speed_equal_bytes);
+    elementwise::rows();
 }

@@ -7,6 +7,8 @@
 
 mod conditions;
 mod copies;
+mod elementwise;
 mod fills;
+mod pairs;
 mod parts;
 mod views;
