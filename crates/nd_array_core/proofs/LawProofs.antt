@@ -187,7 +187,7 @@ module _ {A : Type 0} where
   seen_same m shape nothing e =
       same_meaning m shape (λ i. inside shape i (m.at i)) e (λ i. ap (λ l. inside l i (m.at i)) e ∙ inside_kept m.shape i (m.at i) (nothing i))
 
-  seen_back : (m : Meaning A) (mid : List ℕ) (f : List ℕ → List ℕ) (shape : List ℕ) (g : List ℕ → List ℕ) → NothingOutside m → shape ≡ m.shape → ((i : List ℕ) → in_box m.shape i ≡ true → in_box mid (g i) ≡ true) → ((i : List ℕ) → in_box m.shape i ≡ true → f (g i) ≡ i) → meaning_through shape g (meaning_through mid f m) ≡ m
+  pub seen_back : (m : Meaning A) (mid : List ℕ) (f : List ℕ → List ℕ) (shape : List ℕ) (g : List ℕ → List ℕ) → NothingOutside m → shape ≡ m.shape → ((i : List ℕ) → in_box m.shape i ≡ true → in_box mid (g i) ≡ true) → ((i : List ℕ) → in_box m.shape i ≡ true → f (g i) ≡ i) → meaning_through shape g (meaning_through mid f m) ≡ m
   seen_back m mid f shape g nothing e within same =
       seen_twice m mid f shape g (λ i. i) (λ i h. within i (subst (λ l. in_box l i ≡ true) e h)) (λ i h. same i (subst (λ l. in_box l i ≡ true) e h))
       ∙ seen_same m shape nothing e

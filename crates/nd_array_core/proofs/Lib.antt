@@ -1,4 +1,11 @@
 pub mod Ranked
+pub mod RegionPair
+pub mod Neighbours
+pub mod Accumulating
+pub mod LaneNumbers
+pub mod LanesAccumulating
+pub mod AxisAccumulating
+pub mod AxisFolding
 pub mod ShortAxes
 pub mod SamePlaces
 pub mod StepLemmas
@@ -24,6 +31,8 @@ pub mod Changed
 pub mod Rewritten
 pub mod Paired
 pub mod Assigned
+pub mod RunPairs
+pub mod Moved
 pub mod OwnShape
 pub mod Masks
 pub mod Fresh
@@ -36,6 +45,7 @@ pub mod LastIndexes
 pub mod Clones
 pub mod RunElements
 pub mod Regrouped
+pub mod Regrouping
 pub mod ServedStrides
 pub mod Relisted
 pub mod MemoryOrder
@@ -48,3 +58,8 @@ mod AxisLanes
 mod Rotating
 mod AxisIndexes
 mod Removing
+mod Taking
+mod LaidAnew
+mod Reserved
+pub mod Appending
+pub mod FreshStorage

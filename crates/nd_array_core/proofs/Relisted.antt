@@ -4,9 +4,10 @@ use Rattle.std.specs.Prelude.{Option, None, slice_get, if◌then◌else◌}
 use Rattle.std.specs.List.{filter_map}
 use Rattle.nd_shape_and_slice.specs.declared.builder.Order.{Order}
 use Rattle.nd_shape_and_slice.specs.declared.builder.Order.TheVariants.{RowMajor, ColumnMajor}
-use Rattle.nd_shape_and_slice.specs.Shape.{in_box, size_of, index_at, indexes_of}
+use Rattle.nd_shape_and_slice.specs.Shape.{in_box, size_of, index_at, row_rank, indexes_of}
 use Rattle.nd_shape_and_slice.specs.Place.{place_of}
-use Rattle.nd_shape_and_slice.proofs.RankIndexes.{in_box-index_at, row_rank-index_at}
+use Rattle.nd_shape_and_slice.proofs.RankIndexes.{in_box-index_at, row_rank-index_at, index_at-row_rank}
+use Rattle.nd_shape_and_slice.proofs.RowMajor.{row_rank_below}
 use Rattle.nd_layout.specs.Ranks.{rank_in, index_in}
 use Rattle.nd_layout.proofs.Orders.{rank_in-below, size_of-ordered}
 use Rattle.nd_layout.proofs.LaneIndexes.{slow_index}
@@ -28,6 +29,12 @@ module _ {A : Type 0} where
       sym (open_by (in_box ns (index_at ns r)) (slice_get xs r) there)
       ∙ ap (λ k. inside ns (index_at ns r) (slice_get xs k)) (sym (row_rank-index_at ns r below))
       ∙ ordered_shows stored first ns ss holds (index_at ns r)
+
+  -- and the element of an index is that of its rank
+  pub listed_index : (stored : ℕ → Option A) (first : ℕ) (ns : List ℕ) (ss : List ℤ) → HoldsAll stored first ns ss → (i : List ℕ) → in_box ns i ≡ true
+      → slice_get (filter_map (λ j. inside ns j (stored_at stored (place_of first ss j))) (indexes_of ns)) (row_rank ns i) ≡ inside ns i (stored_at stored (place_of first ss i))
+  listed_index stored first ns ss holds i h =
+      listed_row stored first ns ss holds (row_rank ns i) (row_rank_below ns i h) ∙ ap (λ j. inside ns j (stored_at stored (place_of first ss j))) (index_at-row_rank ns i h)
 
   -- an element under other lengths, from a list by rank
   pub found_regrouped : (order : Order) (ns ms : List ℕ) (at : List ℕ → Option A) (xs : List A) → size_of ms ≡ size_of ns

@@ -1,5 +1,5 @@
 -- Elements as a list, in the order of their numbers: ranks of a layout, or those along a lane.
-use Rattle.std.specs.Prelude.{ℕ, zero, suc, List, [], ◌++◌, ℤ, pos, ◌+ℤ◌, ◌*ℤ◌, Option}
+use Rattle.std.specs.Prelude.{ℕ, zero, suc, ◌≡◌, List, [], ◌++◌, ℤ, pos, ◌+ℤ◌, ◌*ℤ◌, Option}
 use Rattle.std.specs.List.{cons_option}
 use Rattle.nd_layout.specs.Walk.{place_at_rank}
 use Rattle.nd_array_core.specs.Places.{stored_at}
@@ -16,3 +16,7 @@ stored_along stored place stride n = stored_at stored (pos place +ℤ (pos n *�
 -- what is stored where a layout has the index of a row-major rank
 abbrev pub stored_by_rank : {A : Type 0} → (ℕ → Option A) → ℕ → List ℕ → List ℤ → ℕ → Option A
 stored_by_rank stored first lengths strides rank = stored_at stored (place_at_rank first lengths strides rank)
+
+-- a list begins with another
+abbrev pub IsFront : {A : Type 0} → List A → List A → Type 0
+IsFront {A} front xs = (rest : List A) × (xs ≡ front ++ rest)

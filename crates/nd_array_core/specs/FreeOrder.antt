@@ -49,6 +49,14 @@ module _ {F X A : Type 0} (g : Mut F (X × Unit {0}) A) (lengths_of : X → List
   abbrev pub TakesIndex : F → List ℕ → Type 0
   TakesIndex f i = (x : X) → lengths_of x ≡ i → g.pre f (x, tt)
 
+  -- a call for each index of the box may be made, in any order
+  abbrev pub AskableByIndex : List ℕ → F → Type 0
+  AskableByIndex shape f = AskableInAnyOrder AnswersIndex shape TakesIndex f
+
+  -- at each index of the box stands the answer of the call for it
+  abbrev pub HasAnswersByIndex : List ℕ → F → (List ℕ → Option A) → Type 0
+  HasAnswersByIndex shape f at = HasAnswers AnswersIndex shape f at
+
   -- at each index of the box the closure answers what h gives, and stays as it is
   abbrev pub AnswersByIndex : List ℕ → (List ℕ → A) → F → Type 0
   AnswersByIndex shape h f = (x : X) (y : A) (f' : F) → in_box shape (lengths_of x) ≡ true → Called g f (x, tt) y f' → (f' ≡ f) × (y ≡ h (lengths_of x))

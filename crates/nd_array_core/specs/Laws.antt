@@ -8,6 +8,9 @@ use Rattle.nd_shape_and_slice.specs.Slice.{fits_axis, sliced_length, sliced_from
 use Rattle.nd_shape_and_slice.specs.Maps.{inverted_index, indexed_shape, indexed_index, inserted_shape, inserted_index}
 use Rattle.nd_array_core.specs.Meaning.{Meaning, meaning_through}
 use Rattle.nd_array_core.specs.PlacedArray.{PlacedArray, element_placed}
+use Rattle.nd_shape_and_slice.specs.declared.slice_info.SliceInfoElem.{SliceInfoElem}
+use Rattle.nd_shape_and_slice.specs.SliceInfo.{each_fits, shape_after, index_before}
+use Rattle.nd_shape_and_slice.specs.Slicing.{collapsed_after, collapsed_before}
 
 -- outside the shape's box there is no element, as in every array
 abbrev pub NothingOutside : {A : Type 0} → Meaning A → Type 0
@@ -76,6 +79,20 @@ path_source (p ∷ ps) i = p.source (path_source ps i)
 -- a map from one box into another
 abbrev pub LeadsInside : List ℕ → (List ℕ → List ℕ) → List ℕ → Type 0
 LeadsInside new source old = (i : List ℕ) → in_box new i ≡ true → in_box old (source i) ≡ true
+
+-- so do the maps of slices of one axis, of lists of slices, of lists under which an indexed axis stays, and of the axes in
+-- another order
+abbrev pub SlicesLeadInside : Type 0
+SlicesLeadInside = (ns : List ℕ) (a : ℕ) (s : Slice) → a < length ns → fits_axis (slice_index ns a) s ≡ true → LeadsInside (sliced_shape ns a s) (sliced_index ns a s) ns
+
+abbrev pub ListsLeadInside : Type 0
+ListsLeadInside = (ns : List ℕ) (es : List SliceInfoElem) → each_fits ns es ≡ true → LeadsInside (shape_after ns es) (index_before ns es) ns
+
+abbrev pub CollapsedListsLeadInside : Type 0
+CollapsedListsLeadInside = (ns : List ℕ) (es : List SliceInfoElem) → each_fits ns es ≡ true → LeadsInside (collapsed_after ns es) (collapsed_before ns es) ns
+
+abbrev pub PermutationsLeadInside : Type 0
+PermutationsLeadInside = (ns : List ℕ) (axes : List ℕ) → HasEachAxis axes (length ns) → LeadsInside (permuted_list axes ns) (unpermuted_list axes) ns
 
 -- each step's map leads from its new box into the box before it
 abbrev pub StaysInside : List ℕ → List PathStep → Type 0

@@ -16,3 +16,4 @@ pub mod Equality
 pub mod reshape
 pub mod elements
 pub mod along
+pub mod growth

@@ -1,3 +1,6 @@
 pub mod Selected
 pub mod AxisLanes
 pub mod Removed
+pub mod Rising
+pub mod Accumulated
+pub mod AxisFolds

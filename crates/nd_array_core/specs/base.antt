@@ -2,6 +2,7 @@ pub mod StorageFrame
 pub mod Given
 pub mod Sources
 pub mod Storages
+pub mod StorageLaws
 pub mod Writes
 pub mod ElementMut
 pub mod ElementLent
@@ -11,3 +12,4 @@ pub mod RegionLent
 pub mod SliceLent
 pub mod NewElements
 pub mod Fresh
+pub mod RunLent

@@ -1,4 +1,5 @@
 pub mod Regrouped
+pub mod Regrouping
 pub mod RunSlices
 pub mod Serving
 pub mod Either

@@ -1,5 +1,7 @@
 //! Calls along one axis.
 
+mod accumulating;
+mod folding;
 mod lanes;
 mod removal;
 mod selection;

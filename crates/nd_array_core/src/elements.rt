@@ -9,6 +9,7 @@ pub mod hashing;
 mod inplace;
 pub mod listing;
 mod maps;
+mod moves;
 pub mod owned;
 mod pairs;
 mod scalars;

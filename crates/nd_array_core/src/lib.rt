@@ -4,6 +4,7 @@
 //! - `layout`: slices, axes, rows and columns, parts, broadcasts, and views to be written
 //! - `elements`: calls over all elements
 //! - `along`: calls along one axis
+//! - `growth`: owned arrays that grow
 //! - `reshape`: questions about the layout, elements as slices, and other shapes of the same elements
 //! - `scoped`: calls that lend views to be written to a task
 //! - `laws`: what follows from the contracts of several calls, and what callers need of quotients
@@ -12,6 +13,7 @@
 mod along;
 mod base;
 mod elements;
+mod growth;
 pub mod laws;
 mod layout;
 mod reshape;

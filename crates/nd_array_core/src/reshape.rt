@@ -7,3 +7,4 @@ pub mod reshaping;
 pub mod serving;
 pub mod shapes;
 pub mod slices;
+pub mod standard;

@@ -21,7 +21,7 @@ use Rattle.nd_layout.proofs.Continued.{continued, in_box-longer, not_negative, r
 
 -- ---- ready again
 -- fresh storage
-laid_ready : (ns : List ℕ) (a m : ℕ) → a < length ns → 0 < size_of (set ns a 1) → must_move (set ns a m) (growing_strides a ns) a ≡ false
+pub laid_ready : (ns : List ℕ) (a m : ℕ) → a < length ns → 0 < size_of (set ns a 1) → must_move (set ns a m) (growing_strides a ns) a ≡ false
 laid_ready ns a m h others =
     let os = set ns a 1 in
     let base = cond (eqb (a + 1) (length ns)) (column_strides_from 1 os) (row_strides os) in

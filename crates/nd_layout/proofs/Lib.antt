@@ -35,8 +35,11 @@ pub mod GrownAgain
 pub mod WalkSteps
 pub mod LaneSteps
 pub mod Rearranged
+pub mod MemoryOrder
+pub mod Filled
 pub mod AxisJoins
 pub mod OneLane
 pub mod LaneIndexes
 pub mod steps
 pub mod Furthest
+pub mod FreshOrder

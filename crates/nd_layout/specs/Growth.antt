@@ -2,9 +2,10 @@
 use Rattle.std.specs.Prelude.{ℕ, ◌+◌, ◌*◌, ◌<◌, ◌≤◌, ◌≡◌, max, Bool, true, false, not, ◌&&◌, ◌||◌, nat_eq, nat_lt, nat_le, if◌then◌else◌, List, [], ◌∷◌, length, replicate, slice_index, slice_index_or, slice_set, ℤ, pos, nat_abs, int_lt}
 use Rattle.std.specs.List.{remove, insert}
 use Rattle.nd_shape_and_slice.specs.Shape.{in_box, size_of}
-use Rattle.nd_shape_and_slice.specs.Place.{place_of}
+use Rattle.nd_shape_and_slice.specs.Place.{place_of, displacement_of}
 use Rattle.nd_shape_and_slice.specs.Strides.{row_strides, column_strides_from}
 use Rattle.nd_layout.specs.Strides.{reach_down}
+use Rattle.nd_layout.specs.Walk.{IsRearranged}
 use Rattle.nd_layout.specs.declared.grows.GrowthCase.{GrowthCase}
 use Rattle.nd_layout.specs.declared.grows.GrowthCase.TheVariants.{Empty, Unchanged, Fresh, Moved, LengthOne, Continued}
 
@@ -70,3 +71,10 @@ pub record IsContinued (ns : List ℕ) (ss : List ℤ) (ms : List ℕ) (ts : Lis
   pub before : (i : List ℕ) → in_box ns i ≡ true → (k : ℕ) × (k < size_of ns) × (place_of (reach_down ns ss) ts i ≡ pos k)
   pub beyond : (i : List ℕ) → in_box ms i ≡ true → in_box ns i ≡ false → (k : ℕ) × (size_of ns ≤ k) × (k < size_of ms) × (place_of (reach_down ns ss) ts i ≡ pos k)
   pub each : (k : ℕ) → size_of ns ≤ k → k < size_of ms → (i : List ℕ) × (in_box ms i ≡ true) × (in_box ns i ≡ false) × (place_of (reach_down ns ss) ts i ≡ pos k)
+
+-- The second layout has the places of the first in the order of fresh storage that is to grow along an axis: the index
+-- whose place there is k has rank k.
+pub record IsInGrowingOrder (axis : ℕ) (offset : ℕ) (ns : List ℕ) (ss : List ℤ) (start : ℕ) (ms : List ℕ) (ts : List ℤ) : Type 0 where
+  pub order : IsRearranged offset ns ss start ms ts
+  pub size : size_of ms ≡ size_of ns
+  pub ranked : (i : List ℕ) → in_box ns i ≡ true → displacement_of (growing_strides axis ns) i ≡ pos (order.rank_of i)

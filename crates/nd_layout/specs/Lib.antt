@@ -10,3 +10,4 @@ pub mod Elements
 pub mod Placements
 pub mod Walk
 pub mod Merging
+pub mod MemoryOrder

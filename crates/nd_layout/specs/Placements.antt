@@ -1,11 +1,22 @@
 -- How elements lie: an offset, lengths and strides, as one value.
-use Rattle.std.specs.Prelude.{ℕ, ◌<◌, List, ℤ}
+use Rattle.std.specs.Prelude.{ℕ, ◌≡◌, ◌-◌, ◌<◌, List, ℤ}
 use Rattle.nd_shape_and_slice.specs.Shape.{size_of}
 use Rattle.nd_shape_and_slice.specs.Place.{IsSeparated}
 use Rattle.nd_shape_and_slice.specs.declared.dimension.Dimension as dimension
 use Rattle.nd_shape_and_slice.specs.declared.dimension.AxisCount as axis_count
 use Rattle.nd_shape_and_slice.specs.declared.dimension.StrideList as stride_list
+use Rattle.nd_shape_and_slice.specs.declared.slice.Slice.{Slice}
+use Rattle.nd_shape_and_slice.specs.declared.slice_info.SliceInfoElem.{SliceInfoElem}
+use Rattle.nd_shape_and_slice.specs.declared.descriptions.AxisDescription.{AxisDescription}
+use Rattle.nd_shape_and_slice.specs.Broadcast.{broadcast_index}
+use Rattle.nd_shape_and_slice.specs.Descriptions.{axes_from}
+use Rattle.nd_shape_and_slice.specs.EachAxis.{each_sliced_shape, each_sliced_index, AnswersAre}
+use Rattle.nd_shape_and_slice.specs.Squeeze.{squeezed_index}
+use Rattle.nd_layout.specs.Merging.{merged_strides, merged_index}
+use Rattle.nd_layout.specs.Ranks.{IsRun}
 use Rattle.nd_layout.specs.Steps.{IsStep, IsViewStep}
+use Rattle.nd_layout.specs.Strides.{broadcast_strides, sliced_strides, strides_after, collapsed_strides, each_sliced_strides, squeezed_strides, reach_down}
+use Rattle.nd_layout.specs.Walk.{IsOneLane, IsRearranged, IsRejoined}
 use Rattle.nd_layout.specs.declared.layout.Layout.{Layout}
 
 pub record Placement : Type 0 where
@@ -26,6 +37,63 @@ IsStepOf old new source = IsStep old.offset old.lengths old.strides new.offset n
 -- the same for a view, where several indexes may share an element
 abbrev pub IsViewStepOf : Placement → Placement → (List ℕ → List ℕ) → Type 0
 IsViewStepOf old new source = IsViewStep old.offset old.lengths old.strides new.offset new.lengths new.strides source
+
+-- the second is a broadcast of the first to its lengths: its strides, and the step
+abbrev pub HasBroadcastStrides : Placement → Placement → Type 0
+HasBroadcastStrides old new = new.strides ≡ broadcast_strides old.lengths old.strides new.lengths
+
+abbrev pub IsBroadcastStep : Placement → Placement → Type 0
+IsBroadcastStep old new = IsViewStepOf old new (broadcast_index old.lengths new.lengths)
+
+-- the strides after slices: of one axis, of a list, and of a list under which an indexed axis stays
+abbrev pub HasSlicedStrides : Placement → Placement → ℕ → Slice → Type 0
+HasSlicedStrides old new axis slice = new.strides ≡ sliced_strides old.lengths old.strides axis slice
+
+abbrev pub HasListStrides : Placement → Placement → List SliceInfoElem → Type 0
+HasListStrides old new list = new.strides ≡ strides_after old.lengths old.strides list
+
+abbrev pub HasCollapsedStrides : Placement → Placement → List SliceInfoElem → Type 0
+HasCollapsedStrides old new list = new.strides ≡ collapsed_strides old.lengths old.strides list
+
+-- each axis is cut by what the closure answers for it, axis 0 first
+abbrev pub IsEachSliced : {F : Type 0} → (F → AxisDescription → Slice → F → Type 0) → F → Placement → Placement → Type 0
+IsEachSliced {F} step f old new =
+    (slices : List Slice)
+    × (last : F)
+    × AnswersAre step f (axes_from 0 old.lengths old.strides) slices last
+    × (new.lengths ≡ each_sliced_shape old.lengths slices)
+    × IsStepOf old new (each_sliced_index old.lengths slices)
+    × (new.strides ≡ each_sliced_strides old.lengths old.strides slices)
+
+-- one axis is merged into another
+abbrev pub HasMergedStrides : Placement → Placement → ℕ → ℕ → Type 0
+HasMergedStrides old new take into = new.strides ≡ merged_strides old.lengths old.strides take into
+
+abbrev pub IsMergedStep : Placement → Placement → ℕ → ℕ → Type 0
+IsMergedStep old new take into = IsStepOf old new (merged_index old.lengths take into)
+
+-- the axes of length 1 are taken out
+abbrev pub HasSqueezedStrides : Placement → Placement → Type 0
+HasSqueezedStrides old new = new.strides ≡ squeezed_strides old.lengths old.strides
+
+abbrev pub IsSqueezedStep : Placement → Placement → Type 0
+IsSqueezedStep old new = IsStepOf old new (squeezed_index old.lengths)
+
+-- the second has the places of the first, each as often, in an order of its own
+abbrev pub IsRearrangedOf : Placement → Placement → Type 0
+IsRearrangedOf old new = IsRearranged old.offset old.lengths old.strides new.offset new.lengths new.strides
+
+-- the same in the same row-major order
+abbrev pub IsRejoinedOf : Placement → Placement → Type 0
+IsRejoinedOf old new = IsRejoined old.lengths old.strides new.lengths new.strides
+
+-- where the places of the first are a run, the second begins at the lowest of them
+abbrev pub BeginsLowest : Placement → Placement → Type 0
+BeginsLowest old new = 0 < size_of old.lengths → IsRun old.lengths old.strides → new.offset ≡ old.offset - reach_down old.lengths old.strides
+
+-- and is one axis
+abbrev pub IsLineOfRun : Placement → Placement → Type 0
+IsLineOfRun old new = 0 < size_of old.lengths → IsRun old.lengths old.strides → IsOneLane (size_of old.lengths) new.lengths new.strides
 
 -- where there are elements, no two indexes have one place
 abbrev pub KeepsApart : Placement → Type 0

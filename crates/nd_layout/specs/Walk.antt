@@ -1,11 +1,19 @@
 -- The places of a layout in row-major order of its indexes, one by one or by lanes.
-use Rattle.std.specs.Prelude.{◌∷◌, ◌⊎◌, ℕ, ◌+◌, ◌-◌, ◌*◌, ◌<◌, ◌≤◌, ◌≡◌, true, List, length, take, slice_index, slice_index_or, ℤ, pos, ◌+ℤ◌, ◌*ℤ◌}
+use Rattle.std.specs.Prelude.{◌∷◌, ◌⊎◌, ℕ, ◌+◌, ◌-◌, ◌*◌, ◌<◌, ◌≤◌, ◌≡◌, true, List, Option, MatchOption, length, take, slice_index, slice_index_or, ℤ, pos, ◌+ℤ◌, ◌*ℤ◌}
 use Rattle.nd_shape_and_slice.specs.Shape.{in_box, size_of, row_rank, index_at}
 use Rattle.nd_shape_and_slice.specs.Place.{place_of, displacement_of, span_of}
 
 -- where the index of a row-major rank lies
 abbrev pub place_at_rank : ℕ → List ℕ → List ℤ → ℕ → ℤ
 place_at_rank offset lengths strides rank = place_of offset strides (index_at lengths rank)
+
+-- the place at a row-major rank, None exactly at the rank behind all
+abbrev pub IsPlaceAtRank : ℕ → List ℕ → List ℤ → ℕ → Option ℕ → Type 0
+IsPlaceAtRank offset lengths strides rank found = MatchOption found (rank ≡ size_of lengths) (λ place. (rank < size_of lengths) × (pos place ≡ place_at_rank offset lengths strides rank))
+
+-- the length and the stride of the last axis, 1 where there is no axis
+abbrev pub IsLastAxis : List ℕ → List ℤ → ℕ → ℤ → Type 0
+IsLastAxis lengths strides count stride = (count ≡ slice_index_or lengths (length lengths - 1) 1) × (stride ≡ slice_index_or strides (length strides - 1) (pos 1))
 
 -- the first coordinates of the list are the index of this rank, and it lies at the place
 pub record StandsAt (offset : ℕ) (lengths : List ℕ) (strides : List ℤ) (rank place : ℕ) (index : List ℕ) : Type 0 where

@@ -55,7 +55,7 @@ fn growing_order(axis: usize, count: usize) -> Order
 }
 
 /// Writes the strides of fresh storage that can grow along an axis.
-fn lay_out(lengths: &[usize], axis: usize, out: &mut [isize])
+pub(crate) fn lay_out(lengths: &[usize], axis: usize, out: &mut [isize])
     requires few { length lengths.now ≤ 32 }
     requires as_long { length out.old ≡ length lengths.now }
     requires on_axis { axis < length lengths.now }
@@ -110,7 +110,7 @@ fn greatest_end_beside(lengths: &[usize], strides: &[isize], axis: usize) -> usi
 }
 
 /// Whether the elements must move before an axis can grow at the end of the storage.
-fn moves(lengths: &[usize], strides: &[isize], axis: usize) -> bool
+pub(crate) fn moves(lengths: &[usize], strides: &[isize], axis: usize) -> bool
     requires as_many { length strides.now ≡ length lengths.now }
     requires on_axis { axis < length lengths.now }
     ensures { result ≡ must_move lengths.now strides.now axis }

@@ -1,8 +1,9 @@
 //! Axes that continue one another, joined into one.
 
 ghost use Rattle.std.specs.Prelude.{◌↔◌, ◌≡◌, ◌+◌, ◌*◌, ◌<◌, ◌^◌, ◌*ℤ◌, pos, length, IsTrue};
-ghost use Rattle.nd_shape_and_slice.specs.Shape.{size_of, HasCheckedSize};
-ghost use Rattle.nd_layout.specs.Walk.{IsRejoined, IsJoint, IsRearranged};
+ghost use Rattle.nd_shape_and_slice.specs.Shape.{HasCheckedSize};
+ghost use Rattle.nd_layout.specs.Walk.{IsRejoined, IsJoint};
+ghost use Rattle.nd_layout.specs.Placements.{placement_of, IsRejoinedOf};
 
 use crate::layout::Layout;
 use nd_shape_and_slice::{Dimension, StrideList, is_empty_shape};
@@ -90,7 +91,7 @@ impl<D: Dimension, T: StrideList> Layout<D, T> {
     /// Joins axes that continue one another: the places and their row-major order stay.
     pub fn join_axes(&mut self)
         ensures offset { self.new.offset ≡ self.old.offset }
-        ensures joined { IsRejoined (D.lengths self.old.dim) (T.strides_of self.old.strides) (D.lengths self.new.dim) (T.strides_of self.new.strides) }
+        ensures joined { IsRejoinedOf (placement_of self.old) (placement_of self.new) }
     {
         join(&mut self.dim, &mut self.strides);
     }

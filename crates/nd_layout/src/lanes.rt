@@ -1,9 +1,9 @@
 //! The places of a layout by lanes: places that lie a stride apart, as many as the last axis is long.
 
-ghost use Rattle.std.specs.Prelude.{◌≡◌, ◌+◌, ◌-◌, ◌*◌, ◌<◌, ◌≤◌, ◌^◌, ◌+ℤ◌, ◌*ℤ◌, ℕ, true, pos, length, slice_index, slice_index_or, MatchOption, IfSome};
+ghost use Rattle.std.specs.Prelude.{◌≡◌, ◌+◌, ◌-◌, ◌*◌, ◌<◌, ◌≤◌, ◌^◌, ◌+ℤ◌, ◌*ℤ◌, ℕ, true, pos, length, slice_index, MatchOption, IfSome};
 ghost use Rattle.nd_shape_and_slice.specs.Shape.{size_of, HasCheckedSize};
 ghost use Rattle.nd_layout.specs.Places.{is_place, ReachesPlaces};
-ghost use Rattle.nd_layout.specs.Walk.{place_at_rank, IsLane, IsCutInLanes};
+ghost use Rattle.nd_layout.specs.Walk.{IsLane, IsCutInLanes, IsLastAxis};
 
 use crate::layout::places::moved_by;
 use crate::walk::Walk;
@@ -49,7 +49,7 @@ pub struct Lanes<'a> {
     ghost checked: { HasCheckedSize lengths.now },
     ghost reach: { ReachesPlaces first lengths.now strides.now },
     ghost cut: { IsCutInLanes first lengths.now strides.now outer.first outer.lengths.now outer.strides.now count stride },
-    ghost along: { 0 < size_of lengths.now → (count ≡ slice_index_or lengths.now (length lengths.now - 1) 1) × (stride ≡ slice_index_or strides.now (length strides.now - 1) (pos 1)) },
+    ghost along: { 0 < size_of lengths.now → IsLastAxis lengths.now strides.now count stride },
 }
 
 /// How many axes the walk from lane to lane goes over: all but the last; all where there are no places, or no axes.
@@ -107,7 +107,7 @@ impl<'a> Lanes<'a> {
         ensures lane { MatchOption result
             ((self.old.rank ≡ size_of self.old.lengths.now) × (self.new.rank ≡ self.old.rank))
             (λ lane. IsLane self.old.first self.old.lengths.now self.old.strides.now self.old.rank lane.place lane.count lane.stride × (self.new.rank ≡ self.old.rank + lane.count)) }
-        ensures along { IfSome result (λ lane. (lane.count ≡ slice_index_or self.old.lengths.now (length self.old.lengths.now - 1) 1) × (lane.stride ≡ slice_index_or self.old.strides.now (length self.old.strides.now - 1) (pos 1))) }
+        ensures along { IfSome result (λ lane. IsLastAxis self.old.lengths.now self.old.strides.now lane.count lane.stride) }
     {
         match self.outer.place() {
             Some(place) => {

@@ -1,11 +1,10 @@
 //! Where the elements of an array lie: an offset, lengths and strides.
 
-ghost use Rattle.std.specs.Prelude.{◌↔◌, ◌≡◌, ◌<◌, ◌^◌, ℕ, Bool, true, false, List, length, pos, MatchOption, IsNone};
+ghost use Rattle.std.specs.Prelude.{◌↔◌, ◌≡◌, ◌<◌, ◌^◌, ℕ, true, List, length, pos, IsNone};
 ghost use Rattle.nd_shape_and_slice.specs.Shape.{in_box, size_of, nonzero_product, HasCheckedSize};
-ghost use Rattle.nd_shape_and_slice.specs.FirstIndex.{first_index};
 ghost use Rattle.nd_shape_and_slice.specs.Place.{place_of, span_of};
 ghost use Rattle.nd_layout.specs.GivenStrides.{ordered_strides};
-ghost use Rattle.nd_layout.specs.Places.{is_place};
+ghost use Rattle.nd_layout.specs.Places.{is_place, IsPlaceOf, IsFirstPlace};
 ghost use Rattle.nd_layout.specs.Steps.{IsValid};
 
 pub mod axes;
@@ -93,7 +92,7 @@ impl<D: Dimension, T: StrideList> Layout<D, T> {
 
     /// The place of an index, None exactly outside the box.
     pub fn place_of(&self, index: &[usize]) -> Option<usize>
-        ensures { MatchOption result (in_box (D.lengths self.now.dim) index.now ≡ false) (λ place. (in_box (D.lengths self.now.dim) index.now ≡ true) × (pos place ≡ place_of self.now.offset (T.strides_of self.now.strides) index.now)) }
+        ensures { IsPlaceOf self.now.offset (D.lengths self.now.dim) (T.strides_of self.now.strides) index.now result }
     {
         let lengths = self.dim.slice();
         if is_in_box(lengths, index) {
@@ -106,7 +105,7 @@ impl<D: Dimension, T: StrideList> Layout<D, T> {
     /// The place of the index of zeros, None exactly where the layout has no index.
     #[tactic(auto, using(crate::proofs::FirstPlace::first_is_offset, crate::proofs::FirstPlace::first_outside, crate::proofs::FirstPlace::first_inside))]
     pub fn first_place(&self) -> Option<usize>
-        ensures place { MatchOption result (in_box (D.lengths self.now.dim) (first_index (D.lengths self.now.dim)) ≡ false) (λ place. (in_box (D.lengths self.now.dim) (first_index (D.lengths self.now.dim)) ≡ true) × (pos place ≡ place_of self.now.offset (T.strides_of self.now.strides) (first_index (D.lengths self.now.dim)))) }
+        ensures place { IsFirstPlace self.now.offset (D.lengths self.now.dim) (T.strides_of self.now.strides) result }
         ensures none { IsNone result ↔ (size_of (D.lengths self.now.dim) ≡ 0) }
     {
         if is_empty_shape(self.dim.slice()) {

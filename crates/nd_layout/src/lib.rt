@@ -3,11 +3,14 @@
 //! serve another shape. No storage and no element.
 #![tactic(auto)]
 
+mod continuing;
+mod fresh;
 mod grows;
 mod in_line;
 mod joined;
 mod lanes;
 mod layout;
+mod memory_order;
 mod order;
 mod ordered;
 mod reshape;
@@ -21,6 +24,7 @@ pub use layout::Layout;
 pub use layout::axes::stride_at;
 pub use layout::given::{offset_in_slice, offset_in_vec, reach_below, size_in_slice, size_in_vec};
 pub use layout::merging::furthest_axis;
+pub use memory_order::in_tail_order;
 pub use ordered::slow_axis_at;
 pub use reshape::reshape_strides;
 pub use runs::{is_run, is_standard};

@@ -1,10 +1,10 @@
 //! A walk over the indexes of a box in row-major order. It moves a place along, and computes none from an index.
 
-ghost use Rattle.std.specs.Prelude.{◌≡◌, ◌+◌, ◌<◌, ◌≤◌, ◌^◌, ◌-ℤ◌, ◌*ℤ◌, ℕ, true, min, pos, length, take, MatchOption};
+ghost use Rattle.std.specs.Prelude.{◌≡◌, ◌+◌, ◌<◌, ◌≤◌, ◌^◌, ◌-ℤ◌, ◌*ℤ◌, true, min, pos, length, take};
 ghost use Rattle.nd_shape_and_slice.specs.Shape.{in_box, size_of, row_rank, index_at, HasCheckedSize};
 ghost use Rattle.nd_shape_and_slice.specs.Place.{place_of};
 ghost use Rattle.nd_layout.specs.Places.{is_place, ReachesPlaces};
-ghost use Rattle.nd_layout.specs.Walk.{place_at_rank, StandsAt};
+ghost use Rattle.nd_layout.specs.Walk.{StandsAt, IsPlaceAtRank};
 
 use crate::layout::places::moved_by;
 use crate::runs::count_of;
@@ -136,7 +136,7 @@ impl<'a> Walk<'a> {
     #[inline]
     #[tactic(auto, using(crate::proofs::WalkSteps::stands_there))]
     pub fn place(&self) -> Option<usize>
-        ensures { MatchOption result (self.now.rank ≡ size_of self.now.lengths.now) (λ place. (self.now.rank < size_of self.now.lengths.now) × (pos place ≡ place_at_rank self.now.first self.now.lengths.now self.now.strides.now self.now.rank)) }
+        ensures { IsPlaceAtRank self.now.first self.now.lengths.now self.now.strides.now self.now.rank result }
     {
         if self.rank < self.size {
             Some(self.place)

@@ -1,6 +1,8 @@
 -- One coordinate of an axis taken out: those behind it move one towards the front, and in storage it goes to the end.
 use Rattle.std.specs.Prelude.{◌≡◌, ◌+◌, ◌-◌, ◌<◌, ℕ, ℤ, pos, nat_lt, nat_eq, List, Option, Some, slice_index, slice_set, if◌then◌else◌}
 use Rattle.nd_shape_and_slice.specs.declared.slice.Slice.{Slice}
+use Rattle.nd_layout.specs.Strides.{sliced_strides}
+use Rattle.nd_array_core.specs.Meaning.{Meaning, inside}
 use Rattle.nd_array_core.specs.Places.{stored_at}
 
 -- the axis is one shorter
@@ -14,6 +16,18 @@ front_slice last = record { start = pos 0; end = Some (pos last); step = pos 1 }
 -- a coordinate below the one that is taken out stays, and the others name the next one
 abbrev pub removed_index : ℕ → ℕ → List ℕ → List ℕ
 removed_index a k i = slice_set i a (if nat_lt (slice_index i a) k then slice_index i a else slice_index i a + 1)
+
+-- the strides of the axis that is one shorter
+abbrev pub removed_strides : List ℕ → List ℤ → ℕ → List ℤ
+removed_strides ns ss a = sliced_strides ns ss a (front_slice (slice_index ns a - 1))
+
+-- the element at an index, once a coordinate of an axis is taken out
+abbrev pub removed_at : {A : Type 0} → Meaning A → ℕ → ℕ → List ℕ → Option A
+removed_at m a k i = inside (removed_shape m.shape a) i (m.at (removed_index a k i))
+
+-- at the place that each lane's last index had lies the lane's removed element
+abbrev pub LieAtEnds : {A : Type 0} → Meaning A → (List ℕ → Option ℕ) → ℕ → ℕ → (ℕ → Option A) → Type 0
+LieAtEnds m place a k stored = (i : List ℕ) (p : ℕ) → slice_index i a + 1 ≡ slice_index m.shape a → place i ≡ Some p → stored p ≡ m.at (slice_set i a k)
 
 -- which of n coordinates comes to each one, where k goes to the end
 abbrev pub rotated : ℕ → ℕ → ℕ → ℕ

@@ -3,6 +3,7 @@ use Rattle.std.specs.Prelude.{◌≡◌, ◌+◌, ◌*◌, ◌<◌, ℕ, true, L
 use Rattle.std.specs.List.{All}
 use Rattle.nd_shape_and_slice.specs.Shape.{in_box, size_of, row_rank}
 use Rattle.nd_shape_and_slice.specs.Maps.{collapsed_shape, collapsed_index}
+use Rattle.nd_array_core.specs.Meaning.{Meaning, inside}
 
 -- the axis is as long as there are chosen coordinates
 abbrev pub selected_shape : List ℕ → ℕ → List ℕ → List ℕ
@@ -11,6 +12,10 @@ selected_shape ns a indices = slice_set ns a (length indices)
 -- its coordinate is the number of a chosen one
 abbrev pub selected_index : ℕ → List ℕ → List ℕ → List ℕ
 selected_index a indices i = slice_set i a (slice_index indices (slice_index i a))
+
+-- the element at an index of what is chosen
+abbrev pub selected_at : {A : Type 0} → Meaning A → ℕ → List ℕ → List ℕ → Option A
+selected_at m a indices i = inside (selected_shape m.shape a indices) i (m.at (selected_index a indices i))
 
 -- all of them are coordinates of the axis
 abbrev pub AreCoordinates : List ℕ → ℕ → List ℕ → Type 0

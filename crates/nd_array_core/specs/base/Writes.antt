@@ -46,6 +46,10 @@ module _ {S D T A P R L M : Type 0} {s : data_trait.Ghosts S A} {d : dimension.G
   abbrev pub IsWrittenAt : {F : Type 0} → (S → F) → ArrayBase S D T A P R L M s d n r t → List ℕ → A → ArrayBase S D T A P R L M s d n r t → Type 0
   IsWrittenAt frame old index x new = ((i : List ℕ) → element_at new i ≡ with_element_at (element_at old) index x i) × KeepsFrame frame old new
 
+  -- whatever is written at the index, the array is old with that there
+  abbrev pub IsAnyWrittenAt : {F : Type 0} → (S → F) → ArrayBase S D T A P R L M s d n r t → List ℕ → (A → ArrayBase S D T A P R L M s d n r t) → Type 0
+  IsAnyWrittenAt frame old index written = (x : A) → IsWrittenAt frame old index x (written x)
+
   -- new is old with the elements at two indexes exchanged
   abbrev pub IsSwappedAt : {F : Type 0} → (S → F) → ArrayBase S D T A P R L M s d n r t → List ℕ → List ℕ → ArrayBase S D T A P R L M s d n r t → Type 0
   IsSwappedAt frame old a b new = ((i : List ℕ) → element_at new i ≡ with_swapped_at (element_at old) a b i) × KeepsFrame frame old new

@@ -5,7 +5,8 @@ use Rattle.std.specs.Fn.{Mut, Called}
 use Rattle.std.specs.List.{FoldsTo, count_by}
 use Rattle.std.specs.Option.{option_map}
 use Rattle.nd_array_core.specs.base.Writes.{is_index}
-use Rattle.nd_array_core.specs.FreeOrder.{ListsPartOfBox, AnswersThere}
+use Rattle.nd_array_core.specs.FreeOrder.{ListsPartOfBox, AnswersThere, AnswersAny, AskableInAnyOrder, HasAnswers, VisitedInSomeOrder}
+use Rattle.nd_array_core.specs.Meaning.{Meaning}
 use Rattle.nd_array_core.specs.elements.Folds.{RanTo}
 use Rattle.nd_array_core.specs.elements.Changes.{IsChangedBy}
 
@@ -66,6 +67,24 @@ module _ {P A B : Type 0} (answers : P → Option A → B → P → Type 0) wher
 abbrev pub TakesAt : {P A : Type 0} → (P → Option A → Type 0) → (List ℕ → Option A) → P → List ℕ → Type 0
 TakesAt takes at p i = takes p (at i)
 
+-- calls for all that a meaning shows
+module _ {P A B : Type 0} (answers : P → Option A → B → P → Type 0) where
+  -- whichever elements came before, the next may be handed over
+  abbrev pub AskableOfAll : (P → Option A → Type 0) → Meaning A → P → Type 0
+  AskableOfAll takes m first = AskableInAnyOrder (AnswersAt answers m.at) m.shape (TakesAt takes m.at) first
+
+  -- one call for each element, in some order
+  abbrev pub VisitsAll : Meaning A → P → Type 0
+  VisitsAll m first = (last : P) × VisitedInSomeOrder m.shape (AnswersAny (AnswersAt answers m.at)) first last
+
+  -- and at each index stands the answer of the call for it
+  abbrev pub HasAnswersOfAll : Meaning A → P → (List ℕ → Option B) → Type 0
+  HasAnswersOfAll m first at = HasAnswers (AnswersAt answers m.at) m.shape first at
+
+-- at each index stands what h gives of the element there
+abbrev pub IsMappedBy : {A B : Type 0} → (A → B) → (List ℕ → Option A) → (List ℕ → Option B) → Type 0
+IsMappedBy h old new = (i : List ℕ) → new i ≡ option_map h (old i)
+
 -- calls whose answer takes the element's place
 module _ {P A : Type 0} (answers : P → Option A → A → P → Type 0) where
   -- a call found an element, and its answer stands there
@@ -82,6 +101,10 @@ module _ {P A : Type 0} (answers : P → Option A → A → P → Type 0) where
       (listing : List (List ℕ)) × (last : P) × ListsPartOfBox shape listing
       × FoldsTo (AnswersThere (AnswersAt answers old) new) first listing last
       × ((i : List ℕ) → count_by (is_index i) listing ≡ 0 → new i ≡ old i)
+
+-- the same of all that a meaning shows
+abbrev pub HasSomeAnswersOfAll : {P A : Type 0} → (P → Option A → A → P → Type 0) → Meaning A → P → (List ℕ → Option A) → Type 0
+HasSomeAnswersOfAll answers m first new = HasSomeAnswers answers m.shape first m.at new
 
 -- at each index stands what stood there, or what h gives of it
 abbrev pub IsOldOrMapped : {A : Type 0} → (A → A) → (List ℕ → Option A) → (List ℕ → Option A) → Type 0

@@ -16,6 +16,8 @@ use Rattle.nd_array_core.specs.base.ElementMut.{KeepsPlaces}
 use Rattle.nd_array_core.specs.base.ElementLent.{DimensionMembers, array_row, with_storage}
 use Rattle.nd_array_core.specs.base.Writes.{OthersStay}
 use Rattle.nd_array_core.specs.Meaning.{shape_of, layout_strides, place_at, storage_of}
+use Rattle.nd_array_core.specs.Part.{Part}
+use Rattle.nd_array_core.specs.scoped.PartTasks.{KeepsBut}
 
 module _ {S D A T P R L M : Type 0} {s : data_trait.Ghosts S A} {d : dimension.Ghosts D P R L M} {n : axis_count.Ghosts D} {r : stride_list.Ghosts R} {t : stride_list.Ghosts T} where
   -- new is old but for the elements: the shape, the strides, the places, what the storage keeps while elements change,
@@ -36,6 +38,19 @@ module _ {S D A T P R L M : Type 0} {s : data_trait.Ghosts S A} {d : dimension.G
   abbrev pub KeepsPlacesBut : (List ℕ → Option ℕ) → ArrayBase S D T A P R L M s d n r t → ArrayBase S D T A P R L M s d n r t → Type 0
   KeepsPlacesBut place old new = OthersStay place (s.stored (storage_of old)) (s.stored (storage_of new))
 
+  -- What a view leaves, whatever elements it holds at its end; `left` is the array with such elements at the view's places.
+  -- The array is refilled.
+  abbrev pub LeavesRefilled : {F : Type 0} → (S → F) → ArrayBase S D T A P R L M s d n r t → (List A → ArrayBase S D T A P R L M s d n r t) → Type 0
+  LeavesRefilled frame old left = (ws : List A) → IsRefilled frame old (left ws)
+
+  -- Each place that is none of these holds what it held.
+  abbrev pub LeavesPlacesBut : (List ℕ → Option ℕ) → ArrayBase S D T A P R L M s d n r t → (List A → ArrayBase S D T A P R L M s d n r t) → Type 0
+  LeavesPlacesBut place old left = (ws : List A) → KeepsPlacesBut place old (left ws)
+
+  -- Each index that none of the part names has the element that it had.
+  abbrev pub LeavesBut : ArrayBase S D T A P R L M s d n r t → (List A → ArrayBase S D T A P R L M s d n r t) → Part → Type 0
+  LeavesBut old left part = (ws : List A) → KeepsBut old (left ws) part
+
 module _ (S A D P R L M : RattleType) (s : data_trait.Ghosts S.Denot A.Denot) (d : DimensionMembers D.Denot P.Denot) (n : axis_count.Ghosts D.Denot) (r : stride_list.Ghosts R.Denot) where
   -- the array ends as itself with some elements at the places that pass a test
   abbrev pub array_follows_part : MutBor (array_row S A D P R L M s d n r).Denot → GName → (ℕ → Bool) → Fml
@@ -53,3 +68,10 @@ tie_of v = v.storage.tie.value
 -- the places that are lent to a mutable view
 abbrev pub lent_places : {D T A P R L M : Type 0} {s : data_trait.Ghosts (RegionRepr (Region A)) A} {d : dimension.Ghosts D P R L M} {n : axis_count.Ghosts D} {r : stride_list.Ghosts R} {t : stride_list.Ghosts T} → ArrayBase (RegionRepr (Region A)) D T A P R L M s d n r t → ℕ → Bool
 lent_places v = lent_to v.storage
+
+module _
+    {S D A T P R L M : Type 0} {s : data_trait.Ghosts S A} {d : dimension.Ghosts D P R L M} {n : axis_count.Ghosts D} {r : stride_list.Ghosts R} {t : stride_list.Ghosts T}
+    {E U Q X V W : Type 0} {z : data_trait.Ghosts (RegionRepr (Region A)) A} {e : dimension.Ghosts E Q X V W} {k : axis_count.Ghosts E} {x : stride_list.Ghosts X} {u : stride_list.Ghosts U} where
+  -- the array once a mutable view of it is over, which then had these elements
+  abbrev pub left_by : ((x : S) → List A → (y : S) × KeepsPlaces (s.stored x) (s.stored y)) → (S → List A) → ArrayBase S D T A P R L M s d n r t → ArrayBase (RegionRepr (Region A)) E U A Q X V W z e k x u → List A → ArrayBase S D T A P R L M s d n r t
+  left_by refill items a v ws = array_with_part refill items a (lent_places v) ws

@@ -1,9 +1,10 @@
 -- A view or an array of its own: which it is, what is seen of it, and which one a reshape answers.
-use Rattle.std.specs.Prelude.{ℕ, ◌≡◌, ◌⊎◌, Bool, true, false, List, ℤ}
+use Rattle.std.specs.Prelude.{ℕ, ◌≡◌, ◌⊎◌, Bool, true, false, List, ℤ, Result, IsOkAnd}
 use Rattle.nd_shape_and_slice.specs.declared.dimension.Dimension as dimension
 use Rattle.nd_shape_and_slice.specs.declared.dimension.AxisCount as axis_count
 use Rattle.nd_shape_and_slice.specs.declared.dimension.StrideList as stride_list
 use Rattle.nd_shape_and_slice.specs.declared.builder.Order.{Order}
+use Rattle.nd_shape_and_slice.specs.declared.builder.Order.TheVariants.{RowMajor}
 use Rattle.nd_shape_and_slice.specs.declared.errors.ErrorKind.TheVariants.{IncompatibleShape}
 use Rattle.nd_array_core.specs.declared.base.array.ArrayBase.{ArrayBase}
 use Rattle.nd_array_core.specs.declared.base.errors.ArrayError.{ArrayError}
@@ -12,10 +13,11 @@ use Rattle.nd_array_core.specs.declared.base.storage.Data as data_trait
 use Rattle.nd_array_core.specs.declared.base.storage.OwnedRepr.{OwnedRepr}
 use Rattle.nd_array_core.specs.declared.reshape.either.EitherArray.{EitherArray}
 use Rattle.nd_array_core.specs.declared.reshape.either.EitherArray.TheVariants.{View, Owned}
-use Rattle.nd_array_core.specs.Meaning.{Meaning, meaning_of, storage_of}
+use Rattle.nd_array_core.specs.Meaning.{Meaning, meaning_of, shape_of, element_at, storage_of}
 use Rattle.nd_array_core.specs.Part.{ShowsWhole}
 use Rattle.nd_array_core.specs.base.Fresh.{OwnsInOrder}
 use Rattle.nd_array_core.specs.reshape.Regrouped.{IsShapeOf}
+use Rattle.nd_array_core.specs.reshape.RunSlices.{IsStandardArray}
 use Rattle.nd_array_core.specs.reshape.Serving.{SomeServe, StridesServe, ShowsServed, KeepsRanks}
 
 module _ {A V S D P R L M : Type 0} {v : data_trait.Ghosts V A} {s : data_trait.Ghosts S A} {d : dimension.Ghosts D P R L M} {n : axis_count.Ghosts D} {r : stride_list.Ghosts R} where
@@ -28,6 +30,10 @@ module _ {A V S D P R L M : Type 0} {v : data_trait.Ghosts V A} {s : data_trait.
   abbrev pub meaning_in : EitherArray A V S D P R L M v s d n r → Meaning A
   meaning_in (View a) = meaning_of a
   meaning_in (Owned a) = meaning_of a
+
+  -- nothing was refused, and the answer is a view
+  abbrev pub AnswersView : {E : Type 0} → Result (EitherArray A V S D P R L M v s d n r) E → Type 0
+  AnswersView answer = IsOkAnd answer (λ either. is_view_in either ≡ true)
 
 module _
     {A V S D P R L M : Type 0} {v : data_trait.Ghosts V A} {s : data_trait.Ghosts S A} {d : dimension.Ghosts D P R L M} {n : axis_count.Ghosts D} {r : stride_list.Ghosts R}
@@ -52,9 +58,19 @@ module _
   ViewsOrCopies a order ms (View b) = StridesServe a order ms × ShowsServed a order ms b
   ViewsOrCopies a order ms (Owned b) = (StridesServe a order ms → ⊥) × OwnsInOrder (ms, order) b × KeepsRanks a order ms b
 
+  -- the elements of an array under its own lengths, in row-major order one beside the other: a view just where they lie
+  -- so; else copies, from place 0 on
+  abbrev pub ViewsOrLaysOut : ArrayBase S D T A P R L M s d n r t → EitherArray A Z (OwnedRepr A) E Q X V W z o e k x → Type 0
+  ViewsOrLaysOut a (View b) = IsStandardArray a × ShowsWhole a b
+  ViewsOrLaysOut a (Owned b) = (IsStandardArray a → ⊥) × OwnsInOrder (shape_of a, RowMajor) b × ((i : List ℕ) → element_at b i ≡ element_at a i)
+
 module _
     {D T A P R L M : Type 0} {s : data_trait.Ghosts (OwnedRepr A) A} {d : dimension.Ghosts D P R L M} {n : axis_count.Ghosts D} {r : stride_list.Ghosts R} {t : stride_list.Ghosts T}
     {E U Q X V W : Type 0} {e : dimension.Ghosts E Q X V W} {k : axis_count.Ghosts E} {x : stride_list.Ghosts X} {u : stride_list.Ghosts U} where
+  -- b has a's storage as that is, each element where it is, under the lengths ms and with its rank in an order
+  abbrev pub KeepsStorage : ArrayBase (OwnedRepr A) D T A P R L M s d n r t → Order → List ℕ → ArrayBase (OwnedRepr A) E U A Q X V W s e k x u → Type 0
+  KeepsStorage a order ms b = ShowsServed a order ms b × (storage_of b ≡ storage_of a)
+
   -- the elements of an owned array under the lengths ms, each with its rank in an order: where strides serve in its own
   -- storage, as that is, each element where it is; else copies in that order, from place 0 on
   abbrev pub KeptOrCopied : ArrayBase (OwnedRepr A) D T A P R L M s d n r t → Order → List ℕ → ArrayBase (OwnedRepr A) E U A Q X V W s e k x u → Type 0

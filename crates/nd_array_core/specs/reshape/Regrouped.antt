@@ -13,7 +13,7 @@ use Rattle.nd_layout.specs.Ranks.{rank_in, index_in}
 use Rattle.nd_layout.specs.GivenStrides.{ordered_strides}
 use Rattle.nd_array_core.specs.declared.base.storage.Data as data_trait
 use Rattle.nd_array_core.specs.declared.base.array.ArrayBase.{ArrayBase}
-use Rattle.nd_array_core.specs.Meaning.{shape_of}
+use Rattle.nd_array_core.specs.Meaning.{shape_of, layout_strides}
 use Rattle.nd_array_core.specs.Part.{Part}
 
 -- the index of the lengths ns that has the rank of an index of the lengths ms
@@ -34,12 +34,20 @@ pub data IsRefused (order : Order) (ns : List ℕ) (ss : List ℤ) (ms : List �
   NoShape : (IsShapeOf ns ms → ⊥) → IsRefused order ns ss ms IncompatibleShape
   NotInOrder : IsShapeOf ns ms → (IsInOrder order ns ss → ⊥) → IsRefused order ns ss ms IncompatibleLayout
 
+-- why they can't be seen so in either order
+abbrev pub IsRefusedInBoth : List ℕ → List ℤ → List ℕ → ErrorKind → Type 0
+IsRefusedInBoth ns ss ms e = IsRefused RowMajor ns ss ms e × IsRefused ColumnMajor ns ss ms e
+
 -- row-major order where the elements lie so, and else column-major
 pub data IsOrderTried (ns : List ℕ) (ss : List ℤ) : Order → Type 0 where
   Rows : IsInOrder RowMajor ns ss → IsOrderTried ns ss RowMajor
   Columns : (IsInOrder RowMajor ns ss → ⊥) → IsOrderTried ns ss ColumnMajor
 
 module _ {S D T A P R L M : Type 0} {s : data_trait.Ghosts S A} {d : dimension.Ghosts D P R L M} {n : axis_count.Ghosts D} {r : stride_list.Ghosts R} {t : stride_list.Ghosts T} where
+  -- the elements lie in an order, from the offset on
+  abbrev pub LiesInOrder : Order → ArrayBase S D T A P R L M s d n r t → Type 0
+  LiesInOrder order a = IsInOrder order (shape_of a) (layout_strides a)
+
   -- the elements under other lengths, each with its rank in an order, and the strides of a new array
   abbrev pub ordered_part : ArrayBase S D T A P R L M s d n r t → Order → List ℕ → Part
   ordered_part a order ms = record { shape = ms; strides = ordered_strides order ms; source = regrouped_index order (shape_of a) ms }

@@ -1,13 +1,12 @@
 //! One coordinate of an axis taken out.
 #![tactic(auto, unfolding(crate::specs::Meaning::meaning_of, crate::specs::Meaning::memory_layout_of))]
 
-ghost use Rattle.std.specs.Prelude.{◌≡◌, ◌+◌, ◌-◌, ◌<◌, ◌≤◌, ◌^◌, ℕ, true, List, Some, length, pos, slice_index, slice_set, ◌+ℤ◌, ◌*ℤ◌};
+ghost use Rattle.std.specs.Prelude.{◌≡◌, ◌+◌, ◌-◌, ◌<◌, ◌≤◌, ◌^◌, ℕ, true, List, Some, length, pos, slice_index, ◌+ℤ◌, ◌*ℤ◌};
 ghost use Rattle.nd_shape_and_slice.specs.Shape.{size_of, HasCheckedSize};
 ghost use Rattle.nd_layout.specs.Places.{ReachesPlaces};
-ghost use Rattle.nd_layout.specs.Strides.{sliced_strides};
 ghost use Rattle.nd_array_core.specs.Places.{names_place};
 ghost use Rattle.nd_array_core.specs.along.AxisLanes.{lane_place, LanesReach, LanesDistinct};
-ghost use Rattle.nd_array_core.specs.along.Removed.{removed_shape, removed_index, front_slice, rotated, rotated_index, IsMovedBy, AreMovedBy};
+ghost use Rattle.nd_array_core.specs.along.Removed.{removed_shape, rotated, rotated_index, IsMovedBy, AreMovedBy, removed_at, removed_strides, LieAtEnds};
 ghost use Rattle.nd_array_core.specs.elements.Changes.{AreDistinct};
 
 use crate::along::lanes::lane_from;
@@ -60,7 +59,7 @@ fn rotate_lanes<S: DataMut>(
 }
 
 impl<S: DataMut, D: Dimension> ArrayBase<S, D> {
-    ghost use Rattle.nd_array_core.specs.Meaning.{shape_of, element_at, storage_of, place_at, layout_strides, inside};
+    ghost use Rattle.nd_array_core.specs.Meaning.{meaning_of, shape_of, element_at, storage_of, place_at, layout_strides, inside};
     ghost use Rattle.nd_array_core.specs.base.Writes.{KeepsFrame, OthersStay};
 
     /// Moves in each lane of an axis the elements after a coordinate towards the front, each by one; the one there goes to
@@ -93,10 +92,10 @@ impl<S: DataMut, D: Dimension> ArrayBase<S, D> {
         requires axis { axis.0 < length (shape_of self.old) }
         requires within { index < slice_index (shape_of self.old) axis.0 }
         ensures shape { shape_of self.new ≡ removed_shape (shape_of self.old) axis.0 }
-        ensures strides { layout_strides self.new ≡ sliced_strides (shape_of self.old) (layout_strides self.old) axis.0 (front_slice (slice_index (shape_of self.old) axis.0 - 1)) }
-        ensures elements { (i : List ℕ) → element_at self.new i ≡ inside (removed_shape (shape_of self.old) axis.0) i (element_at self.old (removed_index axis.0 index i)) }
+        ensures strides { layout_strides self.new ≡ removed_strides (shape_of self.old) (layout_strides self.old) axis.0 }
+        ensures elements { (i : List ℕ) → element_at self.new i ≡ removed_at (meaning_of self.old) axis.0 index i }
         ensures places { (i : List ℕ) → place_at self.new i ≡ inside (removed_shape (shape_of self.old) axis.0) i (place_at self.old i) }
-        ensures removed { (i : List ℕ) (p : ℕ) → slice_index i axis.0 + 1 ≡ slice_index (shape_of self.old) axis.0 → place_at self.old i ≡ Some p → S.stored (storage_of self.new) p ≡ element_at self.old (slice_set i axis.0 index) }
+        ensures removed { LieAtEnds (meaning_of self.old) (place_at self.old) axis.0 index (S.stored (storage_of self.new)) }
         ensures others { OthersStay (place_at self.old) (S.stored (storage_of self.old)) (S.stored (storage_of self.new)) }
         ensures frame { S.frame (storage_of self.new) ≡ S.frame (storage_of self.old) }
     {

@@ -54,15 +54,15 @@ impl<'a, S: Data, D: Dimension> From<&'a ArrayBase<S, D>> for ArrayView<'a, S::E
 
 /// The view of an array, to be written, with the same strides: that of `view_mut`.
 impl<'a, S: DataMut, D: Dimension> From<&'a mut ArrayBase<S, D>> for ArrayViewMut<'a, S::Elem, D> {
-    ghost use Rattle.nd_array_core.specs.layout.ViewLent.{array_follows_part, array_with_part, lent_places, tie_of, IsRefilled, KeepsPlacesBut};
+    ghost use Rattle.nd_array_core.specs.layout.ViewLent.{array_follows_part, left_by, lent_places, tie_of, LeavesPlacesBut, LeavesRefilled};
 
     ghost from_gives = { λ array view. ShowsWhole array.now view };
 
     fn from(array: &'a mut ArrayBase<S, D>) -> Self
         ensures* writes_back { sem 𝓛 (array_follows_part S.row S.Elem.row D.row D.Pattern.row D.Strides.row D.Smaller.row D.Larger.row S.Data D.Dimension D.AxisCount D.Strides.StrideList array.entry (tie_of result) (lent_places result)) }
         ensures gives { ShowsWhole array.old result }
-        ensures refilled { (ws : List S.Elem) → IsRefilled S.frame array.old (array_with_part S.refilled S.items array.old (lent_places result) ws) }
-        ensures others { (ws : List S.Elem) → KeepsPlacesBut (place_at result) array.old (array_with_part S.refilled S.items array.old (lent_places result) ws) }
+        ensures refilled { LeavesRefilled S.frame array.old (left_by S.refilled S.items array.old result) }
+        ensures others { LeavesPlacesBut (place_at result) array.old (left_by S.refilled S.items array.old result) }
     {
         array.view_mut()
     }

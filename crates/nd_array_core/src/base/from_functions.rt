@@ -1,11 +1,11 @@
 //! New arrays of what a function answers for each index, or for no index at all.
 #![tactic(auto, unfolding(crate::specs::Meaning::meaning_of, crate::specs::Meaning::memory_layout_of))]
 
-ghost use Rattle.std.specs.Prelude.{◌≡◌, ◌+◌, ◌<◌, ◌≤◌, ℕ, true, take, List, [], length, IfOk, Some, slice_get, vec_len, vec_capacity};
-ghost use Rattle.nd_shape_and_slice.specs.Shape.{in_box, size_of, HasCheckedSize};
-ghost use Rattle.nd_layout.specs.Ranks.{rank_in, slowest_first};
+ghost use Rattle.std.specs.Prelude.{◌≡◌, ◌+◌, ◌<◌, ◌≤◌, ℕ, take, List, [], length, IfOk, Some, vec_len, vec_capacity};
+ghost use Rattle.nd_shape_and_slice.specs.Shape.{size_of, HasCheckedSize};
+ghost use Rattle.nd_layout.specs.Ranks.{slowest_first};
 ghost use Rattle.nd_array_core.specs.Meaning.{element_at};
-ghost use Rattle.nd_array_core.specs.FreeOrder.{HasAnswers, AskableInAnyOrder, AnswersIndex, TakesIndex, AnswersByIndex, AnswersNothing, TakesNothing, AnswersAlike};
+ghost use Rattle.nd_array_core.specs.FreeOrder.{HasAnswers, AskableInAnyOrder, AnswersIndex, TakesIndex, AnswersByIndex, AnswersNothing, TakesNothing, AnswersAlike, AskableByIndex, HasAnswersByIndex};
 ghost use Rattle.nd_array_core.specs.base.Fresh.{built_by, OwnsInOrder, ShowsOneValue, ShowsValues, found_by_rank};
 
 use crate::base::array::Array;
@@ -180,10 +180,10 @@ impl<A, D: Dimension> Array<A, D> {
         f: F,
     ) -> Result<Self, NoMemory>
         requires checked { HasCheckedSize (Sh.builds_lengths shape) }
-        requires callable { AskableInAnyOrder (AnswersIndex F.FnMut D.pattern_lengths) (Sh.builds_lengths shape) (TakesIndex F.FnMut D.pattern_lengths) f }
+        requires callable { AskableByIndex F.FnMut D.pattern_lengths (Sh.builds_lengths shape) f }
         ensures owns { IfOk result (OwnsInOrder (built_by Sh.ShapeBuilder shape)) }
-        ensures visits { IfOk result (λ a. HasAnswers (AnswersIndex F.FnMut D.pattern_lengths) (Sh.builds_lengths shape) f (element_at a)) }
-        ensures alike { (h : List ℕ → A) → AnswersByIndex F.FnMut D.pattern_lengths (Sh.builds_lengths shape) h f → IfOk result (ShowsValues (built_by Sh.ShapeBuilder shape) h) }
+        ensures visits { IfOk result (λ a. HasAnswersByIndex F.FnMut D.pattern_lengths (Sh.builds_lengths shape) f (element_at a)) }
+        ensures alike { (h : _) → AnswersByIndex F.FnMut D.pattern_lengths (Sh.builds_lengths shape) h f → IfOk result (ShowsValues (built_by Sh.ShapeBuilder shape) h) }
     {
         let shape = shape.into_shape_with_order();
         let room = room_for(alloc, shape.size())?;

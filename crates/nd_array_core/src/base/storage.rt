@@ -1,6 +1,6 @@
 //! The storages of arrays: an owned vector, or a borrow of elements, shared or to be written.
 
-ghost use Rattle.std.specs.Prelude.{◌≡◌, ◌+◌, ◌*◌, ◌<◌, ◌≤◌, ◌^◌, ℕ, length, Bool, true, false, List, [], Option, IsSome, Some, None, IfOk, IfErr, is_ok, slice_get, slice_range, refl};
+ghost use Rattle.std.specs.Prelude.{◌≡◌, ◌+◌, ◌*◌, ◌<◌, ◌≤◌, ◌^◌, ℕ, length, Bool, true, false, List, [], Option, IsSome, Some, IfOk, IfErr, is_ok, slice_get, slice_range, refl};
 ghost use Rattle.std.specs.Borrow.{sem, follows, Array};
 ghost use Rattle.std.specs.List.{flat_map};
 ghost use Rattle.std.specs.Option.{is_some};
@@ -8,13 +8,16 @@ ghost use Rattle.std.specs.Vec.{with_item, with_items};
 ghost use Rattle.nd_array_core.specs.base.StorageFrame.{StorageFrame, Owned, Borrowed};
 ghost use Rattle.nd_region.specs.Scoped.{TakesPart, GivesPartBack, IsPartReturned};
 ghost use Rattle.nd_region.specs.Shared.{shared_stored};
-ghost use Rattle.nd_region.specs.Places.{names, names_not, written_where};
-ghost use Rattle.nd_region.specs.Region.{region_stored, borrow_of, elements_of, with_element as region_with, with_items as region_items, HasPlaces, IsAsLong};
+ghost use Rattle.nd_region.specs.Places.{names, names_not};
+ghost use Rattle.nd_region.specs.Region.{region_stored, borrow_of, elements_of, with_element as region_with, with_items as region_items, with_run as region_with_run, HasPlaces, IsAsLong};
 ghost use Rattle.nd_array_core.specs.Places.{HoldsAll, kept_at, written_at, swapped_at};
 ghost use Rattle.nd_array_core.specs.scoped.Scoped.{TakesNamed, GivesNamedBack, IsNamedReturned};
 ghost use Rattle.nd_array_core.specs.base.Storages.{shown_by};
 ghost use Rattle.nd_array_core.specs.base.ElementMut.{element_follows, KeepsPlaces, item_kept, item_written, place_kept, place_written};
 ghost use Rattle.nd_array_core.specs.base.NewElements.{overwritten_items, overwritten_itself, overwritten_again, places_there, places_kept, items_there, items_kept, items_itself, items_again, items_put, items_beside, places_put, places_beside};
+ghost use Rattle.nd_array_core.specs.base.StorageLaws.{WritesOneElement, HoldsLastRefill, HasRefilledItems, KeepsUnfilledPlaces, HoldsWhereBefore};
+ghost use Rattle.nd_array_core.specs.base.RunLent.{run_ends, HasRunAt, IsRunAt, IsBesideRun, places_run, places_beside_run, items_run, items_beside_run};
+ghost use Rattle.nd_array_core.specs.base.Lends.{written_from};
 
 use nd_layout::Layout;
 use nd_region::{Region, SharedRegion, with_region};
@@ -288,6 +291,16 @@ pub trait DataMut: Data {
         ensures* writes_back { sem 𝓛 (element_follows Self.row Self.Elem.row self.entry result (λ x. (Self.with_element self.old place x).0)) }
         ensures value { Self.stored self.old place ≡ Some result.now };
 
+    /// The storage with other elements at that many places from one on.
+    ghost with_run: { Self → ℕ → ℕ → List Self.Elem → Self };
+
+    /// The elements at that many places from one on, to be written.
+    fn lend_run(&mut self, place: usize, count: usize) -> &mut [Self::Elem]
+        requires some { 0 < count }
+        requires holds { HasRunAt (Self.stored self.old) place count }
+        ensures* writes_back { sem 𝓛 (run_ends Self.row Self.Elem.row self.entry result (λ ws. with_run self.old place count ws)) }
+        ensures values { IsRunAt (Self.stored self.old) place count result.now };
+
     /// Lends all places, for a shorter time.
     fn lend(&mut self) -> Region<'_, Self::Elem>
         ensures* writes_back { sem 𝓛 (follows Self.row (Array Self.Elem.row 0) self.entry.ghost_name result.name (λ ws. (Self.refilled self.old ws).0)) }
@@ -323,25 +336,34 @@ pub trait DataMut: Data {
     ghost alone: { Self.Data.exclusive ≡ true };
 
     /// A write changes no other element.
-    ghost element_written: { (s : Self) (place : ℕ) (x : Self.Elem) (p : ℕ) → IsSome (Self.Data.stored s place) → Self.Data.stored (Self.Data.with_element s place x).0 p ≡ written_at (Self.Data.stored s) place x p };
+    ghost element_written: { WritesOneElement Self.Data.stored Self.Data.with_element };
 
     /// A write keeps the frame.
     ghost element_frame: { (s : Self) (place : ℕ) (x : Self.Elem) → frame (Self.Data.with_element s place x).0 ≡ frame s };
+
+    /// Written along a run, it holds these elements there.
+    ghost run_written: { (s : Self) (place count : ℕ) (ws : List Self.Elem) → 0 < count → HasRunAt (Self.Data.stored s) place count → length ws ≡ count → (k : ℕ) → k < count → Self.Data.stored (with_run s place count ws) (place + k) ≡ slice_get ws k };
+
+    /// And elsewhere what it held.
+    ghost run_left: { (s : Self) (place count : ℕ) (ws : List Self.Elem) → 0 < count → HasRunAt (Self.Data.stored s) place count → length ws ≡ count → (p : ℕ) → IsBesideRun place count p → Self.Data.stored (with_run s place count ws) p ≡ Self.Data.stored s p };
+
+    /// A write along a run keeps the frame.
+    ghost run_frame: { (s : Self) (place count : ℕ) (ws : List Self.Elem) → frame (with_run s place count ws) ≡ frame s };
 
     /// Refilled with its own elements, a storage is unchanged.
     ghost refilled_itself: { (s : Self) → (Self.Data.refilled s (Self.Data.items s)).0 ≡ s };
 
     /// Refilled twice, it holds the last elements.
-    ghost refilled_again: { (s : Self) (ws : List Self.Elem) → (Self.Data.refilled s (Self.Data.items (Self.Data.refilled s ws).0)).0 ≡ (Self.Data.refilled s ws).0 };
+    ghost refilled_again: { HoldsLastRefill Self.Data.stored Self.Data.refilled Self.Data.items };
 
     /// Refilled with as many elements as it has, it has these.
-    ghost refilled_items: { (s : Self) (ws : List Self.Elem) → length ws ≡ length (Self.Data.items s) → Self.Data.items (Self.Data.refilled s ws).0 ≡ ws };
+    ghost refilled_items: { HasRefilledItems Self.Data.stored Self.Data.refilled Self.Data.items };
 
     /// Refilled at the places that pass a test, it holds at every other what it held.
-    ghost refilled_elsewhere: { (s : Self) (test : ℕ → Bool) (ws : List Self.Elem) (p : ℕ) → test p ≡ false → Self.Data.stored (Self.Data.refilled s (written_where test (Self.Data.items s) ws)).0 p ≡ Self.Data.stored s p };
+    ghost refilled_elsewhere: { KeepsUnfilledPlaces Self.Data.stored Self.Data.refilled Self.Data.items };
 
     /// A refilled storage holds something exactly where it did before.
-    ghost refilled_there: { (s : Self) (ws : List Self.Elem) (p : ℕ) → is_some (Self.Data.stored (Self.Data.refilled s ws).0 p) ≡ is_some (Self.Data.stored s p) };
+    ghost refilled_there: { HoldsWhereBefore Self.Data.stored Self.Data.refilled };
 
     /// A refill keeps the frame.
     ghost refilled_frame: { (s : Self) (ws : List Self.Elem) → frame (Self.Data.refilled s ws).0 ≡ frame s };
@@ -378,6 +400,14 @@ impl<A> DataMut for OwnedRepr<A> {
 
     ghost element_frame = { λ s place x. refl };
 
+    ghost with_run = { λ s place count ws. record { items = with_items s.items (written_from s.items.items place ws) } };
+
+    ghost run_written = { λ s place count ws some holds long k below. items_run s.items place count ws some holds long k below };
+
+    ghost run_left = { λ s place count ws some holds long p beside. items_beside_run s.items place count ws some holds long p beside };
+
+    ghost run_frame = { λ s place count ws. refl };
+
     ghost refilled_itself = { λ s k. record { items = items_itself s.items k } };
 
     ghost refilled_again = { λ s ws k. record { items = items_again s.items ws k } };
@@ -392,6 +422,10 @@ impl<A> DataMut for OwnedRepr<A> {
 
     fn element_mut(&mut self, place: usize) -> &mut A {
         &mut self.items[place]
+    }
+
+    fn lend_run(&mut self, place: usize, count: usize) -> &mut [A] {
+        self.run_mut(place, count)
     }
 
     fn lend(&mut self) -> Region<'_, A> {
@@ -426,6 +460,14 @@ impl<'a, A> DataMut for ViewMutRepr<'a, A> {
 
     ghost element_frame = { λ s place x. refl };
 
+    ghost with_run = { λ s place count ws. record { region = region_with_run s.region place count ws; tie = s.tie } };
+
+    ghost run_written = { λ s place count ws some holds long k below. places_run s.region.items s.region.held place count ws some holds long k below };
+
+    ghost run_left = { λ s place count ws some holds long p beside. places_beside_run s.region.items s.region.held place count ws some holds long p beside };
+
+    ghost run_frame = { λ s place count ws. refl };
+
     ghost refilled_itself = { λ s k. record { region = region_items s.region (overwritten_itself s.region.items k); tie = s.tie } };
 
     ghost refilled_again = { λ s ws k. record { region = region_items s.region (overwritten_again s.region.items ws k); tie = s.tie } };
@@ -445,6 +487,11 @@ impl<'a, A> DataMut for ViewMutRepr<'a, A> {
     fn element_mut(&mut self, place: usize) -> &mut A {
         let region = self.region_mut();
         region.get_mut(place)
+    }
+
+    fn lend_run(&mut self, place: usize, count: usize) -> &mut [A] {
+        let region = self.region_mut();
+        region.run_mut(place, count)
     }
 
     fn replace(&mut self, place: usize, value: A) -> A {

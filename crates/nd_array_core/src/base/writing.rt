@@ -9,7 +9,7 @@ ghost use Rattle.nd_shape_and_slice.specs.FirstIndex.{first_index};
 ghost use Rattle.nd_array_core.specs.LastIndex.{last_index};
 ghost use Rattle.nd_array_core.specs.Meaning.{shape_of, element_at, layout_strides};
 ghost use Rattle.nd_layout.specs.Ranks.{IsStandard};
-ghost use Rattle.nd_array_core.specs.base.Writes.{IsWrittenAt, IsSwappedAt};
+ghost use Rattle.nd_array_core.specs.base.Writes.{IsWrittenAt, IsSwappedAt, IsAnyWrittenAt};
 
 use super::array::{Array, ArrayBase};
 use super::ends::last_place;
@@ -68,7 +68,7 @@ impl<S: DataMut, D: Dimension> ArrayBase<S, D> {
         requires { in_box (shape_of self.old) (I.coordinates_of index) ≡ true }
         ensures* writes_back { sem 𝓛 (lends_element S.row S.Elem.row D.row D.Pattern.row D.Strides.row D.Smaller.row D.Larger.row S.Data D.Dimension D.AxisCount D.Strides.StrideList self.entry (I.coordinates_of index) result) }
         ensures value { element_at self.old (I.coordinates_of index) ≡ Some result.now }
-        ensures written { (x : S.Elem) → IsWrittenAt S.frame self.old (I.coordinates_of index) x (array_with_element S.with_element self.old (I.coordinates_of index) x) }
+        ensures written { IsAnyWrittenAt S.frame self.old (I.coordinates_of index) (array_with_element S.with_element self.old (I.coordinates_of index)) }
     {
         let place = self.layout.place_in_box(index.coordinates());
         self.storage.element_mut(place)
@@ -198,7 +198,7 @@ impl<S: DataMut, D: Dimension, I: NdIndex<D>> IndexMut<I> for ArrayBase<S, D> {
         requires { in_box (shape_of self.old) (I.coordinates_of index) ≡ true }
         ensures* writes_back { sem 𝓛 (lends_element S.row S.Elem.row D.row D.Pattern.row D.Strides.row D.Smaller.row D.Larger.row S.Data D.Dimension D.AxisCount D.Strides.StrideList self.entry (I.coordinates_of index) result) }
         ensures value { element_at self.old (I.coordinates_of index) ≡ Some result.now }
-        ensures written { (x : S.Elem) → IsWrittenAt S.frame self.old (I.coordinates_of index) x (array_with_element S.with_element self.old (I.coordinates_of index) x) }
+        ensures written { IsAnyWrittenAt S.frame self.old (I.coordinates_of index) (array_with_element S.with_element self.old (I.coordinates_of index)) }
     {
         self.uget_mut(index)
     }

@@ -1,13 +1,13 @@
 //! The elements of another array at every index.
 #![tactic(auto, unfolding(crate::specs::Meaning::meaning_of, crate::specs::Meaning::memory_layout_of))]
 
-ghost use Rattle.std.specs.Prelude.{◌≡◌, ◌<◌, ◌≤◌, ℕ, true, List, Some, OnOk, OnErr, pos, length, ◌+ℤ◌, ◌*ℤ◌};
+ghost use Rattle.std.specs.Prelude.{◌≡◌, ◌<◌, ◌≤◌, ℕ, true, List, Some, OnOk, OnErr, pos, length, slice_get, ◌+ℤ◌, ◌*ℤ◌};
 ghost use Rattle.nd_shape_and_slice.specs.Broadcast.{broadcasts};
 ghost use Rattle.nd_shape_and_slice.specs.Shape.{size_of, HasCheckedSize};
 ghost use Rattle.nd_layout.specs.Places.{ReachesPlaces};
 ghost use Rattle.nd_layout.specs.Walk.{place_at_rank};
 ghost use Rattle.nd_array_core.specs.Places.{names_place, stored_at};
-ghost use Rattle.nd_array_core.specs.base.Fresh.{ClonesAreEqual, ClonesOfAllAreEqual};
+ghost use Rattle.nd_array_core.specs.base.Fresh.{ClonesAreEqual, StoredClonesAreEqual, ClonesOfAllAreEqual};
 ghost use Rattle.nd_array_core.specs.base.Writes.{KeepsFrame};
 ghost use Rattle.nd_array_core.specs.elements.Assigns.{IsAssignedTo, IsPartlyAssigned};
 ghost use Rattle.nd_array_core.specs.elements.Changes.{AreDistinct};
@@ -48,9 +48,45 @@ fn assign_along<A: Clone + Drop, S: DataMut<Elem = A>, Z: Data<Elem = A>>(
     Ok(())
 }
 
-/// The same, with the second storage's region in hand: what a write may not change isn't read anew for each element. Where
-/// both lanes' elements lie side by side the compiler is told so.
-#[inline(always)]
+/// The same of two slices.
+fn assign_run<A: Clone + Drop>(xs: &mut [A], ys: &[A]) -> Result<(), NoMemory>
+    requires as_long { length ys.now ≡ length xs.old }
+    requires clones { StoredClonesAreEqual A.is_clone ys.now }
+    ensures assigned { OnOk result (IsAssignedTo (slice_get ys.now) (λ k. pos k) (length xs.old) (slice_get xs.old) (slice_get xs.new)) }
+    ensures stopped { OnErr result (IsPartlyAssigned (slice_get ys.now) (λ k. pos k) (length xs.old) (slice_get xs.old) (slice_get xs.new)) }
+    ensures long { length xs.new ≡ length xs.old }
+{
+    for nth in 0..ys.len() {
+        match ys[nth].clone() {
+            Ok(copy) => xs[nth] = copy,
+            Err(_) => return Err(NoMemory),
+        }
+    }
+    Ok(())
+}
+
+/// The same of lanes whose elements lie side by side, as slices: what a write may not change isn't read anew for each.
+fn assign_beside<A: Clone + Drop, S: DataMut<Elem = A>, Z: Data<Elem = A>>(
+    storage: &mut S,
+    lane: Lane,
+    others: &Z,
+    beside: Lane,
+) -> Result<(), NoMemory>
+    requires some { 0 < lane.count }
+    requires steps { (lane.stride ≡ pos 1) × (beside.stride ≡ pos 1) }
+    requires as_long { beside.count ≡ lane.count }
+    requires holds { (k : ℕ) → k < lane.count → names_place (S.stored storage.old) (pos lane.place +ℤ (pos k *ℤ lane.stride)) ≡ true }
+    requires others_hold { (k : ℕ) → k < lane.count → names_place (Z.stored others.now) (pos beside.place +ℤ (pos k *ℤ beside.stride)) ≡ true }
+    requires clones { (k : ℕ) (x : A) → k < lane.count → stored_at (Z.stored others.now) (pos beside.place +ℤ (pos k *ℤ beside.stride)) ≡ Some x → ClonesAreEqual A.is_clone x }
+    ensures assigned { OnOk result (IsAssignedTo (λ k. stored_at (Z.stored others.now) (pos beside.place +ℤ (pos k *ℤ beside.stride))) (λ k. pos lane.place +ℤ (pos k *ℤ lane.stride)) lane.count (S.stored storage.old) (S.stored storage.new)) }
+    ensures stopped { OnErr result (IsPartlyAssigned (λ k. stored_at (Z.stored others.now) (pos beside.place +ℤ (pos k *ℤ beside.stride))) (λ k. pos lane.place +ℤ (pos k *ℤ lane.stride)) lane.count (S.stored storage.old) (S.stored storage.new)) }
+    ensures frame { S.frame storage.new ≡ S.frame storage.old }
+{
+    let ys = others.borrowed().run(beside.place, beside.count);
+    assign_run(storage.lend_run(lane.place, lane.count), ys)
+}
+
+/// The same of any lanes.
 fn assign_lane<A: Clone + Drop, S: DataMut<Elem = A>, Z: Data<Elem = A>>(
     storage: &mut S,
     lane: Lane,
@@ -66,21 +102,10 @@ fn assign_lane<A: Clone + Drop, S: DataMut<Elem = A>, Z: Data<Elem = A>>(
     ensures stopped { OnErr result (IsPartlyAssigned (λ k. stored_at (Z.stored others.now) (pos beside.place +ℤ (pos k *ℤ beside.stride))) (λ k. pos lane.place +ℤ (pos k *ℤ lane.stride)) lane.count (S.stored storage.old) (S.stored storage.new)) }
     ensures frame { S.frame storage.new ≡ S.frame storage.old }
 {
-    let region = others.borrowed();
-    if lane.stride == 1 && beside.stride == 1 {
-        let ours = Lane {
-            place: lane.place,
-            count: lane.count,
-            stride: 1,
-        };
-        let theirs = Lane {
-            place: beside.place,
-            count: beside.count,
-            stride: 1,
-        };
-        return assign_along(storage, ours, &region, theirs);
+    if lane.count > 0 && lane.stride == 1 && beside.stride == 1 {
+        return assign_beside(storage, lane, others, beside);
     }
-    assign_along(storage, lane, &region, beside)
+    assign_along(storage, lane, &others.borrowed(), beside)
 }
 
 /// Writes at the place of each index of a layout a clone of the element that a second storage has at the place of that index

@@ -2,17 +2,15 @@
 #![tactic(auto, unfolding(crate::specs::Meaning::meaning_of, crate::specs::Meaning::memory_layout_of))]
 
 ghost use Rattle.std.specs.Prelude.{◌≡◌, ◌<◌, ◌≤◌, ℕ, true, Some, IfOk, IfErr, OnOk, OnErr, pos, length, ◌+ℤ◌, ◌*ℤ◌};
-ghost use Rattle.std.specs.Option.{option_map};
 ghost use Rattle.nd_shape_and_slice.specs.Shape.{size_of, HasCheckedSize};
 ghost use Rattle.nd_layout.specs.Places.{ReachesPlaces};
 ghost use Rattle.nd_layout.specs.Walk.{place_at_rank};
 ghost use Rattle.nd_array_core.specs.Places.{stored_at, names_place};
-ghost use Rattle.nd_array_core.specs.FreeOrder.{AskableInAnyOrder, HasAnswers};
 ghost use Rattle.nd_array_core.specs.base.ElementMut.{KeepsPlaces};
 ghost use Rattle.nd_array_core.specs.base.Fresh.{ClonesAreEqual, ClonesOfAllAreEqual};
 ghost use Rattle.nd_array_core.specs.base.Writes.{KeepsFrame};
 ghost use Rattle.nd_array_core.specs.elements.Changes.{AreDistinct, IsChangedBy};
-ghost use Rattle.nd_array_core.specs.elements.Maps.{AnswersValue, MayBeGiven, AnswersValuesBy, AnswersAt, TakesAt, TakesNumbered, Replaces, IsReplacedInPart, HasSomeAnswers, IsOldOrMapped};
+ghost use Rattle.nd_array_core.specs.elements.Maps.{AnswersValue, MayBeGiven, AnswersValuesBy, TakesNumbered, Replaces, IsReplacedInPart, IsOldOrMapped, AskableOfAll, HasAnswersOfAll, IsMappedBy, HasSomeAnswersOfAll};
 
 use crate::base::array::ArrayBase;
 use crate::base::storage::DataMut;
@@ -87,7 +85,7 @@ impl<S: DataMut, D: Dimension> ArrayBase<S, D>
 where
     S::Elem: Clone + Drop,
 {
-    ghost use Rattle.nd_array_core.specs.Meaning.{shape_of, element_at};
+    ghost use Rattle.nd_array_core.specs.Meaning.{meaning_of, element_at};
 
     /// Puts at each index what the function answers for a clone of the element there; a clone equals its original. The
     /// function is handed each element once, in an order that is free, and may be called with whatever such calls lead
@@ -95,10 +93,10 @@ where
     /// `mapv_inplace`.
     pub fn mapv_inplace<F: FnMut(S::Elem) -> S::Elem>(&mut self, f: F) -> Result<(), NoMemory>
         requires clones { ClonesOfAllAreEqual S.Elem.is_clone (element_at self.old) }
-        requires callable { AskableInAnyOrder (AnswersAt (AnswersValue F.FnMut) (element_at self.old)) (shape_of self.old) (TakesAt (MayBeGiven F.FnMut) (element_at self.old)) f }
-        ensures visits { OnOk result (HasAnswers (AnswersAt (AnswersValue F.FnMut) (element_at self.old)) (shape_of self.old) f (element_at self.new)) }
-        ensures alike { (h : _) → AnswersValuesBy F.FnMut h f → OnOk result ((i : _) → element_at self.new i ≡ option_map h (element_at self.old i)) }
-        ensures stopped { OnErr result (HasSomeAnswers (AnswersValue F.FnMut) (shape_of self.old) f (element_at self.old) (element_at self.new)) }
+        requires callable { AskableOfAll (AnswersValue F.FnMut) (MayBeGiven F.FnMut) (meaning_of self.old) f }
+        ensures visits { OnOk result (HasAnswersOfAll (AnswersValue F.FnMut) (meaning_of self.old) f (element_at self.new)) }
+        ensures alike { (h : _) → AnswersValuesBy F.FnMut h f → OnOk result (IsMappedBy h (element_at self.old) (element_at self.new)) }
+        ensures stopped { OnErr result (HasSomeAnswersOfAll (AnswersValue F.FnMut) (meaning_of self.old) f (element_at self.new)) }
         ensures either { (h : _) → AnswersValuesBy F.FnMut h f → OnErr result (IsOldOrMapped h (element_at self.old) (element_at self.new)) }
         ensures frame { KeepsFrame S.frame self.old self.new }
     {
@@ -118,15 +116,15 @@ impl<S: DataMut + Drop, D: Dimension> ArrayBase<S, D>
 where
     S::Elem: Clone + Drop,
 {
-    ghost use Rattle.nd_array_core.specs.Meaning.{shape_of, element_at};
+    ghost use Rattle.nd_array_core.specs.Meaning.{meaning_of, element_at};
 
     /// The array itself once `mapv_inplace` has put at each index what the function answers for a clone of the element
     /// there. NoMemory if a clone is refused: the array is dropped. ndarray's `mapv_into`.
     pub fn mapv_into<F: FnMut(S::Elem) -> S::Elem>(self, f: F) -> Result<Self, NoMemory>
         requires clones { ClonesOfAllAreEqual S.Elem.is_clone (element_at self) }
-        requires callable { AskableInAnyOrder (AnswersAt (AnswersValue F.FnMut) (element_at self)) (shape_of self) (TakesAt (MayBeGiven F.FnMut) (element_at self)) f }
-        ensures visits { IfOk result (λ a. HasAnswers (AnswersAt (AnswersValue F.FnMut) (element_at self)) (shape_of self) f (element_at a)) }
-        ensures alike { (h : _) → AnswersValuesBy F.FnMut h f → IfOk result (λ a. (i : _) → element_at a i ≡ option_map h (element_at self i)) }
+        requires callable { AskableOfAll (AnswersValue F.FnMut) (MayBeGiven F.FnMut) (meaning_of self) f }
+        ensures visits { IfOk result (λ a. HasAnswersOfAll (AnswersValue F.FnMut) (meaning_of self) f (element_at a)) }
+        ensures alike { (h : _) → AnswersValuesBy F.FnMut h f → IfOk result (λ a. IsMappedBy h (element_at self) (element_at a)) }
         ensures frame { IfOk result (KeepsFrame S.frame self) }
     {
         let mut array = self;

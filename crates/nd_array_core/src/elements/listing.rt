@@ -1,10 +1,10 @@
 //! The elements as a vector.
 #![tactic(auto, unfolding(crate::specs::Meaning::meaning_of, crate::specs::Meaning::memory_layout_of))]
 
-ghost use Rattle.std.specs.Prelude.{◌≡◌, ◌+◌, ◌<◌, ◌≤◌, ◌++◌, ℕ, true, [], Some, IfOk, OnOk, length, is_some, pos, vec_len, vec_capacity};
+ghost use Rattle.std.specs.Prelude.{◌≡◌, ◌+◌, ◌<◌, ◌≤◌, ◌++◌, ℕ, true, [], Some, IfOk, OnOk, OnErr, length, is_some, pos, vec_len, vec_capacity};
 ghost use Rattle.nd_shape_and_slice.specs.Shape.{size_of, HasCheckedSize};
 ghost use Rattle.nd_layout.specs.Places.{ReachesPlaces};
-ghost use Rattle.nd_array_core.specs.Collected.{collected, stored_along, stored_by_rank};
+ghost use Rattle.nd_array_core.specs.Collected.{collected, stored_along, stored_by_rank, IsFront};
 ghost use Rattle.nd_array_core.specs.Joined.{row_major_elements};
 ghost use Rattle.nd_array_core.specs.Meaning.{meaning_of, shape_of, element_at};
 ghost use Rattle.nd_array_core.specs.base.Fresh.{ClonesAreEqual, StoredClonesAreEqual, ClonesOfAllAreEqual};
@@ -42,6 +42,7 @@ where
     ensures items { OnOk result (items.new.items ≡ items.old.items ++ collected (stored_along (S.stored storage.now) lane.place lane.stride) lane.count) }
     ensures len { OnOk result (vec_len items.new ≡ vec_len items.old + lane.count) }
     ensures room { vec_capacity items.new ≡ vec_capacity items.old }
+    ensures kept { OnErr result (IsFront items.old.items items.new.items) }
 {
     // A region in hand: what a write may not change isn't read anew for each element.
     let region = storage.borrowed();
@@ -64,6 +65,7 @@ where
     ensures items { OnOk result (items.new.items ≡ items.old.items ++ collected (stored_along (S.stored storage.now) lane.place lane.stride) lane.count) }
     ensures len { OnOk result (vec_len items.new ≡ vec_len items.old + lane.count) }
     ensures room { vec_capacity items.old ≤ vec_capacity items.new }
+    ensures kept { OnErr result (IsFront items.old.items items.new.items) }
 {
     let run = storage.borrowed().run(lane.place, lane.count);
     match items.extend_with_clones(run) {
@@ -86,6 +88,7 @@ where
     ensures items { OnOk result (items.new.items ≡ items.old.items ++ collected (stored_along (S.stored storage.now) lane.place lane.stride) lane.count) }
     ensures len { OnOk result (vec_len items.new ≡ vec_len items.old + lane.count) }
     ensures room { vec_capacity items.old ≤ vec_capacity items.new }
+    ensures kept { OnErr result (IsFront items.old.items items.new.items) }
 {
     if lane.stride == 1 {
         return extend_by_run(items, storage, lane);
@@ -94,13 +97,13 @@ where
 }
 
 /// Puts clones of the elements of a layout, by row-major rank, behind those that a vector has.
-fn listed<S: Data>(
-    before: Vec<S::Elem>,
+fn list<S: Data>(
+    items: &mut Vec<S::Elem>,
     storage: &S,
     first: usize,
     lengths: &[usize],
     strides: &[isize],
-) -> Result<Vec<S::Elem>, NoMemory>
+) -> Result<(), NoMemory>
 where
     S::Elem: Clone + Drop,
     requires as_many { length strides.now ≡ length lengths.now }
@@ -109,20 +112,20 @@ where
     requires reach { ReachesPlaces first lengths.now strides.now }
     requires clones { (rank : ℕ) (x : S.Elem) → rank < size_of lengths.now → stored_by_rank (S.stored storage.now) first lengths.now strides.now rank ≡ Some x → ClonesAreEqual S.Elem.is_clone x }
     requires holds { (rank : ℕ) → rank < size_of lengths.now → is_some (stored_by_rank (S.stored storage.now) first lengths.now strides.now rank) ≡ true }
-    requires room { vec_len before + size_of lengths.now ≤ vec_capacity before }
-    ensures items { IfOk result (λ v. v.items ≡ before.items ++ collected (stored_by_rank (S.stored storage.now) first lengths.now strides.now) (size_of lengths.now)) }
-    ensures count { IfOk result (λ v. vec_len v ≡ vec_len before + size_of lengths.now) }
-    ensures room { IfOk result (λ v. vec_capacity before ≤ vec_capacity v) }
+    requires room { vec_len items.old + size_of lengths.now ≤ vec_capacity items.old }
+    ensures items { OnOk result (items.new.items ≡ items.old.items ++ collected (stored_by_rank (S.stored storage.now) first lengths.now strides.now) (size_of lengths.now)) }
+    ensures count { OnOk result (vec_len items.new ≡ vec_len items.old + size_of lengths.now) }
+    ensures room { vec_capacity items.old ≤ vec_capacity items.new }
+    ensures kept { OnErr result (IsFront items.old.items items.new.items) }
 {
-    let mut items = before;
     let mut lanes = Lanes::new(first, lengths, strides);
     while let Some(lane) = lanes.next() {
-        match extend_by_lane(&mut items, storage, lane) {
+        match extend_by_lane(items, storage, lane) {
             Ok(()) => {}
             Err(refused) => return Err(refused),
         }
     }
-    Ok(items)
+    Ok(())
 }
 
 /// A new vector with room for that many elements.
@@ -137,7 +140,32 @@ pub(crate) fn room_of<A>(alloc: Global, count: usize) -> Result<Vec<A>, NoMemory
 }
 
 /// Puts clones of the elements, in row-major order, behind those that a vector has: by lanes of axes that are joined where
-/// they continue one another.
+/// they continue one another. A refusal leaves some of them there.
+pub(crate) fn list_behind<S: Data, D: Dimension>(
+    items: &mut Vec<S::Elem>,
+    array: &ArrayBase<S, D>,
+) -> Result<(), NoMemory>
+where
+    S::Elem: Clone + Drop,
+    requires clones { ClonesOfAllAreEqual S.Elem.is_clone (element_at array.now) }
+    requires room { vec_len items.old + size_of (shape_of array.now) ≤ vec_capacity items.old }
+    ensures items { OnOk result (items.new.items ≡ items.old.items ++ row_major_elements (meaning_of array.now)) }
+    ensures count { OnOk result (vec_len items.new ≡ vec_len items.old + size_of (shape_of array.now)) }
+    ensures room { vec_capacity items.old ≤ vec_capacity items.new }
+    ensures kept { OnErr result (IsFront items.old.items items.new.items) }
+{
+    let mut joined = array.layout.copied();
+    joined.join_axes();
+    list(
+        items,
+        &array.storage,
+        joined.offset,
+        joined.dim.slice(),
+        joined.strides.slice(),
+    )
+}
+
+/// The same of a vector that is handed on; a refusal drops it.
 pub(crate) fn listed_behind<S: Data, D: Dimension>(
     before: Vec<S::Elem>,
     array: &ArrayBase<S, D>,
@@ -150,15 +178,11 @@ where
     ensures count { IfOk result (λ v. vec_len v ≡ vec_len before + size_of (shape_of array.now)) }
     ensures room { IfOk result (λ v. vec_capacity before ≤ vec_capacity v) }
 {
-    let mut joined = array.layout.copied();
-    joined.join_axes();
-    listed(
-        before,
-        &array.storage,
-        joined.offset,
-        joined.dim.slice(),
-        joined.strides.slice(),
-    )
+    let mut items = before;
+    match list_behind(&mut items, array) {
+        Ok(()) => Ok(items),
+        Err(refused) => Err(refused),
+    }
 }
 
 /// Clones of the elements.

@@ -1,15 +1,14 @@
 //! New arrays of what a closure answers for each element.
 #![tactic(auto, unfolding(crate::specs::Meaning::meaning_of, crate::specs::Meaning::memory_layout_of))]
 
-ghost use Rattle.std.specs.Prelude.{◌≡◌, ◌+◌, ◌<◌, ◌≤◌, ℕ, List, [], true, length, pos, is_some, slice_get, IfOk, vec_len, vec_capacity};
-ghost use Rattle.std.specs.Option.{option_map};
+ghost use Rattle.std.specs.Prelude.{◌≡◌, ◌+◌, ◌<◌, ◌≤◌, ℕ, [], true, length, pos, is_some, slice_get, IfOk, vec_len, vec_capacity};
 ghost use Rattle.nd_shape_and_slice.specs.Shape.{size_of, HasCheckedSize};
 ghost use Rattle.nd_layout.specs.Places.{ReachesPlaces};
 ghost use Rattle.nd_array_core.specs.Collected.{stored_along, stored_by_rank};
 ghost use Rattle.nd_array_core.specs.FreeOrder.{AskableInAnyOrder, HasAnswers};
-ghost use Rattle.nd_array_core.specs.Meaning.{shape_of, element_at};
+ghost use Rattle.nd_array_core.specs.Meaning.{shape_of, element_at, meaning_of};
 ghost use Rattle.nd_array_core.specs.reshape.RunSlices.{IsRunArray};
-ghost use Rattle.nd_array_core.specs.elements.Maps.{AnswersElement, MayBeShown, AnswersBy, AnswersAt, TakesAt, TakesNumbered, AnswersBehind};
+ghost use Rattle.nd_array_core.specs.elements.Maps.{AnswersElement, MayBeShown, AnswersBy, AnswersAt, TakesAt, TakesNumbered, AnswersBehind, AskableOfAll, HasAnswersOfAll, IsMappedBy};
 
 use crate::base::array::{Array, ArrayBase};
 use crate::base::fresh::of_items;
@@ -178,10 +177,10 @@ impl<S: Data, D: Dimension> ArrayBase<S, D> {
         alloc: Global,
         f: F,
     ) -> Result<Array<B, D>, NoMemory>
-        requires callable { AskableInAnyOrder (AnswersAt (AnswersElement F.FnMut) (element_at self.now)) (shape_of self.now) (TakesAt (MayBeShown F.FnMut) (element_at self.now)) f }
+        requires callable { AskableOfAll (AnswersElement F.FnMut) (MayBeShown F.FnMut) (meaning_of self.now) f }
         ensures shape { IfOk result (λ a. shape_of a ≡ shape_of self.now) }
-        ensures visits { IfOk result (λ a. HasAnswers (AnswersAt (AnswersElement F.FnMut) (element_at self.now)) (shape_of self.now) f (element_at a)) }
-        ensures alike { (h : S.Elem → B) → AnswersBy F.FnMut h f → IfOk result (λ a. (i : List ℕ) → element_at a i ≡ option_map h (element_at self.now i)) }
+        ensures visits { IfOk result (λ a. HasAnswersOfAll (AnswersElement F.FnMut) (meaning_of self.now) f (element_at a)) }
+        ensures alike { (h : _) → AnswersBy F.FnMut h f → IfOk result (λ a. IsMappedBy h (element_at self.now) (element_at a)) }
     {
         let room = room_of(alloc, self.len())?;
         if is_run(self.layout.dim.slice(), self.layout.strides.slice()) {

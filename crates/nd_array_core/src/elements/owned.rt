@@ -75,7 +75,7 @@ where
 }
 
 /// The array of clones of all elements, in row-major order.
-fn ordered_to_owned<S: Data, D: Dimension>(
+pub(crate) fn ordered_to_owned<S: Data, D: Dimension>(
     alloc: Global,
     array: &ArrayBase<S, D>,
 ) -> Result<Array<S::Elem, D>, NoMemory>

@@ -1,7 +1,7 @@
 //! Closures that are handed the elements of two arrays: one to be written, and one beside it.
 #![tactic(auto, unfolding(crate::specs::Meaning::meaning_of, crate::specs::Meaning::memory_layout_of))]
 
-ghost use Rattle.std.specs.Prelude.{◌≡◌, ◌<◌, ◌≤◌, ℕ, true, List, Some, IsSome, pos, length, ◌+ℤ◌, ◌*ℤ◌};
+ghost use Rattle.std.specs.Prelude.{◌≡◌, ◌<◌, ◌≤◌, ℕ, true, List, Some, IsSome, pos, length, slice_get, ◌+ℤ◌, ◌*ℤ◌};
 ghost use Rattle.nd_shape_and_slice.specs.Broadcast.{broadcasts};
 ghost use Rattle.nd_shape_and_slice.specs.Shape.{size_of, HasCheckedSize};
 ghost use Rattle.nd_layout.specs.Places.{ReachesPlaces};
@@ -59,9 +59,42 @@ fn zip_along<B, S: DataMut, Z: Data<Elem = B>, F: FnMut(&mut S::Elem, &B)>(
     now
 }
 
-/// The same, with the second storage's region in hand: what a write may not change isn't read anew for each element. Where
-/// both lanes' elements lie side by side the compiler is told so.
-#[inline(always)]
+/// The same of two slices.
+fn zip_run<A, B, F: FnMut(&mut A, &B)>(xs: &mut [A], ys: &[B], mut f: F) -> F
+    requires as_long { length ys.now ≡ length xs.old }
+    requires callable { TakesPairs F.FnMut (slice_get xs.old) (λ k. pos k) (slice_get ys.now) (λ k. pos k) f (length xs.old) }
+    ensures changed { IsZippedTo F.FnMut (λ k. pos k) (slice_get ys.now) (λ k. pos k) (length xs.old) (slice_get xs.old) (slice_get xs.new) f result }
+    ensures long { length xs.new ≡ length xs.old }
+{
+    for nth in 0..ys.len() {
+        f(&mut xs[nth], &ys[nth]);
+    }
+    f
+}
+
+/// The same of lanes whose elements lie side by side, as slices: what a write may not change isn't read anew for each.
+fn zip_beside<B, S: DataMut, Z: Data<Elem = B>, F: FnMut(&mut S::Elem, &B)>(
+    storage: &mut S,
+    lane: Lane,
+    others: &Z,
+    beside: Lane,
+    f: F,
+) -> F
+    requires some { 0 < lane.count }
+    requires steps { (lane.stride ≡ pos 1) × (beside.stride ≡ pos 1) }
+    requires as_long { beside.count ≡ lane.count }
+    requires apart { AreDistinct (λ k. pos lane.place +ℤ (pos k *ℤ lane.stride)) lane.count }
+    requires holds { (k : ℕ) → k < lane.count → names_place (S.stored storage.old) (pos lane.place +ℤ (pos k *ℤ lane.stride)) ≡ true }
+    requires others_hold { (k : ℕ) → k < lane.count → names_place (Z.stored others.now) (pos beside.place +ℤ (pos k *ℤ beside.stride)) ≡ true }
+    requires callable { TakesPairs F.FnMut (S.stored storage.old) (λ k. pos lane.place +ℤ (pos k *ℤ lane.stride)) (Z.stored others.now) (λ k. pos beside.place +ℤ (pos k *ℤ beside.stride)) f lane.count }
+    ensures changed { IsZippedTo F.FnMut (λ k. pos lane.place +ℤ (pos k *ℤ lane.stride)) (Z.stored others.now) (λ k. pos beside.place +ℤ (pos k *ℤ beside.stride)) lane.count (S.stored storage.old) (S.stored storage.new) f result }
+    ensures frame { S.frame storage.new ≡ S.frame storage.old }
+{
+    let ys = others.borrowed().run(beside.place, beside.count);
+    zip_run(storage.lend_run(lane.place, lane.count), ys, f)
+}
+
+/// The same of any lanes.
 fn zip_lane<B, S: DataMut, Z: Data<Elem = B>, F: FnMut(&mut S::Elem, &B)>(
     storage: &mut S,
     lane: Lane,
@@ -77,21 +110,10 @@ fn zip_lane<B, S: DataMut, Z: Data<Elem = B>, F: FnMut(&mut S::Elem, &B)>(
     ensures changed { IsZippedTo F.FnMut (λ k. pos lane.place +ℤ (pos k *ℤ lane.stride)) (Z.stored others.now) (λ k. pos beside.place +ℤ (pos k *ℤ beside.stride)) lane.count (S.stored storage.old) (S.stored storage.new) f result }
     ensures frame { S.frame storage.new ≡ S.frame storage.old }
 {
-    let region = others.borrowed();
-    if lane.stride == 1 && beside.stride == 1 {
-        let ours = Lane {
-            place: lane.place,
-            count: lane.count,
-            stride: 1,
-        };
-        let theirs = Lane {
-            place: beside.place,
-            count: beside.count,
-            stride: 1,
-        };
-        return zip_along(storage, ours, &region, theirs, f);
+    if lane.count > 0 && lane.stride == 1 && beside.stride == 1 {
+        return zip_beside(storage, lane, others, beside, f);
     }
-    zip_along(storage, lane, &region, beside, f)
+    zip_along(storage, lane, &others.borrowed(), beside, f)
 }
 
 /// Hands the elements at the places of a layout to the function, in row-major order of its indexes, each with the element

@@ -1,16 +1,15 @@
 //! New arrays of what a closure answers for a clone of each element.
 #![tactic(auto, unfolding(crate::specs::Meaning::meaning_of, crate::specs::Meaning::memory_layout_of))]
 
-ghost use Rattle.std.specs.Prelude.{◌≡◌, ◌+◌, ◌<◌, ◌≤◌, ℕ, List, [], Some, true, length, pos, is_some, slice_get, IfOk, vec_len, vec_capacity};
-ghost use Rattle.std.specs.Option.{option_map};
+ghost use Rattle.std.specs.Prelude.{◌≡◌, ◌+◌, ◌<◌, ◌≤◌, ℕ, [], Some, true, length, pos, is_some, slice_get, IfOk, vec_len, vec_capacity};
 ghost use Rattle.nd_shape_and_slice.specs.Shape.{size_of, HasCheckedSize};
 ghost use Rattle.nd_layout.specs.Places.{ReachesPlaces};
 ghost use Rattle.nd_array_core.specs.Collected.{stored_along, stored_by_rank};
 ghost use Rattle.nd_array_core.specs.FreeOrder.{AskableInAnyOrder, HasAnswers};
-ghost use Rattle.nd_array_core.specs.Meaning.{shape_of, element_at};
+ghost use Rattle.nd_array_core.specs.Meaning.{shape_of, element_at, meaning_of};
 ghost use Rattle.nd_array_core.specs.base.Fresh.{ClonesAreEqual, StoredClonesAreEqual, ClonesOfAllAreEqual};
 ghost use Rattle.nd_array_core.specs.reshape.RunSlices.{IsRunArray};
-ghost use Rattle.nd_array_core.specs.elements.Maps.{AnswersValue, MayBeGiven, AnswersValuesBy, AnswersAt, TakesAt, TakesNumbered, AnswersBehind};
+ghost use Rattle.nd_array_core.specs.elements.Maps.{AnswersValue, MayBeGiven, AnswersValuesBy, AnswersAt, TakesAt, TakesNumbered, AnswersBehind, AskableOfAll, HasAnswersOfAll, IsMappedBy};
 
 use crate::base::array::{Array, ArrayBase};
 use crate::base::fresh::of_items;
@@ -216,10 +215,10 @@ where
         f: F,
     ) -> Result<Array<B, D>, NoMemory>
         requires clones { ClonesOfAllAreEqual S.Elem.is_clone (element_at self.now) }
-        requires callable { AskableInAnyOrder (AnswersAt (AnswersValue F.FnMut) (element_at self.now)) (shape_of self.now) (TakesAt (MayBeGiven F.FnMut) (element_at self.now)) f }
+        requires callable { AskableOfAll (AnswersValue F.FnMut) (MayBeGiven F.FnMut) (meaning_of self.now) f }
         ensures shape { IfOk result (λ a. shape_of a ≡ shape_of self.now) }
-        ensures visits { IfOk result (λ a. HasAnswers (AnswersAt (AnswersValue F.FnMut) (element_at self.now)) (shape_of self.now) f (element_at a)) }
-        ensures alike { (h : S.Elem → B) → AnswersValuesBy F.FnMut h f → IfOk result (λ a. (i : List ℕ) → element_at a i ≡ option_map h (element_at self.now i)) }
+        ensures visits { IfOk result (λ a. HasAnswersOfAll (AnswersValue F.FnMut) (meaning_of self.now) f (element_at a)) }
+        ensures alike { (h : _) → AnswersValuesBy F.FnMut h f → IfOk result (λ a. IsMappedBy h (element_at self.now) (element_at a)) }
     {
         let room = room_of(alloc, self.len())?;
         if is_run(self.layout.dim.slice(), self.layout.strides.slice()) {

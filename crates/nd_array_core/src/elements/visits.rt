@@ -5,8 +5,7 @@ ghost use Rattle.std.specs.Prelude.{◌≡◌, ◌<◌, ◌≤◌, ℕ, true, le
 ghost use Rattle.nd_shape_and_slice.specs.Shape.{size_of, HasCheckedSize};
 ghost use Rattle.nd_layout.specs.Places.{ReachesPlaces};
 ghost use Rattle.nd_array_core.specs.Collected.{stored_along, stored_by_rank};
-ghost use Rattle.nd_array_core.specs.FreeOrder.{AskableInAnyOrder, AnswersAny, VisitedInSomeOrder};
-ghost use Rattle.nd_array_core.specs.elements.Maps.{AnswersElement, MayBeShown, AnswersAt, TakesAt, RanNumbered, TakesNumbered};
+ghost use Rattle.nd_array_core.specs.elements.Maps.{AnswersElement, MayBeShown, RanNumbered, TakesNumbered, AskableOfAll, VisitsAll};
 
 use crate::base::array::ArrayBase;
 use crate::base::storage::Data;
@@ -50,13 +49,13 @@ fn show_places<S: Data, F: FnMut(&S::Elem)>(
 }
 
 impl<S: Data, D: Dimension> ArrayBase<S, D> {
-    ghost use Rattle.nd_array_core.specs.Meaning.{shape_of, element_at};
+    ghost use Rattle.nd_array_core.specs.Meaning.{meaning_of};
 
     /// Shows each element to the function, once, in an order that is free; the function may be called with whatever such
     /// calls lead to. ndarray's `for_each`.
     pub fn for_each<F: FnMut(&S::Elem)>(&self, f: F)
-        requires callable { AskableInAnyOrder (AnswersAt (AnswersElement F.FnMut) (element_at self.now)) (shape_of self.now) (TakesAt (MayBeShown F.FnMut) (element_at self.now)) f }
-        ensures visits { (last : F) × VisitedInSomeOrder (shape_of self.now) (AnswersAny (AnswersAt (AnswersElement F.FnMut) (element_at self.now))) f last }
+        requires callable { AskableOfAll (AnswersElement F.FnMut) (MayBeShown F.FnMut) (meaning_of self.now) f }
+        ensures visits { VisitsAll (AnswersElement F.FnMut) (meaning_of self.now) f }
     {
         let order = self.layout.free_order();
         show_places(

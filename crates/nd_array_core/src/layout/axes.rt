@@ -141,7 +141,7 @@ impl<S: Data, D: Dimension> ArrayBase<S, D> {
 }
 
 impl<S: DataMut, D: Dimension> ArrayBase<S, D> {
-    ghost use Rattle.nd_array_core.specs.layout.ViewLent.{array_follows_part, array_with_part, lent_places, tie_of, IsRefilled, KeepsPlacesBut};
+    ghost use Rattle.nd_array_core.specs.layout.ViewLent.{array_follows_part, left_by, lent_places, tie_of, LeavesBut, LeavesPlacesBut, LeavesRefilled};
     ghost use Rattle.nd_array_core.specs.scoped.PartTasks.{KeepsBut};
 
     /// The view of the elements whose coordinates are all the same, to be read and written; of an array without axes,
@@ -151,9 +151,9 @@ impl<S: DataMut, D: Dimension> ArrayBase<S, D> {
     pub fn diag_mut(&mut self) -> ArrayViewMut<'_, S::Elem, Ix1>
         ensures* writes_back { sem 𝓛 (array_follows_part S.row S.Elem.row D.row D.Pattern.row D.Strides.row D.Smaller.row D.Larger.row S.Data D.Dimension D.AxisCount D.Strides.StrideList self.entry (tie_of result) (lent_places result)) }
         ensures part { ShowsPart self.old (diagonal_part self.old) result }
-        ensures refilled { (ws : List S.Elem) → IsRefilled S.frame self.old (array_with_part S.refilled S.items self.old (lent_places result) ws) }
-        ensures others { (ws : List S.Elem) → KeepsPlacesBut (place_at result) self.old (array_with_part S.refilled S.items self.old (lent_places result) ws) }
-        ensures kept { (ws : List S.Elem) → KeepsBut self.old (array_with_part S.refilled S.items self.old (lent_places result) ws) (diagonal_part self.old) }
+        ensures refilled { LeavesRefilled S.frame self.old (left_by S.refilled S.items self.old result) }
+        ensures others { LeavesPlacesBut (place_at result) self.old (left_by S.refilled S.items self.old result) }
+        ensures kept { LeavesBut self.old (left_by S.refilled S.items self.old result) (diagonal_part self.old) }
     {
         let diagonal = self.layout.diagonal();
         self.lent_as(diagonal)
@@ -203,7 +203,7 @@ impl<S: DataMut, D: RemoveAxis> ArrayBase<S, D>
 where
     D::Smaller: Dimension,
 {
-    ghost use Rattle.nd_array_core.specs.layout.ViewLent.{array_follows_part, array_with_part, lent_places, tie_of, IsRefilled, KeepsPlacesBut};
+    ghost use Rattle.nd_array_core.specs.layout.ViewLent.{array_follows_part, left_by, lent_places, tie_of, LeavesBut, LeavesPlacesBut, LeavesRefilled};
     ghost use Rattle.nd_array_core.specs.scoped.PartTasks.{KeepsBut};
 
     /// The view at one coordinate of an axis, without the axis, to be read and written. The axis is below `ndim`, and
@@ -219,9 +219,9 @@ where
         requires within { index < slice_index (shape_of self.old) axis.0 }
         ensures* writes_back { sem 𝓛 (array_follows_part S.row S.Elem.row D.row D.Pattern.row D.Strides.row D.Smaller.row D.Larger.row S.Data D.Dimension D.AxisCount D.Strides.StrideList self.entry (tie_of result) (lent_places result)) }
         ensures part { ShowsPart self.old (coordinate_part self.old axis.0 index) result }
-        ensures refilled { (ws : List S.Elem) → IsRefilled S.frame self.old (array_with_part S.refilled S.items self.old (lent_places result) ws) }
-        ensures others { (ws : List S.Elem) → KeepsPlacesBut (place_at result) self.old (array_with_part S.refilled S.items self.old (lent_places result) ws) }
-        ensures kept { (ws : List S.Elem) → KeepsBut self.old (array_with_part S.refilled S.items self.old (lent_places result) ws) (coordinate_part self.old axis.0 index) }
+        ensures refilled { LeavesRefilled S.frame self.old (left_by S.refilled S.items self.old result) }
+        ensures others { LeavesPlacesBut (place_at result) self.old (left_by S.refilled S.items self.old result) }
+        ensures kept { LeavesBut self.old (left_by S.refilled S.items self.old result) (coordinate_part self.old axis.0 index) }
     {
         let part = self.layout.index_axis(axis.0, index);
         self.lent_as(part)

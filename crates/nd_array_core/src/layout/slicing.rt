@@ -133,7 +133,7 @@ impl<S: Data, D: Dimension> ArrayBase<S, D> {
 }
 
 impl<S: DataMut, D: Dimension> ArrayBase<S, D> {
-    ghost use Rattle.nd_array_core.specs.layout.ViewLent.{array_follows_part, array_with_part, lent_places, tie_of, IsRefilled, KeepsPlacesBut};
+    ghost use Rattle.nd_array_core.specs.layout.ViewLent.{array_follows_part, left_by, lent_places, tie_of, LeavesBut, LeavesPlacesBut, LeavesRefilled};
     ghost use Rattle.nd_array_core.specs.scoped.PartTasks.{KeepsBut};
 
     /// The view of what the list names, to be read and written: a slice keeps its axis, an index takes its axis away, and
@@ -144,9 +144,9 @@ impl<S: DataMut, D: Dimension> ArrayBase<S, D> {
         requires { fits_shape (shape_of self.old) (I.elements_of info) ≡ true }
         ensures* writes_back { sem 𝓛 (array_follows_part S.row S.Elem.row D.row D.Pattern.row D.Strides.row D.Smaller.row D.Larger.row S.Data D.Dimension D.AxisCount D.Strides.StrideList self.entry (tie_of result) (lent_places result)) }
         ensures part { ShowsPart self.old (sliced_part self.old (I.elements_of info)) result }
-        ensures refilled { (ws : List S.Elem) → IsRefilled S.frame self.old (array_with_part S.refilled S.items self.old (lent_places result) ws) }
-        ensures others { (ws : List S.Elem) → KeepsPlacesBut (place_at result) self.old (array_with_part S.refilled S.items self.old (lent_places result) ws) }
-        ensures kept { (ws : List S.Elem) → KeepsBut self.old (array_with_part S.refilled S.items self.old (lent_places result) ws) (sliced_part self.old (I.elements_of info)) }
+        ensures refilled { LeavesRefilled S.frame self.old (left_by S.refilled S.items self.old result) }
+        ensures others { LeavesPlacesBut (place_at result) self.old (left_by S.refilled S.items self.old result) }
+        ensures kept { LeavesBut self.old (left_by S.refilled S.items self.old result) (sliced_part self.old (I.elements_of info)) }
     {
         let named = sliced_by(&self.layout, info);
         self.lent_as(named)
@@ -161,9 +161,9 @@ impl<S: DataMut, D: Dimension> ArrayBase<S, D> {
         requires fits { fits_axis (slice_index (shape_of self.old) axis.0) slice ≡ true }
         ensures* writes_back { sem 𝓛 (array_follows_part S.row S.Elem.row D.row D.Pattern.row D.Strides.row D.Smaller.row D.Larger.row S.Data D.Dimension D.AxisCount D.Strides.StrideList self.entry (tie_of result) (lent_places result)) }
         ensures part { ShowsPart self.old (axis_part self.old axis.0 slice) result }
-        ensures refilled { (ws : List S.Elem) → IsRefilled S.frame self.old (array_with_part S.refilled S.items self.old (lent_places result) ws) }
-        ensures others { (ws : List S.Elem) → KeepsPlacesBut (place_at result) self.old (array_with_part S.refilled S.items self.old (lent_places result) ws) }
-        ensures kept { (ws : List S.Elem) → KeepsBut self.old (array_with_part S.refilled S.items self.old (lent_places result) ws) (axis_part self.old axis.0 slice) }
+        ensures refilled { LeavesRefilled S.frame self.old (left_by S.refilled S.items self.old result) }
+        ensures others { LeavesPlacesBut (place_at result) self.old (left_by S.refilled S.items self.old result) }
+        ensures kept { LeavesBut self.old (left_by S.refilled S.items self.old result) (axis_part self.old axis.0 slice) }
     {
         let mut part = self.layout.copied();
         part.slice_axis(axis.0, slice);
@@ -180,9 +180,9 @@ impl<S: DataMut, D: Dimension> ArrayBase<S, D> {
     ) -> ArrayViewMut<'_, S::Elem, D>
         requires { AnswersFit F.pre F.step f (axes_of self.old) }
         ensures* writes_back { sem 𝓛 (array_follows_part S.row S.Elem.row D.row D.Pattern.row D.Strides.row D.Smaller.row D.Larger.row S.Data D.Dimension D.AxisCount D.Strides.StrideList self.entry (tie_of result) (lent_places result)) }
-        ensures refilled { (ws : List S.Elem) → IsRefilled S.frame self.old (array_with_part S.refilled S.items self.old (lent_places result) ws) }
-        ensures others { (ws : List S.Elem) → KeepsPlacesBut (place_at result) self.old (array_with_part S.refilled S.items self.old (lent_places result) ws) }
-        ensures sliced { AnswersGive F.step f (axes_of self.old) (λ slices. ShowsPart self.old (each_sliced_part self.old slices) result × ((ws : List S.Elem) → KeepsBut self.old (array_with_part S.refilled S.items self.old (lent_places result) ws) (each_sliced_part self.old slices))) }
+        ensures refilled { LeavesRefilled S.frame self.old (left_by S.refilled S.items self.old result) }
+        ensures others { LeavesPlacesBut (place_at result) self.old (left_by S.refilled S.items self.old result) }
+        ensures sliced { AnswersGive F.step f (axes_of self.old) (λ slices. ShowsPart self.old (each_sliced_part self.old slices) result × LeavesBut self.old (left_by S.refilled S.items self.old result) (each_sliced_part self.old slices)) }
     {
         let mut left = self.layout.copied();
         left.slice_each_axis(f);

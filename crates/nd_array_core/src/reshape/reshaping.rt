@@ -1,14 +1,14 @@
 //! Arrays under another shape: views, or kept storages, where strides serve, and else copies.
 #![tactic(auto, unfolding(crate::specs::Meaning::meaning_of, crate::specs::Meaning::memory_layout_of))]
 
-ghost use Rattle.std.specs.Prelude.{◌≡◌, IfOk, IfErr, [], ◌∷◌};
+ghost use Rattle.std.specs.Prelude.{◌≡◌, IfOk, IfErr, IsOkAnd, [], ◌∷◌};
 ghost use Rattle.nd_shape_and_slice.specs.Shape.{size_of};
 ghost use Rattle.nd_shape_and_slice.specs.declared.builder.Order.TheVariants.{RowMajor};
 ghost use Rattle.nd_array_core.specs.Meaning.{shape_of, element_at, layout_strides};
 ghost use Rattle.nd_array_core.specs.base.Fresh.{ClonesOfAllAreEqual};
 ghost use Rattle.nd_array_core.specs.reshape.Regrouped.{IsShapeOf};
 ghost use Rattle.nd_array_core.specs.reshape.Serving.{StridesServe};
-ghost use Rattle.nd_array_core.specs.reshape.Either.{IsReshapeRefused, ViewsOrCopies, KeptOrCopied};
+ghost use Rattle.nd_array_core.specs.reshape.Either.{IsReshapeRefused, ViewsOrCopies, KeptOrCopied, AnswersView, KeepsStorage};
 
 use crate::base::array::{Array, ArrayBase};
 use crate::base::errors::ArrayError;
@@ -43,6 +43,7 @@ where
     requires clones { (StridesServe array.now order (E.lengths dim) → ⊥) → ClonesOfAllAreEqual S.Elem.is_clone (element_at array.now) }
     ensures refused { IfErr result (IsReshapeRefused order (shape_of array.now) (layout_strides array.now) (E.lengths dim)) }
     ensures kind { IfOk result (ViewsOrCopies array.now order (E.lengths dim)) }
+    ensures serves { StridesServe array.now order (E.lengths dim) → AnswersView result }
 {
     match served_view(array, dim, order) {
         Some(view) => Ok(EitherArray::View(view)),
@@ -70,6 +71,7 @@ where
         ensures refused { IfErr result (IsReshapeRefused (E.order_asked shape) (shape_of self.now) (layout_strides self.now) (E.shape_asked shape)) }
         ensures shape { IfOk result (λ _. IsShapeOf (shape_of self.now) (E.shape_asked shape)) }
         ensures kind { IfOk result (ViewsOrCopies self.now (E.order_asked shape) (E.shape_asked shape)) }
+        ensures serves { IsShapeOf (shape_of self.now) (E.shape_asked shape) → StridesServe self.now (E.order_asked shape) (E.shape_asked shape) → AnswersView result }
     {
         let (dim, order) = shape.into_shape_and_order();
         if has_size(dim.slice(), self.len()) {
@@ -90,6 +92,7 @@ where
         requires clones { (StridesServe self.now order (size_of (shape_of self.now) ∷ []) → ⊥) → ClonesOfAllAreEqual S.Elem.is_clone (element_at self.now) }
         ensures refused { IfErr result (λ _. StridesServe self.now order (size_of (shape_of self.now) ∷ []) → ⊥) }
         ensures kind { IfOk result (ViewsOrCopies self.now order (size_of (shape_of self.now) ∷ [])) }
+        ensures serves { StridesServe self.now order (size_of (shape_of self.now) ∷ []) → AnswersView result }
     {
         match view_or_copy(alloc, self, line_of(self).into_dimension(), order) {
             Ok(flat) => Ok(flat),
@@ -104,6 +107,7 @@ where
         requires clones { (StridesServe self.now RowMajor (size_of (shape_of self.now) ∷ []) → ⊥) → ClonesOfAllAreEqual S.Elem.is_clone (element_at self.now) }
         ensures refused { IfErr result (λ _. StridesServe self.now RowMajor (size_of (shape_of self.now) ∷ []) → ⊥) }
         ensures kind { IfOk result (ViewsOrCopies self.now RowMajor (size_of (shape_of self.now) ∷ [])) }
+        ensures serves { StridesServe self.now RowMajor (size_of (shape_of self.now) ∷ []) → AnswersView result }
     {
         self.flatten_with_order(alloc, Order::RowMajor)
     }
@@ -120,6 +124,7 @@ fn kept_or_copied<A: Clone + Drop, D: Dimension, E: Dimension>(
     requires clones { (StridesServe array order (E.lengths dim) → ⊥) → ClonesOfAllAreEqual A.is_clone (element_at array) }
     ensures refused { IfErr result (IsReshapeRefused order (shape_of array) (layout_strides array) (E.lengths dim)) }
     ensures kind { IfOk result (KeptOrCopied array order (E.lengths dim)) }
+    ensures serves { StridesServe array order (E.lengths dim) → IsOkAnd result (KeepsStorage array order (E.lengths dim)) }
 {
     match served_layout(&array.layout, dim, order) {
         Some(layout) => Ok(ArrayBase {
@@ -148,6 +153,7 @@ impl<A: Clone + Drop, D: Dimension> Array<A, D> {
         ensures refused { IfErr result (IsReshapeRefused (E.order_asked shape) (shape_of self) (layout_strides self) (E.shape_asked shape)) }
         ensures shape { IfOk result (λ _. IsShapeOf (shape_of self) (E.shape_asked shape)) }
         ensures kind { IfOk result (KeptOrCopied self (E.order_asked shape) (E.shape_asked shape)) }
+        ensures serves { IsShapeOf (shape_of self) (E.shape_asked shape) → StridesServe self (E.order_asked shape) (E.shape_asked shape) → IsOkAnd result (KeepsStorage self (E.order_asked shape) (E.shape_asked shape)) }
     {
         let (dim, order) = shape.into_shape_and_order();
         if has_size(dim.slice(), self.len()) {
@@ -163,6 +169,7 @@ impl<A: Clone + Drop, D: Dimension> Array<A, D> {
         requires clones { (StridesServe self RowMajor (size_of (shape_of self) ∷ []) → ⊥) → ClonesOfAllAreEqual A.is_clone (element_at self) }
         ensures refused { IfErr result (λ _. StridesServe self RowMajor (size_of (shape_of self) ∷ []) → ⊥) }
         ensures kind { IfOk result (KeptOrCopied self RowMajor (size_of (shape_of self) ∷ [])) }
+        ensures serves { StridesServe self RowMajor (size_of (shape_of self) ∷ []) → IsOkAnd result (KeepsStorage self RowMajor (size_of (shape_of self) ∷ [])) }
     {
         let dim = line_of(&self).into_dimension();
         match kept_or_copied(alloc, self, dim, Order::RowMajor) {

@@ -8,7 +8,7 @@ ghost use Rattle.nd_layout.specs.Steps.{IsViewStep};
 ghost use Rattle.nd_layout.specs.GivenStrides.{ordered_strides};
 ghost use Rattle.nd_array_core.specs.Meaning.{shape_of, layout_strides, layout_offset};
 ghost use Rattle.nd_array_core.specs.Part.{BecomesPart};
-ghost use Rattle.nd_array_core.specs.reshape.Regrouped.{IsInOrder, IsShapeOf, IsRefused, IsOrderTried, ordered_part, regrouped_index};
+ghost use Rattle.nd_array_core.specs.reshape.Regrouped.{IsInOrder, IsShapeOf, IsRefused, IsOrderTried, ordered_part, regrouped_index, IsRefusedInBoth, LiesInOrder};
 ghost use Rattle.nd_shape_and_slice.specs.declared.builder.Order.TheVariants.{RowMajor, ColumnMajor};
 
 use crate::base::array::ArrayBase;
@@ -114,9 +114,9 @@ impl<S: Data + Drop, D: Dimension> ArrayBase<S, D> {
         self,
         shape: E,
     ) -> Result<ArrayBase<S, E::Dim>, ShapeError>
-        ensures refused { IfErr result (λ e. IsRefused (E.order_asked shape) (shape_of self) (layout_strides self) (E.shape_asked shape) e) }
+        ensures refused { IfErr result (IsRefused (E.order_asked shape) (shape_of self) (layout_strides self) (E.shape_asked shape)) }
         ensures shape { IfOk result (λ _. IsShapeOf (shape_of self) (E.shape_asked shape)) }
-        ensures order { IfOk result (λ _. IsInOrder (E.order_asked shape) (shape_of self) (layout_strides self)) }
+        ensures order { IfOk result (λ _. LiesInOrder (E.order_asked shape) self) }
         ensures part { IfOk result (λ a. BecomesPart self (ordered_part self (E.order_asked shape) (E.shape_asked shape)) a) }
         ensures offset { IfOk result (λ a. layout_offset a ≡ layout_offset self) }
     {
@@ -133,9 +133,9 @@ impl<S: Data + Drop, D: Dimension> ArrayBase<S, D> {
     /// copied. IncompatibleShape where the shape has no checked size, or another one than the array;
     /// IncompatibleLayout where the elements lie in neither order; the array is then dropped. ndarray's `into_shape`.
     pub fn into_shape<E: IntoDimension>(self, shape: E) -> Result<ArrayBase<S, E::Dim>, ShapeError>
-        ensures refused { IfErr result (λ e. IsRefused RowMajor (shape_of self) (layout_strides self) (E.lengths_given shape) e × IsRefused ColumnMajor (shape_of self) (layout_strides self) (E.lengths_given shape) e) }
-        ensures rows { IsInOrder RowMajor (shape_of self) (layout_strides self) → IfOk result (λ a. BecomesPart self (ordered_part self RowMajor (E.lengths_given shape)) a) }
-        ensures columns { (IsInOrder RowMajor (shape_of self) (layout_strides self) → ⊥) → IfOk result (λ a. BecomesPart self (ordered_part self ColumnMajor (E.lengths_given shape)) a) }
+        ensures refused { IfErr result (IsRefusedInBoth (shape_of self) (layout_strides self) (E.lengths_given shape)) }
+        ensures rows { LiesInOrder RowMajor self → IfOk result (BecomesPart self (ordered_part self RowMajor (E.lengths_given shape))) }
+        ensures columns { (LiesInOrder RowMajor self → ⊥) → IfOk result (BecomesPart self (ordered_part self ColumnMajor (E.lengths_given shape))) }
         ensures shape { IfOk result (λ _. IsShapeOf (shape_of self) (E.lengths_given shape)) }
         ensures offset { IfOk result (λ a. layout_offset a ≡ layout_offset self) }
     {

@@ -7,9 +7,8 @@ ghost use Rattle.nd_region.specs.Region.{region_stored, borrow_of};
 ghost use Rattle.nd_array_core.specs.PlacedArray.{PlacedArray};
 ghost use Rattle.nd_array_core.specs.scoped.Tasks.{view_frame, lent_frame, lent_view, view_left, CanBeSeen, LiesBy, array_placed_by, HoldsBy, AreApart, IsWithin, AsksOfPair, IsDoneOnPair, KeepsUnnamed, KeepsUnnamedByTwo};
 ghost use Rattle.nd_layout.specs.Placements.{placement_of};
-ghost use Rattle.nd_array_core.specs.scoped.PartTasks.{AsksOfParts, IsDoneOnParts};
+ghost use Rattle.nd_array_core.specs.scoped.PartTasks.{AsksOfHalves, IsDoneOnHalves};
 ghost use Rattle.nd_array_core.specs.base.Writes.{KeepsFrame};
-ghost use Rattle.nd_array_core.specs.Part.{lower_part, upper_part};
 
 use super::tasks::LentView;
 use crate::base::array::ArrayBase;
@@ -178,7 +177,7 @@ pub(crate) fn with_placement_pair<
 }
 
 impl<S: DataMut, D: Dimension> ArrayBase<S, D> {
-    ghost use Rattle.nd_array_core.specs.Meaning.{shape_of, element_at, storage_of, place_at};
+    ghost use Rattle.nd_array_core.specs.Meaning.{shape_of};
 
     /// Lends the task mutable views of the two parts of an axis for the length of the call: the coordinates below this
     /// one, and those from it on. Afterwards each part has the elements that its view was left with. The axis is below
@@ -191,9 +190,9 @@ impl<S: DataMut, D: Dimension> ArrayBase<S, D> {
     ) -> K::Answer
         requires axis { axis.0 < length (shape_of self.old) }
         requires within { index ≤ slice_index (shape_of self.old) axis.0 }
-        requires callable { AsksOfParts (K.pre task) self.old (lower_part self.old axis.0 index) (upper_part self.old axis.0 index) }
+        requires callable { AsksOfHalves (K.pre task) self.old axis.0 index }
         ensures frame { KeepsFrame S.frame self.old self.new }
-        ensures done { IsDoneOnParts (λ v0 v1 w0 w1. K.post task v0 v1 w0 w1 result) self.old self.new (lower_part self.old axis.0 index) (upper_part self.old axis.0 index) }
+        ensures done { IsDoneOnHalves (K.post task) result self.old self.new axis.0 index }
     {
         let (lower, upper) = halves(&self.layout, axis.0, index);
         with_placement_pair(&mut self.storage, &self.layout, lower, upper, task)

@@ -2,9 +2,8 @@
 #![tactic(auto, unfolding(crate::specs::Meaning::meaning_of, crate::specs::Meaning::memory_layout_of))]
 
 ghost use Rattle.nd_array_core.specs.layout.MultiSlice.{TwoFit};
-ghost use Rattle.nd_array_core.specs.scoped.PartTasks.{AsksOfParts, IsDoneOnParts, KeepsButTwo};
+ghost use Rattle.nd_array_core.specs.scoped.PartTasks.{AsksOfSlices, IsDoneOnSlices, KeepsButSlices};
 ghost use Rattle.nd_array_core.specs.base.Writes.{KeepsFrame};
-ghost use Rattle.nd_array_core.specs.Part.{sliced_part};
 
 use super::pairs::{PairTask, with_placement_pair};
 use crate::base::array::ArrayBase;
@@ -13,7 +12,7 @@ use crate::layout::slicing::sliced_by;
 use nd_shape_and_slice::{Dimension, SliceArg};
 
 impl<S: DataMut, D: Dimension> ArrayBase<S, D> {
-    ghost use Rattle.nd_array_core.specs.Meaning.{shape_of, element_at, storage_of, place_at};
+    ghost use Rattle.nd_array_core.specs.Meaning.{shape_of};
 
     /// Lends the task mutable views of what two lists of slices name, for the length of the call. Afterwards the array
     /// has at each part the elements that its view was left with, and elsewhere those that it had. Each list fits the
@@ -25,10 +24,10 @@ impl<S: DataMut, D: Dimension> ArrayBase<S, D> {
         K: PairTask<S::Elem, I::OutDim, J::OutDim>,
     >(&mut self, lists: (I, J), task: K) -> K::Answer
         requires fits { TwoFit (shape_of self.old) (I.elements_of lists.0) (J.elements_of lists.1) }
-        requires callable { AsksOfParts (K.pre task) self.old (sliced_part self.old (I.elements_of lists.0)) (sliced_part self.old (J.elements_of lists.1)) }
+        requires callable { AsksOfSlices (K.pre task) self.old (I.elements_of lists.0) (J.elements_of lists.1) }
         ensures frame { KeepsFrame S.frame self.old self.new }
-        ensures kept { KeepsButTwo self.old self.new (sliced_part self.old (I.elements_of lists.0)) (sliced_part self.old (J.elements_of lists.1)) }
-        ensures done { IsDoneOnParts (λ v0 v1 w0 w1. K.post task v0 v1 w0 w1 result) self.old self.new (sliced_part self.old (I.elements_of lists.0)) (sliced_part self.old (J.elements_of lists.1)) }
+        ensures kept { KeepsButSlices self.old self.new (I.elements_of lists.0) (J.elements_of lists.1) }
+        ensures done { IsDoneOnSlices (K.post task) result self.old self.new (I.elements_of lists.0) (J.elements_of lists.1) }
     {
         let first = sliced_by(&self.layout, lists.0);
         let second = sliced_by(&self.layout, lists.1);

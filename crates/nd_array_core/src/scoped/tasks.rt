@@ -10,9 +10,10 @@ ghost use Rattle.std.specs.Option.{is_some};
 ghost use Rattle.nd_region.specs.Region.{region_stored, borrow_of};
 ghost use Rattle.nd_array_core.specs.PlacedArray.{PlacedArray, element_placed, found_at};
 ghost use Rattle.nd_array_core.specs.base.Storages.{held_by};
-ghost use Rattle.nd_array_core.specs.scoped.Tasks.{view_frame, lent_frame, lent_view, view_left, CanBeSeen, LiesBy, array_placed_by, AsksOfPlacement, IsDoneOnPlacement, IsViewOf, KeepsUnnamed};
+ghost use Rattle.nd_array_core.specs.scoped.Tasks.{view_frame, lent_frame, lent_view, view_left, CanBeSeen, LiesBy, array_placed_by, AsksOfPlacement, IsDoneOnPlacement, KeepsUnnamed};
 ghost use Rattle.nd_layout.specs.Placements.{placement_of};
 ghost use Rattle.nd_array_core.specs.base.Writes.{KeepsFrame};
+ghost use Rattle.nd_array_core.specs.scoped.PartTasks.{AsksOfWhole, IsDoneOnWhole};
 
 use crate::base::array::{ArrayBase, ArrayViewMut};
 use crate::base::storage::{DataMut, RegionRepr, ViewMutRepr};
@@ -145,9 +146,9 @@ impl<S: DataMut, D: Dimension> ArrayBase<S, D> {
     /// Lends the task a mutable view of the array, for the length of the call. Afterwards the array has the elements
     /// that the view was left with. This project's own, beside ndarray's `view_mut`.
     pub fn with_view_mut<K: ViewTask<S::Elem, D>>(&mut self, task: K) -> K::Answer
-        requires { (v : PlacedArray S.Elem) → IsViewOf (shape_of self.old) (place_at self.old) (element_at self.old) v → K.pre task v }
+        requires { AsksOfWhole (K.pre task) self.old }
         ensures frame { KeepsFrame S.frame self.old self.new }
-        ensures done { (v : PlacedArray S.Elem) × (w : PlacedArray S.Elem) × IsViewOf (shape_of self.old) (place_at self.old) (element_at self.old) v × IsViewOf (shape_of self.new) (place_at self.new) (element_at self.new) w × K.post task v w result }
+        ensures done { IsDoneOnWhole (K.post task) result self.old self.new }
     {
         with_placement(&mut self.storage, &self.layout, task)
     }

@@ -1,9 +1,9 @@
 //! One axis of a layout changed, and its axes put in another order. Each step costs by the number of axes alone.
 
-ghost use Rattle.std.specs.Prelude.{◌↔◌, ◌≡◌, ◌<◌, ◌≤◌, ◌-◌, ℕ, IsTrue, length, reverse, slice_index, slice_index_or, slice_set, swap, pos, ◌+ℤ◌, ◌*ℤ◌};
+ghost use Rattle.std.specs.Prelude.{◌↔◌, ◌≡◌, ◌<◌, ◌≤◌, ◌-◌, IsTrue, length, reverse, slice_index, slice_index_or, slice_set, swap, pos, ◌+ℤ◌, ◌*ℤ◌};
 ghost use Rattle.nd_shape_and_slice.specs.Shape.{size_of};
 ghost use Rattle.nd_shape_and_slice.specs.Axes.{HasEachAxis, permuted_list, unpermuted_list};
-ghost use Rattle.nd_layout.specs.Strides.{permuted_strides as permuted_ints, opposite_stride};
+ghost use Rattle.nd_layout.specs.Strides.{permuted_strides as permuted_ints, inverted_strides, opposite_stride};
 ghost use Rattle.nd_shape_and_slice.specs.Maps.{inverted_index, collapsed_shape, collapsed_index, lower_shape, upper_shape, upper_index};
 ghost use Rattle.nd_layout.specs.Steps.{IsStep};
 ghost use Rattle.nd_layout.specs.Placements.{placement_of, IsStepOf};
@@ -100,7 +100,7 @@ impl<D: Dimension, T: StrideList> Layout<D, T> {
     pub fn invert_axis(&mut self, axis: usize)
         requires { axis < length (D.lengths self.old.dim) }
         ensures lengths { D.lengths self.new.dim ≡ D.lengths self.old.dim }
-        ensures strides { T.strides_of self.new.strides ≡ slice_set (T.strides_of self.old.strides) axis (opposite_stride (slice_index_or (T.strides_of self.old.strides) axis (pos 0))) }
+        ensures strides { T.strides_of self.new.strides ≡ inverted_strides (T.strides_of self.old.strides) axis }
         ensures step { IsStepOf (placement_of self.old) (placement_of self.new) (inverted_index (D.lengths self.old.dim) axis) }
         ensures empty { size_of (D.lengths self.old.dim) ≡ 0 → self.new.offset ≡ self.old.offset }
     {

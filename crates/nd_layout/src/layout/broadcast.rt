@@ -1,8 +1,8 @@
 //! Broadcast: a layout seen under a larger shape.
 
 ghost use Rattle.std.specs.Prelude.{◌↔◌, ◌≡◌, ◌<◌, ◌≤◌, ◌^◌, true, false, IsTrue, IsNone, IfSome, length, slice_index_or, pos};
-ghost use Rattle.nd_shape_and_slice.specs.Broadcast.{stretches, broadcasts, broadcast_index};
-ghost use Rattle.nd_layout.specs.Placements.{placement_of, IsViewStepOf};
+ghost use Rattle.nd_shape_and_slice.specs.Broadcast.{stretches, broadcasts};
+ghost use Rattle.nd_layout.specs.Placements.{placement_of, HasBroadcastStrides, IsBroadcastStep};
 ghost use Rattle.nd_layout.specs.Strides.{broadcast_strides};
 
 use super::Layout;
@@ -67,8 +67,8 @@ impl<D: Dimension, T: StrideList> Layout<D, T> {
     pub fn broadcast<E: Dimension>(&self, to: E) -> Option<Layout<E, E::Strides>>
         ensures none { IsNone result ↔ (broadcasts (D.lengths self.now.dim) (E.lengths to) ≡ false) }
         ensures lengths { IfSome result (λ l. E.lengths l.dim ≡ E.lengths to) }
-        ensures strides { IfSome result (λ l. E.Strides.strides_of l.strides ≡ broadcast_strides (D.lengths self.now.dim) (T.strides_of self.now.strides) (E.lengths l.dim)) }
-        ensures seen { IfSome result (λ l. IsViewStepOf (placement_of self.now) (placement_of l) (broadcast_index (D.lengths self.now.dim) (E.lengths l.dim))) }
+        ensures strides { IfSome result (λ l. HasBroadcastStrides (placement_of self.now) (placement_of l)) }
+        ensures seen { IfSome result (λ l. IsBroadcastStep (placement_of self.now) (placement_of l)) }
         ensures offset { IfSome result (λ l. l.offset ≡ self.now.offset) }
     {
         if !can_broadcast(self.dim.slice(), to.slice()) {

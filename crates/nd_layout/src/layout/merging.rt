@@ -3,8 +3,8 @@
 ghost use Rattle.std.specs.Prelude.{◌↔◌, ◌≡◌, ◌<◌, ◌≤◌, ◌*◌, ◌^◌, IsTrue, true, false, min, nat_lt, swap, if◌then◌else◌, length, slice_index};
 ghost use Rattle.nd_shape_and_slice.specs.Shape.{HasCheckedSize};
 ghost use Rattle.nd_shape_and_slice.specs.Place.{magnitude_at};
-ghost use Rattle.nd_layout.specs.Merging.{StepsFurthest, CanMerge, merged_shape, merged_strides, merged_index};
-ghost use Rattle.nd_layout.specs.Placements.{placement_of, IsStepOf};
+ghost use Rattle.nd_layout.specs.Merging.{StepsFurthest, CanMerge, merged_shape, merged_strides};
+ghost use Rattle.nd_layout.specs.Placements.{placement_of, HasMergedStrides, IsMergedStep};
 
 use super::Layout;
 use crate::joined::continues;
@@ -111,8 +111,8 @@ impl<D: Dimension, T: StrideList> Layout<D, T> {
         requires into { into < length (D.lengths self.old.dim) }
         ensures merges { IsTrue result ↔ CanMerge (D.lengths self.old.dim) (T.strides_of self.old.strides) take into }
         ensures lengths { result ≡ true → D.lengths self.new.dim ≡ merged_shape (D.lengths self.old.dim) take into }
-        ensures strides { result ≡ true → T.strides_of self.new.strides ≡ merged_strides (D.lengths self.old.dim) (T.strides_of self.old.strides) take into }
-        ensures step { result ≡ true → IsStepOf (placement_of self.old) (placement_of self.new) (merged_index (D.lengths self.old.dim) take into) }
+        ensures strides { result ≡ true → HasMergedStrides (placement_of self.old) (placement_of self.new) take into }
+        ensures step { result ≡ true → IsMergedStep (placement_of self.old) (placement_of self.new) take into }
         ensures offset { self.new.offset ≡ self.old.offset }
         ensures kept { result ≡ false → placement_of self.new ≡ placement_of self.old }
     {

@@ -1,17 +1,17 @@
 //! Slices of a layout's axes: of one axis, by a list of slices, and by a closure that is asked of each axis.
 
-ghost use Rattle.std.specs.Prelude.{◌≡◌, ◌<◌, ◌≤◌, ◌^◌, ℕ, ℤ, true, false, is_some, nat_eq, ◌||◌, List, length, slice_index, slice_index_or, slice_get, slice_set, pos, ◌+ℤ◌, ◌*ℤ◌, if◌then◌else◌};
+ghost use Rattle.std.specs.Prelude.{◌≡◌, ◌<◌, ◌≤◌, ◌^◌, ℤ, true, false, is_some, nat_eq, ◌||◌, length, slice_index, slice_index_or, slice_get, pos, ◌+ℤ◌, ◌*ℤ◌, if◌then◌else◌};
 ghost use Rattle.std.specs.Option.{unwrap_or};
 ghost use Rattle.nd_shape_and_slice.specs.declared.slice.Slice.{Slice};
 ghost use Rattle.nd_shape_and_slice.specs.Descriptions.{axes_from};
 ghost use Rattle.nd_shape_and_slice.specs.Slice.{fits_axis, sliced_from, sliced_length, sliced_shape, sliced_index};
-ghost use Rattle.nd_shape_and_slice.specs.SliceInfo.{coordinate_on, reads_axis, axes_read, axes_kept, each_fits, fits_next, fits_shape, shape_after, index_before};
+ghost use Rattle.nd_shape_and_slice.specs.SliceInfo.{coordinate_on, reads_axis, axes_kept, each_fits, fits_next, fits_shape, shape_after, index_before};
 ghost use Rattle.nd_shape_and_slice.specs.Shape.{size_of};
-ghost use Rattle.nd_layout.specs.Strides.{sliced_strides, each_sliced_strides, strides_after, collapsed_strides, stepped_stride, FitsStride};
-ghost use Rattle.nd_shape_and_slice.specs.EachAxis.{each_sliced_shape, each_sliced_index, AnswersFit, AnswersAre};
-ghost use Rattle.nd_shape_and_slice.specs.Slicing.{collapsed_after, collapsed_before, shape_with, index_with, kept_items, put_back, indexed_ones};
+ghost use Rattle.nd_layout.specs.Strides.{stepped_stride, FitsStride};
+ghost use Rattle.nd_shape_and_slice.specs.EachAxis.{AnswersFit};
+ghost use Rattle.nd_shape_and_slice.specs.Slicing.{collapsed_after, collapsed_before, shape_with, index_with};
 ghost use Rattle.nd_layout.specs.Elements.{length_by, start_by, stride_by, strides_with, LeadsToPlaces};
-ghost use Rattle.nd_layout.specs.Placements.{placement_of, IsStepOf};
+ghost use Rattle.nd_layout.specs.Placements.{placement_of, IsStepOf, HasSlicedStrides, HasListStrides, HasCollapsedStrides, IsEachSliced};
 
 use super::Layout;
 use super::axes::{length_at, stride_at};
@@ -123,7 +123,7 @@ impl<D: Dimension, T: StrideList> Layout<D, T> {
         requires on { axis < length (D.lengths self.old.dim) }
         requires fits { fits_axis (slice_index (D.lengths self.old.dim) axis) slice ≡ true }
         ensures lengths { D.lengths self.new.dim ≡ sliced_shape (D.lengths self.old.dim) axis slice }
-        ensures strides { T.strides_of self.new.strides ≡ sliced_strides (D.lengths self.old.dim) (T.strides_of self.old.strides) axis slice }
+        ensures strides { HasSlicedStrides (placement_of self.old) (placement_of self.new) axis slice }
         ensures step { IsStepOf (placement_of self.old) (placement_of self.new) (sliced_index (D.lengths self.old.dim) axis slice) }
         ensures empty { size_of (D.lengths self.old.dim) ≡ 0 → self.new.offset ≡ self.old.offset }
     {
@@ -144,7 +144,7 @@ impl<D: Dimension, T: StrideList> Layout<D, T> {
         requires room { E.has_axes (axes_kept elements.now) ≡ true }
         ensures lengths { E.lengths result.dim ≡ shape_after (D.lengths self.now.dim) elements.now }
         ensures step { IsStepOf (placement_of self.now) (placement_of result) (index_before (D.lengths self.now.dim) elements.now) }
-        ensures strides { E.Strides.strides_of result.strides ≡ strides_after (D.lengths self.now.dim) (T.strides_of self.now.strides) elements.now }
+        ensures strides { HasListStrides (placement_of self.now) (placement_of result) elements.now }
         ensures empty { size_of (D.lengths self.now.dim) ≡ 0 → result.offset ≡ self.now.offset }
     {
         let mut dim = E::zeros(axes_kept(elements));
@@ -197,7 +197,7 @@ impl<D: Dimension, T: StrideList> Layout<D, T> {
         requires { each_fits (D.lengths self.old.dim) elements.now ≡ true }
         ensures lengths { D.lengths self.new.dim ≡ collapsed_after (D.lengths self.old.dim) elements.now }
         ensures step { IsStepOf (placement_of self.old) (placement_of self.new) (collapsed_before (D.lengths self.old.dim) elements.now) }
-        ensures strides { T.strides_of self.new.strides ≡ collapsed_strides (D.lengths self.old.dim) (T.strides_of self.old.strides) elements.now }
+        ensures strides { HasCollapsedStrides (placement_of self.old) (placement_of self.new) elements.now }
         ensures empty { size_of (D.lengths self.old.dim) ≡ 0 → self.new.offset ≡ self.old.offset }
     {
         let mut axis = 0;
@@ -212,7 +212,7 @@ impl<D: Dimension, T: StrideList> Layout<D, T> {
     /// Keeps of each axis the slice that the closure answers. It is called for axis 0 first.
     pub fn slice_each_axis<F: FnMut(AxisDescription) -> Slice + Drop>(&mut self, mut f: F)
         requires { AnswersFit F.pre F.step f (axes_from 0 (D.lengths self.old.dim) (T.strides_of self.old.strides)) }
-        ensures sliced { (slices : List Slice) × (last : F) × AnswersAre F.step f (axes_from 0 (D.lengths self.old.dim) (T.strides_of self.old.strides)) slices last × (D.lengths self.new.dim ≡ each_sliced_shape (D.lengths self.old.dim) slices) × IsStepOf (placement_of self.old) (placement_of self.new) (each_sliced_index (D.lengths self.old.dim) slices) × (T.strides_of self.new.strides ≡ each_sliced_strides (D.lengths self.old.dim) (T.strides_of self.old.strides) slices) }
+        ensures sliced { IsEachSliced F.step f (placement_of self.old) (placement_of self.new) }
         ensures empty { size_of (D.lengths self.old.dim) ≡ 0 → self.new.offset ≡ self.old.offset }
     {
         let before = self.copied();

@@ -1,7 +1,6 @@
-use Rattle.std.proofs.Common.{◌≡◌, ◌+◌, ◌<◌, ◌≤◌, ◌∙◌, true, ℕ, pos, ◌+ℤ◌, ◌*ℤ◌, ap, sym, subst, arith}
+use Rattle.std.proofs.Common.{◌≡◌, ◌∙◌, pos, ◌+ℤ◌, ◌*ℤ◌, sym, subst, arith}
 use Rattle.nd_shape_and_slice.specs.Shape.{size_of}
 use Rattle.nd_layout.specs.Walk.{place_at_rank, IsLane}
-use Rattle.nd_array_core.specs.Places.{names_place}
 use Rattle.nd_array_core.specs.elements.Pairs.{IsZippedTo}
 use Rattle.nd_array_core.proofs.Paired.{zipped_then, zips_next}
 use Rattle.nd_array_core.proofs.elements.pairs.zip_places.Goals as goal

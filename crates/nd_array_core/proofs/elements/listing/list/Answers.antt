@@ -1,7 +1,7 @@
 use Rattle.std.proofs.Common.{◌∙◌, arith}
 use Rattle.nd_layout.specs.Walk.{IsLane}
 use Rattle.nd_array_core.proofs.Collecting.{lane_behind}
-use Rattle.nd_array_core.proofs.elements.listing.listed.Goals as goal
+use Rattle.nd_array_core.proofs.elements.listing.list.Goals as goal
 
 pub loop-lane-preserved : goal.loop-lane-preserved
 loop-lane-preserved g c =
@@ -11,7 +11,7 @@ loop-lane-preserved g c =
     let stored = g.S.Data.stored c.args.storage.now in
     let along : IsLane c.args.first c.args.lengths.now c.args.strides.now c.loop-lane.lanes.rank lane.place lane.count lane.stride = rw (so_far.0, so_far.1, so_far.2) at given.0 in
     let put = c.in-Ok.ensures.items in
-    let items = lane_behind stored c.args.first c.args.lengths.now c.args.strides.now c.args.before.items c.loop-lane.items.items c.extend_by_lane.new.items.items c.loop-lane.lanes.rank c.next.new.self.rank lane.place lane.count lane.stride along given.1 so_far.3 put in (
+    let items = lane_behind stored c.args.first c.args.lengths.now c.args.strides.now c.args.items.now.items c.loop-lane.items.items c.extend_by_lane.new.items.items c.loop-lane.lanes.rank c.next.new.self.rank lane.place lane.count lane.stride along given.1 so_far.3 put in (
       c.in-Some.ensures.over.0 ∙ so_far.0,
       c.in-Some.ensures.over.1 ∙ so_far.1,
       c.in-Some.ensures.over.2 ∙ so_far.2,

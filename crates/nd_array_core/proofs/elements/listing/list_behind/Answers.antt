@@ -1,10 +1,10 @@
-use Rattle.std.proofs.Common.{◌≡◌, ◌∙◌, ◌++◌, subst, IfOk}
+use Rattle.std.proofs.Common.{◌≡◌, ◌∙◌, ◌++◌, subst, OnOk}
 use Rattle.nd_array_core.specs.Meaning.{meaning_of}
 use Rattle.nd_array_core.proofs.Collecting.{joined_has, joined_clones, joined_elements}
-use Rattle.nd_array_core.proofs.elements.listing.listed_behind.Goals as goal
+use Rattle.nd_array_core.proofs.elements.listing.list_behind.Goals as goal
 
-pub listed-requires-clause-holds : goal.listed-requires-clause-holds
-listed-requires-clause-holds g c =
+pub list-requires-clause-holds : goal.list-requires-clause-holds
+list-requires-clause-holds g c =
     let layout = c.args.array.now.layout in
     let joined = rw (c.copied-joined.ensures.lengths, c.copied-joined.ensures.strides) at c.join_axes.ensures.joined in
     rw (c.slice.ensures.lengths, c.slice-2.ensures)
@@ -12,9 +12,9 @@ listed-requires-clause-holds g c =
     c.join_axes.new.self.offset (g.D.Dimension.lengths c.join_axes.new.self.dim) (g.D.Strides.StrideList.strides_of c.join_axes.new.self.strides)
     (c.join_axes.ensures.offset ∙ c.copied-joined.ensures.offset) joined c.args.array.now.inside)
 
-pub listed-requires-clause-clones : goal.listed-requires-clause-clones
+pub list-requires-clause-clones : goal.list-requires-clause-clones
 unfolding meaning_of
-listed-requires-clause-clones g c =
+list-requires-clause-clones g c =
     let layout = c.args.array.now.layout in
     let joined = rw (c.copied-joined.ensures.lengths, c.copied-joined.ensures.strides) at c.join_axes.ensures.joined in
     rw (c.slice.ensures.lengths, c.slice-2.ensures)
@@ -27,8 +27,8 @@ unfolding meaning_of
 returns-clause-items g c =
     let layout = c.args.array.now.layout in
     let joined = rw (c.copied-joined.ensures.lengths, c.copied-joined.ensures.strides) at c.join_axes.ensures.joined in
-    let items = rw (c.slice.ensures.lengths, c.slice-2.ensures) at c.listed.ensures.items in
-    subst (λ xs. IfOk c.listed.result (λ v. v.items ≡ c.args.before.items ++ xs))
+    let items = rw (c.slice.ensures.lengths, c.slice-2.ensures) at c.list.ensures.items in
+    subst (λ xs. OnOk c.list.result (c.list.new.items.items ≡ c.args.items.now.items ++ xs))
     (joined_elements (g.S.Data.stored c.args.array.now.storage) layout.offset (g.D.Dimension.lengths layout.dim) (g.D.Strides.StrideList.strides_of layout.strides)
     c.join_axes.new.self.offset (g.D.Dimension.lengths c.join_axes.new.self.dim) (g.D.Strides.StrideList.strides_of c.join_axes.new.self.strides)
     (c.join_axes.ensures.offset ∙ c.copied-joined.ensures.offset) joined)

@@ -1,0 +1,228 @@
+-- Lanes gone along, by the array's indexes.
+use Rattle.std.proofs.Common.{◌≡◌, ℕ, zero, suc, ◌+◌, ◌-◌, ◌*◌, ◌/◌, ◌%◌, ◌<◌, Bool, true, false, List, [], length, get_or, set, ℤ, pos, refl, ap, sym, ◌∙◌, subst, arith}
+use Rattle.std.specs.Prelude.{Option, None, Some, is_some}
+use Rattle.std.specs.Borrow.{Bor, MutBor}
+use Rattle.std.specs.Fn.{Mut}
+use Rattle.std.proofs.lemmas.List.{length-set, set-set, set-get_or, get_or-set_same}
+use Rattle.nd_shape_and_slice.specs.Shape.{in_box, size_of, row_rank, index_at}
+use Rattle.nd_shape_and_slice.specs.Maps.{collapsed_shape, collapsed_index}
+use Rattle.nd_shape_and_slice.specs.Place.{place_of, IsSeparated}
+use Rattle.nd_shape_and_slice.proofs.Boxes.{coordinate_below}
+use Rattle.nd_shape_and_slice.proofs.RowMajor.{length-in_box, row_rank_below}
+use Rattle.nd_shape_and_slice.proofs.RankIndexes.{in_box-index_at, index_at-row_rank}
+use Rattle.nd_layout.proofs.Distinct.{in_box-set}
+use Rattle.nd_layout.specs.Steps.{IsStep}
+use Rattle.nd_array_core.specs.Meaning.{inside}
+use Rattle.nd_array_core.specs.Places.{stored_at, names_place, place_number, HoldsAll}
+use Rattle.nd_array_core.specs.elements.Pairs.{option_both}
+use Rattle.nd_array_core.specs.along.AxisLanes.{lane_place}
+use Rattle.nd_array_core.specs.FreeOrder.{ListsBox}
+use Rattle.nd_array_core.specs.along.Removed.{removed_shape}
+use Rattle.nd_array_core.specs.along.Rising.{next_index}
+use Rattle.nd_array_core.specs.along.Accumulated.{StartsAlong, ChangesAfter, AccumulatesBy, AccumulatesAll, AccumulableAlong, AreAccumulatedBy, AreAccumulated, TakesLanes}
+use Rattle.nd_array_core.proofs.AxisIndexes.{lane_inside, lane_lies, lanes_distinct}
+use Rattle.nd_array_core.proofs.Changed.{stored_same}
+use Rattle.nd_array_core.proofs.FreeOrder.{IsNumbering, listed, listed_part, listed_all, done_at_each}
+use Rattle.nd_array_core.proofs.LaneNumbers.{number_lane, lane_number, lane_number_below, index_of_number, number_of_index, number_row, number_column, number_next, lane_numbers, numbers_rise}
+use Rattle.nd_array_core.proofs.Ran.{ran_at, ran_weaker, ran_listed}
+
+module _ (offset : ℕ) (ns : List ℕ) (ss : List ℤ) (a : ℕ) (on : a < length ns) (many : length ss ≡ length ns) (start : ℕ) (step : IsStep offset ns ss start (collapsed_shape ns a) ss (collapsed_index a 0)) (w : ℕ) (long : suc w ≡ get_or ns a 0) where
+  abbrev outer : List ℕ
+  outer = collapsed_shape ns a
+
+  abbrev place : ℕ → ℕ → ℤ
+  place = lane_place start outer ss (get_or ss a (pos 0))
+
+  abbrev all : ℕ
+  all = size_of outer
+
+  module _ {A : Type 0} (stored : ℕ → Option A) where
+    abbrev pub at : List ℕ → Option A
+    at i = inside ns i (stored_at stored (place_of offset ss i))
+
+    -- what lies at a place of a lane is the element at its index
+    lane_element : (r k : ℕ) → r < all → k < suc w → stored_at stored (place r k) ≡ at (set (index_at outer r) a k)
+    lane_element r k below under =
+        let within : k < get_or ns a 0 = subst (λ n. k < n) long under in
+        rw (lane_inside offset ns ss a on many start step r k below within) (ap (stored_at stored) (lane_lies offset ns ss a on many start step r k below))
+
+    here_is : (m : ℕ) → m < all * w → stored_at stored (place (m / w) (m % w)) ≡ at (index_of_number ns a on w m)
+    here_is m below = let lane = number_lane all w m below in let under = lane.1 in lane_element (m / w) (m % w) lane.0 (omega (arith, under))
+
+    next_is : (m : ℕ) → m < all * w → stored_at stored (place (m / w) (suc (m % w))) ≡ at (next_index a (index_of_number ns a on w m))
+    next_is m below = let lane = number_lane all w m below in let under = lane.1 in lane_element (m / w) (suc (m % w)) lane.0 (omega (arith, under)) ∙ ap at (sym (number_next ns a on w m below))
+
+  -- the lane of an index, and its number there
+  outer_in : (i : List ℕ) → in_box ns i ≡ true → in_box outer (set i a 0) ≡ true
+  outer_in i h = in_box-set ns i a 1 0 h (omega arith)
+
+  abbrev row_of : List ℕ → ℕ
+  row_of i = row_rank outer (set i a 0)
+
+  row_below : (i : List ℕ) → in_box ns i ≡ true → row_of i < all
+  row_below i h = row_rank_below outer (set i a 0) (outer_in i h)
+
+  in_lane : (i : List ℕ) → in_box ns i ≡ true → place (row_of i) (get_or i a 0) ≡ place_of offset ss i
+  in_lane i h =
+      let under = coordinate_below ns i a h on in
+      lane_lies offset ns ss a on many start step (row_of i) (get_or i a 0) (row_below i h)
+      ∙ ap (place_of offset ss) (ap (λ o. set o a (get_or i a 0)) (index_at-row_rank outer (set i a 0) (outer_in i h)) ∙ (set-set i a 0 (get_or i a 0) ∙ set-get_or i a 0))
+
+  shorter_numbers : IsNumbering (removed_shape ns a) (all * w) (index_of_number ns a on w) (number_of_index ns a on w)
+  shorter_numbers = let fewer : w ≡ get_or ns a 0 - 1 = omega (arith, long) in subst (λ v. IsNumbering (set ns a v) (all * w) (index_of_number ns a on w) (number_of_index ns a on w)) fewer (lane_numbers ns a on w)
+
+  module _ {F A : Type 0} (g : Mut F (Bor A × (MutBor A × Unit {0})) (Unit {0} × (MutBor A × Unit {0}))) (old : ℕ → Option A) (f : F) where
+    pub axis_accumulable : AccumulableAlong g ns a (at old) f → TakesLanes g place all w old f
+    axis_accumulable takes left m now below starts run x y shows gives =
+        takes seen (listed index m) now (index m) seen_starts (numbers.inside m below) (listed_part numbers m below) (numbers_rise ns a on w (suc m) below)
+        (ran_listed (λ p i q. ChangesAfter g (seen i) (at old (next_index a i)) (seen (next_index a i)) p q) index f now m
+        (ran_weaker (λ p j q. ChangesAfter g (left (j / w) (j % w)) (stored_at old (place (j / w) (suc (j % w)))) (left (j / w) (suc (j % w))) p q)
+        (λ p j q. ChangesAfter g (seen (index j)) (at old (next_index a (index j))) (seen (next_index a (index j))) p q) f now m
+        (λ p j q under call.
+        let inside_j : j < all * w = omega (arith, under, below) in
+        subst (λ o. ChangesAfter g o (at old (next_index a (index j))) (seen (next_index a (index j))) p q) (sym (seen_here j inside_j))
+        (subst (λ o. ChangesAfter g (left (j / w) (j % w)) o (seen (next_index a (index j))) p q) (next_is old j inside_j)
+        (subst (λ o. ChangesAfter g (left (j / w) (j % w)) (stored_at old (place (j / w) (suc (j % w)))) o p q) (sym (seen_next j inside_j)) call))) run))
+        x y (seen_here m below ∙ shows) (sym (next_is old m below) ∙ gives)
+      where
+        numbers : IsNumbering (removed_shape ns a) (all * w) (index_of_number ns a on w) (number_of_index ns a on w)
+        numbers = shorter_numbers
+
+        index : ℕ → List ℕ
+        index = index_of_number ns a on w
+
+        seen : List ℕ → Option A
+        seen i = left (row_of i) (get_or i a 0)
+
+        seen_here : (j : ℕ) → j < all * w → seen (index j) ≡ left (j / w) (j % w)
+        seen_here j under = λ i. left (number_row ns a on w j under i) (number_column ns a on w j under i)
+
+        seen_next : (j : ℕ) → j < all * w → seen (next_index a (index j)) ≡ left (j / w) (suc (j % w))
+        seen_next j under =
+            let o = index_at outer (j / w) in
+            let lane = number_lane all w j under in
+            let inside_o = in_box-index_at outer (j / w) lane.0 in
+            let as_long = length-in_box outer o inside_o in
+            let same_long = length-set ns a 1 in
+            let on_o : a < length o = omega (arith, on, as_long, same_long) in
+            let row : row_of (set o a (suc (j % w))) ≡ j / w = ap (row_rank outer) (set-set o a (suc (j % w)) 0 ∙ sym (set-set o a (j % w) 0)) ∙ number_row ns a on w j under in
+            ap seen (number_next ns a on w j under) ∙ (λ i. left (row i) (get_or-set_same o a (suc (j % w)) 0 on_o i))
+
+        seen_starts : StartsAlong ns a (at old) seen
+        seen_starts i h zero_there =
+            ap (left (row_of i)) zero_there ∙ (starts (row_of i) (row_below i h)
+            ∙ (ap (λ k. stored_at old (place (row_of i) k)) (sym zero_there) ∙ rw h (ap (stored_at old) (in_lane i h))))
+
+    module _ (new : ℕ → Option A) (last : F) (done : AreAccumulated g place all w old new f last) where
+      pub axis_visits : AccumulatesAll g ns a (at old) (at new) f
+      axis_visits =
+          let index = index_of_number ns a on w in (
+            last,
+            (
+              listed index (all * w),
+              listed_all shorter_numbers,
+              numbers_rise ns a on w (all * w) (omega arith),
+              ran_listed (λ p i q. ChangesAfter g (at new i) (at old (next_index a i)) (at new (next_index a i)) p q) index f last (all * w)
+                  (ran_weaker (λ p j q. ChangesAfter g (stored_at new (place (j / w) (j % w))) (stored_at old (place (j / w) (suc (j % w)))) (stored_at new (place (j / w) (suc (j % w)))) p q)
+                  (λ p j q. ChangesAfter g (at new (index j)) (at old (next_index a (index j))) (at new (next_index a (index j))) p q) f last (all * w)
+                  (λ p j q under call.
+                  subst (λ o. ChangesAfter g o (at old (next_index a (index j))) (at new (next_index a (index j))) p q) (here_is new j under)
+                  (subst (λ o. ChangesAfter g (stored_at new (place (j / w) (j % w))) o (at new (next_index a (index j))) p q) (next_is old j under)
+                  (subst (λ o. ChangesAfter g (stored_at new (place (j / w) (j % w))) (stored_at old (place (j / w) (suc (j % w)))) o p q) (next_is new j under) call))) done.calls),
+            ),
+          )
+
+      -- the first place of each lane holds what it held
+      start_kept : (0 < size_of ns → IsSeparated ns ss) → (r : ℕ) → r < all → stored_at new (place r 0) ≡ stored_at old (place r 0)
+      start_kept apart r below =
+          stored_same old new (place r 0) (λ p e. done.left p (λ q j on_q under f'.
+          let same = (lanes_distinct offset ns ss a on many start step apart q (suc j) r 0 on_q below (subst (λ n. suc j < n) long (omega (arith, under))) (subst (λ n. 0 < n) long (omega arith)) (f' ∙ sym e)).1 in absurd (omega (arith, same))))
+
+      pub axis_first : (0 < size_of ns → IsSeparated ns ss) → (i : List ℕ) → get_or i a 0 ≡ 0 → at new i ≡ at old i
+      axis_first apart i none = by_test (in_box ns i) refl
+        where
+          by_test : (t : Bool) → in_box ns i ≡ t → at new i ≡ at old i
+          by_test true h =
+              let here : place (row_of i) 0 ≡ place_of offset ss i = ap (place (row_of i)) (sym none) ∙ in_lane i h in
+              rw h (ap (stored_at new) (sym here) ∙ (start_kept apart (row_of i) (row_below i h) ∙ ap (stored_at old) here))
+          by_test false h = rw h refl
+
+      pub axis_holds : (0 < size_of ns → IsSeparated ns ss) → HoldsAll old offset ns ss → HoldsAll new offset ns ss
+      axis_holds apart holds i h = by_coordinate (get_or i a 0) refl
+        where
+          by_coordinate : (k : ℕ) → get_or i a 0 ≡ k → names_place new (place_of offset ss i) ≡ true
+          by_coordinate zero e =
+              let here : place (row_of i) 0 ≡ place_of offset ss i = ap (place (row_of i)) (sym e) ∙ in_lane i h in
+              ap (names_place new) (sym here) ∙ (ap is_some (start_kept apart (row_of i) (row_below i h)) ∙ (ap (names_place old) here ∙ holds i h))
+          by_coordinate (suc k) e =
+              let under = coordinate_below ns i a h on in
+              let low : k < w = omega (arith, under, e, long) in
+              let numbers = lane_number w (row_of i) k low in
+              let here : place (row_of i) (suc k) ≡ place_of offset ss i = ap (place (row_of i)) (sym e) ∙ in_lane i h in
+              let call = ran_at (λ p j q. ChangesAfter g (stored_at new (place (j / w) (j % w))) (stored_at old (place (j / w) (suc (j % w)))) (stored_at new (place (j / w) (suc (j % w)))) p q) f last (all * w) (row_of i * w + k) (lane_number_below all w (row_of i) k (row_below i h) low) done.calls in
+              ap (names_place new) (sym here) ∙ (sym (λ j. names_place new (place (numbers.0 j) (suc (numbers.1 j)))) ∙ ap is_some call.2.5)
+
+      pub axis_others : (p : ℕ) → ((i : List ℕ) → inside ns i (place_number (place_of offset ss i)) ≡ Some p → ⊥) → new p ≡ old p
+      axis_others p nowhere =
+          done.left p (λ r j below under e.
+          let within : suc j < get_or ns a 0 = subst (λ n. suc j < n) long (omega (arith, under)) in
+          let h = lane_inside offset ns ss a on many start step r (suc j) below within in
+          let there : place_of offset ss (set (index_at outer r) a (suc j)) ≡ pos p = sym (lane_lies offset ns ss a on many start step r (suc j) below) ∙ e in
+          nowhere (set (index_at outer r) a (suc j)) (rw h (ap place_number there)))
+
+  -- the same in the words that a caller has for the outer lengths, the strides, the stride and the count
+  module _ (ls : List ℕ) (us : List ℤ) (s : ℤ) (count : ℕ) (e_ls : ls ≡ outer) (e_us : us ≡ ss) (e_s : s ≡ get_or ss a (pos 0)) (e_count : count ≡ get_or ns a 0) {F A : Type 0} (g : Mut F (Bor A × (MutBor A × Unit {0})) (Unit {0} × (MutBor A × Unit {0}))) where
+    fewer : count - 1 ≡ w
+    fewer = omega (arith, e_count, long)
+
+    pub given_takes : (old : ℕ → Option A) (f : F) → TakesLanes g place all w old f → TakesLanes g (lane_place start ls us s) (size_of ls) (count - 1) old f
+    given_takes old f takes =
+        subst (λ ms. TakesLanes g (lane_place start ms us s) (size_of ms) (count - 1) old f) (sym e_ls)
+        (subst (λ vs. TakesLanes g (lane_place start outer vs s) all (count - 1) old f) (sym e_us)
+        (subst (λ z. TakesLanes g (lane_place start outer ss z) all (count - 1) old f) (sym e_s)
+        (subst (λ m. TakesLanes g place all m old f) (sym fewer) takes)))
+
+    pub given_done : (old new : ℕ → Option A) (f last : F) → AreAccumulated g (lane_place start ls us s) (size_of ls) (count - 1) old new f last → AreAccumulated g place all w old new f last
+    given_done old new f last done =
+        subst (λ ms. AreAccumulated g (lane_place start ms ss (get_or ss a (pos 0))) (size_of ms) w old new f last) e_ls
+        (subst (λ vs. AreAccumulated g (lane_place start ls vs (get_or ss a (pos 0))) (size_of ls) w old new f last) e_us
+        (subst (λ z. AreAccumulated g (lane_place start ls us z) (size_of ls) w old new f last) e_s
+        (subst (λ m. AreAccumulated g (lane_place start ls us s) (size_of ls) m old new f last) fewer done)))
+
+-- where the closure leaves what h gives of both and stays as it is, so does each call
+module _ {F A : Type 0} (g : Mut F (Bor A × (MutBor A × Unit {0})) (Unit {0} × (MutBor A × Unit {0}))) (ns : List ℕ) (a : ℕ) (on : a < length ns) (old new : List ℕ → Option A) (f : F) where
+  both_none : (h : A → A → A) (o : Option A) → option_both h o None ≡ None
+  both_none h None = refl
+  both_none h (Some x) = refl
+
+  pub axis_settled : ((i : List ℕ) → in_box ns i ≡ false → new i ≡ None) → ((i : List ℕ) → in_box ns i ≡ false → old i ≡ None) → AccumulatesAll g ns a old new f → (h : A → A → A) → AccumulatesBy g h f → AreAccumulatedBy h a old new
+  axis_settled nothing none visits h by i = by_box (in_box ns (next_index a i)) refl
+    where
+      does : (j : List ℕ) (q : F) → in_box (set ns a (get_or ns a 0 - 1)) j ≡ true → ChangesAfter g (new j) (old (next_index a j)) (new (next_index a j)) f q → (q ≡ f) × (new (next_index a j) ≡ option_both h (new j) (old (next_index a j)))
+      does j q inbox call = let gives = by call.0 call.1 call.2 q call.6 in (gives.0, call.5 ∙ (ap Some gives.1 ∙ (λ t. option_both h (sym call.3 t) (sym call.4 t))))
+
+      by_box : (b : Bool) → in_box ns (next_index a i) ≡ b → new (next_index a i) ≡ option_both h (new i) (old (next_index a i))
+      by_box false e = nothing (next_index a i) e ∙ (sym (both_none h (new i)) ∙ ap (option_both h (new i)) (sym (none (next_index a i) e)))
+      by_box true e =
+          let under = coordinate_below ns (next_index a i) a e on in
+          let as_long = length-in_box ns (next_index a i) e in
+          let same_long = length-set i a (get_or i a 0 + 1) in
+          let on_i : a < length i = omega (arith, on, as_long, same_long) in
+          let above = get_or-set_same i a (get_or i a 0 + 1) 0 on_i in
+          let back : set (next_index a i) a (get_or i a 0) ≡ i = set-set i a (get_or i a 0 + 1) (get_or i a 0) ∙ set-get_or i a 0 in
+          let inside : in_box (set ns a (get_or ns a 0 - 1)) i ≡ true = subst (λ j. in_box (set ns a (get_or ns a 0 - 1)) j ≡ true) back (in_box-set ns (next_index a i) a (get_or ns a 0 - 1) (get_or i a 0) e (omega (arith, under, above))) in
+          done_at_each (set ns a (get_or ns a 0 - 1)) (λ p j q. ChangesAfter g (new j) (old (next_index a j)) (new (next_index a j)) p q) f (λ j. new (next_index a j) ≡ option_both h (new j) (old (next_index a j))) does visits.1.0 visits.1.1 visits.0 visits.1.3 i inside
+
+  -- lanes without elements have no call
+  pub axis_without : get_or ns a 0 ≡ 0 → (at : List ℕ → Option A) → AccumulatesAll g ns a at at f
+  axis_without none at =
+      let empty : get_or ns a 0 - 1 ≡ 0 = omega (arith, none) in
+      let no_number : size_of (set ns a 1) * 0 ≡ 0 = omega arith in (
+        f,
+        (
+          [],
+          subst (λ v. ListsBox (set ns a v) []) (sym empty) (subst (λ n. ListsBox (set ns a 0) (listed (index_of_number ns a on 0) n)) no_number (listed_all (lane_numbers ns a on 0))),
+          (λ m k i found. absurd (let never : None ≡ Some i = found in cc)),
+          refl,
+        ),
+      )

@@ -1,0 +1,5 @@
+use Rattle.nd_array_core.proofs.Regrouping.{regrouped_back}
+use Rattle.nd_array_core.proofs.laws.regrouped_back.Goals as goal
+
+pub returns : goal.returns
+returns g c = regrouped_back

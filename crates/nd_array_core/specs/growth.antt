@@ -1,0 +1,4 @@
+pub mod Taken
+pub mod LaidToGrow
+pub mod Reserved
+pub mod Appended

@@ -1,0 +1,35 @@
+-- One array behind another along an axis, in the storage of the first.
+use Rattle.std.specs.Prelude.{ℕ, ◌+◌, ◌<◌, ◌≡◌, ◌^◌, true, List, length, slice_get, slice_index, slice_set, Option}
+use Rattle.nd_shape_and_slice.specs.Shape.{in_box, size_of, HasCheckedSize}
+use Rattle.nd_shape_and_slice.specs.Place.{place_of}
+use Rattle.nd_shape_and_slice.specs.Maps.{upper_index}
+use Rattle.nd_shape_and_slice.specs.declared.errors.ErrorKind.{ErrorKind}
+use Rattle.nd_shape_and_slice.specs.declared.errors.ErrorKind.TheVariants.{IncompatibleShape, Overflow}
+use Rattle.nd_array_core.specs.declared.base.errors.ArrayError.{ArrayError}
+use Rattle.nd_array_core.specs.declared.base.errors.ArrayError.TheVariants.{Shape, NoMemory}
+use Rattle.nd_layout.specs.Placements.{Placement}
+use Rattle.nd_array_core.specs.Collected.{IsFront}
+use Rattle.nd_array_core.specs.Joined.{concatenated_shape}
+use Rattle.nd_array_core.specs.Places.{stored_at}
+
+-- the second shape can come behind the first along the axis: there are axes, and all other lengths are equal
+abbrev pub FitsBehind : List ℕ → List ℕ → ℕ → Type 0
+FitsBehind ns ms axis = (0 < length ns) × (slice_set ms axis (slice_index ns axis) ≡ ns)
+
+-- why it can't: it doesn't fit, or both together have no checked size
+pub data IsJoiningRefused (ns ms : List ℕ) (axis : ℕ) : ErrorKind → Type 0 where
+  NotFitting : (FitsBehind ns ms axis → ⊥) → IsJoiningRefused ns ms axis IncompatibleShape
+  TooLarge : FitsBehind ns ms axis → (HasCheckedSize (concatenated_shape ns ms axis) → ⊥) → IsJoiningRefused ns ms axis Overflow
+
+-- why an append was refused: the shape doesn't fit, or both together have no checked size; or it fits, and memory was
+-- refused
+abbrev pub IsAppendRefused : List ℕ → List ℕ → ℕ → ArrayError → Type 0
+IsAppendRefused ns ms axis (Shape kind) = IsJoiningRefused ns ms axis kind
+IsAppendRefused ns ms axis NoMemory = FitsBehind ns ms axis × HasCheckedSize (concatenated_shape ns ms axis)
+
+-- the elements of an array of this shape have come behind others: each has the place of its index in the grown layout,
+-- where its coordinate of the axis is that much greater
+pub record ArePutBehind {A : Type 0} (grown : Placement) (axis from : ℕ) (shape : List ℕ) (at : List ℕ → Option A) (old new : List A) : Type 0 where
+  pub front : IsFront old new
+  pub count : length new ≡ length old + size_of shape
+  pub put : (i : List ℕ) → in_box shape i ≡ true → stored_at (slice_get new) (place_of grown.offset grown.strides (upper_index axis from i)) ≡ at i

@@ -1,0 +1,31 @@
+-- Room for more lengths of an axis.
+use Rattle.std.specs.Prelude.{ℕ, ◌+◌, ◌*◌, ◌≤◌, List, length}
+use Rattle.std.specs.List.{remove}
+use Rattle.nd_shape_and_slice.specs.declared.dimension.Dimension as dimension
+use Rattle.nd_shape_and_slice.specs.declared.dimension.AxisCount as axis_count
+use Rattle.nd_shape_and_slice.specs.declared.dimension.StrideList as stride_list
+use Rattle.nd_shape_and_slice.specs.Shape.{size_of, HasCheckedSize}
+use Rattle.nd_layout.specs.Growth.{grown_shape}
+use Rattle.nd_array_core.specs.declared.base.storage.Data as data_trait
+use Rattle.nd_array_core.specs.declared.base.storage.OwnedRepr.{OwnedRepr}
+use Rattle.nd_array_core.specs.declared.base.array.ArrayBase.{ArrayBase}
+use Rattle.nd_array_core.specs.Meaning.{shape_of, storage_of}
+use Rattle.nd_array_core.specs.base.Storages.{stored_list, room_of}
+
+-- how many elements so many more lengths of an axis have: as many times the product of the other lengths
+abbrev pub added_elements : List ℕ → ℕ → ℕ → ℕ
+added_elements shape axis additional = additional * size_of (remove shape axis)
+
+-- so many elements more find room without memory
+abbrev pub HasRoomFor : {A : Type 0} → ℕ → OwnedRepr A → Type 0
+HasRoomFor count storage = length (stored_list storage) + count ≤ room_of storage
+
+module _ {S D T A P R L M : Type 0} {s : data_trait.Ghosts S A} {d : dimension.Ghosts D P R L M} {n : axis_count.Ghosts D} {r : stride_list.Ghosts R} {t : stride_list.Ghosts T} where
+  -- the shape with so many more lengths of an axis has a checked size
+  abbrev pub CanGrowBy : ℕ → ℕ → ArrayBase S D T A P R L M s d n r t → Type 0
+  CanGrowBy axis additional a = HasCheckedSize (grown_shape (shape_of a) axis additional)
+
+module _ {D T A P R L M : Type 0} {s : data_trait.Ghosts (OwnedRepr A) A} {d : dimension.Ghosts D P R L M} {n : axis_count.Ghosts D} {r : stride_list.Ghosts R} {t : stride_list.Ghosts T} where
+  -- the elements of so many more lengths of an axis find room without memory
+  abbrev pub HasRoomAlong : ℕ → ℕ → ArrayBase (OwnedRepr A) D T A P R L M s d n r t → Type 0
+  HasRoomAlong axis additional a = HasRoomFor (added_elements (shape_of a) axis additional) (storage_of a)

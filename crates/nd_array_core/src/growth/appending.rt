@@ -1,0 +1,224 @@
+//! One array behind another along an axis.
+#![tactic(auto, unfolding(crate::specs::Meaning::meaning_of, crate::specs::Meaning::memory_layout_of))]
+
+ghost use Rattle.std.specs.Prelude.{◌↔◌, ◌≡◌, ◌<◌, IsTrue, false, OnOk, OnErr, IfErr, [], length, slice_get, slice_index};
+ghost use Rattle.nd_shape_and_slice.specs.Shape.{size_of, HasCheckedSize};
+ghost use Rattle.nd_shape_and_slice.specs.Place.{IsSeparated};
+ghost use Rattle.nd_layout.specs.Growth.{growing_strides, must_move};
+ghost use Rattle.nd_layout.specs.Placements.{as_placement, placement_of};
+ghost use Rattle.nd_layout.specs.MemoryOrder.{IsGrown};
+ghost use Rattle.nd_array_core.specs.Joined.{concatenated, concatenated_shape};
+ghost use Rattle.nd_array_core.specs.Meaning.{meaning_of, shape_of, element_at, storage_of, layout_strides};
+ghost use Rattle.nd_array_core.specs.Places.{HoldsAll};
+ghost use Rattle.nd_array_core.specs.base.Fresh.{ClonesOfAllAreEqual};
+ghost use Rattle.nd_array_core.specs.base.Storages.{stored_list};
+ghost use Rattle.nd_array_core.specs.growth.Appended.{FitsBehind, IsAppendRefused, ArePutBehind};
+
+use crate::base::array::{Array, ArrayView};
+use crate::base::errors::ArrayError;
+use crate::base::storage::OwnedRepr;
+use crate::growth::joining::joined_dim;
+use crate::growth::tail::put_behind;
+use nd_layout::Layout;
+use nd_shape_and_slice::{Axis, Dimension, NoMemory};
+
+/// Puts clones of an array's elements behind those of a storage that a layout fills, and lets the layout grow along the
+/// axis. A refusal leaves the elements and the layout.
+fn append_behind<A: Clone + Drop, D: Dimension>(
+    storage: &mut OwnedRepr<A>,
+    layout: &mut Layout<D, D::Strides>,
+    axis: usize,
+    array: &ArrayView<'_, A, D>,
+) -> Result<(), NoMemory>
+    requires on { axis < length (D.lengths layout.old.dim) }
+    requires some { 0 < size_of (D.lengths layout.old.dim) }
+    requires more { 0 < size_of (shape_of array.now) }
+    requires fits { FitsBehind (D.lengths layout.old.dim) (shape_of array.now) axis }
+    requires checked { HasCheckedSize (concatenated_shape (D.lengths layout.old.dim) (shape_of array.now) axis) }
+    requires holds { HoldsAll (slice_get (stored_list storage.old)) layout.old.offset (D.lengths layout.old.dim) (D.Strides.strides_of layout.old.strides) }
+    requires apart { IsSeparated (D.lengths layout.old.dim) (D.Strides.strides_of layout.old.strides) }
+    requires full { length (stored_list storage.old) ≡ size_of (D.lengths layout.old.dim) }
+    requires stays { must_move (D.lengths layout.old.dim) (D.Strides.strides_of layout.old.strides) axis ≡ false }
+    requires clones { ClonesOfAllAreEqual A.is_clone (element_at array.now) }
+    ensures grown { OnOk result (IsGrown (placement_of layout.old) axis (slice_index (shape_of array.now) axis) (placement_of layout.new)) }
+    ensures put { OnOk result (ArePutBehind (placement_of layout.new) axis (slice_index (D.lengths layout.old.dim) axis) (shape_of array.now) (element_at array.now) (stored_list storage.old) (stored_list storage.new)) }
+    ensures kept { OnErr result ((stored_list storage.new ≡ stored_list storage.old) × (layout.new ≡ layout.old)) }
+{
+    let from = layout.dim.length(axis);
+    let grown = layout.grown(axis, array.layout.dim.length(axis));
+    put_behind(&mut storage.items, &grown, axis, from, array)?;
+    *layout = grown;
+    Ok(())
+}
+
+/// Puts clones of an array's elements into a storage of which no index names anything, laid so that the axis can grow.
+/// Afterwards it has these alone.
+fn append_fresh<A: Clone + Drop, D: Dimension>(
+    storage: &mut OwnedRepr<A>,
+    layout: &mut Layout<D, D::Strides>,
+    axis: usize,
+    array: &ArrayView<'_, A, D>,
+) -> Result<(), NoMemory>
+    requires on { axis < length (shape_of array.now) }
+    requires more { 0 < size_of (shape_of array.now) }
+    requires checked { HasCheckedSize (shape_of array.now) }
+    requires clones { ClonesOfAllAreEqual A.is_clone (element_at array.now) }
+    ensures laid { OnOk result (placement_of layout.new ≡ as_placement 0 (shape_of array.now) (growing_strides axis (shape_of array.now))) }
+    ensures put { OnOk result (ArePutBehind (placement_of layout.new) axis 0 (shape_of array.now) (element_at array.now) [] (stored_list storage.new)) }
+    ensures kept { OnErr result (layout.new ≡ layout.old) }
+{
+    storage.items.clear();
+    let fresh = Layout::growing(array.layout.dim, axis);
+    put_behind(&mut storage.items, &fresh, axis, 0, array)?;
+    *layout = fresh;
+    Ok(())
+}
+
+impl<A: Clone + Drop, D: Dimension> Array<A, D> {
+    /// Appends an array that isn't empty at the end of the storage, which this one fills.
+    fn append_in_place(&mut self, axis: Axis, array: &ArrayView<'_, A, D>) -> Result<(), NoMemory>
+        requires on { axis.0 < length (shape_of self.old) }
+        requires some { 0 < size_of (shape_of self.old) }
+        requires more { 0 < size_of (shape_of array.now) }
+        requires fits { FitsBehind (shape_of self.old) (shape_of array.now) axis.0 }
+        requires checked { HasCheckedSize (concatenated_shape (shape_of self.old) (shape_of array.now) axis.0) }
+        requires full { length (stored_list (storage_of self.old)) ≡ size_of (shape_of self.old) }
+        requires stays { must_move (shape_of self.old) (layout_strides self.old) axis.0 ≡ false }
+        requires clones { ClonesOfAllAreEqual A.is_clone (element_at array.now) }
+        ensures joined { OnOk result (meaning_of self.new ≡ concatenated axis.0 (meaning_of self.old) (meaning_of array.now)) }
+        ensures kept { OnErr result (meaning_of self.new ≡ meaning_of self.old) }
+    {
+        append_behind(&mut self.storage, &mut self.layout, axis.0, array)
+    }
+
+    /// The same of an array that has to be laid anew first.
+    fn append_relaid(&mut self, axis: Axis, array: &ArrayView<'_, A, D>) -> Result<(), NoMemory>
+        requires on { axis.0 < length (shape_of self.old) }
+        requires some { 0 < size_of (shape_of self.old) }
+        requires more { 0 < size_of (shape_of array.now) }
+        requires fits { FitsBehind (shape_of self.old) (shape_of array.now) axis.0 }
+        requires checked { HasCheckedSize (concatenated_shape (shape_of self.old) (shape_of array.now) axis.0) }
+        requires clones { ClonesOfAllAreEqual A.is_clone (element_at array.now) }
+        ensures joined { OnOk result (meaning_of self.new ≡ concatenated axis.0 (meaning_of self.old) (meaning_of array.now)) }
+        ensures kept { OnErr result (meaning_of self.new ≡ meaning_of self.old) }
+    {
+        let _count = self.len();
+        let more = array.len();
+        match self.relay(axis, more) {
+            Ok(()) => self.append_in_place(axis, array),
+            Err(refused) => Err(refused),
+        }
+    }
+
+    /// Whether the array fills its storage, and an axis can grow at the end of it without a move.
+    fn is_ready_along(&self, axis: Axis) -> bool
+        requires { axis.0 < length (shape_of self.now) }
+        ensures { IsTrue result ↔ ((length (stored_list (storage_of self.now)) ≡ size_of (shape_of self.now)) × (must_move (shape_of self.now) (layout_strides self.now) axis.0 ≡ false)) }
+    {
+        if self.storage.items.len() != self.len() {
+            return false;
+        }
+        !self.layout.must_move(axis.0)
+    }
+
+    /// Appends an array that isn't empty to one that isn't.
+    fn append_elements(&mut self, axis: Axis, array: &ArrayView<'_, A, D>) -> Result<(), NoMemory>
+        requires on { axis.0 < length (shape_of self.old) }
+        requires some { 0 < size_of (shape_of self.old) }
+        requires more { 0 < size_of (shape_of array.now) }
+        requires fits { FitsBehind (shape_of self.old) (shape_of array.now) axis.0 }
+        requires checked { HasCheckedSize (concatenated_shape (shape_of self.old) (shape_of array.now) axis.0) }
+        requires clones { ClonesOfAllAreEqual A.is_clone (element_at array.now) }
+        ensures joined { OnOk result (meaning_of self.new ≡ concatenated axis.0 (meaning_of self.old) (meaning_of array.now)) }
+        ensures kept { OnErr result (meaning_of self.new ≡ meaning_of self.old) }
+    {
+        if self.is_ready_along(axis) {
+            return self.append_in_place(axis, array);
+        }
+        self.append_relaid(axis, array)
+    }
+
+    /// Gives an array without elements another such shape.
+    fn lengthen(&mut self, dim: D)
+        requires old { size_of (shape_of self.old) ≡ 0 }
+        requires new { size_of (D.lengths dim) ≡ 0 }
+        requires checked { HasCheckedSize (D.lengths dim) }
+        ensures shape { shape_of self.new ≡ D.lengths dim }
+    {
+        self.layout = Layout::without_elements(self.layout.offset, dim);
+    }
+
+    /// Appends an array without elements, where the shape of both is this.
+    fn append_nothing(&mut self, axis: Axis, array: &ArrayView<'_, A, D>, dim: D)
+        requires on { axis.0 < length (shape_of self.old) }
+        requires none { size_of (shape_of array.now) ≡ 0 }
+        requires fits { FitsBehind (shape_of self.old) (shape_of array.now) axis.0 }
+        requires joined { D.lengths dim ≡ concatenated_shape (shape_of self.old) (shape_of array.now) axis.0 }
+        requires checked { HasCheckedSize (D.lengths dim) }
+        ensures { meaning_of self.new ≡ concatenated axis.0 (meaning_of self.old) (meaning_of array.now) }
+    {
+        if !self.is_empty() {
+            return;
+        }
+        self.lengthen(dim);
+    }
+
+    /// Appends an array that isn't empty to one that is.
+    fn append_to_none(&mut self, axis: Axis, array: &ArrayView<'_, A, D>) -> Result<(), NoMemory>
+        requires on { axis.0 < length (shape_of self.old) }
+        requires none { size_of (shape_of self.old) ≡ 0 }
+        requires more { 0 < size_of (shape_of array.now) }
+        requires fits { FitsBehind (shape_of self.old) (shape_of array.now) axis.0 }
+        requires clones { ClonesOfAllAreEqual A.is_clone (element_at array.now) }
+        ensures joined { OnOk result (meaning_of self.new ≡ concatenated axis.0 (meaning_of self.old) (meaning_of array.now)) }
+        ensures kept { OnErr result (meaning_of self.new ≡ meaning_of self.old) }
+    {
+        append_fresh(&mut self.storage, &mut self.layout, axis.0, array)
+    }
+
+    /// Appends an array that fits, where the shape of both is this.
+    fn append_fitting(
+        &mut self,
+        axis: Axis,
+        array: &ArrayView<'_, A, D>,
+        dim: D,
+    ) -> Result<(), NoMemory>
+        requires on { axis.0 < length (shape_of self.old) }
+        requires fits { FitsBehind (shape_of self.old) (shape_of array.now) axis.0 }
+        requires joined { D.lengths dim ≡ concatenated_shape (shape_of self.old) (shape_of array.now) axis.0 }
+        requires checked { HasCheckedSize (D.lengths dim) }
+        requires clones { ClonesOfAllAreEqual A.is_clone (element_at array.now) }
+        ensures joined { OnOk result (meaning_of self.new ≡ concatenated axis.0 (meaning_of self.old) (meaning_of array.now)) }
+        ensures kept { OnErr result (meaning_of self.new ≡ meaning_of self.old) }
+    {
+        if array.len() == 0 {
+            self.append_nothing(axis, array, dim);
+            return Ok(());
+        }
+        if self.len() == 0 {
+            return self.append_to_none(axis, array);
+        }
+        self.append_elements(axis, array)
+    }
+
+    /// Appends clones of an array's elements along an axis, which is below `ndim` where there are axes: all other lengths
+    /// are equal, and a clone equals its original. IncompatibleShape without axes, or where the shapes differ outside the
+    /// axis; Overflow where the result has no checked size; NoMemory where storage or a clone is refused. After a refusal
+    /// shape and elements are as before. On storage that the array fills, the new elements follow the old, where the axis
+    /// is of length 1 or steps furthest; else the elements are laid anew first. ndarray's `append`.
+    pub fn append(&mut self, axis: Axis, array: ArrayView<'_, A, D>) -> Result<(), ArrayError>
+        requires axis { 0 < length (shape_of self.old) → axis.0 < length (shape_of self.old) }
+        requires clones { ClonesOfAllAreEqual A.is_clone (element_at array) }
+        ensures refused { IfErr result (IsAppendRefused (shape_of self.old) (shape_of array.entry) axis.0) }
+        ensures joined { OnOk result (meaning_of self.new ≡ concatenated axis.0 (meaning_of self.old) (meaning_of array.entry)) }
+        ensures kept { OnErr result (meaning_of self.new ≡ meaning_of self.old) }
+    {
+        match joined_dim(&self.layout.dim, &array.layout.dim, axis.0) {
+            Ok(dim) => match self.append_fitting(axis, &array, dim) {
+                Ok(()) => Ok(()),
+                Err(_) => Err(ArrayError::NoMemory),
+            },
+            Err(refused) => Err(ArrayError::Shape(refused)),
+        }
+    }
+}

@@ -1,0 +1,235 @@
+-- The order of fresh storage that is to grow along an axis, as the row-major order of a layout.
+use Rattle.std.proofs.Common.{◌≡◌, ℕ, zero, suc, ◌+◌, ◌-◌, ◌*◌, ◌/◌, ◌%◌, ◌<◌, ◌≤◌, ◌^◌, Bool, true, false, eqb, cond, List, [], ◌∷◌, length, get_or, set, reverse, ℤ, pos, ◌+ℤ◌, ◌*ℤ◌, refl, ap, sym, subst, ◌∙◌, arith}
+use Rattle.std.specs.List.{remove, insert, swap}
+use Rattle.std.proofs.Math.IntN.{pos-*ℤ-pos}
+use Rattle.std.proofs.lemmas.Bool.{eqb-true, eqb-false}
+use Rattle.std.proofs.lemmas.List.{reverse-reverse, set-get_or, length-set}
+use Rattle.std.proofs.lemmas.List.Edits.{swap_is, length-insert, length-remove, get_or-insert_at}
+use Rattle.nd_shape_and_slice.specs.Shape.{in_box, size_of, row_rank, column_rank, index_at, nonzero_product, HasCheckedSize}
+use Rattle.nd_shape_and_slice.specs.Place.{displacement_of, span_of, IsSeparated}
+use Rattle.nd_shape_and_slice.specs.Strides.{row_strides, column_strides_from}
+use Rattle.nd_shape_and_slice.specs.declared.builder.Order.TheVariants.{RowMajor}
+use Rattle.nd_shape_and_slice.proofs.RowMajor.{length-in_box, row_rank_below, displacement_of-row, length-row_strides, nonzero_product-size_of}
+use Rattle.nd_shape_and_slice.proofs.ColumnMajor.{displacement_of-column}
+use Rattle.nd_shape_and_slice.proofs.RankIndexes.{in_box-index_at, row_rank-index_at, index_at-row_rank}
+use Rattle.nd_layout.specs.Growth.{growing_strides, must_move, IsInGrowingOrder}
+use Rattle.nd_layout.specs.Steps.{IsStep, IsValid}
+use Rattle.nd_layout.specs.Walk.{IsRearranged}
+use Rattle.nd_layout.proofs.Growing.{growing_strides-is, others_small}
+use Rattle.nd_layout.proofs.GrownAgain.{laid_ready}
+use Rattle.nd_layout.proofs.GrownLayout.{base_full, laid_full}
+use Rattle.nd_layout.proofs.Sizes.{size_of-set}
+use Rattle.nd_layout.proofs.Orders.{size_of-ordered, in_box-ordered, rank_in-ordered}
+use Rattle.nd_layout.proofs.Removed.{displacement_of-inserted, displacement_of-inserted_axis, in_box-inserted, size_of-removed}
+use Rattle.nd_layout.proofs.steps.ExchangeStep.{reverse_is_step}
+use Rattle.nd_layout.proofs.steps.Ranked.{IsRanked, ranked_is_valid}
+
+-- ---- an axis moved to the front by exchanges
+exchanged_once : {A : Type 0} (ys : List A) (k : ℕ) (x : A) → k < length ys → swap (insert ys (suc k) x) k (suc k) ≡ insert ys k x
+exchanged_once [] k x h = absurd (omega arith)
+exchanged_once (y ∷ ys) zero x h = refl
+exchanged_once (y ∷ ys) (suc k) x h =
+    let on : k < length ys = omega (arith, h) in
+    let long = length-insert ys (suc k) x (omega (arith, on)) in
+    ap (λ l. y ∷ l) (swap_is (insert ys (suc k) x) k (suc k) y (omega (arith, on, long)) (omega (arith, on, long)) ∙ exchanged_once ys k x on)
+
+pub moved_forward : {A : Type 0} (ys : List A) (at before : ℕ) (x : A) → before + 1 ≡ at → at ≤ length ys → swap (insert ys at x) before at ≡ insert ys before x
+moved_forward ys at before x e h =
+    let next : at ≡ suc before = omega (arith, e) in
+    ap (λ k. swap (insert ys k x) before k) next ∙ exchanged_once ys before x (omega (arith, e, h))
+
+pub put_in_again : {A : Type 0} (xs : List A) (a : ℕ) (d : A) → a < length xs → insert (remove xs a) a (get_or xs a d) ≡ xs
+put_in_again [] a d h = absurd (omega arith)
+put_in_again (x ∷ xs) zero d h = refl
+put_in_again (x ∷ xs) (suc a) d h = ap (λ l. x ∷ l) (put_in_again xs a d (omega (arith, h)))
+
+taken_out : (xs : List ℕ) (a x : ℕ) → a ≤ length xs → remove (insert xs a x) a ≡ xs
+taken_out xs zero x h = refl
+taken_out [] (suc a) x h = absurd (omega arith)
+taken_out (y ∷ xs) (suc a) x h = ap (λ l. y ∷ l) (taken_out xs a x (omega (arith, h)))
+
+abbrev drop_one : List ℕ → List ℕ
+drop_one [] = []
+drop_one (x ∷ xs) = xs
+
+-- ---- the axis in front of the others
+module _ (ns : List ℕ) (ss : List ℤ) (a : ℕ) (many : length ss ≡ length ns) (on : a < length ns) where
+  abbrev rest : List ℕ
+  rest = remove ns a
+
+  abbrev fronted : List ℕ
+  fronted = get_or ns a 0 ∷ remove ns a
+
+  abbrev into : List ℕ → List ℕ
+  into i = get_or i a 0 ∷ remove i a
+
+  long_rest : (j : List ℕ) → in_box (remove ns a) j ≡ true → a ≤ length j
+  long_rest j h = let e = length-in_box (remove ns a) j h in let l = length-remove ns a on in omega (arith, e, l, on)
+
+  on_index : (i : List ℕ) → in_box ns i ≡ true → a < length i
+  on_index i h = let e = length-in_box ns i h in omega (arith, e, on)
+
+  into_box : (i : List ℕ) → in_box ns i ≡ true → in_box fronted (into i) ≡ true
+  into_box i h = sym (in_box-inserted ns (remove i a) a (get_or i a 0) on) ∙ (ap (in_box ns) (put_in_again i a 0 (on_index i h)) ∙ h)
+
+  behind_box : (c : ℕ) (j : List ℕ) → in_box fronted (c ∷ j) ≡ true → in_box (remove ns a) j ≡ true
+  behind_box c j h = grind (arith, h)
+
+  abbrev fronted_order : (p : ℕ) → IsRearranged p ns ss p fronted (get_or ss a (pos 0) ∷ remove ss a)
+  fronted_order p = record {
+    index_of = λ r. insert (index_at (remove ns a) (r % size_of (remove ns a))) a (r / size_of (remove ns a));
+    rank_of = λ i. row_rank fronted (into i);
+    within = λ r h. in_box-inserted ns (index_at (remove ns a) (r % size_of (remove ns a))) a (r / size_of (remove ns a)) on ∙ in_box-index_at fronted r h;
+    below = λ i h. row_rank_below fronted (into i) (into_box i h);
+    there = λ r h.
+        let j = index_at (remove ns a) (r % size_of (remove ns a)) in
+        let c = r / size_of (remove ns a) in
+        let wide = long_rest j (behind_box c j (in_box-index_at fronted r h)) in
+        ap (λ x. row_rank fronted (x ∷ remove (insert j a c) a)) (get_or-insert_at j a c 0 wide)
+        ∙ ap (λ l. row_rank fronted (c ∷ l)) (taken_out j a c wide)
+        ∙ row_rank-index_at fronted r h;
+    back = λ i h.
+        let there = index_at-row_rank fronted (into i) (into_box i h) in
+        ap (λ l. insert (drop_one l) a (get_or l 0 0)) there ∙ put_in_again i a 0 (on_index i h);
+    same = λ r h.
+        let j = index_at (remove ns a) (r % size_of (remove ns a)) in
+        let c = r / size_of (remove ns a) in
+        let wide = long_rest j (behind_box c j (in_box-index_at fronted r h)) in
+        ap (λ z. pos p +ℤ z) (sym (displacement_of-inserted ss j a c (omega (arith, many, on)) wide));
+  }
+
+  front_is_growing : (p : ℕ) → growing_strides a ns ≡ insert (row_strides (remove ns a)) a (pos (size_of (remove ns a))) → IsInGrowingOrder a p ns ss p fronted (get_or ss a (pos 0) ∷ remove ss a)
+  front_is_growing p is = record {
+    order = fronted_order p;
+    size = sym (size_of-removed ns a on);
+    ranked = λ i h.
+        let w = size_of (remove ns a) in
+        let c = get_or i a 0 in
+        let l = length-row_strides (remove ns a) in
+        let m = length-remove ns a on in
+        let inner = displacement_of-row (remove ns a) (remove i a) (behind_box c (remove i a) (into_box i h)) in
+        let step : pos c *ℤ pos w ≡ pos (c * w) = pos-*ℤ-pos c w in
+        ap (λ ts. displacement_of ts i) is
+        ∙ displacement_of-inserted_axis (row_strides (remove ns a)) i a (pos w) (omega (arith, l, m, on)) (on_index i h)
+        ∙ (λ k. step k +ℤ inner k);
+  }
+
+-- ---- all axes the other way round
+reversed_is_growing : (ns : List ℕ) (ss : List ℤ) (a p : ℕ) → length ss ≡ length ns → growing_strides a ns ≡ column_strides_from 1 ns → IsInGrowingOrder a p ns ss p (reverse ns) (reverse ss)
+reversed_is_growing ns ss a p many is = record {
+  order = record {
+    index_of = λ r. reverse (index_at (reverse ns) r);
+    rank_of = λ i. row_rank (reverse ns) (reverse i);
+    within = λ r h. step.within (index_at (reverse ns) r) (in_box-index_at (reverse ns) r h);
+    below = λ i h. row_rank_below (reverse ns) (reverse i) (turned_box i h);
+    there = λ r h. ap (row_rank (reverse ns)) (reverse-reverse (index_at (reverse ns) r)) ∙ row_rank-index_at (reverse ns) r h;
+    back = λ i h. ap reverse (index_at-row_rank (reverse ns) (reverse i) (turned_box i h)) ∙ reverse-reverse i;
+    same = λ r h. step.same (index_at (reverse ns) r) (in_box-index_at (reverse ns) r h);
+  };
+  size = size_of-ordered RowMajor ns;
+  ranked = λ i h.
+      let turned = rank_in-ordered RowMajor (reverse ns) (reverse i) (length-in_box (reverse ns) (reverse i) (turned_box i h)) in
+      ap (λ ts. displacement_of ts i) is
+      ∙ displacement_of-column ns i h
+      ∙ ap pos (ap (λ l. column_rank l i) (sym (reverse-reverse ns)) ∙ (ap (column_rank (reverse (reverse ns))) (sym (reverse-reverse i)) ∙ turned));
+}
+  where
+    step : IsStep p ns ss p (reverse ns) (reverse ss) reverse
+    step = reverse_is_step p ns ss many
+
+    turned_box : (i : List ℕ) → in_box ns i ≡ true → in_box (reverse ns) (reverse i) ≡ true
+    turned_box i h = in_box-ordered RowMajor ns i (length-in_box ns i h) ∙ h
+
+-- ---- both, where the axis is another than the last, or the last
+module _ (ns : List ℕ) (ss : List ℤ) (a p : ℕ) (many : length ss ≡ length ns) (on : a < length ns) where
+  growing_by : (b : Bool) → eqb (a + 1) (length ns) ≡ b → growing_strides a ns ≡ cond b (column_strides_from 1 ns) (insert (row_strides (remove ns a)) a (pos (size_of (remove ns a))))
+  growing_by b e = ap (λ t. cond t (column_strides_from 1 ns) (insert (row_strides (remove ns a)) a (pos (size_of (remove ns a))))) e
+
+  pub ordered_in_front : (a + 1 ≡ length ns → ⊥) → IsInGrowingOrder a p ns ss p (get_or ns a 0 ∷ remove ns a) (get_or ss a (pos 0) ∷ remove ss a)
+  ordered_in_front other = front_is_growing ns ss a many on p (growing_by false (by_case (eqb (a + 1) (length ns)) refl))
+    where
+      by_case : (b : Bool) → eqb (a + 1) (length ns) ≡ b → b ≡ false
+      by_case true e = absurd (other (eqb-true (a + 1) (length ns) e))
+      by_case false e = refl
+
+  pub ordered_in_reverse : a + 1 ≡ length ns → IsInGrowingOrder a p ns ss p (reverse ns) (reverse ss)
+  ordered_in_reverse last = reversed_is_growing ns ss a p many (growing_by true (by_case (eqb (a + 1) (length ns)) refl))
+    where
+      by_case : (b : Bool) → eqb (a + 1) (length ns) ≡ b → b ≡ true
+      by_case true e = refl
+      by_case false e = absurd (eqb-false (a + 1) (length ns) e last)
+
+-- ---- the layout of the fresh storage
+module _ (ns : List ℕ) (a : ℕ) (on : a < length ns) (some : 0 < size_of ns) where
+  own_length : set ns a (get_or ns a 0) ≡ ns
+  own_length = set-get_or ns a 0
+
+  pub others_there : 0 < size_of (set ns a 1)
+  others_there = by_size (size_of (remove ns a)) (size_of-removed ns a on) (size_of-set ns a 1 on)
+    where
+      none : (n : ℕ) → n * 0 ≡ 0
+      none n = omega arith
+
+      by_size : (w : ℕ) → size_of ns ≡ get_or ns a 0 * w → size_of (set ns a 1) ≡ 1 * w → 0 < size_of (set ns a 1)
+      by_size zero e f = absurd (omega (arith, e, some, none (get_or ns a 0)))
+      by_size (suc w) e f = omega (arith, f)
+
+  pub others_fit : HasCheckedSize ns → size_of (set ns a 1) < 2 ^ 63
+  others_fit checked =
+      let same : get_or ns a 0 + 0 ≡ get_or ns a 0 = omega arith in
+      others_small ns a 0 on (subst HasCheckedSize (sym (ap (set ns a) same ∙ own_length)) checked)
+
+  axis_long : 0 < get_or ns a 0
+  axis_long = let e = size_of-removed ns a on in by_length (get_or ns a 0) e
+    where
+      by_length : (n : ℕ) → size_of ns ≡ n * size_of (remove ns a) → 0 < n
+      by_length zero e = absurd (omega (arith, e, some))
+      by_length (suc n) e = omega arith
+
+  pub fresh_full : IsSeparated ns (growing_strides a ns) × (span_of ns (growing_strides a ns) + 1 ≡ size_of ns)
+  fresh_full = subst (λ ms. IsSeparated ms (growing_strides a ns) × (span_of ms (growing_strides a ns) + 1 ≡ size_of ms)) own_length (laid_full ns a (get_or ns a 0) on axis_long others_there)
+
+  pub fresh_apart : IsSeparated ns (growing_strides a ns)
+  fresh_apart = fresh_full.0
+
+  pub fresh_ready : must_move ns (growing_strides a ns) a ≡ false
+  fresh_ready = subst (λ ms. must_move ms (growing_strides a ns) a ≡ false) own_length (laid_ready ns a (get_or ns a 0) on others_there)
+
+  pub length-growing_strides : length (growing_strides a ns) ≡ length ns
+  length-growing_strides =
+      let os = set ns a 1 in
+      let b = eqb (a + 1) (length ns) in
+      let base = cond b (column_strides_from 1 os) (row_strides os) in
+      ap length (growing_strides-is a ns on) ∙ length-set base a (pos (size_of os)) ∙ (base_full b os others_there).0 ∙ length-set ns a 1
+
+  pub fresh_valid : HasCheckedSize ns → IsValid 0 ns (growing_strides a ns)
+  fresh_valid checked = ranked_is_valid ranked checked
+    where
+      any_order : (b : Bool) → eqb (a + 1) (length ns) ≡ b → (rank : List ℕ → ℕ) × ((i : List ℕ) → in_box ns i ≡ true → (rank i < size_of ns) × (displacement_of (growing_strides a ns) i ≡ pos (rank i)))
+      any_order true e =
+          let r = ordered_in_reverse ns (growing_strides a ns) a 0 length-growing_strides on (eqb-true (a + 1) (length ns) e) in
+          let size = r.size in
+          (r.order.rank_of, λ i h. (let l = r.order.below i h in omega (arith, l, size), r.ranked i h))
+      any_order false e =
+          let r = ordered_in_front ns (growing_strides a ns) a 0 length-growing_strides on (eqb-false (a + 1) (length ns) e) in
+          let size = r.size in
+          (r.order.rank_of, λ i h. (let l = r.order.below i h in omega (arith, l, size), r.ranked i h))
+
+      order : (rank : List ℕ → ℕ) × ((i : List ℕ) → in_box ns i ≡ true → (rank i < size_of ns) × (displacement_of (growing_strides a ns) i ≡ pos (rank i)))
+      order = any_order (eqb (a + 1) (length ns)) refl
+
+      small : span_of ns (growing_strides a ns) < 9223372036854775808
+      small =
+          let whole = fresh_full.1 in
+          let size = nonzero_product-size_of ns some in
+          let limit : nonzero_product ns < 9223372036854775808 = checked in
+          omega (arith, whole, size, limit)
+
+      ranked : IsRanked ns (growing_strides a ns) order.0
+      ranked = record {
+        as_many = length-growing_strides;
+        spread = small;
+        below = λ i h. (order.1 i h).0;
+        at = λ i h. (order.1 i h).1;
+        apart = λ _. fresh_apart;
+      }

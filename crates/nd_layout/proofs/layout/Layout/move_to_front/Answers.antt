@@ -1,0 +1,35 @@
+use Rattle.std.proofs.Common.{◌≡◌, ◌+◌, ◌-◌, ◌<◌, ◌∙◌, length, pos, refl, ap, sym, arith}
+use Rattle.std.specs.Prelude.{slice_index, slice_index_or}
+use Rattle.std.specs.List.{remove, swap}
+use Rattle.std.proofs.lemmas.List.Edits.{length-remove}
+use Rattle.nd_layout.proofs.FreshOrder.{put_in_again, moved_forward}
+use Rattle.nd_layout.proofs.layout.Layout.move_to_front.Goals as goal
+
+pub loop-at-init : goal.loop-at-init
+loop-at-init g c =
+    let ns = g.D.Dimension.lengths c.args.self.now.dim in
+    let ss = g.T.StrideList.strides_of c.args.self.now.strides in
+    let many = c.args.self.now.as_many in
+    let on = c.requires in
+    (sym (put_in_again ns c.args.axis 0 on), sym (put_in_again ss c.args.axis (pos 0) (omega (arith, many, on))), refl, omega arith)
+
+pub loop-at-preserved : goal.loop-at-preserved
+loop-at-preserved g c =
+    let ns = g.D.Dimension.lengths c.args.self.now.dim in
+    let ss = g.T.StrideList.strides_of c.args.self.now.strides in
+    let a = c.args.axis in
+    let at = c.loop-at.at in
+    let so_far = c.loop-at.invariant in
+    let many = c.args.self.now.as_many in
+    let on = c.requires in
+    let within = so_far.3 in
+    let some = c.loop-at-test.true in
+    let on_strides : a < length ss = omega (arith, many, on) in
+    let l = length-remove ns a on in
+    let m = length-remove ss a on_strides in
+    let back : at - 1 + 1 ≡ at = omega (arith, some) in (
+      c.swap_axes.ensures.lengths ∙ (ap (λ xs. swap xs (at - 1) at) so_far.0 ∙ moved_forward (remove ns a) at (at - 1) (slice_index ns a) back (omega (arith, l, on, within))),
+      c.swap_axes.ensures.strides ∙ (ap (λ xs. swap xs (at - 1) at) so_far.1 ∙ moved_forward (remove ss a) at (at - 1) (slice_index_or ss a (pos 0)) back (omega (arith, m, on_strides, within))),
+      c.swap_axes.ensures.offset ∙ so_far.2,
+      omega (arith, within),
+    )

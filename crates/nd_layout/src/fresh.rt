@@ -1,0 +1,63 @@
+//! Layouts of fresh storage that is to grow along an axis, and the order in which elements move there.
+
+ghost use Rattle.std.specs.Prelude.{◌≡◌, ◌∷◌, ◌<◌, ◌-◌, false, length, pos, slice_index, slice_index_or};
+ghost use Rattle.std.specs.List.{remove};
+ghost use Rattle.nd_shape_and_slice.specs.Shape.{size_of, HasCheckedSize};
+ghost use Rattle.nd_shape_and_slice.specs.Place.{IsSeparated};
+ghost use Rattle.nd_layout.specs.Growth.{growing_strides, must_move, IsInGrowingOrder};
+
+use crate::grows::lay_out;
+use crate::layout::Layout;
+use nd_shape_and_slice::{Dimension, MAX_AXES, StrideList, strides_from};
+
+impl<D: Dimension, T: StrideList> Layout<D, T> {
+    /// Moves an axis to the front; the others keep their order.
+    fn move_to_front(&mut self, axis: usize)
+        requires { axis < length (D.lengths self.old.dim) }
+        ensures lengths { D.lengths self.new.dim ≡ slice_index (D.lengths self.old.dim) axis ∷ remove (D.lengths self.old.dim) axis }
+        ensures strides { T.strides_of self.new.strides ≡ slice_index_or (T.strides_of self.old.strides) axis (pos 0) ∷ remove (T.strides_of self.old.strides) axis }
+        ensures offset { self.new.offset ≡ self.old.offset }
+    {
+        let mut at = axis;
+        while at > 0 {
+            self.swap_axes(at - 1, at);
+            at -= 1;
+        }
+    }
+
+    /// A layout of the same places, each once, whose row-major order is that of fresh storage that is to grow along an
+    /// axis.
+    pub fn growing_order(&self, axis: usize) -> Self
+        requires { axis < length (D.lengths self.now.dim) }
+        ensures order { IsInGrowingOrder axis self.now.offset (D.lengths self.now.dim) (T.strides_of self.now.strides) result.offset (D.lengths result.dim) (T.strides_of result.strides) }
+    {
+        let mut order = self.copied();
+        let count = order.dim.ndim();
+        if axis + 1 == count {
+            order.reverse_axes();
+            return order;
+        }
+        order.move_to_front(axis);
+        order
+    }
+}
+
+impl<D: Dimension> Layout<D, D::Strides> {
+    /// The layout of fresh storage that is to grow along an axis.
+    pub fn growing(dim: D, axis: usize) -> Self
+        requires axis { axis < length (D.lengths dim) }
+        requires checked { HasCheckedSize (D.lengths dim) }
+        requires some { 0 < size_of (D.lengths dim) }
+        ensures offset { result.offset ≡ 0 }
+        ensures lengths { D.lengths result.dim ≡ D.lengths dim }
+        ensures strides { D.Strides.strides_of result.strides ≡ growing_strides axis (D.lengths dim) }
+        ensures separated { IsSeparated (D.lengths dim) (growing_strides axis (D.lengths dim)) }
+        ensures ready { must_move (D.lengths dim) (growing_strides axis (D.lengths dim)) axis ≡ false }
+    {
+        let mut out = [0; MAX_AXES];
+        let count = dim.ndim();
+        lay_out(dim.slice(), axis, &mut out[..count]);
+        let strides = strides_from(&dim, &out[..count]);
+        Layout::strided(0, dim, strides)
+    }
+}
