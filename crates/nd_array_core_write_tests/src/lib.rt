@@ -6,6 +6,8 @@ mod along;
 #[cfg(test)]
 mod answers;
 #[cfg(test)]
+mod appends;
+#[cfg(test)]
 mod copies;
 #[cfg(test)]
 mod elements;
@@ -15,6 +17,8 @@ mod equality;
 mod fill;
 #[cfg(test)]
 mod fresh;
+#[cfg(test)]
+mod growth;
 #[cfg(test)]
 mod lent_slices;
 #[cfg(test)]

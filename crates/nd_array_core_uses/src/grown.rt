@@ -1,0 +1,54 @@
+//! Room made in arrays before more comes in.
+#![tactic(auto, using(std::proofs::lemmas::Bool::Decides::nat_tests))]
+
+ghost use Rattle.std.specs.Prelude.{◌≡◌, ◌+◌, ◌*◌, ◌<◌, ◌≤◌, ℕ, List, true, IsTrue, Err, OnOk, IfOk, length, slice_index};
+ghost use Rattle.nd_array_core.specs.Meaning.{shape_of, element_at, storage_of};
+ghost use Rattle.nd_array_core.specs.Coordinates.{element_of_1, element_of_2};
+ghost use Rattle.nd_array_core.specs.base.Storages.{stored_list, room_of};
+
+use nd_array_core::{Array, Array1, Array2, ArrayError};
+use nd_shape_and_slice::{Axis, Dimension, ErrorKind};
+
+/// Whether a list now has room for so many more elements.
+pub fn has_room<A>(list: &mut Array1<A>, more: usize) -> bool
+    ensures room { IsTrue result → length (stored_list (storage_of list.new)) + more ≤ room_of (storage_of list.new) }
+    ensures same { (i : ℕ) → element_of_1 list.new i ≡ element_of_1 list.old i }
+{
+    let _axes = list.ndim();
+    list.reserve(Axis(0), more).is_ok()
+}
+
+/// Makes room in a table for so many more rows.
+pub fn room_for_rows<A>(table: &mut Array2<A>, rows: usize) -> Result<(), ArrayError>
+    ensures room { OnOk result (length (stored_list (storage_of table.new)) + rows * slice_index (shape_of table.old) 1 ≤ room_of (storage_of table.new)) }
+    ensures same { (row column : ℕ) → element_of_2 table.new row column ≡ element_of_2 table.old row column }
+{
+    let (_rows, _columns) = table.dim();
+    table.reserve_rows(rows)
+}
+
+/// No list that has an element can get room for `usize::MAX` more.
+pub fn room_for_too_many<A>(list: &mut Array1<A>) -> Result<(), ArrayError>
+    requires { 0 < slice_index (shape_of list.old) 0 }
+    ensures refused { result ≡ Err (ArrayError.Shape ErrorKind.Overflow) }
+    ensures same { (i : ℕ) → element_of_1 list.new i ≡ element_of_1 list.old i }
+{
+    let _axes = list.ndim();
+    list.reserve(Axis(0), usize::MAX)
+}
+
+/// Room that was made is there: making it again takes no memory, and succeeds.
+pub fn made_again<A, D: Dimension>(
+    array: &mut Array<A, D>,
+    axis: Axis,
+    more: usize,
+) -> Result<bool, ArrayError>
+    requires { axis.0 < length (shape_of array.old) }
+    ensures again { IfOk result (λ again. again ≡ true) }
+    ensures shape { shape_of array.new ≡ shape_of array.old }
+    ensures same { (i : List ℕ) → element_at array.new i ≡ element_at array.old i }
+{
+    array.reserve(axis, more)?;
+    let again = array.reserve(axis, more).is_ok();
+    Ok(again)
+}

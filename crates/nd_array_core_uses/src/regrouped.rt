@@ -1,0 +1,146 @@
+//! Images flattened with no copy, elements read as one slice, and a buffer seen otherwise that is copied only where it
+//! must be.
+#![tactic(auto)]
+
+ghost use Rattle.std.specs.Prelude.{◌≡◌, ◌<◌, ◌+◌, ◌*◌, ◌%◌, ◌^◌, ◌∷◌, [], ℕ, List, true, false, slice_index, IfOk};
+ghost use Rattle.nd_shape_and_slice.specs.Shape.{in_box, size_of};
+ghost use Rattle.nd_shape_and_slice.specs.declared.builder.Order.TheVariants.{RowMajor};
+ghost use Rattle.nd_array_core.specs.Meaning.{shape_of, element_at, inside};
+ghost use Rattle.nd_array_core.specs.Coordinates.{element_of_2, element_of_3, HasRowsAndColumns};
+ghost use Rattle.nd_array_core.specs.reshape.Regrouped.{regrouped_index};
+ghost use Rattle.nd_array_core.specs.reshape.RunSlices.{IsStandardArray};
+ghost use Rattle.nd_array_core.specs.reshape.Serving.{StridesServe};
+ghost use Rattle.nd_array_core_uses.specs.Sums.{sum_below, value_or_0};
+
+use nd_array_core::laws::{elements_by_rank, first_axes_joined, order_serves};
+use nd_array_core::{ArrayBase, ArrayView2, Data, EitherArray};
+use nd_shape_and_slice::{Dimension, Ix2, Ix3, NoMemory};
+use std::alloc::Global;
+
+/// The pixels of an image in the standard layout, row after row, with no copy: nothing is cloned, and no memory is
+/// taken. Each sample keeps its row-major rank.
+pub fn pixels_by_rank<'a, A: Clone + Drop, S: Data<Elem = A>>(
+    alloc: Global,
+    image: &'a ArrayBase<S, Ix3>,
+) -> ArrayView2<'a, A>
+    requires { IsStandardArray image.now }
+    ensures shape { (rows columns colours : ℕ) → shape_of image.now ≡ rows ∷ columns ∷ colours ∷ [] → HasRowsAndColumns result (rows * columns) colours }
+    ensures elements { (rows columns colours : ℕ) → shape_of image.now ≡ rows ∷ columns ∷ colours ∷ [] → (i : List ℕ) → element_at result i ≡ inside (rows * columns ∷ colours ∷ []) i (element_at image.now (regrouped_index RowMajor (shape_of image.now) (rows * columns ∷ colours ∷ []) i)) }
+{
+    let (height, width, colours) = image.dim();
+    order_serves(image);
+    first_axes_joined(image);
+    match image.to_shape(alloc, (height * width, colours)) {
+        Ok(EitherArray::View(pixels)) => pixels,
+        _ => unreachable!(),
+    }
+}
+
+/// The same, in coordinates: the pixels of each row follow those of the row before.
+pub fn pixels_seen<'a, A: Clone + Drop, S: Data<Elem = A>>(
+    alloc: Global,
+    image: &'a ArrayBase<S, Ix3>,
+) -> ArrayView2<'a, A>
+    requires { IsStandardArray image.now }
+    ensures shape { (rows columns colours : ℕ) → shape_of image.now ≡ rows ∷ columns ∷ colours ∷ [] → HasRowsAndColumns result (rows * columns) colours }
+    ensures elements { (rows columns colours row column colour : ℕ) → shape_of image.now ≡ rows ∷ columns ∷ colours ∷ [] → in_box (shape_of image.now) (row ∷ column ∷ colour ∷ []) ≡ true → element_of_2 result (row * columns + column) colour ≡ element_of_3 image.now row column colour }
+{
+    first_axes_joined(image);
+    pixels_by_rank(alloc, image)
+}
+
+/// The sum of a row of an image in the standard layout, as it wraps at 2 ^ 64, read from one slice.
+pub fn row_sum_of_slice<S: Data<Elem = u64>>(image: &ArrayBase<S, Ix2>, row: usize) -> u64
+    requires standard { IsStandardArray image.now }
+    requires row { row < slice_index (shape_of image.now) 0 }
+    ensures { result ≡ sum_below (λ column. value_or_0 (element_of_2 image.now row column)) (slice_index (shape_of image.now) 1) % 2 ^ 64 }
+{
+    let (_rows, columns) = image.dim();
+    elements_by_rank(image);
+    let pixels = image.as_slice().unwrap();
+    let mut total: u64 = 0;
+    for column in 0..columns {
+        total = total.wrapping_add(pixels[row * columns + column]);
+    }
+    total
+}
+
+/// All elements of an array in one line: whether none was copied for it, and the number at a rank.
+#[tactic(auto, using(std::proofs::lemmas::Bool::Decides::nat_tests))]
+pub fn number_in_line<S: Data<Elem = u64>, D: Dimension>(
+    alloc: Global,
+    array: &ArrayBase<S, D>,
+    rank: usize,
+) -> Result<(bool, Option<u64>), NoMemory>
+    ensures seen { IfOk result (λ r. r.0 ≡ true → StridesServe array.now RowMajor (size_of (shape_of array.now) ∷ [])) }
+    ensures copied { IfOk result (λ r. r.0 ≡ false → StridesServe array.now RowMajor (size_of (shape_of array.now) ∷ []) → ⊥) }
+    ensures number { IfOk result (λ r. rank < size_of (shape_of array.now) → r.1 ≡ element_at array.now (regrouped_index RowMajor (shape_of array.now) (size_of (shape_of array.now) ∷ []) (rank ∷ []))) }
+{
+    match array.flatten(alloc) {
+        Ok(EitherArray::View(line)) => Ok((true, line.get(rank).copied())),
+        Ok(EitherArray::Owned(line)) => Ok((false, line.get(rank).copied())),
+        Err(error) => Err(error),
+    }
+}
+
+#[cfg(test)]
+mod tests {
+    use super::*;
+    use nd_array_core::{Array, Array2, Array3};
+    use std::test::Fail;
+
+    /// The numbers from 0 on.
+    fn counted(alloc: Global, count: u64) -> Result<Vec<u64>, Fail> {
+        let mut items = Vec::new(alloc);
+        for number in 0..count {
+            items.push(number)?;
+        }
+        Ok(items)
+    }
+
+    /// The number at a rank, and whether the line was seen with no copy.
+    fn number_at<S: Data<Elem = u64>>(
+        alloc: Global,
+        cube: &ArrayBase<S, Ix3>,
+        rank: usize,
+    ) -> Result<(bool, Option<u64>), Fail> {
+        match number_in_line(alloc, cube, rank) {
+            Ok(answer) => Ok(answer),
+            Err(_) => Err("memory".into()),
+        }
+    }
+
+    #[test]
+    fn a_buffer_turned(rt: HostRuntime) -> Result<(), Fail> {
+        let items = counted(rt.alloc(), 24)?;
+        let cube: Array3<u64> = Array::from_shape_vec((2, 3, 4), items).ok().ok_or("shape")?;
+        assert_eq!(rt; number_at(rt.alloc(), &cube, 5)?, (true, Some(5)));
+        assert_eq!(rt; number_at(rt.alloc(), &cube.t(), 5)?, (false, Some(20)));
+        assert_eq!(rt; number_at(rt.alloc(), &cube, 24)?, (true, None));
+        Ok(())
+    }
+
+    /// A sample of a pixel; None where the image isn't in the standard layout, or there is no such pixel.
+    fn sample(alloc: Global, image: &Array3<u64>, pixel: [usize; 2]) -> Option<u64> {
+        if image.is_standard_layout() {
+            pixels_seen(alloc, image).get(pixel).copied()
+        } else {
+            None
+        }
+    }
+
+    #[test]
+    fn pixels_and_rows(rt: HostRuntime) -> Result<(), Fail> {
+        let items = counted(rt.alloc(), 12)?;
+        let image: Array3<u64> = Array::from_shape_vec((2, 2, 3), items).ok().ok_or("shape")?;
+        assert_eq!(rt; sample(rt.alloc(), &image, [3, 1]), Some(10));
+        assert_eq!(rt; sample(rt.alloc(), &image, [4, 0]), None);
+        let items = counted(rt.alloc(), 6)?;
+        let table: Array2<u64> = Array::from_shape_vec((2, 3), items).ok().ok_or("shape")?;
+        let (rows, _columns) = table.dim();
+        if table.is_standard_layout() && rows == 2 {
+            assert_eq!(rt; row_sum_of_slice(&table, 1), 12);
+        }
+        Ok(())
+    }
+}
