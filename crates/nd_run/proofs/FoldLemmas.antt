@@ -10,7 +10,7 @@ use Rattle.nd_run.specs.Calls.{AskedStep, Asking, Asked, About, Said, SaidDone, 
 use Rattle.nd_run.specs.Steps.{Test, first_failed, tests_of, refusal, unless, step_shape, step_index, shape_along, index_along}
 use Rattle.nd_run.specs.Acts.{path_tests, meaning_at_end}
 use Rattle.nd_run.specs.Placing.{unless_refused, said_unless}
-use Rattle.nd_run.specs.Fold.{LeadsAlong, step_result, answer_to, number_of, question_tests, answers_in_memory, look_refusal, MayLackMemory, tests_for, done, outcome, given_by, reply_to}
+use Rattle.nd_run.specs.Fold.{LeadsAlong, step_result, answer_to, answer_or_refusal, number_of, question_tests, answers_in_memory, look_refusal, MayLackMemory, tests_for, done, outcome, given_by, reply_to}
 
 -- ---- tests before others
 
@@ -76,15 +76,20 @@ module _ {A : Type 0} where
 
   -- a question at the end of a path
   module _ (eq : A → A → Bool) (path : List AskedStep) (question : Asking A) (m : Meaning A) where
-    ask_allowed : look_refusal path m.shape ≡ None → first_failed (tests_for (About path question) m.shape) ≡ None
-    ask_allowed h = tests_pass (path_tests tests_of path m.shape) (question_tests question (shape_along path m.shape)) h
+    -- where no step is refused the question decides
+    ask_decides : look_refusal path m.shape ≡ None → first_failed (question_tests question (shape_along path m.shape)) ≡ first_failed (tests_for (About path question) m.shape)
+    ask_decides h = sym (tests_pass (path_tests tests_of path m.shape) (question_tests question (shape_along path m.shape)) h)
 
-    pub ask_lacks : {X E : Type 0} (r : Result X E) → look_refusal path m.shape ≡ None → OnErr r (answers_in_memory question ≡ true) → OnErr r (MayLackMemory (About path question) m)
-    ask_lacks (Ok x) h takes = tt
-    ask_lacks (Err e) h takes = (ask_allowed h, takes)
+    pub ask_lacks : {X E : Type 0} (n : Meaning A) (r : Result X E) → look_refusal path m.shape ≡ None → n ≡ meaning_at_end path m → OnErr r ((first_failed (question_tests question n.shape) ≡ None) × (answers_in_memory question ≡ true)) → OnErr r (MayLackMemory (About path question) m)
+    ask_lacks n (Ok x) h e lacks = tt
+    ask_lacks n (Err error) h e lacks = (sym (ap (λ (s : Meaning A). first_failed (question_tests question s.shape)) e ∙ ask_decides h) ∙ lacks.0, lacks.1)
 
-    pub answer_is : (n : Meaning A) → look_refusal path m.shape ≡ None → n ≡ meaning_at_end path m → answer_to eq question n ≡ reply_to eq (About path question) m
-    answer_is n h e = ap (answer_to eq question) e ∙ ap (λ r. (given_by (unless r (done eq (About path question) m)) m).0) (sym (ask_allowed h))
+    pub answer_is : (n : Meaning A) → look_refusal path m.shape ≡ None → n ≡ meaning_at_end path m → answer_or_refusal eq question n ≡ reply_to eq (About path question) m
+    answer_is n h e = ap (answer_or_refusal eq question) e ∙ (told (first_failed (question_tests question (shape_along path m.shape))) ∙ ap (λ r. (given_by (unless r (done eq (About path question) m)) m).0) (ask_decides h))
+      where
+        told : (r : Option Cause) → (given_by (unless r (answer_to eq question (meaning_at_end path m), meaning_at_end path m)) (meaning_at_end path m)).0 ≡ (given_by (unless r (done eq (About path question) m)) m).0
+        told None = refl
+        told (Some cause) = refl
 
     pub ask_refused : (cause : Cause) → look_refusal path m.shape ≡ Some cause → SaidRefused (number_of cause) ≡ reply_to eq (About path question) m
     ask_refused cause h = ap (λ r. (given_by (unless r (done eq (About path question) m)) m).0) (sym (tests_fail (path_tests tests_of path m.shape) (question_tests question (shape_along path m.shape)) cause h))

@@ -1,13 +1,14 @@
 -- A row for each keyword: what is read behind it is what is written there.
 use Rattle.std.proofs.Common.{◌≡◌, ℕ, ◌≤◌, ◌<◌, true, false, List, [], ◌∷◌, ◌++◌, length, length-append, ℤ, Option, Some, refl, ap, ◌∙◌, arith}
 use Rattle.nd_run.specs.declared.keyword.Keyword.{Keyword}
-use Rattle.nd_run.specs.declared.keyword.Keyword.TheVariants.{Start, Keep, Ask, Write, Split, Cut, Slice as SliceWord, Collapse, Index, Permute, Reverse, SwapAxes, Invert, Insert, Remove, Squeeze, Diag, Broadcast, Part, Coordinate, New, Shape, Elements, Get, First, Last, Equal, Count, Select, RemoveIndex, Fill, Set, Swap}
+use Rattle.nd_run.specs.declared.keyword.Keyword.TheVariants.{Start, Keep, Ask, Write, Split, Cut, Slice as SliceWord, Collapse, Index, Permute, Reverse, SwapAxes, Invert, Insert, Remove, Squeeze, Diag, Broadcast, Part, Coordinate, New, Shape, Elements, Get, First, Last, Equal, Count, Select, RemoveIndex, Reshape, Row, Column, Fill, Assign, Set, Swap}
 use Rattle.nd_shape_and_slice.specs.declared.slice_info.SliceInfoElem.TheVariants.{Slice as Cutting, Index as At, NewAxis}
+use Rattle.nd_shape_and_slice.specs.declared.builder.Order.TheVariants.{RowMajor, ColumnMajor}
 use Rattle.nd_array_core.specs.Meaning.{Meaning}
-use Rattle.nd_run.specs.Calls.{AskedStep, SlicedAxis, Sliced, Collapsed, Indexed, Permuted, Reversed, Exchanged, Inverted, Inserted, Removed, Squeezed, Diagonal, BroadcastTo, Asking, AskShape, AskElements, AskElement, AskFirst, AskLast, AskEqual, AskCount, Acting, Filling, Setting, Swapping, Asked, Keeping, About, Writing, SplitWriting, Selecting, Removing}
+use Rattle.nd_run.specs.Calls.{AskedStep, SlicedAxis, Sliced, Collapsed, Indexed, Permuted, Reversed, Exchanged, Inverted, Inserted, Removed, Squeezed, Diagonal, BroadcastTo, Asking, AskShape, AskElements, AskElement, AskFirst, AskLast, AskEqual, AskCount, AskReshaped, Acting, Filling, Assigning, Setting, Swapping, Asked, Keeping, About, Writing, SplitWriting, Selecting, Removing, Reshaping}
 use Rattle.nd_run.specs.Spelling.{spelling, is_step}
-use Rattle.nd_run.specs.Grammar.{IsBoth, IsNamed, IsSlashed, IsPair, IsEnd, IsSlice, IsElementBehind, IsElement, IsStepBehind, IsStep, IsPath, IsQuestionBehind, IsActBehind, IsAct, IsCallBehind, IsCall, IsStartBehind, IsStart}
-use Rattle.nd_run.specs.Reading.{both_at, slashed_at, named_at, pair_at, end_of, slice_at, element_by, element_at, step_by, step_at, begins_step, path_at, question_by, act_by, act_at, call_by, call_at, call_of, start_by, start_of}
+use Rattle.nd_run.specs.Grammar.{IsBoth, IsNamed, IsSlashed, IsPair, IsOrderBehind, IsOrderedList, IsEnd, IsSlice, IsElementBehind, IsElement, IsStepBehind, IsStep, IsPath, IsQuestionBehind, IsActBehind, IsAct, IsCallBehind, IsCall, IsStartBehind, IsStart}
+use Rattle.nd_run.specs.Reading.{both_at, slashed_at, named_at, pair_at, order_by, ordered_list_at, end_of, slice_at, element_by, element_at, step_by, step_at, begins_step, path_at, question_by, act_by, act_at, call_by, call_at, call_of, start_by, start_of}
 use Rattle.nd_run.proofs.Keywords.{known}
 use Rattle.nd_run.proofs.NumberLaws.{end_takes, end_again}
 use Rattle.nd_run.proofs.Items.{TakesWords}
@@ -16,6 +17,14 @@ use Rattle.nd_run.proofs.Forms.{Reads, few_parts, regrouped, word_reads, bare_re
 
 pair_reads : {n : ℕ} → Reads n pair_at IsPair
 pair_reads = both_reads nat_reads nat_reads
+
+order_rows : {n : ℕ} (k : Keyword) → Reads n (order_by k) (IsOrderBehind k)
+order_rows Row = bare_reads RowMajor
+order_rows Column = bare_reads ColumnMajor
+order_rows _ = none_reads
+
+ordered_list_reads : {n : ℕ} → Reads n ordered_list_at IsOrderedList
+ordered_list_reads = both_reads (named_reads order_rows (λ words x h. h)) list_reads
 
 slice_reads : {n : ℕ} → Reads n slice_at IsSlice
 slice_reads = made_reads (λ x. record { start = x.0; end = x.1.0; step = x.1.1 }) (both_reads int_reads (both_reads (word_reads end_of IsEnd end_takes end_again) int_reads))
@@ -112,6 +121,7 @@ question_rows First = bare_reads AskFirst
 question_rows Last = bare_reads AskLast
 question_rows Equal = made_reads AskEqual array_reads
 question_rows Count = made_reads AskCount int_reads
+question_rows Reshape = made_reads (λ x. AskReshaped x.1 x.0) ordered_list_reads
 question_rows _ = none_reads
 
 no_step_question : (k : Keyword) (words : List (List ℕ)) (question : Asking ℤ) → IsQuestionBehind k words question → is_step k ≡ false
@@ -122,10 +132,12 @@ no_step_question First words question h = refl
 no_step_question Last words question h = refl
 no_step_question Equal words question h = refl
 no_step_question Count words question h = refl
+no_step_question Reshape words question h = refl
 no_step_question _ words question h = absurd h
 
 act_rows : {n : ℕ} (k : Keyword) → Reads n (act_by k) (IsActBehind k)
 act_rows Fill = made_reads Filling int_reads
+act_rows Assign = made_reads Assigning array_reads
 act_rows Set = made_reads (λ x. Setting x.0 x.1) (both_reads list_reads int_reads)
 act_rows Swap = made_reads (λ x. Swapping x.0 x.1) (both_reads list_reads list_reads)
 act_rows _ = none_reads
@@ -135,6 +147,7 @@ act_reads = named_reads act_rows (λ words x h. h)
 
 no_step_act : (k : Keyword) (words : List (List ℕ)) (act : Acting ℤ) → IsActBehind k words act → is_step k ≡ false
 no_step_act Fill words act h = refl
+no_step_act Assign words act h = refl
 no_step_act Set words act h = refl
 no_step_act Swap words act h = refl
 no_step_act _ words act h = absurd h
@@ -148,6 +161,7 @@ call_rows Write = made_reads (λ x. Writing x.0 x.1) (path_then act_by IsActBehi
 call_rows Split = made_reads (λ x. SplitWriting x.0.0 x.0.1 x.1.0 x.1.1) (both_reads pair_reads (both_reads (slashed_reads act_reads) act_reads))
 call_rows Select = made_reads (λ x. Selecting x.0 x.1) (both_reads nat_reads list_reads)
 call_rows RemoveIndex = made_reads (λ x. Removing x.0 x.1) pair_reads
+call_rows Reshape = made_reads (λ x. Reshaping x.1 x.0) ordered_list_reads
 call_rows _ = none_reads
 
 call_reads : {n : ℕ} → Reads n (call_at n) IsCall

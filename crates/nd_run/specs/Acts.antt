@@ -3,10 +3,12 @@ use Rattle.std.specs.Prelude.{ℕ, ◌-◌, nat_eq, nat_lt, nat_le, Bool, true, 
 use Rattle.std.specs.Cmp.Lexicographic.{pointwise}
 use Rattle.std.specs.List.{find}
 use Rattle.nd_shape_and_slice.specs.Shape.{in_box, indexes_of}
+use Rattle.nd_shape_and_slice.specs.Broadcast.{broadcasts}
 use Rattle.nd_shape_and_slice.specs.Maps.{lower_shape, upper_shape, upper_index}
 use Rattle.nd_array_core.specs.Meaning.{Meaning, inside, meaning_through}
 use Rattle.nd_array_core.specs.base.Writes.{with_element_at, with_swapped_at}
-use Rattle.nd_run.specs.Calls.{AskedStep, Acting, Filling, Setting, Swapping}
+use Rattle.nd_array_core.specs.elements.Pairs.{broadcast_at}
+use Rattle.nd_run.specs.Calls.{AskedStep, Acting, Filling, Assigning, Setting, Swapping}
 use Rattle.nd_run.specs.Steps.{Test, first_failed, has_axis, keep_tests, step_shape, shape_along, index_along}
 use Rattle.nd_run.specs.declared.cause.Cause.{Cause}
 use Rattle.nd_run.specs.declared.cause.Cause.TheVariants as causes
@@ -19,6 +21,7 @@ has_index index ns = (in_box ns index, causes.Index)
 -- the tests of an act on an array of these lengths, in order
 abbrev pub act_tests : {A : Type 0} → Acting A → List ℕ → List Test
 act_tests (Filling x) ns = []
+act_tests (Assigning other) ns = (broadcasts other.shape ns, causes.Broadcast) ∷ []
 act_tests (Setting index x) ns = has_index index ns ∷ []
 act_tests (Swapping a b) ns = has_index a ns ∷ has_index b ns ∷ []
 
@@ -29,12 +32,14 @@ act_refusal act ns = first_failed (act_tests act ns)
 -- the elements after an act
 abbrev pub acted_elements : {A : Type 0} → Acting A → Meaning A → List ℕ → Option A
 acted_elements (Filling x) m = λ i. inside m.shape i (Some x)
+acted_elements (Assigning other) m = broadcast_at m.shape other
 acted_elements (Setting index x) m = with_element_at m.at index x
 acted_elements (Swapping a b) m = with_swapped_at m.at a b
 
--- an act that clones its value
+-- an act that clones what it writes
 abbrev pub clones : {A : Type 0} → Acting A → Bool
 clones (Filling x) = true
+clones (Assigning other) = true
 clones (Setting index x) = true
 clones (Swapping a b) = false
 

@@ -2,6 +2,7 @@
 use Rattle.std.specs.Prelude.{ℕ, Bool, List, map, Option}
 use Rattle.nd_shape_and_slice.specs.declared.slice.Slice.{Slice}
 use Rattle.nd_shape_and_slice.specs.declared.slice_info.SliceInfoElem.{SliceInfoElem}
+use Rattle.nd_shape_and_slice.specs.declared.builder.Order.{Order}
 use Rattle.nd_array_core.specs.declared.base.storage.Data as data_trait
 use Rattle.nd_array_core.specs.declared.base.storage.OwnedRepr.{OwnedRepr}
 use Rattle.nd_array_core.specs.Meaning.{Meaning, meaning_of}
@@ -34,8 +35,8 @@ pub data AskedStep : Type 0 where
   Diagonal : AskedStep
   BroadcastTo : (lengths : List ℕ) → AskedStep
 
--- a question: the lengths, all elements, the element of an index, the first or last one, whether it equals an array, or
--- how many elements equal one
+-- a question: the lengths, all elements, the element of an index, the first or last one, whether it equals an array,
+-- how many elements equal one, or the elements under other lengths
 pub data Asking (A : Type 0) : Type 0 where
   AskShape : Asking A
   AskElements : Asking A
@@ -44,15 +45,19 @@ pub data Asking (A : Type 0) : Type 0 where
   AskLast : Asking A
   AskEqual : (other : Meaning A) → Asking A
   AskCount : (element : A) → Asking A
+  AskReshaped : (lengths : List ℕ) (order : Order) → Asking A
 
--- an act: each element is set to one value, or that of an index is; or the elements of two indexes change places
+-- an act: each element is set to one value, or to that of an array at its index, or that of an index is; or the elements
+-- of two indexes change places
 pub data Acting (A : Type 0) : Type 0 where
   Filling : (value : A) → Acting A
+  Assigning : (other : Meaning A) → Acting A
   Setting : (index : List ℕ) (value : A) → Acting A
   Swapping : (a b : List ℕ) → Acting A
 
 -- a call: a step whose result is kept, a question at the end of some steps, an act there, an act on each part of the
--- array split before a coordinate of an axis; coordinates of an axis chosen, or one taken out
+-- array split before a coordinate of an axis; coordinates of an axis chosen, or one taken out; other lengths, each
+-- element with its rank in an order
 pub data Asked (A : Type 0) : Type 0 where
   Keeping : (step : AskedStep) → Asked A
   About : (path : List AskedStep) (question : Asking A) → Asked A
@@ -60,6 +65,7 @@ pub data Asked (A : Type 0) : Type 0 where
   SplitWriting : (axis index : ℕ) (first second : Acting A) → Asked A
   Selecting : (axis : ℕ) (indexes : List ℕ) → Asked A
   Removing : (axis index : ℕ) → Asked A
+  Reshaping : (lengths : List ℕ) (order : Order) → Asked A
 
 -- a reply
 pub data Said (A : Type 0) : Type 0 where
@@ -86,12 +92,13 @@ asked_step steps.Squeeze = Squeezed
 asked_step steps.Diag = Diagonal
 asked_step (steps.Broadcast lengths) = BroadcastTo lengths.items
 
-abbrev pub acting : {A : Type 0} → Act A → Acting A
-acting (acts.Fill value) = Filling value
-acting (acts.Set index value) = Setting index.items value
-acting (acts.Swap a b) = Swapping a.items b.items
-
 module _ {A : Type 0} {s : data_trait.Ghosts (OwnedRepr A) A} where
+  abbrev pub acting : Act A (OwnedRepr A) s → Acting A
+  acting (acts.Fill value) = Filling value
+  acting (acts.Assign other) = Assigning (meaning_of other)
+  acting (acts.Set index value) = Setting index.items value
+  acting (acts.Swap a b) = Swapping a.items b.items
+
   abbrev pub asking : Question A (OwnedRepr A) s → Asking A
   asking questions.Shape = AskShape
   asking questions.Elements = AskElements
@@ -100,6 +107,7 @@ module _ {A : Type 0} {s : data_trait.Ghosts (OwnedRepr A) A} where
   asking questions.Last = AskLast
   asking (questions.EqualTo other) = AskEqual (meaning_of other)
   asking (questions.Count element) = AskCount element
+  asking (questions.ToShape lengths order) = AskReshaped lengths.items order
 
   abbrev pub asked_call : Call A (OwnedRepr A) s → Asked A
   asked_call (calls.Keep step) = Keeping (asked_step step)
@@ -108,6 +116,7 @@ module _ {A : Type 0} {s : data_trait.Ghosts (OwnedRepr A) A} where
   asked_call (calls.SplitWrite axis index first second) = SplitWriting axis index (acting first) (acting second)
   asked_call (calls.Select axis indexes) = Selecting axis indexes.items
   asked_call (calls.RemoveIndex axis index) = Removing axis index
+  asked_call (calls.Reshape lengths order) = Reshaping lengths.items order
 
 abbrev pub said_reply : {A : Type 0} → Reply A → Said A
 said_reply replies.Done = SaidDone

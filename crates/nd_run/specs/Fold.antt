@@ -1,18 +1,19 @@
 -- What a list of calls answers, and what it leaves of an array's meaning: a fold over the calls. No view, borrow
 -- or storage occurs.
-use Rattle.std.specs.Prelude.{◌≡◌, ◌^◌, ℕ, nat_lt, slice_index, Bool, Option, None, true, false, ◌||◌, List, [], ◌∷◌, ◌++◌, Result, Ok, Err, ◌⊎◌}
+use Rattle.std.specs.Prelude.{◌≡◌, ◌^◌, ◌==◌, ℕ, nat_lt, nat_le, slice_index, length, Bool, Option, None, true, false, ◌||◌, List, [], ◌∷◌, ◌++◌, Result, Ok, Err, ◌⊎◌}
 use Rattle.nd_shape_and_slice.specs.Shape.{in_box}
 use Rattle.nd_array_core.specs.Meaning.{Meaning, meaning_through}
 use Rattle.nd_shape_and_slice.specs.FirstIndex.{first_index}
 use Rattle.nd_array_core.specs.LastIndex.{last_index}
 use Rattle.nd_array_core.specs.Equality.{equal_meanings}
 use Rattle.nd_array_core.specs.Joined.{row_major_elements}
-use Rattle.nd_run.specs.Calls.{AskedStep, Asking, AskShape, AskElements, AskElement, AskFirst, AskLast, AskEqual, AskCount, Asked, Keeping, About, Writing, SplitWriting, Selecting, Removing, Said, SaidDone, SaidRefused, SaidShape, SaidElements, SaidElement, SaidTruth, SaidNumber, said_reply}
+use Rattle.nd_run.specs.Calls.{AskedStep, Asking, AskShape, AskElements, AskElement, AskFirst, AskLast, AskEqual, AskCount, AskReshaped, Asked, Keeping, About, Writing, SplitWriting, Selecting, Removing, Reshaping, Said, SaidDone, SaidRefused, SaidShape, SaidElements, SaidElement, SaidTruth, SaidNumber, said_reply}
 use Rattle.std.specs.Prelude.{map}
 use Rattle.std.specs.List.{count_by, list_all}
-use Rattle.nd_shape_and_slice.specs.Shape.{nonzero_product}
+use Rattle.nd_shape_and_slice.specs.Shape.{nonzero_product, size_of}
 use Rattle.nd_array_core.specs.along.Selected.{selected_shape, selected_index}
 use Rattle.nd_array_core.specs.along.Removed.{removed_shape, removed_index}
+use Rattle.nd_array_core.specs.reshape.Serving.{regrouped_meaning}
 use Rattle.nd_run.specs.Steps.{Test, first_failed, has_axis, has_coordinate, tests_of, keep_tests, refusal, unless, step_shape, step_index, shape_along, index_along}
 use Rattle.nd_run.specs.Acts.{path_tests, meaning_at_end, write_tests, written, split_tests, split_written, clones}
 use Rattle.nd_run.specs.declared.calls.Reply.{Reply}
@@ -56,6 +57,7 @@ answer_to eq AskFirst m = SaidElement (m.at (first_index m.shape))
 answer_to eq AskLast m = SaidElement (m.at (last_index m.shape))
 answer_to eq (AskEqual other) m = SaidTruth (equal_meanings eq m other)
 answer_to eq (AskCount x) m = SaidNumber (count_by (λ y. eq y x) (row_major_elements m))
+answer_to eq (AskReshaped to order) m = SaidElements to (row_major_elements (regrouped_meaning order to m))
 
 -- the number of a cause in a reply
 abbrev pub number_of : Cause → ℕ
@@ -70,9 +72,16 @@ number_of causes.Broadcast = 8
 
 -- ---- a call: its tests in order, what it does where they all pass, and whether it may lack memory then
 
+-- the tests of other lengths for the same elements
+abbrev pub reshape_tests : List ℕ → List ℕ → List Test
+reshape_tests to ns =
+    (nat_le (length to) 32, causes.TooManyAxes) ∷ (nat_lt (nonzero_product to) (2 ^ 63), causes.Shape)
+    ∷ (size_of to == size_of ns, causes.Shape) ∷ []
+
 -- the tests of a question on an array of these lengths
 abbrev pub question_tests : {A : Type 0} → Asking A → List ℕ → List Test
-question_tests question ns = []
+question_tests (AskReshaped to order) ns = reshape_tests to ns
+question_tests _ ns = []
 
 -- a question whose answer takes memory
 abbrev pub answers_in_memory : {A : Type 0} → Asking A → Bool
@@ -101,6 +110,7 @@ tests_for (Writing path act) ns = write_tests path act ns
 tests_for (SplitWriting axis index first second) ns = split_tests axis index first second ns
 tests_for (Selecting axis indexes) ns = select_tests axis indexes ns
 tests_for (Removing axis index) ns = has_axis axis ns ∷ has_coordinate axis index ns ∷ []
+tests_for (Reshaping to order) ns = reshape_tests to ns
 
 -- the reply, and the array afterwards
 abbrev pub done : {A : Type 0} → (A → A → Bool) → Asked A → Meaning A → Said A × Meaning A
@@ -110,6 +120,7 @@ done eq (Writing path act) m = (SaidDone, written path act m)
 done eq (SplitWriting axis index first second) m = (SaidDone, split_written axis index first second m)
 done eq (Selecting axis indexes) m = (SaidDone, meaning_through (selected_shape m.shape axis indexes) (selected_index axis indexes) m)
 done eq (Removing axis index) m = (SaidDone, meaning_through (removed_shape m.shape axis) (removed_index axis index) m)
+done eq (Reshaping to order) m = (SaidDone, regrouped_meaning order to m)
 
 abbrev pub takes_memory : {A : Type 0} → Asked A → Bool
 takes_memory (Keeping step) = false
@@ -118,6 +129,7 @@ takes_memory (Writing path act) = clones act
 takes_memory (SplitWriting axis index first second) = clones first || clones second
 takes_memory (Selecting axis indexes) = true
 takes_memory (Removing axis index) = false
+takes_memory (Reshaping to order) = true
 
 -- ---- what comes of a call
 
@@ -128,6 +140,10 @@ outcome eq call m = unless (first_failed (tests_for call m.shape)) (done eq call
 abbrev pub given_by : {A : Type 0} → Result (Said A × Meaning A) Cause → Meaning A → Said A × Meaning A
 given_by (Ok given) m = given
 given_by (Err cause) m = (SaidRefused (number_of cause), m)
+
+-- the reply to a question about the array itself
+abbrev pub answer_or_refusal : {A : Type 0} → (A → A → Bool) → Asking A → Meaning A → Said A
+answer_or_refusal eq question m = (given_by (unless (first_failed (question_tests question m.shape)) (answer_to eq question m, m)) m).0
 
 -- the reply to a call, and the array after it
 abbrev pub reply_to : {A : Type 0} → (A → A → Bool) → Asked A → Meaning A → Said A

@@ -5,9 +5,11 @@ use Rattle.nd_array_core.specs.Meaning.{Meaning, inside}
 use Rattle.nd_shape_and_slice.specs.declared.slice.Slice.{Slice}
 use Rattle.nd_shape_and_slice.specs.declared.slice_info.SliceInfoElem.{SliceInfoElem}
 use Rattle.nd_shape_and_slice.specs.declared.slice_info.SliceInfoElem.TheVariants.{Slice as Cutting, Index as At, NewAxis}
+use Rattle.nd_shape_and_slice.specs.declared.builder.Order.{Order}
+use Rattle.nd_shape_and_slice.specs.declared.builder.Order.TheVariants.{RowMajor, ColumnMajor}
 use Rattle.nd_run.specs.declared.keyword.Keyword.{Keyword}
-use Rattle.nd_run.specs.declared.keyword.Keyword.TheVariants.{Start, Keep, Ask, Write, Split, Slash, Cut, Slice as SliceWord, Collapse, Index, Permute, Reverse, SwapAxes, Invert, Insert, Remove, Squeeze, Diag, Broadcast, Part, Coordinate, New, Shape, Elements, Get, First, Last, Equal, Count, Select, RemoveIndex, Fill, Set, Swap}
-use Rattle.nd_run.specs.Calls.{AskedStep, SlicedAxis, Sliced, Collapsed, Indexed, Permuted, Reversed, Exchanged, Inverted, Inserted, Removed, Squeezed, Diagonal, BroadcastTo, Asking, AskShape, AskElements, AskElement, AskFirst, AskLast, AskEqual, AskCount, Acting, Filling, Setting, Swapping, Asked, Keeping, About, Writing, SplitWriting, Selecting, Removing}
+use Rattle.nd_run.specs.declared.keyword.Keyword.TheVariants.{Start, Keep, Ask, Write, Split, Slash, Cut, Slice as SliceWord, Collapse, Index, Permute, Reverse, SwapAxes, Invert, Insert, Remove, Squeeze, Diag, Broadcast, Part, Coordinate, New, Shape, Elements, Get, First, Last, Equal, Count, Select, RemoveIndex, Reshape, Row, Column, Fill, Assign, Set, Swap}
+use Rattle.nd_run.specs.Calls.{AskedStep, SlicedAxis, Sliced, Collapsed, Indexed, Permuted, Reversed, Exchanged, Inverted, Inserted, Removed, Squeezed, Diagonal, BroadcastTo, Asking, AskShape, AskElements, AskElement, AskFirst, AskLast, AskEqual, AskCount, AskReshaped, Acting, Filling, Assigning, Setting, Swapping, Asked, Keeping, About, Writing, SplitWriting, Selecting, Removing, Reshaping}
 use Rattle.nd_run.specs.Numerals.{IsNat, IsInt}
 use Rattle.nd_run.specs.Spelling.{spelling}
 
@@ -64,6 +66,15 @@ IsPair words pair = IsBoth (IsWord IsNat) (IsWord IsNat) words pair
 
 abbrev pub IsList : List (List ℕ) → List ℕ → Type 0
 IsList words numbers = IsCounted (IsWord IsNat) words numbers
+
+abbrev pub IsOrderBehind : Keyword → List (List ℕ) → Order → Type 0
+IsOrderBehind Row words order = IsBare RowMajor words order
+IsOrderBehind Column words order = IsBare ColumnMajor words order
+IsOrderBehind _ words order = ⊥
+
+-- an order, and a list of lengths
+abbrev pub IsOrderedList : List (List ℕ) → Order × List ℕ → Type 0
+IsOrderedList words shape = IsBoth (IsNamed IsOrderBehind) IsList words shape
 
 -- the array of these lengths with these elements in row-major order
 abbrev pub array_of : {A : Type 0} → List ℕ → List A → Meaning A
@@ -134,6 +145,7 @@ IsQuestionBehind First words question = IsBare AskFirst words question
 IsQuestionBehind Last words question = IsBare AskLast words question
 IsQuestionBehind Equal words question = IsMade AskEqual IsArray words question
 IsQuestionBehind Count words question = IsMade AskCount (IsWord IsInt) words question
+IsQuestionBehind Reshape words question = IsMade (λ x. AskReshaped x.1 x.0) IsOrderedList words question
 IsQuestionBehind _ words question = ⊥
 
 abbrev pub IsQuestion : List (List ℕ) → Asking ℤ → Type 0
@@ -141,6 +153,7 @@ IsQuestion words question = IsNamed IsQuestionBehind words question
 
 abbrev pub IsActBehind : Keyword → List (List ℕ) → Acting ℤ → Type 0
 IsActBehind Fill words act = IsMade Filling (IsWord IsInt) words act
+IsActBehind Assign words act = IsMade Assigning IsArray words act
 IsActBehind Set words act = IsMade (λ x. Setting x.0 x.1) (IsBoth IsList (IsWord IsInt)) words act
 IsActBehind Swap words act = IsMade (λ x. Swapping x.0 x.1) (IsBoth IsList IsList) words act
 IsActBehind _ words act = ⊥
@@ -155,6 +168,7 @@ IsCallBehind Write words call = IsMade (λ x. Writing x.0 x.1) (IsBoth IsPath Is
 IsCallBehind Split words call = IsMade (λ x. SplitWriting x.0.0 x.0.1 x.1.0 x.1.1) (IsBoth IsPair (IsBoth (IsSlashed IsAct) IsAct)) words call
 IsCallBehind Select words call = IsMade (λ x. Selecting x.0 x.1) (IsBoth (IsWord IsNat) IsList) words call
 IsCallBehind RemoveIndex words call = IsMade (λ x. Removing x.0 x.1) IsPair words call
+IsCallBehind Reshape words call = IsMade (λ x. Reshaping x.1 x.0) IsOrderedList words call
 IsCallBehind _ words call = ⊥
 
 -- the words of a line are this call

@@ -6,11 +6,13 @@ use Rattle.nd_shape_and_slice.specs.Shape.{nonzero_product, size_of}
 use Rattle.nd_shape_and_slice.specs.declared.slice.Slice.{Slice}
 use Rattle.nd_shape_and_slice.specs.declared.slice_info.SliceInfoElem.{SliceInfoElem}
 use Rattle.nd_shape_and_slice.specs.declared.slice_info.SliceInfoElem.TheVariants.{Slice as Cutting, Index as At, NewAxis}
+use Rattle.nd_shape_and_slice.specs.declared.builder.Order.{Order}
+use Rattle.nd_shape_and_slice.specs.declared.builder.Order.TheVariants.{RowMajor, ColumnMajor}
 use Rattle.nd_run.specs.declared.keyword.Keyword.{Keyword}
-use Rattle.nd_run.specs.declared.keyword.Keyword.TheVariants.{Start, Keep, Ask, Write, Split, Slash, Cut, Slice as SliceWord, Collapse, Index, Permute, Reverse, SwapAxes, Invert, Insert, Remove, Squeeze, Diag, Broadcast, Part, Coordinate, New, Shape, Elements, Get, First, Last, Equal, Count, Select, RemoveIndex, Fill, Set, Swap, Other}
+use Rattle.nd_run.specs.declared.keyword.Keyword.TheVariants.{Start, Keep, Ask, Write, Split, Slash, Cut, Slice as SliceWord, Collapse, Index, Permute, Reverse, SwapAxes, Invert, Insert, Remove, Squeeze, Diag, Broadcast, Part, Coordinate, New, Shape, Elements, Get, First, Last, Equal, Count, Select, RemoveIndex, Reshape, Row, Column, Fill, Assign, Set, Swap, Other}
 use Rattle.nd_run.specs.declared.reader.fault.LineFault.{LineFault}
 use Rattle.nd_run.specs.declared.reader.fault.LineFault.TheVariants.{Bad, Memory}
-use Rattle.nd_run.specs.Calls.{AskedStep, SlicedAxis, Sliced, Collapsed, Indexed, Permuted, Reversed, Exchanged, Inverted, Inserted, Removed, Squeezed, Diagonal, BroadcastTo, Asking, AskShape, AskElements, AskElement, AskFirst, AskLast, AskEqual, AskCount, Acting, Filling, Setting, Swapping, Asked, Keeping, About, Writing, SplitWriting, Selecting, Removing}
+use Rattle.nd_run.specs.Calls.{AskedStep, SlicedAxis, Sliced, Collapsed, Indexed, Permuted, Reversed, Exchanged, Inverted, Inserted, Removed, Squeezed, Diagonal, BroadcastTo, Asking, AskShape, AskElements, AskElement, AskFirst, AskLast, AskEqual, AskCount, AskReshaped, Acting, Filling, Assigning, Setting, Swapping, Asked, Keeping, About, Writing, SplitWriting, Selecting, Removing, Reshaping}
 use Rattle.nd_array_core.specs.Meaning.{Meaning}
 use Rattle.nd_run.specs.Grammar.{array_of}
 use Rattle.nd_run.specs.Numerals.{nat_of, int_of}
@@ -80,7 +82,7 @@ long_keywords = Collapse ∷ SwapAxes ∷ Elements ∷ Broadcast ∷ RemoveIndex
 
 -- the keywords of n bytes, or of more than seven
 abbrev pub keywords_of : ℕ → List Keyword
-keywords_of n = if nat_lt 7 n then long_keywords else (if n == 7 then Permute ∷ Reverse ∷ Squeeze ∷ [] else (if n == 6 then Invert ∷ Insert ∷ Remove ∷ Select ∷ [] else (if n == 5 then Start ∷ Write ∷ Split ∷ SliceWord ∷ Index ∷ Shape ∷ First ∷ Equal ∷ Count ∷ [] else (if n == 4 then Keep ∷ Diag ∷ Last ∷ Fill ∷ Swap ∷ [] else (if n == 3 then Ask ∷ Cut ∷ Get ∷ Set ∷ [] else (if n == 1 then Slash ∷ Part ∷ Coordinate ∷ New ∷ [] else []))))))
+keywords_of n = if nat_lt 7 n then long_keywords else (if n == 7 then Permute ∷ Reverse ∷ Squeeze ∷ Reshape ∷ [] else (if n == 6 then Invert ∷ Insert ∷ Remove ∷ Select ∷ Assign ∷ [] else (if n == 5 then Start ∷ Write ∷ Split ∷ SliceWord ∷ Index ∷ Shape ∷ First ∷ Equal ∷ Count ∷ [] else (if n == 4 then Keep ∷ Diag ∷ Last ∷ Fill ∷ Swap ∷ [] else (if n == 3 then Ask ∷ Cut ∷ Get ∷ Row ∷ Column ∷ Set ∷ [] else (if n == 1 then Slash ∷ Part ∷ Coordinate ∷ New ∷ [] else []))))))
 
 unfoldable pub keyword_of : List ℕ → Keyword
 keyword_of word = keyword_among (keywords_of (length word)) word
@@ -113,6 +115,18 @@ pair_at words = both_at (item_at nat_of) (item_at nat_of) words
 
 abbrev pub list_at : List (List ℕ) → Option (List ℕ × List (List ℕ))
 list_at words = counted_at (item_at nat_of) words
+
+abbrev pub order_by : Keyword → List (List ℕ) → Option (Order × List (List ℕ))
+order_by Row words = Some (RowMajor, words)
+order_by Column words = Some (ColumnMajor, words)
+order_by _ words = None
+
+abbrev pub order_at : List (List ℕ) → Option (Order × List (List ℕ))
+order_at words = named_at order_by words
+
+-- an order, and a list of lengths
+abbrev pub ordered_list_at : List (List ℕ) → Option ((Order × List ℕ) × List (List ℕ))
+ordered_list_at words = both_at order_at list_at words
 
 -- a list of at most 32 numbers
 unfoldable pub lengths_at : List (List ℕ) → Option (List ℕ × List (List ℕ))
@@ -190,6 +204,7 @@ question_by First words = Some (AskFirst, words)
 question_by Last words = Some (AskLast, words)
 question_by Equal words = map_read AskEqual (array_at words)
 question_by Count words = map_read AskCount (item_at int_of words)
+question_by Reshape words = map_read (λ x. AskReshaped x.1 x.0) (ordered_list_at words)
 question_by _ words = None
 
 abbrev pub question_at : List (List ℕ) → Option (Asking ℤ × List (List ℕ))
@@ -197,6 +212,7 @@ question_at words = named_at question_by words
 
 abbrev pub act_by : Keyword → List (List ℕ) → Option (Acting ℤ × List (List ℕ))
 act_by Fill words = map_read Filling (item_at int_of words)
+act_by Assign words = map_read Assigning (array_at words)
 act_by Set words = map_read (λ x. Setting x.0 x.1) (both_at list_at (item_at int_of) words)
 act_by Swap words = map_read (λ x. Swapping x.0 x.1) (both_at list_at list_at words)
 act_by _ words = None
@@ -215,6 +231,7 @@ call_by n Write words = map_read (λ x. Writing x.0 x.1) (both_at (path_at n) ac
 call_by n Split words = map_read (λ x. SplitWriting x.0.0 x.0.1 x.1.0 x.1.1) (both_at pair_at acts_at words)
 call_by n Select words = map_read (λ x. Selecting x.0 x.1) (both_at (item_at nat_of) list_at words)
 call_by n RemoveIndex words = map_read (λ x. Removing x.0 x.1) (pair_at words)
+call_by n Reshape words = map_read (λ x. Reshaping x.1 x.0) (ordered_list_at words)
 call_by n _ words = None
 
 abbrev pub call_at : ℕ → List (List ℕ) → Option (Asked ℤ × List (List ℕ))

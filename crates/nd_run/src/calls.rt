@@ -1,7 +1,7 @@
 //! The calls that a script makes on its array, and the replies to them.
 
 use nd_array_core::{ArrayBase, Data, OwnedRepr};
-use nd_shape_and_slice::{IxDyn, Slice, SliceInfoElem};
+use nd_shape_and_slice::{IxDyn, Order, Slice, SliceInfoElem};
 
 /// A layout call: another array of the same elements.
 #[derive(Debug, Drop)]
@@ -51,13 +51,17 @@ pub enum Question<A, S: Data<Elem = A> = OwnedRepr<A>> {
     EqualTo(ArrayBase<S, IxDyn>),
     /// How many of its elements equal this one.
     Count(A),
+    /// Its elements under other lengths, where each keeps its rank in this order.
+    ToShape(Vec<usize>, Order),
 }
 
-/// A change of an array's elements.
-#[derive(Debug, Drop)]
-pub enum Act<A> {
+/// A change of an array's elements. Users write `Act<A>`: arrays in it own their elements.
+#[derive(Drop)]
+pub enum Act<A, S: Data<Elem = A> = OwnedRepr<A>> {
     /// Each element becomes a clone of this one.
     Fill(A),
+    /// Each element becomes a clone of the one at its index in this array, broadcast to the lengths.
+    Assign(ArrayBase<S, IxDyn>),
     /// The element of an index becomes a clone of this one.
     Set(Vec<usize>, A),
     /// The elements at two indexes are exchanged.
@@ -72,13 +76,15 @@ pub enum Call<A, S: Data<Elem = A> = OwnedRepr<A>> {
     /// A question about what these steps lead to. The array stays.
     Ask(Vec<Step>, Question<A, S>),
     /// An act on what these steps lead to. It changes the array's own elements.
-    Write(Vec<Step>, Act<A>),
+    Write(Vec<Step>, Act<A, S>),
     /// An axis, a coordinate at which it is split, and an act on each of the two parts.
-    SplitWrite(usize, usize, Act<A>, Act<A>),
+    SplitWrite(usize, usize, Act<A, S>, Act<A, S>),
     /// An axis, and the coordinates of it that are chosen, in their new order.
     Select(usize, Vec<usize>),
     /// An axis, and a coordinate of it that is taken out.
     RemoveIndex(usize, usize),
+    /// Other lengths, under which each element keeps its rank in this order.
+    Reshape(Vec<usize>, Order),
 }
 
 /// What a call answers.

@@ -5,8 +5,8 @@ ghost use Rattle.std.specs.Option.{option_copied};
 ghost use Rattle.nd_array_core.specs.Meaning.{meaning_of, shape_of, element_at};
 ghost use Rattle.std.specs.List.{count_by, list_all};
 ghost use Rattle.nd_run.specs.Steps.{first_failed};
-ghost use Rattle.nd_run.specs.Calls.{asked_call, asked_step, asking, said_reply, Keeping, About, Selecting, Removing, SaidElement};
-ghost use Rattle.nd_run.specs.Fold.{LeadsAlong, look_refusal, select_tests, answer_to, answers_in_memory, reply_to, replies_to, end_of, MayLackMemory, IsCarriedOut, CarriesOut, StopsBefore, replies_before};
+ghost use Rattle.nd_run.specs.Calls.{asked_call, asked_step, asking, said_reply, Keeping, About, Selecting, Removing, Reshaping, AskReshaped, SaidElement};
+ghost use Rattle.nd_run.specs.Fold.{LeadsAlong, look_refusal, question_tests, select_tests, reshape_tests, answer_or_refusal, answers_in_memory, reply_to, replies_to, end_of, MayLackMemory, IsCarriedOut, CarriesOut, StopsBefore, replies_before};
 ghost use Rattle.nd_array_core.specs.Equality.{equal_meanings};
 ghost use Rattle.nd_array_core.specs.Joined.{row_major_elements};
 
@@ -17,7 +17,7 @@ use crate::steps::{advance, index_refusal, keep_refusal, take_step};
 use crate::write::{Acted, write_parts, write_through};
 use nd_array_core::laws::nothing_outside;
 use nd_array_core::{Array, ArrayBase, ArrayView, Data};
-use nd_shape_and_slice::{Axis, Dimension, IxDyn, size_of_shape_checked};
+use nd_shape_and_slice::{Axis, Dimension, IxDyn, MAX_AXES, Order, size_of_shape_checked};
 use std::alloc::{AllocError, Global};
 
 /// Follows a path of steps, or returns the cause of a refusal.
@@ -83,15 +83,51 @@ fn count<A: Eq>(view: &ArrayView<'_, A, IxDyn>, element: &A) -> usize
     })
 }
 
-/// The answer to a question.
+/// Other lengths for the same elements, or the first cause for which one refuses them.
+fn reshape_dim<S: Data>(array: &ArrayBase<S, IxDyn>, lengths: &[usize]) -> Result<IxDyn, Cause>
+    ensures lengths { IfOk result (λ dim. ⟦<IxDyn as Dimension>⟧.lengths dim ≡ lengths.now) }
+    ensures refused { MatchResult result (λ _. first_failed (reshape_tests lengths.now (shape_of array.now)) ≡ None) (λ cause. first_failed (reshape_tests lengths.now (shape_of array.now)) ≡ Some cause) }
+{
+    if lengths.len() > MAX_AXES {
+        return Err(Cause::TooManyAxes);
+    }
+    match size_of_shape_checked(lengths) {
+        Ok(size) if size == array.len() => Ok(IxDyn::new(lengths)),
+        _ => Err(Cause::Shape),
+    }
+}
+
+/// The elements under other lengths, or the refusal of these.
+fn to_shape<A: Clone + Eq + Drop>(
+    alloc: Global,
+    view: &ArrayView<'_, A, IxDyn>,
+    lengths: &[usize],
+    order: Order,
+) -> Result<Reply<A>, AllocError>
+    requires { (x y : A) → A.is_clone x y → y ≡ x }
+    ensures reply { IfOk result (λ reply. said_reply reply ≡ answer_or_refusal A.eq (AskReshaped lengths.now order) (meaning_of view.now)) }
+    ensures memory { OnErr result (first_failed (reshape_tests lengths.now (shape_of view.now)) ≡ None) }
+{
+    let dim = match reshape_dim(view, lengths) {
+        Ok(dim) => dim,
+        Err(cause) => return Ok(Reply::Refused(cause.number())),
+    };
+    let shape = lengths.to_vec(alloc)?;
+    match view.to_shape(alloc, (dim, order)) {
+        Ok(reshaped) => Ok(Reply::Elements(shape, elements(alloc, &reshaped.view())?)),
+        Err(_) => Err(AllocError),
+    }
+}
+
+/// The answer to a question, or its refusal.
 fn answer<A: Clone + Eq + Drop>(
     alloc: Global,
     view: &ArrayView<'_, A, IxDyn>,
     question: &Question<A>,
 ) -> Result<Reply<A>, AllocError>
     requires { (x y : A) → A.is_clone x y → y ≡ x }
-    ensures reply { IfOk result (λ reply. said_reply reply ≡ answer_to A.eq (asking question.now) (meaning_of view.now)) }
-    ensures memory { OnErr result (answers_in_memory (asking question.now) ≡ true) }
+    ensures reply { IfOk result (λ reply. said_reply reply ≡ answer_or_refusal A.eq (asking question.now) (meaning_of view.now)) }
+    ensures memory { OnErr result ((first_failed (question_tests (asking question.now) (shape_of view.now)) ≡ None) × (answers_in_memory (asking question.now) ≡ true)) }
 {
     match question {
         Question::Shape => Ok(Reply::Shape(view.shape().to_vec(alloc)?)),
@@ -104,6 +140,7 @@ fn answer<A: Clone + Eq + Drop>(
         Question::Last => told(view.last()),
         Question::EqualTo(other) => Ok(Reply::Truth(equal(view, other))),
         Question::Count(element) => Ok(Reply::Number(count(view, element))),
+        Question::ToShape(lengths, order) => to_shape(alloc, view, lengths.as_slice(), *order),
     }
 }
 
@@ -199,6 +236,25 @@ fn remove_index<A: Eq>(array: Array<A, IxDyn>, axis: usize, index: usize) -> Act
     }
 }
 
+/// Replaces the array by one of the same elements under other lengths. A refusal changes nothing.
+fn reshape<A: Clone + Eq + Drop>(
+    alloc: Global,
+    array: Array<A, IxDyn>,
+    lengths: &[usize],
+    order: Order,
+) -> Result<Acted<A>, AllocError>
+    requires { (x y : A) → A.is_clone x y → y ≡ x }
+    ensures { CarriesOut A.eq (Reshaping lengths.now order) (meaning_of array) meaning_of result }
+{
+    match reshape_dim(&array, lengths) {
+        Ok(dim) => match array.into_shape_clone(alloc, (dim, order)) {
+            Ok(reshaped) => Ok((Reply::Done, reshaped)),
+            Err(_) => Err(AllocError),
+        },
+        Err(cause) => Ok((Reply::Refused(cause.number()), array)),
+    }
+}
+
 /// Carries out one call.
 fn act<A: Clone + Eq + Drop>(
     alloc: Global,
@@ -220,6 +276,7 @@ fn act<A: Clone + Eq + Drop>(
         }
         Call::Select(axis, indexes) => select(alloc, array, *axis, indexes.as_slice()),
         Call::RemoveIndex(axis, index) => Ok(remove_index(array, *axis, *index)),
+        Call::Reshape(lengths, order) => reshape(alloc, array, lengths.as_slice(), *order),
     }
 }
 

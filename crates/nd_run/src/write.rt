@@ -2,6 +2,7 @@
 
 ghost use Rattle.std.specs.Prelude.{◌≡◌, ◌||◌, ℕ, true, List, map, Option, None, Some, IfOk, OnErr, if◌then◌else◌};
 ghost use Rattle.nd_shape_and_slice.specs.Shape.{in_box};
+ghost use Rattle.nd_shape_and_slice.specs.Broadcast.{broadcasts};
 ghost use Rattle.nd_array_core.specs.Meaning.{shape_of, element_at, meaning_of, storage_of, place_at, placed_array, inside};
 ghost use Rattle.nd_array_core.specs.base.Writes.{OthersStay};
 ghost use Rattle.nd_array_core.specs.scoped.Tasks.{view_frame, lent_frame, lent_view, view_left, CanBeSeen};
@@ -16,7 +17,7 @@ use crate::laws::paths_lead_along;
 use crate::steps::{keep_refusal, take_step};
 use nd_array_core::laws::{distinct_places, elements_have_places, nothing_outside};
 use nd_array_core::scoped::{LentView, PairTask, ViewTask};
-use nd_array_core::{Array, ArrayBase, Data, DataMut, ViewMutRepr};
+use nd_array_core::{Array, ArrayBase, Data, DataMut, OwnedRepr, ViewMutRepr};
 use nd_shape_and_slice::{Axis, Dimension, IxDyn};
 use std::alloc::AllocError;
 
@@ -51,12 +52,26 @@ fn index_refusal<S: Data>(array: &ArrayBase<S, IxDyn>, index: &[usize]) -> Optio
     }
 }
 
+fn broadcast_refusal<S: Data, Z: Data>(
+    array: &ArrayBase<S, IxDyn>,
+    other: &ArrayBase<Z, IxDyn>,
+) -> Option<Cause>
+    ensures { result ≡ (if broadcasts (shape_of other.now) (shape_of array.now) then None else Some Cause.Broadcast) }
+{
+    if other.broadcast(array.raw_dim()).is_some() {
+        None
+    } else {
+        Some(Cause::Broadcast)
+    }
+}
+
 /// The first cause for which one refuses an act on an array's elements.
 fn act_refusal<S: Data>(array: &ArrayBase<S, IxDyn>, act: &Act<S::Elem>) -> Option<Cause>
     ensures { result ≡ act_refusal (acting act.now) (shape_of array.now) }
 {
     match act {
         Act::Fill(_) => None,
+        Act::Assign(other) => broadcast_refusal(array, other),
         Act::Set(index, _) => index_refusal(array, index.as_slice()),
         Act::Swap(a, b) => {
             let refused = index_refusal(array, a.as_slice());
@@ -83,6 +98,10 @@ where
 {
     match act {
         Act::Fill(value) => match array.fill(value.clone()?) {
+            Ok(()) => Ok(()),
+            Err(_) => Err(AllocError),
+        },
+        Act::Assign(other) => match array.assign(other) {
             Ok(()) => Ok(()),
             Err(_) => Err(AllocError),
         },
@@ -192,9 +211,9 @@ where
 
 /// An act at the end of a path, done with a mutable view of the array.
 #[derive(Drop)]
-struct ActAlong<'p, A> {
+struct ActAlong<'p, A, S: Data<Elem = A> = OwnedRepr<A>> {
     path: &'p [Step],
-    act: &'p Act<A>,
+    act: &'p Act<A, S>,
 }
 
 impl<'p, A: Clone + Drop, D: Dimension> ViewTask<A, D> for ActAlong<'p, A> {
@@ -222,9 +241,9 @@ impl<'p, A: Clone + Drop, D: Dimension> ViewTask<A, D> for ActAlong<'p, A> {
 
 /// An act on each of two parts, done with mutable views of them.
 #[derive(Drop)]
-struct ActOnParts<'p, A> {
-    first: &'p Act<A>,
-    second: &'p Act<A>,
+struct ActOnParts<'p, A, S: Data<Elem = A> = OwnedRepr<A>> {
+    first: &'p Act<A, S>,
+    second: &'p Act<A, S>,
 }
 
 impl<'p, A: Clone + Drop, D: Dimension> PairTask<A, D, D> for ActOnParts<'p, A> {

@@ -38,7 +38,7 @@ fn bad_starts(rt: HostRuntime) {
 }
 
 // Each of these is a bad line.
-const BAD_CALLS: [&[u8]; 40] = [
+const BAD_CALLS: [&[u8]; 57] = [
     b"start 1 1 5",
     b"keep",
     b"keep shape",
@@ -68,6 +68,11 @@ const BAD_CALLS: [&[u8]; 40] = [
     b"ask count 1 1",
     b"ask count _",
     b"count 1",
+    b"ask reshape",
+    b"ask reshape row",
+    b"ask reshape 1 1",
+    b"ask reshape col 2 1",
+    b"ask reshape col 1 1 /",
     b"select",
     b"select 0",
     b"select 0 1",
@@ -79,10 +84,22 @@ const BAD_CALLS: [&[u8]; 40] = [
     b"removeindex 0 0 0",
     b"removeindex 0 -1",
     b"keep removeindex 0 0",
+    b"reshape",
+    b"reshape row",
+    b"reshape 1 1",
+    b"reshape row 1",
+    b"reshape row 1 1 1",
+    b"reshape col 1 -1",
+    b"reshape Row 1 1",
+    b"reshape column 1 1",
+    b"reshape row col 1 1",
+    b"reshape row 18446744073709551615 1",
+    b"keep reshape row 1 1",
+    b"row 1 1",
 ];
 
 // So is each of these: writes with a word too few or too many, or with one that is no such number.
-const BAD_WRITES: [&[u8]; 34] = [
+const BAD_WRITES: [&[u8]; 43] = [
     b"fill 1",
     b"write",
     b"write fill",
@@ -107,6 +124,15 @@ const BAD_WRITES: [&[u8]; 34] = [
     b"write swap 1 0 1",
     b"write swap 1 0 1 0 0",
     b"ask fill 1",
+    b"write assign",
+    b"write assign 1",
+    b"write assign 1 1",
+    b"write assign 1 1 5 5",
+    b"write assign 1 1 _",
+    b"write assign 1 9223372036854775808",
+    b"split 0 0 assign 1 1 5",
+    b"assign 1 1 5",
+    b"ask assign 1 1 5",
     b"split",
     b"split 0",
     b"split 0 0",

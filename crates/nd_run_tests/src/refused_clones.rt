@@ -5,7 +5,7 @@ ghost use Rattle.std.specs.Prelude.{◌≡◌};
 use nd_array_core::Array;
 use nd_run::run::{RunFault, run};
 use nd_run::{Act, Call, Question, Reply, Step};
-use nd_shape_and_slice::{IxDyn, Slice};
+use nd_shape_and_slice::{IxDyn, Order, Slice};
 use nd_test_arrays::{Refusing, Tally};
 use std::alloc::Global;
 use std::test::Fail;
@@ -137,6 +137,60 @@ fn refused_clones_of_writes(rt: HostRuntime) -> Result<(), Fail> {
     ] {
         let tally = Tally::allowing(allowed);
         assert_eq!(rt; writes_with(rt.alloc(), &tally)?, (replies, whole));
+        assert_eq!(rt; tally.living(), Some(0));
+    }
+    Ok(())
+}
+
+// An array of four elements with its axes exchanged, laid out as one axis, and then each element assigned from another
+// array.
+fn laid_out_and_assigned<A: Clone + Eq + Drop>(
+    alloc: Global,
+    start: Array<A, IxDyn>,
+    other: Array<A, IxDyn>,
+) -> Result<(usize, Option<Array<A, IxDyn>>), Fail>
+    requires { (x y : A) → A.is_clone x y → y ≡ x }
+{
+    let mut calls = Vec::new(alloc);
+    calls.push(Call::Keep(Step::Reverse))?;
+    calls.push(Call::Reshape(Vec::from_slice(alloc, &[4])?, Order::RowMajor))?;
+    calls.push(Call::Write(Vec::new(alloc), Act::Assign(other)))?;
+    match run(alloc, start, &calls) {
+        Ok((replies, array)) => Ok((replies.len(), Some(array))),
+        Err(RunFault::Memory(replies)) => Ok((replies.len(), None)),
+    }
+}
+
+fn assigned_with(alloc: Global, tally: &Tally) -> Result<(usize, bool), Fail> {
+    let items = Refusing::listed(alloc, &[1, 2, 3, 4], tally)?;
+    let start = Array::from_shape_vec(IxDyn::new(&[2, 2]), items)
+        .ok()
+        .ok_or("shape")?;
+    let items = Refusing::listed(alloc, &[7], tally)?;
+    let other = Array::from_shape_vec(IxDyn::new(&[1]), items)
+        .ok()
+        .ok_or("shape")?;
+    let (replies, end) = laid_out_and_assigned(alloc, start, other)?;
+    match end {
+        Some(array) => Ok((
+            replies,
+            number_at(&array, 0) == 7 && number_at(&array, 3) == 7,
+        )),
+        None => Ok((replies, false)),
+    }
+}
+
+#[test]
+fn refused_clones_of_other_lengths(rt: HostRuntime) -> Result<(), Fail> {
+    for (allowed, replies, whole) in [
+        (0, 1, false),
+        (3, 1, false),
+        (4, 2, false),
+        (7, 2, false),
+        (8, 3, true),
+    ] {
+        let tally = Tally::allowing(allowed);
+        assert_eq!(rt; assigned_with(rt.alloc(), &tally)?, (replies, whole));
         assert_eq!(rt; tally.living(), Some(0));
     }
     Ok(())

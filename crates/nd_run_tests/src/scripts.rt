@@ -112,6 +112,61 @@ fn coordinates_taken_out(rt: HostRuntime) {
 }
 
 #[test]
+fn other_lengths(rt: HostRuntime) {
+    let table: [(&[u8], &[u8]); 6] = [
+        (
+            b"start 2 2 3 1 2 3 4 5 6\nreshape col 2 3 2\nask shape\nreshape row 1 6\n",
+            b"done\nshape 2 3 2\ndone\nend 1 6 1 5 4 3 2 6\n",
+        ),
+        // another number of elements, no checked size, and too many axes
+        (
+            b"start 1 4 1 2 3 4\nreshape row 1 3\nreshape row 0\nreshape col 2 9223372036854775807 2\nreshape row 33 1 1 1 1 1 1 1 1 1 1 1 1 1 1 1 1 1 1 1 1 1 1 1 1 1 1 1 1 1 1 1 1 1\nreshape col 2 2 2\n",
+            b"refused 5\nrefused 5\nrefused 5\nrefused 7\ndone\nend 2 2 2 1 3 2 4\n",
+        ),
+        // no elements
+        (
+            b"start 2 3 0\nreshape row 3 0 5 9223372036854775807\nreshape col 2 0 7\nask shape\nreshape row 1 1\nreshape row 1 0\n",
+            b"refused 5\ndone\nshape 2 0 7\nrefused 5\ndone\nend 1 0\n",
+        ),
+        // strides that serve no other lengths
+        (
+            b"start 2 2 3 1 2 3 4 5 6\nkeep permute 2 1 0\nreshape row 1 6\nreshape row 2 2 3\nkeep invert 1\nask elements\nreshape col 2 3 2\n",
+            b"done\ndone\ndone\ndone\narray 2 2 3 2 4 1 6 3 5\ndone\nend 2 3 2 2 3 6 1 4 5\n",
+        ),
+        (
+            b"start 0 7\nreshape row 3 1 1 1\nask shape\nreshape col 0\n",
+            b"done\nshape 3 1 1 1\ndone\nend 0 7\n",
+        ),
+        // 32 axes
+        (
+            b"start 1 1 5\nreshape col 32 1 1 1 1 1 1 1 1 1 1 1 1 1 1 1 1 1 1 1 1 1 1 1 1 1 1 1 1 1 1 1 1\nreshape col 0\n",
+            b"done\ndone\nend 0 5\n",
+        ),
+    ];
+    written(&rt, rt.alloc(), &table);
+}
+
+#[test]
+fn elements_under_other_lengths(rt: HostRuntime) {
+    let table: [(&[u8], &[u8]); 3] = [
+        (
+            b"start 2 2 4 1 2 3 4 5 6 7 8\nask cut 1 0 _ 2 / reshape col 2 4 1\nask reverse / reshape row 2 2 4\nask index 2 0 / reshape row 1 1\nask reshape row 1 7\nask reshape row 33 1 1 1 1 1 1 1 1 1 1 1 1 1 1 1 1 1 1 1 1 1 1 1 1 1 1 1 1 1 1 1 1 1\n",
+            b"array 2 4 1 1 5 3 7\narray 2 2 4 1 5 2 6 3 7 4 8\nrefused 1\nrefused 5\nrefused 7\nend 2 2 4 1 2 3 4 5 6 7 8\n",
+        ),
+        (
+            b"start 2 3 0\nkeep remove 1\nask diag / shape\nkeep invert 1\nask reshape row 2 0 7\nask reshape row 3 0 5 9223372036854775807\n",
+            b"refused 2\nshape 1 0\ndone\narray 2 0 7\nrefused 5\nend 2 3 0\n",
+        ),
+        // elements that repeat
+        (
+            b"start 1 1 5\nkeep broadcast 1 3\nask broadcast 2 2 3 / reshape row 1 6\nsplit 0 1 fill 9 / set 1 0 1\n",
+            b"refused 8\narray 1 6 5 5 5 5 5 5\nrefused 2\nend 1 1 5\n",
+        ),
+    ];
+    written(&rt, rt.alloc(), &table);
+}
+
+#[test]
 fn scripts(rt: HostRuntime) {
     let table: [(&[u8], &[u8]); 8] = [
         // a slice of a list of cubes

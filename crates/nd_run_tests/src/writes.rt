@@ -44,6 +44,36 @@ fn writes(rt: HostRuntime) {
 }
 
 #[test]
+fn assigned(rt: HostRuntime) {
+    let table: [(&[u8], &[u8]); 5] = [
+        (
+            b"start 2 2 2 1 2 3 4\nwrite reverse / assign 1 2 8 9\nwrite assign 1 3 1 2 3\nask count 8\n",
+            b"done\nrefused 8\nnumber 2\nend 2 2 2 8 8 9 9\n",
+        ),
+        // more axes than the array's, and a refused step before
+        (
+            b"start 1 3 1 2 3\nwrite assign 2 1 3 1 2 3\nwrite index 0 4 / assign 1 9 0 0 0 0 0 0 0 0 0\nwrite broadcast 2 3 3 / assign 0 1\nwrite invert 0 / assign 1 3 1 2 3\n",
+            b"refused 8\nrefused 2\nrefused 8\ndone\nend 1 3 3 2 1\n",
+        ),
+        // the two parts of a split: both arrays are checked before either is written
+        (
+            b"start 1 3 1 2 3\nsplit 0 1 assign 1 1 5 / assign 1 3 0 0 0\nsplit 0 1 assign 1 2 1 1 / set 1 9 0\nsplit 0 1 fill 0 / assign 1 3 4 5 6\nsplit 0 1 assign 0 7 / assign 1 2 8 9\n",
+            b"refused 8\nrefused 8\nrefused 8\ndone\nend 1 3 7 8 9\n",
+        ),
+        // no elements, and one element without axes
+        (
+            b"start 2 3 0\nwrite assign 2 1 0\nwrite assign 1 1 5\nwrite assign 1 2 5 6\n",
+            b"done\ndone\nrefused 8\nend 2 3 0\n",
+        ),
+        (
+            b"start 0 7\nwrite assign 1 1 8\nwrite assign 0 9\n",
+            b"refused 8\ndone\nend 0 9\n",
+        ),
+    ];
+    written(&rt, rt.alloc(), &table);
+}
+
+#[test]
 fn splits(rt: HostRuntime) {
     let table: [(&[u8], &[u8]); 5] = [
         // one value on each side of a column

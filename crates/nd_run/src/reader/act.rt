@@ -8,7 +8,7 @@ ghost use Rattle.nd_run.specs.Reading.{Gives, act_at, acts_at};
 use crate::calls::Act;
 use crate::keyword::Keyword;
 use crate::reader::fault::LineFault;
-use crate::reader::items::{keyword, list, number, slash};
+use crate::reader::items::{array, keyword, list, number, slash};
 use std::alloc::Global;
 
 /// An act.
@@ -22,6 +22,7 @@ pub fn act(alloc: Global, line: &[u8]) -> Result<(Act<i64>, &[u8]), LineFault>
             let (value, rest) = number::<i64>(rest)?;
             Ok((Act::Fill(value), rest))
         }
+        Keyword::Assign => array(alloc, rest).map(|(other, rest)| (Act::Assign(other), rest)),
         Keyword::Set => {
             let (index, rest) = list(alloc, rest)?;
             let (value, rest) = number::<i64>(rest)?;

@@ -5,14 +5,14 @@ ghost use Rattle.nd_shape_and_slice.specs.Shape.{HasCheckedSize, size_of};
 ghost use Rattle.nd_array_core.specs.Meaning.{meaning_of};
 ghost use Rattle.nd_run.specs.Grammar.{array_of};
 ghost use Rattle.nd_run.specs.Words.{words_of};
-ghost use Rattle.nd_run.specs.Reading.{Gives, word_at, item_at, many_at, pair_at, list_at, lengths_at, parts_at, array_at, checked_size, keyword_at, slash_at};
+ghost use Rattle.nd_run.specs.Reading.{Gives, word_at, item_at, many_at, pair_at, list_at, order_at, ordered_list_at, lengths_at, parts_at, array_at, checked_size, keyword_at, slash_at};
 
 use crate::keyword::Keyword;
 use crate::numbers::Number;
 use crate::reader::fault::LineFault;
 use crate::words::{has_words, split_word};
 use nd_array_core::Array;
-use nd_shape_and_slice::{IxDyn, size_of_shape_checked};
+use nd_shape_and_slice::{IxDyn, Order, size_of_shape_checked};
 use std::alloc::Global;
 
 /// The first word.
@@ -92,6 +92,29 @@ pub fn list(alloc: Global, line: &[u8]) -> Result<(Vec<usize>, &[u8]), LineFault
 {
     let (count, rest) = number::<usize>(line)?;
     numbers::<usize>(alloc, count, rest)
+}
+
+/// An ORDER.
+#[tactic(auto, unfolding(crate::specs::Reading::named_at))]
+fn order(line: &[u8]) -> Result<(Order, &[u8]), LineFault>
+    ensures { Gives (λ x. (x.0, words_of x.1.now)) result (order_at (words_of line.now)) }
+{
+    let (first, rest) = keyword(line)?;
+    match first {
+        Keyword::Row => Ok((Order::RowMajor, rest)),
+        Keyword::Column => Ok((Order::ColumnMajor, rest)),
+        _ => Err(LineFault::Bad),
+    }
+}
+
+/// An ORDER, and then a LIST.
+#[tactic(auto, unfolding(crate::specs::Reading::both_at))]
+pub fn ordered_list(alloc: Global, line: &[u8]) -> Result<((Order, Vec<usize>), &[u8]), LineFault>
+    ensures { Gives (λ x. ((x.0.0, x.0.1.items), words_of x.1.now)) result (ordered_list_at (words_of line.now)) }
+{
+    let (order, rest) = order(line)?;
+    let (lengths, rest) = list(alloc, rest)?;
+    Ok(((order, lengths), rest))
 }
 
 /// The lengths of an array: a list of at most 32 numbers.

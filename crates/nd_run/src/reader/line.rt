@@ -10,7 +10,7 @@ use crate::calls::{Call, Question, Step};
 use crate::keyword::Keyword;
 use crate::reader::act::{act, acts};
 use crate::reader::fault::LineFault;
-use crate::reader::items::{array, keyword, list, number, pair, slash};
+use crate::reader::items::{array, keyword, list, number, ordered_list, pair, slash};
 use crate::reader::step::{begins_step, step};
 use crate::words::split_word;
 use nd_array_core::Array;
@@ -63,6 +63,10 @@ fn question(alloc: Global, line: &[u8]) -> Result<(Question<i64>, &[u8]), LineFa
             Ok((Question::EqualTo(other), rest))
         }
         Keyword::Count => number(rest).map(|(element, rest)| (Question::Count(element), rest)),
+        Keyword::Reshape => ordered_list(alloc, rest).map(|((order, lengths), rest)| (
+            Question::ToShape(lengths, order),
+            rest,
+        )),
         _ => Err(LineFault::Bad),
     }
 }
@@ -100,6 +104,10 @@ fn any_call(alloc: Global, most: usize, line: &[u8]) -> Result<(Call<i64>, &[u8]
         Keyword::RemoveIndex => {
             pair(rest).map(|((axis, index), rest)| (Call::RemoveIndex(axis, index), rest))
         }
+        Keyword::Reshape => ordered_list(alloc, rest).map(|((order, lengths), rest)| (
+            Call::Reshape(lengths, order),
+            rest,
+        )),
         _ => Err(LineFault::Bad),
     }
 }

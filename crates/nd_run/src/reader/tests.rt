@@ -1,7 +1,7 @@
 use super::read_script;
 use crate::calls::{Act, Call, Question, Step};
 use crate::reader::fault::ScriptError;
-use nd_shape_and_slice::Slice;
+use nd_shape_and_slice::{Order, Slice};
 
 // Whether these are the calls of `CALLS`.
 fn are_calls(calls: &[Call<i64>]) -> bool {
@@ -47,5 +47,32 @@ fn calls_are_read(rt: HostRuntime) -> Result<(), ScriptError> {
     assert!(rt; script.start.shape().is_empty());
     assert_eq!(rt; script.start.get(no_coordinates).copied(), Some(7));
     assert!(rt; are_calls(&script.calls));
+    Ok(())
+}
+
+// Whether these are a call, a question and an act of other lengths and of an array.
+fn are_of_other_lengths(calls: &[Call<i64>]) -> bool {
+    match calls {
+        [
+            Call::Reshape(lengths, Order::ColumnMajor),
+            Call::Ask(path, Question::ToShape(to, Order::RowMajor)),
+            Call::Write(_, Act::Assign(other)),
+        ] => {
+            lengths.as_slice() == [3, 4].as_slice()
+                && path.len() == 1
+                && to.as_slice() == [6].as_slice()
+                && other.shape() == [2].as_slice()
+                && other.get([1]).copied() == Some(-6)
+        }
+        _ => false,
+    }
+}
+
+#[test]
+fn other_lengths_are_read(rt: HostRuntime) -> Result<(), ScriptError> {
+    let text =
+        b"start 0 7\nreshape col 2 3 4\nask reverse / reshape row 1 6\nwrite assign 1 2 5 -6\n";
+    let script = read_script(rt.alloc(), text)?;
+    assert!(rt; are_of_other_lengths(&script.calls));
     Ok(())
 }

@@ -21,8 +21,11 @@ pub returns-in-Ok-clause-memory : goal.returns-in-Ok-clause-memory
 returns-in-Ok-clause-memory g c =
     let path = map asked_step c.args.path.now in
     let m = meaning_of c.args.array.now in
+    let n = meaning_of c.in-Ok.view in
+    let same : meaning_of c.view.result ≡ m = same_meaning m (meaning_of c.view.result) c.view.ensures.whole.0 c.view.ensures.whole.2 in
     let free : look_refusal path m.shape ≡ None = ap (look_refusal path) (sym c.view.ensures.whole.0) ∙ c.in-Ok.ensures.refused in
-    ask_lacks g.A.PartialEq.eq path (asking c.args.question.now) m c.answer.result free c.answer.ensures.memory
+    let end : n ≡ meaning_at_end path m = leads_is path (meaning_of c.view.result) n c.in-Ok.ensures.along c.nothing_outside.ensures ∙ ap (meaning_at_end path) same in
+    ask_lacks g.A.PartialEq.eq path (asking c.args.question.now) m n c.answer.result free end c.answer.ensures.memory
 
 pub returns-in-Err-clause-reply : goal.returns-in-Err-clause-reply
 returns-in-Err-clause-reply g c =
