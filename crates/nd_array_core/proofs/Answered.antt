@@ -10,13 +10,13 @@ use Rattle.nd_array_core.specs.base.Fresh.{BuiltShape, found_by_rank}
 use Rattle.nd_array_core.proofs.FreeOrder.{IsNumbering, listed, listed_part, listed_all, folds_weaker, folds_more, done_at_each}
 use Rattle.nd_array_core.proofs.Numbered.{order_numbers}
 
-got_last : {A : Type 0} (xs : List A) (y : A) (k : ℕ) → length xs ≡ k → slice_get (xs ++ y ∷ []) k ≡ Some y
+pub got_last : {A : Type 0} (xs : List A) (y : A) (k : ℕ) → length xs ≡ k → slice_get (xs ++ y ∷ []) k ≡ Some y
 got_last [] y zero e = refl
 got_last [] y (suc k) e = absurd (omega (arith, e))
 got_last (x ∷ xs) y zero e = absurd (omega (arith, e))
 got_last (x ∷ xs) y (suc k) e = got_last xs y k (omega (arith, e))
 
-got_still : {A : Type 0} (xs ys : List A) (k : ℕ) (y : A) → slice_get xs k ≡ Some y → slice_get (xs ++ ys) k ≡ Some y
+pub got_still : {A : Type 0} (xs ys : List A) (k : ℕ) (y : A) → slice_get xs k ≡ Some y → slice_get (xs ++ ys) k ≡ Some y
 got_still [] ys k y e = cc
 got_still (x ∷ xs) ys zero y e = e
 got_still (x ∷ xs) ys (suc k) y e = got_still xs ys k y e

@@ -1,14 +1,13 @@
 -- The lanes of an axis, by the indexes of the other axes: what lies along them, and what they are folded to.
-use Rattle.std.proofs.Common.{◌≡◌, ℕ, zero, suc, ◌+◌, ◌<◌, ◌≤◌, Bool, true, false, List, [], ◌∷◌, ◌++◌, length, get_or, ltb, ◌&&◌, ℤ, pos, ◌+ℤ◌, ◌*ℤ◌, refl, ap, sym, ◌∙◌, subst, arith}
-use Rattle.std.specs.Prelude.{Option, None, Some, is_some}
+use Rattle.std.proofs.Common.{◌≡◌, ℕ, ◌<◌, ◌≤◌, true, List, length, get_or, ltb, ℤ, pos, ◌+ℤ◌, ◌*ℤ◌, ap, sym, ◌∙◌, subst, arith}
+use Rattle.std.specs.Prelude.{Option}
 use Rattle.std.specs.Borrow.{Bor}
-use Rattle.std.specs.Fn.{Mut, Called}
-use Rattle.std.specs.List.{fold, insert, remove, cons_option}
+use Rattle.std.specs.Fn.{Mut}
+use Rattle.std.specs.List.{insert, remove}
 use Rattle.std.proofs.lemmas.Bool.{and_from, lt-ltb}
-use Rattle.std.proofs.lemmas.List.Sums.{fold-append}
 use Rattle.nd_shape_and_slice.specs.Shape.{in_box, size_of, index_at}
 use Rattle.nd_shape_and_slice.specs.Maps.{indexed_shape, indexed_index}
-use Rattle.nd_shape_and_slice.specs.Place.{place_of, displacement_of}
+use Rattle.nd_shape_and_slice.specs.Place.{place_of}
 use Rattle.nd_shape_and_slice.proofs.RowMajor.{length-in_box}
 use Rattle.nd_shape_and_slice.proofs.RankIndexes.{in_box-index_at}
 use Rattle.nd_layout.proofs.Integers.{sums, zero-mul}
@@ -16,17 +15,16 @@ use Rattle.nd_layout.proofs.Removed.{displacement_of-inserted, in_box-inserted}
 use Rattle.nd_layout.specs.Places.{is_place, ReachesPlaces}
 use Rattle.nd_layout.specs.Steps.{IsStep}
 use Rattle.nd_layout.specs.Walk.{place_at_rank}
-use Rattle.nd_array_core.specs.Collected.{collected, stored_along}
+use Rattle.nd_array_core.specs.Collected.{stored_along}
 use Rattle.nd_array_core.specs.Meaning.{inside}
 use Rattle.nd_array_core.specs.Places.{stored_at, names_place, HoldsAll}
 use Rattle.nd_array_core.specs.elements.Folds.{RanTo}
-use Rattle.nd_array_core.specs.along.AxisFolds.{lane_at, FoldsShown, MayFold, FoldsLane, TakesFold, FoldsShownBy, FoldsLaneAt, FoldsAxis, AreFoldedBy}
-use Rattle.nd_array_core.proofs.Answered.{answers_settled}
+use Rattle.nd_array_core.specs.along.AxisFolds.{lane_at, FoldsShown, FoldsRun, TakesRun}
 use Rattle.nd_array_core.proofs.Ran.{ran_weaker}
 
 module _ (offset : ℕ) (ns : List ℕ) (ss : List ℤ) (a : ℕ) (on : a < length ns) (many : length ss ≡ length ns) (start : ℕ) (us : List ℤ) (step : IsStep offset ns ss start (indexed_shape ns a) us (indexed_index a 0)) (fewer : a ≤ length (remove ns a)) where
   -- the place and the index of the k-th of a lane
-  lane_in : (r k : ℕ) → r < size_of (remove ns a) → k < get_or ns a 0 → in_box ns (insert (index_at (remove ns a) r) a k) ≡ true
+  pub lane_in : (r k : ℕ) → r < size_of (remove ns a) → k < get_or ns a 0 → in_box ns (insert (index_at (remove ns a) r) a k) ≡ true
   lane_in r k below within =
       let o = index_at (remove ns a) r in
       in_box-inserted ns o a k on ∙ and_from (ltb k (get_or ns a 0)) (in_box (remove ns a) o) (lt-ltb k (get_or ns a 0) within) (in_box-index_at (remove ns a) r below)
@@ -61,36 +59,15 @@ module _ (offset : ℕ) (ns : List ℕ) (ss : List ℤ) (a : ℕ) (on : a < leng
 module _ {F B A : Type 0} (g : Mut F (Bor B × (Bor A × Unit {0})) B) where
   -- the same of two lanes with the same elements
   module _ (found other : ℕ → Option A) (n m : ℕ) (long : n ≡ m) (same : (k : ℕ) → k < n → found k ≡ other k) (init start : B) (starts : start ≡ init) (f : F) where
-    pub takes_same : TakesFold g other m init f → TakesFold g found n start f
+    pub takes_same : TakesRun g other m init f → TakesRun g found n start f
     takes_same takes k now below run b x total is =
         takes k now (subst (λ p. k < p) long below)
         (subst (λ v. RanTo (λ p j q. FoldsShown g (other j) p q) (f, v) k now) starts
         (ran_weaker (λ p j q. FoldsShown g (found j) p q) (λ p j q. FoldsShown g (other j) p q) (f, start) now k (λ p j q under call. subst (λ o. FoldsShown g o p q) (same j (omega (arith, under, below))) call) run))
         b x total (sym (same k below) ∙ is)
 
-    pub folds_same : (y : B) (f' : F) → FoldsLane g found n start f y f' → FoldsLane g other m init f y f'
+    pub folds_same : (y : B) (f' : F) → FoldsRun g found n start f y f' → FoldsRun g other m init f y f'
     folds_same y f' run =
         subst (λ p. RanTo (λ p j q. FoldsShown g (other j) p q) (f, init) p (f', y)) long
         (subst (λ v. RanTo (λ p j q. FoldsShown g (other j) p q) (f, v) n (f', y)) starts
         (ran_weaker (λ p j q. FoldsShown g (found j) p q) (λ p j q. FoldsShown g (other j) p q) (f, start) (f', y) n (λ p j q under call. subst (λ o. FoldsShown g o p q) (same j under) call) run))
-
-  -- where the closure answers h, the fold is that of h
-  pub lane_folded : (found : ℕ → Option A) (init : B) (f : F) (h : B → A → B) → FoldsShownBy g h f → (n : ℕ) (last : F × B) → RanTo (λ p k q. FoldsShown g (found k) p q) (f, init) n last → (last.0 ≡ f) × (last.1 ≡ fold h init (collected found n))
-  lane_folded found init f h by zero last run = (ap (λ s. s.0) run, ap (λ s. s.1) run)
-  lane_folded found init f h by (suc n) last run =
-      let so_far = lane_folded found init f h by n run.0 run.1 in
-      let call = run.2 in
-      let b = call.0 in
-      let x = call.1 in
-      let called : Called g f (b, (x, tt)) last.1 last.0 = subst (λ s. Called g s (b, (x, tt)) last.1 last.0) so_far.0 call.4 in
-      let gives = by b x last.1 last.0 called in (
-        gives.0,
-        gives.1 ∙ (ap (λ v. h v x.now) (call.2 ∙ so_far.1) ∙ (sym (fold-append h init (collected found n) (x.now ∷ [])) ∙ ap (λ o. fold h init (collected found n ++ cons_option o [])) (sym call.3))),
-      )
-
-  -- so in each lane
-  pub axis_folded : (shape : List ℕ) (at : List ℕ → Option A) (a : ℕ) (init : B) (f : F) (result : List ℕ → Option B) → ((i : List ℕ) → in_box (indexed_shape shape a) i ≡ false → result i ≡ None)
-      → FoldsAxis g shape at a init f result → (h : B → A → B) → FoldsShownBy g h f → AreFoldedBy h shape at a init result
-  axis_folded shape at a init f result outside folds h by =
-      answers_settled (FoldsLaneAt g at a (get_or shape a 0) init) (indexed_shape shape a) f result (λ i. fold h init (collected (lane_at at a i) (get_or shape a 0)))
-      (λ i y q inbox run. lane_folded (lane_at at a i) init f h by (get_or shape a 0) (q, y) run) outside folds

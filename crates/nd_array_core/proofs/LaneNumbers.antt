@@ -29,7 +29,7 @@ pub lane_number_below : (lanes w r k : ℕ) → r < lanes → k < w → r * w + 
 lane_number_below lanes w r k on below = let fits = row_fits r w lanes w on (omega arith) in omega (arith, fits, below)
 
 -- what a list by numbers has at each of them
-longer : (xs : List (List ℕ)) (y : List ℕ) → length (xs ++ y ∷ []) ≡ suc (length xs)
+pub longer : {A : Type 0} (xs : List A) (y : A) → length (xs ++ y ∷ []) ≡ suc (length xs)
 longer [] y = refl
 longer (x ∷ xs) y = ap suc (longer xs y)
 
@@ -37,12 +37,12 @@ many_listed : (index : ℕ → List ℕ) (n : ℕ) → length (listed index n) �
 many_listed index zero = refl
 many_listed index (suc n) = longer (listed index n) (index n) ∙ ap suc (many_listed index n)
 
-got_before : (xs : List (List ℕ)) (y : List ℕ) (k : ℕ) → k < length xs → slice_get (xs ++ y ∷ []) k ≡ slice_get xs k
+pub got_before : {A : Type 0} (xs : List A) (y : A) (k : ℕ) → k < length xs → slice_get (xs ++ y ∷ []) k ≡ slice_get xs k
 got_before [] y k below = absurd (omega (arith, below))
 got_before (x ∷ xs) y zero below = refl
 got_before (x ∷ xs) y (suc k) below = got_before xs y k (omega (arith, below))
 
-got_end : (xs : List (List ℕ)) (y : List ℕ) (k : ℕ) → length xs ≡ k → slice_get (xs ++ y ∷ []) k ≡ Some y
+pub got_end : {A : Type 0} (xs : List A) (y : A) (k : ℕ) → length xs ≡ k → slice_get (xs ++ y ∷ []) k ≡ Some y
 got_end [] y zero e = refl
 got_end [] y (suc k) e = absurd (omega (arith, e))
 got_end (x ∷ xs) y zero e = absurd (omega (arith, e))
@@ -53,7 +53,7 @@ got_below [] k i e = cc
 got_below (x ∷ xs) zero i e = omega arith
 got_below (x ∷ xs) (suc k) i e = let rest = got_below xs k i e in omega (arith, rest)
 
-listed_at : (index : ℕ → List ℕ) (n k : ℕ) → k < n → slice_get (listed index n) k ≡ Some (index k)
+pub listed_at : (index : ℕ → List ℕ) (n k : ℕ) → k < n → slice_get (listed index n) k ≡ Some (index k)
 listed_at index zero k below = absurd (omega (arith, below))
 listed_at index (suc n) k below =
     ⊎_elim
@@ -64,7 +64,7 @@ listed_at index (suc n) k below =
 some_same : {A : Type 0} (x y : A) → Some x ≡ Some y → x ≡ y
 some_same x y e = cc
 
-listed_has : (index : ℕ → List ℕ) (n k : ℕ) (i : List ℕ) → slice_get (listed index n) k ≡ Some i → (k < n) × (i ≡ index k)
+pub listed_has : (index : ℕ → List ℕ) (n k : ℕ) (i : List ℕ) → slice_get (listed index n) k ≡ Some i → (k < n) × (i ≡ index k)
 listed_has index n k i e =
     let long = many_listed index n in
     let below = got_below (listed index n) k i e in

@@ -28,6 +28,7 @@ pub mod Replaced
 pub mod FoldOrder
 pub mod Folded
 pub mod Changed
+pub mod Handed
 pub mod Rewritten
 pub mod Paired
 pub mod Assigned
@@ -54,10 +55,24 @@ pub mod Comparing
 pub mod Feeding
 pub mod Quotients
 mod Selecting
+mod GrownArrays
+pub mod CloneRefusals
+pub mod SlicedBack
+mod JoinedInTurn
+mod Pushed
+mod GoneOn
 mod AxisLanes
+mod AxisNumbers
+mod AxisFolds
+mod AxisBeside
+mod LentLanes
+mod HandedLanes
+pub mod ShownLanes
 mod Rotating
 mod AxisIndexes
 mod Removing
+mod RunsBehind
+mod Seats
 mod Taking
 mod LaidAnew
 mod Reserved

@@ -48,7 +48,7 @@ got_below [] k x e = absurd cc
 got_below (y ∷ ys) zero x e = omega arith
 got_below (y ∷ ys) (suc k) x e = let below = got_below ys k x e in omega (arith, below)
 
-got_item : {A : Type 0} (xs : List A) (k : ℕ) (o : Option A) → k < length xs → ((d : A) → o ≡ Some (get_or xs k d)) → slice_get xs k ≡ o
+pub got_item : {A : Type 0} (xs : List A) (k : ℕ) (o : Option A) → k < length xs → ((d : A) → o ≡ Some (get_or xs k d)) → slice_get xs k ≡ o
 got_item [] k o below each = absurd (omega (arith, below))
 got_item (x ∷ xs) zero o below each = sym (each x)
 got_item (x ∷ xs) (suc k) o below each = got_item xs k o (omega (arith, below)) each

@@ -94,9 +94,8 @@ module _ {A : Type 0} (stored : ℕ → Option A) (offset : ℕ) (ns : List ℕ)
           let e : m ≡ n = omega (arith, equal) in
           above_low-is ns ss i h ∙ ap (λ k. neg_ℤ (pos (reach_down ns ss)) +ℤ pos k) e ∙ sym (above_low-is ns ss j q)
 
-      full_lies : LiesAlong ns place at xs
+      full_lies : LiesAlong ns low place at xs
       full_lies = record {
-        first = low;
         count = count;
         within = λ i h.
             let k = above_low ns ss (displacement_of ss i) in
@@ -121,9 +120,8 @@ module _ {A : Type 0} (stored : ℕ → Option A) (offset : ℕ) (ns : List ℕ)
           ap (stored_at (slice_get xs)) (there ∙ ap pos nothing) ∙ sym (shown i k h below (at_place i k is))
 
   -- and where there is none
-  empty_lies : (xs : List A) → length xs ≡ size_of ns → size_of ns ≡ 0 → LiesAlong ns place at xs
+  empty_lies : (xs : List A) → length xs ≡ size_of ns → size_of ns ≡ 0 → LiesAlong ns low place at xs
   empty_lies xs count none = record {
-    first = low;
     count = count;
     within = λ i h. absurd (omega (arith, none, row_rank_below ns i h));
     each = λ k below. absurd (omega (arith, none, below));
@@ -140,9 +138,9 @@ module _ {A : Type 0} (stored : ℕ → Option A) (offset : ℕ) (ns : List ℕ)
         full_has (run_strides ns ss long some run) (run_span ns ss long some run) some k below)
         which
 
-    pub run_lies : (xs : List A) → length xs ≡ size_of ns → ((k : ℕ) (d : A) → k < size_of ns → stored (low + k) ≡ Some (get_or xs k d)) → LiesAlong ns place at xs
+    pub run_lies : (xs : List A) → length xs ≡ size_of ns → ((k : ℕ) (d : A) → k < size_of ns → stored (low + k) ≡ Some (get_or xs k d)) → LiesAlong ns low place at xs
     run_lies xs count held =
-        none_or_some (LiesAlong ns place at xs) (size_of ns)
+        none_or_some (LiesAlong ns low place at xs) (size_of ns)
         (λ none. empty_lies xs count none)
         (λ some.
         ⊎_elim
@@ -165,12 +163,13 @@ module _ {A : Type 0} (stored : ℕ → Option A) (offset : ℕ) (ns : List ℕ)
             ap (inside ns i) same ∙ inside_twice ns i (stored_at stored (place_of offset ss i))
 
 -- two arrays with the same shape, places and elements have the same elements in the order of their places
-module _ {A : Type 0} {shape shape' : List ℕ} {place place' : List ℕ → Option ℕ} {at at' : List ℕ → Option A} {xs : List A} where
-  pub lies_alike : shape ≡ shape' → ((i : List ℕ) → place i ≡ place' i) → ((i : List ℕ) → at i ≡ at' i) → LiesAlong shape place at xs → LiesAlong shape' place' at' xs
-  lies_alike same places elements lies =
-      let one = subst (λ ns. LiesAlong ns place at xs) same lies in
-      let two = subst (λ f. LiesAlong shape' f at xs) (fun_ext places) one in
-      subst (λ f. LiesAlong shape' place' f xs) (fun_ext elements) two
+module _ {A : Type 0} {shape shape' : List ℕ} {first first' : ℕ} {place place' : List ℕ → Option ℕ} {at at' : List ℕ → Option A} {xs : List A} where
+  pub lies_alike : shape ≡ shape' → first ≡ first' → ((i : List ℕ) → place i ≡ place' i) → ((i : List ℕ) → at i ≡ at' i) → LiesAlong shape first place at xs → LiesAlong shape' first' place' at' xs
+  lies_alike same start places elements lies =
+      let one = subst (λ ns. LiesAlong ns first place at xs) same lies in
+      let two = subst (λ p. LiesAlong shape' p place at xs) start one in
+      let three = subst (λ f. LiesAlong shape' first' f at xs) (fun_ext places) two in
+      subst (λ f. LiesAlong shape' first' place' f xs) (fun_ext elements) three
 
 module _ (ns : List ℕ) (ss : List ℤ) (long : length ss ≡ length ns) (which : (size_of ns ≡ 0) ⊎ IsRun ns ss) where
   pub run_apart : 0 < size_of ns → IsSeparated ns ss
@@ -188,8 +187,8 @@ module _ (ns : List ℕ) (ss : List ℤ) (long : length ss ≡ length ns) (which
       given_holds (slice_get xs) ns ss (λ p below. is_there xs p (omega (arith, below, asked, count))) i h
 
 -- clones of what lies along a list are clones of its items
-pub lies_clones : {A : Type 0} {shape : List ℕ} {place : List ℕ → Option ℕ} {at : List ℕ → Option A} (is_clone : A → A → Type 0) (xs : List A) → LiesAlong shape place at xs → ClonesOfAllAreEqual is_clone at → StoredClonesAreEqual is_clone xs
-lies_clones {A} {shape} {place} {at} is_clone xs lies equal p x e = by_cases (slice_get_cases xs p).1
+pub lies_clones : {A : Type 0} {shape : List ℕ} {first : ℕ} {place : List ℕ → Option ℕ} {at : List ℕ → Option A} (is_clone : A → A → Type 0) (xs : List A) → LiesAlong shape first place at xs → ClonesOfAllAreEqual is_clone at → StoredClonesAreEqual is_clone xs
+lies_clones {A} {shape} {first} {place} {at} is_clone xs lies equal p x e = by_cases (slice_get_cases xs p).1
   where
     by_cases : ((y : A) × (p < length xs) × (slice_get xs p ≡ Some y) × (get_or xs p y ≡ y)) ⊎ ((length xs ≤ p) × (slice_get xs p ≡ None)) → ClonesAreEqual is_clone x
     by_cases (inl there) =

@@ -23,7 +23,7 @@ gathered f (i ∷ is) (x ∷ xs) long each =
 
 module _ {A : Type 0} (stored : ℕ → Option A) (offset : ℕ) (ns : List ℕ) (ss : List ℤ) (standard : IsStandard ns ss) where
   -- the index of a rank lies at the offset plus that rank
-  rank_place : (k : ℕ) → k < size_of ns → place_of offset ss (index_at ns k) ≡ pos (offset + k)
+  pub rank_place : (k : ℕ) → k < size_of ns → place_of offset ss (index_at ns k) ≡ pos (offset + k)
   rank_place k below =
       let h = in_box-index_at ns k below in
       omega (arith, sums, standard (index_at ns k) h, row_rank-index_at ns k below)

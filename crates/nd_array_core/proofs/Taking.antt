@@ -1,15 +1,21 @@
 -- Elements taken out of their seats, one place after another.
-use Rattle.std.proofs.Common.{◌≡◌, ℕ, zero, suc, ◌+◌, ◌<◌, ◌≤◌, true, List, [], ◌∷◌, ◌++◌, map, ℤ, pos, negsuc, refl, ap, sym, ◌∙◌, arith}
+use Rattle.std.proofs.Common.{◌≡◌, ℕ, ◌+◌, ◌<◌, ◌≤◌, true, List, [], ◌∷◌, ◌++◌, ℤ, pos, refl, ap, sym, ◌∙◌, arith}
 use Rattle.std.proofs.lemmas.List.{append-nil, append_assoc}
 use Rattle.std.specs.Prelude.{Option, Some, is_some, slice_get}
+use Rattle.std.specs.Mem.Slots.{SamePlaces}
+use Rattle.core.specs.declared.slots.Slots.{Slots}
 use Rattle.nd_array_core.specs.Places.{stored_at}
 use Rattle.nd_array_core.specs.Collected.{collected}
 use Rattle.nd_array_core.specs.elements.Changes.{AreDistinct}
-use Rattle.nd_array_core.specs.growth.Taken.{seated, IsTakenTo}
+use Rattle.nd_array_core.specs.growth.Taken.{IsTakenTo}
 use Rattle.nd_array_core.proofs.Changed.{stored_same}
 use Rattle.nd_array_core.proofs.Collecting.{collected_alike, collected_more, collected_then}
 
 module _ {A : Type 0} where
+  -- the seats stay where they are
+  pub seats_stay : (old now new : Slots A) → SamePlaces old now → SamePlaces now new → SamePlaces old new
+  seats_stay old now new so_far later = record { start = later.start ∙ so_far.start; count = later.count ∙ so_far.count }
+
   pub taken_none : (place : ℕ → ℤ) (old : ℕ → Option A) (before : List A) → IsTakenTo place 0 old old before before
   taken_none place old before = record { put = sym (append-nil before); left = λ p nowhere. refl }
 
@@ -53,21 +59,10 @@ module _ {A : Type 0} where
         left = λ p nowhere. later.left p (λ j below e. nowhere (k + j) (omega (arith, below)) (sym (goes_on j below) ∙ e)) ∙ so_far.left p (λ j below. nowhere j (omega (arith, below)));
       }
 
-  -- each element of a list has a seat
-  pub seated_list : (xs : List A) (p : ℕ) → seated (map (λ x. Some x) xs) p ≡ slice_get xs p
-  seated_list [] p = refl
-  seated_list (x ∷ xs) zero = refl
-  seated_list (x ∷ xs) (suc p) = seated_list xs p
-
-  pub seated_stored : (xs : List A) (z : ℤ) → stored_at (seated (map (λ x. Some x) xs)) z ≡ stored_at (slice_get xs) z
-  seated_stored xs (pos p) = seated_list xs p
-  seated_stored xs (negsuc p) = refl
-
   -- all taken: the elements by number
-  pub all_taken : (place : ℕ → ℤ) (count : ℕ) (xs ys before after : List A) (row seats : List (Option A)) (new : ℕ → Option A) → before ≡ [] → ys ≡ xs → row ≡ map (λ x. Some x) ys → seats ≡ row
-      → IsTakenTo place count (seated seats) new before after → after ≡ collected (λ k. stored_at (slice_get xs) (place k)) count
-  all_taken place count xs ys before after row seats new none same each is taken =
+  pub all_taken : (place : ℕ → ℤ) (count : ℕ) (xs before after : List A) (old new : ℕ → Option A) → before ≡ [] → ((k : ℕ) → k < count → stored_at old (place k) ≡ stored_at (slice_get xs) (place k))
+      → IsTakenTo place count old new before after → after ≡ collected (λ k. stored_at (slice_get xs) (place k)) count
+  all_taken place count xs before after old new none seats taken =
       taken.put
-      ∙ ap (λ zs. zs ++ collected (λ k. stored_at (seated seats) (place k)) count) none
-      ∙ collected_alike (λ k. stored_at (seated seats) (place k)) (λ k. stored_at (slice_get xs) (place k)) count
-      (λ k below. ap (λ zs. stored_at (seated zs) (place k)) (is ∙ (each ∙ ap (map (λ x. Some x)) same)) ∙ seated_stored xs (place k))
+      ∙ ap (λ zs. zs ++ collected (λ k. stored_at old (place k)) count) none
+      ∙ collected_alike (λ k. stored_at old (place k)) (λ k. stored_at (slice_get xs) (place k)) count seats

@@ -1,11 +1,11 @@
 -- Laws of layout calls. They stand over meanings alone: a shape, and an element at each index of its box.
-use Rattle.std.specs.Prelude.{◌≡◌, ◌<◌, ◌≤◌, ◌==◌, ℕ, true, false, List, [], ◌∷◌, length, map, reverse, slice_index, slice_set, Option, None, Some, is_some, ⊤}
+use Rattle.std.specs.Prelude.{◌≡◌, ◌<◌, ◌≤◌, ◌==◌, ℕ, true, false, List, [], ◌∷◌, length, map, reverse, swap, slice_index, slice_set, Option, None, Some, is_some, ⊤}
 use Rattle.std.specs.List.{position_or_len, range_with_len}
 use Rattle.nd_shape_and_slice.specs.declared.slice.Slice.{Slice}
 use Rattle.nd_shape_and_slice.specs.Axes.{HasEachAxis, permuted_list, unpermuted_list}
 use Rattle.nd_shape_and_slice.specs.Shape.{in_box}
 use Rattle.nd_shape_and_slice.specs.Slice.{fits_axis, sliced_length, sliced_from, sliced_shape, sliced_index}
-use Rattle.nd_shape_and_slice.specs.Maps.{inverted_index, indexed_shape, indexed_index, inserted_shape, inserted_index}
+use Rattle.nd_shape_and_slice.specs.Maps.{inverted_index, collapsed_shape, collapsed_index, lower_shape, upper_shape, upper_index, indexed_shape, indexed_index, inserted_shape, inserted_index}
 use Rattle.nd_array_core.specs.Meaning.{Meaning, meaning_through}
 use Rattle.nd_array_core.specs.PlacedArray.{PlacedArray, element_placed}
 use Rattle.nd_shape_and_slice.specs.declared.slice_info.SliceInfoElem.{SliceInfoElem}
@@ -93,6 +93,23 @@ CollapsedListsLeadInside = (ns : List ℕ) (es : List SliceInfoElem) → each_fi
 
 abbrev pub PermutationsLeadInside : Type 0
 PermutationsLeadInside = (ns : List ℕ) (axes : List ℕ) → HasEachAxis axes (length ns) → LeadsInside (permuted_list axes ns) (unpermuted_list axes) ns
+
+-- so do those of two axes exchanged, of one coordinate of an axis, with the axis and without it, and of the coordinates below
+-- one and from it on
+abbrev pub ExchangesLeadInside : Type 0
+ExchangesLeadInside = (ns : List ℕ) (a b : ℕ) → a < length ns → b < length ns → LeadsInside (swap ns a b) (λ i. swap i a b) ns
+
+abbrev pub CollapsesLeadInside : Type 0
+CollapsesLeadInside = (ns : List ℕ) (a k : ℕ) → k < slice_index ns a → LeadsInside (collapsed_shape ns a) (collapsed_index a k) ns
+
+abbrev pub CoordinatesLeadInside : Type 0
+CoordinatesLeadInside = (ns : List ℕ) (a k : ℕ) → a < length ns → k < slice_index ns a → LeadsInside (indexed_shape ns a) (indexed_index a k) ns
+
+abbrev pub LowerPartsLeadInside : Type 0
+LowerPartsLeadInside = (ns : List ℕ) (a k : ℕ) → a < length ns → k ≤ slice_index ns a → LeadsInside (lower_shape ns a k) (λ i. i) ns
+
+abbrev pub UpperPartsLeadInside : Type 0
+UpperPartsLeadInside = (ns : List ℕ) (a k : ℕ) → a < length ns → k ≤ slice_index ns a → LeadsInside (upper_shape ns a k) (upper_index a k) ns
 
 -- each step's map leads from its new box into the box before it
 abbrev pub StaysInside : List ℕ → List PathStep → Type 0

@@ -4,3 +4,5 @@ pub mod Removed
 pub mod Rising
 pub mod Accumulated
 pub mod AxisFolds
+pub mod AxisMaps
+pub mod LanesWritten

@@ -12,4 +12,6 @@ pub mod RegionLent
 pub mod SliceLent
 pub mod NewElements
 pub mod Fresh
+pub mod CloneRefusals
 pub mod RunLent
+pub mod Makers

@@ -1,4 +1,4 @@
 pub mod Parts
 pub mod MultiSlice
 pub mod ViewLent
-pub mod RunLent
+pub mod EachAxis

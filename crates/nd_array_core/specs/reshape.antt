@@ -1,5 +1,6 @@
 pub mod Regrouped
 pub mod Regrouping
 pub mod RunSlices
+pub mod LentSlices
 pub mod Serving
 pub mod Either

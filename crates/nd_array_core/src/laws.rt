@@ -1,19 +1,20 @@
 //! Laws of layout calls, over meanings alone: a shape, and an element at each index of its box; of places; and of
 //! quotients, for callers that divide. Nothing here runs: each function's clause is the law.
 
-ghost use Rattle.std.specs.Prelude.{◌≡◌, ◌<◌, ◌≤◌, ◌+◌, ◌*◌, ◌/◌, ◌^◌, ℕ, true, List, [], ◌∷◌, length, reverse, swap, slice_get, slice_index};
-ghost use Rattle.nd_array_core.specs.Laws.{PermutedBack, ReversedTwice, InvertedTwice, InsertedAndRemoved, SlicedTwice, PathIsOneMap, CollapsedListsLeadInside, LeadsInside, ListsLeadInside, NothingOutside, PermutationsLeadInside, SlicesLeadInside, IndexesHavePlaces, ShowsStored, DistinctPlaces};
-ghost use Rattle.nd_shape_and_slice.specs.Maps.{inverted_index, collapsed_shape, collapsed_index, lower_shape, upper_shape, upper_index, indexed_shape, indexed_index, inserted_shape, inserted_index, diagonal_length, diagonal_index};
+ghost use Rattle.std.specs.Prelude.{◌≡◌, ◌<◌, ◌≤◌, ◌+◌, ◌*◌, ◌/◌, ◌^◌, ℕ, true, List, [], ◌∷◌, length, reverse, slice_index};
+ghost use Rattle.nd_array_core.specs.Laws.{PermutedBack, ReversedTwice, InvertedTwice, InsertedAndRemoved, SlicedTwice, PathIsOneMap, CollapsedListsLeadInside, CollapsesLeadInside, CoordinatesLeadInside, ExchangesLeadInside, LeadsInside, ListsLeadInside, LowerPartsLeadInside, NothingOutside, PermutationsLeadInside, SlicesLeadInside, UpperPartsLeadInside, IndexesHavePlaces, ShowsStored, DistinctPlaces};
+ghost use Rattle.nd_shape_and_slice.specs.Maps.{inverted_index, inserted_shape, inserted_index, diagonal_length, diagonal_index};
 ghost use Rattle.nd_shape_and_slice.specs.Broadcast.{broadcasts, broadcast_index};
 ghost use Rattle.nd_array_core.specs.Joined.{SplitAndJoined, row_major_elements};
-ghost use Rattle.nd_array_core.specs.reshape.Regrouping.{RegroupedBack};
-ghost use Rattle.nd_array_core.specs.reshape.Regrouped.{IsInOrder, IsShapeOf, regrouped_index};
-ghost use Rattle.nd_array_core.specs.reshape.Serving.{StridesServe};
-ghost use Rattle.nd_shape_and_slice.specs.declared.builder.Order.{Order};
-ghost use Rattle.nd_shape_and_slice.specs.declared.builder.Order.TheVariants.{RowMajor};
-ghost use Rattle.nd_array_core.specs.Meaning.{element_at, inside, layout_strides, meaning_of, placed_array, shape_of};
-ghost use Rattle.nd_shape_and_slice.specs.Shape.{in_box, size_of, row_rank, HasCheckedSize};
-ghost use Rattle.nd_array_core.specs.elements.Pairs.{broadcast_at};
+ghost use Rattle.nd_array_core.specs.reshape.Regrouping.{RegroupedBack, RanksAreBelow, ListsByRank, JoinsFirstAxes};
+ghost use Rattle.nd_array_core.specs.reshape.Regrouped.{IsShapeOf};
+ghost use Rattle.nd_array_core.specs.reshape.Either.{IsServedInItsOrder};
+ghost use Rattle.nd_array_core.specs.Meaning.{Meaning, element_at, meaning_of, placed_array, shape_of};
+ghost use Rattle.nd_shape_and_slice.specs.Shape.{size_of, HasCheckedSize};
+ghost use Rattle.nd_array_core.specs.elements.Pairs.{IsItselfUnder};
+ghost use Rattle.nd_array_core.specs.growth.SlicedBack.{AppendedAndSliced};
+ghost use Rattle.nd_array_core.specs.along.AxisFolds.{lane_elements};
+ghost use Rattle.nd_array_core.specs.along.AxisMaps.{lane_of};
 ghost use Rattle.nd_shape_and_slice.specs.Squeeze.{squeezed_shape, squeezed_index};
 
 use crate::base::array::ArrayBase;
@@ -55,6 +56,12 @@ pub fn split_and_joined<A>()
     ensures { SplitAndJoined A }
 {}
 
+/// After an append, the slice of the axis to its old length gives the elements from before.
+#[tactic(auto, using(crate::proofs::SlicedBack::appended_and_sliced))]
+pub fn appended_and_sliced<A>()
+    ensures { AppendedAndSliced A }
+{}
+
 /// A reshape and the reshape back in the same order give the same meaning.
 pub fn regrouped_back<A>()
     ensures { RegroupedBack A }
@@ -74,12 +81,12 @@ pub fn maps_lead_inside()
     ensures collapsed_list { CollapsedListsLeadInside }
     ensures permuted { PermutationsLeadInside }
     ensures reversed { (ns : List ℕ) → LeadsInside (reverse ns) reverse ns }
-    ensures swapped { (ns : List ℕ) (a b : ℕ) → a < length ns → b < length ns → LeadsInside (swap ns a b) (λ i. swap i a b) ns }
+    ensures swapped { ExchangesLeadInside }
     ensures inverted { (ns : List ℕ) (a : ℕ) → a < length ns → LeadsInside ns (inverted_index ns a) ns }
-    ensures collapsed { (ns : _) (a k : _) → k < slice_index ns a → LeadsInside (collapsed_shape ns a) (collapsed_index a k) ns }
-    ensures lower { (ns : _) (a k : _) → a < length ns → k ≤ slice_index ns a → LeadsInside (lower_shape ns a k) (λ i. i) ns }
-    ensures upper { (ns : _) (a k : _) → a < length ns → k ≤ slice_index ns a → LeadsInside (upper_shape ns a k) (upper_index a k) ns }
-    ensures indexed { (ns : _) (a k : _) → a < length ns → k < slice_index ns a → LeadsInside (indexed_shape ns a) (indexed_index a k) ns }
+    ensures collapsed { CollapsesLeadInside }
+    ensures lower { LowerPartsLeadInside }
+    ensures upper { UpperPartsLeadInside }
+    ensures indexed { CoordinatesLeadInside }
     ensures inserted { (ns : List ℕ) (a : ℕ) → a ≤ length ns → LeadsInside (inserted_shape ns a) (inserted_index a) ns }
     ensures squeezed { (ns : List ℕ) → LeadsInside (squeezed_shape ns) (squeezed_index ns) ns }
     ensures diagonal { (ns : List ℕ) → LeadsInside (diagonal_length ns ∷ []) (diagonal_index ns) ns }
@@ -125,7 +132,7 @@ pub fn shape_is_checked<S: Data, D: Dimension>(array: &ArrayBase<S, D>)
 #[tactic(auto, unfolding(crate::specs::Meaning::meaning_of))]
 pub fn broadcast_to_itself<S: Data, D: Dimension>(array: &ArrayBase<S, D>)
     ensures some { (to : List ℕ) → to ≡ shape_of array.now → broadcasts (shape_of array.now) to ≡ true }
-    ensures elements { (to : _) → to ≡ shape_of array.now → (i : _) → broadcast_at to (meaning_of array.now) i ≡ element_at array.now i }
+    ensures elements { (to : List ℕ) → to ≡ shape_of array.now → IsItselfUnder to array.now }
 {}
 
 /// An array's elements as a list, as `as_slice` and `to_vec` give them: which number of it is the element at an index,
@@ -133,22 +140,29 @@ pub fn broadcast_to_itself<S: Data, D: Dimension>(array: &ArrayBase<S, D>)
 #[tactic(auto, unfolding(crate::specs::Meaning::meaning_of))]
 pub fn elements_by_rank<S: Data, D: Dimension>(array: &ArrayBase<S, D>)
     ensures count { length (row_major_elements (meaning_of array.now)) ≡ size_of (shape_of array.now) }
-    ensures below { (i : List ℕ) → in_box (shape_of array.now) i ≡ true → row_rank (shape_of array.now) i < size_of (shape_of array.now) }
-    ensures each { (i : List ℕ) → in_box (shape_of array.now) i ≡ true → slice_get (row_major_elements (meaning_of array.now)) (row_rank (shape_of array.now) i) ≡ element_at array.now i }
+    ensures below { RanksAreBelow (shape_of array.now) }
+    ensures each { ListsByRank (meaning_of array.now) }
+{}
+
+/// The elements of a lane in row-major order are those that `fold_axis` goes along: so a function that folds the lanes which
+/// `map_axis` shows it answers what `fold_axis` does.
+#[tactic(auto, using(crate::proofs::ShownLanes::lane_listed))]
+pub fn lanes_are_folded<A>()
+    ensures { (m : Meaning A) (axis : ℕ) (i : List ℕ) → row_major_elements (lane_of m axis i) ≡ lane_elements m.at axis (slice_index m.shape axis) i }
 {}
 
 /// Where an array's elements lie in an order, some strides serve every shape of as many elements in that order: a reshape
 /// then copies nothing. A caller whose elements can't be cloned alike calls it before the reshape.
 #[tactic(auto, unfolding(crate::specs::Meaning::meaning_of, crate::specs::Meaning::memory_layout_of))]
 pub fn order_serves<S: Data, D: Dimension>(array: &ArrayBase<S, D>)
-    ensures { (order : Order) (ms : List ℕ) → IsInOrder order (shape_of array.now) (layout_strides array.now) → IsShapeOf (shape_of array.now) ms → StridesServe array.now order ms }
+    ensures { IsServedInItsOrder array.now }
 {}
 
 /// An array's first two axes as one, row-major: a shape of as many elements, its length below 2 ^ 63, and where it has
 /// the element at an index.
 #[tactic(auto, unfolding(crate::specs::Meaning::meaning_of))]
 pub fn first_axes_joined<S: Data, D: Dimension>(array: &ArrayBase<S, D>)
-    ensures shape { (n m : ℕ) (ms : List ℕ) → shape_of array.now ≡ n ∷ m ∷ ms → IsShapeOf (shape_of array.now) (n * m ∷ ms) }
+    ensures shape { (n m : ℕ) (ms : _) → shape_of array.now ≡ n ∷ m ∷ ms → IsShapeOf (shape_of array.now) (n * m ∷ ms) }
     ensures short { (n m : ℕ) (ms : List ℕ) → shape_of array.now ≡ n ∷ m ∷ ms → n * m < 2 ^ 63 }
-    ensures elements { (n m : ℕ) (ms : List ℕ) → shape_of array.now ≡ n ∷ m ∷ ms → (i j : ℕ) (is : List ℕ) → in_box (shape_of array.now) (i ∷ j ∷ is) ≡ true → inside (n * m ∷ ms) ((i * m + j) ∷ is) (element_at array.now (regrouped_index RowMajor (shape_of array.now) (n * m ∷ ms) ((i * m + j) ∷ is))) ≡ element_at array.now (i ∷ j ∷ is) }
+    ensures elements { JoinsFirstAxes (meaning_of array.now) }
 {}

@@ -19,6 +19,8 @@ mod layout;
 mod reshape;
 pub mod scoped;
 
+pub use along::lent::LaneMut;
+pub use along::showing::LaneView;
 pub use base::aliases::{
     Array0, Array1, Array2, Array3, Array4, Array5, Array6, ArrayD, ArrayView0, ArrayView1,
     ArrayView2, ArrayView3, ArrayView4, ArrayView5, ArrayView6, ArrayViewD, ArrayViewMut0,

@@ -1,8 +1,8 @@
 -- A layout that fills its storage is a run from place 0, and grows on behind it.
-use Rattle.std.proofs.Common.{ℕ, ⊎_elim, ◌+◌, ◌-◌, ◌*◌, ◌<◌, ◌≤◌, ◌≡◌, ◌⊎◌, inr, List, length, replicate, get_or, set, Bool, true, false, cond, not, ◌||◌, eqb, leb, arith, refl, ap, sym, subst, ◌∙◌, ℤ, pos, ◌+ℤ◌, nat_abs}
+use Rattle.std.proofs.Common.{ℕ, ⊎_elim, ◌+◌, ◌-◌, ◌*◌, ◌<◌, ◌≤◌, ◌≡◌, List, length, replicate, get_or, set, Bool, true, false, cond, not, ◌||◌, eqb, leb, arith, refl, ap, sym, subst, ◌∙◌, ℤ, pos, ◌+ℤ◌, nat_abs}
 use lib.IntN.{neg_ℤ}
 use borrow.Author.Differences.{neg_is}
-use Rattle.std.proofs.lemmas.Bool.{cases_eq, cases_lt, ne_eqb, lt-ltb, false_from_ne_true, true≢false}
+use Rattle.std.proofs.lemmas.Bool.{cases_lt, ne_eqb, lt-ltb, false_from_ne_true, true≢false}
 use Rattle.std.proofs.lemmas.List.{length-set, length-replicate, set-set, set-get_or, get_or-set_same}
 use Rattle.nd_shape_and_slice.specs.Shape.{HasCheckedSize, in_box, size_of, column_rank}
 use Rattle.nd_shape_and_slice.specs.Place.{displacement_of, place_of, span_of, magnitude_at, IsSeparated}

@@ -11,3 +11,5 @@ pub mod Placements
 pub mod Walk
 pub mod Merging
 pub mod MemoryOrder
+pub mod Spans
+pub mod Lanes

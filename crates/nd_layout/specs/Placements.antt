@@ -11,7 +11,12 @@ use Rattle.nd_shape_and_slice.specs.declared.descriptions.AxisDescription.{AxisD
 use Rattle.nd_shape_and_slice.specs.Broadcast.{broadcast_index}
 use Rattle.nd_shape_and_slice.specs.Descriptions.{axes_from}
 use Rattle.nd_shape_and_slice.specs.EachAxis.{each_sliced_shape, each_sliced_index, AnswersAre}
-use Rattle.nd_shape_and_slice.specs.Squeeze.{squeezed_index}
+use Rattle.nd_shape_and_slice.specs.Maps.{diagonal_index}
+use Rattle.nd_shape_and_slice.specs.Slice.{sliced_index}
+use Rattle.nd_shape_and_slice.specs.SliceInfo.{index_before}
+use Rattle.nd_shape_and_slice.specs.Slicing.{collapsed_before}
+use Rattle.nd_shape_and_slice.specs.Squeeze.{squeezed_shape, squeezed_index}
+use Rattle.nd_layout.specs.Growth.{IsInGrowingOrder}
 use Rattle.nd_layout.specs.Merging.{merged_strides, merged_index}
 use Rattle.nd_layout.specs.Ranks.{IsRun}
 use Rattle.nd_layout.specs.Steps.{IsStep, IsViewStep}
@@ -55,6 +60,20 @@ HasListStrides old new list = new.strides ≡ strides_after old.lengths old.stri
 abbrev pub HasCollapsedStrides : Placement → Placement → List SliceInfoElem → Type 0
 HasCollapsedStrides old new list = new.strides ≡ collapsed_strides old.lengths old.strides list
 
+-- and what the new indexes name
+abbrev pub IsSlicedStep : Placement → Placement → ℕ → Slice → Type 0
+IsSlicedStep old new axis slice = IsStepOf old new (sliced_index old.lengths axis slice)
+
+abbrev pub IsListStep : Placement → Placement → List SliceInfoElem → Type 0
+IsListStep old new list = IsStepOf old new (index_before old.lengths list)
+
+abbrev pub IsCollapsedStep : Placement → Placement → List SliceInfoElem → Type 0
+IsCollapsedStep old new list = IsStepOf old new (collapsed_before old.lengths list)
+
+-- the second is the diagonal of the first
+abbrev pub IsDiagonalStep : Placement → Placement → Type 0
+IsDiagonalStep old new = IsStepOf old new (diagonal_index old.lengths)
+
 -- each axis is cut by what the closure answers for it, axis 0 first
 abbrev pub IsEachSliced : {F : Type 0} → (F → AxisDescription → Slice → F → Type 0) → F → Placement → Placement → Type 0
 IsEachSliced {F} step f old new =
@@ -73,6 +92,9 @@ abbrev pub IsMergedStep : Placement → Placement → ℕ → ℕ → Type 0
 IsMergedStep old new take into = IsStepOf old new (merged_index old.lengths take into)
 
 -- the axes of length 1 are taken out
+abbrev pub HasSqueezedLengths : Placement → Placement → Type 0
+HasSqueezedLengths old new = new.lengths ≡ squeezed_shape old.lengths
+
 abbrev pub HasSqueezedStrides : Placement → Placement → Type 0
 HasSqueezedStrides old new = new.strides ≡ squeezed_strides old.lengths old.strides
 
@@ -98,3 +120,7 @@ IsLineOfRun old new = 0 < size_of old.lengths → IsRun old.lengths old.strides 
 -- where there are elements, no two indexes have one place
 abbrev pub KeepsApart : Placement → Type 0
 KeepsApart l = 0 < size_of l.lengths → IsSeparated l.lengths l.strides
+
+-- the second is the first in the row-major order of fresh storage that is to grow along an axis
+abbrev pub IsGrowingOrderOf : ℕ → Placement → Placement → Type 0
+IsGrowingOrderOf axis old new = IsInGrowingOrder axis old.offset old.lengths old.strides new.offset new.lengths new.strides

@@ -4,7 +4,8 @@ ghost use Rattle.std.specs.Prelude.{◌≡◌, ◌∷◌, ◌<◌, ◌-◌, fals
 ghost use Rattle.std.specs.List.{remove};
 ghost use Rattle.nd_shape_and_slice.specs.Shape.{size_of, HasCheckedSize};
 ghost use Rattle.nd_shape_and_slice.specs.Place.{IsSeparated};
-ghost use Rattle.nd_layout.specs.Growth.{growing_strides, must_move, IsInGrowingOrder};
+ghost use Rattle.nd_layout.specs.Growth.{growing_strides, must_move};
+ghost use Rattle.nd_layout.specs.Placements.{placement_of, IsGrowingOrderOf};
 
 use crate::grows::lay_out;
 use crate::layout::Layout;
@@ -29,7 +30,7 @@ impl<D: Dimension, T: StrideList> Layout<D, T> {
     /// axis.
     pub fn growing_order(&self, axis: usize) -> Self
         requires { axis < length (D.lengths self.now.dim) }
-        ensures order { IsInGrowingOrder axis self.now.offset (D.lengths self.now.dim) (T.strides_of self.now.strides) result.offset (D.lengths result.dim) (T.strides_of result.strides) }
+        ensures order { IsGrowingOrderOf axis (placement_of self.now) (placement_of result) }
     {
         let mut order = self.copied();
         let count = order.dim.ndim();

@@ -1,11 +1,12 @@
 //! Strides after an array has grown along an axis.
 
-ghost use Rattle.std.specs.Prelude.{ℕ, List, true, false, ◌↔◌, ◌≡◌, ◌<◌, ◌≤◌, ◌^◌, ◌⊎◌, length, IsTrue, slice_set, nat_eq, nat_lt, if◌then◌else◌, ◌+◌, ◌-◌, ◌*◌};
-ghost use Rattle.nd_shape_and_slice.specs.Shape.{HasCheckedSize, in_box, size_of};
-ghost use Rattle.nd_shape_and_slice.specs.Place.{IsSeparated, displacement_of, span_of};
+ghost use Rattle.std.specs.Prelude.{true, false, ◌↔◌, ◌≡◌, ◌<◌, ◌≤◌, ◌^◌, ◌⊎◌, length, IsTrue, slice_set, nat_eq, nat_lt, if◌then◌else◌, ◌+◌, ◌-◌, ◌*◌};
+ghost use Rattle.nd_shape_and_slice.specs.Shape.{HasCheckedSize, size_of};
+ghost use Rattle.nd_shape_and_slice.specs.Place.{IsSeparated, span_of};
 ghost use Rattle.nd_shape_and_slice.specs.Strides.{column_strides_from};
 ghost use Rattle.nd_layout.specs.Ranks.{fastest_first, IsRun};
 ghost use Rattle.nd_layout.specs.Growth.{IsContinued, case_number, greatest_end, greatest_step, grown_shape, growing_strides, growth_case, must_move, strides_in_case};
+ghost use Rattle.nd_layout.specs.Spans.{HasNoGaps, KeepsDisplacements};
 
 use crate::ordered::{axis_at, put_at};
 use crate::spans::length_without;
@@ -246,8 +247,8 @@ pub fn growth(
     ensures which { result ≡ growth_case lengths.now strides.now full axis added }
     ensures written { out.new ≡ strides_in_case result lengths.now strides.now axis added }
     ensures separated { 2 < result → IsSeparated (grown_shape lengths.now axis added) out.new }
-    ensures filled { 2 < result → span_of (grown_shape lengths.now axis added) out.new + 1 ≡ size_of (grown_shape lengths.now axis added) }
-    ensures kept { 4 < result → (i : List ℕ) → in_box lengths.now i ≡ true → displacement_of out.new i ≡ displacement_of strides.now i }
+    ensures filled { 2 < result → HasNoGaps (grown_shape lengths.now axis added) out.new }
+    ensures kept { 4 < result → KeepsDisplacements lengths.now strides.now out.new }
     ensures continued { 4 < result → IsContinued lengths.now strides.now (grown_shape lengths.now axis added) out.new }
     ensures ready { 2 < result → must_move (grown_shape lengths.now axis added) out.new axis ≡ false }
 {

@@ -1,9 +1,9 @@
 //! The places of a layout by lanes: places that lie a stride apart, as many as the last axis is long.
 
-ghost use Rattle.std.specs.Prelude.{◌≡◌, ◌+◌, ◌-◌, ◌*◌, ◌<◌, ◌≤◌, ◌^◌, ◌+ℤ◌, ◌*ℤ◌, ℕ, true, pos, length, slice_index, MatchOption, IfSome};
+ghost use Rattle.std.specs.Prelude.{◌≡◌, ◌+◌, ◌-◌, ◌*◌, ◌<◌, ◌≤◌, ◌^◌, ◌+ℤ◌, ◌*ℤ◌, ℕ, true, pos, length, slice_index, IfSome};
 ghost use Rattle.nd_shape_and_slice.specs.Shape.{size_of, HasCheckedSize};
 ghost use Rattle.nd_layout.specs.Places.{is_place, ReachesPlaces};
-ghost use Rattle.nd_layout.specs.Walk.{IsLane, IsCutInLanes, IsLastAxis};
+ghost use Rattle.nd_layout.specs.Walk.{IsCutInLanes, IsLastAxis};
 
 use crate::layout::places::moved_by;
 use crate::walk::Walk;
@@ -68,6 +68,8 @@ fn outer_axes(lengths: &[usize]) -> usize
 }
 
 impl<'a> Lanes<'a> {
+    ghost use Rattle.nd_layout.specs.Lanes.{AreSameLanes, GivesNextLane};
+
     /// The lanes of a layout. Each index has a place.
     pub fn new(first: usize, lengths: &'a [usize], strides: &'a [isize]) -> Self
         requires as_many { length strides.now ≡ length lengths.now }
@@ -103,10 +105,8 @@ impl<'a> Lanes<'a> {
     /// The next lane; None once all places are through.
     #[inline]
     pub fn next(&mut self) -> Option<Lane>
-        ensures over { (self.new.first ≡ self.old.first) × (self.new.lengths.now ≡ self.old.lengths.now) × (self.new.strides.now ≡ self.old.strides.now) }
-        ensures lane { MatchOption result
-            ((self.old.rank ≡ size_of self.old.lengths.now) × (self.new.rank ≡ self.old.rank))
-            (λ lane. IsLane self.old.first self.old.lengths.now self.old.strides.now self.old.rank lane.place lane.count lane.stride × (self.new.rank ≡ self.old.rank + lane.count)) }
+        ensures over { AreSameLanes self.old self.new }
+        ensures lane { GivesNextLane self.old self.new result }
         ensures along { IfSome result (λ lane. IsLastAxis self.old.lengths.now self.old.strides.now lane.count lane.stride) }
     {
         match self.outer.place() {

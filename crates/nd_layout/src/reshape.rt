@@ -1,9 +1,10 @@
 //! Strides under which another shape names the same places in the same order.
 
-ghost use Rattle.std.specs.Prelude.{◌↔◌, ◌≡◌, ◌<◌, ◌≤◌, ◌^◌, ◌-◌, ◌*◌, ◌%◌, ◌+◌, ◌*ℤ◌, ℕ, ℤ, pos, List, ◌∷◌, length, drop, replicate, IsTrue, IfSome, MatchOption, slice_index, slice_index_or, slice_set, nat_abs};
+ghost use Rattle.std.specs.Prelude.{◌↔◌, ◌≡◌, ◌<◌, ◌≤◌, ◌^◌, ◌-◌, ◌*◌, ◌%◌, ◌+◌, ◌*ℤ◌, ℕ, ℤ, pos, List, ◌∷◌, length, drop, replicate, IsTrue, IfSome, MatchOption, nat_abs};
 ghost use Rattle.nd_shape_and_slice.specs.Shape.{size_of};
-ghost use Rattle.nd_shape_and_slice.specs.Place.{span_of, IsSeparated};
-ghost use Rattle.nd_layout.specs.Ranks.{fastest_first, axis_in, Serves, ServesRanks, Regroups};
+ghost use Rattle.nd_shape_and_slice.specs.Place.{span_of};
+ghost use Rattle.nd_layout.specs.Ranks.{fastest_first, Serves, ServesRanks, Regroups};
+ghost use Rattle.nd_layout.specs.Spans.{KeepsSeparation};
 ghost use Rattle.nd_layout.specs.Strides.{RestsAtOnes};
 ghost use Rattle.nd_layout.specs.Groups.{IsClosed, TakesLength};
 
@@ -201,7 +202,7 @@ pub fn reshape_strides(
     ensures exact { IsTrue result ↔ ((ts : List ℤ) × Serves order lengths.now strides.now new.now ts) }
     ensures serves { IsTrue result → Serves order lengths.now strides.now new.now out.new }
     ensures span { IsTrue result → span_of new.now out.new ≤ span_of lengths.now strides.now }
-    ensures separated { IsTrue result → 0 < size_of new.now → IsSeparated lengths.now strides.now → IsSeparated new.now out.new }
+    ensures separated { IsTrue result → KeepsSeparation lengths.now strides.now new.now out.new }
     ensures rests { IsTrue result → RestsAtOnes new.now out.new }
     ensures empty { size_of new.now ≡ 0 → out.new ≡ replicate (length new.now) (pos 0) }
 {

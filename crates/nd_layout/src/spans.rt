@@ -1,7 +1,8 @@
 //! How far apart the elements of a layout lie, and whether they are kept apart.
 
-ghost use Rattle.std.specs.Prelude.{◌↔◌, ◌≡◌, ◌<◌, ◌≤◌, ◌^◌, ◌-◌, ◌*◌, ◌+◌, ℕ, length, IsTrue, MatchOption, slice_index, slice_set, nat_abs, nat_le, if◌then◌else◌};
+ghost use Rattle.std.specs.Prelude.{◌↔◌, ◌≡◌, ◌<◌, ◌≤◌, ◌^◌, ◌-◌, ◌*◌, length, IsTrue, MatchOption, slice_index, slice_set, nat_abs, nat_le, if◌then◌else◌};
 ghost use Rattle.nd_shape_and_slice.specs.Place.{span_of, span_within, magnitude_at, IsSeparated};
+ghost use Rattle.nd_layout.specs.Spans.{IsNumberBelow};
 
 const LARGEST: usize = isize::MAX as usize;
 
@@ -17,7 +18,7 @@ fn reach(length: usize, stride: isize) -> Option<usize>
 pub fn span(lengths: &[usize], strides: &[isize]) -> Option<usize>
     requires as_many { length strides.now ≡ length lengths.now }
     requires few { length lengths.now ≤ 32 }
-    ensures { MatchOption result (2 ^ 63 ≤ span_of lengths.now strides.now) (λ n. (n ≡ span_of lengths.now strides.now) × (n < 2 ^ 63)) }
+    ensures { IsNumberBelow (2 ^ 63) (span_of lengths.now strides.now) result }
 {
     let mut total: usize = 0;
     for axis in 0..lengths.len() {

@@ -112,6 +112,8 @@ pub struct Walk<'a> {
 }
 
 impl<'a> Walk<'a> {
+    ghost use Rattle.nd_layout.specs.Lanes.{IsSameWalk};
+
     /// The walk that stands at the first index, where there is one. Each index has a place.
     pub fn new(first: usize, lengths: &'a [usize], strides: &'a [isize]) -> Self
         requires as_many { length strides.now ≡ length lengths.now }
@@ -157,7 +159,7 @@ impl<'a> Walk<'a> {
     /// Moves on to the next index. Once all are passed it stays.
     #[inline]
     pub fn advance(&mut self)
-        ensures over { (self.new.first ≡ self.old.first) × (self.new.lengths.now ≡ self.old.lengths.now) × (self.new.strides.now ≡ self.old.strides.now) }
+        ensures over { IsSameWalk self.old self.new }
         ensures rank { self.new.rank ≡ min (self.old.rank + 1) (size_of self.old.lengths.now) }
     {
         if self.size - self.rank > 1 {

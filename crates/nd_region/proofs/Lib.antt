@@ -8,6 +8,7 @@ pub mod Parts
 pub mod Rejoined
 pub mod RunLoans
 pub mod Runs
+pub mod Overwritten
 pub mod SharedLemmas
 pub mod Sharing
 pub mod Splits

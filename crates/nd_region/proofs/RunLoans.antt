@@ -12,7 +12,7 @@ use mir.Syntax.{Lifetime}
 use base.Logic.{ent, sep}
 use base.Fml.{Lft, GName, Share, Fml, ftrue, fsep, flft, fobs, fbor}
 use types.Logic.{Logic, sem}
-use types.Kit.{Item, ‵, some, later, ◌⊛◌, ◌$◌, ◌∵◌, !, qed, move, drop, use1, use2, split, split3, rewrite, group, await, updating, show, mean, pick, fsplit, fjoin, feq_l, feq_i, now, done}
+use types.Kit.{Item, ‵, some, later, ◌⊛◌, ◌$◌, ◌∵◌, !, qed, move, keep, drop, use1, use2, split, split3, rewrite, group, await, updating, show, mean, pick, fsplit, fjoin, feq_l, feq_i, now, done}
 use types.SemTy.{SemTy, cells, Arr, Body}
 use types.Mut.{open_ref}
 use types.Follow.{takes_part}
@@ -26,9 +26,10 @@ use denote.Steps.{nothing}
 use Rattle.std.proofs.lemmas.List.{length-take-le, drop-drop}
 use Rattle.std.proofs.mem.Param.{El, R, el_x}
 use Rattle.nd_region.specs.Memory.{spot, Spots, loan}
-use Rattle.nd_region.specs.Places.{run_written}
+use Rattle.nd_region.specs.Places.{overwritten_items, run_written}
 use Rattle.nd_region.proofs.Memory.{sz, row_at, of_cells, to_cells}
 use Rattle.nd_region.proofs.Runs.{IsAt}
+use Rattle.nd_region.proofs.Overwritten.{overwritten_by}
 
 module _ (E : El) {M : Type 1} {𝓤 : Ura M} (𝓛 : Logic 𝓤) (b : ℕ) where
   open 𝓛 use {H, A}
@@ -97,6 +98,9 @@ module _ (E : El) {M : Type 1} {𝓤 : Ura M} (𝓛 : Logic 𝓤) (b : ℕ) wher
     written_length : (ws : List (el_x E)) → length ws ≡ n → length (run_written xs p n ws) ≡ length xs
     written_length ws l = ap length (at.same ws l) ∙ omega (arith, length-append (take st xs) (ws ++ drop_l (st + n) xs), length-append ws (drop_l (st + n) xs), front, l, length-drop (st + n) xs, at.in_row)
 
+    abbrev put : List (el_x E) → List (el_x E)
+    put ws = overwritten_items xs (run_written xs p n ws)
+
     pub run_in : (ws : List (el_x E)) → length ws ≡ n → ent 𝓤 (sep 𝓤 (sem 𝓛 (cells (mem (R E)) ws b there)) (sem 𝓛 Around)) (sem 𝓛 (Row o (run_written xs p n ws) fs))
     run_in ws l = qed 𝓛 (‵ (cells (mem (R E)) ws b there) ∷ ‵ Around ∷ []) ∵
         use1 𝓛 (‵ (Row there ws (replicate (length ws) true))) (of_cells E 𝓛 b ws there) $ rewrite ! 0 (λ (k : ℕ). ‵ (Row there ws (replicate k true))) l refl $
@@ -119,16 +123,17 @@ module _ (E : El) {M : Type 1} {𝓤 : Ura M} (𝓛 : Logic 𝓤) (b : ℕ) wher
 
       abbrev pub RunLent : GName → Item 𝓤
       RunLent δ = ‵ ((MutSlice ℓ κ (R E)).own_val (record { ref_ptr = (b, there); ghost_name = δ; now = run }) (slice_val (b, there) (length run) ∷ [])) ⊛ ‵ (flft κ q)
-          ⊛ ‵ (follows (Array (R E) 0) (Array (R E) 0) γ δ (run_written xs p n))
+          ⊛ ‵ (follows (Array (R E) 0) (Array (R E) 0) γ δ put)
 
-      back : length xs ≡ length fs → (ws : List (el_x E)) → ent 𝓤 (sep 𝓤 (sem 𝓛 (Some.own_at ws b there)) (sem 𝓛 Around)) (sem 𝓛 (Whole.own_at (run_written xs p n ws) 0 0))
+      back : length xs ≡ length fs → (ws : List (el_x E)) → ent 𝓤 (sep 𝓤 (sem 𝓛 (Some.own_at ws b there)) (sem 𝓛 Around)) (sem 𝓛 (Whole.own_at (put ws) 0 0))
       back long ws = qed 𝓛 (‵ (Some.own_at ws b there) ∷ ‵ Around ∷ []) ∵ fsplit ! $ feq_l ! (λ e. let l : length ws ≡ n = e ∙ count in
-          use2 𝓛 (‵ (Row o (run_written xs p n ws) fs)) (run_in ws l) $ feq_i ! ℕ (length (run_written xs p n ws)) (length fs) (written_length ws l ∙ long) $ fjoin ! $ done !)
+          use2 𝓛 (‵ (Row o (run_written xs p n ws) fs)) (run_in ws l) $ feq_i ! ℕ (length (run_written xs p n ws)) (length fs) (written_length ws l ∙ long) $ fjoin ! $
+          rewrite ! 0 (λ (r : List (el_x E)). ‵ (Whole.own_at r 0 0)) (sym (overwritten_by xs (run_written xs p n ws) (written_length ws l))) refl $ keep ! (0 ∷ []) $ done !)
 
       pub lends_run : ent 𝓤 (sep 𝓤 (sem 𝓛 (loan (R E) κ (block_ptr b o) γ xs fs)) (A.lft κ q)) (H.⇛ (mean 𝓛 (some RunLent)))
       lends_run = qed 𝓛 (‵ (loan (R E) κ (block_ptr b o) γ xs fs) ∷ ‵ (flft κ q) ∷ []) ∵ updating ! $ fsplit ! $ open_ref ! tt Whole {x = xs} {b = 0} {o = 0} $ fsplit ! $ feq_l ! (λ long.
           use1 𝓛 (‵ (cells (mem (R E)) run b there) ⊛ ‵ Around) run_out $ split ! $ feq_i ! ℕ (length run) (length run) refl $ fjoin ! $ move ! (2 ∷ 3 ∷ 4 ∷ 0 ∷ 1 ∷ []) $ group ! 5 $
-          use1 𝓛 (later (some (λ (δ : GName). ‵ (fobs δ (code_of run)) ⊛ ‵ (fbor κ (Body Some b there δ)) ⊛ ‵ (flft κ q) ⊛ ‵ (follows (Array (R E) 0) (Array (R E) 0) γ δ (run_written xs p n)))))
-          (takes_part 𝓛 Whole Some (run_written xs p n) κ q 0 0 b there γ (sem 𝓛 Around) (back long) (code_of xs) (code_of xs) run) $ await ! tt $ pick ! (λ δ. split3 ! $
+          use1 𝓛 (later (some (λ (δ : GName). ‵ (fobs δ (code_of run)) ⊛ ‵ (fbor κ (Body Some b there δ)) ⊛ ‵ (flft κ q) ⊛ ‵ (follows (Array (R E) 0) (Array (R E) 0) γ δ put))))
+          (takes_part 𝓛 Whole Some put κ q 0 0 b there γ (sem 𝓛 Around) (back long) (code_of xs) (code_of xs) run) $ await ! tt $ pick ! (λ δ. split3 ! $
           use2 𝓛 (‵ ((MutSlice ℓ κ (R E)).own_val (record { ref_ptr = (b, there); ghost_name = δ; now = run }) (slice_val (b, there) (length run) ∷ []))) (slice_of 𝓛 (R E) ℓ κ b there δ run rm) $
           move ! (1 ∷ []) $ split ! $ now ! $ show ! (λ (z : GName). mean 𝓛 (RunLent z)) δ $ move ! (2 ∷ 0 ∷ 1 ∷ []) $ done !))

@@ -9,12 +9,13 @@ use prog.Memory.{capped}
 use prog.Capped.{capped_is}
 use denote.Slice.{Room}
 use Rattle.std.proofs.mem.Param.{El, R}
-use mathlib.Core.List.{List, [], ◌∷◌, ◌++◌}
-use lib.ListN.{length, take, drop as drop_l, get_or, replicate, take-append-drop, length-drop, length-replicate, get_or-replicate}
+use mathlib.Core.List.{List, [], ◌∷◌}
+use lib.ListN.{length, take, drop as drop_l, get_or, replicate, length-drop, length-replicate, get_or-replicate}
 use Rattle.std.proofs.lemmas.List.{length-take-le, get_or-take, get_or-drop, ext_get_or}
 use Rattle.std.specs.Prelude.{Some}
 use Rattle.std.specs.Option.{is_some}
 use Rattle.nd_region.specs.Places.{element_in, stored_in, run_written}
+use Rattle.nd_region.proofs.Overwritten.{nothing_written}
 use Rattle.nd_region.proofs.Memory.{Held, held_at, told, below, sz}
 use Rattle.nd_region.proofs.Stored.{stored_at}
 
@@ -25,9 +26,6 @@ in_mask_at (y ∷ xs) (true ∷ fs) zero x e = refl
 in_mask_at (y ∷ xs) (false ∷ fs) zero x e = cc
 in_mask_at (y ∷ xs) (true ∷ fs) (suc i) x e = in_mask_at xs fs i x e
 in_mask_at (y ∷ xs) (false ∷ fs) (suc i) x e = in_mask_at xs fs i x e
-
-nothing_written : {X : Type 0} (xs : List X) (p : ℕ) → run_written xs p 0 [] ≡ xs
-nothing_written xs p = ap (λ k. take p xs ++ drop_l k xs) {x = p + 0} {y = p} (omega arith) ∙ take-append-drop p xs
 
 -- the run of n places from p on, which starts at st
 pub record IsAt {X : Type 0} (xs : List X) (fs : List Bool) (p n st : ℕ) : Type 0 where

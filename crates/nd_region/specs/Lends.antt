@@ -7,7 +7,7 @@ use Rattle.std.specs.Simd.{first_chunks}
 use mir.Syntax.{named}
 use Rattle.nd_region.specs.declared.region.Region.{Region}
 use Rattle.nd_region.specs.Region.{with_items, with_element, with_run}
-use Rattle.nd_region.specs.Places.{merged_rows, run_written, written_where}
+use Rattle.nd_region.specs.Places.{merged_rows, overwritten_items, run_written, written_where}
 use Rattle.nd_region.specs.Memory.{ends_as}
 use Rattle.nd_region.specs.contracts.region.Region.{the_row}
 
@@ -45,7 +45,7 @@ run_follows R s p n r = follows (the_row (record { mir = named 1; lft = [] }) R)
 
 -- the region's borrow ends with what is left behind the slice at the n places from p on
 abbrev pub borrow_run_follows : (R : RattleType) → Region R.Denot → ℕ → ℕ → MutBor (List R.Denot) → Fml
-borrow_run_follows R r p n x = follows (Array R 0) (Array R 0) r.name x.ghost_name (run_written r.items p n)
+borrow_run_follows R r p n x = follows (Array R 0) (Array R 0) r.name x.ghost_name (λ ws. overwritten_items r.items (run_written r.items p n ws))
 
 -- the rows of n elements end as the region's elements do, n to each
 abbrev pub rows_follow : (R : RattleType) → (n : ℕ) → MutBor (List (List R.Denot)) → Region R.Denot → Fml

@@ -30,6 +30,12 @@ module _ {A : Type 0} where
   written_where test (x ∷ xs) [] = x ∷ xs
   written_where test (x ∷ xs) (w ∷ ws) = (if test zero then w else x) ∷ written_where (λ k. test (suc k)) xs ws
 
+  -- ys in the place of xs, as many as these: of a longer ys its front, and after a shorter one the rest of xs
+  abbrev pub overwritten_items : List A → List A → List A
+  overwritten_items [] ys = []
+  overwritten_items (x ∷ xs) [] = x ∷ xs
+  overwritten_items (x ∷ xs) (y ∷ ys) = y ∷ overwritten_items xs ys
+
   -- a row once n elements of it, from p on, are ws
   abbrev pub run_written : List A → ℕ → ℕ → List A → List A
   run_written xs p n ws = take p xs ++ (ws ++ drop (p + n) xs)

@@ -2,7 +2,7 @@
 use Rattle.std.specs.Prelude.{◌≡◌, ℕ, ◌+◌, ◌<◌, slice_index_or, ℤ, List, Bool, true, Option, Some, None, if◌then◌else◌, length, replicate, slice_set}
 use Rattle.nd_shape_and_slice.specs.Shape.{in_box}
 use Rattle.nd_shape_and_slice.specs.Place.{place_of}
-use Rattle.nd_region.specs.Places.{stored_in, run_written, merged_rows, has_place, kept_where}
+use Rattle.nd_region.specs.Places.{stored_in, overwritten_items, run_written, merged_rows, has_place, kept_where}
 use Rattle.std.specs.Option.{is_some}
 use base.Fml.{GName}
 use Rattle.std.specs.List.{swap}
@@ -77,6 +77,6 @@ module _ {A : Type 0} where
   abbrev pub IsRunOf : Region A → ℕ → ℕ → List A → Type 0
   IsRunOf r p n xs = (length xs ≡ n) × ((k : ℕ) (d : A) → k < n → region_stored r (p + k) ≡ Some (slice_index_or xs k d))
 
-  -- the region with ws at the n places from p on
+  -- the region with ws at the n places from p on; its row is as long as before
   abbrev pub with_run : Region A → ℕ → ℕ → List A → Region A
-  with_run r p n ws = with_items r (run_written r.items p n ws)
+  with_run r p n ws = with_items r (overwritten_items r.items (run_written r.items p n ws))

@@ -1,7 +1,8 @@
 -- Scoped calls: parts of a region, told by a test of places, are lent to a function for the length of a call.
-use Rattle.std.specs.Prelude.{◌≡◌, ℕ, Bool, not, if◌then◌else◌}
+use Rattle.std.specs.Prelude.{◌≡◌, ℕ, ℤ, List, Bool, not, if◌then◌else◌}
 use Rattle.nd_region.specs.declared.region.Region.{Region}
-use Rattle.nd_region.specs.Region.{region_stored, borrow_of, rejoined_region, IsPartWhere, IsSameBorrow, IsAsLong}
+use Rattle.nd_region.specs.Places.{names_either}
+use Rattle.nd_region.specs.Region.{region_stored, borrow_of, elements_of, rejoined_region, IsPartWhere, IsSameBorrow, IsAsLong, IsWhole}
 
 module _ {A : Type 0} where
   -- the function may be called with the part at the places that pass the test
@@ -45,3 +46,28 @@ module _ {A R : Type 0} where
       × (new ≡ rejoined_region old x s t)
       × IsAsLong x s
       × IsAsLong y t
+
+-- ---- the same of a slice's elements, as a region with all places
+abbrev pub TakesWhole : {A : Type 0} → (Region A → Type 0) → List A → Type 0
+TakesWhole {A} pre elements = (r : Region A) → IsWhole r elements → pre r
+
+module _ {A R : Type 0} where
+  -- the function gives the region back
+  abbrev pub GivesWholeBack : (Region A → Region A × R → Type 0) → List A → Type 0
+  GivesWholeBack post elements = (r : Region A) (out : Region A × R) → IsWhole r elements → post r out → IsSameBorrow r out.0
+
+  -- the slice has what the region has that it gave back
+  abbrev pub IsWholeReturned : (Region A → Region A × R → Type 0) → List A → List A → R → Type 0
+  IsWholeReturned post old new answer = (r : Region A) × (x : Region A) × IsWhole r old × post r (x, answer) × (new ≡ elements_of x)
+
+-- ---- the same of the places that either of two layouts names
+abbrev pub TakesEither : {A : Type 0} → (Region A → Type 0) → ℕ → List ℕ → List ℤ → ℕ → List ℕ → List ℤ → Region A → Type 0
+TakesEither pre offset lengths strides from sizes steps whole = TakesPart pre (names_either offset lengths strides from sizes steps) whole
+
+module _ {A R : Type 0} where
+  abbrev pub GivesEitherBack : (Region A → Region A × R → Type 0) → ℕ → List ℕ → List ℤ → ℕ → List ℕ → List ℤ → Region A → Type 0
+  GivesEitherBack post offset lengths strides from sizes steps whole = GivesPartBack post (names_either offset lengths strides from sizes steps) whole
+
+  -- the region has at these places what the function gave back, and elsewhere what it had
+  abbrev pub HasEither : (Region A → Region A × R → Type 0) → ℕ → List ℕ → List ℤ → ℕ → List ℕ → List ℤ → Region A → Region A → R → Type 0
+  HasEither post offset lengths strides from sizes steps old new answer = IsPartReturned post (names_either offset lengths strides from sizes steps) old new answer

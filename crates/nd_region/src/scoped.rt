@@ -1,9 +1,8 @@
 //! A region for the length of a call.
 ghost use Rattle.std.specs.Prelude.{◌≡◌, ℕ, Bool, length, IsSome};
 ghost use Rattle.nd_region.specs.Places.{names, names_either};
-ghost use Rattle.nd_region.specs.Region.{IsWhole, IsSameBorrow, HasPlaces, IsAsLong, borrow_of, region_stored, elements_of, with_swapped, SwappedBetween};
-ghost use Rattle.nd_region.specs.Scoped.{TakesPart, GivesPartBack, IsPartReturned, TakesParts, GivesPartsBack, ArePartsReturned};
-ghost use Rattle.nd_region.specs.declared.region.Region.{Region as RegionOf};
+ghost use Rattle.nd_region.specs.Region.{HasPlaces, IsAsLong, borrow_of, region_stored, with_swapped, SwappedBetween};
+ghost use Rattle.nd_region.specs.Scoped.{TakesWhole, GivesWholeBack, IsWholeReturned, TakesPart, GivesPartBack, IsPartReturned, TakesEither, GivesEitherBack, HasEither, TakesParts, GivesPartsBack, ArePartsReturned};
 
 use crate::region::Region;
 use std::marker::PhantomData;
@@ -13,9 +12,9 @@ use std::mem;
 /// that region holds. The type of f demands a region, so a function that gives none back doesn't compile; that it is
 /// the same one is the condition `returns`.
 pub fn with_region<A, R, F: FnOnce(Region<'_, A>) -> (Region<'_, A>, R)>(slice: &mut [A], f: F) -> R
-    requires callable { (r : RegionOf A) → IsWhole r slice.old → F.pre f r }
-    requires returns { (r : RegionOf A) (out : RegionOf A × R) → IsWhole r slice.old → F.post f r out → IsSameBorrow r out.0 }
-    ensures { (r : RegionOf A) × (x : RegionOf A) × IsWhole r slice.old × F.post f r (x, result) × (slice.new ≡ elements_of x) }
+    requires callable { TakesWhole (F.pre f) slice.old }
+    requires returns { GivesWholeBack (F.post f) slice.old }
+    ensures { IsWholeReturned (F.post f) slice.old slice.new result }
 {
     let (back, answer) = f(Region {
         ptr: slice.as_mut_ptr(),
@@ -54,9 +53,9 @@ impl<'a, A> Region<'a, A> {
         _offset: usize,
         _lengths: &[usize],
         _strides: &[isize],
-        _other_offset: usize,
-        _other_lengths: &[usize],
-        _other_strides: &[isize],
+        _from: usize,
+        _sizes: &[usize],
+        _steps: &[isize],
         f: F,
     ) -> R
         ghost chosen: { ℕ → Bool }
@@ -122,24 +121,16 @@ impl<'a, A> Region<'a, A> {
         offset: usize,
         lengths: &[usize],
         strides: &[isize],
-        other_offset: usize,
-        other_lengths: &[usize],
-        other_strides: &[isize],
+        from: usize,
+        sizes: &[usize],
+        steps: &[isize],
         f: F,
     ) -> R
-        requires callable { TakesParts (F.pre f) (names_either offset lengths.now strides.now other_offset other_lengths.now other_strides.now) self.old }
-        requires returns { GivesPartsBack (F.post f) (names_either offset lengths.now strides.now other_offset other_lengths.now other_strides.now) self.old }
-        ensures { ArePartsReturned (F.post f) (names_either offset lengths.now strides.now other_offset other_lengths.now other_strides.now) self.old self.new result }
+        requires callable { TakesParts (F.pre f) (names_either offset lengths.now strides.now from sizes.now steps.now) self.old }
+        requires returns { GivesPartsBack (F.post f) (names_either offset lengths.now strides.now from sizes.now steps.now) self.old }
+        ensures { ArePartsReturned (F.post f) (names_either offset lengths.now strides.now from sizes.now steps.now) self.old self.new result }
     {
-        self.split_where(
-            offset,
-            lengths,
-            strides,
-            other_offset,
-            other_lengths,
-            other_strides,
-            f,
-        )
+        self.split_where(offset, lengths, strides, from, sizes, steps, f)
     }
 
     /// Lends f the places that either of two layouts names, for the length of the call. Afterwards each of them holds
@@ -149,14 +140,14 @@ impl<'a, A> Region<'a, A> {
         offset: usize,
         lengths: &[usize],
         strides: &[isize],
-        other_offset: usize,
-        other_lengths: &[usize],
-        other_strides: &[isize],
+        from: usize,
+        sizes: &[usize],
+        steps: &[isize],
         f: F,
     ) -> R
-        requires callable { TakesPart (F.pre f) (names_either offset lengths.now strides.now other_offset other_lengths.now other_strides.now) self.old }
-        requires returns { GivesPartBack (F.post f) (names_either offset lengths.now strides.now other_offset other_lengths.now other_strides.now) self.old }
-        ensures part { IsPartReturned (F.post f) (names_either offset lengths.now strides.now other_offset other_lengths.now other_strides.now) self.old self.new result }
+        requires callable { TakesEither (F.pre f) offset lengths.now strides.now from sizes.now steps.now self.old }
+        requires returns { GivesEitherBack (F.post f) offset lengths.now strides.now from sizes.now steps.now self.old }
+        ensures part { HasEither (F.post f) offset lengths.now strides.now from sizes.now steps.now self.old self.new result }
         ensures same { borrow_of self.new ≡ borrow_of self.old }
         ensures long { IsAsLong self.old self.new }
     {
@@ -164,9 +155,9 @@ impl<'a, A> Region<'a, A> {
             offset,
             lengths,
             strides,
-            other_offset,
-            other_lengths,
-            other_strides,
+            from,
+            sizes,
+            steps,
             |named, others|
                 requires { F.pre f named }
                 ensures { F.post f named.entry (result.0, result.2) × (result.1 ≡ others.entry) }

@@ -1,6 +1,6 @@
 -- The test whether a list of slices names an index is true exactly where some index of the result stands for it.
-use Rattle.std.proofs.Common.{not, ◌&&◌, ◌≡◌, ℕ, zero, suc, ◌+◌, ◌-◌, ◌*◌, ◌/◌, ◌%◌, ◌<◌, ◌≤◌, Bool, true, false, eqb, refl, ap, sym, ◌∙◌, arith, List, [], ◌∷◌}
-use Rattle.std.specs.Prelude.{ℤ, pos, negsuc, nat_abs, nat_eq, nat_le, nat_lt, Option, None, Some}
+use Rattle.std.proofs.Common.{◌&&◌, ◌≡◌, ℕ, zero, suc, ◌+◌, ◌-◌, ◌*◌, ◌/◌, ◌%◌, ◌<◌, ◌≤◌, Bool, true, refl, ap, ◌∙◌, arith, List, [], ◌∷◌}
+use Rattle.std.specs.Prelude.{ℤ, pos, negsuc, nat_le, nat_lt, Option, None, Some}
 use Rattle.std.specs.Option.{unwrap_or, is_some}
 use Rattle.std.proofs.Math.Nat.{mul-le-mul_right, lt-div-mul-add, mul-mod_left, div-lt_iff_lt-mul, div-mul-le_self}
 use Rattle.std.proofs.lemmas.Nat.{div-add-mod'}
@@ -13,7 +13,7 @@ use Rattle.nd_shape_and_slice.specs.Shape.{in_box}
 use Rattle.nd_shape_and_slice.specs.Slice.{fits_axis, quotient_up, sliced_length, sliced_from, low_of, high_of}
 use Rattle.nd_shape_and_slice.specs.SliceInfo.{coordinate_on, each_fits, shape_after, index_before}
 use Rattle.nd_shape_and_slice.proofs.RowMajor.{in_box-cons}
-use Rattle.nd_shape_and_slice.specs.Naming.{is_multiple, on_step, slice_names, lies_at, names_index}
+use Rattle.nd_shape_and_slice.specs.Naming.{is_multiple, slice_names, lies_at, names_index}
 
 -- ---- steps over a range
 rest_is : (d r : ℕ) → is_multiple (suc d) r ≡ true → r % suc d ≡ 0

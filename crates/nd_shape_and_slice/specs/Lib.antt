@@ -16,3 +16,4 @@ pub mod Broadcast
 pub mod AxesLeft
 pub mod Ranges
 pub mod Naming
+pub mod AxisCounts

@@ -30,9 +30,11 @@ pub struct Axes<'a, D> {
 }
 
 impl<'a, D: Dimension> Axes<'a, D> {
+    ghost use Rattle.nd_shape_and_slice.specs.AxesLeft.{axes_left};
+
     /// The axes with these lengths and strides.
     pub fn new<T: StrideList>(dim: &'a D, strides: &'a T) -> Self
-        ensures { axes_from result.axis result.lengths.now result.strides.now ≡ axes_from 0 (D.lengths dim.now) (T.strides_of strides.now) }
+        ensures { axes_left result ≡ axes_from 0 (D.lengths dim.now) (T.strides_of strides.now) }
     {
         Axes {
             axis: 0,

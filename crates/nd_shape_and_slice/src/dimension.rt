@@ -1,6 +1,7 @@
 //! Dimensions: lists of lengths and of strides, one for each axis.
 
 ghost use Rattle.std.specs.Prelude.{◌≡◌, ◌<◌, ◌≤◌, ◌==◌, ◌&&◌, nat_le, ℕ, ℤ, pos, Bool, true, false, List, Option, Some, None, length, take, slice_index, slice_index_or, slice_set, slice_get, replicate, MatchOption, map};
+ghost use Rattle.nd_shape_and_slice.specs.AxisCounts.{IsDimensionWith};
 ghost use Rattle.nd_shape_and_slice.specs.Shape.{HasCheckedSize, size_of};
 
 use crate::entries::{entry_at, set_entry};
@@ -130,7 +131,7 @@ pub trait Dimension: AxisCount + Copy {
 pub trait FromDimension: Dimension {
     /// The dimension with another's lengths; None exactly if it can't have so many axes.
     fn from_dimension<E: Dimension>(other: &E) -> Option<Self>
-        ensures { MatchOption result (Self.has_axes (length (E.lengths other.now)) ≡ false) (λ d. Self.lengths d ≡ E.lengths other.now) };
+        ensures { IsDimensionWith Self.has_axes Self.lengths (E.lengths other.now) result };
 }
 
 impl<D: Dimension> FromDimension for D {

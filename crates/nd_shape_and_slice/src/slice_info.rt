@@ -1,6 +1,7 @@
 //! Lists of slices, which read the axes of an array in order.
 
 ghost use Rattle.std.specs.Prelude.{◌↔◌, ◌≡◌, ◌≤◌, ◌==◌, ◌&&◌, not, nat_le, ℕ, Bool, true, false, List, length, drop, OnOk, IfOk, OnErr, IfErr, IsTrue, MatchOption, Option, Some, None, count_by, ◌∷◌, ◌+◌, ◌<◌, ◌^◌, if◌then◌else◌, slice_get};
+ghost use Rattle.nd_shape_and_slice.specs.AxisCounts.{HasAxesIfFew};
 ghost use Rattle.nd_shape_and_slice.specs.SliceInfo.{reads_axis, keeps_axis, axes_read, axes_kept, coordinate_on, each_fits, fits_shape, fits_next, has_counts};
 ghost use Rattle.nd_shape_and_slice.specs.Slicing.{next_axis};
 ghost use Rattle.nd_shape_and_slice.specs.declared.slice_info.SliceInfoElem.{SliceInfoElem};
@@ -224,7 +225,7 @@ pub trait SliceArg<D>: Drop {
     /// The list's elements.
     fn elements(&self) -> &[SliceInfoElem]
         ensures list { result.now ≡ elements_of self.now }
-        ensures output { nat_le (axes_kept (elements_of self.now)) 32 ≡ true → Self.OutDim.has_axes (axes_kept (elements_of self.now)) ≡ true };
+        ensures output { HasAxesIfFew Self.OutDim.has_axes (axes_kept (elements_of self.now)) };
 
     /// Whether the list fits an array of this shape.
     fn fits(&self, shape: &[usize]) -> bool

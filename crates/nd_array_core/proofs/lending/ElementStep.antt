@@ -17,7 +17,7 @@ use Rattle.nd_array_core.specs.base.Writes.{OthersStay, IsWrittenAt}
 use Rattle.nd_array_core.proofs.WriteStep.{written_element}
 use Rattle.nd_array_core.specs.base.ElementMut.{KeepsPlaces}
 use Rattle.nd_array_core.specs.base.ElementLent.{array_with_element}
-use Rattle.nd_array_core.specs.layout.RunLent.{array_with_items}
+use Rattle.nd_array_core.specs.reshape.LentSlices.{array_with_run}
 
 numbered : {A : Type 0} (stored : ℕ → Option A) (z : ℤ) → names_place stored z ≡ true → (pos (nat_abs z) ≡ z) × (is_some (stored (nat_abs z)) ≡ true)
 numbered stored (pos p) has = (refl, has)
@@ -47,11 +47,11 @@ module _ {S D T A P R L M : Type 0} {s : data_trait.Ghosts S A} {d : dimension.G
   unfolding array_with_element
   with_element_is set a p i x b at_p storage layout = same_array b (array_with_element set a i x) (storage ∙ ap (λ q. (set a.storage q x).0) at_p) layout
 
-  -- one whose storage has other elements
-  pub with_items_is : (refill : (x : S) → List A → (y : S) × KeepsPlaces (s.stored x) (s.stored y)) (a : ArrayBase S D T A P R L M s d n r t) (ws : List A) (b : ArrayBase S D T A P R L M s d n r t)
-      → b.storage ≡ (refill a.storage ws).0 → b.layout ≡ a.layout → b ≡ array_with_items refill a ws
-  unfolding array_with_items
-  with_items_is refill a ws b storage layout = same_array b (array_with_items refill a ws) storage layout
+  -- one whose storage has others at as many places as it has elements
+  pub with_run_is : (set : (x : S) → ℕ → ℕ → List A → (y : S) × KeepsPlaces (s.stored x) (s.stored y)) (a : ArrayBase S D T A P R L M s d n r t) (first p k : ℕ) (ws : List A) (b : ArrayBase S D T A P R L M s d n r t)
+      → p ≡ first → k ≡ size_of (d.lengths a.layout.dim) → b.storage ≡ (set a.storage p k ws).0 → b.layout ≡ a.layout → b ≡ array_with_run set a first ws
+  unfolding array_with_run
+  with_run_is set a first p k ws b at_first count storage layout = same_array b (array_with_run set a first ws) (storage ∙ ap (λ q. (set a.storage q k ws).0) at_first ∙ ap (λ m. (set a.storage first m ws).0) count) layout
 
   -- it shows the new element at the index, and every other as it was
   pub is_written : (set : (x : S) → ℕ → A → (y : S) × KeepsPlaces (s.stored x) (s.stored y)) {F : Type 0} (frame : S → F) (a : ArrayBase S D T A P R L M s d n r t) (i : List ℕ) (x : A)

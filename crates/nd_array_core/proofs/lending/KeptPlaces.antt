@@ -35,7 +35,8 @@ use Rattle.std.specs.contracts.snapshot.Snapshot as Snapshot
 use Rattle.nd_region.specs.Memory.{Spots, loan}
 use Rattle.nd_region.proofs.Memory.{Rg, rg_d}
 use Rattle.nd_array_core.specs.contracts.base.storage.RegionRepr as S
-use Rattle.nd_array_core.specs.base.NewElements.{overwritten_items, overwritten_by}
+use Rattle.nd_region.specs.Places.{overwritten_items}
+use Rattle.nd_region.proofs.Overwritten.{overwritten_by}
 
 module _ (E : El) {M : Type 1} {𝓤 : Ura M} (𝓛 : Logic 𝓤) (κ : Lft) (q : Share) (b o : ℕ) (δ : GName) (xs : List (el_x E)) (fs : List Bool) where
   open 𝓛 use {H, A}

@@ -1,55 +1,103 @@
--- The elements of an array in the standard layout lie one beside the other, in logical order.
-use Rattle.std.proofs.Common.{◌≡◌, ℕ, ◌+◌, ◌-◌, ◌<◌, ◌≤◌, true, List, length, drop, get_or, ℤ, pos, refl, ap, sym, ◌∙◌, arith}
-use Rattle.std.proofs.Common.{inl, inr}
-use Rattle.std.specs.Prelude.{◌⊎◌, Option, Some, None, is_some, slice_get, slice_range}
-use Rattle.std.proofs.lemmas.List.{get_or-drop, get_or-take, length-drop, length-take-le}
-use Rattle.std.proofs.lemmas.Option.{slice_get_within, slice_get_read, slice_get_cases}
+-- What an array shows once its elements were lent as one slice.
+use Rattle.std.proofs.Common.{◌≡◌, ℕ, ◌+◌, ◌-◌, ◌<◌, ◌⊎◌, Bool, true, false, List, length, get_or, ℤ, pos, refl, ap, sym, ◌∙◌, subst, arith}
+use Rattle.std.specs.Prelude.{Option, Some, None, is_some, slice_get, if◌then◌else◌}
 use Rattle.nd_shape_and_slice.specs.Shape.{in_box, size_of, row_rank, index_at}
 use Rattle.nd_shape_and_slice.specs.Place.{place_of}
+use Rattle.nd_shape_and_slice.specs.declared.dimension.Dimension as dimension
+use Rattle.nd_shape_and_slice.specs.declared.dimension.AxisCount as axis_count
+use Rattle.nd_shape_and_slice.specs.declared.dimension.StrideList as stride_list
 use Rattle.nd_shape_and_slice.proofs.RankIndexes.{in_box-index_at, row_rank-index_at}
 use Rattle.nd_shape_and_slice.proofs.RowMajor.{row_rank_below}
 use Rattle.nd_layout.proofs.Integers.{sums}
-use Rattle.nd_layout.specs.Ranks.{IsStandard}
-use Rattle.nd_array_core.specs.Meaning.{inside}
-use Rattle.nd_array_core.specs.Places.{stored_at, names_place, HoldsAll}
+use Rattle.nd_layout.specs.Ranks.{IsStandard, IsRun}
+use Rattle.nd_layout.specs.Strides.{reach_down}
+use Rattle.nd_array_core.specs.declared.base.storage.Data as data_trait
+use Rattle.nd_array_core.specs.declared.base.array.ArrayBase.{ArrayBase}
+use Rattle.nd_array_core.specs.Meaning.{inside, meaning_of, memory_layout_of, shape_of}
+use Rattle.nd_array_core.specs.Places.{stored_at, place_number, names_place, HoldsAll}
+use Rattle.nd_array_core.specs.base.ElementMut.{KeepsPlaces}
+use Rattle.nd_array_core.specs.base.ElementLent.{kept_names}
+use Rattle.nd_array_core.specs.base.RunLent.{IsBesideRun, HasRunAt, IsRunAt}
+use Rattle.nd_array_core.specs.base.StorageLaws.{HoldsWrittenRun, KeepsBesideRun}
+use Rattle.nd_array_core.specs.base.Writes.{OthersStay}
+use Rattle.nd_array_core.specs.reshape.RunSlices.{LiesAlong, IsStandardArray, IsRunArray}
+use Rattle.nd_array_core.specs.reshape.LentSlices.{array_with_run, array_with_rows, array_with_places, IsRewrittenByRank, IsRewrittenInMemoryOrder}
+use Rattle.nd_array_core.proofs.MemoryOrder.{run_has, run_lies}
+use Rattle.nd_array_core.proofs.RunElements.{standard_has}
+use Rattle.nd_array_core.proofs.RunPairs.{got_or}
 
-module _ {A : Type 0} (xs : List A) where
-  there_below : (p : ℕ) → is_some (slice_get xs p) ≡ true → p < length xs
-  there_below p has = by_test (slice_get xs p) refl has
-    where
-      by_test : (o : Option A) → slice_get xs p ≡ o → is_some o ≡ true → p < length xs
-      by_test (Some x) e h = slice_get_within xs p x e
-      by_test None e h = absurd cc
+-- a slice of a run, read item by item
+pub run_read : {A : Type 0} (stored : ℕ → Option A) (first count : ℕ) (xs : List A) → length xs ≡ count → ((k : ℕ) → k < count → stored (first + k) ≡ slice_get xs k) → (k : ℕ) (d : A) → k < count → stored (first + k) ≡ Some (get_or xs k d)
+run_read stored first count xs long is k d below = is k below ∙ got_or xs k d (subst (λ n. k < n) (sym long) below)
 
-  module _ (offset : ℕ) (ns : List ℕ) (ss : List ℤ) (standard : IsStandard ns ss) where
-    standard_place : (i : List ℕ) → in_box ns i ≡ true → place_of offset ss i ≡ pos (offset + row_rank ns i)
-    standard_place i h = omega (arith, sums, standard i h)
+module _ {A : Type 0} (old new : ℕ → Option A) (offset : ℕ) (ns : List ℕ) (ss : List ℤ) (ws : List A) where
+  abbrev place : List ℕ → Option ℕ
+  place i = inside ns i (place_number (place_of offset ss i))
 
-    -- the last of them is there
-    pub run_within : HoldsAll (slice_get xs) offset ns ss → 0 < size_of ns → offset + size_of ns ≤ length xs
-    run_within holds some =
-        let last = size_of ns - 1 in
-        let below : last < size_of ns = omega (arith, some) in
-        let i = index_at ns last in
-        let h = in_box-index_at ns last below in
-        let there : is_some (slice_get xs (offset + row_rank ns i)) ≡ true = ap (names_place (slice_get xs)) (sym (standard_place i h)) ∙ holds i h in
-        omega (arith, there_below (offset + row_rank ns i) there, row_rank-index_at ns last below, some)
+  -- in row-major order
+  module _ (standard : IsStandard ns ss) (written : (k : ℕ) → k < size_of ns → new (offset + k) ≡ slice_get ws k) (left : (p : ℕ) → IsBesideRun offset (size_of ns) p → new p ≡ old p) where
+    rank_place : (i : List ℕ) → in_box ns i ≡ true → place_of offset ss i ≡ pos (offset + row_rank ns i)
+    rank_place i h = omega (arith, sums, standard i h)
 
-  -- an element of a run is that of the list
-  pub run_element : (offset count k : ℕ) → offset + count ≤ length xs → k < count → slice_get (slice_range xs offset (offset + count)) k ≡ slice_get xs (offset + k)
-  run_element offset count k room lt = by_cases (slice_get_cases xs (offset + k)).1
-    where
-      run : List A
-      run = slice_range xs offset (offset + count)
+    by_rank : (i : List ℕ) → inside ns i (stored_at new (place_of offset ss i)) ≡ inside ns i (slice_get ws (row_rank ns i))
+    by_rank i = by_test (in_box ns i) refl
+      where
+        by_test : (t : Bool) → in_box ns i ≡ t → inside ns i (stored_at new (place_of offset ss i)) ≡ inside ns i (slice_get ws (row_rank ns i))
+        by_test true h = rw (h, rank_place i h) (written (row_rank ns i) (row_rank_below ns i h))
+        by_test false out = rw out refl
 
-      by_cases : ((x : A) × (offset + k < length xs) × (slice_get xs (offset + k) ≡ Some x) × (get_or xs (offset + k) x ≡ x)) ⊎ ((length xs ≤ offset + k) × (slice_get xs (offset + k) ≡ None)) → slice_get run k ≡ slice_get xs (offset + k)
-      by_cases (inl there) =
-          let x = there.0 in
-          let rest = length-drop offset xs in
-          let long : length run ≡ offset + count - offset = length-take-le (offset + count - offset) (drop offset xs) (omega (arith, rest, room)) in
-          slice_get_read run (length run) k x refl (omega (arith, long, lt)) (sym there.3 ∙ sym (get_or-take (offset + count - offset) (drop offset xs) k x (omega (arith, lt)) ∙ get_or-drop offset xs k x)) ∙ sym there.2
-      by_cases (inr past) = absurd (let far = past.0 in omega (arith, far, room, lt))
+    at_rank : (k p : ℕ) → k < size_of ns → p ≡ offset + k → place (index_at ns k) ≡ Some p
+    at_rank k p below e =
+        let h = in_box-index_at ns k below in
+        let same : offset + row_rank ns (index_at ns k) ≡ p = omega (arith, e, row_rank-index_at ns k below) in
+        rw (h, rank_place (index_at ns k) h) (ap Some same)
 
-  module _ (offset : ℕ) (ns : List ℕ) (ss : List ℤ) (standard : IsStandard ns ss) (room : offset + size_of ns ≤ length xs) where
-    pub run_shows : (i : List ℕ) → in_box ns i ≡ true → slice_get (slice_range xs offset (offset + size_of ns)) (row_rank ns i) ≡ inside ns i (stored_at (slice_get xs) (place_of offset ss i))
-    run_shows i h = rw (h, standard_place offset ns ss standard i h) (run_element offset (size_of ns) (row_rank ns i) room (row_rank_below ns i h))
+    others_by_rank : OthersStay place old new
+    others_by_rank p unnamed = left p (λ k below e. unnamed (index_at ns k) (at_rank k p below e))
+
+  -- in the order of the places
+  module _ (lies : LiesAlong ns (offset - reach_down ns ss) place (λ i. inside ns i (stored_at new (place_of offset ss i))) ws) (left : (p : ℕ) → IsBesideRun (offset - reach_down ns ss) (size_of ns) p → new p ≡ old p) where
+    others_by_place : OthersStay place old new
+    others_by_place p unnamed = left p (λ k below e. let at = lies.each k below in unnamed at.0 (at.2 ∙ ap Some (sym e)))
+
+module _ {S D T A P R L M : Type 0} {s : data_trait.Ghosts S A} {d : dimension.Ghosts D P R L M} {n : axis_count.Ghosts D} {r : stride_list.Ghosts R} {t : stride_list.Ghosts T} where
+  -- the elements are at these places
+  pub standard_there : (a : ArrayBase S D T A P R L M s d n r t) → IsStandardArray a → HasRunAt (s.stored a.storage) a.layout.offset (size_of (d.lengths a.layout.dim))
+  unfolding meaning_of memory_layout_of
+  standard_there a standard k below = standard_has (s.stored a.storage) a.layout.offset (d.lengths a.layout.dim) (t.strides_of a.layout.strides) standard a.inside k below
+
+  pub run_there : (a : ArrayBase S D T A P R L M s d n r t) → IsRunArray a → HasRunAt (s.stored a.storage) (a.layout.offset - reach_down (d.lengths a.layout.dim) (t.strides_of a.layout.strides)) (size_of (d.lengths a.layout.dim))
+  unfolding meaning_of memory_layout_of
+  run_there a which k below = run_has (s.stored a.storage) a.layout.offset (d.lengths a.layout.dim) (t.strides_of a.layout.strides) a.layout.as_many a.inside which k below
+
+  module _ (set : (x : S) → ℕ → ℕ → List A → (y : S) × KeepsPlaces (s.stored x) (s.stored y)) {F : Type 0} (frame : S → F)
+      (written : HoldsWrittenRun s.stored set) (left : KeepsBesideRun s.stored set) (same_frame : (u : S) (p k : ℕ) (ws : List A) → frame (set u p k ws).0 ≡ frame u) where
+    pub rewritten_by_rank : (a : ArrayBase S D T A P R L M s d n r t) (ws : List A) → IsStandardArray a → length ws ≡ size_of (shape_of a) → IsRewrittenByRank frame a ws (array_with_rows set a ws)
+    unfolding array_with_run meaning_of memory_layout_of
+    rewritten_by_rank a ws standard long =
+        let ns = d.lengths a.layout.dim in
+        let ss = t.strides_of a.layout.strides in
+        let first = a.layout.offset in
+        let new = set a.storage first (size_of ns) ws in
+        let there = standard_there a standard in
+        let at = written a.storage first (size_of ns) ws there long in
+        let beside = left a.storage first (size_of ns) ws there long in (
+          by_rank (s.stored a.storage) (s.stored new.0) first ns ss ws standard at beside,
+          (refl, refl, (λ k. refl), others_by_rank (s.stored a.storage) (s.stored new.0) first ns ss ws standard at beside, same_frame a.storage first (size_of ns) ws, refl),
+        )
+
+    pub rewritten_by_place : (a : ArrayBase S D T A P R L M s d n r t) (ws : List A) → IsRunArray a → length ws ≡ size_of (shape_of a) → IsRewrittenInMemoryOrder frame a ws (array_with_places set a ws)
+    unfolding array_with_run meaning_of memory_layout_of
+    rewritten_by_place a ws which long =
+        let ns = d.lengths a.layout.dim in
+        let ss = t.strides_of a.layout.strides in
+        let first = a.layout.offset - reach_down ns ss in
+        let new = set a.storage first (size_of ns) ws in
+        let there = run_there a which in
+        let at = written a.storage first (size_of ns) ws there long in
+        let beside = left a.storage first (size_of ns) ws there long in
+        let kept : HoldsAll (s.stored new.0) a.layout.offset ns ss = λ i h. kept_names (s.stored a.storage) (s.stored new.0) new.1 (place_of a.layout.offset ss i) (a.inside i h) in
+        let lies = run_lies (s.stored new.0) a.layout.offset ns ss a.layout.as_many kept which ws long (run_read (s.stored new.0) first (size_of ns) ws long at) in (
+          lies,
+          (refl, refl, (λ k. refl), others_by_place (s.stored a.storage) (s.stored new.0) a.layout.offset ns ss ws lies beside, same_frame a.storage first (size_of ns) ws, refl),
+        )

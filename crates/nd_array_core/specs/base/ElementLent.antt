@@ -15,6 +15,14 @@ pub kept_names : {A : Type 0} (old new : ℕ → Option A) → KeepsPlaces old n
 kept_names old new kept (pos p) has = kept p has
 kept_names old new kept (negsuc p) has = has
 
+-- whatever is written at an index of x, it is so written
+abbrev pub IsAnyWritten : {X A : Type 0} → (X → List ℕ → A → X → Type 0) → (X → List ℕ → A → X) → X → List ℕ → Type 0
+IsAnyWritten {X} {A} is_written with_element x i = (y : A) → is_written x i y (with_element x i y)
+
+-- x ends with what is left behind a reference to the element at an index, where there is one, and else as it is
+abbrev pub may_lend : (X A : RattleType) → MutBor X.Denot → (X.Denot → List ℕ → A.Denot → X.Denot) → List ℕ → Option (MutBor A.Denot) → Fml
+may_lend X A x with_element i found = LendsIf X A x found (with_element x.now i) x.now
+
 module _ {S D T A P R L M : Type 0} {s : data_trait.Ghosts S A} {d : dimension.Ghosts D P R L M} {n : axis_count.Ghosts D} {r : stride_list.Ghosts R} {t : stride_list.Ghosts T} where
   -- the array once its storage is another that holds something wherever it did
   abbrev pub with_storage : (a : ArrayBase S D T A P R L M s d n r t) → (x : S) × KeepsPlaces (s.stored a.storage) (s.stored x) → ArrayBase S D T A P R L M s d n r t
@@ -41,7 +49,3 @@ module _ (S A D P R L M : RattleType) (s : data_trait.Ghosts S.Denot A.Denot) (d
   -- the array ends with what is left behind the reference at the index
   abbrev pub lends_element : MutBor array_row.Denot → List ℕ → MutBor A.Denot → Fml
   lends_element a i x = Lends array_row A a x (array_with_element s.with_element a.now i)
-
-  -- the same where there is a reference, and else the array stays as it is
-  abbrev pub may_lend_element : MutBor array_row.Denot → List ℕ → Option (MutBor A.Denot) → Fml
-  may_lend_element a i x = LendsIf array_row A a x (array_with_element s.with_element a.now i) a.now

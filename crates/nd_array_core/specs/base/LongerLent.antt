@@ -1,7 +1,8 @@
 -- What the borrow that a mutable view is of ends as, once a reference that lives as long as it is over.
-use Rattle.std.specs.Prelude.{ℕ, List, Option, Some, None, slice_set}
+use Rattle.std.specs.Prelude.{◌≡◌, ℕ, false, List, Option, Some, None, MatchOption, slice_set}
 use Rattle.std.specs.Option.{ghost_name_of}
 use Rattle.std.specs.Borrow.{Fml, RattleType, MutBor, Array, follows, follows_if}
+use Rattle.nd_shape_and_slice.specs.Shape.{in_box}
 use Rattle.nd_shape_and_slice.specs.declared.dimension.Dimension as dimension
 use Rattle.nd_shape_and_slice.specs.declared.dimension.AxisCount as axis_count
 use Rattle.nd_shape_and_slice.specs.declared.dimension.StrideList as stride_list
@@ -9,7 +10,7 @@ use Rattle.nd_region.specs.declared.region.Region.{Region}
 use Rattle.nd_array_core.specs.declared.base.storage.Data as data_trait
 use Rattle.nd_array_core.specs.declared.base.storage.RegionRepr.{RegionRepr}
 use Rattle.nd_array_core.specs.declared.base.array.ArrayBase.{ArrayBase}
-use Rattle.nd_array_core.specs.Meaning.{place_at, storage_of}
+use Rattle.nd_array_core.specs.Meaning.{shape_of, element_at, place_at, storage_of}
 
 -- a list with another item at a place, where one is given
 abbrev pub with_item_at : {A : Type 0} → List A → Option ℕ → A → List A
@@ -24,6 +25,10 @@ module _ {A D T P R L M : Type 0} {s : data_trait.Ghosts (RegionRepr (Region A))
   -- its elements, with another at an index
   abbrev pub items_with : ArrayBase (RegionRepr (Region A)) D T A P R L M s d n r t → List ℕ → A → List A
   items_with v i x = with_item_at (region_of v).items (place_at v i) x
+
+  -- the element at an index, to be written, or none where the index isn't in the shape
+  abbrev pub IsElementOrOutside : ArrayBase (RegionRepr (Region A)) D T A P R L M s d n r t → List ℕ → Option (MutBor A) → Type 0
+  IsElementOrOutside v i found = MatchOption found (in_box (shape_of v) i ≡ false) (λ x. element_at v i ≡ Some x.now)
 
 module _ (A : RattleType) {D T P R L M : Type 0} {s : data_trait.Ghosts (RegionRepr (Region A.Denot)) A.Denot} {d : dimension.Ghosts D P R L M} {n : axis_count.Ghosts D} {r : stride_list.Ghosts R} {t : stride_list.Ghosts T} where
   -- the borrow ends with what is left behind the reference at the place of the index, and with what it held at every other

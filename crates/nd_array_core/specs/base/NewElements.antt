@@ -9,16 +9,11 @@ use Rattle.std.specs.Prelude.{ℕ, zero, suc, ◌≤◌, List, [], ◌∷◌, �
 use Rattle.std.specs.Option.{is_some}
 use Rattle.std.specs.Vec.{with_items}
 use Rattle.std.specs.declared.vec.Vec.{Vec}
-use Rattle.nd_region.specs.Places.{element_in, stored_in, written_where}
+use Rattle.nd_region.specs.Places.{element_in, stored_in, overwritten_items, written_where}
+use Rattle.nd_region.proofs.Overwritten.{overwritten_by}
 use Rattle.nd_array_core.specs.base.ElementMut.{KeepsPlaces}
 
 module _ {A : Type 0} where
-  -- ys in the place of xs, as many as these: of a longer ys its front, and after a shorter one the rest of xs
-  abbrev pub overwritten_items : List A → List A → List A
-  overwritten_items [] ys = []
-  overwritten_items (x ∷ xs) [] = x ∷ xs
-  overwritten_items (x ∷ xs) (y ∷ ys) = y ∷ overwritten_items xs ys
-
   pub overwritten_long : (xs ys : List A) → length (overwritten_items xs ys) ≡ length xs
   overwritten_long [] ys = refl
   overwritten_long (x ∷ xs) [] = refl
@@ -32,13 +27,6 @@ module _ {A : Type 0} where
   overwritten_again [] ys = refl
   overwritten_again (x ∷ xs) [] = ap (λ ys. x ∷ ys) (overwritten_itself xs)
   overwritten_again (x ∷ xs) (y ∷ ys) = ap (λ zs. y ∷ zs) (overwritten_again xs ys)
-
-  -- where it is as long
-  pub overwritten_by : (xs ys : List A) → length ys ≡ length xs → overwritten_items xs ys ≡ ys
-  overwritten_by [] [] long = refl
-  overwritten_by [] (y ∷ ys) long = absurd (not-suc-le-zero {n = 0} (let bad : suc (length ys) ≡ 0 = long in omega arith))
-  overwritten_by (x ∷ xs) [] long = absurd (not-suc-le-zero {n = 0} (let bad : 0 ≡ suc (length xs) = long in omega arith))
-  overwritten_by (x ∷ xs) (y ∷ ys) long = let i : suc (length ys) ≡ suc (length xs) = long in ap (λ zs. y ∷ zs) (overwritten_by xs ys (omega arith))
 
   -- a place has an element just where its number is below the length, and the place is in the mask
   as_many : (xs ys : List A) (p : ℕ) → length ys ≡ length xs → is_some (slice_get ys p) ≡ is_some (slice_get xs p)

@@ -5,14 +5,20 @@ use Rattle.std.specs.Prelude.{ℕ, zero, suc, ◌+◌, ◌-◌, ◌<◌, ◌≤�
 use Rattle.std.specs.Borrow.{Fml, RattleType, MutBor, Lends, Array}
 use Rattle.std.specs.Vec.{with_items}
 use Rattle.std.specs.declared.vec.Vec.{Vec}
-use Rattle.nd_region.specs.Places.{element_in, stored_in, run_written}
+use Rattle.nd_region.specs.Places.{element_in, stored_in, overwritten_items, run_written}
 use Rattle.nd_region.proofs.Stored.{whole_got}
+use Rattle.nd_region.proofs.Overwritten.{overwritten_by, nothing_written}
 use Rattle.nd_array_core.specs.base.Lends.{written_from}
-use Rattle.nd_array_core.specs.base.NewElements.{items_put}
+use Rattle.nd_array_core.specs.base.NewElements.{items_put, items_itself}
 
 -- the storage ends with what is left behind the slice, by the function that sets these elements
 abbrev pub run_ends : (S A : RattleType) → MutBor S.Denot → MutBor (List A.Denot) → (List A.Denot → S.Denot) → Fml
 run_ends S A s r with_last = Lends S (Array A 0) s r with_last
+
+-- where that many places from one on begin: none need no place
+abbrev pub run_start : ℕ → ℕ → ℕ
+run_start place zero = zero
+run_start place (suc n) = place
 
 -- a map has elements at that many places from one on
 abbrev pub HasRunAt : {A : Type 0} → (ℕ → Option A) → ℕ → ℕ → Type 0
@@ -85,24 +91,6 @@ module _ {A : Type 0} where
       let e : suc m ≡ 0 + suc (length ws) = long in let r : suc m ≤ suc (length xs) = room in
       run_outside xs fs zero m q ws (omega (arith, e)) (omega (arith, r)) (λ k below same. beside (suc k) (let l : suc k < suc (length ws) = omega (arith, below) in l) (omega (arith, same)))
 
-  -- a region once those elements are others
-  module _ (xs : List A) (held : List Bool) (place count : ℕ) (ws : List A) (some : 0 < count) (holds : HasRunAt (stored_in xs held) place count) (long : length ws ≡ count) where
-    pub places_run : (k : ℕ) → k < count → stored_in (run_written xs place count ws) held (place + k) ≡ slice_get ws k
-    unfolding stored_in
-    places_run k below = run_inside xs held place (place + count) (place + k) k ws (ap (λ n. place + n) (sym long)) refl (omega (arith, long, below)) (holds k below)
-
-    pub places_beside_run : (p : ℕ) → IsBesideRun place count p → stored_in (run_written xs place count ws) held p ≡ stored_in xs held p
-    unfolding stored_in
-    places_beside_run p beside = run_outside xs held place (place + count) p ws (ap (λ n. place + n) (sym long)) (let last = there_is xs held (place + (count - 1)) (holds (count - 1) (omega (arith, some))) in omega (arith, last, some)) (λ k below. beside k (omega (arith, long, below)))
-
-  -- a vector once those elements are others
-  drop_both : (n p m : ℕ) (xs : List A) → m ≡ p + n → drop n (drop p xs) ≡ drop m xs
-  drop_both n zero m xs e = ap (λ k. drop k xs) (let same : n ≡ m = omega (arith, e) in same)
-  drop_both n (suc p) zero xs e = absurd (omega (arith, e))
-  drop_both zero (suc p) (suc m) [] e = refl
-  drop_both (suc n) (suc p) (suc m) [] e = refl
-  drop_both n (suc p) (suc m) (x ∷ xs) e = drop_both n p m xs (omega (arith, e))
-
   run_long : (xs : List A) (p m : ℕ) (ws : List A) → m ≡ p + length ws → m ≤ length xs → length (around xs p m ws) ≡ length xs
   run_long [] (suc p) m ws long room = absurd (let bad : m ≤ 0 = room in omega (arith, bad, long))
   run_long [] zero m (w ∷ ws) long room = absurd (let bad : m ≤ 0 = room in let e : m ≡ 0 + suc (length ws) = long in omega (arith, bad, e))
@@ -116,29 +104,77 @@ module _ {A : Type 0} where
   run_long (x ∷ xs) zero (suc m) (w ∷ ws) long room =
       let e : suc m ≡ 0 + suc (length ws) = long in let r : suc m ≤ suc (length xs) = room in ap suc (run_long xs zero m ws (omega (arith, e)) (omega (arith, r)))
 
-  module _ {Z : Type 0} (v : Vec A Z) (place count : ℕ) (ws : List A) (some : 0 < count) (holds : HasRunAt (slice_get v.items) place count) (long : length ws ≡ count) where
-    all_held : HasRunAt (stored_in v.items (replicate (length v.items) true)) place count
-    all_held k below = ap is_some (whole_got v.items (place + k)) ∙ holds k below
-
-    room : place + count ≤ length v.items
+  -- a region once those elements are others
+  module _ (xs : List A) (held : List Bool) (place : ℕ) where
+    last_inside : (count : ℕ) → 0 < count → HasRunAt (stored_in xs held) place count → place + count ≤ length xs
     unfolding stored_in
-    room = let last = there_is v.items (replicate (length v.items) true) (place + (count - 1)) (all_held (count - 1) (omega (arith, some))) in omega (arith, last, some)
+    last_inside count some holds = let last = there_is xs held (place + (count - 1)) (holds (count - 1) (omega (arith, some))) in omega (arith, last, some)
 
-    same_run : written_from v.items place ws ≡ run_written v.items place count ws
-    same_run = ap (λ rest. take place v.items ++ (ws ++ rest)) (drop_both (length ws) place (place + count) v.items (ap (λ n. place + n) (sym long)))
+    as_long : (count : ℕ) (ws : List A) → HasRunAt (stored_in xs held) place count → length ws ≡ count → length (run_written xs place count ws) ≡ length xs
+    as_long zero [] holds long = ap length (nothing_written xs place)
+    as_long zero (w ∷ ws) holds long = absurd (let bad : suc (length ws) ≡ 0 = long in omega (arith, bad))
+    as_long (suc n) ws holds long = run_long xs place (place + suc n) ws (ap (λ k. place + k) (sym long)) (last_inside (suc n) (omega arith) holds)
 
-    as_long : length (run_written v.items place count ws) ≡ length v.items
-    as_long = run_long v.items place (place + count) ws (ap (λ n. place + n) (sym long)) room
+    -- the row that is put in its place is that with the run
+    kept_by : (count : ℕ) (ws : List A) → HasRunAt (stored_in xs held) place count → length ws ≡ count → overwritten_items xs (run_written xs place count ws) ≡ run_written xs place count ws
+    kept_by count ws holds long = overwritten_by xs (run_written xs place count ws) (as_long count ws holds long)
 
-    got : (p : ℕ) → slice_get (with_items v (written_from v.items place ws)).items p ≡ stored_in (run_written v.items place count ws) (replicate (length v.items) true) p
-    got p =
-        ap (λ ys. slice_get ys p) (items_put v (written_from v.items place ws) (ap length same_run ∙ as_long))
-        ∙ ap (λ ys. slice_get ys p) same_run
-        ∙ sym (whole_got (run_written v.items place count ws) p)
-        ∙ ap (λ n. stored_in (run_written v.items place count ws) (replicate n true) p) as_long
+    pub places_run : (count : ℕ) (ws : List A) → HasRunAt (stored_in xs held) place count → length ws ≡ count → (k : ℕ) → k < count → stored_in (overwritten_items xs (run_written xs place count ws)) held (place + k) ≡ slice_get ws k
+    unfolding stored_in
+    places_run count ws holds long k below =
+        ap (λ ys. element_in ys held (place + k)) (kept_by count ws holds long)
+        ∙ run_inside xs held place (place + count) (place + k) k ws (ap (λ n. place + n) (sym long)) refl (omega (arith, long, below)) (holds k below)
 
-    pub items_run : (k : ℕ) → k < count → slice_get (with_items v (written_from v.items place ws)).items (place + k) ≡ slice_get ws k
-    items_run k below = got (place + k) ∙ places_run v.items (replicate (length v.items) true) place count ws some all_held long k below
+    beside_written : (count : ℕ) (ws : List A) → HasRunAt (stored_in xs held) place count → length ws ≡ count → (p : ℕ) → IsBesideRun place count p → element_in (run_written xs place count ws) held p ≡ element_in xs held p
+    beside_written zero [] holds long p beside = ap (λ ys. element_in ys held p) (nothing_written xs place)
+    beside_written zero (w ∷ ws) holds long p beside = absurd (let bad : suc (length ws) ≡ 0 = long in omega (arith, bad))
+    beside_written (suc n) ws holds long p beside =
+        run_outside xs held place (place + suc n) p ws (ap (λ k. place + k) (sym long)) (last_inside (suc n) (omega arith) holds) (λ k below. beside k (omega (arith, long, below)))
 
-    pub items_beside_run : (p : ℕ) → IsBesideRun place count p → slice_get (with_items v (written_from v.items place ws)).items p ≡ slice_get v.items p
-    items_beside_run p beside = got p ∙ places_beside_run v.items (replicate (length v.items) true) place count ws some all_held long p beside ∙ whole_got v.items p
+    pub places_beside_run : (count : ℕ) (ws : List A) → HasRunAt (stored_in xs held) place count → length ws ≡ count → (p : ℕ) → IsBesideRun place count p → stored_in (overwritten_items xs (run_written xs place count ws)) held p ≡ stored_in xs held p
+    unfolding stored_in
+    places_beside_run count ws holds long p beside = ap (λ ys. element_in ys held p) (kept_by count ws holds long) ∙ beside_written count ws holds long p beside
+
+  -- a vector once those elements are others
+  drop_both : (n p m : ℕ) (xs : List A) → m ≡ p + n → drop n (drop p xs) ≡ drop m xs
+  drop_both n zero m xs e = ap (λ k. drop k xs) (let same : n ≡ m = omega (arith, e) in same)
+  drop_both n (suc p) zero xs e = absurd (omega (arith, e))
+  drop_both zero (suc p) (suc m) [] e = refl
+  drop_both (suc n) (suc p) (suc m) [] e = refl
+  drop_both n (suc p) (suc m) (x ∷ xs) e = drop_both n p m xs (omega (arith, e))
+
+  module _ {Z : Type 0} (v : Vec A Z) (place : ℕ) where
+    abbrev all : List Bool
+    all = replicate (length v.items) true
+
+    all_held : (count : ℕ) → HasRunAt (slice_get v.items) place count → HasRunAt (stored_in v.items all) place count
+    all_held count holds k below = ap is_some (whole_got v.items (place + k)) ∙ holds k below
+
+    -- they are places of its items
+    pub run_room : (count : ℕ) → HasRunAt (slice_get v.items) place count → run_start place count + count ≤ length v.items
+    run_room zero holds = omega arith
+    run_room (suc n) holds = last_inside v.items all place (suc n) (omega arith) (all_held (suc n) holds)
+
+    module _ (n : ℕ) (ws : List A) (holds : HasRunAt (slice_get v.items) place (suc n)) (long : length ws ≡ suc n) where
+      same_run : written_from v.items place ws ≡ run_written v.items place (suc n) ws
+      same_run = ap (λ rest. take place v.items ++ (ws ++ rest)) (drop_both (length ws) place (place + suc n) v.items (ap (λ k. place + k) (sym long)))
+
+      kept_long : length (run_written v.items place (suc n) ws) ≡ length v.items
+      kept_long = as_long v.items all place (suc n) ws (all_held (suc n) holds) long
+
+      got : (p : ℕ) → slice_get (with_items v (written_from v.items place ws)).items p ≡ stored_in (overwritten_items v.items (run_written v.items place (suc n) ws)) all p
+      got p =
+          ap (λ ys. slice_get ys p) (items_put v (written_from v.items place ws) (ap length same_run ∙ kept_long))
+          ∙ ap (λ ys. slice_get ys p) same_run
+          ∙ sym (whole_got (run_written v.items place (suc n) ws) p)
+          ∙ ap (λ k. stored_in (run_written v.items place (suc n) ws) (replicate k true) p) kept_long
+          ∙ ap (λ ys. stored_in ys all p) (sym (kept_by v.items all place (suc n) ws (all_held (suc n) holds) long))
+
+    pub items_run : (count : ℕ) (ws : List A) → HasRunAt (slice_get v.items) place count → length ws ≡ count → (k : ℕ) → k < count → slice_get (with_items v (written_from v.items (run_start place count) ws)).items (place + k) ≡ slice_get ws k
+    items_run zero ws holds long k below = absurd (omega (arith, below))
+    items_run (suc n) ws holds long k below = got n ws holds long (place + k) ∙ places_run v.items all place (suc n) ws (all_held (suc n) holds) long k below
+
+    pub items_beside_run : (count : ℕ) (ws : List A) → HasRunAt (slice_get v.items) place count → length ws ≡ count → (p : ℕ) → IsBesideRun place count p → slice_get (with_items v (written_from v.items (run_start place count) ws)).items p ≡ slice_get v.items p
+    items_beside_run zero [] holds long p beside = ap (λ u. slice_get u.items p) (items_itself v)
+    items_beside_run zero (w ∷ ws) holds long p beside = absurd (let bad : suc (length ws) ≡ 0 = long in omega (arith, bad))
+    items_beside_run (suc n) ws holds long p beside = got n ws holds long p ∙ places_beside_run v.items all place (suc n) ws (all_held (suc n) holds) long p beside ∙ whole_got v.items p

@@ -103,8 +103,8 @@ module _ {P A : Type 0} (answers : P → Option A → A → P → Type 0) where
       × ((i : List ℕ) → count_by (is_index i) listing ≡ 0 → new i ≡ old i)
 
 -- the same of all that a meaning shows
-abbrev pub HasSomeAnswersOfAll : {P A : Type 0} → (P → Option A → A → P → Type 0) → Meaning A → P → (List ℕ → Option A) → Type 0
-HasSomeAnswersOfAll answers m first new = HasSomeAnswers answers m.shape first m.at new
+abbrev pub HasSomeAnswersOf : {P A : Type 0} → (P → Option A → A → P → Type 0) → Meaning A → P → (List ℕ → Option A) → Type 0
+HasSomeAnswersOf answers m first new = HasSomeAnswers answers m.shape first m.at new
 
 -- at each index stands what stood there, or what h gives of it
 abbrev pub IsOldOrMapped : {A : Type 0} → (A → A) → (List ℕ → Option A) → (List ℕ → Option A) → Type 0

@@ -73,5 +73,5 @@ module _
     {S D A T P R L M : Type 0} {s : data_trait.Ghosts S A} {d : dimension.Ghosts D P R L M} {n : axis_count.Ghosts D} {r : stride_list.Ghosts R} {t : stride_list.Ghosts T}
     {E U Q X V W : Type 0} {z : data_trait.Ghosts (RegionRepr (Region A)) A} {e : dimension.Ghosts E Q X V W} {k : axis_count.Ghosts E} {x : stride_list.Ghosts X} {u : stride_list.Ghosts U} where
   -- the array once a mutable view of it is over, which then had these elements
-  abbrev pub left_by : ((x : S) → List A → (y : S) × KeepsPlaces (s.stored x) (s.stored y)) → (S → List A) → ArrayBase S D T A P R L M s d n r t → ArrayBase (RegionRepr (Region A)) E U A Q X V W z e k x u → List A → ArrayBase S D T A P R L M s d n r t
-  left_by refill items a v ws = array_with_part refill items a (lent_places v) ws
+  abbrev pub left_by : ArrayBase S D T A P R L M s d n r t → ArrayBase (RegionRepr (Region A)) E U A Q X V W z e k x u → List A → ArrayBase S D T A P R L M s d n r t
+  left_by a v ws = array_with_part s.refilled s.items a (lent_places v) ws

@@ -13,10 +13,10 @@ use Rattle.nd_array_core.specs.declared.base.storage.Data as data_trait
 use Rattle.nd_array_core.specs.declared.base.storage.OwnedRepr.{OwnedRepr}
 use Rattle.nd_array_core.specs.declared.reshape.either.EitherArray.{EitherArray}
 use Rattle.nd_array_core.specs.declared.reshape.either.EitherArray.TheVariants.{View, Owned}
-use Rattle.nd_array_core.specs.Meaning.{Meaning, meaning_of, shape_of, element_at, storage_of}
+use Rattle.nd_array_core.specs.Meaning.{Meaning, meaning_of, shape_of, element_at, layout_strides, storage_of}
 use Rattle.nd_array_core.specs.Part.{ShowsWhole}
-use Rattle.nd_array_core.specs.base.Fresh.{OwnsInOrder}
-use Rattle.nd_array_core.specs.reshape.Regrouped.{IsShapeOf}
+use Rattle.nd_array_core.specs.base.Fresh.{ClonesOfAllAreEqual, OwnsInOrder}
+use Rattle.nd_array_core.specs.reshape.Regrouped.{IsShapeOf, LiesInOrder}
 use Rattle.nd_array_core.specs.reshape.RunSlices.{IsStandardArray}
 use Rattle.nd_array_core.specs.reshape.Serving.{SomeServe, StridesServe, ShowsServed, KeepsRanks}
 
@@ -49,6 +49,19 @@ pub data IsReshapeRefused (order : Order) (ns : List ℕ) (ss : List ℤ) (ms : 
   NotAsMany : (IsShapeOf ns ms → ⊥) → IsReshapeRefused order ns ss ms (Shape IncompatibleShape)
   NotCopied : IsShapeOf ns ms → (SomeServe order ns ss ms → ⊥) → IsReshapeRefused order ns ss ms NoMemory
 
+module _ {S D T A P R L M : Type 0} {s : data_trait.Ghosts S A} {d : dimension.Ghosts D P R L M} {n : axis_count.Ghosts D} {r : stride_list.Ghosts R} {t : stride_list.Ghosts T} where
+  -- why an array's elements can't be had under the lengths ms
+  abbrev pub RefusesReshape : ArrayBase S D T A P R L M s d n r t → Order → List ℕ → ArrayError → Type 0
+  RefusesReshape a order ms = IsReshapeRefused order (shape_of a) (layout_strides a) ms
+
+  -- where no strides serve, so that the elements are copied, each clone of one is the element
+  abbrev pub CopiesAreEqual : (A → A → Type 0) → ArrayBase S D T A P R L M s d n r t → Order → List ℕ → Type 0
+  CopiesAreEqual is_clone a order ms = (StridesServe a order ms → ⊥) → ClonesOfAllAreEqual is_clone (element_at a)
+
+  -- in the order in which the elements lie, strides serve each shape of as many
+  abbrev pub IsServedInItsOrder : ArrayBase S D T A P R L M s d n r t → Type 0
+  IsServedInItsOrder a = (order : Order) (ms : List ℕ) → LiesInOrder order a → IsShapeOf (shape_of a) ms → StridesServe a order ms
+
 module _
     {S D A T P R L M : Type 0} {s : data_trait.Ghosts S A} {d : dimension.Ghosts D P R L M} {n : axis_count.Ghosts D} {r : stride_list.Ghosts R} {t : stride_list.Ghosts T}
     {Z E Q X V W : Type 0} {z : data_trait.Ghosts Z A} {o : data_trait.Ghosts (OwnedRepr A) A} {e : dimension.Ghosts E Q X V W} {k : axis_count.Ghosts E} {x : stride_list.Ghosts X} where
@@ -57,6 +70,13 @@ module _
   abbrev pub ViewsOrCopies : ArrayBase S D T A P R L M s d n r t → Order → List ℕ → EitherArray A Z (OwnedRepr A) E Q X V W z o e k x → Type 0
   ViewsOrCopies a order ms (View b) = StridesServe a order ms × ShowsServed a order ms b
   ViewsOrCopies a order ms (Owned b) = (StridesServe a order ms → ⊥) × OwnsInOrder (ms, order) b × KeepsRanks a order ms b
+
+  -- where strides serve these lengths, the answer is a view; the same where they must be a shape of the elements too
+  abbrev pub IsViewIfServed : {B : Type 0} → ArrayBase S D T A P R L M s d n r t → Order → List ℕ → Result (EitherArray A Z (OwnedRepr A) E Q X V W z o e k x) B → Type 0
+  IsViewIfServed a order ms answer = StridesServe a order ms → AnswersView answer
+
+  abbrev pub IsViewIfShapeServed : {B : Type 0} → ArrayBase S D T A P R L M s d n r t → Order → List ℕ → Result (EitherArray A Z (OwnedRepr A) E Q X V W z o e k x) B → Type 0
+  IsViewIfShapeServed a order ms answer = IsShapeOf (shape_of a) ms → IsViewIfServed a order ms answer
 
   -- the elements of an array under its own lengths, in row-major order one beside the other: a view just where they lie
   -- so; else copies, from place 0 on
@@ -70,6 +90,13 @@ module _
   -- b has a's storage as that is, each element where it is, under the lengths ms and with its rank in an order
   abbrev pub KeepsStorage : ArrayBase (OwnedRepr A) D T A P R L M s d n r t → Order → List ℕ → ArrayBase (OwnedRepr A) E U A Q X V W s e k x u → Type 0
   KeepsStorage a order ms b = ShowsServed a order ms b × (storage_of b ≡ storage_of a)
+
+  -- where strides serve these lengths, the answer keeps the storage; the same where they must be a shape of the elements too
+  abbrev pub KeepsStorageIfServed : {B : Type 0} → ArrayBase (OwnedRepr A) D T A P R L M s d n r t → Order → List ℕ → Result (ArrayBase (OwnedRepr A) E U A Q X V W s e k x u) B → Type 0
+  KeepsStorageIfServed a order ms answer = StridesServe a order ms → IsOkAnd answer (KeepsStorage a order ms)
+
+  abbrev pub KeepsStorageIfShapeServed : {B : Type 0} → ArrayBase (OwnedRepr A) D T A P R L M s d n r t → Order → List ℕ → Result (ArrayBase (OwnedRepr A) E U A Q X V W s e k x u) B → Type 0
+  KeepsStorageIfShapeServed a order ms answer = IsShapeOf (shape_of a) ms → KeepsStorageIfServed a order ms answer
 
   -- the elements of an owned array under the lengths ms, each with its rank in an order: where strides serve in its own
   -- storage, as that is, each element where it is; else copies in that order, from place 0 on

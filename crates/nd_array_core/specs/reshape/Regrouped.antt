@@ -1,5 +1,5 @@
 -- Another shape of the same elements: each keeps its rank in an order.
-use Rattle.std.specs.Prelude.{ℕ, ◌≡◌, true, List, ℤ, pos}
+use Rattle.std.specs.Prelude.{ℕ, ◌≡◌, true, List, [], ◌∷◌, ℤ, pos}
 use Rattle.nd_shape_and_slice.specs.declared.dimension.Dimension as dimension
 use Rattle.nd_shape_and_slice.specs.declared.dimension.AxisCount as axis_count
 use Rattle.nd_shape_and_slice.specs.declared.dimension.StrideList as stride_list
@@ -14,7 +14,7 @@ use Rattle.nd_layout.specs.GivenStrides.{ordered_strides}
 use Rattle.nd_array_core.specs.declared.base.storage.Data as data_trait
 use Rattle.nd_array_core.specs.declared.base.array.ArrayBase.{ArrayBase}
 use Rattle.nd_array_core.specs.Meaning.{shape_of, layout_strides}
-use Rattle.nd_array_core.specs.Part.{Part}
+use Rattle.nd_array_core.specs.Part.{Part, BecomesPart}
 
 -- the index of the lengths ns that has the rank of an index of the lengths ms
 abbrev pub regrouped_index : Order → List ℕ → List ℕ → List ℕ → List ℕ
@@ -51,3 +51,18 @@ module _ {S D T A P R L M : Type 0} {s : data_trait.Ghosts S A} {d : dimension.G
   -- the elements under other lengths, each with its rank in an order, and the strides of a new array
   abbrev pub ordered_part : ArrayBase S D T A P R L M s d n r t → Order → List ℕ → Part
   ordered_part a order ms = record { shape = ms; strides = ordered_strides order ms; source = regrouped_index order (shape_of a) ms }
+
+  -- the lengths of a shape of one axis, along which all elements lie
+  abbrev pub flat_shape : ArrayBase S D T A P R L M s d n r t → List ℕ
+  flat_shape a = size_of (shape_of a) ∷ []
+
+  -- why the elements can't be seen under other lengths in an order, by the strides of a new array
+  abbrev pub RefusesShapeInOrder : ArrayBase S D T A P R L M s d n r t → Order → List ℕ → ErrorKind → Type 0
+  RefusesShapeInOrder a order ms = IsRefused order (shape_of a) (layout_strides a) ms
+
+module _
+    {S D T A P R L M : Type 0} {s : data_trait.Ghosts S A} {d : dimension.Ghosts D P R L M} {n : axis_count.Ghosts D} {r : stride_list.Ghosts R} {t : stride_list.Ghosts T}
+    {E U Q X V W : Type 0} {e : dimension.Ghosts E Q X V W} {k : axis_count.Ghosts E} {x : stride_list.Ghosts X} {u : stride_list.Ghosts U} where
+  -- b is a in its own storage under other lengths, each element with its rank in an order, by the strides of a new array
+  abbrev pub IsReshapeOf : ArrayBase S D T A P R L M s d n r t → Order → List ℕ → ArrayBase S E U A Q X V W s e k x u → Type 0
+  IsReshapeOf a order ms b = BecomesPart a (ordered_part a order ms) b

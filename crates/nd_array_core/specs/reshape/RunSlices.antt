@@ -1,5 +1,5 @@
 -- Which arrays show their elements as one slice, and in which order.
-use Rattle.std.specs.Prelude.{ℕ, ◌≡◌, ◌<◌, ◌+◌, ◌⊎◌, true, List, length, Option, Some, slice_get}
+use Rattle.std.specs.Prelude.{ℕ, ◌≡◌, ◌<◌, ◌+◌, ◌-◌, ◌⊎◌, true, List, length, Option, Some, slice_get}
 use Rattle.nd_shape_and_slice.specs.declared.dimension.Dimension as dimension
 use Rattle.nd_shape_and_slice.specs.declared.dimension.AxisCount as axis_count
 use Rattle.nd_shape_and_slice.specs.declared.dimension.StrideList as stride_list
@@ -7,15 +7,15 @@ use Rattle.nd_shape_and_slice.specs.Shape.{in_box, size_of}
 use Rattle.nd_layout.specs.Ranks.{IsStandard, IsRun}
 use Rattle.nd_array_core.specs.declared.base.storage.Data as data_trait
 use Rattle.nd_array_core.specs.declared.base.array.ArrayBase.{ArrayBase}
-use Rattle.nd_array_core.specs.Meaning.{shape_of, layout_strides, layout_offset, element_at, place_at, storage_of}
+use Rattle.nd_array_core.specs.Joined.{row_major_elements}
+use Rattle.nd_array_core.specs.Meaning.{meaning_of, shape_of, layout_strides, layout_offset, element_at, place_at, storage_of}
 use Rattle.nd_layout.specs.Strides.{reach_down}
 use Rattle.nd_array_core.specs.base.Storages.{stored_list}
 use Rattle.nd_array_core.specs.declared.base.storage.OwnedRepr.{OwnedRepr}
 
--- The elements xs lie one beside the other from a place on, one for each index: the element of each index stands in xs
--- as far from the front as its place from the first, and each of xs is that of an index.
-pub record LiesAlong {A : Type 0} (shape : List ℕ) (place : List ℕ → Option ℕ) (at : List ℕ → Option A) (xs : List A) : Type 0 where
-  pub first : ℕ
+-- The elements xs lie one beside the other from the place `first` on, one for each index: the element of each index stands
+-- in xs as far from the front as its place from that one, and each of xs is that of an index.
+pub record LiesAlong {A : Type 0} (shape : List ℕ) (first : ℕ) (place : List ℕ → Option ℕ) (at : List ℕ → Option A) (xs : List A) : Type 0 where
   pub count : length xs ≡ size_of shape
   pub within : (i : List ℕ) → in_box shape i ≡ true → (k : ℕ) × (k < size_of shape) × (place i ≡ Some (first + k)) × (at i ≡ slice_get xs k)
   pub each : (k : ℕ) → k < size_of shape → (i : List ℕ) × (in_box shape i ≡ true) × (place i ≡ Some (first + k)) × (at i ≡ slice_get xs k)
@@ -30,9 +30,13 @@ module _ {S D T A P R L M : Type 0} {s : data_trait.Ghosts S A} {d : dimension.G
   abbrev pub IsRunArray : ArrayBase S D T A P R L M s d n r t → Type 0
   IsRunArray a = (size_of (shape_of a) ≡ 0) ⊎ IsRun (shape_of a) (layout_strides a)
 
+  -- the lowest place that an index has, where there are elements
+  abbrev pub lowest_place : ArrayBase S D T A P R L M s d n r t → ℕ
+  lowest_place a = layout_offset a - reach_down (shape_of a) (layout_strides a)
+
   -- xs are the elements in the order of their places
   abbrev pub IsInMemoryOrder : ArrayBase S D T A P R L M s d n r t → List A → Type 0
-  IsInMemoryOrder a xs = LiesAlong (shape_of a) (place_at a) (element_at a) xs
+  IsInMemoryOrder a xs = LiesAlong (shape_of a) (lowest_place a) (place_at a) (element_at a) xs
 
 module _
     {S D A T P R L M : Type 0} {s : data_trait.Ghosts S A} {d : dimension.Ghosts D P R L M} {n : axis_count.Ghosts D} {r : stride_list.Ghosts R} {t : stride_list.Ghosts T}
@@ -40,3 +44,10 @@ module _
   -- b has a's strides, and owns a's elements in the order of their places, from the lowest on
   abbrev pub CopiesRun : ArrayBase S D T A P R L M s d n r t → ArrayBase (OwnedRepr A) D U A P R L M z d n r u → Type 0
   CopiesRun a b = (layout_strides b ≡ layout_strides a) × (layout_offset b ≡ reach_down (shape_of a) (layout_strides a)) × IsInMemoryOrder a (stored_list (storage_of b))
+
+module _
+    {S D T A P R L M : Type 0} {s : data_trait.Ghosts S A} {d : dimension.Ghosts D P R L M} {n : axis_count.Ghosts D} {r : stride_list.Ghosts R} {t : stride_list.Ghosts T}
+    {E U Q X V W : Type 0} {z : data_trait.Ghosts (OwnedRepr A) A} {e : dimension.Ghosts E Q X V W} {k : axis_count.Ghosts E} {x : stride_list.Ghosts X} {u : stride_list.Ghosts U} where
+  -- b owns a's elements in row-major order
+  abbrev pub StoresInRowMajorOrder : ArrayBase S D T A P R L M s d n r t → ArrayBase (OwnedRepr A) E U A Q X V W z e k x u → Type 0
+  StoresInRowMajorOrder a b = stored_list (storage_of b) ≡ row_major_elements (meaning_of a)

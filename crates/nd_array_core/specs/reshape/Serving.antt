@@ -10,7 +10,7 @@ use Rattle.nd_layout.specs.Ranks.{Serves}
 use Rattle.nd_layout.specs.Strides.{RestsAtOnes}
 use Rattle.nd_array_core.specs.declared.base.storage.Data as data_trait
 use Rattle.nd_array_core.specs.declared.base.array.ArrayBase.{ArrayBase}
-use Rattle.nd_array_core.specs.Meaning.{Meaning, meaning_of, shape_of, element_at, layout_strides, layout_offset, inside}
+use Rattle.nd_array_core.specs.Meaning.{Meaning, shape_of, element_at, layout_strides, layout_offset, inside}
 use Rattle.nd_array_core.specs.Part.{Part, ShowsPart}
 use Rattle.nd_array_core.specs.reshape.Regrouped.{regrouped_index}
 

@@ -1,5 +1,5 @@
--- An array after a part of it was filled, and where a clone was refused on the way.
-use Rattle.std.specs.Prelude.{◌≡◌, ◌⊎◌, ℕ, List, true, false, Some, if◌then◌else◌}
+-- An array after a part of it was filled, or a view that is lent to a task; and where a clone was refused on the way.
+use Rattle.std.specs.Prelude.{◌≡◌, ◌⊎◌, ℕ, ℤ, List, true, false, Some, if◌then◌else◌}
 use Rattle.nd_shape_and_slice.specs.Shape.{in_box}
 use Rattle.nd_shape_and_slice.specs.declared.dimension.Dimension as dimension
 use Rattle.nd_shape_and_slice.specs.declared.dimension.AxisCount as axis_count
@@ -8,8 +8,24 @@ use Rattle.nd_array_core.specs.declared.base.storage.Data as data_trait
 use Rattle.nd_array_core.specs.declared.base.array.ArrayBase.{ArrayBase}
 use Rattle.nd_shape_and_slice.specs.declared.slice_info.SliceInfoElem.{SliceInfoElem}
 use Rattle.nd_shape_and_slice.specs.Naming.{names_index}
-use Rattle.nd_array_core.specs.Meaning.{shape_of, element_at}
+use Rattle.nd_array_core.specs.declared.base.storage.RegionRepr.{RegionRepr}
+use Rattle.nd_array_core.specs.declared.scoped.tasks.LentView.{LentView}
+use Rattle.nd_region.specs.declared.region.Region.{Region}
+use Rattle.nd_array_core.specs.Meaning.{shape_of, element_at, inside}
 use Rattle.nd_array_core.specs.Part.{Part}
+use Rattle.nd_array_core.specs.PlacedArray.{element_placed}
+use Rattle.nd_array_core.specs.base.Writes.{IsOldOrNew}
+use Rattle.nd_array_core.specs.scoped.Tasks.{lent_view, view_left}
+
+-- a view by the words of its dimension for lengths and strides
+module _ {A D T : Type 0} (lengths : D → List ℕ) (strides : T → List ℤ) where
+  -- it has x at each index once its elements are those of the storage
+  abbrev pub IsViewFilled : LentView A D T → RegionRepr (Region A) → A → Type 0
+  IsViewFilled l s x = (i : List ℕ) → element_placed (view_left lengths strides l s) i ≡ inside (lent_view lengths strides l).shape i (Some x)
+
+  -- or its old element at some
+  abbrev pub IsViewFilledInPart : LentView A D T → RegionRepr (Region A) → A → Type 0
+  IsViewFilledInPart l s x = IsOldOrNew (lent_view lengths strides l).shape (element_placed (lent_view lengths strides l)) x (element_placed (view_left lengths strides l s))
 
 module _ {S D A T P R L M : Type 0} {s : data_trait.Ghosts S A} {d : dimension.Ghosts D P R L M} {n : axis_count.Ghosts D} {r : stride_list.Ghosts R} {t : stride_list.Ghosts T} where
   -- each index that one of the part names has its old element or x

@@ -21,14 +21,14 @@ module _ {S D A T P R L M : Type 0} {s : data_trait.Ghosts S A} {d : dimension.G
   abbrev pub AsksOfPart : (PlacedArray A → Type 0) → ArrayBase S D T A P R L M s d n r t → Part → Type 0
   AsksOfPart asks a part = (v : PlacedArray A) → IsViewOfPart a part v → asks v
 
-  -- it is done with a view of the part, and the new array shows there what it left
-  abbrev pub IsDoneOnPart : (PlacedArray A → PlacedArray A → Type 0) → ArrayBase S D T A P R L M s d n r t → ArrayBase S D T A P R L M s d n r t → Part → Type 0
-  IsDoneOnPart done old new part =
+  -- it is done with a view of the part, and answered; the new array shows there what it left
+  abbrev pub IsDoneOnPart : {Q : Type 0} → (PlacedArray A → PlacedArray A → Q → Type 0) → Q → ArrayBase S D T A P R L M s d n r t → ArrayBase S D T A P R L M s d n r t → Part → Type 0
+  IsDoneOnPart done answer old new part =
       (v : PlacedArray A)
       × (w : PlacedArray A)
       × IsViewOfPart old part v
       × IsViewOfPart new part w
-      × done v w
+      × done v w answer
 
   -- each index that none of the part names has the element that it had
   abbrev pub KeepsBut : ArrayBase S D T A P R L M s d n r t → ArrayBase S D T A P R L M s d n r t → Part → Type 0

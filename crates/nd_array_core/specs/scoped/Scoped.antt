@@ -36,3 +36,7 @@ module _ {A R : Type 0} where
       × IsNamedPart old offset lengths strides x
       × post x (s, answer)
       × ((p : ℕ) → new p ≡ with_named old offset lengths strides (region_stored s) p)
+
+-- the same of two storages, by what they hold
+abbrev pub IsStoredReturned : {S A R : Type 0} → (Region A → Region A × R → Type 0) → (S → ℕ → Option A) → S → S → ℕ → List ℕ → List ℤ → R → Type 0
+IsStoredReturned post stored old new offset lengths strides answer = IsNamedReturned post (stored old) (stored new) offset lengths strides answer

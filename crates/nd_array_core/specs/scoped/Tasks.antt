@@ -52,6 +52,15 @@ module _ {A D T : Type 0} (lengths : D → List ℕ) (strides : T → List ℤ) 
   abbrev pub view_left : LentView A D T → RegionRepr (Region A) → PlacedArray A
   view_left l s = array_placed_at (region_stored s.region) l.offset (lengths l.dim) (strides l.strides)
 
+  -- a task is done with the view, gave back the storage, and answered
+  abbrev pub IsDoneOnView : {Q : Type 0} → (PlacedArray A → PlacedArray A → Q → Type 0) → LentView A D T → RegionRepr (Region A) → Q → Type 0
+  IsDoneOnView done l s answer = done (lent_view l) (view_left l s) answer
+
+-- the same of two views
+module _ {A D T E U : Type 0} (lengths : D → List ℕ) (strides : T → List ℤ) (lengths' : E → List ℕ) (strides' : U → List ℤ) where
+  abbrev pub IsDoneOnViews : {Q : Type 0} → (PlacedArray A → PlacedArray A → PlacedArray A → PlacedArray A → Q → Type 0) → LentView A D T → LentView A E U → RegionRepr (Region A) × RegionRepr (Region A) × Q → Type 0
+  IsDoneOnViews done one two out = done (lent_view lengths strides one) (lent_view lengths' strides' two) (view_left lengths strides one out.0) (view_left lengths' strides' two out.1) out.2
+
 abbrev pub lent_frame : {A D T : Type 0} → LentView A D T → StorageFrame
 lent_frame l = Borrowed (borrow_of l.region)
 

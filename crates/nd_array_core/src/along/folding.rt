@@ -1,7 +1,7 @@
 //! The lanes of an axis, each folded into a value.
 #![tactic(auto, unfolding(crate::specs::Meaning::meaning_of, crate::specs::Meaning::memory_layout_of))]
 
-ghost use Rattle.std.specs.Prelude.{◌≡◌, ◌+◌, ◌<◌, ◌≤◌, ◌^◌, ℕ, true, List, [], Some, IfOk, length, pos, slice_index, vec_len, vec_capacity, ◌+ℤ◌, ◌*ℤ◌};
+ghost use Rattle.std.specs.Prelude.{◌≡◌, ◌+◌, ◌<◌, ◌≤◌, ◌^◌, ℕ, true, List, [], IfOk, length, pos, slice_index, vec_len, vec_capacity, slice_get, ◌+ℤ◌, ◌*ℤ◌};
 ghost use Rattle.nd_shape_and_slice.specs.Shape.{size_of, HasCheckedSize};
 ghost use Rattle.nd_shape_and_slice.specs.Maps.{indexed_shape, indexed_index};
 ghost use Rattle.nd_shape_and_slice.specs.declared.builder.Order.TheVariants.{RowMajor};
@@ -10,9 +10,10 @@ ghost use Rattle.nd_array_core.specs.Places.{names_place};
 ghost use Rattle.nd_array_core.specs.Collected.{stored_along};
 ghost use Rattle.nd_array_core.specs.Meaning.{shape_of, element_at};
 ghost use Rattle.nd_array_core.specs.base.Fresh.{ClonesAreEqual, found_by_rank};
-ghost use Rattle.nd_array_core.specs.along.AxisFolds.{FoldsLane, TakesFold, FoldsShownBy, HasFolds, FoldableAlong, FoldsAxis, AxisFoldable, AreFoldedBy};
+ghost use Rattle.nd_array_core.specs.along.AxisFolds.{FoldsRun, TakesRun, FoldsShownBy, FoldsAxis, AxisFoldable, AreFoldedBy, FoldableByLanes, AreFoldedByLanes};
 
-use crate::along::lanes::lane_from;
+use crate::along::beside::{clones_in, fold_beside, worth_beside};
+use crate::along::lanes::{first_places, lane_from};
 use crate::base::array::{Array, ArrayBase};
 use crate::base::fresh::of_items;
 use crate::base::storage::Data;
@@ -30,8 +31,8 @@ fn fold_shown<S: Data, B: Drop, F: FnMut(&B, &S::Elem) -> B>(
     mut f: F,
 ) -> (F, B)
     requires holds { (k : ℕ) → k < lane.count → names_place (S.stored storage.now) (pos lane.place +ℤ (pos k *ℤ lane.stride)) ≡ true }
-    requires callable { TakesFold F.FnMut (stored_along (S.stored storage.now) lane.place lane.stride) lane.count init f }
-    ensures ran { FoldsLane F.FnMut (stored_along (S.stored storage.now) lane.place lane.stride) lane.count init f result.1 result.0 }
+    requires callable { TakesRun F.FnMut (stored_along (S.stored storage.now) lane.place lane.stride) lane.count init f }
+    ensures ran { FoldsRun F.FnMut (stored_along (S.stored storage.now) lane.place lane.stride) lane.count init f result.1 result.0 }
 {
     let mut total = init;
     for nth in 0..lane.count {
@@ -40,24 +41,7 @@ fn fold_shown<S: Data, B: Drop, F: FnMut(&B, &S::Elem) -> B>(
     (f, total)
 }
 
-/// A layout of the first places of an axis' lanes, by the indexes of the other axes; of none where the axis has length 0.
-fn first_places<D: RemoveAxis, T: StrideList>(
-    layout: &Layout<D, T>,
-    axis: Axis,
-) -> Layout<D::Smaller, <D::Smaller as Dimension>::Strides>
-where
-    D::Smaller: Dimension,
-    requires axis { axis.0 < length (D.lengths layout.now.dim) }
-    ensures lengths { D.Smaller.lengths result.dim ≡ indexed_shape (D.lengths layout.now.dim) axis.0 }
-    ensures step { 0 < slice_index (D.lengths layout.now.dim) axis.0 → IsStepOf (placement_of layout.now) (placement_of result) (indexed_index axis.0 0) }
-{
-    if layout.dim.length(axis.0) > 0 {
-        return layout.index_axis(axis.0, 0);
-    }
-    Layout::in_order(layout.dim.remove_axis(axis), Order::RowMajor)
-}
-
-/// What each lane of an axis is folded to, in row-major order of the other axes' indexes.
+/// What each lane of an axis is folded to, one lane after the other, in row-major order of the other axes' indexes.
 fn fold_lanes<S: Data, D: RemoveAxis, B: Clone + Drop, F: FnMut(&B, &S::Elem) -> B>(
     room: Vec<B>,
     array: &ArrayBase<S, D>,
@@ -74,9 +58,9 @@ where
     requires empty { (room.items ≡ []) × (vec_len room ≡ 0) }
     requires room { size_of (indexed_shape (shape_of array.now) axis.0) ≤ vec_capacity room }
     requires clones { ClonesAreEqual B.is_clone init.now }
-    requires callable { FoldableAlong F.FnMut (element_at array.now) axis.0 (slice_index (shape_of array.now) axis.0) init.now (indexed_shape (shape_of array.now) axis.0) f }
+    requires callable { FoldableByLanes F.FnMut (shape_of array.now) (element_at array.now) axis.0 init.now f }
     ensures count { IfOk result (λ v. vec_len v ≡ size_of (indexed_shape (shape_of array.now) axis.0)) }
-    ensures folds { IfOk result (λ v. HasFolds F.FnMut (element_at array.now) axis.0 (slice_index (shape_of array.now) axis.0) init.now (indexed_shape (shape_of array.now) axis.0) f (found_by_rank (indexed_shape (shape_of array.now) axis.0, RowMajor) v.items)) }
+    ensures folds { IfOk result (λ v. AreFoldedByLanes F.FnMut (shape_of array.now) (element_at array.now) axis.0 init.now f (slice_get v.items)) }
 {
     let count = array.len_of(axis);
     let stride = array.stride_of(axis);
@@ -101,13 +85,41 @@ where
     Ok(items)
 }
 
+/// The same, side by side where the elements at each coordinate are a slice, and else one lane after the other.
+fn fold_each<S: Data, D: RemoveAxis, B: Clone + Drop, F: FnMut(&B, &S::Elem) -> B>(
+    room: Vec<B>,
+    array: &ArrayBase<S, D>,
+    axis: Axis,
+    outer: &Layout<D::Smaller, <D::Smaller as Dimension>::Strides>,
+    init: &B,
+    f: F,
+) -> Result<Vec<B>, NoMemory>
+where
+    D::Smaller: Dimension,
+    requires axis { axis.0 < length (shape_of array.now) }
+    requires lengths { D.Smaller.lengths outer.now.dim ≡ indexed_shape (shape_of array.now) axis.0 }
+    requires step { 0 < slice_index (shape_of array.now) axis.0 → IsStepOf (placement_of array.now.layout) (placement_of outer.now) (indexed_index axis.0 0) }
+    requires empty { (room.items ≡ []) × (vec_len room ≡ 0) }
+    requires room { size_of (indexed_shape (shape_of array.now) axis.0) ≤ vec_capacity room }
+    requires clones { ClonesAreEqual B.is_clone init.now }
+    requires callable { AxisFoldable F.FnMut (shape_of array.now) (element_at array.now) axis.0 init.now f }
+    ensures count { IfOk result (λ v. vec_len v ≡ size_of (indexed_shape (shape_of array.now) axis.0)) }
+    ensures folds { IfOk result (λ v. FoldsAxis F.FnMut (shape_of array.now) (element_at array.now) axis.0 init.now f (found_by_rank (indexed_shape (shape_of array.now) axis.0, RowMajor) v.items)) }
+{
+    if worth_beside(outer) {
+        let starts = clones_in(room, init, outer.dim.size())?;
+        return Ok(fold_beside(starts, array, axis, outer, f));
+    }
+    fold_lanes(room, array, axis, outer, init, f)
+}
+
 impl<S: Data, D: RemoveAxis> ArrayBase<S, D>
 where
     D::Smaller: Dimension,
 {
     /// An array of its own without an axis that has at each index what the lane there is folded to: from a clone of `init`
     /// on, the function is shown the total so far and each element, from coordinate 0 upwards; between lanes the order is
-    /// free. Where the axis has length 0 each is a clone of `init`. The axis is below `ndim`, a clone equals its original,
+    /// free, and calls of several lanes may alternate. Where the axis has length 0 each is a clone of `init`. The axis is below `ndim`, a clone equals its original,
     /// and the function may be called with whatever such calls lead to. The layout is unspecified. NoMemory if the storage
     /// or a clone is refused; if it is the storage, the function wasn't called. ndarray's `fold_axis`.
     pub fn fold_axis<B: Clone + Drop, F: FnMut(&B, &S::Elem) -> B>(
@@ -126,7 +138,7 @@ where
     {
         let outer = first_places(&self.layout, axis);
         let room = room_of(alloc, outer.dim.size())?;
-        let items = fold_lanes(room, self, axis, &outer, &init, f)?;
+        let items = fold_each(room, self, axis, &outer, &init, f)?;
         Ok(of_items(items, outer.dim, Order::RowMajor))
     }
 }

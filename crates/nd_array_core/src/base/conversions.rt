@@ -61,8 +61,8 @@ impl<'a, S: DataMut, D: Dimension> From<&'a mut ArrayBase<S, D>> for ArrayViewMu
     fn from(array: &'a mut ArrayBase<S, D>) -> Self
         ensures* writes_back { sem 𝓛 (array_follows_part S.row S.Elem.row D.row D.Pattern.row D.Strides.row D.Smaller.row D.Larger.row S.Data D.Dimension D.AxisCount D.Strides.StrideList array.entry (tie_of result) (lent_places result)) }
         ensures gives { ShowsWhole array.old result }
-        ensures refilled { LeavesRefilled S.frame array.old (left_by S.refilled S.items array.old result) }
-        ensures others { LeavesPlacesBut (place_at result) array.old (left_by S.refilled S.items array.old result) }
+        ensures refilled { LeavesRefilled S.frame array.old (left_by array.old result) }
+        ensures others { LeavesPlacesBut (place_at result) array.old (left_by array.old result) }
     {
         array.view_mut()
     }

@@ -1,14 +1,15 @@
 //! New arrays: of a vector's elements, of what an iterator gives, and of one value at every index.
 #![tactic(auto, unfolding(crate::specs::Meaning::meaning_of, crate::specs::Meaning::memory_layout_of))]
 
-ghost use Rattle.std.specs.Prelude.{◌≡◌, ℕ, List, [], ◌∷◌, length, replicate, IfOk, vec_len, vec_capacity};
+ghost use Rattle.std.specs.Prelude.{◌≡◌, [], ◌∷◌, length, replicate, IfOk, vec_len, vec_capacity};
 ghost use Rattle.std.specs.List.{All};
-ghost use Rattle.std.specs.Iterator.{IsFinite, Drains};
+ghost use Rattle.std.specs.Iterator.{IsFiniteIterable};
 ghost use Rattle.nd_shape_and_slice.specs.Shape.{size_of, HasCheckedSize};
 ghost use Rattle.nd_shape_and_slice.specs.declared.builder.Order.TheVariants.{RowMajor};
 ghost use Rattle.nd_array_core.specs.Meaning.{storage_of};
 ghost use Rattle.nd_array_core.specs.base.Storages.{stored_list, room_of};
 ghost use Rattle.nd_array_core.specs.base.Fresh.{built_by, ClonesAreEqual, IsOnly, OwnsInOrder, ShowsOneValue, ShowsSuch};
+ghost use Rattle.nd_array_core.specs.base.Makers.{StoresItemsOf};
 
 use crate::base::array::Array;
 use crate::base::constructors::in_order;
@@ -30,7 +31,7 @@ pub(crate) fn of_items<A, D: Dimension>(items: Vec<A>, dim: D, order: Order) -> 
 }
 
 /// A new vector of that many equal values.
-fn repeated<A: Clone>(alloc: Global, elem: A, count: usize) -> Result<Vec<A>, NoMemory>
+pub(crate) fn repeated<A: Clone>(alloc: Global, elem: A, count: usize) -> Result<Vec<A>, NoMemory>
     requires { ClonesAreEqual A.is_clone elem }
     ensures items { IfOk result (λ v. v.items ≡ replicate count elem) }
     ensures count { IfOk result (λ v. vec_len v ≡ count) }
@@ -142,9 +143,9 @@ impl<A> Array<A, Ix1> {
     ) -> Result<Self, NoMemory>
     where
         A: Drop,
-        requires { (it : I.IntoIter) → I.into_iter_gives iterable it → I.IntoIter.can_next it × IsFinite (I.IntoIter.remaining it) }
+        requires { IsFiniteIterable I.into_iter_gives I.IntoIter.can_next I.IntoIter.remaining iterable }
         ensures owns { IfOk result (λ a. OwnsInOrder (length (stored_list (storage_of a)) ∷ [], RowMajor) a) }
-        ensures items { IfOk result (λ a. (it : I.IntoIter) × I.into_iter_gives iterable it × Drains I.IntoIter.next_gives it (stored_list (storage_of a))) }
+        ensures items { IfOk result (StoresItemsOf I.into_iter_gives I.IntoIter.next_gives iterable) }
     {
         match Vec::from_iter(alloc, iterable) {
             Ok(items) => Ok(Array::from_vec(items)),

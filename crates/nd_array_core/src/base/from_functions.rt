@@ -5,8 +5,9 @@ ghost use Rattle.std.specs.Prelude.{◌≡◌, ◌+◌, ◌<◌, ◌≤◌, ℕ,
 ghost use Rattle.nd_shape_and_slice.specs.Shape.{size_of, HasCheckedSize};
 ghost use Rattle.nd_layout.specs.Ranks.{slowest_first};
 ghost use Rattle.nd_array_core.specs.Meaning.{element_at};
-ghost use Rattle.nd_array_core.specs.FreeOrder.{HasAnswers, AskableInAnyOrder, AnswersIndex, TakesIndex, AnswersByIndex, AnswersNothing, TakesNothing, AnswersAlike, AskableByIndex, HasAnswersByIndex};
+ghost use Rattle.nd_array_core.specs.FreeOrder.{HasAnswers, AskableInAnyOrder, AnswersIndex, TakesIndex, AnswersByIndex, AnswersNothing, TakesNothing, AnswersAlike, AskableByIndex};
 ghost use Rattle.nd_array_core.specs.base.Fresh.{built_by, OwnsInOrder, ShowsOneValue, ShowsValues, found_by_rank};
+ghost use Rattle.nd_array_core.specs.base.Makers.{ShowsAnswers, ShowsAnswersAlike};
 
 use crate::base::array::Array;
 use crate::base::fresh::of_items;
@@ -182,8 +183,8 @@ impl<A, D: Dimension> Array<A, D> {
         requires checked { HasCheckedSize (Sh.builds_lengths shape) }
         requires callable { AskableByIndex F.FnMut D.pattern_lengths (Sh.builds_lengths shape) f }
         ensures owns { IfOk result (OwnsInOrder (built_by Sh.ShapeBuilder shape)) }
-        ensures visits { IfOk result (λ a. HasAnswersByIndex F.FnMut D.pattern_lengths (Sh.builds_lengths shape) f (element_at a)) }
-        ensures alike { (h : _) → AnswersByIndex F.FnMut D.pattern_lengths (Sh.builds_lengths shape) h f → IfOk result (ShowsValues (built_by Sh.ShapeBuilder shape) h) }
+        ensures visits { IfOk result (ShowsAnswers F.FnMut D.pattern_lengths (Sh.builds_lengths shape) f) }
+        ensures alike { ShowsAnswersAlike F.FnMut D.pattern_lengths (built_by Sh.ShapeBuilder shape) f result }
     {
         let shape = shape.into_shape_with_order();
         let room = room_for(alloc, shape.size())?;

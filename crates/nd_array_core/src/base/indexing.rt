@@ -8,7 +8,7 @@ ghost use Rattle.nd_shape_and_slice.specs.Shape.{in_box, size_of};
 ghost use Rattle.nd_shape_and_slice.specs.FirstIndex.{first_index};
 ghost use Rattle.nd_region.specs.Region.{region_stored, stored_if};
 ghost use Rattle.nd_array_core.specs.Meaning.{shape_of, element_at, place_at};
-ghost use Rattle.nd_array_core.specs.base.LongerLent.{region_of, follows_index, may_follow_index};
+ghost use Rattle.nd_array_core.specs.base.LongerLent.{region_of, follows_index, may_follow_index, IsElementOrOutside};
 
 use super::array::{ArrayBase, ArrayView, ArrayViewMut};
 use super::storage::{Data, RegionRepr};
@@ -164,7 +164,7 @@ impl<'a, A, D: Dimension, I: NdIndex<D>> IndexLonger<I> for ArrayViewMut<'a, A, 
 
     fn get(self, index: I) -> Option<&'a mut A>
         ensures* writes_back { sem 𝓛 (may_follow_index A.row self.entry (I.coordinates_of index) result) }
-        ensures element { MatchOption result (in_box (shape_of self.entry) (I.coordinates_of index) ≡ false) (λ element. element_at self.entry (I.coordinates_of index) ≡ Some element.now) }
+        ensures element { IsElementOrOutside self.entry (I.coordinates_of index) result }
     {
         let (region, place, within) = sought(self, index);
         region.into_mut_if(place, within)

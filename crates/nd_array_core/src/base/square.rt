@@ -3,10 +3,10 @@
 
 ghost use Rattle.std.specs.Prelude.{◌≡◌, [], ◌∷◌, IfOk, Some, slice_index};
 ghost use Rattle.nd_shape_and_slice.specs.Shape.{HasCheckedSize};
-ghost use Rattle.nd_shape_and_slice.specs.declared.builder.Order.TheVariants.{RowMajor};
 ghost use Rattle.nd_array_core.specs.Meaning.{shape_of, element_at};
 ghost use Rattle.nd_array_core.specs.Coordinates.{element_of_1};
-ghost use Rattle.nd_array_core.specs.base.Fresh.{ClonesAreEqual, ClonesOfAllAreEqual, OwnsInOrder, ShowsOnDiagonal};
+ghost use Rattle.nd_array_core.specs.base.Fresh.{ClonesAreEqual, ClonesOfAllAreEqual, ShowsOnDiagonal};
+ghost use Rattle.nd_array_core.specs.base.Makers.{OwnsSquare};
 
 use crate::base::array::{Array, ArrayBase};
 use crate::base::storage::Data;
@@ -33,7 +33,7 @@ impl<A: Clone + Zero> Array<A, Ix2> {
         A: One,
         requires checked { HasCheckedSize (n ∷ n ∷ []) }
         requires zeros { ClonesAreEqual A.is_clone A.zero }
-        ensures owns { IfOk result (OwnsInOrder (n ∷ n ∷ [], RowMajor)) }
+        ensures owns { IfOk result (OwnsSquare n) }
         ensures elements { IfOk result (ShowsOnDiagonal n (λ k. Some A.one) A.zero) }
     {
         let mut eye = Array::zeros(alloc, (n, n))?;
@@ -53,7 +53,7 @@ impl<A: Clone + Zero> Array<A, Ix2> {
         requires checked { HasCheckedSize (slice_index (shape_of diag.now) 0 ∷ slice_index (shape_of diag.now) 0 ∷ []) }
         requires zeros { ClonesAreEqual A.is_clone A.zero }
         requires clones { ClonesOfAllAreEqual A.is_clone (element_at diag.now) }
-        ensures owns { IfOk result (OwnsInOrder (slice_index (shape_of diag.now) 0 ∷ slice_index (shape_of diag.now) 0 ∷ [], RowMajor)) }
+        ensures owns { IfOk result (OwnsSquare (slice_index (shape_of diag.now) 0)) }
         ensures elements { IfOk result (ShowsOnDiagonal (slice_index (shape_of diag.now) 0) (element_of_1 diag.now) A.zero) }
     {
         let n = diag.dim();
@@ -70,7 +70,7 @@ impl<A: Clone + Zero> Array<A, Ix2> {
         requires checked { HasCheckedSize (n ∷ n ∷ []) }
         requires zeros { ClonesAreEqual A.is_clone A.zero }
         requires clones { ClonesAreEqual A.is_clone elem }
-        ensures owns { IfOk result (OwnsInOrder (n ∷ n ∷ [], RowMajor)) }
+        ensures owns { IfOk result (OwnsSquare n) }
         ensures elements { IfOk result (ShowsOnDiagonal n (λ k. Some elem) A.zero) }
     {
         let mut matrix = Array::zeros(alloc, (n, n))?;

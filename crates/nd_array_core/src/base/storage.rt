@@ -8,15 +8,15 @@ ghost use Rattle.std.specs.Vec.{with_item, with_items};
 ghost use Rattle.nd_array_core.specs.base.StorageFrame.{StorageFrame, Owned, Borrowed};
 ghost use Rattle.nd_region.specs.Scoped.{TakesPart, GivesPartBack, IsPartReturned};
 ghost use Rattle.nd_region.specs.Shared.{shared_stored};
-ghost use Rattle.nd_region.specs.Places.{names, names_not};
+ghost use Rattle.nd_region.specs.Places.{names, names_not, overwritten_items, run_written};
 ghost use Rattle.nd_region.specs.Region.{region_stored, borrow_of, elements_of, with_element as region_with, with_items as region_items, with_run as region_with_run, HasPlaces, IsAsLong};
 ghost use Rattle.nd_array_core.specs.Places.{HoldsAll, kept_at, written_at, swapped_at};
-ghost use Rattle.nd_array_core.specs.scoped.Scoped.{TakesNamed, GivesNamedBack, IsNamedReturned};
+ghost use Rattle.nd_array_core.specs.scoped.Scoped.{TakesNamed, GivesNamedBack, IsNamedReturned, IsStoredReturned};
 ghost use Rattle.nd_array_core.specs.base.Storages.{shown_by};
 ghost use Rattle.nd_array_core.specs.base.ElementMut.{element_follows, KeepsPlaces, item_kept, item_written, place_kept, place_written};
-ghost use Rattle.nd_array_core.specs.base.NewElements.{overwritten_items, overwritten_itself, overwritten_again, places_there, places_kept, items_there, items_kept, items_itself, items_again, items_put, items_beside, places_put, places_beside};
-ghost use Rattle.nd_array_core.specs.base.StorageLaws.{WritesOneElement, HoldsLastRefill, HasRefilledItems, KeepsUnfilledPlaces, HoldsWhereBefore};
-ghost use Rattle.nd_array_core.specs.base.RunLent.{run_ends, HasRunAt, IsRunAt, IsBesideRun, places_run, places_beside_run, items_run, items_beside_run};
+ghost use Rattle.nd_array_core.specs.base.NewElements.{overwritten_itself, overwritten_again, places_there, places_kept, items_there, items_kept, items_itself, items_again, items_put, items_beside, places_put, places_beside};
+ghost use Rattle.nd_array_core.specs.base.StorageLaws.{WritesOneElement, HoldsWrittenRun, KeepsBesideRun, HoldsLastRefill, HasRefilledItems, KeepsUnfilledPlaces, HoldsWhereBefore};
+ghost use Rattle.nd_array_core.specs.base.RunLent.{run_ends, run_start, HasRunAt, IsRunAt, IsBesideRun, places_run, places_beside_run, items_run, items_beside_run};
 ghost use Rattle.nd_array_core.specs.base.Lends.{written_from};
 
 use nd_layout::Layout;
@@ -40,6 +40,10 @@ pub trait Data {
     /// The storage with another element at a place; a storage that can't be written stays as it is. It holds something
     /// where it did before.
     ghost with_element: { (s : Self) → ℕ → Self.Elem → (t : Self) × KeepsPlaces (stored s) (stored t) };
+
+    /// The storage with other elements at that many places from one on, where it may be written. It holds something where
+    /// it did before.
+    ghost with_run: { (s : Self) → ℕ → ℕ → List Self.Elem → (t : Self) × KeepsPlaces (stored s) (stored t) };
 
     /// All elements in the order in which they lie, also those that no index names.
     ghost items: { Self → List Self.Elem };
@@ -95,6 +99,13 @@ impl<A> OwnedRepr<A> {
     }
 }
 
+/// Where that many elements from a place on begin: none need no place.
+fn start_of_run(place: usize, count: usize) -> usize
+    ensures { result ≡ run_start place count }
+{
+    if count == 0 { 0 } else { place }
+}
+
 /// Elements that are borrowed, to be read. ndarray's `ViewRepr<&'a A>`.
 pub struct ViewRepr<'a, A> {
     pub(crate) region: SharedRegion<'a, A>,
@@ -143,6 +154,8 @@ impl<A> Data for OwnedRepr<A> {
 
     ghost with_element = { λ s place x. (record { items = with_item s.items place x }, item_kept s.items.items place x) };
 
+    ghost with_run = { λ s place count ws. (record { items = with_items s.items (written_from s.items.items (run_start place count) ws) }, items_kept s.items (written_from s.items.items (run_start place count) ws)) };
+
     ghost items = { λ s. s.items.items };
 
     ghost refilled = { λ s ws. (record { items = with_items s.items ws }, items_kept s.items ws) };
@@ -171,6 +184,8 @@ impl<'a, A> Data for ViewRepr<'a, A> {
     ghost owned = { false };
 
     ghost with_element = { λ s _ _. (s, λ p has. has) };
+
+    ghost with_run = { λ s _ _ _. (s, λ p has. has) };
 
     ghost items = { λ _. [] };
 
@@ -252,6 +267,8 @@ impl<'a, A> Data for ViewMutRepr<'a, A> {
 
     ghost with_element = { λ s place x. (record { region = region_with s.region place x; tie = s.tie }, place_kept s.region.items s.region.held place x) };
 
+    ghost with_run = { λ s place count ws. (record { region = region_with_run s.region place count ws; tie = s.tie }, places_kept s.region.items (run_written s.region.items place count ws) s.region.held) };
+
     ghost items = { λ s. s.region.items };
 
     ghost refilled = { λ s ws. (record { region = region_items s.region (overwritten_items s.region.items ws); tie = s.tie }, places_kept s.region.items ws s.region.held) };
@@ -291,14 +308,10 @@ pub trait DataMut: Data {
         ensures* writes_back { sem 𝓛 (element_follows Self.row Self.Elem.row self.entry result (λ x. (Self.with_element self.old place x).0)) }
         ensures value { Self.stored self.old place ≡ Some result.now };
 
-    /// The storage with other elements at that many places from one on.
-    ghost with_run: { Self → ℕ → ℕ → List Self.Elem → Self };
-
-    /// The elements at that many places from one on, to be written.
+    /// The elements at that many places from one on, to be written. None need no place.
     fn lend_run(&mut self, place: usize, count: usize) -> &mut [Self::Elem]
-        requires some { 0 < count }
-        requires holds { HasRunAt (Self.stored self.old) place count }
-        ensures* writes_back { sem 𝓛 (run_ends Self.row Self.Elem.row self.entry result (λ ws. with_run self.old place count ws)) }
+        requires { HasRunAt (Self.stored self.old) place count }
+        ensures* writes_back { sem 𝓛 (run_ends Self.row Self.Elem.row self.entry result (λ ws. (Self.with_run self.old place count ws).0)) }
         ensures values { IsRunAt (Self.stored self.old) place count result.now };
 
     /// Lends all places, for a shorter time.
@@ -328,7 +341,7 @@ pub trait DataMut: Data {
         requires holds { HoldsAll (Self.stored self.old) offset lengths.now strides.now }
         requires callable { TakesNamed (F.pre f) (Self.stored self.old) offset lengths.now strides.now }
         requires returns { GivesNamedBack (F.post f) (Self.stored self.old) offset lengths.now strides.now }
-        ensures part { IsNamedReturned (F.post f) (Self.stored self.old) (Self.stored self.new) offset lengths.now strides.now result }
+        ensures part { IsStoredReturned (F.post f) Self.stored self.old self.new offset lengths.now strides.now result }
         ensures there { (p : ℕ) → is_some (Self.stored self.new p) ≡ is_some (Self.stored self.old p) }
         ensures frame { frame self.new ≡ frame self.old };
 
@@ -342,13 +355,13 @@ pub trait DataMut: Data {
     ghost element_frame: { (s : Self) (place : ℕ) (x : Self.Elem) → frame (Self.Data.with_element s place x).0 ≡ frame s };
 
     /// Written along a run, it holds these elements there.
-    ghost run_written: { (s : Self) (place count : ℕ) (ws : List Self.Elem) → 0 < count → HasRunAt (Self.Data.stored s) place count → length ws ≡ count → (k : ℕ) → k < count → Self.Data.stored (with_run s place count ws) (place + k) ≡ slice_get ws k };
+    ghost run_written: { HoldsWrittenRun Self.Data.stored Self.Data.with_run };
 
     /// And elsewhere what it held.
-    ghost run_left: { (s : Self) (place count : ℕ) (ws : List Self.Elem) → 0 < count → HasRunAt (Self.Data.stored s) place count → length ws ≡ count → (p : ℕ) → IsBesideRun place count p → Self.Data.stored (with_run s place count ws) p ≡ Self.Data.stored s p };
+    ghost run_left: { KeepsBesideRun Self.Data.stored Self.Data.with_run };
 
     /// A write along a run keeps the frame.
-    ghost run_frame: { (s : Self) (place count : ℕ) (ws : List Self.Elem) → frame (with_run s place count ws) ≡ frame s };
+    ghost run_frame: { (s : Self) (place count : ℕ) (ws : List Self.Elem) → frame (Self.Data.with_run s place count ws).0 ≡ frame s };
 
     /// Refilled with its own elements, a storage is unchanged.
     ghost refilled_itself: { (s : Self) → (Self.Data.refilled s (Self.Data.items s)).0 ≡ s };
@@ -400,11 +413,9 @@ impl<A> DataMut for OwnedRepr<A> {
 
     ghost element_frame = { λ s place x. refl };
 
-    ghost with_run = { λ s place count ws. record { items = with_items s.items (written_from s.items.items place ws) } };
+    ghost run_written = { λ s place count ws holds long k below. items_run s.items place count ws holds long k below };
 
-    ghost run_written = { λ s place count ws some holds long k below. items_run s.items place count ws some holds long k below };
-
-    ghost run_left = { λ s place count ws some holds long p beside. items_beside_run s.items place count ws some holds long p beside };
+    ghost run_left = { λ s place count ws holds long p beside. items_beside_run s.items place count ws holds long p beside };
 
     ghost run_frame = { λ s place count ws. refl };
 
@@ -425,7 +436,7 @@ impl<A> DataMut for OwnedRepr<A> {
     }
 
     fn lend_run(&mut self, place: usize, count: usize) -> &mut [A] {
-        self.run_mut(place, count)
+        self.run_mut(start_of_run(place, count), count)
     }
 
     fn lend(&mut self) -> Region<'_, A> {
@@ -460,11 +471,9 @@ impl<'a, A> DataMut for ViewMutRepr<'a, A> {
 
     ghost element_frame = { λ s place x. refl };
 
-    ghost with_run = { λ s place count ws. record { region = region_with_run s.region place count ws; tie = s.tie } };
+    ghost run_written = { λ s place count ws holds long k below. places_run s.region.items s.region.held place count ws holds long k below };
 
-    ghost run_written = { λ s place count ws some holds long k below. places_run s.region.items s.region.held place count ws some holds long k below };
-
-    ghost run_left = { λ s place count ws some holds long p beside. places_beside_run s.region.items s.region.held place count ws some holds long p beside };
+    ghost run_left = { λ s place count ws holds long p beside. places_beside_run s.region.items s.region.held place count ws holds long p beside };
 
     ghost run_frame = { λ s place count ws. refl };
 

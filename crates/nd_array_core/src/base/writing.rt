@@ -1,19 +1,19 @@
 //! Elements written: replaced, exchanged, and through references.
 #![tactic(auto, unfolding(crate::specs::Meaning::meaning_of, crate::specs::Meaning::memory_layout_of))]
 
-ghost use Rattle.std.specs.Prelude.{◌↔◌, ◌≡◌, ◌<◌, length, slice_get, ℕ, true, List, Bool, Some, Option, is_some, IsNone, OnSome};
+ghost use Rattle.std.specs.Prelude.{◌↔◌, ◌≡◌, ℕ, true, List, Bool, Some, Option, is_some, IsNone, OnSome};
 ghost use Rattle.std.specs.Option.{option_copied_mut};
-ghost use Rattle.std.specs.Borrow.{sem, LendsIf};
-ghost use Rattle.nd_shape_and_slice.specs.Shape.{in_box, size_of, row_rank};
+ghost use Rattle.std.specs.Borrow.{sem};
+ghost use Rattle.nd_shape_and_slice.specs.Shape.{in_box, size_of};
 ghost use Rattle.nd_shape_and_slice.specs.FirstIndex.{first_index};
 ghost use Rattle.nd_array_core.specs.LastIndex.{last_index};
-ghost use Rattle.nd_array_core.specs.Meaning.{shape_of, element_at, layout_strides};
-ghost use Rattle.nd_layout.specs.Ranks.{IsStandard};
+ghost use Rattle.nd_array_core.specs.Meaning.{shape_of, element_at};
 ghost use Rattle.nd_array_core.specs.base.Writes.{IsWrittenAt, IsSwappedAt, IsAnyWrittenAt};
+ghost use Rattle.nd_array_core.specs.base.ElementLent.{IsAnyWritten, may_lend};
 
-use super::array::{Array, ArrayBase};
+use super::array::ArrayBase;
 use super::ends::last_place;
-use super::storage::{Data, DataMut, OwnedRepr};
+use super::storage::{Data, DataMut};
 use nd_shape_and_slice::{Dimension, NdIndex};
 use std::ops::IndexMut;
 
@@ -108,26 +108,26 @@ pub trait GetMut {
     /// The element at an index, to be written; None exactly outside the shape's box, a wrong number of coordinates
     /// included. ndarray's `get_mut`.
     fn get_mut<I: NdIndex<Self::Dim>>(&mut self, index: I) -> Option<&mut Self::Elem>
-        ensures* writes_back { sem 𝓛 (LendsIf Self.row Self.Elem.row self.entry result (with_element_got self.old (I.coordinates_of index)) self.old) }
+        ensures* writes_back { sem 𝓛 (may_lend Self.row Self.Elem.row self.entry with_element_got (I.coordinates_of index) result) }
         ensures element { option_copied_mut result ≡ element_got self.old (I.coordinates_of index) }
         ensures within { is_some result ≡ has_index self.old (I.coordinates_of index) }
-        ensures written { OnSome result ((x : Self.Elem) → is_written_got self.old (I.coordinates_of index) x (with_element_got self.old (I.coordinates_of index) x)) };
+        ensures written { OnSome result (IsAnyWritten is_written_got with_element_got self.old (I.coordinates_of index)) };
 
     /// The element at the index of zeros, to be written; None exactly where the array has no elements. ndarray's
     /// `first_mut`.
     fn first_mut(&mut self) -> Option<&mut Self::Elem>
-        ensures* writes_back { sem 𝓛 (LendsIf Self.row Self.Elem.row self.entry result (with_element_got self.old (first_got self.old)) self.old) }
+        ensures* writes_back { sem 𝓛 (may_lend Self.row Self.Elem.row self.entry with_element_got (first_got self.old) result) }
         ensures element { option_copied_mut result ≡ element_got self.old (first_got self.old) }
         ensures none { IsNone result ↔ (size_got self.old ≡ 0) }
-        ensures written { OnSome result ((x : Self.Elem) → is_written_got self.old (first_got self.old) x (with_element_got self.old (first_got self.old) x)) };
+        ensures written { OnSome result (IsAnyWritten is_written_got with_element_got self.old (first_got self.old)) };
 
     /// The element at the last index, that of the greatest row-major rank, to be written; None exactly where the array
     /// has no elements. ndarray's `last_mut`.
     fn last_mut(&mut self) -> Option<&mut Self::Elem>
-        ensures* writes_back { sem 𝓛 (LendsIf Self.row Self.Elem.row self.entry result (with_element_got self.old (last_got self.old)) self.old) }
+        ensures* writes_back { sem 𝓛 (may_lend Self.row Self.Elem.row self.entry with_element_got (last_got self.old) result) }
         ensures element { option_copied_mut result ≡ element_got self.old (last_got self.old) }
         ensures none { IsNone result ↔ (size_got self.old ≡ 0) }
-        ensures written { OnSome result ((x : Self.Elem) → is_written_got self.old (last_got self.old) x (with_element_got self.old (last_got self.old) x)) };
+        ensures written { OnSome result (IsAnyWritten is_written_got with_element_got self.old (last_got self.old)) };
 }
 
 impl<S: DataMut, D: Dimension> GetMut for ArrayBase<S, D> {
@@ -170,24 +170,6 @@ impl<S: DataMut, D: Dimension> GetMut for ArrayBase<S, D> {
             Some(last) => Some(self.storage.element_mut(last)),
             None => None,
         }
-    }
-}
-
-impl<A, D: Dimension> Array<A, D> {
-    ghost use Rattle.nd_array_core.specs.layout.RunLent.{lends_elements};
-    ghost use Rattle.nd_array_core.specs.contracts.base.storage.OwnedRepr.{the_row as owned_row};
-
-    /// The elements in logical order, to be written. The layout is the standard one, and there are elements.
-    pub(crate) fn elements_mut(&mut self) -> &mut [A]
-        requires standard { IsStandard (shape_of self.old) (layout_strides self.old) }
-        requires some { 0 < size_of (shape_of self.old) }
-        ensures* writes_back { sem 𝓛 (lends_elements (owned_row A.row) A.row D.row D.Pattern.row D.Strides.row D.Smaller.row D.Larger.row ⟦<OwnedRepr<A> as Data>⟧ D.Dimension D.AxisCount D.Strides.StrideList self.entry result) }
-        ensures count { length result.now ≡ size_of (shape_of self.old) }
-        ensures elements { (i : List ℕ) → in_box (shape_of self.old) i ≡ true → slice_get result.now (row_rank (shape_of self.old) i) ≡ element_at self.old i }
-    {
-        let first = self.layout.offset;
-        let count = self.layout.dim.size();
-        self.storage.run_mut(first, count)
     }
 }
 

@@ -11,7 +11,7 @@ ghost use Rattle.nd_array_core.specs.base.Fresh.{ClonesAreEqual, StoredClonesAre
 ghost use Rattle.nd_array_core.specs.base.Writes.{KeepsFrame};
 ghost use Rattle.nd_array_core.specs.elements.Assigns.{IsAssignedTo, IsPartlyAssigned};
 ghost use Rattle.nd_array_core.specs.elements.Changes.{AreDistinct};
-ghost use Rattle.nd_array_core.specs.elements.Pairs.{broadcast_at, IsOldOrOf};
+ghost use Rattle.nd_array_core.specs.elements.Pairs.{beside_at, IsOldOrOf};
 
 use crate::base::array::ArrayBase;
 use crate::base::storage::{Data, DataMut};
@@ -159,8 +159,8 @@ impl<A: Clone + Drop, S: DataMut<Elem = A>, D: Dimension> ArrayBase<S, D> {
     ) -> Result<(), NoMemory>
         requires broadcasts { broadcasts (shape_of rhs.now) (shape_of self.old) ≡ true }
         requires clones { ClonesOfAllAreEqual A.is_clone (element_at rhs.now) }
-        ensures assigned { OnOk result ((i : List ℕ) → element_at self.new i ≡ broadcast_at (shape_of self.old) (meaning_of rhs.now) i) }
-        ensures stopped { OnErr result (IsOldOrOf (element_at self.old) (broadcast_at (shape_of self.old) (meaning_of rhs.now)) (element_at self.new)) }
+        ensures assigned { OnOk result ((i : List ℕ) → element_at self.new i ≡ beside_at self.old rhs.now i) }
+        ensures stopped { OnErr result (IsOldOrOf (element_at self.old) (beside_at self.old rhs.now) (element_at self.new)) }
         ensures frame { KeepsFrame S.frame self.old self.new }
     {
         match rhs.layout.broadcast(self.layout.dim) {

@@ -60,7 +60,7 @@ where
 
 /// Writes a clone of the value at the place of each index of a layout.
 #[inline(always)]
-fn fill_places<S: DataMut>(
+pub(crate) fn fill_places<S: DataMut>(
     storage: &mut S,
     first: usize,
     lengths: &[usize],

@@ -10,7 +10,8 @@ ghost use Rattle.nd_array_core.specs.base.ElementMut.{KeepsPlaces};
 ghost use Rattle.nd_array_core.specs.base.Fresh.{ClonesAreEqual, ClonesOfAllAreEqual};
 ghost use Rattle.nd_array_core.specs.base.Writes.{KeepsFrame};
 ghost use Rattle.nd_array_core.specs.elements.Changes.{AreDistinct, IsChangedBy};
-ghost use Rattle.nd_array_core.specs.elements.Maps.{AnswersValue, MayBeGiven, AnswersValuesBy, TakesNumbered, Replaces, IsReplacedInPart, IsOldOrMapped, AskableOfAll, HasAnswersOfAll, IsMappedBy, HasSomeAnswersOfAll};
+ghost use Rattle.nd_array_core.specs.elements.Maps.{AnswersValue, MayBeGiven, AnswersValuesBy, TakesNumbered, Replaces, IsReplacedInPart, AskableOfAll, HasAnswersOfAll, HasSomeAnswersOf};
+ghost use Rattle.nd_array_core.specs.elements.ArrayMaps.{ShowsMapped, ShowsOldOrMapped};
 
 use crate::base::array::ArrayBase;
 use crate::base::storage::DataMut;
@@ -95,9 +96,9 @@ where
         requires clones { ClonesOfAllAreEqual S.Elem.is_clone (element_at self.old) }
         requires callable { AskableOfAll (AnswersValue F.FnMut) (MayBeGiven F.FnMut) (meaning_of self.old) f }
         ensures visits { OnOk result (HasAnswersOfAll (AnswersValue F.FnMut) (meaning_of self.old) f (element_at self.new)) }
-        ensures alike { (h : _) → AnswersValuesBy F.FnMut h f → OnOk result (IsMappedBy h (element_at self.old) (element_at self.new)) }
-        ensures stopped { OnErr result (HasSomeAnswersOfAll (AnswersValue F.FnMut) (meaning_of self.old) f (element_at self.new)) }
-        ensures either { (h : _) → AnswersValuesBy F.FnMut h f → OnErr result (IsOldOrMapped h (element_at self.old) (element_at self.new)) }
+        ensures alike { (h : _) → AnswersValuesBy F.FnMut h f → OnOk result (ShowsMapped h self.old self.new) }
+        ensures stopped { OnErr result (HasSomeAnswersOf (AnswersValue F.FnMut) (meaning_of self.old) f (element_at self.new)) }
+        ensures either { (h : _) → AnswersValuesBy F.FnMut h f → OnErr result (ShowsOldOrMapped h self.old self.new) }
         ensures frame { KeepsFrame S.frame self.old self.new }
     {
         let order = self.layout.free_order();
@@ -124,7 +125,7 @@ where
         requires clones { ClonesOfAllAreEqual S.Elem.is_clone (element_at self) }
         requires callable { AskableOfAll (AnswersValue F.FnMut) (MayBeGiven F.FnMut) (meaning_of self) f }
         ensures visits { IfOk result (λ a. HasAnswersOfAll (AnswersValue F.FnMut) (meaning_of self) f (element_at a)) }
-        ensures alike { (h : _) → AnswersValuesBy F.FnMut h f → IfOk result (λ a. IsMappedBy h (element_at self) (element_at a)) }
+        ensures alike { (h : _) → AnswersValuesBy F.FnMut h f → IfOk result (ShowsMapped h self) }
         ensures frame { IfOk result (KeepsFrame S.frame self) }
     {
         let mut array = self;

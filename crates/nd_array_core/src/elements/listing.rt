@@ -1,12 +1,13 @@
 //! The elements as a vector.
 #![tactic(auto, unfolding(crate::specs::Meaning::meaning_of, crate::specs::Meaning::memory_layout_of))]
 
-ghost use Rattle.std.specs.Prelude.{◌≡◌, ◌+◌, ◌<◌, ◌≤◌, ◌++◌, ℕ, true, [], Some, IfOk, OnOk, OnErr, length, is_some, pos, vec_len, vec_capacity};
+ghost use Rattle.std.specs.Prelude.{◌≡◌, ◌+◌, ◌<◌, ◌≤◌, ◌++◌, ℕ, true, [], Some, IfOk, OnOk, OnErr, length, is_some, pos, slice_get, vec_len, vec_capacity};
 ghost use Rattle.nd_shape_and_slice.specs.Shape.{size_of, HasCheckedSize};
 ghost use Rattle.nd_layout.specs.Places.{ReachesPlaces};
 ghost use Rattle.nd_array_core.specs.Collected.{collected, stored_along, stored_by_rank, IsFront};
 ghost use Rattle.nd_array_core.specs.Joined.{row_major_elements};
 ghost use Rattle.nd_array_core.specs.Meaning.{meaning_of, shape_of, element_at};
+ghost use Rattle.nd_array_core.specs.base.CloneRefusals.{MayRefuseBelow, MayRefuseClone};
 ghost use Rattle.nd_array_core.specs.base.Fresh.{ClonesAreEqual, StoredClonesAreEqual, ClonesOfAllAreEqual};
 
 use crate::base::array::ArrayBase;
@@ -14,6 +15,7 @@ use crate::base::storage::Data;
 use nd_layout::{Lane, Lanes};
 use nd_shape_and_slice::{Dimension, NoMemory, StrideList};
 use std::alloc::Global;
+use std::mem;
 
 /// A new vector of clones.
 #[tactic(auto, using(crate::proofs::Clones::clones_same))]
@@ -26,6 +28,28 @@ pub(crate) fn clones_of<A: Clone>(alloc: Global, xs: &[A]) -> Result<Vec<A>, NoM
         Ok(items) => Ok(items),
         Err(_) => Err(NoMemory),
     }
+}
+
+/// Puts clones of the elements of a slice behind those of a vector, which is handed on and back: a local vector isn't read
+/// anew for each element. A refusal leaves some of them there.
+#[inline(always)]
+fn clones_behind<A: Clone>(items: Vec<A>, run: &[A]) -> (Vec<A>, Result<(), NoMemory>)
+    requires clones { StoredClonesAreEqual A.is_clone run.now }
+    requires room { vec_len items + length run.now ≤ vec_capacity items }
+    ensures items { OnOk result.1 (result.0.items ≡ items.items ++ collected (slice_get run.now) (length run.now)) }
+    ensures len { OnOk result.1 (vec_len result.0 ≡ vec_len items + length run.now) }
+    ensures room { vec_capacity result.0 ≡ vec_capacity items }
+    ensures kept { OnErr result.1 (IsFront items.items result.0.items) }
+    ensures refused { OnErr result.1 (MayRefuseBelow A.is_infallible (slice_get run.now) (length run.now)) }
+{
+    let mut items = items;
+    for nth in 0..run.len() {
+        match run[nth].clone() {
+            Ok(copy) => items.push_reserved(copy),
+            Err(_) => return (items, Err(NoMemory)),
+        }
+    }
+    (items, Ok(()))
 }
 
 /// Puts clones of the elements of a lane behind those that a vector has.
@@ -43,6 +67,7 @@ where
     ensures len { OnOk result (vec_len items.new ≡ vec_len items.old + lane.count) }
     ensures room { vec_capacity items.new ≡ vec_capacity items.old }
     ensures kept { OnErr result (IsFront items.old.items items.new.items) }
+    ensures refused { OnErr result (MayRefuseBelow S.Elem.is_infallible (stored_along (S.stored storage.now) lane.place lane.stride) lane.count) }
 {
     // A region in hand: what a write may not change isn't read anew for each element.
     let region = storage.borrowed();
@@ -58,20 +83,24 @@ where
 /// The same where they lie side by side.
 fn extend_by_run<S: Data>(items: &mut Vec<S::Elem>, storage: &S, lane: Lane) -> Result<(), NoMemory>
 where
-    S::Elem: Clone + Drop,
+    S::Elem: Clone,
     requires beside { lane.stride ≡ pos 1 }
     requires clones { (k : ℕ) (x : S.Elem) → k < lane.count → stored_along (S.stored storage.now) lane.place lane.stride k ≡ Some x → ClonesAreEqual S.Elem.is_clone x }
     requires holds { (k : ℕ) → k < lane.count → is_some (stored_along (S.stored storage.now) lane.place lane.stride k) ≡ true }
+    requires room { vec_len items.old + lane.count ≤ vec_capacity items.old }
     ensures items { OnOk result (items.new.items ≡ items.old.items ++ collected (stored_along (S.stored storage.now) lane.place lane.stride) lane.count) }
     ensures len { OnOk result (vec_len items.new ≡ vec_len items.old + lane.count) }
-    ensures room { vec_capacity items.old ≤ vec_capacity items.new }
+    ensures room { vec_capacity items.new ≡ vec_capacity items.old }
     ensures kept { OnErr result (IsFront items.old.items items.new.items) }
+    ensures refused { OnErr result (MayRefuseBelow S.Elem.is_infallible (stored_along (S.stored storage.now) lane.place lane.stride) lane.count) }
 {
     let run = storage.borrowed().run(lane.place, lane.count);
-    match items.extend_with_clones(run) {
-        Ok(()) => Ok(()),
-        Err(_) => Err(NoMemory),
-    }
+    let alloc = *items.allocator();
+    let held = mem::replace(items, Vec::new(alloc));
+    let (longer, end) = clones_behind(held, run);
+    let empty = mem::replace(items, longer);
+    empty.destroy_empty();
+    end
 }
 
 /// The same of any lane.
@@ -81,14 +110,15 @@ fn extend_by_lane<S: Data>(
     lane: Lane,
 ) -> Result<(), NoMemory>
 where
-    S::Elem: Clone + Drop,
+    S::Elem: Clone,
     requires clones { (k : ℕ) (x : S.Elem) → k < lane.count → stored_along (S.stored storage.now) lane.place lane.stride k ≡ Some x → ClonesAreEqual S.Elem.is_clone x }
     requires holds { (k : ℕ) → k < lane.count → is_some (stored_along (S.stored storage.now) lane.place lane.stride k) ≡ true }
     requires room { vec_len items.old + lane.count ≤ vec_capacity items.old }
     ensures items { OnOk result (items.new.items ≡ items.old.items ++ collected (stored_along (S.stored storage.now) lane.place lane.stride) lane.count) }
     ensures len { OnOk result (vec_len items.new ≡ vec_len items.old + lane.count) }
-    ensures room { vec_capacity items.old ≤ vec_capacity items.new }
+    ensures room { vec_capacity items.new ≡ vec_capacity items.old }
     ensures kept { OnErr result (IsFront items.old.items items.new.items) }
+    ensures refused { OnErr result (MayRefuseBelow S.Elem.is_infallible (stored_along (S.stored storage.now) lane.place lane.stride) lane.count) }
 {
     if lane.stride == 1 {
         return extend_by_run(items, storage, lane);
@@ -117,6 +147,7 @@ where
     ensures count { OnOk result (vec_len items.new ≡ vec_len items.old + size_of lengths.now) }
     ensures room { vec_capacity items.old ≤ vec_capacity items.new }
     ensures kept { OnErr result (IsFront items.old.items items.new.items) }
+    ensures refused { OnErr result (MayRefuseBelow S.Elem.is_infallible (stored_by_rank (S.stored storage.now) first lengths.now strides.now) (size_of lengths.now)) }
 {
     let mut lanes = Lanes::new(first, lengths, strides);
     while let Some(lane) = lanes.next() {
@@ -153,6 +184,7 @@ where
     ensures count { OnOk result (vec_len items.new ≡ vec_len items.old + size_of (shape_of array.now)) }
     ensures room { vec_capacity items.old ≤ vec_capacity items.new }
     ensures kept { OnErr result (IsFront items.old.items items.new.items) }
+    ensures refused { OnErr result (MayRefuseClone S.Elem.is_infallible (element_at array.now)) }
 {
     let mut joined = array.layout.copied();
     joined.join_axes();

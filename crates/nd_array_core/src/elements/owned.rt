@@ -7,13 +7,12 @@ ghost use Rattle.nd_shape_and_slice.specs.Place.{place_of, IsSeparated};
 ghost use Rattle.nd_shape_and_slice.specs.declared.builder.Order.TheVariants.{RowMajor};
 ghost use Rattle.nd_layout.specs.Ranks.{IsRun};
 ghost use Rattle.nd_layout.specs.Strides.{reach_down};
-ghost use Rattle.nd_array_core.specs.Joined.{row_major_elements};
 ghost use Rattle.nd_array_core.specs.Meaning.{meaning_of, shape_of, element_at, storage_of, layout_strides, layout_offset, inside};
 ghost use Rattle.nd_array_core.specs.Part.{ShowsWhole, BecomesWhole};
 ghost use Rattle.nd_array_core.specs.Places.{HoldsAll, stored_at};
 ghost use Rattle.nd_array_core.specs.base.Fresh.{ClonesOfAllAreEqual, OwnsInOrder};
 ghost use Rattle.nd_array_core.specs.base.Storages.{stored_list};
-ghost use Rattle.nd_array_core.specs.reshape.RunSlices.{IsRunArray, IsInMemoryOrder, CopiesRun};
+ghost use Rattle.nd_array_core.specs.reshape.RunSlices.{IsRunArray, IsInMemoryOrder, CopiesRun, StoresInRowMajorOrder};
 
 use crate::base::array::{Array, ArrayBase};
 use crate::base::fresh::of_items;
@@ -85,7 +84,7 @@ where
     ensures shape { IfOk result (λ a. shape_of a ≡ shape_of array.now) }
     ensures elements { IfOk result (λ a. (i : List ℕ) → element_at a i ≡ element_at array.now i) }
     ensures owns { IfOk result (OwnsInOrder (shape_of array.now, RowMajor)) }
-    ensures stored { IfOk result (λ a. stored_list (storage_of a) ≡ row_major_elements (meaning_of array.now)) }
+    ensures stored { IfOk result (StoresInRowMajorOrder array.now) }
 {
     let items = array.to_vec(alloc)?;
     Ok(of_items(items, array.raw_dim(), Order::RowMajor))
@@ -105,7 +104,7 @@ where
         ensures elements { IfOk result (λ a. (i : List ℕ) → element_at a i ≡ element_at self.now i) }
         ensures run { IsRunArray self.now → IfOk result (CopiesRun self.now) }
         ensures owns { (IsRunArray self.now → ⊥) → IfOk result (OwnsInOrder (shape_of self.now, RowMajor)) }
-        ensures stored { (IsRunArray self.now → ⊥) → IfOk result (λ a. stored_list (storage_of a) ≡ row_major_elements (meaning_of self.now)) }
+        ensures stored { (IsRunArray self.now → ⊥) → IfOk result (StoresInRowMajorOrder self.now) }
     {
         if is_run(self.layout.dim.slice(), self.layout.strides.slice()) {
             run_to_owned(alloc, self)

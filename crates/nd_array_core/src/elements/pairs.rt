@@ -1,7 +1,7 @@
 //! Closures that are handed the elements of two arrays: one to be written, and one beside it.
 #![tactic(auto, unfolding(crate::specs::Meaning::meaning_of, crate::specs::Meaning::memory_layout_of))]
 
-ghost use Rattle.std.specs.Prelude.{◌≡◌, ◌<◌, ◌≤◌, ℕ, true, List, Some, IsSome, pos, length, slice_get, ◌+ℤ◌, ◌*ℤ◌};
+ghost use Rattle.std.specs.Prelude.{◌≡◌, ◌<◌, ◌≤◌, ℕ, true, Some, IsSome, pos, length, slice_get, ◌+ℤ◌, ◌*ℤ◌};
 ghost use Rattle.nd_shape_and_slice.specs.Broadcast.{broadcasts};
 ghost use Rattle.nd_shape_and_slice.specs.Shape.{size_of, HasCheckedSize};
 ghost use Rattle.nd_layout.specs.Places.{ReachesPlaces};
@@ -9,7 +9,7 @@ ghost use Rattle.nd_layout.specs.Walk.{place_at_rank};
 ghost use Rattle.nd_array_core.specs.Places.{names_place};
 ghost use Rattle.nd_array_core.specs.base.Writes.{KeepsFrame};
 ghost use Rattle.nd_array_core.specs.elements.Changes.{AreDistinct};
-ghost use Rattle.nd_array_core.specs.elements.Pairs.{broadcast_at, option_both, ChangesWith, TakesBoth, IsZippedTo, TakesPairs, ZipsBy, ZipsAll, ZippableInAnyOrder};
+ghost use Rattle.nd_array_core.specs.elements.Pairs.{ChangesWith, TakesBoth, IsZippedTo, TakesPairs, ZipsBy, ShowsBoth, ZipsWith, ZippableWith};
 
 use crate::base::array::ArrayBase;
 use crate::base::storage::{Data, DataMut};
@@ -156,7 +156,7 @@ fn zip_places<B, S: DataMut, Z: Data<Elem = B>, F: FnMut(&mut S::Elem, &B)>(
 }
 
 impl<S: DataMut, D: Dimension> ArrayBase<S, D> {
-    ghost use Rattle.nd_array_core.specs.Meaning.{meaning_of, shape_of, element_at};
+    ghost use Rattle.nd_array_core.specs.Meaning.{shape_of};
 
     /// Hands each element to the function, to be written, with the element that the right side has there once it is broadcast
     /// to this shape, which must be possible; each once, in an order that is free, and the function may be called with
@@ -167,9 +167,9 @@ impl<S: DataMut, D: Dimension> ArrayBase<S, D> {
         f: F,
     )
         requires broadcasts { broadcasts (shape_of rhs.now) (shape_of self.old) ≡ true }
-        requires callable { ZippableInAnyOrder F.FnMut (shape_of self.old) (element_at self.old) (broadcast_at (shape_of self.old) (meaning_of rhs.now)) f }
-        ensures visits { ZipsAll F.FnMut (shape_of self.old) (element_at self.old) (broadcast_at (shape_of self.old) (meaning_of rhs.now)) (element_at self.new) f }
-        ensures alike { (h : _) → ZipsBy F.FnMut h f → (i : _) → element_at self.new i ≡ option_both h (element_at self.old i) (broadcast_at (shape_of self.old) (meaning_of rhs.now) i) }
+        requires callable { ZippableWith F.FnMut self.old rhs.now f }
+        ensures visits { ZipsWith F.FnMut self.old rhs.now self.new f }
+        ensures alike { (h : _) → ZipsBy F.FnMut h f → ShowsBoth h self.old rhs.now self.new }
         ensures frame { KeepsFrame S.frame self.old self.new }
     {
         match rhs.layout.broadcast(self.layout.dim) {

@@ -9,7 +9,8 @@ ghost use Rattle.nd_array_core.specs.FreeOrder.{AskableInAnyOrder, HasAnswers};
 ghost use Rattle.nd_array_core.specs.Meaning.{shape_of, element_at, meaning_of};
 ghost use Rattle.nd_array_core.specs.base.Fresh.{ClonesAreEqual, StoredClonesAreEqual, ClonesOfAllAreEqual};
 ghost use Rattle.nd_array_core.specs.reshape.RunSlices.{IsRunArray};
-ghost use Rattle.nd_array_core.specs.elements.Maps.{AnswersValue, MayBeGiven, AnswersValuesBy, AnswersAt, TakesAt, TakesNumbered, AnswersBehind, AskableOfAll, HasAnswersOfAll, IsMappedBy};
+ghost use Rattle.nd_array_core.specs.elements.Maps.{AnswersValue, MayBeGiven, AnswersValuesBy, AnswersAt, TakesAt, TakesNumbered, AnswersBehind, AskableOfAll, HasAnswersOfAll};
+ghost use Rattle.nd_array_core.specs.elements.ArrayMaps.{ShowsMapped};
 
 use crate::base::array::{Array, ArrayBase};
 use crate::base::fresh::of_items;
@@ -218,7 +219,7 @@ where
         requires callable { AskableOfAll (AnswersValue F.FnMut) (MayBeGiven F.FnMut) (meaning_of self.now) f }
         ensures shape { IfOk result (λ a. shape_of a ≡ shape_of self.now) }
         ensures visits { IfOk result (λ a. HasAnswersOfAll (AnswersValue F.FnMut) (meaning_of self.now) f (element_at a)) }
-        ensures alike { (h : _) → AnswersValuesBy F.FnMut h f → IfOk result (λ a. IsMappedBy h (element_at self.now) (element_at a)) }
+        ensures alike { (h : _) → AnswersValuesBy F.FnMut h f → IfOk result (ShowsMapped h self.now) }
     {
         let room = room_of(alloc, self.len())?;
         if is_run(self.layout.dim.slice(), self.layout.strides.slice()) {

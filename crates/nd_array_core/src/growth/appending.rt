@@ -1,18 +1,22 @@
 //! One array behind another along an axis.
 #![tactic(auto, unfolding(crate::specs::Meaning::meaning_of, crate::specs::Meaning::memory_layout_of))]
 
-ghost use Rattle.std.specs.Prelude.{◌↔◌, ◌≡◌, ◌<◌, IsTrue, false, OnOk, OnErr, IfErr, [], length, slice_get, slice_index};
+ghost use Rattle.std.specs.Prelude.{◌↔◌, ◌≡◌, ◌<◌, ◌≤◌, IsTrue, false, Ok, OnOk, OnErr, IfErr, [], length, pos, replicate, slice_get, slice_index};
 ghost use Rattle.nd_shape_and_slice.specs.Shape.{size_of, HasCheckedSize};
 ghost use Rattle.nd_shape_and_slice.specs.Place.{IsSeparated};
 ghost use Rattle.nd_layout.specs.Growth.{growing_strides, must_move};
 ghost use Rattle.nd_layout.specs.Placements.{as_placement, placement_of};
 ghost use Rattle.nd_layout.specs.MemoryOrder.{IsGrown};
 ghost use Rattle.nd_array_core.specs.Joined.{concatenated, concatenated_shape};
-ghost use Rattle.nd_array_core.specs.Meaning.{meaning_of, shape_of, element_at, storage_of, layout_strides};
+ghost use Rattle.nd_array_core.specs.Meaning.{meaning_of, shape_of, element_at, storage_of, layout_strides, layout_offset};
+ghost use Rattle.nd_array_core.specs.Part.{ShowsWhole};
 ghost use Rattle.nd_array_core.specs.Places.{HoldsAll};
+ghost use Rattle.nd_array_core.specs.base.CloneRefusals.{MayRefuseClone};
 ghost use Rattle.nd_array_core.specs.base.Fresh.{ClonesOfAllAreEqual};
-ghost use Rattle.nd_array_core.specs.base.Storages.{stored_list};
+ghost use Rattle.nd_array_core.specs.base.Storages.{stored_list, room_of};
 ghost use Rattle.nd_array_core.specs.growth.Appended.{FitsBehind, IsAppendRefused, ArePutBehind};
+ghost use Rattle.nd_array_core.specs.growth.Grown.{CanGrowOn, GoesOn, IsGrownBy, IsLeft, IsNotForMemory, IsReadyAlong, IsReadyFor, LeavesRoom, NeedsNoMove};
+ghost use Rattle.nd_array_core.specs.growth.Reserved.{HasRoomFor};
 
 use crate::base::array::{Array, ArrayView};
 use crate::base::errors::ArrayError;
@@ -43,6 +47,8 @@ fn append_behind<A: Clone + Drop, D: Dimension>(
     ensures grown { OnOk result (IsGrown (placement_of layout.old) axis (slice_index (shape_of array.now) axis) (placement_of layout.new)) }
     ensures put { OnOk result (ArePutBehind (placement_of layout.new) axis (slice_index (D.lengths layout.old.dim) axis) (shape_of array.now) (element_at array.now) (stored_list storage.old) (stored_list storage.new)) }
     ensures kept { OnErr result ((stored_list storage.new ≡ stored_list storage.old) × (layout.new ≡ layout.old)) }
+    ensures room { room_of storage.old ≤ room_of storage.new }
+    ensures enough { HasRoomFor (size_of (shape_of array.now)) storage.old → OnErr result (MayRefuseClone A.is_infallible (element_at array.now)) }
 {
     let from = layout.dim.length(axis);
     let grown = layout.grown(axis, array.layout.dim.length(axis));
@@ -66,6 +72,9 @@ fn append_fresh<A: Clone + Drop, D: Dimension>(
     ensures laid { OnOk result (placement_of layout.new ≡ as_placement 0 (shape_of array.now) (growing_strides axis (shape_of array.now))) }
     ensures put { OnOk result (ArePutBehind (placement_of layout.new) axis 0 (shape_of array.now) (element_at array.now) [] (stored_list storage.new)) }
     ensures kept { OnErr result (layout.new ≡ layout.old) }
+    ensures left { OnErr result (stored_list storage.new ≡ []) }
+    ensures room { room_of storage.old ≤ room_of storage.new }
+    ensures enough { size_of (shape_of array.now) ≤ room_of storage.old → OnErr result (MayRefuseClone A.is_infallible (element_at array.now)) }
 {
     storage.items.clear();
     let fresh = Layout::growing(array.layout.dim, axis);
@@ -87,6 +96,12 @@ impl<A: Clone + Drop, D: Dimension> Array<A, D> {
         requires clones { ClonesOfAllAreEqual A.is_clone (element_at array.now) }
         ensures joined { OnOk result (meaning_of self.new ≡ concatenated axis.0 (meaning_of self.old) (meaning_of array.now)) }
         ensures kept { OnErr result (meaning_of self.new ≡ meaning_of self.old) }
+        ensures laid { OnOk result (IsGrownBy axis.0 (slice_index (shape_of array.now) axis.0) self.old self.new) }
+        ensures goes_on { OnOk result (GoesOn axis.0 self.old self.new) }
+        ensures left { OnErr result (ShowsWhole self.old self.new) }
+        ensures stored { OnErr result (stored_list (storage_of self.new) ≡ stored_list (storage_of self.old)) }
+        ensures room { room_of (storage_of self.old) ≤ room_of (storage_of self.new) }
+        ensures enough { HasRoomFor (size_of (shape_of array.now)) (storage_of self.old) → OnErr result (MayRefuseClone A.is_infallible (element_at array.now)) }
     {
         append_behind(&mut self.storage, &mut self.layout, axis.0, array)
     }
@@ -98,9 +113,12 @@ impl<A: Clone + Drop, D: Dimension> Array<A, D> {
         requires more { 0 < size_of (shape_of array.now) }
         requires fits { FitsBehind (shape_of self.old) (shape_of array.now) axis.0 }
         requires checked { HasCheckedSize (concatenated_shape (shape_of self.old) (shape_of array.now) axis.0) }
+        requires moves { ¬ (CanGrowOn axis.0 self.old) }
         requires clones { ClonesOfAllAreEqual A.is_clone (element_at array.now) }
         ensures joined { OnOk result (meaning_of self.new ≡ concatenated axis.0 (meaning_of self.old) (meaning_of array.now)) }
         ensures kept { OnErr result (meaning_of self.new ≡ meaning_of self.old) }
+        ensures laid { OnOk result (IsGrownBy axis.0 (slice_index (shape_of array.now) axis.0) self.old self.new) }
+        ensures ready { OnOk result (IsReadyAlong axis.0 self.new) }
     {
         let _count = self.len();
         let more = array.len();
@@ -113,7 +131,7 @@ impl<A: Clone + Drop, D: Dimension> Array<A, D> {
     /// Whether the array fills its storage, and an axis can grow at the end of it without a move.
     fn is_ready_along(&self, axis: Axis) -> bool
         requires { axis.0 < length (shape_of self.now) }
-        ensures { IsTrue result ↔ ((length (stored_list (storage_of self.now)) ≡ size_of (shape_of self.now)) × (must_move (shape_of self.now) (layout_strides self.now) axis.0 ≡ false)) }
+        ensures { IsTrue result ↔ CanGrowOn axis.0 self.now }
     {
         if self.storage.items.len() != self.len() {
             return false;
@@ -131,6 +149,13 @@ impl<A: Clone + Drop, D: Dimension> Array<A, D> {
         requires clones { ClonesOfAllAreEqual A.is_clone (element_at array.now) }
         ensures joined { OnOk result (meaning_of self.new ≡ concatenated axis.0 (meaning_of self.old) (meaning_of array.now)) }
         ensures kept { OnErr result (meaning_of self.new ≡ meaning_of self.old) }
+        ensures laid { OnOk result (IsGrownBy axis.0 (slice_index (shape_of array.now) axis.0) self.old self.new) }
+        ensures ready { OnOk result (IsReadyAlong axis.0 self.new) }
+        ensures goes_on { IsReadyAlong axis.0 self.old → OnOk result (GoesOn axis.0 self.old self.new) }
+        ensures left { NeedsNoMove axis.0 self.old → OnErr result (ShowsWhole self.old self.new) }
+        ensures stored { IsReadyAlong axis.0 self.old → OnErr result (stored_list (storage_of self.new) ≡ stored_list (storage_of self.old)) }
+        ensures room { IsReadyAlong axis.0 self.old → room_of (storage_of self.old) ≤ room_of (storage_of self.new) }
+        ensures enough { IsReadyAlong axis.0 self.old → HasRoomFor (size_of (shape_of array.now)) (storage_of self.old) → OnErr result (MayRefuseClone A.is_infallible (element_at array.now)) }
     {
         if self.is_ready_along(axis) {
             return self.append_in_place(axis, array);
@@ -144,6 +169,9 @@ impl<A: Clone + Drop, D: Dimension> Array<A, D> {
         requires new { size_of (D.lengths dim) ≡ 0 }
         requires checked { HasCheckedSize (D.lengths dim) }
         ensures shape { shape_of self.new ≡ D.lengths dim }
+        ensures strides { layout_strides self.new ≡ replicate (length (D.lengths dim)) (pos 0) }
+        ensures offset { layout_offset self.new ≡ layout_offset self.old }
+        ensures storage { storage_of self.new ≡ storage_of self.old }
     {
         self.layout = Layout::without_elements(self.layout.offset, dim);
     }
@@ -155,7 +183,10 @@ impl<A: Clone + Drop, D: Dimension> Array<A, D> {
         requires fits { FitsBehind (shape_of self.old) (shape_of array.now) axis.0 }
         requires joined { D.lengths dim ≡ concatenated_shape (shape_of self.old) (shape_of array.now) axis.0 }
         requires checked { HasCheckedSize (D.lengths dim) }
-        ensures { meaning_of self.new ≡ concatenated axis.0 (meaning_of self.old) (meaning_of array.now) }
+        ensures joined { meaning_of self.new ≡ concatenated axis.0 (meaning_of self.old) (meaning_of array.now) }
+        ensures laid { IsGrownBy axis.0 (slice_index (shape_of array.now) axis.0) self.old self.new }
+        ensures goes_on { IsReadyAlong axis.0 self.old → GoesOn axis.0 self.old self.new }
+        ensures room { room_of (storage_of self.old) ≤ room_of (storage_of self.new) }
     {
         if !self.is_empty() {
             return;
@@ -172,6 +203,13 @@ impl<A: Clone + Drop, D: Dimension> Array<A, D> {
         requires clones { ClonesOfAllAreEqual A.is_clone (element_at array.now) }
         ensures joined { OnOk result (meaning_of self.new ≡ concatenated axis.0 (meaning_of self.old) (meaning_of array.now)) }
         ensures kept { OnErr result (meaning_of self.new ≡ meaning_of self.old) }
+        ensures laid { OnOk result (IsGrownBy axis.0 (slice_index (shape_of array.now) axis.0) self.old self.new) }
+        ensures ready { OnOk result (IsReadyAlong axis.0 self.new) }
+        ensures goes_on { IsReadyAlong axis.0 self.old → OnOk result (GoesOn axis.0 self.old self.new) }
+        ensures left { OnErr result (ShowsWhole self.old self.new) }
+        ensures stored { IsReadyAlong axis.0 self.old → OnErr result (stored_list (storage_of self.new) ≡ stored_list (storage_of self.old)) }
+        ensures room { IsReadyAlong axis.0 self.old → room_of (storage_of self.old) ≤ room_of (storage_of self.new) }
+        ensures enough { IsReadyAlong axis.0 self.old → HasRoomFor (size_of (shape_of array.now)) (storage_of self.old) → OnErr result (MayRefuseClone A.is_infallible (element_at array.now)) }
     {
         append_fresh(&mut self.storage, &mut self.layout, axis.0, array)
     }
@@ -190,6 +228,14 @@ impl<A: Clone + Drop, D: Dimension> Array<A, D> {
         requires clones { ClonesOfAllAreEqual A.is_clone (element_at array.now) }
         ensures joined { OnOk result (meaning_of self.new ≡ concatenated axis.0 (meaning_of self.old) (meaning_of array.now)) }
         ensures kept { OnErr result (meaning_of self.new ≡ meaning_of self.old) }
+        ensures laid { OnOk result (IsGrownBy axis.0 (slice_index (shape_of array.now) axis.0) self.old self.new) }
+        ensures ready { 0 < size_of (shape_of array.now) → OnOk result (IsReadyAlong axis.0 self.new) }
+        ensures goes_on { IsReadyAlong axis.0 self.old → OnOk result (GoesOn axis.0 self.old self.new) }
+        ensures left { NeedsNoMove axis.0 self.old → OnErr result (ShowsWhole self.old self.new) }
+        ensures stored { IsReadyAlong axis.0 self.old → OnErr result (stored_list (storage_of self.new) ≡ stored_list (storage_of self.old)) }
+        ensures room { IsReadyAlong axis.0 self.old → room_of (storage_of self.old) ≤ room_of (storage_of self.new) }
+        ensures enough { IsReadyAlong axis.0 self.old → HasRoomFor (size_of (shape_of array.now)) (storage_of self.old) → OnErr result (MayRefuseClone A.is_infallible (element_at array.now)) }
+        ensures nothing { size_of (shape_of array.now) ≡ 0 → result ≡ Ok tt }
     {
         if array.len() == 0 {
             self.append_nothing(axis, array, dim);
@@ -203,15 +249,26 @@ impl<A: Clone + Drop, D: Dimension> Array<A, D> {
 
     /// Appends clones of an array's elements along an axis, which is below `ndim` where there are axes: all other lengths
     /// are equal, and a clone equals its original. IncompatibleShape without axes, or where the shapes differ outside the
-    /// axis; Overflow where the result has no checked size; NoMemory where storage or a clone is refused. After a refusal
-    /// shape and elements are as before. On storage that the array fills, the new elements follow the old, where the axis
-    /// is of length 1 or steps furthest; else the elements are laid anew first. ndarray's `append`.
+    /// axis; Overflow where the result has no checked size; NoMemory where storage or a clone is refused, and never where
+    /// no element is appended. After a refusal shape and elements are as before.
+    /// On storage that the array fills, the new elements follow the old, which stay, where the axis is of length 1 or steps
+    /// furthest, and upward; else the elements are laid anew first. Once an element was appended, the next ones along the
+    /// axis follow it. In room that was reserved only a clone can lack memory. ndarray's `append`.
     pub fn append(&mut self, axis: Axis, array: ArrayView<'_, A, D>) -> Result<(), ArrayError>
         requires axis { 0 < length (shape_of self.old) → axis.0 < length (shape_of self.old) }
         requires clones { ClonesOfAllAreEqual A.is_clone (element_at array) }
         ensures refused { IfErr result (IsAppendRefused (shape_of self.old) (shape_of array.entry) axis.0) }
         ensures joined { OnOk result (meaning_of self.new ≡ concatenated axis.0 (meaning_of self.old) (meaning_of array.entry)) }
         ensures kept { OnErr result (meaning_of self.new ≡ meaning_of self.old) }
+        ensures laid { OnOk result (IsGrownBy axis.0 (slice_index (shape_of array.entry) axis.0) self.old self.new) }
+        ensures ready { 0 < size_of (shape_of array.entry) → OnOk result (IsReadyAlong axis.0 self.new) }
+        ensures goes_on { IsReadyAlong axis.0 self.old → OnOk result (GoesOn axis.0 self.old self.new) }
+        ensures left { IfErr result (IsLeft axis.0 self.old self.new) }
+        ensures room { IsReadyAlong axis.0 self.old → room_of (storage_of self.old) ≤ room_of (storage_of self.new) }
+        ensures room_left { IsReadyAlong axis.0 self.old → OnOk result (LeavesRoom axis.0 (slice_index (shape_of array.entry) axis.0) self.old self.new) }
+        ensures room_kept { IsReadyAlong axis.0 self.old → OnErr result (LeavesRoom axis.0 0 self.old self.new) }
+        ensures enough { IsReadyFor axis.0 (slice_index (shape_of array.entry) axis.0) self.old → IfErr result (IsNotForMemory A.is_infallible (element_at array.entry)) }
+        ensures nothing { size_of (shape_of array.entry) ≡ 0 → IfErr result (λ e. e ≡ ArrayError.NoMemory → ⊥) }
     {
         match joined_dim(&self.layout.dim, &array.layout.dim, axis.0) {
             Ok(dim) => match self.append_fitting(axis, &array, dim) {

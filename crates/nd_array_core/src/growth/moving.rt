@@ -1,49 +1,105 @@
 //! Elements moved out of a vector in the order of a layout.
 
-ghost use Rattle.std.specs.Prelude.{◌≡◌, ◌+◌, ◌<◌, ◌≤◌, ℕ, true, [], Some, map, OnOk, OnErr, length, is_some, pos, ◌+ℤ◌, ◌*ℤ◌, slice_get, vec_len, vec_capacity};
+ghost use Rattle.std.specs.Prelude.{◌≡◌, ◌+◌, ◌<◌, ◌≤◌, ℕ, true, Some, IfOk, OnOk, OnErr, length, is_some, pos, ◌+ℤ◌, ◌*ℤ◌, slice_get, vec_len, vec_capacity};
+ghost use Rattle.std.specs.Mem.Slots.{slots_len, SamePlaces};
 ghost use Rattle.nd_shape_and_slice.specs.Shape.{size_of, HasCheckedSize};
 ghost use Rattle.nd_layout.specs.Places.{ReachesPlaces};
 ghost use Rattle.nd_layout.specs.Walk.{place_at_rank};
 ghost use Rattle.nd_array_core.specs.Collected.{collected, stored_along, stored_by_rank};
 ghost use Rattle.nd_array_core.specs.elements.Changes.{AreDistinct};
-ghost use Rattle.nd_array_core.specs.growth.Taken.{seated, IsTakenTo};
+ghost use Rattle.nd_array_core.specs.growth.Taken.{seated, is_kept, AreKept, IsTakenTo};
 
+use crate::base::fresh::repeated;
+use crate::base::storage::OwnedRepr;
+use crate::elements::fill::fill_places;
 use crate::elements::listing::room_of;
+use core::slots::{Slots, release, reserve};
 use nd_layout::{Lane, Lanes};
 use nd_shape_and_slice::NoMemory;
+use std::alloc::Global;
 use std::mem;
 
-/// A seat for each element of a vector, in a vector that has the room.
-fn seats_of<A: Drop>(items: Vec<A>, room: Vec<Option<A>>) -> Vec<Option<A>>
-    requires none { room.items ≡ [] }
-    requires room { vec_len items ≤ vec_capacity room }
-    ensures { result.items ≡ map (λ x. Some x) items.items }
+/// Whether the element of a place is kept: each is where there is no mark.
+fn keeps(marks: &[bool], place: usize) -> bool
+    ensures { result ≡ is_kept marks.now place }
 {
-    let mut seats = room;
-    for item in items {
-        seats.push_reserved(Some(item));
+    place >= marks.len() || marks[place]
+}
+
+/// A mark for each element of a slice, true where one of so many indexes of a layout names it; none where these are as
+/// many as the elements.
+fn marks_of<A>(
+    alloc: Global,
+    items: &[A],
+    first: usize,
+    lengths: &[usize],
+    strides: &[isize],
+    size: usize,
+) -> Result<Vec<bool>, NoMemory>
+    requires as_many { length strides.now ≡ length lengths.now }
+    requires few { length lengths.now ≤ 32 }
+    requires checked { HasCheckedSize lengths.now }
+    requires reach { ReachesPlaces first lengths.now strides.now }
+    requires holds { (rank : ℕ) → rank < size_of lengths.now → is_some (stored_by_rank (slice_get items.now) first lengths.now strides.now rank) ≡ true }
+    ensures kept { IfOk result (λ marks. AreKept (place_at_rank first lengths.now strides.now) (size_of lengths.now) marks.items) }
+{
+    if items.len() == size {
+        return Ok(Vec::new(alloc));
+    }
+    let mut marks = OwnedRepr {
+        items: repeated(alloc, false, items.len())?,
+    };
+    fill_places(&mut marks, first, lengths, strides, &true)?;
+    Ok(marks.items)
+}
+
+/// Moves an element to a place if it is to be kept, and drops it otherwise.
+#[inline(always)]
+fn seat_if<A: Drop>(seats: &mut Slots<A>, place: usize, item: A, is_wanted: bool)
+    requires { place < slots_len seats.old }
+    ensures seated { is_wanted ≡ true → seated seats.new place ≡ Some item }
+    ensures left { (p : ℕ) → (p ≡ place → ⊥) → seated seats.new p ≡ seated seats.old p }
+    ensures places { SamePlaces seats.old seats.new }
+{
+    if is_wanted {
+        seats.put(place, item);
+    }
+}
+
+/// Moves the elements of a vector to empty places, each to its own; those that aren't kept are dropped.
+fn seat_all<A: Drop>(items: Vec<A>, seats: Slots<A>, marks: &[bool]) -> Slots<A>
+    requires { slots_len seats ≡ vec_len items }
+    ensures seated { (p : ℕ) → is_kept marks.now p ≡ true → seated result p ≡ slice_get items.items p }
+    ensures places { SamePlaces seats result }
+{
+    let mut items = items;
+    let mut seats = seats;
+    while let Some(item) = items.pop() {
+        let place = items.len();
+        seat_if(&mut seats, place, item, keeps(marks, place));
     }
     seats
 }
 
 /// Takes the element that sits at a place.
-fn take_at<A>(seats: &mut [Option<A>], place: usize) -> A
+#[inline(always)]
+fn take_at<A>(seats: &mut Slots<A>, place: usize) -> A
     requires { is_some (seated seats.old place) ≡ true }
     ensures value { seated seats.old place ≡ Some result }
     ensures left { (p : ℕ) → (p ≡ place → ⊥) → seated seats.new p ≡ seated seats.old p }
+    ensures places { SamePlaces seats.old seats.new }
 {
-    match seats[place].take() {
-        Some(item) => item,
-        None => unreachable!(),
-    }
+    seats.take(place)
 }
 
 /// Takes the elements of a lane, and puts them behind those that a vector has.
-fn take_lane<A>(items: &mut Vec<A>, seats: &mut [Option<A>], lane: Lane)
+#[inline(always)]
+fn take_lane<A>(items: &mut Vec<A>, seats: &mut Slots<A>, lane: Lane)
     requires apart { AreDistinct (λ k. pos lane.place +ℤ (pos k *ℤ lane.stride)) lane.count }
     requires holds { (k : ℕ) → k < lane.count → is_some (stored_along (seated seats.old) lane.place lane.stride k) ≡ true }
     requires room { vec_len items.old + lane.count ≤ vec_capacity items.old }
     ensures taken { IsTakenTo (λ k. pos lane.place +ℤ (pos k *ℤ lane.stride)) lane.count (seated seats.old) (seated seats.new) items.old.items items.new.items }
+    ensures places { SamePlaces seats.old seats.new }
     ensures len { vec_len items.new ≡ vec_len items.old + lane.count }
     ensures room { vec_capacity items.new ≡ vec_capacity items.old }
 {
@@ -53,9 +109,10 @@ fn take_lane<A>(items: &mut Vec<A>, seats: &mut [Option<A>], lane: Lane)
 }
 
 /// The same of a layout, by row-major rank.
+#[inline(always)]
 fn take_all<A>(
     items: &mut Vec<A>,
-    seats: &mut [Option<A>],
+    seats: &mut Slots<A>,
     first: usize,
     lengths: &[usize],
     strides: &[isize],
@@ -68,6 +125,7 @@ fn take_all<A>(
     requires holds { (rank : ℕ) → rank < size_of lengths.now → is_some (stored_by_rank (seated seats.old) first lengths.now strides.now rank) ≡ true }
     requires room { vec_len items.old + size_of lengths.now ≤ vec_capacity items.old }
     ensures taken { IsTakenTo (place_at_rank first lengths.now strides.now) (size_of lengths.now) (seated seats.old) (seated seats.new) items.old.items items.new.items }
+    ensures places { SamePlaces seats.old seats.new }
     ensures len { vec_len items.new ≡ vec_len items.old + size_of lengths.now }
     ensures room { vec_capacity items.new ≡ vec_capacity items.old }
 {
@@ -85,6 +143,7 @@ pub(crate) fn move_in_order<A: Drop>(
     first: usize,
     lengths: &[usize],
     strides: &[isize],
+    size: usize,
     room: usize,
 ) -> Result<(), NoMemory>
     requires as_many { length strides.now ≡ length lengths.now }
@@ -100,9 +159,16 @@ pub(crate) fn move_in_order<A: Drop>(
     ensures kept { OnErr result (items.new ≡ items.old) }
 {
     let alloc = *items.allocator();
-    let seats = room_of(alloc, items.len())?;
-    let fresh = room_of(alloc, room)?;
-    let mut seats = seats_of(mem::replace(items, fresh), seats);
-    take_all(items, seats.as_mut_slice(), first, lengths, strides);
+    let marks = marks_of(alloc, items.as_slice(), first, lengths, strides, size)?;
+    let mut moved = room_of(alloc, room)?;
+    let (seats, lease) = match unsafe { reserve(&alloc, items.as_slice()) } {
+        Ok(both) => both,
+        Err(_) => return Err(NoMemory),
+    };
+    let old = mem::replace(items, Vec::new(alloc));
+    let mut seats = seat_all(old, seats, marks.as_slice());
+    take_all(&mut moved, &mut seats, first, lengths, strides);
+    release(&alloc, seats, lease);
+    *items = moved;
     Ok(())
 }

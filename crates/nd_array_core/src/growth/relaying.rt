@@ -37,13 +37,14 @@ fn lay_anew<A: Drop, D: Dimension>(
 {
     let order = layout.growing_order(axis);
     let fresh = Layout::growing(layout.dim, axis);
-    let room = layout.dim.size() + more;
+    let size = layout.dim.size();
     move_in_order(
         &mut storage.items,
         order.offset,
         order.dim.slice(),
         order.strides.slice(),
-        room,
+        size,
+        size + more,
     )?;
     *layout = fresh;
     Ok(())

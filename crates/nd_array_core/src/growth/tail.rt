@@ -8,6 +8,7 @@ ghost use Rattle.nd_layout.specs.Placements.{placement_of};
 ghost use Rattle.nd_layout.specs.MemoryOrder.{IsFilledBehind};
 ghost use Rattle.nd_array_core.specs.Joined.{row_major_elements};
 ghost use Rattle.nd_array_core.specs.Meaning.{meaning_of, shape_of, element_at};
+ghost use Rattle.nd_array_core.specs.base.CloneRefusals.{MayRefuseClone};
 ghost use Rattle.nd_array_core.specs.base.Fresh.{ClonesOfAllAreEqual};
 ghost use Rattle.nd_array_core.specs.growth.Appended.{ArePutBehind};
 
@@ -29,6 +30,7 @@ where
     ensures items { OnOk result (items.new.items ≡ items.old.items ++ row_major_elements (meaning_of array.now)) }
     ensures kept { OnErr result (items.new.items ≡ items.old.items) }
     ensures room { vec_capacity items.old ≤ vec_capacity items.new }
+    ensures enough { vec_len items.old + size_of (shape_of array.now) ≤ vec_capacity items.old → OnErr result (MayRefuseClone S.Elem.is_infallible (element_at array.now)) }
 {
     if items.reserve(array.len()).is_err() {
         return Err(NoMemory);
@@ -62,6 +64,7 @@ pub(crate) fn put_behind<A: Clone + Drop, D: Dimension>(
     ensures put { OnOk result (ArePutBehind (placement_of grown.now) axis from (shape_of array.now) (element_at array.now) items.old.items items.new.items) }
     ensures kept { OnErr result (items.new.items ≡ items.old.items) }
     ensures room { vec_capacity items.old ≤ vec_capacity items.new }
+    ensures enough { vec_len items.old + size_of (shape_of array.now) ≤ vec_capacity items.old → OnErr result (MayRefuseClone A.is_infallible (element_at array.now)) }
 {
     let turned = ArrayBase {
         storage: array.storage,

@@ -151,9 +151,9 @@ impl<S: DataMut, D: Dimension> ArrayBase<S, D> {
     pub fn diag_mut(&mut self) -> ArrayViewMut<'_, S::Elem, Ix1>
         ensures* writes_back { sem 𝓛 (array_follows_part S.row S.Elem.row D.row D.Pattern.row D.Strides.row D.Smaller.row D.Larger.row S.Data D.Dimension D.AxisCount D.Strides.StrideList self.entry (tie_of result) (lent_places result)) }
         ensures part { ShowsPart self.old (diagonal_part self.old) result }
-        ensures refilled { LeavesRefilled S.frame self.old (left_by S.refilled S.items self.old result) }
-        ensures others { LeavesPlacesBut (place_at result) self.old (left_by S.refilled S.items self.old result) }
-        ensures kept { LeavesBut self.old (left_by S.refilled S.items self.old result) (diagonal_part self.old) }
+        ensures refilled { LeavesRefilled S.frame self.old (left_by self.old result) }
+        ensures others { LeavesPlacesBut (place_at result) self.old (left_by self.old result) }
+        ensures kept { LeavesBut self.old (left_by self.old result) (diagonal_part self.old) }
     {
         let diagonal = self.layout.diagonal();
         self.lent_as(diagonal)
@@ -219,9 +219,9 @@ where
         requires within { index < slice_index (shape_of self.old) axis.0 }
         ensures* writes_back { sem 𝓛 (array_follows_part S.row S.Elem.row D.row D.Pattern.row D.Strides.row D.Smaller.row D.Larger.row S.Data D.Dimension D.AxisCount D.Strides.StrideList self.entry (tie_of result) (lent_places result)) }
         ensures part { ShowsPart self.old (coordinate_part self.old axis.0 index) result }
-        ensures refilled { LeavesRefilled S.frame self.old (left_by S.refilled S.items self.old result) }
-        ensures others { LeavesPlacesBut (place_at result) self.old (left_by S.refilled S.items self.old result) }
-        ensures kept { LeavesBut self.old (left_by S.refilled S.items self.old result) (coordinate_part self.old axis.0 index) }
+        ensures refilled { LeavesRefilled S.frame self.old (left_by self.old result) }
+        ensures others { LeavesPlacesBut (place_at result) self.old (left_by self.old result) }
+        ensures kept { LeavesBut self.old (left_by self.old result) (coordinate_part self.old axis.0 index) }
     {
         let part = self.layout.index_axis(axis.0, index);
         self.lent_as(part)

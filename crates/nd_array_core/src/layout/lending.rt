@@ -46,8 +46,8 @@ impl<S: DataMut, D: Dimension> ArrayBase<S, D> {
         ensures* writes_back { sem 𝓛 (array_follows_part S.row S.Elem.row D.row D.Pattern.row D.Strides.row D.Smaller.row D.Larger.row S.Data D.Dimension D.AxisCount D.Strides.StrideList self.entry (tie_of result) (lent_places result)) }
         ensures seen { IsViewBy (S.stored self.old.storage) (placement_of layout) (shape_of result) (layout_strides result) (element_at result) (place_at result) }
         ensures offset { layout_offset result ≡ layout.offset }
-        ensures refilled { LeavesRefilled S.frame self.old (left_by S.refilled S.items self.old result) }
-        ensures others { LeavesPlacesBut (place_at result) self.old (left_by S.refilled S.items self.old result) }
+        ensures refilled { LeavesRefilled S.frame self.old (left_by self.old result) }
+        ensures others { LeavesPlacesBut (place_at result) self.old (left_by self.old result) }
     {
         ArrayBase {
             storage: self.lent_part(layout.offset, layout.dim.slice(), layout.strides.slice()),
@@ -64,8 +64,8 @@ impl<S: DataMut, D: Dimension> ArrayBase<S, D> {
     pub fn view_mut(&mut self) -> ArrayViewMut<'_, S::Elem, D>
         ensures* writes_back { sem 𝓛 (array_follows_part S.row S.Elem.row D.row D.Pattern.row D.Strides.row D.Smaller.row D.Larger.row S.Data D.Dimension D.AxisCount D.Strides.StrideList self.entry (tie_of result) (lent_places result)) }
         ensures whole { ShowsWhole self.old result }
-        ensures refilled { LeavesRefilled S.frame self.old (left_by S.refilled S.items self.old result) }
-        ensures others { LeavesPlacesBut (place_at result) self.old (left_by S.refilled S.items self.old result) }
+        ensures refilled { LeavesRefilled S.frame self.old (left_by self.old result) }
+        ensures others { LeavesPlacesBut (place_at result) self.old (left_by self.old result) }
     {
         let layout = self.layout.copied();
         self.lent_as(layout)

@@ -2,7 +2,7 @@
 //! place, and as views to be read or written.
 #![tactic(auto, unfolding(crate::specs::Meaning::meaning_of, crate::specs::Meaning::memory_layout_of))]
 
-ghost use Rattle.std.specs.Prelude.{◌≡◌, ◌<◌, true, length, slice_index, List};
+ghost use Rattle.std.specs.Prelude.{◌≡◌, ◌<◌, true, length, slice_index};
 ghost use Rattle.std.specs.Borrow.{sem};
 ghost use Rattle.nd_shape_and_slice.specs.declared.slice.Slice.{Slice};
 ghost use Rattle.nd_shape_and_slice.specs.EachAxis.{AnswersGive, AnswersFit};
@@ -11,7 +11,8 @@ ghost use Rattle.nd_shape_and_slice.specs.SliceInfo.{fits_shape, shape_after, in
 ghost use Rattle.nd_layout.specs.Steps.{IsStep};
 ghost use Rattle.nd_layout.specs.Strides.{strides_after};
 ghost use Rattle.nd_array_core.specs.Meaning.{shape_of, place_at};
-ghost use Rattle.nd_array_core.specs.Part.{axes_of, axis_part, sliced_part, each_sliced_part, collapsed_by_part, ShowsPart, BecomesPart};
+ghost use Rattle.nd_array_core.specs.Part.{axes_of, axis_part, sliced_part, collapsed_by_part, ShowsPart, BecomesPart};
+ghost use Rattle.nd_array_core.specs.layout.EachAxis.{ShowsEachSliced, BecomesEachSliced, LendsEachSliced};
 
 use crate::base::array::{ArrayBase, ArrayView, ArrayViewMut};
 use crate::base::storage::{Data, DataMut};
@@ -112,7 +113,7 @@ impl<S: Data, D: Dimension> ArrayBase<S, D> {
     /// its axis (`slice_fits`). ndarray's `slice_each_axis_inplace`.
     pub fn slice_each_axis_inplace<F: FnMut(AxisDescription) -> Slice + Drop>(&mut self, f: F)
         requires { AnswersFit F.pre F.step f (axes_of self.old) }
-        ensures sliced { AnswersGive F.step f (axes_of self.old) (λ slices. BecomesPart self.old (each_sliced_part self.old slices) self.new) }
+        ensures sliced { AnswersGive F.step f (axes_of self.old) (BecomesEachSliced self.old self.new) }
     {
         self.layout.slice_each_axis(f);
     }
@@ -124,7 +125,7 @@ impl<S: Data, D: Dimension> ArrayBase<S, D> {
         f: F,
     ) -> ArrayView<'_, S::Elem, D>
         requires { AnswersFit F.pre F.step f (axes_of self.now) }
-        ensures { AnswersGive F.step f (axes_of self.now) (λ slices. ShowsPart self.now (each_sliced_part self.now slices) result) }
+        ensures { AnswersGive F.step f (axes_of self.now) (ShowsEachSliced self.now result) }
     {
         let mut view = self.view();
         view.slice_each_axis_inplace(f);
@@ -134,7 +135,6 @@ impl<S: Data, D: Dimension> ArrayBase<S, D> {
 
 impl<S: DataMut, D: Dimension> ArrayBase<S, D> {
     ghost use Rattle.nd_array_core.specs.layout.ViewLent.{array_follows_part, left_by, lent_places, tie_of, LeavesBut, LeavesPlacesBut, LeavesRefilled};
-    ghost use Rattle.nd_array_core.specs.scoped.PartTasks.{KeepsBut};
 
     /// The view of what the list names, to be read and written: a slice keeps its axis, an index takes its axis away, and
     /// a new axis has length 1. The list fits the shape (`SliceArg::fits`). ndarray's `slice_mut`.
@@ -144,9 +144,9 @@ impl<S: DataMut, D: Dimension> ArrayBase<S, D> {
         requires { fits_shape (shape_of self.old) (I.elements_of info) ≡ true }
         ensures* writes_back { sem 𝓛 (array_follows_part S.row S.Elem.row D.row D.Pattern.row D.Strides.row D.Smaller.row D.Larger.row S.Data D.Dimension D.AxisCount D.Strides.StrideList self.entry (tie_of result) (lent_places result)) }
         ensures part { ShowsPart self.old (sliced_part self.old (I.elements_of info)) result }
-        ensures refilled { LeavesRefilled S.frame self.old (left_by S.refilled S.items self.old result) }
-        ensures others { LeavesPlacesBut (place_at result) self.old (left_by S.refilled S.items self.old result) }
-        ensures kept { LeavesBut self.old (left_by S.refilled S.items self.old result) (sliced_part self.old (I.elements_of info)) }
+        ensures refilled { LeavesRefilled S.frame self.old (left_by self.old result) }
+        ensures others { LeavesPlacesBut (place_at result) self.old (left_by self.old result) }
+        ensures kept { LeavesBut self.old (left_by self.old result) (sliced_part self.old (I.elements_of info)) }
     {
         let named = sliced_by(&self.layout, info);
         self.lent_as(named)
@@ -161,9 +161,9 @@ impl<S: DataMut, D: Dimension> ArrayBase<S, D> {
         requires fits { fits_axis (slice_index (shape_of self.old) axis.0) slice ≡ true }
         ensures* writes_back { sem 𝓛 (array_follows_part S.row S.Elem.row D.row D.Pattern.row D.Strides.row D.Smaller.row D.Larger.row S.Data D.Dimension D.AxisCount D.Strides.StrideList self.entry (tie_of result) (lent_places result)) }
         ensures part { ShowsPart self.old (axis_part self.old axis.0 slice) result }
-        ensures refilled { LeavesRefilled S.frame self.old (left_by S.refilled S.items self.old result) }
-        ensures others { LeavesPlacesBut (place_at result) self.old (left_by S.refilled S.items self.old result) }
-        ensures kept { LeavesBut self.old (left_by S.refilled S.items self.old result) (axis_part self.old axis.0 slice) }
+        ensures refilled { LeavesRefilled S.frame self.old (left_by self.old result) }
+        ensures others { LeavesPlacesBut (place_at result) self.old (left_by self.old result) }
+        ensures kept { LeavesBut self.old (left_by self.old result) (axis_part self.old axis.0 slice) }
     {
         let mut part = self.layout.copied();
         part.slice_axis(axis.0, slice);
@@ -180,9 +180,9 @@ impl<S: DataMut, D: Dimension> ArrayBase<S, D> {
     ) -> ArrayViewMut<'_, S::Elem, D>
         requires { AnswersFit F.pre F.step f (axes_of self.old) }
         ensures* writes_back { sem 𝓛 (array_follows_part S.row S.Elem.row D.row D.Pattern.row D.Strides.row D.Smaller.row D.Larger.row S.Data D.Dimension D.AxisCount D.Strides.StrideList self.entry (tie_of result) (lent_places result)) }
-        ensures refilled { LeavesRefilled S.frame self.old (left_by S.refilled S.items self.old result) }
-        ensures others { LeavesPlacesBut (place_at result) self.old (left_by S.refilled S.items self.old result) }
-        ensures sliced { AnswersGive F.step f (axes_of self.old) (λ slices. ShowsPart self.old (each_sliced_part self.old slices) result × LeavesBut self.old (left_by S.refilled S.items self.old result) (each_sliced_part self.old slices)) }
+        ensures refilled { LeavesRefilled S.frame self.old (left_by self.old result) }
+        ensures others { LeavesPlacesBut (place_at result) self.old (left_by self.old result) }
+        ensures sliced { AnswersGive F.step f (axes_of self.old) (LendsEachSliced self.old (left_by self.old result) result) }
     {
         let mut left = self.layout.copied();
         left.slice_each_axis(f);

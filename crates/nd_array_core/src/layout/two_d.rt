@@ -47,9 +47,9 @@ impl<S: DataMut> ArrayBase<S, Ix2> {
         requires { index < slice_index (shape_of self.old) 0 }
         ensures* writes_back { sem 𝓛 (array_follows_part S.row S.Elem.row (dim_row (number 2)) (Tuple (usize ∷ usize ∷ [])) (Counted isize 2) (dim_row (number 1)) (dim_row (number 3)) S.Data ⟦<Ix2 as Dimension>⟧ ⟦<Ix2 as AxisCount>⟧ ⟦<[isize; 2] as StrideList>⟧ self.entry (tie_of result) (lent_places result)) }
         ensures part { ShowsPart self.old (coordinate_part self.old 0 index) result }
-        ensures refilled { LeavesRefilled S.frame self.old (left_by S.refilled S.items self.old result) }
-        ensures others { LeavesPlacesBut (place_at result) self.old (left_by S.refilled S.items self.old result) }
-        ensures kept { LeavesBut self.old (left_by S.refilled S.items self.old result) (coordinate_part self.old 0 index) }
+        ensures refilled { LeavesRefilled S.frame self.old (left_by self.old result) }
+        ensures others { LeavesPlacesBut (place_at result) self.old (left_by self.old result) }
+        ensures kept { LeavesBut self.old (left_by self.old result) (coordinate_part self.old 0 index) }
     {
         self.index_axis_mut(Axis(0), index)
     }
@@ -61,9 +61,9 @@ impl<S: DataMut> ArrayBase<S, Ix2> {
         requires { index < slice_index (shape_of self.old) 1 }
         ensures* writes_back { sem 𝓛 (array_follows_part S.row S.Elem.row (dim_row (number 2)) (Tuple (usize ∷ usize ∷ [])) (Counted isize 2) (dim_row (number 1)) (dim_row (number 3)) S.Data ⟦<Ix2 as Dimension>⟧ ⟦<Ix2 as AxisCount>⟧ ⟦<[isize; 2] as StrideList>⟧ self.entry (tie_of result) (lent_places result)) }
         ensures part { ShowsPart self.old (coordinate_part self.old 1 index) result }
-        ensures refilled { LeavesRefilled S.frame self.old (left_by S.refilled S.items self.old result) }
-        ensures others { LeavesPlacesBut (place_at result) self.old (left_by S.refilled S.items self.old result) }
-        ensures kept { LeavesBut self.old (left_by S.refilled S.items self.old result) (coordinate_part self.old 1 index) }
+        ensures refilled { LeavesRefilled S.frame self.old (left_by self.old result) }
+        ensures others { LeavesPlacesBut (place_at result) self.old (left_by self.old result) }
+        ensures kept { LeavesBut self.old (left_by self.old result) (coordinate_part self.old 1 index) }
     {
         self.index_axis_mut(Axis(1), index)
     }

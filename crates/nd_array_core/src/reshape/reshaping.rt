@@ -1,14 +1,13 @@
 //! Arrays under another shape: views, or kept storages, where strides serve, and else copies.
 #![tactic(auto, unfolding(crate::specs::Meaning::meaning_of, crate::specs::Meaning::memory_layout_of))]
 
-ghost use Rattle.std.specs.Prelude.{◌≡◌, IfOk, IfErr, IsOkAnd, [], ◌∷◌};
+ghost use Rattle.std.specs.Prelude.{◌≡◌, IfOk, IfErr, [], ◌∷◌};
 ghost use Rattle.nd_shape_and_slice.specs.Shape.{size_of};
 ghost use Rattle.nd_shape_and_slice.specs.declared.builder.Order.TheVariants.{RowMajor};
-ghost use Rattle.nd_array_core.specs.Meaning.{shape_of, element_at, layout_strides};
-ghost use Rattle.nd_array_core.specs.base.Fresh.{ClonesOfAllAreEqual};
-ghost use Rattle.nd_array_core.specs.reshape.Regrouped.{IsShapeOf};
+ghost use Rattle.nd_array_core.specs.Meaning.{shape_of};
+ghost use Rattle.nd_array_core.specs.reshape.Regrouped.{IsShapeOf, flat_shape};
 ghost use Rattle.nd_array_core.specs.reshape.Serving.{StridesServe};
-ghost use Rattle.nd_array_core.specs.reshape.Either.{IsReshapeRefused, ViewsOrCopies, KeptOrCopied, AnswersView, KeepsStorage};
+ghost use Rattle.nd_array_core.specs.reshape.Either.{RefusesReshape, CopiesAreEqual, ViewsOrCopies, KeptOrCopied, IsViewIfServed, IsViewIfShapeServed, KeepsStorageIfServed, KeepsStorageIfShapeServed};
 
 use crate::base::array::{Array, ArrayBase};
 use crate::base::errors::ArrayError;
@@ -40,10 +39,10 @@ fn view_or_copy<S: Data, D: Dimension, E: Dimension>(
 where
     S::Elem: Clone + Drop,
     requires shape { IsShapeOf (shape_of array.now) (E.lengths dim) }
-    requires clones { (StridesServe array.now order (E.lengths dim) → ⊥) → ClonesOfAllAreEqual S.Elem.is_clone (element_at array.now) }
-    ensures refused { IfErr result (IsReshapeRefused order (shape_of array.now) (layout_strides array.now) (E.lengths dim)) }
+    requires clones { CopiesAreEqual S.Elem.is_clone array.now order (E.lengths dim) }
+    ensures refused { IfErr result (RefusesReshape array.now order (E.lengths dim)) }
     ensures kind { IfOk result (ViewsOrCopies array.now order (E.lengths dim)) }
-    ensures serves { StridesServe array.now order (E.lengths dim) → AnswersView result }
+    ensures serves { IsViewIfServed array.now order (E.lengths dim) result }
 {
     match served_view(array, dim, order) {
         Some(view) => Ok(EitherArray::View(view)),
@@ -67,11 +66,11 @@ where
         alloc: Global,
         shape: E,
     ) -> Result<ViewOrOwned<'_, S::Elem, E::Dim>, ArrayError>
-        requires clones { (StridesServe self.now (E.order_asked shape) (E.shape_asked shape) → ⊥) → ClonesOfAllAreEqual S.Elem.is_clone (element_at self.now) }
-        ensures refused { IfErr result (IsReshapeRefused (E.order_asked shape) (shape_of self.now) (layout_strides self.now) (E.shape_asked shape)) }
+        requires clones { CopiesAreEqual S.Elem.is_clone self.now (E.order_asked shape) (E.shape_asked shape) }
+        ensures refused { IfErr result (RefusesReshape self.now (E.order_asked shape) (E.shape_asked shape)) }
         ensures shape { IfOk result (λ _. IsShapeOf (shape_of self.now) (E.shape_asked shape)) }
         ensures kind { IfOk result (ViewsOrCopies self.now (E.order_asked shape) (E.shape_asked shape)) }
-        ensures serves { IsShapeOf (shape_of self.now) (E.shape_asked shape) → StridesServe self.now (E.order_asked shape) (E.shape_asked shape) → AnswersView result }
+        ensures serves { IsViewIfShapeServed self.now (E.order_asked shape) (E.shape_asked shape) result }
     {
         let (dim, order) = shape.into_shape_and_order();
         if has_size(dim.slice(), self.len()) {
@@ -89,10 +88,10 @@ where
         alloc: Global,
         order: Order,
     ) -> Result<ViewOrOwned<'_, S::Elem, Ix1>, NoMemory>
-        requires clones { (StridesServe self.now order (size_of (shape_of self.now) ∷ []) → ⊥) → ClonesOfAllAreEqual S.Elem.is_clone (element_at self.now) }
-        ensures refused { IfErr result (λ _. StridesServe self.now order (size_of (shape_of self.now) ∷ []) → ⊥) }
-        ensures kind { IfOk result (ViewsOrCopies self.now order (size_of (shape_of self.now) ∷ [])) }
-        ensures serves { StridesServe self.now order (size_of (shape_of self.now) ∷ []) → AnswersView result }
+        requires clones { CopiesAreEqual S.Elem.is_clone self.now order (flat_shape self.now) }
+        ensures refused { IfErr result (λ _. StridesServe self.now order (flat_shape self.now) → ⊥) }
+        ensures kind { IfOk result (ViewsOrCopies self.now order (flat_shape self.now)) }
+        ensures serves { IsViewIfServed self.now order (flat_shape self.now) result }
     {
         match view_or_copy(alloc, self, line_of(self).into_dimension(), order) {
             Ok(flat) => Ok(flat),
@@ -104,10 +103,10 @@ where
     /// has, which takes no memory and clones nothing; else an array of clones. A clone equals its original. NoMemory if
     /// storage or a clone is refused. ndarray's `flatten`.
     pub fn flatten(&self, alloc: Global) -> Result<ViewOrOwned<'_, S::Elem, Ix1>, NoMemory>
-        requires clones { (StridesServe self.now RowMajor (size_of (shape_of self.now) ∷ []) → ⊥) → ClonesOfAllAreEqual S.Elem.is_clone (element_at self.now) }
-        ensures refused { IfErr result (λ _. StridesServe self.now RowMajor (size_of (shape_of self.now) ∷ []) → ⊥) }
-        ensures kind { IfOk result (ViewsOrCopies self.now RowMajor (size_of (shape_of self.now) ∷ [])) }
-        ensures serves { StridesServe self.now RowMajor (size_of (shape_of self.now) ∷ []) → AnswersView result }
+        requires clones { CopiesAreEqual S.Elem.is_clone self.now RowMajor (flat_shape self.now) }
+        ensures refused { IfErr result (λ _. StridesServe self.now RowMajor (flat_shape self.now) → ⊥) }
+        ensures kind { IfOk result (ViewsOrCopies self.now RowMajor (flat_shape self.now)) }
+        ensures serves { IsViewIfServed self.now RowMajor (flat_shape self.now) result }
     {
         self.flatten_with_order(alloc, Order::RowMajor)
     }
@@ -121,10 +120,10 @@ fn kept_or_copied<A: Clone + Drop, D: Dimension, E: Dimension>(
     order: Order,
 ) -> Result<Array<A, E>, ArrayError>
     requires shape { IsShapeOf (shape_of array) (E.lengths dim) }
-    requires clones { (StridesServe array order (E.lengths dim) → ⊥) → ClonesOfAllAreEqual A.is_clone (element_at array) }
-    ensures refused { IfErr result (IsReshapeRefused order (shape_of array) (layout_strides array) (E.lengths dim)) }
+    requires clones { CopiesAreEqual A.is_clone array order (E.lengths dim) }
+    ensures refused { IfErr result (RefusesReshape array order (E.lengths dim)) }
     ensures kind { IfOk result (KeptOrCopied array order (E.lengths dim)) }
-    ensures serves { StridesServe array order (E.lengths dim) → IsOkAnd result (KeepsStorage array order (E.lengths dim)) }
+    ensures serves { KeepsStorageIfServed array order (E.lengths dim) result }
 {
     match served_layout(&array.layout, dim, order) {
         Some(layout) => Ok(ArrayBase {
@@ -149,11 +148,11 @@ impl<A: Clone + Drop, D: Dimension> Array<A, D> {
         alloc: Global,
         shape: E,
     ) -> Result<Array<A, E::Dim>, ArrayError>
-        requires clones { (StridesServe self (E.order_asked shape) (E.shape_asked shape) → ⊥) → ClonesOfAllAreEqual A.is_clone (element_at self) }
-        ensures refused { IfErr result (IsReshapeRefused (E.order_asked shape) (shape_of self) (layout_strides self) (E.shape_asked shape)) }
+        requires clones { CopiesAreEqual A.is_clone self (E.order_asked shape) (E.shape_asked shape) }
+        ensures refused { IfErr result (RefusesReshape self (E.order_asked shape) (E.shape_asked shape)) }
         ensures shape { IfOk result (λ _. IsShapeOf (shape_of self) (E.shape_asked shape)) }
         ensures kind { IfOk result (KeptOrCopied self (E.order_asked shape) (E.shape_asked shape)) }
-        ensures serves { IsShapeOf (shape_of self) (E.shape_asked shape) → StridesServe self (E.order_asked shape) (E.shape_asked shape) → IsOkAnd result (KeepsStorage self (E.order_asked shape) (E.shape_asked shape)) }
+        ensures serves { KeepsStorageIfShapeServed self (E.order_asked shape) (E.shape_asked shape) result }
     {
         let (dim, order) = shape.into_shape_and_order();
         if has_size(dim.slice(), self.len()) {
@@ -166,10 +165,10 @@ impl<A: Clone + Drop, D: Dimension> Array<A, D> {
     /// place that it has, which takes no memory and clones nothing; else its elements are clones. A clone equals its
     /// original. NoMemory if storage or a clone is refused; the array is then dropped. ndarray's `into_flat`.
     pub fn into_flat(self, alloc: Global) -> Result<Array<A, Ix1>, NoMemory>
-        requires clones { (StridesServe self RowMajor (size_of (shape_of self) ∷ []) → ⊥) → ClonesOfAllAreEqual A.is_clone (element_at self) }
-        ensures refused { IfErr result (λ _. StridesServe self RowMajor (size_of (shape_of self) ∷ []) → ⊥) }
-        ensures kind { IfOk result (KeptOrCopied self RowMajor (size_of (shape_of self) ∷ [])) }
-        ensures serves { StridesServe self RowMajor (size_of (shape_of self) ∷ []) → IsOkAnd result (KeepsStorage self RowMajor (size_of (shape_of self) ∷ [])) }
+        requires clones { CopiesAreEqual A.is_clone self RowMajor (flat_shape self) }
+        ensures refused { IfErr result (λ _. StridesServe self RowMajor (flat_shape self) → ⊥) }
+        ensures kind { IfOk result (KeptOrCopied self RowMajor (flat_shape self)) }
+        ensures serves { KeepsStorageIfServed self RowMajor (flat_shape self) result }
     {
         let dim = line_of(&self).into_dimension();
         match kept_or_copied(alloc, self, dim, Order::RowMajor) {

@@ -7,8 +7,7 @@ ghost use Rattle.nd_shape_and_slice.specs.Place.{IsSeparated};
 ghost use Rattle.nd_layout.specs.Steps.{IsViewStep};
 ghost use Rattle.nd_layout.specs.GivenStrides.{ordered_strides};
 ghost use Rattle.nd_array_core.specs.Meaning.{shape_of, layout_strides, layout_offset};
-ghost use Rattle.nd_array_core.specs.Part.{BecomesPart};
-ghost use Rattle.nd_array_core.specs.reshape.Regrouped.{IsInOrder, IsShapeOf, IsRefused, IsOrderTried, ordered_part, regrouped_index, IsRefusedInBoth, LiesInOrder};
+ghost use Rattle.nd_array_core.specs.reshape.Regrouped.{IsInOrder, IsShapeOf, IsRefused, IsOrderTried, regrouped_index, IsRefusedInBoth, LiesInOrder, RefusesShapeInOrder, IsReshapeOf};
 ghost use Rattle.nd_shape_and_slice.specs.declared.builder.Order.TheVariants.{RowMajor, ColumnMajor};
 
 use crate::base::array::ArrayBase;
@@ -114,10 +113,10 @@ impl<S: Data + Drop, D: Dimension> ArrayBase<S, D> {
         self,
         shape: E,
     ) -> Result<ArrayBase<S, E::Dim>, ShapeError>
-        ensures refused { IfErr result (IsRefused (E.order_asked shape) (shape_of self) (layout_strides self) (E.shape_asked shape)) }
+        ensures refused { IfErr result (RefusesShapeInOrder self (E.order_asked shape) (E.shape_asked shape)) }
         ensures shape { IfOk result (λ _. IsShapeOf (shape_of self) (E.shape_asked shape)) }
         ensures order { IfOk result (λ _. LiesInOrder (E.order_asked shape) self) }
-        ensures part { IfOk result (λ a. BecomesPart self (ordered_part self (E.order_asked shape) (E.shape_asked shape)) a) }
+        ensures part { IfOk result (IsReshapeOf self (E.order_asked shape) (E.shape_asked shape)) }
         ensures offset { IfOk result (λ a. layout_offset a ≡ layout_offset self) }
     {
         let (dim, order) = shape.into_shape_and_order();
@@ -134,8 +133,8 @@ impl<S: Data + Drop, D: Dimension> ArrayBase<S, D> {
     /// IncompatibleLayout where the elements lie in neither order; the array is then dropped. ndarray's `into_shape`.
     pub fn into_shape<E: IntoDimension>(self, shape: E) -> Result<ArrayBase<S, E::Dim>, ShapeError>
         ensures refused { IfErr result (IsRefusedInBoth (shape_of self) (layout_strides self) (E.lengths_given shape)) }
-        ensures rows { LiesInOrder RowMajor self → IfOk result (BecomesPart self (ordered_part self RowMajor (E.lengths_given shape))) }
-        ensures columns { (LiesInOrder RowMajor self → ⊥) → IfOk result (BecomesPart self (ordered_part self ColumnMajor (E.lengths_given shape))) }
+        ensures rows { LiesInOrder RowMajor self → IfOk result (IsReshapeOf self RowMajor (E.lengths_given shape)) }
+        ensures columns { (LiesInOrder RowMajor self → ⊥) → IfOk result (IsReshapeOf self ColumnMajor (E.lengths_given shape)) }
         ensures shape { IfOk result (λ _. IsShapeOf (shape_of self) (E.lengths_given shape)) }
         ensures offset { IfOk result (λ a. layout_offset a ≡ layout_offset self) }
     {

@@ -5,10 +5,10 @@ ghost use Rattle.std.specs.Prelude.{◌≡◌, ℕ, true, List, Some, OnOk, OnEr
 ghost use Rattle.nd_shape_and_slice.specs.SliceInfo.{fits_shape};
 ghost use Rattle.nd_array_core.specs.PlacedArray.{element_placed};
 ghost use Rattle.nd_array_core.specs.base.Writes.{IsOldOrNew, KeepsFrame};
-ghost use Rattle.nd_array_core.specs.scoped.Tasks.{view_frame, lent_frame, lent_view, view_left, CanBeSeen};
+ghost use Rattle.nd_array_core.specs.scoped.Tasks.{view_frame, lent_frame, CanBeSeen};
 ghost use Rattle.nd_array_core.specs.scoped.PartTasks.{IsFilledWith, KeepsBut};
 ghost use Rattle.nd_array_core.specs.Part.{sliced_part};
-ghost use Rattle.nd_array_core.specs.scoped.Fills.{IsOldOrFilled, IsFilledWhere, FillsNamed, KeepsOtherIndexes};
+ghost use Rattle.nd_array_core.specs.scoped.Fills.{IsOldOrFilled, IsFilledWhere, FillsNamed, KeepsOtherIndexes, IsViewFilled, IsViewFilledInPart};
 
 use super::tasks::{LentView, ViewTask};
 use crate::base::array::ArrayBase;
@@ -35,8 +35,8 @@ impl<A: Clone + Drop, D: Dimension> ViewTask<A, D> for Fill<A> {
         requires sound { CanBeSeen D.lengths D.Strides.strides_of lent }
         requires clones { (copy : A) → A.is_clone self.value copy → copy ≡ self.value }
         ensures frame { view_frame result.0 ≡ lent_frame lent.entry }
-        ensures filled { OnOk result.1 ((i : List ℕ) → element_placed (view_left D.lengths D.Strides.strides_of lent.entry result.0) i ≡ inside (lent_view D.lengths D.Strides.strides_of lent.entry).shape i (Some self.value)) }
-        ensures stopped { OnErr result.1 (IsOldOrNew (lent_view D.lengths D.Strides.strides_of lent.entry).shape (element_placed (lent_view D.lengths D.Strides.strides_of lent.entry)) self.value (element_placed (view_left D.lengths D.Strides.strides_of lent.entry result.0))) }
+        ensures filled { OnOk result.1 (IsViewFilled D.lengths D.Strides.strides_of lent.entry result.0 self.value) }
+        ensures stopped { OnErr result.1 (IsViewFilledInPart D.lengths D.Strides.strides_of lent.entry result.0 self.value) }
     {
         let mut view = lent.into_view();
         let done = view.fill(self.value);

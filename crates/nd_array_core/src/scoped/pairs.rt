@@ -5,7 +5,7 @@ ghost use Rattle.std.specs.Prelude.{◌≡◌, ◌≤◌, ◌<◌, ℕ, length, 
 ghost use Rattle.std.specs.Option.{is_some};
 ghost use Rattle.nd_region.specs.Region.{region_stored, borrow_of};
 ghost use Rattle.nd_array_core.specs.PlacedArray.{PlacedArray};
-ghost use Rattle.nd_array_core.specs.scoped.Tasks.{view_frame, lent_frame, lent_view, view_left, CanBeSeen, LiesBy, array_placed_by, HoldsBy, AreApart, IsWithin, AsksOfPair, IsDoneOnPair, KeepsUnnamed, KeepsUnnamedByTwo};
+ghost use Rattle.nd_array_core.specs.scoped.Tasks.{view_frame, lent_frame, lent_view, CanBeSeen, IsDoneOnViews, LiesBy, array_placed_by, HoldsBy, AreApart, IsWithin, AsksOfPair, IsDoneOnPair, KeepsUnnamed, KeepsUnnamedByTwo};
 ghost use Rattle.nd_layout.specs.Placements.{placement_of};
 ghost use Rattle.nd_array_core.specs.scoped.PartTasks.{AsksOfHalves, IsDoneOnHalves};
 ghost use Rattle.nd_array_core.specs.base.Writes.{KeepsFrame};
@@ -40,7 +40,7 @@ pub trait PairTask<A, D: Dimension, E: Dimension>: Drop {
         requires pre { pre self (lent_view D.lengths D.Strides.strides_of one) (lent_view E.lengths E.Strides.strides_of two) }
         ensures one_frame { view_frame result.0 ≡ lent_frame one.entry }
         ensures two_frame { view_frame result.1 ≡ lent_frame two.entry }
-        ensures done { post self (lent_view D.lengths D.Strides.strides_of one.entry) (lent_view E.lengths E.Strides.strides_of two.entry) (view_left D.lengths D.Strides.strides_of one.entry result.0) (view_left E.lengths E.Strides.strides_of two.entry result.1) result.2 };
+        ensures done { IsDoneOnViews D.lengths D.Strides.strides_of E.lengths E.Strides.strides_of (post self) one.entry two.entry result };
 }
 
 /// Runs the task on the elements of two regions, each seen by a layout.

@@ -33,7 +33,7 @@ fn sliced_on<D: Dimension, T: StrideList>(
 }
 
 impl<S: DataMut, D: Dimension> ArrayBase<S, D> {
-    ghost use Rattle.nd_array_core.specs.Meaning.{shape_of, element_at, storage_of, place_at};
+    ghost use Rattle.nd_array_core.specs.Meaning.{shape_of};
 
     /// Lends the task a mutable view of what the list of slices names, for the length of the call. Afterwards the array
     /// has there the elements that the view was left with, and elsewhere those that it had. The list fits the shape
@@ -47,7 +47,7 @@ impl<S: DataMut, D: Dimension> ArrayBase<S, D> {
         requires callable { AsksOfPart (K.pre task) self.old (sliced_part self.old (I.elements_of info)) }
         ensures frame { KeepsFrame S.frame self.old self.new }
         ensures kept { KeepsBut self.old self.new (sliced_part self.old (I.elements_of info)) }
-        ensures done { IsDoneOnPart (λ v w. K.post task v w result) self.old self.new (sliced_part self.old (I.elements_of info)) }
+        ensures done { IsDoneOnPart (K.post task) result self.old self.new (sliced_part self.old (I.elements_of info)) }
     {
         let layout = sliced_by(&self.layout, info);
         with_placement(&mut self.storage, &layout, task)
@@ -67,7 +67,7 @@ impl<S: DataMut, D: Dimension> ArrayBase<S, D> {
         requires callable { AsksOfPart (K.pre task) self.old (axis_part self.old axis.0 slice) }
         ensures frame { KeepsFrame S.frame self.old self.new }
         ensures kept { KeepsBut self.old self.new (axis_part self.old axis.0 slice) }
-        ensures done { IsDoneOnPart (λ v w. K.post task v w result) self.old self.new (axis_part self.old axis.0 slice) }
+        ensures done { IsDoneOnPart (K.post task) result self.old self.new (axis_part self.old axis.0 slice) }
     {
         let layout = sliced_on(&self.layout, axis.0, slice);
         with_placement(&mut self.storage, &layout, task)
@@ -80,7 +80,7 @@ impl<S: DataMut, D: Dimension> ArrayBase<S, D> {
         requires callable { AsksOfPart (K.pre task) self.old (diagonal_part self.old) }
         ensures frame { KeepsFrame S.frame self.old self.new }
         ensures kept { KeepsBut self.old self.new (diagonal_part self.old) }
-        ensures done { IsDoneOnPart (λ v w. K.post task v w result) self.old self.new (diagonal_part self.old) }
+        ensures done { IsDoneOnPart (K.post task) result self.old self.new (diagonal_part self.old) }
     {
         let layout = self.layout.diagonal();
         with_placement(&mut self.storage, &layout, task)
@@ -91,7 +91,7 @@ impl<S: DataMut, D: RemoveAxis> ArrayBase<S, D>
 where
     D::Smaller: Dimension,
 {
-    ghost use Rattle.nd_array_core.specs.Meaning.{shape_of, element_at, storage_of, place_at};
+    ghost use Rattle.nd_array_core.specs.Meaning.{shape_of};
 
     /// Lends the task a mutable view at one coordinate of an axis, without the axis, for the length of the call.
     /// Afterwards the array has there the elements that the view was left with, and elsewhere those that it had. The
@@ -108,7 +108,7 @@ where
         requires callable { AsksOfPart (K.pre task) self.old (coordinate_part self.old axis.0 index) }
         ensures frame { KeepsFrame S.frame self.old self.new }
         ensures kept { KeepsBut self.old self.new (coordinate_part self.old axis.0 index) }
-        ensures done { IsDoneOnPart (λ v w. K.post task v w result) self.old self.new (coordinate_part self.old axis.0 index) }
+        ensures done { IsDoneOnPart (K.post task) result self.old self.new (coordinate_part self.old axis.0 index) }
     {
         let layout = self.layout.index_axis(axis.0, index);
         with_placement(&mut self.storage, &layout, task)

@@ -8,9 +8,10 @@
 ghost use Rattle.std.specs.Prelude.{◌≡◌, ℕ, List};
 ghost use Rattle.std.specs.Option.{is_some};
 ghost use Rattle.nd_region.specs.Region.{region_stored, borrow_of};
-ghost use Rattle.nd_array_core.specs.PlacedArray.{PlacedArray, element_placed, found_at};
+ghost use Rattle.nd_array_core.specs.Laws.{ShowsStored};
+ghost use Rattle.nd_array_core.specs.PlacedArray.{PlacedArray, found_at};
 ghost use Rattle.nd_array_core.specs.base.Storages.{held_by};
-ghost use Rattle.nd_array_core.specs.scoped.Tasks.{view_frame, lent_frame, lent_view, view_left, CanBeSeen, LiesBy, array_placed_by, AsksOfPlacement, IsDoneOnPlacement, KeepsUnnamed};
+ghost use Rattle.nd_array_core.specs.scoped.Tasks.{view_frame, lent_frame, lent_view, CanBeSeen, IsDoneOnView, LiesBy, array_placed_by, AsksOfPlacement, IsDoneOnPlacement, KeepsUnnamed};
 ghost use Rattle.nd_layout.specs.Placements.{placement_of};
 ghost use Rattle.nd_array_core.specs.base.Writes.{KeepsFrame};
 ghost use Rattle.nd_array_core.specs.scoped.PartTasks.{AsksOfWhole, IsDoneOnWhole};
@@ -54,7 +55,7 @@ impl<'a, A, D: Dimension> LentView<'a, A, D, D::Strides> {
         requires { CanBeSeen D.lengths D.Strides.strides_of self }
         ensures shape { shape_of result ≡ (lent_view D.lengths D.Strides.strides_of self.entry).shape }
         ensures places { (i : List ℕ) → place_at result i ≡ (lent_view D.lengths D.Strides.strides_of self.entry).place i }
-        ensures elements { (i : List ℕ) → element_at result i ≡ element_placed (lent_view D.lengths D.Strides.strides_of self.entry) i }
+        ensures elements { ShowsStored (element_at result) (lent_view D.lengths D.Strides.strides_of self.entry) }
         ensures frame { view_frame (storage_of result) ≡ lent_frame self.entry }
     {
         ArrayBase {
@@ -95,7 +96,7 @@ pub trait ViewTask<A, D: Dimension>: Drop {
         requires sound { CanBeSeen D.lengths D.Strides.strides_of lent }
         requires pre { pre self (lent_view D.lengths D.Strides.strides_of lent) }
         ensures frame { view_frame result.0 ≡ lent_frame lent.entry }
-        ensures done { post self (lent_view D.lengths D.Strides.strides_of lent.entry) (view_left D.lengths D.Strides.strides_of lent.entry result.0) result.1 };
+        ensures done { IsDoneOnView D.lengths D.Strides.strides_of (post self) lent.entry result.0 result.1 };
 }
 
 /// Runs the task on a region's elements, seen by a layout.

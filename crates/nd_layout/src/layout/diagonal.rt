@@ -3,8 +3,8 @@
 ghost use Rattle.std.specs.Prelude.{◌≡◌, ◌<◌, ◌^◌, ℕ, [], ◌∷◌, length, min, slice_index, nat_abs, ◌+ℤ◌};
 ghost use Rattle.nd_shape_and_slice.specs.Place.{span_of};
 ghost use Rattle.nd_layout.specs.Strides.{sum_of, diagonal_stride};
-ghost use Rattle.nd_shape_and_slice.specs.Maps.{diagonal_length, diagonal_index};
-ghost use Rattle.nd_layout.specs.Steps.{IsStep};
+ghost use Rattle.nd_shape_and_slice.specs.Maps.{diagonal_length};
+ghost use Rattle.nd_layout.specs.Placements.{placement_of, IsDiagonalStep};
 
 use super::Layout;
 use super::axes::{length_at, stride_at};
@@ -72,7 +72,7 @@ impl<D: Dimension, T: StrideList> Layout<D, T> {
     pub fn diagonal(&self) -> Layout<Ix1, <Ix1 as Dimension>::Strides>
         ensures lengths { ⟦<Ix1 as Dimension>⟧.lengths result.dim ≡ diagonal_length (D.lengths self.now.dim) ∷ [] }
         ensures strides { result.strides ≡ diagonal_stride (D.lengths self.now.dim) (T.strides_of self.now.strides) ∷ [] }
-        ensures step { IsStep self.now.offset (D.lengths self.now.dim) (T.strides_of self.now.strides) result.offset (⟦<Ix1 as Dimension>⟧.lengths result.dim) result.strides (diagonal_index (D.lengths self.now.dim)) }
+        ensures step { IsDiagonalStep (placement_of self.now) (placement_of result) }
         ensures offset { result.offset ≡ self.now.offset }
     {
         let len = len_of_diagonal(self.dim.slice());

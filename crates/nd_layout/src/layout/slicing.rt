@@ -1,17 +1,17 @@
 //! Slices of a layout's axes: of one axis, by a list of slices, and by a closure that is asked of each axis.
 
-ghost use Rattle.std.specs.Prelude.{◌≡◌, ◌<◌, ◌≤◌, ◌^◌, ℤ, true, false, is_some, nat_eq, ◌||◌, length, slice_index, slice_index_or, slice_get, pos, ◌+ℤ◌, ◌*ℤ◌, if◌then◌else◌};
+ghost use Rattle.std.specs.Prelude.{◌≡◌, ◌<◌, ℤ, true, false, is_some, nat_eq, ◌||◌, length, slice_index, slice_index_or, slice_get, pos, ◌+ℤ◌, ◌*ℤ◌, if◌then◌else◌};
 ghost use Rattle.std.specs.Option.{unwrap_or};
 ghost use Rattle.nd_shape_and_slice.specs.declared.slice.Slice.{Slice};
 ghost use Rattle.nd_shape_and_slice.specs.Descriptions.{axes_from};
-ghost use Rattle.nd_shape_and_slice.specs.Slice.{fits_axis, sliced_from, sliced_length, sliced_shape, sliced_index};
-ghost use Rattle.nd_shape_and_slice.specs.SliceInfo.{coordinate_on, reads_axis, axes_kept, each_fits, fits_next, fits_shape, shape_after, index_before};
+ghost use Rattle.nd_shape_and_slice.specs.Slice.{fits_axis, sliced_from, sliced_length, sliced_shape};
+ghost use Rattle.nd_shape_and_slice.specs.SliceInfo.{coordinate_on, reads_axis, axes_kept, each_fits, fits_next, fits_shape, shape_after};
 ghost use Rattle.nd_shape_and_slice.specs.Shape.{size_of};
 ghost use Rattle.nd_layout.specs.Strides.{stepped_stride, FitsStride};
 ghost use Rattle.nd_shape_and_slice.specs.EachAxis.{AnswersFit};
-ghost use Rattle.nd_shape_and_slice.specs.Slicing.{collapsed_after, collapsed_before, shape_with, index_with};
+ghost use Rattle.nd_shape_and_slice.specs.Slicing.{collapsed_after, shape_with, index_with};
 ghost use Rattle.nd_layout.specs.Elements.{length_by, start_by, stride_by, strides_with, LeadsToPlaces};
-ghost use Rattle.nd_layout.specs.Placements.{placement_of, IsStepOf, HasSlicedStrides, HasListStrides, HasCollapsedStrides, IsEachSliced};
+ghost use Rattle.nd_layout.specs.Placements.{placement_of, IsStepOf, HasSlicedStrides, HasListStrides, HasCollapsedStrides, IsSlicedStep, IsListStep, IsCollapsedStep, IsEachSliced};
 
 use super::Layout;
 use super::axes::{length_at, stride_at};
@@ -124,7 +124,7 @@ impl<D: Dimension, T: StrideList> Layout<D, T> {
         requires fits { fits_axis (slice_index (D.lengths self.old.dim) axis) slice ≡ true }
         ensures lengths { D.lengths self.new.dim ≡ sliced_shape (D.lengths self.old.dim) axis slice }
         ensures strides { HasSlicedStrides (placement_of self.old) (placement_of self.new) axis slice }
-        ensures step { IsStepOf (placement_of self.old) (placement_of self.new) (sliced_index (D.lengths self.old.dim) axis slice) }
+        ensures step { IsSlicedStep (placement_of self.old) (placement_of self.new) axis slice }
         ensures empty { size_of (D.lengths self.old.dim) ≡ 0 → self.new.offset ≡ self.old.offset }
     {
         let is_empty = is_empty_shape(self.dim.slice());
@@ -143,7 +143,7 @@ impl<D: Dimension, T: StrideList> Layout<D, T> {
         requires fits { fits_shape (D.lengths self.now.dim) elements.now ≡ true }
         requires room { E.has_axes (axes_kept elements.now) ≡ true }
         ensures lengths { E.lengths result.dim ≡ shape_after (D.lengths self.now.dim) elements.now }
-        ensures step { IsStepOf (placement_of self.now) (placement_of result) (index_before (D.lengths self.now.dim) elements.now) }
+        ensures step { IsListStep (placement_of self.now) (placement_of result) elements.now }
         ensures strides { HasListStrides (placement_of self.now) (placement_of result) elements.now }
         ensures empty { size_of (D.lengths self.now.dim) ≡ 0 → result.offset ≡ self.now.offset }
     {
@@ -196,7 +196,7 @@ impl<D: Dimension, T: StrideList> Layout<D, T> {
     pub fn slice_axes(&mut self, elements: &[SliceInfoElem])
         requires { each_fits (D.lengths self.old.dim) elements.now ≡ true }
         ensures lengths { D.lengths self.new.dim ≡ collapsed_after (D.lengths self.old.dim) elements.now }
-        ensures step { IsStepOf (placement_of self.old) (placement_of self.new) (collapsed_before (D.lengths self.old.dim) elements.now) }
+        ensures step { IsCollapsedStep (placement_of self.old) (placement_of self.new) elements.now }
         ensures strides { HasCollapsedStrides (placement_of self.old) (placement_of self.new) elements.now }
         ensures empty { size_of (D.lengths self.old.dim) ≡ 0 → self.new.offset ≡ self.old.offset }
     {

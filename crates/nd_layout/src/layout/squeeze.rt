@@ -1,8 +1,8 @@
 //! Layouts without their axes of length 1.
 
 ghost use Rattle.std.specs.Prelude.{◌≡◌, ◌<◌, length};
-ghost use Rattle.nd_shape_and_slice.specs.Squeeze.{squeezed_shape, shape_squeezed_at, index_squeezed_at};
-ghost use Rattle.nd_layout.specs.Placements.{placement_of, IsStepOf, HasSqueezedStrides, IsSqueezedStep};
+ghost use Rattle.nd_shape_and_slice.specs.Squeeze.{shape_squeezed_at, index_squeezed_at};
+ghost use Rattle.nd_layout.specs.Placements.{placement_of, IsStepOf, HasSqueezedLengths, HasSqueezedStrides, IsSqueezedStep};
 ghost use Rattle.nd_layout.specs.Strides.{strides_squeezed_at};
 
 use super::Layout;
@@ -27,7 +27,7 @@ impl Layout<IxDyn, DynStrides> {
 
     /// The layout without its axes of length 1, taken out from the last axis on; one axis always stays.
     pub fn squeezed(&self) -> Self
-        ensures lengths { ⟦<IxDyn as Dimension>⟧.lengths result.dim ≡ squeezed_shape (⟦<IxDyn as Dimension>⟧.lengths self.now.dim) }
+        ensures lengths { HasSqueezedLengths (placement_of self.now) (placement_of result) }
         ensures step { IsSqueezedStep (placement_of self.now) (placement_of result) }
         ensures strides { HasSqueezedStrides (placement_of self.now) (placement_of result) }
         ensures offset { result.offset ≡ self.now.offset }

@@ -1,4 +1,5 @@
-use Rattle.std.proofs.Common.{◌≡◌, ◌+◌, ◌-◌, ◌<◌, ◌≤◌, ◌∙◌, ℕ, length, pos, get_or, ◌+ℤ◌, ◌*ℤ◌, refl, ap, sym, subst, rules, arith, w64, to_z, of_z, FitsSigned}
+use Rattle.std.proofs.Common.{◌≡◌, ◌+◌, ◌-◌, ◌<◌, ◌≤◌, ◌∙◌, ℕ, suc, length, pos, get_or, ◌+ℤ◌, ◌*ℤ◌, refl, ap, sym, subst, rules, arith, w64, to_z, of_z, FitsSigned}
+use Rattle.std.specs.Prelude.{slice_get}
 use Rattle.std.specs.List.{remove}
 use Rattle.std.proofs.lemmas.Int.{to_z-of_z}
 use Rattle.std.proofs.lemmas.List.Edits.{length-remove}
@@ -11,9 +12,10 @@ use Rattle.nd_layout.specs.Walk.{place_at_rank}
 use Rattle.nd_array_core.specs.Places.{stored_at}
 use Rattle.nd_array_core.specs.Collected.{stored_along}
 use Rattle.nd_array_core.specs.Meaning.{meaning_of, memory_layout_of, shape_of, element_at, inside}
-use Rattle.nd_array_core.specs.along.AxisFolds.{lane_at, FoldsLaneAt, TakesFold}
+use Rattle.nd_array_core.specs.along.AxisFolds.{lane_at}
 use Rattle.nd_array_core.proofs.AxisLanes.{next_rank}
-use Rattle.nd_array_core.proofs.Answered.{IsAnsweredTo, answered_next, answered_more, answered_all}
+use Rattle.nd_array_core.proofs.LaneNumbers.{got_before, got_end, longer}
+use Rattle.nd_array_core.proofs.AxisFolds.{LanesFolded, lanes_none, lanes_more, lane_takes, lanes_all}
 use Rattle.nd_array_core.proofs.AxisFolding.{fold_reach, fold_holds, fold_found, takes_same, folds_same}
 use Rattle.nd_array_core.proofs.along.folding.fold_lanes.Goals as goal
 
@@ -95,7 +97,7 @@ fold_shown-after-requires-clause-callable g c =
     let counts : lane.count ≡ get_or ns a 0 = made.1 ∙ e_count in
     let found : (k : ℕ) → k < lane.count → stored_along stored lane.place lane.stride k ≡ lane_at (λ i. inside ns i (stored_at stored (place_of array.layout.offset ss i))) a (index_at (remove ns a) rank) k = λ k under. fold_found array.layout.offset ns ss a on array.layout.as_many start us (step (let bound : k < get_or ns a 0 = subst (λ m. k < m) counts under in omega (arith, bound))) fewer rank c.in-Some.place below at lane.place lane.count lane.stride made.0 counts (made.2 ∙ e_s) stored k under in
     takes_same g.F.FnMut (stored_along stored lane.place lane.stride) (lane_at (λ i. inside ns i (stored_at stored (place_of array.layout.offset ss i))) a (index_at (remove ns a) rank)) lane.count n counts found c.args.init.now c.in-Ok.start (c.requires.clones c.in-Ok.start c.in-Ok.ensures.cases) c.loop-place.now
-    (answered_next (FoldsLaneAt g.F.FnMut (λ i. inside ns i (stored_at stored (place_of array.layout.offset ss i))) a n c.args.init.now) (remove ns a, RowMajor) (λ p i. TakesFold g.F.FnMut (lane_at (λ i. inside ns i (stored_at stored (place_of array.layout.offset ss i))) a i) n c.args.init.now p) c.args.f c.loop-place.items.items rank c.loop-place.now below c.requires.callable so_far.5)
+    (lane_takes g.F.FnMut (size_of (remove ns a)) n (λ r k. lane_at (λ i. inside ns i (stored_at stored (place_of array.layout.offset ss i))) a (index_at (remove ns a) r) k) c.args.init.now c.args.f rank below (slice_get c.loop-place.items.items) c.loop-place.now so_far.5 c.requires.callable)
 
 pub loop-place-preserved : goal.loop-place-preserved
 unfolding meaning_of memory_layout_of
@@ -125,18 +127,22 @@ loop-place-preserved g c =
     let found : (k : ℕ) → k < lane.count → stored_along stored lane.place lane.stride k ≡ lane_at (λ i. inside ns i (stored_at stored (place_of array.layout.offset ss i))) a (index_at (remove ns a) rank) k = λ k under. fold_found array.layout.offset ns ss a on array.layout.as_many start us (step (let bound : k < get_or ns a 0 = subst (λ m. k < m) counts under in omega (arith, bound))) fewer rank c.in-Some.place below at lane.place lane.count lane.stride made.0 counts (made.2 ∙ e_s) stored k under in
     let after = c.fold_shown-after.result in
     let next = next_rank rank (size_of c.loop-place.walk.lengths.now) c.advance.new.self.rank c.in-Some.ensures.0 c.advance.ensures.rank in
-    let longer = c.push_reserved.ensures.len in
+    let lengthened = c.push_reserved.ensures.len in
     let capacity = c.push_reserved.ensures.capacity in
     let room = so_far.3 in
+    let listed = so_far.6 in
     let many = so_far.4 in (
       c.advance.ensures.over.0 ∙ so_far.0,
       c.advance.ensures.over.1 ∙ so_far.1,
       c.advance.ensures.over.2 ∙ so_far.2,
       omega (arith, room, capacity),
-      omega (arith, many, longer, next),
-      subst (λ r. IsAnsweredTo (FoldsLaneAt g.F.FnMut (λ i. inside ns i (stored_at stored (place_of array.layout.offset ss i))) a n c.args.init.now) (remove ns a, RowMajor) c.args.f c.push_reserved.new.self.items r after.0) (sym next)
-          (answered_more (FoldsLaneAt g.F.FnMut (λ i. inside ns i (stored_at stored (place_of array.layout.offset ss i))) a n c.args.init.now) (remove ns a, RowMajor) c.args.f c.loop-place.items.items c.push_reserved.new.self.items rank c.loop-place.now after.0 after.1 below c.push_reserved.ensures.items
-          (folds_same g.F.FnMut (stored_along stored lane.place lane.stride) (lane_at (λ i. inside ns i (stored_at stored (place_of array.layout.offset ss i))) a (index_at (remove ns a) rank)) lane.count n counts found c.args.init.now c.in-Ok.start (c.requires.clones c.in-Ok.start c.in-Ok.ensures.cases) c.loop-place.now after.1 after.0 c.fold_shown-after.ensures.ran) so_far.5),
+      omega (arith, many, lengthened, next),
+      subst (λ r. LanesFolded g.F.FnMut (size_of (remove ns a)) n (λ r k. lane_at (λ i. inside ns i (stored_at stored (place_of array.layout.offset ss i))) a (index_at (remove ns a) r) k) c.args.init.now c.args.f r (slice_get c.push_reserved.new.self.items) after.0) (sym next)
+          (lanes_more g.F.FnMut (size_of (remove ns a)) n (λ r k. lane_at (λ i. inside ns i (stored_at stored (place_of array.layout.offset ss i))) a (index_at (remove ns a) r) k) c.args.init.now c.args.f rank below (slice_get c.loop-place.items.items) c.loop-place.now so_far.5 (slice_get c.push_reserved.new.self.items) after.1 after.0
+          (λ q earlier. ap (λ xs. slice_get xs q) c.push_reserved.ensures.items ∙ got_before c.loop-place.items.items after.1 q (omega (arith, earlier, listed)))
+          (ap (λ xs. slice_get xs rank) c.push_reserved.ensures.items ∙ got_end c.loop-place.items.items after.1 rank listed)
+          (folds_same g.F.FnMut (stored_along stored lane.place lane.stride) (lane_at (λ i. inside ns i (stored_at stored (place_of array.layout.offset ss i))) a (index_at (remove ns a) rank)) lane.count n counts found c.args.init.now c.in-Ok.start (c.requires.clones c.in-Ok.start c.in-Ok.ensures.cases) c.loop-place.now after.1 after.0 c.fold_shown-after.ensures.ran)),
+      ap length c.push_reserved.ensures.items ∙ (longer c.loop-place.items.items after.1 ∙ (ap suc listed ∙ (let one : suc rank ≡ rank + 1 = omega arith in one ∙ sym next))),
     )
 
 pub returns-clause-folds : goal.returns-clause-folds
@@ -149,4 +155,23 @@ returns-clause-folds g c =
     let stored = g.S.Data.stored array.storage in
     let so_far = c.loop-place.invariant in
     let all : c.loop-place.walk.rank ≡ size_of (remove ns a) = c.in_default.ensures ∙ ap size_of so_far.1 in
-    answered_all (FoldsLaneAt g.F.FnMut (λ i. inside ns i (stored_at stored (place_of array.layout.offset ss i))) a (get_or ns a 0) c.args.init.now) (remove ns a, RowMajor) c.args.f c.loop-place.items.items c.loop-place.walk.rank c.loop-place.now all so_far.5
+    lanes_all g.F.FnMut (size_of (remove ns a)) (get_or ns a 0) (λ r k. lane_at (λ i. inside ns i (stored_at stored (place_of array.layout.offset ss i))) a (index_at (remove ns a) r) k) c.args.init.now c.args.f (slice_get c.loop-place.items.items) c.loop-place.now (subst (λ r. LanesFolded g.F.FnMut (size_of (remove ns a)) (get_or ns a 0) (λ r k. lane_at (λ i. inside ns i (stored_at stored (place_of array.layout.offset ss i))) a (index_at (remove ns a) r) k) c.args.init.now c.args.f r (slice_get c.loop-place.items.items) c.loop-place.now) all so_far.5)
+
+pub loop-place-init : goal.loop-place-init
+unfolding meaning_of memory_layout_of
+loop-place-init g c =
+    let array = c.args.array.now in
+    let ns = g.D.Dimension.lengths array.layout.dim in
+    let ss = g.D.Strides.StrideList.strides_of array.layout.strides in
+    let a = c.args.axis.0 in
+    let stored = g.S.Data.stored array.storage in
+    let none = c.new-walk.ensures.rank in (
+      c.new-walk.ensures.over.0,
+      c.new-walk.ensures.over.1 ∙ (c.slice.ensures.lengths ∙ c.requires.lengths),
+      c.new-walk.ensures.over.2 ∙ c.slice-2.ensures,
+      c.requires.room,
+      c.requires.empty.1 ∙ sym none,
+      subst (λ r. LanesFolded g.F.FnMut (size_of (remove ns a)) (get_or ns a 0) (λ r k. lane_at (λ i. inside ns i (stored_at stored (place_of array.layout.offset ss i))) a (index_at (remove ns a) r) k) c.args.init.now c.args.f r (slice_get c.args.room.items) c.args.f) (sym none)
+          (lanes_none g.F.FnMut (size_of (remove ns a)) (get_or ns a 0) (λ r k. lane_at (λ i. inside ns i (stored_at stored (place_of array.layout.offset ss i))) a (index_at (remove ns a) r) k) c.args.init.now c.args.f (slice_get c.args.room.items)),
+      ap length c.requires.empty.0 ∙ sym none,
+    )

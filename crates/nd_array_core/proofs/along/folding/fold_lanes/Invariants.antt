@@ -1,10 +1,9 @@
-use Rattle.std.specs.Prelude.{◌≡◌, ◌-◌, ◌≤◌, slice_index, vec_len, vec_capacity}
-use Rattle.nd_shape_and_slice.specs.Shape.{size_of}
+use Rattle.std.specs.Prelude.{◌≡◌, ◌-◌, ◌≤◌, length, slice_index, slice_get, vec_len, vec_capacity}
+use Rattle.nd_shape_and_slice.specs.Shape.{size_of, index_at}
 use Rattle.nd_shape_and_slice.specs.Maps.{indexed_shape}
-use Rattle.nd_shape_and_slice.specs.declared.builder.Order.TheVariants.{RowMajor}
 use Rattle.nd_array_core.specs.Meaning.{shape_of, element_at}
-use Rattle.nd_array_core.specs.along.AxisFolds.{FoldsLaneAt}
-use Rattle.nd_array_core.proofs.Answered.{IsAnsweredTo}
+use Rattle.nd_array_core.specs.along.AxisFolds.{lane_at}
+use Rattle.nd_array_core.proofs.AxisFolds.{LanesFolded}
 use Rattle.nd_array_core.proofs.along.folding.fold_lanes.Given as goal
 
 abbrev pub invariant-loop-place : goal.invariant-loop-place
@@ -12,7 +11,8 @@ invariant-loop-place g l =
     (l.walk.first ≡ l.fn.outer.offset) × (l.walk.lengths.now ≡ indexed_shape (shape_of l.fn.array) l.fn.axis.0) × (l.walk.strides.now ≡ g.D.Smaller.Strides.StrideList.strides_of l.fn.outer.strides)
     × (size_of (indexed_shape (shape_of l.fn.array) l.fn.axis.0) ≤ vec_capacity l.items)
     × (vec_len l.items ≡ l.walk.rank)
-    × IsAnsweredTo (FoldsLaneAt g.F.FnMut (element_at l.fn.array) l.fn.axis.0 (slice_index (shape_of l.fn.array) l.fn.axis.0) l.fn.init) (indexed_shape (shape_of l.fn.array) l.fn.axis.0, RowMajor) l.fn.f l.items.items l.walk.rank l.now
+    × LanesFolded g.F.FnMut (size_of (indexed_shape (shape_of l.fn.array) l.fn.axis.0)) (slice_index (shape_of l.fn.array) l.fn.axis.0) (λ r k. lane_at (element_at l.fn.array) l.fn.axis.0 (index_at (indexed_shape (shape_of l.fn.array) l.fn.axis.0) r) k) l.fn.init l.fn.f l.walk.rank (slice_get l.items.items) l.now
+    × (length l.items.items ≡ l.walk.rank)
 
 abbrev pub decreases-loop-place : goal.decreases-loop-place
 decreases-loop-place g l = size_of (indexed_shape (shape_of l.fn.array) l.fn.axis.0) - l.walk.rank

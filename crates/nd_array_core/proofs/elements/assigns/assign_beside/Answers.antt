@@ -14,8 +14,8 @@ run-ys-requires g c k below =
     ap is_some (c.borrowed.ensures (beside.place + k))
     ∙ beside_has (g.Z.Data.stored c.args.others.now) beside.place beside.count beside.stride c.requires.steps.1 (λ j under. c.requires.others_hold j (subst (λ n. j < n) c.requires.as_long under)) k below
 
-pub lend_run-requires-clause-holds : goal.lend_run-requires-clause-holds
-lend_run-requires-clause-holds g c k below =
+pub lend_run-requires : goal.lend_run-requires
+lend_run-requires g c k below =
     beside_has (g.S.Data.stored c.args.storage.now) c.args.lane.place c.args.lane.count c.args.lane.stride c.requires.steps.0 c.requires.holds k below
 
 pub returns-clause-assigned : goal.returns-clause-assigned
@@ -29,12 +29,12 @@ returns-clause-assigned g c =
     let ws = c.assign_run.new.xs in
     let holds : HasRunAt old lane.place lane.count = λ k below. beside_has old lane.place lane.count lane.stride c.requires.steps.0 c.requires.holds k below in
     let long = c.assign_run.ensures.long ∙ c.lend_run.ensures.values.0 in
-    let new = g.S.Data.stored (g.S.DataMut.with_run c.args.storage.now lane.place lane.count ws) in
+    let new = g.S.Data.stored (g.S.Data.with_run c.args.storage.now lane.place lane.count ws).0 in
     run_assigned (λ k. stored_at others (pos beside.place +ℤ (pos k *ℤ beside.stride))) (λ k. pos lane.place +ℤ (pos k *ℤ lane.stride)) lane.count old new xs ys ws
     (λ k below. c.lend_run.ensures.values.1 k below ∙ sym (side_shows old lane.place k lane.stride c.requires.steps.0))
     (λ k below. beside_found others beside.place beside.count beside.stride c.requires.steps.1 ys c.run-ys.ensures.count (λ j d under. sym (c.borrowed.ensures (beside.place + j)) ∙ c.run-ys.ensures.elements j d under) k (subst (λ n. k < n) (sym c.requires.as_long) below))
-    (λ k below. sym (g.met.S.DataMut.run_written c.args.storage.now lane.place lane.count ws c.requires.some holds long k below) ∙ sym (side_shows new lane.place k lane.stride c.requires.steps.0))
-    (λ p nowhere. g.met.S.DataMut.run_left c.args.storage.now lane.place lane.count ws c.requires.some holds long p (beside_lane lane.place lane.count lane.stride c.requires.steps.0 p nowhere))
+    (λ k below. sym (g.met.S.DataMut.run_written c.args.storage.now lane.place lane.count ws holds long k below) ∙ sym (side_shows new lane.place k lane.stride c.requires.steps.0))
+    (λ p nowhere. g.met.S.DataMut.run_left c.args.storage.now lane.place lane.count ws holds long p (beside_lane lane.place lane.count lane.stride c.requires.steps.0 p nowhere))
     c.assign_run.result
     (subst (λ n. OnOk c.assign_run.result (IsAssignedTo (slice_get ys) number n (slice_get xs) (slice_get ws))) c.lend_run.ensures.values.0 c.assign_run.ensures.assigned)
 
@@ -49,12 +49,12 @@ returns-clause-stopped g c =
     let ws = c.assign_run.new.xs in
     let holds : HasRunAt old lane.place lane.count = λ k below. beside_has old lane.place lane.count lane.stride c.requires.steps.0 c.requires.holds k below in
     let long = c.assign_run.ensures.long ∙ c.lend_run.ensures.values.0 in
-    let new = g.S.Data.stored (g.S.DataMut.with_run c.args.storage.now lane.place lane.count ws) in
+    let new = g.S.Data.stored (g.S.Data.with_run c.args.storage.now lane.place lane.count ws).0 in
     run_partly (λ k. stored_at others (pos beside.place +ℤ (pos k *ℤ beside.stride))) (λ k. pos lane.place +ℤ (pos k *ℤ lane.stride)) lane.count old new xs ys ws
     (λ k below. c.lend_run.ensures.values.1 k below ∙ sym (side_shows old lane.place k lane.stride c.requires.steps.0))
     (λ k below. beside_found others beside.place beside.count beside.stride c.requires.steps.1 ys c.run-ys.ensures.count (λ j d under. sym (c.borrowed.ensures (beside.place + j)) ∙ c.run-ys.ensures.elements j d under) k (subst (λ n. k < n) (sym c.requires.as_long) below))
-    (λ k below. sym (g.met.S.DataMut.run_written c.args.storage.now lane.place lane.count ws c.requires.some holds long k below) ∙ sym (side_shows new lane.place k lane.stride c.requires.steps.0))
-    (λ p nowhere. g.met.S.DataMut.run_left c.args.storage.now lane.place lane.count ws c.requires.some holds long p (beside_lane lane.place lane.count lane.stride c.requires.steps.0 p nowhere))
+    (λ k below. sym (g.met.S.DataMut.run_written c.args.storage.now lane.place lane.count ws holds long k below) ∙ sym (side_shows new lane.place k lane.stride c.requires.steps.0))
+    (λ p nowhere. g.met.S.DataMut.run_left c.args.storage.now lane.place lane.count ws holds long p (beside_lane lane.place lane.count lane.stride c.requires.steps.0 p nowhere))
     c.assign_run.result
     (subst (λ n. OnErr c.assign_run.result (IsPartlyAssigned (slice_get ys) number n (slice_get xs) (slice_get ws))) c.lend_run.ensures.values.0 c.assign_run.ensures.stopped)
 

@@ -1,4 +1,4 @@
-use Rattle.std.proofs.Common.{◌≡◌, ◌∙◌, ap, sym, length}
+use Rattle.std.proofs.Common.{◌∙◌, ap, sym, length}
 use Rattle.nd_shape_and_slice.specs.Shape.{size_of}
 use Rattle.nd_array_core.specs.Meaning.{meaning_of}
 use Rattle.nd_array_core.proofs.Collecting.{elements_count}

@@ -1,4 +1,4 @@
-use Rattle.std.proofs.Common.{◌≡◌, ◌∙◌, ◌&&◌, ℕ, Bool, true, false, List, length, refl, sym, ap, rules}
+use Rattle.std.proofs.Common.{◌≡◌, ◌∙◌, ◌&&◌, ℕ, Bool, true, false, List, length, sym, ap, rules}
 use Rattle.std.specs.Prelude.{take, drop}
 use Rattle.std.specs.Cmp.Lexicographic.{pointwise}
 use Rattle.nd_array_core.proofs.Comparing.{front_then}

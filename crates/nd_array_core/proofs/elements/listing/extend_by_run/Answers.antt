@@ -1,6 +1,8 @@
-use Rattle.std.proofs.Common.{◌∙◌, ◌+◌, ap, sym}
+use Rattle.std.proofs.Common.{◌+◌, ◌∙◌, ap, sym}
 use Rattle.std.specs.Prelude.{is_some}
-use Rattle.nd_array_core.proofs.Collecting.{beside_has, run_extended}
+use Rattle.nd_array_core.specs.Collected.{stored_along}
+use Rattle.nd_array_core.proofs.Collecting.{beside, beside_has}
+use Rattle.nd_array_core.proofs.RunsBehind.{run_behind, run_clones, run_front, run_refuses}
 use Rattle.nd_array_core.proofs.elements.listing.extend_by_run.Goals as goal
 
 pub run-run-requires : goal.run-run-requires
@@ -8,9 +10,28 @@ run-run-requires g c k below =
     ap is_some (c.borrowed.ensures (c.args.lane.place + k))
     ∙ beside_has (g.S.Data.stored c.args.storage.now) c.args.lane.place c.args.lane.count c.args.lane.stride c.requires.beside c.requires.holds k below
 
-pub returns-in-Ok-clause-items : goal.returns-in-Ok-clause-items
-returns-in-Ok-clause-items g c =
-    let lane = c.args.lane in
-    run_extended (g.S.Data.stored c.args.storage.now) lane.place lane.count lane.stride c.requires.beside c.run-run.result.now c.run-run.ensures.count
-    (λ k d below. sym (c.borrowed.ensures (lane.place + k)) ∙ c.run-run.ensures.elements k d below)
-    g.S.Elem.Clone.is_clone c.requires.clones c.args.items.now.items c.extend_with_clones.new.self.items c.in-Ok.ensures.items
+pub clones_behind-longer-requires-clause-clones : goal.clones_behind-longer-requires-clause-clones
+clones_behind-longer-requires-clause-clones g c =
+    run_clones c.run-run.result.now (stored_along (g.S.Data.stored c.args.storage.now) c.args.lane.place c.args.lane.stride) c.args.lane.count c.run-run.ensures.count
+    (λ k d below. beside (g.S.Data.stored c.args.storage.now) c.args.lane.place k c.args.lane.stride c.requires.beside ∙ (sym (c.borrowed.ensures (c.args.lane.place + k)) ∙ c.run-run.ensures.elements k d below))
+    g.S.Elem.Clone.is_clone c.requires.clones
+
+pub returns-clause-items : goal.returns-clause-items
+returns-clause-items g c =
+    run_behind c.run-run.result.now (stored_along (g.S.Data.stored c.args.storage.now) c.args.lane.place c.args.lane.stride) c.args.lane.count c.run-run.ensures.count
+    (λ k d below. beside (g.S.Data.stored c.args.storage.now) c.args.lane.place k c.args.lane.stride c.requires.beside ∙ (sym (c.borrowed.ensures (c.args.lane.place + k)) ∙ c.run-run.ensures.elements k d below))
+    c.clones_behind-longer.result.1 c.replace-held.result.items c.clones_behind-longer.result.0.items c.args.items.now.items c.replace-empty.new.dest.items
+    (ap (λ v. v.items) c.replace-held.ensures.value) (ap (λ v. v.items) c.replace-empty.ensures.after) c.clones_behind-longer.ensures.items
+
+pub returns-clause-kept : goal.returns-clause-kept
+returns-clause-kept g c =
+    run_front c.run-run.result.now (stored_along (g.S.Data.stored c.args.storage.now) c.args.lane.place c.args.lane.stride) c.args.lane.count c.run-run.ensures.count
+    (λ k d below. beside (g.S.Data.stored c.args.storage.now) c.args.lane.place k c.args.lane.stride c.requires.beside ∙ (sym (c.borrowed.ensures (c.args.lane.place + k)) ∙ c.run-run.ensures.elements k d below))
+    c.clones_behind-longer.result.1 c.replace-held.result.items c.clones_behind-longer.result.0.items c.args.items.now.items c.replace-empty.new.dest.items
+    (ap (λ v. v.items) c.replace-held.ensures.value) (ap (λ v. v.items) c.replace-empty.ensures.after) c.clones_behind-longer.ensures.kept
+
+pub returns-clause-refused : goal.returns-clause-refused
+returns-clause-refused g c =
+    run_refuses c.run-run.result.now (stored_along (g.S.Data.stored c.args.storage.now) c.args.lane.place c.args.lane.stride) c.args.lane.count c.run-run.ensures.count
+    (λ k d below. beside (g.S.Data.stored c.args.storage.now) c.args.lane.place k c.args.lane.stride c.requires.beside ∙ (sym (c.borrowed.ensures (c.args.lane.place + k)) ∙ c.run-run.ensures.elements k d below))
+    c.clones_behind-longer.result.1 g.S.Elem.Clone.is_infallible c.clones_behind-longer.ensures.refused

@@ -1,5 +1,7 @@
 use Rattle.std.proofs.Common.{◌≡◌, ◌∙◌, ◌++◌, subst, OnOk}
 use Rattle.nd_array_core.specs.Meaning.{meaning_of}
+use Rattle.nd_array_core.proofs.Assigned.{on_err}
+use Rattle.nd_array_core.proofs.CloneRefusals.{joined_refused}
 use Rattle.nd_array_core.proofs.Collecting.{joined_has, joined_clones, joined_elements}
 use Rattle.nd_array_core.proofs.elements.listing.list_behind.Goals as goal
 
@@ -33,3 +35,15 @@ returns-clause-items g c =
     c.join_axes.new.self.offset (g.D.Dimension.lengths c.join_axes.new.self.dim) (g.D.Strides.StrideList.strides_of c.join_axes.new.self.strides)
     (c.join_axes.ensures.offset ∙ c.copied-joined.ensures.offset) joined)
     items
+
+pub returns-clause-refused : goal.returns-clause-refused
+unfolding meaning_of
+returns-clause-refused g c =
+    let layout = c.args.array.now.layout in
+    let joined = rw (c.copied-joined.ensures.lengths, c.copied-joined.ensures.strides) at c.join_axes.ensures.joined in
+    let refused = rw (c.slice.ensures.lengths, c.slice-2.ensures) at c.list.ensures.refused in
+    on_err c.list.result
+    (joined_refused g.S.Elem.Clone.is_infallible (g.S.Data.stored c.args.array.now.storage) layout.offset (g.D.Dimension.lengths layout.dim) (g.D.Strides.StrideList.strides_of layout.strides)
+    c.join_axes.new.self.offset (g.D.Dimension.lengths c.join_axes.new.self.dim) (g.D.Strides.StrideList.strides_of c.join_axes.new.self.strides)
+    (c.join_axes.ensures.offset ∙ c.copied-joined.ensures.offset) joined)
+    refused

@@ -1,8 +1,8 @@
-use Rattle.std.proofs.Common.{◌+◌, ◌∙◌, pos, ◌+ℤ◌, ◌*ℤ◌, sym, subst, arith}
+use Rattle.std.proofs.Common.{◌∙◌, pos, ◌+ℤ◌, ◌*ℤ◌, sym, subst, arith}
 use Rattle.nd_shape_and_slice.specs.Shape.{size_of}
 use Rattle.nd_layout.specs.Walk.{place_at_rank, IsLane}
 use Rattle.nd_array_core.specs.growth.Taken.{seated, IsTakenTo}
-use Rattle.nd_array_core.proofs.Taking.{taken_then}
+use Rattle.nd_array_core.proofs.Taking.{seats_stay, taken_then}
 use Rattle.nd_array_core.proofs.growth.moving.take_all.Goals as goal
 
 pub loop-lane-preserved : goal.loop-lane-preserved
@@ -22,4 +22,5 @@ loop-lane-preserved g c =
           old (seated c.loop-lane.seats) c.args.items.now.items c.loop-lane.items.items so_far.3 new c.take_lane.new.items.items c.take_lane.ensures.taken),
       (let e = so_far.4 in let l = c.take_lane.ensures.len in let n = given.1 in omega (arith, e, l, n)),
       c.take_lane.ensures.room ∙ so_far.5,
+      seats_stay c.args.seats.now c.loop-lane.seats c.take_lane.new.seats so_far.6 c.take_lane.ensures.places,
     )

@@ -1,6 +1,6 @@
-use Rattle.std.proofs.Common.{◌+◌, ◌∙◌, pos, ◌+ℤ◌, ◌*ℤ◌, arith}
+use Rattle.std.proofs.Common.{◌∙◌, pos, ◌+ℤ◌, ◌*ℤ◌, arith}
 use Rattle.nd_array_core.specs.growth.Taken.{seated}
-use Rattle.nd_array_core.proofs.Taking.{taken_more}
+use Rattle.nd_array_core.proofs.Taking.{seats_stay, taken_more}
 use Rattle.nd_array_core.proofs.growth.moving.take_lane.Goals as goal
 
 pub loop-nth-preserved : goal.loop-nth-preserved
@@ -13,4 +13,5 @@ loop-nth-preserved g c =
           so_far.0 c.take_at.ensures.value c.take_at.ensures.left c.push_reserved.ensures.items,
       (let e = so_far.1 in let l = c.push_reserved.ensures.len in omega (arith, e, l)),
       c.push_reserved.ensures.capacity ∙ so_far.2,
+      seats_stay c.args.seats.now c.loop-nth.seats c.take_at.new.seats so_far.3 c.take_at.ensures.places,
     )

@@ -1,4 +1,4 @@
-use Rattle.std.proofs.Common.{◌≡◌, ap, sym, ◌∙◌, inr}
+use Rattle.std.proofs.Common.{◌∙◌, inr}
 use Rattle.nd_layout.specs.Placements.{placement_of}
 use Rattle.nd_layout.proofs.Filled.{filled_run, valid_grown, is_grown}
 use Rattle.nd_layout.proofs.continuing.Layout+D+D+Strides.grown.Goals as goal

@@ -43,7 +43,7 @@ use denote.Triple.Walked.{says, Stays, stay_dropped, walk_of, ends_at, walked, G
 use Rattle.std.proofs.VecSteps.Shapes.{after}
 use Rattle.std.proofs.mem.Param.{El, R, args, el_x}
 use Rattle.nd_region.specs.Region.{HasRun, with_items, with_run}
-use Rattle.nd_region.specs.Places.{run_written}
+use Rattle.nd_region.specs.Places.{overwritten_items, run_written}
 use Rattle.nd_region.proofs.Memory.{Rg, rg_d, rg_val, rg_had, rg_made, sz}
 use Rattle.nd_region.proofs.Loans.{Handed, hands}
 use Rattle.nd_region.proofs.RunLoans.{run, count, RunLent, lends_run}
@@ -110,7 +110,7 @@ module _ (E : El) where
         let rm : Room (R E) (length xs) = run_room E d.len (length xs) d.small fit (omega (arith, many, small)) in
         use3 𝓛 (later (some (Handed a E 𝓛 κ q rb ro γ d b o))) (hands a E 𝓛 κ q rb ro γ d b o at fit long z.0.2.0) $ await ! tt $ pick ! (λ δ. split3 ! $ move ! (0 ∷ 1 ∷ []) $
         use2 𝓛 (later (some (RunLent E 𝓛 b d.items d.held p n st here_is o (named 0) κ q δ rm))) (lends_run E 𝓛 b d.items d.held p n st here_is o (named 0) κ q δ rm) $ await ! tt $ pick ! (λ δ'. split3 ! $ move ! (3 ∷ 2 ∷ []) $
-        use2 𝓛 (‵ (follows (Rg a E) (Array (R E) 0) γ δ' (with_run d p n))) (follows_then 𝓛 (Rg a E) (Array (R E) 0) (Array (R E) 0) (with_items d) (run_written d.items p n) γ δ δ') $ move ! (1 ∷ 2 ∷ 0 ∷ []) $
+        use2 𝓛 (‵ (follows (Rg a E) (Array (R E) 0) γ δ' (with_run d p n))) (follows_then 𝓛 (Rg a E) (Array (R E) 0) (Array (R E) 0) (with_items d) (λ ws. overwritten_items d.items (run_written d.items p n ws)) γ δ δ') $ move ! (1 ∷ 2 ∷ 0 ∷ []) $
         let r : MutBor (List (el_x E)) = record { ref_ptr = (b, at_run); ghost_name = δ'; now = xs } in
         rewrite ! 0 (λ (k : ℕ). ‵ ((MutSlice (named 0) κ (R E)).own_val r (slice_val (b, at_run) k ∷ []))) many refl $
         returns ! (look_at ! 0 refl) $ free_all ! refl $
@@ -130,7 +130,7 @@ module _ (E : El) where
         let rm : Room (R E) (length xs) = run_room E d.len (length xs) d.small fit (omega (arith, many, small)) in
         use3 𝓛 (later (some (Handed a E 𝓛 κ q rb ro γ d b o))) (hands a E 𝓛 κ q rb ro γ d b o at fit long z.0.2.0) $ await ! tt $ pick ! (λ δ. split3 ! $ move ! (0 ∷ 1 ∷ []) $
         use2 𝓛 (later (some (RunLent E 𝓛 b d.items d.held p n st here_is o (named 0) κ q δ rm))) (lends_run E 𝓛 b d.items d.held p n st here_is o (named 0) κ q δ rm) $ await ! tt $ pick ! (λ δ'. split3 ! $ move ! (3 ∷ 2 ∷ []) $
-        use2 𝓛 (‵ (follows (Rg a E) (Array (R E) 0) γ δ' (with_run d p n))) (follows_then 𝓛 (Rg a E) (Array (R E) 0) (Array (R E) 0) (with_items d) (run_written d.items p n) γ δ δ') $ move ! (1 ∷ 2 ∷ 0 ∷ []) $
+        use2 𝓛 (‵ (follows (Rg a E) (Array (R E) 0) γ δ' (with_run d p n))) (follows_then 𝓛 (Rg a E) (Array (R E) 0) (Array (R E) 0) (with_items d) (λ ws. overwritten_items d.items (run_written d.items p n ws)) γ δ δ') $ move ! (1 ∷ 2 ∷ 0 ∷ []) $
         let r : MutBor (List (el_x E)) = record { ref_ptr = (b, at_run); ghost_name = δ'; now = xs } in
         rewrite ! 0 (λ (k : ℕ). ‵ ((MutSlice (named 0) κ (R E)).own_val r (slice_val (b, at_run) k ∷ []))) many refl $
         returns ! (look_at ! 0 refl) $ free_all ! refl $

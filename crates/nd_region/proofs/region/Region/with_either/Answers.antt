@@ -7,7 +7,7 @@ use Rattle.nd_region.proofs.region.Region.with_either.Goals as goal
 pub returns-clause-part : goal.returns-clause-part
 returns-clause-part g c =
     let r = c.args.self.now in
-    let either = names_either c.args.offset c.args.lengths.now c.args.strides.now c.args.other_offset c.args.other_lengths.now c.args.other_strides.now in
+    let either = names_either c.args.offset c.args.lengths.now c.args.strides.now c.args.from c.args.sizes.now c.args.steps.now in
     let e = c.split_either.ensures in (
       e.0,
       e.2,
@@ -20,4 +20,4 @@ pub returns-clause-long : goal.returns-clause-long
 returns-clause-long g c =
     let r = c.args.self.now in
     let e = c.split_either.ensures in
-    ap (λ s. length s.items) e.7 ∙ back_long (names_either c.args.offset c.args.lengths.now c.args.strides.now c.args.other_offset c.args.other_lengths.now c.args.other_strides.now) r e.0 e.2 e.3 e.4 e.8 (ap (λ y. y.items) e.6.2.1 ∙ e.5.0)
+    ap (λ s. length s.items) e.7 ∙ back_long (names_either c.args.offset c.args.lengths.now c.args.strides.now c.args.from c.args.sizes.now c.args.steps.now) r e.0 e.2 e.3 e.4 e.8 (ap (λ y. y.items) e.6.2.1 ∙ e.5.0)

@@ -1,11 +1,9 @@
-use Rattle.std.proofs.Common.{◌≡◌, ◌∙◌, List, ℕ, refl, get_or}
+use Rattle.std.proofs.Common.{◌≡◌, ◌∙◌, List, ℕ, refl}
 use Rattle.nd_shape_and_slice.specs.Maps.{indexed_shape}
 use Rattle.nd_shape_and_slice.specs.declared.builder.Order.TheVariants.{RowMajor}
-use Rattle.nd_array_core.specs.Meaning.{meaning_of, shape_of, element_at}
+use Rattle.nd_array_core.specs.Meaning.{meaning_of, element_at}
 use Rattle.nd_array_core.specs.base.Fresh.{found_by_rank}
-use Rattle.nd_array_core.specs.along.AxisFolds.{FoldsLaneAt}
-use Rattle.nd_array_core.proofs.Answered.{answers_seen}
-use Rattle.nd_array_core.proofs.AxisFolding.{axis_folded}
+use Rattle.nd_array_core.proofs.AxisFolds.{axis_folded}
 use Rattle.nd_array_core.proofs.along.folding.ArrayBase+S+D.fold_axis.Goals as goal
 
 pub returns-clause-visits : goal.returns-clause-visits
@@ -13,11 +11,12 @@ unfolding meaning_of
 returns-clause-visits g c =
     let array = c.args.self.now in
     let ns = g.D.Dimension.lengths array.layout.dim in
-    let a = c.args.axis.0 in
+    let os = indexed_shape ns c.args.axis.0 in
     let items = c.in_ok-items.items.items in
-    let seen : (i : List ℕ) → element_at c.of_items.result i ≡ found_by_rank (indexed_shape ns a, RowMajor) items i =
+    let seen : (i : List ℕ) → element_at c.of_items.result i ≡ found_by_rank (os, RowMajor) items i =
     λ i. c.of_items.ensures.owns.4 i ∙ (λ j. found_by_rank (c.first_places-outer.ensures.lengths j, RowMajor) (c.of_items.ensures.stored j) i) in
-    answers_seen (FoldsLaneAt g.F.FnMut (element_at array) a (get_or ns a 0) c.args.init) (indexed_shape ns a) c.args.f (found_by_rank (indexed_shape ns a, RowMajor) items) (element_at c.of_items.result) seen c.in_ok-items.ensures.folds
+    let folds = c.in_ok-items.ensures.folds in
+    (folds.0, folds.1, (λ j within. seen j ∙ folds.2 j within), folds.3)
 
 pub returns-clause-alike : goal.returns-clause-alike
 unfolding meaning_of
@@ -25,7 +24,8 @@ returns-clause-alike g c h by =
     let array = c.args.self.now in
     let ns = g.D.Dimension.lengths array.layout.dim in
     let a = c.args.axis.0 in
+    let os = indexed_shape ns a in
     let items = c.in_ok-items.items.items in
-    let seen : (i : List ℕ) → element_at c.of_items.result i ≡ found_by_rank (indexed_shape ns a, RowMajor) items i =
+    let seen : (i : List ℕ) → element_at c.of_items.result i ≡ found_by_rank (os, RowMajor) items i =
     λ i. c.of_items.ensures.owns.4 i ∙ (λ j. found_by_rank (c.first_places-outer.ensures.lengths j, RowMajor) (c.of_items.ensures.stored j) i) in
-    axis_folded g.F.FnMut (shape_of array) (element_at array) a c.args.init c.args.f (element_at c.of_items.result) (λ i out. seen i ∙ (rw out refl)) (returns-clause-visits g c) h by
+    axis_folded g.F.FnMut ns a c.requires.axis (element_at array) c.args.init c.args.f (element_at c.of_items.result) (λ i out. seen i ∙ (rw out refl)) (returns-clause-visits g c) h by

@@ -40,13 +40,12 @@ use denote.Triple.Table.{framed}
 use denote.Triple.Walked.{Stays, stay_dropped, walk_of, ends_at, Goes-spent_ref}
 use Rattle.std.proofs.raw_atomic.Walks.{proved}
 use Rattle.std.proofs.mem.Param.{El, R, el_x}
-use Rattle.nd_region.specs.Places.{stored_in}
+use Rattle.nd_region.specs.Places.{stored_in, overwritten_items}
 use Rattle.nd_region.specs.Region.{IsSameMap, with_items}
 use Rattle.nd_region.proofs.Bodies.{says_two}
 use Rattle.nd_region.proofs.Memory.{Rg, rg_d, rg_val, rg_had, rg_made}
 use Rattle.nd_region.proofs.region.Region.TheLaws.{the_row_laws as region_laws}
 use Rattle.nd_array_core.proofs.base.storage.RegionRepr.TheLaws.{the_loose}
-use Rattle.nd_array_core.specs.base.NewElements.{overwritten_items}
 use Rattle.nd_array_core.proofs.lending.KeptPlaces as kept
 use Rattle.nd_region.specs.contracts.region.Region.reborrow as B
 use Rattle.nd_region.proofs.region.Region.reborrow.Met.{met as reborrow_met}

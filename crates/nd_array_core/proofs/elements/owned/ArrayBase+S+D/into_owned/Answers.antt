@@ -1,4 +1,4 @@
-use Rattle.std.proofs.Common.{◌≡◌, ◌∙◌, ◌⊎◌, sym, subst, IfOk}
+use Rattle.std.proofs.Common.{◌≡◌, ◌-◌, ◌∙◌, ◌⊎◌, sym, subst, IfOk}
 use Rattle.std.proofs.lemmas.Result.{IfOk-weaker}
 use Rattle.nd_shape_and_slice.specs.Shape.{size_of}
 use Rattle.nd_shape_and_slice.specs.declared.builder.Order.TheVariants.{RowMajor}
@@ -17,7 +17,7 @@ pub returns-in-Err-clause-run : goal.returns-in-Err-clause-run
 returns-in-Err-clause-run g c _ run =
     let whole = c.in-Err.ensures.kept.0 in
     let run_left : (size_of (shape_of c.in-Err.array) ≡ 0) ⊎ IsRun (shape_of c.in-Err.array) (layout_strides c.in-Err.array) = rw (whole.0, whole.1) run in
-    IfOk-weaker c.to_owned.result _ _ (λ a copies. (copies.0 ∙ whole.1, copies.1 ∙ (λ k. reach_down (whole.0 k) (whole.1 k)), lies_alike whole.0 whole.3 whole.2 copies.2)) (c.to_owned.ensures.run run_left)
+    IfOk-weaker c.to_owned.result _ _ (λ a copies. (copies.0 ∙ whole.1, copies.1 ∙ (λ k. reach_down (whole.0 k) (whole.1 k)), lies_alike whole.0 (λ k. whole.4 k - reach_down (whole.0 k) (whole.1 k)) whole.3 whole.2 copies.2)) (c.to_owned.ensures.run run_left)
 
 pub returns-in-Err-clause-owns : goal.returns-in-Err-clause-owns
 returns-in-Err-clause-owns g c _ scattered =

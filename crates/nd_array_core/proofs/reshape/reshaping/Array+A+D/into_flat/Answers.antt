@@ -1,5 +1,4 @@
-use Rattle.std.proofs.Common.{ℕ, List, [], ◌∷◌, ◌≡◌, ap, ◌∙◌, subst}
-use Rattle.nd_shape_and_slice.specs.Shape.{size_of}
+use Rattle.std.proofs.Common.{[], ◌∷◌, ap, ◌∙◌, subst}
 use Rattle.nd_shape_and_slice.specs.declared.builder.Order.TheVariants.{RowMajor}
 use Rattle.nd_array_core.specs.Meaning.{shape_of, layout_strides}
 use Rattle.nd_array_core.specs.reshape.Regrouped.{IsShapeOf}

@@ -1,5 +1,7 @@
-use Rattle.std.proofs.Common.{IfSome}
+use Rattle.std.proofs.Common.{◌≡◌, ◌-◌, IfSome}
 use Rattle.std.specs.Prelude.{Option, Some, None}
+use Rattle.nd_layout.specs.Strides.{reach_down}
+use Rattle.nd_array_core.specs.reshape.RunSlices.{lowest_place}
 use Rattle.nd_array_core.proofs.MemoryOrder.{lies_alike}
 use Rattle.nd_array_core.proofs.reshape.slices.ArrayBase+S+D.as_slice_memory_order.Goals as goal
 
@@ -10,4 +12,5 @@ if_some None f p = p
 pub returns-clause-elements : goal.returns-clause-elements
 returns-clause-elements g c =
     let whole = c.view.ensures.whole in
-    if_some c.to_slice_memory_order.result (λ xs. lies_alike (whole.0) (whole.3) (whole.2)) c.to_slice_memory_order.ensures.elements
+    let lowest : lowest_place c.view.result ≡ lowest_place c.args.self.now = λ k. whole.4 k - reach_down (whole.0 k) (whole.1 k) in
+    if_some c.to_slice_memory_order.result (λ xs. lies_alike (whole.0) lowest (whole.3) (whole.2)) c.to_slice_memory_order.ensures.elements

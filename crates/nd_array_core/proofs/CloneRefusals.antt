@@ -1,0 +1,43 @@
+-- Which clone may be refused: along a lane, by rank in a layout, at an index.
+use Rattle.std.proofs.Common.{◌≡◌, ℕ, ◌+◌, ◌<◌, Bool, true, false, List, ℤ, pos, ◌+ℤ◌, refl, ap, sym, ◌∙◌, arith}
+use Rattle.std.specs.Prelude.{Option, Some, None}
+use Rattle.nd_shape_and_slice.specs.Shape.{in_box, size_of, index_at}
+use Rattle.nd_shape_and_slice.specs.Place.{place_of}
+use Rattle.nd_shape_and_slice.proofs.RankIndexes.{in_box-index_at}
+use Rattle.nd_layout.specs.Walk.{IsLane, IsRejoined}
+use Rattle.nd_array_core.specs.Collected.{stored_along, stored_by_rank}
+use Rattle.nd_array_core.specs.Meaning.{inside}
+use Rattle.nd_array_core.specs.Places.{stored_at}
+use Rattle.nd_array_core.specs.base.CloneRefusals.{MayRefuseBelow, MayRefuseClone}
+
+module _ {A : Type 0} (is_infallible : A → Type 0) where
+  -- of a lane
+  pub lane_refused : (stored : ℕ → Option A) (first : ℕ) (ns : List ℕ) (ss : List ℤ) (rank place count : ℕ) (stride : ℤ) → IsLane first ns ss rank place count stride → MayRefuseBelow is_infallible (stored_along stored place stride) count → MayRefuseBelow is_infallible (stored_by_rank stored first ns ss) (size_of ns)
+  lane_refused stored first ns ss rank place count stride lane refused =
+      let k = refused.0 in
+      let below = refused.2 in
+      let within = lane.within in
+      (rank + k, refused.1, omega (arith, below, within), ap (stored_at stored) (sym (lane.places k below)) ∙ refused.3, refused.4)
+
+  -- of a layout whose axes were joined
+  pub joined_refused : (stored : ℕ → Option A) (first : ℕ) (ns : List ℕ) (ss : List ℤ) (start : ℕ) (ms : List ℕ) (ts : List ℤ) → start ≡ first → IsRejoined ns ss ms ts → MayRefuseBelow is_infallible (stored_by_rank stored start ms ts) (size_of ms) → MayRefuseClone is_infallible (λ i. inside ns i (stored_at stored (place_of first ss i)))
+  joined_refused stored first ns ss start ms ts same joined refused =
+      let rank = refused.0 in
+      let below = refused.2 in
+      let size = joined.size in
+      let under : rank < size_of ns = omega (arith, below, size) in
+      let is : stored_by_rank stored start ms ts rank ≡ stored_by_rank stored first ns ss rank = λ k. stored_at stored (pos (same k) +ℤ joined.same rank under k) in
+      let there : inside ns (index_at ns rank) (stored_by_rank stored first ns ss rank) ≡ Some refused.1 = rw (in_box-index_at ns rank under) (sym is ∙ refused.3) in
+      (index_at ns rank, refused.1, there, refused.4)
+
+  inside_some : (ns i : List ℕ) (o : Option A) (x : A) → inside ns i o ≡ Some x → o ≡ Some x
+  inside_some ns i o x e = by_test (in_box ns i) refl e
+    where
+      by_test : (t : Bool) → in_box ns i ≡ t → inside ns i o ≡ Some x → o ≡ Some x
+      by_test true h e = rw h at e
+      by_test false h e = absurd (let none : None ≡ Some x = rw h at e in cc)
+
+  -- of a part
+  pub part_refused : (at part : List ℕ → Option A) (ns : List ℕ) (source : List ℕ → List ℕ) → ((i : List ℕ) → part i ≡ inside ns i (at (source i))) → MayRefuseClone is_infallible part → MayRefuseClone is_infallible at
+  part_refused at part ns source is refused =
+      (source refused.0, refused.1, inside_some ns refused.0 (at (source refused.0)) refused.1 (sym (is refused.0) ∙ refused.2), refused.3)

@@ -1,0 +1,306 @@
+-- How an owned array lies once another has come behind it: the case that applies, and what it says.
+use Rattle.std.proofs.Common.{◌≡◌, ℕ, zero, suc, ⊎_elim, inl, inr, ◌⊎◌, ◌+◌, ◌*◌, ◌<◌, ◌≤◌, Bool, true, false, not, ◌||◌, cond, eqb, leb, List, [], ◌∷◌, ◌++◌, length, get_or, set, replicate, refl, ap, sym, subst, ◌∙◌, arith, ℤ, pos}
+use Rattle.std.specs.Prelude.{Option, Result, Ok, Err, OnOk}
+use Rattle.std.specs.List.{remove}
+use Rattle.std.proofs.Math.Nat.{mul-le-mul_right}
+use Rattle.std.proofs.lemmas.Bool.{cases_eq, cases_lt, eq-eqb, ne_eqb, eqb-true, false≢true}
+use Rattle.std.proofs.lemmas.List.{append-nil, length-set, set-get_or, get_or-set_same}
+use Rattle.nd_shape_and_slice.specs.Shape.{in_box, size_of}
+use Rattle.nd_shape_and_slice.specs.Place.{place_of}
+use Rattle.nd_shape_and_slice.specs.Strides.{row_strides, column_strides_from}
+use Rattle.nd_layout.specs.Growth.{growing_strides, greatest_end, grown_shape, growth_case, must_move, strides_in_case}
+use Rattle.nd_layout.specs.MemoryOrder.{IsGrown}
+use Rattle.nd_layout.specs.Placements.{Placement, as_placement}
+use Rattle.nd_layout.proofs.Extended.{span-lt-greatest_end}
+use Rattle.nd_layout.proofs.Filled.{grows_on}
+use Rattle.nd_layout.proofs.FreshOrder.{fresh_full, fresh_ready, length-growing_strides}
+use Rattle.nd_layout.proofs.Growing.{growing_strides-is, growing_strides-set}
+use Rattle.nd_layout.proofs.GrowthCases.{end_beside-le-size, others_some}
+use Rattle.nd_layout.proofs.GrownLayout.{base_full, last_cases, axis_some}
+use Rattle.nd_layout.proofs.MemoryOrder.{same_placement}
+use Rattle.nd_layout.proofs.Removed.{size_of-removed}
+use Rattle.nd_layout.proofs.RunFrom.{IsRun-from_separated}
+use Rattle.nd_layout.proofs.Sizes.{size_of-set}
+use Rattle.nd_array_core.specs.Collected.{IsFront}
+use Rattle.nd_array_core.specs.growth.Appended.{FitsBehind}
+use Rattle.nd_array_core.specs.growth.Grown.{case_under, offset_in_case, GoesOnUnder, IsLaidInCase, IsReadyUnder, IsStoredInCase}
+use Rattle.nd_array_core.specs.growth.Reserved.{added_elements}
+use Rattle.nd_array_core.proofs.Appending.{first_none, fits_axis, fits_back, fits_more, fits_size, no_index}
+
+-- ---- which case it is
+chosen_empty : (b1 b2 b3 b4 b5 : Bool) → b1 ≡ true → ◌≡◌ {A = ℕ} (cond b1 1 (cond b2 2 (cond b3 3 (cond b4 4 (cond b5 5 6))))) 1
+chosen_empty true b2 b3 b4 b5 e = refl
+chosen_empty false b2 b3 b4 b5 e = absurd cc
+
+chosen_same : (b1 b2 b3 b4 b5 : Bool) → b1 ≡ false → b2 ≡ true → ◌≡◌ {A = ℕ} (cond b1 1 (cond b2 2 (cond b3 3 (cond b4 4 (cond b5 5 6))))) 2
+chosen_same false true b3 b4 b5 e f = refl
+chosen_same true b2 b3 b4 b5 e f = absurd cc
+chosen_same false false b3 b4 b5 e f = absurd cc
+
+chosen_fresh : (b1 b2 b3 b4 b5 : Bool) → b1 ≡ false → b2 ≡ false → b3 ≡ true → ◌≡◌ {A = ℕ} (cond b1 1 (cond b2 2 (cond b3 3 (cond b4 4 (cond b5 5 6))))) 3
+chosen_fresh false false true b4 b5 e f g = refl
+chosen_fresh true b2 b3 b4 b5 e f g = absurd cc
+chosen_fresh false true b3 b4 b5 e f g = absurd cc
+chosen_fresh false false false b4 b5 e f g = absurd cc
+
+chosen_moved : (b1 b2 b3 b4 b5 : Bool) → b1 ≡ false → b2 ≡ false → b3 ≡ false → b4 ≡ true → ◌≡◌ {A = ℕ} (cond b1 1 (cond b2 2 (cond b3 3 (cond b4 4 (cond b5 5 6))))) 4
+chosen_moved false false false true b5 e f g h = refl
+chosen_moved true b2 b3 b4 b5 e f g h = absurd cc
+chosen_moved false true b3 b4 b5 e f g h = absurd cc
+chosen_moved false false true b4 b5 e f g h = absurd cc
+chosen_moved false false false false b5 e f g h = absurd cc
+
+module _ (ns : List ℕ) (ss : List ℤ) (full : Bool) (a added : ℕ) where
+  pub case_empty : size_of (grown_shape ns a added) ≡ 0 → growth_case ns ss full a added ≡ 1
+  case_empty none =
+      chosen_empty (eqb (size_of (grown_shape ns a added)) 0) (eqb added 0) (eqb (size_of ns) 0) (not full || must_move ns ss a) (leb (get_or ns a 0) 1)
+      (eq-eqb (size_of (grown_shape ns a added)) 0 none)
+
+  pub case_same : 0 < size_of (grown_shape ns a added) → added ≡ 0 → growth_case ns ss full a added ≡ 2
+  case_same some none =
+      chosen_same (eqb (size_of (grown_shape ns a added)) 0) (eqb added 0) (eqb (size_of ns) 0) (not full || must_move ns ss a) (leb (get_or ns a 0) 1)
+      (ne_eqb (size_of (grown_shape ns a added)) 0 (λ e. omega arith)) (eq-eqb added 0 none)
+
+  pub case_fresh : 0 < size_of (grown_shape ns a added) → 0 < added → size_of ns ≡ 0 → growth_case ns ss full a added ≡ 3
+  case_fresh some more none =
+      chosen_fresh (eqb (size_of (grown_shape ns a added)) 0) (eqb added 0) (eqb (size_of ns) 0) (not full || must_move ns ss a) (leb (get_or ns a 0) 1)
+      (ne_eqb (size_of (grown_shape ns a added)) 0 (λ e. omega arith)) (ne_eqb added 0 (λ e. omega arith)) (eq-eqb (size_of ns) 0 none)
+
+  pub case_moved : 0 < size_of (grown_shape ns a added) → 0 < added → 0 < size_of ns → (not full || must_move ns ss a) ≡ true → growth_case ns ss full a added ≡ 4
+  case_moved some more there moves =
+      chosen_moved (eqb (size_of (grown_shape ns a added)) 0) (eqb added 0) (eqb (size_of ns) 0) (not full || must_move ns ss a) (leb (get_or ns a 0) 1)
+      (ne_eqb (size_of (grown_shape ns a added)) 0 (λ e. omega arith)) (ne_eqb added 0 (λ e. omega arith)) (ne_eqb (size_of ns) 0 (λ e. omega arith)) moves
+
+-- more lengths of an array that has elements
+pub grown_some : (ns : List ℕ) (a added : ℕ) → a < length ns → 0 < size_of ns → 0 < size_of (grown_shape ns a added)
+grown_some ns a added on some =
+    let whole = size_of-set ns a (get_or ns a 0 + added) on in
+    let old : size_of ns ≡ get_or ns a 0 * size_of (remove ns a) = size_of-removed ns a on in
+    omega (arith, whole, old, some)
+
+-- ---- the offset in each case
+pub offset_stays : (row o : ℕ) → 4 < row → offset_in_case row o ≡ o
+offset_stays row o high = chosen (eqb row 3) (eqb row 4) (ne_eqb row 3 (λ e. omega arith)) (ne_eqb row 4 (λ e. omega arith))
+  where
+    chosen : (b c : Bool) → b ≡ false → c ≡ false → cond (b || c) 0 o ≡ o
+    chosen false false e f = refl
+    chosen true c e f = absurd cc
+    chosen false true e f = absurd cc
+
+-- ---- fresh strides stay as they are when the axis grows on
+growing_end : (ns : List ℕ) (a : ℕ) → a < length ns → 0 < size_of ns → get_or ns a 0 ≡ 1 → greatest_end (set ns a 1) (growing_strides a ns) ≡ size_of (set ns a 1)
+growing_end ns a on some one =
+    let gs = growing_strides a ns in
+    let long = length-growing_strides ns a on some in
+    let full = fresh_full ns a on some in
+    let same : set ns a 1 ≡ ns = ap (set ns a) (sym one) ∙ set-get_or ns a 0 in
+    let most = end_beside-le-size ns gs a long on some (IsRun-from_separated ns gs long full.0 full.1) in
+    let least = span-lt-greatest_end ns gs long full.0 in
+    let end : greatest_end (set ns a 1) gs ≡ greatest_end ns gs = ap (λ ms. greatest_end ms gs) same in
+    let size : size_of (set ns a 1) ≡ size_of ns = ap size_of same in
+    let whole = full.1 in
+    omega (arith, most, least, end, size, whole)
+
+growing_kept : (ns : List ℕ) (a : ℕ) → a < length ns → 0 < size_of (set ns a 1) → set (growing_strides a ns) a (pos (size_of (set ns a 1))) ≡ growing_strides a ns
+growing_kept ns a on others =
+    let os = set ns a 1 in
+    let base = cond (eqb (a + 1) (length ns)) (column_strides_from 1 os) (row_strides os) in
+    let is = growing_strides-is a ns on in
+    let wide : a < length base = let w = base_full (eqb (a + 1) (length ns)) os others in let l = w.0 in let q = length-set ns a 1 in omega (arith, l, q, on) in
+    let at : get_or (growing_strides a ns) a (pos 0) ≡ pos (size_of os) = ap (λ ts. get_or ts a (pos 0)) is ∙ get_or-set_same base a (pos (size_of os)) (pos 0) wide in
+    ap (set (growing_strides a ns) a) (sym at) ∙ set-get_or (growing_strides a ns) a (pos 0)
+
+pub growing_again : (ns : List ℕ) (a added : ℕ) → a < length ns → 0 < size_of ns → 0 < added → strides_in_case (growth_case ns (growing_strides a ns) true a added) ns (growing_strides a ns) a added ≡ growing_strides a ns
+growing_again ns a added on some more =
+    let gs = growing_strides a ns in
+    let row = growth_case ns gs true a added in
+    let high = grows_on ns gs a added some more (grown_some ns a added on some) (fresh_ready ns a on some) in
+    let Goal : ℕ → Type 0 = λ r. strides_in_case r ns gs a added ≡ gs in
+    ⊎_elim
+    (λ (five : (row ≡ 5) × (get_or ns a 0 ≤ 1)).
+    let one = axis_some ns a on some five.1 in
+    let size : size_of (set ns a 1) ≡ size_of ns = ap size_of (ap (set ns a) (sym one) ∙ set-get_or ns a 0) in
+    subst Goal (sym five.0) (ap (λ n. set gs a (pos n)) (growing_end ns a on some one) ∙ growing_kept ns a on (omega (arith, size, some))))
+    (λ six. subst Goal (sym six.0) refl)
+    (last_cases ns gs true a added row refl high)
+
+-- ---- where nothing moved
+module _ {A : Type 0} (axis added : ℕ) (l m : Placement) (old new : List A) (on : axis < length l.lengths) (some : 0 < size_of l.lengths) (more : 0 < added) (full : length old ≡ size_of l.lengths) (stays : must_move l.lengths l.strides axis ≡ false) where
+  row_behind : case_under axis added l old ≡ growth_case l.lengths l.strides true axis added
+  row_behind = ap (λ b. growth_case l.lengths l.strides b axis added) (eq-eqb (length old) (size_of l.lengths) full)
+
+  pub high_behind : 4 < case_under axis added l old
+  high_behind = subst (λ r. 4 < r) (sym row_behind) (grows_on l.lengths l.strides axis added some more (grown_some l.lengths axis added on some) stays)
+
+  pub laid_behind : IsGrown l axis added m → IsFront old new → length new ≡ size_of m.lengths → IsLaidInCase axis added l old m new
+  laid_behind grown front count = record {
+    strides = grown.strides ∙ ap (λ r. strides_in_case r l.lengths l.strides axis added) (sym row_behind);
+    offset = grown.offset ∙ sym (offset_stays (case_under axis added l old) l.offset high_behind);
+    stored = record { same = λ low. absurd (let h = high_behind in omega (arith, low, h)); full = λ _. count; front = λ _. front };
+  }
+
+pub goes_behind : {A : Type 0} (axis added : ℕ) (l m : Placement) (old new : List A) → IsGrown l axis added m → IsFront old new → length new ≡ size_of m.lengths → GoesOnUnder axis l old m new
+goes_behind axis added l m old new grown front count = record { front = front; places = grown.kept; ready = (count, inr grown.ready) }
+
+-- ---- where all was laid anew first
+module _ {A : Type 0} (axis added : ℕ) (l k m : Placement) (old items new : List A) (on : axis < length l.lengths) (some : 0 < size_of l.lengths) (more : 0 < added) (offset : k.offset ≡ 0) (lengths : k.lengths ≡ l.lengths) (strides : k.strides ≡ growing_strides axis l.lengths) (count : length items ≡ size_of l.lengths) where
+  row_anew : case_under axis added k items ≡ growth_case l.lengths (growing_strides axis l.lengths) true axis added
+  row_anew =
+      (λ i. growth_case (lengths i) (strides i) (eqb (length items) (size_of (lengths i))) axis added)
+      ∙ ap (λ b. growth_case l.lengths (growing_strides axis l.lengths) b axis added) (eq-eqb (length items) (size_of l.lengths) count)
+
+  pub laid_anew : (not (eqb (length old) (size_of l.lengths)) || must_move l.lengths l.strides axis) ≡ true → IsLaidInCase axis added k items m new → IsLaidInCase axis added l old m new
+  laid_anew moves laid =
+      let gs = growing_strides axis l.lengths in
+      let four : case_under axis added l old ≡ 4 = case_moved l.lengths l.strides (eqb (length old) (size_of l.lengths)) axis added (grown_some l.lengths axis added on some) more some moves in
+      let high : 4 < case_under axis added k items =
+      subst (λ r. 4 < r) (sym row_anew) (grows_on l.lengths gs axis added some more (grown_some l.lengths axis added on some) (fresh_ready l.lengths axis on some)) in
+      record {
+        strides =
+            laid.strides
+            ∙ ((λ i. strides_in_case (row_anew i) (lengths i) (strides i) axis added)
+            ∙ (growing_again l.lengths axis added on some more
+            ∙ sym (ap (λ r. strides_in_case r l.lengths l.strides axis added) four)));
+        offset = laid.offset ∙ (offset_stays (case_under axis added k items) k.offset high ∙ (offset ∙ sym (ap (λ r. offset_in_case r l.offset) four)));
+        stored = record {
+          same = λ low. absurd (omega (arith, low, four));
+          full = λ _. laid.stored.full (omega (arith, high));
+          front = λ above. absurd (omega (arith, above, four));
+        };
+      }
+
+-- it had to move
+pub moves_by : (n size : ℕ) (b : Bool) → ((n ≡ size) × (b ≡ false) → ⊥) → (not (eqb n size) || b) ≡ true
+moves_by n size true not_ready = one (not (eqb n size))
+  where
+    one : (c : Bool) → (c || true) ≡ true
+    one true = refl
+    one false = refl
+moves_by n size false not_ready =
+    ⊎_elim
+    (λ (same : n ≡ size). absurd (not_ready (same, refl)))
+    (λ (other : n ≡ size → ⊥). ap (λ c. not c || false) (ne_eqb n size other))
+    (cases_eq n size)
+
+-- ---- where there was no element
+module _ {A : Type 0} (axis : ℕ) (l m : Placement) (ms : List ℕ) (old new : List A) (on : axis < length l.lengths) (fits : FitsBehind l.lengths ms axis) (none : size_of l.lengths ≡ 0) where
+  shape_fresh : 0 < size_of ms → grown_shape l.lengths axis (get_or ms axis 0) ≡ ms
+  shape_fresh some =
+      let first = first_none l.lengths ms axis on fits none some in
+      ap (λ n. set l.lengths axis (n + get_or ms axis 0)) first ∙ (ap (set l.lengths axis) (omega arith) ∙ fits_back l.lengths ms axis on fits)
+
+  pub laid_fresh : 0 < size_of ms → m ≡ as_placement 0 ms (growing_strides axis ms) → length new ≡ 0 + size_of ms → IsLaidInCase axis (get_or ms axis 0) l old m new
+  laid_fresh some is count =
+      let added = get_or ms axis 0 in
+      let whole = shape_fresh some in
+      let size : size_of (grown_shape l.lengths axis added) ≡ size_of ms = ap size_of whole in
+      let three : case_under axis added l old ≡ 3 = case_fresh l.lengths l.strides (eqb (length old) (size_of l.lengths)) axis added (omega (arith, size, some)) (fits_more l.lengths ms axis on fits some) none in
+      let lengths : size_of m.lengths ≡ size_of ms = ap (λ p. size_of p.lengths) is in
+      record {
+        strides =
+            ap (λ p. p.strides) is
+            ∙ (ap (growing_strides axis) (sym whole)
+            ∙ sym (ap (λ r. strides_in_case r l.lengths l.strides axis added) three));
+        offset = ap (λ p. p.offset) is ∙ sym (ap (λ r. offset_in_case r l.offset) three);
+        stored = record {
+          same = λ low. absurd (omega (arith, low, three));
+          full = λ _. omega (arith, count, lengths);
+          front = λ above. absurd (omega (arith, above, three));
+        };
+      }
+
+  pub ready_fresh : 0 < size_of ms → m ≡ as_placement 0 ms (growing_strides axis ms) → length new ≡ 0 + size_of ms → IsReadyUnder axis m new
+  ready_fresh some is count =
+      subst (λ p. IsReadyUnder axis p new) (sym is) (omega (arith, count), inr (fresh_ready ms axis (fits_axis l.lengths ms axis on fits) some))
+
+  nothing_first : length old ≡ 0 → IsFront old new
+  nothing_first empty = (new, ap (λ xs. xs ++ new) (sym (no_items old empty)))
+    where
+      no_items : (xs : List A) → length xs ≡ 0 → xs ≡ []
+      no_items [] e = refl
+      no_items (x ∷ xs) e = absurd (omega (arith, e))
+
+  pub goes_fresh : IsReadyUnder axis m new → IsReadyUnder axis l old → GoesOnUnder axis l old m new
+  goes_fresh after before = record {
+    front = nothing_first (before.0 ∙ none);
+    places = λ i h. absurd (no_index l.lengths i none h);
+    ready = after;
+  }
+
+-- ---- where nothing came
+module _ {A : Type 0} (axis added : ℕ) (l m : Placement) (old new : List A) (same : new ≡ old) (offset : m.offset ≡ l.offset) where
+  stored_same : (row : ℕ) → row ≤ 2 → IsStoredInCase row m old new
+  stored_same row low = record {
+    same = λ _. same;
+    full = λ above. absurd (omega (arith, low, above));
+    front = λ above. absurd (omega (arith, low, above));
+  }
+
+  pub laid_same : 0 < size_of (grown_shape l.lengths axis added) → added ≡ 0 → m.strides ≡ l.strides → IsLaidInCase axis added l old m new
+  laid_same some none strides =
+      let two : case_under axis added l old ≡ 2 = case_same l.lengths l.strides (eqb (length old) (size_of l.lengths)) axis added some none in
+      record {
+        strides = strides ∙ sym (ap (λ r. strides_in_case r l.lengths l.strides axis added) two);
+        offset = offset ∙ sym (ap (λ r. offset_in_case r l.offset) two);
+        stored = stored_same (case_under axis added l old) (omega (arith, two));
+      }
+
+  pub laid_empty : size_of (grown_shape l.lengths axis added) ≡ 0 → m.strides ≡ replicate (length l.lengths) (pos 0) → IsLaidInCase axis added l old m new
+  laid_empty none strides =
+      let one : case_under axis added l old ≡ 1 = case_empty l.lengths l.strides (eqb (length old) (size_of l.lengths)) axis added none in
+      record {
+        strides = strides ∙ sym (ap (λ r. strides_in_case r l.lengths l.strides axis added) one);
+        offset = offset ∙ sym (ap (λ r. offset_in_case r l.offset) one);
+        stored = stored_same (case_under axis added l old) (omega (arith, one));
+      }
+
+  front_same : IsFront old new
+  front_same = ([], same ∙ sym (append-nil old))
+
+  pub goes_empty : size_of l.lengths ≡ 0 → size_of m.lengths ≡ 0 → IsReadyUnder axis l old → GoesOnUnder axis l old m new
+  goes_empty none after before = record {
+    front = front_same;
+    places = λ i h. absurd (no_index l.lengths i none h);
+    ready = (ap length same ∙ (before.0 ∙ (none ∙ sym after)), inl after);
+  }
+
+  pub goes_same : m.lengths ≡ l.lengths → m.strides ≡ l.strides → IsReadyUnder axis l old → GoesOnUnder axis l old m new
+  goes_same lengths strides before = record {
+    front = front_same;
+    places = λ i h k. place_of (offset k) (strides k) i;
+    ready = subst (λ p. IsReadyUnder axis p new) (sym (same_placement m l offset lengths strides)) (subst (λ xs. IsReadyUnder axis l xs) (sym same) before);
+  }
+
+-- as many elements as so many lengths of the axis have
+pub added_is : (ns ms : List ℕ) (a : ℕ) → a < length ns → FitsBehind ns ms a → size_of ms ≡ added_elements ns a (get_or ms a 0)
+added_is ns ms a on fits = sym (ap size_of (fits_back ns ms a on fits)) ∙ size_of-set ns a (get_or ms a 0) on
+
+-- an array that has elements and is ready can grow on
+pub can_grow : {A : Type 0} (axis : ℕ) (l : Placement) (items : List A) → 0 < size_of l.lengths → IsReadyUnder axis l items → (length items ≡ size_of l.lengths) × (must_move l.lengths l.strides axis ≡ false)
+can_grow axis l items some (full, inl none) = absurd (omega (arith, some, none))
+can_grow axis l items some (full, inr stays) = (full, stays)
+
+-- ---- room
+remove_set : (ns : List ℕ) (a x : ℕ) → remove (set ns a x) a ≡ remove ns a
+remove_set [] a x = refl
+remove_set (n ∷ ns) zero x = refl
+remove_set (n ∷ ns) (suc a) x = ap (λ r. n ∷ r) (remove_set ns a x)
+
+-- what is left of it once others came in
+pub room_spared : (ns ms new : List ℕ) (a more before after had has : ℕ) → a < length ns → FitsBehind ns ms a → new ≡ grown_shape ns a (get_or ms a 0) → before ≡ size_of ns → after ≡ size_of new → had ≤ has → before + added_elements ns a (more + get_or ms a 0) ≤ had → after + added_elements new a more ≤ has
+room_spared ns ms new a more before after had has on fits shape old now no_less enough =
+    let size : size_of new ≡ size_of ns + size_of ms = ap size_of shape ∙ fits_size ns ms a on fits in
+    let added : size_of ms ≡ get_or ms a 0 * size_of (remove ns a) = added_is ns ms a on fits in
+    let rest : more * size_of (remove new a) ≡ more * size_of (remove ns a) = ap (λ r. more * size_of r) (ap (λ s. remove s a) shape ∙ remove_set ns a (get_or ns a 0 + get_or ms a 0)) in
+    omega (arith, size, added, rest, old, now, no_less, enough)
+
+pub room_unspent : (ns new : List ℕ) (a more before after had has : ℕ) → new ≡ ns → after ≡ before → had ≤ has → before + added_elements ns a (more + 0) ≤ had → after + added_elements new a more ≤ has
+room_unspent ns new a more before after had has shape same no_less enough =
+    let rest : added_elements new a more ≡ added_elements ns a (more + 0) = ap (λ s. added_elements s a more) shape ∙ ap (λ n. added_elements ns a n) (omega arith) in
+    omega (arith, rest, same, no_less, enough)
+
+-- less room is there too
+pub room_within : (ns : List ℕ) (a few many before had : ℕ) → few ≤ many → before + added_elements ns a many ≤ had → before + added_elements ns a few ≤ had
+room_within ns a few many before had fewer enough =
+    let less = mul-le-mul_right {m = few} {n = many} (size_of (remove ns a)) fewer in
+    omega (arith, less, enough)

@@ -1,0 +1,105 @@
+-- Arrays of a list behind one, taken one more at a time.
+use Rattle.std.proofs.Common.{◌≡◌, ℕ, zero, suc, ◌+◌, ◌*◌, ◌^◌, ◌<◌, ◌≤◌, max, true, List, [], ◌∷◌, ◌++◌, length, get_or, set, take, refl, ap, sym, subst, ◌∙◌, arith}
+use Rattle.std.specs.Prelude.{Option, Some, None, map, slice_get}
+use Rattle.std.specs.List.{remove, sum_by}
+use Rattle.std.proofs.Math.Nat.{mul-le-mul_right}
+use Rattle.std.proofs.lemmas.List.{length-set, set-set, set-get_or, get_or-set_same}
+use Rattle.std.proofs.lemmas.List.Sums.{sum_by-cons, sum_by_more, sum_by_more_le}
+use Rattle.std.proofs.lemmas.Option.{get_or_from_slice_get, slice_get_within}
+use Rattle.nd_shape_and_slice.specs.Shape.{HasCheckedSize, in_box, nonzero_product}
+use Rattle.nd_shape_and_slice.specs.declared.errors.ErrorKind.{ErrorKind}
+use Rattle.nd_layout.specs.Growth.{grown_shape}
+use Rattle.nd_layout.proofs.Continued.{in_box-longer}
+use Rattle.nd_layout.proofs.Sizes.{nonzero_product-set}
+use Rattle.nd_array_core.specs.declared.base.errors.ArrayError.{ArrayError}
+use Rattle.nd_array_core.specs.declared.base.errors.ArrayError.TheVariants.{Shape, NoMemory}
+use Rattle.nd_array_core.specs.Joined.{concatenated}
+use Rattle.nd_array_core.specs.Meaning.{Meaning}
+use Rattle.nd_array_core.specs.growth.Appended.{FitsBehind, IsAppendRefused, IsJoiningRefused, NotFitting, TooLarge}
+use Rattle.nd_array_core.specs.growth.InTurn.{joined_in_turn, lengths_along}
+
+grown_twice : (ns : List ℕ) (a x y : ℕ) → (0 < length ns → a < length ns) → grown_shape (grown_shape ns a x) a y ≡ grown_shape ns a (x + y)
+grown_twice [] a x y on = refl
+grown_twice (n ∷ ns) a x y on =
+    let more = get_or (n ∷ ns) a 0 + x in
+    ap (λ k. set (set (n ∷ ns) a more) a (k + y)) (get_or-set_same (n ∷ ns) a more 0 (on (omega arith)))
+    ∙ (set-set (n ∷ ns) a more (more + y)
+    ∙ ap (set (n ∷ ns) a) (omega arith))
+
+-- a shape with more lengths of an axis has the indexes from before
+pub in_box-grown : (ns i : List ℕ) (a x : ℕ) → (0 < length ns → a < length ns) → in_box ns i ≡ true → in_box (grown_shape ns a x) i ≡ true
+in_box-grown [] i a x on h = h
+in_box-grown (n ∷ ns) i a x on h = in_box-longer (n ∷ ns) i a (get_or (n ∷ ns) a 0 + x) (on (omega arith)) (omega arith) h
+
+module _ {A : Type 0} where
+  joined_last : (a : ℕ) (m n : Meaning A) (ms : List (Meaning A)) → joined_in_turn a m (ms ++ n ∷ []) ≡ concatenated a (joined_in_turn a m ms) n
+  joined_last a m n [] = refl
+  joined_last a m n (k ∷ ks) = joined_last a (concatenated a m k) n ks
+
+  take_next : (ms : List (Meaning A)) (n : ℕ) (m : Meaning A) → slice_get ms n ≡ Some m → take (n + 1) ms ≡ take n ms ++ m ∷ []
+  take_next [] n m e = absurd cc
+  take_next (k ∷ ks) zero m e = ap (λ x. x ∷ []) (got k m e)
+    where
+      got : (x y : Meaning A) → Some x ≡ Some y → x ≡ y
+      got x y e = cc
+  take_next (k ∷ ks) (suc n) m e = let next : suc n + 1 ≡ suc (n + 1) = omega arith in ap (λ j. take j (k ∷ ks)) next ∙ ap (λ xs. k ∷ xs) (take_next ks n m e)
+
+  pub joined_more : (a : ℕ) (m n : Meaning A) (ms : List (Meaning A)) (nth : ℕ) → slice_get ms nth ≡ Some n → joined_in_turn a m (take (nth + 1) ms) ≡ concatenated a (joined_in_turn a m (take nth ms)) n
+  joined_more a m n ms nth e = ap (joined_in_turn a m) (take_next ms nth n e) ∙ joined_last a m n (take nth ms)
+
+  -- the axis is as long as all together
+  pub shape_in_turn : (a : ℕ) (m : Meaning A) (ms : List (Meaning A)) → (0 < length m.shape → a < length m.shape) → (joined_in_turn a m ms).shape ≡ grown_shape m.shape a (lengths_along a ms)
+  shape_in_turn a m [] on = sym (ap (set m.shape a) (omega arith) ∙ set-get_or m.shape a 0)
+  shape_in_turn a m (n ∷ ns) on =
+      let more = get_or m.shape a 0 + get_or n.shape a 0 in
+      let long = length-set m.shape a more in
+      shape_in_turn a (concatenated a m n) ns (λ some. let here = on (omega (arith, long, some)) in omega (arith, long, here))
+      ∙ (grown_twice m.shape a (get_or n.shape a 0) (lengths_along a ns) on
+      ∙ ap (grown_shape m.shape a) (sym (sum_by-cons (λ k. get_or k.shape a 0) n ns)))
+
+  pub lengths_more : (a : ℕ) (n : Meaning A) (ms : List (Meaning A)) (nth : ℕ) → slice_get ms nth ≡ Some n → lengths_along a (take (nth + 1) ms) ≡ lengths_along a (take nth ms) + get_or n.shape a 0
+  lengths_more a n ms nth e =
+      sum_by_more (λ m. get_or m.shape a 0) ms nth n (slice_get_within ms nth n e)
+      ∙ ap (λ m. lengths_along a (take nth ms) + get_or m.shape a 0) (get_or_from_slice_get ms nth n n e)
+
+  pub lengths_within : (a : ℕ) (n : Meaning A) (ms : List (Meaning A)) (nth : ℕ) → slice_get ms nth ≡ Some n → lengths_along a (take nth ms) + get_or n.shape a 0 ≤ lengths_along a ms
+  lengths_within a n ms nth e =
+      subst (λ m. lengths_along a (take nth ms) + get_or m.shape a 0 ≤ lengths_along a ms) (get_or_from_slice_get ms nth n n e)
+      (sum_by_more_le (λ m. get_or m.shape a 0) ms nth n (slice_get_within ms nth n e))
+
+-- a shorter axis has a checked size too
+checked_within : (ns : List ℕ) (a few many : ℕ) → a < length ns → few ≤ many → HasCheckedSize (set ns a many) → HasCheckedSize (set ns a few)
+checked_within ns a few many on fewer checked =
+    let wide = nonzero_product-set ns a many on in
+    let narrow = nonzero_product-set ns a few on in
+    let less = mul-le-mul_right {m = max 1 few} {n = max 1 many} (nonzero_product (remove ns a)) (omega arith) in
+    let limit : nonzero_product (set ns a many) < 9223372036854775808 = checked in
+    omega (arith, wide, narrow, less, limit)
+
+-- behind a shape that has grown along the axis another fits that fitted before
+fits_later : (ns ms : List ℕ) (a x : ℕ) → a < length ns → FitsBehind ns ms a → FitsBehind (set ns a x) ms a
+fits_later ns ms a x on fits =
+    let n = get_or ns a 0 in (
+      let e = length-set ns a x in omega (arith, e, on),
+      ap (set ms a) (get_or-set_same ns a x 0 on) ∙ (sym (set-set ms a n x) ∙ ap (λ s. set s a x) fits.1),
+    )
+
+-- so only want of memory is left
+pub only_memory : (ns ms shape : List ℕ) (a taken all : ℕ) (e : ArrayError) → shape ≡ grown_shape ns a taken → a < length ns → FitsBehind ns ms a → taken + get_or ms a 0 ≤ all → HasCheckedSize (grown_shape ns a all) → IsAppendRefused shape ms a e → e ≡ NoMemory
+only_memory ns ms shape a taken all NoMemory is on fits within checked refused = refl
+only_memory ns ms shape a taken all (Shape kind) is on fits within checked refused = absurd (by_kind kind (subst (λ s. IsJoiningRefused s ms a kind) is refused))
+  where
+    by_kind : (kind : ErrorKind) → IsJoiningRefused (grown_shape ns a taken) ms a kind → ⊥
+    by_kind kind (NotFitting other) = other (fits_later ns ms a (get_or ns a 0 + taken) on fits)
+    by_kind kind (TooLarge there large) =
+        large
+        (subst HasCheckedSize
+        (sym (ap (λ n. set (grown_shape ns a taken) a (n + get_or ms a 0)) (get_or-set_same ns a (get_or ns a 0 + taken) 0 on)
+        ∙ set-set ns a (get_or ns a 0 + taken) (get_or ns a 0 + taken + get_or ms a 0)))
+        (checked_within ns a (get_or ns a 0 + taken + get_or ms a 0) (get_or ns a 0 + all) on (omega (arith, within)) checked))
+
+-- an item of a list, through a map
+pub mapped_get : {X Y : Type 0} (f : X → Y) (xs : List X) (n : ℕ) (x : X) → n < length xs → x ≡ get_or xs n x → slice_get (map f xs) n ≡ Some (f x)
+mapped_get f [] n x below is = absurd (omega (arith, below))
+mapped_get f (y ∷ ys) zero x below is = ap (λ z. Some (f z)) (sym is)
+mapped_get f (y ∷ ys) (suc n) x below is = mapped_get f ys n x (omega (arith, below)) is

@@ -1,0 +1,37 @@
+-- Closures that are shown the lanes of an axis, each once, in an order that is free.
+use Rattle.std.specs.Prelude.{◌≡◌, ℕ, List, [], ◌∷◌, Option, Some, slice_index}
+use Rattle.std.specs.Fn.{Mut, Called}
+use Rattle.std.specs.List.{insert}
+use Rattle.nd_shape_and_slice.specs.Maps.{indexed_shape}
+use Rattle.nd_array_core.specs.declared.along.showing.LaneView.{LaneView}
+use Rattle.nd_array_core.specs.base.Storages.{shown_by}
+use Rattle.nd_array_core.specs.Collected.{stored_along}
+use Rattle.nd_array_core.specs.Meaning.{Meaning, inside, meaning_through}
+
+-- the lane at an index of the other axes: one axis, and along it the elements that differ in their coordinate there
+abbrev pub lane_of : {A : Type 0} → Meaning A → ℕ → List ℕ → Meaning A
+lane_of m a i = meaning_through (slice_index m.shape a ∷ []) (λ k. insert i a (slice_index k 0)) m
+
+-- the lanes of an axis, by the indexes of the other axes
+abbrev pub lanes_of : {A : Type 0} → Meaning A → ℕ → Meaning (Meaning A)
+lanes_of m a = record { shape = indexed_shape m.shape a; at = λ i. inside (indexed_shape m.shape a) i (Some (lane_of m a i)) }
+
+-- what a lane shows while it is shown to a closure
+unfoldable pub lane_seen : {A : Type 0} → LaneView A → Meaning A
+lane_seen v = record {
+  shape = v.lane.count ∷ [];
+  at = λ k. inside (v.lane.count ∷ []) k (stored_along (shown_by v.storage) v.lane.place v.lane.stride (slice_index k 0));
+}
+
+module _ {F A B : Type 0} (g : Mut F (LaneView A × Unit {0}) B) where
+  -- a call for a lane, and what it answered
+  abbrev pub AnswersLane : F → Option (Meaning A) → B → F → Type 0
+  AnswersLane f lane y f' = (v : LaneView A) × (lane ≡ Some (lane_seen v)) × Called g f (v, tt) y f'
+
+  -- it may be called for a lane
+  abbrev pub MayBeShownLane : F → Option (Meaning A) → Type 0
+  MayBeShownLane f lane = (v : LaneView A) → lane ≡ Some (lane_seen v) → g.pre f (v, tt)
+
+  -- the closure answers what h gives of what the lane shows, and stays as it is
+  abbrev pub AnswersLanesBy : (Meaning A → B) → F → Type 0
+  AnswersLanesBy h f = (v : LaneView A) (y : B) (f' : F) → Called g f (v, tt) y f' → (f' ≡ f) × (y ≡ h (lane_seen v))

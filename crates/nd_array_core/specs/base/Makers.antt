@@ -1,0 +1,34 @@
+-- What a new array has of the items or answers that it is made of.
+use Rattle.std.specs.Prelude.{ℕ, List, [], ◌∷◌, Option, Result, IfOk}
+use Rattle.std.specs.Fn.{Mut}
+use Rattle.std.specs.Iterator.{Drains}
+use Rattle.nd_shape_and_slice.specs.declared.dimension.Dimension as dimension
+use Rattle.nd_shape_and_slice.specs.declared.dimension.AxisCount as axis_count
+use Rattle.nd_shape_and_slice.specs.declared.dimension.StrideList as stride_list
+use Rattle.nd_shape_and_slice.specs.declared.builder.Order.TheVariants.{RowMajor}
+use Rattle.nd_array_core.specs.declared.base.storage.Data as data_trait
+use Rattle.nd_array_core.specs.declared.base.storage.OwnedRepr.{OwnedRepr}
+use Rattle.nd_array_core.specs.declared.base.array.ArrayBase.{ArrayBase}
+use Rattle.nd_array_core.specs.FreeOrder.{AnswersByIndex, HasAnswersByIndex}
+use Rattle.nd_array_core.specs.Meaning.{element_at, storage_of}
+use Rattle.nd_array_core.specs.base.Fresh.{BuiltShape, OwnsInOrder, ShowsValues}
+use Rattle.nd_array_core.specs.base.Storages.{stored_list}
+
+module _ {D T A P R L M : Type 0} {s : data_trait.Ghosts (OwnedRepr A) A} {d : dimension.Ghosts D P R L M} {n : axis_count.Ghosts D} {r : stride_list.Ghosts R} {t : stride_list.Ghosts T} where
+  -- the array owns a matrix of count rows and count columns, in row-major order
+  abbrev pub OwnsSquare : ℕ → ArrayBase (OwnedRepr A) D T A P R L M s d n r t → Type 0
+  OwnsSquare count a = OwnsInOrder (count ∷ count ∷ [], RowMajor) a
+
+  -- its elements are all that an iterator gives that a source becomes, in their order
+  abbrev pub StoresItemsOf : {X I : Type 0} → (X → I → Type 0) → (I → Option A → I → Type 0) → X → ArrayBase (OwnedRepr A) D T A P R L M s d n r t → Type 0
+  StoresItemsOf {X} {I} becomes gives source a = (it : I) × becomes source it × Drains gives it (stored_list (storage_of a))
+
+  -- what a closure that is handed an index answers
+  module _ {F X : Type 0} (g : Mut F (X × Unit {0}) A) (lengths_of : X → List ℕ) where
+    -- at each index of the shape stands the answer of the call for it
+    abbrev pub ShowsAnswers : List ℕ → F → ArrayBase (OwnedRepr A) D T A P R L M s d n r t → Type 0
+    ShowsAnswers shape f a = HasAnswersByIndex g lengths_of shape f (element_at a)
+
+    -- where it answers what some h gives of the index, and stays as it is, that stands at each index
+    abbrev pub ShowsAnswersAlike : {E : Type 0} → BuiltShape → F → Result (ArrayBase (OwnedRepr A) D T A P R L M s d n r t) E → Type 0
+    ShowsAnswersAlike built f result = (h : List ℕ → A) → AnswersByIndex g lengths_of built.0 h f → IfOk result (ShowsValues built h)

@@ -1,0 +1,20 @@
+-- Arrays that show what a function gives of another's elements.
+use Rattle.nd_shape_and_slice.specs.declared.dimension.Dimension as dimension
+use Rattle.nd_shape_and_slice.specs.declared.dimension.AxisCount as axis_count
+use Rattle.nd_shape_and_slice.specs.declared.dimension.StrideList as stride_list
+use Rattle.nd_array_core.specs.declared.base.storage.Data as data_trait
+use Rattle.nd_array_core.specs.declared.base.array.ArrayBase.{ArrayBase}
+use Rattle.nd_array_core.specs.Meaning.{element_at}
+use Rattle.nd_array_core.specs.elements.Maps.{IsMappedBy, IsOldOrMapped}
+
+module _
+    {S D T A P R L M : Type 0} {s : data_trait.Ghosts S A} {d : dimension.Ghosts D P R L M} {n : axis_count.Ghosts D} {r : stride_list.Ghosts R} {t : stride_list.Ghosts T}
+    {Z E U B Q X V W : Type 0} {z : data_trait.Ghosts Z B} {e : dimension.Ghosts E Q X V W} {k : axis_count.Ghosts E} {x : stride_list.Ghosts X} {u : stride_list.Ghosts U} where
+  -- b has at each index what h gives of a's element there
+  abbrev pub ShowsMapped : (A → B) → ArrayBase S D T A P R L M s d n r t → ArrayBase Z E U B Q X V W z e k x u → Type 0
+  ShowsMapped h a b = IsMappedBy h (element_at a) (element_at b)
+
+module _ {S D T A P R L M : Type 0} {s : data_trait.Ghosts S A} {d : dimension.Ghosts D P R L M} {n : axis_count.Ghosts D} {r : stride_list.Ghosts R} {t : stride_list.Ghosts T} where
+  -- b has at each index a's element, or what h gives of it
+  abbrev pub ShowsOldOrMapped : (A → A) → ArrayBase S D T A P R L M s d n r t → ArrayBase S D T A P R L M s d n r t → Type 0
+  ShowsOldOrMapped h a b = IsOldOrMapped h (element_at a) (element_at b)

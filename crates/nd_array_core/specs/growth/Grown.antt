@@ -1,0 +1,93 @@
+-- How an owned array lies before and after another came behind it along an axis.
+use Rattle.std.specs.Prelude.{ℕ, ◌≡◌, ◌+◌, ◌<◌, ◌≤◌, ◌⊎◌, ◌||◌, true, false, List, length, nat_eq, if◌then◌else◌, Option, ⊤}
+use Rattle.nd_shape_and_slice.specs.declared.dimension.Dimension as dimension
+use Rattle.nd_shape_and_slice.specs.declared.dimension.AxisCount as axis_count
+use Rattle.nd_shape_and_slice.specs.declared.dimension.StrideList as stride_list
+use Rattle.nd_shape_and_slice.specs.Shape.{in_box, size_of}
+use Rattle.nd_shape_and_slice.specs.Place.{place_of}
+use Rattle.nd_layout.specs.Growth.{growth_case, must_move, strides_in_case}
+use Rattle.nd_layout.specs.Placements.{Placement}
+use Rattle.nd_array_core.specs.declared.base.storage.Data as data_trait
+use Rattle.nd_array_core.specs.declared.base.storage.OwnedRepr.{OwnedRepr}
+use Rattle.nd_array_core.specs.declared.base.array.ArrayBase.{ArrayBase}
+use Rattle.nd_array_core.specs.declared.base.errors.ArrayError.{ArrayError}
+use Rattle.nd_array_core.specs.declared.base.errors.ArrayError.TheVariants.{Shape, NoMemory}
+use Rattle.nd_array_core.specs.Collected.{IsFront}
+use Rattle.nd_array_core.specs.Meaning.{shape_of, storage_of, layout_strides, layout_offset}
+use Rattle.nd_array_core.specs.Part.{ShowsWhole, BecomesWhole}
+use Rattle.nd_array_core.specs.base.CloneRefusals.{MayRefuseClone}
+use Rattle.nd_array_core.specs.base.Storages.{stored_list}
+use Rattle.nd_array_core.specs.growth.Reserved.{HasRoomAlong}
+
+-- the indexes name all that is stored, and there are none, or the axis can grow on at the end of the storage
+abbrev pub IsReadyUnder : {A : Type 0} → ℕ → Placement → List A → Type 0
+IsReadyUnder axis l items = (length items ≡ size_of l.lengths) × ((size_of l.lengths ≡ 0) ⊎ (must_move l.lengths l.strides axis ≡ false))
+
+-- which case of growth applies, as the storage is full or not
+abbrev pub case_under : {A : Type 0} → ℕ → ℕ → Placement → List A → ℕ
+case_under axis added l items = growth_case l.lengths l.strides (nat_eq (length items) (size_of l.lengths)) axis added
+
+-- the offset in each case: fresh storage begins at place 0
+abbrev pub offset_in_case : ℕ → ℕ → ℕ
+offset_in_case row offset = if nat_eq row 3 || nat_eq row 4 then 0 else offset
+
+-- What is stored in each case: where nothing came behind, what was; else as many elements as there are indexes, and where
+-- nothing moved, the old ones first.
+pub record IsStoredInCase {A : Type 0} (row : ℕ) (l : Placement) (old new : List A) : Type 0 where
+  pub same : row ≤ 2 → new ≡ old
+  pub full : 2 < row → length new ≡ size_of l.lengths
+  pub front : 4 < row → IsFront old new
+
+-- the second is how the first lies after so many lengths of an axis came behind it, in the case that applies
+pub record IsLaidInCase {A : Type 0} (axis added : ℕ) (l : Placement) (old : List A) (m : Placement) (new : List A) : Type 0 where
+  pub strides : m.strides ≡ strides_in_case (case_under axis added l old) l.lengths l.strides axis added
+  pub offset : m.offset ≡ offset_in_case (case_under axis added l old) l.offset
+  pub stored : IsStoredInCase (case_under axis added l old) m old new
+
+-- What was stored comes first, each index has its place, and the axis can grow on.
+pub record GoesOnUnder {A : Type 0} (axis : ℕ) (l : Placement) (old : List A) (m : Placement) (new : List A) : Type 0 where
+  pub front : IsFront old new
+  pub places : (i : List ℕ) → in_box l.lengths i ≡ true → place_of m.offset m.strides i ≡ place_of l.offset l.strides i
+  pub ready : IsReadyUnder axis m new
+
+module _ {D T A P R L M : Type 0} {s : data_trait.Ghosts (OwnedRepr A) A} {d : dimension.Ghosts D P R L M} {n : axis_count.Ghosts D} {r : stride_list.Ghosts R} {t : stride_list.Ghosts T} where
+  -- how it lies
+  abbrev pub lies : ArrayBase (OwnedRepr A) D T A P R L M s d n r t → Placement
+  lies a = record { offset = layout_offset a; lengths = shape_of a; strides = layout_strides a }
+
+  -- the storage holds no more, and the axis can grow on at its end
+  abbrev pub CanGrowOn : ℕ → ArrayBase (OwnedRepr A) D T A P R L M s d n r t → Type 0
+  CanGrowOn axis a = (length (stored_list (storage_of a)) ≡ size_of (shape_of a)) × (must_move (shape_of a) (layout_strides a) axis ≡ false)
+
+  -- the same of an array
+  abbrev pub IsReadyAlong : ℕ → ArrayBase (OwnedRepr A) D T A P R L M s d n r t → Type 0
+  IsReadyAlong axis a = IsReadyUnder axis (lies a) (stored_list (storage_of a))
+
+  abbrev pub IsGrownBy : ℕ → ℕ → ArrayBase (OwnedRepr A) D T A P R L M s d n r t → ArrayBase (OwnedRepr A) D T A P R L M s d n r t → Type 0
+  IsGrownBy axis added a b = IsLaidInCase axis added (lies a) (stored_list (storage_of a)) (lies b) (stored_list (storage_of b))
+
+  abbrev pub GoesOn : ℕ → ArrayBase (OwnedRepr A) D T A P R L M s d n r t → ArrayBase (OwnedRepr A) D T A P R L M s d n r t → Type 0
+  GoesOn axis a b = GoesOnUnder axis (lies a) (stored_list (storage_of a)) (lies b) (stored_list (storage_of b))
+
+  -- no element has to be laid anew before the axis grows
+  abbrev pub NeedsNoMove : ℕ → ArrayBase (OwnedRepr A) D T A P R L M s d n r t → Type 0
+  NeedsNoMove axis a = (size_of (shape_of a) ≡ 0) ⊎ CanGrowOn axis a
+
+  -- What a refusal leaves: by shape all; for want of memory all that is shown, in its places, where nothing had to move, and
+  -- all that is stored, where the axis could grow on.
+  abbrev pub IsLeft : ℕ → ArrayBase (OwnedRepr A) D T A P R L M s d n r t → ArrayBase (OwnedRepr A) D T A P R L M s d n r t → ArrayError → Type 0
+  IsLeft axis a b (Shape kind) = BecomesWhole a b
+  IsLeft axis a b NoMemory = (NeedsNoMove axis a → ShowsWhole a b) × (IsReadyAlong axis a → stored_list (storage_of b) ≡ stored_list (storage_of a))
+
+  -- it is ready, and the elements of so many more lengths find room without memory
+  abbrev pub IsReadyFor : ℕ → ℕ → ArrayBase (OwnedRepr A) D T A P R L M s d n r t → Type 0
+  IsReadyFor axis lengths a = IsReadyAlong axis a × HasRoomAlong axis lengths a
+
+  -- where there was room for so many more lengths than the used ones, it is left
+  abbrev pub LeavesRoom : ℕ → ℕ → ArrayBase (OwnedRepr A) D T A P R L M s d n r t → ArrayBase (OwnedRepr A) D T A P R L M s d n r t → Type 0
+  LeavesRoom axis used a b = (more : ℕ) → HasRoomAlong axis (more + used) a → HasRoomAlong axis more b
+
+-- want of memory means that a clone was refused, which may be only where one can be
+abbrev pub IsNotForMemory : {A : Type 0} → (A → Type 0) → (List ℕ → Option A) → ArrayError → Type 0
+IsNotForMemory is_infallible at (Shape kind) = ⊤
+IsNotForMemory is_infallible at NoMemory = MayRefuseClone is_infallible at

@@ -1,0 +1,46 @@
+-- Several arrays behind one another along an axis, one after the other.
+use Rattle.std.specs.Prelude.{ℕ, ◌≡◌, List, [], ◌∷◌, map, Option, Some, slice_get, slice_index}
+use Rattle.std.specs.List.{sum_by}
+use Rattle.nd_shape_and_slice.specs.Shape.{HasCheckedSize}
+use Rattle.nd_layout.specs.Growth.{grown_shape}
+use Rattle.nd_shape_and_slice.specs.declared.dimension.Dimension as dimension
+use Rattle.nd_shape_and_slice.specs.declared.dimension.AxisCount as axis_count
+use Rattle.nd_shape_and_slice.specs.declared.dimension.StrideList as stride_list
+use Rattle.nd_array_core.specs.declared.base.storage.Data as data_trait
+use Rattle.nd_array_core.specs.declared.base.array.ArrayBase.{ArrayBase}
+use Rattle.nd_array_core.specs.declared.base.errors.ArrayError.{ArrayError}
+use Rattle.nd_array_core.specs.Joined.{concatenated}
+use Rattle.nd_array_core.specs.Meaning.{Meaning, meaning_of}
+use Rattle.nd_array_core.specs.base.Fresh.{ClonesOfAllAreEqual}
+use Rattle.nd_array_core.specs.growth.Appended.{FitsBehind, IsAppendRefused}
+use Rattle.nd_array_core.specs.growth.Grown.{IsNotForMemory}
+
+module _ {S D T A P R L M : Type 0} {s : data_trait.Ghosts S A} {d : dimension.Ghosts D P R L M} {n : axis_count.Ghosts D} {r : stride_list.Ghosts R} {t : stride_list.Ghosts T} where
+  -- what each array of a list shows
+  abbrev pub meanings_of : List (ArrayBase S D T A P R L M s d n r t) → List (Meaning A)
+  meanings_of arrays = map (λ a. meaning_of a) arrays
+
+-- the arrays of a list behind one, each behind all before it
+abbrev pub joined_in_turn : {A : Type 0} → ℕ → Meaning A → List (Meaning A) → Meaning A
+joined_in_turn axis m [] = m
+joined_in_turn axis m (n ∷ ns) = joined_in_turn axis (concatenated axis m n) ns
+
+-- each clone of an element of one of them is the element
+abbrev pub ClonesOfEachAreEqual : {A : Type 0} → (A → A → Type 0) → List (Meaning A) → Type 0
+ClonesOfEachAreEqual {A} is_clone ms = (nth : ℕ) (m : Meaning A) → slice_get ms nth ≡ Some m → ClonesOfAllAreEqual is_clone m.at
+
+-- the array of a number of the list was refused, by an array of this shape
+abbrev pub IsRefusedInTurn : {A : Type 0} → ℕ → List ℕ → List (Meaning A) → ℕ → ArrayError → Type 0
+IsRefusedInTurn {A} axis shape ms nth error = (m : Meaning A) × (slice_get ms nth ≡ Some m) × IsAppendRefused shape m.shape axis error
+
+-- how many lengths of an axis they have together
+abbrev pub lengths_along : {A : Type 0} → ℕ → List (Meaning A) → ℕ
+lengths_along axis ms = sum_by (λ m. slice_index m.shape axis) ms
+
+-- each fits behind a shape, and all together have a checked size
+abbrev pub FitInTurn : {A : Type 0} → ℕ → List ℕ → List (Meaning A) → Type 0
+FitInTurn {A} axis shape ms = ((nth : ℕ) (m : Meaning A) → slice_get ms nth ≡ Some m → FitsBehind shape m.shape axis) × HasCheckedSize (grown_shape shape axis (lengths_along axis ms))
+
+-- want of memory at the array of a number means that one of its clones may be refused
+abbrev pub IsNotForMemoryInTurn : {A : Type 0} → (A → Type 0) → List (Meaning A) → ℕ → ArrayError → Type 0
+IsNotForMemoryInTurn {A} is_infallible ms nth error = (m : Meaning A) × (slice_get ms nth ≡ Some m) × IsNotForMemory is_infallible m.at error

@@ -1,0 +1,52 @@
+-- What an array ends as, once a borrow of all its elements as one slice is over.
+use Rattle.std.specs.Prelude.{◌≡◌, ℕ, List, length, slice_get}
+use Rattle.std.specs.Borrow.{Fml, RattleType, MutBor, Lends, Array}
+use Rattle.nd_shape_and_slice.specs.Shape.{size_of, row_rank}
+use Rattle.nd_shape_and_slice.specs.declared.dimension.Dimension as dimension
+use Rattle.nd_shape_and_slice.specs.declared.dimension.AxisCount as axis_count
+use Rattle.nd_shape_and_slice.specs.declared.dimension.StrideList as stride_list
+use Rattle.nd_array_core.specs.declared.base.storage.Data as data_trait
+use Rattle.nd_array_core.specs.declared.base.array.ArrayBase.{ArrayBase}
+use Rattle.nd_array_core.specs.Meaning.{shape_of, element_at, inside, layout_offset}
+use Rattle.nd_array_core.specs.base.ElementMut.{KeepsPlaces}
+use Rattle.nd_array_core.specs.base.ElementLent.{DimensionMembers, array_row, with_storage}
+use Rattle.nd_array_core.specs.base.Writes.{KeepsFrame}
+use Rattle.nd_array_core.specs.reshape.RunSlices.{IsInMemoryOrder, lowest_place}
+
+module _ {S D T A P R L M : Type 0} {s : data_trait.Ghosts S A} {d : dimension.Ghosts D P R L M} {n : axis_count.Ghosts D} {r : stride_list.Ghosts R} {t : stride_list.Ghosts T} where
+  -- the array with other elements at as many places as it has elements, from one on
+  unfoldable pub array_with_run : ((x : S) → ℕ → ℕ → List A → (y : S) × KeepsPlaces (s.stored x) (s.stored y)) → ArrayBase S D T A P R L M s d n r t → ℕ → List A → ArrayBase S D T A P R L M s d n r t
+  array_with_run set a first ws = with_storage a (set a.storage first (size_of (d.lengths a.layout.dim)) ws)
+
+  module _ (set : (x : S) → ℕ → ℕ → List A → (y : S) × KeepsPlaces (s.stored x) (s.stored y)) where
+    -- from the offset on, and from the lowest place on
+    abbrev pub array_with_rows : ArrayBase S D T A P R L M s d n r t → List A → ArrayBase S D T A P R L M s d n r t
+    array_with_rows a ws = array_with_run set a (layout_offset a) ws
+
+    abbrev pub array_with_places : ArrayBase S D T A P R L M s d n r t → List A → ArrayBase S D T A P R L M s d n r t
+    array_with_places a ws = array_with_run set a (lowest_place a) ws
+
+  module _ {F : Type 0} (frame : S → F) where
+    -- new is old but for the elements: each index has that of ws at its row-major rank
+    abbrev pub IsRewrittenByRank : ArrayBase S D T A P R L M s d n r t → List A → ArrayBase S D T A P R L M s d n r t → Type 0
+    IsRewrittenByRank old ws new = ((i : List ℕ) → element_at new i ≡ inside (shape_of old) i (slice_get ws (row_rank (shape_of old) i))) × KeepsFrame frame old new
+
+    -- new is old but for the elements: these are ws, in the order of their places
+    abbrev pub IsRewrittenInMemoryOrder : ArrayBase S D T A P R L M s d n r t → List A → ArrayBase S D T A P R L M s d n r t → Type 0
+    IsRewrittenInMemoryOrder old ws new = IsInMemoryOrder new ws × KeepsFrame frame old new
+
+    -- whatever as many elements are left behind the slice, the array is rewritten with them; `left` is what it then is
+    abbrev pub LeavesByRank : ArrayBase S D T A P R L M s d n r t → (List A → ArrayBase S D T A P R L M s d n r t) → Type 0
+    LeavesByRank old left = (ws : List A) → length ws ≡ size_of (shape_of old) → IsRewrittenByRank old ws (left ws)
+
+    abbrev pub LeavesInMemoryOrder : ArrayBase S D T A P R L M s d n r t → (List A → ArrayBase S D T A P R L M s d n r t) → Type 0
+    LeavesInMemoryOrder old left = (ws : List A) → length ws ≡ size_of (shape_of old) → IsRewrittenInMemoryOrder old ws (left ws)
+
+module _ (S A D P R L M : RattleType) (s : data_trait.Ghosts S.Denot A.Denot) (d : DimensionMembers D.Denot P.Denot) (n : axis_count.Ghosts D.Denot) (r : stride_list.Ghosts R.Denot) where
+  -- the array ends with the elements that are left behind the slice, from its offset on
+  abbrev pub lends_rows : MutBor (array_row S A D P R L M s d n r).Denot → MutBor (List A.Denot) → Fml
+  lends_rows a x = Lends (array_row S A D P R L M s d n r) (Array A 0) a x (array_with_rows s.with_run a.now)
+
+  -- and from its lowest place on
+  abbrev pub lends_places : MutBor (array_row S A D P R L M s d n r).Denot → MutBor (List A.Denot) → Fml
+  lends_places a x = Lends (array_row S A D P R L M s d n r) (Array A 0) a x (array_with_places s.with_run a.now)

@@ -1,0 +1,12 @@
+//! Calls along one axis.
+
+mod accumulating;
+mod beside;
+mod folding;
+mod lanes;
+pub mod lent;
+mod mapping;
+mod mapping_mut;
+mod removal;
+mod selection;
+pub mod showing;

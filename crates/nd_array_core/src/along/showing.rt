@@ -1,0 +1,54 @@
+//! A lane of an array, as it is shown to a closure.
+
+ghost use Rattle.std.specs.Prelude.{◌≡◌, ◌<◌, ℕ, true, is_some, [], ◌∷◌, List};
+ghost use Rattle.nd_array_core.specs.base.Storages.{shown_by};
+ghost use Rattle.nd_array_core.specs.Collected.{stored_along};
+
+use crate::base::array::{ArrayBase, ArrayView};
+use crate::base::storage::ViewRepr;
+use nd_layout::{Lane, Layout};
+use nd_shape_and_slice::{Dimension, IntoDimension, Ix1};
+
+/// A lane of an array while it is shown to a closure, to be used after `into_view`. It has no bound with ghost members, as
+/// an array has, which a closure's argument can't have.
+#[derive(Drop)]
+pub struct LaneView<'a, A> {
+    pub(crate) storage: ViewRepr<'a, A>,
+    pub(crate) lane: Lane,
+    ghost holds: { (k : ℕ) → k < lane.count → is_some (stored_along (shown_by storage) lane.place lane.stride k) ≡ true },
+}
+
+/// The layout with one axis that has the places of a lane.
+fn layout_of(lane: Lane) -> Layout<Ix1, <Ix1 as Dimension>::Strides>
+    ensures offset { result.offset ≡ lane.place }
+    ensures lengths { ⟦<Ix1 as Dimension>⟧.lengths result.dim ≡ lane.count ∷ [] }
+    ensures strides { result.strides ≡ lane.stride ∷ [] }
+{
+    Layout::strided(lane.place, lane.count.into_dimension(), [lane.stride])
+}
+
+impl<'a, A> LaneView<'a, A> {
+    ghost use Rattle.nd_array_core.specs.Meaning.{meaning_of, shape_of, element_at};
+    ghost use Rattle.nd_array_core.specs.along.AxisMaps.{lane_seen};
+
+    /// The elements of a storage along a lane.
+    pub(crate) fn over(storage: ViewRepr<'a, A>, lane: Lane) -> Self
+        requires { (k : ℕ) → k < lane.count → is_some (stored_along (shown_by storage) lane.place lane.stride k) ≡ true }
+        ensures storage { result.storage ≡ storage.entry }
+        ensures lane { (result.lane.place ≡ lane.place) × (result.lane.count ≡ lane.count) × (result.lane.stride ≡ lane.stride) }
+    {
+        LaneView { storage, lane }
+    }
+
+    /// The lane as a view with one axis.
+    pub fn into_view(self) -> ArrayView<'a, A, Ix1>
+        ensures shape { shape_of result ≡ (lane_seen self.entry).shape }
+        ensures elements { (i : List ℕ) → element_at result i ≡ (lane_seen self.entry).at i }
+        ensures meaning { meaning_of result ≡ lane_seen self.entry }
+    {
+        ArrayBase {
+            storage: self.storage,
+            layout: layout_of(self.lane),
+        }
+    }
+}

@@ -1,8 +1,0 @@
-//! Owned arrays that grow.
-
-mod appending;
-mod joining;
-mod moving;
-mod relaying;
-mod reserving;
-mod tail;

@@ -1,0 +1,10 @@
+//! Owned arrays that grow.
+
+mod appending;
+mod in_turn;
+mod joining;
+mod moving;
+mod pushing;
+mod relaying;
+mod reserving;
+mod tail;

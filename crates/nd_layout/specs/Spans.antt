@@ -1,0 +1,20 @@
+-- What keeps strides from growing: spans that fit, that have no gaps, and elements that stay where they are.
+use Rattle.std.specs.Prelude.{ℕ, ◌≡◌, ◌+◌, ◌<◌, ◌≤◌, true, List, ℤ, Option, MatchOption}
+use Rattle.nd_shape_and_slice.specs.Shape.{in_box, size_of}
+use Rattle.nd_shape_and_slice.specs.Place.{span_of, displacement_of, IsSeparated}
+
+-- the number where it is below a bound, and else nothing
+abbrev pub IsNumberBelow : ℕ → ℕ → Option ℕ → Type 0
+IsNumberBelow bound n answer = MatchOption answer (bound ≤ n) (λ m. (m ≡ n) × (m < bound))
+
+-- the elements reach no further than as many lie side by side
+abbrev pub HasNoGaps : List ℕ → List ℤ → Type 0
+HasNoGaps ns ss = span_of ns ss + 1 ≡ size_of ns
+
+-- by the strides ts each index of the lengths ns lies as far from the first as by the strides ss
+abbrev pub KeepsDisplacements : List ℕ → List ℤ → List ℤ → Type 0
+KeepsDisplacements ns ss ts = (i : List ℕ) → in_box ns i ≡ true → displacement_of ts i ≡ displacement_of ss i
+
+-- where elements of these lengths and strides are kept apart, those of the other lengths and strides are
+abbrev pub KeepsSeparation : List ℕ → List ℤ → List ℕ → List ℤ → Type 0
+KeepsSeparation ns ss ms ts = 0 < size_of ms → IsSeparated ns ss → IsSeparated ms ts

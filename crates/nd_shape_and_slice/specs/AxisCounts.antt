@@ -1,0 +1,10 @@
+-- Dimensions, by how many axes they can have.
+use Rattle.std.specs.Prelude.{◌≡◌, ℕ, nat_le, Bool, true, false, List, length, Option, MatchOption}
+
+-- the dimension can have that many axes, where they are at most 32
+abbrev pub HasAxesIfFew : (ℕ → Bool) → ℕ → Type 0
+HasAxesIfFew has_axes n = nat_le n 32 ≡ true → has_axes n ≡ true
+
+-- the dimension with these lengths, and nothing where it can't have so many axes
+abbrev pub IsDimensionWith : {D : Type 0} → (ℕ → Bool) → (D → List ℕ) → List ℕ → Option D → Type 0
+IsDimensionWith has_axes lengths ns found = MatchOption found (has_axes (length ns) ≡ false) (λ d. lengths d ≡ ns)
