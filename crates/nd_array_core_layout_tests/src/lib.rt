@@ -4,6 +4,8 @@
 #[cfg(test)]
 mod axes;
 #[cfg(test)]
+mod broadcast_reshapes;
+#[cfg(test)]
 mod broadcasts;
 #[cfg(test)]
 mod constructors;
@@ -15,3 +17,5 @@ mod layout_calls;
 mod regrouped;
 #[cfg(test)]
 mod reshapes;
+#[cfg(test)]
+mod standard_layouts;

@@ -2,15 +2,24 @@
 #![tactic(auto, using(std::proofs::lemmas::Bool::Decides::nat_tests))]
 
 ghost use Rattle.std.specs.Prelude.{◌≡◌, ◌+◌, ◌%◌, ◌^◌, ◌<◌, ◌≤◌, ◌∷◌, [], ℕ, List, IfOk, length, slice_index};
-ghost use Rattle.nd_shape_and_slice.specs.Shape.{HasCheckedSize};
-ghost use Rattle.nd_array_core.specs.Meaning.{shape_of, element_at};
+ghost use Rattle.std.specs.List.{fold};
+ghost use Rattle.nd_shape_and_slice.specs.Shape.{size_of, HasCheckedSize};
+ghost use Rattle.nd_shape_and_slice.specs.Maps.{indexed_shape};
+ghost use Rattle.nd_array_core.specs.Meaning.{meaning_of, shape_of, element_at};
+ghost use Rattle.nd_array_core.specs.Joined.{row_major_elements};
 ghost use Rattle.nd_array_core.specs.Coordinates.{element_of_2};
 ghost use Rattle.nd_array_core.specs.along.Selected.{selected_shape, AreCoordinates};
 ghost use Rattle.nd_array_core.specs.along.Accumulated.{AreAccumulatedBy};
 ghost use Rattle.nd_array_core.specs.along.AxisFolds.{AreFoldedBy};
+ghost use Rattle.nd_array_core.specs.along.AxisMaps.{lanes_of, lane_seen};
+ghost use Rattle.nd_array_core.specs.along.LanesWritten.{lane_held, held_at, IsSameLane, AreLeftBy};
+ghost use Rattle.nd_array_core.specs.elements.Maps.{IsMappedBy};
 ghost use Rattle.nd_array_core.specs.elements.Pairs.{option_both};
+ghost use Rattle.nd_array_core_uses.specs.Lanes.{zero_first, first_or_0};
 
-use nd_array_core::{Array, Array2, ArrayBase, Data, DataMut};
+use crate::folded::wrapping_sum;
+use nd_array_core::laws::lanes_are_folded;
+use nd_array_core::{Array, Array1, Array2, ArrayBase, Data, DataMut, LaneMut, LaneView};
 use nd_shape_and_slice::{Axis, Dimension, Ix2, NoMemory, RemoveAxis};
 use std::alloc::Global;
 
@@ -76,4 +85,85 @@ where
 {
     let sums = array.fold_axis(alloc, axis, 0, |sum: &u64, x: &u64| sum.wrapping_add(*x))?;
     Ok(sums)
+}
+
+/// How long each lane of an axis is, without the axis.
+pub fn lengths_along<A, S: Data<Elem = A>, D: RemoveAxis>(
+    alloc: Global,
+    array: &ArrayBase<S, D>,
+    axis: Axis,
+) -> Result<Array<usize, D::Smaller>, NoMemory>
+where
+    D::Smaller: Dimension,
+    requires { axis.0 < length (shape_of array.now) }
+    ensures shape { IfOk result (λ a. shape_of a ≡ indexed_shape (shape_of array.now) axis.0) }
+    ensures lengths { IfOk result (λ a. IsMappedBy (λ lane. size_of lane.shape) (lanes_of (meaning_of array.now) axis.0).at (element_at a)) }
+{
+    let lengths = array.map_axis(alloc, axis, |lane: LaneView<'_, A>| lane.into_view().len())?;
+    Ok(lengths)
+}
+
+/// The sum of a lane, modulo 2 to the 64th.
+fn lane_sum(lane: LaneView<'_, u64>) -> u64
+    ensures { result ≡ fold (λ sum x. (sum + x) % 2 ^ 64) 0 (row_major_elements (lane_seen lane.entry)) }
+{
+    wrapping_sum(&lane.into_view())
+}
+
+/// The sums of the lanes of an axis, modulo 2 to the 64th, each lane summed by itself.
+pub fn sums_of_lanes<S: Data<Elem = u64>, D: RemoveAxis>(
+    alloc: Global,
+    array: &ArrayBase<S, D>,
+    axis: Axis,
+) -> Result<Array<u64, D::Smaller>, NoMemory>
+where
+    D::Smaller: Dimension,
+    requires { axis.0 < length (shape_of array.now) }
+    ensures sums { IfOk result (λ a. IsMappedBy (λ lane. fold (λ sum x. (sum + x) % 2 ^ 64) 0 (row_major_elements lane)) (lanes_of (meaning_of array.now) axis.0).at (element_at a)) }
+{
+    let sums = array.map_axis(alloc, axis, lane_sum)?;
+    Ok(sums)
+}
+
+/// The sums of a table's rows, modulo 2 to the 64th, taken in both ways: they are the same.
+pub fn row_sums_twice<S: Data<Elem = u64>>(
+    alloc: Global,
+    table: &ArrayBase<S, Ix2>,
+) -> Result<(Array1<u64>, Array1<u64>), NoMemory>
+    ensures same { IfOk result (λ both. (i : List ℕ) → element_at both.0 i ≡ element_at both.1 i) }
+{
+    let (_rows, _columns) = table.dim();
+    let shown = sums_of_lanes(alloc, table, Axis(1))?;
+    let folded = sums_along(alloc, table, Axis(1))?;
+    lanes_are_folded::<u64>();
+    Ok((shown, folded))
+}
+
+/// Takes the first element of a lane out, with 0 in its place; 0 of one without elements.
+fn first_out(lane: &mut LaneMut<'_, u64>) -> u64
+    ensures same { IsSameLane lane.old lane.new }
+    ensures left { (k : ℕ) → held_at lane.new k ≡ zero_first (lane_held lane.old) k }
+    ensures first { result ≡ first_or_0 (lane_held lane.old) }
+{
+    if lane.len() > 0 {
+        lane.replace(0, 0)
+    } else {
+        0
+    }
+}
+
+/// Takes the first element of each lane of an axis out, with 0 in its place: an array of them, without the axis.
+pub fn firsts_out<S: DataMut<Elem = u64>, D: RemoveAxis>(
+    alloc: Global,
+    array: &mut ArrayBase<S, D>,
+    axis: Axis,
+) -> Result<Array<u64, D::Smaller>, NoMemory>
+where
+    D::Smaller: Dimension,
+    requires { axis.0 < length (shape_of array.old) }
+    ensures left { IfOk result (λ _. AreLeftBy zero_first (meaning_of array.old) axis.0 (element_at array.new)) }
+    ensures firsts { IfOk result (λ a. IsMappedBy first_or_0 (lanes_of (meaning_of array.old) axis.0).at (element_at a)) }
+{
+    let firsts = array.map_axis_mut(alloc, axis, first_out)?;
+    Ok(firsts)
 }

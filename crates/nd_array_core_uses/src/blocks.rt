@@ -87,26 +87,3 @@ pub fn fill_diagonal_blocks<A: Copy + Drop, S: DataMut<Elem = A>>(
         }
     }
 }
-
-#[cfg(test)]
-mod tests {
-    use super::*;
-    use std::test::Fail;
-
-    // Blocks of 2 by 2 in 5 rows of 3: 9 9 0 / 9 9 0 / 0 0 9 / 0 0 9 / 0 0 0
-    #[test]
-    fn blocks_down_the_diagonal(rt: HostRuntime) -> Result<(), Fail> {
-        let cells = Vec::from_slice(rt.alloc(), &[0; 15])?;
-        let mut matrix: Array2<u64> = Array2::from_shape_vec((5, 3), cells).ok().ok_or("shape")?;
-        fill_diagonal_blocks(&mut matrix, 2, 9);
-        let rows = [[9, 9, 0], [9, 9, 0], [0, 0, 9], [0, 0, 9], [0, 0, 0]];
-        for row in 0..5 {
-            for column in 0..3 {
-                assert_eq!(rt; matrix.get([row, column]).copied(), Some(rows[row][column]));
-            }
-        }
-        fill_diagonal_blocks(&mut matrix, usize::MAX, 7);
-        assert_eq!(rt; matrix.get([4, 2]).copied(), Some(7));
-        Ok(())
-    }
-}

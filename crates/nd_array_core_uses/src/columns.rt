@@ -30,31 +30,3 @@ pub fn paint_every_second_column<A: Clone + Drop, S: DataMut<Elem = A>>(
 {
     grid.fill_slice([ALL, EVERY_SECOND].as_slice(), colour)
 }
-
-#[cfg(test)]
-mod tests {
-    use super::*;
-    use nd_array_core::Array;
-    use std::test::Fail;
-
-    #[test]
-    fn columns_of_a_grid(rt: HostRuntime) -> Result<(), Fail> {
-        let cells = Vec::from_slice(rt.alloc(), &[1u64, 2, 3, 4, 5, 6])?;
-        let mut grid = Array::from_shape_vec(IxDyn::new(&[2, 3]), cells)
-            .ok()
-            .ok_or("shape")?;
-        assert!(rt; grid.ndim() == 2);
-        assert!(rt; paint_every_second_column(&mut grid, 9).is_ok());
-        for (index, wanted) in [
-            ([0, 0], 9),
-            ([0, 1], 2),
-            ([0, 2], 9),
-            ([1, 0], 9),
-            ([1, 1], 5),
-            ([1, 2], 9),
-        ] {
-            assert_eq!(rt; grid.get(index.as_slice()).copied(), Some(wanted));
-        }
-        Ok(())
-    }
-}

@@ -63,32 +63,3 @@ pub fn equal_either_way<S: Data<Elem = u64>>(
 {
     pixels_equal(one, other) == (*one == *other)
 }
-
-#[cfg(test)]
-mod tests {
-    use super::*;
-    use nd_array_core::Array2;
-    use nd_shape_and_slice::ShapeBuilder;
-    use std::test::Fail;
-
-    // 1 2 / 3 4 beside other images, by lengths, strides and what is stored
-    #[test]
-    fn images_compared(rt: HostRuntime) -> Result<(), Fail> {
-        let items = Vec::from_slice(rt.alloc(), &[1, 2, 3, 4])?;
-        let image: Array2<u64> = Array2::from_shape_vec((2, 2), items).ok().ok_or("shape")?;
-        for (lengths, strides, stored, wanted) in [
-            ((2, 2), [1, 2], [1, 3, 2, 4], true),
-            ((2, 2), [2, 1], [1, 2, 3, 5], false),
-            ((2, 2), [2, 1], [0, 2, 3, 4], false),
-            ((1, 2), [2, 1], [1, 2, 3, 4], false),
-            ((2, 1), [2, 1], [1, 2, 3, 4], false),
-        ] {
-            let items = Vec::from_slice(rt.alloc(), &stored)?;
-            let shape = lengths.strides(&strides);
-            let other: Array2<u64> = Array2::from_shape_vec(shape, items).ok().ok_or("shape")?;
-            assert_eq!(rt; pixels_equal(&image, &other), wanted);
-            assert!(rt; equal_either_way(&image, &other));
-        }
-        Ok(())
-    }
-}

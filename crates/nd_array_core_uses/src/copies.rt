@@ -33,22 +33,3 @@ pub fn transposed_copy_is_equal<A: Clone + Eq + Drop, S: Data<Elem = A>>(
     let copy = transposed_copy(alloc, matrix)?;
     Ok(copy.view() == matrix.t())
 }
-
-#[cfg(test)]
-mod tests {
-    use super::*;
-    use nd_array_core::ArrayView2;
-    use std::test::Fail;
-
-    #[test]
-    fn copies_of_a_transpose(rt: HostRuntime) -> Result<(), Fail> {
-        let rows: &[[u64; 3]] = &[[1, 2, 3], [4, 5, 6]];
-        let matrix = ArrayView2::from(rows);
-        let copy = transposed_copy(rt.alloc(), &matrix)?;
-        assert_eq!(rt; copy.shape(), [3, 2].as_slice());
-        assert_eq!(rt; copy.get([2, 0]).copied(), Some(3));
-        assert_eq!(rt; copy.get([0, 1]).copied(), Some(4));
-        assert!(rt; transposed_copy_is_equal(rt.alloc(), &matrix)?);
-        Ok(())
-    }
-}

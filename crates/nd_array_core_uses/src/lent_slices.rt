@@ -33,25 +33,3 @@ pub fn fill_front<A: Clone + Drop>(
 {
     fill_seen(slice, count, value)
 }
-
-#[cfg(test)]
-mod tests {
-    use super::*;
-    use nd_shape_and_slice::ShapeBuilder;
-
-    #[test]
-    fn the_front_of_a_slice(rt: HostRuntime) {
-        let mut items = [1, 2, 3, 4];
-        assert!(rt; matches!(fill_front(&mut items, 3, 7), Ok(Ok(()))));
-        assert_eq!(rt; items, [7, 7, 7, 4]);
-        assert!(rt; fill_front(&mut items, 5, 9).is_err());
-        assert_eq!(rt; items, [7, 7, 7, 4]);
-    }
-
-    #[test]
-    fn every_second_element(rt: HostRuntime) {
-        let mut items = [1, 2, 3, 4, 5, 6];
-        assert!(rt; matches!(fill_seen(&mut items, 3.strides(&[2]), 0), Ok(Ok(()))));
-        assert_eq!(rt; items, [0, 2, 0, 4, 0, 6]);
-    }
-}

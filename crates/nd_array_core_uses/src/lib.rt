@@ -20,52 +20,126 @@ mod lent_slices;
 mod lent_views;
 mod made;
 pub mod mapped;
+mod moved;
 pub mod paired;
 mod parts_written;
 mod pixels;
 mod rebuilt;
 pub mod regrouped;
 mod reshaped;
+pub mod rooms;
+pub mod slices_written;
 mod strides;
+pub mod tables;
 mod two_calls;
 mod two_parts;
 mod writes;
 
-pub use along::{rows_chosen, take_row_out};
-pub use blocks::{fill_diagonal_blocks, fill_every_second_column, fill_rectangle, fill_two_blocks};
-pub use border::{draw_border, fill_column, fill_row};
+pub use along::lengths_along;
+pub use along::row_sums_twice;
+pub use along::rows_chosen;
+pub use along::running_sums;
+pub use along::sums_along;
+pub use along::sums_down;
+pub use along::sums_of_lanes;
+pub use along::take_row_out;
+pub use blocks::fill_diagonal_blocks;
+pub use blocks::fill_every_second_column;
+pub use blocks::fill_rectangle;
+pub use blocks::fill_two_blocks;
+pub use border::draw_border;
+pub use border::fill_column;
+pub use border::fill_row;
 pub use broadcasts::table_of;
 pub use columns::paint_every_second_column;
-pub use compared::{equal_either_way, pixels_equal};
-pub use coordinates::{
-    begin_alike, channel, column_seen, corner, crop, crop_by_axes, every_second_row, in_row,
-    neighbourhood, part_of_transposed_row, second_column, transpose_then_row, turn_half,
-    turned_twice,
-};
-pub use copies::{transposed_copy, transposed_copy_is_equal};
-pub use folded::{double_all, largest, wrapping_sum};
-pub use interleaved::{fill_slices, interleave_rows, try_fill_slices};
-pub use lent_slices::{fill_front, fill_seen};
-pub use lent_views::{fill_again, fill_part, fill_view, paint_owned_columns, set_diagonal};
-pub use made::{identity, numbered_table, zero_grid};
-use nd_array_core::{Array, ArrayBase, ArrayView, Data};
-use nd_shape_and_slice::{Axis, Dimension, Ix2, ShapeError, Slice, slice_fits};
-pub use parts_written::{
-    fill_column_of_numbers, fill_column_of_view, fill_diagonal, fill_inner, fill_line_at,
-    fill_named, fill_one_of_part, fill_row_of_owned, swap_in_row, swap_numbers_in_row,
-    write_in_part,
-};
-pub use pixels::{checkerboard, checkerboard_of_references, row_sum, swap_rows};
-pub use rebuilt::{push_rows_reversed, rows_reversed, rows_reversed_twice};
-pub use reshaped::{pixels_of, row_major_slice, run_or};
-pub use strides::{row_repeated, turned_at_the_least_stride};
-pub use two_calls::{
-    column_of, column_of_numbers, column_of_owned, fill_then_get, fill_then_get_number, flip_both,
-    flip_both_owned, flip_numbers, swap_in_column, swap_in_column_owned, swap_numbers_in_column,
-    transposed_row, transposed_row_of_numbers, transposed_row_owned,
-};
+pub use compared::equal_either_way;
+pub use compared::pixels_equal;
+pub use coordinates::begin_alike;
+pub use coordinates::channel;
+pub use coordinates::column_seen;
+pub use coordinates::corner;
+pub use coordinates::crop;
+pub use coordinates::crop_by_axes;
+pub use coordinates::every_second_row;
+pub use coordinates::in_row;
+pub use coordinates::neighbourhood;
+pub use coordinates::part_of_transposed_row;
+pub use coordinates::second_column;
+pub use coordinates::transpose_then_row;
+pub use coordinates::turn_half;
+pub use coordinates::turned_twice;
+pub use copies::transposed_copy;
+pub use copies::transposed_copy_is_equal;
+pub use folded::double_all;
+pub use folded::largest;
+pub use folded::wrapping_sum;
+pub use interleaved::fill_slices;
+pub use interleaved::interleave_rows;
+pub use interleaved::try_fill_slices;
+pub use lent_slices::fill_front;
+pub use lent_slices::fill_seen;
+pub use lent_views::fill_again;
+pub use lent_views::fill_part;
+pub use lent_views::fill_view;
+pub use lent_views::paint_owned_columns;
+pub use lent_views::set_diagonal;
+pub use made::identity;
+pub use made::numbered_table;
+pub use made::zero_grid;
+pub use moved::move_transposed;
+use nd_array_core::Array;
+use nd_array_core::ArrayBase;
+use nd_array_core::ArrayView;
+use nd_array_core::Data;
+use nd_shape_and_slice::Axis;
+use nd_shape_and_slice::Dimension;
+use nd_shape_and_slice::Ix2;
+use nd_shape_and_slice::ShapeError;
+use nd_shape_and_slice::Slice;
+use nd_shape_and_slice::slice_fits;
+pub use parts_written::fill_column_of_numbers;
+pub use parts_written::fill_column_of_view;
+pub use parts_written::fill_diagonal;
+pub use parts_written::fill_inner;
+pub use parts_written::fill_line_at;
+pub use parts_written::fill_named;
+pub use parts_written::fill_one_of_part;
+pub use parts_written::fill_row_of_owned;
+pub use parts_written::swap_in_row;
+pub use parts_written::swap_numbers_in_row;
+pub use parts_written::write_in_part;
+pub use pixels::checkerboard;
+pub use pixels::checkerboard_of_references;
+pub use pixels::row_sum;
+pub use pixels::swap_rows;
+pub use rebuilt::push_rows_reversed;
+pub use rebuilt::rows_reversed;
+pub use rebuilt::rows_reversed_twice;
+pub use reshaped::pixels_of;
+pub use reshaped::row_major_slice;
+pub use reshaped::run_or;
+pub use strides::row_repeated;
+pub use strides::turned_at_the_least_stride;
+pub use two_calls::column_of;
+pub use two_calls::column_of_numbers;
+pub use two_calls::column_of_owned;
+pub use two_calls::fill_then_get;
+pub use two_calls::fill_then_get_number;
+pub use two_calls::flip_both;
+pub use two_calls::flip_both_owned;
+pub use two_calls::flip_numbers;
+pub use two_calls::swap_in_column;
+pub use two_calls::swap_in_column_owned;
+pub use two_calls::swap_numbers_in_column;
+pub use two_calls::transposed_row;
+pub use two_calls::transposed_row_of_numbers;
+pub use two_calls::transposed_row_owned;
 pub use two_parts::fill_halves;
-pub use writes::{put, put_owned, put_seen, try_put, try_put_first};
+pub use writes::put;
+pub use writes::put_owned;
+pub use writes::put_seen;
+pub use writes::try_put;
+pub use writes::try_put_first;
 
 /// The part of an axis that a slice names; None where there is no such axis or the slice doesn't fit it.
 pub fn try_slice_axis<'a, S: Data, D: Dimension>(
@@ -94,64 +168,4 @@ pub fn turned_table<A: Drop>(
 {
     let by_rows = Array::from_shape_vec((rows, columns), cells)?;
     Ok(by_rows.permuted_axes((1, 0)))
-}
-
-#[cfg(test)]
-mod tests {
-    use super::*;
-    use nd_array_core::ArrayView1;
-    use std::test::Fail;
-
-    #[test]
-    fn a_turned_table(rt: HostRuntime) -> Result<(), Fail> {
-        let cells = Vec::from_slice(rt.alloc(), &[1, 2, 3, 4, 5, 6])?;
-        let table: Array<u64, Ix2> = turned_table(2, 3, cells).ok().ok_or("shape")?;
-        assert_eq!(rt; table.get([2, 0]).copied(), Some(3));
-        let part = try_slice_axis(&table, Axis(0), Slice::new(-2, None, -1)).ok_or("slice")?;
-        assert_eq!(rt; part.get([0, 1]).copied(), Some(6));
-        assert_eq!(rt; part.get([1, 1]).copied(), Some(5));
-        Ok(())
-    }
-
-    // A cell of the table of one element, where there is such a table.
-    fn cell_of(
-        one: &ArrayView1<'_, u64>,
-        rows: usize,
-        columns: usize,
-        cell: [usize; 2],
-    ) -> Option<u64>
-        requires { shape_of one.now ≡ 1 ∷ [] }
-    {
-        match table_of(one, rows, columns) {
-            Some(table) => table.get(cell).copied(),
-            None => None,
-        }
-    }
-
-    #[test]
-    fn one_element_as_a_table(rt: HostRuntime) -> Result<(), Fail> {
-        let items = [5];
-        match turned_at_the_least_stride(&items) {
-            Ok(one) => {
-                assert_eq!(rt; one.strides(), [0].as_slice());
-                assert_eq!(rt; cell_of(&one, 2, 3, [1, 2]), Some(5));
-                assert_eq!(rt; cell_of(&one, 1 << 40, 1 << 40, [0, 0]), None);
-                Ok(())
-            }
-            Err(_) => Err("shape".into()),
-        }
-    }
-
-    #[test]
-    fn a_row_repeated(rt: HostRuntime) -> Result<(), Fail> {
-        let items = [1, 2, 3];
-        match row_repeated(2, &items) {
-            Ok(table) => {
-                assert_eq!(rt; table.get([0, 1]).copied(), Some(2));
-                assert_eq!(rt; table.get([1, 1]).copied(), Some(2));
-                Ok(())
-            }
-            Err(_) => Err("shape".into()),
-        }
-    }
 }

@@ -1,7 +1,7 @@
 //! New arrays of what a closure answers for each element, and elements exchanged for it.
 #![tactic(auto)]
 
-ghost use Rattle.std.specs.Prelude.{◌≡◌, ◌+◌, ◌*◌, ◌%◌, ◌^◌, ◌<◌, ℕ, nat_lt, List, IfOk, OnOk, OnErr, if◌then◌else◌};
+ghost use Rattle.std.specs.Prelude.{◌≡◌, ◌+◌, ◌*◌, ◌/◌, ◌%◌, ◌^◌, ◌<◌, ℕ, nat_lt, List, IfOk, OnOk, OnErr, if◌then◌else◌};
 ghost use Rattle.std.specs.Option.{option_map};
 ghost use Rattle.nd_array_core.specs.Coordinates.{element_of_2};
 ghost use Rattle.nd_array_core.specs.Meaning.{shape_of, element_at};
@@ -70,30 +70,26 @@ pub fn doubled_itself<D: Dimension>(array: Array<u64, D>) -> Result<Array<u64, D
     Ok(doubled)
 }
 
+/// Halves every element, and answers the rests.
+pub fn halve_all<S: DataMut<Elem = u64>, D: Dimension>(
+    alloc: Global,
+    array: &mut ArrayBase<S, D>,
+) -> Result<Array<u64, D>, NoMemory>
+    ensures halves { OnOk result ((i : List ℕ) → element_at array.new i ≡ option_map (λ x. x / 2) (element_at array.old i)) }
+    ensures rests { IfOk result (λ a. (i : List ℕ) → element_at a i ≡ option_map (λ x. x % 2) (element_at array.old i)) }
+    ensures kept { OnErr result ((i : List ℕ) → element_at array.new i ≡ element_at array.old i) }
+{
+    let rests = array.map_mut(alloc, |x| {
+        let old = *x;
+        *x = old / 2;
+        old % 2
+    })?;
+    Ok(rests)
+}
+
 /// Shows every element to a function that may always be called.
 pub fn show_all<A, S: Data<Elem = A>, D: Dimension, F: FnMut(&A)>(array: &ArrayBase<S, D>, f: F)
     requires { (state : F) (x : _) → F.pre state x }
 {
     array.for_each(f);
-}
-
-#[cfg(test)]
-mod tests {
-    use super::*;
-    use nd_array_core::Array2;
-    use std::test::Fail;
-
-    #[test]
-    fn a_threshold(rt: HostRuntime) -> Result<(), Fail> {
-        let cells = Vec::from_slice(rt.alloc(), &[10, 20, 30, 30, 20, 10])?;
-        let image: Array2<u8> = Array::from_shape_vec((2, 3), cells).ok().ok_or("shape")?;
-        let turned = image.reversed_axes();
-        let seen = thresholded(rt.alloc(), &turned, 20).ok().ok_or("memory")?;
-        assert_eq!(rt; seen.shape(), [3, 2].as_slice());
-        assert_eq!(rt; seen.get([0, 0]).copied(), Some(0));
-        assert_eq!(rt; seen.get([1, 0]).copied(), Some(255));
-        assert_eq!(rt; seen.get([0, 1]).copied(), Some(255));
-        assert_eq!(rt; seen.get([2, 1]).copied(), Some(0));
-        Ok(())
-    }
 }

@@ -69,23 +69,3 @@ pub fn row_sum<S: Data<Elem = u64>>(image: &ArrayBase<S, Ix2>, row: usize) -> u6
     }
     total
 }
-
-#[cfg(test)]
-mod tests {
-    use super::*;
-    use nd_array_core::Array2;
-    use std::test::Fail;
-
-    #[test]
-    fn pixels_of_an_image(rt: HostRuntime) -> Result<(), Fail> {
-        let cells = Vec::from_slice(rt.alloc(), &[0; 6])?;
-        let mut image: Array2<u8> = Array2::from_shape_vec((2, 3), cells).ok().ok_or("shape")?;
-        checkerboard(&mut image, 4, 7);
-        assert_eq!(rt; image.get([1, 0]).copied(), Some(7));
-        assert_eq!(rt; image.get([1, 1]).copied(), Some(4));
-        checkerboard_of_references(&mut image);
-        assert_eq!(rt; image.get([0, 1]).copied(), Some(1));
-        assert_eq!(rt; image.get([0, 2]).copied(), Some(0));
-        Ok(())
-    }
-}

@@ -55,25 +55,3 @@ pub fn push_rows_reversed<A: Copy + Drop, S: Data<Elem = A>>(
         Err(_) => unreachable!(),
     }
 }
-
-#[cfg(test)]
-mod tests {
-    use super::*;
-    use std::test::Fail;
-
-    // 1 2 3 / 4 5 6
-    #[test]
-    fn rows_of_a_matrix(rt: HostRuntime) -> Result<(), Fail> {
-        let cells = Vec::from_slice(rt.alloc(), &[1, 2, 3, 4, 5, 6])?;
-        let matrix: Array2<u64> = Array2::from_shape_vec((2, 3), cells).ok().ok_or("shape")?;
-        let reversed = rows_reversed(rt.alloc(), &matrix)?;
-        assert_eq!(rt; reversed.get([0, 1]).copied(), Some(5));
-        assert_eq!(rt; reversed.get([1, 2]).copied(), Some(3));
-        let pushed = push_rows_reversed(rt.alloc(), &matrix)?;
-        assert_eq!(rt; pushed.get([0, 1]).copied(), Some(5));
-        let again = rows_reversed_twice(rt.alloc(), &matrix)?;
-        assert_eq!(rt; again.get([0, 1]).copied(), Some(2));
-        assert_eq!(rt; again.get([1, 2]).copied(), Some(6));
-        Ok(())
-    }
-}

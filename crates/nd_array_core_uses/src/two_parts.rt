@@ -84,26 +84,3 @@ pub fn fill_halves<A: Clone + Drop, S: DataMut<Elem = A>, D: Dimension>(
         },
     )
 }
-
-#[cfg(test)]
-mod tests {
-    use super::*;
-    use nd_array_core::Array;
-    use nd_shape_and_slice::Ix2;
-    use std::test::Fail;
-
-    #[test]
-    fn two_fills_of_a_grid(rt: HostRuntime) -> Result<(), Fail> {
-        let cells = Vec::from_slice(rt.alloc(), &[1u64, 2, 3, 4, 5, 6, 7, 8])?;
-        let mut grid: Array<u64, Ix2> = Array::from_shape_vec((2, 4), cells).ok().ok_or("shape")?;
-        assert!(rt; grid.ndim() == 2 && grid.len_of(Axis(1)) == 4);
-        assert!(rt; fill_halves(&mut grid, Axis(1), 1, 0, 9).is_ok());
-        for row in 0..2 {
-            assert_eq!(rt; grid.get([row, 0]).copied(), Some(0));
-            for column in 1..4 {
-                assert_eq!(rt; grid.get([row, column]).copied(), Some(9));
-            }
-        }
-        Ok(())
-    }
-}

@@ -2,11 +2,7 @@
 #![tactic(auto)]
 
 #[cfg(test)]
-mod along;
-#[cfg(test)]
 mod answers;
-#[cfg(test)]
-mod appends;
 #[cfg(test)]
 mod copies;
 #[cfg(test)]
@@ -18,23 +14,17 @@ mod fill;
 #[cfg(test)]
 mod fresh;
 #[cfg(test)]
-mod growth;
-#[cfg(test)]
 mod lent_slices;
-#[cfg(test)]
-mod mapped;
 #[cfg(test)]
 mod owned;
 #[cfg(test)]
-mod pairs;
-#[cfg(test)]
 mod refused_clones;
-#[cfg(test)]
-mod refused_memory;
 #[cfg(test)]
 mod scoped_calls;
 #[cfg(test)]
 mod several_slices;
+#[cfg(test)]
+mod slices_to_write;
 #[cfg(test)]
 mod sparing;
 #[cfg(test)]

@@ -1,8 +1,8 @@
 //! Calls whose requests for memory `refused_memory.sh` refuses in turn. With none refused a test sees the right answer and
 //! passes; where a call answers want of memory, and all is as it must be, the test ends in an error that names the call.
 
-use nd_array_core::{Array, Array1, Array2, ArrayView1, ArrayView2};
-use nd_shape_and_slice::{Ix2, NoMemory};
+use nd_array_core::{Array, Array1, Array2, ArrayView1, ArrayView2, LaneView};
+use nd_shape_and_slice::{Axis, Ix2, NoMemory};
 use nd_test_arrays::{Refusing, Tally, array_of};
 use std::alloc::Global;
 use std::test::Fail;
@@ -111,5 +111,51 @@ fn copied_numbers(rt: HostRuntime) -> Result<(), Fail> {
         return refused("refused: clone_from", &tally, 6);
     }
     assert_eq!(rt; (array.dim(), last, tally.living()), ((2, 2), 4, Some(8)));
+    Ok(())
+}
+
+/// The end of a test whose call lacked memory: an error that names the call, if its function wasn't called.
+fn uncalled(call: &'static str, calls: u64) -> Result<(), Fail> {
+    if calls == 0 {
+        Err(call.into())
+    } else {
+        Err("the function was called".into())
+    }
+}
+
+#[test]
+fn functions_not_called(rt: HostRuntime) -> Result<(), Fail> {
+    let items = Vec::from_slice(rt.alloc(), &[1, 2, 3, 4])?;
+    let mut image: Array2<u64> = array_of((2, 2), items)?;
+    let mut calls = 0u64;
+    let sums = image.fold_axis(rt.alloc(), Axis(0), 0, |sum: &u64, x: &u64| {
+        calls = calls.wrapping_add(1);
+        sum.wrapping_add(*x)
+    });
+    match sums {
+        Ok(sums) => assert_eq!(rt; (sums.get(1).copied(), calls), (Some(6), 4)),
+        Err(_) => return uncalled("refused: fold_axis", calls),
+    }
+    let mut calls = 0u64;
+    let lengths = image.map_axis(rt.alloc(), Axis(0), |lane: LaneView<'_, u64>| {
+        calls = calls.wrapping_add(1);
+        lane.into_view().len()
+    });
+    match lengths {
+        Ok(lengths) => assert_eq!(rt; (lengths.get(1).copied(), calls), (Some(2), 2)),
+        Err(_) => return uncalled("refused: map_axis", calls),
+    }
+    let mut calls = 0u64;
+    let before = image.map_mut(rt.alloc(), |x| {
+        calls = calls.wrapping_add(1);
+        let old = *x;
+        *x = 9;
+        old
+    });
+    match before {
+        Ok(before) => assert_eq!(rt; (before.get([1, 1]).copied(), calls), (Some(4), 4)),
+        Err(_) => return uncalled("refused: map_mut", calls),
+    }
+    assert_eq!(rt; image.get([1, 1]).copied(), Some(9));
     Ok(())
 }

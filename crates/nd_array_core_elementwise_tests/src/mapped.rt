@@ -1,7 +1,7 @@
-//! Closures that are handed each element: what they answer stands at its index, whatever the layout, and each is called
-//! once an element.
+//! Closures that are handed each element: what they answer stands at its index, and what they leave where it was, whatever the
+//! layout, and each is called once an element.
 
-use nd_array_core::{Array2, ArrayBase, Data};
+use nd_array_core::{Array2, ArrayBase, Data, DataMut};
 use nd_shape_and_slice::{Axis, Ix2, ShapeBuilder, Slice};
 use nd_test_arrays::{array_of, numbers, rows_listed};
 use std::alloc::Global;
@@ -38,6 +38,28 @@ fn mapped<S: Data<Elem = u64>>(alloc: Global, image: &ArrayBase<S, Ix2>) -> Resu
     seen.push(others)?;
     seen.push(sum)?;
     Ok(seen)
+}
+
+/// Doubles each element by `map_mut`: what they were, row by row, and behind them how often the function was called.
+fn doubled<S: DataMut<Elem = u64>>(
+    alloc: Global,
+    image: &mut ArrayBase<S, Ix2>,
+) -> Result<Vec<u64>, Fail> {
+    let mut calls = 0u64;
+    let before = image.map_mut(alloc, |x| {
+        calls = calls.wrapping_add(1);
+        let old = *x;
+        *x = old.wrapping_mul(2);
+        old
+    });
+    match before {
+        Ok(before) => {
+            let mut seen = rows_listed(alloc, &before)?;
+            seen.push(calls)?;
+            Ok(seen)
+        }
+        Err(_) => Err("memory".into()),
+    }
 }
 
 #[test]
@@ -141,4 +163,42 @@ fn in_place(rt: HostRuntime) -> Result<(), Fail> {
         }
         Err(_) => Err("memory".into()),
     }
+}
+
+#[test]
+fn handed_out_in_row_major_order(rt: HostRuntime) -> Result<(), Fail> {
+    let alloc = rt.alloc();
+    let mut image: Array2<u64> = array_of((2, 2), numbers(alloc, 1, 4)?)?;
+    let before = doubled(alloc, &mut image)?;
+    assert_eq!(rt; before.as_slice(), [1, 2, 3, 4, 4].as_slice());
+    assert_eq!(rt; image.into_raw_vec().as_slice(), [2, 4, 6, 8].as_slice());
+    Ok(())
+}
+
+#[test]
+fn handed_out_in_column_major_order(rt: HostRuntime) -> Result<(), Fail> {
+    let alloc = rt.alloc();
+    let mut image: Array2<u64> = array_of((2, 2).f(), numbers(alloc, 1, 4)?)?;
+    let before = doubled(alloc, &mut image)?;
+    assert_eq!(rt; before.as_slice(), [1, 3, 2, 4, 4].as_slice());
+    assert_eq!(rt; image.into_raw_vec().as_slice(), [2, 4, 6, 8].as_slice());
+    Ok(())
+}
+
+#[test]
+fn handed_out_with_steps_between(rt: HostRuntime) -> Result<(), Fail> {
+    let alloc = rt.alloc();
+    let mut image: Array2<u64> = array_of((3, 4), numbers(alloc, 1, 12)?)?;
+    {
+        let mut rows = image.slice_axis_mut(Axis(0), Slice::new(0, None, -2));
+        let mut part = rows.slice_axis_mut(Axis(1), Slice::new(0, None, 2));
+        let before = doubled(alloc, &mut part)?;
+        assert_eq!(rt; before.as_slice(), [9, 11, 1, 3, 4].as_slice());
+    }
+    let seen = rows_listed(alloc, &image)?;
+    assert_eq!(rt;
+        seen.as_slice(),
+        [2, 2, 6, 4, 5, 6, 7, 8, 18, 10, 22, 12].as_slice()
+    );
+    Ok(())
 }

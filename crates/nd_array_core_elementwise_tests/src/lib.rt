@@ -1,0 +1,13 @@
+//! Tests of `nd_array_core` by its public calls: closures over all elements, two arrays side by side, and calls along an axis.
+#![tactic(auto)]
+
+#[cfg(test)]
+mod along;
+#[cfg(test)]
+mod lanes;
+#[cfg(test)]
+mod mapped;
+#[cfg(test)]
+mod moves;
+#[cfg(test)]
+mod pairs;

@@ -1,0 +1,9 @@
+//! Tests of `nd_array_core` by its public calls: small examples as ndarray's documentation has them, one or two for a call.
+#![tactic(auto)]
+
+#[cfg(test)]
+mod parts;
+#[cfg(test)]
+mod questions;
+#[cfg(test)]
+mod totals;

@@ -1,0 +1,209 @@
+//! Reshapes of numbers whose clones are refused: a view and a kept storage clone nothing, and a copy wants each clone.
+
+ghost use Rattle.std.specs.Prelude.{◌≡◌};
+
+use nd_array_core::{Array1, Array2, ArrayBase, ArrayError, Data, ViewOrOwned};
+use nd_shape_and_slice::{Axis, Dimension, NoMemory, Order, ShapeArg, Slice, slice_fits};
+use nd_test_arrays::{Numbered, Refusing, Tally, array_of, rows_listed};
+use std::alloc::Global;
+use std::test::Fail;
+
+// How a reshape ended.
+fn end_of<A: Drop, D: Dimension>(
+    outcome: &Result<ViewOrOwned<'_, A, D>, ArrayError>,
+) -> &'static str {
+    match outcome {
+        Ok(answer) => { if answer.is_view() { "view" } else { "owned" } }
+        Err(ArrayError::NoMemory) => "no memory",
+        Err(_) => "no shape",
+    }
+}
+
+// The same where no shape is asked for.
+fn line_end<A: Drop, D: Dimension>(
+    outcome: &Result<ViewOrOwned<'_, A, D>, NoMemory>,
+) -> &'static str {
+    match outcome {
+        Ok(answer) => { if answer.is_view() { "view" } else { "owned" } }
+        Err(_) => "no memory",
+    }
+}
+
+fn end_of_shape<A: Numbered + Clone + Drop, S: Data<Elem = A>, D: Dimension, E: ShapeArg>(
+    alloc: Global,
+    array: &ArrayBase<S, D>,
+    shape: E,
+) -> &'static str
+    requires { (x y : A) → A.is_clone x y → y ≡ x }
+{
+    end_of(&array.to_shape(alloc, shape))
+}
+
+// The first two columns of an image under another shape.
+fn two_columns<A: Numbered + Clone + Drop, E: ShapeArg + Drop>(
+    alloc: Global,
+    image: &Array2<A>,
+    shape: E,
+) -> &'static str
+    requires { (x y : A) → A.is_clone x y → y ≡ x }
+{
+    let (_rows, columns) = image.dim();
+    let two = Slice::new(0, Some(2), 1);
+    if slice_fits(columns, two) {
+        end_of_shape(alloc, &image.slice_axis(Axis(1), two), shape)
+    } else {
+        "no columns"
+    }
+}
+
+// An image's elements under another shape, in one of seven ways.
+fn end_of_way<A: Numbered + Clone + Drop>(
+    alloc: Global,
+    image: &Array2<A>,
+    way: u64,
+) -> &'static str
+    requires { (x y : A) → A.is_clone x y → y ≡ x }
+{
+    match way {
+        0 => two_columns(alloc, image, 4),
+        1 => two_columns(alloc, image, (2, 1, 2)),
+        2 => end_of_shape(alloc, &image.t(), (6, Order::ColumnMajor)),
+        3 => end_of_shape(alloc, &image.t(), 6),
+        4 => line_end(&image.flatten(alloc)),
+        5 => line_end(&image.flatten_with_order(alloc, Order::ColumnMajor)),
+        6 => line_end(&image.as_standard_layout(alloc)),
+        _ => line_end(&image.t().as_standard_layout(alloc)),
+    }
+}
+
+#[test]
+fn views_clone_nothing(rt: HostRuntime) -> Result<(), Fail> {
+    for (way, wanted, copied, clones) in [
+        (0, "no memory", "owned", 4),
+        (1, "view", "view", 0),
+        (2, "view", "view", 0),
+        (3, "no memory", "owned", 6),
+        (4, "view", "view", 0),
+        (5, "no memory", "owned", 6),
+        (6, "view", "view", 0),
+        (7, "no memory", "owned", 6),
+    ] {
+        let tally = Tally::allowing(0);
+        {
+            let items = Refusing::listed(rt.alloc(), &[1, 2, 3, 4, 5, 6], &tally)?;
+            let image: Array2<Refusing<'_>> = array_of((2, 3), items)?;
+            assert_eq!(rt; end_of_way(rt.alloc(), &image, way), wanted, "way {way}");
+            assert_eq!(rt; tally.living(), Some(6), "way {way}");
+        }
+        let tally = Tally::allowing(clones);
+        {
+            let items = Refusing::listed(rt.alloc(), &[1, 2, 3, 4, 5, 6], &tally)?;
+            let image: Array2<Refusing<'_>> = array_of((2, 3), items)?;
+            assert_eq!(rt; end_of_way(rt.alloc(), &image, way), copied, "way {way}");
+            assert_eq!(rt; (tally.left(), tally.living()), (0, Some(6)), "way {way}");
+        }
+        assert_eq!(rt; tally.living(), Some(0), "way {way}");
+    }
+    Ok(())
+}
+
+// A line of numbers, repeated by row, in a line again; and a line that goes backwards as a square.
+fn end_of_line<A: Numbered + Clone + Drop>(
+    alloc: Global,
+    line: &mut Array1<A>,
+    rows: usize,
+) -> &'static str
+    requires { (x y : A) → A.is_clone x y → y ≡ x }
+{
+    let count = line.dim();
+    if rows == 0 {
+        line.invert_axis(Axis(0));
+        return end_of_shape(alloc, line, (2, 2));
+    }
+    match line.broadcast((rows, count)) {
+        Some(view) => end_of_shape(alloc, &view, 6),
+        None => "none",
+    }
+}
+
+#[test]
+fn lines_repeated_or_turned_round(rt: HostRuntime) -> Result<(), Fail> {
+    for (numbers, rows, wanted) in [
+        ([5].as_slice(), 6, "view"),
+        ([1, 2].as_slice(), 3, "no memory"),
+        ([1, 2, 3, 4].as_slice(), 0, "view"),
+    ] {
+        let tally = Tally::allowing(0);
+        {
+            let items = Refusing::listed(rt.alloc(), numbers, &tally)?;
+            let mut line: Array1<Refusing<'_>> = array_of(numbers.len(), items)?;
+            assert_eq!(rt;
+                end_of_line(rt.alloc(), &mut line, rows),
+                wanted,
+                "{rows} rows"
+            );
+        }
+        assert_eq!(rt; tally.living(), Some(0), "{rows} rows");
+    }
+    Ok(())
+}
+
+#[test]
+fn a_line_that_goes_backwards_is_kept(rt: HostRuntime) -> Result<(), Fail> {
+    let tally = Tally::allowing(0);
+    {
+        let items = Refusing::listed(rt.alloc(), &[1, 2, 3, 4], &tally)?;
+        let mut line: Array1<Refusing<'_>> = array_of(4, items)?;
+        let _count = line.dim();
+        line.invert_axis(Axis(0));
+        match line.into_shape_clone(rt.alloc(), (2, 2)) {
+            Ok(square) => {
+                assert_eq!(rt; tally.living(), Some(4));
+                let numbers = rows_listed(rt.alloc(), &square)?;
+                assert_eq!(rt; numbers.as_slice(), [4, 3, 2, 1].as_slice());
+            }
+            Err(_) => return Err("refused".into()),
+        }
+    }
+    assert_eq!(rt; tally.living(), Some(0));
+    Ok(())
+}
+
+#[test]
+fn a_refused_reshape_drops_its_array(rt: HostRuntime) -> Result<(), Fail> {
+    for allowed in 0..=4u64 {
+        let tally = Tally::allowing(allowed);
+        let items = Refusing::listed(rt.alloc(), &[1, 2, 3, 4], &tally)?;
+        let square: Array2<Refusing<'_>> = array_of((2, 2), items)?;
+        match square.reversed_axes().into_flat(rt.alloc()) {
+            Ok(flat) => {
+                assert_eq!(rt; (allowed, tally.living()), (4, Some(4)));
+                assert_eq!(rt; flat.get(1).ok_or("outside")?.number, 3);
+            }
+            Err(_) => assert!(rt; allowed < 4),
+        }
+        assert_eq!(rt;
+            (tally.left(), tally.living()),
+            (0, Some(0)),
+            "{allowed} clones"
+        );
+    }
+    Ok(())
+}
+
+#[test]
+fn a_shape_of_another_size_is_found_first(rt: HostRuntime) -> Result<(), Fail> {
+    let tally = Tally::allowing(0);
+    {
+        let items = Refusing::listed(rt.alloc(), &[1, 2, 3, 4, 5, 6], &tally)?;
+        let image: Array2<Refusing<'_>> = array_of((2, 3), items)?;
+        let turned = image.reversed_axes();
+        assert_eq!(rt; end_of(&turned.to_shape(rt.alloc(), 5)), "no shape");
+        match turned.into_shape_clone(rt.alloc(), (2, 4)) {
+            Err(ArrayError::Shape(_)) => {}
+            _ => return Err("accepted, or no memory".into()),
+        }
+    }
+    assert_eq!(rt; tally.living(), Some(0));
+    Ok(())
+}

@@ -1,0 +1,11 @@
+//! Tests of the callers of `nd_array_core_uses`, on worked arrays.
+#![tactic(auto)]
+
+#[cfg(test)]
+mod lent;
+#[cfg(test)]
+mod painted;
+#[cfg(test)]
+mod rebuilt;
+#[cfg(test)]
+mod seen;
