@@ -3,7 +3,7 @@ use Rattle.std.proofs.Common.{◌≡◌, ℕ, zero, suc, ◌-◌, ◌+◌, ◌�
 use Rattle.std.proofs.lemmas.List.{append-nil}
 use Rattle.nd_run.specs.declared.reader.fault.LineFault.{LineFault}
 use Rattle.nd_run.specs.declared.reader.fault.LineFault.TheVariants.{Bad, Memory}
-use Rattle.nd_run.specs.Reading.{◌>>=◌, Fails, item_at, both_at, map_read, many_while, many_at}
+use Rattle.nd_run.specs.Reading.{◌>>=◌, Fails, item_at, both_at, map_read, many_while, many_at, TakesWords}
 
 -- what was read before, and what is still read
 abbrev pub with_front : {X : Type 0} → List X → Option (List X × List (List ℕ)) → Option (List X × List (List ℕ))
@@ -47,10 +47,6 @@ is_done {X} begins read front count i words total le so_far =
     let k : count - i ≡ 0 = omega arith in
     let one : with_front front (many_while begins read (count - i) words) ≡ Some (front, words) = rw k (ap (λ (xs : List X). Some (xs, words)) (append-nil front)) in
     sym so_far ∙ one
-
--- a reader that takes a word or more
-abbrev pub TakesWords : {X : Type 0} → (List (List ℕ) → Option (X × List (List ℕ))) → Type 0
-TakesWords {X} read = (words : List (List ℕ)) (x : X) (rest : List (List ℕ)) → read words ≡ Some (x, rest) → length rest < length words
 
 short_by : {X : Type 0} (read : List (List ℕ) → Option (X × List (List ℕ))) (n : ℕ) (words : List (List ℕ)) (r : Option (X × List (List ℕ))) → read words ≡ r
     → ((x : X) (rest : List (List ℕ)) → r ≡ Some (x, rest) → many_at read n rest ≡ None) → many_at read (suc n) words ≡ None

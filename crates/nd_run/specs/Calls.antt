@@ -6,6 +6,7 @@ use Rattle.nd_shape_and_slice.specs.declared.builder.Order.{Order}
 use Rattle.nd_array_core.specs.declared.base.storage.Data as data_trait
 use Rattle.nd_array_core.specs.declared.base.storage.OwnedRepr.{OwnedRepr}
 use Rattle.nd_array_core.specs.Meaning.{Meaning, meaning_of}
+use Rattle.nd_array_core.specs.Laws.{with_axis_inserted}
 use Rattle.nd_run.specs.declared.calls.Step.{Step}
 use Rattle.nd_run.specs.declared.calls.Step.TheVariants as steps
 use Rattle.nd_run.specs.declared.calls.Question.{Question}
@@ -57,7 +58,7 @@ pub data Acting (A : Type 0) : Type 0 where
 
 -- a call: a step whose result is kept, a question at the end of some steps, an act there, an act on each part of the
 -- array split before a coordinate of an axis; coordinates of an axis chosen, or one taken out; other lengths, each
--- element with its rank in an order
+-- element with its rank in an order; an array behind this one along an axis, or room for more lengths of one
 pub data Asked (A : Type 0) : Type 0 where
   Keeping : (step : AskedStep) → Asked A
   About : (path : List AskedStep) (question : Asking A) → Asked A
@@ -66,6 +67,8 @@ pub data Asked (A : Type 0) : Type 0 where
   Selecting : (axis : ℕ) (indexes : List ℕ) → Asked A
   Removing : (axis index : ℕ) → Asked A
   Reshaping : (lengths : List ℕ) (order : Order) → Asked A
+  Appending : (axis : ℕ) (other : Meaning A) → Asked A
+  Reserving : (axis additional : ℕ) → Asked A
 
 -- a reply
 pub data Said (A : Type 0) : Type 0 where
@@ -117,6 +120,9 @@ module _ {A : Type 0} {s : data_trait.Ghosts (OwnedRepr A) A} where
   asked_call (calls.Select axis indexes) = Selecting axis indexes.items
   asked_call (calls.RemoveIndex axis index) = Removing axis index
   asked_call (calls.Reshape lengths order) = Reshaping lengths.items order
+  asked_call (calls.Append axis other) = Appending axis (meaning_of other)
+  asked_call (calls.Push axis other) = Appending axis (with_axis_inserted axis (meaning_of other))
+  asked_call (calls.Reserve axis additional) = Reserving axis additional
 
 abbrev pub said_reply : {A : Type 0} → Reply A → Said A
 said_reply replies.Done = SaidDone

@@ -4,8 +4,6 @@ use Rattle.std.specs.Fmt.{decimal}
 use Rattle.nd_run.specs.declared.watched.Watched.{Watched}
 use Rattle.nd_run.specs.declared.outcome.Outcome.{Outcome}
 use Rattle.nd_run.specs.declared.outcome.Outcome.TheVariants as outcomes
-use Rattle.nd_run.specs.declared.outcome.LoadError.{LoadError}
-use Rattle.nd_run.specs.declared.outcome.LoadError.TheVariants as load_errors
 use Rattle.nd_run.specs.Calls.{Said, said_reply}
 use Rattle.nd_run.specs.Puts.{TakesText}
 use Rattle.nd_run.specs.Script.{AskedScript, IsScript, IsFirstBad}
@@ -53,24 +51,21 @@ status_of failed end = if failed then 3 else ending_status end
 -- ---- loading a script
 
 -- a read failed
-abbrev pub is_load_failure : {X : Type 0} → Result X LoadError → Bool
+abbrev pub is_load_failure : {X : Type 0} → Result X Outcome → Bool
 is_load_failure (Ok x) = false
-is_load_failure (Err (load_errors.BadLine number)) = false
-is_load_failure (Err load_errors.Memory) = false
-is_load_failure (Err load_errors.ReadFailed) = true
+is_load_failure (Err outcome) = is_no_input (ending outcome)
+
+-- how the program may end on these bytes where no script is loaded
+abbrev pub EndsUnloaded : List ℕ → Ending → Type 0
+EndsUnloaded bytes (Finished replies lengths elements) = ⊥
+EndsUnloaded bytes (BadAt number) = IsFirstBad (lines_of bytes) number
+EndsUnloaded bytes (OutOfMemory replies) = replies ≡ []
+EndsUnloaded bytes NoInput = Unit {0}
 
 -- what loading gives of these bytes
-abbrev pub Loads : {X : Type 0} → (X → AskedScript) → List ℕ → Result X LoadError → Type 0
+abbrev pub Loads : {X : Type 0} → (X → AskedScript) → List ℕ → Result X Outcome → Type 0
 Loads view bytes (Ok script) = IsScript (lines_of bytes) (view script)
-Loads view bytes (Err (load_errors.BadLine number)) = IsFirstBad (lines_of bytes) number
-Loads view bytes (Err load_errors.Memory) = Unit {0}
-Loads view bytes (Err load_errors.ReadFailed) = Unit {0}
-
--- the end where no script was loaded
-abbrev pub load_ending : LoadError → Ending
-load_ending (load_errors.BadLine number) = BadAt number
-load_ending load_errors.Memory = OutOfMemory []
-load_ending load_errors.ReadFailed = NoInput
+Loads view bytes (Err outcome) = EndsUnloaded bytes (ending outcome)
 
 -- ---- the whole program, over what running a script means: its replies and the array at its end, and the
 -- replies that may come before memory is refused

@@ -1,20 +1,21 @@
 -- What a list of calls answers, and what it leaves of an array's meaning: a fold over the calls. No view, borrow
 -- or storage occurs.
-use Rattle.std.specs.Prelude.{◌≡◌, ◌^◌, ◌==◌, ℕ, nat_lt, nat_le, slice_index, length, Bool, Option, None, true, false, ◌||◌, List, [], ◌∷◌, ◌++◌, Result, Ok, Err, ◌⊎◌}
+use Rattle.std.specs.Prelude.{◌≡◌, ◌+◌, ◌^◌, ◌==◌, ℕ, nat_eq, nat_lt, nat_le, slice_index, slice_set, length, Bool, Option, None, true, false, not, ◌||◌, List, [], ◌∷◌, ◌++◌, Result, Ok, Err, ◌⊎◌}
 use Rattle.nd_shape_and_slice.specs.Shape.{in_box}
 use Rattle.nd_array_core.specs.Meaning.{Meaning, meaning_through}
 use Rattle.nd_shape_and_slice.specs.FirstIndex.{first_index}
 use Rattle.nd_array_core.specs.LastIndex.{last_index}
 use Rattle.nd_array_core.specs.Equality.{equal_meanings}
-use Rattle.nd_array_core.specs.Joined.{row_major_elements}
-use Rattle.nd_run.specs.Calls.{AskedStep, Asking, AskShape, AskElements, AskElement, AskFirst, AskLast, AskEqual, AskCount, AskReshaped, Asked, Keeping, About, Writing, SplitWriting, Selecting, Removing, Reshaping, Said, SaidDone, SaidRefused, SaidShape, SaidElements, SaidElement, SaidTruth, SaidNumber, said_reply}
+use Rattle.std.specs.Cmp.Lexicographic.{pointwise}
+use Rattle.nd_array_core.specs.Joined.{row_major_elements, concatenated, concatenated_shape}
+use Rattle.nd_run.specs.Calls.{AskedStep, Asking, AskShape, AskElements, AskElement, AskFirst, AskLast, AskEqual, AskCount, AskReshaped, Asked, Keeping, About, Writing, SplitWriting, Selecting, Removing, Reshaping, Appending, Reserving, Said, SaidDone, SaidRefused, SaidShape, SaidElements, SaidElement, SaidTruth, SaidNumber, said_reply}
 use Rattle.std.specs.Prelude.{map}
 use Rattle.std.specs.List.{count_by, list_all}
 use Rattle.nd_shape_and_slice.specs.Shape.{nonzero_product, size_of}
 use Rattle.nd_array_core.specs.along.Selected.{selected_shape, selected_index}
 use Rattle.nd_array_core.specs.along.Removed.{removed_shape, removed_index}
 use Rattle.nd_array_core.specs.reshape.Serving.{regrouped_meaning}
-use Rattle.nd_run.specs.Steps.{Test, first_failed, has_axis, has_coordinate, tests_of, keep_tests, refusal, unless, step_shape, step_index, shape_along, index_along}
+use Rattle.nd_run.specs.Steps.{Test, first_failed, has_axis, has_size, has_coordinate, tests_of, keep_tests, refusal, unless, step_shape, step_index, shape_along, index_along}
 use Rattle.nd_run.specs.Acts.{path_tests, meaning_at_end, write_tests, written, split_tests, split_written, clones}
 use Rattle.nd_run.specs.declared.calls.Reply.{Reply}
 use Rattle.nd_run.specs.declared.run.RunFault.{RunFault}
@@ -101,7 +102,17 @@ ask_tests path question ns = path_tests tests_of path ns ++ question_tests quest
 abbrev pub select_tests : ℕ → List ℕ → List ℕ → List Test
 select_tests axis indexes ns =
     has_axis axis ns ∷ (list_all (λ k. nat_lt k (slice_index ns axis)) indexes, causes.Index)
-    ∷ (nat_lt (nonzero_product (selected_shape ns axis indexes)) (2 ^ 63), causes.Overflow) ∷ []
+    ∷ has_size (selected_shape ns axis indexes) ∷ []
+
+-- the tests of an array of other lengths behind this one along an axis: but for the axis the lengths are equal
+abbrev pub append_tests : ℕ → List ℕ → List ℕ → List Test
+append_tests axis ms ns =
+    (nat_lt 0 (length ns), causes.Shape) ∷ has_axis axis ns ∷ (pointwise nat_eq (slice_set ms axis (slice_index ns axis)) ns, causes.Shape)
+    ∷ has_size (concatenated_shape ns ms axis) ∷ []
+
+-- the tests of room for more lengths of an axis
+abbrev pub reserve_tests : ℕ → ℕ → List ℕ → List Test
+reserve_tests axis additional ns = has_axis axis ns ∷ has_size (slice_set ns axis (slice_index ns axis + additional)) ∷ []
 
 abbrev pub tests_for : {A : Type 0} → Asked A → List ℕ → List Test
 tests_for (Keeping step) ns = keep_tests step ns
@@ -111,6 +122,8 @@ tests_for (SplitWriting axis index first second) ns = split_tests axis index fir
 tests_for (Selecting axis indexes) ns = select_tests axis indexes ns
 tests_for (Removing axis index) ns = has_axis axis ns ∷ has_coordinate axis index ns ∷ []
 tests_for (Reshaping to order) ns = reshape_tests to ns
+tests_for (Appending axis other) ns = append_tests axis other.shape ns
+tests_for (Reserving axis additional) ns = reserve_tests axis additional ns
 
 -- the reply, and the array afterwards
 abbrev pub done : {A : Type 0} → (A → A → Bool) → Asked A → Meaning A → Said A × Meaning A
@@ -121,6 +134,8 @@ done eq (SplitWriting axis index first second) m = (SaidDone, split_written axis
 done eq (Selecting axis indexes) m = (SaidDone, meaning_through (selected_shape m.shape axis indexes) (selected_index axis indexes) m)
 done eq (Removing axis index) m = (SaidDone, meaning_through (removed_shape m.shape axis) (removed_index axis index) m)
 done eq (Reshaping to order) m = (SaidDone, regrouped_meaning order to m)
+done eq (Appending axis other) m = (SaidDone, concatenated axis m other)
+done eq (Reserving axis additional) m = (SaidDone, m)
 
 abbrev pub takes_memory : {A : Type 0} → Asked A → Bool
 takes_memory (Keeping step) = false
@@ -130,6 +145,8 @@ takes_memory (SplitWriting axis index first second) = clones first || clones sec
 takes_memory (Selecting axis indexes) = true
 takes_memory (Removing axis index) = false
 takes_memory (Reshaping to order) = true
+takes_memory (Appending axis other) = not (size_of other.shape == 0)
+takes_memory (Reserving axis additional) = true
 
 -- ---- what comes of a call
 

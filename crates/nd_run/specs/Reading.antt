@@ -1,5 +1,5 @@
 -- Reading the words of a line from left to right. A reader answers what it read and the words that are left.
-use Rattle.std.specs.Prelude.{◌≡◌, ℕ, zero, suc, ◌^◌, Bool, true, false, nat_le, nat_lt, List, [], ◌∷◌, ℤ, Option, None, Some, Result, Ok, Err, codes, length, ◌==◌, if◌then◌else◌}
+use Rattle.std.specs.Prelude.{◌≡◌, ◌<◌, ℕ, zero, suc, ◌^◌, Bool, true, false, nat_le, nat_lt, List, [], ◌∷◌, ℤ, Option, None, Some, Result, Ok, Err, codes, length, ◌==◌, if◌then◌else◌}
 use Rattle.std.specs.Str.{bytes_eq}
 use Rattle.std.specs.Option.{option_map}
 use Rattle.nd_shape_and_slice.specs.Shape.{nonzero_product, size_of}
@@ -9,10 +9,11 @@ use Rattle.nd_shape_and_slice.specs.declared.slice_info.SliceInfoElem.TheVariant
 use Rattle.nd_shape_and_slice.specs.declared.builder.Order.{Order}
 use Rattle.nd_shape_and_slice.specs.declared.builder.Order.TheVariants.{RowMajor, ColumnMajor}
 use Rattle.nd_run.specs.declared.keyword.Keyword.{Keyword}
-use Rattle.nd_run.specs.declared.keyword.Keyword.TheVariants.{Start, Keep, Ask, Write, Split, Slash, Cut, Slice as SliceWord, Collapse, Index, Permute, Reverse, SwapAxes, Invert, Insert, Remove, Squeeze, Diag, Broadcast, Part, Coordinate, New, Shape, Elements, Get, First, Last, Equal, Count, Select, RemoveIndex, Reshape, Row, Column, Fill, Assign, Set, Swap, Other}
+use Rattle.nd_run.specs.declared.keyword.Keyword.TheVariants.{Start, Keep, Ask, Write, Split, Slash, Cut, Slice as SliceWord, Collapse, Index, Permute, Reverse, SwapAxes, Invert, Insert, Remove, Squeeze, Diag, Broadcast, Part, Coordinate, New, Shape, Elements, Get, First, Last, Equal, Count, Select, RemoveIndex, Reshape, Append, Push, Reserve, Row, Column, Fill, Assign, Set, Swap, Other}
 use Rattle.nd_run.specs.declared.reader.fault.LineFault.{LineFault}
 use Rattle.nd_run.specs.declared.reader.fault.LineFault.TheVariants.{Bad, Memory}
-use Rattle.nd_run.specs.Calls.{AskedStep, SlicedAxis, Sliced, Collapsed, Indexed, Permuted, Reversed, Exchanged, Inverted, Inserted, Removed, Squeezed, Diagonal, BroadcastTo, Asking, AskShape, AskElements, AskElement, AskFirst, AskLast, AskEqual, AskCount, AskReshaped, Acting, Filling, Assigning, Setting, Swapping, Asked, Keeping, About, Writing, SplitWriting, Selecting, Removing, Reshaping}
+use Rattle.nd_run.specs.Calls.{AskedStep, SlicedAxis, Sliced, Collapsed, Indexed, Permuted, Reversed, Exchanged, Inverted, Inserted, Removed, Squeezed, Diagonal, BroadcastTo, Asking, AskShape, AskElements, AskElement, AskFirst, AskLast, AskEqual, AskCount, AskReshaped, Acting, Filling, Assigning, Setting, Swapping, Asked, Keeping, About, Writing, SplitWriting, Selecting, Removing, Reshaping, Appending, Reserving}
+use Rattle.nd_array_core.specs.Laws.{with_axis_inserted}
 use Rattle.nd_array_core.specs.Meaning.{Meaning}
 use Rattle.nd_run.specs.Grammar.{array_of}
 use Rattle.nd_run.specs.Numerals.{nat_of, int_of}
@@ -32,6 +33,15 @@ Fails Bad read = read ≡ None
 abbrev pub Gives : {X Y : Type 0} → (X → Y) → Result X LineFault → Option Y → Type 0
 Gives view (Ok x) read = read ≡ Some (view x)
 Gives view (Err fault) read = Fails fault read
+
+-- What a reader of the code returned, seen by view, and the words that it left, are what reading gives.
+abbrev pub IsRead : {X Y : Type 0} → (X → Y) → Result X LineFault → List (List ℕ) → Option (Y × List (List ℕ)) → Type 0
+IsRead view (Ok x) left read = read ≡ Some (view x, left)
+IsRead view (Err fault) left read = Fails fault read
+
+-- a reader that takes a word or more
+abbrev pub TakesWords : {X : Type 0} → (List (List ℕ) → Option (X × List (List ℕ))) → Type 0
+TakesWords {X} read = (words : List (List ℕ)) (x : X) (rest : List (List ℕ)) → read words ≡ Some (x, rest) → length rest < length words
 
 -- ---- ways to put readers together
 
@@ -82,7 +92,7 @@ long_keywords = Collapse ∷ SwapAxes ∷ Elements ∷ Broadcast ∷ RemoveIndex
 
 -- the keywords of n bytes, or of more than seven
 abbrev pub keywords_of : ℕ → List Keyword
-keywords_of n = if nat_lt 7 n then long_keywords else (if n == 7 then Permute ∷ Reverse ∷ Squeeze ∷ Reshape ∷ [] else (if n == 6 then Invert ∷ Insert ∷ Remove ∷ Select ∷ Assign ∷ [] else (if n == 5 then Start ∷ Write ∷ Split ∷ SliceWord ∷ Index ∷ Shape ∷ First ∷ Equal ∷ Count ∷ [] else (if n == 4 then Keep ∷ Diag ∷ Last ∷ Fill ∷ Swap ∷ [] else (if n == 3 then Ask ∷ Cut ∷ Get ∷ Row ∷ Column ∷ Set ∷ [] else (if n == 1 then Slash ∷ Part ∷ Coordinate ∷ New ∷ [] else []))))))
+keywords_of n = if nat_lt 7 n then long_keywords else (if n == 7 then Permute ∷ Reverse ∷ Squeeze ∷ Reshape ∷ Reserve ∷ [] else (if n == 6 then Invert ∷ Insert ∷ Remove ∷ Select ∷ Append ∷ Assign ∷ [] else (if n == 5 then Start ∷ Write ∷ Split ∷ SliceWord ∷ Index ∷ Shape ∷ First ∷ Equal ∷ Count ∷ [] else (if n == 4 then Keep ∷ Diag ∷ Last ∷ Push ∷ Fill ∷ Swap ∷ [] else (if n == 3 then Ask ∷ Cut ∷ Get ∷ Row ∷ Column ∷ Set ∷ [] else (if n == 1 then Slash ∷ Part ∷ Coordinate ∷ New ∷ [] else []))))))
 
 unfoldable pub keyword_of : List ℕ → Keyword
 keyword_of word = keyword_among (keywords_of (length word)) word
@@ -232,6 +242,9 @@ call_by n Split words = map_read (λ x. SplitWriting x.0.0 x.0.1 x.1.0 x.1.1) (b
 call_by n Select words = map_read (λ x. Selecting x.0 x.1) (both_at (item_at nat_of) list_at words)
 call_by n RemoveIndex words = map_read (λ x. Removing x.0 x.1) (pair_at words)
 call_by n Reshape words = map_read (λ x. Reshaping x.1 x.0) (ordered_list_at words)
+call_by n Append words = map_read (λ x. Appending x.0 x.1) (both_at (item_at nat_of) array_at words)
+call_by n Push words = map_read (λ x. Appending x.0 (with_axis_inserted x.0 x.1)) (both_at (item_at nat_of) array_at words)
+call_by n Reserve words = map_read (λ x. Reserving x.0 x.1) (pair_at words)
 call_by n _ words = None
 
 abbrev pub call_at : ℕ → List (List ℕ) → Option (Asked ℤ × List (List ℕ))

@@ -1,7 +1,7 @@
 -- How keywords are spelled, and which of them begin a step.
 use Rattle.std.specs.Prelude.{Bool, true, false, ℕ, List, [], codes}
 use Rattle.nd_run.specs.declared.keyword.Keyword.{Keyword}
-use Rattle.nd_run.specs.declared.keyword.Keyword.TheVariants.{Start, Keep, Ask, Write, Split, Slash, Cut, Slice, Collapse, Index, Permute, Reverse, SwapAxes, Invert, Insert, Remove, Squeeze, Diag, Broadcast, Part, Coordinate, New, Shape, Elements, Get, First, Last, Equal, Count, Select, RemoveIndex, Reshape, Row, Column, Fill, Assign, Set, Swap, Other}
+use Rattle.nd_run.specs.declared.keyword.Keyword.TheVariants.{Start, Keep, Ask, Write, Split, Slash, Cut, Slice, Collapse, Index, Permute, Reverse, SwapAxes, Invert, Insert, Remove, Squeeze, Diag, Broadcast, Part, Coordinate, New, Shape, Elements, Get, First, Last, Equal, Count, Select, RemoveIndex, Reshape, Append, Push, Reserve, Row, Column, Fill, Assign, Set, Swap, Other}
 
 abbrev pub spelling : Keyword → List ℕ
 spelling Start = codes "start"
@@ -36,6 +36,9 @@ spelling Count = codes "count"
 spelling Select = codes "select"
 spelling RemoveIndex = codes "removeindex"
 spelling Reshape = codes "reshape"
+spelling Append = codes "append"
+spelling Push = codes "push"
+spelling Reserve = codes "reserve"
 spelling Row = codes "row"
 spelling Column = codes "col"
 spelling Fill = codes "fill"

@@ -1,5 +1,6 @@
 -- What a step asks of an array, by its lengths alone, and what it makes of the lengths and of the indexes.
-use Rattle.std.specs.Prelude.{ℕ, ◌+◌, ◌==◌, Bool, true, false, not, nat_lt, nat_le, List, [], ◌∷◌, length, reverse, swap, slice_index, Option, None, Some, is_some, Result, Ok, Err, if◌then◌else◌}
+use Rattle.std.specs.Prelude.{◌≡◌, ℕ, ◌+◌, ◌^◌, ◌==◌, Bool, true, false, not, nat_lt, nat_le, List, [], ◌∷◌, length, reverse, swap, slice_index, Option, None, Some, is_some, Result, Ok, Err, if◌then◌else◌}
+use Rattle.nd_shape_and_slice.specs.Shape.{nonzero_product}
 use Rattle.nd_shape_and_slice.specs.Axes.{names_each_axis, permuted_list, unpermuted_list}
 use Rattle.nd_shape_and_slice.specs.Slice.{fits_axis, sliced_shape, sliced_index}
 use Rattle.nd_shape_and_slice.specs.declared.slice_info.SliceInfoElem.{SliceInfoElem}
@@ -23,6 +24,10 @@ first_failed (test ∷ tests) = if test.0 then first_failed tests else Some test
 
 abbrev pub has_axis : ℕ → List ℕ → Test
 has_axis axis ns = (nat_lt axis (length ns), causes.Axis)
+
+-- the lengths have a checked size
+abbrev pub has_size : List ℕ → Test
+has_size ns = (nat_lt (nonzero_product ns) (2 ^ 63), causes.Overflow)
 
 abbrev pub has_coordinate : ℕ → ℕ → List ℕ → Test
 has_coordinate axis index ns = (nat_lt index (slice_index ns axis), causes.Index)
@@ -113,3 +118,8 @@ index_along (step ∷ steps) ns i = step_index step ns (index_along steps (step_
 abbrev pub unless : {X E : Type 0} → Option E → X → Result X E
 unless None x = Ok x
 unless (Some cause) x = Err cause
+
+-- a check's answer tells which cause is the first one, if any
+abbrev pub Refuses : {X : Type 0} → Result X Cause → Option Cause → Type 0
+Refuses (Ok x) refused = refused ≡ None
+Refuses (Err cause) refused = refused ≡ Some cause

@@ -85,6 +85,12 @@ pub enum Call<A, S: Data<Elem = A> = OwnedRepr<A>> {
     RemoveIndex(usize, usize),
     /// Other lengths, under which each element keeps its rank in this order.
     Reshape(Vec<usize>, Order),
+    /// An axis, and an array that comes behind along it, with clones of its elements.
+    Append(usize, ArrayBase<S, IxDyn>),
+    /// The same of an array with one axis fewer, as one more length of the axis.
+    Push(usize, ArrayBase<S, IxDyn>),
+    /// An axis, and for how many more lengths of it room is made.
+    Reserve(usize, usize),
 }
 
 /// What a call answers.

@@ -11,7 +11,7 @@ ghost use Rattle.nd_run.specs.Script.{asked_script};
 ghost use Rattle.nd_run.specs.Watched.{watched_inner, watched_failed, GetsFlushed};
 
 use crate::calls::Reply;
-use crate::outcome::{Outcome, conclude, conclude_whole, load, unloaded};
+use crate::outcome::{Outcome, conclude, conclude_whole, load};
 use crate::reader::Script;
 use crate::run::{RunFault, run};
 use crate::watched::Watched;
@@ -59,6 +59,6 @@ pub fn drive<R: Read, W: Write>(
             Ok((replies, array)) => conclude_whole(output, &replies, &array),
             Err(fault) => conclude(output, &stopped(fault)),
         },
-        Err(error) => conclude(output, &unloaded(alloc, error)),
+        Err(outcome) => conclude(output, &outcome),
     }
 }

@@ -39,6 +39,9 @@ pub enum Keyword {
     Select,
     RemoveIndex,
     Reshape,
+    Append,
+    Push,
+    Reserve,
     Row,
     Column,
     Fill,
@@ -86,6 +89,9 @@ impl Keyword {
             b"count" => Keyword::Count,
             b"select" => Keyword::Select,
             b"reshape" => Keyword::Reshape,
+            b"append" => Keyword::Append,
+            b"push" => Keyword::Push,
+            b"reserve" => Keyword::Reserve,
             b"row" => Keyword::Row,
             b"col" => Keyword::Column,
             b"fill" => Keyword::Fill,
@@ -101,21 +107,18 @@ impl Keyword {
         ensures { result ≡ keyword_among long_keywords word.now }
     {
         if word == b"collapse".as_slice() {
-            return Keyword::Collapse;
+            Keyword::Collapse
+        } else if word == b"swapaxes".as_slice() {
+            Keyword::SwapAxes
+        } else if word == b"elements".as_slice() {
+            Keyword::Elements
+        } else if word == b"broadcast".as_slice() {
+            Keyword::Broadcast
+        } else if word == b"removeindex".as_slice() {
+            Keyword::RemoveIndex
+        } else {
+            Keyword::Other
         }
-        if word == b"swapaxes".as_slice() {
-            return Keyword::SwapAxes;
-        }
-        if word == b"elements".as_slice() {
-            return Keyword::Elements;
-        }
-        if word == b"broadcast".as_slice() {
-            return Keyword::Broadcast;
-        }
-        if word == b"removeindex".as_slice() {
-            return Keyword::RemoveIndex;
-        }
-        Keyword::Other
     }
 
     /// Whether a step begins with this word.

@@ -1,17 +1,7 @@
 //! Numbers from words.
 
 ghost use Rattle.std.specs.Prelude.{◌≡◌, ℕ, List, Option};
-ghost use Rattle.nd_run.specs.Numerals.{with_digit, has_minus, without_minus, signed_of, signed_from, nat_of, int_of};
-
-/// A type of numbers that can be read from a word: decimal digits, with a minus sign in front where the type has
-/// negative numbers.
-pub trait Number: Copy {
-    ghost number_of: { List ℕ → Option Self };
-
-    /// The number that the word stands for, if it fits the type.
-    fn from_word(word: &[u8]) -> Option<Self>
-        ensures { result ≡ number_of word.now };
-}
+ghost use Rattle.nd_run.specs.Numerals.{with_digit, signed_of, nat_of, int_of};
 
 /// The number with one digit more, if the byte is a digit and the number fits.
 fn with_digit(number: usize, byte: u8) -> Option<usize>
@@ -24,7 +14,7 @@ fn with_digit(number: usize, byte: u8) -> Option<usize>
 }
 
 /// The number that decimal digits write, in one pass over them.
-fn of_digits(word: &[u8]) -> Option<usize>
+pub fn of_digits(word: &[u8]) -> Option<usize>
     ensures { result ≡ nat_of word.now }
 {
     if word.is_empty() {
@@ -35,24 +25,6 @@ fn of_digits(word: &[u8]) -> Option<usize>
         number = with_digit(number, *byte)?;
     }
     Some(number)
-}
-
-fn has_minus(word: &[u8]) -> bool
-    ensures { result ≡ has_minus word.now }
-{
-    match word {
-        [first, ..] => *first == b'-',
-        [] => false,
-    }
-}
-
-fn without_minus(word: &[u8]) -> &[u8]
-    ensures { result.now ≡ without_minus word.now }
-{
-    match word {
-        [b'-', digits @ ..] => digits,
-        _ => word,
-    }
 }
 
 /// The number with this sign, if it fits.
@@ -72,38 +44,13 @@ fn signed(minus: bool, number: usize) -> Option<i64>
 /// One more than the greatest signed number.
 const GREATEST: usize = 1 << 63;
 
-fn signed_of_digits(minus: bool, digits: &[u8]) -> Option<i64>
-    ensures { result ≡ signed_from minus (nat_of digits.now) }
+/// The signed number that a word writes.
+#[tactic(auto, using(crate::proofs::Numerals::int_behind, crate::proofs::Numerals::minus_behind))]
+pub fn int_of_word(word: &[u8]) -> Option<i64>
+    ensures { result ≡ int_of word.now }
 {
-    match of_digits(digits) {
-        Some(number) => signed(minus, number),
-        None => None,
-    }
-}
-
-impl Number for usize {
-    ghost number_of = { nat_of };
-
-    fn from_word(word: &[u8]) -> Option<usize> {
-        of_digits(word)
-    }
-}
-
-impl Number for isize {
-    ghost number_of = { int_of };
-
-    fn from_word(word: &[u8]) -> Option<isize> {
-        match i64::from_word(word) {
-            Some(number) => Some(number as isize),
-            None => None,
-        }
-    }
-}
-
-impl Number for i64 {
-    ghost number_of = { int_of };
-
-    fn from_word(word: &[u8]) -> Option<i64> {
-        signed_of_digits(has_minus(word), without_minus(word))
+    match word {
+        [b'-', digits @ ..] => signed(true, of_digits(digits)?),
+        _ => signed(false, of_digits(word)?),
     }
 }

@@ -6,17 +6,18 @@ ghost use Rattle.nd_run.specs.Calls.{said_reply};
 ghost use Rattle.nd_run.specs.Script.{asked_script};
 ghost use Rattle.nd_array_core.specs.Joined.{row_major_elements};
 ghost use Rattle.nd_run.specs.Text.{values_text};
-ghost use Rattle.nd_run.specs.Endings.{Finished, ending, ending_text, status_of, is_load_failure, Loads, load_ending};
+ghost use Rattle.nd_run.specs.Endings.{Finished, ending, ending_text, status_of, is_load_failure, Loads};
 ghost use Rattle.nd_run.specs.Puts.{TakesText, Puts};
 ghost use Rattle.nd_run.specs.Watched.{watched_inner, watched_failed, GetsFlushed};
 
 use crate::calls::Reply;
 use crate::input::{InputError, read_input};
 use crate::page::Page;
-use crate::printer::{put, put_list, put_natural, put_replies, put_value, write_text};
+use crate::printer::{put, put_list, put_number, put_numbers, put_replies, write_text};
 use crate::reader::fault::ScriptError;
 use crate::reader::{Script, read_script};
 use crate::watched::Watched;
+use itoa::Buffer;
 use nd_array_core::Array;
 use nd_shape_and_slice::{IxDyn, MAX_AXES, index_of_rank};
 use std::alloc::Global;
@@ -33,42 +34,20 @@ pub enum Outcome {
     ReadFailed,
 }
 
-/// Why no script was loaded.
-#[derive(Clone, Copy, Debug, PartialEq, Eq)]
-pub enum LoadError {
-    /// The number of the first bad line.
-    BadLine(usize),
-    /// Memory was refused.
-    Memory,
-    /// The input could not be read.
-    ReadFailed,
-}
-
-/// The script of the whole input.
-pub fn load<R: Read>(alloc: Global, input: &mut Watched<R>) -> Result<Script<i64>, LoadError>
+/// The script of the whole input, or how it ends without one.
+pub fn load<R: Read>(alloc: Global, input: &mut Watched<R>) -> Result<Script<i64>, Outcome>
     ensures script { IfSome (R.remaining (watched_inner input.old)) (λ xs. Loads asked_script xs result) }
     ensures failed { watched_failed input.new ≡ is_load_failure result }
 {
     let text = match read_input(alloc, input) {
         Ok(text) => text,
-        Err(InputError::Failed) => return Err(LoadError::ReadFailed),
-        Err(InputError::Memory) => return Err(LoadError::Memory),
+        Err(InputError::Failed) => return Err(Outcome::ReadFailed),
+        Err(InputError::Memory) => return Err(Outcome::Memory(Vec::new(alloc))),
     };
     match read_script(alloc, &text) {
         Ok(script) => Ok(script),
-        Err(ScriptError::BadLine(number)) => Err(LoadError::BadLine(number)),
-        Err(ScriptError::Memory) => Err(LoadError::Memory),
-    }
-}
-
-/// The end where no script was loaded.
-pub fn unloaded(alloc: Global, error: LoadError) -> Outcome
-    ensures { ending result ≡ load_ending error }
-{
-    match error {
-        LoadError::BadLine(number) => Outcome::BadLine(number),
-        LoadError::Memory => Outcome::Memory(Vec::new(alloc)),
-        LoadError::ReadFailed => Outcome::ReadFailed,
+        Err(ScriptError::BadLine(number)) => Err(Outcome::BadLine(number)),
+        Err(ScriptError::Memory) => Err(Outcome::Memory(Vec::new(alloc))),
     }
 }
 
@@ -78,7 +57,7 @@ fn put_end<W: Write>(output: &mut Watched<W>, page: &mut Page, outcome: &Outcome
     match outcome {
         Outcome::BadLine(number) => {
             put(output, page, b"bad line ");
-            put_natural(output, page, *number);
+            put_number(output, page, &mut Buffer::new(), number);
             put(output, page, b"\n");
         }
         Outcome::Memory(replies) => {
@@ -138,12 +117,23 @@ fn put_elements<W: Write>(output: &mut Watched<W>, page: &mut Page, array: &Arra
 {
     let mut coordinates = [0; MAX_AXES];
     let index = &mut coordinates[..array.ndim()];
+    let mut buffer = Buffer::new();
     for rank in 0..array.len() {
         index_of_rank(array.shape(), rank, index);
         if let Some(value) = array.get(&*index) {
             put(output, page, b" ");
-            put_value(output, page, value);
+            put_number(output, page, &mut buffer, value);
         }
+    }
+}
+
+/// The same, from one slice where they lie in order.
+fn put_values<W: Write>(output: &mut Watched<W>, page: &mut Page, array: &Array<i64, IxDyn>)
+    ensures { Puts W.contents output.old page.old output.new page.new (values_text (row_major_elements (meaning_of array.now))) }
+{
+    match array.as_slice() {
+        Some(values) => put_numbers(output, page, values),
+        None => put_elements(output, page, array),
     }
 }
 
@@ -164,7 +154,7 @@ fn put_whole<W: Write>(
     put_replies(output, page, replies);
     put(output, page, b"end ");
     put_list(output, page, array.shape());
-    put_elements(output, page, array);
+    put_values(output, page, array);
     put(output, page, b"\n");
 }
 
@@ -183,6 +173,3 @@ pub fn conclude_whole<W: Write>(
     finish(output, &page);
     whole_status(output.failed())
 }
-
-#[cfg(test)]
-mod tests;

@@ -2,15 +2,15 @@
 //! nothing more is written.
 
 ghost use Rattle.std.specs.Prelude.{◌≡◌, ◌++◌, map, codes};
-ghost use Rattle.std.specs.Fmt.{decimal, signed_decimal};
+ghost use Rattle.std.specs.List.{flat_map};
 ghost use Rattle.nd_run.specs.Calls.{said_reply};
 ghost use Rattle.nd_run.specs.Puts.{Puts, Writes};
-ghost use Rattle.nd_run.specs.Text.{naturals_text, values_text, list_text, array_text, element_text, truth_text, reply_words, reply_text, replies_text};
+ghost use Rattle.nd_run.specs.Text.{list_text, element_text, reply_words, replies_text};
 
 use crate::calls::Reply;
 use crate::page::Page;
 use crate::watched::Watched;
-use itoa::Buffer;
+use itoa::{Buffer, Integer};
 use std::io::Write;
 
 /// Writes the whole text, in as many calls as the writer needs.
@@ -26,20 +26,14 @@ pub fn write_text<W: Write>(out: &mut Watched<W>, text: &[u8])
     }
 }
 
-/// Puts a text behind the bytes that wait. Where there is no room for it they are written first.
+/// Puts a text behind the bytes that wait. Where there is no room for it they are written first; a text that is longer
+/// than a page then is too.
 pub fn put<W: Write>(out: &mut Watched<W>, page: &mut Page, text: &[u8])
     ensures { Puts W.contents out.old page.old out.new page.new text.now }
 {
     if page.add(text) {
         return;
     }
-    put_on_next(out, page, text);
-}
-
-/// Writes the bytes that wait, and then puts the text on the empty page, or writes it where it is longer than a page.
-fn put_on_next<W: Write>(out: &mut Watched<W>, page: &mut Page, text: &[u8])
-    ensures { Puts W.contents out.old page.old out.new page.new text.now }
-{
     write_text(out, page.as_slice());
     page.clear();
     if page.add(text) {
@@ -48,50 +42,33 @@ fn put_on_next<W: Write>(out: &mut Watched<W>, page: &mut Page, text: &[u8])
     write_text(out, text);
 }
 
-pub fn put_natural<W: Write>(out: &mut Watched<W>, page: &mut Page, number: usize)
-    ensures { Puts W.contents out.old page.old out.new page.new (decimal number) }
+pub fn put_number<W: Write, I: Integer>(
+    out: &mut Watched<W>,
+    page: &mut Page,
+    buffer: &mut Buffer,
+    number: &I,
+)
+    ensures { Puts W.contents out.old page.old out.new page.new (I.text number.now) }
 {
-    let mut buffer = Buffer::new();
-    put(out, page, buffer.format(number).as_bytes());
+    put(out, page, buffer.format(*number).as_bytes());
 }
 
-pub fn put_value<W: Write>(out: &mut Watched<W>, page: &mut Page, value: &i64)
-    ensures { Puts W.contents out.old page.old out.new page.new (signed_decimal value.now) }
+/// Each number behind a space.
+pub fn put_numbers<W: Write, I: Integer>(out: &mut Watched<W>, page: &mut Page, numbers: &[I])
+    ensures { Puts W.contents out.old page.old out.new page.new (flat_map (λ n. codes " " ++ I.text n) numbers.now) }
 {
     let mut buffer = Buffer::new();
-    put(out, page, buffer.format(*value).as_bytes());
-}
-
-pub fn put_naturals<W: Write>(out: &mut Watched<W>, page: &mut Page, numbers: &[usize])
-    ensures { Puts W.contents out.old page.old out.new page.new (naturals_text numbers.now) }
-{
     for number in numbers {
         put(out, page, b" ");
-        put_natural(out, page, *number);
-    }
-}
-
-fn put_values<W: Write>(out: &mut Watched<W>, page: &mut Page, values: &[i64])
-    ensures { Puts W.contents out.old page.old out.new page.new (values_text values.now) }
-{
-    for value in values {
-        put(out, page, b" ");
-        put_value(out, page, value);
+        put_number(out, page, &mut buffer, number);
     }
 }
 
 pub fn put_list<W: Write>(out: &mut Watched<W>, page: &mut Page, numbers: &[usize])
     ensures { Puts W.contents out.old page.old out.new page.new (list_text numbers.now) }
 {
-    put_natural(out, page, numbers.len());
-    put_naturals(out, page, numbers);
-}
-
-fn put_array<W: Write>(out: &mut Watched<W>, page: &mut Page, lengths: &[usize], elements: &[i64])
-    ensures { Puts W.contents out.old page.old out.new page.new (array_text lengths.now elements.now) }
-{
-    put_list(out, page, lengths);
-    put_values(out, page, elements);
+    put_number(out, page, &mut Buffer::new(), &numbers.len());
+    put_numbers(out, page, numbers);
 }
 
 fn put_element<W: Write>(out: &mut Watched<W>, page: &mut Page, element: &Option<i64>)
@@ -101,15 +78,9 @@ fn put_element<W: Write>(out: &mut Watched<W>, page: &mut Page, element: &Option
         None => put(out, page, b"none"),
         Some(value) => {
             put(out, page, b"some ");
-            put_value(out, page, value);
+            put_number(out, page, &mut Buffer::new(), value);
         }
     }
-}
-
-fn put_truth<W: Write>(out: &mut Watched<W>, page: &mut Page, truth: bool)
-    ensures { Puts W.contents out.old page.old out.new page.new (truth_text truth) }
-{
-    put(out, page, if truth { b"true" } else { b"false" });
 }
 
 fn put_words<W: Write>(out: &mut Watched<W>, page: &mut Page, reply: &Reply<i64>)
@@ -119,7 +90,7 @@ fn put_words<W: Write>(out: &mut Watched<W>, page: &mut Page, reply: &Reply<i64>
         Reply::Done => put(out, page, b"done"),
         Reply::Refused(cause) => {
             put(out, page, b"refused ");
-            put_natural(out, page, *cause as usize);
+            put_number(out, page, &mut Buffer::new(), cause);
         }
         Reply::Shape(lengths) => {
             put(out, page, b"shape ");
@@ -127,13 +98,14 @@ fn put_words<W: Write>(out: &mut Watched<W>, page: &mut Page, reply: &Reply<i64>
         }
         Reply::Elements(lengths, elements) => {
             put(out, page, b"array ");
-            put_array(out, page, lengths, elements);
+            put_list(out, page, lengths);
+            put_numbers(out, page, elements);
         }
         Reply::Element(element) => put_element(out, page, element),
-        Reply::Truth(truth) => put_truth(out, page, *truth),
+        Reply::Truth(truth) => put(out, page, if *truth { b"true" } else { b"false" }),
         Reply::Number(number) => {
             put(out, page, b"number ");
-            put_natural(out, page, *number);
+            put_number(out, page, &mut Buffer::new(), number);
         }
     }
 }

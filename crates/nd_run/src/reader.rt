@@ -6,11 +6,9 @@ ghost use Rattle.nd_run.specs.Words.{lines_of, words_of};
 ghost use Rattle.nd_run.specs.Calls.{asked_call};
 ghost use Rattle.nd_run.specs.Script.{AskedScript, IsScript, IsFirstBad, GivesScript, asked_script, read_or_number, call_in, start_in, calls_from, script_from};
 
-mod act;
 pub mod fault;
 mod items;
 mod line;
-mod step;
 
 use crate::calls::Call;
 use crate::words::{is_wordless, split_line};
@@ -102,6 +100,3 @@ pub fn read_script(alloc: Global, text: &[u8]) -> Result<Script<i64>, ScriptErro
 {
     whole_script(alloc, text)
 }
-
-#[cfg(test)]
-mod tests;

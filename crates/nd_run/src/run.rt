@@ -1,22 +1,23 @@
 //! A list of calls on one array.
 
-ghost use Rattle.std.specs.Prelude.{◌≡◌, nat_lt, map, Some, None, true, MatchResult, IfOk, IfErr, OnErr};
+ghost use Rattle.std.specs.Prelude.{◌≡◌, nat_lt, map, None, true, IfOk, IfErr, OnErr};
 ghost use Rattle.std.specs.Option.{option_copied};
 ghost use Rattle.nd_array_core.specs.Meaning.{meaning_of, shape_of, element_at};
 ghost use Rattle.std.specs.List.{count_by, list_all};
-ghost use Rattle.nd_run.specs.Steps.{first_failed};
-ghost use Rattle.nd_run.specs.Calls.{asked_call, asked_step, asking, said_reply, Keeping, About, Selecting, Removing, Reshaping, AskReshaped, SaidElement};
-ghost use Rattle.nd_run.specs.Fold.{LeadsAlong, look_refusal, question_tests, select_tests, reshape_tests, answer_or_refusal, answers_in_memory, reply_to, replies_to, end_of, MayLackMemory, IsCarriedOut, CarriesOut, StopsBefore, replies_before};
+ghost use Rattle.nd_run.specs.Steps.{Refuses, first_failed};
+ghost use Rattle.nd_run.specs.Calls.{asked_call, asked_step, asking, said_reply, Keeping, About, Selecting, Removing, Reshaping, Appending, Reserving, AskReshaped, SaidElement};
+ghost use Rattle.nd_run.specs.Fold.{LeadsAlong, look_refusal, question_tests, select_tests, reshape_tests, append_tests, answer_or_refusal, answers_in_memory, reply_to, replies_to, end_of, MayLackMemory, IsCarriedOut, CarriesOut, StopsBefore, replies_before};
+ghost use Rattle.nd_array_core.specs.Laws.{with_axis_inserted};
 ghost use Rattle.nd_array_core.specs.Equality.{equal_meanings};
 ghost use Rattle.nd_array_core.specs.Joined.{row_major_elements};
 
 use crate::calls::{Call, Question, Reply, Step};
 use crate::cause::Cause;
 use crate::laws::paths_lead_along;
-use crate::steps::{advance, index_refusal, keep_refusal, take_step};
+use crate::steps::{advance, check, check_index, keep_refusal, take_step};
 use crate::write::{Acted, write_parts, write_through};
 use nd_array_core::laws::nothing_outside;
-use nd_array_core::{Array, ArrayBase, ArrayView, Data};
+use nd_array_core::{Array, ArrayBase, ArrayError, ArrayView, Data};
 use nd_shape_and_slice::{Axis, Dimension, IxDyn, MAX_AXES, Order, size_of_shape_checked};
 use std::alloc::{AllocError, Global};
 
@@ -25,7 +26,7 @@ fn follow_path<'a, A>(
     view: ArrayView<'a, A, IxDyn>,
     path: &[Step],
 ) -> Result<ArrayView<'a, A, IxDyn>, Cause>
-    ensures refused { MatchResult result (λ _. look_refusal (map asked_step path.now) (shape_of view.entry) ≡ None) (λ cause. look_refusal (map asked_step path.now) (shape_of view.entry) ≡ Some cause) }
+    ensures refused { Refuses result (look_refusal (map asked_step path.now) (shape_of view.entry)) }
     ensures along { IfOk result (λ end. LeadsAlong (map asked_step path.now) (meaning_of view.entry) (meaning_of end)) }
 {
     let mut view = view;
@@ -44,10 +45,7 @@ fn elements<A: Clone + Drop>(
     requires { (x y : A) → A.is_clone x y → y ≡ x }
     ensures { IfOk result (λ v. v.items ≡ row_major_elements (meaning_of view.now)) }
 {
-    match view.to_vec(alloc) {
-        Ok(items) => Ok(items),
-        Err(_) => Err(AllocError),
-    }
+    view.to_vec(alloc).map_err(|_| AllocError)
 }
 
 /// The reply of an element, where there is one.
@@ -86,7 +84,7 @@ fn count<A: Eq>(view: &ArrayView<'_, A, IxDyn>, element: &A) -> usize
 /// Other lengths for the same elements, or the first cause for which one refuses them.
 fn reshape_dim<S: Data>(array: &ArrayBase<S, IxDyn>, lengths: &[usize]) -> Result<IxDyn, Cause>
     ensures lengths { IfOk result (λ dim. ⟦<IxDyn as Dimension>⟧.lengths dim ≡ lengths.now) }
-    ensures refused { MatchResult result (λ _. first_failed (reshape_tests lengths.now (shape_of array.now)) ≡ None) (λ cause. first_failed (reshape_tests lengths.now (shape_of array.now)) ≡ Some cause) }
+    ensures refused { Refuses result (first_failed (reshape_tests lengths.now (shape_of array.now))) }
 {
     if lengths.len() > MAX_AXES {
         return Err(Cause::TooManyAxes);
@@ -181,26 +179,19 @@ fn all_below(indexes: &[usize], len: usize) -> bool
     indexes.iter().all(|k| *k < len)
 }
 
-/// The first cause for which one refuses to choose coordinates of an axis.
-fn select_refusal<S: Data>(
+/// Coordinates of an axis, to be chosen.
+fn check_select<S: Data>(
     array: &ArrayBase<S, IxDyn>,
     axis: usize,
     indexes: &[usize],
-) -> Option<Cause>
-    ensures { result ≡ first_failed (select_tests axis indexes.now (shape_of array.now)) }
+) -> Result<(), Cause>
+    ensures { Refuses result (first_failed (select_tests axis indexes.now (shape_of array.now))) }
 {
     let mut dim = array.raw_dim();
-    if axis >= dim.ndim() {
-        return Some(Cause::Axis);
-    }
-    if !all_below(indexes, array.len_of(Axis(axis))) {
-        return Some(Cause::Index);
-    }
+    check(axis < dim.ndim(), Cause::Axis)?;
+    check(all_below(indexes, array.len_of(Axis(axis))), Cause::Index)?;
     dim.set_length(axis, indexes.len());
-    if size_of_shape_checked(dim.slice()).is_err() {
-        return Some(Cause::Overflow);
-    }
-    None
+    check(size_of_shape_checked(dim.slice()).is_ok(), Cause::Overflow)
 }
 
 /// Replaces the array by one of the chosen coordinates of an axis. A refusal changes nothing.
@@ -213,12 +204,12 @@ fn select<A: Clone + Eq + Drop>(
     requires { (x y : A) → A.is_clone x y → y ≡ x }
     ensures { CarriesOut A.eq (Selecting axis indexes.now) (meaning_of array) meaning_of result }
 {
-    match select_refusal(&array, axis, indexes) {
-        None => match array.select(alloc, Axis(axis), indexes) {
+    match check_select(&array, axis, indexes) {
+        Ok(()) => match array.select(alloc, Axis(axis), indexes) {
             Ok(selected) => Ok((Reply::Done, selected)),
             Err(_) => Err(AllocError),
         },
-        Some(cause) => Ok((Reply::Refused(cause.number()), array)),
+        Err(cause) => Ok((Reply::Refused(cause.number()), array)),
     }
 }
 
@@ -226,13 +217,13 @@ fn select<A: Clone + Eq + Drop>(
 fn remove_index<A: Eq>(array: Array<A, IxDyn>, axis: usize, index: usize) -> Acted<A>
     ensures { IsCarriedOut A.eq (Removing axis index) (meaning_of array) meaning_of result }
 {
-    match index_refusal(array.shape(), axis, index) {
-        None => {
+    match check_index(array.shape(), axis, index) {
+        Ok(()) => {
             let mut array = array;
             array.remove_index(Axis(axis), index);
             (Reply::Done, array)
         }
-        Some(refused) => (Reply::Refused(refused.number()), array),
+        Err(refused) => (Reply::Refused(refused.number()), array),
     }
 }
 
@@ -252,6 +243,90 @@ fn reshape<A: Clone + Eq + Drop>(
             Err(_) => Err(AllocError),
         },
         Err(cause) => Ok((Reply::Refused(cause.number()), array)),
+    }
+}
+
+/// An array of other lengths behind an array along an axis.
+fn check_append<S: Data, T: Data>(
+    array: &ArrayBase<S, IxDyn>,
+    axis: usize,
+    other: &ArrayBase<T, IxDyn>,
+) -> Result<(), Cause>
+    ensures { Refuses result (first_failed (append_tests axis (shape_of other.now) (shape_of array.now))) }
+{
+    check(array.ndim() > 0, Cause::Shape)?;
+    check(axis < array.ndim(), Cause::Axis)?;
+    let len = array.len_of(Axis(axis));
+    let mut beside = other.raw_dim();
+    beside.set_length(axis, len);
+    check(beside.slice() == array.shape(), Cause::Shape)?;
+    let mut joined = array.raw_dim();
+    joined.set_length(axis, len + other.len_of(Axis(axis)));
+    check(
+        size_of_shape_checked(joined.slice()).is_ok(),
+        Cause::Overflow,
+    )
+}
+
+/// Puts another array behind the array along an axis. A refusal changes nothing.
+fn append<A: Clone + Eq + Drop>(
+    array: Array<A, IxDyn>,
+    axis: usize,
+    other: ArrayView<'_, A, IxDyn>,
+) -> Result<Acted<A>, AllocError>
+    requires { (x y : A) → A.is_clone x y → y ≡ x }
+    ensures { CarriesOut A.eq (Appending axis (meaning_of other.entry)) (meaning_of array) meaning_of result }
+{
+    match check_append(&array, axis, &other) {
+        Ok(()) => {
+            let mut array = array;
+            match array.append(Axis(axis), other) {
+                Ok(()) => Ok((Reply::Done, array)),
+                Err(ArrayError::NoMemory) => Err(AllocError),
+                Err(ArrayError::Shape(_)) => unreachable!(),
+            }
+        }
+        Err(cause) => Ok((Reply::Refused(cause.number()), array)),
+    }
+}
+
+/// Puts an array with one axis fewer behind the array, as one more length of an axis. A refusal changes nothing.
+fn push<A: Clone + Eq + Drop>(
+    array: Array<A, IxDyn>,
+    axis: usize,
+    other: &Array<A, IxDyn>,
+) -> Result<Acted<A>, AllocError>
+    requires { (x y : A) → A.is_clone x y → y ≡ x }
+    ensures { CarriesOut A.eq (Appending axis (with_axis_inserted axis (meaning_of other.now))) (meaning_of array) meaning_of result }
+{
+    if array.ndim() == 0 {
+        return Ok((Reply::Refused(Cause::Shape.number()), array));
+    }
+    if axis >= array.ndim() {
+        return Ok((Reply::Refused(Cause::Axis.number()), array));
+    }
+    if other.ndim() + 1 != array.ndim() {
+        return Ok((Reply::Refused(Cause::Shape.number()), array));
+    }
+    append(array, axis, other.view().insert_axis(Axis(axis)))
+}
+
+/// Makes room for more lengths of an axis. A refusal changes nothing.
+fn reserve<A: Eq + Drop>(
+    array: Array<A, IxDyn>,
+    axis: usize,
+    additional: usize,
+) -> Result<Acted<A>, AllocError>
+    ensures { CarriesOut A.eq (Reserving axis additional) (meaning_of array) meaning_of result }
+{
+    if axis >= array.ndim() {
+        return Ok((Reply::Refused(Cause::Axis.number()), array));
+    }
+    let mut array = array;
+    match array.reserve(Axis(axis), additional) {
+        Ok(()) => Ok((Reply::Done, array)),
+        Err(ArrayError::Shape(_)) => Ok((Reply::Refused(Cause::Overflow.number()), array)),
+        Err(ArrayError::NoMemory) => Err(AllocError),
     }
 }
 
@@ -277,6 +352,9 @@ fn act<A: Clone + Eq + Drop>(
         Call::Select(axis, indexes) => select(alloc, array, *axis, indexes.as_slice()),
         Call::RemoveIndex(axis, index) => Ok(remove_index(array, *axis, *index)),
         Call::Reshape(lengths, order) => reshape(alloc, array, lengths.as_slice(), *order),
+        Call::Append(axis, other) => append(array, *axis, other.view()),
+        Call::Push(axis, other) => push(array, *axis, other),
+        Call::Reserve(axis, additional) => reserve(array, *axis, *additional),
     }
 }
 

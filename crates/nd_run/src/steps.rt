@@ -4,8 +4,8 @@ ghost use Rattle.std.specs.Prelude.{◌≡◌, ◌<◌, ◌+◌, ◌^◌, ◌∷
 ghost use Rattle.nd_shape_and_slice.specs.Axes.{names_each_axis, permuted_list, unpermuted_list};
 ghost use Rattle.nd_array_core.specs.Meaning.{shape_of, element_at, inside, meaning_of, storage_of, place_at};
 ghost use Rattle.nd_shape_and_slice.specs.SliceInfo.{reads_axis, axes_read};
-ghost use Rattle.nd_run.specs.Calls.{asked_step, SlicedAxis, Sliced, BroadcastTo, Indexed, Permuted, Exchanged, Inverted, Inserted};
-ghost use Rattle.nd_run.specs.Steps.{first_failed, element_tests, refusal, keep_refusal, step_shape, step_index};
+ghost use Rattle.nd_run.specs.Calls.{asked_step, Sliced, BroadcastTo, Indexed};
+ghost use Rattle.nd_run.specs.Steps.{Refuses, first_failed, element_tests, refusal, keep_refusal, step_shape, step_index};
 ghost use Rattle.nd_run.specs.Fold.{step_result};
 
 use crate::calls::Step;
@@ -16,143 +16,93 @@ use nd_shape_and_slice::{
     coordinate_on_axis, slice_fits,
 };
 
-fn slice_refusal(shape: &[usize], axis: usize, slice: Slice) -> Option<Cause>
-    ensures { result ≡ refusal (SlicedAxis axis slice) shape.now }
+/// An error of this cause, unless the test holds.
+pub fn check(holds: bool, cause: Cause) -> Result<(), Cause>
+    ensures { Refuses result (first_failed ((holds, cause) ∷ [])) }
 {
-    if axis >= shape.len() {
-        return Some(Cause::Axis);
-    }
-    if !slice_fits(shape[axis], slice) {
-        return Some(Cause::Slice);
-    }
-    None
+    if holds { Ok(()) } else { Err(cause) }
 }
 
-/// The cause for which one refuses an element that reads this axis, if it reads one.
-fn element_refusal(shape: &[usize], axis: usize, element: SliceInfoElem) -> Option<Cause>
+/// Whether an element that reads this axis, if it reads one, fits it.
+fn check_element(shape: &[usize], axis: usize, element: SliceInfoElem) -> Result<(), Cause>
     requires { reads_axis element ≡ true → axis < length shape.now }
-    ensures { result ≡ first_failed (element_tests axis shape.now (element ∷ [])) }
+    ensures { Refuses result (first_failed (element_tests axis shape.now (element ∷ []))) }
 {
     match element {
-        SliceInfoElem::Slice { start, end, step } => {
-            if slice_fits(shape[axis], Slice { start, end, step }) {
-                None
-            } else {
-                Some(Cause::Slice)
-            }
-        }
-        SliceInfoElem::Index(coordinate) => {
-            if coordinate_on_axis(shape[axis], coordinate).is_some() {
-                None
-            } else {
-                Some(Cause::Index)
-            }
-        }
-        SliceInfoElem::NewAxis => None,
+        SliceInfoElem::Slice { start, end, step } => check(
+            slice_fits(shape[axis], Slice { start, end, step }),
+            Cause::Slice,
+        ),
+        SliceInfoElem::Index(coordinate) => check(
+            coordinate_on_axis(shape[axis], coordinate).is_some(),
+            Cause::Index,
+        ),
+        SliceInfoElem::NewAxis => Ok(()),
     }
 }
 
-/// The first cause for which one refuses an element of a list that reads each axis.
-fn first_element_refusal(shape: &[usize], elements: &[SliceInfoElem]) -> Option<Cause>
+fn check_elements(shape: &[usize], elements: &[SliceInfoElem]) -> Result<(), Cause>
     requires { axes_read elements.now ≡ length shape.now }
-    ensures { result ≡ first_failed (element_tests 0 shape.now elements.now) }
+    ensures { Refuses result (first_failed (element_tests 0 shape.now elements.now)) }
 {
     let mut axis = 0;
     for element in elements {
-        let refused = element_refusal(shape, axis, *element);
-        if refused.is_some() {
-            return refused;
-        }
+        check_element(shape, axis, *element)?;
         axis = axis_after(axis, *element);
     }
-    None
+    Ok(())
 }
 
-fn list_refusal(shape: &[usize], elements: &[SliceInfoElem]) -> Option<Cause>
-    ensures { result ≡ refusal (Sliced elements.now) shape.now }
+/// A list that reads each axis.
+fn check_list(shape: &[usize], elements: &[SliceInfoElem]) -> Result<(), Cause>
+    ensures { Refuses result (refusal (Sliced elements.now) shape.now) }
 {
-    if axes_read(elements) != shape.len() {
-        return Some(Cause::Shape);
-    }
-    if axes_kept(elements) > MAX_AXES {
-        return Some(Cause::TooManyAxes);
-    }
-    first_element_refusal(shape, elements)
+    check(axes_read(elements) == shape.len(), Cause::Shape)?;
+    check(axes_kept(elements) <= MAX_AXES, Cause::TooManyAxes)?;
+    check_elements(shape, elements)
 }
 
-/// The first cause for which one refuses a coordinate of an axis.
-pub fn index_refusal(shape: &[usize], axis: usize, index: usize) -> Option<Cause>
-    ensures { result ≡ refusal (Indexed axis index) shape.now }
+/// A coordinate of an axis.
+pub fn check_index(shape: &[usize], axis: usize, index: usize) -> Result<(), Cause>
+    ensures { Refuses result (refusal (Indexed axis index) shape.now) }
 {
-    if axis >= shape.len() {
-        return Some(Cause::Axis);
-    }
-    if index >= shape[axis] {
-        return Some(Cause::Index);
-    }
-    None
+    check(axis < shape.len(), Cause::Axis)?;
+    check(index < shape[axis], Cause::Index)
 }
 
-fn order_refusal(shape: &[usize], axes: &[usize]) -> Option<Cause>
-    ensures { result ≡ refusal (Permuted axes.now) shape.now }
+/// A step on an array of these lengths whose result is kept: a broadcast shares elements.
+fn check_keep(shape: &[usize], step: &Step) -> Result<(), Cause>
+    ensures { Refuses result (keep_refusal (asked_step step.now) shape.now) }
 {
-    if axes_fit(axes, shape.len()) {
-        None
-    } else {
-        Some(Cause::Permutation)
+    match step {
+        Step::SliceAxis(axis, slice) => {
+            check(*axis < shape.len(), Cause::Axis)?;
+            check(slice_fits(shape[*axis], *slice), Cause::Slice)
+        }
+        Step::Slice(elements) => check_list(shape, elements.as_slice()),
+        Step::Collapse(axis, index) => check_index(shape, *axis, *index),
+        Step::IndexAxis(axis, index) => check_index(shape, *axis, *index),
+        Step::Permute(axes) => check(axes_fit(axes.as_slice(), shape.len()), Cause::Permutation),
+        Step::SwapAxes(a, b) => {
+            check(*a < shape.len(), Cause::Axis)?;
+            check(*b < shape.len(), Cause::Axis)
+        }
+        Step::Invert(axis) => check(*axis < shape.len(), Cause::Axis),
+        Step::InsertAxis(axis) => {
+            check(*axis <= shape.len(), Cause::Axis)?;
+            check(shape.len() < MAX_AXES, Cause::TooManyAxes)
+        }
+        Step::RemoveAxis(axis) => check_index(shape, *axis, 0),
+        Step::Reverse | Step::Squeeze | Step::Diag => Ok(()),
+        Step::Broadcast(_) => Err(Cause::Broadcast),
     }
 }
 
-fn exchange_refusal(shape: &[usize], a: usize, b: usize) -> Option<Cause>
-    ensures { result ≡ refusal (Exchanged a b) shape.now }
-{
-    if a < shape.len() && b < shape.len() {
-        None
-    } else {
-        Some(Cause::Axis)
-    }
-}
-
-fn axis_refusal(shape: &[usize], axis: usize) -> Option<Cause>
-    ensures { result ≡ refusal (Inverted axis) shape.now }
-{
-    if axis < shape.len() {
-        None
-    } else {
-        Some(Cause::Axis)
-    }
-}
-
-fn insert_refusal(shape: &[usize], axis: usize) -> Option<Cause>
-    ensures { result ≡ refusal (Inserted axis) shape.now }
-{
-    if axis > shape.len() {
-        return Some(Cause::Axis);
-    }
-    if shape.len() >= MAX_AXES {
-        return Some(Cause::TooManyAxes);
-    }
-    None
-}
-
-/// The first cause for which one refuses a step on an array of these lengths whose result is kept: a broadcast shares
-/// elements.
+/// The first cause for which one refuses such a step.
 pub fn keep_refusal(shape: &[usize], step: &Step) -> Option<Cause>
     ensures { result ≡ keep_refusal (asked_step step.now) shape.now }
 {
-    match step {
-        Step::SliceAxis(axis, slice) => slice_refusal(shape, *axis, *slice),
-        Step::Slice(elements) => list_refusal(shape, elements.as_slice()),
-        Step::Collapse(axis, index) => index_refusal(shape, *axis, *index),
-        Step::IndexAxis(axis, index) => index_refusal(shape, *axis, *index),
-        Step::Permute(axes) => order_refusal(shape, axes.as_slice()),
-        Step::SwapAxes(a, b) => exchange_refusal(shape, *a, *b),
-        Step::Invert(axis) => axis_refusal(shape, *axis),
-        Step::InsertAxis(axis) => insert_refusal(shape, *axis),
-        Step::RemoveAxis(axis) => index_refusal(shape, *axis, 0),
-        Step::Reverse | Step::Squeeze | Step::Diag => None,
-        Step::Broadcast(_) => Some(Cause::Broadcast),
-    }
+    check_keep(shape, step).err()
 }
 
 /// The array with its axes in this order.

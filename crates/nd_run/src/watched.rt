@@ -70,11 +70,7 @@ impl<T> Watched<T> {
     pub fn into_inner(self) -> T
         ensures { result ≡ watched_inner self }
     {
-        let Watched {
-            inner,
-            failed: _,
-            flushes: _,
-        } = self;
+        let Watched { inner, .. } = self;
         inner
     }
 

@@ -1,12 +1,11 @@
 //! Acts on an array's elements, through a path of steps or on the two parts of a split.
 
-ghost use Rattle.std.specs.Prelude.{◌≡◌, ◌||◌, ℕ, true, List, map, Option, None, Some, IfOk, OnErr, if◌then◌else◌};
-ghost use Rattle.nd_shape_and_slice.specs.Shape.{in_box};
-ghost use Rattle.nd_shape_and_slice.specs.Broadcast.{broadcasts};
+ghost use Rattle.std.specs.Prelude.{◌≡◌, ◌||◌, ℕ, true, List, map, Option, None, IfOk, OnErr};
 ghost use Rattle.nd_array_core.specs.Meaning.{shape_of, element_at, meaning_of, storage_of, place_at, placed_array, inside};
 ghost use Rattle.nd_array_core.specs.base.Writes.{OthersStay};
 ghost use Rattle.nd_array_core.specs.scoped.Tasks.{view_frame, lent_frame, lent_view, view_left, CanBeSeen};
 ghost use Rattle.nd_run.specs.Calls.{asked_step, acting, said_reply, Writing, SplitWriting};
+ghost use Rattle.nd_run.specs.Steps.{Refuses};
 ghost use Rattle.nd_run.specs.Acts.{act_refusal, acted_elements, clones, path_refusal, parts_refusal, point_refusal};
 ghost use Rattle.nd_run.specs.Placing.{places_in, acted_elements_unless, WritesThrough, WritesParts, said_unless};
 ghost use Rattle.nd_run.specs.Fold.{LeadsAlong, CarriesOut};
@@ -14,7 +13,7 @@ ghost use Rattle.nd_run.specs.Fold.{LeadsAlong, CarriesOut};
 use crate::calls::{Act, Reply, Step};
 use crate::cause::Cause;
 use crate::laws::paths_lead_along;
-use crate::steps::{keep_refusal, take_step};
+use crate::steps::{check, keep_refusal, take_step};
 use nd_array_core::laws::{distinct_places, elements_have_places, nothing_outside};
 use nd_array_core::scoped::{LentView, PairTask, ViewTask};
 use nd_array_core::{Array, ArrayBase, Data, DataMut, OwnedRepr, ViewMutRepr};
@@ -42,45 +41,26 @@ fn go_along<S: Data>(
     (array, None)
 }
 
-fn index_refusal<S: Data>(array: &ArrayBase<S, IxDyn>, index: &[usize]) -> Option<Cause>
-    ensures { result ≡ (if in_box (shape_of array.now) index.now then None else Some Cause.Index) }
+/// An act on an array's elements.
+fn check_act<S: Data>(array: &ArrayBase<S, IxDyn>, act: &Act<S::Elem>) -> Result<(), Cause>
+    ensures { Refuses result (act_refusal (acting act.now) (shape_of array.now)) }
 {
-    if array.get(index).is_some() {
-        None
-    } else {
-        Some(Cause::Index)
+    match act {
+        Act::Fill(_) => Ok(()),
+        Act::Assign(other) => check(other.broadcast(array.raw_dim()).is_some(), Cause::Broadcast),
+        Act::Set(index, _) => check(array.get(index.as_slice()).is_some(), Cause::Index),
+        Act::Swap(a, b) => {
+            check(array.get(a.as_slice()).is_some(), Cause::Index)?;
+            check(array.get(b.as_slice()).is_some(), Cause::Index)
+        }
     }
 }
 
-fn broadcast_refusal<S: Data, Z: Data>(
-    array: &ArrayBase<S, IxDyn>,
-    other: &ArrayBase<Z, IxDyn>,
-) -> Option<Cause>
-    ensures { result ≡ (if broadcasts (shape_of other.now) (shape_of array.now) then None else Some Cause.Broadcast) }
-{
-    if other.broadcast(array.raw_dim()).is_some() {
-        None
-    } else {
-        Some(Cause::Broadcast)
-    }
-}
-
-/// The first cause for which one refuses an act on an array's elements.
+/// The first cause for which one refuses such an act.
 fn act_refusal<S: Data>(array: &ArrayBase<S, IxDyn>, act: &Act<S::Elem>) -> Option<Cause>
     ensures { result ≡ act_refusal (acting act.now) (shape_of array.now) }
 {
-    match act {
-        Act::Fill(_) => None,
-        Act::Assign(other) => broadcast_refusal(array, other),
-        Act::Set(index, _) => index_refusal(array, index.as_slice()),
-        Act::Swap(a, b) => {
-            let refused = index_refusal(array, a.as_slice());
-            if refused.is_some() {
-                return refused;
-            }
-            index_refusal(array, b.as_slice())
-        }
-    }
+    check_act(array, act).err()
 }
 
 /// Does an act that was checked before.
@@ -97,14 +77,8 @@ where
     ensures memory { OnErr result (clones (acting act.now) ≡ true) }
 {
     match act {
-        Act::Fill(value) => match array.fill(value.clone()?) {
-            Ok(()) => Ok(()),
-            Err(_) => Err(AllocError),
-        },
-        Act::Assign(other) => match array.assign(other) {
-            Ok(()) => Ok(()),
-            Err(_) => Err(AllocError),
-        },
+        Act::Fill(value) => array.fill(value.clone()?).map_err(|_| AllocError),
+        Act::Assign(other) => array.assign(other).map_err(|_| AllocError),
         Act::Set(index, value) => {
             let value = value.clone()?;
             let _ = array.replace(index.as_slice(), value);
@@ -181,34 +155,6 @@ where
     Ok(None)
 }
 
-/// Acts on two parts, or returns the cause of a refusal.
-fn act_on_parts<S: DataMut>(
-    lower: ArrayBase<S, IxDyn>,
-    upper: ArrayBase<S, IxDyn>,
-    first: &Act<S::Elem>,
-    second: &Act<S::Elem>,
-) -> (
-    ArrayBase<S, IxDyn>,
-    ArrayBase<S, IxDyn>,
-    Result<Option<Cause>, AllocError>,
-)
-where
-    S::Elem: Clone + Drop,
-    requires { (x y : S.Elem) → S.Elem.is_clone x y → y ≡ x }
-    ensures done { WritesParts (acting first.now) (acting second.now) (placed_array lower) (placed_array upper) (placed_array result.0) (placed_array result.1) result.2 }
-    ensures lower_frame { S.frame (storage_of result.0) ≡ S.frame (storage_of lower) }
-    ensures upper_frame { S.frame (storage_of result.1) ≡ S.frame (storage_of upper) }
-{
-    let mut lower = lower;
-    let mut upper = upper;
-    elements_have_places(&lower);
-    elements_have_places(&upper);
-    let answer = act_on_both(&mut lower, &mut upper, first, second);
-    elements_have_places(&lower);
-    elements_have_places(&upper);
-    (lower, upper, answer)
-}
-
 /// An act at the end of a path, done with a mutable view of the array.
 #[derive(Drop)]
 struct ActAlong<'p, A, S: Data<Elem = A> = OwnedRepr<A>> {
@@ -269,11 +215,13 @@ impl<'p, A: Clone + Drop, D: Dimension> PairTask<A, D, D> for ActOnParts<'p, A> 
         ensures two_frame { view_frame result.1 ≡ lent_frame two.entry }
         ensures done { WritesParts (acting self.entry.first.now) (acting self.entry.second.now) (lent_view D.lengths D.Strides.strides_of one.entry) (lent_view D.lengths D.Strides.strides_of two.entry) (view_left D.lengths D.Strides.strides_of one.entry result.0) (view_left D.lengths D.Strides.strides_of two.entry result.1) result.2 }
     {
-        let lower = one.into_view().into_dyn();
-        let upper = two.into_view().into_dyn();
+        let mut lower = one.into_view().into_dyn();
+        let mut upper = two.into_view().into_dyn();
         elements_have_places(&lower);
         elements_have_places(&upper);
-        let (lower, upper, answer) = act_on_parts(lower, upper, self.first, self.second);
+        let answer = act_on_both(&mut lower, &mut upper, self.first, self.second);
+        elements_have_places(&lower);
+        elements_have_places(&upper);
         (lower.into_storage(), upper.into_storage(), answer)
     }
 }

@@ -38,7 +38,7 @@ fn bad_starts(rt: HostRuntime) {
 }
 
 // Each of these is a bad line.
-const BAD_CALLS: [&[u8]; 57] = [
+const BAD_CALLS: [&[u8]; 74] = [
     b"start 1 1 5",
     b"keep",
     b"keep shape",
@@ -96,6 +96,23 @@ const BAD_CALLS: [&[u8]; 57] = [
     b"reshape row 18446744073709551615 1",
     b"keep reshape row 1 1",
     b"row 1 1",
+    b"append",
+    b"append 0",
+    b"append 0 1",
+    b"append 0 1 2 5",
+    b"append 0 1 1 5 5",
+    b"append -1 1 1 5",
+    b"append 0 1 9223372036854775808",
+    b"append 0 33 1 1 1 1 1 1 1 1 1 1 1 1 1 1 1 1 1 1 1 1 1 1 1 1 1 1 1 1 1 1 1 1 1 5",
+    b"keep append 0 1 1 5",
+    b"write append 0 1 1 5",
+    b"push",
+    b"push 0 1",
+    b"push 0 0 5 5",
+    b"ask push 0 0 5",
+    b"reserve 0",
+    b"reserve 0 18446744073709551616",
+    b"reserve 0 0 0",
 ];
 
 // So is each of these: writes with a word too few or too many, or with one that is no such number.
@@ -212,10 +229,11 @@ fn bad_calls(rt: HostRuntime) -> Result<(), Fail> {
 
 #[test]
 fn no_line_with_words(rt: HostRuntime) {
-    let table: [(&[u8], &[u8]); 3] = [
+    let table: [(&[u8], &[u8]); 4] = [
         (b"\n", b"bad line 2\n"),
         (b" \t\r", b"bad line 2\n"),
         (b"\n\n \n", b"bad line 4\n"),
+        (b"\n\n\n\n\n\n\n\n\n", b"bad line 10\n"),
     ];
     for (text, wanted) in table {
         let (written, status) = answer(rt.alloc(), text);

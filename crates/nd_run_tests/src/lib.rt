@@ -7,6 +7,12 @@ mod answers;
 #[cfg(test)]
 mod bad_lines;
 #[cfg(test)]
+mod damaged;
+#[cfg(test)]
+mod growth;
+#[cfg(test)]
+mod layouts;
+#[cfg(test)]
 mod questions;
 #[cfg(test)]
 mod refused_clones;

@@ -1,6 +1,6 @@
 //! Calls on elements whose clones are refused. Each element is dropped once.
 
-ghost use Rattle.std.specs.Prelude.{◌≡◌};
+ghost use Rattle.std.specs.Prelude.{◌≡◌, ◌≤◌, length};
 
 use nd_array_core::Array;
 use nd_run::run::{RunFault, run};
@@ -191,6 +191,59 @@ fn refused_clones_of_other_lengths(rt: HostRuntime) -> Result<(), Fail> {
     ] {
         let tally = Tally::allowing(allowed);
         assert_eq!(rt; assigned_with(rt.alloc(), &tally)?, (replies, whole));
+        assert_eq!(rt; tally.living(), Some(0));
+    }
+    Ok(())
+}
+
+// The array of this shape and these numbers.
+fn numbered<'a>(
+    alloc: Global,
+    lengths: &[usize],
+    numbers: &[u64],
+    tally: &'a Tally,
+) -> Result<Array<Refusing<'a>, IxDyn>, Fail>
+    requires { length lengths.now ≤ 32 }
+{
+    let items = Refusing::listed(alloc, numbers, tally)?;
+    Ok(
+        Array::from_shape_vec(IxDyn::new(lengths), items)
+            .ok()
+            .ok_or("shape")?,
+    )
+}
+
+// A list with two elements more behind it, with room, and then with one more.
+fn lengthened<A: Clone + Eq + Drop>(
+    alloc: Global,
+    start: Array<A, IxDyn>,
+    two: Array<A, IxDyn>,
+    one: Array<A, IxDyn>,
+) -> Result<(usize, usize), Fail>
+    requires { (x y : A) → A.is_clone x y → y ≡ x }
+{
+    let mut calls = Vec::new(alloc);
+    calls.push(Call::Append(0, two))?;
+    calls.push(Call::Reserve(0, 4))?;
+    calls.push(Call::Push(0, one))?;
+    match run(alloc, start, &calls) {
+        Ok((replies, array)) => Ok((replies.len(), array.len())),
+        Err(RunFault::Memory(replies)) => Ok((replies.len(), 0)),
+    }
+}
+
+fn lengthened_with(alloc: Global, tally: &Tally) -> Result<(usize, usize), Fail> {
+    let start = three_numbers(alloc, tally)?;
+    let two = numbered(alloc, &[2], &[1, 2], tally)?;
+    let one = numbered(alloc, &[], &[3], tally)?;
+    lengthened(alloc, start, two, one)
+}
+
+#[test]
+fn refused_clones_of_what_comes_behind(rt: HostRuntime) -> Result<(), Fail> {
+    for (allowed, replies, count) in [(0, 0, 0), (1, 0, 0), (2, 2, 0), (3, 3, 6)] {
+        let tally = Tally::allowing(allowed);
+        assert_eq!(rt; lengthened_with(rt.alloc(), &tally)?, (replies, count));
         assert_eq!(rt; tally.living(), Some(0));
     }
     Ok(())

@@ -1,6 +1,6 @@
 //! Scripts from start to end.
 
-use crate::answers::written;
+use crate::answers::{answer, written};
 
 #[test]
 fn arrays_at_the_end(rt: HostRuntime) {
@@ -168,7 +168,7 @@ fn elements_under_other_lengths(rt: HostRuntime) {
 
 #[test]
 fn scripts(rt: HostRuntime) {
-    let table: [(&[u8], &[u8]); 8] = [
+    let table: [(&[u8], &[u8]); 9] = [
         // a slice of a list of cubes
         (
             b"start 1 10 0 1 8 27 64 125 216 343 512 729\nask cut 0 2 5 1 / elements\n",
@@ -183,6 +183,11 @@ fn scripts(rt: HostRuntime) {
         (
             b"start 1 6 0 1 2 3 4 5\nask cut 0 0 6 -2 / elements\nkeep cut 0 0 6 -2\nask cut 0 0 3 -1 / elements",
             b"array 1 3 5 3 1\ndone\narray 1 3 1 3 5\nend 1 3 5 3 1\n",
+        ),
+        // a cut with both ends counted from the far one, kept; then each kind of call on what is left
+        (
+            b"start 2 2 7 0 1 2 3 4 5 6 7 8 9 10 11 12 13\nkeep cut 1 -6 -1 3\nkeep permute 2 1 0\nask shape\nask permute 2 1 0 / cut 0 0 _ 1 / get 2 1 0\nwrite reverse / invert 1 / set 2 0 1 -9\nwrite swap 0 1 8\nsplit 1 1 swap 2 0 0 2 1 0 / fill 4\nask elements\nwrite assign 1 2 5 -6\nask reverse / reshape row 1 4\nreshape col 2 4 1\n",
+            b"done\ndone\nshape 2 2 2\nsome 8\ndone\nrefused 2\ndone\narray 2 2 2 4 4 -9 4\ndone\narray 1 4 5 5 -6 -6\ndone\nend 2 4 1 5 5 -6 -6\n",
         ),
         // an index with a coordinate missing, and one outside
         (
@@ -210,4 +215,18 @@ fn scripts(rt: HostRuntime) {
         ),
     ];
     written(&rt, rt.alloc(), &table);
+}
+
+// The replies before memory ran out, of each kind, and no array.
+#[test]
+fn out_of_memory(rt: HostRuntime) {
+    let (written, status) = answer(
+        rt.alloc(),
+        b"start 1 2 -1 10\nkeep invert 0\nask broadcast 1 3 / shape\nask insert 0 / shape\nask invert 0 / elements\nask get 1 1\nask get 0\nreserve 0 1152921504606846976\nask shape\n",
+    );
+    assert_eq!(rt;
+        written.as_slice(),
+        b"done\nrefused 8\nshape 2 1 2\narray 1 2 -1 10\nsome -1\nnone\nout of memory\n".as_slice()
+    );
+    assert_eq!(rt; status, 2);
 }

@@ -52,9 +52,11 @@ fn make_choppy(alloc: Global, bad_call: u64, kind: Option<ErrorKind>, bad_flush:
     }
 }
 
-const TEXT: &[u8] = b"start 2 1 2 -30 4000\nask shape\nkeep permute 2 1 0\nask get 2 0 0\n";
+const TEXT: &[u8] =
+    b"start 2 2 3 1 2 3 4 5 6\nask reverse / elements\nask broadcast 1 2 / shape\nask get 1 0\nappend 0 2 1 2 9 9\nappend 5 2 1 3 7 8 9\npush 0 1 3 7 8 9\nkeep invert 0\nreserve 0 18446744073709551615\n";
 
-const WRITTEN: &[u8] = b"shape 2 1 2\ndone\nsome -30\nend 2 2 1 -30 4000\n";
+const WRITTEN: &[u8] =
+    b"array 2 3 2 1 4 2 5 3 6\nrefused 8\nnone\nrefused 5\nrefused 1\ndone\ndone\nrefused 6\nend 2 3 3 7 8 9 4 5 6 1 2 3\n";
 
 #[test]
 fn short_writes_and_one_flush(rt: HostRuntime) {

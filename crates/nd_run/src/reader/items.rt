@@ -1,135 +1,172 @@
-//! Words and numbers from the front of a line, and lists of numbers.
+//! What is left of a line, and words, numbers, lists and arrays from its front.
 
-ghost use Rattle.std.specs.Prelude.{◌≡◌, ◌<◌, ◌≤◌, length};
+ghost use Rattle.std.specs.Prelude.{◌≡◌, ◌<◌, ◌≤◌, ℕ, List, Option, length};
 ghost use Rattle.nd_shape_and_slice.specs.Shape.{HasCheckedSize, size_of};
 ghost use Rattle.nd_array_core.specs.Meaning.{meaning_of};
 ghost use Rattle.nd_run.specs.Grammar.{array_of};
+ghost use Rattle.nd_run.specs.Numerals.{nat_of, int_of};
 ghost use Rattle.nd_run.specs.Words.{words_of};
-ghost use Rattle.nd_run.specs.Reading.{Gives, word_at, item_at, many_at, pair_at, list_at, order_at, ordered_list_at, lengths_at, parts_at, array_at, checked_size, keyword_at, slash_at};
+ghost use Rattle.nd_run.specs.Reading.{Gives, IsRead, TakesWords, word_at, item_at, many_at, counted_at, end_of, slice_at, element_at, order_at, lengths_at, parts_at, array_at, checked_size, keyword_at, slash_at, begins_step, read_to_end};
 
 use crate::keyword::Keyword;
-use crate::numbers::Number;
+use crate::numbers::{int_of_word, of_digits};
 use crate::reader::fault::LineFault;
-use crate::words::{has_words, split_word};
+use crate::words::{has_words, is_wordless, split_word};
 use nd_array_core::Array;
-use nd_shape_and_slice::{IxDyn, Order, size_of_shape_checked};
+use nd_shape_and_slice::{IxDyn, MAX_AXES, Order, Slice, SliceInfoElem, size_of_shape_checked};
 use std::alloc::Global;
+use std::marker::Model;
 
-/// The first word.
-pub fn word(line: &[u8]) -> Result<(&[u8], &[u8]), LineFault>
-    ensures { Gives (λ x. (x.0.now, words_of x.1.now)) result (word_at (words_of line.now)) }
-{
-    split_word(line).ok_or(LineFault::Bad)
+/// The words of a line that are left.
+#[derive(Drop)]
+pub struct Line<'a> {
+    rest: &'a [u8],
 }
 
-/// What the first word names.
-pub fn keyword(line: &[u8]) -> Result<(Keyword, &[u8]), LineFault>
-    ensures { Gives (λ x. (x.0, words_of x.1.now)) result (keyword_at (words_of line.now)) }
-{
-    let (first, rest) = word(line)?;
-    Ok((Keyword::of(first), rest))
+impl<'a> Model for Line<'a> {
+    ghost use Rattle.std.specs.Prelude.{ℕ, List};
+    ghost use Rattle.nd_run.specs.Words.{words_of};
+
+    ghost Value = { List (List ℕ) };
+
+    ghost view = { λ line. words_of line.rest.now };
 }
 
-/// A slash, and what follows it.
-#[tactic(auto, unfolding(crate::specs::Reading::named_at))]
-pub fn slash(line: &[u8]) -> Result<&[u8], LineFault>
-    ensures { Gives (λ x. (tt, words_of x.now)) result (slash_at (words_of line.now)) }
-{
-    let (first, rest) = keyword(line)?;
-    match first {
-        Keyword::Slash => Ok(rest),
-        _ => Err(LineFault::Bad),
+/// What is read of words and takes no memory.
+pub trait Item: Copy {
+    ghost read_at: { List (List ℕ) → Option (Self × List (List ℕ)) };
+
+    /// What the front of the line writes.
+    fn read(line: &mut Line<'_>) -> Result<Self, LineFault>
+        ensures { IsRead (λ x. x) result line.new (read_at line.old) };
+}
+
+/// The lengths of an array, and its elements in row-major order.
+type Parts = (Vec<usize>, Vec<i64>);
+
+impl<'a> Line<'a> {
+    pub fn new(line: &'a [u8]) -> Line<'a>
+        ensures { result ≡ words_of line.now }
+    {
+        Line { rest: line }
+    }
+
+    /// The first word.
+    fn word(&mut self) -> Result<&'a [u8], LineFault>
+        ensures { IsRead (λ word. word.now) result self.new (word_at self.old) }
+    {
+        match split_word(self.rest) {
+            Some((word, rest)) => {
+                self.rest = rest;
+                Ok(word)
+            }
+            None => Err(LineFault::Bad),
+        }
+    }
+
+    /// What the first word names.
+    pub fn keyword(&mut self) -> Result<Keyword, LineFault>
+        ensures { IsRead (λ x. x) result self.new (keyword_at self.old) }
+    {
+        Ok(Keyword::of(self.word()?))
+    }
+
+    /// Whether a step begins here.
+    pub fn begins_step(&self) -> bool
+        ensures { result ≡ begins_step self.now }
+    {
+        match split_word(self.rest) {
+            Some((first, _)) => Keyword::of(first).is_step(),
+            None => false,
+        }
+    }
+
+    #[tactic(auto, unfolding(crate::specs::Reading::named_at))]
+    pub fn slash(&mut self) -> Result<(), LineFault>
+        ensures { IsRead (λ x. x) result self.new (slash_at self.old) }
+    {
+        match self.keyword()? {
+            Keyword::Slash => Ok(()),
+            _ => Err(LineFault::Bad),
+        }
+    }
+
+    /// The value that was read, if it took the whole line.
+    pub fn end<T: Drop>(&self, value: T) -> Result<T, LineFault>
+        ensures { Gives (λ x. x) result (read_to_end (value, self.now)) }
+    {
+        if is_wordless(self.rest) {
+            Ok(value)
+        } else {
+            Err(LineFault::Bad)
+        }
+    }
+
+    /// What the front of the line writes.
+    pub fn read<I: Item>(&mut self) -> Result<I, LineFault>
+        ensures { IsRead (λ x. x) result self.new (I.read_at self.old) }
+    {
+        I::read(self)
+    }
+
+    /// As many items as asked for. A line with fewer words is bad; no memory is taken for it.
+    fn items<I: Item>(&mut self, alloc: Global, count: usize) -> Result<Vec<I>, LineFault>
+        requires { TakesWords I.read_at }
+        ensures read { IsRead (λ x. x.items) result self.new (many_at I.read_at count self.old) }
+        ensures few { length self.old < count → result ≡ Err LineFault.Bad }
+    {
+        if !has_words(self.rest, count) {
+            return Err(LineFault::Bad);
+        }
+        let mut items = Vec::with_capacity(alloc, count)?;
+        for _ in 0..count {
+            items.push(self.read::<I>()?)?;
+        }
+        Ok(items)
+    }
+
+    /// A count, and then as many items.
+    #[tactic(auto, unfolding(crate::specs::Reading::counted_at))]
+    pub fn list<I: Item>(&mut self, alloc: Global) -> Result<Vec<I>, LineFault>
+        requires { TakesWords I.read_at }
+        ensures { IsRead (λ x. x.items) result self.new (counted_at I.read_at self.old) }
+    {
+        let count = self.read::<usize>()?;
+        self.items(alloc, count)
+    }
+
+    /// The lengths of an array: a list of at most 32 numbers.
+    #[tactic(auto, unfolding(crate::specs::Reading::lengths_at))]
+    fn lengths(&mut self, alloc: Global) -> Result<Vec<usize>, LineFault>
+        ensures { IsRead (λ x. x.items) result self.new (lengths_at self.old) }
+    {
+        let count = self.read::<usize>()?;
+        if count > MAX_AXES {
+            return Err(LineFault::Bad);
+        }
+        self.items(alloc, count)
+    }
+
+    /// The lengths of an array, and then as many elements as its shape has.
+    #[tactic(auto, unfolding(crate::specs::Reading::parts_at))]
+    fn parts(&mut self, alloc: Global) -> Result<Parts, LineFault>
+        ensures { IsRead (λ x. (x.0.items, x.1.items)) result self.new (parts_at self.old) }
+    {
+        let lengths = self.lengths(alloc)?;
+        let size = checked_size(&lengths)?;
+        let elements = self.items::<i64>(alloc, size)?;
+        Ok((lengths, elements))
+    }
+
+    /// An ARRAY: its lengths, and its elements in row-major order.
+    #[tactic(auto, unfolding(crate::specs::Reading::map_read))]
+    pub fn array(&mut self, alloc: Global) -> Result<Array<i64, IxDyn>, LineFault>
+        ensures { IsRead (λ x. meaning_of x) result self.new (array_at self.old) }
+    {
+        let (lengths, elements) = self.parts(alloc)?;
+        Ok(array_of(&lengths, elements))
     }
 }
-
-/// A number.
-pub fn number<N: Number>(line: &[u8]) -> Result<(N, &[u8]), LineFault>
-    ensures { Gives (λ x. (x.0, words_of x.1.now)) result (item_at N.number_of (words_of line.now)) }
-{
-    let (first, rest) = word(line)?;
-    match N::from_word(first) {
-        Some(number) => Ok((number, rest)),
-        None => Err(LineFault::Bad),
-    }
-}
-
-/// Two numbers.
-#[tactic(auto, unfolding(crate::specs::Reading::both_at))]
-pub fn pair(line: &[u8]) -> Result<((usize, usize), &[u8]), LineFault>
-    ensures { Gives (λ x. (x.0, words_of x.1.now)) result (pair_at (words_of line.now)) }
-{
-    let (first, rest) = number::<usize>(line)?;
-    let (second, rest) = number::<usize>(rest)?;
-    Ok(((first, second), rest))
-}
-
-/// As many numbers as asked for. A line with fewer words is bad; no memory is taken for it.
-pub fn numbers<N: Number>(
-    alloc: Global,
-    count: usize,
-    line: &[u8],
-) -> Result<(Vec<N>, &[u8]), LineFault>
-    ensures read { Gives (λ x. (x.0.items, words_of x.1.now)) result (many_at (item_at N.number_of) count (words_of line.now)) }
-    ensures few { length (words_of line.now) < count → result ≡ Err LineFault.Bad }
-{
-    if !has_words(line, count) {
-        return Err(LineFault::Bad);
-    }
-    let mut numbers = Vec::with_capacity(alloc, count)?;
-    let mut rest = line;
-    for _ in 0..count {
-        let (item, after) = number::<N>(rest)?;
-        numbers.push(item)?;
-        rest = after;
-    }
-    Ok((numbers, rest))
-}
-
-/// A LIST: a count, and then as many numbers.
-#[tactic(auto, unfolding(crate::specs::Reading::counted_at))]
-pub fn list(alloc: Global, line: &[u8]) -> Result<(Vec<usize>, &[u8]), LineFault>
-    ensures { Gives (λ x. (x.0.items, words_of x.1.now)) result (list_at (words_of line.now)) }
-{
-    let (count, rest) = number::<usize>(line)?;
-    numbers::<usize>(alloc, count, rest)
-}
-
-/// An ORDER.
-#[tactic(auto, unfolding(crate::specs::Reading::named_at))]
-fn order(line: &[u8]) -> Result<(Order, &[u8]), LineFault>
-    ensures { Gives (λ x. (x.0, words_of x.1.now)) result (order_at (words_of line.now)) }
-{
-    let (first, rest) = keyword(line)?;
-    match first {
-        Keyword::Row => Ok((Order::RowMajor, rest)),
-        Keyword::Column => Ok((Order::ColumnMajor, rest)),
-        _ => Err(LineFault::Bad),
-    }
-}
-
-/// An ORDER, and then a LIST.
-#[tactic(auto, unfolding(crate::specs::Reading::both_at))]
-pub fn ordered_list(alloc: Global, line: &[u8]) -> Result<((Order, Vec<usize>), &[u8]), LineFault>
-    ensures { Gives (λ x. ((x.0.0, x.0.1.items), words_of x.1.now)) result (ordered_list_at (words_of line.now)) }
-{
-    let (order, rest) = order(line)?;
-    let (lengths, rest) = list(alloc, rest)?;
-    Ok(((order, lengths), rest))
-}
-
-/// The lengths of an array: a list of at most 32 numbers.
-#[tactic(auto, unfolding(crate::specs::Reading::lengths_at))]
-fn lengths(alloc: Global, line: &[u8]) -> Result<(Vec<usize>, &[u8]), LineFault>
-    ensures { Gives (λ x. (x.0.items, words_of x.1.now)) result (lengths_at (words_of line.now)) }
-{
-    let (count, rest) = number::<usize>(line)?;
-    if count > MAX_AXES {
-        return Err(LineFault::Bad);
-    }
-    numbers::<usize>(alloc, count, rest)
-}
-
-const MAX_AXES: usize = 32;
 
 fn checked_size(lengths: &[usize]) -> Result<usize, LineFault>
     ensures { Gives (λ x. x) result (checked_size lengths.now) }
@@ -138,20 +175,6 @@ fn checked_size(lengths: &[usize]) -> Result<usize, LineFault>
         Ok(size) => Ok(size),
         Err(_) => Err(LineFault::Bad),
     }
-}
-
-/// The lengths of an array, and its elements in row-major order.
-type Parts = (Vec<usize>, Vec<i64>);
-
-/// The lengths of an array, and then as many elements as its shape has.
-#[tactic(auto, unfolding(crate::specs::Reading::parts_at))]
-fn parts(alloc: Global, line: &[u8]) -> Result<(Parts, &[u8]), LineFault>
-    ensures { Gives (λ x. ((x.0.0.items, x.0.1.items), words_of x.1.now)) result (parts_at (words_of line.now)) }
-{
-    let (lengths, rest) = lengths(alloc, line)?;
-    let size = checked_size(&lengths)?;
-    let (elements, rest) = numbers::<i64>(alloc, size, rest)?;
-    Ok(((lengths, elements), rest))
 }
 
 /// The array of these lengths and elements.
@@ -167,11 +190,78 @@ fn array_of(lengths: &[usize], elements: Vec<i64>) -> Array<i64, IxDyn>
     }
 }
 
-/// An ARRAY: its lengths, and its elements in row-major order.
-#[tactic(auto, unfolding(crate::specs::Reading::map_read))]
-pub fn array(alloc: Global, line: &[u8]) -> Result<(Array<i64, IxDyn>, &[u8]), LineFault>
-    ensures { Gives (λ x. (meaning_of x.0, words_of x.1.now)) result (array_at (words_of line.now)) }
-{
-    let ((lengths, elements), rest) = parts(alloc, line)?;
-    Ok((array_of(&lengths, elements), rest))
+impl Item for usize {
+    ghost read_at = { item_at nat_of };
+
+    fn read(line: &mut Line<'_>) -> Result<usize, LineFault> {
+        of_digits(line.word()?).ok_or(LineFault::Bad)
+    }
+}
+
+impl Item for i64 {
+    ghost read_at = { item_at int_of };
+
+    fn read(line: &mut Line<'_>) -> Result<i64, LineFault> {
+        int_of_word(line.word()?).ok_or(LineFault::Bad)
+    }
+}
+
+impl Item for isize {
+    ghost read_at = { item_at int_of };
+
+    fn read(line: &mut Line<'_>) -> Result<isize, LineFault> {
+        Ok(line.read::<i64>()? as isize)
+    }
+}
+
+/// An end of a slice, which may be missing.
+impl Item for Option<isize> {
+    ghost read_at = { item_at end_of };
+
+    fn read(line: &mut Line<'_>) -> Result<Option<isize>, LineFault> {
+        let word = line.word()?;
+        if word == b"_".as_slice() {
+            return Ok(None);
+        }
+        Ok(Some(int_of_word(word).ok_or(LineFault::Bad)? as isize))
+    }
+}
+
+impl Item for Slice {
+    ghost read_at = { slice_at };
+
+    #[tactic(auto, unfolding(crate::specs::Reading::map_read, crate::specs::Reading::both_at))]
+    fn read(line: &mut Line<'_>) -> Result<Slice, LineFault> {
+        Ok(Slice::new(line.read()?, line.read()?, line.read()?))
+    }
+}
+
+impl Item for SliceInfoElem {
+    ghost read_at = { element_at };
+
+    #[tactic(auto, unfolding(crate::specs::Reading::named_at, crate::specs::Reading::map_read))]
+    fn read(line: &mut Line<'_>) -> Result<SliceInfoElem, LineFault> {
+        match line.keyword()? {
+            Keyword::Part => {
+                let Slice { start, end, step } = line.read()?;
+                Ok(SliceInfoElem::Slice { start, end, step })
+            }
+            Keyword::Coordinate => Ok(SliceInfoElem::Index(line.read()?)),
+            Keyword::New => Ok(SliceInfoElem::NewAxis),
+            _ => Err(LineFault::Bad),
+        }
+    }
+}
+
+impl Item for Order {
+    ghost read_at = { order_at };
+
+    #[tactic(auto, unfolding(crate::specs::Reading::named_at))]
+    fn read(line: &mut Line<'_>) -> Result<Order, LineFault> {
+        match line.keyword()? {
+            Keyword::Row => Ok(Order::RowMajor),
+            Keyword::Column => Ok(Order::ColumnMajor),
+            _ => Err(LineFault::Bad),
+        }
+    }
 }

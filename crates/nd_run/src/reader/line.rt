@@ -1,114 +1,133 @@
-//! Paths, questions and calls from the words of a line.
+//! Steps, questions, acts and calls from the words of a line.
 
 ghost use Rattle.std.specs.Prelude.{◌≡◌, map, length};
 ghost use Rattle.nd_array_core.specs.Meaning.{meaning_of};
 ghost use Rattle.nd_run.specs.Words.{words_of};
-ghost use Rattle.nd_run.specs.Calls.{asked_step, asking, asked_call};
-ghost use Rattle.nd_run.specs.Reading.{Gives, step_at, slashed_at, path_at, question_at, call_at, read_to_end, call_of, start_of};
+ghost use Rattle.nd_run.specs.Calls.{asked_step, asking, acting, asked_call};
+ghost use Rattle.nd_run.specs.Reading.{Gives, IsRead, step_at, slashed_at, path_at, question_at, act_at, acts_at, call_at, call_of, start_of};
 
-use crate::calls::{Call, Question, Step};
+use crate::calls::{Act, Call, Question, Step};
 use crate::keyword::Keyword;
-use crate::reader::act::{act, acts};
 use crate::reader::fault::LineFault;
-use crate::reader::items::{array, keyword, list, number, ordered_list, pair, slash};
-use crate::reader::step::{begins_step, step};
-use crate::words::split_word;
+use crate::reader::items::Line;
 use nd_array_core::Array;
 use nd_shape_and_slice::IxDyn;
 use std::alloc::Global;
 
-/// One step of a path, with the slash that follows it.
-#[tactic(auto, unfolding(crate::specs::Reading::map_read, crate::specs::Reading::both_at))]
-fn leg(alloc: Global, line: &[u8]) -> Result<(Step, &[u8]), LineFault>
-    ensures { Gives (λ x. (asked_step x.0, words_of x.1.now)) result (slashed_at step_at (words_of line.now)) }
-{
-    let (step, rest) = step(alloc, line)?;
-    let rest = slash(rest)?;
-    Ok((step, rest))
-}
-
-/// The steps of a path, each followed by a slash; at most as many as asked for.
-fn path(alloc: Global, most: usize, line: &[u8]) -> Result<(Vec<Step>, &[u8]), LineFault>
-    ensures { Gives (λ x. (map asked_step x.0.items, words_of x.1.now)) result (path_at most (words_of line.now)) }
-{
-    let mut steps = Vec::new(alloc);
-    let mut rest = line;
-    for _ in 0..most {
-        if !begins_step(rest) {
-            break;
+impl<'a> Line<'a> {
+    #[tactic(auto, unfolding(crate::specs::Reading::named_at, crate::specs::Reading::map_read, crate::specs::Reading::both_at), using(crate::proofs::Items::item_words))]
+    fn step(&mut self, alloc: Global) -> Result<Step, LineFault>
+        ensures { IsRead asked_step result self.new (step_at self.old) }
+    {
+        match self.keyword()? {
+            Keyword::Cut => Ok(Step::SliceAxis(self.read()?, self.read()?)),
+            Keyword::Slice => Ok(Step::Slice(self.list(alloc)?)),
+            Keyword::Collapse => Ok(Step::Collapse(self.read()?, self.read()?)),
+            Keyword::Index => Ok(Step::IndexAxis(self.read()?, self.read()?)),
+            Keyword::Permute => Ok(Step::Permute(self.list(alloc)?)),
+            Keyword::Reverse => Ok(Step::Reverse),
+            Keyword::SwapAxes => Ok(Step::SwapAxes(self.read()?, self.read()?)),
+            Keyword::Invert => Ok(Step::Invert(self.read()?)),
+            Keyword::Insert => Ok(Step::InsertAxis(self.read()?)),
+            Keyword::Remove => Ok(Step::RemoveAxis(self.read()?)),
+            Keyword::Squeeze => Ok(Step::Squeeze),
+            Keyword::Diag => Ok(Step::Diag),
+            Keyword::Broadcast => Ok(Step::Broadcast(self.list(alloc)?)),
+            _ => Err(LineFault::Bad),
         }
-        let (step, after) = leg(alloc, rest)?;
-        steps.push(step)?;
-        rest = after;
     }
-    Ok((steps, rest))
-}
 
-#[tactic(auto, unfolding(crate::specs::Reading::named_at, crate::specs::Reading::map_read))]
-fn question(alloc: Global, line: &[u8]) -> Result<(Question<i64>, &[u8]), LineFault>
-    ensures { Gives (λ x. (asking x.0, words_of x.1.now)) result (question_at (words_of line.now)) }
-{
-    let (first, rest) = keyword(line)?;
-    match first {
-        Keyword::Shape => Ok((Question::Shape, rest)),
-        Keyword::Elements => Ok((Question::Elements, rest)),
-        Keyword::Get => {
-            let (index, rest) = list(alloc, rest)?;
-            Ok((Question::Get(index), rest))
-        }
-        Keyword::First => Ok((Question::First, rest)),
-        Keyword::Last => Ok((Question::Last, rest)),
-        Keyword::Equal => {
-            let (other, rest) = array(alloc, rest)?;
-            Ok((Question::EqualTo(other), rest))
-        }
-        Keyword::Count => number(rest).map(|(element, rest)| (Question::Count(element), rest)),
-        Keyword::Reshape => ordered_list(alloc, rest).map(|((order, lengths), rest)| (
-            Question::ToShape(lengths, order),
-            rest,
-        )),
-        _ => Err(LineFault::Bad),
+    /// One step of a path, with the slash that follows it.
+    #[tactic(auto, unfolding(crate::specs::Reading::map_read, crate::specs::Reading::both_at))]
+    fn leg(&mut self, alloc: Global) -> Result<Step, LineFault>
+        ensures { IsRead asked_step result self.new (slashed_at step_at self.old) }
+    {
+        let step = self.step(alloc)?;
+        self.slash()?;
+        Ok(step)
     }
-}
 
-#[tactic(auto, unfolding(crate::specs::Reading::named_at, crate::specs::Reading::map_read, crate::specs::Reading::both_at))]
-fn any_call(alloc: Global, most: usize, line: &[u8]) -> Result<(Call<i64>, &[u8]), LineFault>
-    ensures { Gives (λ x. (asked_call x.0, words_of x.1.now)) result (call_at most (words_of line.now)) }
-{
-    let (first, rest) = keyword(line)?;
-    match first {
-        Keyword::Keep => {
-            let (step, rest) = step(alloc, rest)?;
-            Ok((Call::Keep(step), rest))
+    /// The steps of a path, each followed by a slash; at most as many as asked for.
+    fn path(&mut self, alloc: Global, most: usize) -> Result<Vec<Step>, LineFault>
+        ensures { IsRead (λ x. map asked_step x.items) result self.new (path_at most self.old) }
+    {
+        let mut steps = Vec::new(alloc);
+        for _ in 0..most {
+            if !self.begins_step() {
+                break;
+            }
+            steps.push(self.leg(alloc)?)?;
         }
-        Keyword::Ask => {
-            let (path, rest) = path(alloc, most, rest)?;
-            let (question, rest) = question(alloc, rest)?;
-            Ok((Call::Ask(path, question), rest))
+        Ok(steps)
+    }
+
+    #[tactic(auto, unfolding(crate::specs::Reading::named_at, crate::specs::Reading::map_read, crate::specs::Reading::both_at), using(crate::proofs::Items::item_words))]
+    fn question(&mut self, alloc: Global) -> Result<Question<i64>, LineFault>
+        ensures { IsRead (λ x. asking x) result self.new (question_at self.old) }
+    {
+        match self.keyword()? {
+            Keyword::Shape => Ok(Question::Shape),
+            Keyword::Elements => Ok(Question::Elements),
+            Keyword::Get => Ok(Question::Get(self.list(alloc)?)),
+            Keyword::First => Ok(Question::First),
+            Keyword::Last => Ok(Question::Last),
+            Keyword::Equal => Ok(Question::EqualTo(self.array(alloc)?)),
+            Keyword::Count => Ok(Question::Count(self.read()?)),
+            Keyword::Reshape => {
+                let order = self.read()?;
+                Ok(Question::ToShape(self.list(alloc)?, order))
+            }
+            _ => Err(LineFault::Bad),
         }
-        Keyword::Write => {
-            let (path, rest) = path(alloc, most, rest)?;
-            let (act, rest) = act(alloc, rest)?;
-            Ok((Call::Write(path, act), rest))
+    }
+
+    #[tactic(auto, unfolding(crate::specs::Reading::named_at, crate::specs::Reading::map_read, crate::specs::Reading::both_at), using(crate::proofs::Items::item_words))]
+    fn act(&mut self, alloc: Global) -> Result<Act<i64>, LineFault>
+        ensures { IsRead (λ x. acting x) result self.new (act_at self.old) }
+    {
+        match self.keyword()? {
+            Keyword::Fill => Ok(Act::Fill(self.read()?)),
+            Keyword::Assign => Ok(Act::Assign(self.array(alloc)?)),
+            Keyword::Set => Ok(Act::Set(self.list(alloc)?, self.read()?)),
+            Keyword::Swap => Ok(Act::Swap(self.list(alloc)?, self.list(alloc)?)),
+            _ => Err(LineFault::Bad),
         }
-        Keyword::Split => {
-            let ((axis, index), rest) = pair(rest)?;
-            let ((first, second), rest) = acts(alloc, rest)?;
-            Ok((Call::SplitWrite(axis, index, first, second), rest))
+    }
+
+    /// Two acts, and the slash between them.
+    #[tactic(auto, unfolding(crate::specs::Reading::map_read, crate::specs::Reading::both_at))]
+    fn acts(&mut self, alloc: Global) -> Result<(Act<i64>, Act<i64>), LineFault>
+        ensures { IsRead (λ x. (acting x.0, acting x.1)) result self.new (acts_at self.old) }
+    {
+        let first = self.act(alloc)?;
+        self.slash()?;
+        Ok((first, self.act(alloc)?))
+    }
+
+    #[tactic(auto, unfolding(crate::specs::Reading::named_at, crate::specs::Reading::map_read, crate::specs::Reading::both_at), using(crate::proofs::Items::item_words))]
+    fn call(&mut self, alloc: Global, most: usize) -> Result<Call<i64>, LineFault>
+        ensures { IsRead (λ x. asked_call x) result self.new (call_at most self.old) }
+    {
+        match self.keyword()? {
+            Keyword::Keep => Ok(Call::Keep(self.step(alloc)?)),
+            Keyword::Ask => Ok(Call::Ask(self.path(alloc, most)?, self.question(alloc)?)),
+            Keyword::Write => Ok(Call::Write(self.path(alloc, most)?, self.act(alloc)?)),
+            Keyword::Split => {
+                let (axis, index) = (self.read()?, self.read()?);
+                let (first, second) = self.acts(alloc)?;
+                Ok(Call::SplitWrite(axis, index, first, second))
+            }
+            Keyword::Select => Ok(Call::Select(self.read()?, self.list(alloc)?)),
+            Keyword::RemoveIndex => Ok(Call::RemoveIndex(self.read()?, self.read()?)),
+            Keyword::Reshape => {
+                let order = self.read()?;
+                Ok(Call::Reshape(self.list(alloc)?, order))
+            }
+            Keyword::Append => Ok(Call::Append(self.read()?, self.array(alloc)?)),
+            Keyword::Push => Ok(Call::Push(self.read()?, self.array(alloc)?)),
+            Keyword::Reserve => Ok(Call::Reserve(self.read()?, self.read()?)),
+            _ => Err(LineFault::Bad),
         }
-        Keyword::Select => {
-            let (axis, rest) = number(rest)?;
-            let (indexes, rest) = list(alloc, rest)?;
-            Ok((Call::Select(axis, indexes), rest))
-        }
-        Keyword::RemoveIndex => {
-            pair(rest).map(|((axis, index), rest)| (Call::RemoveIndex(axis, index), rest))
-        }
-        Keyword::Reshape => ordered_list(alloc, rest).map(|((order, lengths), rest)| (
-            Call::Reshape(lengths, order),
-            rest,
-        )),
-        _ => Err(LineFault::Bad),
     }
 }
 
@@ -117,18 +136,9 @@ fn any_call(alloc: Global, most: usize, line: &[u8]) -> Result<(Call<i64>, &[u8]
 pub fn call(alloc: Global, line: &[u8]) -> Result<Call<i64>, LineFault>
     ensures { Gives asked_call result (call_of (length line.now) (words_of line.now)) }
 {
-    let (call, rest) = any_call(alloc, line.len(), line)?;
-    end_of_line(call, rest)
-}
-
-/// The value that was read, if it took the whole line.
-fn end_of_line<T: Drop>(value: T, line: &[u8]) -> Result<T, LineFault>
-    ensures { Gives (λ x. x) result (read_to_end (value, words_of line.now)) }
-{
-    match split_word(line) {
-        None => Ok(value),
-        Some(_) => Err(LineFault::Bad),
-    }
+    let mut words = Line::new(line);
+    let call = words.call(alloc, line.len())?;
+    words.end(call)
 }
 
 /// The array that a line starts a script with, all of whose words belong to it.
@@ -136,10 +146,11 @@ fn end_of_line<T: Drop>(value: T, line: &[u8]) -> Result<T, LineFault>
 pub fn start(alloc: Global, line: &[u8]) -> Result<Array<i64, IxDyn>, LineFault>
     ensures { Gives meaning_of result (start_of (words_of line.now)) }
 {
-    let (first, rest) = keyword(line)?;
-    let (array, rest) = match first {
-        Keyword::Start => array(alloc, rest)?,
+    let mut words = Line::new(line);
+    match words.keyword()? {
+        Keyword::Start => {}
         _ => return Err(LineFault::Bad),
-    };
-    end_of_line(array, rest)
+    }
+    let array = words.array(alloc)?;
+    words.end(array)
 }

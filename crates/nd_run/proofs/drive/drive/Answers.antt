@@ -26,4 +26,4 @@ returns-in-Err-run_script-clause-text g c =
 pub returns-in-Err-clause-text : goal.returns-in-Err-clause-text
 returns-in-Err-clause-text g c =
     unloaded_is_driven Runs Stops asked_script g.W.Write.contents (g.R.Read.remaining (watched_inner c.args.input.now)) (watched_failed c.load.new.input) c.load.result c.args.output.now c.conclude-in-Err.new.output c.conclude-in-Err.result c.load.ensures.script c.load.ensures.failed
-    c.in-Err.error c.in-Err.is (rw (← c.unloaded.ensures) c.conclude-in-Err.ensures.text) (rw (← c.unloaded.ensures) c.conclude-in-Err.ensures.status)
+    c.in-Err.outcome c.in-Err.is c.conclude-in-Err.ensures.text c.conclude-in-Err.ensures.status

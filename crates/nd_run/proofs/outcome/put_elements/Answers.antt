@@ -16,7 +16,7 @@ loop-rank-preserved g c =
     rw index (elim c.match-get.branch [
       | in-Some w ↦
           let there : element_at array (index_at (shape_of array) rank) ≡ Some w.in-Some.value.now = sym (w.in-Some.ensures.element ∙ ap (element_at array) index) in
-          rw (w.output-is, w.page-is) (written_some g.W.Write.contents (meaning_of array) c.args.output.now c.args.page.now c.loop-rank.output w.put.new.out w.put_value.new.out c.loop-rank.page w.put.new.page w.put_value.new.page c.loop-rank.index rank w.in-Some.value.now below long there w.put.ensures w.put_value.ensures c.loop-rank.invariant)
+          rw (w.output-is, w.page-is) (written_some g.W.Write.contents (meaning_of array) c.args.output.now c.args.page.now c.loop-rank.output w.put.new.out w.put_number.new.out c.loop-rank.page w.put.new.page w.put_number.new.page c.loop-rank.index rank w.in-Some.value.now below long there w.put.ensures w.put_number.ensures c.loop-rank.invariant)
       | in_default w ↦
           let absent : element_at array (index_at (shape_of array) rank) ≡ None = sym (w.in_default.ensures.element ∙ ap (element_at array) index) in
           rw (w.output-is, w.page-is) (written_skip g.W.Write.contents (meaning_of array) c.args.output.now c.args.page.now c.loop-rank.output c.loop-rank.page c.loop-rank.index rank below long absent c.loop-rank.invariant)

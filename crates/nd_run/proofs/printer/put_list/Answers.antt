@@ -2,4 +2,4 @@ use Rattle.nd_run.proofs.Puts.{puts_then}
 use Rattle.nd_run.proofs.printer.put_list.Goals as goal
 
 pub returns : goal.returns
-returns g c = puts_then c.put_natural.ensures c.put_naturals.ensures
+returns g c = puts_then c.put_number.ensures c.put_numbers.ensures

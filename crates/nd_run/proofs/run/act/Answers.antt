@@ -1,7 +1,7 @@
 use Rattle.nd_array_core.specs.Meaning.{meaning_of}
-use Rattle.std.proofs.Common.{map}
+use Rattle.std.proofs.Common.{◌≡◌, map}
 use Rattle.nd_run.specs.Calls.{asked_step, asking, said_reply}
-use Rattle.nd_run.proofs.FoldLemmas.{asked_is}
+use Rattle.nd_run.proofs.FoldLemmas.{same_meaning, asked_is}
 use Rattle.nd_run.proofs.run.act.Goals as goal
 
 pub returns-in-Keep : goal.returns-in-Keep
@@ -15,3 +15,12 @@ returns-in-Write g c = rw (c.in-Write.is, ← c.as_slice-in-Write.ensures.value)
 
 pub returns-in-SplitWrite : goal.returns-in-SplitWrite
 returns-in-SplitWrite g c = rw c.in-SplitWrite.is c.write_parts.ensures
+
+pub returns-in-Append : goal.returns-in-Append
+returns-in-Append g c =
+    let m = meaning_of c.in-Append.other in
+    let seen : meaning_of c.view.result ≡ m = same_meaning m (meaning_of c.view.result) c.view.ensures.whole.0 c.view.ensures.whole.2 in
+    rw (c.in-Append.is, ← seen) c.append.ensures
+
+pub returns-in-Push : goal.returns-in-Push
+returns-in-Push g c = rw c.in-Push.is c.push.ensures

@@ -1,4 +1,4 @@
-use Rattle.std.proofs.Common.{◌∙◌, ◌<◌, ◌^◌, ◌+◌, length, rules, arith}
+use Rattle.std.proofs.Common.{◌∙◌, ◌<◌, ◌^◌, length, rules, arith}
 use Rattle.nd_shape_and_slice.specs.Shape.{indexes_of}
 use Rattle.nd_shape_and_slice.proofs.Ranks.{length-indexes_of}
 use Rattle.nd_array_core.specs.Meaning.{meaning_of}

@@ -1,9 +1,0 @@
-use Rattle.std.proofs.Common.{ap, ◌∙◌, ◌++◌}
-use Rattle.nd_run.proofs.Puts.{puts_next, puts_long}
-use Rattle.nd_run.proofs.printer.put_on_next.Goals as goal
-
-pub returns-then-add : goal.returns-then-add
-returns-then-add g c = puts_next _ _ _ _ c.as_slice.ensures c.write_text.ensures (c.if-add.ensures ∙ ap (λ l. l ++ c.args.text.now) c.clear.ensures)
-
-pub returns : goal.returns
-returns g c = puts_long _ _ _ _ c.as_slice.ensures c.write_text.ensures (c.if-add.ensures ∙ c.clear.ensures) c.write_text-2.ensures

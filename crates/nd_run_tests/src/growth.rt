@@ -1,0 +1,89 @@
+//! Arrays that grow in scripts.
+
+use crate::answers::written;
+
+#[test]
+fn arrays_behind_arrays(rt: HostRuntime) {
+    let table: [(&[u8], &[u8]); 9] = [
+        // rows of another length, no such axis, and what fits
+        (
+            b"start 2 2 3 1 2 3 4 5 6\nask reverse / elements\nask broadcast 1 2 / shape\nask get 1 0\nappend 0 2 1 2 9 9\nappend 5 2 1 3 7 8 9\npush 0 1 3 7 8 9\nkeep invert 0\nreserve 0 18446744073709551615\n",
+            b"array 2 3 2 1 4 2 5 3 6\nrefused 8\nnone\nrefused 5\nrefused 1\ndone\ndone\nrefused 6\nend 2 3 3 7 8 9 4 5 6 1 2 3\n",
+        ),
+        // no axes
+        (
+            b"start 0 7\nask diag / elements\nappend 0 0 8\nappend 9 1 1 8\npush 9 0 8\n",
+            b"array 1 1 7\nrefused 5\nrefused 5\nrefused 5\nend 0 7\n",
+        ),
+        // no elements, and some behind none
+        (
+            b"start 2 3 0\nappend 0 2 2 0\nask shape\n",
+            b"done\nshape 2 5 0\nend 2 5 0\n",
+        ),
+        (
+            b"start 2 3 0\nkeep remove 1\nask diag / shape\nkeep invert 1\nask reshape row 2 0 7\nask reshape row 3 0 5 9223372036854775807\nappend 1 2 3 2 1 2 3 4 5 6\n",
+            b"refused 2\nshape 1 0\ndone\narray 2 0 7\nrefused 5\ndone\nend 2 3 2 1 2 3 4 5 6\n",
+        ),
+        // the axis, the number of axes, and the other lengths
+        (
+            b"start 2 2 3 1 2 3 4 5 6\nappend 2 1 1 9\nappend 0 1 3 7 8 9\nappend 1 2 3 1 7 8 9\nappend 1 2 2 1 7 8\nappend 0 2 0 4\nappend 0 2 0 3\n",
+            b"refused 1\nrefused 5\nrefused 5\ndone\ndone\nrefused 5\nend 2 2 4 1 2 3 7 4 5 6 8\n",
+        ),
+        // one axis fewer, put in as one of length 1
+        (
+            b"start 2 2 2 1 2 3 4\nkeep reverse\npush 0 1 2 9 8\npush 1 1 3 7 6 5\npush 1 1 2 0 0\npush 0 2 1 3 0 0 0\npush 2 1 3 0 0 0\npush 0 0 5\n",
+            b"done\ndone\ndone\nrefused 5\nrefused 5\nrefused 1\nrefused 5\nend 2 3 3 1 3 7 2 4 6 9 8 5\n",
+        ),
+        (
+            b"start 1 0\npush 0 0 5\npush 1 0 6\npush 0 0 6\npush 0 1 1 7\n",
+            b"done\nrefused 1\ndone\nrefused 5\nend 1 2 5 6\n",
+        ),
+        // both together have no checked size
+        (
+            b"start 2 9223372036854775807 0\nappend 0 2 1 0\nappend 0 2 0 0\nappend 1 2 9223372036854775807 0\nappend 1 2 1 0\n",
+            b"refused 6\ndone\ndone\nrefused 5\nend 2 9223372036854775807 0\n",
+        ),
+        // behind what was taken out
+        (
+            b"start 1 4 1 2 3 4\nremoveindex 0 1\nappend 0 1 0\nappend 0 1 2 5 6\n",
+            b"done\ndone\ndone\nend 1 5 1 3 4 5 6\n",
+        ),
+    ];
+    written(&rt, rt.alloc(), &table);
+}
+
+#[test]
+fn room(rt: HostRuntime) {
+    let table: [(&[u8], &[u8]); 3] = [
+        (
+            b"start 1 3 1 2 3\nreserve 0 4\nappend 0 1 2 4 5\nappend 0 1 1 6\nreserve 1 0\nappend 0 1 1 7\n",
+            b"done\ndone\ndone\nrefused 1\ndone\nend 1 7 1 2 3 4 5 6 7\n",
+        ),
+        (
+            b"start 2 2 0\nreserve 0 9223372036854775805\nreserve 0 9223372036854775806\nreserve 1 0\nreserve 2 0\n",
+            b"done\nrefused 6\ndone\nrefused 1\nend 2 2 0\n",
+        ),
+        (b"start 0 7\nreserve 0 0\n", b"refused 1\nend 0 7\n"),
+    ];
+    written(&rt, rt.alloc(), &table);
+}
+
+#[test]
+fn arrays_of_one_meaning_grow_alike(rt: HostRuntime) {
+    // in row-major order, with its axes exchanged, and as a part of a larger one
+    let table: [(&[u8], &[u8]); 3] = [
+        (
+            b"start 2 2 3 1 2 3 4 5 6\nkeep reverse\nkeep reverse\nappend 0 2 1 3 7 8 9\nreserve 1 2\npush 1 1 3 0 0 0\n",
+            b"done\ndone\ndone\ndone\ndone\nend 2 3 4 1 2 3 0 4 5 6 0 7 8 9 0\n",
+        ),
+        (
+            b"start 2 3 2 1 4 2 5 3 6\nkeep reverse\nkeep squeeze\nappend 0 2 1 3 7 8 9\nreserve 1 2\npush 1 1 3 0 0 0\n",
+            b"done\ndone\ndone\ndone\ndone\nend 2 3 4 1 2 3 0 4 5 6 0 7 8 9 0\n",
+        ),
+        (
+            b"start 2 4 6 0 0 0 0 0 0 0 0 0 0 0 0 0 0 0 0 0 0 0 0 0 0 0 0\nkeep slice 2 s 0 _ 2 s 0 _ -2\nwrite assign 2 2 3 1 2 3 4 5 6\nappend 0 2 1 3 7 8 9\nreserve 1 2\npush 1 1 3 0 0 0\n",
+            b"done\ndone\ndone\ndone\ndone\nend 2 3 4 1 2 3 0 4 5 6 0 7 8 9 0\n",
+        ),
+    ];
+    written(&rt, rt.alloc(), &table);
+}
