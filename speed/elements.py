@@ -1,4 +1,5 @@
-"""Prints one markdown table of microseconds a call: plain Rust's, ours and numpy's, from the driver given as an argument."""
+"""Prints one markdown table of microseconds a call: plain Rust's, ours and numpy's, from the driver given as an argument,
+with its words."""
 
 import subprocess
 import sys
@@ -20,6 +21,15 @@ CLOSURES = {"fold": "{0}.sum(dtype={0}.dtype)", "map": "{0} + {0}", "map_inplace
 
 RIGHT_SIDES = {"both in row-major order": "b", "the right side one row": "b[:1]", "the right side in column-major order": "b.T"}
 PAIRS = {"zip_mut_with": "numpy.add(a, {0}, out=a)", "assign": "a[...] = {0}"}
+
+# Along an axis, other lengths, and rows that come in; what numpy does for the last is its nearest call, which copies all.
+ALONG = {
+    "`fold_axis` of `i64`, down the columns": "a.sum(axis=0)",
+    "`fold_axis` of `i64`, along the rows": "a.sum(axis=1)",
+    "`flatten` of `i64`, turned": "a.T.flatten()",
+    "a copy of `i64` in row-major order, and a row appended": "numpy.concatenate((a, a[:1]))",
+    "a copy of `i64` in column-major order, and a row appended": "numpy.concatenate((a.T, a.T[:1]))",
+}
 
 
 def least_of(statement, names):
@@ -46,13 +56,15 @@ def of_numpy():
                 times[f"`{call}` of `{kind}`, {case}"] = least_of(statement.format(right), names)
     chosen = {"a": numpy.zeros((ROWS, COLUMNS), dtype=numpy.int64), "rows": numpy.arange(ROWS)[::-1]}
     times["`select` of 1,000 rows of `i64`"] = least_of("a[rows]", chosen)
+    for call, statement in ALONG.items():
+        times[call] = least_of(statement, {"a": numpy.ones((ROWS, COLUMNS), dtype=numpy.int64), "numpy": numpy})
     owned = {"a": numpy.zeros((ROWS, COLUMNS), dtype=numpy.int64)}
     times["`fill` of `i64`, an owned array"] = least_of("a[...] = 7", owned)
     return times
 
 
 def main():
-    lines = subprocess.run([sys.argv[1]], check=True, capture_output=True, text=True).stdout.splitlines()
+    lines = subprocess.run(sys.argv[1:], check=True, capture_output=True, text=True).stdout.splitlines()
     times = {}
     for name, who, microseconds in (line.split("\t") for line in lines):
         times.setdefault(name, {})[who] = float(microseconds)
@@ -61,7 +73,10 @@ def main():
     print("|---|--:|--:|--:|--:|")
     for name, of in times.items():
         theirs = f"{nearest[name]:.0f}" if name in nearest else ""
-        print(f"| {name} | {of['plain']:.1f} | {of['here']:.1f} | {of['here'] / of['plain']:.2f} | {theirs} |")
+        if of["plain"] < 0.1:
+            print(f"| {name} | | {of['here']:.1f} | | {theirs} |")
+        else:
+            print(f"| {name} | {of['plain']:.1f} | {of['here']:.1f} | {of['here'] / of['plain']:.2f} | {theirs} |")
 
 
 main()

@@ -5,10 +5,12 @@
 //! is of dimension `Ix2` or `IxDyn`. speed/run.sh builds the driver and prints the table.
 #![tactic(auto)]
 
+mod along;
 mod conditions;
 mod copies;
 mod elementwise;
 mod fills;
 mod pairs;
 mod parts;
+mod reshapes;
 mod views;
