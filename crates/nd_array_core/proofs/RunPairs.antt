@@ -65,31 +65,31 @@ module _ {F A : Type 0} (call later : ℕ → Option A → Option A → F → F 
     left = left;
   }
 
-module _ {F A B : Type 0} (g : Mut F (MutBor A × (Bor B × Unit {0})) (Unit {0} × (MutBor A × Unit {0}))) (place beside : ℕ → ℤ) (n : ℕ) (old : ℕ → Option A) (others : ℕ → Option B) (xs : List A) (ys : List B) (same : (k : ℕ) → k < n → slice_get xs k ≡ stored_at old (place k)) (same_other : (k : ℕ) → k < n → slice_get ys k ≡ stored_at others (beside k)) where
+module _ {F A B : Type 0} (g : Mut F (MutBor A × (Bor B × Unit {0})) (Unit {0} × (MutBor A × Unit {0}))) (place beside : ℕ → ℤ) (n : ℕ) (old : ℕ → Option A) (others : ℕ → Option B) (xs : List A) (shown : ℕ → Option B) (spot : ℕ → ℤ) (same : (k : ℕ) → k < n → slice_get xs k ≡ stored_at old (place k)) (same_other : (k : ℕ) → k < n → stored_at shown (spot k) ≡ stored_at others (beside k)) where
   -- the calls for two slices may be made where those for the places may
-  pub run_takes : (f : F) → TakesPairs g old place others beside f n → TakesPairs g (slice_get xs) number (slice_get ys) number f n
+  pub run_takes : (f : F) → TakesPairs g old place others beside f n → TakesPairs g (slice_get xs) number shown spot f n
   run_takes f takes k now below run x b is is_other =
       takes k now below
-      (ran_weaker (λ p j q. ChangesWithSomehow g (slice_get ys j) (slice_get xs j) p q) (λ p j q. ChangesWithSomehow g (stored_at others (beside j)) (stored_at old (place j)) p q) f now k
-      (λ p j q under step. subst (λ o. ChangesWithSomehow g o (stored_at old (place j)) p q) (same_other j (omega (arith, under, below))) (subst (λ o. ChangesWithSomehow g (slice_get ys j) o p q) (same j (omega (arith, under, below))) step)) run) x b
+      (ran_weaker (λ p j q. ChangesWithSomehow g (stored_at shown (spot j)) (slice_get xs j) p q) (λ p j q. ChangesWithSomehow g (stored_at others (beside j)) (stored_at old (place j)) p q) f now k
+      (λ p j q under step. subst (λ o. ChangesWithSomehow g o (stored_at old (place j)) p q) (same_other j (omega (arith, under, below))) (subst (λ o. ChangesWithSomehow g (stored_at shown (spot j)) o p q) (same j (omega (arith, under, below))) step)) run) x b
       (sym (same k below) ∙ is) (sym (same_other k below) ∙ is_other)
 
   -- what they left in one is what they left at the places
-  pub run_zipped : (new : ℕ → Option A) (ws : List A) → ((k : ℕ) → k < n → slice_get ws k ≡ stored_at new (place k)) → ((p : ℕ) → ((k : ℕ) → k < n → place k ≡ pos p → ⊥) → new p ≡ old p) → (f last : F) → IsZippedTo g number (slice_get ys) number n (slice_get xs) (slice_get ws) f last → IsZippedTo g place others beside n old new f last
+  pub run_zipped : (new : ℕ → Option A) (ws : List A) → ((k : ℕ) → k < n → slice_get ws k ≡ stored_at new (place k)) → ((p : ℕ) → ((k : ℕ) → k < n → place k ≡ pos p → ⊥) → new p ≡ old p) → (f last : F) → IsZippedTo g number shown spot n (slice_get xs) (slice_get ws) f last → IsZippedTo g place others beside n old new f last
   run_zipped new ws same_new left f last =
-      rewritten_alike (λ k o w p q. ChangesWith g (stored_at others (beside k)) o w p q) (λ k o w p q. ChangesWith g (slice_get ys k) o w p q) place number n old new (slice_get xs) (slice_get ws)
+      rewritten_alike (λ k o w p q. ChangesWith g (stored_at others (beside k)) o w p q) (λ k o w p q. ChangesWith g (stored_at shown (spot k)) o w p q) place number n old new (slice_get xs) (slice_get ws)
       (λ j o w p q below step. subst (λ b. ChangesWith g b o w p q) (same_other j below) step) same same_new f last left
 
 -- elements written in a slice, and those at the places
-module _ {A : Type 0} (given : ℕ → Option A) (place : ℕ → ℤ) (n : ℕ) (old new : ℕ → Option A) (xs ys ws : List A) (same : (k : ℕ) → k < n → slice_get xs k ≡ stored_at old (place k)) (same_given : (k : ℕ) → k < n → slice_get ys k ≡ given k) (same_new : (k : ℕ) → k < n → slice_get ws k ≡ stored_at new (place k)) (left : (p : ℕ) → ((k : ℕ) → k < n → place k ≡ pos p → ⊥) → new p ≡ old p) where
-  pub run_assigned : {E : Type 0} (result : Result (Unit {0}) E) → OnOk result (IsAssignedTo (slice_get ys) number n (slice_get xs) (slice_get ws)) → OnOk result (IsAssignedTo given place n old new)
+module _ {A : Type 0} (given : ℕ → Option A) (place : ℕ → ℤ) (n : ℕ) (old new : ℕ → Option A) (xs : List A) (shown : ℕ → Option A) (ws : List A) (same : (k : ℕ) → k < n → slice_get xs k ≡ stored_at old (place k)) (same_given : (k : ℕ) → k < n → shown k ≡ given k) (same_new : (k : ℕ) → k < n → slice_get ws k ≡ stored_at new (place k)) (left : (p : ℕ) → ((k : ℕ) → k < n → place k ≡ pos p → ⊥) → new p ≡ old p) where
+  pub run_assigned : {E : Type 0} (result : Result (Unit {0}) E) → OnOk result (IsAssignedTo shown number n (slice_get xs) (slice_get ws)) → OnOk result (IsAssignedTo given place n old new)
   run_assigned (Ok u) run = record { done = λ k below. sym (same_new k below) ∙ (run.done k below ∙ same_given k below); left = left }
   run_assigned (Err e) run = tt
 
-  pub run_partly : {E : Type 0} (result : Result (Unit {0}) E) → OnErr result (IsPartlyAssigned (slice_get ys) number n (slice_get xs) (slice_get ws)) → OnErr result (IsPartlyAssigned given place n old new)
+  pub run_partly : {E : Type 0} (result : Result (Unit {0}) E) → OnErr result (IsPartlyAssigned shown number n (slice_get xs) (slice_get ws)) → OnErr result (IsPartlyAssigned given place n old new)
   run_partly (Ok u) run = tt
   run_partly (Err e) run = record { each = λ k below. by_case k below (run.each k below); left = left }
     where
-      by_case : (k : ℕ) → k < n → (slice_get ws k ≡ slice_get xs k) ⊎ (slice_get ws k ≡ slice_get ys k) → (stored_at new (place k) ≡ stored_at old (place k)) ⊎ (stored_at new (place k) ≡ given k)
+      by_case : (k : ℕ) → k < n → (slice_get ws k ≡ slice_get xs k) ⊎ (slice_get ws k ≡ shown k) → (stored_at new (place k) ≡ stored_at old (place k)) ⊎ (stored_at new (place k) ≡ given k)
       by_case k below (inl kept) = inl (sym (same_new k below) ∙ (kept ∙ same k below))
       by_case k below (inr put) = inr (sym (same_new k below) ∙ (put ∙ same_given k below))

@@ -1,7 +1,7 @@
 //! Laws of layout calls, over meanings alone: a shape, and an element at each index of its box; of places; and of
 //! quotients, for callers that divide. Nothing here runs: each function's clause is the law.
 
-ghost use Rattle.std.specs.Prelude.{◌≡◌, ◌<◌, ◌≤◌, ◌+◌, ◌*◌, ◌/◌, ◌^◌, ℕ, true, List, [], ◌∷◌, length, reverse, slice_index};
+ghost use Rattle.std.specs.Prelude.{◌≡◌, ◌<◌, ◌≤◌, ◌+◌, ◌*◌, ◌/◌, ◌^◌, ℕ, true, List, [], ◌∷◌, length, reverse};
 ghost use Rattle.nd_array_core.specs.Laws.{PermutedBack, ReversedTwice, InvertedTwice, InsertedAndRemoved, SlicedTwice, PathIsOneMap, CollapsedListsLeadInside, CollapsesLeadInside, CoordinatesLeadInside, ExchangesLeadInside, LeadsInside, ListsLeadInside, LowerPartsLeadInside, NothingOutside, PermutationsLeadInside, SlicesLeadInside, UpperPartsLeadInside, IndexesHavePlaces, ShowsStored, DistinctPlaces};
 ghost use Rattle.nd_shape_and_slice.specs.Maps.{inverted_index, inserted_shape, inserted_index, diagonal_length, diagonal_index};
 ghost use Rattle.nd_shape_and_slice.specs.Broadcast.{broadcasts, broadcast_index};
@@ -13,8 +13,7 @@ ghost use Rattle.nd_array_core.specs.Meaning.{Meaning, element_at, meaning_of, p
 ghost use Rattle.nd_shape_and_slice.specs.Shape.{size_of, HasCheckedSize};
 ghost use Rattle.nd_array_core.specs.elements.Pairs.{IsItselfUnder};
 ghost use Rattle.nd_array_core.specs.growth.SlicedBack.{AppendedAndSliced};
-ghost use Rattle.nd_array_core.specs.along.AxisFolds.{lane_elements};
-ghost use Rattle.nd_array_core.specs.along.AxisMaps.{lane_of};
+ghost use Rattle.nd_array_core.specs.along.AxisMaps.{LanesAreListed};
 ghost use Rattle.nd_shape_and_slice.specs.Squeeze.{squeezed_shape, squeezed_index};
 
 use crate::base::array::ArrayBase;
@@ -148,7 +147,7 @@ pub fn elements_by_rank<S: Data, D: Dimension>(array: &ArrayBase<S, D>)
 /// `map_axis` shows it answers what `fold_axis` does.
 #[tactic(auto, using(crate::proofs::ShownLanes::lane_listed))]
 pub fn lanes_are_folded<A>()
-    ensures { (m : Meaning A) (axis : ℕ) (i : List ℕ) → row_major_elements (lane_of m axis i) ≡ lane_elements m.at axis (slice_index m.shape axis) i }
+    ensures { LanesAreListed A }
 {}
 
 /// Where an array's elements lie in an order, some strides serve every shape of as many elements in that order: a reshape

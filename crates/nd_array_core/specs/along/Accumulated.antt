@@ -42,6 +42,10 @@ module _ {F A : Type 0} (g : Mut F (Bor A × (MutBor A × Unit {0})) (Unit {0} �
   abbrev pub AccumulatesBy : (A → A → A) → F → Type 0
   AccumulatesBy h f = (x y z : A) (f' : F) → CalledAfter f x y f' z → (f' ≡ f) × (z ≡ h x y)
 
+  -- whatever function of the two the closure is, its values are what stands there
+  abbrev pub AccumulatesAlike : F → ℕ → (List ℕ → Option A) → (List ℕ → Option A) → Type 0
+  AccumulatesAlike f a old new = (h : A → A → A) → AccumulatesBy h f → AreAccumulatedBy h a old new
+
   -- one call for each index but the first of each lane, shown the new element before it, left the new elements
   abbrev pub AccumulatesAll : List ℕ → ℕ → (List ℕ → Option A) → (List ℕ → Option A) → F → Type 0
   AccumulatesAll shape a old new f = (last : F) × VisitedAlong (removed_shape shape a) a (λ p i q. ChangesAfter (new i) (old (next_index a i)) (new (next_index a i)) p q) f last

@@ -5,7 +5,12 @@ use Rattle.std.specs.Fn.{Mut, Called}
 use Rattle.std.specs.List.{fold, insert, remove}
 use Rattle.nd_shape_and_slice.specs.Shape.{in_box, size_of, index_at}
 use Rattle.nd_shape_and_slice.specs.Maps.{indexed_shape}
-use Rattle.nd_array_core.specs.Meaning.{inside}
+use Rattle.nd_shape_and_slice.specs.declared.dimension.Dimension as dimension
+use Rattle.nd_shape_and_slice.specs.declared.dimension.AxisCount as axis_count
+use Rattle.nd_shape_and_slice.specs.declared.dimension.StrideList as stride_list
+use Rattle.nd_array_core.specs.declared.base.storage.Data as data_trait
+use Rattle.nd_array_core.specs.declared.base.array.ArrayBase.{ArrayBase}
+use Rattle.nd_array_core.specs.Meaning.{inside, shape_of, element_at}
 use Rattle.nd_array_core.specs.elements.Folds.{RanTo}
 use Rattle.nd_array_core.specs.Collected.{collected}
 use Rattle.nd_array_core.specs.along.Rising.{VisitedAlong, CallableAlong}
@@ -120,3 +125,12 @@ module _ {F B A : Type 0} (g : Mut F (Bor B × (Bor A × Unit {0})) B) where
 -- each is what h makes of the lane's elements, one after the other
 abbrev pub AreFoldedBy : {A B : Type 0} → (B → A → B) → List ℕ → (List ℕ → Option A) → ℕ → B → (List ℕ → Option B) → Type 0
 AreFoldedBy h shape at a init result = (i : List ℕ) → result i ≡ inside (indexed_shape shape a) i (Some (fold h init (lane_elements at a (slice_index shape a) i)))
+
+-- the same of an array
+module _ {S D T A P R L M : Type 0} {s : data_trait.Ghosts S A} {d : dimension.Ghosts D P R L M} {n : axis_count.Ghosts D} {r : stride_list.Ghosts R} {t : stride_list.Ghosts T} {F B : Type 0} (g : Mut F (Bor B × (Bor A × Unit {0})) B) (array : ArrayBase S D T A P R L M s d n r t) (a : ℕ) (init : B) (f : F) where
+  abbrev pub FoldsLanes : (List ℕ → Option B) → Type 0
+  FoldsLanes result = FoldsAxis g (shape_of array) (element_at array) a init f result
+
+  -- whatever function of total and element the closure is, each lane is folded by it
+  abbrev pub FoldsLanesAlike : (List ℕ → Option B) → Type 0
+  FoldsLanesAlike result = (h : B → A → B) → FoldsShownBy g h f → AreFoldedBy h (shape_of array) (element_at array) a init result

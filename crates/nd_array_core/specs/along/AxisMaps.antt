@@ -7,6 +7,9 @@ use Rattle.nd_array_core.specs.declared.along.showing.LaneView.{LaneView}
 use Rattle.nd_array_core.specs.base.Storages.{shown_by}
 use Rattle.nd_array_core.specs.Collected.{stored_along}
 use Rattle.nd_array_core.specs.Meaning.{Meaning, inside, meaning_through}
+use Rattle.nd_array_core.specs.Joined.{row_major_elements}
+use Rattle.nd_array_core.specs.along.AxisFolds.{lane_elements}
+use Rattle.nd_array_core.specs.elements.Maps.{AskableOfAll, HasAnswersOfAll, IsMappedBy}
 
 -- the lane at an index of the other axes: one axis, and along it the elements that differ in their coordinate there
 abbrev pub lane_of : {A : Type 0} → Meaning A → ℕ → List ℕ → Meaning A
@@ -15,6 +18,10 @@ lane_of m a i = meaning_through (slice_index m.shape a ∷ []) (λ k. insert i a
 -- the lanes of an axis, by the indexes of the other axes
 abbrev pub lanes_of : {A : Type 0} → Meaning A → ℕ → Meaning (Meaning A)
 lanes_of m a = record { shape = indexed_shape m.shape a; at = λ i. inside (indexed_shape m.shape a) i (Some (lane_of m a i)) }
+
+-- the elements of a lane in row-major order are those of its coordinates
+abbrev pub LanesAreListed : Type 0 → Type 0
+LanesAreListed A = (m : Meaning A) (axis : ℕ) (i : List ℕ) → row_major_elements (lane_of m axis i) ≡ lane_elements m.at axis (slice_index m.shape axis) i
 
 -- what a lane shows while it is shown to a closure
 unfoldable pub lane_seen : {A : Type 0} → LaneView A → Meaning A
@@ -35,3 +42,15 @@ module _ {F A B : Type 0} (g : Mut F (LaneView A × Unit {0}) B) where
   -- the closure answers what h gives of what the lane shows, and stays as it is
   abbrev pub AnswersLanesBy : (Meaning A → B) → F → Type 0
   AnswersLanesBy h f = (v : LaneView A) (y : B) (f' : F) → Called g f (v, tt) y f' → (f' ≡ f) × (y ≡ h (lane_seen v))
+
+  -- it may be called for each lane of an axis, whichever came before
+  abbrev pub AskableOfLanes : Meaning A → ℕ → F → Type 0
+  AskableOfLanes m a f = AskableOfAll AnswersLane MayBeShownLane (lanes_of m a) f
+
+  -- at each index of the other axes stands its answer for the lane there
+  abbrev pub HasAnswersOfLanes : Meaning A → ℕ → F → (List ℕ → Option B) → Type 0
+  HasAnswersOfLanes m a f answers = HasAnswersOfAll AnswersLane (lanes_of m a) f answers
+
+  -- whatever function of the lane the closure is, its values stand there
+  abbrev pub MapsLanesAlike : Meaning A → ℕ → F → (List ℕ → Option B) → Type 0
+  MapsLanesAlike m a f answers = (h : Meaning A → B) → AnswersLanesBy h f → IsMappedBy h (lanes_of m a).at answers

@@ -10,10 +10,10 @@ use Rattle.nd_array_core.specs.declared.along.lent.LaneMut.{LaneMut}
 use Rattle.nd_array_core.specs.Collected.{stored_along}
 use Rattle.nd_array_core.specs.Meaning.{Meaning, inside}
 use Rattle.nd_array_core.specs.Places.{stored_at}
-use Rattle.nd_array_core.specs.along.AxisMaps.{lane_of}
+use Rattle.nd_array_core.specs.along.AxisMaps.{lane_of, lanes_of}
 use Rattle.nd_array_core.specs.elements.Changes.{IsChangedBy}
-use Rattle.nd_array_core.specs.elements.Maps.{Replaces}
-use Rattle.nd_array_core.specs.elements.MapsMut.{Collects}
+use Rattle.nd_array_core.specs.elements.Maps.{Replaces, AskableOfAll, HasAnswersOfAll, IsMappedBy}
+use Rattle.nd_array_core.specs.elements.MapsMut.{Collects, both_at}
 
 -- so many numbered elements along one axis
 abbrev pub line_of : {A : Type 0} → (ℕ → Option A) → ℕ → Meaning A
@@ -75,3 +75,21 @@ module _ {F A B : Type 0} (g : Mut F (MutBor (LaneMut A) × Unit {0}) (B × (Mut
 -- at each index stands what h gives of the lane through it, at the coordinate there
 abbrev pub AreLeftBy : {A : Type 0} → (Meaning A → ℕ → Option A) → Meaning A → ℕ → (List ℕ → Option A) → Type 0
 AreLeftBy h old a new = (i : List ℕ) → in_box old.shape i ≡ true → new i ≡ h (lane_of old a (remove i a)) (slice_index i a)
+
+-- the lanes of an axis of all that a meaning shows, handed to a closure
+module _ {F A B : Type 0} (g : Mut F (MutBor (LaneMut A) × Unit {0}) (B × (MutBor (LaneMut A) × Unit {0}))) where
+  -- it may be called for each of them, whichever came before
+  abbrev pub HandableLanes : Meaning A → ℕ → F → Type 0
+  HandableLanes m a f = AskableOfAll (LeavesLane g) (MayBeHandedLane g) (lanes_of m a) f
+
+  -- of the call for each of them there stand what it left and, at the index of the other axes, what it answered
+  abbrev pub HandsOutLanes : ℕ → F → Meaning A → Meaning A → (List ℕ → Option B) → Type 0
+  HandsOutLanes a f old new answers = HasAnswersOfAll (LeavesLane g) (lanes_of old a) f (both_at (lanes_of new a).at answers)
+
+  -- whatever function of the lane tells what the closure leaves, its values stand there
+  abbrev pub LeavesLanesAlike : ℕ → F → Meaning A → (List ℕ → Option A) → Type 0
+  LeavesLanesAlike a f old new = (h : Meaning A → ℕ → Option A) → LeavesLanesBy g h f → AreLeftBy h old a new
+
+  -- whatever function of the lane tells what it answers, its values stand there
+  abbrev pub AnswersLanesAlike : ℕ → F → Meaning A → (List ℕ → Option B) → Type 0
+  AnswersLanesAlike a f old answers = (h : Meaning A → B) → AnswersHandedLanesBy g h f → IsMappedBy h (lanes_of old a).at answers

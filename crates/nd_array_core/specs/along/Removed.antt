@@ -25,6 +25,10 @@ removed_strides ns ss a = sliced_strides ns ss a (front_slice (slice_index ns a 
 abbrev pub removed_at : {A : Type 0} → Meaning A → ℕ → ℕ → List ℕ → Option A
 removed_at m a k i = inside (removed_shape m.shape a) i (m.at (removed_index a k i))
 
+-- each index keeps its place, in the shape that is one shorter
+abbrev pub KeepPlaces : List ℕ → ℕ → (List ℕ → Option ℕ) → (List ℕ → Option ℕ) → Type 0
+KeepPlaces ns a old new = (i : List ℕ) → new i ≡ inside (removed_shape ns a) i (old i)
+
 -- at the place that each lane's last index had lies the lane's removed element
 abbrev pub LieAtEnds : {A : Type 0} → Meaning A → (List ℕ → Option ℕ) → ℕ → ℕ → (ℕ → Option A) → Type 0
 LieAtEnds m place a k stored = (i : List ℕ) (p : ℕ) → slice_index i a + 1 ≡ slice_index m.shape a → place i ≡ Some p → stored p ≡ m.at (slice_set i a k)

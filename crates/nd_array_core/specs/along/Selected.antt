@@ -17,6 +17,10 @@ selected_index a indices i = slice_set i a (slice_index indices (slice_index i a
 abbrev pub selected_at : {A : Type 0} → Meaning A → ℕ → List ℕ → List ℕ → Option A
 selected_at m a indices i = inside (selected_shape m.shape a indices) i (m.at (selected_index a indices i))
 
+-- at each index stands the element that its chosen coordinate names
+abbrev pub ShowsSelected : {A : Type 0} → Meaning A → ℕ → List ℕ → (List ℕ → Option A) → Type 0
+ShowsSelected m a indices at = (i : List ℕ) → at i ≡ selected_at m a indices i
+
 -- all of them are coordinates of the axis
 abbrev pub AreCoordinates : List ℕ → ℕ → List ℕ → Type 0
 AreCoordinates ns a indices = All (λ k. k < slice_index ns a) indices

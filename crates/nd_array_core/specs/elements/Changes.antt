@@ -2,6 +2,7 @@
 use Rattle.std.specs.Prelude.{◌≡◌, ◌<◌, ℕ, List, Option, Some, ℤ, pos}
 use Rattle.std.specs.Borrow.{MutBor}
 use Rattle.std.specs.Fn.{Mut, CalledAtMut}
+use Rattle.std.specs.Option.{option_map}
 use Rattle.nd_array_core.specs.Places.{stored_at}
 use Rattle.nd_array_core.specs.FreeOrder.{VisitedInSomeOrder, CallableInAnyOrder}
 use Rattle.nd_array_core.specs.elements.Folds.{RanTo}
@@ -40,6 +41,10 @@ module _ {F A : Type 0} (g : Mut F (MutBor A × Unit {0}) (Unit {0} × (MutBor A
   -- the closure leaves what h gives, and stays as it is
   abbrev pub ChangesBy : (A → A) → F → Type 0
   ChangesBy h f = (x y : A) (f' : F) → CalledAtMut g f x tt f' y → (f' ≡ f) × (y ≡ h x)
+
+  -- whatever function of the element the closure is, its values stand there
+  abbrev pub ChangesAlike : F → (List ℕ → Option A) → (List ℕ → Option A) → Type 0
+  ChangesAlike f old new = (h : A → A) → ChangesBy h f → (i : List ℕ) → new i ≡ option_map h (old i)
 
   -- one call for each element, in some order, left the new elements
   abbrev pub ChangesAll : List ℕ → (List ℕ → Option A) → (List ℕ → Option A) → F → Type 0

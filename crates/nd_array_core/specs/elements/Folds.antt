@@ -2,7 +2,7 @@
 use Rattle.std.specs.Prelude.{◌≡◌, ◌<◌, ℕ, zero, suc, List, Option, Some, ℤ}
 use Rattle.std.specs.Borrow.{Bor}
 use Rattle.std.specs.Fn.{Mut, Called}
-use Rattle.std.specs.List.{FoldsTo}
+use Rattle.std.specs.List.{fold, FoldsTo}
 use Rattle.nd_array_core.specs.Places.{stored_at}
 use Rattle.nd_array_core.specs.FreeOrder.{VisitedInSomeOrder, CallableInAnyOrder}
 
@@ -36,6 +36,11 @@ module _ {F B A : Type 0} (g : Mut F (B × (Bor A × Unit {0})) B) where
   -- the closure answers h of the total and the element, and stays as it is
   abbrev pub FoldsBy : (B → A → B) → F → Type 0
   FoldsBy h f = (b : B) (x : Bor A) (r : B) (f' : F) → Called g f (b, (x, tt)) r f' → (f' ≡ f) × (r ≡ h b x.now)
+
+  -- whatever function of total and element the closure is, where the order of two elements doesn't matter the total is
+  -- that of the elements of a list, one after the other
+  abbrev pub FoldsAlike : F → B → List A → B → Type 0
+  FoldsAlike f init elements total = (h : B → A → B) → FoldsBy h f → IsOrderFree h → total ≡ fold h init elements
 
   -- one call for each element, in some order, led to the total
   abbrev pub FoldsAll : List ℕ → (List ℕ → Option A) → F → B → B → Type 0

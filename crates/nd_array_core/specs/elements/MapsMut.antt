@@ -2,6 +2,8 @@
 use Rattle.std.specs.Prelude.{◌≡◌, ◌++◌, ◌∷◌, [], List, Option, Some, ℕ}
 use Rattle.std.specs.Borrow.{MutBor}
 use Rattle.std.specs.Fn.{Mut, CalledAtMut}
+use Rattle.nd_array_core.specs.Meaning.{Meaning}
+use Rattle.nd_array_core.specs.elements.Maps.{AskableOfAll, HasAnswersOfAll, IsMappedBy}
 use Rattle.nd_array_core.specs.elements.Pairs.{option_both}
 
 -- what two maps have at an index, where both have something
@@ -33,3 +35,21 @@ module _ {P A B : Type 0} (answers : P → Option A → A × B → P → Type 0)
 -- `takes` of the closure alone
 abbrev pub TakesCollecting : {P A B : Type 0} → (P → Option A → Type 0) → P × List B → Option A → Type 0
 TakesCollecting takes p element = takes p.0 element
+
+-- all elements that a meaning shows, handed to a closure to be written
+module _ {F A B : Type 0} (g : Mut F (MutBor A × Unit {0}) (B × (MutBor A × Unit {0}))) where
+  -- it may be called for each of them, whichever came before
+  abbrev pub HandableElements : Meaning A → F → Type 0
+  HandableElements m f = AskableOfAll (LeavesAndAnswers g) (MayBeHanded g) m f
+
+  -- of the call for each of them there stand what it left and what it answered
+  abbrev pub HandsOutElements : F → Meaning A → (List ℕ → Option A) → (List ℕ → Option B) → Type 0
+  HandsOutElements f old new answers = HasAnswersOfAll (LeavesAndAnswers g) old f (both_at new answers)
+
+  -- whatever function of the element tells what the closure leaves, its values stand there
+  abbrev pub LeavesAlike : F → (List ℕ → Option A) → (List ℕ → Option A) → Type 0
+  LeavesAlike f old new = (h : A → A) → LeavesBy g h f → IsMappedBy h old new
+
+  -- whatever function of the element tells what it answers, its values stand there
+  abbrev pub AnswersHandedAlike : F → (List ℕ → Option A) → (List ℕ → Option B) → Type 0
+  AnswersHandedAlike f old answers = (h : A → B) → AnswersHandedBy g h f → IsMappedBy h old answers

@@ -2,14 +2,16 @@
 use Rattle.std.specs.Prelude.{ℕ, ◌+◌, ◌<◌, ◌≡◌, ◌^◌, true, List, length, slice_get, slice_index, slice_set, Option}
 use Rattle.nd_shape_and_slice.specs.Shape.{in_box, size_of, HasCheckedSize}
 use Rattle.nd_shape_and_slice.specs.Place.{place_of}
-use Rattle.nd_shape_and_slice.specs.Maps.{upper_index}
+use Rattle.nd_shape_and_slice.specs.Maps.{inserted_shape, upper_index}
 use Rattle.nd_shape_and_slice.specs.declared.errors.ErrorKind.{ErrorKind}
 use Rattle.nd_shape_and_slice.specs.declared.errors.ErrorKind.TheVariants.{IncompatibleShape, Overflow}
 use Rattle.nd_array_core.specs.declared.base.errors.ArrayError.{ArrayError}
 use Rattle.nd_array_core.specs.declared.base.errors.ArrayError.TheVariants.{Shape, NoMemory}
 use Rattle.nd_layout.specs.Placements.{Placement}
 use Rattle.nd_array_core.specs.Collected.{IsFront}
-use Rattle.nd_array_core.specs.Joined.{concatenated_shape}
+use Rattle.nd_array_core.specs.Joined.{concatenated, concatenated_shape}
+use Rattle.nd_array_core.specs.Laws.{with_axis_inserted}
+use Rattle.nd_array_core.specs.Meaning.{Meaning}
 use Rattle.nd_array_core.specs.Places.{stored_at}
 
 -- the second shape can come behind the first along the axis: there are axes, and all other lengths are equal
@@ -26,6 +28,14 @@ pub data IsJoiningRefused (ns ms : List ℕ) (axis : ℕ) : ErrorKind → Type 0
 abbrev pub IsAppendRefused : List ℕ → List ℕ → ℕ → ArrayError → Type 0
 IsAppendRefused ns ms axis (Shape kind) = IsJoiningRefused ns ms axis kind
 IsAppendRefused ns ms axis NoMemory = FitsBehind ns ms axis × HasCheckedSize (concatenated_shape ns ms axis)
+
+-- one array behind another as one more length of an axis
+abbrev pub pushed : {A : Type 0} → ℕ → Meaning A → Meaning A → Meaning A
+pushed axis m n = concatenated axis m (with_axis_inserted axis n)
+
+-- why it was refused: what comes behind lacks the axis
+abbrev pub IsPushRefused : List ℕ → List ℕ → ℕ → ArrayError → Type 0
+IsPushRefused ns ms axis = IsAppendRefused ns (inserted_shape ms axis) axis
 
 -- the elements of an array of this shape have come behind others: each has the place of its index in the grown layout,
 -- where its coordinate of the axis is that much greater

@@ -1,5 +1,5 @@
 -- How an owned array lies before and after another came behind it along an axis.
-use Rattle.std.specs.Prelude.{ℕ, ◌≡◌, ◌+◌, ◌<◌, ◌≤◌, ◌⊎◌, ◌||◌, true, false, List, length, nat_eq, if◌then◌else◌, Option, ⊤}
+use Rattle.std.specs.Prelude.{ℕ, ◌≡◌, ◌+◌, ◌<◌, ◌≤◌, ◌⊎◌, ◌||◌, true, false, List, length, nat_eq, slice_index, if◌then◌else◌, Option, ⊤}
 use Rattle.nd_shape_and_slice.specs.declared.dimension.Dimension as dimension
 use Rattle.nd_shape_and_slice.specs.declared.dimension.AxisCount as axis_count
 use Rattle.nd_shape_and_slice.specs.declared.dimension.StrideList as stride_list
@@ -13,7 +13,7 @@ use Rattle.nd_array_core.specs.declared.base.array.ArrayBase.{ArrayBase}
 use Rattle.nd_array_core.specs.declared.base.errors.ArrayError.{ArrayError}
 use Rattle.nd_array_core.specs.declared.base.errors.ArrayError.TheVariants.{Shape, NoMemory}
 use Rattle.nd_array_core.specs.Collected.{IsFront}
-use Rattle.nd_array_core.specs.Meaning.{shape_of, storage_of, layout_strides, layout_offset}
+use Rattle.nd_array_core.specs.Meaning.{Meaning, shape_of, storage_of, layout_strides, layout_offset}
 use Rattle.nd_array_core.specs.Part.{ShowsWhole, BecomesWhole}
 use Rattle.nd_array_core.specs.base.CloneRefusals.{MayRefuseClone}
 use Rattle.nd_array_core.specs.base.Storages.{stored_list}
@@ -50,6 +50,11 @@ pub record GoesOnUnder {A : Type 0} (axis : ℕ) (l : Placement) (old : List A) 
   pub places : (i : List ℕ) → in_box l.lengths i ≡ true → place_of m.offset m.strides i ≡ place_of l.offset l.strides i
   pub ready : IsReadyUnder axis m new
 
+-- want of memory means that a clone was refused, which may be only where one can be
+abbrev pub IsNotForMemory : {A : Type 0} → (A → Type 0) → (List ℕ → Option A) → ArrayError → Type 0
+IsNotForMemory is_infallible at (Shape kind) = ⊤
+IsNotForMemory is_infallible at NoMemory = MayRefuseClone is_infallible at
+
 module _ {D T A P R L M : Type 0} {s : data_trait.Ghosts (OwnedRepr A) A} {d : dimension.Ghosts D P R L M} {n : axis_count.Ghosts D} {r : stride_list.Ghosts R} {t : stride_list.Ghosts T} where
   -- how it lies
   abbrev pub lies : ArrayBase (OwnedRepr A) D T A P R L M s d n r t → Placement
@@ -83,11 +88,14 @@ module _ {D T A P R L M : Type 0} {s : data_trait.Ghosts (OwnedRepr A) A} {d : d
   abbrev pub IsReadyFor : ℕ → ℕ → ArrayBase (OwnedRepr A) D T A P R L M s d n r t → Type 0
   IsReadyFor axis lengths a = IsReadyAlong axis a × HasRoomAlong axis lengths a
 
+  -- where it is ready, with room for all that comes behind it, want of memory means that a clone was refused
+  abbrev pub NeedsOnlyClones : (A → Type 0) → ℕ → ArrayBase (OwnedRepr A) D T A P R L M s d n r t → Meaning A → ArrayError → Type 0
+  NeedsOnlyClones is_infallible axis a m e = IsReadyFor axis (slice_index m.shape axis) a → IsNotForMemory is_infallible m.at e
+
   -- where there was room for so many more lengths than the used ones, it is left
   abbrev pub LeavesRoom : ℕ → ℕ → ArrayBase (OwnedRepr A) D T A P R L M s d n r t → ArrayBase (OwnedRepr A) D T A P R L M s d n r t → Type 0
   LeavesRoom axis used a b = (more : ℕ) → HasRoomAlong axis (more + used) a → HasRoomAlong axis more b
 
--- want of memory means that a clone was refused, which may be only where one can be
-abbrev pub IsNotForMemory : {A : Type 0} → (A → Type 0) → (List ℕ → Option A) → ArrayError → Type 0
-IsNotForMemory is_infallible at (Shape kind) = ⊤
-IsNotForMemory is_infallible at NoMemory = MayRefuseClone is_infallible at
+  -- so of the lengths of a shape that came behind a ready array
+  abbrev pub LeavesRoomBehind : ℕ → List ℕ → ArrayBase (OwnedRepr A) D T A P R L M s d n r t → ArrayBase (OwnedRepr A) D T A P R L M s d n r t → Type 0
+  LeavesRoomBehind axis shape a b = IsReadyAlong axis a → LeavesRoom axis (slice_index shape axis) a b

@@ -1,5 +1,5 @@
 -- Several arrays behind one another along an axis, one after the other.
-use Rattle.std.specs.Prelude.{ℕ, ◌≡◌, List, [], ◌∷◌, map, Option, Some, slice_get, slice_index}
+use Rattle.std.specs.Prelude.{ℕ, ◌≡◌, List, [], ◌∷◌, map, Option, Some, slice_get, slice_index, take}
 use Rattle.std.specs.List.{sum_by}
 use Rattle.nd_shape_and_slice.specs.Shape.{HasCheckedSize}
 use Rattle.nd_layout.specs.Growth.{grown_shape}
@@ -9,11 +9,13 @@ use Rattle.nd_shape_and_slice.specs.declared.dimension.StrideList as stride_list
 use Rattle.nd_array_core.specs.declared.base.storage.Data as data_trait
 use Rattle.nd_array_core.specs.declared.base.array.ArrayBase.{ArrayBase}
 use Rattle.nd_array_core.specs.declared.base.errors.ArrayError.{ArrayError}
+use Rattle.nd_array_core.specs.declared.base.errors.ArrayError.TheVariants.{NoMemory}
 use Rattle.nd_array_core.specs.Joined.{concatenated}
 use Rattle.nd_array_core.specs.Meaning.{Meaning, meaning_of}
 use Rattle.nd_array_core.specs.base.Fresh.{ClonesOfAllAreEqual}
 use Rattle.nd_array_core.specs.growth.Appended.{FitsBehind, IsAppendRefused}
-use Rattle.nd_array_core.specs.growth.Grown.{IsNotForMemory}
+use Rattle.nd_array_core.specs.declared.base.storage.OwnedRepr.{OwnedRepr}
+use Rattle.nd_array_core.specs.growth.Grown.{IsNotForMemory, IsReadyFor}
 
 module _ {S D T A P R L M : Type 0} {s : data_trait.Ghosts S A} {d : dimension.Ghosts D P R L M} {n : axis_count.Ghosts D} {r : stride_list.Ghosts R} {t : stride_list.Ghosts T} where
   -- what each array of a list shows
@@ -24,6 +26,13 @@ module _ {S D T A P R L M : Type 0} {s : data_trait.Ghosts S A} {d : dimension.G
 abbrev pub joined_in_turn : {A : Type 0} → ℕ → Meaning A → List (Meaning A) → Meaning A
 joined_in_turn axis m [] = m
 joined_in_turn axis m (n ∷ ns) = joined_in_turn axis (concatenated axis m n) ns
+
+-- what an array shows, once all arrays of a list came behind it, or the first k of them
+abbrev pub JoinsAll : {A : Type 0} → ℕ → Meaning A → List (Meaning A) → Meaning A → Type 0
+JoinsAll axis m ms n = n ≡ joined_in_turn axis m ms
+
+abbrev pub JoinsFirst : {A : Type 0} → ℕ → ℕ → Meaning A → List (Meaning A) → Meaning A → Type 0
+JoinsFirst k axis m ms n = n ≡ joined_in_turn axis m (take k ms)
 
 -- each clone of an element of one of them is the element
 abbrev pub ClonesOfEachAreEqual : {A : Type 0} → (A → A → Type 0) → List (Meaning A) → Type 0
@@ -41,6 +50,15 @@ lengths_along axis ms = sum_by (λ m. slice_index m.shape axis) ms
 abbrev pub FitInTurn : {A : Type 0} → ℕ → List ℕ → List (Meaning A) → Type 0
 FitInTurn {A} axis shape ms = ((nth : ℕ) (m : Meaning A) → slice_get ms nth ≡ Some m → FitsBehind shape m.shape axis) × HasCheckedSize (grown_shape shape axis (lengths_along axis ms))
 
+-- at the array of a number memory was refused
+abbrev pub LacksMemory : ℕ × ArrayError → Type 0
+LacksMemory e = e.1 ≡ NoMemory
+
 -- want of memory at the array of a number means that one of its clones may be refused
 abbrev pub IsNotForMemoryInTurn : {A : Type 0} → (A → Type 0) → List (Meaning A) → ℕ → ArrayError → Type 0
 IsNotForMemoryInTurn {A} is_infallible ms nth error = (m : Meaning A) × (slice_get ms nth ≡ Some m) × IsNotForMemory is_infallible m.at error
+
+module _ {D T A P R L M : Type 0} {s : data_trait.Ghosts (OwnedRepr A) A} {d : dimension.Ghosts D P R L M} {n : axis_count.Ghosts D} {r : stride_list.Ghosts R} {t : stride_list.Ghosts T} where
+  -- where an array is ready, with room for all of them, it does
+  abbrev pub NeedsOnlyClonesInTurn : (A → Type 0) → ℕ → ArrayBase (OwnedRepr A) D T A P R L M s d n r t → List (Meaning A) → ℕ × ArrayError → Type 0
+  NeedsOnlyClonesInTurn is_infallible axis a ms e = IsReadyFor axis (lengths_along axis ms) a → IsNotForMemoryInTurn is_infallible ms e.0 e.1

@@ -4,11 +4,11 @@
 ghost use Rattle.std.specs.Prelude.{◌≡◌, ◌+◌, ◌-◌, ◌<◌, ◌≤◌, ◌^◌, ℕ, true, List, Some, IsSome, length, pos, slice_index, ◌+ℤ◌, ◌*ℤ◌};
 ghost use Rattle.nd_shape_and_slice.specs.Shape.{size_of, HasCheckedSize};
 ghost use Rattle.nd_layout.specs.Places.{ReachesPlaces};
-ghost use Rattle.nd_region.specs.Region.{region_stored, borrow_of};
+ghost use Rattle.nd_region.specs.Region.{region_stored};
 ghost use Rattle.nd_array_core.specs.Places.{names_place, stored_at};
 ghost use Rattle.nd_array_core.specs.elements.Changes.{AreDistinct};
 ghost use Rattle.nd_array_core.specs.along.AxisLanes.{lane_place, LanesReach, LanesDistinct};
-ghost use Rattle.nd_array_core.specs.along.Accumulated.{StartsAlong, TakesAfter, ChangesAfter, AccumulatesBy, AccumulatesAll, AccumulableAlong, AreAccumulatedBy, ChangedBetween, ChangedInside, IsAccumulated, AreAccumulated, TakesLane, TakesLanes};
+ghost use Rattle.nd_array_core.specs.along.Accumulated.{TakesAfter, ChangesAfter, AccumulatesAll, AccumulableAlong, ChangedBetween, ChangedInside, IsAccumulated, AreAccumulated, TakesLane, TakesLanes, AccumulatesAlike};
 
 use crate::along::lanes::lane_from;
 use crate::base::array::ArrayBase;
@@ -177,7 +177,7 @@ impl<S: DataMut, D: Dimension> ArrayBase<S, D> {
         requires callable { AccumulableAlong F.FnMut (shape_of self.old) axis.0 (element_at self.old) f }
         ensures visits { AccumulatesAll F.FnMut (shape_of self.old) axis.0 (element_at self.old) (element_at self.new) f }
         ensures first { (i : List ℕ) → slice_index i axis.0 ≡ 0 → element_at self.new i ≡ element_at self.old i }
-        ensures alike { (h : _) → AccumulatesBy F.FnMut h f → AreAccumulatedBy h axis.0 (element_at self.old) (element_at self.new) }
+        ensures alike { AccumulatesAlike F.FnMut f axis.0 (element_at self.old) (element_at self.new) }
         ensures frame { KeepsFrame S.frame self.old self.new }
     {
         if self.len_of(axis) > 0 {

@@ -1,8 +1,8 @@
 //! The lanes of an axis, each folded into a value.
 #![tactic(auto, unfolding(crate::specs::Meaning::meaning_of, crate::specs::Meaning::memory_layout_of))]
 
-ghost use Rattle.std.specs.Prelude.{◌≡◌, ◌+◌, ◌<◌, ◌≤◌, ◌^◌, ℕ, true, List, [], IfOk, length, pos, slice_index, vec_len, vec_capacity, slice_get, ◌+ℤ◌, ◌*ℤ◌};
-ghost use Rattle.nd_shape_and_slice.specs.Shape.{size_of, HasCheckedSize};
+ghost use Rattle.std.specs.Prelude.{◌≡◌, ◌+◌, ◌<◌, ◌≤◌, ℕ, true, [], IfOk, length, pos, slice_index, vec_len, vec_capacity, slice_get, ◌+ℤ◌, ◌*ℤ◌};
+ghost use Rattle.nd_shape_and_slice.specs.Shape.{size_of};
 ghost use Rattle.nd_shape_and_slice.specs.Maps.{indexed_shape, indexed_index};
 ghost use Rattle.nd_shape_and_slice.specs.declared.builder.Order.TheVariants.{RowMajor};
 ghost use Rattle.nd_layout.specs.Placements.{placement_of, IsStepOf};
@@ -10,7 +10,7 @@ ghost use Rattle.nd_array_core.specs.Places.{names_place};
 ghost use Rattle.nd_array_core.specs.Collected.{stored_along};
 ghost use Rattle.nd_array_core.specs.Meaning.{shape_of, element_at};
 ghost use Rattle.nd_array_core.specs.base.Fresh.{ClonesAreEqual, found_by_rank};
-ghost use Rattle.nd_array_core.specs.along.AxisFolds.{FoldsRun, TakesRun, FoldsShownBy, FoldsAxis, AxisFoldable, AreFoldedBy, FoldableByLanes, AreFoldedByLanes};
+ghost use Rattle.nd_array_core.specs.along.AxisFolds.{FoldsRun, TakesRun, FoldsAxis, AxisFoldable, FoldableByLanes, AreFoldedByLanes, FoldsLanes, FoldsLanesAlike};
 
 use crate::along::beside::{clones_in, fold_beside, worth_beside};
 use crate::along::lanes::{first_places, lane_from};
@@ -133,8 +133,8 @@ where
         requires clones { ClonesAreEqual B.is_clone init }
         requires callable { AxisFoldable F.FnMut (shape_of self.now) (element_at self.now) axis.0 init f }
         ensures shape { IfOk result (λ a. shape_of a ≡ indexed_shape (shape_of self.now) axis.0) }
-        ensures visits { IfOk result (λ a. FoldsAxis F.FnMut (shape_of self.now) (element_at self.now) axis.0 init f (element_at a)) }
-        ensures alike { (h : _) → FoldsShownBy F.FnMut h f → IfOk result (λ a. AreFoldedBy h (shape_of self.now) (element_at self.now) axis.0 init (element_at a)) }
+        ensures visits { IfOk result (λ a. FoldsLanes F.FnMut self.now axis.0 init f (element_at a)) }
+        ensures alike { IfOk result (λ a. FoldsLanesAlike F.FnMut self.now axis.0 init f (element_at a)) }
     {
         let outer = first_places(&self.layout, axis);
         let room = room_of(alloc, outer.dim.size())?;

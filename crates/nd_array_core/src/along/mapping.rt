@@ -8,8 +8,8 @@ ghost use Rattle.nd_shape_and_slice.specs.declared.builder.Order.TheVariants.{Ro
 ghost use Rattle.nd_layout.specs.Placements.{placement_of, IsStepOf};
 ghost use Rattle.nd_array_core.specs.Meaning.{meaning_of, shape_of, element_at};
 ghost use Rattle.nd_array_core.specs.base.Fresh.{found_by_rank};
-ghost use Rattle.nd_array_core.specs.elements.Maps.{AskableOfAll, HasAnswersOfAll, IsMappedBy};
-ghost use Rattle.nd_array_core.specs.along.AxisMaps.{lanes_of, AnswersLane, MayBeShownLane, AnswersLanesBy};
+ghost use Rattle.nd_array_core.specs.elements.Maps.{AskableOfAll, HasAnswersOfAll};
+ghost use Rattle.nd_array_core.specs.along.AxisMaps.{lanes_of, AnswersLane, MayBeShownLane, AskableOfLanes, HasAnswersOfLanes, MapsLanesAlike};
 
 use crate::along::lanes::{first_places, lane_from};
 use crate::along::showing::LaneView;
@@ -67,10 +67,10 @@ where
         f: F,
     ) -> Result<Array<B, D::Smaller>, NoMemory>
         requires axis { axis.0 < length (shape_of self.now) }
-        requires callable { AskableOfAll (AnswersLane F.FnMut) (MayBeShownLane F.FnMut) (lanes_of (meaning_of self.now) axis.0) f }
+        requires callable { AskableOfLanes F.FnMut (meaning_of self.now) axis.0 f }
         ensures shape { IfOk result (λ a. shape_of a ≡ indexed_shape (shape_of self.now) axis.0) }
-        ensures visits { IfOk result (λ a. HasAnswersOfAll (AnswersLane F.FnMut) (lanes_of (meaning_of self.now) axis.0) f (element_at a)) }
-        ensures alike { (h : _) → AnswersLanesBy F.FnMut h f → IfOk result (λ a. IsMappedBy h (lanes_of (meaning_of self.now) axis.0).at (element_at a)) }
+        ensures visits { IfOk result (λ a. HasAnswersOfLanes F.FnMut (meaning_of self.now) axis.0 f (element_at a)) }
+        ensures alike { IfOk result (λ a. MapsLanesAlike F.FnMut (meaning_of self.now) axis.0 f (element_at a)) }
     {
         let outer = first_places(&self.layout, axis);
         let room = room_of(alloc, outer.dim.size())?;

@@ -1,20 +1,18 @@
 //! What a closure answers for each lane of an axis, which it is handed to be written.
 #![tactic(auto, unfolding(crate::specs::Meaning::meaning_of, crate::specs::Meaning::memory_layout_of))]
 
-ghost use Rattle.std.specs.Prelude.{◌≡◌, ◌<◌, ◌≤◌, ◌^◌, ℕ, true, is_some, [], ◌∷◌, Some, IfOk, IfErr, pos, length, slice_index, vec_len, vec_capacity, ◌+ℤ◌, ◌*ℤ◌, List};
+ghost use Rattle.std.specs.Prelude.{◌≡◌, ◌<◌, ◌≤◌, ◌^◌, ℕ, true, is_some, [], Some, IfOk, IfErr, pos, length, vec_len, vec_capacity, ◌+ℤ◌, ◌*ℤ◌, List, OnOk};
 ghost use Rattle.nd_shape_and_slice.specs.Shape.{size_of, HasCheckedSize};
 ghost use Rattle.nd_shape_and_slice.specs.Maps.{indexed_shape};
 ghost use Rattle.nd_layout.specs.Places.{ReachesPlaces};
-ghost use Rattle.nd_region.specs.Region.{region_stored, borrow_of};
-ghost use Rattle.nd_array_core.specs.Places.{names_place, stored_at};
+ghost use Rattle.nd_region.specs.Region.{region_stored};
+ghost use Rattle.nd_array_core.specs.Places.{names_place};
 ghost use Rattle.nd_array_core.specs.Collected.{stored_along};
 ghost use Rattle.nd_array_core.specs.base.ElementMut.{KeepsPlaces};
 ghost use Rattle.nd_array_core.specs.elements.Changes.{AreDistinct};
-ghost use Rattle.nd_array_core.specs.elements.Maps.{TakesNumbered, AskableOfAll, HasAnswersOfAll, IsMappedBy};
-ghost use Rattle.nd_array_core.specs.elements.MapsMut.{both_at};
+ghost use Rattle.nd_array_core.specs.elements.Maps.{TakesNumbered};
 ghost use Rattle.nd_array_core.specs.along.AxisLanes.{lane_place, LanesReach, LanesDistinct};
-ghost use Rattle.nd_array_core.specs.along.AxisMaps.{lanes_of};
-ghost use Rattle.nd_array_core.specs.along.LanesWritten.{line_of, LeavesLane, MayBeHandedLane, KeepsLanes, LeavesLanesBy, AnswersHandedLanesBy, lanes_held, AreHandedOut, AreLeftBy, IsAnsweredInside};
+ghost use Rattle.nd_array_core.specs.along.LanesWritten.{line_of, LeavesLane, MayBeHandedLane, KeepsLanes, lanes_held, AreHandedOut, IsAnsweredInside, HandableLanes, HandsOutLanes, LeavesLanesAlike, AnswersLanesAlike};
 
 use crate::along::lanes::{first_places, lane_from};
 use crate::along::lent::LaneMut;
@@ -134,11 +132,11 @@ where
     ) -> Result<Array<B, D::Smaller>, NoMemory>
         requires axis { axis.0 < length (shape_of self.old) }
         requires keeps { KeepsLanes F.FnMut }
-        requires callable { AskableOfAll (LeavesLane F.FnMut) (MayBeHandedLane F.FnMut) (lanes_of (meaning_of self.old) axis.0) f }
+        requires callable { HandableLanes F.FnMut (meaning_of self.old) axis.0 f }
         ensures shape { IfOk result (λ a. shape_of a ≡ indexed_shape (shape_of self.old) axis.0) }
-        ensures visits { IfOk result (λ a. HasAnswersOfAll (LeavesLane F.FnMut) (lanes_of (meaning_of self.old) axis.0) f (both_at (lanes_of (meaning_of self.new) axis.0).at (element_at a))) }
-        ensures alike { (h : _) → LeavesLanesBy F.FnMut h f → IfOk result (λ _. AreLeftBy h (meaning_of self.old) axis.0 (element_at self.new)) }
-        ensures answered { (h : _) → AnswersHandedLanesBy F.FnMut h f → IfOk result (λ a. IsMappedBy h (lanes_of (meaning_of self.old) axis.0).at (element_at a)) }
+        ensures visits { IfOk result (λ a. HandsOutLanes F.FnMut axis.0 f (meaning_of self.old) (meaning_of self.new) (element_at a)) }
+        ensures alike { OnOk result (LeavesLanesAlike F.FnMut axis.0 f (meaning_of self.old) (element_at self.new)) }
+        ensures answered { IfOk result (λ a. AnswersLanesAlike F.FnMut axis.0 f (meaning_of self.old) (element_at a)) }
         ensures kept { IfErr result (λ _. (i : List ℕ) → element_at self.new i ≡ element_at self.old i) }
         ensures frame { KeepsFrame S.frame self.old self.new }
     {

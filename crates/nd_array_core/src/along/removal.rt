@@ -6,7 +6,7 @@ ghost use Rattle.nd_shape_and_slice.specs.Shape.{size_of, HasCheckedSize};
 ghost use Rattle.nd_layout.specs.Places.{ReachesPlaces};
 ghost use Rattle.nd_array_core.specs.Places.{names_place};
 ghost use Rattle.nd_array_core.specs.along.AxisLanes.{lane_place, LanesReach, LanesDistinct};
-ghost use Rattle.nd_array_core.specs.along.Removed.{removed_shape, rotated, rotated_index, IsMovedBy, AreMovedBy, removed_at, removed_strides, LieAtEnds};
+ghost use Rattle.nd_array_core.specs.along.Removed.{removed_shape, rotated, rotated_index, IsMovedBy, AreMovedBy, removed_at, removed_strides, LieAtEnds, KeepPlaces};
 ghost use Rattle.nd_array_core.specs.elements.Changes.{AreDistinct};
 
 use crate::along::lanes::lane_from;
@@ -94,7 +94,7 @@ impl<S: DataMut, D: Dimension> ArrayBase<S, D> {
         ensures shape { shape_of self.new ≡ removed_shape (shape_of self.old) axis.0 }
         ensures strides { layout_strides self.new ≡ removed_strides (shape_of self.old) (layout_strides self.old) axis.0 }
         ensures elements { (i : List ℕ) → element_at self.new i ≡ removed_at (meaning_of self.old) axis.0 index i }
-        ensures places { (i : List ℕ) → place_at self.new i ≡ inside (removed_shape (shape_of self.old) axis.0) i (place_at self.old i) }
+        ensures places { KeepPlaces (shape_of self.old) axis.0 (place_at self.old) (place_at self.new) }
         ensures removed { LieAtEnds (meaning_of self.old) (place_at self.old) axis.0 index (S.stored (storage_of self.new)) }
         ensures others { OthersStay (place_at self.old) (S.stored (storage_of self.old)) (S.stored (storage_of self.new)) }
         ensures frame { S.frame (storage_of self.new) ≡ S.frame (storage_of self.old) }

@@ -3,7 +3,7 @@
 
 ghost use Rattle.std.specs.Prelude.{◌≡◌, ◌+◌, ◌<◌, ◌≤◌, ℕ, [], List, IfOk, length, vec_len, vec_capacity};
 ghost use Rattle.nd_shape_and_slice.specs.Shape.{size_of, HasCheckedSize};
-ghost use Rattle.nd_array_core.specs.along.Selected.{selected_at, selected_shape, AreCoordinates, ListsSelected};
+ghost use Rattle.nd_array_core.specs.along.Selected.{selected_at, selected_shape, AreCoordinates, ListsSelected, ShowsSelected};
 ghost use Rattle.nd_array_core.specs.Meaning.{meaning_of, shape_of, element_at};
 ghost use Rattle.nd_array_core.specs.base.Fresh.{ClonesOfAllAreEqual};
 
@@ -101,7 +101,7 @@ where
         requires checked { HasCheckedSize (selected_shape (shape_of self.now) axis.0 indices.now) }
         requires clones { ClonesOfAllAreEqual S.Elem.is_clone (element_at self.now) }
         ensures shape { IfOk result (λ a. shape_of a ≡ selected_shape (shape_of self.now) axis.0 indices.now) }
-        ensures elements { IfOk result (λ a. (i : List ℕ) → element_at a i ≡ selected_at (meaning_of self.now) axis.0 indices.now i) }
+        ensures elements { IfOk result (λ a. ShowsSelected (meaning_of self.now) axis.0 indices.now (element_at a)) }
     {
         let mut turned = self.view();
         turned.swap_axes(0, axis.0);

@@ -86,6 +86,50 @@ fn assign_beside<A: Clone + Drop, S: DataMut<Elem = A>, Z: Data<Elem = A>>(
     assign_run(storage.lend_run(lane.place, lane.count), ys)
 }
 
+/// Writes clones of the elements along a lane at those of a slice, one after the other.
+#[inline(always)]
+fn assign_into<A: Clone + Drop, Z: Data<Elem = A>>(
+    xs: &mut [A],
+    others: &Z,
+    beside: Lane,
+) -> Result<(), NoMemory>
+    requires as_long { beside.count ≡ length xs.old }
+    requires others_hold { (k : ℕ) → k < beside.count → names_place (Z.stored others.now) (pos beside.place +ℤ (pos k *ℤ beside.stride)) ≡ true }
+    requires clones { (k : ℕ) (x : A) → k < beside.count → stored_at (Z.stored others.now) (pos beside.place +ℤ (pos k *ℤ beside.stride)) ≡ Some x → ClonesAreEqual A.is_clone x }
+    ensures assigned { OnOk result (IsAssignedTo (λ k. stored_at (Z.stored others.now) (pos beside.place +ℤ (pos k *ℤ beside.stride))) (λ k. pos k) (length xs.old) (slice_get xs.old) (slice_get xs.new)) }
+    ensures stopped { OnErr result (IsPartlyAssigned (λ k. stored_at (Z.stored others.now) (pos beside.place +ℤ (pos k *ℤ beside.stride))) (λ k. pos k) (length xs.old) (slice_get xs.old) (slice_get xs.new)) }
+    ensures long { length xs.new ≡ length xs.old }
+{
+    for nth in 0..beside.count {
+        let other = others.element(beside.place_of(nth));
+        match other.clone() {
+            Ok(copy) => xs[nth] = copy,
+            Err(_) => return Err(NoMemory),
+        }
+    }
+    Ok(())
+}
+
+/// The same of a lane whose elements lie side by side, as a slice: a write can't change where it begins.
+fn assign_aside<A: Clone + Drop, S: DataMut<Elem = A>, Z: Data<Elem = A>>(
+    storage: &mut S,
+    lane: Lane,
+    others: &Z,
+    beside: Lane,
+) -> Result<(), NoMemory>
+    requires some { 0 < lane.count }
+    requires step { lane.stride ≡ pos 1 }
+    requires as_long { beside.count ≡ lane.count }
+    requires holds { (k : ℕ) → k < lane.count → names_place (S.stored storage.old) (pos lane.place +ℤ (pos k *ℤ lane.stride)) ≡ true }
+    requires others_hold { (k : ℕ) → k < lane.count → names_place (Z.stored others.now) (pos beside.place +ℤ (pos k *ℤ beside.stride)) ≡ true }
+    requires clones { (k : ℕ) (x : A) → k < lane.count → stored_at (Z.stored others.now) (pos beside.place +ℤ (pos k *ℤ beside.stride)) ≡ Some x → ClonesAreEqual A.is_clone x }
+    ensures assigned { OnOk result (IsAssignedTo (λ k. stored_at (Z.stored others.now) (pos beside.place +ℤ (pos k *ℤ beside.stride))) (λ k. pos lane.place +ℤ (pos k *ℤ lane.stride)) lane.count (S.stored storage.old) (S.stored storage.new)) }
+    ensures stopped { OnErr result (IsPartlyAssigned (λ k. stored_at (Z.stored others.now) (pos beside.place +ℤ (pos k *ℤ beside.stride))) (λ k. pos lane.place +ℤ (pos k *ℤ lane.stride)) lane.count (S.stored storage.old) (S.stored storage.new)) }
+    ensures frame { S.frame storage.new ≡ S.frame storage.old }
+{
+    assign_into(storage.lend_run(lane.place, lane.count), others, beside)
+}
+
 /// The same of any lanes.
 fn assign_lane<A: Clone + Drop, S: DataMut<Elem = A>, Z: Data<Elem = A>>(
     storage: &mut S,
@@ -102,10 +146,13 @@ fn assign_lane<A: Clone + Drop, S: DataMut<Elem = A>, Z: Data<Elem = A>>(
     ensures stopped { OnErr result (IsPartlyAssigned (λ k. stored_at (Z.stored others.now) (pos beside.place +ℤ (pos k *ℤ beside.stride))) (λ k. pos lane.place +ℤ (pos k *ℤ lane.stride)) lane.count (S.stored storage.old) (S.stored storage.new)) }
     ensures frame { S.frame storage.new ≡ S.frame storage.old }
 {
-    if lane.count > 0 && lane.stride == 1 && beside.stride == 1 {
+    if lane.count == 0 || lane.stride != 1 {
+        return assign_along(storage, lane, &others.borrowed(), beside);
+    }
+    if beside.stride == 1 {
         return assign_beside(storage, lane, others, beside);
     }
-    assign_along(storage, lane, &others.borrowed(), beside)
+    assign_aside(storage, lane, &others.borrowed(), beside)
 }
 
 /// Writes at the place of each index of a layout a clone of the element that a second storage has at the place of that index

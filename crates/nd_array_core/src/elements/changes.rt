@@ -2,13 +2,12 @@
 #![tactic(auto, unfolding(crate::specs::Meaning::meaning_of, crate::specs::Meaning::memory_layout_of))]
 
 ghost use Rattle.std.specs.Prelude.{◌≡◌, ◌<◌, ◌≤◌, ℕ, true, Some, IsSome, pos, length, ◌+ℤ◌, ◌*ℤ◌};
-ghost use Rattle.std.specs.Option.{option_map};
 ghost use Rattle.nd_shape_and_slice.specs.Shape.{size_of, HasCheckedSize};
 ghost use Rattle.nd_layout.specs.Places.{ReachesPlaces};
 ghost use Rattle.nd_layout.specs.Walk.{place_at_rank};
-ghost use Rattle.nd_array_core.specs.Places.{names_place, written_at};
+ghost use Rattle.nd_array_core.specs.Places.{names_place};
 ghost use Rattle.nd_array_core.specs.base.Writes.{KeepsFrame};
-ghost use Rattle.nd_array_core.specs.elements.Changes.{AreDistinct, ChangesElement, TakesElementMut, IsChangedTo, TakesPlacesMut, ChangesBy, ChangesAll, ChangeableInAnyOrder};
+ghost use Rattle.nd_array_core.specs.elements.Changes.{AreDistinct, ChangesElement, TakesElementMut, IsChangedTo, TakesPlacesMut, ChangesAll, ChangeableInAnyOrder, ChangesAlike};
 
 use crate::base::array::ArrayBase;
 use crate::base::storage::DataMut;
@@ -97,7 +96,7 @@ impl<S: DataMut, D: Dimension> ArrayBase<S, D> {
     pub fn map_inplace<F: FnMut(&mut S::Elem)>(&mut self, f: F)
         requires callable { ChangeableInAnyOrder F.FnMut (shape_of self.old) (element_at self.old) f }
         ensures visits { ChangesAll F.FnMut (shape_of self.old) (element_at self.old) (element_at self.new) f }
-        ensures alike { (h : _) → ChangesBy F.FnMut h f → (i : _) → element_at self.new i ≡ option_map h (element_at self.old i) }
+        ensures alike { ChangesAlike F.FnMut f (element_at self.old) (element_at self.new) }
         ensures frame { KeepsFrame S.frame self.old self.new }
     {
         let order = self.layout.free_order();

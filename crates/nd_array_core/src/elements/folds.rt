@@ -1,14 +1,14 @@
 //! Closures that are handed each element.
 #![tactic(auto, unfolding(crate::specs::Meaning::meaning_of, crate::specs::Meaning::memory_layout_of))]
 
-ghost use Rattle.std.specs.Prelude.{◌≡◌, ◌<◌, ◌≤◌, ℕ, true, List, Some, pos, length, ◌+ℤ◌, ◌*ℤ◌};
+ghost use Rattle.std.specs.Prelude.{◌≡◌, ◌<◌, ◌≤◌, ℕ, true, Some, pos, length, ◌+ℤ◌, ◌*ℤ◌};
 ghost use Rattle.std.specs.List.{fold};
 ghost use Rattle.nd_shape_and_slice.specs.Shape.{size_of, HasCheckedSize};
 ghost use Rattle.nd_layout.specs.Places.{ReachesPlaces};
 ghost use Rattle.nd_layout.specs.Walk.{place_at_rank};
-ghost use Rattle.nd_array_core.specs.Places.{names_place, stored_at};
+ghost use Rattle.nd_array_core.specs.Places.{names_place};
 ghost use Rattle.nd_array_core.specs.Joined.{row_major_elements};
-ghost use Rattle.nd_array_core.specs.elements.Folds.{RanTo, IsOrderFree, FoldsPlaces, TakesPlaces, FoldsBy, FoldsAll, FoldableInAnyOrder};
+ghost use Rattle.nd_array_core.specs.elements.Folds.{FoldsPlaces, TakesPlaces, FoldsAll, FoldableInAnyOrder, FoldsAlike};
 
 use crate::base::array::ArrayBase;
 use crate::base::storage::Data;
@@ -91,7 +91,7 @@ impl<S: Data, D: Dimension> ArrayBase<S, D> {
     pub fn fold<F: FnMut(B, &S::Elem) -> B, B>(&self, init: B, f: F) -> B
         requires callable { FoldableInAnyOrder F.FnMut (shape_of self.now) (element_at self.now) f init }
         ensures visits { FoldsAll F.FnMut (shape_of self.now) (element_at self.now) f init result }
-        ensures settled { (h : _) → FoldsBy F.FnMut h f → IsOrderFree h → result ≡ fold h init (row_major_elements (meaning_of self.now)) }
+        ensures settled { FoldsAlike F.FnMut f init (row_major_elements (meaning_of self.now)) result }
     {
         let order = self.layout.free_order();
         let (_f, total) = fold_places(

@@ -1,15 +1,15 @@
 //! New arrays of what a closure answers for each element, which it is handed to be written.
 #![tactic(auto, unfolding(crate::specs::Meaning::meaning_of, crate::specs::Meaning::memory_layout_of))]
 
-ghost use Rattle.std.specs.Prelude.{◌≡◌, ◌+◌, ◌<◌, ◌≤◌, ℕ, [], true, length, pos, Some, IsSome, IfOk, IfErr, vec_len, vec_capacity, ◌+ℤ◌, ◌*ℤ◌, List};
+ghost use Rattle.std.specs.Prelude.{◌≡◌, ◌+◌, ◌<◌, ◌≤◌, ℕ, [], true, length, pos, Some, IsSome, IfOk, IfErr, vec_len, vec_capacity, ◌+ℤ◌, ◌*ℤ◌, List, OnOk};
 ghost use Rattle.nd_shape_and_slice.specs.Shape.{size_of, HasCheckedSize};
 ghost use Rattle.nd_layout.specs.Places.{ReachesPlaces};
 ghost use Rattle.nd_layout.specs.Walk.{place_at_rank};
 ghost use Rattle.nd_array_core.specs.Places.{names_place, stored_at};
 ghost use Rattle.nd_array_core.specs.base.Writes.{KeepsFrame};
 ghost use Rattle.nd_array_core.specs.elements.Changes.{AreDistinct, IsChangedBy};
-ghost use Rattle.nd_array_core.specs.elements.Maps.{Replaces, TakesNumbered, AskableOfAll, HasAnswersOfAll, IsMappedBy};
-ghost use Rattle.nd_array_core.specs.elements.MapsMut.{both_at, LeavesAndAnswers, MayBeHanded, LeavesBy, AnswersHandedBy, Collects, TakesCollecting};
+ghost use Rattle.nd_array_core.specs.elements.Maps.{Replaces, TakesNumbered};
+ghost use Rattle.nd_array_core.specs.elements.MapsMut.{LeavesAndAnswers, MayBeHanded, Collects, TakesCollecting, HandableElements, HandsOutElements, LeavesAlike, AnswersHandedAlike};
 
 use crate::base::array::{Array, ArrayBase};
 use crate::base::fresh::of_items;
@@ -106,11 +106,11 @@ impl<S: DataMut, D: Dimension> ArrayBase<S, D> {
         alloc: Global,
         f: F,
     ) -> Result<Array<B, D>, NoMemory>
-        requires callable { AskableOfAll (LeavesAndAnswers F.FnMut) (MayBeHanded F.FnMut) (meaning_of self.old) f }
+        requires callable { HandableElements F.FnMut (meaning_of self.old) f }
         ensures shape { IfOk result (λ a. shape_of a ≡ shape_of self.old) }
-        ensures visits { IfOk result (λ a. HasAnswersOfAll (LeavesAndAnswers F.FnMut) (meaning_of self.old) f (both_at (element_at self.new) (element_at a))) }
-        ensures alike { (h : _) → LeavesBy F.FnMut h f → IfOk result (λ _. IsMappedBy h (element_at self.old) (element_at self.new)) }
-        ensures answered { (h : _) → AnswersHandedBy F.FnMut h f → IfOk result (λ a. IsMappedBy h (element_at self.old) (element_at a)) }
+        ensures visits { IfOk result (λ a. HandsOutElements F.FnMut f (meaning_of self.old) (element_at self.new) (element_at a)) }
+        ensures alike { OnOk result (LeavesAlike F.FnMut f (element_at self.old) (element_at self.new)) }
+        ensures answered { IfOk result (λ a. AnswersHandedAlike F.FnMut f (element_at self.old) (element_at a)) }
         ensures kept { IfErr result (λ _. (i : List ℕ) → element_at self.new i ≡ element_at self.old i) }
         ensures frame { KeepsFrame S.frame self.old self.new }
     {

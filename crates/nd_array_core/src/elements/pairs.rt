@@ -94,6 +94,46 @@ fn zip_beside<B, S: DataMut, Z: Data<Elem = B>, F: FnMut(&mut S::Elem, &B)>(
     zip_run(storage.lend_run(lane.place, lane.count), ys, f)
 }
 
+/// Hands the elements of a slice to the function, one after the other, each with the one of a lane beside it.
+fn zip_into<A, B, Z: Data<Elem = B>, F: FnMut(&mut A, &B)>(
+    xs: &mut [A],
+    others: &Z,
+    beside: Lane,
+    mut f: F,
+) -> F
+    requires as_long { beside.count ≡ length xs.old }
+    requires others_hold { (k : ℕ) → k < beside.count → names_place (Z.stored others.now) (pos beside.place +ℤ (pos k *ℤ beside.stride)) ≡ true }
+    requires callable { TakesPairs F.FnMut (slice_get xs.old) (λ k. pos k) (Z.stored others.now) (λ k. pos beside.place +ℤ (pos k *ℤ beside.stride)) f (length xs.old) }
+    ensures changed { IsZippedTo F.FnMut (λ k. pos k) (Z.stored others.now) (λ k. pos beside.place +ℤ (pos k *ℤ beside.stride)) (length xs.old) (slice_get xs.old) (slice_get xs.new) f result }
+    ensures long { length xs.new ≡ length xs.old }
+{
+    for nth in 0..beside.count {
+        let other = others.element(beside.place_of(nth));
+        f(&mut xs[nth], other);
+    }
+    f
+}
+
+/// The same of a lane whose elements lie side by side, as a slice: a write can't change where it begins.
+fn zip_aside<B, S: DataMut, Z: Data<Elem = B>, F: FnMut(&mut S::Elem, &B)>(
+    storage: &mut S,
+    lane: Lane,
+    others: &Z,
+    beside: Lane,
+    f: F,
+) -> F
+    requires some { 0 < lane.count }
+    requires step { lane.stride ≡ pos 1 }
+    requires as_long { beside.count ≡ lane.count }
+    requires holds { (k : ℕ) → k < lane.count → names_place (S.stored storage.old) (pos lane.place +ℤ (pos k *ℤ lane.stride)) ≡ true }
+    requires others_hold { (k : ℕ) → k < lane.count → names_place (Z.stored others.now) (pos beside.place +ℤ (pos k *ℤ beside.stride)) ≡ true }
+    requires callable { TakesPairs F.FnMut (S.stored storage.old) (λ k. pos lane.place +ℤ (pos k *ℤ lane.stride)) (Z.stored others.now) (λ k. pos beside.place +ℤ (pos k *ℤ beside.stride)) f lane.count }
+    ensures changed { IsZippedTo F.FnMut (λ k. pos lane.place +ℤ (pos k *ℤ lane.stride)) (Z.stored others.now) (λ k. pos beside.place +ℤ (pos k *ℤ beside.stride)) lane.count (S.stored storage.old) (S.stored storage.new) f result }
+    ensures frame { S.frame storage.new ≡ S.frame storage.old }
+{
+    zip_into(storage.lend_run(lane.place, lane.count), others, beside, f)
+}
+
 /// The same of any lanes.
 fn zip_lane<B, S: DataMut, Z: Data<Elem = B>, F: FnMut(&mut S::Elem, &B)>(
     storage: &mut S,
@@ -110,10 +150,13 @@ fn zip_lane<B, S: DataMut, Z: Data<Elem = B>, F: FnMut(&mut S::Elem, &B)>(
     ensures changed { IsZippedTo F.FnMut (λ k. pos lane.place +ℤ (pos k *ℤ lane.stride)) (Z.stored others.now) (λ k. pos beside.place +ℤ (pos k *ℤ beside.stride)) lane.count (S.stored storage.old) (S.stored storage.new) f result }
     ensures frame { S.frame storage.new ≡ S.frame storage.old }
 {
-    if lane.count > 0 && lane.stride == 1 && beside.stride == 1 {
+    if lane.count == 0 || lane.stride != 1 {
+        return zip_along(storage, lane, &others.borrowed(), beside, f);
+    }
+    if beside.stride == 1 {
         return zip_beside(storage, lane, others, beside, f);
     }
-    zip_along(storage, lane, &others.borrowed(), beside, f)
+    zip_aside(storage, lane, &others.borrowed(), beside, f)
 }
 
 /// Hands the elements at the places of a layout to the function, in row-major order of its indexes, each with the element

@@ -15,7 +15,7 @@ ghost use Rattle.nd_array_core.specs.base.CloneRefusals.{MayRefuseClone};
 ghost use Rattle.nd_array_core.specs.base.Fresh.{ClonesOfAllAreEqual};
 ghost use Rattle.nd_array_core.specs.base.Storages.{stored_list, room_of};
 ghost use Rattle.nd_array_core.specs.growth.Appended.{FitsBehind, IsAppendRefused, ArePutBehind};
-ghost use Rattle.nd_array_core.specs.growth.Grown.{CanGrowOn, GoesOn, IsGrownBy, IsLeft, IsNotForMemory, IsReadyAlong, IsReadyFor, LeavesRoom, NeedsNoMove};
+ghost use Rattle.nd_array_core.specs.growth.Grown.{CanGrowOn, GoesOn, IsGrownBy, IsLeft, IsReadyAlong, LeavesRoom, LeavesRoomBehind, NeedsNoMove, NeedsOnlyClones};
 ghost use Rattle.nd_array_core.specs.growth.Reserved.{HasRoomFor};
 
 use crate::base::array::{Array, ArrayView};
@@ -265,9 +265,9 @@ impl<A: Clone + Drop, D: Dimension> Array<A, D> {
         ensures goes_on { IsReadyAlong axis.0 self.old → OnOk result (GoesOn axis.0 self.old self.new) }
         ensures left { IfErr result (IsLeft axis.0 self.old self.new) }
         ensures room { IsReadyAlong axis.0 self.old → room_of (storage_of self.old) ≤ room_of (storage_of self.new) }
-        ensures room_left { IsReadyAlong axis.0 self.old → OnOk result (LeavesRoom axis.0 (slice_index (shape_of array.entry) axis.0) self.old self.new) }
+        ensures room_left { OnOk result (LeavesRoomBehind axis.0 (shape_of array.entry) self.old self.new) }
         ensures room_kept { IsReadyAlong axis.0 self.old → OnErr result (LeavesRoom axis.0 0 self.old self.new) }
-        ensures enough { IsReadyFor axis.0 (slice_index (shape_of array.entry) axis.0) self.old → IfErr result (IsNotForMemory A.is_infallible (element_at array.entry)) }
+        ensures enough { IfErr result (NeedsOnlyClones A.is_infallible axis.0 self.old (meaning_of array.entry)) }
         ensures nothing { size_of (shape_of array.entry) ≡ 0 → IfErr result (λ e. e ≡ ArrayError.NoMemory → ⊥) }
     {
         match joined_dim(&self.layout.dim, &array.layout.dim, axis.0) {

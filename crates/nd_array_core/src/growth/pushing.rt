@@ -1,16 +1,13 @@
 //! An array of one axis fewer behind another along an axis.
 #![tactic(auto, unfolding(crate::specs::Meaning::meaning_of, crate::specs::Meaning::memory_layout_of))]
 
-ghost use Rattle.std.specs.Prelude.{◌↔◌, ◌≡◌, ◌+◌, ◌<◌, ◌≤◌, true, length, IfOk, IfErr, OnOk, OnErr};
-ghost use Rattle.nd_shape_and_slice.specs.Maps.{inserted_shape};
+ghost use Rattle.std.specs.Prelude.{◌≡◌, ◌+◌, ◌<◌, ◌≤◌, true, length, IfErr, OnOk, OnErr};
 ghost use Rattle.nd_shape_and_slice.specs.Shape.{size_of};
-ghost use Rattle.nd_array_core.specs.Joined.{concatenated};
-ghost use Rattle.nd_array_core.specs.Laws.{with_axis_inserted};
 ghost use Rattle.nd_array_core.specs.Meaning.{meaning_of, shape_of, element_at, storage_of};
 ghost use Rattle.nd_array_core.specs.Part.{inserted_part, ShowsPart};
 ghost use Rattle.nd_array_core.specs.base.Fresh.{ClonesOfAllAreEqual};
 ghost use Rattle.nd_array_core.specs.base.Storages.{room_of};
-ghost use Rattle.nd_array_core.specs.growth.Appended.{IsAppendRefused};
+ghost use Rattle.nd_array_core.specs.growth.Appended.{pushed, IsPushRefused};
 ghost use Rattle.nd_array_core.specs.growth.Grown.{GoesOn, IsGrownBy, IsLeft, IsNotForMemory, IsReadyAlong, IsReadyFor, LeavesRoom};
 
 use crate::base::array::{Array, ArrayView};
@@ -53,8 +50,8 @@ where
     ) -> Result<(), ArrayError>
         requires axis { 0 < length (shape_of self.old) → axis.0 < length (shape_of self.old) }
         requires clones { ClonesOfAllAreEqual A.is_clone (element_at array) }
-        ensures refused { IfErr result (IsAppendRefused (shape_of self.old) (inserted_shape (shape_of array.entry) axis.0) axis.0) }
-        ensures joined { OnOk result (meaning_of self.new ≡ concatenated axis.0 (meaning_of self.old) (with_axis_inserted axis.0 (meaning_of array.entry))) }
+        ensures refused { IfErr result (IsPushRefused (shape_of self.old) (shape_of array.entry) axis.0) }
+        ensures joined { OnOk result (meaning_of self.new ≡ pushed axis.0 (meaning_of self.old) (meaning_of array.entry)) }
         ensures kept { OnErr result (meaning_of self.new ≡ meaning_of self.old) }
         ensures laid { OnOk result (IsGrownBy axis.0 1 self.old self.new) }
         ensures ready { 0 < size_of (shape_of array.entry) → OnOk result (IsReadyAlong axis.0 self.new) }
@@ -77,8 +74,8 @@ impl<A: Clone + Drop> Array<A, Ix2> {
     /// Appends a row, as `push` does along the first axis. ndarray's `push_row`.
     pub fn push_row(&mut self, row: ArrayView<'_, A, Ix1>) -> Result<(), ArrayError>
         requires clones { ClonesOfAllAreEqual A.is_clone (element_at row) }
-        ensures refused { IfErr result (IsAppendRefused (shape_of self.old) (inserted_shape (shape_of row.entry) 0) 0) }
-        ensures joined { OnOk result (meaning_of self.new ≡ concatenated 0 (meaning_of self.old) (with_axis_inserted 0 (meaning_of row.entry))) }
+        ensures refused { IfErr result (IsPushRefused (shape_of self.old) (shape_of row.entry) 0) }
+        ensures joined { OnOk result (meaning_of self.new ≡ pushed 0 (meaning_of self.old) (meaning_of row.entry)) }
         ensures kept { OnErr result (meaning_of self.new ≡ meaning_of self.old) }
         ensures laid { OnOk result (IsGrownBy 0 1 self.old self.new) }
         ensures ready { 0 < size_of (shape_of row.entry) → OnOk result (IsReadyAlong 0 self.new) }
@@ -97,8 +94,8 @@ impl<A: Clone + Drop> Array<A, Ix2> {
     /// Appends a column, as `push` does along the second axis. ndarray's `push_column`.
     pub fn push_column(&mut self, column: ArrayView<'_, A, Ix1>) -> Result<(), ArrayError>
         requires clones { ClonesOfAllAreEqual A.is_clone (element_at column) }
-        ensures refused { IfErr result (IsAppendRefused (shape_of self.old) (inserted_shape (shape_of column.entry) 1) 1) }
-        ensures joined { OnOk result (meaning_of self.new ≡ concatenated 1 (meaning_of self.old) (with_axis_inserted 1 (meaning_of column.entry))) }
+        ensures refused { IfErr result (IsPushRefused (shape_of self.old) (shape_of column.entry) 1) }
+        ensures joined { OnOk result (meaning_of self.new ≡ pushed 1 (meaning_of self.old) (meaning_of column.entry)) }
         ensures kept { OnErr result (meaning_of self.new ≡ meaning_of self.old) }
         ensures laid { OnOk result (IsGrownBy 1 1 self.old self.new) }
         ensures ready { 0 < size_of (shape_of column.entry) → OnOk result (IsReadyAlong 1 self.new) }

@@ -30,7 +30,7 @@ returns-clause-assigned g c =
     let holds : HasRunAt old lane.place lane.count = λ k below. beside_has old lane.place lane.count lane.stride c.requires.steps.0 c.requires.holds k below in
     let long = c.assign_run.ensures.long ∙ c.lend_run.ensures.values.0 in
     let new = g.S.Data.stored (g.S.Data.with_run c.args.storage.now lane.place lane.count ws).0 in
-    run_assigned (λ k. stored_at others (pos beside.place +ℤ (pos k *ℤ beside.stride))) (λ k. pos lane.place +ℤ (pos k *ℤ lane.stride)) lane.count old new xs ys ws
+    run_assigned (λ k. stored_at others (pos beside.place +ℤ (pos k *ℤ beside.stride))) (λ k. pos lane.place +ℤ (pos k *ℤ lane.stride)) lane.count old new xs (slice_get ys) ws
     (λ k below. c.lend_run.ensures.values.1 k below ∙ sym (side_shows old lane.place k lane.stride c.requires.steps.0))
     (λ k below. beside_found others beside.place beside.count beside.stride c.requires.steps.1 ys c.run-ys.ensures.count (λ j d under. sym (c.borrowed.ensures (beside.place + j)) ∙ c.run-ys.ensures.elements j d under) k (subst (λ n. k < n) (sym c.requires.as_long) below))
     (λ k below. sym (g.met.S.DataMut.run_written c.args.storage.now lane.place lane.count ws holds long k below) ∙ sym (side_shows new lane.place k lane.stride c.requires.steps.0))
@@ -50,7 +50,7 @@ returns-clause-stopped g c =
     let holds : HasRunAt old lane.place lane.count = λ k below. beside_has old lane.place lane.count lane.stride c.requires.steps.0 c.requires.holds k below in
     let long = c.assign_run.ensures.long ∙ c.lend_run.ensures.values.0 in
     let new = g.S.Data.stored (g.S.Data.with_run c.args.storage.now lane.place lane.count ws).0 in
-    run_partly (λ k. stored_at others (pos beside.place +ℤ (pos k *ℤ beside.stride))) (λ k. pos lane.place +ℤ (pos k *ℤ lane.stride)) lane.count old new xs ys ws
+    run_partly (λ k. stored_at others (pos beside.place +ℤ (pos k *ℤ beside.stride))) (λ k. pos lane.place +ℤ (pos k *ℤ lane.stride)) lane.count old new xs (slice_get ys) ws
     (λ k below. c.lend_run.ensures.values.1 k below ∙ sym (side_shows old lane.place k lane.stride c.requires.steps.0))
     (λ k below. beside_found others beside.place beside.count beside.stride c.requires.steps.1 ys c.run-ys.ensures.count (λ j d under. sym (c.borrowed.ensures (beside.place + j)) ∙ c.run-ys.ensures.elements j d under) k (subst (λ n. k < n) (sym c.requires.as_long) below))
     (λ k below. sym (g.met.S.DataMut.run_written c.args.storage.now lane.place lane.count ws holds long k below) ∙ sym (side_shows new lane.place k lane.stride c.requires.steps.0))

@@ -7,7 +7,7 @@ use Rattle.nd_shape_and_slice.specs.Maps.{inserted_index, inserted_shape}
 use Rattle.nd_array_core.specs.growth.Appended.{IsJoiningRefused}
 use Rattle.nd_array_core.proofs.Appending.{same_at}
 use Rattle.nd_array_core.proofs.Assigned.{on_ok}
-use Rattle.nd_array_core.specs.growth.Grown.{IsNotForMemory, LeavesRoom}
+use Rattle.nd_array_core.specs.growth.Grown.{NeedsOnlyClones, IsNotForMemory, LeavesRoom}
 use Rattle.nd_array_core.specs.growth.Reserved.{HasRoomAlong}
 use Rattle.nd_array_core.proofs.CloneRefusals.{part_refused}
 use Rattle.nd_array_core.proofs.Pushed.{for_part, if_refused, one_pushed, other_axes, size_pushed}
@@ -44,7 +44,7 @@ returns-clause-room_left g c ready =
     let few = c.ndim.ensures.value in
     let all = c.ndim-2.ensures.value in
     let axes : length array.shape + 1 ≡ length old.shape = omega (arith, c.if-ndim.false, few, all) in
-    subst (λ n. OnOk c.append.result (LeavesRoom c.args.axis.0 n c.args.self.now c.append.new.self)) (one_pushed old.shape array.shape view.shape c.args.axis.0 c.requires.axis axes c.with_axis.ensures.part.0) (c.append.ensures.room_left ready)
+    on_ok c.append.result (λ left. subst (λ n. LeavesRoom c.args.axis.0 n c.args.self.now c.append.new.self) (one_pushed old.shape array.shape view.shape c.args.axis.0 c.requires.axis axes c.with_axis.ensures.part.0) (left ready)) c.append.ensures.room_left
 
 pub returns-clause-enough : goal.returns-clause-enough
 returns-clause-enough g c for_it =
@@ -54,9 +54,10 @@ returns-clause-enough g c for_it =
     let few = c.ndim.ensures.value in
     let all = c.ndim-2.ensures.value in
     let axes : length array.shape + 1 ≡ length old.shape = omega (arith, c.if-ndim.false, few, all) in
-    if_refused c.append.result (IsNotForMemory g.A.Clone.is_infallible view.at) (IsNotForMemory g.A.Clone.is_infallible array.at)
-    (for_part g.A.Clone.is_infallible view.at array.at (part_refused g.A.Clone.is_infallible array.at view.at (inserted_shape array.shape c.args.axis.0) (inserted_index c.args.axis.0) c.with_axis.ensures.part.2))
-    (c.append.ensures.enough (for_it.0, subst (λ n. HasRoomAlong c.args.axis.0 n c.args.self.now) (sym (one_pushed old.shape array.shape view.shape c.args.axis.0 c.requires.axis axes c.with_axis.ensures.part.0)) for_it.1))
+    let room = subst (λ n. HasRoomAlong c.args.axis.0 n c.args.self.now) (sym (one_pushed old.shape array.shape view.shape c.args.axis.0 c.requires.axis axes c.with_axis.ensures.part.0)) for_it.1 in
+    if_refused c.append.result (NeedsOnlyClones g.A.Clone.is_infallible c.args.axis.0 c.args.self.now view) (IsNotForMemory g.A.Clone.is_infallible array.at)
+    (λ e needs. for_part g.A.Clone.is_infallible view.at array.at (part_refused g.A.Clone.is_infallible array.at view.at (inserted_shape array.shape c.args.axis.0) (inserted_index c.args.axis.0) c.with_axis.ensures.part.2) e (needs (for_it.0, room)))
+    c.append.ensures.enough
 
 pub returns-clause-nothing : goal.returns-clause-nothing
 returns-clause-nothing g c none =
