@@ -1,5 +1,4 @@
-"""Prints one markdown table of microseconds a call: plain Rust's, ours and numpy's, from the driver given as an argument,
-with its words."""
+"""Prints one markdown table of microseconds a call: plain Rust's, ours and numpy's, from the driver given as an argument."""
 
 import subprocess
 import sys
@@ -9,6 +8,7 @@ import timeit
 import numpy
 
 ROWS, COLUMNS = 1000, 1000
+ROUNDS = 4
 
 # What numpy writes for a call in a case.
 FILLS = {"all": "a[...] = 7", "every second column": "a[:, ::2] = 7", "turned": "a.T[...] = 7"}
@@ -22,13 +22,14 @@ CLOSURES = {"fold": "{0}.sum(dtype={0}.dtype)", "map": "{0} + {0}", "map_inplace
 RIGHT_SIDES = {"both in row-major order": "b", "the right side one row": "b[:1]", "the right side in column-major order": "b.T"}
 PAIRS = {"zip_mut_with": "numpy.add(a, {0}, out=a)", "assign": "a[...] = {0}"}
 
-# Along an axis, other lengths, and rows that come in; what numpy does for the last is its nearest call, which copies all.
+# Along an axis, other lengths, and rows that come in: what numpy does for the last is its nearest call, which copies all, after
+# a copy into the other order where the array has to be laid anew.
 ALONG = {
     "`fold_axis` of `i64`, down the columns": "a.sum(axis=0)",
     "`fold_axis` of `i64`, along the rows": "a.sum(axis=1)",
     "`flatten` of `i64`, turned": "a.T.flatten()",
     "a copy of `i64` in row-major order, and a row appended": "numpy.concatenate((a, a[:1]))",
-    "a copy of `i64` in column-major order, and a row appended": "numpy.concatenate((a.T, a.T[:1]))",
+    "a copy of `i64` in column-major order, and a row appended": "numpy.concatenate((numpy.ascontiguousarray(a.T.copy(order='K')), a[:1]))",
 }
 
 
@@ -64,11 +65,15 @@ def of_numpy():
 
 
 def main():
-    lines = subprocess.run(sys.argv[1:], check=True, capture_output=True, text=True).stdout.splitlines()
-    times = {}
-    for name, who, microseconds in (line.split("\t") for line in lines):
-        times.setdefault(name, {})[who] = float(microseconds)
-    nearest = of_numpy()
+    # In rounds, the least of them: what else goes on in the machine comes and goes.
+    times, nearest = {}, {}
+    for _ in range(ROUNDS):
+        lines = subprocess.run(sys.argv[1:], check=True, capture_output=True, text=True).stdout.splitlines()
+        for name, who, microseconds in (line.split("\t") for line in lines):
+            of = times.setdefault(name, {})
+            of[who] = min(of.get(who, float("inf")), float(microseconds))
+        for name, microseconds in of_numpy().items():
+            nearest[name] = min(nearest.get(name, float("inf")), microseconds)
     print(f"| microseconds a call | plain Rust | here | ratio | numpy {numpy.__version__} |")
     print("|---|--:|--:|--:|--:|")
     for name, of in times.items():

@@ -1,5 +1,5 @@
 //! Times calls over all elements of 1000 rows of 1000, beside the same loops in plain Rust: prints a line for each call,
-//! with who made it and the microseconds of one call. With the word `huge` long blocks lie in huge pages.
+//! with who made it and the microseconds of one call. All memory, plain Rust's too, is malloc's.
 //!
 //! A row is added by an export in crates/nd_speed, its declaration and a line here, and the nearest call of numpy in
 //! elements.py.
@@ -7,9 +7,7 @@
 mod along;
 mod elementwise;
 
-use std::alloc::{GlobalAlloc, Layout};
 use std::hint::black_box;
-use std::sync::atomic::{AtomicBool, Ordering};
 
 const ROWS: usize = 1000;
 const COLUMNS: usize = 1000;
@@ -113,51 +111,14 @@ struct Tried {
 }
 
 unsafe extern "C" {
-    fn aligned_alloc(align: usize, size: usize) -> *mut u8;
-    fn madvise(place: *mut u8, size: usize, advice: i32) -> i32;
     fn malloc(size: usize) -> *mut u8;
     fn realloc(block: *mut u8, size: usize) -> *mut u8;
     fn free(block: *mut u8);
 }
 
-const HUGE_PAGE: usize = 1 << 21;
-const WANTS_HUGE_PAGES: i32 = 14;
-
-/// Whether blocks of 4 MiB and more are asked for in huge pages, as numpy asks for its own.
-static IN_HUGE_PAGES: AtomicBool = AtomicBool::new(false);
-
-unsafe fn block_of(size: usize) -> *mut u8 {
-    if size < 1 << 22 || !IN_HUGE_PAGES.load(Ordering::Relaxed) {
-        return unsafe { malloc(size) };
-    }
-    unsafe {
-        let place = aligned_alloc(HUGE_PAGE, size.next_multiple_of(HUGE_PAGE));
-        if !place.is_null() {
-            madvise(place, size, WANTS_HUGE_PAGES);
-        }
-        place
-    }
-}
-
-/// Plain Rust's memory comes from where the library's does.
-struct Blocks;
-
-unsafe impl GlobalAlloc for Blocks {
-    unsafe fn alloc(&self, layout: Layout) -> *mut u8 {
-        unsafe { block_of(layout.size()) }
-    }
-
-    unsafe fn dealloc(&self, place: *mut u8, _layout: Layout) {
-        unsafe { free(place) }
-    }
-}
-
-#[global_allocator]
-static BLOCKS: Blocks = Blocks;
-
 #[unsafe(no_mangle)]
 unsafe extern "C" fn rattle_alloc(size: usize, _align: usize) -> Tried {
-    let place = unsafe { block_of(size) };
+    let place = unsafe { malloc(size) };
     Tried {
         ok: !place.is_null(),
         place,
@@ -419,7 +380,6 @@ fn symmetric<A>(element: fn(usize) -> A) -> Vec<A> {
 }
 
 fn main() {
-    IN_HUGE_PAGES.store(std::env::args().any(|word| word == "huge"), Ordering::Relaxed);
     fills("u64", &mut vec![0; ROWS * COLUMNS], |call| call as u64, nd_speed_fill);
     fills("u8", &mut vec![0; ROWS * COLUMNS], |call| call as u8, nd_speed_fill_bytes);
     owned();

@@ -4,7 +4,8 @@
 #
 #     speed/elements.sh [huge]
 #
-# With `huge` blocks of 4 MiB and more lie in huge pages, as numpy's do.
+# numpy asks the kernel for huge pages for long blocks, and malloc doesn't. With `huge` malloc asks for them too (by a
+# tunable of glibc's), so that all three lie in pages of one size.
 #
 # Wants rt, rustc, and a python3 with numpy: PYTHON names another than /usr/bin/python3.
 set -e
@@ -14,4 +15,5 @@ trap 'rm -rf "$made"' EXIT
 
 (cd "$here/../crates/nd_speed" && rt lib > "$made/log" 2>&1) || { tail -20 "$made/log"; exit 1; }
 rustc -O -C target-cpu=x86-64-v2 -L "native=$here/../crates/nd_speed/out" -l static=nd_speed -o "$made/driver" "$here/elements.rs"
-"${PYTHON:-/usr/bin/python3}" "$here/elements.py" "$made/driver" "$@"
+[ "$1" != huge ] || export GLIBC_TUNABLES=glibc.malloc.hugetlb=1
+"${PYTHON:-/usr/bin/python3}" "$here/elements.py" "$made/driver"
