@@ -1,16 +1,15 @@
 -- The calls of a fold over the places of a layout, as calls over the indexes of an array.
-use Rattle.std.proofs.Common.{◌≡◌, ℕ, zero, suc, ◌+◌, ◌<◌, true, List, [], ◌∷◌, refl, ap, sym, subst, ◌∙◌, arith}
-use Rattle.std.specs.Prelude.{Option, Some, ℤ}
+use Rattle.std.proofs.Common.{◌≡◌, ℕ, ◌+◌, ◌<◌, List, [], ◌∷◌, refl, ap, sym, subst, ◌∙◌, arith}
+use Rattle.std.specs.Prelude.{Option, ℤ}
 use Rattle.std.specs.Fn.{Mut, Called}
 use Rattle.std.specs.Borrow.{Bor}
 use Rattle.std.specs.List.{fold, filter_map, FoldsTo}
-use Rattle.std.proofs.lemmas.List.Sums.{fold-append}
-use Rattle.nd_shape_and_slice.specs.Shape.{in_box, size_of, indexes_of}
+use Rattle.nd_shape_and_slice.specs.Shape.{size_of, indexes_of}
 use Rattle.nd_shape_and_slice.specs.Place.{place_of}
 use Rattle.nd_layout.specs.Walk.{place_at_rank, IsRearranged}
 use Rattle.nd_array_core.specs.Meaning.{inside}
 use Rattle.nd_array_core.specs.Places.{stored_at}
-use Rattle.nd_array_core.specs.elements.Folds.{IsOrderFree, FoldsElement, TakesElement, FoldsPlaces, TakesPlaces, FoldsBy, FoldsAll, FoldableInAnyOrder}
+use Rattle.nd_array_core.specs.elements.Folds.{IsOrderFree, FoldsElement, FoldsPlaces, TakesPlaces, FoldsBy, FoldsAll, FoldableInAnyOrder}
 use Rattle.nd_array_core.proofs.FreeOrder.{IsNumbering, listed, listed_part, listed_all}
 use Rattle.nd_array_core.proofs.FoldOrder.{folded, fold_any_order}
 use Rattle.nd_array_core.proofs.Ran.{ran_weaker, ran_listed}

@@ -1,11 +1,10 @@
 -- How an owned array lies once another has come behind it: the case that applies, and what it says.
-use Rattle.std.proofs.Common.{◌≡◌, ℕ, zero, suc, ⊎_elim, inl, inr, ◌⊎◌, ◌+◌, ◌*◌, ◌<◌, ◌≤◌, Bool, true, false, not, ◌||◌, cond, eqb, leb, List, [], ◌∷◌, ◌++◌, length, get_or, set, replicate, refl, ap, sym, subst, ◌∙◌, arith, ℤ, pos}
-use Rattle.std.specs.Prelude.{Option, Result, Ok, Err, OnOk}
+use Rattle.std.proofs.Common.{◌≡◌, ℕ, zero, suc, ⊎_elim, inl, inr, ◌+◌, ◌*◌, ◌<◌, ◌≤◌, Bool, true, false, not, ◌||◌, cond, eqb, leb, List, [], ◌∷◌, ◌++◌, length, get_or, set, replicate, refl, ap, sym, subst, ◌∙◌, arith, ℤ, pos}
 use Rattle.std.specs.List.{remove}
 use Rattle.std.proofs.Math.Nat.{mul-le-mul_right}
-use Rattle.std.proofs.lemmas.Bool.{cases_eq, cases_lt, eq-eqb, ne_eqb, eqb-true, false≢true}
+use Rattle.std.proofs.lemmas.Bool.{cases_eq, eq-eqb, ne_eqb}
 use Rattle.std.proofs.lemmas.List.{append-nil, length-set, set-get_or, get_or-set_same}
-use Rattle.nd_shape_and_slice.specs.Shape.{in_box, size_of}
+use Rattle.nd_shape_and_slice.specs.Shape.{size_of}
 use Rattle.nd_shape_and_slice.specs.Place.{place_of}
 use Rattle.nd_shape_and_slice.specs.Strides.{row_strides, column_strides_from}
 use Rattle.nd_layout.specs.Growth.{growing_strides, greatest_end, grown_shape, growth_case, must_move, strides_in_case}
@@ -14,8 +13,8 @@ use Rattle.nd_layout.specs.Placements.{Placement, as_placement}
 use Rattle.nd_layout.proofs.Extended.{span-lt-greatest_end}
 use Rattle.nd_layout.proofs.Filled.{grows_on}
 use Rattle.nd_layout.proofs.FreshOrder.{fresh_full, fresh_ready, length-growing_strides}
-use Rattle.nd_layout.proofs.Growing.{growing_strides-is, growing_strides-set}
-use Rattle.nd_layout.proofs.GrowthCases.{end_beside-le-size, others_some}
+use Rattle.nd_layout.proofs.Growing.{growing_strides-is}
+use Rattle.nd_layout.proofs.GrowthCases.{end_beside-le-size}
 use Rattle.nd_layout.proofs.GrownLayout.{base_full, last_cases, axis_some}
 use Rattle.nd_layout.proofs.MemoryOrder.{same_placement}
 use Rattle.nd_layout.proofs.Removed.{size_of-removed}

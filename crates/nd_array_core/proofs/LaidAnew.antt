@@ -1,5 +1,5 @@
 -- Elements moved into the order of fresh storage that is to grow along an axis.
-use Rattle.std.proofs.Common.{◌≡◌, ℕ, ◌+◌, ◌<◌, true, List, ℤ, pos, ◌+ℤ◌, length, ap, ◌∙◌, arith}
+use Rattle.std.proofs.Common.{◌≡◌, ℕ, ◌<◌, true, List, ℤ, pos, ◌+ℤ◌, length, ap, ◌∙◌, arith}
 use Rattle.std.proofs.lemmas.Int.{ints}
 use Rattle.std.specs.Prelude.{Option, is_some, slice_get}
 use Rattle.nd_shape_and_slice.specs.Shape.{in_box, size_of}

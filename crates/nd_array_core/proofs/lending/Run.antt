@@ -1,6 +1,6 @@
 -- What an array shows once its elements were lent as one slice.
-use Rattle.std.proofs.Common.{◌≡◌, ℕ, ◌+◌, ◌-◌, ◌<◌, ◌⊎◌, Bool, true, false, List, length, get_or, ℤ, pos, refl, ap, sym, ◌∙◌, subst, arith}
-use Rattle.std.specs.Prelude.{Option, Some, None, is_some, slice_get, if◌then◌else◌}
+use Rattle.std.proofs.Common.{◌≡◌, ℕ, ◌+◌, ◌-◌, ◌<◌, Bool, true, false, List, length, get_or, ℤ, pos, refl, ap, sym, ◌∙◌, subst, arith}
+use Rattle.std.specs.Prelude.{Option, Some, slice_get}
 use Rattle.nd_shape_and_slice.specs.Shape.{in_box, size_of, row_rank, index_at}
 use Rattle.nd_shape_and_slice.specs.Place.{place_of}
 use Rattle.nd_shape_and_slice.specs.declared.dimension.Dimension as dimension
@@ -9,15 +9,15 @@ use Rattle.nd_shape_and_slice.specs.declared.dimension.StrideList as stride_list
 use Rattle.nd_shape_and_slice.proofs.RankIndexes.{in_box-index_at, row_rank-index_at}
 use Rattle.nd_shape_and_slice.proofs.RowMajor.{row_rank_below}
 use Rattle.nd_layout.proofs.Integers.{sums}
-use Rattle.nd_layout.specs.Ranks.{IsStandard, IsRun}
+use Rattle.nd_layout.specs.Ranks.{IsStandard}
 use Rattle.nd_layout.specs.Strides.{reach_down}
 use Rattle.nd_array_core.specs.declared.base.storage.Data as data_trait
 use Rattle.nd_array_core.specs.declared.base.array.ArrayBase.{ArrayBase}
 use Rattle.nd_array_core.specs.Meaning.{inside, meaning_of, memory_layout_of, shape_of}
-use Rattle.nd_array_core.specs.Places.{stored_at, place_number, names_place, HoldsAll}
+use Rattle.nd_array_core.specs.Places.{stored_at, place_number, HoldsAll}
 use Rattle.nd_array_core.specs.base.ElementMut.{KeepsPlaces}
 use Rattle.nd_array_core.specs.base.ElementLent.{kept_names}
-use Rattle.nd_array_core.specs.base.RunLent.{IsBesideRun, HasRunAt, IsRunAt}
+use Rattle.nd_array_core.specs.base.RunLent.{IsBesideRun, HasRunAt}
 use Rattle.nd_array_core.specs.base.StorageLaws.{HoldsWrittenRun, KeepsBesideRun}
 use Rattle.nd_array_core.specs.base.Writes.{OthersStay}
 use Rattle.nd_array_core.specs.reshape.RunSlices.{LiesAlong, IsStandardArray, IsRunArray}

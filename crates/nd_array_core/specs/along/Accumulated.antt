@@ -1,5 +1,5 @@
 -- Closures that go along an axis: each call is shown the element before, as the call there left it, and handed one to be written.
-use Rattle.std.specs.Prelude.{◌≡◌, ◌+◌, ◌<◌, ℕ, suc, ◌/◌, ◌%◌, ◌*◌, List, Option, Some, true, ℤ, pos, slice_index, slice_set}
+use Rattle.std.specs.Prelude.{◌≡◌, ◌<◌, ℕ, suc, ◌/◌, ◌%◌, ◌*◌, List, Option, Some, true, ℤ, pos, slice_index}
 use Rattle.std.specs.Borrow.{Bor, MutBor}
 use Rattle.std.specs.Fn.{Mut, Called}
 use Rattle.nd_shape_and_slice.specs.Shape.{in_box}

@@ -2,7 +2,7 @@
 use Rattle.std.specs.Prelude.{◌≡◌, ◌<◌, ℕ, zero, suc, List, Option, Some, ℤ}
 use Rattle.std.specs.Borrow.{Bor}
 use Rattle.std.specs.Fn.{Mut, Called}
-use Rattle.std.specs.List.{fold, FoldsTo}
+use Rattle.std.specs.List.{fold}
 use Rattle.nd_array_core.specs.Places.{stored_at}
 use Rattle.nd_array_core.specs.FreeOrder.{VisitedInSomeOrder, CallableInAnyOrder}
 

@@ -1,5 +1,5 @@
 -- Several arrays behind one another along an axis, one after the other.
-use Rattle.std.specs.Prelude.{ℕ, ◌≡◌, List, [], ◌∷◌, map, Option, Some, slice_get, slice_index, take}
+use Rattle.std.specs.Prelude.{ℕ, ◌≡◌, List, [], ◌∷◌, map, Some, slice_get, slice_index, take}
 use Rattle.std.specs.List.{sum_by}
 use Rattle.nd_shape_and_slice.specs.Shape.{HasCheckedSize}
 use Rattle.nd_layout.specs.Growth.{grown_shape}

@@ -1,5 +1,5 @@
 -- What an append leaves of the array before it: a slice of the axis to its old length.
-use Rattle.std.specs.Prelude.{ℕ, ◌≡◌, ◌<◌, List, length, pos, Some, slice_index}
+use Rattle.std.specs.Prelude.{ℕ, ◌≡◌, ◌<◌, length, pos, Some, slice_index}
 use Rattle.nd_shape_and_slice.specs.declared.slice.Slice.{Slice}
 use Rattle.nd_array_core.specs.Joined.{concatenated}
 use Rattle.nd_array_core.specs.Laws.{NothingOutside, with_axis_sliced}

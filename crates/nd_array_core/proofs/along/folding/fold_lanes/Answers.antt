@@ -1,4 +1,4 @@
-use Rattle.std.proofs.Common.{◌≡◌, ◌+◌, ◌-◌, ◌<◌, ◌≤◌, ◌∙◌, ℕ, suc, length, pos, get_or, ◌+ℤ◌, ◌*ℤ◌, refl, ap, sym, subst, rules, arith, w64, to_z, of_z, FitsSigned}
+use Rattle.std.proofs.Common.{◌≡◌, ◌+◌, ◌<◌, ◌≤◌, ◌∙◌, ℕ, suc, length, pos, get_or, refl, ap, sym, subst, rules, arith, w64, to_z, of_z, FitsSigned}
 use Rattle.std.specs.Prelude.{slice_get}
 use Rattle.std.specs.List.{remove}
 use Rattle.std.proofs.lemmas.Int.{to_z-of_z}
@@ -6,12 +6,11 @@ use Rattle.std.proofs.lemmas.List.Edits.{length-remove}
 use Rattle.nd_shape_and_slice.specs.Shape.{size_of, index_at}
 use Rattle.nd_shape_and_slice.specs.Maps.{indexed_shape, indexed_index}
 use Rattle.nd_shape_and_slice.specs.Place.{place_of}
-use Rattle.nd_shape_and_slice.specs.declared.builder.Order.TheVariants.{RowMajor}
 use Rattle.nd_layout.specs.Steps.{IsStep}
 use Rattle.nd_layout.specs.Walk.{place_at_rank}
 use Rattle.nd_array_core.specs.Places.{stored_at}
 use Rattle.nd_array_core.specs.Collected.{stored_along}
-use Rattle.nd_array_core.specs.Meaning.{meaning_of, memory_layout_of, shape_of, element_at, inside}
+use Rattle.nd_array_core.specs.Meaning.{meaning_of, memory_layout_of, inside}
 use Rattle.nd_array_core.specs.along.AxisFolds.{lane_at}
 use Rattle.nd_array_core.proofs.AxisLanes.{next_rank}
 use Rattle.nd_array_core.proofs.LaneNumbers.{got_before, got_end, longer}

@@ -1,5 +1,5 @@
-use Rattle.std.proofs.Common.{◌≡◌, ℕ, ◌∙◌, ◌+◌, ◌<◌, pos, ◌+ℤ◌, ◌*ℤ◌, refl, ap, sym, subst}
-use Rattle.std.specs.Prelude.{is_some, slice_get, Option, OnOk, OnErr}
+use Rattle.std.proofs.Common.{ℕ, ◌∙◌, pos, ◌+ℤ◌, ◌*ℤ◌, refl, sym, subst}
+use Rattle.std.specs.Prelude.{slice_get, Option, OnOk, OnErr}
 use Rattle.nd_array_core.specs.Places.{stored_at}
 use Rattle.nd_array_core.specs.base.RunLent.{HasRunAt}
 use Rattle.nd_array_core.specs.elements.Assigns.{IsAssignedTo, IsPartlyAssigned}

@@ -1,4 +1,4 @@
-use Rattle.std.proofs.Common.{rules, ◌≡◌, ◌<◌, ◌∙◌, pos, ◌+ℤ◌, ◌*ℤ◌, refl, ap, sym, subst, length, arith, slice_set}
+use Rattle.std.proofs.Common.{◌≡◌, ◌<◌, ◌∙◌, pos, ◌+ℤ◌, ◌*ℤ◌, refl, ap, sym, subst, length, arith, slice_set}
 use Rattle.std.specs.Prelude.{Some, slice_get}
 use Rattle.nd_array_core.specs.Places.{stored_at}
 use Rattle.nd_array_core.proofs.Assigned.{assigned_more, assigned_partly}

@@ -1,4 +1,4 @@
-use Rattle.std.proofs.Common.{◌≡◌, ◌+◌, ◌∙◌, ℕ, pos, ◌+ℤ◌, ◌*ℤ◌, ap, sym, subst, arith}
+use Rattle.std.proofs.Common.{◌+◌, ◌∙◌, pos, ◌+ℤ◌, ◌*ℤ◌, ap, sym, subst, arith}
 use Rattle.nd_layout.specs.Walk.{place_at_rank, IsLane}
 use Rattle.nd_array_core.specs.Places.{stored_at}
 use Rattle.nd_array_core.specs.elements.Folds.{FoldsElement, FoldsPlaces}

@@ -1,4 +1,4 @@
-use Rattle.std.proofs.Common.{◌≡◌, ◌≤◌, ◌∙◌, ℕ, ℤ, pos, ◌+ℤ◌, ◌*ℤ◌, ap, sym, arith}
+use Rattle.std.proofs.Common.{◌≤◌, ◌∙◌, ℕ, ℤ, pos, ◌+ℤ◌, ◌*ℤ◌, ap, arith}
 use Rattle.nd_array_core.specs.Places.{stored_at}
 use Rattle.nd_array_core.proofs.Assigned.{later_there}
 use Rattle.nd_array_core.proofs.Moved.{moved_more}

@@ -1,4 +1,4 @@
-use Rattle.std.proofs.Common.{◌≡◌, ℕ, ℤ, ◌∙◌, ◌+◌, ◌<◌, pos, ◌+ℤ◌, ◌*ℤ◌, refl, sym, subst}
+use Rattle.std.proofs.Common.{ℕ, ℤ, ◌∙◌, pos, ◌+ℤ◌, ◌*ℤ◌, refl, sym, subst}
 use Rattle.std.specs.Prelude.{slice_get}
 use Rattle.nd_array_core.specs.base.RunLent.{HasRunAt}
 use Rattle.nd_array_core.specs.elements.Pairs.{IsZippedTo, TakesPairs}

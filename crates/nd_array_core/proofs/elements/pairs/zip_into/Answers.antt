@@ -1,4 +1,4 @@
-use Rattle.std.proofs.Common.{◌≡◌, ◌<◌, ◌∙◌, Some, ℕ, ℤ, pos, ◌+ℤ◌, ◌*ℤ◌, ap, refl, sym, subst, length, get_or, slice_set}
+use Rattle.std.proofs.Common.{◌<◌, ◌∙◌, ℕ, ℤ, pos, ◌+ℤ◌, ◌*ℤ◌, ap, refl, sym, subst, length, get_or, slice_set}
 use Rattle.std.specs.Prelude.{slice_get}
 use Rattle.nd_array_core.specs.Places.{stored_at}
 use Rattle.nd_array_core.specs.elements.Pairs.{ChangesWith}

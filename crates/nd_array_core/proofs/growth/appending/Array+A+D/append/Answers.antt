@@ -1,4 +1,4 @@
-use Rattle.std.proofs.Common.{ap, get_or, length, subst, sym}
+use Rattle.std.proofs.Common.{ap, length, subst, sym}
 use Rattle.std.specs.Prelude.{vec_capacity}
 use Rattle.nd_array_core.specs.Meaning.{meaning_of, memory_layout_of}
 use Rattle.nd_array_core.specs.growth.Reserved.{HasRoomFor}

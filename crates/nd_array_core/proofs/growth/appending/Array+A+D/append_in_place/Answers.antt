@@ -1,5 +1,4 @@
-use Rattle.std.proofs.Common.{◌≡◌, ap, get_or, refl}
-use Rattle.std.specs.Prelude.{slice_get}
+use Rattle.std.proofs.Common.{ap, get_or, refl}
 use Rattle.nd_layout.specs.Placements.{placement_of}
 use Rattle.nd_array_core.specs.Meaning.{meaning_of, memory_layout_of}
 use Rattle.nd_array_core.proofs.Appending.{fits_more, grown_count, grown_or_kept, joined_shown, on_both}

@@ -1,9 +1,8 @@
-use Rattle.std.proofs.Common.{◌≡◌, ◌∙◌, ap, arith, get_or, length}
+use Rattle.std.proofs.Common.{◌∙◌, ap, arith, get_or, length}
 use Rattle.nd_shape_and_slice.specs.Shape.{size_of}
 use Rattle.nd_layout.specs.Growth.{must_move}
 use Rattle.nd_array_core.specs.Meaning.{meaning_of, memory_layout_of}
 use Rattle.nd_array_core.specs.growth.Grown.{lies}
-use Rattle.nd_array_core.specs.base.Storages.{stored_list}
 use Rattle.nd_array_core.specs.Joined.{concatenated}
 use Rattle.nd_array_core.proofs.Appending.{fits_more, same_at}
 use Rattle.nd_array_core.proofs.Assigned.{on_ok, on_err}

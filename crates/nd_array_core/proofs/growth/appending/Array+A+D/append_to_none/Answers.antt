@@ -1,6 +1,4 @@
-use Rattle.std.proofs.Common.{◌≡◌, ◌∙◌, ap, refl}
-use Rattle.std.specs.Prelude.{slice_get}
-use Rattle.nd_shape_and_slice.specs.Shape.{size_of}
+use Rattle.std.proofs.Common.{ap, refl}
 use Rattle.nd_layout.specs.Placements.{placement_of}
 use Rattle.nd_array_core.specs.Meaning.{meaning_of, memory_layout_of}
 use Rattle.nd_array_core.proofs.Appending.{fits_axis, on_both, same_none}

@@ -1,15 +1,13 @@
-use Rattle.std.proofs.Common.{◌≡◌, ℕ, ◌+◌, ◌<◌, ◌≤◌, List, get_or, length, take, ap, sym, subst, ◌∙◌, arith, refl}
-use Rattle.std.specs.Prelude.{Some, slice_get, vec_capacity}
+use Rattle.std.proofs.Common.{◌≡◌, ◌+◌, ◌≤◌, get_or, length, take, ap, sym, subst, ◌∙◌, arith, refl}
 use Rattle.std.proofs.lemmas.List.{length-set}
 use Rattle.nd_shape_and_slice.specs.Shape.{in_box}
 use Rattle.nd_array_core.specs.Joined.{concatenated}
-use Rattle.nd_array_core.specs.Meaning.{Meaning, meaning_of, shape_of, storage_of}
+use Rattle.nd_array_core.specs.Meaning.{meaning_of, shape_of, storage_of}
 use Rattle.nd_array_core.specs.base.Fresh.{ClonesOfAllAreEqual}
 use Rattle.nd_array_core.specs.base.Storages.{room_of, stored_list}
 use Rattle.nd_array_core.specs.growth.Appended.{IsAppendRefused}
 use Rattle.nd_array_core.specs.growth.Grown.{IsNotForMemory, LeavesRoom}
 use Rattle.nd_array_core.specs.growth.InTurn.{lengths_along, meanings_of}
-use Rattle.nd_array_core.specs.growth.Reserved.{HasRoomAlong}
 use Rattle.nd_array_core.proofs.Appending.{same_at}
 use Rattle.nd_array_core.proofs.GoneOn.{goes_left, goes_nowhere, goes_then, leaves_none, leaves_then}
 use Rattle.nd_array_core.proofs.GrownArrays.{room_within}
