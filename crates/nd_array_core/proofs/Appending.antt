@@ -18,15 +18,16 @@ use Rattle.nd_layout.proofs.Distinct.{in_box-set}
 use Rattle.nd_layout.proofs.GrowthCases.{zero_factor}
 use Rattle.nd_layout.proofs.Removed.{size_of-removed}
 use Rattle.nd_layout.proofs.Sizes.{size_of-set}
-use Rattle.nd_array_core.specs.Meaning.{Meaning, inside}
-use Rattle.nd_array_core.specs.Joined.{row_major_elements, lower_of, upper_of, concatenated, concatenated_shape}
+use Rattle.nd_storage.specs.Meaning.{Meaning, inside}
+use Rattle.nd_storage.specs.Meaning.{row_major_elements}
+use Rattle.nd_array_core.specs.Joined.{lower_of, upper_of, concatenated, concatenated_shape}
 use Rattle.nd_array_core.specs.Laws.{NothingOutside}
-use Rattle.nd_array_core.specs.Places.{stored_at, names_place, HoldsAll}
+use Rattle.nd_storage.specs.Places.{stored_at, names_place, HoldsAll}
 use Rattle.nd_array_core.specs.growth.Appended.{FitsBehind, ArePutBehind}
-use Rattle.nd_array_core.proofs.Collecting.{meaning_count, meaning_get}
+use Rattle.nd_storage.proofs.Collecting.{meaning_count, meaning_get}
 use Rattle.nd_array_core.proofs.JoinedParts.{split_and_joined_at}
 use Rattle.nd_array_core.proofs.LawProofs.{same_meaning, inside_box}
-use Rattle.nd_array_core.proofs.Mapped.{got_below}
+use Rattle.nd_storage.proofs.Mapped.{got_below}
 use Rattle.nd_array_core.proofs.Selecting.{box_has}
 use Rattle.nd_array_core.proofs.StepLemmas.{step_holds, step_element}
 

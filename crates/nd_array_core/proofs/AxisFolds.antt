@@ -11,14 +11,14 @@ use Rattle.nd_shape_and_slice.specs.Shape.{in_box, size_of, row_rank, index_at}
 use Rattle.nd_shape_and_slice.specs.Maps.{indexed_shape}
 use Rattle.nd_shape_and_slice.proofs.RowMajor.{length-in_box, row_rank_below}
 use Rattle.nd_layout.proofs.Removed.{in_box-inserted}
-use Rattle.nd_array_core.specs.Collected.{collected}
-use Rattle.nd_array_core.specs.Meaning.{inside}
-use Rattle.nd_array_core.specs.elements.Folds.{RanTo}
+use Rattle.nd_storage.specs.Collected.{collected}
+use Rattle.nd_storage.specs.Meaning.{inside}
+use Rattle.nd_storage.specs.elements.Folds.{RanTo}
 use Rattle.nd_array_core.specs.along.AxisFolds.{lane_at, FoldsBetween, MayFold, FoldsShownBy, FoldsAt, FoldsAxis, AxisFoldable, FoldsShown, FoldsRun, TakesRun, FoldsNumbered, TakesNumbered, AreFoldedTo, AreFoldedBy}
 use Rattle.nd_array_core.proofs.AxisNumbers.{remove-inserted, IsPairing, index_of, index_rank, index_column, pair_numbers, pairs_rise}
-use Rattle.nd_array_core.proofs.FreeOrder.{listed, listed_part, listed_all, done_at_each}
-use Rattle.nd_array_core.proofs.LaneNumbers.{number_lane, lane_number, lane_number_below}
-use Rattle.nd_array_core.proofs.Ran.{ran_weaker, ran_then, ran_listed}
+use Rattle.nd_storage.proofs.FreeOrder.{listed, listed_part, listed_all, done_at_each}
+use Rattle.nd_storage.proofs.LaneNumbers.{number_lane, lane_number, lane_number_below}
+use Rattle.nd_storage.proofs.Ran.{ran_weaker, ran_then, ran_listed}
 
 module _ {F B A : Type 0} (g : Mut F (Bor B × (Bor A × Unit {0})) B) where
   -- the calls of a lane, by its totals

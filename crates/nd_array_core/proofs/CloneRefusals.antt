@@ -5,10 +5,10 @@ use Rattle.nd_shape_and_slice.specs.Shape.{in_box, size_of, index_at}
 use Rattle.nd_shape_and_slice.specs.Place.{place_of}
 use Rattle.nd_shape_and_slice.proofs.RankIndexes.{in_box-index_at}
 use Rattle.nd_layout.specs.Walk.{IsLane, IsRejoined}
-use Rattle.nd_array_core.specs.Collected.{stored_along, stored_by_rank}
-use Rattle.nd_array_core.specs.Meaning.{inside}
-use Rattle.nd_array_core.specs.Places.{stored_at}
-use Rattle.nd_array_core.specs.base.CloneRefusals.{MayRefuseBelow, MayRefuseClone}
+use Rattle.nd_storage.specs.Collected.{stored_along, stored_by_rank}
+use Rattle.nd_storage.specs.Meaning.{inside}
+use Rattle.nd_storage.specs.Places.{stored_at}
+use Rattle.nd_storage.specs.CloneRefusals.{MayRefuseBelow, MayRefuseClone}
 
 module _ {A : Type 0} (is_infallible : A → Type 0) where
   -- of a lane

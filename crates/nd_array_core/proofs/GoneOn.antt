@@ -7,14 +7,14 @@ use Rattle.nd_shape_and_slice.specs.declared.dimension.StrideList as stride_list
 use Rattle.nd_shape_and_slice.specs.Shape.{in_box}
 use Rattle.nd_layout.specs.Placements.{Placement}
 use Rattle.nd_layout.proofs.MemoryOrder.{same_placement}
-use Rattle.nd_array_core.specs.declared.base.storage.Data as data_trait
-use Rattle.nd_array_core.specs.declared.base.storage.OwnedRepr.{OwnedRepr}
+use Rattle.nd_storage.specs.declared.storage.Data as data_trait
+use Rattle.nd_storage.specs.declared.storage.OwnedRepr.{OwnedRepr}
 use Rattle.nd_array_core.specs.declared.base.array.ArrayBase.{ArrayBase}
 use Rattle.nd_array_core.specs.declared.base.errors.ArrayError.{ArrayError}
 use Rattle.nd_array_core.specs.declared.base.errors.ArrayError.TheVariants.{Shape, NoMemory}
 use Rattle.nd_array_core.specs.Meaning.{shape_of, storage_of}
 use Rattle.nd_array_core.specs.Part.{ShowsWhole}
-use Rattle.nd_array_core.specs.base.Storages.{stored_list}
+use Rattle.nd_storage.specs.Storages.{stored_list}
 use Rattle.nd_array_core.specs.growth.Grown.{lies, GoesOn, GoesOnUnder, IsLeft, IsReadyAlong, LeavesRoom, NeedsNoMove}
 use Rattle.nd_array_core.specs.growth.Reserved.{HasRoomAlong}
 use Rattle.nd_array_core.proofs.GrownArrays.{goes_same}

@@ -14,7 +14,7 @@ use Rattle.nd_layout.proofs.Sizes.{nonzero_product-set}
 use Rattle.nd_array_core.specs.declared.base.errors.ArrayError.{ArrayError}
 use Rattle.nd_array_core.specs.declared.base.errors.ArrayError.TheVariants.{Shape, NoMemory}
 use Rattle.nd_array_core.specs.Joined.{concatenated}
-use Rattle.nd_array_core.specs.Meaning.{Meaning}
+use Rattle.nd_storage.specs.Meaning.{Meaning}
 use Rattle.nd_array_core.specs.growth.Appended.{FitsBehind, IsAppendRefused, IsJoiningRefused, NotFitting, TooLarge}
 use Rattle.nd_array_core.specs.growth.InTurn.{joined_in_turn, lengths_along}
 

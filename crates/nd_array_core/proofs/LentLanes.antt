@@ -14,20 +14,20 @@ use Rattle.nd_region.specs.Region.{region_stored, with_element}
 use Rattle.nd_region.proofs.Stored.{written_same, written_other}
 use Rattle.nd_region.proofs.Names.{named_at, named_by}
 use Rattle.nd_array_core.specs.declared.along.lent.LaneMut.{LaneMut}
-use Rattle.nd_array_core.specs.Collected.{stored_along}
-use Rattle.nd_array_core.specs.Meaning.{Meaning, inside}
-use Rattle.nd_array_core.specs.Places.{stored_at, names_place, HoldsAll}
-use Rattle.nd_array_core.specs.base.ElementMut.{KeepsPlaces}
-use Rattle.nd_array_core.specs.scoped.Scoped.{with_named, IsNamedPart}
-use Rattle.nd_array_core.specs.along.AxisLanes.{LanesDistinct}
+use Rattle.nd_storage.specs.Collected.{stored_along}
+use Rattle.nd_storage.specs.Meaning.{Meaning, inside}
+use Rattle.nd_storage.specs.Places.{stored_at, names_place, HoldsAll}
+use Rattle.nd_storage.specs.ElementMut.{KeepsPlaces}
+use Rattle.nd_storage.specs.Scoped.{with_named, IsNamedPart}
+use Rattle.nd_storage.specs.along.AxisLanes.{LanesDistinct}
 use Rattle.nd_array_core.specs.along.LanesWritten.{line_of, LeavesLane, MayBeHandedLane, lanes_held, AreHandedOut}
-use Rattle.nd_array_core.specs.elements.Changes.{AreDistinct}
-use Rattle.nd_array_core.specs.elements.Maps.{Replaces, TakesNumbered}
-use Rattle.nd_array_core.specs.elements.MapsMut.{Collects}
-use Rattle.nd_array_core.proofs.Changed.{stored_same, changed_none, changed_more}
+use Rattle.nd_storage.specs.elements.Changes.{AreDistinct}
+use Rattle.nd_storage.specs.elements.Maps.{Replaces, TakesNumbered}
+use Rattle.nd_storage.specs.elements.MapsMut.{Collects}
+use Rattle.nd_storage.proofs.Changed.{stored_same, changed_none, changed_more}
 use Rattle.nd_array_core.proofs.Handed.{collects_ran}
-use Rattle.nd_array_core.proofs.Replaced.{replaced_ran, still_next}
-use Rattle.nd_array_core.proofs.RunPairs.{number, numbers_distinct}
+use Rattle.nd_storage.proofs.Replaced.{replaced_ran, still_next}
+use Rattle.nd_storage.proofs.RunPairs.{number, numbers_distinct}
 use Rattle.nd_array_core.proofs.ShownLanes.{lane_coordinate, seen_inside}
 
 -- what names a place still does where each place holds something

@@ -10,7 +10,7 @@ use Rattle.nd_shape_and_slice.specs.declared.errors.ErrorKind.TheVariants.{Incom
 use Rattle.nd_layout.proofs.Removed.{size_of-inserted_axis}
 use Rattle.nd_array_core.specs.declared.base.errors.ArrayError.{ArrayError}
 use Rattle.nd_array_core.specs.declared.base.errors.ArrayError.TheVariants.{Shape, NoMemory}
-use Rattle.nd_array_core.specs.base.CloneRefusals.{MayRefuseClone}
+use Rattle.nd_storage.specs.CloneRefusals.{MayRefuseClone}
 use Rattle.nd_array_core.specs.growth.Grown.{IsNotForMemory}
 use Rattle.nd_array_core.specs.growth.Appended.{IsJoiningRefused, NotFitting}
 

@@ -16,12 +16,12 @@ use Rattle.nd_layout.specs.Places.{is_place}
 use Rattle.nd_layout.specs.Steps.{IsValid}
 use Rattle.nd_shape_and_slice.specs.Maps.{indexed_shape}
 use Rattle.nd_array_core.specs.declared.along.showing.LaneView.{LaneView}
-use Rattle.nd_array_core.specs.base.Storages.{shown_by}
-use Rattle.nd_array_core.specs.Collected.{collected, stored_along}
-use Rattle.nd_array_core.specs.Places.{stored_at, HoldsAll}
-use Rattle.nd_array_core.specs.Meaning.{Meaning, inside}
-use Rattle.nd_array_core.specs.Joined.{row_major_elements}
-use Rattle.nd_array_core.proofs.Collecting.{collected_alike}
+use Rattle.nd_storage.specs.Storages.{shown_by}
+use Rattle.nd_storage.specs.Collected.{collected, stored_along}
+use Rattle.nd_storage.specs.Places.{stored_at, HoldsAll}
+use Rattle.nd_storage.specs.Meaning.{Meaning, inside}
+use Rattle.nd_storage.specs.Meaning.{row_major_elements}
+use Rattle.nd_storage.proofs.Collecting.{collected_alike}
 use Rattle.nd_array_core.specs.along.AxisFolds.{lane_at, lane_elements}
 use Rattle.nd_array_core.specs.along.AxisMaps.{lane_of, lanes_of, lane_seen, AnswersLane, AnswersLanesBy}
 

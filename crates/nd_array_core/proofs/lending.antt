@@ -1,7 +1,6 @@
 pub mod LendField
 pub mod LendStorage
 pub mod KeptIndexes
-pub mod KeptPlaces
 pub mod Tied
 pub mod Refilled
 pub mod ElementStep

@@ -1,6 +1,5 @@
 pub mod TaskStep
 pub mod PairStep
 pub mod PairTask
-pub mod PartStep
 pub mod PartTask
 pub mod SliceTask

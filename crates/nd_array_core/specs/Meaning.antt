@@ -1,23 +1,14 @@
 -- What an array means: a shape, and one element for each index of its box.
-use Rattle.std.specs.Prelude.{ℕ, List, ℤ, Option, None, if◌then◌else◌}
+use Rattle.std.specs.Prelude.{ℕ, List, ℤ, Option}
 use Rattle.nd_shape_and_slice.specs.declared.dimension.Dimension as dimension
 use Rattle.nd_shape_and_slice.specs.declared.dimension.AxisCount as axis_count
 use Rattle.nd_shape_and_slice.specs.declared.dimension.StrideList as stride_list
-use Rattle.nd_shape_and_slice.specs.Shape.{in_box}
 use Rattle.nd_shape_and_slice.specs.Place.{place_of}
-use Rattle.nd_array_core.specs.declared.base.storage.Data as data_trait
+use Rattle.nd_storage.specs.declared.storage.Data as data_trait
 use Rattle.nd_array_core.specs.declared.base.array.ArrayBase.{ArrayBase}
-use Rattle.nd_array_core.specs.Places.{stored_at, place_number}
+use Rattle.nd_storage.specs.Places.{stored_at, place_number}
 use Rattle.nd_array_core.specs.PlacedArray.{PlacedArray}
-
--- an element that is there only where the index lies in the shape's box
-abbrev pub inside : {A : Type 0} → List ℕ → List ℕ → Option A → Option A
-inside shape i element = if in_box shape i then element else None
-
--- a shape, and the element at each index
-pub record Meaning (A : Type 0) : Type 0 where
-  pub shape : List ℕ
-  pub at : List ℕ → Option A
+pub use Rattle.nd_storage.specs.Meaning.{Meaning, inside}
 
 -- what is seen of an array under another shape, where each new index names an old one
 abbrev pub meaning_through : {A : Type 0} → List ℕ → (List ℕ → List ℕ) → Meaning A → Meaning A

@@ -5,11 +5,12 @@ ghost use Rattle.std.specs.Prelude.{◌≡◌, ◌<◌, ◌≤◌, ◌+◌, ◌*
 ghost use Rattle.nd_array_core.specs.Laws.{PermutedBack, ReversedTwice, InvertedTwice, InsertedAndRemoved, SlicedTwice, PathIsOneMap, CollapsedListsLeadInside, CollapsesLeadInside, CoordinatesLeadInside, ExchangesLeadInside, LeadsInside, ListsLeadInside, LowerPartsLeadInside, NothingOutside, PermutationsLeadInside, SlicesLeadInside, UpperPartsLeadInside, IndexesHavePlaces, ShowsStored, DistinctPlaces};
 ghost use Rattle.nd_shape_and_slice.specs.Maps.{inverted_index, inserted_shape, inserted_index, diagonal_length, diagonal_index};
 ghost use Rattle.nd_shape_and_slice.specs.Broadcast.{broadcasts, broadcast_index};
-ghost use Rattle.nd_array_core.specs.Joined.{SplitAndJoined, row_major_elements};
+ghost use Rattle.nd_array_core.specs.Joined.{SplitAndJoined};
+ghost use Rattle.nd_storage.specs.Meaning.{row_major_elements, Meaning};
 ghost use Rattle.nd_array_core.specs.reshape.Regrouping.{RegroupedBack, RanksAreBelow, ListsByRank, JoinsFirstAxes};
 ghost use Rattle.nd_array_core.specs.reshape.Regrouped.{IsShapeOf};
 ghost use Rattle.nd_array_core.specs.reshape.Either.{IsServedInItsOrder};
-ghost use Rattle.nd_array_core.specs.Meaning.{Meaning, element_at, meaning_of, placed_array, shape_of};
+ghost use Rattle.nd_array_core.specs.Meaning.{element_at, meaning_of, placed_array, shape_of};
 ghost use Rattle.nd_shape_and_slice.specs.Shape.{size_of, HasCheckedSize};
 ghost use Rattle.nd_array_core.specs.elements.Pairs.{IsItselfUnder};
 ghost use Rattle.nd_array_core.specs.growth.SlicedBack.{AppendedAndSliced};
@@ -17,8 +18,8 @@ ghost use Rattle.nd_array_core.specs.along.AxisMaps.{LanesAreListed};
 ghost use Rattle.nd_shape_and_slice.specs.Squeeze.{squeezed_shape, squeezed_index};
 
 use crate::base::array::ArrayBase;
-use crate::base::storage::{Data, DataMut};
 use nd_shape_and_slice::Dimension;
+use nd_storage::storage::{Data, DataMut};
 
 /// Permuting axes and permuting them back gives the same meaning.
 #[tactic(auto, using(crate::proofs::LawProofs::permuted_back))]

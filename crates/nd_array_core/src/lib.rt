@@ -30,7 +30,7 @@ pub use base::aliases::{
 pub use base::array::{Array, ArrayBase, ArrayView, ArrayViewMut};
 pub use base::errors::ArrayError;
 pub use base::indexing::IndexLonger;
-pub use base::storage::{Data, DataMut, DataOwned, OwnedRepr, RegionRepr, ViewMutRepr, ViewRepr};
 pub use base::writing::GetMut;
 pub use layout::splitting::MultiSliceArg;
 pub use reshape::either::{EitherArray, ViewOrOwned};
+pub use nd_storage::storage::{Data, DataMut, DataOwned, OwnedRepr, RegionRepr, ViewMutRepr, ViewRepr};

@@ -1,7 +1,7 @@
 -- A script: a line that starts with an array, and a call in each later line with words.
 use Rattle.std.specs.Prelude.{◌≡◌, ℕ, ◌+◌, false, List, [], ◌∷◌, ◌++◌, length, ℤ, Option, None, Some, Result, Ok, Err, ◌⊎◌, if◌then◌else◌, map}
-use Rattle.nd_array_core.specs.declared.base.storage.Data as data_trait
-use Rattle.nd_array_core.specs.declared.base.storage.OwnedRepr.{OwnedRepr}
+use Rattle.nd_storage.specs.declared.storage.Data as data_trait
+use Rattle.nd_storage.specs.declared.storage.OwnedRepr.{OwnedRepr}
 use Rattle.nd_array_core.specs.Meaning.{Meaning, meaning_of}
 use Rattle.nd_run.specs.declared.reader.fault.ScriptError.{ScriptError}
 use Rattle.nd_run.specs.declared.reader.fault.ScriptError.TheVariants.{BadLine, Memory}

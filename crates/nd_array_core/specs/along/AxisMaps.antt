@@ -4,12 +4,13 @@ use Rattle.std.specs.Fn.{Mut, Called}
 use Rattle.std.specs.List.{insert}
 use Rattle.nd_shape_and_slice.specs.Maps.{indexed_shape}
 use Rattle.nd_array_core.specs.declared.along.showing.LaneView.{LaneView}
-use Rattle.nd_array_core.specs.base.Storages.{shown_by}
-use Rattle.nd_array_core.specs.Collected.{stored_along}
-use Rattle.nd_array_core.specs.Meaning.{Meaning, inside, meaning_through}
-use Rattle.nd_array_core.specs.Joined.{row_major_elements}
+use Rattle.nd_storage.specs.Storages.{shown_by}
+use Rattle.nd_storage.specs.Collected.{stored_along}
+use Rattle.nd_storage.specs.Meaning.{Meaning, inside}
+use Rattle.nd_array_core.specs.Meaning.{meaning_through}
+use Rattle.nd_storage.specs.Meaning.{row_major_elements}
 use Rattle.nd_array_core.specs.along.AxisFolds.{lane_elements}
-use Rattle.nd_array_core.specs.elements.Maps.{AskableOfAll, HasAnswersOfAll, IsMappedBy}
+use Rattle.nd_storage.specs.elements.Maps.{AskableOfAll, HasAnswersOfAll, IsMappedBy}
 
 -- the lane at an index of the other axes: one axis, and along it the elements that differ in their coordinate there
 abbrev pub lane_of : {A : Type 0} → Meaning A → ℕ → List ℕ → Meaning A

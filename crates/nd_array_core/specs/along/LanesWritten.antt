@@ -7,13 +7,13 @@ use Rattle.nd_shape_and_slice.specs.Shape.{in_box}
 use Rattle.nd_region.specs.declared.region.Region.{Region}
 use Rattle.nd_region.specs.Region.{region_stored, borrow_of}
 use Rattle.nd_array_core.specs.declared.along.lent.LaneMut.{LaneMut}
-use Rattle.nd_array_core.specs.Collected.{stored_along}
-use Rattle.nd_array_core.specs.Meaning.{Meaning, inside}
-use Rattle.nd_array_core.specs.Places.{stored_at}
+use Rattle.nd_storage.specs.Collected.{stored_along}
+use Rattle.nd_storage.specs.Meaning.{Meaning, inside}
+use Rattle.nd_storage.specs.Places.{stored_at}
 use Rattle.nd_array_core.specs.along.AxisMaps.{lane_of, lanes_of}
-use Rattle.nd_array_core.specs.elements.Changes.{IsChangedBy}
-use Rattle.nd_array_core.specs.elements.Maps.{Replaces, AskableOfAll, HasAnswersOfAll, IsMappedBy}
-use Rattle.nd_array_core.specs.elements.MapsMut.{Collects, both_at}
+use Rattle.nd_storage.specs.elements.Changes.{IsChangedBy}
+use Rattle.nd_storage.specs.elements.Maps.{Replaces, AskableOfAll, HasAnswersOfAll, IsMappedBy}
+use Rattle.nd_storage.specs.elements.MapsMut.{Collects, both_at}
 
 -- so many numbered elements along one axis
 abbrev pub line_of : {A : Type 0} → (ℕ → Option A) → ℕ → Meaning A

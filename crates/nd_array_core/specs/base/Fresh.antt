@@ -1,45 +1,26 @@
 -- What a new array is: elements of its own, in an order from place 0 on.
-use Rattle.std.specs.Prelude.{◌≡◌, ℕ, nat_eq, true, List, [], ◌∷◌, length, Option, None, Some, slice_get, if◌then◌else◌}
+use Rattle.std.specs.Prelude.{◌≡◌, ℕ, nat_eq, true, List, [], ◌∷◌, length, Option, None, Some, if◌then◌else◌}
 use Rattle.nd_shape_and_slice.specs.Shape.{in_box, size_of}
 use Rattle.nd_shape_and_slice.specs.declared.dimension.Dimension as dimension
 use Rattle.nd_shape_and_slice.specs.declared.dimension.AxisCount as axis_count
 use Rattle.nd_shape_and_slice.specs.declared.dimension.StrideList as stride_list
-use Rattle.nd_shape_and_slice.specs.declared.builder.Order.{Order}
 use Rattle.nd_shape_and_slice.specs.declared.builder.ShapeBuilder as shape_builder
 use Rattle.nd_layout.specs.GivenStrides.{ordered_strides}
-use Rattle.nd_layout.specs.Ranks.{rank_in}
-use Rattle.nd_array_core.specs.declared.base.storage.Data as data_trait
-use Rattle.nd_array_core.specs.declared.base.storage.OwnedRepr.{OwnedRepr}
+use Rattle.nd_storage.specs.declared.storage.Data as data_trait
+use Rattle.nd_storage.specs.declared.storage.OwnedRepr.{OwnedRepr}
 use Rattle.nd_array_core.specs.declared.base.array.ArrayBase.{ArrayBase}
-use Rattle.nd_array_core.specs.Meaning.{shape_of, element_at, storage_of, layout_strides, layout_offset, inside}
-use Rattle.nd_array_core.specs.base.Storages.{stored_list, room_of}
-
--- what a constructor is given as a shape: lengths, and an order
-abbrev pub BuiltShape : Type 0
-BuiltShape = List ℕ × Order
+use Rattle.nd_array_core.specs.Meaning.{shape_of, element_at, storage_of, layout_strides, layout_offset}
+use Rattle.nd_storage.specs.Meaning.{inside}
+use Rattle.nd_storage.specs.Storages.{stored_list, room_of}
+pub use Rattle.nd_storage.specs.Clones.{ClonesAreEqual, ClonesOfAllAreEqual, StoredClonesAreEqual}
+pub use Rattle.nd_storage.specs.ByRank.{BuiltShape, found_by_rank}
 
 abbrev pub built_by : {S D P R L M : Type 0} → shape_builder.Ghosts S D P R L M → S → BuiltShape
 built_by g shape = (g.builds_lengths shape, g.builds_order shape)
 
--- each clone of the value is the value
-abbrev pub ClonesAreEqual : {A : Type 0} → (A → A → Type 0) → A → Type 0
-ClonesAreEqual {A} is_clone x = (copy : A) → is_clone x copy → copy ≡ x
-
--- each clone of an element that is there is the element
-abbrev pub ClonesOfAllAreEqual : {A : Type 0} → (A → A → Type 0) → (List ℕ → Option A) → Type 0
-ClonesOfAllAreEqual {A} is_clone at = (i : List ℕ) (x : A) → at i ≡ Some x → ClonesAreEqual is_clone x
-
--- each clone of an item is the item
-abbrev pub StoredClonesAreEqual : {A : Type 0} → (A → A → Type 0) → List A → Type 0
-StoredClonesAreEqual {A} is_clone items = (place : ℕ) (x : A) → slice_get items place ≡ Some x → ClonesAreEqual is_clone x
-
 -- nothing else has the property
 abbrev pub IsOnly : {A : Type 0} → (A → Type 0) → A → Type 0
 IsOnly {A} is_such x = (y : A) → is_such y → y ≡ x
-
--- of elements by rank in an order the one at an index: nothing outside the shape
-abbrev pub found_by_rank : {A : Type 0} → BuiltShape → List A → List ℕ → Option A
-found_by_rank built items i = inside built.0 i (slice_get items (rank_in built.1 built.0 i))
 
 -- what a matrix shows: on the diagonal a value for each coordinate there, and another one everywhere else
 abbrev pub on_diagonal : {A : Type 0} → (ℕ → Option A) → A → List ℕ → Option A

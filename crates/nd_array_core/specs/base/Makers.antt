@@ -6,13 +6,14 @@ use Rattle.nd_shape_and_slice.specs.declared.dimension.Dimension as dimension
 use Rattle.nd_shape_and_slice.specs.declared.dimension.AxisCount as axis_count
 use Rattle.nd_shape_and_slice.specs.declared.dimension.StrideList as stride_list
 use Rattle.nd_shape_and_slice.specs.declared.builder.Order.TheVariants.{RowMajor}
-use Rattle.nd_array_core.specs.declared.base.storage.Data as data_trait
-use Rattle.nd_array_core.specs.declared.base.storage.OwnedRepr.{OwnedRepr}
+use Rattle.nd_storage.specs.declared.storage.Data as data_trait
+use Rattle.nd_storage.specs.declared.storage.OwnedRepr.{OwnedRepr}
 use Rattle.nd_array_core.specs.declared.base.array.ArrayBase.{ArrayBase}
-use Rattle.nd_array_core.specs.FreeOrder.{AnswersByIndex, HasAnswersByIndex}
+use Rattle.nd_storage.specs.FreeOrder.{AnswersByIndex, HasAnswersByIndex}
 use Rattle.nd_array_core.specs.Meaning.{element_at, storage_of}
-use Rattle.nd_array_core.specs.base.Fresh.{BuiltShape, OwnsInOrder, ShowsValues}
-use Rattle.nd_array_core.specs.base.Storages.{stored_list}
+use Rattle.nd_storage.specs.ByRank.{BuiltShape}
+use Rattle.nd_array_core.specs.base.Fresh.{OwnsInOrder, ShowsValues}
+use Rattle.nd_storage.specs.Storages.{stored_list}
 
 module _ {D T A P R L M : Type 0} {s : data_trait.Ghosts (OwnedRepr A) A} {d : dimension.Ghosts D P R L M} {n : axis_count.Ghosts D} {r : stride_list.Ghosts R} {t : stride_list.Ghosts T} where
   -- the array owns a matrix of count rows and count columns, in row-major order

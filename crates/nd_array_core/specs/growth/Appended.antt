@@ -8,11 +8,11 @@ use Rattle.nd_shape_and_slice.specs.declared.errors.ErrorKind.TheVariants.{Incom
 use Rattle.nd_array_core.specs.declared.base.errors.ArrayError.{ArrayError}
 use Rattle.nd_array_core.specs.declared.base.errors.ArrayError.TheVariants.{Shape, NoMemory}
 use Rattle.nd_layout.specs.Placements.{Placement}
-use Rattle.nd_array_core.specs.Collected.{IsFront}
+use Rattle.nd_storage.specs.Collected.{IsFront}
 use Rattle.nd_array_core.specs.Joined.{concatenated, concatenated_shape}
 use Rattle.nd_array_core.specs.Laws.{with_axis_inserted}
-use Rattle.nd_array_core.specs.Meaning.{Meaning}
-use Rattle.nd_array_core.specs.Places.{stored_at}
+use Rattle.nd_storage.specs.Meaning.{Meaning}
+use Rattle.nd_storage.specs.Places.{stored_at}
 
 -- the second shape can come behind the first along the axis: there are axes, and all other lengths are equal
 abbrev pub FitsBehind : List ℕ → List ℕ → ℕ → Type 0

@@ -7,16 +7,17 @@ use Rattle.nd_shape_and_slice.specs.Shape.{in_box, size_of}
 use Rattle.nd_shape_and_slice.specs.Place.{place_of}
 use Rattle.nd_layout.specs.Growth.{growth_case, must_move, strides_in_case}
 use Rattle.nd_layout.specs.Placements.{Placement}
-use Rattle.nd_array_core.specs.declared.base.storage.Data as data_trait
-use Rattle.nd_array_core.specs.declared.base.storage.OwnedRepr.{OwnedRepr}
+use Rattle.nd_storage.specs.declared.storage.Data as data_trait
+use Rattle.nd_storage.specs.declared.storage.OwnedRepr.{OwnedRepr}
 use Rattle.nd_array_core.specs.declared.base.array.ArrayBase.{ArrayBase}
 use Rattle.nd_array_core.specs.declared.base.errors.ArrayError.{ArrayError}
 use Rattle.nd_array_core.specs.declared.base.errors.ArrayError.TheVariants.{Shape, NoMemory}
-use Rattle.nd_array_core.specs.Collected.{IsFront}
-use Rattle.nd_array_core.specs.Meaning.{Meaning, shape_of, storage_of, layout_strides, layout_offset}
+use Rattle.nd_storage.specs.Collected.{IsFront}
+use Rattle.nd_storage.specs.Meaning.{Meaning}
+use Rattle.nd_array_core.specs.Meaning.{shape_of, storage_of, layout_strides, layout_offset}
 use Rattle.nd_array_core.specs.Part.{ShowsWhole, BecomesWhole}
-use Rattle.nd_array_core.specs.base.CloneRefusals.{MayRefuseClone}
-use Rattle.nd_array_core.specs.base.Storages.{stored_list}
+use Rattle.nd_storage.specs.CloneRefusals.{MayRefuseClone}
+use Rattle.nd_storage.specs.Storages.{stored_list}
 use Rattle.nd_array_core.specs.growth.Reserved.{HasRoomAlong}
 
 -- the indexes name all that is stored, and there are none, or the axis can grow on at the end of the storage

@@ -3,8 +3,8 @@ use Rattle.std.specs.Prelude.{◌≡◌, ◌<◌, ℕ, List, ℤ, Option}
 use Rattle.nd_shape_and_slice.specs.Shape.{size_of}
 use Rattle.nd_shape_and_slice.specs.Place.{place_of, IsSeparated}
 use Rattle.nd_layout.specs.Placements.{Placement}
-use Rattle.nd_array_core.specs.Meaning.{inside}
-use Rattle.nd_array_core.specs.Places.{HoldsAll, stored_at, place_number}
+use Rattle.nd_storage.specs.Meaning.{inside}
+use Rattle.nd_storage.specs.Places.{HoldsAll, stored_at, place_number}
 
 -- the storage holds the elements that the layout names, each under one index
 pub record HoldsEachOnce {A : Type 0} (stored : ℕ → Option A) (offset : ℕ) (lengths : List ℕ) (strides : List ℤ) : Type 0 where

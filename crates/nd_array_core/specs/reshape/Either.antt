@@ -9,13 +9,15 @@ use Rattle.nd_shape_and_slice.specs.declared.errors.ErrorKind.TheVariants.{Incom
 use Rattle.nd_array_core.specs.declared.base.array.ArrayBase.{ArrayBase}
 use Rattle.nd_array_core.specs.declared.base.errors.ArrayError.{ArrayError}
 use Rattle.nd_array_core.specs.declared.base.errors.ArrayError.TheVariants.{Shape, NoMemory}
-use Rattle.nd_array_core.specs.declared.base.storage.Data as data_trait
-use Rattle.nd_array_core.specs.declared.base.storage.OwnedRepr.{OwnedRepr}
+use Rattle.nd_storage.specs.declared.storage.Data as data_trait
+use Rattle.nd_storage.specs.declared.storage.OwnedRepr.{OwnedRepr}
 use Rattle.nd_array_core.specs.declared.reshape.either.EitherArray.{EitherArray}
 use Rattle.nd_array_core.specs.declared.reshape.either.EitherArray.TheVariants.{View, Owned}
-use Rattle.nd_array_core.specs.Meaning.{Meaning, meaning_of, shape_of, element_at, layout_strides, storage_of}
+use Rattle.nd_storage.specs.Meaning.{Meaning}
+use Rattle.nd_array_core.specs.Meaning.{meaning_of, shape_of, element_at, layout_strides, storage_of}
 use Rattle.nd_array_core.specs.Part.{ShowsWhole}
-use Rattle.nd_array_core.specs.base.Fresh.{ClonesOfAllAreEqual, OwnsInOrder}
+use Rattle.nd_storage.specs.Clones.{ClonesOfAllAreEqual}
+use Rattle.nd_array_core.specs.base.Fresh.{OwnsInOrder}
 use Rattle.nd_array_core.specs.reshape.Regrouped.{IsShapeOf, LiesInOrder}
 use Rattle.nd_array_core.specs.reshape.RunSlices.{IsStandardArray}
 use Rattle.nd_array_core.specs.reshape.Serving.{SomeServe, StridesServe, ShowsServed, KeepsRanks}

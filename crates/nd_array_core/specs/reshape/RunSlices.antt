@@ -5,13 +5,13 @@ use Rattle.nd_shape_and_slice.specs.declared.dimension.AxisCount as axis_count
 use Rattle.nd_shape_and_slice.specs.declared.dimension.StrideList as stride_list
 use Rattle.nd_shape_and_slice.specs.Shape.{in_box, size_of}
 use Rattle.nd_layout.specs.Ranks.{IsStandard, IsRun}
-use Rattle.nd_array_core.specs.declared.base.storage.Data as data_trait
+use Rattle.nd_storage.specs.declared.storage.Data as data_trait
 use Rattle.nd_array_core.specs.declared.base.array.ArrayBase.{ArrayBase}
-use Rattle.nd_array_core.specs.Joined.{row_major_elements}
+use Rattle.nd_storage.specs.Meaning.{row_major_elements}
 use Rattle.nd_array_core.specs.Meaning.{meaning_of, shape_of, layout_strides, layout_offset, element_at, place_at, storage_of}
 use Rattle.nd_layout.specs.Strides.{reach_down}
-use Rattle.nd_array_core.specs.base.Storages.{stored_list}
-use Rattle.nd_array_core.specs.declared.base.storage.OwnedRepr.{OwnedRepr}
+use Rattle.nd_storage.specs.Storages.{stored_list}
+use Rattle.nd_storage.specs.declared.storage.OwnedRepr.{OwnedRepr}
 
 -- The elements xs lie one beside the other from the place `first` on, one for each index: the element of each index stands
 -- in xs as far from the front as its place from that one, and each of xs is that of an index.

@@ -7,14 +7,14 @@ ghost use Rattle.nd_shape_and_slice.specs.Maps.{indexed_shape, indexed_index};
 ghost use Rattle.nd_layout.specs.Placements.{placement_of, IsStepOf};
 ghost use Rattle.nd_layout.specs.Ranks.{IsStandard};
 ghost use Rattle.nd_array_core.specs.Meaning.{shape_of, element_at};
-ghost use Rattle.nd_array_core.specs.base.Fresh.{ClonesAreEqual};
+ghost use Rattle.nd_storage.specs.Clones.{ClonesAreEqual};
 ghost use Rattle.nd_array_core.specs.along.AxisFolds.{FoldsBeside, TakesBeside, FoldableBeside, AreFoldedBeside};
 
-use crate::along::lanes::lane_from;
 use crate::base::array::ArrayBase;
-use crate::base::storage::Data;
 use nd_layout::{Layout, is_standard};
 use nd_shape_and_slice::{Axis, Dimension, NoMemory, RemoveAxis, StrideList};
+use nd_storage::along::lanes::lane_from;
+use nd_storage::storage::Data;
 
 /// From how many lanes on slices are worth their while.
 const FEWEST: usize = 8;

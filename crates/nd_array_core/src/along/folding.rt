@@ -6,20 +6,21 @@ ghost use Rattle.nd_shape_and_slice.specs.Shape.{size_of};
 ghost use Rattle.nd_shape_and_slice.specs.Maps.{indexed_shape, indexed_index};
 ghost use Rattle.nd_shape_and_slice.specs.declared.builder.Order.TheVariants.{RowMajor};
 ghost use Rattle.nd_layout.specs.Placements.{placement_of, IsStepOf};
-ghost use Rattle.nd_array_core.specs.Places.{names_place};
-ghost use Rattle.nd_array_core.specs.Collected.{stored_along};
+ghost use Rattle.nd_storage.specs.Places.{names_place};
+ghost use Rattle.nd_storage.specs.Collected.{stored_along};
 ghost use Rattle.nd_array_core.specs.Meaning.{shape_of, element_at};
-ghost use Rattle.nd_array_core.specs.base.Fresh.{ClonesAreEqual, found_by_rank};
+ghost use Rattle.nd_storage.specs.Clones.{ClonesAreEqual};
+ghost use Rattle.nd_storage.specs.ByRank.{found_by_rank};
 ghost use Rattle.nd_array_core.specs.along.AxisFolds.{FoldsRun, TakesRun, FoldsAxis, AxisFoldable, FoldableByLanes, AreFoldedByLanes, FoldsLanes, FoldsLanesAlike};
 
 use crate::along::beside::{clones_in, fold_beside, worth_beside};
-use crate::along::lanes::{first_places, lane_from};
 use crate::base::array::{Array, ArrayBase};
 use crate::base::fresh::of_items;
-use crate::base::storage::Data;
-use crate::elements::listing::room_of;
 use nd_layout::{Lane, Layout, Walk};
 use nd_shape_and_slice::{Axis, Dimension, NoMemory, Order, RemoveAxis, StrideList};
+use nd_storage::along::lanes::{first_places, lane_from};
+use nd_storage::elements::listing::room_of;
+use nd_storage::storage::Data;
 use std::alloc::Global;
 
 /// Folds the elements of a lane, one after the other. It answers the function too, as the calls left it.

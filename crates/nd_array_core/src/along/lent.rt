@@ -3,8 +3,8 @@
 
 ghost use Rattle.std.specs.Prelude.{◌≡◌, ◌<◌, ℕ, true, is_some, Some, [], ◌∷◌, pos, nat_eq, ◌+ℤ◌, ◌*ℤ◌, if◌then◌else◌};
 ghost use Rattle.nd_region.specs.Region.{region_stored};
-ghost use Rattle.nd_array_core.specs.Collected.{stored_along};
-ghost use Rattle.nd_array_core.specs.elements.Changes.{AreDistinct};
+ghost use Rattle.nd_storage.specs.Collected.{stored_along};
+ghost use Rattle.nd_storage.specs.elements.Changes.{AreDistinct};
 
 use nd_layout::Lane;
 use nd_region::Region;

@@ -7,18 +7,18 @@ ghost use Rattle.nd_shape_and_slice.specs.Maps.{indexed_shape, indexed_index};
 ghost use Rattle.nd_shape_and_slice.specs.declared.builder.Order.TheVariants.{RowMajor};
 ghost use Rattle.nd_layout.specs.Placements.{placement_of, IsStepOf};
 ghost use Rattle.nd_array_core.specs.Meaning.{meaning_of, shape_of, element_at};
-ghost use Rattle.nd_array_core.specs.base.Fresh.{found_by_rank};
-ghost use Rattle.nd_array_core.specs.elements.Maps.{AskableOfAll, HasAnswersOfAll};
+ghost use Rattle.nd_storage.specs.ByRank.{found_by_rank};
+ghost use Rattle.nd_storage.specs.elements.Maps.{AskableOfAll, HasAnswersOfAll};
 ghost use Rattle.nd_array_core.specs.along.AxisMaps.{lanes_of, AnswersLane, MayBeShownLane, AskableOfLanes, HasAnswersOfLanes, MapsLanesAlike};
 
-use crate::along::lanes::{first_places, lane_from};
 use crate::along::showing::LaneView;
 use crate::base::array::{Array, ArrayBase};
 use crate::base::fresh::of_items;
-use crate::base::storage::Data;
-use crate::elements::listing::room_of;
 use nd_layout::{Layout, Walk};
 use nd_shape_and_slice::{Axis, Dimension, NoMemory, Order, RemoveAxis, StrideList};
+use nd_storage::along::lanes::{first_places, lane_from};
+use nd_storage::elements::listing::room_of;
+use nd_storage::storage::Data;
 use std::alloc::Global;
 
 /// What the function answers for each lane of an axis, in row-major order of the other axes' indexes.

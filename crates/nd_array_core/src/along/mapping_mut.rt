@@ -6,23 +6,23 @@ ghost use Rattle.nd_shape_and_slice.specs.Shape.{size_of, HasCheckedSize};
 ghost use Rattle.nd_shape_and_slice.specs.Maps.{indexed_shape};
 ghost use Rattle.nd_layout.specs.Places.{ReachesPlaces};
 ghost use Rattle.nd_region.specs.Region.{region_stored};
-ghost use Rattle.nd_array_core.specs.Places.{names_place};
-ghost use Rattle.nd_array_core.specs.Collected.{stored_along};
-ghost use Rattle.nd_array_core.specs.base.ElementMut.{KeepsPlaces};
-ghost use Rattle.nd_array_core.specs.elements.Changes.{AreDistinct};
-ghost use Rattle.nd_array_core.specs.elements.Maps.{TakesNumbered};
-ghost use Rattle.nd_array_core.specs.along.AxisLanes.{lane_place, LanesReach, LanesDistinct};
+ghost use Rattle.nd_storage.specs.Places.{names_place};
+ghost use Rattle.nd_storage.specs.Collected.{stored_along};
+ghost use Rattle.nd_storage.specs.ElementMut.{KeepsPlaces};
+ghost use Rattle.nd_storage.specs.elements.Changes.{AreDistinct};
+ghost use Rattle.nd_storage.specs.elements.Maps.{TakesNumbered};
+ghost use Rattle.nd_storage.specs.along.AxisLanes.{lane_place, LanesReach, LanesDistinct};
 ghost use Rattle.nd_array_core.specs.along.LanesWritten.{line_of, LeavesLane, MayBeHandedLane, KeepsLanes, lanes_held, AreHandedOut, IsAnsweredInside, HandableLanes, HandsOutLanes, LeavesLanesAlike, AnswersLanesAlike};
 
-use crate::along::lanes::{first_places, lane_from};
 use crate::along::lent::LaneMut;
 use crate::base::array::{Array, ArrayBase};
 use crate::base::fresh::of_items;
-use crate::base::storage::DataMut;
-use crate::elements::listing::room_of;
 use nd_layout::{Lane, Walk};
 use nd_region::Region;
 use nd_shape_and_slice::{Axis, Dimension, NoMemory, Order, RemoveAxis, StrideList};
+use nd_storage::along::lanes::{first_places, lane_from};
+use nd_storage::elements::listing::room_of;
+use nd_storage::storage::DataMut;
 use std::alloc::Global;
 
 /// Hands a lane of a region to the function, to be written. It answers the function, as the call left it, and what it

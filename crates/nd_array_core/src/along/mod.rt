@@ -3,7 +3,6 @@
 mod accumulating;
 mod beside;
 mod folding;
-mod lanes;
 pub mod lent;
 mod mapping;
 mod mapping_mut;

@@ -5,13 +5,14 @@ ghost use Rattle.std.specs.Prelude.{◌≡◌, ◌+◌, ◌<◌, ◌≤◌, ℕ,
 ghost use Rattle.nd_shape_and_slice.specs.Shape.{size_of, HasCheckedSize};
 ghost use Rattle.nd_array_core.specs.along.Selected.{selected_at, selected_shape, AreCoordinates, ListsSelected, ShowsSelected};
 ghost use Rattle.nd_array_core.specs.Meaning.{meaning_of, shape_of, element_at};
-ghost use Rattle.nd_array_core.specs.base.Fresh.{ClonesOfAllAreEqual};
+ghost use Rattle.nd_storage.specs.Clones.{ClonesOfAllAreEqual};
 
 use crate::base::array::{Array, ArrayBase};
 use crate::base::fresh::of_items;
-use crate::base::storage::Data;
-use crate::elements::listing::{listed_behind, room_of};
+use crate::elements::listing::listed_behind;
 use nd_shape_and_slice::{Axis, Dimension, NoMemory, Order};
+use nd_storage::elements::listing::room_of;
+use nd_storage::storage::Data;
 use std::alloc::Global;
 
 /// Puts clones of what lies at a coordinate of the first axis, in row-major order, behind those that a vector has.

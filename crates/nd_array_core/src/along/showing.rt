@@ -1,13 +1,13 @@
 //! A lane of an array, as it is shown to a closure.
 
 ghost use Rattle.std.specs.Prelude.{◌≡◌, ◌<◌, ℕ, true, is_some, [], ◌∷◌, List};
-ghost use Rattle.nd_array_core.specs.base.Storages.{shown_by};
-ghost use Rattle.nd_array_core.specs.Collected.{stored_along};
+ghost use Rattle.nd_storage.specs.Storages.{shown_by};
+ghost use Rattle.nd_storage.specs.Collected.{stored_along};
 
 use crate::base::array::{ArrayBase, ArrayView};
-use crate::base::storage::ViewRepr;
 use nd_layout::{Lane, Layout};
 use nd_shape_and_slice::{Dimension, IntoDimension, Ix1};
+use nd_storage::storage::ViewRepr;
 
 /// A lane of an array while it is shown to a closure, to be used after `into_view`. It has no bound with ghost members, as
 /// an array has, which a closure's argument can't have.

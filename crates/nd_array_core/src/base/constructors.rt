@@ -10,9 +10,10 @@ ghost use Rattle.nd_layout.specs.Strides.{reach_down};
 ghost use Rattle.nd_layout.specs.Ranks.{rank_in};
 ghost use Rattle.nd_layout.specs.GivenStrides.{given_place, ordered_strides, given_strides, offset_given};
 ghost use Rattle.nd_layout.specs.Refusals.{elements_asked};
-ghost use Rattle.nd_array_core.specs.Meaning.{shape_of, element_at, storage_of, layout_strides, layout_offset, inside};
-ghost use Rattle.nd_array_core.specs.Places.{stored_at};
-ghost use Rattle.nd_array_core.specs.base.Storages.{stored_list, room_of};
+ghost use Rattle.nd_array_core.specs.Meaning.{shape_of, element_at, storage_of, layout_strides, layout_offset};
+ghost use Rattle.nd_storage.specs.Meaning.{inside};
+ghost use Rattle.nd_storage.specs.Places.{stored_at};
+ghost use Rattle.nd_storage.specs.Storages.{stored_list, room_of};
 ghost use Rattle.nd_array_core.specs.base.Given.{refusal_in, is_apart_in, IsLaidOut};
 ghost use Rattle.nd_layout.specs.Placements.{as_placement, placement_of};
 ghost use Rattle.nd_array_core.specs.base.SliceLent.{slice_follows_view};
@@ -22,10 +23,10 @@ ghost use Rattle.nd_shape_and_slice.specs.declared.builder.Order.{Order};
 ghost use Rattle.nd_layout.specs.Steps.{IsValid};
 
 use crate::base::array::{Array, ArrayBase, ArrayView, ArrayViewMut};
-use crate::base::storage::{Data, OwnedRepr, ViewMutRepr, ViewRepr};
 use nd_layout::{Layout, offset_in_slice, offset_in_vec, size_in_slice, size_in_vec};
 use nd_region::Region;
 use nd_shape_and_slice::{Dimension, IntoStrideShape, Order, ShapeError, StrideList};
+use nd_storage::storage::{Data, OwnedRepr, ViewMutRepr, ViewRepr};
 
 /// The elements of a storage under a shape, in an order.
 pub(crate) fn in_order<S: Data, D: Dimension>(storage: S, dim: D, order: Order) -> ArrayBase<S, D>

@@ -5,7 +5,8 @@ ghost use Rattle.std.specs.Prelude.{◌≡◌, ◌*◌, ◌<◌, ◌≤◌, ◌^
 ghost use Rattle.std.specs.List.{flat_map};
 ghost use Rattle.nd_shape_and_slice.specs.Shape.{row_rank, HasCheckedSize};
 ghost use Rattle.nd_shape_and_slice.specs.Strides.{c_strides};
-ghost use Rattle.nd_array_core.specs.Meaning.{shape_of, element_at, layout_strides, inside, place_at, storage_of};
+ghost use Rattle.nd_array_core.specs.Meaning.{shape_of, element_at, layout_strides, place_at, storage_of};
+ghost use Rattle.nd_storage.specs.Meaning.{inside};
 ghost use Rattle.std.specs.Borrow.{sem};
 ghost use Rattle.nd_region.specs.Region.{region_stored};
 ghost use Rattle.nd_region.specs.Lends.{slice_follows};
@@ -17,9 +18,9 @@ ghost use Rattle.nd_array_core.specs.base.SliceLent.{rows_follow_view};
 
 use crate::base::array::{Array, ArrayBase, ArrayView, ArrayViewMut};
 use crate::base::constructors::in_order;
-use crate::base::storage::{Data, DataMut, ViewMutRepr, ViewRepr};
 use nd_region::Region;
 use nd_shape_and_slice::{Dimension, IntoDimension, Ix1, Ix2, Order, size_of_shape_checked};
+use nd_storage::storage::{Data, DataMut, ViewMutRepr, ViewRepr};
 
 /// That many elements of a storage, from place 0 on, along one axis; none where they are more than `isize::MAX`.
 fn on_one_axis<S: Data>(storage: S, len: usize) -> ArrayBase<S, Ix1>

@@ -4,24 +4,13 @@
 ghost use Rattle.std.specs.Prelude.{◌≡◌, IfOk, OnOk, OnErr};
 ghost use Rattle.nd_array_core.specs.Meaning.{storage_of};
 ghost use Rattle.nd_array_core.specs.Part.{ShowsWhole};
-ghost use Rattle.nd_array_core.specs.base.Storages.{stored_list};
-ghost use Rattle.nd_array_core.specs.base.Fresh.{StoredClonesAreEqual};
+ghost use Rattle.nd_storage.specs.Storages.{stored_list};
+ghost use Rattle.nd_storage.specs.Clones.{StoredClonesAreEqual};
 
 use crate::base::array::{Array, ArrayBase};
-use crate::base::storage::OwnedRepr;
 use nd_shape_and_slice::Dimension;
+use nd_storage::storage::cloned_storage;
 use std::alloc::AllocError;
-
-/// A storage of clones.
-#[tactic(auto, using(crate::proofs::Clones::clones_same))]
-fn cloned_storage<A: Clone>(storage: &OwnedRepr<A>) -> Result<OwnedRepr<A>, AllocError>
-    requires { StoredClonesAreEqual A.is_clone (stored_list storage.now) }
-    ensures { IfOk result (λ copy. stored_list copy ≡ stored_list storage.now) }
-{
-    Ok(OwnedRepr {
-        items: storage.items.clone()?,
-    })
-}
 
 impl<A: Clone, D: Dimension> Array<A, D> {
     /// An array with the same shape, strides and offset, over clones of all stored elements, also of those that no index

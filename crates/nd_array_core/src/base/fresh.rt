@@ -2,22 +2,22 @@
 #![tactic(auto, unfolding(crate::specs::Meaning::meaning_of, crate::specs::Meaning::memory_layout_of))]
 
 ghost use Rattle.std.specs.Prelude.{◌≡◌, [], ◌∷◌, length, replicate, IfOk, vec_len, vec_capacity};
-ghost use Rattle.std.specs.List.{All};
 ghost use Rattle.std.specs.Iterator.{IsFiniteIterable};
 ghost use Rattle.nd_shape_and_slice.specs.Shape.{size_of, HasCheckedSize};
 ghost use Rattle.nd_shape_and_slice.specs.declared.builder.Order.TheVariants.{RowMajor};
 ghost use Rattle.nd_array_core.specs.Meaning.{storage_of};
-ghost use Rattle.nd_array_core.specs.base.Storages.{stored_list, room_of};
-ghost use Rattle.nd_array_core.specs.base.Fresh.{built_by, ClonesAreEqual, IsOnly, OwnsInOrder, ShowsOneValue, ShowsSuch};
+ghost use Rattle.nd_storage.specs.Storages.{stored_list, room_of};
+ghost use Rattle.nd_array_core.specs.base.Fresh.{built_by, IsOnly, OwnsInOrder, ShowsOneValue, ShowsSuch};
+ghost use Rattle.nd_storage.specs.Clones.{ClonesAreEqual};
 ghost use Rattle.nd_array_core.specs.base.Makers.{StoresItemsOf};
 
 use crate::base::array::Array;
 use crate::base::constructors::in_order;
-use crate::base::storage::OwnedRepr;
-use nd_shape_and_slice::{Dimension, IntoDimension, Ix1, NoMemory, Order, ShapeBuilder};
+use nd_shape_and_slice::{Dimension, Ix1, NoMemory, Order, ShapeBuilder};
+use nd_storage::fresh::values::{repeated, defaults};
+use nd_storage::storage::OwnedRepr;
 use num_traits::{One, Zero};
 use std::alloc::Global;
-use std::iter::FromIterator;
 
 /// An array that owns a vector's elements, as many as the shape has, in an order.
 pub(crate) fn of_items<A, D: Dimension>(items: Vec<A>, dim: D, order: Order) -> Array<A, D>
@@ -28,33 +28,6 @@ pub(crate) fn of_items<A, D: Dimension>(items: Vec<A>, dim: D, order: Order) -> 
     ensures room { room_of (storage_of result) ≡ vec_capacity items }
 {
     in_order(OwnedRepr { items }, dim, order)
-}
-
-/// A new vector of that many equal values.
-pub(crate) fn repeated<A: Clone>(alloc: Global, elem: A, count: usize) -> Result<Vec<A>, NoMemory>
-    requires { ClonesAreEqual A.is_clone elem }
-    ensures items { IfOk result (λ v. v.items ≡ replicate count elem) }
-    ensures count { IfOk result (λ v. vec_len v ≡ count) }
-{
-    match Vec::from_elem(alloc, elem, count) {
-        Ok(items) => Ok(items),
-        Err(_) => Err(NoMemory),
-    }
-}
-
-/// A new vector of that many default values.
-fn defaults<A: Default>(alloc: Global, count: usize) -> Result<Vec<A>, NoMemory>
-    ensures items { IfOk result (λ v. All A.is_default v.items) }
-    ensures count { IfOk result (λ v. vec_len v ≡ count) }
-{
-    let mut items = match Vec::with_capacity(alloc, count) {
-        Ok(items) => items,
-        Err(_) => return Err(NoMemory),
-    };
-    for _ in 0..count {
-        items.push_reserved(A::default());
-    }
-    Ok(items)
 }
 
 impl<A, D: Dimension> Array<A, D> {

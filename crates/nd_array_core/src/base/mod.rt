@@ -12,5 +12,4 @@ pub mod fresh;
 pub mod from_functions;
 pub mod indexing;
 pub mod square;
-pub mod storage;
 pub mod writing;

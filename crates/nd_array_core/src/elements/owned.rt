@@ -7,19 +7,21 @@ ghost use Rattle.nd_shape_and_slice.specs.Place.{place_of, IsSeparated};
 ghost use Rattle.nd_shape_and_slice.specs.declared.builder.Order.TheVariants.{RowMajor};
 ghost use Rattle.nd_layout.specs.Ranks.{IsRun};
 ghost use Rattle.nd_layout.specs.Strides.{reach_down};
-ghost use Rattle.nd_array_core.specs.Meaning.{meaning_of, shape_of, element_at, storage_of, layout_strides, layout_offset, inside};
+ghost use Rattle.nd_array_core.specs.Meaning.{meaning_of, shape_of, element_at, storage_of, layout_strides, layout_offset};
+ghost use Rattle.nd_storage.specs.Meaning.{inside};
 ghost use Rattle.nd_array_core.specs.Part.{ShowsWhole, BecomesWhole};
-ghost use Rattle.nd_array_core.specs.Places.{HoldsAll, stored_at};
-ghost use Rattle.nd_array_core.specs.base.Fresh.{ClonesOfAllAreEqual, OwnsInOrder};
-ghost use Rattle.nd_array_core.specs.base.Storages.{stored_list};
+ghost use Rattle.nd_storage.specs.Places.{HoldsAll, stored_at};
+ghost use Rattle.nd_storage.specs.Clones.{ClonesOfAllAreEqual};
+ghost use Rattle.nd_array_core.specs.base.Fresh.{OwnsInOrder};
+ghost use Rattle.nd_storage.specs.Storages.{stored_list};
 ghost use Rattle.nd_array_core.specs.reshape.RunSlices.{IsRunArray, IsInMemoryOrder, CopiesRun, StoresInRowMajorOrder};
 
 use crate::base::array::{Array, ArrayBase};
 use crate::base::fresh::of_items;
-use crate::base::storage::{Data, OwnedRepr};
-use crate::elements::listing::clones_of;
 use nd_layout::{Layout, is_run, reach_below};
 use nd_shape_and_slice::{Dimension, NoMemory, Order, StrideList};
+use nd_storage::elements::listing::clones_of;
+use nd_storage::storage::{Data, OwnedRepr};
 use std::alloc::Global;
 
 /// The array of a run's elements by rising place, under the run's strides.

@@ -1,156 +1,24 @@
 //! New arrays of what a closure answers for a clone of each element.
 #![tactic(auto, unfolding(crate::specs::Meaning::meaning_of, crate::specs::Meaning::memory_layout_of))]
 
-ghost use Rattle.std.specs.Prelude.{◌≡◌, ◌+◌, ◌<◌, ◌≤◌, ℕ, [], Some, true, length, pos, is_some, slice_get, IfOk, vec_len, vec_capacity};
-ghost use Rattle.nd_shape_and_slice.specs.Shape.{size_of, HasCheckedSize};
-ghost use Rattle.nd_layout.specs.Places.{ReachesPlaces};
-ghost use Rattle.nd_array_core.specs.Collected.{stored_along, stored_by_rank};
-ghost use Rattle.nd_array_core.specs.FreeOrder.{AskableInAnyOrder, HasAnswers};
+ghost use Rattle.std.specs.Prelude.{◌≡◌, ◌<◌, ◌≤◌, [], IfOk, vec_len, vec_capacity};
+ghost use Rattle.nd_shape_and_slice.specs.Shape.{size_of};
+ghost use Rattle.nd_storage.specs.FreeOrder.{AskableInAnyOrder, HasAnswers};
 ghost use Rattle.nd_array_core.specs.Meaning.{shape_of, element_at, meaning_of};
-ghost use Rattle.nd_array_core.specs.base.Fresh.{ClonesAreEqual, StoredClonesAreEqual, ClonesOfAllAreEqual};
+ghost use Rattle.nd_storage.specs.Clones.{ClonesOfAllAreEqual};
 ghost use Rattle.nd_array_core.specs.reshape.RunSlices.{IsRunArray};
-ghost use Rattle.nd_array_core.specs.elements.Maps.{AnswersValue, MayBeGiven, AnswersValuesBy, AnswersAt, TakesAt, TakesNumbered, AnswersBehind, AskableOfAll, HasAnswersOfAll};
+ghost use Rattle.nd_storage.specs.elements.Maps.{AnswersValue, MayBeGiven, AnswersValuesBy, AnswersAt, TakesAt, AskableOfAll, HasAnswersOfAll};
 ghost use Rattle.nd_array_core.specs.elements.ArrayMaps.{ShowsMapped};
 
 use crate::base::array::{Array, ArrayBase};
 use crate::base::fresh::of_items;
-use crate::base::storage::Data;
-use crate::elements::listing::room_of;
 use crate::elements::owned::{of_run, run_elements};
-use nd_layout::{Lane, Lanes, is_run, reach_below};
+use nd_layout::{is_run, reach_below};
 use nd_shape_and_slice::{Dimension, NoMemory, Order, StrideList};
+use nd_storage::elements::listing::room_of;
+use nd_storage::elements::values::{value_run, value_places};
+use nd_storage::storage::Data;
 use std::alloc::Global;
-
-/// Puts what the function answers for a clone of each element of a slice behind what a vector has. It answers the
-/// function, as the calls left it.
-fn value_run<A: Clone, B, F: FnMut(A) -> B>(
-    items: &mut Vec<B>,
-    xs: &[A],
-    mut f: F,
-) -> Result<F, NoMemory>
-    requires clones { StoredClonesAreEqual A.is_clone xs.now }
-    requires room { vec_len items.old + length xs.now ≤ vec_capacity items.old }
-    requires callable { TakesNumbered (AnswersValue F.FnMut) (MayBeGiven F.FnMut) (slice_get xs.now) f (length xs.now) }
-    ensures answers { IfOk result (λ last. AnswersBehind (AnswersValue F.FnMut) (slice_get xs.now) (length xs.now) items.old.items items.new.items f last) }
-    ensures len { IfOk result (λ _. vec_len items.new ≡ vec_len items.old + length xs.now) }
-    ensures room { vec_capacity items.new ≡ vec_capacity items.old }
-{
-    for nth in 0..xs.len() {
-        match xs[nth].clone() {
-            Ok(copy) => items.push_reserved(f(copy)),
-            Err(_) => return Err(NoMemory),
-        }
-    }
-    Ok(f)
-}
-
-/// The same of the elements of a lane.
-fn value_by_steps<S: Data, B, F: FnMut(S::Elem) -> B>(
-    items: &mut Vec<B>,
-    storage: &S,
-    lane: Lane,
-    mut f: F,
-) -> Result<F, NoMemory>
-where
-    S::Elem: Clone,
-    requires clones { (k : ℕ) (x : S.Elem) → k < lane.count → stored_along (S.stored storage.now) lane.place lane.stride k ≡ Some x → ClonesAreEqual S.Elem.is_clone x }
-    requires holds { (k : ℕ) → k < lane.count → is_some (stored_along (S.stored storage.now) lane.place lane.stride k) ≡ true }
-    requires room { vec_len items.old + lane.count ≤ vec_capacity items.old }
-    requires callable { TakesNumbered (AnswersValue F.FnMut) (MayBeGiven F.FnMut) (stored_along (S.stored storage.now) lane.place lane.stride) f lane.count }
-    ensures answers { IfOk result (λ last. AnswersBehind (AnswersValue F.FnMut) (stored_along (S.stored storage.now) lane.place lane.stride) lane.count items.old.items items.new.items f last) }
-    ensures len { IfOk result (λ _. vec_len items.new ≡ vec_len items.old + lane.count) }
-    ensures room { vec_capacity items.new ≡ vec_capacity items.old }
-{
-    // A region in hand: what a write may not change isn't read anew for each element.
-    let region = storage.borrowed();
-    for nth in 0..lane.count {
-        match region.element(lane.place_of(nth)).clone() {
-            Ok(copy) => items.push_reserved(f(copy)),
-            Err(_) => return Err(NoMemory),
-        }
-    }
-    Ok(f)
-}
-
-/// The same where they lie side by side.
-fn value_beside<S: Data, B, F: FnMut(S::Elem) -> B>(
-    items: &mut Vec<B>,
-    storage: &S,
-    lane: Lane,
-    f: F,
-) -> Result<F, NoMemory>
-where
-    S::Elem: Clone,
-    requires beside { lane.stride ≡ pos 1 }
-    requires clones { (k : ℕ) (x : S.Elem) → k < lane.count → stored_along (S.stored storage.now) lane.place lane.stride k ≡ Some x → ClonesAreEqual S.Elem.is_clone x }
-    requires holds { (k : ℕ) → k < lane.count → is_some (stored_along (S.stored storage.now) lane.place lane.stride k) ≡ true }
-    requires room { vec_len items.old + lane.count ≤ vec_capacity items.old }
-    requires callable { TakesNumbered (AnswersValue F.FnMut) (MayBeGiven F.FnMut) (stored_along (S.stored storage.now) lane.place lane.stride) f lane.count }
-    ensures answers { IfOk result (λ last. AnswersBehind (AnswersValue F.FnMut) (stored_along (S.stored storage.now) lane.place lane.stride) lane.count items.old.items items.new.items f last) }
-    ensures len { IfOk result (λ _. vec_len items.new ≡ vec_len items.old + lane.count) }
-    ensures room { vec_capacity items.new ≡ vec_capacity items.old }
-{
-    let run = storage.borrowed().run(lane.place, lane.count);
-    value_run(items, run, f)
-}
-
-/// The same of any lane.
-fn value_lane<S: Data, B, F: FnMut(S::Elem) -> B>(
-    items: &mut Vec<B>,
-    storage: &S,
-    lane: Lane,
-    f: F,
-) -> Result<F, NoMemory>
-where
-    S::Elem: Clone,
-    requires clones { (k : ℕ) (x : S.Elem) → k < lane.count → stored_along (S.stored storage.now) lane.place lane.stride k ≡ Some x → ClonesAreEqual S.Elem.is_clone x }
-    requires holds { (k : ℕ) → k < lane.count → is_some (stored_along (S.stored storage.now) lane.place lane.stride k) ≡ true }
-    requires room { vec_len items.old + lane.count ≤ vec_capacity items.old }
-    requires callable { TakesNumbered (AnswersValue F.FnMut) (MayBeGiven F.FnMut) (stored_along (S.stored storage.now) lane.place lane.stride) f lane.count }
-    ensures answers { IfOk result (λ last. AnswersBehind (AnswersValue F.FnMut) (stored_along (S.stored storage.now) lane.place lane.stride) lane.count items.old.items items.new.items f last) }
-    ensures len { IfOk result (λ _. vec_len items.new ≡ vec_len items.old + lane.count) }
-    ensures room { vec_capacity items.new ≡ vec_capacity items.old }
-{
-    if lane.stride == 1 {
-        return value_beside(items, storage, lane, f);
-    }
-    value_by_steps(items, storage, lane, f)
-}
-
-/// What the function answers for clones of the elements at the places of a layout, in row-major order of its indexes.
-fn value_places<S: Data, B: Drop, F: FnMut(S::Elem) -> B>(
-    room: Vec<B>,
-    storage: &S,
-    first: usize,
-    lengths: &[usize],
-    strides: &[isize],
-    f: F,
-) -> Result<(F, Vec<B>), NoMemory>
-where
-    S::Elem: Clone,
-    requires as_many { length strides.now ≡ length lengths.now }
-    requires few { length lengths.now ≤ 32 }
-    requires checked { HasCheckedSize lengths.now }
-    requires reach { ReachesPlaces first lengths.now strides.now }
-    requires clones { (rank : ℕ) (x : S.Elem) → rank < size_of lengths.now → stored_by_rank (S.stored storage.now) first lengths.now strides.now rank ≡ Some x → ClonesAreEqual S.Elem.is_clone x }
-    requires holds { (rank : ℕ) → rank < size_of lengths.now → is_some (stored_by_rank (S.stored storage.now) first lengths.now strides.now rank) ≡ true }
-    requires empty { (room.items ≡ []) × (vec_len room ≡ 0) }
-    requires room { size_of lengths.now ≤ vec_capacity room }
-    requires callable { TakesNumbered (AnswersValue F.FnMut) (MayBeGiven F.FnMut) (stored_by_rank (S.stored storage.now) first lengths.now strides.now) f (size_of lengths.now) }
-    ensures answers { IfOk result (λ done. AnswersBehind (AnswersValue F.FnMut) (stored_by_rank (S.stored storage.now) first lengths.now strides.now) (size_of lengths.now) [] done.1.items f done.0) }
-    ensures count { IfOk result (λ done. vec_len done.1 ≡ size_of lengths.now) }
-{
-    let mut items = room;
-    let mut now = f;
-    let mut lanes = Lanes::new(first, lengths, strides);
-    while let Some(lane) = lanes.next() {
-        match value_lane(&mut items, storage, lane, now) {
-            Ok(later) => now = later,
-            Err(refused) => return Err(refused),
-        }
-    }
-    Ok((now, items))
-}
 
 /// What the function answers for a clone of each element, in row-major order.
 fn mapv_in_order<S: Data, D: Dimension, B: Drop, F: FnMut(S::Elem) -> B>(

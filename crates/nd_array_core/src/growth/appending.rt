@@ -10,21 +10,21 @@ ghost use Rattle.nd_layout.specs.MemoryOrder.{IsGrown};
 ghost use Rattle.nd_array_core.specs.Joined.{concatenated, concatenated_shape};
 ghost use Rattle.nd_array_core.specs.Meaning.{meaning_of, shape_of, element_at, storage_of, layout_strides, layout_offset};
 ghost use Rattle.nd_array_core.specs.Part.{ShowsWhole};
-ghost use Rattle.nd_array_core.specs.Places.{HoldsAll};
-ghost use Rattle.nd_array_core.specs.base.CloneRefusals.{MayRefuseClone};
-ghost use Rattle.nd_array_core.specs.base.Fresh.{ClonesOfAllAreEqual};
-ghost use Rattle.nd_array_core.specs.base.Storages.{stored_list, room_of};
+ghost use Rattle.nd_storage.specs.Places.{HoldsAll};
+ghost use Rattle.nd_storage.specs.CloneRefusals.{MayRefuseClone};
+ghost use Rattle.nd_storage.specs.Clones.{ClonesOfAllAreEqual};
+ghost use Rattle.nd_storage.specs.Storages.{stored_list, room_of};
 ghost use Rattle.nd_array_core.specs.growth.Appended.{FitsBehind, IsAppendRefused, ArePutBehind};
 ghost use Rattle.nd_array_core.specs.growth.Grown.{CanGrowOn, GoesOn, IsGrownBy, IsLeft, IsReadyAlong, LeavesRoom, LeavesRoomBehind, NeedsNoMove, NeedsOnlyClones};
 ghost use Rattle.nd_array_core.specs.growth.Reserved.{HasRoomFor};
 
 use crate::base::array::{Array, ArrayView};
 use crate::base::errors::ArrayError;
-use crate::base::storage::OwnedRepr;
 use crate::growth::joining::joined_dim;
 use crate::growth::tail::put_behind;
 use nd_layout::Layout;
 use nd_shape_and_slice::{Axis, Dimension, NoMemory};
+use nd_storage::storage::OwnedRepr;
 
 /// Puts clones of an array's elements behind those of a storage that a layout fills, and lets the layout grow along the
 /// axis. A refusal leaves the elements and the layout.

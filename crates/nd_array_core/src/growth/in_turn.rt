@@ -4,7 +4,7 @@
 ghost use Rattle.std.specs.Prelude.{◌≡◌, ◌<◌, ◌≤◌, [], Ok, IfErr, OnOk, length};
 ghost use Rattle.nd_array_core.specs.Meaning.{meaning_of, shape_of, storage_of};
 ghost use Rattle.nd_array_core.specs.Part.{BecomesWhole};
-ghost use Rattle.nd_array_core.specs.base.Storages.{room_of};
+ghost use Rattle.nd_storage.specs.Storages.{room_of};
 ghost use Rattle.nd_array_core.specs.growth.Grown.{GoesOn, IsReadyAlong};
 ghost use Rattle.nd_array_core.specs.growth.InTurn.{meanings_of, ClonesOfEachAreEqual, FitInTurn, IsRefusedInTurn, JoinsAll, JoinsFirst, LacksMemory, NeedsOnlyClonesInTurn};
 

@@ -3,7 +3,6 @@
 mod appending;
 mod in_turn;
 mod joining;
-mod moving;
 mod pushing;
 mod relaying;
 mod reserving;

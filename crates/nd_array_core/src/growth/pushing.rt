@@ -5,8 +5,8 @@ ghost use Rattle.std.specs.Prelude.{◌≡◌, ◌+◌, ◌<◌, ◌≤◌, true
 ghost use Rattle.nd_shape_and_slice.specs.Shape.{size_of};
 ghost use Rattle.nd_array_core.specs.Meaning.{meaning_of, shape_of, element_at, storage_of};
 ghost use Rattle.nd_array_core.specs.Part.{inserted_part, ShowsPart};
-ghost use Rattle.nd_array_core.specs.base.Fresh.{ClonesOfAllAreEqual};
-ghost use Rattle.nd_array_core.specs.base.Storages.{room_of};
+ghost use Rattle.nd_storage.specs.Clones.{ClonesOfAllAreEqual};
+ghost use Rattle.nd_storage.specs.Storages.{room_of};
 ghost use Rattle.nd_array_core.specs.growth.Appended.{pushed, IsPushRefused};
 ghost use Rattle.nd_array_core.specs.growth.Grown.{GoesOn, IsGrownBy, IsLeft, IsNotForMemory, IsReadyAlong, IsReadyFor, LeavesRoom};
 

@@ -11,14 +11,14 @@ ghost use Rattle.nd_array_core.specs.Meaning.{shape_of, element_at, place_at, la
 ghost use Rattle.nd_array_core.specs.layout.MultiSlice.{TwoFit, ThreeFit, FourFit, ThreeShareNoPlace, FourShareNoPlace, FitsEach, TakenOf};
 ghost use Rattle.nd_array_core.specs.scoped.Tasks.{AreApart};
 ghost use Rattle.nd_array_core.specs.layout.Parts.{HoldsEachOnce, IsViewUnder};
-ghost use Rattle.nd_array_core.specs.Places.{kept_at, ShareNoPlace};
+ghost use Rattle.nd_storage.specs.Places.{kept_at, ShareNoPlace};
 ghost use Rattle.nd_array_core.specs.Part.{lower_part, upper_part, sliced_part, ShowsPart, ShowsWhole};
 
-use super::slicing::sliced_by;
 use crate::base::array::{ArrayBase, ArrayView, ArrayViewMut};
-use crate::base::storage::{DataMut, ViewMutRepr, ViewRepr};
 use nd_layout::Layout;
 use nd_shape_and_slice::{Axis, Dimension, SliceArg, StrideList};
+use nd_storage::storage::{DataMut, ViewMutRepr, ViewRepr};
+use super::slicing::sliced_by;
 
 impl<'a, A, D: Dimension> ArrayView<'a, A, D> {
     /// The two parts of an axis: the coordinates below this one, and those from it on. The axis is below `ndim`,
@@ -64,16 +64,17 @@ pub(crate) fn halves<D: Dimension, T: StrideList>(
     layout.halves(axis, index)
 }
 
-impl<'a, A> ViewMutRepr<'a, A> {
-    /// Takes the elements that a layout names out of this storage.
-    fn part<D: Dimension>(&mut self, layout: Layout<D, D::Strides>) -> ArrayViewMut<'a, A, D>
-        requires { HoldsEachOnce (region_stored self.old.region) layout.offset (D.lengths layout.dim) (D.Strides.strides_of layout.strides) }
-        ensures shown { IsViewUnder (region_stored self.old.region) layout.offset (D.lengths layout.dim) (D.Strides.strides_of layout.strides) (shape_of result) (layout_strides result) (element_at result) (place_at result) }
-        ensures left { (place : ℕ) → region_stored self.new.region place ≡ kept_at (names_not layout.offset (D.lengths layout.dim) (D.Strides.strides_of layout.strides)) (region_stored self.old.region) place }
-    {
-        let storage = self.split(&layout);
-        ArrayBase { storage, layout }
-    }
+/// Takes the elements that a layout names out of a storage.
+fn part<'a, A, D: Dimension>(
+    storage: &mut ViewMutRepr<'a, A>,
+    layout: Layout<D, D::Strides>,
+) -> ArrayViewMut<'a, A, D>
+    requires { HoldsEachOnce (region_stored storage.old.region) layout.offset (D.lengths layout.dim) (D.Strides.strides_of layout.strides) }
+    ensures shown { IsViewUnder (region_stored storage.old.region) layout.offset (D.lengths layout.dim) (D.Strides.strides_of layout.strides) (shape_of result) (layout_strides result) (element_at result) (place_at result) }
+    ensures left { (place : ℕ) → region_stored storage.new.region place ≡ kept_at (names_not layout.offset (D.lengths layout.dim) (D.Strides.strides_of layout.strides)) (region_stored storage.old.region) place }
+{
+    let storage = storage.split(&layout);
+    ArrayBase { storage, layout }
 }
 
 impl<'a, A, D: Dimension> ArrayViewMut<'a, A, D> {
@@ -89,7 +90,7 @@ impl<'a, A, D: Dimension> ArrayViewMut<'a, A, D> {
     {
         let (lower, upper) = halves(&self.layout, axis.0, index);
         let mut storage = self.storage;
-        (storage.part(lower), storage.part(upper))
+        (part(&mut storage, lower), part(&mut storage, upper))
     }
 
     /// The parts that the lists name. Each list fits the shape (`SliceArg::fits`), and no two name an element in common
@@ -135,7 +136,7 @@ impl<'a, A: 'a, D: Dimension, I: SliceArg<D>, J: SliceArg<D>> MultiSliceArg<Arra
         let first = sliced_by(&view.layout, self.0);
         let other = sliced_by(&view.layout, self.1);
         let mut storage = view.storage;
-        (storage.part(first), storage.part(other))
+        (part(&mut storage, first), part(&mut storage, other))
     }
 }
 
@@ -158,9 +159,9 @@ impl<'a, A: 'a, D: Dimension, I: SliceArg<D>, J: SliceArg<D>, K: SliceArg<D>> Mu
         let last = sliced_by(&view.layout, self.2);
         let mut storage = view.storage;
         (
-            storage.part(first),
-            storage.part(second),
-            storage.part(last),
+            part(&mut storage, first),
+            part(&mut storage, second),
+            part(&mut storage, last),
         )
     }
 }
@@ -192,10 +193,10 @@ impl<
         let fourth = sliced_by(&view.layout, self.3);
         let mut storage = view.storage;
         (
-            storage.part(first),
-            storage.part(second),
-            storage.part(third),
-            storage.part(fourth),
+            part(&mut storage, first),
+            part(&mut storage, second),
+            part(&mut storage, third),
+            part(&mut storage, fourth),
         )
     }
 }

@@ -6,14 +6,15 @@ ghost use Rattle.nd_shape_and_slice.specs.Shape.{size_of, index_at};
 ghost use Rattle.nd_shape_and_slice.specs.declared.builder.Order.TheVariants.{ColumnMajor};
 ghost use Rattle.nd_layout.specs.Ranks.{index_in};
 ghost use Rattle.nd_array_core.specs.Meaning.{shape_of, element_at};
-ghost use Rattle.nd_array_core.specs.base.Fresh.{ClonesOfAllAreEqual, OwnsInOrder};
+ghost use Rattle.nd_storage.specs.Clones.{ClonesOfAllAreEqual};
+ghost use Rattle.nd_array_core.specs.base.Fresh.{OwnsInOrder};
 ghost use Rattle.nd_array_core.specs.reshape.Regrouped.{IsShapeOf};
 ghost use Rattle.nd_array_core.specs.reshape.Serving.{KeepsRanks};
 
 use crate::base::array::{Array, ArrayBase};
 use crate::base::fresh::of_items;
-use crate::base::storage::Data;
 use nd_shape_and_slice::{Dimension, NoMemory, Order};
+use nd_storage::storage::Data;
 use std::alloc::Global;
 
 /// Clones of the elements by row-major rank.

@@ -4,13 +4,13 @@
 ghost use Rattle.std.specs.Prelude.{◌↔◌, ◌≡◌, IsSome, IfSome, IsTrue};
 ghost use Rattle.std.specs.Borrow.{sem};
 ghost use Rattle.nd_array_core.specs.Meaning.{meaning_of};
-ghost use Rattle.nd_array_core.specs.Joined.{row_major_elements};
+ghost use Rattle.nd_storage.specs.Meaning.{row_major_elements};
 ghost use Rattle.nd_array_core.specs.reshape.RunSlices.{IsStandardArray, IsRunArray, IsInMemoryOrder};
 
 use crate::base::array::{ArrayBase, ArrayViewMut};
-use crate::base::storage::{Data, DataMut, RegionRepr};
 use nd_layout::is_run;
 use nd_shape_and_slice::{Dimension, StrideList};
+use nd_storage::storage::{Data, DataMut, RegionRepr};
 
 impl<S: Data, D: Dimension> ArrayBase<S, D> {
     /// Whether there is no element, or the places are as many consecutive numbers as there are elements, each once.

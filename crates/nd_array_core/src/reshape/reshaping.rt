@@ -11,14 +11,12 @@ ghost use Rattle.nd_array_core.specs.reshape.Either.{RefusesReshape, CopiesAreEq
 
 use crate::base::array::{Array, ArrayBase};
 use crate::base::errors::ArrayError;
-use crate::base::storage::Data;
 use crate::reshape::copied::copied_in;
 use crate::reshape::either::{EitherArray, ViewOrOwned};
 use crate::reshape::serving::{served_layout, served_view};
 use crate::reshape::shapes::has_size;
-use nd_shape_and_slice::{
-    Dimension, ErrorKind, IntoDimension, Ix1, NoMemory, Order, ShapeArg, ShapeError,
-};
+use nd_shape_and_slice::{Dimension, ErrorKind, IntoDimension, Ix1, NoMemory, Order, ShapeArg, ShapeError};
+use nd_storage::storage::Data;
 use std::alloc::Global;
 
 /// The number of elements, which is the length of one axis for all of them.

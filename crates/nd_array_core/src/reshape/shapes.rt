@@ -11,12 +11,9 @@ ghost use Rattle.nd_array_core.specs.reshape.Regrouped.{IsInOrder, IsShapeOf, Is
 ghost use Rattle.nd_shape_and_slice.specs.declared.builder.Order.TheVariants.{RowMajor, ColumnMajor};
 
 use crate::base::array::ArrayBase;
-use crate::base::storage::Data;
 use nd_layout::{Layout, is_standard};
-use nd_shape_and_slice::{
-    Dimension, ErrorKind, IntoDimension, Order, ShapeArg, ShapeError, StrideList, default_strides,
-    fortran_strides, size_of_shape_checked,
-};
+use nd_shape_and_slice::{Dimension, ErrorKind, IntoDimension, Order, ShapeArg, ShapeError, StrideList, default_strides, fortran_strides, size_of_shape_checked};
+use nd_storage::storage::Data;
 
 /// Whether each index lies at its rank in an order, from the offset on.
 fn is_in_order<D: Dimension, T: StrideList>(layout: &Layout<D, T>, order: Order) -> bool

@@ -1,28 +1,15 @@
 //! The elements as one slice, where they lie so.
 #![tactic(auto, unfolding(crate::specs::Meaning::meaning_of, crate::specs::Meaning::memory_layout_of))]
 
-ghost use Rattle.std.specs.Prelude.{◌↔◌, ◌≡◌, ◌+◌, ◌<◌, ℕ, true, IsSome, IfSome, Some, length, slice_index_or};
-ghost use Rattle.std.specs.Option.{is_some};
+ghost use Rattle.std.specs.Prelude.{◌↔◌, ◌≡◌, ◌<◌, IsSome, IfSome, Some};
 ghost use Rattle.nd_array_core.specs.Meaning.{meaning_of};
-ghost use Rattle.nd_array_core.specs.Joined.{row_major_elements};
-ghost use Rattle.nd_array_core.specs.base.Storages.{shown_by};
+ghost use Rattle.nd_storage.specs.Meaning.{row_major_elements};
 ghost use Rattle.nd_array_core.specs.reshape.RunSlices.{IsStandardArray, IsRunArray, IsInMemoryOrder};
 
 use crate::base::array::{ArrayBase, ArrayView};
-use crate::base::storage::{Data, ViewRepr};
 use nd_layout::is_run;
 use nd_shape_and_slice::{Dimension, StrideList};
-
-impl<'a, A> ViewRepr<'a, A> {
-    /// That many elements from a place on.
-    pub(crate) fn run(self, first: usize, count: usize) -> &'a [A]
-        requires { (k : ℕ) → k < count → is_some (shown_by self (first + k)) ≡ true }
-        ensures count { length result.now ≡ count }
-        ensures elements { (k : ℕ) (d : A) → k < count → shown_by self.entry (first + k) ≡ Some (slice_index_or result.now k d) }
-    {
-        self.region.run(first, count)
-    }
-}
+use nd_storage::storage::Data;
 
 impl<'a, A, D: Dimension> ArrayView<'a, A, D> {
     /// The elements in row-major order as one slice, for as long as what the view is of; None exactly where they don't

@@ -4,16 +4,17 @@
 ghost use Rattle.std.specs.Prelude.{◌≡◌, ℕ, true, List, Some, OnOk, OnErr};
 ghost use Rattle.nd_shape_and_slice.specs.SliceInfo.{fits_shape};
 ghost use Rattle.nd_array_core.specs.PlacedArray.{element_placed};
-ghost use Rattle.nd_array_core.specs.base.Writes.{IsOldOrNew, KeepsFrame};
+ghost use Rattle.nd_storage.specs.Writes.{IsOldOrNew};
+ghost use Rattle.nd_array_core.specs.base.Writes.{KeepsFrame};
 ghost use Rattle.nd_array_core.specs.scoped.Tasks.{view_frame, lent_frame, CanBeSeen};
 ghost use Rattle.nd_array_core.specs.scoped.PartTasks.{IsFilledWith, KeepsBut};
 ghost use Rattle.nd_array_core.specs.Part.{sliced_part};
 ghost use Rattle.nd_array_core.specs.scoped.Fills.{IsOldOrFilled, IsFilledWhere, FillsNamed, KeepsOtherIndexes, IsViewFilled, IsViewFilledInPart};
 
-use super::tasks::{LentView, ViewTask};
 use crate::base::array::ArrayBase;
-use crate::base::storage::{DataMut, ViewMutRepr};
 use nd_shape_and_slice::{Dimension, NoMemory, SliceArg};
+use nd_storage::storage::{DataMut, ViewMutRepr};
+use super::tasks::{LentView, ViewTask};
 
 /// The task that fills a view with one value. If a clone is refused, each index has its old element or the value.
 #[derive(Drop)]
@@ -23,7 +24,7 @@ pub struct Fill<A: Drop> {
 }
 
 impl<A: Clone + Drop, D: Dimension> ViewTask<A, D> for Fill<A> {
-    ghost use Rattle.nd_array_core.specs.Meaning.{inside};
+    ghost use Rattle.nd_storage.specs.Meaning.{inside};
 
     type Answer = Result<(), NoMemory>;
 

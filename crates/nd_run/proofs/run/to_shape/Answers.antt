@@ -3,8 +3,8 @@ use Rattle.nd_shape_and_slice.specs.declared.dimension.Dimension as dimension
 use Rattle.nd_shape_and_slice.specs.declared.dimension.AxisCount as axis_count
 use Rattle.nd_shape_and_slice.specs.declared.dimension.StrideList as stride_list
 use Rattle.nd_shape_and_slice.specs.declared.builder.Order.{Order}
-use Rattle.nd_array_core.specs.declared.base.storage.Data as data_trait
-use Rattle.nd_array_core.specs.declared.base.storage.OwnedRepr.{OwnedRepr}
+use Rattle.nd_storage.specs.declared.storage.Data as data_trait
+use Rattle.nd_storage.specs.declared.storage.OwnedRepr.{OwnedRepr}
 use Rattle.nd_array_core.specs.declared.base.array.ArrayBase.{ArrayBase}
 use Rattle.nd_array_core.specs.declared.reshape.either.EitherArray.{EitherArray}
 use Rattle.nd_array_core.specs.declared.reshape.either.EitherArray.TheVariants.{View, Owned}

@@ -8,13 +8,14 @@ use Rattle.nd_shape_and_slice.specs.Maps.{indexed_shape, indexed_index}
 use Rattle.nd_shape_and_slice.specs.Place.{place_of}
 use Rattle.nd_layout.specs.Ranks.{IsStandard}
 use Rattle.nd_layout.specs.Steps.{IsStep}
-use Rattle.nd_array_core.specs.Places.{stored_at}
-use Rattle.nd_array_core.specs.Meaning.{meaning_of, memory_layout_of, inside}
+use Rattle.nd_storage.specs.Places.{stored_at}
+use Rattle.nd_array_core.specs.Meaning.{meaning_of, memory_layout_of}
+use Rattle.nd_storage.specs.Meaning.{inside}
 use Rattle.nd_array_core.specs.along.AxisFolds.{lane_at, FoldsBeside, TakesBeside}
 use Rattle.nd_array_core.proofs.AxisBeside.{beside_same, beside_taken, beside_reach, beside_held, beside_found}
 use Rattle.nd_array_core.proofs.AxisFolds.{FoldedBelow, below_none, below_more, next_takes, below_all}
-use Rattle.nd_array_core.proofs.Mapped.{got_item}
-use Rattle.nd_array_core.proofs.tasks.PartStep.{all_written}
+use Rattle.nd_storage.proofs.Mapped.{got_item}
+use Rattle.nd_storage.proofs.tasks.PartStep.{all_written}
 use Rattle.nd_array_core.proofs.along.beside.fold_beside.Goals as goal
 
 pub lane_from-firsts-requires-clause-reach : goal.lane_from-firsts-requires-clause-reach

@@ -2,8 +2,8 @@ use Rattle.std.proofs.Common.{◌<◌, ◌∙◌, sym, refl, subst, length, arit
 use Rattle.std.specs.Prelude.{Some, slice_get}
 use Rattle.nd_array_core.specs.along.AxisFolds.{FoldsBetween}
 use Rattle.nd_array_core.proofs.AxisBeside.{beside_more, beside_kept}
-use Rattle.nd_array_core.proofs.Mapped.{got_there}
-use Rattle.nd_array_core.proofs.RunPairs.{got_or}
+use Rattle.nd_storage.proofs.Mapped.{got_there}
+use Rattle.nd_storage.proofs.RunPairs.{got_or}
 use Rattle.nd_array_core.proofs.along.beside.fold_run.Goals as goal
 
 pub f-total-requires : goal.f-total-requires

@@ -8,12 +8,13 @@ use Rattle.nd_shape_and_slice.specs.Maps.{indexed_shape, indexed_index}
 use Rattle.nd_shape_and_slice.specs.Place.{place_of}
 use Rattle.nd_layout.specs.Steps.{IsStep}
 use Rattle.nd_layout.specs.Walk.{place_at_rank}
-use Rattle.nd_array_core.specs.Places.{stored_at}
-use Rattle.nd_array_core.specs.Collected.{stored_along}
-use Rattle.nd_array_core.specs.Meaning.{meaning_of, memory_layout_of, inside}
+use Rattle.nd_storage.specs.Places.{stored_at}
+use Rattle.nd_storage.specs.Collected.{stored_along}
+use Rattle.nd_array_core.specs.Meaning.{meaning_of, memory_layout_of}
+use Rattle.nd_storage.specs.Meaning.{inside}
 use Rattle.nd_array_core.specs.along.AxisFolds.{lane_at}
-use Rattle.nd_array_core.proofs.AxisLanes.{next_rank}
-use Rattle.nd_array_core.proofs.LaneNumbers.{got_before, got_end, longer}
+use Rattle.nd_storage.proofs.AxisLanes.{next_rank}
+use Rattle.nd_storage.proofs.LaneNumbers.{got_before, got_end, longer}
 use Rattle.nd_array_core.proofs.AxisFolds.{LanesFolded, lanes_none, lanes_more, lane_takes, lanes_all}
 use Rattle.nd_array_core.proofs.AxisFolding.{fold_reach, fold_holds, fold_found, takes_same, folds_same}
 use Rattle.nd_array_core.proofs.along.folding.fold_lanes.Goals as goal

@@ -1,4 +1,4 @@
-use Rattle.nd_array_core.specs.Collected.{stored_along}
+use Rattle.nd_storage.specs.Collected.{stored_along}
 use Rattle.nd_array_core.specs.along.AxisFolds.{FoldsRun}
 use Rattle.nd_array_core.proofs.along.folding.fold_shown.Given as goal
 

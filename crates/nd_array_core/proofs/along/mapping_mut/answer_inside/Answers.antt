@@ -2,7 +2,7 @@ use Rattle.std.proofs.Common.{◌≡◌, ◌∙◌, refl, ap, sym}
 use Rattle.std.specs.Prelude.{Some}
 use Rattle.std.specs.Fn.{CalledAtMut}
 use Rattle.nd_region.specs.Region.{region_stored, borrow_of}
-use Rattle.nd_array_core.specs.Collected.{stored_along}
+use Rattle.nd_storage.specs.Collected.{stored_along}
 use Rattle.nd_array_core.specs.along.LanesWritten.{line_of, lane_held}
 use Rattle.nd_array_core.proofs.along.mapping_mut.answer_inside.Goals as goal
 

@@ -4,10 +4,10 @@ use Rattle.std.proofs.lemmas.Int.{to_z-of_z}
 use Rattle.nd_shape_and_slice.specs.Shape.{size_of}
 use Rattle.nd_layout.specs.Places.{is_place}
 use Rattle.nd_layout.specs.Walk.{place_at_rank}
-use Rattle.nd_array_core.specs.Places.{names_place}
-use Rattle.nd_array_core.specs.along.AxisLanes.{lane_place}
+use Rattle.nd_storage.specs.Places.{names_place}
+use Rattle.nd_storage.specs.along.AxisLanes.{lane_place}
 use Rattle.nd_array_core.specs.along.LanesWritten.{MayBeHandedLane, AreHandedOut}
-use Rattle.nd_array_core.proofs.AxisLanes.{lane_goes, next_rank}
+use Rattle.nd_storage.proofs.AxisLanes.{lane_goes, next_rank}
 use Rattle.nd_array_core.proofs.LentLanes.{lane_line, leaves_same, handed_none, handed_next, handed_more, kept_places}
 use Rattle.nd_array_core.proofs.along.mapping_mut.answer_lanes.Goals as goal
 

@@ -1,7 +1,7 @@
 use Rattle.std.specs.Prelude.{◌≡◌, ◌-◌, ◌≤◌, vec_len, vec_capacity}
 use Rattle.nd_shape_and_slice.specs.Shape.{size_of}
-use Rattle.nd_array_core.specs.base.ElementMut.{KeepsPlaces}
-use Rattle.nd_array_core.specs.along.AxisLanes.{lane_place}
+use Rattle.nd_storage.specs.ElementMut.{KeepsPlaces}
+use Rattle.nd_storage.specs.along.AxisLanes.{lane_place}
 use Rattle.nd_array_core.specs.along.LanesWritten.{AreHandedOut}
 use Rattle.nd_array_core.proofs.along.mapping_mut.answer_lanes.Given as goal
 

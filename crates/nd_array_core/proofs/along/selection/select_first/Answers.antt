@@ -1,5 +1,5 @@
 use Rattle.nd_array_core.specs.Meaning.{shape_of, element_at, storage_of}
-use Rattle.nd_array_core.specs.base.Storages.{stored_list}
+use Rattle.nd_storage.specs.Storages.{stored_list}
 use Rattle.nd_array_core.proofs.Selecting.{ordered_selected}
 use Rattle.nd_array_core.proofs.along.selection.select_first.Goals as goal
 

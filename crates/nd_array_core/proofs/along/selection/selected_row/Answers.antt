@@ -3,7 +3,7 @@ use Rattle.std.specs.Prelude.{slice_index}
 use Rattle.std.proofs.lemmas.Result.{IfOk-weaker}
 use Rattle.nd_shape_and_slice.specs.Maps.{collapsed_shape}
 use Rattle.nd_array_core.specs.Meaning.{meaning_of, shape_of, element_at}
-use Rattle.nd_array_core.specs.base.Storages.{shown_by}
+use Rattle.nd_storage.specs.Storages.{shown_by}
 use Rattle.nd_array_core.proofs.Selecting.{selected_more, row_shown, box_has}
 use Rattle.nd_array_core.proofs.along.selection.selected_row.Goals as goal
 

@@ -2,8 +2,8 @@ use Rattle.std.proofs.Common.{◌≡◌, ◌∙◌, true, ap, sym, arith}
 use Rattle.std.specs.Cmp.Lexicographic.{pointwise}
 use Rattle.nd_shape_and_slice.specs.Shape.{size_of}
 use Rattle.nd_array_core.specs.Meaning.{meaning_of}
-use Rattle.nd_array_core.specs.Collected.{collected, stored_by_rank}
-use Rattle.nd_array_core.proofs.Comparing.{all_compared, ours_along, theirs_along, lane_more, lane_differs}
+use Rattle.nd_storage.specs.Collected.{collected, stored_by_rank}
+use Rattle.nd_storage.proofs.Comparing.{all_compared, ours_along, theirs_along, lane_more, lane_differs}
 use Rattle.nd_array_core.proofs.elements.equality.equal_by_lanes.Goals as goal
 
 pub lanes_equal-requires-clause-ours : goal.lanes_equal-requires-clause-ours

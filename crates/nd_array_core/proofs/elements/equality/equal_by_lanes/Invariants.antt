@@ -1,7 +1,7 @@
 use Rattle.std.specs.Prelude.{◌≡◌, ◌-◌, true}
 use Rattle.std.specs.Cmp.Lexicographic.{pointwise}
 use Rattle.nd_shape_and_slice.specs.Shape.{size_of}
-use Rattle.nd_array_core.specs.Collected.{collected, stored_by_rank}
+use Rattle.nd_storage.specs.Collected.{collected, stored_by_rank}
 use Rattle.nd_array_core.proofs.elements.equality.equal_by_lanes.Given as goal
 
 abbrev pub invariant-loop-lane : goal.invariant-loop-lane

@@ -1,7 +1,7 @@
 use Rattle.std.proofs.Common.{◌∙◌, ap}
 use Rattle.std.specs.List.{fold, flat_map}
 use Rattle.nd_array_core.specs.Meaning.{meaning_of}
-use Rattle.nd_array_core.proofs.Collecting.{joined_has, joined_elements}
+use Rattle.nd_storage.proofs.Collecting.{joined_has, joined_elements}
 use Rattle.nd_array_core.proofs.elements.hashing.hash_by_lanes.Goals as goal
 
 pub hash_places-requires-clause-holds : goal.hash_places-requires-clause-holds

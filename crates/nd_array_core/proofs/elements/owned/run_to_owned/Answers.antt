@@ -2,8 +2,9 @@ use Rattle.std.proofs.Common.{◌≡◌, ◌∙◌, sym, subst}
 use Rattle.std.specs.Prelude.{slice_get}
 use Rattle.nd_shape_and_slice.specs.Place.{place_of}
 use Rattle.nd_layout.specs.Strides.{reach_down}
-use Rattle.nd_array_core.specs.Meaning.{meaning_of, memory_layout_of, inside}
-use Rattle.nd_array_core.specs.Places.{stored_at}
+use Rattle.nd_array_core.specs.Meaning.{meaning_of, memory_layout_of}
+use Rattle.nd_storage.specs.Meaning.{inside}
+use Rattle.nd_storage.specs.Places.{stored_at}
 use Rattle.nd_array_core.specs.reshape.RunSlices.{IsInMemoryOrder}
 use Rattle.nd_array_core.proofs.MemoryOrder.{lies_clones}
 use Rattle.nd_array_core.proofs.elements.owned.run_to_owned.Goals as goal

@@ -1,12 +1,12 @@
 use Rattle.std.proofs.Common.{◌≡◌, ◌∙◌, ℕ, [], List}
 use Rattle.nd_shape_and_slice.specs.Shape.{size_of, index_at}
 use Rattle.nd_shape_and_slice.specs.declared.builder.Order.TheVariants.{RowMajor}
-use Rattle.nd_array_core.specs.Collected.{stored_by_rank}
+use Rattle.nd_storage.specs.Collected.{stored_by_rank}
 use Rattle.nd_array_core.specs.Meaning.{meaning_of, element_at}
-use Rattle.nd_array_core.specs.base.Fresh.{found_by_rank}
-use Rattle.nd_array_core.specs.elements.Maps.{AnswersValue, MayBeGiven, AnswersBehind}
-use Rattle.nd_array_core.proofs.Collecting.{joined_has, joined_clones}
-use Rattle.nd_array_core.proofs.Mapped.{joined_numbers, joined_there, joined_shows, indexes_taken, indexes_answered}
+use Rattle.nd_storage.specs.ByRank.{found_by_rank}
+use Rattle.nd_storage.specs.elements.Maps.{AnswersValue, MayBeGiven, AnswersBehind}
+use Rattle.nd_storage.proofs.Collecting.{joined_has, joined_clones}
+use Rattle.nd_storage.proofs.Mapped.{joined_numbers, joined_there, joined_shows, indexes_taken, indexes_answered}
 use Rattle.nd_array_core.proofs.elements.values.mapv_in_order.Goals as goal
 
 pub value_places-requires-clause-holds : goal.value_places-requires-clause-holds

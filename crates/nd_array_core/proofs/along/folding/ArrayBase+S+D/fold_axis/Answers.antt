@@ -2,7 +2,7 @@ use Rattle.std.proofs.Common.{◌≡◌, ◌∙◌, List, ℕ, refl}
 use Rattle.nd_shape_and_slice.specs.Maps.{indexed_shape}
 use Rattle.nd_shape_and_slice.specs.declared.builder.Order.TheVariants.{RowMajor}
 use Rattle.nd_array_core.specs.Meaning.{meaning_of, element_at}
-use Rattle.nd_array_core.specs.base.Fresh.{found_by_rank}
+use Rattle.nd_storage.specs.ByRank.{found_by_rank}
 use Rattle.nd_array_core.proofs.AxisFolds.{axis_folded}
 use Rattle.nd_array_core.proofs.along.folding.ArrayBase+S+D.fold_axis.Goals as goal
 

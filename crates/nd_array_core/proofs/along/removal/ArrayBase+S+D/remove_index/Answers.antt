@@ -1,8 +1,9 @@
 use Rattle.std.proofs.Common.{◌∙◌, ap}
 use Rattle.std.specs.Prelude.{slice_index}
 use Rattle.nd_shape_and_slice.specs.Shape.{in_box}
-use Rattle.nd_array_core.specs.Meaning.{shape_of, element_at, storage_of, place_at, inside}
-use Rattle.nd_array_core.specs.along.Removed.{removed_shape}
+use Rattle.nd_array_core.specs.Meaning.{shape_of, element_at, storage_of, place_at}
+use Rattle.nd_storage.specs.Meaning.{inside}
+use Rattle.nd_storage.specs.along.Removed.{removed_shape}
 use Rattle.nd_array_core.proofs.Removing.{front_by, sliced_through, front_shown, removed_shown, removed_stored}
 use Rattle.nd_array_core.proofs.along.removal.ArrayBase+S+D.remove_index.Goals as goal
 

@@ -5,11 +5,12 @@ use Rattle.nd_shape_and_slice.specs.Place.{place_of}
 use Rattle.nd_shape_and_slice.proofs.RankIndexes.{in_box-index_at}
 use Rattle.nd_layout.specs.Steps.{IsViewStep}
 use Rattle.nd_layout.specs.Walk.{place_at_rank}
-use Rattle.nd_array_core.specs.Meaning.{meaning_of, memory_layout_of, inside}
-use Rattle.nd_array_core.specs.Places.{stored_at}
-use Rattle.nd_array_core.specs.elements.Assigns.{IsAssignedTo, IsPartlyAssigned}
-use Rattle.nd_array_core.proofs.Assigned.{assigned_partly, partly_holds, assigned_at, partly_at, either_way, on_ok, on_err}
-use Rattle.nd_array_core.proofs.Paired.{in_row_major, ranks_apart, seen_by_rank, element_at_rank, shown_by_rank, others_stay}
+use Rattle.nd_array_core.specs.Meaning.{meaning_of, memory_layout_of}
+use Rattle.nd_storage.specs.Meaning.{inside}
+use Rattle.nd_storage.specs.Places.{stored_at}
+use Rattle.nd_storage.specs.elements.Assigns.{IsAssignedTo, IsPartlyAssigned}
+use Rattle.nd_storage.proofs.Assigned.{assigned_partly, partly_holds, assigned_at, partly_at, either_way, on_ok, on_err}
+use Rattle.nd_storage.proofs.Paired.{in_row_major, ranks_apart, seen_by_rank, element_at_rank, shown_by_rank, others_stay}
 use Rattle.nd_array_core.proofs.elements.assigns.ArrayBase+S+D.assign.Goals as goal
 
 pub assign_places-requires-clause-apart : goal.assign_places-requires-clause-apart

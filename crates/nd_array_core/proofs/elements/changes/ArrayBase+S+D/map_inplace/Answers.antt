@@ -2,11 +2,12 @@ use Rattle.std.proofs.Common.{refl}
 use Rattle.nd_shape_and_slice.specs.Shape.{size_of}
 use Rattle.nd_layout.specs.Walk.{place_at_rank}
 use Rattle.nd_shape_and_slice.specs.Place.{place_of}
-use Rattle.nd_array_core.specs.Meaning.{meaning_of, inside}
-use Rattle.nd_array_core.specs.Places.{stored_at}
-use Rattle.nd_array_core.specs.elements.Changes.{IsChangedTo}
-use Rattle.nd_array_core.proofs.WriteStep.{one_index}
-use Rattle.nd_array_core.proofs.Changed.{ranks_distinct, places_changeable, changes_all, changed_holds, changes_settled}
+use Rattle.nd_array_core.specs.Meaning.{meaning_of}
+use Rattle.nd_storage.specs.Meaning.{inside}
+use Rattle.nd_storage.specs.Places.{stored_at}
+use Rattle.nd_storage.specs.elements.Changes.{IsChangedTo}
+use Rattle.nd_storage.proofs.WriteStep.{one_index}
+use Rattle.nd_storage.proofs.Changed.{ranks_distinct, places_changeable, changes_all, changed_holds, changes_settled}
 use Rattle.nd_array_core.proofs.elements.changes.ArrayBase+S+D.map_inplace.Goals as goal
 
 pub change_places-requires-clause-apart : goal.change_places-requires-clause-apart

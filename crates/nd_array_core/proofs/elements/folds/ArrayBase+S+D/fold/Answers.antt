@@ -1,8 +1,8 @@
 use Rattle.nd_shape_and_slice.specs.Shape.{size_of}
 use Rattle.nd_layout.specs.Walk.{place_at_rank}
 use Rattle.nd_array_core.specs.Meaning.{meaning_of}
-use Rattle.nd_array_core.specs.elements.Folds.{FoldsPlaces}
-use Rattle.nd_array_core.proofs.Folded.{places_foldable, folds_all, folds_settled}
+use Rattle.nd_storage.specs.elements.Folds.{FoldsPlaces}
+use Rattle.nd_storage.proofs.Folded.{places_foldable, folds_all, folds_settled}
 use Rattle.nd_array_core.proofs.elements.folds.ArrayBase+S+D.fold.Goals as goal
 
 pub fold_places-f-requires-clause-callable : goal.fold_places-f-requires-clause-callable

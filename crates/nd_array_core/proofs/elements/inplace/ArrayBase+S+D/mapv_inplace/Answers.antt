@@ -2,15 +2,16 @@ use Rattle.std.proofs.Common.{◌∙◌, refl, sym}
 use Rattle.nd_shape_and_slice.specs.Shape.{size_of}
 use Rattle.nd_shape_and_slice.specs.Place.{place_of}
 use Rattle.nd_layout.specs.Walk.{place_at_rank}
-use Rattle.nd_array_core.specs.Collected.{stored_by_rank}
-use Rattle.nd_array_core.specs.Meaning.{meaning_of, element_at, inside}
-use Rattle.nd_array_core.specs.Places.{stored_at}
-use Rattle.nd_array_core.specs.elements.Changes.{IsChangedBy}
-use Rattle.nd_array_core.specs.elements.Maps.{AnswersValue, MayBeGiven, Replaces, IsReplacedInPart}
-use Rattle.nd_array_core.proofs.WriteStep.{one_index}
-use Rattle.nd_array_core.proofs.Folded.{rearranged_numbers}
-use Rattle.nd_array_core.proofs.Mapped.{indexes_taken, rearranged_there, answers_alike, value_by, on_err_from}
-use Rattle.nd_array_core.proofs.Replaced.{ranks_apart, replaced_all, replaced_part, old_or_mapped}
+use Rattle.nd_storage.specs.Collected.{stored_by_rank}
+use Rattle.nd_array_core.specs.Meaning.{meaning_of, element_at}
+use Rattle.nd_storage.specs.Meaning.{inside}
+use Rattle.nd_storage.specs.Places.{stored_at}
+use Rattle.nd_storage.specs.elements.Changes.{IsChangedBy}
+use Rattle.nd_storage.specs.elements.Maps.{AnswersValue, MayBeGiven, Replaces, IsReplacedInPart}
+use Rattle.nd_storage.proofs.WriteStep.{one_index}
+use Rattle.nd_storage.proofs.Folded.{rearranged_numbers}
+use Rattle.nd_storage.proofs.Mapped.{indexes_taken, rearranged_there, answers_alike, value_by, on_err_from}
+use Rattle.nd_storage.proofs.Replaced.{ranks_apart, replaced_all, replaced_part, old_or_mapped}
 use Rattle.nd_array_core.proofs.elements.inplace.ArrayBase+S+D.mapv_inplace.Goals as goal
 
 pub replace_places-requires-clause-apart : goal.replace_places-requires-clause-apart

@@ -1,8 +1,8 @@
 use Rattle.std.proofs.Common.{◌≡◌, ◌∙◌, ap, sym, subst, length, IfOk}
 use Rattle.std.specs.Prelude.{vec_len}
 use Rattle.nd_array_core.specs.Meaning.{meaning_of}
-use Rattle.nd_array_core.specs.base.Fresh.{StoredClonesAreEqual}
-use Rattle.nd_array_core.proofs.Collecting.{elements_equal_clones, elements_count}
+use Rattle.nd_storage.specs.Clones.{StoredClonesAreEqual}
+use Rattle.nd_storage.proofs.Collecting.{elements_equal_clones, elements_count}
 use Rattle.nd_array_core.proofs.elements.listing.ArrayBase+S+D.to_vec.Goals as goal
 
 pub clones_of-requires : goal.clones_of-requires

@@ -3,18 +3,19 @@ use Rattle.nd_shape_and_slice.specs.Shape.{size_of, index_at}
 use Rattle.nd_shape_and_slice.specs.Place.{place_of}
 use Rattle.nd_shape_and_slice.specs.declared.builder.Order.TheVariants.{RowMajor}
 use Rattle.nd_layout.specs.Walk.{place_at_rank}
-use Rattle.nd_array_core.specs.Collected.{stored_by_rank}
-use Rattle.nd_array_core.specs.Places.{stored_at}
-use Rattle.nd_array_core.specs.Meaning.{meaning_of, memory_layout_of, element_at, inside}
-use Rattle.nd_array_core.specs.base.Fresh.{found_by_rank}
-use Rattle.nd_array_core.specs.elements.Changes.{IsChangedBy}
-use Rattle.nd_array_core.specs.elements.Maps.{Replaces}
-use Rattle.nd_array_core.specs.elements.MapsMut.{LeavesAndAnswers, MayBeHanded, Collects}
-use Rattle.nd_array_core.proofs.WriteStep.{one_index}
-use Rattle.nd_array_core.proofs.Collecting.{joined_has}
-use Rattle.nd_array_core.proofs.Mapped.{joined_numbers, joined_there, joined_shows, indexes_taken}
-use Rattle.nd_array_core.proofs.Replaced.{ranks_apart}
-use Rattle.nd_array_core.proofs.Paired.{others_stay}
+use Rattle.nd_storage.specs.Collected.{stored_by_rank}
+use Rattle.nd_storage.specs.Places.{stored_at}
+use Rattle.nd_array_core.specs.Meaning.{meaning_of, memory_layout_of, element_at}
+use Rattle.nd_storage.specs.Meaning.{inside}
+use Rattle.nd_storage.specs.ByRank.{found_by_rank}
+use Rattle.nd_storage.specs.elements.Changes.{IsChangedBy}
+use Rattle.nd_storage.specs.elements.Maps.{Replaces}
+use Rattle.nd_storage.specs.elements.MapsMut.{LeavesAndAnswers, MayBeHanded, Collects}
+use Rattle.nd_storage.proofs.WriteStep.{one_index}
+use Rattle.nd_storage.proofs.Collecting.{joined_has}
+use Rattle.nd_storage.proofs.Mapped.{joined_numbers, joined_there, joined_shows, indexes_taken}
+use Rattle.nd_storage.proofs.Replaced.{ranks_apart}
+use Rattle.nd_storage.proofs.Paired.{others_stay}
 use Rattle.nd_array_core.proofs.Handed.{joined_order, collects_taken, handed_answered, handed_there, handed_left, handed_seen}
 use Rattle.nd_array_core.proofs.elements.maps_mut.ArrayBase+S+D.map_mut.Goals as goal
 

@@ -4,11 +4,11 @@ use Rattle.nd_shape_and_slice.specs.Shape.{size_of, index_at}
 use Rattle.nd_shape_and_slice.proofs.RankIndexes.{in_box-index_at}
 use Rattle.nd_layout.specs.Walk.{place_at_rank}
 use Rattle.nd_array_core.specs.Meaning.{meaning_of, memory_layout_of}
-use Rattle.nd_array_core.specs.Places.{stored_at}
-use Rattle.nd_array_core.specs.elements.Assigns.{IsAssignedTo}
-use Rattle.nd_array_core.specs.elements.Changes.{AreDistinct}
-use Rattle.nd_array_core.proofs.Moved.{theirs_hold, moved_at, moved_holds}
-use Rattle.nd_array_core.proofs.Paired.{in_row_major, ranks_apart, others_stay}
+use Rattle.nd_storage.specs.Places.{stored_at}
+use Rattle.nd_storage.specs.elements.Assigns.{IsAssignedTo}
+use Rattle.nd_storage.specs.elements.Changes.{AreDistinct}
+use Rattle.nd_storage.proofs.Moved.{theirs_hold, moved_at, moved_holds}
+use Rattle.nd_storage.proofs.Paired.{in_row_major, ranks_apart, others_stay}
 use Rattle.nd_array_core.proofs.elements.moves.Array+A+D.move_into.Goals as goal
 
 pub exchange_places-requires-clause-apart : goal.exchange_places-requires-clause-apart

@@ -5,10 +5,11 @@ use Rattle.nd_shape_and_slice.specs.Place.{place_of}
 use Rattle.nd_shape_and_slice.proofs.RankIndexes.{in_box-index_at}
 use Rattle.nd_layout.specs.Steps.{IsViewStep}
 use Rattle.nd_layout.specs.Walk.{place_at_rank}
-use Rattle.nd_array_core.specs.Meaning.{meaning_of, memory_layout_of, inside}
-use Rattle.nd_array_core.specs.Places.{stored_at}
-use Rattle.nd_array_core.specs.elements.Pairs.{IsZippedTo}
-use Rattle.nd_array_core.proofs.Paired.{in_row_major, ranks_apart, seen_by_rank, element_by_rank, places_zippable, zipped_holds, zips_all, zips_settled, others_stay}
+use Rattle.nd_array_core.specs.Meaning.{meaning_of, memory_layout_of}
+use Rattle.nd_storage.specs.Meaning.{inside}
+use Rattle.nd_storage.specs.Places.{stored_at}
+use Rattle.nd_storage.specs.elements.Pairs.{IsZippedTo}
+use Rattle.nd_storage.proofs.Paired.{in_row_major, ranks_apart, seen_by_rank, element_by_rank, places_zippable, zipped_holds, zips_all, zips_settled, others_stay}
 use Rattle.nd_array_core.proofs.elements.pairs.ArrayBase+S+D.zip_mut_with.Goals as goal
 
 pub zip_places-requires-clause-apart : goal.zip_places-requires-clause-apart

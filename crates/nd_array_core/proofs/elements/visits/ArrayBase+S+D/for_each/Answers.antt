@@ -1,9 +1,9 @@
 use Rattle.nd_shape_and_slice.specs.Shape.{size_of}
-use Rattle.nd_array_core.specs.Collected.{stored_by_rank}
+use Rattle.nd_storage.specs.Collected.{stored_by_rank}
 use Rattle.nd_array_core.specs.Meaning.{meaning_of}
-use Rattle.nd_array_core.specs.elements.Maps.{AnswersElement, MayBeShown, RanNumbered}
-use Rattle.nd_array_core.proofs.Folded.{rearranged_numbers}
-use Rattle.nd_array_core.proofs.Mapped.{rearranged_there, indexes_taken, indexes_visited}
+use Rattle.nd_storage.specs.elements.Maps.{AnswersElement, MayBeShown, RanNumbered}
+use Rattle.nd_storage.proofs.Folded.{rearranged_numbers}
+use Rattle.nd_storage.proofs.Mapped.{rearranged_there, indexes_taken, indexes_visited}
 use Rattle.nd_array_core.proofs.elements.visits.ArrayBase+S+D.for_each.Goals as goal
 
 pub show_places-requires-clause-callable : goal.show_places-requires-clause-callable

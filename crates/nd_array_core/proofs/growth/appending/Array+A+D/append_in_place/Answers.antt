@@ -2,7 +2,7 @@ use Rattle.std.proofs.Common.{ap, get_or, refl}
 use Rattle.nd_layout.specs.Placements.{placement_of}
 use Rattle.nd_array_core.specs.Meaning.{meaning_of, memory_layout_of}
 use Rattle.nd_array_core.proofs.Appending.{fits_more, grown_count, grown_or_kept, joined_shown, on_both}
-use Rattle.nd_array_core.proofs.Assigned.{on_err}
+use Rattle.nd_storage.proofs.Assigned.{on_err}
 use Rattle.nd_array_core.proofs.GrownArrays.{goes_behind, laid_behind}
 use Rattle.nd_array_core.proofs.growth.appending.Array+A+D.append_in_place.Goals as goal
 

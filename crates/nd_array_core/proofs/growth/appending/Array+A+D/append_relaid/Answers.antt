@@ -5,7 +5,7 @@ use Rattle.nd_array_core.specs.Meaning.{meaning_of, memory_layout_of}
 use Rattle.nd_array_core.specs.growth.Grown.{lies}
 use Rattle.nd_array_core.specs.Joined.{concatenated}
 use Rattle.nd_array_core.proofs.Appending.{fits_more, same_at}
-use Rattle.nd_array_core.proofs.Assigned.{on_ok, on_err}
+use Rattle.nd_storage.proofs.Assigned.{on_ok, on_err}
 use Rattle.nd_array_core.proofs.GrownArrays.{laid_anew, moves_by}
 use Rattle.nd_array_core.proofs.growth.appending.Array+A+D.append_relaid.Goals as goal
 

@@ -2,7 +2,7 @@ use Rattle.std.proofs.Common.{ap, refl}
 use Rattle.nd_layout.specs.Placements.{placement_of}
 use Rattle.nd_array_core.specs.Meaning.{meaning_of, memory_layout_of}
 use Rattle.nd_array_core.proofs.Appending.{fits_axis, on_both, same_none}
-use Rattle.nd_array_core.proofs.Assigned.{on_err}
+use Rattle.nd_storage.proofs.Assigned.{on_err}
 use Rattle.nd_array_core.proofs.FreshStorage.{fresh_or_none, fresh_joined}
 use Rattle.nd_array_core.proofs.GrownArrays.{goes_fresh, laid_fresh, ready_fresh}
 use Rattle.nd_array_core.proofs.growth.appending.Array+A+D.append_to_none.Goals as goal

@@ -3,8 +3,8 @@ use Rattle.std.proofs.lemmas.List.{length-set}
 use Rattle.nd_shape_and_slice.specs.Shape.{in_box}
 use Rattle.nd_array_core.specs.Joined.{concatenated}
 use Rattle.nd_array_core.specs.Meaning.{meaning_of, shape_of, storage_of}
-use Rattle.nd_array_core.specs.base.Fresh.{ClonesOfAllAreEqual}
-use Rattle.nd_array_core.specs.base.Storages.{room_of, stored_list}
+use Rattle.nd_storage.specs.Clones.{ClonesOfAllAreEqual}
+use Rattle.nd_storage.specs.Storages.{room_of, stored_list}
 use Rattle.nd_array_core.specs.growth.Appended.{IsAppendRefused}
 use Rattle.nd_array_core.specs.growth.Grown.{IsNotForMemory, LeavesRoom}
 use Rattle.nd_array_core.specs.growth.InTurn.{lengths_along, meanings_of}

@@ -1,6 +1,6 @@
 use Rattle.std.specs.Prelude.{◌≡◌, ◌<◌, ◌≤◌, length, take}
 use Rattle.nd_array_core.specs.Meaning.{meaning_of, shape_of, storage_of}
-use Rattle.nd_array_core.specs.base.Storages.{room_of}
+use Rattle.nd_storage.specs.Storages.{room_of}
 use Rattle.nd_array_core.specs.growth.Grown.{GoesOn, IsReadyAlong, LeavesRoom}
 use Rattle.nd_array_core.specs.growth.InTurn.{joined_in_turn, lengths_along, meanings_of}
 use Rattle.nd_array_core.proofs.growth.in_turn.Array+A+D.append_each.Given as goal

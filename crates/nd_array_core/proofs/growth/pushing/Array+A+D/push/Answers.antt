@@ -5,7 +5,7 @@ use Rattle.nd_array_core.specs.Laws.{with_axis_inserted}
 use Rattle.nd_shape_and_slice.specs.Maps.{inserted_index, inserted_shape}
 use Rattle.nd_array_core.specs.growth.Appended.{IsJoiningRefused}
 use Rattle.nd_array_core.proofs.Appending.{same_at}
-use Rattle.nd_array_core.proofs.Assigned.{on_ok}
+use Rattle.nd_storage.proofs.Assigned.{on_ok}
 use Rattle.nd_array_core.specs.growth.Grown.{NeedsOnlyClones, IsNotForMemory, LeavesRoom}
 use Rattle.nd_array_core.specs.growth.Reserved.{HasRoomAlong}
 use Rattle.nd_array_core.proofs.CloneRefusals.{part_refused}

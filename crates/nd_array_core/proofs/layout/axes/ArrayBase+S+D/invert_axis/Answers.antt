@@ -3,8 +3,9 @@ use Rattle.nd_array_core.proofs.StepLemmas.{step_holds, step_element}
 use Rattle.nd_layout.proofs.steps.StepLemmas.{step_separated}
 use Rattle.nd_shape_and_slice.specs.Maps.{inverted_index}
 use Rattle.nd_shape_and_slice.specs.Place.{place_of}
-use Rattle.nd_array_core.specs.Places.{stored_at}
-use Rattle.nd_array_core.specs.Meaning.{inside, meaning_of, memory_layout_of}
+use Rattle.nd_storage.specs.Places.{stored_at}
+use Rattle.nd_storage.specs.Meaning.{inside}
+use Rattle.nd_array_core.specs.Meaning.{meaning_of, memory_layout_of}
 use Rattle.nd_array_core.proofs.layout.axes.ArrayBase+S+D.invert_axis.Goals as goal
 
 pub invariant_of-self : goal.invariant_of-self

@@ -1,6 +1,6 @@
 use Rattle.std.proofs.Common.{◌∙◌}
 use Rattle.nd_array_core.specs.Meaning.{meaning_of, memory_layout_of}
-use Rattle.nd_array_core.specs.base.Storages.{shown_by}
+use Rattle.nd_storage.specs.Storages.{shown_by}
 use Rattle.nd_array_core.proofs.MemoryOrder.{run_has, run_lies}
 use Rattle.nd_array_core.proofs.reshape.slices.ArrayView+A+D.to_slice_memory_order.Goals as goal
 

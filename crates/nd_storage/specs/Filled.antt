@@ -1,0 +1,15 @@
+-- What a storage holds once one value was written at one place after another.
+use Rattle.std.specs.Prelude.{◌≡◌, ◌⊎◌, ℕ, ◌<◌, ℤ, pos, Option, Some}
+use Rattle.nd_storage.specs.Places.{stored_at}
+
+module _ {A : Type 0} (place : ℕ → ℤ) (count : ℕ) (x : A) (old new : ℕ → Option A) where
+  -- nothing else was written than x, and nowhere else than at that many places
+  pub record IsPartlyFilled : Type 0 where
+    pub left : (p : ℕ) → ((k : ℕ) → k < count → place k ≡ pos p → ⊥) → new p ≡ old p
+    pub each : (p : ℕ) → (new p ≡ old p) ⊎ (new p ≡ Some x)
+
+  -- x stands at that many places, and all others are as they were
+  pub record IsFilledTo : Type 0 where
+    pub done : (k : ℕ) → k < count → stored_at new (place k) ≡ Some x
+    pub left : (p : ℕ) → ((k : ℕ) → k < count → place k ≡ pos p → ⊥) → new p ≡ old p
+    pub each : (p : ℕ) → (new p ≡ old p) ⊎ (new p ≡ Some x)

@@ -1,0 +1,4 @@
+pub mod Accumulated
+pub mod AxisLanes
+pub mod Removed
+pub mod Rising

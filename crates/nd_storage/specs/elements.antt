@@ -1,0 +1,6 @@
+pub mod Assigns
+pub mod Changes
+pub mod Folds
+pub mod Maps
+pub mod MapsMut
+pub mod Pairs

@@ -1,0 +1,2 @@
+pub mod LaidToGrow
+pub mod Taken

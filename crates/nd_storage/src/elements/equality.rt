@@ -1,0 +1,79 @@
+//! Equality of arrays.
+
+ghost use Rattle.std.specs.Prelude.{◌≡◌, ◌+◌, ◌<◌, ◌≤◌, ℕ, true, is_some, length};
+ghost use Rattle.std.specs.Cmp.Lexicographic.{pointwise};
+ghost use Rattle.nd_storage.specs.Collected.{collected, stored_along};
+
+use crate::storage::Data;
+use nd_layout::Lane;
+use nd_shape_and_slice::{Dimension, StrideList};
+
+/// How many elements are compared between two tests whether to go on.
+const BLOCK: usize = 64;
+
+/// Whether the items of two blocks are equal.
+fn blocks_equal<A: PartialEq>(xs: &[A], ys: &[A]) -> bool
+    requires { (length xs.now ≡ 64) × (length ys.now ≡ 64) }
+    ensures { result ≡ pointwise A.eq xs.now ys.now }
+{
+    let mut same = true;
+    for nth in 0..BLOCK {
+        same = same & xs[nth].eq(&ys[nth]);
+    }
+    same
+}
+
+/// Whether the items of two slices of one length are equal.
+pub fn slices_equal<A: PartialEq>(xs: &[A], ys: &[A]) -> bool
+    requires { length ys.now ≡ length xs.now }
+    ensures { result ≡ pointwise A.eq xs.now ys.now }
+{
+    let (mut ours, mut theirs) = (xs, ys);
+    while ours.len() >= BLOCK {
+        let (block, rest) = ours.split_at(BLOCK);
+        let (other, others) = theirs.split_at(BLOCK);
+        if !blocks_equal(block, other) {
+            return false;
+        }
+        (ours, theirs) = (rest, others);
+    }
+    ours == theirs
+}
+
+/// Whether that many elements along two lanes are equal, from a number on.
+fn block_equal<S: Data>(a: &S, ours: Lane, b: &S, theirs: Lane, from: usize, count: usize) -> bool
+where
+    S::Elem: PartialEq,
+    requires within { (from + count ≤ ours.count) × (from + count ≤ theirs.count) }
+    requires ours { (k : ℕ) → k < ours.count → is_some (stored_along (S.stored a.now) ours.place ours.stride k) ≡ true }
+    requires theirs { (k : ℕ) → k < theirs.count → is_some (stored_along (S.stored b.now) theirs.place theirs.stride k) ≡ true }
+    ensures { result ≡ pointwise S.Elem.eq (collected (λ k. stored_along (S.stored a.now) ours.place ours.stride (from + k)) count) (collected (λ k. stored_along (S.stored b.now) theirs.place theirs.stride (from + k)) count) }
+{
+    let mut same = true;
+    for nth in 0..count {
+        let x = a.element(ours.place_of(from + nth));
+        let y = b.element(theirs.place_of(from + nth));
+        same = same & x.eq(y);
+    }
+    same
+}
+
+/// Whether the elements along two lanes are equal.
+pub fn lanes_equal<S: Data>(a: &S, ours: Lane, b: &S, theirs: Lane) -> bool
+where
+    S::Elem: PartialEq,
+    requires as_long { theirs.count ≡ ours.count }
+    requires ours { (k : ℕ) → k < ours.count → is_some (stored_along (S.stored a.now) ours.place ours.stride k) ≡ true }
+    requires theirs { (k : ℕ) → k < theirs.count → is_some (stored_along (S.stored b.now) theirs.place theirs.stride k) ≡ true }
+    ensures { result ≡ pointwise S.Elem.eq (collected (stored_along (S.stored a.now) ours.place ours.stride) ours.count) (collected (stored_along (S.stored b.now) theirs.place theirs.stride) ours.count) }
+{
+    let mut from = 0;
+    while from < ours.count {
+        let count = (ours.count - from).min(BLOCK);
+        if !block_equal(a, ours, b, theirs, from, count) {
+            return false;
+        }
+        from += count;
+    }
+    true
+}

@@ -1,0 +1,87 @@
+//! Elements moved out of an array into another one.
+
+ghost use Rattle.std.specs.Prelude.{◌≡◌, ◌<◌, ◌≤◌, ℕ, true, IsSome, pos, length, ◌+ℤ◌, ◌*ℤ◌};
+ghost use Rattle.nd_shape_and_slice.specs.Shape.{size_of, HasCheckedSize};
+ghost use Rattle.nd_layout.specs.Places.{ReachesPlaces};
+ghost use Rattle.nd_layout.specs.Walk.{place_at_rank};
+ghost use Rattle.nd_storage.specs.Places.{names_place, stored_at};
+ghost use Rattle.nd_storage.specs.elements.Assigns.{IsAssignedTo};
+ghost use Rattle.nd_storage.specs.elements.Changes.{AreDistinct};
+
+use crate::storage::DataMut;
+use nd_layout::{Lane, Lanes};
+use nd_shape_and_slice::{Dimension, StrideList};
+use std::mem;
+
+/// Exchanges the element at a place with that at a place of a second storage.
+fn exchange<A, S: DataMut<Elem = A>, Z: DataMut<Elem = A>>(
+    storage: &mut S,
+    place: usize,
+    others: &mut Z,
+    other: usize,
+)
+    requires holds { IsSome (S.stored storage.old place) }
+    requires other_holds { IsSome (Z.stored others.old other) }
+    ensures put { S.stored storage.new place ≡ Z.stored others.old other }
+    ensures taken { Z.stored others.new other ≡ S.stored storage.old place }
+    ensures left { (p : ℕ) → (p ≡ place → ⊥) → S.stored storage.new p ≡ S.stored storage.old p }
+    ensures other_left { (p : ℕ) → (p ≡ other → ⊥) → Z.stored others.new p ≡ Z.stored others.old p }
+    ensures frame { S.frame storage.new ≡ S.frame storage.old }
+{
+    mem::swap(storage.element_mut(place), others.element_mut(other));
+}
+
+/// Exchanges the elements of a lane with those along a second one.
+fn exchange_lane<A, S: DataMut<Elem = A>, Z: DataMut<Elem = A>>(
+    storage: &mut S,
+    lane: Lane,
+    others: &mut Z,
+    beside: Lane,
+)
+    requires as_long { beside.count ≡ lane.count }
+    requires apart { AreDistinct (λ k. pos lane.place +ℤ (pos k *ℤ lane.stride)) lane.count }
+    requires others_apart { AreDistinct (λ k. pos beside.place +ℤ (pos k *ℤ beside.stride)) lane.count }
+    requires holds { (k : ℕ) → k < lane.count → names_place (S.stored storage.old) (pos lane.place +ℤ (pos k *ℤ lane.stride)) ≡ true }
+    requires others_hold { (k : ℕ) → k < lane.count → names_place (Z.stored others.old) (pos beside.place +ℤ (pos k *ℤ beside.stride)) ≡ true }
+    ensures moved { IsAssignedTo (λ k. stored_at (Z.stored others.old) (pos beside.place +ℤ (pos k *ℤ beside.stride))) (λ k. pos lane.place +ℤ (pos k *ℤ lane.stride)) lane.count (S.stored storage.old) (S.stored storage.new) }
+    ensures back { IsAssignedTo (λ k. stored_at (S.stored storage.old) (pos lane.place +ℤ (pos k *ℤ lane.stride))) (λ k. pos beside.place +ℤ (pos k *ℤ beside.stride)) lane.count (Z.stored others.old) (Z.stored others.new) }
+    ensures frame { S.frame storage.new ≡ S.frame storage.old }
+{
+    for nth in 0..lane.count {
+        exchange(storage, lane.place_of(nth), others, beside.place_of(nth));
+    }
+}
+
+/// Exchanges the elements at the places of a layout with those that a second storage has at the places of the same indexes
+/// under other strides.
+pub fn exchange_places<A, S: DataMut<Elem = A>, Z: DataMut<Elem = A>>(
+    storage: &mut S,
+    first: usize,
+    lengths: &[usize],
+    strides: &[isize],
+    others: &mut Z,
+    from: usize,
+    steps: &[isize],
+)
+    requires as_many { length strides.now ≡ length lengths.now }
+    requires steps_as_many { length steps.now ≡ length lengths.now }
+    requires few { length lengths.now ≤ 32 }
+    requires checked { HasCheckedSize lengths.now }
+    requires reach { ReachesPlaces first lengths.now strides.now }
+    requires others_reach { ReachesPlaces from lengths.now steps.now }
+    requires apart { AreDistinct (place_at_rank first lengths.now strides.now) (size_of lengths.now) }
+    requires others_apart { AreDistinct (place_at_rank from lengths.now steps.now) (size_of lengths.now) }
+    requires holds { (rank : ℕ) → rank < size_of lengths.now → names_place (S.stored storage.old) (place_at_rank first lengths.now strides.now rank) ≡ true }
+    requires others_hold { (rank : ℕ) → rank < size_of lengths.now → names_place (Z.stored others.old) (place_at_rank from lengths.now steps.now rank) ≡ true }
+    ensures moved { IsAssignedTo (λ rank. stored_at (Z.stored others.old) (place_at_rank from lengths.now steps.now rank)) (place_at_rank first lengths.now strides.now) (size_of lengths.now) (S.stored storage.old) (S.stored storage.new) }
+    ensures frame { S.frame storage.new ≡ S.frame storage.old }
+{
+    let mut ours = Lanes::new(first, lengths, strides);
+    let mut theirs = Lanes::new(from, lengths, steps);
+    while let Some(lane) = ours.next() {
+        match theirs.next() {
+            Some(beside) => exchange_lane(storage, lane, others, beside),
+            None => unreachable!(),
+        }
+    }
+}

@@ -1,0 +1,4 @@
+//! Lists that new arrays are made of.
+
+pub mod functions;
+pub mod values;

@@ -1,0 +1,3 @@
+//! Elements moved into fresh storage.
+
+pub mod moving;
