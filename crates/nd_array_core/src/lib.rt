@@ -32,5 +32,7 @@ pub use base::errors::ArrayError;
 pub use base::indexing::IndexLonger;
 pub use base::writing::GetMut;
 pub use layout::splitting::MultiSliceArg;
+pub use nd_storage::storage::{
+    Data, DataMut, DataOwned, OwnedRepr, RegionRepr, ViewMutRepr, ViewRepr,
+};
 pub use reshape::either::{EitherArray, ViewOrOwned};
-pub use nd_storage::storage::{Data, DataMut, DataOwned, OwnedRepr, RegionRepr, ViewMutRepr, ViewRepr};

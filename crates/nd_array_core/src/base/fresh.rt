@@ -13,8 +13,8 @@ ghost use Rattle.nd_array_core.specs.base.Makers.{StoresItemsOf};
 
 use crate::base::array::Array;
 use crate::base::constructors::in_order;
-use nd_shape_and_slice::{Dimension, Ix1, NoMemory, Order, ShapeBuilder};
-use nd_storage::fresh::values::{repeated, defaults};
+use nd_shape_and_slice::{Dimension, IntoDimension, Ix1, NoMemory, Order, ShapeBuilder};
+use nd_storage::fresh::values::{defaults, repeated};
 use nd_storage::storage::OwnedRepr;
 use num_traits::{One, Zero};
 use std::alloc::Global;

@@ -11,7 +11,7 @@ ghost use Rattle.nd_array_core.specs.base.Makers.{ShowsAnswers, ShowsAnswersAlik
 use crate::base::array::Array;
 use crate::base::fresh::of_items;
 use nd_shape_and_slice::{Dimension, NoMemory, Order, ShapeBuilder, StrideList};
-use nd_storage::fresh::functions::{room_for, answers_by_index, answers_for_each};
+use nd_storage::fresh::functions::{answers_by_index, answers_for_each, room_for};
 use std::alloc::Global;
 
 /// The array of what the function answers for each index.

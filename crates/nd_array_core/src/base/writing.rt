@@ -11,11 +11,11 @@ ghost use Rattle.nd_array_core.specs.Meaning.{shape_of, element_at};
 ghost use Rattle.nd_array_core.specs.base.Writes.{IsWrittenAt, IsSwappedAt, IsAnyWrittenAt};
 ghost use Rattle.nd_array_core.specs.base.ElementLent.{IsAnyWritten, may_lend};
 
-use nd_shape_and_slice::{Dimension, NdIndex};
-use std::ops::IndexMut;
 use super::array::ArrayBase;
 use super::ends::last_place;
-use super::storage::{Data, DataMut};
+use nd_shape_and_slice::{Dimension, NdIndex};
+use nd_storage::storage::{Data, DataMut};
+use std::ops::IndexMut;
 
 impl<S: DataMut, D: Dimension> ArrayBase<S, D> {
     /// Writes the element at an index of the box (`get` tells which indexes are in it), and returns the old one. This

@@ -11,7 +11,7 @@ ghost use Rattle.std.specs.Cmp.{on_per, on_equiv};
 use crate::base::array::ArrayBase;
 use nd_layout::Lanes;
 use nd_shape_and_slice::{Dimension, StrideList};
-use nd_storage::elements::equality::{slices_equal, lanes_equal};
+use nd_storage::elements::equality::{lanes_equal, slices_equal};
 use nd_storage::storage::Data;
 
 /// Whether the elements of two arrays of one shape are equal, lane by lane.

@@ -14,7 +14,7 @@ use crate::elements::owned::{of_run, run_elements};
 use nd_layout::{is_run, reach_below};
 use nd_shape_and_slice::{Dimension, NoMemory, Order, StrideList};
 use nd_storage::elements::listing::room_of;
-use nd_storage::elements::maps::{answer_run, answer_places};
+use nd_storage::elements::maps::{answer_places, answer_run};
 use nd_storage::storage::Data;
 use std::alloc::Global;
 

@@ -16,7 +16,7 @@ use crate::elements::owned::{of_run, run_elements};
 use nd_layout::{is_run, reach_below};
 use nd_shape_and_slice::{Dimension, NoMemory, Order, StrideList};
 use nd_storage::elements::listing::room_of;
-use nd_storage::elements::values::{value_run, value_places};
+use nd_storage::elements::values::{value_places, value_run};
 use nd_storage::storage::Data;
 use std::alloc::Global;
 

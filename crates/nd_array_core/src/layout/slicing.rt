@@ -16,7 +16,9 @@ ghost use Rattle.nd_array_core.specs.layout.EachAxis.{ShowsEachSliced, BecomesEa
 
 use crate::base::array::{ArrayBase, ArrayView, ArrayViewMut};
 use nd_layout::Layout;
-use nd_shape_and_slice::{Axis, AxisCount, AxisDescription, Dimension, Slice, SliceArg, StrideList};
+use nd_shape_and_slice::{
+    Axis, AxisCount, AxisDescription, Dimension, Slice, SliceArg, StrideList,
+};
 use nd_storage::storage::{Data, DataMut};
 
 /// The layout of what a list of slices names. The list fits the shape.

@@ -15,7 +15,9 @@ use crate::reshape::copied::copied_in;
 use crate::reshape::either::{EitherArray, ViewOrOwned};
 use crate::reshape::serving::{served_layout, served_view};
 use crate::reshape::shapes::has_size;
-use nd_shape_and_slice::{Dimension, ErrorKind, IntoDimension, Ix1, NoMemory, Order, ShapeArg, ShapeError};
+use nd_shape_and_slice::{
+    Dimension, ErrorKind, IntoDimension, Ix1, NoMemory, Order, ShapeArg, ShapeError,
+};
 use nd_storage::storage::Data;
 use std::alloc::Global;
 

@@ -12,7 +12,10 @@ ghost use Rattle.nd_shape_and_slice.specs.declared.builder.Order.TheVariants.{Ro
 
 use crate::base::array::ArrayBase;
 use nd_layout::{Layout, is_standard};
-use nd_shape_and_slice::{Dimension, ErrorKind, IntoDimension, Order, ShapeArg, ShapeError, StrideList, default_strides, fortran_strides, size_of_shape_checked};
+use nd_shape_and_slice::{
+    Dimension, ErrorKind, IntoDimension, Order, ShapeArg, ShapeError, StrideList, default_strides,
+    fortran_strides, size_of_shape_checked,
+};
 use nd_storage::storage::Data;
 
 /// Whether each index lies at its rank in an order, from the offset on.

@@ -11,10 +11,10 @@ ghost use Rattle.nd_array_core.specs.scoped.PartTasks.{IsFilledWith, KeepsBut};
 ghost use Rattle.nd_array_core.specs.Part.{sliced_part};
 ghost use Rattle.nd_array_core.specs.scoped.Fills.{IsOldOrFilled, IsFilledWhere, FillsNamed, KeepsOtherIndexes, IsViewFilled, IsViewFilledInPart};
 
+use super::tasks::{LentView, ViewTask};
 use crate::base::array::ArrayBase;
 use nd_shape_and_slice::{Dimension, NoMemory, SliceArg};
 use nd_storage::storage::{DataMut, ViewMutRepr};
-use super::tasks::{LentView, ViewTask};
 
 /// The task that fills a view with one value. If a clone is refused, each index has its old element or the value.
 #[derive(Drop)]

@@ -10,13 +10,13 @@ ghost use Rattle.nd_layout.specs.Placements.{placement_of};
 ghost use Rattle.nd_array_core.specs.scoped.PartTasks.{AsksOfHalves, IsDoneOnHalves};
 ghost use Rattle.nd_array_core.specs.base.Writes.{KeepsFrame};
 
+use super::tasks::LentView;
 use crate::base::array::ArrayBase;
 use crate::layout::splitting::halves;
 use nd_layout::Layout;
 use nd_region::Region;
 use nd_shape_and_slice::{Axis, Dimension, StrideList};
 use nd_storage::storage::{DataMut, ViewMutRepr};
-use super::tasks::LentView;
 
 /// What a caller does with two mutable views that are lent for one call. A task gives back the storage of each, or of a
 /// part that it sliced it to, with the same borrows.

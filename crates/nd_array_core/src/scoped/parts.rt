@@ -9,12 +9,12 @@ ghost use Rattle.nd_array_core.specs.scoped.PartTasks.{AsksOfPart, IsDoneOnPart,
 ghost use Rattle.nd_array_core.specs.base.Writes.{KeepsFrame};
 ghost use Rattle.nd_array_core.specs.Part.{axis_part, diagonal_part, coordinate_part, sliced_part};
 
+use super::tasks::{ViewTask, with_placement};
 use crate::base::array::ArrayBase;
 use crate::layout::slicing::sliced_by;
 use nd_layout::Layout;
 use nd_shape_and_slice::{Axis, Dimension, Ix1, RemoveAxis, Slice, SliceArg, StrideList};
 use nd_storage::storage::DataMut;
-use super::tasks::{ViewTask, with_placement};
 
 /// The layout of what a slice names of one axis.
 fn sliced_on<D: Dimension, T: StrideList>(

@@ -5,11 +5,11 @@ ghost use Rattle.nd_array_core.specs.layout.MultiSlice.{TwoFit};
 ghost use Rattle.nd_array_core.specs.scoped.PartTasks.{AsksOfSlices, IsDoneOnSlices, KeepsButSlices};
 ghost use Rattle.nd_array_core.specs.base.Writes.{KeepsFrame};
 
+use super::pairs::{PairTask, with_placement_pair};
 use crate::base::array::ArrayBase;
 use crate::layout::slicing::sliced_by;
 use nd_shape_and_slice::{Dimension, SliceArg};
 use nd_storage::storage::DataMut;
-use super::pairs::{PairTask, with_placement_pair};
 
 impl<S: DataMut, D: Dimension> ArrayBase<S, D> {
     ghost use Rattle.nd_array_core.specs.Meaning.{shape_of};

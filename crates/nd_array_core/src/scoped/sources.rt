@@ -9,11 +9,11 @@ ghost use Rattle.nd_array_core.specs.scoped.Tasks.{LiesBy, array_placed_by, Asks
 ghost use Rattle.nd_layout.specs.Placements.{placement_of};
 ghost use Rattle.nd_array_core.specs.scoped.Sources.{meant_by, refusal_for, AsksOfSlice, IsDoneOnSlice, IsDoneByLayout, KeepsUnseen};
 
+use super::tasks::{ViewTask, run_on_placement};
 use crate::base::constructors::{GivenIn, laid_out};
 use nd_layout::Layout;
 use nd_shape_and_slice::{Dimension, IntoStrideShape, ShapeError, StrideList};
 use nd_storage::storage::part_of_slice;
-use super::tasks::{ViewTask, run_on_placement};
 
 /// Runs the task on a view of a slice, by a layout whose places the slice has.
 fn with_slice_placement<A, D: Dimension, K: ViewTask<A, D>>(
