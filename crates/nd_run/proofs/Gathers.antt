@@ -3,10 +3,10 @@ use Rattle.std.proofs.Common.{◌≡◌, ℕ, ◌+◌, ◌<◌, ◌≤◌, List,
 use Rattle.std.specs.Prelude.{codes}
 use Rattle.std.specs.Fmt.{signed_decimal}
 use Rattle.std.proofs.lemmas.List.Concat.{flat_map-append}
-use Rattle.nd_run.specs.declared.watched.Watched.{Watched}
-use Rattle.nd_run.specs.Puts.{Puts}
+use Rattle.nd_text.specs.declared.watched.Watched.{Watched}
+use Rattle.nd_text.specs.Puts.{Puts}
 use Rattle.nd_run.specs.Text.{values_text}
-use Rattle.nd_run.proofs.Puts.{puts_nothing, puts_then}
+use Rattle.nd_text.proofs.Puts.{puts_nothing, puts_then}
 use Rattle.std.specs.List.{filter_map, cons_option}
 use Rattle.std.proofs.lemmas.List.{take_more, take_all}
 use Rattle.std.proofs.lemmas.List.Elements.{filter_map-append}

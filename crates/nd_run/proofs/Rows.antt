@@ -11,7 +11,7 @@ use Rattle.nd_run.specs.Spelling.{spelling, is_step}
 use Rattle.nd_run.specs.Grammar.{IsBoth, IsNamed, IsSlashed, IsPair, IsOrderBehind, IsOrderedList, IsEnd, IsSlice, IsElementBehind, IsElement, IsStepBehind, IsStep, IsPath, IsQuestionBehind, IsActBehind, IsAct, IsCallBehind, IsCall, IsStartBehind, IsStart}
 use Rattle.nd_run.specs.Reading.{both_at, slashed_at, named_at, pair_at, order_by, ordered_list_at, end_of, slice_at, element_by, element_at, step_by, step_at, begins_step, path_at, question_by, act_by, act_at, call_by, call_at, call_of, start_by, start_of}
 use Rattle.nd_run.proofs.Keywords.{known}
-use Rattle.nd_run.proofs.NumberLaws.{end_takes, end_again}
+use Rattle.nd_run.proofs.SliceEnds.{end_takes, end_again}
 use Rattle.nd_run.proofs.ArrayLaws.{nat_reads, int_reads, list_reads, array_reads}
 use Rattle.nd_run.proofs.Forms.{Reads, few_parts, regrouped, word_reads, bare_reads, none_reads, both_takes, both_words, both_reads, made_reads, many_take, many_again, counted_reads, named_reads, slashed_reads, line_takes, line_again}
 

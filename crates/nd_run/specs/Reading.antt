@@ -16,7 +16,7 @@ use Rattle.nd_run.specs.Calls.{AskedStep, SlicedAxis, Sliced, Collapsed, Indexed
 use Rattle.nd_array_core.specs.Laws.{with_axis_inserted}
 use Rattle.nd_array_core.specs.Meaning.{Meaning}
 use Rattle.nd_run.specs.Grammar.{array_of}
-use Rattle.nd_run.specs.Numerals.{nat_of, int_of}
+use Rattle.nd_text.specs.Numerals.{nat_of, int_of}
 use Rattle.nd_run.specs.Spelling.{spelling, is_step}
 
 infixl 10 ◌>>=◌

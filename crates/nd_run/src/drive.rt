@@ -8,7 +8,7 @@ ghost use Rattle.nd_array_core.specs.Joined.{row_major_elements};
 ghost use Rattle.nd_run.specs.Meaning.{Runs, Stops};
 ghost use Rattle.nd_run.specs.Endings.{OutOfMemory, Driven, ending};
 ghost use Rattle.nd_run.specs.Script.{asked_script};
-ghost use Rattle.nd_run.specs.Watched.{watched_inner, watched_failed, GetsFlushed};
+ghost use Rattle.nd_text.specs.Watched.{watched_inner, watched_failed, GetsFlushed};
 
 use crate::calls::Reply;
 use crate::outcome::{Outcome, conclude, conclude_whole, load};

@@ -2,7 +2,7 @@
 
 ghost use Rattle.std.specs.Prelude.{◌≡◌, ℕ, ◌+◌, ◌^◌, ◌<◌, map, length, IfOk};
 ghost use Rattle.nd_array_core.specs.Meaning.{meaning_of};
-ghost use Rattle.nd_run.specs.Words.{lines_of, words_of};
+ghost use Rattle.nd_text.specs.Words.{lines_of, words_of};
 ghost use Rattle.nd_run.specs.Calls.{asked_call};
 ghost use Rattle.nd_run.specs.Script.{AskedScript, IsScript, IsFirstBad, GivesScript, asked_script, read_or_number, call_in, start_in, calls_from, script_from};
 

@@ -4,8 +4,8 @@ ghost use Rattle.std.specs.Prelude.{◌≡◌, ◌<◌, ◌≤◌, ℕ, List, Op
 ghost use Rattle.nd_shape_and_slice.specs.Shape.{HasCheckedSize, size_of};
 ghost use Rattle.nd_array_core.specs.Meaning.{meaning_of};
 ghost use Rattle.nd_run.specs.Grammar.{array_of};
-ghost use Rattle.nd_run.specs.Numerals.{nat_of, int_of};
-ghost use Rattle.nd_run.specs.Words.{words_of};
+ghost use Rattle.nd_text.specs.Numerals.{nat_of, int_of};
+ghost use Rattle.nd_text.specs.Words.{words_of};
 ghost use Rattle.nd_run.specs.Reading.{Gives, IsRead, TakesWords, word_at, item_at, many_at, counted_at, end_of, slice_at, element_at, order_at, lengths_at, parts_at, array_at, checked_size, keyword_at, slash_at, begins_step, read_to_end};
 
 use crate::keyword::Keyword;
@@ -25,7 +25,7 @@ pub struct Line<'a> {
 
 impl<'a> Model for Line<'a> {
     ghost use Rattle.std.specs.Prelude.{ℕ, List};
-    ghost use Rattle.nd_run.specs.Words.{words_of};
+    ghost use Rattle.nd_text.specs.Words.{words_of};
 
     ghost Value = { List (List ℕ) };
 

@@ -2,7 +2,7 @@
 
 ghost use Rattle.std.specs.Prelude.{◌≡◌, map, length};
 ghost use Rattle.nd_array_core.specs.Meaning.{meaning_of};
-ghost use Rattle.nd_run.specs.Words.{words_of};
+ghost use Rattle.nd_text.specs.Words.{words_of};
 ghost use Rattle.nd_run.specs.Calls.{asked_step, asking, acting, asked_call};
 ghost use Rattle.nd_run.specs.Reading.{Gives, IsRead, step_at, slashed_at, path_at, question_at, act_at, acts_at, call_at, call_of, start_of};
 

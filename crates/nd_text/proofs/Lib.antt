@@ -1,0 +1,5 @@
+pub mod NumberLaws
+pub mod Numerals
+pub mod Puts
+pub mod Splits
+pub mod TextLaws

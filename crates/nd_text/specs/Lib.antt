@@ -1,0 +1,7 @@
+pub mod Input
+pub mod Laws
+pub mod Numerals
+pub mod Puts
+pub mod Text
+pub mod Watched
+pub mod Words

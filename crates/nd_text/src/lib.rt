@@ -1,0 +1,19 @@
+//! Text by lines, words and numbers, from a reader whose failures are remembered and into such a writer.
+#![tactic(auto)]
+
+// Streams.
+pub mod input;
+mod watched;
+
+// Reading.
+pub mod numbers;
+pub mod words;
+
+// Writing.
+mod page;
+pub mod printing;
+
+pub mod laws;
+
+pub use page::Page;
+pub use watched::{Flushes, Watched};
