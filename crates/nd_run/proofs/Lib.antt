@@ -4,7 +4,6 @@ pub mod Counts
 pub mod Driving
 pub mod Indexes
 pub mod Items
-pub mod Keywords
 pub mod ScriptLaws
 pub mod Scripts
 pub mod FoldLemmas

@@ -6,7 +6,6 @@ pub mod Meaning
 pub mod Endings
 pub mod Grammar
 pub mod Reading
-pub mod Spelling
 pub mod Script
 pub mod Text
 pub mod Fold
@@ -15,3 +14,4 @@ pub use Rattle.nd_text.specs.Watched
 pub use Rattle.nd_text.specs.Puts
 pub use Rattle.nd_text.specs.Words
 pub use Rattle.nd_text.specs.Numerals
+pub use Rattle.nd_text.specs.Spelling

@@ -14,9 +14,9 @@ use crate::calls::Reply;
 use crate::outcome::{Outcome, conclude, conclude_whole, load};
 use crate::reader::Script;
 use crate::run::{RunFault, run};
-use crate::watched::Watched;
 use nd_array_core::Array;
 use nd_shape_and_slice::IxDyn;
+use nd_text::Watched;
 use std::alloc::Global;
 use std::io::{Read, Write};
 

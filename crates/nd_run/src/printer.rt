@@ -1,16 +1,14 @@
-//! Printing to a watched writer, through a page of bytes that wait, without memory. Once a call of the writer has failed
-//! nothing more is written.
+//! Printing replies, through a page of bytes that wait, without memory.
 
-ghost use Rattle.std.specs.Prelude.{◌≡◌, ◌++◌, map, codes};
-ghost use Rattle.std.specs.List.{flat_map};
+ghost use Rattle.std.specs.Prelude.{◌≡◌, map};
 ghost use Rattle.nd_run.specs.Calls.{said_reply};
-ghost use Rattle.nd_text.specs.Puts.{Puts, Writes};
-ghost use Rattle.nd_run.specs.Text.{list_text, element_text, reply_words, replies_text};
+ghost use Rattle.nd_text.specs.Puts.{Puts};
+ghost use Rattle.nd_run.specs.Text.{element_text, reply_words, replies_text};
 
 use crate::calls::Reply;
-use crate::page::Page;
-use crate::watched::Watched;
-use itoa::{Buffer, Integer};
+use itoa::Buffer;
+use nd_text::printing::{put, put_list, put_number, put_numbers};
+use nd_text::{Page, Watched};
 use std::io::Write;
 
 fn put_element<W: Write>(out: &mut Watched<W>, page: &mut Page, element: &Option<i64>)

@@ -11,10 +11,10 @@ mod items;
 mod line;
 
 use crate::calls::Call;
-use crate::words::{is_wordless, split_line};
 use fault::{LineFault, ScriptError};
 use nd_array_core::{Array, ArrayBase, Data, OwnedRepr};
 use nd_shape_and_slice::IxDyn;
+use nd_text::words::{is_wordless, split_line};
 use std::alloc::Global;
 
 /// A script: an array, and the calls on it. Its arrays own their elements: `Script<i64>`.

@@ -1,3 +1,4 @@
+pub mod Keywords
 pub mod NumberLaws
 pub mod Numerals
 pub mod Puts

@@ -6,6 +6,7 @@ pub mod input;
 mod watched;
 
 // Reading.
+mod keyword;
 pub mod numbers;
 pub mod words;
 
@@ -15,5 +16,6 @@ pub mod printing;
 
 pub mod laws;
 
+pub use keyword::Keyword;
 pub use page::Page;
 pub use watched::{Flushes, Watched};

@@ -2,10 +2,10 @@
 use Rattle.std.proofs.Common.{◌≡◌, ℕ, ◌⊎◌, Bool, true, false, cond, List, [], ◌∷◌, length, refl, inl, inr}
 use Rattle.std.specs.Str.{bytes_eq}
 use Rattle.std.proofs.lemmas.Slice.Eq.{bytes_eq-Decides}
-use Rattle.nd_run.specs.declared.keyword.Keyword.{Keyword}
-use Rattle.nd_run.specs.declared.keyword.Keyword.TheVariants.{Start, Other}
-use Rattle.nd_run.specs.Spelling.{spelling}
-use Rattle.nd_run.specs.Reading.{keywords_of, keyword_among, keyword_of}
+use Rattle.nd_text.specs.declared.keyword.Keyword.{Keyword}
+use Rattle.nd_text.specs.declared.keyword.Keyword.TheVariants.{Start, Other}
+use Rattle.nd_text.specs.Spelling.{spelling}
+use Rattle.nd_text.specs.Spelling.{keywords_of, keyword_among, keyword_of}
 
 -- a keyword's spelling reads back as it
 pub known : (k : Keyword) → keyword_of (spelling k) ≡ k

@@ -1,8 +1,7 @@
 //! The words that name calls, steps, questions and acts.
 
 ghost use Rattle.std.specs.Prelude.{◌≡◌};
-ghost use Rattle.nd_run.specs.Reading.{keyword_of, keyword_among, long_keywords};
-ghost use Rattle.nd_run.specs.Spelling.{is_step};
+ghost use Rattle.nd_text.specs.Spelling.{keyword_of, keyword_among, long_keywords, is_step};
 
 /// What a word names.
 #[derive(Clone, Copy, Debug, PartialEq, Eq)]
@@ -54,7 +53,7 @@ pub enum Keyword {
 
 impl Keyword {
     /// What the word names: told by its length and its bytes in turn.
-    #[tactic(auto, unfolding(crate::specs::Reading::keyword_of))]
+    #[tactic(auto, unfolding(crate::specs::Spelling::keyword_of))]
     pub fn of(word: &[u8]) -> Keyword
         ensures { result ≡ keyword_of word.now }
     {
