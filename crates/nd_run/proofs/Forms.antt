@@ -6,7 +6,8 @@ use Rattle.nd_text.specs.declared.keyword.Keyword.TheVariants.{Other, Slash}
 use Rattle.nd_text.specs.Numerals.{IsNat, nat_of}
 use Rattle.nd_text.specs.Spelling.{spelling}
 use Rattle.nd_run.specs.Grammar.{IsWord, IsBare, IsBoth, IsMade, AreInTurn, IsCounted, IsNamed, IsSlashBehind, IsSlashed}
-use Rattle.nd_run.specs.Reading.{◌>>=◌, item_at, both_at, map_read, many_while, many_at, counted_at, keyword_of, named_at, slash_by, slashed_at, read_to_end}
+use Rattle.nd_run.specs.Reading.{◌>>=◌, item_at, both_at, map_read, many_while, many_at, counted_at, named_at, slash_by, slashed_at, read_to_end}
+use Rattle.nd_text.specs.Spelling.{keyword_of}
 use Rattle.nd_text.proofs.Keywords.{known, spelled}
 use Rattle.nd_text.proofs.NumberLaws.{nat_takes, nat_again}
 

@@ -1,5 +1,5 @@
 -- A line means one call at most, and a text one script at most.
-use Rattle.std.proofs.Common.{◌≡◌, ℕ, Bool, true, false, cond, eqb, List, [], ◌∷◌, length, Option, Some, Result, Ok, Err, refl, sym, ap, ◌∙◌, arith}
+use Rattle.std.proofs.Common.{◌≡◌, ℕ, length, Option, Some, Result, Ok, Err, sym, ◌∙◌, arith}
 use Rattle.nd_run.specs.Reading.{call_of}
 use Rattle.nd_run.specs.Script.{script_from}
 use Rattle.nd_run.specs.Laws.{MeansOneCall, MeansOneScript, HasNoBadLine}

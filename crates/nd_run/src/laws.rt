@@ -3,7 +3,6 @@
 ghost use Rattle.nd_run.specs.Laws.{StepsLeadInside, PathsLeadAlong, MeansOneCall, MeansOneScript, HasNoBadLine};
 
 use nd_array_core::laws::maps_lead_inside;
-
 pub use nd_text::laws::lines_join_again;
 
 /// The map of a step that nothing is against leads from the new box into the old.

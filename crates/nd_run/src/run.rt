@@ -151,15 +151,14 @@ fn ask<A: Clone + Eq + Drop>(
     question: &Question<A>,
 ) -> Result<Reply<A>, AllocError>
     requires { (x y : A) → A.is_clone x y → y ≡ x }
-    ensures reply { IfOk result (λ reply. said_reply reply ≡ reply_to A.eq (About (map asked_step path.now) (asking question.now)) (meaning_of array.now)) }
-    ensures memory { OnErr result (MayLackMemory (About (map asked_step path.now) (asking question.now)) (meaning_of array.now)) }
+    ensures { CarriesOut A.eq (About (map asked_step path.now) (asking question.now)) (meaning_of array.now) (meaning_of array.now) result }
 {
     match follow_path(array.view(), path) {
         Ok(view) => {
             nothing_outside(&view);
             answer(alloc, &view, question)
         }
-        Err(cause) => Ok(Reply::Refused(cause.number())),
+        Err(refused) => Ok(Reply::Refused(refused.number())),
     }
 }
 

@@ -11,10 +11,9 @@ pub mod numbers;
 pub mod words;
 
 // Writing.
+pub mod laws;
 mod page;
 pub mod printing;
-
-pub mod laws;
 
 pub use keyword::Keyword;
 pub use page::Page;

@@ -1,5 +1,5 @@
 use Rattle.std.proofs.Common.{subst}
-use Rattle.nd_run.specs.Puts.{Puts}
+use Rattle.nd_text.specs.Puts.{Puts}
 use Rattle.nd_text.specs.Text.{values_text}
 use Rattle.nd_run.proofs.outcome.put_values.Goals as goal
 
