@@ -116,7 +116,7 @@ module _ {A : Type 0} {s : data_trait.Ghosts (OwnedRepr A) A} where
   asked_call (calls.Keep step) = Keeping (asked_step step)
   asked_call (calls.Ask path question) = About (map asked_step path.items) (asking question)
   asked_call (calls.Write path act) = Writing (map asked_step path.items) (acting act)
-  asked_call (calls.SplitWrite axis index first second) = SplitWriting axis index (acting first) (acting second)
+  asked_call (calls.SplitWrite axis index first second) = SplitWriting axis index (acting first.value) (acting second.value)
   asked_call (calls.Select axis indexes) = Selecting axis indexes.items
   asked_call (calls.RemoveIndex axis index) = Removing axis index
   asked_call (calls.Reshape lengths order) = Reshaping lengths.items order

@@ -1,5 +1,5 @@
-//! The calls that a script makes on its array, and the replies to them. Arrays in them are boxed, since a list of calls has
-//! room for the largest kind in each.
+//! The calls that a script makes on its array, and the replies to them. What is large and rare in them is boxed, since
+//! a list of calls has room for the largest kind in each.
 
 use nd_array_core::{ArrayBase, Data, OwnedRepr};
 use nd_shape_and_slice::{IxDyn, Order, Slice, SliceInfoElem};
@@ -79,7 +79,7 @@ pub enum Call<A, S: Data<Elem = A> = OwnedRepr<A>> {
     /// An act on what these steps lead to. It changes the array's own elements.
     Write(Vec<Step>, Act<A, S>),
     /// An axis, a coordinate at which it is split, and an act on each of the two parts.
-    SplitWrite(usize, usize, Act<A, S>, Act<A, S>),
+    SplitWrite(usize, usize, Box<Act<A, S>>, Box<Act<A, S>>),
     /// An axis, and the coordinates of it that are chosen, in their new order.
     Select(usize, Vec<usize>),
     /// An axis, and a coordinate of it that is taken out.

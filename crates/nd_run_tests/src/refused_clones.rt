@@ -96,8 +96,8 @@ fn written<A: Clone + Eq + Drop>(
     calls.push(Call::SplitWrite(
         0,
         1,
-        Act::Fill(three),
-        Act::Set(Vec::from_slice(alloc, &[1])?, four),
+        Box::new(alloc, Act::Fill(three))?,
+        Box::new(alloc, Act::Set(Vec::from_slice(alloc, &[1])?, four))?,
     ))?;
     match run(alloc, start, &calls) {
         Ok((replies, array)) => Ok((replies.len(), Some(array))),

@@ -45,4 +45,5 @@ pub fn read_input<R: Read>(alloc: Global, input: &mut Watched<R>) -> Result<Vec<
     }
 }
 
-const PIECE_LEN: usize = 4096;
+/// What a pipe holds.
+const PIECE_LEN: usize = 65536;

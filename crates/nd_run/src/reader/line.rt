@@ -58,6 +58,7 @@ impl<'a> Line<'a> {
             }
             steps.push(self.leg(alloc)?)?;
         }
+        steps.shrink_to_fit();
         Ok(steps)
     }
 
@@ -115,6 +116,7 @@ impl<'a> Line<'a> {
             Keyword::Split => {
                 let (axis, index) = (self.read()?, self.read()?);
                 let (first, second) = self.acts(alloc)?;
+                let (first, second) = (Box::new(alloc, first)?, Box::new(alloc, second)?);
                 Ok(Call::SplitWrite(axis, index, first, second))
             }
             Keyword::Select => Ok(Call::Select(self.read()?, self.list(alloc)?)),
