@@ -13,7 +13,7 @@ pub returns-in-Write : goal.returns-in-Write
 returns-in-Write g c = rw (c.in-Write.is, ← c.as_slice-in-Write.ensures.value) c.write_through.ensures
 
 pub returns-in-SplitWrite : goal.returns-in-SplitWrite
-returns-in-SplitWrite g c = rw (c.in-SplitWrite.is, ← c.deref.ensures, ← c.deref-2.ensures) c.write_parts.ensures
+returns-in-SplitWrite g c = rw (c.in-SplitWrite.is, ← c.deref.ensures, ← c.deref-in-SplitWrite.ensures) c.write_parts.ensures
 
 pub returns-in-Append : goal.returns-in-Append
 returns-in-Append g c =
