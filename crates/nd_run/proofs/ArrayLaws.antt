@@ -2,10 +2,10 @@
 use Rattle.std.proofs.Common.{◌≡◌, ℕ, ◌≤◌, ◌^◌, true, cond, ltb, leb, List, ◌++◌, length, ℤ, Some, None, refl, sym, ap, subst, ◌∙◌, append_assoc, arith}
 use Rattle.std.proofs.lemmas.Bool.{ltb-true, lt-ltb, leb-true, le-leb}
 use Rattle.nd_shape_and_slice.specs.Shape.{HasCheckedSize, nonzero_product, size_of}
-use Rattle.nd_run.specs.Numerals.{IsNat, IsInt, nat_of, int_of}
+use Rattle.nd_text.specs.Numerals.{IsNat, IsInt, nat_of, int_of}
 use Rattle.nd_run.specs.Grammar.{IsWord, IsList, array_of, AreParts, IsArray}
 use Rattle.nd_run.specs.Reading.{◌>>=◌, item_at, many_at, counted_at, list_at, lengths_at, checked_size, parts_at, array_at}
-use Rattle.nd_run.proofs.NumberLaws.{some_by, some_under, nat_takes, nat_again, int_takes, int_again}
+use Rattle.nd_text.proofs.NumberLaws.{some_by, some_under, nat_takes, nat_again, int_takes, int_again}
 use Rattle.nd_run.proofs.Forms.{bind_some, some_pair, Takes, Reads, few_parts, regrouped, word_reads, made_reads, many_take, many_again, many_length, counted_reads}
 
 pub nat_reads : {n : ℕ} → Reads n (item_at nat_of) (IsWord IsNat)

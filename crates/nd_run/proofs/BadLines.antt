@@ -3,7 +3,7 @@ use Rattle.std.proofs.Common.{◌≡◌, ℕ, ◌+◌, Bool, true, false, cond, 
 use Rattle.nd_array_core.specs.Meaning.{Meaning}
 use Rattle.nd_run.specs.Calls.{Asked}
 use Rattle.nd_run.specs.Grammar.{AreAll, IsStart, IsCall}
-use Rattle.nd_run.specs.Words.{words_of, is_wordless}
+use Rattle.nd_text.specs.Words.{words_of, is_wordless}
 use Rattle.nd_run.specs.Script.{◌>>=◌, AskedScript, worded_lines, IsScript, IsNoStart, IsNoCall, IsBadFrom, read_or_number, call_in, start_in, calls_from, script_from}
 use Rattle.nd_run.proofs.Rows.{call_takes, start_takes, start_again}
 use Rattle.nd_run.proofs.ScriptLaws.{no_call, no_start, call_none, start_none, call_line, bind_err, numbered_ok, numbered_err, parts_are}

@@ -2,12 +2,12 @@
 use Rattle.std.proofs.Common.{◌≡◌, ◌∙◌, ℕ, ℤ, Bool, false, List, Option, None, Some, Result, Ok, Err, refl, sym, ap, subst, inl, inr}
 use Rattle.std.specs.Prelude.{IfSome}
 use Rattle.nd_run.specs.declared.outcome.Outcome.{Outcome}
-use Rattle.nd_run.specs.declared.watched.Watched.{Watched}
+use Rattle.nd_text.specs.declared.watched.Watched.{Watched}
 use Rattle.nd_run.specs.Calls.{Said}
 use Rattle.nd_run.specs.Script.{AskedScript, IsScript}
-use Rattle.nd_run.specs.Puts.{TakesText}
-use Rattle.nd_run.specs.Watched.{watched_failed}
-use Rattle.nd_run.specs.Words.{lines_of}
+use Rattle.nd_text.specs.Puts.{TakesText}
+use Rattle.nd_text.specs.Watched.{watched_failed}
+use Rattle.nd_text.specs.Words.{lines_of}
 use Rattle.nd_run.specs.Endings.{is_no_input, Ending, Finished, BadAt, OutOfMemory, NoInput, ending, ending_text, status_of, is_load_failure, EndsUnloaded, Loads, RunsTo, Ends, Driven}
 
 module _ (Runs : AskedScript → List (Said ℤ) → List ℕ → List ℤ → Type 0) (Stops : AskedScript → List (Said ℤ) → Type 0) where

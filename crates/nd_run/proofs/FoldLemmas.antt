@@ -1,16 +1,17 @@
 -- Steps and replies, one at a time.
 use Rattle.std.proofs.Common.{◌≡◌, ℕ, Bool, true, false, List, refl, ap, sym, ◌∙◌, cond, [], ◌∷◌, ◌++◌, Ok, Err, Option, Some, None, Result}
-use Rattle.std.specs.Prelude.{is_some, OnErr}
+use Rattle.std.specs.Prelude.{is_some, IfOk, OnErr}
 use Rattle.nd_shape_and_slice.specs.Shape.{in_box}
 use Rattle.nd_array_core.specs.Laws.{NothingOutside}
 use Rattle.std.proofs.Math.Path.{fun_ext}
 use Rattle.nd_array_core.specs.Meaning.{Meaning, meaning_through, inside}
 use Rattle.nd_run.specs.declared.cause.Cause.{Cause}
-use Rattle.nd_run.specs.Calls.{AskedStep, Asking, Asked, About, Said, SaidDone, SaidRefused}
+use Rattle.nd_run.specs.declared.calls.Reply.{Reply}
+use Rattle.nd_run.specs.Calls.{AskedStep, Asking, Asked, About, Said, SaidDone, SaidRefused, said_reply}
 use Rattle.nd_run.specs.Steps.{Test, first_failed, tests_of, refusal, unless, step_shape, step_index, shape_along, index_along}
 use Rattle.nd_run.specs.Acts.{path_tests, meaning_at_end}
 use Rattle.nd_run.specs.Placing.{unless_refused, said_unless}
-use Rattle.nd_run.specs.Fold.{LeadsAlong, step_result, answer_to, answer_or_refusal, number_of, question_tests, answers_in_memory, look_refusal, MayLackMemory, tests_for, done, outcome, given_by, reply_to}
+use Rattle.nd_run.specs.Fold.{LeadsAlong, step_result, answer_to, answer_or_refusal, number_of, question_tests, answers_in_memory, look_refusal, CarriesOut, tests_for, done, outcome, given_by, reply_to}
 
 -- ---- tests before others
 
@@ -80,11 +81,7 @@ module _ {A : Type 0} where
     ask_decides : look_refusal path m.shape ≡ None → first_failed (question_tests question (shape_along path m.shape)) ≡ first_failed (tests_for (About path question) m.shape)
     ask_decides h = sym (tests_pass (path_tests tests_of path m.shape) (question_tests question (shape_along path m.shape)) h)
 
-    pub ask_lacks : {X E : Type 0} (n : Meaning A) (r : Result X E) → look_refusal path m.shape ≡ None → n ≡ meaning_at_end path m → OnErr r ((first_failed (question_tests question n.shape) ≡ None) × (answers_in_memory question ≡ true)) → OnErr r (MayLackMemory (About path question) m)
-    ask_lacks n (Ok x) h e lacks = tt
-    ask_lacks n (Err error) h e lacks = (sym (ap (λ (s : Meaning A). first_failed (question_tests question s.shape)) e ∙ ask_decides h) ∙ lacks.0, lacks.1)
-
-    pub answer_is : (n : Meaning A) → look_refusal path m.shape ≡ None → n ≡ meaning_at_end path m → answer_or_refusal eq question n ≡ reply_to eq (About path question) m
+    answer_is : (n : Meaning A) → look_refusal path m.shape ≡ None → n ≡ meaning_at_end path m → answer_or_refusal eq question n ≡ reply_to eq (About path question) m
     answer_is n h e = ap (answer_or_refusal eq question) e ∙ (told (first_failed (question_tests question (shape_along path m.shape))) ∙ ap (λ r. (given_by (unless r (done eq (About path question) m)) m).0) (ask_decides h))
       where
         told : (r : Option Cause) → (given_by (unless r (answer_to eq question (meaning_at_end path m), meaning_at_end path m)) (meaning_at_end path m)).0 ≡ (given_by (unless r (done eq (About path question) m)) m).0
@@ -101,3 +98,9 @@ module _ {A : Type 0} where
         kept : (r : Option Cause) → ◌≡◌ {A = Said A × Meaning A} ((given_by (unless r (done eq (About path question) m)) m).0, m) (given_by (unless r (done eq (About path question) m)) m)
         kept None = refl
         kept (Some cause) = refl
+
+    -- at the path's end it was answered or refused, or memory was lacking
+    pub answered : {E : Type 0} (n : Meaning A) (r : Result (Reply A) E) → look_refusal path m.shape ≡ None → n ≡ meaning_at_end path m → IfOk r (λ reply. said_reply reply ≡ answer_or_refusal eq question n)
+        → OnErr r ((first_failed (question_tests question n.shape) ≡ None) × (answers_in_memory question ≡ true)) → CarriesOut eq (About path question) m m r
+    answered n (Ok reply) h e is lacks = asked_is (said_reply reply) (is ∙ answer_is n h e)
+    answered n (Err error) h e is lacks = (sym (ap (λ (s : Meaning A). first_failed (question_tests question s.shape)) e ∙ ask_decides h) ∙ lacks.0, lacks.1)

@@ -1,14 +1,15 @@
 -- What a reader takes from the front of words is what they write, and what they write it takes: for each way to put
 -- readers together.
 use Rattle.std.proofs.Common.{◌≡◌, ℕ, zero, suc, ◌≤◌, ◌<◌, Bool, true, false, List, [], ◌∷◌, ◌++◌, length, length-append, Option, Some, None, refl, sym, ap, subst, ◌∙◌, append_assoc, append-nil, arith, inl, inr}
-use Rattle.nd_run.specs.declared.keyword.Keyword.{Keyword}
-use Rattle.nd_run.specs.declared.keyword.Keyword.TheVariants.{Other, Slash}
-use Rattle.nd_run.specs.Numerals.{IsNat, nat_of}
-use Rattle.nd_run.specs.Spelling.{spelling}
+use Rattle.nd_text.specs.declared.keyword.Keyword.{Keyword}
+use Rattle.nd_text.specs.declared.keyword.Keyword.TheVariants.{Other, Slash}
+use Rattle.nd_text.specs.Numerals.{IsNat, nat_of}
+use Rattle.nd_text.specs.Spelling.{spelling}
 use Rattle.nd_run.specs.Grammar.{IsWord, IsBare, IsBoth, IsMade, AreInTurn, IsCounted, IsNamed, IsSlashBehind, IsSlashed}
-use Rattle.nd_run.specs.Reading.{◌>>=◌, item_at, both_at, map_read, many_while, many_at, counted_at, keyword_of, named_at, slash_by, slashed_at, read_to_end}
-use Rattle.nd_run.proofs.Keywords.{known, spelled}
-use Rattle.nd_run.proofs.NumberLaws.{nat_takes, nat_again}
+use Rattle.nd_run.specs.Reading.{◌>>=◌, item_at, both_at, map_read, many_while, many_at, counted_at, named_at, slash_by, slashed_at, read_to_end}
+use Rattle.nd_text.specs.Spelling.{keyword_of}
+use Rattle.nd_text.proofs.Keywords.{known, spelled}
+use Rattle.nd_text.proofs.NumberLaws.{nat_takes, nat_again}
 
 -- a step that read something
 pub bind_some : {A B : Type 0} (r : Option A) (f : A → Option B) (y : B) → (r >>= f) ≡ Some y → (x : A) × (r ≡ Some x) × (f x ≡ Some y)

@@ -1,12 +1,12 @@
--- The elements of an array, gathered rank by rank.
+-- The elements of an array, written rank by rank.
 use Rattle.std.proofs.Common.{◌≡◌, ℕ, ◌+◌, ◌<◌, ◌≤◌, List, [], ◌∷◌, ◌++◌, length, take, get_or, ap, sym, ◌∙◌, arith, subst, ℤ, Option, None, Some, append-nil}
 use Rattle.std.specs.Prelude.{codes}
 use Rattle.std.specs.Fmt.{signed_decimal}
 use Rattle.std.proofs.lemmas.List.Concat.{flat_map-append}
-use Rattle.nd_run.specs.declared.watched.Watched.{Watched}
-use Rattle.nd_run.specs.Puts.{Puts}
-use Rattle.nd_run.specs.Text.{values_text}
-use Rattle.nd_run.proofs.Puts.{puts_nothing, puts_then}
+use Rattle.nd_text.specs.declared.watched.Watched.{Watched}
+use Rattle.nd_text.specs.Puts.{Puts}
+use Rattle.nd_text.specs.Text.{values_text}
+use Rattle.nd_text.proofs.Puts.{puts_nothing, puts_then}
 use Rattle.std.specs.List.{filter_map, cons_option}
 use Rattle.std.proofs.lemmas.List.{take_more, take_all}
 use Rattle.std.proofs.lemmas.List.Elements.{filter_map-append}
@@ -15,11 +15,6 @@ use Rattle.nd_shape_and_slice.proofs.Ranks.{length-indexes_of, get_or-indexes_of
 use Rattle.nd_array_core.specs.Meaning.{Meaning}
 use Rattle.nd_array_core.specs.Joined.{row_major_elements}
 
--- the items are the elements of the ranks below this one, and the buffer has a place for each coordinate
-pub record IsGatheredBelow {A : Type 0} (m : Meaning A) (items : List A) (index : List ℕ) (rank : ℕ) : Type 0 where
-  pub as_long : length index ≡ length m.shape
-  pub gathered : items ≡ filter_map m.at (take rank (indexes_of m.shape))
-
 module _ {A : Type 0} (m : Meaning A) where
   one_more : (rank : ℕ) → rank < size_of m.shape → filter_map m.at (take (rank + 1) (indexes_of m.shape)) ≡ filter_map m.at (take rank (indexes_of m.shape)) ++ filter_map m.at (index_at m.shape rank ∷ [])
   one_more rank h =
@@ -27,22 +22,7 @@ module _ {A : Type 0} (m : Meaning A) where
       (ap (filter_map m.at) (take_more (indexes_of m.shape) rank [] on) ∙ filter_map-append m.at (take rank (indexes_of m.shape)) (get_or (indexes_of m.shape) rank [] ∷ []))
       ∙ ap (λ i. filter_map m.at (take rank (indexes_of m.shape)) ++ filter_map m.at (i ∷ [])) (get_or-indexes_of m.shape rank h)
 
-  pub gathered_some : (items : List A) (index : List ℕ) (rank : ℕ) (x : A) → rank < size_of m.shape → length (index_at m.shape rank) ≡ length m.shape → m.at (index_at m.shape rank) ≡ Some x → IsGatheredBelow m items index rank → IsGatheredBelow m (items ++ x ∷ []) (index_at m.shape rank) (rank + 1)
-  gathered_some items index rank x h long e so_far = record {
-    as_long = long;
-    gathered = sym (one_more rank h ∙ (ap (λ o. filter_map m.at (take rank (indexes_of m.shape)) ++ cons_option o []) e ∙ ap (λ t. t ++ x ∷ []) (sym so_far.gathered)));
-  }
-
-  pub gathered_none : (items : List A) (index : List ℕ) (rank : ℕ) → rank < size_of m.shape → length (index_at m.shape rank) ≡ length m.shape → m.at (index_at m.shape rank) ≡ None → IsGatheredBelow m items index rank → IsGatheredBelow m items (index_at m.shape rank) (rank + 1)
-  gathered_none items index rank h long e so_far = record {
-    as_long = long;
-    gathered = sym (one_more rank h ∙ (ap (λ o. filter_map m.at (take rank (indexes_of m.shape)) ++ cons_option o []) e ∙ (append-nil (filter_map m.at (take rank (indexes_of m.shape))) ∙ sym so_far.gathered)));
-  }
-
-  pub gathered_all : (items : List A) (index : List ℕ) (rank : ℕ) → size_of m.shape ≤ rank → IsGatheredBelow m items index rank → items ≡ row_major_elements m
-  gathered_all items index rank h all = all.gathered ∙ ap (filter_map m.at) (take_all rank (indexes_of m.shape) (omega (arith, h, length-indexes_of m.shape)))
-
--- the same for elements that are written: the text of those of the ranks below this one was put
+-- the text of those of the ranks below this one was put
 pub record IsWrittenBelow {W : Type 0} (contents : W → Option (List ℕ)) (m : Meaning ℤ) (old : Watched W) (held : List ℕ) (new : Watched W) (left : List ℕ) (index : List ℕ) (rank : ℕ) : Type 0 where
   pub as_long : length index ≡ length m.shape
   pub written : Puts contents old held new left (values_text (filter_map m.at (take rank (indexes_of m.shape))))

@@ -4,13 +4,8 @@ pub mod Counts
 pub mod Driving
 pub mod Indexes
 pub mod Items
-pub mod Keywords
-pub mod NumberLaws
-pub mod Numerals
-pub mod Puts
 pub mod ScriptLaws
 pub mod Scripts
-pub mod Splits
 pub mod FoldLemmas
 pub mod Gathers
 pub mod Runs
@@ -22,3 +17,4 @@ pub mod TextLaws
 pub mod Forms
 pub mod Rows
 pub mod ArrayLaws
+pub mod SliceEnds

@@ -3,7 +3,7 @@
 use Rattle.std.proofs.Common.{◌≡◌, ℕ, ◌+◌, ◌≤◌, ◌⊎◌, Bool, true, false, cond, List, [], ◌∷◌, length, ℤ, Option, Some, None, Result, Ok, Err, refl, sym, subst, arith, inl, inr}
 use Rattle.nd_run.specs.Calls.{Asked}
 use Rattle.nd_run.specs.Grammar.{AreAll, IsStart, IsCall}
-use Rattle.nd_run.specs.Words.{before_first, goes_on, is_blank, words_of, is_wordless}
+use Rattle.nd_text.specs.Words.{before_first, goes_on, is_blank, words_of, is_wordless}
 use Rattle.nd_run.specs.Script.{◌>>=◌, AskedScript, worded_lines, IsScript, IsNoStart, IsNoCall, read_or_number, call_in, start_in, calls_from, script_from}
 use Rattle.nd_run.proofs.Rows.{call_takes, call_again, start_takes, start_again}
 

@@ -6,7 +6,7 @@ use Rattle.nd_array_core.specs.Meaning.{Meaning}
 use Rattle.nd_run.specs.declared.reader.fault.ScriptError.{ScriptError}
 use Rattle.nd_run.specs.declared.reader.fault.ScriptError.TheVariants.{BadLine, Memory}
 use Rattle.nd_run.specs.Calls.{Asked}
-use Rattle.nd_run.specs.Words.{lines_of, words_of, is_wordless}
+use Rattle.nd_text.specs.Words.{lines_of, words_of, is_wordless}
 use Rattle.nd_run.specs.Script.{◌>>=◌, AskedScript, FailsAt, read_or_number, call_in, start_in, calls_from, script_from}
 
 -- a text without bytes has no line

@@ -1,15 +1,15 @@
 -- How a script ends, what is written then, and the status.
 use Rattle.std.specs.Prelude.{◌≡◌, ℕ, ℤ, Bool, true, false, List, [], ◌++◌, map, Option, Result, Ok, Err, ◌⊎◌, codes, if◌then◌else◌}
 use Rattle.std.specs.Fmt.{decimal}
-use Rattle.nd_run.specs.declared.watched.Watched.{Watched}
+use Rattle.nd_text.specs.declared.watched.Watched.{Watched}
 use Rattle.nd_run.specs.declared.outcome.Outcome.{Outcome}
 use Rattle.nd_run.specs.declared.outcome.Outcome.TheVariants as outcomes
 use Rattle.nd_run.specs.Calls.{Said, said_reply}
-use Rattle.nd_run.specs.Puts.{TakesText}
+use Rattle.nd_text.specs.Puts.{TakesText}
 use Rattle.nd_run.specs.Script.{AskedScript, IsScript, IsFirstBad}
 use Rattle.nd_run.specs.Text.{replies_text, array_text}
-use Rattle.nd_run.specs.Watched.{watched_failed}
-use Rattle.nd_run.specs.Words.{lines_of}
+use Rattle.nd_text.specs.Watched.{watched_failed}
+use Rattle.nd_text.specs.Words.{lines_of}
 
 -- an end: the replies and the array at the end, the number of a bad line, the replies before memory was
 -- refused, or no input

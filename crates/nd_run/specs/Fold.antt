@@ -173,14 +173,14 @@ meaning_after eq call m = (given_by (outcome eq call m) m).1
 abbrev pub MayLackMemory : {A : Type 0} → Asked A → Meaning A → Type 0
 MayLackMemory call m = (first_failed (tests_for call m.shape) ≡ None) × (takes_memory call ≡ true)
 
--- the code carried out a call: its reply, and what it left seen by view, are those of the call
-abbrev pub IsCarriedOut : {A B : Type 0} → (A → A → Bool) → Asked A → Meaning A → (B → Meaning A) → Reply A × B → Type 0
-IsCarriedOut {A = A} eq call m view acted = ◌≡◌ {A = Said A × Meaning A} (said_reply acted.0, view acted.1) (given_by (outcome eq call m) m)
+-- the code carried out a call: its reply, and what it made of m, are those of the call
+abbrev pub IsCarriedOut : {A : Type 0} → (A → A → Bool) → Asked A → Meaning A → Meaning A → Reply A → Type 0
+IsCarriedOut {A = A} eq call m n reply = ◌≡◌ {A = Said A × Meaning A} (said_reply reply, n) (given_by (outcome eq call m) m)
 
 -- so it did, or lacked memory
-abbrev pub CarriesOut : {A B E : Type 0} → (A → A → Bool) → Asked A → Meaning A → (B → Meaning A) → Result (Reply A × B) E → Type 0
-CarriesOut eq call m view (Ok acted) = IsCarriedOut eq call m view acted
-CarriesOut eq call m view (Err error) = MayLackMemory call m
+abbrev pub CarriesOut : {A E : Type 0} → (A → A → Bool) → Asked A → Meaning A → Meaning A → Result (Reply A) E → Type 0
+CarriesOut eq call m n (Ok reply) = IsCarriedOut eq call m n reply
+CarriesOut eq call m n (Err error) = MayLackMemory call m
 
 abbrev pub replies_to : {A : Type 0} → (A → A → Bool) → List (Asked A) → Meaning A → List (Said A)
 replies_to eq [] m = []

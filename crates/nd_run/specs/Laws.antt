@@ -1,13 +1,11 @@
--- Laws of steps, of paths and of texts.
-use Rattle.std.specs.Prelude.{◌≡◌, ◌==◌, [], ◌∷◌, ◌++◌, List, None, Ok, ℕ, ℤ, codes, if◌then◌else◌}
-use Rattle.std.specs.List.{flat_map}
+-- Laws of steps, of paths and of scripts.
+use Rattle.std.specs.Prelude.{◌≡◌, List, None, Ok, ℕ, ℤ}
 use Rattle.nd_array_core.specs.Laws.{LeadsInside}
 use Rattle.nd_array_core.specs.Meaning.{Meaning}
 use Rattle.nd_run.specs.Calls.{AskedStep, Asked}
 use Rattle.nd_run.specs.Fold.{path_result, LeadsAlong}
 use Rattle.nd_run.specs.Grammar.{IsCall}
 use Rattle.nd_run.specs.Script.{AskedScript, IsScript, IsFirstBad}
-use Rattle.nd_run.specs.Words.{lines_of}
 use Rattle.nd_run.specs.Steps.{tests_of, refusal, step_shape, step_index}
 
 -- each index of what a step leads to names one of what it came from
@@ -28,17 +26,3 @@ MeansOneScript = (lines : List (List ℕ)) (one other : AskedScript) → IsScrip
 
 abbrev pub HasNoBadLine : Type 0
 HasNoBadLine = (lines : List (List ℕ)) (script : AskedScript) (n : ℕ) → IsScript lines script → ¬ (IsFirstBad lines n)
-
--- the lines one after another, each with its line feed
-abbrev pub joined : List (List ℕ) → List ℕ
-joined lines = flat_map (λ line. line ++ codes "\n") lines
-
--- a text with a line feed after its last line
-abbrev pub with_last_feed : List ℕ → List ℕ
-with_last_feed [] = []
-with_last_feed (b ∷ []) = if b == 10 then b ∷ [] else b ∷ 10 ∷ []
-with_last_feed (b ∷ c ∷ cs) = b ∷ with_last_feed (c ∷ cs)
-
--- the lines of a text joined again are the text
-abbrev pub LinesJoinAgain : Type 0
-LinesJoinAgain = (text : List ℕ) → joined (lines_of text) ≡ with_last_feed text

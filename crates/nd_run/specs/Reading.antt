@@ -1,5 +1,5 @@
 -- Reading the words of a line from left to right. A reader answers what it read and the words that are left.
-use Rattle.std.specs.Prelude.{◌≡◌, ◌<◌, ℕ, zero, suc, ◌^◌, Bool, true, false, nat_le, nat_lt, List, [], ◌∷◌, ℤ, Option, None, Some, Result, Ok, Err, codes, length, ◌==◌, if◌then◌else◌}
+use Rattle.std.specs.Prelude.{◌≡◌, ◌<◌, ℕ, zero, suc, ◌^◌, Bool, true, false, nat_le, nat_lt, List, [], ◌∷◌, ℤ, Option, None, Some, Result, Ok, Err, codes, length, if◌then◌else◌}
 use Rattle.std.specs.Str.{bytes_eq}
 use Rattle.std.specs.Option.{option_map}
 use Rattle.nd_shape_and_slice.specs.Shape.{nonzero_product, size_of}
@@ -8,16 +8,16 @@ use Rattle.nd_shape_and_slice.specs.declared.slice_info.SliceInfoElem.{SliceInfo
 use Rattle.nd_shape_and_slice.specs.declared.slice_info.SliceInfoElem.TheVariants.{Slice as Cutting, Index as At, NewAxis}
 use Rattle.nd_shape_and_slice.specs.declared.builder.Order.{Order}
 use Rattle.nd_shape_and_slice.specs.declared.builder.Order.TheVariants.{RowMajor, ColumnMajor}
-use Rattle.nd_run.specs.declared.keyword.Keyword.{Keyword}
-use Rattle.nd_run.specs.declared.keyword.Keyword.TheVariants.{Start, Keep, Ask, Write, Split, Slash, Cut, Slice as SliceWord, Collapse, Index, Permute, Reverse, SwapAxes, Invert, Insert, Remove, Squeeze, Diag, Broadcast, Part, Coordinate, New, Shape, Elements, Get, First, Last, Equal, Count, Select, RemoveIndex, Reshape, Append, Push, Reserve, Row, Column, Fill, Assign, Set, Swap, Other}
+use Rattle.nd_text.specs.declared.keyword.Keyword.{Keyword}
+use Rattle.nd_text.specs.declared.keyword.Keyword.TheVariants.{Start, Keep, Ask, Write, Split, Slash, Cut, Slice as SliceWord, Collapse, Index, Permute, Reverse, SwapAxes, Invert, Insert, Remove, Squeeze, Diag, Broadcast, Part, Coordinate, New, Shape, Elements, Get, First, Last, Equal, Count, Select, RemoveIndex, Reshape, Append, Push, Reserve, Row, Column, Fill, Assign, Set, Swap}
 use Rattle.nd_run.specs.declared.reader.fault.LineFault.{LineFault}
 use Rattle.nd_run.specs.declared.reader.fault.LineFault.TheVariants.{Bad, Memory}
 use Rattle.nd_run.specs.Calls.{AskedStep, SlicedAxis, Sliced, Collapsed, Indexed, Permuted, Reversed, Exchanged, Inverted, Inserted, Removed, Squeezed, Diagonal, BroadcastTo, Asking, AskShape, AskElements, AskElement, AskFirst, AskLast, AskEqual, AskCount, AskReshaped, Acting, Filling, Assigning, Setting, Swapping, Asked, Keeping, About, Writing, SplitWriting, Selecting, Removing, Reshaping, Appending, Reserving}
 use Rattle.nd_array_core.specs.Laws.{with_axis_inserted}
 use Rattle.nd_array_core.specs.Meaning.{Meaning}
 use Rattle.nd_run.specs.Grammar.{array_of}
-use Rattle.nd_run.specs.Numerals.{nat_of, int_of}
-use Rattle.nd_run.specs.Spelling.{spelling, is_step}
+use Rattle.nd_text.specs.Numerals.{nat_of, int_of}
+use Rattle.nd_text.specs.Spelling.{is_step, keyword_of}
 
 infixl 10 ◌>>=◌
 abbrev pub ◌>>=◌ : {A B : Type 0} → Option A → (A → Option B) → Option B
@@ -81,21 +81,6 @@ unfoldable pub counted_at : {X : Type 0} → (List (List ℕ) → Option (X × L
 counted_at read words = do
   count ← item_at nat_of words
   many_at read count.0 count.1
-
--- the first of the keywords that the word spells
-abbrev pub keyword_among : List Keyword → List ℕ → Keyword
-keyword_among [] word = Other
-keyword_among (k ∷ ks) word = if bytes_eq word (spelling k) then k else keyword_among ks word
-
-abbrev pub long_keywords : List Keyword
-long_keywords = Collapse ∷ SwapAxes ∷ Elements ∷ Broadcast ∷ RemoveIndex ∷ []
-
--- the keywords of n bytes, or of more than seven
-abbrev pub keywords_of : ℕ → List Keyword
-keywords_of n = if nat_lt 7 n then long_keywords else (if n == 7 then Permute ∷ Reverse ∷ Squeeze ∷ Reshape ∷ Reserve ∷ [] else (if n == 6 then Invert ∷ Insert ∷ Remove ∷ Select ∷ Append ∷ Assign ∷ [] else (if n == 5 then Start ∷ Write ∷ Split ∷ SliceWord ∷ Index ∷ Shape ∷ First ∷ Equal ∷ Count ∷ [] else (if n == 4 then Keep ∷ Diag ∷ Last ∷ Push ∷ Fill ∷ Swap ∷ [] else (if n == 3 then Ask ∷ Cut ∷ Get ∷ Row ∷ Column ∷ Set ∷ [] else (if n == 1 then Slash ∷ Part ∷ Coordinate ∷ New ∷ [] else []))))))
-
-unfoldable pub keyword_of : List ℕ → Keyword
-keyword_of word = keyword_among (keywords_of (length word)) word
 
 abbrev pub keyword_at : List (List ℕ) → Option (Keyword × List (List ℕ))
 keyword_at [] = None

@@ -9,7 +9,7 @@ use Rattle.nd_run.specs.declared.reader.Script.{Script}
 use Rattle.nd_run.specs.Calls.{Asked, asked_call}
 use Rattle.nd_run.specs.Grammar.{AreAll, IsStart, IsCall}
 use Rattle.nd_run.specs.Reading.{call_of, start_of}
-use Rattle.nd_run.specs.Words.{words_of, is_wordless}
+use Rattle.nd_text.specs.Words.{words_of, is_wordless}
 
 -- a script without where it lies in memory
 pub record AskedScript : Type 0 where

@@ -1,19 +1,9 @@
 -- How replies are written: words with one space between them, and a line feed at the end of each line.
-use Rattle.std.specs.Prelude.{ℕ, ℤ, Bool, true, false, List, ◌++◌, length, Option, Some, None, codes}
+use Rattle.std.specs.Prelude.{ℕ, ℤ, Bool, true, false, List, ◌++◌, Option, Some, None, codes}
 use Rattle.std.specs.List.{flat_map}
 use Rattle.std.specs.Fmt.{decimal, signed_decimal}
+use Rattle.nd_text.specs.Text.{list_text, values_text}
 use Rattle.nd_run.specs.Calls.{Said, SaidDone, SaidRefused, SaidShape, SaidElements, SaidElement, SaidTruth, SaidNumber}
-
--- the numbers, each behind a space
-abbrev pub naturals_text : List ℕ → List ℕ
-naturals_text ns = flat_map (λ n. codes " " ++ decimal n) ns
-
-abbrev pub values_text : List ℤ → List ℕ
-values_text vs = flat_map (λ v. codes " " ++ signed_decimal v) vs
-
--- how many numbers there are, and then they
-abbrev pub list_text : List ℕ → List ℕ
-list_text ns = decimal (length ns) ++ naturals_text ns
 
 -- the lengths as a list, and the elements
 abbrev pub array_text : List ℕ → List ℤ → List ℕ

@@ -8,15 +8,15 @@ ghost use Rattle.nd_array_core.specs.Joined.{row_major_elements};
 ghost use Rattle.nd_run.specs.Meaning.{Runs, Stops};
 ghost use Rattle.nd_run.specs.Endings.{OutOfMemory, Driven, ending};
 ghost use Rattle.nd_run.specs.Script.{asked_script};
-ghost use Rattle.nd_run.specs.Watched.{watched_inner, watched_failed, GetsFlushed};
+ghost use Rattle.nd_text.specs.Watched.{watched_inner, watched_failed, GetsFlushed};
 
 use crate::calls::Reply;
 use crate::outcome::{Outcome, conclude, conclude_whole, load};
 use crate::reader::Script;
 use crate::run::{RunFault, run};
-use crate::watched::Watched;
 use nd_array_core::Array;
 use nd_shape_and_slice::IxDyn;
+use nd_text::Watched;
 use std::alloc::Global;
 use std::io::{Read, Write};
 

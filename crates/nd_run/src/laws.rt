@@ -1,8 +1,9 @@
 //! Laws of steps and of paths, over meanings alone, and of texts. Nothing here runs: each function's clause is the law.
 
-ghost use Rattle.nd_run.specs.Laws.{StepsLeadInside, PathsLeadAlong, MeansOneCall, MeansOneScript, HasNoBadLine, LinesJoinAgain};
+ghost use Rattle.nd_run.specs.Laws.{StepsLeadInside, PathsLeadAlong, MeansOneCall, MeansOneScript, HasNoBadLine};
 
 use nd_array_core::laws::maps_lead_inside;
+pub use nd_text::laws::lines_join_again;
 
 /// The map of a step that nothing is against leads from the new box into the old.
 pub fn steps_lead_inside()
@@ -27,9 +28,4 @@ pub fn line_means_one_call()
 pub fn lines_mean_one_script()
     ensures one { MeansOneScript }
     ensures none_bad { HasNoBadLine }
-{}
-
-/// The lines of a text, joined again by line feeds, are the text.
-pub fn lines_join_again()
-    ensures { LinesJoinAgain }
 {}

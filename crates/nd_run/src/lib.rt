@@ -10,24 +10,18 @@ mod cause;
 pub mod drive;
 pub mod laws;
 pub mod run;
-mod watched;
 
 // Carrying out a call.
 mod steps;
 mod write;
 
 // Reading a script.
-mod input;
-mod keyword;
-mod numbers;
 mod reader;
-mod words;
 
 // Writing what is due at the end.
 mod outcome;
-mod page;
 mod printer;
 
 pub use calls::{Act, Call, Question, Reply, Step};
 pub use cause::Cause;
-pub use watched::{Flushes, Watched};
+pub use nd_text::{Flushes, Watched};

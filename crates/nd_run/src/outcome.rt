@@ -1,25 +1,25 @@
 //! How a script ends, and what is written then.
 
-ghost use Rattle.std.specs.Prelude.{◌≡◌, [], map, IfSome, if◌then◌else◌};
+ghost use Rattle.std.specs.Prelude.{◌≡◌, map, IfSome, if◌then◌else◌};
 ghost use Rattle.nd_array_core.specs.Meaning.{shape_of, meaning_of};
 ghost use Rattle.nd_run.specs.Calls.{said_reply};
 ghost use Rattle.nd_run.specs.Script.{asked_script};
 ghost use Rattle.nd_array_core.specs.Joined.{row_major_elements};
-ghost use Rattle.nd_run.specs.Text.{values_text};
+ghost use Rattle.nd_text.specs.Text.{values_text};
 ghost use Rattle.nd_run.specs.Endings.{Finished, ending, ending_text, status_of, is_load_failure, Loads};
-ghost use Rattle.nd_run.specs.Puts.{TakesText, Puts};
-ghost use Rattle.nd_run.specs.Watched.{watched_inner, watched_failed, GetsFlushed};
+ghost use Rattle.nd_text.specs.Puts.{TakesText, Puts};
+ghost use Rattle.nd_text.specs.Watched.{watched_inner, watched_failed, GetsFlushed};
 
 use crate::calls::Reply;
-use crate::input::{InputError, read_input};
-use crate::page::Page;
-use crate::printer::{put, put_list, put_number, put_numbers, put_replies, write_text};
+use crate::printer::put_replies;
 use crate::reader::fault::ScriptError;
 use crate::reader::{Script, read_script};
-use crate::watched::Watched;
 use itoa::Buffer;
 use nd_array_core::Array;
 use nd_shape_and_slice::{IxDyn, MAX_AXES, index_of_rank};
+use nd_text::input::{InputError, read_input};
+use nd_text::printing::{finish, put, put_list, put_number, put_numbers};
+use nd_text::{Page, Watched};
 use std::alloc::Global;
 use std::io::{Read, Write};
 
@@ -65,24 +65,6 @@ fn put_end<W: Write>(output: &mut Watched<W>, page: &mut Page, outcome: &Outcome
             put(output, page, b"out of memory\n");
         }
         Outcome::ReadFailed => put(output, page, b"read failed\n"),
-    }
-}
-
-/// Writes the bytes that wait, and flushes once.
-fn finish<W: Write>(output: &mut Watched<W>, page: &Page)
-    ensures text { TakesText W.contents output.old output.new page.now }
-    ensures flushed { GetsFlushed output.old output.new }
-{
-    write_text(output, page.as_slice());
-    flush(output);
-}
-
-fn flush<W: Write>(output: &mut Watched<W>)
-    ensures text { TakesText W.contents output.old output.new [] }
-    ensures flushed { GetsFlushed output.old output.new }
-{
-    if !output.failed() {
-        let _ = output.flush();
     }
 }
 

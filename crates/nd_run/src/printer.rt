@@ -1,75 +1,15 @@
-//! Printing to a watched writer, through a page of bytes that wait, without memory. Once a call of the writer has failed
-//! nothing more is written.
+//! Printing replies, through a page of bytes that wait, without memory.
 
-ghost use Rattle.std.specs.Prelude.{◌≡◌, ◌++◌, map, codes};
-ghost use Rattle.std.specs.List.{flat_map};
+ghost use Rattle.std.specs.Prelude.{◌≡◌, map};
 ghost use Rattle.nd_run.specs.Calls.{said_reply};
-ghost use Rattle.nd_run.specs.Puts.{Puts, Writes};
-ghost use Rattle.nd_run.specs.Text.{list_text, element_text, reply_words, replies_text};
+ghost use Rattle.nd_text.specs.Puts.{Puts};
+ghost use Rattle.nd_run.specs.Text.{element_text, reply_words, replies_text};
 
 use crate::calls::Reply;
-use crate::page::Page;
-use crate::watched::Watched;
-use itoa::{Buffer, Integer};
+use itoa::Buffer;
+use nd_text::printing::{put, put_list, put_number, put_numbers};
+use nd_text::{Page, Watched};
 use std::io::Write;
-
-/// Writes the whole text, in as many calls as the writer needs.
-pub fn write_text<W: Write>(out: &mut Watched<W>, text: &[u8])
-    ensures { Writes W.contents out.old out.new text.now }
-{
-    let mut rest = text;
-    while !rest.is_empty() && !out.failed() {
-        match out.write(rest) {
-            Ok(count) => rest = &rest[count..],
-            Err(_) => return,
-        }
-    }
-}
-
-/// Puts a text behind the bytes that wait. Where there is no room for it they are written first; a text that is longer
-/// than a page then is too.
-pub fn put<W: Write>(out: &mut Watched<W>, page: &mut Page, text: &[u8])
-    ensures { Puts W.contents out.old page.old out.new page.new text.now }
-{
-    if page.add(text) {
-        return;
-    }
-    write_text(out, page.as_slice());
-    page.clear();
-    if page.add(text) {
-        return;
-    }
-    write_text(out, text);
-}
-
-pub fn put_number<W: Write, I: Integer>(
-    out: &mut Watched<W>,
-    page: &mut Page,
-    buffer: &mut Buffer,
-    number: &I,
-)
-    ensures { Puts W.contents out.old page.old out.new page.new (I.text number.now) }
-{
-    put(out, page, buffer.format(*number).as_bytes());
-}
-
-/// Each number behind a space.
-pub fn put_numbers<W: Write, I: Integer>(out: &mut Watched<W>, page: &mut Page, numbers: &[I])
-    ensures { Puts W.contents out.old page.old out.new page.new (flat_map (λ n. codes " " ++ I.text n) numbers.now) }
-{
-    let mut buffer = Buffer::new();
-    for number in numbers {
-        put(out, page, b" ");
-        put_number(out, page, &mut buffer, number);
-    }
-}
-
-pub fn put_list<W: Write>(out: &mut Watched<W>, page: &mut Page, numbers: &[usize])
-    ensures { Puts W.contents out.old page.old out.new page.new (list_text numbers.now) }
-{
-    put_number(out, page, &mut Buffer::new(), &numbers.len());
-    put_numbers(out, page, numbers);
-}
 
 fn put_element<W: Write>(out: &mut Watched<W>, page: &mut Page, element: &Option<i64>)
     ensures { Puts W.contents out.old page.old out.new page.new (element_text element.now) }

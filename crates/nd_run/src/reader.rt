@@ -2,7 +2,7 @@
 
 ghost use Rattle.std.specs.Prelude.{◌≡◌, ℕ, ◌+◌, ◌^◌, ◌<◌, map, length, IfOk};
 ghost use Rattle.nd_array_core.specs.Meaning.{meaning_of};
-ghost use Rattle.nd_run.specs.Words.{lines_of, words_of};
+ghost use Rattle.nd_text.specs.Words.{lines_of, words_of};
 ghost use Rattle.nd_run.specs.Calls.{asked_call};
 ghost use Rattle.nd_run.specs.Script.{AskedScript, IsScript, IsFirstBad, GivesScript, asked_script, read_or_number, call_in, start_in, calls_from, script_from};
 
@@ -11,10 +11,10 @@ mod items;
 mod line;
 
 use crate::calls::Call;
-use crate::words::{is_wordless, split_line};
 use fault::{LineFault, ScriptError};
 use nd_array_core::{Array, ArrayBase, Data, OwnedRepr};
 use nd_shape_and_slice::IxDyn;
+use nd_text::words::{is_wordless, split_line};
 use std::alloc::Global;
 
 /// A script: an array, and the calls on it. Its arrays own their elements: `Script<i64>`.

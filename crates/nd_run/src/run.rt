@@ -15,11 +15,12 @@ use crate::calls::{Call, Question, Reply, Step};
 use crate::cause::Cause;
 use crate::laws::paths_lead_along;
 use crate::steps::{advance, check, check_index, keep_refusal, take_step};
-use crate::write::{Acted, write_parts, write_through};
+use crate::write::{write_parts, write_through};
 use nd_array_core::laws::nothing_outside;
 use nd_array_core::{Array, ArrayBase, ArrayError, ArrayView, Data};
 use nd_shape_and_slice::{Axis, Dimension, IxDyn, MAX_AXES, Order, size_of_shape_checked};
 use std::alloc::{AllocError, Global};
+use std::mem;
 
 /// Follows a path of steps, or returns the cause of a refusal.
 fn follow_path<'a, A>(
@@ -150,25 +151,34 @@ fn ask<A: Clone + Eq + Drop>(
     question: &Question<A>,
 ) -> Result<Reply<A>, AllocError>
     requires { (x y : A) → A.is_clone x y → y ≡ x }
-    ensures reply { IfOk result (λ reply. said_reply reply ≡ reply_to A.eq (About (map asked_step path.now) (asking question.now)) (meaning_of array.now)) }
-    ensures memory { OnErr result (MayLackMemory (About (map asked_step path.now) (asking question.now)) (meaning_of array.now)) }
+    ensures { CarriesOut A.eq (About (map asked_step path.now) (asking question.now)) (meaning_of array.now) (meaning_of array.now) result }
 {
     match follow_path(array.view(), path) {
         Ok(view) => {
             nothing_outside(&view);
             answer(alloc, &view, question)
         }
-        Err(cause) => Ok(Reply::Refused(cause.number())),
+        Err(refused) => Ok(Reply::Refused(refused.number())),
     }
 }
 
+/// Takes the array out, and leaves an empty one. It takes no memory.
+fn taken<A: Drop>(alloc: Global, array: &mut Array<A, IxDyn>) -> Array<A, IxDyn>
+    ensures { result ≡ array.old }
+{
+    mem::replace(array, Array::from_vec(Vec::new(alloc)).into_dyn())
+}
+
 /// Replaces the array by the step's result. A refused step changes nothing.
-fn keep<A: Eq>(array: Array<A, IxDyn>, step: &Step) -> Acted<A>
-    ensures { IsCarriedOut A.eq (Keeping (asked_step step.now)) (meaning_of array) meaning_of result }
+fn keep<A: Eq + Drop>(alloc: Global, array: &mut Array<A, IxDyn>, step: &Step) -> Reply<A>
+    ensures { IsCarriedOut A.eq (Keeping (asked_step step.now)) (meaning_of array.old) (meaning_of array.new) result }
 {
     match keep_refusal(array.shape(), step) {
-        None => (Reply::Done, take_step(array, step)),
-        Some(cause) => (Reply::Refused(cause.number()), array),
+        None => {
+            *array = take_step(taken(alloc, array), step);
+            Reply::Done
+        }
+        Some(cause) => Reply::Refused(cause.number()),
     }
 }
 
@@ -197,52 +207,57 @@ fn check_select<S: Data>(
 /// Replaces the array by one of the chosen coordinates of an axis. A refusal changes nothing.
 fn select<A: Clone + Eq + Drop>(
     alloc: Global,
-    array: Array<A, IxDyn>,
+    array: &mut Array<A, IxDyn>,
     axis: usize,
     indexes: &[usize],
-) -> Result<Acted<A>, AllocError>
+) -> Result<Reply<A>, AllocError>
     requires { (x y : A) → A.is_clone x y → y ≡ x }
-    ensures { CarriesOut A.eq (Selecting axis indexes.now) (meaning_of array) meaning_of result }
+    ensures { CarriesOut A.eq (Selecting axis indexes.now) (meaning_of array.old) (meaning_of array.new) result }
 {
-    match check_select(&array, axis, indexes) {
+    match check_select(array, axis, indexes) {
         Ok(()) => match array.select(alloc, Axis(axis), indexes) {
-            Ok(selected) => Ok((Reply::Done, selected)),
+            Ok(selected) => {
+                *array = selected;
+                Ok(Reply::Done)
+            }
             Err(_) => Err(AllocError),
         },
-        Err(cause) => Ok((Reply::Refused(cause.number()), array)),
+        Err(cause) => Ok(Reply::Refused(cause.number())),
     }
 }
 
 /// Takes a coordinate of an axis out. A refusal changes nothing.
-fn remove_index<A: Eq>(array: Array<A, IxDyn>, axis: usize, index: usize) -> Acted<A>
-    ensures { IsCarriedOut A.eq (Removing axis index) (meaning_of array) meaning_of result }
+fn remove_index<A: Eq>(array: &mut Array<A, IxDyn>, axis: usize, index: usize) -> Reply<A>
+    ensures { IsCarriedOut A.eq (Removing axis index) (meaning_of array.old) (meaning_of array.new) result }
 {
     match check_index(array.shape(), axis, index) {
         Ok(()) => {
-            let mut array = array;
             array.remove_index(Axis(axis), index);
-            (Reply::Done, array)
+            Reply::Done
         }
-        Err(refused) => (Reply::Refused(refused.number()), array),
+        Err(refused) => Reply::Refused(refused.number()),
     }
 }
 
 /// Replaces the array by one of the same elements under other lengths. A refusal changes nothing.
 fn reshape<A: Clone + Eq + Drop>(
     alloc: Global,
-    array: Array<A, IxDyn>,
+    array: &mut Array<A, IxDyn>,
     lengths: &[usize],
     order: Order,
-) -> Result<Acted<A>, AllocError>
+) -> Result<Reply<A>, AllocError>
     requires { (x y : A) → A.is_clone x y → y ≡ x }
-    ensures { CarriesOut A.eq (Reshaping lengths.now order) (meaning_of array) meaning_of result }
+    ensures { CarriesOut A.eq (Reshaping lengths.now order) (meaning_of array.old) (meaning_of array.new) result }
 {
-    match reshape_dim(&array, lengths) {
-        Ok(dim) => match array.into_shape_clone(alloc, (dim, order)) {
-            Ok(reshaped) => Ok((Reply::Done, reshaped)),
+    match reshape_dim(array, lengths) {
+        Ok(dim) => match taken(alloc, array).into_shape_clone(alloc, (dim, order)) {
+            Ok(reshaped) => {
+                *array = reshaped;
+                Ok(Reply::Done)
+            }
             Err(_) => Err(AllocError),
         },
-        Err(cause) => Ok((Reply::Refused(cause.number()), array)),
+        Err(cause) => Ok(Reply::Refused(cause.number())),
     }
 }
 
@@ -270,62 +285,58 @@ fn check_append<S: Data, T: Data>(
 
 /// Puts another array behind the array along an axis. A refusal changes nothing.
 fn append<A: Clone + Eq + Drop>(
-    array: Array<A, IxDyn>,
+    array: &mut Array<A, IxDyn>,
     axis: usize,
     other: ArrayView<'_, A, IxDyn>,
-) -> Result<Acted<A>, AllocError>
+) -> Result<Reply<A>, AllocError>
     requires { (x y : A) → A.is_clone x y → y ≡ x }
-    ensures { CarriesOut A.eq (Appending axis (meaning_of other.entry)) (meaning_of array) meaning_of result }
+    ensures { CarriesOut A.eq (Appending axis (meaning_of other.entry)) (meaning_of array.old) (meaning_of array.new) result }
 {
-    match check_append(&array, axis, &other) {
-        Ok(()) => {
-            let mut array = array;
-            match array.append(Axis(axis), other) {
-                Ok(()) => Ok((Reply::Done, array)),
-                Err(ArrayError::NoMemory) => Err(AllocError),
-                Err(ArrayError::Shape(_)) => unreachable!(),
-            }
-        }
-        Err(cause) => Ok((Reply::Refused(cause.number()), array)),
+    match check_append(array, axis, &other) {
+        Ok(()) => match array.append(Axis(axis), other) {
+            Ok(()) => Ok(Reply::Done),
+            Err(ArrayError::NoMemory) => Err(AllocError),
+            Err(ArrayError::Shape(_)) => unreachable!(),
+        },
+        Err(cause) => Ok(Reply::Refused(cause.number())),
     }
 }
 
 /// Puts an array with one axis fewer behind the array, as one more length of an axis. A refusal changes nothing.
 fn push<A: Clone + Eq + Drop>(
-    array: Array<A, IxDyn>,
+    array: &mut Array<A, IxDyn>,
     axis: usize,
     other: &Array<A, IxDyn>,
-) -> Result<Acted<A>, AllocError>
+) -> Result<Reply<A>, AllocError>
     requires { (x y : A) → A.is_clone x y → y ≡ x }
-    ensures { CarriesOut A.eq (Appending axis (with_axis_inserted axis (meaning_of other.now))) (meaning_of array) meaning_of result }
+    ensures { CarriesOut A.eq (Appending axis (with_axis_inserted axis (meaning_of other.now))) (meaning_of array.old) (meaning_of array.new) result }
 {
     if array.ndim() == 0 {
-        return Ok((Reply::Refused(Cause::Shape.number()), array));
+        return Ok(Reply::Refused(Cause::Shape.number()));
     }
     if axis >= array.ndim() {
-        return Ok((Reply::Refused(Cause::Axis.number()), array));
+        return Ok(Reply::Refused(Cause::Axis.number()));
     }
     if other.ndim() + 1 != array.ndim() {
-        return Ok((Reply::Refused(Cause::Shape.number()), array));
+        return Ok(Reply::Refused(Cause::Shape.number()));
     }
     append(array, axis, other.view().insert_axis(Axis(axis)))
 }
 
 /// Makes room for more lengths of an axis. A refusal changes nothing.
 fn reserve<A: Eq + Drop>(
-    array: Array<A, IxDyn>,
+    array: &mut Array<A, IxDyn>,
     axis: usize,
     additional: usize,
-) -> Result<Acted<A>, AllocError>
-    ensures { CarriesOut A.eq (Reserving axis additional) (meaning_of array) meaning_of result }
+) -> Result<Reply<A>, AllocError>
+    ensures { CarriesOut A.eq (Reserving axis additional) (meaning_of array.old) (meaning_of array.new) result }
 {
     if axis >= array.ndim() {
-        return Ok((Reply::Refused(Cause::Axis.number()), array));
+        return Ok(Reply::Refused(Cause::Axis.number()));
     }
-    let mut array = array;
     match array.reserve(Axis(axis), additional) {
-        Ok(()) => Ok((Reply::Done, array)),
-        Err(ArrayError::Shape(_)) => Ok((Reply::Refused(Cause::Overflow.number()), array)),
+        Ok(()) => Ok(Reply::Done),
+        Err(ArrayError::Shape(_)) => Ok(Reply::Refused(Cause::Overflow.number())),
         Err(ArrayError::NoMemory) => Err(AllocError),
     }
 }
@@ -333,18 +344,15 @@ fn reserve<A: Eq + Drop>(
 /// Carries out one call.
 fn act<A: Clone + Eq + Drop>(
     alloc: Global,
-    array: Array<A, IxDyn>,
+    array: &mut Array<A, IxDyn>,
     call: &Call<A>,
-) -> Result<Acted<A>, AllocError>
+) -> Result<Reply<A>, AllocError>
     requires { (x y : A) → A.is_clone x y → y ≡ x }
-    ensures { CarriesOut A.eq (asked_call call.now) (meaning_of array) meaning_of result }
+    ensures { CarriesOut A.eq (asked_call call.now) (meaning_of array.old) (meaning_of array.new) result }
 {
     match call {
-        Call::Keep(step) => Ok(keep(array, step)),
-        Call::Ask(path, question) => {
-            let reply = ask(alloc, &array, path.as_slice(), question)?;
-            Ok((reply, array))
-        }
+        Call::Keep(step) => Ok(keep(alloc, array, step)),
+        Call::Ask(path, question) => ask(alloc, array, path.as_slice(), question),
         Call::Write(path, act) => write_through(array, path.as_slice(), act),
         Call::SplitWrite(axis, index, first, second) => {
             write_parts(array, *axis, *index, first, second)
@@ -383,11 +391,8 @@ pub fn run<A: Clone + Eq + Drop>(
     };
     let mut array = start;
     for call in calls {
-        match act(alloc, array, call) {
-            Ok((reply, left)) => {
-                replies.push_reserved(reply);
-                array = left;
-            }
+        match act(alloc, &mut array, call) {
+            Ok(reply) => replies.push_reserved(reply),
             Err(_) => return Err(RunFault::Memory(replies)),
         }
     }

@@ -249,41 +249,36 @@ fn write_reply<A>(refused: Option<Cause>) -> Reply<A>
     }
 }
 
-/// A reply, and the array as the call left it.
-pub type Acted<A> = (Reply<A>, Array<A, IxDyn>);
-
 /// An act at the end of a path. It changes the array's own elements, and nothing where a step or the act is refused.
 pub fn write_through<A: Clone + Eq + Drop>(
-    array: Array<A, IxDyn>,
+    array: &mut Array<A, IxDyn>,
     path: &[Step],
     act: &Act<A>,
-) -> Result<Acted<A>, AllocError>
+) -> Result<Reply<A>, AllocError>
     requires { (x y : A) → A.is_clone x y → y ≡ x }
-    ensures { CarriesOut A.eq (Writing (map asked_step path.now) (acting act.now)) (meaning_of array) meaning_of result }
+    ensures { CarriesOut A.eq (Writing (map asked_step path.now) (acting act.now)) (meaning_of array.old) (meaning_of array.new) result }
 {
-    let mut array = array;
     let refused = array.with_view_mut(ActAlong { path, act })?;
-    Ok((write_reply(refused), array))
+    Ok(write_reply(refused))
 }
 
 /// An act on each part of the array split along an axis. Both are checked before either changes anything.
 pub fn write_parts<A: Clone + Eq + Drop>(
-    array: Array<A, IxDyn>,
+    array: &mut Array<A, IxDyn>,
     axis: usize,
     index: usize,
     first: &Act<A>,
     second: &Act<A>,
-) -> Result<Acted<A>, AllocError>
+) -> Result<Reply<A>, AllocError>
     requires { (x y : A) → A.is_clone x y → y ≡ x }
-    ensures { CarriesOut A.eq (SplitWriting axis index (acting first.now) (acting second.now)) (meaning_of array) meaning_of result }
+    ensures { CarriesOut A.eq (SplitWriting axis index (acting first.now) (acting second.now)) (meaning_of array.old) (meaning_of array.new) result }
 {
-    let mut array = array;
     let refused = point_refusal(array.shape(), axis, index);
     if refused.is_some() {
-        return Ok((write_reply(refused), array));
+        return Ok(write_reply(refused));
     }
-    nothing_outside(&array);
+    nothing_outside(array);
     let refused = array.with_split_at(Axis(axis), index, ActOnParts { first, second })?;
-    nothing_outside(&array);
-    Ok((write_reply(refused), array))
+    nothing_outside(array);
+    Ok(write_reply(refused))
 }

@@ -4,16 +4,16 @@ ghost use Rattle.std.specs.Prelude.{◌≡◌, ◌<◌, ◌≤◌, ℕ, List, Op
 ghost use Rattle.nd_shape_and_slice.specs.Shape.{HasCheckedSize, size_of};
 ghost use Rattle.nd_array_core.specs.Meaning.{meaning_of};
 ghost use Rattle.nd_run.specs.Grammar.{array_of};
-ghost use Rattle.nd_run.specs.Numerals.{nat_of, int_of};
-ghost use Rattle.nd_run.specs.Words.{words_of};
+ghost use Rattle.nd_text.specs.Numerals.{nat_of, int_of};
+ghost use Rattle.nd_text.specs.Words.{words_of};
 ghost use Rattle.nd_run.specs.Reading.{Gives, IsRead, TakesWords, word_at, item_at, many_at, counted_at, end_of, slice_at, element_at, order_at, lengths_at, parts_at, array_at, checked_size, keyword_at, slash_at, begins_step, read_to_end};
 
-use crate::keyword::Keyword;
-use crate::numbers::{int_of_word, of_digits};
 use crate::reader::fault::LineFault;
-use crate::words::{has_words, is_wordless, split_word};
 use nd_array_core::Array;
 use nd_shape_and_slice::{IxDyn, MAX_AXES, Order, Slice, SliceInfoElem, size_of_shape_checked};
+use nd_text::Keyword;
+use nd_text::numbers::{int_of_word, of_digits};
+use nd_text::words::{has_words, is_wordless, split_word};
 use std::alloc::Global;
 use std::marker::Model;
 
@@ -25,7 +25,7 @@ pub struct Line<'a> {
 
 impl<'a> Model for Line<'a> {
     ghost use Rattle.std.specs.Prelude.{ℕ, List};
-    ghost use Rattle.nd_run.specs.Words.{words_of};
+    ghost use Rattle.nd_text.specs.Words.{words_of};
 
     ghost Value = { List (List ℕ) };
 
@@ -156,6 +156,14 @@ impl<'a> Line<'a> {
         let size = checked_size(&lengths)?;
         let elements = self.items::<i64>(alloc, size)?;
         Ok((lengths, elements))
+    }
+
+    /// An ARRAY, boxed. A function of its own, so that lines with no array don't pay for its locals.
+    #[inline(never)]
+    pub fn boxed(&mut self, alloc: Global) -> Result<Box<Array<i64, IxDyn>>, LineFault>
+        ensures { IsRead (λ x. meaning_of x.value) result self.new (array_at self.old) }
+    {
+        Ok(Box::new(alloc, self.array(alloc)?)?)
     }
 
     /// An ARRAY: its lengths, and its elements in row-major order.

@@ -2,16 +2,16 @@
 
 ghost use Rattle.std.specs.Prelude.{◌≡◌, map, length};
 ghost use Rattle.nd_array_core.specs.Meaning.{meaning_of};
-ghost use Rattle.nd_run.specs.Words.{words_of};
+ghost use Rattle.nd_text.specs.Words.{words_of};
 ghost use Rattle.nd_run.specs.Calls.{asked_step, asking, acting, asked_call};
 ghost use Rattle.nd_run.specs.Reading.{Gives, IsRead, step_at, slashed_at, path_at, question_at, act_at, acts_at, call_at, call_of, start_of};
 
 use crate::calls::{Act, Call, Question, Step};
-use crate::keyword::Keyword;
 use crate::reader::fault::LineFault;
 use crate::reader::items::Line;
 use nd_array_core::Array;
 use nd_shape_and_slice::IxDyn;
+use nd_text::Keyword;
 use std::alloc::Global;
 
 impl<'a> Line<'a> {
@@ -58,6 +58,7 @@ impl<'a> Line<'a> {
             }
             steps.push(self.leg(alloc)?)?;
         }
+        steps.shrink_to_fit();
         Ok(steps)
     }
 
@@ -71,7 +72,7 @@ impl<'a> Line<'a> {
             Keyword::Get => Ok(Question::Get(self.list(alloc)?)),
             Keyword::First => Ok(Question::First),
             Keyword::Last => Ok(Question::Last),
-            Keyword::Equal => Ok(Question::EqualTo(self.array(alloc)?)),
+            Keyword::Equal => Ok(Question::EqualTo(self.boxed(alloc)?)),
             Keyword::Count => Ok(Question::Count(self.read()?)),
             Keyword::Reshape => {
                 let order = self.read()?;
@@ -87,7 +88,7 @@ impl<'a> Line<'a> {
     {
         match self.keyword()? {
             Keyword::Fill => Ok(Act::Fill(self.read()?)),
-            Keyword::Assign => Ok(Act::Assign(self.array(alloc)?)),
+            Keyword::Assign => Ok(Act::Assign(self.boxed(alloc)?)),
             Keyword::Set => Ok(Act::Set(self.list(alloc)?, self.read()?)),
             Keyword::Swap => Ok(Act::Swap(self.list(alloc)?, self.list(alloc)?)),
             _ => Err(LineFault::Bad),
@@ -115,6 +116,7 @@ impl<'a> Line<'a> {
             Keyword::Split => {
                 let (axis, index) = (self.read()?, self.read()?);
                 let (first, second) = self.acts(alloc)?;
+                let (first, second) = (Box::new(alloc, first)?, Box::new(alloc, second)?);
                 Ok(Call::SplitWrite(axis, index, first, second))
             }
             Keyword::Select => Ok(Call::Select(self.read()?, self.list(alloc)?)),
@@ -123,8 +125,8 @@ impl<'a> Line<'a> {
                 let order = self.read()?;
                 Ok(Call::Reshape(self.list(alloc)?, order))
             }
-            Keyword::Append => Ok(Call::Append(self.read()?, self.array(alloc)?)),
-            Keyword::Push => Ok(Call::Push(self.read()?, self.array(alloc)?)),
+            Keyword::Append => Ok(Call::Append(self.read()?, self.boxed(alloc)?)),
+            Keyword::Push => Ok(Call::Push(self.read()?, self.boxed(alloc)?)),
             Keyword::Reserve => Ok(Call::Reserve(self.read()?, self.read()?)),
             _ => Err(LineFault::Bad),
         }

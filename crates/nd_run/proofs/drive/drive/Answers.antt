@@ -2,12 +2,12 @@ use Rattle.std.proofs.Common.{◌≡◌, map, subst}
 use Rattle.nd_array_core.specs.Meaning.{meaning_of, shape_of}
 use Rattle.nd_run.specs.Calls.{said_reply}
 use Rattle.nd_run.specs.Endings.{Finished, OutOfMemory, ending_text, status_of}
-use Rattle.nd_run.specs.Puts.{TakesText}
+use Rattle.nd_text.specs.Puts.{TakesText}
 use Rattle.nd_run.specs.Fold.{replies_before}
 use Rattle.nd_array_core.specs.Joined.{row_major_elements}
 use Rattle.nd_run.specs.Meaning.{Runs, Stops}
 use Rattle.nd_run.specs.Script.{asked_script}
-use Rattle.nd_run.specs.Watched.{watched_inner, watched_failed}
+use Rattle.nd_text.specs.Watched.{watched_inner, watched_failed}
 use Rattle.nd_run.proofs.Driving.{ran_is_driven, unloaded_is_driven}
 use Rattle.nd_run.proofs.drive.drive.Goals as goal
 

@@ -1,4 +1,4 @@
-use Rattle.nd_run.proofs.Puts.{all_taken}
+use Rattle.nd_text.proofs.Puts.{all_taken}
 use Rattle.nd_run.proofs.outcome.conclude_whole.Goals as goal
 
 pub returns-clause-text : goal.returns-clause-text

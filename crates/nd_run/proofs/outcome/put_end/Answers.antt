@@ -1,4 +1,4 @@
-use Rattle.nd_run.proofs.Puts.{puts_then}
+use Rattle.nd_text.proofs.Puts.{puts_then}
 use Rattle.nd_run.proofs.outcome.put_end.Goals as goal
 
 pub returns-in-BadLine : goal.returns-in-BadLine

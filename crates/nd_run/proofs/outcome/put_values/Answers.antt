@@ -1,6 +1,6 @@
 use Rattle.std.proofs.Common.{subst}
-use Rattle.nd_run.specs.Puts.{Puts}
-use Rattle.nd_run.specs.Text.{values_text}
+use Rattle.nd_text.specs.Puts.{Puts}
+use Rattle.nd_text.specs.Text.{values_text}
 use Rattle.nd_run.proofs.outcome.put_values.Goals as goal
 
 pub returns-in-Some : goal.returns-in-Some

@@ -1,8 +1,8 @@
 use Rattle.std.proofs.Common.{subst}
 use Rattle.nd_array_core.specs.Meaning.{shape_of}
-use Rattle.nd_run.specs.Puts.{Puts}
-use Rattle.nd_run.specs.Text.{list_text}
-use Rattle.nd_run.proofs.Puts.{puts_then}
+use Rattle.nd_text.specs.Puts.{Puts}
+use Rattle.nd_text.specs.Text.{list_text}
+use Rattle.nd_text.proofs.Puts.{puts_then}
 use Rattle.nd_run.proofs.outcome.put_whole.Goals as goal
 
 pub returns : goal.returns

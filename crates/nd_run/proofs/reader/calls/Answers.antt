@@ -2,7 +2,7 @@ use Rattle.std.proofs.Common.{◌≡◌, ◌++◌, ◌∷◌, [], map, sym, arit
 use Rattle.std.proofs.lemmas.Result.{err_from_is_err_and}
 use Rattle.std.proofs.lemmas.List.{map_push}
 use Rattle.nd_run.specs.Calls.{asked_call}
-use Rattle.nd_run.specs.Words.{lines_of}
+use Rattle.nd_text.specs.Words.{lines_of}
 use Rattle.nd_run.specs.Script.{calls_from}
 use Rattle.nd_run.proofs.Scripts.{lines_none, calls_skip, calls_more, calls_stop, calls_done}
 use Rattle.nd_run.proofs.reader.calls.Goals as goal

@@ -1,5 +1,5 @@
 use Rattle.std.proofs.Common.{◌≡◌, ◌+◌, ◌≤◌, map, length}
-use Rattle.nd_run.specs.Words.{lines_of}
+use Rattle.nd_text.specs.Words.{lines_of}
 use Rattle.nd_run.specs.Calls.{asked_call}
 use Rattle.nd_run.specs.Script.{calls_from}
 use Rattle.nd_run.proofs.Scripts.{with_calls}

@@ -2,7 +2,7 @@ use Rattle.std.proofs.Common.{◌≡◌, ℕ, List, Result, Ok, Err, subst}
 use Rattle.std.specs.Prelude.{IfOk}
 use Rattle.nd_run.specs.declared.reader.fault.ScriptError.{ScriptError}
 use Rattle.nd_run.specs.declared.reader.fault.ScriptError.TheVariants.{BadLine}
-use Rattle.nd_run.specs.Words.{lines_of}
+use Rattle.nd_text.specs.Words.{lines_of}
 use Rattle.nd_run.specs.Script.{AskedScript, IsScript, IsFirstBad, GivesScript, asked_script, script_from}
 use Rattle.nd_run.proofs.ScriptLaws.{script_takes, script_again}
 use Rattle.nd_run.proofs.BadLines.{script_bad, bad_again}

@@ -2,7 +2,7 @@ use Rattle.std.proofs.Common.{sym, map, arith}
 use Rattle.std.proofs.lemmas.Result.{err_from_is_err_and}
 use Rattle.nd_array_core.specs.Meaning.{meaning_of}
 use Rattle.nd_run.specs.Calls.{asked_call}
-use Rattle.nd_run.specs.Words.{lines_of}
+use Rattle.nd_text.specs.Words.{lines_of}
 use Rattle.nd_run.specs.Script.{script_from}
 use Rattle.nd_run.proofs.Scripts.{lines_none, script_skip, script_none, script_bad, script_bad_call, script_read}
 use Rattle.nd_run.proofs.reader.whole_script.Goals as goal

@@ -1,5 +1,5 @@
 use Rattle.std.proofs.Common.{◌≡◌, ◌+◌, ◌≤◌, length}
-use Rattle.nd_run.specs.Words.{lines_of}
+use Rattle.nd_text.specs.Words.{lines_of}
 use Rattle.nd_run.specs.Script.{script_from}
 use Rattle.nd_run.proofs.reader.whole_script.Given as goal
 

@@ -1,26 +1,25 @@
 use Rattle.nd_array_core.specs.Meaning.{meaning_of}
-use Rattle.std.proofs.Common.{◌≡◌, map}
-use Rattle.nd_run.specs.Calls.{asked_step, asking, said_reply}
-use Rattle.nd_run.proofs.FoldLemmas.{same_meaning, asked_is}
+use Rattle.std.proofs.Common.{◌≡◌}
+use Rattle.nd_run.proofs.FoldLemmas.{same_meaning}
 use Rattle.nd_run.proofs.run.act.Goals as goal
 
 pub returns-in-Keep : goal.returns-in-Keep
 returns-in-Keep g c = rw c.in-Keep.is c.keep.ensures
 
-pub returns-in_ok-reply-in-Ask : goal.returns-in_ok-reply-in-Ask
-returns-in_ok-reply-in-Ask g c = rw (c.in-Ask.is, ← c.as_slice.ensures.value) (asked_is g.A.PartialEq.eq (map asked_step c.as_slice.result.now) (asking c.in-Ask.question) (meaning_of c.args.array) (said_reply c.in_ok-reply-in-Ask.reply) c.in_ok-reply-in-Ask.ensures.reply)
+pub returns-in-Ask : goal.returns-in-Ask
+returns-in-Ask g c = rw (c.in-Ask.is, ← c.as_slice.ensures.value) c.ask.ensures
 
 pub returns-in-Write : goal.returns-in-Write
 returns-in-Write g c = rw (c.in-Write.is, ← c.as_slice-in-Write.ensures.value) c.write_through.ensures
 
 pub returns-in-SplitWrite : goal.returns-in-SplitWrite
-returns-in-SplitWrite g c = rw c.in-SplitWrite.is c.write_parts.ensures
+returns-in-SplitWrite g c = rw (c.in-SplitWrite.is, ← c.deref.ensures, ← c.deref-in-SplitWrite.ensures) c.write_parts.ensures
 
 pub returns-in-Append : goal.returns-in-Append
 returns-in-Append g c =
-    let m = meaning_of c.in-Append.other in
+    let m = meaning_of c.deref-in-Append.result.now in
     let seen : meaning_of c.view.result ≡ m = same_meaning m (meaning_of c.view.result) c.view.ensures.whole.0 c.view.ensures.whole.2 in
-    rw (c.in-Append.is, ← seen) c.append.ensures
+    rw (c.in-Append.is, ← c.deref-in-Append.ensures, ← seen) c.append.ensures
 
 pub returns-in-Push : goal.returns-in-Push
-returns-in-Push g c = rw c.in-Push.is c.push.ensures
+returns-in-Push g c = rw (c.in-Push.is, ← c.deref-in-Push.ensures) c.push.ensures

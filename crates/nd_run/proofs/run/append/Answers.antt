@@ -34,7 +34,7 @@ not_refused ns ms axis kind fit size (TooLarge _ too_large) = too_large size
 
 pub unreachable-requires : goal.unreachable-requires
 unreachable-requires g c =
-    let ns = shape_of c.args.array in
+    let ns = shape_of c.args.array.now in
     let ms = shape_of c.args.other in
     let fit = fits c.args.axis ms ns (c.in-Ok.ensures {u = tt}) in
     not_refused ns ms c.args.axis c.in-Err-Shape.field-0-0 fit.0 fit.1 (subst (IsAppendRefused ns ms c.args.axis) c.in-Err-Shape.field-0-is (c.in-Err-Shape.ensures {u = tt}).refused)

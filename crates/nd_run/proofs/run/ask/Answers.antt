@@ -1,35 +1,24 @@
-use Rattle.std.proofs.Common.{◌≡◌, ◌∙◌, sym, ap, None, Some, map, subst}
-use Rattle.std.specs.Prelude.{IfOk}
+use Rattle.std.proofs.Common.{◌≡◌, ◌∙◌, sym, ap, None, Some, map}
 use Rattle.nd_array_core.specs.Meaning.{meaning_of}
-use Rattle.nd_run.specs.Calls.{asked_step, asking, said_reply, SaidRefused}
+use Rattle.nd_run.specs.Calls.{asked_step, asking, SaidRefused}
 use Rattle.nd_run.specs.Acts.{meaning_at_end}
 use Rattle.nd_run.specs.Fold.{look_refusal}
-use Rattle.nd_run.proofs.FoldLemmas.{same_meaning, leads_is, ask_lacks, answer_is, ask_refused}
+use Rattle.nd_run.proofs.FoldLemmas.{same_meaning, leads_is, ask_refused, asked_is, answered}
 use Rattle.nd_run.proofs.run.ask.Goals as goal
 
-pub returns-in-Ok-clause-reply : goal.returns-in-Ok-clause-reply
-returns-in-Ok-clause-reply g c =
+pub returns-in-Ok : goal.returns-in-Ok
+returns-in-Ok g c =
     let path = map asked_step c.args.path.now in
     let m = meaning_of c.args.array.now in
     let n = meaning_of c.in-Ok.view in
     let same : meaning_of c.view.result ≡ m = same_meaning m (meaning_of c.view.result) c.view.ensures.whole.0 c.view.ensures.whole.2 in
     let free : look_refusal path m.shape ≡ None = ap (look_refusal path) (sym c.view.ensures.whole.0) ∙ c.in-Ok.ensures.refused in
     let end : n ≡ meaning_at_end path m = leads_is path (meaning_of c.view.result) n c.in-Ok.ensures.along c.nothing_outside.ensures ∙ ap (meaning_at_end path) same in
-    subst (λ s. IfOk c.answer.result (λ reply. said_reply reply ≡ s)) (answer_is g.A.PartialEq.eq path (asking c.args.question.now) m n free end) c.answer.ensures.reply
+    answered g.A.PartialEq.eq path (asking c.args.question.now) m n c.answer.result free end c.answer.ensures.reply c.answer.ensures.memory
 
-pub returns-in-Ok-clause-memory : goal.returns-in-Ok-clause-memory
-returns-in-Ok-clause-memory g c =
+pub returns-in-Err : goal.returns-in-Err
+returns-in-Err g c =
     let path = map asked_step c.args.path.now in
     let m = meaning_of c.args.array.now in
-    let n = meaning_of c.in-Ok.view in
-    let same : meaning_of c.view.result ≡ m = same_meaning m (meaning_of c.view.result) c.view.ensures.whole.0 c.view.ensures.whole.2 in
-    let free : look_refusal path m.shape ≡ None = ap (look_refusal path) (sym c.view.ensures.whole.0) ∙ c.in-Ok.ensures.refused in
-    let end : n ≡ meaning_at_end path m = leads_is path (meaning_of c.view.result) n c.in-Ok.ensures.along c.nothing_outside.ensures ∙ ap (meaning_at_end path) same in
-    ask_lacks g.A.PartialEq.eq path (asking c.args.question.now) m n c.answer.result free end c.answer.ensures.memory
-
-pub returns-in-Err-clause-reply : goal.returns-in-Err-clause-reply
-returns-in-Err-clause-reply g c =
-    let path = map asked_step c.args.path.now in
-    let m = meaning_of c.args.array.now in
-    let refused : look_refusal path m.shape ≡ Some c.in-Err.cause = ap (look_refusal path) (sym c.view.ensures.whole.0) ∙ c.in-Err.ensures.refused in
-    ap SaidRefused c.number.ensures ∙ ask_refused g.A.PartialEq.eq path (asking c.args.question.now) m c.in-Err.cause refused
+    let refused : look_refusal path m.shape ≡ Some c.in-Err.refused = ap (look_refusal path) (sym c.view.ensures.whole.0) ∙ c.in-Err.ensures.refused in
+    asked_is g.A.PartialEq.eq path (asking c.args.question.now) m (SaidRefused c.number.result) (ap SaidRefused c.number.ensures ∙ ask_refused g.A.PartialEq.eq path (asking c.args.question.now) m c.in-Err.refused refused)

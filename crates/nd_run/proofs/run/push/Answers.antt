@@ -35,4 +35,4 @@ returns g c =
     let seen : meaning_of c.view.result ≡ m = same_meaning m (meaning_of c.view.result) c.view.ensures.whole.0 c.view.ensures.whole.2 in
     let is : meaning_of c.insert_axis.result ≡ with_axis_inserted axis m =
     same_meaning (with_axis_inserted axis (meaning_of c.view.result)) (meaning_of c.insert_axis.result) c.insert_axis.ensures.part.0.0 c.insert_axis.ensures.part.0.2 ∙ ap (with_axis_inserted axis) seen in
-    subst (λ n. CarriesOut g.A.PartialEq.eq (Appending axis n) (meaning_of c.args.array) (λ a. meaning_of a) c.append.result) is c.append.ensures
+    subst (λ n. CarriesOut g.A.PartialEq.eq (Appending axis n) (meaning_of c.args.array.now) (meaning_of c.append.new.array) c.append.result) is c.append.ensures

@@ -18,14 +18,14 @@ module _ (axis n : ℕ) (ns : List ℕ) (on : axis < length ns) where
 
 pub returns-in-Ok : goal.returns-in-Ok
 returns-in-Ok g c =
-    let m = meaning_of c.args.array in
+    let m = meaning_of c.args.array.now in
     let on : c.args.axis < length m.shape = search rules in
     carried g.A.PartialEq.eq (Reserving c.args.axis c.args.additional) m None (meaning_of c.reserve.new.self) (sym (can_grow c.args.axis c.args.additional m.shape on c.in-Ok.ensures.fits)) refl
     (same_meaning m (meaning_of c.reserve.new.self) c.reserve.ensures.whole.0 c.reserve.ensures.whole.2)
 
 pub returns-in-Err-Shape : goal.returns-in-Err-Shape
 returns-in-Err-Shape g c =
-    let m = meaning_of c.args.array in
+    let m = meaning_of c.args.array.now in
     let on : c.args.axis < length m.shape = search rules in
     rw c.number-in-Err-Shape.ensures
     (carried g.A.PartialEq.eq (Reserving c.args.axis c.args.additional) m (Some causes.Overflow) (meaning_of c.reserve.new.self) (sym (cannot_grow c.args.axis c.args.additional m.shape on (λ fits. (let e = c.in-Err-Shape.ensures.no_memory fits in absurd cc)))) refl

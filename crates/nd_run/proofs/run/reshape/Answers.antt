@@ -8,11 +8,12 @@ use Rattle.nd_run.proofs.run.reshape.Goals as goal
 pub returns-in-Ok-into_shape_clone : goal.returns-in-Ok-into_shape_clone
 returns-in-Ok-into_shape_clone g c =
     let order = c.args.order in
-    let m = meaning_of c.args.array in
+    let m = meaning_of c.args.array.now in
     let new = meaning_of c.in-Ok-into_shape_clone.reshaped in
-    let asked = ap (λ (to : List ℕ). regrouped_meaning order to m) c.in-Ok.ensures.lengths in
-    let is : new ≡ regrouped_meaning order c.args.lengths.now m = elim c.in-Ok-into_shape_clone.ensures.kind [
+    let out = meaning_of c.taken.result in
+    let asked = ap (λ (to : List ℕ). regrouped_meaning order to out) c.in-Ok.ensures.lengths in
+    let is : new ≡ regrouped_meaning order c.args.lengths.now out = elim c.in-Ok-into_shape_clone.ensures.kind [
       | inl kept ↦ same_meaning _ new kept.1.0.0 kept.1.0.2 ∙ asked
       | inr copied ↦ same_meaning _ new copied.2.0 copied.2.1 ∙ asked
     ] in
-    carried g.A.PartialEq.eq (Reshaping c.args.lengths.now order) m None new (sym c.in-Ok.ensures.refused) refl is
+    carried g.A.PartialEq.eq (Reshaping c.args.lengths.now order) m None new (sym c.in-Ok.ensures.refused) refl (is ∙ ap (λ a. regrouped_meaning order c.args.lengths.now (meaning_of a)) c.taken.ensures)

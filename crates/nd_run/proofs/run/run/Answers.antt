@@ -26,5 +26,5 @@ loop-call-preserved g c =
     let items : map said_reply c.push_reserved.new.self.items ≡ map said_reply c.loop-call.replies.items ++ said_reply c.in-Ok-act.reply ∷ [] = ap (map said_reply) c.push_reserved.ensures.items ∙ map-append said_reply c.loop-call.replies.items (c.in-Ok-act.reply ∷ []) in (
       omega (arith, c.push_reserved.ensures.len),
       omega (arith, c.push_reserved.ensures.capacity),
-      rw items (run_more g.A.PartialEq.eq (map asked_call calls) (meaning_of c.args.start) (meaning_of c.loop-call.array) (meaning_of c.in-Ok-act.left) (map said_reply c.loop-call.replies.items) k (asked_call call) (said_reply c.in-Ok-act.reply) mapped at (ap (λ (x : Said _ × Meaning _). x.0) c.in-Ok-act.ensures) (ap (λ (x : Said _ × Meaning _). x.1) c.in-Ok-act.ensures) c.loop-call.invariant.2),
+      rw items (run_more g.A.PartialEq.eq (map asked_call calls) (meaning_of c.args.start) (meaning_of c.loop-call.array) (meaning_of c.act.new.array) (map said_reply c.loop-call.replies.items) k (asked_call call) (said_reply c.in-Ok-act.reply) mapped at (ap (λ (x : Said _ × Meaning _). x.0) c.in-Ok-act.ensures) (ap (λ (x : Said _ × Meaning _). x.1) c.in-Ok-act.ensures) c.loop-call.invariant.2),
     )

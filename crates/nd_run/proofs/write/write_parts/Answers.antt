@@ -12,7 +12,7 @@ pub returns-then-is_some : goal.returns-then-is_some
 returns-then-is_some g c =
     let first = acting c.args.first.now in
     let second = acting c.args.second.now in
-    let m = meaning_of c.args.array in
+    let m = meaning_of c.args.array.now in
     let r = c.point_refusal-refused.result in
     let some = sym c.is_some.ensures ∙ c.if-is_some.true in
     let refused = point_decides c.args.axis c.args.index first second r m.shape some (c.point_refusal-refused.ensures ∙ ap (point_refusal c.args.axis c.args.index) c.shape.ensures.value) in
@@ -24,7 +24,7 @@ returns g c =
     let index = c.args.index in
     let first = acting c.args.first.now in
     let second = acting c.args.second.now in
-    let array = c.args.array in
+    let array = c.args.array.now in
     let after = c.with_split_at.new.self in
     let ns = shape_of array in
     let r = c.in_ok-refused.refused in

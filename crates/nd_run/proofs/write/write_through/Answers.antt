@@ -15,7 +15,7 @@ returns g c =
     let v = d.0 in
     let w = d.1 in
     let r = c.in_ok-refused.refused in
-    let old = meaning_of c.args.array in
+    let old = meaning_of c.args.array.now in
     let new = meaning_of c.with_view_mut.new.self in
     let refused : r ≡ write_refusal path act old.shape = d.4.0 ∙ ap (write_refusal path act) d.2.same_shape in
     rw c.write_reply.ensures (carried g.A.PartialEq.eq (Writing path act) old r new refused refl

@@ -1,5 +1,0 @@
-use Rattle.nd_run.proofs.TextLaws.{lines_join}
-use Rattle.nd_run.proofs.laws.lines_join_again.Goals as goal
-
-pub returns : goal.returns
-returns c = lines_join

@@ -1,0 +1,5 @@
+use Rattle.nd_text.proofs.TextLaws.{lines_join}
+use Rattle.nd_text.proofs.laws.lines_join_again.Goals as goal
+
+pub returns : goal.returns
+returns c = lines_join

@@ -1,0 +1,49 @@
+//! Reading all input.
+
+ghost use Rattle.std.specs.Prelude.{◌≡◌, IfOk, IfSome};
+ghost use Rattle.nd_text.specs.declared.input.InputError.TheVariants.{Memory};
+ghost use Rattle.nd_text.specs.Input.{is_read_failure};
+ghost use Rattle.nd_text.specs.Watched.{watched_inner, watched_failed};
+
+use crate::watched::Watched;
+use std::alloc::{AllocError, Global};
+use std::io::Read;
+
+/// Why the input could not be read.
+#[derive(Clone, Copy, Debug, PartialEq, Eq)]
+pub enum InputError {
+    /// A read failed.
+    Failed,
+    /// Memory was refused.
+    Memory,
+}
+
+impl From<AllocError> for InputError {
+    ghost from_gives = { λ _ e. e ≡ Memory };
+
+    fn from(_error: AllocError) -> InputError {
+        InputError::Memory
+    }
+}
+
+/// All bytes up to the end of the input. It stops at the first read that fails, and at once if one had failed before.
+pub fn read_input<R: Read>(alloc: Global, input: &mut Watched<R>) -> Result<Vec<u8>, InputError>
+    ensures bytes { IfOk result (λ v. IfSome (R.remaining (watched_inner input.old)) (λ xs. xs ≡ v.items)) }
+    ensures failed { watched_failed input.new ≡ is_read_failure result }
+{
+    if input.failed() {
+        return Err(InputError::Failed);
+    }
+    let mut bytes = Vec::new(alloc);
+    let mut piece = [0; PIECE_LEN];
+    loop {
+        match input.read(&mut piece) {
+            Ok(0) => return Ok(bytes),
+            Ok(count) => bytes.extend_from_slice(&piece[..count])?,
+            Err(_) => return Err(InputError::Failed),
+        }
+    }
+}
+
+/// What a pipe holds.
+const PIECE_LEN: usize = 65536;

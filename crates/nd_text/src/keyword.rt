@@ -1,0 +1,144 @@
+//! The words that name calls, steps, questions and acts.
+
+ghost use Rattle.std.specs.Prelude.{◌≡◌};
+ghost use Rattle.nd_text.specs.Spelling.{keyword_of, keyword_among, long_keywords, is_step};
+
+/// What a word names.
+#[derive(Clone, Copy, Debug, PartialEq, Eq)]
+pub enum Keyword {
+    Start,
+    Keep,
+    Ask,
+    Write,
+    Split,
+    Slash,
+    Cut,
+    Slice,
+    Collapse,
+    Index,
+    Permute,
+    Reverse,
+    SwapAxes,
+    Invert,
+    Insert,
+    Remove,
+    Squeeze,
+    Diag,
+    Broadcast,
+    Part,
+    Coordinate,
+    New,
+    Shape,
+    Elements,
+    Get,
+    First,
+    Last,
+    Equal,
+    Count,
+    Select,
+    RemoveIndex,
+    Reshape,
+    Append,
+    Push,
+    Reserve,
+    Row,
+    Column,
+    Fill,
+    Assign,
+    Set,
+    Swap,
+    /// Any other word.
+    Other,
+}
+
+impl Keyword {
+    /// What the word names: told by its length and its bytes in turn.
+    #[tactic(auto, unfolding(crate::specs::Spelling::keyword_of))]
+    pub fn of(word: &[u8]) -> Keyword
+        ensures { result ≡ keyword_of word.now }
+    {
+        if word.len() > 7 {
+            return Keyword::of_long(word);
+        }
+        match word {
+            b"start" => Keyword::Start,
+            b"keep" => Keyword::Keep,
+            b"ask" => Keyword::Ask,
+            b"write" => Keyword::Write,
+            b"split" => Keyword::Split,
+            b"/" => Keyword::Slash,
+            b"cut" => Keyword::Cut,
+            b"slice" => Keyword::Slice,
+            b"index" => Keyword::Index,
+            b"permute" => Keyword::Permute,
+            b"reverse" => Keyword::Reverse,
+            b"invert" => Keyword::Invert,
+            b"insert" => Keyword::Insert,
+            b"remove" => Keyword::Remove,
+            b"squeeze" => Keyword::Squeeze,
+            b"diag" => Keyword::Diag,
+            b"s" => Keyword::Part,
+            b"i" => Keyword::Coordinate,
+            b"n" => Keyword::New,
+            b"shape" => Keyword::Shape,
+            b"get" => Keyword::Get,
+            b"first" => Keyword::First,
+            b"last" => Keyword::Last,
+            b"equal" => Keyword::Equal,
+            b"count" => Keyword::Count,
+            b"select" => Keyword::Select,
+            b"reshape" => Keyword::Reshape,
+            b"append" => Keyword::Append,
+            b"push" => Keyword::Push,
+            b"reserve" => Keyword::Reserve,
+            b"row" => Keyword::Row,
+            b"col" => Keyword::Column,
+            b"fill" => Keyword::Fill,
+            b"assign" => Keyword::Assign,
+            b"set" => Keyword::Set,
+            b"swap" => Keyword::Swap,
+            _ => Keyword::Other,
+        }
+    }
+
+    /// What a word of more than seven bytes names.
+    fn of_long(word: &[u8]) -> Keyword
+        ensures { result ≡ keyword_among long_keywords word.now }
+    {
+        if word == b"collapse".as_slice() {
+            Keyword::Collapse
+        } else if word == b"swapaxes".as_slice() {
+            Keyword::SwapAxes
+        } else if word == b"elements".as_slice() {
+            Keyword::Elements
+        } else if word == b"broadcast".as_slice() {
+            Keyword::Broadcast
+        } else if word == b"removeindex".as_slice() {
+            Keyword::RemoveIndex
+        } else {
+            Keyword::Other
+        }
+    }
+
+    /// Whether a step begins with this word.
+    pub fn is_step(self) -> bool
+        ensures { result ≡ is_step self }
+    {
+        matches!(
+            self,
+            Keyword::Cut
+                | Keyword::Slice
+                | Keyword::Collapse
+                | Keyword::Index
+                | Keyword::Permute
+                | Keyword::Reverse
+                | Keyword::SwapAxes
+                | Keyword::Invert
+                | Keyword::Insert
+                | Keyword::Remove
+                | Keyword::Squeeze
+                | Keyword::Diag
+                | Keyword::Broadcast
+        )
+    }
+}

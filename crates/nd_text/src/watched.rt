@@ -1,0 +1,133 @@
+//! A reader or a writer that remembers whether one of its calls failed, and which flushes it was asked for.
+
+ghost use Rattle.std.specs.Prelude.{◌≡◌, ◌||◌, false, is_err};
+ghost use Rattle.std.specs.Io.{ReadsAtMost, WritesAtMost};
+ghost use Rattle.std.specs.Io.KnownBytes.{Keeps, ReadConsumes, WriteAppends};
+ghost use Rattle.nd_text.specs.declared.watched.Flushes.TheVariants.{Never};
+ghost use Rattle.nd_text.specs.Watched.{watched_inner, watched_failed, watched_flushes, after_write, after_flush, write_failed};
+
+use std::io;
+use std::io::{Read, Write};
+
+/// Which flushes a writer was asked for.
+#[derive(Clone, Copy, Debug, PartialEq, Eq)]
+pub enum Flushes {
+    /// None.
+    Never,
+    /// One, with no failed call before it and no write after it.
+    AtEnd,
+    /// Anything else.
+    Other,
+}
+
+impl Flushes {
+    fn after_write(self) -> Flushes
+        ensures { result ≡ after_write self }
+    {
+        match self {
+            Flushes::Never => Flushes::Never,
+            _ => Flushes::Other,
+        }
+    }
+
+    fn after_flush(self, failed: bool) -> Flushes
+        ensures { result ≡ after_flush failed self }
+    {
+        match self {
+            Flushes::Never if !failed => Flushes::AtEnd,
+            _ => Flushes::Other,
+        }
+    }
+}
+
+/// A reader or a writer that remembers whether one of its calls failed. Each `Err` counts, `Interrupted` included, and
+/// so does a write that takes nothing of bytes that it was given.
+///
+/// The standard `flush` ensures only that the bytes stay, so a contract over any writer can't see it. `flushes`
+/// is set beside the inner call, and lets contracts say when a flush is due.
+#[derive(Drop)]
+pub struct Watched<T> {
+    inner: T,
+    failed: bool,
+    flushes: Flushes,
+}
+
+impl<T> Watched<T> {
+    /// Watches a reader or a writer from now on.
+    pub fn new(inner: T) -> Self
+        ensures inner { watched_inner result ≡ inner }
+        ensures failed { watched_failed result ≡ false }
+        ensures flushes { watched_flushes result ≡ Never }
+    {
+        Watched {
+            inner,
+            failed: false,
+            flushes: Flushes::Never,
+        }
+    }
+
+    /// The reader or writer.
+    pub fn into_inner(self) -> T
+        ensures { result ≡ watched_inner self }
+    {
+        let Watched { inner, .. } = self;
+        inner
+    }
+
+    /// Whether some call failed.
+    pub fn failed(&self) -> bool
+        ensures { result ≡ watched_failed self.now }
+    {
+        self.failed
+    }
+}
+
+impl<R: Read> Read for Watched<R> {
+    ghost remaining = { λ w. R.remaining (watched_inner w) };
+
+    fn read(&mut self, buf: &mut [u8]) -> io::Result<usize>
+        ensures bound { ReadsAtMost result buf.new }
+        ensures bytes { ReadConsumes (R.remaining (watched_inner self.old)) (R.remaining (watched_inner self.new)) result buf.new }
+        ensures failed { watched_failed self.new ≡ (watched_failed self.old || is_err result) }
+        ensures flushes { watched_flushes self.new ≡ watched_flushes self.old }
+    {
+        let result = self.inner.read(buf);
+        if result.is_err() {
+            self.failed = true;
+        }
+        result
+    }
+}
+
+impl<W: Write> Write for Watched<W> {
+    ghost contents = { λ w. W.contents (watched_inner w) };
+
+    fn write(&mut self, buf: &[u8]) -> io::Result<usize>
+        ensures bound { WritesAtMost result buf.now }
+        ensures bytes { WriteAppends (W.contents (watched_inner self.old)) (W.contents (watched_inner self.new)) result buf.now }
+        ensures failed { watched_failed self.new ≡ (watched_failed self.old || write_failed result buf.now) }
+        ensures flushes { watched_flushes self.new ≡ after_write (watched_flushes self.old) }
+    {
+        let result = self.inner.write(buf);
+        self.flushes = self.flushes.after_write();
+        match &result {
+            Ok(0) if !buf.is_empty() => self.failed = true,
+            Ok(_) => {}
+            Err(_) => self.failed = true,
+        }
+        result
+    }
+
+    fn flush(&mut self) -> io::Result<()>
+        ensures bytes { Keeps (W.contents (watched_inner self.old)) (W.contents (watched_inner self.new)) }
+        ensures failed { watched_failed self.new ≡ (watched_failed self.old || is_err result) }
+        ensures flushes { watched_flushes self.new ≡ after_flush (watched_failed self.old) (watched_flushes self.old) }
+    {
+        let result = self.inner.flush();
+        self.flushes = self.flushes.after_flush(self.failed);
+        if result.is_err() {
+            self.failed = true;
+        }
+        result
+    }
+}
