@@ -98,7 +98,7 @@ asked_step (steps.Broadcast lengths) = BroadcastTo lengths.items
 module _ {A : Type 0} {s : data_trait.Ghosts (OwnedRepr A) A} where
   abbrev pub acting : Act A (OwnedRepr A) s → Acting A
   acting (acts.Fill value) = Filling value
-  acting (acts.Assign other) = Assigning (meaning_of other.value)
+  acting (acts.Assign other) = Assigning (meaning_of other)
   acting (acts.Set index value) = Setting index.items value
   acting (acts.Swap a b) = Swapping a.items b.items
 
@@ -108,7 +108,7 @@ module _ {A : Type 0} {s : data_trait.Ghosts (OwnedRepr A) A} where
   asking (questions.Get index) = AskElement index.items
   asking questions.First = AskFirst
   asking questions.Last = AskLast
-  asking (questions.EqualTo other) = AskEqual (meaning_of other.value)
+  asking (questions.EqualTo other) = AskEqual (meaning_of other)
   asking (questions.Count element) = AskCount element
   asking (questions.ToShape lengths order) = AskReshaped lengths.items order
 
@@ -116,12 +116,12 @@ module _ {A : Type 0} {s : data_trait.Ghosts (OwnedRepr A) A} where
   asked_call (calls.Keep step) = Keeping (asked_step step)
   asked_call (calls.Ask path question) = About (map asked_step path.items) (asking question)
   asked_call (calls.Write path act) = Writing (map asked_step path.items) (acting act)
-  asked_call (calls.SplitWrite axis index first second) = SplitWriting axis index (acting first.value) (acting second.value)
+  asked_call (calls.SplitWrite axis index first second) = SplitWriting axis index (acting first) (acting second)
   asked_call (calls.Select axis indexes) = Selecting axis indexes.items
   asked_call (calls.RemoveIndex axis index) = Removing axis index
   asked_call (calls.Reshape lengths order) = Reshaping lengths.items order
-  asked_call (calls.Append axis other) = Appending axis (meaning_of other.value)
-  asked_call (calls.Push axis other) = Appending axis (with_axis_inserted axis (meaning_of other.value))
+  asked_call (calls.Append axis other) = Appending axis (meaning_of other)
+  asked_call (calls.Push axis other) = Appending axis (with_axis_inserted axis (meaning_of other))
   asked_call (calls.Reserve axis additional) = Reserving axis additional
 
 abbrev pub said_reply : {A : Type 0} → Reply A → Said A

@@ -1,5 +1,4 @@
-//! The calls that a script makes on its array, and the replies to them. What is large and rare in them is boxed, since
-//! a list of calls has room for the largest kind in each.
+//! The calls that a script makes on its array, and the replies to them.
 
 use nd_array_core::{ArrayBase, Data, OwnedRepr};
 use nd_shape_and_slice::{IxDyn, Order, Slice, SliceInfoElem};
@@ -49,7 +48,7 @@ pub enum Question<A, S: Data<Elem = A> = OwnedRepr<A>> {
     /// The last element in row-major order.
     Last,
     /// Whether it equals this array: the same lengths, and equal elements.
-    EqualTo(Box<ArrayBase<S, IxDyn>>),
+    EqualTo(ArrayBase<S, IxDyn>),
     /// How many of its elements equal this one.
     Count(A),
     /// Its elements under other lengths, where each keeps its rank in this order.
@@ -62,7 +61,7 @@ pub enum Act<A, S: Data<Elem = A> = OwnedRepr<A>> {
     /// Each element becomes a clone of this one.
     Fill(A),
     /// Each element becomes a clone of the one at its index in this array, broadcast to the lengths.
-    Assign(Box<ArrayBase<S, IxDyn>>),
+    Assign(ArrayBase<S, IxDyn>),
     /// The element of an index becomes a clone of this one.
     Set(Vec<usize>, A),
     /// The elements at two indexes are exchanged.
@@ -79,7 +78,7 @@ pub enum Call<A, S: Data<Elem = A> = OwnedRepr<A>> {
     /// An act on what these steps lead to. It changes the array's own elements.
     Write(Vec<Step>, Act<A, S>),
     /// An axis, a coordinate at which it is split, and an act on each of the two parts.
-    SplitWrite(usize, usize, Box<Act<A, S>>, Box<Act<A, S>>),
+    SplitWrite(usize, usize, Act<A, S>, Act<A, S>),
     /// An axis, and the coordinates of it that are chosen, in their new order.
     Select(usize, Vec<usize>),
     /// An axis, and a coordinate of it that is taken out.
@@ -87,9 +86,9 @@ pub enum Call<A, S: Data<Elem = A> = OwnedRepr<A>> {
     /// Other lengths, under which each element keeps its rank in this order.
     Reshape(Vec<usize>, Order),
     /// An axis, and an array that comes behind along it, with clones of its elements.
-    Append(usize, Box<ArrayBase<S, IxDyn>>),
+    Append(usize, ArrayBase<S, IxDyn>),
     /// The same of an array with one axis fewer, as one more length of the axis.
-    Push(usize, Box<ArrayBase<S, IxDyn>>),
+    Push(usize, ArrayBase<S, IxDyn>),
     /// An axis, and for how many more lengths of it room is made.
     Reserve(usize, usize),
 }

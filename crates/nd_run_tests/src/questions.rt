@@ -25,8 +25,7 @@ fn equal_after(
 ) -> Result<Option<bool>, Fail> {
     let start = made(alloc, &[2, 3], &[1, 2, 3, 4, 5, 6])?;
     let mut calls = Vec::new(alloc);
-    let question = Question::EqualTo(Box::new(alloc, other)?);
-    calls.push(Call::Ask(path, question))?;
+    calls.push(Call::Ask(path, Question::EqualTo(other)))?;
     match run(alloc, start, &calls) {
         Ok((replies, _)) => Ok(truth(&replies)),
         Err(RunFault::Memory(_)) => Err("memory".into()),

@@ -96,8 +96,8 @@ fn written<A: Clone + Eq + Drop>(
     calls.push(Call::SplitWrite(
         0,
         1,
-        Box::new(alloc, Act::Fill(three))?,
-        Box::new(alloc, Act::Set(Vec::from_slice(alloc, &[1])?, four))?,
+        Act::Fill(three),
+        Act::Set(Vec::from_slice(alloc, &[1])?, four),
     ))?;
     match run(alloc, start, &calls) {
         Ok((replies, array)) => Ok((replies.len(), Some(array))),
@@ -154,7 +154,7 @@ fn laid_out_and_assigned<A: Clone + Eq + Drop>(
     let mut calls = Vec::new(alloc);
     calls.push(Call::Keep(Step::Reverse))?;
     calls.push(Call::Reshape(Vec::from_slice(alloc, &[4])?, Order::RowMajor))?;
-    calls.push(Call::Write(Vec::new(alloc), Act::Assign(Box::new(alloc, other)?)))?;
+    calls.push(Call::Write(Vec::new(alloc), Act::Assign(other)))?;
     match run(alloc, start, &calls) {
         Ok((replies, array)) => Ok((replies.len(), Some(array))),
         Err(RunFault::Memory(replies)) => Ok((replies.len(), None)),
@@ -223,9 +223,9 @@ fn lengthened<A: Clone + Eq + Drop>(
     requires { (x y : A) → A.is_clone x y → y ≡ x }
 {
     let mut calls = Vec::new(alloc);
-    calls.push(Call::Append(0, Box::new(alloc, two)?))?;
+    calls.push(Call::Append(0, two))?;
     calls.push(Call::Reserve(0, 4))?;
-    calls.push(Call::Push(0, Box::new(alloc, one)?))?;
+    calls.push(Call::Push(0, one))?;
     match run(alloc, start, &calls) {
         Ok((replies, array)) => Ok((replies.len(), array.len())),
         Err(RunFault::Memory(replies)) => Ok((replies.len(), 0)),

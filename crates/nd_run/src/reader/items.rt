@@ -158,14 +158,6 @@ impl<'a> Line<'a> {
         Ok((lengths, elements))
     }
 
-    /// An ARRAY, boxed. A function of its own, so that lines with no array don't pay for its locals.
-    #[inline(never)]
-    pub fn boxed(&mut self, alloc: Global) -> Result<Box<Array<i64, IxDyn>>, LineFault>
-        ensures { IsRead (λ x. meaning_of x.value) result self.new (array_at self.old) }
-    {
-        Ok(Box::new(alloc, self.array(alloc)?)?)
-    }
-
     /// An ARRAY: its lengths, and its elements in row-major order.
     #[tactic(auto, unfolding(crate::specs::Reading::map_read))]
     pub fn array(&mut self, alloc: Global) -> Result<Array<i64, IxDyn>, LineFault>

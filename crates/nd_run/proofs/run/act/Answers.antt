@@ -13,13 +13,13 @@ pub returns-in-Write : goal.returns-in-Write
 returns-in-Write g c = rw (c.in-Write.is, ← c.as_slice-in-Write.ensures.value) c.write_through.ensures
 
 pub returns-in-SplitWrite : goal.returns-in-SplitWrite
-returns-in-SplitWrite g c = rw (c.in-SplitWrite.is, ← c.deref.ensures, ← c.deref-in-SplitWrite.ensures) c.write_parts.ensures
+returns-in-SplitWrite g c = rw c.in-SplitWrite.is c.write_parts.ensures
 
 pub returns-in-Append : goal.returns-in-Append
 returns-in-Append g c =
-    let m = meaning_of c.deref-in-Append.result.now in
+    let m = meaning_of c.in-Append.other in
     let seen : meaning_of c.view.result ≡ m = same_meaning m (meaning_of c.view.result) c.view.ensures.whole.0 c.view.ensures.whole.2 in
-    rw (c.in-Append.is, ← c.deref-in-Append.ensures, ← seen) c.append.ensures
+    rw (c.in-Append.is, ← seen) c.append.ensures
 
 pub returns-in-Push : goal.returns-in-Push
-returns-in-Push g c = rw (c.in-Push.is, ← c.deref-in-Push.ensures) c.push.ensures
+returns-in-Push g c = rw c.in-Push.is c.push.ensures

@@ -22,7 +22,7 @@ pub returns : goal.returns
 returns c =
     let front = map asked_step c.loop.steps.items in
     let total = path_at c.args.most c.args.self.now in
-    rw c.shrink_to_fit.ensures.items (elim c.loop-test.branch [
+    elim c.loop-test.branch [
       | else-loop-test w ↦ is_done begins_step (slashed_at step_at) front c.args.most c.loop.counter c.loop.self total w.loop-test.false c.loop.invariant
       | then-loop-test+then-not-begins_step w ↦ ends begins_step (slashed_at step_at) front c.args.most c.loop.counter c.loop.self total w.loop-test.true (sym w.begins_step.ensures ∙ w.if-not-begins_step.true) c.loop.invariant
-    ])
+    ]
