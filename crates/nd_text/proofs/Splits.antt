@@ -1,8 +1,9 @@
 -- The first line of a text and the first word of a line, by the place where they end.
-use Rattle.std.proofs.Common.{◌≡◌, ℕ, suc, ◌+◌, ◌<◌, ◌≤◌, Bool, true, false, cond, eqb, ltb, not, length-drop, List, [], ◌∷◌, length, take, drop, Option, Some, None, refl, sym, subst, ◌∙◌, arith}
+use Rattle.std.proofs.Common.{◌≡◌, ℕ, suc, ◌+◌, ◌<◌, ◌≤◌, Bool, true, false, cond, eqb, ltb, not, length-drop, ◌-◌, get_or, add-one, drop-cons, List, [], ◌∷◌, length, take, drop, Option, Some, None, refl, sym, subst, ◌∙◌, arith}
+use Rattle.std.specs.Prelude.{IsTrue, ◌↔◌}
 use Rattle.std.specs.List.{position, position_or_len}
 use Rattle.std.proofs.lemmas.List.{take_all, drop_all}
-use Rattle.std.proofs.lemmas.Bool.{ltb-true, ltb-false}
+use Rattle.std.proofs.lemmas.Bool.{eqb-true, ltb-true, ltb-false}
 use Rattle.nd_text.specs.Words.{before_first, lines_of, is_blank, goes_on, words_of}
 
 abbrev ends_line : ℕ → Bool
@@ -108,3 +109,54 @@ word_shorter (b ∷ bs) k e is =
     let at = place_is is_blank (b ∷ bs) k is in
     let longer : position_or_len is_blank (b ∷ bs) ≡ 1 + position_or_len is_blank bs = rw (not_true (is_blank b) e) refl in
     omega (arith, length-drop k (b ∷ bs), at.0, at.1, longer)
+
+-- ---- counting words
+
+-- how many words begin in these bytes, behind a blank or not
+abbrev pub begun : Bool → List ℕ → ℕ
+begun after_blank [] = 0
+begun after_blank (b ∷ bs) = cond (is_blank b) (begun true bs) (cond after_blank (suc (begun false bs)) (begun false bs))
+
+begun_by : (t g : Bool) (b n m : ℕ) (words : List (List ℕ)) → n ≡ length words → m + cond g 1 0 ≡ length words
+    → (cond t n (suc m) ≡ length (cond t words (cond g (before_first b words) ((b ∷ []) ∷ words)))) × (cond t n m + cond (not t) 1 0 ≡ length (cond t words (cond g (before_first b words) ((b ∷ []) ∷ words))))
+begun_by true g b n m words e f = (e, omega (arith, e))
+begun_by false true b n m [] e f = absurd (omega (arith, f))
+begun_by false true b n m (part ∷ parts) e f = (omega (arith, f), omega (arith, f))
+begun_by false false b n m words e f = (omega (arith, f), omega (arith, f))
+
+begun_both : (line : List ℕ) → (begun true line ≡ length (words_of line)) × (begun false line + cond (goes_on line) 1 0 ≡ length (words_of line))
+begun_both [] = (refl, refl)
+begun_both (b ∷ bs) = let h = begun_both bs in begun_by (is_blank b) (goes_on bs) b (begun true bs) (begun false bs) (words_of bs) h.0 h.1
+
+-- a line's words are those that begin in it
+pub begun_is : (line : List ℕ) → begun true line ≡ length (words_of line)
+begun_is line = (begun_both line).0
+
+step_by : (t after_blank : Bool) (left n m total count : ℕ) → 0 < left → cond t n (cond after_blank (suc m) m) + count ≡ left + total → cond t n m + count ≡ cond t left (cond after_blank (left - 1) left) + total
+step_by true after_blank left n m total count some e = e
+step_by false true left n m total count some e = omega (arith, some, e)
+step_by false false left n m total count some e = e
+
+after : (t : Bool) (bs : List ℕ) → begun t bs ≡ cond t (begun true bs) (begun false bs)
+after true bs = refl
+after false bs = refl
+
+pub begun_more : (line : List ℕ) (i left total count : ℕ) (after_blank : Bool) → i < length line → 0 < left → begun after_blank (drop i line) + count ≡ left + total
+    → begun (is_blank (get_or line i 0)) (drop (i + 1) line) + count ≡ cond (is_blank (get_or line i 0)) left (cond after_blank (left - 1) left) + total
+begun_more line i left total count after_blank inside some e =
+    let b = get_or line i 0 in
+    let rest = drop (suc i) line in
+    let here : cond (is_blank b) (begun true rest) (cond after_blank (suc (begun false rest)) (begun false rest)) + count ≡ left + total = subst (λ (bs : List ℕ). begun after_blank bs + count ≡ left + total) (drop-cons line i 0 inside) e in
+    rw (add-one, after (is_blank b) rest) (step_by (is_blank b) after_blank left (begun true rest) (begun false rest) total count some here)
+
+-- how many are left to be found tells whether there are as many as asked for
+told : (left n count : ℕ) → count ≡ left + n → IsTrue (eqb left 0) ↔ (count ≤ n)
+told left n count e = (λ t. omega (arith, e, eqb-true left 0 t), λ h. (let none : left ≡ 0 = omega (arith, e, h) in rw none refl))
+
+pub begun_enough : (line : List ℕ) (i left count : ℕ) (after_blank : Bool) → left ≡ 0 → begun after_blank (drop i line) + count ≡ left + begun true line → count ≤ length (words_of line)
+begun_enough line i left count after_blank none e = omega (arith, none, e, begun_is line)
+
+pub begun_all : (line : List ℕ) (i left count : ℕ) (after_blank : Bool) → length line ≤ i → begun after_blank (drop i line) + count ≡ left + begun true line → IsTrue (eqb left 0) ↔ (count ≤ length (words_of line))
+begun_all line i left count after_blank end e =
+    let none : begun after_blank (drop i line) ≡ 0 = rw (drop_all i line end) refl in
+    told left (length (words_of line)) count (omega (arith, none, e, begun_is line))

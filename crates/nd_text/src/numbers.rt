@@ -1,7 +1,7 @@
 //! Numbers from words.
 
 ghost use Rattle.std.specs.Prelude.{◌≡◌, ℕ, List, Option};
-ghost use Rattle.nd_text.specs.Numerals.{with_digit, signed_of, nat_of, int_of};
+ghost use Rattle.nd_text.specs.Numerals.{with_digit, signed_of, nat_of, int_of, has_minus, without_minus};
 
 /// The number with one digit more, if the byte is a digit and the number fits.
 fn with_digit(number: usize, byte: u8) -> Option<usize>
@@ -44,13 +44,22 @@ fn signed(minus: bool, number: usize) -> Option<i64>
 /// One more than the greatest signed number.
 const GREATEST: usize = 1 << 63;
 
+/// Whether a word has a minus sign, and what follows it.
+fn split_sign(word: &[u8]) -> (bool, &[u8])
+    ensures minus { result.0 ≡ has_minus word.now }
+    ensures digits { result.1.now ≡ without_minus word.now }
+{
+    match word {
+        [b'-', digits @ ..] => (true, digits),
+        _ => (false, word),
+    }
+}
+
 /// The signed number that a word writes.
-#[tactic(auto, using(crate::proofs::Numerals::int_behind, crate::proofs::Numerals::minus_behind))]
+#[tactic(auto, using(crate::proofs::Numerals::int_behind))]
 pub fn int_of_word(word: &[u8]) -> Option<i64>
     ensures { result ≡ int_of word.now }
 {
-    match word {
-        [b'-', digits @ ..] => signed(true, of_digits(digits)?),
-        _ => signed(false, of_digits(word)?),
-    }
+    let (minus, digits) = split_sign(word);
+    signed(minus, of_digits(digits)?)
 }

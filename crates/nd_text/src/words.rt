@@ -1,6 +1,6 @@
 //! Lines of a text and words of a line, taken from the front.
 
-ghost use Rattle.std.specs.Prelude.{◌≡◌, ◌==◌, not, ◌∷◌, ◌<◌, ◌≤◌, ◌↔◌, [], length, IsTrue, IfSome, MatchOption};
+ghost use Rattle.std.specs.Prelude.{◌≡◌, ◌==◌, ◌-◌, if◌then◌else◌, not, ◌∷◌, ◌<◌, ◌≤◌, ◌↔◌, [], length, IsTrue, IfSome, MatchOption};
 ghost use Rattle.std.specs.List.{position};
 ghost use Rattle.nd_text.specs.Words.{lines_of, words_of, is_blank, goes_on, is_wordless};
 
@@ -67,18 +67,33 @@ pub fn split_word(line: &[u8]) -> Option<(&[u8], &[u8])>
     }
 }
 
+/// How many words are left to be found behind one byte more: a word begins with a byte that isn't blank behind a blank.
+fn left_after(left: usize, after_blank: bool, blank: bool) -> usize
+    requires { 0 < left }
+    ensures { result ≡ (if blank then left else if after_blank then left - 1 else left) }
+{
+    if after_blank && !blank {
+        left - 1
+    } else {
+        left
+    }
+}
+
 /// Whether a line has at least this many words.
 pub fn has_words(line: &[u8], count: usize) -> bool
     ensures { IsTrue result ↔ (count ≤ length (words_of line.now)) }
 {
-    let mut rest = line;
-    for _ in 0..count {
-        match split_word(rest) {
-            None => return false,
-            Some((_, after)) => rest = after,
+    let mut left = count;
+    let mut after_blank = true;
+    for byte in line {
+        if left == 0 {
+            return true;
         }
+        let blank = is_blank(*byte);
+        left = left_after(left, after_blank, blank);
+        after_blank = blank;
     }
-    true
+    left == 0
 }
 
 /// Whether a line has no word.

@@ -52,7 +52,8 @@ impl<'a> Line<'a> {
     fn path(&mut self, alloc: Global, most: usize) -> Result<Vec<Step>, LineFault>
         ensures { IsRead (λ x. map asked_step x.items) result self.new (path_at most self.old) }
     {
-        let mut steps = Vec::new(alloc);
+        // Most paths have one step or none.
+        let mut steps = Vec::with_capacity(alloc, usize::from(self.begins_step()))?;
         for _ in 0..most {
             if !self.begins_step() {
                 break;

@@ -1,6 +1,7 @@
-use Rattle.std.proofs.Common.{◌≡◌, ◌+◌, length}
-use Rattle.nd_text.specs.Words.{words_of}
+use Rattle.std.proofs.Common.{◌≡◌, ◌+◌, true, drop}
+use Rattle.nd_text.proofs.Splits.{begun}
 use Rattle.nd_text.proofs.words.has_words.Given as goal
 
-abbrev pub invariant-loop : goal.invariant-loop
-invariant-loop l = l.counter + length (words_of l.rest) ≡ length (words_of l.line)
+-- the words that begin further on, and those found, are all
+abbrev pub invariant-loop-byte : goal.invariant-loop-byte
+invariant-loop-byte l = begun l.after_blank (drop l.byte-index l.line) + l.count ≡ l.left + begun true l.line

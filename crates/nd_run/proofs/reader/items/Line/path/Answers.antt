@@ -9,14 +9,14 @@ use Rattle.nd_run.proofs.reader.items.Line.path.Goals as goal
 
 pub returns-in_err-leg : goal.returns-in_err-leg
 returns-in_err-leg c =
-    let p = err_from_is_err_and c.from_residual.result c.from_residual.ensures.1 in
-    rw (p.1, p.2) (stops begins_step (slashed_at step_at) c.in_err-leg.field-0.0 (map asked_step c.loop.steps.items) c.args.most c.loop.counter c.loop.self (path_at c.args.most c.args.self.now) c.loop-test.true (sym c.begins_step.ensures ∙ c.if-not-begins_step.false) c.in_err-leg.ensures c.loop.invariant)
+    let p = err_from_is_err_and c.from_residual-in_err-leg.result c.from_residual-in_err-leg.ensures.1 in
+    rw (p.1, p.2) (stops begins_step (slashed_at step_at) c.in_err-leg.field-0.0 (map asked_step c.loop.steps.items) c.args.most c.loop.counter c.loop.self (path_at c.args.most c.args.self.now) c.loop-test.true (sym c.begins_step-in-loop.ensures ∙ c.if-not-begins_step.false) c.in_err-leg.ensures c.loop.invariant)
 
 pub loop-preserved : goal.loop-preserved
 loop-preserved c =
     let step = asked_step c.in_ok-leg.field-0 in
     let e : map asked_step c.push.new.self.items ≡ map asked_step c.loop.steps.items ++ step ∷ [] = rw c.in_ok-push.ensures.items (map_push _ c.loop.steps.items c.in_ok-leg.field-0) in
-    rw e (goes_on begins_step (slashed_at step_at) (map asked_step c.loop.steps.items) c.args.most c.loop.counter c.loop.self step c.leg.new.self (path_at c.args.most c.args.self.now) c.loop-test.true (sym c.begins_step.ensures ∙ c.if-not-begins_step.false) c.in_ok-leg.ensures c.loop.invariant)
+    rw e (goes_on begins_step (slashed_at step_at) (map asked_step c.loop.steps.items) c.args.most c.loop.counter c.loop.self step c.leg.new.self (path_at c.args.most c.args.self.now) c.loop-test.true (sym c.begins_step-in-loop.ensures ∙ c.if-not-begins_step.false) c.in_ok-leg.ensures c.loop.invariant)
 
 pub returns : goal.returns
 returns c =
@@ -24,5 +24,5 @@ returns c =
     let total = path_at c.args.most c.args.self.now in
     elim c.loop-test.branch [
       | else-loop-test w ↦ is_done begins_step (slashed_at step_at) front c.args.most c.loop.counter c.loop.self total w.loop-test.false c.loop.invariant
-      | then-loop-test+then-not-begins_step w ↦ ends begins_step (slashed_at step_at) front c.args.most c.loop.counter c.loop.self total w.loop-test.true (sym w.begins_step.ensures ∙ w.if-not-begins_step.true) c.loop.invariant
+      | then-loop-test+then-not-begins_step w ↦ ends begins_step (slashed_at step_at) front c.args.most c.loop.counter c.loop.self total w.loop-test.true (sym w.begins_step-in-loop.ensures ∙ w.if-not-begins_step.true) c.loop.invariant
     ]
