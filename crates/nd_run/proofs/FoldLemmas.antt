@@ -31,6 +31,11 @@ tests_fail (x ∷ xs) ys cause h = by_test x.0 h (tests_fail xs ys cause)
     by_test true e rest = rest e
     by_test false e rest = e
 
+-- the first cause of tests that fail is that of all tests
+pub tests_stop : (xs ys : List Test) (r : Option Cause) → is_some r ≡ true → r ≡ first_failed xs → r ≡ first_failed (xs ++ ys)
+tests_stop xs ys None some e = absurd cc
+tests_stop xs ys (Some cause) some e = sym (tests_fail xs ys cause (sym e))
+
 module _ {A : Type 0} where
   meaning_from : List ℕ → (List ℕ → Option A) → Meaning A
   meaning_from shape at = record { shape = shape; at = at }

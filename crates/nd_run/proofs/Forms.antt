@@ -6,7 +6,7 @@ use Rattle.nd_text.specs.declared.keyword.Keyword.TheVariants.{Other, Slash}
 use Rattle.nd_text.specs.Numerals.{IsNat, nat_of}
 use Rattle.nd_text.specs.Spelling.{spelling}
 use Rattle.nd_run.specs.Grammar.{IsWord, IsBare, IsBoth, IsMade, AreInTurn, IsCounted, IsNamed, IsSlashBehind, IsSlashed}
-use Rattle.nd_run.specs.Reading.{◌>>=◌, item_at, both_at, map_read, many_while, many_at, counted_at, named_at, slash_by, slashed_at, read_to_end}
+use Rattle.nd_run.specs.Reading.{◌>>=◌, first_as, both_at, map_read, many_while, many_at, counted_at, named_at, slash_by, slashed_at, read_to_end}
 use Rattle.nd_text.specs.Spelling.{keyword_of}
 use Rattle.nd_text.proofs.Keywords.{known, spelled}
 use Rattle.nd_text.proofs.NumberLaws.{nat_takes, nat_again}
@@ -46,14 +46,14 @@ regrouped read words front back rest e = ap (λ (ws : List (List ℕ)). read (ws
 
 -- ---- one word, or none
 
-word_takes : {X : Type 0} (of : List ℕ → Option X) (Is : List ℕ → X → Type 0) → ((word : List ℕ) (x : X) → of word ≡ Some x → Is word x) → Takes (item_at of) (IsWord Is)
+word_takes : {X : Type 0} (of : List ℕ → Option X) (Is : List ℕ → X → Type 0) → ((word : List ℕ) (x : X) → of word ≡ Some x → Is word x) → Takes (first_as of) (IsWord Is)
 word_takes of Is takes [] x rest e = absurd cc
 word_takes of Is takes (word ∷ words) x rest e =
     let h = bind_some (of word) (λ y. Some (y, words)) (x, rest) e in
     let p = some_pair (h.0, words) (x, rest) h.2 in
     record { front = word ∷ []; parts = ap (λ (ws : List (List ℕ)). word ∷ ws) p.1; is = (word, refl, takes word x (h.1 ∙ ap Some p.0)) }
 
-pub word_reads : {X : Type 0} {n : ℕ} (of : List ℕ → Option X) (Is : List ℕ → X → Type 0) → ((word : List ℕ) (x : X) → of word ≡ Some x → Is word x) → ((word : List ℕ) (x : X) → Is word x → of word ≡ Some x) → Reads n (item_at of) (IsWord Is)
+pub word_reads : {X : Type 0} {n : ℕ} (of : List ℕ → Option X) (Is : List ℕ → X → Type 0) → ((word : List ℕ) (x : X) → of word ≡ Some x → Is word x) → ((word : List ℕ) (x : X) → Is word x → of word ≡ Some x) → Reads n (first_as of) (IsWord Is)
 word_reads of Is takes again = record {
   takes = word_takes of Is takes;
   again = λ front x rest few h. (let read : of h.0 ≡ Some x = again h.0 x h.2 in rw (h.1, read) refl);
@@ -170,7 +170,7 @@ many_length {X} read (suc n) words xs rest e =
 counted_takes : {X : Type 0} (read : List (List ℕ) → Option (X × List (List ℕ))) (Is : List (List ℕ) → X → Type 0) → Takes read Is → Takes (counted_at read) (IsCounted Is)
 unfolding counted_at
 counted_takes read Is takes words xs rest e =
-    let a = bind_some (item_at nat_of words) (λ count. many_at read count.0 count.1) (xs, rest) e in
+    let a = bind_some (first_as nat_of words) (λ count. many_at read count.0 count.1) (xs, rest) e in
     let count = word_takes nat_of IsNat nat_takes words a.0.0 a.0.1 a.1 in
     let items = many_take (λ ws. true) read Is takes a.0.0 a.0.1 xs rest a.2 in
     record {

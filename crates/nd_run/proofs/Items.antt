@@ -3,7 +3,7 @@ use Rattle.std.proofs.Common.{◌≡◌, ℕ, zero, suc, ◌-◌, ◌+◌, ◌�
 use Rattle.std.proofs.lemmas.List.{append-nil}
 use Rattle.nd_run.specs.declared.reader.fault.LineFault.{LineFault}
 use Rattle.nd_run.specs.declared.reader.fault.LineFault.TheVariants.{Bad, Memory}
-use Rattle.nd_run.specs.Reading.{◌>>=◌, Fails, item_at, both_at, map_read, many_while, many_at, TakesWords}
+use Rattle.nd_run.specs.Reading.{◌>>=◌, Fails, first_as, both_at, map_read, many_while, many_at, TakesWords}
 
 -- what was read before, and what is still read
 abbrev pub with_front : {X : Type 0} → List X → Option (List X × List (List ℕ)) → Option (List X × List (List ℕ))
@@ -64,6 +64,6 @@ left_by None words x rest e = absurd cc
 left_by {X} (Some y) words x rest e = let same : (y, words) ≡ (x, rest) = cc in ap (λ (p : X × List (List ℕ)). p.1) same
 
 -- one word is read
-pub item_words : {X : Type 0} (of : List ℕ → Option X) → TakesWords (item_at of)
+pub item_words : {X : Type 0} (of : List ℕ → Option X) → TakesWords (first_as of)
 item_words of [] x rest e = absurd cc
 item_words of (word ∷ words) x rest e = let same : words ≡ rest = left_by (of word) words x rest e in omega (arith, ap length same)

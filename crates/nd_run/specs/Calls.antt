@@ -1,10 +1,8 @@
 -- Calls and replies without where they lie in memory.
-use Rattle.std.specs.Prelude.{ℕ, Bool, List, map, Option}
+use Rattle.std.specs.Prelude.{ℕ, Bool, List, map, Option, Box}
 use Rattle.nd_shape_and_slice.specs.declared.slice.Slice.{Slice}
 use Rattle.nd_shape_and_slice.specs.declared.slice_info.SliceInfoElem.{SliceInfoElem}
 use Rattle.nd_shape_and_slice.specs.declared.builder.Order.{Order}
-use Rattle.nd_storage.specs.declared.storage.Data as data_trait
-use Rattle.nd_storage.specs.declared.storage.OwnedRepr.{OwnedRepr}
 use Rattle.nd_array_core.specs.Meaning.{Meaning, meaning_of}
 use Rattle.nd_array_core.specs.Laws.{with_axis_inserted}
 use Rattle.nd_run.specs.declared.calls.Step.{Step}
@@ -95,24 +93,29 @@ asked_step steps.Squeeze = Squeezed
 asked_step steps.Diag = Diagonal
 asked_step (steps.Broadcast lengths) = BroadcastTo lengths.items
 
-module _ {A : Type 0} {s : data_trait.Ghosts (OwnedRepr A) A} where
-  abbrev pub acting : Act A (OwnedRepr A) s → Acting A
+-- what lies in a box
+abbrev pub boxed : {X Y Z : Type 0} → (X → Y) → Box X Z → Y
+boxed of x = of x.value
+
+-- where what holds an array holds this meaning
+module _ {A T : Type 0} (held : T → Meaning A) where
+  abbrev pub acting : Act A T → Acting A
   acting (acts.Fill value) = Filling value
-  acting (acts.Assign other) = Assigning (meaning_of other)
+  acting (acts.Assign other) = Assigning (held other)
   acting (acts.Set index value) = Setting index.items value
   acting (acts.Swap a b) = Swapping a.items b.items
 
-  abbrev pub asking : Question A (OwnedRepr A) s → Asking A
+  abbrev pub asking : Question A T → Asking A
   asking questions.Shape = AskShape
   asking questions.Elements = AskElements
   asking (questions.Get index) = AskElement index.items
   asking questions.First = AskFirst
   asking questions.Last = AskLast
-  asking (questions.EqualTo other) = AskEqual (meaning_of other)
+  asking (questions.EqualTo other) = AskEqual (held other)
   asking (questions.Count element) = AskCount element
   asking (questions.ToShape lengths order) = AskReshaped lengths.items order
 
-  abbrev pub asked_call : Call A (OwnedRepr A) s → Asked A
+  abbrev pub asked_call : Call A T → Asked A
   asked_call (calls.Keep step) = Keeping (asked_step step)
   asked_call (calls.Ask path question) = About (map asked_step path.items) (asking question)
   asked_call (calls.Write path act) = Writing (map asked_step path.items) (acting act)
@@ -120,8 +123,8 @@ module _ {A : Type 0} {s : data_trait.Ghosts (OwnedRepr A) A} where
   asked_call (calls.Select axis indexes) = Selecting axis indexes.items
   asked_call (calls.RemoveIndex axis index) = Removing axis index
   asked_call (calls.Reshape lengths order) = Reshaping lengths.items order
-  asked_call (calls.Append axis other) = Appending axis (meaning_of other)
-  asked_call (calls.Push axis other) = Appending axis (with_axis_inserted axis (meaning_of other))
+  asked_call (calls.Append axis other) = Appending axis (held other)
+  asked_call (calls.Push axis other) = Appending axis (with_axis_inserted axis (held other))
   asked_call (calls.Reserve axis additional) = Reserving axis additional
 
 abbrev pub said_reply : {A : Type 0} → Reply A → Said A

@@ -18,11 +18,8 @@ use Rattle.nd_array_core.specs.Meaning.{Meaning}
 use Rattle.nd_run.specs.Grammar.{array_of}
 use Rattle.nd_text.specs.Numerals.{nat_of, int_of}
 use Rattle.nd_text.specs.Spelling.{is_step, keyword_of}
-
-infixl 10 ◌>>=◌
-abbrev pub ◌>>=◌ : {A B : Type 0} → Option A → (A → Option B) → Option B
-None >>= f = None
-(Some x) >>= f = f x
+-- one word, by what it writes, is `first_as`
+pub use Rattle.nd_text.specs.Words.{◌>>=◌, first_as}
 
 -- A reader of the code fails as reading does, unless memory ran out.
 abbrev pub Fails : {Y : Type 0} → LineFault → Option Y → Type 0
@@ -49,11 +46,6 @@ abbrev pub word_at : List (List ℕ) → Option (List ℕ × List (List ℕ))
 word_at [] = None
 word_at (word ∷ words) = Some (word, words)
 
--- one word, by what it writes
-abbrev pub item_at : {X : Type 0} → (List ℕ → Option X) → List (List ℕ) → Option (X × List (List ℕ))
-item_at of [] = None
-item_at of (word ∷ words) = of word >>= λ x. Some (x, words)
-
 -- one thing, and then another
 unfoldable pub both_at : {X Y : Type 0} → (List (List ℕ) → Option (X × List (List ℕ))) → (List (List ℕ) → Option (Y × List (List ℕ))) → List (List ℕ) → Option ((X × Y) × List (List ℕ))
 both_at read next words = do
@@ -79,7 +71,7 @@ many_at read n words = many_while (λ ws. true) read n words
 -- how many items there are, and then they
 unfoldable pub counted_at : {X : Type 0} → (List (List ℕ) → Option (X × List (List ℕ))) → List (List ℕ) → Option (List X × List (List ℕ))
 counted_at read words = do
-  count ← item_at nat_of words
+  count ← first_as nat_of words
   many_at read count.0 count.1
 
 abbrev pub keyword_at : List (List ℕ) → Option (Keyword × List (List ℕ))
@@ -106,10 +98,10 @@ slashed_at read words = map_read (λ x. x.0) (both_at read slash_at words)
 -- ---- numbers, lists and arrays
 
 abbrev pub pair_at : List (List ℕ) → Option ((ℕ × ℕ) × List (List ℕ))
-pair_at words = both_at (item_at nat_of) (item_at nat_of) words
+pair_at words = both_at (first_as nat_of) (first_as nat_of) words
 
 abbrev pub list_at : List (List ℕ) → Option (List ℕ × List (List ℕ))
-list_at words = counted_at (item_at nat_of) words
+list_at words = counted_at (first_as nat_of) words
 
 abbrev pub order_by : Keyword → List (List ℕ) → Option (Order × List (List ℕ))
 order_by Row words = Some (RowMajor, words)
@@ -126,8 +118,8 @@ ordered_list_at words = both_at order_at list_at words
 -- a list of at most 32 numbers
 unfoldable pub lengths_at : List (List ℕ) → Option (List ℕ × List (List ℕ))
 lengths_at words = do
-  count ← item_at nat_of words
-  if nat_le count.0 32 then many_at (item_at nat_of) count.0 count.1 else None
+  count ← first_as nat_of words
+  if nat_le count.0 32 then many_at (first_as nat_of) count.0 count.1 else None
 
 -- the size of an array, where it has a checked one
 abbrev pub checked_size : List ℕ → Option ℕ
@@ -138,7 +130,7 @@ unfoldable pub parts_at : List (List ℕ) → Option ((List ℕ × List ℤ) × 
 parts_at words = do
   lengths ← lengths_at words
   size ← checked_size lengths.0
-  elements ← many_at (item_at int_of) size lengths.1
+  elements ← many_at (first_as int_of) size lengths.1
   Some ((lengths.0, elements.0), elements.1)
 
 abbrev pub array_at : List (List ℕ) → Option (Meaning ℤ × List (List ℕ))
@@ -150,11 +142,11 @@ abbrev pub end_of : List ℕ → Option (Option ℤ)
 end_of word = if bytes_eq word (codes "_") then Some None else option_map Some (int_of word)
 
 abbrev pub slice_at : List (List ℕ) → Option (Slice × List (List ℕ))
-slice_at words = map_read (λ x. record { start = x.0; end = x.1.0; step = x.1.1 }) (both_at (item_at int_of) (both_at (item_at end_of) (item_at int_of)) words)
+slice_at words = map_read (λ x. record { start = x.0; end = x.1.0; step = x.1.1 }) (both_at (first_as int_of) (both_at (first_as end_of) (first_as int_of)) words)
 
 abbrev pub element_by : Keyword → List (List ℕ) → Option (SliceInfoElem × List (List ℕ))
 element_by Part words = map_read (λ s. Cutting s.start s.end s.step) (slice_at words)
-element_by Coordinate words = map_read At (item_at int_of words)
+element_by Coordinate words = map_read At (first_as int_of words)
 element_by New words = Some (NewAxis, words)
 element_by _ words = None
 
@@ -164,16 +156,16 @@ element_at words = named_at element_by words
 -- ---- steps, questions, acts and calls: a row for each keyword
 
 abbrev pub step_by : Keyword → List (List ℕ) → Option (AskedStep × List (List ℕ))
-step_by Cut words = map_read (λ x. SlicedAxis x.0 x.1) (both_at (item_at nat_of) slice_at words)
+step_by Cut words = map_read (λ x. SlicedAxis x.0 x.1) (both_at (first_as nat_of) slice_at words)
 step_by SliceWord words = map_read Sliced (counted_at element_at words)
 step_by Collapse words = map_read (λ x. Collapsed x.0 x.1) (pair_at words)
 step_by Index words = map_read (λ x. Indexed x.0 x.1) (pair_at words)
 step_by Permute words = map_read Permuted (list_at words)
 step_by Reverse words = Some (Reversed, words)
 step_by SwapAxes words = map_read (λ x. Exchanged x.0 x.1) (pair_at words)
-step_by Invert words = map_read Inverted (item_at nat_of words)
-step_by Insert words = map_read Inserted (item_at nat_of words)
-step_by Remove words = map_read Removed (item_at nat_of words)
+step_by Invert words = map_read Inverted (first_as nat_of words)
+step_by Insert words = map_read Inserted (first_as nat_of words)
+step_by Remove words = map_read Removed (first_as nat_of words)
 step_by Squeeze words = Some (Squeezed, words)
 step_by Diag words = Some (Diagonal, words)
 step_by Broadcast words = map_read BroadcastTo (list_at words)
@@ -198,7 +190,7 @@ question_by Get words = map_read AskElement (list_at words)
 question_by First words = Some (AskFirst, words)
 question_by Last words = Some (AskLast, words)
 question_by Equal words = map_read AskEqual (array_at words)
-question_by Count words = map_read AskCount (item_at int_of words)
+question_by Count words = map_read AskCount (first_as int_of words)
 question_by Reshape words = map_read (λ x. AskReshaped x.1 x.0) (ordered_list_at words)
 question_by _ words = None
 
@@ -206,9 +198,9 @@ abbrev pub question_at : List (List ℕ) → Option (Asking ℤ × List (List �
 question_at words = named_at question_by words
 
 abbrev pub act_by : Keyword → List (List ℕ) → Option (Acting ℤ × List (List ℕ))
-act_by Fill words = map_read Filling (item_at int_of words)
+act_by Fill words = map_read Filling (first_as int_of words)
 act_by Assign words = map_read Assigning (array_at words)
-act_by Set words = map_read (λ x. Setting x.0 x.1) (both_at list_at (item_at int_of) words)
+act_by Set words = map_read (λ x. Setting x.0 x.1) (both_at list_at (first_as int_of) words)
 act_by Swap words = map_read (λ x. Swapping x.0 x.1) (both_at list_at list_at words)
 act_by _ words = None
 
@@ -224,11 +216,11 @@ call_by n Keep words = map_read Keeping (step_at words)
 call_by n Ask words = map_read (λ x. About x.0 x.1) (both_at (path_at n) question_at words)
 call_by n Write words = map_read (λ x. Writing x.0 x.1) (both_at (path_at n) act_at words)
 call_by n Split words = map_read (λ x. SplitWriting x.0.0 x.0.1 x.1.0 x.1.1) (both_at pair_at acts_at words)
-call_by n Select words = map_read (λ x. Selecting x.0 x.1) (both_at (item_at nat_of) list_at words)
+call_by n Select words = map_read (λ x. Selecting x.0 x.1) (both_at (first_as nat_of) list_at words)
 call_by n RemoveIndex words = map_read (λ x. Removing x.0 x.1) (pair_at words)
 call_by n Reshape words = map_read (λ x. Reshaping x.1 x.0) (ordered_list_at words)
-call_by n Append words = map_read (λ x. Appending x.0 x.1) (both_at (item_at nat_of) array_at words)
-call_by n Push words = map_read (λ x. Appending x.0 (with_axis_inserted x.0 x.1)) (both_at (item_at nat_of) array_at words)
+call_by n Append words = map_read (λ x. Appending x.0 x.1) (both_at (first_as nat_of) array_at words)
+call_by n Push words = map_read (λ x. Appending x.0 (with_axis_inserted x.0 x.1)) (both_at (first_as nat_of) array_at words)
 call_by n Reserve words = map_read (λ x. Reserving x.0 x.1) (pair_at words)
 call_by n _ words = None
 

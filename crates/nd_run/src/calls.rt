@@ -1,7 +1,36 @@
 //! The calls that a script makes on its array, and the replies to them.
 
-use nd_array_core::{ArrayBase, Data, OwnedRepr};
+ghost use Rattle.std.specs.Prelude.{◌≡◌};
+ghost use Rattle.nd_array_core.specs.Meaning.{Meaning, meaning_of};
+
+use nd_array_core::Array;
 use nd_shape_and_slice::{IxDyn, Order, Slice, SliceInfoElem};
+
+/// What holds an array that owns its elements: the array itself, or a box around it. An array takes 536 bytes wherever
+/// it lies, so a long list of calls keeps its arrays in boxes.
+pub trait Holds<A> {
+    ghost held: { Self → Meaning A };
+
+    /// The array.
+    fn array(&self) -> &Array<A, IxDyn>
+        ensures { meaning_of result.now ≡ held self.now };
+}
+
+impl<A> Holds<A> for Array<A, IxDyn> {
+    ghost held = { λ array. meaning_of array };
+
+    fn array(&self) -> &Array<A, IxDyn> {
+        self
+    }
+}
+
+impl<A> Holds<A> for Box<Array<A, IxDyn>> {
+    ghost held = { λ boxed. meaning_of boxed.value };
+
+    fn array(&self) -> &Array<A, IxDyn> {
+        self
+    }
+}
 
 /// A layout call: another array of the same elements.
 #[derive(Debug, Drop)]
@@ -34,9 +63,9 @@ pub enum Step {
     Broadcast(Vec<usize>),
 }
 
-/// A question about an array. Users write `Question<A>`: arrays in it own their elements.
+/// A question about an array. Users write `Question<A>`: it holds an array as it is.
 #[derive(Drop)]
-pub enum Question<A, S: Data<Elem = A> = OwnedRepr<A>> {
+pub enum Question<A, T = Array<A, IxDyn>> {
     /// Its lengths.
     Shape,
     /// Its lengths, and its elements in row-major order.
@@ -48,37 +77,37 @@ pub enum Question<A, S: Data<Elem = A> = OwnedRepr<A>> {
     /// The last element in row-major order.
     Last,
     /// Whether it equals this array: the same lengths, and equal elements.
-    EqualTo(ArrayBase<S, IxDyn>),
+    EqualTo(T),
     /// How many of its elements equal this one.
     Count(A),
     /// Its elements under other lengths, where each keeps its rank in this order.
     ToShape(Vec<usize>, Order),
 }
 
-/// A change of an array's elements. Users write `Act<A>`: arrays in it own their elements.
+/// A change of an array's elements. Users write `Act<A>`: it holds an array as it is.
 #[derive(Drop)]
-pub enum Act<A, S: Data<Elem = A> = OwnedRepr<A>> {
+pub enum Act<A, T = Array<A, IxDyn>> {
     /// Each element becomes a clone of this one.
     Fill(A),
     /// Each element becomes a clone of the one at its index in this array, broadcast to the lengths.
-    Assign(ArrayBase<S, IxDyn>),
+    Assign(T),
     /// The element of an index becomes a clone of this one.
     Set(Vec<usize>, A),
     /// The elements at two indexes are exchanged.
     Swap(Vec<usize>, Vec<usize>),
 }
 
-/// One line of a script. Users write `Call<A>`: arrays in it own their elements.
+/// One line of a script. Users write `Call<A>`: it holds arrays as they are.
 #[derive(Drop)]
-pub enum Call<A, S: Data<Elem = A> = OwnedRepr<A>> {
+pub enum Call<A, T = Array<A, IxDyn>> {
     /// The step's result takes the array's place.
     Keep(Step),
     /// A question about what these steps lead to. The array stays.
-    Ask(Vec<Step>, Question<A, S>),
+    Ask(Vec<Step>, Question<A, T>),
     /// An act on what these steps lead to. It changes the array's own elements.
-    Write(Vec<Step>, Act<A, S>),
+    Write(Vec<Step>, Act<A, T>),
     /// An axis, a coordinate at which it is split, and an act on each of the two parts.
-    SplitWrite(usize, usize, Act<A, S>, Act<A, S>),
+    SplitWrite(usize, usize, Act<A, T>, Act<A, T>),
     /// An axis, and the coordinates of it that are chosen, in their new order.
     Select(usize, Vec<usize>),
     /// An axis, and a coordinate of it that is taken out.
@@ -86,9 +115,9 @@ pub enum Call<A, S: Data<Elem = A> = OwnedRepr<A>> {
     /// Other lengths, under which each element keeps its rank in this order.
     Reshape(Vec<usize>, Order),
     /// An axis, and an array that comes behind along it, with clones of its elements.
-    Append(usize, ArrayBase<S, IxDyn>),
+    Append(usize, T),
     /// The same of an array with one axis fewer, as one more length of the axis.
-    Push(usize, ArrayBase<S, IxDyn>),
+    Push(usize, T),
     /// An axis, and for how many more lengths of it room is made.
     Reserve(usize, usize),
 }

@@ -13,7 +13,7 @@ ghost use Rattle.nd_text.specs.Watched.{watched_inner, watched_failed, GetsFlush
 use crate::calls::Reply;
 use crate::outcome::{Outcome, conclude, conclude_whole, load};
 use crate::reader::Script;
-use crate::run::{RunFault, run};
+use crate::run::{RunFault, run_held};
 use nd_array_core::Array;
 use nd_shape_and_slice::IxDyn;
 use nd_text::Watched;
@@ -23,13 +23,13 @@ use std::io::{Read, Write};
 /// Carries out the calls of a script.
 fn run_script(
     alloc: Global,
-    script: Script<i64>,
+    script: Script,
 ) -> Result<(Vec<Reply<i64>>, Array<i64, IxDyn>), RunFault<i64>>
     ensures done { IfOk result (λ r. Runs (asked_script script) (map said_reply r.0.items) (shape_of r.1) (row_major_elements (meaning_of r.1))) }
     ensures memory { IfErr result (λ fault. Stops (asked_script script) (replies_before fault)) }
 {
     let Script { start, calls } = script;
-    run(alloc, start, &calls)
+    run_held(alloc, start, &calls)
 }
 
 /// How a script ends whose run was refused memory.

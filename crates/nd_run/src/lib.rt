@@ -22,6 +22,6 @@ mod reader;
 mod outcome;
 mod printer;
 
-pub use calls::{Act, Call, Question, Reply, Step};
+pub use calls::{Act, Call, Holds, Question, Reply, Step};
 pub use cause::Cause;
 pub use nd_text::{Flushes, Watched};

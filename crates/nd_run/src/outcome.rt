@@ -35,7 +35,7 @@ pub enum Outcome {
 }
 
 /// The script of the whole input, or how it ends without one.
-pub fn load<R: Read>(alloc: Global, input: &mut Watched<R>) -> Result<Script<i64>, Outcome>
+pub fn load<R: Read>(alloc: Global, input: &mut Watched<R>) -> Result<Script, Outcome>
     ensures script { IfSome (R.remaining (watched_inner input.old)) (λ xs. Loads asked_script xs result) }
     ensures failed { watched_failed input.new ≡ is_load_failure result }
 {

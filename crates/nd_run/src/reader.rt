@@ -3,7 +3,7 @@
 ghost use Rattle.std.specs.Prelude.{◌≡◌, ℕ, ◌+◌, ◌^◌, ◌<◌, map, length, IfOk};
 ghost use Rattle.nd_array_core.specs.Meaning.{meaning_of};
 ghost use Rattle.nd_text.specs.Words.{lines_of, words_of};
-ghost use Rattle.nd_run.specs.Calls.{asked_call};
+ghost use Rattle.nd_run.specs.Calls.{asked_call, boxed};
 ghost use Rattle.nd_run.specs.Script.{AskedScript, IsScript, IsFirstBad, GivesScript, asked_script, read_or_number, call_in, start_in, calls_from, script_from};
 
 pub mod fault;
@@ -12,22 +12,25 @@ mod line;
 
 use crate::calls::Call;
 use fault::{LineFault, ScriptError};
-use nd_array_core::{Array, ArrayBase, Data, OwnedRepr};
+use nd_array_core::Array;
 use nd_shape_and_slice::IxDyn;
 use nd_text::words::{is_wordless, split_line};
 use std::alloc::Global;
 
-/// A script: an array, and the calls on it. Its arrays own their elements: `Script<i64>`.
+/// What an array in a call of a text is held in: a script of many lines has room for the largest call in each.
+pub type Held = Box<Array<i64, IxDyn>>;
+
+/// A script: an array, and the calls on it.
 #[derive(Drop)]
-pub struct Script<A, S: Data<Elem = A> = OwnedRepr<A>> {
+pub struct Script {
     /// The array that the script starts with.
-    pub start: ArrayBase<S, IxDyn>,
+    pub start: Array<i64, IxDyn>,
     /// The calls, in order.
-    pub calls: Vec<Call<A, S>>,
+    pub calls: Vec<Call<i64, Held>>,
 }
 
-fn call_at(alloc: Global, number: usize, line: &[u8]) -> Result<Call<i64>, ScriptError>
-    ensures { GivesScript asked_call result (read_or_number number (call_in line.now)) }
+fn call_at(alloc: Global, number: usize, line: &[u8]) -> Result<Call<i64, Held>, ScriptError>
+    ensures { GivesScript (asked_call (boxed meaning_of)) result (read_or_number number (call_in line.now)) }
 {
     match line::call(alloc, line) {
         Ok(call) => Ok(call),
@@ -47,9 +50,9 @@ fn start_at(alloc: Global, number: usize, line: &[u8]) -> Result<Array<i64, IxDy
 }
 
 /// The calls of a text. Its lines are numbered from this number on.
-fn calls(alloc: Global, first: usize, text: &[u8]) -> Result<Vec<Call<i64>>, ScriptError>
+fn calls(alloc: Global, first: usize, text: &[u8]) -> Result<Vec<Call<i64, Held>>, ScriptError>
     requires { first + length text.now < 2 ^ 64 }
-    ensures { GivesScript (λ v. map asked_call v.items) result (calls_from first (lines_of text.now)) }
+    ensures { GivesScript (λ v. map (asked_call (boxed meaning_of)) v.items) result (calls_from first (lines_of text.now)) }
 {
     let mut calls = Vec::new(alloc);
     let mut rest = text;
@@ -69,7 +72,7 @@ fn calls(alloc: Global, first: usize, text: &[u8]) -> Result<Vec<Call<i64>>, Scr
 }
 
 /// The script of a text, read line by line up to the first bad one.
-fn whole_script(alloc: Global, text: &[u8]) -> Result<Script<i64>, ScriptError>
+fn whole_script(alloc: Global, text: &[u8]) -> Result<Script, ScriptError>
     ensures { GivesScript asked_script result (script_from 1 (lines_of text.now)) }
 {
     let mut rest = text;
@@ -88,7 +91,7 @@ fn whole_script(alloc: Global, text: &[u8]) -> Result<Script<i64>, ScriptError>
 }
 
 /// The script of a text. No memory is taken once a line was found bad.
-pub fn read_script(alloc: Global, text: &[u8]) -> Result<Script<i64>, ScriptError>
+pub fn read_script(alloc: Global, text: &[u8]) -> Result<Script, ScriptError>
     // What is read is what the lines write.
     ensures found { IfOk result (λ s. IsScript (lines_of text.now) (asked_script s)) }
     // What the lines write is read, unless memory runs out.

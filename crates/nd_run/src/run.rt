@@ -11,7 +11,7 @@ ghost use Rattle.nd_array_core.specs.Laws.{with_axis_inserted};
 ghost use Rattle.nd_array_core.specs.Equality.{equal_meanings};
 ghost use Rattle.nd_array_core.specs.Joined.{row_major_elements};
 
-use crate::calls::{Call, Question, Reply, Step};
+use crate::calls::{Call, Holds, Question, Reply, Step};
 use crate::cause::Cause;
 use crate::laws::paths_lead_along;
 use crate::steps::{advance, check, check_index, keep_refusal, take_step};
@@ -22,20 +22,18 @@ use nd_shape_and_slice::{Axis, Dimension, IxDyn, MAX_AXES, Order, size_of_shape_
 use std::alloc::{AllocError, Global};
 use std::mem;
 
-/// Follows a path of steps, or returns the cause of a refusal.
-fn follow_path<'a, A>(
-    view: ArrayView<'a, A, IxDyn>,
-    path: &[Step],
-) -> Result<ArrayView<'a, A, IxDyn>, Cause>
-    ensures refused { Refuses result (look_refusal (map asked_step path.now) (shape_of view.entry)) }
-    ensures along { IfOk result (λ end. LeadsAlong (map asked_step path.now) (meaning_of view.entry) (meaning_of end)) }
+/// Moves a view along a path of steps, or returns the cause of a refusal.
+fn follow_path<A>(view: &mut ArrayView<'_, A, IxDyn>, path: &[Step]) -> Option<Cause>
+    ensures refused { result ≡ look_refusal (map asked_step path.now) (shape_of view.old) }
+    ensures along { result ≡ None → LeadsAlong (map asked_step path.now) (meaning_of view.old) (meaning_of view.new) }
 {
-    let mut view = view;
     for step in path {
-        view = advance(view, step)?;
+        if let Some(cause) = advance(view, step) {
+            return Some(cause);
+        }
     }
     paths_lead_along::<A>();
-    Ok(view)
+    None
 }
 
 /// The elements in row-major order.
@@ -119,14 +117,14 @@ fn to_shape<A: Clone + Eq + Drop>(
 }
 
 /// The answer to a question, or its refusal.
-fn answer<A: Clone + Eq + Drop>(
+fn answer<A: Clone + Eq + Drop, T: Holds<A>>(
     alloc: Global,
     view: &ArrayView<'_, A, IxDyn>,
-    question: &Question<A>,
+    question: &Question<A, T>,
 ) -> Result<Reply<A>, AllocError>
     requires { (x y : A) → A.is_clone x y → y ≡ x }
-    ensures reply { IfOk result (λ reply. said_reply reply ≡ answer_or_refusal A.eq (asking question.now) (meaning_of view.now)) }
-    ensures memory { OnErr result ((first_failed (question_tests (asking question.now) (shape_of view.now)) ≡ None) × (answers_in_memory (asking question.now) ≡ true)) }
+    ensures reply { IfOk result (λ reply. said_reply reply ≡ answer_or_refusal A.eq (asking T.held question.now) (meaning_of view.now)) }
+    ensures memory { OnErr result ((first_failed (question_tests (asking T.held question.now) (shape_of view.now)) ≡ None) × (answers_in_memory (asking T.held question.now) ≡ true)) }
 {
     match question {
         Question::Shape => Ok(Reply::Shape(view.shape().to_vec(alloc)?)),
@@ -137,28 +135,29 @@ fn answer<A: Clone + Eq + Drop>(
         Question::Get(index) => told(view.get(index.as_slice())),
         Question::First => told(view.first()),
         Question::Last => told(view.last()),
-        Question::EqualTo(other) => Ok(Reply::Truth(equal(view, other))),
+        Question::EqualTo(other) => Ok(Reply::Truth(equal(view, other.array()))),
         Question::Count(element) => Ok(Reply::Number(count(view, element))),
         Question::ToShape(lengths, order) => to_shape(alloc, view, lengths.as_slice(), *order),
     }
 }
 
 /// The reply to a question at the end of a path. It can run out of memory only if no step was refused.
-fn ask<A: Clone + Eq + Drop>(
+fn ask<A: Clone + Eq + Drop, T: Holds<A>>(
     alloc: Global,
     array: &Array<A, IxDyn>,
     path: &[Step],
-    question: &Question<A>,
+    question: &Question<A, T>,
 ) -> Result<Reply<A>, AllocError>
     requires { (x y : A) → A.is_clone x y → y ≡ x }
-    ensures { CarriesOut A.eq (About (map asked_step path.now) (asking question.now)) (meaning_of array.now) (meaning_of array.now) result }
+    ensures { CarriesOut A.eq (About (map asked_step path.now) (asking T.held question.now)) (meaning_of array.now) (meaning_of array.now) result }
 {
-    match follow_path(array.view(), path) {
-        Ok(view) => {
+    let mut view = array.view();
+    match follow_path(&mut view, path) {
+        None => {
             nothing_outside(&view);
             answer(alloc, &view, question)
         }
-        Err(refused) => Ok(Reply::Refused(refused.number())),
+        Some(refused) => Ok(Reply::Refused(refused.number())),
     }
 }
 
@@ -342,13 +341,13 @@ fn reserve<A: Eq + Drop>(
 }
 
 /// Carries out one call.
-fn act<A: Clone + Eq + Drop>(
+fn act<A: Clone + Eq + Drop, T: Holds<A>>(
     alloc: Global,
     array: &mut Array<A, IxDyn>,
-    call: &Call<A>,
+    call: &Call<A, T>,
 ) -> Result<Reply<A>, AllocError>
     requires { (x y : A) → A.is_clone x y → y ≡ x }
-    ensures { CarriesOut A.eq (asked_call call.now) (meaning_of array.old) (meaning_of array.new) result }
+    ensures { CarriesOut A.eq (asked_call T.held call.now) (meaning_of array.old) (meaning_of array.new) result }
 {
     match call {
         Call::Keep(step) => Ok(keep(alloc, array, step)),
@@ -360,8 +359,8 @@ fn act<A: Clone + Eq + Drop>(
         Call::Select(axis, indexes) => select(alloc, array, *axis, indexes.as_slice()),
         Call::RemoveIndex(axis, index) => Ok(remove_index(array, *axis, *index)),
         Call::Reshape(lengths, order) => reshape(alloc, array, lengths.as_slice(), *order),
-        Call::Append(axis, other) => append(array, *axis, other.view()),
-        Call::Push(axis, other) => push(array, *axis, other),
+        Call::Append(axis, other) => append(array, *axis, other.array().view()),
+        Call::Push(axis, other) => push(array, *axis, other.array()),
         Call::Reserve(axis, additional) => reserve(array, *axis, *additional),
     }
 }
@@ -373,17 +372,16 @@ pub enum RunFault<A> {
     Memory(Vec<Reply<A>>),
 }
 
-/// Runs the calls in order; each has one reply. Room for the replies is taken before the first call. A call that is
-/// refused changes nothing. If memory is refused, the replies are those to the calls before. ndarray has no such call.
-pub fn run<A: Clone + Eq + Drop>(
+/// What `run` does, for calls that hold their arrays in any way: as they are, or in boxes.
+pub fn run_held<A: Clone + Eq + Drop, T: Holds<A>>(
     alloc: Global,
     start: Array<A, IxDyn>,
-    calls: &[Call<A>],
+    calls: &[Call<A, T>],
 ) -> Result<(Vec<Reply<A>>, Array<A, IxDyn>), RunFault<A>>
     requires { (x y : A) → A.is_clone x y → y ≡ x }
-    ensures replies { IfOk result (λ r. map said_reply r.0.items ≡ replies_to A.eq (map asked_call calls.now) (meaning_of start)) }
-    ensures array { IfOk result (λ r. meaning_of r.1 ≡ end_of A.eq (map asked_call calls.now) (meaning_of start)) }
-    ensures memory { IfErr result (λ fault. StopsBefore A.eq (map asked_call calls.now) (meaning_of start) (replies_before fault)) }
+    ensures replies { IfOk result (λ r. map said_reply r.0.items ≡ replies_to A.eq (map (asked_call T.held) calls.now) (meaning_of start)) }
+    ensures array { IfOk result (λ r. meaning_of r.1 ≡ end_of A.eq (map (asked_call T.held) calls.now) (meaning_of start)) }
+    ensures memory { IfErr result (λ fault. StopsBefore A.eq (map (asked_call T.held) calls.now) (meaning_of start) (replies_before fault)) }
 {
     let mut replies = match Vec::with_capacity(alloc, calls.len()) {
         Ok(replies) => replies,
@@ -397,4 +395,19 @@ pub fn run<A: Clone + Eq + Drop>(
         }
     }
     Ok((replies, array))
+}
+
+/// Runs the calls in order; each has one reply. Room for the replies is taken before the first call. A call that is
+/// refused changes nothing. If memory is refused, the replies are those to the calls before. ndarray has no such call.
+pub fn run<A: Clone + Eq + Drop>(
+    alloc: Global,
+    start: Array<A, IxDyn>,
+    calls: &[Call<A>],
+) -> Result<(Vec<Reply<A>>, Array<A, IxDyn>), RunFault<A>>
+    requires { (x y : A) → A.is_clone x y → y ≡ x }
+    ensures replies { IfOk result (λ r. map said_reply r.0.items ≡ replies_to A.eq (map (asked_call meaning_of) calls.now) (meaning_of start)) }
+    ensures array { IfOk result (λ r. meaning_of r.1 ≡ end_of A.eq (map (asked_call meaning_of) calls.now) (meaning_of start)) }
+    ensures memory { IfErr result (λ fault. StopsBefore A.eq (map (asked_call meaning_of) calls.now) (meaning_of start) (replies_before fault)) }
+{
+    run_held(alloc, start, calls)
 }

@@ -1,6 +1,6 @@
 //! Steps of a path: the cause for which one is refused, and what it gives.
 
-ghost use Rattle.std.specs.Prelude.{◌≡◌, ◌<◌, ◌+◌, ◌^◌, ◌∷◌, [], ℕ, true, List, None, length, MatchResult, Ok, Err};
+ghost use Rattle.std.specs.Prelude.{◌≡◌, ◌<◌, ◌+◌, ◌^◌, ◌∷◌, [], ℕ, true, List, None, length, MatchOption, Ok, Err};
 ghost use Rattle.nd_shape_and_slice.specs.Axes.{names_each_axis, permuted_list, unpermuted_list};
 ghost use Rattle.nd_array_core.specs.Meaning.{shape_of, element_at, inside, meaning_of, storage_of, place_at};
 ghost use Rattle.nd_shape_and_slice.specs.SliceInfo.{reads_axis, axes_read};
@@ -154,34 +154,34 @@ pub fn take_step<S: Data>(array: ArrayBase<S, IxDyn>, step: &Step) -> ArrayBase<
     }
 }
 
-/// The view under a larger shape, or the cause of its refusal.
-fn broadcast_to<'a, A>(
-    view: ArrayView<'a, A, IxDyn>,
-    lengths: &[usize],
-) -> Result<ArrayView<'a, A, IxDyn>, Cause>
-    ensures { MatchResult result (λ wide. step_result (BroadcastTo lengths.now) (meaning_of view.entry) ≡ Ok (meaning_of wide)) (λ cause. step_result (BroadcastTo lengths.now) (meaning_of view.entry) ≡ Err cause) }
+/// Shows a view under a larger shape, or returns the cause of the refusal.
+fn broadcast_to<A>(view: &mut ArrayView<'_, A, IxDyn>, lengths: &[usize]) -> Option<Cause>
+    ensures { MatchOption result (step_result (BroadcastTo lengths.now) (meaning_of view.old) ≡ Ok (meaning_of view.new)) (λ cause. step_result (BroadcastTo lengths.now) (meaning_of view.old) ≡ Err cause) }
 {
     if lengths.len() > MAX_AXES {
-        return Err(Cause::TooManyAxes);
+        return Some(Cause::TooManyAxes);
     }
     match view.broadcast_move(IxDyn::new(lengths)) {
-        Some(wide) => Ok(wide),
-        None => Err(Cause::Broadcast),
+        Some(wide) => {
+            *view = wide;
+            None
+        }
+        None => Some(Cause::Broadcast),
     }
 }
 
-/// What a step on a view gives, or the cause of its refusal.
-pub fn advance<'a, A>(
-    view: ArrayView<'a, A, IxDyn>,
-    step: &Step,
-) -> Result<ArrayView<'a, A, IxDyn>, Cause>
-    ensures { MatchResult result (λ next. step_result (asked_step step.now) (meaning_of view.entry) ≡ Ok (meaning_of next)) (λ cause. step_result (asked_step step.now) (meaning_of view.entry) ≡ Err cause) }
+/// Takes a step on a view, or returns the cause of the refusal.
+pub fn advance<A>(view: &mut ArrayView<'_, A, IxDyn>, step: &Step) -> Option<Cause>
+    ensures { MatchOption result (step_result (asked_step step.now) (meaning_of view.old) ≡ Ok (meaning_of view.new)) (λ cause. step_result (asked_step step.now) (meaning_of view.old) ≡ Err cause) }
 {
     if let Step::Broadcast(lengths) = step {
         return broadcast_to(view, lengths.as_slice());
     }
     match keep_refusal(view.shape(), step) {
-        None => Ok(take_step(view, step)),
-        Some(cause) => Err(cause),
+        None => {
+            *view = take_step(*view, step);
+            None
+        }
+        Some(cause) => Some(cause),
     }
 }

@@ -10,13 +10,13 @@ ghost use Rattle.nd_run.specs.Acts.{act_refusal, acted_elements, clones, path_re
 ghost use Rattle.nd_run.specs.Placing.{places_in, acted_elements_unless, WritesThrough, WritesParts, said_unless};
 ghost use Rattle.nd_run.specs.Fold.{LeadsAlong, CarriesOut};
 
-use crate::calls::{Act, Reply, Step};
+use crate::calls::{Act, Holds, Reply, Step};
 use crate::cause::Cause;
 use crate::laws::paths_lead_along;
 use crate::steps::{check, keep_refusal, take_step};
 use nd_array_core::laws::{distinct_places, elements_have_places, nothing_outside};
 use nd_array_core::scoped::{LentView, PairTask, ViewTask};
-use nd_array_core::{Array, ArrayBase, Data, DataMut, OwnedRepr, ViewMutRepr};
+use nd_array_core::{Array, ArrayBase, Data, DataMut, ViewMutRepr};
 use nd_shape_and_slice::{Axis, Dimension, IxDyn};
 use std::alloc::AllocError;
 
@@ -42,12 +42,18 @@ fn go_along<S: Data>(
 }
 
 /// An act on an array's elements.
-fn check_act<S: Data>(array: &ArrayBase<S, IxDyn>, act: &Act<S::Elem>) -> Result<(), Cause>
-    ensures { Refuses result (act_refusal (acting act.now) (shape_of array.now)) }
+fn check_act<S: Data, T: Holds<S::Elem>>(
+    array: &ArrayBase<S, IxDyn>,
+    act: &Act<S::Elem, T>,
+) -> Result<(), Cause>
+    ensures { Refuses result (act_refusal (acting T.held act.now) (shape_of array.now)) }
 {
     match act {
         Act::Fill(_) => Ok(()),
-        Act::Assign(other) => check(other.broadcast(array.raw_dim()).is_some(), Cause::Broadcast),
+        Act::Assign(other) => check(
+            other.array().broadcast(array.raw_dim()).is_some(),
+            Cause::Broadcast,
+        ),
         Act::Set(index, _) => check(array.get(index.as_slice()).is_some(), Cause::Index),
         Act::Swap(a, b) => {
             check(array.get(a.as_slice()).is_some(), Cause::Index)?;
@@ -57,28 +63,34 @@ fn check_act<S: Data>(array: &ArrayBase<S, IxDyn>, act: &Act<S::Elem>) -> Result
 }
 
 /// The first cause for which one refuses such an act.
-fn act_refusal<S: Data>(array: &ArrayBase<S, IxDyn>, act: &Act<S::Elem>) -> Option<Cause>
-    ensures { result ≡ act_refusal (acting act.now) (shape_of array.now) }
+fn act_refusal<S: Data, T: Holds<S::Elem>>(
+    array: &ArrayBase<S, IxDyn>,
+    act: &Act<S::Elem, T>,
+) -> Option<Cause>
+    ensures { result ≡ act_refusal (acting T.held act.now) (shape_of array.now) }
 {
     check_act(array, act).err()
 }
 
 /// Does an act that was checked before.
-fn do_act<S: DataMut>(array: &mut ArrayBase<S, IxDyn>, act: &Act<S::Elem>) -> Result<(), AllocError>
+fn do_act<S: DataMut, T: Holds<S::Elem>>(
+    array: &mut ArrayBase<S, IxDyn>,
+    act: &Act<S::Elem, T>,
+) -> Result<(), AllocError>
 where
     S::Elem: Clone + Drop,
     requires clone { (x y : S.Elem) → S.Elem.is_clone x y → y ≡ x }
-    requires fits { act_refusal (acting act.now) (shape_of array.old) ≡ None }
+    requires fits { act_refusal (acting T.held act.now) (shape_of array.old) ≡ None }
     ensures shape { shape_of array.new ≡ shape_of array.old }
-    ensures elements { IfOk result (λ _. (i : List ℕ) → element_at array.new i ≡ acted_elements (acting act.now) (meaning_of array.old) i) }
+    ensures elements { IfOk result (λ _. (i : List ℕ) → element_at array.new i ≡ acted_elements (acting T.held act.now) (meaning_of array.old) i) }
     ensures places { (i : List ℕ) → place_at array.new i ≡ place_at array.old i }
     ensures others { OthersStay (place_at array.old) (S.stored (storage_of array.old)) (S.stored (storage_of array.new)) }
     ensures frame { S.frame (storage_of array.new) ≡ S.frame (storage_of array.old) }
-    ensures memory { OnErr result (clones (acting act.now) ≡ true) }
+    ensures memory { OnErr result (clones (acting T.held act.now) ≡ true) }
 {
     match act {
         Act::Fill(value) => array.fill(value.clone()?).map_err(|_| AllocError),
-        Act::Assign(other) => array.assign(other).map_err(|_| AllocError),
+        Act::Assign(other) => array.assign(other.array()).map_err(|_| AllocError),
         Act::Set(index, value) => {
             let value = value.clone()?;
             let _ = array.replace(index.as_slice(), value);
@@ -92,15 +104,15 @@ where
 }
 
 /// Follows a path and acts at its end, or returns the cause of a refusal.
-fn act_along<S: DataMut>(
+fn act_along<S: DataMut, T: Holds<S::Elem>>(
     array: ArrayBase<S, IxDyn>,
     path: &[Step],
-    act: &Act<S::Elem>,
+    act: &Act<S::Elem, T>,
 ) -> (ArrayBase<S, IxDyn>, Result<Option<Cause>, AllocError>)
 where
     S::Elem: Clone + Drop,
     requires { (x y : S.Elem) → S.Elem.is_clone x y → y ≡ x }
-    ensures done { WritesThrough (map asked_step path.now) (acting act.now) (placed_array array) (placed_array result.0) result.1 }
+    ensures done { WritesThrough (map asked_step path.now) (acting T.held act.now) (placed_array array) (placed_array result.0) result.1 }
     ensures frame { S.frame (storage_of result.0) ≡ S.frame (storage_of array) }
 {
     elements_have_places(&array);
@@ -123,24 +135,24 @@ where
 }
 
 /// Acts on two arrays, or returns the cause of a refusal. Both acts are checked before either changes anything.
-fn act_on_both<S: DataMut>(
+fn act_on_both<S: DataMut, T: Holds<S::Elem>>(
     lower: &mut ArrayBase<S, IxDyn>,
     upper: &mut ArrayBase<S, IxDyn>,
-    first: &Act<S::Elem>,
-    second: &Act<S::Elem>,
+    first: &Act<S::Elem, T>,
+    second: &Act<S::Elem, T>,
 ) -> Result<Option<Cause>, AllocError>
 where
     S::Elem: Clone + Drop,
     requires { (x y : S.Elem) → S.Elem.is_clone x y → y ≡ x }
-    ensures refused { IfOk result (λ refused. refused ≡ parts_refusal (acting first.now) (acting second.now) (shape_of lower.old) (shape_of upper.old)) }
-    ensures lower { IfOk result (λ refused. (i : List ℕ) → element_at lower.new i ≡ acted_elements_unless refused (acting first.now) (meaning_of lower.old) i) }
-    ensures upper { IfOk result (λ refused. (i : List ℕ) → element_at upper.new i ≡ acted_elements_unless refused (acting second.now) (meaning_of upper.old) i) }
+    ensures refused { IfOk result (λ refused. refused ≡ parts_refusal (acting T.held first.now) (acting T.held second.now) (shape_of lower.old) (shape_of upper.old)) }
+    ensures lower { IfOk result (λ refused. (i : List ℕ) → element_at lower.new i ≡ acted_elements_unless refused (acting T.held first.now) (meaning_of lower.old) i) }
+    ensures upper { IfOk result (λ refused. (i : List ℕ) → element_at upper.new i ≡ acted_elements_unless refused (acting T.held second.now) (meaning_of upper.old) i) }
     ensures lower_places { (i : List ℕ) → place_at lower.new i ≡ place_at lower.old i }
     ensures upper_places { (i : List ℕ) → place_at upper.new i ≡ place_at upper.old i }
     ensures lower_frame { S.frame (storage_of lower.new) ≡ S.frame (storage_of lower.old) }
     ensures upper_frame { S.frame (storage_of upper.new) ≡ S.frame (storage_of upper.old) }
-    ensures allowed { OnErr result (parts_refusal (acting first.now) (acting second.now) (shape_of lower.old) (shape_of upper.old) ≡ None) }
-    ensures memory { OnErr result ((clones (acting first.now) || clones (acting second.now)) ≡ true) }
+    ensures allowed { OnErr result (parts_refusal (acting T.held first.now) (acting T.held second.now) (shape_of lower.old) (shape_of upper.old) ≡ None) }
+    ensures memory { OnErr result ((clones (acting T.held first.now) || clones (acting T.held second.now)) ≡ true) }
 {
     let refused = act_refusal(lower, first);
     if refused.is_some() {
@@ -157,17 +169,17 @@ where
 
 /// An act at the end of a path, done with a mutable view of the array.
 #[derive(Drop)]
-struct ActAlong<'p, A, S: Data<Elem = A> = OwnedRepr<A>> {
+struct ActAlong<'p, A, T> {
     path: &'p [Step],
-    act: &'p Act<A, S>,
+    act: &'p Act<A, T>,
 }
 
-impl<'p, A: Clone + Drop, D: Dimension> ViewTask<A, D> for ActAlong<'p, A> {
+impl<'p, A: Clone + Drop, D: Dimension, T: Holds<A>> ViewTask<A, D> for ActAlong<'p, A, T> {
     type Answer = Result<Option<Cause>, AllocError>;
 
     ghost pre = { λ _ _. (x y : A) → A.is_clone x y → y ≡ x };
 
-    ghost post = { λ task v w answer. WritesThrough (map asked_step task.path.now) (acting task.act.now) v w answer };
+    ghost post = { λ task v w answer. WritesThrough (map asked_step task.path.now) (acting T.held task.act.now) v w answer };
 
     fn run(
         self,
@@ -176,7 +188,7 @@ impl<'p, A: Clone + Drop, D: Dimension> ViewTask<A, D> for ActAlong<'p, A> {
         requires sound { CanBeSeen D.lengths D.Strides.strides_of lent }
         requires pre { (x y : A) → A.is_clone x y → y ≡ x }
         ensures frame { view_frame result.0 ≡ lent_frame lent.entry }
-        ensures done { WritesThrough (map asked_step self.entry.path.now) (acting self.entry.act.now) (lent_view D.lengths D.Strides.strides_of lent.entry) (view_left D.lengths D.Strides.strides_of lent.entry result.0) result.1 }
+        ensures done { WritesThrough (map asked_step self.entry.path.now) (acting T.held self.entry.act.now) (lent_view D.lengths D.Strides.strides_of lent.entry) (view_left D.lengths D.Strides.strides_of lent.entry result.0) result.1 }
     {
         let view = lent.into_view().into_dyn();
         elements_have_places(&view);
@@ -187,17 +199,17 @@ impl<'p, A: Clone + Drop, D: Dimension> ViewTask<A, D> for ActAlong<'p, A> {
 
 /// An act on each of two parts, done with mutable views of them.
 #[derive(Drop)]
-struct ActOnParts<'p, A, S: Data<Elem = A> = OwnedRepr<A>> {
-    first: &'p Act<A, S>,
-    second: &'p Act<A, S>,
+struct ActOnParts<'p, A, T> {
+    first: &'p Act<A, T>,
+    second: &'p Act<A, T>,
 }
 
-impl<'p, A: Clone + Drop, D: Dimension> PairTask<A, D, D> for ActOnParts<'p, A> {
+impl<'p, A: Clone + Drop, D: Dimension, T: Holds<A>> PairTask<A, D, D> for ActOnParts<'p, A, T> {
     type Answer = Result<Option<Cause>, AllocError>;
 
     ghost pre = { λ _ _ _. (x y : A) → A.is_clone x y → y ≡ x };
 
-    ghost post = { λ task lower upper lower' upper' answer. WritesParts (acting task.first.now) (acting task.second.now) lower upper lower' upper' answer };
+    ghost post = { λ task lower upper lower' upper' answer. WritesParts (acting T.held task.first.now) (acting T.held task.second.now) lower upper lower' upper' answer };
 
     fn run<'b>(
         self,
@@ -213,7 +225,7 @@ impl<'p, A: Clone + Drop, D: Dimension> PairTask<A, D, D> for ActOnParts<'p, A> 
         requires pre { (x y : A) → A.is_clone x y → y ≡ x }
         ensures one_frame { view_frame result.0 ≡ lent_frame one.entry }
         ensures two_frame { view_frame result.1 ≡ lent_frame two.entry }
-        ensures done { WritesParts (acting self.entry.first.now) (acting self.entry.second.now) (lent_view D.lengths D.Strides.strides_of one.entry) (lent_view D.lengths D.Strides.strides_of two.entry) (view_left D.lengths D.Strides.strides_of one.entry result.0) (view_left D.lengths D.Strides.strides_of two.entry result.1) result.2 }
+        ensures done { WritesParts (acting T.held self.entry.first.now) (acting T.held self.entry.second.now) (lent_view D.lengths D.Strides.strides_of one.entry) (lent_view D.lengths D.Strides.strides_of two.entry) (view_left D.lengths D.Strides.strides_of one.entry result.0) (view_left D.lengths D.Strides.strides_of two.entry result.1) result.2 }
     {
         let mut lower = one.into_view().into_dyn();
         let mut upper = two.into_view().into_dyn();
@@ -250,28 +262,28 @@ fn write_reply<A>(refused: Option<Cause>) -> Reply<A>
 }
 
 /// An act at the end of a path. It changes the array's own elements, and nothing where a step or the act is refused.
-pub fn write_through<A: Clone + Eq + Drop>(
+pub fn write_through<A: Clone + Eq + Drop, T: Holds<A>>(
     array: &mut Array<A, IxDyn>,
     path: &[Step],
-    act: &Act<A>,
+    act: &Act<A, T>,
 ) -> Result<Reply<A>, AllocError>
     requires { (x y : A) → A.is_clone x y → y ≡ x }
-    ensures { CarriesOut A.eq (Writing (map asked_step path.now) (acting act.now)) (meaning_of array.old) (meaning_of array.new) result }
+    ensures { CarriesOut A.eq (Writing (map asked_step path.now) (acting T.held act.now)) (meaning_of array.old) (meaning_of array.new) result }
 {
     let refused = array.with_view_mut(ActAlong { path, act })?;
     Ok(write_reply(refused))
 }
 
 /// An act on each part of the array split along an axis. Both are checked before either changes anything.
-pub fn write_parts<A: Clone + Eq + Drop>(
+pub fn write_parts<A: Clone + Eq + Drop, T: Holds<A>>(
     array: &mut Array<A, IxDyn>,
     axis: usize,
     index: usize,
-    first: &Act<A>,
-    second: &Act<A>,
+    first: &Act<A, T>,
+    second: &Act<A, T>,
 ) -> Result<Reply<A>, AllocError>
     requires { (x y : A) → A.is_clone x y → y ≡ x }
-    ensures { CarriesOut A.eq (SplitWriting axis index (acting first.now) (acting second.now)) (meaning_of array.old) (meaning_of array.new) result }
+    ensures { CarriesOut A.eq (SplitWriting axis index (acting T.held first.now) (acting T.held second.now)) (meaning_of array.old) (meaning_of array.new) result }
 {
     let refused = point_refusal(array.shape(), axis, index);
     if refused.is_some() {

@@ -1,3 +1,4 @@
+pub mod FirstNumbers
 pub mod Keywords
 pub mod NumberLaws
 pub mod Numerals

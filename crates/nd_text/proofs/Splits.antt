@@ -1,10 +1,12 @@
 -- The first line of a text and the first word of a line, by the place where they end.
-use Rattle.std.proofs.Common.{◌≡◌, ℕ, suc, ◌+◌, ◌<◌, ◌≤◌, Bool, true, false, cond, eqb, ltb, not, length-drop, ◌-◌, get_or, add-one, drop-cons, List, [], ◌∷◌, length, take, drop, Option, Some, None, refl, sym, subst, ◌∙◌, arith}
-use Rattle.std.specs.Prelude.{IsTrue, ◌↔◌}
+use Rattle.std.proofs.Common.{◌≡◌, ℕ, zero, suc, ◌+◌, ◌<◌, ◌≤◌, Bool, true, false, cond, eqb, ltb, not, length-drop, get_or, List, [], ◌∷◌, length, take, drop, Option, Some, None, refl, sym, ap, subst, ◌∙◌, arith}
 use Rattle.std.specs.List.{position, position_or_len}
 use Rattle.std.proofs.lemmas.List.{take_all, drop_all}
-use Rattle.std.proofs.lemmas.Bool.{eqb-true, ltb-true, ltb-false}
-use Rattle.nd_text.specs.Words.{before_first, lines_of, is_blank, goes_on, words_of}
+use Rattle.std.proofs.lemmas.Bool.{ltb-true, ltb-false, lt-ltb, le-ltb}
+use Rattle.std.proofs.lemmas.List.Sums.{position_or_len_is}
+use Rattle.memchr.specs.Find.{IsFirstByte, is_byte}
+use Rattle.std.specs.Int.{from_bool}
+use Rattle.nd_text.specs.Words.{before_first, lines_of, is_blank, goes_on, words_of, words_begun, words_behind}
 
 abbrev ends_line : ℕ → Bool
 ends_line b = eqb b 10
@@ -46,6 +48,20 @@ place_is p xs k e =
 pub no_place : (p : ℕ → Bool) (xs : List ℕ) → position p xs ≡ None → length xs ≤ position_or_len p xs
 no_place p xs e = ltb-false _ _ (no_place_by (ltb (position_or_len p xs) (length xs)) (position_or_len p xs) None e refl)
 
+not_passed : (t : Bool) → (t ≡ true → ⊥) → t ≡ false
+not_passed true fails = absurd (fails refl)
+not_passed false fails = refl
+
+-- what a search for a byte finds
+pub found_first : (text : List ℕ) (r : Option ℕ) → IsFirstByte (is_byte 10) text r → r ≡ position (λ b. eqb b 10) text
+found_first text None nowhere =
+    let n = length text in
+    let end : position_or_len ends_line text ≡ n = position_or_len_is ends_line text n 0 (omega arith) (λ k lt. not_passed (ends_line (get_or text k 0)) (nowhere k (omega arith) lt)) (λ lt. absurd (omega (arith, lt))) in
+    rw (end, le-ltb n n (omega arith)) refl
+found_first text (Some k) here =
+    let at : position_or_len ends_line text ≡ k = position_or_len_is ends_line text k 0 (omega (arith, here.0.high)) (λ j lt. not_passed (ends_line (get_or text j 0)) (here.0.before j (omega arith) lt)) (λ lt. here.1) in
+    rw (at, lt-ltb k (length text) here.0.high) refl
+
 pub line_ends : (text : List ℕ) (k : ℕ) → position (λ b. eqb b 10) text ≡ Some k → lines_of text ≡ take k text ∷ lines_of (drop (k + 1) text)
 line_ends text k e =
     let at = place_is ends_line text k e in
@@ -69,7 +85,7 @@ word_by : (t : Bool) (b k : ℕ) (bs : List ℕ) → is_blank b ≡ false → go
 word_by true b k bs e f h z = rw (e, f) (word_longer b k bs (h refl))
 word_by false b k bs e f h z = rw (e, f, z refl) refl
 
-not_true : (t : Bool) → not t ≡ true → t ≡ false
+pub not_true : (t : Bool) → not t ≡ true → t ≡ false
 not_true true e = absurd cc
 not_true false e = refl
 
@@ -83,7 +99,7 @@ no_front [] e = refl
 no_front (b ∷ bs) e = rw (not_false (is_blank b) e) refl
 
 -- a line whose first byte isn't blank begins with the bytes before the first blank
-word_at : (line : List ℕ) → goes_on line ≡ true → words_of line ≡ take (position_or_len is_blank line) line ∷ words_of (drop (position_or_len is_blank line) line)
+pub word_at : (line : List ℕ) → goes_on line ≡ true → words_of line ≡ take (position_or_len is_blank line) line ∷ words_of (drop (position_or_len is_blank line) line)
 word_at [] e = absurd cc
 word_at (b ∷ bs) e =
     let starts : is_blank b ≡ false = not_true (is_blank b) e in
@@ -91,10 +107,26 @@ word_at (b ∷ bs) e =
     let k = position_or_len is_blank bs in
     subst (λ (n : ℕ). words_of (b ∷ bs) ≡ take n (b ∷ bs) ∷ words_of (drop n (b ∷ bs))) (sym longer) (word_by (goes_on bs) b k bs starts refl (word_at bs) (no_front bs))
 
-pub word_ends : (line : List ℕ) (k : ℕ) → goes_on line ≡ true → position is_blank line ≡ Some k → words_of line ≡ take k line ∷ words_of (drop k line)
+past_by : (t : Bool) (b : ℕ) (bs : List ℕ) → is_blank b ≡ t → (position_or_len is_blank bs < length bs → words_of (drop (position_or_len is_blank bs) bs) ≡ words_of (drop (position_or_len is_blank bs + 1) bs))
+    → position_or_len is_blank (b ∷ bs) < length (b ∷ bs) → words_of (drop (position_or_len is_blank (b ∷ bs)) (b ∷ bs)) ≡ words_of (drop (position_or_len is_blank (b ∷ bs) + 1) (b ∷ bs))
+past_by true b bs e h inside = rw (e, e) refl
+past_by false b bs e h inside =
+    let k = position_or_len is_blank bs in
+    let longer : position_or_len is_blank (b ∷ bs) ≡ 1 + k = rw e refl in
+    let one : 1 + k ≡ suc k = omega arith in
+    let two : 1 + k + 1 ≡ suc (k + 1) = omega arith in
+    rw (longer, two, one) (h (omega (arith, longer, inside)))
+
+-- behind a word's end its blank may be left out
+past : (line : List ℕ) → position_or_len is_blank line < length line → words_of (drop (position_or_len is_blank line) line) ≡ words_of (drop (position_or_len is_blank line + 1) line)
+past [] inside = refl
+past (b ∷ bs) inside = past_by (is_blank b) b bs refl (past bs) inside
+
+pub word_ends : (line : List ℕ) (k : ℕ) → goes_on line ≡ true → position is_blank line ≡ Some k → words_of line ≡ take k line ∷ words_of (drop (k + 1) line)
 word_ends line k e is =
     let at = place_is is_blank line k is in
-    rw at.0 (word_at line e)
+    let inside : position_or_len is_blank line < length line = omega (arith, at.0, at.1) in
+    rw at.0 (word_at line e ∙ ap (λ ws. take (position_or_len is_blank line) line ∷ ws) (past line inside))
 
 pub word_is_last : (line : List ℕ) → goes_on line ≡ true → position is_blank line ≡ None → words_of line ≡ line ∷ []
 word_is_last line e is =
@@ -102,61 +134,44 @@ word_is_last line e is =
     let end : length line ≤ n = no_place is_blank line is in
     word_at line e ∙ rw (take_all n line end, drop_all n line end) refl
 
--- the first word isn't empty, so less is left after it
-pub word_shorter : (line : List ℕ) (k : ℕ) → goes_on line ≡ true → position is_blank line ≡ Some k → length (drop k line) < length line
-word_shorter [] k e is = absurd cc
-word_shorter (b ∷ bs) k e is =
-    let at = place_is is_blank (b ∷ bs) k is in
-    let longer : position_or_len is_blank (b ∷ bs) ≡ 1 + position_or_len is_blank bs = rw (not_true (is_blank b) e) refl in
-    omega (arith, length-drop k (b ∷ bs), at.0, at.1, longer)
-
 -- ---- counting words
 
--- how many words begin in these bytes, behind a blank or not
-abbrev pub begun : Bool → List ℕ → ℕ
-begun after_blank [] = 0
-begun after_blank (b ∷ bs) = cond (is_blank b) (begun true bs) (cond after_blank (suc (begun false bs)) (begun false bs))
-
 begun_by : (t g : Bool) (b n m : ℕ) (words : List (List ℕ)) → n ≡ length words → m + cond g 1 0 ≡ length words
-    → (cond t n (suc m) ≡ length (cond t words (cond g (before_first b words) ((b ∷ []) ∷ words)))) × (cond t n m + cond (not t) 1 0 ≡ length (cond t words (cond g (before_first b words) ((b ∷ []) ∷ words))))
-begun_by true g b n m words e f = (e, omega (arith, e))
+    → (from_bool (not t) + cond t n m ≡ length (cond t words (cond g (before_first b words) ((b ∷ []) ∷ words)))) × (0 + cond t n m + cond (not t) 1 0 ≡ length (cond t words (cond g (before_first b words) ((b ∷ []) ∷ words))))
+begun_by true g b n m words e f = (omega (arith, e), omega (arith, e))
 begun_by false true b n m [] e f = absurd (omega (arith, f))
 begun_by false true b n m (part ∷ parts) e f = (omega (arith, f), omega (arith, f))
 begun_by false false b n m words e f = (omega (arith, f), omega (arith, f))
 
-begun_both : (line : List ℕ) → (begun true line ≡ length (words_of line)) × (begun false line + cond (goes_on line) 1 0 ≡ length (words_of line))
+by_flag : (t : Bool) (bs : List ℕ) → words_begun t bs ≡ cond t (words_begun true bs) (words_begun false bs)
+by_flag true bs = refl
+by_flag false bs = refl
+
+begun_both : (line : List ℕ) → (words_begun true line ≡ length (words_of line)) × (words_begun false line + cond (goes_on line) 1 0 ≡ length (words_of line))
 begun_both [] = (refl, refl)
-begun_both (b ∷ bs) = let h = begun_both bs in begun_by (is_blank b) (goes_on bs) b (begun true bs) (begun false bs) (words_of bs) h.0 h.1
+begun_both (b ∷ bs) = let h = begun_both bs in rw (by_flag (is_blank b) bs) (begun_by (is_blank b) (goes_on bs) b (words_begun true bs) (words_begun false bs) (words_of bs) h.0 h.1)
 
 -- a line's words are those that begin in it
-pub begun_is : (line : List ℕ) → begun true line ≡ length (words_of line)
+pub begun_is : (line : List ℕ) → words_begun true line ≡ length (words_of line)
 begun_is line = (begun_both line).0
 
-step_by : (t after_blank : Bool) (left n m total count : ℕ) → 0 < left → cond t n (cond after_blank (suc m) m) + count ≡ left + total → cond t n m + count ≡ cond t left (cond after_blank (left - 1) left) + total
-step_by true after_blank left n m total count some e = e
-step_by false true left n m total count some e = omega (arith, some, e)
-step_by false false left n m total count some e = e
+-- behind the last byte no word begins
+alone : (bytes : List ℕ) → length bytes ≤ 1 → words_behind bytes ≡ 0
+alone [] few = refl
+alone (b ∷ []) few = refl
+alone (b ∷ c ∷ bs) few = absurd (omega (arith, few))
 
-after : (t : Bool) (bs : List ℕ) → begun t bs ≡ cond t (begun true bs) (begun false bs)
-after true bs = refl
-after false bs = refl
+pub last_behind : (bytes : List ℕ) (i : ℕ) → length bytes ≤ i + 1 → words_behind (drop i bytes) ≡ 0
+last_behind bytes i end = alone (drop i bytes) (omega (arith, length-drop i bytes, end))
 
-pub begun_more : (line : List ℕ) (i left total count : ℕ) (after_blank : Bool) → i < length line → 0 < left → begun after_blank (drop i line) + count ≡ left + total
-    → begun (is_blank (get_or line i 0)) (drop (i + 1) line) + count ≡ cond (is_blank (get_or line i 0)) left (cond after_blank (left - 1) left) + total
-begun_more line i left total count after_blank inside some e =
-    let b = get_or line i 0 in
-    let rest = drop (suc i) line in
-    let here : cond (is_blank b) (begun true rest) (cond after_blank (suc (begun false rest)) (begun false rest)) + count ≡ left + total = subst (λ (bs : List ℕ). begun after_blank bs + count ≡ left + total) (drop-cons line i 0 inside) e in
-    rw (add-one, after (is_blank b) rest) (step_by (is_blank b) after_blank left (begun true rest) (begun false rest) total count some here)
+-- the words of a block and those further on; its last byte is the one in front of these
+pub behind_split : (k : ℕ) (bytes : List ℕ) → k < length bytes → words_behind bytes ≡ words_behind (take (suc k) bytes) + words_behind (drop k bytes)
+behind_split k [] inside = absurd (omega (arith, inside))
+behind_split zero (b ∷ bs) inside = omega arith
+behind_split (suc k) (b ∷ []) inside = absurd (omega (arith, inside))
+behind_split (suc k) (b ∷ c ∷ bs) inside = omega (arith, behind_split k (c ∷ bs) (omega (arith, inside)))
 
--- how many are left to be found tells whether there are as many as asked for
-told : (left n count : ℕ) → count ≡ left + n → IsTrue (eqb left 0) ↔ (count ≤ n)
-told left n count e = (λ t. omega (arith, e, eqb-true left 0 t), λ h. (let none : left ≡ 0 = omega (arith, e, h) in rw none refl))
-
-pub begun_enough : (line : List ℕ) (i left count : ℕ) (after_blank : Bool) → left ≡ 0 → begun after_blank (drop i line) + count ≡ left + begun true line → count ≤ length (words_of line)
-begun_enough line i left count after_blank none e = omega (arith, none, e, begun_is line)
-
-pub begun_all : (line : List ℕ) (i left count : ℕ) (after_blank : Bool) → length line ≤ i → begun after_blank (drop i line) + count ≡ left + begun true line → IsTrue (eqb left 0) ↔ (count ≤ length (words_of line))
-begun_all line i left count after_blank end e =
-    let none : begun after_blank (drop i line) ≡ 0 = rw (drop_all i line end) refl in
-    told left (length (words_of line)) count (omega (arith, none, e, begun_is line))
+-- the first byte, and those behind it
+pub begun_first : (line : List ℕ) (blank : Bool) (n : ℕ) → 0 < length line → blank ≡ is_blank (get_or line 0 0) → n ≡ from_bool (not blank) → length (words_of line) ≡ n + words_behind line
+begun_first [] blank n some is e = absurd (omega (arith, some))
+begun_first (b ∷ bs) blank n some is e = sym (begun_is (b ∷ bs)) ∙ rw (e, is) refl

@@ -2,7 +2,9 @@
 use Rattle.std.specs.Prelude.{◌≡◌, ℕ, ◌+◌, ◌-◌, ◌*◌, ◌^◌, ◌<◌, ◌≤◌, Bool, true, false, ◌&&◌, not, ◌==◌, nat_lt, nat_le, List, [], ◌∷◌, length, ℤ, pos, neg_ℤ, Option, Some, None, ◌⊎◌, if◌then◌else◌}
 use Rattle.std.specs.Char.{is_ascii_digit}
 use Rattle.std.specs.List.{list_all}
+use Rattle.std.specs.Option.{option_map, option_and_then}
 use Rattle.std.specs.Str.Parse.{digits_value}
+use Rattle.nd_text.specs.Words.{is_blank, words_of}
 
 -- one digit or more, and nothing else
 abbrev pub is_numeral : List ℕ → Bool
@@ -30,6 +32,16 @@ nat_of word = if is_numeral word && nat_lt (digits_value 10 word) (2 ^ 64) then 
 abbrev pub with_digit : ℕ → ℕ → Option ℕ
 with_digit n c = if is_ascii_digit c && nat_lt (n * 10 + (c - 48)) (2 ^ 64) then Some (n * 10 + (c - 48)) else None
 
+-- the number with the digits up to the first blank behind its own, and the words behind that blank
+abbrev pub with_digits : ℕ → List ℕ → Option (ℕ × List (List ℕ))
+with_digits n [] = Some (n, [])
+with_digits n (b ∷ bs) = if is_blank b then Some (n, words_of bs) else option_and_then (λ m. with_digits m bs) (with_digit n b)
+
+-- the number that the bytes up to the first blank write, and the words behind that blank
+abbrev pub first_digits : List ℕ → Option (ℕ × List (List ℕ))
+first_digits [] = None
+first_digits (b ∷ bs) = option_and_then (λ n. with_digits n bs) (with_digit 0 b)
+
 -- what follows the minus sign, where there is one
 abbrev pub without_minus : List ℕ → List ℕ
 without_minus [] = []
@@ -47,6 +59,11 @@ signed_of false n = if nat_lt n (2 ^ 63) then Some (pos n) else None
 abbrev pub signed_from : Bool → Option ℕ → Option ℤ
 signed_from minus None = None
 signed_from minus (Some n) = signed_of minus n
+
+-- the same where words follow the digits
+abbrev pub signed_first : Bool → Option (ℕ × List (List ℕ)) → Option (ℤ × List (List ℕ))
+signed_first minus None = None
+signed_first minus (Some x) = option_map (λ z. (z, x.1)) (signed_of minus x.0)
 
 -- the `isize` or `i64` that a word writes
 unfoldable pub int_of : List ℕ → Option ℤ

@@ -1,5 +1,6 @@
 -- The lines of a text, and the words of a line.
-use Rattle.std.specs.Prelude.{ℕ, Bool, true, false, ◌||◌, not, ◌==◌, List, [], ◌∷◌, if◌then◌else◌}
+use Rattle.std.specs.Prelude.{ℕ, ◌+◌, Bool, true, false, ◌||◌, ◌&&◌, not, ◌==◌, List, [], ◌∷◌, Option, None, Some, if◌then◌else◌}
+use Rattle.std.specs.Int.{from_bool}
 
 -- the byte before what follows it: in front of its first part
 abbrev pub before_first : ℕ → List (List ℕ) → List (List ℕ)
@@ -25,7 +26,31 @@ abbrev pub words_of : List ℕ → List (List ℕ)
 words_of [] = []
 words_of (b ∷ bs) = if is_blank b then words_of bs else (if goes_on bs then before_first b (words_of bs) else (b ∷ []) ∷ words_of bs)
 
+-- a word begins with this byte, behind a blank or not
+abbrev pub begins_word : Bool → ℕ → Bool
+begins_word after_blank b = after_blank && not (is_blank b)
+
+-- how many words begin in these bytes, behind a blank or not
+abbrev pub words_begun : Bool → List ℕ → ℕ
+words_begun after_blank [] = 0
+words_begun after_blank (b ∷ bs) = from_bool (begins_word after_blank b) + words_begun (is_blank b) bs
+
+-- how many begin behind the first of these bytes
+abbrev pub words_behind : List ℕ → ℕ
+words_behind [] = 0
+words_behind (b ∷ bs) = words_begun (is_blank b) bs
+
 -- a line without words
 abbrev pub is_wordless : List (List ℕ) → Bool
 is_wordless [] = true
 is_wordless (word ∷ words) = false
+
+infixl 10 ◌>>=◌
+abbrev pub ◌>>=◌ : {A B : Type 0} → Option A → (A → Option B) → Option B
+None >>= f = None
+(Some x) >>= f = f x
+
+-- what the first word writes, and the words behind it
+abbrev pub first_as : {X : Type 0} → (List ℕ → Option X) → List (List ℕ) → Option (X × List (List ℕ))
+first_as of [] = None
+first_as of (word ∷ words) = of word >>= λ x. Some (x, words)

@@ -1,7 +1,12 @@
-//! Numbers from words.
+//! Numbers from words, and from the front of a line.
 
-ghost use Rattle.std.specs.Prelude.{◌≡◌, ℕ, List, Option};
-ghost use Rattle.nd_text.specs.Numerals.{with_digit, signed_of, nat_of, int_of, has_minus, without_minus};
+ghost use Rattle.std.specs.Prelude.{◌≡◌, ◌<◌, ◌-◌, ◌↔◌, IsTrue, ℕ, List, Option};
+ghost use Rattle.std.specs.Char.{is_ascii_digit};
+ghost use Rattle.std.specs.Option.{option_map};
+ghost use Rattle.nd_text.specs.Numerals.{with_digit, with_digits, first_digits, signed_of, signed_first, nat_of, int_of, has_minus, without_minus};
+ghost use Rattle.nd_text.specs.Words.{words_of, first_as};
+
+use crate::words::{is_blank, trim_start};
 
 /// The number with one digit more, if the byte is a digit and the number fits.
 fn with_digit(number: usize, byte: u8) -> Option<usize>
@@ -62,4 +67,98 @@ pub fn int_of_word(word: &[u8]) -> Option<i64>
 {
     let (minus, digits) = split_sign(word);
     signed(minus, of_digits(digits)?)
+}
+
+/// The value of a digit; of any other byte more than 9. So one subtraction serves the test and the value.
+fn digit_value(byte: u8) -> usize
+    ensures digit { IsTrue (is_ascii_digit byte) ↔ (result < 10) }
+    ensures value { result < 10 → result ≡ byte - 48 }
+{
+    (byte as usize).wrapping_sub(48)
+}
+
+/// How many digits behind a first one fit, whatever they are.
+const ROOM: usize = 18;
+
+/// A digit with the digits at the front of a line behind it, as many as fit, and what follows those.
+fn with_fitting_digits(first: usize, line: &[u8]) -> (usize, &[u8])
+    requires { first < 10 }
+    ensures { with_digits result.0 result.1.now ≡ with_digits first line.now }
+{
+    let end = line.len().min(ROOM);
+    let mut number = first;
+    for nth in 0..end {
+        let digit = digit_value(line[nth]);
+        if digit > 9 {
+            return (number, &line[nth..]);
+        }
+        number = number * 10 + digit;
+    }
+    (number, &line[end..])
+}
+
+/// A number with the digits up to the first blank behind its own, and what follows that blank. Each digit is tested for
+/// whether it fits. Few numbers are so long, so this stays out of line.
+#[inline(never)]
+fn with_tested_digits(number: usize, line: &[u8]) -> Option<(usize, &[u8])>
+    ensures { option_map (λ x. (x.0, words_of x.1.now)) result ≡ with_digits number line.now }
+{
+    let mut number = number;
+    let mut rest = line;
+    while let [byte, after @ ..] = rest {
+        if is_blank(*byte) {
+            return Some((number, after));
+        }
+        number = with_digit(number, *byte)?;
+        rest = after;
+    }
+    Some((number, rest))
+}
+
+/// A digit with the digits up to the first blank behind it, and what follows that blank.
+fn with_digits(first: usize, line: &[u8]) -> Option<(usize, &[u8])>
+    requires { first < 10 }
+    ensures { option_map (λ x. (x.0, words_of x.1.now)) result ≡ with_digits first line.now }
+{
+    let (number, rest) = with_fitting_digits(first, line);
+    match rest {
+        [] => Some((number, rest)),
+        [byte, after @ ..] if is_blank(*byte) => Some((number, after)),
+        _ => with_tested_digits(number, rest),
+    }
+}
+
+/// The number that the bytes up to the first blank write, and what follows that blank.
+fn split_digits(line: &[u8]) -> Option<(usize, &[u8])>
+    ensures { option_map (λ x. (x.0, words_of x.1.now)) result ≡ first_digits line.now }
+{
+    match line {
+        [first, after @ ..] if digit_value(*first) < 10 => with_digits(digit_value(*first), after),
+        _ => None,
+    }
+}
+
+/// The number that the first word of a line writes, and what follows that word, in one pass. None where the line has no
+/// word, or the first writes no `usize`.
+pub fn split_number(line: &[u8]) -> Option<(usize, &[u8])>
+    ensures { option_map (λ x. (x.0, words_of x.1.now)) result ≡ first_as nat_of (words_of line.now) }
+{
+    split_digits(trim_start(line))
+}
+
+/// The number with this sign that the bytes up to the first blank write, if it fits, and what follows that blank.
+fn split_signed(minus: bool, digits: &[u8]) -> Option<(i64, &[u8])>
+    ensures { option_map (λ x. (x.0, words_of x.1.now)) result ≡ signed_first minus (first_digits digits.now) }
+{
+    let (number, rest) = split_digits(digits)?;
+    Some((signed(minus, number)?, rest))
+}
+
+/// The signed number that the first word of a line writes, and what follows that word, in one pass. None where the line
+/// has no word, or the first writes no `i64`.
+pub fn split_int(line: &[u8]) -> Option<(i64, &[u8])>
+    ensures { option_map (λ x. (x.0, words_of x.1.now)) result ≡ first_as int_of (words_of line.now) }
+{
+    let (minus, digits) = split_sign(trim_start(line));
+    split_signed(minus, digits)
 }

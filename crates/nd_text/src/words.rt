@@ -1,10 +1,12 @@
 //! Lines of a text and words of a line, taken from the front.
 
-ghost use Rattle.std.specs.Prelude.{◌≡◌, ◌==◌, ◌-◌, if◌then◌else◌, not, ◌∷◌, ◌<◌, ◌≤◌, ◌↔◌, [], length, IsTrue, IfSome, MatchOption};
+ghost use Rattle.std.specs.Prelude.{◌≡◌, ◌==◌, not, ◌∷◌, ◌<◌, ◌≤◌, ◌↔◌, [], length, IsTrue, IfSome, MatchOption};
 ghost use Rattle.std.specs.List.{position};
-ghost use Rattle.nd_text.specs.Words.{lines_of, words_of, is_blank, goes_on, is_wordless};
+ghost use Rattle.nd_text.specs.Words.{lines_of, words_of, is_blank, goes_on, begins_word, words_begun, words_behind, is_wordless};
 
-fn is_blank(byte: u8) -> bool
+use memchr::memchr;
+
+pub(crate) fn is_blank(byte: u8) -> bool
     ensures { result ≡ is_blank byte }
 {
     byte == b' ' || byte == b'\t' || byte == b'\r'
@@ -14,7 +16,7 @@ fn is_blank(byte: u8) -> bool
 fn line_end(text: &[u8]) -> Option<usize>
     ensures { result ≡ position (λ b. b == 10) text.now }
 {
-    text.iter().position(|byte| *byte == b'\n')
+    memchr(b'\n', text)
 }
 
 /// The index of the first blank.
@@ -24,8 +26,21 @@ fn word_end(line: &[u8]) -> Option<usize>
     line.iter().position(|byte| is_blank(*byte))
 }
 
-/// What follows the blanks at the front.
-fn trim_start(line: &[u8]) -> &[u8]
+/// What follows the blanks at the front. Mostly there are none, since what follows a word begins behind its blank.
+pub(crate) fn trim_start(line: &[u8]) -> &[u8]
+    ensures words { words_of result.now ≡ words_of line.now }
+    ensures front { goes_on result.now ≡ not (length result.now == 0) }
+    ensures shorter { length result.now ≤ length line.now }
+{
+    match line {
+        [first, rest @ ..] if is_blank(*first) => skip_blanks(rest),
+        _ => line,
+    }
+}
+
+/// The same where there may be some, out of line.
+#[inline(never)]
+fn skip_blanks(line: &[u8]) -> &[u8]
     ensures words { words_of result.now ≡ words_of line.now }
     ensures front { goes_on result.now ≡ not (length result.now == 0) }
     ensures shorter { length result.now ≤ length line.now }
@@ -62,20 +77,67 @@ pub fn split_word(line: &[u8]) -> Option<(&[u8], &[u8])>
         return None;
     }
     match word_end(line) {
-        Some(end) => Some(line.split_at(end)),
+        Some(end) => Some((&line[..end], &line[end + 1..])),
         None => Some((line, &[])),
     }
 }
 
-/// How many words are left to be found behind one byte more: a word begins with a byte that isn't blank behind a blank.
-fn left_after(left: usize, after_blank: bool, blank: bool) -> usize
-    requires { 0 < left }
-    ensures { result ≡ (if blank then left else if after_blank then left - 1 else left) }
+/// Whether a word begins with this byte, behind a blank or not.
+fn begins_word(after_blank: bool, byte: u8) -> bool
+    ensures { result ≡ begins_word after_blank byte }
 {
-    if after_blank && !blank {
-        left - 1
-    } else {
-        left
+    after_blank & !is_blank(byte)
+}
+
+/// Whether at least this many words begin in these bytes, behind a blank or not.
+fn has_words_in(bytes: &[u8], after_blank: bool, count: usize) -> bool
+    ensures { IsTrue result ↔ (count ≤ words_begun after_blank bytes.now) }
+{
+    let mut left = count;
+    let mut after_blank = after_blank;
+    for byte in bytes {
+        if left == 0 {
+            return true;
+        }
+        left -= usize::from(begins_word(after_blank, *byte));
+        after_blank = is_blank(*byte);
+    }
+    left == 0
+}
+
+/// How many bytes are looked at between two tests whether enough words were found.
+const BLOCK: usize = 64;
+
+/// How many words begin in a block, which comes with the byte in front of it. It has no branch, so that many bytes are
+/// done at once.
+fn words_in_block(bytes: &[u8]) -> usize
+    requires { length bytes.now ≡ 65 }
+    ensures { result ≡ words_behind bytes.now }
+{
+    let mut begun = 0u8;
+    for nth in 0..BLOCK {
+        begun += u8::from(begins_word(is_blank(bytes[nth]), bytes[nth + 1]));
+    }
+    usize::from(begun)
+}
+
+/// Whether at least this many words begin behind the first of these bytes.
+fn has_words_behind(bytes: &[u8], count: usize) -> bool
+    ensures { IsTrue result ↔ (count ≤ words_behind bytes.now) }
+{
+    let mut left = count;
+    let mut rest = bytes;
+    while rest.len() > BLOCK {
+        let found = words_in_block(&rest[..BLOCK + 1]);
+        if left <= found {
+            return true;
+        }
+        left -= found;
+        rest = &rest[BLOCK..];
+    }
+    match rest {
+        [first, after @ ..] => has_words_in(after, is_blank(*first), left),
+        [] => left == 0,
     }
 }
 
@@ -83,17 +145,10 @@ fn left_after(left: usize, after_blank: bool, blank: bool) -> usize
 pub fn has_words(line: &[u8], count: usize) -> bool
     ensures { IsTrue result ↔ (count ≤ length (words_of line.now)) }
 {
-    let mut left = count;
-    let mut after_blank = true;
-    for byte in line {
-        if left == 0 {
-            return true;
-        }
-        let blank = is_blank(*byte);
-        left = left_after(left, after_blank, blank);
-        after_blank = blank;
+    match line {
+        [first, ..] => has_words_behind(line, count.saturating_sub(usize::from(!is_blank(*first)))),
+        [] => count == 0,
     }
-    left == 0
 }
 
 /// Whether a line has no word.

@@ -6,13 +6,14 @@ ghost use Rattle.nd_array_core.specs.Meaning.{meaning_of};
 ghost use Rattle.nd_run.specs.Grammar.{array_of};
 ghost use Rattle.nd_text.specs.Numerals.{nat_of, int_of};
 ghost use Rattle.nd_text.specs.Words.{words_of};
-ghost use Rattle.nd_run.specs.Reading.{Gives, IsRead, TakesWords, word_at, item_at, many_at, counted_at, end_of, slice_at, element_at, order_at, lengths_at, parts_at, array_at, checked_size, keyword_at, slash_at, begins_step, read_to_end};
+ghost use Rattle.nd_run.specs.Reading.{Gives, IsRead, TakesWords, word_at, first_as, many_at, counted_at, end_of, slice_at, element_at, order_at, lengths_at, parts_at, array_at, checked_size, keyword_at, slash_at, begins_step, read_to_end};
 
+use crate::reader::Held;
 use crate::reader::fault::LineFault;
 use nd_array_core::Array;
 use nd_shape_and_slice::{IxDyn, MAX_AXES, Order, Slice, SliceInfoElem, size_of_shape_checked};
 use nd_text::Keyword;
-use nd_text::numbers::{int_of_word, of_digits};
+use nd_text::numbers::{int_of_word, split_int, split_number};
 use nd_text::words::{has_words, is_wordless, split_word};
 use std::alloc::Global;
 use std::marker::Model;
@@ -158,6 +159,14 @@ impl<'a> Line<'a> {
         Ok((lengths, elements))
     }
 
+    /// An ARRAY, boxed. A function of its own, so that lines with no array don't pay for its locals.
+    #[inline(never)]
+    pub fn boxed(&mut self, alloc: Global) -> Result<Held, LineFault>
+        ensures { IsRead (λ x. meaning_of x.value) result self.new (array_at self.old) }
+    {
+        Ok(Box::new(alloc, self.array(alloc)?)?)
+    }
+
     /// An ARRAY: its lengths, and its elements in row-major order.
     #[tactic(auto, unfolding(crate::specs::Reading::map_read))]
     pub fn array(&mut self, alloc: Global) -> Result<Array<i64, IxDyn>, LineFault>
@@ -191,23 +200,27 @@ fn array_of(lengths: &[usize], elements: Vec<i64>) -> Array<i64, IxDyn>
 }
 
 impl Item for usize {
-    ghost read_at = { item_at nat_of };
+    ghost read_at = { first_as nat_of };
 
     fn read(line: &mut Line<'_>) -> Result<usize, LineFault> {
-        of_digits(line.word()?).ok_or(LineFault::Bad)
+        let (number, rest) = split_number(line.rest).ok_or(LineFault::Bad)?;
+        line.rest = rest;
+        Ok(number)
     }
 }
 
 impl Item for i64 {
-    ghost read_at = { item_at int_of };
+    ghost read_at = { first_as int_of };
 
     fn read(line: &mut Line<'_>) -> Result<i64, LineFault> {
-        int_of_word(line.word()?).ok_or(LineFault::Bad)
+        let (number, rest) = split_int(line.rest).ok_or(LineFault::Bad)?;
+        line.rest = rest;
+        Ok(number)
     }
 }
 
 impl Item for isize {
-    ghost read_at = { item_at int_of };
+    ghost read_at = { first_as int_of };
 
     fn read(line: &mut Line<'_>) -> Result<isize, LineFault> {
         Ok(line.read::<i64>()? as isize)
@@ -216,7 +229,7 @@ impl Item for isize {
 
 /// An end of a slice, which may be missing.
 impl Item for Option<isize> {
-    ghost read_at = { item_at end_of };
+    ghost read_at = { first_as end_of };
 
     fn read(line: &mut Line<'_>) -> Result<Option<isize>, LineFault> {
         let word = line.word()?;

@@ -3,11 +3,11 @@
 ghost use Rattle.std.specs.Prelude.{◌≡◌, map, length};
 ghost use Rattle.nd_array_core.specs.Meaning.{meaning_of};
 ghost use Rattle.nd_text.specs.Words.{words_of};
-ghost use Rattle.nd_run.specs.Calls.{asked_step, asking, acting, asked_call};
-ghost use Rattle.nd_run.specs.Reading.{Gives, IsRead, step_at, slashed_at, path_at, question_at, question_by, act_at, act_by, acts_at, call_at, call_by, call_of, start_of};
-ghost use Rattle.nd_text.specs.declared.keyword.Keyword.TheVariants.{Ask, Write, Split, Append, Push, Assign, Equal};
+ghost use Rattle.nd_run.specs.Calls.{asked_step, asking, acting, asked_call, boxed};
+ghost use Rattle.nd_run.specs.Reading.{Gives, IsRead, step_at, slashed_at, path_at, question_at, act_at, acts_at, call_at, call_of, start_of};
 
 use crate::calls::{Act, Call, Question, Step};
+use crate::reader::Held;
 use crate::reader::fault::LineFault;
 use crate::reader::items::Line;
 use nd_array_core::Array;
@@ -63,19 +63,9 @@ impl<'a> Line<'a> {
         Ok(steps)
     }
 
-    /// An array to compare with. What holds an array is read by functions of their own, so that other lines don't pay
-    /// for its locals.
-    #[inline(never)]
-    #[tactic(auto, unfolding(crate::specs::Reading::map_read))]
-    fn equal_to(&mut self, alloc: Global) -> Result<Question<i64>, LineFault>
-        ensures { IsRead (λ x. asking x) result self.new (question_by Equal self.old) }
-    {
-        Ok(Question::EqualTo(self.array(alloc)?))
-    }
-
     #[tactic(auto, unfolding(crate::specs::Reading::named_at, crate::specs::Reading::map_read, crate::specs::Reading::both_at), using(crate::proofs::Items::item_words))]
-    fn question(&mut self, alloc: Global) -> Result<Question<i64>, LineFault>
-        ensures { IsRead (λ x. asking x) result self.new (question_at self.old) }
+    fn question(&mut self, alloc: Global) -> Result<Question<i64, Held>, LineFault>
+        ensures { IsRead (λ x. asking (boxed meaning_of) x) result self.new (question_at self.old) }
     {
         match self.keyword()? {
             Keyword::Shape => Ok(Question::Shape),
@@ -83,7 +73,7 @@ impl<'a> Line<'a> {
             Keyword::Get => Ok(Question::Get(self.list(alloc)?)),
             Keyword::First => Ok(Question::First),
             Keyword::Last => Ok(Question::Last),
-            Keyword::Equal => self.equal_to(alloc),
+            Keyword::Equal => Ok(Question::EqualTo(self.boxed(alloc)?)),
             Keyword::Count => Ok(Question::Count(self.read()?)),
             Keyword::Reshape => {
                 let order = self.read()?;
@@ -93,21 +83,13 @@ impl<'a> Line<'a> {
         }
     }
 
-    #[inline(never)]
-    #[tactic(auto, unfolding(crate::specs::Reading::map_read))]
-    fn assign(&mut self, alloc: Global) -> Result<Act<i64>, LineFault>
-        ensures { IsRead (λ x. acting x) result self.new (act_by Assign self.old) }
-    {
-        Ok(Act::Assign(self.array(alloc)?))
-    }
-
     #[tactic(auto, unfolding(crate::specs::Reading::named_at, crate::specs::Reading::map_read, crate::specs::Reading::both_at), using(crate::proofs::Items::item_words))]
-    fn act(&mut self, alloc: Global) -> Result<Act<i64>, LineFault>
-        ensures { IsRead (λ x. acting x) result self.new (act_at self.old) }
+    fn act(&mut self, alloc: Global) -> Result<Act<i64, Held>, LineFault>
+        ensures { IsRead (λ x. acting (boxed meaning_of) x) result self.new (act_at self.old) }
     {
         match self.keyword()? {
             Keyword::Fill => Ok(Act::Fill(self.read()?)),
-            Keyword::Assign => self.assign(alloc),
+            Keyword::Assign => Ok(Act::Assign(self.boxed(alloc)?)),
             Keyword::Set => Ok(Act::Set(self.list(alloc)?, self.read()?)),
             Keyword::Swap => Ok(Act::Swap(self.list(alloc)?, self.list(alloc)?)),
             _ => Err(LineFault::Bad),
@@ -116,73 +98,35 @@ impl<'a> Line<'a> {
 
     /// Two acts, and the slash between them.
     #[tactic(auto, unfolding(crate::specs::Reading::map_read, crate::specs::Reading::both_at))]
-    fn acts(&mut self, alloc: Global) -> Result<(Act<i64>, Act<i64>), LineFault>
-        ensures { IsRead (λ x. (acting x.0, acting x.1)) result self.new (acts_at self.old) }
+    fn acts(&mut self, alloc: Global) -> Result<(Act<i64, Held>, Act<i64, Held>), LineFault>
+        ensures { IsRead (λ x. (acting (boxed meaning_of) x.0, acting (boxed meaning_of) x.1)) result self.new (acts_at self.old) }
     {
         let first = self.act(alloc)?;
         self.slash()?;
         Ok((first, self.act(alloc)?))
     }
 
-    #[inline(never)]
-    #[tactic(auto, unfolding(crate::specs::Reading::map_read, crate::specs::Reading::both_at), using(crate::proofs::Items::item_words))]
-    fn ask(&mut self, alloc: Global, most: usize) -> Result<Call<i64>, LineFault>
-        ensures { IsRead (λ x. asked_call x) result self.new (call_by most Ask self.old) }
-    {
-        Ok(Call::Ask(self.path(alloc, most)?, self.question(alloc)?))
-    }
-
-    #[inline(never)]
-    #[tactic(auto, unfolding(crate::specs::Reading::map_read, crate::specs::Reading::both_at), using(crate::proofs::Items::item_words))]
-    fn write(&mut self, alloc: Global, most: usize) -> Result<Call<i64>, LineFault>
-        ensures { IsRead (λ x. asked_call x) result self.new (call_by most Write self.old) }
-    {
-        Ok(Call::Write(self.path(alloc, most)?, self.act(alloc)?))
-    }
-
-    #[inline(never)]
-    #[tactic(auto, unfolding(crate::specs::Reading::map_read, crate::specs::Reading::both_at), using(crate::proofs::Items::item_words))]
-    fn split(&mut self, alloc: Global) -> Result<Call<i64>, LineFault>
-        ensures { IsRead (λ x. asked_call x) result self.new (call_by 0 Split self.old) }
-    {
-        let (axis, index) = (self.read()?, self.read()?);
-        let (first, second) = self.acts(alloc)?;
-        Ok(Call::SplitWrite(axis, index, first, second))
-    }
-
-    #[inline(never)]
-    #[tactic(auto, unfolding(crate::specs::Reading::map_read, crate::specs::Reading::both_at), using(crate::proofs::Items::item_words))]
-    fn append(&mut self, alloc: Global) -> Result<Call<i64>, LineFault>
-        ensures { IsRead (λ x. asked_call x) result self.new (call_by 0 Append self.old) }
-    {
-        Ok(Call::Append(self.read()?, self.array(alloc)?))
-    }
-
-    #[inline(never)]
-    #[tactic(auto, unfolding(crate::specs::Reading::map_read, crate::specs::Reading::both_at), using(crate::proofs::Items::item_words))]
-    fn push(&mut self, alloc: Global) -> Result<Call<i64>, LineFault>
-        ensures { IsRead (λ x. asked_call x) result self.new (call_by 0 Push self.old) }
-    {
-        Ok(Call::Push(self.read()?, self.array(alloc)?))
-    }
-
     #[tactic(auto, unfolding(crate::specs::Reading::named_at, crate::specs::Reading::map_read, crate::specs::Reading::both_at), using(crate::proofs::Items::item_words))]
-    fn call(&mut self, alloc: Global, most: usize) -> Result<Call<i64>, LineFault>
-        ensures { IsRead (λ x. asked_call x) result self.new (call_at most self.old) }
+    fn call(&mut self, alloc: Global, most: usize) -> Result<Call<i64, Held>, LineFault>
+        ensures { IsRead (λ x. asked_call (boxed meaning_of) x) result self.new (call_at most self.old) }
     {
         match self.keyword()? {
             Keyword::Keep => Ok(Call::Keep(self.step(alloc)?)),
-            Keyword::Ask => self.ask(alloc, most),
-            Keyword::Write => self.write(alloc, most),
-            Keyword::Split => self.split(alloc),
+            Keyword::Ask => Ok(Call::Ask(self.path(alloc, most)?, self.question(alloc)?)),
+            Keyword::Write => Ok(Call::Write(self.path(alloc, most)?, self.act(alloc)?)),
+            Keyword::Split => {
+                let (axis, index) = (self.read()?, self.read()?);
+                let (first, second) = self.acts(alloc)?;
+                Ok(Call::SplitWrite(axis, index, first, second))
+            }
             Keyword::Select => Ok(Call::Select(self.read()?, self.list(alloc)?)),
             Keyword::RemoveIndex => Ok(Call::RemoveIndex(self.read()?, self.read()?)),
             Keyword::Reshape => {
                 let order = self.read()?;
                 Ok(Call::Reshape(self.list(alloc)?, order))
             }
-            Keyword::Append => self.append(alloc),
-            Keyword::Push => self.push(alloc),
+            Keyword::Append => Ok(Call::Append(self.read()?, self.boxed(alloc)?)),
+            Keyword::Push => Ok(Call::Push(self.read()?, self.boxed(alloc)?)),
             Keyword::Reserve => Ok(Call::Reserve(self.read()?, self.read()?)),
             _ => Err(LineFault::Bad),
         }
@@ -191,8 +135,8 @@ impl<'a> Line<'a> {
 
 /// The call of a line, all of whose words belong to it.
 #[tactic(auto, unfolding(crate::specs::Reading::call_of))]
-pub fn call(alloc: Global, line: &[u8]) -> Result<Call<i64>, LineFault>
-    ensures { Gives asked_call result (call_of (length line.now) (words_of line.now)) }
+pub fn call(alloc: Global, line: &[u8]) -> Result<Call<i64, Held>, LineFault>
+    ensures { Gives (asked_call (boxed meaning_of)) result (call_of (length line.now) (words_of line.now)) }
 {
     let mut words = Line::new(line);
     let call = words.call(alloc, line.len())?;

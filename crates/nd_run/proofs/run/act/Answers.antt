@@ -17,9 +17,9 @@ returns-in-SplitWrite g c = rw c.in-SplitWrite.is c.write_parts.ensures
 
 pub returns-in-Append : goal.returns-in-Append
 returns-in-Append g c =
-    let m = meaning_of c.in-Append.other in
+    let m = meaning_of c.array.result.now in
     let seen : meaning_of c.view.result ≡ m = same_meaning m (meaning_of c.view.result) c.view.ensures.whole.0 c.view.ensures.whole.2 in
-    rw (c.in-Append.is, ← seen) c.append.ensures
+    rw (c.in-Append.is, ← c.array.ensures, ← seen) c.append.ensures
 
 pub returns-in-Push : goal.returns-in-Push
-returns-in-Push g c = rw c.in-Push.is c.push.ensures
+returns-in-Push g c = rw (c.in-Push.is, ← c.array-in-Push.ensures) c.push.ensures

@@ -9,6 +9,6 @@ use Rattle.nd_run.proofs.steps.advance.Goals as goal
 pub returns-in-None : goal.returns-in-None
 returns-in-None g c =
     let step = asked_step c.args.step.now in
-    let old = c.args.view in
+    let old = c.args.view.now in
     let allowed : keep_refusal step (shape_of old) ≡ None = ap (keep_refusal step) (sym c.shape.ensures.value) ∙ sym c.in-None.ensures in
     taken_ok step (meaning_of old) (meaning_of c.take_step.result) (keep_allows step (shape_of old) allowed) c.take_step.ensures.shape c.take_step.ensures.elements

@@ -9,7 +9,7 @@ use Rattle.nd_run.proofs.steps.broadcast_to.Goals as goal
 
 pub returns-in-Some : goal.returns-in-Some
 returns-in-Some g c =
-    let old = c.args.view in
+    let old = c.args.view.now in
     let to = c.args.lengths.now in
     let shape : shape_of c.in-Some.wide ≡ to = c.in-Some.ensures.part.0 ∙ c.new.ensures in
     let elements : (i : List ℕ) → element_at c.in-Some.wide i ≡ inside (shape_of c.in-Some.wide) i (element_at old (broadcast_index (shape_of old) to i)) =

@@ -11,13 +11,13 @@ use Rattle.nd_run.proofs.write.act_along.Goals as goal
 
 pub returns-then-is_some-clause-done : goal.returns-then-is_some-clause-done
 returns-then-is_some-clause-done g c =
-    refused_on_path (map asked_step c.args.path.now) (acting c.args.act.now) c.go_along-end.result.1 (placed_array c.args.array) (placed_array c.go_along-end.result.0) (sym c.is_some.ensures ∙ c.if-is_some.true) c.go_along-end.ensures.refused
+    refused_on_path (map asked_step c.args.path.now) (acting g.T.Holds.held c.args.act.now) c.go_along-end.result.1 (placed_array c.args.array) (placed_array c.go_along-end.result.0) (sym c.is_some.ensures ∙ c.if-is_some.true) c.go_along-end.ensures.refused
     (ap g.S.Data.stored c.go_along-end.ensures.storage)
 
 pub returns-then-is_some-2-clause-done : goal.returns-then-is_some-2-clause-done
 returns-then-is_some-2-clause-done g c =
     let path = map asked_step c.args.path.now in
-    let act = acting c.args.act.now in
+    let act = acting g.T.Holds.held c.args.act.now in
     let none = is_none c.go_along-end.result.1 (sym c.is_some.ensures ∙ c.if-is_some.false) in
     let decides = end_decides path act (shape_of c.args.array) (shape_of c.go_along-end.result.0) (sym c.go_along-end.ensures.refused ∙ none) (c.go_along-end.ensures.along none).0 in
     refused_at_end path act c.act_refusal-refused.result (placed_array c.args.array) (placed_array c.go_along-end.result.0) (sym c.is_some-2.ensures ∙ c.if-is_some-2.true) (c.act_refusal-refused.ensures ∙ decides) (ap g.S.Data.stored c.go_along-end.ensures.storage)
@@ -25,7 +25,7 @@ returns-then-is_some-2-clause-done g c =
 pub returns-in-Ok-clause-done : goal.returns-in-Ok-clause-done
 returns-in-Ok-clause-done g c =
     let path = map asked_step c.args.path.now in
-    let act = acting c.args.act.now in
+    let act = acting g.T.Holds.held c.args.act.now in
     let v = placed_array c.args.array in
     let end = c.go_along-end.result.0 in
     let e = placed_array end in
@@ -41,7 +41,7 @@ returns-in-Ok-clause-done g c =
 pub returns-in-Err-clause-done : goal.returns-in-Err-clause-done
 returns-in-Err-clause-done g c =
     let path = map asked_step c.args.path.now in
-    let act = acting c.args.act.now in
+    let act = acting g.T.Holds.held c.args.act.now in
     let none = is_none c.go_along-end.result.1 (sym c.is_some.ensures ∙ c.if-is_some.false) in
     let free = is_none c.act_refusal-refused.result (sym c.is_some-2.ensures ∙ c.if-is_some-2.false) in
     let decides = end_decides path act (shape_of c.args.array) (shape_of c.go_along-end.result.0) (sym c.go_along-end.ensures.refused ∙ none) (c.go_along-end.ensures.along none).0 in

@@ -10,8 +10,8 @@ use Rattle.nd_run.proofs.write.write_parts.Goals as goal
 
 pub returns-then-is_some : goal.returns-then-is_some
 returns-then-is_some g c =
-    let first = acting c.args.first.now in
-    let second = acting c.args.second.now in
+    let first = acting g.T.Holds.held c.args.first.now in
+    let second = acting g.T.Holds.held c.args.second.now in
     let m = meaning_of c.args.array.now in
     let r = c.point_refusal-refused.result in
     let some = sym c.is_some.ensures ∙ c.if-is_some.true in
@@ -22,8 +22,8 @@ pub returns : goal.returns
 returns g c =
     let axis = c.args.axis in
     let index = c.args.index in
-    let first = acting c.args.first.now in
-    let second = acting c.args.second.now in
+    let first = acting g.T.Holds.held c.args.first.now in
+    let second = acting g.T.Holds.held c.args.second.now in
     let array = c.args.array.now in
     let after = c.with_split_at.new.self in
     let ns = shape_of array in

@@ -10,7 +10,7 @@ use Rattle.nd_run.proofs.write.write_through.Goals as goal
 pub returns : goal.returns
 returns g c =
     let path = map asked_step c.args.path.now in
-    let act = acting c.args.act.now in
+    let act = acting g.T.Holds.held c.args.act.now in
     let d = c.in_ok-refused.ensures.done in
     let v = d.0 in
     let w = d.1 in

@@ -9,8 +9,8 @@ pub returns-clause-done : goal.returns-clause-done
 returns-clause-done g c =
     let lengths = g.D.Dimension.lengths in
     let strides = g.D.Strides.StrideList.strides_of in
-    let first = acting c.args.self.first.now in
-    let second = acting c.args.self.second.now in
+    let first = acting g.T.Holds.held c.args.self.first.now in
+    let second = acting g.T.Holds.held c.args.self.second.now in
     let one = c.args.one in
     let two = c.args.two in
     let lower = c.into_dyn-lower.result in

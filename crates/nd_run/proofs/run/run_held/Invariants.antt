@@ -2,10 +2,10 @@ use Rattle.std.proofs.Common.{◌≡◌, ◌≤◌, map, length, vec_len, vec_ca
 use Rattle.nd_array_core.specs.Meaning.{meaning_of}
 use Rattle.nd_run.specs.Calls.{asked_call, said_reply}
 use Rattle.nd_run.proofs.Runs.{IsRunBelow}
-use Rattle.nd_run.proofs.run.run.Given as goal
+use Rattle.nd_run.proofs.run.run_held.Given as goal
 
 abbrev pub invariant-loop-call : goal.invariant-loop-call
 invariant-loop-call g l =
     (vec_len l.replies ≡ l.call-index)
     × (length l.calls ≤ vec_capacity l.replies)
-    × IsRunBelow g.A.PartialEq.eq (map asked_call l.calls) (meaning_of l.fn.start) (map said_reply l.replies.items) (meaning_of l.array) l.call-index
+    × IsRunBelow g.A.PartialEq.eq (map (asked_call g.T.Holds.held) l.calls) (meaning_of l.fn.start) (map said_reply l.replies.items) (meaning_of l.array) l.call-index

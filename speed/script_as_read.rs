@@ -1,4 +1,5 @@
-//! The script program in plain Rust, for the calls that speed/script.py writes: what it prints is the same text.
+//! The script program in plain Rust, where each line is run as it is read, for the calls that speed/script.py writes: what it
+//! prints is the same text.
 use std::io::{self, BufWriter, Read, Write};
 
 /// Lengths and strides of what a path leads to.

@@ -1,6 +1,6 @@
 use Rattle.std.proofs.Common.{◌≡◌, ◌≤◌, length}
 use Rattle.nd_text.specs.Words.{words_of}
-use Rattle.nd_text.proofs.words.trim_start.Given as goal
+use Rattle.nd_text.proofs.words.skip_blanks.Given as goal
 
 abbrev pub invariant-loop-rest : goal.invariant-loop-rest
 invariant-loop-rest l = record {
