@@ -3,7 +3,7 @@ use Rattle.std.specs.Prelude.{ℕ, Bool, List, map, Option, Box}
 use Rattle.nd_shape_and_slice.specs.declared.slice.Slice.{Slice}
 use Rattle.nd_shape_and_slice.specs.declared.slice_info.SliceInfoElem.{SliceInfoElem}
 use Rattle.nd_shape_and_slice.specs.declared.builder.Order.{Order}
-use Rattle.nd_array_core.specs.Meaning.{Meaning, meaning_of}
+use Rattle.nd_array_core.specs.Meaning.{Meaning}
 use Rattle.nd_array_core.specs.Laws.{with_axis_inserted}
 use Rattle.nd_run.specs.declared.calls.Step.{Step}
 use Rattle.nd_run.specs.declared.calls.Step.TheVariants as steps

@@ -72,6 +72,14 @@ keep_tests step ns = (not (shares step), causes.Broadcast) ∷ tests_of step ns
 abbrev pub keep_refusal : AskedStep → List ℕ → Option Cause
 keep_refusal step ns = first_failed (keep_tests step ns)
 
+-- a step that changes the axes of an array where it lies
+abbrev pub changes_axes : AskedStep → Bool
+changes_axes (Sliced es) = false
+changes_axes Squeezed = false
+changes_axes Diagonal = false
+changes_axes (BroadcastTo to) = false
+changes_axes _ = true
+
 -- the lengths after a step
 abbrev pub step_shape : AskedStep → List ℕ → List ℕ
 step_shape (SlicedAxis axis slice) ns = sliced_shape ns axis slice

@@ -6,8 +6,7 @@ ghost use Rattle.nd_array_core.specs.Meaning.{Meaning, meaning_of};
 use nd_array_core::Array;
 use nd_shape_and_slice::{IxDyn, Order, Slice, SliceInfoElem};
 
-/// What holds an array that owns its elements: the array itself, or a box around it. An array takes 536 bytes wherever
-/// it lies, so a long list of calls keeps its arrays in boxes.
+/// What holds an array that owns its elements: the array itself, or a box, which keeps a long list of calls small.
 pub trait Holds<A> {
     ghost held: { Self → Meaning A };
 

@@ -1,36 +1,17 @@
 //! The whole program, over any reader and writer.
 
-ghost use Rattle.std.specs.Prelude.{◌≡◌, ◌||◌, ◌==◌, map, IfOk, IfErr, IfSome};
-ghost use Rattle.nd_array_core.specs.Meaning.{shape_of, meaning_of};
-ghost use Rattle.nd_run.specs.Calls.{said_reply};
+ghost use Rattle.std.specs.Prelude.{◌≡◌, ◌||◌, ◌==◌, IfSome};
 ghost use Rattle.nd_run.specs.Fold.{replies_before};
-ghost use Rattle.nd_array_core.specs.Joined.{row_major_elements};
 ghost use Rattle.nd_run.specs.Meaning.{Runs, Stops};
 ghost use Rattle.nd_run.specs.Endings.{OutOfMemory, Driven, ending};
-ghost use Rattle.nd_run.specs.Script.{asked_script};
 ghost use Rattle.nd_text.specs.Watched.{watched_inner, watched_failed, GetsFlushed};
 
-use crate::calls::Reply;
 use crate::outcome::{Outcome, conclude, conclude_whole, load};
 use crate::reader::Script;
 use crate::run::{RunFault, run_held};
-use nd_array_core::Array;
-use nd_shape_and_slice::IxDyn;
 use nd_text::Watched;
 use std::alloc::Global;
 use std::io::{Read, Write};
-
-/// Carries out the calls of a script.
-fn run_script(
-    alloc: Global,
-    script: Script,
-) -> Result<(Vec<Reply<i64>>, Array<i64, IxDyn>), RunFault<i64>>
-    ensures done { IfOk result (λ r. Runs (asked_script script) (map said_reply r.0.items) (shape_of r.1) (row_major_elements (meaning_of r.1))) }
-    ensures memory { IfErr result (λ fault. Stops (asked_script script) (replies_before fault)) }
-{
-    let Script { start, calls } = script;
-    run_held(alloc, start, &calls)
-}
 
 /// How a script ends whose run was refused memory.
 fn stopped(fault: RunFault<i64>) -> Outcome
@@ -41,9 +22,8 @@ fn stopped(fault: RunFault<i64>) -> Outcome
     }
 }
 
-/// Reads a script to the end of the input, runs it, and writes its replies and its end. Returns the status: 0, or 1 if
-/// a line is bad, 2 if memory was refused, and 3 if a call of the reader or of the writer failed. ndarray has no such
-/// call.
+/// Reads a script to the end of the input, runs it, and writes its replies and its end. Returns the status: 0, 1 if a line
+/// is bad, 2 if memory was refused, 3 if a call of the reader or of the writer failed. ndarray has no such call.
 pub fn drive<R: Read, W: Write>(
     alloc: Global,
     input: &mut Watched<R>,
@@ -55,7 +35,7 @@ pub fn drive<R: Read, W: Write>(
     ensures status { (result == 3) ≡ (watched_failed input.new || watched_failed output.new) }
 {
     match load(alloc, input) {
-        Ok(script) => match run_script(alloc, script) {
+        Ok(Script { start, calls }) => match run_held(alloc, start, &calls) {
             Ok((replies, array)) => conclude_whole(output, &replies, &array),
             Err(fault) => conclude(output, &stopped(fault)),
         },

@@ -119,12 +119,6 @@ fn put_values<W: Write>(output: &mut Watched<W>, page: &mut Page, array: &Array<
     }
 }
 
-fn whole_status(failed: bool) -> u8
-    ensures { result ≡ (if failed then 3 else 0) }
-{
-    if failed { 3 } else { 0 }
-}
-
 fn put_whole<W: Write>(
     output: &mut Watched<W>,
     page: &mut Page,
@@ -153,5 +147,5 @@ pub fn conclude_whole<W: Write>(
     let mut page = Page::new();
     put_whole(output, &mut page, replies, array);
     finish(output, &page);
-    whole_status(output.failed())
+    if output.failed() { 3 } else { 0 }
 }

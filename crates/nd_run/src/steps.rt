@@ -5,7 +5,7 @@ ghost use Rattle.nd_shape_and_slice.specs.Axes.{names_each_axis, permuted_list, 
 ghost use Rattle.nd_array_core.specs.Meaning.{shape_of, element_at, inside, meaning_of, storage_of, place_at};
 ghost use Rattle.nd_shape_and_slice.specs.SliceInfo.{reads_axis, axes_read};
 ghost use Rattle.nd_run.specs.Calls.{asked_step, Sliced, BroadcastTo, Indexed};
-ghost use Rattle.nd_run.specs.Steps.{Refuses, first_failed, element_tests, refusal, keep_refusal, step_shape, step_index};
+ghost use Rattle.nd_run.specs.Steps.{Refuses, first_failed, element_tests, refusal, keep_refusal, changes_axes, step_shape, step_index};
 ghost use Rattle.nd_run.specs.Fold.{step_result};
 
 use crate::calls::Step;
@@ -105,16 +105,49 @@ pub fn keep_refusal(shape: &[usize], step: &Step) -> Option<Cause>
     check_keep(shape, step).err()
 }
 
-/// The array with its axes in this order.
-fn permuted<S: Data>(array: ArrayBase<S, IxDyn>, axes: &[usize]) -> ArrayBase<S, IxDyn>
-    requires { names_each_axis axes.now (length (shape_of array)) ≡ true }
-    ensures shape { shape_of result ≡ permuted_list axes.now (shape_of array) }
-    ensures elements { (i : List ℕ) → element_at result i ≡ inside (shape_of result) i (element_at array (unpermuted_list axes.now i)) }
-    ensures storage { storage_of result ≡ storage_of array }
-    ensures places { (i : List ℕ) → place_at result i ≡ inside (shape_of result) i (place_at array (unpermuted_list axes.now i)) }
+/// Puts the axes of an array in this order.
+fn permute<S: Data>(array: &mut ArrayBase<S, IxDyn>, axes: &[usize])
+    requires { names_each_axis axes.now (length (shape_of array.old)) ≡ true }
+    ensures shape { shape_of array.new ≡ permuted_list axes.now (shape_of array.old) }
+    ensures elements { (i : List ℕ) → element_at array.new i ≡ inside (shape_of array.new) i (element_at array.old (unpermuted_list axes.now i)) }
+    ensures storage { storage_of array.new ≡ storage_of array.old }
+    ensures places { (i : List ℕ) → place_at array.new i ≡ inside (shape_of array.new) i (place_at array.old (unpermuted_list axes.now i)) }
 {
     let order = IxDyn::new(&axes[..array.ndim()]);
-    array.permuted_axes(order)
+    array.permute_axes(order);
+}
+
+/// Whether a step changes the axes of an array where it lies; the others give another array.
+pub fn changes_axes(step: &Step) -> bool
+    ensures { result ≡ changes_axes (asked_step step.now) }
+{
+    !matches!(
+        step,
+        Step::Slice(_) | Step::Squeeze | Step::Diag | Step::Broadcast(_)
+    )
+}
+
+/// Takes a step that changes the axes. Nothing of the array is copied, which matters on long paths: a view is 536 bytes.
+pub fn change_axes<S: Data>(array: &mut ArrayBase<S, IxDyn>, step: &Step)
+    requires changes { changes_axes (asked_step step.now) ≡ true }
+    requires allowed { keep_refusal (asked_step step.now) (shape_of array.old) ≡ None }
+    ensures shape { shape_of array.new ≡ step_shape (asked_step step.now) (shape_of array.old) }
+    ensures elements { (i : List ℕ) → element_at array.new i ≡ inside (shape_of array.new) i (element_at array.old (step_index (asked_step step.now) (shape_of array.old) i)) }
+    ensures storage { storage_of array.new ≡ storage_of array.old }
+    ensures places { (i : List ℕ) → place_at array.new i ≡ inside (shape_of array.new) i (place_at array.old (step_index (asked_step step.now) (shape_of array.old) i)) }
+{
+    match step {
+        Step::SliceAxis(axis, slice) => array.slice_axis_inplace(Axis(*axis), *slice),
+        Step::Collapse(axis, index) => array.collapse_axis(Axis(*axis), *index),
+        Step::IndexAxis(axis, index) => array.index_axis_inplace(Axis(*axis), *index),
+        Step::Permute(axes) => permute(array, axes.as_slice()),
+        Step::Reverse => array.reverse_axes(),
+        Step::SwapAxes(a, b) => array.swap_axes(*a, *b),
+        Step::Invert(axis) => array.invert_axis(Axis(*axis)),
+        Step::InsertAxis(axis) => array.insert_axis_inplace(Axis(*axis)),
+        Step::RemoveAxis(axis) => array.index_axis_inplace(Axis(*axis), 0),
+        Step::Slice(_) | Step::Squeeze | Step::Diag | Step::Broadcast(_) => {}
+    }
 }
 
 /// What a step that is no broadcast gives.
@@ -125,32 +158,16 @@ pub fn take_step<S: Data>(array: ArrayBase<S, IxDyn>, step: &Step) -> ArrayBase<
     ensures storage { storage_of result ≡ storage_of array }
     ensures places { (i : List ℕ) → place_at result i ≡ inside (shape_of result) i (place_at array (step_index (asked_step step.now) (shape_of array) i)) }
 {
+    if changes_axes(step) {
+        let mut array = array;
+        change_axes(&mut array, step);
+        return array;
+    }
     match step {
-        Step::SliceAxis(axis, slice) => array.slice_axis_move(Axis(*axis), *slice),
         Step::Slice(elements) => array.slice_move(elements.as_slice()),
-        Step::Collapse(axis, index) => {
-            let mut array = array;
-            array.collapse_axis(Axis(*axis), *index);
-            array
-        }
-        Step::IndexAxis(axis, index) => array.index_axis_move(Axis(*axis), *index),
-        Step::Permute(axes) => permuted(array, axes.as_slice()),
-        Step::Reverse => array.reversed_axes(),
-        Step::SwapAxes(a, b) => {
-            let mut array = array;
-            array.swap_axes(*a, *b);
-            array
-        }
-        Step::Invert(axis) => {
-            let mut array = array;
-            array.invert_axis(Axis(*axis));
-            array
-        }
-        Step::InsertAxis(axis) => array.insert_axis(Axis(*axis)),
-        Step::RemoveAxis(axis) => array.remove_axis(Axis(*axis)),
         Step::Squeeze => array.squeeze(),
         Step::Diag => array.into_diag().into_dyn(),
-        Step::Broadcast(_) => array,
+        _ => array,
     }
 }
 
@@ -178,6 +195,10 @@ pub fn advance<A>(view: &mut ArrayView<'_, A, IxDyn>, step: &Step) -> Option<Cau
         return broadcast_to(view, lengths.as_slice());
     }
     match keep_refusal(view.shape(), step) {
+        None if changes_axes(step) => {
+            change_axes(view, step);
+            None
+        }
         None => {
             *view = take_step(*view, step);
             None

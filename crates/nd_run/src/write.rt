@@ -13,7 +13,7 @@ ghost use Rattle.nd_run.specs.Fold.{LeadsAlong, CarriesOut};
 use crate::calls::{Act, Holds, Reply, Step};
 use crate::cause::Cause;
 use crate::laws::paths_lead_along;
-use crate::steps::{check, keep_refusal, take_step};
+use crate::steps::{change_axes, changes_axes, check, keep_refusal, take_step};
 use nd_array_core::laws::{distinct_places, elements_have_places, nothing_outside};
 use nd_array_core::scoped::{LentView, PairTask, ViewTask};
 use nd_array_core::{Array, ArrayBase, Data, DataMut, ViewMutRepr};
@@ -34,6 +34,10 @@ fn go_along<S: Data>(
         let refused = keep_refusal(array.shape(), step);
         if refused.is_some() {
             return (array, refused);
+        }
+        if changes_axes(step) {
+            change_axes(&mut array, step);
+            continue;
         }
         array = take_step(array, step);
     }

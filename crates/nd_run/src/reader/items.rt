@@ -180,10 +180,7 @@ impl<'a> Line<'a> {
 fn checked_size(lengths: &[usize]) -> Result<usize, LineFault>
     ensures { Gives (λ x. x) result (checked_size lengths.now) }
 {
-    match size_of_shape_checked(lengths) {
-        Ok(size) => Ok(size),
-        Err(_) => Err(LineFault::Bad),
-    }
+    size_of_shape_checked(lengths).map_err(|_| LineFault::Bad)
 }
 
 /// The array of these lengths and elements.

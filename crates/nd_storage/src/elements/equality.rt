@@ -1,4 +1,4 @@
-//! Whether the elements of two storages are equal, index by index.
+//! Equality of arrays.
 
 ghost use Rattle.std.specs.Prelude.{◌≡◌, ◌+◌, ◌<◌, ◌≤◌, ℕ, true, is_some, length};
 ghost use Rattle.std.specs.Cmp.Lexicographic.{pointwise};

@@ -1,4 +1,4 @@
-//! Elements handed to a hasher.
+//! The hash of arrays.
 
 ghost use Rattle.std.specs.Prelude.{◌≡◌, ◌<◌, ◌≤◌, ℕ, true, is_some, length};
 ghost use Rattle.std.specs.List.{fold, flat_map};

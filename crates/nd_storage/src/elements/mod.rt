@@ -1,4 +1,4 @@
-//! Loops over all elements of a storage that a layout names, lane by lane.
+//! Calls over all elements of a storage that a layout names: one lane after the other.
 
 pub mod assigns;
 pub mod changes;

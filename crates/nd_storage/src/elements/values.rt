@@ -1,4 +1,4 @@
-//! What a closure answers for a clone of each element, in a vector.
+//! New arrays of what a closure answers for a clone of each element.
 
 ghost use Rattle.std.specs.Prelude.{◌≡◌, ◌+◌, ◌<◌, ◌≤◌, ℕ, [], Some, true, length, pos, is_some, slice_get, IfOk, vec_len, vec_capacity};
 ghost use Rattle.nd_shape_and_slice.specs.Shape.{size_of, HasCheckedSize};

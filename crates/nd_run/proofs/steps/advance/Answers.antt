@@ -11,4 +11,11 @@ returns-in-None g c =
     let step = asked_step c.args.step.now in
     let old = c.args.view.now in
     let allowed : keep_refusal step (shape_of old) ≡ None = ap (keep_refusal step) (sym c.shape.ensures.value) ∙ sym c.in-None.ensures in
+    taken_ok step (meaning_of old) (meaning_of c.change_axes.new.array) (keep_allows step (shape_of old) allowed) c.change_axes.ensures.shape c.change_axes.ensures.elements
+
+pub returns-in-None-2 : goal.returns-in-None-2
+returns-in-None-2 g c =
+    let step = asked_step c.args.step.now in
+    let old = c.args.view.now in
+    let allowed : keep_refusal step (shape_of old) ≡ None = ap (keep_refusal step) (sym c.shape.ensures.value) ∙ sym c.in-None.ensures in
     taken_ok step (meaning_of old) (meaning_of c.take_step.result) (keep_allows step (shape_of old) allowed) c.take_step.ensures.shape c.take_step.ensures.elements

@@ -12,6 +12,17 @@ returns-then-is_some-clause-refused g c =
     led_stops_at keep_tests c.keep_refusal-refused.result c.args.path.now c.loop-step.step-index c.step-item.result (places_in (placed_array c.args.array)) (places_in (placed_array c.loop-step.array))
     (sym c.is_some.ensures ∙ c.if-is_some.true) (c.keep_refusal-refused.ensures ∙ ap (keep_refusal (asked_step c.step-item.result)) c.shape.ensures.value) c.loop-step-test.true (sym c.step-item.is) c.loop-step.invariant.led
 
+pub loop-step-preserved-then-changes_axes : goal.loop-step-preserved-then-changes_axes
+loop-step-preserved-then-changes_axes g c =
+    let step = asked_step c.step-item.result in
+    let none = is_none c.keep_refusal-refused.result (sym c.is_some.ensures ∙ c.if-is_some.false) in
+    let allowed : keep_refusal step (shape_of c.loop-step.array) ≡ None = ap (keep_refusal step) (sym c.shape.ensures.value) ∙ (sym c.keep_refusal-refused.ensures ∙ none) in
+    record {
+      storage = c.change_axes.ensures.storage ∙ c.loop-step.invariant.storage;
+      led = led_more keep_tests c.args.path.now c.loop-step.step-index c.step-item.result (places_in (placed_array c.args.array)) (places_in (placed_array c.loop-step.array)) (places_in (placed_array c.change_axes.new.array))
+          c.loop-step-test.true (sym c.step-item.is) allowed c.change_axes.ensures.shape c.change_axes.ensures.places c.loop-step.invariant.led;
+    }
+
 pub loop-step-preserved : goal.loop-step-preserved
 loop-step-preserved g c =
     let step = asked_step c.step-item.result in
