@@ -1,6 +1,6 @@
 //! Bytes that wait to be written, in a buffer of fixed size that takes no memory.
 
-ghost use Rattle.std.specs.Prelude.{◌≡◌, [], ◌++◌, if◌then◌else◌};
+ghost use Rattle.std.specs.Prelude.{◌≡◌, ◌+◌, nat_le, length, [], ◌++◌, if◌then◌else◌};
 
 use std::marker::Model;
 
@@ -48,7 +48,8 @@ impl Page {
 
     /// Puts a text behind the others, and answers whether there was room for it.
     pub fn add(&mut self, text: &[u8]) -> bool
-        ensures { self.new ≡ (if result then self.old ++ text.now else self.old) }
+        ensures room { result ≡ nat_le (length self.old + length text.now) 8192 }
+        ensures bytes { self.new ≡ (if result then self.old ++ text.now else self.old) }
     {
         if text.len() > PAGE_LEN - self.len {
             return false;
