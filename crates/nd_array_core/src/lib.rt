@@ -1,6 +1,6 @@
-//! n-dimensional arrays and views: a storage, and how its elements lie in it.
+//! n-dimensional arrays and views: a storage of nd_storage, and how its elements lie in it.
 //!
-//! - `base`: the storages, the type, what makes an array, and its elements read and written
+//! - `base`: the type, what makes an array, and its elements read and written
 //! - `layout`: slices, axes, rows and columns, parts, broadcasts, and views to be written
 //! - `elements`: calls over all elements
 //! - `along`: calls along one axis

@@ -13,7 +13,7 @@ impl<S: DataMut, D: Dimension> ArrayBase<S, D> {
     ghost use Rattle.nd_array_core.specs.Meaning.{shape_of, element_at};
     ghost use Rattle.nd_array_core.specs.base.Writes.{KeepsFrame};
 
-    /// The same in each lane of an axis of an array, where the lanes have elements.
+    /// `accumulate_axis_inplace` where the lanes of the axis have elements.
     fn accumulate_some<F: FnMut(&S::Elem, &mut S::Elem)>(&mut self, axis: Axis, f: F)
         requires axis { axis.0 < length (shape_of self.old) }
         requires some { 0 < slice_index (shape_of self.old) axis.0 }

@@ -72,7 +72,8 @@ fn answer_lane<S: DataMut, B, F: FnMut(&mut LaneMut<'_, S::Elem>) -> B>(
     )
 }
 
-/// The same in each lane of an axis, whose first places are those of a layout, in row-major order of its indexes.
+/// What a closure answers for each lane of an axis, in row-major order of the lanes, whose first places are those of a
+/// layout.
 fn answer_lanes<S: DataMut, B, F: FnMut(&mut LaneMut<'_, S::Elem>) -> B>(
     room: Vec<B>,
     storage: &mut S,

@@ -1,4 +1,4 @@
-//! Arrays: the storages that hold their elements, the type, how one is made, and its elements read and written.
+//! Arrays: the type, how one is made, and its elements read and written.
 
 pub mod aliases;
 pub mod array;

@@ -106,7 +106,8 @@ fn accumulate_lane<S: DataMut, F: FnMut(&S::Elem, &mut S::Elem)>(
     now
 }
 
-/// The same in each lane of an axis, whose first places are those of a layout.
+/// Goes along each lane of an axis from its second element on, with the element before. The first places of the lanes
+/// are those of a layout.
 pub fn accumulate_lanes<S: DataMut, F: FnMut(&S::Elem, &mut S::Elem)>(
     storage: &mut S,
     first: usize,

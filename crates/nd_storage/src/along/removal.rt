@@ -26,7 +26,8 @@ fn rotate_lane<S: DataMut>(storage: &mut S, lane: Lane, from: usize)
     }
 }
 
-/// The same in each lane of an axis, whose first places are those of a layout.
+/// Moves the element at a coordinate behind the others in each lane of an axis. The first places of the lanes are those
+/// of a layout.
 pub fn rotate_lanes<S: DataMut>(
     storage: &mut S,
     first: usize,

@@ -1,4 +1,4 @@
-//! The elements of another array at every index.
+//! Clones of the elements of one storage written over those of another.
 
 ghost use Rattle.std.specs.Prelude.{◌≡◌, ◌<◌, ◌≤◌, ℕ, true, Some, OnOk, OnErr, pos, length, slice_get, ◌+ℤ◌, ◌*ℤ◌};
 ghost use Rattle.nd_shape_and_slice.specs.Shape.{size_of, HasCheckedSize};

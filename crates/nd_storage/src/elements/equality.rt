@@ -1,4 +1,4 @@
-//! Equality of arrays.
+//! Whether the elements of two storages are equal, index by index.
 
 ghost use Rattle.std.specs.Prelude.{◌≡◌, ◌+◌, ◌<◌, ◌≤◌, ℕ, true, is_some, length};
 ghost use Rattle.std.specs.Cmp.Lexicographic.{pointwise};

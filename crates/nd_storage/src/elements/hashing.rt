@@ -1,4 +1,4 @@
-//! The hash of arrays.
+//! Elements handed to a hasher.
 
 ghost use Rattle.std.specs.Prelude.{◌≡◌, ◌<◌, ◌≤◌, ℕ, true, is_some, length};
 ghost use Rattle.std.specs.List.{fold, flat_map};

@@ -1,4 +1,4 @@
-//! The elements as a vector.
+//! Clones of the elements in a vector.
 
 ghost use Rattle.std.specs.Prelude.{◌≡◌, ◌+◌, ◌<◌, ◌≤◌, ◌++◌, ℕ, true, [], Some, IfOk, OnOk, OnErr, length, is_some, pos, slice_get, vec_len, vec_capacity};
 ghost use Rattle.nd_shape_and_slice.specs.Shape.{size_of, HasCheckedSize};

@@ -1,4 +1,4 @@
-//! New arrays of what a closure answers for each element.
+//! What a closure answers for each element, in a vector.
 
 ghost use Rattle.std.specs.Prelude.{◌≡◌, ◌+◌, ◌<◌, ◌≤◌, ℕ, [], true, length, pos, is_some, slice_get, vec_len, vec_capacity};
 ghost use Rattle.nd_shape_and_slice.specs.Shape.{size_of, HasCheckedSize};

@@ -1,4 +1,4 @@
-//! New arrays of what a closure answers for each element, which it is handed to be written.
+//! What a closure answers for each element, which it is handed to be written, in a vector.
 
 ghost use Rattle.std.specs.Prelude.{◌≡◌, ◌+◌, ◌<◌, ◌≤◌, ℕ, [], true, length, pos, Some, IsSome, vec_len, vec_capacity, ◌+ℤ◌, ◌*ℤ◌};
 ghost use Rattle.nd_shape_and_slice.specs.Shape.{size_of, HasCheckedSize};

@@ -1,4 +1,4 @@
-//! Calls over all elements of a storage that a layout names: one lane after the other.
+//! Loops over all elements of a storage that a layout names, lane by lane.
 
 pub mod assigns;
 pub mod changes;

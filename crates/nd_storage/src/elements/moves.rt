@@ -1,4 +1,4 @@
-//! Elements moved out of an array into another one.
+//! Elements moved out of one storage into another.
 
 ghost use Rattle.std.specs.Prelude.{◌≡◌, ◌<◌, ◌≤◌, ℕ, true, IsSome, pos, length, ◌+ℤ◌, ◌*ℤ◌};
 ghost use Rattle.nd_shape_and_slice.specs.Shape.{size_of, HasCheckedSize};

@@ -1,4 +1,4 @@
-//! Closures that are handed the elements of two arrays: one to be written, and one beside it.
+//! A closure that is handed the elements of two storages: one to be written, and one beside it.
 
 ghost use Rattle.std.specs.Prelude.{◌≡◌, ◌<◌, ◌≤◌, ℕ, true, Some, IsSome, pos, length, slice_get, ◌+ℤ◌, ◌*ℤ◌};
 ghost use Rattle.nd_shape_and_slice.specs.Shape.{size_of, HasCheckedSize};

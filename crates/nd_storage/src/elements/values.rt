@@ -1,4 +1,4 @@
-//! New arrays of what a closure answers for a clone of each element.
+//! What a closure answers for a clone of each element, in a vector.
 
 ghost use Rattle.std.specs.Prelude.{◌≡◌, ◌+◌, ◌<◌, ◌≤◌, ℕ, [], Some, true, length, pos, is_some, slice_get, IfOk, vec_len, vec_capacity};
 ghost use Rattle.nd_shape_and_slice.specs.Shape.{size_of, HasCheckedSize};
