@@ -143,15 +143,17 @@ seen_place stored {offset = offset} {ns = ns} {ss = ss} {offset' = offset'} {ns'
 
 -- so what is seen under it is a part of the array
 pub seen_part : {A : Type 0} (stored : ℕ → Option A) {offset : ℕ} {ns : List ℕ} {ss : List ℤ} {offset' : ℕ} {ns' : List ℕ} {ss' : List ℤ} {source : List ℕ → List ℕ} {shape : List ℕ} {strides : List ℤ} {at : List ℕ → Option A} {place : List ℕ → Option ℕ} {shape' : List ℕ} {strides' : List ℤ}
-    → ns' ≡ shape' → ss' ≡ strides' → IsStep offset ns ss offset' ns' ss' source → IsViewUnder stored offset' ns' ss' shape strides at place
+    → {seen_offset : ℕ} → ns' ≡ shape' → ss' ≡ strides' → (size_of ns ≡ 0 → seen_offset ≡ offset) → IsStep offset ns ss offset' ns' ss' source → IsViewUnder stored offset' ns' ss' shape strides at place
     → (shape ≡ shape') × (strides ≡ strides') × ((i : List ℕ) → at i ≡ inside shape' i (inside ns (source i) (stored_at stored (place_of offset ss (source i)))))
     × ((i : List ℕ) → place i ≡ inside shape' i (inside ns (source i) (place_number (place_of offset ss (source i)))))
-seen_part stored {offset = offset} {ns = ns} {ss = ss} {source = source} lengths strides step seen =
+    × (size_of ns ≡ 0 → seen_offset ≡ offset)
+seen_part stored {offset = offset} {ns = ns} {ss = ss} {source = source} lengths strides stays step seen =
     let shape = seen.shape_is ∙ lengths in (
       shape,
       seen.strides_are ∙ strides,
       (λ i. seen_step stored step seen i ∙ (λ k. inside (shape k) i (inside ns (source i) (stored_at stored (place_of offset ss (source i)))))),
       (λ i. seen_place stored step seen i ∙ (λ k. inside (shape k) i (inside ns (source i) (place_number (place_of offset ss (source i)))))),
+      stays,
     )
 
 -- two that are seen under layouts that share no place share none

@@ -5,6 +5,7 @@ use Rattle.nd_shape_and_slice.specs.declared.dimension.Dimension as dimension
 use Rattle.nd_shape_and_slice.specs.declared.dimension.AxisCount as axis_count
 use Rattle.nd_shape_and_slice.specs.declared.dimension.StrideList as stride_list
 use Rattle.nd_shape_and_slice.specs.declared.slice.Slice.{Slice}
+use Rattle.nd_shape_and_slice.specs.Shape.{size_of}
 use Rattle.nd_shape_and_slice.specs.Axes.{permuted_list, unpermuted_list}
 use Rattle.nd_shape_and_slice.specs.Broadcast.{broadcast_index}
 use Rattle.nd_shape_and_slice.specs.Maps.{inverted_index, collapsed_shape, collapsed_index, lower_shape, upper_shape, upper_index, indexed_shape, indexed_index, inserted_shape, inserted_index, diagonal_length, diagonal_index}
@@ -105,13 +106,14 @@ module _
     {S D A T P R L M : Type 0} {s : data_trait.Ghosts S A} {d : dimension.Ghosts D P R L M} {n : axis_count.Ghosts D} {r : stride_list.Ghosts R} {t : stride_list.Ghosts T}
     {Z E U Q X V W : Type 0} {z : data_trait.Ghosts Z A} {e : dimension.Ghosts E Q X V W} {k : axis_count.Ghosts E} {x : stride_list.Ghosts X} {u : stride_list.Ghosts U} where
   -- b is the part of a: it has the part's shape and strides, and each of its indexes the element and the place of the
-  -- index that it names
+  -- index that it names; where a has no elements, which leaves b without a place to tell, it has a's offset
   abbrev pub ShowsPart : ArrayBase S D T A P R L M s d n r t → Part → ArrayBase Z E U A Q X V W z e k x u → Type 0
   ShowsPart a part b =
       (shape_of b ≡ part.shape)
       × (layout_strides b ≡ part.strides)
       × ((i : List ℕ) → element_at b i ≡ inside part.shape i (element_at a (part.source i)))
       × ((i : List ℕ) → place_at b i ≡ inside part.shape i (place_at a (part.source i)))
+      × (size_of (shape_of a) ≡ 0 → layout_offset b ≡ layout_offset a)
 
   -- b shows all that a does, in the same places
   abbrev pub ShowsWhole : ArrayBase S D T A P R L M s d n r t → ArrayBase Z E U A Q X V W z e k x u → Type 0

@@ -2,6 +2,7 @@
 #![tactic(auto, unfolding(crate::specs::Meaning::meaning_of, crate::specs::Meaning::memory_layout_of))]
 
 ghost use Rattle.std.specs.Prelude.{◌≡◌, ◌-◌, ◌<◌, ℕ, List, length, slice_index};
+ghost use Rattle.nd_shape_and_slice.specs.Shape.{size_of};
 ghost use Rattle.nd_storage.specs.along.Removed.{removed_shape, rotated_index, removed_at, removed_strides, LieAtEnds, KeepPlaces};
 
 use crate::base::array::ArrayBase;
@@ -11,7 +12,7 @@ use nd_storage::along::removal::rotate_lanes;
 use nd_storage::storage::DataMut;
 
 impl<S: DataMut, D: Dimension> ArrayBase<S, D> {
-    ghost use Rattle.nd_array_core.specs.Meaning.{meaning_of, shape_of, element_at, storage_of, place_at, layout_strides};
+    ghost use Rattle.nd_array_core.specs.Meaning.{meaning_of, shape_of, element_at, storage_of, place_at, layout_strides, layout_offset};
     ghost use Rattle.nd_storage.specs.Meaning.{inside};
     ghost use Rattle.nd_array_core.specs.base.Writes.{KeepsFrame};
     ghost use Rattle.nd_storage.specs.Writes.{OthersStay};
@@ -52,6 +53,7 @@ impl<S: DataMut, D: Dimension> ArrayBase<S, D> {
         ensures removed { LieAtEnds (meaning_of self.old) (place_at self.old) axis.0 index (S.stored (storage_of self.new)) }
         ensures others { OthersStay (place_at self.old) (S.stored (storage_of self.old)) (S.stored (storage_of self.new)) }
         ensures frame { S.frame (storage_of self.new) ≡ S.frame (storage_of self.old) }
+        ensures offset { size_of (shape_of self.old) ≡ 0 → layout_offset self.new ≡ layout_offset self.old }
     {
         let last = self.len_of(axis) - 1;
         self.rotate_axis(axis, index);

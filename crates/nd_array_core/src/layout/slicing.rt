@@ -5,6 +5,7 @@
 ghost use Rattle.std.specs.Prelude.{◌≡◌, ◌<◌, true, length, slice_index};
 ghost use Rattle.std.specs.Borrow.{sem};
 ghost use Rattle.nd_shape_and_slice.specs.declared.slice.Slice.{Slice};
+ghost use Rattle.nd_shape_and_slice.specs.Shape.{size_of};
 ghost use Rattle.nd_shape_and_slice.specs.EachAxis.{AnswersGive, AnswersFit};
 ghost use Rattle.nd_shape_and_slice.specs.Slice.{fits_axis};
 ghost use Rattle.nd_shape_and_slice.specs.SliceInfo.{fits_shape, shape_after, index_before};
@@ -30,6 +31,7 @@ pub(crate) fn sliced_by<D: Dimension, I: SliceArg<D>>(
     ensures lengths { I.OutDim.lengths result.dim ≡ shape_after (D.lengths layout.now.dim) (I.elements_of list) }
     ensures step { IsStep layout.now.offset (D.lengths layout.now.dim) (D.Strides.strides_of layout.now.strides) result.offset (I.OutDim.lengths result.dim) (I.OutDim.Strides.strides_of result.strides) (index_before (D.lengths layout.now.dim) (I.elements_of list)) }
     ensures strides { I.OutDim.Strides.strides_of result.strides ≡ strides_after (D.lengths layout.now.dim) (D.Strides.strides_of layout.now.strides) (I.elements_of list) }
+    ensures empty { size_of (D.lengths layout.now.dim) ≡ 0 → result.offset ≡ layout.now.offset }
 {
     layout.sliced::<I::OutDim>(list.elements())
 }

@@ -3,11 +3,12 @@
 #![tactic(auto, unfolding(crate::specs::Meaning::meaning_of, crate::specs::Meaning::memory_layout_of))]
 
 ghost use Rattle.std.specs.Prelude.{◌≡◌, ◌<◌, ◌≤◌, ℕ, length, slice_index};
+ghost use Rattle.nd_shape_and_slice.specs.Shape.{size_of};
 ghost use Rattle.nd_shape_and_slice.specs.Maps.{lower_shape, upper_shape, upper_index};
 ghost use Rattle.nd_region.specs.Places.{names_not};
 ghost use Rattle.nd_region.specs.Region.{region_stored};
 ghost use Rattle.nd_layout.specs.Placements.{placement_of, IsStepOf, KeepsApart};
-ghost use Rattle.nd_array_core.specs.Meaning.{shape_of, element_at, place_at, layout_strides};
+ghost use Rattle.nd_array_core.specs.Meaning.{shape_of, element_at, place_at, layout_strides, layout_offset};
 ghost use Rattle.nd_array_core.specs.layout.MultiSlice.{TwoFit, ThreeFit, FourFit, ThreeShareNoPlace, FourShareNoPlace, FitsEach, TakenOf};
 ghost use Rattle.nd_array_core.specs.scoped.Tasks.{AreApart};
 ghost use Rattle.nd_array_core.specs.layout.Parts.{HoldsEachOnce, IsViewUnder};
@@ -60,6 +61,8 @@ pub(crate) fn halves<D: Dimension, T: StrideList>(
     ensures upper_strides { T.strides_of result.1.strides ≡ T.strides_of layout.now.strides }
     ensures upper { IsStepOf (placement_of layout.now) (placement_of result.1) (upper_index axis index) }
     ensures apart { AreApart (placement_of result.0) (placement_of result.1) }
+    ensures lower_offset { result.0.offset ≡ layout.now.offset }
+    ensures upper_empty { size_of (D.lengths layout.now.dim) ≡ 0 → result.1.offset ≡ layout.now.offset }
 {
     layout.halves(axis, index)
 }
@@ -71,6 +74,7 @@ fn part<'a, A, D: Dimension>(
 ) -> ArrayViewMut<'a, A, D>
     requires { HoldsEachOnce (region_stored storage.old.region) layout.offset (D.lengths layout.dim) (D.Strides.strides_of layout.strides) }
     ensures shown { IsViewUnder (region_stored storage.old.region) layout.offset (D.lengths layout.dim) (D.Strides.strides_of layout.strides) (shape_of result) (layout_strides result) (element_at result) (place_at result) }
+    ensures offset { layout_offset result ≡ layout.offset }
     ensures left { (place : ℕ) → region_stored storage.new.region place ≡ kept_at (names_not layout.offset (D.lengths layout.dim) (D.Strides.strides_of layout.strides)) (region_stored storage.old.region) place }
 {
     let storage = storage.split(&layout);

@@ -28,6 +28,7 @@ returns g c =
           known.strides,
           (λ i. step_element (g.S.Data.stored old.storage) known.step i ∙ (λ k. inside (shape k) i (inside ns (source i) (stored_at (g.S.Data.stored old.storage) (place_of old.layout.offset ss (source i)))))),
           search rules,
+          known.empty,
         ),
         refl,
       );

@@ -1,4 +1,5 @@
-use Rattle.std.proofs.Common.{refl, ◌∙◌}
+use Rattle.std.proofs.Common.{ap, refl, ◌∙◌}
+use Rattle.nd_shape_and_slice.specs.Shape.{size_of}
 use Rattle.nd_shape_and_slice.specs.Slice.{sliced_shape}
 use Rattle.nd_layout.specs.Strides.{sliced_strides}
 use Rattle.nd_layout.proofs.steps.StepLemmas.{step_some}
@@ -25,7 +26,7 @@ returns g c =
       (refl, λ w. refl),
       record {
         writes_back = tt;
-        part = seen_part m shaped (c.slice_axis.ensures.strides ∙ (λ k. sliced_strides (same.lengths k) (same.strides k) c.args.axis.0 c.args.slice)) step seen;
+        part = seen_part m shaped (c.slice_axis.ensures.strides ∙ (λ k. sliced_strides (same.lengths k) (same.strides k) c.args.axis.0 c.args.slice)) (λ none. c.lent_as.ensures.offset ∙ c.slice_axis.ensures.empty (ap size_of same.lengths ∙ none) ∙ same.offset) step seen;
         refilled = c.lent_as.ensures.refilled;
         others = c.lent_as.ensures.others;
         kept = λ ws. let new = array_with_part g.S.Data.refilled g.S.Data.items array (lent_to c.lent_as.result.storage) ws in

@@ -1,5 +1,6 @@
-use Rattle.std.proofs.Common.{refl, subst, ◌∙◌, List}
+use Rattle.std.proofs.Common.{ap, refl, subst, ◌∙◌, List}
 use denote.Param.Members.{Called}
+use Rattle.nd_shape_and_slice.specs.Shape.{size_of}
 use Rattle.nd_shape_and_slice.specs.declared.descriptions.AxisDescription.{AxisDescription}
 use Rattle.nd_shape_and_slice.specs.Descriptions.{axes_from}
 use Rattle.nd_shape_and_slice.specs.EachAxis.{each_sliced_shape, AnswersAre}
@@ -37,7 +38,7 @@ returns g c =
           sliced.1,
           subst (λ (axes : List AxisDescription). AnswersAre (λ f x. Called g.F.FnMut f (x, tt)) c.args.f axes slices sliced.1) (λ k. axes_from 0 (same.lengths k) (same.strides k)) sliced.2,
           (
-            seen_part m shaped (sliced.5 ∙ (λ k. each_sliced_strides (same.lengths k) (same.strides k) slices)) step seen,
+            seen_part m shaped (sliced.5 ∙ (λ k. each_sliced_strides (same.lengths k) (same.strides k) slices)) (λ none. c.lent_as.ensures.offset ∙ c.slice_each_axis.ensures.empty (ap size_of same.lengths ∙ none) ∙ same.offset) step seen,
             λ ws. let new = array_with_part g.S.Data.refilled g.S.Data.items array (lent_to c.lent_as.result.storage) ws in
                 others_keep m old.offset ns ss old.as_many (array.separated g.met.S.DataMut.alone) step seen (g.S.Data.stored new.storage) (c.lent_as.ensures.others ws) (each_sliced_shape ns slices) shaped,
           ),

@@ -1,4 +1,4 @@
-use Rattle.std.proofs.Common.{refl}
+use Rattle.std.proofs.Common.{refl, ◌∙◌}
 use Rattle.nd_shape_and_slice.specs.SliceInfo.{shape_after}
 use Rattle.nd_layout.proofs.steps.StepLemmas.{step_some}
 use Rattle.nd_array_core.specs.Meaning.{meaning_of, memory_layout_of}
@@ -24,7 +24,7 @@ returns g c =
       (refl, λ w. refl),
       record {
         writes_back = tt;
-        part = seen_part m shaped c.sliced_by-named.ensures.strides step seen;
+        part = seen_part m shaped c.sliced_by-named.ensures.strides (λ none. c.lent_as.ensures.offset ∙ c.sliced_by-named.ensures.empty none) step seen;
         refilled = c.lent_as.ensures.refilled;
         others = c.lent_as.ensures.others;
         kept = λ ws. let new = array_with_part g.S.Data.refilled g.S.Data.items array (lent_to c.lent_as.result.storage) ws in
