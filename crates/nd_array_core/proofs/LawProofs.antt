@@ -145,13 +145,13 @@ module _ (axes back : List ℕ) (n : ℕ) (each : HasEachAxis axes n) (each_back
       sym (there_and_back x x_long) ∙ (ap (permuted_list back) (permuted-unpermuted axes j n each j_long) ∙ permuted-unpermuted back i n each_back e)
 
 -- an axis put in and taken out
-remove-inserted : (xs : List ℕ) (a x : ℕ) → a ≤ length xs → remove (insert xs a x) a ≡ xs
+pub remove-inserted : (xs : List ℕ) (a x : ℕ) → a ≤ length xs → remove (insert xs a x) a ≡ xs
 remove-inserted xs zero x h = refl
 remove-inserted [] (suc a) x h = absurd (omega arith)
 remove-inserted (y ∷ xs) (suc a) x h = ap (λ l. y ∷ l) (remove-inserted xs a x (omega arith))
 
 -- a path leads inside
-path_inside : (ns : List ℕ) (steps : List PathStep) (i : List ℕ) → StaysInside ns steps → in_box (path_shape ns steps) i ≡ true → in_box ns (path_source steps i) ≡ true
+pub path_inside : (ns : List ℕ) (steps : List PathStep) (i : List ℕ) → StaysInside ns steps → in_box (path_shape ns steps) i ≡ true → in_box ns (path_source steps i) ≡ true
 path_inside ns [] i stays h = h
 path_inside ns (p ∷ ps) i stays h = stays.0 (path_source ps i) (path_inside p.shape ps i stays.1 h)
 
@@ -314,7 +314,7 @@ changed_inside : (ns i : List ℕ) (a m k : ℕ) → k < get_or ns a 0 → in_bo
 changed_inside ns i a m k below h =
     subst (λ l. in_box l (set i a k) ≡ true) (set-set ns a m (get_or ns a 0) ∙ set-get_or ns a 0) (in_box-set (set ns a m) i a (get_or ns a 0) k h below)
 
-coordinate_at : (ns i : List ℕ) (a m : ℕ) → a < length ns → in_box (set ns a m) i ≡ true → get_or i a 0 < m
+pub coordinate_at : (ns i : List ℕ) (a m : ℕ) → a < length ns → in_box (set ns a m) i ≡ true → get_or i a 0 < m
 coordinate_at ns i a m on h =
     let long = length-set ns a m in
     subst (λ n. get_or i a 0 < n) (get_or-set_same ns a m 0 on) (coordinate_below (set ns a m) i a h (omega (arith, long, on)))

@@ -45,3 +45,5 @@ mod Removing
 mod Reserved
 pub mod Appending
 pub mod FreshStorage
+mod NamedOnce
+mod Reordered

@@ -3,6 +3,8 @@
 
 ghost use Rattle.std.specs.Prelude.{◌≡◌, ◌<◌, ◌≤◌, ◌+◌, ◌*◌, ◌/◌, ◌^◌, ℕ, true, List, [], ◌∷◌, length, reverse};
 ghost use Rattle.nd_array_core.specs.Laws.{PermutedBack, ReversedTwice, InvertedTwice, InsertedAndRemoved, SlicedTwice, PathIsOneMap, CollapsedListsLeadInside, CollapsesLeadInside, CoordinatesLeadInside, ExchangesLeadInside, LeadsInside, ListsLeadInside, LowerPartsLeadInside, NothingOutside, PermutationsLeadInside, SlicesLeadInside, UpperPartsLeadInside, IndexesHavePlaces, ShowsStored, DistinctPlaces};
+ghost use Rattle.nd_array_core.specs.NamedOnce.{SlicesNameOnce, ListsNameOnce, CollapsedListsNameOnce, EachSlicesNameOnce, PermutationsNameOnce, ReversalsNameOnce, ExchangesNameOnce, InversionsNameOnce, CollapsesNameOnce, CoordinatesNameOnce, LowerPartsNameOnce, UpperPartsNameOnce, InsertionsNameOnce, SqueezesNameOnce, MergesNameOnce, DiagonalsNameOnce, ReshapesNameOnce, PathsNameOnce};
+ghost use Rattle.nd_array_core.specs.reshape.RunSlices.{MemoryOrderReorders};
 ghost use Rattle.nd_shape_and_slice.specs.Maps.{inverted_index, inserted_shape, inserted_index, diagonal_length, diagonal_index};
 ghost use Rattle.nd_shape_and_slice.specs.Broadcast.{broadcasts, broadcast_index};
 ghost use Rattle.nd_array_core.specs.Joined.{SplitAndJoined};
@@ -91,6 +93,35 @@ pub fn maps_lead_inside()
     ensures squeezed { (ns : List ℕ) → LeadsInside (squeezed_shape ns) (squeezed_index ns) ns }
     ensures diagonal { (ns : List ℕ) → LeadsInside (diagonal_length ns ∷ []) (diagonal_index ns) ns }
     ensures broadcast { (ns to : List ℕ) → broadcasts ns to ≡ true → LeadsInside to (broadcast_index ns to) ns }
+{}
+
+/// No layout step names an old index twice, broadcast apart: two indexes of the new box that lead to one are one. So of a
+/// read-only view too each element has one index, however many such steps made it (`paths`).
+pub fn maps_name_once()
+    ensures sliced { SlicesNameOnce }
+    ensures listed { ListsNameOnce }
+    ensures collapsed_list { CollapsedListsNameOnce }
+    ensures each_sliced { EachSlicesNameOnce }
+    ensures permuted { PermutationsNameOnce }
+    ensures reversed { ReversalsNameOnce }
+    ensures swapped { ExchangesNameOnce }
+    ensures inverted { InversionsNameOnce }
+    ensures collapsed { CollapsesNameOnce }
+    ensures indexed { CoordinatesNameOnce }
+    ensures lower { LowerPartsNameOnce }
+    ensures upper { UpperPartsNameOnce }
+    ensures inserted { InsertionsNameOnce }
+    ensures squeezed { SqueezesNameOnce }
+    ensures merged { MergesNameOnce }
+    ensures diagonal { DiagonalsNameOnce }
+    ensures reshaped { ReshapesNameOnce }
+    ensures paths { PathsNameOnce }
+{}
+
+/// The elements in the order of their places, as `as_slice_memory_order` gives them, are those in row-major order, put in
+/// another order.
+pub fn memory_order_reorders<A>()
+    ensures { MemoryOrderReorders A }
 {}
 
 /// An array has no element outside its box, which the laws ask of a meaning.

@@ -1,5 +1,5 @@
 -- Which arrays show their elements as one slice, and in which order.
-use Rattle.std.specs.Prelude.{ℕ, ◌≡◌, ◌<◌, ◌+◌, ◌-◌, ◌⊎◌, true, List, length, Option, Some, slice_get}
+use Rattle.std.specs.Prelude.{ℕ, ◌≡◌, ◌<◌, ◌+◌, ◌-◌, ◌⊎◌, true, List, length, Option, Some, slice_get, IsPermutation}
 use Rattle.nd_shape_and_slice.specs.declared.dimension.Dimension as dimension
 use Rattle.nd_shape_and_slice.specs.declared.dimension.AxisCount as axis_count
 use Rattle.nd_shape_and_slice.specs.declared.dimension.StrideList as stride_list
@@ -7,7 +7,7 @@ use Rattle.nd_shape_and_slice.specs.Shape.{in_box, size_of}
 use Rattle.nd_layout.specs.Ranks.{IsStandard, IsRun}
 use Rattle.nd_storage.specs.declared.storage.Data as data_trait
 use Rattle.nd_array_core.specs.declared.base.array.ArrayBase.{ArrayBase}
-use Rattle.nd_storage.specs.Meaning.{row_major_elements}
+use Rattle.nd_storage.specs.Meaning.{Meaning, row_major_elements}
 use Rattle.nd_array_core.specs.Meaning.{meaning_of, shape_of, layout_strides, layout_offset, element_at, place_at, storage_of}
 use Rattle.nd_layout.specs.Strides.{reach_down}
 use Rattle.nd_storage.specs.Storages.{stored_list}
@@ -20,6 +20,10 @@ pub record LiesAlong {A : Type 0} (shape : List ℕ) (first : ℕ) (place : List
   pub within : (i : List ℕ) → in_box shape i ≡ true → (k : ℕ) × (k < size_of shape) × (place i ≡ Some (first + k)) × (at i ≡ slice_get xs k)
   pub each : (k : ℕ) → k < size_of shape → (i : List ℕ) × (in_box shape i ≡ true) × (place i ≡ Some (first + k)) × (at i ≡ slice_get xs k)
   pub once : (i j : List ℕ) → in_box shape i ≡ true → in_box shape j ≡ true → place i ≡ place j → i ≡ j
+
+-- such elements are those in row-major order, put in another order
+abbrev pub MemoryOrderReorders : Type 0 → Type 0
+MemoryOrderReorders A = (m : Meaning A) (first : ℕ) (place : List ℕ → Option ℕ) (xs : List A) → LiesAlong m.shape first place m.at xs → IsPermutation (row_major_elements m) xs
 
 module _ {S D T A P R L M : Type 0} {s : data_trait.Ghosts S A} {d : dimension.Ghosts D P R L M} {n : axis_count.Ghosts D} {r : stride_list.Ghosts R} {t : stride_list.Ghosts T} where
   -- each index lies at its row-major rank from the offset on
@@ -37,6 +41,10 @@ module _ {S D T A P R L M : Type 0} {s : data_trait.Ghosts S A} {d : dimension.G
   -- xs are the elements in the order of their places
   abbrev pub IsInMemoryOrder : ArrayBase S D T A P R L M s d n r t → List A → Type 0
   IsInMemoryOrder a xs = LiesAlong (shape_of a) (lowest_place a) (place_at a) (element_at a) xs
+
+  -- xs are the elements in row-major order, put in another order
+  abbrev pub IsReordering : ArrayBase S D T A P R L M s d n r t → List A → Type 0
+  IsReordering a xs = IsPermutation (row_major_elements (meaning_of a)) xs
 
 module _
     {S D A T P R L M : Type 0} {s : data_trait.Ghosts S A} {d : dimension.Ghosts D P R L M} {n : axis_count.Ghosts D} {r : stride_list.Ghosts R} {t : stride_list.Ghosts T}

@@ -1,0 +1,5 @@
+use Rattle.nd_array_core.proofs.Reordered.{memory_order_reorders}
+use Rattle.nd_array_core.proofs.laws.memory_order_reorders.Goals as goal
+
+pub returns : goal.returns
+returns g c = memory_order_reorders
