@@ -1,23 +1,23 @@
--- Which clone may be refused: along a lane, by rank in a layout, at an index.
-use Rattle.std.proofs.Common.{◌≡◌, ℕ, ◌+◌, ◌<◌, Bool, true, false, List, ℤ, pos, ◌+ℤ◌, refl, ap, sym, ◌∙◌, arith}
+-- Which clone may be refused: by rank in a layout, at an index.
+use Rattle.std.proofs.Common.{◌≡◌, ℕ, ◌<◌, Bool, true, false, List, ℤ, pos, ◌+ℤ◌, refl, sym, ◌∙◌, arith}
 use Rattle.std.specs.Prelude.{Option, Some, None}
 use Rattle.nd_shape_and_slice.specs.Shape.{in_box, size_of, index_at}
 use Rattle.nd_shape_and_slice.specs.Place.{place_of}
 use Rattle.nd_shape_and_slice.proofs.RankIndexes.{in_box-index_at}
-use Rattle.nd_layout.specs.Walk.{IsLane, IsRejoined}
-use Rattle.nd_storage.specs.Collected.{stored_along, stored_by_rank}
+use Rattle.nd_shape_and_slice.proofs.RowMajor.{row_rank_below}
+use Rattle.nd_layout.specs.Steps.{IsViewStep}
+use Rattle.nd_layout.specs.Walk.{IsRearranged, IsRejoined}
+use Rattle.nd_storage.specs.Collected.{stored_by_rank}
 use Rattle.nd_storage.specs.Meaning.{inside}
 use Rattle.nd_storage.specs.Places.{stored_at}
-use Rattle.nd_storage.specs.CloneRefusals.{MayRefuseBelow, MayRefuseClone}
+use Rattle.nd_storage.specs.CloneRefusals.{MayRefuseBelow, MayRefuseClone, MayRefuseClonesOf}
+use Rattle.nd_storage.proofs.Mapped.{rearranged_there}
+use Rattle.nd_storage.proofs.Paired.{element_by_rank}
 
 module _ {A : Type 0} (is_infallible : A → Type 0) where
-  -- of a lane
-  pub lane_refused : (stored : ℕ → Option A) (first : ℕ) (ns : List ℕ) (ss : List ℤ) (rank place count : ℕ) (stride : ℤ) → IsLane first ns ss rank place count stride → MayRefuseBelow is_infallible (stored_along stored place stride) count → MayRefuseBelow is_infallible (stored_by_rank stored first ns ss) (size_of ns)
-  lane_refused stored first ns ss rank place count stride lane refused =
-      let k = refused.0 in
-      let below = refused.2 in
-      let within = lane.within in
-      (rank + k, refused.1, omega (arith, below, within), ap (stored_at stored) (sym (lane.places k below)) ∙ refused.3, refused.4)
+  -- of a value for each index, whatever their order
+  pub value_refused : (x : A) (first : ℕ) (ns : List ℕ) (ss : List ℤ) (start : ℕ) (ms : List ℕ) (ts : List ℤ) → IsRearranged first ns ss start ms ts → MayRefuseClonesOf is_infallible x (size_of ms) → MayRefuseClonesOf is_infallible x (size_of ns)
+  value_refused x first ns ss start ms ts by refused = let below = row_rank_below ns (by.index_of 0) (by.within 0 refused.0) in (omega (arith, below), refused.1)
 
   -- of a layout whose axes were joined
   pub joined_refused : (stored : ℕ → Option A) (first : ℕ) (ns : List ℕ) (ss : List ℤ) (start : ℕ) (ms : List ℕ) (ts : List ℤ) → start ≡ first → IsRejoined ns ss ms ts → MayRefuseBelow is_infallible (stored_by_rank stored start ms ts) (size_of ms) → MayRefuseClone is_infallible (λ i. inside ns i (stored_at stored (place_of first ss i)))
@@ -29,6 +29,20 @@ module _ {A : Type 0} (is_infallible : A → Type 0) where
       let is : stored_by_rank stored start ms ts rank ≡ stored_by_rank stored first ns ss rank = λ k. stored_at stored (pos (same k) +ℤ joined.same rank under k) in
       let there : inside ns (index_at ns rank) (stored_by_rank stored first ns ss rank) ≡ Some refused.1 = rw (in_box-index_at ns rank under) (sym is ∙ refused.3) in
       (index_at ns rank, refused.1, there, refused.4)
+
+  -- of a layout whose places are in another order
+  pub rearranged_refused : (stored : ℕ → Option A) (first : ℕ) (ns : List ℕ) (ss : List ℤ) (start : ℕ) (ms : List ℕ) (ts : List ℤ) → IsRearranged first ns ss start ms ts → MayRefuseBelow is_infallible (stored_by_rank stored start ms ts) (size_of ms) → MayRefuseClone is_infallible (λ i. inside ns i (stored_at stored (place_of first ss i)))
+  rearranged_refused stored first ns ss start ms ts by refused =
+      (by.index_of refused.0, refused.1, sym (rearranged_there stored first ns ss start ms ts by refused.0 refused.2) ∙ refused.3, refused.4)
+
+  -- of a second array's elements, seen by an array's indexes
+  pub seen_refused : (stored : ℕ → Option A) (first : ℕ) (ns : List ℕ) (ss : List ℤ) (from : ℕ) (ms : List ℕ) (ts : List ℤ) (source : List ℕ → List ℕ) → IsViewStep first ns ss from ms ts source → MayRefuseBelow is_infallible (stored_by_rank stored from ms ts) (size_of ms) → MayRefuseClone is_infallible (λ i. inside ms i (inside ns (source i) (stored_at stored (place_of first ss (source i)))))
+  seen_refused stored first ns ss from ms ts source seen refused =
+      (index_at ms refused.0, refused.1, sym (element_by_rank stored first ns ss from ms ts source seen refused.0 refused.2) ∙ refused.3, refused.4)
+
+  -- of arrays with the same elements
+  pub refused_alike : (at other : List ℕ → Option A) → ((i : List ℕ) → at i ≡ other i) → MayRefuseClone is_infallible at → MayRefuseClone is_infallible other
+  refused_alike at other same refused = (refused.0, refused.1, sym (same refused.0) ∙ refused.2, refused.3)
 
   inside_some : (ns i : List ℕ) (o : Option A) (x : A) → inside ns i o ≡ Some x → o ≡ Some x
   inside_some ns i o x e = by_test (in_box ns i) refl e

@@ -1,6 +1,6 @@
 -- An array after a part of it was filled, or a view that is lent to a task; and where a clone was refused on the way.
 use Rattle.std.specs.Prelude.{◌≡◌, ◌⊎◌, ℕ, ℤ, List, true, false, Some, if◌then◌else◌}
-use Rattle.nd_shape_and_slice.specs.Shape.{in_box}
+use Rattle.nd_shape_and_slice.specs.Shape.{in_box, size_of}
 use Rattle.nd_shape_and_slice.specs.declared.dimension.Dimension as dimension
 use Rattle.nd_shape_and_slice.specs.declared.dimension.AxisCount as axis_count
 use Rattle.nd_shape_and_slice.specs.declared.dimension.StrideList as stride_list
@@ -15,8 +15,13 @@ use Rattle.nd_array_core.specs.Meaning.{shape_of, element_at}
 use Rattle.nd_storage.specs.Meaning.{inside}
 use Rattle.nd_array_core.specs.Part.{Part}
 use Rattle.nd_array_core.specs.PlacedArray.{element_placed}
+use Rattle.nd_storage.specs.CloneRefusals.{MayRefuseClonesOf}
 use Rattle.nd_storage.specs.Writes.{IsOldOrNew}
 use Rattle.nd_array_core.specs.scoped.Tasks.{lent_view, view_left}
+
+-- the part has an index, and of the value that fills it a clone may be refused
+abbrev pub MayRefuseFill : {A : Type 0} → (A → Type 0) → A → Part → Type 0
+MayRefuseFill is_infallible x part = MayRefuseClonesOf is_infallible x (size_of part.shape)
 
 -- a view by the words of its dimension for lengths and strides
 module _ {A D T : Type 0} (lengths : D → List ℕ) (strides : T → List ℤ) where

@@ -4,7 +4,9 @@ ghost use Rattle.std.specs.Prelude.{◌≡◌, ◌<◌, ◌≤◌, ℕ, true, So
 ghost use Rattle.nd_shape_and_slice.specs.Shape.{size_of, HasCheckedSize};
 ghost use Rattle.nd_layout.specs.Places.{ReachesPlaces};
 ghost use Rattle.nd_layout.specs.Walk.{place_at_rank};
+ghost use Rattle.nd_storage.specs.Collected.{stored_along, stored_by_rank};
 ghost use Rattle.nd_storage.specs.Places.{names_place, stored_at};
+ghost use Rattle.nd_storage.specs.CloneRefusals.{MayRefuseBelow};
 ghost use Rattle.nd_storage.specs.Clones.{ClonesAreEqual, StoredClonesAreEqual};
 ghost use Rattle.nd_storage.specs.elements.Assigns.{IsAssignedTo, IsPartlyAssigned};
 ghost use Rattle.nd_storage.specs.elements.Changes.{AreDistinct};
@@ -28,6 +30,7 @@ fn assign_along<A: Clone + Drop, S: DataMut<Elem = A>, Z: Data<Elem = A>>(
     requires clones { (k : ℕ) (x : A) → k < lane.count → stored_at (Z.stored others.now) (pos beside.place +ℤ (pos k *ℤ beside.stride)) ≡ Some x → ClonesAreEqual A.is_clone x }
     ensures assigned { OnOk result (IsAssignedTo (λ k. stored_at (Z.stored others.now) (pos beside.place +ℤ (pos k *ℤ beside.stride))) (λ k. pos lane.place +ℤ (pos k *ℤ lane.stride)) lane.count (S.stored storage.old) (S.stored storage.new)) }
     ensures stopped { OnErr result (IsPartlyAssigned (λ k. stored_at (Z.stored others.now) (pos beside.place +ℤ (pos k *ℤ beside.stride))) (λ k. pos lane.place +ℤ (pos k *ℤ lane.stride)) lane.count (S.stored storage.old) (S.stored storage.new)) }
+    ensures refused { OnErr result (MayRefuseBelow A.is_infallible (stored_along (Z.stored others.now) beside.place beside.stride) lane.count) }
     ensures frame { S.frame storage.new ≡ S.frame storage.old }
 {
     for nth in 0..lane.count {
@@ -48,6 +51,7 @@ fn assign_run<A: Clone + Drop>(xs: &mut [A], ys: &[A]) -> Result<(), NoMemory>
     requires clones { StoredClonesAreEqual A.is_clone ys.now }
     ensures assigned { OnOk result (IsAssignedTo (slice_get ys.now) (λ k. pos k) (length xs.old) (slice_get xs.old) (slice_get xs.new)) }
     ensures stopped { OnErr result (IsPartlyAssigned (slice_get ys.now) (λ k. pos k) (length xs.old) (slice_get xs.old) (slice_get xs.new)) }
+    ensures refused { OnErr result (MayRefuseBelow A.is_infallible (slice_get ys.now) (length ys.now)) }
     ensures long { length xs.new ≡ length xs.old }
 {
     for nth in 0..ys.len() {
@@ -74,6 +78,7 @@ fn assign_beside<A: Clone + Drop, S: DataMut<Elem = A>, Z: Data<Elem = A>>(
     requires clones { (k : ℕ) (x : A) → k < lane.count → stored_at (Z.stored others.now) (pos beside.place +ℤ (pos k *ℤ beside.stride)) ≡ Some x → ClonesAreEqual A.is_clone x }
     ensures assigned { OnOk result (IsAssignedTo (λ k. stored_at (Z.stored others.now) (pos beside.place +ℤ (pos k *ℤ beside.stride))) (λ k. pos lane.place +ℤ (pos k *ℤ lane.stride)) lane.count (S.stored storage.old) (S.stored storage.new)) }
     ensures stopped { OnErr result (IsPartlyAssigned (λ k. stored_at (Z.stored others.now) (pos beside.place +ℤ (pos k *ℤ beside.stride))) (λ k. pos lane.place +ℤ (pos k *ℤ lane.stride)) lane.count (S.stored storage.old) (S.stored storage.new)) }
+    ensures refused { OnErr result (MayRefuseBelow A.is_infallible (stored_along (Z.stored others.now) beside.place beside.stride) lane.count) }
     ensures frame { S.frame storage.new ≡ S.frame storage.old }
 {
     let ys = others.borrowed().run(beside.place, beside.count);
@@ -92,6 +97,7 @@ fn assign_into<A: Clone + Drop, Z: Data<Elem = A>>(
     requires clones { (k : ℕ) (x : A) → k < beside.count → stored_at (Z.stored others.now) (pos beside.place +ℤ (pos k *ℤ beside.stride)) ≡ Some x → ClonesAreEqual A.is_clone x }
     ensures assigned { OnOk result (IsAssignedTo (λ k. stored_at (Z.stored others.now) (pos beside.place +ℤ (pos k *ℤ beside.stride))) (λ k. pos k) (length xs.old) (slice_get xs.old) (slice_get xs.new)) }
     ensures stopped { OnErr result (IsPartlyAssigned (λ k. stored_at (Z.stored others.now) (pos beside.place +ℤ (pos k *ℤ beside.stride))) (λ k. pos k) (length xs.old) (slice_get xs.old) (slice_get xs.new)) }
+    ensures refused { OnErr result (MayRefuseBelow A.is_infallible (stored_along (Z.stored others.now) beside.place beside.stride) (length xs.old)) }
     ensures long { length xs.new ≡ length xs.old }
 {
     for nth in 0..beside.count {
@@ -119,6 +125,7 @@ fn assign_aside<A: Clone + Drop, S: DataMut<Elem = A>, Z: Data<Elem = A>>(
     requires clones { (k : ℕ) (x : A) → k < lane.count → stored_at (Z.stored others.now) (pos beside.place +ℤ (pos k *ℤ beside.stride)) ≡ Some x → ClonesAreEqual A.is_clone x }
     ensures assigned { OnOk result (IsAssignedTo (λ k. stored_at (Z.stored others.now) (pos beside.place +ℤ (pos k *ℤ beside.stride))) (λ k. pos lane.place +ℤ (pos k *ℤ lane.stride)) lane.count (S.stored storage.old) (S.stored storage.new)) }
     ensures stopped { OnErr result (IsPartlyAssigned (λ k. stored_at (Z.stored others.now) (pos beside.place +ℤ (pos k *ℤ beside.stride))) (λ k. pos lane.place +ℤ (pos k *ℤ lane.stride)) lane.count (S.stored storage.old) (S.stored storage.new)) }
+    ensures refused { OnErr result (MayRefuseBelow A.is_infallible (stored_along (Z.stored others.now) beside.place beside.stride) lane.count) }
     ensures frame { S.frame storage.new ≡ S.frame storage.old }
 {
     assign_into(storage.lend_run(lane.place, lane.count), others, beside)
@@ -138,6 +145,7 @@ fn assign_lane<A: Clone + Drop, S: DataMut<Elem = A>, Z: Data<Elem = A>>(
     requires clones { (k : ℕ) (x : A) → k < lane.count → stored_at (Z.stored others.now) (pos beside.place +ℤ (pos k *ℤ beside.stride)) ≡ Some x → ClonesAreEqual A.is_clone x }
     ensures assigned { OnOk result (IsAssignedTo (λ k. stored_at (Z.stored others.now) (pos beside.place +ℤ (pos k *ℤ beside.stride))) (λ k. pos lane.place +ℤ (pos k *ℤ lane.stride)) lane.count (S.stored storage.old) (S.stored storage.new)) }
     ensures stopped { OnErr result (IsPartlyAssigned (λ k. stored_at (Z.stored others.now) (pos beside.place +ℤ (pos k *ℤ beside.stride))) (λ k. pos lane.place +ℤ (pos k *ℤ lane.stride)) lane.count (S.stored storage.old) (S.stored storage.new)) }
+    ensures refused { OnErr result (MayRefuseBelow A.is_infallible (stored_along (Z.stored others.now) beside.place beside.stride) lane.count) }
     ensures frame { S.frame storage.new ≡ S.frame storage.old }
 {
     if lane.count == 0 || lane.stride != 1 {
@@ -172,6 +180,7 @@ pub fn assign_places<A: Clone + Drop, S: DataMut<Elem = A>, Z: Data<Elem = A>>(
     requires clones { (rank : ℕ) (x : A) → rank < size_of lengths.now → stored_at (Z.stored others.now) (place_at_rank from lengths.now steps.now rank) ≡ Some x → ClonesAreEqual A.is_clone x }
     ensures assigned { OnOk result (IsAssignedTo (λ rank. stored_at (Z.stored others.now) (place_at_rank from lengths.now steps.now rank)) (place_at_rank first lengths.now strides.now) (size_of lengths.now) (S.stored storage.old) (S.stored storage.new)) }
     ensures stopped { OnErr result (IsPartlyAssigned (λ rank. stored_at (Z.stored others.now) (place_at_rank from lengths.now steps.now rank)) (place_at_rank first lengths.now strides.now) (size_of lengths.now) (S.stored storage.old) (S.stored storage.new)) }
+    ensures refused { OnErr result (MayRefuseBelow A.is_infallible (stored_by_rank (Z.stored others.now) from lengths.now steps.now) (size_of lengths.now)) }
     ensures frame { S.frame storage.new ≡ S.frame storage.old }
 {
     let mut ours = Lanes::new(first, lengths, strides);

@@ -5,6 +5,7 @@ ghost use Rattle.nd_shape_and_slice.specs.Shape.{size_of, HasCheckedSize};
 ghost use Rattle.nd_layout.specs.Places.{ReachesPlaces};
 ghost use Rattle.nd_layout.specs.Walk.{place_at_rank};
 ghost use Rattle.nd_storage.specs.Places.{names_place};
+ghost use Rattle.nd_storage.specs.CloneRefusals.{MayRefuseClonesOf};
 ghost use Rattle.nd_storage.specs.Filled.{IsFilledTo, IsPartlyFilled};
 
 use crate::storage::DataMut;
@@ -20,6 +21,7 @@ where
     requires holds { (k : ℕ) → k < lane.count → names_place (S.stored storage.old) (pos lane.place +ℤ (pos k *ℤ lane.stride)) ≡ true }
     ensures filled { OnOk result (IsFilledTo (λ k. pos lane.place +ℤ (pos k *ℤ lane.stride)) lane.count value.now (S.stored storage.old) (S.stored storage.new)) }
     ensures stopped { OnErr result (IsPartlyFilled (λ k. pos lane.place +ℤ (pos k *ℤ lane.stride)) lane.count value.now (S.stored storage.old) (S.stored storage.new)) }
+    ensures refused { OnErr result (MayRefuseClonesOf S.Elem.is_infallible value.now lane.count) }
     ensures frame { S.frame storage.new ≡ S.frame storage.old }
 {
     for nth in 0..lane.count {
@@ -42,6 +44,7 @@ where
     requires holds { (k : ℕ) → k < lane.count → names_place (S.stored storage.old) (pos lane.place +ℤ (pos k *ℤ lane.stride)) ≡ true }
     ensures filled { OnOk result (IsFilledTo (λ k. pos lane.place +ℤ (pos k *ℤ lane.stride)) lane.count value.now (S.stored storage.old) (S.stored storage.new)) }
     ensures stopped { OnErr result (IsPartlyFilled (λ k. pos lane.place +ℤ (pos k *ℤ lane.stride)) lane.count value.now (S.stored storage.old) (S.stored storage.new)) }
+    ensures refused { OnErr result (MayRefuseClonesOf S.Elem.is_infallible value.now lane.count) }
     ensures frame { S.frame storage.new ≡ S.frame storage.old }
 {
     if lane.stride == 1 {
@@ -74,6 +77,7 @@ where
     requires holds { (rank : ℕ) → rank < size_of lengths.now → names_place (S.stored storage.old) (place_at_rank first lengths.now strides.now rank) ≡ true }
     ensures filled { OnOk result (IsFilledTo (place_at_rank first lengths.now strides.now) (size_of lengths.now) value.now (S.stored storage.old) (S.stored storage.new)) }
     ensures stopped { OnErr result (IsPartlyFilled (place_at_rank first lengths.now strides.now) (size_of lengths.now) value.now (S.stored storage.old) (S.stored storage.new)) }
+    ensures refused { OnErr result (MayRefuseClonesOf S.Elem.is_infallible value.now (size_of lengths.now)) }
     ensures frame { S.frame storage.new ≡ S.frame storage.old }
 {
     let mut lanes = Lanes::new(first, lengths, strides);

@@ -1,11 +1,13 @@
 //! Elements exchanged where they lie for what a closure answers for a clone of each.
 
-ghost use Rattle.std.specs.Prelude.{◌≡◌, ◌<◌, ◌≤◌, ℕ, true, Some, IfOk, IfErr, pos, length, ◌+ℤ◌, ◌*ℤ◌};
+ghost use Rattle.std.specs.Prelude.{◌≡◌, ◌<◌, ◌≤◌, ℕ, true, Some, IfOk, IfErr, OnErr, pos, length, ◌+ℤ◌, ◌*ℤ◌};
 ghost use Rattle.nd_shape_and_slice.specs.Shape.{size_of, HasCheckedSize};
 ghost use Rattle.nd_layout.specs.Places.{ReachesPlaces};
 ghost use Rattle.nd_layout.specs.Walk.{place_at_rank};
+ghost use Rattle.nd_storage.specs.Collected.{stored_along, stored_by_rank};
 ghost use Rattle.nd_storage.specs.Places.{stored_at, names_place};
 ghost use Rattle.nd_storage.specs.ElementMut.{KeepsPlaces};
+ghost use Rattle.nd_storage.specs.CloneRefusals.{MayRefuseBelow};
 ghost use Rattle.nd_storage.specs.Clones.{ClonesAreEqual};
 ghost use Rattle.nd_storage.specs.elements.Changes.{AreDistinct, IsChangedBy};
 ghost use Rattle.nd_storage.specs.elements.Maps.{AnswersValue, MayBeGiven, TakesNumbered, Replaces, IsReplacedInPart};
@@ -29,6 +31,7 @@ where
     requires callable { TakesNumbered (AnswersValue F.FnMut) (MayBeGiven F.FnMut) (λ k. stored_at (S.stored storage.old) (pos lane.place +ℤ (pos k *ℤ lane.stride))) f lane.count }
     ensures replaced { IfOk result (λ last. IsChangedBy (Replaces (AnswersValue F.FnMut)) (λ k. pos lane.place +ℤ (pos k *ℤ lane.stride)) lane.count (S.stored storage.old) (S.stored storage.new) f last) }
     ensures stopped { IfErr result (λ _. IsReplacedInPart (AnswersValue F.FnMut) (λ k. pos lane.place +ℤ (pos k *ℤ lane.stride)) lane.count (S.stored storage.old) (S.stored storage.new) f) }
+    ensures refused { OnErr result (MayRefuseBelow S.Elem.is_infallible (stored_along (S.stored storage.old) lane.place lane.stride) lane.count) }
     ensures there { KeepsPlaces (S.stored storage.old) (S.stored storage.new) }
     ensures frame { S.frame storage.new ≡ S.frame storage.old }
 {
@@ -64,6 +67,7 @@ where
     requires callable { TakesNumbered (AnswersValue F.FnMut) (MayBeGiven F.FnMut) (λ k. stored_at (S.stored storage.old) (place_at_rank first lengths.now strides.now k)) f (size_of lengths.now) }
     ensures replaced { IfOk result (λ last. IsChangedBy (Replaces (AnswersValue F.FnMut)) (place_at_rank first lengths.now strides.now) (size_of lengths.now) (S.stored storage.old) (S.stored storage.new) f last) }
     ensures stopped { IfErr result (λ _. IsReplacedInPart (AnswersValue F.FnMut) (place_at_rank first lengths.now strides.now) (size_of lengths.now) (S.stored storage.old) (S.stored storage.new) f) }
+    ensures refused { OnErr result (MayRefuseBelow S.Elem.is_infallible (stored_by_rank (S.stored storage.old) first lengths.now strides.now) (size_of lengths.now)) }
     ensures there { KeepsPlaces (S.stored storage.old) (S.stored storage.new) }
     ensures frame { S.frame storage.new ≡ S.frame storage.old }
 {

@@ -3,8 +3,10 @@ use Rattle.std.specs.Prelude.{is_some, slice_get, OnOk, OnErr}
 use Rattle.nd_storage.specs.Places.{stored_at}
 use Rattle.nd_storage.specs.RunLent.{HasRunAt}
 use Rattle.nd_storage.specs.elements.Assigns.{IsAssignedTo, IsPartlyAssigned}
-use Rattle.nd_storage.proofs.Collecting.{beside_has}
+use Rattle.nd_storage.specs.Collected.{stored_along}
+use Rattle.nd_storage.proofs.Collecting.{beside, beside_has}
 use Rattle.nd_storage.proofs.Mapped.{beside_found, got_below}
+use Rattle.nd_storage.proofs.RunsBehind.{run_refuses}
 use Rattle.nd_storage.proofs.RunPairs.{number, side_shows, beside_lane, run_assigned, run_partly}
 use Rattle.nd_storage.proofs.elements.assigns.assign_beside.Goals as goal
 
@@ -66,3 +68,11 @@ assign_run-requires-clause-clones g c k x at =
     let below = subst (λ n. k < n) c.run-ys.ensures.count (got_below ys k x at) in
     let there = beside_found others beside.place beside.count beside.stride c.requires.steps.1 ys c.run-ys.ensures.count (λ j d under. sym (c.borrowed.ensures (beside.place + j)) ∙ c.run-ys.ensures.elements j d under) k below in
     c.requires.clones k x (subst (λ n. k < n) c.requires.as_long below) (sym there ∙ at)
+
+pub returns-clause-refused : goal.returns-clause-refused
+returns-clause-refused g c =
+    let aside = c.args.beside in
+    let others = g.Z.Data.stored c.args.others.now in
+    run_refuses c.run-ys.result.now (stored_along others aside.place aside.stride) c.args.lane.count (c.run-ys.ensures.count ∙ c.requires.as_long)
+    (λ k d below. beside others aside.place k aside.stride c.requires.steps.1 ∙ (sym (c.borrowed.ensures (aside.place + k)) ∙ c.run-ys.ensures.elements k d (subst (λ n. k < n) (sym c.requires.as_long) below)))
+    c.assign_run.result g.A.Clone.is_infallible c.assign_run.ensures.refused

@@ -3,7 +3,7 @@ use Rattle.nd_shape_and_slice.specs.Shape.{size_of}
 use Rattle.nd_layout.specs.Walk.{place_at_rank, IsLane}
 use Rattle.nd_storage.specs.elements.Changes.{IsChangedBy}
 use Rattle.nd_storage.specs.elements.Maps.{AnswersValue, MayBeGiven, Replaces}
-use Rattle.nd_storage.proofs.Changed.{changed_then}
+use Rattle.nd_storage.proofs.Changed.{changed_then, still_there}
 use Rattle.nd_storage.proofs.Replaced.{replaced_takes}
 use Rattle.nd_storage.proofs.elements.inplace.replace_places.Goals as goal
 
@@ -54,3 +54,18 @@ returns-in-Err-clause-stopped g c =
           (λ j under. along.places j (omega (arith, under, inner)))
           (g.S.Data.stored c.args.storage.now) (g.S.Data.stored c.loop-lane.storage) (g.S.Data.stored c.replace_lane.new.storage) c.args.f c.loop-lane.now part.1 so_far.3 part.3,
     )
+
+pub returns-in-Err-clause-refused : goal.returns-in-Err-clause-refused
+returns-in-Err-clause-refused g c =
+    let so_far = c.loop-lane.invariant in
+    let lane = c.in-Some.lane in
+    let given = c.in-Some.ensures.lane in
+    let along : IsLane c.args.first c.args.lengths.now c.args.strides.now c.loop-lane.lanes.rank lane.place lane.count lane.stride = rw (so_far.0, so_far.1, so_far.2) at given.0 in
+    let rank = c.loop-lane.lanes.rank in
+    let refused = c.in-Err.ensures.refused in
+    let below = refused.2 in
+    let within = along.within in
+    let still =
+    still_there (Replaces (AnswersValue g.F.FnMut)) (place_at_rank c.args.first c.args.lengths.now c.args.strides.now) (λ j. pos lane.place +ℤ (pos j *ℤ lane.stride)) rank lane.count (size_of c.args.lengths.now) within c.requires.apart along.places
+    (g.S.Data.stored c.args.storage.now) (g.S.Data.stored c.loop-lane.storage) (g.S.Data.stored c.loop-lane.storage) c.args.f c.loop-lane.now c.loop-lane.now so_far.3 in
+    (rank + refused.0, refused.1, omega (arith, within, below), sym (still refused.0 below) ∙ refused.3, refused.4)

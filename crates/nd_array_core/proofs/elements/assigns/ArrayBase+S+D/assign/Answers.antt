@@ -7,10 +7,13 @@ use Rattle.nd_layout.specs.Steps.{IsViewStep}
 use Rattle.nd_layout.specs.Walk.{place_at_rank}
 use Rattle.nd_array_core.specs.Meaning.{meaning_of, memory_layout_of}
 use Rattle.nd_storage.specs.Meaning.{inside}
+use Rattle.nd_storage.specs.CloneRefusals.{MayRefuseBelow}
+use Rattle.nd_storage.specs.Collected.{stored_by_rank}
 use Rattle.nd_storage.specs.Places.{stored_at}
 use Rattle.nd_storage.specs.elements.Assigns.{IsAssignedTo, IsPartlyAssigned}
 use Rattle.nd_storage.proofs.Assigned.{assigned_partly, partly_holds, assigned_at, partly_at, either_way, on_ok, on_err}
 use Rattle.nd_storage.proofs.Paired.{in_row_major, ranks_apart, seen_by_rank, element_at_rank, shown_by_rank, others_stay}
+use Rattle.nd_array_core.proofs.CloneRefusals.{seen_refused}
 use Rattle.nd_array_core.proofs.elements.assigns.ArrayBase+S+D.assign.Goals as goal
 
 pub assign_places-requires-clause-apart : goal.assign_places-requires-clause-apart
@@ -151,3 +154,18 @@ returns-clause-frame g c =
     let partly : IsPartlyAssigned (λ rank. stored_at others (place_at_rank seen.offset ns ts rank)) (place_at_rank old.offset ns ss) (size_of ns) (g.S.Data.stored array.storage) (g.S.Data.stored c.assign_places.new.storage) = either_way c.assign_places.result assigned stopped
     (λ all. assigned_partly (λ rank. stored_at others (place_at_rank seen.offset ns ts rank)) (place_at_rank old.offset ns ss) (size_of ns) (size_of ns) (ranks_apart old.offset ns ss old.as_many (array.separated g.met.S.DataMut.alone)) (g.S.Data.stored array.storage) (g.S.Data.stored c.assign_places.new.storage) all (omega arith)) (λ some. some) in
     (refl, refl, (λ i. refl), others_stay old.offset ns ss old.offset ns ss (in_row_major old.offset ns ss) (g.S.Data.stored array.storage) (g.S.Data.stored c.assign_places.new.storage) partly.left, c.assign_places.ensures.frame, refl)
+
+pub returns-clause-refused : goal.returns-clause-refused
+unfolding meaning_of
+returns-clause-refused g c =
+    let array = c.args.self.now in
+    let ns = g.D.Dimension.lengths array.layout.dim in
+    let right = c.args.rhs.now in
+    let others = g.Z.Data.stored right.storage in
+    let rs = g.E.Dimension.lengths right.layout.dim in
+    let us = g.E.Strides.StrideList.strides_of right.layout.strides in
+    let seen = c.in-Some.seen in
+    let ts = g.D.Strides.StrideList.strides_of seen.strides in
+    let view : IsViewStep right.layout.offset rs us seen.offset ns ts (broadcast_index rs ns) = rw c.in-Some.ensures.lengths at c.in-Some.ensures.seen in
+    let refused : OnErr c.assign_places.result (MayRefuseBelow g.A.Clone.is_infallible (stored_by_rank others seen.offset ns ts) (size_of ns)) = rw (c.slice.ensures.lengths, c.slice-in-Some-2.ensures) at c.assign_places.ensures.refused in
+    on_err c.assign_places.result (seen_refused g.A.Clone.is_infallible others right.layout.offset rs us seen.offset ns ts (broadcast_index rs ns) view) refused
