@@ -5,7 +5,7 @@
 #
 # VERSION is a commit or a tag of this repository; HEAD if left out. It stops where a library's folder is there already.
 # The first check of a caller proves the libraries, which takes some twenty minutes on four processors. --with-proofs copies what
-# checks kept here (crates/*/out, some 3 GB, where this tree holds that version): the first check then takes seconds.
+# checks kept here (crates/*/out, some 3 GB, where this tree holds that version): the first check then takes a minute or two.
 set -eu
 libraries="nd_shape_and_slice nd_region nd_layout nd_storage nd_array_core"
 

@@ -9,8 +9,9 @@
   file, as '-- proofs/..', in that file of a crate. A line '..' stands for any lines.
 - A link to a file of the repository, and to a heading of a page, leads somewhere.
 - Each clause that docs/PROMISES.md names stands at a function of that name.
+- As many edits are kept in docs/tried.txt as there are in must-fail/.
 
-Its last lines count: calls, blocks, links, clauses and words.
+Its first lines count: calls, blocks, links, clauses, edits and words; each line behind them is something to mend.
 """
 
 import glob
@@ -221,8 +222,15 @@ def check_clauses():
     return wrong
 
 
+def check_edits():
+    edits = read("docs/tried.txt").split("== edits ==")[1].split("== plants ==")[0]
+    kept, files = len(re.findall(r"\| yes$", edits, re.MULTILINE)), len(glob.glob("crates/*/must-fail/*.edit"))
+    print(f"{files} edits")
+    return [f"docs/tried.txt: {kept} edits are kept, and there are {files}"] if kept != files else []
+
+
 def main():
-    wrong = check_calls() + check_blocks() + check_links() + check_clauses()
+    wrong = check_calls() + check_blocks() + check_links() + check_clauses() + check_edits()
     print(f"{sum(len(read(page).split()) for page in paths(PAGES))} words")
     for line in wrong:
         print(line)
