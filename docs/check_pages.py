@@ -10,6 +10,8 @@
 - A link to a file of the repository, and to a heading of a page, leads somewhere.
 - Each clause that docs/PROMISES.md names stands at a function of that name.
 - As many edits are kept in docs/tried.txt as there are in must-fail/.
+- README.md names the toolchain as `rt version` does, where there is an rt; docs/views.svg is what docs/picture.py draws.
+- No page is longer than LONGEST lines, and all together have at most WORDS words.
 
 Its first lines count: calls, blocks, links, clauses, edits and words; each line behind them is something to mend.
 """
@@ -17,9 +19,13 @@ Its first lines count: calls, blocks, links, clauses, edits and words; each line
 import glob
 import os
 import re
+import shutil
+import subprocess
 import sys
 
 PAGES = ["README.md", "docs/*.md", "crates/*.md", "crates/*/*.md"]
+LONGEST = [("README.md", 80), ("crates/README.md", 10), ("crates/*/README.md", 60), ("docs/PROVING.md", 250)]
+WORDS = 20000
 WITH_BLOCKS = ["README.md", "crates/*/README.md", "crates/*/CALLING.md"]
 BLOCK = re.compile(r"^```(rust|antt)\n(.*?)^```$", re.MULTILINE | re.DOTALL)
 FUNCTION = re.compile(r"^\s*(pub )?(const )?fn ", re.MULTILINE)
@@ -229,9 +235,29 @@ def check_edits():
     return [f"docs/tried.txt: {kept} edits are kept, and there are {files}"] if kept != files else []
 
 
+def check_versions():
+    wrong = []
+    if shutil.which("rt"):
+        version = subprocess.run(["rt", "version"], check=True, capture_output=True, text=True).stdout.strip()
+        wrong += [] if f"`{version}`" in read("README.md") else [f"README.md doesn't name `{version}`"]
+    drawn = subprocess.run([sys.executable, "docs/picture.py", "--check"], capture_output=True, text=True)
+    return wrong + ([drawn.stderr.strip()] if drawn.returncode else [])
+
+
+def check_lengths():
+    wrong = []
+    for pattern, most in LONGEST:
+        for page in glob.glob(pattern):
+            lines = read(page).count("\n")
+            wrong += [f"{page} has {lines} lines, and {most} are the most"] if lines > most else []
+    words = sum(len(read(page).split()) for page in paths(PAGES))
+    print(f"{words} words")
+    return wrong + ([f"{WORDS} words are the most"] if words > WORDS else [])
+
+
 def main():
-    wrong = check_calls() + check_blocks() + check_links() + check_clauses() + check_edits()
-    print(f"{sum(len(read(page).split()) for page in paths(PAGES))} words")
+    checks = [check_calls, check_blocks, check_links, check_clauses, check_edits, check_versions, check_lengths]
+    wrong = [line for check in checks for line in check()]
     for line in wrong:
         print(line)
     return 1 if wrong else 0
