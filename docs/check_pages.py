@@ -1,31 +1,138 @@
 #!/usr/bin/env python3
-"""Checks that each caller a page shows stands in the repository word for word, and that docs/MIGRATION.md has a row for each
-public call of arrays, with its signature.
+"""Compares what the pages show with the crates.
 
-    python3 docs/check_pages.py          at the repository's top; its last lines are 'N calls have a row, M do not' and
-                                         'N blocks stand, M do not'
+    python3 docs/check_pages.py          at the repository's top; the status is 1 where something differs
 
-Of the pages below, a block of Rust that has a function stands in one file of a crate's src/, and a block of proofs whose
-first line names its file, as '-- proofs/..', in that file of a crate. A line '..' stands for any lines. The status is 1
-where a block stands nowhere.
+- docs/CALLS.md has one row for each public call of arrays, with the names of its arguments and its error, and no row for a
+  call that isn't there; each test that it names stands.
+- A block of Rust that has a function stands in one file of a crate's src/, and a block of proofs whose first line names its
+  file, as '-- proofs/..', in that file of a crate. A line '..' stands for any lines.
+- A link to a file of the repository, and to a heading of a page, leads somewhere.
+- Each clause that docs/PROMISES.md names stands at a function of that name.
+- As many edits are kept in docs/tried.txt as there are in must-fail/.
+- README.md names the toolchain as `rt version` does, where there is an rt; docs/views.svg is what docs/picture.py draws.
+- No page is longer than LONGEST lines, and all together have at most WORDS words.
+
+Its first lines count: calls, blocks, links, clauses, edits and words; each line behind them is something to mend.
 """
 
 import glob
 import os
 import re
+import shutil
+import subprocess
 import sys
 
-PAGES = ["README.md", "crates/nd_array_core/*.md", "crates/nd_array_core_uses/*.md"]
+PAGES = ["README.md", "docs/*.md", "crates/*.md", "crates/*/*.md"]
+LONGEST = [("README.md", 80), ("crates/README.md", 10), ("crates/*/README.md", 60), ("docs/PROVING.md", 250)]
+WORDS = 20000
+WITH_BLOCKS = ["README.md", "crates/*/README.md", "crates/*/CALLING.md"]
 BLOCK = re.compile(r"^```(rust|antt)\n(.*?)^```$", re.MULTILINE | re.DOTALL)
 FUNCTION = re.compile(r"^\s*(pub )?(const )?fn ", re.MULTILINE)
-PUBLIC = re.compile(r"^ *pub fn (\w+.*?)\s*(?=^ *(?:requires|ensures|\{)| \{$)", re.MULTILINE | re.DOTALL)
-TEST = re.compile(r"`(\w+_tests)/(\w+)::(\w+)`")
 NAMED = re.compile(r"-- (proofs/\S+)\n")
+TEST = re.compile(r"`(\w+_tests)/(\w+)::(\w+)`")
+LINK = re.compile(r"\]\(([^)\s]+)\)")
+
+OWNER = re.compile(r"^(?:impl\b|pub trait )[^{]*\{", re.MULTILINE)
+METHOD = re.compile(r"^( *)(pub )?fn (\w+)", re.MULTILINE)
+RESULT = re.compile(r"\s*->\s*Result<.*?, (\w+|\(usize, ArrayError\))>\s*(?:where\b|requires|ensures|\{|;)", re.DOTALL)
+ROW = re.compile(r"^\| `((?:\w+::)?\w+\([\w, ]*\))` \|([^|]*)\|([^|]*)\|", re.MULTILINE)
 
 
 def read(path):
     with open(path, encoding="utf-8") as file:
         return file.read()
+
+
+def paths(patterns):
+    return sorted({path for pattern in patterns for path in glob.glob(pattern)})
+
+
+# Calls
+
+
+def behind(text, at, opens, closes):
+    """The position behind the bracket that closes the one at this position; an arrow's head closes none."""
+    depth = 0
+    while True:
+        if text[at] == opens:
+            depth += 1
+        elif text[at] == closes and text[at - 1] != "-":
+            depth -= 1
+        at += 1
+        if depth == 0:
+            return at
+
+
+def owner_of(head):
+    """The type of an `impl` or the trait, as the page names it; None of a trait's `impl`, whose calls the trait has."""
+    if head.startswith("pub trait"):
+        return re.match(r"pub trait (\w+)", head)[1] + "::"
+    body = head[4:].strip()
+    if body.startswith("<"):
+        body = body[behind(body, 0, "<", ">") :].strip()
+    if re.search(r"\bfor\b", body):
+        return None
+    name = re.match(r"\w+", body)[0]
+    return "" if name == "ArrayBase" else name + "::"
+
+
+def arguments(text):
+    """The names of a list of parameters, without `self`."""
+    names, at, start = [], 0, 0
+    while at <= len(text):
+        if at == len(text) or text[at] == ",":
+            name = text[start:at].split(":")[0].split()
+            if name and name[-1].lstrip("&") != "self":
+                names.append(name[-1])
+            start = at + 1
+        elif text[at] in "(<":
+            at = behind(text, at, text[at], ")" if text[at] == "(" else ">") - 1
+        at += 1
+    return names
+
+
+def calls_of(path):
+    """The public calls of a file: each as the page names it, and the error of its result."""
+    text = read(path)
+    heads = [(match.start(), match[0]) for match in OWNER.finditer(text)]
+    for match in METHOD.finditer(text):
+        head = next((head for at, head in reversed(heads) if at < match.start()), "") if match[1] else ""
+        owner = owner_of(head) if head else ""
+        if owner is None or not (match[2] or head.startswith("pub trait")):
+            continue
+        at = match.end()
+        at = behind(text, at, "<", ">") if text[at] == "<" else at
+        end = behind(text, at, "(", ")")
+        result = RESULT.match(text, end)
+        error = result[1] if result and result[1] != "Self" else ""
+        yield f"{owner}{match[3]}({', '.join(arguments(text[at + 1 : end - 1]))})", error
+
+
+def check_calls():
+    page = read("docs/CALLS.md")
+    arrays = page.split("\n## Traits of arrays")[0]
+    rows, wrong = {}, []
+    for call, _, error in ROW.findall(arrays):
+        if call in rows:
+            wrong.append(f"docs/CALLS.md: two rows of `{call}`")
+        rows[call] = error.strip(" `")
+    calls = {}
+    for path in sorted(glob.glob("crates/nd_array_core/src/**/*.rt", recursive=True)):
+        if not path.endswith("/laws.rt"):
+            calls.update(calls_of(path))
+    wrong += [f"docs/CALLS.md: no row of `{call}`" for call in calls if call not in rows]
+    wrong += [f"docs/CALLS.md: there is no `{call}`" for call in rows if call not in calls]
+    wrong += [f"docs/CALLS.md: the error of `{call}` is {error or 'none'}" for call, error in calls.items() if rows.get(call, error) != error]
+    for crate, module, test in sorted(set(TEST.findall(page))):
+        path = f"crates/nd_array_core_{crate}/src/{module}.rt"
+        if not os.path.exists(path) or f"fn {test}(" not in read(path):
+            wrong.append(f"docs/CALLS.md: {path} has no test {test}")
+    print(f"{len(calls)} calls of arrays, {len(rows)} rows")
+    return wrong
+
+
+# Blocks
 
 
 def stands_in(text, block):
@@ -47,54 +154,113 @@ def files_for(kind, block):
     return (glob.glob("crates/*/" + named[1]), block[named.end() :]) if named else None
 
 
-def calls_of(path):
-    """The signatures of a file's public functions, each in one line."""
-    for match in PUBLIC.finditer(read(path)):
-        yield re.sub(r"\(\s+", "(", re.sub(r",?\s+\)", ")", re.sub(r"\s+", " ", match[1]))).rstrip(" ,").replace("< ", "<").replace(", >", ">")
-
-
-def tests_that_are_missing(page):
-    """How many tests docs/MIGRATION.md names that aren't there, each of which is printed."""
-    missing = 0
-    for crate, module, test in sorted(set(TEST.findall(page))):
-        path = f"crates/nd_array_core_{crate}/src/{module}.rt"
-        if not os.path.exists(path) or f"fn {test}(" not in read(path):
-            missing += 1
-            print(f"docs/MIGRATION.md: {path} has no test {test}")
-    return missing
-
-
-def calls_without_row():
-    """Prints how many public calls of arrays docs/MIGRATION.md has, and what it lacks: a call, or a test that it names."""
-    page, there, missing = read("docs/MIGRATION.md"), 0, 0
-    for path in sorted(glob.glob("crates/nd_array_core/src/**/*.rt", recursive=True)):
-        for call in calls_of(path) if not path.endswith("/laws.rt") else ():
-            if f"| `{call}` |" in page:
-                there += 1
-            else:
-                missing += 1
-                print(f"{path}: docs/MIGRATION.md has no row of `{call}`")
-    print(f"{there} calls have a row, {missing} do not")
-    return missing + tests_that_are_missing(page)
-
-
-def main():
-    without = calls_without_row()
-    stand, missing = 0, 0
-    for page in sorted(path for pattern in PAGES for path in glob.glob(pattern)):
+def check_blocks():
+    count, wrong = 0, []
+    for page in paths(WITH_BLOCKS):
         text = read(page)
         for match in BLOCK.finditer(text):
             place = files_for(match[1], match[2])
             if place is None:
                 continue
-            if any(stands_in(read(path), place[1]) for path in place[0]):
-                stand += 1
-            else:
-                missing += 1
+            count += 1
+            if not any(stands_in(read(path), place[1]) for path in place[0]):
                 line = text.count("\n", 0, match.start()) + 1
-                print(f"{page}:{line}: no file has this block")
-    print(f"{stand} blocks stand, {missing} do not")
-    return 1 if missing or without else 0
+                wrong.append(f"{page}:{line}: no file has this block")
+    print(f"{count} blocks")
+    return wrong
+
+
+# Links and clauses
+
+
+def anchors(page):
+    """The names by which a page's headings are reached."""
+    heads = re.findall(r"^#+ (.*)$", read(page), re.MULTILINE)
+    return {re.sub(r"[^\w -]", "", head).strip().lower().replace(" ", "-") for head in heads}
+
+
+def check_links():
+    count, wrong = 0, []
+    for page in paths(PAGES):
+        for link in LINK.findall(read(page)):
+            if link.startswith(("http:", "https:")):
+                continue
+            count += 1
+            name, _, head = link.partition("#")
+            target = os.path.normpath(os.path.join(os.path.dirname(page), name)) if name else page
+            if not os.path.exists(target):
+                wrong.append(f"{page}: {link} leads nowhere")
+            elif head and head not in anchors(target):
+                wrong.append(f"{page}: {target} has no heading {head}")
+    print(f"{count} links")
+    return wrong
+
+
+def clauses_by_function():
+    """The clauses that stand at some function of a name, in any crate's src/."""
+    found = {}
+    for path in glob.glob("crates/nd_*/src/**/*.rt", recursive=True):
+        name = ""
+        for line in read(path).splitlines():
+            function = re.match(r"\s*(?:pub(?:\([a-z]+\))? )?(?:const )?fn (\w+)", line)
+            name = function[1] if function else name
+            clause = re.match(r"\s*ensures\*? (\w+) ", line)
+            if clause:
+                found.setdefault(name, set()).add(clause[1])
+    return found
+
+
+def check_clauses():
+    """In PROMISES.md '`call`, `other`: `clause`, `clause`' names clauses that each of these calls has, but for those in brackets."""
+    found, count, wrong = clauses_by_function(), 0, []
+    names = r"`[\w=]+`(?: and its kin)?"
+    said = re.compile(rf"((?:{names}, )*{names}): ((?:`\w+`, )*`\w+`)")
+    for line in read("docs/PROMISES.md").splitlines():
+        for calls, clauses in said.findall(line) if line.startswith("|") else ():
+            for call in re.findall(r"`(\w+)`", calls):
+                for clause in re.findall(r"`(\w+)`", clauses):
+                    count += 1
+                    if call in found and clause not in found[call]:
+                        wrong.append(f"docs/PROMISES.md: `{call}` has no clause `{clause}`")
+                    elif call not in found:
+                        wrong.append(f"docs/PROMISES.md: there is no `{call}`")
+    print(f"{count} clauses")
+    return wrong
+
+
+def check_edits():
+    edits = read("docs/tried.txt").split("== edits ==")[1].split("== plants ==")[0]
+    kept, files = len(re.findall(r"\| yes$", edits, re.MULTILINE)), len(glob.glob("crates/*/must-fail/*.edit"))
+    print(f"{files} edits")
+    return [f"docs/tried.txt: {kept} edits are kept, and there are {files}"] if kept != files else []
+
+
+def check_versions():
+    wrong = []
+    if shutil.which("rt"):
+        version = subprocess.run(["rt", "version"], check=True, capture_output=True, text=True).stdout.strip()
+        wrong += [] if f"`{version}`" in read("README.md") else [f"README.md doesn't name `{version}`"]
+    drawn = subprocess.run([sys.executable, "docs/picture.py", "--check"], capture_output=True, text=True)
+    return wrong + ([drawn.stderr.strip()] if drawn.returncode else [])
+
+
+def check_lengths():
+    wrong = []
+    for pattern, most in LONGEST:
+        for page in glob.glob(pattern):
+            lines = read(page).count("\n")
+            wrong += [f"{page} has {lines} lines, and {most} are the most"] if lines > most else []
+    words = sum(len(read(page).split()) for page in paths(PAGES))
+    print(f"{words} words")
+    return wrong + ([f"{WORDS} words are the most"] if words > WORDS else [])
+
+
+def main():
+    checks = [check_calls, check_blocks, check_links, check_clauses, check_edits, check_versions, check_lengths]
+    wrong = [line for check in checks for line in check()]
+    for line in wrong:
+        print(line)
+    return 1 if wrong else 0
 
 
 if __name__ == "__main__":

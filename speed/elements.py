@@ -1,4 +1,4 @@
-"""Prints one markdown table of microseconds a call: plain Rust's, ours and numpy's, from the driver given as an argument."""
+"""Prints one markdown table of microseconds a call, each beside plain Rust's and numpy's, from the driver given as an argument."""
 
 import subprocess
 import sys
@@ -64,6 +64,22 @@ def of_numpy():
     return times
 
 
+def table(times, nearest):
+    """A line for each call and type of elements: of each case the microseconds here, over plain Rust's, over numpy's."""
+    rows = {}
+    for name, of in times.items():
+        call, _, case = name.partition(", ")
+        plain = of["plain"] >= 0.1 and f"{of['here'] / of['plain']:.2f}"
+        theirs = name in nearest and f"{of['here'] / nearest[name]:.2f}"
+        ratios = f" ({plain or '-'}; {theirs or '-'})" if plain or theirs else ""
+        rows.setdefault(call, []).append(f"{case} {of['here']:.{0 if of['here'] >= 100 else 1}f}{ratios}".strip())
+    most = max(map(len, rows.values()))
+    yield f"| a call of | microseconds here (over plain Rust; over numpy {numpy.__version__}) |" + "|" * (most - 1)
+    yield "|---|" + "---|" * most
+    for call, cases in rows.items():
+        yield f"| {call} | " + " | ".join(cases) + " |" + "|" * (most - len(cases))
+
+
 def main():
     # In rounds, the least of them: what else goes on in the machine comes and goes.
     times, nearest = {}, {}
@@ -74,14 +90,9 @@ def main():
             of[who] = min(of.get(who, float("inf")), float(microseconds))
         for name, microseconds in of_numpy().items():
             nearest[name] = min(nearest.get(name, float("inf")), microseconds)
-    print(f"| microseconds a call | plain Rust | here | ratio | numpy {numpy.__version__} |")
-    print("|---|--:|--:|--:|--:|")
-    for name, of in times.items():
-        theirs = f"{nearest[name]:.0f}" if name in nearest else ""
-        if of["plain"] < 0.1:
-            print(f"| {name} | | {of['here']:.1f} | | {theirs} |")
-        else:
-            print(f"| {name} | {of['plain']:.1f} | {of['here']:.1f} | {of['here'] / of['plain']:.2f} | {theirs} |")
+    for line in table(times, nearest):
+        print(line)
 
 
-main()
+if __name__ == "__main__":
+    main()
