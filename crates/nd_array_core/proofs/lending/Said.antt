@@ -1,4 +1,4 @@
--- Six plain clauses at the end of a proof by hand, each a clause of its own. Assumes `Logic`.
+-- Seven plain clauses at the end of a proof by hand, each a clause of its own. Assumes `Logic`.
 use mathlib.Core.List.{List}
 use seplogic.Ra.Ura.{Ura}
 use base.Logic.{SProp, ent, sep, emp, via, comm∗, mono_l, mono_r, emp∗}
@@ -13,11 +13,11 @@ module _ {M : Type 1} (𝓤 : Ura M) where
   added : (P F : SProp 𝓤) → ent 𝓤 (emp 𝓤) F → ent 𝓤 P (sep 𝓤 P F)
   added P F f = via 𝓤 (sep 𝓤 (emp 𝓤) P) (emp∗ 𝓤 P) (via 𝓤 (sep 𝓤 F P) (mono_l 𝓤 P f) (comm∗ 𝓤 F P))
 
-  abbrev Six : Type 0 → Type 0 → Type 0 → Type 0 → Type 0 → Type 0 → SProp 𝓤
-  Six α β γ δ ε ζ = sep 𝓤 (fact 𝓤 α) (sep 𝓤 (fact 𝓤 β) (sep 𝓤 (fact 𝓤 γ) (sep 𝓤 (fact 𝓤 δ) (sep 𝓤 (fact 𝓤 ε) (fact 𝓤 ζ)))))
+  abbrev Seven : Type 0 → Type 0 → Type 0 → Type 0 → Type 0 → Type 0 → Type 0 → SProp 𝓤
+  Seven α β γ δ ε ζ η = sep 𝓤 (fact 𝓤 α) (sep 𝓤 (fact 𝓤 β) (sep 𝓤 (fact 𝓤 γ) (sep 𝓤 (fact 𝓤 δ) (sep 𝓤 (fact 𝓤 ε) (sep 𝓤 (fact 𝓤 ζ) (fact 𝓤 η))))))
 
-  six : (α β γ δ ε ζ : Type 0) → α × β × γ × δ × ε × ζ → ent 𝓤 (emp 𝓤) (Six α β γ δ ε ζ)
-  six α β γ δ ε ζ x = beside α _ x.0 (beside β _ x.1 (beside γ _ x.2 (beside δ _ x.3 (beside ε _ x.4 (fact_i 𝓤 ζ (emp 𝓤) x.5)))))
+  seven : (α β γ δ ε ζ η : Type 0) → α × β × γ × δ × ε × ζ × η → ent 𝓤 (emp 𝓤) (Seven α β γ δ ε ζ η)
+  seven α β γ δ ε ζ η x = beside α _ x.0 (beside β _ x.1 (beside γ _ x.2 (beside δ _ x.3 (beside ε _ x.4 (beside ζ _ x.5 (fact_i 𝓤 η (emp 𝓤) x.6))))))
 
-pub says_six : {M : Type 1} {𝓤 : Ura M} {𝓛 : Logic 𝓤} {K : Type 0} {Γ : List (Item 𝓤)} → K → {α β γ δ ε ζ : Type 0} {P : SProp 𝓤} → α × β × γ × δ × ε × ζ → Step K 𝓛 Γ (prop P) Γ (prop (sep 𝓤 P (Six 𝓤 α β γ δ ε ζ)))
-says_six {𝓤 = 𝓤} t {α} {β} {γ} {δ} {ε} {ζ} {P} x = step (λ s. record { prf = via 𝓤 P s.prf (added 𝓤 P (Six 𝓤 α β γ δ ε ζ) (six 𝓤 α β γ δ ε ζ x)) })
+pub says_seven : {M : Type 1} {𝓤 : Ura M} {𝓛 : Logic 𝓤} {K : Type 0} {Γ : List (Item 𝓤)} → K → {α β γ δ ε ζ η : Type 0} {P : SProp 𝓤} → α × β × γ × δ × ε × ζ × η → Step K 𝓛 Γ (prop P) Γ (prop (sep 𝓤 P (Seven 𝓤 α β γ δ ε ζ η)))
+says_seven {𝓤 = 𝓤} t {α} {β} {γ} {δ} {ε} {ζ} {η} {P} x = step (λ s. record { prf = via 𝓤 P s.prf (added 𝓤 P (Seven 𝓤 α β γ δ ε ζ η) (seven 𝓤 α β γ δ ε ζ η x)) })

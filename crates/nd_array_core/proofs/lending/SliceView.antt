@@ -21,6 +21,10 @@ module _ {A : Type 0} (xs : List A) (given : GivenShape) (l : Placement) (laid :
   holds_slice : region_stored r ≡ slice_get xs
   holds_slice = λ i p. whole_holds r xs whole p i
 
+  -- at each place
+  pub held_of_slice : (p : ℕ) → region_stored r p ≡ slice_get xs p
+  held_of_slice p = whole_holds r xs whole p
+
   pub region_sound : IsValid l.offset l.lengths l.strides → LiesBy (region_stored r) l
   region_sound valid = subst (λ (stored : ℕ → _). LiesBy stored l) (sym holds_slice) (slice_sound xs given l laid valid)
 

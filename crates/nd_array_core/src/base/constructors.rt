@@ -1,7 +1,7 @@
 //! Arrays and views made of a shape and its elements.
 #![tactic(auto, unfolding(crate::specs::Meaning::meaning_of, crate::specs::Meaning::memory_layout_of))]
 
-ghost use Rattle.std.specs.Prelude.{◌≡◌, ◌<◌, ◌≤◌, ℕ, List, true, length, MatchResult, IsSome, IfOk, IfErr, Some, None, vec_len, vec_capacity};
+ghost use Rattle.std.specs.Prelude.{◌≡◌, ◌<◌, ◌≤◌, ℕ, List, true, length, MatchResult, IsSome, IfOk, IfErr, Some, None, slice_get, vec_len, vec_capacity};
 ghost use Rattle.std.specs.Borrow.{sem};
 ghost use Rattle.nd_shape_and_slice.specs.Shape.{size_of, HasCheckedSize};
 ghost use Rattle.nd_shape_and_slice.specs.Place.{place_of, IsSeparated};
@@ -13,7 +13,7 @@ ghost use Rattle.nd_layout.specs.Refusals.{elements_asked};
 ghost use Rattle.nd_array_core.specs.Meaning.{shape_of, element_at, storage_of, layout_strides, layout_offset};
 ghost use Rattle.nd_storage.specs.Meaning.{inside};
 ghost use Rattle.nd_storage.specs.Places.{stored_at};
-ghost use Rattle.nd_storage.specs.Storages.{stored_list, room_of};
+ghost use Rattle.nd_storage.specs.Storages.{stored_list, room_of, held_by};
 ghost use Rattle.nd_array_core.specs.base.Given.{refusal_in, is_apart_in, IsLaidOut};
 ghost use Rattle.nd_layout.specs.Placements.{as_placement, placement_of};
 ghost use Rattle.nd_array_core.specs.base.SliceLent.{slice_follows_view};
@@ -240,6 +240,7 @@ impl<'a, A, D: Dimension> ArrayViewMut<'a, A, D> {
         ensures strides { IfOk result (λ a. layout_strides a ≡ strides_under (meant_by Sh.IntoStrideShape shape)) }
         ensures offset { IfOk result (λ a. layout_offset a ≡ offset_under (meant_by Sh.IntoStrideShape shape)) }
         ensures elements { IfOk result (ShowsUnder (meant_by Sh.IntoStrideShape shape) xs.old) }
+        ensures stored { IfOk result (λ a. (place : ℕ) → held_by (storage_of a) place ≡ slice_get xs.old place) }
     {
         match laid_out(GivenIn::SliceMut, xs.len(), shape) {
             Ok(layout) => Ok(region_laid_out(Region::from_slice(xs), layout)),

@@ -4,7 +4,7 @@
 ghost use Rattle.std.specs.Prelude.{◌↔◌, ◌≡◌, ◌<◌, IsSome, IfSome, Some};
 ghost use Rattle.nd_array_core.specs.Meaning.{meaning_of};
 ghost use Rattle.nd_storage.specs.Meaning.{row_major_elements};
-ghost use Rattle.nd_array_core.specs.reshape.RunSlices.{IsStandardArray, IsRunArray, IsInMemoryOrder};
+ghost use Rattle.nd_array_core.specs.reshape.RunSlices.{IsStandardArray, IsRunArray, IsInMemoryOrder, IsReordering};
 
 use crate::base::array::{ArrayBase, ArrayView};
 use nd_layout::is_run;
@@ -32,6 +32,7 @@ impl<'a, A, D: Dimension> ArrayView<'a, A, D> {
     pub fn to_slice_memory_order(&self) -> Option<&'a [A]>
         ensures some { IsSome result ↔ IsRunArray self.now }
         ensures elements { IfSome result (λ xs. IsInMemoryOrder self.now xs.now) }
+        ensures reordered { IfSome result (λ xs. IsReordering self.now xs.now) }
     {
         if is_run(self.layout.dim.slice(), self.layout.strides.slice()) {
             let storage = self.storage;
@@ -59,6 +60,7 @@ impl<S: Data, D: Dimension> ArrayBase<S, D> {
     pub fn as_slice_memory_order(&self) -> Option<&[S::Elem]>
         ensures some { IsSome result ↔ IsRunArray self.now }
         ensures elements { IfSome result (λ xs. IsInMemoryOrder self.now xs.now) }
+        ensures reordered { IfSome result (λ xs. IsReordering self.now xs.now) }
     {
         self.view().to_slice_memory_order()
     }

@@ -92,8 +92,8 @@ use Rattle.nd_storage.specs.contracts.storage.ViewMutReprData.TheImpl as view_im
 use Rattle.nd_array_core.specs.contracts.base.array.ArrayBase.{the_row as array_row}
 use Rattle.nd_array_core.proofs.base.array.ArrayBase.TheLaws.{the_row_laws as array_laws}
 use Rattle.nd_array_core.proofs.lending.ResultParts.{ok_typed, err_typed, ok_of, err_of, result_parts}
-use Rattle.nd_array_core.proofs.lending.Said.{says_six}
-use Rattle.nd_array_core.proofs.lending.SliceView.{region_sound, element_given}
+use Rattle.nd_array_core.proofs.lending.Said.{says_seven}
+use Rattle.nd_array_core.proofs.lending.SliceView.{region_sound, element_given, held_of_slice}
 use Rattle.nd_array_core.specs.contracts.base.constructors.laid_out as W
 use Rattle.nd_array_core.proofs.base.constructors.laid_out.Met.{met as laid_met}
 use Rattle.nd_array_core.specs.contracts.base.constructors.region_laid_out as V
@@ -247,20 +247,22 @@ module _ (A D P T G B S : RattleType) (d : dimension.Ghosts D.Denot P.Denot T.De
           move ! (2 ∷ []) $ use1 𝓛 (‵ (fres xs.ghost_name ((Array AR 0).coded.code xs.now))) (𝓛.names.obs-res xs.ghost_name ((Array AR 0).coded.code xs.now)) $
           -- [what the slice ends as; the answer; the tokens]
           nothing ! $ nothing ! $ fjoin ! $ nothing ! $ fjoin ! $ move ! (0 ∷ 2 ∷ []) $ join ! $ move ! (2 ∷ 0 ∷ []) $ join ! $ frame ! $
-          says_six ! (refused, tt, tt, tt, tt, tt) $ done !
+          says_seven ! (refused, tt, tt, tt, tt, tt, tt) $ done !
 
       -- what the view's clauses say
       abbrev Shows : (View κs).Denot → Type 0
       Shows r = (shape_of r ≡ given.0) × (layout_strides r ≡ given_strides given.0 given.1 given.2) × (layout_offset r ≡ offset_given given.0 given.2)
           × ((i : List ℕ) → element_at r i ≡ inside given.0 i (stored_at (slice_get xs.now) (given_place given.0 given.1 given.2 i)))
+          × ((p : ℕ) → region_stored (storage_of r).region p ≡ slice_get xs.now p)
 
-      shows_given : (lay : Lay.Denot) (x : (Rg κs).Denot) (r : (View κs).Denot) → Lies (Ok lay) → IsWhole x xs.now → as_placement (layout_offset r) (shape_of r) (layout_strides r) ≡ placement_of lay
+      shows_given : (lay : Lay.Denot) (x : (Rg κs).Denot) (r : (View κs).Denot) → Lies (Ok lay) → IsWhole x xs.now → (storage_of r).region ≡ x → as_placement (layout_offset r) (shape_of r) (layout_strides r) ≡ placement_of lay
           → ((i : List ℕ) → element_at r i ≡ inside (shape_of r) i (stored_at (region_stored x) (place_of (layout_offset r) (layout_strides r) i))) → Shows r
-      shows_given lay x r lies is_whole placement elements = (
+      shows_given lay x r lies is_whole region placement elements = (
         ap (λ m. m.lengths) placement ∙ lies.lengths_are,
         ap (λ m. m.strides) placement ∙ lies.strides_are,
         ap (λ m. m.offset) placement ∙ lies.offset_is,
         λ i. elements i ∙ element_given xs.now given (placement_of lay) lies x is_whole (as_placement (layout_offset r) (shape_of r) (layout_strides r)) placement i,
+        λ p. ap (λ g. region_stored g p) region ∙ held_of_slice xs.now given (placement_of lay) lies x is_whole p,
       )
 
       accepted_end : (lay : Lay.Denot) (x : (Rg κs).Denot) (r : (View κs).Denot) (v : Val) → Accepted (Ok lay) → (storage_of r).region ≡ x → Shows r
@@ -273,7 +275,7 @@ module _ (A D P T G B S : RattleType) (d : dimension.Ghosts D.Denot P.Denot T.De
           rewrite ! 2 (λ (g : (Rg κs).Denot). ‵ (follows (Array AR 0) (Array AR 0) xs.ghost_name g.name (λ ws. ws))) (sym region) refl $
           -- [the answer; the tokens; what the slice follows]
           nothing ! $ nothing ! $ fjoin ! $ nothing ! $ fjoin ! $ join ! $ move ! (1 ∷ 0 ∷ []) $ join ! $ frame ! $
-          says_six ! (tt, accepted, shown.0, shown.1, shown.2, shown.3) $ done !
+          says_seven ! (tt, accepted, shown.0, shown.1, shown.2, shown.3, shown.4) $ done !
 
       abbrev Lays : Lay.Denot → (View κs).Denot → Type 0
       Lays lay m = as_placement (layout_offset m) (shape_of m) (layout_strides m) ≡ placement_of lay
@@ -380,7 +382,7 @@ module _ (A D P T G B S : RattleType) (d : dimension.Ghosts D.Denot P.Denot T.De
             exec ! 𝓣.C 𝓣.Λ Places (after 5 fn.body) (at_ret Places Post) $ sets ! (of_opd ! (get ! refl)) refl out $
             returns ! (look_at ! 0 refl) $ free_all ! refl $ keep ! (0 ∷ 1 ∷ 2 ∷ 4 ∷ []) $
             move ! (1 ∷ 2 ∷ []) $ group ! 2 $ use1 𝓛 (raw Alive) made $ move ! (1 ∷ 0 ∷ 2 ∷ []) $
-            by ! (accepted_end lay x m v₂ (subst Accepted is accepted) region (shows_given lay x m laid is_whole placement elements)))))))))))))))
+            by ! (accepted_end lay x m v₂ (subst Accepted is accepted) region (shows_given lay x m laid is_whole region placement elements)))))))))))))))
             (λ e u is at_u u_good.
             let held = err_typed (layout error_row) u u_good in
             -- [the error; the tokens; the token; A's; the slice]

@@ -2,6 +2,7 @@ use Rattle.std.proofs.Common.{◌∙◌}
 use Rattle.nd_array_core.specs.Meaning.{meaning_of, memory_layout_of}
 use Rattle.nd_storage.specs.Storages.{shown_by}
 use Rattle.nd_array_core.proofs.MemoryOrder.{run_has, run_lies}
+use Rattle.nd_array_core.proofs.Reordered.{memory_order_reorders}
 use Rattle.nd_array_core.proofs.reshape.slices.ArrayView+A+D.to_slice_memory_order.Goals as goal
 
 pub run-requires : goal.run-requires
@@ -24,3 +25,6 @@ returns-then-is_run-clause-elements g c =
     let held = rw (c.size.ensures, c.lowest_place-first.ensures) at shown in
     run_lies (shown_by array.storage) array.layout.offset ns (g.D.Strides.StrideList.strides_of array.layout.strides) array.layout.as_many array.inside which
     c.run.result.now (c.run.ensures.count ∙ c.size.ensures) held
+
+pub returns-then-is_run-clause-reordered : goal.returns-then-is_run-clause-reordered
+returns-then-is_run-clause-reordered g c = memory_order_reorders (meaning_of c.args.self.now) _ _ c.run.result.now (returns-then-is_run-clause-elements g c)
