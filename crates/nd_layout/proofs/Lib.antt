@@ -43,3 +43,4 @@ pub mod LaneIndexes
 pub mod steps
 pub mod Furthest
 pub mod FreshOrder
+pub mod SameLayout

@@ -1,6 +1,6 @@
 //! Where the elements of an array lie: an offset, lengths and strides.
 
-ghost use Rattle.std.specs.Prelude.{◌↔◌, ◌≡◌, ◌<◌, ◌^◌, ℕ, true, List, length, pos, IsNone};
+ghost use Rattle.std.specs.Prelude.{◌↔◌, ◌≡◌, ◌<◌, ◌^◌, ⊤, ℕ, true, List, length, pos, IsNone};
 ghost use Rattle.nd_shape_and_slice.specs.Shape.{in_box, size_of, nonzero_product, HasCheckedSize};
 ghost use Rattle.nd_shape_and_slice.specs.Place.{place_of, span_of};
 ghost use Rattle.nd_layout.specs.GivenStrides.{ordered_strides};
@@ -35,10 +35,16 @@ pub struct Layout<D: Dimension, T: StrideList> {
 }
 
 impl<D: Dimension, T: StrideList> Clone for Layout<D, T> {
-    ghost is_clone = { λ layout copy. (copy.offset ≡ layout.offset) × (D.lengths copy.dim ≡ D.lengths layout.dim) × (T.strides_of copy.strides ≡ T.strides_of layout.strides) };
+    ghost is_clone = { λ layout copy. copy ≡ layout };
+
+    ghost is_infallible = { λ _. ⊤ };
 
     fn clone(&self) -> Result<Self, AllocError> {
-        Ok(self.copied())
+        Ok(Layout {
+            offset: self.offset,
+            dim: self.dim,
+            strides: self.strides,
+        })
     }
 }
 

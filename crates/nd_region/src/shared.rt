@@ -1,5 +1,5 @@
 //! A shared borrow of elements, as a map from places to elements.
-ghost use Rattle.std.specs.Prelude.{◌*◌, ◌^◌, ◌≡◌, ◌<◌, ◌≤◌, ◌+◌, length, take, drop, [], nat_eq, if◌then◌else◌, Some, IsSome};
+ghost use Rattle.std.specs.Prelude.{◌*◌, ◌^◌, ◌≡◌, ◌<◌, ◌≤◌, ◌+◌, length, take, drop, [], nat_eq, if◌then◌else◌, Some, IsSome, ⊤};
 ghost use Rattle.std.specs.List.{flat_map};
 
 use crate::region::Region;
@@ -16,6 +16,8 @@ pub enum SharedRegion<'a, A> {
 // By hand: a derive would ask Copy of the elements too.
 impl<'a, A> Clone for SharedRegion<'a, A> {
     ghost is_clone = { λ region copy. copy ≡ region };
+
+    ghost is_infallible = { λ _. ⊤ };
 
     fn clone(&self) -> Result<Self, AllocError> {
         Ok(match self {

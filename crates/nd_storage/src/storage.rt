@@ -1,6 +1,6 @@
 //! The storages of arrays: an owned vector, or a borrow of elements, shared or to be written.
 
-ghost use Rattle.std.specs.Prelude.{◌≡◌, ◌+◌, ◌*◌, ◌<◌, ◌≤◌, ◌^◌, ℕ, length, Bool, true, false, List, [], Option, IsSome, Some, IfOk, IfErr, is_ok, slice_get, slice_range, refl, slice_index_or};
+ghost use Rattle.std.specs.Prelude.{◌≡◌, ◌+◌, ◌*◌, ◌<◌, ◌≤◌, ◌^◌, ⊤, ℕ, length, Bool, true, false, List, [], Option, IsSome, Some, IfOk, IfErr, is_ok, slice_get, slice_range, refl, slice_index_or};
 ghost use Rattle.std.specs.Borrow.{sem, follows, Array};
 ghost use Rattle.std.specs.List.{flat_map};
 ghost use Rattle.std.specs.Option.{is_some};
@@ -134,6 +134,8 @@ impl<'a, A> ViewRepr<'a, A> {
 
 impl<'a, A> Clone for ViewRepr<'a, A> {
     ghost is_clone = { λ view copy. copy ≡ view };
+
+    ghost is_infallible = { λ _. ⊤ };
 
     fn clone(&self) -> Result<Self, AllocError> {
         Ok(ViewRepr {

@@ -1,7 +1,7 @@
 //! Arrays over any storage, and the questions to them.
 #![tactic(auto, unfolding(crate::specs::Meaning::meaning_of, crate::specs::Meaning::memory_layout_of), using(crate::proofs::ShortAxes::length_short, crate::proofs::ShortAxes::size_short))]
 
-ghost use Rattle.std.specs.Prelude.{◌≡◌, ◌<◌, ◌≤◌, ◌^◌, ℕ, true, List, length, slice_index, slice_index_or, pos};
+ghost use Rattle.std.specs.Prelude.{◌≡◌, ◌<◌, ◌≤◌, ◌^◌, ⊤, ℕ, true, List, length, slice_index, slice_index_or, pos};
 ghost use Rattle.nd_shape_and_slice.specs.Shape.{in_box, size_of};
 ghost use Rattle.nd_shape_and_slice.specs.Place.{place_of, IsSeparated};
 ghost use Rattle.nd_storage.specs.Places.{names_place};
@@ -101,15 +101,18 @@ impl<S: Data, D: Dimension> ArrayBase<S, D> {
 }
 
 impl<S: Data + Copy, D: Dimension, T: StrideList> Clone for ArrayBase<S, D, T> {
-    ghost use Rattle.nd_array_core.specs.Part.{ShowsWhole};
+    ghost is_clone = { λ array copy. copy ≡ array };
 
-    ghost is_clone = { λ array copy. ShowsWhole array copy };
+    ghost is_infallible = { λ _. ⊤ };
 
     fn clone(&self) -> Result<Self, AllocError> {
-        Ok(ArrayBase {
-            storage: self.storage,
-            layout: self.layout.copied(),
-        })
+        match self.layout.clone() {
+            Ok(layout) => Ok(ArrayBase {
+                storage: self.storage,
+                layout,
+            }),
+            Err(refused) => Err(refused),
+        }
     }
 }
 
