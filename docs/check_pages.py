@@ -8,7 +8,7 @@
 - A block of Rust that has a function stands in one file of a crate's src/, and a block of proofs whose first line names its
   file, as '-- proofs/..', in that file of a crate. A line '..' stands for any lines.
 - A link to a file of the repository, and to a heading of a page, leads somewhere.
-- Each clause that docs/PROMISES.md names stands at a function of that name.
+- Each clause that docs/PROMISES.md names stands at a function of that name, and each law of arrays is named there.
 - As many edits are kept in docs/tried.txt as there are in must-fail/.
 - README.md names the toolchain as `rt version` does, where there is an rt; docs/views.svg is what docs/picture.py draws.
 - No page is longer than LONGEST lines, and all together have at most WORDS words.
@@ -225,7 +225,8 @@ def check_clauses():
                     elif call not in found:
                         wrong.append(f"docs/PROMISES.md: there is no `{call}`")
     print(f"{count} clauses")
-    return wrong
+    laws = re.findall(r"^pub fn (\w+)", read("crates/nd_array_core/src/laws.rt"), re.MULTILINE)
+    return wrong + [f"docs/PROMISES.md: no law `{law}`" for law in laws if f"`{law}`" not in read("docs/PROMISES.md")]
 
 
 def check_edits():
