@@ -20,10 +20,10 @@ use Rattle.nd_layout.proofs.Removed.{size_of-removed}
 use Rattle.nd_layout.proofs.Sizes.{size_of-set}
 use Rattle.nd_storage.specs.Meaning.{Meaning, inside}
 use Rattle.nd_storage.specs.Meaning.{row_major_elements}
-use Rattle.nd_array_core.specs.Joined.{lower_of, upper_of, concatenated, concatenated_shape}
+use Rattle.nd_array_core.specs.Joined.{broadcast_behind, lower_of, upper_of, concatenated, concatenated_shape}
 use Rattle.nd_array_core.specs.Laws.{NothingOutside}
 use Rattle.nd_storage.specs.Places.{stored_at, names_place, HoldsAll}
-use Rattle.nd_array_core.specs.growth.Appended.{FitsBehind, ArePutBehind}
+use Rattle.nd_array_core.specs.growth.Appended.{IsAlikeBeside, ArePutBehind}
 use Rattle.nd_storage.proofs.Collecting.{meaning_count, meaning_get}
 use Rattle.nd_array_core.proofs.JoinedParts.{split_and_joined_at}
 use Rattle.nd_array_core.proofs.LawProofs.{same_meaning, inside_box}
@@ -36,7 +36,7 @@ abbrev pub shown : {A : Type 0} → Placement → (ℕ → Option A) → Meaning
 shown l stored = record { shape = l.lengths; at = λ i. inside l.lengths i (stored_at stored (place_of l.offset l.strides i)) }
 
 -- ---- shapes that fit
-module _ (ns ms : List ℕ) (a : ℕ) (on : a < length ns) (fits : FitsBehind ns ms a) where
+module _ (ns ms : List ℕ) (a : ℕ) (on : a < length ns) (fits : IsAlikeBeside ns ms a) where
   pub fits_axis : a < length ms
   fits_axis = let e = ap length fits.1 in let q = length-set ms a (get_or ns a 0) in omega (arith, e, q, on)
 
@@ -82,7 +82,7 @@ module _ (ns ms : List ℕ) (a : ℕ) (on : a < length ns) (fits : FitsBehind ns
       (cases_eq (get_or ms a 0) 0)
 
 -- the first of two shapes has no elements, the second has: its axis is of length 0
-pub first_none : (ns ms : List ℕ) (a : ℕ) → a < length ns → FitsBehind ns ms a → size_of ns ≡ 0 → 0 < size_of ms → get_or ns a 0 ≡ 0
+pub first_none : (ns ms : List ℕ) (a : ℕ) → a < length ns → IsAlikeBeside ns ms a → size_of ns ≡ 0 → 0 < size_of ms → get_or ns a 0 ≡ 0
 first_none ns ms a on fits none some =
     let old : size_of ns ≡ get_or ns a 0 * size_of (remove ns a) = size_of-removed ns a on in
     let new : size_of ms ≡ get_or ms a 0 * size_of (remove ns a) = sym (ap size_of (fits_back ns ms a on fits)) ∙ size_of-set ns a (get_or ms a 0) on in
@@ -174,7 +174,7 @@ module _ {A : Type 0} where
     }
 
   -- ---- what the grown array shows
-  module _ (l new : Placement) (a : ℕ) (m : Meaning A) (old items : List A) (on : a < length l.lengths) (fits : FitsBehind l.lengths m.shape a) (longer : new.lengths ≡ grown_shape l.lengths a (get_or m.shape a 0)) (kept : (i : List ℕ) → in_box l.lengths i ≡ true → place_of new.offset new.strides i ≡ place_of l.offset l.strides i) (fills : FillsStorage new) (behind : ArePutBehind new a (get_or l.lengths a 0) m.shape m.at old items) (holds : HoldsAll (slice_get old) l.offset l.lengths l.strides) (full : length old ≡ size_of l.lengths) where
+  module _ (l new : Placement) (a : ℕ) (m : Meaning A) (old items : List A) (on : a < length l.lengths) (fits : IsAlikeBeside l.lengths m.shape a) (longer : new.lengths ≡ grown_shape l.lengths a (get_or m.shape a 0)) (kept : (i : List ℕ) → in_box l.lengths i ≡ true → place_of new.offset new.strides i ≡ place_of l.offset l.strides i) (fills : FillsStorage new) (behind : ArePutBehind new a (get_or l.lengths a 0) m.shape m.at old items) (holds : HoldsAll (slice_get old) l.offset l.lengths l.strides) (full : length old ≡ size_of l.lengths) where
     pub grown_count : length items ≡ size_of new.lengths
     grown_count =
         let size = fits_size l.lengths m.shape a on fits in
@@ -254,7 +254,7 @@ module _ {A : Type 0} where
         ∙ (ap (λ x. concatenated a x (upper_of a n whole)) lower_shown ∙ ap (concatenated a (shown l (slice_get old))) (upper_shown nothing))
 
   -- ---- both outcomes
-  pub grown_or_kept : {T E : Type 0} (r : Result T E) (l new : Placement) (a : ℕ) (m : Meaning A) (old items : List A) → a < length l.lengths → FitsBehind l.lengths m.shape a → HoldsAll (slice_get old) l.offset l.lengths l.strides → IsSeparated l.lengths l.strides → length old ≡ size_of l.lengths → OnOk r (IsGrown l a (get_or m.shape a 0) new) → OnOk r (ArePutBehind new a (get_or l.lengths a 0) m.shape m.at old items) → OnErr r ((items ≡ old) × (new ≡ l)) → HoldsAll (slice_get items) new.offset new.lengths new.strides × IsSeparated new.lengths new.strides
+  pub grown_or_kept : {T E : Type 0} (r : Result T E) (l new : Placement) (a : ℕ) (m : Meaning A) (old items : List A) → a < length l.lengths → IsAlikeBeside l.lengths m.shape a → HoldsAll (slice_get old) l.offset l.lengths l.strides → IsSeparated l.lengths l.strides → length old ≡ size_of l.lengths → OnOk r (IsGrown l a (get_or m.shape a 0) new) → OnOk r (ArePutBehind new a (get_or l.lengths a 0) m.shape m.at old items) → OnErr r ((items ≡ old) × (new ≡ l)) → HoldsAll (slice_get items) new.offset new.lengths new.strides × IsSeparated new.lengths new.strides
   grown_or_kept (Ok x) l new a m old items on fits holds apart full grown put same = (grown_holds l new a m old items on fits grown.lengths grown.kept grown.fills put holds full, grown.fills.apart)
   grown_or_kept (Err e) l new a m old items on fits holds apart full grown put same =
       subst (λ (p : Placement × List A). HoldsAll (slice_get p.1) p.0.offset p.0.lengths p.0.strides × IsSeparated p.0.lengths p.0.strides) (λ k. (sym same.1 k, sym same.0 k)) (holds, apart)
@@ -273,11 +273,11 @@ module _ {A : Type 0} where
   -- nothing comes behind
   pub joined_nothing : (a : ℕ) (m n : Meaning A) → a < length m.shape → get_or n.shape a 0 ≡ 0 → NothingOutside m → concatenated a m n ≡ m
   joined_nothing a m n on none nothing =
-      same_meaning m (concatenated_shape m.shape n.shape a) (concatenated a m n).at shape (λ i. ap (λ s. inside s i (cond (ltb (get_or i a 0) (get_or m.shape a 0)) (m.at i) (n.at (set i a (get_or i a 0 - get_or m.shape a 0))))) shape ∙ by_test i (in_box m.shape i) refl)
+      same_meaning m (concatenated_shape m.shape n.shape a) (concatenated a m n).at shape (λ i. ap (λ s. inside s i (cond (ltb (get_or i a 0) (get_or m.shape a 0)) (m.at i) ((broadcast_behind a m n).at (set i a (get_or i a 0 - get_or m.shape a 0))))) shape ∙ by_test i (in_box m.shape i) refl)
     where
       shape : concatenated_shape m.shape n.shape a ≡ m.shape
       shape = ap (set m.shape a) (omega (arith, none)) ∙ set-get_or m.shape a 0
 
-      by_test : (i : List ℕ) (b : Bool) → in_box m.shape i ≡ b → inside m.shape i (cond (ltb (get_or i a 0) (get_or m.shape a 0)) (m.at i) (n.at (set i a (get_or i a 0 - get_or m.shape a 0)))) ≡ m.at i
-      by_test i true h = inside_box m.shape i (cond (ltb (get_or i a 0) (get_or m.shape a 0)) (m.at i) (n.at (set i a (get_or i a 0 - get_or m.shape a 0)))) h ∙ ap (λ b. cond b (m.at i) (n.at (set i a (get_or i a 0 - get_or m.shape a 0)))) (lt-ltb (get_or i a 0) (get_or m.shape a 0) (coordinate_below m.shape i a h on))
+      by_test : (i : List ℕ) (b : Bool) → in_box m.shape i ≡ b → inside m.shape i (cond (ltb (get_or i a 0) (get_or m.shape a 0)) (m.at i) ((broadcast_behind a m n).at (set i a (get_or i a 0 - get_or m.shape a 0)))) ≡ m.at i
+      by_test i true h = inside_box m.shape i (cond (ltb (get_or i a 0) (get_or m.shape a 0)) (m.at i) ((broadcast_behind a m n).at (set i a (get_or i a 0 - get_or m.shape a 0)))) h ∙ ap (λ b. cond b (m.at i) ((broadcast_behind a m n).at (set i a (get_or i a 0 - get_or m.shape a 0)))) (lt-ltb (get_or i a 0) (get_or m.shape a 0) (coordinate_below m.shape i a h on))
       by_test i false h = rw h (sym (nothing i h))

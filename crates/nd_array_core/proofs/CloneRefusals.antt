@@ -44,7 +44,7 @@ module _ {A : Type 0} (is_infallible : A → Type 0) where
   pub refused_alike : (at other : List ℕ → Option A) → ((i : List ℕ) → at i ≡ other i) → MayRefuseClone is_infallible at → MayRefuseClone is_infallible other
   refused_alike at other same refused = (refused.0, refused.1, sym (same refused.0) ∙ refused.2, refused.3)
 
-  inside_some : (ns i : List ℕ) (o : Option A) (x : A) → inside ns i o ≡ Some x → o ≡ Some x
+  pub inside_some : (ns i : List ℕ) (o : Option A) (x : A) → inside ns i o ≡ Some x → o ≡ Some x
   inside_some ns i o x e = by_test (in_box ns i) refl e
     where
       by_test : (t : Bool) → in_box ns i ≡ t → inside ns i o ≡ Some x → o ≡ Some x

@@ -21,9 +21,10 @@ use Rattle.nd_storage.specs.Meaning.{Meaning, inside}
 use Rattle.nd_array_core.specs.Joined.{concatenated, concatenated_shape}
 use Rattle.nd_array_core.specs.Laws.{NothingOutside}
 use Rattle.nd_storage.specs.Places.{stored_at, names_place, HoldsAll}
-use Rattle.nd_array_core.specs.growth.Appended.{FitsBehind, ArePutBehind}
+use Rattle.nd_array_core.specs.growth.Appended.{IsAlikeBeside, ArePutBehind}
 use Rattle.nd_array_core.proofs.Appending.{shown, fits_back, first_none, no_index, is_there}
 use Rattle.nd_array_core.proofs.LawProofs.{same_meaning, inside_box}
+use Rattle.nd_array_core.proofs.Stretched.{with_behind, with_itself}
 
 number_of : (z : ℤ) → is_place z ≡ true → (k : ℕ) × (z ≡ pos k)
 number_of (pos k) there = (k, refl)
@@ -113,10 +114,11 @@ module _ {A : Type 0} (m : Meaning A) (a : ℕ) (items : List A) (on : a < lengt
       (λ i h. absurd (no_index new.lengths i empty h), λ more. absurd (omega (arith, empty, more)))
 
   -- nothing stands before it
-  pub fresh_joined : (old : Meaning A) (new : Placement) → a < length old.shape → FitsBehind old.shape m.shape a → size_of old.shape ≡ 0 → new ≡ fresh → ArePutBehind new a 0 m.shape m.at [] items → NothingOutside m → shown new (slice_get items) ≡ concatenated a old m
+  pub fresh_joined : (old : Meaning A) (new : Placement) → a < length old.shape → IsAlikeBeside old.shape m.shape a → size_of old.shape ≡ 0 → new ≡ fresh → ArePutBehind new a 0 m.shape m.at [] items → NothingOutside m → shown new (slice_get items) ≡ concatenated a old m
   fresh_joined old new on_old fits none is put nothing =
       fresh_shown new is put nothing
-      ∙ sym (same_meaning m (concatenated_shape old.shape m.shape a) (concatenated a old m).at shape (λ i. ap (λ s. inside s i (cond (ltb (get_or i a 0) (get_or old.shape a 0)) (old.at i) (m.at (set i a (get_or i a 0 - get_or old.shape a 0))))) shape ∙ by_test i (in_box m.shape i) refl))
+      ∙ sym (with_itself a old m fits nothing
+      ∙ same_meaning m (concatenated_shape old.shape m.shape a) (with_behind a old (get_or m.shape a 0) m).at shape (λ i. ap (λ s. inside s i (cond (ltb (get_or i a 0) (get_or old.shape a 0)) (old.at i) (m.at (set i a (get_or i a 0 - get_or old.shape a 0))))) shape ∙ by_test i (in_box m.shape i) refl))
     where
       first : get_or old.shape a 0 ≡ 0
       first = first_none old.shape m.shape a on_old fits none some

@@ -1,10 +1,16 @@
 -- Appends one after the other to an array that is ready for them: what they leave together.
-use Rattle.std.proofs.Common.{◌≡◌, ℕ, ◌+◌, inl, inr, true, List, ◌++◌, refl, ap, sym, subst, ◌∙◌, arith}
+use Rattle.std.proofs.Common.{◌≡◌, ℕ, ◌+◌, ◌*◌, ◌<◌, ◌≤◌, inl, inr, true, List, [], ◌∷◌, ◌++◌, length, get_or, refl, ap, sym, subst, ◌∙◌, arith, ⊎_elim}
+use Rattle.std.specs.List.{remove}
+use Rattle.std.proofs.Math.Nat.{mul-le-mul_right}
+use Rattle.std.proofs.lemmas.Bool.{cases_eq}
 use Rattle.std.proofs.lemmas.List.{append_assoc}
 use Rattle.nd_shape_and_slice.specs.declared.dimension.Dimension as dimension
 use Rattle.nd_shape_and_slice.specs.declared.dimension.AxisCount as axis_count
 use Rattle.nd_shape_and_slice.specs.declared.dimension.StrideList as stride_list
-use Rattle.nd_shape_and_slice.specs.Shape.{in_box}
+use Rattle.nd_shape_and_slice.specs.Shape.{in_box, size_of}
+use Rattle.nd_layout.specs.Growth.{grown_shape}
+use Rattle.nd_layout.proofs.Removed.{size_of-removed}
+use Rattle.nd_layout.proofs.Sizes.{size_of-set}
 use Rattle.nd_layout.specs.Placements.{Placement}
 use Rattle.nd_layout.proofs.MemoryOrder.{same_placement}
 use Rattle.nd_storage.specs.declared.storage.Data as data_trait
@@ -15,15 +21,21 @@ use Rattle.nd_array_core.specs.declared.base.errors.ArrayError.TheVariants.{Shap
 use Rattle.nd_array_core.specs.Meaning.{shape_of, storage_of}
 use Rattle.nd_array_core.specs.Part.{ShowsWhole}
 use Rattle.nd_storage.specs.Storages.{stored_list}
-use Rattle.nd_array_core.specs.growth.Grown.{lies, GoesOn, GoesOnUnder, IsLeft, IsReadyAlong, LeavesRoom, NeedsNoMove}
-use Rattle.nd_array_core.specs.growth.Reserved.{HasRoomAlong}
-use Rattle.nd_array_core.proofs.GrownArrays.{goes_same}
+use Rattle.nd_array_core.specs.growth.Grown.{lies, BecomesReady, GoesOn, GoesOnUnder, IsGrownBy, IsLeft, IsReadyAlong, KeepsRoom, LeavesRoom, NeedsNoMove}
+use Rattle.nd_storage.specs.Meaning.{Meaning}
+use Rattle.nd_array_core.specs.growth.InTurn.{IsGrownInTurn}
+use Rattle.nd_array_core.specs.growth.Reserved.{added_elements, HasRoomAlong}
+use Rattle.nd_array_core.proofs.GrownArrays.{goes_same, remove_set}
+
+-- as many elements as so many lengths of a shape that has grown have
+added_twice : (ns shape : List ℕ) (axis taken k : ℕ) → shape ≡ grown_shape ns axis taken → added_elements shape axis k ≡ k * size_of (remove ns axis)
+added_twice ns shape axis taken k is = ap (λ s. k * size_of (remove s axis)) is ∙ ap (λ r. k * size_of r) (remove_set ns axis (get_or ns axis 0 + taken))
 
 module _ {D T A P R L M : Type 0} {s : data_trait.Ghosts (OwnedRepr A) A} {d : dimension.Ghosts D P R L M} {n : axis_count.Ghosts D} {r : stride_list.Ghosts R} {t : stride_list.Ghosts T} where
   same_lies : (a b : ArrayBase (OwnedRepr A) D T A P R L M s d n r t) → ShowsWhole a b → lies b ≡ lies a
   same_lies a b whole = same_placement (lies b) (lies a) whole.4 whole.0 whole.1
 
-  needs_no_move : (axis : ℕ) (a : ArrayBase (OwnedRepr A) D T A P R L M s d n r t) → IsReadyAlong axis a → NeedsNoMove axis a
+  pub needs_no_move : (axis : ℕ) (a : ArrayBase (OwnedRepr A) D T A P R L M s d n r t) → IsReadyAlong axis a → NeedsNoMove axis a
   needs_no_move axis a (full, inl none) = inl none
   needs_no_move axis a (full, inr stays) = inr (full, stays)
 
@@ -59,3 +71,40 @@ module _ {D T A P R L M : Type 0} {s : data_trait.Ghosts (OwnedRepr A) A} {d : d
   leaves_then axis used k o a b first second more room =
       let same : more + (used + k) ≡ more + k + used = omega arith in
       second more (first (more + k) (subst (λ m. HasRoomAlong axis m o) same room))
+
+  -- readiness and room, however the array lay at first
+  pub still_then : (axis k : ℕ) (a b : ArrayBase (OwnedRepr A) D T A P R L M s d n r t) → axis < length (shape_of a) → shape_of b ≡ grown_shape (shape_of a) axis k → BecomesReady axis k a b → (IsReadyAlong axis a → GoesOn axis a b) → NeedsNoMove axis a → NeedsNoMove axis b
+  still_then axis k a b on shape ready goes (inr can) = needs_no_move axis b (goes (can.0, inr can.1)).ready
+  still_then axis k a b on shape ready goes (inl none) =
+      ⊎_elim
+      (λ (zero : added_elements (shape_of a) axis k ≡ 0).
+      let whole = size_of-set (shape_of a) axis (get_or (shape_of a) axis 0 + k) on in
+      let old : size_of (shape_of a) ≡ get_or (shape_of a) axis 0 * size_of (remove (shape_of a) axis) = size_of-removed (shape_of a) axis on in
+      inl (ap size_of shape ∙ omega (arith, whole, old, none, zero)))
+      (λ (some : added_elements (shape_of a) axis k ≡ 0 → ⊥). needs_no_move axis b (ready (omega (arith, some))))
+      (cases_eq (added_elements (shape_of a) axis k) 0)
+
+  pub ready_then : (axis taken k : ℕ) (o a b : ArrayBase (OwnedRepr A) D T A P R L M s d n r t) → shape_of a ≡ grown_shape (shape_of o) axis taken → BecomesReady axis taken o a → BecomesReady axis k a b → (IsReadyAlong axis a → GoesOn axis a b) → BecomesReady axis (taken + k) o b
+  ready_then axis taken k o a b shape first second goes some =
+      let later = added_twice (shape_of o) (shape_of a) axis taken k shape in
+      ⊎_elim
+      (λ (zero : added_elements (shape_of a) axis k ≡ 0). (goes (first (omega (arith, later, zero, some)))).ready)
+      (λ (more : added_elements (shape_of a) axis k ≡ 0 → ⊥). second (omega (arith, more)))
+      (cases_eq (added_elements (shape_of a) axis k) 0)
+
+  pub room_then : (axis taken k total : ℕ) (o a b : ArrayBase (OwnedRepr A) D T A P R L M s d n r t) → shape_of a ≡ grown_shape (shape_of o) axis taken → k ≤ total → KeepsRoom axis total o a → (NeedsNoMove axis o → NeedsNoMove axis a) → KeepsRoom axis k a b → KeepsRoom axis total o b
+  room_then axis taken k total o a b shape within first still second calm =
+      let before = first calm in
+      let after = second (⊎_elim (λ (none : added_elements (shape_of o) axis total ≡ 0). inl (few none)) (λ (here : NeedsNoMove axis o). inr (still here)) calm) in
+      omega (arith, before, after)
+    where
+      few : added_elements (shape_of o) axis total ≡ 0 → added_elements (shape_of a) axis k ≡ 0
+      few none =
+          let later = added_twice (shape_of o) (shape_of a) axis taken k shape in
+          let less = mul-le-mul_right {m = k} {n = total} (size_of (remove (shape_of o) axis)) within in
+          omega (arith, later, less, none)
+
+  -- one more behind those of a list
+  pub grown_last : (axis : ℕ) (ms : List (Meaning A)) (m : Meaning A) (o a b : ArrayBase (OwnedRepr A) D T A P R L M s d n r t) → IsGrownInTurn axis ms o a → shape_of b ≡ grown_shape (shape_of a) axis (get_or m.shape axis 0) → IsGrownBy axis (get_or m.shape axis 0) a b → IsGrownInTurn axis (ms ++ m ∷ []) o b
+  grown_last axis [] m o a b before shape laid = subst (λ c. IsGrownInTurn axis (m ∷ []) c b) before (b, shape, laid, refl)
+  grown_last axis (k ∷ ks) m o a b before shape laid = (before.0, before.1, before.2, grown_last axis ks m before.0 a b before.3 shape laid)

@@ -21,7 +21,7 @@ use Rattle.nd_layout.proofs.Removed.{size_of-removed}
 use Rattle.nd_layout.proofs.RunFrom.{IsRun-from_separated}
 use Rattle.nd_layout.proofs.Sizes.{size_of-set}
 use Rattle.nd_storage.specs.Collected.{IsFront}
-use Rattle.nd_array_core.specs.growth.Appended.{FitsBehind}
+use Rattle.nd_array_core.specs.growth.Appended.{IsAlikeBeside}
 use Rattle.nd_array_core.specs.growth.Grown.{case_under, offset_in_case, GoesOnUnder, IsLaidInCase, IsReadyUnder, IsStoredInCase}
 use Rattle.nd_array_core.specs.growth.Reserved.{added_elements}
 use Rattle.nd_array_core.proofs.Appending.{first_none, fits_axis, fits_back, fits_more, fits_size, no_index}
@@ -182,7 +182,7 @@ moves_by n size false not_ready =
     (cases_eq n size)
 
 -- ---- where there was no element
-module _ {A : Type 0} (axis : ℕ) (l m : Placement) (ms : List ℕ) (old new : List A) (on : axis < length l.lengths) (fits : FitsBehind l.lengths ms axis) (none : size_of l.lengths ≡ 0) where
+module _ {A : Type 0} (axis : ℕ) (l m : Placement) (ms : List ℕ) (old new : List A) (on : axis < length l.lengths) (fits : IsAlikeBeside l.lengths ms axis) (none : size_of l.lengths ≡ 0) where
   shape_fresh : 0 < size_of ms → grown_shape l.lengths axis (get_or ms axis 0) ≡ ms
   shape_fresh some =
       let first = first_none l.lengths ms axis on fits none some in
@@ -271,7 +271,7 @@ module _ {A : Type 0} (axis added : ℕ) (l m : Placement) (old new : List A) (s
   }
 
 -- as many elements as so many lengths of the axis have
-pub added_is : (ns ms : List ℕ) (a : ℕ) → a < length ns → FitsBehind ns ms a → size_of ms ≡ added_elements ns a (get_or ms a 0)
+pub added_is : (ns ms : List ℕ) (a : ℕ) → a < length ns → IsAlikeBeside ns ms a → size_of ms ≡ added_elements ns a (get_or ms a 0)
 added_is ns ms a on fits = sym (ap size_of (fits_back ns ms a on fits)) ∙ size_of-set ns a (get_or ms a 0) on
 
 -- an array that has elements and is ready can grow on
@@ -280,13 +280,13 @@ can_grow axis l items some (full, inl none) = absurd (omega (arith, some, none))
 can_grow axis l items some (full, inr stays) = (full, stays)
 
 -- ---- room
-remove_set : (ns : List ℕ) (a x : ℕ) → remove (set ns a x) a ≡ remove ns a
+pub remove_set : (ns : List ℕ) (a x : ℕ) → remove (set ns a x) a ≡ remove ns a
 remove_set [] a x = refl
 remove_set (n ∷ ns) zero x = refl
 remove_set (n ∷ ns) (suc a) x = ap (λ r. n ∷ r) (remove_set ns a x)
 
 -- what is left of it once others came in
-pub room_spared : (ns ms new : List ℕ) (a more before after had has : ℕ) → a < length ns → FitsBehind ns ms a → new ≡ grown_shape ns a (get_or ms a 0) → before ≡ size_of ns → after ≡ size_of new → had ≤ has → before + added_elements ns a (more + get_or ms a 0) ≤ had → after + added_elements new a more ≤ has
+pub room_spared : (ns ms new : List ℕ) (a more before after had has : ℕ) → a < length ns → IsAlikeBeside ns ms a → new ≡ grown_shape ns a (get_or ms a 0) → before ≡ size_of ns → after ≡ size_of new → had ≤ has → before + added_elements ns a (more + get_or ms a 0) ≤ had → after + added_elements new a more ≤ has
 room_spared ns ms new a more before after had has on fits shape old now no_less enough =
     let size : size_of new ≡ size_of ns + size_of ms = ap size_of shape ∙ fits_size ns ms a on fits in
     let added : size_of ms ≡ get_or ms a 0 * size_of (remove ns a) = added_is ns ms a on fits in

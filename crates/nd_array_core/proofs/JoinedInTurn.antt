@@ -1,6 +1,7 @@
 -- Arrays of a list behind one, taken one more at a time.
-use Rattle.std.proofs.Common.{◌≡◌, ℕ, zero, suc, ◌+◌, ◌<◌, ◌≤◌, max, true, List, [], ◌∷◌, ◌++◌, length, get_or, set, take, refl, ap, sym, subst, ◌∙◌, arith}
+use Rattle.std.proofs.Common.{◌≡◌, ℕ, zero, suc, ◌+◌, ◌<◌, ◌≤◌, max, true, List, [], ◌∷◌, ◌++◌, length, get_or, set, take, refl, ap, sym, subst, ◌∙◌, arith, ⊎_elim}
 use Rattle.std.specs.Prelude.{Some, map, slice_get}
+use Rattle.std.proofs.lemmas.Bool.{cases_eq}
 use Rattle.std.specs.List.{remove}
 use Rattle.std.proofs.Math.Nat.{mul-le-mul_right}
 use Rattle.std.proofs.lemmas.List.{length-set, set-set, set-get_or, get_or-set_same}
@@ -17,6 +18,7 @@ use Rattle.nd_array_core.specs.Joined.{concatenated}
 use Rattle.nd_storage.specs.Meaning.{Meaning}
 use Rattle.nd_array_core.specs.growth.Appended.{FitsBehind, IsAppendRefused, IsJoiningRefused, NotFitting, TooLarge}
 use Rattle.nd_array_core.specs.growth.InTurn.{joined_in_turn, lengths_along}
+use Rattle.nd_array_core.proofs.Stretched.{fits_grown, fits_ungrown}
 
 grown_twice : (ns : List ℕ) (a x y : ℕ) → (0 < length ns → a < length ns) → grown_shape (grown_shape ns a x) a y ≡ grown_shape ns a (x + y)
 grown_twice [] a x y on = refl
@@ -36,7 +38,7 @@ module _ {A : Type 0} where
   joined_last a m n [] = refl
   joined_last a m n (k ∷ ks) = joined_last a (concatenated a m k) n ks
 
-  take_next : (ms : List (Meaning A)) (n : ℕ) (m : Meaning A) → slice_get ms n ≡ Some m → take (n + 1) ms ≡ take n ms ++ m ∷ []
+  pub take_next : (ms : List (Meaning A)) (n : ℕ) (m : Meaning A) → slice_get ms n ≡ Some m → take (n + 1) ms ≡ take n ms ++ m ∷ []
   take_next [] n m e = absurd cc
   take_next (k ∷ ks) zero m e = ap (λ x. x ∷ []) (got k m e)
     where
@@ -76,21 +78,13 @@ checked_within ns a few many on fewer checked =
     let limit : nonzero_product (set ns a many) < 9223372036854775808 = checked in
     omega (arith, wide, narrow, less, limit)
 
--- behind a shape that has grown along the axis another fits that fitted before
-fits_later : (ns ms : List ℕ) (a x : ℕ) → a < length ns → FitsBehind ns ms a → FitsBehind (set ns a x) ms a
-fits_later ns ms a x on fits =
-    let n = get_or ns a 0 in (
-      let e = length-set ns a x in omega (arith, e, on),
-      ap (set ms a) (get_or-set_same ns a x 0 on) ∙ (sym (set-set ms a n x) ∙ ap (λ s. set s a x) fits.1),
-    )
-
 -- so only want of memory is left
 pub only_memory : (ns ms shape : List ℕ) (a taken all : ℕ) (e : ArrayError) → shape ≡ grown_shape ns a taken → a < length ns → FitsBehind ns ms a → taken + get_or ms a 0 ≤ all → HasCheckedSize (grown_shape ns a all) → IsAppendRefused shape ms a e → e ≡ NoMemory
 only_memory ns ms shape a taken all NoMemory is on fits within checked refused = refl
 only_memory ns ms shape a taken all (Shape kind) is on fits within checked refused = absurd (by_kind kind (subst (λ s. IsJoiningRefused s ms a kind) is refused))
   where
     by_kind : (kind : ErrorKind) → IsJoiningRefused (grown_shape ns a taken) ms a kind → ⊥
-    by_kind kind (NotFitting other) = other (fits_later ns ms a (get_or ns a 0 + taken) on fits)
+    by_kind kind (NotFitting other) = other (fits_grown ns ms a (get_or ns a 0 + taken) fits)
     by_kind kind (TooLarge there large) =
         large
         (subst HasCheckedSize
@@ -103,3 +97,25 @@ pub mapped_get : {X Y : Type 0} (f : X → Y) (xs : List X) (n : ℕ) (x : X) �
 mapped_get f [] n x below is = absurd (omega (arith, below))
 mapped_get f (y ∷ ys) zero x below is = ap (λ z. Some (f z)) (sym is)
 mapped_get f (y ∷ ys) (suc n) x below is = mapped_get f ys n x (omega (arith, below)) is
+
+-- the first so many arrays of a list fit behind a shape
+abbrev pub FirstFit : {A : Type 0} → ℕ → ℕ → List ℕ → List (Meaning A) → Type 0
+FirstFit {A} count a ns ms = (nth : ℕ) (m : Meaning A) → nth < count → slice_get ms nth ≡ Some m → FitsBehind ns m.shape a
+
+module _ {A : Type 0} where
+  pub none_fit : (a : ℕ) (ns : List ℕ) (ms : List (Meaning A)) → FirstFit 0 a ns ms
+  none_fit a ns ms nth m below is = absurd (omega (arith, below))
+
+  same_item : (x y : Meaning A) → Some x ≡ Some y → x ≡ y
+  same_item x y e = cc
+
+  pub one_more_fits : (count a taken : ℕ) (ns shape : List ℕ) (n : Meaning A) (ms : List (Meaning A)) → FirstFit count a ns ms → slice_get ms count ≡ Some n → shape ≡ grown_shape ns a taken → FitsBehind shape n.shape a → FirstFit (count + 1) a ns ms
+  one_more_fits count a taken ns shape n ms fit get is fits nth m below there =
+      ⊎_elim
+      (λ (last : nth ≡ count). let same = same_item m n (sym there ∙ (ap (slice_get ms) last ∙ get)) in
+      subst (λ k. FitsBehind ns k.shape a) (sym same) (fits_ungrown ns n.shape a (get_or ns a 0 + taken) (subst (λ s. FitsBehind s n.shape a) is fits)))
+      (λ (other : nth ≡ count → ⊥). fit nth m (omega (arith, below, other)) there)
+      (cases_eq nth count)
+
+  pub all_fit : (a : ℕ) (ns : List ℕ) (ms : List (Meaning A)) (count : ℕ) → FirstFit count a ns ms → length ms ≤ count → (nth : ℕ) (m : Meaning A) → slice_get ms nth ≡ Some m → FitsBehind ns m.shape a
+  all_fit a ns ms count fit all nth m is = fit nth m (let below = slice_get_within ms nth m is in omega (arith, below, all)) is

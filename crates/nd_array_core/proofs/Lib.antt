@@ -16,6 +16,7 @@ pub mod tasks
 pub mod RunNumbers
 pub mod Handed
 pub mod OwnShape
+pub mod Stretched
 pub mod Masks
 pub mod Fresh
 pub mod Diagonals

@@ -8,7 +8,7 @@ use Rattle.nd_shape_and_slice.specs.Shape.{in_box}
 use Rattle.nd_shape_and_slice.specs.Slice.{bound_on, quotient_up, sliced_from, sliced_index, sliced_length, sliced_shape}
 use Rattle.nd_shape_and_slice.proofs.Boxes.{coordinate_below}
 use Rattle.nd_layout.proofs.Continued.{in_box-longer}
-use Rattle.nd_array_core.specs.Joined.{concatenated}
+use Rattle.nd_array_core.specs.Joined.{broadcast_behind, concatenated}
 use Rattle.nd_array_core.specs.Laws.{NothingOutside}
 use Rattle.nd_storage.specs.Meaning.{Meaning, inside}
 use Rattle.nd_array_core.specs.Meaning.{meaning_through}
@@ -56,10 +56,10 @@ module _ {A : Type 0} (m n : Meaning A) (a : ℕ) (on : a < length m.shape) wher
     where
       by_test : (b : Bool) → in_box m.shape i ≡ b → inside m.shape i ((concatenated a m n).at i) ≡ m.at i
       by_test true h =
-          let x = cond (ltb (get_or i a 0) len) (m.at i) (n.at (set i a (get_or i a 0 - len))) in
+          let x = cond (ltb (get_or i a 0) len) (m.at i) ((broadcast_behind a m n).at (set i a (get_or i a 0 - len))) in
           inside_box m.shape i (inside wide i x) h
           ∙ (inside_box wide i x (in_box-longer m.shape i a both on (omega arith) h)
-          ∙ ap (λ b. cond b (m.at i) (n.at (set i a (get_or i a 0 - len)))) (lt-ltb (get_or i a 0) len (coordinate_below m.shape i a h on)))
+          ∙ ap (λ b. cond b (m.at i) ((broadcast_behind a m n).at (set i a (get_or i a 0 - len)))) (lt-ltb (get_or i a 0) len (coordinate_below m.shape i a h on)))
       by_test false h = rw h (sym (nothing i h))
 
   pub sliced_back : NothingOutside m → meaning_through (sliced_shape wide a (slice_of_first len)) (sliced_index wide a (slice_of_first len)) (concatenated a m n) ≡ m

@@ -3,7 +3,7 @@ use Rattle.std.specs.Prelude.{◌≡◌, ◌+◌, ◌-◌, ◌<◌, ◌≤◌, n
 use Rattle.nd_shape_and_slice.specs.Maps.{lower_shape, upper_shape, upper_index}
 use Rattle.nd_storage.specs.Meaning.{Meaning, inside}
 use Rattle.nd_array_core.specs.Meaning.{meaning_through}
-use Rattle.nd_array_core.specs.Laws.{NothingOutside}
+use Rattle.nd_array_core.specs.Laws.{NothingOutside, broadcast_to}
 pub use Rattle.nd_storage.specs.Meaning.{row_major_elements}
 
 -- the coordinates of an axis below k, and those from k on
@@ -17,11 +17,19 @@ upper_of a k m = meaning_through (upper_shape m.shape a k) (upper_index a k) m
 abbrev pub concatenated_shape : List ℕ → List ℕ → ℕ → List ℕ
 concatenated_shape ns ms a = slice_set ns a (slice_index ns a + slice_index ms a)
 
--- one array behind another along an axis
+-- the shape to which an array of the second shape is broadcast, to come behind one of the first along an axis: the first's
+-- lengths, but that the axis is as long as in the second
+abbrev pub shape_behind : List ℕ → List ℕ → ℕ → List ℕ
+shape_behind ns ms a = slice_set ns a (slice_index ms a)
+
+abbrev pub broadcast_behind : {A : Type 0} → ℕ → Meaning A → Meaning A → Meaning A
+broadcast_behind a m n = broadcast_to (shape_behind m.shape n.shape a) n
+
+-- one array behind another along an axis, once it is broadcast to the other's lengths outside the axis
 abbrev pub concatenated : {A : Type 0} → ℕ → Meaning A → Meaning A → Meaning A
 concatenated a m n = record {
   shape = concatenated_shape m.shape n.shape a;
-  at = λ i. inside (concatenated_shape m.shape n.shape a) i (if nat_lt (slice_index i a) (slice_index m.shape a) then m.at i else n.at (slice_set i a (slice_index i a - slice_index m.shape a)));
+  at = λ i. inside (concatenated_shape m.shape n.shape a) i (if nat_lt (slice_index i a) (slice_index m.shape a) then m.at i else (broadcast_behind a m n).at (slice_set i a (slice_index i a - slice_index m.shape a)));
 }
 
 -- the parts of a split, one behind the other, are the array

@@ -12,6 +12,7 @@ use Rattle.nd_array_core.specs.PlacedArray.{PlacedArray, element_placed}
 use Rattle.nd_shape_and_slice.specs.declared.slice_info.SliceInfoElem.{SliceInfoElem}
 use Rattle.nd_shape_and_slice.specs.SliceInfo.{each_fits, shape_after, index_before}
 use Rattle.nd_shape_and_slice.specs.Slicing.{collapsed_after, collapsed_before}
+use Rattle.nd_shape_and_slice.specs.Broadcast.{broadcast_index}
 
 -- outside the shape's box there is no element, as in every array
 abbrev pub NothingOutside : {A : Type 0} → Meaning A → Type 0
@@ -35,6 +36,9 @@ with_axis_removed a m = meaning_through (indexed_shape m.shape a) (indexed_index
 
 abbrev pub with_axis_sliced : {A : Type 0} → ℕ → Slice → Meaning A → Meaning A
 with_axis_sliced a s m = meaning_through (sliced_shape m.shape a s) (sliced_index m.shape a s) m
+
+abbrev pub broadcast_to : {A : Type 0} → List ℕ → Meaning A → Meaning A
+broadcast_to to m = meaning_through to (broadcast_index m.shape to) m
 
 -- ---- the laws
 -- the order of the axes that leads back: at each axis, its place in the order

@@ -31,6 +31,7 @@ pub use base::array::{Array, ArrayBase, ArrayView, ArrayViewMut};
 pub use base::errors::ArrayError;
 pub use base::indexing::IndexLonger;
 pub use base::writing::GetMut;
+pub use growth::joining::fits_behind;
 pub use layout::splitting::MultiSliceArg;
 pub use nd_storage::storage::{
     Data, DataMut, DataOwned, OwnedRepr, RegionRepr, ViewMutRepr, ViewRepr,

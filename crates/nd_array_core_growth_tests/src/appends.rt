@@ -43,9 +43,11 @@ fn too_long_together(rt: HostRuntime) {
         &rt, "made",
     );
     let more: Array2<u64> = made(rt.alloc(), (1, 0), &[]).expect(&rt, "made");
-    let wide: Array2<u64> = made(rt.alloc(), (1, 1), &[1]).expect(&rt, "made");
+    let wide: Array2<u64> = made(rt.alloc(), (1, 2), &[1, 2]).expect(&rt, "made");
+    let one: Array2<u64> = made(rt.alloc(), (1, 1), &[1]).expect(&rt, "made");
     assert_eq!(rt; end_behind(&mut longest, 0, &wide), End::Unfit);
     assert_eq!(rt; end_behind(&mut longest, 0, &more), End::Overflow);
+    assert_eq!(rt; end_behind(&mut longest, 0, &one), End::Overflow);
     assert_eq!(rt; longest.shape(), [9223372036854775807, 0].as_slice());
 }
 

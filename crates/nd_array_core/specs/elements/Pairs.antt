@@ -3,19 +3,19 @@
 use Rattle.std.specs.Prelude.{◌≡◌, ℕ, List, Option}
 use Rattle.std.specs.Borrow.{Bor, MutBor}
 use Rattle.std.specs.Fn.{Mut}
-use Rattle.nd_shape_and_slice.specs.Broadcast.{broadcast_index}
 use Rattle.nd_shape_and_slice.specs.declared.dimension.Dimension as dimension
 use Rattle.nd_shape_and_slice.specs.declared.dimension.AxisCount as axis_count
 use Rattle.nd_shape_and_slice.specs.declared.dimension.StrideList as stride_list
 use Rattle.nd_storage.specs.declared.storage.Data as data_trait
 use Rattle.nd_array_core.specs.declared.base.array.ArrayBase.{ArrayBase}
 use Rattle.nd_storage.specs.Meaning.{Meaning}
-use Rattle.nd_array_core.specs.Meaning.{meaning_of, meaning_through, shape_of, element_at}
+use Rattle.nd_array_core.specs.Laws.{broadcast_to}
+use Rattle.nd_array_core.specs.Meaning.{meaning_of, shape_of, element_at}
 pub use Rattle.nd_storage.specs.elements.Pairs.{ChangesWith, ChangesWithSomehow, IsOldOrOf, IsRewrittenTo, IsZippedTo, TakesBoth, TakesPairs, ZippableInAnyOrder, ZipsAll, ZipsBy, option_both}
 
 -- the element at an index once an array is broadcast to a shape
 abbrev pub broadcast_at : {A : Type 0} → List ℕ → Meaning A → List ℕ → Option A
-broadcast_at to m = (meaning_through to (broadcast_index m.shape to) m).at
+broadcast_at to m = (broadcast_to to m).at
 
 module _ {S D T A P R L M : Type 0} {s : data_trait.Ghosts S A} {d : dimension.Ghosts D P R L M} {n : axis_count.Ghosts D} {r : stride_list.Ghosts R} {t : stride_list.Ghosts T} where
   -- broadcast to these lengths, the array shows what it shows

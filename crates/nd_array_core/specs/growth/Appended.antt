@@ -2,6 +2,7 @@
 use Rattle.std.specs.Prelude.{ℕ, ◌+◌, ◌<◌, ◌≡◌, true, List, length, slice_get, slice_index, slice_set, Option}
 use Rattle.nd_shape_and_slice.specs.Shape.{in_box, size_of, HasCheckedSize}
 use Rattle.nd_shape_and_slice.specs.Place.{place_of}
+use Rattle.nd_shape_and_slice.specs.Broadcast.{stretches}
 use Rattle.nd_shape_and_slice.specs.Maps.{inserted_shape, upper_index}
 use Rattle.nd_shape_and_slice.specs.declared.errors.ErrorKind.{ErrorKind}
 use Rattle.nd_shape_and_slice.specs.declared.errors.ErrorKind.TheVariants.{IncompatibleShape, Overflow}
@@ -9,31 +10,49 @@ use Rattle.nd_array_core.specs.declared.base.errors.ArrayError.{ArrayError}
 use Rattle.nd_array_core.specs.declared.base.errors.ArrayError.TheVariants.{Shape, NoMemory}
 use Rattle.nd_layout.specs.Placements.{Placement}
 use Rattle.nd_storage.specs.Collected.{IsFront}
-use Rattle.nd_array_core.specs.Joined.{concatenated, concatenated_shape}
+use Rattle.nd_array_core.specs.Joined.{concatenated, concatenated_shape, shape_behind}
 use Rattle.nd_array_core.specs.Laws.{with_axis_inserted}
+use Rattle.nd_array_core.specs.growth.Reserved.{added_elements}
 use Rattle.nd_storage.specs.Meaning.{Meaning}
 use Rattle.nd_storage.specs.Places.{stored_at}
 
--- the second shape can come behind the first along the axis: there are axes, and all other lengths are equal
+-- an array of the second shape can be broadcast to come behind one of the first along the axis: there are axes, as many in
+-- both, and each other length of the second is the first's, or it is 1
 abbrev pub FitsBehind : List ℕ → List ℕ → ℕ → Type 0
-FitsBehind ns ms axis = (0 < length ns) × (slice_set ms axis (slice_index ns axis) ≡ ns)
+FitsBehind ns ms axis = (0 < length ns) × (stretches ms (shape_behind ns ms axis) ≡ true)
 
--- why it can't: it doesn't fit, or both together have no checked size
+-- it needn't be broadcast: all other lengths are equal
+abbrev pub IsAlikeBeside : List ℕ → List ℕ → ℕ → Type 0
+IsAlikeBeside ns ms axis = (0 < length ns) × (slice_set ms axis (slice_index ns axis) ≡ ns)
+
+-- how many elements then come behind
+abbrev pub elements_behind : List ℕ → List ℕ → ℕ → ℕ
+elements_behind ns ms axis = added_elements ns axis (slice_index ms axis)
+
+-- it fits, and both together have a checked size
+abbrev pub CanComeBehind : List ℕ → List ℕ → ℕ → Type 0
+CanComeBehind ns ms axis = FitsBehind ns ms axis × HasCheckedSize (concatenated_shape ns ms axis)
+
+-- why it can't come: it doesn't fit, or both together have no checked size
 pub data IsJoiningRefused (ns ms : List ℕ) (axis : ℕ) : ErrorKind → Type 0 where
   NotFitting : (FitsBehind ns ms axis → ⊥) → IsJoiningRefused ns ms axis IncompatibleShape
   TooLarge : FitsBehind ns ms axis → (HasCheckedSize (concatenated_shape ns ms axis) → ⊥) → IsJoiningRefused ns ms axis Overflow
 
--- why an append was refused: the shape doesn't fit, or both together have no checked size; or it fits, and memory was
--- refused
+-- why an append was refused: the shape doesn't fit, or both together have no checked size; or it can come, and memory for
+-- its elements, of which there are some, was refused
 abbrev pub IsAppendRefused : List ℕ → List ℕ → ℕ → ArrayError → Type 0
 IsAppendRefused ns ms axis (Shape kind) = IsJoiningRefused ns ms axis kind
-IsAppendRefused ns ms axis NoMemory = FitsBehind ns ms axis × HasCheckedSize (concatenated_shape ns ms axis)
+IsAppendRefused ns ms axis NoMemory = CanComeBehind ns ms axis × (0 < elements_behind ns ms axis)
 
 -- one array behind another as one more length of an axis
 abbrev pub pushed : {A : Type 0} → ℕ → Meaning A → Meaning A → Meaning A
 pushed axis m n = concatenated axis m (with_axis_inserted axis n)
 
--- why it was refused: what comes behind lacks the axis
+-- whether it can come: what comes behind lacks the axis
+abbrev pub CanBePushed : List ℕ → List ℕ → ℕ → Type 0
+CanBePushed ns ms axis = CanComeBehind ns (inserted_shape ms axis) axis
+
+-- why it was refused
 abbrev pub IsPushRefused : List ℕ → List ℕ → ℕ → ArrayError → Type 0
 IsPushRefused ns ms axis = IsAppendRefused ns (inserted_shape ms axis) axis
 

@@ -17,8 +17,8 @@ use Rattle.nd_storage.specs.Meaning.{Meaning}
 use Rattle.nd_array_core.specs.Meaning.{shape_of, storage_of, layout_strides, layout_offset}
 use Rattle.nd_array_core.specs.Part.{ShowsWhole, BecomesWhole}
 use Rattle.nd_storage.specs.CloneRefusals.{MayRefuseClone}
-use Rattle.nd_storage.specs.Storages.{stored_list}
-use Rattle.nd_array_core.specs.growth.Reserved.{HasRoomAlong}
+use Rattle.nd_storage.specs.Storages.{stored_list, room_of}
+use Rattle.nd_array_core.specs.growth.Reserved.{added_elements, HasRoomAlong}
 
 -- the indexes name all that is stored, and there are none, or the axis can grow on at the end of the storage
 abbrev pub IsReadyUnder : {A : Type 0} → ℕ → Placement → List A → Type 0
@@ -96,6 +96,14 @@ module _ {D T A P R L M : Type 0} {s : data_trait.Ghosts (OwnedRepr A) A} {d : d
   -- where there was room for so many more lengths than the used ones, it is left
   abbrev pub LeavesRoom : ℕ → ℕ → ArrayBase (OwnedRepr A) D T A P R L M s d n r t → ArrayBase (OwnedRepr A) D T A P R L M s d n r t → Type 0
   LeavesRoom axis used a b = (more : ℕ) → HasRoomAlong axis (more + used) a → HasRoomAlong axis more b
+
+  -- the room that there was stays where no element of so many lengths comes, or none has to move
+  abbrev pub KeepsRoom : ℕ → ℕ → ArrayBase (OwnedRepr A) D T A P R L M s d n r t → ArrayBase (OwnedRepr A) D T A P R L M s d n r t → Type 0
+  KeepsRoom axis added a b = (added_elements (shape_of a) axis added ≡ 0) ⊎ NeedsNoMove axis a → room_of (storage_of a) ≤ room_of (storage_of b)
+
+  -- where an element of so many lengths came, the axis can grow on
+  abbrev pub BecomesReady : ℕ → ℕ → ArrayBase (OwnedRepr A) D T A P R L M s d n r t → ArrayBase (OwnedRepr A) D T A P R L M s d n r t → Type 0
+  BecomesReady axis added a b = 0 < added_elements (shape_of a) axis added → IsReadyAlong axis b
 
   -- so of the lengths of a shape that came behind a ready array
   abbrev pub LeavesRoomBehind : ℕ → List ℕ → ArrayBase (OwnedRepr A) D T A P R L M s d n r t → ArrayBase (OwnedRepr A) D T A P R L M s d n r t → Type 0

@@ -12,11 +12,11 @@ use Rattle.nd_array_core.specs.declared.base.errors.ArrayError.{ArrayError}
 use Rattle.nd_array_core.specs.declared.base.errors.ArrayError.TheVariants.{NoMemory}
 use Rattle.nd_array_core.specs.Joined.{concatenated}
 use Rattle.nd_storage.specs.Meaning.{Meaning}
-use Rattle.nd_array_core.specs.Meaning.{meaning_of}
+use Rattle.nd_array_core.specs.Meaning.{meaning_of, shape_of}
 use Rattle.nd_storage.specs.Clones.{ClonesOfAllAreEqual}
 use Rattle.nd_array_core.specs.growth.Appended.{FitsBehind, IsAppendRefused}
 use Rattle.nd_storage.specs.declared.storage.OwnedRepr.{OwnedRepr}
-use Rattle.nd_array_core.specs.growth.Grown.{IsNotForMemory, IsReadyFor}
+use Rattle.nd_array_core.specs.growth.Grown.{IsGrownBy, IsLeft, IsNotForMemory, IsReadyFor}
 
 module _ {S D T A P R L M : Type 0} {s : data_trait.Ghosts S A} {d : dimension.Ghosts D P R L M} {n : axis_count.Ghosts D} {r : stride_list.Ghosts R} {t : stride_list.Ghosts T} where
   -- what each array of a list shows
@@ -60,6 +60,15 @@ abbrev pub IsNotForMemoryInTurn : {A : Type 0} → (A → Type 0) → List (Mean
 IsNotForMemoryInTurn {A} is_infallible ms nth error = (m : Meaning A) × (slice_get ms nth ≡ Some m) × IsNotForMemory is_infallible m.at error
 
 module _ {D T A P R L M : Type 0} {s : data_trait.Ghosts (OwnedRepr A) A} {d : dimension.Ghosts D P R L M} {n : axis_count.Ghosts D} {r : stride_list.Ghosts R} {t : stride_list.Ghosts T} where
+  -- the second is how the first lies once the arrays of a list came behind it, each behind all before it
+  abbrev pub IsGrownInTurn : ℕ → List (Meaning A) → ArrayBase (OwnedRepr A) D T A P R L M s d n r t → ArrayBase (OwnedRepr A) D T A P R L M s d n r t → Type 0
+  IsGrownInTurn axis [] a b = b ≡ a
+  IsGrownInTurn axis (m ∷ ms) a b = (c : ArrayBase (OwnedRepr A) D T A P R L M s d n r t) × (shape_of c ≡ grown_shape (shape_of a) axis (slice_index m.shape axis)) × IsGrownBy axis (slice_index m.shape axis) a c × IsGrownInTurn axis ms c b
+
+  -- what is left where the next one was refused
+  abbrev pub IsLeftInTurn : ℕ → List (Meaning A) → ArrayBase (OwnedRepr A) D T A P R L M s d n r t → ArrayBase (OwnedRepr A) D T A P R L M s d n r t → ArrayError → Type 0
+  IsLeftInTurn axis ms a b e = (c : ArrayBase (OwnedRepr A) D T A P R L M s d n r t) × IsGrownInTurn axis ms a c × IsLeft axis c b e
+
   -- where an array is ready, with room for all of them, it does
   abbrev pub NeedsOnlyClonesInTurn : (A → Type 0) → ℕ → ArrayBase (OwnedRepr A) D T A P R L M s d n r t → List (Meaning A) → ℕ × ArrayError → Type 0
   NeedsOnlyClonesInTurn is_infallible axis a ms e = IsReadyFor axis (lengths_along axis ms) a → IsNotForMemoryInTurn is_infallible ms e.0 e.1

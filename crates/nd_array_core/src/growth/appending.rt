@@ -1,7 +1,7 @@
 //! One array behind another along an axis.
 #![tactic(auto, unfolding(crate::specs::Meaning::meaning_of, crate::specs::Meaning::memory_layout_of))]
 
-ghost use Rattle.std.specs.Prelude.{◌↔◌, ◌≡◌, ◌<◌, ◌≤◌, IsTrue, false, Ok, OnOk, OnErr, IfErr, [], length, pos, replicate, slice_get, slice_index};
+ghost use Rattle.std.specs.Prelude.{◌↔◌, ◌≡◌, ◌<◌, ◌≤◌, ◌⊎◌, IsTrue, false, Ok, OnOk, OnErr, IfErr, [], length, pos, replicate, slice_get, slice_index};
 ghost use Rattle.nd_shape_and_slice.specs.Shape.{size_of, HasCheckedSize};
 ghost use Rattle.nd_shape_and_slice.specs.Place.{IsSeparated};
 ghost use Rattle.nd_layout.specs.Growth.{growing_strides, must_move};
@@ -14,13 +14,13 @@ ghost use Rattle.nd_storage.specs.Places.{HoldsAll};
 ghost use Rattle.nd_storage.specs.CloneRefusals.{MayRefuseClone};
 ghost use Rattle.nd_storage.specs.Clones.{ClonesOfAllAreEqual};
 ghost use Rattle.nd_storage.specs.Storages.{stored_list, room_of};
-ghost use Rattle.nd_array_core.specs.growth.Appended.{FitsBehind, IsAppendRefused, ArePutBehind};
-ghost use Rattle.nd_array_core.specs.growth.Grown.{CanGrowOn, GoesOn, IsGrownBy, IsLeft, IsReadyAlong, LeavesRoom, LeavesRoomBehind, NeedsNoMove, NeedsOnlyClones};
+ghost use Rattle.nd_array_core.specs.growth.Appended.{ArePutBehind, CanComeBehind, IsAlikeBeside, IsAppendRefused};
+ghost use Rattle.nd_array_core.specs.growth.Grown.{BecomesReady, CanGrowOn, GoesOn, IsGrownBy, IsLeft, IsReadyAlong, KeepsRoom, LeavesRoom, LeavesRoomBehind, NeedsNoMove, NeedsOnlyClones};
 ghost use Rattle.nd_array_core.specs.growth.Reserved.{HasRoomFor};
 
 use crate::base::array::{Array, ArrayView};
 use crate::base::errors::ArrayError;
-use crate::growth::joining::joined_dim;
+use crate::growth::joining::{broadcast_behind, joined_dim};
 use crate::growth::tail::put_behind;
 use nd_layout::Layout;
 use nd_shape_and_slice::{Axis, Dimension, NoMemory};
@@ -37,7 +37,7 @@ fn append_behind<A: Clone + Drop, D: Dimension>(
     requires on { axis < length (D.lengths layout.old.dim) }
     requires some { 0 < size_of (D.lengths layout.old.dim) }
     requires more { 0 < size_of (shape_of array.now) }
-    requires fits { FitsBehind (D.lengths layout.old.dim) (shape_of array.now) axis }
+    requires fits { IsAlikeBeside (D.lengths layout.old.dim) (shape_of array.now) axis }
     requires checked { HasCheckedSize (concatenated_shape (D.lengths layout.old.dim) (shape_of array.now) axis) }
     requires holds { HoldsAll (slice_get (stored_list storage.old)) layout.old.offset (D.lengths layout.old.dim) (D.Strides.strides_of layout.old.strides) }
     requires apart { IsSeparated (D.lengths layout.old.dim) (D.Strides.strides_of layout.old.strides) }
@@ -89,7 +89,7 @@ impl<A: Clone + Drop, D: Dimension> Array<A, D> {
         requires on { axis.0 < length (shape_of self.old) }
         requires some { 0 < size_of (shape_of self.old) }
         requires more { 0 < size_of (shape_of array.now) }
-        requires fits { FitsBehind (shape_of self.old) (shape_of array.now) axis.0 }
+        requires fits { IsAlikeBeside (shape_of self.old) (shape_of array.now) axis.0 }
         requires checked { HasCheckedSize (concatenated_shape (shape_of self.old) (shape_of array.now) axis.0) }
         requires full { length (stored_list (storage_of self.old)) ≡ size_of (shape_of self.old) }
         requires stays { must_move (shape_of self.old) (layout_strides self.old) axis.0 ≡ false }
@@ -111,7 +111,7 @@ impl<A: Clone + Drop, D: Dimension> Array<A, D> {
         requires on { axis.0 < length (shape_of self.old) }
         requires some { 0 < size_of (shape_of self.old) }
         requires more { 0 < size_of (shape_of array.now) }
-        requires fits { FitsBehind (shape_of self.old) (shape_of array.now) axis.0 }
+        requires fits { IsAlikeBeside (shape_of self.old) (shape_of array.now) axis.0 }
         requires checked { HasCheckedSize (concatenated_shape (shape_of self.old) (shape_of array.now) axis.0) }
         requires moves { ¬ (CanGrowOn axis.0 self.old) }
         requires clones { ClonesOfAllAreEqual A.is_clone (element_at array.now) }
@@ -144,7 +144,7 @@ impl<A: Clone + Drop, D: Dimension> Array<A, D> {
         requires on { axis.0 < length (shape_of self.old) }
         requires some { 0 < size_of (shape_of self.old) }
         requires more { 0 < size_of (shape_of array.now) }
-        requires fits { FitsBehind (shape_of self.old) (shape_of array.now) axis.0 }
+        requires fits { IsAlikeBeside (shape_of self.old) (shape_of array.now) axis.0 }
         requires checked { HasCheckedSize (concatenated_shape (shape_of self.old) (shape_of array.now) axis.0) }
         requires clones { ClonesOfAllAreEqual A.is_clone (element_at array.now) }
         ensures joined { OnOk result (meaning_of self.new ≡ concatenated axis.0 (meaning_of self.old) (meaning_of array.now)) }
@@ -154,7 +154,7 @@ impl<A: Clone + Drop, D: Dimension> Array<A, D> {
         ensures goes_on { IsReadyAlong axis.0 self.old → OnOk result (GoesOn axis.0 self.old self.new) }
         ensures left { NeedsNoMove axis.0 self.old → OnErr result (ShowsWhole self.old self.new) }
         ensures stored { IsReadyAlong axis.0 self.old → OnErr result (stored_list (storage_of self.new) ≡ stored_list (storage_of self.old)) }
-        ensures room { IsReadyAlong axis.0 self.old → room_of (storage_of self.old) ≤ room_of (storage_of self.new) }
+        ensures room { CanGrowOn axis.0 self.old → room_of (storage_of self.old) ≤ room_of (storage_of self.new) }
         ensures enough { IsReadyAlong axis.0 self.old → HasRoomFor (size_of (shape_of array.now)) (storage_of self.old) → OnErr result (MayRefuseClone A.is_infallible (element_at array.now)) }
     {
         if self.is_ready_along(axis) {
@@ -180,7 +180,7 @@ impl<A: Clone + Drop, D: Dimension> Array<A, D> {
     fn append_nothing(&mut self, axis: Axis, array: &ArrayView<'_, A, D>, dim: D)
         requires on { axis.0 < length (shape_of self.old) }
         requires none { size_of (shape_of array.now) ≡ 0 }
-        requires fits { FitsBehind (shape_of self.old) (shape_of array.now) axis.0 }
+        requires fits { IsAlikeBeside (shape_of self.old) (shape_of array.now) axis.0 }
         requires joined { D.lengths dim ≡ concatenated_shape (shape_of self.old) (shape_of array.now) axis.0 }
         requires checked { HasCheckedSize (D.lengths dim) }
         ensures joined { meaning_of self.new ≡ concatenated axis.0 (meaning_of self.old) (meaning_of array.now) }
@@ -199,7 +199,7 @@ impl<A: Clone + Drop, D: Dimension> Array<A, D> {
         requires on { axis.0 < length (shape_of self.old) }
         requires none { size_of (shape_of self.old) ≡ 0 }
         requires more { 0 < size_of (shape_of array.now) }
-        requires fits { FitsBehind (shape_of self.old) (shape_of array.now) axis.0 }
+        requires fits { IsAlikeBeside (shape_of self.old) (shape_of array.now) axis.0 }
         requires clones { ClonesOfAllAreEqual A.is_clone (element_at array.now) }
         ensures joined { OnOk result (meaning_of self.new ≡ concatenated axis.0 (meaning_of self.old) (meaning_of array.now)) }
         ensures kept { OnErr result (meaning_of self.new ≡ meaning_of self.old) }
@@ -208,7 +208,7 @@ impl<A: Clone + Drop, D: Dimension> Array<A, D> {
         ensures goes_on { IsReadyAlong axis.0 self.old → OnOk result (GoesOn axis.0 self.old self.new) }
         ensures left { OnErr result (ShowsWhole self.old self.new) }
         ensures stored { IsReadyAlong axis.0 self.old → OnErr result (stored_list (storage_of self.new) ≡ stored_list (storage_of self.old)) }
-        ensures room { IsReadyAlong axis.0 self.old → room_of (storage_of self.old) ≤ room_of (storage_of self.new) }
+        ensures room { room_of (storage_of self.old) ≤ room_of (storage_of self.new) }
         ensures enough { IsReadyAlong axis.0 self.old → HasRoomFor (size_of (shape_of array.now)) (storage_of self.old) → OnErr result (MayRefuseClone A.is_infallible (element_at array.now)) }
     {
         append_fresh(&mut self.storage, &mut self.layout, axis.0, array)
@@ -222,7 +222,7 @@ impl<A: Clone + Drop, D: Dimension> Array<A, D> {
         dim: D,
     ) -> Result<(), NoMemory>
         requires on { axis.0 < length (shape_of self.old) }
-        requires fits { FitsBehind (shape_of self.old) (shape_of array.now) axis.0 }
+        requires fits { IsAlikeBeside (shape_of self.old) (shape_of array.now) axis.0 }
         requires joined { D.lengths dim ≡ concatenated_shape (shape_of self.old) (shape_of array.now) axis.0 }
         requires checked { HasCheckedSize (D.lengths dim) }
         requires clones { ClonesOfAllAreEqual A.is_clone (element_at array.now) }
@@ -233,7 +233,7 @@ impl<A: Clone + Drop, D: Dimension> Array<A, D> {
         ensures goes_on { IsReadyAlong axis.0 self.old → OnOk result (GoesOn axis.0 self.old self.new) }
         ensures left { NeedsNoMove axis.0 self.old → OnErr result (ShowsWhole self.old self.new) }
         ensures stored { IsReadyAlong axis.0 self.old → OnErr result (stored_list (storage_of self.new) ≡ stored_list (storage_of self.old)) }
-        ensures room { IsReadyAlong axis.0 self.old → room_of (storage_of self.old) ≤ room_of (storage_of self.new) }
+        ensures room { (size_of (shape_of array.now) ≡ 0) ⊎ NeedsNoMove axis.0 self.old → room_of (storage_of self.old) ≤ room_of (storage_of self.new) }
         ensures enough { IsReadyAlong axis.0 self.old → HasRoomFor (size_of (shape_of array.now)) (storage_of self.old) → OnErr result (MayRefuseClone A.is_infallible (element_at array.now)) }
         ensures nothing { size_of (shape_of array.now) ≡ 0 → result ≡ Ok tt }
     {
@@ -247,34 +247,39 @@ impl<A: Clone + Drop, D: Dimension> Array<A, D> {
         self.append_elements(axis, array)
     }
 
-    /// Appends clones of an array's elements along an axis, which is below `ndim` where there are axes: all other lengths
-    /// are equal, and a clone equals its original. IncompatibleShape without axes, or where the shapes differ outside the
-    /// axis; Overflow where the result has no checked size; NoMemory where storage or a clone is refused, and never where
-    /// no element is appended. After a refusal shape and elements are as before.
+    /// Appends clones of an array's elements along an axis, which is below `ndim` where there are axes, once the array is
+    /// broadcast: it has as many axes, and each length outside the axis is this array's, or 1. A clone equals its original.
+    /// IncompatibleShape without axes, or where the shape doesn't fit; Overflow where the result has no checked size; NoMemory
+    /// where storage or a clone is refused, and never where no element is appended. After a refusal shape and elements are as
+    /// before.
     /// On storage that the array fills, the new elements follow the old, which stay, where the axis is of length 1 or steps
     /// furthest, and upward; else the elements are laid anew first. Once an element was appended, the next ones along the
-    /// axis follow it. In room that was reserved only a clone can lack memory. ndarray's `append`.
+    /// axis follow it. In room that was reserved only a clone can lack memory; where nothing is laid anew, the room stays.
+    /// ndarray's `append`, which doesn't broadcast.
     pub fn append(&mut self, axis: Axis, array: ArrayView<'_, A, D>) -> Result<(), ArrayError>
         requires axis { 0 < length (shape_of self.old) → axis.0 < length (shape_of self.old) }
         requires clones { ClonesOfAllAreEqual A.is_clone (element_at array) }
         ensures refused { IfErr result (IsAppendRefused (shape_of self.old) (shape_of array.entry) axis.0) }
+        ensures fits { OnOk result (CanComeBehind (shape_of self.old) (shape_of array.entry) axis.0) }
         ensures joined { OnOk result (meaning_of self.new ≡ concatenated axis.0 (meaning_of self.old) (meaning_of array.entry)) }
         ensures kept { OnErr result (meaning_of self.new ≡ meaning_of self.old) }
         ensures laid { OnOk result (IsGrownBy axis.0 (slice_index (shape_of array.entry) axis.0) self.old self.new) }
-        ensures ready { 0 < size_of (shape_of array.entry) → OnOk result (IsReadyAlong axis.0 self.new) }
+        ensures ready { OnOk result (BecomesReady axis.0 (slice_index (shape_of array.entry) axis.0) self.old self.new) }
         ensures goes_on { IsReadyAlong axis.0 self.old → OnOk result (GoesOn axis.0 self.old self.new) }
         ensures left { IfErr result (IsLeft axis.0 self.old self.new) }
-        ensures room { IsReadyAlong axis.0 self.old → room_of (storage_of self.old) ≤ room_of (storage_of self.new) }
+        ensures room { KeepsRoom axis.0 (slice_index (shape_of array.entry) axis.0) self.old self.new }
         ensures room_left { OnOk result (LeavesRoomBehind axis.0 (shape_of array.entry) self.old self.new) }
         ensures room_kept { IsReadyAlong axis.0 self.old → OnErr result (LeavesRoom axis.0 0 self.old self.new) }
         ensures enough { IfErr result (NeedsOnlyClones A.is_infallible axis.0 self.old (meaning_of array.entry)) }
-        ensures nothing { size_of (shape_of array.entry) ≡ 0 → IfErr result (λ e. e ≡ ArrayError.NoMemory → ⊥) }
     {
         match joined_dim(&self.layout.dim, &array.layout.dim, axis.0) {
-            Ok(dim) => match self.append_fitting(axis, &array, dim) {
-                Ok(()) => Ok(()),
-                Err(_) => Err(ArrayError::NoMemory),
-            },
+            Ok(dim) => {
+                let beside = broadcast_behind(array, &self.layout.dim, axis.0);
+                match self.append_fitting(axis, &beside, dim) {
+                    Ok(()) => Ok(()),
+                    Err(_) => Err(ArrayError::NoMemory),
+                }
+            }
             Err(refused) => Err(ArrayError::Shape(refused)),
         }
     }

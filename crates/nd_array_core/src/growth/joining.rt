@@ -1,23 +1,43 @@
-//! Whether one shape can come behind another along an axis.
+//! Whether one shape can come behind another along an axis, and the view that does.
+#![tactic(auto, unfolding(crate::specs::Meaning::meaning_of, crate::specs::Meaning::memory_layout_of))]
 
-ghost use Rattle.std.specs.Prelude.{◌↔◌, ◌≡◌, ◌<◌, IsTrue, IfOk, IfErr, length};
+ghost use Rattle.std.specs.Prelude.{◌↔◌, ◌≡◌, ◌<◌, IsTrue, IfOk, IfErr, length, slice_index};
 ghost use Rattle.nd_shape_and_slice.specs.Shape.{HasCheckedSize};
-ghost use Rattle.nd_array_core.specs.Joined.{concatenated_shape};
-ghost use Rattle.nd_array_core.specs.growth.Appended.{FitsBehind, IsJoiningRefused};
+ghost use Rattle.nd_array_core.specs.Joined.{concatenated_shape, shape_behind};
+ghost use Rattle.nd_array_core.specs.Meaning.{shape_of};
+ghost use Rattle.nd_array_core.specs.Part.{broadcast_part, ShowsPart};
+ghost use Rattle.nd_array_core.specs.growth.Appended.{CanComeBehind, FitsBehind, IsJoiningRefused};
 
+use crate::base::array::ArrayView;
 use nd_shape_and_slice::{Dimension, ErrorKind, ShapeError, size_of_shape_checked};
 
-/// Whether there are axes, and all lengths but an axis's are equal.
-fn fits_behind<D: Dimension>(dim: &D, added: &D, axis: usize) -> bool
-    requires { 0 < length (D.lengths dim.now) → axis < length (D.lengths dim.now) }
-    ensures { IsTrue result ↔ FitsBehind (D.lengths dim.now) (D.lengths added.now) axis }
+/// The length of an axis once an array is broadcast to come behind one of a shape along another.
+fn length_behind(shape: &[usize], added: &[usize], axis: usize, nth: usize) -> usize
+    requires on { nth < length shape.now }
+    requires alike { length added.now ≡ length shape.now }
+    ensures { result ≡ slice_index (shape_behind shape.now added.now axis) nth }
 {
-    if dim.ndim() == 0 {
+    if nth == axis { added[nth] } else { shape[nth] }
+}
+
+/// Whether an array of the second shape can be broadcast to come behind one of the first along an axis: there are axes, as
+/// many in both, and each other length of the second is the first's, or it is 1.
+pub fn fits_behind(shape: &[usize], added: &[usize], axis: usize) -> bool
+    requires { 0 < length shape.now → axis < length shape.now }
+    ensures { IsTrue result ↔ FitsBehind shape.now added.now axis }
+{
+    if shape.is_empty() {
         return false;
     }
-    let mut beside = *added;
-    beside.set_length(axis, dim.length(axis));
-    beside.slice() == dim.slice()
+    if added.len() != shape.len() {
+        return false;
+    }
+    for nth in 0..added.len() {
+        if added[nth] != length_behind(shape, added, axis, nth) && added[nth] != 1 {
+            return false;
+        }
+    }
+    true
 }
 
 /// The shape with an axis as long as in both.
@@ -49,9 +69,27 @@ pub(crate) fn joined_dim<D: Dimension>(dim: &D, added: &D, axis: usize) -> Resul
     ensures checked { IfOk result (λ d. HasCheckedSize (D.lengths d)) }
     ensures refused { IfErr result (λ e. IsJoiningRefused (D.lengths dim.now) (D.lengths added.now) axis e) }
 {
-    if fits_behind(dim, added, axis) {
+    if fits_behind(dim.slice(), added.slice(), axis) {
         longest(dim, added, axis)
     } else {
         Err(ShapeError::from_kind(ErrorKind::IncompatibleShape))
+    }
+}
+
+/// The view broadcast to come behind an array of a shape along an axis, where it keeps its own length.
+pub(crate) fn broadcast_behind<'a, A, D: Dimension>(
+    array: ArrayView<'a, A, D>,
+    dim: &D,
+    axis: usize,
+) -> ArrayView<'a, A, D>
+    requires on { axis < length (D.lengths dim.now) }
+    requires comes { CanComeBehind (D.lengths dim.now) (shape_of array) axis }
+    ensures part { ShowsPart array.entry (broadcast_part array.entry (shape_behind (D.lengths dim.now) (shape_of array.entry) axis)) result }
+{
+    let mut beside = *dim;
+    beside.set_length(axis, array.layout.dim.length(axis));
+    match array.broadcast_move(beside) {
+        Some(view) => view,
+        None => unreachable!(),
     }
 }

@@ -2,7 +2,7 @@
 
 mod appending;
 mod in_turn;
-mod joining;
+pub mod joining;
 mod pushing;
 mod relaying;
 mod reserving;

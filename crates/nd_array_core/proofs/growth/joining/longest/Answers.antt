@@ -3,7 +3,11 @@ use Rattle.nd_shape_and_slice.specs.Shape.{HasCheckedSize}
 use Rattle.nd_array_core.specs.Joined.{concatenated_shape}
 use Rattle.nd_array_core.specs.growth.Appended.{IsJoiningRefused, TooLarge}
 use Rattle.nd_array_core.proofs.Appending.{lengths_fit}
+use Rattle.nd_array_core.proofs.Stretched.{fits_on}
 use Rattle.nd_array_core.proofs.growth.joining.longest.Goals as goal
+
+pub length-requires-2 : goal.length-requires-2
+length-requires-2 g c = fits_on (g.D.Dimension.lengths c.args.dim.now) (g.D.Dimension.lengths c.args.added.now) c.args.axis c.requires.on c.requires.fits
 
 pub overflow_add-length : goal.overflow_add-length
 overflow_add-length g c =

@@ -1,23 +1,24 @@
 use Rattle.std.proofs.Common.{◌≡◌, ◌+◌, ◌≤◌, get_or, length, take, ap, sym, subst, ◌∙◌, arith, refl}
-use Rattle.std.proofs.lemmas.List.{length-set}
-use Rattle.nd_shape_and_slice.specs.Shape.{in_box}
+use Rattle.std.proofs.lemmas.List.{length-map, length-set, take_all}
+use Rattle.nd_shape_and_slice.specs.Shape.{in_box, HasCheckedSize}
 use Rattle.nd_array_core.specs.Joined.{concatenated}
 use Rattle.nd_array_core.specs.Meaning.{meaning_of, shape_of, storage_of}
 use Rattle.nd_storage.specs.Clones.{ClonesOfAllAreEqual}
 use Rattle.nd_storage.specs.Storages.{room_of, stored_list}
-use Rattle.nd_array_core.specs.growth.Appended.{IsAppendRefused}
-use Rattle.nd_array_core.specs.growth.Grown.{IsNotForMemory, LeavesRoom}
-use Rattle.nd_array_core.specs.growth.InTurn.{lengths_along, meanings_of}
+use Rattle.nd_layout.specs.Growth.{grown_shape}
+use Rattle.nd_array_core.specs.growth.Appended.{FitsBehind, IsAppendRefused}
+use Rattle.nd_array_core.specs.growth.Grown.{BecomesReady, IsGrownBy, IsNotForMemory, KeepsRoom, LeavesRoom}
+use Rattle.nd_array_core.specs.growth.InTurn.{lengths_along, meanings_of, IsGrownInTurn}
 use Rattle.nd_array_core.proofs.Appending.{same_at}
-use Rattle.nd_array_core.proofs.GoneOn.{goes_left, goes_nowhere, goes_then, leaves_none, leaves_then}
+use Rattle.nd_array_core.proofs.GoneOn.{grown_last, goes_left, goes_nowhere, goes_then, leaves_none, leaves_then, ready_then, room_then, still_then}
 use Rattle.nd_array_core.proofs.GrownArrays.{room_within}
-use Rattle.nd_array_core.proofs.JoinedInTurn.{in_box-grown, joined_more, lengths_more, lengths_within, mapped_get, only_memory, shape_in_turn}
+use Rattle.nd_array_core.proofs.JoinedInTurn.{all_fit, in_box-grown, joined_more, lengths_more, lengths_within, mapped_get, none_fit, one_more_fits, only_memory, shape_in_turn, take_next}
 use Rattle.nd_array_core.proofs.growth.in_turn.Array+A+D.append_each.Goals as goal
 
 pub loop-nth-init : goal.loop-nth-init
 loop-nth-init g c =
     let old = c.args.self.now in
-    (c.requires.axis, refl, (λ _. refl), goes_nowhere c.args.axis.0 old, (λ _. omega arith), λ _. leaves_none c.args.axis.0 old)
+    (c.requires.axis, refl, goes_nowhere c.args.axis.0 old, (λ _. omega arith), (λ _. leaves_none c.args.axis.0 old), (λ still. still), (λ some. absurd (omega (arith, some))), refl, none_fit c.args.axis.0 (shape_of old) (meanings_of c.args.arrays.now), (λ _. refl))
 
 pub append-requires-clause-clones : goal.append-requires-clause-clones
 append-requires-clause-clones g c =
@@ -40,7 +41,7 @@ pub returns-in-Err-clause-kept : goal.returns-in-Err-clause-kept
 returns-in-Err-clause-kept g c = c.in-Err.ensures.kept ∙ c.loop-nth.invariant.1
 
 pub returns-in-Err-clause-goes_on : goal.returns-in-Err-clause-goes_on
-returns-in-Err-clause-goes_on g c ready = goes_left c.args.axis.0 c.args.self.now c.loop-nth.self c.append.new.self c.in-Err.refused c.in-Err.ensures.left (c.loop-nth.invariant.3 ready)
+returns-in-Err-clause-goes_on g c ready = goes_left c.args.axis.0 c.args.self.now c.loop-nth.self c.append.new.self c.in-Err.refused c.in-Err.ensures.left (c.loop-nth.invariant.2 ready)
 
 pub returns-in-Err-clause-enough : goal.returns-in-Err-clause-enough
 returns-in-Err-clause-enough g c for_all =
@@ -59,14 +60,14 @@ returns-in-Err-clause-enough g c for_all =
     let taken = lengths_along axis (take nth ms) in
     let within = lengths_within axis (meaning_of x) ms nth get in
     let fewer : k + taken ≤ lengths_along axis ms = omega (arith, within, same) in
-    let here = so_far.5 ready k (room_within (shape_of old) axis (k + taken) (lengths_along axis ms) (length (stored_list (storage_of old))) (room_of (storage_of old)) fewer room) in (
+    let here = so_far.4 ready k (room_within (shape_of old) axis (k + taken) (lengths_along axis ms) (length (stored_list (storage_of old))) (room_of (storage_of old)) fewer room) in (
       meaning_of x,
       get,
-      subst (λ m. IsNotForMemory g.A.Clone.is_infallible m.at c.in-Err.refused) (same_at (meaning_of c.view.result) (meaning_of x) whole.0 whole.2) (c.in-Err.ensures.enough ((so_far.3 ready).ready, here)),
+      subst (λ m. IsNotForMemory g.A.Clone.is_infallible m.at c.in-Err.refused) (same_at (meaning_of c.view.result) (meaning_of x) whole.0 whole.2) (c.in-Err.ensures.enough ((so_far.2 ready).ready, here)),
     )
 
-pub returns-in-Err-clause-fits : goal.returns-in-Err-clause-fits
-returns-in-Err-clause-fits g c fit =
+pub returns-in-Err-clause-fitting : goal.returns-in-Err-clause-fitting
+returns-in-Err-clause-fitting g c fit =
     let x = c.index-arrays-nth.result in
     let axis = c.args.axis.0 in
     let old = c.args.self.now in
@@ -95,14 +96,58 @@ loop-nth-preserved g c =
     let same = same_at (meaning_of c.view.result) (meaning_of x) whole.0 whole.2 in
     let joined : meaning_of new ≡ concatenated axis (meaning_of self) (meaning_of x) = done.joined ∙ ap (concatenated axis (meaning_of self)) same in
     let long : length (shape_of new) ≡ length (shape_of self) = ap (λ m. length m.shape) joined ∙ length-set (shape_of self) axis (get_or (shape_of self) axis 0 + get_or (shape_of x) axis 0) in
-    let shape = ap (λ m. m.shape) so_far.1 ∙ shape_in_turn axis (meaning_of old) (take nth ms) c.requires.axis in (
+    let shape = ap (λ m. m.shape) so_far.1 ∙ shape_in_turn axis (meaning_of old) (take nth ms) c.requires.axis in
+    let k = get_or (shape_of x) axis 0 in
+    let taken = lengths_along axis (take nth ms) in
+    let within = lengths_within axis (meaning_of x) ms nth get in
+    let on = so_far.0 done.fits.0.0 in
+    let longer : shape_of new ≡ grown_shape (shape_of self) axis k = ap (λ m. m.shape) joined in
+    let becomes = subst (λ s. BecomesReady axis (get_or s axis 0) self new) whole.0 done.ready in
+    let laid = subst (λ s. IsGrownBy axis (get_or s axis 0) self new) whole.0 done.laid in
+    let room = subst (λ s. KeepsRoom axis (get_or s axis 0) self new) whole.0 done.room in (
       (λ some. let below = so_far.0 (omega (arith, some, long)) in omega (arith, below, long)),
       joined ∙ (ap (λ m. concatenated axis m (meaning_of x)) so_far.1 ∙ sym (joined_more axis (meaning_of old) (meaning_of x) ms nth get)),
-      (λ none. absurd (omega (arith, none))),
-      (λ ready. goes_then axis old self new (λ i h. ap (λ s. in_box s i) shape ∙ in_box-grown (shape_of old) i axis (lengths_along axis (take nth ms)) c.requires.axis h) (so_far.3 ready) (done.goes_on (so_far.3 ready).ready)),
-      (λ ready. let before = so_far.4 ready in let after = done.room (so_far.3 ready).ready in omega (arith, before, after)),
+      (λ ready. goes_then axis old self new (λ i h. ap (λ s. in_box s i) shape ∙ in_box-grown (shape_of old) i axis (lengths_along axis (take nth ms)) c.requires.axis h) (so_far.2 ready) (done.goes_on (so_far.2 ready).ready)),
+      room_then axis taken k (lengths_along axis ms) old self new shape (omega (arith, within)) so_far.3 so_far.5 room,
       (λ ready.
           subst (λ n. LeavesRoom axis n old new) (sym (lengths_more axis (meaning_of x) ms nth get))
-          (leaves_then axis (lengths_along axis (take nth ms)) (get_or (shape_of x) axis 0) old self new (so_far.5 ready)
-          (subst (λ s. LeavesRoom axis (get_or s axis 0) self new) whole.0 (done.room_left (so_far.3 ready).ready)))),
+          (leaves_then axis (lengths_along axis (take nth ms)) (get_or (shape_of x) axis 0) old self new (so_far.4 ready)
+          (subst (λ s. LeavesRoom axis (get_or s axis 0) self new) whole.0 (done.room_left (so_far.2 ready).ready)))),
+      (λ still. still_then axis k self new on longer becomes done.goes_on (so_far.5 still)),
+      subst (λ n. BecomesReady axis n old new) (sym (lengths_more axis (meaning_of x) ms nth get)) (ready_then axis taken k old self new shape so_far.6 becomes done.goes_on),
+      subst (λ xs. IsGrownInTurn axis xs old new) (sym (take_next ms nth (meaning_of x) get)) (grown_last axis (take nth ms) (meaning_of x) old self new so_far.7 longer laid),
+      one_more_fits nth axis taken (shape_of old) (shape_of self) (meaning_of x) ms so_far.8 get shape (subst (λ s. FitsBehind (shape_of self) s axis) whole.0 done.fits.0),
+      (λ none. absurd (omega (arith, none))),
     )
+
+pub returns-in-Err-clause-room : goal.returns-in-Err-clause-room
+returns-in-Err-clause-room g c =
+    let x = c.index-arrays-nth.result in
+    let axis = c.args.axis.0 in
+    let old = c.args.self.now in
+    let self = c.loop-nth.self in
+    let ms = meanings_of c.args.arrays.now in
+    let nth = c.loop-nth.nth in
+    let so_far = c.loop-nth.invariant in
+    let get = mapped_get (λ a. meaning_of a) c.args.arrays.now nth x c.loop-nth-test.true c.index-arrays-nth.is in
+    let shape = ap (λ m. m.shape) so_far.1 ∙ shape_in_turn axis (meaning_of old) (take nth ms) c.requires.axis in
+    let within = lengths_within axis (meaning_of x) ms nth get in
+    let room = subst (λ s. KeepsRoom axis (get_or s axis 0) self c.append.new.self) c.view.ensures.whole.0 c.in-Err.ensures.room in
+    room_then axis (lengths_along axis (take nth ms)) (get_or (shape_of x) axis 0) (lengths_along axis ms) old self c.append.new.self shape (omega (arith, within)) so_far.3 so_far.5 room
+
+pub returns-in-Err-clause-left : goal.returns-in-Err-clause-left
+returns-in-Err-clause-left g c = (c.loop-nth.self, c.loop-nth.invariant.7, c.in-Err.ensures.left)
+
+pub returns-clause-fits : goal.returns-clause-fits
+unfolding meaning_of
+returns-clause-fits g c =
+    let axis = c.args.axis.0 in
+    let old = c.args.self.now in
+    let self = c.loop-nth.self in
+    let ms = meanings_of c.args.arrays.now in
+    let so_far = c.loop-nth.invariant in
+    let shape = ap (λ m. m.shape) so_far.1 ∙ shape_in_turn axis (meaning_of old) (take c.loop-nth.nth ms) c.requires.axis in
+    let long : length ms ≡ length c.args.arrays.now = length-map c.args.arrays.now (λ a. meaning_of a) in
+    let all : length ms ≤ c.loop-nth.nth = omega (arith, long, c.loop-nth-test.false) in
+    let whole = ap (λ xs. grown_shape (shape_of old) axis (lengths_along axis xs)) (take_all c.loop-nth.nth ms all) in
+    (all_fit axis (shape_of old) ms c.loop-nth.nth so_far.8 all, subst HasCheckedSize (shape ∙ whole) self.layout.checked)

@@ -6,10 +6,10 @@ use Rattle.nd_shape_and_slice.specs.Maps.{inserted_index, inserted_shape}
 use Rattle.nd_array_core.specs.growth.Appended.{IsJoiningRefused}
 use Rattle.nd_array_core.proofs.Appending.{same_at}
 use Rattle.nd_storage.proofs.Assigned.{on_ok}
-use Rattle.nd_array_core.specs.growth.Grown.{NeedsOnlyClones, IsNotForMemory, LeavesRoom}
+use Rattle.nd_array_core.specs.growth.Grown.{BecomesReady, KeepsRoom, NeedsOnlyClones, IsNotForMemory, LeavesRoom}
 use Rattle.nd_array_core.specs.growth.Reserved.{HasRoomAlong}
 use Rattle.nd_array_core.proofs.CloneRefusals.{part_refused}
-use Rattle.nd_array_core.proofs.Pushed.{for_part, if_refused, one_pushed, other_axes, size_pushed}
+use Rattle.nd_array_core.proofs.Pushed.{for_part, if_refused, one_pushed, other_axes}
 use Rattle.nd_array_core.proofs.growth.pushing.Array+A+D.push.Goals as goal
 
 pub returns-then-ndim-clause-refused : goal.returns-then-ndim-clause-refused
@@ -26,14 +26,24 @@ returns-clause-joined g c =
     on_ok c.append.result (λ joined. joined ∙ ap (λ m. concatenated c.args.axis.0 (meaning_of c.args.self.now) m) same) c.append.ensures.joined
 
 pub returns-clause-ready : goal.returns-clause-ready
-returns-clause-ready g c some =
+returns-clause-ready g c =
     let old = meaning_of c.args.self.now in
     let array = meaning_of c.args.array in
     let view = meaning_of c.with_axis.result in
     let few = c.ndim.ensures.value in
     let all = c.ndim-2.ensures.value in
     let axes : length array.shape + 1 ≡ length old.shape = omega (arith, c.if-ndim.false, few, all) in
-    c.append.ensures.ready (subst (λ n. 0 < n) (sym (size_pushed old.shape array.shape view.shape c.args.axis.0 c.requires.axis axes c.with_axis.ensures.part.0)) some)
+    on_ok c.append.result (λ ready. subst (λ n. BecomesReady c.args.axis.0 n c.args.self.now c.append.new.self) (one_pushed old.shape array.shape view.shape c.args.axis.0 c.requires.axis axes c.with_axis.ensures.part.0) ready) c.append.ensures.ready
+
+pub returns-clause-room : goal.returns-clause-room
+returns-clause-room g c =
+    let old = meaning_of c.args.self.now in
+    let array = meaning_of c.args.array in
+    let view = meaning_of c.with_axis.result in
+    let few = c.ndim.ensures.value in
+    let all = c.ndim-2.ensures.value in
+    let axes : length array.shape + 1 ≡ length old.shape = omega (arith, c.if-ndim.false, few, all) in
+    subst (λ n. KeepsRoom c.args.axis.0 n c.args.self.now c.append.new.self) (one_pushed old.shape array.shape view.shape c.args.axis.0 c.requires.axis axes c.with_axis.ensures.part.0) c.append.ensures.room
 
 pub returns-clause-room_left : goal.returns-clause-room_left
 returns-clause-room_left g c ready =
@@ -57,13 +67,3 @@ returns-clause-enough g c for_it =
     if_refused c.append.result (NeedsOnlyClones g.A.Clone.is_infallible c.args.axis.0 c.args.self.now view) (IsNotForMemory g.A.Clone.is_infallible array.at)
     (λ e needs. for_part g.A.Clone.is_infallible view.at array.at (part_refused g.A.Clone.is_infallible array.at view.at (inserted_shape array.shape c.args.axis.0) (inserted_index c.args.axis.0) c.with_axis.ensures.part.2) e (needs (for_it.0, room)))
     c.append.ensures.enough
-
-pub returns-clause-nothing : goal.returns-clause-nothing
-returns-clause-nothing g c none =
-    let old = meaning_of c.args.self.now in
-    let array = meaning_of c.args.array in
-    let view = meaning_of c.with_axis.result in
-    let few = c.ndim.ensures.value in
-    let all = c.ndim-2.ensures.value in
-    let axes : length array.shape + 1 ≡ length old.shape = omega (arith, c.if-ndim.false, few, all) in
-    c.append.ensures.nothing (size_pushed old.shape array.shape view.shape c.args.axis.0 c.requires.axis axes c.with_axis.ensures.part.0 ∙ none)
