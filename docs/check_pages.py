@@ -26,6 +26,7 @@ import sys
 PAGES = ["README.md", "docs/*.md", "crates/*.md", "crates/*/*.md"]
 LONGEST = [("README.md", 80), ("crates/README.md", 10), ("crates/*/README.md", 60), ("docs/PROVING.md", 250)]
 WORDS = 20000
+CALLED = ["nd_array_core", "nd_stacking"]
 WITH_BLOCKS = ["README.md", "crates/*/README.md", "crates/*/CALLING.md"]
 BLOCK = re.compile(r"^```(rust|antt)\n(.*?)^```$", re.MULTILINE | re.DOTALL)
 FUNCTION = re.compile(r"^\s*(pub )?(const )?fn ", re.MULTILINE)
@@ -118,7 +119,7 @@ def check_calls():
             wrong.append(f"docs/CALLS.md: two rows of `{call}`")
         rows[call] = error.strip(" `")
     calls = {}
-    for path in sorted(glob.glob("crates/nd_array_core/src/**/*.rt", recursive=True)):
+    for path in (path for crate in CALLED for path in glob.glob(f"crates/{crate}/src/**/*.rt", recursive=True)):
         if not path.endswith("/laws.rt"):
             calls.update(calls_of(path))
     wrong += [f"docs/CALLS.md: no row of `{call}`" for call in calls if call not in rows]
@@ -126,6 +127,7 @@ def check_calls():
     wrong += [f"docs/CALLS.md: the error of `{call}` is {error or 'none'}" for call, error in calls.items() if rows.get(call, error) != error]
     for crate, module, test in sorted(set(TEST.findall(page))):
         path = f"crates/nd_array_core_{crate}/src/{module}.rt"
+        path = path if os.path.exists(path) else f"crates/{crate}/src/{module}.rt"
         if not os.path.exists(path) or f"fn {test}(" not in read(path):
             wrong.append(f"docs/CALLS.md: {path} has no test {test}")
     print(f"{len(calls)} calls of arrays, {len(rows)} rows")
