@@ -70,20 +70,26 @@ def shown(ns):
     return "" if ns is None else f"{ns:.1f}" if ns < 100 else f"{ns:.0f}"
 
 
-def main():
-    named = [argument.split("=", 1) for argument in sys.argv[1:]]
-    sources = [(label, of_driver(program)) for label, program in named]
-    sources.append((f"numpy {numpy.__version__}", of_numpy()))
+def table(sources, theirs):
+    """A line for each call and library: nanoseconds at each dimension, and numpy's in brackets."""
     calls = list(dict.fromkeys(call for _, times in sources for call, _ in times))
-    print("| ns a call | |", " | ".join(COLUMNS.values()), "|")
-    print("|---|---|" + "--:|" * len(COLUMNS))
+    several = len(sources) > 1
+    yield f"| ns a call (numpy {numpy.__version__}) |" + (" |" if several else "") + f" {' | '.join(COLUMNS.values())} |"
+    yield "|---|" + "---|" * several + "--:|" * len(COLUMNS)
     for call in calls:
-        name = NOTES.get(call, f"`{call}`")
         for label, times in sources:
-            row = [shown(times.get((call, column))) for column in COLUMNS]
-            if any(row):
-                print(f"| {name} | {label} |", " | ".join(row), "|")
-                name = ""
+            name = NOTES.get(call, f"`{call}`") + (f" | {label}" if several else "")
+            cells = [shown(times.get((call, column))) for column in COLUMNS]
+            beside = [shown(theirs.get((call, column))) for column in COLUMNS]
+            row = [f"{ours} ({numpys})" if ours and numpys else ours for ours, numpys in zip(cells, beside)]
+            yield f"| {name} | " + " | ".join(row) + " |"
 
 
-main()
+def main():
+    sources = [(label, of_driver(program)) for label, program in (argument.split("=", 1) for argument in sys.argv[1:])]
+    for line in table(sources, of_numpy()):
+        print(line)
+
+
+if __name__ == "__main__":
+    main()
