@@ -9,6 +9,15 @@ abbrev pub is_place : ℤ → Bool
 is_place (pos p) = nat_lt p (2 ^ 63)
 is_place (negsuc p) = false
 
+-- a whole number that a `usize` holds
+abbrev pub is_usize : ℤ → Bool
+is_usize (pos p) = nat_lt p (2 ^ 64)
+is_usize (negsuc p) = false
+
+-- every index of the box lies at such a number
+abbrev pub ReachesUsizes : ℕ → List ℕ → List ℤ → Type 0
+ReachesUsizes first lengths strides = (i : List ℕ) → in_box lengths i ≡ true → is_usize (place_of first strides i) ≡ true
+
 -- every index of the box has a place
 abbrev pub ReachesPlaces : ℕ → List ℕ → List ℤ → Type 0
 ReachesPlaces offset lengths strides = (i : List ℕ) → in_box lengths i ≡ true → is_place (place_of offset strides i) ≡ true

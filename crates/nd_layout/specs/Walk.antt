@@ -1,7 +1,8 @@
 -- The places of a layout in row-major order of its indexes, one by one or by lanes.
-use Rattle.std.specs.Prelude.{◌∷◌, ◌⊎◌, ℕ, ◌+◌, ◌-◌, ◌*◌, ◌<◌, ◌≤◌, ◌≡◌, true, List, Option, MatchOption, length, take, slice_index, slice_index_or, ℤ, pos, ◌+ℤ◌, ◌*ℤ◌}
+use Rattle.std.specs.Prelude.{◌∷◌, ◌⊎◌, ℕ, ◌+◌, ◌-◌, ◌*◌, ◌<◌, ◌≤◌, ◌≡◌, true, List, Option, MatchOption, length, take, slice_index, slice_index_or, drop, ℤ, pos, ◌+ℤ◌, ◌-ℤ◌, ◌*ℤ◌}
 use Rattle.nd_shape_and_slice.specs.Shape.{in_box, size_of, row_rank, index_at}
 use Rattle.nd_shape_and_slice.specs.Place.{place_of, displacement_of, span_of}
+use Rattle.nd_layout.specs.Places.{ReachesUsizes}
 
 -- where the index of a row-major rank lies
 abbrev pub place_at_rank : ℕ → List ℕ → List ℤ → ℕ → ℤ
@@ -20,6 +21,19 @@ pub record StandsAt (offset : ℕ) (lengths : List ℕ) (strides : List ℤ) (ra
   pub inside : in_box lengths (take (length lengths) index) ≡ true
   pub ranked : row_rank lengths (take (length lengths) index) ≡ rank
   pub lies : pos place ≡ place_of offset strides (take (length lengths) index)
+
+-- the place is the index's, from a first place from which each index of the box has one
+abbrev pub IsOnItsWay : List ℕ → List ℤ → List ℕ → ℕ → Type 0
+IsOnItsWay lengths strides index place = (first : ℕ) × ReachesUsizes first lengths strides × (pos place ≡ place_of first strides index)
+
+-- where the index goes on to the next, this axis advances: it isn't at its end, and all behind it are
+abbrev pub Advances : List ℕ → List ℕ → ℕ → Type 0
+Advances lengths index axis = (axis < length lengths) × (slice_index index axis + 1 < slice_index lengths axis) × ((k : ℕ) → axis < k → k < length lengths → slice_index index k + 1 ≡ slice_index lengths k)
+
+-- the place has moved on by the stride of the axis that advances, and back by what the axes behind it had gone
+abbrev pub IsMovedOn : List ℕ → List ℤ → List ℕ → ℕ → ℕ → Type 0
+IsMovedOn lengths strides index place next =
+    (axis : ℕ) × Advances lengths index axis × (pos next ≡ (pos place +ℤ slice_index_or strides axis (pos 0)) -ℤ displacement_of (drop (axis + 1) strides) (drop (axis + 1) index))
 
 -- The lane has the places of the ranks from this one on, as many as it counts: the first lies at `place`, each
 -- next one a stride further. All of them are ranks of the box, and there is at least one.

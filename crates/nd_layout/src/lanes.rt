@@ -48,7 +48,7 @@ pub struct Lanes<'a> {
     ghost passed: { rank ≡ outer.rank * count },
     ghost checked: { HasCheckedSize lengths.now },
     ghost reach: { ReachesPlaces first lengths.now strides.now },
-    ghost cut: { IsCutInLanes first lengths.now strides.now outer.first outer.lengths.now outer.strides.now count stride },
+    ghost cut: { IsCutInLanes first lengths.now strides.now outer.first.value outer.lengths.now outer.strides.now count stride },
     ghost along: { 0 < size_of lengths.now → IsLastAxis lengths.now strides.now count stride },
 }
 

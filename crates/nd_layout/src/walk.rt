@@ -1,24 +1,36 @@
 //! A walk over the indexes of a box in row-major order. It moves a place along, and computes none from an index.
 
-ghost use Rattle.std.specs.Prelude.{◌≡◌, ◌+◌, ◌<◌, ◌≤◌, ◌^◌, ◌-ℤ◌, ◌*ℤ◌, true, min, pos, length, take};
+ghost use Rattle.std.specs.Prelude.{◌≡◌, ◌+◌, ◌<◌, ◌≤◌, ◌+ℤ◌, ◌-ℤ◌, ◌*ℤ◌, ℕ, true, min, pos, length, take};
 ghost use Rattle.nd_shape_and_slice.specs.Shape.{in_box, size_of, row_rank, index_at, HasCheckedSize};
 ghost use Rattle.nd_shape_and_slice.specs.Place.{place_of};
-ghost use Rattle.nd_layout.specs.Places.{is_place, ReachesPlaces};
-ghost use Rattle.nd_layout.specs.Walk.{StandsAt, IsPlaceAtRank};
+ghost use Rattle.nd_layout.specs.Places.{is_usize, ReachesUsizes};
+ghost use Rattle.nd_layout.specs.Walk.{StandsAt, IsPlaceAtRank, IsOnItsWay, IsMovedOn};
 
-use crate::layout::places::moved_by;
 use crate::runs::count_of;
 use nd_shape_and_slice::{MAX_AXES, is_empty_shape};
+use std::snapshot::Snapshot;
+
+/// The place that lies a stride further.
+#[inline]
+fn moved_on(place: usize, stride: isize) -> usize
+    requires { is_usize (pos place +ℤ stride) ≡ true }
+    ensures { pos result ≡ pos place +ℤ stride }
+{
+    if stride < 0 {
+        place - stride.unsigned_abs()
+    } else {
+        place + stride as usize
+    }
+}
 
 /// The place that lies a number of steps before another.
 #[inline]
 fn moved_back(place: usize, steps: usize, stride: isize) -> usize
-    requires from { place < 2 ^ 63 }
-    requires few { steps < 2 ^ 63 }
-    requires to { is_place (pos place -ℤ (pos steps *ℤ stride)) ≡ true }
+    requires { is_usize (pos place -ℤ (pos steps *ℤ stride)) ≡ true }
     ensures { pos result ≡ pos place -ℤ (pos steps *ℤ stride) }
 {
-    (place as isize - steps as isize * stride) as usize
+    let way = steps * stride.unsigned_abs();
+    if stride < 0 { place + way } else { place - way }
 }
 
 /// How many indexes a box has.
@@ -36,21 +48,15 @@ fn size(lengths: &[usize]) -> usize
 /// Moves an index of the box, at a place, to the next index in row-major order, and answers the place of that. The last
 /// axis advances by one stride; an axis that is at its end starts again, a stride back for each of its coordinates, and
 /// the axis before it advances. After the last index comes the first.
-fn advanced(
-    first: usize,
-    lengths: &[usize],
-    strides: &[isize],
-    index: &mut [usize],
-    place: usize,
-) -> usize
+fn advanced(lengths: &[usize], strides: &[isize], index: &mut [usize], place: usize) -> usize
     requires as_many { length strides.now ≡ length lengths.now }
     requires checked { HasCheckedSize lengths.now }
-    requires reach { ReachesPlaces first lengths.now strides.now }
     requires inside { in_box lengths.now index.old ≡ true }
-    requires lies { pos place ≡ place_of first strides.now index.old }
+    requires way { IsOnItsWay lengths.now strides.now index.old place }
     ensures inside { in_box lengths.now index.new ≡ true }
     ensures rank { row_rank lengths.now index.old + 1 < size_of lengths.now → row_rank lengths.now index.new ≡ row_rank lengths.now index.old + 1 }
-    ensures lies { pos result ≡ place_of first strides.now index.new }
+    ensures moves { row_rank lengths.now index.old + 1 < size_of lengths.now → IsMovedOn lengths.now strides.now index.old place result }
+    ensures lies { (first : ℕ) → pos place ≡ place_of first strides.now index.old → pos result ≡ place_of first strides.now index.new }
 {
     let mut place = place;
     let mut axis = lengths.len();
@@ -59,7 +65,7 @@ fn advanced(
         let coordinate = index[axis];
         if coordinate + 1 < lengths[axis] {
             index[axis] = coordinate + 1;
-            return moved_by(place, 1, strides[axis]);
+            return moved_on(place, strides[axis]);
         }
         index[axis] = 0;
         place = moved_back(place, coordinate, strides[axis]);
@@ -69,7 +75,6 @@ fn advanced(
 
 /// The same for an index that stands at the front of an array.
 fn advanced_front(
-    first: usize,
     lengths: &[usize],
     strides: &[isize],
     index: &mut [usize; MAX_AXES],
@@ -78,58 +83,60 @@ fn advanced_front(
     requires as_many { length strides.now ≡ length lengths.now }
     requires few { length lengths.now ≤ 32 }
     requires checked { HasCheckedSize lengths.now }
-    requires reach { ReachesPlaces first lengths.now strides.now }
     requires inside { in_box lengths.now (take (length lengths.now) index.old) ≡ true }
-    requires lies { pos place ≡ place_of first strides.now (take (length lengths.now) index.old) }
+    requires way { IsOnItsWay lengths.now strides.now (take (length lengths.now) index.old) place }
     ensures inside { in_box lengths.now (take (length lengths.now) index.new) ≡ true }
     ensures rank { row_rank lengths.now (take (length lengths.now) index.old) + 1 < size_of lengths.now → row_rank lengths.now (take (length lengths.now) index.new) ≡ row_rank lengths.now (take (length lengths.now) index.old) + 1 }
-    ensures lies { pos result ≡ place_of first strides.now (take (length lengths.now) index.new) }
+    ensures moves { row_rank lengths.now (take (length lengths.now) index.old) + 1 < size_of lengths.now → IsMovedOn lengths.now strides.now (take (length lengths.now) index.old) place result }
+    ensures lies { (first : ℕ) → pos place ≡ place_of first strides.now (take (length lengths.now) index.old) → pos result ≡ place_of first strides.now (take (length lengths.now) index.new) }
 {
     let axes = lengths.len();
-    advanced(first, lengths, strides, &mut index[..axes], place)
+    advanced(lengths, strides, &mut index[..axes], place)
 }
 
 /// A walk over the places of a layout, in row-major order of their indexes: a place, and a coordinate for each axis. It
-/// holds no element, no pointer and no memory of its own.
+/// holds no element, no pointer and no memory of its own. The first place is there for clauses alone: no code can compute
+/// a place from it and an index.
 #[derive(Drop)]
 pub struct Walk<'a> {
     /// The place of the index of zeros.
-    pub first: usize,
+    pub first: Snapshot<usize>,
     pub lengths: &'a [usize],
     pub strides: &'a [isize],
     /// How many places the walk has passed.
     pub rank: usize,
+    /// The place at which the walk stands, while there is one.
+    pub place: usize,
     size: usize,
-    place: usize,
     index: [usize; MAX_AXES],
     ghost as_many: { length strides.now ≡ length lengths.now },
     ghost few: { length lengths.now ≤ 32 },
     ghost checked: { HasCheckedSize lengths.now },
-    ghost reach: { ReachesPlaces first lengths.now strides.now },
+    ghost reach: { ReachesUsizes first.value lengths.now strides.now },
     ghost counted: { size ≡ size_of lengths.now },
     ghost within: { rank ≤ size_of lengths.now },
-    ghost stands: { rank < size_of lengths.now → StandsAt first lengths.now strides.now rank place index },
+    ghost stands: { rank < size_of lengths.now → StandsAt first.value lengths.now strides.now rank place index },
 }
 
 impl<'a> Walk<'a> {
-    ghost use Rattle.nd_layout.specs.Lanes.{IsSameWalk};
+    ghost use Rattle.nd_layout.specs.Lanes.{IsSameWalk, MovesOn};
 
-    /// The walk that stands at the first index, where there is one. Each index has a place.
+    /// The walk that stands at the first index, where there is one. The place of each index is a `usize`.
     pub fn new(first: usize, lengths: &'a [usize], strides: &'a [isize]) -> Self
         requires as_many { length strides.now ≡ length lengths.now }
         requires few { length lengths.now ≤ 32 }
         requires checked { HasCheckedSize lengths.now }
-        requires reach { ReachesPlaces first lengths.now strides.now }
-        ensures over { (result.first ≡ first) × (result.lengths.now ≡ lengths.now) × (result.strides.now ≡ strides.now) }
+        requires reach { ReachesUsizes first lengths.now strides.now }
+        ensures over { (result.first.value ≡ first) × (result.lengths.now ≡ lengths.now) × (result.strides.now ≡ strides.now) }
         ensures rank { result.rank ≡ 0 }
     {
         Walk {
-            first,
+            first: Snapshot::of(&first),
             lengths,
             strides,
             rank: 0,
-            size: size(lengths),
             place: first,
+            size: size(lengths),
             index: [0; MAX_AXES],
         }
     }
@@ -138,7 +145,7 @@ impl<'a> Walk<'a> {
     #[inline]
     #[tactic(auto, using(crate::proofs::WalkSteps::stands_there))]
     pub fn place(&self) -> Option<usize>
-        ensures { IsPlaceAtRank self.now.first self.now.lengths.now self.now.strides.now self.now.rank result }
+        ensures { IsPlaceAtRank self.now.first.value self.now.lengths.now self.now.strides.now self.now.rank result }
     {
         if self.rank < self.size {
             Some(self.place)
@@ -156,20 +163,16 @@ impl<'a> Walk<'a> {
         &self.index[..self.lengths.len()]
     }
 
-    /// Moves on to the next index. Once all are passed it stays.
+    /// Moves on to the next index: the place goes on by the stride of the axis that advances, and back by what the axes
+    /// behind it had gone, which start again. Once all are passed it stays.
     #[inline]
     pub fn advance(&mut self)
         ensures over { IsSameWalk self.old self.new }
         ensures rank { self.new.rank ≡ min (self.old.rank + 1) (size_of self.old.lengths.now) }
+        ensures moves { self.old.rank + 1 < size_of self.old.lengths.now → MovesOn self.old self.new }
     {
         if self.size - self.rank > 1 {
-            self.place = advanced_front(
-                self.first,
-                self.lengths,
-                self.strides,
-                &mut self.index,
-                self.place,
-            );
+            self.place = advanced_front(self.lengths, self.strides, &mut self.index, self.place);
             self.rank += 1;
         } else {
             self.rank = self.size;

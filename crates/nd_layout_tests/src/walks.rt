@@ -3,7 +3,7 @@
 ghost use Rattle.std.specs.Prelude.{◌≡◌, ◌<◌, ◌≤◌, ℕ, length, pos, slice_index, IfSome};
 ghost use Rattle.nd_shape_and_slice.specs.Shape.{size_of, HasCheckedSize};
 ghost use Rattle.nd_layout.specs.Ranks.{IsRun};
-ghost use Rattle.nd_layout.specs.Places.{ReachesPlaces};
+ghost use Rattle.nd_layout.specs.Places.{ReachesUsizes};
 ghost use Rattle.nd_layout.specs.Walk.{place_at_rank};
 
 use nd_layout::{Lane, Lanes, Layout, Walk};
@@ -14,7 +14,7 @@ fn list_places(first: usize, lengths: &[usize], strides: &[isize], out: &mut [us
     requires as_many { length strides.now ≡ length lengths.now }
     requires few { length lengths.now ≤ 32 }
     requires checked { HasCheckedSize lengths.now }
-    requires reach { ReachesPlaces first lengths.now strides.now }
+    requires reach { ReachesUsizes first lengths.now strides.now }
     requires long { length out.old ≡ size_of lengths.now }
     ensures { (rank : ℕ) → rank < size_of lengths.now → pos (slice_index out.new rank) ≡ place_at_rank first lengths.now strides.now rank }
 {
@@ -42,6 +42,22 @@ fn walks(rt: HostRuntime) {
     assert_eq!(rt; out, [2, 4, 6, 2, 4, 6]);
     list_places(1, &[1, 3, 1, 2], &[9, 4, 9, 1], &mut out);
     assert_eq!(rt; out, [1, 2, 5, 6, 9, 10]);
+}
+
+#[test]
+fn walks_where_no_isize_reaches(rt: HostRuntime) {
+    let far = 9_223_372_036_854_775_808;
+    let mut walk = Walk::new(far, &[1], &[1]);
+    assert_eq!(rt; walk.place(), Some(far));
+    walk.advance();
+    assert_eq!(rt; walk.place(), None);
+    let last = 18_446_744_073_709_551_615;
+    let mut out = [0; 6];
+    list_places(last, &[2, 3], &[-3, -1], &mut out);
+    assert_eq!(rt;
+        out,
+        [last, last - 1, last - 2, last - 3, last - 4, last - 5]
+    );
 }
 
 #[test]

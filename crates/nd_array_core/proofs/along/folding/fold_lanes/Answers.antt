@@ -17,7 +17,13 @@ use Rattle.nd_storage.proofs.AxisLanes.{next_rank}
 use Rattle.nd_storage.proofs.LaneNumbers.{got_before, got_end, longer}
 use Rattle.nd_array_core.proofs.AxisFolds.{LanesFolded, lanes_none, lanes_more, lane_takes, lanes_all}
 use Rattle.nd_array_core.proofs.AxisFolding.{fold_reach, fold_holds, fold_found, takes_same, folds_same}
+use Rattle.nd_layout.proofs.WalkSteps.{reaches_usizes}
 use Rattle.nd_array_core.proofs.along.folding.fold_lanes.Goals as goal
+
+pub new-walk-requires-clause-reach : goal.new-walk-requires-clause-reach
+new-walk-requires-clause-reach g c =
+    let outer = c.args.outer.now in
+    rw (c.slice.ensures.lengths, c.slice-2.ensures) (reaches_usizes outer.offset (g.D.Smaller.Dimension.lengths outer.dim) (g.D.Smaller.Strides.StrideList.strides_of outer.strides) outer.reach)
 
 pub lane_from-requires-clause-reach : goal.lane_from-requires-clause-reach
 unfolding meaning_of memory_layout_of

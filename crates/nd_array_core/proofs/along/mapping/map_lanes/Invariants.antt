@@ -10,7 +10,7 @@ use Rattle.nd_array_core.proofs.along.mapping.map_lanes.Given as goal
 
 abbrev pub invariant-loop-place : goal.invariant-loop-place
 invariant-loop-place g l =
-    (l.walk.first ≡ l.fn.outer.offset) × (l.walk.lengths.now ≡ indexed_shape (shape_of l.fn.array) l.fn.axis.0) × (l.walk.strides.now ≡ g.D.Smaller.Strides.StrideList.strides_of l.fn.outer.strides)
+    (l.walk.first.value ≡ l.fn.outer.offset) × (l.walk.lengths.now ≡ indexed_shape (shape_of l.fn.array) l.fn.axis.0) × (l.walk.strides.now ≡ g.D.Smaller.Strides.StrideList.strides_of l.fn.outer.strides)
     × (size_of (indexed_shape (shape_of l.fn.array) l.fn.axis.0) ≤ vec_capacity l.items)
     × (vec_len l.items ≡ l.walk.rank)
     × IsAnsweredTo (AnswersAt (AnswersLane g.F.FnMut) (lanes_of (meaning_of l.fn.array) l.fn.axis.0).at) (indexed_shape (shape_of l.fn.array) l.fn.axis.0, RowMajor) l.fn.f l.items.items l.walk.rank l.f

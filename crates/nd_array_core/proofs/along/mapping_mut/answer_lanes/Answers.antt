@@ -9,7 +9,11 @@ use Rattle.nd_storage.specs.along.AxisLanes.{lane_place}
 use Rattle.nd_array_core.specs.along.LanesWritten.{MayBeHandedLane, AreHandedOut}
 use Rattle.nd_storage.proofs.AxisLanes.{lane_goes, next_rank}
 use Rattle.nd_array_core.proofs.LentLanes.{lane_line, leaves_same, handed_none, handed_next, handed_more, kept_places}
+use Rattle.nd_layout.proofs.WalkSteps.{reaches_usizes}
 use Rattle.nd_array_core.proofs.along.mapping_mut.answer_lanes.Goals as goal
+
+pub new-walk-requires-clause-reach : goal.new-walk-requires-clause-reach
+new-walk-requires-clause-reach g c = reaches_usizes c.args.first c.args.lengths.now c.args.strides.now c.requires.reach
 
 pub lane_from-requires-clause-reach : goal.lane_from-requires-clause-reach
 lane_from-requires-clause-reach g c k below =

@@ -7,7 +7,7 @@ use Rattle.nd_array_core.proofs.along.mapping_mut.answer_lanes.Given as goal
 
 abbrev pub invariant-loop-place : goal.invariant-loop-place
 invariant-loop-place g l =
-    (l.walk.first ≡ l.fn.first) × (l.walk.lengths.now ≡ l.fn.lengths) × (l.walk.strides.now ≡ l.fn.strides)
+    (l.walk.first.value ≡ l.fn.first) × (l.walk.lengths.now ≡ l.fn.lengths) × (l.walk.strides.now ≡ l.fn.strides)
     × (size_of l.fn.lengths ≤ vec_capacity l.items)
     × (vec_len l.items ≡ l.walk.rank)
     × AreHandedOut g.F.FnMut (lane_place l.fn.first l.fn.lengths l.fn.strides l.fn.stride) (size_of l.fn.lengths) l.fn.count l.walk.rank (g.S.Data.stored l.fn.storage) (g.S.Data.stored l.storage) l.fn.f (l.now, l.items.items)

@@ -1,6 +1,7 @@
 use Rattle.std.proofs.Common.{arith, rules, slice_index_or, pos, w64, FitsSigned}
 use Rattle.std.proofs.lemmas.Int.{to_z-of_z}
 use Rattle.nd_layout.proofs.LaneSteps.{nothing_passed, checked-front, reach_front, cut_whole, cut_last, along_none, along_last}
+use Rattle.nd_layout.proofs.WalkSteps.{reaches_usizes}
 use Rattle.nd_layout.proofs.lanes.Lanes.new.Goals as goal
 
 pub invariant_of-result : goal.invariant_of-result
@@ -13,13 +14,16 @@ invariant_of-result c = record {
   along = λ some. along_none c.args.lengths.now c.args.strides.now c.requires.as_many (c.outer_axes-outer.ensures.whole c.if-outer-lengths.true some);
 }
 
+pub new-requires-clause-reach : goal.new-requires-clause-reach
+new-requires-clause-reach c = reaches_usizes c.args.first c.args.lengths.now c.args.strides.now c.requires.reach
+
 pub new-requires-2-clause-checked : goal.new-requires-2-clause-checked
 new-requires-2-clause-checked c = omega (arith, checked-front c.args.lengths.now c.outer_axes-outer.result, c.requires.checked)
 
 pub new-requires-2-clause-reach : goal.new-requires-2-clause-reach
 new-requires-2-clause-reach c =
     let last = c.outer_axes-outer.ensures.last (omega (arith, c.outer_axes-outer.ensures.within, c.if-outer-lengths.false)) in
-    reach_front c.args.first c.args.lengths.now c.args.strides.now c.requires.as_many c.outer_axes-outer.result last.0 last.1 c.requires.reach
+    reaches_usizes c.args.first _ _ (reach_front c.args.first c.args.lengths.now c.args.strides.now c.requires.as_many c.outer_axes-outer.result last.0 last.1 c.requires.reach)
 
 pub invariant_of-result-2 : goal.invariant_of-result-2
 invariant_of-result-2 c =

@@ -7,8 +7,8 @@ invariant_of-result c = record {
   as_many = c.requires.as_many;
   few = c.requires.few;
   checked = c.requires.checked;
-  reach = c.requires.reach;
+  reach = rw c.of.ensures c.requires.reach;
   counted = c.size.ensures;
   within = omega arith;
-  stands = λ some. stands_first c.args.first c.args.lengths.now c.args.strides.now _ c.requires.few refl some;
+  stands = λ some. rw c.of.ensures (stands_first c.args.first c.args.lengths.now c.args.strides.now _ c.requires.few refl some);
 }

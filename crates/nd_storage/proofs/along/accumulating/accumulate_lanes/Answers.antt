@@ -8,7 +8,11 @@ use Rattle.nd_storage.specs.along.Accumulated.{AreAccumulated}
 use Rattle.nd_storage.proofs.AxisLanes.{lane_goes, next_rank}
 use Rattle.nd_storage.proofs.Rotating.{lane_apart}
 use Rattle.nd_storage.proofs.LanesAccumulating.{given_accumulable, given_holds, given_accumulated}
+use Rattle.nd_layout.proofs.WalkSteps.{reaches_usizes}
 use Rattle.nd_storage.proofs.along.accumulating.accumulate_lanes.Goals as goal
+
+pub new-outer-requires-clause-reach : goal.new-outer-requires-clause-reach
+new-outer-requires-clause-reach g c = reaches_usizes c.args.first c.args.lengths.now c.args.strides.now c.requires.reach
 
 pub lane_from-requires-clause-reach : goal.lane_from-requires-clause-reach
 lane_from-requires-clause-reach g c k below =

@@ -7,7 +7,11 @@ use Rattle.nd_storage.specs.along.AxisLanes.{lane_place}
 use Rattle.nd_storage.specs.along.Removed.{rotated}
 use Rattle.nd_storage.proofs.AxisLanes.{lane_goes, next_rank}
 use Rattle.nd_storage.proofs.Rotating.{lane_apart, lane_holds, lane_moved, rotated_below}
+use Rattle.nd_layout.proofs.WalkSteps.{reaches_usizes}
 use Rattle.nd_storage.proofs.along.removal.rotate_lanes.Goals as goal
+
+pub new-outer-requires-clause-reach : goal.new-outer-requires-clause-reach
+new-outer-requires-clause-reach g c = reaches_usizes c.args.first c.args.lengths.now c.args.strides.now c.requires.reach
 
 pub lane_from-requires-clause-reach : goal.lane_from-requires-clause-reach
 lane_from-requires-clause-reach g c k below =

@@ -6,7 +6,7 @@ use Rattle.nd_storage.proofs.along.removal.rotate_lanes.Given as goal
 
 abbrev pub invariant-loop-place : goal.invariant-loop-place
 invariant-loop-place g l =
-    (l.outer.first ≡ l.fn.first) × (l.outer.lengths.now ≡ l.fn.lengths) × (l.outer.strides.now ≡ l.fn.strides)
+    (l.outer.first.value ≡ l.fn.first) × (l.outer.lengths.now ≡ l.fn.lengths) × (l.outer.strides.now ≡ l.fn.strides)
     × AreMovedBy (g.S.Data.stored l.fn.storage) (g.S.Data.stored l.storage) (lane_place l.fn.first l.fn.lengths l.fn.strides l.fn.stride) l.outer.rank l.fn.count (rotated l.fn.from l.fn.count)
     × (g.S.DataMut.frame l.storage ≡ g.S.DataMut.frame l.fn.storage)
 

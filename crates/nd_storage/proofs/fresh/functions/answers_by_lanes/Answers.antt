@@ -5,6 +5,7 @@ use Rattle.nd_layout.specs.Ranks.{slowest_first}
 use Rattle.nd_storage.specs.FreeOrder.{AnswersIndex, TakesIndex}
 use Rattle.nd_storage.proofs.Lanes.{rests_reach, outer_checked, outer_long, lane_at, lanes_done}
 use Rattle.nd_storage.proofs.Answered.{IsAnsweredTo, answered_next, answered_more, answered_all}
+use Rattle.nd_layout.proofs.WalkSteps.{reaches_usizes}
 use Rattle.nd_storage.proofs.fresh.functions.answers_by_lanes.Goals as goal
 
 pub new-outer-requires-clause-checked : goal.new-outer-requires-clause-checked
@@ -13,7 +14,7 @@ new-outer-requires-clause-checked g c =
 
 pub new-outer-requires-clause-reach : goal.new-outer-requires-clause-reach
 new-outer-requires-clause-reach g c =
-    rw (c.slice-2.ensures, c.zero_strides-strides.ensures) (rests_reach (length (g.D.Dimension.lengths c.args.dim.now)) (c.ndim-last.result - 1) (take (c.ndim-last.result - 1) c.slice.result.now))
+    rw (c.slice-2.ensures, c.zero_strides-strides.ensures) (reaches_usizes 0 _ _ (rests_reach (length (g.D.Dimension.lengths c.args.dim.now)) (c.ndim-last.result - 1) (take (c.ndim-last.result - 1) c.slice.result.now)))
 
 pub put_outer-requires : goal.put_outer-requires
 put_outer-requires g c =
