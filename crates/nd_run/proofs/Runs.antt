@@ -1,9 +1,11 @@
 -- A run, call by call.
-use Rattle.std.proofs.Common.{◌≡◌, Bool, ℕ, suc, ◌+◌, ◌<◌, ◌≤◌, List, [], ◌∷◌, ◌++◌, length, take, drop, get_or, refl, ap, sym, ◌∙◌, subst, inr, add-one, drop-cons}
-use Rattle.std.proofs.lemmas.List.{take_more, take_all, take-append-drop}
+use Rattle.std.proofs.Common.{◌≡◌, Bool, ℕ, suc, ◌+◌, ◌<◌, ◌≤◌, List, [], ◌∷◌, ◌++◌, map, Result, Ok, Err, length, take, drop, get_or, refl, ap, sym, ◌∙◌, subst, inr, arith, add-one, drop-cons}
+use Rattle.std.proofs.lemmas.List.{take_more, take_all, take-append-drop, length-map}
+use Rattle.std.specs.Prelude.{IfErr}
 use Rattle.nd_array_core.specs.Meaning.{Meaning}
 use Rattle.nd_run.specs.Calls.{Asked, Said}
-use Rattle.nd_run.specs.Fold.{reply_to, meaning_after, replies_to, end_of, MayLackMemory, StopsBefore}
+use Rattle.nd_run.specs.Fold.{reply_to, meaning_after, replies_to, end_of, MayLackMemory, StopsAt, StopsBefore, KeepsReplies, replies_before}
+use Rattle.nd_run.specs.declared.run.RunFault.{RunFault}
 
 module _ {A : Type 0} (eq : A → A → Bool) where
   pub end_of-append : (xs ys : List (Asked A)) (m : Meaning A) → end_of eq (xs ++ ys) m ≡ end_of eq ys (end_of eq xs m)
@@ -36,7 +38,21 @@ module _ {A : Type 0} (eq : A → A → Bool) where
       let whole : take k calls ≡ calls = take_all k calls h in
       (all.replied ∙ ap (λ t. replies_to eq t start) whole, all.left ∙ ap (λ t. end_of eq t start) whole)
 
-  pub run_stops : (calls : List (Asked A)) (start array : Meaning A) (replies : List (Said A)) (k : ℕ) (call : Asked A) → k < length calls → get_or calls k call ≡ call → MayLackMemory call array → IsRunBelow calls start replies array k → StopsBefore eq calls start replies
+  pub run_stops : (calls : List (Asked A)) (start array : Meaning A) (replies : List (Said A)) (k : ℕ) (call : Asked A) → k < length calls → get_or calls k call ≡ call → MayLackMemory call array → IsRunBelow calls start replies array k → StopsAt eq calls start replies
   run_stops calls start array replies k call lt at lacks so_far =
       let cut : calls ≡ take k calls ++ call ∷ drop (k + 1) calls = sym (take-append-drop k calls) ∙ ap (λ t. take k calls ++ t) (rw (add-one, drop-cons calls k call) (ap (λ x. x ∷ drop (suc k) calls) at)) in
-      inr (take k calls, call, drop (k + 1) calls, cut, so_far.replied, subst (MayLackMemory call) so_far.left lacks)
+      (take k calls, call, drop (k + 1) calls, cut, so_far.replied, subst (MayLackMemory call) so_far.left lacks)
+
+  -- a run that stopped did so behind the replies that it has, whatever room their list has
+  module _ {X : Type 0} (calls : List (Asked A)) (m : Meaning A) where
+    pub stops_before : (r : Result X (RunFault A)) → IfErr r (λ f. StopsAt eq calls m (replies_before f)) → IfErr r (λ f. StopsBefore eq calls m (replies_before f))
+    stops_before (Ok x) h = tt
+    stops_before (Err f) h = inr h
+
+    pub keeps_replies : (r : Result X (RunFault A)) → IfErr r (λ f. StopsAt eq calls m (replies_before f)) → IfErr r (KeepsReplies eq calls m)
+    keeps_replies (Ok x) h = tt
+    keeps_replies (Err f) h = λ _. h
+
+-- a list that isn't empty
+pub some_calls : {X Y : Type 0} (f : X → Y) (xs : List X) → (length xs ≡ 0 → ⊥) → 0 < length (map f xs)
+some_calls f xs h = omega (arith, h, length-map xs f)

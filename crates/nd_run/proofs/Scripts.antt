@@ -1,5 +1,5 @@
 -- Reading lines one after the other, as a loop does.
-use Rattle.std.proofs.Common.{◌≡◌, ℕ, ◌+◌, true, false, eqb, length, List, [], ◌∷◌, ◌++◌, ℤ, Result, Ok, Err, refl, sym, ap, ◌∙◌, append_assoc, arith}
+use Rattle.std.proofs.Common.{◌≡◌, ℕ, ◌+◌, Bool, true, false, cond, eqb, length, List, [], ◌∷◌, ◌++◌, ℤ, Result, Ok, Err, refl, sym, ap, subst, ◌∙◌, inl, inr, append_assoc, arith}
 use Rattle.std.proofs.lemmas.List.{append-nil}
 use Rattle.std.proofs.lemmas.Bool.{eqb-true}
 use Rattle.nd_array_core.specs.Meaning.{Meaning}
@@ -7,7 +7,10 @@ use Rattle.nd_run.specs.declared.reader.fault.ScriptError.{ScriptError}
 use Rattle.nd_run.specs.declared.reader.fault.ScriptError.TheVariants.{BadLine, Memory}
 use Rattle.nd_run.specs.Calls.{Asked}
 use Rattle.nd_text.specs.Words.{lines_of, words_of, is_wordless}
-use Rattle.nd_run.specs.Script.{◌>>=◌, AskedScript, FailsAt, read_or_number, call_in, start_in, calls_from, script_from}
+use Rattle.nd_run.specs.Grammar.{AreAll, IsStart, IsCall}
+use Rattle.nd_run.specs.Script.{◌>>=◌, AskedScript, worded_lines, MayLackIn, MayLackInCalls, FailsAt, read_or_number, call_in, start_in, calls_from, script_from}
+use Rattle.nd_run.proofs.Rows.{call_takes, start_takes}
+use Rattle.nd_run.proofs.ScriptLaws.{numbered_ok}
 
 -- a text without bytes has no line
 pub lines_none : (text : List ℕ) → true ≡ eqb (length text) 0 → lines_of text ≡ []
@@ -86,3 +89,66 @@ unfolding script_from
 script_read n line lines rest start calls total e some h g so_far =
     let one : script_from n lines ≡ Ok (record { start = start; calls = calls }) = rw (e, some, h, g) refl in
     sym so_far ∙ one
+
+-- ---- the lines before a want of memory
+
+worded_by : (t : Bool) (line : List ℕ) (xs ys : List (List ℕ)) → worded_lines (xs ++ ys) ≡ worded_lines xs ++ worded_lines ys
+    → cond t (worded_lines (xs ++ ys)) (words_of line ∷ worded_lines (xs ++ ys)) ≡ cond t (worded_lines xs) (words_of line ∷ worded_lines xs) ++ worded_lines ys
+worded_by true line xs ys e = e
+worded_by false line xs ys e = ap (λ ls. words_of line ∷ ls) e
+
+pub worded-append : (xs ys : List (List ℕ)) → worded_lines (xs ++ ys) ≡ worded_lines xs ++ worded_lines ys
+worded-append [] ys = refl
+worded-append (line ∷ xs) ys = worded_by (is_wordless (words_of line)) line xs ys (worded-append xs ys)
+
+all_more : {W X : Type 0} (Is : W → X → Type 0) (ws : List W) (xs : List X) (w : W) (x : X) → AreAll Is ws xs → Is w x → AreAll Is (ws ++ w ∷ []) (xs ++ x ∷ [])
+all_more Is [] [] w x all is = (is, tt)
+all_more Is [] (y ∷ ys) w x all is = absurd all
+all_more Is (v ∷ vs) [] w x all is = absurd all
+all_more Is (v ∷ vs) (y ∷ ys) w x all is = (all.0, all_more Is vs ys w x all.1 is)
+
+-- the calls in front of these lines were read
+abbrev pub AreReadTo : List (List ℕ) → List (List ℕ) → List (Asked ℤ) → Type 0
+AreReadTo lines rest calls = (front : List (List ℕ)) × (lines ≡ front ++ rest) × AreAll IsCall (worded_lines front) calls
+
+one_more : (lines front rest more : List (List ℕ)) (line : List ℕ) → lines ≡ front ++ rest → rest ≡ line ∷ more → lines ≡ (front ++ line ∷ []) ++ more
+one_more lines front rest more line e f = e ∙ (ap (λ (ls : List (List ℕ)). front ++ ls) f ∙ sym (append_assoc front (line ∷ []) more))
+
+worded_one : (t : Bool) (line : List ℕ) → is_wordless (words_of line) ≡ t → worded_lines (line ∷ []) ≡ cond t [] (words_of line ∷ [])
+worded_one t line e = rw e refl
+
+pub read_skip : (lines rest more : List (List ℕ)) (line : List ℕ) (calls : List (Asked ℤ)) → rest ≡ line ∷ more → is_wordless (words_of line) ≡ true → AreReadTo lines rest calls → AreReadTo lines more calls
+read_skip lines rest more line calls e none (front, parts, all) =
+    let same : worded_lines (front ++ line ∷ []) ≡ worded_lines front = worded-append front (line ∷ []) ∙ (ap (λ ls. worded_lines front ++ ls) (worded_one true line none) ∙ append-nil (worded_lines front)) in
+    (front ++ line ∷ [], one_more lines front rest more line parts e, subst (λ ws. AreAll IsCall ws calls) (sym same) all)
+
+pub read_more : (lines rest more : List (List ℕ)) (line : List ℕ) (calls : List (Asked ℤ)) (call : Asked ℤ) (n : ℕ) → rest ≡ line ∷ more → is_wordless (words_of line) ≡ false → read_or_number n (call_in line) ≡ Ok call → AreReadTo lines rest calls → AreReadTo lines more (calls ++ call ∷ [])
+read_more lines rest more line calls call n e some h (front, parts, all) =
+    let same : worded_lines (front ++ line ∷ []) ≡ worded_lines front ++ words_of line ∷ [] = worded-append front (line ∷ []) ∙ ap (λ ls. worded_lines front ++ ls) (worded_one false line some) in
+    let is : IsCall (words_of line) call = call_takes (length line) (words_of line) call (numbered_ok n (call_in line) call h) in
+    (front ++ line ∷ [], one_more lines front rest more line parts e, subst (λ ws. AreAll IsCall ws (calls ++ call ∷ [])) (sym same) (all_more IsCall (worded_lines front) calls (words_of line) call all is))
+
+pub read_stops : (lines rest more : List (List ℕ)) (line : List ℕ) (calls : List (Asked ℤ)) → rest ≡ line ∷ more → is_wordless (words_of line) ≡ false → AreReadTo lines rest calls → MayLackInCalls lines
+read_stops lines rest more line calls e some (front, parts, all) = (front, line, more, parts ∙ ap (λ (ls : List (List ℕ)). front ++ ls) e, some, calls, all)
+
+-- the lines in front of these have no words
+abbrev pub AreSkippedTo : List (List ℕ) → List (List ℕ) → Type 0
+AreSkippedTo lines rest = (front : List (List ℕ)) × (lines ≡ front ++ rest) × (worded_lines front ≡ [])
+
+pub skip_more : (lines rest more : List (List ℕ)) (line : List ℕ) → rest ≡ line ∷ more → is_wordless (words_of line) ≡ true → AreSkippedTo lines rest → AreSkippedTo lines more
+skip_more lines rest more line e none (front, parts, skipped) =
+    let same : worded_lines (front ++ line ∷ []) ≡ [] = worded-append front (line ∷ []) ∙ (ap (λ ls. worded_lines front ++ ls) (worded_one true line none) ∙ (append-nil (worded_lines front) ∙ skipped)) in
+    (front ++ line ∷ [], one_more lines front rest more line parts e, same)
+
+-- want of memory in the start, or in a call behind it
+pub start_stops : (lines rest more : List (List ℕ)) (line : List ℕ) → rest ≡ line ∷ more → is_wordless (words_of line) ≡ false → AreSkippedTo lines rest → MayLackIn lines
+start_stops lines rest more line e some (front, parts, skipped) = (front, line, more, parts ∙ ap (λ (ls : List (List ℕ)). front ++ ls) e, some, inl skipped)
+
+pub calls_stop_in : (lines rest more : List (List ℕ)) (line : List ℕ) (start : Meaning ℤ) (n : ℕ) → rest ≡ line ∷ more → is_wordless (words_of line) ≡ false → read_or_number n (start_in line) ≡ Ok start → AreSkippedTo lines rest → MayLackInCalls more → MayLackIn lines
+calls_stop_in lines rest more line start n e some h (front, parts, skipped) (before, last, back, split, words, calls, all) =
+    let script : AskedScript = record { start = start; calls = calls } in
+    let is : IsStart (words_of line) start = start_takes (words_of line) start (numbered_ok n (start_in line) start h) in
+    let worded : worded_lines (front ++ line ∷ before) ≡ words_of line ∷ worded_lines before = worded-append front (line ∷ before) ∙ (ap (λ ls. ls ++ worded_lines (line ∷ before)) skipped ∙ rw some refl) in
+    let cut : lines ≡ (front ++ line ∷ before) ++ (last ∷ back) =
+    parts ∙ (ap (λ (ls : List (List ℕ)). front ++ ls) (e ∙ ap (λ (ls : List (List ℕ)). line ∷ ls) split) ∙ sym (append_assoc front (line ∷ before) (last ∷ back))) in
+    (front ++ line ∷ before, last, back, cut, words, inr (script, (words_of line, worded_lines before, worded, is, all)))

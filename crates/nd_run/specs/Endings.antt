@@ -1,14 +1,11 @@
 -- How a script ends, what is written then, and the status.
-use Rattle.std.specs.Prelude.{◌≡◌, ℕ, ℤ, Bool, true, false, List, [], ◌++◌, map, Option, Result, Ok, Err, ◌⊎◌, codes, if◌then◌else◌}
+use Rattle.std.specs.Prelude.{◌≡◌, ◌<◌, length, ℕ, ℤ, Bool, true, false, List, [], ◌++◌, map, Result, Ok, Err, ◌⊎◌, codes, if◌then◌else◌}
 use Rattle.std.specs.Fmt.{decimal}
-use Rattle.nd_text.specs.declared.watched.Watched.{Watched}
 use Rattle.nd_run.specs.declared.outcome.Outcome.{Outcome}
 use Rattle.nd_run.specs.declared.outcome.Outcome.TheVariants as outcomes
 use Rattle.nd_run.specs.Calls.{Said, said_reply}
-use Rattle.nd_text.specs.Puts.{TakesText}
 use Rattle.nd_run.specs.Script.{AskedScript, IsScript, IsFirstBad}
 use Rattle.nd_run.specs.Text.{replies_text, array_text}
-use Rattle.nd_text.specs.Watched.{watched_failed}
 use Rattle.nd_text.specs.Words.{lines_of}
 
 -- an end: the replies and the array at the end, the number of a bad line, the replies before memory was
@@ -59,7 +56,7 @@ is_load_failure (Err outcome) = is_no_input (ending outcome)
 abbrev pub EndsUnloaded : List ℕ → Ending → Type 0
 EndsUnloaded bytes (Finished replies lengths elements) = ⊥
 EndsUnloaded bytes (BadAt number) = IsFirstBad (lines_of bytes) number
-EndsUnloaded bytes (OutOfMemory replies) = replies ≡ []
+EndsUnloaded bytes (OutOfMemory replies) = (0 < length bytes) × (replies ≡ [])
 EndsUnloaded bytes NoInput = Unit {0}
 
 -- what loading gives of these bytes
@@ -71,11 +68,15 @@ Loads view bytes (Err outcome) = EndsUnloaded bytes (ending outcome)
 -- replies that may come before memory is refused
 
 module _ (Runs : AskedScript → List (Said ℤ) → List ℕ → List ℤ → Type 0) (Stops : AskedScript → List (Said ℤ) → Type 0) where
+  -- memory may be refused on these bytes behind these replies: where there are none, while the bytes are read
+  abbrev pub LacksMemory : List ℕ → List (Said ℤ) → Type 0
+  LacksMemory bytes replies = ((0 < length bytes) × (replies ≡ [])) ⊎ ((script : AskedScript) × IsScript (lines_of bytes) script × Stops script replies)
+
   -- how a script in these bytes may end
   abbrev pub Ends : List ℕ → Ending → Type 0
   Ends bytes (Finished replies lengths elements) = (script : AskedScript) × IsScript (lines_of bytes) script × Runs script replies lengths elements
   Ends bytes (BadAt number) = IsFirstBad (lines_of bytes) number
-  Ends bytes (OutOfMemory replies) = (replies ≡ []) ⊎ ((script : AskedScript) × IsScript (lines_of bytes) script × Stops script replies)
+  Ends bytes (OutOfMemory replies) = LacksMemory bytes replies
   Ends bytes NoInput = Unit {0}
 
   -- how running a script may end
@@ -84,7 +85,3 @@ module _ (Runs : AskedScript → List (Said ℤ) → List ℕ → List ℤ → T
   RunsTo script (BadAt number) = ⊥
   RunsTo script (OutOfMemory replies) = Stops script replies
   RunsTo script NoInput = ⊥
-
-  -- some such end is written, with its status: the one without input exactly where a read failed
-  abbrev pub Driven : {W : Type 0} → (W → Option (List ℕ)) → List ℕ → Bool → Watched W → Watched W → ℕ → Type 0
-  Driven contents bytes failed old new status = (end : Ending) × (failed ≡ is_no_input end) × Ends bytes end × TakesText contents old new (ending_text end) × (status ≡ status_of (watched_failed new) end)

@@ -1,6 +1,6 @@
 -- What a list of calls answers, and what it leaves of an array's meaning: a fold over the calls. No view, borrow
 -- or storage occurs.
-use Rattle.std.specs.Prelude.{◌≡◌, ◌+◌, ◌^◌, ◌==◌, ℕ, nat_eq, nat_lt, nat_le, slice_index, slice_set, length, Bool, Option, None, true, false, not, ◌||◌, List, [], ◌∷◌, ◌++◌, Result, Ok, Err, ◌⊎◌}
+use Rattle.std.specs.Prelude.{◌≡◌, ◌<◌, ◌+◌, ◌^◌, ◌==◌, ℕ, nat_eq, nat_lt, nat_le, slice_index, slice_set, length, vec_capacity, Bool, Option, None, true, false, not, ◌||◌, List, [], ◌∷◌, ◌++◌, Result, Ok, Err, ◌⊎◌}
 use Rattle.nd_shape_and_slice.specs.Shape.{in_box}
 use Rattle.nd_array_core.specs.Meaning.{Meaning, meaning_through}
 use Rattle.nd_shape_and_slice.specs.FirstIndex.{first_index}
@@ -190,13 +190,24 @@ abbrev pub end_of : {A : Type 0} → (A → A → Bool) → List (Asked A) → M
 end_of eq [] m = m
 end_of eq (call ∷ calls) m = end_of eq calls (meaning_after eq call m)
 
--- The replies up to a want of memory: none, or those to a front of the calls whose next one may lack memory.
+-- the replies to a front of the calls, whose next one may lack memory
+abbrev pub StopsAt : {A : Type 0} → (A → A → Bool) → List (Asked A) → Meaning A → List (Said A) → Type 0
+StopsAt {A = A} eq calls m replies =
+    (front : List (Asked A)) × (call : Asked A) × (rest : List (Asked A)) × (calls ≡ front ++ (call ∷ rest))
+    × (replies ≡ replies_to eq front m) × MayLackMemory call (end_of eq front m)
+
+-- The replies up to a want of memory: these, or none where the list of replies was refused, which no calls don't ask for.
 abbrev pub StopsBefore : {A : Type 0} → (A → A → Bool) → List (Asked A) → Meaning A → List (Said A) → Type 0
-StopsBefore {A = A} eq calls m replies =
-    (replies ≡ [])
-    ⊎ ((front : List (Asked A)) × (call : Asked A) × (rest : List (Asked A)) × (calls ≡ front ++ (call ∷ rest))
-    × (replies ≡ replies_to eq front m) × MayLackMemory call (end_of eq front m))
+StopsBefore eq calls m replies = ((0 < length calls) × (replies ≡ [])) ⊎ StopsAt eq calls m replies
 
 -- the replies of a run that stopped
 abbrev pub replies_before : {A : Type 0} → RunFault A → List (Said A)
 replies_before (faults.Memory replies) = map said_reply replies.items
+
+-- the room of their list
+abbrev pub replies_room : {A : Type 0} → RunFault A → ℕ
+replies_room (faults.Memory replies) = vec_capacity replies
+
+-- where that list has room, it has the reply to each call before the one that was refused memory
+abbrev pub KeepsReplies : {A : Type 0} → (A → A → Bool) → List (Asked A) → Meaning A → RunFault A → Type 0
+KeepsReplies eq calls m fault = 0 < replies_room fault → StopsAt eq calls m (replies_before fault)

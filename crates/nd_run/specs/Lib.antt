@@ -4,6 +4,7 @@ pub mod Acts
 pub mod Placing
 pub mod Meaning
 pub mod Endings
+pub mod Driven
 pub mod Grammar
 pub mod Reading
 pub mod Script

@@ -1,9 +1,10 @@
 -- A script: a line that starts with an array, and a call in each later line with words.
-use Rattle.std.specs.Prelude.{◌≡◌, ℕ, ◌+◌, false, List, [], ◌∷◌, ◌++◌, length, ℤ, Option, None, Some, Result, Ok, Err, ◌⊎◌, if◌then◌else◌, map}
+use Rattle.std.specs.Prelude.{◌≡◌, ℕ, ◌+◌, Bool, true, false, List, [], ◌∷◌, ◌++◌, length, ℤ, Option, None, Some, Result, Ok, Err, ◌⊎◌, if◌then◌else◌, map}
 use Rattle.nd_array_core.specs.Meaning.{Meaning, meaning_of}
 use Rattle.nd_run.specs.declared.reader.fault.ScriptError.{ScriptError}
 use Rattle.nd_run.specs.declared.reader.fault.ScriptError.TheVariants.{BadLine, Memory}
 use Rattle.nd_run.specs.declared.reader.Script.{Script}
+use Rattle.nd_run.specs.declared.reader.lines.LineReader.{LineReader}
 use Rattle.nd_run.specs.Calls.{Asked, asked_call, boxed}
 use Rattle.nd_run.specs.Grammar.{AreAll, IsStart, IsCall}
 use Rattle.nd_run.specs.Reading.{call_of, start_of}
@@ -47,6 +48,22 @@ IsBadFrom n lines bad =
 abbrev pub IsFirstBad : List (List ℕ) → ℕ → Type 0
 IsFirstBad lines bad = IsBadFrom 1 lines bad
 
+-- Where reading may lack memory: in a line with words, behind lines that can be read.
+abbrev pub MayLackIn : List (List ℕ) → Type 0
+MayLackIn lines =
+    (front : List (List ℕ)) × (line : List ℕ) × (back : List (List ℕ)) × (lines ≡ front ++ (line ∷ back)) × (is_wordless (words_of line) ≡ false)
+    × ((worded_lines front ≡ []) ⊎ ((script : AskedScript) × IsScript front script))
+
+-- the same of the lines behind the start
+abbrev pub MayLackInCalls : List (List ℕ) → Type 0
+MayLackInCalls lines =
+    (front : List (List ℕ)) × (line : List ℕ) × (back : List (List ℕ)) × (lines ≡ front ++ (line ∷ back)) × (is_wordless (words_of line) ≡ false)
+    × (calls : List (Asked ℤ)) × AreAll IsCall (worded_lines front) calls
+
+-- memory was refused to a reader of lines
+abbrev pub lacked_memory : LineReader → Bool
+lacked_memory reader = reader.lacked
+
 -- ---- reading, line by line, up to the first bad one
 
 infixl 10 ◌>>=◌
@@ -81,3 +98,9 @@ FailsAt (BadLine n) read = read ≡ Err n
 abbrev pub GivesScript : {X Y : Type 0} → (X → Y) → Result X ScriptError → Result Y ℕ → Type 0
 GivesScript view (Ok x) read = read ≡ Ok (view x)
 GivesScript view (Err fault) read = FailsAt fault read
+
+-- an answer for want of memory
+abbrev pub lacks_memory : {X : Type 0} → Result X ScriptError → Bool
+lacks_memory (Ok x) = false
+lacks_memory (Err Memory) = true
+lacks_memory (Err (BadLine n)) = false

@@ -8,7 +8,7 @@ ghost use Rattle.nd_array_core.specs.Joined.{row_major_elements};
 ghost use Rattle.nd_text.specs.Text.{values_text};
 ghost use Rattle.nd_run.specs.Endings.{Finished, ending, ending_text, status_of, is_load_failure, Loads};
 ghost use Rattle.nd_text.specs.Puts.{TakesText, Puts};
-ghost use Rattle.nd_text.specs.Watched.{watched_inner, watched_failed, GetsFlushed};
+ghost use Rattle.nd_text.specs.Watched.{watched_inner, watched_failed, watched_retried, GetsFlushed};
 
 use crate::calls::Reply;
 use crate::printer::put_replies;
@@ -38,6 +38,7 @@ pub enum Outcome {
 pub fn load<R: Read>(alloc: Global, input: &mut Watched<R>) -> Result<Script, Outcome>
     ensures script { IfSome (R.remaining (watched_inner input.old)) (λ xs. Loads asked_script xs result) }
     ensures failed { watched_failed input.new ≡ is_load_failure result }
+    ensures stops { watched_retried input.new ≡ watched_retried input.old }
 {
     let text = match read_input(alloc, input) {
         Ok(text) => text,

@@ -1,17 +1,19 @@
 //! Reading scripts.
 
-ghost use Rattle.std.specs.Prelude.{◌≡◌, ℕ, ◌+◌, ◌^◌, ◌<◌, map, length, IfOk};
+ghost use Rattle.std.specs.Prelude.{◌≡◌, ◌||◌, ℕ, ◌+◌, ◌^◌, ◌<◌, map, length, IfOk};
 ghost use Rattle.nd_array_core.specs.Meaning.{meaning_of};
-ghost use Rattle.nd_text.specs.Words.{lines_of, words_of};
+ghost use Rattle.nd_text.specs.Words.{lines_of};
 ghost use Rattle.nd_run.specs.Calls.{asked_call, boxed};
-ghost use Rattle.nd_run.specs.Script.{AskedScript, IsScript, IsFirstBad, GivesScript, asked_script, read_or_number, call_in, start_in, calls_from, script_from};
+ghost use Rattle.nd_run.specs.Script.{AskedScript, IsScript, IsFirstBad, MayLackIn, MayLackInCalls, GivesScript, asked_script, calls_from, script_from, lacked_memory, lacks_memory};
 
 pub mod fault;
 mod items;
 mod line;
+mod lines;
 
 use crate::calls::Call;
-use fault::{LineFault, ScriptError};
+use fault::ScriptError;
+use lines::LineReader;
 use nd_array_core::Array;
 use nd_shape_and_slice::IxDyn;
 use nd_text::words::{is_wordless, split_line};
@@ -29,32 +31,18 @@ pub struct Script {
     pub calls: Vec<Call<i64, Held>>,
 }
 
-fn call_at(alloc: Global, number: usize, line: &[u8]) -> Result<Call<i64, Held>, ScriptError>
-    ensures { GivesScript (asked_call (boxed meaning_of)) result (read_or_number number (call_in line.now)) }
-{
-    match line::call(alloc, line) {
-        Ok(call) => Ok(call),
-        Err(LineFault::Bad) => Err(ScriptError::BadLine(number)),
-        Err(LineFault::Memory) => Err(ScriptError::Memory),
-    }
-}
-
-fn start_at(alloc: Global, number: usize, line: &[u8]) -> Result<Array<i64, IxDyn>, ScriptError>
-    ensures { GivesScript meaning_of result (read_or_number number (start_in line.now)) }
-{
-    match line::start(alloc, line) {
-        Ok(start) => Ok(start),
-        Err(LineFault::Bad) => Err(ScriptError::BadLine(number)),
-        Err(LineFault::Memory) => Err(ScriptError::Memory),
-    }
-}
-
 /// The calls of a text. Its lines are numbered from this number on.
-fn calls(alloc: Global, first: usize, text: &[u8]) -> Result<Vec<Call<i64, Held>>, ScriptError>
+fn calls(
+    reader: &mut LineReader,
+    first: usize,
+    text: &[u8],
+) -> Result<Vec<Call<i64, Held>>, ScriptError>
     requires { first + length text.now < 2 ^ 64 }
-    ensures { GivesScript (λ v. map (asked_call (boxed meaning_of)) v.items) result (calls_from first (lines_of text.now)) }
+    ensures read { GivesScript (λ v. map (asked_call (boxed meaning_of)) v.items) result (calls_from first (lines_of text.now)) }
+    ensures stopped { result ≡ Err ScriptError.Memory → MayLackInCalls (lines_of text.now) }
+    ensures lacked { lacked_memory reader.new ≡ (lacks_memory result || lacked_memory reader.old) }
 {
-    let mut calls = Vec::new(alloc);
+    let mut calls = reader.list();
     let mut rest = text;
     let mut number = first;
     while !rest.is_empty() {
@@ -65,23 +53,26 @@ fn calls(alloc: Global, first: usize, text: &[u8]) -> Result<Vec<Call<i64, Held>
         if is_wordless(line) {
             continue;
         }
-        let call = call_at(alloc, here, line)?;
-        calls.push(call)?;
+        let call = reader.call(here, line)?;
+        reader.keep(&mut calls, call)?;
     }
     Ok(calls)
 }
 
-/// The script of a text, read line by line up to the first bad one.
-fn whole_script(alloc: Global, text: &[u8]) -> Result<Script, ScriptError>
-    ensures { GivesScript asked_script result (script_from 1 (lines_of text.now)) }
+/// The script of a text, read line by line up to the first bad one, or the first for which memory is refused.
+fn whole_script(reader: &mut LineReader, text: &[u8]) -> Result<Script, ScriptError>
+    ensures read { GivesScript asked_script result (script_from 1 (lines_of text.now)) }
+    ensures stopped { result ≡ Err ScriptError.Memory → MayLackIn (lines_of text.now) }
+    // Once memory was refused that is the answer: no later line is found bad.
+    ensures lacked { lacked_memory reader.new ≡ (lacks_memory result || lacked_memory reader.old) }
 {
     let mut rest = text;
     let mut number = 1;
     while !rest.is_empty() {
         let (line, after) = split_line(rest);
         if !is_wordless(line) {
-            let start = start_at(alloc, number, line)?;
-            let calls = calls(alloc, number + 1, after)?;
+            let start = reader.start(number, line)?;
+            let calls = calls(reader, number + 1, after)?;
             return Ok(Script { start, calls });
         }
         rest = after;
@@ -90,7 +81,7 @@ fn whole_script(alloc: Global, text: &[u8]) -> Result<Script, ScriptError>
     Err(ScriptError::BadLine(number))
 }
 
-/// The script of a text. No memory is taken once a line was found bad.
+/// The script of a text. No memory is taken once a line was found bad, and no line is read once memory was refused.
 pub fn read_script(alloc: Global, text: &[u8]) -> Result<Script, ScriptError>
     // What is read is what the lines write.
     ensures found { IfOk result (λ s. IsScript (lines_of text.now) (asked_script s)) }
@@ -100,6 +91,8 @@ pub fn read_script(alloc: Global, text: &[u8]) -> Result<Script, ScriptError>
     ensures bad { (n : ℕ) → result ≡ Err (ScriptError.BadLine n) → IsFirstBad (lines_of text.now) n }
     // Where a line is bad the first such number is answered, unless memory runs out.
     ensures bad_only { (n : ℕ) → IsFirstBad (lines_of text.now) n → GivesScript asked_script result (Err n) }
+    // Memory runs out in a line with words, and the lines before it are good.
+    ensures memory { result ≡ Err ScriptError.Memory → MayLackIn (lines_of text.now) }
 {
-    whole_script(alloc, text)
+    whole_script(&mut LineReader::new(alloc), text)
 }

@@ -1,12 +1,13 @@
 //! A list of calls on one array.
 
-ghost use Rattle.std.specs.Prelude.{◌≡◌, nat_lt, map, None, true, IfOk, IfErr, OnErr};
+ghost use Rattle.std.specs.Prelude.{◌≡◌, ◌≤◌, nat_lt, map, length, vec_capacity, [], None, true, IfOk, IfErr, OnErr};
 ghost use Rattle.std.specs.Option.{option_copied};
 ghost use Rattle.nd_array_core.specs.Meaning.{meaning_of, shape_of, element_at};
 ghost use Rattle.std.specs.List.{count_by, list_all};
 ghost use Rattle.nd_run.specs.Steps.{Refuses, first_failed};
 ghost use Rattle.nd_run.specs.Calls.{asked_call, asked_step, asking, said_reply, Keeping, About, Selecting, Removing, Reshaping, Appending, Reserving, AskReshaped, SaidElement};
-ghost use Rattle.nd_run.specs.Fold.{LeadsAlong, look_refusal, question_tests, select_tests, reshape_tests, append_tests, answer_or_refusal, answers_in_memory, reply_to, replies_to, end_of, MayLackMemory, IsCarriedOut, CarriesOut, StopsBefore, replies_before};
+ghost use Rattle.nd_run.specs.Fold.{LeadsAlong, look_refusal, question_tests, select_tests, reshape_tests, append_tests, answer_or_refusal, answers_in_memory, reply_to, replies_to, end_of, MayLackMemory, IsCarriedOut, CarriesOut, StopsAt, StopsBefore, KeepsReplies, replies_before};
+ghost use Rattle.nd_array_core.specs.growth.Reserved.{HasRoomAlong};
 ghost use Rattle.nd_array_core.specs.Laws.{with_axis_inserted};
 ghost use Rattle.nd_array_core.specs.Equality.{equal_meanings};
 ghost use Rattle.nd_array_core.specs.Joined.{row_major_elements};
@@ -328,7 +329,8 @@ fn reserve<A: Eq + Drop>(
     axis: usize,
     additional: usize,
 ) -> Result<Reply<A>, AllocError>
-    ensures { CarriesOut A.eq (Reserving axis additional) (meaning_of array.old) (meaning_of array.new) result }
+    ensures carried { CarriesOut A.eq (Reserving axis additional) (meaning_of array.old) (meaning_of array.new) result }
+    ensures room { IfOk result (λ reply. reply ≡ Reply.Done → HasRoomAlong axis additional array.new) }
 {
     if axis >= array.ndim() {
         return Ok(Reply::Refused(Cause::Axis.number()));
@@ -372,6 +374,32 @@ pub enum RunFault<A> {
     Memory(Vec<Reply<A>>),
 }
 
+/// Runs the calls, and puts each reply into the list, which has room for all. It stops at the first call that is refused
+/// memory, with the replies to the calls before it.
+fn run_with_room<A: Clone + Eq + Drop, T: Holds<A>>(
+    alloc: Global,
+    start: Array<A, IxDyn>,
+    calls: &[Call<A, T>],
+    room: Vec<Reply<A>>,
+) -> Result<(Vec<Reply<A>>, Array<A, IxDyn>), RunFault<A>>
+    requires clone { (x y : A) → A.is_clone x y → y ≡ x }
+    requires empty { room.items ≡ [] }
+    requires room { length calls.now ≤ vec_capacity room }
+    ensures replies { IfOk result (λ r. map said_reply r.0.items ≡ replies_to A.eq (map (asked_call T.held) calls.now) (meaning_of start)) }
+    ensures array { IfOk result (λ r. meaning_of r.1 ≡ end_of A.eq (map (asked_call T.held) calls.now) (meaning_of start)) }
+    ensures memory { IfErr result (λ fault. StopsAt A.eq (map (asked_call T.held) calls.now) (meaning_of start) (replies_before fault)) }
+{
+    let mut replies = room;
+    let mut array = start;
+    for call in calls {
+        match act(alloc, &mut array, call) {
+            Ok(reply) => replies.push_reserved(reply),
+            Err(_) => return Err(RunFault::Memory(replies)),
+        }
+    }
+    Ok((replies, array))
+}
+
 /// What `run` does, for calls that hold their arrays in any way: as they are, or in boxes.
 pub fn run_held<A: Clone + Eq + Drop, T: Holds<A>>(
     alloc: Global,
@@ -382,19 +410,12 @@ pub fn run_held<A: Clone + Eq + Drop, T: Holds<A>>(
     ensures replies { IfOk result (λ r. map said_reply r.0.items ≡ replies_to A.eq (map (asked_call T.held) calls.now) (meaning_of start)) }
     ensures array { IfOk result (λ r. meaning_of r.1 ≡ end_of A.eq (map (asked_call T.held) calls.now) (meaning_of start)) }
     ensures memory { IfErr result (λ fault. StopsBefore A.eq (map (asked_call T.held) calls.now) (meaning_of start) (replies_before fault)) }
+    ensures kept { IfErr result (KeepsReplies A.eq (map (asked_call T.held) calls.now) (meaning_of start)) }
 {
-    let mut replies = match Vec::with_capacity(alloc, calls.len()) {
-        Ok(replies) => replies,
-        Err(_) => return Err(RunFault::Memory(Vec::new(alloc))),
-    };
-    let mut array = start;
-    for call in calls {
-        match act(alloc, &mut array, call) {
-            Ok(reply) => replies.push_reserved(reply),
-            Err(_) => return Err(RunFault::Memory(replies)),
-        }
+    match Vec::with_capacity(alloc, calls.len()) {
+        Ok(room) => run_with_room(alloc, start, calls, room),
+        Err(_) => Err(RunFault::Memory(Vec::new(alloc))),
     }
-    Ok((replies, array))
 }
 
 /// Runs the calls in order; each has one reply. Room for the replies is taken before the first call. A call that is
@@ -408,6 +429,7 @@ pub fn run<A: Clone + Eq + Drop>(
     ensures replies { IfOk result (λ r. map said_reply r.0.items ≡ replies_to A.eq (map (asked_call meaning_of) calls.now) (meaning_of start)) }
     ensures array { IfOk result (λ r. meaning_of r.1 ≡ end_of A.eq (map (asked_call meaning_of) calls.now) (meaning_of start)) }
     ensures memory { IfErr result (λ fault. StopsBefore A.eq (map (asked_call meaning_of) calls.now) (meaning_of start) (replies_before fault)) }
+    ensures kept { IfErr result (KeepsReplies A.eq (map (asked_call meaning_of) calls.now) (meaning_of start)) }
 {
     run_held(alloc, start, calls)
 }

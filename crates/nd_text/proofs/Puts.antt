@@ -1,12 +1,12 @@
 -- Printing one text after another.
-use Rattle.std.proofs.Common.{◌≡◌, ℕ, map, ◌+◌, ◌<◌, get_or, Bool, true, false, List, [], ◌∷◌, ◌++◌, Option, take, drop, length, ◌-◌, ◌≤◌, take-append-drop, refl, sym, ap, subst, ◌∙◌, append_assoc, append-nil}
+use Rattle.std.proofs.Common.{◌≡◌, ℕ, map, ◌+◌, ◌<◌, get_or, Bool, true, false, List, [], ◌∷◌, ◌++◌, ◌||◌, Option, take, drop, length, ◌-◌, ◌≤◌, take-append-drop, refl, sym, ap, subst, ◌∙◌, append_assoc, append-nil}
 use Rattle.std.proofs.lemmas.List.{take_rest, take_more, take_all}
 use Rattle.std.proofs.lemmas.List.Concat.{flat_map-append}
 use Rattle.std.specs.List.{flat_map}
 use Rattle.std.specs.Io.KnownBytes.{Appends}
 use Rattle.std.proofs.KnownBytes.{Appends-nil, Appends-trans}
 use Rattle.nd_text.specs.declared.watched.Watched.{Watched}
-use Rattle.nd_text.specs.Watched.{watched_inner, watched_failed, watched_flushes, after_write}
+use Rattle.nd_text.specs.Watched.{watched_inner, watched_failed, watched_retried, watched_flushes, after_write}
 use Rattle.nd_text.specs.Puts.{TakesText, Writes, Puts}
 
 -- taking nothing
@@ -15,6 +15,7 @@ takes_nothing {W} {contents} old = record {
   idle = λ _. refl;
   whole = λ _. Appends-nil (contents (watched_inner old));
   part = ([], [], refl, Appends-nil (contents (watched_inner old)));
+  stops = refl;
 }
 
 -- taking one text and then another is taking both
@@ -25,12 +26,14 @@ then_by {W} {contents} {old} {mid} {new} {s} {t} true failed p q =
       idle = λ was. same ∙ p.idle was;
       whole = λ ok. let no : true ≡ false = sym failed ∙ ap watched_failed (sym same) ∙ ok in absurd cc;
       part = (p.part.0, p.part.1 ++ t, ap (λ (l : List ℕ). l ++ t) p.part.2 ∙ append_assoc p.part.0 p.part.1 t, subst (λ (w : Watched W). Appends (contents (watched_inner old)) (contents (watched_inner w)) p.part.0) (sym same) p.part.3);
+      stops = q.stops ∙ p.stops;
     }
 then_by {W} {contents} {old} {mid} {new} {s} {t} false fine p q =
     record {
       idle = λ was. let no : true ≡ false = sym was ∙ ap watched_failed (sym (p.idle was)) ∙ fine in absurd cc;
       whole = λ ok. Appends-trans _ _ _ s t (p.whole fine) (q.whole ok);
       part = (s ++ q.part.0, q.part.1, ap (λ (l : List ℕ). s ++ l) q.part.2 ∙ sym (append_assoc s q.part.0 q.part.1), Appends-trans _ _ _ s q.part.0 (p.whole fine) q.part.3);
+      stops = q.stops ∙ p.stops;
     }
 
 pub takes_then : {W : Type 0} {contents : W → Option (List ℕ)} {old mid new : Watched W} {s t : List ℕ} → TakesText contents old mid s → TakesText contents mid new t → TakesText contents old new (s ++ t)
@@ -47,6 +50,7 @@ writes_idle {W} {contents} old t failed = record {
     idle = λ _. refl;
     whole = λ ok. let no : true ≡ false = sym failed ∙ ok in absurd cc;
     part = ([], t, refl, Appends-nil (contents (watched_inner old)));
+    stops = refl;
   };
   unflushed = λ never. never;
 }
@@ -57,12 +61,13 @@ writes_then p q = record { takes = takes_then p.takes q.takes; unflushed = λ ne
 
 -- a write that took some bytes
 pub writes_taken : {W : Type 0} {contents : W → Option (List ℕ)} (old new : Watched W) (count : ℕ) (piece : List ℕ) → watched_failed old ≡ false
-    → Appends (contents (watched_inner old)) (contents (watched_inner new)) (take count piece) → watched_flushes new ≡ after_write (watched_flushes old) → Writes contents old new (take count piece)
-writes_taken old new count piece fine bytes flushes = record {
+    → Appends (contents (watched_inner old)) (contents (watched_inner new)) (take count piece) → watched_retried new ≡ (watched_failed old || watched_retried old) → watched_flushes new ≡ after_write (watched_flushes old) → Writes contents old new (take count piece)
+writes_taken old new count piece fine bytes retried flushes = record {
   takes = record {
     idle = λ was. let no : true ≡ false = sym was ∙ fine in absurd cc;
     whole = λ _. bytes;
     part = (take count piece, [], sym (append-nil (take count piece)), bytes);
+    stops = retried ∙ ap (λ (b : Bool). b || watched_retried old) fine;
   };
   unflushed = λ never. flushes ∙ ap after_write never;
 }
@@ -81,6 +86,7 @@ puts_nothing {W} {contents} old held = record {
   idle = λ _. refl;
   part = ([], held, append-nil held, Appends-nil (contents (watched_inner old)), λ _. refl);
   unflushed = λ never. never;
+  stops = refl;
 }
 
 -- a text that found room on the page
@@ -89,6 +95,7 @@ puts_held {W} {contents} old held left text e = record {
   idle = λ _. refl;
   part = ([], held ++ text, refl, Appends-nil (contents (watched_inner old)), λ _. sym e);
   unflushed = λ never. never;
+  stops = refl;
 }
 
 -- all that waited, and the text behind it, was written
@@ -102,6 +109,7 @@ puts_written {W} {contents} {old} {new} held text p = record {
   idle = p.takes.idle;
   part = written_by (watched_failed new) held text refl p.takes;
   unflushed = p.unflushed;
+  stops = p.takes.stops;
 }
 
 -- printing one text and then another is printing both
@@ -130,6 +138,7 @@ puts_then {W} {contents} {old} {mid} {new} p q = record {
   idle = joined_idle p q;
   part = joined_by (watched_failed mid) refl p q;
   unflushed = λ never. q.unflushed (p.unflushed never);
+  stops = q.stops ∙ p.stops;
 }
 
 -- what waits at the end is written: then the whole text was taken
@@ -140,6 +149,7 @@ taken_by {W} {contents} {old} {mid} {new} {held} {text} true failed p q =
       idle = λ was. same ∙ p.idle was;
       whole = λ ok. let no : true ≡ false = sym failed ∙ ap watched_failed (sym same) ∙ ok in absurd cc;
       part = (p.part.0, p.part.1, p.part.2, subst (λ (w : Watched W). Appends (contents (watched_inner old)) (contents (watched_inner w)) p.part.0) (sym same) p.part.3);
+      stops = q.stops ∙ p.stops;
     }
 taken_by {W} {contents} {old} {mid} {new} {held} {text} false fine p q =
     let parts : text ≡ p.part.0 ++ held = p.part.2 ∙ ap (λ (l : List ℕ). p.part.0 ++ l) (p.part.4 fine) in
@@ -147,6 +157,7 @@ taken_by {W} {contents} {old} {mid} {new} {held} {text} false fine p q =
       idle = λ was. let no : true ≡ false = sym was ∙ ap watched_failed (sym (p.idle was)) ∙ fine in absurd cc;
       whole = λ ok. subst (Appends (contents (watched_inner old)) (contents (watched_inner new))) (sym parts) (Appends-trans _ _ _ p.part.0 held p.part.3 (q.whole ok));
       part = (p.part.0 ++ q.part.0, q.part.1, parts ∙ ap (λ (l : List ℕ). p.part.0 ++ l) q.part.2 ∙ sym (append_assoc p.part.0 q.part.0 q.part.1), Appends-trans _ _ _ p.part.0 q.part.0 p.part.3 q.part.3);
+      stops = q.stops ∙ p.stops;
     }
 
 pub all_taken : {W : Type 0} {contents : W → Option (List ℕ)} {old mid new : Watched W} {first held text : List ℕ} → first ≡ [] → Puts contents old first mid held text → TakesText contents mid new held → TakesText contents old new text

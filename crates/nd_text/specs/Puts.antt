@@ -3,7 +3,7 @@ use Rattle.std.specs.Prelude.{◌≡◌, true, false, ℕ, List, ◌++◌, Optio
 use Rattle.std.specs.Io.KnownBytes.{Appends}
 use Rattle.nd_text.specs.declared.watched.Flushes.TheVariants.{Never}
 use Rattle.nd_text.specs.declared.watched.Watched.{Watched}
-use Rattle.nd_text.specs.Watched.{watched_inner, watched_failed, watched_flushes}
+use Rattle.nd_text.specs.Watched.{watched_inner, watched_failed, watched_retried, watched_flushes}
 
 -- The writer took the whole text, unless a call failed, and then a beginning of it. Once a call has failed
 -- the writer is left alone.
@@ -11,6 +11,7 @@ pub record TakesText {W : Type 0} (contents : W → Option (List ℕ)) (old new 
   pub idle : watched_failed old ≡ true → new ≡ old
   pub whole : watched_failed new ≡ false → Appends (contents (watched_inner old)) (contents (watched_inner new)) text
   pub part : (front rest : List ℕ) × (text ≡ front ++ rest) × Appends (contents (watched_inner old)) (contents (watched_inner new)) front
+  pub stops : watched_retried new ≡ watched_retried old
 
 -- It did so without a flush.
 pub record Writes {W : Type 0} (contents : W → Option (List ℕ)) (old new : Watched W) (text : List ℕ) : Type 0 where
@@ -23,3 +24,4 @@ pub record Puts {W : Type 0} (contents : W → Option (List ℕ)) (old : Watched
   pub idle : watched_failed old ≡ true → new ≡ old
   pub part : (front rest : List ℕ) × (held ++ text ≡ front ++ rest) × Appends (contents (watched_inner old)) (contents (watched_inner new)) front × (watched_failed new ≡ false → rest ≡ left)
   pub unflushed : watched_flushes old ≡ Never → watched_flushes new ≡ Never
+  pub stops : watched_retried new ≡ watched_retried old

@@ -12,6 +12,10 @@ watched_inner w = w.inner
 abbrev pub watched_failed : {T : Type 0} → Watched T → Bool
 watched_failed w = w.failed
 
+-- whether a call came after one that had failed
+abbrev pub watched_retried : {T : Type 0} → Watched T → Bool
+watched_retried w = w.retried
+
 -- which flushes it was asked for
 abbrev pub watched_flushes : {T : Type 0} → Watched T → Flushes
 watched_flushes w = w.flushes

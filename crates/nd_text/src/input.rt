@@ -1,9 +1,9 @@
 //! Reading all input.
 
-ghost use Rattle.std.specs.Prelude.{◌≡◌, IfOk, IfSome};
+ghost use Rattle.std.specs.Prelude.{◌≡◌, ◌<◌, length, Err, IfOk, IfSome};
 ghost use Rattle.nd_text.specs.declared.input.InputError.TheVariants.{Memory};
 ghost use Rattle.nd_text.specs.Input.{is_read_failure};
-ghost use Rattle.nd_text.specs.Watched.{watched_inner, watched_failed};
+ghost use Rattle.nd_text.specs.Watched.{watched_inner, watched_failed, watched_retried};
 
 use crate::watched::Watched;
 use std::alloc::{AllocError, Global};
@@ -27,9 +27,12 @@ impl From<AllocError> for InputError {
 }
 
 /// All bytes up to the end of the input. It stops at the first read that fails, and at once if one had failed before.
+/// An input without bytes takes no memory.
 pub fn read_input<R: Read>(alloc: Global, input: &mut Watched<R>) -> Result<Vec<u8>, InputError>
     ensures bytes { IfOk result (λ v. IfSome (R.remaining (watched_inner input.old)) (λ xs. xs ≡ v.items)) }
+    ensures memory { result ≡ Err Memory → IfSome (R.remaining (watched_inner input.old)) (λ xs. 0 < length xs) }
     ensures failed { watched_failed input.new ≡ is_read_failure result }
+    ensures stops { watched_retried input.new ≡ watched_retried input.old }
 {
     if input.failed() {
         return Err(InputError::Failed);

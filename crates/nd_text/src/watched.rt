@@ -4,7 +4,7 @@ ghost use Rattle.std.specs.Prelude.{◌≡◌, ◌||◌, false, is_err};
 ghost use Rattle.std.specs.Io.{ReadsAtMost, WritesAtMost};
 ghost use Rattle.std.specs.Io.KnownBytes.{Keeps, ReadConsumes, WriteAppends};
 ghost use Rattle.nd_text.specs.declared.watched.Flushes.TheVariants.{Never};
-ghost use Rattle.nd_text.specs.Watched.{watched_inner, watched_failed, watched_flushes, after_write, after_flush, write_failed};
+ghost use Rattle.nd_text.specs.Watched.{watched_inner, watched_failed, watched_retried, watched_flushes, after_write, after_flush, write_failed};
 
 use std::io;
 use std::io::{Read, Write};
@@ -40,8 +40,8 @@ impl Flushes {
     }
 }
 
-/// A reader or a writer that remembers whether one of its calls failed. Each `Err` counts, `Interrupted` included, and
-/// so does a write that takes nothing of bytes that it was given.
+/// A reader or a writer that remembers whether one of its calls failed, and whether another call came after that. Each
+/// `Err` counts, `Interrupted` included, and so does a write that takes nothing of bytes that it was given.
 ///
 /// The standard `flush` ensures only that the bytes stay, so a contract over any writer can't see it. `flushes`
 /// is set beside the inner call, and lets contracts say when a flush is due.
@@ -49,6 +49,7 @@ impl Flushes {
 pub struct Watched<T> {
     inner: T,
     failed: bool,
+    retried: bool,
     flushes: Flushes,
 }
 
@@ -57,11 +58,13 @@ impl<T> Watched<T> {
     pub fn new(inner: T) -> Self
         ensures inner { watched_inner result ≡ inner }
         ensures failed { watched_failed result ≡ false }
+        ensures retried { watched_retried result ≡ false }
         ensures flushes { watched_flushes result ≡ Never }
     {
         Watched {
             inner,
             failed: false,
+            retried: false,
             flushes: Flushes::Never,
         }
     }
@@ -89,8 +92,10 @@ impl<R: Read> Read for Watched<R> {
         ensures bound { ReadsAtMost result buf.new }
         ensures bytes { ReadConsumes (R.remaining (watched_inner self.old)) (R.remaining (watched_inner self.new)) result buf.new }
         ensures failed { watched_failed self.new ≡ (watched_failed self.old || is_err result) }
+        ensures retried { watched_retried self.new ≡ (watched_failed self.old || watched_retried self.old) }
         ensures flushes { watched_flushes self.new ≡ watched_flushes self.old }
     {
+        self.retried = self.failed || self.retried;
         let result = self.inner.read(buf);
         if result.is_err() {
             self.failed = true;
@@ -106,8 +111,10 @@ impl<W: Write> Write for Watched<W> {
         ensures bound { WritesAtMost result buf.now }
         ensures bytes { WriteAppends (W.contents (watched_inner self.old)) (W.contents (watched_inner self.new)) result buf.now }
         ensures failed { watched_failed self.new ≡ (watched_failed self.old || write_failed result buf.now) }
+        ensures retried { watched_retried self.new ≡ (watched_failed self.old || watched_retried self.old) }
         ensures flushes { watched_flushes self.new ≡ after_write (watched_flushes self.old) }
     {
+        self.retried = self.failed || self.retried;
         let result = self.inner.write(buf);
         self.flushes = self.flushes.after_write();
         match &result {
@@ -121,8 +128,10 @@ impl<W: Write> Write for Watched<W> {
     fn flush(&mut self) -> io::Result<()>
         ensures bytes { Keeps (W.contents (watched_inner self.old)) (W.contents (watched_inner self.new)) }
         ensures failed { watched_failed self.new ≡ (watched_failed self.old || is_err result) }
+        ensures retried { watched_retried self.new ≡ (watched_failed self.old || watched_retried self.old) }
         ensures flushes { watched_flushes self.new ≡ after_flush (watched_failed self.old) (watched_flushes self.old) }
     {
+        self.retried = self.failed || self.retried;
         let result = self.inner.flush();
         self.flushes = self.flushes.after_flush(self.failed);
         if result.is_err() {

@@ -1,29 +1,17 @@
-use Rattle.std.proofs.Common.{◌≡◌, map, ap, subst}
-use Rattle.nd_array_core.specs.Meaning.{Meaning, meaning_of, shape_of}
-use Rattle.nd_run.specs.Calls.{said_reply}
-use Rattle.nd_run.specs.Fold.{replies_before}
-use Rattle.nd_run.specs.Endings.{Finished, OutOfMemory, ending_text, status_of}
-use Rattle.nd_array_core.specs.Joined.{row_major_elements}
-use Rattle.nd_run.specs.Meaning.{Runs, Stops}
-use Rattle.nd_run.specs.Script.{asked_script}
-use Rattle.nd_text.specs.Puts.{TakesText}
-use Rattle.nd_text.specs.Watched.{watched_inner, watched_failed}
-use Rattle.nd_run.proofs.Driving.{ran_is_driven}
+use Rattle.nd_run.proofs.Driving.{tells_end, tells_run, tells_bad_line, tells_want, tells_beginning}
 use Rattle.nd_run.proofs.drive.drive.Goals as goal
 
-pub returns-in-Ok-run_held-clause-text : goal.returns-in-Ok-run_held-clause-text
-returns-in-Ok-run_held-clause-text g c =
-    let array = c.in-Ok-run_held.array in
-    let replies = map said_reply c.in-Ok-run_held.replies.items in
-    let end = Finished replies (shape_of array) (row_major_elements (meaning_of array)) in
-    let did = c.in-Ok-run_held.ensures in
-    let runs : Runs (asked_script c.in-Ok.field-0) replies (shape_of array) (row_major_elements (meaning_of array)) = rw (c.in-Ok.field-0-is, ← c.deref.ensures.value) (did.replies, ap (λ (m : Meaning _). m.shape) did.array, ap row_major_elements did.array) in
-    ran_is_driven Runs Stops asked_script g.W.Write.contents (g.R.Read.remaining (watched_inner c.args.input.now)) (watched_failed c.load.new.input) c.load.result c.args.output.now c.conclude_whole.new.output c.conclude_whole.result c.load.ensures.script c.load.ensures.failed
-    c.in-Ok.field-0 end c.in-Ok.is runs (rw (← c.deref-in-Ok-run_held.ensures.value) c.conclude_whole.ensures.text) c.conclude_whole.ensures.status
+pub returns-clause-text : goal.returns-clause-text
+returns-clause-text g c = tells_end g.R.Read.remaining g.W.Write.contents c.args.input.now c.drive_to_end.new.input c.args.output.now c.drive_to_end.new.output c.drive_to_end.result c.drive_to_end.ensures.driven
 
-pub returns-in-Ok-clause-text : goal.returns-in-Ok-clause-text
-returns-in-Ok-clause-text g c =
-    let fault = c.in-Err-run_held.fault in
-    let stops : Stops (asked_script c.in-Ok.field-0) (replies_before fault) = rw (c.in-Ok.field-0-is, ← c.deref.ensures.value) c.in-Err-run_held.ensures.memory in
-    ran_is_driven Runs Stops asked_script g.W.Write.contents (g.R.Read.remaining (watched_inner c.args.input.now)) (watched_failed c.load.new.input) c.load.result c.args.output.now c.conclude.new.output c.conclude.result c.load.ensures.script c.load.ensures.failed
-    c.in-Ok.field-0 (OutOfMemory (replies_before fault)) c.in-Ok.is stops (subst (λ e. TakesText g.W.Write.contents c.args.output.now c.conclude.new.output (ending_text e)) c.stopped.ensures c.conclude.ensures.text) (subst (λ e. c.conclude.result ≡ status_of (watched_failed c.conclude.new.output) e) c.stopped.ensures c.conclude.ensures.status)
+pub returns-clause-finished : goal.returns-clause-finished
+returns-clause-finished g c = tells_run g.R.Read.remaining g.W.Write.contents c.args.input.now c.drive_to_end.new.input c.args.output.now c.drive_to_end.new.output c.drive_to_end.result c.drive_to_end.ensures.driven
+
+pub returns-clause-bad_line : goal.returns-clause-bad_line
+returns-clause-bad_line g c = tells_bad_line g.R.Read.remaining g.W.Write.contents c.args.input.now c.drive_to_end.new.input c.args.output.now c.drive_to_end.new.output c.drive_to_end.result c.drive_to_end.ensures.driven
+
+pub returns-clause-memory : goal.returns-clause-memory
+returns-clause-memory g c = tells_want g.R.Read.remaining g.W.Write.contents c.args.input.now c.drive_to_end.new.input c.args.output.now c.drive_to_end.new.output c.drive_to_end.result c.drive_to_end.ensures.driven
+
+pub returns-clause-beginning : goal.returns-clause-beginning
+returns-clause-beginning g c = tells_beginning g.R.Read.remaining g.W.Write.contents c.args.input.now c.drive_to_end.new.input c.args.output.now c.drive_to_end.new.output c.drive_to_end.result c.drive_to_end.ensures.driven

@@ -17,13 +17,13 @@ module _ {X : Type 0} (view : X → AskedScript) where
   first_bad r lines n given e = script_bad 1 lines n (subst (λ (x : Result X ScriptError). GivesScript view x (script_from 1 lines)) e given)
 
 pub returns-clause-found : goal.returns-clause-found
-returns-clause-found c = found asked_script c.whole_script.result (lines_of c.args.text.now) c.whole_script.ensures
+returns-clause-found c = found asked_script c.whole_script.result (lines_of c.args.text.now) c.whole_script.ensures.read
 
 pub returns-clause-only : goal.returns-clause-only
-returns-clause-only c = λ s is. subst (GivesScript asked_script c.whole_script.result) (script_again 1 (lines_of c.args.text.now) s is) c.whole_script.ensures
+returns-clause-only c = λ s is. subst (GivesScript asked_script c.whole_script.result) (script_again 1 (lines_of c.args.text.now) s is) c.whole_script.ensures.read
 
 pub returns-clause-bad : goal.returns-clause-bad
-returns-clause-bad c = λ n e. first_bad asked_script c.whole_script.result (lines_of c.args.text.now) n c.whole_script.ensures e
+returns-clause-bad c = λ n e. first_bad asked_script c.whole_script.result (lines_of c.args.text.now) n c.whole_script.ensures.read e
 
 pub returns-clause-bad_only : goal.returns-clause-bad_only
-returns-clause-bad_only c = λ n is. subst (GivesScript asked_script c.whole_script.result) (bad_again 1 (lines_of c.args.text.now) n is) c.whole_script.ensures
+returns-clause-bad_only c = λ n is. subst (GivesScript asked_script c.whole_script.result) (bad_again 1 (lines_of c.args.text.now) n is) c.whole_script.ensures.read

@@ -16,15 +16,15 @@ module _ (axis n : ℕ) (ns : List ℕ) (on : axis < length ns) where
   cannot_grow : (HasCheckedSize (set ns axis (get_or ns axis 0 + n)) → ⊥) → first_failed (reserve_tests axis n ns) ≡ Some causes.Overflow
   cannot_grow too_large = rw (lt-ltb axis (length ns) on, le-ltb (nonzero_product (set ns axis (get_or ns axis 0 + n))) (2 ^ 63) (omega (arith, too_large))) refl
 
-pub returns-in-Ok : goal.returns-in-Ok
-returns-in-Ok g c =
+pub returns-in-Ok-clause-carried : goal.returns-in-Ok-clause-carried
+returns-in-Ok-clause-carried g c =
     let m = meaning_of c.args.array.now in
     let on : c.args.axis < length m.shape = search rules in
     carried g.A.PartialEq.eq (Reserving c.args.axis c.args.additional) m None (meaning_of c.reserve.new.self) (sym (can_grow c.args.axis c.args.additional m.shape on c.in-Ok.ensures.fits)) refl
     (same_meaning m (meaning_of c.reserve.new.self) c.reserve.ensures.whole.0 c.reserve.ensures.whole.2)
 
-pub returns-in-Err-Shape : goal.returns-in-Err-Shape
-returns-in-Err-Shape g c =
+pub returns-in-Err-Shape-clause-carried : goal.returns-in-Err-Shape-clause-carried
+returns-in-Err-Shape-clause-carried g c =
     let m = meaning_of c.args.array.now in
     let on : c.args.axis < length m.shape = search rules in
     rw c.number-in-Err-Shape.ensures

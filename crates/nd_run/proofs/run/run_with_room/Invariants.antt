@@ -2,7 +2,7 @@ use Rattle.std.proofs.Common.{◌≡◌, ◌≤◌, map, length, vec_len, vec_ca
 use Rattle.nd_array_core.specs.Meaning.{meaning_of}
 use Rattle.nd_run.specs.Calls.{asked_call, said_reply}
 use Rattle.nd_run.proofs.Runs.{IsRunBelow}
-use Rattle.nd_run.proofs.run.run_held.Given as goal
+use Rattle.nd_run.proofs.run.run_with_room.Given as goal
 
 abbrev pub invariant-loop-call : goal.invariant-loop-call
 invariant-loop-call g l =
