@@ -204,10 +204,13 @@ def joined(array, name, axis, other):
     if name == "push":
         refuse_if(other.ndim + 1 != array.ndim, SHAPE)
         other = other.with_axis(axis)
-    fits = [a == b or k == axis for k, (a, b) in enumerate(zip(array.shape, other.shape))]
+    fits = [a == b or b == 1 or k == axis for k, (a, b) in enumerate(zip(array.shape, other.shape))]
     refuse_if(other.ndim != array.ndim or not all(fits), SHAPE)
+    added = replaced(array.shape, axis, other.shape[axis])
     refuse_if(not has_checked_size(replaced(array.shape, axis, array.shape[axis] + other.shape[axis])), OVERFLOW)
-    return array.joined(axis, other)
+    if product(added) > MOST_ELEMENTS:
+        raise TooLarge
+    return array.joined(axis, other.broadcast(added))
 
 
 def chosen_or_less(array, name, axis, rest):

@@ -156,6 +156,7 @@ class Writer:
             del other[axis]
         elif axis < len(other):
             other[axis] = self.random.choice([0, 1, 1, 2, 3])
+        other = [1 if self.is_rare(0.15) else length for length in other]
         return f"{name} {axis} {self.array(self.lengths() if self.is_rare() else other)}"
 
     def call(self, array):
