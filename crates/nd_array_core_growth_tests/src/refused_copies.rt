@@ -1,5 +1,5 @@
-//! Copies of parts, and lanes handed to be written, whose requests for memory `refused_memory.sh` refuses in turn, as it does in
-//! `refused_memory.rt`.
+//! Copies of parts, and lanes handed to be written. Where a call lacks memory, and all is as it was, the test ends in an error
+//! that names the call.
 
 ghost use Rattle.nd_array_core.specs.along.LanesWritten.{IsSameLane};
 

@@ -1,5 +1,5 @@
-//! Growing arrays whose requests for memory `refused_memory.sh` refuses in turn, as it does in `refused_memory.rt`. Where
-//! room was reserved the appends ask for none, and so are never refused.
+//! Arrays that grow. Where a call lacks memory, and the array is as it was, the test ends in an error that names the call.
+//! Where room was reserved the appends ask for none.
 
 ghost use Rattle.std.specs.Prelude.{◌≡◌, ◌∷◌, []};
 ghost use Rattle.nd_array_core.specs.Meaning.{shape_of};

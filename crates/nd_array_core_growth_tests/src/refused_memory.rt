@@ -1,5 +1,5 @@
-//! Calls whose requests for memory `refused_memory.sh` refuses in turn. With none refused a test sees the right answer and
-//! passes; where a call answers want of memory, and all is as it must be, the test ends in an error that names the call.
+//! Calls that take memory. A test sees the right answer and passes; where a call answers want of memory, and all is as it must
+//! be, the test ends in an error that names the call.
 
 use nd_array_core::{Array, Array1, Array2, ArrayView1, ArrayView2, LaneView};
 use nd_shape_and_slice::{Axis, Ix2, NoMemory};

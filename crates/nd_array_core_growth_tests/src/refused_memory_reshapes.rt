@@ -1,4 +1,4 @@
-//! Reshapes whose requests for memory `refused_memory.sh` refuses in turn, as those of `refused_memory`. A view takes none.
+//! Reshapes that take memory, and views, which take none. Where a call lacks memory the test ends in an error that names it.
 
 use nd_array_core::{Array2, ArrayBase, Data, ViewOrOwned};
 use nd_shape_and_slice::{Ix1, Ix2, Order};

@@ -1,12 +1,11 @@
-"""What a call answers and leaves, by numpy: each step makes of an array of numbers the array of those that the new indexes name."""
+"""What a call answers and leaves: each step makes of a table of numbers the table of those that the new indexes name."""
 
-import numpy
-
-from reading import MOST_AXES, has_checked_size, product
+from reading import MOST_AXES, has_checked_size
+from table import Table, product, replaced
 
 AXIS, INDEX, SLICE, PERMUTATION, SHAPE, OVERFLOW, TOO_MANY_AXES, BROADCAST = range(1, 9)
 # Views of more elements aren't listed, and a script with one isn't compared.
-MOST_ELEMENTS = 200_000
+MOST_ELEMENTS = 20_000
 
 
 class Refused(Exception):
@@ -32,11 +31,6 @@ def coordinates(length, start, end, step):
     return range(start, end, step) if step > 0 else range(end - 1, start - 1, step)
 
 
-def at(view, axis, chosen):
-    """The view with these coordinates of an axis, in their order."""
-    return numpy.take(view, numpy.array(list(chosen), dtype=numpy.intp), axis=axis)
-
-
 def sliced(view, elements):
     kinds = [element[0] for element in elements]
     refuse_if(len(kinds) - kinds.count("new") != view.ndim, SHAPE)
@@ -48,31 +42,25 @@ def sliced(view, elements):
             continue
         length = view.shape[axis]
         if kind == "slice":
-            view = at(view, axis, coordinates(length, *rest))
+            view = view.chosen(axis, coordinates(length, *rest))
         else:
             index = rest[0] + (length if rest[0] < 0 else 0)
             refuse_if(not 0 <= index < length, INDEX)
-            view = at(view, axis, [index])
+            view = view.chosen(axis, [index])
             indexed.append(axis)
         axis += 1
-    view = view.squeeze(axis=tuple(indexed))
+    for axis in reversed(indexed):
+        view = view.without(axis)
     for axis in added:
-        view = numpy.expand_dims(view, axis)
+        view = view.with_axis(axis)
     return view
 
 
 def squeezed(view):
     for axis in reversed(range(view.ndim)):
         if view.shape[axis] == 1 and view.ndim > 1:
-            view = view.squeeze(axis=axis)
+            view = view.without(axis)
     return view
-
-
-def diagonal(view):
-    if view.ndim == 0:
-        return view.reshape(1)
-    found = [view[(k,) * view.ndim] for k in range(min(view.shape))]
-    return numpy.array(found, dtype=view.dtype)
 
 
 def broadcasts(shape, to):
@@ -85,7 +73,7 @@ def broadcast(view, to):
     refuse_if(not broadcasts(view.shape, to), BROADCAST)
     if product(to) > MOST_ELEMENTS:
         raise TooLarge
-    return numpy.broadcast_to(view, to)
+    return view.broadcast(to)
 
 
 def on_axis(view, name, axis, *rest):
@@ -93,16 +81,16 @@ def on_axis(view, name, axis, *rest):
     refuse_if(axis >= view.ndim, AXIS)
     length = view.shape[axis]
     if name == "cut":
-        return at(view, axis, coordinates(length, *rest))
+        return view.chosen(axis, coordinates(length, *rest))
     if name == "swapaxes":
         refuse_if(rest[0] >= view.ndim, AXIS)
-        return view.swapaxes(axis, rest[0])
+        return view.swapped(axis, rest[0])
     if name == "invert":
-        return numpy.flip(view, axis)
+        return view.chosen(axis, range(length)[::-1])
     index = rest[0] if rest else 0
     refuse_if(index >= length, INDEX)
-    part = at(view, axis, [index])
-    return part if name == "collapse" else part.squeeze(axis=axis)
+    part = view.chosen(axis, [index])
+    return part if name == "collapse" else part.without(axis)
 
 
 def stepped(view, step, may_broadcast):
@@ -111,16 +99,16 @@ def stepped(view, step, may_broadcast):
         return sliced(view, *rest)
     if name == "permute":
         refuse_if(sorted(*rest) != list(range(view.ndim)), PERMUTATION)
-        return view.transpose(*rest)
+        return view.permuted(*rest)
     if name == "insert":
         refuse_if(rest[0] > view.ndim, AXIS)
         refuse_if(view.ndim == MOST_AXES, TOO_MANY_AXES)
-        return numpy.expand_dims(view, rest[0])
+        return view.with_axis(rest[0])
     if name == "broadcast":
         refuse_if(not may_broadcast, BROADCAST)
         return broadcast(view, *rest)
     if name in ("reverse", "squeeze", "diag"):
-        return {"reverse": numpy.transpose, "squeeze": squeezed, "diag": diagonal}[name](view)
+        return {"reverse": Table.reversed, "squeeze": squeezed, "diag": Table.diagonal}[name](view)
     return on_axis(view, name, *rest)
 
 
@@ -133,7 +121,7 @@ def followed(view, path, may_broadcast):
 def reshaped(view, lengths, order):
     refuse_if(len(lengths) > MOST_AXES, TOO_MANY_AXES)
     refuse_if(not has_checked_size(lengths) or product(lengths) != view.size, SHAPE)
-    return view.reshape(lengths, order=order)
+    return view.reshaped(lengths, order)
 
 
 def is_index(view, index):
@@ -145,7 +133,7 @@ def listed(numbers):
 
 
 def text_of(array):
-    return " ".join([listed(array.shape), *(str(element) for element in array.ravel())])
+    return " ".join([listed(array.shape), *(str(element) for element in array.elements)])
 
 
 def some(element):
@@ -159,13 +147,13 @@ def asked(view, name, *rest):
     if name == "elements":
         return f"array {text_of(view)}"
     if name == "get":
-        return some(view[tuple(rest[0])]) if is_index(view, rest[0]) else "none"
+        return some(view[rest[0]]) if is_index(view, rest[0]) else "none"
     if name in ("first", "last"):
-        return some(view.ravel()[0 if name == "first" else -1]) if view.size else "none"
+        return some(view.elements[0 if name == "first" else -1]) if view.size else "none"
     if name == "equal":
-        return "true" if numpy.array_equal(view, rest[0]) else "false"
+        return "true" if view == rest[0] else "false"
     if name == "count":
-        return f"number {(view == rest[0]).sum()}"
+        return f"number {view.elements.count(rest[0])}"
     return f"array {text_of(reshaped(view, *rest))}"
 
 
@@ -180,31 +168,34 @@ def refuse_act(view, name, *rest):
 def acted(elements, view, name, *rest):
     """Writes into elements, whose numbers the view shows."""
     if name == "fill":
-        elements[view.ravel()] = rest[0]
+        for number in view.elements:
+            elements[number] = rest[0]
     elif name == "assign":
-        elements[view.ravel()] = numpy.broadcast_to(rest[0], view.shape).ravel()
+        for number, element in zip(view.elements, rest[0].broadcast(view.shape).elements):
+            elements[number] = element
     elif name == "set":
-        elements[view[tuple(rest[0])]] = rest[1]
+        elements[view[rest[0]]] = rest[1]
     else:
-        one, other = (view[tuple(index)] for index in rest)
-        elements[[one, other]] = elements[[other, one]]
+        one, other = (view[index] for index in rest)
+        elements[one], elements[other] = elements[other], elements[one]
 
 
 def written(array, parts):
     """The array after acts on parts of it, each a view of the elements' numbers and an act. All are checked before any writes."""
     for view, act in parts:
         refuse_act(view, *act)
-    elements = array.ravel().copy()
+    elements = list(array.elements)
     for view, act in parts:
         acted(elements, view, *act)
-    return elements.reshape(array.shape)
+    return Table(array.shape, elements)
 
 
 def split(array, numbers, axis, index, first, second):
     refuse_if(axis >= array.ndim, AXIS)
     length = array.shape[axis]
     refuse_if(index > length, INDEX)
-    return written(array, [(at(numbers, axis, range(index)), first), (at(numbers, axis, range(index, length)), second)])
+    parts = numbers.chosen(axis, range(index)), numbers.chosen(axis, range(index, length))
+    return written(array, list(zip(parts, (first, second))))
 
 
 def joined(array, name, axis, other):
@@ -212,15 +203,14 @@ def joined(array, name, axis, other):
     refuse_if(axis >= array.ndim, AXIS)
     if name == "push":
         refuse_if(other.ndim + 1 != array.ndim, SHAPE)
-        other = numpy.expand_dims(other, axis)
-    fits = [a == b or k == axis for k, (a, b) in enumerate(zip(array.shape, other.shape))]
+        other = other.with_axis(axis)
+    fits = [a == b or b == 1 or k == axis for k, (a, b) in enumerate(zip(array.shape, other.shape))]
     refuse_if(other.ndim != array.ndim or not all(fits), SHAPE)
-    refuse_if(not has_checked_size(resized(array, axis, array.shape[axis] + other.shape[axis])), OVERFLOW)
-    return numpy.concatenate((array, other), axis=axis)
-
-
-def resized(array, axis, length):
-    return [length if k == axis else old for k, old in enumerate(array.shape)]
+    added = replaced(array.shape, axis, other.shape[axis])
+    refuse_if(not has_checked_size(replaced(array.shape, axis, array.shape[axis] + other.shape[axis])), OVERFLOW)
+    if product(added) > MOST_ELEMENTS:
+        raise TooLarge
+    return array.joined(axis, other.broadcast(added))
 
 
 def chosen_or_less(array, name, axis, rest):
@@ -228,23 +218,24 @@ def chosen_or_less(array, name, axis, rest):
     refuse_if(axis >= array.ndim, AXIS)
     length = array.shape[axis]
     if name == "reserve":
-        refuse_if(length + rest >= 2**64 or not has_checked_size(resized(array, axis, length + rest)), OVERFLOW)
+        refuse_if(length + rest >= 2**64 or not has_checked_size(replaced(array.shape, axis, length + rest)), OVERFLOW)
         return array
     refuse_if(any(k >= length for k in (rest if name == "select" else [rest])), INDEX)
     if name == "removeindex":
-        return numpy.delete(array, rest, axis=axis)
-    refuse_if(not has_checked_size(resized(array, axis, len(rest))), OVERFLOW)
-    return at(array, axis, rest)
+        shape = replaced(array.shape, axis, length - 1)
+        return array.gathered(shape, lambda index: replaced(index, axis, index[axis] + (index[axis] >= rest)))
+    refuse_if(not has_checked_size(replaced(array.shape, axis, len(rest))), OVERFLOW)
+    return array.chosen(axis, rest)
 
 
 def shown(array, numbers):
-    return numpy.asarray(array.ravel()[numbers])
+    return Table(numbers.shape, [array.elements[number] for number in numbers.elements])
 
 
 def carried_out(call, array):
     """The line of reply, and the array that the call leaves."""
     name, *rest = call
-    numbers = numpy.arange(array.size).reshape(array.shape)
+    numbers = Table(array.shape, range(array.size))
     if name == "ask":
         path, question = rest
         return asked(shown(array, followed(numbers, path, True)), *question), array

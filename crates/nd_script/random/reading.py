@@ -1,8 +1,13 @@
-"""A script's text as calls: tuples of a keyword and what follows it. Arrays are numpy's, of int64."""
+"""A script's text as calls: tuples of a keyword and what follows it. Arrays are tables."""
 
 import re
+import sys
 
-import numpy
+from table import Table, product
+
+# A word may have any number of digits.
+if hasattr(sys, "set_int_max_str_digits"):
+    sys.set_int_max_str_digits(0)
 
 MOST_AXES = 32
 STEPS = "cut slice collapse index permute reverse swapaxes invert insert remove squeeze diag broadcast".split()
@@ -10,13 +15,6 @@ STEPS = "cut slice collapse index permute reverse swapaxes invert insert remove 
 
 class BadLine(Exception):
     """The line can't be read whole."""
-
-
-def product(lengths):
-    found = 1
-    for length in lengths:
-        found *= length
-    return found
 
 
 def has_checked_size(lengths):
@@ -73,11 +71,10 @@ class Line:
         if not has_checked_size(lengths):
             raise BadLine
         elements = self.many(product(lengths), self.integer)
-        return numpy.array(elements, dtype=numpy.int64).reshape(lengths)
+        return Table(lengths, elements)
 
     def order(self):
-        """numpy's name of the order."""
-        return self.one_of({"row": "C", "col": "F"})
+        return self.one_of({"row": "row", "col": "col"})
 
     def one_of(self, table):
         word = self.word()

@@ -1,7 +1,8 @@
 """Random scripts: calls that mostly fit the array they are for, and some that don't; now and then a byte is changed."""
 
 from meaning import Refused, reply_and_rest, listed, stepped, text_of
-from reading import STEPS, Line, product
+from reading import MOST_AXES, STEPS, Line
+from table import product
 
 CALLS = "keep keep ask ask ask write write split reshape append append push reserve select removeindex".split()
 QUESTIONS = "shape elements elements get first last equal count reshape reshape".split()
@@ -29,6 +30,11 @@ class Writer:
         return self.random.randrange(-length - 2, length + 3) if self.is_rare() else fitting
 
     def lengths(self, most=4):
+        """Some lengths of 0 to 4, rarely about as many as an array can have."""
+        if self.is_rare(0.02):
+            lengths = [1] * self.random.randrange(MOST_AXES - 2, MOST_AXES + 1)
+            lengths[self.random.randrange(len(lengths))] = self.random.randrange(3)
+            return lengths
         return [self.random.choice([0, 1, 1, 2, 2, 3, 3, 4]) for _ in range(self.random.randrange(most + 1))]
 
     def element(self):
@@ -150,6 +156,7 @@ class Writer:
             del other[axis]
         elif axis < len(other):
             other[axis] = self.random.choice([0, 1, 1, 2, 3])
+        other = [1 if self.is_rare(0.15) else length for length in other]
         return f"{name} {axis} {self.array(self.lengths() if self.is_rare() else other)}"
 
     def call(self, array):

@@ -1,0 +1,103 @@
+#!/usr/bin/env python3
+"""Refuses memory to the program and to every call of an array that takes some: the first request for memory, then the second, and so
+on until a run meets no refusal. Refuses clones too, to every call that clones: the first one, then the second, and so on.
+
+    tests/refused_memory.py
+
+A script whose n-th request is refused must write exactly the replies of the calls before the one that made the request, then
+`out of memory`, with status 2; nothing before it where the request was made while the script was read or for the list of replies.
+The run that meets no refusal must give the answer. Which call a request belongs to is counted: see scripts.py. A call must
+end as calls.txt says, all that stays must be as it says, and every number must be dropped once. Prints a table of the scripts and one of the
+calls, and last `N passed, M failed`. Nothing is proved here; it wants `rt`.
+"""
+
+import concurrent.futures
+import pathlib
+import shutil
+import subprocess
+import sys
+import tempfile
+
+sys.dont_write_bytecode = True
+sys.path.insert(0, str(pathlib.Path(__file__).parent / "refused_memory"))
+
+import calls
+import scripts
+
+TOP = pathlib.Path(__file__).resolve().parent.parent
+# The request that is refused, counted over a whole run: more than any run here makes before it uses up what is left to it.
+REFUSED = 200
+
+
+def copied_to(root):
+    """The folder of the program of refused calls, in a copy of what it stands on."""
+    names = [line.split(":")[0].split()[0] for line in open(TOP / "crates.txt") if line.strip() and line[0] != "#"]
+    for name in names:
+        for part in ("src", "specs"):
+            if (TOP / "crates" / name / part).is_dir():
+                shutil.copytree(TOP / "crates" / name / part, root / "crates" / name / part)
+    program = root / "crates" / "refused_calls"
+    (program / "src").mkdir(parents=True)
+    for file in (TOP / "tests" / "refused_memory").glob("*.rt.txt"):
+        shutil.copy(file, program / "src" / file.name.removesuffix(".txt"))
+    line = "refused_calls: nd_shape_and_slice nd_array_core nd_run num_traits\n"
+    (root / "crates.txt").write_text((TOP / "crates.txt").read_text() + line)
+    return program
+
+
+def run_all(program, inputs, refused):
+    """What the program writes for each input, its status and how many requests it made, where this request is refused."""
+    with tempfile.TemporaryDirectory() as folder:
+        for name, text in inputs.items():
+            pathlib.Path(folder, name).write_bytes(text)
+        words = ["rt", "try", "--cases", folder, "--fail-alloc", str(refused)]
+        ran = subprocess.run(words, cwd=program, capture_output=True)
+    ends, texts = ran.stderr.decode(errors="replace"), {}
+    for line in ran.stdout.decode(errors="replace").splitlines(keepends=True):
+        if line.startswith("== "):
+            texts[line[3:-1]] = ""
+        else:
+            texts[list(texts)[-1]] += line
+    found, requests = {}, 0
+    for line in ends.splitlines():
+        words = line.split()
+        if words[:1] == ["allocations:"]:
+            requests = int(words[1])
+        elif line.startswith("case=") and words[1] == "run=ended" and words[3] == "runners=2":
+            name = words[0].removeprefix("case=")
+            found[name] = (texts.get(name, ""), int(words[2].removeprefix("status=")), requests)
+    lost = sorted(set(inputs) - set(found))
+    if lost:
+        sys.exit(f"no answer, or two that differ, of {' '.join(lost)}:\n{ends[-4000:]}")
+    return found
+
+
+def refuse(program, tests):
+    """Counts the requests of these tests, refuses each of them, and judges what came of it."""
+    counting = {name: text for test in tests for name, text in test.counting().items()}
+    counted = run_all(program, counting, 10**9)
+    refusing = {name: text for test in tests for name, text in test.refusing(counted, REFUSED).items()}
+    ran = run_all(program, refusing, REFUSED)
+    for test in tests:
+        test.judge(ran)
+
+
+def main():
+    kinds = {scripts.Script: scripts.tests(TOP), calls.Call: calls.tests()}
+    with tempfile.TemporaryDirectory() as folder, concurrent.futures.ThreadPoolExecutor() as pool:
+        program = copied_to(pathlib.Path(folder))
+        for done in [pool.submit(refuse, program, tests) for tests in kinds.values()]:
+            done.result()
+    for kind, tests in kinds.items():
+        print("", *kind.HEAD, sep="\n")
+        for test in tests:
+            print(test.row(), *(f"  {fault}" for fault in test.faults), sep="\n")
+    missing = calls.without_a_row(TOP, kinds[calls.Call])
+    print("\nCalls that may lack memory and have no row:", *missing or ["none"])
+    failed = [bool(test.faults) for tests in kinds.values() for test in tests] + [True] * len(missing)
+    print(f"\n{failed.count(False)} passed, {failed.count(True)} failed")
+    return 1 if any(failed) else 0
+
+
+if __name__ == "__main__":
+    sys.exit(main())
