@@ -1,6 +1,6 @@
 //! The storages of arrays: an owned vector, or a borrow of elements, shared or to be written.
 
-ghost use Rattle.std.specs.Prelude.{◌≡◌, ◌+◌, ◌*◌, ◌<◌, ◌≤◌, ◌^◌, ⊤, ℕ, length, Bool, true, false, List, [], Option, IsSome, Some, IfOk, IfErr, is_ok, slice_get, slice_range, refl, slice_index_or};
+ghost use Rattle.std.specs.Prelude.{◌≡◌, ◌+◌, ◌*◌, ◌<◌, ◌≤◌, ◌^◌, ⊤, ℕ, length, Bool, true, false, List, [], Option, IsSome, Some, IfOk, IfErr, is_ok, slice_get, slice_range, refl, slice_index_or, vec_capacity};
 ghost use Rattle.std.specs.Borrow.{sem, follows, Array};
 ghost use Rattle.std.specs.List.{flat_map};
 ghost use Rattle.std.specs.Option.{is_some};
@@ -12,7 +12,7 @@ ghost use Rattle.nd_region.specs.Places.{names, names_not, overwritten_items, ru
 ghost use Rattle.nd_region.specs.Region.{region_stored, borrow_of, elements_of, with_element as region_with, with_items as region_items, with_run as region_with_run, HasPlaces, IsAsLong};
 ghost use Rattle.nd_storage.specs.Places.{HoldsAll, kept_at, written_at, swapped_at};
 ghost use Rattle.nd_storage.specs.Scoped.{TakesNamed, GivesNamedBack, IsNamedReturned, IsStoredReturned};
-ghost use Rattle.nd_storage.specs.Storages.{shown_by, stored_list};
+ghost use Rattle.nd_storage.specs.Storages.{shown_by, stored_list, room_of};
 ghost use Rattle.nd_storage.specs.ElementMut.{element_follows, KeepsPlaces, item_kept, item_written, place_kept, place_written};
 ghost use Rattle.nd_storage.specs.NewElements.{overwritten_itself, overwritten_again, places_there, places_kept, items_there, items_kept, items_itself, items_again, items_put, items_beside, places_put, places_beside};
 ghost use Rattle.nd_storage.specs.StorageLaws.{WritesOneElement, HoldsWrittenRun, KeepsBesideRun, HoldsLastRefill, HasRefilledItems, KeepsUnfilledPlaces, HoldsWhereBefore};
@@ -48,6 +48,8 @@ pub trait Data {
 
     /// All elements in the order in which they lie, also those that no index names.
     ghost items: { Self → List Self.Elem };
+    /// How many elements it can come to own without memory; a borrow none.
+    ghost room: { Self → ℕ };
     /// The storage with these elements in place of its own, where it may be written. It holds something where it did
     /// before.
     ghost refilled: { (s : Self) → List Self.Elem → (t : Self) × KeepsPlaces (stored s) (stored t) };
@@ -67,6 +69,7 @@ pub trait Data {
         ensures owned { is_ok result ≡ owned }
         ensures alone { IfOk result (λ _. exclusive ≡ true) }
         ensures items { IfOk result (λ v. v.items ≡ items self) }
+        ensures room { IfOk result (λ v. vec_capacity v ≡ room self) }
         ensures elements { IfOk result (λ v. (place : ℕ) → slice_get v.items place ≡ stored self place) }
         ensures kept { IfErr result (λ s. s ≡ self) };
 }
@@ -161,6 +164,8 @@ impl<A> Data for OwnedRepr<A> {
 
     ghost items = { λ s. s.items.items };
 
+    ghost room = { λ s. room_of s };
+
     ghost refilled = { λ s ws. (record { items = with_items s.items ws }, items_kept s.items ws) };
 
     fn element(&self, place: usize) -> &A {
@@ -191,6 +196,8 @@ impl<'a, A> Data for ViewRepr<'a, A> {
     ghost with_run = { λ s _ _ _. (s, λ p has. has) };
 
     ghost items = { λ _. [] };
+
+    ghost room = { λ _. 0 };
 
     ghost refilled = { λ s _. (s, λ p has. has) };
 
@@ -273,6 +280,8 @@ impl<'a, A> Data for ViewMutRepr<'a, A> {
     ghost with_run = { λ s place count ws. (record { region = region_with_run s.region place count ws; tie = s.tie }, places_kept s.region.items (run_written s.region.items place count ws) s.region.held) };
 
     ghost items = { λ s. s.region.items };
+
+    ghost room = { λ _. 0 };
 
     ghost refilled = { λ s ws. (record { region = region_items s.region (overwritten_items s.region.items ws); tie = s.tie }, places_kept s.region.items ws s.region.held) };
 

@@ -1,7 +1,7 @@
 //! Arrays of their own made of any array.
 #![tactic(auto, unfolding(crate::specs::Meaning::meaning_of, crate::specs::Meaning::memory_layout_of))]
 
-ghost use Rattle.std.specs.Prelude.{◌≡◌, ◌⊎◌, ◌<◌, ℕ, List, IfOk, IfErr, length, true, false, is_ok, slice_get};
+ghost use Rattle.std.specs.Prelude.{◌≡◌, ◌⊎◌, ◌<◌, ℕ, List, IfOk, IfErr, length, true, false, is_ok, slice_get, vec_capacity};
 ghost use Rattle.nd_shape_and_slice.specs.Shape.{size_of};
 ghost use Rattle.nd_shape_and_slice.specs.Place.{place_of, IsSeparated};
 ghost use Rattle.nd_shape_and_slice.specs.declared.builder.Order.TheVariants.{RowMajor};
@@ -13,7 +13,7 @@ ghost use Rattle.nd_array_core.specs.Part.{ShowsWhole, BecomesWhole};
 ghost use Rattle.nd_storage.specs.Places.{HoldsAll, stored_at};
 ghost use Rattle.nd_storage.specs.Clones.{ClonesOfAllAreEqual};
 ghost use Rattle.nd_array_core.specs.base.Fresh.{OwnsInOrder};
-ghost use Rattle.nd_storage.specs.Storages.{stored_list};
+ghost use Rattle.nd_storage.specs.Storages.{stored_list, room_of};
 ghost use Rattle.nd_array_core.specs.reshape.RunSlices.{IsRunArray, IsInMemoryOrder, CopiesRun, StoresInRowMajorOrder};
 
 use crate::base::array::{Array, ArrayBase};
@@ -121,6 +121,7 @@ fn of_vector<A, D: Dimension>(items: Vec<A>, layout: Layout<D, D::Strides>) -> A
     requires holds { HoldsAll (slice_get items.items) layout.offset (D.lengths layout.dim) (D.Strides.strides_of layout.strides) }
     requires apart { 0 < size_of (D.lengths layout.dim) → IsSeparated (D.lengths layout.dim) (D.Strides.strides_of layout.strides) }
     ensures storage { stored_list (storage_of result) ≡ items.items }
+    ensures room { room_of (storage_of result) ≡ vec_capacity items }
     ensures layout { result.layout ≡ layout }
 {
     ArrayBase {
@@ -136,6 +137,7 @@ impl<S: Data, D: Dimension> ArrayBase<S, D> {
         ensures owned { is_ok result ≡ S.owned }
         ensures whole { IfOk result (ShowsWhole self) }
         ensures stored { IfOk result (λ a. stored_list (storage_of a) ≡ S.items (storage_of self)) }
+        ensures room { IfOk result (λ a. room_of (storage_of a) ≡ S.room (storage_of self)) }
         ensures kept { IfErr result (BecomesWhole self) }
     {
         match self.storage.into_items() {
@@ -161,6 +163,7 @@ where
         ensures owned { S.owned ≡ true → is_ok result ≡ true }
         ensures whole { S.owned ≡ true → IfOk result (ShowsWhole self) }
         ensures items { S.owned ≡ true → IfOk result (λ a. stored_list (storage_of a) ≡ S.items (storage_of self)) }
+        ensures room { S.owned ≡ true → IfOk result (λ a. room_of (storage_of a) ≡ S.room (storage_of self)) }
         ensures run { S.owned ≡ false → IsRunArray self → IfOk result (CopiesRun self) }
         ensures owns { S.owned ≡ false → (IsRunArray self → ⊥) → IfOk result (OwnsInOrder (shape_of self, RowMajor)) }
     {
