@@ -6,6 +6,8 @@ mod along;
 #[cfg(test)]
 mod lanes;
 #[cfg(test)]
+mod layouts;
+#[cfg(test)]
 mod mapped;
 #[cfg(test)]
 mod moves;

@@ -241,3 +241,39 @@ fn no_line_with_words(rt: HostRuntime) {
         assert_eq!(rt; status, 1);
     }
 }
+
+// What else is told of lines: what stands too much, an empty line, numbers out of range, and numbers spelled in another way.
+const LINES: [(&[u8], &[u8], u8); 15] = [
+    (b"start 1 1 5\nask get 1 0 0", b"bad line 2\n", 1),
+    (b"start 1 1 5\nask cut 0 0 _ 1 elements", b"bad line 2\n", 1),
+    (b"start 1 1 5\nfill 1", b"bad line 2\n", 1),
+    (b"start 1 1 5\n\nkeep", b"bad line 3\n", 1),
+    (b"start 1 0\nstart 1 0", b"bad line 2\n", 1),
+    (b"\n\n", b"bad line 3\n", 1),
+    (b"start 1 1 -9223372036854775809", b"bad line 1\n", 1),
+    (b"start 1 1 +5", b"bad line 1\n", 1),
+    (b"start 2 4294967296 4294967296", b"bad line 1\n", 1),
+    (b"start 1 9223372036854775807 5", b"bad line 1\n", 1),
+    (
+        b"start 1 1 5\nask get 18446744073709551615 0",
+        b"bad line 2\n",
+        1,
+    ),
+    (b"start 1 1 5\nkeep invert -0", b"bad line 2\n", 1),
+    (b"start 1 1 -0", b"end 1 1 0\n", 0),
+    (b"start 1 1 007\r", b"end 1 1 7\n", 0),
+    (
+        b"start 2 9223372036854775807 0",
+        b"end 2 9223372036854775807 0\n",
+        0,
+    ),
+];
+
+#[test]
+fn lines_at_their_limits(rt: HostRuntime) {
+    for (text, wanted, ended) in LINES {
+        let (written, status) = answer(rt.alloc(), text);
+        assert_eq!(rt; written.as_slice(), wanted);
+        assert_eq!(rt; status, ended);
+    }
+}

@@ -55,6 +55,9 @@ const LINES: [(&[u8], &[u8], &[u8], &[u8]); 8] = [
     ),
 ];
 
+// The number that the last line ends in is more than any shape has.
+const LAST: &[u8] = b"reserve 0 18446744073709551615";
+
 // What the script writes once these lines have gone, and what comes behind it.
 fn writes(rt: &(impl Abort + AllocGlobal), text: &[u8], replies: &[u8], behind: &[u8], status: u8) {
     let (written, ended) = answer(rt.alloc(), text);
@@ -63,8 +66,24 @@ fn writes(rt: &(impl Abort + AllocGlobal), text: &[u8], replies: &[u8], behind: 
     assert_eq!(rt; ended, status);
 }
 
+// What the script writes where its last line asks for room: little enough that it is there, or more than there may be.
+fn reserves_or_not(rt: &(impl Abort + AllocGlobal), text: &[u8], replies: &[u8], little: bool) {
+    let (written, ended) = answer(rt.alloc(), text);
+    assert_eq!(rt; written.get(..replies.len()), Some(replies));
+    let behind = written.get(replies.len()..);
+    if ended == 2 && !little {
+        assert_eq!(rt; behind, Some(b"out of memory\n".as_slice()));
+    } else {
+        assert_eq!(rt; ended, 0);
+        assert_eq!(rt;
+            behind,
+            Some(b"done\nend 2 3 3 7 8 9 4 5 6 1 2 3\n".as_slice())
+        );
+    }
+}
+
 // A line cut short is bad, since none of these can end earlier; whole it counts, with or without its line feed. The number
-// of the last line counts however short it is cut: it is room that is there, or more than memory, or more than any shape has.
+// of the last line counts however short it is cut: it is room that is there, or that may be, or more than any shape has.
 #[test]
 fn cut_after_each_byte(rt: HostRuntime) {
     let mut text = Vec::new(rt.alloc());
@@ -81,31 +100,20 @@ fn cut_after_each_byte(rt: HostRuntime) {
         text.push(b'\n').expect(&rt, "memory");
         writes(&rt, &text, &replies, end, 0);
     }
-    for byte in b"reserve 0 " {
+    for (at, byte) in LAST.iter().enumerate() {
         text.push(*byte).expect(&rt, "memory");
-        writes(&rt, &text, &[], b"bad line 9\n", 1);
+        if at < 10 {
+            writes(&rt, &text, &[], b"bad line 9\n", 1);
+        } else if at + 1 < LAST.len() {
+            reserves_or_not(&rt, &text, &replies, at < 14);
+        }
     }
-    for byte in b"1844" {
-        text.push(*byte).expect(&rt, "memory");
-        writes(
-            &rt,
-            &text,
-            &replies,
-            b"done\nend 2 3 3 7 8 9 4 5 6 1 2 3\n",
-            0,
-        );
-    }
-    text.extend_from_slice(b"674407370955161")
+    replies
+        .extend_from_slice(b"refused 6\n")
         .expect(&rt, "memory");
-    writes(&rt, &text, &replies, b"out of memory\n", 2);
-    text.push(b'5').expect(&rt, "memory");
-    writes(
-        &rt,
-        &text,
-        &replies,
-        b"refused 6\nend 2 3 3 7 8 9 4 5 6 1 2 3\n",
-        0,
-    );
+    writes(&rt, &text, &replies, b"end 2 3 3 7 8 9 4 5 6 1 2 3\n", 0);
+    text.push(b'\n').expect(&rt, "memory");
+    writes(&rt, &text, &replies, b"end 2 3 3 7 8 9 4 5 6 1 2 3\n", 0);
 }
 
 // A byte 255 in place of any byte, a blank or a line feed too, is in a word of that line.
@@ -116,9 +124,14 @@ fn no_word_has_it(rt: HostRuntime) {
         text.extend_from_slice(line).expect(&rt, "memory");
         text.push(b'\n').expect(&rt, "memory");
     }
+    text.extend_from_slice(LAST).expect(&rt, "memory");
     let mut from = 0;
-    for (bad, line, _, _) in LINES {
-        for _byte in 0..=line.len() {
+    for (bad, length) in LINES
+        .iter()
+        .map(|(bad, line, _, _)| (*bad, line.len() + 1))
+        .chain([(b"bad line 9\n".as_slice(), LAST.len())])
+    {
+        for _byte in 0..length {
             let mut damaged = Vec::from_slice(rt.alloc(), &text).expect(&rt, "memory");
             if let Some(place) = damaged.get_mut(from) {
                 *place = 255;

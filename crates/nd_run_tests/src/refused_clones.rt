@@ -184,8 +184,12 @@ fn assigned_with(alloc: Global, tally: &Tally) -> Result<(usize, bool), Fail> {
 fn refused_clones_of_other_lengths(rt: HostRuntime) -> Result<(), Fail> {
     for (allowed, replies, whole) in [
         (0, 1, false),
+        (1, 1, false),
+        (2, 1, false),
         (3, 1, false),
         (4, 2, false),
+        (5, 2, false),
+        (6, 2, false),
         (7, 2, false),
         (8, 3, true),
     ] {
@@ -244,6 +248,51 @@ fn refused_clones_of_what_comes_behind(rt: HostRuntime) -> Result<(), Fail> {
     for (allowed, replies, count) in [(0, 0, 0), (1, 0, 0), (2, 2, 0), (3, 3, 6)] {
         let tally = Tally::allowing(allowed);
         assert_eq!(rt; lengthened_with(rt.alloc(), &tally)?, (replies, count));
+        assert_eq!(rt; tally.living(), Some(0));
+    }
+    Ok(())
+}
+
+// An array of three elements with some chosen of it, asked for its first and its last, and for all of them as a column.
+fn chosen_and_asked<A: Clone + Eq + Drop>(
+    alloc: Global,
+    start: Array<A, IxDyn>,
+) -> Result<(usize, bool), Fail>
+    requires { (x y : A) → A.is_clone x y → y ≡ x }
+{
+    let mut calls = Vec::new(alloc);
+    calls.push(Call::Select(0, Vec::from_slice(alloc, &[2, 0, 2])?))?;
+    calls.push(Call::Ask(Vec::new(alloc), Question::First))?;
+    calls.push(Call::Ask(Vec::new(alloc), Question::Last))?;
+    calls.push(Call::Ask(
+        Vec::new(alloc),
+        Question::ToShape(Vec::from_slice(alloc, &[3, 1])?, Order::RowMajor),
+    ))?;
+    match run(alloc, start, &calls) {
+        Ok((replies, _)) => Ok((replies.len(), true)),
+        Err(RunFault::Memory(replies)) => Ok((replies.len(), false)),
+    }
+}
+
+fn chosen_with(alloc: Global, tally: &Tally) -> Result<(usize, bool), Fail> {
+    chosen_and_asked(alloc, three_numbers(alloc, tally)?)
+}
+
+#[test]
+fn refused_clones_of_what_is_chosen_and_asked(rt: HostRuntime) -> Result<(), Fail> {
+    for (allowed, replies, whole) in [
+        (0, 0, false),
+        (1, 0, false),
+        (2, 0, false),
+        (3, 1, false),
+        (4, 2, false),
+        (5, 3, false),
+        (6, 3, false),
+        (7, 3, false),
+        (8, 4, true),
+    ] {
+        let tally = Tally::allowing(allowed);
+        assert_eq!(rt; chosen_with(rt.alloc(), &tally)?, (replies, whole));
         assert_eq!(rt; tally.living(), Some(0));
     }
     Ok(())
