@@ -33,6 +33,7 @@ mod strides;
 pub mod tables;
 mod two_calls;
 mod two_parts;
+pub mod views_held;
 mod writes;
 
 pub use along::lengths_along;

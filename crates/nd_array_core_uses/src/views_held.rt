@@ -1,0 +1,28 @@
+//! Arrays whose elements are views.
+ghost use Rattle.std.specs.Prelude.{◌≡◌, ℕ, List, Some, IfOk};
+ghost use Rattle.nd_array_core.specs.Meaning.{shape_of, element_at, inside};
+
+use nd_array_core::{Array1, ArrayView2};
+use nd_shape_and_slice::NoMemory;
+use std::alloc::Global;
+
+/// A copy of a list of pictures: the same views. No element of a picture is cloned.
+pub fn copied_pictures<'a, A>(
+    alloc: Global,
+    pictures: &Array1<ArrayView2<'a, A>>,
+) -> Result<Array1<ArrayView2<'a, A>>, NoMemory>
+    ensures shape { IfOk result (λ copy. shape_of copy ≡ shape_of pictures.now) }
+    ensures elements { IfOk result (λ copy. (i : List ℕ) → element_at copy i ≡ element_at pictures.now i) }
+{
+    pictures.to_owned(alloc)
+}
+
+/// Puts one picture in the place of each of a list. It can't lack memory.
+pub fn show_one<'a, A>(pictures: &mut Array1<ArrayView2<'a, A>>, picture: ArrayView2<'a, A>)
+    ensures { (i : List ℕ) → element_at pictures.new i ≡ inside (shape_of pictures.old) i (Some picture.entry) }
+{
+    match pictures.fill(picture) {
+        Ok(()) => {}
+        Err(_) => unreachable!(),
+    }
+}
