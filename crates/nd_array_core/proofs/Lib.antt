@@ -18,6 +18,8 @@ pub mod Handed
 pub mod OwnShape
 pub mod Stretched
 pub mod Masks
+pub mod AssignedSlices
+pub mod EqualCells
 pub mod Fresh
 pub mod Diagonals
 pub mod LastIndexes

@@ -1,5 +1,5 @@
 -- When two arrays are equal, and what of an array a hasher is fed.
-use Rattle.std.specs.Prelude.{◌≡◌, ℕ, Bool, true, ◌&&◌, nat_eq, List, [], ◌∷◌, ◌++◌, Some}
+use Rattle.std.specs.Prelude.{◌≡◌, ◌↔◌, ◌<◌, ℕ, Bool, true, ◌&&◌, nat_eq, List, [], ◌∷◌, ◌++◌, Some, slice_index}
 use Rattle.std.specs.Cmp.{IsPartialEquivalence, IsEquivalence, partial_equiv_from_equiv, and_per, and_equiv, on_per, on_equiv, nat_eq_equiv, unsigned_Decides, first_so, second_so}
 use Rattle.std.specs.Cmp.Lexicographic.{pointwise, lists_per, lists_equiv}
 use Rattle.std.specs.Hash.{HashWrites, Alike, and-Alike, on_Alike, items_Alike, same_Alike, slice, usize}
@@ -16,6 +16,14 @@ module _ {A : Type 0} where
   -- the shapes are the same, and the elements at each index are equal
   abbrev pub EqualEverywhere : (A → A → Bool) → Meaning A → Meaning A → Type 0
   EqualEverywhere equal m n = (m.shape ≡ n.shape) × ((i : List ℕ) (x y : A) → m.at i ≡ Some x → n.at i ≡ Some y → equal x y ≡ true)
+
+  -- elements are equal exactly where they are the same, as numbers are
+  abbrev pub EqualIsSame : (A → A → Bool) → Type 0
+  EqualIsSame equal = (x y : A) → (equal x y ≡ true) ↔ (x ≡ y)
+
+  -- two images have the same shape, and the same element at each row and column
+  abbrev pub SameCells : Meaning A → Meaning A → Type 0
+  SameCells m n = (m.shape ≡ n.shape) × ((row column : ℕ) → row < slice_index m.shape 0 → column < slice_index m.shape 1 → m.at (row ∷ column ∷ []) ≡ n.at (row ∷ column ∷ []))
 
   -- the lengths as a slice, and then each element in row-major order
   abbrev pub fed_meaning : (A → HashWrites) → Meaning A → HashWrites

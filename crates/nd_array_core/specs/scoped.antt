@@ -3,3 +3,4 @@ pub mod Tasks
 pub mod PartTasks
 pub mod Sources
 pub mod Fills
+pub mod Assigned

@@ -1,11 +1,11 @@
 //! Images compared pixel by pixel.
-ghost use Rattle.std.specs.Prelude.{◌↔◌, ◌≡◌, ◌<◌, true, nat_eq, IsTrue, slice_index};
+ghost use Rattle.std.specs.Prelude.{◌↔◌, ◌≡◌, ◌<◌, ℕ, true, nat_eq, IsTrue, slice_index};
 ghost use Rattle.nd_array_core.specs.Equality.{EqualEverywhere};
 ghost use Rattle.nd_array_core.specs.Meaning.{meaning_of, shape_of};
 ghost use Rattle.nd_array_core.specs.Coordinates.{element_of_2};
 ghost use Rattle.nd_array_core_uses.specs.Images.{SamePixels};
 
-use nd_array_core::laws::nothing_outside;
+use nd_array_core::laws::{equal_cells, nothing_outside};
 use nd_array_core::{ArrayBase, Data};
 use nd_shape_and_slice::Ix2;
 
@@ -62,4 +62,16 @@ pub fn equal_either_way<S: Data<Elem = u64>>(
     ensures { result ≡ true }
 {
     pixels_equal(one, other) == (*one == *other)
+}
+
+/// Whether a matrix of numbers is the transpose of another.
+pub fn is_transpose<S: Data<Elem = u64>>(one: &ArrayBase<S, Ix2>, other: &ArrayBase<S, Ix2>) -> bool
+    ensures { IsTrue result ↔ ((slice_index (shape_of one.now) 0 ≡ slice_index (shape_of other.now) 1) × (slice_index (shape_of one.now) 1 ≡ slice_index (shape_of other.now) 0) × ((row column : ℕ) → row < slice_index (shape_of one.now) 0 → column < slice_index (shape_of one.now) 1 → element_of_2 one.now row column ≡ element_of_2 other.now column row)) }
+{
+    let (_rows, _columns) = one.dim();
+    let (_other_rows, _other_columns) = other.dim();
+    let turned = other.t();
+    let seen = one.view();
+    equal_cells(&seen, &turned);
+    seen == turned
 }

@@ -1,5 +1,5 @@
 -- Laws of reshapes, and of an array's elements as a list, over meanings and lists of lengths alone.
-use Rattle.std.specs.Prelude.{ℕ, ◌≡◌, ◌<◌, ◌+◌, ◌*◌, true, List, ◌∷◌, slice_get}
+use Rattle.std.specs.Prelude.{ℕ, ◌≡◌, ◌<◌, ◌+◌, ◌*◌, true, List, [], ◌∷◌, slice_get}
 use Rattle.nd_shape_and_slice.specs.Shape.{in_box, row_rank, size_of}
 use Rattle.nd_shape_and_slice.specs.declared.builder.Order.{Order}
 use Rattle.nd_shape_and_slice.specs.declared.builder.Order.TheVariants.{RowMajor}
@@ -23,3 +23,7 @@ ListsByRank x = (i : List ℕ) → in_box x.shape i ≡ true → slice_get (row_
 -- where the first two axes are as one, row-major, stands what stood at each index
 abbrev pub JoinsFirstAxes : {A : Type 0} → Meaning A → Type 0
 JoinsFirstAxes x = (n m : ℕ) (ms : List ℕ) → x.shape ≡ n ∷ m ∷ ms → (i j : ℕ) (is : List ℕ) → in_box x.shape (i ∷ j ∷ is) ≡ true → (regrouped_meaning RowMajor (n * m ∷ ms) x).at ((i * m + j) ∷ is) ≡ x.at (i ∷ j ∷ is)
+
+-- where the rows of a table are one list, stands what stood at each row and column
+abbrev pub JoinsRows : {A : Type 0} → Meaning A → Type 0
+JoinsRows x = (n m : ℕ) → x.shape ≡ n ∷ m ∷ [] → (i j : ℕ) → i < n → j < m → (regrouped_meaning RowMajor (n * m ∷ []) x).at ((i * m + j) ∷ []) ≡ x.at (i ∷ j ∷ [])

@@ -1,0 +1,77 @@
+-- An array after the part of it that a list of slices names was written from another array, or changed by a closure; and which
+-- index of the part stands for one of the array.
+use Rattle.std.specs.Prelude.{◌≡◌, ◌⊎◌, ℕ, zero, suc, ◌-◌, ◌/◌, ℤ, pos, negsuc, true, List, [], ◌∷◌, Option}
+use Rattle.std.specs.Borrow.{MutBor}
+use Rattle.std.specs.Fn.{Mut}
+use Rattle.std.specs.Option.{option_map}
+use Rattle.nd_shape_and_slice.specs.Shape.{in_box}
+use Rattle.nd_shape_and_slice.specs.Slice.{low_of, high_of}
+use Rattle.nd_shape_and_slice.specs.SliceInfo.{shape_after, index_before}
+use Rattle.nd_shape_and_slice.specs.Naming.{names_index}
+use Rattle.nd_shape_and_slice.specs.declared.slice_info.SliceInfoElem.{SliceInfoElem}
+use Rattle.nd_shape_and_slice.specs.declared.slice_info.SliceInfoElem.TheVariants.{Slice as Part, Index, NewAxis}
+use Rattle.nd_shape_and_slice.specs.declared.dimension.Dimension as dimension
+use Rattle.nd_shape_and_slice.specs.declared.dimension.AxisCount as axis_count
+use Rattle.nd_shape_and_slice.specs.declared.dimension.StrideList as stride_list
+use Rattle.nd_storage.specs.declared.storage.Data as data_trait
+use Rattle.nd_storage.specs.Meaning.{inside}
+use Rattle.nd_storage.specs.elements.Changes.{ChangeableInAnyOrder, ChangesAll, ChangesBy}
+use Rattle.nd_array_core.specs.declared.base.array.ArrayBase.{ArrayBase}
+use Rattle.nd_array_core.specs.Meaning.{shape_of, element_at}
+
+-- ---- the index of a part that stands for one of the array
+-- the coordinate under a slice: how many steps lead to it, up from the low end, or down from the last coordinate of the range
+abbrev pub coordinate_after : ℤ → ℕ → ℕ → ℕ → ℕ
+coordinate_after (pos zero) low high c = 0
+coordinate_after (pos (suc zero)) low high c = c - low
+coordinate_after (pos (suc (suc k))) low high c = (c - low) / suc (suc k)
+coordinate_after (negsuc d) low high c = (high - 1 - c) / suc d
+
+-- axis by axis; a new axis has coordinate 0
+abbrev pub index_after : List ℕ → List SliceInfoElem → List ℕ → List ℕ
+index_after ns [] is = []
+index_after [] (Part start end step ∷ es) is = []
+index_after (n ∷ ns) (Part start end step ∷ es) [] = []
+index_after (n ∷ ns) (Part start end step ∷ es) (i ∷ is) = coordinate_after step (low_of n (record { start = start; end = end; step = step })) (high_of n (record { start = start; end = end; step = step })) i ∷ index_after ns es is
+index_after [] (Index k ∷ es) is = []
+index_after (n ∷ ns) (Index k ∷ es) [] = []
+index_after (n ∷ ns) (Index k ∷ es) (i ∷ is) = index_after ns es is
+index_after [] (NewAxis ∷ es) is = 0 ∷ index_after [] es is
+index_after (n ∷ ns) (NewAxis ∷ es) is = 0 ∷ index_after (n ∷ ns) es is
+
+module _ {S D T A P R L M : Type 0} {s : data_trait.Ghosts S A} {d : dimension.Ghosts D P R L M} {n : axis_count.Ghosts D} {r : stride_list.Ghosts R} {t : stride_list.Ghosts T} where
+  -- what the part that a list of slices names of the first array shows in the second one
+  abbrev pub named_at : ArrayBase S D T A P R L M s d n r t → List SliceInfoElem → ArrayBase S D T A P R L M s d n r t → List ℕ → Option A
+  named_at old slices a i = inside (shape_after (shape_of old) slices) i (element_at a (index_before (shape_of old) slices i))
+
+  module _ {F : Type 0} (g : Mut F (MutBor A × Unit {0}) (Unit {0} × (MutBor A × Unit {0}))) where
+    -- whichever elements of the part were changed, the next call may be made
+    abbrev pub ChangeableInPart : ArrayBase S D T A P R L M s d n r t → List SliceInfoElem → F → Type 0
+    ChangeableInPart a slices f = ChangeableInAnyOrder g (shape_after (shape_of a) slices) (named_at a slices a) f
+
+    -- one call for each index of the part, in some order, left its new elements
+    abbrev pub ChangesPart : ArrayBase S D T A P R L M s d n r t → ArrayBase S D T A P R L M s d n r t → List SliceInfoElem → F → Type 0
+    ChangesPart old new slices f = ChangesAll g (shape_after (shape_of old) slices) (named_at old slices old) (named_at old slices new) f
+
+    -- where the closure leaves what h gives of an element, and stays as it is, that stands at each index that the list names
+    abbrev pub ChangesNamed : ArrayBase S D T A P R L M s d n r t → ArrayBase S D T A P R L M s d n r t → List SliceInfoElem → F → Type 0
+    ChangesNamed old new slices f = (h : A → A) → ChangesBy g h f → (i : List ℕ) → in_box (shape_of old) i ≡ true → names_index (shape_of old) slices i ≡ true → element_at new i ≡ option_map h (element_at old i)
+
+module _
+    {S D T A P R L M : Type 0} {s : data_trait.Ghosts S A} {d : dimension.Ghosts D P R L M} {n : axis_count.Ghosts D} {r : stride_list.Ghosts R} {t : stride_list.Ghosts T}
+    {Z E U Q X V W : Type 0} {z : data_trait.Ghosts Z A} {e : dimension.Ghosts E Q X V W} {k : axis_count.Ghosts E} {x : stride_list.Ghosts X} {u : stride_list.Ghosts U} where
+  -- the patch has the shape of the part that the list names
+  abbrev pub FitsPart : ArrayBase S D T A P R L M s d n r t → List SliceInfoElem → ArrayBase Z E U A Q X V W z e k x u → Type 0
+  FitsPart a slices patch = shape_of patch ≡ shape_after (shape_of a) slices
+
+  -- each index of the part has the patch's element
+  abbrev pub AssignsPart : ArrayBase S D T A P R L M s d n r t → ArrayBase S D T A P R L M s d n r t → List SliceInfoElem → ArrayBase Z E U A Q X V W z e k x u → Type 0
+  AssignsPart old new slices patch = (i : List ℕ) → in_box (shape_after (shape_of old) slices) i ≡ true → element_at new (index_before (shape_of old) slices i) ≡ element_at patch i
+
+  -- or its old element at some
+  abbrev pub AssignsPartly : ArrayBase S D T A P R L M s d n r t → ArrayBase S D T A P R L M s d n r t → List SliceInfoElem → ArrayBase Z E U A Q X V W z e k x u → Type 0
+  AssignsPartly old new slices patch = (i : List ℕ) → in_box (shape_after (shape_of old) slices) i ≡ true → (element_at new (index_before (shape_of old) slices i) ≡ element_at old (index_before (shape_of old) slices i)) ⊎ (element_at new (index_before (shape_of old) slices i) ≡ element_at patch i)
+
+  -- each index of the array that the list names has the patch's element at the index that stands for it
+  abbrev pub AssignsNamed : ArrayBase S D T A P R L M s d n r t → ArrayBase S D T A P R L M s d n r t → List SliceInfoElem → ArrayBase Z E U A Q X V W z e k x u → Type 0
+  AssignsNamed old new slices patch = (i : List ℕ) → in_box (shape_of old) i ≡ true → names_index (shape_of old) slices i ≡ true → element_at new i ≡ element_at patch (index_after (shape_of old) slices i)
