@@ -180,7 +180,7 @@ fn widens<A: Numbered + Clone + Drop>(table: &mut Array2<A>, more: &Array2<A>) -
 }
 
 /// A table of numbers that are counted in a tally.
-fn counted<'a>(
+pub fn counted<'a>(
     rt: &(impl Abort + AllocGlobal),
     shape: (usize, usize),
     strides: &[isize; 2],

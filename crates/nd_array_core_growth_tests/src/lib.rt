@@ -4,6 +4,8 @@
 #[cfg(test)]
 mod appends;
 #[cfg(test)]
+mod broadcasts;
+#[cfg(test)]
 mod growth;
 #[cfg(test)]
 mod pushes;

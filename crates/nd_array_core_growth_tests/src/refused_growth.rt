@@ -114,3 +114,20 @@ fn tables_made_longer(rt: HostRuntime) -> Result<(), Fail> {
     }
     Ok(())
 }
+
+#[test]
+fn broadcast_rows_in_reserved_room(rt: HostRuntime) -> Result<(), Fail> {
+    let nine: Array2<u64> = array_of((1, 1), Vec::from_slice(rt.alloc(), &[9])?)?;
+    let row: Array2<u64> = array_of((1, 2), Vec::from_slice(rt.alloc(), &[3, 4])?)?;
+    let mut table: Array2<u64> = array_of((1, 2), Vec::from_slice(rt.alloc(), &[1, 2])?)?;
+    if table.reserve_rows(3).is_err() {
+        return Err("refused: reserve_rows".into());
+    }
+    let (_rows, _columns) = table.dim();
+    let done = table
+        .append_each(Axis(0), &[nine.view(), row.view(), nine.view()])
+        .is_ok();
+    assert!(rt; done);
+    assert!(rt; shows(&table, [4, 2], &[1, 2, 9, 9, 3, 4, 9, 9]));
+    Ok(())
+}

@@ -1,13 +1,13 @@
 -- What a list of calls answers, and what it leaves of an array's meaning: a fold over the calls. No view, borrow
 -- or storage occurs.
-use Rattle.std.specs.Prelude.{◌≡◌, ◌<◌, ◌+◌, ◌^◌, ◌==◌, ℕ, nat_eq, nat_lt, nat_le, slice_index, slice_set, length, vec_capacity, Bool, Option, None, true, false, not, ◌||◌, List, [], ◌∷◌, ◌++◌, Result, Ok, Err, ◌⊎◌}
+use Rattle.std.specs.Prelude.{◌≡◌, ◌<◌, ◌+◌, ◌^◌, ◌==◌, ℕ, nat_lt, nat_le, slice_index, slice_set, length, vec_capacity, Bool, Option, None, true, false, not, ◌||◌, List, [], ◌∷◌, ◌++◌, Result, Ok, Err, ◌⊎◌}
 use Rattle.nd_shape_and_slice.specs.Shape.{in_box}
 use Rattle.nd_array_core.specs.Meaning.{Meaning, meaning_through}
 use Rattle.nd_shape_and_slice.specs.FirstIndex.{first_index}
 use Rattle.nd_array_core.specs.LastIndex.{last_index}
 use Rattle.nd_array_core.specs.Equality.{equal_meanings}
-use Rattle.std.specs.Cmp.Lexicographic.{pointwise}
-use Rattle.nd_array_core.specs.Joined.{row_major_elements, concatenated, concatenated_shape}
+use Rattle.nd_shape_and_slice.specs.Broadcast.{stretches}
+use Rattle.nd_array_core.specs.Joined.{row_major_elements, concatenated, concatenated_shape, shape_behind}
 use Rattle.nd_run.specs.Calls.{AskedStep, Asking, AskShape, AskElements, AskElement, AskFirst, AskLast, AskEqual, AskCount, AskReshaped, Asked, Keeping, About, Writing, SplitWriting, Selecting, Removing, Reshaping, Appending, Reserving, Said, SaidDone, SaidRefused, SaidShape, SaidElements, SaidElement, SaidTruth, SaidNumber, said_reply}
 use Rattle.std.specs.Prelude.{map}
 use Rattle.std.specs.List.{count_by, list_all}
@@ -104,10 +104,11 @@ select_tests axis indexes ns =
     has_axis axis ns ∷ (list_all (λ k. nat_lt k (slice_index ns axis)) indexes, causes.Index)
     ∷ has_size (selected_shape ns axis indexes) ∷ []
 
--- the tests of an array of other lengths behind this one along an axis: but for the axis the lengths are equal
+-- the tests of an array of other lengths behind this one along an axis: it has as many axes, and each length but the axis's is
+-- this one's, or 1
 abbrev pub append_tests : ℕ → List ℕ → List ℕ → List Test
 append_tests axis ms ns =
-    (nat_lt 0 (length ns), causes.Shape) ∷ has_axis axis ns ∷ (pointwise nat_eq (slice_set ms axis (slice_index ns axis)) ns, causes.Shape)
+    (nat_lt 0 (length ns), causes.Shape) ∷ has_axis axis ns ∷ (stretches ms (shape_behind ns ms axis), causes.Shape)
     ∷ has_size (concatenated_shape ns ms axis) ∷ []
 
 -- the tests of room for more lengths of an axis

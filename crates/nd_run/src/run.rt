@@ -18,7 +18,7 @@ use crate::laws::paths_lead_along;
 use crate::steps::{advance, check, check_index, keep_refusal, take_step};
 use crate::write::{write_parts, write_through};
 use nd_array_core::laws::nothing_outside;
-use nd_array_core::{Array, ArrayBase, ArrayError, ArrayView, Data};
+use nd_array_core::{Array, ArrayBase, ArrayError, ArrayView, Data, fits_behind};
 use nd_shape_and_slice::{Axis, Dimension, IxDyn, MAX_AXES, Order, size_of_shape_checked};
 use std::alloc::{AllocError, Global};
 use std::mem;
@@ -271,12 +271,15 @@ fn check_append<S: Data, T: Data>(
 {
     check(array.ndim() > 0, Cause::Shape)?;
     check(axis < array.ndim(), Cause::Axis)?;
-    let len = array.len_of(Axis(axis));
-    let mut beside = other.raw_dim();
-    beside.set_length(axis, len);
-    check(beside.slice() == array.shape(), Cause::Shape)?;
+    check(
+        fits_behind(array.shape(), other.shape(), axis),
+        Cause::Shape,
+    )?;
     let mut joined = array.raw_dim();
-    joined.set_length(axis, len + other.len_of(Axis(axis)));
+    joined.set_length(
+        axis,
+        array.len_of(Axis(axis)) + other.len_of(Axis(axis)),
+    );
     check(
         size_of_shape_checked(joined.slice()).is_ok(),
         Cause::Overflow,

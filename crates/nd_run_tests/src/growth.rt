@@ -4,7 +4,7 @@ use crate::answers::written;
 
 #[test]
 fn arrays_behind_arrays(rt: HostRuntime) {
-    let table: [(&[u8], &[u8]); 9] = [
+    let table: [(&[u8], &[u8]); 11] = [
         // rows of another length, no such axis, and what fits
         (
             b"start 2 2 3 1 2 3 4 5 6\nask reverse / elements\nask broadcast 1 2 / shape\nask get 1 0\nappend 0 2 1 2 9 9\nappend 5 2 1 3 7 8 9\npush 0 1 3 7 8 9\nkeep invert 0\nreserve 0 18446744073709551615\n",
@@ -40,8 +40,17 @@ fn arrays_behind_arrays(rt: HostRuntime) {
         ),
         // both together have no checked size
         (
-            b"start 2 9223372036854775807 0\nappend 0 2 1 0\nappend 0 2 0 0\nappend 1 2 9223372036854775807 0\nappend 1 2 1 0\n",
-            b"refused 6\ndone\ndone\nrefused 5\nend 2 9223372036854775807 0\n",
+            b"start 2 9223372036854775807 0\nappend 0 2 1 0\nappend 0 2 0 0\nappend 1 2 9223372036854775807 0\nappend 1 2 1 0\nappend 1 2 2 0\n",
+            b"refused 6\ndone\ndone\ndone\nrefused 5\nend 2 9223372036854775807 0\n",
+        ),
+        // broadcast first: one number as a row and as a column, one row as two columns, and what is too short or too long
+        (
+            b"start 2 2 3 1 2 3 4 5 6\nappend 0 2 1 1 9\n",
+            b"done\nend 2 3 3 1 2 3 4 5 6 9 9 9\n",
+        ),
+        (
+            b"start 2 1 2 1 2\npush 0 1 1 9\nappend 1 2 1 2 7 8\npush 1 1 1 6\nappend 0 2 2 2 0 0 0 0\npush 0 1 4 0 0 0 0\nappend 0 2 3 1 4 3 2\nappend 0 1 1 1\n",
+            b"done\ndone\ndone\nrefused 5\nrefused 5\ndone\nrefused 5\nend 2 5 5 1 2 7 8 6 9 9 7 8 6 4 4 4 4 4 3 3 3 3 3 2 2 2 2 2\n",
         ),
         // behind what was taken out
         (

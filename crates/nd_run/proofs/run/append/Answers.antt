@@ -1,14 +1,13 @@
-use Rattle.std.proofs.Common.{◌≡◌, ◌^◌, ℕ, Bool, true, false, cond, List, length, set, get_or, Option, None, Some, refl, subst}
-use Rattle.std.specs.Prelude.{nat_eq, nat_lt}
-use Rattle.std.specs.Cmp.{unsigned_Decides}
-use Rattle.std.specs.Cmp.Lexicographic.{pointwise}
-use Rattle.std.proofs.lemmas.Bool.{ltb-true}
-use Rattle.std.proofs.lemmas.Slice.Eq.{slice_eq-Decides}
-use Rattle.nd_shape_and_slice.specs.Shape.{nonzero_product, HasCheckedSize}
+use Rattle.std.proofs.Common.{◌≡◌, ◌<◌, ◌^◌, ap, arith, not, ℕ, Bool, true, false, cond, List, length, Option, None, Some, refl, subst}
+use Rattle.std.specs.Prelude.{nat_lt}
+use Rattle.std.proofs.lemmas.Bool.{ltb-true, ne_eqb}
+use Rattle.nd_shape_and_slice.specs.Shape.{nonzero_product, size_of, HasCheckedSize}
+use Rattle.nd_shape_and_slice.specs.Broadcast.{stretches}
 use Rattle.nd_shape_and_slice.specs.declared.errors.ErrorKind.{ErrorKind}
-use Rattle.nd_array_core.specs.Joined.{concatenated_shape}
+use Rattle.nd_array_core.specs.Joined.{concatenated_shape, shape_behind}
 use Rattle.nd_array_core.specs.Meaning.{shape_of}
-use Rattle.nd_array_core.specs.growth.Appended.{FitsBehind, IsJoiningRefused, NotFitting, TooLarge, IsAppendRefused}
+use Rattle.nd_array_core.specs.growth.Appended.{CanComeBehind, FitsBehind, IsJoiningRefused, NotFitting, TooLarge, IsAppendRefused}
+use Rattle.nd_array_core.proofs.Stretched.{none_behind}
 use Rattle.nd_run.specs.declared.cause.Cause.{Cause}
 use Rattle.nd_run.specs.declared.cause.Cause.TheVariants as causes
 use Rattle.nd_run.specs.Steps.{first_failed}
@@ -20,13 +19,13 @@ passed true cause rest e = (refl, e)
 passed false cause rest e = absurd cc
 
 -- where no test fails the array fits, and the size of both is one
-fits : (axis : ℕ) (ms ns : List ℕ) → first_failed (append_tests axis ms ns) ≡ None → FitsBehind ns ms axis × HasCheckedSize (concatenated_shape ns ms axis)
+fits : (axis : ℕ) (ms ns : List ℕ) → first_failed (append_tests axis ms ns) ≡ None → CanComeBehind ns ms axis
 fits axis ms ns e =
     let axes = passed (nat_lt 0 (length ns)) causes.Shape _ e in
     let on = passed (nat_lt axis (length ns)) causes.Axis _ axes.1 in
-    let alike = passed (pointwise nat_eq (set ms axis (get_or ns axis 0)) ns) causes.Shape _ on.1 in
+    let alike = passed (stretches ms (shape_behind ns ms axis)) causes.Shape _ on.1 in
     let size = passed (nat_lt (nonzero_product (concatenated_shape ns ms axis)) (2 ^ 63)) causes.Overflow None alike.1 in
-    ((ltb-true 0 (length ns) axes.0, (slice_eq-Decides unsigned_Decides (set ms axis (get_or ns axis 0)) ns _ refl).0 alike.0), ltb-true (nonzero_product (concatenated_shape ns ms axis)) (2 ^ 63) size.0)
+    ((ltb-true 0 (length ns) axes.0, alike.0), ltb-true (nonzero_product (concatenated_shape ns ms axis)) (2 ^ 63) size.0)
 
 not_refused : (ns ms : List ℕ) (axis : ℕ) (kind : ErrorKind) → FitsBehind ns ms axis → HasCheckedSize (concatenated_shape ns ms axis) → IsJoiningRefused ns ms axis kind → ⊥
 not_refused ns ms axis kind fit size (NotFitting unfit) = unfit fit
@@ -38,3 +37,19 @@ unreachable-requires g c =
     let ms = shape_of c.args.other in
     let fit = fits c.args.axis ms ns (c.in-Ok.ensures {u = tt}) in
     not_refused ns ms c.args.axis c.in-Err-Shape.field-0-0 fit.0 fit.1 (subst (IsAppendRefused ns ms c.args.axis) c.in-Err-Shape.field-0-is (c.in-Err-Shape.ensures {u = tt}).refused)
+
+on_axis : (axis : ℕ) (ms ns : List ℕ) → first_failed (append_tests axis ms ns) ≡ None → axis < length ns
+on_axis axis ms ns e =
+    let axes = passed (nat_lt 0 (length ns)) causes.Shape _ e in
+    let on = passed (nat_lt axis (length ns)) causes.Axis _ axes.1 in
+    ltb-true axis (length ns) on.0
+
+pub returns-in-Err-NoMemory : goal.returns-in-Err-NoMemory
+returns-in-Err-NoMemory g c =
+    let axis = c.args.axis in
+    let ns = shape_of c.args.array.now in
+    let ms = shape_of c.args.other in
+    let tests : first_failed (append_tests axis ms ns) ≡ None = c.in-Ok.ensures {u = tt} in
+    let fit = fits axis ms ns tests in
+    let lacks = subst (IsAppendRefused ns ms axis) c.in-Err-NoMemory.field-0-is (c.in-Err-NoMemory.ensures {u = tt}).refused in
+    (tests, ap not (ne_eqb (size_of ms) 0 (λ none. let gone = none_behind ns ms axis (on_axis axis ms ns tests) fit.0 none in let some = lacks.1 in omega (arith, some, gone))))

@@ -1,32 +1,32 @@
-use Rattle.std.proofs.Common.{◌≡◌, ◌∙◌, ℕ, ◌+◌, ◌<◌, Bool, true, false, List, ◌∷◌, length, length-append, take, drop, set, get_or, Some, refl, ap, subst, arith}
-use Rattle.std.specs.Prelude.{nat_eq}
+use Rattle.std.proofs.Common.{◌≡◌, ◌∙◌, ℕ, ◌+◌, ◌<◌, Bool, true, false, List, ◌∷◌, length, length-append, take, drop, get_or, Some, refl, ap, subst, sym, arith}
 use Rattle.std.specs.List.{insert}
-use Rattle.std.specs.Cmp.{unsigned_Decides}
-use Rattle.std.specs.Cmp.Lexicographic.{pointwise}
 use Rattle.std.proofs.lemmas.Bool.{lt-ltb}
 use Rattle.std.proofs.lemmas.List.{length-set, take-append-drop}
-use Rattle.std.proofs.lemmas.Slice.Eq.{slice_eq-Decides}
+use Rattle.nd_shape_and_slice.specs.Broadcast.{stretches}
+use Rattle.nd_array_core.specs.Joined.{shape_behind}
 use Rattle.nd_array_core.specs.Laws.{with_axis_inserted}
 use Rattle.nd_array_core.specs.Meaning.{meaning_of}
+use Rattle.nd_array_core.proofs.Stretched.{stretches_long}
 use Rattle.nd_run.specs.declared.cause.Cause.TheVariants as causes
-use Rattle.nd_run.specs.Calls.{Appending}
+use Rattle.nd_run.specs.Calls.{Appending, SaidRefused}
 use Rattle.nd_run.specs.Steps.{first_failed}
 use Rattle.nd_run.specs.Fold.{append_tests, CarriesOut}
-use Rattle.nd_run.proofs.FoldLemmas.{same_meaning}
+use Rattle.nd_run.proofs.FoldLemmas.{carried, same_meaning}
 use Rattle.nd_run.proofs.run.push.Goals as goal
 
--- lists of unequal lengths aren't equal
-other_axes : (axis n : ℕ) (ms ns : List ℕ) → (length ms + 1 ≡ length ns → ⊥) → pointwise nat_eq (set (insert ms axis 1) axis n) ns ≡ false
-other_axes axis n ms ns apart = by_test (pointwise nat_eq (set (insert ms axis 1) axis n) ns) refl
+-- a shape of another number of axes stretches to none
+other_axes : (axis : ℕ) (ms ns : List ℕ) → (length ms + 1 ≡ length ns → ⊥) → stretches (insert ms axis 1) (shape_behind ns (insert ms axis 1) axis) ≡ false
+other_axes axis ms ns apart = by_test (stretches (insert ms axis 1) (shape_behind ns (insert ms axis 1) axis)) refl
   where
-    by_test : (t : Bool) → pointwise nat_eq (set (insert ms axis 1) axis n) ns ≡ t → t ≡ false
+    by_test : (t : Bool) → stretches (insert ms axis 1) (shape_behind ns (insert ms axis 1) axis) ≡ t → t ≡ false
     by_test false e = refl
     by_test true e =
-        let same : set (insert ms axis 1) axis n ≡ ns = (slice_eq-Decides unsigned_Decides (set (insert ms axis 1) axis n) ns _ refl).0 e in
-        absurd (apart (omega (arith, ap length same, length-set (insert ms axis 1) axis n, length-append (take axis ms) (1 ∷ drop axis ms), length-append (take axis ms) (drop axis ms), ap length (take-append-drop axis ms))))
+        let n = get_or (insert ms axis 1) axis 0 in
+        let same = stretches_long (insert ms axis 1) (shape_behind ns (insert ms axis 1) axis) e in
+        absurd (apart (omega (arith, same, length-set ns axis n, length-append (take axis ms) (1 ∷ drop axis ms), length-append (take axis ms) (drop axis ms), ap length (take-append-drop axis ms))))
 
 unfit : (axis : ℕ) (ms ns : List ℕ) → 0 < length ns → axis < length ns → (length ms + 1 ≡ length ns → ⊥) → first_failed (append_tests axis (insert ms axis 1) ns) ≡ Some causes.Shape
-unfit axis ms ns some on apart = rw (lt-ltb 0 (length ns) some, lt-ltb axis (length ns) on, other_axes axis (get_or ns axis 0) ms ns apart) refl
+unfit axis ms ns some on apart = rw (lt-ltb 0 (length ns) some, lt-ltb axis (length ns) on, other_axes axis ms ns apart) refl
 
 pub returns : goal.returns
 returns g c =
@@ -36,3 +36,14 @@ returns g c =
     let is : meaning_of c.insert_axis.result ≡ with_axis_inserted axis m =
     same_meaning (with_axis_inserted axis (meaning_of c.view.result)) (meaning_of c.insert_axis.result) c.insert_axis.ensures.part.0.0 c.insert_axis.ensures.part.0.2 ∙ ap (with_axis_inserted axis) seen in
     subst (λ n. CarriesOut g.A.PartialEq.eq (Appending axis n) (meaning_of c.args.array.now) (meaning_of c.append.new.array) c.append.result) is c.append.ensures
+
+pub returns-then-ndim : goal.returns-then-ndim
+returns-then-ndim g c =
+    let axis = c.args.axis in
+    let m = meaning_of c.args.array.now in
+    let n = meaning_of c.args.other.now in
+    let some : 0 < length m.shape = let all = c.ndim.ensures.value in omega (arith, c.if-ndim-eq0.false, all) in
+    let on : axis < length m.shape = let all = c.ndim-2.ensures.value in omega (arith, c.if-axis-ndim.false, all) in
+    let apart : length n.shape + 1 ≡ length m.shape → ⊥ = λ e. c.if-ndim.true (let few = c.ndim-3.ensures.value in let all = c.ndim-4.ensures.value in omega (arith, e, few, all)) in
+    ap (λ k. (SaidRefused k, m)) c.number-then-ndim.ensures
+    ∙ carried g.A.PartialEq.eq (Appending axis (with_axis_inserted axis n)) m (Some causes.Shape) m (sym (unfit axis n.shape m.shape some on apart)) refl refl
