@@ -276,10 +276,7 @@ fn check_append<S: Data, T: Data>(
         Cause::Shape,
     )?;
     let mut joined = array.raw_dim();
-    joined.set_length(
-        axis,
-        array.len_of(Axis(axis)) + other.len_of(Axis(axis)),
-    );
+    joined.set_length(axis, array.len_of(Axis(axis)) + other.len_of(Axis(axis)));
     check(
         size_of_shape_checked(joined.slice()).is_ok(),
         Cause::Overflow,
