@@ -177,7 +177,7 @@ pub fn elements_by_rank<S: Data, D: Dimension>(array: &ArrayBase<S, D>)
 {}
 
 /// The elements of a lane in row-major order are those that `fold_axis` goes along: so a function that folds the lanes which
-/// `map_axis` shows it answers what `fold_axis` does.
+/// `map_axis` shows it returns what `fold_axis` does.
 #[tactic(auto, using(crate::proofs::ShownLanes::lane_listed))]
 pub fn lanes_are_folded<A>()
     ensures { LanesAreListed A }

@@ -17,7 +17,7 @@ fn sum_along<S: DataMut<Elem = u64>>(table: &mut ArrayBase<S, Ix2>, axis: usize)
     table.accumulate_axis_inplace(Axis(axis), |sum, x| *x = x.wrapping_add(*sum));
 }
 
-/// Asserts what `fold_axis` answers of each axis: the digits of each lane as one number behind a 7.
+/// Asserts what `fold_axis` returns of each axis: the digits of each lane as one number behind a 7.
 fn folds<S: Data<Elem = u64>>(
     rt: &(impl Abort + AllocGlobal),
     table: &ArrayBase<S, Ix2>,

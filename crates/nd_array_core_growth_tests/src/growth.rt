@@ -14,7 +14,7 @@ pub enum End {
     Other,
 }
 
-/// How a call that answered this ended.
+/// How a call that returned this ended.
 pub fn end_of(outcome: &Result<(), ArrayError>) -> End {
     match outcome {
         Ok(()) => End::Done,

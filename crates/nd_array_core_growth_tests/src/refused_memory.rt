@@ -1,4 +1,4 @@
-//! Calls that take memory. A test sees the right answer and passes; where a call answers want of memory, and all is as it must
+//! Calls that take memory. A test sees the right answer and passes; where a call runs out of memory, and all is as it must
 //! be, the test ends in an error that names the call.
 
 use nd_array_core::{Array, Array1, Array2, ArrayView1, ArrayView2, LaneView};

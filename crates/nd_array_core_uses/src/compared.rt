@@ -54,7 +54,7 @@ pub fn pixels_equal<S: Data<Elem = u64>>(one: &ArrayBase<S, Ix2>, other: &ArrayB
     true
 }
 
-/// Whether `==` answers what the comparison pixel by pixel answers, which it always does.
+/// Whether `==` returns what the comparison pixel by pixel returns, which it always does.
 pub fn equal_either_way<S: Data<Elem = u64>>(
     one: &ArrayBase<S, Ix2>,
     other: &ArrayBase<S, Ix2>,

@@ -1,4 +1,4 @@
-//! New arrays: an identity, zeros, and cells that a function answers. Each is told cell by cell.
+//! New arrays: an identity, zeros, and cells that a function returns. Each is told cell by cell.
 ghost use Rattle.std.specs.Prelude.{◌↔◌, ◌≡◌, ◌<◌, ◌≤◌, ◌+◌, ◌*◌, ℕ, pos, nat_eq, List, [], ◌∷◌, Some, IfOk, if◌then◌else◌};
 ghost use Rattle.nd_shape_and_slice.specs.Shape.{HasCheckedSize};
 ghost use Rattle.nd_array_core.specs.Meaning.{element_at, inside};

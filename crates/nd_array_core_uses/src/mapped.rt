@@ -1,4 +1,4 @@
-//! New arrays of what a closure answers for each element, and elements exchanged for it.
+//! New arrays of what a closure returns for each element, and elements exchanged for it.
 #![tactic(auto)]
 
 ghost use Rattle.std.specs.Prelude.{◌≡◌, ◌+◌, ◌*◌, ◌/◌, ◌%◌, ◌^◌, ◌<◌, ℕ, nat_lt, List, IfOk, OnOk, OnErr, if◌then◌else◌};
@@ -70,7 +70,7 @@ pub fn doubled_itself<D: Dimension>(array: Array<u64, D>) -> Result<Array<u64, D
     Ok(doubled)
 }
 
-/// Halves every element, and answers the rests.
+/// Halves every element, and returns the rests.
 pub fn halve_all<S: DataMut<Elem = u64>, D: Dimension>(
     alloc: Global,
     array: &mut ArrayBase<S, D>,

@@ -17,7 +17,7 @@ pub fn copied_pictures<'a, A>(
     pictures.to_owned(alloc)
 }
 
-/// Puts one picture in the place of each of a list. It can't lack memory.
+/// Puts one picture in the place of each of a list. It can't run out of memory.
 pub fn show_one<'a, A>(pictures: &mut Array1<ArrayView2<'a, A>>, picture: ArrayView2<'a, A>)
     ensures { (i : List ℕ) → element_at pictures.new i ≡ inside (shape_of pictures.old) i (Some picture.entry) }
 {

@@ -1,4 +1,4 @@
-//! Arrays of what a function answers; the last element; and the vector that an array lies in.
+//! Arrays of what a function returns; the last element; and the vector that an array lies in.
 
 use nd_array_core::Array;
 use nd_shape_and_slice::{Axis, Ix2, IxDyn, ShapeBuilder};

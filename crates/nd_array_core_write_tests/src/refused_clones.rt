@@ -1,5 +1,5 @@
 //! Clones refused in turn: the first that a call makes, then the second, and so on until a run meets no refusal. Each is
-//! answered, what must stay stays, every number is dropped once, and the last run gives the right answer.
+//! returned, what must stay stays, every number is dropped once, and the last run gives the right answer.
 
 ghost use Rattle.std.specs.Prelude.{◌≡◌};
 

@@ -45,7 +45,7 @@ fn size(lengths: &[usize]) -> usize
     }
 }
 
-/// Moves an index of the box, at a place, to the next index in row-major order, and answers the place of that. The last
+/// Moves an index of the box, at a place, to the next index in row-major order, and returns the place of that. The last
 /// axis advances by one stride; an axis that is at its end starts again, a stride back for each of its coordinates, and
 /// the axis before it advances. After the last index comes the first.
 fn advanced(lengths: &[usize], strides: &[isize], index: &mut [usize], place: usize) -> usize

@@ -88,7 +88,7 @@ fn is_as_good(old: Axes<'_>, new: Axes<'_>, order: Order, size: usize) -> bool {
         && (is_apart(new) || !is_apart(old))
 }
 
-/// Whether the search answers as a trial of the only strides that can serve, and finds strides as good.
+/// Whether the search returns what a trial does of the only strides that can serve, and finds strides as good.
 fn search_is_right(old: Axes<'_>, new: &[usize], order: Order, size: usize) -> bool {
     if new.len() > 3 {
         return false;

@@ -121,7 +121,7 @@ pub enum Call<A, T = Array<A, IxDyn>> {
     Reserve(usize, usize),
 }
 
-/// What a call answers.
+/// What a call returns.
 #[derive(Debug, Drop)]
 pub enum Reply<A> {
     /// The call was carried out.

@@ -1,4 +1,4 @@
-//! Copies, listings and comparisons of all elements, and arrays of what a function answers.
+//! Copies, listings and comparisons of all elements, and arrays of what a function returns.
 //!
 //! The views are of `Ix2`: all elements, every `step`-th column, or the axes in the opposite order.
 

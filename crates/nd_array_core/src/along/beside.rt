@@ -50,7 +50,7 @@ pub(crate) fn clones_in<B: Clone + Drop>(
     Ok(items)
 }
 
-/// Shows the function each total and the element beside it, and puts what it answers in the total's place. It answers the
+/// Shows the function each total and the element beside it, and puts what it returns in the total's place. It returns the
 /// function, as the calls left it.
 #[inline(always)]
 fn fold_run<A, B: Drop, F: FnMut(&B, &A) -> B>(totals: &mut [B], items: &[A], mut f: F) -> F

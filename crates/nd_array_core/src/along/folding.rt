@@ -23,7 +23,7 @@ use nd_storage::elements::listing::room_of;
 use nd_storage::storage::Data;
 use std::alloc::Global;
 
-/// Folds the elements of a lane, one after the other. It answers the function too, as the calls left it.
+/// Folds the elements of a lane, one after the other. It returns the function too, as the calls left it.
 #[inline(always)]
 fn fold_shown<S: Data, B: Drop, F: FnMut(&B, &S::Elem) -> B>(
     storage: &S,

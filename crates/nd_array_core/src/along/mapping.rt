@@ -1,4 +1,4 @@
-//! What a closure answers for each lane of an axis.
+//! What a closure returns for each lane of an axis.
 #![tactic(auto, unfolding(crate::specs::Meaning::meaning_of, crate::specs::Meaning::memory_layout_of))]
 
 ghost use Rattle.std.specs.Prelude.{◌≡◌, ◌<◌, ◌≤◌, [], IfOk, length, slice_index, vec_len, vec_capacity};
@@ -21,7 +21,7 @@ use nd_storage::elements::listing::room_of;
 use nd_storage::storage::Data;
 use std::alloc::Global;
 
-/// What the function answers for each lane of an axis, in row-major order of the other axes' indexes.
+/// What the function returns for each lane of an axis, in row-major order of the other axes' indexes.
 fn map_lanes<S: Data, D: RemoveAxis, B, F: FnMut(LaneView<'_, S::Elem>) -> B>(
     room: Vec<B>,
     array: &ArrayBase<S, D>,
@@ -56,7 +56,7 @@ impl<S: Data, D: RemoveAxis> ArrayBase<S, D>
 where
     D::Smaller: Dimension,
 {
-    /// An array of its own without an axis that has at each index what the function answers for the lane there, which it is
+    /// An array of its own without an axis that has at each index what the function returns for the lane there, which it is
     /// shown as a view with one axis; one call for each index, in an order that is free. Where the axis has length 0 each
     /// lane is empty. The axis is below `ndim`, and the function may be called with whatever such calls lead to. The layout
     /// is unspecified. NoMemory if the storage is refused: then the function wasn't called. ndarray's `map_axis`.

@@ -1,4 +1,4 @@
-//! What a closure answers for each lane of an axis, which it is handed to be written.
+//! What a closure returns for each lane of an axis, which it is handed to be written.
 #![tactic(auto, unfolding(crate::specs::Meaning::meaning_of, crate::specs::Meaning::memory_layout_of))]
 
 ghost use Rattle.std.specs.Prelude.{◌≡◌, ◌<◌, ◌≤◌, ◌^◌, ℕ, true, is_some, [], Some, IfOk, IfErr, pos, length, vec_len, vec_capacity, ◌+ℤ◌, ◌*ℤ◌, List, OnOk};
@@ -25,8 +25,8 @@ use nd_storage::elements::listing::room_of;
 use nd_storage::storage::DataMut;
 use std::alloc::Global;
 
-/// Hands a lane of a region to the function, to be written. It answers the function, as the call left it, and what it
-/// answered.
+/// Hands a lane of a region to the function, to be written. It returns the function, as the call left it, and what it
+/// returned.
 fn answer_inside<'b, A, B, F: FnMut(&mut LaneMut<'_, A>) -> B>(
     region: Region<'b, A>,
     lane: Lane,
@@ -72,7 +72,7 @@ fn answer_lane<S: DataMut, B, F: FnMut(&mut LaneMut<'_, S::Elem>) -> B>(
     )
 }
 
-/// What a closure answers for each lane of an axis, in row-major order of the lanes, whose first places are those of a
+/// What a closure returns for each lane of an axis, in row-major order of the lanes, whose first places are those of a
 /// layout.
 fn answer_lanes<S: DataMut, B, F: FnMut(&mut LaneMut<'_, S::Elem>) -> B>(
     room: Vec<B>,
@@ -120,7 +120,7 @@ where
     ghost use Rattle.nd_array_core.specs.Meaning.{meaning_of, shape_of, element_at};
     ghost use Rattle.nd_array_core.specs.base.Writes.{KeepsFrame};
 
-    /// An array of its own without an axis that has at each index what the function answers for the lane there, which it is
+    /// An array of its own without an axis that has at each index what the function returns for the lane there, which it is
     /// handed to be written; one call for each index, in an order that is free. Where the axis has length 0 each lane is
     /// empty. The axis is below `ndim`, the function leaves the lane that it is handed that lane, and it may be called with
     /// whatever such calls lead to. The layout is unspecified. NoMemory if the storage is refused: then the function wasn't

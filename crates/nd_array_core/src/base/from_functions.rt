@@ -1,4 +1,4 @@
-//! New arrays of what a function answers for each index, or for no index at all.
+//! New arrays of what a function returns for each index, or for no index at all.
 #![tactic(auto, unfolding(crate::specs::Meaning::meaning_of, crate::specs::Meaning::memory_layout_of))]
 
 ghost use Rattle.std.specs.Prelude.{◌≡◌, ◌<◌, ◌≤◌, ℕ, List, [], IfOk, vec_len, vec_capacity};
@@ -14,7 +14,7 @@ use nd_shape_and_slice::{Dimension, NoMemory, Order, ShapeBuilder, StrideList};
 use nd_storage::fresh::functions::{answers_by_index, answers_for_each, room_for};
 use std::alloc::Global;
 
-/// The array of what the function answers for each index.
+/// The array of what the function returns for each index.
 fn of_answers<A, D: Dimension, F: FnMut(D::Pattern) -> A>(
     room: Vec<A>,
     dim: D,
@@ -33,7 +33,7 @@ fn of_answers<A, D: Dimension, F: FnMut(D::Pattern) -> A>(
     of_items(items, dim, order)
 }
 
-/// The array of what the function answers, once for each index.
+/// The array of what the function returns, once for each index.
 fn of_equal_answers<A, D: Dimension, F: FnMut() -> A>(
     room: Vec<A>,
     dim: D,
@@ -53,7 +53,7 @@ fn of_equal_answers<A, D: Dimension, F: FnMut() -> A>(
 }
 
 impl<A, D: Dimension> Array<A, D> {
-    /// An array of a shape with what the function answers for each index, in row-major order, after `.f()` in
+    /// An array of a shape with what the function returns for each index, in row-major order, after `.f()` in
     /// column-major order. The function is called once for each index, in an order that is free. The shape has a checked
     /// size. NoMemory if the storage is refused: then the function wasn't called. ndarray's `from_shape_fn`.
     pub fn from_shape_fn<Sh: ShapeBuilder<Dim = D>, F: FnMut(D::Pattern) -> A>(
@@ -72,7 +72,7 @@ impl<A, D: Dimension> Array<A, D> {
         Ok(of_answers(room, *shape.raw_dim(), shape.order(), f))
     }
 
-    /// An array of a shape with what the function answers, called once for each index, in row-major order, after `.f()`
+    /// An array of a shape with what the function returns, called once for each index, in row-major order, after `.f()`
     /// in column-major order; which call is for which index is free. The shape has a checked size. NoMemory if the
     /// storage is refused: then the function wasn't called. ndarray's `from_shape_simple_fn`.
     pub fn from_shape_simple_fn<Sh: ShapeBuilder<Dim = D>, F: FnMut() -> A>(

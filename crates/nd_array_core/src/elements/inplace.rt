@@ -1,4 +1,4 @@
-//! Elements exchanged where they lie for what a closure answers for a clone of each.
+//! Elements exchanged where they lie for what a closure returns for a clone of each.
 #![tactic(auto, unfolding(crate::specs::Meaning::meaning_of, crate::specs::Meaning::memory_layout_of))]
 
 ghost use Rattle.std.specs.Prelude.{◌<◌, IfOk, OnOk, OnErr};
@@ -19,9 +19,9 @@ where
 {
     ghost use Rattle.nd_array_core.specs.Meaning.{meaning_of, element_at};
 
-    /// Puts at each index what the function answers for a clone of the element there; a clone equals its original. The
+    /// Puts at each index what the function returns for a clone of the element there; a clone equals its original. The
     /// function is handed each element once, in an order that is free, and may be called with whatever such calls lead
-    /// to. NoMemory if a clone is refused, and for nothing else: each index then has its old element or the answer for it.
+    /// to. NoMemory if a clone is refused, and for nothing else: each index then has its old element or the result for it.
     /// ndarray's `mapv_inplace`.
     pub fn mapv_inplace<F: FnMut(S::Elem) -> S::Elem>(&mut self, f: F) -> Result<(), NoMemory>
         requires clones { ClonesOfAllAreEqual S.Elem.is_clone (element_at self.old) }
@@ -51,7 +51,7 @@ where
 {
     ghost use Rattle.nd_array_core.specs.Meaning.{meaning_of, element_at};
 
-    /// The array itself once `mapv_inplace` has put at each index what the function answers for a clone of the element
+    /// The array itself once `mapv_inplace` has put at each index what the function returns for a clone of the element
     /// there. NoMemory if a clone is refused, and for nothing else: the array is dropped. ndarray's `mapv_into`.
     pub fn mapv_into<F: FnMut(S::Elem) -> S::Elem>(self, f: F) -> Result<Self, NoMemory>
         requires clones { ClonesOfAllAreEqual S.Elem.is_clone (element_at self) }

@@ -1,4 +1,4 @@
-//! New arrays of what a closure answers for each element.
+//! New arrays of what a closure returns for each element.
 #![tactic(auto, unfolding(crate::specs::Meaning::meaning_of, crate::specs::Meaning::memory_layout_of))]
 
 ghost use Rattle.std.specs.Prelude.{◌≡◌, ◌<◌, ◌≤◌, [], IfOk, vec_len, vec_capacity};
@@ -18,7 +18,7 @@ use nd_storage::elements::maps::{answer_places, answer_run};
 use nd_storage::storage::Data;
 use std::alloc::Global;
 
-/// What the function answers for each element, in row-major order.
+/// What the function returns for each element, in row-major order.
 fn map_in_order<S: Data, D: Dimension, B, F: FnMut(&S::Elem) -> B>(
     room: Vec<B>,
     array: &ArrayBase<S, D>,
@@ -43,7 +43,7 @@ fn map_in_order<S: Data, D: Dimension, B, F: FnMut(&S::Elem) -> B>(
     of_items(items, array.raw_dim(), Order::RowMajor)
 }
 
-/// What the function answers for each element of a run, as they lie.
+/// What the function returns for each element of a run, as they lie.
 fn map_run<S: Data, D: Dimension, B, F: FnMut(&S::Elem) -> B>(
     room: Vec<B>,
     array: &ArrayBase<S, D>,
@@ -63,7 +63,7 @@ fn map_run<S: Data, D: Dimension, B, F: FnMut(&S::Elem) -> B>(
 }
 
 impl<S: Data, D: Dimension> ArrayBase<S, D> {
-    /// An array of its own with the same shape and, at each index, what the function answers for the element there; it is
+    /// An array of its own with the same shape and, at each index, what the function returns for the element there; it is
     /// shown each element once, in an order that is free, and may be called with whatever such calls lead to. The layout is
     /// unspecified. NoMemory if the storage is refused: then the function wasn't called. ndarray's `map`.
     pub fn map<B, F: FnMut(&S::Elem) -> B>(

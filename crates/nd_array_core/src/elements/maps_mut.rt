@@ -1,4 +1,4 @@
-//! New arrays of what a closure answers for each element, which it is handed to be written.
+//! New arrays of what a closure returns for each element, which it is handed to be written.
 #![tactic(auto, unfolding(crate::specs::Meaning::meaning_of, crate::specs::Meaning::memory_layout_of))]
 
 ghost use Rattle.std.specs.Prelude.{◌≡◌, ◌<◌, ℕ, IfOk, IfErr, List, OnOk};
@@ -16,7 +16,7 @@ use std::alloc::Global;
 impl<S: DataMut, D: Dimension> ArrayBase<S, D> {
     ghost use Rattle.nd_array_core.specs.Meaning.{meaning_of, shape_of, element_at};
 
-    /// An array of its own with the same shape and, at each index, what the function answers for the element there, which
+    /// An array of its own with the same shape and, at each index, what the function returns for the element there, which
     /// it is handed to be written; each element once, in an order that is free. The function may be called with whatever
     /// such calls lead to. The layout is unspecified. NoMemory if the storage is refused: then the function wasn't called.
     /// ndarray's `map_mut`.

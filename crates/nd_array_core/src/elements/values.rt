@@ -1,4 +1,4 @@
-//! New arrays of what a closure answers for a clone of each element.
+//! New arrays of what a closure returns for a clone of each element.
 #![tactic(auto, unfolding(crate::specs::Meaning::meaning_of, crate::specs::Meaning::memory_layout_of))]
 
 ghost use Rattle.std.specs.Prelude.{◌≡◌, ◌<◌, ◌≤◌, [], IfOk, vec_len, vec_capacity};
@@ -20,7 +20,7 @@ use nd_storage::elements::values::{value_places, value_run};
 use nd_storage::storage::Data;
 use std::alloc::Global;
 
-/// What the function answers for a clone of each element, in row-major order.
+/// What the function returns for a clone of each element, in row-major order.
 fn mapv_in_order<S: Data, D: Dimension, B: Drop, F: FnMut(S::Elem) -> B>(
     room: Vec<B>,
     array: &ArrayBase<S, D>,
@@ -48,7 +48,7 @@ where
     Ok(of_items(items, array.raw_dim(), Order::RowMajor))
 }
 
-/// What the function answers for a clone of each element of a run, as they lie.
+/// What the function returns for a clone of each element of a run, as they lie.
 fn mapv_run<S: Data, D: Dimension, B: Drop, F: FnMut(S::Elem) -> B>(
     room: Vec<B>,
     array: &ArrayBase<S, D>,
@@ -74,7 +74,7 @@ impl<S: Data, D: Dimension> ArrayBase<S, D>
 where
     S::Elem: Clone,
 {
-    /// An array of its own with the same shape and, at each index, what the function answers for a clone of the element
+    /// An array of its own with the same shape and, at each index, what the function returns for a clone of the element
     /// there; a clone equals its original. The function is handed each element once, in an order that is free, and may be
     /// called with whatever such calls lead to. The layout is unspecified. NoMemory if the storage is refused, when the
     /// function wasn't called, or if a clone is. ndarray's `mapv`.

@@ -106,7 +106,7 @@ impl<A: Clone + Drop, D: Dimension> Array<A, D> {
         append_behind(&mut self.storage, &mut self.layout, axis.0, array)
     }
 
-    /// The same of an array that has to be laid anew first.
+    /// The same of an array whose elements are moved to new storage first.
     fn append_relaid(&mut self, axis: Axis, array: &ArrayView<'_, A, D>) -> Result<(), NoMemory>
         requires on { axis.0 < length (shape_of self.old) }
         requires some { 0 < size_of (shape_of self.old) }
@@ -253,7 +253,7 @@ impl<A: Clone + Drop, D: Dimension> Array<A, D> {
     /// where storage or a clone is refused, and never where no element is appended. After a refusal shape and elements are as
     /// before.
     /// On storage that the array fills, the new elements follow the old, which stay, where the axis is of length 1 or steps
-    /// furthest, and upward; else the elements are laid anew first. Once an element was appended, the next ones along the
+    /// furthest, and upward; else they move to new storage first. Once an element was appended, the next ones along the
     /// axis follow it. In room that was reserved only a clone can lack memory; where nothing is laid anew, the room stays.
     /// ndarray's `append`, which doesn't broadcast.
     pub fn append(&mut self, axis: Axis, array: ArrayView<'_, A, D>) -> Result<(), ArrayError>

@@ -1,4 +1,4 @@
-//! Elements of an owned array laid anew, so that more can follow along an axis.
+//! Elements of an owned array moved to new storage, so that more can follow along an axis.
 #![tactic(auto, unfolding(crate::specs::Meaning::meaning_of, crate::specs::Meaning::memory_layout_of))]
 
 ghost use Rattle.std.specs.Prelude.{◌≡◌, ◌+◌, ◌<◌, ◌^◌, ℕ, List, OnOk, OnErr, length};

@@ -1,4 +1,4 @@
-//! Slices: by a list of slices, of one axis, and of each axis as a closure answers it; of arrays and views by value, in
+//! Slices: by a list of slices, of one axis, and of each axis as a closure returns it; of arrays and views by value, in
 //! place, and as views to be read or written.
 #![tactic(auto, unfolding(crate::specs::Meaning::meaning_of, crate::specs::Meaning::memory_layout_of))]
 
@@ -111,7 +111,7 @@ impl<S: Data, D: Dimension> ArrayBase<S, D> {
         array
     }
 
-    /// Keeps of each axis the slice that the closure answers for it. It is called for axis 0 first, and each slice fits
+    /// Keeps of each axis the slice that the closure returns for it. It is called for axis 0 first, and each slice fits
     /// its axis (`slice_fits`). ndarray's `slice_each_axis_inplace`.
     pub fn slice_each_axis_inplace<F: FnMut(AxisDescription) -> Slice + Drop>(&mut self, f: F)
         requires { AnswersFit F.pre F.step f (axes_of self.old) }
@@ -120,7 +120,7 @@ impl<S: Data, D: Dimension> ArrayBase<S, D> {
         self.layout.slice_each_axis(f);
     }
 
-    /// The view of what the closure answers for each axis. It is called for axis 0 first, and each slice fits its axis
+    /// The view of what the closure returns for each axis. It is called for axis 0 first, and each slice fits its axis
     /// (`slice_fits`). ndarray's `slice_each_axis`.
     pub fn slice_each_axis<F: FnMut(AxisDescription) -> Slice + Drop>(
         &self,
@@ -172,7 +172,7 @@ impl<S: DataMut, D: Dimension> ArrayBase<S, D> {
         self.lent_as(part)
     }
 
-    /// The view of what the closure answers for each axis, to be read and written. It is called for axis 0 first, and
+    /// The view of what the closure returns for each axis, to be read and written. It is called for axis 0 first, and
     /// each slice fits its axis (`slice_fits`). ndarray's `slice_each_axis_mut`. Once the view is over, a caller knows
     /// of the array what it knows after `view_mut`, and that each index that the view doesn't name shows what it
     /// showed.

@@ -16,7 +16,7 @@ pub enum EitherArray<A, V: Data<Elem = A>, S: Data<Elem = A>, D: Dimension> {
     Owned(ArrayBase<S, D>),
 }
 
-/// What a reshape of a borrowed array answers: a view of it, or a copy in the asked order. It stands for ndarray's
+/// What a reshape of a borrowed array returns: a view of it, or a copy in the asked order. It stands for ndarray's
 /// `CowArray`.
 pub type ViewOrOwned<'a, A, D> = EitherArray<A, ViewRepr<'a, A>, OwnedRepr<A>, D>;
 

@@ -32,7 +32,7 @@ impl<S: Data, D: Dimension> ArrayBase<S, D> {
 
     /// Merges one axis into another, both below `ndim`, where one of them has length 1 at most, or where a step of the
     /// first is as long as all of the second. The second then has both lengths' product, and the first length 1, or 0
-    /// where the product is 0. Else it answers false, and nothing changes. No element is moved or copied. ndarray's
+    /// where the product is 0. Else it returns false, and nothing changes. No element is moved or copied. ndarray's
     /// `merge_axes`.
     pub fn merge_axes(&mut self, take: Axis, into: Axis) -> bool
         requires take { take.0 < length (shape_of self.old) }

@@ -105,7 +105,7 @@ fn merge<D: Dimension, T: StrideList>(dim: &mut D, strides: &mut T, take: usize,
 impl<D: Dimension, T: StrideList> Layout<D, T> {
     /// Merges an axis into another where one of them has length 1 at most, or where a step of the first is as long as
     /// all of the second: the second then has both lengths' product, and the first length 1, or 0 where the product is
-    /// 0. Else it answers false, and nothing changes.
+    /// 0. Else it returns false, and nothing changes.
     pub fn merge_axes(&mut self, take: usize, into: usize) -> bool
         requires take { take < length (D.lengths self.old.dim) }
         requires into { into < length (D.lengths self.old.dim) }

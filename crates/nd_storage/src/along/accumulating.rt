@@ -55,7 +55,7 @@ fn change_inside<'b, A, F: FnMut(&A, &mut A)>(
     (region, f)
 }
 
-/// Shows the function the element of a lane with that number, and hands it the next one, to be written. It answers the
+/// Shows the function the element of a lane with that number, and hands it the next one, to be written. It returns the
 /// function, as the call left it.
 fn change_after<S: DataMut, F: FnMut(&S::Elem, &mut S::Elem)>(
     storage: &mut S,

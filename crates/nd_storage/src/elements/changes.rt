@@ -11,7 +11,7 @@ use crate::storage::DataMut;
 use nd_layout::{Lane, Lanes};
 use nd_shape_and_slice::{Dimension, StrideList};
 
-/// Hands the element at a place to the function, to be written. It answers the function, as the call left it.
+/// Hands the element at a place to the function, to be written. It returns the function, as the call left it.
 fn change_element<S: DataMut, F: FnMut(&mut S::Elem)>(storage: &mut S, place: usize, mut f: F) -> F
     requires holds { IsSome (S.stored storage.old place) }
     requires callable { TakesElementMut F.FnMut (S.stored storage.old place) f }

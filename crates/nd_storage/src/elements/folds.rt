@@ -11,7 +11,7 @@ use crate::storage::Data;
 use nd_layout::{Lane, Lanes};
 use nd_shape_and_slice::{Dimension, StrideList};
 
-/// Folds the elements of a lane, one after the other. It answers the closure too, as the calls left it.
+/// Folds the elements of a lane, one after the other. It returns the closure too, as the calls left it.
 #[inline(always)]
 fn fold_along<S: Data, B, F: FnMut(B, &S::Elem) -> B>(
     storage: &S,

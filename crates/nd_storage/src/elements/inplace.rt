@@ -1,4 +1,4 @@
-//! Elements exchanged where they lie for what a closure answers for a clone of each.
+//! Elements exchanged where they lie for what a closure returns for a clone of each.
 
 ghost use Rattle.std.specs.Prelude.{◌≡◌, ◌<◌, ◌≤◌, ℕ, true, Some, IfOk, IfErr, OnErr, pos, length, ◌+ℤ◌, ◌*ℤ◌};
 ghost use Rattle.nd_shape_and_slice.specs.Shape.{size_of, HasCheckedSize};
@@ -16,7 +16,7 @@ use crate::storage::DataMut;
 use nd_layout::{Lane, Lanes};
 use nd_shape_and_slice::{Dimension, NoMemory, StrideList};
 
-/// Puts at each place of a lane what the function answers for a clone of the element there. It answers the function, as
+/// Puts at each place of a lane what the function returns for a clone of the element there. It returns the function, as
 /// the calls left it.
 fn replace_lane<S: DataMut, F: FnMut(S::Elem) -> S::Elem>(
     storage: &mut S,

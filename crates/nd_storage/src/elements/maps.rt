@@ -1,4 +1,4 @@
-//! What a closure answers for each element, in a vector.
+//! What a closure returns for each element, in a vector.
 
 ghost use Rattle.std.specs.Prelude.{◌≡◌, ◌+◌, ◌<◌, ◌≤◌, ℕ, [], true, length, pos, is_some, slice_get, vec_len, vec_capacity};
 ghost use Rattle.nd_shape_and_slice.specs.Shape.{size_of, HasCheckedSize};
@@ -10,7 +10,7 @@ use crate::storage::Data;
 use nd_layout::{Lane, Lanes};
 use nd_shape_and_slice::{Dimension, StrideList};
 
-/// Puts what the function answers for each element of a slice behind what a vector has. It answers the function, as the
+/// Puts what the function returns for each element of a slice behind what a vector has. It returns the function, as the
 /// calls left it.
 pub fn answer_run<A, B, F: FnMut(&A) -> B>(items: &mut Vec<B>, xs: &[A], mut f: F) -> F
     requires room { vec_len items.old + length xs.now ≤ vec_capacity items.old }
@@ -86,7 +86,7 @@ pub fn answer_lane<S: Data, B, F: FnMut(&S::Elem) -> B>(
     answer_by_steps(items, storage, lane, f)
 }
 
-/// What the function answers for the elements at the places of a layout, in row-major order of its indexes.
+/// What the function returns for the elements at the places of a layout, in row-major order of its indexes.
 pub fn answer_places<S: Data, B, F: FnMut(&S::Elem) -> B>(
     room: Vec<B>,
     storage: &S,

@@ -1,4 +1,4 @@
-//! What a closure answers for each element, which it is handed to be written, in a vector.
+//! What a closure returns for each element, which it is handed to be written, in a vector.
 
 ghost use Rattle.std.specs.Prelude.{◌≡◌, ◌+◌, ◌<◌, ◌≤◌, ℕ, [], true, length, pos, Some, IsSome, vec_len, vec_capacity, ◌+ℤ◌, ◌*ℤ◌};
 ghost use Rattle.nd_shape_and_slice.specs.Shape.{size_of, HasCheckedSize};
@@ -13,8 +13,8 @@ use crate::storage::DataMut;
 use nd_layout::{Lane, Lanes};
 use nd_shape_and_slice::{Dimension, StrideList};
 
-/// Hands the element at a place to the function, to be written. It answers the function, as the call left it, and what it
-/// answered.
+/// Hands the element at a place to the function, to be written. It returns the function, as the call left it, and what it
+/// returned.
 #[inline(always)]
 fn answer_for<S: DataMut, B, F: FnMut(&mut S::Elem) -> B>(
     storage: &mut S,
@@ -31,7 +31,7 @@ fn answer_for<S: DataMut, B, F: FnMut(&mut S::Elem) -> B>(
     (f, answer)
 }
 
-/// Hands the elements of a lane to the function, one after the other, and puts what it answers behind what a vector has.
+/// Hands the elements of a lane to the function, one after the other, and puts what it returns behind what a vector has.
 #[inline(always)]
 fn answer_along<S: DataMut, B, F: FnMut(&mut S::Elem) -> B>(
     items: &mut Vec<B>,

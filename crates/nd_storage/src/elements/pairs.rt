@@ -12,7 +12,7 @@ use crate::storage::{Data, DataMut};
 use nd_layout::{Lane, Lanes};
 use nd_shape_and_slice::{Dimension, StrideList};
 
-/// Hands the element at a place to the function, to be written, with another one beside it. It answers the function, as
+/// Hands the element at a place to the function, to be written, with another one beside it. It returns the function, as
 /// the call left it.
 fn change_with<B, S: DataMut, F: FnMut(&mut S::Elem, &B)>(
     storage: &mut S,

@@ -1,4 +1,4 @@
-//! What a closure answers for a clone of each element, in a vector.
+//! What a closure returns for a clone of each element, in a vector.
 
 ghost use Rattle.std.specs.Prelude.{◌≡◌, ◌+◌, ◌<◌, ◌≤◌, ℕ, [], Some, true, length, pos, is_some, slice_get, IfOk, vec_len, vec_capacity};
 ghost use Rattle.nd_shape_and_slice.specs.Shape.{size_of, HasCheckedSize};
@@ -11,7 +11,7 @@ use crate::storage::Data;
 use nd_layout::{Lane, Lanes};
 use nd_shape_and_slice::{Dimension, NoMemory, StrideList};
 
-/// Puts what the function answers for a clone of each element of a slice behind what a vector has. It answers the
+/// Puts what the function returns for a clone of each element of a slice behind what a vector has. It returns the
 /// function, as the calls left it.
 pub fn value_run<A: Clone, B, F: FnMut(A) -> B>(
     items: &mut Vec<B>,
@@ -107,7 +107,7 @@ where
     value_by_steps(items, storage, lane, f)
 }
 
-/// What the function answers for clones of the elements at the places of a layout, in row-major order of its indexes.
+/// What the function returns for clones of the elements at the places of a layout, in row-major order of its indexes.
 pub fn value_places<S: Data, B: Drop, F: FnMut(S::Elem) -> B>(
     room: Vec<B>,
     storage: &S,

@@ -10,7 +10,7 @@ use crate::storage::Data;
 use nd_layout::{Lane, Lanes};
 use nd_shape_and_slice::{Dimension, StrideList};
 
-/// Shows the elements of a lane to the function, one after the other. It answers the function, as the calls left it.
+/// Shows the elements of a lane to the function, one after the other. It returns the function, as the calls left it.
 fn show_lane<S: Data, F: FnMut(&S::Elem)>(storage: &S, lane: Lane, mut f: F) -> F
     requires holds { (k : ℕ) → k < lane.count → is_some (stored_along (S.stored storage.now) lane.place lane.stride k) ≡ true }
     requires callable { TakesNumbered (AnswersElement F.FnMut) (MayBeShown F.FnMut) (stored_along (S.stored storage.now) lane.place lane.stride) f lane.count }

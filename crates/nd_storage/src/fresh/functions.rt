@@ -1,4 +1,4 @@
-//! What a function answers for each index of a shape, as a list.
+//! What a function returns for each index of a shape, as a list.
 
 ghost use Rattle.std.specs.Prelude.{◌≡◌, ◌+◌, ◌<◌, ◌≤◌, take, [], length, IfOk, Some, vec_len, vec_capacity};
 ghost use Rattle.nd_shape_and_slice.specs.Shape.{size_of, HasCheckedSize};
@@ -46,7 +46,7 @@ pub fn room_for<A>(alloc: Global, count: usize) -> Result<Vec<A>, NoMemory>
     }
 }
 
-/// What the function answers for each index of a shape that has axes and elements, by rank in an order: a walk goes over
+/// What the function returns for each index of a shape that has axes and elements, by rank in an order: a walk goes over
 /// all axes but the fastest, and along that one no place and no rank is computed.
 fn answers_by_lanes<A, D: Dimension, F: FnMut(D::Pattern) -> A>(
     room: Vec<A>,
@@ -82,7 +82,7 @@ fn answers_by_lanes<A, D: Dimension, F: FnMut(D::Pattern) -> A>(
     items
 }
 
-/// What the function answers for each index of a shape, by rank in an order.
+/// What the function returns for each index of a shape, by rank in an order.
 pub fn answers_by_index<A, D: Dimension, F: FnMut(D::Pattern) -> A>(
     room: Vec<A>,
     dim: &D,
@@ -107,7 +107,7 @@ pub fn answers_by_index<A, D: Dimension, F: FnMut(D::Pattern) -> A>(
     answers_by_lanes(room, dim, order, f)
 }
 
-/// What the function answers, once for each index of a shape.
+/// What the function returns, once for each index of a shape.
 pub fn answers_for_each<A, D: Dimension, F: FnMut() -> A>(
     room: Vec<A>,
     dim: &D,
