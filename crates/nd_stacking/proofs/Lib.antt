@@ -1,0 +1,4 @@
+pub mod Boxed
+pub mod Alike
+pub mod Joining
+pub mod Stacked

@@ -1,0 +1,81 @@
+//! Arrays behind one another along an axis that they have.
+
+ghost use Rattle.std.specs.Prelude.{◌≡◌, ◌<◌, None, IfOk, IfErr, OnOk, length, slice_set};
+ghost use Rattle.nd_shape_and_slice.specs.Shape.{HasCheckedSize};
+ghost use Rattle.nd_array_core.specs.Meaning.{meaning_of, shape_of};
+ghost use Rattle.nd_array_core.specs.growth.InTurn.{meanings_of, ClonesOfEachAreEqual};
+ghost use Rattle.nd_stacking.specs.Stacking.{concatenation_refusal, AreLengthsTogether, IsConcatenation, Tells};
+
+use crate::fitting::concatenated_dim;
+use nd_array_core::laws::nothing_outside;
+use nd_array_core::{Array, ArrayError, ArrayView};
+use nd_shape_and_slice::{Axis, Dimension, NoMemory, RemoveAxis};
+use std::alloc::Global;
+
+/// An array without elements of this shape, but that the axis has length 0, with room for as many as the shape has.
+fn room_for<A: Drop, D: Dimension>(
+    alloc: Global,
+    dim: D,
+    axis: usize,
+) -> Result<Array<A, D>, NoMemory>
+    requires on { axis < length (D.lengths dim) }
+    requires checked { HasCheckedSize (D.lengths dim) }
+    ensures { IfOk result (λ a. shape_of a ≡ slice_set (D.lengths dim) axis 0) }
+{
+    let items = match Vec::with_capacity(alloc, dim.size()) {
+        Ok(items) => items,
+        Err(_) => return Err(NoMemory),
+    };
+    let mut none = dim;
+    none.set_length(axis, 0);
+    match Array::from_shape_vec(none, items) {
+        Ok(array) => Ok(array),
+        Err(_) => unreachable!(),
+    }
+}
+
+/// The arrays behind one another along an axis, where these are the lengths of the result.
+pub(crate) fn joined<A: Clone + Drop, D: Dimension>(
+    alloc: Global,
+    axis: Axis,
+    dim: D,
+    arrays: &[ArrayView<'_, A, D>],
+) -> Result<Array<A, D>, NoMemory>
+    requires lengths { AreLengthsTogether axis.0 (meanings_of arrays.now) (D.lengths dim) }
+    requires clones { ClonesOfEachAreEqual A.is_clone (meanings_of arrays.now) }
+    ensures { IfOk result (λ a. IsConcatenation axis.0 (meanings_of arrays.now) (meaning_of a)) }
+{
+    nothing_outside(&arrays[0]);
+    let mut all = room_for(alloc, dim, axis.0)?;
+    match all.append_each(axis, arrays) {
+        Ok(()) => Ok(all),
+        Err((_, ArrayError::NoMemory)) => Err(NoMemory),
+        Err((_, ArrayError::Shape(_))) => unreachable!(),
+    }
+}
+
+/// The arrays behind one another along an axis that they have, with clones of their elements: the first, followed by each
+/// next one. Unsupported without arrays; OutOfBounds where the first array has no such axis; IncompatibleShape where another
+/// has another number of axes, or other lengths than the first but along the axis; Overflow where the result has no checked
+/// size; NoMemory where storage or a clone is refused, and nothing else is against it. Nothing is broadcast. ndarray's
+/// `concatenate`.
+pub fn concatenate<A: Clone + Drop, D: RemoveAxis>(
+    alloc: Global,
+    axis: Axis,
+    arrays: &[ArrayView<'_, A, D>],
+) -> Result<Array<A, D>, ArrayError>
+where
+    D::Smaller: Dimension,
+    requires clones { ClonesOfEachAreEqual A.is_clone (meanings_of arrays.now) }
+    ensures joined { IfOk result (λ a. IsConcatenation axis.0 (meanings_of arrays.now) (meaning_of a)) }
+    ensures fits { OnOk result (concatenation_refusal axis.0 (meanings_of arrays.now) ≡ None) }
+    ensures refused { IfErr result (Tells (concatenation_refusal axis.0 (meanings_of arrays.now))) }
+{
+    match concatenated_dim(arrays, axis.0) {
+        Ok(dim) => match joined(alloc, axis, dim, arrays) {
+            Ok(all) => Ok(all),
+            Err(_) => Err(ArrayError::NoMemory),
+        },
+        Err(refused) => Err(ArrayError::Shape(refused)),
+    }
+}

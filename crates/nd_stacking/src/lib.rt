@@ -1,0 +1,11 @@
+//! Arrays joined along an axis: `concatenate` along one that they have, and `stack` along a new one.
+//!
+//! Both stand on the public contracts of nd_shape_and_slice and nd_array_core alone.
+#![tactic(auto)]
+
+mod concatenating;
+mod fitting;
+mod stacking;
+
+pub use concatenating::concatenate;
+pub use stacking::stack;

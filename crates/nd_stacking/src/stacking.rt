@@ -1,0 +1,68 @@
+//! Arrays beside one another along a new axis.
+
+ghost use Rattle.std.specs.Prelude.{◌≡◌, ◌≤◌, ◌+◌, ℕ, true, None, Some, IfOk, IfErr, OnOk, length, map, slice_get};
+ghost use Rattle.nd_array_core.specs.Laws.{with_axis_inserted};
+ghost use Rattle.nd_array_core.specs.Meaning.{meaning_of, Meaning};
+ghost use Rattle.nd_array_core.specs.growth.InTurn.{meanings_of, ClonesOfEachAreEqual};
+ghost use Rattle.nd_stacking.specs.Stacking.{stack_refusal, HasRoomForAxis, IsStack, Tells};
+
+use crate::concatenating::joined;
+use crate::fitting::stacked_dim;
+use nd_array_core::{Array, ArrayError, ArrayView};
+use nd_shape_and_slice::{Axis, Dimension, NoMemory, RemoveAxis};
+use std::alloc::Global;
+
+/// Views of the arrays with an axis of length 1 put in.
+fn with_axis<'a, A, D: Dimension>(
+    alloc: Global,
+    axis: Axis,
+    arrays: &'a [ArrayView<'_, A, D>],
+) -> Result<Vec<ArrayView<'a, A, D::Larger>>, NoMemory>
+where
+    D::Larger: Dimension,
+    requires place { (nth : ℕ) (m : Meaning A) → slice_get (meanings_of arrays.now) nth ≡ Some m → axis.0 ≤ length m.shape }
+    requires room { (nth : ℕ) (m : Meaning A) → slice_get (meanings_of arrays.now) nth ≡ Some m → D.Larger.has_axes (length m.shape + 1) ≡ true }
+    ensures { IfOk result (λ views. meanings_of views.items ≡ map (with_axis_inserted axis.0) (meanings_of arrays.now)) }
+{
+    let mut views = match Vec::with_capacity(alloc, arrays.len()) {
+        Ok(views) => views,
+        Err(_) => return Err(NoMemory),
+    };
+    for nth in 0..arrays.len() {
+        views.push_reserved(arrays[nth].view().insert_axis(axis));
+    }
+    Ok(views)
+}
+
+/// The arrays beside one another along a new axis, with clones of their elements: the first at its coordinate 0, and each
+/// next one at the next. Unsupported without arrays; OutOfBounds where the new axis lies above the number of the first
+/// array's axes; IncompatibleShape where another has another shape; Overflow where the result has no checked size; NoMemory
+/// where storage or a clone is refused, and nothing else is against it. `IxDyn` arrays have fewer than 32 axes. ndarray's
+/// `stack`.
+pub fn stack<A: Clone + Drop, D: Dimension>(
+    alloc: Global,
+    axis: Axis,
+    arrays: &[ArrayView<'_, A, D>],
+) -> Result<Array<A, D::Larger>, ArrayError>
+where
+    D::Larger: RemoveAxis,
+    <D::Larger as Dimension>::Smaller: Dimension,
+    requires room { HasRoomForAxis D.Larger.has_axes (meanings_of arrays.now) }
+    requires clones { ClonesOfEachAreEqual A.is_clone (meanings_of arrays.now) }
+    ensures stacked { IfOk result (λ a. IsStack axis.0 (meanings_of arrays.now) (meaning_of a)) }
+    ensures fits { OnOk result (stack_refusal axis.0 (meanings_of arrays.now) ≡ None) }
+    ensures refused { IfErr result (Tells (stack_refusal axis.0 (meanings_of arrays.now))) }
+{
+    let dim = match stacked_dim(arrays, axis) {
+        Ok(dim) => dim,
+        Err(refused) => return Err(ArrayError::Shape(refused)),
+    };
+    let views = match with_axis(alloc, axis, arrays) {
+        Ok(views) => views,
+        Err(_) => return Err(ArrayError::NoMemory),
+    };
+    match joined(alloc, axis, dim, views.as_slice()) {
+        Ok(all) => Ok(all),
+        Err(_) => Err(ArrayError::NoMemory),
+    }
+}

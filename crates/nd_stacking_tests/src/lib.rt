@@ -1,0 +1,12 @@
+//! Callers of `nd_stacking` in coordinates, and tests of it by its public calls.
+#![tactic(auto)]
+
+mod callers;
+#[cfg(test)]
+mod refused_clones;
+#[cfg(test)]
+mod refused_memory;
+#[cfg(test)]
+mod rows;
+
+pub use callers::{film, side_by_side};
