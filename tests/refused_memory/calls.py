@@ -21,9 +21,10 @@ def tests():
 
 
 def without_a_row(top, tests):
-    """The public calls of arrays that may lack memory, by their answers, and aren't among these tests."""
+    """The public calls of arrays and of their stacking that may lack memory, by their answers, and aren't among these tests."""
     may_lack = set()
-    for file in (top / "crates" / "nd_array_core" / "src").rglob("*.rt"):
+    sources = (top / "crates" / crate / "src" for crate in ("nd_array_core", "nd_stacking"))
+    for file in (file for source in sources for file in source.rglob("*.rt")):
         for name, rest in SIGNATURE.findall(file.read_text()):
             if re.search(r"-> Result<.*(NoMemory|ArrayError|AllocError)\)?>", rest, re.DOTALL):
                 may_lack.add(name)
