@@ -4,7 +4,7 @@ ghost use Rattle.std.specs.Prelude.{◌≡◌};
 
 use crate::appends::counted;
 use crate::growth::{End, end_of};
-use nd_array_core::{Array1, Array2};
+use nd_array_core::Array2;
 use nd_shape_and_slice::Axis;
 use nd_test_arrays::{Numbered, Tally, made, shows, stores};
 
@@ -91,17 +91,6 @@ fn the_first_is_not_broadcast(rt: HostRuntime) {
     let square: Array2<u64> = made(rt.alloc(), (2, 2), &[4, 5, 6, 7]).expect(&rt, "made");
     assert_eq!(rt; end_behind(&mut row, 1, &square), End::Unfit);
     assert!(rt; stores(row, &[1, 2, 3]));
-}
-
-#[test]
-fn one_number_as_a_row_and_as_a_column(rt: HostRuntime) {
-    let mut table: Array2<u64> = made(rt.alloc(), (2, 3), &[1, 2, 3, 4, 5, 6]).expect(&rt, "made");
-    let nine: Array1<u64> = made(rt.alloc(), 1, &[9]).expect(&rt, "made");
-    assert_eq!(rt; end_of(&table.push_row(nine.view())), End::Done);
-    assert!(rt; shows(&table, [3, 3], &[1, 2, 3, 4, 5, 6, 9, 9, 9]));
-    assert_eq!(rt; end_of(&table.push_column(nine.view())), End::Done);
-    assert!(rt; shows(&table, [3, 4], &[1, 2, 3, 9, 4, 5, 6, 9, 9, 9, 9, 9]));
-    assert_eq!(rt; table.strides(), [1, 3].as_slice());
 }
 
 // Behind no rows an array of one row has none either: no number is cloned.

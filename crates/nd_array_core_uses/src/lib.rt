@@ -32,7 +32,6 @@ mod reshaped;
 pub mod rooms;
 pub mod slices_written;
 mod strides;
-pub mod tables;
 mod two_calls;
 mod two_parts;
 pub mod views_held;
