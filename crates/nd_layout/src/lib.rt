@@ -16,6 +16,7 @@ mod ordered;
 mod reshape;
 mod runs;
 mod spans;
+mod turned;
 mod walk;
 
 pub use grows::growth;
@@ -29,4 +30,5 @@ pub use ordered::slow_axis_at;
 pub use reshape::reshape_strides;
 pub use runs::{is_run, is_standard};
 pub use spans::{separated, span};
+pub use turned::{is_worth_turning, turned_alike};
 pub use walk::Walk;

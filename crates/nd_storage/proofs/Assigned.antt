@@ -1,17 +1,23 @@
 -- Elements of one storage written over those of another, one place after another.
-use Rattle.std.proofs.Common.{◌≡◌, ℕ, ◌+◌, ◌-◌, ◌<◌, ◌≤◌, Bool, true, false, List, ℤ, pos, refl, ap, sym, subst, ◌∙◌, arith, inl, inr}
+use Rattle.std.proofs.Common.{◌≡◌, ℕ, ◌+◌, ◌-◌, ◌<◌, ◌≤◌, Bool, true, false, List, length, ℤ, pos, refl, ap, sym, subst, ◌∙◌, arith, inl, inr}
 use Rattle.std.specs.Prelude.{Result, Ok, Err, OnOk, OnErr, ◌⊎◌, Option, None, Some, is_some, nat_lt, if◌then◌else◌}
 use Rattle.std.proofs.lemmas.Bool.Decides.{nat_tests}
-use Rattle.nd_shape_and_slice.specs.Shape.{in_box, size_of, row_rank}
+use Rattle.nd_shape_and_slice.specs.Shape.{in_box, size_of, row_rank, index_at}
 use Rattle.nd_shape_and_slice.specs.Place.{place_of}
 use Rattle.nd_shape_and_slice.proofs.RowMajor.{row_rank_below}
 use Rattle.nd_shape_and_slice.proofs.RankIndexes.{index_at-row_rank}
+use Rattle.nd_layout.specs.Placements.{Placement, KeepsApart}
 use Rattle.nd_layout.specs.Walk.{place_at_rank}
+use Rattle.nd_storage.specs.ByLayout.{shown_at, HoldsEach, StaysBeside}
+use Rattle.nd_storage.specs.Collected.{stored_by_rank}
 use Rattle.nd_storage.specs.Meaning.{inside}
 use Rattle.nd_storage.specs.Places.{stored_at, names_place, HoldsAll}
 use Rattle.nd_storage.specs.elements.Changes.{AreDistinct}
 use Rattle.nd_storage.specs.elements.Assigns.{IsAssignedTo, IsPartlyAssigned}
+use Rattle.nd_storage.specs.elements.Pairs.{IsOldOrOf}
+use Rattle.nd_storage.proofs.Paired.{in_row_major, ranks_apart, others_stay}
 use Rattle.nd_storage.proofs.Rewritten.{stored_same}
+use Rattle.nd_storage.proofs.TurnedAlike.{second_inside, second_given}
 
 module _ {A : Type 0} (given : ℕ → Option A) (place : ℕ → ℤ) where
   pub assigned_none : (old : ℕ → Option A) → IsAssignedTo given place 0 old old
@@ -140,3 +146,39 @@ on_ok (Err e) f p = p
 pub on_err : {T E P Q : Type 0} (r : Result T E) → (P → Q) → OnErr r P → OnErr r Q
 on_err (Ok x) f p = p
 on_err (Err e) f p = f p
+
+-- the same of a placement, and of a second one of its lengths
+module _ {A : Type 0} (others : ℕ → Option A) (one two : Placement) (alike : two.lengths ≡ one.lengths) (old new : ℕ → Option A) where
+  abbrev given_there : ℕ → Option A
+  given_there = stored_by_rank others two.offset one.lengths two.strides
+
+  abbrev place_there : ℕ → ℤ
+  place_there = place_at_rank one.offset one.lengths one.strides
+
+  none_outside : (i : List ℕ) → in_box one.lengths i ≡ false → shown_at others two i ≡ shown_at new one i
+  none_outside i out = let beyond : in_box two.lengths i ≡ false = ap (λ ns. in_box ns i) alike ∙ out in rw (out, beyond) refl
+
+  pub assigned_shown : IsAssignedTo given_there place_there (size_of one.lengths) old new → (i : List ℕ) → shown_at new one i ≡ shown_at others two i
+  assigned_shown assigned = assigned_at one.offset one.lengths one.strides given_there old new (shown_at others two) (second_given others one two alike) assigned none_outside
+
+  pub partly_shown : IsPartlyAssigned given_there place_there (size_of one.lengths) old new → IsOldOrOf (shown_at old one) (shown_at others two) (shown_at new one)
+  partly_shown = partly_at one.offset one.lengths one.strides given_there old new (shown_at others two) (second_given others one two alike)
+
+  -- each index still has an element, and nothing beside them changed
+  pub partly_still : HoldsEach old one → HoldsEach others two → IsPartlyAssigned given_there place_there (size_of one.lengths) old new → HoldsEach new one × StaysBeside one old new
+  partly_still holds others_hold partly = (
+    partly_holds one.offset one.lengths one.strides given_there old new partly (λ rank below. others_hold (index_at one.lengths rank) (second_inside others one two alike rank below)) holds,
+    others_stay one.offset one.lengths one.strides one.offset one.lengths one.strides (in_row_major one.offset one.lengths one.strides) old new partly.left,
+  )
+
+  pub either_still : {E : Type 0} (result : Result (Unit {0}) E) → length one.strides ≡ length one.lengths → KeepsApart one → HoldsEach old one → HoldsEach others two → OnOk result (IsAssignedTo given_there place_there (size_of one.lengths) old new) → OnErr result (IsPartlyAssigned given_there place_there (size_of one.lengths) old new) → HoldsEach new one × StaysBeside one old new
+  either_still result many apart holds others_hold assigned stopped =
+      partly_still holds others_hold (either_way result assigned stopped (λ all. assigned_partly given_there place_there (size_of one.lengths) (size_of one.lengths) (ranks_apart one.offset one.lengths one.strides many apart) old new all (omega arith)) (λ some. some))
+
+-- the same beside a map with the same elements
+pub old_or_same : {A : Type 0} (old other other' new : List ℕ → Option A) → ((i : List ℕ) → other i ≡ other' i) → IsOldOrOf old other new → IsOldOrOf old other' new
+old_or_same old other other' new same either i = by_case (either i)
+  where
+    by_case : (new i ≡ old i) ⊎ (new i ≡ other i) → (new i ≡ old i) ⊎ (new i ≡ other' i)
+    by_case (inl kept) = inl kept
+    by_case (inr is) = inr (is ∙ same i)

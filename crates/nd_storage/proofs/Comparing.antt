@@ -29,7 +29,7 @@ and_false true = refl
 and_false false = refl
 
 module _ {A : Type 0} where
-  is_inside : (ns i : List ℕ) (o : Option A) (x : A) → inside ns i o ≡ Some x → in_box ns i ≡ true
+  pub is_inside : (ns i : List ℕ) (o : Option A) (x : A) → inside ns i o ≡ Some x → in_box ns i ≡ true
   is_inside ns i o x e = by_test (in_box ns i) e
     where
       by_test : (t : Bool) → (if t then o else None) ≡ Some x → t ≡ true

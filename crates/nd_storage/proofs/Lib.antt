@@ -30,6 +30,9 @@ pub mod RunsBehind
 pub mod SamePlaces
 pub mod Seats
 pub mod Taking
+pub mod TurnedAlike
+pub mod TurnedEqual
 pub mod WriteStep
+pub mod ZippedLayouts
 pub mod lending
 pub mod tasks

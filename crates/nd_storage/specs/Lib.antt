@@ -1,3 +1,4 @@
+pub mod ByLayout
 pub mod ByRank
 pub mod CloneRefusals
 pub mod Clones

@@ -6,13 +6,15 @@ ghost use Rattle.nd_layout.specs.Places.{ReachesPlaces};
 ghost use Rattle.nd_layout.specs.Walk.{place_at_rank};
 ghost use Rattle.nd_storage.specs.Collected.{stored_along, stored_by_rank};
 ghost use Rattle.nd_storage.specs.Places.{names_place, stored_at};
-ghost use Rattle.nd_storage.specs.CloneRefusals.{MayRefuseBelow};
-ghost use Rattle.nd_storage.specs.Clones.{ClonesAreEqual, StoredClonesAreEqual};
+ghost use Rattle.nd_layout.specs.Placements.{placement_of, KeepsApart};
+ghost use Rattle.nd_storage.specs.ByLayout.{shown, HoldsShown, LeavesOthers, ShowsSame, ShowsOldOr};
+ghost use Rattle.nd_storage.specs.CloneRefusals.{MayRefuseBelow, MayRefuseClone};
+ghost use Rattle.nd_storage.specs.Clones.{ClonesAreEqual, ClonesOfAllAreEqual, StoredClonesAreEqual};
 ghost use Rattle.nd_storage.specs.elements.Assigns.{IsAssignedTo, IsPartlyAssigned};
 ghost use Rattle.nd_storage.specs.elements.Changes.{AreDistinct};
 
 use crate::storage::{Data, DataMut};
-use nd_layout::{Lane, Lanes};
+use nd_layout::{Lane, Lanes, Layout, is_worth_turning, turned_alike};
 use nd_shape_and_slice::{Dimension, NoMemory, StrideList};
 
 /// Writes clones of the elements along a second lane at the places of a lane.
@@ -159,7 +161,7 @@ fn assign_lane<A: Clone + Drop, S: DataMut<Elem = A>, Z: Data<Elem = A>>(
 
 /// Writes at the place of each index of a layout a clone of the element that a second storage has at the place of that index
 /// under other strides.
-pub fn assign_places<A: Clone + Drop, S: DataMut<Elem = A>, Z: Data<Elem = A>>(
+fn assign_places<A: Clone + Drop, S: DataMut<Elem = A>, Z: Data<Elem = A>>(
     storage: &mut S,
     first: usize,
     lengths: &[usize],
@@ -195,4 +197,73 @@ pub fn assign_places<A: Clone + Drop, S: DataMut<Elem = A>, Z: Data<Elem = A>>(
         }
     }
     Ok(())
+}
+
+/// Writes at each index of a layout a clone of the element that a second storage has there under a layout of its own, in
+/// row-major order.
+fn assign_in_order<A, S, Z, D, T>(
+    storage: &mut S,
+    layout: &Layout<D, T>,
+    others: &Z,
+    beside: &Layout<D, T>,
+) -> Result<(), NoMemory>
+where
+    A: Clone + Drop,
+    S: DataMut<Elem = A>,
+    Z: Data<Elem = A>,
+    D: Dimension,
+    T: StrideList,
+    requires alike { D.lengths beside.now.dim ≡ D.lengths layout.now.dim }
+    requires apart { KeepsApart (placement_of layout.now) }
+    requires holds { HoldsShown S.stored storage.old layout.now }
+    requires others_hold { HoldsShown Z.stored others.now beside.now }
+    requires clones { ClonesOfAllAreEqual A.is_clone (shown Z.stored others.now beside.now) }
+    ensures assigned { OnOk result (ShowsSame S.stored Z.stored storage.new layout.now others.now beside.now) }
+    ensures stopped { OnErr result (ShowsOldOr S.stored Z.stored storage.old storage.new layout.now others.now beside.now) }
+    ensures refused { OnErr result (MayRefuseClone A.is_infallible (shown Z.stored others.now beside.now)) }
+    ensures holds { HoldsShown S.stored storage.new layout.now }
+    ensures others { LeavesOthers S.stored layout.now storage.old storage.new }
+    ensures frame { S.frame storage.new ≡ S.frame storage.old }
+{
+    assign_places(
+        storage,
+        layout.offset,
+        layout.dim.slice(),
+        layout.strides.slice(),
+        others,
+        beside.offset,
+        beside.strides.slice(),
+    )
+}
+
+/// The same in an order that goes along memory: where that pays, the axes of both layouts are turned alike before.
+pub fn assign_layouts<A, S, Z, D, T>(
+    storage: &mut S,
+    layout: &Layout<D, T>,
+    others: &Z,
+    beside: &Layout<D, T>,
+) -> Result<(), NoMemory>
+where
+    A: Clone + Drop,
+    S: DataMut<Elem = A>,
+    Z: Data<Elem = A>,
+    D: Dimension,
+    T: StrideList,
+    requires alike { D.lengths beside.now.dim ≡ D.lengths layout.now.dim }
+    requires apart { KeepsApart (placement_of layout.now) }
+    requires holds { HoldsShown S.stored storage.old layout.now }
+    requires others_hold { HoldsShown Z.stored others.now beside.now }
+    requires clones { ClonesOfAllAreEqual A.is_clone (shown Z.stored others.now beside.now) }
+    ensures assigned { OnOk result (ShowsSame S.stored Z.stored storage.new layout.now others.now beside.now) }
+    ensures stopped { OnErr result (ShowsOldOr S.stored Z.stored storage.old storage.new layout.now others.now beside.now) }
+    ensures refused { OnErr result (MayRefuseClone A.is_infallible (shown Z.stored others.now beside.now)) }
+    ensures holds { HoldsShown S.stored storage.new layout.now }
+    ensures others { LeavesOthers S.stored layout.now storage.old storage.new }
+    ensures frame { S.frame storage.new ≡ S.frame storage.old }
+{
+    if !is_worth_turning(layout, beside) {
+        return assign_in_order(storage, layout, others, beside);
+    }
+    let (turned, other) = turned_alike(layout, beside);
+    assign_in_order(storage, &turned, others, &other)
 }

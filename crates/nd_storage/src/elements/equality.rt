@@ -2,10 +2,11 @@
 
 ghost use Rattle.std.specs.Prelude.{◌≡◌, ◌+◌, ◌<◌, ◌≤◌, ℕ, true, is_some, length};
 ghost use Rattle.std.specs.Cmp.Lexicographic.{pointwise};
+ghost use Rattle.nd_storage.specs.ByLayout.{listed_by, HoldsShown};
 ghost use Rattle.nd_storage.specs.Collected.{collected, stored_along};
 
 use crate::storage::Data;
-use nd_layout::Lane;
+use nd_layout::{Lane, Lanes, Layout, is_worth_turning, turned_alike};
 use nd_shape_and_slice::{Dimension, StrideList};
 
 /// How many elements are compared between two tests whether to go on.
@@ -59,7 +60,7 @@ where
 }
 
 /// Whether the elements along two lanes are equal.
-pub fn lanes_equal<S: Data>(a: &S, ours: Lane, b: &S, theirs: Lane) -> bool
+fn lanes_equal<S: Data>(a: &S, ours: Lane, b: &S, theirs: Lane) -> bool
 where
     S::Elem: PartialEq,
     requires as_long { theirs.count ≡ ours.count }
@@ -76,4 +77,55 @@ where
         from += count;
     }
     true
+}
+
+/// Whether the elements at each index of two layouts are equal, lane by lane in row-major order.
+fn equal_in_order<S: Data, D: Dimension, T: StrideList>(
+    a: &S,
+    ours: &Layout<D, T>,
+    b: &S,
+    theirs: &Layout<D, T>,
+) -> bool
+where
+    S::Elem: PartialEq,
+    requires alike { D.lengths theirs.now.dim ≡ D.lengths ours.now.dim }
+    requires ours { HoldsShown S.stored a.now ours.now }
+    requires theirs { HoldsShown S.stored b.now theirs.now }
+    ensures { result ≡ pointwise S.Elem.eq (listed_by S.stored a.now ours.now) (listed_by S.stored b.now theirs.now) }
+{
+    let lengths = ours.dim.slice();
+    let mut lanes = Lanes::new(ours.offset, lengths, ours.strides.slice());
+    let mut others = Lanes::new(theirs.offset, lengths, theirs.strides.slice());
+    while let Some(lane) = lanes.next() {
+        match others.next() {
+            Some(other) => {
+                if !lanes_equal(a, lane, b, other) {
+                    return false;
+                }
+            }
+            None => unreachable!(),
+        }
+    }
+    true
+}
+
+/// The same in an order that goes along memory: where that pays, the axes of both layouts are turned alike before.
+pub fn layouts_equal<S: Data, D: Dimension, T: StrideList>(
+    a: &S,
+    ours: &Layout<D, T>,
+    b: &S,
+    theirs: &Layout<D, T>,
+) -> bool
+where
+    S::Elem: PartialEq,
+    requires alike { D.lengths theirs.now.dim ≡ D.lengths ours.now.dim }
+    requires ours { HoldsShown S.stored a.now ours.now }
+    requires theirs { HoldsShown S.stored b.now theirs.now }
+    ensures { result ≡ pointwise S.Elem.eq (listed_by S.stored a.now ours.now) (listed_by S.stored b.now theirs.now) }
+{
+    if !is_worth_turning(ours, theirs) {
+        return equal_in_order(a, ours, b, theirs);
+    }
+    let (turned, other) = turned_alike(ours, theirs);
+    equal_in_order(a, &turned, b, &other)
 }

@@ -48,6 +48,36 @@ fn clones_behind<A: Clone>(items: Vec<A>, run: &[A]) -> (Vec<A>, Result<(), NoMe
     (items, Ok(()))
 }
 
+/// Puts clones of the elements of a lane behind those of a vector, which is handed on and back as above.
+#[inline(always)]
+fn clones_along<S: Data>(
+    items: Vec<S::Elem>,
+    storage: &S,
+    lane: Lane,
+) -> (Vec<S::Elem>, Result<(), NoMemory>)
+where
+    S::Elem: Clone,
+    requires clones { (k : ℕ) (x : S.Elem) → k < lane.count → stored_along (S.stored storage.now) lane.place lane.stride k ≡ Some x → ClonesAreEqual S.Elem.is_clone x }
+    requires holds { (k : ℕ) → k < lane.count → is_some (stored_along (S.stored storage.now) lane.place lane.stride k) ≡ true }
+    requires room { vec_len items + lane.count ≤ vec_capacity items }
+    ensures items { OnOk result.1 (result.0.items ≡ items.items ++ collected (stored_along (S.stored storage.now) lane.place lane.stride) lane.count) }
+    ensures len { OnOk result.1 (vec_len result.0 ≡ vec_len items + lane.count) }
+    ensures room { vec_capacity result.0 ≡ vec_capacity items }
+    ensures kept { OnErr result.1 (IsFront items.items result.0.items) }
+    ensures refused { OnErr result.1 (MayRefuseBelow S.Elem.is_infallible (stored_along (S.stored storage.now) lane.place lane.stride) lane.count) }
+{
+    // A region in hand: what a write may not change isn't read anew for each element.
+    let region = storage.borrowed();
+    let mut items = items;
+    for nth in 0..lane.count {
+        match region.element(lane.place_of(nth)).clone() {
+            Ok(copy) => items.push_reserved(copy),
+            Err(_) => return (items, Err(NoMemory)),
+        }
+    }
+    (items, Ok(()))
+}
+
 /// Puts clones of the elements of a lane behind those that a vector has.
 fn extend_by_steps<S: Data>(
     items: &mut Vec<S::Elem>,
@@ -65,15 +95,12 @@ where
     ensures kept { OnErr result (IsFront items.old.items items.new.items) }
     ensures refused { OnErr result (MayRefuseBelow S.Elem.is_infallible (stored_along (S.stored storage.now) lane.place lane.stride) lane.count) }
 {
-    // A region in hand: what a write may not change isn't read anew for each element.
-    let region = storage.borrowed();
-    for nth in 0..lane.count {
-        match region.element(lane.place_of(nth)).clone() {
-            Ok(copy) => items.push_reserved(copy),
-            Err(_) => return Err(NoMemory),
-        }
-    }
-    Ok(())
+    let alloc = *items.allocator();
+    let held = mem::replace(items, Vec::new(alloc));
+    let (longer, end) = clones_along(held, storage, lane);
+    let empty = mem::replace(items, longer);
+    empty.destroy_empty();
+    end
 }
 
 /// The same where they lie side by side.

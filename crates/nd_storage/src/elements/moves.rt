@@ -4,12 +4,14 @@ ghost use Rattle.std.specs.Prelude.{◌≡◌, ◌<◌, ◌≤◌, ℕ, true, Is
 ghost use Rattle.nd_shape_and_slice.specs.Shape.{size_of, HasCheckedSize};
 ghost use Rattle.nd_layout.specs.Places.{ReachesPlaces};
 ghost use Rattle.nd_layout.specs.Walk.{place_at_rank};
+ghost use Rattle.nd_layout.specs.Placements.{placement_of, KeepsApart};
+ghost use Rattle.nd_storage.specs.ByLayout.{HoldsShown, LeavesOthers, ShowsSame};
 ghost use Rattle.nd_storage.specs.Places.{names_place, stored_at};
 ghost use Rattle.nd_storage.specs.elements.Assigns.{IsAssignedTo};
 ghost use Rattle.nd_storage.specs.elements.Changes.{AreDistinct};
 
 use crate::storage::DataMut;
-use nd_layout::{Lane, Lanes};
+use nd_layout::{Lane, Lanes, Layout, is_worth_turning, turned_alike};
 use nd_shape_and_slice::{Dimension, StrideList};
 use std::mem;
 
@@ -54,7 +56,7 @@ fn exchange_lane<A, S: DataMut<Elem = A>, Z: DataMut<Elem = A>>(
 
 /// Exchanges the elements at the places of a layout with those that a second storage has at the places of the same indexes
 /// under other strides.
-pub fn exchange_places<A, S: DataMut<Elem = A>, Z: DataMut<Elem = A>>(
+fn exchange_places<A, S: DataMut<Elem = A>, Z: DataMut<Elem = A>>(
     storage: &mut S,
     first: usize,
     lengths: &[usize],
@@ -84,4 +86,68 @@ pub fn exchange_places<A, S: DataMut<Elem = A>, Z: DataMut<Elem = A>>(
             None => unreachable!(),
         }
     }
+}
+
+/// Exchanges the element at each index of a layout with the one that a second storage has there under a layout of its own, in
+/// row-major order.
+fn exchange_in_order<A, S, Z, D, T>(
+    storage: &mut S,
+    layout: &Layout<D, T>,
+    others: &mut Z,
+    beside: &Layout<D, T>,
+)
+where
+    S: DataMut<Elem = A>,
+    Z: DataMut<Elem = A>,
+    D: Dimension,
+    T: StrideList,
+    requires alike { D.lengths beside.now.dim ≡ D.lengths layout.now.dim }
+    requires apart { KeepsApart (placement_of layout.now) }
+    requires others_apart { KeepsApart (placement_of beside.now) }
+    requires holds { HoldsShown S.stored storage.old layout.now }
+    requires others_hold { HoldsShown Z.stored others.old beside.now }
+    ensures moved { ShowsSame S.stored Z.stored storage.new layout.now others.old beside.now }
+    ensures holds { HoldsShown S.stored storage.new layout.now }
+    ensures others { LeavesOthers S.stored layout.now storage.old storage.new }
+    ensures frame { S.frame storage.new ≡ S.frame storage.old }
+{
+    exchange_places(
+        storage,
+        layout.offset,
+        layout.dim.slice(),
+        layout.strides.slice(),
+        others,
+        beside.offset,
+        beside.strides.slice(),
+    );
+}
+
+/// The same in an order that goes along memory: where that pays, the axes of both layouts are turned alike before.
+pub fn exchange_layouts<A, S, Z, D, T>(
+    storage: &mut S,
+    layout: &Layout<D, T>,
+    others: &mut Z,
+    beside: &Layout<D, T>,
+)
+where
+    S: DataMut<Elem = A>,
+    Z: DataMut<Elem = A>,
+    D: Dimension,
+    T: StrideList,
+    requires alike { D.lengths beside.now.dim ≡ D.lengths layout.now.dim }
+    requires apart { KeepsApart (placement_of layout.now) }
+    requires others_apart { KeepsApart (placement_of beside.now) }
+    requires holds { HoldsShown S.stored storage.old layout.now }
+    requires others_hold { HoldsShown Z.stored others.old beside.now }
+    ensures moved { ShowsSame S.stored Z.stored storage.new layout.now others.old beside.now }
+    ensures holds { HoldsShown S.stored storage.new layout.now }
+    ensures others { LeavesOthers S.stored layout.now storage.old storage.new }
+    ensures frame { S.frame storage.new ≡ S.frame storage.old }
+{
+    if !is_worth_turning(layout, beside) {
+        exchange_in_order(storage, layout, others, beside);
+        return;
+    }
+    let (turned, other) = turned_alike(layout, beside);
+    exchange_in_order(storage, &turned, others, &other);
 }

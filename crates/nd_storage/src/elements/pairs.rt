@@ -4,12 +4,14 @@ ghost use Rattle.std.specs.Prelude.{◌≡◌, ◌<◌, ◌≤◌, ℕ, true, So
 ghost use Rattle.nd_shape_and_slice.specs.Shape.{size_of, HasCheckedSize};
 ghost use Rattle.nd_layout.specs.Places.{ReachesPlaces};
 ghost use Rattle.nd_layout.specs.Walk.{place_at_rank};
+ghost use Rattle.nd_layout.specs.Placements.{placement_of, KeepsApart};
+ghost use Rattle.nd_storage.specs.ByLayout.{HoldsShown, LeavesOthers, TakesRanked, ZipsRanked, TakesShown, ZipsShown};
 ghost use Rattle.nd_storage.specs.Places.{names_place};
 ghost use Rattle.nd_storage.specs.elements.Changes.{AreDistinct};
 ghost use Rattle.nd_storage.specs.elements.Pairs.{ChangesWith, TakesBoth, IsZippedTo, TakesPairs};
 
 use crate::storage::{Data, DataMut};
-use nd_layout::{Lane, Lanes};
+use nd_layout::{Lane, Lanes, Layout, is_worth_turning, turned_alike};
 use nd_shape_and_slice::{Dimension, StrideList};
 
 /// Hands the element at a place to the function, to be written, with another one beside it. It returns the function, as
@@ -157,7 +159,7 @@ fn zip_lane<B, S: DataMut, Z: Data<Elem = B>, F: FnMut(&mut S::Elem, &B)>(
 
 /// Hands the elements at the places of a layout to the function, in row-major order of its indexes, each with the element
 /// that a second storage has at the place of that index under other strides.
-pub fn zip_places<B, S: DataMut, Z: Data<Elem = B>, F: FnMut(&mut S::Elem, &B)>(
+fn zip_places<B, S: DataMut, Z: Data<Elem = B>, F: FnMut(&mut S::Elem, &B)>(
     storage: &mut S,
     first: usize,
     lengths: &[usize],
@@ -192,4 +194,71 @@ pub fn zip_places<B, S: DataMut, Z: Data<Elem = B>, F: FnMut(&mut S::Elem, &B)>(
         }
     }
     now
+}
+
+/// Hands the element at each index of a layout to the function, to be written, with the one that a second storage has there
+/// under a layout of its own, in row-major order.
+fn zip_in_order<B, S, Z, D, T, F>(
+    storage: &mut S,
+    layout: &Layout<D, T>,
+    others: &Z,
+    beside: &Layout<D, T>,
+    f: F,
+) -> F
+where
+    S: DataMut,
+    Z: Data<Elem = B>,
+    D: Dimension,
+    T: StrideList,
+    F: FnMut(&mut S::Elem, &B),
+    requires alike { D.lengths beside.now.dim ≡ D.lengths layout.now.dim }
+    requires apart { KeepsApart (placement_of layout.now) }
+    requires holds { HoldsShown S.stored storage.old layout.now }
+    requires others_hold { HoldsShown Z.stored others.now beside.now }
+    requires callable { TakesRanked F.FnMut S.stored Z.stored storage.old layout.now others.now beside.now f }
+    ensures changed { ZipsRanked F.FnMut S.stored Z.stored storage.old layout.now others.now beside.now storage.new f result }
+    ensures frame { S.frame storage.new ≡ S.frame storage.old }
+{
+    zip_places(
+        storage,
+        layout.offset,
+        layout.dim.slice(),
+        layout.strides.slice(),
+        others,
+        beside.offset,
+        beside.strides.slice(),
+        f,
+    )
+}
+
+/// The same in an order that is free and goes along memory: where that pays, the axes of both layouts are turned alike before.
+pub fn zip_layouts<B, S, Z, D, T, F>(
+    storage: &mut S,
+    layout: &Layout<D, T>,
+    others: &Z,
+    beside: &Layout<D, T>,
+    f: F,
+)
+where
+    S: DataMut,
+    Z: Data<Elem = B>,
+    D: Dimension,
+    T: StrideList,
+    F: FnMut(&mut S::Elem, &B),
+    requires alike { D.lengths beside.now.dim ≡ D.lengths layout.now.dim }
+    requires apart { KeepsApart (placement_of layout.now) }
+    requires holds { HoldsShown S.stored storage.old layout.now }
+    requires others_hold { HoldsShown Z.stored others.now beside.now }
+    requires callable { TakesShown F.FnMut S.stored Z.stored storage.old layout.now others.now beside.now f }
+    ensures visits { ZipsShown F.FnMut S.stored Z.stored storage.old layout.now others.now beside.now storage.new f }
+    ensures holds { HoldsShown S.stored storage.new layout.now }
+    ensures others { LeavesOthers S.stored layout.now storage.old storage.new }
+    ensures frame { S.frame storage.new ≡ S.frame storage.old }
+{
+    if !is_worth_turning(layout, beside) {
+        zip_in_order(storage, layout, others, beside, f);
+        return;
+    }
+    let (turned, other) = turned_alike(layout, beside);
+    zip_in_order(storage, &turned, others, &other, f);
 }

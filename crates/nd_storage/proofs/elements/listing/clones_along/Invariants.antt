@@ -1,6 +1,6 @@
 use Rattle.std.specs.Prelude.{◌≡◌, ◌+◌, ◌++◌, vec_len, vec_capacity}
 use Rattle.nd_storage.specs.Collected.{collected, stored_along}
-use Rattle.nd_storage.proofs.elements.listing.extend_by_steps.Given as goal
+use Rattle.nd_storage.proofs.elements.listing.clones_along.Given as goal
 
 abbrev pub invariant-loop-nth : goal.invariant-loop-nth
 invariant-loop-nth g l =

@@ -1,0 +1,48 @@
+-- What a storage shows under a layout, by the ranks of another of its shape, and of one whose axes are turned alike.
+use Rattle.std.proofs.Common.{◌≡◌, ℕ, ◌<◌, true, List, refl, ap, ◌∙◌}
+use Rattle.std.specs.Prelude.{Option}
+use Rattle.nd_shape_and_slice.specs.Shape.{in_box, size_of, row_rank, index_at}
+use Rattle.nd_shape_and_slice.specs.Place.{place_of}
+use Rattle.nd_shape_and_slice.proofs.RowMajor.{row_rank_below}
+use Rattle.nd_shape_and_slice.proofs.RankIndexes.{in_box-index_at, row_rank-index_at, index_at-row_rank}
+use Rattle.nd_layout.specs.MemoryOrder.{AreTurned}
+use Rattle.nd_layout.specs.Placements.{Placement, IsRearrangedOf}
+use Rattle.nd_storage.specs.ByLayout.{shown_at}
+use Rattle.nd_storage.specs.CloneRefusals.{MayRefuseBelow, MayRefuseClone}
+use Rattle.nd_storage.specs.Collected.{stored_by_rank}
+use Rattle.nd_storage.specs.Places.{stored_at}
+
+-- a second placement of the same lengths, by the ranks of the first
+module _ {A : Type 0} (others : ℕ → Option A) (one two : Placement) (alike : two.lengths ≡ one.lengths) where
+  pub second_inside : (rank : ℕ) → rank < size_of one.lengths → in_box two.lengths (index_at one.lengths rank) ≡ true
+  second_inside rank below = ap (λ ns. in_box ns (index_at one.lengths rank)) alike ∙ in_box-index_at one.lengths rank below
+
+  -- what is shown at the index of a rank
+  pub second_shown : (rank : ℕ) → rank < size_of one.lengths → shown_at others two (index_at one.lengths rank) ≡ stored_by_rank others two.offset one.lengths two.strides rank
+  second_shown rank below = rw (second_inside rank below) refl
+
+  pub second_given : (i : List ℕ) → in_box one.lengths i ≡ true → stored_by_rank others two.offset one.lengths two.strides (row_rank one.lengths i) ≡ shown_at others two i
+  second_given i h = let there : in_box two.lengths i ≡ true = ap (λ ns. in_box ns i) alike ∙ h in rw there (ap (λ j. stored_at others (place_of two.offset two.strides j)) (index_at-row_rank one.lengths i h))
+
+  pub second_refused : (is_infallible : A → Type 0) → MayRefuseBelow is_infallible (stored_by_rank others two.offset one.lengths two.strides) (size_of one.lengths) → MayRefuseClone is_infallible (shown_at others two)
+  second_refused is_infallible refused = (index_at one.lengths refused.0, refused.1, second_shown refused.0 refused.2 ∙ refused.3, refused.4)
+
+-- turned, the first has its places in another order, and the second shows at a rank what it shows at the index named
+module _ (one two new_one new_two : Placement) (t : AreTurned one two new_one new_two) where
+  abbrev pub turned_order : IsRearrangedOf one new_one
+  turned_order = record {
+    index_of = λ r. t.source (index_at new_one.lengths r);
+    rank_of = λ i. row_rank new_one.lengths (t.back i);
+    within = λ r h. t.first.within (index_at new_one.lengths r) (in_box-index_at new_one.lengths r h);
+    below = λ i h. row_rank_below new_one.lengths (t.back i) (t.inside i h);
+    there = λ r h. ap (row_rank new_one.lengths) (t.once (index_at new_one.lengths r) (in_box-index_at new_one.lengths r h)) ∙ row_rank-index_at new_one.lengths r h;
+    back = λ i h. ap t.source (index_at-row_rank new_one.lengths (t.back i) (t.inside i h)) ∙ t.found i h;
+    same = λ r h. t.first.same (index_at new_one.lengths r) (in_box-index_at new_one.lengths r h);
+  }
+
+  pub turned_shown : {A : Type 0} (others : ℕ → Option A) (rank : ℕ) → rank < size_of new_one.lengths → stored_by_rank others new_two.offset new_one.lengths new_two.strides rank ≡ shown_at others two (turned_order.index_of rank)
+  turned_shown others rank below =
+      let i = index_at new_one.lengths rank in
+      let there : in_box new_two.lengths i ≡ true = ap (λ ns. in_box ns i) t.alike ∙ in_box-index_at new_one.lengths rank below in
+      let shows : stored_at others (place_of new_two.offset new_two.strides i) ≡ shown_at others two (t.source i) = rw (t.second.within i there) (ap (stored_at others) (t.second.same i there)) in
+      shows
