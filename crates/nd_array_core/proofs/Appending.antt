@@ -107,6 +107,19 @@ pub on_both : {T E P Q C : Type 0} (r : Result T E) → (P → Q → C) → OnOk
 on_both (Ok x) f p q = f p q
 on_both (Err e) f p q = p
 
+-- and that a refused one gives
+pub err_both : {T E P Q C : Type 0} (r : Result T E) → (P → Q → C) → OnErr r P → OnErr r Q → OnErr r C
+err_both (Ok x) f p q = p
+err_both (Err e) f p q = f p q
+
+pub err_three : {T E P Q W C : Type 0} (r : Result T E) → (P → Q → W → C) → OnErr r P → OnErr r Q → OnErr r W → OnErr r C
+err_three (Ok x) f p q w = p
+err_three (Err e) f p q w = f p q w
+
+pub err_under : {T E P : Type 0} (Q : Type 0) (r : Result T E) → (P → OnErr r Q) → OnErr r (P → Q)
+err_under Q (Ok x) f = tt
+err_under Q (Err e) f = f
+
 -- a shape without elements has no index
 pub no_index : (ns i : List ℕ) → size_of ns ≡ 0 → in_box ns i ≡ true → ⊥
 no_index ns i none h = let below = row_rank_below ns i h in omega (arith, below, none)

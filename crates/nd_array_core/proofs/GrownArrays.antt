@@ -1,5 +1,5 @@
 -- How an owned array lies once another has come behind it: the case that applies, and what it says.
-use Rattle.std.proofs.Common.{◌≡◌, ℕ, zero, suc, ⊎_elim, inl, inr, ◌+◌, ◌*◌, ◌<◌, ◌≤◌, Bool, true, false, not, ◌||◌, cond, eqb, leb, List, [], ◌∷◌, ◌++◌, length, get_or, set, replicate, refl, ap, sym, subst, ◌∙◌, arith, ℤ, pos}
+use Rattle.std.proofs.Common.{◌≡◌, ℕ, zero, suc, ◌⊎◌, ⊎_elim, inl, inr, ◌+◌, ◌*◌, ◌<◌, ◌≤◌, Bool, true, false, not, ◌||◌, cond, eqb, leb, List, [], ◌∷◌, ◌++◌, length, get_or, set, replicate, refl, ap, sym, subst, ◌∙◌, arith, ℤ, pos}
 use Rattle.std.specs.List.{remove}
 use Rattle.std.proofs.Math.Nat.{mul-le-mul_right}
 use Rattle.std.proofs.lemmas.Bool.{cases_eq, eq-eqb, ne_eqb}
@@ -278,6 +278,12 @@ added_is ns ms a on fits = sym (ap size_of (fits_back ns ms a on fits)) ∙ size
 pub can_grow : {A : Type 0} (axis : ℕ) (l : Placement) (items : List A) → 0 < size_of l.lengths → IsReadyUnder axis l items → (length items ≡ size_of l.lengths) × (must_move l.lengths l.strides axis ≡ false)
 can_grow axis l items some (full, inl none) = absurd (omega (arith, some, none))
 can_grow axis l items some (full, inr stays) = (full, stays)
+
+-- elements have to move, and some come
+pub never_calm : {P : Type 0} (ns ms : List ℕ) (a : ℕ) → a < length ns → IsAlikeBeside ns ms a → 0 < size_of ns → 0 < size_of ms → (P → ⊥) → (added_elements ns a (get_or ms a 0) ≡ 0) ⊎ ((size_of ns ≡ 0) ⊎ P) → ⊥
+never_calm ns ms a on alike some more moves (inl none) = let is = added_is ns ms a on alike in omega (arith, is, none, more)
+never_calm ns ms a on alike some more moves (inr (inl none)) = omega (arith, none, some)
+never_calm ns ms a on alike some more moves (inr (inr can)) = moves can
 
 -- ---- room
 pub remove_set : (ns : List ℕ) (a x : ℕ) → remove (set ns a x) a ≡ remove ns a

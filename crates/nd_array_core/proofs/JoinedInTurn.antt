@@ -14,11 +14,12 @@ use Rattle.nd_layout.proofs.Continued.{in_box-longer}
 use Rattle.nd_layout.proofs.Sizes.{nonzero_product-set}
 use Rattle.nd_array_core.specs.declared.base.errors.ArrayError.{ArrayError}
 use Rattle.nd_array_core.specs.declared.base.errors.ArrayError.TheVariants.{Shape, NoMemory}
-use Rattle.nd_array_core.specs.Joined.{concatenated}
+use Rattle.nd_array_core.specs.Joined.{concatenated, concatenated_alike}
+use Rattle.nd_array_core.specs.Laws.{NothingOutside}
 use Rattle.nd_storage.specs.Meaning.{Meaning}
-use Rattle.nd_array_core.specs.growth.Appended.{FitsBehind, IsAppendRefused, IsJoiningRefused, NotFitting, TooLarge}
-use Rattle.nd_array_core.specs.growth.InTurn.{joined_in_turn, lengths_along}
-use Rattle.nd_array_core.proofs.Stretched.{fits_grown, fits_ungrown}
+use Rattle.nd_array_core.specs.growth.Appended.{FitsBehind, IsAlikeBeside, IsAppendRefused, IsJoiningRefused, NotFitting, TooLarge}
+use Rattle.nd_array_core.specs.growth.InTurn.{alike_in_turn, joined_in_turn, lengths_along, AreAlikeBeside}
+use Rattle.nd_array_core.proofs.Stretched.{fits_grown, fits_ungrown, with_itself}
 
 grown_twice : (ns : List ℕ) (a x y : ℕ) → (0 < length ns → a < length ns) → grown_shape (grown_shape ns a x) a y ≡ grown_shape ns a (x + y)
 grown_twice [] a x y on = refl
@@ -119,3 +120,35 @@ module _ {A : Type 0} where
 
   pub all_fit : (a : ℕ) (ns : List ℕ) (ms : List (Meaning A)) (count : ℕ) → FirstFit count a ns ms → length ms ≤ count → (nth : ℕ) (m : Meaning A) → slice_get ms nth ≡ Some m → FitsBehind ns m.shape a
   all_fit a ns ms count fit all nth m is = fit nth m (let below = slice_get_within ms nth m is in omega (arith, below, all)) is
+
+-- ---- arrays that needn't be broadcast
+-- the lengths of the axis that have come don't matter
+alike_longer : (ns ms : List ℕ) (a x : ℕ) → a < length ns → IsAlikeBeside ns ms a → IsAlikeBeside (set ns a x) ms a
+alike_longer ns ms a x on alike =
+    let long = length-set ns a x in (
+      omega (arith, long, on),
+      ap (set ms a) (get_or-set_same ns a x 0 on) ∙ (sym (set-set ms a (get_or ns a 0) x) ∙ ap (λ s. set s a x) alike.1),
+    )
+
+-- what holds of each thing that a function makes
+same_thing : {Y : Type 0} (x y : Y) → Some x ≡ Some y → x ≡ y
+same_thing x y e = cc
+
+pub each_mapped : {X Y : Type 0} (f : X → Y) (P : Y → Type 0) (xs : List X) → ((x : X) → P (f x)) → (nth : ℕ) (y : Y) → slice_get (map f xs) nth ≡ Some y → P y
+each_mapped f P [] all nth y is = absurd cc
+each_mapped f P (x ∷ xs) all zero y is = subst P (same_thing (f x) y is) (all x)
+each_mapped f P (x ∷ xs) all (suc nth) y is = each_mapped f P xs all nth y is
+
+module _ {A : Type 0} where
+  each_longer : (ns : List ℕ) (a x : ℕ) (ms : List (Meaning A)) → a < length ns → AreAlikeBeside a ns ms → AreAlikeBeside a (set ns a x) ms
+  each_longer ns a x [] on alike = alike
+  each_longer ns a x (m ∷ ms) on alike = (alike_longer ns m.shape a x on alike.0, each_longer ns a x ms on alike.1)
+
+  pub turn_alike : (a : ℕ) (m : Meaning A) (ns : List (Meaning A)) → (0 < length m.shape → a < length m.shape) → ((nth : ℕ) (n : Meaning A) → slice_get ns nth ≡ Some n → NothingOutside n) → AreAlikeBeside a m.shape ns → joined_in_turn a m ns ≡ alike_in_turn a m ns
+  turn_alike a m [] on nothing alike = refl
+  turn_alike a m (n ∷ ns) on nothing alike =
+      let more = get_or m.shape a 0 + get_or n.shape a 0 in
+      let here = on alike.0.0 in
+      let long = length-set m.shape a more in
+      ap (λ k. joined_in_turn a k ns) (with_itself a m n alike.0 (nothing 0 n refl))
+      ∙ turn_alike a (concatenated_alike a m n) ns (λ _. omega (arith, long, here)) (λ nth k is. nothing (suc nth) k is) (each_longer m.shape a more ns here alike.1)

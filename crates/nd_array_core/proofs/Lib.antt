@@ -24,6 +24,7 @@ pub mod Fresh
 pub mod Diagonals
 pub mod LastIndexes
 pub mod RunElements
+pub mod EitherShown
 pub mod Regrouped
 pub mod Regrouping
 pub mod ServedStrides
@@ -33,6 +34,7 @@ pub mod Quotients
 mod Selecting
 mod GrownArrays
 pub mod CloneRefusals
+pub mod Cells
 pub mod SlicedBack
 mod JoinedInTurn
 mod Pushed

@@ -1,5 +1,5 @@
 -- Arrays of one to three axes in coordinates: the element at them, and how many rows and columns there are.
-use Rattle.std.specs.Prelude.{◌≡◌, ◌<◌, ◌^◌, ℕ, ⊤, List, [], ◌∷◌, Option}
+use Rattle.std.specs.Prelude.{◌≡◌, ◌<◌, ◌^◌, ℕ, ⊤, List, [], ◌∷◌, slice_index, Option, Some}
 use Rattle.nd_shape_and_slice.specs.declared.dimension.Dimension as dimension
 use Rattle.nd_shape_and_slice.specs.declared.dimension.AxisCount as axis_count
 use Rattle.nd_shape_and_slice.specs.declared.dimension.StrideList as stride_list
@@ -11,6 +11,13 @@ use Rattle.nd_array_core.specs.Meaning.{shape_of, element_at}
 abbrev pub AllShort : List ℕ → Type 0
 AllShort [] = ⊤
 AllShort (n ∷ ns) = (n < 2 ^ 63) × AllShort ns
+
+-- y is what the function gives of an index's row and column; of other indexes it says nothing
+abbrev pub IsCell : {A : Type 0} → (ℕ → ℕ → A) → List ℕ → A → Type 0
+IsCell cell [] y = ⊤
+IsCell cell (i ∷ []) y = ⊤
+IsCell cell (row ∷ column ∷ []) y = y ≡ cell row column
+IsCell cell (i ∷ j ∷ k ∷ is) y = ⊤
 
 module _ {S D T A P R L M : Type 0} {s : data_trait.Ghosts S A} {d : dimension.Ghosts D P R L M} {n : axis_count.Ghosts D} {r : stride_list.Ghosts R} {t : stride_list.Ghosts T} where
   -- the element of a list at its place
@@ -32,3 +39,17 @@ module _ {S D T A P R L M : Type 0} {s : data_trait.Ghosts S A} {d : dimension.G
   -- the array has this many rows and columns
   abbrev pub HasRowsAndColumns : ArrayBase S D T A P R L M s d n r t → ℕ → ℕ → Type 0
   HasRowsAndColumns a rows columns = shape_of a ≡ rows ∷ columns ∷ []
+
+  -- at each row and column stands what the function gives of them
+  abbrev pub HasCells : ArrayBase S D T A P R L M s d n r t → ℕ → ℕ → (ℕ → ℕ → A) → Type 0
+  HasCells a rows columns cell = (row column : ℕ) → row < rows → column < columns → element_of_2 a row column ≡ Some (cell row column)
+
+module _
+    {S D A T P R L M : Type 0} {s : data_trait.Ghosts S A} {d : dimension.Ghosts D P R L M} {n : axis_count.Ghosts D} {r : stride_list.Ghosts R} {t : stride_list.Ghosts T}
+    {Z E U Q X V W : Type 0} {z : data_trait.Ghosts Z A} {e : dimension.Ghosts E Q X V W} {k : axis_count.Ghosts E} {x : stride_list.Ghosts X} {u : stride_list.Ghosts U} where
+  -- a line as long as the rows of the first comes behind them in the second, and one as long as the columns behind those
+  abbrev pub GetsRow : ArrayBase S D T A P R L M s d n r t → ArrayBase Z E U A Q X V W z e k x u → ArrayBase S D T A P R L M s d n r t → Type 0
+  GetsRow a line b = HasLength line (slice_index (shape_of a) 1) → (column : ℕ) → element_of_2 b (slice_index (shape_of a) 0) column ≡ element_of_1 line column
+
+  abbrev pub GetsColumn : ArrayBase S D T A P R L M s d n r t → ArrayBase Z E U A Q X V W z e k x u → ArrayBase S D T A P R L M s d n r t → Type 0
+  GetsColumn a line b = HasLength line (slice_index (shape_of a) 0) → (row : ℕ) → element_of_2 b row (slice_index (shape_of a) 1) ≡ element_of_1 line row

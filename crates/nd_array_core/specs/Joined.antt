@@ -32,6 +32,13 @@ concatenated a m n = record {
   at = λ i. inside (concatenated_shape m.shape n.shape a) i (if nat_lt (slice_index i a) (slice_index m.shape a) then m.at i else (broadcast_behind a m n).at (slice_set i a (slice_index i a - slice_index m.shape a)));
 }
 
+-- the same where all other lengths are equal: nothing is broadcast
+abbrev pub concatenated_alike : {A : Type 0} → ℕ → Meaning A → Meaning A → Meaning A
+concatenated_alike a m n = record {
+  shape = concatenated_shape m.shape n.shape a;
+  at = λ i. inside (concatenated_shape m.shape n.shape a) i (if nat_lt (slice_index i a) (slice_index m.shape a) then m.at i else n.at (slice_set i a (slice_index i a - slice_index m.shape a)));
+}
+
 -- the parts of a split, one behind the other, are the array
 abbrev pub SplitAndJoined : Type 0 → Type 0
 SplitAndJoined A = (m : Meaning A) (a k : ℕ) → NothingOutside m → a < length m.shape → k ≤ slice_index m.shape a → concatenated a (lower_of a k m) (upper_of a k m) ≡ m

@@ -3,5 +3,6 @@ pub use Rattle.nd_storage.specs.growth.Taken
 pub mod Reserved
 pub mod Appended
 pub mod Grown
+pub mod Outcomes
 pub mod InTurn
 pub mod SlicedBack

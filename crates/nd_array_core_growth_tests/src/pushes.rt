@@ -47,6 +47,17 @@ fn behind_exchanged_axes(rt: HostRuntime) {
     }
 }
 
+// Behind 1 2 3 / 4 5 6, then behind 1 2 3 / 4 5 6 / 9 9 9.
+#[test]
+fn one_number_as_a_row_and_as_a_column(rt: HostRuntime) {
+    let mut table: Array2<u64> = made(rt.alloc(), (2, 3), &[1, 2, 3, 4, 5, 6]).expect(&rt, "made");
+    ends(&rt, &mut table, 0, &[9], End::Done);
+    assert!(rt; shows(&table, [3, 3], &[1, 2, 3, 4, 5, 6, 9, 9, 9]));
+    ends(&rt, &mut table, 1, &[9], End::Done);
+    assert!(rt; shows(&table, [3, 4], &[1, 2, 3, 9, 4, 5, 6, 9, 9, 9, 9, 9]));
+    assert_eq!(rt; table.strides(), [1, 3].as_slice());
+}
+
 #[test]
 fn rows_and_columns_that_do_not_fit(rt: HostRuntime) {
     let mut table: Array2<u64> = made(rt.alloc(), (2, 3), &[1, 2, 3, 4, 5, 6]).expect(&rt, "made");

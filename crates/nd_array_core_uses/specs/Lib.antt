@@ -1,5 +1,7 @@
+pub mod Cells
 pub mod Images
 pub mod Lanes
+pub mod Loops
 pub mod Painting
 pub mod Slices
 pub mod Sums

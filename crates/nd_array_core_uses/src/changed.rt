@@ -1,11 +1,12 @@
-//! Parts of an image changed by a closure, in coordinates and with no proof file.
-ghost use Rattle.std.specs.Prelude.{◌≡◌, ◌*◌, ◌%◌, ◌^◌, ◌<◌, ◌≤◌, ℕ, slice_index};
+//! Parts of an image written from another, or changed by a closure, in coordinates.
+ghost use Rattle.std.specs.Prelude.{◌≡◌, ◌+◌, ◌-◌, ◌*◌, ◌%◌, ◌^◌, ◌<◌, ◌≤◌, ℕ, slice_index, OnOk};
 ghost use Rattle.std.specs.Option.{option_map};
-ghost use Rattle.nd_array_core.specs.Meaning.{shape_of};
+ghost use Rattle.nd_array_core.specs.Meaning.{shape_of, element_at};
+ghost use Rattle.nd_array_core.specs.base.Fresh.{ClonesOfAllAreEqual};
 ghost use Rattle.nd_array_core.specs.Coordinates.{element_of_2};
 
-use nd_array_core::{ArrayBase, DataMut};
-use nd_shape_and_slice::{Ix2, slices};
+use nd_array_core::{ArrayBase, Data, DataMut};
+use nd_shape_and_slice::{Ix2, NoMemory, slices};
 
 /// Doubles the pixels of a rectangle, modulo 2 to the 64th.
 pub fn double_rectangle<S: DataMut<Elem = u64>>(
@@ -29,4 +30,28 @@ pub fn double_rectangle<S: DataMut<Elem = u64>>(
         slices![top..bottom, left..right],
         |x| *x = x.wrapping_mul(2),
     );
+}
+
+/// Writes a patch into an image, its first pixel at a row and a column. NoMemory if a clone is refused.
+#[tactic(auto, using(std::proofs::lemmas::Bool::Decides::nat_tests))]
+pub fn patch_rectangle<A: Clone + Drop, S: DataMut<Elem = A>, Z: Data<Elem = A>>(
+    image: &mut ArrayBase<S, Ix2>,
+    patch: &ArrayBase<Z, Ix2>,
+    top: usize,
+    left: usize,
+) -> Result<(), NoMemory>
+    requires clones { ClonesOfAllAreEqual A.is_clone (element_at patch.now) }
+    requires rows { top + slice_index (shape_of patch.now) 0 ≤ slice_index (shape_of image.old) 0 }
+    requires columns { left + slice_index (shape_of patch.now) 1 ≤ slice_index (shape_of image.old) 1 }
+    ensures shape { shape_of image.new ≡ shape_of image.old }
+    ensures within { OnOk result ((row column : ℕ) → top ≤ row → row < top + slice_index (shape_of patch.now) 0 → left ≤ column → column < left + slice_index (shape_of patch.now) 1 → element_of_2 image.new row column ≡ element_of_2 patch.now (row - top) (column - left)) }
+    ensures above { (row column : ℕ) → row < top → element_of_2 image.new row column ≡ element_of_2 image.old row column }
+    ensures below { (row column : ℕ) → top + slice_index (shape_of patch.now) 0 ≤ row → element_of_2 image.new row column ≡ element_of_2 image.old row column }
+    ensures before { (row column : ℕ) → column < left → element_of_2 image.new row column ≡ element_of_2 image.old row column }
+    ensures after { (row column : ℕ) → left + slice_index (shape_of patch.now) 1 ≤ column → element_of_2 image.new row column ≡ element_of_2 image.old row column }
+{
+    let (_rows, _columns) = image.dim();
+    let (rows, columns) = patch.dim();
+    image.assign_slice(slices![top..top + rows, left..left + columns], patch)?;
+    Ok(())
 }

@@ -1,15 +1,16 @@
 //! Arrays that take others in where the room was made before.
 
-ghost use Rattle.std.specs.Prelude.{◌≡◌, ◌<◌, length, slice_index};
+ghost use Rattle.std.specs.Prelude.{◌≡◌, ◌<◌, OnOk, length, slice_index};
 ghost use Rattle.nd_shape_and_slice.specs.Shape.{HasCheckedSize};
 ghost use Rattle.nd_array_core.specs.Joined.{concatenated, concatenated_shape};
 ghost use Rattle.nd_array_core.specs.Meaning.{meaning_of, shape_of, element_at};
 ghost use Rattle.nd_array_core.specs.base.Fresh.{ClonesOfAllAreEqual};
 ghost use Rattle.nd_array_core.specs.growth.Appended.{FitsBehind};
-ghost use Rattle.nd_array_core.specs.growth.Grown.{GoesOn, IsReadyFor};
-ghost use Rattle.nd_array_core_uses.specs.Rooms.{AreAlwaysCloned};
+ghost use Rattle.nd_array_core.specs.growth.Grown.{GoesOn, IsReadyAlong, IsReadyFor};
+ghost use Rattle.nd_array_core.specs.growth.InTurn.{joined_in_turn, lengths_along, meanings_of, ClonesOfEachAreEqual, FitInTurn};
+ghost use Rattle.nd_array_core_uses.specs.Rooms.{AreAllCloned, AreAlwaysCloned};
 
-use nd_array_core::{Array, ArrayView};
+use nd_array_core::{Array, ArrayError, ArrayView};
 use nd_shape_and_slice::{Axis, Dimension};
 
 /// Appends an array to one that is ready and has the room. No clone is refused, so nothing is.
@@ -31,4 +32,44 @@ pub fn append_in_room<A: Clone + Drop, D: Dimension>(
         Ok(()) => {}
         Err(_) => unreachable!(),
     }
+}
+
+/// The same of several arrays in turn, with room for all of them.
+pub fn append_each_in_room<A: Clone + Drop, D: Dimension>(
+    array: &mut Array<A, D>,
+    axis: Axis,
+    arrays: &[ArrayView<'_, A, D>],
+)
+    requires axis { axis.0 < length (shape_of array.old) }
+    requires ready { IsReadyFor axis.0 (lengths_along axis.0 (meanings_of arrays.now)) array.old }
+    requires fits { FitInTurn axis.0 (shape_of array.old) (meanings_of arrays.now) }
+    requires clones { ClonesOfEachAreEqual A.is_clone (meanings_of arrays.now) }
+    requires cloned { AreAllCloned A.is_infallible (meanings_of arrays.now) }
+    ensures joined { meaning_of array.new ≡ joined_in_turn axis.0 (meaning_of array.old) (meanings_of arrays.now) }
+    ensures goes_on { GoesOn axis.0 array.old array.new }
+{
+    match array.append_each(axis, arrays) {
+        Ok(()) => {}
+        Err(_) => unreachable!(),
+    }
+}
+
+/// Makes room for several arrays at once, and appends them in turn: only the room can be refused.
+pub fn reserve_and_append_each<A: Clone + Drop, D: Dimension>(
+    array: &mut Array<A, D>,
+    axis: Axis,
+    arrays: &[ArrayView<'_, A, D>],
+    lengths: usize,
+) -> Result<(), ArrayError>
+    requires axis { axis.0 < length (shape_of array.old) }
+    requires ready { IsReadyAlong axis.0 array.old }
+    requires lengths { lengths ≡ lengths_along axis.0 (meanings_of arrays.now) }
+    requires fits { FitInTurn axis.0 (shape_of array.old) (meanings_of arrays.now) }
+    requires clones { ClonesOfEachAreEqual A.is_clone (meanings_of arrays.now) }
+    requires cloned { AreAllCloned A.is_infallible (meanings_of arrays.now) }
+    ensures joined { OnOk result (meaning_of array.new ≡ joined_in_turn axis.0 (meaning_of array.old) (meanings_of arrays.now)) }
+{
+    array.reserve(axis, lengths)?;
+    append_each_in_room(array, axis, arrays);
+    Ok(())
 }

@@ -2,6 +2,10 @@
 #![tactic(auto)]
 
 #[cfg(test)]
+mod cells;
+#[cfg(test)]
+mod grown;
+#[cfg(test)]
 mod lent;
 #[cfg(test)]
 mod painted;

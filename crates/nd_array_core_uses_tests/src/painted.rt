@@ -1,6 +1,7 @@
 //! Images painted: blocks, borders, columns, rows, checkerboards and the parts of an axis.
 
 use nd_array_core::{Array2, ArrayD};
+use nd_array_core_uses::changed::patch_rectangle;
 use nd_array_core_uses::{
     checkerboard, checkerboard_of_references, draw_border, fill_diagonal_blocks, fill_halves,
     interleave_rows, paint_every_second_column, paint_owned_columns, try_fill_slices,
@@ -104,4 +105,15 @@ fn both_parts_of_an_axis(rt: HostRuntime) {
     assert!(rt; grid.ndim() == 2 && grid.len_of(Axis(1)) == 4);
     assert!(rt; fill_halves(&mut grid, Axis(1), 1, 0, 9).is_ok());
     assert!(rt; shows(&grid, [2, 4], &[0, 9, 9, 9, 0, 9, 9, 9]));
+}
+
+// 1 2 / 3 4 over a corner of noughts, and 1 3 / 2 4 over another.
+#[test]
+fn patches(rt: HostRuntime) {
+    let mut image: Array2<u64> = made(rt.alloc(), (3, 4), &[0; 12]).expect(&rt, "made");
+    let patch: Array2<u64> = made(rt.alloc(), (2, 2), &[1, 2, 3, 4]).expect(&rt, "made");
+    assert!(rt; patch_rectangle(&mut image, &patch, 1, 2).is_ok());
+    assert!(rt; shows(&image, [3, 4], &[0, 0, 0, 0, 0, 0, 1, 2, 0, 0, 3, 4]));
+    assert!(rt; patch_rectangle(&mut image, &patch.t(), 0, 1).is_ok());
+    assert!(rt; shows(&image, [3, 4], &[0, 1, 3, 0, 0, 2, 4, 2, 0, 0, 3, 4]));
 }

@@ -1,7 +1,8 @@
 -- What a new array has of the items or answers that it is made of.
-use Rattle.std.specs.Prelude.{ℕ, List, [], ◌∷◌, Option, Result, IfOk}
-use Rattle.std.specs.Fn.{Mut}
+use Rattle.std.specs.Prelude.{◌≡◌, ℕ, true, List, [], ◌∷◌, Option, Result, IfOk}
+use Rattle.std.specs.Fn.{Mut, Called}
 use Rattle.std.specs.Iterator.{Drains}
+use Rattle.nd_shape_and_slice.specs.Shape.{in_box}
 use Rattle.nd_shape_and_slice.specs.declared.dimension.Dimension as dimension
 use Rattle.nd_shape_and_slice.specs.declared.dimension.AxisCount as axis_count
 use Rattle.nd_shape_and_slice.specs.declared.dimension.StrideList as stride_list
@@ -10,10 +11,16 @@ use Rattle.nd_storage.specs.declared.storage.Data as data_trait
 use Rattle.nd_storage.specs.declared.storage.OwnedRepr.{OwnedRepr}
 use Rattle.nd_array_core.specs.declared.base.array.ArrayBase.{ArrayBase}
 use Rattle.nd_storage.specs.FreeOrder.{AnswersByIndex, HasAnswersByIndex}
+use Rattle.nd_array_core.specs.Coordinates.{HasCells, IsCell}
 use Rattle.nd_array_core.specs.Meaning.{element_at, storage_of}
 use Rattle.nd_storage.specs.ByRank.{BuiltShape}
 use Rattle.nd_array_core.specs.base.Fresh.{OwnsInOrder, ShowsValues}
 use Rattle.nd_storage.specs.Storages.{stored_list}
+
+module _ {F X A : Type 0} (g : Mut F (X × Unit {0}) A) (lengths_of : X → List ℕ) where
+  -- at each index of the box a closure answers what `cell` gives of the row and column, and stays as it is
+  abbrev pub AnswersCells : List ℕ → (ℕ → ℕ → A) → F → Type 0
+  AnswersCells shape cell f = (x : X) (y : A) (f' : F) → in_box shape (lengths_of x) ≡ true → Called g f (x, tt) y f' → (f' ≡ f) × IsCell cell (lengths_of x) y
 
 module _ {D T A P R L M : Type 0} {s : data_trait.Ghosts (OwnedRepr A) A} {d : dimension.Ghosts D P R L M} {n : axis_count.Ghosts D} {r : stride_list.Ghosts R} {t : stride_list.Ghosts T} where
   -- the array owns a matrix of count rows and count columns, in row-major order
@@ -33,3 +40,7 @@ module _ {D T A P R L M : Type 0} {s : data_trait.Ghosts (OwnedRepr A) A} {d : d
     -- where it answers what some h gives of the index, and stays as it is, that stands at each index
     abbrev pub ShowsAnswersAlike : {E : Type 0} → BuiltShape → F → Result (ArrayBase (OwnedRepr A) D T A P R L M s d n r t) E → Type 0
     ShowsAnswersAlike built f result = (h : List ℕ → A) → AnswersByIndex g lengths_of built.0 h f → IfOk result (ShowsValues built h)
+
+    -- where it answers so for a shape of rows and columns, these are the cells
+    abbrev pub ShowsCells : {E : Type 0} → List ℕ → F → Result (ArrayBase (OwnedRepr A) D T A P R L M s d n r t) E → Type 0
+    ShowsCells shape f result = (rows columns : ℕ) (cell : ℕ → ℕ → A) → shape ≡ rows ∷ columns ∷ [] → AnswersCells g lengths_of shape cell f → IfOk result (λ a. HasCells a rows columns cell)

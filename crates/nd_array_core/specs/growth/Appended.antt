@@ -10,7 +10,7 @@ use Rattle.nd_array_core.specs.declared.base.errors.ArrayError.{ArrayError}
 use Rattle.nd_array_core.specs.declared.base.errors.ArrayError.TheVariants.{Shape, NoMemory}
 use Rattle.nd_layout.specs.Placements.{Placement}
 use Rattle.nd_storage.specs.Collected.{IsFront}
-use Rattle.nd_array_core.specs.Joined.{concatenated, concatenated_shape, shape_behind}
+use Rattle.nd_array_core.specs.Joined.{concatenated, concatenated_alike, concatenated_shape, shape_behind}
 use Rattle.nd_array_core.specs.Laws.{with_axis_inserted}
 use Rattle.nd_array_core.specs.growth.Reserved.{added_elements}
 use Rattle.nd_storage.specs.Meaning.{Meaning}
@@ -44,9 +44,16 @@ abbrev pub IsAppendRefused : List ℕ → List ℕ → ℕ → ArrayError → Ty
 IsAppendRefused ns ms axis (Shape kind) = IsJoiningRefused ns ms axis kind
 IsAppendRefused ns ms axis NoMemory = CanComeBehind ns ms axis × (0 < elements_behind ns ms axis)
 
+-- what an array shows, once one that needn't be broadcast came behind it
+abbrev pub JoinsAlike : {A : Type 0} → ℕ → Meaning A → Meaning A → Meaning A → Type 0
+JoinsAlike axis m n joined = IsAlikeBeside m.shape n.shape axis → joined ≡ concatenated_alike axis m n
+
 -- one array behind another as one more length of an axis
 abbrev pub pushed : {A : Type 0} → ℕ → Meaning A → Meaning A → Meaning A
 pushed axis m n = concatenated axis m (with_axis_inserted axis n)
+
+abbrev pub PushesAlike : {A : Type 0} → ℕ → Meaning A → Meaning A → Meaning A → Type 0
+PushesAlike axis m n joined = JoinsAlike axis m (with_axis_inserted axis n) joined
 
 -- whether it can come: what comes behind lacks the axis
 abbrev pub CanBePushed : List ℕ → List ℕ → ℕ → Type 0

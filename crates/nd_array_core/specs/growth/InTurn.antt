@@ -1,5 +1,5 @@
 -- Several arrays behind one another along an axis, one after the other.
-use Rattle.std.specs.Prelude.{ℕ, ◌≡◌, List, [], ◌∷◌, map, Some, slice_get, slice_index, take}
+use Rattle.std.specs.Prelude.{ℕ, ◌≡◌, ⊤, List, [], ◌∷◌, map, Some, slice_get, slice_index, take}
 use Rattle.std.specs.List.{sum_by}
 use Rattle.nd_shape_and_slice.specs.Shape.{HasCheckedSize}
 use Rattle.nd_layout.specs.Growth.{grown_shape}
@@ -10,11 +10,11 @@ use Rattle.nd_storage.specs.declared.storage.Data as data_trait
 use Rattle.nd_array_core.specs.declared.base.array.ArrayBase.{ArrayBase}
 use Rattle.nd_array_core.specs.declared.base.errors.ArrayError.{ArrayError}
 use Rattle.nd_array_core.specs.declared.base.errors.ArrayError.TheVariants.{NoMemory}
-use Rattle.nd_array_core.specs.Joined.{concatenated}
+use Rattle.nd_array_core.specs.Joined.{concatenated, concatenated_alike}
 use Rattle.nd_storage.specs.Meaning.{Meaning}
 use Rattle.nd_array_core.specs.Meaning.{meaning_of, shape_of}
 use Rattle.nd_storage.specs.Clones.{ClonesOfAllAreEqual}
-use Rattle.nd_array_core.specs.growth.Appended.{FitsBehind, IsAppendRefused}
+use Rattle.nd_array_core.specs.growth.Appended.{FitsBehind, IsAlikeBeside, IsAppendRefused}
 use Rattle.nd_storage.specs.declared.storage.OwnedRepr.{OwnedRepr}
 use Rattle.nd_array_core.specs.growth.Grown.{IsGrownBy, IsLeft, IsNotForMemory, IsReadyFor}
 
@@ -28,12 +28,26 @@ abbrev pub joined_in_turn : {A : Type 0} → ℕ → Meaning A → List (Meaning
 joined_in_turn axis m [] = m
 joined_in_turn axis m (n ∷ ns) = joined_in_turn axis (concatenated axis m n) ns
 
+-- the lengths of each are those of a shape but along the axis
+abbrev pub AreAlikeBeside : {A : Type 0} → ℕ → List ℕ → List (Meaning A) → Type 0
+AreAlikeBeside axis shape [] = ⊤
+AreAlikeBeside axis shape (m ∷ ms) = IsAlikeBeside shape m.shape axis × AreAlikeBeside axis shape ms
+
+-- such arrays behind one: nothing is broadcast
+abbrev pub alike_in_turn : {A : Type 0} → ℕ → Meaning A → List (Meaning A) → Meaning A
+alike_in_turn axis m [] = m
+alike_in_turn axis m (n ∷ ns) = alike_in_turn axis (concatenated_alike axis m n) ns
+
 -- what an array shows, once all arrays of a list came behind it, or the first k of them
 abbrev pub JoinsAll : {A : Type 0} → ℕ → Meaning A → List (Meaning A) → Meaning A → Type 0
 JoinsAll axis m ms n = n ≡ joined_in_turn axis m ms
 
 abbrev pub JoinsFirst : {A : Type 0} → ℕ → ℕ → Meaning A → List (Meaning A) → Meaning A → Type 0
 JoinsFirst k axis m ms n = n ≡ joined_in_turn axis m (take k ms)
+
+-- the same where none needs to be broadcast
+abbrev pub JoinsAllAlike : {A : Type 0} → ℕ → Meaning A → List (Meaning A) → Meaning A → Type 0
+JoinsAllAlike axis m ms n = AreAlikeBeside axis m.shape ms → n ≡ alike_in_turn axis m ms
 
 -- each clone of an element of one of them is the element
 abbrev pub ClonesOfEachAreEqual : {A : Type 0} → (A → A → Type 0) → List (Meaning A) → Type 0

@@ -6,7 +6,7 @@ ghost use Rattle.nd_shape_and_slice.specs.Shape.{size_of, HasCheckedSize};
 ghost use Rattle.nd_array_core.specs.Meaning.{element_at};
 ghost use Rattle.nd_storage.specs.FreeOrder.{HasAnswers, AskableInAnyOrder, AnswersIndex, TakesIndex, AnswersByIndex, AnswersNothing, TakesNothing, AnswersAlike, AskableByIndex};
 ghost use Rattle.nd_array_core.specs.base.Fresh.{built_by, OwnsInOrder, ShowsOneValue, ShowsValues};
-ghost use Rattle.nd_array_core.specs.base.Makers.{ShowsAnswers, ShowsAnswersAlike};
+ghost use Rattle.nd_array_core.specs.base.Makers.{ShowsAnswers, ShowsAnswersAlike, ShowsCells};
 
 use crate::base::array::Array;
 use crate::base::fresh::of_items;
@@ -66,6 +66,7 @@ impl<A, D: Dimension> Array<A, D> {
         ensures owns { IfOk result (OwnsInOrder (built_by Sh.ShapeBuilder shape)) }
         ensures visits { IfOk result (ShowsAnswers F.FnMut D.pattern_lengths (Sh.builds_lengths shape) f) }
         ensures alike { ShowsAnswersAlike F.FnMut D.pattern_lengths (built_by Sh.ShapeBuilder shape) f result }
+        ensures cells { ShowsCells F.FnMut D.pattern_lengths (Sh.builds_lengths shape) f result }
     {
         let shape = shape.into_shape_with_order();
         let room = room_for(alloc, shape.size())?;

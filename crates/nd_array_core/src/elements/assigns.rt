@@ -11,8 +11,8 @@ ghost use Rattle.nd_storage.specs.elements.Pairs.{IsOldOrOf};
 
 use crate::base::array::ArrayBase;
 use crate::laws::broadcast_to_itself;
-use nd_shape_and_slice::{Dimension, NoMemory, StrideList};
-use nd_storage::elements::assigns::assign_places;
+use nd_shape_and_slice::{Dimension, NoMemory};
+use nd_storage::elements::assigns::assign_layouts;
 use nd_storage::storage::{Data, DataMut};
 
 impl<A: Clone + Drop, S: DataMut<Elem = A>, D: Dimension> ArrayBase<S, D> {
@@ -33,15 +33,7 @@ impl<A: Clone + Drop, S: DataMut<Elem = A>, D: Dimension> ArrayBase<S, D> {
         ensures frame { KeepsFrame S.frame self.old self.new }
     {
         match rhs.layout.broadcast(self.layout.dim) {
-            Some(seen) => assign_places(
-                &mut self.storage,
-                self.layout.offset,
-                self.layout.dim.slice(),
-                self.layout.strides.slice(),
-                &rhs.storage,
-                seen.offset,
-                seen.strides.slice(),
-            ),
+            Some(seen) => assign_layouts(&mut self.storage, &self.layout, &rhs.storage, &seen),
             None => unreachable!(),
         }
     }

@@ -9,33 +9,9 @@ ghost use Rattle.nd_array_core.specs.Meaning.{meaning_of, shape_of};
 ghost use Rattle.std.specs.Cmp.{on_per, on_equiv};
 
 use crate::base::array::ArrayBase;
-use nd_layout::Lanes;
-use nd_shape_and_slice::{Dimension, StrideList};
-use nd_storage::elements::equality::{lanes_equal, slices_equal};
+use nd_shape_and_slice::Dimension;
+use nd_storage::elements::equality::{layouts_equal, slices_equal};
 use nd_storage::storage::Data;
-
-/// Whether the elements of two arrays of one shape are equal, lane by lane.
-fn equal_by_lanes<S: Data, D: Dimension>(a: &ArrayBase<S, D>, b: &ArrayBase<S, D>) -> bool
-where
-    S::Elem: PartialEq,
-    requires { shape_of b.now ≡ shape_of a.now }
-    ensures { result ≡ pointwise S.Elem.eq (row_major_elements (meaning_of a.now)) (row_major_elements (meaning_of b.now)) }
-{
-    let lengths = a.layout.dim.slice();
-    let mut ours = Lanes::new(a.layout.offset, lengths, a.layout.strides.slice());
-    let mut theirs = Lanes::new(b.layout.offset, lengths, b.layout.strides.slice());
-    while let Some(lane) = ours.next() {
-        match theirs.next() {
-            Some(other) => {
-                if !lanes_equal(&a.storage, lane, &b.storage, other) {
-                    return false;
-                }
-            }
-            None => unreachable!(),
-        }
-    }
-    true
-}
 
 /// Whether the elements of two arrays of one shape are equal.
 fn elements_equal<S: Data, D: Dimension>(a: &ArrayBase<S, D>, b: &ArrayBase<S, D>) -> bool
@@ -46,7 +22,7 @@ where
 {
     match (a.as_slice(), b.as_slice()) {
         (Some(xs), Some(ys)) => slices_equal(xs, ys),
-        _ => equal_by_lanes(a, b),
+        _ => layouts_equal(&a.storage, &a.layout, &b.storage, &b.layout),
     }
 }
 

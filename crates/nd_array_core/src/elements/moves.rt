@@ -6,8 +6,8 @@ ghost use Rattle.nd_array_core.specs.Meaning.{shape_of, element_at};
 ghost use Rattle.nd_array_core.specs.base.Writes.{KeepsFrame};
 
 use crate::base::array::{Array, ArrayBase};
-use nd_shape_and_slice::{Dimension, StrideList};
-use nd_storage::elements::moves::exchange_places;
+use nd_shape_and_slice::Dimension;
+use nd_storage::elements::moves::exchange_layouts;
 use nd_storage::storage::DataMut;
 
 impl<A: Drop, D: Dimension> Array<A, D> {
@@ -22,14 +22,6 @@ impl<A: Drop, D: Dimension> Array<A, D> {
             mut storage,
             layout,
         } = self;
-        exchange_places(
-            &mut to.storage,
-            to.layout.offset,
-            to.layout.dim.slice(),
-            to.layout.strides.slice(),
-            &mut storage,
-            layout.offset,
-            layout.strides.slice(),
-        );
+        exchange_layouts(&mut to.storage, &to.layout, &mut storage, &layout);
     }
 }

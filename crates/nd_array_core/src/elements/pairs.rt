@@ -8,8 +8,8 @@ ghost use Rattle.nd_storage.specs.elements.Pairs.{ZipsBy};
 ghost use Rattle.nd_array_core.specs.elements.Pairs.{ShowsBoth, ZipsWith, ZippableWith};
 
 use crate::base::array::ArrayBase;
-use nd_shape_and_slice::{Dimension, StrideList};
-use nd_storage::elements::pairs::zip_places;
+use nd_shape_and_slice::Dimension;
+use nd_storage::elements::pairs::zip_layouts;
 use nd_storage::storage::{Data, DataMut};
 
 impl<S: DataMut, D: Dimension> ArrayBase<S, D> {
@@ -30,18 +30,7 @@ impl<S: DataMut, D: Dimension> ArrayBase<S, D> {
         ensures frame { KeepsFrame S.frame self.old self.new }
     {
         match rhs.layout.broadcast(self.layout.dim) {
-            Some(seen) => {
-                zip_places(
-                    &mut self.storage,
-                    self.layout.offset,
-                    self.layout.dim.slice(),
-                    self.layout.strides.slice(),
-                    &rhs.storage,
-                    seen.offset,
-                    seen.strides.slice(),
-                    f,
-                );
-            }
+            Some(seen) => zip_layouts(&mut self.storage, &self.layout, &rhs.storage, &seen, f),
             None => unreachable!(),
         }
     }

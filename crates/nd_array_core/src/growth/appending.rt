@@ -1,21 +1,19 @@
 //! One array behind another along an axis.
 #![tactic(auto, unfolding(crate::specs::Meaning::meaning_of, crate::specs::Meaning::memory_layout_of))]
 
-ghost use Rattle.std.specs.Prelude.{◌↔◌, ◌≡◌, ◌<◌, ◌≤◌, ◌⊎◌, IsTrue, false, Ok, OnOk, OnErr, IfErr, [], length, pos, replicate, slice_get, slice_index};
+ghost use Rattle.std.specs.Prelude.{◌↔◌, ◌≡◌, ◌<◌, ◌≤◌, IsTrue, OnOk, OnErr, IfErr, [], length, slice_index};
 ghost use Rattle.nd_shape_and_slice.specs.Shape.{size_of, HasCheckedSize};
-ghost use Rattle.nd_shape_and_slice.specs.Place.{IsSeparated};
-ghost use Rattle.nd_layout.specs.Growth.{growing_strides, must_move};
+ghost use Rattle.nd_layout.specs.Growth.{growing_strides};
 ghost use Rattle.nd_layout.specs.Placements.{as_placement, placement_of};
 ghost use Rattle.nd_layout.specs.MemoryOrder.{IsGrown};
 ghost use Rattle.nd_array_core.specs.Joined.{concatenated, concatenated_shape};
-ghost use Rattle.nd_array_core.specs.Meaning.{meaning_of, shape_of, element_at, storage_of, layout_strides, layout_offset};
-ghost use Rattle.nd_array_core.specs.Part.{ShowsWhole};
-ghost use Rattle.nd_storage.specs.Places.{HoldsAll};
+ghost use Rattle.nd_array_core.specs.Meaning.{meaning_of, shape_of, element_at, storage_of};
 ghost use Rattle.nd_storage.specs.CloneRefusals.{MayRefuseClone};
 ghost use Rattle.nd_storage.specs.Clones.{ClonesOfAllAreEqual};
 ghost use Rattle.nd_storage.specs.Storages.{stored_list, room_of};
-ghost use Rattle.nd_array_core.specs.growth.Appended.{ArePutBehind, CanComeBehind, IsAlikeBeside, IsAppendRefused};
-ghost use Rattle.nd_array_core.specs.growth.Grown.{BecomesReady, CanGrowOn, GoesOn, IsGrownBy, IsLeft, IsReadyAlong, KeepsRoom, LeavesRoom, LeavesRoomBehind, NeedsNoMove, NeedsOnlyClones};
+ghost use Rattle.nd_array_core.specs.growth.Appended.{ArePutBehind, CanComeBehind, IsAppendRefused, JoinsAlike};
+ghost use Rattle.nd_array_core.specs.growth.Grown.{BecomesReady, CanGrowOn, GoesOn, IsGrownBy, IsLeft, IsReadyAlong, KeepsRoom, LeavesRoom, LeavesRoomBehind, NeedsOnlyClones};
+ghost use Rattle.nd_array_core.specs.growth.Outcomes.{Appended, AppendRefused, ComesAsItIs, GrowsInPlace};
 ghost use Rattle.nd_array_core.specs.growth.Reserved.{HasRoomFor};
 
 use crate::base::array::{Array, ArrayView};
@@ -34,15 +32,9 @@ fn append_behind<A: Clone + Drop, D: Dimension>(
     axis: usize,
     array: &ArrayView<'_, A, D>,
 ) -> Result<(), NoMemory>
-    requires on { axis < length (D.lengths layout.old.dim) }
-    requires some { 0 < size_of (D.lengths layout.old.dim) }
+    requires comes { ComesAsItIs (D.lengths layout.old.dim) (shape_of array.now) axis }
+    requires grows { GrowsInPlace axis (placement_of layout.old) (stored_list storage.old) }
     requires more { 0 < size_of (shape_of array.now) }
-    requires fits { IsAlikeBeside (D.lengths layout.old.dim) (shape_of array.now) axis }
-    requires checked { HasCheckedSize (concatenated_shape (D.lengths layout.old.dim) (shape_of array.now) axis) }
-    requires holds { HoldsAll (slice_get (stored_list storage.old)) layout.old.offset (D.lengths layout.old.dim) (D.Strides.strides_of layout.old.strides) }
-    requires apart { IsSeparated (D.lengths layout.old.dim) (D.Strides.strides_of layout.old.strides) }
-    requires full { length (stored_list storage.old) ≡ size_of (D.lengths layout.old.dim) }
-    requires stays { must_move (D.lengths layout.old.dim) (D.Strides.strides_of layout.old.strides) axis ≡ false }
     requires clones { ClonesOfAllAreEqual A.is_clone (element_at array.now) }
     ensures grown { OnOk result (IsGrown (placement_of layout.old) axis (slice_index (shape_of array.now) axis) (placement_of layout.new)) }
     ensures put { OnOk result (ArePutBehind (placement_of layout.new) axis (slice_index (D.lengths layout.old.dim) axis) (shape_of array.now) (element_at array.now) (stored_list storage.old) (stored_list storage.new)) }
@@ -84,50 +76,6 @@ fn append_fresh<A: Clone + Drop, D: Dimension>(
 }
 
 impl<A: Clone + Drop, D: Dimension> Array<A, D> {
-    /// Appends an array that isn't empty at the end of the storage, which this one fills.
-    fn append_in_place(&mut self, axis: Axis, array: &ArrayView<'_, A, D>) -> Result<(), NoMemory>
-        requires on { axis.0 < length (shape_of self.old) }
-        requires some { 0 < size_of (shape_of self.old) }
-        requires more { 0 < size_of (shape_of array.now) }
-        requires fits { IsAlikeBeside (shape_of self.old) (shape_of array.now) axis.0 }
-        requires checked { HasCheckedSize (concatenated_shape (shape_of self.old) (shape_of array.now) axis.0) }
-        requires full { length (stored_list (storage_of self.old)) ≡ size_of (shape_of self.old) }
-        requires stays { must_move (shape_of self.old) (layout_strides self.old) axis.0 ≡ false }
-        requires clones { ClonesOfAllAreEqual A.is_clone (element_at array.now) }
-        ensures joined { OnOk result (meaning_of self.new ≡ concatenated axis.0 (meaning_of self.old) (meaning_of array.now)) }
-        ensures kept { OnErr result (meaning_of self.new ≡ meaning_of self.old) }
-        ensures laid { OnOk result (IsGrownBy axis.0 (slice_index (shape_of array.now) axis.0) self.old self.new) }
-        ensures goes_on { OnOk result (GoesOn axis.0 self.old self.new) }
-        ensures left { OnErr result (ShowsWhole self.old self.new) }
-        ensures stored { OnErr result (stored_list (storage_of self.new) ≡ stored_list (storage_of self.old)) }
-        ensures room { room_of (storage_of self.old) ≤ room_of (storage_of self.new) }
-        ensures enough { HasRoomFor (size_of (shape_of array.now)) (storage_of self.old) → OnErr result (MayRefuseClone A.is_infallible (element_at array.now)) }
-    {
-        append_behind(&mut self.storage, &mut self.layout, axis.0, array)
-    }
-
-    /// The same of an array whose elements are moved to new storage first.
-    fn append_relaid(&mut self, axis: Axis, array: &ArrayView<'_, A, D>) -> Result<(), NoMemory>
-        requires on { axis.0 < length (shape_of self.old) }
-        requires some { 0 < size_of (shape_of self.old) }
-        requires more { 0 < size_of (shape_of array.now) }
-        requires fits { IsAlikeBeside (shape_of self.old) (shape_of array.now) axis.0 }
-        requires checked { HasCheckedSize (concatenated_shape (shape_of self.old) (shape_of array.now) axis.0) }
-        requires moves { ¬ (CanGrowOn axis.0 self.old) }
-        requires clones { ClonesOfAllAreEqual A.is_clone (element_at array.now) }
-        ensures joined { OnOk result (meaning_of self.new ≡ concatenated axis.0 (meaning_of self.old) (meaning_of array.now)) }
-        ensures kept { OnErr result (meaning_of self.new ≡ meaning_of self.old) }
-        ensures laid { OnOk result (IsGrownBy axis.0 (slice_index (shape_of array.now) axis.0) self.old self.new) }
-        ensures ready { OnOk result (IsReadyAlong axis.0 self.new) }
-    {
-        let _count = self.len();
-        let more = array.len();
-        match self.relay(axis, more) {
-            Ok(()) => self.append_in_place(axis, array),
-            Err(refused) => Err(refused),
-        }
-    }
-
     /// Whether the array fills its storage, and an axis can grow at the end of it without a move.
     fn is_ready_along(&self, axis: Axis) -> bool
         requires { axis.0 < length (shape_of self.now) }
@@ -139,112 +87,86 @@ impl<A: Clone + Drop, D: Dimension> Array<A, D> {
         !self.layout.must_move(axis.0)
     }
 
-    /// Appends an array that isn't empty to one that isn't.
-    fn append_elements(&mut self, axis: Axis, array: &ArrayView<'_, A, D>) -> Result<(), NoMemory>
-        requires on { axis.0 < length (shape_of self.old) }
+    /// Appends an array that isn't empty to one that isn't, at the end of the storage, which this one fills.
+    fn append_in_place(&mut self, axis: Axis, array: &ArrayView<'_, A, D>) -> Result<(), NoMemory>
+        requires comes { ComesAsItIs (shape_of self.old) (shape_of array.now) axis.0 }
         requires some { 0 < size_of (shape_of self.old) }
         requires more { 0 < size_of (shape_of array.now) }
-        requires fits { IsAlikeBeside (shape_of self.old) (shape_of array.now) axis.0 }
-        requires checked { HasCheckedSize (concatenated_shape (shape_of self.old) (shape_of array.now) axis.0) }
+        requires can { CanGrowOn axis.0 self.old }
         requires clones { ClonesOfAllAreEqual A.is_clone (element_at array.now) }
-        ensures joined { OnOk result (meaning_of self.new ≡ concatenated axis.0 (meaning_of self.old) (meaning_of array.now)) }
-        ensures kept { OnErr result (meaning_of self.new ≡ meaning_of self.old) }
-        ensures laid { OnOk result (IsGrownBy axis.0 (slice_index (shape_of array.now) axis.0) self.old self.new) }
-        ensures ready { OnOk result (IsReadyAlong axis.0 self.new) }
-        ensures goes_on { IsReadyAlong axis.0 self.old → OnOk result (GoesOn axis.0 self.old self.new) }
-        ensures left { NeedsNoMove axis.0 self.old → OnErr result (ShowsWhole self.old self.new) }
-        ensures stored { IsReadyAlong axis.0 self.old → OnErr result (stored_list (storage_of self.new) ≡ stored_list (storage_of self.old)) }
-        ensures room { CanGrowOn axis.0 self.old → room_of (storage_of self.old) ≤ room_of (storage_of self.new) }
-        ensures enough { IsReadyAlong axis.0 self.old → HasRoomFor (size_of (shape_of array.now)) (storage_of self.old) → OnErr result (MayRefuseClone A.is_infallible (element_at array.now)) }
+        ensures appended { OnOk result (Appended axis.0 (meaning_of array.now) self.old self.new) }
+        ensures refused { OnErr result (AppendRefused A.is_infallible axis.0 (meaning_of array.now) self.old self.new) }
     {
-        if self.is_ready_along(axis) {
-            return self.append_in_place(axis, array);
-        }
-        self.append_relaid(axis, array)
+        append_behind(&mut self.storage, &mut self.layout, axis.0, array)
     }
 
-    /// Gives an array without elements another such shape.
-    fn lengthen(&mut self, dim: D)
-        requires old { size_of (shape_of self.old) ≡ 0 }
-        requires new { size_of (D.lengths dim) ≡ 0 }
-        requires checked { HasCheckedSize (D.lengths dim) }
-        ensures shape { shape_of self.new ≡ D.lengths dim }
-        ensures strides { layout_strides self.new ≡ replicate (length (D.lengths dim)) (pos 0) }
-        ensures offset { layout_offset self.new ≡ layout_offset self.old }
-        ensures storage { storage_of self.new ≡ storage_of self.old }
+    /// The same of an array whose elements are moved to new storage first.
+    fn append_relaid(&mut self, axis: Axis, array: &ArrayView<'_, A, D>) -> Result<(), NoMemory>
+        requires comes { ComesAsItIs (shape_of self.old) (shape_of array.now) axis.0 }
+        requires some { 0 < size_of (shape_of self.old) }
+        requires more { 0 < size_of (shape_of array.now) }
+        requires moves { ¬ (CanGrowOn axis.0 self.old) }
+        requires clones { ClonesOfAllAreEqual A.is_clone (element_at array.now) }
+        ensures appended { OnOk result (Appended axis.0 (meaning_of array.now) self.old self.new) }
+        ensures refused { OnErr result (AppendRefused A.is_infallible axis.0 (meaning_of array.now) self.old self.new) }
     {
-        self.layout = Layout::without_elements(self.layout.offset, dim);
+        let _count = self.len();
+        let more = array.len();
+        match self.relay(axis, more) {
+            Ok(()) => self.append_in_place(axis, array),
+            Err(refused) => Err(refused),
+        }
     }
 
     /// Appends an array without elements, where the shape of both is this.
     fn append_nothing(&mut self, axis: Axis, array: &ArrayView<'_, A, D>, dim: D)
-        requires on { axis.0 < length (shape_of self.old) }
+        requires comes { ComesAsItIs (shape_of self.old) (shape_of array.now) axis.0 }
         requires none { size_of (shape_of array.now) ≡ 0 }
-        requires fits { IsAlikeBeside (shape_of self.old) (shape_of array.now) axis.0 }
-        requires joined { D.lengths dim ≡ concatenated_shape (shape_of self.old) (shape_of array.now) axis.0 }
-        requires checked { HasCheckedSize (D.lengths dim) }
-        ensures joined { meaning_of self.new ≡ concatenated axis.0 (meaning_of self.old) (meaning_of array.now) }
-        ensures laid { IsGrownBy axis.0 (slice_index (shape_of array.now) axis.0) self.old self.new }
-        ensures goes_on { IsReadyAlong axis.0 self.old → GoesOn axis.0 self.old self.new }
-        ensures room { room_of (storage_of self.old) ≤ room_of (storage_of self.new) }
+        requires dim { D.lengths dim ≡ concatenated_shape (shape_of self.old) (shape_of array.now) axis.0 }
+        ensures { Appended axis.0 (meaning_of array.now) self.old self.new }
     {
         if !self.is_empty() {
             return;
         }
-        self.lengthen(dim);
+        self.layout = Layout::without_elements(self.layout.offset, dim);
     }
 
     /// Appends an array that isn't empty to one that is.
     fn append_to_none(&mut self, axis: Axis, array: &ArrayView<'_, A, D>) -> Result<(), NoMemory>
-        requires on { axis.0 < length (shape_of self.old) }
+        requires comes { ComesAsItIs (shape_of self.old) (shape_of array.now) axis.0 }
         requires none { size_of (shape_of self.old) ≡ 0 }
         requires more { 0 < size_of (shape_of array.now) }
-        requires fits { IsAlikeBeside (shape_of self.old) (shape_of array.now) axis.0 }
         requires clones { ClonesOfAllAreEqual A.is_clone (element_at array.now) }
-        ensures joined { OnOk result (meaning_of self.new ≡ concatenated axis.0 (meaning_of self.old) (meaning_of array.now)) }
-        ensures kept { OnErr result (meaning_of self.new ≡ meaning_of self.old) }
-        ensures laid { OnOk result (IsGrownBy axis.0 (slice_index (shape_of array.now) axis.0) self.old self.new) }
-        ensures ready { OnOk result (IsReadyAlong axis.0 self.new) }
-        ensures goes_on { IsReadyAlong axis.0 self.old → OnOk result (GoesOn axis.0 self.old self.new) }
-        ensures left { OnErr result (ShowsWhole self.old self.new) }
-        ensures stored { IsReadyAlong axis.0 self.old → OnErr result (stored_list (storage_of self.new) ≡ stored_list (storage_of self.old)) }
-        ensures room { room_of (storage_of self.old) ≤ room_of (storage_of self.new) }
-        ensures enough { IsReadyAlong axis.0 self.old → HasRoomFor (size_of (shape_of array.now)) (storage_of self.old) → OnErr result (MayRefuseClone A.is_infallible (element_at array.now)) }
+        ensures appended { OnOk result (Appended axis.0 (meaning_of array.now) self.old self.new) }
+        ensures refused { OnErr result (AppendRefused A.is_infallible axis.0 (meaning_of array.now) self.old self.new) }
     {
         append_fresh(&mut self.storage, &mut self.layout, axis.0, array)
     }
 
-    /// Appends an array that fits, where the shape of both is this.
-    fn append_fitting(
+    /// Appends an array as it is, where the shape of both is this.
+    fn append_as_it_is(
         &mut self,
         axis: Axis,
         array: &ArrayView<'_, A, D>,
         dim: D,
     ) -> Result<(), NoMemory>
-        requires on { axis.0 < length (shape_of self.old) }
-        requires fits { IsAlikeBeside (shape_of self.old) (shape_of array.now) axis.0 }
-        requires joined { D.lengths dim ≡ concatenated_shape (shape_of self.old) (shape_of array.now) axis.0 }
-        requires checked { HasCheckedSize (D.lengths dim) }
+        requires comes { ComesAsItIs (shape_of self.old) (shape_of array.now) axis.0 }
+        requires dim { D.lengths dim ≡ concatenated_shape (shape_of self.old) (shape_of array.now) axis.0 }
         requires clones { ClonesOfAllAreEqual A.is_clone (element_at array.now) }
-        ensures joined { OnOk result (meaning_of self.new ≡ concatenated axis.0 (meaning_of self.old) (meaning_of array.now)) }
-        ensures kept { OnErr result (meaning_of self.new ≡ meaning_of self.old) }
-        ensures laid { OnOk result (IsGrownBy axis.0 (slice_index (shape_of array.now) axis.0) self.old self.new) }
-        ensures ready { 0 < size_of (shape_of array.now) → OnOk result (IsReadyAlong axis.0 self.new) }
-        ensures goes_on { IsReadyAlong axis.0 self.old → OnOk result (GoesOn axis.0 self.old self.new) }
-        ensures left { NeedsNoMove axis.0 self.old → OnErr result (ShowsWhole self.old self.new) }
-        ensures stored { IsReadyAlong axis.0 self.old → OnErr result (stored_list (storage_of self.new) ≡ stored_list (storage_of self.old)) }
-        ensures room { (size_of (shape_of array.now) ≡ 0) ⊎ NeedsNoMove axis.0 self.old → room_of (storage_of self.old) ≤ room_of (storage_of self.new) }
-        ensures enough { IsReadyAlong axis.0 self.old → HasRoomFor (size_of (shape_of array.now)) (storage_of self.old) → OnErr result (MayRefuseClone A.is_infallible (element_at array.now)) }
-        ensures nothing { size_of (shape_of array.now) ≡ 0 → result ≡ Ok tt }
+        ensures appended { OnOk result (Appended axis.0 (meaning_of array.now) self.old self.new) }
+        ensures refused { OnErr result (AppendRefused A.is_infallible axis.0 (meaning_of array.now) self.old self.new) }
     {
-        if array.len() == 0 {
+        if array.is_empty() {
             self.append_nothing(axis, array, dim);
             return Ok(());
         }
-        if self.len() == 0 {
+        if self.is_empty() {
             return self.append_to_none(axis, array);
         }
-        self.append_elements(axis, array)
+        if self.is_ready_along(axis) {
+            return self.append_in_place(axis, array);
+        }
+        self.append_relaid(axis, array)
     }
 
     /// Appends clones of an array's elements along an axis, which is below `ndim` where there are axes, once the array is
@@ -261,6 +183,7 @@ impl<A: Clone + Drop, D: Dimension> Array<A, D> {
         requires clones { ClonesOfAllAreEqual A.is_clone (element_at array) }
         ensures refused { IfErr result (IsAppendRefused (shape_of self.old) (shape_of array.entry) axis.0) }
         ensures fits { OnOk result (CanComeBehind (shape_of self.old) (shape_of array.entry) axis.0) }
+        ensures plain { OnOk result (JoinsAlike axis.0 (meaning_of self.old) (meaning_of array.entry) (meaning_of self.new)) }
         ensures joined { OnOk result (meaning_of self.new ≡ concatenated axis.0 (meaning_of self.old) (meaning_of array.entry)) }
         ensures kept { OnErr result (meaning_of self.new ≡ meaning_of self.old) }
         ensures laid { OnOk result (IsGrownBy axis.0 (slice_index (shape_of array.entry) axis.0) self.old self.new) }
@@ -275,7 +198,7 @@ impl<A: Clone + Drop, D: Dimension> Array<A, D> {
         match joined_dim(&self.layout.dim, &array.layout.dim, axis.0) {
             Ok(dim) => {
                 let beside = broadcast_behind(array, &self.layout.dim, axis.0);
-                match self.append_fitting(axis, &beside, dim) {
+                match self.append_as_it_is(axis, &beside, dim) {
                     Ok(()) => Ok(()),
                     Err(_) => Err(ArrayError::NoMemory),
                 }

@@ -2,10 +2,11 @@
 #![tactic(auto, unfolding(crate::specs::Meaning::meaning_of, crate::specs::Meaning::memory_layout_of))]
 
 ghost use Rattle.std.specs.Prelude.{◌≡◌, ◌+◌, ◌<◌, ◌≤◌, true, length, IfErr, OnOk, OnErr};
+ghost use Rattle.nd_array_core.specs.Coordinates.{GetsColumn, GetsRow};
 ghost use Rattle.nd_array_core.specs.Meaning.{meaning_of, shape_of, element_at};
 ghost use Rattle.nd_array_core.specs.Part.{inserted_part, ShowsPart};
 ghost use Rattle.nd_storage.specs.Clones.{ClonesOfAllAreEqual};
-ghost use Rattle.nd_array_core.specs.growth.Appended.{pushed, CanBePushed, IsPushRefused};
+ghost use Rattle.nd_array_core.specs.growth.Appended.{pushed, CanBePushed, IsPushRefused, PushesAlike};
 ghost use Rattle.nd_array_core.specs.growth.Grown.{BecomesReady, GoesOn, IsGrownBy, IsLeft, IsNotForMemory, IsReadyAlong, IsReadyFor, KeepsRoom, LeavesRoom};
 
 use crate::base::array::{Array, ArrayView};
@@ -51,6 +52,7 @@ where
         requires clones { ClonesOfAllAreEqual A.is_clone (element_at array) }
         ensures refused { IfErr result (IsPushRefused (shape_of self.old) (shape_of array.entry) axis.0) }
         ensures fits { OnOk result (CanBePushed (shape_of self.old) (shape_of array.entry) axis.0) }
+        ensures plain { OnOk result (PushesAlike axis.0 (meaning_of self.old) (meaning_of array.entry) (meaning_of self.new)) }
         ensures joined { OnOk result (meaning_of self.new ≡ pushed axis.0 (meaning_of self.old) (meaning_of array.entry)) }
         ensures kept { OnErr result (meaning_of self.new ≡ meaning_of self.old) }
         ensures laid { OnOk result (IsGrownBy axis.0 1 self.old self.new) }
@@ -75,6 +77,7 @@ impl<A: Clone + Drop> Array<A, Ix2> {
         requires clones { ClonesOfAllAreEqual A.is_clone (element_at row) }
         ensures refused { IfErr result (IsPushRefused (shape_of self.old) (shape_of row.entry) 0) }
         ensures fits { OnOk result (CanBePushed (shape_of self.old) (shape_of row.entry) 0) }
+        ensures row { OnOk result (GetsRow self.old row.entry self.new) }
         ensures joined { OnOk result (meaning_of self.new ≡ pushed 0 (meaning_of self.old) (meaning_of row.entry)) }
         ensures kept { OnErr result (meaning_of self.new ≡ meaning_of self.old) }
         ensures laid { OnOk result (IsGrownBy 0 1 self.old self.new) }
@@ -95,6 +98,7 @@ impl<A: Clone + Drop> Array<A, Ix2> {
         requires clones { ClonesOfAllAreEqual A.is_clone (element_at column) }
         ensures refused { IfErr result (IsPushRefused (shape_of self.old) (shape_of column.entry) 1) }
         ensures fits { OnOk result (CanBePushed (shape_of self.old) (shape_of column.entry) 1) }
+        ensures column { OnOk result (GetsColumn self.old column.entry self.new) }
         ensures joined { OnOk result (meaning_of self.new ≡ pushed 1 (meaning_of self.old) (meaning_of column.entry)) }
         ensures kept { OnErr result (meaning_of self.new ≡ meaning_of self.old) }
         ensures laid { OnOk result (IsGrownBy 1 1 self.old self.new) }

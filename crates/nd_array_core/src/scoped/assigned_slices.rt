@@ -3,6 +3,7 @@
 
 ghost use Rattle.std.specs.Prelude.{◌≡◌, ℕ, true, List, OnOk, OnErr};
 ghost use Rattle.nd_shape_and_slice.specs.SliceInfo.{fits_shape};
+ghost use Rattle.nd_storage.specs.CloneRefusals.{MayRefuseClone};
 ghost use Rattle.nd_storage.specs.Clones.{ClonesOfAllAreEqual};
 ghost use Rattle.nd_storage.specs.elements.Changes.{ChangeableInAnyOrder, ChangesAll, ChangesAlike};
 ghost use Rattle.nd_storage.specs.elements.Pairs.{IsOldOrOf};
@@ -35,7 +36,7 @@ impl<A: Clone + Drop, Z: Data<Elem = A> + Drop, D: Dimension, E: Dimension> View
 
     ghost pre = { λ task v. (shape_of task.patch ≡ v.shape) × ClonesOfAllAreEqual A.is_clone (element_at task.patch) };
 
-    ghost post = { λ task v w answer. OnOk answer ((i : List ℕ) → element_placed w i ≡ element_at task.patch i) × OnErr answer (IsOldOrOf (element_placed v) (element_at task.patch) (element_placed w)) };
+    ghost post = { λ task v w answer. OnOk answer ((i : List ℕ) → element_placed w i ≡ element_at task.patch i) × OnErr answer (IsOldOrOf (element_placed v) (element_at task.patch) (element_placed w)) × OnErr answer (MayRefuseClone A.is_infallible (element_at task.patch)) };
 
     fn run(self, lent: LentView<'_, A, D, D::Strides>) -> (ViewMutRepr<'_, A>, Result<(), NoMemory>)
         requires sound { CanBeSeen D.lengths D.Strides.strides_of lent }
@@ -44,6 +45,7 @@ impl<A: Clone + Drop, Z: Data<Elem = A> + Drop, D: Dimension, E: Dimension> View
         ensures frame { view_frame result.0 ≡ lent_frame lent.entry }
         ensures assigned { OnOk result.1 ((i : List ℕ) → element_placed (view_left D.lengths D.Strides.strides_of lent.entry result.0) i ≡ element_at self.patch i) }
         ensures stopped { OnErr result.1 (IsOldOrOf (element_placed (lent_view D.lengths D.Strides.strides_of lent.entry)) (element_at self.patch) (element_placed (view_left D.lengths D.Strides.strides_of lent.entry result.0))) }
+        ensures refused { OnErr result.1 (MayRefuseClone A.is_infallible (element_at self.patch)) }
     {
         let mut view = lent.into_view();
         broadcast_to_itself(&self.patch);
@@ -84,8 +86,8 @@ impl<A: Clone + Drop, S: DataMut<Elem = A>, D: Dimension> ArrayBase<S, D> {
 
     /// Writes clones of a patch's elements where the list of slices names; every other index keeps its element. The list fits
     /// the shape (`SliceArg::fits`), the patch has the shape of what it names (`broadcast` makes it so), and a clone must equal
-    /// its original. NoMemory if a clone is refused: each index that is named then has its old element or the new one. This
-    /// project's own, beside ndarray's `slice_mut(info).assign(patch)`.
+    /// its original. NoMemory if a clone is refused, and for nothing else: each index that is named then has its old element or
+    /// the new one. This project's own, beside ndarray's `slice_mut(info).assign(patch)`.
     pub fn assign_slice<I: SliceArg<D>, Z: Data<Elem = A>, E: Dimension>(
         &mut self,
         info: I,
@@ -99,6 +101,7 @@ impl<A: Clone + Drop, S: DataMut<Elem = A>, D: Dimension> ArrayBase<S, D> {
         ensures kept { KeepsBut self.old self.new (sliced_part self.old (I.elements_of info)) }
         ensures named { OnOk result (AssignsNamed self.old self.new (I.elements_of info) patch.now) }
         ensures unnamed { KeepsOtherIndexes self.old self.new (I.elements_of info) }
+        ensures refused { OnErr result (MayRefuseClone A.is_infallible (element_at patch.now)) }
         ensures frame { KeepsFrame S.frame self.old self.new }
     {
         self.with_slice_mut(

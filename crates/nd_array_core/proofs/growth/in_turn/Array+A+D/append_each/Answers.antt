@@ -2,17 +2,18 @@ use Rattle.std.proofs.Common.{◌≡◌, ◌+◌, ◌≤◌, get_or, length, tak
 use Rattle.std.proofs.lemmas.List.{length-map, length-set, take_all}
 use Rattle.nd_shape_and_slice.specs.Shape.{in_box, HasCheckedSize}
 use Rattle.nd_array_core.specs.Joined.{concatenated}
+use Rattle.nd_array_core.specs.Laws.{NothingOutside}
 use Rattle.nd_array_core.specs.Meaning.{meaning_of, shape_of, storage_of}
 use Rattle.nd_storage.specs.Clones.{ClonesOfAllAreEqual}
 use Rattle.nd_storage.specs.Storages.{room_of, stored_list}
 use Rattle.nd_layout.specs.Growth.{grown_shape}
 use Rattle.nd_array_core.specs.growth.Appended.{FitsBehind, IsAppendRefused}
 use Rattle.nd_array_core.specs.growth.Grown.{BecomesReady, IsGrownBy, IsNotForMemory, KeepsRoom, LeavesRoom}
-use Rattle.nd_array_core.specs.growth.InTurn.{lengths_along, meanings_of, IsGrownInTurn}
+use Rattle.nd_array_core.specs.growth.InTurn.{joined_in_turn, lengths_along, meanings_of, IsGrownInTurn}
 use Rattle.nd_array_core.proofs.Appending.{same_at}
 use Rattle.nd_array_core.proofs.GoneOn.{grown_last, goes_left, goes_nowhere, goes_then, leaves_none, leaves_then, ready_then, room_then, still_then}
 use Rattle.nd_array_core.proofs.GrownArrays.{room_within}
-use Rattle.nd_array_core.proofs.JoinedInTurn.{all_fit, in_box-grown, joined_more, lengths_more, lengths_within, mapped_get, none_fit, one_more_fits, only_memory, shape_in_turn, take_next}
+use Rattle.nd_array_core.proofs.JoinedInTurn.{all_fit, each_mapped, in_box-grown, joined_more, lengths_more, lengths_within, mapped_get, none_fit, one_more_fits, only_memory, shape_in_turn, take_next, turn_alike}
 use Rattle.nd_array_core.proofs.growth.in_turn.Array+A+D.append_each.Goals as goal
 
 pub loop-nth-init : goal.loop-nth-init
@@ -151,3 +152,15 @@ returns-clause-fits g c =
     let all : length ms ≤ c.loop-nth.nth = omega (arith, long, c.loop-nth-test.false) in
     let whole = ap (λ xs. grown_shape (shape_of old) axis (lengths_along axis xs)) (take_all c.loop-nth.nth ms all) in
     (all_fit axis (shape_of old) ms c.loop-nth.nth so_far.8 all, subst HasCheckedSize (shape ∙ whole) self.layout.checked)
+
+pub returns-clause-plain : goal.returns-clause-plain
+unfolding meaning_of
+returns-clause-plain g c alike =
+    let axis = c.args.axis.0 in
+    let old = c.args.self.now in
+    let ms = meanings_of c.args.arrays.now in
+    let long : length ms ≡ length c.args.arrays.now = length-map c.args.arrays.now (λ a. meaning_of a) in
+    let all : length ms ≤ c.loop-nth.nth = omega (arith, long, c.loop-nth-test.false) in
+    c.loop-nth.invariant.1
+    ∙ (ap (joined_in_turn axis (meaning_of old)) (take_all c.loop-nth.nth ms all)
+    ∙ turn_alike axis (meaning_of old) ms c.requires.axis (each_mapped (λ a. meaning_of a) NothingOutside c.args.arrays.now (λ x i outside. rw outside refl)) alike)

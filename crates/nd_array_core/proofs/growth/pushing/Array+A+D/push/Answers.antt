@@ -3,7 +3,7 @@ use Rattle.nd_array_core.specs.Meaning.{meaning_of}
 use Rattle.nd_array_core.specs.Joined.{concatenated}
 use Rattle.nd_array_core.specs.Laws.{with_axis_inserted}
 use Rattle.nd_shape_and_slice.specs.Maps.{inserted_index, inserted_shape}
-use Rattle.nd_array_core.specs.growth.Appended.{IsJoiningRefused}
+use Rattle.nd_array_core.specs.growth.Appended.{IsJoiningRefused, JoinsAlike}
 use Rattle.nd_array_core.proofs.Appending.{same_at}
 use Rattle.nd_storage.proofs.Assigned.{on_ok}
 use Rattle.nd_array_core.specs.growth.Grown.{BecomesReady, KeepsRoom, NeedsOnlyClones, IsNotForMemory, LeavesRoom}
@@ -24,6 +24,13 @@ returns-clause-joined g c =
     let part = c.with_axis.ensures.part in
     let same = same_at (meaning_of c.with_axis.result) (with_axis_inserted c.args.axis.0 (meaning_of c.args.array)) part.0 part.2 in
     on_ok c.append.result (λ joined. joined ∙ ap (λ m. concatenated c.args.axis.0 (meaning_of c.args.self.now) m) same) c.append.ensures.joined
+
+pub returns-clause-plain : goal.returns-clause-plain
+returns-clause-plain g c =
+    let old = meaning_of c.args.self.now in
+    let part = c.with_axis.ensures.part in
+    let same = same_at (meaning_of c.with_axis.result) (with_axis_inserted c.args.axis.0 (meaning_of c.args.array)) part.0 part.2 in
+    on_ok c.append.result (subst (λ m. JoinsAlike c.args.axis.0 old m (meaning_of c.append.new.self)) same) c.append.ensures.plain
 
 pub returns-clause-ready : goal.returns-clause-ready
 returns-clause-ready g c =

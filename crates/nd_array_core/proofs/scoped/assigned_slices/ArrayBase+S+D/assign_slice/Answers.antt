@@ -2,6 +2,7 @@ use Rattle.std.proofs.Common.{refl, sym, ap, ◌∙◌, rules}
 use Rattle.std.proofs.lemmas.Result.{on_ok_weaker, on_err_weaker}
 use Rattle.nd_array_core.specs.Meaning.{shape_of, element_at, place_at}
 use Rattle.nd_shape_and_slice.specs.SliceInfo.{shape_after, index_before}
+use Rattle.nd_array_core.proofs.CloneRefusals.{refused_alike}
 use Rattle.nd_array_core.proofs.Masks.{kept_unnamed}
 use Rattle.nd_array_core.proofs.AssignedSlices.{part_assigned, part_stopped, named_assigned}
 use Rattle.nd_array_core.proofs.scoped.assigned_slices.ArrayBase+S+D.assign_slice.Goals as goal
@@ -25,3 +26,6 @@ returns-clause-named g c =
 
 pub returns-clause-unnamed : goal.returns-clause-unnamed
 returns-clause-unnamed g c = kept_unnamed (shape_of c.args.self.now) (g.I.SliceArg.elements_of c.args.info) (element_at c.args.self.now) (element_at c.with_slice_mut.new.self) c.requires.fits c.with_slice_mut.ensures.kept
+
+pub returns-clause-refused : goal.returns-clause-refused
+returns-clause-refused g c = on_err_weaker c.with_slice_mut.result (refused_alike g.A.Clone.is_infallible (element_at c.view.result) (element_at c.args.patch.now) c.view.ensures.whole.2) c.with_slice_mut.ensures.done.4.2

@@ -1,0 +1,51 @@
+-- How an append ends that broadcasts nothing: what it leaves where the other array came, and where memory was refused.
+use Rattle.std.specs.Prelude.{ℕ, ◌≡◌, ◌<◌, false, List, length, slice_get, slice_index}
+use Rattle.nd_shape_and_slice.specs.declared.dimension.Dimension as dimension
+use Rattle.nd_shape_and_slice.specs.declared.dimension.AxisCount as axis_count
+use Rattle.nd_shape_and_slice.specs.declared.dimension.StrideList as stride_list
+use Rattle.nd_shape_and_slice.specs.Place.{IsSeparated}
+use Rattle.nd_shape_and_slice.specs.Shape.{size_of, HasCheckedSize}
+use Rattle.nd_layout.specs.Growth.{must_move}
+use Rattle.nd_layout.specs.Placements.{Placement}
+use Rattle.nd_storage.specs.declared.storage.Data as data_trait
+use Rattle.nd_storage.specs.declared.storage.OwnedRepr.{OwnedRepr}
+use Rattle.nd_storage.specs.CloneRefusals.{MayRefuseClone}
+use Rattle.nd_storage.specs.Meaning.{Meaning}
+use Rattle.nd_storage.specs.Places.{HoldsAll}
+use Rattle.nd_array_core.specs.declared.base.array.ArrayBase.{ArrayBase}
+use Rattle.nd_array_core.specs.declared.base.errors.ArrayError.TheVariants.{NoMemory}
+use Rattle.nd_array_core.specs.Joined.{concatenated, concatenated_shape}
+use Rattle.nd_array_core.specs.Meaning.{meaning_of}
+use Rattle.nd_array_core.specs.growth.Appended.{IsAlikeBeside}
+use Rattle.nd_array_core.specs.growth.Grown.{BecomesReady, GoesOn, IsGrownBy, IsLeft, IsReadyAlong, IsReadyFor, KeepsRoom}
+
+-- an array of the second shape comes behind one of the first along the axis as it is, and both have a checked size
+pub record ComesAsItIs (ns ms : List ℕ) (axis : ℕ) : Type 0 where
+  pub on : axis < length ns
+  pub alike : IsAlikeBeside ns ms axis
+  pub checked : HasCheckedSize (concatenated_shape ns ms axis)
+
+-- indexes name all that is stored, each an element of its own, and the axis can grow on at the end
+pub record GrowsInPlace {A : Type 0} (axis : ℕ) (l : Placement) (items : List A) : Type 0 where
+  pub some : 0 < size_of l.lengths
+  pub holds : HoldsAll (slice_get items) l.offset l.lengths l.strides
+  pub apart : IsSeparated l.lengths l.strides
+  pub full : length items ≡ size_of l.lengths
+  pub stays : must_move l.lengths l.strides axis ≡ false
+
+module _ {D T A P R L M : Type 0} {s : data_trait.Ghosts (OwnedRepr A) A} {d : dimension.Ghosts D P R L M} {n : axis_count.Ghosts D} {r : stride_list.Ghosts R} {t : stride_list.Ghosts T} where
+  -- the second is the first once that came behind it
+  pub record Appended (axis : ℕ) (m : Meaning A) (a b : ArrayBase (OwnedRepr A) D T A P R L M s d n r t) : Type 0 where
+    pub joined : meaning_of b ≡ concatenated axis (meaning_of a) m
+    pub laid : IsGrownBy axis (slice_index m.shape axis) a b
+    pub ready : BecomesReady axis (slice_index m.shape axis) a b
+    pub goes_on : IsReadyAlong axis a → GoesOn axis a b
+    pub room : KeepsRoom axis (slice_index m.shape axis) a b
+
+  -- the second is the first once memory for that was refused
+  pub record AppendRefused (is_infallible : A → Type 0) (axis : ℕ) (m : Meaning A) (a b : ArrayBase (OwnedRepr A) D T A P R L M s d n r t) : Type 0 where
+    pub some : 0 < size_of m.shape
+    pub kept : meaning_of b ≡ meaning_of a
+    pub left : IsLeft axis a b NoMemory
+    pub room : KeepsRoom axis (slice_index m.shape axis) a b
+    pub enough : IsReadyFor axis (slice_index m.shape axis) a → MayRefuseClone is_infallible m.at

@@ -1,0 +1,177 @@
+//! Tables that grow: read row by row, lengthened by columns, and a log of the last rows.
+#![tactic(auto, using(std::proofs::lemmas::Bool::Decides::nat_tests))]
+
+ghost use Rattle.std.specs.Prelude.{◌≡◌, ◌+◌, ◌<◌, ℕ, Some, IfOk, OnOk, OnErr, length, slice_get, slice_index};
+ghost use Rattle.nd_array_core.specs.Meaning.{meaning_of, shape_of};
+ghost use Rattle.nd_array_core.specs.Coordinates.{element_of_1, element_of_2, HasLength, HasRowsAndColumns};
+ghost use Rattle.nd_array_core.specs.along.Selected.{AreCoordinates};
+
+use nd_array_core::{Array2, ArrayBase, ArrayError, ArrayView1, ArrayView2, Data};
+use nd_shape_and_slice::{Axis, Ix2};
+use std::alloc::Global;
+
+/// Puts a row behind those of a table.
+pub fn row_behind<A: Clone + Drop>(
+    table: &mut Array2<A>,
+    row: ArrayView1<'_, A>,
+) -> Result<(), ArrayError>
+    requires clones { (x copy : A) → A.is_clone x copy → copy ≡ x }
+    requires length { HasLength row (slice_index (shape_of table.old) 1) }
+    ensures shape { OnOk result (HasRowsAndColumns table.new (slice_index (shape_of table.old) 0 + 1) (slice_index (shape_of table.old) 1)) }
+    ensures before { OnOk result ((i j : ℕ) → i < slice_index (shape_of table.old) 0 → j < slice_index (shape_of table.old) 1 → element_of_2 table.new i j ≡ element_of_2 table.old i j) }
+    ensures row { OnOk result ((j : ℕ) → j < slice_index (shape_of table.old) 1 → element_of_2 table.new (slice_index (shape_of table.old) 0) j ≡ element_of_1 row.entry j) }
+    ensures kept { OnErr result (meaning_of table.new ≡ meaning_of table.old) }
+{
+    let (_rows, _columns) = table.dim();
+    let _length = row.dim();
+    table.push_row(row)
+}
+
+/// A log of so many rows gets a new one at its end, and gives up its first.
+pub fn push_out<A: Clone + Drop>(
+    log: &mut Array2<A>,
+    line: ArrayView1<'_, A>,
+) -> Result<(), ArrayError>
+    requires clones { (x copy : A) → A.is_clone x copy → copy ≡ x }
+    requires some { 0 < slice_index (shape_of log.old) 0 }
+    requires length { HasLength line (slice_index (shape_of log.old) 1) }
+    ensures shape { HasRowsAndColumns log.new (slice_index (shape_of log.old) 0) (slice_index (shape_of log.old) 1) }
+    ensures before { OnOk result ((i j : ℕ) → i + 1 < slice_index (shape_of log.old) 0 → j < slice_index (shape_of log.old) 1 → element_of_2 log.new i j ≡ element_of_2 log.old (i + 1) j) }
+    ensures last { OnOk result ((i j : ℕ) → i + 1 ≡ slice_index (shape_of log.old) 0 → j < slice_index (shape_of log.old) 1 → element_of_2 log.new i j ≡ element_of_1 line.entry j) }
+    ensures kept { OnErr result (meaning_of log.new ≡ meaning_of log.old) }
+{
+    let (_rows, _columns) = log.dim();
+    row_behind(log, line)?;
+    log.remove_index(Axis(0), 0);
+    Ok(())
+}
+
+/// The rows of a table that have these numbers, read one after another into a table that has room for all of them.
+pub fn rows_read<A: Clone + Drop, S: Data<Elem = A>>(
+    alloc: Global,
+    source: &ArrayBase<S, Ix2>,
+    numbers: &[usize],
+) -> Result<Array2<A>, ArrayError>
+    requires clones { (x copy : A) → A.is_clone x copy → copy ≡ x }
+    requires numbers { AreCoordinates (shape_of source.now) 0 numbers.now }
+    ensures shape { IfOk result (λ table. HasRowsAndColumns table (length numbers.now) (slice_index (shape_of source.now) 1)) }
+    ensures rows { IfOk result (λ table. (i j : ℕ) → i < length numbers.now → j < slice_index (shape_of source.now) 1 → element_of_2 table i j ≡ element_of_2 source.now (slice_index numbers.now i) j) }
+{
+    let (_rows, columns) = source.dim();
+    let mut table = match Array2::from_shape_vec((0, columns), Vec::new(alloc)) {
+        Ok(table) => table,
+        Err(refused) => return Err(ArrayError::Shape(refused)),
+    };
+    table.reserve_rows(numbers.len())?;
+    for row in 0..numbers.len() {
+        row_behind(&mut table, source.row(numbers[row]))?;
+    }
+    Ok(table)
+}
+
+/// Puts a row that is only lent behind those of a table.
+pub fn row_lent_behind<A: Clone + Drop>(
+    table: &mut Array2<A>,
+    row: &ArrayView1<'_, A>,
+) -> Result<(), ArrayError>
+    requires clones { (x copy : A) → A.is_clone x copy → copy ≡ x }
+    requires length { HasLength row.now (slice_index (shape_of table.old) 1) }
+    ensures shape { OnOk result (HasRowsAndColumns table.new (slice_index (shape_of table.old) 0 + 1) (slice_index (shape_of table.old) 1)) }
+    ensures before { OnOk result ((i j : ℕ) → i < slice_index (shape_of table.old) 0 → j < slice_index (shape_of table.old) 1 → element_of_2 table.new i j ≡ element_of_2 table.old i j) }
+    ensures row { OnOk result ((j : ℕ) → j < slice_index (shape_of table.old) 1 → element_of_2 table.new (slice_index (shape_of table.old) 0) j ≡ element_of_1 row.now j) }
+{
+    row_behind(table, row.view())
+}
+
+/// Puts the rows of a list behind those of a table, one after the other.
+pub fn rows_behind<A: Clone + Drop>(
+    table: &mut Array2<A>,
+    rows: &[ArrayView1<'_, A>],
+) -> Result<(), ArrayError>
+    requires clones { (x copy : A) → A.is_clone x copy → copy ≡ x }
+    requires long { (k : ℕ) (row : _) → slice_get rows.now k ≡ Some row → HasLength row (slice_index (shape_of table.old) 1) }
+    ensures shape { OnOk result (HasRowsAndColumns table.new (slice_index (shape_of table.old) 0 + length rows.now) (slice_index (shape_of table.old) 1)) }
+    ensures before { OnOk result ((i j : ℕ) → i < slice_index (shape_of table.old) 0 → j < slice_index (shape_of table.old) 1 → element_of_2 table.new i j ≡ element_of_2 table.old i j) }
+    ensures rows { OnOk result ((k j : ℕ) (row : _) → slice_get rows.now k ≡ Some row → j < slice_index (shape_of table.old) 1 → element_of_2 table.new (slice_index (shape_of table.old) 0 + k) j ≡ element_of_1 row j) }
+{
+    let (_rows, _columns) = table.dim();
+    for row in rows {
+        row_lent_behind(table, row)?;
+    }
+    Ok(())
+}
+
+/// Puts a column behind those of a table.
+pub fn column_behind<A: Clone + Drop>(
+    table: &mut Array2<A>,
+    column: ArrayView1<'_, A>,
+) -> Result<(), ArrayError>
+    requires clones { (x copy : A) → A.is_clone x copy → copy ≡ x }
+    requires length { HasLength column (slice_index (shape_of table.old) 0) }
+    ensures shape { OnOk result (HasRowsAndColumns table.new (slice_index (shape_of table.old) 0) (slice_index (shape_of table.old) 1 + 1)) }
+    ensures before { OnOk result ((i j : ℕ) → i < slice_index (shape_of table.old) 0 → j < slice_index (shape_of table.old) 1 → element_of_2 table.new i j ≡ element_of_2 table.old i j) }
+    ensures column { OnOk result ((i : ℕ) → i < slice_index (shape_of table.old) 0 → element_of_2 table.new i (slice_index (shape_of table.old) 1) ≡ element_of_1 column.entry i) }
+    ensures kept { OnErr result (meaning_of table.new ≡ meaning_of table.old) }
+{
+    let (_rows, _columns) = table.dim();
+    let _length = column.dim();
+    table.push_column(column)
+}
+
+/// Two columns behind those of a table, one after the other.
+pub fn two_columns_behind<A: Clone + Drop>(
+    table: &mut Array2<A>,
+    first: ArrayView1<'_, A>,
+    second: ArrayView1<'_, A>,
+) -> Result<(), ArrayError>
+    requires clones { (x copy : A) → A.is_clone x copy → copy ≡ x }
+    requires first { HasLength first (slice_index (shape_of table.old) 0) }
+    requires second { HasLength second (slice_index (shape_of table.old) 0) }
+    ensures shape { OnOk result (HasRowsAndColumns table.new (slice_index (shape_of table.old) 0) (slice_index (shape_of table.old) 1 + 2)) }
+    ensures before { OnOk result ((i j : ℕ) → i < slice_index (shape_of table.old) 0 → j < slice_index (shape_of table.old) 1 → element_of_2 table.new i j ≡ element_of_2 table.old i j) }
+    ensures first { OnOk result ((i : ℕ) → i < slice_index (shape_of table.old) 0 → element_of_2 table.new i (slice_index (shape_of table.old) 1) ≡ element_of_1 first.entry i) }
+    ensures second { OnOk result ((i : ℕ) → i < slice_index (shape_of table.old) 0 → element_of_2 table.new i (slice_index (shape_of table.old) 1 + 1) ≡ element_of_1 second.entry i) }
+{
+    column_behind(table, first)?;
+    column_behind(table, second)
+}
+
+/// Those columns of another table that have these numbers, one after the other behind the columns of a table.
+pub fn columns_behind<A: Clone + Drop, S: Data<Elem = A>>(
+    table: &mut Array2<A>,
+    source: &ArrayBase<S, Ix2>,
+    numbers: &[usize],
+) -> Result<(), ArrayError>
+    requires clones { (x copy : A) → A.is_clone x copy → copy ≡ x }
+    requires rows { slice_index (shape_of source.now) 0 ≡ slice_index (shape_of table.old) 0 }
+    requires numbers { AreCoordinates (shape_of source.now) 1 numbers.now }
+    ensures shape { OnOk result (HasRowsAndColumns table.new (slice_index (shape_of table.old) 0) (slice_index (shape_of table.old) 1 + length numbers.now)) }
+    ensures before { OnOk result ((i j : ℕ) → i < slice_index (shape_of table.old) 0 → j < slice_index (shape_of table.old) 1 → element_of_2 table.new i j ≡ element_of_2 table.old i j) }
+    ensures columns { OnOk result ((i k : ℕ) → i < slice_index (shape_of table.old) 0 → k < length numbers.now → element_of_2 table.new i (slice_index (shape_of table.old) 1 + k) ≡ element_of_2 source.now i (slice_index numbers.now k)) }
+{
+    let (_rows, _columns) = table.dim();
+    let (_source_rows, _source_columns) = source.dim();
+    for k in 0..numbers.len() {
+        column_behind(table, source.column(numbers[k]))?;
+    }
+    Ok(())
+}
+
+/// Further columns behind those of a table, all in one call.
+pub fn both_behind<'a, A: Clone + Drop>(
+    table: &mut Array2<A>,
+    first: ArrayView2<'a, A>,
+    second: ArrayView2<'a, A>,
+) -> Result<(), (usize, ArrayError)>
+    requires clones { (x copy : A) → A.is_clone x copy → copy ≡ x }
+    requires first { slice_index (shape_of first) 0 ≡ slice_index (shape_of table.old) 0 }
+    requires second { slice_index (shape_of second) 0 ≡ slice_index (shape_of table.old) 0 }
+    ensures shape { OnOk result (HasRowsAndColumns table.new (slice_index (shape_of table.old) 0) (slice_index (shape_of table.old) 1 + slice_index (shape_of first.entry) 1 + slice_index (shape_of second.entry) 1)) }
+    ensures first { OnOk result ((i j : ℕ) → i < slice_index (shape_of table.old) 0 → j < slice_index (shape_of first.entry) 1 → element_of_2 table.new i (slice_index (shape_of table.old) 1 + j) ≡ element_of_2 first.entry i j) }
+    ensures second { OnOk result ((i j : ℕ) → i < slice_index (shape_of table.old) 0 → j < slice_index (shape_of second.entry) 1 → element_of_2 table.new i (slice_index (shape_of table.old) 1 + slice_index (shape_of first.entry) 1 + j) ≡ element_of_2 second.entry i j) }
+{
+    let (_rows, _columns) = table.dim();
+    let (_first, _first_columns) = first.dim();
+    let (_second, _second_columns) = second.dim();
+    table.append_each(Axis(1), &[first, second])
+}

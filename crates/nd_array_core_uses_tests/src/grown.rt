@@ -1,0 +1,61 @@
+//! Tables that grow: rows and columns behind others, a log of the last rows, and room made before.
+
+use nd_array_core::Array2;
+use nd_array_core_uses::tables::{
+    both_behind, columns_behind, push_out, row_lent_behind, rows_behind, rows_read,
+    two_columns_behind,
+};
+use nd_test_arrays::{made, shows};
+
+// Behind 1 2 come 3 4 and 5 6, and 1 2 again.
+#[test]
+fn rows(rt: HostRuntime) {
+    let mut table: Array2<u64> = made(rt.alloc(), (1, 2), &[1, 2]).expect(&rt, "made");
+    let source: Array2<u64> = made(rt.alloc(), (2, 2), &[3, 4, 5, 6]).expect(&rt, "made");
+    assert!(rt; source.nrows() == 2);
+    assert!(rt; rows_behind(&mut table, &[source.row(0), source.row(1)]).is_ok());
+    assert!(rt; shows(&table, [3, 2], &[1, 2, 3, 4, 5, 6]));
+    assert!(rt; row_lent_behind(&mut table, &source.row(0)).is_ok());
+    assert!(rt; shows(&table, [4, 2], &[1, 2, 3, 4, 5, 6, 3, 4]));
+}
+
+#[test]
+fn rows_by_number(rt: HostRuntime) {
+    let source: Array2<u64> = made(rt.alloc(), (3, 2), &[1, 2, 3, 4, 5, 6]).expect(&rt, "made");
+    match rows_read(rt.alloc(), &source, &[2, 0, 2]) {
+        Ok(table) => assert!(rt; shows(&table, [3, 2], &[5, 6, 1, 2, 5, 6])),
+        Err(_) => assert!(rt; false),
+    }
+}
+
+#[test]
+fn the_last_rows(rt: HostRuntime) {
+    let mut log: Array2<u64> = made(rt.alloc(), (2, 2), &[1, 2, 3, 4]).expect(&rt, "made");
+    let source: Array2<u64> = made(rt.alloc(), (2, 2), &[5, 6, 7, 8]).expect(&rt, "made");
+    assert!(rt; source.nrows() == 2);
+    assert!(rt; push_out(&mut log, source.row(0)).is_ok());
+    assert!(rt; shows(&log, [2, 2], &[3, 4, 5, 6]));
+    assert!(rt; push_out(&mut log, source.row(1)).is_ok());
+    assert!(rt; shows(&log, [2, 2], &[5, 6, 7, 8]));
+}
+
+// Behind 1 / 2 come columns of 3 4 / 5 6.
+#[test]
+fn columns(rt: HostRuntime) {
+    let mut table: Array2<u64> = made(rt.alloc(), (2, 1), &[1, 2]).expect(&rt, "made");
+    let source: Array2<u64> = made(rt.alloc(), (2, 2), &[3, 4, 5, 6]).expect(&rt, "made");
+    assert!(rt; source.nrows() == 2);
+    assert!(rt; two_columns_behind(&mut table, source.column(1), source.column(0)).is_ok());
+    assert!(rt; shows(&table, [2, 3], &[1, 4, 3, 2, 6, 5]));
+    assert!(rt; columns_behind(&mut table, &source, &[1, 1]).is_ok());
+    assert!(rt; shows(&table, [2, 5], &[1, 4, 3, 4, 4, 2, 6, 5, 6, 6]));
+}
+
+#[test]
+fn both_at_once(rt: HostRuntime) {
+    let mut table: Array2<u64> = made(rt.alloc(), (2, 1), &[1, 2]).expect(&rt, "made");
+    let first: Array2<u64> = made(rt.alloc(), (2, 2), &[3, 4, 5, 6]).expect(&rt, "made");
+    let second: Array2<u64> = made(rt.alloc(), (2, 1), &[7, 8]).expect(&rt, "made");
+    assert!(rt; both_behind(&mut table, first.view(), second.view()).is_ok());
+    assert!(rt; shows(&table, [2, 4], &[1, 3, 4, 7, 2, 5, 6, 8]));
+}
