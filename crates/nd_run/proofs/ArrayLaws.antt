@@ -1,10 +1,10 @@
 -- The numbers, the list and the array that are read of words are what they write, and what they write is read.
-use Rattle.std.proofs.Common.{◌≡◌, ℕ, ◌≤◌, ◌^◌, true, cond, ltb, leb, List, ◌++◌, length, ℤ, Some, None, refl, sym, ap, subst, ◌∙◌, append_assoc, arith}
+use Rattle.std.proofs.Common.{◌≡◌, ℕ, ◌≤◌, ◌^◌, true, cond, ltb, leb, List, ◌++◌, length, length-append, ℤ, Some, None, refl, sym, ap, subst, ◌∙◌, append_assoc, arith}
 use Rattle.std.proofs.lemmas.Bool.{ltb-true, lt-ltb, leb-true, le-leb}
 use Rattle.nd_shape_and_slice.specs.Shape.{HasCheckedSize, nonzero_product, size_of}
 use Rattle.nd_text.specs.Numerals.{IsNat, IsInt, nat_of, int_of}
 use Rattle.nd_run.specs.Grammar.{IsWord, IsList, array_of, AreParts, IsArray}
-use Rattle.nd_run.specs.Reading.{◌>>=◌, first_as, many_at, counted_at, list_at, lengths_at, checked_size, parts_at, array_at}
+use Rattle.nd_run.specs.Reading.{◌>>=◌, first_as, many_at, counted_at, list_at, lengths_at, checked_size, parts_at, array_at, TakesWords}
 use Rattle.nd_text.proofs.NumberLaws.{some_by, some_under, nat_takes, nat_again, int_takes, int_again}
 use Rattle.nd_run.proofs.Forms.{bind_some, some_pair, Takes, Reads, few_parts, regrouped, word_reads, made_reads, many_take, many_again, many_length, counted_reads}
 
@@ -64,3 +64,11 @@ parts_reads {n} = record {
 
 pub array_reads : {n : ℕ} → Reads n array_at IsArray
 array_reads = made_reads (λ parts. array_of parts.0 parts.1) parts_reads
+
+-- an array is a word or more
+pub array_words : TakesWords array_at
+array_words words x rest e =
+    let f = (array_reads {n = 0}).takes words x rest e in
+    let parts = f.is.2 in
+    let list = parts.3 in
+    omega (arith, ap (length {A = List ℕ}) f.parts, length-append f.front rest, ap (length {A = List ℕ}) parts.2, length-append parts.0 parts.1, ap (length {A = List ℕ}) list.2, length-append list.0 list.1, ap (length {A = List ℕ}) list.3.1)

@@ -10,7 +10,7 @@ use Rattle.nd_run.specs.declared.calls.Reply.{Reply}
 use Rattle.nd_run.specs.Calls.{AskedStep, Asking, Asked, About, Said, SaidDone, SaidRefused, said_reply}
 use Rattle.nd_run.specs.Steps.{Test, first_failed, tests_of, refusal, unless, step_shape, step_index, shape_along, index_along}
 use Rattle.nd_run.specs.Acts.{path_tests, meaning_at_end}
-use Rattle.nd_run.specs.Placing.{unless_refused, said_unless}
+use Rattle.nd_run.specs.Written.{unless_refused, said_unless}
 use Rattle.nd_run.specs.Fold.{LeadsAlong, step_result, answer_to, answer_or_refusal, number_of, question_tests, answers_in_memory, look_refusal, CarriesOut, tests_for, done, outcome, given_by, reply_to}
 
 -- ---- tests before others

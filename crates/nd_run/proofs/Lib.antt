@@ -18,3 +18,4 @@ pub mod Forms
 pub mod Rows
 pub mod ArrayLaws
 pub mod SliceEnds
+pub mod Joins

@@ -6,12 +6,10 @@ use Rattle.nd_shape_and_slice.specs.Shape.{in_box}
 use Rattle.nd_shape_and_slice.specs.Maps.{lower_shape, upper_shape, upper_index}
 use Rattle.nd_array_core.specs.Meaning.{Meaning, inside, meaning_through}
 use Rattle.nd_array_core.specs.Laws.{NothingOutside}
-use Rattle.nd_array_core.specs.PlacedArray.{PlacedArray, found_at, element_placed}
-use Rattle.nd_array_core.specs.scoped.Tasks.{IsViewThrough}
 use Rattle.nd_run.specs.declared.cause.Cause.{Cause}
 use Rattle.nd_run.specs.Calls.{Acting}
 use Rattle.nd_run.specs.Acts.{joined_elements, lower_meaning, upper_meaning, parts_tests, parts_refusal, point_tests, point_refusal, split_refusal, split_written}
-use Rattle.nd_run.specs.Placing.{meaning_in, Leaves, unless_refused, acted_elements_unless}
+use Rattle.nd_run.specs.Written.{unless_refused, acted_elements_unless}
 use Rattle.nd_run.proofs.FoldLemmas.{tests_pass, tests_fail, same_meaning}
 
 -- an index whose coordinate is below the split lies in the first part
@@ -51,18 +49,12 @@ module _ {A : Type 0} where
           let le : k ≤ get_or i a 0 = ltb-false (get_or i a 0) k e in
           rw (h, e) (ap at (sym (upper_again i a k le)) ∙ high (set i a (get_or i a 0 - k)) (in_upper ns i a k h le))
 
--- ---- a view of a part
+-- ---- what is seen of a part
 
 module _ {A : Type 0} where
-  -- what the view is left with is what the array shows at the part's indexes
-  pub part_is : (shape : List ℕ) (source : List ℕ → List ℕ) (act : Acting A) (r : Option Cause) (v w : PlacedArray A) (place place' : List ℕ → Option ℕ) (old new : Meaning A)
-      → IsViewThrough shape source place old.at v → IsViewThrough shape source place' new.at w → ((i : List ℕ) → place' i ≡ place i) → Leaves v w (acted_elements_unless r act (meaning_in v))
-      → (i : List ℕ) → in_box shape i ≡ true → new.at (source i) ≡ acted_elements_unless r act (meaning_through shape source old) i
-  part_is shape source act r v w place place' old new before left places leaves i h =
-      let start : meaning_in v ≡ meaning_through shape source old = same_meaning (meaning_through shape source old) (meaning_in v) before.same_shape before.same_element in
-      let shown : element_placed w i ≡ new.at (source i) = left.same_element i ∙ ap (λ b. if b then new.at (source i) else None) h in
-      let there : w.place i ≡ v.place i = left.same_place i ∙ (ap (inside shape i) (places (source i)) ∙ sym (before.same_place i)) in
-      sym shown ∙ (ap (found_at w.stored) there ∙ (leaves i ∙ ap (λ m. acted_elements_unless r act m i) start))
+  -- is what the array has at the part's indexes
+  pub part_at : (shape' shape i : List ℕ) (x y : Option A) → shape' ≡ shape → in_box shape i ≡ true → inside shape' i x ≡ y → x ≡ y
+  part_at shape' shape i x y e h is = let here : inside shape' i x ≡ x = ap (λ b. if b then x else None) (ap (λ ns. in_box ns i) e ∙ h) in sym here ∙ is
 
 -- ---- a split, and an act on each part
 

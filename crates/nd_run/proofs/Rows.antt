@@ -1,12 +1,12 @@
 -- A row for each keyword: what is read behind it is what is written there.
 use Rattle.std.proofs.Common.{◌≡◌, ℕ, ◌≤◌, ◌<◌, true, false, List, [], ◌∷◌, ◌++◌, length, length-append, ℤ, Option, Some, refl, ap, ◌∙◌, arith}
 use Rattle.nd_text.specs.declared.keyword.Keyword.{Keyword}
-use Rattle.nd_text.specs.declared.keyword.Keyword.TheVariants.{Start, Keep, Ask, Write, Split, Cut, Slice as SliceWord, Collapse, Index, Permute, Reverse, SwapAxes, Invert, Insert, Remove, Squeeze, Diag, Broadcast, Part, Coordinate, New, Shape, Elements, Get, First, Last, Equal, Count, Select, RemoveIndex, Reshape, Append, Push, Reserve, Row, Column, Fill, Assign, Set, Swap}
+use Rattle.nd_text.specs.declared.keyword.Keyword.TheVariants.{Start, Keep, Ask, Write, Split, Cut, Slice as SliceWord, Collapse, Index, Permute, Reverse, SwapAxes, Invert, Insert, Remove, Squeeze, Diag, Broadcast, Part, Coordinate, New, Shape, Elements, Get, First, Last, Equal, Count, Select, RemoveIndex, Reshape, Append, Push, Reserve, Concat, Stack, Row, Column, Fill, Assign, Set, Swap}
 use Rattle.nd_shape_and_slice.specs.declared.slice_info.SliceInfoElem.TheVariants.{Slice as Cutting, Index as At, NewAxis}
 use Rattle.nd_shape_and_slice.specs.declared.builder.Order.TheVariants.{RowMajor, ColumnMajor}
 use Rattle.nd_array_core.specs.Laws.{with_axis_inserted}
 use Rattle.nd_array_core.specs.Meaning.{Meaning}
-use Rattle.nd_run.specs.Calls.{AskedStep, SlicedAxis, Sliced, Collapsed, Indexed, Permuted, Reversed, Exchanged, Inverted, Inserted, Removed, Squeezed, Diagonal, BroadcastTo, Asking, AskShape, AskElements, AskElement, AskFirst, AskLast, AskEqual, AskCount, AskReshaped, Acting, Filling, Assigning, Setting, Swapping, Asked, Keeping, About, Writing, SplitWriting, Selecting, Removing, Reshaping, Appending, Reserving}
+use Rattle.nd_run.specs.Calls.{AskedStep, SlicedAxis, Sliced, Collapsed, Indexed, Permuted, Reversed, Exchanged, Inverted, Inserted, Removed, Squeezed, Diagonal, BroadcastTo, Asking, AskShape, AskElements, AskElement, AskFirst, AskLast, AskEqual, AskCount, AskReshaped, Acting, Filling, Assigning, Setting, Swapping, Asked, Keeping, About, Writing, SplitWriting, Selecting, Removing, Reshaping, Appending, Reserving, Concatenating, Stacking}
 use Rattle.nd_text.specs.Spelling.{spelling, is_step}
 use Rattle.nd_run.specs.Grammar.{IsBoth, IsNamed, IsSlashed, IsPair, IsOrderBehind, IsOrderedList, IsEnd, IsSlice, IsElementBehind, IsElement, IsStepBehind, IsStep, IsPath, IsQuestionBehind, IsActBehind, IsAct, IsCallBehind, IsCall, IsStartBehind, IsStart}
 use Rattle.nd_run.specs.Reading.{both_at, slashed_at, named_at, pair_at, order_by, ordered_list_at, end_of, slice_at, element_by, element_at, step_by, step_at, begins_step, path_at, question_by, act_by, act_at, call_by, call_at, call_of, start_by, start_of}
@@ -159,6 +159,8 @@ call_rows Reshape = made_reads (λ x. Reshaping x.1 x.0) ordered_list_reads
 call_rows Append = made_reads (λ x. Appending x.0 x.1) (both_reads nat_reads array_reads)
 call_rows Push = made_reads (λ x. Appending x.0 (with_axis_inserted x.0 x.1)) (both_reads nat_reads array_reads)
 call_rows Reserve = made_reads (λ x. Reserving x.0 x.1) pair_reads
+call_rows Concat = made_reads (λ x. Concatenating x.0 x.1) (both_reads nat_reads (counted_reads array_reads))
+call_rows Stack = made_reads (λ x. Stacking x.0 x.1) (both_reads nat_reads (counted_reads array_reads))
 call_rows _ = none_reads
 
 call_reads : {n : ℕ} → Reads n (call_at n) IsCall

@@ -1,12 +1,13 @@
 -- Paths that are written through, a step at a time.
-use Rattle.std.proofs.Common.{◌≡◌, ℕ, suc, ◌+◌, ◌<◌, ◌≤◌, true, false, List, [], ◌∷◌, length, map, drop, get_or, Option, Some, None, Ok, Err, refl, sym, ap, ◌∙◌, add-one, drop-cons}
+use Rattle.std.proofs.Common.{◌≡◌, ℕ, suc, ◌+◌, ◌<◌, ◌≤◌, Bool, true, false, if◌then◌else◌, List, [], ◌∷◌, length, map, drop, get_or, Option, Some, None, Ok, Err, refl, sym, ap, ◌∙◌, add-one, drop-cons}
 use Rattle.std.specs.Prelude.{is_some}
 use Rattle.std.proofs.lemmas.List.{drop_all}
+use Rattle.nd_shape_and_slice.specs.Shape.{in_box}
 use Rattle.nd_array_core.specs.Meaning.{Meaning, inside}
 use Rattle.nd_run.specs.declared.cause.Cause.{Cause}
 use Rattle.nd_run.specs.declared.calls.Step.{Step}
 use Rattle.nd_run.specs.Calls.{AskedStep, asked_step}
-use Rattle.nd_run.specs.Steps.{Test, first_failed, tests_of, refusal, unless, step_shape, step_index}
+use Rattle.nd_run.specs.Steps.{Test, first_failed, tests_of, refusal, unless, step_shape, step_index, index_along}
 use Rattle.nd_run.specs.Acts.{path_tests}
 use Rattle.nd_run.specs.Fold.{step_meaning, and_then, path_result, LeadsAlong}
 use Rattle.nd_run.specs.Laws.{PathsLeadAlong}
@@ -71,3 +72,12 @@ module _ {X : Type 0} (tests : AskedStep → List ℕ → List Test) where
         let whole : path_result tests (map asked_step path) start ≡ Ok now = sym so_far ∙ ap (λ steps. path_result tests (map asked_step steps) now) (drop_all k path all) in
         let h = led_allowed (map asked_step path) start now whole in
         (h.0, leads (map asked_step path) start now h.1)
+
+-- what lies along a path, where no index outside its box has anything
+module _ {X : Type 0} (path : List AskedStep) (m n : Meaning X) where
+  pub lies_along : LeadsAlong path m n → ((i : List ℕ) → is_some (n.at i) ≡ in_box n.shape i) → (i : List ℕ) → n.at i ≡ inside n.shape i (m.at (index_along path m.shape i))
+  lies_along along has i = by_box (in_box n.shape i) refl
+    where
+      by_box : (b : Bool) → in_box n.shape i ≡ b → n.at i ≡ inside n.shape i (m.at (index_along path m.shape i))
+      by_box true h = (along.1 i h).1 ∙ sym (ap (λ b. if b then m.at (index_along path m.shape i) else None) h)
+      by_box false h = is_none (n.at i) (has i ∙ h) ∙ sym (ap (λ b. if b then m.at (index_along path m.shape i) else None) h)

@@ -56,7 +56,8 @@ pub data Acting (A : Type 0) : Type 0 where
 
 -- a call: a step whose result is kept, a question at the end of some steps, an act there, an act on each part of the
 -- array split before a coordinate of an axis; coordinates of an axis chosen, or one taken out; other lengths, each
--- element with its rank in an order; an array behind this one along an axis, or room for more lengths of one
+-- element with its rank in an order; an array behind this one along an axis, or room for more lengths of one; arrays behind
+-- this one along an axis, or beside it along a new one
 pub data Asked (A : Type 0) : Type 0 where
   Keeping : (step : AskedStep) → Asked A
   About : (path : List AskedStep) (question : Asking A) → Asked A
@@ -67,6 +68,8 @@ pub data Asked (A : Type 0) : Type 0 where
   Reshaping : (lengths : List ℕ) (order : Order) → Asked A
   Appending : (axis : ℕ) (other : Meaning A) → Asked A
   Reserving : (axis additional : ℕ) → Asked A
+  Concatenating : (axis : ℕ) (others : List (Meaning A)) → Asked A
+  Stacking : (axis : ℕ) (others : List (Meaning A)) → Asked A
 
 -- a reply
 pub data Said (A : Type 0) : Type 0 where
@@ -126,6 +129,8 @@ module _ {A T : Type 0} (held : T → Meaning A) where
   asked_call (calls.Append axis other) = Appending axis (held other)
   asked_call (calls.Push axis other) = Appending axis (with_axis_inserted axis (held other))
   asked_call (calls.Reserve axis additional) = Reserving axis additional
+  asked_call (calls.Concatenate axis others) = Concatenating axis (map held others.items)
+  asked_call (calls.Stack axis others) = Stacking axis (map held others.items)
 
 abbrev pub said_reply : {A : Type 0} → Reply A → Said A
 said_reply replies.Done = SaidDone

@@ -8,9 +8,13 @@ use Rattle.nd_array_core.specs.LastIndex.{last_index}
 use Rattle.nd_array_core.specs.Equality.{equal_meanings}
 use Rattle.nd_shape_and_slice.specs.Broadcast.{stretches}
 use Rattle.nd_array_core.specs.Joined.{row_major_elements, concatenated, concatenated_shape, shape_behind}
-use Rattle.nd_run.specs.Calls.{AskedStep, Asking, AskShape, AskElements, AskElement, AskFirst, AskLast, AskEqual, AskCount, AskReshaped, Asked, Keeping, About, Writing, SplitWriting, Selecting, Removing, Reshaping, Appending, Reserving, Said, SaidDone, SaidRefused, SaidShape, SaidElements, SaidElement, SaidTruth, SaidNumber, said_reply}
-use Rattle.std.specs.Prelude.{map}
-use Rattle.std.specs.List.{count_by, list_all}
+use Rattle.nd_array_core.specs.Laws.{with_axis_inserted}
+use Rattle.nd_array_core.specs.growth.InTurn.{lengths_along}
+use Rattle.nd_stacking.specs.Stacking.{followed_by, is_alike_but}
+use Rattle.nd_run.specs.Calls.{AskedStep, Asking, AskShape, AskElements, AskElement, AskFirst, AskLast, AskEqual, AskCount, AskReshaped, Asked, Keeping, About, Writing, SplitWriting, Selecting, Removing, Reshaping, Appending, Reserving, Concatenating, Stacking, Said, SaidDone, SaidRefused, SaidShape, SaidElements, SaidElement, SaidTruth, SaidNumber, said_reply}
+use Rattle.std.specs.Prelude.{map, nat_eq}
+use Rattle.std.specs.Cmp.Lexicographic.{pointwise}
+use Rattle.std.specs.List.{count_by, insert, list_all}
 use Rattle.nd_shape_and_slice.specs.Shape.{nonzero_product, size_of}
 use Rattle.nd_array_core.specs.along.Selected.{selected_shape, selected_index}
 use Rattle.nd_array_core.specs.along.Removed.{removed_shape, removed_index}
@@ -115,6 +119,29 @@ append_tests axis ms ns =
 abbrev pub reserve_tests : ℕ → ℕ → List ℕ → List Test
 reserve_tests axis additional ns = has_axis axis ns ∷ has_size (slice_set ns axis (slice_index ns axis + additional)) ∷ []
 
+-- how many lengths of an axis an array of these lengths and others have together, and the lengths once they are behind it
+abbrev pub lengths_with : {A : Type 0} → ℕ → List (Meaning A) → List ℕ → ℕ
+lengths_with axis others ns = slice_index ns axis + lengths_along axis others
+
+abbrev pub joined_shape : {A : Type 0} → ℕ → List (Meaning A) → List ℕ → List ℕ
+joined_shape axis others ns = slice_set ns axis (lengths_with axis others ns)
+
+-- the tests of arrays behind this one along an axis: each has as many axes, and the same lengths but along the axis
+abbrev pub concatenate_tests : {A : Type 0} → ℕ → List (Meaning A) → List ℕ → List Test
+concatenate_tests axis others ns =
+    has_axis axis ns ∷ (list_all (λ n. is_alike_but axis ns n.shape) others, causes.Shape)
+    ∷ has_size (joined_shape axis others ns) ∷ []
+
+-- this array and others beside it along a new axis
+abbrev pub stack_of : {A : Type 0} → ℕ → Meaning A → List (Meaning A) → Meaning A
+stack_of axis m others = followed_by axis (with_axis_inserted axis m) (map (with_axis_inserted axis) others)
+
+-- the tests of these: each has the same lengths
+abbrev pub stack_tests : {A : Type 0} → ℕ → List (Meaning A) → List ℕ → List Test
+stack_tests axis others ns =
+    (nat_le axis (length ns), causes.Axis) ∷ (nat_lt (length ns) 32, causes.TooManyAxes)
+    ∷ (list_all (λ n. pointwise nat_eq n.shape ns) others, causes.Shape) ∷ has_size (insert ns axis (length others + 1)) ∷ []
+
 abbrev pub tests_for : {A : Type 0} → Asked A → List ℕ → List Test
 tests_for (Keeping step) ns = keep_tests step ns
 tests_for (About path question) ns = ask_tests path question ns
@@ -125,6 +152,8 @@ tests_for (Removing axis index) ns = has_axis axis ns ∷ has_coordinate axis in
 tests_for (Reshaping to order) ns = reshape_tests to ns
 tests_for (Appending axis other) ns = append_tests axis other.shape ns
 tests_for (Reserving axis additional) ns = reserve_tests axis additional ns
+tests_for (Concatenating axis others) ns = concatenate_tests axis others ns
+tests_for (Stacking axis others) ns = stack_tests axis others ns
 
 -- the reply, and the array afterwards
 abbrev pub done : {A : Type 0} → (A → A → Bool) → Asked A → Meaning A → Said A × Meaning A
@@ -137,6 +166,8 @@ done eq (Removing axis index) m = (SaidDone, meaning_through (removed_shape m.sh
 done eq (Reshaping to order) m = (SaidDone, regrouped_meaning order to m)
 done eq (Appending axis other) m = (SaidDone, concatenated axis m other)
 done eq (Reserving axis additional) m = (SaidDone, m)
+done eq (Concatenating axis others) m = (SaidDone, followed_by axis m others)
+done eq (Stacking axis others) m = (SaidDone, stack_of axis m others)
 
 abbrev pub takes_memory : {A : Type 0} → Asked A → Bool
 takes_memory (Keeping step) = false
@@ -148,6 +179,8 @@ takes_memory (Removing axis index) = false
 takes_memory (Reshaping to order) = true
 takes_memory (Appending axis other) = not (size_of other.shape == 0)
 takes_memory (Reserving axis additional) = true
+takes_memory (Concatenating axis others) = true
+takes_memory (Stacking axis others) = true
 
 -- ---- what comes of a call
 

@@ -9,8 +9,8 @@ use Rattle.nd_shape_and_slice.specs.declared.slice_info.SliceInfoElem.TheVariant
 use Rattle.nd_shape_and_slice.specs.declared.builder.Order.{Order}
 use Rattle.nd_shape_and_slice.specs.declared.builder.Order.TheVariants.{RowMajor, ColumnMajor}
 use Rattle.nd_text.specs.declared.keyword.Keyword.{Keyword}
-use Rattle.nd_text.specs.declared.keyword.Keyword.TheVariants.{Start, Keep, Ask, Write, Split, Slash, Cut, Slice as SliceWord, Collapse, Index, Permute, Reverse, SwapAxes, Invert, Insert, Remove, Squeeze, Diag, Broadcast, Part, Coordinate, New, Shape, Elements, Get, First, Last, Equal, Count, Select, RemoveIndex, Reshape, Append, Push, Reserve, Row, Column, Fill, Assign, Set, Swap}
-use Rattle.nd_run.specs.Calls.{AskedStep, SlicedAxis, Sliced, Collapsed, Indexed, Permuted, Reversed, Exchanged, Inverted, Inserted, Removed, Squeezed, Diagonal, BroadcastTo, Asking, AskShape, AskElements, AskElement, AskFirst, AskLast, AskEqual, AskCount, AskReshaped, Acting, Filling, Assigning, Setting, Swapping, Asked, Keeping, About, Writing, SplitWriting, Selecting, Removing, Reshaping, Appending, Reserving}
+use Rattle.nd_text.specs.declared.keyword.Keyword.TheVariants.{Start, Keep, Ask, Write, Split, Slash, Cut, Slice as SliceWord, Collapse, Index, Permute, Reverse, SwapAxes, Invert, Insert, Remove, Squeeze, Diag, Broadcast, Part, Coordinate, New, Shape, Elements, Get, First, Last, Equal, Count, Select, RemoveIndex, Reshape, Append, Push, Reserve, Concat, Stack, Row, Column, Fill, Assign, Set, Swap}
+use Rattle.nd_run.specs.Calls.{AskedStep, SlicedAxis, Sliced, Collapsed, Indexed, Permuted, Reversed, Exchanged, Inverted, Inserted, Removed, Squeezed, Diagonal, BroadcastTo, Asking, AskShape, AskElements, AskElement, AskFirst, AskLast, AskEqual, AskCount, AskReshaped, Acting, Filling, Assigning, Setting, Swapping, Asked, Keeping, About, Writing, SplitWriting, Selecting, Removing, Reshaping, Appending, Reserving, Concatenating, Stacking}
 use Rattle.nd_text.specs.Numerals.{IsNat, IsInt}
 use Rattle.nd_text.specs.Spelling.{spelling}
 
@@ -173,6 +173,8 @@ IsCallBehind Reshape words call = IsMade (λ x. Reshaping x.1 x.0) IsOrderedList
 IsCallBehind Append words call = IsMade (λ x. Appending x.0 x.1) (IsBoth (IsWord IsNat) IsArray) words call
 IsCallBehind Push words call = IsMade (λ x. Appending x.0 (with_axis_inserted x.0 x.1)) (IsBoth (IsWord IsNat) IsArray) words call
 IsCallBehind Reserve words call = IsMade (λ x. Reserving x.0 x.1) IsPair words call
+IsCallBehind Concat words call = IsMade (λ x. Concatenating x.0 x.1) (IsBoth (IsWord IsNat) (IsCounted IsArray)) words call
+IsCallBehind Stack words call = IsMade (λ x. Stacking x.0 x.1) (IsBoth (IsWord IsNat) (IsCounted IsArray)) words call
 IsCallBehind _ words call = ⊥
 
 -- the words of a line are this call

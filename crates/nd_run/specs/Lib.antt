@@ -1,7 +1,7 @@
 pub mod Calls
 pub mod Steps
 pub mod Acts
-pub mod Placing
+pub mod Written
 pub mod Meaning
 pub mod Endings
 pub mod Driven

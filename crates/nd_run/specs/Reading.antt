@@ -9,10 +9,10 @@ use Rattle.nd_shape_and_slice.specs.declared.slice_info.SliceInfoElem.TheVariant
 use Rattle.nd_shape_and_slice.specs.declared.builder.Order.{Order}
 use Rattle.nd_shape_and_slice.specs.declared.builder.Order.TheVariants.{RowMajor, ColumnMajor}
 use Rattle.nd_text.specs.declared.keyword.Keyword.{Keyword}
-use Rattle.nd_text.specs.declared.keyword.Keyword.TheVariants.{Start, Keep, Ask, Write, Split, Slash, Cut, Slice as SliceWord, Collapse, Index, Permute, Reverse, SwapAxes, Invert, Insert, Remove, Squeeze, Diag, Broadcast, Part, Coordinate, New, Shape, Elements, Get, First, Last, Equal, Count, Select, RemoveIndex, Reshape, Append, Push, Reserve, Row, Column, Fill, Assign, Set, Swap}
+use Rattle.nd_text.specs.declared.keyword.Keyword.TheVariants.{Start, Keep, Ask, Write, Split, Slash, Cut, Slice as SliceWord, Collapse, Index, Permute, Reverse, SwapAxes, Invert, Insert, Remove, Squeeze, Diag, Broadcast, Part, Coordinate, New, Shape, Elements, Get, First, Last, Equal, Count, Select, RemoveIndex, Reshape, Append, Push, Reserve, Concat, Stack, Row, Column, Fill, Assign, Set, Swap}
 use Rattle.nd_run.specs.declared.reader.fault.LineFault.{LineFault}
 use Rattle.nd_run.specs.declared.reader.fault.LineFault.TheVariants.{Bad, Memory}
-use Rattle.nd_run.specs.Calls.{AskedStep, SlicedAxis, Sliced, Collapsed, Indexed, Permuted, Reversed, Exchanged, Inverted, Inserted, Removed, Squeezed, Diagonal, BroadcastTo, Asking, AskShape, AskElements, AskElement, AskFirst, AskLast, AskEqual, AskCount, AskReshaped, Acting, Filling, Assigning, Setting, Swapping, Asked, Keeping, About, Writing, SplitWriting, Selecting, Removing, Reshaping, Appending, Reserving}
+use Rattle.nd_run.specs.Calls.{AskedStep, SlicedAxis, Sliced, Collapsed, Indexed, Permuted, Reversed, Exchanged, Inverted, Inserted, Removed, Squeezed, Diagonal, BroadcastTo, Asking, AskShape, AskElements, AskElement, AskFirst, AskLast, AskEqual, AskCount, AskReshaped, Acting, Filling, Assigning, Setting, Swapping, Asked, Keeping, About, Writing, SplitWriting, Selecting, Removing, Reshaping, Appending, Reserving, Concatenating, Stacking}
 use Rattle.nd_array_core.specs.Laws.{with_axis_inserted}
 use Rattle.nd_array_core.specs.Meaning.{Meaning}
 use Rattle.nd_run.specs.Grammar.{array_of}
@@ -136,6 +136,9 @@ parts_at words = do
 abbrev pub array_at : List (List ℕ) → Option (Meaning ℤ × List (List ℕ))
 array_at words = map_read (λ parts. array_of parts.0 parts.1) (parts_at words)
 
+abbrev pub arrays_at : List (List ℕ) → Option (List (Meaning ℤ) × List (List ℕ))
+arrays_at words = counted_at array_at words
+
 -- ---- slices
 
 abbrev pub end_of : List ℕ → Option (Option ℤ)
@@ -222,6 +225,8 @@ call_by n Reshape words = map_read (λ x. Reshaping x.1 x.0) (ordered_list_at wo
 call_by n Append words = map_read (λ x. Appending x.0 x.1) (both_at (first_as nat_of) array_at words)
 call_by n Push words = map_read (λ x. Appending x.0 (with_axis_inserted x.0 x.1)) (both_at (first_as nat_of) array_at words)
 call_by n Reserve words = map_read (λ x. Reserving x.0 x.1) (pair_at words)
+call_by n Concat words = map_read (λ x. Concatenating x.0 x.1) (both_at (first_as nat_of) arrays_at words)
+call_by n Stack words = map_read (λ x. Stacking x.0 x.1) (both_at (first_as nat_of) arrays_at words)
 call_by n _ words = None
 
 abbrev pub call_at : ℕ → List (List ℕ) → Option (Asked ℤ × List (List ℕ))

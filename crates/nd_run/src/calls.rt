@@ -119,6 +119,10 @@ pub enum Call<A, T = Array<A, IxDyn>> {
     Push(usize, T),
     /// An axis, and for how many more lengths of it room is made.
     Reserve(usize, usize),
+    /// An axis, and arrays that come behind along it, one after the other. Nothing is broadcast.
+    Concatenate(usize, Vec<T>),
+    /// Where a new axis is put in, and arrays of the same lengths that come beside the array along it.
+    Stack(usize, Vec<T>),
 }
 
 /// What a call returns.

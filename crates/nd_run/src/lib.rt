@@ -12,6 +12,7 @@ pub mod laws;
 pub mod run;
 
 // Carrying out a call.
+mod joining;
 mod steps;
 mod write;
 

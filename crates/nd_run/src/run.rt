@@ -14,6 +14,7 @@ ghost use Rattle.nd_array_core.specs.Joined.{row_major_elements};
 
 use crate::calls::{Call, Holds, Question, Reply, Step};
 use crate::cause::Cause;
+use crate::joining::{concatenate, stack};
 use crate::laws::paths_lead_along;
 use crate::steps::{advance, check, check_index, keep_refusal, take_step};
 use crate::write::{write_parts, write_through};
@@ -364,6 +365,8 @@ fn act<A: Clone + Eq + Drop, T: Holds<A>>(
         Call::Append(axis, other) => append(array, *axis, other.array().view()),
         Call::Push(axis, other) => push(array, *axis, other.array()),
         Call::Reserve(axis, additional) => reserve(array, *axis, *additional),
+        Call::Concatenate(axis, others) => concatenate(alloc, array, *axis, others.as_slice()),
+        Call::Stack(axis, others) => stack(alloc, array, *axis, others.as_slice()),
     }
 }
 

@@ -2,7 +2,8 @@
 
 ghost use Rattle.std.specs.Prelude.{◌≡◌, ◌<◌, ◌+◌, ◌^◌, ◌∷◌, [], ℕ, true, List, None, length, MatchOption, Ok, Err};
 ghost use Rattle.nd_shape_and_slice.specs.Axes.{names_each_axis, permuted_list, unpermuted_list};
-ghost use Rattle.nd_array_core.specs.Meaning.{shape_of, element_at, inside, meaning_of, storage_of, place_at};
+ghost use Rattle.nd_array_core.specs.Meaning.{shape_of, element_at, inside, meaning_of};
+ghost use Rattle.nd_paths.specs.Paths.{LiesWith, LiesThrough};
 ghost use Rattle.nd_shape_and_slice.specs.SliceInfo.{reads_axis, axes_read};
 ghost use Rattle.nd_run.specs.Calls.{asked_step, Sliced, BroadcastTo, Indexed};
 ghost use Rattle.nd_run.specs.Steps.{Refuses, first_failed, element_tests, refusal, keep_refusal, changes_axes, step_shape, step_index};
@@ -110,8 +111,8 @@ fn permute<S: Data>(array: &mut ArrayBase<S, IxDyn>, axes: &[usize])
     requires { names_each_axis axes.now (length (shape_of array.old)) ≡ true }
     ensures shape { shape_of array.new ≡ permuted_list axes.now (shape_of array.old) }
     ensures elements { (i : List ℕ) → element_at array.new i ≡ inside (shape_of array.new) i (element_at array.old (unpermuted_list axes.now i)) }
-    ensures storage { storage_of array.new ≡ storage_of array.old }
-    ensures places { (i : List ℕ) → place_at array.new i ≡ inside (shape_of array.new) i (place_at array.old (unpermuted_list axes.now i)) }
+    ensures storage { LiesWith array.old array.new }
+    ensures source { LiesThrough array.old (unpermuted_list axes.now) array.new }
 {
     let order = IxDyn::new(&axes[..array.ndim()]);
     array.permute_axes(order);
@@ -133,8 +134,8 @@ pub fn change_axes<S: Data>(array: &mut ArrayBase<S, IxDyn>, step: &Step)
     requires allowed { keep_refusal (asked_step step.now) (shape_of array.old) ≡ None }
     ensures shape { shape_of array.new ≡ step_shape (asked_step step.now) (shape_of array.old) }
     ensures elements { (i : List ℕ) → element_at array.new i ≡ inside (shape_of array.new) i (element_at array.old (step_index (asked_step step.now) (shape_of array.old) i)) }
-    ensures storage { storage_of array.new ≡ storage_of array.old }
-    ensures places { (i : List ℕ) → place_at array.new i ≡ inside (shape_of array.new) i (place_at array.old (step_index (asked_step step.now) (shape_of array.old) i)) }
+    ensures storage { LiesWith array.old array.new }
+    ensures source { LiesThrough array.old (step_index (asked_step step.now) (shape_of array.old)) array.new }
 {
     match step {
         Step::SliceAxis(axis, slice) => array.slice_axis_inplace(Axis(*axis), *slice),
@@ -155,8 +156,8 @@ pub fn take_step<S: Data>(array: ArrayBase<S, IxDyn>, step: &Step) -> ArrayBase<
     requires { keep_refusal (asked_step step.now) (shape_of array) ≡ None }
     ensures shape { shape_of result ≡ step_shape (asked_step step.now) (shape_of array) }
     ensures elements { (i : List ℕ) → element_at result i ≡ inside (shape_of result) i (element_at array (step_index (asked_step step.now) (shape_of array) i)) }
-    ensures storage { storage_of result ≡ storage_of array }
-    ensures places { (i : List ℕ) → place_at result i ≡ inside (shape_of result) i (place_at array (step_index (asked_step step.now) (shape_of array) i)) }
+    ensures storage { LiesWith array result }
+    ensures source { LiesThrough array (step_index (asked_step step.now) (shape_of array)) result }
 {
     if changes_axes(step) {
         let mut array = array;

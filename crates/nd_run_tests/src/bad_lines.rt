@@ -38,7 +38,7 @@ fn bad_starts(rt: HostRuntime) {
 }
 
 // Each of these is a bad line.
-const BAD_CALLS: [&[u8]; 74] = [
+const BAD_CALLS: [&[u8]; 101] = [
     b"start 1 1 5",
     b"keep",
     b"keep shape",
@@ -113,6 +113,33 @@ const BAD_CALLS: [&[u8]; 74] = [
     b"reserve 0",
     b"reserve 0 18446744073709551616",
     b"reserve 0 0 0",
+    b"concat",
+    b"concat 0",
+    b"concat 0 1",
+    b"concat 0 1 1",
+    b"concat 0 1 1 1",
+    b"concat 0 2 1 1 5",
+    b"concat 0 0 1 1 5",
+    b"concat 0 1 1 1 5 5",
+    b"concat -1 0",
+    b"concat 0 -1",
+    b"concat 0 18446744073709551616",
+    b"concat 0 18446744073709551615 1 1 5",
+    b"concat 0 4 1 1 5",
+    b"concat 0 1 1 9223372036854775808",
+    b"Concat 0 0",
+    b"keep concat 0 0",
+    b"stack",
+    b"stack 0",
+    b"stack 0 1",
+    b"stack 0 2 0 1",
+    b"stack 0 3 0 1",
+    b"stack 0 0 0 1",
+    b"stack 0 -1",
+    b"stack 0 9223372036854775807 0 1",
+    b"stack 0 1 33 1 1 1 1 1 1 1 1 1 1 1 1 1 1 1 1 1 1 1 1 1 1 1 1 1 1 1 1 1 1 1 1 1 5",
+    b"write stack 0 0",
+    b"ask stack 0 0",
 ];
 
 // So is each of these: writes with a word too few or too many, or with one that is no such number.

@@ -62,6 +62,49 @@ fn arrays_behind_arrays(rt: HostRuntime) {
 }
 
 #[test]
+fn arrays_joined(rt: HostRuntime) {
+    let table: [(&[u8], &[u8]); 8] = [
+        // beside and behind one another, and what doesn't fit
+        (
+            b"start 1 2 1 2\nstack 0 2 1 2 3 4 1 2 5 6\nconcat 1 1 2 3 1 7 8 9\nconcat 0 1 2 1 1 9\nappend 0 2 1 1 9\nstack 3 0\n",
+            b"done\ndone\nrefused 5\ndone\nrefused 1\nend 2 4 3 1 2 7 3 4 8 5 6 9 9 9 9\n",
+        ),
+        // along each axis that there is, and along each new one
+        (
+            b"start 2 2 3 3 7 8 5 2 4\nconcat 1 1 2 2 3 1 9 0 5 4 1\nconcat 2 1 2 2 6 1 1 1 1 1 1 1 1 1 1 1 1\nconcat 0 2 2 1 6 1 2 3 4 5 6 2 0 6\n",
+            b"done\nrefused 1\ndone\nend 2 3 6 3 7 8 1 9 0 5 2 4 5 4 1 1 2 3 4 5 6\n",
+        ),
+        (
+            b"start 2 2 3 3 7 8 5 2 4\nstack 1 1 2 2 3 1 9 0 5 4 1\n",
+            b"done\nend 3 2 2 3 3 7 8 1 9 0 5 2 4 5 4 1\n",
+        ),
+        (
+            b"start 2 2 3 3 7 8 5 2 4\nstack 3 1 2 2 3 1 9 0 5 4 1\nstack 2 1 2 2 3 1 9 0 5 4 1\n",
+            b"refused 1\ndone\nend 3 2 3 2 3 1 7 9 8 0 5 5 2 4 4 1\n",
+        ),
+        // itself alone, no axes, and other shapes of as many elements
+        (
+            b"start 0 7\nconcat 0 0\nstack 0 0\nconcat 0 0\nstack 0 1 0 8\nstack 1 2 1 1 8 1 1 9\nstack 0 1 2 3 1 7 8 9\nconcat 0 1 1 3 0 0 0\n",
+            b"refused 1\ndone\ndone\nrefused 5\ndone\nrefused 5\nrefused 5\nend 2 1 3 7 8 9\n",
+        ),
+        // the first cause: the axis, too many axes, the lengths, and the size
+        (
+            b"start 32 1 1 1 1 1 1 1 1 1 1 1 1 1 1 1 1 1 1 1 1 1 1 1 1 1 1 1 1 1 1 1 1 5\nstack 33 1 0 1\nstack 32 1 0 1\nstack 0 0\nconcat 32 1 0 1\nconcat 31 1 0 1\nask shape\n",
+            b"refused 1\nrefused 7\nrefused 7\nrefused 1\nrefused 5\nshape 32 1 1 1 1 1 1 1 1 1 1 1 1 1 1 1 1 1 1 1 1 1 1 1 1 1 1 1 1 1 1 1 1\nend 32 1 1 1 1 1 1 1 1 1 1 1 1 1 1 1 1 1 1 1 1 1 1 1 1 1 1 1 1 1 1 1 1 5\n",
+        ),
+        (
+            b"start 2 9223372036854775807 0\nconcat 0 1 2 1 0\nconcat 0 2 2 9223372036854775807 0 2 9223372036854775807 0\nconcat 0 1 2 1 1 9\nstack 1 1 2 9223372036854775807 0\nstack 1 0\n",
+            b"refused 6\nrefused 6\nrefused 5\nrefused 6\ndone\nend 3 9223372036854775807 1 0\n",
+        ),
+        (
+            b"start 2 2 0\nconcat 1 1 2 2 1 8 9\nconcat 1 2 2 2 0 2 2 1 6 7\n",
+            b"done\ndone\nend 2 2 2 8 6 9 7\n",
+        ),
+    ];
+    written(&rt, rt.alloc(), &table);
+}
+
+#[test]
 fn room(rt: HostRuntime) {
     let table: [(&[u8], &[u8]); 3] = [
         (

@@ -14,7 +14,7 @@ const STARTS: [(&[u8], &[u8]); 3] = [
 ];
 
 // Calls behind each start, and what is written from then on.
-const CALLS: [(&[u8], &[u8]); 9] = [
+const CALLS: [(&[u8], &[u8]); 10] = [
     // each question, and each step on its way
     (
         b"ask shape\nask cut 1 0 _ 2 / elements\nask slice 3 i -1 n s 0 _ -1 / elements\nask collapse 1 2 / elements\nask index 0 1 / elements\nask permute 2 1 0 / elements\nask reverse / first\nask swapaxes 0 1 / get 2 2 0\nask invert 1 / elements\n",
@@ -51,6 +51,10 @@ const CALLS: [(&[u8], &[u8]); 9] = [
     (
         b"select 1 3 2 0 2\nask elements\nremoveindex 0 0\nselect 0 1 1\nremoveindex 1 1\n",
         b"done\narray 2 2 3 3 1 3 6 4 6\ndone\nrefused 2\ndone\nend 2 1 2 6 6\n",
+    ),
+    (
+        b"concat 1 1 2 2 2 7 8 9 0\nconcat 0 1 2 1 3 0 0 0\nstack 1 1 2 2 5 0 1 2 3 4 5 6 7 8 9\nconcat 1 1 3 2 1 5 9 9 9 9 9 8 8 8 8 8\n",
+        b"done\nrefused 5\ndone\ndone\nend 3 2 3 5 1 2 3 7 8 0 1 2 3 4 9 9 9 9 9 4 5 6 9 0 5 6 7 8 9 8 8 8 8 8\n",
     ),
 ];
 

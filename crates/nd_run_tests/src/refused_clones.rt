@@ -297,3 +297,50 @@ fn refused_clones_of_what_is_chosen_and_asked(rt: HostRuntime) -> Result<(), Fai
     }
     Ok(())
 }
+
+// A list with one behind it, and then the two together beside another of that length.
+fn joined<A: Clone + Eq + Drop>(
+    alloc: Global,
+    start: Array<A, IxDyn>,
+    behind: Array<A, IxDyn>,
+    beside: Array<A, IxDyn>,
+) -> Result<(usize, usize), Fail>
+    requires { (x y : A) → A.is_clone x y → y ≡ x }
+{
+    let mut first = Vec::new(alloc);
+    first.push(behind)?;
+    let mut second = Vec::new(alloc);
+    second.push(beside)?;
+    let mut calls = Vec::new(alloc);
+    calls.push(Call::Concatenate(0, first))?;
+    calls.push(Call::Stack(0, second))?;
+    match run(alloc, start, &calls) {
+        Ok((replies, array)) => Ok((replies.len(), array.len())),
+        Err(RunFault::Memory(replies)) => Ok((replies.len(), 0)),
+    }
+}
+
+fn joined_with(alloc: Global, tally: &Tally) -> Result<(usize, usize), Fail> {
+    let start = numbered(alloc, &[1], &[1], tally)?;
+    let behind = numbered(alloc, &[1], &[2], tally)?;
+    let beside = numbered(alloc, &[2], &[3, 4], tally)?;
+    joined(alloc, start, behind, beside)
+}
+
+#[test]
+fn refused_clones_of_what_is_joined(rt: HostRuntime) -> Result<(), Fail> {
+    for (allowed, replies, count) in [
+        (0, 0, 0),
+        (1, 0, 0),
+        (2, 1, 0),
+        (3, 1, 0),
+        (4, 1, 0),
+        (5, 1, 0),
+        (6, 2, 4),
+    ] {
+        let tally = Tally::allowing(allowed);
+        assert_eq!(rt; joined_with(rt.alloc(), &tally)?, (replies, count));
+        assert_eq!(rt; tally.living(), Some(0));
+    }
+    Ok(())
+}

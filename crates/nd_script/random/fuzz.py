@@ -16,7 +16,7 @@ from reading import STEPS, Line, read_script
 from writing import Writer
 
 WORDS = [*STEPS, *"start keep ask write split shape elements get first last equal count reshape fill assign set swap".split()]
-WORDS += "append push reserve select removeindex row col s i n / _ - + 0 -0 00 007 1 -1 2 33 4294967296".split()
+WORDS += "append push reserve select removeindex concat stack row col s i n / _ - + 0 -0 00 007 1 -1 2 33 4294967296".split()
 WORDS += "9223372036854775807 9223372036854775808 -9223372036854775808 -9223372036854775809".split()
 WORDS += "18446744073709551615 18446744073709551616 99999999999999999999999 0x1 1e3 1_0 KEEP row/ //".split()
 BYTES = b" \t\r\x00\x0b\x0c\x1c\x85\xa0\xff-+_/0123456789aceiknrsw"

@@ -213,6 +213,26 @@ def joined(array, name, axis, other):
     return array.joined(axis, other.broadcast(added))
 
 
+def concatenated(array, axis, others):
+    """The arrays behind one another, none of them broadcast."""
+    refuse_if(axis >= array.ndim, AXIS)
+    alike = (replaced(array.shape, axis, 0), array.ndim)
+    refuse_if(any((replaced(other.shape, axis, 0), other.ndim) != alike for other in others), SHAPE)
+    together = sum(table.shape[axis] for table in [array, *others])
+    refuse_if(not has_checked_size(replaced(array.shape, axis, together)), OVERFLOW)
+    for other in others:
+        array = array.joined(axis, other)
+    return array
+
+
+def stacked(array, axis, others):
+    """The arrays beside one another along a new axis."""
+    refuse_if(axis > array.ndim, AXIS)
+    refuse_if(array.ndim == MOST_AXES, TOO_MANY_AXES)
+    refuse_if(any(other.shape != array.shape for other in others), SHAPE)
+    return concatenated(array.with_axis(axis), axis, [other.with_axis(axis) for other in others])
+
+
 def chosen_or_less(array, name, axis, rest):
     """The calls that choose coordinates of an axis, take one out, or ask for room."""
     refuse_if(axis >= array.ndim, AXIS)
@@ -249,6 +269,8 @@ def carried_out(call, array):
         return "done", reshaped(array, *rest)
     if name in ("append", "push"):
         return "done", joined(array, name, *rest)
+    if name in ("concat", "stack"):
+        return "done", {"concat": concatenated, "stack": stacked}[name](array, *rest)
     return "done", chosen_or_less(array, name, *rest)
 
 

@@ -156,6 +156,8 @@ class Line:
             return name, self.list(), order
         if name in ("append", "push"):
             return name, self.natural(), self.array()
+        if name in ("concat", "stack"):
+            return name, self.natural(), self.many(self.natural(), self.array)
         if name in ("reserve", "removeindex"):
             return name, self.natural(), self.natural()
         if name == "select":

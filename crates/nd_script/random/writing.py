@@ -4,7 +4,7 @@ from meaning import Refused, reply_and_rest, listed, stepped, text_of
 from reading import MOST_AXES, STEPS, Line
 from table import product
 
-CALLS = "keep keep ask ask ask write write split reshape append append push reserve select removeindex".split()
+CALLS = "keep keep ask ask ask write write split reshape append append push reserve select removeindex concat stack".split()
 QUESTIONS = "shape elements elements get first last equal count reshape reshape".split()
 MOST_ELEMENTS = 400
 
@@ -159,6 +159,16 @@ class Writer:
         other = [1 if self.is_rare(0.15) else length for length in other]
         return f"{name} {axis} {self.array(self.lengths() if self.is_rare() else other)}"
 
+    def others(self, name, lengths, axis):
+        """Some arrays that mostly can be put behind one of these lengths along an axis, or beside it along a new one."""
+        others = []
+        for _ in range(self.random.choice([0, 1, 1, 2, 2, 3])):
+            other = self.lengths() if self.is_rare(0.05) else list(lengths)
+            if axis < len(other) and (name == "concat" or self.is_rare(0.03)):
+                other[axis] = self.random.choice([0, 1, 1, 2, 3])
+            others.append(self.array(other))
+        return " ".join([f"{name} {axis} {len(others)}", *others])
+
     def call(self, array):
         name = self.random.choice(CALLS)
         if name in ("ask", "write"):
@@ -168,12 +178,16 @@ class Writer:
             return f"keep {self.step(array.shape)}"
         if name == "reshape":
             return self.reshape(array.shape)
+        if name == "stack":
+            return self.others(name, array.shape, self.below(array.ndim + 1))
         axis = self.below(array.ndim)
         length = array.shape[axis] if axis < array.ndim else 2
         if name == "split":
             return self.split(array.shape, axis, length)
         if name in ("append", "push"):
             return self.joined(name, array.shape, axis)
+        if name == "concat":
+            return self.others(name, array.shape, axis)
         if name == "reserve":
             return f"reserve {axis} {self.random.choice([0, 1, 5, 100, 2**64 - 1, 2**63])}"
         if name == "select":

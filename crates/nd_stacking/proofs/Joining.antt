@@ -4,22 +4,20 @@ use Rattle.std.specs.Prelude.{nat_eq, nat_lt, slice_get}
 use Rattle.std.specs.List.{list_all}
 use Rattle.std.specs.Option.{option_map}
 use Rattle.std.specs.Cmp.{unsigned_Decides}
-use Rattle.std.specs.Cmp.Lexicographic.{pointwise}
 use Rattle.std.proofs.Math.Nat.{mul-le-mul_left, mul-le-mul_right}
 use Rattle.std.proofs.lemmas.Bool.{cases_lt, lt-ltb, le-ltb, ltb-true}
 use Rattle.std.proofs.lemmas.List.{length-set, map-append, set-set, set-get_or, get_or-set_same, take_more}
 use Rattle.std.proofs.lemmas.List.Folds.{list_all_more, list_all_at}
-use Rattle.std.proofs.lemmas.List.Sums.{sum_by-cons, sum_by_more, sum_by_more_le}
+use Rattle.std.proofs.lemmas.List.Sums.{sum_by_more, sum_by_more_le}
 use Rattle.std.proofs.lemmas.Option.{slice_get-map, slice_get-get_or, get_or_from_slice_get, slice_get_within}
 use Rattle.std.proofs.lemmas.Slice.Eq.{slice_eq-Decides}
 use Rattle.nd_shape_and_slice.specs.Shape.{HasCheckedSize, in_box, nonzero_product, size_of}
 use Rattle.nd_shape_and_slice.proofs.Sizes.{length_within}
 use Rattle.nd_shape_and_slice.specs.declared.errors.ErrorKind.{ErrorKind}
 use Rattle.nd_shape_and_slice.specs.declared.errors.ErrorKind.TheVariants.{IncompatibleShape, OutOfBounds, Overflow, Unsupported}
-use Rattle.nd_array_core.specs.Joined.{concatenated, concatenated_shape}
+use Rattle.nd_array_core.specs.Joined.{concatenated_shape}
 use Rattle.nd_array_core.specs.Laws.{NothingOutside}
 use Rattle.nd_array_core.specs.Meaning.{Meaning, inside}
-use Rattle.nd_array_core.specs.growth.Appended.{FitsBehind}
 use Rattle.nd_array_core.specs.growth.InTurn.{FitInTurn, joined_in_turn, lengths_along}
 use Rattle.nd_stacking.proofs.Alike.{fits_alike, same_meaning, unbroadcast}
 use Rattle.nd_stacking.specs.Stacking.{concatenation_refusal, concatenation_shape, followed_by, has_size, is_alike_but, two_behind, AreLengthsTogether, IsConcatenation}
@@ -87,7 +85,7 @@ all_more p xs n x at before here =
 pub all_fails : {X : Type 0} (p : X → Bool) (xs : List X) (n : ℕ) (x : X) → slice_get xs n ≡ Some x → p x ≡ false → list_all p xs ≡ false
 all_fails p xs n x at here = list_all_at p xs n x (slice_get_within xs n x at) (ap p (get_or_from_slice_get xs n x x at) ∙ here)
 
-take_next : {X : Type 0} (xs : List X) (n : ℕ) (x : X) → slice_get xs n ≡ Some x → take (n + 1) xs ≡ take n xs ++ x ∷ []
+pub take_next : {X : Type 0} (xs : List X) (n : ℕ) (x : X) → slice_get xs n ≡ Some x → take (n + 1) xs ≡ take n xs ++ x ∷ []
 take_next xs n x at = take_more xs n x (slice_get_within xs n x at) ∙ ap (λ z. take n xs ++ z ∷ []) (get_or_from_slice_get xs n x x at)
 
 -- what stands for the items so far, and for one more
@@ -128,6 +126,20 @@ takes_none ns ls a n e large short long on checked are none refused =
     not_some : (e : ErrorKind) → ◌≡◌ {A = Option ErrorKind} None (Some e) → ⊥
     not_some e same = cc
 
+-- a vector of as many elements as the shape has isn't refused either
+pub takes_all : (ls : List ℕ) (n : ℕ) (e large short long : ErrorKind) → HasCheckedSize ls → n ≡ size_of ls
+    → cond (ltb (nonzero_product ls) (2 ^ 63)) (cond (ltb n (size_of ls)) (Some short) (cond (ltb (size_of ls) n) (Some long) None)) (Some large) ≡ Some e → ⊥
+takes_all ls n e large short long checked count refused =
+    let s = size_of ls in
+    let is : cond (ltb (nonzero_product ls) (2 ^ 63)) (cond (ltb n s) (Some short) (cond (ltb s n) (Some long) None)) (Some large) ≡ None =
+    ap (λ t. cond t (cond (ltb n s) (Some short) (cond (ltb s n) (Some long) None)) (Some large)) (lt-ltb (nonzero_product ls) (2 ^ 63) checked)
+    ∙ (ap (λ t. cond t (Some short) (cond (ltb s n) (Some long) None)) (le-ltb n s (omega (arith, count)))
+    ∙ ap (λ t. cond t (Some long) None) (le-ltb s n (omega (arith, count)))) in
+    not_some e (sym is ∙ refused)
+  where
+    not_some : (e : ErrorKind) → ◌≡◌ {A = Option ErrorKind} None (Some e) → ⊥
+    not_some e same = cc
+
 -- so many lengths have no checked size
 pub too_long : (s : List ℕ) (axis n : ℕ) → axis < length s → 2 ^ 64 ≤ n → HasCheckedSize (set s axis n) → ⊥
 too_long s axis n on many checked =
@@ -147,7 +159,7 @@ pub alike_is : (axis : ℕ) (ns ms : List ℕ) → is_alike_but axis ns ms ≡ t
 alike_is axis ns ms same = (slice_eq-Decides unsigned_Decides (set ms axis (get_or ns axis 0)) ns (is_alike_but axis ns ms) refl).0 same
 
 -- so it is with any length of the axis
-alike_with : (axis n : ℕ) (ns ms : List ℕ) → is_alike_but axis ns ms ≡ true → set ms axis n ≡ set ns axis n
+pub alike_with : (axis n : ℕ) (ns ms : List ℕ) → is_alike_but axis ns ms ≡ true → set ms axis n ≡ set ns axis n
 alike_with axis n ns ms same = sym (set-set ms axis (get_or ns axis 0) n) ∙ ap (λ s. set s axis n) (alike_is axis ns ms same)
 
 module _ {A : Type 0} where

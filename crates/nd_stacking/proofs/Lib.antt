@@ -1,4 +1,6 @@
 pub mod Boxed
 pub mod Alike
 pub mod Joining
+pub mod Runs
 pub mod Stacked
+pub mod Woven

@@ -1,6 +1,6 @@
 -- Arrays of one shape with an axis of length 1 put in, as arrays that fit behind one another.
-use Rattle.std.proofs.Common.{◌≡◌, ℕ, zero, suc, ◌+◌, ◌<◌, ◌≤◌, ◌^◌, Bool, true, false, cond, leb, List, [], ◌∷◌, length, get_or, set, map, Option, None, Some, refl, ap, sym, subst, ◌∙◌, arith}
-use Rattle.std.specs.Prelude.{◌&&◌, nat_eq, nat_le, nat_lt, slice_get}
+use Rattle.std.proofs.Common.{◌≡◌, ℕ, zero, suc, ◌+◌, ◌<◌, ◌≤◌, ◌^◌, Bool, true, false, cond, leb, List, [], ◌∷◌, length, get_or, set, map, None, Some, refl, ap, sym, subst, ◌∙◌, arith}
+use Rattle.std.specs.Prelude.{◌&&◌, nat_eq, slice_get}
 use Rattle.std.specs.List.{insert, list_all}
 use Rattle.std.specs.Cmp.{unsigned_Decides}
 use Rattle.std.specs.Cmp.Lexicographic.{pointwise}
@@ -10,12 +10,11 @@ use Rattle.std.proofs.lemmas.List.Sums.{sum_by-cons}
 use Rattle.std.proofs.lemmas.Slice.Eq.{slice_eq-Decides}
 use Rattle.nd_shape_and_slice.specs.Shape.{HasCheckedSize, nonzero_product}
 use Rattle.nd_shape_and_slice.specs.Maps.{inserted_index, inserted_shape}
-use Rattle.nd_shape_and_slice.specs.declared.errors.ErrorKind.{ErrorKind}
 use Rattle.nd_shape_and_slice.specs.declared.errors.ErrorKind.TheVariants.{IncompatibleShape, OutOfBounds, Overflow}
 use Rattle.nd_array_core.specs.Laws.{with_axis_inserted}
 use Rattle.nd_array_core.specs.Meaning.{Meaning}
 use Rattle.nd_array_core.specs.growth.InTurn.{lengths_along, ClonesOfEachAreEqual}
-use Rattle.nd_stacking.specs.Stacking.{concatenation_refusal, concatenation_shape, has_size, is_alike_but, stack_refusal, AreLengthsTogether, HasRoomForAxis}
+use Rattle.nd_stacking.specs.Stacking.{concatenation_shape, has_size, is_alike_but, stack_refusal, AreLengthsTogether, HasRoomForAxis}
 use Rattle.nd_stacking.proofs.Joining.{all_pass, cause, false_from_not, inside_some, mapped_back, passed}
 
 -- a length put in, and another one in its place

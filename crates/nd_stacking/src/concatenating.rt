@@ -4,9 +4,12 @@ ghost use Rattle.std.specs.Prelude.{◌≡◌, ◌<◌, None, IfOk, IfErr, OnOk,
 ghost use Rattle.nd_shape_and_slice.specs.Shape.{HasCheckedSize};
 ghost use Rattle.nd_array_core.specs.Meaning.{meaning_of, shape_of};
 ghost use Rattle.nd_array_core.specs.growth.InTurn.{meanings_of, ClonesOfEachAreEqual};
+ghost use Rattle.nd_array_core.specs.reshape.RunSlices.{IsStandardArray};
 ghost use Rattle.nd_stacking.specs.Stacking.{concatenation_refusal, AreLengthsTogether, IsConcatenation, Tells};
+ghost use Rattle.nd_stacking.specs.Weaving.{size_before, size_behind, EachIs, IsByRank};
 
 use crate::fitting::concatenated_dim;
+use crate::weaving::{are_long, are_standard, sizes_beside, woven};
 use nd_array_core::laws::nothing_outside;
 use nd_array_core::{Array, ArrayError, ArrayView};
 use nd_shape_and_slice::{Axis, Dimension, NoMemory, RemoveAxis};
@@ -34,8 +37,8 @@ fn room_for<A: Drop, D: Dimension>(
     }
 }
 
-/// The arrays behind one another along an axis, where these are the lengths of the result.
-pub(crate) fn joined<A: Clone + Drop, D: Dimension>(
+/// The arrays behind one another along an axis, where these are the lengths of the result: each array's elements in turn.
+fn appended<A: Clone + Drop, D: Dimension>(
     alloc: Global,
     axis: Axis,
     dim: D,
@@ -51,6 +54,54 @@ pub(crate) fn joined<A: Clone + Drop, D: Dimension>(
         Ok(()) => Ok(all),
         Err((_, ArrayError::NoMemory)) => Err(NoMemory),
         Err((_, ArrayError::Shape(_))) => unreachable!(),
+    }
+}
+
+/// The same where each array lies in row-major order, in that order too: run by run.
+fn laid_by_runs<A: Clone + Drop, D: Dimension>(
+    alloc: Global,
+    axis: Axis,
+    dim: D,
+    sizes: (usize, usize),
+    arrays: &[ArrayView<'_, A, D>],
+) -> Result<Array<A, D>, NoMemory>
+    requires lengths { AreLengthsTogether axis.0 (meanings_of arrays.now) (D.lengths dim) }
+    requires clones { ClonesOfEachAreEqual A.is_clone (meanings_of arrays.now) }
+    requires standard { EachIs (λ a. IsStandardArray a) arrays.now }
+    requires ranks { EachIs IsByRank (meanings_of arrays.now) }
+    requires before { sizes.0 ≡ size_before axis.0 (D.lengths dim) }
+    requires behind { sizes.1 ≡ size_behind axis.0 (D.lengths dim) }
+    ensures { IfOk result (λ a. IsConcatenation axis.0 (meanings_of arrays.now) (meaning_of a)) }
+{
+    nothing_outside(&arrays[0]);
+    let count = dim.size();
+    let items = woven(alloc, arrays, axis.0, sizes.1, sizes.0, count)?;
+    match Array::from_shape_vec(dim, items) {
+        Ok(all) => Ok(all),
+        Err(_) => unreachable!(),
+    }
+}
+
+/// The same of any arrays: run by run where each lies in row-major order and its runs are long, else array after array.
+pub(crate) fn joined<A: Clone + Drop, D: Dimension>(
+    alloc: Global,
+    axis: Axis,
+    dim: D,
+    arrays: &[ArrayView<'_, A, D>],
+) -> Result<Array<A, D>, NoMemory>
+    requires lengths { AreLengthsTogether axis.0 (meanings_of arrays.now) (D.lengths dim) }
+    requires clones { ClonesOfEachAreEqual A.is_clone (meanings_of arrays.now) }
+    ensures { IfOk result (λ a. IsConcatenation axis.0 (meanings_of arrays.now) (meaning_of a)) }
+{
+    let count = dim.size();
+    if count == 0 || !are_standard(arrays) {
+        return appended(alloc, axis, dim, arrays);
+    }
+    match sizes_beside(dim.slice(), axis.0) {
+        Some(sizes) if are_long(count, sizes.0, arrays.len()) => {
+            laid_by_runs(alloc, axis, dim, sizes, arrays)
+        }
+        _ => appended(alloc, axis, dim, arrays),
     }
 }
 

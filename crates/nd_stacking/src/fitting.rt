@@ -37,7 +37,7 @@ fn are_alike<A, D: Dimension>(arrays: &[ArrayView<'_, A, D>], first: &D, axis: u
 }
 
 /// The length of an axis; 0 where there is no such axis.
-fn length_at(shape: &[usize], axis: usize) -> usize
+pub(crate) fn length_at(shape: &[usize], axis: usize) -> usize
     ensures { result ≡ slice_index shape.now axis }
 {
     match shape.get(axis) {

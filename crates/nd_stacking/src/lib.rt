@@ -6,6 +6,7 @@
 mod concatenating;
 mod fitting;
 mod stacking;
+mod weaving;
 
 pub use concatenating::concatenate;
 pub use stacking::stack;

@@ -3,6 +3,8 @@
 
 mod callers;
 #[cfg(test)]
+mod layouts;
+#[cfg(test)]
 mod refused_clones;
 #[cfg(test)]
 mod refused_memory;

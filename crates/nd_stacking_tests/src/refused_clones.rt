@@ -16,12 +16,13 @@ fn counted<'a>(
     tally: &'a Tally,
 ) -> Array2<Refusing<'a>> {
     match Refusing::listed(rt.alloc(), items, tally) {
-        Ok(items) => Array2::from_shape_vec((2, 2), items).expect(rt, "shape"),
+        Ok(items) => Array2::from_shape_vec((2, 4), items).expect(rt, "shape"),
         Err(_) => rt.panic("memory"),
     }
 }
 
-/// Whether two tables could be joined: along an axis that they have, or from 2 on along a new one.
+/// Whether two tables could be joined: along an axis that they have, from 2 on along a new one, or from 5 on turned, where
+/// elements don't lie in row-major order.
 fn joins<'a, A: Numbered + Clone + Drop>(
     alloc: Global,
     one: &'a Array2<A>,
@@ -35,21 +36,24 @@ fn joins<'a, A: Numbered + Clone + Drop>(
     if way < 2 {
         return concatenate(alloc, Axis(way), &[first, other.view()]).is_ok();
     }
-    stack(alloc, Axis(way - 2), &[first, other.view()]).is_ok()
+    if way < 5 {
+        return stack(alloc, Axis(way - 2), &[first, other.view()]).is_ok();
+    }
+    concatenate(alloc, Axis(way - 5), &[one.t(), other.t()]).is_ok()
 }
 
 #[test]
 fn clones_refused_in_turn(rt: HostRuntime) {
-    for way in 0..5usize {
-        for allowed in 0..=8u64 {
+    for way in 0..7usize {
+        for allowed in 0..=16u64 {
             let tally = Tally::allowing(allowed);
             {
-                let one = counted(&rt, &[1, 2, 3, 4], &tally);
-                let other = counted(&rt, &[5, 6, 7, 8], &tally);
+                let one = counted(&rt, &[1, 2, 3, 4, 5, 6, 7, 8], &tally);
+                let other = counted(&rt, &[9, 10, 11, 12, 13, 14, 15, 16], &tally);
                 let joined = joins(rt.alloc(), &one, &other, way);
-                assert_eq!(rt; (joined, tally.living()), (allowed == 8, Some(8)));
-                assert!(rt; shows(&one, [2, 2], &[1, 2, 3, 4]));
-                assert!(rt; shows(&other, [2, 2], &[5, 6, 7, 8]));
+                assert_eq!(rt; (joined, tally.living()), (allowed == 16, Some(16)));
+                assert!(rt; shows(&one, [2, 4], &[1, 2, 3, 4, 5, 6, 7, 8]));
+                assert!(rt; shows(&other, [2, 4], &[9, 10, 11, 12, 13, 14, 15, 16]));
             }
             assert_eq!(rt; (allowed, tally.living()), (allowed, Some(0)));
         }

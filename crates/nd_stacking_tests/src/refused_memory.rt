@@ -18,12 +18,16 @@ fn joins<'a>(
     let (_rows, _columns) = first.dim();
     if is_new {
         match stack(alloc, Axis(0), &[first, other.view()]) {
-            Ok(joined) => Some(joined.len() == 8),
+            Ok(joined) => Some(joined.len() == 16),
             Err(_) => None,
         }
     } else {
         match concatenate(alloc, Axis(1), &[first, other.view()]) {
-            Ok(joined) => Some(shows(&joined, [2, 4], &[1, 2, 5, 6, 3, 4, 7, 8])),
+            Ok(joined) => Some(shows(
+                &joined,
+                [2, 8],
+                &[1, 2, 3, 4, 9, 10, 11, 12, 5, 6, 7, 8, 13, 14, 15, 16],
+            )),
             Err(_) => None,
         }
     }
@@ -32,11 +36,11 @@ fn joins<'a>(
 #[test]
 fn tables_joined(rt: HostRuntime) -> Result<(), Fail> {
     for (is_new, refused) in [(false, "refused: concatenate"), (true, "refused: stack")] {
-        let one: Array2<u64> = array_of((2, 2), numbers(rt.alloc(), 1, 4)?)?;
-        let other: Array2<u64> = array_of((2, 2), numbers(rt.alloc(), 5, 4)?)?;
+        let one: Array2<u64> = array_of((2, 4), numbers(rt.alloc(), 1, 8)?)?;
+        let other: Array2<u64> = array_of((2, 4), numbers(rt.alloc(), 9, 8)?)?;
         let joined = joins(rt.alloc(), &one, &other, is_new);
-        assert!(rt; shows(&one, [2, 2], &[1, 2, 3, 4]));
-        assert!(rt; shows(&other, [2, 2], &[5, 6, 7, 8]));
+        assert!(rt; shows(&one, [2, 4], &[1, 2, 3, 4, 5, 6, 7, 8]));
+        assert!(rt; shows(&other, [2, 4], &[9, 10, 11, 12, 13, 14, 15, 16]));
         match joined {
             Some(right) => assert!(rt; right),
             None => return Err(refused.into()),

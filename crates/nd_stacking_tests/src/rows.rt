@@ -7,7 +7,7 @@ use nd_test_arrays::made;
 use std::alloc::Global;
 
 /// Whether an answer has these lengths, and these elements in row-major order.
-fn shows<D: Dimension>(
+pub(crate) fn shows<D: Dimension>(
     alloc: Global,
     answer: &Result<Array<u64, D>, ArrayError>,
     shape: &[usize],

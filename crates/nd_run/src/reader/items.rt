@@ -1,12 +1,13 @@
 //! What is left of a line, and words, numbers, lists and arrays from its front.
 
-ghost use Rattle.std.specs.Prelude.{◌≡◌, ◌<◌, ◌≤◌, ℕ, List, Option, length};
+ghost use Rattle.std.specs.Prelude.{◌≡◌, ◌<◌, ◌≤◌, ℕ, List, Option, length, map};
 ghost use Rattle.nd_shape_and_slice.specs.Shape.{HasCheckedSize, size_of};
 ghost use Rattle.nd_array_core.specs.Meaning.{meaning_of};
+ghost use Rattle.nd_run.specs.Calls.{boxed};
 ghost use Rattle.nd_run.specs.Grammar.{array_of};
 ghost use Rattle.nd_text.specs.Numerals.{nat_of, int_of};
 ghost use Rattle.nd_text.specs.Words.{words_of};
-ghost use Rattle.nd_run.specs.Reading.{Gives, IsRead, TakesWords, word_at, first_as, many_at, counted_at, end_of, slice_at, element_at, order_at, lengths_at, parts_at, array_at, checked_size, keyword_at, slash_at, begins_step, read_to_end};
+ghost use Rattle.nd_run.specs.Reading.{Gives, IsRead, TakesWords, word_at, first_as, many_at, counted_at, end_of, slice_at, element_at, order_at, lengths_at, parts_at, array_at, arrays_at, checked_size, keyword_at, slash_at, begins_step, read_to_end};
 
 use crate::reader::Held;
 use crate::reader::fault::LineFault;
@@ -165,6 +166,30 @@ impl<'a> Line<'a> {
         ensures { IsRead (λ x. meaning_of x.value) result self.new (array_at self.old) }
     {
         Ok(Box::new(alloc, self.array(alloc)?)?)
+    }
+
+    /// As many arrays as asked for, boxed. A line with fewer words is bad; no memory is taken for it.
+    fn boxes(&mut self, alloc: Global, count: usize) -> Result<Vec<Held>, LineFault>
+        ensures read { IsRead (λ x. map (boxed meaning_of) x.items) result self.new (many_at array_at count self.old) }
+        ensures few { length self.old < count → result ≡ Err LineFault.Bad }
+    {
+        if !has_words(self.rest, count) {
+            return Err(LineFault::Bad);
+        }
+        let mut arrays = Vec::with_capacity(alloc, count)?;
+        for _ in 0..count {
+            arrays.push(self.boxed(alloc)?)?;
+        }
+        Ok(arrays)
+    }
+
+    /// A count, and then as many arrays.
+    #[tactic(auto, unfolding(crate::specs::Reading::counted_at))]
+    pub fn arrays(&mut self, alloc: Global) -> Result<Vec<Held>, LineFault>
+        ensures { IsRead (λ x. map (boxed meaning_of) x.items) result self.new (arrays_at self.old) }
+    {
+        let count = self.read::<usize>()?;
+        self.boxes(alloc, count)
     }
 
     /// An ARRAY: its lengths, and its elements in row-major order.

@@ -128,6 +128,8 @@ impl<'a> Line<'a> {
             Keyword::Append => Ok(Call::Append(self.read()?, self.boxed(alloc)?)),
             Keyword::Push => Ok(Call::Push(self.read()?, self.boxed(alloc)?)),
             Keyword::Reserve => Ok(Call::Reserve(self.read()?, self.read()?)),
+            Keyword::Concat => Ok(Call::Concatenate(self.read()?, self.arrays(alloc)?)),
+            Keyword::Stack => Ok(Call::Stack(self.read()?, self.arrays(alloc)?)),
             _ => Err(LineFault::Bad),
         }
     }

@@ -23,3 +23,9 @@ returns-in-Append g c =
 
 pub returns-in-Push : goal.returns-in-Push
 returns-in-Push g c = rw (c.in-Push.is, ← c.array-in-Push.ensures) c.push.ensures
+
+pub returns-in-Concatenate : goal.returns-in-Concatenate
+returns-in-Concatenate g c = rw (c.in-Concatenate.is, ← c.as_slice-in-Concatenate.ensures.value) c.concatenate.ensures
+
+pub returns-in-Stack : goal.returns-in-Stack
+returns-in-Stack g c = rw (c.in-Stack.is, ← c.as_slice-in-Stack.ensures.value) c.stack.ensures

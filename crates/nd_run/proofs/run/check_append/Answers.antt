@@ -1,4 +1,4 @@
-use Rattle.std.proofs.Common.{◌≡◌, ◌<◌, List, ℕ, Bool, true, false, cond, length, Option, None, Some, refl, rules, subst}
+use Rattle.std.proofs.Common.{◌≡◌, ◌<◌, List, ℕ, Bool, true, false, cond, length, None, Some, refl, rules, subst}
 use Rattle.nd_array_core.specs.Meaning.{shape_of}
 use Rattle.nd_array_core.specs.growth.Appended.{FitsBehind}
 use Rattle.nd_array_core.proofs.Stretched.{fits_on}

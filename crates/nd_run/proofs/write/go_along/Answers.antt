@@ -1,10 +1,10 @@
-use Rattle.std.proofs.Common.{◌≡◌, ◌∙◌, sym, ap, None}
+use Rattle.std.proofs.Common.{◌≡◌, ◌∙◌, sym, ap, map, None}
 use Rattle.nd_array_core.specs.Meaning.{shape_of, placed_array}
 use Rattle.nd_run.specs.Calls.{asked_step}
 use Rattle.nd_run.specs.Steps.{keep_tests, keep_refusal}
 use Rattle.nd_run.proofs.StepTests.{keep_allows}
-use Rattle.nd_run.specs.Placing.{places_in}
-use Rattle.nd_run.proofs.WritePaths.{is_none, led_more, led_stops_at, led_all}
+use Rattle.nd_paths.specs.Paths.{places_in}
+use Rattle.nd_run.proofs.WritePaths.{is_none, led_more, led_stops_at, led_all, lies_along}
 use Rattle.nd_run.proofs.write.go_along.Goals as goal
 
 pub returns-then-is_some-clause-refused : goal.returns-then-is_some-clause-refused
@@ -20,7 +20,7 @@ loop-step-preserved-then-changes_axes g c =
     record {
       storage = c.change_axes.ensures.storage ∙ c.loop-step.invariant.storage;
       led = led_more keep_tests c.args.path.now c.loop-step.step-index c.step-item.result (places_in (placed_array c.args.array)) (places_in (placed_array c.loop-step.array)) (places_in (placed_array c.change_axes.new.array))
-          c.loop-step-test.true (sym c.step-item.is) allowed c.change_axes.ensures.shape c.change_axes.ensures.places c.loop-step.invariant.led;
+          c.loop-step-test.true (sym c.step-item.is) allowed c.change_axes.ensures.shape c.change_axes.ensures.source c.loop-step.invariant.led;
     }
 
 pub loop-step-preserved : goal.loop-step-preserved
@@ -31,11 +31,13 @@ loop-step-preserved g c =
     record {
       storage = c.take_step-array.ensures.storage ∙ c.loop-step.invariant.storage;
       led = led_more keep_tests c.args.path.now c.loop-step.step-index c.step-item.result (places_in (placed_array c.args.array)) (places_in (placed_array c.loop-step.array)) (places_in (placed_array c.take_step-array.result))
-          c.loop-step-test.true (sym c.step-item.is) allowed c.take_step-array.ensures.shape c.take_step-array.ensures.places c.loop-step.invariant.led;
+          c.loop-step-test.true (sym c.step-item.is) allowed c.take_step-array.ensures.shape c.take_step-array.ensures.source c.loop-step.invariant.led;
     }
 
 pub returns-clause-refused : goal.returns-clause-refused
 returns-clause-refused g c = sym (led_all keep_tests keep_allows c.paths_lead_along.ensures c.args.path.now c.loop-step.step-index (places_in (placed_array c.args.array)) (places_in (placed_array c.loop-step.array)) c.loop-step-test.false c.loop-step.invariant.led).0
 
-pub returns-clause-along : goal.returns-clause-along
-returns-clause-along g c = λ _. (led_all keep_tests keep_allows c.paths_lead_along.ensures c.args.path.now c.loop-step.step-index (places_in (placed_array c.args.array)) (places_in (placed_array c.loop-step.array)) c.loop-step-test.false c.loop-step.invariant.led).1
+pub returns-clause-end : goal.returns-clause-end
+returns-clause-end g c = λ _.
+    let led = (led_all keep_tests keep_allows c.paths_lead_along.ensures c.args.path.now c.loop-step.step-index (places_in (placed_array c.args.array)) (places_in (placed_array c.loop-step.array)) c.loop-step-test.false c.loop-step.invariant.led).1 in
+    (led.0, lies_along (map asked_step c.args.path.now) (places_in (placed_array c.args.array)) (places_in (placed_array c.loop-step.array)) led c.elements_have_places.ensures.places)

@@ -1,0 +1,70 @@
+-- Tasks on the part of an array that a path leads to, and on the two halves of a split: what they do, over meanings alone.
+use Rattle.std.specs.Prelude.{◌≡◌, ℕ, List, Option, None, Some, Result, Ok, Err}
+use Rattle.nd_shape_and_slice.specs.Maps.{lower_shape, upper_shape, upper_index}
+use Rattle.nd_shape_and_slice.specs.declared.dimension.Dimension as dimension
+use Rattle.nd_shape_and_slice.specs.declared.dimension.AxisCount as axis_count
+use Rattle.nd_shape_and_slice.specs.declared.dimension.StrideList as stride_list
+use Rattle.nd_storage.specs.declared.storage.Data as data_trait
+use Rattle.nd_array_core.specs.declared.base.array.ArrayBase.{ArrayBase}
+use Rattle.nd_array_core.specs.Meaning.{Meaning, inside, meaning_through, shape_of, storage_of, place_at}
+use Rattle.nd_array_core.specs.PlacedArray.{PlacedArray, element_placed, left_at}
+use Rattle.nd_array_core.specs.scoped.Tasks.{OthersKeep}
+
+-- a path: the cause for which an array of these lengths refuses it, if it does; the lengths at its end; and the index of the
+-- array that an index at its end names
+pub record PathMap (E : Type 0) : Type 0 where
+  pub refusal : List ℕ → Option E
+  pub shape : List ℕ → List ℕ
+  pub source : List ℕ → List ℕ → List ℕ
+
+-- what is seen at its end
+abbrev pub seen_along : {A E : Type 0} → PathMap E → Meaning A → Meaning A
+seen_along p m = meaning_through (p.shape m.shape) (p.source m.shape) m
+
+-- what a task asks holds of it, where the path isn't refused
+abbrev pub AsksAlong : {A E : Type 0} → PathMap E → (Meaning A → Type 0) → Meaning A → Type 0
+AsksAlong p asks m = p.refusal m.shape ≡ None → asks (seen_along p m)
+
+-- the task is done there, and each index that none at the end names keeps its element; or the path is refused, and all stays
+abbrev pub IsDoneAlong : {A E Q : Type 0} → PathMap E → (Meaning A → Meaning A → Q → Type 0) → Meaning A → Meaning A → Result Q E → Type 0
+IsDoneAlong p done old new (Ok answer) = (p.refusal old.shape ≡ None) × done (seen_along p old) (seen_along p new) answer × OthersKeep (p.shape old.shape) (p.source old.shape) old.at new.at
+IsDoneAlong p done old new (Err cause) = (p.refusal old.shape ≡ Some cause) × (new ≡ old)
+
+-- what is seen below a coordinate of an axis, and from it on
+abbrev pub seen_below : {A : Type 0} → ℕ → ℕ → Meaning A → Meaning A
+seen_below axis k m = meaning_through (lower_shape m.shape axis k) (λ i. i) m
+
+abbrev pub seen_from : {A : Type 0} → ℕ → ℕ → Meaning A → Meaning A
+seen_from axis k m = meaning_through (upper_shape m.shape axis k) (upper_index axis k) m
+
+-- what a task asks holds of the two
+abbrev pub AsksOfTwo : {A : Type 0} → ℕ → ℕ → (Meaning A → Meaning A → Type 0) → Meaning A → Type 0
+AsksOfTwo axis k asks m = asks (seen_below axis k m) (seen_from axis k m)
+
+-- it is done with them, and answered
+abbrev pub IsDoneWithTwo : {A Q : Type 0} → ℕ → ℕ → (Meaning A → Meaning A → Meaning A → Meaning A → Q → Type 0) → Meaning A → Meaning A → Q → Type 0
+IsDoneWithTwo axis k done old new answer = done (seen_below axis k old) (seen_from axis k old) (seen_below axis k new) (seen_from axis k new) answer
+
+-- ---- what an array that lies so means, and what it means once its storage holds what w's does
+abbrev pub meaning_in : {A : Type 0} → PlacedArray A → Meaning A
+meaning_in v = record { shape = v.shape; at = element_placed v }
+
+abbrev pub meaning_left : {A : Type 0} → PlacedArray A → PlacedArray A → Meaning A
+meaning_left v w = record { shape = v.shape; at = left_at v w }
+
+-- the places of an array that lies so
+abbrev pub places_in : {A : Type 0} → PlacedArray A → Meaning ℕ
+places_in v = record { shape = v.shape; at = v.place }
+
+module _ {S D A T P R L M : Type 0} {s : data_trait.Ghosts S A} {d : dimension.Ghosts D P R L M} {n : axis_count.Ghosts D} {r : stride_list.Ghosts R} {t : stride_list.Ghosts T} where
+  -- b lies in what a lies in
+  abbrev pub LiesWith : ArrayBase S D T A P R L M s d n r t → ArrayBase S D T A P R L M s d n r t → Type 0
+  LiesWith a b = storage_of b ≡ storage_of a
+
+  -- each index of b lies where the index of a that the map names does
+  abbrev pub LiesThrough : ArrayBase S D T A P R L M s d n r t → (List ℕ → List ℕ) → ArrayBase S D T A P R L M s d n r t → Type 0
+  LiesThrough a source b = (i : List ℕ) → place_at b i ≡ inside (shape_of b) i (place_at a (source i))
+
+  -- b is where the path leads from a
+  abbrev pub EndsAlong : {E : Type 0} → PathMap E → ArrayBase S D T A P R L M s d n r t → ArrayBase S D T A P R L M s d n r t → Type 0
+  EndsAlong p a b = (shape_of b ≡ p.shape (shape_of a)) × LiesThrough a (p.source (shape_of a)) b

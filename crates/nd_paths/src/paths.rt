@@ -1,0 +1,192 @@
+//! Calls that run a task on the part of an array that a path leads to, or on the two parts of an axis. A task is written once
+//! for whatever holds the elements, and its clauses are over meanings.
+#![tactic(auto)]
+
+ghost use Rattle.std.specs.Prelude.{◌≡◌, ◌≤◌, ◌<◌, ℕ, None, List, length, slice_index};
+ghost use Rattle.nd_array_core.specs.Meaning.{Meaning, shape_of, meaning_of, storage_of, placed_array};
+ghost use Rattle.nd_array_core.specs.base.Writes.{KeepsFrame};
+ghost use Rattle.nd_array_core.specs.scoped.Tasks.{view_frame, lent_frame, lent_view, view_left, CanBeSeen};
+ghost use Rattle.nd_paths.specs.Paths.{PathMap, AsksAlong, IsDoneAlong, AsksOfTwo, IsDoneWithTwo, meaning_in, meaning_left, LiesWith, EndsAlong};
+
+use nd_array_core::laws::{distinct_places, elements_have_places};
+use nd_array_core::scoped::{LentView, PairTask, ViewTask};
+use nd_array_core::{ArrayBase, Data, DataMut, ViewMutRepr};
+use nd_shape_and_slice::{Axis, Dimension, IxDyn};
+
+/// A way from an array to a part of it: layout calls, one after another, each of which may be refused.
+pub trait ArrayPath: Drop {
+    /// The cause of a refusal.
+    type Refusal;
+
+    /// Where it leads.
+    ghost leads: { Self → PathMap Self.Refusal };
+
+    /// Follows it to its end, or to the first refused call.
+    fn follow<S: Data>(
+        self,
+        array: ArrayBase<S, IxDyn>,
+    ) -> (ArrayBase<S, IxDyn>, Option<Self::Refusal>)
+        ensures refused { result.1 ≡ (leads self).refusal (shape_of array) }
+        ensures storage { LiesWith array result.0 }
+        ensures end { result.1 ≡ None → EndsAlong (leads self) array result.0 };
+}
+
+/// What a caller does with an array, whatever holds its elements.
+pub trait ArrayTask<A>: Drop {
+    /// The task's result.
+    type Answer;
+
+    /// The task's condition on the array.
+    ghost pre: { Self → Meaning A → Type 0 };
+    /// What holds of the array before and after, and of the result.
+    ghost post: { Self → Meaning A → Meaning A → Self.Answer → Type 0 };
+
+    /// Runs the task.
+    fn run<S: DataMut<Elem = A>>(self, array: &mut ArrayBase<S, IxDyn>) -> Self::Answer
+        requires { pre self (meaning_of array.old) }
+        ensures frame { KeepsFrame S.frame array.old array.new }
+        ensures done { post self (meaning_of array.old) (meaning_of array.new) result };
+}
+
+/// What a caller does with two arrays, whatever holds their elements.
+pub trait PairOfArraysTask<A>: Drop {
+    /// The task's result.
+    type Answer;
+
+    /// The task's condition on the arrays.
+    ghost pre: { Self → Meaning A → Meaning A → Type 0 };
+    /// What holds of the arrays before, of the same after, and of the result.
+    ghost post: { Self → Meaning A → Meaning A → Meaning A → Meaning A → Self.Answer → Type 0 };
+
+    /// Runs the task.
+    fn run<S: DataMut<Elem = A>>(
+        self,
+        one: &mut ArrayBase<S, IxDyn>,
+        two: &mut ArrayBase<S, IxDyn>,
+    ) -> Self::Answer
+        requires { pre self (meaning_of one.old) (meaning_of two.old) }
+        ensures one_frame { KeepsFrame S.frame one.old one.new }
+        ensures two_frame { KeepsFrame S.frame two.old two.new }
+        ensures done { post self (meaning_of one.old) (meaning_of two.old) (meaning_of one.new) (meaning_of two.new) result };
+}
+
+/// Follows a path and runs a task at its end.
+fn run_along<S: DataMut, P: ArrayPath, K: ArrayTask<S::Elem>>(
+    array: ArrayBase<S, IxDyn>,
+    path: P,
+    task: K,
+) -> (ArrayBase<S, IxDyn>, Result<K::Answer, P::Refusal>)
+    requires { AsksAlong (P.leads path) (K.pre task) (meaning_in (placed_array array)) }
+    ensures frame { S.frame (storage_of result.0) ≡ S.frame (storage_of array) }
+    ensures done { IsDoneAlong (P.leads path) (K.post task) (meaning_in (placed_array array)) (meaning_left (placed_array array) (placed_array result.0)) result.1 }
+{
+    distinct_places(&array);
+    let (mut end, refused) = path.follow(array);
+    match refused {
+        Some(cause) => (end, Err(cause)),
+        None => {
+            elements_have_places(&end);
+            let answer = task.run(&mut end);
+            elements_have_places(&end);
+            (end, Ok(answer))
+        }
+    }
+}
+
+/// A task at the end of a path, done with a mutable view of the array.
+#[derive(Drop)]
+struct Along<P: Drop, K: Drop> {
+    path: P,
+    task: K,
+}
+
+impl<A, D: Dimension, P: ArrayPath, K: ArrayTask<A>> ViewTask<A, D> for Along<P, K> {
+    type Answer = Result<K::Answer, P::Refusal>;
+
+    ghost pre = { λ both v. AsksAlong (P.leads both.path) (K.pre both.task) (meaning_in v) };
+
+    ghost post = { λ both v w answer. IsDoneAlong (P.leads both.path) (K.post both.task) (meaning_in v) (meaning_left v w) answer };
+
+    fn run(
+        self,
+        lent: LentView<'_, A, D, D::Strides>,
+    ) -> (ViewMutRepr<'_, A>, Result<K::Answer, P::Refusal>)
+        requires sound { CanBeSeen D.lengths D.Strides.strides_of lent }
+        requires pre { AsksAlong (P.leads self.path) (K.pre self.task) (meaning_in (lent_view D.lengths D.Strides.strides_of lent)) }
+        ensures frame { view_frame result.0 ≡ lent_frame lent.entry }
+        ensures done { IsDoneAlong (P.leads self.path) (K.post self.task) (meaning_in (lent_view D.lengths D.Strides.strides_of lent.entry)) (meaning_left (lent_view D.lengths D.Strides.strides_of lent.entry) (view_left D.lengths D.Strides.strides_of lent.entry result.0)) result.1 }
+    {
+        let view = lent.into_view().into_dyn();
+        elements_have_places(&view);
+        let (end, answer) = run_along(view, self.path, self.task);
+        (end.into_storage(), answer)
+    }
+}
+
+/// A task on two arrays, done with mutable views of them.
+#[derive(Drop)]
+struct Halves<K: Drop> {
+    task: K,
+}
+
+impl<A, D: Dimension, K: PairOfArraysTask<A>> PairTask<A, D, D> for Halves<K> {
+    type Answer = K::Answer;
+
+    ghost pre = { λ both v v'. K.pre both.task (meaning_in v) (meaning_in v') };
+
+    ghost post = { λ both v v' w w' answer. K.post both.task (meaning_in v) (meaning_in v') (meaning_left v w) (meaning_left v' w') answer };
+
+    fn run<'b>(
+        self,
+        one: LentView<'b, A, D, D::Strides>,
+        two: LentView<'b, A, D, D::Strides>,
+    ) -> (ViewMutRepr<'b, A>, ViewMutRepr<'b, A>, K::Answer)
+        requires one { CanBeSeen D.lengths D.Strides.strides_of one }
+        requires two { CanBeSeen D.lengths D.Strides.strides_of two }
+        requires pre { K.pre self.task (meaning_in (lent_view D.lengths D.Strides.strides_of one)) (meaning_in (lent_view D.lengths D.Strides.strides_of two)) }
+        ensures one_frame { view_frame result.0 ≡ lent_frame one.entry }
+        ensures two_frame { view_frame result.1 ≡ lent_frame two.entry }
+        ensures done { K.post self.task (meaning_in (lent_view D.lengths D.Strides.strides_of one.entry)) (meaning_in (lent_view D.lengths D.Strides.strides_of two.entry)) (meaning_left (lent_view D.lengths D.Strides.strides_of one.entry) (view_left D.lengths D.Strides.strides_of one.entry result.0)) (meaning_left (lent_view D.lengths D.Strides.strides_of two.entry) (view_left D.lengths D.Strides.strides_of two.entry result.1)) result.2 }
+    {
+        let mut lower = one.into_view().into_dyn();
+        let mut upper = two.into_view().into_dyn();
+        elements_have_places(&lower);
+        elements_have_places(&upper);
+        let answer = self.task.run(&mut lower, &mut upper);
+        elements_have_places(&lower);
+        elements_have_places(&upper);
+        (lower.into_storage(), upper.into_storage(), answer)
+    }
+}
+
+/// Runs the task on the part of the array that the path leads to, as a mutable view for the length of the call. Each index
+/// that none of the part names keeps its element. If the path is refused, the array stays as it was, and the cause is
+/// returned.
+pub fn with_path_mut<S: DataMut, D: Dimension, P: ArrayPath, K: ArrayTask<S::Elem>>(
+    array: &mut ArrayBase<S, D>,
+    path: P,
+    task: K,
+) -> Result<K::Answer, P::Refusal>
+    requires { AsksAlong (P.leads path) (K.pre task) (meaning_of array.old) }
+    ensures frame { KeepsFrame S.frame array.old array.new }
+    ensures done { IsDoneAlong (P.leads path) (K.post task) (meaning_of array.old) (meaning_of array.new) result }
+{
+    array.with_view_mut(Along { path, task })
+}
+
+/// Runs the task on the two parts of an axis, as mutable views for the length of the call: the coordinates below this one,
+/// and those from it on. The axis is below `ndim`, and the coordinate at most its length.
+pub fn with_halves_mut<S: DataMut, D: Dimension, K: PairOfArraysTask<S::Elem>>(
+    array: &mut ArrayBase<S, D>,
+    axis: Axis,
+    index: usize,
+    task: K,
+) -> K::Answer
+    requires axis { axis.0 < length (shape_of array.old) }
+    requires within { index ≤ slice_index (shape_of array.old) axis.0 }
+    requires asks { AsksOfTwo axis.0 index (K.pre task) (meaning_of array.old) }
+    ensures frame { KeepsFrame S.frame array.old array.new }
+    ensures done { IsDoneWithTwo axis.0 index (K.post task) (meaning_of array.old) (meaning_of array.new) result }
+{
+    array.with_split_at(axis, index, Halves { task })
+}

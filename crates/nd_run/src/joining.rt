@@ -1,0 +1,243 @@
+//! The array joined with others: behind one another along an axis, or beside one another along a new one.
+
+ghost use Rattle.std.specs.Prelude.{◌≡◌, ◌<◌, ◌≤◌, ◌+◌, ◌^◌, ◌∷◌, nat_eq, map, length, slice_index, slice_set, None, IfOk, IfSome};
+ghost use Rattle.std.specs.Cmp.Lexicographic.{pointwise};
+ghost use Rattle.std.specs.List.{insert, list_all};
+ghost use Rattle.nd_array_core.specs.Meaning.{meaning_of, shape_of};
+ghost use Rattle.nd_array_core.specs.growth.InTurn.{meanings_of};
+ghost use Rattle.nd_stacking.specs.Stacking.{followed_by, is_alike_but};
+ghost use Rattle.nd_run.specs.Steps.{Refuses, first_failed, has_size};
+ghost use Rattle.nd_run.specs.Calls.{Concatenating, Stacking};
+ghost use Rattle.nd_run.specs.Fold.{concatenate_tests, joined_shape, lengths_with, stack_of, stack_tests, CarriesOut};
+
+use crate::calls::{Holds, Reply};
+use crate::cause::Cause;
+use crate::steps::check;
+use nd_array_core::{Array, ArrayError, ArrayView};
+use nd_shape_and_slice::{
+    Axis, Dimension, InsertAxis, IxDyn, MAX_AXES, RemoveAxis, size_of_shape_checked,
+};
+use std::alloc::{AllocError, Global};
+
+/// Whether another has as many axes as the array, and the same lengths, once the axis has this one.
+fn is_alike<A, T: Holds<A>>(array: &Array<A, IxDyn>, axis: usize, len: usize, other: &T) -> bool
+    ensures { result ≡ pointwise nat_eq (slice_set (T.held other.now).shape axis len) (shape_of array.now) }
+{
+    let mut beside = other.array().raw_dim();
+    beside.set_length(axis, len);
+    beside.slice() == array.shape()
+}
+
+/// Whether each of the others has.
+fn are_alike<A, T: Holds<A>>(array: &Array<A, IxDyn>, axis: usize, others: &[T]) -> bool
+    requires { axis < length (shape_of array.now) }
+    ensures { result ≡ list_all (λ n. is_alike_but axis (shape_of array.now) n.shape) (map T.held others.now) }
+{
+    let len = array.len_of(Axis(axis));
+    others.iter().all(|other| is_alike(array, axis, len, other))
+}
+
+/// The length of an axis; 0 where there is no such axis.
+fn length_at<A>(array: &Array<A, IxDyn>, axis: usize) -> usize
+    ensures { result ≡ slice_index (shape_of array.now) axis }
+{
+    match array.shape().get(axis) {
+        Some(len) => *len,
+        None => 0,
+    }
+}
+
+/// How many lengths of an axis the array and the others have together, where that fits.
+fn lengths_together<A, T: Holds<A>>(
+    array: &Array<A, IxDyn>,
+    axis: usize,
+    others: &[T],
+) -> Option<usize>
+    ensures total { IfSome result (λ total. total ≡ lengths_with axis (map T.held others.now) (shape_of array.now)) }
+    ensures many { result ≡ None → 2 ^ 64 ≤ lengths_with axis (map T.held others.now) (shape_of array.now) }
+{
+    let mut total = length_at(array, axis);
+    for other in others {
+        match total.checked_add(length_at(other.array(), axis)) {
+            Some(more) => total = more,
+            None => return None,
+        }
+    }
+    Some(total)
+}
+
+/// Whether the array has a checked size with the others behind it.
+fn fit_behind<A, T: Holds<A>>(array: &Array<A, IxDyn>, axis: usize, others: &[T]) -> bool
+    requires { axis < length (shape_of array.now) }
+    ensures { result ≡ (has_size (joined_shape axis (map T.held others.now) (shape_of array.now))).0 }
+{
+    let mut joined = array.raw_dim();
+    match lengths_together(array, axis, others) {
+        Some(total) => {
+            joined.set_length(axis, total);
+            size_of_shape_checked(joined.slice()).is_ok()
+        }
+        None => false,
+    }
+}
+
+/// Arrays behind an array along an axis.
+fn check_concatenate<A, T: Holds<A>>(
+    array: &Array<A, IxDyn>,
+    axis: usize,
+    others: &[T],
+) -> Result<(), Cause>
+    ensures { Refuses result (first_failed (concatenate_tests axis (map T.held others.now) (shape_of array.now))) }
+{
+    check(axis < array.ndim(), Cause::Axis)?;
+    check(are_alike(array, axis, others), Cause::Shape)?;
+    check(fit_behind(array, axis, others), Cause::Overflow)
+}
+
+/// Whether another has the array's lengths.
+fn is_equal<A, T: Holds<A>>(array: &Array<A, IxDyn>, other: &T) -> bool
+    ensures { result ≡ pointwise nat_eq (T.held other.now).shape (shape_of array.now) }
+{
+    other.array().shape() == array.shape()
+}
+
+/// Whether each of the others has.
+fn are_equal<A, T: Holds<A>>(array: &Array<A, IxDyn>, others: &[T]) -> bool
+    ensures { result ≡ list_all (λ n. pointwise nat_eq n.shape (shape_of array.now)) (map T.held others.now) }
+{
+    others.iter().all(|other| is_equal(array, other))
+}
+
+/// Whether the array has a checked size with so many others beside it.
+fn fit_beside<A>(array: &Array<A, IxDyn>, axis: usize, others: usize) -> bool
+    requires place { axis ≤ length (shape_of array.now) }
+    requires room { length (shape_of array.now) < 32 }
+    ensures { result ≡ (has_size (insert (shape_of array.now) axis (others + 1))).0 }
+{
+    match others.checked_add(1) {
+        Some(count) => {
+            let mut joined = array.raw_dim().insert_axis(Axis(axis));
+            joined.set_length(axis, count);
+            size_of_shape_checked(joined.slice()).is_ok()
+        }
+        None => false,
+    }
+}
+
+/// Arrays beside an array along a new axis.
+fn check_stack<A, T: Holds<A>>(
+    array: &Array<A, IxDyn>,
+    axis: usize,
+    others: &[T],
+) -> Result<(), Cause>
+    ensures { Refuses result (first_failed (stack_tests axis (map T.held others.now) (shape_of array.now))) }
+{
+    check(axis <= array.ndim(), Cause::Axis)?;
+    check(array.ndim() < MAX_AXES, Cause::TooManyAxes)?;
+    check(are_equal(array, others), Cause::Shape)?;
+    check(fit_beside(array, axis, others.len()), Cause::Overflow)
+}
+
+/// Views of the array and then of the others.
+fn views_of<'a, A, T: Holds<A>>(
+    alloc: Global,
+    array: &'a Array<A, IxDyn>,
+    others: &'a [T],
+) -> Result<Vec<ArrayView<'a, A, IxDyn>>, AllocError>
+    ensures { IfOk result (λ views. meanings_of views.items ≡ meaning_of array.now ∷ map T.held others.now) }
+{
+    let mut views = Vec::with_capacity(alloc, others.len().saturating_add(1))?;
+    views.push(array.view())?;
+    for other in others {
+        views.push(other.array().view())?;
+    }
+    Ok(views)
+}
+
+/// The array and the others behind one another along an axis, with clones of their elements.
+fn concatenated<A: Clone + Drop, T: Holds<A>>(
+    alloc: Global,
+    array: &Array<A, IxDyn>,
+    axis: usize,
+    others: &[T],
+) -> Result<Array<A, IxDyn>, AllocError>
+    requires clones { (x y : A) → A.is_clone x y → y ≡ x }
+    requires fits { first_failed (concatenate_tests axis (map T.held others.now) (shape_of array.now)) ≡ None }
+    ensures { IfOk result (λ all. meaning_of all ≡ followed_by axis (meaning_of array.now) (map T.held others.now)) }
+{
+    let views = match views_of(alloc, array, others) {
+        Ok(views) => views,
+        Err(_) => return Err(AllocError),
+    };
+    match nd_stacking::concatenate(alloc, Axis(axis), views.as_slice()) {
+        Ok(all) => Ok(all),
+        Err(ArrayError::NoMemory) => Err(AllocError),
+        Err(ArrayError::Shape(_)) => unreachable!(),
+    }
+}
+
+/// The array and the others beside one another along a new axis, with clones of their elements.
+fn stacked<A: Clone + Drop, T: Holds<A>>(
+    alloc: Global,
+    array: &Array<A, IxDyn>,
+    axis: usize,
+    others: &[T],
+) -> Result<Array<A, IxDyn>, AllocError>
+    requires clones { (x y : A) → A.is_clone x y → y ≡ x }
+    requires fits { first_failed (stack_tests axis (map T.held others.now) (shape_of array.now)) ≡ None }
+    ensures { IfOk result (λ all. meaning_of all ≡ stack_of axis (meaning_of array.now) (map T.held others.now)) }
+{
+    let views = match views_of(alloc, array, others) {
+        Ok(views) => views,
+        Err(_) => return Err(AllocError),
+    };
+    match nd_stacking::stack(alloc, Axis(axis), views.as_slice()) {
+        Ok(all) => Ok(all),
+        Err(ArrayError::NoMemory) => Err(AllocError),
+        Err(ArrayError::Shape(_)) => unreachable!(),
+    }
+}
+
+/// Puts other arrays behind the array along an axis. A refusal changes nothing.
+pub(crate) fn concatenate<A: Clone + Eq + Drop, T: Holds<A>>(
+    alloc: Global,
+    array: &mut Array<A, IxDyn>,
+    axis: usize,
+    others: &[T],
+) -> Result<Reply<A>, AllocError>
+    requires { (x y : A) → A.is_clone x y → y ≡ x }
+    ensures { CarriesOut A.eq (Concatenating axis (map T.held others.now)) (meaning_of array.old) (meaning_of array.new) result }
+{
+    match check_concatenate(array, axis, others) {
+        Ok(()) => match concatenated(alloc, array, axis, others) {
+            Ok(all) => {
+                *array = all;
+                Ok(Reply::Done)
+            }
+            Err(_) => Err(AllocError),
+        },
+        Err(cause) => Ok(Reply::Refused(cause.number())),
+    }
+}
+
+/// Puts other arrays of the same lengths beside the array along a new axis. A refusal changes nothing.
+pub(crate) fn stack<A: Clone + Eq + Drop, T: Holds<A>>(
+    alloc: Global,
+    array: &mut Array<A, IxDyn>,
+    axis: usize,
+    others: &[T],
+) -> Result<Reply<A>, AllocError>
+    requires { (x y : A) → A.is_clone x y → y ≡ x }
+    ensures { CarriesOut A.eq (Stacking axis (map T.held others.now)) (meaning_of array.old) (meaning_of array.new) result }
+{
+    match check_stack(array, axis, others) {
+        Ok(()) => match stacked(alloc, array, axis, others) {
+            Ok(all) => {
+                *array = all;
+                Ok(Reply::Done)
+            }
+            Err(_) => Err(AllocError),
+        },
+        Err(cause) => Ok(Reply::Refused(cause.number())),
+    }
+}

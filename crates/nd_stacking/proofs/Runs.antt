@@ -1,0 +1,67 @@
+-- Lists in parts, and the rank of an index by the axes before one, that one, and those behind it.
+use Rattle.std.proofs.Common.{◌≡◌, ℕ, zero, suc, ◌+◌, ◌*◌, ◌<◌, ◌≤◌, List, [], ◌∷◌, ◌++◌, length, set, take, drop, Some, refl, ap, sym, ◌∙◌, arith}
+use Rattle.std.specs.Prelude.{slice_get}
+use Rattle.std.proofs.Math.Nat.{mul_assoc, add-mul}
+use Rattle.std.proofs.lemmas.Option.{slice_get_within}
+use Rattle.nd_shape_and_slice.specs.Shape.{row_rank, size_of}
+
+more : (n k : ℕ) → suc n + k ≡ suc (n + k)
+more n k = omega arith
+
+module _ {A : Type 0} where
+  -- ---- what holds of the items below a number
+  abbrev pub AllBelow : (A → Type 0) → List A → ℕ → Type 0
+  AllBelow P xs n = (k : ℕ) (x : A) → k < n → slice_get xs k ≡ Some x → P x
+
+  pub all_below : (P : A → Type 0) (xs : List A) (n : ℕ) → length xs ≤ n → AllBelow P xs n → (k : ℕ) (x : A) → slice_get xs k ≡ Some x → P x
+  all_below P xs n past below k x at = let within = slice_get_within xs k x at in below k x (omega (arith, within, past)) at
+
+  -- ---- parts of a list
+  pub at_front : (xs ys : List A) (k : ℕ) → k < length xs → slice_get (xs ++ ys) k ≡ slice_get xs k
+  at_front [] ys k below = absurd (omega (arith, below))
+  at_front (x ∷ xs) ys zero below = refl
+  at_front (x ∷ xs) ys (suc k) below = at_front xs ys k (omega (arith, below))
+
+  pub behind : (xs ys : List A) (n k : ℕ) → n ≡ length xs → slice_get (xs ++ ys) (n + k) ≡ slice_get ys k
+  behind [] ys n k is = ap (λ j. slice_get ys j) (omega (arith, is))
+  behind (x ∷ xs) ys zero k is = absurd (omega (arith, is))
+  behind (x ∷ xs) ys (suc n) k is = ap (λ j. slice_get (x ∷ (xs ++ ys)) j) (more n k) ∙ behind xs ys n k (omega (arith, is))
+
+  pub at_taken : (xs : List A) (n k : ℕ) → k < n → slice_get (take n xs) k ≡ slice_get xs k
+  at_taken [] zero k below = refl
+  at_taken [] (suc n) k below = refl
+  at_taken (x ∷ xs) zero k below = absurd (omega (arith, below))
+  at_taken (x ∷ xs) (suc n) zero below = refl
+  at_taken (x ∷ xs) (suc n) (suc k) below = at_taken xs n k (omega (arith, below))
+
+  pub at_dropped : (xs : List A) (n k : ℕ) → slice_get (drop n xs) k ≡ slice_get xs (n + k)
+  at_dropped [] zero k = refl
+  at_dropped [] (suc n) k = refl
+  at_dropped (x ∷ xs) zero k = ap (λ j. slice_get (x ∷ xs) j) (omega arith)
+  at_dropped (x ∷ xs) (suc n) k = at_dropped xs n k ∙ ap (λ j. slice_get (x ∷ xs) j) (sym (more n k))
+
+pub dropped_once : {A : Type 0} (n : ℕ) (xs : List A) → drop 1 (drop n xs) ≡ drop (suc n) xs
+dropped_once zero [] = refl
+dropped_once zero (x ∷ xs) = refl
+dropped_once (suc n) [] = refl
+dropped_once (suc n) (x ∷ xs) = dropped_once n xs
+
+-- ---- sizes and ranks by parts of a shape
+pub size_with : (ns : List ℕ) (a n : ℕ) → a < length ns → size_of (set ns a n) ≡ size_of (take a ns) * (n * size_of (drop (suc a) ns))
+size_with [] a n on = absurd (omega (arith, on))
+size_with (m ∷ ns) zero n on = omega arith
+size_with (m ∷ ns) (suc a) n on = ap (λ s. m * s) (size_with ns a n (omega (arith, on))) ∙ sym (mul_assoc m (size_of (take a ns)) (n * size_of (drop (suc a) ns)))
+
+pub rank_with : (ns i : List ℕ) (a n c : ℕ) → a < length ns → length i ≡ length ns
+    → row_rank (set ns a n) (set i a c) ≡ row_rank (take a ns) (take a i) * (n * size_of (drop (suc a) ns)) + (c * size_of (drop (suc a) ns) + row_rank (drop (suc a) ns) (drop (suc a) i))
+rank_with [] i a n c on many = absurd (omega (arith, on))
+rank_with (m ∷ ns) [] a n c on many = absurd (omega (arith, many))
+rank_with (m ∷ ns) (k ∷ i) zero n c on many = omega arith
+rank_with (m ∷ ns) (k ∷ i) (suc a) n c on many =
+    let w = n * size_of (drop (suc a) ns) in
+    let o = size_of (take a ns) in
+    let p = row_rank (take a ns) (take a i) in
+    let rest = rank_with ns i a n c (omega (arith, on)) (omega (arith, many)) in
+    let size = size_with ns a n (omega (arith, on)) in
+    let apart : (k * o + p) * w ≡ k * (o * w) + p * w = add-mul (k * o) p w ∙ ap (λ z. z + p * w) (mul_assoc k o w) in
+    ap (λ s. k * s + row_rank (set ns a n) (set i a c)) size ∙ omega (arith, rest, apart)
