@@ -1,0 +1,39 @@
+-- What the iterators over an array show of it, one after another.
+use Rattle.std.specs.Prelude.{◌-◌, ◌<◌, ◌≤◌, ℕ, List, drop, length, map, take, slice_index}
+use Rattle.std.specs.List.{range_with_len}
+use Rattle.nd_shape_and_slice.specs.Maps.{indexed_shape, indexed_index}
+use Rattle.nd_shape_and_slice.specs.Shape.{size_of}
+use Rattle.nd_array_core.specs.Meaning.{Meaning, meaning_through}
+use Rattle.nd_array_core.specs.Joined.{row_major_elements}
+
+-- an array's lengths, and its elements in row-major order
+abbrev pub listing : {A : Type 0} → Meaning A → List ℕ × List A
+listing m = (m.shape, row_major_elements m)
+
+module _ {A : Type 0} (m : Meaning A) (axis : ℕ) where
+  -- what lies at one coordinate of an axis, without the axis
+  abbrev pub at_coordinate : ℕ → Meaning A
+  at_coordinate k = meaning_through (indexed_shape m.shape axis) (indexed_index axis k) m
+
+  -- what lies at each coordinate from one up to another
+  abbrev pub at_coordinates : ℕ → ℕ → List (List ℕ × List A)
+  at_coordinates from to = map (λ k. listing (at_coordinate k)) (range_with_len from (to - from))
+
+  -- what lies at each coordinate
+  abbrev pub along_axis : List (List ℕ × List A)
+  along_axis = at_coordinates 0 (slice_index m.shape axis)
+
+-- the coordinates from one up to another are on an axis that is there
+pub record CanGoAlong (ns : List ℕ) (axis from to : ℕ) : Type 0 where
+  pub on : axis < length ns
+  pub ahead : from ≤ to
+  pub within : to ≤ slice_index ns axis
+
+-- the elements of the ranks from one up to another
+abbrev pub elements_left : {A : Type 0} → Meaning A → ℕ → ℕ → List A
+elements_left m from to = drop from (take to (row_major_elements m))
+
+-- the ranks from one up to another are those of indexes
+pub record AreRanks (ns : List ℕ) (from to : ℕ) : Type 0 where
+  pub ahead : from ≤ to
+  pub within : to ≤ size_of ns

@@ -1,0 +1,124 @@
+//! The views at each coordinate of an axis.
+
+ghost use Rattle.std.specs.Prelude.{◌≡◌, ◌<◌, length, slice_index};
+ghost use Rattle.std.specs.Iterator.{YieldsFirstBy, item_count};
+ghost use Rattle.nd_array_core.specs.Meaning.{meaning_of, shape_of};
+ghost use Rattle.nd_iter.specs.Seen.{along_axis, at_coordinate, listing};
+
+use nd_array_core::{ArrayBase, ArrayView, Data};
+use nd_shape_and_slice::{Axis, Dimension, Ix2, RemoveAxis};
+use std::iter::FusedIterator;
+use std::marker::{Model, PhantomData};
+
+/// The views at the coordinates of an axis that are left, seen as the list of their shapes and elements. ndarray's `AxisIter`.
+#[derive(Drop)]
+pub struct AxisIter<'a, A, S: Data<Elem = A>, D: RemoveAxis>
+where
+    D::Smaller: Dimension,
+{
+    array: &'a ArrayBase<S, D>,
+    axis: usize,
+    front: usize,
+    back: usize,
+    of: PhantomData<&'a A>,
+}
+
+impl<'a, A, S: Data<Elem = A>, D: RemoveAxis> Model for AxisIter<'a, A, S, D>
+where
+    D::Smaller: Dimension,
+{
+    ghost use Rattle.std.specs.Prelude.{ℕ, List};
+    ghost use Rattle.nd_array_core.specs.Meaning.{meaning_of, shape_of};
+    ghost use Rattle.nd_iter.specs.Seen.{at_coordinates, CanGoAlong};
+
+    ghost Value = { List (List ℕ × List A) };
+
+    ghost view = { λ it. at_coordinates (meaning_of it.array.now) it.axis it.front it.back };
+
+    ghost invariant = { λ it. CanGoAlong (shape_of it.array.now) it.axis it.front it.back };
+}
+
+/// The view at a coordinate of an axis.
+fn view_at<'a, A, S: Data<Elem = A>, D: RemoveAxis>(
+    array: &'a ArrayBase<S, D>,
+    axis: usize,
+    index: usize,
+) -> ArrayView<'a, A, D::Smaller>
+where
+    D::Smaller: Dimension,
+    requires on { axis < length (shape_of array.now) }
+    requires within { index < slice_index (shape_of array.now) axis }
+    ensures { listing (meaning_of result) ≡ listing (at_coordinate (meaning_of array.now) axis index) }
+{
+    array.index_axis(Axis(axis), index)
+}
+
+impl<'a, A, S: Data<Elem = A>, D: RemoveAxis> Iterator for AxisIter<'a, A, S, D>
+where
+    D::Smaller: Dimension,
+{
+    type Item = ArrayView<'a, A, D::Smaller>;
+
+    ghost next_gives = { YieldsFirstBy (λ item. listing (meaning_of item)) (λ rest. rest) };
+
+    ghost remaining = { item_count (λ rest. rest) };
+
+    #[tactic(auto, using(crate::proofs::Parts::first_given, crate::proofs::Parts::none_given))]
+    fn next(&mut self) -> Option<ArrayView<'a, A, D::Smaller>> {
+        if self.front == self.back {
+            return None;
+        }
+        let index = self.front;
+        self.front += 1;
+        Some(view_at(self.array, self.axis, index))
+    }
+
+    #[tactic(auto, using(crate::proofs::Parts::length_given))]
+    fn size_hint(&self) -> (usize, Option<usize>) {
+        let count = self.back - self.front;
+        (count, Some(count))
+    }
+}
+
+impl<'a, A, S: Data<Elem = A>, D: RemoveAxis> ExactSizeIterator for AxisIter<'a, A, S, D>
+where
+    D::Smaller: Dimension,
+{
+    #[tactic(auto, using(crate::proofs::Parts::length_given))]
+    fn len(&self) -> usize {
+        self.back - self.front
+    }
+}
+
+impl<'a, A, S: Data<Elem = A>, D: RemoveAxis> FusedIterator for AxisIter<'a, A, S, D>
+where
+    D::Smaller: Dimension,
+{}
+
+/// The views at each coordinate of an axis, from the first on, without the axis. The axis is there. ndarray's `axis_iter`.
+pub fn axis_iter<A, S: Data<Elem = A>, D: RemoveAxis>(
+    array: &ArrayBase<S, D>,
+    axis: Axis,
+) -> AxisIter<'_, A, S, D>
+where
+    D::Smaller: Dimension,
+    requires { axis.0 < length (shape_of array.now) }
+    ensures { result ≡ along_axis (meaning_of array.now) axis.0 }
+{
+    let back = array.len_of(axis);
+    AxisIter {
+        array,
+        axis: axis.0,
+        front: 0,
+        back,
+        of: PhantomData,
+    }
+}
+
+/// The rows of a table, from the first on. ndarray's `rows` of two axes.
+pub fn rows<A, S: Data<Elem = A>>(table: &ArrayBase<S, Ix2>) -> AxisIter<'_, A, S, Ix2>
+    ensures { result ≡ along_axis (meaning_of table.now) 0 }
+{
+    let (_rows, _columns) = table.dim();
+    axis_iter(table, Axis(0))
+}

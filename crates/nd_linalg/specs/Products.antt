@@ -1,0 +1,34 @@
+-- Sums of products in rising order, and the products of vectors and matrices.
+use Rattle.std.specs.Prelude.{◌≡◌, ◌<◌, ℕ, zero, suc, List, [], ◌∷◌, Option, Some, slice_index}
+use Rattle.nd_array_core.specs.Meaning.{Meaning}
+use Rattle.nd_array_core.specs.elements.Pairs.{option_both}
+
+module _ {A : Type 0} (plus times : A → A → A) (nought : A) where
+  -- nought, and to it one after another the products of what stands in xs and ys at 0, .., n - 1
+  abbrev pub sum_of_products : (ℕ → Option A) → (ℕ → Option A) → ℕ → Option A
+  sum_of_products xs ys zero = Some nought
+  sum_of_products xs ys (suc n) = option_both plus (sum_of_products xs ys n) (option_both times (xs n) (ys n))
+
+  -- of two vectors
+  abbrev pub vector_by_vector : Meaning A → Meaning A → Option A
+  vector_by_vector m n = sum_of_products (λ k. m.at (k ∷ [])) (λ k. n.at (k ∷ [])) (slice_index m.shape 0)
+
+  -- of a matrix's row and a vector
+  abbrev pub row_by_vector : Meaning A → Meaning A → ℕ → Option A
+  row_by_vector m n i = sum_of_products (λ k. m.at (i ∷ k ∷ [])) (λ k. n.at (k ∷ [])) (slice_index m.shape 1)
+
+  -- of a matrix's row and another's column
+  abbrev pub row_by_column : Meaning A → Meaning A → ℕ → ℕ → Option A
+  row_by_column m n i j = sum_of_products (λ k. m.at (i ∷ k ∷ [])) (λ k. n.at (k ∷ j ∷ [])) (slice_index m.shape 1)
+
+  -- a vector is the image of another under a matrix: at i stands the sum for row i
+  abbrev pub IsImage : Meaning A → Meaning A → Meaning A → Type 0
+  IsImage m n image = (i : ℕ) → i < slice_index m.shape 0 → image.at (i ∷ []) ≡ row_by_vector m n i
+
+  -- a matrix is the product of two: at i and j stands the sum for row i and column j
+  abbrev pub IsProduct : Meaning A → Meaning A → Meaning A → Type 0
+  IsProduct m n product = (i j : ℕ) → i < slice_index m.shape 0 → j < slice_index n.shape 1 → product.at (i ∷ j ∷ []) ≡ row_by_column m n i j
+
+-- the lengths of the product of two matrices
+abbrev pub product_shape : List ℕ → List ℕ → List ℕ
+product_shape ns ms = slice_index ns 0 ∷ slice_index ms 1 ∷ []

@@ -1,0 +1,13 @@
+//! Products of vectors and matrices, over the public contracts of nd_shape_and_slice and nd_array_core alone.
+#![tactic(auto)]
+
+mod cells;
+pub mod laws;
+mod matrices;
+mod scalar;
+mod sums;
+mod vectors;
+
+pub use matrices::matrix_dot;
+pub use scalar::LinalgScalar;
+pub use vectors::{dot, matrix_dot_vector};

@@ -1,0 +1,55 @@
+//! The product of two matrices.
+
+ghost use Rattle.std.specs.Prelude.{◌≡◌, ◌<◌, ◌+◌, ◌*◌, ℕ, ◌∷◌, [], IfOk, length, slice_get, slice_index};
+ghost use Rattle.nd_shape_and_slice.specs.Shape.{HasCheckedSize};
+ghost use Rattle.nd_array_core.specs.Meaning.{meaning_of, shape_of};
+ghost use Rattle.nd_array_core.specs.Coordinates.{element_of_2, HasRowsAndColumns};
+ghost use Rattle.nd_linalg.specs.Products.{product_shape, IsProduct};
+
+use crate::cells::cells_of;
+use crate::scalar::LinalgScalar;
+use crate::sums::product_of;
+use nd_array_core::laws::elements_by_rank;
+use nd_array_core::{Array2, ArrayBase, Data};
+use nd_shape_and_slice::{Ix2, NoMemory, size_of_shape_checked};
+use std::alloc::Global;
+
+/// The matrix that a list of cells is, row after row.
+fn of_cells<A: LinalgScalar>(cells: Vec<A>, rows: usize, columns: usize) -> Array2<A>
+    requires checked { HasCheckedSize (rows ∷ columns ∷ []) }
+    requires count { length cells.items ≡ rows * columns }
+    ensures shape { HasRowsAndColumns result rows columns }
+    ensures elements { (i j : ℕ) → i < rows → j < columns → element_of_2 result i j ≡ slice_get cells.items (i * columns + j) }
+{
+    match Array2::from_shape_vec((rows, columns), cells) {
+        Ok(matrix) => matrix,
+        Err(_) => unreachable!(),
+    }
+}
+
+/// The product of two matrices: at i and j the sum of the products of row i of a and column j of b, from the
+/// first on. b has as many rows as a has columns, and the product's shape has a checked size. NoMemory if
+/// storage is refused. ndarray's `dot` of two matrices.
+pub fn matrix_dot<A: LinalgScalar, S: Data<Elem = A>, Z: Data<Elem = A>>(
+    alloc: Global,
+    a: &ArrayBase<S, Ix2>,
+    b: &ArrayBase<Z, Ix2>,
+) -> Result<Array2<A>, NoMemory>
+    requires fits { slice_index (shape_of b.now) 0 ≡ slice_index (shape_of a.now) 1 }
+    requires checked { HasCheckedSize (product_shape (shape_of a.now) (shape_of b.now)) }
+    ensures shape { IfOk result (λ p. shape_of p ≡ product_shape (shape_of a.now) (shape_of b.now)) }
+    ensures sums { IfOk result (λ p. IsProduct A.plus A.times A.zero (meaning_of a.now) (meaning_of b.now) (meaning_of p)) }
+{
+    let (rows, inner) = a.dim();
+    let (_same, columns) = b.dim();
+    elements_by_rank(a);
+    elements_by_rank(b);
+    match size_of_shape_checked(&[rows, columns]) {
+        Ok(_) => {}
+        Err(_) => unreachable!(),
+    }
+    let one = cells_of(alloc, a)?;
+    let other = cells_of(alloc, b)?;
+    let cells = product_of(alloc, one.slice(), other.slice(), rows, inner, columns)?;
+    Ok(of_cells(cells, rows, columns))
+}

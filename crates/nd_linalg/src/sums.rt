@@ -1,0 +1,156 @@
+//! Sums of products over slices, and matrices as lists of cells, row after row.
+#![tactic(auto, using(std::proofs::lemmas::Bool::Decides::nat_tests, crate::proofs::Rows::row_within))]
+
+ghost use Rattle.std.specs.Prelude.{◌≡◌, ◌<◌, ◌≤◌, ◌+◌, ◌*◌, ◌^◌, ℕ, [], length, slice_get, vec_len, vec_capacity, Some, IfOk};
+ghost use Rattle.nd_array_core.specs.elements.Pairs.{option_both};
+ghost use Rattle.nd_linalg.specs.Products.{sum_of_products};
+
+use crate::scalar::LinalgScalar;
+use nd_shape_and_slice::NoMemory;
+use std::alloc::Global;
+
+/// The sum of the products of a row, which stands in a list of cells from a place on, and a list as long.
+pub(crate) fn sum_along<A: LinalgScalar>(cells: &[A], from: usize, list: &[A]) -> A
+    requires { from + length list.now ≤ length cells.now }
+    ensures { Some result ≡ sum_of_products A.plus A.times A.zero (λ k. slice_get cells.now (from + k)) (slice_get list.now) (length list.now) }
+{
+    let mut sum = A::zero();
+    for k in 0..list.len() {
+        sum = sum.add_product(cells[from + k], list[k]);
+    }
+    sum
+}
+
+/// Puts zeros.
+fn clear<A: LinalgScalar>(sums: &mut [A])
+    ensures count { length sums.new ≡ length sums.old }
+    ensures zeros { (j : ℕ) → j < length sums.old → slice_get sums.new j ≡ Some A.zero }
+{
+    for j in 0..sums.len() {
+        sums[j] = A::zero();
+    }
+}
+
+/// Adds a number's product with each of a row, which stands in a list of cells from a place on.
+fn add_row<A: LinalgScalar>(sums: &mut [A], x: A, cells: &[A], from: usize)
+    requires { from + length sums.old ≤ length cells.now }
+    ensures count { length sums.new ≡ length sums.old }
+    ensures each { (j : ℕ) → j < length sums.old → slice_get sums.new j ≡ option_both A.plus (slice_get sums.old j) (option_both A.times (Some x) (slice_get cells.now (from + j))) }
+{
+    for j in 0..sums.len() {
+        sums[j] = sums[j].add_product(x, cells[from + j]);
+    }
+}
+
+/// The sums of a row's products with each column of a matrix; the row stands in a list of cells from a place on.
+fn sum_columns<A: LinalgScalar>(sums: &mut [A], left: &[A], from: usize, inner: usize, right: &[A])
+    requires row { from + inner ≤ length left.now }
+    requires cells { length right.now ≡ inner * length sums.old }
+    ensures count { length sums.new ≡ length sums.old }
+    ensures each { (j : ℕ) → j < length sums.old → slice_get sums.new j ≡ sum_of_products A.plus A.times A.zero (λ k. slice_get left.now (from + k)) (λ k. slice_get right.now (k * length sums.old + j)) inner }
+{
+    let columns = sums.len();
+    clear(sums);
+    for k in 0..inner {
+        add_row(sums, left[from + k], right, k * columns);
+    }
+}
+
+/// Puts a row behind the cells of a matrix; there is room.
+fn push_row<A: LinalgScalar>(cells: &mut Vec<A>, row: &[A])
+    requires { vec_len cells.old + length row.now ≤ vec_capacity cells.old }
+    ensures count { length cells.new.items ≡ length cells.old.items + length row.now }
+    ensures len { vec_len cells.new ≡ vec_len cells.old + length row.now }
+    ensures room { vec_capacity cells.new ≡ vec_capacity cells.old }
+    ensures before { (p : ℕ) → p < length cells.old.items → slice_get cells.new.items p ≡ slice_get cells.old.items p }
+    ensures row { (j : ℕ) → j < length row.now → slice_get cells.new.items (length cells.old.items + j) ≡ slice_get row.now j }
+{
+    for j in 0..row.len() {
+        cells.push_reserved(row[j]);
+    }
+}
+
+/// Puts the sums of a row's products with each column of a matrix behind the cells of the product; there is room.
+fn push_sums<A: LinalgScalar>(
+    cells: &mut Vec<A>,
+    sums: &mut [A],
+    left: &[A],
+    from: usize,
+    inner: usize,
+    right: &[A],
+)
+    requires row { from + inner ≤ length left.now }
+    requires cells { length right.now ≡ inner * length sums.old }
+    requires room { vec_len cells.old + length sums.old ≤ vec_capacity cells.old }
+    ensures as_many { length sums.new ≡ length sums.old }
+    ensures count { length cells.new.items ≡ length cells.old.items + length sums.old }
+    ensures len { vec_len cells.new ≡ vec_len cells.old + length sums.old }
+    ensures room { vec_capacity cells.new ≡ vec_capacity cells.old }
+    ensures before { (p : ℕ) → p < length cells.old.items → slice_get cells.new.items p ≡ slice_get cells.old.items p }
+    ensures row { (j : ℕ) → j < length sums.old → slice_get cells.new.items (length cells.old.items + j) ≡ sum_of_products A.plus A.times A.zero (λ k. slice_get left.now (from + k)) (λ k. slice_get right.now (k * length sums.old + j)) inner }
+{
+    sum_columns(sums, left, from, inner, right);
+    push_row(cells, sums);
+}
+
+/// Zeros, so many.
+fn zeros<A: LinalgScalar>(alloc: Global, count: usize) -> Result<Vec<A>, NoMemory>
+    ensures { IfOk result (λ v. length v.items ≡ count) }
+{
+    let mut zeros = match Vec::with_capacity(alloc, count) {
+        Ok(room) => room,
+        Err(_) => return Err(NoMemory),
+    };
+    for _ in 0..count {
+        zeros.push_reserved(A::zero());
+    }
+    Ok(zeros)
+}
+
+/// The cells of the product of two matrices: so many rows, columns of the left, and columns of the right.
+pub(crate) fn product_of<A: LinalgScalar>(
+    alloc: Global,
+    left: &[A],
+    right: &[A],
+    rows: usize,
+    inner: usize,
+    columns: usize,
+) -> Result<Vec<A>, NoMemory>
+    requires left { length left.now ≡ rows * inner }
+    requires right { length right.now ≡ inner * columns }
+    requires fits { rows * columns < 2 ^ 64 }
+    ensures count { IfOk result (λ v. length v.items ≡ rows * columns) }
+    ensures each { IfOk result (λ v. (i j : ℕ) → i < rows → j < columns → slice_get v.items (i * columns + j) ≡ sum_of_products A.plus A.times A.zero (λ k. slice_get left.now (i * inner + k)) (λ k. slice_get right.now (k * columns + j)) inner) }
+{
+    let mut row = zeros(alloc, columns)?;
+    let sums = row.as_mut_slice();
+    let mut cells = match Vec::with_capacity(alloc, rows * columns) {
+        Ok(room) => room,
+        Err(_) => return Err(NoMemory),
+    };
+    for i in 0..rows {
+        push_sums(&mut cells, sums, left, i * inner, inner, right);
+    }
+    Ok(cells)
+}
+
+/// The products of each row of a matrix and a list.
+pub(crate) fn rows_by_list<A: LinalgScalar>(
+    alloc: Global,
+    cells: &[A],
+    rows: usize,
+    list: &[A],
+) -> Result<Vec<A>, NoMemory>
+    requires { length cells.now ≡ rows * length list.now }
+    ensures count { IfOk result (λ v. length v.items ≡ rows) }
+    ensures each { IfOk result (λ v. (i : ℕ) → i < rows → slice_get v.items i ≡ sum_of_products A.plus A.times A.zero (λ k. slice_get cells.now (i * length list.now + k)) (slice_get list.now) (length list.now)) }
+{
+    let mut sums = match Vec::with_capacity(alloc, rows) {
+        Ok(room) => room,
+        Err(_) => return Err(NoMemory),
+    };
+    for i in 0..rows {
+        sums.push_reserved(sum_along(cells, i * list.len(), list));
+    }
+    Ok(sums)
+}

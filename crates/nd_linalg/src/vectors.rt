@@ -1,0 +1,82 @@
+//! Products with a vector.
+
+ghost use Rattle.std.specs.Prelude.{◌≡◌, ◌<◌, ℕ, Some, IfOk, length, slice_get, slice_index};
+ghost use Rattle.nd_array_core.specs.Meaning.{meaning_of, shape_of};
+ghost use Rattle.nd_array_core.specs.Coordinates.{element_of_1, HasLength};
+ghost use Rattle.nd_linalg.specs.Products.{vector_by_vector, IsImage};
+
+use crate::cells::cells_of;
+use crate::scalar::LinalgScalar;
+use crate::sums::{rows_by_list, sum_along};
+use nd_array_core::laws::elements_by_rank;
+use nd_array_core::{Array1, ArrayBase, Data};
+use nd_shape_and_slice::{Ix1, Ix2, NoMemory};
+use std::alloc::Global;
+
+/// The same, element by element.
+fn dot_by_index<A: LinalgScalar, S: Data<Elem = A>, Z: Data<Elem = A>>(
+    left: &ArrayBase<S, Ix1>,
+    right: &ArrayBase<Z, Ix1>,
+) -> A
+    requires { slice_index (shape_of right.now) 0 ≡ slice_index (shape_of left.now) 0 }
+    ensures { Some result ≡ vector_by_vector A.plus A.times A.zero (meaning_of left.now) (meaning_of right.now) }
+{
+    let count = left.dim();
+    let _same = right.dim();
+    let mut sum = A::zero();
+    for k in 0..count {
+        sum = sum.add_product(left[k], right[k]);
+    }
+    sum
+}
+
+/// The sum of the products of two vectors' elements, from the first on. They are as long as each other. ndarray's `dot` of
+/// two vectors.
+pub fn dot<A: LinalgScalar, S: Data<Elem = A>, Z: Data<Elem = A>>(
+    left: &ArrayBase<S, Ix1>,
+    right: &ArrayBase<Z, Ix1>,
+) -> A
+    requires { slice_index (shape_of right.now) 0 ≡ slice_index (shape_of left.now) 0 }
+    ensures { Some result ≡ vector_by_vector A.plus A.times A.zero (meaning_of left.now) (meaning_of right.now) }
+{
+    let _count = left.dim();
+    let _same = right.dim();
+    elements_by_rank(left);
+    elements_by_rank(right);
+    match left.as_slice() {
+        Some(xs) => match right.as_slice() {
+            Some(ys) => sum_along(xs, 0, ys),
+            None => dot_by_index(left, right),
+        },
+        None => dot_by_index(left, right),
+    }
+}
+
+/// The vector that a list is.
+fn of_items<A>(items: Vec<A>) -> Array1<A>
+    ensures shape { HasLength result (length items.items) }
+    ensures elements { (i : ℕ) → i < length items.items → element_of_1 result i ≡ slice_get items.items i }
+{
+    Array1::from_vec(items)
+}
+
+/// The product of a matrix and a vector: at i the sum of the products of row i and the vector, from the first on. The vector
+/// is as long as the matrix has columns. NoMemory if storage is refused. ndarray's `dot` of a matrix and a vector.
+pub fn matrix_dot_vector<A: LinalgScalar, S: Data<Elem = A>, Z: Data<Elem = A>>(
+    alloc: Global,
+    a: &ArrayBase<S, Ix2>,
+    x: &ArrayBase<Z, Ix1>,
+) -> Result<Array1<A>, NoMemory>
+    requires { slice_index (shape_of x.now) 0 ≡ slice_index (shape_of a.now) 1 }
+    ensures shape { IfOk result (λ sums. HasLength sums (slice_index (shape_of a.now) 0)) }
+    ensures sums { IfOk result (λ p. IsImage A.plus A.times A.zero (meaning_of a.now) (meaning_of x.now) (meaning_of p)) }
+{
+    let (rows, _columns) = a.dim();
+    let _same = x.dim();
+    elements_by_rank(a);
+    elements_by_rank(x);
+    let cells = cells_of(alloc, a)?;
+    let list = cells_of(alloc, x)?;
+    let sums = rows_by_list(alloc, cells.slice(), rows, list.slice())?;
+    Ok(of_items(sums))
+}
