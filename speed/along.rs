@@ -8,6 +8,7 @@ unsafe extern "C" {
     fn nd_speed_to_shape(items: *const u64, count: usize, lengths: *const usize, ndim: usize, calls: usize) -> u64;
     fn nd_speed_flatten(items: *const i64, count: usize, lengths: *const usize, ndim: usize, calls: usize) -> u64;
     fn nd_speed_append_rows(items: *const i64, count: usize, lengths: *const usize, ndim: usize, calls: usize) -> u64;
+    fn nd_speed_append_numbers(items: *const i64, count: usize, number: *const i64, one: usize, lengths: *const usize, ndim: usize, calls: usize) -> u64;
     fn nd_speed_relay(items: *const i64, count: usize, lengths: *const usize, ndim: usize, case: usize, calls: usize) -> u64;
 }
 
@@ -96,6 +97,27 @@ fn growth(items: &[i64]) {
         },
         &mut |calls| unsafe { nd_speed_append_rows(items.as_ptr(), items.len(), lengths.as_ptr(), 2, calls) },
     );
+    for (rows, columns, name) in [
+        (ROWS, COLUMNS, "`append` of rows of one broadcast `i64` after one `reserve_rows`, 1,000 rows"),
+        (1, ROWS * COLUMNS, "`append` of rows of one broadcast `i64` after one `reserve_rows`, one row"),
+    ] {
+        let (lengths, number) = black_box(([rows, columns], [7i64]));
+        row(
+            name,
+            &mut |calls| {
+                for _ in 0..calls {
+                    let (number, rows, columns) = black_box((number[0], rows, columns));
+                    let mut table = Vec::with_capacity(rows * columns);
+                    for _ in 0..rows {
+                        table.resize(table.len() + columns, number);
+                    }
+                    black_box(table);
+                }
+                1
+            },
+            &mut |calls| unsafe { nd_speed_append_numbers(items.as_ptr(), items.len(), number.as_ptr(), number.len(), lengths.as_ptr(), 2, calls) },
+        );
+    }
     for (case, name) in [
         (0, "a copy of `i64` in row-major order, and a row appended"),
         (1, "a copy of `i64` in column-major order, and a row appended"),

@@ -32,6 +32,15 @@ ALONG = {
     "a copy of `i64` in column-major order, and a row appended": "numpy.concatenate((numpy.ascontiguousarray(a.T.copy(order='K')), a[:1]))",
 }
 
+# Ten tables joined.
+JOINS = {
+    "`concatenate` of ten arrays of `i64` of 1000 x 100, along the first axis": "numpy.concatenate(tables)",
+    "`concatenate` of ten arrays of `i64` of 1000 x 100, along the second axis": "numpy.concatenate(tables, axis=1)",
+    "`stack` of ten arrays of `i64` of 1000 x 100, at the first axis": "numpy.stack(tables)",
+    "`stack` of ten arrays of `i64` of 1000 x 100, at the second axis": "numpy.stack(tables, axis=1)",
+    "`stack` of ten arrays of `i64` of 1000 x 100, at the third axis": "numpy.stack(tables, axis=2)",
+}
+
 
 def least_of(statement, names):
     return min(timeit.Timer(statement, globals=names, timer=time.process_time).repeat(15, 20)) / 20 * 1e6
@@ -59,6 +68,9 @@ def of_numpy():
     times["`select` of 1,000 rows of `i64`"] = least_of("a[rows]", chosen)
     for call, statement in ALONG.items():
         times[call] = least_of(statement, {"a": numpy.ones((ROWS, COLUMNS), dtype=numpy.int64), "numpy": numpy})
+    tables = list(numpy.arange(10 * 1000 * 100, dtype=numpy.int64).reshape(10, 1000, 100))
+    for call, statement in JOINS.items():
+        times[call] = least_of(statement, {"tables": tables, "numpy": numpy})
     owned = {"a": numpy.zeros((ROWS, COLUMNS), dtype=numpy.int64)}
     times["`fill` of `i64`, an owned array"] = least_of("a[...] = 7", owned)
     return times

@@ -1,11 +1,14 @@
 //! Times calls over all elements of 1000 rows of 1000, beside the same loops in plain Rust: prints a line for each call,
-//! with who made it and the microseconds of one call. All memory, plain Rust's too, is malloc's.
+//! with who made it and the microseconds of one call. All memory, plain Rust's too, is malloc's. With `orders` it times calls
+//! over two arrays in any two orders alone.
 //!
 //! A row is added by an export in crates/nd_speed, its declaration and a line here, and the nearest call of numpy in
 //! elements.py.
 
 mod along;
 mod elementwise;
+mod joins;
+mod orders;
 
 use std::hint::black_box;
 
@@ -162,7 +165,7 @@ fn row_of(name: &str, repeats: usize, calls: usize, plain: &mut dyn FnMut(usize)
     for _ in 0..repeats {
         least = (least.0.min(time_of(calls, plain)), least.1.min(time_of(calls, here)));
     }
-    println!("{name}\tplain\t{:.1}\n{name}\there\t{:.1}", least.0, least.1);
+    println!("{name}\tplain\t{:.3}\n{name}\there\t{:.3}", least.0, least.1);
 }
 
 fn row(name: &str, plain: &mut dyn FnMut(usize) -> u64, here: &mut dyn FnMut(usize) -> u64) {
@@ -380,6 +383,9 @@ fn symmetric<A>(element: fn(usize) -> A) -> Vec<A> {
 }
 
 fn main() {
+    if std::env::args().nth(1).as_deref() == Some("orders") {
+        return orders::rows();
+    }
     fills("u64", &mut vec![0; ROWS * COLUMNS], |call| call as u64, nd_speed_fill);
     fills("u8", &mut vec![0; ROWS * COLUMNS], |call| call as u8, nd_speed_fill_bytes);
     owned();
@@ -390,4 +396,5 @@ fn main() {
     comparisons("u8", &symmetric(|sum| sum as u8), &symmetric(|sum| sum as u8), nd_speed_equal_bytes);
     elementwise::rows();
     along::rows();
+    joins::rows();
 }

@@ -1,7 +1,7 @@
-//! Folds along an axis, rows appended to an array with room for them, and an array laid anew by an append.
+//! Folds along an axis, and rows appended to an array with room for them, as they are or broadcast from one number.
 
 use crate::elementwise::part_of;
-use nd_array_core::{Array, Array2, ArrayView2};
+use nd_array_core::{Array, Array2, ArrayView, ArrayView2};
 use nd_shape_and_slice::{Axis, Slice};
 use std::alloc::Global;
 
@@ -60,6 +60,37 @@ fn rows_again(alloc: Global, rows: &ArrayView2<'_, i64>, calls: usize) -> u64 {
     count
 }
 
+/// Appends rows to an array, each one number that is broadcast: how many elements there are then, 0 where one didn't come in.
+fn append_numbers(mut table: Array2<i64>, number: &ArrayView2<'_, i64>, rows: usize) -> usize {
+    for _ in 0..rows {
+        let _axes = table.ndim();
+        if table.append(Axis(0), number.view()).is_err() {
+            return 0;
+        }
+    }
+    table.len()
+}
+
+/// Rows of one number appended after room was made for all, again and again.
+#[inline(never)]
+fn numbers_again(
+    alloc: Global,
+    number: &ArrayView2<'_, i64>,
+    rows: &ArrayView2<'_, i64>,
+    calls: usize,
+) -> u64 {
+    let mut count: u64 = 0;
+    for _ in 0..calls {
+        match room_for(alloc, rows) {
+            Some(table) => {
+                count = count.wrapping_add(append_numbers(table, number, rows.nrows()) as u64);
+            }
+            None => return 0,
+        }
+    }
+    count
+}
+
 /// `fold_axis` of numbers of 8 bytes.
 #[unsafe(no_mangle)]
 pub extern "C" fn nd_speed_fold_axis(
@@ -86,5 +117,23 @@ pub extern "C" fn nd_speed_append_rows(
     match part_of(items, lengths, 0) {
         Some(part) => rows_again(alloc, &part, calls),
         None => 0,
+    }
+}
+
+/// As many rows, each a number of 8 bytes that is broadcast.
+#[unsafe(no_mangle)]
+pub extern "C" fn nd_speed_append_numbers(
+    alloc: Global,
+    items: &[i64],
+    number: &[i64],
+    lengths: &[usize],
+    calls: usize,
+) -> u64 {
+    match (
+        part_of(items, lengths, 0),
+        ArrayView::from_shape([1, 1], number),
+    ) {
+        (Some(part), Ok(number)) => numbers_again(alloc, &number, &part, calls),
+        _ => 0,
     }
 }

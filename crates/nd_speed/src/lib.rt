@@ -10,6 +10,7 @@ mod conditions;
 mod copies;
 mod elementwise;
 mod fills;
+mod joins;
 mod pairs;
 mod parts;
 mod reshapes;

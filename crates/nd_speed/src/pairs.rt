@@ -1,7 +1,7 @@
 //! Calls over two arrays, and rows chosen from one.
 //!
-//! The left array has `lengths`, its elements lie in row-major order. `case` says what the right side is: 0 as many elements
-//! in row-major order, 1 one row, 2 as many elements in column-major order.
+//! The left array has `lengths`, its elements lie in row-major order, or in column-major order where `turned` says so. `case`
+//! says what the right side is: 0 as many elements in row-major order, 1 one row, 2 as many elements in column-major order.
 
 ghost use Rattle.std.specs.Prelude.{◌≡◌, true};
 ghost use Rattle.nd_array_core.specs.Meaning.{shape_of, element_at};
@@ -23,6 +23,19 @@ fn right_of<'a, A>(items: &'a [A], lengths: &[usize], case: usize) -> Option<Arr
         0 => part_of(items, lengths, 0),
         1 => part_of(items, &[1, lengths[1]], 0),
         _ => part_of(items, &[lengths[1], lengths[0]], 1),
+    }
+}
+
+/// The left side in either order; None where there are too few elements.
+fn left_of<'a, A>(
+    items: &'a mut [A],
+    lengths: &[usize],
+    turned: bool,
+) -> Option<ArrayViewMut2<'a, A>> {
+    if lengths.len() == 2 && turned {
+        part_to_write(items, &[lengths[1], lengths[0]], 1)
+    } else {
+        part_to_write(items, lengths, 0)
     }
 }
 
@@ -121,11 +134,12 @@ pub extern "C" fn nd_speed_zip(
     left: &mut [i64],
     right: &[i64],
     lengths: &[usize],
+    turned: bool,
     case: usize,
     calls: usize,
 ) -> u64 {
     match (
-        part_to_write(left, lengths, 0),
+        left_of(left, lengths, turned),
         right_of(right, lengths, case),
     ) {
         (Some(mut left), Some(right)) => add_words(&mut left, &right, calls),
@@ -139,11 +153,12 @@ pub extern "C" fn nd_speed_zip_bytes(
     left: &mut [u8],
     right: &[u8],
     lengths: &[usize],
+    turned: bool,
     case: usize,
     calls: usize,
 ) -> u64 {
     match (
-        part_to_write(left, lengths, 0),
+        left_of(left, lengths, turned),
         right_of(right, lengths, case),
     ) {
         (Some(mut left), Some(right)) => add_bytes(&mut left, &right, calls),
@@ -157,11 +172,12 @@ pub extern "C" fn nd_speed_assign(
     left: &mut [i64],
     right: &[i64],
     lengths: &[usize],
+    turned: bool,
     case: usize,
     calls: usize,
 ) -> u64 {
     match (
-        part_to_write(left, lengths, 0),
+        left_of(left, lengths, turned),
         right_of(right, lengths, case),
     ) {
         (Some(left), Some(right)) => assign_again(left, &right, calls),
@@ -175,11 +191,12 @@ pub extern "C" fn nd_speed_assign_bytes(
     left: &mut [u8],
     right: &[u8],
     lengths: &[usize],
+    turned: bool,
     case: usize,
     calls: usize,
 ) -> u64 {
     match (
-        part_to_write(left, lengths, 0),
+        left_of(left, lengths, turned),
         right_of(right, lengths, case),
     ) {
         (Some(left), Some(right)) => assign_again(left, &right, calls),

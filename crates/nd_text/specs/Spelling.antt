@@ -2,7 +2,7 @@
 use Rattle.std.specs.Prelude.{Bool, true, false, ℕ, nat_lt, ◌==◌, List, [], ◌∷◌, length, codes, if◌then◌else◌}
 use Rattle.std.specs.Str.{bytes_eq}
 use Rattle.nd_text.specs.declared.keyword.Keyword.{Keyword}
-use Rattle.nd_text.specs.declared.keyword.Keyword.TheVariants.{Start, Keep, Ask, Write, Split, Slash, Cut, Slice, Collapse, Index, Permute, Reverse, SwapAxes, Invert, Insert, Remove, Squeeze, Diag, Broadcast, Part, Coordinate, New, Shape, Elements, Get, First, Last, Equal, Count, Select, RemoveIndex, Reshape, Append, Push, Reserve, Row, Column, Fill, Assign, Set, Swap, Other}
+use Rattle.nd_text.specs.declared.keyword.Keyword.TheVariants.{Start, Keep, Ask, Write, Split, Slash, Cut, Slice, Collapse, Index, Permute, Reverse, SwapAxes, Invert, Insert, Remove, Squeeze, Diag, Broadcast, Part, Coordinate, New, Shape, Elements, Get, First, Last, Equal, Count, Select, RemoveIndex, Reshape, Append, Push, Reserve, Concat, Stack, Row, Column, Fill, Assign, Set, Swap, Other}
 
 abbrev pub spelling : Keyword → List ℕ
 spelling Start = codes "start"
@@ -40,6 +40,8 @@ spelling Reshape = codes "reshape"
 spelling Append = codes "append"
 spelling Push = codes "push"
 spelling Reserve = codes "reserve"
+spelling Concat = codes "concat"
+spelling Stack = codes "stack"
 spelling Row = codes "row"
 spelling Column = codes "col"
 spelling Fill = codes "fill"
@@ -58,7 +60,7 @@ long_keywords = Collapse ∷ SwapAxes ∷ Elements ∷ Broadcast ∷ RemoveIndex
 
 -- the keywords of n bytes, or of more than seven
 abbrev pub keywords_of : ℕ → List Keyword
-keywords_of n = if nat_lt 7 n then long_keywords else (if n == 7 then Permute ∷ Reverse ∷ Squeeze ∷ Reshape ∷ Reserve ∷ [] else (if n == 6 then Invert ∷ Insert ∷ Remove ∷ Select ∷ Append ∷ Assign ∷ [] else (if n == 5 then Start ∷ Write ∷ Split ∷ Slice ∷ Index ∷ Shape ∷ First ∷ Equal ∷ Count ∷ [] else (if n == 4 then Keep ∷ Diag ∷ Last ∷ Push ∷ Fill ∷ Swap ∷ [] else (if n == 3 then Ask ∷ Cut ∷ Get ∷ Row ∷ Column ∷ Set ∷ [] else (if n == 1 then Slash ∷ Part ∷ Coordinate ∷ New ∷ [] else []))))))
+keywords_of n = if nat_lt 7 n then long_keywords else (if n == 7 then Permute ∷ Reverse ∷ Squeeze ∷ Reshape ∷ Reserve ∷ [] else (if n == 6 then Invert ∷ Insert ∷ Remove ∷ Select ∷ Append ∷ Concat ∷ Assign ∷ [] else (if n == 5 then Start ∷ Write ∷ Split ∷ Slice ∷ Index ∷ Shape ∷ First ∷ Equal ∷ Count ∷ Stack ∷ [] else (if n == 4 then Keep ∷ Diag ∷ Last ∷ Push ∷ Fill ∷ Swap ∷ [] else (if n == 3 then Ask ∷ Cut ∷ Get ∷ Row ∷ Column ∷ Set ∷ [] else (if n == 1 then Slash ∷ Part ∷ Coordinate ∷ New ∷ [] else []))))))
 
 unfoldable pub keyword_of : List ℕ → Keyword
 keyword_of word = keyword_among (keywords_of (length word)) word
