@@ -6,8 +6,8 @@ use Rattle.nd_shape_and_slice.specs.declared.builder.Order.{Order}
 use Rattle.nd_storage.specs.declared.storage.Data as data_trait
 use Rattle.nd_storage.specs.declared.storage.OwnedRepr.{OwnedRepr}
 use Rattle.nd_array_core.specs.declared.base.array.ArrayBase.{ArrayBase}
-use Rattle.nd_array_core.specs.declared.reshape.either.EitherArray.{EitherArray}
-use Rattle.nd_array_core.specs.declared.reshape.either.EitherArray.TheVariants.{View, Owned}
+use Rattle.nd_array_core.specs.declared.reshape.either_array.EitherArray.{EitherArray}
+use Rattle.nd_array_core.specs.declared.reshape.either_array.EitherArray.TheVariants.{View, Owned}
 use Rattle.nd_array_core.specs.Meaning.{meaning_of, shape_of, element_at}
 use Rattle.nd_array_core.specs.reshape.Serving.{regrouped_meaning}
 use Rattle.nd_array_core.specs.reshape.Either.{ViewsOrCopies, ShowsEither}

@@ -16,8 +16,8 @@ use Rattle.nd_layout.proofs.MemoryOrder.{same_placement}
 use Rattle.nd_storage.specs.declared.storage.Data as data_trait
 use Rattle.nd_storage.specs.declared.storage.OwnedRepr.{OwnedRepr}
 use Rattle.nd_array_core.specs.declared.base.array.ArrayBase.{ArrayBase}
-use Rattle.nd_array_core.specs.declared.base.errors.ArrayError.{ArrayError}
-use Rattle.nd_array_core.specs.declared.base.errors.ArrayError.TheVariants.{Shape, NoMemory}
+use Rattle.nd_array_core.specs.declared.base.array_error.ArrayError.{ArrayError}
+use Rattle.nd_array_core.specs.declared.base.array_error.ArrayError.TheVariants.{Shape, NoMemory}
 use Rattle.nd_array_core.specs.Meaning.{shape_of, storage_of}
 use Rattle.nd_array_core.specs.Part.{ShowsWhole}
 use Rattle.nd_storage.specs.Storages.{stored_list}

@@ -18,7 +18,7 @@ use Rattle.nd_layout.proofs.Removed.{displacement_of-inserted}
 use Rattle.nd_layout.specs.Places.{is_place, ReachesPlaces}
 use Rattle.nd_layout.specs.Steps.{IsStep}
 use Rattle.nd_layout.specs.Walk.{place_at_rank}
-use Rattle.nd_array_core.specs.declared.along.lent.LaneMut.{LaneMut}
+use Rattle.nd_array_core.specs.declared.along.lane_mut.LaneMut.{LaneMut}
 use Rattle.nd_storage.specs.Meaning.{Meaning, inside}
 use Rattle.nd_storage.specs.Places.{stored_at, names_place, place_number, HoldsAll}
 use Rattle.nd_storage.specs.FreeOrder.{AnswersThere, HasAnswers}

@@ -12,8 +12,8 @@ use Rattle.nd_shape_and_slice.specs.declared.errors.ErrorKind.{ErrorKind}
 use Rattle.nd_layout.specs.Growth.{grown_shape}
 use Rattle.nd_layout.proofs.Continued.{in_box-longer}
 use Rattle.nd_layout.proofs.Sizes.{nonzero_product-set}
-use Rattle.nd_array_core.specs.declared.base.errors.ArrayError.{ArrayError}
-use Rattle.nd_array_core.specs.declared.base.errors.ArrayError.TheVariants.{Shape, NoMemory}
+use Rattle.nd_array_core.specs.declared.base.array_error.ArrayError.{ArrayError}
+use Rattle.nd_array_core.specs.declared.base.array_error.ArrayError.TheVariants.{Shape, NoMemory}
 use Rattle.nd_array_core.specs.Joined.{concatenated, concatenated_alike}
 use Rattle.nd_array_core.specs.Laws.{NothingOutside}
 use Rattle.nd_storage.specs.Meaning.{Meaning}

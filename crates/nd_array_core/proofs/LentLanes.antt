@@ -13,7 +13,7 @@ use Rattle.nd_region.specs.Places.{names}
 use Rattle.nd_region.specs.Region.{region_stored, with_element}
 use Rattle.nd_region.proofs.Stored.{written_same, written_other}
 use Rattle.nd_region.proofs.Names.{named_at, named_by}
-use Rattle.nd_array_core.specs.declared.along.lent.LaneMut.{LaneMut}
+use Rattle.nd_array_core.specs.declared.along.lane_mut.LaneMut.{LaneMut}
 use Rattle.nd_storage.specs.Collected.{stored_along}
 use Rattle.nd_storage.specs.Meaning.{Meaning, inside}
 use Rattle.nd_storage.specs.Places.{stored_at, names_place, HoldsAll}

@@ -7,8 +7,8 @@ use Rattle.std.proofs.lemmas.List.{length-take, length-set}
 use Rattle.std.proofs.lemmas.List.Edits.{get_or-insert_at}
 use Rattle.nd_shape_and_slice.specs.Maps.{inserted_shape}
 use Rattle.nd_shape_and_slice.specs.declared.errors.ErrorKind.TheVariants.{IncompatibleShape}
-use Rattle.nd_array_core.specs.declared.base.errors.ArrayError.{ArrayError}
-use Rattle.nd_array_core.specs.declared.base.errors.ArrayError.TheVariants.{Shape, NoMemory}
+use Rattle.nd_array_core.specs.declared.base.array_error.ArrayError.{ArrayError}
+use Rattle.nd_array_core.specs.declared.base.array_error.ArrayError.TheVariants.{Shape, NoMemory}
 use Rattle.nd_storage.specs.CloneRefusals.{MayRefuseClone}
 use Rattle.nd_array_core.specs.growth.Grown.{IsNotForMemory}
 use Rattle.nd_array_core.specs.growth.Appended.{IsAlikeBeside, IsJoiningRefused, NotFitting, PushesAlike}

@@ -6,8 +6,8 @@ use Rattle.nd_shape_and_slice.specs.Place.{span_of}
 use Rattle.nd_shape_and_slice.specs.declared.builder.Order.{Order}
 use Rattle.nd_shape_and_slice.specs.declared.errors.ErrorKind.{ErrorKind}
 use Rattle.nd_shape_and_slice.specs.declared.errors.ErrorKind.TheVariants.{IncompatibleShape}
-use Rattle.nd_array_core.specs.declared.base.errors.ArrayError.{ArrayError}
-use Rattle.nd_array_core.specs.declared.base.errors.ArrayError.TheVariants.{Shape}
+use Rattle.nd_array_core.specs.declared.base.array_error.ArrayError.{ArrayError}
+use Rattle.nd_array_core.specs.declared.base.array_error.ArrayError.TheVariants.{Shape}
 use Rattle.nd_array_core.specs.reshape.Either.{IsReshapeRefused, NotAsMany, NotCopied}
 use Rattle.nd_layout.specs.Steps.{IsViewStep, IsValid}
 use Rattle.nd_layout.specs.Places.{ReachesPlaces}

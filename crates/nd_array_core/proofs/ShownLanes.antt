@@ -15,7 +15,7 @@ use Rattle.nd_layout.proofs.Integers.{sums, zero-mul, abs-mul}
 use Rattle.nd_layout.specs.Places.{is_place}
 use Rattle.nd_layout.specs.Steps.{IsValid}
 use Rattle.nd_shape_and_slice.specs.Maps.{indexed_shape}
-use Rattle.nd_array_core.specs.declared.along.showing.LaneView.{LaneView}
+use Rattle.nd_array_core.specs.declared.along.lane_view.LaneView.{LaneView}
 use Rattle.nd_storage.specs.Storages.{shown_by}
 use Rattle.nd_storage.specs.Collected.{collected, stored_along}
 use Rattle.nd_storage.specs.Places.{stored_at, HoldsAll}

@@ -19,8 +19,8 @@ mod layout;
 mod reshape;
 pub mod scoped;
 
-pub use along::lent::LaneMut;
-pub use along::showing::LaneView;
+pub use along::lane_mut::LaneMut;
+pub use along::lane_view::LaneView;
 pub use base::aliases::{
     Array0, Array1, Array2, Array3, Array4, Array5, Array6, ArrayD, ArrayView0, ArrayView1,
     ArrayView2, ArrayView3, ArrayView4, ArrayView5, ArrayView6, ArrayViewD, ArrayViewMut0,
@@ -28,12 +28,12 @@ pub use base::aliases::{
     ArrayViewMutD,
 };
 pub use base::array::{Array, ArrayBase, ArrayView, ArrayViewMut};
-pub use base::errors::ArrayError;
-pub use base::indexing::IndexLonger;
-pub use base::writing::GetMut;
-pub use growth::joining::fits_behind;
-pub use layout::splitting::MultiSliceArg;
+pub use base::array_error::ArrayError;
+pub use base::get::IndexLonger;
+pub use base::get_mut::GetMut;
+pub use growth::fits_behind::fits_behind;
+pub use layout::split_at::MultiSliceArg;
 pub use nd_storage::storage::{
     Data, DataMut, DataOwned, OwnedRepr, RegionRepr, ViewMutRepr, ViewRepr,
 };
-pub use reshape::either::{EitherArray, ViewOrOwned};
+pub use reshape::either_array::{EitherArray, ViewOrOwned};

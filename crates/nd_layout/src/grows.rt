@@ -8,7 +8,7 @@ ghost use Rattle.nd_layout.specs.Ranks.{fastest_first, IsRun};
 ghost use Rattle.nd_layout.specs.Growth.{IsContinued, case_number, greatest_end, greatest_step, grown_shape, growing_strides, growth_case, must_move, strides_in_case};
 ghost use Rattle.nd_layout.specs.Spans.{HasNoGaps, KeepsDisplacements};
 
-use crate::ordered::{axis_at, put_at};
+use crate::axis_at::{axis_at, put_at};
 use crate::spans::length_without;
 use nd_shape_and_slice::{Order, is_empty_shape};
 

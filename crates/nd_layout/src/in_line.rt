@@ -7,7 +7,7 @@ ghost use Rattle.nd_layout.specs.Strides.{reach_down};
 ghost use Rattle.nd_layout.specs.Walk.{IsOneLane, IsRearranged};
 
 use crate::layout::Layout;
-use crate::layout::given::reach_below;
+use crate::layout::offset_in_slice::reach_below;
 use crate::runs::is_run;
 use nd_shape_and_slice::{Dimension, StrideList, is_empty_shape};
 

@@ -5,7 +5,7 @@ ghost use Rattle.nd_shape_and_slice.specs.Shape.{size_of, HasCheckedSize};
 ghost use Rattle.nd_layout.specs.Places.{is_place, ReachesPlaces};
 ghost use Rattle.nd_layout.specs.Walk.{IsCutInLanes, IsLastAxis};
 
-use crate::layout::places::moved_by;
+use crate::layout::place_at::moved_by;
 use crate::walk::Walk;
 
 /// Places that lie a stride apart.

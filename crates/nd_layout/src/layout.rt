@@ -10,16 +10,16 @@ ghost use Rattle.nd_layout.specs.Steps.{IsValid};
 pub mod axes;
 mod broadcast;
 mod diagonal;
-pub mod given;
-pub mod merging;
-pub(crate) mod places;
-mod resizing;
-mod slicing;
-mod squeeze;
+pub mod offset_in_slice;
+pub mod merge_axes;
+pub(crate) mod place_at;
+mod insert_axis;
+mod slice_axis;
+mod squeezed;
 
-use given::strides_in;
+use offset_in_slice::strides_in;
 use nd_shape_and_slice::{Dimension, Order, StrideList, is_empty_shape};
-use places::{is_in_box, place_at};
+use place_at::{is_in_box, place_at};
 use std::alloc::AllocError;
 
 /// An offset, a shape and a signed stride for each axis. As many strides as lengths; the checked size exists;

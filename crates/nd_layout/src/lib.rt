@@ -3,16 +3,16 @@
 //! serve another shape. No storage and no element.
 #![tactic(auto)]
 
-mod continuing;
-mod fresh;
+mod grown;
+mod growing_order;
 mod grows;
 mod in_line;
 mod joined;
 mod lanes;
 mod layout;
-mod memory_order;
+mod tail_order;
 mod order;
-mod ordered;
+mod axis_at;
 mod reshape;
 mod runs;
 mod spans;
@@ -23,10 +23,10 @@ pub use grows::growth;
 pub use lanes::{Lane, Lanes};
 pub use layout::Layout;
 pub use layout::axes::stride_at;
-pub use layout::given::{offset_in_slice, offset_in_vec, reach_below, size_in_slice, size_in_vec};
-pub use layout::merging::furthest_axis;
-pub use memory_order::in_tail_order;
-pub use ordered::slow_axis_at;
+pub use layout::offset_in_slice::{offset_in_slice, offset_in_vec, reach_below, size_in_slice, size_in_vec};
+pub use layout::merge_axes::furthest_axis;
+pub use tail_order::in_tail_order;
+pub use axis_at::slow_axis_at;
 pub use reshape::reshape_strides;
 pub use runs::{is_run, is_standard};
 pub use spans::{separated, span};

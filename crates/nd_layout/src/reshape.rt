@@ -8,7 +8,7 @@ ghost use Rattle.nd_layout.specs.Spans.{KeepsSeparation};
 ghost use Rattle.nd_layout.specs.Strides.{RestsAtOnes};
 ghost use Rattle.nd_layout.specs.Groups.{IsClosed, TakesLength};
 
-use crate::ordered::{length_at, put_at, stride_at};
+use crate::axis_at::{length_at, put_at, stride_at};
 use nd_shape_and_slice::{Order, is_empty_shape};
 
 /// Axes that merge into one axis, and the number of the next axis.

@@ -5,7 +5,7 @@ ghost use Rattle.nd_shape_and_slice.specs.Shape.{HasCheckedSize, size_of};
 ghost use Rattle.nd_shape_and_slice.specs.Place.{span_of};
 ghost use Rattle.nd_layout.specs.Ranks.{IsRun, IsStandard};
 
-use crate::ordered::{length_at, stride_at};
+use crate::axis_at::{length_at, stride_at};
 use crate::spans::{separated, span};
 use nd_shape_and_slice::{Order, is_empty_shape};
 

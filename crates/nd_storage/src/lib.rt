@@ -4,11 +4,11 @@
 //! - `elements`: over all elements: shown, filled, changed, listed, compared, hashed, moved
 //! - `along`: along the lanes of one axis
 //! - `growth`: the elements of a vector moved into the order of a layout
-//! - `fresh`: lists that new arrays are made of
+//! - `base`: lists that new arrays are made of
 #![tactic(auto)]
 
 pub mod along;
 pub mod elements;
-pub mod fresh;
+pub mod base;
 pub mod growth;
 pub mod storage;

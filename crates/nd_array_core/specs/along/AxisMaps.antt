@@ -3,7 +3,7 @@ use Rattle.std.specs.Prelude.{◌≡◌, ℕ, List, [], ◌∷◌, Option, Some,
 use Rattle.std.specs.Fn.{Mut, Called}
 use Rattle.std.specs.List.{insert}
 use Rattle.nd_shape_and_slice.specs.Maps.{indexed_shape}
-use Rattle.nd_array_core.specs.declared.along.showing.LaneView.{LaneView}
+use Rattle.nd_array_core.specs.declared.along.lane_view.LaneView.{LaneView}
 use Rattle.nd_storage.specs.Storages.{shown_by}
 use Rattle.nd_storage.specs.Collected.{stored_along}
 use Rattle.nd_storage.specs.Meaning.{Meaning, inside}

@@ -6,7 +6,7 @@ use Rattle.std.specs.List.{remove}
 use Rattle.nd_shape_and_slice.specs.Shape.{in_box}
 use Rattle.nd_region.specs.declared.region.Region.{Region}
 use Rattle.nd_region.specs.Region.{region_stored, borrow_of}
-use Rattle.nd_array_core.specs.declared.along.lent.LaneMut.{LaneMut}
+use Rattle.nd_array_core.specs.declared.along.lane_mut.LaneMut.{LaneMut}
 use Rattle.nd_storage.specs.Collected.{stored_along}
 use Rattle.nd_storage.specs.Meaning.{Meaning, inside}
 use Rattle.nd_storage.specs.Places.{stored_at}

@@ -8,8 +8,8 @@ use Rattle.nd_storage.specs.Places.{HoldsAll}
 use Rattle.nd_layout.specs.Placements.{Placement}
 use Rattle.nd_shape_and_slice.specs.declared.errors.ErrorKind.{ErrorKind}
 use Rattle.nd_layout.specs.Refusals.{vec_refusal, slice_refusal, slice_mut_refusal}
-use Rattle.nd_array_core.specs.declared.base.constructors.GivenIn.{GivenIn}
-use Rattle.nd_array_core.specs.declared.base.constructors.GivenIn.TheVariants.{Vector, Slice, SliceMut}
+use Rattle.nd_array_core.specs.declared.base.from_shape.GivenIn.{GivenIn}
+use Rattle.nd_array_core.specs.declared.base.from_shape.GivenIn.TheVariants.{Vector, Slice, SliceMut}
 
 -- why a shape, strides of the caller's and a count of elements don't fit together
 abbrev pub refusal_in : GivenIn → List ℕ → Option (List ℤ) → ℕ → Option ErrorKind

@@ -10,8 +10,8 @@ use Rattle.nd_layout.specs.Placements.{Placement}
 use Rattle.nd_storage.specs.declared.storage.Data as data_trait
 use Rattle.nd_storage.specs.declared.storage.OwnedRepr.{OwnedRepr}
 use Rattle.nd_array_core.specs.declared.base.array.ArrayBase.{ArrayBase}
-use Rattle.nd_array_core.specs.declared.base.errors.ArrayError.{ArrayError}
-use Rattle.nd_array_core.specs.declared.base.errors.ArrayError.TheVariants.{Shape, NoMemory}
+use Rattle.nd_array_core.specs.declared.base.array_error.ArrayError.{ArrayError}
+use Rattle.nd_array_core.specs.declared.base.array_error.ArrayError.TheVariants.{Shape, NoMemory}
 use Rattle.nd_storage.specs.Collected.{IsFront}
 use Rattle.nd_storage.specs.Meaning.{Meaning}
 use Rattle.nd_array_core.specs.Meaning.{shape_of, storage_of, layout_strides, layout_offset}

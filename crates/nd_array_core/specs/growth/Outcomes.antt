@@ -13,7 +13,7 @@ use Rattle.nd_storage.specs.CloneRefusals.{MayRefuseClone}
 use Rattle.nd_storage.specs.Meaning.{Meaning}
 use Rattle.nd_storage.specs.Places.{HoldsAll}
 use Rattle.nd_array_core.specs.declared.base.array.ArrayBase.{ArrayBase}
-use Rattle.nd_array_core.specs.declared.base.errors.ArrayError.TheVariants.{NoMemory}
+use Rattle.nd_array_core.specs.declared.base.array_error.ArrayError.TheVariants.{NoMemory}
 use Rattle.nd_array_core.specs.Joined.{concatenated, concatenated_shape}
 use Rattle.nd_array_core.specs.Meaning.{meaning_of}
 use Rattle.nd_array_core.specs.growth.Appended.{IsAlikeBeside}

@@ -7,12 +7,12 @@ use Rattle.nd_shape_and_slice.specs.declared.builder.Order.{Order}
 use Rattle.nd_shape_and_slice.specs.declared.builder.Order.TheVariants.{RowMajor}
 use Rattle.nd_shape_and_slice.specs.declared.errors.ErrorKind.TheVariants.{IncompatibleShape}
 use Rattle.nd_array_core.specs.declared.base.array.ArrayBase.{ArrayBase}
-use Rattle.nd_array_core.specs.declared.base.errors.ArrayError.{ArrayError}
-use Rattle.nd_array_core.specs.declared.base.errors.ArrayError.TheVariants.{Shape, NoMemory}
+use Rattle.nd_array_core.specs.declared.base.array_error.ArrayError.{ArrayError}
+use Rattle.nd_array_core.specs.declared.base.array_error.ArrayError.TheVariants.{Shape, NoMemory}
 use Rattle.nd_storage.specs.declared.storage.Data as data_trait
 use Rattle.nd_storage.specs.declared.storage.OwnedRepr.{OwnedRepr}
-use Rattle.nd_array_core.specs.declared.reshape.either.EitherArray.{EitherArray}
-use Rattle.nd_array_core.specs.declared.reshape.either.EitherArray.TheVariants.{View, Owned}
+use Rattle.nd_array_core.specs.declared.reshape.either_array.EitherArray.{EitherArray}
+use Rattle.nd_array_core.specs.declared.reshape.either_array.EitherArray.TheVariants.{View, Owned}
 use Rattle.nd_storage.specs.Meaning.{Meaning}
 use Rattle.nd_array_core.specs.Meaning.{meaning_of, shape_of, element_at, layout_strides, storage_of}
 use Rattle.nd_array_core.specs.Part.{ShowsWhole}

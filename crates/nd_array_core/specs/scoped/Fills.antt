@@ -9,7 +9,7 @@ use Rattle.nd_array_core.specs.declared.base.array.ArrayBase.{ArrayBase}
 use Rattle.nd_shape_and_slice.specs.declared.slice_info.SliceInfoElem.{SliceInfoElem}
 use Rattle.nd_shape_and_slice.specs.Naming.{names_index}
 use Rattle.nd_storage.specs.declared.storage.RegionRepr.{RegionRepr}
-use Rattle.nd_array_core.specs.declared.scoped.tasks.LentView.{LentView}
+use Rattle.nd_array_core.specs.declared.scoped.with_view_mut.LentView.{LentView}
 use Rattle.nd_region.specs.declared.region.Region.{Region}
 use Rattle.nd_array_core.specs.Meaning.{shape_of, element_at}
 use Rattle.nd_storage.specs.Meaning.{inside}

@@ -7,7 +7,7 @@ use Rattle.nd_region.specs.Places.{names, LayoutsShareNoPlace}
 use Rattle.nd_region.specs.Region.{region_stored, borrow_of}
 use Rattle.nd_region.specs.declared.region.Region.{Region}
 use Rattle.nd_storage.specs.declared.storage.RegionRepr.{RegionRepr}
-use Rattle.nd_array_core.specs.declared.scoped.tasks.LentView.{LentView}
+use Rattle.nd_array_core.specs.declared.scoped.with_view_mut.LentView.{LentView}
 use Rattle.nd_storage.specs.Places.{place_number, HoldsAll}
 use Rattle.nd_array_core.specs.PlacedArray.{PlacedArray, element_placed}
 use Rattle.nd_storage.specs.Meaning.{inside}

@@ -1,11 +1,11 @@
 //! Calls along one axis.
 
-mod accumulating;
-mod beside;
-mod folding;
-pub mod lent;
-mod mapping;
-mod mapping_mut;
-mod removal;
-mod selection;
-pub mod showing;
+mod accumulate_axis;
+mod fold_beside;
+mod fold_axis;
+pub mod lane_mut;
+mod map_axis;
+mod map_axis_mut;
+mod remove_index;
+mod select;
+pub mod lane_view;

@@ -2,14 +2,14 @@
 
 pub mod aliases;
 pub mod array;
-pub mod constructors;
-pub mod conversions;
-pub mod copies;
-pub mod ends;
-pub mod errors;
-pub mod extents;
-pub mod fresh;
-pub mod from_functions;
-pub mod indexing;
-pub mod square;
-pub mod writing;
+pub mod from_shape;
+pub mod from;
+pub mod clone;
+pub mod last;
+pub mod array_error;
+pub mod dim;
+pub mod from_elem;
+pub mod from_shape_fn;
+pub mod get;
+pub mod eye;
+pub mod get_mut;

@@ -1,18 +1,18 @@
 //! Calls over all elements.
 
-mod assigns;
-mod changes;
-pub mod equality;
+mod assign;
+mod map_inplace;
+pub mod eq;
 pub mod fill;
-mod folds;
-pub mod hashing;
-mod inplace;
-pub mod listing;
-mod maps;
-mod maps_mut;
-mod moves;
-pub mod owned;
-mod pairs;
-mod scalars;
-mod values;
-mod visits;
+mod fold;
+pub mod hash;
+mod mapv_inplace;
+pub mod to_vec;
+mod map;
+mod map_mut;
+mod move_into;
+pub mod to_owned;
+mod zip_mut_with;
+mod into_scalar;
+mod mapv;
+mod for_each;

@@ -1,9 +1,9 @@
 //! Owned arrays that grow.
 
-mod appending;
-mod in_turn;
-pub mod joining;
-mod pushing;
-mod relaying;
-mod reserving;
-mod tail;
+mod append;
+mod append_each;
+pub mod fits_behind;
+mod push;
+mod relay;
+mod reserve;
+mod put_behind;

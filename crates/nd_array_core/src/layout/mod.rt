@@ -3,7 +3,7 @@
 
 pub mod axes;
 pub mod broadcast;
-pub mod lending;
-pub mod slicing;
-pub mod splitting;
-pub mod two_d;
+pub mod view_mut;
+pub mod slice;
+pub mod split_at;
+pub mod row;

@@ -1,15 +1,15 @@
 //! Calls that lend mutable views to a task for their length: of the whole array, of a part, and of two parts at once.
 
-mod assigned_slices;
-mod fills;
-pub mod pairs;
-mod parts;
-mod slices;
-mod sources;
-mod tasks;
+mod assign_slice;
+mod fill_slice;
+pub mod with_split_at;
+mod with_slice_mut;
+mod with_multi_slice_mut;
+mod with_view_of;
+mod with_view_mut;
 
-pub use assigned_slices::{Assign, Change};
-pub use fills::Fill;
-pub use pairs::PairTask;
-pub use sources::with_view_of;
-pub use tasks::{LentView, ViewTask};
+pub use assign_slice::{Assign, Change};
+pub use fill_slice::Fill;
+pub use with_split_at::PairTask;
+pub use with_view_of::with_view_of;
+pub use with_view_mut::{LentView, ViewTask};

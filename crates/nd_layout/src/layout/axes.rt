@@ -9,7 +9,7 @@ ghost use Rattle.nd_layout.specs.Steps.{IsStep};
 ghost use Rattle.nd_layout.specs.Placements.{placement_of, IsStepOf};
 
 use super::Layout;
-use super::places::moved_by;
+use super::place_at::moved_by;
 use nd_shape_and_slice::{Dimension, StrideList, is_empty_shape};
 
 /// The length of an axis.

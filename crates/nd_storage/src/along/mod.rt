@@ -1,5 +1,5 @@
 //! The lanes of an axis.
 
-pub mod accumulating;
-pub mod lanes;
-pub mod removal;
+pub mod accumulate_axis;
+pub mod first_places;
+pub mod remove_index;

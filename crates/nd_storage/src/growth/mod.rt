@@ -1,3 +1,3 @@
 //! Elements moved into fresh storage.
 
-pub mod moving;
+pub mod lay_anew;

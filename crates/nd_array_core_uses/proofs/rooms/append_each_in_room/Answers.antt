@@ -1,6 +1,6 @@
 use Rattle.std.specs.Prelude.{ℕ, List}
 use Rattle.std.proofs.Common.{subst}
-use Rattle.nd_array_core.specs.declared.base.errors.ArrayError.{ArrayError}
+use Rattle.nd_array_core.specs.declared.base.array_error.ArrayError.{ArrayError}
 use Rattle.nd_array_core.specs.Meaning.{Meaning}
 use Rattle.nd_array_core.specs.growth.InTurn.{meanings_of, IsNotForMemoryInTurn, LacksMemory}
 use Rattle.nd_array_core_uses.specs.Rooms.{AreAllCloned}

@@ -1,6 +1,6 @@
 use Rattle.std.proofs.Common.{◌≡◌, set, Some, ap, sym, subst, ◌∙◌}
-use Rattle.nd_array_core.specs.declared.base.errors.ArrayError.{ArrayError}
-use Rattle.nd_array_core.specs.declared.base.errors.ArrayError.TheVariants.{NoMemory, Shape}
+use Rattle.nd_array_core.specs.declared.base.array_error.ArrayError.{ArrayError}
+use Rattle.nd_array_core.specs.declared.base.array_error.ArrayError.TheVariants.{NoMemory, Shape}
 use Rattle.nd_array_core.specs.Laws.{NothingOutside}
 use Rattle.nd_array_core.specs.Meaning.{Meaning, meaning_of}
 use Rattle.nd_array_core.specs.growth.InTurn.{meanings_of}

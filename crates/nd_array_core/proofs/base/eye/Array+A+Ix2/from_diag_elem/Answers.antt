@@ -1,0 +1,13 @@
+use Rattle.std.proofs.Common.{sym, ap}
+use Rattle.std.specs.Prelude.{Some}
+use Rattle.nd_storage.specs.StorageFrame.{Owned}
+use Rattle.nd_array_core.specs.Meaning.{element_at}
+use Rattle.nd_array_core.proofs.Frames.{keeps_again}
+use Rattle.nd_array_core.proofs.Diagonals.{diagonal_more}
+use Rattle.nd_array_core.proofs.base.eye.Array+A+Ix2.from_diag_elem.Goals as goal
+
+pub loop-k-preserved : goal.loop-k-preserved
+loop-k-preserved g c = (
+  keeps_again (λ s. Owned s.items.len s.items.cap) c.in_ok-matrix.matrix c.loop-k.matrix c.replace.new.self c.replace.ensures.new.1 c.loop-k.invariant.0,
+  diagonal_more c.args.n (λ k. Some c.args.elem) g.A.Zero.zero (element_at c.loop-k.matrix) (element_at c.replace.new.self) c.loop-k.k _ c.loop-k-test.true (ap Some (sym (c.in_ok-cloned.ensures {u = tt}))) (λ i. c.replace.ensures.new.0 i) c.loop-k.invariant.1,
+)

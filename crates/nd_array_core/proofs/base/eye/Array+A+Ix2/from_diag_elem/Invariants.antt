@@ -1,0 +1,11 @@
+use Rattle.std.specs.Prelude.{Some}
+use Rattle.nd_storage.specs.StorageFrame.{Owned}
+use Rattle.nd_array_core.specs.base.Writes.{KeepsFrame}
+use Rattle.nd_array_core.specs.Meaning.{element_at}
+use Rattle.nd_array_core.proofs.Diagonals.{IsDiagonalTo}
+use Rattle.nd_array_core.proofs.base.eye.Array+A+Ix2.from_diag_elem.Given as goal
+
+abbrev pub invariant-loop-k : goal.invariant-loop-k
+invariant-loop-k g l =
+    KeepsFrame (λ s. Owned s.items.len s.items.cap) l.initial.matrix l.matrix
+    × IsDiagonalTo l.fn.n (λ k. Some l.fn.elem) g.A.Zero.zero (element_at l.matrix) l.k

@@ -1,0 +1,63 @@
+use Rattle.std.proofs.Common.{◌≡◌, ◌∙◌, ℕ, [], List}
+use Rattle.nd_shape_and_slice.specs.Shape.{size_of, index_at}
+use Rattle.nd_shape_and_slice.specs.declared.builder.Order.TheVariants.{RowMajor}
+use Rattle.nd_storage.specs.Collected.{stored_by_rank}
+use Rattle.nd_array_core.specs.Meaning.{meaning_of, element_at}
+use Rattle.nd_storage.specs.ByRank.{found_by_rank}
+use Rattle.nd_storage.specs.elements.Maps.{AnswersValue, MayBeGiven, AnswersBehind}
+use Rattle.nd_storage.proofs.Collecting.{joined_has, joined_clones}
+use Rattle.nd_storage.proofs.Mapped.{joined_numbers, joined_there, joined_shows, indexes_taken, indexes_answered}
+use Rattle.nd_array_core.proofs.elements.mapv.mapv_in_order.Goals as goal
+
+pub value_places-requires-clause-holds : goal.value_places-requires-clause-holds
+value_places-requires-clause-holds g c =
+    let layout = c.args.array.now.layout in
+    let joined = rw (c.copied-joined.ensures.lengths, c.copied-joined.ensures.strides) at c.join_axes.ensures.joined in
+    rw (c.slice.ensures.lengths, c.slice-2.ensures)
+    (joined_has (g.S.Data.stored c.args.array.now.storage) layout.offset (g.D.Dimension.lengths layout.dim) (g.D.Strides.StrideList.strides_of layout.strides)
+    c.join_axes.new.self.offset (g.D.Dimension.lengths c.join_axes.new.self.dim) (g.D.Strides.StrideList.strides_of c.join_axes.new.self.strides)
+    (c.join_axes.ensures.offset ∙ c.copied-joined.ensures.offset) joined c.args.array.now.inside)
+
+pub value_places-requires-clause-callable : goal.value_places-requires-clause-callable
+unfolding meaning_of
+value_places-requires-clause-callable g c =
+    let array = c.args.array.now in
+    let order = c.join_axes.new.self in
+    let stored = g.S.Data.stored array.storage in
+    let ns = g.D.Dimension.lengths array.layout.dim in
+    let ss = g.D.Strides.StrideList.strides_of array.layout.strides in
+    let ms = g.D.Dimension.lengths order.dim in
+    let ts = g.D.Strides.StrideList.strides_of order.strides in
+    let joined = rw (c.copied-joined.ensures.lengths, c.copied-joined.ensures.strides) at c.join_axes.ensures.joined in
+    let from = c.join_axes.ensures.offset ∙ c.copied-joined.ensures.offset in
+    rw (c.slice.ensures.lengths, c.slice-2.ensures)
+    (indexes_taken (AnswersValue g.F.FnMut) (joined_numbers ns ss ms ts joined) _ (stored_by_rank stored order.offset ms ts) (joined_there ns ss ms ts joined stored array.layout.offset order.offset from)
+    (MayBeGiven g.F.FnMut) c.args.f c.requires.callable)
+
+pub returns-clause-visits : goal.returns-clause-visits
+unfolding meaning_of
+returns-clause-visits g c =
+    let array = c.args.array.now in
+    let order = c.join_axes.new.self in
+    let stored = g.S.Data.stored array.storage in
+    let ns = g.D.Dimension.lengths array.layout.dim in
+    let ss = g.D.Strides.StrideList.strides_of array.layout.strides in
+    let ms = g.D.Dimension.lengths order.dim in
+    let ts = g.D.Strides.StrideList.strides_of order.strides in
+    let joined = rw (c.copied-joined.ensures.lengths, c.copied-joined.ensures.strides) at c.join_axes.ensures.joined in
+    let from = c.join_axes.ensures.offset ∙ c.copied-joined.ensures.offset in
+    let items = c.in_ok-_f.items.items in
+    let answers : AnswersBehind (AnswersValue g.F.FnMut) (stored_by_rank stored order.offset ms ts) (size_of ms) [] items c.args.f c.in_ok-_f._f = rw (c.slice.ensures.lengths, c.slice-2.ensures) at c.in_ok-_f.ensures.answers in
+    let seen : (i : List ℕ) → element_at c.of_items.result i ≡ found_by_rank (ns, RowMajor) items i = λ i. c.of_items.ensures.owns.4 i ∙ (λ k. found_by_rank (c.raw_dim.ensures k, RowMajor) (c.of_items.ensures.stored k) i) in
+    indexes_answered (AnswersValue g.F.FnMut) (joined_numbers ns ss ms ts joined) _ (stored_by_rank stored order.offset ms ts) (joined_there ns ss ms ts joined stored array.layout.offset order.offset from)
+    (element_at c.of_items.result) items (λ k below. seen (index_at ns k) ∙ joined_shows ns ss ms ts joined items k below) c.args.f c.in_ok-_f._f answers
+
+pub value_places-requires-clause-clones : goal.value_places-requires-clause-clones
+unfolding meaning_of
+value_places-requires-clause-clones g c =
+    let layout = c.args.array.now.layout in
+    let joined = rw (c.copied-joined.ensures.lengths, c.copied-joined.ensures.strides) at c.join_axes.ensures.joined in
+    rw (c.slice.ensures.lengths, c.slice-2.ensures)
+    (joined_clones (g.S.Data.stored c.args.array.now.storage) layout.offset (g.D.Dimension.lengths layout.dim) (g.D.Strides.StrideList.strides_of layout.strides)
+    c.join_axes.new.self.offset (g.D.Dimension.lengths c.join_axes.new.self.dim) (g.D.Strides.StrideList.strides_of c.join_axes.new.self.strides)
+    (c.join_axes.ensures.offset ∙ c.copied-joined.ensures.offset) joined g.S.Elem.Clone.is_clone c.requires.clones)

@@ -1,0 +1,86 @@
+use Rattle.std.proofs.Common.{◌≡◌, ◌∙◌, ◌+◌, ◌<◌, ℕ, Bool, true, false, ap, get_or, length, replicate, pos, sym, refl, arith, ⊎_elim}
+use Rattle.std.proofs.lemmas.List.{length-set}
+use Rattle.std.proofs.lemmas.Bool.{cases_eq, true≢false}
+use Rattle.nd_shape_and_slice.specs.Shape.{size_of}
+use Rattle.std.specs.Prelude.{slice_get}
+use Rattle.nd_layout.specs.Placements.{placement_of}
+use Rattle.nd_array_core.specs.Meaning.{meaning_of, memory_layout_of}
+use Rattle.nd_array_core.specs.Joined.{concatenated}
+use Rattle.nd_array_core.specs.growth.Grown.{lies}
+use Rattle.nd_array_core.proofs.Appending.{fits_none, fits_size, joined_nothing, no_index, nothing_joined, same_none, shown}
+use Rattle.nd_array_core.proofs.GrownArrays.{added_is, goes_empty, goes_same, grown_some, laid_empty, laid_same}
+use Rattle.nd_array_core.proofs.growth.append.Array+A+D.append_nothing.Goals as goal
+
+some_there : (n : ℕ) (b : Bool) → (n ≡ 0 → b ≡ true) → b ≡ false → 0 < n
+some_there n b none is =
+    ⊎_elim
+    (λ (zero : n ≡ 0). absurd (true≢false (sym (none zero) ∙ is)))
+    (λ (other : n ≡ 0 → ⊥). omega arith)
+    (cases_eq n 0)
+
+pub returns-then-not-is_empty : goal.returns-then-not-is_empty
+unfolding meaning_of memory_layout_of
+returns-then-not-is_empty g c =
+    let old = c.args.self.now in
+    let items = old.storage.items.items in
+    let ns = g.D.Dimension.lengths old.layout.dim in
+    let ms = g.D.Dimension.lengths c.args.array.now.layout.dim in
+    let axis = c.args.axis.0 in
+    let comes = c.requires.comes in
+    let some : 0 < size_of ns = some_there (size_of ns) c.is_empty.result c.is_empty.ensures.1 c.if-not-is_empty.true in
+    let nothing = fits_none ns ms axis comes.on comes.alike some c.requires.none in
+    record {
+      joined = sym (joined_nothing axis (meaning_of old) (meaning_of c.args.array.now) comes.on nothing (λ i outside. rw outside refl));
+      laid = laid_same axis (get_or ms axis 0) (lies old) (lies old) items items refl refl (grown_some ns axis (get_or ms axis 0) comes.on some) nothing refl;
+      ready = λ more. absurd (let is = added_is ns ms axis comes.on comes.alike in omega (arith, is, more, c.requires.none));
+      goes_on = goes_same axis 0 (lies old) (lies old) items items refl refl refl refl;
+      room = λ _. omega arith;
+    }
+
+pub without_elements-self-requires-clause-none : goal.without_elements-self-requires-clause-none
+unfolding meaning_of
+without_elements-self-requires-clause-none g c =
+    let ns = g.D.Dimension.lengths c.args.self.now.layout.dim in
+    let ms = g.D.Dimension.lengths c.args.array.now.layout.dim in
+    let size = fits_size ns ms c.args.axis.0 c.requires.comes.on c.requires.comes.alike in
+    let none = c.is_empty.ensures.0 c.if-not-is_empty.false in
+    ap size_of c.requires.dim ∙ omega (arith, size, none, c.requires.none)
+
+pub invariant_of-self : goal.invariant_of-self
+unfolding meaning_of
+invariant_of-self g c =
+    let new = c.without_elements-self.result in
+    let ns = g.D.Dimension.lengths c.args.self.now.layout.dim in
+    let ms = g.D.Dimension.lengths c.args.array.now.layout.dim in
+    let size = fits_size ns ms c.args.axis.0 c.requires.comes.on c.requires.comes.alike in
+    let no = c.is_empty.ensures.0 c.if-not-is_empty.false in
+    let none : size_of (g.D.Dimension.lengths new.dim) ≡ 0 = ap size_of (c.without_elements-self.ensures.lengths ∙ c.requires.dim) ∙ omega (arith, size, no, c.requires.none) in
+    record {
+      inside = λ i h. absurd (no_index (g.D.Dimension.lengths new.dim) i none h);
+      separated = λ _ some. absurd (omega (arith, none, some));
+    }
+
+pub returns : goal.returns
+unfolding meaning_of memory_layout_of
+returns g c =
+    let old = c.args.self.now in
+    let items = old.storage.items.items in
+    let ns = g.D.Dimension.lengths old.layout.dim in
+    let ms = g.D.Dimension.lengths c.args.array.now.layout.dim in
+    let axis = c.args.axis.0 in
+    let comes = c.requires.comes in
+    let none = c.is_empty.ensures.0 c.if-not-is_empty.false in
+    let size = fits_size ns ms axis comes.on comes.alike in
+    let laid = c.without_elements-self in
+    let new = placement_of laid.result in
+    let shape = laid.ensures.lengths ∙ c.requires.dim in
+    let axes : length (g.D.Dimension.lengths c.args.dim) ≡ length ns = ap length c.requires.dim ∙ length-set ns axis (get_or ns axis 0 + get_or ms axis 0) in
+    record {
+      joined = same_none (shown new (slice_get items)) (concatenated axis (meaning_of old) (meaning_of c.args.array.now)) shape
+          (omega (arith, size, none, c.requires.none)) (λ i outside. rw outside refl) (nothing_joined axis (meaning_of old) (meaning_of c.args.array.now));
+      laid = laid_empty axis (get_or ms axis 0) (lies old) new items items refl laid.ensures.offset (omega (arith, size, none, c.requires.none))
+          (laid.ensures.strides ∙ ap (λ n. replicate n (pos 0)) axes);
+      ready = λ more. absurd (let is = added_is ns ms axis comes.on comes.alike in omega (arith, is, more, c.requires.none));
+      goes_on = goes_empty axis 0 (lies old) new items items refl laid.ensures.offset none (ap size_of shape ∙ omega (arith, size, none, c.requires.none));
+      room = λ _. omega arith;
+    }

@@ -1,0 +1,166 @@
+use Rattle.std.proofs.Common.{◌≡◌, ◌+◌, ◌≤◌, get_or, length, take, ap, sym, subst, ◌∙◌, arith, refl}
+use Rattle.std.proofs.lemmas.List.{length-map, length-set, take_all}
+use Rattle.nd_shape_and_slice.specs.Shape.{in_box, HasCheckedSize}
+use Rattle.nd_array_core.specs.Joined.{concatenated}
+use Rattle.nd_array_core.specs.Laws.{NothingOutside}
+use Rattle.nd_array_core.specs.Meaning.{meaning_of, shape_of, storage_of}
+use Rattle.nd_storage.specs.Clones.{ClonesOfAllAreEqual}
+use Rattle.nd_storage.specs.Storages.{room_of, stored_list}
+use Rattle.nd_layout.specs.Growth.{grown_shape}
+use Rattle.nd_array_core.specs.growth.Appended.{FitsBehind, IsAppendRefused}
+use Rattle.nd_array_core.specs.growth.Grown.{BecomesReady, IsGrownBy, IsNotForMemory, KeepsRoom, LeavesRoom}
+use Rattle.nd_array_core.specs.growth.InTurn.{joined_in_turn, lengths_along, meanings_of, IsGrownInTurn}
+use Rattle.nd_array_core.proofs.Appending.{same_at}
+use Rattle.nd_array_core.proofs.GoneOn.{grown_last, goes_left, goes_nowhere, goes_then, leaves_none, leaves_then, ready_then, room_then, still_then}
+use Rattle.nd_array_core.proofs.GrownArrays.{room_within}
+use Rattle.nd_array_core.proofs.JoinedInTurn.{all_fit, each_mapped, in_box-grown, joined_more, lengths_more, lengths_within, mapped_get, none_fit, one_more_fits, only_memory, shape_in_turn, take_next, turn_alike}
+use Rattle.nd_array_core.proofs.growth.append_each.Array+A+D.append_each.Goals as goal
+
+pub loop-nth-init : goal.loop-nth-init
+loop-nth-init g c =
+    let old = c.args.self.now in
+    (c.requires.axis, refl, goes_nowhere c.args.axis.0 old, (λ _. omega arith), (λ _. leaves_none c.args.axis.0 old), (λ still. still), (λ some. absurd (omega (arith, some))), refl, none_fit c.args.axis.0 (shape_of old) (meanings_of c.args.arrays.now), (λ _. refl))
+
+pub append-requires-clause-clones : goal.append-requires-clause-clones
+append-requires-clause-clones g c =
+    let x = c.index-arrays-nth.result in
+    let whole = c.view.ensures.whole in
+    subst (λ m. ClonesOfAllAreEqual g.A.Clone.is_clone m.at) (sym (same_at (meaning_of c.view.result) (meaning_of x) whole.0 whole.2))
+    (c.requires.clones c.loop-nth.nth (meaning_of x) (mapped_get (λ a. meaning_of a) c.args.arrays.now c.loop-nth.nth x c.loop-nth-test.true c.index-arrays-nth.is))
+
+pub returns-in-Err-clause-refused : goal.returns-in-Err-clause-refused
+returns-in-Err-clause-refused g c =
+    let x = c.index-arrays-nth.result in
+    let axis = c.args.axis.0 in (
+      meaning_of x,
+      mapped_get (λ a. meaning_of a) c.args.arrays.now c.loop-nth.nth x c.loop-nth-test.true c.index-arrays-nth.is,
+      subst (λ m. IsAppendRefused m.shape (meaning_of x).shape axis c.in-Err.refused) (sym c.in-Err.ensures.kept)
+          (subst (λ s. IsAppendRefused (meaning_of c.loop-nth.self).shape s axis c.in-Err.refused) c.view.ensures.whole.0 c.in-Err.ensures.refused),
+    )
+
+pub returns-in-Err-clause-kept : goal.returns-in-Err-clause-kept
+returns-in-Err-clause-kept g c = c.in-Err.ensures.kept ∙ c.loop-nth.invariant.1
+
+pub returns-in-Err-clause-goes_on : goal.returns-in-Err-clause-goes_on
+returns-in-Err-clause-goes_on g c ready = goes_left c.args.axis.0 c.args.self.now c.loop-nth.self c.append.new.self c.in-Err.refused c.in-Err.ensures.left (c.loop-nth.invariant.2 ready)
+
+pub returns-in-Err-clause-enough : goal.returns-in-Err-clause-enough
+returns-in-Err-clause-enough g c for_all =
+    let ready = for_all.0 in
+    let room = for_all.1 in
+    let x = c.index-arrays-nth.result in
+    let axis = c.args.axis.0 in
+    let old = c.args.self.now in
+    let ms = meanings_of c.args.arrays.now in
+    let nth = c.loop-nth.nth in
+    let whole = c.view.ensures.whole in
+    let so_far = c.loop-nth.invariant in
+    let get = mapped_get (λ a. meaning_of a) c.args.arrays.now nth x c.loop-nth-test.true c.index-arrays-nth.is in
+    let k = get_or (shape_of c.view.result) axis 0 in
+    let same : k ≡ get_or (shape_of x) axis 0 = ap (λ s. get_or s axis 0) whole.0 in
+    let taken = lengths_along axis (take nth ms) in
+    let within = lengths_within axis (meaning_of x) ms nth get in
+    let fewer : k + taken ≤ lengths_along axis ms = omega (arith, within, same) in
+    let here = so_far.4 ready k (room_within (shape_of old) axis (k + taken) (lengths_along axis ms) (length (stored_list (storage_of old))) (room_of (storage_of old)) fewer room) in (
+      meaning_of x,
+      get,
+      subst (λ m. IsNotForMemory g.A.Clone.is_infallible m.at c.in-Err.refused) (same_at (meaning_of c.view.result) (meaning_of x) whole.0 whole.2) (c.in-Err.ensures.enough ((so_far.2 ready).ready, here)),
+    )
+
+pub returns-in-Err-clause-fitting : goal.returns-in-Err-clause-fitting
+returns-in-Err-clause-fitting g c fit =
+    let x = c.index-arrays-nth.result in
+    let axis = c.args.axis.0 in
+    let old = c.args.self.now in
+    let ms = meanings_of c.args.arrays.now in
+    let nth = c.loop-nth.nth in
+    let get = mapped_get (λ a. meaning_of a) c.args.arrays.now nth x c.loop-nth-test.true c.index-arrays-nth.is in
+    let fits = fit.0 nth (meaning_of x) get in
+    only_memory (shape_of old) (shape_of x) (shape_of c.loop-nth.self) axis (lengths_along axis (take nth ms)) (lengths_along axis ms) c.in-Err.refused
+    (ap (λ m. m.shape) c.loop-nth.invariant.1 ∙ shape_in_turn axis (meaning_of old) (take nth ms) c.requires.axis)
+    (c.requires.axis fits.0) fits (lengths_within axis (meaning_of x) ms nth get) fit.1
+    (subst (λ s. IsAppendRefused (shape_of c.loop-nth.self) s axis c.in-Err.refused) c.view.ensures.whole.0 c.in-Err.ensures.refused)
+
+pub loop-nth-preserved : goal.loop-nth-preserved
+loop-nth-preserved g c =
+    let x = c.index-arrays-nth.result in
+    let axis = c.args.axis.0 in
+    let old = c.args.self.now in
+    let self = c.loop-nth.self in
+    let new = c.append.new.self in
+    let ms = meanings_of c.args.arrays.now in
+    let nth = c.loop-nth.nth in
+    let whole = c.view.ensures.whole in
+    let so_far = c.loop-nth.invariant in
+    let done = c.in-Ok.ensures in
+    let get = mapped_get (λ a. meaning_of a) c.args.arrays.now nth x c.loop-nth-test.true c.index-arrays-nth.is in
+    let same = same_at (meaning_of c.view.result) (meaning_of x) whole.0 whole.2 in
+    let joined : meaning_of new ≡ concatenated axis (meaning_of self) (meaning_of x) = done.joined ∙ ap (concatenated axis (meaning_of self)) same in
+    let long : length (shape_of new) ≡ length (shape_of self) = ap (λ m. length m.shape) joined ∙ length-set (shape_of self) axis (get_or (shape_of self) axis 0 + get_or (shape_of x) axis 0) in
+    let shape = ap (λ m. m.shape) so_far.1 ∙ shape_in_turn axis (meaning_of old) (take nth ms) c.requires.axis in
+    let k = get_or (shape_of x) axis 0 in
+    let taken = lengths_along axis (take nth ms) in
+    let within = lengths_within axis (meaning_of x) ms nth get in
+    let on = so_far.0 done.fits.0.0 in
+    let longer : shape_of new ≡ grown_shape (shape_of self) axis k = ap (λ m. m.shape) joined in
+    let becomes = subst (λ s. BecomesReady axis (get_or s axis 0) self new) whole.0 done.ready in
+    let laid = subst (λ s. IsGrownBy axis (get_or s axis 0) self new) whole.0 done.laid in
+    let room = subst (λ s. KeepsRoom axis (get_or s axis 0) self new) whole.0 done.room in (
+      (λ some. let below = so_far.0 (omega (arith, some, long)) in omega (arith, below, long)),
+      joined ∙ (ap (λ m. concatenated axis m (meaning_of x)) so_far.1 ∙ sym (joined_more axis (meaning_of old) (meaning_of x) ms nth get)),
+      (λ ready. goes_then axis old self new (λ i h. ap (λ s. in_box s i) shape ∙ in_box-grown (shape_of old) i axis (lengths_along axis (take nth ms)) c.requires.axis h) (so_far.2 ready) (done.goes_on (so_far.2 ready).ready)),
+      room_then axis taken k (lengths_along axis ms) old self new shape (omega (arith, within)) so_far.3 so_far.5 room,
+      (λ ready.
+          subst (λ n. LeavesRoom axis n old new) (sym (lengths_more axis (meaning_of x) ms nth get))
+          (leaves_then axis (lengths_along axis (take nth ms)) (get_or (shape_of x) axis 0) old self new (so_far.4 ready)
+          (subst (λ s. LeavesRoom axis (get_or s axis 0) self new) whole.0 (done.room_left (so_far.2 ready).ready)))),
+      (λ still. still_then axis k self new on longer becomes done.goes_on (so_far.5 still)),
+      subst (λ n. BecomesReady axis n old new) (sym (lengths_more axis (meaning_of x) ms nth get)) (ready_then axis taken k old self new shape so_far.6 becomes done.goes_on),
+      subst (λ xs. IsGrownInTurn axis xs old new) (sym (take_next ms nth (meaning_of x) get)) (grown_last axis (take nth ms) (meaning_of x) old self new so_far.7 longer laid),
+      one_more_fits nth axis taken (shape_of old) (shape_of self) (meaning_of x) ms so_far.8 get shape (subst (λ s. FitsBehind (shape_of self) s axis) whole.0 done.fits.0),
+      (λ none. absurd (omega (arith, none))),
+    )
+
+pub returns-in-Err-clause-room : goal.returns-in-Err-clause-room
+returns-in-Err-clause-room g c =
+    let x = c.index-arrays-nth.result in
+    let axis = c.args.axis.0 in
+    let old = c.args.self.now in
+    let self = c.loop-nth.self in
+    let ms = meanings_of c.args.arrays.now in
+    let nth = c.loop-nth.nth in
+    let so_far = c.loop-nth.invariant in
+    let get = mapped_get (λ a. meaning_of a) c.args.arrays.now nth x c.loop-nth-test.true c.index-arrays-nth.is in
+    let shape = ap (λ m. m.shape) so_far.1 ∙ shape_in_turn axis (meaning_of old) (take nth ms) c.requires.axis in
+    let within = lengths_within axis (meaning_of x) ms nth get in
+    let room = subst (λ s. KeepsRoom axis (get_or s axis 0) self c.append.new.self) c.view.ensures.whole.0 c.in-Err.ensures.room in
+    room_then axis (lengths_along axis (take nth ms)) (get_or (shape_of x) axis 0) (lengths_along axis ms) old self c.append.new.self shape (omega (arith, within)) so_far.3 so_far.5 room
+
+pub returns-in-Err-clause-left : goal.returns-in-Err-clause-left
+returns-in-Err-clause-left g c = (c.loop-nth.self, c.loop-nth.invariant.7, c.in-Err.ensures.left)
+
+pub returns-clause-fits : goal.returns-clause-fits
+unfolding meaning_of
+returns-clause-fits g c =
+    let axis = c.args.axis.0 in
+    let old = c.args.self.now in
+    let self = c.loop-nth.self in
+    let ms = meanings_of c.args.arrays.now in
+    let so_far = c.loop-nth.invariant in
+    let shape = ap (λ m. m.shape) so_far.1 ∙ shape_in_turn axis (meaning_of old) (take c.loop-nth.nth ms) c.requires.axis in
+    let long : length ms ≡ length c.args.arrays.now = length-map c.args.arrays.now (λ a. meaning_of a) in
+    let all : length ms ≤ c.loop-nth.nth = omega (arith, long, c.loop-nth-test.false) in
+    let whole = ap (λ xs. grown_shape (shape_of old) axis (lengths_along axis xs)) (take_all c.loop-nth.nth ms all) in
+    (all_fit axis (shape_of old) ms c.loop-nth.nth so_far.8 all, subst HasCheckedSize (shape ∙ whole) self.layout.checked)
+
+pub returns-clause-plain : goal.returns-clause-plain
+unfolding meaning_of
+returns-clause-plain g c alike =
+    let axis = c.args.axis.0 in
+    let old = c.args.self.now in
+    let ms = meanings_of c.args.arrays.now in
+    let long : length ms ≡ length c.args.arrays.now = length-map c.args.arrays.now (λ a. meaning_of a) in
+    let all : length ms ≤ c.loop-nth.nth = omega (arith, long, c.loop-nth-test.false) in
+    c.loop-nth.invariant.1
+    ∙ (ap (joined_in_turn axis (meaning_of old)) (take_all c.loop-nth.nth ms all)
+    ∙ turn_alike axis (meaning_of old) ms c.requires.axis (each_mapped (λ a. meaning_of a) NothingOutside c.args.arrays.now (λ x i outside. rw outside refl)) alike)

@@ -1,0 +1,16 @@
+use Rattle.std.proofs.Common.{◌∙◌, ap, refl, set, sym}
+use Rattle.std.proofs.lemmas.Bool.{true≢false}
+use Rattle.nd_array_core.specs.Meaning.{meaning_of}
+use Rattle.nd_array_core.proofs.Stretched.{broadcasts_behind, fits_on}
+use Rattle.nd_array_core.proofs.growth.fits_behind.broadcast_behind.Goals as goal
+
+pub length-requires : goal.length-requires
+unfolding meaning_of
+length-requires g c = fits_on (g.D.Dimension.lengths c.args.dim.now) (g.D.Dimension.lengths c.args.array.layout.dim) c.args.axis c.requires.on c.requires.comes.0
+
+pub unreachable-requires : goal.unreachable-requires
+unfolding meaning_of
+unreachable-requires g c =
+    let ns = g.D.Dimension.lengths c.args.dim.now in
+    let ms = g.D.Dimension.lengths c.args.array.layout.dim in
+    true≢false (sym (broadcasts_behind ns ms c.args.axis c.requires.on (g.D.Dimension.lengths c.set_length.new.self) (c.set_length.ensures ∙ ap (set ns c.args.axis) c.length.ensures) c.requires.comes) ∙ (c.in-None.ensures {u = tt}).none.0 refl)

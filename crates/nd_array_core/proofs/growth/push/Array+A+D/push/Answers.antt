@@ -1,0 +1,76 @@
+use Rattle.std.proofs.Common.{◌≡◌, ◌∙◌, ◌+◌, ◌<◌, ap, length, sym, subst, arith}
+use Rattle.nd_array_core.specs.Meaning.{meaning_of}
+use Rattle.nd_array_core.specs.Joined.{concatenated}
+use Rattle.nd_array_core.specs.Laws.{with_axis_inserted}
+use Rattle.nd_shape_and_slice.specs.Maps.{inserted_index, inserted_shape}
+use Rattle.nd_array_core.specs.growth.Appended.{IsJoiningRefused, JoinsAlike}
+use Rattle.nd_array_core.proofs.Appending.{same_at}
+use Rattle.nd_storage.proofs.Assigned.{on_ok}
+use Rattle.nd_array_core.specs.growth.Grown.{BecomesReady, KeepsRoom, NeedsOnlyClones, IsNotForMemory, LeavesRoom}
+use Rattle.nd_array_core.specs.growth.Reserved.{HasRoomAlong}
+use Rattle.nd_array_core.proofs.CloneRefusals.{part_refused}
+use Rattle.nd_array_core.proofs.Pushed.{for_part, if_refused, one_pushed, other_axes}
+use Rattle.nd_array_core.proofs.growth.push.Array+A+D.push.Goals as goal
+
+pub returns-then-ndim-clause-refused : goal.returns-then-ndim-clause-refused
+returns-then-ndim-clause-refused g c =
+    let old = meaning_of c.args.self.now in
+    let array = meaning_of c.args.array in
+    subst (IsJoiningRefused old.shape (inserted_shape array.shape c.args.axis.0) c.args.axis.0) (sym c.from_kind.ensures)
+    (other_axes old.shape array.shape c.args.axis.0 (λ e. c.if-ndim.true (let few = c.ndim.ensures.value in let all = c.ndim-2.ensures.value in omega (arith, e, few, all))))
+
+pub returns-clause-joined : goal.returns-clause-joined
+returns-clause-joined g c =
+    let part = c.with_axis.ensures.part in
+    let same = same_at (meaning_of c.with_axis.result) (with_axis_inserted c.args.axis.0 (meaning_of c.args.array)) part.0 part.2 in
+    on_ok c.append.result (λ joined. joined ∙ ap (λ m. concatenated c.args.axis.0 (meaning_of c.args.self.now) m) same) c.append.ensures.joined
+
+pub returns-clause-plain : goal.returns-clause-plain
+returns-clause-plain g c =
+    let old = meaning_of c.args.self.now in
+    let part = c.with_axis.ensures.part in
+    let same = same_at (meaning_of c.with_axis.result) (with_axis_inserted c.args.axis.0 (meaning_of c.args.array)) part.0 part.2 in
+    on_ok c.append.result (subst (λ m. JoinsAlike c.args.axis.0 old m (meaning_of c.append.new.self)) same) c.append.ensures.plain
+
+pub returns-clause-ready : goal.returns-clause-ready
+returns-clause-ready g c =
+    let old = meaning_of c.args.self.now in
+    let array = meaning_of c.args.array in
+    let view = meaning_of c.with_axis.result in
+    let few = c.ndim.ensures.value in
+    let all = c.ndim-2.ensures.value in
+    let axes : length array.shape + 1 ≡ length old.shape = omega (arith, c.if-ndim.false, few, all) in
+    on_ok c.append.result (λ ready. subst (λ n. BecomesReady c.args.axis.0 n c.args.self.now c.append.new.self) (one_pushed old.shape array.shape view.shape c.args.axis.0 c.requires.axis axes c.with_axis.ensures.part.0) ready) c.append.ensures.ready
+
+pub returns-clause-room : goal.returns-clause-room
+returns-clause-room g c =
+    let old = meaning_of c.args.self.now in
+    let array = meaning_of c.args.array in
+    let view = meaning_of c.with_axis.result in
+    let few = c.ndim.ensures.value in
+    let all = c.ndim-2.ensures.value in
+    let axes : length array.shape + 1 ≡ length old.shape = omega (arith, c.if-ndim.false, few, all) in
+    subst (λ n. KeepsRoom c.args.axis.0 n c.args.self.now c.append.new.self) (one_pushed old.shape array.shape view.shape c.args.axis.0 c.requires.axis axes c.with_axis.ensures.part.0) c.append.ensures.room
+
+pub returns-clause-room_left : goal.returns-clause-room_left
+returns-clause-room_left g c ready =
+    let old = meaning_of c.args.self.now in
+    let array = meaning_of c.args.array in
+    let view = meaning_of c.with_axis.result in
+    let few = c.ndim.ensures.value in
+    let all = c.ndim-2.ensures.value in
+    let axes : length array.shape + 1 ≡ length old.shape = omega (arith, c.if-ndim.false, few, all) in
+    on_ok c.append.result (λ left. subst (λ n. LeavesRoom c.args.axis.0 n c.args.self.now c.append.new.self) (one_pushed old.shape array.shape view.shape c.args.axis.0 c.requires.axis axes c.with_axis.ensures.part.0) (left ready)) c.append.ensures.room_left
+
+pub returns-clause-enough : goal.returns-clause-enough
+returns-clause-enough g c for_it =
+    let old = meaning_of c.args.self.now in
+    let array = meaning_of c.args.array in
+    let view = meaning_of c.with_axis.result in
+    let few = c.ndim.ensures.value in
+    let all = c.ndim-2.ensures.value in
+    let axes : length array.shape + 1 ≡ length old.shape = omega (arith, c.if-ndim.false, few, all) in
+    let room = subst (λ n. HasRoomAlong c.args.axis.0 n c.args.self.now) (sym (one_pushed old.shape array.shape view.shape c.args.axis.0 c.requires.axis axes c.with_axis.ensures.part.0)) for_it.1 in
+    if_refused c.append.result (NeedsOnlyClones g.A.Clone.is_infallible c.args.axis.0 c.args.self.now view) (IsNotForMemory g.A.Clone.is_infallible array.at)
+    (λ e needs. for_part g.A.Clone.is_infallible view.at array.at (part_refused g.A.Clone.is_infallible array.at view.at (inserted_shape array.shape c.args.axis.0) (inserted_index c.args.axis.0) c.with_axis.ensures.part.2) e (needs (for_it.0, room)))
+    c.append.ensures.enough

@@ -1,0 +1,17 @@
+use Rattle.std.proofs.Common.{ℕ, List, ◌∙◌, subst}
+use Rattle.std.specs.Prelude.{IfOk}
+use Rattle.nd_shape_and_slice.specs.declared.builder.Order.{Order}
+use Rattle.nd_array_core.specs.Meaning.{shape_of, layout_strides}
+use Rattle.nd_array_core.specs.reshape.Either.{KeptOrCopied}
+use Rattle.nd_array_core.proofs.ServedStrides.{size_refused}
+use Rattle.nd_array_core.proofs.reshape.to_shape.Array+A+D.into_shape_clone.Goals as goal
+
+pub returns-then-has_size-clause-kind : goal.returns-then-has_size-clause-kind
+returns-then-has_size-clause-kind g c =
+    let asked = c.into_shape_and_order-dim.ensures in
+    subst (λ (p : Order × List ℕ). IfOk c.kept_or_copied.result (KeptOrCopied c.args.self p.0 p.1)) (λ k. (asked.order k, asked.lengths k)) c.kept_or_copied.ensures.kind
+
+pub returns-else-has_size-clause-refused : goal.returns-else-has_size-clause-refused
+returns-else-has_size-clause-refused g c =
+    size_refused (g.E.ShapeArg.order_asked c.args.shape) (shape_of c.args.self) (layout_strides c.args.self) (g.E.ShapeArg.shape_asked c.args.shape) c.slice.result.now c.len.result c.has_size.result c.from_kind.result
+    (c.slice.ensures.lengths ∙ c.into_shape_and_order-dim.ensures.lengths) c.len.ensures.value c.has_size.ensures c.if-has_size.false c.from_kind.ensures

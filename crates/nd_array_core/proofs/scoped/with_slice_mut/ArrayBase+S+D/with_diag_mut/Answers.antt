@@ -1,0 +1,23 @@
+use Rattle.std.proofs.Common.{refl}
+use Rattle.nd_array_core.specs.Meaning.{meaning_of, memory_layout_of}
+use Rattle.nd_array_core.proofs.tasks.PartTask.{part_lies, part_lent, part_stays, part_kept, part_done}
+use Rattle.nd_array_core.proofs.scoped.with_slice_mut.ArrayBase+S+D.with_diag_mut.Goals as goal
+
+pub with_placement-requires-clause-sound : goal.with_placement-requires-clause-sound
+with_placement-requires-clause-sound g c = part_lies c.args.self.now c.diagonal-layout.ensures.step g.met.S.DataMut.alone
+
+pub with_placement-requires-clause-callable : goal.with_placement-requires-clause-callable
+unfolding meaning_of
+with_placement-requires-clause-callable g c k named = c.requires.callable _ (part_lent c.args.self.now c.diagonal-layout.ensures.step c.diagonal-layout.ensures.lengths k named)
+
+pub returns-clause-frame : goal.returns-clause-frame
+unfolding meaning_of memory_layout_of
+returns-clause-frame g c = (refl, refl, (λ i. refl), part_stays c.args.self.now c.diagonal-layout.ensures.step c.with_placement.new.storage c.with_placement.ensures.kept, c.with_placement.ensures.frame, refl)
+
+pub returns-clause-kept : goal.returns-clause-kept
+unfolding meaning_of
+returns-clause-kept g c = part_kept c.args.self.now c.diagonal-layout.ensures.step c.diagonal-layout.ensures.lengths g.met.S.DataMut.alone c.with_placement.new.storage c.with_placement.ensures.kept
+
+pub returns-clause-done : goal.returns-clause-done
+unfolding meaning_of memory_layout_of
+returns-clause-done g c = part_done c.args.self.now c.diagonal-layout.ensures.step c.diagonal-layout.ensures.lengths c.with_placement.new.storage c.with_placement.ensures.done

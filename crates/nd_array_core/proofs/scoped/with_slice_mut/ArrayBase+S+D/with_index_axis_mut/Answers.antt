@@ -1,0 +1,33 @@
+use Rattle.std.proofs.Common.{refl}
+use Rattle.nd_array_core.specs.Meaning.{meaning_of, memory_layout_of}
+use Rattle.nd_array_core.proofs.tasks.PartTask.{part_lies, part_lent, part_stays, part_kept, part_done}
+use Rattle.nd_array_core.proofs.tasks.TaskStep.{still_holds}
+use Rattle.nd_array_core.proofs.scoped.with_slice_mut.ArrayBase+S+D.with_index_axis_mut.Goals as goal
+
+pub invariant_of-self : goal.invariant_of-self
+invariant_of-self g c =
+    let array = c.args.self.now in
+    let old = array.layout in
+    record {
+      inside = still_holds (g.S.Data.stored array.storage) old.offset (g.D.Dimension.lengths old.dim) (g.D.Strides.StrideList.strides_of old.strides) (g.S.Data.stored c.with_placement.new.storage) c.with_placement.ensures.there array.inside;
+      separated = array.separated;
+    }
+
+pub with_placement-requires-clause-sound : goal.with_placement-requires-clause-sound
+with_placement-requires-clause-sound g c = part_lies c.args.self.now c.index_axis-layout.ensures.step g.met.S.DataMut.alone
+
+pub with_placement-requires-clause-callable : goal.with_placement-requires-clause-callable
+unfolding meaning_of
+with_placement-requires-clause-callable g c k named = c.requires.callable _ (part_lent c.args.self.now c.index_axis-layout.ensures.step c.index_axis-layout.ensures.lengths k named)
+
+pub returns-clause-frame : goal.returns-clause-frame
+unfolding meaning_of memory_layout_of
+returns-clause-frame g c = (refl, refl, (λ i. refl), part_stays c.args.self.now c.index_axis-layout.ensures.step c.with_placement.new.storage c.with_placement.ensures.kept, c.with_placement.ensures.frame, refl)
+
+pub returns-clause-kept : goal.returns-clause-kept
+unfolding meaning_of
+returns-clause-kept g c = part_kept c.args.self.now c.index_axis-layout.ensures.step c.index_axis-layout.ensures.lengths g.met.S.DataMut.alone c.with_placement.new.storage c.with_placement.ensures.kept
+
+pub returns-clause-done : goal.returns-clause-done
+unfolding meaning_of memory_layout_of
+returns-clause-done g c = part_done c.args.self.now c.index_axis-layout.ensures.step c.index_axis-layout.ensures.lengths c.with_placement.new.storage c.with_placement.ensures.done

@@ -1,0 +1,56 @@
+//! A closure that goes along an axis and is shown the element before each.
+#![tactic(auto, unfolding(crate::specs::Meaning::meaning_of, crate::specs::Meaning::memory_layout_of))]
+
+ghost use Rattle.std.specs.Prelude.{◌≡◌, ◌<◌, ℕ, List, length, slice_index};
+ghost use Rattle.nd_storage.specs.along.Accumulated.{AccumulatesAll, AccumulableAlong, AccumulatesAlike};
+
+use crate::base::array::ArrayBase;
+use nd_shape_and_slice::{Axis, Dimension, StrideList};
+use nd_storage::along::accumulate_axis::accumulate_lanes;
+use nd_storage::storage::DataMut;
+
+impl<S: DataMut, D: Dimension> ArrayBase<S, D> {
+    ghost use Rattle.nd_array_core.specs.Meaning.{shape_of, element_at};
+    ghost use Rattle.nd_array_core.specs.base.Writes.{KeepsFrame};
+
+    /// `accumulate_axis_inplace` where the lanes of the axis have elements.
+    fn accumulate_some<F: FnMut(&S::Elem, &mut S::Elem)>(&mut self, axis: Axis, f: F)
+        requires axis { axis.0 < length (shape_of self.old) }
+        requires some { 0 < slice_index (shape_of self.old) axis.0 }
+        requires callable { AccumulableAlong F.FnMut (shape_of self.old) axis.0 (element_at self.old) f }
+        ensures visits { AccumulatesAll F.FnMut (shape_of self.old) axis.0 (element_at self.old) (element_at self.new) f }
+        ensures first { (i : List ℕ) → slice_index i axis.0 ≡ 0 → element_at self.new i ≡ element_at self.old i }
+        ensures frame { KeepsFrame S.frame self.old self.new }
+    {
+        let count = self.len_of(axis);
+        let stride = self.stride_of(axis);
+        let mut outer = self.layout.copied();
+        outer.collapse_axis(axis.0, 0);
+        accumulate_lanes(
+            &mut self.storage,
+            outer.offset,
+            outer.dim.slice(),
+            outer.strides.slice(),
+            count,
+            stride,
+            f,
+        );
+    }
+
+    /// Goes along each lane of an axis from its second element on: shows the function the element before, as the call there
+    /// left it, and hands it the element, to be written. Axes of length 0 and 1 stay as they are; between lanes the order
+    /// is free. The axis is below `ndim`, and the function may be called with whatever such calls lead to. No memory is
+    /// taken. ndarray's `accumulate_axis_inplace`.
+    pub fn accumulate_axis_inplace<F: FnMut(&S::Elem, &mut S::Elem)>(&mut self, axis: Axis, f: F)
+        requires axis { axis.0 < length (shape_of self.old) }
+        requires callable { AccumulableAlong F.FnMut (shape_of self.old) axis.0 (element_at self.old) f }
+        ensures visits { AccumulatesAll F.FnMut (shape_of self.old) axis.0 (element_at self.old) (element_at self.new) f }
+        ensures first { (i : List ℕ) → slice_index i axis.0 ≡ 0 → element_at self.new i ≡ element_at self.old i }
+        ensures alike { AccumulatesAlike F.FnMut f axis.0 (element_at self.old) (element_at self.new) }
+        ensures frame { KeepsFrame S.frame self.old self.new }
+    {
+        if self.len_of(axis) > 0 {
+            self.accumulate_some(axis, f);
+        }
+    }
+}

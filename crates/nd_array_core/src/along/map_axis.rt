@@ -1,0 +1,80 @@
+//! What a closure returns for each lane of an axis.
+#![tactic(auto, unfolding(crate::specs::Meaning::meaning_of, crate::specs::Meaning::memory_layout_of))]
+
+ghost use Rattle.std.specs.Prelude.{◌≡◌, ◌<◌, ◌≤◌, [], IfOk, length, slice_index, vec_len, vec_capacity};
+ghost use Rattle.nd_shape_and_slice.specs.Shape.{size_of};
+ghost use Rattle.nd_shape_and_slice.specs.Maps.{indexed_shape, indexed_index};
+ghost use Rattle.nd_shape_and_slice.specs.declared.builder.Order.TheVariants.{RowMajor};
+ghost use Rattle.nd_layout.specs.Placements.{placement_of, IsStepOf};
+ghost use Rattle.nd_array_core.specs.Meaning.{meaning_of, shape_of, element_at};
+ghost use Rattle.nd_storage.specs.ByRank.{found_by_rank};
+ghost use Rattle.nd_storage.specs.elements.Maps.{AskableOfAll, HasAnswersOfAll};
+ghost use Rattle.nd_array_core.specs.along.AxisMaps.{lanes_of, AnswersLane, MayBeShownLane, AskableOfLanes, HasAnswersOfLanes, MapsLanesAlike};
+
+use crate::along::lane_view::LaneView;
+use crate::base::array::{Array, ArrayBase};
+use crate::base::from_elem::of_items;
+use nd_layout::{Layout, Walk};
+use nd_shape_and_slice::{Axis, Dimension, NoMemory, Order, RemoveAxis, StrideList};
+use nd_storage::along::first_places::{first_places, lane_from};
+use nd_storage::elements::to_vec::room_of;
+use nd_storage::storage::Data;
+use std::alloc::Global;
+
+/// What the function returns for each lane of an axis, in row-major order of the other axes' indexes.
+fn map_lanes<S: Data, D: RemoveAxis, B, F: FnMut(LaneView<'_, S::Elem>) -> B>(
+    room: Vec<B>,
+    array: &ArrayBase<S, D>,
+    axis: Axis,
+    outer: &Layout<D::Smaller, <D::Smaller as Dimension>::Strides>,
+    mut f: F,
+) -> Vec<B>
+where
+    D::Smaller: Dimension,
+    requires axis { axis.0 < length (shape_of array.now) }
+    requires lengths { D.Smaller.lengths outer.now.dim ≡ indexed_shape (shape_of array.now) axis.0 }
+    requires step { 0 < slice_index (shape_of array.now) axis.0 → IsStepOf (placement_of array.now.layout) (placement_of outer.now) (indexed_index axis.0 0) }
+    requires empty { (room.items ≡ []) × (vec_len room ≡ 0) }
+    requires room { size_of (indexed_shape (shape_of array.now) axis.0) ≤ vec_capacity room }
+    requires callable { AskableOfAll (AnswersLane F.FnMut) (MayBeShownLane F.FnMut) (lanes_of (meaning_of array.now) axis.0) f }
+    ensures count { vec_len result ≡ size_of (indexed_shape (shape_of array.now) axis.0) }
+    ensures visits { HasAnswersOfAll (AnswersLane F.FnMut) (lanes_of (meaning_of array.now) axis.0) f (found_by_rank (indexed_shape (shape_of array.now) axis.0, RowMajor) result.items) }
+{
+    let count = array.len_of(axis);
+    let stride = array.stride_of(axis);
+    let mut walk = Walk::new(outer.offset, outer.dim.slice(), outer.strides.slice());
+    let mut items = room;
+    while let Some(place) = walk.place() {
+        let lane = LaneView::over(array.storage.borrowed(), lane_from(place, count, stride));
+        items.push_reserved(f(lane));
+        walk.advance();
+    }
+    items
+}
+
+impl<S: Data, D: RemoveAxis> ArrayBase<S, D>
+where
+    D::Smaller: Dimension,
+{
+    /// An array of its own without an axis that has at each index what the function returns for the lane there, which it is
+    /// shown as a view with one axis; one call for each index, in an order that is free. Where the axis has length 0 each
+    /// lane is empty. The axis is below `ndim`, and the function may be called with whatever such calls lead to. The layout
+    /// is unspecified. NoMemory if the storage is refused: then the function wasn't called. ndarray's `map_axis`.
+    pub fn map_axis<B, F: FnMut(LaneView<'_, S::Elem>) -> B>(
+        &self,
+        alloc: Global,
+        axis: Axis,
+        f: F,
+    ) -> Result<Array<B, D::Smaller>, NoMemory>
+        requires axis { axis.0 < length (shape_of self.now) }
+        requires callable { AskableOfLanes F.FnMut (meaning_of self.now) axis.0 f }
+        ensures shape { IfOk result (λ a. shape_of a ≡ indexed_shape (shape_of self.now) axis.0) }
+        ensures visits { IfOk result (λ a. HasAnswersOfLanes F.FnMut (meaning_of self.now) axis.0 f (element_at a)) }
+        ensures alike { IfOk result (λ a. MapsLanesAlike F.FnMut (meaning_of self.now) axis.0 f (element_at a)) }
+    {
+        let outer = first_places(&self.layout, axis);
+        let room = room_of(alloc, outer.dim.size())?;
+        let items = map_lanes(room, self, axis, &outer, f);
+        Ok(of_items(items, outer.dim, Order::RowMajor))
+    }
+}

@@ -1,0 +1,63 @@
+//! One coordinate of an axis taken out.
+#![tactic(auto, unfolding(crate::specs::Meaning::meaning_of, crate::specs::Meaning::memory_layout_of))]
+
+ghost use Rattle.std.specs.Prelude.{◌≡◌, ◌-◌, ◌<◌, ℕ, List, length, slice_index};
+ghost use Rattle.nd_shape_and_slice.specs.Shape.{size_of};
+ghost use Rattle.nd_storage.specs.along.Removed.{removed_shape, rotated_index, removed_at, removed_strides, LieAtEnds, KeepPlaces};
+
+use crate::base::array::ArrayBase;
+use crate::laws::elements_have_places;
+use nd_shape_and_slice::{Axis, Dimension, Slice, StrideList};
+use nd_storage::along::remove_index::rotate_lanes;
+use nd_storage::storage::DataMut;
+
+impl<S: DataMut, D: Dimension> ArrayBase<S, D> {
+    ghost use Rattle.nd_array_core.specs.Meaning.{meaning_of, shape_of, element_at, storage_of, place_at, layout_strides, layout_offset};
+    ghost use Rattle.nd_storage.specs.Meaning.{inside};
+    ghost use Rattle.nd_array_core.specs.base.Writes.{KeepsFrame};
+    ghost use Rattle.nd_storage.specs.Writes.{OthersStay};
+
+    /// Moves in each lane of an axis the elements after a coordinate towards the front, each by one; the one there goes to
+    /// the end.
+    fn rotate_axis(&mut self, axis: Axis, index: usize)
+        requires axis { axis.0 < length (shape_of self.old) }
+        requires within { index < slice_index (shape_of self.old) axis.0 }
+        ensures elements { (i : List ℕ) → element_at self.new i ≡ inside (shape_of self.old) i (element_at self.old (rotated_index (shape_of self.old) axis.0 index i)) }
+        ensures frame { KeepsFrame S.frame self.old self.new }
+    {
+        let count = self.len_of(axis);
+        let stride = self.stride_of(axis);
+        let mut outer = self.layout.copied();
+        outer.collapse_axis(axis.0, 0);
+        rotate_lanes(
+            &mut self.storage,
+            outer.offset,
+            outer.dim.slice(),
+            outer.strides.slice(),
+            count,
+            stride,
+            index,
+        );
+    }
+
+    /// Takes one coordinate of an axis out: in each lane the elements after it move one towards the front, the removed one
+    /// goes to the lane's end in storage, where it stays stored, and the axis gets shorter by one. The axis is below `ndim`,
+    /// and the coordinate below its length. No memory is taken. ndarray's `remove_index`.
+    pub fn remove_index(&mut self, axis: Axis, index: usize)
+        requires axis { axis.0 < length (shape_of self.old) }
+        requires within { index < slice_index (shape_of self.old) axis.0 }
+        ensures shape { shape_of self.new ≡ removed_shape (shape_of self.old) axis.0 }
+        ensures strides { layout_strides self.new ≡ removed_strides (shape_of self.old) (layout_strides self.old) axis.0 }
+        ensures elements { (i : List ℕ) → element_at self.new i ≡ removed_at (meaning_of self.old) axis.0 index i }
+        ensures places { KeepPlaces (shape_of self.old) axis.0 (place_at self.old) (place_at self.new) }
+        ensures removed { LieAtEnds (meaning_of self.old) (place_at self.old) axis.0 index (S.stored (storage_of self.new)) }
+        ensures others { OthersStay (place_at self.old) (S.stored (storage_of self.old)) (S.stored (storage_of self.new)) }
+        ensures frame { S.frame (storage_of self.new) ≡ S.frame (storage_of self.old) }
+        ensures offset { size_of (shape_of self.old) ≡ 0 → layout_offset self.new ≡ layout_offset self.old }
+    {
+        let last = self.len_of(axis) - 1;
+        self.rotate_axis(axis, index);
+        elements_have_places(self);
+        self.slice_axis_inplace(axis, Slice::between(0, last));
+    }
+}

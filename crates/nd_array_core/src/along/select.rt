@@ -1,0 +1,113 @@
+//! Coordinates of one axis chosen.
+#![tactic(auto, unfolding(crate::specs::Meaning::meaning_of, crate::specs::Meaning::memory_layout_of))]
+
+ghost use Rattle.std.specs.Prelude.{◌≡◌, ◌+◌, ◌<◌, ◌≤◌, ℕ, [], List, IfOk, length, vec_len, vec_capacity};
+ghost use Rattle.nd_shape_and_slice.specs.Shape.{size_of, HasCheckedSize};
+ghost use Rattle.nd_array_core.specs.along.Selected.{selected_at, selected_shape, AreCoordinates, ListsSelected, ShowsSelected};
+ghost use Rattle.nd_array_core.specs.Meaning.{meaning_of, shape_of, element_at};
+ghost use Rattle.nd_storage.specs.Clones.{ClonesOfAllAreEqual};
+
+use crate::base::array::{Array, ArrayBase};
+use crate::base::from_elem::of_items;
+use crate::elements::to_vec::listed_behind;
+use nd_shape_and_slice::{Axis, Dimension, NoMemory, Order};
+use nd_storage::elements::to_vec::room_of;
+use nd_storage::storage::Data;
+use std::alloc::Global;
+
+/// Puts clones of what lies at a coordinate of the first axis, in row-major order, behind those that a vector has.
+fn selected_row<S: Data, D: Dimension>(
+    before: Vec<S::Elem>,
+    array: &ArrayBase<S, D>,
+    indices: &[usize],
+    nth: usize,
+) -> Result<Vec<S::Elem>, NoMemory>
+where
+    S::Elem: Clone + Drop,
+    requires axes { 0 < length (shape_of array.now) }
+    requires coordinates { AreCoordinates (shape_of array.now) 0 indices.now }
+    requires within { nth < length indices.now }
+    requires clones { ClonesOfAllAreEqual S.Elem.is_clone (element_at array.now) }
+    requires so_far { ListsSelected (shape_of array.now) (element_at array.now) indices.now nth before.items }
+    requires room { size_of (selected_shape (shape_of array.now) 0 indices.now) ≤ vec_capacity before }
+    ensures items { IfOk result (λ v. ListsSelected (shape_of array.now) (element_at array.now) indices.now (nth + 1) v.items) }
+    ensures room { IfOk result (λ v. vec_capacity before ≤ vec_capacity v) }
+{
+    let mut row = array.view();
+    row.collapse_axis(Axis(0), indices[nth]);
+    listed_behind(before, &row)
+}
+
+/// Clones of what lies at the chosen coordinates of the first axis, one after the other, each in row-major order.
+fn selected_items<S: Data, D: Dimension>(
+    room: Vec<S::Elem>,
+    array: &ArrayBase<S, D>,
+    indices: &[usize],
+) -> Result<Vec<S::Elem>, NoMemory>
+where
+    S::Elem: Clone + Drop,
+    requires axes { 0 < length (shape_of array.now) }
+    requires coordinates { AreCoordinates (shape_of array.now) 0 indices.now }
+    requires clones { ClonesOfAllAreEqual S.Elem.is_clone (element_at array.now) }
+    requires empty { room.items ≡ [] }
+    requires room { size_of (selected_shape (shape_of array.now) 0 indices.now) ≤ vec_capacity room }
+    ensures items { IfOk result (λ v. ListsSelected (shape_of array.now) (element_at array.now) indices.now (length indices.now) v.items) }
+    ensures count { IfOk result (λ v. vec_len v ≡ size_of (selected_shape (shape_of array.now) 0 indices.now)) }
+{
+    let mut items = room;
+    for nth in 0..indices.len() {
+        items = selected_row(items, array, indices, nth)?;
+    }
+    Ok(items)
+}
+
+/// The array of clones of what lies at the chosen coordinates of the first axis.
+fn select_first<S: Data, D: Dimension>(
+    alloc: Global,
+    array: &ArrayBase<S, D>,
+    indices: &[usize],
+) -> Result<Array<S::Elem, D>, NoMemory>
+where
+    S::Elem: Clone + Drop,
+    requires axes { 0 < length (shape_of array.now) }
+    requires coordinates { AreCoordinates (shape_of array.now) 0 indices.now }
+    requires checked { HasCheckedSize (selected_shape (shape_of array.now) 0 indices.now) }
+    requires clones { ClonesOfAllAreEqual S.Elem.is_clone (element_at array.now) }
+    ensures shape { IfOk result (λ a. shape_of a ≡ selected_shape (shape_of array.now) 0 indices.now) }
+    ensures elements { IfOk result (λ a. (i : List ℕ) → element_at a i ≡ selected_at (meaning_of array.now) 0 indices.now i) }
+{
+    let mut dim = array.raw_dim();
+    dim.set_length(0, indices.len());
+    let room = room_of(alloc, dim.size())?;
+    let items = selected_items(room, array, indices)?;
+    Ok(of_items(items, dim, Order::RowMajor))
+}
+
+impl<S: Data, D: Dimension> ArrayBase<S, D>
+where
+    S::Elem: Clone + Drop,
+{
+    /// An array of clones of what lies at the chosen coordinates of an axis, in the order in which they are given, repeats
+    /// allowed; without any the axis has length 0. The axis is below `ndim` and each coordinate below its length, the
+    /// result has a checked size, and a clone equals its original. How the result lies in memory is left open. NoMemory if
+    /// the storage or a clone is refused. ndarray's `select`.
+    pub fn select(
+        &self,
+        alloc: Global,
+        axis: Axis,
+        indices: &[usize],
+    ) -> Result<Array<S::Elem, D>, NoMemory>
+        requires axis { axis.0 < length (shape_of self.now) }
+        requires coordinates { AreCoordinates (shape_of self.now) axis.0 indices.now }
+        requires checked { HasCheckedSize (selected_shape (shape_of self.now) axis.0 indices.now) }
+        requires clones { ClonesOfAllAreEqual S.Elem.is_clone (element_at self.now) }
+        ensures shape { IfOk result (λ a. shape_of a ≡ selected_shape (shape_of self.now) axis.0 indices.now) }
+        ensures elements { IfOk result (λ a. ShowsSelected (meaning_of self.now) axis.0 indices.now (element_at a)) }
+    {
+        let mut turned = self.view();
+        turned.swap_axes(0, axis.0);
+        let mut selected = select_first(alloc, &turned, indices)?;
+        selected.swap_axes(0, axis.0);
+        Ok(selected)
+    }
+}

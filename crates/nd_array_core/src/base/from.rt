@@ -1,0 +1,187 @@
+//! Views of slices, of rows and of arrays, and an array of a vector.
+#![tactic(auto, unfolding(crate::specs::Meaning::meaning_of, crate::specs::Meaning::memory_layout_of))]
+
+ghost use Rattle.std.specs.Prelude.{◌≡◌, ◌*◌, ◌<◌, ◌≤◌, ◌^◌, ℕ, List, [], ◌∷◌, length, IsSome, vec_len, vec_capacity};
+ghost use Rattle.std.specs.List.{flat_map};
+ghost use Rattle.nd_shape_and_slice.specs.Shape.{row_rank, HasCheckedSize};
+ghost use Rattle.nd_shape_and_slice.specs.Strides.{c_strides};
+ghost use Rattle.nd_array_core.specs.Meaning.{shape_of, element_at, layout_strides, place_at, storage_of};
+ghost use Rattle.nd_storage.specs.Meaning.{inside};
+ghost use Rattle.std.specs.Borrow.{sem};
+ghost use Rattle.nd_region.specs.Region.{region_stored};
+ghost use Rattle.nd_region.specs.Lends.{slice_follows};
+ghost use Rattle.nd_shape_and_slice.specs.declared.builder.Order.TheVariants.{RowMajor};
+ghost use Rattle.nd_array_core.specs.Part.{ShowsWhole};
+ghost use Rattle.nd_array_core.specs.base.Fresh.{OwnsInOrder, OwnsVec};
+ghost use Rattle.nd_array_core.specs.base.Sources.{IsRowMajorOf};
+ghost use Rattle.nd_array_core.specs.base.SliceLent.{rows_follow_view};
+
+use crate::base::array::{Array, ArrayBase, ArrayView, ArrayViewMut};
+use crate::base::from_shape::in_order;
+use nd_region::Region;
+use nd_shape_and_slice::{Dimension, IntoDimension, Ix1, Ix2, Order, size_of_shape_checked};
+use nd_storage::storage::{Data, DataMut, ViewMutRepr, ViewRepr};
+
+/// That many elements of a storage, from place 0 on, along one axis; none where they are more than `isize::MAX`.
+fn on_one_axis<S: Data>(storage: S, len: usize) -> ArrayBase<S, Ix1>
+    requires { (place : ℕ) → place < len → IsSome (S.stored storage place) }
+    ensures held { HasCheckedSize (len ∷ []) → (shape_of result ≡ len ∷ []) × (layout_strides result ≡ c_strides (len ∷ [])) × ((i : List ℕ) → element_at result i ≡ inside (len ∷ []) i (S.stored storage (row_rank (len ∷ []) i))) }
+    ensures empty { (HasCheckedSize (len ∷ []) → ⊥) → shape_of result ≡ 0 ∷ [] }
+    ensures storage { storage_of result ≡ storage }
+{
+    match size_of_shape_checked(&[len]) {
+        Ok(_) => in_order(storage, len.into_dimension(), Order::RowMajor),
+        Err(_) => in_order(storage, 0.into_dimension(), Order::RowMajor),
+    }
+}
+
+/// The array of a vector's elements, with one axis, over the vector itself: that of `from_vec`.
+impl<A> From<Vec<A>> for Array<A, Ix1> {
+    ghost from_gives = { λ v array. OwnsInOrder (vec_len v ∷ [], RowMajor) array × OwnsVec v.items (vec_capacity v) array };
+
+    fn from(v: Vec<A>) -> Self {
+        Array::from_vec(v)
+    }
+}
+
+/// The view of an array, with the same strides: that of `view`.
+impl<'a, S: Data, D: Dimension> From<&'a ArrayBase<S, D>> for ArrayView<'a, S::Elem, D> {
+    ghost from_gives = { λ array view. ShowsWhole array.now view };
+
+    fn from(array: &'a ArrayBase<S, D>) -> Self {
+        array.view()
+    }
+}
+
+/// The view of an array, to be written, with the same strides: that of `view_mut`.
+impl<'a, S: DataMut, D: Dimension> From<&'a mut ArrayBase<S, D>> for ArrayViewMut<'a, S::Elem, D> {
+    ghost use Rattle.nd_array_core.specs.layout.ViewLent.{array_follows_part, left_by, lent_places, tie_of, LeavesPlacesBut, LeavesRefilled};
+
+    ghost from_gives = { λ array view. ShowsWhole array.now view };
+
+    fn from(array: &'a mut ArrayBase<S, D>) -> Self
+        ensures* writes_back { sem 𝓛 (array_follows_part S.row S.Elem.row D.row D.Pattern.row D.Strides.row D.Smaller.row D.Larger.row S.Data D.Dimension D.AxisCount D.Strides.StrideList array.entry (tie_of result) (lent_places result)) }
+        ensures gives { ShowsWhole array.old result }
+        ensures refilled { LeavesRefilled S.frame array.old (left_by array.old result) }
+        ensures others { LeavesPlacesBut (place_at result) array.old (left_by array.old result) }
+    {
+        array.view_mut()
+    }
+}
+
+/// The view of a slice, with one axis; empty where the slice has more than `isize::MAX` elements.
+impl<'a, A> From<&'a [A]> for ArrayView<'a, A, Ix1> {
+    ghost from_gives = { λ xs view. IsRowMajorOf (length xs.now ∷ []) xs.now view };
+
+    fn from(xs: &'a [A]) -> Self {
+        let len = xs.len();
+        on_one_axis(ViewRepr::of_slice(xs), len)
+    }
+}
+
+/// The region of a slice as a view with one axis.
+fn region_on_one_axis<'a, A>(region: Region<'a, A>, len: usize) -> ArrayViewMut<'a, A, Ix1>
+    requires { (place : ℕ) → place < len → IsSome (region_stored region place) }
+    ensures held { HasCheckedSize (len ∷ []) → (shape_of result ≡ len ∷ []) × (layout_strides result ≡ c_strides (len ∷ [])) × ((i : List ℕ) → element_at result i ≡ inside (len ∷ []) i (region_stored region.entry (row_rank (len ∷ []) i))) }
+    ensures empty { (HasCheckedSize (len ∷ []) → ⊥) → shape_of result ≡ 0 ∷ [] }
+    ensures region { (storage_of result).region ≡ region.entry }
+{
+    on_one_axis(ViewMutRepr::of_region(region), len)
+}
+
+/// The view of a slice, to be written, with one axis; empty where the slice has more than `isize::MAX` elements.
+impl<'a, A> From<&'a mut [A]> for ArrayViewMut<'a, A, Ix1> {
+    ghost from_gives = { λ xs view. IsRowMajorOf (length xs.now ∷ []) xs.now view };
+
+    fn from(xs: &'a mut [A]) -> Self
+        ensures* follows { sem 𝓛 (slice_follows A.row xs.entry (storage_of result).region) }
+        ensures gives { IsRowMajorOf (length xs.old ∷ []) xs.old result }
+    {
+        let len = xs.len();
+        region_on_one_axis(Region::from_slice(xs), len)
+    }
+}
+
+/// The view of rows of N elements each; empty where rows and N have no checked size.
+impl<'a, A, const N: usize> From<&'a [[A; N]]> for ArrayView<'a, A, Ix2> {
+    ghost from_gives = { λ rows view. IsRowMajorOf (length rows.now ∷ N ∷ []) (flat_map (λ row. row) rows.now) view };
+
+    fn from(rows: &'a [[A; N]]) -> Self {
+        let len = rows.len();
+        match size_of_shape_checked(&[len, N]) {
+            Ok(_) => in_order(
+                ViewRepr::of_rows(rows),
+                (len, N).into_dimension(),
+                Order::RowMajor,
+            ),
+            Err(_) => in_order(
+                ViewRepr::of_rows(&rows[..0]),
+                (0, 0).into_dimension(),
+                Order::RowMajor,
+            ),
+        }
+    }
+}
+
+/// That many of the rows of a number of elements each have places: all of them, or none where they have no checked size.
+fn rows_with_places(rows: usize, columns: usize) -> usize
+    ensures all { HasCheckedSize (rows ∷ columns ∷ []) → result ≡ rows }
+    ensures none { (HasCheckedSize (rows ∷ columns ∷ []) → ⊥) → result ≡ 0 }
+    ensures few { result ≤ rows }
+    ensures small { result * columns < 2 ^ 63 }
+{
+    match size_of_shape_checked(&[rows, columns]) {
+        Ok(_) => rows,
+        Err(_) => 0,
+    }
+}
+
+/// The region of rows as a view with two axes; empty where they have no checked size.
+fn region_on_two_axes<'a, A>(
+    region: Region<'a, A>,
+    rows: usize,
+    columns: usize,
+) -> ArrayViewMut<'a, A, Ix2>
+    requires { HasCheckedSize (rows ∷ columns ∷ []) → (place : ℕ) → place < rows * columns → IsSome (region_stored region place) }
+    ensures held { HasCheckedSize (rows ∷ columns ∷ []) → (shape_of result ≡ rows ∷ columns ∷ []) × (layout_strides result ≡ c_strides (rows ∷ columns ∷ [])) × ((i : List ℕ) → element_at result i ≡ inside (rows ∷ columns ∷ []) i (region_stored region.entry (row_rank (rows ∷ columns ∷ []) i))) }
+    ensures empty { (HasCheckedSize (rows ∷ columns ∷ []) → ⊥) → shape_of result ≡ 0 ∷ 0 ∷ [] }
+    ensures region { (storage_of result).region ≡ region.entry }
+{
+    let storage = ViewMutRepr::of_region(region);
+    match size_of_shape_checked(&[rows, columns]) {
+        Ok(_) => in_order(storage, (rows, columns).into_dimension(), Order::RowMajor),
+        Err(_) => in_order(storage, (0, 0).into_dimension(), Order::RowMajor),
+    }
+}
+
+/// The view of rows of N elements each, to be written; empty where rows and N have no checked size.
+impl<'a, A, const N: usize> From<&'a mut [[A; N]]> for ArrayViewMut<'a, A, Ix2> {
+    ghost from_gives = { λ rows view. IsRowMajorOf (length rows.now ∷ N ∷ []) (flat_map (λ row. row) rows.now) view };
+
+    fn from(rows: &'a mut [[A; N]]) -> Self
+        ensures* follows { sem 𝓛 (rows_follow_view A.row N rows.entry result) }
+        ensures gives { IsRowMajorOf (length rows.old ∷ N ∷ []) (flat_map (λ row. row) rows.old) result }
+    {
+        let len = rows.len();
+        let count = rows_with_places(len, N);
+        region_on_two_axes(Region::from_rows(&mut rows[..count]), len, N)
+    }
+}
+
+/// The view of M rows of N elements each; empty where M and N have no checked size.
+impl<'a, A, const N: usize, const M: usize> From<&'a [[A; N]; M]> for ArrayView<'a, A, Ix2> {
+    ghost from_gives = { λ rows view. IsRowMajorOf (M ∷ N ∷ []) (flat_map (λ row. row) rows.now) view };
+
+    fn from(rows: &'a [[A; N]; M]) -> Self {
+        ArrayView::from(rows.as_slice())
+    }
+}
+
+/// The view of M rows of N elements each, to be written; empty where M and N have no checked size.
+impl<'a, A, const N: usize, const M: usize> From<&'a mut [[A; N]; M]> for ArrayViewMut<'a, A, Ix2> {
+    ghost from_gives = { λ rows view. IsRowMajorOf (M ∷ N ∷ []) (flat_map (λ row. row) rows.now) view };
+
+    fn from(rows: &'a mut [[A; N]; M]) -> Self {
+        ArrayViewMut::from(&mut rows[..])
+    }
+}

@@ -1,0 +1,128 @@
+//! New arrays: of a vector's elements, of what an iterator gives, and of one value at every index.
+#![tactic(auto, unfolding(crate::specs::Meaning::meaning_of, crate::specs::Meaning::memory_layout_of))]
+
+ghost use Rattle.std.specs.Prelude.{◌≡◌, [], ◌∷◌, length, replicate, IfOk, vec_len, vec_capacity};
+ghost use Rattle.std.specs.Iterator.{IsFiniteIterable};
+ghost use Rattle.nd_shape_and_slice.specs.Shape.{size_of, HasCheckedSize};
+ghost use Rattle.nd_shape_and_slice.specs.declared.builder.Order.TheVariants.{RowMajor};
+ghost use Rattle.nd_array_core.specs.Meaning.{storage_of};
+ghost use Rattle.nd_storage.specs.Storages.{stored_list, room_of};
+ghost use Rattle.nd_array_core.specs.base.Fresh.{built_by, IsOnly, OwnsInOrder, ShowsOneValue, ShowsSuch};
+ghost use Rattle.nd_storage.specs.Clones.{ClonesAreEqual};
+ghost use Rattle.nd_array_core.specs.base.Makers.{StoresItemsOf};
+
+use crate::base::array::Array;
+use crate::base::from_shape::in_order;
+use nd_shape_and_slice::{Dimension, IntoDimension, Ix1, NoMemory, Order, ShapeBuilder};
+use nd_storage::base::from_elem::{defaults, repeated};
+use nd_storage::storage::OwnedRepr;
+use num_traits::{One, Zero};
+use std::alloc::Global;
+
+/// An array that owns a vector's elements, as many as the shape has, in an order.
+pub(crate) fn of_items<A, D: Dimension>(items: Vec<A>, dim: D, order: Order) -> Array<A, D>
+    requires checked { HasCheckedSize (D.lengths dim) }
+    requires count { vec_len items ≡ size_of (D.lengths dim) }
+    ensures owns { OwnsInOrder (D.lengths dim, order) result }
+    ensures stored { stored_list (storage_of result) ≡ items.items }
+    ensures room { room_of (storage_of result) ≡ vec_capacity items }
+{
+    in_order(OwnedRepr { items }, dim, order)
+}
+
+impl<A, D: Dimension> Array<A, D> {
+    /// An array of a shape with one value at every index, in row-major order, after `.f()` in column-major order. The
+    /// shape has a checked size, and a clone equals its original. NoMemory if the storage or a clone is refused.
+    /// ndarray's `from_elem`.
+    pub fn from_elem<Sh: ShapeBuilder<Dim = D>>(
+        alloc: Global,
+        shape: Sh,
+        elem: A,
+    ) -> Result<Self, NoMemory>
+    where
+        A: Clone,
+        requires checked { HasCheckedSize (Sh.builds_lengths shape) }
+        requires clones { ClonesAreEqual A.is_clone elem }
+        ensures owns { IfOk result (OwnsInOrder (built_by Sh.ShapeBuilder shape)) }
+        ensures stored { IfOk result (λ a. stored_list (storage_of a) ≡ replicate (size_of (Sh.builds_lengths shape)) elem) }
+        ensures elements { IfOk result (ShowsOneValue (built_by Sh.ShapeBuilder shape) elem) }
+    {
+        let shape = shape.into_shape_with_order();
+        let items = repeated(alloc, elem, shape.size())?;
+        Ok(of_items(items, *shape.raw_dim(), shape.order()))
+    }
+
+    /// An array of zeros of a shape, in row-major order, after `.f()` in column-major order. The shape has a checked
+    /// size, and a clone equals its original. NoMemory if the storage or a clone is refused. ndarray's `zeros`.
+    pub fn zeros<Sh: ShapeBuilder<Dim = D>>(alloc: Global, shape: Sh) -> Result<Self, NoMemory>
+    where
+        A: Clone + Zero,
+        requires checked { HasCheckedSize (Sh.builds_lengths shape) }
+        requires clones { ClonesAreEqual A.is_clone A.zero }
+        ensures owns { IfOk result (OwnsInOrder (built_by Sh.ShapeBuilder shape)) }
+        ensures stored { IfOk result (λ a. stored_list (storage_of a) ≡ replicate (size_of (Sh.builds_lengths shape)) A.zero) }
+        ensures elements { IfOk result (ShowsOneValue (built_by Sh.ShapeBuilder shape) A.zero) }
+    {
+        Array::from_elem(alloc, shape, A::zero())
+    }
+
+    /// An array of ones of a shape, in row-major order, after `.f()` in column-major order. The shape has a checked
+    /// size, and a clone equals its original. NoMemory if the storage or a clone is refused. ndarray's `ones`.
+    pub fn ones<Sh: ShapeBuilder<Dim = D>>(alloc: Global, shape: Sh) -> Result<Self, NoMemory>
+    where
+        A: Clone + One,
+        requires checked { HasCheckedSize (Sh.builds_lengths shape) }
+        requires clones { ClonesAreEqual A.is_clone A.one }
+        ensures owns { IfOk result (OwnsInOrder (built_by Sh.ShapeBuilder shape)) }
+        ensures stored { IfOk result (λ a. stored_list (storage_of a) ≡ replicate (size_of (Sh.builds_lengths shape)) A.one) }
+        ensures elements { IfOk result (ShowsOneValue (built_by Sh.ShapeBuilder shape) A.one) }
+    {
+        Array::from_elem(alloc, shape, A::one())
+    }
+
+    /// An array of default values of a shape, in row-major order, after `.f()` in column-major order. The shape has a
+    /// checked size. NoMemory if the storage is refused, before the first value is made. ndarray's `default`.
+    pub fn default<Sh: ShapeBuilder<Dim = D>>(alloc: Global, shape: Sh) -> Result<Self, NoMemory>
+    where
+        A: Default,
+        requires checked { HasCheckedSize (Sh.builds_lengths shape) }
+        ensures owns { IfOk result (OwnsInOrder (built_by Sh.ShapeBuilder shape)) }
+        ensures elements { IfOk result (ShowsSuch (built_by Sh.ShapeBuilder shape) A.is_default) }
+        ensures alike { (x : A) → IsOnly A.is_default x → IfOk result (ShowsOneValue (built_by Sh.ShapeBuilder shape) x) }
+    {
+        let shape = shape.into_shape_with_order();
+        let items = defaults(alloc, shape.size())?;
+        Ok(of_items(items, *shape.raw_dim(), shape.order()))
+    }
+}
+
+impl<A> Array<A, Ix1> {
+    /// An array of a vector's elements along one axis, over the vector itself. ndarray's `from_vec`.
+    #[tactic(auto, using(crate::proofs::Fresh::vec_is_line))]
+    pub fn from_vec(v: Vec<A>) -> Self
+        ensures owns { OwnsInOrder (vec_len v ∷ [], RowMajor) result }
+        ensures stored { stored_list (storage_of result) ≡ v.items }
+        ensures room { room_of (storage_of result) ≡ vec_capacity v }
+    {
+        let count = v.len();
+        of_items(v, count.into_dimension(), Order::RowMajor)
+    }
+
+    /// An array of the items that an iterator gives, in their order along one axis; the iterator ends. NoMemory if the
+    /// storage is refused. ndarray's `from_iter`.
+    pub fn from_iter<I: IntoIterator<Item = A>>(
+        alloc: Global,
+        iterable: I,
+    ) -> Result<Self, NoMemory>
+    where
+        A: Drop,
+        requires { IsFiniteIterable I.into_iter_gives I.IntoIter.can_next I.IntoIter.remaining iterable }
+        ensures owns { IfOk result (λ a. OwnsInOrder (length (stored_list (storage_of a)) ∷ [], RowMajor) a) }
+        ensures items { IfOk result (StoresItemsOf I.into_iter_gives I.IntoIter.next_gives iterable) }
+    {
+        match Vec::from_iter(alloc, iterable) {
+            Ok(items) => Ok(Array::from_vec(items)),
+            Err(_) => Err(NoMemory),
+        }
+    }
+}

@@ -1,0 +1,94 @@
+//! New arrays of what a function returns for each index, or for no index at all.
+#![tactic(auto, unfolding(crate::specs::Meaning::meaning_of, crate::specs::Meaning::memory_layout_of))]
+
+ghost use Rattle.std.specs.Prelude.{◌≡◌, ◌<◌, ◌≤◌, ℕ, List, [], IfOk, vec_len, vec_capacity};
+ghost use Rattle.nd_shape_and_slice.specs.Shape.{size_of, HasCheckedSize};
+ghost use Rattle.nd_array_core.specs.Meaning.{element_at};
+ghost use Rattle.nd_storage.specs.FreeOrder.{HasAnswers, AskableInAnyOrder, AnswersIndex, TakesIndex, AnswersByIndex, AnswersNothing, TakesNothing, AnswersAlike, AskableByIndex};
+ghost use Rattle.nd_array_core.specs.base.Fresh.{built_by, OwnsInOrder, ShowsOneValue, ShowsValues};
+ghost use Rattle.nd_array_core.specs.base.Makers.{ShowsAnswers, ShowsAnswersAlike, ShowsCells};
+
+use crate::base::array::Array;
+use crate::base::from_elem::of_items;
+use nd_shape_and_slice::{Dimension, NoMemory, Order, ShapeBuilder, StrideList};
+use nd_storage::base::from_shape_fn::{answers_by_index, answers_for_each, room_for};
+use std::alloc::Global;
+
+/// The array of what the function returns for each index.
+fn of_answers<A, D: Dimension, F: FnMut(D::Pattern) -> A>(
+    room: Vec<A>,
+    dim: D,
+    order: Order,
+    f: F,
+) -> Array<A, D>
+    requires checked { HasCheckedSize (D.lengths dim) }
+    requires empty { (room.items ≡ []) × (vec_len room ≡ 0) }
+    requires room { size_of (D.lengths dim) ≤ vec_capacity room }
+    requires callable { AskableInAnyOrder (AnswersIndex F.FnMut D.pattern_lengths) (D.lengths dim) (TakesIndex F.FnMut D.pattern_lengths) f }
+    ensures owns { OwnsInOrder (D.lengths dim, order) result }
+    ensures visits { HasAnswers (AnswersIndex F.FnMut D.pattern_lengths) (D.lengths dim) f (element_at result) }
+    ensures alike { (h : List ℕ → A) → AnswersByIndex F.FnMut D.pattern_lengths (D.lengths dim) h f → ShowsValues (D.lengths dim, order) h result }
+{
+    let items = answers_by_index(room, &dim, order, f);
+    of_items(items, dim, order)
+}
+
+/// The array of what the function returns, once for each index.
+fn of_equal_answers<A, D: Dimension, F: FnMut() -> A>(
+    room: Vec<A>,
+    dim: D,
+    order: Order,
+    f: F,
+) -> Array<A, D>
+    requires checked { HasCheckedSize (D.lengths dim) }
+    requires empty { (room.items ≡ []) × (vec_len room ≡ 0) }
+    requires room { size_of (D.lengths dim) ≤ vec_capacity room }
+    requires callable { AskableInAnyOrder (AnswersNothing F.FnMut) (D.lengths dim) (TakesNothing F.FnMut) f }
+    ensures owns { OwnsInOrder (D.lengths dim, order) result }
+    ensures visits { HasAnswers (AnswersNothing F.FnMut) (D.lengths dim) f (element_at result) }
+    ensures alike { (x : A) → AnswersAlike F.FnMut x f → ShowsOneValue (D.lengths dim, order) x result }
+{
+    let items = answers_for_each(room, &dim, order, f);
+    of_items(items, dim, order)
+}
+
+impl<A, D: Dimension> Array<A, D> {
+    /// An array of a shape with what the function returns for each index, in row-major order, after `.f()` in
+    /// column-major order. The function is called once for each index, in an order that is free. The shape has a checked
+    /// size. NoMemory if the storage is refused: then the function wasn't called. ndarray's `from_shape_fn`.
+    pub fn from_shape_fn<Sh: ShapeBuilder<Dim = D>, F: FnMut(D::Pattern) -> A>(
+        alloc: Global,
+        shape: Sh,
+        f: F,
+    ) -> Result<Self, NoMemory>
+        requires checked { HasCheckedSize (Sh.builds_lengths shape) }
+        requires callable { AskableByIndex F.FnMut D.pattern_lengths (Sh.builds_lengths shape) f }
+        ensures owns { IfOk result (OwnsInOrder (built_by Sh.ShapeBuilder shape)) }
+        ensures visits { IfOk result (ShowsAnswers F.FnMut D.pattern_lengths (Sh.builds_lengths shape) f) }
+        ensures alike { ShowsAnswersAlike F.FnMut D.pattern_lengths (built_by Sh.ShapeBuilder shape) f result }
+        ensures cells { ShowsCells F.FnMut D.pattern_lengths (Sh.builds_lengths shape) f result }
+    {
+        let shape = shape.into_shape_with_order();
+        let room = room_for(alloc, shape.size())?;
+        Ok(of_answers(room, *shape.raw_dim(), shape.order(), f))
+    }
+
+    /// An array of a shape with what the function returns, called once for each index, in row-major order, after `.f()`
+    /// in column-major order; which call is for which index is free. The shape has a checked size. NoMemory if the
+    /// storage is refused: then the function wasn't called. ndarray's `from_shape_simple_fn`.
+    pub fn from_shape_simple_fn<Sh: ShapeBuilder<Dim = D>, F: FnMut() -> A>(
+        alloc: Global,
+        shape: Sh,
+        f: F,
+    ) -> Result<Self, NoMemory>
+        requires checked { HasCheckedSize (Sh.builds_lengths shape) }
+        requires callable { AskableInAnyOrder (AnswersNothing F.FnMut) (Sh.builds_lengths shape) (TakesNothing F.FnMut) f }
+        ensures owns { IfOk result (OwnsInOrder (built_by Sh.ShapeBuilder shape)) }
+        ensures visits { IfOk result (λ a. HasAnswers (AnswersNothing F.FnMut) (Sh.builds_lengths shape) f (element_at a)) }
+        ensures alike { (x : A) → AnswersAlike F.FnMut x f → IfOk result (ShowsOneValue (built_by Sh.ShapeBuilder shape) x) }
+    {
+        let shape = shape.into_shape_with_order();
+        let room = room_for(alloc, shape.size())?;
+        Ok(of_equal_answers(room, *shape.raw_dim(), shape.order(), f))
+    }
+}

@@ -1,0 +1,59 @@
+//! The elements of another array at every index.
+#![tactic(auto, unfolding(crate::specs::Meaning::meaning_of, crate::specs::Meaning::memory_layout_of))]
+
+ghost use Rattle.std.specs.Prelude.{◌≡◌, ◌<◌, ℕ, true, List, Some, OnOk, OnErr};
+ghost use Rattle.nd_shape_and_slice.specs.Broadcast.{broadcasts};
+ghost use Rattle.nd_storage.specs.CloneRefusals.{MayRefuseClone};
+ghost use Rattle.nd_storage.specs.Clones.{ClonesOfAllAreEqual};
+ghost use Rattle.nd_array_core.specs.base.Writes.{KeepsFrame};
+ghost use Rattle.nd_array_core.specs.elements.Pairs.{beside_at};
+ghost use Rattle.nd_storage.specs.elements.Pairs.{IsOldOrOf};
+
+use crate::base::array::ArrayBase;
+use crate::laws::broadcast_to_itself;
+use nd_shape_and_slice::{Dimension, NoMemory};
+use nd_storage::elements::assign::assign_layouts;
+use nd_storage::storage::{Data, DataMut};
+
+impl<A: Clone + Drop, S: DataMut<Elem = A>, D: Dimension> ArrayBase<S, D> {
+    ghost use Rattle.nd_array_core.specs.Meaning.{meaning_of, shape_of, element_at};
+
+    /// Writes at each index a clone of the element that the right side has there once it is broadcast to this shape, which must
+    /// be possible; a clone must equal its original. NoMemory if a clone is refused, and for nothing else: each index then
+    /// has its old element or the new one. ndarray's `assign`.
+    pub fn assign<Z: Data<Elem = A>, E: Dimension>(
+        &mut self,
+        rhs: &ArrayBase<Z, E>,
+    ) -> Result<(), NoMemory>
+        requires broadcasts { broadcasts (shape_of rhs.now) (shape_of self.old) ≡ true }
+        requires clones { ClonesOfAllAreEqual A.is_clone (element_at rhs.now) }
+        ensures assigned { OnOk result ((i : List ℕ) → element_at self.new i ≡ beside_at self.old rhs.now i) }
+        ensures stopped { OnErr result (IsOldOrOf (element_at self.old) (beside_at self.old rhs.now) (element_at self.new)) }
+        ensures refused { OnErr result (MayRefuseClone A.is_infallible (beside_at self.old rhs.now)) }
+        ensures frame { KeepsFrame S.frame self.old self.new }
+    {
+        match rhs.layout.broadcast(self.layout.dim) {
+            Some(seen) => assign_layouts(&mut self.storage, &self.layout, &rhs.storage, &seen),
+            None => unreachable!(),
+        }
+    }
+}
+
+impl<A: Clone + Drop, S: Data<Elem = A>, D: Dimension> ArrayBase<S, D> {
+    ghost use Rattle.nd_array_core.specs.Meaning.{shape_of, element_at};
+
+    /// Writes a clone of each element to an array of the same shape; a clone must equal its original. NoMemory if a clone is
+    /// refused, and for nothing else: each index of the other array then has its old element or the new one. ndarray's
+    /// `assign_to`.
+    pub fn assign_to<Z: DataMut<Elem = A>>(&self, to: &mut ArrayBase<Z, D>) -> Result<(), NoMemory>
+        requires same { shape_of to.old ≡ shape_of self.now }
+        requires clones { ClonesOfAllAreEqual A.is_clone (element_at self.now) }
+        ensures assigned { OnOk result ((i : List ℕ) → element_at to.new i ≡ element_at self.now i) }
+        ensures stopped { OnErr result (IsOldOrOf (element_at to.old) (element_at self.now) (element_at to.new)) }
+        ensures refused { OnErr result (MayRefuseClone A.is_infallible (element_at self.now)) }
+        ensures frame { KeepsFrame Z.frame to.old to.new }
+    {
+        broadcast_to_itself(self);
+        to.assign(self)
+    }
+}

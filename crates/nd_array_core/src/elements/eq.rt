@@ -1,0 +1,60 @@
+//! Equality of arrays.
+#![tactic(auto, unfolding(crate::specs::Meaning::meaning_of, crate::specs::Meaning::memory_layout_of))]
+
+ghost use Rattle.std.specs.Prelude.{◌↔◌, ◌≡◌, ◌<◌, true, IsTrue};
+ghost use Rattle.std.specs.Cmp.Lexicographic.{pointwise};
+ghost use Rattle.nd_array_core.specs.Equality.{equal_meanings, EqualEverywhere, meanings_per, meanings_equiv};
+ghost use Rattle.nd_storage.specs.Meaning.{row_major_elements};
+ghost use Rattle.nd_array_core.specs.Meaning.{meaning_of, shape_of};
+ghost use Rattle.std.specs.Cmp.{on_per, on_equiv};
+
+use crate::base::array::ArrayBase;
+use nd_shape_and_slice::Dimension;
+use nd_storage::elements::eq::{layouts_equal, slices_equal};
+use nd_storage::storage::Data;
+
+/// Whether the elements of two arrays of one shape are equal.
+fn elements_equal<S: Data, D: Dimension>(a: &ArrayBase<S, D>, b: &ArrayBase<S, D>) -> bool
+where
+    S::Elem: PartialEq,
+    requires { shape_of b.now ≡ shape_of a.now }
+    ensures { result ≡ pointwise S.Elem.eq (row_major_elements (meaning_of a.now)) (row_major_elements (meaning_of b.now)) }
+{
+    match (a.as_slice(), b.as_slice()) {
+        (Some(xs), Some(ys)) => slices_equal(xs, ys),
+        _ => layouts_equal(&a.storage, &a.layout, &b.storage, &b.layout),
+    }
+}
+
+/// Whether two arrays are equal.
+fn arrays_equal<S: Data, D: Dimension>(a: &ArrayBase<S, D>, b: &ArrayBase<S, D>) -> bool
+where
+    S::Elem: PartialEq,
+    ensures { result ≡ equal_meanings S.Elem.eq (meaning_of a.now) (meaning_of b.now) }
+{
+    a.shape() == b.shape() && elements_equal(a, b)
+}
+
+impl<S: Data, D: Dimension> PartialEq for ArrayBase<S, D>
+where
+    S::Elem: PartialEq,
+{
+    ghost eq = { λ a b. equal_meanings S.Elem.eq (meaning_of a) (meaning_of b) };
+
+    ghost laws = { on_per meaning_of (meanings_per S.Elem.PartialEq.laws) };
+
+    /// Whether the shapes are the same and the elements at each index are equal.
+    fn eq(&self, other: &Self) -> bool
+        ensures value { result ≡ equal_meanings S.Elem.eq (meaning_of self.now) (meaning_of other.now) }
+        ensures everywhere { IsTrue result ↔ EqualEverywhere S.Elem.eq (meaning_of self.now) (meaning_of other.now) }
+    {
+        arrays_equal(self, other)
+    }
+}
+
+impl<S: Data, D: Dimension> Eq for ArrayBase<S, D>
+where
+    S::Elem: Eq,
+{
+    ghost laws = { on_equiv meaning_of (meanings_equiv S.Elem.Eq.laws) };
+}

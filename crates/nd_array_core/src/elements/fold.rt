@@ -1,0 +1,35 @@
+//! Closures that are handed each element.
+#![tactic(auto, unfolding(crate::specs::Meaning::meaning_of, crate::specs::Meaning::memory_layout_of))]
+
+ghost use Rattle.std.specs.Prelude.{◌<◌};
+ghost use Rattle.std.specs.List.{fold};
+ghost use Rattle.nd_storage.specs.Meaning.{row_major_elements};
+ghost use Rattle.nd_storage.specs.elements.Folds.{FoldsAll, FoldableInAnyOrder, FoldsAlike};
+
+use crate::base::array::ArrayBase;
+use nd_shape_and_slice::{Dimension, StrideList};
+use nd_storage::elements::fold::fold_places;
+use nd_storage::storage::Data;
+
+impl<S: Data, D: Dimension> ArrayBase<S, D> {
+    ghost use Rattle.nd_array_core.specs.Meaning.{meaning_of, shape_of, element_at};
+
+    /// Folds all elements into a total, each once, in an order that is free; the total so far and an element are handed to
+    /// the function, which may be called with whatever such calls lead to. ndarray's `fold`.
+    pub fn fold<F: FnMut(B, &S::Elem) -> B, B>(&self, init: B, f: F) -> B
+        requires callable { FoldableInAnyOrder F.FnMut (shape_of self.now) (element_at self.now) f init }
+        ensures visits { FoldsAll F.FnMut (shape_of self.now) (element_at self.now) f init result }
+        ensures settled { FoldsAlike F.FnMut f init (row_major_elements (meaning_of self.now)) result }
+    {
+        let order = self.layout.free_order();
+        let (_f, total) = fold_places(
+            &self.storage,
+            order.offset,
+            order.dim.slice(),
+            order.strides.slice(),
+            init,
+            f,
+        );
+        total
+    }
+}

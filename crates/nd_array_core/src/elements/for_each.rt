@@ -1,0 +1,30 @@
+//! A closure that is shown each element.
+#![tactic(auto, unfolding(crate::specs::Meaning::meaning_of, crate::specs::Meaning::memory_layout_of))]
+
+ghost use Rattle.std.specs.Prelude.{◌<◌};
+ghost use Rattle.nd_storage.specs.elements.Maps.{AnswersElement, MayBeShown, AskableOfAll, VisitsAll};
+
+use crate::base::array::ArrayBase;
+use nd_shape_and_slice::{Dimension, StrideList};
+use nd_storage::elements::for_each::show_places;
+use nd_storage::storage::Data;
+
+impl<S: Data, D: Dimension> ArrayBase<S, D> {
+    ghost use Rattle.nd_array_core.specs.Meaning.{meaning_of};
+
+    /// Shows each element to the function, once, in an order that is free; the function may be called with whatever such
+    /// calls lead to. ndarray's `for_each`.
+    pub fn for_each<F: FnMut(&S::Elem)>(&self, f: F)
+        requires callable { AskableOfAll (AnswersElement F.FnMut) (MayBeShown F.FnMut) (meaning_of self.now) f }
+        ensures visits { VisitsAll (AnswersElement F.FnMut) (meaning_of self.now) f }
+    {
+        let order = self.layout.free_order();
+        show_places(
+            &self.storage,
+            order.offset,
+            order.dim.slice(),
+            order.strides.slice(),
+            f,
+        );
+    }
+}

@@ -1,0 +1,59 @@
+//! The hash of arrays.
+#![tactic(auto, unfolding(crate::specs::Meaning::meaning_of, crate::specs::Meaning::memory_layout_of))]
+
+ghost use Rattle.std.specs.Prelude.{◌≡◌, ◌<◌};
+ghost use Rattle.std.specs.Hash.{on_Alike};
+ghost use Rattle.std.specs.List.{fold, flat_map};
+ghost use Rattle.nd_array_core.specs.Equality.{fed_meaning, meanings_alike};
+ghost use Rattle.nd_storage.specs.Meaning.{row_major_elements};
+ghost use Rattle.nd_array_core.specs.Meaning.{meaning_of};
+
+use crate::base::array::ArrayBase;
+use nd_shape_and_slice::{Dimension, StrideList};
+use nd_storage::elements::hash::hash_places;
+use nd_storage::storage::Data;
+use std::hash::{Hash, Hasher};
+
+/// Feeds the elements to a hasher, by lanes of axes that are joined where they continue one another.
+fn hash_by_lanes<S: Data, D: Dimension, H: Hasher>(array: &ArrayBase<S, D>, state: &mut H)
+where
+    S::Elem: Hash,
+    ensures { state.new ≡ fold H.write state.old (flat_map S.Elem.hash_input (row_major_elements (meaning_of array.now))) }
+{
+    let mut joined = array.layout.copied();
+    joined.join_axes();
+    hash_places(
+        &array.storage,
+        joined.offset,
+        joined.dim.slice(),
+        joined.strides.slice(),
+        state,
+    );
+}
+
+/// Feeds the elements to a hasher, in row-major order.
+fn hash_elements<S: Data, D: Dimension, H: Hasher>(array: &ArrayBase<S, D>, state: &mut H)
+where
+    S::Elem: Hash,
+    ensures { state.new ≡ fold H.write state.old (flat_map S.Elem.hash_input (row_major_elements (meaning_of array.now))) }
+{
+    match array.as_slice() {
+        Some(xs) => <S::Elem as Hash>::hash_slice(xs, state),
+        None => hash_by_lanes(array, state),
+    }
+}
+
+impl<S: Data, D: Dimension> Hash for ArrayBase<S, D>
+where
+    S::Elem: Hash,
+{
+    ghost hash_input = { λ a. fed_meaning S.Elem.hash_input (meaning_of a) };
+
+    ghost respects_eq = { (on_Alike meaning_of (meanings_alike S.Elem.respects_eq)).fed };
+
+    /// Feeds the shape as a slice, and then each element in row-major order.
+    fn hash<H: Hasher>(&self, state: &mut H) {
+        self.shape().hash(state);
+        hash_elements(self, state);
+    }
+}

@@ -1,0 +1,86 @@
+//! New arrays of what a closure returns for each element.
+#![tactic(auto, unfolding(crate::specs::Meaning::meaning_of, crate::specs::Meaning::memory_layout_of))]
+
+ghost use Rattle.std.specs.Prelude.{◌≡◌, ◌<◌, ◌≤◌, [], IfOk, vec_len, vec_capacity};
+ghost use Rattle.nd_shape_and_slice.specs.Shape.{size_of};
+ghost use Rattle.nd_storage.specs.FreeOrder.{AskableInAnyOrder, HasAnswers};
+ghost use Rattle.nd_array_core.specs.Meaning.{shape_of, element_at, meaning_of};
+ghost use Rattle.nd_array_core.specs.reshape.RunSlices.{IsRunArray};
+ghost use Rattle.nd_storage.specs.elements.Maps.{AnswersElement, MayBeShown, AnswersBy, AnswersAt, TakesAt, AskableOfAll, HasAnswersOfAll, IsMappedBy};
+
+use crate::base::array::{Array, ArrayBase};
+use crate::base::from_elem::of_items;
+use crate::elements::to_owned::{of_run, run_elements};
+use nd_layout::{is_run, reach_below};
+use nd_shape_and_slice::{Dimension, NoMemory, Order, StrideList};
+use nd_storage::elements::to_vec::room_of;
+use nd_storage::elements::map::{answer_places, answer_run};
+use nd_storage::storage::Data;
+use std::alloc::Global;
+
+/// What the function returns for each element, in row-major order.
+fn map_in_order<S: Data, D: Dimension, B, F: FnMut(&S::Elem) -> B>(
+    room: Vec<B>,
+    array: &ArrayBase<S, D>,
+    f: F,
+) -> Array<B, D>
+    requires empty { (room.items ≡ []) × (vec_len room ≡ 0) }
+    requires room { size_of (shape_of array.now) ≤ vec_capacity room }
+    requires callable { AskableInAnyOrder (AnswersAt (AnswersElement F.FnMut) (element_at array.now)) (shape_of array.now) (TakesAt (MayBeShown F.FnMut) (element_at array.now)) f }
+    ensures shape { shape_of result ≡ shape_of array.now }
+    ensures visits { HasAnswers (AnswersAt (AnswersElement F.FnMut) (element_at array.now)) (shape_of array.now) f (element_at result) }
+{
+    let mut joined = array.layout.copied();
+    joined.join_axes();
+    let (_f, items) = answer_places(
+        room,
+        &array.storage,
+        joined.offset,
+        joined.dim.slice(),
+        joined.strides.slice(),
+        f,
+    );
+    of_items(items, array.raw_dim(), Order::RowMajor)
+}
+
+/// What the function returns for each element of a run, as they lie.
+fn map_run<S: Data, D: Dimension, B, F: FnMut(&S::Elem) -> B>(
+    room: Vec<B>,
+    array: &ArrayBase<S, D>,
+    f: F,
+) -> Array<B, D>
+    requires run { IsRunArray array.now }
+    requires empty { (room.items ≡ []) × (vec_len room ≡ 0) }
+    requires room { size_of (shape_of array.now) ≤ vec_capacity room }
+    requires callable { AskableInAnyOrder (AnswersAt (AnswersElement F.FnMut) (element_at array.now)) (shape_of array.now) (TakesAt (MayBeShown F.FnMut) (element_at array.now)) f }
+    ensures shape { shape_of result ≡ shape_of array.now }
+    ensures visits { HasAnswers (AnswersAt (AnswersElement F.FnMut) (element_at array.now)) (shape_of array.now) f (element_at result) }
+{
+    let mut items = room;
+    answer_run(&mut items, run_elements(array), f);
+    let below = reach_below(array.layout.dim.slice(), array.layout.strides.slice());
+    of_run(items, below, &array.layout)
+}
+
+impl<S: Data, D: Dimension> ArrayBase<S, D> {
+    /// An array of its own with the same shape and, at each index, what the function returns for the element there; it is
+    /// shown each element once, in an order that is free, and may be called with whatever such calls lead to. The layout is
+    /// unspecified. NoMemory if the storage is refused: then the function wasn't called. ndarray's `map`.
+    pub fn map<B, F: FnMut(&S::Elem) -> B>(
+        &self,
+        alloc: Global,
+        f: F,
+    ) -> Result<Array<B, D>, NoMemory>
+        requires callable { AskableOfAll (AnswersElement F.FnMut) (MayBeShown F.FnMut) (meaning_of self.now) f }
+        ensures shape { IfOk result (λ a. shape_of a ≡ shape_of self.now) }
+        ensures visits { IfOk result (λ a. HasAnswersOfAll (AnswersElement F.FnMut) (meaning_of self.now) f (element_at a)) }
+        ensures alike { (h : _) → AnswersBy F.FnMut h f → IfOk result (λ a. IsMappedBy h (element_at self.now) (element_at a)) }
+    {
+        let room = room_of(alloc, self.len())?;
+        if is_run(self.layout.dim.slice(), self.layout.strides.slice()) {
+            Ok(map_run(room, self, f))
+        } else {
+            Ok(map_in_order(room, self, f))
+        }
+    }
+}

@@ -1,0 +1,33 @@
+//! Closures that are handed each element, to be written.
+#![tactic(auto, unfolding(crate::specs::Meaning::meaning_of, crate::specs::Meaning::memory_layout_of))]
+
+ghost use Rattle.std.specs.Prelude.{◌<◌};
+ghost use Rattle.nd_array_core.specs.base.Writes.{KeepsFrame};
+ghost use Rattle.nd_storage.specs.elements.Changes.{ChangesAll, ChangeableInAnyOrder, ChangesAlike};
+
+use crate::base::array::ArrayBase;
+use nd_shape_and_slice::{Dimension, StrideList};
+use nd_storage::elements::map_inplace::change_places;
+use nd_storage::storage::DataMut;
+
+impl<S: DataMut, D: Dimension> ArrayBase<S, D> {
+    ghost use Rattle.nd_array_core.specs.Meaning.{shape_of, element_at};
+
+    /// Hands each element to the function, to be written, once, in an order that is free; the function may be called with
+    /// whatever such calls lead to. ndarray's `map_inplace`.
+    pub fn map_inplace<F: FnMut(&mut S::Elem)>(&mut self, f: F)
+        requires callable { ChangeableInAnyOrder F.FnMut (shape_of self.old) (element_at self.old) f }
+        ensures visits { ChangesAll F.FnMut (shape_of self.old) (element_at self.old) (element_at self.new) f }
+        ensures alike { ChangesAlike F.FnMut f (element_at self.old) (element_at self.new) }
+        ensures frame { KeepsFrame S.frame self.old self.new }
+    {
+        let order = self.layout.free_order();
+        change_places(
+            &mut self.storage,
+            order.offset,
+            order.dim.slice(),
+            order.strides.slice(),
+            f,
+        );
+    }
+}

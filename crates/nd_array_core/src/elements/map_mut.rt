@@ -1,0 +1,50 @@
+//! New arrays of what a closure returns for each element, which it is handed to be written.
+#![tactic(auto, unfolding(crate::specs::Meaning::meaning_of, crate::specs::Meaning::memory_layout_of))]
+
+ghost use Rattle.std.specs.Prelude.{◌≡◌, ◌<◌, ℕ, IfOk, IfErr, List, OnOk};
+ghost use Rattle.nd_array_core.specs.base.Writes.{KeepsFrame};
+ghost use Rattle.nd_storage.specs.elements.MapsMut.{HandableElements, HandsOutElements, LeavesAlike, AnswersHandedAlike};
+
+use crate::base::array::{Array, ArrayBase};
+use crate::base::from_elem::of_items;
+use nd_shape_and_slice::{Dimension, NoMemory, Order, StrideList};
+use nd_storage::elements::to_vec::room_of;
+use nd_storage::elements::map_mut::answer_places;
+use nd_storage::storage::DataMut;
+use std::alloc::Global;
+
+impl<S: DataMut, D: Dimension> ArrayBase<S, D> {
+    ghost use Rattle.nd_array_core.specs.Meaning.{meaning_of, shape_of, element_at};
+
+    /// An array of its own with the same shape and, at each index, what the function returns for the element there, which
+    /// it is handed to be written; each element once, in an order that is free. The function may be called with whatever
+    /// such calls lead to. The layout is unspecified. NoMemory if the storage is refused: then the function wasn't called.
+    /// ndarray's `map_mut`.
+    pub fn map_mut<B, F: FnMut(&mut S::Elem) -> B>(
+        &mut self,
+        alloc: Global,
+        f: F,
+    ) -> Result<Array<B, D>, NoMemory>
+        requires callable { HandableElements F.FnMut (meaning_of self.old) f }
+        ensures shape { IfOk result (λ a. shape_of a ≡ shape_of self.old) }
+        ensures visits { IfOk result (λ a. HandsOutElements F.FnMut f (meaning_of self.old) (element_at self.new) (element_at a)) }
+        ensures alike { OnOk result (LeavesAlike F.FnMut f (element_at self.old) (element_at self.new)) }
+        ensures answered { IfOk result (λ a. AnswersHandedAlike F.FnMut f (element_at self.old) (element_at a)) }
+        ensures kept { IfErr result (λ _. (i : List ℕ) → element_at self.new i ≡ element_at self.old i) }
+        ensures frame { KeepsFrame S.frame self.old self.new }
+    {
+        let room = room_of(alloc, self.len())?;
+        let dim = self.raw_dim();
+        let mut joined = self.layout.copied();
+        joined.join_axes();
+        let (_f, items) = answer_places(
+            room,
+            &mut self.storage,
+            joined.offset,
+            joined.dim.slice(),
+            joined.strides.slice(),
+            f,
+        );
+        Ok(of_items(items, dim, Order::RowMajor))
+    }
+}

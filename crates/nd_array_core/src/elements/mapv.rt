@@ -1,0 +1,99 @@
+//! New arrays of what a closure returns for a clone of each element.
+#![tactic(auto, unfolding(crate::specs::Meaning::meaning_of, crate::specs::Meaning::memory_layout_of))]
+
+ghost use Rattle.std.specs.Prelude.{◌≡◌, ◌<◌, ◌≤◌, [], IfOk, vec_len, vec_capacity};
+ghost use Rattle.nd_shape_and_slice.specs.Shape.{size_of};
+ghost use Rattle.nd_storage.specs.FreeOrder.{AskableInAnyOrder, HasAnswers};
+ghost use Rattle.nd_array_core.specs.Meaning.{shape_of, element_at, meaning_of};
+ghost use Rattle.nd_storage.specs.Clones.{ClonesOfAllAreEqual};
+ghost use Rattle.nd_array_core.specs.reshape.RunSlices.{IsRunArray};
+ghost use Rattle.nd_storage.specs.elements.Maps.{AnswersValue, MayBeGiven, AnswersValuesBy, AnswersAt, TakesAt, AskableOfAll, HasAnswersOfAll};
+ghost use Rattle.nd_array_core.specs.elements.ArrayMaps.{ShowsMapped};
+
+use crate::base::array::{Array, ArrayBase};
+use crate::base::from_elem::of_items;
+use crate::elements::to_owned::{of_run, run_elements};
+use nd_layout::{is_run, reach_below};
+use nd_shape_and_slice::{Dimension, NoMemory, Order, StrideList};
+use nd_storage::elements::to_vec::room_of;
+use nd_storage::elements::mapv::{value_places, value_run};
+use nd_storage::storage::Data;
+use std::alloc::Global;
+
+/// What the function returns for a clone of each element, in row-major order.
+fn mapv_in_order<S: Data, D: Dimension, B: Drop, F: FnMut(S::Elem) -> B>(
+    room: Vec<B>,
+    array: &ArrayBase<S, D>,
+    f: F,
+) -> Result<Array<B, D>, NoMemory>
+where
+    S::Elem: Clone,
+    requires clones { ClonesOfAllAreEqual S.Elem.is_clone (element_at array.now) }
+    requires empty { (room.items ≡ []) × (vec_len room ≡ 0) }
+    requires room { size_of (shape_of array.now) ≤ vec_capacity room }
+    requires callable { AskableInAnyOrder (AnswersAt (AnswersValue F.FnMut) (element_at array.now)) (shape_of array.now) (TakesAt (MayBeGiven F.FnMut) (element_at array.now)) f }
+    ensures shape { IfOk result (λ a. shape_of a ≡ shape_of array.now) }
+    ensures visits { IfOk result (λ a. HasAnswers (AnswersAt (AnswersValue F.FnMut) (element_at array.now)) (shape_of array.now) f (element_at a)) }
+{
+    let mut joined = array.layout.copied();
+    joined.join_axes();
+    let (_f, items) = value_places(
+        room,
+        &array.storage,
+        joined.offset,
+        joined.dim.slice(),
+        joined.strides.slice(),
+        f,
+    )?;
+    Ok(of_items(items, array.raw_dim(), Order::RowMajor))
+}
+
+/// What the function returns for a clone of each element of a run, as they lie.
+fn mapv_run<S: Data, D: Dimension, B: Drop, F: FnMut(S::Elem) -> B>(
+    room: Vec<B>,
+    array: &ArrayBase<S, D>,
+    f: F,
+) -> Result<Array<B, D>, NoMemory>
+where
+    S::Elem: Clone,
+    requires run { IsRunArray array.now }
+    requires clones { ClonesOfAllAreEqual S.Elem.is_clone (element_at array.now) }
+    requires empty { (room.items ≡ []) × (vec_len room ≡ 0) }
+    requires room { size_of (shape_of array.now) ≤ vec_capacity room }
+    requires callable { AskableInAnyOrder (AnswersAt (AnswersValue F.FnMut) (element_at array.now)) (shape_of array.now) (TakesAt (MayBeGiven F.FnMut) (element_at array.now)) f }
+    ensures shape { IfOk result (λ a. shape_of a ≡ shape_of array.now) }
+    ensures visits { IfOk result (λ a. HasAnswers (AnswersAt (AnswersValue F.FnMut) (element_at array.now)) (shape_of array.now) f (element_at a)) }
+{
+    let mut items = room;
+    let _f = value_run(&mut items, run_elements(array), f)?;
+    let below = reach_below(array.layout.dim.slice(), array.layout.strides.slice());
+    Ok(of_run(items, below, &array.layout))
+}
+
+impl<S: Data, D: Dimension> ArrayBase<S, D>
+where
+    S::Elem: Clone,
+{
+    /// An array of its own with the same shape and, at each index, what the function returns for a clone of the element
+    /// there; a clone equals its original. The function is handed each element once, in an order that is free, and may be
+    /// called with whatever such calls lead to. The layout is unspecified. NoMemory if the storage is refused, when the
+    /// function wasn't called, or if a clone is. ndarray's `mapv`.
+    pub fn mapv<B: Drop, F: FnMut(S::Elem) -> B>(
+        &self,
+        alloc: Global,
+        f: F,
+    ) -> Result<Array<B, D>, NoMemory>
+        requires clones { ClonesOfAllAreEqual S.Elem.is_clone (element_at self.now) }
+        requires callable { AskableOfAll (AnswersValue F.FnMut) (MayBeGiven F.FnMut) (meaning_of self.now) f }
+        ensures shape { IfOk result (λ a. shape_of a ≡ shape_of self.now) }
+        ensures visits { IfOk result (λ a. HasAnswersOfAll (AnswersValue F.FnMut) (meaning_of self.now) f (element_at a)) }
+        ensures alike { (h : _) → AnswersValuesBy F.FnMut h f → IfOk result (ShowsMapped h self.now) }
+    {
+        let room = room_of(alloc, self.len())?;
+        if is_run(self.layout.dim.slice(), self.layout.strides.slice()) {
+            mapv_run(room, self, f)
+        } else {
+            mapv_in_order(room, self, f)
+        }
+    }
+}

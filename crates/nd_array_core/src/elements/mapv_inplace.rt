@@ -1,0 +1,68 @@
+//! Elements exchanged where they lie for what a closure returns for a clone of each.
+#![tactic(auto, unfolding(crate::specs::Meaning::meaning_of, crate::specs::Meaning::memory_layout_of))]
+
+ghost use Rattle.std.specs.Prelude.{◌<◌, IfOk, OnOk, OnErr};
+ghost use Rattle.nd_storage.specs.CloneRefusals.{MayRefuseClone};
+ghost use Rattle.nd_storage.specs.Clones.{ClonesOfAllAreEqual};
+ghost use Rattle.nd_array_core.specs.base.Writes.{KeepsFrame};
+ghost use Rattle.nd_storage.specs.elements.Maps.{AnswersValue, MayBeGiven, AnswersValuesBy, AskableOfAll, HasAnswersOfAll, HasSomeAnswersOf};
+ghost use Rattle.nd_array_core.specs.elements.ArrayMaps.{ShowsMapped, ShowsOldOrMapped};
+
+use crate::base::array::ArrayBase;
+use nd_shape_and_slice::{Dimension, NoMemory, StrideList};
+use nd_storage::elements::mapv_inplace::replace_places;
+use nd_storage::storage::DataMut;
+
+impl<S: DataMut, D: Dimension> ArrayBase<S, D>
+where
+    S::Elem: Clone + Drop,
+{
+    ghost use Rattle.nd_array_core.specs.Meaning.{meaning_of, element_at};
+
+    /// Puts at each index what the function returns for a clone of the element there; a clone equals its original. The
+    /// function is handed each element once, in an order that is free, and may be called with whatever such calls lead
+    /// to. NoMemory if a clone is refused, and for nothing else: each index then has its old element or the result for it.
+    /// ndarray's `mapv_inplace`.
+    pub fn mapv_inplace<F: FnMut(S::Elem) -> S::Elem>(&mut self, f: F) -> Result<(), NoMemory>
+        requires clones { ClonesOfAllAreEqual S.Elem.is_clone (element_at self.old) }
+        requires callable { AskableOfAll (AnswersValue F.FnMut) (MayBeGiven F.FnMut) (meaning_of self.old) f }
+        ensures visits { OnOk result (HasAnswersOfAll (AnswersValue F.FnMut) (meaning_of self.old) f (element_at self.new)) }
+        ensures alike { (h : _) → AnswersValuesBy F.FnMut h f → OnOk result (ShowsMapped h self.old self.new) }
+        ensures stopped { OnErr result (HasSomeAnswersOf (AnswersValue F.FnMut) (meaning_of self.old) f (element_at self.new)) }
+        ensures either { (h : _) → AnswersValuesBy F.FnMut h f → OnErr result (ShowsOldOrMapped h self.old self.new) }
+        ensures refused { OnErr result (MayRefuseClone S.Elem.is_infallible (element_at self.old)) }
+        ensures frame { KeepsFrame S.frame self.old self.new }
+    {
+        let order = self.layout.free_order();
+        let _f = replace_places(
+            &mut self.storage,
+            order.offset,
+            order.dim.slice(),
+            order.strides.slice(),
+            f,
+        )?;
+        Ok(())
+    }
+}
+
+impl<S: DataMut + Drop, D: Dimension> ArrayBase<S, D>
+where
+    S::Elem: Clone + Drop,
+{
+    ghost use Rattle.nd_array_core.specs.Meaning.{meaning_of, element_at};
+
+    /// The array itself once `mapv_inplace` has put at each index what the function returns for a clone of the element
+    /// there. NoMemory if a clone is refused, and for nothing else: the array is dropped. ndarray's `mapv_into`.
+    pub fn mapv_into<F: FnMut(S::Elem) -> S::Elem>(self, f: F) -> Result<Self, NoMemory>
+        requires clones { ClonesOfAllAreEqual S.Elem.is_clone (element_at self) }
+        requires callable { AskableOfAll (AnswersValue F.FnMut) (MayBeGiven F.FnMut) (meaning_of self) f }
+        ensures visits { IfOk result (λ a. HasAnswersOfAll (AnswersValue F.FnMut) (meaning_of self) f (element_at a)) }
+        ensures alike { (h : _) → AnswersValuesBy F.FnMut h f → IfOk result (ShowsMapped h self) }
+        ensures refused { OnErr result (MayRefuseClone S.Elem.is_infallible (element_at self)) }
+        ensures frame { IfOk result (KeepsFrame S.frame self) }
+    {
+        let mut array = self;
+        array.mapv_inplace(f)?;
+        Ok(array)
+    }
+}

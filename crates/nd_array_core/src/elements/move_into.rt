@@ -1,0 +1,27 @@
+//! Elements moved out of an array into another one.
+#![tactic(auto, unfolding(crate::specs::Meaning::meaning_of, crate::specs::Meaning::memory_layout_of))]
+
+ghost use Rattle.std.specs.Prelude.{◌≡◌, ◌<◌, ℕ, List};
+ghost use Rattle.nd_array_core.specs.Meaning.{shape_of, element_at};
+ghost use Rattle.nd_array_core.specs.base.Writes.{KeepsFrame};
+
+use crate::base::array::{Array, ArrayBase};
+use nd_shape_and_slice::Dimension;
+use nd_storage::elements::move_into::exchange_layouts;
+use nd_storage::storage::DataMut;
+
+impl<A: Drop, D: Dimension> Array<A, D> {
+    /// Moves each element to its index of an array of the same shape. What stood there is dropped, and so are elements of
+    /// this array that no index names; nothing is cloned, and it takes no memory. ndarray's `move_into`.
+    pub fn move_into<Z: DataMut<Elem = A>>(self, to: &mut ArrayBase<Z, D>)
+        requires same { shape_of to.old ≡ shape_of self }
+        ensures moved { (i : List ℕ) → element_at to.new i ≡ element_at self i }
+        ensures frame { KeepsFrame Z.frame to.old to.new }
+    {
+        let ArrayBase {
+            mut storage,
+            layout,
+        } = self;
+        exchange_layouts(&mut to.storage, &to.layout, &mut storage, &layout);
+    }
+}

@@ -1,0 +1,175 @@
+//! Arrays of their own made of any array.
+#![tactic(auto, unfolding(crate::specs::Meaning::meaning_of, crate::specs::Meaning::memory_layout_of))]
+
+ghost use Rattle.std.specs.Prelude.{◌≡◌, ◌⊎◌, ◌<◌, ℕ, List, IfOk, IfErr, length, true, false, is_ok, slice_get, vec_capacity};
+ghost use Rattle.nd_shape_and_slice.specs.Shape.{size_of};
+ghost use Rattle.nd_shape_and_slice.specs.Place.{place_of, IsSeparated};
+ghost use Rattle.nd_shape_and_slice.specs.declared.builder.Order.TheVariants.{RowMajor};
+ghost use Rattle.nd_layout.specs.Ranks.{IsRun};
+ghost use Rattle.nd_layout.specs.Strides.{reach_down};
+ghost use Rattle.nd_array_core.specs.Meaning.{meaning_of, shape_of, element_at, storage_of, layout_strides, layout_offset};
+ghost use Rattle.nd_storage.specs.Meaning.{inside};
+ghost use Rattle.nd_array_core.specs.Part.{ShowsWhole, BecomesWhole};
+ghost use Rattle.nd_storage.specs.Places.{HoldsAll, stored_at};
+ghost use Rattle.nd_storage.specs.Clones.{ClonesOfAllAreEqual};
+ghost use Rattle.nd_array_core.specs.base.Fresh.{OwnsInOrder};
+ghost use Rattle.nd_storage.specs.Storages.{stored_list, room_of};
+ghost use Rattle.nd_array_core.specs.reshape.RunSlices.{IsRunArray, IsInMemoryOrder, CopiesRun, StoresInRowMajorOrder};
+
+use crate::base::array::{Array, ArrayBase};
+use crate::base::from_elem::of_items;
+use nd_layout::{Layout, is_run, reach_below};
+use nd_shape_and_slice::{Dimension, NoMemory, Order, StrideList};
+use nd_storage::elements::to_vec::clones_of;
+use nd_storage::storage::{Data, OwnedRepr};
+use std::alloc::Global;
+
+/// The array of a run's elements by rising place, under the run's strides.
+pub(crate) fn of_run<A, D: Dimension>(
+    items: Vec<A>,
+    offset: usize,
+    layout: &Layout<D, D::Strides>,
+) -> Array<A, D>
+    requires run { (size_of (D.lengths layout.now.dim) ≡ 0) ⊎ IsRun (D.lengths layout.now.dim) (D.Strides.strides_of layout.now.strides) }
+    requires from { offset ≡ reach_down (D.lengths layout.now.dim) (D.Strides.strides_of layout.now.strides) }
+    requires count { length items.items ≡ size_of (D.lengths layout.now.dim) }
+    ensures shape { shape_of result ≡ D.lengths layout.now.dim }
+    ensures strides { layout_strides result ≡ D.Strides.strides_of layout.now.strides }
+    ensures offset { layout_offset result ≡ offset }
+    ensures stored { stored_list (storage_of result) ≡ items.items }
+    ensures elements { (i : List ℕ) → element_at result i ≡ inside (D.lengths layout.now.dim) i (stored_at (slice_get items.items) (place_of offset (D.Strides.strides_of layout.now.strides) i)) }
+{
+    ArrayBase {
+        storage: OwnedRepr { items },
+        layout: Layout::strided(offset, layout.dim, layout.strides),
+    }
+}
+
+/// The elements of a run by rising place.
+pub(crate) fn run_elements<'a, S: Data, D: Dimension>(array: &'a ArrayBase<S, D>) -> &'a [S::Elem]
+    requires { IsRunArray array.now }
+    ensures order { IsInMemoryOrder array.now result.now }
+    ensures count { length result.now ≡ size_of (shape_of array.now) }
+    ensures shifted { (i : List ℕ) → inside (shape_of array.now) i (stored_at (slice_get result.now) (place_of (reach_down (shape_of array.now) (layout_strides array.now)) (layout_strides array.now) i)) ≡ element_at array.now i }
+{
+    let below = reach_below(array.layout.dim.slice(), array.layout.strides.slice());
+    let first = array.layout.offset.saturating_sub(below);
+    array.storage.borrowed().run(first, array.layout.dim.size())
+}
+
+/// The array of clones of a run's elements, as they lie.
+fn run_to_owned<S: Data, D: Dimension>(
+    alloc: Global,
+    array: &ArrayBase<S, D>,
+) -> Result<Array<S::Elem, D>, NoMemory>
+where
+    S::Elem: Clone,
+    requires run { IsRunArray array.now }
+    requires clones { ClonesOfAllAreEqual S.Elem.is_clone (element_at array.now) }
+    ensures shape { IfOk result (λ a. shape_of a ≡ shape_of array.now) }
+    ensures elements { IfOk result (λ a. (i : List ℕ) → element_at a i ≡ element_at array.now i) }
+    ensures run { IfOk result (CopiesRun array.now) }
+{
+    let items = clones_of(alloc, run_elements(array))?;
+    let below = reach_below(array.layout.dim.slice(), array.layout.strides.slice());
+    Ok(of_run(items, below, &array.layout))
+}
+
+/// The array of clones of all elements, in row-major order.
+pub(crate) fn ordered_to_owned<S: Data, D: Dimension>(
+    alloc: Global,
+    array: &ArrayBase<S, D>,
+) -> Result<Array<S::Elem, D>, NoMemory>
+where
+    S::Elem: Clone + Drop,
+    requires clones { ClonesOfAllAreEqual S.Elem.is_clone (element_at array.now) }
+    ensures shape { IfOk result (λ a. shape_of a ≡ shape_of array.now) }
+    ensures elements { IfOk result (λ a. (i : List ℕ) → element_at a i ≡ element_at array.now i) }
+    ensures owns { IfOk result (OwnsInOrder (shape_of array.now, RowMajor)) }
+    ensures stored { IfOk result (StoresInRowMajorOrder array.now) }
+{
+    let items = array.to_vec(alloc)?;
+    Ok(of_items(items, array.raw_dim(), Order::RowMajor))
+}
+
+impl<S: Data, D: Dimension> ArrayBase<S, D>
+where
+    S::Elem: Clone + Drop,
+{
+    /// An array of its own with the same shape and clones of the elements; a clone equals its original. Where the places
+    /// are consecutive numbers, each once, the strides stay as they are, negative ones too, and the elements lie in the
+    /// order in which they lay; else they lie in row-major order. NoMemory if the storage or a clone is refused.
+    /// ndarray's `to_owned`.
+    pub fn to_owned(&self, alloc: Global) -> Result<Array<S::Elem, D>, NoMemory>
+        requires clones { ClonesOfAllAreEqual S.Elem.is_clone (element_at self.now) }
+        ensures shape { IfOk result (λ a. shape_of a ≡ shape_of self.now) }
+        ensures elements { IfOk result (λ a. (i : List ℕ) → element_at a i ≡ element_at self.now i) }
+        ensures run { IsRunArray self.now → IfOk result (CopiesRun self.now) }
+        ensures owns { (IsRunArray self.now → ⊥) → IfOk result (OwnsInOrder (shape_of self.now, RowMajor)) }
+        ensures stored { (IsRunArray self.now → ⊥) → IfOk result (StoresInRowMajorOrder self.now) }
+    {
+        if is_run(self.layout.dim.slice(), self.layout.strides.slice()) {
+            run_to_owned(alloc, self)
+        } else {
+            ordered_to_owned(alloc, self)
+        }
+    }
+}
+
+/// The array of a vector's elements under a layout.
+fn of_vector<A, D: Dimension>(items: Vec<A>, layout: Layout<D, D::Strides>) -> Array<A, D>
+    requires holds { HoldsAll (slice_get items.items) layout.offset (D.lengths layout.dim) (D.Strides.strides_of layout.strides) }
+    requires apart { 0 < size_of (D.lengths layout.dim) → IsSeparated (D.lengths layout.dim) (D.Strides.strides_of layout.strides) }
+    ensures storage { stored_list (storage_of result) ≡ items.items }
+    ensures room { room_of (storage_of result) ≡ vec_capacity items }
+    ensures layout { result.layout ≡ layout }
+{
+    ArrayBase {
+        storage: OwnedRepr { items },
+        layout,
+    }
+}
+
+impl<S: Data, D: Dimension> ArrayBase<S, D> {
+    /// The array in an owned storage, if it has one, and else the array as it is. It takes no memory. ndarray's
+    /// `try_into_owned_nocopy`.
+    pub fn try_into_owned_nocopy(self) -> Result<Array<S::Elem, D>, Self>
+        ensures owned { is_ok result ≡ S.owned }
+        ensures whole { IfOk result (ShowsWhole self) }
+        ensures stored { IfOk result (λ a. stored_list (storage_of a) ≡ S.items (storage_of self)) }
+        ensures room { IfOk result (λ a. room_of (storage_of a) ≡ S.room (storage_of self)) }
+        ensures kept { IfErr result (BecomesWhole self) }
+    {
+        match self.storage.into_items() {
+            Ok(items) => Ok(of_vector(items, self.layout)),
+            Err(storage) => Err(ArrayBase {
+                storage,
+                layout: self.layout,
+            }),
+        }
+    }
+}
+
+impl<S: Data + Drop, D: Dimension> ArrayBase<S, D>
+where
+    S::Elem: Clone + Drop,
+{
+    /// An array that owns its elements: the array itself if it does, which takes no memory, and else one of clones, as
+    /// `to_owned` makes it. NoMemory if the storage or a clone is refused. ndarray's `into_owned`.
+    pub fn into_owned(self, alloc: Global) -> Result<Array<S::Elem, D>, NoMemory>
+        requires clones { S.owned ≡ false → ClonesOfAllAreEqual S.Elem.is_clone (element_at self) }
+        ensures shape { IfOk result (λ a. shape_of a ≡ shape_of self) }
+        ensures elements { IfOk result (λ a. (i : List ℕ) → element_at a i ≡ element_at self i) }
+        ensures owned { S.owned ≡ true → is_ok result ≡ true }
+        ensures whole { S.owned ≡ true → IfOk result (ShowsWhole self) }
+        ensures items { S.owned ≡ true → IfOk result (λ a. stored_list (storage_of a) ≡ S.items (storage_of self)) }
+        ensures room { S.owned ≡ true → IfOk result (λ a. room_of (storage_of a) ≡ S.room (storage_of self)) }
+        ensures run { S.owned ≡ false → IsRunArray self → IfOk result (CopiesRun self) }
+        ensures owns { S.owned ≡ false → (IsRunArray self → ⊥) → IfOk result (OwnsInOrder (shape_of self, RowMajor)) }
+    {
+        match self.try_into_owned_nocopy() {
+            Ok(array) => Ok(array),
+            Err(array) => array.to_owned(alloc),
+        }
+    }
+}

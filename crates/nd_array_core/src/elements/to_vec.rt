@@ -1,0 +1,96 @@
+//! The elements as a vector.
+#![tactic(auto, unfolding(crate::specs::Meaning::meaning_of, crate::specs::Meaning::memory_layout_of))]
+
+ghost use Rattle.std.specs.Prelude.{◌≡◌, ◌+◌, ◌<◌, ◌≤◌, ◌++◌, Some, IfOk, OnOk, OnErr, vec_len, vec_capacity};
+ghost use Rattle.nd_shape_and_slice.specs.Shape.{size_of};
+ghost use Rattle.nd_storage.specs.Collected.{IsFront};
+ghost use Rattle.nd_storage.specs.Meaning.{row_major_elements};
+ghost use Rattle.nd_array_core.specs.Meaning.{meaning_of, shape_of, element_at};
+ghost use Rattle.nd_storage.specs.CloneRefusals.{MayRefuseClone};
+ghost use Rattle.nd_storage.specs.Clones.{ClonesOfAllAreEqual};
+
+use crate::base::array::ArrayBase;
+use nd_shape_and_slice::{Dimension, NoMemory, StrideList};
+use nd_storage::elements::to_vec::{clones_of, list, room_of};
+use nd_storage::storage::Data;
+use std::alloc::Global;
+
+/// Puts clones of the elements, in row-major order, behind those that a vector has: by lanes of axes that are joined where
+/// they continue one another. A refusal leaves some of them there.
+pub(crate) fn list_behind<S: Data, D: Dimension>(
+    items: &mut Vec<S::Elem>,
+    array: &ArrayBase<S, D>,
+) -> Result<(), NoMemory>
+where
+    S::Elem: Clone + Drop,
+    requires clones { ClonesOfAllAreEqual S.Elem.is_clone (element_at array.now) }
+    requires room { vec_len items.old + size_of (shape_of array.now) ≤ vec_capacity items.old }
+    ensures items { OnOk result (items.new.items ≡ items.old.items ++ row_major_elements (meaning_of array.now)) }
+    ensures count { OnOk result (vec_len items.new ≡ vec_len items.old + size_of (shape_of array.now)) }
+    ensures room { vec_capacity items.old ≤ vec_capacity items.new }
+    ensures kept { OnErr result (IsFront items.old.items items.new.items) }
+    ensures refused { OnErr result (MayRefuseClone S.Elem.is_infallible (element_at array.now)) }
+{
+    let mut joined = array.layout.copied();
+    joined.join_axes();
+    list(
+        items,
+        &array.storage,
+        joined.offset,
+        joined.dim.slice(),
+        joined.strides.slice(),
+    )
+}
+
+/// The same of a vector that is handed on; a refusal drops it.
+pub(crate) fn listed_behind<S: Data, D: Dimension>(
+    before: Vec<S::Elem>,
+    array: &ArrayBase<S, D>,
+) -> Result<Vec<S::Elem>, NoMemory>
+where
+    S::Elem: Clone + Drop,
+    requires clones { ClonesOfAllAreEqual S.Elem.is_clone (element_at array.now) }
+    requires room { vec_len before + size_of (shape_of array.now) ≤ vec_capacity before }
+    ensures items { IfOk result (λ v. v.items ≡ before.items ++ row_major_elements (meaning_of array.now)) }
+    ensures count { IfOk result (λ v. vec_len v ≡ vec_len before + size_of (shape_of array.now)) }
+    ensures room { IfOk result (λ v. vec_capacity before ≤ vec_capacity v) }
+{
+    let mut items = before;
+    match list_behind(&mut items, array) {
+        Ok(()) => Ok(items),
+        Err(refused) => Err(refused),
+    }
+}
+
+/// Clones of the elements.
+fn listed_by_lanes<S: Data, D: Dimension>(
+    alloc: Global,
+    array: &ArrayBase<S, D>,
+) -> Result<Vec<S::Elem>, NoMemory>
+where
+    S::Elem: Clone + Drop,
+    requires clones { ClonesOfAllAreEqual S.Elem.is_clone (element_at array.now) }
+    ensures items { IfOk result (λ v. v.items ≡ row_major_elements (meaning_of array.now)) }
+    ensures count { IfOk result (λ v. vec_len v ≡ size_of (shape_of array.now)) }
+{
+    let room = room_of(alloc, array.len())?;
+    listed_behind(room, array)
+}
+
+impl<S: Data, D: Dimension> ArrayBase<S, D>
+where
+    S::Elem: Clone + Drop,
+{
+    /// The elements in row-major order, as a new vector; a clone equals its original. NoMemory if the storage or a clone
+    /// is refused. ndarray's `to_vec`, here of any number of axes.
+    pub fn to_vec(&self, alloc: Global) -> Result<Vec<S::Elem>, NoMemory>
+        requires clones { ClonesOfAllAreEqual S.Elem.is_clone (element_at self.now) }
+        ensures items { IfOk result (λ v. v.items ≡ row_major_elements (meaning_of self.now)) }
+        ensures count { IfOk result (λ v. vec_len v ≡ size_of (shape_of self.now)) }
+    {
+        match self.as_slice() {
+            Some(xs) => clones_of(alloc, xs),
+            None => listed_by_lanes(alloc, self),
+        }
+    }
+}

@@ -1,0 +1,37 @@
+//! Closures that are handed the elements of two arrays: one to be written, and one beside it.
+#![tactic(auto, unfolding(crate::specs::Meaning::meaning_of, crate::specs::Meaning::memory_layout_of))]
+
+ghost use Rattle.std.specs.Prelude.{◌≡◌, ◌<◌, true, Some};
+ghost use Rattle.nd_shape_and_slice.specs.Broadcast.{broadcasts};
+ghost use Rattle.nd_array_core.specs.base.Writes.{KeepsFrame};
+ghost use Rattle.nd_storage.specs.elements.Pairs.{ZipsBy};
+ghost use Rattle.nd_array_core.specs.elements.Pairs.{ShowsBoth, ZipsWith, ZippableWith};
+
+use crate::base::array::ArrayBase;
+use nd_shape_and_slice::Dimension;
+use nd_storage::elements::zip_mut_with::zip_layouts;
+use nd_storage::storage::{Data, DataMut};
+
+impl<S: DataMut, D: Dimension> ArrayBase<S, D> {
+    ghost use Rattle.nd_array_core.specs.Meaning.{shape_of};
+
+    /// Hands each element to the function, to be written, with the element that the right side has there once it is broadcast
+    /// to this shape, which must be possible; each once, in an order that is free, and the function may be called with
+    /// whatever such calls lead to. It takes no memory. ndarray's `zip_mut_with`.
+    pub fn zip_mut_with<B, Z: Data<Elem = B>, E: Dimension, F: FnMut(&mut S::Elem, &B)>(
+        &mut self,
+        rhs: &ArrayBase<Z, E>,
+        f: F,
+    )
+        requires broadcasts { broadcasts (shape_of rhs.now) (shape_of self.old) ≡ true }
+        requires callable { ZippableWith F.FnMut self.old rhs.now f }
+        ensures visits { ZipsWith F.FnMut self.old rhs.now self.new f }
+        ensures alike { (h : _) → ZipsBy F.FnMut h f → ShowsBoth h self.old rhs.now self.new }
+        ensures frame { KeepsFrame S.frame self.old self.new }
+    {
+        match rhs.layout.broadcast(self.layout.dim) {
+            Some(seen) => zip_layouts(&mut self.storage, &self.layout, &rhs.storage, &seen, f),
+            None => unreachable!(),
+        }
+    }
+}

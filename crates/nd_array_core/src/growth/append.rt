@@ -1,0 +1,209 @@
+//! One array behind another along an axis.
+#![tactic(auto, unfolding(crate::specs::Meaning::meaning_of, crate::specs::Meaning::memory_layout_of))]
+
+ghost use Rattle.std.specs.Prelude.{◌↔◌, ◌≡◌, ◌<◌, ◌≤◌, IsTrue, OnOk, OnErr, IfErr, [], length, slice_index};
+ghost use Rattle.nd_shape_and_slice.specs.Shape.{size_of, HasCheckedSize};
+ghost use Rattle.nd_layout.specs.Growth.{growing_strides};
+ghost use Rattle.nd_layout.specs.Placements.{as_placement, placement_of};
+ghost use Rattle.nd_layout.specs.MemoryOrder.{IsGrown};
+ghost use Rattle.nd_array_core.specs.Joined.{concatenated, concatenated_shape};
+ghost use Rattle.nd_array_core.specs.Meaning.{meaning_of, shape_of, element_at, storage_of};
+ghost use Rattle.nd_storage.specs.CloneRefusals.{MayRefuseClone};
+ghost use Rattle.nd_storage.specs.Clones.{ClonesOfAllAreEqual};
+ghost use Rattle.nd_storage.specs.Storages.{stored_list, room_of};
+ghost use Rattle.nd_array_core.specs.growth.Appended.{ArePutBehind, CanComeBehind, IsAppendRefused, JoinsAlike};
+ghost use Rattle.nd_array_core.specs.growth.Grown.{BecomesReady, CanGrowOn, GoesOn, IsGrownBy, IsLeft, IsReadyAlong, KeepsRoom, LeavesRoom, LeavesRoomBehind, NeedsOnlyClones};
+ghost use Rattle.nd_array_core.specs.growth.Outcomes.{Appended, AppendRefused, ComesAsItIs, GrowsInPlace};
+ghost use Rattle.nd_array_core.specs.growth.Reserved.{HasRoomFor};
+
+use crate::base::array::{Array, ArrayView};
+use crate::base::array_error::ArrayError;
+use crate::growth::fits_behind::{broadcast_behind, joined_dim};
+use crate::growth::put_behind::put_behind;
+use nd_layout::Layout;
+use nd_shape_and_slice::{Axis, Dimension, NoMemory};
+use nd_storage::storage::OwnedRepr;
+
+/// Puts clones of an array's elements behind those of a storage that a layout fills, and lets the layout grow along the
+/// axis. A refusal leaves the elements and the layout.
+fn append_behind<A: Clone + Drop, D: Dimension>(
+    storage: &mut OwnedRepr<A>,
+    layout: &mut Layout<D, D::Strides>,
+    axis: usize,
+    array: &ArrayView<'_, A, D>,
+) -> Result<(), NoMemory>
+    requires comes { ComesAsItIs (D.lengths layout.old.dim) (shape_of array.now) axis }
+    requires grows { GrowsInPlace axis (placement_of layout.old) (stored_list storage.old) }
+    requires more { 0 < size_of (shape_of array.now) }
+    requires clones { ClonesOfAllAreEqual A.is_clone (element_at array.now) }
+    ensures grown { OnOk result (IsGrown (placement_of layout.old) axis (slice_index (shape_of array.now) axis) (placement_of layout.new)) }
+    ensures put { OnOk result (ArePutBehind (placement_of layout.new) axis (slice_index (D.lengths layout.old.dim) axis) (shape_of array.now) (element_at array.now) (stored_list storage.old) (stored_list storage.new)) }
+    ensures kept { OnErr result ((stored_list storage.new ≡ stored_list storage.old) × (layout.new ≡ layout.old)) }
+    ensures room { room_of storage.old ≤ room_of storage.new }
+    ensures enough { HasRoomFor (size_of (shape_of array.now)) storage.old → OnErr result (MayRefuseClone A.is_infallible (element_at array.now)) }
+{
+    let from = layout.dim.length(axis);
+    let grown = layout.grown(axis, array.layout.dim.length(axis));
+    put_behind(&mut storage.items, &grown, axis, from, array)?;
+    *layout = grown;
+    Ok(())
+}
+
+/// Puts clones of an array's elements into a storage of which no index names anything, laid so that the axis can grow.
+/// Afterwards it has these alone.
+fn append_fresh<A: Clone + Drop, D: Dimension>(
+    storage: &mut OwnedRepr<A>,
+    layout: &mut Layout<D, D::Strides>,
+    axis: usize,
+    array: &ArrayView<'_, A, D>,
+) -> Result<(), NoMemory>
+    requires on { axis < length (shape_of array.now) }
+    requires more { 0 < size_of (shape_of array.now) }
+    requires checked { HasCheckedSize (shape_of array.now) }
+    requires clones { ClonesOfAllAreEqual A.is_clone (element_at array.now) }
+    ensures laid { OnOk result (placement_of layout.new ≡ as_placement 0 (shape_of array.now) (growing_strides axis (shape_of array.now))) }
+    ensures put { OnOk result (ArePutBehind (placement_of layout.new) axis 0 (shape_of array.now) (element_at array.now) [] (stored_list storage.new)) }
+    ensures kept { OnErr result (layout.new ≡ layout.old) }
+    ensures left { OnErr result (stored_list storage.new ≡ []) }
+    ensures room { room_of storage.old ≤ room_of storage.new }
+    ensures enough { size_of (shape_of array.now) ≤ room_of storage.old → OnErr result (MayRefuseClone A.is_infallible (element_at array.now)) }
+{
+    storage.items.clear();
+    let fresh = Layout::growing(array.layout.dim, axis);
+    put_behind(&mut storage.items, &fresh, axis, 0, array)?;
+    *layout = fresh;
+    Ok(())
+}
+
+impl<A: Clone + Drop, D: Dimension> Array<A, D> {
+    /// Whether the array fills its storage, and an axis can grow at the end of it without a move.
+    fn is_ready_along(&self, axis: Axis) -> bool
+        requires { axis.0 < length (shape_of self.now) }
+        ensures { IsTrue result ↔ CanGrowOn axis.0 self.now }
+    {
+        if self.storage.items.len() != self.len() {
+            return false;
+        }
+        !self.layout.must_move(axis.0)
+    }
+
+    /// Appends an array that isn't empty to one that isn't, at the end of the storage, which this one fills.
+    fn append_in_place(&mut self, axis: Axis, array: &ArrayView<'_, A, D>) -> Result<(), NoMemory>
+        requires comes { ComesAsItIs (shape_of self.old) (shape_of array.now) axis.0 }
+        requires some { 0 < size_of (shape_of self.old) }
+        requires more { 0 < size_of (shape_of array.now) }
+        requires can { CanGrowOn axis.0 self.old }
+        requires clones { ClonesOfAllAreEqual A.is_clone (element_at array.now) }
+        ensures appended { OnOk result (Appended axis.0 (meaning_of array.now) self.old self.new) }
+        ensures refused { OnErr result (AppendRefused A.is_infallible axis.0 (meaning_of array.now) self.old self.new) }
+    {
+        append_behind(&mut self.storage, &mut self.layout, axis.0, array)
+    }
+
+    /// The same of an array whose elements are moved to new storage first.
+    fn append_relaid(&mut self, axis: Axis, array: &ArrayView<'_, A, D>) -> Result<(), NoMemory>
+        requires comes { ComesAsItIs (shape_of self.old) (shape_of array.now) axis.0 }
+        requires some { 0 < size_of (shape_of self.old) }
+        requires more { 0 < size_of (shape_of array.now) }
+        requires moves { ¬ (CanGrowOn axis.0 self.old) }
+        requires clones { ClonesOfAllAreEqual A.is_clone (element_at array.now) }
+        ensures appended { OnOk result (Appended axis.0 (meaning_of array.now) self.old self.new) }
+        ensures refused { OnErr result (AppendRefused A.is_infallible axis.0 (meaning_of array.now) self.old self.new) }
+    {
+        let _count = self.len();
+        let more = array.len();
+        match self.relay(axis, more) {
+            Ok(()) => self.append_in_place(axis, array),
+            Err(refused) => Err(refused),
+        }
+    }
+
+    /// Appends an array without elements, where the shape of both is this.
+    fn append_nothing(&mut self, axis: Axis, array: &ArrayView<'_, A, D>, dim: D)
+        requires comes { ComesAsItIs (shape_of self.old) (shape_of array.now) axis.0 }
+        requires none { size_of (shape_of array.now) ≡ 0 }
+        requires dim { D.lengths dim ≡ concatenated_shape (shape_of self.old) (shape_of array.now) axis.0 }
+        ensures { Appended axis.0 (meaning_of array.now) self.old self.new }
+    {
+        if !self.is_empty() {
+            return;
+        }
+        self.layout = Layout::without_elements(self.layout.offset, dim);
+    }
+
+    /// Appends an array that isn't empty to one that is.
+    fn append_to_none(&mut self, axis: Axis, array: &ArrayView<'_, A, D>) -> Result<(), NoMemory>
+        requires comes { ComesAsItIs (shape_of self.old) (shape_of array.now) axis.0 }
+        requires none { size_of (shape_of self.old) ≡ 0 }
+        requires more { 0 < size_of (shape_of array.now) }
+        requires clones { ClonesOfAllAreEqual A.is_clone (element_at array.now) }
+        ensures appended { OnOk result (Appended axis.0 (meaning_of array.now) self.old self.new) }
+        ensures refused { OnErr result (AppendRefused A.is_infallible axis.0 (meaning_of array.now) self.old self.new) }
+    {
+        append_fresh(&mut self.storage, &mut self.layout, axis.0, array)
+    }
+
+    /// Appends an array as it is, where the shape of both is this.
+    fn append_as_it_is(
+        &mut self,
+        axis: Axis,
+        array: &ArrayView<'_, A, D>,
+        dim: D,
+    ) -> Result<(), NoMemory>
+        requires comes { ComesAsItIs (shape_of self.old) (shape_of array.now) axis.0 }
+        requires dim { D.lengths dim ≡ concatenated_shape (shape_of self.old) (shape_of array.now) axis.0 }
+        requires clones { ClonesOfAllAreEqual A.is_clone (element_at array.now) }
+        ensures appended { OnOk result (Appended axis.0 (meaning_of array.now) self.old self.new) }
+        ensures refused { OnErr result (AppendRefused A.is_infallible axis.0 (meaning_of array.now) self.old self.new) }
+    {
+        if array.is_empty() {
+            self.append_nothing(axis, array, dim);
+            return Ok(());
+        }
+        if self.is_empty() {
+            return self.append_to_none(axis, array);
+        }
+        if self.is_ready_along(axis) {
+            return self.append_in_place(axis, array);
+        }
+        self.append_relaid(axis, array)
+    }
+
+    /// Appends clones of an array's elements along an axis, which is below `ndim` where there are axes, once the array is
+    /// broadcast: it has as many axes, and each length outside the axis is this array's, or 1. A clone equals its original.
+    /// IncompatibleShape without axes, or where the shape doesn't fit; Overflow where the result has no checked size; NoMemory
+    /// where storage or a clone is refused, and never where no element is appended. After a refusal shape and elements are as
+    /// before.
+    /// On storage that the array fills, the new elements follow the old, which stay, where the axis is of length 1 or steps
+    /// furthest, and upward; else they move to new storage first. Once an element was appended, the next ones along the
+    /// axis follow it. In room that was reserved only a clone can lack memory; where nothing is laid anew, the room stays.
+    /// ndarray's `append`, which doesn't broadcast.
+    pub fn append(&mut self, axis: Axis, array: ArrayView<'_, A, D>) -> Result<(), ArrayError>
+        requires axis { 0 < length (shape_of self.old) → axis.0 < length (shape_of self.old) }
+        requires clones { ClonesOfAllAreEqual A.is_clone (element_at array) }
+        ensures refused { IfErr result (IsAppendRefused (shape_of self.old) (shape_of array.entry) axis.0) }
+        ensures fits { OnOk result (CanComeBehind (shape_of self.old) (shape_of array.entry) axis.0) }
+        ensures plain { OnOk result (JoinsAlike axis.0 (meaning_of self.old) (meaning_of array.entry) (meaning_of self.new)) }
+        ensures joined { OnOk result (meaning_of self.new ≡ concatenated axis.0 (meaning_of self.old) (meaning_of array.entry)) }
+        ensures kept { OnErr result (meaning_of self.new ≡ meaning_of self.old) }
+        ensures laid { OnOk result (IsGrownBy axis.0 (slice_index (shape_of array.entry) axis.0) self.old self.new) }
+        ensures ready { OnOk result (BecomesReady axis.0 (slice_index (shape_of array.entry) axis.0) self.old self.new) }
+        ensures goes_on { IsReadyAlong axis.0 self.old → OnOk result (GoesOn axis.0 self.old self.new) }
+        ensures left { IfErr result (IsLeft axis.0 self.old self.new) }
+        ensures room { KeepsRoom axis.0 (slice_index (shape_of array.entry) axis.0) self.old self.new }
+        ensures room_left { OnOk result (LeavesRoomBehind axis.0 (shape_of array.entry) self.old self.new) }
+        ensures room_kept { IsReadyAlong axis.0 self.old → OnErr result (LeavesRoom axis.0 0 self.old self.new) }
+        ensures enough { IfErr result (NeedsOnlyClones A.is_infallible axis.0 self.old (meaning_of array.entry)) }
+    {
+        match joined_dim(&self.layout.dim, &array.layout.dim, axis.0) {
+            Ok(dim) => {
+                let beside = broadcast_behind(array, &self.layout.dim, axis.0);
+                match self.append_as_it_is(axis, &beside, dim) {
+                    Ok(()) => Ok(()),
+                    Err(_) => Err(ArrayError::NoMemory),
+                }
+            }
+            Err(refused) => Err(ArrayError::Shape(refused)),
+        }
+    }
+}

@@ -1,0 +1,85 @@
+//! Elements copied in an order, under other lengths.
+#![tactic(auto, unfolding(crate::specs::Meaning::meaning_of, crate::specs::Meaning::memory_layout_of))]
+
+ghost use Rattle.std.specs.Prelude.{◌≡◌, ◌<◌, ℕ, IfOk, vec_len, slice_get};
+ghost use Rattle.nd_shape_and_slice.specs.Shape.{size_of, index_at};
+ghost use Rattle.nd_shape_and_slice.specs.declared.builder.Order.TheVariants.{ColumnMajor};
+ghost use Rattle.nd_layout.specs.Ranks.{index_in};
+ghost use Rattle.nd_array_core.specs.Meaning.{shape_of, element_at};
+ghost use Rattle.nd_storage.specs.Clones.{ClonesOfAllAreEqual};
+ghost use Rattle.nd_array_core.specs.base.Fresh.{OwnsInOrder};
+ghost use Rattle.nd_array_core.specs.reshape.Regrouped.{IsShapeOf};
+ghost use Rattle.nd_array_core.specs.reshape.Serving.{KeepsRanks};
+
+use crate::base::array::{Array, ArrayBase};
+use crate::base::from_elem::of_items;
+use nd_shape_and_slice::{Dimension, NoMemory, Order};
+use nd_storage::storage::Data;
+use std::alloc::Global;
+
+/// Clones of the elements by row-major rank.
+fn rows_listed<S: Data, D: Dimension>(
+    alloc: Global,
+    array: &ArrayBase<S, D>,
+) -> Result<Vec<S::Elem>, NoMemory>
+where
+    S::Elem: Clone + Drop,
+    requires clones { ClonesOfAllAreEqual S.Elem.is_clone (element_at array.now) }
+    ensures count { IfOk result (λ v. vec_len v ≡ size_of (shape_of array.now)) }
+    ensures listed { IfOk result (λ v. (rank : ℕ) → rank < size_of (shape_of array.now) → slice_get v.items rank ≡ element_at array.now (index_at (shape_of array.now) rank)) }
+{
+    let items = array.to_vec(alloc)?;
+    Ok(items)
+}
+
+/// Clones of the elements by column-major rank.
+fn columns_listed<S: Data, D: Dimension>(
+    alloc: Global,
+    array: &ArrayBase<S, D>,
+) -> Result<Vec<S::Elem>, NoMemory>
+where
+    S::Elem: Clone + Drop,
+    requires clones { ClonesOfAllAreEqual S.Elem.is_clone (element_at array.now) }
+    ensures count { IfOk result (λ v. vec_len v ≡ size_of (shape_of array.now)) }
+    ensures listed { IfOk result (λ v. (rank : ℕ) → rank < size_of (shape_of array.now) → slice_get v.items rank ≡ element_at array.now (index_in ColumnMajor (shape_of array.now) rank)) }
+{
+    let turned = array.t();
+    let items = rows_listed(alloc, &turned)?;
+    Ok(items)
+}
+
+/// Clones of the elements by their rank in an order.
+fn listed_in<S: Data, D: Dimension>(
+    alloc: Global,
+    array: &ArrayBase<S, D>,
+    order: Order,
+) -> Result<Vec<S::Elem>, NoMemory>
+where
+    S::Elem: Clone + Drop,
+    requires clones { ClonesOfAllAreEqual S.Elem.is_clone (element_at array.now) }
+    ensures count { IfOk result (λ v. vec_len v ≡ size_of (shape_of array.now)) }
+    ensures listed { IfOk result (λ v. (rank : ℕ) → rank < size_of (shape_of array.now) → slice_get v.items rank ≡ element_at array.now (index_in order (shape_of array.now) rank)) }
+{
+    match order {
+        Order::RowMajor => rows_listed(alloc, array),
+        Order::ColumnMajor => columns_listed(alloc, array),
+    }
+}
+
+/// A new array of clones of the elements under other lengths, each with its rank in an order; they lie in that order.
+pub(crate) fn copied_in<S: Data, D: Dimension, E: Dimension>(
+    alloc: Global,
+    array: &ArrayBase<S, D>,
+    dim: E,
+    order: Order,
+) -> Result<Array<S::Elem, E>, NoMemory>
+where
+    S::Elem: Clone + Drop,
+    requires shape { IsShapeOf (shape_of array.now) (E.lengths dim) }
+    requires clones { ClonesOfAllAreEqual S.Elem.is_clone (element_at array.now) }
+    ensures owns { IfOk result (OwnsInOrder (E.lengths dim, order)) }
+    ensures ranks { IfOk result (λ a. KeepsRanks array.now order (E.lengths dim) a) }
+{
+    let items = listed_in(alloc, array, order)?;
+    Ok(of_items(items, dim, order))
+}

@@ -1,0 +1,133 @@
+//! A part of an array written from another array, or changed by a closure, through a view that is lent for the call.
+#![tactic(auto)]
+
+ghost use Rattle.std.specs.Prelude.{◌≡◌, ℕ, true, List, OnOk, OnErr};
+ghost use Rattle.nd_shape_and_slice.specs.SliceInfo.{fits_shape};
+ghost use Rattle.nd_storage.specs.CloneRefusals.{MayRefuseClone};
+ghost use Rattle.nd_storage.specs.Clones.{ClonesOfAllAreEqual};
+ghost use Rattle.nd_storage.specs.elements.Changes.{ChangeableInAnyOrder, ChangesAll, ChangesAlike};
+ghost use Rattle.nd_storage.specs.elements.Pairs.{IsOldOrOf};
+ghost use Rattle.nd_array_core.specs.PlacedArray.{element_placed};
+ghost use Rattle.nd_array_core.specs.base.Writes.{KeepsFrame};
+ghost use Rattle.nd_array_core.specs.scoped.Tasks.{view_frame, lent_frame, lent_view, view_left, CanBeSeen};
+ghost use Rattle.nd_array_core.specs.scoped.PartTasks.{KeepsBut};
+ghost use Rattle.nd_array_core.specs.scoped.Fills.{KeepsOtherIndexes};
+ghost use Rattle.nd_array_core.specs.Part.{sliced_part};
+ghost use Rattle.nd_array_core.specs.scoped.Assigned.{FitsPart, AssignsPart, AssignsPartly, AssignsNamed, ChangeableInPart, ChangesPart, ChangesNamed};
+
+use super::with_view_mut::{LentView, ViewTask};
+use crate::base::array::ArrayBase;
+use crate::laws::broadcast_to_itself;
+use nd_shape_and_slice::{Dimension, NoMemory, SliceArg};
+use nd_storage::storage::{Data, DataMut, ViewMutRepr};
+
+/// The task that assigns an array to a view. If a clone is refused, each index has its old element or the new one.
+#[derive(Drop)]
+pub struct Assign<Z: Data + Drop, E: Dimension> {
+    /// The array.
+    pub patch: ArrayBase<Z, E>,
+}
+
+impl<A: Clone + Drop, Z: Data<Elem = A> + Drop, D: Dimension, E: Dimension> ViewTask<A, D>
+    for Assign<Z, E> {
+    ghost use Rattle.nd_array_core.specs.Meaning.{shape_of, element_at};
+
+    type Answer = Result<(), NoMemory>;
+
+    ghost pre = { λ task v. (shape_of task.patch ≡ v.shape) × ClonesOfAllAreEqual A.is_clone (element_at task.patch) };
+
+    ghost post = { λ task v w answer. OnOk answer ((i : List ℕ) → element_placed w i ≡ element_at task.patch i) × OnErr answer (IsOldOrOf (element_placed v) (element_at task.patch) (element_placed w)) × OnErr answer (MayRefuseClone A.is_infallible (element_at task.patch)) };
+
+    fn run(self, lent: LentView<'_, A, D, D::Strides>) -> (ViewMutRepr<'_, A>, Result<(), NoMemory>)
+        requires sound { CanBeSeen D.lengths D.Strides.strides_of lent }
+        requires same { shape_of self.patch ≡ (lent_view D.lengths D.Strides.strides_of lent).shape }
+        requires clones { ClonesOfAllAreEqual A.is_clone (element_at self.patch) }
+        ensures frame { view_frame result.0 ≡ lent_frame lent.entry }
+        ensures assigned { OnOk result.1 ((i : List ℕ) → element_placed (view_left D.lengths D.Strides.strides_of lent.entry result.0) i ≡ element_at self.patch i) }
+        ensures stopped { OnErr result.1 (IsOldOrOf (element_placed (lent_view D.lengths D.Strides.strides_of lent.entry)) (element_at self.patch) (element_placed (view_left D.lengths D.Strides.strides_of lent.entry result.0))) }
+        ensures refused { OnErr result.1 (MayRefuseClone A.is_infallible (element_at self.patch)) }
+    {
+        let mut view = lent.into_view();
+        broadcast_to_itself(&self.patch);
+        let done = view.assign(&self.patch);
+        (view.into_storage(), done)
+    }
+}
+
+/// The task that hands each element of a view to a closure, to be written.
+#[derive(Drop)]
+pub struct Change<F: Drop> {
+    /// The closure.
+    pub f: F,
+}
+
+impl<A, D: Dimension, F: FnMut(&mut A) + Drop> ViewTask<A, D> for Change<F> {
+    type Answer = ();
+
+    ghost pre = { λ task v. ChangeableInAnyOrder F.FnMut v.shape (element_placed v) task.f };
+
+    ghost post = { λ task v w _. ChangesAll F.FnMut v.shape (element_placed v) (element_placed w) task.f × ChangesAlike F.FnMut task.f (element_placed v) (element_placed w) };
+
+    fn run(self, lent: LentView<'_, A, D, D::Strides>) -> (ViewMutRepr<'_, A>, ())
+        requires sound { CanBeSeen D.lengths D.Strides.strides_of lent }
+        requires callable { ChangeableInAnyOrder F.FnMut (lent_view D.lengths D.Strides.strides_of lent).shape (element_placed (lent_view D.lengths D.Strides.strides_of lent)) self.f }
+        ensures frame { view_frame result.0 ≡ lent_frame lent.entry }
+        ensures visits { ChangesAll F.FnMut (lent_view D.lengths D.Strides.strides_of lent.entry).shape (element_placed (lent_view D.lengths D.Strides.strides_of lent.entry)) (element_placed (view_left D.lengths D.Strides.strides_of lent.entry result.0)) self.f }
+        ensures alike { ChangesAlike F.FnMut self.f (element_placed (lent_view D.lengths D.Strides.strides_of lent.entry)) (element_placed (view_left D.lengths D.Strides.strides_of lent.entry result.0)) }
+    {
+        let mut view = lent.into_view();
+        view.map_inplace(self.f);
+        (view.into_storage(), ())
+    }
+}
+
+impl<A: Clone + Drop, S: DataMut<Elem = A>, D: Dimension> ArrayBase<S, D> {
+    ghost use Rattle.nd_array_core.specs.Meaning.{shape_of, element_at};
+
+    /// Writes clones of a patch's elements where the list of slices names; every other index keeps its element. The list fits
+    /// the shape (`SliceArg::fits`), the patch has the shape of what it names (`broadcast` makes it so), and a clone must equal
+    /// its original. NoMemory if a clone is refused, and for nothing else: each index that is named then has its old element or
+    /// the new one. This project's own, beside ndarray's `slice_mut(info).assign(patch)`.
+    pub fn assign_slice<I: SliceArg<D>, Z: Data<Elem = A>, E: Dimension>(
+        &mut self,
+        info: I,
+        patch: &ArrayBase<Z, E>,
+    ) -> Result<(), NoMemory>
+        requires fits { fits_shape (shape_of self.old) (I.elements_of info) ≡ true }
+        requires same { FitsPart self.old (I.elements_of info) patch.now }
+        requires clones { ClonesOfAllAreEqual A.is_clone (element_at patch.now) }
+        ensures assigned { OnOk result (AssignsPart self.old self.new (I.elements_of info) patch.now) }
+        ensures stopped { OnErr result (AssignsPartly self.old self.new (I.elements_of info) patch.now) }
+        ensures kept { KeepsBut self.old self.new (sliced_part self.old (I.elements_of info)) }
+        ensures named { OnOk result (AssignsNamed self.old self.new (I.elements_of info) patch.now) }
+        ensures unnamed { KeepsOtherIndexes self.old self.new (I.elements_of info) }
+        ensures refused { OnErr result (MayRefuseClone A.is_infallible (element_at patch.now)) }
+        ensures frame { KeepsFrame S.frame self.old self.new }
+    {
+        self.with_slice_mut(
+            info,
+            Assign {
+                patch: patch.view(),
+            },
+        )
+    }
+}
+
+impl<S: DataMut, D: Dimension> ArrayBase<S, D> {
+    ghost use Rattle.nd_array_core.specs.Meaning.{shape_of};
+
+    /// Hands each element that the list of slices names to the function, to be written, once, in an order that is free; every
+    /// other index keeps its element. The list fits the shape (`SliceArg::fits`); the function may be called with whatever such
+    /// calls lead to. This project's own, beside ndarray's `slice_mut(info).map_inplace(f)`.
+    pub fn map_slice<I: SliceArg<D>, F: FnMut(&mut S::Elem) + Drop>(&mut self, info: I, f: F)
+        requires fits { fits_shape (shape_of self.old) (I.elements_of info) ≡ true }
+        requires callable { ChangeableInPart F.FnMut self.old (I.elements_of info) f }
+        ensures visits { ChangesPart F.FnMut self.old self.new (I.elements_of info) f }
+        ensures named { ChangesNamed F.FnMut self.old self.new (I.elements_of info) f }
+        ensures kept { KeepsBut self.old self.new (sliced_part self.old (I.elements_of info)) }
+        ensures unnamed { KeepsOtherIndexes self.old self.new (I.elements_of info) }
+        ensures frame { KeepsFrame S.frame self.old self.new }
+    {
+        self.with_slice_mut(info, Change { f })
+    }
+}

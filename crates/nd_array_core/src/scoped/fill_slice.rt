@@ -1,0 +1,75 @@
+//! A part of an array filled, through a view that is lent for the call.
+#![tactic(auto)]
+
+ghost use Rattle.std.specs.Prelude.{◌≡◌, ℕ, true, List, Some, OnOk, OnErr};
+ghost use Rattle.nd_shape_and_slice.specs.Shape.{size_of};
+ghost use Rattle.nd_shape_and_slice.specs.SliceInfo.{fits_shape};
+ghost use Rattle.nd_array_core.specs.PlacedArray.{element_placed};
+ghost use Rattle.nd_storage.specs.CloneRefusals.{MayRefuseClonesOf};
+ghost use Rattle.nd_storage.specs.Writes.{IsOldOrNew};
+ghost use Rattle.nd_array_core.specs.base.Writes.{KeepsFrame};
+ghost use Rattle.nd_array_core.specs.scoped.Tasks.{view_frame, lent_frame, CanBeSeen};
+ghost use Rattle.nd_array_core.specs.scoped.PartTasks.{IsFilledWith, KeepsBut};
+ghost use Rattle.nd_array_core.specs.Part.{sliced_part};
+ghost use Rattle.nd_array_core.specs.scoped.Fills.{IsOldOrFilled, IsFilledWhere, FillsNamed, KeepsOtherIndexes, IsViewFilled, IsViewFilledInPart, MayRefuseFill};
+
+use super::with_view_mut::{LentView, ViewTask};
+use crate::base::array::ArrayBase;
+use nd_shape_and_slice::{Dimension, NoMemory, SliceArg};
+use nd_storage::storage::{DataMut, ViewMutRepr};
+
+/// The task that fills a view with one value. If a clone is refused, each index has its old element or the value.
+#[derive(Drop)]
+pub struct Fill<A: Drop> {
+    /// The value.
+    pub value: A,
+}
+
+impl<A: Clone + Drop, D: Dimension> ViewTask<A, D> for Fill<A> {
+    ghost use Rattle.nd_storage.specs.Meaning.{inside};
+
+    type Answer = Result<(), NoMemory>;
+
+    ghost pre = { λ task v. (copy : A) → A.is_clone task.value copy → copy ≡ task.value };
+
+    ghost post = { λ task v w answer. OnOk answer ((i : List ℕ) → element_placed w i ≡ inside v.shape i (Some task.value)) × OnErr answer (IsOldOrNew v.shape (element_placed v) task.value (element_placed w)) × OnErr answer (MayRefuseClonesOf A.is_infallible task.value (size_of v.shape)) };
+
+    fn run(self, lent: LentView<'_, A, D, D::Strides>) -> (ViewMutRepr<'_, A>, Result<(), NoMemory>)
+        requires sound { CanBeSeen D.lengths D.Strides.strides_of lent }
+        requires clones { (copy : A) → A.is_clone self.value copy → copy ≡ self.value }
+        ensures frame { view_frame result.0 ≡ lent_frame lent.entry }
+        ensures filled { OnOk result.1 (IsViewFilled D.lengths D.Strides.strides_of lent.entry result.0 self.value) }
+        ensures stopped { OnErr result.1 (IsViewFilledInPart D.lengths D.Strides.strides_of lent.entry result.0 self.value) }
+        ensures refused { OnErr result.1 (MayRefuseClonesOf A.is_infallible self.value (size_of (D.lengths lent.entry.dim))) }
+    {
+        let mut view = lent.into_view();
+        let done = view.fill(self.value);
+        (view.into_storage(), done)
+    }
+}
+
+impl<S: DataMut, D: Dimension> ArrayBase<S, D>
+where
+    S::Elem: Clone + Drop,
+{
+    ghost use Rattle.nd_array_core.specs.Meaning.{shape_of};
+
+    /// Writes a clone of the value at each index that the list of slices names; every other keeps its element. The list
+    /// fits the shape (`SliceArg::fits`), and a clone must equal its original. NoMemory if a clone is refused, and for
+    /// nothing else: each index that is named then has its old element or the value. This project's own, beside ndarray's
+    /// `slice_mut(info).fill(value)`.
+    pub fn fill_slice<I: SliceArg<D>>(&mut self, info: I, value: S::Elem) -> Result<(), NoMemory>
+        requires fits { fits_shape (shape_of self.old) (I.elements_of info) ≡ true }
+        requires clones { (copy : S.Elem) → S.Elem.is_clone value copy → copy ≡ value }
+        ensures filled { OnOk result (IsFilledWith self.new (sliced_part self.old (I.elements_of info)) value) }
+        ensures stopped { OnErr result (IsOldOrFilled self.old self.new (sliced_part self.old (I.elements_of info)) value) }
+        ensures kept { KeepsBut self.old self.new (sliced_part self.old (I.elements_of info)) }
+        ensures named { OnOk result (FillsNamed self.old self.new (I.elements_of info) value) }
+        ensures unnamed { KeepsOtherIndexes self.old self.new (I.elements_of info) }
+        ensures exact { OnOk result (IsFilledWhere self.old self.new (I.elements_of info) value) }
+        ensures refused { OnErr result (MayRefuseFill S.Elem.is_infallible value (sliced_part self.old (I.elements_of info))) }
+        ensures frame { KeepsFrame S.frame self.old self.new }
+    {
+        self.with_slice_mut(info, Fill { value })
+    }
+}

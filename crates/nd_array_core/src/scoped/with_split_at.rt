@@ -1,0 +1,200 @@
+//! Calls that lend two mutable views of parts of an array, which share no place, to a task for their length.
+#![tactic(auto, unfolding(crate::specs::Meaning::meaning_of, crate::specs::Meaning::memory_layout_of))]
+
+ghost use Rattle.std.specs.Prelude.{◌≡◌, ◌≤◌, ◌<◌, ℕ, length, slice_index};
+ghost use Rattle.std.specs.Option.{is_some};
+ghost use Rattle.nd_region.specs.Region.{region_stored, borrow_of};
+ghost use Rattle.nd_array_core.specs.PlacedArray.{PlacedArray};
+ghost use Rattle.nd_array_core.specs.scoped.Tasks.{view_frame, lent_frame, lent_view, CanBeSeen, IsDoneOnViews, LiesBy, array_placed_by, HoldsBy, AreApart, IsWithin, AsksOfPair, IsDoneOnPair, KeepsUnnamed, KeepsUnnamedByTwo};
+ghost use Rattle.nd_layout.specs.Placements.{placement_of};
+ghost use Rattle.nd_array_core.specs.scoped.PartTasks.{AsksOfHalves, IsDoneOnHalves};
+ghost use Rattle.nd_array_core.specs.base.Writes.{KeepsFrame};
+
+use super::with_view_mut::LentView;
+use crate::base::array::ArrayBase;
+use crate::layout::split_at::halves;
+use nd_layout::Layout;
+use nd_region::Region;
+use nd_shape_and_slice::{Axis, Dimension, StrideList};
+use nd_storage::storage::{DataMut, ViewMutRepr};
+
+/// What a caller does with two mutable views that are lent for one call. A task gives back the storage of each, or of a
+/// part that it sliced it to, with the same borrows.
+pub trait PairTask<A, D: Dimension, E: Dimension>: Drop {
+    /// The task's result.
+    type Answer;
+
+    /// What it asks of the views.
+    ghost pre: { Self → PlacedArray A → PlacedArray A → Type 0 };
+    /// What is true of the views as they came, of the same as they are given back, and of the answer.
+    ghost post: { Self → PlacedArray A → PlacedArray A → PlacedArray A → PlacedArray A → Self.Answer → Type 0 };
+
+    /// Runs the task.
+    fn run<'b>(
+        self,
+        one: LentView<'b, A, D, D::Strides>,
+        two: LentView<'b, A, E, E::Strides>,
+    ) -> (ViewMutRepr<'b, A>, ViewMutRepr<'b, A>, Self::Answer)
+        requires one { CanBeSeen D.lengths D.Strides.strides_of one }
+        requires two { CanBeSeen E.lengths E.Strides.strides_of two }
+        requires pre { pre self (lent_view D.lengths D.Strides.strides_of one) (lent_view E.lengths E.Strides.strides_of two) }
+        ensures one_frame { view_frame result.0 ≡ lent_frame one.entry }
+        ensures two_frame { view_frame result.1 ≡ lent_frame two.entry }
+        ensures done { IsDoneOnViews D.lengths D.Strides.strides_of E.lengths E.Strides.strides_of (post self) one.entry two.entry result };
+}
+
+/// Runs the task on the elements of two regions, each seen by a layout.
+fn run_pair<'b, A, D: Dimension, E: Dimension, K: PairTask<A, D, E>>(
+    part: Region<'b, A>,
+    one: Layout<D, D::Strides>,
+    rest: Region<'b, A>,
+    two: Layout<E, E::Strides>,
+    task: K,
+) -> (Region<'b, A>, Region<'b, A>, K::Answer)
+    requires one { LiesBy (region_stored part) (placement_of one) }
+    requires two { LiesBy (region_stored rest) (placement_of two) }
+    requires pre { K.pre task (array_placed_by (region_stored part) (placement_of one)) (array_placed_by (region_stored rest) (placement_of two)) }
+    ensures part { borrow_of result.0 ≡ borrow_of part.entry }
+    ensures rest { borrow_of result.1 ≡ borrow_of rest.entry }
+    ensures done { K.post task (array_placed_by (region_stored part.entry) (placement_of one)) (array_placed_by (region_stored rest.entry) (placement_of two)) (array_placed_by (region_stored result.0) (placement_of one)) (array_placed_by (region_stored result.1) (placement_of two)) result.2 }
+{
+    let first = LentView::over(part, one);
+    let second = LentView::over(rest, two);
+    let (first, second, answer) = task.run(first, second);
+    (first.region, second.region, answer)
+}
+
+/// Runs the task on two views of a region, by layouts that share no place.
+fn run_on_split<'b, A, D: Dimension, E: Dimension, K: PairTask<A, D, E>>(
+    region: Region<'b, A>,
+    one: Layout<D, D::Strides>,
+    two: Layout<E, E::Strides>,
+    task: K,
+) -> (Region<'b, A>, K::Answer)
+    requires one { LiesBy (region_stored region) (placement_of one) }
+    requires two { LiesBy (region_stored region) (placement_of two) }
+    requires apart { AreApart (placement_of one) (placement_of two) }
+    requires callable { AsksOfPair (K.pre task) (region_stored region) (placement_of one) (placement_of two) }
+    ensures borrow { borrow_of result.0 ≡ borrow_of region.entry }
+    ensures done { IsDoneOnPair (λ v0 v1 w0 w1. K.post task v0 v1 w0 w1 result.1) (region_stored region.entry) (region_stored result.0) (placement_of one) (placement_of two) }
+{
+    let mut region = region;
+    let lent = one.copied();
+    let answer = region.split_with(
+        one.offset,
+        one.dim.slice(),
+        one.strides.slice(),
+        move |part, rest|
+            requires one { LiesBy (region_stored part) (placement_of lent) }
+            requires two { LiesBy (region_stored rest) (placement_of two) }
+            requires pre { K.pre task (array_placed_by (region_stored part) (placement_of lent)) (array_placed_by (region_stored rest) (placement_of two)) }
+            ensures part { borrow_of result.0 ≡ borrow_of part.entry }
+            ensures rest { borrow_of result.1 ≡ borrow_of rest.entry }
+            ensures done { K.post task (array_placed_by (region_stored part.entry) (placement_of lent)) (array_placed_by (region_stored rest.entry) (placement_of two)) (array_placed_by (region_stored result.0) (placement_of lent)) (array_placed_by (region_stored result.1) (placement_of two)) result.2 }
+        { run_pair(part, lent, rest, two, task) },
+    );
+    (region, answer)
+}
+
+/// Runs the task on two views of a region, by layouts that share no place. No other place changes.
+fn run_on_either<'b, A, D: Dimension, E: Dimension, K: PairTask<A, D, E>>(
+    region: Region<'b, A>,
+    one: Layout<D, D::Strides>,
+    two: Layout<E, E::Strides>,
+    task: K,
+) -> (Region<'b, A>, K::Answer)
+    requires one { LiesBy (region_stored region) (placement_of one) }
+    requires two { LiesBy (region_stored region) (placement_of two) }
+    requires apart { AreApart (placement_of one) (placement_of two) }
+    requires callable { AsksOfPair (K.pre task) (region_stored region) (placement_of one) (placement_of two) }
+    ensures borrow { borrow_of result.0 ≡ borrow_of region.entry }
+    ensures done { IsDoneOnPair (λ v0 v1 w0 w1. K.post task v0 v1 w0 w1 result.1) (region_stored region.entry) (region_stored result.0) (placement_of one) (placement_of two) }
+    ensures kept { KeepsUnnamedByTwo (region_stored region.entry) (region_stored result.0) (placement_of one) (placement_of two) }
+{
+    let mut region = region;
+    let first = one.copied();
+    let second = two.copied();
+    let answer = region.with_either(
+        first.offset,
+        first.dim.slice(),
+        first.strides.slice(),
+        second.offset,
+        second.dim.slice(),
+        second.strides.slice(),
+        move |both|
+            requires one { LiesBy (region_stored both) (placement_of one) }
+            requires two { LiesBy (region_stored both) (placement_of two) }
+            requires apart { AreApart (placement_of one) (placement_of two) }
+            requires callable { AsksOfPair (K.pre task) (region_stored both) (placement_of one) (placement_of two) }
+            ensures borrow { borrow_of result.0 ≡ borrow_of both.entry }
+            ensures done { IsDoneOnPair (λ v0 v1 w0 w1. K.post task v0 v1 w0 w1 result.1) (region_stored both.entry) (region_stored result.0) (placement_of one) (placement_of two) }
+        { run_on_split(both, one, two, task) },
+    );
+    (region, answer)
+}
+
+/// Runs the task on two views of a storage, by layouts that share no place and whose places are among those of a third.
+pub(crate) fn with_placement_pair<
+    S: DataMut,
+    W: Dimension,
+    D: Dimension,
+    E: Dimension,
+    K: PairTask<S::Elem, D, E>,
+>(
+    storage: &mut S,
+    whole: &Layout<W, W::Strides>,
+    one: Layout<D, D::Strides>,
+    two: Layout<E, E::Strides>,
+    task: K,
+) -> K::Answer
+    requires whole { HoldsBy (S.stored storage.old) (placement_of whole.now) }
+    requires one { LiesBy (S.stored storage.old) (placement_of one) }
+    requires two { LiesBy (S.stored storage.old) (placement_of two) }
+    requires one_within { IsWithin (placement_of one) (placement_of whole.now) }
+    requires two_within { IsWithin (placement_of two) (placement_of whole.now) }
+    requires apart { AreApart (placement_of one) (placement_of two) }
+    requires callable { AsksOfPair (K.pre task) (S.stored storage.old) (placement_of one) (placement_of two) }
+    ensures there { (p : ℕ) → is_some (S.stored storage.new p) ≡ is_some (S.stored storage.old p) }
+    ensures frame { S.frame storage.new ≡ S.frame storage.old }
+    ensures others { KeepsUnnamed (S.stored storage.old) (S.stored storage.new) (placement_of whole.now) }
+    ensures kept { KeepsUnnamedByTwo (S.stored storage.old) (S.stored storage.new) (placement_of one) (placement_of two) }
+    ensures done { IsDoneOnPair (λ v0 v1 w0 w1. K.post task v0 v1 w0 w1 result) (S.stored storage.old) (S.stored storage.new) (placement_of one) (placement_of two) }
+{
+    storage.with_part(
+        whole.offset,
+        whole.dim.slice(),
+        whole.strides.slice(),
+        move |region|
+            requires one { LiesBy (region_stored region) (placement_of one) }
+            requires two { LiesBy (region_stored region) (placement_of two) }
+            requires apart { AreApart (placement_of one) (placement_of two) }
+            requires callable { AsksOfPair (K.pre task) (region_stored region) (placement_of one) (placement_of two) }
+            ensures borrow { borrow_of result.0 ≡ borrow_of region.entry }
+            ensures done { IsDoneOnPair (λ v0 v1 w0 w1. K.post task v0 v1 w0 w1 result.1) (region_stored region.entry) (region_stored result.0) (placement_of one) (placement_of two) }
+            ensures kept { KeepsUnnamedByTwo (region_stored region.entry) (region_stored result.0) (placement_of one) (placement_of two) }
+        { run_on_either(region, one, two, task) },
+    )
+}
+
+impl<S: DataMut, D: Dimension> ArrayBase<S, D> {
+    ghost use Rattle.nd_array_core.specs.Meaning.{shape_of};
+
+    /// Lends the task mutable views of the two parts of an axis for the length of the call: the coordinates below this
+    /// one, and those from it on. Afterwards each part has the elements that its view was left with. The axis is below
+    /// `ndim`, and the coordinate at most its length. This project's own, beside ndarray's `split_at` of mutable views.
+    pub fn with_split_at<K: PairTask<S::Elem, D, D>>(
+        &mut self,
+        axis: Axis,
+        index: usize,
+        task: K,
+    ) -> K::Answer
+        requires axis { axis.0 < length (shape_of self.old) }
+        requires within { index ≤ slice_index (shape_of self.old) axis.0 }
+        requires callable { AsksOfHalves (K.pre task) self.old axis.0 index }
+        ensures frame { KeepsFrame S.frame self.old self.new }
+        ensures done { IsDoneOnHalves (K.post task) result self.old self.new axis.0 index }
+    {
+        let (lower, upper) = halves(&self.layout, axis.0, index);
+        with_placement_pair(&mut self.storage, &self.layout, lower, upper, task)
+    }
+}

@@ -1,0 +1,66 @@
+//! Calls that lend a slice of the caller's to a task as a mutable view, for their length.
+//!
+//! After a mutable view that was made of a slice in the open has ended, a caller's proof knows the slice's length, but
+//! not which elements were written. These calls say what the slice holds.
+
+ghost use Rattle.std.specs.Prelude.{◌≡◌, length, IfOk, IfErr, Some, None, slice_get};
+ghost use Rattle.nd_region.specs.Region.{region_stored, borrow_of};
+ghost use Rattle.nd_array_core.specs.scoped.Tasks.{LiesBy, array_placed_by, AsksOfPlacement};
+ghost use Rattle.nd_layout.specs.Placements.{placement_of};
+ghost use Rattle.nd_array_core.specs.scoped.Sources.{meant_by, refusal_for, AsksOfSlice, IsDoneOnSlice, IsDoneByLayout, KeepsUnseen};
+
+use super::with_view_mut::{ViewTask, run_on_placement};
+use crate::base::from_shape::{GivenIn, laid_out};
+use nd_layout::Layout;
+use nd_shape_and_slice::{Dimension, IntoStrideShape, ShapeError, StrideList};
+use nd_storage::storage::part_of_slice;
+
+/// Runs the task on a view of a slice, by a layout whose places the slice has.
+fn with_slice_placement<A, D: Dimension, K: ViewTask<A, D>>(
+    slice: &mut [A],
+    layout: Layout<D, D::Strides>,
+    task: K,
+) -> K::Answer
+    requires sound { LiesBy (slice_get slice.old) (placement_of layout) }
+    requires callable { AsksOfPlacement (K.pre task) (slice_get slice.old) (placement_of layout) }
+    ensures long { length slice.new ≡ length slice.old }
+    ensures done { IsDoneByLayout (K.post task) slice.old slice.new (placement_of layout) result }
+{
+    let lent = layout.copied();
+    part_of_slice(
+        slice,
+        layout.offset,
+        layout.dim.slice(),
+        layout.strides.slice(),
+        move |region|
+            requires sound { LiesBy (region_stored region) (placement_of lent) }
+            requires pre { K.pre task (array_placed_by (region_stored region) (placement_of lent)) }
+            ensures borrow { borrow_of result.0 ≡ borrow_of region.entry }
+            ensures done { K.post task (array_placed_by (region_stored region.entry) (placement_of lent)) (array_placed_by (region_stored result.0) (placement_of lent)) result.1 }
+        { run_on_placement(region, lent, task) },
+    )
+}
+
+/// Lends the task a mutable view of the slice's elements under a shape, for the length of the call: in row-major order,
+/// after `.f()` in column-major order, or by the strides after `.strides(..)`. Afterwards the slice has the elements
+/// that the view was left with, and beyond the shape those that it had. The slice stays as it is where the shape is
+/// refused, for the causes of `ArrayViewMut::from_shape`: Overflow where the shape has no checked size, or where its
+/// places would lie further apart than `isize::MAX`; OutOfBounds where the slice is too short (it may be longer);
+/// Unsupported where two indexes could share an element. This project's own, beside ndarray's
+/// `ArrayViewMut::from_shape`.
+pub fn with_view_of<A, D: Dimension, Sh: IntoStrideShape<Dim = D>, K: ViewTask<A, D>>(
+    slice: &mut [A],
+    shape: Sh,
+    task: K,
+) -> Result<K::Answer, ShapeError>
+    requires callable { AsksOfSlice (K.pre task) slice.old (meant_by Sh.IntoStrideShape shape) }
+    ensures refused { IfErr result (λ e. refusal_for (meant_by Sh.IntoStrideShape shape) (length slice.old) ≡ Some e) }
+    ensures accepted { IfOk result (λ _. refusal_for (meant_by Sh.IntoStrideShape shape) (length slice.old) ≡ None) }
+    ensures unchanged { IfErr result (λ _. slice.new ≡ slice.old) }
+    ensures long { length slice.new ≡ length slice.old }
+    ensures kept { KeepsUnseen slice.old slice.new (meant_by Sh.IntoStrideShape shape) }
+    ensures done { IfOk result (IsDoneOnSlice (K.post task) slice.old slice.new (meant_by Sh.IntoStrideShape shape)) }
+{
+    let layout = laid_out(GivenIn::SliceMut, slice.len(), shape)?;
+    Ok(with_slice_placement(slice, layout, task))
+}

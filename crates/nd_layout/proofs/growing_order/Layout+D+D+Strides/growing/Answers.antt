@@ -1,0 +1,26 @@
+use Rattle.std.proofs.Common.{◌≡◌, ◌∙◌, length, ap, sym, subst}
+use Rattle.std.proofs.lemmas.List.{take_at}
+use Rattle.nd_layout.specs.Growth.{growing_strides}
+use Rattle.nd_layout.specs.Steps.{IsValid}
+use Rattle.nd_layout.proofs.FreshOrder.{others_there, others_fit, length-growing_strides, fresh_valid, fresh_apart, fresh_ready}
+use Rattle.nd_layout.proofs.growing_order.Layout+D+D+Strides.growing.Goals as goal
+
+pub lay_out-requires-clause-some : goal.lay_out-requires-clause-some
+lay_out-requires-clause-some g c = rw c.slice.ensures.lengths (others_there (g.D.Dimension.lengths c.args.dim) c.args.axis c.requires.axis c.requires.some)
+
+pub lay_out-requires-clause-fits : goal.lay_out-requires-clause-fits
+lay_out-requires-clause-fits g c = rw c.slice.ensures.lengths (others_fit (g.D.Dimension.lengths c.args.dim) c.args.axis c.requires.axis c.requires.some c.requires.checked)
+
+pub strided-requires : goal.strided-requires
+strided-requires g c =
+    let ns = g.D.Dimension.lengths c.args.dim in
+    let written = c.lay_out.ensures ∙ ap (growing_strides c.args.axis) c.slice.ensures.lengths in
+    let long = ap length written ∙ (length-growing_strides ns c.args.axis c.requires.axis c.requires.some ∙ sym c.ndim-count.ensures.value) in
+    let is : g.D.Strides.StrideList.strides_of c.strides_from-strides.result ≡ growing_strides c.args.axis ns = c.strides_from-strides.ensures.listed ∙ (take_at c.lay_out.new.out _ c.ndim-count.result long ∙ written) in
+    record { valid = subst (IsValid 0 ns) (sym is) (fresh_valid ns c.args.axis c.requires.axis c.requires.some c.requires.checked) }
+
+pub returns-clause-separated : goal.returns-clause-separated
+returns-clause-separated g c = fresh_apart (g.D.Dimension.lengths c.args.dim) c.args.axis c.requires.axis c.requires.some
+
+pub returns-clause-ready : goal.returns-clause-ready
+returns-clause-ready g c = fresh_ready (g.D.Dimension.lengths c.args.dim) c.args.axis c.requires.axis c.requires.some

@@ -1,0 +1,6 @@
+use Rattle.std.proofs.Common.{arith}
+use Rattle.nd_layout.proofs.Sizes.{length-le-product}
+use Rattle.nd_layout.proofs.layout.merge_axes.can_merge.Goals as goal
+
+pub continues-requires : goal.continues-requires
+continues-requires c = omega (arith, c.requires.checked, length-le-product c.args.lengths.now c.args.into c.requires.into)

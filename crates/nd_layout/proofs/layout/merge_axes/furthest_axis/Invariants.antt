@@ -1,0 +1,5 @@
+use Rattle.nd_layout.proofs.Furthest.{StepsFurthestBelow}
+use Rattle.nd_layout.proofs.layout.merge_axes.furthest_axis.Given as goal
+
+abbrev pub invariant-loop-axis : goal.invariant-loop-axis
+invariant-loop-axis l = StepsFurthestBelow l.lengths l.strides l.axis l.best

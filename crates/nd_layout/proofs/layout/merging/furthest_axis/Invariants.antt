@@ -1,5 +1,0 @@
-use Rattle.nd_layout.proofs.Furthest.{StepsFurthestBelow}
-use Rattle.nd_layout.proofs.layout.merging.furthest_axis.Given as goal
-
-abbrev pub invariant-loop-axis : goal.invariant-loop-axis
-invariant-loop-axis l = StepsFurthestBelow l.lengths l.strides l.axis l.best

@@ -1,7 +1,0 @@
-use Rattle.std.proofs.Common.{pos}
-use Rattle.std.specs.List.{insert}
-use Rattle.nd_shape_and_slice.proofs.FillLoop.{IsFilledBelow}
-use Rattle.nd_layout.proofs.layout.resizing.strides_with.Given as goal
-
-abbrev pub invariant-loop-k : goal.invariant-loop-k
-invariant-loop-k g l = IsFilledBelow (pos 0) (insert l.list l.axis (pos 1)) (g.E.Strides.StrideList.strides_of l.out) l.k

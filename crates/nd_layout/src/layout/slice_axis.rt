@@ -1,0 +1,228 @@
+//! Slices of a layout's axes: of one axis, by a list of slices, and by a closure that is asked of each axis.
+
+ghost use Rattle.std.specs.Prelude.{◌≡◌, ◌<◌, ℤ, true, false, is_some, nat_eq, ◌||◌, length, slice_index, slice_index_or, slice_get, pos, ◌+ℤ◌, ◌*ℤ◌, if◌then◌else◌};
+ghost use Rattle.std.specs.Option.{unwrap_or};
+ghost use Rattle.nd_shape_and_slice.specs.declared.slice.Slice.{Slice};
+ghost use Rattle.nd_shape_and_slice.specs.Descriptions.{axes_from};
+ghost use Rattle.nd_shape_and_slice.specs.Slice.{fits_axis, sliced_from, sliced_length, sliced_shape};
+ghost use Rattle.nd_shape_and_slice.specs.SliceInfo.{coordinate_on, reads_axis, axes_kept, each_fits, fits_next, fits_shape, shape_after};
+ghost use Rattle.nd_shape_and_slice.specs.Shape.{size_of};
+ghost use Rattle.nd_layout.specs.Strides.{stepped_stride, FitsStride};
+ghost use Rattle.nd_shape_and_slice.specs.EachAxis.{AnswersFit};
+ghost use Rattle.nd_shape_and_slice.specs.Slicing.{collapsed_after, shape_with, index_with};
+ghost use Rattle.nd_layout.specs.Elements.{length_by, start_by, stride_by, strides_with, LeadsToPlaces};
+ghost use Rattle.nd_layout.specs.Placements.{placement_of, IsStepOf, HasSlicedStrides, HasListStrides, HasCollapsedStrides, IsSlicedStep, IsListStep, IsCollapsedStep, IsEachSliced};
+
+use super::Layout;
+use super::axes::{length_at, stride_at};
+use super::place_at::moved_unless;
+use nd_shape_and_slice::{
+    Axis, AxisDescription, Dimension, Slice, SliceInfoElem, StrideList, axes_kept, axis_after,
+    coordinate_on_axis, is_empty_shape,
+};
+
+/// A layout of which one axis is changed: the offset, and the axis's length and stride.
+#[derive(Clone, Copy)]
+struct AxisChange {
+    offset: usize,
+    len: usize,
+    stride: isize,
+}
+
+/// The stride of an axis after a slice that leaves it this length.
+fn stepped_by(stride: isize, len: usize, step: isize) -> isize
+    requires { 1 < len → FitsStride (stride *ℤ step) }
+    ensures { result ≡ stepped_stride len stride step }
+{
+    if len <= 1 { 0 } else { stride * step }
+}
+
+/// Whether no element is left once an axis has this length.
+#[inline]
+fn none_left(is_empty: bool, len: usize) -> bool
+    ensures { result ≡ (is_empty || nat_eq len 0) }
+{
+    is_empty || len == 0
+}
+
+impl<D: Dimension, T: StrideList> Layout<D, T> {
+    /// One axis after a slice, where the axes before it have moved the offset. The offset stays if no element is left.
+    #[inline]
+    fn part_of_axis(&self, axis: usize, slice: Slice, offset: usize, is_empty: bool) -> AxisChange
+        requires on { axis < length (D.lengths self.now.dim) }
+        requires fits { fits_axis (slice_index (D.lengths self.now.dim) axis) slice ≡ true }
+        requires leads { is_empty ≡ false → LeadsToPlaces offset (slice_index (D.lengths self.now.dim) axis) (slice_index_or (T.strides_of self.now.strides) axis (pos 0)) }
+        ensures len { result.len ≡ sliced_length (slice_index (D.lengths self.now.dim) axis) slice }
+        ensures stride { result.stride ≡ stepped_stride result.len (slice_index_or (T.strides_of self.now.strides) axis (pos 0)) slice.step }
+        ensures offset { is_empty ≡ false → 0 < result.len → pos result.offset ≡ pos offset +ℤ (pos (sliced_from (slice_index (D.lengths self.now.dim) axis) slice 0) *ℤ slice_index_or (T.strides_of self.now.strides) axis (pos 0)) }
+        ensures empty { is_empty ≡ true → result.offset ≡ offset }
+    {
+        let sliced = slice.on_axis(self.dim.length(axis));
+        let stride = self.strides.stride(axis);
+        let stays = none_left(is_empty, sliced.len);
+        AxisChange {
+            offset: moved_unless(stays, offset, sliced.first, stride),
+            len: sliced.len,
+            stride: stepped_by(stride, sliced.len, slice.step),
+        }
+    }
+
+    /// The offset after an index of one axis, where the axes before it have moved it.
+    #[inline]
+    fn offset_at(&self, axis: usize, coordinate: isize, offset: usize, is_empty: bool) -> usize
+        requires on { axis < length (D.lengths self.now.dim) }
+        requires fits { is_some (coordinate_on (slice_index (D.lengths self.now.dim) axis) coordinate) ≡ true }
+        requires leads { is_empty ≡ false → LeadsToPlaces offset (slice_index (D.lengths self.now.dim) axis) (slice_index_or (T.strides_of self.now.strides) axis (pos 0)) }
+        ensures moved { is_empty ≡ false → pos result ≡ pos offset +ℤ (pos (unwrap_or (coordinate_on (slice_index (D.lengths self.now.dim) axis) coordinate) 0) *ℤ slice_index_or (T.strides_of self.now.strides) axis (pos 0)) }
+        ensures empty { is_empty ≡ true → result ≡ offset }
+    {
+        let index = coordinate_on_axis(self.dim.length(axis), coordinate).unwrap_or(0);
+        moved_unless(is_empty, offset, index, self.strides.stride(axis))
+    }
+
+    /// One axis after an element of a list, where the elements before it have moved the offset. The offset stays if no
+    /// element of the array is left.
+    #[inline]
+    fn axis_by(
+        &self,
+        axis: usize,
+        element: SliceInfoElem,
+        offset: usize,
+        is_empty: bool,
+    ) -> AxisChange
+        requires fits { fits_next (slice_get (D.lengths self.now.dim) axis) element ≡ true }
+        requires leads { is_empty ≡ false → LeadsToPlaces offset (slice_index (D.lengths self.now.dim) axis) (slice_index_or (T.strides_of self.now.strides) axis (pos 0)) }
+        ensures len { result.len ≡ length_by (slice_index (D.lengths self.now.dim) axis) element }
+        ensures stride { result.stride ≡ stride_by (slice_index (D.lengths self.now.dim) axis) (slice_index_or (T.strides_of self.now.strides) axis (pos 0)) element }
+        ensures offset { is_empty ≡ false → 0 < result.len → pos result.offset ≡ pos offset +ℤ (pos (start_by (slice_index (D.lengths self.now.dim) axis) element) *ℤ slice_index_or (T.strides_of self.now.strides) axis (pos 0)) }
+        ensures new { reads_axis element ≡ false → result.offset ≡ offset }
+        ensures empty { is_empty ≡ true → result.offset ≡ offset }
+    {
+        match element {
+            SliceInfoElem::Slice { start, end, step } => {
+                self.part_of_axis(axis, Slice::new(start, end, step), offset, is_empty)
+            }
+            SliceInfoElem::Index(coordinate) => AxisChange {
+                offset: self.offset_at(axis, coordinate, offset, is_empty),
+                len: 1,
+                stride: self.strides.stride(axis),
+            },
+            SliceInfoElem::NewAxis => AxisChange {
+                offset,
+                len: 1,
+                stride: 0,
+            },
+        }
+    }
+}
+
+impl<D: Dimension, T: StrideList> Layout<D, T> {
+    /// Keeps of one axis what the slice names.
+    #[inline]
+    pub fn slice_axis(&mut self, axis: usize, slice: Slice)
+        requires on { axis < length (D.lengths self.old.dim) }
+        requires fits { fits_axis (slice_index (D.lengths self.old.dim) axis) slice ≡ true }
+        ensures lengths { D.lengths self.new.dim ≡ sliced_shape (D.lengths self.old.dim) axis slice }
+        ensures strides { HasSlicedStrides (placement_of self.old) (placement_of self.new) axis slice }
+        ensures step { IsSlicedStep (placement_of self.old) (placement_of self.new) axis slice }
+        ensures empty { size_of (D.lengths self.old.dim) ≡ 0 → self.new.offset ≡ self.old.offset }
+    {
+        let is_empty = is_empty_shape(self.dim.slice());
+        let after = self.part_of_axis(axis, slice, self.offset, is_empty);
+        self.offset = after.offset;
+        self.dim.set_length(axis, after.len);
+        self.strides.set(axis, after.stride);
+    }
+}
+
+impl<D: Dimension, T: StrideList> Layout<D, T> {
+    /// The layout that a list of slices leaves: a slice keeps its axis, an index takes it away, and new axes have
+    /// length 1. It is inlined, so that the caller's result is filled where it lies.
+    #[inline(always)]
+    pub fn sliced<E: Dimension>(&self, elements: &[SliceInfoElem]) -> Layout<E, E::Strides>
+        requires fits { fits_shape (D.lengths self.now.dim) elements.now ≡ true }
+        requires room { E.has_axes (axes_kept elements.now) ≡ true }
+        ensures lengths { E.lengths result.dim ≡ shape_after (D.lengths self.now.dim) elements.now }
+        ensures step { IsListStep (placement_of self.now) (placement_of result) elements.now }
+        ensures strides { HasListStrides (placement_of self.now) (placement_of result) elements.now }
+        ensures empty { size_of (D.lengths self.now.dim) ≡ 0 → result.offset ≡ self.now.offset }
+    {
+        let mut dim = E::zeros(axes_kept(elements));
+        let mut strides = dim.zero_strides();
+        let mut offset = self.offset;
+        let mut is_empty = is_empty_shape(self.dim.slice());
+        let mut axis = 0;
+        let mut kept = 0;
+        for element in elements {
+            let after = self.axis_by(axis, *element, offset, is_empty);
+            offset = after.offset;
+            is_empty = none_left(is_empty, after.len);
+            axis = axis_after(axis, *element);
+            if element.keeps_axis() {
+                dim.set_length(kept, after.len);
+                strides.set(kept, after.stride);
+                kept += 1;
+            }
+        }
+        Layout {
+            offset,
+            dim,
+            strides,
+        }
+    }
+
+    /// The layout after one element of the list: the part that a slice names, or one coordinate.
+    fn slice_element(&mut self, axis: usize, element: SliceInfoElem)
+        requires { fits_next (slice_get (D.lengths self.old.dim) axis) element ≡ true }
+        ensures lengths { D.lengths self.new.dim ≡ shape_with (D.lengths self.old.dim) axis element }
+        ensures step { IsStepOf (placement_of self.old) (placement_of self.new) (index_with (D.lengths self.old.dim) axis element) }
+        ensures strides { T.strides_of self.new.strides ≡ strides_with (D.lengths self.old.dim) (T.strides_of self.old.strides) axis element }
+        ensures empty { size_of (D.lengths self.old.dim) ≡ 0 → self.new.offset ≡ self.old.offset }
+    {
+        match element {
+            SliceInfoElem::Slice { start, end, step } => {
+                self.slice_axis(axis, Slice::new(start, end, step))
+            }
+            SliceInfoElem::Index(coordinate) => {
+                let len = length_at(self.dim.slice(), axis);
+                let index = coordinate_on_axis(len, coordinate).unwrap_or(0);
+                self.collapse_axis(axis, index)
+            }
+            SliceInfoElem::NewAxis => {}
+        }
+    }
+
+    /// The layout after the whole list, axis by axis. An indexed axis keeps length 1.
+    pub fn slice_axes(&mut self, elements: &[SliceInfoElem])
+        requires { each_fits (D.lengths self.old.dim) elements.now ≡ true }
+        ensures lengths { D.lengths self.new.dim ≡ collapsed_after (D.lengths self.old.dim) elements.now }
+        ensures step { IsCollapsedStep (placement_of self.old) (placement_of self.new) elements.now }
+        ensures strides { HasCollapsedStrides (placement_of self.old) (placement_of self.new) elements.now }
+        ensures empty { size_of (D.lengths self.old.dim) ≡ 0 → self.new.offset ≡ self.old.offset }
+    {
+        let mut axis = 0;
+        for element in elements {
+            self.slice_element(axis, *element);
+            axis = axis_after(axis, *element);
+        }
+    }
+}
+
+impl<D: Dimension, T: StrideList> Layout<D, T> {
+    /// Keeps of each axis the slice that the closure returns. It is called for axis 0 first.
+    pub fn slice_each_axis<F: FnMut(AxisDescription) -> Slice + Drop>(&mut self, mut f: F)
+        requires { AnswersFit F.pre F.step f (axes_from 0 (D.lengths self.old.dim) (T.strides_of self.old.strides)) }
+        ensures sliced { IsEachSliced F.step f (placement_of self.old) (placement_of self.new) }
+        ensures empty { size_of (D.lengths self.old.dim) ≡ 0 → self.new.offset ≡ self.old.offset }
+    {
+        let before = self.copied();
+        for axis in 0..before.dim.ndim() {
+            let slice = f(AxisDescription {
+                axis: Axis(axis),
+                len: length_at(before.dim.slice(), axis),
+                stride: stride_at(before.strides.slice(), axis),
+            });
+            self.slice_axis(axis, slice);
+        }
+    }
+}

@@ -1,0 +1,14 @@
+use Rattle.std.specs.Prelude.{◌≡◌, ◌-◌}
+use Rattle.nd_shape_and_slice.specs.Shape.{size_of}
+use Rattle.nd_storage.specs.along.AxisLanes.{lane_place}
+use Rattle.nd_storage.specs.along.Accumulated.{AreAccumulated}
+use Rattle.nd_storage.proofs.along.accumulate_axis.accumulate_lanes.Given as goal
+
+abbrev pub invariant-loop-place : goal.invariant-loop-place
+invariant-loop-place g l =
+    (l.outer.first.value ≡ l.fn.first) × (l.outer.lengths.now ≡ l.fn.lengths) × (l.outer.strides.now ≡ l.fn.strides)
+    × AreAccumulated g.F.FnMut (lane_place l.fn.first l.fn.lengths l.fn.strides l.fn.stride) l.outer.rank (l.fn.count - 1) (g.S.Data.stored l.fn.storage) (g.S.Data.stored l.storage) l.fn.f l.now
+    × (g.S.DataMut.frame l.storage ≡ g.S.DataMut.frame l.fn.storage)
+
+abbrev pub decreases-loop-place : goal.decreases-loop-place
+decreases-loop-place g l = size_of l.fn.lengths - l.outer.rank

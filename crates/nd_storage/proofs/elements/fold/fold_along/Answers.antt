@@ -1,0 +1,16 @@
+use Rattle.std.proofs.Common.{pos, ◌+ℤ◌, ◌*ℤ◌, ap, sym, ◌∙◌}
+use Rattle.nd_storage.specs.Places.{stored_at}
+use Rattle.nd_storage.specs.elements.Folds.{FoldsElement}
+use Rattle.nd_storage.proofs.Ran.{ran_more}
+use Rattle.nd_storage.proofs.elements.fold.fold_along.Goals as goal
+
+pub f-total-requires : goal.f-total-requires
+f-total-requires g c =
+    c.requires.callable c.loop-nth.nth (c.loop-nth.f, c.loop-nth.total) c.loop-nth-test.true c.loop-nth.invariant c.element.result
+    (ap (stored_at (g.S.Data.stored c.args.storage.now)) (sym c.place_of.ensures) ∙ c.element.ensures)
+
+pub loop-nth-preserved : goal.loop-nth-preserved
+loop-nth-preserved g c =
+    ran_more (λ p j q. FoldsElement g.F.FnMut (stored_at (g.S.Data.stored c.args.storage.now) (pos c.args.lane.place +ℤ (pos j *ℤ c.args.lane.stride))) p q)
+    (c.args.f, c.args.init) (c.loop-nth.f, c.loop-nth.total) (c.f-total.new.self, c.f-total.result) c.loop-nth.nth c.loop-nth.invariant
+    (c.element.result, ap (stored_at (g.S.Data.stored c.args.storage.now)) (sym c.place_of.ensures) ∙ c.element.ensures, c.f-total.ensures)

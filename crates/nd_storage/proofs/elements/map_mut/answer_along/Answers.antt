@@ -1,0 +1,48 @@
+use Rattle.std.proofs.Common.{◌≡◌, ◌∙◌, ℕ, ℤ, pos, ◌+ℤ◌, ◌*ℤ◌, ap, sym, subst, arith}
+use Rattle.nd_storage.specs.Places.{stored_at}
+use Rattle.nd_storage.specs.elements.Changes.{IsChangedBy}
+use Rattle.nd_storage.specs.elements.Maps.{Replaces}
+use Rattle.nd_storage.specs.elements.MapsMut.{LeavesAndAnswers, Collects}
+use Rattle.nd_storage.proofs.Changed.{changed_more}
+use Rattle.nd_storage.proofs.Replaced.{replaced_ran, still_next}
+use Rattle.nd_storage.proofs.elements.map_mut.answer_along.Goals as goal
+
+pub answer_for-after-requires-clause-callable : goal.answer_for-after-requires-clause-callable
+answer_for-after-requires-clause-callable g c x is =
+    let lane = c.args.lane in
+    let place : ℕ → ℤ = λ k. pos lane.place +ℤ (pos k *ℤ lane.stride) in
+    let old = g.S.Data.stored c.args.storage.now in
+    let now = g.S.Data.stored c.loop-nth.storage in
+    let k = c.loop-nth.nth in
+    let so_far = c.loop-nth.invariant.0 in
+    let answers = Collects (LeavesAndAnswers g.F.FnMut) in
+    let still = still_next answers place lane.count k c.loop-nth-test.true c.requires.apart old now (c.args.f, c.args.items.now.items) (c.loop-nth.now, c.loop-nth.items.items) so_far in
+    c.requires.callable k (c.loop-nth.now, c.loop-nth.items.items) c.loop-nth-test.true (replaced_ran answers place k old now (c.args.f, c.args.items.now.items) (c.loop-nth.now, c.loop-nth.items.items) so_far) x
+    (sym still ∙ (ap (stored_at now) (sym c.place_of.ensures) ∙ is))
+
+pub loop-nth-preserved : goal.loop-nth-preserved
+loop-nth-preserved g c =
+    let lane = c.args.lane in
+    let place : ℕ → ℤ = λ k. pos lane.place +ℤ (pos k *ℤ lane.stride) in
+    let old = g.S.Data.stored c.args.storage.now in
+    let now = g.S.Data.stored c.loop-nth.storage in
+    let new = g.S.Data.stored c.answer_for-after.new.storage in
+    let k = c.loop-nth.nth in
+    let so_far = c.loop-nth.invariant in
+    let step = c.answer_for-after.ensures.called in
+    let len = so_far.1 in
+    let more = c.push_reserved.ensures.len in (
+      changed_more (Replaces (Collects (LeavesAndAnswers g.F.FnMut))) place k lane.count c.place_of.result c.loop-nth-test.true c.requires.apart c.place_of.ensures old now new
+          (c.args.f, c.args.items.now.items) (c.loop-nth.now, c.loop-nth.items.items) (c.answer_for-after.result.0, c.push_reserved.new.self.items) so_far.0
+          (step.0, step.1, (c.answer_for-after.result.1, c.push_reserved.ensures.items, step.2)) c.answer_for-after.ensures.left,
+      omega (arith, len, more),
+      c.push_reserved.ensures.capacity ∙ so_far.2,
+      c.answer_for-after.ensures.frame ∙ so_far.3,
+    )
+
+pub returns-clause-changed : goal.returns-clause-changed
+returns-clause-changed g c =
+    let ended = c.loop-nth-test.false in
+    let within = c.loop-nth.auto.nth-end in
+    let all : c.loop-nth.nth ≡ c.args.lane.count = omega (arith, ended, within) in
+    subst (λ n. IsChangedBy (Replaces (Collects (LeavesAndAnswers g.F.FnMut))) (λ k. pos c.args.lane.place +ℤ (pos k *ℤ c.args.lane.stride)) n (g.S.Data.stored c.args.storage.now) (g.S.Data.stored c.loop-nth.storage) (c.args.f, c.args.items.now.items) (c.loop-nth.now, c.loop-nth.items.items)) all c.loop-nth.invariant.0
