@@ -9,7 +9,7 @@ use Rattle.nd_storage.specs.Meaning.{inside}
 use Rattle.nd_storage.specs.Writes.{OthersStay}
 use Rattle.nd_array_core.specs.layout.Parts.{IsViewUnder}
 use Rattle.nd_array_core.specs.scoped.Tasks.{OthersKeep}
-use Rattle.nd_array_core.proofs.Parted.{has_place}
+use Rattle.nd_array_core.proofs.layout_lemmas.Parted.{has_place}
 use Rattle.nd_storage.proofs.WriteStep.{one_index}
 
 module _ {A : Type 0} (m : ℕ → Option A) (offset : ℕ) (ns : List ℕ) (ss : List ℤ) {offset' : ℕ} {ns' : List ℕ} {ss' : List ℤ} {source : List ℕ → List ℕ} {shape : List ℕ} {strides : List ℤ} {at : List ℕ → Option A} {place : List ℕ → Option ℕ}

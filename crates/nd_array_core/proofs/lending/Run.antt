@@ -23,8 +23,8 @@ use Rattle.nd_storage.specs.StorageLaws.{HoldsWrittenRun, KeepsBesideRun}
 use Rattle.nd_storage.specs.Writes.{OthersStay}
 use Rattle.nd_array_core.specs.reshape.RunSlices.{LiesAlong, IsStandardArray, IsRunArray}
 use Rattle.nd_array_core.specs.reshape.LentSlices.{array_with_run, array_with_rows, array_with_places, IsRewrittenByRank, IsRewrittenInMemoryOrder}
-use Rattle.nd_array_core.proofs.MemoryOrder.{run_has, run_lies}
-use Rattle.nd_array_core.proofs.RunElements.{standard_has}
+use Rattle.nd_array_core.proofs.reshape_lemmas.MemoryOrder.{run_has, run_lies}
+use Rattle.nd_array_core.proofs.reshape_lemmas.RunElements.{standard_has}
 use Rattle.nd_storage.proofs.RunPairs.{got_or}
 
 -- a slice of a run, read item by item

@@ -12,7 +12,7 @@ use Rattle.nd_array_core.specs.base.Given.{IsLaidOut}
 use Rattle.nd_layout.specs.Placements.{Placement}
 use Rattle.nd_array_core.specs.scoped.Tasks.{LiesBy}
 use Rattle.nd_array_core.specs.scoped.Sources.{GivenShape}
-use Rattle.nd_array_core.proofs.LaidOut.{laid_at}
+use Rattle.nd_array_core.proofs.base_lemmas.LaidOut.{laid_at}
 use Rattle.nd_storage.proofs.tasks.PartStep.{whole_holds}
 use Rattle.nd_array_core.proofs.tasks.SliceTask.{slice_sound}
 

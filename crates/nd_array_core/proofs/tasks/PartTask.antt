@@ -20,7 +20,7 @@ use Rattle.nd_storage.specs.Scoped.{with_named}
 use Rattle.nd_array_core.specs.scoped.Tasks.{array_placed_at, LiesBy, IsWithin, IsNamedMap, AgreesOnNamed, IsViewThrough, OthersKeep, OthersKeepTwo, IsDoneOnPlacement, IsDoneOnPair, KeepsUnnamed, KeepsUnnamedByTwo}
 use Rattle.nd_layout.specs.Placements.{placement_of}
 use Rattle.nd_storage.specs.Writes.{OthersStay}
-use Rattle.nd_array_core.proofs.StepLemmas.{step_holds}
+use Rattle.nd_array_core.proofs.layout_lemmas.StepLemmas.{step_holds}
 use Rattle.nd_storage.proofs.WriteStep.{one_index}
 
 -- ---- maps that have the same at the places that a layout names

@@ -13,7 +13,7 @@ use Rattle.nd_storage.specs.Writes.{OthersStay}
 use Rattle.nd_array_core.specs.scoped.Tasks.{LiesBy, IsViewOf}
 use Rattle.nd_layout.specs.Placements.{Placement}
 use Rattle.nd_array_core.specs.scoped.Sources.{GivenShape, place_in_slice, IsViewOfSlice}
-use Rattle.nd_array_core.proofs.LaidOut.{laid_holds, laid_at}
+use Rattle.nd_array_core.proofs.base_lemmas.LaidOut.{laid_holds, laid_at}
 
 -- a slice has an element at each place below its length
 pub slice_has : {A : Type 0} (xs : List A) (p : ℕ) → p < length xs → IsSome (slice_get xs p)

@@ -1,5 +1,5 @@
 use Rattle.nd_array_core.specs.Meaning.{meaning_of, memory_layout_of}
-use Rattle.nd_array_core.proofs.PlaceLaws.{in_box_has_place, shows_stored}
+use Rattle.nd_array_core.proofs.law_lemmas.PlaceLaws.{in_box_has_place, shows_stored}
 use Rattle.nd_array_core.proofs.laws.elements_have_places.Goals as goal
 
 pub returns-clause-places : goal.returns-clause-places

@@ -1,6 +1,6 @@
 use Rattle.nd_array_core.specs.Meaning.{shape_of, layout_strides}
 use Rattle.nd_layout.specs.GivenStrides.{ordered_strides}
-use Rattle.nd_array_core.proofs.Regrouped.{ordered_serves}
+use Rattle.nd_array_core.proofs.reshape_lemmas.Regrouped.{ordered_serves}
 use Rattle.nd_array_core.proofs.laws.order_serves.Goals as goal
 
 pub returns : goal.returns

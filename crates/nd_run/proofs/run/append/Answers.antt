@@ -7,7 +7,7 @@ use Rattle.nd_shape_and_slice.specs.declared.errors.ErrorKind.{ErrorKind}
 use Rattle.nd_array_core.specs.Joined.{concatenated_shape, shape_behind}
 use Rattle.nd_array_core.specs.Meaning.{shape_of}
 use Rattle.nd_array_core.specs.growth.Appended.{CanComeBehind, FitsBehind, IsJoiningRefused, NotFitting, TooLarge, IsAppendRefused}
-use Rattle.nd_array_core.proofs.Stretched.{none_behind}
+use Rattle.nd_array_core.proofs.growth_lemmas.Stretched.{none_behind}
 use Rattle.nd_run.specs.declared.cause.Cause.{Cause}
 use Rattle.nd_run.specs.declared.cause.Cause.TheVariants as causes
 use Rattle.nd_run.specs.Steps.{first_failed}

@@ -6,7 +6,7 @@ use Rattle.nd_shape_and_slice.specs.Broadcast.{stretches}
 use Rattle.nd_array_core.specs.Joined.{shape_behind}
 use Rattle.nd_array_core.specs.Laws.{with_axis_inserted}
 use Rattle.nd_array_core.specs.Meaning.{meaning_of}
-use Rattle.nd_array_core.proofs.Stretched.{stretches_long}
+use Rattle.nd_array_core.proofs.growth_lemmas.Stretched.{stretches_long}
 use Rattle.nd_run.specs.declared.cause.Cause.TheVariants as causes
 use Rattle.nd_run.specs.Calls.{Appending, SaidRefused}
 use Rattle.nd_run.specs.Steps.{first_failed}

@@ -3,7 +3,7 @@ use Rattle.nd_shape_and_slice.specs.declared.builder.Order.{Order}
 use Rattle.nd_array_core.specs.Meaning.{Meaning, meaning_of}
 use Rattle.nd_array_core.specs.Joined.{row_major_elements}
 use Rattle.nd_array_core.specs.reshape.Serving.{regrouped_meaning}
-use Rattle.nd_array_core.proofs.EitherShown.{either_is}
+use Rattle.nd_array_core.proofs.law_lemmas.EitherShown.{either_is}
 use Rattle.nd_run.specs.declared.cause.Cause.{Cause}
 use Rattle.nd_run.specs.Calls.{SaidElements, AskReshaped}
 use Rattle.nd_run.specs.Steps.{first_failed, unless}

@@ -15,8 +15,8 @@ use Rattle.nd_storage.specs.Meaning.{inside}
 use Rattle.nd_array_core.specs.along.AxisFolds.{lane_at}
 use Rattle.nd_storage.proofs.AxisLanes.{next_rank}
 use Rattle.nd_storage.proofs.LaneNumbers.{got_before, got_end, longer}
-use Rattle.nd_array_core.proofs.AxisFolds.{LanesFolded, lanes_none, lanes_more, lane_takes, lanes_all}
-use Rattle.nd_array_core.proofs.AxisFolding.{fold_reach, fold_holds, fold_found, takes_same, folds_same}
+use Rattle.nd_array_core.proofs.along_lemmas.AxisFolds.{LanesFolded, lanes_none, lanes_more, lane_takes, lanes_all}
+use Rattle.nd_array_core.proofs.along_lemmas.AxisFolding.{fold_reach, fold_holds, fold_found, takes_same, folds_same}
 use Rattle.nd_layout.proofs.WalkSteps.{reaches_usizes}
 use Rattle.nd_array_core.proofs.along.fold_axis.fold_lanes.Goals as goal
 

@@ -12,8 +12,8 @@ use Rattle.nd_storage.specs.Places.{stored_at}
 use Rattle.nd_array_core.specs.Meaning.{meaning_of, memory_layout_of}
 use Rattle.nd_storage.specs.Meaning.{inside}
 use Rattle.nd_array_core.specs.along.AxisFolds.{lane_at, FoldsBeside, TakesBeside}
-use Rattle.nd_array_core.proofs.AxisBeside.{beside_same, beside_taken, beside_reach, beside_held, beside_found}
-use Rattle.nd_array_core.proofs.AxisFolds.{FoldedBelow, below_none, below_more, next_takes, below_all}
+use Rattle.nd_array_core.proofs.along_lemmas.AxisBeside.{beside_same, beside_taken, beside_reach, beside_held, beside_found}
+use Rattle.nd_array_core.proofs.along_lemmas.AxisFolds.{FoldedBelow, below_none, below_more, next_takes, below_all}
 use Rattle.nd_storage.proofs.Mapped.{got_item}
 use Rattle.nd_storage.proofs.tasks.PartStep.{all_written}
 use Rattle.nd_array_core.proofs.along.fold_beside.fold_beside.Goals as goal

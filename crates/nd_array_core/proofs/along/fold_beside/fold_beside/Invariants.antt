@@ -3,7 +3,7 @@ use Rattle.nd_shape_and_slice.specs.Shape.{size_of, index_at}
 use Rattle.nd_shape_and_slice.specs.Maps.{indexed_shape}
 use Rattle.nd_array_core.specs.Meaning.{shape_of, element_at}
 use Rattle.nd_array_core.specs.along.AxisFolds.{lane_at}
-use Rattle.nd_array_core.proofs.AxisFolds.{FoldedBelow}
+use Rattle.nd_array_core.proofs.along_lemmas.AxisFolds.{FoldedBelow}
 use Rattle.nd_array_core.proofs.along.fold_beside.fold_beside.Given as goal
 
 abbrev pub invariant-loop-nth : goal.invariant-loop-nth

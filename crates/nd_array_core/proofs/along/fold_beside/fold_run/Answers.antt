@@ -1,7 +1,7 @@
 use Rattle.std.proofs.Common.{◌<◌, ◌∙◌, sym, refl, subst, length, arith}
 use Rattle.std.specs.Prelude.{Some, slice_get}
 use Rattle.nd_array_core.specs.along.AxisFolds.{FoldsBetween}
-use Rattle.nd_array_core.proofs.AxisBeside.{beside_more, beside_kept}
+use Rattle.nd_array_core.proofs.along_lemmas.AxisBeside.{beside_more, beside_kept}
 use Rattle.nd_storage.proofs.Mapped.{got_there}
 use Rattle.nd_storage.proofs.RunPairs.{got_or}
 use Rattle.nd_array_core.proofs.along.fold_beside.fold_run.Goals as goal

@@ -16,8 +16,8 @@ use Rattle.nd_storage.specs.elements.Maps.{AnswersAt, TakesAt}
 use Rattle.nd_array_core.specs.along.AxisMaps.{lanes_of, lane_seen, AnswersLane, MayBeShownLane}
 use Rattle.nd_storage.proofs.AxisLanes.{next_rank}
 use Rattle.nd_storage.proofs.Answered.{IsAnsweredTo, answered_next, answered_more, answered_all}
-use Rattle.nd_array_core.proofs.AxisFolding.{fold_reach, fold_holds, fold_found}
-use Rattle.nd_array_core.proofs.ShownLanes.{lane_met}
+use Rattle.nd_array_core.proofs.along_lemmas.AxisFolding.{fold_reach, fold_holds, fold_found}
+use Rattle.nd_array_core.proofs.along_lemmas.ShownLanes.{lane_met}
 use Rattle.nd_layout.proofs.WalkSteps.{reaches_usizes}
 use Rattle.nd_array_core.proofs.along.map_axis.map_lanes.Goals as goal
 

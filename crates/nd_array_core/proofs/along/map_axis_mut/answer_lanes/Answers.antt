@@ -8,7 +8,7 @@ use Rattle.nd_storage.specs.Places.{names_place}
 use Rattle.nd_storage.specs.along.AxisLanes.{lane_place}
 use Rattle.nd_array_core.specs.along.LanesWritten.{MayBeHandedLane, AreHandedOut}
 use Rattle.nd_storage.proofs.AxisLanes.{lane_goes, next_rank}
-use Rattle.nd_array_core.proofs.LentLanes.{lane_line, leaves_same, handed_none, handed_next, handed_more, kept_places}
+use Rattle.nd_array_core.proofs.along_lemmas.LentLanes.{lane_line, leaves_same, handed_none, handed_next, handed_more, kept_places}
 use Rattle.nd_layout.proofs.WalkSteps.{reaches_usizes}
 use Rattle.nd_array_core.proofs.along.map_axis_mut.answer_lanes.Goals as goal
 

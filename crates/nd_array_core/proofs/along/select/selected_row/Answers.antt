@@ -4,7 +4,7 @@ use Rattle.std.proofs.lemmas.Result.{IfOk-weaker}
 use Rattle.nd_shape_and_slice.specs.Maps.{collapsed_shape}
 use Rattle.nd_array_core.specs.Meaning.{meaning_of, shape_of, element_at}
 use Rattle.nd_storage.specs.Storages.{shown_by}
-use Rattle.nd_array_core.proofs.Selecting.{selected_more, row_shown, box_has}
+use Rattle.nd_array_core.proofs.along_lemmas.Selecting.{selected_more, row_shown, box_has}
 use Rattle.nd_array_core.proofs.along.select.selected_row.Goals as goal
 
 pub returns-clause-items : goal.returns-clause-items

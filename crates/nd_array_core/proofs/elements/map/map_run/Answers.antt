@@ -7,7 +7,7 @@ use Rattle.nd_storage.specs.Meaning.{inside}
 use Rattle.nd_storage.specs.Places.{stored_at}
 use Rattle.nd_storage.specs.elements.Maps.{AnswersElement, MayBeShown, AnswersBehind, TakesNumbered}
 use Rattle.nd_storage.proofs.Mapped.{indexes_taken, indexes_answered}
-use Rattle.nd_array_core.proofs.RunNumbers.{run_numbered, run_shows}
+use Rattle.nd_array_core.proofs.elements_lemmas.RunNumbers.{run_numbered, run_shows}
 use Rattle.nd_array_core.proofs.elements.map.map_run.Goals as goal
 
 pub answer_run-requires-clause-callable : goal.answer_run-requires-clause-callable

@@ -7,8 +7,8 @@ use Rattle.nd_storage.specs.Meaning.{inside}
 use Rattle.nd_storage.specs.Places.{stored_at}
 use Rattle.nd_storage.specs.elements.Maps.{AnswersValue, MayBeGiven, AnswersBehind, TakesNumbered}
 use Rattle.nd_storage.proofs.Mapped.{indexes_taken, indexes_answered}
-use Rattle.nd_array_core.proofs.MemoryOrder.{lies_clones}
-use Rattle.nd_array_core.proofs.RunNumbers.{run_numbered, run_shows}
+use Rattle.nd_array_core.proofs.reshape_lemmas.MemoryOrder.{lies_clones}
+use Rattle.nd_array_core.proofs.elements_lemmas.RunNumbers.{run_numbered, run_shows}
 use Rattle.nd_array_core.proofs.elements.mapv.mapv_run.Goals as goal
 
 pub value_run-requires-clause-callable : goal.value_run-requires-clause-callable

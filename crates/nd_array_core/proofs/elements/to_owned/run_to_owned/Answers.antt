@@ -6,7 +6,7 @@ use Rattle.nd_array_core.specs.Meaning.{meaning_of, memory_layout_of}
 use Rattle.nd_storage.specs.Meaning.{inside}
 use Rattle.nd_storage.specs.Places.{stored_at}
 use Rattle.nd_array_core.specs.reshape.RunSlices.{IsInMemoryOrder}
-use Rattle.nd_array_core.proofs.MemoryOrder.{lies_clones}
+use Rattle.nd_array_core.proofs.reshape_lemmas.MemoryOrder.{lies_clones}
 use Rattle.nd_array_core.proofs.elements.to_owned.run_to_owned.Goals as goal
 
 pub clones_of-requires : goal.clones_of-requires

@@ -3,7 +3,7 @@ use Rattle.nd_shape_and_slice.specs.Shape.{size_of}
 use Rattle.nd_shape_and_slice.specs.Maps.{lower_shape, upper_shape}
 use Rattle.nd_layout.specs.Placements.{placement_of}
 use Rattle.nd_array_core.specs.Meaning.{meaning_of}
-use Rattle.nd_array_core.proofs.Appending.{fits_lower, fits_upper, fits_more, full_fills, cut_at}
+use Rattle.nd_array_core.proofs.growth_lemmas.Appending.{fits_lower, fits_upper, fits_more, full_fills, cut_at}
 use Rattle.nd_array_core.proofs.growth.append.append_behind.Goals as goal
 
 pub grown-grown-requires-clause-more : goal.grown-grown-requires-clause-more

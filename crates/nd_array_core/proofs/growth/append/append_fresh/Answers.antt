@@ -6,7 +6,7 @@ use Rattle.nd_layout.specs.Placements.{placement_of, as_placement}
 use Rattle.nd_layout.specs.Growth.{growing_strides}
 use Rattle.nd_layout.proofs.MemoryOrder.{same_placement}
 use Rattle.nd_array_core.specs.Meaning.{meaning_of}
-use Rattle.nd_array_core.proofs.FreshStorage.{fresh_behind, whole_upper, none_lower}
+use Rattle.nd_array_core.proofs.growth_lemmas.FreshStorage.{fresh_behind, whole_upper, none_lower}
 use Rattle.nd_array_core.proofs.growth.append.append_fresh.Goals as goal
 
 pub put_behind-requires-clause-alike : goal.put_behind-requires-clause-alike

@@ -2,7 +2,7 @@ use Rattle.std.proofs.Common.{◌∙◌, get_or, sym}
 use Rattle.std.proofs.lemmas.Bool.{true≢false}
 use Rattle.std.proofs.lemmas.List.{length-set}
 use Rattle.nd_array_core.specs.Joined.{shape_behind}
-use Rattle.nd_array_core.proofs.Stretched.{stretches_long}
+use Rattle.nd_array_core.proofs.growth_lemmas.Stretched.{stretches_long}
 use Rattle.nd_array_core.proofs.growth.fits_behind.fits_behind.Goals as goal
 
 pub returns-then-added-shape : goal.returns-then-added-shape

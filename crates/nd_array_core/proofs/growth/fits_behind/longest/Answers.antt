@@ -2,8 +2,8 @@ use Rattle.std.proofs.Common.{◌≡◌, ◌+◌, ◌∙◌, ap, get_or, set, ar
 use Rattle.nd_shape_and_slice.specs.Shape.{HasCheckedSize}
 use Rattle.nd_array_core.specs.Joined.{concatenated_shape}
 use Rattle.nd_array_core.specs.growth.Appended.{IsJoiningRefused, TooLarge}
-use Rattle.nd_array_core.proofs.Appending.{lengths_fit}
-use Rattle.nd_array_core.proofs.Stretched.{fits_on}
+use Rattle.nd_array_core.proofs.growth_lemmas.Appending.{lengths_fit}
+use Rattle.nd_array_core.proofs.growth_lemmas.Stretched.{fits_on}
 use Rattle.nd_array_core.proofs.growth.fits_behind.longest.Goals as goal
 
 pub length-requires-2 : goal.length-requires-2

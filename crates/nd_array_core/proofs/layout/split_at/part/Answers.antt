@@ -1,5 +1,5 @@
 use Rattle.nd_region.specs.Region.{region_stored}
-use Rattle.nd_array_core.proofs.Parted.{taken_holds, taken_element}
+use Rattle.nd_array_core.proofs.layout_lemmas.Parted.{taken_holds, taken_element}
 use Rattle.std.proofs.Common.{refl}
 use Rattle.nd_array_core.specs.Meaning.{meaning_of, memory_layout_of}
 use Rattle.nd_array_core.proofs.layout.split_at.part.Goals as goal

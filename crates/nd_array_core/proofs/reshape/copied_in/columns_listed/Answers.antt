@@ -1,6 +1,6 @@
 use Rattle.std.proofs.Common.{◌∙◌}
 use Rattle.nd_array_core.specs.Meaning.{shape_of, element_at}
-use Rattle.nd_array_core.proofs.Relisted.{listed_column, turned_count}
+use Rattle.nd_array_core.proofs.reshape_lemmas.Relisted.{listed_column, turned_count}
 use Rattle.nd_array_core.proofs.reshape.copied_in.columns_listed.Goals as goal
 
 pub returns-clause-count : goal.returns-clause-count

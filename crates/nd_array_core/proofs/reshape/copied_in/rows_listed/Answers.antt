@@ -1,7 +1,7 @@
 use Rattle.std.proofs.Common.{ap, ◌∙◌}
 use Rattle.std.specs.Prelude.{slice_get}
 use Rattle.nd_array_core.specs.Meaning.{meaning_of}
-use Rattle.nd_array_core.proofs.Relisted.{listed_row}
+use Rattle.nd_array_core.proofs.reshape_lemmas.Relisted.{listed_row}
 use Rattle.nd_array_core.proofs.reshape.copied_in.rows_listed.Goals as goal
 
 pub returns-clause-listed : goal.returns-clause-listed

@@ -1,5 +1,5 @@
 use Rattle.nd_array_core.specs.Meaning.{shape_of}
-use Rattle.nd_array_core.proofs.ServedStrides.{line_has_all}
+use Rattle.nd_array_core.proofs.reshape_lemmas.ServedStrides.{line_has_all}
 use Rattle.nd_array_core.proofs.reshape.to_shape.line_of.Goals as goal
 
 pub returns-clause-shape : goal.returns-clause-shape

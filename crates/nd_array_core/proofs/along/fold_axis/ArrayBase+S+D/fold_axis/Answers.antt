@@ -3,7 +3,7 @@ use Rattle.nd_shape_and_slice.specs.Maps.{indexed_shape}
 use Rattle.nd_shape_and_slice.specs.declared.builder.Order.TheVariants.{RowMajor}
 use Rattle.nd_array_core.specs.Meaning.{meaning_of, element_at}
 use Rattle.nd_storage.specs.ByRank.{found_by_rank}
-use Rattle.nd_array_core.proofs.AxisFolds.{axis_folded}
+use Rattle.nd_array_core.proofs.along_lemmas.AxisFolds.{axis_folded}
 use Rattle.nd_array_core.proofs.along.fold_axis.ArrayBase+S+D.fold_axis.Goals as goal
 
 pub returns-clause-visits : goal.returns-clause-visits

@@ -2,7 +2,7 @@ use Rattle.std.proofs.Common.{ap}
 use Rattle.nd_storage.specs.Storages.{shown_by}
 use Rattle.nd_array_core.specs.Meaning.{meaning_of}
 use Rattle.nd_array_core.specs.along.AxisMaps.{lane_seen}
-use Rattle.nd_array_core.proofs.ShownLanes.{lane_inside, lane_shows}
+use Rattle.nd_array_core.proofs.along_lemmas.ShownLanes.{lane_inside, lane_shows}
 use Rattle.nd_array_core.proofs.along.lane_view.LaneView.into_view.Goals as goal
 
 pub invariant_of-result : goal.invariant_of-result

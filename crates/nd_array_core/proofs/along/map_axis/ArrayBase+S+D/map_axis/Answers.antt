@@ -7,7 +7,7 @@ use Rattle.nd_storage.specs.elements.Maps.{AnswersAt}
 use Rattle.nd_array_core.specs.along.AxisMaps.{lanes_of, AnswersLane}
 use Rattle.nd_storage.proofs.Answered.{answers_seen}
 use Rattle.nd_storage.proofs.Mapped.{answers_alike}
-use Rattle.nd_array_core.proofs.ShownLanes.{lane_by}
+use Rattle.nd_array_core.proofs.along_lemmas.ShownLanes.{lane_by}
 use Rattle.nd_array_core.proofs.along.map_axis.ArrayBase+S+D.map_axis.Goals as goal
 
 pub returns-clause-visits : goal.returns-clause-visits

@@ -11,7 +11,7 @@ use Rattle.nd_storage.specs.Meaning.{Meaning, inside}
 use Rattle.nd_array_core.specs.Meaning.{meaning_of, memory_layout_of, element_at}
 use Rattle.nd_storage.specs.Places.{stored_at}
 use Rattle.nd_storage.specs.ByRank.{found_by_rank}
-use Rattle.nd_array_core.proofs.HandedLanes.{given_reach, given_apart, given_hold, given_taken, given_handed, others_stayed, lanes_answered, lanes_left, lanes_seen, found_there}
+use Rattle.nd_array_core.proofs.along_lemmas.HandedLanes.{given_reach, given_apart, given_hold, given_taken, given_handed, others_stayed, lanes_answered, lanes_left, lanes_seen, found_there}
 use Rattle.nd_storage.proofs.Replaced.{still_holds_all}
 use Rattle.nd_array_core.proofs.along.map_axis_mut.ArrayBase+S+D.map_axis_mut.Goals as goal
 

@@ -4,7 +4,7 @@ use Rattle.nd_shape_and_slice.specs.Shape.{in_box}
 use Rattle.nd_array_core.specs.Meaning.{shape_of, element_at, storage_of, place_at}
 use Rattle.nd_storage.specs.Meaning.{inside}
 use Rattle.nd_storage.specs.along.Removed.{removed_shape}
-use Rattle.nd_array_core.proofs.Removing.{front_by, sliced_through, front_shown, removed_shown, removed_stored}
+use Rattle.nd_array_core.proofs.along_lemmas.Removing.{front_by, sliced_through, front_shown, removed_shown, removed_stored}
 use Rattle.nd_array_core.proofs.along.remove_index.ArrayBase+S+D.remove_index.Goals as goal
 
 pub returns-clause-elements : goal.returns-clause-elements

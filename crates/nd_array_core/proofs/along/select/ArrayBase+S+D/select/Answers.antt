@@ -1,5 +1,5 @@
 use Rattle.nd_array_core.specs.Meaning.{shape_of, element_at}
-use Rattle.nd_array_core.proofs.Selecting.{selected_by_turns, turned_shape_checked, selected_shape_back}
+use Rattle.nd_array_core.proofs.along_lemmas.Selecting.{selected_by_turns, turned_shape_checked, selected_shape_back}
 use Rattle.nd_array_core.proofs.along.select.ArrayBase+S+D.select.Goals as goal
 
 pub select_first-requires-clause-checked : goal.select_first-requires-clause-checked

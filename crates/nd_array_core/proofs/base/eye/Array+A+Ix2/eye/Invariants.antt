@@ -2,7 +2,7 @@ use Rattle.std.specs.Prelude.{Some}
 use Rattle.nd_storage.specs.StorageFrame.{Owned}
 use Rattle.nd_array_core.specs.base.Writes.{KeepsFrame}
 use Rattle.nd_array_core.specs.Meaning.{element_at}
-use Rattle.nd_array_core.proofs.Diagonals.{IsDiagonalTo}
+use Rattle.nd_array_core.proofs.base_lemmas.Diagonals.{IsDiagonalTo}
 use Rattle.nd_array_core.proofs.base.eye.Array+A+Ix2.eye.Given as goal
 
 abbrev pub invariant-loop-k : goal.invariant-loop-k

@@ -2,8 +2,8 @@ use Rattle.std.proofs.Common.{sym, ap}
 use Rattle.std.specs.Prelude.{Some}
 use Rattle.nd_storage.specs.StorageFrame.{Owned}
 use Rattle.nd_array_core.specs.Meaning.{element_at}
-use Rattle.nd_array_core.proofs.Frames.{keeps_again}
-use Rattle.nd_array_core.proofs.Diagonals.{diagonal_more}
+use Rattle.nd_array_core.proofs.base_lemmas.Frames.{keeps_again}
+use Rattle.nd_array_core.proofs.base_lemmas.Diagonals.{diagonal_more}
 use Rattle.nd_array_core.proofs.base.eye.Array+A+Ix2.from_diag_elem.Goals as goal
 
 pub loop-k-preserved : goal.loop-k-preserved

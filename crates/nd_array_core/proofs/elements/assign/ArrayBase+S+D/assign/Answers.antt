@@ -8,7 +8,7 @@ use Rattle.nd_storage.specs.CloneRefusals.{MayRefuseClone}
 use Rattle.nd_storage.specs.elements.Pairs.{IsOldOrOf}
 use Rattle.nd_storage.proofs.Assigned.{on_ok, on_err, old_or_same}
 use Rattle.nd_storage.proofs.SamePlaces.{seen_holds, seen_element}
-use Rattle.nd_array_core.proofs.CloneRefusals.{inside_some, refused_alike}
+use Rattle.nd_array_core.proofs.elements_lemmas.CloneRefusals.{inside_some, refused_alike}
 use Rattle.nd_array_core.proofs.elements.assign.ArrayBase+S+D.assign.Goals as goal
 
 pub assign_layouts-requires-clause-others_hold : goal.assign_layouts-requires-clause-others_hold

@@ -3,7 +3,7 @@ use Rattle.std.specs.Prelude.{OnErr}
 use Rattle.nd_array_core.specs.Meaning.{meaning_of}
 use Rattle.nd_storage.specs.CloneRefusals.{MayRefuseClonesOf}
 use Rattle.nd_storage.proofs.Assigned.{on_err}
-use Rattle.nd_array_core.proofs.CloneRefusals.{value_refused}
+use Rattle.nd_array_core.proofs.elements_lemmas.CloneRefusals.{value_refused}
 use Rattle.nd_array_core.proofs.elements.fill.ArrayBase+S+D.fill.Goals as goal
 
 pub returns-clause-refused : goal.returns-clause-refused

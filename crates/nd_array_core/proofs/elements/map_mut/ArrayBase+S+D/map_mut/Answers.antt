@@ -16,7 +16,7 @@ use Rattle.nd_storage.proofs.Collecting.{joined_has}
 use Rattle.nd_storage.proofs.Mapped.{joined_numbers, joined_there, joined_shows, indexes_taken}
 use Rattle.nd_storage.proofs.Replaced.{ranks_apart}
 use Rattle.nd_storage.proofs.Paired.{others_stay}
-use Rattle.nd_array_core.proofs.Handed.{joined_order, collects_taken, handed_answered, handed_there, handed_left, handed_seen}
+use Rattle.nd_array_core.proofs.elements_lemmas.Handed.{joined_order, collects_taken, handed_answered, handed_there, handed_left, handed_seen}
 use Rattle.nd_array_core.proofs.elements.map_mut.ArrayBase+S+D.map_mut.Goals as goal
 
 pub answer_places-f-requires-clause-apart : goal.answer_places-f-requires-clause-apart

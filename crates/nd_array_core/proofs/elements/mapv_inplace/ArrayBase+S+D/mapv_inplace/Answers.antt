@@ -13,7 +13,7 @@ use Rattle.nd_storage.proofs.WriteStep.{one_index}
 use Rattle.nd_storage.proofs.Folded.{rearranged_numbers}
 use Rattle.nd_storage.proofs.Mapped.{indexes_taken, rearranged_there, answers_alike, value_by, on_err_from}
 use Rattle.nd_storage.proofs.Replaced.{ranks_apart, replaced_all, replaced_part, old_or_mapped}
-use Rattle.nd_array_core.proofs.CloneRefusals.{rearranged_refused}
+use Rattle.nd_array_core.proofs.elements_lemmas.CloneRefusals.{rearranged_refused}
 use Rattle.nd_array_core.proofs.elements.mapv_inplace.ArrayBase+S+D.mapv_inplace.Goals as goal
 
 pub replace_places-requires-clause-apart : goal.replace_places-requires-clause-apart

@@ -6,7 +6,7 @@ use Rattle.nd_layout.specs.Ranks.{IsRun}
 use Rattle.nd_layout.specs.Strides.{reach_down}
 use Rattle.nd_array_core.specs.Meaning.{shape_of, layout_strides}
 use Rattle.nd_array_core.specs.base.Fresh.{OwnsInOrder}
-use Rattle.nd_array_core.proofs.MemoryOrder.{lies_alike}
+use Rattle.nd_array_core.proofs.reshape_lemmas.MemoryOrder.{lies_alike}
 use Rattle.nd_array_core.proofs.elements.to_owned.ArrayBase+S+D.into_owned.Goals as goal
 
 pub returns-in-Err-clause-elements : goal.returns-in-Err-clause-elements

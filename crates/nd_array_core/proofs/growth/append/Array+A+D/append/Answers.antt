@@ -6,11 +6,11 @@ use Rattle.nd_array_core.specs.Joined.{broadcast_behind, shape_behind}
 use Rattle.nd_array_core.specs.Meaning.{meaning_of, memory_layout_of}
 use Rattle.nd_array_core.specs.growth.Grown.{BecomesReady, IsGrownBy, KeepsRoom}
 use Rattle.nd_array_core.specs.growth.Reserved.{added_elements, HasRoomAlong}
-use Rattle.nd_array_core.proofs.Appending.{same_at}
-use Rattle.nd_array_core.proofs.CloneRefusals.{inside_some, part_refused}
-use Rattle.nd_array_core.proofs.GoneOn.{needs_no_move}
-use Rattle.nd_array_core.proofs.GrownArrays.{room_spared}
-use Rattle.nd_array_core.proofs.Stretched.{alike_behind, axis_behind, joined_behind, size_behind, with_itself}
+use Rattle.nd_array_core.proofs.growth_lemmas.Appending.{same_at}
+use Rattle.nd_array_core.proofs.elements_lemmas.CloneRefusals.{inside_some, part_refused}
+use Rattle.nd_array_core.proofs.growth_lemmas.GoneOn.{needs_no_move}
+use Rattle.nd_array_core.proofs.growth_lemmas.GrownArrays.{room_spared}
+use Rattle.nd_array_core.proofs.growth_lemmas.Stretched.{alike_behind, axis_behind, joined_behind, size_behind, with_itself}
 use Rattle.nd_array_core.proofs.growth.append.Array+A+D.append.Goals as goal
 
 pub append_as_it_is-requires-clause-comes : goal.append_as_it_is-requires-clause-comes

@@ -7,8 +7,8 @@ use Rattle.nd_layout.specs.Placements.{placement_of}
 use Rattle.nd_array_core.specs.Meaning.{meaning_of, memory_layout_of}
 use Rattle.nd_array_core.specs.Joined.{concatenated}
 use Rattle.nd_array_core.specs.growth.Grown.{lies}
-use Rattle.nd_array_core.proofs.Appending.{fits_none, fits_size, joined_nothing, no_index, nothing_joined, same_none, shown}
-use Rattle.nd_array_core.proofs.GrownArrays.{added_is, goes_empty, goes_same, grown_some, laid_empty, laid_same}
+use Rattle.nd_array_core.proofs.growth_lemmas.Appending.{fits_none, fits_size, joined_nothing, no_index, nothing_joined, same_none, shown}
+use Rattle.nd_array_core.proofs.growth_lemmas.GrownArrays.{added_is, goes_empty, goes_same, grown_some, laid_empty, laid_same}
 use Rattle.nd_array_core.proofs.growth.append.Array+A+D.append_nothing.Goals as goal
 
 some_there : (n : ℕ) (b : Bool) → (n ≡ 0 → b ≡ true) → b ≡ false → 0 < n

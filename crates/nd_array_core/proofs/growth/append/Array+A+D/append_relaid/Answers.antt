@@ -7,9 +7,9 @@ use Rattle.nd_array_core.specs.growth.Grown.{lies}
 use Rattle.nd_array_core.specs.growth.Outcomes.{ComesAsItIs}
 use Rattle.nd_array_core.specs.growth.Reserved.{added_elements}
 use Rattle.nd_array_core.specs.Joined.{concatenated}
-use Rattle.nd_array_core.proofs.Appending.{fits_more, same_at}
+use Rattle.nd_array_core.proofs.growth_lemmas.Appending.{fits_more, same_at}
 use Rattle.nd_storage.proofs.Assigned.{on_ok, on_err}
-use Rattle.nd_array_core.proofs.GrownArrays.{can_grow, laid_anew, moves_by, never_calm}
+use Rattle.nd_array_core.proofs.growth_lemmas.GrownArrays.{can_grow, laid_anew, moves_by, never_calm}
 use Rattle.nd_array_core.proofs.growth.append.Array+A+D.append_relaid.Goals as goal
 
 pub relay-requires-clause-fits : goal.relay-requires-clause-fits

@@ -10,10 +10,10 @@ use Rattle.nd_layout.specs.Growth.{grown_shape}
 use Rattle.nd_array_core.specs.growth.Appended.{FitsBehind, IsAppendRefused}
 use Rattle.nd_array_core.specs.growth.Grown.{BecomesReady, IsGrownBy, IsNotForMemory, KeepsRoom, LeavesRoom}
 use Rattle.nd_array_core.specs.growth.InTurn.{joined_in_turn, lengths_along, meanings_of, IsGrownInTurn}
-use Rattle.nd_array_core.proofs.Appending.{same_at}
-use Rattle.nd_array_core.proofs.GoneOn.{grown_last, goes_left, goes_nowhere, goes_then, leaves_none, leaves_then, ready_then, room_then, still_then}
-use Rattle.nd_array_core.proofs.GrownArrays.{room_within}
-use Rattle.nd_array_core.proofs.JoinedInTurn.{all_fit, each_mapped, in_box-grown, joined_more, lengths_more, lengths_within, mapped_get, none_fit, one_more_fits, only_memory, shape_in_turn, take_next, turn_alike}
+use Rattle.nd_array_core.proofs.growth_lemmas.Appending.{same_at}
+use Rattle.nd_array_core.proofs.growth_lemmas.GoneOn.{grown_last, goes_left, goes_nowhere, goes_then, leaves_none, leaves_then, ready_then, room_then, still_then}
+use Rattle.nd_array_core.proofs.growth_lemmas.GrownArrays.{room_within}
+use Rattle.nd_array_core.proofs.growth_lemmas.JoinedInTurn.{all_fit, each_mapped, in_box-grown, joined_more, lengths_more, lengths_within, mapped_get, none_fit, one_more_fits, only_memory, shape_in_turn, take_next, turn_alike}
 use Rattle.nd_array_core.proofs.growth.append_each.Array+A+D.append_each.Goals as goal
 
 pub loop-nth-init : goal.loop-nth-init

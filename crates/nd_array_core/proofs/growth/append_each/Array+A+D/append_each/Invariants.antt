@@ -2,7 +2,7 @@ use Rattle.std.specs.Prelude.{◌≡◌, ◌<◌, length, take}
 use Rattle.nd_array_core.specs.Meaning.{meaning_of, shape_of}
 use Rattle.nd_array_core.specs.growth.Grown.{BecomesReady, GoesOn, IsReadyAlong, KeepsRoom, LeavesRoom, NeedsNoMove}
 use Rattle.nd_array_core.specs.growth.InTurn.{joined_in_turn, lengths_along, meanings_of, IsGrownInTurn}
-use Rattle.nd_array_core.proofs.JoinedInTurn.{FirstFit}
+use Rattle.nd_array_core.proofs.growth_lemmas.JoinedInTurn.{FirstFit}
 use Rattle.nd_array_core.proofs.growth.append_each.Array+A+D.append_each.Given as goal
 
 abbrev pub invariant-loop-nth : goal.invariant-loop-nth

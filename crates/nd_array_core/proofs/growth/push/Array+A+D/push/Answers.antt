@@ -4,12 +4,12 @@ use Rattle.nd_array_core.specs.Joined.{concatenated}
 use Rattle.nd_array_core.specs.Laws.{with_axis_inserted}
 use Rattle.nd_shape_and_slice.specs.Maps.{inserted_index, inserted_shape}
 use Rattle.nd_array_core.specs.growth.Appended.{IsJoiningRefused, JoinsAlike}
-use Rattle.nd_array_core.proofs.Appending.{same_at}
+use Rattle.nd_array_core.proofs.growth_lemmas.Appending.{same_at}
 use Rattle.nd_storage.proofs.Assigned.{on_ok}
 use Rattle.nd_array_core.specs.growth.Grown.{BecomesReady, KeepsRoom, NeedsOnlyClones, IsNotForMemory, LeavesRoom}
 use Rattle.nd_array_core.specs.growth.Reserved.{HasRoomAlong}
-use Rattle.nd_array_core.proofs.CloneRefusals.{part_refused}
-use Rattle.nd_array_core.proofs.Pushed.{for_part, if_refused, one_pushed, other_axes}
+use Rattle.nd_array_core.proofs.elements_lemmas.CloneRefusals.{part_refused}
+use Rattle.nd_array_core.proofs.growth_lemmas.Pushed.{for_part, if_refused, one_pushed, other_axes}
 use Rattle.nd_array_core.proofs.growth.push.Array+A+D.push.Goals as goal
 
 pub returns-then-ndim-clause-refused : goal.returns-then-ndim-clause-refused

@@ -3,8 +3,8 @@ use Rattle.nd_shape_and_slice.specs.Maps.{diagonal_length}
 use Rattle.nd_layout.proofs.steps.StepLemmas.{step_some}
 use Rattle.nd_array_core.specs.Meaning.{meaning_of, memory_layout_of}
 use Rattle.nd_array_core.specs.layout.ViewLent.{lent_to, array_with_part}
-use Rattle.nd_array_core.proofs.StepLemmas.{step_holds}
-use Rattle.nd_array_core.proofs.Parted.{seen_part}
+use Rattle.nd_array_core.proofs.layout_lemmas.StepLemmas.{step_holds}
+use Rattle.nd_array_core.proofs.layout_lemmas.Parted.{seen_part}
 use Rattle.nd_array_core.proofs.lending.KeptIndexes.{others_keep}
 use Rattle.nd_array_core.proofs.layout.axes.ArrayBase+S+D.diag_mut.Goals as goal
 

@@ -1,5 +1,5 @@
 use Rattle.std.proofs.Common.{refl, ◌∙◌, rules}
-use Rattle.nd_array_core.proofs.StepLemmas.{step_holds, step_element}
+use Rattle.nd_array_core.proofs.layout_lemmas.StepLemmas.{step_holds, step_element}
 use Rattle.nd_layout.proofs.steps.StepLemmas.{step_separated}
 use Rattle.nd_shape_and_slice.specs.Maps.{inverted_index}
 use Rattle.nd_shape_and_slice.specs.Place.{place_of}

@@ -1,5 +1,5 @@
 use Rattle.nd_array_core.specs.Meaning.{meaning_of}
-use Rattle.nd_array_core.proofs.StepLemmas.{step_holds}
+use Rattle.nd_array_core.proofs.layout_lemmas.StepLemmas.{step_holds}
 use Rattle.nd_layout.proofs.steps.StepLemmas.{step_separated}
 use Rattle.nd_array_core.proofs.layout.axes.ArrayBase+S+D.permute_axes.Goals as goal
 

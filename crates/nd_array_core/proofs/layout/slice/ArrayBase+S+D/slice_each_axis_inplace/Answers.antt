@@ -1,4 +1,4 @@
-use Rattle.nd_array_core.proofs.StepLemmas.{step_holds}
+use Rattle.nd_array_core.proofs.layout_lemmas.StepLemmas.{step_holds}
 use Rattle.nd_layout.proofs.steps.StepLemmas.{step_separated}
 use Rattle.nd_array_core.proofs.layout.slice.ArrayBase+S+D.slice_each_axis_inplace.Goals as goal
 

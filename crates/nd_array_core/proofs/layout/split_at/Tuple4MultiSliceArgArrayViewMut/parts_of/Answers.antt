@@ -1,8 +1,8 @@
 use Rattle.std.proofs.Common.{refl, ◌∙◌}
 use Rattle.nd_region.specs.Region.{region_stored}
 use Rattle.nd_array_core.specs.Meaning.{meaning_of, memory_layout_of}
-use Rattle.nd_array_core.proofs.Parted.{step_held, left_held, left_seen, seen_apart, seen_part}
-use Rattle.nd_array_core.proofs.ListParts.{lists_apart}
+use Rattle.nd_array_core.proofs.layout_lemmas.Parted.{step_held, left_held, left_seen, seen_apart, seen_part}
+use Rattle.nd_array_core.proofs.layout_lemmas.ListParts.{lists_apart}
 use Rattle.nd_array_core.proofs.layout.split_at.Tuple4MultiSliceArgArrayViewMut.parts_of.Goals as goal
 
 pub part-requires : goal.part-requires

@@ -10,7 +10,7 @@ use Rattle.nd_storage.specs.Places.{place_number, kept_at}
 use Rattle.nd_storage.specs.Meaning.{inside}
 use Rattle.nd_array_core.specs.Meaning.{meaning_of, memory_layout_of}
 use Rattle.nd_array_core.specs.layout.ViewLent.{lent_to, array_with_part}
-use Rattle.nd_array_core.proofs.Parted.{Taken, taken_holds, taken_element, taken_places}
+use Rattle.nd_array_core.proofs.layout_lemmas.Parted.{Taken, taken_holds, taken_element, taken_places}
 use Rattle.nd_array_core.proofs.lending.Refilled.{is_refilled, others_stay}
 use Rattle.nd_array_core.proofs.layout.view_mut.ArrayBase+S+D.lent_as.Goals as goal
 

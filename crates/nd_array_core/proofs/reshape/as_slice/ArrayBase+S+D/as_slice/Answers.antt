@@ -1,6 +1,6 @@
 use Rattle.std.proofs.Common.{◌≡◌, IfSome, subst}
 use Rattle.nd_array_core.specs.Meaning.{meaning_of}
-use Rattle.nd_array_core.proofs.RunElements.{same_elements}
+use Rattle.nd_array_core.proofs.reshape_lemmas.RunElements.{same_elements}
 use Rattle.nd_array_core.proofs.reshape.as_slice.ArrayBase+S+D.as_slice.Goals as goal
 
 pub returns-clause-elements : goal.returns-clause-elements

@@ -5,7 +5,7 @@ use Rattle.nd_array_core.specs.Meaning.{meaning_of, memory_layout_of}
 use Rattle.nd_storage.specs.RunLent.{IsRunAt}
 use Rattle.nd_array_core.proofs.lending.ElementStep.{with_run_is}
 use Rattle.nd_array_core.proofs.lending.Run.{run_there, rewritten_by_place, run_read}
-use Rattle.nd_array_core.proofs.MemoryOrder.{run_lies}
+use Rattle.nd_array_core.proofs.reshape_lemmas.MemoryOrder.{run_lies}
 use Rattle.nd_array_core.proofs.reshape.as_slice_mut.ArrayBase+S+D.elements_memory_order_mut.Goals as goal
 
 pub lend_run-requires : goal.lend_run-requires

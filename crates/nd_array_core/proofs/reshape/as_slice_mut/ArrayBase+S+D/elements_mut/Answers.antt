@@ -4,7 +4,7 @@ use Rattle.nd_array_core.specs.Meaning.{meaning_of, memory_layout_of}
 use Rattle.nd_storage.specs.RunLent.{IsRunAt}
 use Rattle.nd_array_core.proofs.lending.ElementStep.{with_run_is}
 use Rattle.nd_array_core.proofs.lending.Run.{standard_there, rewritten_by_rank, run_read}
-use Rattle.nd_array_core.proofs.RunElements.{standard_elements}
+use Rattle.nd_array_core.proofs.reshape_lemmas.RunElements.{standard_elements}
 use Rattle.nd_array_core.proofs.reshape.as_slice_mut.ArrayBase+S+D.elements_mut.Goals as goal
 
 pub lend_run-requires : goal.lend_run-requires

@@ -1,7 +1,7 @@
 use Rattle.nd_region.specs.Region.{region_stored}
 use Rattle.nd_array_core.specs.Meaning.{meaning_of, memory_layout_of}
 use Rattle.nd_array_core.proofs.lending.Run.{standard_there}
-use Rattle.nd_array_core.proofs.RunElements.{standard_elements}
+use Rattle.nd_array_core.proofs.reshape_lemmas.RunElements.{standard_elements}
 use Rattle.nd_array_core.proofs.reshape.as_slice_mut.ArrayViewMut+A+D.into_slice.Goals as goal
 
 pub into_run-requires : goal.into_run-requires

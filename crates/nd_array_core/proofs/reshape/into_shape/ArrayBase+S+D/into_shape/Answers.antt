@@ -1,6 +1,6 @@
 use Rattle.std.specs.Prelude.{Result, Ok, Err, IfErr}
 use Rattle.nd_array_core.specs.Meaning.{meaning_of, memory_layout_of}
-use Rattle.nd_array_core.proofs.Regrouped.{refused_in_both}
+use Rattle.nd_array_core.proofs.reshape_lemmas.Regrouped.{refused_in_both}
 use Rattle.nd_array_core.proofs.reshape.into_shape.ArrayBase+S+D.into_shape.Goals as goal
 
 if_err : {X E : Type 0} {P Q : E → Type 0} (r : Result X E) → ((e : E) → P e → Q e) → IfErr r P → IfErr r Q

@@ -3,7 +3,7 @@ use Rattle.nd_shape_and_slice.specs.declared.builder.Order.TheVariants.{RowMajor
 use Rattle.nd_array_core.specs.Meaning.{shape_of, layout_strides}
 use Rattle.nd_array_core.specs.reshape.Regrouped.{IsShapeOf}
 use Rattle.nd_array_core.specs.reshape.Either.{KeptOrCopied, IsReshapeRefused}
-use Rattle.nd_array_core.proofs.ServedStrides.{only_memory}
+use Rattle.nd_array_core.proofs.reshape_lemmas.ServedStrides.{only_memory}
 use Rattle.nd_array_core.proofs.reshape.to_shape.Array+A+D.into_flat.Goals as goal
 
 pub returns-in-Ok-clause-kind : goal.returns-in-Ok-clause-kind

@@ -3,7 +3,7 @@ use Rattle.std.specs.Prelude.{IfOk}
 use Rattle.nd_shape_and_slice.specs.declared.builder.Order.{Order}
 use Rattle.nd_array_core.specs.Meaning.{shape_of, layout_strides}
 use Rattle.nd_array_core.specs.reshape.Either.{KeptOrCopied}
-use Rattle.nd_array_core.proofs.ServedStrides.{size_refused}
+use Rattle.nd_array_core.proofs.reshape_lemmas.ServedStrides.{size_refused}
 use Rattle.nd_array_core.proofs.reshape.to_shape.Array+A+D.into_shape_clone.Goals as goal
 
 pub returns-then-has_size-clause-kind : goal.returns-then-has_size-clause-kind

@@ -1,6 +1,6 @@
 use Rattle.std.proofs.Common.{◌∙◌}
 use Rattle.nd_array_core.specs.Meaning.{shape_of, layout_strides}
-use Rattle.nd_array_core.proofs.ServedStrides.{size_refused}
+use Rattle.nd_array_core.proofs.reshape_lemmas.ServedStrides.{size_refused}
 use Rattle.nd_array_core.proofs.reshape.to_shape.ArrayBase+S+D.to_shape.Goals as goal
 
 pub returns-else-has_size-clause-refused : goal.returns-else-has_size-clause-refused

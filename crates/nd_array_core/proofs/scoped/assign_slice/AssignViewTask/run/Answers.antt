@@ -4,8 +4,8 @@ use Rattle.nd_array_core.specs.PlacedArray.{element_placed, found_at}
 use Rattle.nd_array_core.specs.Meaning.{shape_of, element_at}
 use Rattle.nd_array_core.specs.elements.Pairs.{beside_at}
 use Rattle.nd_array_core.specs.scoped.Tasks.{lent_view, view_left}
-use Rattle.nd_array_core.proofs.AssignedSlices.{old_or_as}
-use Rattle.nd_array_core.proofs.CloneRefusals.{refused_alike}
+use Rattle.nd_array_core.proofs.scoped_lemmas.AssignedSlices.{old_or_as}
+use Rattle.nd_array_core.proofs.elements_lemmas.CloneRefusals.{refused_alike}
 use Rattle.nd_array_core.proofs.scoped.assign_slice.AssignViewTask.run.Goals as goal
 
 pub returns-clause-assigned : goal.returns-clause-assigned

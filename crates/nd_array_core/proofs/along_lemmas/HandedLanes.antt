@@ -29,11 +29,11 @@ use Rattle.nd_storage.specs.elements.MapsMut.{both_at}
 use Rattle.nd_storage.specs.along.AxisLanes.{lane_place, LanesReach, LanesDistinct}
 use Rattle.nd_array_core.specs.along.AxisMaps.{lane_of, lanes_of}
 use Rattle.nd_array_core.specs.along.LanesWritten.{lane_held, LeavesLane, MayBeHandedLane, LeavesLanesBy, AnswersHandedLanesBy, lanes_held, AreHandedOut, AreLeftBy}
-use Rattle.nd_array_core.proofs.AxisFolding.{lane_in}
-use Rattle.nd_array_core.proofs.AxisNumbers.{remove-inserted, insert-removed, by_lanes, lane_in as outer_in, column_in}
+use Rattle.nd_array_core.proofs.along_lemmas.AxisFolding.{lane_in}
+use Rattle.nd_array_core.proofs.along_lemmas.AxisNumbers.{remove-inserted, insert-removed, by_lanes, lane_in as outer_in, column_in}
 use Rattle.nd_storage.proofs.FreeOrder.{done_at_each}
-use Rattle.nd_array_core.proofs.Handed.{both_is, handed_answered}
-use Rattle.nd_array_core.proofs.LentLanes.{line_same}
+use Rattle.nd_array_core.proofs.elements_lemmas.Handed.{both_is, handed_answered}
+use Rattle.nd_array_core.proofs.along_lemmas.LentLanes.{line_same}
 use Rattle.nd_storage.proofs.Mapped.{indexes_taken}
 use Rattle.nd_storage.proofs.Numbered.{order_numbers}
 use Rattle.nd_storage.proofs.WriteStep.{one_index}

@@ -15,9 +15,9 @@ use Rattle.nd_layout.proofs.Permuted.{nonzero-cons}
 use Rattle.nd_storage.specs.Meaning.{inside}
 use Rattle.nd_array_core.specs.reshape.Regrouped.{regrouped_index, IsShapeOf}
 use Rattle.nd_array_core.specs.reshape.Regrouping.{RegroupedBack}
-use Rattle.nd_array_core.proofs.ShortAxes.{length_short}
-use Rattle.nd_array_core.proofs.LawProofs.{seen_back}
-use Rattle.nd_array_core.proofs.Regrouped.{index_in_within, rank_of_index_in}
+use Rattle.nd_array_core.proofs.reshape_lemmas.ShortAxes.{length_short}
+use Rattle.nd_array_core.proofs.law_lemmas.LawProofs.{seen_back}
+use Rattle.nd_array_core.proofs.reshape_lemmas.Regrouped.{index_in_within, rank_of_index_in}
 
 -- ---- an index of the box is that of its rank
 column_index-column_rank : (ns i : List ℕ) → in_box ns i ≡ true → column_index ns (column_rank ns i) ≡ i

@@ -25,11 +25,11 @@ use Rattle.nd_array_core.specs.Laws.{NothingOutside}
 use Rattle.nd_storage.specs.Places.{stored_at, names_place, HoldsAll}
 use Rattle.nd_array_core.specs.growth.Appended.{IsAlikeBeside, ArePutBehind}
 use Rattle.nd_storage.proofs.Collecting.{meaning_count, meaning_get}
-use Rattle.nd_array_core.proofs.JoinedParts.{split_and_joined_at}
-use Rattle.nd_array_core.proofs.LawProofs.{same_meaning, inside_box}
+use Rattle.nd_array_core.proofs.growth_lemmas.JoinedParts.{split_and_joined_at}
+use Rattle.nd_array_core.proofs.law_lemmas.LawProofs.{same_meaning, inside_box}
 use Rattle.nd_storage.proofs.Mapped.{got_below}
-use Rattle.nd_array_core.proofs.Selecting.{box_has}
-use Rattle.nd_array_core.proofs.StepLemmas.{step_holds, step_element}
+use Rattle.nd_array_core.proofs.along_lemmas.Selecting.{box_has}
+use Rattle.nd_array_core.proofs.layout_lemmas.StepLemmas.{step_holds, step_element}
 
 -- what is seen of stored elements under a placement
 abbrev pub shown : {A : Type 0} → Placement → (ℕ → Option A) → Meaning A

@@ -16,7 +16,7 @@ use Rattle.nd_array_core.specs.Joined.{concatenated_alike}
 use Rattle.nd_array_core.specs.Laws.{NothingOutside, with_axis_inserted}
 use Rattle.nd_storage.specs.Meaning.{Meaning}
 use Rattle.nd_shape_and_slice.specs.Shape.{in_box}
-use Rattle.nd_array_core.proofs.Stretched.{stretches_long}
+use Rattle.nd_array_core.proofs.growth_lemmas.Stretched.{stretches_long}
 
 length-inserted : (ms : List ℕ) (a : ℕ) → length (insert ms a 1) ≡ length ms + 1
 length-inserted ms a =

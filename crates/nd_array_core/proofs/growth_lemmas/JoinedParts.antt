@@ -11,8 +11,8 @@ use Rattle.nd_storage.specs.Meaning.{Meaning, inside}
 use Rattle.nd_array_core.specs.Laws.{NothingOutside}
 use Rattle.nd_array_core.specs.Joined.{lower_of, upper_of, concatenated_shape, concatenated, SplitAndJoined}
 use Rattle.nd_array_core.specs.growth.Appended.{IsAlikeBeside}
-use Rattle.nd_array_core.proofs.LawProofs.{same_meaning, inside_here, inside_kept, inside_box}
-use Rattle.nd_array_core.proofs.Stretched.{with_behind, with_itself}
+use Rattle.nd_array_core.proofs.law_lemmas.LawProofs.{same_meaning, inside_here, inside_kept, inside_box}
+use Rattle.nd_array_core.proofs.growth_lemmas.Stretched.{with_behind, with_itself}
 
 -- the axis is as long as both parts
 parts_shape : (ns : List ℕ) (a k : ℕ) → a < length ns → k ≤ get_or ns a 0 → concatenated_shape (lower_shape ns a k) (upper_shape ns a k) a ≡ ns

@@ -25,7 +25,7 @@ use Rattle.nd_array_core.specs.growth.Grown.{lies, BecomesReady, GoesOn, GoesOnU
 use Rattle.nd_storage.specs.Meaning.{Meaning}
 use Rattle.nd_array_core.specs.growth.InTurn.{IsGrownInTurn}
 use Rattle.nd_array_core.specs.growth.Reserved.{added_elements, HasRoomAlong}
-use Rattle.nd_array_core.proofs.GrownArrays.{goes_same, remove_set}
+use Rattle.nd_array_core.proofs.growth_lemmas.GrownArrays.{goes_same, remove_set}
 
 -- as many elements as so many lengths of a shape that has grown have
 added_twice : (ns shape : List ℕ) (axis taken k : ℕ) → shape ≡ grown_shape ns axis taken → added_elements shape axis k ≡ k * size_of (remove ns axis)

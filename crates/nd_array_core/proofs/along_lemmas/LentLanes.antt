@@ -25,10 +25,10 @@ use Rattle.nd_storage.specs.elements.Changes.{AreDistinct}
 use Rattle.nd_storage.specs.elements.Maps.{Replaces, TakesNumbered}
 use Rattle.nd_storage.specs.elements.MapsMut.{Collects}
 use Rattle.nd_storage.proofs.Changed.{stored_same, changed_none, changed_more}
-use Rattle.nd_array_core.proofs.Handed.{collects_ran}
+use Rattle.nd_array_core.proofs.elements_lemmas.Handed.{collects_ran}
 use Rattle.nd_storage.proofs.Replaced.{replaced_ran, still_next}
 use Rattle.nd_storage.proofs.RunPairs.{number, numbers_distinct}
-use Rattle.nd_array_core.proofs.ShownLanes.{lane_coordinate, seen_inside}
+use Rattle.nd_array_core.proofs.along_lemmas.ShownLanes.{lane_coordinate, seen_inside}
 
 -- what names a place still does where each place holds something
 pub kept_places : {A : Type 0} (old now : ℕ → Option A) → KeepsPlaces old now → (z : ℤ) → names_place old z ≡ true → names_place now z ≡ true

@@ -20,7 +20,7 @@ use Rattle.nd_storage.specs.FreeOrder.{ListsBox}
 use Rattle.nd_storage.specs.along.Removed.{removed_shape}
 use Rattle.nd_storage.specs.along.Rising.{next_index}
 use Rattle.nd_storage.specs.along.Accumulated.{StartsAlong, ChangesAfter, AccumulatesBy, AccumulatesAll, AccumulableAlong, AreAccumulatedBy, AreAccumulated, TakesLanes}
-use Rattle.nd_array_core.proofs.AxisIndexes.{lane_inside, lane_lies, lanes_distinct}
+use Rattle.nd_array_core.proofs.along_lemmas.AxisIndexes.{lane_inside, lane_lies, lanes_distinct}
 use Rattle.nd_storage.proofs.Changed.{stored_same}
 use Rattle.nd_storage.proofs.FreeOrder.{IsNumbering, listed, listed_part, listed_all, done_at_each}
 use Rattle.nd_storage.proofs.LaneNumbers.{number_lane, lane_number, lane_number_below, index_of_number, number_of_index, number_row, number_column, number_next, lane_numbers, numbers_rise}

@@ -14,7 +14,7 @@ use Rattle.nd_storage.specs.Meaning.{inside}
 use Rattle.nd_storage.specs.Places.{stored_at, place_number, names_place, HoldsAll, kept_at, ShareNoPlace}
 use Rattle.nd_layout.specs.Steps.{IsStep}
 use Rattle.nd_array_core.specs.layout.Parts.{HoldsEachOnce, IsViewUnder}
-use Rattle.nd_array_core.proofs.StepLemmas.{step_holds, step_element}
+use Rattle.nd_array_core.proofs.layout_lemmas.StepLemmas.{step_holds, step_element}
 use Rattle.nd_layout.proofs.steps.StepLemmas.{step_some}
 use Rattle.nd_storage.proofs.WriteStep.{one_index}
 

@@ -14,8 +14,8 @@ use Rattle.nd_layout.specs.Places.{ReachesPlaces}
 use Rattle.nd_layout.proofs.steps.StepLemmas.{seen_reaches}
 use Rattle.nd_array_core.specs.reshape.Regrouped.{regrouped_index, IsShapeOf}
 use Rattle.nd_array_core.specs.reshape.Serving.{IsServedBy, SomeServe}
-use Rattle.nd_array_core.proofs.Fresh.{line_is_checked}
-use Rattle.nd_array_core.proofs.Regrouped.{served_seen}
+use Rattle.nd_array_core.proofs.reshape_lemmas.Fresh.{line_is_checked}
+use Rattle.nd_array_core.proofs.reshape_lemmas.Regrouped.{served_seen}
 
 module _ (order : Order) (offset : ℕ) (ns : List ℕ) (ss : List ℤ) (ms : List ℕ) (ts : List ℤ) (fits : IsShapeOf ns ms) (served : IsServedBy order ns ss ms ts) where
   pub served_step : IsViewStep offset ns ss offset ms ts (regrouped_index order ns ms)

@@ -22,9 +22,9 @@ use Rattle.nd_array_core.specs.Joined.{concatenated, concatenated_shape}
 use Rattle.nd_array_core.specs.Laws.{NothingOutside}
 use Rattle.nd_storage.specs.Places.{stored_at, names_place, HoldsAll}
 use Rattle.nd_array_core.specs.growth.Appended.{IsAlikeBeside, ArePutBehind}
-use Rattle.nd_array_core.proofs.Appending.{shown, fits_back, first_none, no_index, is_there}
-use Rattle.nd_array_core.proofs.LawProofs.{same_meaning, inside_box}
-use Rattle.nd_array_core.proofs.Stretched.{with_behind, with_itself}
+use Rattle.nd_array_core.proofs.growth_lemmas.Appending.{shown, fits_back, first_none, no_index, is_there}
+use Rattle.nd_array_core.proofs.law_lemmas.LawProofs.{same_meaning, inside_box}
+use Rattle.nd_array_core.proofs.growth_lemmas.Stretched.{with_behind, with_itself}
 
 number_of : (z : ℤ) → is_place z ≡ true → (k : ℕ) × (z ≡ pos k)
 number_of (pos k) there = (k, refl)

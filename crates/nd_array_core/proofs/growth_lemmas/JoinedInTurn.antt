@@ -19,7 +19,7 @@ use Rattle.nd_array_core.specs.Laws.{NothingOutside}
 use Rattle.nd_storage.specs.Meaning.{Meaning}
 use Rattle.nd_array_core.specs.growth.Appended.{FitsBehind, IsAlikeBeside, IsAppendRefused, IsJoiningRefused, NotFitting, TooLarge}
 use Rattle.nd_array_core.specs.growth.InTurn.{alike_in_turn, joined_in_turn, lengths_along, AreAlikeBeside}
-use Rattle.nd_array_core.proofs.Stretched.{fits_grown, fits_ungrown, with_itself}
+use Rattle.nd_array_core.proofs.growth_lemmas.Stretched.{fits_grown, fits_ungrown, with_itself}
 
 grown_twice : (ns : List ℕ) (a x y : ℕ) → (0 < length ns → a < length ns) → grown_shape (grown_shape ns a x) a y ≡ grown_shape ns a (x + y)
 grown_twice [] a x y on = refl

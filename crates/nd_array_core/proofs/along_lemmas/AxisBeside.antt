@@ -14,9 +14,9 @@ use Rattle.nd_layout.specs.Steps.{IsStep}
 use Rattle.nd_storage.specs.Meaning.{inside}
 use Rattle.nd_storage.specs.Places.{stored_at, HoldsAll}
 use Rattle.nd_array_core.specs.along.AxisFolds.{lane_at, FoldsBetween, FoldsBeside, TakesBeside}
-use Rattle.nd_array_core.proofs.AxisFolding.{fold_reach, fold_holds, fold_found}
+use Rattle.nd_array_core.proofs.along_lemmas.AxisFolding.{fold_reach, fold_holds, fold_found}
 use Rattle.nd_storage.proofs.Ran.{ran_more, ran_weaker}
-use Rattle.nd_array_core.proofs.RunElements.{rank_place}
+use Rattle.nd_array_core.proofs.reshape_lemmas.RunElements.{rank_place}
 use Rattle.nd_storage.proofs.RunPairs.{set_there, set_left}
 
 module _ {F B A : Type 0} (g : Mut F (Bor B × (Bor A × Unit {0})) B) (elements : ℕ → Option A) (old now : List B) (f : F) (nth : ℕ) (y : B) (kept : (j : ℕ) → nth ≤ j → slice_get now j ≡ slice_get old j) where

@@ -12,8 +12,8 @@ use Rattle.nd_storage.specs.Meaning.{Meaning, inside}
 use Rattle.nd_array_core.specs.Joined.{broadcast_behind, concatenated, concatenated_shape, shape_behind}
 use Rattle.nd_array_core.specs.Laws.{NothingOutside}
 use Rattle.nd_array_core.specs.growth.Appended.{CanComeBehind, FitsBehind, IsAlikeBeside, elements_behind}
-use Rattle.nd_array_core.proofs.LawProofs.{same_meaning}
-use Rattle.nd_array_core.proofs.OwnShape.{itself_at}
+use Rattle.nd_array_core.proofs.law_lemmas.LawProofs.{same_meaning}
+use Rattle.nd_array_core.proofs.law_lemmas.OwnShape.{itself_at}
 
 -- ---- shapes that stretch
 pub stretches_long : (ms to : List ℕ) → stretches ms to ≡ true → length ms ≡ length to

@@ -11,7 +11,7 @@ use Rattle.nd_array_core.specs.declared.reshape.either_array.EitherArray.TheVari
 use Rattle.nd_array_core.specs.Meaning.{meaning_of, shape_of, element_at}
 use Rattle.nd_array_core.specs.reshape.Serving.{regrouped_meaning}
 use Rattle.nd_array_core.specs.reshape.Either.{ViewsOrCopies, ShowsEither}
-use Rattle.nd_array_core.proofs.LawProofs.{same_meaning}
+use Rattle.nd_array_core.proofs.law_lemmas.LawProofs.{same_meaning}
 
 module _
     {S D A T P R L M : Type 0} {s : data_trait.Ghosts S A} {d : dimension.Ghosts D P R L M} {n : axis_count.Ghosts D} {r : stride_list.Ghosts R} {t : stride_list.Ghosts T}

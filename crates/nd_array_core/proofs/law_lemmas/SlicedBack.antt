@@ -13,7 +13,7 @@ use Rattle.nd_array_core.specs.Laws.{NothingOutside}
 use Rattle.nd_storage.specs.Meaning.{Meaning, inside}
 use Rattle.nd_array_core.specs.Meaning.{meaning_through}
 use Rattle.nd_array_core.specs.growth.SlicedBack.{slice_of_first, AppendedAndSliced}
-use Rattle.nd_array_core.proofs.LawProofs.{same_meaning, inside_box}
+use Rattle.nd_array_core.proofs.law_lemmas.LawProofs.{same_meaning, inside_box}
 
 bound_within : (n k : ℕ) → k ≤ n → bound_on n (pos k) ≡ Some k
 bound_within n k h = rw (le-leb k n h) refl

@@ -32,9 +32,9 @@ use Rattle.nd_layout.proofs.steps.SliceStep.{step_moves}
 use Rattle.nd_layout.proofs.steps.SqueezeStep.{length-stays}
 use Rattle.nd_array_core.specs.Laws.{PathStep, path_shape, path_source, StaysInside}
 use Rattle.nd_array_core.specs.NamedOnce.{NamesOnce, SlicesNameOnce, ListsNameOnce, CollapsedListsNameOnce, each_slice_fits, EachSlicesNameOnce, PermutationsNameOnce, ReversalsNameOnce, ExchangesNameOnce, InversionsNameOnce, CollapsesNameOnce, CoordinatesNameOnce, LowerPartsNameOnce, UpperPartsNameOnce, InsertionsNameOnce, SqueezesNameOnce, MergesNameOnce, DiagonalsNameOnce, ReshapesNameOnce, EachNamesOnce, PathsNameOnce}
-use Rattle.nd_array_core.proofs.LawProofs.{coordinate_at, remove-inserted, path_inside}
-use Rattle.nd_array_core.proofs.Regrouped.{rank_of_index_in}
-use Rattle.nd_array_core.proofs.Regrouping.{index_of_rank_in}
+use Rattle.nd_array_core.proofs.law_lemmas.LawProofs.{coordinate_at, remove-inserted, path_inside}
+use Rattle.nd_array_core.proofs.reshape_lemmas.Regrouped.{rank_of_index_in}
+use Rattle.nd_array_core.proofs.law_lemmas.Regrouping.{index_of_rank_in}
 
 -- ---- lists
 head_is : (x y : ℕ) (xs ys : List ℕ) → x ∷ xs ≡ y ∷ ys → x ≡ y

@@ -24,7 +24,7 @@ use Rattle.nd_storage.specs.Collected.{IsFront}
 use Rattle.nd_array_core.specs.growth.Appended.{IsAlikeBeside}
 use Rattle.nd_array_core.specs.growth.Grown.{case_under, offset_in_case, GoesOnUnder, IsLaidInCase, IsReadyUnder, IsStoredInCase}
 use Rattle.nd_array_core.specs.growth.Reserved.{added_elements}
-use Rattle.nd_array_core.proofs.Appending.{first_none, fits_axis, fits_back, fits_more, fits_size, no_index}
+use Rattle.nd_array_core.proofs.growth_lemmas.Appending.{first_none, fits_axis, fits_back, fits_more, fits_size, no_index}
 
 -- ---- which case it is
 chosen_empty : (b1 b2 b3 b4 b5 : Bool) → b1 ≡ true → ◌≡◌ {A = ℕ} (cond b1 1 (cond b2 2 (cond b3 3 (cond b4 4 (cond b5 5 6))))) 1

@@ -14,8 +14,8 @@ use Rattle.nd_storage.specs.Places.{names_place, HoldsAll}
 use Rattle.nd_storage.specs.Meaning.{inside}
 use Rattle.nd_layout.specs.Placements.{Placement}
 use Rattle.nd_array_core.specs.base.Given.{first_places, IsLaidOut}
-use Rattle.nd_array_core.proofs.GivenHolds.{given_holds}
-use Rattle.nd_array_core.proofs.Ranked.{ranked_holds}
+use Rattle.nd_array_core.proofs.base_lemmas.GivenHolds.{given_holds}
+use Rattle.nd_array_core.proofs.base_lemmas.Ranked.{ranked_holds}
 
 abbrev something_if : Bool → Option ⊤
 something_if b = if b then Some tt else None

@@ -19,7 +19,7 @@ use Rattle.nd_layout.specs.Refusals.{elements_asked}
 use Rattle.nd_layout.proofs.steps.GivenStrides.{asked_of_some}
 use Rattle.nd_storage.specs.Meaning.{inside}
 use Rattle.nd_storage.specs.Clones.{ClonesAreEqual, ClonesOfAllAreEqual, StoredClonesAreEqual}
-use Rattle.nd_array_core.proofs.GivenHolds.{given_holds}
+use Rattle.nd_array_core.proofs.base_lemmas.GivenHolds.{given_holds}
 use Rattle.nd_storage.specs.Places.{place_number, stored_at, names_place, HoldsAll}
 use Rattle.nd_array_core.specs.reshape.RunSlices.{LiesAlong}
 

@@ -1,0 +1,7 @@
+pub mod Ranked
+pub mod Frames
+pub mod GivenHolds
+pub mod LaidOut
+pub mod Diagonals
+pub mod LastIndexes
+pub mod Cells

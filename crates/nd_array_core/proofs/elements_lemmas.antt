@@ -1,0 +1,3 @@
+pub mod RunNumbers
+pub mod Handed
+pub mod CloneRefusals
