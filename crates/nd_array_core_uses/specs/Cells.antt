@@ -3,8 +3,8 @@ use Rattle.std.specs.Prelude.{ℕ, zero, suc, ◌+◌, ◌-◌, ◌*◌, ◌/◌
 use Rattle.nd_array_core_uses.specs.Sums.{sum_below, value_or_0}
 
 -- the sum of the products of a row's first n elements and a column's
-abbrev pub row_by_column : (ℕ → ℕ → Option ℕ) → (ℕ → ℕ → Option ℕ) → ℕ → ℕ → ℕ → ℕ
-row_by_column one other n row column = sum_below (λ k. value_or_0 (one row k) * value_or_0 (other k column)) n
+abbrev pub row_times_column : (ℕ → ℕ → Option ℕ) → (ℕ → ℕ → Option ℕ) → ℕ → ℕ → ℕ → ℕ
+row_times_column one other n row column = sum_below (λ k. value_or_0 (one row k) * value_or_0 (other k column)) n
 
 -- a pixel of a row with the one before it and the one behind it, or itself again where there is none
 abbrev pub three_of : (ℕ → ℕ → Option ℕ) → ℕ → ℕ → ℕ → ℕ

@@ -4,7 +4,7 @@ ghost use Rattle.std.specs.Prelude.{◌≡◌, ◌<◌, ◌≤◌, ◌%◌, ◌^
 ghost use Rattle.nd_shape_and_slice.specs.Shape.{HasCheckedSize};
 ghost use Rattle.nd_array_core.specs.Meaning.{shape_of};
 ghost use Rattle.nd_array_core.specs.Coordinates.{element_of_2, HasRowsAndColumns};
-ghost use Rattle.nd_array_core_uses.specs.Cells.{row_by_column, three_of, mean_around, living, living_before, living_three, lives_on};
+ghost use Rattle.nd_array_core_uses.specs.Cells.{row_times_column, three_of, mean_around, living, living_before, living_three, lives_on};
 
 use nd_array_core::laws::shape_is_checked;
 use nd_array_core::{Array, Array2, ArrayBase, Data};
@@ -21,7 +21,7 @@ fn product_at<S: Data<Elem = u64>, Z: Data<Elem = u64>>(
     requires inner { slice_index (shape_of one.now) 1 ≡ slice_index (shape_of other.now) 0 }
     requires row { row < slice_index (shape_of one.now) 0 }
     requires column { column < slice_index (shape_of other.now) 1 }
-    ensures { result ≡ row_by_column (element_of_2 one.now) (element_of_2 other.now) (slice_index (shape_of one.now) 1) row column % 2 ^ 64 }
+    ensures { result ≡ row_times_column (element_of_2 one.now) (element_of_2 other.now) (slice_index (shape_of one.now) 1) row column % 2 ^ 64 }
 {
     let (_rows, inner) = one.dim();
     let (_inner, _columns) = other.dim();
@@ -41,7 +41,7 @@ pub fn product<S: Data<Elem = u64>, Z: Data<Elem = u64>>(
     requires inner { slice_index (shape_of one.now) 1 ≡ slice_index (shape_of other.now) 0 }
     requires checked { HasCheckedSize (slice_index (shape_of one.now) 0 ∷ slice_index (shape_of other.now) 1 ∷ []) }
     ensures shape { IfOk result (λ c. HasRowsAndColumns c (slice_index (shape_of one.now) 0) (slice_index (shape_of other.now) 1)) }
-    ensures cells { IfOk result (λ c. (row column : ℕ) → row < slice_index (shape_of one.now) 0 → column < slice_index (shape_of other.now) 1 → element_of_2 c row column ≡ Some (row_by_column (element_of_2 one.now) (element_of_2 other.now) (slice_index (shape_of one.now) 1) row column % 2 ^ 64)) }
+    ensures cells { IfOk result (λ c. (row column : ℕ) → row < slice_index (shape_of one.now) 0 → column < slice_index (shape_of other.now) 1 → element_of_2 c row column ≡ Some (row_times_column (element_of_2 one.now) (element_of_2 other.now) (slice_index (shape_of one.now) 1) row column % 2 ^ 64)) }
 {
     let (rows, _inner) = one.dim();
     let (_inner, columns) = other.dim();

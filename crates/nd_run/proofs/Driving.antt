@@ -9,7 +9,7 @@ use Rattle.nd_run.specs.Script.{AskedScript, IsScript, IsFirstBad, MayLackIn}
 use Rattle.nd_text.specs.Puts.{TakesText}
 use Rattle.nd_text.specs.Watched.{watched_inner, watched_failed}
 use Rattle.nd_text.specs.Words.{lines_of}
-use Rattle.nd_run.specs.Endings.{is_no_input, Ending, Finished, BadAt, OutOfMemory, NoInput, ending, ending_text, status_of, is_load_failure, EndsUnloaded, Loads, RunsTo, LacksMemory, Ends}
+use Rattle.nd_run.specs.Endings.{is_no_input, Ending, Finished, BadAt, OutOfMemory, NoInput, ending, ending_text, status_of, is_load_failure, EndsUnloaded, Loads, RunsTo, StopsForMemory, Ends}
 use Rattle.nd_run.specs.Driven.{run_ending, Took, Driven, TellsEnd, TellsRun, TellsBadLine, TellsWant, TellsBeginning}
 
 run_ends : (bytes : List ℕ) (script : AskedScript) (end : Ending) → IsScript (lines_of bytes) script → RunsTo Runs Stops script end → Ends Runs Stops bytes end
@@ -81,7 +81,7 @@ module _ {W : Type 0} (contents : W → Option (List ℕ)) (old new : Watched W)
   bad false NoInput failed number e h takes = absurd (omega (arith, number, e))
 
   want : (b : Bool) (end : Ending) → watched_failed new ≡ b → status ≡ status_of b end → status ≡ 2 → Ends Runs Stops bytes end → TakesText contents old new (ending_text end)
-      → (replies : List (Said ℤ)) × LacksMemory Runs Stops bytes replies × Took contents old new (ending_text (OutOfMemory replies))
+      → (replies : List (Said ℤ)) × StopsForMemory Runs Stops bytes replies × Took contents old new (ending_text (OutOfMemory replies))
   want true end failed number e h takes = absurd (omega (arith, number, e))
   want false (Finished replies lengths elements) failed number e h takes = absurd (omega (arith, number, e))
   want false (BadAt n) failed number e h takes = absurd (omega (arith, number, e))

@@ -5,7 +5,7 @@ use Rattle.nd_text.specs.declared.keyword.Keyword.{Keyword}
 use Rattle.nd_text.specs.declared.keyword.Keyword.TheVariants.{Other, Slash}
 use Rattle.nd_text.specs.Numerals.{IsNat, nat_of}
 use Rattle.nd_text.specs.Spelling.{spelling}
-use Rattle.nd_run.specs.Grammar.{IsWord, IsBare, IsBoth, IsMade, AreInTurn, IsCounted, IsNamed, IsSlashBehind, IsSlashed}
+use Rattle.nd_run.specs.Grammar.{IsWord, IsBare, IsBoth, IsMade, AreInTurn, IsCounted, HasKeyword, IsSlashBehind, IsSlashed}
 use Rattle.nd_run.specs.Reading.{◌>>=◌, first_as, both_at, map_read, many_while, many_at, counted_at, named_at, slash_by, slashed_at, read_to_end}
 use Rattle.nd_text.specs.Spelling.{keyword_of}
 use Rattle.nd_text.proofs.Keywords.{known, spelled}
@@ -194,7 +194,7 @@ counted_reads {X} {n} {read} {Is} r = record {
 -- ---- a keyword, and what its row reads
 
 named_takes : {X : Type 0} (row : Keyword → List (List ℕ) → Option (X × List (List ℕ))) (Behind : Keyword → List (List ℕ) → X → Type 0)
-    → ((k : Keyword) → Takes (row k) (Behind k)) → ((words : List (List ℕ)) (x : X) → Behind Other words x → ⊥) → Takes (named_at row) (IsNamed Behind)
+    → ((k : Keyword) → Takes (row k) (Behind k)) → ((words : List (List ℕ)) (x : X) → Behind Other words x → ⊥) → Takes (named_at row) (HasKeyword Behind)
 unfolding named_at
 named_takes row Behind rows none [] x rest e = absurd cc
 named_takes row Behind rows none (word ∷ words) x rest e =
@@ -208,7 +208,7 @@ unfolding named_at
 named_words row k words = ap (λ (name : Keyword). row name words) (known k)
 
 pub named_reads : {X : Type 0} {n : ℕ} {row : Keyword → List (List ℕ) → Option (X × List (List ℕ))} {Behind : Keyword → List (List ℕ) → X → Type 0}
-    → ((k : Keyword) → Reads n (row k) (Behind k)) → ((words : List (List ℕ)) (x : X) → Behind Other words x → ⊥) → Reads n (named_at row) (IsNamed Behind)
+    → ((k : Keyword) → Reads n (row k) (Behind k)) → ((words : List (List ℕ)) (x : X) → Behind Other words x → ⊥) → Reads n (named_at row) (HasKeyword Behind)
 named_reads {X} {n} {row} {Behind} rows none = record {
   takes = named_takes row Behind (λ k. (rows k).takes) none;
   again = λ front x rest few h. (

@@ -8,8 +8,8 @@ use Rattle.nd_array_core.specs.Laws.{with_axis_inserted}
 use Rattle.nd_array_core.specs.Meaning.{Meaning}
 use Rattle.nd_run.specs.Calls.{AskedStep, SlicedAxis, Sliced, Collapsed, Indexed, Permuted, Reversed, Exchanged, Inverted, Inserted, Removed, Squeezed, Diagonal, BroadcastTo, Asking, AskShape, AskElements, AskElement, AskFirst, AskLast, AskEqual, AskCount, AskReshaped, Acting, Filling, Assigning, Setting, Swapping, Asked, Keeping, About, Writing, SplitWriting, Selecting, Removing, Reshaping, Appending, Reserving, Concatenating, Stacking}
 use Rattle.nd_text.specs.Spelling.{spelling, is_step}
-use Rattle.nd_run.specs.Grammar.{IsBoth, IsNamed, IsSlashed, IsPair, IsOrderBehind, IsOrderedList, IsEnd, IsSlice, IsElementBehind, IsElement, IsStepBehind, IsStep, IsPath, IsQuestionBehind, IsActBehind, IsAct, IsCallBehind, IsCall, IsStartBehind, IsStart}
-use Rattle.nd_run.specs.Reading.{both_at, slashed_at, named_at, pair_at, order_by, ordered_list_at, end_of, slice_at, element_by, element_at, step_by, step_at, begins_step, path_at, question_by, act_by, act_at, call_by, call_at, call_of, start_by, start_of}
+use Rattle.nd_run.specs.Grammar.{IsBoth, HasKeyword, IsSlashed, IsPair, IsOrderBehind, IsOrderedList, IsEnd, IsSlice, IsElementBehind, IsElement, IsStepBehind, IsStepText, IsPath, IsQuestionBehind, IsActBehind, IsAct, IsCallBehind, IsCall, IsStartBehind, IsStart}
+use Rattle.nd_run.specs.Reading.{both_at, slashed_at, named_at, pair_at, order_by, ordered_list_at, slice_end_of, slice_at, element_by, slice_element_at, step_by, step_at, begins_step, path_at, question_by, act_by, act_at, call_by, call_at, call_of, start_word_by, start_of}
 use Rattle.nd_text.proofs.Keywords.{known}
 use Rattle.nd_run.proofs.SliceEnds.{end_takes, end_again}
 use Rattle.nd_run.proofs.ArrayLaws.{nat_reads, int_reads, list_reads, array_reads}
@@ -27,7 +27,7 @@ ordered_list_reads : {n : ℕ} → Reads n ordered_list_at IsOrderedList
 ordered_list_reads = both_reads (named_reads order_rows (λ words x h. h)) list_reads
 
 slice_reads : {n : ℕ} → Reads n slice_at IsSlice
-slice_reads = made_reads (λ x. record { start = x.0; end = x.1.0; step = x.1.1 }) (both_reads int_reads (both_reads (word_reads end_of IsEnd end_takes end_again) int_reads))
+slice_reads = made_reads (λ x. record { start = x.0; end = x.1.0; step = x.1.1 }) (both_reads int_reads (both_reads (word_reads slice_end_of IsEnd end_takes end_again) int_reads))
 
 element_rows : {n : ℕ} (k : Keyword) → Reads n (element_by k) (IsElementBehind k)
 element_rows Part = made_reads (λ s. Cutting s.start s.end s.step) slice_reads
@@ -35,7 +35,7 @@ element_rows Coordinate = made_reads At int_reads
 element_rows New = bare_reads NewAxis
 element_rows _ = none_reads
 
-element_reads : {n : ℕ} → Reads n element_at IsElement
+element_reads : {n : ℕ} → Reads n slice_element_at IsElement
 element_reads = named_reads element_rows (λ words x h. h)
 
 -- ---- steps
@@ -56,7 +56,7 @@ step_rows Diag = bare_reads Diagonal
 step_rows Broadcast = made_reads BroadcastTo list_reads
 step_rows _ = none_reads
 
-step_reads : {n : ℕ} → Reads n step_at IsStep
+step_reads : {n : ℕ} → Reads n step_at IsStepText
 step_reads = named_reads step_rows (λ words x h. h)
 
 -- ---- what stands behind a path begins no step
@@ -80,12 +80,12 @@ step_named Diag words step h = refl
 step_named Broadcast words step h = refl
 step_named _ words step h = absurd h
 
-leg_begins : (front : List (List ℕ)) (step : AskedStep) (rest : List (List ℕ)) → IsSlashed IsStep front step → begins_step (front ++ rest) ≡ true
+leg_begins : (front : List (List ℕ)) (step : AskedStep) (rest : List (List ℕ)) → IsSlashed IsStepText front step → begins_step (front ++ rest) ≡ true
 leg_begins front step rest h =
     let name = h.2.3 in
     regrouped begins_step front h.2.0 h.2.1 rest h.2.2 ∙ ap (λ (ws : List (List ℕ)). begins_step (ws ++ (h.2.1 ++ rest))) name.2 ∙ begins name.0 (name.1 ++ (h.2.1 ++ rest)) ∙ step_named name.0 name.1 h.0.0 name.3
 
-leg_words : (front : List (List ℕ)) (step : AskedStep) → IsSlashed IsStep front step → 0 < length front
+leg_words : (front : List (List ℕ)) (step : AskedStep) → IsSlashed IsStepText front step → 0 < length front
 leg_words front step h = omega (arith, ap (length {A = List ℕ}) h.2.2, length-append h.2.0 h.2.1, ap (length {A = List ℕ}) h.2.3.2)
 
 path_short : (front : List (List ℕ)) (path : List AskedStep) → IsPath front path → length path ≤ length front
@@ -94,15 +94,15 @@ path_short front (step ∷ path) h = omega (arith, ap (length {A = List ℕ}) h.
 
 -- a path, and then something that begins no step
 path_then : {X : Type 0} {n : ℕ} (row : Keyword → List (List ℕ) → Option (X × List (List ℕ))) (Behind : Keyword → List (List ℕ) → X → Type 0)
-    → Reads n (named_at row) (IsNamed Behind) → ((k : Keyword) (words : List (List ℕ)) (x : X) → Behind k words x → is_step k ≡ false) → Reads n (both_at (path_at n) (named_at row)) (IsBoth IsPath (IsNamed Behind))
+    → Reads n (named_at row) (HasKeyword Behind) → ((k : Keyword) (words : List (List ℕ)) (x : X) → Behind k words x → is_step k ≡ false) → Reads n (both_at (path_at n) (named_at row)) (IsBoth IsPath (HasKeyword Behind))
 path_then {X} {n} row Behind r no_step =
     let legs = slashed_reads {n = n} step_reads in record {
-      takes = both_takes (path_at n) (named_at row) IsPath (IsNamed Behind) (many_take begins_step (slashed_at step_at) (IsSlashed IsStep) legs.takes n) r.takes;
+      takes = both_takes (path_at n) (named_at row) IsPath (HasKeyword Behind) (many_take begins_step (slashed_at step_at) (IsSlashed IsStepText) legs.takes n) r.takes;
       again = λ words x rest few h. (
           let each = few_parts n words h.0 h.1 h.2 few in
           let stop : begins_step (h.1 ++ rest) ≡ false = ap (λ (ws : List (List ℕ)). begins_step (ws ++ rest)) h.4.2 ∙ begins h.4.0 (h.4.1 ++ rest) ∙ no_step h.4.0 h.4.1 x.1 h.4.3 in
           let most : length x.0 ≤ n = omega (arith, each.0, path_short h.0 x.0 h.3) in
-          both_words (path_at n) (named_at row) words h.0 h.1 x rest h.2 (many_again begins_step (slashed_at step_at) (IsSlashed IsStep) n legs.again leg_begins n h.0 x.0 (h.1 ++ rest) each.0 most (λ lt. stop) h.3) (r.again h.1 x.1 rest each.1 h.4));
+          both_words (path_at n) (named_at row) words h.0 h.1 x rest h.2 (many_again begins_step (slashed_at step_at) (IsSlashed IsStepText) n legs.again leg_begins n h.0 x.0 (h.1 ++ rest) each.0 most (λ lt. stop) h.3) (r.again h.1 x.1 rest each.1 h.4));
     }
 
 -- ---- questions and acts
@@ -177,7 +177,7 @@ call_again n words call few is = line_again (call_reads {n = n}) words call few 
 
 -- ---- the start
 
-start_rows : {n : ℕ} (k : Keyword) → Reads n (start_by k) (IsStartBehind k)
+start_rows : {n : ℕ} (k : Keyword) → Reads n (start_word_by k) (IsStartBehind k)
 start_rows Start = array_reads
 start_rows _ = none_reads
 

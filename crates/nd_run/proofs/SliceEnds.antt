@@ -6,7 +6,7 @@ use Rattle.std.proofs.lemmas.Slice.Eq.{bytes_eq-Decides}
 use Rattle.nd_text.specs.Numerals.{int_of}
 use Rattle.nd_text.proofs.NumberLaws.{int_takes, int_again}
 use Rattle.nd_run.specs.Grammar.{IsEnd}
-use Rattle.nd_run.specs.Reading.{end_of}
+use Rattle.nd_run.specs.Reading.{slice_end_of}
 
 mapped : (r : Option ℤ) (end : Option ℤ) → option_map Some r ≡ Some end → (z : ℤ) × (r ≡ Some z) × (end ≡ Some z)
 mapped None end e = absurd cc
@@ -24,7 +24,7 @@ end_by false word (Some z) is e =
     let h = mapped (int_of word) (Some z) e in
     int_takes word z (h.1 ∙ sym h.2)
 
-pub end_takes : (word : List ℕ) (end : Option ℤ) → end_of word ≡ Some end → IsEnd word end
+pub end_takes : (word : List ℕ) (end : Option ℤ) → slice_end_of word ≡ Some end → IsEnd word end
 end_takes word end e = end_by (bytes_eq word (95 ∷ [])) word end refl e
 
 not_missing : (t : Bool) (word : List ℕ) (z : ℤ) → bytes_eq word (95 ∷ []) ≡ t → int_of word ≡ Some z → t ≡ false
@@ -33,8 +33,8 @@ not_missing true word z is e =
     let read : int_of (95 ∷ []) ≡ Some z = sym (ap int_of ((bytes_eq-Decides word (95 ∷ [])).0 is)) ∙ e in absurd cc
 not_missing false word z is e = refl
 
-pub end_again : (word : List ℕ) (end : Option ℤ) → IsEnd word end → end_of word ≡ Some end
-end_again word None h = ap end_of h
+pub end_again : (word : List ℕ) (end : Option ℤ) → IsEnd word end → slice_end_of word ≡ Some end
+end_again word None h = ap slice_end_of h
 end_again word (Some z) h =
     let read : int_of word ≡ Some z = int_again word z h in
     let there : bytes_eq word (95 ∷ []) ≡ false = not_missing (bytes_eq word (95 ∷ [])) word z refl read in

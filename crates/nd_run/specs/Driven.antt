@@ -11,7 +11,7 @@ use Rattle.nd_text.specs.Words.{lines_of}
 use Rattle.nd_run.specs.Calls.{Said}
 use Rattle.nd_run.specs.Fold.{replies_to, end_of}
 use Rattle.nd_run.specs.Script.{AskedScript, IsScript, IsFirstBad}
-use Rattle.nd_run.specs.Endings.{Ending, Finished, BadAt, OutOfMemory, ending_text, status_of, is_no_input, LacksMemory, Ends}
+use Rattle.nd_run.specs.Endings.{Ending, Finished, BadAt, OutOfMemory, ending_text, status_of, is_no_input, StopsForMemory, Ends}
 use Rattle.nd_run.specs.Meaning.{Runs, Stops}
 
 -- the end of a script's run
@@ -58,7 +58,7 @@ module _ {R W : Type 0} (remaining : R → Option (List ℕ)) (contents : W → 
   -- memory may be refused behind some replies, and the writer took these and the line that tells it
   abbrev pub TellsWant : Watched R → Watched W → Watched W → Type 0
   TellsWant input old new =
-      IfSome (remaining (watched_inner input)) (λ bytes. (replies : List (Said ℤ)) × LacksMemory Runs Stops bytes replies × Took contents old new (ending_text (OutOfMemory replies)))
+      IfSome (remaining (watched_inner input)) (λ bytes. (replies : List (Said ℤ)) × StopsForMemory Runs Stops bytes replies × Took contents old new (ending_text (OutOfMemory replies)))
 
   -- after a failed write, the writer took a beginning of the text of an end that the bytes may have
   abbrev pub TellsBeginning : Watched R → Watched R → Watched W → Watched W → Type 0

@@ -69,14 +69,14 @@ Loads view bytes (Err outcome) = EndsUnloaded bytes (ending outcome)
 
 module _ (Runs : AskedScript → List (Said ℤ) → List ℕ → List ℤ → Type 0) (Stops : AskedScript → List (Said ℤ) → Type 0) where
   -- memory may be refused on these bytes behind these replies: where there are none, while the bytes are read
-  abbrev pub LacksMemory : List ℕ → List (Said ℤ) → Type 0
-  LacksMemory bytes replies = ((0 < length bytes) × (replies ≡ [])) ⊎ ((script : AskedScript) × IsScript (lines_of bytes) script × Stops script replies)
+  abbrev pub StopsForMemory : List ℕ → List (Said ℤ) → Type 0
+  StopsForMemory bytes replies = ((0 < length bytes) × (replies ≡ [])) ⊎ ((script : AskedScript) × IsScript (lines_of bytes) script × Stops script replies)
 
   -- how a script in these bytes may end
   abbrev pub Ends : List ℕ → Ending → Type 0
   Ends bytes (Finished replies lengths elements) = (script : AskedScript) × IsScript (lines_of bytes) script × Runs script replies lengths elements
   Ends bytes (BadAt number) = IsFirstBad (lines_of bytes) number
-  Ends bytes (OutOfMemory replies) = LacksMemory bytes replies
+  Ends bytes (OutOfMemory replies) = StopsForMemory bytes replies
   Ends bytes NoInput = Unit {0}
 
   -- how running a script may end

@@ -19,7 +19,7 @@ use Rattle.nd_shape_and_slice.specs.Shape.{nonzero_product, size_of}
 use Rattle.nd_array_core.specs.along.Selected.{selected_shape, selected_index}
 use Rattle.nd_array_core.specs.along.Removed.{removed_shape, removed_index}
 use Rattle.nd_array_core.specs.reshape.Serving.{regrouped_meaning}
-use Rattle.nd_run.specs.Steps.{Test, first_failed, has_axis, has_size, has_coordinate, tests_of, keep_tests, refusal, unless, step_shape, step_index, shape_along, index_along}
+use Rattle.nd_run.specs.Steps.{Test, first_failed, has_axis, size_test, has_coordinate, tests_of, keep_tests, refusal, unless, step_shape, step_index, shape_along, index_along}
 use Rattle.nd_run.specs.Acts.{path_tests, meaning_at_end, write_tests, written, split_tests, split_written, clones}
 use Rattle.nd_run.specs.declared.calls.Reply.{Reply}
 use Rattle.nd_run.specs.declared.run.RunFault.{RunFault}
@@ -106,18 +106,18 @@ ask_tests path question ns = path_tests tests_of path ns ++ question_tests quest
 abbrev pub select_tests : ℕ → List ℕ → List ℕ → List Test
 select_tests axis indexes ns =
     has_axis axis ns ∷ (list_all (λ k. nat_lt k (slice_index ns axis)) indexes, causes.Index)
-    ∷ has_size (selected_shape ns axis indexes) ∷ []
+    ∷ size_test (selected_shape ns axis indexes) ∷ []
 
 -- the tests of an array of other lengths behind this one along an axis: it has as many axes, and each length but the axis's is
 -- this one's, or 1
 abbrev pub append_tests : ℕ → List ℕ → List ℕ → List Test
 append_tests axis ms ns =
     (nat_lt 0 (length ns), causes.Shape) ∷ has_axis axis ns ∷ (stretches ms (shape_behind ns ms axis), causes.Shape)
-    ∷ has_size (concatenated_shape ns ms axis) ∷ []
+    ∷ size_test (concatenated_shape ns ms axis) ∷ []
 
 -- the tests of room for more lengths of an axis
 abbrev pub reserve_tests : ℕ → ℕ → List ℕ → List Test
-reserve_tests axis additional ns = has_axis axis ns ∷ has_size (slice_set ns axis (slice_index ns axis + additional)) ∷ []
+reserve_tests axis additional ns = has_axis axis ns ∷ size_test (slice_set ns axis (slice_index ns axis + additional)) ∷ []
 
 -- how many lengths of an axis an array of these lengths and others have together, and the lengths once they are behind it
 abbrev pub lengths_with : {A : Type 0} → ℕ → List (Meaning A) → List ℕ → ℕ
@@ -130,7 +130,7 @@ joined_shape axis others ns = slice_set ns axis (lengths_with axis others ns)
 abbrev pub concatenate_tests : {A : Type 0} → ℕ → List (Meaning A) → List ℕ → List Test
 concatenate_tests axis others ns =
     has_axis axis ns ∷ (list_all (λ n. is_alike_but axis ns n.shape) others, causes.Shape)
-    ∷ has_size (joined_shape axis others ns) ∷ []
+    ∷ size_test (joined_shape axis others ns) ∷ []
 
 -- this array and others beside it along a new axis
 abbrev pub stack_of : {A : Type 0} → ℕ → Meaning A → List (Meaning A) → Meaning A
@@ -140,7 +140,7 @@ stack_of axis m others = followed_by axis (with_axis_inserted axis m) (map (with
 abbrev pub stack_tests : {A : Type 0} → ℕ → List (Meaning A) → List ℕ → List Test
 stack_tests axis others ns =
     (nat_le axis (length ns), causes.Axis) ∷ (nat_lt (length ns) 32, causes.TooManyAxes)
-    ∷ (list_all (λ n. pointwise nat_eq n.shape ns) others, causes.Shape) ∷ has_size (insert ns axis (length others + 1)) ∷ []
+    ∷ (list_all (λ n. pointwise nat_eq n.shape ns) others, causes.Shape) ∷ size_test (insert ns axis (length others + 1)) ∷ []
 
 abbrev pub tests_for : {A : Type 0} → Asked A → List ℕ → List Test
 tests_for (Keeping step) ns = keep_tests step ns

@@ -49,8 +49,8 @@ abbrev pub IsCounted : {X : Type 0} → (List (List ℕ) → X → Type 0) → L
 IsCounted Is words xs = IsBoth (IsWord IsNat) (AreInTurn Is) words (length xs, xs)
 
 -- a keyword, and then what stands behind it
-abbrev pub IsNamed : {X : Type 0} → (Keyword → List (List ℕ) → X → Type 0) → List (List ℕ) → X → Type 0
-IsNamed Behind words x = (name : Keyword) × (rest : List (List ℕ)) × (words ≡ spelling name ∷ rest) × Behind name rest x
+abbrev pub HasKeyword : {X : Type 0} → (Keyword → List (List ℕ) → X → Type 0) → List (List ℕ) → X → Type 0
+HasKeyword Behind words x = (name : Keyword) × (rest : List (List ℕ)) × (words ≡ spelling name ∷ rest) × Behind name rest x
 
 abbrev pub IsSlashBehind : Keyword → List (List ℕ) → Unit {0} → Type 0
 IsSlashBehind Slash words it = IsBare tt words it
@@ -58,7 +58,7 @@ IsSlashBehind _ words it = ⊥
 
 -- a slash after it
 abbrev pub IsSlashed : {X : Type 0} → (List (List ℕ) → X → Type 0) → List (List ℕ) → X → Type 0
-IsSlashed Is words x = IsMade (λ p. p.0) (IsBoth Is (IsNamed IsSlashBehind)) words x
+IsSlashed Is words x = IsMade (λ p. p.0) (IsBoth Is (HasKeyword IsSlashBehind)) words x
 
 -- ---- numbers, lists and arrays
 
@@ -75,7 +75,7 @@ IsOrderBehind _ words order = ⊥
 
 -- an order, and a list of lengths
 abbrev pub IsOrderedList : List (List ℕ) → Order × List ℕ → Type 0
-IsOrderedList words shape = IsBoth (IsNamed IsOrderBehind) IsList words shape
+IsOrderedList words shape = IsBoth (HasKeyword IsOrderBehind) IsList words shape
 
 -- the array of these lengths with these elements in row-major order
 abbrev pub array_of : {A : Type 0} → List ℕ → List A → Meaning A
@@ -111,7 +111,7 @@ IsElementBehind New words element = IsBare NewAxis words element
 IsElementBehind _ words element = ⊥
 
 abbrev pub IsElement : List (List ℕ) → SliceInfoElem → Type 0
-IsElement words element = IsNamed IsElementBehind words element
+IsElement words element = HasKeyword IsElementBehind words element
 
 -- ---- steps, questions, acts and calls: a row for each keyword
 
@@ -131,12 +131,12 @@ IsStepBehind Diag words step = IsBare Diagonal words step
 IsStepBehind Broadcast words step = IsMade BroadcastTo IsList words step
 IsStepBehind _ words step = ⊥
 
-abbrev pub IsStep : List (List ℕ) → AskedStep → Type 0
-IsStep words step = IsNamed IsStepBehind words step
+abbrev pub IsStepText : List (List ℕ) → AskedStep → Type 0
+IsStepText words step = HasKeyword IsStepBehind words step
 
 -- any number of steps, each followed by a slash
 abbrev pub IsPath : List (List ℕ) → List AskedStep → Type 0
-IsPath words path = AreInTurn (IsSlashed IsStep) words path
+IsPath words path = AreInTurn (IsSlashed IsStepText) words path
 
 abbrev pub IsQuestionBehind : Keyword → List (List ℕ) → Asking ℤ → Type 0
 IsQuestionBehind Shape words question = IsBare AskShape words question
@@ -150,7 +150,7 @@ IsQuestionBehind Reshape words question = IsMade (λ x. AskReshaped x.1 x.0) IsO
 IsQuestionBehind _ words question = ⊥
 
 abbrev pub IsQuestion : List (List ℕ) → Asking ℤ → Type 0
-IsQuestion words question = IsNamed IsQuestionBehind words question
+IsQuestion words question = HasKeyword IsQuestionBehind words question
 
 abbrev pub IsActBehind : Keyword → List (List ℕ) → Acting ℤ → Type 0
 IsActBehind Fill words act = IsMade Filling (IsWord IsInt) words act
@@ -160,10 +160,10 @@ IsActBehind Swap words act = IsMade (λ x. Swapping x.0 x.1) (IsBoth IsList IsLi
 IsActBehind _ words act = ⊥
 
 abbrev pub IsAct : List (List ℕ) → Acting ℤ → Type 0
-IsAct words act = IsNamed IsActBehind words act
+IsAct words act = HasKeyword IsActBehind words act
 
 abbrev pub IsCallBehind : Keyword → List (List ℕ) → Asked ℤ → Type 0
-IsCallBehind Keep words call = IsMade Keeping IsStep words call
+IsCallBehind Keep words call = IsMade Keeping IsStepText words call
 IsCallBehind Ask words call = IsMade (λ x. About x.0 x.1) (IsBoth IsPath IsQuestion) words call
 IsCallBehind Write words call = IsMade (λ x. Writing x.0 x.1) (IsBoth IsPath IsAct) words call
 IsCallBehind Split words call = IsMade (λ x. SplitWriting x.0.0 x.0.1 x.1.0 x.1.1) (IsBoth IsPair (IsBoth (IsSlashed IsAct) IsAct)) words call
@@ -179,7 +179,7 @@ IsCallBehind _ words call = ⊥
 
 -- the words of a line are this call
 abbrev pub IsCall : List (List ℕ) → Asked ℤ → Type 0
-IsCall words call = IsNamed IsCallBehind words call
+IsCall words call = HasKeyword IsCallBehind words call
 
 abbrev pub IsStartBehind : Keyword → List (List ℕ) → Meaning ℤ → Type 0
 IsStartBehind Start words array = IsArray words array
@@ -187,4 +187,4 @@ IsStartBehind _ words array = ⊥
 
 -- the words of a line start a script with this array
 abbrev pub IsStart : List (List ℕ) → Meaning ℤ → Type 0
-IsStart words array = IsNamed IsStartBehind words array
+IsStart words array = HasKeyword IsStartBehind words array

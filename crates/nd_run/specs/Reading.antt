@@ -141,11 +141,11 @@ arrays_at words = counted_at array_at words
 
 -- ---- slices
 
-abbrev pub end_of : List ℕ → Option (Option ℤ)
-end_of word = if bytes_eq word (codes "_") then Some None else option_map Some (int_of word)
+abbrev pub slice_end_of : List ℕ → Option (Option ℤ)
+slice_end_of word = if bytes_eq word (codes "_") then Some None else option_map Some (int_of word)
 
 abbrev pub slice_at : List (List ℕ) → Option (Slice × List (List ℕ))
-slice_at words = map_read (λ x. record { start = x.0; end = x.1.0; step = x.1.1 }) (both_at (first_as int_of) (both_at (first_as end_of) (first_as int_of)) words)
+slice_at words = map_read (λ x. record { start = x.0; end = x.1.0; step = x.1.1 }) (both_at (first_as int_of) (both_at (first_as slice_end_of) (first_as int_of)) words)
 
 abbrev pub element_by : Keyword → List (List ℕ) → Option (SliceInfoElem × List (List ℕ))
 element_by Part words = map_read (λ s. Cutting s.start s.end s.step) (slice_at words)
@@ -153,14 +153,14 @@ element_by Coordinate words = map_read At (first_as int_of words)
 element_by New words = Some (NewAxis, words)
 element_by _ words = None
 
-abbrev pub element_at : List (List ℕ) → Option (SliceInfoElem × List (List ℕ))
-element_at words = named_at element_by words
+abbrev pub slice_element_at : List (List ℕ) → Option (SliceInfoElem × List (List ℕ))
+slice_element_at words = named_at element_by words
 
 -- ---- steps, questions, acts and calls: a row for each keyword
 
 abbrev pub step_by : Keyword → List (List ℕ) → Option (AskedStep × List (List ℕ))
 step_by Cut words = map_read (λ x. SlicedAxis x.0 x.1) (both_at (first_as nat_of) slice_at words)
-step_by SliceWord words = map_read Sliced (counted_at element_at words)
+step_by SliceWord words = map_read Sliced (counted_at slice_element_at words)
 step_by Collapse words = map_read (λ x. Collapsed x.0 x.1) (pair_at words)
 step_by Index words = map_read (λ x. Indexed x.0 x.1) (pair_at words)
 step_by Permute words = map_read Permuted (list_at words)
@@ -243,12 +243,12 @@ call_of n words = do
   call ← call_at n words
   read_to_end call
 
-abbrev pub start_by : Keyword → List (List ℕ) → Option (Meaning ℤ × List (List ℕ))
-start_by Start words = array_at words
-start_by _ words = None
+abbrev pub start_word_by : Keyword → List (List ℕ) → Option (Meaning ℤ × List (List ℕ))
+start_word_by Start words = array_at words
+start_word_by _ words = None
 
 -- the array that the words of a line start with
 unfoldable pub start_of : List (List ℕ) → Option (Meaning ℤ)
 start_of words = do
-  start ← named_at start_by words
+  start ← named_at start_word_by words
   read_to_end start

@@ -26,8 +26,8 @@ abbrev pub has_axis : ℕ → List ℕ → Test
 has_axis axis ns = (nat_lt axis (length ns), causes.Axis)
 
 -- the lengths have a checked size
-abbrev pub has_size : List ℕ → Test
-has_size ns = (nat_lt (nonzero_product ns) (2 ^ 63), causes.Overflow)
+abbrev pub size_test : List ℕ → Test
+size_test ns = (nat_lt (nonzero_product ns) (2 ^ 63), causes.Overflow)
 
 abbrev pub has_coordinate : ℕ → ℕ → List ℕ → Test
 has_coordinate axis index ns = (nat_lt index (slice_index ns axis), causes.Index)

@@ -6,7 +6,7 @@ ghost use Rattle.std.specs.List.{insert, list_all};
 ghost use Rattle.nd_array_core.specs.Meaning.{meaning_of, shape_of};
 ghost use Rattle.nd_array_core.specs.growth.InTurn.{meanings_of};
 ghost use Rattle.nd_stacking.specs.Stacking.{followed_by, is_alike_but};
-ghost use Rattle.nd_run.specs.Steps.{Refuses, first_failed, has_size};
+ghost use Rattle.nd_run.specs.Steps.{Refuses, first_failed, size_test};
 ghost use Rattle.nd_run.specs.Calls.{Concatenating, Stacking};
 ghost use Rattle.nd_run.specs.Fold.{concatenate_tests, joined_shape, lengths_with, stack_of, stack_tests, CarriesOut};
 
@@ -69,7 +69,7 @@ fn lengths_together<A, T: Holds<A>>(
 /// Whether the array has a checked size with the others behind it.
 fn fit_behind<A, T: Holds<A>>(array: &Array<A, IxDyn>, axis: usize, others: &[T]) -> bool
     requires { axis < length (shape_of array.now) }
-    ensures { result ≡ (has_size (joined_shape axis (map T.held others.now) (shape_of array.now))).0 }
+    ensures { result ≡ (size_test (joined_shape axis (map T.held others.now) (shape_of array.now))).0 }
 {
     let mut joined = array.raw_dim();
     match lengths_together(array, axis, others) {
@@ -112,7 +112,7 @@ fn are_equal<A, T: Holds<A>>(array: &Array<A, IxDyn>, others: &[T]) -> bool
 fn fit_beside<A>(array: &Array<A, IxDyn>, axis: usize, others: usize) -> bool
     requires place { axis ≤ length (shape_of array.now) }
     requires room { length (shape_of array.now) < 32 }
-    ensures { result ≡ (has_size (insert (shape_of array.now) axis (others + 1))).0 }
+    ensures { result ≡ (size_test (insert (shape_of array.now) axis (others + 1))).0 }
 {
     match others.checked_add(1) {
         Some(count) => {

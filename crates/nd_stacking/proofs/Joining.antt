@@ -20,7 +20,7 @@ use Rattle.nd_array_core.specs.Laws.{NothingOutside}
 use Rattle.nd_array_core.specs.Meaning.{Meaning, inside}
 use Rattle.nd_array_core.specs.growth.InTurn.{FitInTurn, joined_in_turn, lengths_along}
 use Rattle.nd_stacking.proofs.Alike.{fits_alike, same_meaning, unbroadcast}
-use Rattle.nd_stacking.specs.Stacking.{concatenation_refusal, concatenation_shape, followed_by, has_size, is_alike_but, two_behind, AreLengthsTogether, IsConcatenation}
+use Rattle.nd_stacking.specs.Stacking.{concatenation_refusal, concatenation_shape, followed_by, is_checked_size, is_alike_but, two_behind, AreLengthsTogether, IsConcatenation}
 
 -- the first cause of three, where tests fail
 abbrev pub cause : Bool → Bool → Bool → Option ErrorKind
@@ -182,7 +182,7 @@ module _ {A : Type 0} where
   fit axis m ms e =
       let on = passed (nat_lt axis (length m.shape)) OutOfBounds _ e in
       let alike = passed (list_all (λ n. is_alike_but axis m.shape n.shape) (m ∷ ms)) IncompatibleShape _ on.1 in
-      let size = passed (has_size (concatenation_shape axis (m ∷ ms))) Overflow None alike.1 in record {
+      let size = passed (is_checked_size (concatenation_shape axis (m ∷ ms))) Overflow None alike.1 in record {
         on = ltb-true axis (length m.shape) on.0;
         alike = λ nth n at. all_pass (λ n. is_alike_but axis m.shape n.shape) (m ∷ ms) nth n alike.0 at;
         checked = ltb-true (nonzero_product (set m.shape axis (lengths_along axis (m ∷ ms)))) (2 ^ 63) size.0;
@@ -207,29 +207,29 @@ module _ {A : Type 0} where
   no_axis axis [] m s at is above = absurd cc
   no_axis axis (k ∷ ks) m s at is above =
       let same = first_shape k ks m s at is in
-      ap (λ t. cause t (list_all (λ n. is_alike_but axis k.shape n.shape) (k ∷ ks)) (has_size (concatenation_shape axis (k ∷ ks)))) (le-ltb axis (length k.shape) (subst (λ l. length l ≤ axis) same above))
+      ap (λ t. cause t (list_all (λ n. is_alike_but axis k.shape n.shape) (k ∷ ks)) (is_checked_size (concatenation_shape axis (k ∷ ks)))) (le-ltb axis (length k.shape) (subst (λ l. length l ≤ axis) same above))
 
   pub unlike : (axis : ℕ) (ms : List (Meaning A)) (m : Meaning A) (s : List ℕ) → slice_get ms 0 ≡ Some m → s ≡ m.shape → axis < length s → list_all (λ n. is_alike_but axis s n.shape) ms ≡ false → concatenation_refusal axis ms ≡ Some IncompatibleShape
   unlike axis [] m s at is on other = absurd cc
   unlike axis (k ∷ ks) m s at is on other =
       let same = first_shape k ks m s at is in
-      ap (λ t. cause t (list_all (λ n. is_alike_but axis k.shape n.shape) (k ∷ ks)) (has_size (concatenation_shape axis (k ∷ ks)))) (lt-ltb axis (length k.shape) (subst (λ l. axis < length l) same on))
-      ∙ ap (λ t. cause true t (has_size (concatenation_shape axis (k ∷ ks)))) (subst (λ l. list_all (λ n. is_alike_but axis l n.shape) (k ∷ ks) ≡ false) same other)
+      ap (λ t. cause t (list_all (λ n. is_alike_but axis k.shape n.shape) (k ∷ ks)) (is_checked_size (concatenation_shape axis (k ∷ ks)))) (lt-ltb axis (length k.shape) (subst (λ l. axis < length l) same on))
+      ∙ ap (λ t. cause true t (is_checked_size (concatenation_shape axis (k ∷ ks)))) (subst (λ l. list_all (λ n. is_alike_but axis l n.shape) (k ∷ ks) ≡ false) same other)
 
   passing : (axis : ℕ) (ms : List (Meaning A)) (m : Meaning A) (s : List ℕ) (t : Bool) → slice_get ms 0 ≡ Some m → s ≡ m.shape → axis < length s → list_all (λ n. is_alike_but axis s n.shape) ms ≡ true
-      → has_size (set s axis (lengths_along axis ms)) ≡ t → concatenation_refusal axis ms ≡ cond t None (Some Overflow)
+      → is_checked_size (set s axis (lengths_along axis ms)) ≡ t → concatenation_refusal axis ms ≡ cond t None (Some Overflow)
   passing axis [] m s t at is on all size = absurd cc
   passing axis (k ∷ ks) m s t at is on all size =
       let same = first_shape k ks m s at is in
-      ap (λ t. cause t (list_all (λ n. is_alike_but axis k.shape n.shape) (k ∷ ks)) (has_size (concatenation_shape axis (k ∷ ks)))) (lt-ltb axis (length k.shape) (subst (λ l. axis < length l) same on))
-      ∙ (ap (λ t. cause true t (has_size (concatenation_shape axis (k ∷ ks)))) (subst (λ l. list_all (λ n. is_alike_but axis l n.shape) (k ∷ ks) ≡ true) same all)
-      ∙ ap (cause true true) (ap (λ l. has_size (set l axis (lengths_along axis (k ∷ ks)))) (sym same) ∙ size))
+      ap (λ t. cause t (list_all (λ n. is_alike_but axis k.shape n.shape) (k ∷ ks)) (is_checked_size (concatenation_shape axis (k ∷ ks)))) (lt-ltb axis (length k.shape) (subst (λ l. axis < length l) same on))
+      ∙ (ap (λ t. cause true t (is_checked_size (concatenation_shape axis (k ∷ ks)))) (subst (λ l. list_all (λ n. is_alike_but axis l n.shape) (k ∷ ks) ≡ true) same all)
+      ∙ ap (cause true true) (ap (λ l. is_checked_size (set l axis (lengths_along axis (k ∷ ks)))) (sym same) ∙ size))
 
   pub joined_lengths : (axis : ℕ) (ms : List (Meaning A)) (m : Meaning A) (s ls : List ℕ) → slice_get ms 0 ≡ Some m → s ≡ m.shape → axis < length s → list_all (λ n. is_alike_but axis s n.shape) ms ≡ true
       → ls ≡ set s axis (lengths_along axis ms) → HasCheckedSize ls → AreLengthsTogether axis ms ls
   joined_lengths axis [] m s ls at is on all are checked = absurd cc
   joined_lengths axis (k ∷ ks) m s ls at is on all are checked = (
-    passing axis (k ∷ ks) m s true at is on all (ap has_size (sym are) ∙ lt-ltb (nonzero_product ls) (2 ^ 63) checked),
+    passing axis (k ∷ ks) m s true at is on all (ap is_checked_size (sym are) ∙ lt-ltb (nonzero_product ls) (2 ^ 63) checked),
     are ∙ ap (λ l. set l axis (lengths_along axis (k ∷ ks))) (first_shape k ks m s at is),
   )
 

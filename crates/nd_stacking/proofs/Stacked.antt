@@ -14,7 +14,7 @@ use Rattle.nd_shape_and_slice.specs.declared.errors.ErrorKind.TheVariants.{Incom
 use Rattle.nd_array_core.specs.Laws.{with_axis_inserted}
 use Rattle.nd_array_core.specs.Meaning.{Meaning}
 use Rattle.nd_array_core.specs.growth.InTurn.{lengths_along, ClonesOfEachAreEqual}
-use Rattle.nd_stacking.specs.Stacking.{concatenation_shape, has_size, is_alike_but, stack_refusal, AreLengthsTogether, HasRoomForAxis}
+use Rattle.nd_stacking.specs.Stacking.{concatenation_shape, is_checked_size, is_alike_but, stack_refusal, AreLengthsTogether, HasRoomForAxis}
 use Rattle.nd_stacking.proofs.Joining.{all_pass, cause, false_from_not, inside_some, mapped_back, passed}
 
 -- a length put in, and another one in its place
@@ -64,8 +64,8 @@ module _ {A : Type 0} (axis : ℕ) where
       let wide = length-insert m.shape axis 1 within in
       let on : axis < length (insert m.shape axis 1) = omega (arith, wide, within) in
       let shape : lengths ≡ concatenation_shape axis (map (with_axis_inserted axis) (m ∷ ms)) = is ∙ sym (ap (set (insert m.shape axis 1) axis) (inserted_count m.shape (m ∷ ms) within all)) in (
-        ap (λ t. cause t (list_all (λ n. is_alike_but axis (insert m.shape axis 1) n.shape) (map (with_axis_inserted axis) (m ∷ ms))) (has_size (concatenation_shape axis (map (with_axis_inserted axis) (m ∷ ms))))) (lt-ltb axis (length (insert m.shape axis 1)) on)
-            ∙ (ap (λ t. cause true t (has_size (concatenation_shape axis (map (with_axis_inserted axis) (m ∷ ms))))) (inserted_alike m.shape (m ∷ ms) within all)
+        ap (λ t. cause t (list_all (λ n. is_alike_but axis (insert m.shape axis 1) n.shape) (map (with_axis_inserted axis) (m ∷ ms))) (is_checked_size (concatenation_shape axis (map (with_axis_inserted axis) (m ∷ ms))))) (lt-ltb axis (length (insert m.shape axis 1)) on)
+            ∙ (ap (λ t. cause true t (is_checked_size (concatenation_shape axis (map (with_axis_inserted axis) (m ∷ ms))))) (inserted_alike m.shape (m ∷ ms) within all)
             ∙ ap (cause true true) (lt-ltb (nonzero_product (concatenation_shape axis (map (with_axis_inserted axis) (m ∷ ms)))) (2 ^ 63) (subst HasCheckedSize shape checked))),
         shape,
       )
@@ -86,35 +86,35 @@ module _ {A : Type 0} (axis : ℕ) where
   no_place [] m s at is above = absurd cc
   no_place (k ∷ ks) m s at is above =
       let same = first_shape k ks m s at is in
-      ap (λ t. cause t (list_all (λ n. pointwise nat_eq n.shape k.shape) (k ∷ ks)) (has_size (insert k.shape axis (length (k ∷ ks))))) (not_within axis (length k.shape) (subst (λ l. length l < axis) same above))
+      ap (λ t. cause t (list_all (λ n. pointwise nat_eq n.shape k.shape) (k ∷ ks)) (is_checked_size (insert k.shape axis (length (k ∷ ks))))) (not_within axis (length k.shape) (subst (λ l. length l < axis) same above))
 
   pub other_shape : (ms : List (Meaning A)) (m : Meaning A) (s : List ℕ) → slice_get ms 0 ≡ Some m → s ≡ m.shape → axis ≤ length s → list_all (λ n. pointwise nat_eq n.shape s) ms ≡ false → stack_refusal axis ms ≡ Some IncompatibleShape
   other_shape [] m s at is within other = absurd cc
   other_shape (k ∷ ks) m s at is within other =
       let same = first_shape k ks m s at is in
-      ap (λ t. cause t (list_all (λ n. pointwise nat_eq n.shape k.shape) (k ∷ ks)) (has_size (insert k.shape axis (length (k ∷ ks))))) (le-leb axis (length k.shape) (subst (λ l. axis ≤ length l) same within))
-      ∙ ap (λ t. cause true t (has_size (insert k.shape axis (length (k ∷ ks))))) (subst (λ l. list_all (λ n. pointwise nat_eq n.shape l) (k ∷ ks) ≡ false) same other)
+      ap (λ t. cause t (list_all (λ n. pointwise nat_eq n.shape k.shape) (k ∷ ks)) (is_checked_size (insert k.shape axis (length (k ∷ ks))))) (le-leb axis (length k.shape) (subst (λ l. axis ≤ length l) same within))
+      ∙ ap (λ t. cause true t (is_checked_size (insert k.shape axis (length (k ∷ ks))))) (subst (λ l. list_all (λ n. pointwise nat_eq n.shape l) (k ∷ ks) ≡ false) same other)
 
   -- arrays that pass the tests, up to the size
   passing : (ms : List (Meaning A)) (m : Meaning A) (s : List ℕ) (t : Bool) → slice_get ms 0 ≡ Some m → s ≡ m.shape → axis ≤ length s → list_all (λ n. pointwise nat_eq n.shape s) ms ≡ true
-      → has_size (set (insert s axis 1) axis (length ms)) ≡ t → stack_refusal axis ms ≡ cond t None (Some Overflow)
+      → is_checked_size (set (insert s axis 1) axis (length ms)) ≡ t → stack_refusal axis ms ≡ cond t None (Some Overflow)
   passing [] m s t at is within all size = absurd cc
   passing (k ∷ ks) m s t at is within all size =
       let same = first_shape k ks m s at is in
       let wide : axis ≤ length k.shape = subst (λ l. axis ≤ length l) same within in
-      ap (λ t. cause t (list_all (λ n. pointwise nat_eq n.shape k.shape) (k ∷ ks)) (has_size (insert k.shape axis (length (k ∷ ks))))) (le-leb axis (length k.shape) wide)
-      ∙ (ap (λ t. cause true t (has_size (insert k.shape axis (length (k ∷ ks))))) (subst (λ l. list_all (λ n. pointwise nat_eq n.shape l) (k ∷ ks) ≡ true) same all)
-      ∙ ap (cause true true) (ap has_size (sym (ap (λ l. set (insert l axis 1) axis (length (k ∷ ks))) same ∙ set_inserted k.shape axis 1 (length (k ∷ ks)) wide)) ∙ size))
+      ap (λ t. cause t (list_all (λ n. pointwise nat_eq n.shape k.shape) (k ∷ ks)) (is_checked_size (insert k.shape axis (length (k ∷ ks))))) (le-leb axis (length k.shape) wide)
+      ∙ (ap (λ t. cause true t (is_checked_size (insert k.shape axis (length (k ∷ ks))))) (subst (λ l. list_all (λ n. pointwise nat_eq n.shape l) (k ∷ ks) ≡ true) same all)
+      ∙ ap (cause true true) (ap is_checked_size (sym (ap (λ l. set (insert l axis 1) axis (length (k ∷ ks))) same ∙ set_inserted k.shape axis 1 (length (k ∷ ks)) wide)) ∙ size))
 
   pub stack_fits : (ms : List (Meaning A)) (m : Meaning A) (s ls : List ℕ) → slice_get ms 0 ≡ Some m → s ≡ m.shape → axis ≤ length s → list_all (λ n. pointwise nat_eq n.shape s) ms ≡ true
       → ls ≡ set (insert s axis 1) axis (length ms) → HasCheckedSize ls → stack_refusal axis ms ≡ None
   stack_fits ms m s ls at is within all are checked =
-      passing ms m s true at is within all (ap has_size (sym are) ∙ lt-ltb (nonzero_product ls) (2 ^ 63) checked)
+      passing ms m s true at is within all (ap is_checked_size (sym are) ∙ lt-ltb (nonzero_product ls) (2 ^ 63) checked)
 
   pub stack_too_large : (ms : List (Meaning A)) (m : Meaning A) (s ls : List ℕ) → slice_get ms 0 ≡ Some m → s ≡ m.shape → axis ≤ length s → list_all (λ n. pointwise nat_eq n.shape s) ms ≡ true
       → ls ≡ set (insert s axis 1) axis (length ms) → (HasCheckedSize ls → ⊥) → stack_refusal axis ms ≡ Some Overflow
   stack_too_large ms m s ls at is within all are large =
-      passing ms m s false at is within all (ap has_size (sym are) ∙ false_from_not (nonzero_product ls) (2 ^ 63) large)
+      passing ms m s false at is within all (ap is_checked_size (sym are) ∙ false_from_not (nonzero_product ls) (2 ^ 63) large)
 
   pub stack_lengths : (ms : List (Meaning A)) (m : Meaning A) (s ls : List ℕ) → slice_get ms 0 ≡ Some m → s ≡ m.shape → axis ≤ length s → list_all (λ n. pointwise nat_eq n.shape s) ms ≡ true
       → ls ≡ set (insert s axis 1) axis (length ms) → HasCheckedSize ls → AreLengthsTogether axis (map (with_axis_inserted axis) ms) ls

@@ -17,7 +17,7 @@ use Rattle.nd_array_core.specs.Joined.{row_major_elements}
 use Rattle.nd_array_core.specs.growth.InTurn.{lengths_along}
 use Rattle.nd_array_core.specs.reshape.Regrouping.{ListsByRank}
 use Rattle.nd_stacking.specs.Stacking.{followed_by, two_behind, AreLengthsTogether, IsConcatenation}
-use Rattle.nd_stacking.specs.Weaving.{row_of, rows_below, run_in, run_of, size_before, size_behind, woven, AreElementsOf, EachIs, HasRun, IsByRank}
+use Rattle.nd_stacking.specs.Weaving.{row_of, rows_below, run_in, run_of, size_before, size_behind, woven, AreElementsOf, EachIs, HasWholeRun, IsByRank}
 use Rattle.nd_stacking.proofs.Alike.{same_meaning}
 use Rattle.nd_stacking.proofs.Joining.{alike_with, fit, take_next}
 use Rattle.nd_stacking.proofs.Boxed.{and_true, both_true, box_set}
@@ -296,10 +296,10 @@ module _ {A : Type 0} where
       let on = f.on in
       omega (arith, long, on)
 
-  pub runs_there : (axis behind rows : ℕ) (ms : List (Meaning A)) (ls : List ℕ) → AreLengthsTogether axis ms ls → EachIs IsByRank ms → rows ≡ size_before axis ls → behind ≡ size_behind axis ls → (row : ℕ) → row < rows → EachIs (HasRun axis behind row) ms
+  pub runs_there : (axis behind rows : ℕ) (ms : List (Meaning A)) (ls : List ℕ) → AreLengthsTogether axis ms ls → EachIs IsByRank ms → rows ≡ size_before axis ls → behind ≡ size_behind axis ls → (row : ℕ) → row < rows → EachIs (HasWholeRun axis behind row) ms
   runs_there axis behind rows [] ls are ranks before beside row below = absurd (not_none Unsupported are.0)
   runs_there axis behind rows (m ∷ ms) ls are ranks before beside row below =
-      subst (λ b. EachIs (HasRun axis b row) (m ∷ ms)) (sym beside)
+      subst (λ b. EachIs (HasWholeRun axis b row) (m ∷ ms)) (sym beside)
       (λ nth n at. run_fits ls axis (axis_there axis m ms ls are) n (pieces_of axis m ms ls are ranks nth n at) row (subst (λ r. row < r) before below))
 
   pub runs_together : (axis behind rows : ℕ) (ms : List (Meaning A)) (ls : List ℕ) → AreLengthsTogether axis ms ls → rows ≡ size_before axis ls → behind ≡ size_behind axis ls → size_of ls ≡ rows * (lengths_along axis ms * behind)

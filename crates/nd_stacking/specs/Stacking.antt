@@ -42,8 +42,8 @@ abbrev pub is_alike_but : ℕ → List ℕ → List ℕ → Bool
 is_alike_but axis ns ms = pointwise nat_eq (slice_set ms axis (slice_index ns axis)) ns
 
 -- the lengths have a checked size
-abbrev pub has_size : List ℕ → Bool
-has_size ns = nat_lt (nonzero_product ns) (2 ^ 63)
+abbrev pub is_checked_size : List ℕ → Bool
+is_checked_size ns = nat_lt (nonzero_product ns) (2 ^ 63)
 
 -- the lengths of the concatenation: those of the first array, but that the axis is as long as all together
 abbrev pub concatenation_shape : {A : Type 0} → ℕ → List (Meaning A) → List ℕ
@@ -57,7 +57,7 @@ concatenation_refusal axis [] = Some Unsupported
 concatenation_refusal axis (m ∷ ms) =
     if nat_lt axis (length m.shape)
     then (if list_all (λ n. is_alike_but axis m.shape n.shape) (m ∷ ms)
-    then (if has_size (concatenation_shape axis (m ∷ ms)) then None else Some Overflow)
+    then (if is_checked_size (concatenation_shape axis (m ∷ ms)) then None else Some Overflow)
     else Some IncompatibleShape)
     else Some OutOfBounds
 
@@ -71,7 +71,7 @@ stack_refusal axis [] = Some Unsupported
 stack_refusal axis (m ∷ ms) =
     if nat_le axis (length m.shape)
     then (if list_all (λ n. pointwise nat_eq n.shape m.shape) (m ∷ ms)
-    then (if has_size (insert m.shape axis (length (m ∷ ms))) then None else Some Overflow)
+    then (if is_checked_size (insert m.shape axis (length (m ∷ ms))) then None else Some Overflow)
     else Some IncompatibleShape)
     else Some OutOfBounds
 

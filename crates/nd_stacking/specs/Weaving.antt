@@ -43,8 +43,8 @@ module _ {A : Type 0} where
   woven axis behind rows ms = rows_below (λ row. row_of axis behind row ms) rows
 
   -- the array has as much as it gives to a row, and to each one before
-  abbrev pub HasRun : ℕ → ℕ → ℕ → Meaning A → Type 0
-  HasRun axis behind row m = row * run_length axis behind m + run_length axis behind m ≤ size_of m.shape
+  abbrev pub HasWholeRun : ℕ → ℕ → ℕ → Meaning A → Type 0
+  HasWholeRun axis behind row m = row * run_length axis behind m + run_length axis behind m ≤ size_of m.shape
 
   -- an array's elements are as many as its size, and stand at the ranks of their indexes
   abbrev pub IsByRank : Meaning A → Type 0

@@ -4,7 +4,7 @@ ghost use Rattle.std.specs.Prelude.{◌≡◌, ◌+◌, ◌*◌, ◌++◌, ◌<�
 ghost use Rattle.nd_array_core.specs.Meaning.{meaning_of};
 ghost use Rattle.nd_array_core.specs.growth.InTurn.{lengths_along, meanings_of, ClonesOfEachAreEqual};
 ghost use Rattle.nd_array_core.specs.reshape.RunSlices.{IsStandardArray};
-ghost use Rattle.nd_stacking.specs.Weaving.{row_of, run_length, run_of, size_before, size_behind, woven, AreElementsOf, EachIs, HasRun, IsByRank};
+ghost use Rattle.nd_stacking.specs.Weaving.{row_of, run_length, run_of, size_before, size_behind, woven, AreElementsOf, EachIs, HasWholeRun, IsByRank};
 
 use crate::fitting::length_at;
 use nd_array_core::ArrayView;
@@ -76,7 +76,7 @@ fn run_of<'a, A, D: Dimension>(
     row: usize,
 ) -> &'a [A]
     requires standard { IsStandardArray array.now }
-    requires within { HasRun axis behind row (meaning_of array.now) }
+    requires within { HasWholeRun axis behind row (meaning_of array.now) }
     ensures items { result.now ≡ run_of axis behind row (meaning_of array.now) }
     ensures len { length result.now ≡ run_length axis behind (meaning_of array.now) }
     ensures elements { AreElementsOf (meaning_of array.now) result.now }
@@ -102,7 +102,7 @@ fn with_row<A: Clone + Drop, D: Dimension>(
     row: usize,
 ) -> Result<Vec<A>, NoMemory>
     requires standard { EachIs (λ a. IsStandardArray a) arrays.now }
-    requires runs { EachIs (HasRun axis behind row) (meanings_of arrays.now) }
+    requires runs { EachIs (HasWholeRun axis behind row) (meanings_of arrays.now) }
     requires room { vec_len items + lengths_along axis (meanings_of arrays.now) * behind ≤ vec_capacity items }
     requires clones { ClonesOfEachAreEqual A.is_clone (meanings_of arrays.now) }
     ensures items { IfOk result (λ v. v.items ≡ items.items ++ row_of axis behind row (meanings_of arrays.now)) }
@@ -126,7 +126,7 @@ pub(crate) fn woven<A: Clone + Drop, D: Dimension>(
     count: usize,
 ) -> Result<Vec<A>, NoMemory>
     requires standard { EachIs (λ a. IsStandardArray a) arrays.now }
-    requires runs { (row : ℕ) → row < rows → EachIs (HasRun axis behind row) (meanings_of arrays.now) }
+    requires runs { (row : ℕ) → row < rows → EachIs (HasWholeRun axis behind row) (meanings_of arrays.now) }
     requires count { count ≡ rows * (lengths_along axis (meanings_of arrays.now) * behind) }
     requires clones { ClonesOfEachAreEqual A.is_clone (meanings_of arrays.now) }
     ensures items { IfOk result (λ v. v.items ≡ woven axis behind rows (meanings_of arrays.now)) }

@@ -20,8 +20,8 @@ use Rattle.nd_storage.specs.elements.Pairs.{IsOldOrOf, IsZippedTo, TakesPairs, Z
 abbrev pub shown_at : {A : Type 0} → (ℕ → Option A) → Placement → List ℕ → Option A
 shown_at stored p i = inside p.lengths i (stored_at stored (place_of p.offset p.strides i))
 
-abbrev pub place_at : Placement → List ℕ → Option ℕ
-place_at p i = inside p.lengths i (place_number (place_of p.offset p.strides i))
+abbrev pub place_named : Placement → List ℕ → Option ℕ
+place_named p i = inside p.lengths i (place_number (place_of p.offset p.strides i))
 
 -- the map has an element at each index
 abbrev pub HoldsEach : {A : Type 0} → (ℕ → Option A) → Placement → Type 0
@@ -29,7 +29,7 @@ HoldsEach stored p = HoldsAll stored p.offset p.lengths p.strides
 
 -- places that no index names hold what they held
 abbrev pub StaysBeside : {A : Type 0} → Placement → (ℕ → Option A) → (ℕ → Option A) → Type 0
-StaysBeside p old new = OthersStay (place_at p) old new
+StaysBeside p old new = OthersStay (place_named p) old new
 
 -- the places of a layout by row-major rank
 abbrev pub ranked : {D T P R L M : Type 0} {d : dimension.Ghosts D P R L M} {n : axis_count.Ghosts D} {r : stride_list.Ghosts R} {t : stride_list.Ghosts T} → Layout D T P R L M d n r t → ℕ → ℤ

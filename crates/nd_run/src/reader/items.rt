@@ -7,7 +7,7 @@ ghost use Rattle.nd_run.specs.Calls.{boxed};
 ghost use Rattle.nd_run.specs.Grammar.{array_of};
 ghost use Rattle.nd_text.specs.Numerals.{nat_of, int_of};
 ghost use Rattle.nd_text.specs.Words.{words_of};
-ghost use Rattle.nd_run.specs.Reading.{Gives, IsRead, TakesWords, word_at, first_as, many_at, counted_at, end_of, slice_at, element_at, order_at, lengths_at, parts_at, array_at, arrays_at, checked_size, keyword_at, slash_at, begins_step, read_to_end};
+ghost use Rattle.nd_run.specs.Reading.{Gives, IsRead, TakesWords, word_at, first_as, many_at, counted_at, slice_end_of, slice_at, slice_element_at, order_at, lengths_at, parts_at, array_at, arrays_at, checked_size, keyword_at, slash_at, begins_step, read_to_end};
 
 use crate::reader::Held;
 use crate::reader::fault::LineFault;
@@ -251,7 +251,7 @@ impl Item for isize {
 
 /// An end of a slice, which may be missing.
 impl Item for Option<isize> {
-    ghost read_at = { first_as end_of };
+    ghost read_at = { first_as slice_end_of };
 
     fn read(line: &mut Line<'_>) -> Result<Option<isize>, LineFault> {
         let word = line.word()?;
@@ -272,7 +272,7 @@ impl Item for Slice {
 }
 
 impl Item for SliceInfoElem {
-    ghost read_at = { element_at };
+    ghost read_at = { slice_element_at };
 
     #[tactic(auto, unfolding(crate::specs::Reading::named_at, crate::specs::Reading::map_read))]
     fn read(line: &mut Line<'_>) -> Result<SliceInfoElem, LineFault> {

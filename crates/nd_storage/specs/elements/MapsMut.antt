@@ -7,8 +7,8 @@ use Rattle.nd_storage.specs.elements.Maps.{AskableOfAll, HasAnswersOfAll, IsMapp
 use Rattle.nd_storage.specs.elements.Pairs.{option_both}
 
 -- what two maps have at an index, where both have something
-abbrev pub both_at : {A B : Type 0} → (List ℕ → Option A) → (List ℕ → Option B) → List ℕ → Option (A × B)
-both_at one other i = option_both (λ x y. (x, y)) (one i) (other i)
+abbrev pub paired_at : {A B : Type 0} → (List ℕ → Option A) → (List ℕ → Option B) → List ℕ → Option (A × B)
+paired_at one other i = option_both (λ x y. (x, y)) (one i) (other i)
 
 module _ {F A B : Type 0} (g : Mut F (MutBor A × Unit {0}) (B × (MutBor A × Unit {0}))) where
   -- a call that is handed an element: what it left there, and what it answered
@@ -44,7 +44,7 @@ module _ {F A B : Type 0} (g : Mut F (MutBor A × Unit {0}) (B × (MutBor A × U
 
   -- of the call for each of them there stand what it left and what it answered
   abbrev pub HandsOutElements : F → Meaning A → (List ℕ → Option A) → (List ℕ → Option B) → Type 0
-  HandsOutElements f old new answers = HasAnswersOfAll (LeavesAndAnswers g) old f (both_at new answers)
+  HandsOutElements f old new answers = HasAnswersOfAll (LeavesAndAnswers g) old f (paired_at new answers)
 
   -- whatever function of the element tells what the closure leaves, its values stand there
   abbrev pub LeavesAlike : F → (List ℕ → Option A) → (List ℕ → Option A) → Type 0
