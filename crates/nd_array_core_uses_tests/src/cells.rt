@@ -7,10 +7,13 @@ use nd_shape_and_slice::Ix2;
 use nd_test_arrays::{made, shows};
 
 // Whether a matrix of three columns has these cells, row by row.
-fn has_cells<A: PartialEq, S: Data<Elem = A>>(array: &ArrayBase<S, Ix2>, cells: &[[A; 3]]) -> bool {
+fn has_cells<A: Copy + PartialEq, S: Data<Elem = A>>(
+    array: &ArrayBase<S, Ix2>,
+    cells: &[[A; 3]],
+) -> bool {
     for row in 0..cells.len() {
         for column in 0..3 {
-            if array.get([row, column]) != Some(&cells[row][column]) {
+            if array.get([row, column]).copied() != Some(cells[row][column]) {
                 return false;
             }
         }

@@ -7,15 +7,35 @@ use nd_array_core_uses::tables::{
 };
 use nd_test_arrays::{made, shows};
 
-// Behind 1 2 come 3 4 and 5 6, and 1 2 again.
+// Puts a row of one table behind those of another, which gives up its first.
+fn pushes_out(log: &mut Array2<u64>, source: &Array2<u64>, row: usize) -> bool {
+    let (rows, columns) = source.dim();
+    let (lines, length) = log.dim();
+    row < rows && 0 < lines && columns == length && push_out(log, source.row(row)).is_ok()
+}
+
+// Puts the rows of one table of two rows behind those of another.
+fn takes_both(table: &mut Array2<u64>, source: &Array2<u64>) -> bool {
+    let (rows, columns) = source.dim();
+    let (_rows, length) = table.dim();
+    rows == 2 && columns == length && rows_behind(table, &[source.row(0), source.row(1)]).is_ok()
+}
+
+// Puts the first row of one table behind those of another.
+fn takes_first(table: &mut Array2<u64>, source: &Array2<u64>) -> bool {
+    let (rows, columns) = source.dim();
+    let (_rows, length) = table.dim();
+    0 < rows && columns == length && row_lent_behind(table, &source.row(0)).is_ok()
+}
+
+// Behind 1 2 come 3 4 and 5 6, and 3 4 again.
 #[test]
 fn rows(rt: HostRuntime) {
     let mut table: Array2<u64> = made(rt.alloc(), (1, 2), &[1, 2]).expect(&rt, "made");
     let source: Array2<u64> = made(rt.alloc(), (2, 2), &[3, 4, 5, 6]).expect(&rt, "made");
-    assert!(rt; source.nrows() == 2);
-    assert!(rt; rows_behind(&mut table, &[source.row(0), source.row(1)]).is_ok());
+    assert!(rt; takes_both(&mut table, &source));
     assert!(rt; shows(&table, [3, 2], &[1, 2, 3, 4, 5, 6]));
-    assert!(rt; row_lent_behind(&mut table, &source.row(0)).is_ok());
+    assert!(rt; takes_first(&mut table, &source));
     assert!(rt; shows(&table, [4, 2], &[1, 2, 3, 4, 5, 6, 3, 4]));
 }
 
@@ -32,10 +52,9 @@ fn rows_by_number(rt: HostRuntime) {
 fn the_last_rows(rt: HostRuntime) {
     let mut log: Array2<u64> = made(rt.alloc(), (2, 2), &[1, 2, 3, 4]).expect(&rt, "made");
     let source: Array2<u64> = made(rt.alloc(), (2, 2), &[5, 6, 7, 8]).expect(&rt, "made");
-    assert!(rt; source.nrows() == 2);
-    assert!(rt; push_out(&mut log, source.row(0)).is_ok());
+    assert!(rt; pushes_out(&mut log, &source, 0));
     assert!(rt; shows(&log, [2, 2], &[3, 4, 5, 6]));
-    assert!(rt; push_out(&mut log, source.row(1)).is_ok());
+    assert!(rt; pushes_out(&mut log, &source, 1));
     assert!(rt; shows(&log, [2, 2], &[5, 6, 7, 8]));
 }
 
