@@ -5,11 +5,11 @@ mod fill_slice;
 pub mod with_split_at;
 mod with_slice_mut;
 mod with_multi_slice_mut;
-mod with_view_of;
+mod view_of;
 mod with_view_mut;
 
 pub use assign_slice::{Assign, Change};
 pub use fill_slice::Fill;
 pub use with_split_at::PairTask;
-pub use with_view_of::with_view_of;
+pub use view_of::with_view_of;
 pub use with_view_mut::{LentView, ViewTask};

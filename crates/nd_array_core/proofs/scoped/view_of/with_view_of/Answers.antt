@@ -4,7 +4,7 @@ use Rattle.nd_layout.specs.Placements.{placement_of}
 use Rattle.nd_array_core.specs.scoped.Sources.{meant_by}
 use Rattle.nd_array_core.proofs.tasks.TaskStep.{part_is_view, others_stay, left_is_view}
 use Rattle.nd_array_core.proofs.tasks.SliceTask.{slice_sound, seen_in_slice, unseen_kept}
-use Rattle.nd_array_core.proofs.scoped.with_view_of.with_view_of.Goals as goal
+use Rattle.nd_array_core.proofs.scoped.view_of.with_view_of.Goals as goal
 
 pub with_slice_placement-requires-clause-sound : goal.with_slice_placement-requires-clause-sound
 with_slice_placement-requires-clause-sound g c =

@@ -2,7 +2,7 @@ use Rattle.std.specs.Prelude.{slice_get}
 use Rattle.nd_region.specs.Region.{region_stored}
 use Rattle.nd_array_core.specs.scoped.Tasks.{IsNamedMap}
 use Rattle.nd_array_core.proofs.tasks.TaskStep.{part_sound}
-use Rattle.nd_array_core.proofs.scoped.with_view_of.with_slice_placement.Goals as goal
+use Rattle.nd_array_core.proofs.scoped.view_of.with_slice_placement.Goals as goal
 
 pub part_of_slice-requires-clause-callable : goal.part_of_slice-requires-clause-callable
 part_of_slice-requires-clause-callable g c x part =
