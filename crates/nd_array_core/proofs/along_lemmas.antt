@@ -1,11 +1,11 @@
 pub mod AxisAccumulating
 pub mod AxisFolding
-mod Selecting
-mod AxisNumbers
-mod AxisFolds
-mod AxisBeside
-mod LentLanes
-mod HandedLanes
+pub mod Selecting
+pub mod AxisNumbers
+pub mod AxisFolds
+pub mod AxisBeside
+pub mod LentLanes
+pub mod HandedLanes
 pub mod ShownLanes
-mod AxisIndexes
-mod Removing
+pub mod AxisIndexes
+pub mod Removing

@@ -1,9 +1,9 @@
 pub mod JoinedParts
 pub mod Stretched
-mod GrownArrays
-mod JoinedInTurn
-mod Pushed
-mod GoneOn
-mod Reserved
+pub mod GrownArrays
+pub mod JoinedInTurn
+pub mod Pushed
+pub mod GoneOn
+pub mod Reserved
 pub mod Appending
 pub mod FreshStorage

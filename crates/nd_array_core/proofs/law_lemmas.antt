@@ -6,4 +6,4 @@ pub mod EitherShown
 pub mod Regrouping
 pub mod Quotients
 pub mod SlicedBack
-mod NamedOnce
+pub mod NamedOnce

@@ -5,4 +5,4 @@ pub mod Regrouped
 pub mod ServedStrides
 pub mod Relisted
 pub mod MemoryOrder
-mod Reordered
+pub mod Reordered

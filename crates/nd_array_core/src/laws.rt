@@ -25,13 +25,13 @@ use nd_shape_and_slice::Dimension;
 use nd_storage::storage::{Data, DataMut};
 
 /// Permuting axes and permuting them back gives the same meaning.
-#[tactic(auto, using(crate::proofs::LawProofs::permuted_back))]
+#[tactic(auto, using(crate::proofs::law_lemmas::LawProofs::permuted_back))]
 pub fn permuted_back<A>()
     ensures { PermutedBack A }
 {}
 
 /// Axes reversed twice give the same meaning.
-#[tactic(auto, using(crate::proofs::LawProofs::reversed_twice))]
+#[tactic(auto, using(crate::proofs::law_lemmas::LawProofs::reversed_twice))]
 pub fn reversed_twice<A>()
     ensures { ReversedTwice A }
 {}
@@ -42,25 +42,25 @@ pub fn inverted_twice<A>()
 {}
 
 /// Inserting an axis and removing it gives the same meaning.
-#[tactic(auto, using(crate::proofs::LawProofs::inserted_and_removed))]
+#[tactic(auto, using(crate::proofs::law_lemmas::LawProofs::inserted_and_removed))]
 pub fn inserted_and_removed<A>()
     ensures { InsertedAndRemoved A }
 {}
 
 /// A slice of a slice of one axis has as its map the composition of both.
-#[tactic(auto, using(crate::proofs::LawProofs::sliced_twice))]
+#[tactic(auto, using(crate::proofs::law_lemmas::LawProofs::sliced_twice))]
 pub fn sliced_twice<A>()
     ensures { SlicedTwice A }
 {}
 
 /// The parts of a split, one behind the other along its axis, are the array.
-#[tactic(auto, using(crate::proofs::JoinedParts::split_and_joined))]
+#[tactic(auto, using(crate::proofs::growth_lemmas::JoinedParts::split_and_joined))]
 pub fn split_and_joined<A>()
     ensures { SplitAndJoined A }
 {}
 
 /// After an append, the slice of the axis to its old length gives the elements from before.
-#[tactic(auto, using(crate::proofs::SlicedBack::appended_and_sliced))]
+#[tactic(auto, using(crate::proofs::law_lemmas::SlicedBack::appended_and_sliced))]
 pub fn appended_and_sliced<A>()
     ensures { AppendedAndSliced A }
 {}
@@ -71,7 +71,7 @@ pub fn regrouped_back<A>()
 {}
 
 /// A path of layout steps is one map: the composition of its steps' maps.
-#[tactic(auto, using(crate::proofs::LawProofs::path_is_one_map))]
+#[tactic(auto, using(crate::proofs::law_lemmas::LawProofs::path_is_one_map))]
 pub fn path_is_one_map<A>()
     ensures { PathIsOneMap A }
 {}
@@ -146,7 +146,7 @@ pub fn distinct_places<S: DataMut, D: Dimension>(array: &ArrayBase<S, D>)
 
 /// Which numbers have a quotient: those from the quotient times the size on, as many as the size. A caller that divides
 /// by a variable calls it for the quotient at hand.
-#[tactic(auto, using(crate::proofs::Quotients::quotient_holds, crate::proofs::Quotients::quotient_of, crate::proofs::Quotients::before_quotient))]
+#[tactic(auto, using(crate::proofs::law_lemmas::Quotients::quotient_holds, crate::proofs::law_lemmas::Quotients::quotient_of, crate::proofs::law_lemmas::Quotients::before_quotient))]
 pub fn quotients(size: usize, quotient: usize)
     requires { 0 < size }
     ensures equal { (i : ℕ) → i / size ≡ quotient → (quotient * size ≤ i) × (i < quotient * size + size) }
@@ -178,7 +178,7 @@ pub fn elements_by_rank<S: Data, D: Dimension>(array: &ArrayBase<S, D>)
 
 /// The elements of a lane in row-major order are those that `fold_axis` goes along: so a function that folds the lanes which
 /// `map_axis` shows it returns what `fold_axis` does.
-#[tactic(auto, using(crate::proofs::ShownLanes::lane_listed))]
+#[tactic(auto, using(crate::proofs::along_lemmas::ShownLanes::lane_listed))]
 pub fn lanes_are_folded<A>()
     ensures { LanesAreListed A }
 {}

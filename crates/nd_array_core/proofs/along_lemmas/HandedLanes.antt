@@ -25,7 +25,7 @@ use Rattle.nd_storage.specs.FreeOrder.{AnswersThere, HasAnswers}
 use Rattle.nd_storage.specs.ByRank.{found_by_rank}
 use Rattle.nd_storage.specs.Writes.{OthersStay}
 use Rattle.nd_storage.specs.elements.Maps.{AnswersAt, TakesNumbered, AskableOfAll}
-use Rattle.nd_storage.specs.elements.MapsMut.{both_at}
+use Rattle.nd_storage.specs.elements.MapsMut.{paired_at}
 use Rattle.nd_storage.specs.along.AxisLanes.{lane_place, LanesReach, LanesDistinct}
 use Rattle.nd_array_core.specs.along.AxisMaps.{lane_of, lanes_of}
 use Rattle.nd_array_core.specs.along.LanesWritten.{lane_held, LeavesLane, MayBeHandedLane, LeavesLanesBy, AnswersHandedLanesBy, lanes_held, AreHandedOut, AreLeftBy}
@@ -111,7 +111,7 @@ module _ (offset : ℕ) (ns : List ℕ) (ss : List ℤ) (a : ℕ) (on : a < leng
     lanes_taken askable = indexes_taken (LeavesLane g) (order_numbers RowMajor outer) (lanes_of (shown old) a).at (lanes_held place (size_of outer) n old) (lane_shown old) (MayBeHandedLane g) f askable
 
     pub lanes_answered : (new : ℕ → Option A) (last : F) (items : List B) → AreHandedOut g place (size_of outer) n (size_of outer) old new f (last, items)
-        → (seen : List ℕ → Option B) → ((k : ℕ) → k < size_of outer → seen (index_at outer k) ≡ slice_get items k) → HasAnswers (AnswersAt (LeavesLane g) (lanes_of (shown old) a).at) outer f (both_at (lanes_of (shown new) a).at seen)
+        → (seen : List ℕ → Option B) → ((k : ℕ) → k < size_of outer → seen (index_at outer k) ≡ slice_get items k) → HasAnswers (AnswersAt (LeavesLane g) (lanes_of (shown old) a).at) outer f (paired_at (lanes_of (shown new) a).at seen)
     lanes_answered new last items handed seen shows =
         handed_answered (LeavesLane g) (order_numbers RowMajor outer) (λ r. pos r) (lanes_held place (size_of outer) n old) (lanes_held place (size_of outer) n new) (lanes_of (shown old) a).at (lanes_of (shown new) a).at (lane_shown old) (lane_shown new) f last items handed.calls seen shows
 
@@ -141,12 +141,12 @@ module _ (offset : ℕ) (ns : List ℕ) (ss : List ℤ) (a : ℕ) (on : a < leng
           (subst (λ l. AreHandedOut g (lane_place start l vs s) (size_of l) count (size_of l) old new f last) e_ls handed)))
 
 -- where the closure leaves what h gives, and answers what it gives
-module _ {F A B : Type 0} (g : Mut F (MutBor (LaneMut A) × Unit {0}) (B × (MutBor (LaneMut A) × Unit {0}))) (old new : Meaning A) (a : ℕ) (on : a < length old.shape) (same : new.shape ≡ old.shape) (seen : List ℕ → Option B) (f : F) (has : HasAnswers (AnswersAt (LeavesLane g) (lanes_of old a).at) (indexed_shape old.shape a) f (both_at (lanes_of new a).at seen)) where
+module _ {F A B : Type 0} (g : Mut F (MutBor (LaneMut A) × Unit {0}) (B × (MutBor (LaneMut A) × Unit {0}))) (old new : Meaning A) (a : ℕ) (on : a < length old.shape) (same : new.shape ≡ old.shape) (seen : List ℕ → Option B) (f : F) (has : HasAnswers (AnswersAt (LeavesLane g) (lanes_of old a).at) (indexed_shape old.shape a) f (paired_at (lanes_of new a).at seen)) where
   abbrev others : List ℕ
   others = indexed_shape old.shape a
 
   abbrev call : F → List ℕ → F → Type 0
-  call = AnswersThere (AnswersAt (LeavesLane g) (lanes_of old a).at) (both_at (lanes_of new a).at seen)
+  call = AnswersThere (AnswersAt (LeavesLane g) (lanes_of old a).at) (paired_at (lanes_of new a).at seen)
 
   pub lanes_seen : (h : Meaning A → B) → AnswersHandedLanesBy g h f → ((i : List ℕ) → in_box others i ≡ false → seen i ≡ None) → (i : List ℕ) → seen i ≡ option_map h ((lanes_of old a).at i)
   lanes_seen h by nothing i = by_box (in_box others i) refl

@@ -12,7 +12,7 @@ use Rattle.nd_storage.specs.elements.Folds.{RanTo}
 use Rattle.nd_storage.specs.elements.Changes.{IsChangedBy}
 use Rattle.nd_storage.specs.elements.Pairs.{option_both}
 use Rattle.nd_storage.specs.elements.Maps.{AnswersAt, RanNumbered, TakesNumbered, Replaces}
-use Rattle.nd_storage.specs.elements.MapsMut.{both_at, LeavesAndAnswers, LeavesBy, AnswersHandedBy, Collects, TakesCollecting}
+use Rattle.nd_storage.specs.elements.MapsMut.{paired_at, LeavesAndAnswers, LeavesBy, AnswersHandedBy, Collects, TakesCollecting}
 use Rattle.nd_storage.proofs.Answered.{got_last, got_still}
 use Rattle.nd_storage.proofs.FreeOrder.{IsNumbering, listed, listed_all, done_at_each}
 use Rattle.nd_storage.proofs.Mapped.{joined_numbers}
@@ -72,14 +72,14 @@ module _ {P A B : Type 0} (answers : P → Option A → A × B → P → Type 0)
 
   -- the same by index
   module _ {shape : List ℕ} {count : ℕ} {index : ℕ → List ℕ} {rank : List ℕ → ℕ} (numbered : IsNumbering shape count index rank) (place : ℕ → ℤ) (old new : ℕ → Option A) (before after : List ℕ → Option A) (there : (k : ℕ) → k < count → stored_at old (place k) ≡ before (index k)) (left_there : (k : ℕ) → k < count → stored_at new (place k) ≡ after (index k)) (first last : P) (items : List B) (changed : IsChangedBy (Replaces (Collects answers)) place count old new (first, []) (last, items)) where
-    pub handed_answered : (seen : List ℕ → Option B) → ((k : ℕ) → k < count → seen (index k) ≡ slice_get items k) → HasAnswers (AnswersAt answers before) shape first (both_at after seen)
+    pub handed_answered : (seen : List ℕ → Option B) → ((k : ℕ) → k < count → seen (index k) ≡ slice_get items k) → HasAnswers (AnswersAt answers before) shape first (paired_at after seen)
     handed_answered seen shows = (
       last,
       (
         listed index count,
         listed_all numbered,
-        ran_listed (AnswersThere (AnswersAt answers before) (both_at after seen)) index first last count
-            (ran_weaker (λ p k q. (out : A × B) × (stored_at new (place k) ≡ Some out.0) × (slice_get items k ≡ Some out.1) × answers p (stored_at old (place k)) out q) (λ p k q. AnswersThere (AnswersAt answers before) (both_at after seen) p (index k) q) first last count
+        ran_listed (AnswersThere (AnswersAt answers before) (paired_at after seen)) index first last count
+            (ran_weaker (λ p k q. (out : A × B) × (stored_at new (place k) ≡ Some out.0) × (slice_get items k ≡ Some out.1) × answers p (stored_at old (place k)) out q) (λ p k q. AnswersThere (AnswersAt answers before) (paired_at after seen) p (index k) q) first last count
             (λ p k q below call. (call.0, (λ i. option_both (λ x y. (x, y)) ((sym (left_there k below) ∙ call.1) i) ((shows k below ∙ call.2) i)), subst (λ o. answers p o call.0 q) (there k below) call.3))
             (collects_items (λ k. stored_at old (place k)) (λ k. stored_at new (place k)) first count (last, items) changed.calls).1),
       ),
@@ -93,31 +93,31 @@ module _ {P A B : Type 0} (answers : P → Option A → A × B → P → Type 0)
         let call = ran_at (λ p k q. Replaces (Collects answers) (stored_at old (place k)) (stored_at new (place k)) p q) (first, []) (last, items) count k below changed.calls in
         ap is_some (ap after (sym (numbered.index_is i inbox)) ∙ (sym (left_there k below) ∙ call.2.1))
 
-module _ {F A B : Type 0} (g : Mut F (MutBor A × Unit {0}) (B × (MutBor A × Unit {0}))) (shape : List ℕ) (old new : List ℕ → Option A) (seen : List ℕ → Option B) (f : F) (none : (i : List ℕ) → in_box shape i ≡ false → old i ≡ None) (has : HasAnswers (AnswersAt (LeavesAndAnswers g) old) shape f (both_at new seen)) where
+module _ {F A B : Type 0} (g : Mut F (MutBor A × Unit {0}) (B × (MutBor A × Unit {0}))) (shape : List ℕ) (old new : List ℕ → Option A) (seen : List ℕ → Option B) (f : F) (none : (i : List ℕ) → in_box shape i ≡ false → old i ≡ None) (has : HasAnswers (AnswersAt (LeavesAndAnswers g) old) shape f (paired_at new seen)) where
   -- where the closure leaves what h gives and stays as it is, h's values stand everywhere
   pub handed_left : (h : A → A) → LeavesBy g h f → ((i : List ℕ) → in_box shape i ≡ false → new i ≡ None) → (i : List ℕ) → new i ≡ option_map h (old i)
   handed_left h by nothing i = by_box (in_box shape i) refl
     where
-      does : (j : List ℕ) (q : F) → in_box shape j ≡ true → AnswersThere (AnswersAt (LeavesAndAnswers g) old) (both_at new seen) f j q → (q ≡ f) × (new j ≡ option_map h (old j))
+      does : (j : List ℕ) (q : F) → in_box shape j ≡ true → AnswersThere (AnswersAt (LeavesAndAnswers g) old) (paired_at new seen) f j q → (q ≡ f) × (new j ≡ option_map h (old j))
       does j q inbox call =
           let step = call.2 in
           let gives = by step.0 call.0.0 call.0.1 q step.2 in
           (gives.0, (both_is (new j) (seen j) call.0 call.1).0 ∙ (ap Some gives.1 ∙ ap (option_map h) (sym step.1)))
 
       by_box : (b : Bool) → in_box shape i ≡ b → new i ≡ option_map h (old i)
-      by_box true e = done_at_each shape (AnswersThere (AnswersAt (LeavesAndAnswers g) old) (both_at new seen)) f (λ j. new j ≡ option_map h (old j)) does has.1.0 has.1.1 has.0 has.1.2 i e
+      by_box true e = done_at_each shape (AnswersThere (AnswersAt (LeavesAndAnswers g) old) (paired_at new seen)) f (λ j. new j ≡ option_map h (old j)) does has.1.0 has.1.1 has.0 has.1.2 i e
       by_box false e = nothing i e ∙ ap (option_map h) (sym (none i e))
 
   -- and where it answers what h gives
   pub handed_seen : (h : A → B) → AnswersHandedBy g h f → ((i : List ℕ) → in_box shape i ≡ false → seen i ≡ None) → (i : List ℕ) → seen i ≡ option_map h (old i)
   handed_seen h by nothing i = by_box (in_box shape i) refl
     where
-      does : (j : List ℕ) (q : F) → in_box shape j ≡ true → AnswersThere (AnswersAt (LeavesAndAnswers g) old) (both_at new seen) f j q → (q ≡ f) × (seen j ≡ option_map h (old j))
+      does : (j : List ℕ) (q : F) → in_box shape j ≡ true → AnswersThere (AnswersAt (LeavesAndAnswers g) old) (paired_at new seen) f j q → (q ≡ f) × (seen j ≡ option_map h (old j))
       does j q inbox call =
           let step = call.2 in
           let gives = by step.0 call.0.0 call.0.1 q step.2 in
           (gives.0, (both_is (new j) (seen j) call.0 call.1).1 ∙ (ap Some gives.1 ∙ ap (option_map h) (sym step.1)))
 
       by_box : (b : Bool) → in_box shape i ≡ b → seen i ≡ option_map h (old i)
-      by_box true e = done_at_each shape (AnswersThere (AnswersAt (LeavesAndAnswers g) old) (both_at new seen)) f (λ j. seen j ≡ option_map h (old j)) does has.1.0 has.1.1 has.0 has.1.2 i e
+      by_box true e = done_at_each shape (AnswersThere (AnswersAt (LeavesAndAnswers g) old) (paired_at new seen)) f (λ j. seen j ≡ option_map h (old j)) does has.1.0 has.1.1 has.0 has.1.2 i e
       by_box false e = nothing i e ∙ ap (option_map h) (sym (none i e))

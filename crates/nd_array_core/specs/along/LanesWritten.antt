@@ -13,7 +13,7 @@ use Rattle.nd_storage.specs.Places.{stored_at}
 use Rattle.nd_array_core.specs.along.AxisMaps.{lane_of, lanes_of}
 use Rattle.nd_storage.specs.elements.Changes.{IsChangedBy}
 use Rattle.nd_storage.specs.elements.Maps.{Replaces, AskableOfAll, HasAnswersOfAll, IsMappedBy}
-use Rattle.nd_storage.specs.elements.MapsMut.{Collects, both_at}
+use Rattle.nd_storage.specs.elements.MapsMut.{Collects, paired_at}
 
 -- so many numbered elements along one axis
 abbrev pub line_of : {A : Type 0} → (ℕ → Option A) → ℕ → Meaning A
@@ -84,7 +84,7 @@ module _ {F A B : Type 0} (g : Mut F (MutBor (LaneMut A) × Unit {0}) (B × (Mut
 
   -- of the call for each of them there stand what it left and, at the index of the other axes, what it answered
   abbrev pub HandsOutLanes : ℕ → F → Meaning A → Meaning A → (List ℕ → Option B) → Type 0
-  HandsOutLanes a f old new answers = HasAnswersOfAll (LeavesLane g) (lanes_of old a) f (both_at (lanes_of new a).at answers)
+  HandsOutLanes a f old new answers = HasAnswersOfAll (LeavesLane g) (lanes_of old a) f (paired_at (lanes_of new a).at answers)
 
   -- whatever function of the lane tells what the closure leaves, its values stand there
   abbrev pub LeavesLanesAlike : ℕ → F → Meaning A → (List ℕ → Option A) → Type 0

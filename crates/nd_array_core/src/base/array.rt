@@ -1,5 +1,5 @@
 //! Arrays over any storage, and the questions to them.
-#![tactic(auto, unfolding(crate::specs::Meaning::meaning_of, crate::specs::Meaning::memory_layout_of), using(crate::proofs::ShortAxes::length_short, crate::proofs::ShortAxes::size_short))]
+#![tactic(auto, unfolding(crate::specs::Meaning::meaning_of, crate::specs::Meaning::memory_layout_of), using(crate::proofs::reshape_lemmas::ShortAxes::length_short, crate::proofs::reshape_lemmas::ShortAxes::size_short))]
 
 ghost use Rattle.std.specs.Prelude.{◌≡◌, ◌<◌, ◌≤◌, ◌^◌, ⊤, ℕ, true, List, length, slice_index, slice_index_or, pos};
 ghost use Rattle.nd_shape_and_slice.specs.Shape.{in_box, size_of};

@@ -1,5 +1,5 @@
 //! How far an array goes: its lengths as numbers, and whether it has elements.
-#![tactic(auto, unfolding(crate::specs::Meaning::meaning_of), using(crate::proofs::ShortAxes::length_short, crate::proofs::ShortAxes::all_short))]
+#![tactic(auto, unfolding(crate::specs::Meaning::meaning_of), using(crate::proofs::reshape_lemmas::ShortAxes::length_short, crate::proofs::reshape_lemmas::ShortAxes::all_short))]
 
 ghost use Rattle.std.specs.Prelude.{◌↔◌, ◌≡◌, ◌<◌, ◌^◌, ◌∷◌, [], ℕ, IsTrue, slice_index};
 ghost use Rattle.nd_shape_and_slice.specs.Shape.{size_of};

@@ -98,7 +98,7 @@ impl<A, D: Dimension> Array<A, D> {
 
 impl<A> Array<A, Ix1> {
     /// An array of a vector's elements along one axis, over the vector itself. ndarray's `from_vec`.
-    #[tactic(auto, using(crate::proofs::Fresh::vec_is_line))]
+    #[tactic(auto, using(crate::proofs::reshape_lemmas::Fresh::vec_is_line))]
     pub fn from_vec(v: Vec<A>) -> Self
         ensures owns { OwnsInOrder (vec_len v ∷ [], RowMajor) result }
         ensures stored { stored_list (storage_of result) ≡ v.items }

@@ -15,7 +15,7 @@ use nd_shape_and_slice::{Dimension, MAX_AXES, StrideList, index_of_rank, is_empt
 use nd_storage::storage::Data;
 
 /// The place of the last index of a layout, None exactly where it has no index.
-#[tactic(auto, using(crate::proofs::LastIndexes::last_inside, crate::proofs::LastIndexes::last_outside, crate::proofs::LastIndexes::last_by_rank))]
+#[tactic(auto, using(crate::proofs::base_lemmas::LastIndexes::last_inside, crate::proofs::base_lemmas::LastIndexes::last_outside, crate::proofs::base_lemmas::LastIndexes::last_by_rank))]
 pub(crate) fn last_place<D: Dimension, T: StrideList>(layout: &Layout<D, T>) -> Option<usize>
     ensures place { MatchOption result (in_box (D.lengths layout.now.dim) (last_index (D.lengths layout.now.dim)) ≡ false) (λ place. (in_box (D.lengths layout.now.dim) (last_index (D.lengths layout.now.dim)) ≡ true) × (pos place ≡ place_of layout.now.offset (T.strides_of layout.now.strides) (last_index (D.lengths layout.now.dim)))) }
     ensures none { IsNone result ↔ (size_of (D.lengths layout.now.dim) ≡ 0) }
