@@ -113,7 +113,7 @@ from_spec 𝓤 𝓛 𝓜 𝓡 wired A lA =
     use0 𝓛 (raw (fact 𝓤 Has)) (fact_i 𝓤 Has (emp 𝓤) has) $ use0 𝓛 (raw (fact 𝓤 (κA ⊑ A.lives))) (fact_i 𝓤 (κA ⊑ A.lives) (emp 𝓤) inA) $ join ! $
     nothing ! $ owned ! usize _ (uint_Makes 𝓛 w64) n _ (refl, rm.0) $ join ! $ move ! (2 ∷ 0 ∷ []) $ join ! $ move ! (2 ∷ 0 ∷ []) $ join ! $ join ! $
     use1 𝓛 (raw (V-triple.pre z₂)) (id⊢ 𝓤 _) $
-    calls_at ! (framed 𝓤 H 𝓜 𝓣) V-triple (view_met 𝓤 𝓛 𝓜 𝓡 (code.calls-nd_array_core::base::conversions::region_on_one_axis 𝓡.env wired) A lA) z₂
+    calls_at ! (framed 𝓤 H 𝓜 𝓣) V-triple (view_met 𝓤 𝓛 𝓜 𝓡 (code.calls-nd_array_core::base::from::region_on_one_axis 𝓡.env wired) A lA) z₂
     (and_then ! (get ! refl) (and_then ! (get ! refl) (no_more !))) (λ v'.
     let Held : View.Denot → Type 0 = λ r. HasCheckedSize (n ∷ []) → (shape_of r ≡ n ∷ []) × (layout_strides r ≡ c_strides (n ∷ [])) × ((i : List ℕ) → element_at r i ≡ inside (n ∷ []) i (region_stored x (row_rank (n ∷ []) i))) in
     let Empty : View.Denot → Type 0 = λ r. (HasCheckedSize (n ∷ []) → ⊥) → shape_of r ≡ 0 ∷ [] in

@@ -218,7 +218,7 @@ module _ (A : RattleType) (n : ℕ) where
             sets ! (of_opd ! (get_in ! (fld ! refl (stop !)) (sub ! 1 refl (whole !)))) refl (tt, record { fits = rm.0 }) $
             nothing ! $ nothing ! $ owned ! usize _ (uint_Makes 𝓛 w64) n _ (refl, fits.fits) $ join ! $ owned ! usize _ (uint_Makes 𝓛 w64) len _ (refl, rm.0) $ join ! $ nothing ! $ join ! $ join ! $
             use1 𝓛 (raw (W-triple.pre z₁)) (id⊢ 𝓤 _) $
-            calls_at ! (framed 𝓤 H 𝓜 𝓣) W-triple (count_met 𝓤 𝓛 𝓜 𝓡 (code.calls-nd_array_core::base::conversions::rows_with_places 𝓡.env wired)) z₁
+            calls_at ! (framed 𝓤 H 𝓜 𝓣) W-triple (count_met 𝓤 𝓛 𝓜 𝓡 (code.calls-nd_array_core::base::from::rows_with_places 𝓡.env wired)) z₁
             (and_then ! (get ! refl) (and_then ! (num_lit ! fits) (no_more !))) (λ v.
             use1 𝓛 (later (some (λ (k : ℕ). (‵ ftrue ⊛ ‵ (usize.own_val k (v ∷ []))) ⊛
             some (λ (us : Lasts W.ended tt (len, (n, tt))). ‵ (lasts W.ended tt (len, (n, tt)) us) ⊛ raw (fact 𝓤 (All k)) ⊛ raw (fact 𝓤 (None k)) ⊛ raw (fact 𝓤 (k ≤ len)) ⊛ raw (fact 𝓤 (k * n < 2 ^ 63)))))) (id⊢ 𝓤 _) $ await ! tt $ pick ! (λ k.
@@ -256,7 +256,7 @@ module _ (A : RattleType) (n : ℕ) where
             nothing ! $ owned ! usize _ (uint_Makes 𝓛 w64) n _ (refl, fits.fits) $ join ! $ owned ! usize _ (uint_Makes 𝓛 w64) len _ (refl, rm.0) $ join ! $ move ! (5 ∷ 0 ∷ []) $ join ! $
             nothing ! $ move ! (4 ∷ 0 ∷ []) $ join ! $ move ! (3 ∷ 0 ∷ []) $ join ! $ join ! $ join ! $
             use1 𝓛 (raw (V-triple.pre (z₃ x v₁))) (id⊢ 𝓤 _) $
-            calls_at ! (framed 𝓤 H 𝓜 𝓣) V-triple (view_met 𝓤 𝓛 𝓜 𝓡 (code.calls-nd_array_core::base::conversions::region_on_two_axes 𝓡.env wired) A lA) (z₃ x v₁)
+            calls_at ! (framed 𝓤 H 𝓜 𝓣) V-triple (view_met 𝓤 𝓛 𝓜 𝓡 (code.calls-nd_array_core::base::from::region_on_two_axes 𝓡.env wired) A lA) (z₃ x v₁)
             (and_then ! (get ! refl) (and_then ! (get ! refl) (and_then ! (num_lit ! fits) (no_more !)))) (λ v₂.
             use1 𝓛 (later (some (λ (r : (View κs).Denot). ((‵ (flft κ q) ⊛ ‵ (flft κA qA) ⊛ ‵ ftrue) ⊛ ‵ ((View κs).own_val r (v₂ ∷ []))) ⊛
             some (λ (us₂ : Lasts V-ended (κ, (κA, tt)) (x, (len, (n, tt)))). ‵ (lasts V-ended (κ, (κA, tt)) (x, (len, (n, tt))) us₂) ⊛ raw (fact 𝓤 (Held x r)) ⊛ raw (fact 𝓤 (Empty x r)) ⊛ raw (fact 𝓤 ((storage_of r).region ≡ x)))))) (id⊢ 𝓤 _) $ await ! tt $ pick ! (λ r.

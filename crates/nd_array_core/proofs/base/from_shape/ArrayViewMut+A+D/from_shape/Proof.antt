@@ -339,7 +339,7 @@ module _ (A D P T G B S : RattleType) (d : dimension.Ghosts D.Denot P.Denot T.De
             nothing ! $ move ! (10 ∷ 0 ∷ []) $ join ! $ owned ! usize _ (uint_Makes 𝓛 w64) len _ (refl, rm.0) $ join ! $ use0 𝓛 (‵ (given_in.the_row.own_val SliceMut (live 2 vnil ∷ []))) (given_made 𝓛) $ join ! $
             nothing ! $ move ! (9 ∷ 0 ∷ []) $ join ! $ move ! (8 ∷ 0 ∷ []) $ join ! $ move ! (7 ∷ 0 ∷ []) $ join ! $ move ! (6 ∷ 0 ∷ []) $ join ! $ move ! (6 ∷ 0 ∷ []) $ join ! $ move ! (5 ∷ 0 ∷ []) $ join ! $ join ! $ join ! $
             use1 𝓛 (raw (W-triple.pre z₁)) (id⊢ 𝓤 _) $
-            calls_at ! (framed 𝓤 H 𝓜 𝓣) W-triple (laid_met 𝓤 𝓛 𝓜 𝓡 (code.calls-nd_array_core::base::constructors::laid_out 𝓡.env wired) D S P T G B lD lS lP lT lG lB cD cT d dd n nd k kd t td j jd h hd md mn mk mt mj mh) z₁
+            calls_at ! (framed 𝓤 H 𝓜 𝓣) W-triple (laid_met 𝓤 𝓛 𝓜 𝓡 (code.calls-nd_array_core::base::from_shape::laid_out 𝓡.env wired) D S P T G B lD lS lP lT lG lB cD cT d dd n nd k kd t td j jd h hd md mn mk mt mj mh) z₁
             (and_then ! (get ! refl) (and_then ! (get ! refl) (and_then ! (get ! refl) (no_more !)))) (λ v.
             use1 𝓛 (later (some (λ (r : Laid.Denot). (raw Decides ⊛ ‵ (Laid.own_val r (v ∷ []))) ⊛
             some (λ (us : Lasts W-ended κs₁ W-args). ‵ (lasts W-ended κs₁ W-args us) ⊛ raw (fact 𝓤 (Refused r)) ⊛ raw (fact 𝓤 (Accepted r)) ⊛ raw (fact 𝓤 (Lies r)))))) (id⊢ 𝓤 _) $ await ! tt $ pick ! (λ r.
@@ -370,7 +370,7 @@ module _ (A D P T G B S : RattleType) (d : dimension.Ghosts D.Denot P.Denot T.De
             use0 𝓛 (raw (fact 𝓤 (κT ⊑ T.lives))) (fact_i 𝓤 (κT ⊑ T.lives) (emp 𝓤) inT) $ join ! $ use0 𝓛 (raw (fact 𝓤 (κP ⊑ P.lives))) (fact_i 𝓤 (κP ⊑ P.lives) (emp 𝓤) inP) $ join ! $
             use0 𝓛 (raw (fact 𝓤 (κD ⊑ D.lives))) (fact_i 𝓤 (κD ⊑ D.lives) (emp 𝓤) inD) $ join ! $ use0 𝓛 (raw (fact 𝓤 (κA ⊑ A.lives))) (fact_i 𝓤 (κA ⊑ A.lives) (emp 𝓤) inA) $ join ! $
             nothing ! $ move ! (7 ∷ 0 ∷ []) $ join ! $ move ! (5 ∷ 0 ∷ []) $ join ! $ move ! (2 ∷ 0 ∷ []) $ join ! $ join ! $ use1 𝓛 (raw (V-triple.pre (z₃ x lay v₁ u))) (id⊢ 𝓤 _) $
-            calls_at ! (framed 𝓤 H 𝓜 𝓣) V-triple (view_met 𝓤 𝓛 𝓜 𝓡 (code.calls-nd_array_core::base::constructors::region_laid_out 𝓡.env wired) A D P T G B lA lD lP lT lG lB cD cT d dd n nd k kd t td j jd md mn mk mt mj) (z₃ x lay v₁ u)
+            calls_at ! (framed 𝓤 H 𝓜 𝓣) V-triple (view_met 𝓤 𝓛 𝓜 𝓡 (code.calls-nd_array_core::base::from_shape::region_laid_out 𝓡.env wired) A D P T G B lA lD lP lT lG lB cD cT d dd n nd k kd t td j jd md mn mk mt mj) (z₃ x lay v₁ u)
             (and_then ! (get ! refl) (and_then ! (get ! refl) (no_more !))) (λ v₂.
             use1 𝓛 (later (some (λ (m : (View κs).Denot). (raw Makes ⊛ ‵ ((View κs).own_val m (v₂ ∷ []))) ⊛
             some (λ (us₂ : Lasts V-ended κs₃ (x, (lay, tt))). ‵ (lasts V-ended κs₃ (x, (lay, tt)) us₂) ⊛ raw (fact 𝓤 ((storage_of m).region ≡ x)) ⊛ raw (fact 𝓤 (Lays lay m)) ⊛ raw (fact 𝓤 (Elements x m)))))) (id⊢ 𝓤 _) $ await ! tt $ pick ! (λ m.

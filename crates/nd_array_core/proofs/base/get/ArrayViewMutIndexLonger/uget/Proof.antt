@@ -102,7 +102,7 @@ uget_spec 𝓤 𝓛 𝓜 𝓡 wired A D I P T' G B lA lD lI lP lT lG lB cD cT d 
     fact_use 𝓤 (κA ⊑ A.lives) (via 𝓤 _ (snd∗ 𝓤 (on_entry 𝓛 En.signature κs qs a vss) ((c κs a).requires gh)) (fst∗ 𝓤 (fact 𝓤 (κA ⊑ A.lives)) Rest)) (λ inA.
     qed 𝓛 (raw (S-triple.pre z₁) ∷ []) ∵ enter ! _ _ _ _ _ $ alloc_all ! (λ l. pass_all ! refl (one.2, (two.2, tt)) $
     sets ! (of_opd ! (get ! refl)) refl one.2 $ sets ! (of_opd ! (get ! refl)) refl two.2 $
-    calls_at ! (framed 𝓤 H 𝓜 𝓣) S-triple (sought_met 𝓤 𝓛 𝓜 𝓡 (code.calls-nd_array_core::base::indexing::sought_in_box 𝓡.env wired) A D I P T' G B lA lD lI lP lT lG lB cD cT d dd n nd k kd t td j jd x xd xdrop mD mN mK mT mJ mX mdrop) z₁
+    calls_at ! (framed 𝓤 H 𝓜 𝓣) S-triple (sought_met 𝓤 𝓛 𝓜 𝓡 (code.calls-nd_array_core::base::get::sought_in_box 𝓡.env wired) A D I P T' G B lA lD lI lP lT lG lB cD cT d dd n nd k kd t td j jd x xd xdrop mD mN mK mT mJ mX mdrop) z₁
     (and_then ! (get ! refl) (and_then ! (get ! refl) (no_more !))) (λ got.
     let index : List ℕ = x.coordinates_of a.1.0 in
     let OfView : Two.Denot → Type 0 = λ r. r.0 ≡ region_of a.0 in
