@@ -1,0 +1,96 @@
+#!/usr/bin/env python3
+"""tests/gate_times.py COMMAND WORD..
+
+Runs a command, the gate as a rule, and prints behind its output what the prover took by crate and task: minutes of a processor,
+minutes from the first process to the last, and the most memory at one time. It looks at the processes once a second, so the
+last second of each is missing. The exit status is the command's.
+"""
+import collections
+import os
+import subprocess
+import sys
+import threading
+import time
+
+TICKS = os.sysconf("SC_CLK_TCK")
+PAGE = os.sysconf("SC_PAGE_SIZE")
+
+
+def words_of(process):
+    """Returns the words that a process was started with, or none where it has ended."""
+    try:
+        with open(f"/proc/{process}/cmdline", "rb") as it:
+            return it.read().decode(errors="replace").split("\0")
+    except OSError:
+        return []
+
+
+def task_of(process):
+    """Returns the crate and the task that a process of the prover works on, if it does."""
+    words = words_of(process)
+    if not words or os.path.basename(words[0]) != "rattle" or "--crate-name" not in words:
+        return None
+    crate = words[words.index("--crate-name") + 1]
+    try:
+        folder = os.readlink(f"/proc/{process}/cwd")
+    except OSError:
+        return None
+    if "rt-edit" in folder:
+        return crate, "edits"
+    return crate, "tests" if "--test" in words else "proof"
+
+
+def look(seen, memory):
+    """Adds what the prover's processes have taken so far."""
+    now, held = time.monotonic(), collections.Counter()
+    for process in filter(str.isdigit, os.listdir("/proc")):
+        task = task_of(process)
+        if not task:
+            continue
+        try:
+            with open(f"/proc/{process}/stat") as it:
+                stat = it.read().rpartition(")")[2].split()
+        except OSError:
+            continue
+        key = process, stat[19]
+        took = (int(stat[11]) + int(stat[12])) / TICKS
+        first = seen.get(key, (task, took, now, now))[2]
+        seen[key] = task, took, first, now
+        held[task] += int(stat[21]) * PAGE
+    for task, size in held.items():
+        memory[task] = max(memory[task], size)
+    memory["all"] = max(memory["all"], sum(held.values()))
+
+
+def show(seen, memory, whole):
+    """Prints the table, the longest task first."""
+    took, first, last = collections.Counter(), {}, {}
+    for task, seconds, begun, ended in seen.values():
+        took[task] += seconds
+        first[task] = min(first.get(task, begun), begun)
+        last[task] = max(last.get(task, ended), ended)
+    print("minutes of a processor, minutes, GB: by crate and task")
+    for task, seconds in took.most_common():
+        print(f"{seconds / 60:6.1f} {(last[task] - first[task]) / 60:6.1f} {memory[task] / 1e9:5.1f}  {' '.join(task)}")
+    print(f"{sum(took.values()) / 60:6.1f} {whole / 60:6.1f} {memory['all'] / 1e9:5.1f}  in all", flush=True)
+
+
+def main():
+    seen, memory, ended = {}, collections.Counter(), threading.Event()
+
+    def watch():
+        while not ended.wait(1):
+            look(seen, memory)
+
+    begun = time.monotonic()
+    watcher = threading.Thread(target=watch, daemon=True)
+    watcher.start()
+    status = subprocess.run(sys.argv[1:]).returncode
+    ended.set()
+    watcher.join()
+    show(seen, memory, time.monotonic() - begun)
+    return status if status >= 0 else 128 - status
+
+
+if __name__ == "__main__":
+    sys.exit(main())
