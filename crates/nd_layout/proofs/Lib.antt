@@ -34,6 +34,7 @@ pub mod Ready
 pub mod GrownAgain
 pub mod WalkSteps
 pub mod LaneSteps
+pub mod LanesOf
 pub mod Rearranged
 pub mod MemoryOrder
 pub mod Filled

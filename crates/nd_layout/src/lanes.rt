@@ -22,6 +22,8 @@ pub struct Lane {
 }
 
 impl Lane {
+    ghost use Rattle.nd_layout.specs.Lanes.{along};
+
     /// The place of the `nth`.
     #[inline]
     pub fn place_of(&self, nth: usize) -> usize
@@ -29,6 +31,22 @@ impl Lane {
         ensures { pos result ≡ pos self.now.place +ℤ (pos nth *ℤ self.now.stride) }
     {
         moved_by(self.place, nth, self.stride)
+    }
+
+    /// The lane, told the compiler to have stride 1, which it has: its elements may then be gone through as one block.
+    #[inline(always)]
+    pub fn side_by_side(self) -> Lane
+        requires { self.stride ≡ pos 1 }
+        ensures places { along result ≡ along self }
+        ensures first { result.place ≡ self.place }
+        ensures count { result.count ≡ self.count }
+        ensures stride { result.stride ≡ self.stride }
+    {
+        Lane {
+            place: self.place,
+            count: self.count,
+            stride: 1,
+        }
     }
 }
 

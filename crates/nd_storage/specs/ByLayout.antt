@@ -1,15 +1,15 @@
 -- What a storage holds where a layout has its indexes.
-use Rattle.std.specs.Prelude.{◌≡◌, ℕ, List, ℤ, Option}
+use Rattle.std.specs.Prelude.{◌≡◌, ℕ, List, Option}
 use Rattle.std.specs.Borrow.{Bor, MutBor}
 use Rattle.std.specs.Fn.{Mut}
 use Rattle.std.specs.List.{filter_map}
-use Rattle.nd_shape_and_slice.specs.Shape.{size_of, indexes_of}
+use Rattle.nd_shape_and_slice.specs.Shape.{indexes_of}
 use Rattle.nd_shape_and_slice.specs.Place.{place_of}
 use Rattle.nd_shape_and_slice.specs.declared.dimension.Dimension as dimension
 use Rattle.nd_shape_and_slice.specs.declared.dimension.AxisCount as axis_count
 use Rattle.nd_shape_and_slice.specs.declared.dimension.StrideList as stride_list
+use Rattle.nd_layout.specs.Lanes.{by_rank}
 use Rattle.nd_layout.specs.Placements.{Placement, placement_of}
-use Rattle.nd_layout.specs.Walk.{place_at_rank}
 use Rattle.nd_layout.specs.declared.layout.Layout.{Layout}
 use Rattle.nd_storage.specs.Meaning.{inside}
 use Rattle.nd_storage.specs.Places.{place_number, stored_at, HoldsAll}
@@ -30,10 +30,6 @@ HoldsEach stored p = HoldsAll stored p.offset p.lengths p.strides
 -- places that no index names hold what they held
 abbrev pub StaysBeside : {A : Type 0} → Placement → (ℕ → Option A) → (ℕ → Option A) → Type 0
 StaysBeside p old new = OthersStay (place_named p) old new
-
--- the places of a layout by row-major rank
-abbrev pub ranked : {D T P R L M : Type 0} {d : dimension.Ghosts D P R L M} {n : axis_count.Ghosts D} {r : stride_list.Ghosts R} {t : stride_list.Ghosts T} → Layout D T P R L M d n r t → ℕ → ℤ
-ranked {d = d} {t = t} l = place_at_rank l.offset (d.lengths l.dim) (t.strides_of l.strides)
 
 -- the same of a storage and a layout
 module _ {S A D T P R L M : Type 0} {d : dimension.Ghosts D P R L M} {n : axis_count.Ghosts D} {r : stride_list.Ghosts R} {t : stride_list.Ghosts T} (stored : S → ℕ → Option A) where
@@ -62,10 +58,14 @@ module _ {S A D T P R L M : Type 0} {d : dimension.Ghosts D P R L M} {n : axis_c
 module _ {S Z F A B D T P R L M : Type 0} {d : dimension.Ghosts D P R L M} {n : axis_count.Ghosts D} {r : stride_list.Ghosts R} {t : stride_list.Ghosts T} (g : Mut F (MutBor A × (Bor B × Unit {0})) (Unit {0} × (MutBor A × Unit {0}))) (stored : S → ℕ → Option A) (others_stored : Z → ℕ → Option B) (s : S) (l : Layout D T P R L M d n r t) (others : Z) (beside : Layout D T P R L M d n r t) where
   -- in row-major order: the next may be called; all were
   abbrev pub TakesRanked : F → Type 0
-  TakesRanked f = TakesPairs g (stored s) (ranked l) (others_stored others) (ranked beside) f (size_of (d.lengths l.dim))
+  TakesRanked f =
+      let at = by_rank (placement_of l) in
+      TakesPairs g (stored s) at.place (others_stored others) (by_rank (placement_of beside)).place f at.count
 
   abbrev pub ZipsRanked : S → F → F → Type 0
-  ZipsRanked new first last = IsZippedTo g (ranked l) (others_stored others) (ranked beside) (size_of (d.lengths l.dim)) (stored s) (stored new) first last
+  ZipsRanked new first last =
+      let at = by_rank (placement_of l) in
+      IsZippedTo g at.place (others_stored others) (by_rank (placement_of beside)).place at.count (stored s) (stored new) first last
 
   -- the same in an order that is free
   abbrev pub TakesShown : F → Type 0

@@ -9,6 +9,7 @@ pub mod FreeOrder
 pub mod Lends
 pub mod Meaning
 pub mod NewElements
+pub mod NumberedPlaces
 pub mod Places
 pub mod RegionLent
 pub mod RunLent
