@@ -1,5 +1,6 @@
 -- The lanes of places: what a loop over them keeps, and the lane that it is at.
-use Rattle.std.proofs.Common.{◌∙◌}
+use Rattle.std.proofs.Common.{◌≡◌, ◌∙◌, ap}
+use Rattle.nd_shape_and_slice.specs.Shape.{size_of}
 use Rattle.nd_layout.specs.Lanes.{AreLanesOf, AreSameLanes}
 use Rattle.nd_layout.specs.Walk.{IsLane}
 use Rattle.nd_layout.specs.declared.lanes.Lane.{Lane}
@@ -14,3 +15,7 @@ go_on places old new of same = (same.0 ∙ of.0, same.1 ∙ of.1, same.2 ∙ of.
 pub lane_of : (places : Places) (lanes : Lanes) (lane : Lane) → AreLanesOf places lanes → IsLane lanes.first lanes.lengths.now lanes.strides.now lanes.rank lane.place lane.count lane.stride
     → IsLane places.first places.lengths.now places.strides.now lanes.rank lane.place lane.count lane.stride
 lane_of places lanes lane of given = rw (of.0, of.1, of.2) at given
+
+-- once no lane is left, all places are through
+pub all_through : (places : Places) (lanes : Lanes) → AreLanesOf places lanes → lanes.rank ≡ size_of lanes.lengths.now → lanes.rank ≡ size_of places.lengths.now
+all_through places lanes of ended = ended ∙ ap size_of of.1

@@ -1,11 +1,15 @@
 -- What a storage holds at numbered places, those of a lane or of a layout.
-use Rattle.std.specs.Prelude.{◌≡◌, ◌<◌, ℕ, true, List, Option, Some}
+use Rattle.std.specs.Prelude.{◌≡◌, ◌<◌, ℕ, true, List, length, pos, Option, Some}
 use Rattle.nd_layout.specs.Lanes.{Numbered}
 use Rattle.nd_storage.specs.CloneRefusals.{MayRefuseBelow}
 use Rattle.nd_storage.specs.Clones.{ClonesAreEqual}
 use Rattle.nd_storage.specs.Collected.{collected}
 use Rattle.nd_storage.specs.Places.{stored_at, names_place}
 use Rattle.nd_storage.specs.elements.Changes.{AreDistinct}
+
+-- those of a slice, which holds an item at each (`slice_get` tells them)
+abbrev pub in_turn : {A : Type 0} → List A → Numbered
+in_turn xs = record { count = length xs; place = λ k. pos k }
 
 -- no two numbers have one place
 abbrev pub PlacesDiffer : Numbered → Type 0
@@ -18,7 +22,7 @@ module _ {S A : Type 0} (stored : S → ℕ → Option A) (at : Numbered) where
 
   -- the element of each number, and all of them in turn
   abbrev pub elements_at : S → ℕ → Option A
-  elements_at s k = stored_at (stored s) (at.place k)
+  elements_at s = λ k. stored_at (stored s) (at.place k)
 
   abbrev pub all_elements_at : S → List A
   all_elements_at s = collected (elements_at s) at.count

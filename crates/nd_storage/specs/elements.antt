@@ -1,6 +1,7 @@
 pub mod Assigns
 pub mod Changes
 pub mod Folds
+pub mod Hashes
 pub mod Maps
 pub mod MapsMut
 pub mod Pairs

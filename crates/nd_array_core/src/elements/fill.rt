@@ -29,12 +29,6 @@ where
         ensures frame { KeepsFrame S.frame self.old self.new }
     {
         let order = self.layout.free_order();
-        fill_places(
-            &mut self.storage,
-            order.offset,
-            order.dim.slice(),
-            order.strides.slice(),
-            &value,
-        )
+        fill_places(&mut self.storage, order.places(), &value)
     }
 }

@@ -22,14 +22,7 @@ impl<S: Data, D: Dimension> ArrayBase<S, D> {
         ensures settled { FoldsAlike F.FnMut f init (row_major_elements (meaning_of self.now)) result }
     {
         let order = self.layout.free_order();
-        let (_f, total) = fold_places(
-            &self.storage,
-            order.offset,
-            order.dim.slice(),
-            order.strides.slice(),
-            init,
-            f,
-        );
+        let (_f, total) = fold_places(&self.storage, order.places(), init, f);
         total
     }
 }

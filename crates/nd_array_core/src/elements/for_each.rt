@@ -19,12 +19,6 @@ impl<S: Data, D: Dimension> ArrayBase<S, D> {
         ensures visits { VisitsAll (AnswersElement F.FnMut) (meaning_of self.now) f }
     {
         let order = self.layout.free_order();
-        show_places(
-            &self.storage,
-            order.offset,
-            order.dim.slice(),
-            order.strides.slice(),
-            f,
-        );
+        show_places(&self.storage, order.places(), f);
     }
 }

@@ -22,13 +22,7 @@ where
 {
     let mut joined = array.layout.copied();
     joined.join_axes();
-    hash_places(
-        &array.storage,
-        joined.offset,
-        joined.dim.slice(),
-        joined.strides.slice(),
-        state,
-    );
+    hash_places(&array.storage, joined.places(), state);
 }
 
 /// Feeds the elements to a hasher, in row-major order.

@@ -22,12 +22,6 @@ impl<S: DataMut, D: Dimension> ArrayBase<S, D> {
         ensures frame { KeepsFrame S.frame self.old self.new }
     {
         let order = self.layout.free_order();
-        change_places(
-            &mut self.storage,
-            order.offset,
-            order.dim.slice(),
-            order.strides.slice(),
-            f,
-        );
+        change_places(&mut self.storage, order.places(), f);
     }
 }

@@ -15,8 +15,8 @@ use crate::base::from_elem::of_items;
 use crate::elements::to_owned::{of_run, run_elements};
 use nd_layout::{is_run, reach_below};
 use nd_shape_and_slice::{Dimension, NoMemory, Order, StrideList};
-use nd_storage::elements::to_vec::room_of;
 use nd_storage::elements::mapv::{value_places, value_run};
+use nd_storage::elements::to_vec::room_of;
 use nd_storage::storage::Data;
 use std::alloc::Global;
 
@@ -37,14 +37,7 @@ where
 {
     let mut joined = array.layout.copied();
     joined.join_axes();
-    let (_f, items) = value_places(
-        room,
-        &array.storage,
-        joined.offset,
-        joined.dim.slice(),
-        joined.strides.slice(),
-        f,
-    )?;
+    let (_f, items) = value_places(room, &array.storage, joined.places(), f)?;
     Ok(of_items(items, array.raw_dim(), Order::RowMajor))
 }
 

@@ -34,13 +34,7 @@ where
         ensures frame { KeepsFrame S.frame self.old self.new }
     {
         let order = self.layout.free_order();
-        let _f = replace_places(
-            &mut self.storage,
-            order.offset,
-            order.dim.slice(),
-            order.strides.slice(),
-            f,
-        )?;
+        let _f = replace_places(&mut self.storage, order.places(), f)?;
         Ok(())
     }
 }

@@ -3,6 +3,7 @@ use Rattle.std.specs.Prelude.{◌≡◌, ◌<◌, ℕ, List, Option, Some, ℤ, 
 use Rattle.std.specs.Borrow.{MutBor}
 use Rattle.std.specs.Fn.{Mut, CalledAtMut}
 use Rattle.std.specs.Option.{option_map}
+use Rattle.nd_layout.specs.Lanes.{Numbered}
 use Rattle.nd_storage.specs.Places.{stored_at}
 use Rattle.nd_storage.specs.FreeOrder.{VisitedInSomeOrder, CallableInAnyOrder}
 use Rattle.nd_storage.specs.elements.Folds.{RanTo}
@@ -53,3 +54,11 @@ module _ {F A : Type 0} (g : Mut F (MutBor A × Unit {0}) (Unit {0} × (MutBor A
   -- whichever elements were changed, the next call may be made
   abbrev pub ChangeableInAnyOrder : List ℕ → (List ℕ → Option A) → F → Type 0
   ChangeableInAnyOrder shape old f = CallableInAnyOrder shape (λ p i q. ChangesSomehow (old i) p q) (λ p i. TakesElementMut (old i) p) f
+
+-- the elements at numbered places of a storage, one after the other: they may be handed out; they were
+module _ {S F A : Type 0} (g : Mut F (MutBor A × Unit {0}) (Unit {0} × (MutBor A × Unit {0}))) (stored : S → ℕ → Option A) (at : Numbered) where
+  abbrev pub MayChangeEach : S → F → Type 0
+  MayChangeEach s first = TakesPlacesMut g (stored s) at.place first at.count
+
+  abbrev pub ChangesEach : S → S → F → F → Type 0
+  ChangesEach old new first last = IsChangedTo g at.place at.count (stored old) (stored new) first last

@@ -3,6 +3,7 @@ use Rattle.std.specs.Prelude.{◌≡◌, ◌<◌, ℕ, zero, suc, List, Option, 
 use Rattle.std.specs.Borrow.{Bor}
 use Rattle.std.specs.Fn.{Mut, Called}
 use Rattle.std.specs.List.{fold}
+use Rattle.nd_layout.specs.Lanes.{Numbered}
 use Rattle.nd_storage.specs.Places.{stored_at}
 use Rattle.nd_storage.specs.FreeOrder.{VisitedInSomeOrder, CallableInAnyOrder}
 
@@ -49,3 +50,11 @@ module _ {F B A : Type 0} (g : Mut F (B × (Bor A × Unit {0})) B) where
   -- whichever elements were folded, the next call may be made
   abbrev pub FoldableInAnyOrder : List ℕ → (List ℕ → Option A) → F → B → Type 0
   FoldableInAnyOrder shape at f init = CallableInAnyOrder shape (λ p i q. FoldsElement (at i) p q) (λ p i. TakesElement (at i) p) (f, init)
+
+-- the elements at numbered places of a storage, one after the other: they may be folded; they were
+module _ {S F B A : Type 0} (g : Mut F (B × (Bor A × Unit {0})) B) (stored : S → ℕ → Option A) (at : Numbered) (s : S) where
+  abbrev pub MayFoldEach : F × B → Type 0
+  MayFoldEach first = TakesPlaces g (stored s) at.place first at.count
+
+  abbrev pub FoldsEach : F × B → F × B → Type 0
+  FoldsEach first last = FoldsPlaces g (stored s) at.place first at.count last

@@ -1,9 +1,12 @@
 -- Closures that are handed each element and answer something for it, once each, in an order that is free.
-use Rattle.std.specs.Prelude.{◌≡◌, ◌++◌, ◌<◌, ◌⊎◌, ℕ, ℤ, List, length, Option, Some, slice_get}
+use Rattle.std.specs.Prelude.{◌≡◌, ◌++◌, ◌<◌, ◌⊎◌, ℕ, ℤ, List, [], length, Option, Some, slice_get}
 use Rattle.std.specs.Borrow.{Bor}
 use Rattle.std.specs.Fn.{Mut, Called}
+use Rattle.std.specs.declared.vec.Vec.{Vec}
 use Rattle.std.specs.List.{FoldsTo, count_by}
 use Rattle.std.specs.Option.{option_map}
+use Rattle.nd_layout.specs.Lanes.{Numbered}
+use Rattle.nd_storage.specs.NumberedPlaces.{elements_at}
 use Rattle.nd_storage.specs.Writes.{is_index}
 use Rattle.nd_storage.specs.FreeOrder.{ListsPartOfBox, AnswersThere, AnswersAny, AskableInAnyOrder, HasAnswers, VisitedInSomeOrder}
 use Rattle.nd_storage.specs.Meaning.{Meaning}
@@ -63,6 +66,32 @@ module _ {P A B : Type 0} (answers : P → Option A → B → P → Type 0) wher
     pub many : length behind ≡ count
     pub calls : RanTo (λ p k q. (y : B) × (slice_get behind k ≡ Some y) × answers p (found k) y q) first count last
 
+-- the elements at numbered places of a storage, shown one after the other: they may be; they were; what the calls
+-- answered stands in a vector behind what that had; or in a new one, beside what the closure became
+module _ {S F A B : Type 0} (g : Mut F (Bor A × Unit {0}) B) (stored : S → ℕ → Option A) (at : Numbered) (s : S) where
+  abbrev pub MayShowEach : F → Type 0
+  MayShowEach first = TakesNumbered (AnswersElement g) (MayBeShown g) (elements_at stored at s) first at.count
+
+  abbrev pub ShowsEach : F → F → Type 0
+  ShowsEach first last = RanNumbered (AnswersElement g) (elements_at stored at s) first at.count last
+
+  abbrev pub PushesEach : {Z : Type 0} → F → Vec B Z → Vec B Z → F → Type 0
+  PushesEach first old new last = AnswersBehind (AnswersElement g) (elements_at stored at s) at.count old.items new.items first last
+
+  abbrev pub AnswersEach : {Z : Type 0} → F → F × Vec B Z → Type 0
+  AnswersEach first last = AnswersBehind (AnswersElement g) (elements_at stored at s) at.count [] last.1.items first last.0
+
+-- the same of clones of them, given
+module _ {S F A B : Type 0} (g : Mut F (A × Unit {0}) B) (stored : S → ℕ → Option A) (at : Numbered) (s : S) where
+  abbrev pub MayGiveEach : F → Type 0
+  MayGiveEach first = TakesNumbered (AnswersValue g) (MayBeGiven g) (elements_at stored at s) first at.count
+
+  abbrev pub PushesValues : {Z : Type 0} → F → Vec B Z → Vec B Z → F → Type 0
+  PushesValues first old new = λ last. AnswersBehind (AnswersValue g) (elements_at stored at s) at.count old.items new.items first last
+
+  abbrev pub AnswersValues : {Z : Type 0} → F → F × Vec B Z → Type 0
+  AnswersValues first = λ last. AnswersBehind (AnswersValue g) (elements_at stored at s) at.count [] last.1.items first last.0
+
 -- `takes p element` says that it may be called for the element
 abbrev pub TakesAt : {P A : Type 0} → (P → Option A → Type 0) → (List ℕ → Option A) → P → List ℕ → Type 0
 TakesAt takes at p i = takes p (at i)
@@ -109,3 +138,12 @@ HasSomeAnswersOf answers m first new = HasSomeAnswers answers m.shape first m.at
 -- at each index stands what stood there, or what h gives of it
 abbrev pub IsOldOrMapped : {A : Type 0} → (A → A) → (List ℕ → Option A) → (List ℕ → Option A) → Type 0
 IsOldOrMapped h old new = (i : List ℕ) → (new i ≡ old i) ⊎ (new i ≡ option_map h (old i))
+
+-- at the numbered places of a storage stands what was answered for clones of what stood there, one after the other; or
+-- so far as the calls came, which weren't all of them
+module _ {S F A : Type 0} (g : Mut F (A × Unit {0}) A) (stored : S → ℕ → Option A) (at : Numbered) (old new : S) where
+  abbrev pub ReplacesEach : F → F → Type 0
+  ReplacesEach first = λ last. IsChangedBy (Replaces (AnswersValue g)) at.place at.count (stored old) (stored new) first last
+
+  abbrev pub ReplacesInPart : F → Type 0
+  ReplacesInPart first = IsReplacedInPart (AnswersValue g) at.place at.count (stored old) (stored new) first

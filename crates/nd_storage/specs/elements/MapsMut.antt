@@ -2,8 +2,12 @@
 use Rattle.std.specs.Prelude.{◌≡◌, ◌++◌, ◌∷◌, [], List, Option, Some, ℕ}
 use Rattle.std.specs.Borrow.{MutBor}
 use Rattle.std.specs.Fn.{Mut, CalledAtMut}
+use Rattle.std.specs.declared.vec.Vec.{Vec}
+use Rattle.nd_layout.specs.Lanes.{Numbered}
 use Rattle.nd_storage.specs.Meaning.{Meaning}
-use Rattle.nd_storage.specs.elements.Maps.{AskableOfAll, HasAnswersOfAll, IsMappedBy}
+use Rattle.nd_storage.specs.NumberedPlaces.{elements_at}
+use Rattle.nd_storage.specs.elements.Changes.{IsChangedBy}
+use Rattle.nd_storage.specs.elements.Maps.{AskableOfAll, HasAnswersOfAll, IsMappedBy, Replaces, TakesNumbered}
 use Rattle.nd_storage.specs.elements.Pairs.{option_both}
 
 -- what two maps have at an index, where both have something
@@ -14,6 +18,10 @@ module _ {F A B : Type 0} (g : Mut F (MutBor A × Unit {0}) (B × (MutBor A × U
   -- a call that is handed an element: what it left there, and what it answered
   abbrev pub LeavesAndAnswers : F → Option A → A × B → F → Type 0
   LeavesAndAnswers f element out f' = (x : A) × (element ≡ Some x) × CalledAtMut g f x out.1 f' out.0
+
+  -- the same where an element stood and stands
+  abbrev pub HandsElement : Option A → Option A → F → F × B → Type 0
+  HandsElement old new first last = (x : A) × (new ≡ Some x) × LeavesAndAnswers first old (x, last.1) last.0
 
   -- it may be called for an element
   abbrev pub MayBeHanded : F → Option A → Type 0
@@ -53,3 +61,16 @@ module _ {F A B : Type 0} (g : Mut F (MutBor A × Unit {0}) (B × (MutBor A × U
   -- whatever function of the element tells what it answers, its values stand there
   abbrev pub AnswersHandedAlike : F → (List ℕ → Option A) → (List ℕ → Option B) → Type 0
   AnswersHandedAlike f old answers = (h : A → B) → AnswersHandedBy g h f → IsMappedBy h old answers
+
+-- the elements at numbered places of a storage, one after the other, with the answers so far: they may be handed out;
+-- they were, and the answers stand in a vector behind what that had, or in a new one
+module _ {S F A B : Type 0} (g : Mut F (MutBor A × Unit {0}) (B × (MutBor A × Unit {0}))) (stored : S → ℕ → Option A) (at : Numbered) where
+  abbrev pub MayHandEach : S → F → List B → Type 0
+  MayHandEach s first answers = TakesNumbered (Collects (LeavesAndAnswers g)) (TakesCollecting (MayBeHanded g)) (elements_at stored at s) (first, answers) at.count
+
+  abbrev pub HandsBehind : {Z : Type 0} → S → S → F → Vec B Z → F → Vec B Z → Type 0
+  HandsBehind old new first before last after =
+      IsChangedBy (Replaces (Collects (LeavesAndAnswers g))) at.place at.count (stored old) (stored new) (first, before.items) (last, after.items)
+
+  abbrev pub HandsEach : {Z : Type 0} → S → S → F → F × Vec B Z → Type 0
+  HandsEach old new first last = IsChangedBy (Replaces (Collects (LeavesAndAnswers g))) at.place at.count (stored old) (stored new) (first, []) (last.0, last.1.items)

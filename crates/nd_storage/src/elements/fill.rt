@@ -1,26 +1,25 @@
 //! A clone of one value written at every index.
 
-ghost use Rattle.std.specs.Prelude.{◌≡◌, ◌<◌, ◌≤◌, ℕ, true, Some, OnOk, OnErr, pos, length, ◌+ℤ◌, ◌*ℤ◌};
-ghost use Rattle.nd_shape_and_slice.specs.Shape.{size_of, HasCheckedSize};
-ghost use Rattle.nd_layout.specs.Places.{ReachesPlaces};
-ghost use Rattle.nd_layout.specs.Walk.{place_at_rank};
-ghost use Rattle.nd_storage.specs.Places.{names_place};
+ghost use Rattle.std.specs.Prelude.{◌≡◌, OnOk, OnErr};
+ghost use Rattle.nd_layout.specs.Lanes.{along, ranked};
 ghost use Rattle.nd_storage.specs.CloneRefusals.{MayRefuseClonesOf};
-ghost use Rattle.nd_storage.specs.Filled.{IsFilledTo, IsPartlyFilled};
+ghost use Rattle.nd_storage.specs.Clones.{ClonesAreEqual};
+ghost use Rattle.nd_storage.specs.Filled.{Fills, FillsInPart};
+ghost use Rattle.nd_storage.specs.NumberedPlaces.{Holds};
 
 use crate::storage::DataMut;
-use nd_layout::{Lane, Lanes};
-use nd_shape_and_slice::{Dimension, NoMemory, StrideList};
+use nd_layout::{Lane, Places};
+use nd_shape_and_slice::NoMemory;
 
 /// Writes a clone of the value at each place of a lane.
 #[inline(always)]
 fn fill_along<S: DataMut>(storage: &mut S, lane: Lane, value: &S::Elem) -> Result<(), NoMemory>
 where
     S::Elem: Clone + Drop,
-    requires clones { (copy : S.Elem) → S.Elem.is_clone value.now copy → copy ≡ value.now }
-    requires holds { (k : ℕ) → k < lane.count → names_place (S.stored storage.old) (pos lane.place +ℤ (pos k *ℤ lane.stride)) ≡ true }
-    ensures filled { OnOk result (IsFilledTo (λ k. pos lane.place +ℤ (pos k *ℤ lane.stride)) lane.count value.now (S.stored storage.old) (S.stored storage.new)) }
-    ensures stopped { OnErr result (IsPartlyFilled (λ k. pos lane.place +ℤ (pos k *ℤ lane.stride)) lane.count value.now (S.stored storage.old) (S.stored storage.new)) }
+    requires clones { ClonesAreEqual S.Elem.is_clone value.now }
+    requires holds { Holds S.stored (along lane) storage.old }
+    ensures filled { OnOk result (Fills S.stored (along lane) value.now storage.old storage.new) }
+    ensures stopped { OnErr result (FillsInPart S.stored (along lane) value.now storage.old storage.new) }
     ensures refused { OnErr result (MayRefuseClonesOf S.Elem.is_infallible value.now lane.count) }
     ensures frame { S.frame storage.new ≡ S.frame storage.old }
 {
@@ -40,20 +39,15 @@ where
 fn fill_lane<S: DataMut>(storage: &mut S, lane: Lane, value: &S::Elem) -> Result<(), NoMemory>
 where
     S::Elem: Clone + Drop,
-    requires clones { (copy : S.Elem) → S.Elem.is_clone value.now copy → copy ≡ value.now }
-    requires holds { (k : ℕ) → k < lane.count → names_place (S.stored storage.old) (pos lane.place +ℤ (pos k *ℤ lane.stride)) ≡ true }
-    ensures filled { OnOk result (IsFilledTo (λ k. pos lane.place +ℤ (pos k *ℤ lane.stride)) lane.count value.now (S.stored storage.old) (S.stored storage.new)) }
-    ensures stopped { OnErr result (IsPartlyFilled (λ k. pos lane.place +ℤ (pos k *ℤ lane.stride)) lane.count value.now (S.stored storage.old) (S.stored storage.new)) }
+    requires clones { ClonesAreEqual S.Elem.is_clone value.now }
+    requires holds { Holds S.stored (along lane) storage.old }
+    ensures filled { OnOk result (Fills S.stored (along lane) value.now storage.old storage.new) }
+    ensures stopped { OnErr result (FillsInPart S.stored (along lane) value.now storage.old storage.new) }
     ensures refused { OnErr result (MayRefuseClonesOf S.Elem.is_infallible value.now lane.count) }
     ensures frame { S.frame storage.new ≡ S.frame storage.old }
 {
     if lane.stride == 1 {
-        let beside = Lane {
-            place: lane.place,
-            count: lane.count,
-            stride: 1,
-        };
-        return fill_along(storage, beside, value);
+        return fill_along(storage, lane.side_by_side(), value);
     }
     fill_along(storage, lane, value)
 }
@@ -62,25 +56,19 @@ where
 #[inline(always)]
 pub fn fill_places<S: DataMut>(
     storage: &mut S,
-    first: usize,
-    lengths: &[usize],
-    strides: &[isize],
+    places: Places<'_>,
     value: &S::Elem,
 ) -> Result<(), NoMemory>
 where
     S::Elem: Clone + Drop,
-    requires as_many { length strides.now ≡ length lengths.now }
-    requires few { length lengths.now ≤ 32 }
-    requires checked { HasCheckedSize lengths.now }
-    requires reach { ReachesPlaces first lengths.now strides.now }
-    requires clones { (copy : S.Elem) → S.Elem.is_clone value.now copy → copy ≡ value.now }
-    requires holds { (rank : ℕ) → rank < size_of lengths.now → names_place (S.stored storage.old) (place_at_rank first lengths.now strides.now rank) ≡ true }
-    ensures filled { OnOk result (IsFilledTo (place_at_rank first lengths.now strides.now) (size_of lengths.now) value.now (S.stored storage.old) (S.stored storage.new)) }
-    ensures stopped { OnErr result (IsPartlyFilled (place_at_rank first lengths.now strides.now) (size_of lengths.now) value.now (S.stored storage.old) (S.stored storage.new)) }
-    ensures refused { OnErr result (MayRefuseClonesOf S.Elem.is_infallible value.now (size_of lengths.now)) }
+    requires clones { ClonesAreEqual S.Elem.is_clone value.now }
+    requires holds { Holds S.stored (ranked places) storage.old }
+    ensures filled { OnOk result (Fills S.stored (ranked places.entry) value.now storage.old storage.new) }
+    ensures stopped { OnErr result (FillsInPart S.stored (ranked places.entry) value.now storage.old storage.new) }
+    ensures refused { OnErr result (MayRefuseClonesOf S.Elem.is_infallible value.now (ranked places.entry).count) }
     ensures frame { S.frame storage.new ≡ S.frame storage.old }
 {
-    let mut lanes = Lanes::new(first, lengths, strides);
+    let mut lanes = places.lanes();
     while let Some(lane) = lanes.next() {
         match fill_lane(storage, lane, value) {
             Ok(()) => {}

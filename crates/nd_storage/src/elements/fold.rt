@@ -1,15 +1,11 @@
 //! A closure that is shown each element and hands a value on.
 
-ghost use Rattle.std.specs.Prelude.{◌≡◌, ◌<◌, ◌≤◌, ℕ, true, Some, pos, length, ◌+ℤ◌, ◌*ℤ◌};
-ghost use Rattle.nd_shape_and_slice.specs.Shape.{size_of, HasCheckedSize};
-ghost use Rattle.nd_layout.specs.Places.{ReachesPlaces};
-ghost use Rattle.nd_layout.specs.Walk.{place_at_rank};
-ghost use Rattle.nd_storage.specs.Places.{names_place};
-ghost use Rattle.nd_storage.specs.elements.Folds.{FoldsPlaces, TakesPlaces};
+ghost use Rattle.nd_layout.specs.Lanes.{along, ranked};
+ghost use Rattle.nd_storage.specs.NumberedPlaces.{Holds};
+ghost use Rattle.nd_storage.specs.elements.Folds.{FoldsEach, MayFoldEach};
 
 use crate::storage::Data;
-use nd_layout::{Lane, Lanes};
-use nd_shape_and_slice::{Dimension, StrideList};
+use nd_layout::{Lane, Places};
 
 /// Folds the elements of a lane, one after the other. It returns the closure too, as the calls left it.
 #[inline(always)]
@@ -19,9 +15,9 @@ fn fold_along<S: Data, B, F: FnMut(B, &S::Elem) -> B>(
     init: B,
     mut f: F,
 ) -> (F, B)
-    requires holds { (k : ℕ) → k < lane.count → names_place (S.stored storage.now) (pos lane.place +ℤ (pos k *ℤ lane.stride)) ≡ true }
-    requires callable { TakesPlaces F.FnMut (S.stored storage.now) (λ k. pos lane.place +ℤ (pos k *ℤ lane.stride)) (f, init) lane.count }
-    ensures ran { FoldsPlaces F.FnMut (S.stored storage.now) (λ k. pos lane.place +ℤ (pos k *ℤ lane.stride)) (f, init) lane.count (result.0, result.1) }
+    requires holds { Holds S.stored (along lane) storage.now }
+    requires callable { MayFoldEach F.FnMut S.stored (along lane) storage.now (f, init) }
+    ensures ran { FoldsEach F.FnMut S.stored (along lane) storage.now (f, init) result }
 {
     let mut total = init;
     for nth in 0..lane.count {
@@ -38,17 +34,12 @@ fn fold_lane<S: Data, B, F: FnMut(B, &S::Elem) -> B>(
     init: B,
     f: F,
 ) -> (F, B)
-    requires holds { (k : ℕ) → k < lane.count → names_place (S.stored storage.now) (pos lane.place +ℤ (pos k *ℤ lane.stride)) ≡ true }
-    requires callable { TakesPlaces F.FnMut (S.stored storage.now) (λ k. pos lane.place +ℤ (pos k *ℤ lane.stride)) (f, init) lane.count }
-    ensures ran { FoldsPlaces F.FnMut (S.stored storage.now) (λ k. pos lane.place +ℤ (pos k *ℤ lane.stride)) (f, init) lane.count (result.0, result.1) }
+    requires holds { Holds S.stored (along lane) storage.now }
+    requires callable { MayFoldEach F.FnMut S.stored (along lane) storage.now (f, init) }
+    ensures ran { FoldsEach F.FnMut S.stored (along lane) storage.now (f, init) result }
 {
     if lane.stride == 1 {
-        let beside = Lane {
-            place: lane.place,
-            count: lane.count,
-            stride: 1,
-        };
-        return fold_along(storage, beside, init, f);
+        return fold_along(storage, lane.side_by_side(), init, f);
     }
     fold_along(storage, lane, init, f)
 }
@@ -56,21 +47,15 @@ fn fold_lane<S: Data, B, F: FnMut(B, &S::Elem) -> B>(
 /// Folds the elements at the places of a layout, in row-major order of its indexes.
 pub fn fold_places<S: Data, B, F: FnMut(B, &S::Elem) -> B>(
     storage: &S,
-    first: usize,
-    lengths: &[usize],
-    strides: &[isize],
+    places: Places<'_>,
     init: B,
     f: F,
 ) -> (F, B)
-    requires as_many { length strides.now ≡ length lengths.now }
-    requires few { length lengths.now ≤ 32 }
-    requires checked { HasCheckedSize lengths.now }
-    requires reach { ReachesPlaces first lengths.now strides.now }
-    requires holds { (rank : ℕ) → rank < size_of lengths.now → names_place (S.stored storage.now) (place_at_rank first lengths.now strides.now rank) ≡ true }
-    requires callable { TakesPlaces F.FnMut (S.stored storage.now) (place_at_rank first lengths.now strides.now) (f, init) (size_of lengths.now) }
-    ensures ran { FoldsPlaces F.FnMut (S.stored storage.now) (place_at_rank first lengths.now strides.now) (f, init) (size_of lengths.now) (result.0, result.1) }
+    requires holds { Holds S.stored (ranked places) storage.now }
+    requires callable { MayFoldEach F.FnMut S.stored (ranked places) storage.now (f, init) }
+    ensures ran { FoldsEach F.FnMut S.stored (ranked places.entry) storage.now (f, init) result }
 {
-    let mut lanes = Lanes::new(first, lengths, strides);
+    let mut lanes = places.lanes();
     let mut f = f;
     let mut total = init;
     while let Some(lane) = lanes.next() {

@@ -1,22 +1,19 @@
 //! Elements handed to a hasher.
 
-ghost use Rattle.std.specs.Prelude.{◌≡◌, ◌<◌, ◌≤◌, ℕ, true, is_some, length};
-ghost use Rattle.std.specs.List.{fold, flat_map};
-ghost use Rattle.nd_shape_and_slice.specs.Shape.{size_of, HasCheckedSize};
-ghost use Rattle.nd_layout.specs.Places.{ReachesPlaces};
-ghost use Rattle.nd_storage.specs.Collected.{collected, stored_along, stored_by_rank};
+ghost use Rattle.nd_layout.specs.Lanes.{along, ranked};
+ghost use Rattle.nd_storage.specs.NumberedPlaces.{Holds};
+ghost use Rattle.nd_storage.specs.elements.Hashes.{FeedsEach};
 
 use crate::storage::Data;
-use nd_layout::{Lane, Lanes};
-use nd_shape_and_slice::{Dimension, StrideList};
+use nd_layout::{Lane, Places};
 use std::hash::{Hash, Hasher};
 
 /// Feeds the elements of a lane to a hasher.
 fn hash_lane<S: Data, H: Hasher>(storage: &S, lane: Lane, state: &mut H)
 where
     S::Elem: Hash,
-    requires holds { (k : ℕ) → k < lane.count → is_some (stored_along (S.stored storage.now) lane.place lane.stride k) ≡ true }
-    ensures { state.new ≡ fold H.write state.old (flat_map S.Elem.hash_input (collected (stored_along (S.stored storage.now) lane.place lane.stride) lane.count)) }
+    requires holds { Holds S.stored (along lane) storage.now }
+    ensures { FeedsEach H.write S.Elem.hash_input S.stored (along lane) storage.now state.old state.new }
 {
     for nth in 0..lane.count {
         storage.element(lane.place_of(nth)).hash(state);
@@ -24,23 +21,13 @@ where
 }
 
 /// Feeds the elements of a layout to a hasher, by row-major rank.
-pub fn hash_places<S: Data, H: Hasher>(
-    storage: &S,
-    first: usize,
-    lengths: &[usize],
-    strides: &[isize],
-    state: &mut H,
-)
+pub fn hash_places<S: Data, H: Hasher>(storage: &S, places: Places<'_>, state: &mut H)
 where
     S::Elem: Hash,
-    requires as_many { length strides.now ≡ length lengths.now }
-    requires few { length lengths.now ≤ 32 }
-    requires checked { HasCheckedSize lengths.now }
-    requires reach { ReachesPlaces first lengths.now strides.now }
-    requires holds { (rank : ℕ) → rank < size_of lengths.now → is_some (stored_by_rank (S.stored storage.now) first lengths.now strides.now rank) ≡ true }
-    ensures { state.new ≡ fold H.write state.old (flat_map S.Elem.hash_input (collected (stored_by_rank (S.stored storage.now) first lengths.now strides.now) (size_of lengths.now))) }
+    requires holds { Holds S.stored (ranked places) storage.now }
+    ensures { FeedsEach H.write S.Elem.hash_input S.stored (ranked places.entry) storage.now state.old state.new }
 {
-    let mut lanes = Lanes::new(first, lengths, strides);
+    let mut lanes = places.lanes();
     while let Some(lane) = lanes.next() {
         hash_lane(storage, lane, state);
     }

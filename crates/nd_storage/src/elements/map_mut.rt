@@ -1,17 +1,12 @@
 //! What a closure returns for each element, which it is handed to be written, in a vector.
 
-ghost use Rattle.std.specs.Prelude.{◌≡◌, ◌+◌, ◌<◌, ◌≤◌, ℕ, [], true, length, pos, Some, IsSome, vec_len, vec_capacity, ◌+ℤ◌, ◌*ℤ◌};
-ghost use Rattle.nd_shape_and_slice.specs.Shape.{size_of, HasCheckedSize};
-ghost use Rattle.nd_layout.specs.Places.{ReachesPlaces};
-ghost use Rattle.nd_layout.specs.Walk.{place_at_rank};
-ghost use Rattle.nd_storage.specs.Places.{names_place, stored_at};
-ghost use Rattle.nd_storage.specs.elements.Changes.{AreDistinct, IsChangedBy};
-ghost use Rattle.nd_storage.specs.elements.Maps.{Replaces, TakesNumbered};
-ghost use Rattle.nd_storage.specs.elements.MapsMut.{LeavesAndAnswers, MayBeHanded, Collects, TakesCollecting};
+ghost use Rattle.std.specs.Prelude.{◌≡◌, ◌+◌, ◌≤◌, ℕ, [], IsSome, vec_len, vec_capacity};
+ghost use Rattle.nd_layout.specs.Lanes.{along, ranked};
+ghost use Rattle.nd_storage.specs.NumberedPlaces.{Holds, PlacesDiffer};
+ghost use Rattle.nd_storage.specs.elements.MapsMut.{HandsBehind, HandsEach, HandsElement, MayBeHanded, MayHandEach};
 
 use crate::storage::DataMut;
-use nd_layout::{Lane, Lanes};
-use nd_shape_and_slice::{Dimension, StrideList};
+use nd_layout::{Lane, Places};
 
 /// Hands the element at a place to the function, to be written. It returns the function, as the call left it, and what it
 /// returned.
@@ -23,7 +18,7 @@ fn answer_for<S: DataMut, B, F: FnMut(&mut S::Elem) -> B>(
 ) -> (F, B)
     requires holds { IsSome (S.stored storage.old place) }
     requires callable { MayBeHanded F.FnMut f (S.stored storage.old place) }
-    ensures called { (x : S.Elem) × (S.stored storage.new place ≡ Some x) × LeavesAndAnswers F.FnMut f (S.stored storage.old place) (x, result.1) result.0 }
+    ensures called { HandsElement F.FnMut (S.stored storage.old place) (S.stored storage.new place) f result }
     ensures left { (p : ℕ) → (p ≡ place → ⊥) → S.stored storage.new p ≡ S.stored storage.old p }
     ensures frame { S.frame storage.new ≡ S.frame storage.old }
 {
@@ -39,11 +34,11 @@ fn answer_along<S: DataMut, B, F: FnMut(&mut S::Elem) -> B>(
     lane: Lane,
     f: F,
 ) -> F
-    requires apart { AreDistinct (λ k. pos lane.place +ℤ (pos k *ℤ lane.stride)) lane.count }
-    requires holds { (k : ℕ) → k < lane.count → names_place (S.stored storage.old) (pos lane.place +ℤ (pos k *ℤ lane.stride)) ≡ true }
+    requires apart { PlacesDiffer (along lane) }
+    requires holds { Holds S.stored (along lane) storage.old }
     requires room { vec_len items.old + lane.count ≤ vec_capacity items.old }
-    requires callable { TakesNumbered (Collects (LeavesAndAnswers F.FnMut)) (TakesCollecting (MayBeHanded F.FnMut)) (λ k. stored_at (S.stored storage.old) (pos lane.place +ℤ (pos k *ℤ lane.stride))) (f, items.old.items) lane.count }
-    ensures changed { IsChangedBy (Replaces (Collects (LeavesAndAnswers F.FnMut))) (λ k. pos lane.place +ℤ (pos k *ℤ lane.stride)) lane.count (S.stored storage.old) (S.stored storage.new) (f, items.old.items) (result, items.new.items) }
+    requires callable { MayHandEach F.FnMut S.stored (along lane) storage.old f items.old.items }
+    ensures handed { HandsBehind F.FnMut S.stored (along lane) storage.old storage.new f items.old result items.new }
     ensures len { vec_len items.new ≡ vec_len items.old + lane.count }
     ensures room { vec_capacity items.new ≡ vec_capacity items.old }
     ensures frame { S.frame storage.new ≡ S.frame storage.old }
@@ -61,27 +56,21 @@ fn answer_along<S: DataMut, B, F: FnMut(&mut S::Elem) -> B>(
 pub fn answer_places<S: DataMut, B, F: FnMut(&mut S::Elem) -> B>(
     room: Vec<B>,
     storage: &mut S,
-    first: usize,
-    lengths: &[usize],
-    strides: &[isize],
+    places: Places<'_>,
     f: F,
 ) -> (F, Vec<B>)
-    requires as_many { length strides.now ≡ length lengths.now }
-    requires few { length lengths.now ≤ 32 }
-    requires checked { HasCheckedSize lengths.now }
-    requires reach { ReachesPlaces first lengths.now strides.now }
-    requires apart { AreDistinct (place_at_rank first lengths.now strides.now) (size_of lengths.now) }
-    requires holds { (rank : ℕ) → rank < size_of lengths.now → names_place (S.stored storage.old) (place_at_rank first lengths.now strides.now rank) ≡ true }
+    requires apart { PlacesDiffer (ranked places) }
+    requires holds { Holds S.stored (ranked places) storage.old }
     requires empty { (room.items ≡ []) × (vec_len room ≡ 0) }
-    requires room { size_of lengths.now ≤ vec_capacity room }
-    requires callable { TakesNumbered (Collects (LeavesAndAnswers F.FnMut)) (TakesCollecting (MayBeHanded F.FnMut)) (λ k. stored_at (S.stored storage.old) (place_at_rank first lengths.now strides.now k)) (f, []) (size_of lengths.now) }
-    ensures changed { IsChangedBy (Replaces (Collects (LeavesAndAnswers F.FnMut))) (place_at_rank first lengths.now strides.now) (size_of lengths.now) (S.stored storage.old) (S.stored storage.new) (f, []) (result.0, result.1.items) }
-    ensures count { vec_len result.1 ≡ size_of lengths.now }
+    requires room { (ranked places).count ≤ vec_capacity room }
+    requires callable { MayHandEach F.FnMut S.stored (ranked places) storage.old f [] }
+    ensures handed { HandsEach F.FnMut S.stored (ranked places.entry) storage.old storage.new f result }
+    ensures count { vec_len result.1 ≡ (ranked places.entry).count }
     ensures frame { S.frame storage.new ≡ S.frame storage.old }
 {
     let mut items = room;
     let mut now = f;
-    let mut lanes = Lanes::new(first, lengths, strides);
+    let mut lanes = places.lanes();
     while let Some(lane) = lanes.next() {
         now = answer_along(&mut items, storage, lane, now);
     }

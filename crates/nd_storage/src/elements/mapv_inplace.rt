@@ -1,20 +1,14 @@
 //! Elements exchanged where they lie for what a closure returns for a clone of each.
 
-ghost use Rattle.std.specs.Prelude.{◌≡◌, ◌<◌, ◌≤◌, ℕ, true, Some, IfOk, IfErr, OnErr, pos, length, ◌+ℤ◌, ◌*ℤ◌};
-ghost use Rattle.nd_shape_and_slice.specs.Shape.{size_of, HasCheckedSize};
-ghost use Rattle.nd_layout.specs.Places.{ReachesPlaces};
-ghost use Rattle.nd_layout.specs.Walk.{place_at_rank};
-ghost use Rattle.nd_storage.specs.Collected.{stored_along, stored_by_rank};
-ghost use Rattle.nd_storage.specs.Places.{stored_at, names_place};
+ghost use Rattle.std.specs.Prelude.{◌≡◌, IfOk, OnErr};
+ghost use Rattle.nd_layout.specs.Lanes.{along, ranked};
 ghost use Rattle.nd_storage.specs.ElementMut.{KeepsPlaces};
-ghost use Rattle.nd_storage.specs.CloneRefusals.{MayRefuseBelow};
-ghost use Rattle.nd_storage.specs.Clones.{ClonesAreEqual};
-ghost use Rattle.nd_storage.specs.elements.Changes.{AreDistinct, IsChangedBy};
-ghost use Rattle.nd_storage.specs.elements.Maps.{AnswersValue, MayBeGiven, TakesNumbered, Replaces, IsReplacedInPart};
+ghost use Rattle.nd_storage.specs.NumberedPlaces.{ClonesAreEqualAt, Holds, MayRefuseAt, PlacesDiffer};
+ghost use Rattle.nd_storage.specs.elements.Maps.{MayGiveEach, ReplacesEach, ReplacesInPart};
 
 use crate::storage::DataMut;
-use nd_layout::{Lane, Lanes};
-use nd_shape_and_slice::{Dimension, NoMemory, StrideList};
+use nd_layout::{Lane, Places};
+use nd_shape_and_slice::NoMemory;
 
 /// Puts at each place of a lane what the function returns for a clone of the element there. It returns the function, as
 /// the calls left it.
@@ -25,13 +19,13 @@ fn replace_lane<S: DataMut, F: FnMut(S::Elem) -> S::Elem>(
 ) -> Result<F, NoMemory>
 where
     S::Elem: Clone + Drop,
-    requires apart { AreDistinct (λ k. pos lane.place +ℤ (pos k *ℤ lane.stride)) lane.count }
-    requires clones { (k : ℕ) (x : S.Elem) → k < lane.count → stored_at (S.stored storage.old) (pos lane.place +ℤ (pos k *ℤ lane.stride)) ≡ Some x → ClonesAreEqual S.Elem.is_clone x }
-    requires holds { (k : ℕ) → k < lane.count → names_place (S.stored storage.old) (pos lane.place +ℤ (pos k *ℤ lane.stride)) ≡ true }
-    requires callable { TakesNumbered (AnswersValue F.FnMut) (MayBeGiven F.FnMut) (λ k. stored_at (S.stored storage.old) (pos lane.place +ℤ (pos k *ℤ lane.stride))) f lane.count }
-    ensures replaced { IfOk result (λ last. IsChangedBy (Replaces (AnswersValue F.FnMut)) (λ k. pos lane.place +ℤ (pos k *ℤ lane.stride)) lane.count (S.stored storage.old) (S.stored storage.new) f last) }
-    ensures stopped { IfErr result (λ _. IsReplacedInPart (AnswersValue F.FnMut) (λ k. pos lane.place +ℤ (pos k *ℤ lane.stride)) lane.count (S.stored storage.old) (S.stored storage.new) f) }
-    ensures refused { OnErr result (MayRefuseBelow S.Elem.is_infallible (stored_along (S.stored storage.old) lane.place lane.stride) lane.count) }
+    requires apart { PlacesDiffer (along lane) }
+    requires clones { ClonesAreEqualAt S.Elem.is_clone S.stored (along lane) storage.old }
+    requires holds { Holds S.stored (along lane) storage.old }
+    requires callable { MayGiveEach F.FnMut S.stored (along lane) storage.old f }
+    ensures replaced { IfOk result (ReplacesEach F.FnMut S.stored (along lane) storage.old storage.new f) }
+    ensures stopped { OnErr result (ReplacesInPart F.FnMut S.stored (along lane) storage.old storage.new f) }
+    ensures refused { OnErr result (MayRefuseAt S.Elem.is_infallible S.stored (along lane) storage.old) }
     ensures there { KeepsPlaces (S.stored storage.old) (S.stored storage.new) }
     ensures frame { S.frame storage.new ≡ S.frame storage.old }
 {
@@ -50,28 +44,22 @@ where
 /// The same at the places of a layout, in row-major order of its indexes.
 pub fn replace_places<S: DataMut, F: FnMut(S::Elem) -> S::Elem>(
     storage: &mut S,
-    first: usize,
-    lengths: &[usize],
-    strides: &[isize],
+    places: Places<'_>,
     f: F,
 ) -> Result<F, NoMemory>
 where
     S::Elem: Clone + Drop,
-    requires as_many { length strides.now ≡ length lengths.now }
-    requires few { length lengths.now ≤ 32 }
-    requires checked { HasCheckedSize lengths.now }
-    requires reach { ReachesPlaces first lengths.now strides.now }
-    requires apart { AreDistinct (place_at_rank first lengths.now strides.now) (size_of lengths.now) }
-    requires clones { (rank : ℕ) (x : S.Elem) → rank < size_of lengths.now → stored_at (S.stored storage.old) (place_at_rank first lengths.now strides.now rank) ≡ Some x → ClonesAreEqual S.Elem.is_clone x }
-    requires holds { (rank : ℕ) → rank < size_of lengths.now → names_place (S.stored storage.old) (place_at_rank first lengths.now strides.now rank) ≡ true }
-    requires callable { TakesNumbered (AnswersValue F.FnMut) (MayBeGiven F.FnMut) (λ k. stored_at (S.stored storage.old) (place_at_rank first lengths.now strides.now k)) f (size_of lengths.now) }
-    ensures replaced { IfOk result (λ last. IsChangedBy (Replaces (AnswersValue F.FnMut)) (place_at_rank first lengths.now strides.now) (size_of lengths.now) (S.stored storage.old) (S.stored storage.new) f last) }
-    ensures stopped { IfErr result (λ _. IsReplacedInPart (AnswersValue F.FnMut) (place_at_rank first lengths.now strides.now) (size_of lengths.now) (S.stored storage.old) (S.stored storage.new) f) }
-    ensures refused { OnErr result (MayRefuseBelow S.Elem.is_infallible (stored_by_rank (S.stored storage.old) first lengths.now strides.now) (size_of lengths.now)) }
+    requires apart { PlacesDiffer (ranked places) }
+    requires clones { ClonesAreEqualAt S.Elem.is_clone S.stored (ranked places) storage.old }
+    requires holds { Holds S.stored (ranked places) storage.old }
+    requires callable { MayGiveEach F.FnMut S.stored (ranked places) storage.old f }
+    ensures replaced { IfOk result (ReplacesEach F.FnMut S.stored (ranked places.entry) storage.old storage.new f) }
+    ensures stopped { OnErr result (ReplacesInPart F.FnMut S.stored (ranked places.entry) storage.old storage.new f) }
+    ensures refused { OnErr result (MayRefuseAt S.Elem.is_infallible S.stored (ranked places.entry) storage.old) }
     ensures there { KeepsPlaces (S.stored storage.old) (S.stored storage.new) }
     ensures frame { S.frame storage.new ≡ S.frame storage.old }
 {
-    let mut lanes = Lanes::new(first, lengths, strides);
+    let mut lanes = places.lanes();
     let mut now = f;
     while let Some(lane) = lanes.next() {
         match replace_lane(storage, lane, now) {

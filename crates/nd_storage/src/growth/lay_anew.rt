@@ -18,7 +18,7 @@ use crate::elements::to_vec::room_of;
 use crate::base::from_elem::repeated;
 use crate::storage::OwnedRepr;
 use core::slots::{Slots, release, reserve};
-use nd_layout::{Lane, Lanes, Layout};
+use nd_layout::{Lane, Lanes, Layout, Places};
 use nd_shape_and_slice::{Dimension, NoMemory, StrideList};
 use std::alloc::Global;
 use std::mem;
@@ -53,7 +53,12 @@ fn marks_of<A>(
     let mut marks = OwnedRepr {
         items: repeated(alloc, false, items.len())?,
     };
-    fill_places(&mut marks, first, lengths, strides, &true)?;
+    let places = Places {
+        first,
+        lengths,
+        strides,
+    };
+    fill_places(&mut marks, places, &true)?;
     Ok(marks.items)
 }
 

@@ -1,14 +1,13 @@
 use Rattle.std.specs.Prelude.{◌≡◌, ◌-◌}
-use Rattle.nd_shape_and_slice.specs.Shape.{size_of}
-use Rattle.nd_layout.specs.Walk.{place_at_rank}
+use Rattle.nd_layout.specs.Lanes.{ranked, AreLanesOf}
 use Rattle.nd_storage.specs.Filled.{IsFilledTo}
 use Rattle.nd_storage.proofs.elements.fill.fill_places.Given as goal
 
 abbrev pub invariant-loop-lane : goal.invariant-loop-lane
 invariant-loop-lane g l =
-    (l.lanes.first ≡ l.fn.first) × (l.lanes.lengths.now ≡ l.fn.lengths) × (l.lanes.strides.now ≡ l.fn.strides)
-    × IsFilledTo (place_at_rank l.fn.first l.fn.lengths l.fn.strides) l.lanes.rank l.fn.value (g.S.Data.stored l.fn.storage) (g.S.Data.stored l.storage)
+    AreLanesOf l.fn.places l.lanes
+    × IsFilledTo (ranked l.fn.places).place l.lanes.rank l.fn.value (g.S.Data.stored l.fn.storage) (g.S.Data.stored l.storage)
     × (g.S.DataMut.frame l.storage ≡ g.S.DataMut.frame l.fn.storage)
 
 abbrev pub decreases-loop-lane : goal.decreases-loop-lane
-decreases-loop-lane g l = size_of l.fn.lengths - l.lanes.rank
+decreases-loop-lane g l = (ranked l.fn.places).count - l.lanes.rank

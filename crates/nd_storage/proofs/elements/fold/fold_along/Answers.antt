@@ -1,4 +1,6 @@
-use Rattle.std.proofs.Common.{pos, ◌+ℤ◌, ◌*ℤ◌, ap, sym, ◌∙◌}
+use Rattle.std.proofs.Common.{ap, sym, ◌∙◌}
+use Rattle.nd_layout.specs.Lanes.{along}
+use Rattle.nd_storage.specs.NumberedPlaces.{elements_at}
 use Rattle.nd_storage.specs.Places.{stored_at}
 use Rattle.nd_storage.specs.elements.Folds.{FoldsElement}
 use Rattle.nd_storage.proofs.Ran.{ran_more}
@@ -11,6 +13,6 @@ f-total-requires g c =
 
 pub loop-nth-preserved : goal.loop-nth-preserved
 loop-nth-preserved g c =
-    ran_more (λ p j q. FoldsElement g.F.FnMut (stored_at (g.S.Data.stored c.args.storage.now) (pos c.args.lane.place +ℤ (pos j *ℤ c.args.lane.stride))) p q)
+    ran_more (λ p j q. FoldsElement g.F.FnMut (elements_at g.S.Data.stored (along c.args.lane) c.args.storage.now j) p q)
     (c.args.f, c.args.init) (c.loop-nth.f, c.loop-nth.total) (c.f-total.new.self, c.f-total.result) c.loop-nth.nth c.loop-nth.invariant
     (c.element.result, ap (stored_at (g.S.Data.stored c.args.storage.now)) (sym c.place_of.ensures) ∙ c.element.ensures, c.f-total.ensures)

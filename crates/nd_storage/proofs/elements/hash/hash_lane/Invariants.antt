@@ -1,8 +1,10 @@
 use Rattle.std.specs.Prelude.{◌≡◌}
 use Rattle.std.specs.List.{fold, flat_map}
-use Rattle.nd_storage.specs.Collected.{collected, stored_along}
+use Rattle.nd_layout.specs.Lanes.{along}
+use Rattle.nd_storage.specs.Collected.{collected}
+use Rattle.nd_storage.specs.NumberedPlaces.{elements_at}
 use Rattle.nd_storage.proofs.elements.hash.hash_lane.Given as goal
 
 abbrev pub invariant-loop-nth : goal.invariant-loop-nth
 invariant-loop-nth g l =
-    l.state ≡ fold g.H.Hasher.write l.fn.state (flat_map g.S.Elem.Hash.hash_input (collected (stored_along (g.S.Data.stored l.fn.storage) l.fn.lane.place l.fn.lane.stride) l.nth))
+    l.state ≡ fold g.H.Hasher.write l.fn.state (flat_map g.S.Elem.Hash.hash_input (collected (elements_at g.S.Data.stored (along l.fn.lane) l.fn.storage) l.nth))

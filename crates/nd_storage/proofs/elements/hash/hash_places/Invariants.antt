@@ -1,13 +1,14 @@
 use Rattle.std.specs.Prelude.{◌≡◌, ◌-◌}
 use Rattle.std.specs.List.{fold, flat_map}
-use Rattle.nd_shape_and_slice.specs.Shape.{size_of}
-use Rattle.nd_storage.specs.Collected.{collected, stored_by_rank}
+use Rattle.nd_layout.specs.Lanes.{ranked, AreLanesOf}
+use Rattle.nd_storage.specs.Collected.{collected}
+use Rattle.nd_storage.specs.NumberedPlaces.{elements_at}
 use Rattle.nd_storage.proofs.elements.hash.hash_places.Given as goal
 
 abbrev pub invariant-loop-lane : goal.invariant-loop-lane
 invariant-loop-lane g l =
-    (l.lanes.first ≡ l.fn.first) × (l.lanes.lengths.now ≡ l.fn.lengths) × (l.lanes.strides.now ≡ l.fn.strides)
-    × (l.state ≡ fold g.H.Hasher.write l.fn.state (flat_map g.S.Elem.Hash.hash_input (collected (stored_by_rank (g.S.Data.stored l.fn.storage) l.fn.first l.fn.lengths l.fn.strides) l.lanes.rank)))
+    AreLanesOf l.fn.places l.lanes
+    × (l.state ≡ fold g.H.Hasher.write l.fn.state (flat_map g.S.Elem.Hash.hash_input (collected (elements_at g.S.Data.stored (ranked l.fn.places) l.fn.storage) l.lanes.rank)))
 
 abbrev pub decreases-loop-lane : goal.decreases-loop-lane
-decreases-loop-lane g l = size_of l.fn.lengths - l.lanes.rank
+decreases-loop-lane g l = (ranked l.fn.places).count - l.lanes.rank

@@ -1,6 +1,7 @@
 use Rattle.std.proofs.Common.{◌≡◌, ◌∙◌, ◌+◌, ◌<◌, ℕ, ap, sym, subst}
 use Rattle.std.specs.Prelude.{is_some, slice_get}
-use Rattle.nd_storage.specs.Collected.{stored_along}
+use Rattle.nd_layout.specs.Lanes.{along}
+use Rattle.nd_storage.specs.NumberedPlaces.{elements_at}
 use Rattle.nd_storage.specs.elements.Maps.{AnswersElement, MayBeShown, AnswersBehind, TakesNumbered}
 use Rattle.nd_storage.proofs.Collecting.{beside_has}
 use Rattle.nd_storage.proofs.Mapped.{beside_found, behind_alike, takes_alike}
@@ -16,15 +17,15 @@ answer_run-requires-clause-callable g c =
     let lane = c.args.lane in
     let stored = g.S.Data.stored c.args.storage.now in
     let xs = c.run-run.result.now in
-    let same : (k : ℕ) → k < lane.count → slice_get xs k ≡ stored_along stored lane.place lane.stride k = beside_found stored lane.place lane.count lane.stride c.requires.beside xs c.run-run.ensures.count (λ k d below. sym (c.borrowed.ensures (lane.place + k)) ∙ c.run-run.ensures.elements k d below) in
+    let same : (k : ℕ) → k < lane.count → slice_get xs k ≡ elements_at g.S.Data.stored (along lane) c.args.storage.now k = beside_found stored lane.place lane.count lane.stride c.requires.beside xs c.run-run.ensures.count (λ k d below. sym (c.borrowed.ensures (lane.place + k)) ∙ c.run-run.ensures.elements k d below) in
     subst (TakesNumbered (AnswersElement g.F.FnMut) (MayBeShown g.F.FnMut) (slice_get xs) c.args.f) (sym c.run-run.ensures.count)
-    (takes_alike (AnswersElement g.F.FnMut) (MayBeShown g.F.FnMut) (slice_get xs) (stored_along stored lane.place lane.stride) lane.count same c.args.f c.requires.callable)
+    (takes_alike (AnswersElement g.F.FnMut) (MayBeShown g.F.FnMut) (slice_get xs) (elements_at g.S.Data.stored (along lane) c.args.storage.now) lane.count same c.args.f c.requires.callable)
 
 pub returns-clause-answers : goal.returns-clause-answers
 returns-clause-answers g c =
     let lane = c.args.lane in
     let stored = g.S.Data.stored c.args.storage.now in
     let xs = c.run-run.result.now in
-    let same : (k : ℕ) → k < lane.count → slice_get xs k ≡ stored_along stored lane.place lane.stride k = beside_found stored lane.place lane.count lane.stride c.requires.beside xs c.run-run.ensures.count (λ k d below. sym (c.borrowed.ensures (lane.place + k)) ∙ c.run-run.ensures.elements k d below) in
+    let same : (k : ℕ) → k < lane.count → slice_get xs k ≡ elements_at g.S.Data.stored (along lane) c.args.storage.now k = beside_found stored lane.place lane.count lane.stride c.requires.beside xs c.run-run.ensures.count (λ k d below. sym (c.borrowed.ensures (lane.place + k)) ∙ c.run-run.ensures.elements k d below) in
     let many = subst (λ n. AnswersBehind (AnswersElement g.F.FnMut) (slice_get xs) n c.args.items.now.items c.answer_run.new.items.items c.args.f c.answer_run.result) c.run-run.ensures.count c.answer_run.ensures.answers in
-    behind_alike (AnswersElement g.F.FnMut) (slice_get xs) (stored_along stored lane.place lane.stride) lane.count same c.args.items.now.items c.answer_run.new.items.items c.args.f c.answer_run.result many
+    behind_alike (AnswersElement g.F.FnMut) (slice_get xs) (elements_at g.S.Data.stored (along lane) c.args.storage.now) lane.count same c.args.items.now.items c.answer_run.new.items.items c.args.f c.answer_run.result many

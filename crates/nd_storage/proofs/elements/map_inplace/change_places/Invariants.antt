@@ -1,14 +1,13 @@
 use Rattle.std.specs.Prelude.{◌≡◌, ◌-◌}
-use Rattle.nd_shape_and_slice.specs.Shape.{size_of}
-use Rattle.nd_layout.specs.Walk.{place_at_rank}
+use Rattle.nd_layout.specs.Lanes.{ranked, AreLanesOf}
 use Rattle.nd_storage.specs.elements.Changes.{IsChangedTo}
 use Rattle.nd_storage.proofs.elements.map_inplace.change_places.Given as goal
 
 abbrev pub invariant-loop-lane : goal.invariant-loop-lane
 invariant-loop-lane g l =
-    (l.lanes.first ≡ l.fn.first) × (l.lanes.lengths.now ≡ l.fn.lengths) × (l.lanes.strides.now ≡ l.fn.strides)
-    × IsChangedTo g.F.FnMut (place_at_rank l.fn.first l.fn.lengths l.fn.strides) l.lanes.rank (g.S.Data.stored l.fn.storage) (g.S.Data.stored l.storage) l.fn.f l.now
+    AreLanesOf l.fn.places l.lanes
+    × IsChangedTo g.F.FnMut (ranked l.fn.places).place l.lanes.rank (g.S.Data.stored l.fn.storage) (g.S.Data.stored l.storage) l.fn.f l.now
     × (g.S.DataMut.frame l.storage ≡ g.S.DataMut.frame l.fn.storage)
 
 abbrev pub decreases-loop-lane : goal.decreases-loop-lane
-decreases-loop-lane g l = size_of l.fn.lengths - l.lanes.rank
+decreases-loop-lane g l = (ranked l.fn.places).count - l.lanes.rank

@@ -1,4 +1,5 @@
-use Rattle.std.proofs.Common.{◌≡◌, ◌∙◌, ℕ, ℤ, pos, ◌+ℤ◌, ◌*ℤ◌, ap, sym, subst, arith}
+use Rattle.std.proofs.Common.{◌≡◌, ◌∙◌, ap, sym, subst, arith}
+use Rattle.nd_layout.specs.Lanes.{along}
 use Rattle.nd_storage.specs.Places.{stored_at}
 use Rattle.nd_storage.specs.elements.Changes.{IsChangedBy}
 use Rattle.nd_storage.specs.elements.Maps.{Replaces}
@@ -10,7 +11,7 @@ use Rattle.nd_storage.proofs.elements.map_mut.answer_along.Goals as goal
 pub answer_for-after-requires-clause-callable : goal.answer_for-after-requires-clause-callable
 answer_for-after-requires-clause-callable g c x is =
     let lane = c.args.lane in
-    let place : ℕ → ℤ = λ k. pos lane.place +ℤ (pos k *ℤ lane.stride) in
+    let place = (along lane).place in
     let old = g.S.Data.stored c.args.storage.now in
     let now = g.S.Data.stored c.loop-nth.storage in
     let k = c.loop-nth.nth in
@@ -23,7 +24,7 @@ answer_for-after-requires-clause-callable g c x is =
 pub loop-nth-preserved : goal.loop-nth-preserved
 loop-nth-preserved g c =
     let lane = c.args.lane in
-    let place : ℕ → ℤ = λ k. pos lane.place +ℤ (pos k *ℤ lane.stride) in
+    let place = (along lane).place in
     let old = g.S.Data.stored c.args.storage.now in
     let now = g.S.Data.stored c.loop-nth.storage in
     let new = g.S.Data.stored c.answer_for-after.new.storage in
@@ -40,9 +41,9 @@ loop-nth-preserved g c =
       c.answer_for-after.ensures.frame ∙ so_far.3,
     )
 
-pub returns-clause-changed : goal.returns-clause-changed
-returns-clause-changed g c =
+pub returns-clause-handed : goal.returns-clause-handed
+returns-clause-handed g c =
     let ended = c.loop-nth-test.false in
     let within = c.loop-nth.auto.nth-end in
     let all : c.loop-nth.nth ≡ c.args.lane.count = omega (arith, ended, within) in
-    subst (λ n. IsChangedBy (Replaces (Collects (LeavesAndAnswers g.F.FnMut))) (λ k. pos c.args.lane.place +ℤ (pos k *ℤ c.args.lane.stride)) n (g.S.Data.stored c.args.storage.now) (g.S.Data.stored c.loop-nth.storage) (c.args.f, c.args.items.now.items) (c.loop-nth.now, c.loop-nth.items.items)) all c.loop-nth.invariant.0
+    subst (λ n. IsChangedBy (Replaces (Collects (LeavesAndAnswers g.F.FnMut))) (along c.args.lane).place n (g.S.Data.stored c.args.storage.now) (g.S.Data.stored c.loop-nth.storage) (c.args.f, c.args.items.now.items) (c.loop-nth.now, c.loop-nth.items.items)) all c.loop-nth.invariant.0

@@ -1,4 +1,5 @@
-use Rattle.std.specs.Prelude.{◌≡◌, ◌+◌, pos, ◌+ℤ◌, ◌*ℤ◌, vec_len, vec_capacity}
+use Rattle.std.specs.Prelude.{◌≡◌, ◌+◌, vec_len, vec_capacity}
+use Rattle.nd_layout.specs.Lanes.{along}
 use Rattle.nd_storage.specs.elements.Changes.{IsChangedBy}
 use Rattle.nd_storage.specs.elements.Maps.{Replaces}
 use Rattle.nd_storage.specs.elements.MapsMut.{LeavesAndAnswers, Collects}
@@ -6,7 +7,7 @@ use Rattle.nd_storage.proofs.elements.map_mut.answer_along.Given as goal
 
 abbrev pub invariant-loop-nth : goal.invariant-loop-nth
 invariant-loop-nth g l =
-    IsChangedBy (Replaces (Collects (LeavesAndAnswers g.F.FnMut))) (λ k. pos l.fn.lane.place +ℤ (pos k *ℤ l.fn.lane.stride)) l.nth (g.S.Data.stored l.fn.storage) (g.S.Data.stored l.storage) (l.fn.f, l.fn.items.items) (l.now, l.items.items)
+    IsChangedBy (Replaces (Collects (LeavesAndAnswers g.F.FnMut))) (along l.fn.lane).place l.nth (g.S.Data.stored l.fn.storage) (g.S.Data.stored l.storage) (l.fn.f, l.fn.items.items) (l.now, l.items.items)
     × (vec_len l.items ≡ vec_len l.fn.items + l.nth)
     × (vec_capacity l.items ≡ vec_capacity l.fn.items)
     × (g.S.DataMut.frame l.storage ≡ g.S.DataMut.frame l.fn.storage)

@@ -1,4 +1,5 @@
-use Rattle.std.proofs.Common.{◌≡◌, ◌∙◌, ℕ, ℤ, Some, pos, ◌+ℤ◌, ◌*ℤ◌, ap, sym}
+use Rattle.std.proofs.Common.{◌≡◌, ◌∙◌, Some, ap, sym}
+use Rattle.nd_layout.specs.Lanes.{along}
 use Rattle.nd_storage.specs.Places.{stored_at}
 use Rattle.nd_storage.specs.elements.Maps.{AnswersValue, Replaces}
 use Rattle.nd_storage.proofs.Changed.{changed_more}
@@ -8,7 +9,7 @@ use Rattle.nd_storage.proofs.elements.mapv_inplace.replace_lane.Goals as goal
 pub f-requires : goal.f-requires
 f-requires g c =
     let lane = c.args.lane in
-    let place : ℕ → ℤ = λ k. pos lane.place +ℤ (pos k *ℤ lane.stride) in
+    let place = (along lane).place in
     let old = g.S.Data.stored c.args.storage.now in
     let now = g.S.Data.stored c.loop-nth.storage in
     let k = c.loop-nth.nth in
@@ -21,7 +22,7 @@ f-requires g c =
 pub loop-nth-preserved : goal.loop-nth-preserved
 loop-nth-preserved g c =
     let lane = c.args.lane in
-    let place : ℕ → ℤ = λ k. pos lane.place +ℤ (pos k *ℤ lane.stride) in
+    let place = (along lane).place in
     let old = g.S.Data.stored c.args.storage.now in
     let now = g.S.Data.stored c.loop-nth.storage in
     let new = g.S.Data.stored c.replace.new.self in

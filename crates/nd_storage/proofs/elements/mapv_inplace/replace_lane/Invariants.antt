@@ -1,4 +1,5 @@
-use Rattle.std.specs.Prelude.{◌≡◌, pos, ◌+ℤ◌, ◌*ℤ◌}
+use Rattle.std.specs.Prelude.{◌≡◌}
+use Rattle.nd_layout.specs.Lanes.{along}
 use Rattle.nd_storage.specs.ElementMut.{KeepsPlaces}
 use Rattle.nd_storage.specs.elements.Changes.{IsChangedBy}
 use Rattle.nd_storage.specs.elements.Maps.{AnswersValue, Replaces}
@@ -6,6 +7,6 @@ use Rattle.nd_storage.proofs.elements.mapv_inplace.replace_lane.Given as goal
 
 abbrev pub invariant-loop-nth : goal.invariant-loop-nth
 invariant-loop-nth g l =
-    IsChangedBy (Replaces (AnswersValue g.F.FnMut)) (λ k. pos l.fn.lane.place +ℤ (pos k *ℤ l.fn.lane.stride)) l.nth (g.S.Data.stored l.fn.storage) (g.S.Data.stored l.storage) l.fn.f l.f
+    IsChangedBy (Replaces (AnswersValue g.F.FnMut)) (along l.fn.lane).place l.nth (g.S.Data.stored l.fn.storage) (g.S.Data.stored l.storage) l.fn.f l.f
     × (g.S.DataMut.frame l.storage ≡ g.S.DataMut.frame l.fn.storage)
     × KeepsPlaces (g.S.Data.stored l.fn.storage) (g.S.Data.stored l.storage)

@@ -1,5 +1,6 @@
-use Rattle.nd_shape_and_slice.specs.Shape.{size_of}
+use Rattle.std.proofs.Common.{subst}
 use Rattle.std.specs.Prelude.{OnErr}
+use Rattle.nd_layout.specs.Lanes.{by_rank}
 use Rattle.nd_array_core.specs.Meaning.{meaning_of}
 use Rattle.nd_storage.specs.CloneRefusals.{MayRefuseClonesOf}
 use Rattle.nd_storage.proofs.Assigned.{on_err}
@@ -11,7 +12,7 @@ unfolding meaning_of
 returns-clause-refused g c =
     let layout = c.args.self.now.layout in
     let order = c.free_order-order.result in
-    let refused : OnErr c.fill_places.result (MayRefuseClonesOf g.S.Elem.Clone.is_infallible c.args.value (size_of (g.D.Dimension.lengths order.dim))) = rw c.slice.ensures.lengths at c.fill_places.ensures.refused in
+    let refused = subst (λ p. OnErr c.fill_places.result (MayRefuseClonesOf g.S.Elem.Clone.is_infallible c.args.value (by_rank p).count)) c.places.ensures c.fill_places.ensures.refused in
     on_err c.fill_places.result
     (value_refused g.S.Elem.Clone.is_infallible c.args.value layout.offset (g.D.Dimension.lengths layout.dim) (g.D.Strides.StrideList.strides_of layout.strides) order.offset (g.D.Dimension.lengths order.dim) (g.D.Strides.StrideList.strides_of order.strides) c.free_order-order.ensures.order)
     refused

@@ -1,7 +1,7 @@
-use Rattle.nd_shape_and_slice.specs.Shape.{size_of}
-use Rattle.nd_layout.specs.Walk.{place_at_rank}
+use Rattle.std.proofs.Common.{sym, subst}
+use Rattle.nd_layout.specs.Lanes.{by_rank}
 use Rattle.nd_array_core.specs.Meaning.{meaning_of}
-use Rattle.nd_storage.specs.elements.Folds.{FoldsPlaces}
+use Rattle.nd_storage.specs.elements.Folds.{FoldsEach, MayFoldEach}
 use Rattle.nd_storage.proofs.Folded.{places_foldable, folds_all, folds_settled}
 use Rattle.nd_array_core.proofs.elements.fold.ArrayBase+S+D.fold.Goals as goal
 
@@ -10,7 +10,8 @@ unfolding meaning_of
 fold_places-f-requires-clause-callable g c =
     let array = c.args.self.now in
     let order = c.free_order-order.result in
-    rw (c.slice.ensures.lengths, c.slice-2.ensures) (places_foldable g.F.FnMut (g.S.Data.stored array.storage) array.layout.offset (g.D.Dimension.lengths array.layout.dim) (g.D.Strides.StrideList.strides_of array.layout.strides)
+    subst (λ p. MayFoldEach g.F.FnMut g.S.Data.stored (by_rank p) array.storage (c.args.f, c.args.init)) (sym c.places.ensures)
+    (places_foldable g.F.FnMut (g.S.Data.stored array.storage) array.layout.offset (g.D.Dimension.lengths array.layout.dim) (g.D.Strides.StrideList.strides_of array.layout.strides)
     order.offset (g.D.Dimension.lengths order.dim) (g.D.Strides.StrideList.strides_of order.strides) c.free_order-order.ensures.order c.args.f c.args.init c.requires.callable)
 
 pub returns-clause-visits : goal.returns-clause-visits
@@ -19,7 +20,7 @@ returns-clause-visits g c =
     let array = c.args.self.now in
     let order = c.free_order-order.result in
     let stored = g.S.Data.stored array.storage in
-    let ran : FoldsPlaces g.F.FnMut stored (place_at_rank order.offset (g.D.Dimension.lengths order.dim) (g.D.Strides.StrideList.strides_of order.strides)) (c.args.f, c.args.init) (size_of (g.D.Dimension.lengths order.dim)) (c.fold_places-f.result.0, c.fold_places-f.result.1) = rw (c.slice.ensures.lengths, c.slice-2.ensures) at c.fold_places-f.ensures.ran in
+    let ran = subst (λ p. FoldsEach g.F.FnMut g.S.Data.stored (by_rank p) array.storage (c.args.f, c.args.init) c.fold_places-f.result) c.places.ensures c.fold_places-f.ensures.ran in
     folds_all g.F.FnMut stored array.layout.offset (g.D.Dimension.lengths array.layout.dim) (g.D.Strides.StrideList.strides_of array.layout.strides)
     order.offset (g.D.Dimension.lengths order.dim) (g.D.Strides.StrideList.strides_of order.strides) c.free_order-order.ensures.order c.args.f c.fold_places-f.result.0 c.args.init c.fold_places-f.result.1 ran
 

@@ -1,7 +1,9 @@
-use Rattle.nd_shape_and_slice.specs.Shape.{size_of}
-use Rattle.nd_storage.specs.Collected.{stored_by_rank}
+use Rattle.std.proofs.Common.{sym, subst}
+use Rattle.nd_layout.specs.Lanes.{by_rank}
+use Rattle.nd_layout.specs.Placements.{placement_of}
+use Rattle.nd_storage.specs.NumberedPlaces.{elements_at}
 use Rattle.nd_array_core.specs.Meaning.{meaning_of}
-use Rattle.nd_storage.specs.elements.Maps.{AnswersElement, MayBeShown, RanNumbered}
+use Rattle.nd_storage.specs.elements.Maps.{AnswersElement, MayBeShown, MayShowEach, ShowsEach}
 use Rattle.nd_storage.proofs.Folded.{rearranged_numbers}
 use Rattle.nd_storage.proofs.Mapped.{rearranged_there, indexes_taken, indexes_visited}
 use Rattle.nd_array_core.proofs.elements.for_each.ArrayBase+S+D.for_each.Goals as goal
@@ -17,8 +19,8 @@ show_places-requires-clause-callable g c =
     let ms = g.D.Dimension.lengths order.dim in
     let ts = g.D.Strides.StrideList.strides_of order.strides in
     let by = c.free_order-order.ensures.order in
-    rw (c.slice.ensures.lengths, c.slice-2.ensures)
-    (indexes_taken (AnswersElement g.F.FnMut) (rearranged_numbers array.layout.offset ns ss order.offset ms ts by) _ (stored_by_rank stored order.offset ms ts) (rearranged_there stored array.layout.offset ns ss order.offset ms ts by)
+    subst (λ p. MayShowEach g.F.FnMut g.S.Data.stored (by_rank p) array.storage c.args.f) (sym c.places.ensures)
+    (indexes_taken (AnswersElement g.F.FnMut) (rearranged_numbers array.layout.offset ns ss order.offset ms ts by) _ (elements_at g.S.Data.stored (by_rank (placement_of order)) array.storage) (rearranged_there stored array.layout.offset ns ss order.offset ms ts by)
     (MayBeShown g.F.FnMut) c.args.f c.requires.callable)
 
 pub returns : goal.returns
@@ -32,11 +34,11 @@ returns g c =
     let ms = g.D.Dimension.lengths order.dim in
     let ts = g.D.Strides.StrideList.strides_of order.strides in
     let by = c.free_order-order.ensures.order in
-    let ran : RanNumbered (AnswersElement g.F.FnMut) (stored_by_rank stored order.offset ms ts) c.args.f (size_of ms) c.show_places.result = rw (c.slice.ensures.lengths, c.slice-2.ensures) at c.show_places.ensures.ran in
+    let ran = subst (λ p. ShowsEach g.F.FnMut g.S.Data.stored (by_rank p) array.storage c.args.f c.show_places.result) c.places.ensures c.show_places.ensures.ran in
     record {
       visits = (
         c.show_places.result,
-        indexes_visited (AnswersElement g.F.FnMut) (rearranged_numbers array.layout.offset ns ss order.offset ms ts by) _ (stored_by_rank stored order.offset ms ts) (rearranged_there stored array.layout.offset ns ss order.offset ms ts by)
+        indexes_visited (AnswersElement g.F.FnMut) (rearranged_numbers array.layout.offset ns ss order.offset ms ts by) _ (elements_at g.S.Data.stored (by_rank (placement_of order)) array.storage) (rearranged_there stored array.layout.offset ns ss order.offset ms ts by)
             c.args.f c.show_places.result ran,
       );
     }

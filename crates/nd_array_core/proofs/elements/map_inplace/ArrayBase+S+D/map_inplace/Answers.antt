@@ -1,11 +1,11 @@
-use Rattle.std.proofs.Common.{refl}
-use Rattle.nd_shape_and_slice.specs.Shape.{size_of}
-use Rattle.nd_layout.specs.Walk.{place_at_rank}
+use Rattle.std.proofs.Common.{refl, sym, subst}
+use Rattle.nd_layout.specs.Lanes.{by_rank}
 use Rattle.nd_shape_and_slice.specs.Place.{place_of}
 use Rattle.nd_array_core.specs.Meaning.{meaning_of}
 use Rattle.nd_storage.specs.Meaning.{inside}
 use Rattle.nd_storage.specs.Places.{stored_at}
-use Rattle.nd_storage.specs.elements.Changes.{IsChangedTo}
+use Rattle.nd_storage.specs.NumberedPlaces.{PlacesDiffer}
+use Rattle.nd_storage.specs.elements.Changes.{ChangesEach, MayChangeEach}
 use Rattle.nd_storage.proofs.WriteStep.{one_index}
 use Rattle.nd_storage.proofs.Changed.{ranks_distinct, places_changeable, changes_all, changed_holds, changes_settled}
 use Rattle.nd_array_core.proofs.elements.map_inplace.ArrayBase+S+D.map_inplace.Goals as goal
@@ -17,7 +17,7 @@ change_places-requires-clause-apart g c =
     let order = c.free_order-order.result in
     let ns = g.D.Dimension.lengths old.dim in
     let ss = g.D.Strides.StrideList.strides_of old.strides in
-    rw (c.slice.ensures.lengths, c.slice-2.ensures) (ranks_distinct g.F.FnMut old.offset ns ss order.offset (g.D.Dimension.lengths order.dim) (g.D.Strides.StrideList.strides_of order.strides) c.free_order-order.ensures.order
+    subst (λ p. PlacesDiffer (by_rank p)) (sym c.places.ensures) (ranks_distinct g.F.FnMut old.offset ns ss order.offset (g.D.Dimension.lengths order.dim) (g.D.Strides.StrideList.strides_of order.strides) c.free_order-order.ensures.order
     (λ i j h q same. one_index ns ss old.offset i j old.as_many (array.separated g.met.S.DataMut.alone) h q same))
 
 pub change_places-requires-clause-callable : goal.change_places-requires-clause-callable
@@ -26,7 +26,7 @@ change_places-requires-clause-callable g c =
     let array = c.args.self.now in
     let old = array.layout in
     let order = c.free_order-order.result in
-    rw (c.slice.ensures.lengths, c.slice-2.ensures) (places_changeable g.F.FnMut old.offset (g.D.Dimension.lengths old.dim) (g.D.Strides.StrideList.strides_of old.strides) order.offset (g.D.Dimension.lengths order.dim) (g.D.Strides.StrideList.strides_of order.strides) c.free_order-order.ensures.order
+    subst (λ p. MayChangeEach g.F.FnMut g.S.Data.stored (by_rank p) array.storage c.args.f) (sym c.places.ensures) (places_changeable g.F.FnMut old.offset (g.D.Dimension.lengths old.dim) (g.D.Strides.StrideList.strides_of old.strides) order.offset (g.D.Dimension.lengths order.dim) (g.D.Strides.StrideList.strides_of order.strides) c.free_order-order.ensures.order
     (g.S.Data.stored array.storage) c.args.f c.requires.callable)
 
 pub invariant_of-self : goal.invariant_of-self
@@ -34,7 +34,7 @@ invariant_of-self g c =
     let array = c.args.self.now in
     let old = array.layout in
     let order = c.free_order-order.result in
-    let changed : IsChangedTo g.F.FnMut (place_at_rank order.offset (g.D.Dimension.lengths order.dim) (g.D.Strides.StrideList.strides_of order.strides)) (size_of (g.D.Dimension.lengths order.dim)) (g.S.Data.stored array.storage) (g.S.Data.stored c.change_places.new.storage) c.args.f c.change_places.result = rw (c.slice.ensures.lengths, c.slice-2.ensures) at c.change_places.ensures.changed in
+    let changed = subst (λ p. ChangesEach g.F.FnMut g.S.Data.stored (by_rank p) array.storage c.change_places.new.storage c.args.f c.change_places.result) c.places.ensures c.change_places.ensures.changed in
     record {
       inside = changed_holds g.F.FnMut old.offset (g.D.Dimension.lengths old.dim) (g.D.Strides.StrideList.strides_of old.strides) order.offset (g.D.Dimension.lengths order.dim) (g.D.Strides.StrideList.strides_of order.strides) c.free_order-order.ensures.order
           (g.S.Data.stored array.storage) (g.S.Data.stored c.change_places.new.storage) c.args.f c.change_places.result changed;
@@ -47,7 +47,7 @@ returns-clause-visits g c =
     let array = c.args.self.now in
     let old = array.layout in
     let order = c.free_order-order.result in
-    let changed : IsChangedTo g.F.FnMut (place_at_rank order.offset (g.D.Dimension.lengths order.dim) (g.D.Strides.StrideList.strides_of order.strides)) (size_of (g.D.Dimension.lengths order.dim)) (g.S.Data.stored array.storage) (g.S.Data.stored c.change_places.new.storage) c.args.f c.change_places.result = rw (c.slice.ensures.lengths, c.slice-2.ensures) at c.change_places.ensures.changed in
+    let changed = subst (λ p. ChangesEach g.F.FnMut g.S.Data.stored (by_rank p) array.storage c.change_places.new.storage c.args.f c.change_places.result) c.places.ensures c.change_places.ensures.changed in
     changes_all g.F.FnMut old.offset (g.D.Dimension.lengths old.dim) (g.D.Strides.StrideList.strides_of old.strides) order.offset (g.D.Dimension.lengths order.dim) (g.D.Strides.StrideList.strides_of order.strides) c.free_order-order.ensures.order
     (g.S.Data.stored array.storage) (g.S.Data.stored c.change_places.new.storage) c.args.f c.change_places.result changed
 

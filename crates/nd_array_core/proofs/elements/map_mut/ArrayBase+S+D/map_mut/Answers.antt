@@ -1,16 +1,15 @@
-use Rattle.std.proofs.Common.{◌≡◌, ◌∙◌, ℕ, [], List, refl}
+use Rattle.std.proofs.Common.{◌≡◌, ◌∙◌, ℕ, [], List, refl, sym, subst}
 use Rattle.nd_shape_and_slice.specs.Shape.{size_of, index_at}
 use Rattle.nd_shape_and_slice.specs.Place.{place_of}
 use Rattle.nd_shape_and_slice.specs.declared.builder.Order.TheVariants.{RowMajor}
-use Rattle.nd_layout.specs.Walk.{place_at_rank}
-use Rattle.nd_storage.specs.Collected.{stored_by_rank}
+use Rattle.nd_layout.specs.Lanes.{by_rank}
+use Rattle.nd_layout.specs.Placements.{placement_of}
+use Rattle.nd_storage.specs.NumberedPlaces.{elements_at, Holds, PlacesDiffer}
 use Rattle.nd_storage.specs.Places.{stored_at}
 use Rattle.nd_array_core.specs.Meaning.{meaning_of, memory_layout_of, element_at}
 use Rattle.nd_storage.specs.Meaning.{inside}
 use Rattle.nd_storage.specs.ByRank.{found_by_rank}
-use Rattle.nd_storage.specs.elements.Changes.{IsChangedBy}
-use Rattle.nd_storage.specs.elements.Maps.{Replaces}
-use Rattle.nd_storage.specs.elements.MapsMut.{LeavesAndAnswers, MayBeHanded, Collects}
+use Rattle.nd_storage.specs.elements.MapsMut.{HandsEach, LeavesAndAnswers, MayBeHanded, MayHandEach}
 use Rattle.nd_storage.proofs.WriteStep.{one_index}
 use Rattle.nd_storage.proofs.Collecting.{joined_has}
 use Rattle.nd_storage.proofs.Mapped.{joined_numbers, joined_there, joined_shows, indexes_taken}
@@ -30,7 +29,7 @@ answer_places-f-requires-clause-apart g c =
     let ts = g.D.Strides.StrideList.strides_of order.strides in
     let joined = rw (c.copied-joined.ensures.lengths, c.copied-joined.ensures.strides) at c.join_axes.ensures.joined in
     let from = c.join_axes.ensures.offset ∙ c.copied-joined.ensures.offset in
-    rw (c.slice.ensures.lengths, c.slice-2.ensures)
+    subst (λ p. PlacesDiffer (by_rank p)) (sym c.places.ensures)
     (ranks_apart array.layout.offset ns ss order.offset ms ts (joined_order ns ss ms ts joined array.layout.offset order.offset from) (λ i j h q same. one_index ns ss array.layout.offset i j array.layout.as_many (array.separated g.met.S.DataMut.alone) h q same))
 
 pub answer_places-f-requires-clause-holds : goal.answer_places-f-requires-clause-holds
@@ -44,7 +43,7 @@ answer_places-f-requires-clause-holds g c =
     let ts = g.D.Strides.StrideList.strides_of order.strides in
     let joined = rw (c.copied-joined.ensures.lengths, c.copied-joined.ensures.strides) at c.join_axes.ensures.joined in
     let from = c.join_axes.ensures.offset ∙ c.copied-joined.ensures.offset in
-    rw (c.slice.ensures.lengths, c.slice-2.ensures) (joined_has stored array.layout.offset ns ss order.offset ms ts from joined array.inside)
+    subst (λ p. Holds g.S.Data.stored (by_rank p) array.storage) (sym c.places.ensures) (joined_has stored array.layout.offset ns ss order.offset ms ts from joined array.inside)
 
 pub answer_places-f-requires-clause-callable : goal.answer_places-f-requires-clause-callable
 unfolding meaning_of
@@ -58,9 +57,9 @@ answer_places-f-requires-clause-callable g c =
     let ts = g.D.Strides.StrideList.strides_of order.strides in
     let joined = rw (c.copied-joined.ensures.lengths, c.copied-joined.ensures.strides) at c.join_axes.ensures.joined in
     let from = c.join_axes.ensures.offset ∙ c.copied-joined.ensures.offset in
-    rw (c.slice.ensures.lengths, c.slice-2.ensures)
-    (collects_taken (LeavesAndAnswers g.F.FnMut) (MayBeHanded g.F.FnMut) (stored_by_rank stored order.offset ms ts) c.args.f [] (size_of ms)
-    (indexes_taken (LeavesAndAnswers g.F.FnMut) (joined_numbers ns ss ms ts joined) _ (stored_by_rank stored order.offset ms ts) (joined_there ns ss ms ts joined stored array.layout.offset order.offset from)
+    subst (λ p. MayHandEach g.F.FnMut g.S.Data.stored (by_rank p) array.storage c.args.f []) (sym c.places.ensures)
+    (collects_taken (LeavesAndAnswers g.F.FnMut) (MayBeHanded g.F.FnMut) (elements_at g.S.Data.stored (by_rank (placement_of order)) array.storage) c.args.f [] (size_of ms)
+    (indexes_taken (LeavesAndAnswers g.F.FnMut) (joined_numbers ns ss ms ts joined) _ (elements_at g.S.Data.stored (by_rank (placement_of order)) array.storage) (joined_there ns ss ms ts joined stored array.layout.offset order.offset from)
     (MayBeHanded g.F.FnMut) c.args.f c.requires.callable))
 
 pub invariant_of-self : goal.invariant_of-self
@@ -76,10 +75,10 @@ invariant_of-self g c =
     let from = c.join_axes.ensures.offset ∙ c.copied-joined.ensures.offset in
     let new = g.S.Data.stored c.answer_places-f.new.storage in
     let items = c.answer_places-f.result.1.items in
-    let changed : IsChangedBy (Replaces (Collects (LeavesAndAnswers g.F.FnMut))) (place_at_rank order.offset ms ts) (size_of ms) stored new (c.args.f, []) (c.answer_places-f.result.0, items) = rw (c.slice.ensures.lengths, c.slice-2.ensures) at c.answer_places-f.ensures.changed in
+    let handed = subst (λ p. HandsEach g.F.FnMut g.S.Data.stored (by_rank p) array.storage c.answer_places-f.new.storage c.args.f c.answer_places-f.result) c.places.ensures c.answer_places-f.ensures.handed in
     record {
-      inside = λ i inbox. rw inbox at (handed_there (LeavesAndAnswers g.F.FnMut) (joined_numbers ns ss ms ts joined) (place_at_rank order.offset ms ts) stored new (λ i. inside ns i (stored_at stored (place_of array.layout.offset ss i))) (λ i. inside ns i (stored_at new (place_of array.layout.offset ss i)))
-          (joined_there ns ss ms ts joined stored array.layout.offset order.offset from) (joined_there ns ss ms ts joined new array.layout.offset order.offset from) c.args.f c.answer_places-f.result.0 items changed i inbox);
+      inside = λ i inbox. rw inbox at (handed_there (LeavesAndAnswers g.F.FnMut) (joined_numbers ns ss ms ts joined) (by_rank (placement_of order)).place stored new (λ i. inside ns i (stored_at stored (place_of array.layout.offset ss i))) (λ i. inside ns i (stored_at new (place_of array.layout.offset ss i)))
+          (joined_there ns ss ms ts joined stored array.layout.offset order.offset from) (joined_there ns ss ms ts joined new array.layout.offset order.offset from) c.args.f c.answer_places-f.result.0 items handed i inbox);
       separated = array.separated;
     }
 
@@ -97,8 +96,8 @@ returns-clause-frame g c =
     let from = c.join_axes.ensures.offset ∙ c.copied-joined.ensures.offset in
     let new = g.S.Data.stored c.answer_places-f.new.storage in
     let items = c.answer_places-f.result.1.items in
-    let changed : IsChangedBy (Replaces (Collects (LeavesAndAnswers g.F.FnMut))) (place_at_rank order.offset ms ts) (size_of ms) stored new (c.args.f, []) (c.answer_places-f.result.0, items) = rw (c.slice.ensures.lengths, c.slice-2.ensures) at c.answer_places-f.ensures.changed in
-    (refl, refl, (λ i. refl), others_stay array.layout.offset ns ss order.offset ms ts (joined_order ns ss ms ts joined array.layout.offset order.offset from) stored new changed.left, c.answer_places-f.ensures.frame, refl)
+    let handed = subst (λ p. HandsEach g.F.FnMut g.S.Data.stored (by_rank p) array.storage c.answer_places-f.new.storage c.args.f c.answer_places-f.result) c.places.ensures c.answer_places-f.ensures.handed in
+    (refl, refl, (λ i. refl), others_stay array.layout.offset ns ss order.offset ms ts (joined_order ns ss ms ts joined array.layout.offset order.offset from) stored new handed.left, c.answer_places-f.ensures.frame, refl)
 
 pub returns-clause-visits : goal.returns-clause-visits
 unfolding meaning_of
@@ -114,10 +113,10 @@ returns-clause-visits g c =
     let from = c.join_axes.ensures.offset ∙ c.copied-joined.ensures.offset in
     let new = g.S.Data.stored c.answer_places-f.new.storage in
     let items = c.answer_places-f.result.1.items in
-    let changed : IsChangedBy (Replaces (Collects (LeavesAndAnswers g.F.FnMut))) (place_at_rank order.offset ms ts) (size_of ms) stored new (c.args.f, []) (c.answer_places-f.result.0, items) = rw (c.slice.ensures.lengths, c.slice-2.ensures) at c.answer_places-f.ensures.changed in
+    let handed = subst (λ p. HandsEach g.F.FnMut g.S.Data.stored (by_rank p) array.storage c.answer_places-f.new.storage c.args.f c.answer_places-f.result) c.places.ensures c.answer_places-f.ensures.handed in
     let seen : (i : List ℕ) → element_at c.of_items.result i ≡ found_by_rank (ns, RowMajor) items i = λ i. c.of_items.ensures.owns.4 i ∙ (λ k. found_by_rank (c.raw_dim-dim.ensures k, RowMajor) (c.of_items.ensures.stored k) i) in
-    handed_answered (LeavesAndAnswers g.F.FnMut) (joined_numbers ns ss ms ts joined) (place_at_rank order.offset ms ts) stored new _ (λ i. inside ns i (stored_at new (place_of array.layout.offset ss i)))
-    (joined_there ns ss ms ts joined stored array.layout.offset order.offset from) (joined_there ns ss ms ts joined new array.layout.offset order.offset from) c.args.f c.answer_places-f.result.0 items changed
+    handed_answered (LeavesAndAnswers g.F.FnMut) (joined_numbers ns ss ms ts joined) (by_rank (placement_of order)).place stored new _ (λ i. inside ns i (stored_at new (place_of array.layout.offset ss i)))
+    (joined_there ns ss ms ts joined stored array.layout.offset order.offset from) (joined_there ns ss ms ts joined new array.layout.offset order.offset from) c.args.f c.answer_places-f.result.0 items handed
     (element_at c.of_items.result) (λ k below. seen (index_at ns k) ∙ joined_shows ns ss ms ts joined items k below)
 
 pub returns-clause-alike : goal.returns-clause-alike

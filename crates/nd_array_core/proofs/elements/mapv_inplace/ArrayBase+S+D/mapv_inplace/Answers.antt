@@ -1,14 +1,12 @@
-use Rattle.std.proofs.Common.{◌∙◌, refl, sym}
-use Rattle.nd_shape_and_slice.specs.Shape.{size_of}
+use Rattle.std.proofs.Common.{◌∙◌, refl, sym, subst}
 use Rattle.nd_shape_and_slice.specs.Place.{place_of}
-use Rattle.nd_layout.specs.Walk.{place_at_rank}
-use Rattle.nd_storage.specs.CloneRefusals.{MayRefuseBelow}
-use Rattle.nd_storage.specs.Collected.{stored_by_rank}
+use Rattle.nd_layout.specs.Lanes.{by_rank}
+use Rattle.nd_layout.specs.Placements.{placement_of}
+use Rattle.nd_storage.specs.NumberedPlaces.{elements_at, ClonesAreEqualAt, MayRefuseAt, PlacesDiffer}
 use Rattle.nd_array_core.specs.Meaning.{meaning_of, element_at}
 use Rattle.nd_storage.specs.Meaning.{inside}
 use Rattle.nd_storage.specs.Places.{stored_at}
-use Rattle.nd_storage.specs.elements.Changes.{IsChangedBy}
-use Rattle.nd_storage.specs.elements.Maps.{AnswersValue, MayBeGiven, Replaces, IsReplacedInPart}
+use Rattle.nd_storage.specs.elements.Maps.{AnswersValue, MayBeGiven, MayGiveEach, ReplacesEach, ReplacesInPart}
 use Rattle.nd_storage.proofs.WriteStep.{one_index}
 use Rattle.nd_storage.proofs.Folded.{rearranged_numbers}
 use Rattle.nd_storage.proofs.Mapped.{indexes_taken, rearranged_there, answers_alike, value_by, on_err_from}
@@ -22,7 +20,7 @@ replace_places-requires-clause-apart g c =
     let order = c.free_order-order.result in
     let ns = g.D.Dimension.lengths array.layout.dim in
     let ss = g.D.Strides.StrideList.strides_of array.layout.strides in
-    rw (c.slice.ensures.lengths, c.slice-2.ensures) (ranks_apart array.layout.offset ns ss order.offset (g.D.Dimension.lengths order.dim) (g.D.Strides.StrideList.strides_of order.strides) c.free_order-order.ensures.order
+    subst (λ p. PlacesDiffer (by_rank p)) (sym c.places.ensures) (ranks_apart array.layout.offset ns ss order.offset (g.D.Dimension.lengths order.dim) (g.D.Strides.StrideList.strides_of order.strides) c.free_order-order.ensures.order
     (λ i j h q same. one_index ns ss array.layout.offset i j array.layout.as_many (array.separated g.met.S.DataMut.alone) h q same))
 
 pub replace_places-requires-clause-clones : goal.replace_places-requires-clause-clones
@@ -35,7 +33,7 @@ replace_places-requires-clause-clones g c =
     let ms = g.D.Dimension.lengths order.dim in
     let ts = g.D.Strides.StrideList.strides_of order.strides in
     let by = c.free_order-order.ensures.order in
-    rw (c.slice.ensures.lengths, c.slice-2.ensures)
+    subst (λ p. ClonesAreEqualAt g.S.Elem.Clone.is_clone g.S.Data.stored (by_rank p) array.storage) (sym c.places.ensures)
     (λ rank x below e. c.requires.clones (by.index_of rank) x (sym (rearranged_there (g.S.Data.stored array.storage) array.layout.offset ns ss order.offset ms ts by rank below) ∙ e))
 
 pub replace_places-requires-clause-callable : goal.replace_places-requires-clause-callable
@@ -49,8 +47,8 @@ replace_places-requires-clause-callable g c =
     let ms = g.D.Dimension.lengths order.dim in
     let ts = g.D.Strides.StrideList.strides_of order.strides in
     let by = c.free_order-order.ensures.order in
-    rw (c.slice.ensures.lengths, c.slice-2.ensures)
-    (indexes_taken (AnswersValue g.F.FnMut) (rearranged_numbers array.layout.offset ns ss order.offset ms ts by) _ (stored_by_rank stored order.offset ms ts) (rearranged_there stored array.layout.offset ns ss order.offset ms ts by)
+    subst (λ p. MayGiveEach g.F.FnMut g.S.Data.stored (by_rank p) array.storage c.args.f) (sym c.places.ensures)
+    (indexes_taken (AnswersValue g.F.FnMut) (rearranged_numbers array.layout.offset ns ss order.offset ms ts by) _ (elements_at g.S.Data.stored (by_rank (placement_of order)) array.storage) (rearranged_there stored array.layout.offset ns ss order.offset ms ts by)
     (MayBeGiven g.F.FnMut) c.args.f c.requires.callable)
 
 pub returns-clause-visits : goal.returns-clause-visits
@@ -64,7 +62,7 @@ returns-clause-visits g c =
     let ts = g.D.Strides.StrideList.strides_of order.strides in
     let old = g.S.Data.stored array.storage in
     let new = g.S.Data.stored c.replace_places.new.storage in
-    let done : IsChangedBy (Replaces (AnswersValue g.F.FnMut)) (place_at_rank order.offset ms ts) (size_of ms) old new c.args.f c.in_ok-_f._f = rw (c.slice.ensures.lengths, c.slice-2.ensures) at c.in_ok-_f.ensures.replaced in
+    let done = subst (λ p. ReplacesEach g.F.FnMut g.S.Data.stored (by_rank p) array.storage c.replace_places.new.storage c.args.f c.in_ok-_f._f) c.places.ensures c.in_ok-_f.ensures.replaced in
     replaced_all (AnswersValue g.F.FnMut) array.layout.offset ns ss order.offset ms ts c.free_order-order.ensures.order old new c.args.f c.in_ok-_f._f done
 
 pub returns-clause-alike : goal.returns-clause-alike
@@ -87,7 +85,7 @@ returns-in_err-_f-clause-stopped g c =
     let ts = g.D.Strides.StrideList.strides_of order.strides in
     let old = g.S.Data.stored array.storage in
     let new = g.S.Data.stored c.replace_places.new.storage in
-    let part : IsReplacedInPart (AnswersValue g.F.FnMut) (place_at_rank order.offset ms ts) (size_of ms) old new c.args.f = rw (c.slice.ensures.lengths, c.slice-2.ensures) at (c.in_err-_f.ensures {u = tt}).stopped in
+    let part = subst (λ p. ReplacesInPart g.F.FnMut g.S.Data.stored (by_rank p) array.storage c.replace_places.new.storage c.args.f) c.places.ensures (c.in_err-_f.ensures {u = tt}).stopped in
     let some = replaced_part (AnswersValue g.F.FnMut) array.layout.offset ns ss order.offset ms ts c.free_order-order.ensures.order (λ i j h q same. one_index ns ss array.layout.offset i j array.layout.as_many (array.separated g.met.S.DataMut.alone) h q same) old new c.args.f part.1 part.0 part.2 part.3 in
     on_err_from _ c.from_residual.result some
 
@@ -102,7 +100,7 @@ returns-in_err-_f-clause-either g c h by =
     let ts = g.D.Strides.StrideList.strides_of order.strides in
     let old = g.S.Data.stored array.storage in
     let new = g.S.Data.stored c.replace_places.new.storage in
-    let part : IsReplacedInPart (AnswersValue g.F.FnMut) (place_at_rank order.offset ms ts) (size_of ms) old new c.args.f = rw (c.slice.ensures.lengths, c.slice-2.ensures) at (c.in_err-_f.ensures {u = tt}).stopped in
+    let part = subst (λ p. ReplacesInPart g.F.FnMut g.S.Data.stored (by_rank p) array.storage c.replace_places.new.storage c.args.f) c.places.ensures (c.in_err-_f.ensures {u = tt}).stopped in
     let some = replaced_part (AnswersValue g.F.FnMut) array.layout.offset ns ss order.offset ms ts c.free_order-order.ensures.order (λ i j h q same. one_index ns ss array.layout.offset i j array.layout.as_many (array.separated g.met.S.DataMut.alone) h q same) old new c.args.f part.1 part.0 part.2 part.3 in
     on_err_from _ c.from_residual.result
     (old_or_mapped (AnswersValue g.F.FnMut) ns c.args.f (element_at array) (λ i. inside ns i (stored_at new (place_of array.layout.offset ss i))) h (value_by g.F.FnMut h c.args.f by) some)
@@ -115,6 +113,6 @@ returns-in_err-_f-clause-refused g c =
     let ms = g.D.Dimension.lengths order.dim in
     let ts = g.D.Strides.StrideList.strides_of order.strides in
     let old = g.S.Data.stored array.storage in
-    let refused : MayRefuseBelow g.S.Elem.Clone.is_infallible (stored_by_rank old order.offset ms ts) (size_of ms) = rw (c.slice.ensures.lengths, c.slice-2.ensures) at (c.in_err-_f.ensures {u = tt}).refused in
+    let refused = subst (λ p. MayRefuseAt g.S.Elem.Clone.is_infallible g.S.Data.stored (by_rank p) array.storage) c.places.ensures (c.in_err-_f.ensures {u = tt}).refused in
     on_err_from _ c.from_residual.result
     (rearranged_refused g.S.Elem.Clone.is_infallible old array.layout.offset (g.D.Dimension.lengths array.layout.dim) (g.D.Strides.StrideList.strides_of array.layout.strides) order.offset ms ts c.free_order-order.ensures.order refused)
