@@ -248,3 +248,50 @@ fn lanes_of_length_0_handed_out(rt: HostRuntime) {
     counts(&rt, &mut none, 0, &[7, 7, 7]);
     counts(&rt, &mut none, 1, &[]);
 }
+
+/// Three rows of eight, and what their running sums down the columns are.
+const ROWS: [u64; 24] = [
+    1, 2, 3, 4, 5, 6, 7, 8, 1, 1, 1, 1, 1, 1, 1, 1, 0, 1, 0, 1, 0, 1, 0, 1,
+];
+const SUMS: [u64; 24] = [
+    1, 2, 3, 4, 5, 6, 7, 8, 2, 3, 4, 5, 6, 7, 8, 9, 2, 4, 4, 6, 6, 8, 8, 10,
+];
+
+#[test]
+fn sums_of_lanes_side_by_side(rt: HostRuntime) {
+    let mut rows: Array2<u64> = made(rt.alloc(), (3, 8), ROWS.as_slice()).expect(&rt, "made");
+    sum_along(&mut rows, 0);
+    assert!(rt; stores(rows, SUMS.as_slice()));
+    let mut columns: Array2<u64> = made(rt.alloc(), (8, 3).f(), ROWS.as_slice()).expect(&rt, "made");
+    sum_along(&mut columns, 1);
+    assert!(rt; stores(columns, SUMS.as_slice()));
+}
+
+#[test]
+fn sums_of_lanes_beside_others(rt: HostRuntime) {
+    let items = [
+        9, 1, 2, 3, 4, 5, 6, 7, 8, 9, 9, 1, 1, 1, 1, 1, 1, 1, 1, 9, 9, 0, 1, 0, 1, 0, 1, 0, 1, 9,
+    ];
+    let mut wide: Array2<u64> = made(rt.alloc(), (3, 10), items.as_slice()).expect(&rt, "made");
+    {
+        let mut part = wide.slice_axis_mut(Axis(1), Slice::new(1, Some(9), 1));
+        sum_along(&mut part, 0);
+    }
+    let wanted = [
+        9, 1, 2, 3, 4, 5, 6, 7, 8, 9, 9, 2, 3, 4, 5, 6, 7, 8, 9, 9, 9, 2, 4, 4, 6, 6, 8, 8, 10, 9,
+    ];
+    assert!(rt; stores(wide, wanted.as_slice()));
+}
+
+#[test]
+fn sums_of_lanes_side_by_side_backwards(rt: HostRuntime) {
+    let mut rows: Array2<u64> = made(rt.alloc(), (3, 8), ROWS.as_slice()).expect(&rt, "made");
+    {
+        let mut part = rows.slice_axis_mut(Axis(0), Slice::new(0, None, -1));
+        sum_along(&mut part, 0);
+    }
+    let wanted = [
+        2, 4, 4, 6, 6, 8, 8, 10, 1, 2, 1, 2, 1, 2, 1, 2, 0, 1, 0, 1, 0, 1, 0, 1,
+    ];
+    assert!(rt; stores(rows, wanted.as_slice()));
+}
