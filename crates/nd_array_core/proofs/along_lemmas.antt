@@ -4,7 +4,6 @@ pub mod Selecting
 pub mod AxisNumbers
 pub mod AxisFolds
 pub mod AxisBeside
-pub mod LentLanes
 pub mod HandedLanes
 pub mod ShownLanes
 pub mod AxisIndexes

@@ -19,7 +19,6 @@ mod layout;
 mod reshape;
 pub mod scoped;
 
-pub use along::lane_mut::LaneMut;
 pub use along::lane_view::LaneView;
 pub use base::aliases::{
     Array0, Array1, Array2, Array3, Array4, Array5, Array6, ArrayD, ArrayView0, ArrayView1,
@@ -33,6 +32,7 @@ pub use base::get::IndexLonger;
 pub use base::get_mut::GetMut;
 pub use growth::fits_behind::fits_behind;
 pub use layout::split_at::MultiSliceArg;
+pub use nd_storage::along::lane_mut::LaneMut;
 pub use nd_storage::storage::{
     Data, DataMut, DataOwned, OwnedRepr, RegionRepr, ViewMutRepr, ViewRepr,
 };

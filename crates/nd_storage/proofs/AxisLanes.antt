@@ -2,8 +2,11 @@
 use Rattle.std.proofs.Common.{◌≡◌, ℕ, ◌+◌, ◌<◌, ◌^◌, true, List, ℤ, pos, ◌+ℤ◌, ◌*ℤ◌, ap, sym, ◌∙◌, arith, min}
 use Rattle.std.specs.Prelude.{nat_lt}
 use Rattle.std.proofs.lemmas.Bool.Decides.{nat_tests}
+use Rattle.nd_shape_and_slice.specs.Shape.{size_of, index_at}
+use Rattle.nd_shape_and_slice.proofs.RankIndexes.{in_box-index_at, row_rank-index_at}
 use Rattle.nd_layout.proofs.Integers.{sums, zero-mul}
 use Rattle.nd_layout.specs.Places.{is_place}
+use Rattle.nd_layout.specs.Ranks.{IsStandard}
 use Rattle.nd_layout.specs.Walk.{place_at_rank}
 use Rattle.nd_storage.specs.along.AxisLanes.{lane_place}
 
@@ -26,3 +29,17 @@ lane_goes first ls ss stride r place start s starts strides at k =
 -- the walk's next rank
 pub next_rank : (r n next : ℕ) → r < n → next ≡ min (r + 1) n → next ≡ r + 1
 next_rank r n next below e = omega (arith, below, e)
+
+-- in the standard layout the place of a rank is as far behind the first
+pub rank_beside : (offset : ℕ) (ns : List ℕ) (ss : List ℤ) → IsStandard ns ss → (k : ℕ) → k < size_of ns → place_at_rank offset ns ss k ≡ pos (offset + k)
+rank_beside offset ns ss standard k below =
+    let h = in_box-index_at ns k below in
+    omega (arith, sums, standard (index_at ns k) h, row_rank-index_at ns k below)
+
+-- so are those of lanes that begin side by side
+pub beside_goes : (offset : ℕ) (ns : List ℕ) (ss : List ℤ) (stride : ℤ) → IsStandard ns ss → (r k : ℕ) → r < size_of ns → pos (offset + r) +ℤ (pos k *ℤ stride) ≡ lane_place offset ns ss stride r k
+beside_goes offset ns ss stride standard r k below = ap (λ z. z +ℤ (pos k *ℤ stride)) (sym (rank_beside offset ns ss standard r below))
+
+-- the place of a run's element, by that of its first
+pub beside_place : (first p r k : ℕ) (stride : ℤ) → pos p ≡ pos first +ℤ (pos k *ℤ stride) → pos (p + r) ≡ pos (first + r) +ℤ (pos k *ℤ stride)
+beside_place first p r k stride at = omega (arith, sums, at)

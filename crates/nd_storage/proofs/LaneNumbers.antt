@@ -10,6 +10,7 @@ use Rattle.nd_shape_and_slice.proofs.Boxes.{coordinate_below}
 use Rattle.nd_shape_and_slice.proofs.RowMajor.{length-in_box, row_rank_below}
 use Rattle.nd_shape_and_slice.proofs.RankIndexes.{in_box-index_at, row_rank-index_at, index_at-row_rank}
 use Rattle.nd_layout.proofs.Distinct.{in_box-set}
+use Rattle.nd_storage.specs.along.AxisLanes.{IsPairing}
 use Rattle.nd_storage.specs.along.Rising.{next_index, RisesAlong}
 use Rattle.nd_storage.proofs.FreeOrder.{IsNumbering, listed}
 
@@ -71,16 +72,40 @@ listed_has index n k i e =
     let under : k < n = omega (arith, long, below) in
     (under, some_same i (index k) (sym e ∙ listed_at index n k under))
 
-module _ (ns : List ℕ) (a : ℕ) (on : a < length ns) (w : ℕ) where
+-- one lane after the other
+pub by_lanes : (lanes count : ℕ) → IsPairing lanes count (lanes * count) (λ m. m / count) (λ m. m % count) (λ r k. r * count + k)
+by_lanes lanes count = record {
+  lane_below = λ m h. (number_lane lanes count m h).0;
+  column_below = λ m h. (number_lane lanes count m h).1;
+  is_number = λ m h. div-add-mod' m count;
+  below = λ r k on under. lane_number_below lanes count r k on under;
+  lane_is = λ r k on under. (lane_number count r k under).0;
+  column_is = λ r k on under. (lane_number count r k under).1;
+  rises = λ r k on under. omega arith;
+}
+
+-- one coordinate after the other
+pub by_columns : (lanes count : ℕ) → IsPairing lanes count (count * lanes) (λ m. m % lanes) (λ m. m / lanes) (λ r k. k * lanes + r)
+by_columns lanes count = record {
+  lane_below = λ m h. (number_lane count lanes m h).1;
+  column_below = λ m h. (number_lane count lanes m h).0;
+  is_number = λ m h. div-add-mod' m lanes;
+  below = λ r k on under. lane_number_below count lanes k r under on;
+  lane_is = λ r k on under. (lane_number lanes k r on).1;
+  column_is = λ r k on under. (lane_number lanes k r on).0;
+  rises = λ r k on under. let one : (k + 1) * lanes ≡ k * lanes + lanes = omega arith in omega (arith, one, on);
+}
+
+module _ (ns : List ℕ) (a : ℕ) (on : a < length ns) (w : ℕ) {lane column : ℕ → ℕ} {number : ℕ → ℕ → ℕ} {all : ℕ} (pairs : IsPairing (size_of (set ns a 1)) w all lane column number) where
   abbrev outer : List ℕ
   outer = set ns a 1
 
   -- the index of a number, where the axis has length w
   abbrev pub index_of_number : ℕ → List ℕ
-  index_of_number m = set (index_at outer (m / w)) a (m % w)
+  index_of_number m = set (index_at outer (lane m)) a (column m)
 
   abbrev pub number_of_index : List ℕ → ℕ
-  number_of_index i = row_rank outer (set i a 0) * w + get_or i a 0
+  number_of_index i = number (row_rank outer (set i a 0)) (get_or i a 0)
 
   outer_on : a < length outer
   outer_on = let long = length-set ns a 1 in omega (arith, on, long)
@@ -97,27 +122,24 @@ module _ (ns : List ℕ) (a : ℕ) (on : a < length ns) (w : ℕ) where
   index_on o h = let long = length-in_box outer o h in omega (arith, outer_on, long)
 
   -- the lane of a number's index, and its coordinate
-  pub number_row : (m : ℕ) → m < size_of outer * w → row_rank outer (set (index_of_number m) a 0) ≡ m / w
+  pub number_row : (m : ℕ) → m < all → row_rank outer (set (index_of_number m) a 0) ≡ lane m
   number_row m under =
-      let lane = number_lane (size_of outer) w m under in
-      let o = index_at outer (m / w) in
-      ap (row_rank outer) (set-set o a (m % w) 0 ∙ first_back o (in_box-index_at outer (m / w) lane.0)) ∙ row_rank-index_at outer (m / w) lane.0
+      let on_r = pairs.lane_below m under in
+      let o = index_at outer (lane m) in
+      ap (row_rank outer) (set-set o a (column m) 0 ∙ first_back o (in_box-index_at outer (lane m) on_r)) ∙ row_rank-index_at outer (lane m) on_r
 
-  pub number_column : (m : ℕ) → m < size_of outer * w → get_or (index_of_number m) a 0 ≡ m % w
-  number_column m under =
-      let lane = number_lane (size_of outer) w m under in
-      get_or-set_same (index_at outer (m / w)) a (m % w) 0 (index_on (index_at outer (m / w)) (in_box-index_at outer (m / w) lane.0))
+  pub number_column : (m : ℕ) → m < all → get_or (index_of_number m) a 0 ≡ column m
+  number_column m under = get_or-set_same (index_at outer (lane m)) a (column m) 0 (index_on (index_at outer (lane m)) (in_box-index_at outer (lane m) (pairs.lane_below m under)))
 
-  pub lane_numbers : IsNumbering (set ns a w) (size_of outer * w) index_of_number number_of_index
+  pub lane_numbers : IsNumbering (set ns a w) all index_of_number number_of_index
   lane_numbers = record { inside = inside; rank_is = rank_is; index_is = index_is; below = below }
     where
-      inside : (m : ℕ) → m < size_of outer * w → in_box (set ns a w) (index_of_number m) ≡ true
+      inside : (m : ℕ) → m < all → in_box (set ns a w) (index_of_number m) ≡ true
       inside m under =
-          let lane = number_lane (size_of outer) w m under in
-          subst (λ ms. in_box ms (index_of_number m) ≡ true) (set-set ns a 1 w) (in_box-set outer (index_at outer (m / w)) a w (m % w) (in_box-index_at outer (m / w) lane.0) lane.1)
+          subst (λ ms. in_box ms (index_of_number m) ≡ true) (set-set ns a 1 w) (in_box-set outer (index_at outer (lane m)) a w (column m) (in_box-index_at outer (lane m) (pairs.lane_below m under)) (pairs.column_below m under))
 
-      rank_is : (m : ℕ) → m < size_of outer * w → number_of_index (index_of_number m) ≡ m
-      rank_is m under = (λ i. number_row m under i * w + number_column m under i) ∙ div-add-mod' m w
+      rank_is : (m : ℕ) → m < all → number_of_index (index_of_number m) ≡ m
+      rank_is m under = (λ i. number (number_row m under i) (number_column m under i)) ∙ pairs.is_number m under
 
       outer_in : (i : List ℕ) → in_box (set ns a w) i ≡ true → in_box outer (set i a 0) ≡ true
       outer_in i h = subst (λ ms. in_box ms (set i a 0) ≡ true) (set-set ns a w 1) (in_box-set (set ns a w) i a 1 0 h (omega arith))
@@ -130,27 +152,32 @@ module _ (ns : List ℕ) (a : ℕ) (on : a < length ns) (w : ℕ) where
       index_is : (i : List ℕ) → in_box (set ns a w) i ≡ true → index_of_number (number_of_index i) ≡ i
       index_is i h =
           let r = row_rank outer (set i a 0) in
-          let numbers = lane_number w r (get_or i a 0) (at_axis i h) in
-          (λ j. set (index_at outer (numbers.0 j)) a (numbers.1 j)) ∙ (ap (λ o. set o a (get_or i a 0)) (index_at-row_rank outer (set i a 0) (outer_in i h)) ∙ (set-set i a 0 (get_or i a 0) ∙ set-get_or i a 0))
+          let k = get_or i a 0 in
+          let on_r = row_rank_below outer (set i a 0) (outer_in i h) in
+          (λ j. set (index_at outer (pairs.lane_is r k on_r (at_axis i h) j)) a (pairs.column_is r k on_r (at_axis i h) j)) ∙ (ap (λ o. set o a k) (index_at-row_rank outer (set i a 0) (outer_in i h)) ∙ (set-set i a 0 k ∙ set-get_or i a 0))
 
-      below : (i : List ℕ) → in_box (set ns a w) i ≡ true → number_of_index i < size_of outer * w
-      below i h = lane_number_below (size_of outer) w (row_rank outer (set i a 0)) (get_or i a 0) (row_rank_below outer (set i a 0) (outer_in i h)) (at_axis i h)
+      below : (i : List ℕ) → in_box (set ns a w) i ≡ true → number_of_index i < all
+      below i h = pairs.below (row_rank outer (set i a 0)) (get_or i a 0) (row_rank_below outer (set i a 0) (outer_in i h)) (at_axis i h)
 
   -- the index behind that of a number
-  pub number_next : (m : ℕ) → m < size_of outer * w → next_index a (index_of_number m) ≡ set (index_at outer (m / w)) a (suc (m % w))
-  number_next m under = ap (λ k. set (index_of_number m) a (k + 1)) (number_column m under) ∙ (set-set (index_at outer (m / w)) a (m % w) (m % w + 1) ∙ ap (set (index_at outer (m / w)) a) (let one : m % w + 1 ≡ suc (m % w) = omega arith in one))
+  pub number_next : (m : ℕ) → m < all → next_index a (index_of_number m) ≡ set (index_at outer (lane m)) a (suc (column m))
+  number_next m under = ap (λ k. set (index_of_number m) a (k + 1)) (number_column m under) ∙ (set-set (index_at outer (lane m)) a (column m) (column m + 1) ∙ ap (set (index_at outer (lane m)) a) (one_more (column m)))
+    where
+      one_more : (k : ℕ) → k + 1 ≡ suc k
+      one_more k = omega arith
 
   -- in the order of their numbers each index comes after the one before it
-  pub numbers_rise : (n : ℕ) → n ≤ size_of outer * w → RisesAlong a (listed index_of_number n)
+  pub numbers_rise : (n : ℕ) → n ≤ all → RisesAlong a (listed index_of_number n)
   numbers_rise n within m k i found above =
       let here = listed_has index_of_number n m i found in
-      let under : m < size_of outer * w = let below = here.0 in omega (arith, below, within) in
-      let lane = number_lane (size_of outer) w m under in
-      let column : m % w ≡ k + 1 = sym (number_column m under) ∙ (ap (λ o. get_or o a 0) (sym here.1) ∙ above) in
-      let whole = div-add-mod' m w in
-      let low : k < w = let in_lane = lane.1 in omega (arith, column, in_lane) in
-      let before : m / w * w + k < m = omega (arith, whole, column) in
-      let numbers = lane_number w (m / w) k low in
-      let same : index_of_number (m / w * w + k) ≡ set i a k =
-      (λ j. set (index_at outer (numbers.0 j)) a (numbers.1 j)) ∙ (sym (set-set (index_at outer (m / w)) a (m % w) k) ∙ ap (λ o. set o a k) (sym here.1)) in
-      (m / w * w + k, before, listed_at index_of_number n (m / w * w + k) (let below = here.0 in omega (arith, before, below)) ∙ ap Some same)
+      let under : m < all = let below = here.0 in omega (arith, below, within) in
+      let is_column : column m ≡ k + 1 = sym (number_column m under) ∙ (ap (λ o. get_or o a 0) (sym here.1) ∙ above) in
+      let r = lane m in
+      let on_r = pairs.lane_below m under in
+      let later : k + 1 < w = subst (λ c. c < w) is_column (pairs.column_below m under) in
+      let low : k < w = omega (arith, later) in
+      let whole : number r (k + 1) ≡ m = ap (number r) (sym is_column) ∙ pairs.is_number m under in
+      let before : number r k < m = subst (λ z. number r k < z) whole (pairs.rises r k on_r later) in
+      let same : index_of_number (number r k) ≡ set i a k =
+      (λ j. set (index_at outer (pairs.lane_is r k on_r low j)) a (pairs.column_is r k on_r low j)) ∙ (sym (set-set (index_at outer r) a (column m) k) ∙ ap (λ o. set o a k) (sym here.1)) in
+      (number r k, before, listed_at index_of_number n (number r k) (let below = here.0 in omega (arith, before, below)) ∙ ap Some same)

@@ -8,13 +8,27 @@ use Rattle.std.proofs.lemmas.Bool.Decides.{nat_tests}
 use Rattle.nd_storage.specs.Places.{stored_at, names_place}
 use Rattle.nd_storage.specs.elements.Folds.{RanTo}
 use Rattle.nd_storage.specs.along.AxisLanes.{LanesDistinct}
-use Rattle.nd_storage.specs.along.Accumulated.{ChangesAfter, IsAccumulated, AreAccumulated, TakesLane, TakesLanes}
+use Rattle.nd_storage.specs.along.Accumulated.{ChangesAfter, IsAccumulated, AreAccumulated, AccumulatesNumbered, TakesLane, TakesLanes}
 use Rattle.nd_storage.proofs.Ran.{ran_weaker, ran_then}
 use Rattle.nd_storage.proofs.Changed.{stored_same}
-use Rattle.nd_storage.proofs.LaneNumbers.{number_lane, lane_number, lane_number_below}
+use Rattle.nd_storage.proofs.LaneNumbers.{number_lane, lane_number, lane_number_below, by_lanes}
 
 module _ {F A : Type 0} (g : Mut F (Bor A × (MutBor A × Unit {0})) (Unit {0} × (MutBor A × Unit {0}))) where
-  module _ (place : ℕ → ℕ → ℤ) (lanes w : ℕ) (apart : LanesDistinct place lanes (suc w)) (old now : ℕ → Option A) (first mid : F) (r : ℕ) (on : r < lanes) (so_far : AreAccumulated g place r w old now first mid) where
+  -- so many lanes gone along, one after the other
+  pub record LanesAccumulated (place : ℕ → ℕ → ℤ) (lanes count : ℕ) (old new : ℕ → Option A) (first last : F) : Type 0 where
+    pub calls : AccumulatesNumbered g (λ m. m / count) (λ m. m % count) (λ r k. stored_at old (place r k)) (λ r k. stored_at new (place r k)) first (lanes * count) last
+    pub left : (p : ℕ) → ((r k : ℕ) → r < lanes → k < count → place r (suc k) ≡ pos p → ⊥) → new p ≡ old p
+
+  pub lanes_none : (place : ℕ → ℕ → ℤ) (w : ℕ) (old : ℕ → Option A) (f : F) → LanesAccumulated place 0 w old old f f
+  lanes_none place w old f = record {
+    calls = let none : 0 ≡ 0 * w = omega arith in subst (λ n. AccumulatesNumbered g (λ m. m / w) (λ m. m % w) (λ r k. stored_at old (place r k)) (λ r k. stored_at old (place r k)) f n f) none refl;
+    left = λ p nowhere. refl;
+  }
+
+  pub lanes_all : (place : ℕ → ℕ → ℤ) (lanes w : ℕ) (old new : ℕ → Option A) (first last : F) → LanesAccumulated place lanes w old new first last → AreAccumulated g place lanes w old new first last
+  lanes_all place lanes w old new first last done = record { all = lanes * w; lane = λ m. m / w; column = λ m. m % w; number = λ r k. r * w + k; pairs = by_lanes lanes w; calls = done.calls; left = done.left }
+
+  module _ (place : ℕ → ℕ → ℤ) (lanes w : ℕ) (apart : LanesDistinct place lanes (suc w)) (old now : ℕ → Option A) (first mid : F) (r : ℕ) (on : r < lanes) (so_far : LanesAccumulated place r w old now first mid) where
     -- the next lane holds what it held
     pub lane_still : (k : ℕ) → k < suc w → stored_at now (place r k) ≡ stored_at old (place r k)
     lane_still k below =
@@ -23,8 +37,8 @@ module _ {F A : Type 0} (g : Mut F (Bor A × (MutBor A × Unit {0})) (Unit {0} �
     abbrev step : (ℕ → ℕ → Option A) → F → ℕ → F → Type 0
     step left p m q = ChangesAfter g (left (m / w) (m % w)) (stored_at old (place (m / w) (suc (m % w)))) (left (m / w) (suc (m % w))) p q
 
-    pub lanes_more : (next : ℕ) → next ≡ r + 1 → (new : ℕ → Option A) (last : F) → IsAccumulated g (place r) w now new mid last → AreAccumulated g place next w old new first last
-    lanes_more next is_next new last lane = subst (λ n. AreAccumulated g place n w old new first last) (sym is_next) (record { calls = calls; left = left })
+    pub lanes_more : (next : ℕ) → next ≡ r + 1 → (new : ℕ → Option A) (last : F) → IsAccumulated g (place r) w now new mid last → LanesAccumulated place next w old new first last
+    lanes_more next is_next new last lane = subst (λ n. LanesAccumulated place n w old new first last) (sym is_next) (record { calls = calls; left = left })
       where
         kept : (q k : ℕ) → q < r → k < suc w → stored_at new (place q k) ≡ stored_at now (place q k)
         kept q k earlier below =
@@ -63,7 +77,7 @@ module _ {F A : Type 0} (g : Mut F (Bor A × (MutBor A × Unit {0})) (Unit {0} �
     lane_accumulable takes seen k state below start run x y shows gives =
         let under = lane_number_below lanes w r k on below in
         let numbers = lane_number w r k below in
-        takes joined (r * w + k) state under starts
+        takes (lanes * w) (λ m. m / w) (λ m. m % w) (λ q j. q * w + j) (by_lanes lanes w) joined (r * w + k) state under starts
         (ran_then (step joined) (λ p j q. ChangesAfter g (seen j) (stored_at now (place r (suc j))) (seen (suc j)) p q) first mid state (r * w) k
         (λ p j q on_j call.
         let at = lane_number w r j (omega (arith, on_j, below)) in
@@ -111,6 +125,6 @@ module _ {F A : Type 0} (g : Mut F (Bor A × (MutBor A × Unit {0})) (Unit {0} �
           let inside : k < suc w = omega (arith, below, some, long) in
           ap (names_place now) (goes k) ∙ (ap is_some (lane_still k inside) ∙ holds r k on inside)
 
-      pub given_accumulated : (next : ℕ) → next ≡ r + 1 → (new : ℕ → Option A) (last : F) → IsAccumulated g lane (count - 1) now new mid last → AreAccumulated g place next w old new first last
+      pub given_accumulated : (next : ℕ) → next ≡ r + 1 → (new : ℕ → Option A) (last : F) → IsAccumulated g lane (count - 1) now new mid last → LanesAccumulated place next w old new first last
       given_accumulated next is_next new last done =
           lanes_more next is_next new last (subst (λ m. IsAccumulated g (place r) m now new mid last) long (subst (λ h. IsAccumulated g h (count - 1) now new mid last) (fun_ext goes) done))

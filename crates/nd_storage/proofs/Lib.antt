@@ -15,6 +15,7 @@ pub mod LaidAnew
 pub mod LaneNumbers
 pub mod Lanes
 pub mod LanesAccumulating
+pub mod LentLanes
 pub mod Mapped
 pub mod Moved
 pub mod Neighbours
@@ -23,6 +24,8 @@ pub mod Paired
 pub mod Ran
 pub mod RegionPair
 pub mod Replaced
+pub mod RowPairs
+pub mod RowsAccumulating
 pub mod Rewritten
 pub mod Rotating
 pub mod RunPairs

@@ -1,4 +1,6 @@
 pub mod Accumulated
 pub mod AxisLanes
+pub mod LanesIn
+pub mod LanesWritten
 pub mod Removed
 pub mod Rising

@@ -1,5 +1,5 @@
 -- Lanes gone along, by the array's indexes.
-use Rattle.std.proofs.Common.{◌≡◌, ℕ, zero, suc, ◌+◌, ◌-◌, ◌*◌, ◌/◌, ◌%◌, ◌<◌, Bool, true, false, List, [], length, get_or, set, ℤ, pos, refl, ap, sym, ◌∙◌, subst, arith}
+use Rattle.std.proofs.Common.{◌≡◌, ℕ, zero, suc, ◌+◌, ◌-◌, ◌*◌, ◌<◌, Bool, true, false, List, [], length, get_or, set, ℤ, pos, refl, ap, sym, ◌∙◌, subst, arith}
 use Rattle.std.specs.Prelude.{Option, None, Some, is_some}
 use Rattle.std.specs.Borrow.{Bor, MutBor}
 use Rattle.std.specs.Fn.{Mut}
@@ -15,7 +15,7 @@ use Rattle.nd_layout.specs.Steps.{IsStep}
 use Rattle.nd_storage.specs.Meaning.{inside}
 use Rattle.nd_storage.specs.Places.{stored_at, names_place, place_number, HoldsAll}
 use Rattle.nd_storage.specs.elements.Pairs.{option_both}
-use Rattle.nd_storage.specs.along.AxisLanes.{lane_place}
+use Rattle.nd_storage.specs.along.AxisLanes.{lane_place, IsPairing}
 use Rattle.nd_storage.specs.FreeOrder.{ListsBox}
 use Rattle.nd_storage.specs.along.Removed.{removed_shape}
 use Rattle.nd_storage.specs.along.Rising.{next_index}
@@ -23,7 +23,7 @@ use Rattle.nd_storage.specs.along.Accumulated.{StartsAlong, ChangesAfter, Accumu
 use Rattle.nd_array_core.proofs.along_lemmas.AxisIndexes.{lane_inside, lane_lies, lanes_distinct}
 use Rattle.nd_storage.proofs.Changed.{stored_same}
 use Rattle.nd_storage.proofs.FreeOrder.{IsNumbering, listed, listed_part, listed_all, done_at_each}
-use Rattle.nd_storage.proofs.LaneNumbers.{number_lane, lane_number, lane_number_below, index_of_number, number_of_index, number_row, number_column, number_next, lane_numbers, numbers_rise}
+use Rattle.nd_storage.proofs.LaneNumbers.{by_lanes, index_of_number, number_of_index, number_row, number_column, number_next, lane_numbers, numbers_rise}
 use Rattle.nd_storage.proofs.Ran.{ran_at, ran_weaker, ran_listed}
 
 module _ (offset : ℕ) (ns : List ℕ) (ss : List ℤ) (a : ℕ) (on : a < length ns) (many : length ss ≡ length ns) (start : ℕ) (step : IsStep offset ns ss start (collapsed_shape ns a) ss (collapsed_index a 0)) (w : ℕ) (long : suc w ≡ get_or ns a 0) where
@@ -46,11 +46,12 @@ module _ (offset : ℕ) (ns : List ℕ) (ss : List ℤ) (a : ℕ) (on : a < leng
         let within : k < get_or ns a 0 = subst (λ n. k < n) long under in
         rw (lane_inside offset ns ss a on many start step r k below within) (ap (stored_at stored) (lane_lies offset ns ss a on many start step r k below))
 
-    here_is : (m : ℕ) → m < all * w → stored_at stored (place (m / w) (m % w)) ≡ at (index_of_number ns a on w m)
-    here_is m below = let lane = number_lane all w m below in let under = lane.1 in lane_element (m / w) (m % w) lane.0 (omega (arith, under))
+    module _ {lane column : ℕ → ℕ} {number : ℕ → ℕ → ℕ} {total : ℕ} (pairs : IsPairing all w total lane column number) where
+      here_is : (m : ℕ) → m < total → stored_at stored (place (lane m) (column m)) ≡ at (index_of_number ns a on w pairs m)
+      here_is m below = let under = pairs.column_below m below in lane_element (lane m) (column m) (pairs.lane_below m below) (omega (arith, under))
 
-    next_is : (m : ℕ) → m < all * w → stored_at stored (place (m / w) (suc (m % w))) ≡ at (next_index a (index_of_number ns a on w m))
-    next_is m below = let lane = number_lane all w m below in let under = lane.1 in lane_element (m / w) (suc (m % w)) lane.0 (omega (arith, under)) ∙ ap at (sym (number_next ns a on w m below))
+      next_is : (m : ℕ) → m < total → stored_at stored (place (lane m) (suc (column m))) ≡ at (next_index a (index_of_number ns a on w pairs m))
+      next_is m below = let under = pairs.column_below m below in lane_element (lane m) (suc (column m)) (pairs.lane_below m below) (omega (arith, under)) ∙ ap at (sym (number_next ns a on w pairs m below))
 
   -- the lane of an index, and its number there
   outer_in : (i : List ℕ) → in_box ns i ≡ true → in_box outer (set i a 0) ≡ true
@@ -68,45 +69,45 @@ module _ (offset : ℕ) (ns : List ℕ) (ss : List ℤ) (a : ℕ) (on : a < leng
       lane_lies offset ns ss a on many start step (row_of i) (get_or i a 0) (row_below i h)
       ∙ ap (place_of offset ss) (ap (λ o. set o a (get_or i a 0)) (index_at-row_rank outer (set i a 0) (outer_in i h)) ∙ (set-set i a 0 (get_or i a 0) ∙ set-get_or i a 0))
 
-  shorter_numbers : IsNumbering (removed_shape ns a) (all * w) (index_of_number ns a on w) (number_of_index ns a on w)
-  shorter_numbers = let fewer : w ≡ get_or ns a 0 - 1 = omega (arith, long) in subst (λ v. IsNumbering (set ns a v) (all * w) (index_of_number ns a on w) (number_of_index ns a on w)) fewer (lane_numbers ns a on w)
+  shorter_numbers : {lane column : ℕ → ℕ} {number : ℕ → ℕ → ℕ} {total : ℕ} (pairs : IsPairing all w total lane column number) → IsNumbering (removed_shape ns a) total (index_of_number ns a on w pairs) (number_of_index ns a on w pairs)
+  shorter_numbers {total = total} pairs =
+      let fewer : w ≡ get_or ns a 0 - 1 = omega (arith, long) in subst (λ v. IsNumbering (set ns a v) total (index_of_number ns a on w pairs) (number_of_index ns a on w pairs)) fewer (lane_numbers ns a on w pairs)
 
   module _ {F A : Type 0} (g : Mut F (Bor A × (MutBor A × Unit {0})) (Unit {0} × (MutBor A × Unit {0}))) (old : ℕ → Option A) (f : F) where
     pub axis_accumulable : AccumulableAlong g ns a (at old) f → TakesLanes g place all w old f
-    axis_accumulable takes left m now below starts run x y shows gives =
-        takes seen (listed index m) now (index m) seen_starts (numbers.inside m below) (listed_part numbers m below) (numbers_rise ns a on w (suc m) below)
+    axis_accumulable takes total lane column number pairs left m now below starts run x y shows gives =
+        takes seen (listed index m) now (index m) seen_starts (numbers.inside m below) (listed_part numbers m below) (numbers_rise ns a on w pairs (suc m) below)
         (ran_listed (λ p i q. ChangesAfter g (seen i) (at old (next_index a i)) (seen (next_index a i)) p q) index f now m
-        (ran_weaker (λ p j q. ChangesAfter g (left (j / w) (j % w)) (stored_at old (place (j / w) (suc (j % w)))) (left (j / w) (suc (j % w))) p q)
+        (ran_weaker (λ p j q. ChangesAfter g (left (lane j) (column j)) (stored_at old (place (lane j) (suc (column j)))) (left (lane j) (suc (column j))) p q)
         (λ p j q. ChangesAfter g (seen (index j)) (at old (next_index a (index j))) (seen (next_index a (index j))) p q) f now m
         (λ p j q under call.
-        let inside_j : j < all * w = omega (arith, under, below) in
+        let inside_j : j < total = omega (arith, under, below) in
         subst (λ o. ChangesAfter g o (at old (next_index a (index j))) (seen (next_index a (index j))) p q) (sym (seen_here j inside_j))
-        (subst (λ o. ChangesAfter g (left (j / w) (j % w)) o (seen (next_index a (index j))) p q) (next_is old j inside_j)
-        (subst (λ o. ChangesAfter g (left (j / w) (j % w)) (stored_at old (place (j / w) (suc (j % w)))) o p q) (sym (seen_next j inside_j)) call))) run))
-        x y (seen_here m below ∙ shows) (sym (next_is old m below) ∙ gives)
+        (subst (λ o. ChangesAfter g (left (lane j) (column j)) o (seen (next_index a (index j))) p q) (next_is old pairs j inside_j)
+        (subst (λ o. ChangesAfter g (left (lane j) (column j)) (stored_at old (place (lane j) (suc (column j)))) o p q) (sym (seen_next j inside_j)) call))) run))
+        x y (seen_here m below ∙ shows) (sym (next_is old pairs m below) ∙ gives)
       where
-        numbers : IsNumbering (removed_shape ns a) (all * w) (index_of_number ns a on w) (number_of_index ns a on w)
-        numbers = shorter_numbers
+        numbers : IsNumbering (removed_shape ns a) total (index_of_number ns a on w pairs) (number_of_index ns a on w pairs)
+        numbers = shorter_numbers pairs
 
         index : ℕ → List ℕ
-        index = index_of_number ns a on w
+        index = index_of_number ns a on w pairs
 
         seen : List ℕ → Option A
         seen i = left (row_of i) (get_or i a 0)
 
-        seen_here : (j : ℕ) → j < all * w → seen (index j) ≡ left (j / w) (j % w)
-        seen_here j under = λ i. left (number_row ns a on w j under i) (number_column ns a on w j under i)
+        seen_here : (j : ℕ) → j < total → seen (index j) ≡ left (lane j) (column j)
+        seen_here j under = λ i. left (number_row ns a on w pairs j under i) (number_column ns a on w pairs j under i)
 
-        seen_next : (j : ℕ) → j < all * w → seen (next_index a (index j)) ≡ left (j / w) (suc (j % w))
+        seen_next : (j : ℕ) → j < total → seen (next_index a (index j)) ≡ left (lane j) (suc (column j))
         seen_next j under =
-            let o = index_at outer (j / w) in
-            let lane = number_lane all w j under in
-            let inside_o = in_box-index_at outer (j / w) lane.0 in
+            let o = index_at outer (lane j) in
+            let inside_o = in_box-index_at outer (lane j) (pairs.lane_below j under) in
             let as_long = length-in_box outer o inside_o in
             let same_long = length-set ns a 1 in
             let on_o : a < length o = omega (arith, on, as_long, same_long) in
-            let row : row_of (set o a (suc (j % w))) ≡ j / w = ap (row_rank outer) (set-set o a (suc (j % w)) 0 ∙ sym (set-set o a (j % w) 0)) ∙ number_row ns a on w j under in
-            ap seen (number_next ns a on w j under) ∙ (λ i. left (row i) (get_or-set_same o a (suc (j % w)) 0 on_o i))
+            let row : row_of (set o a (suc (column j))) ≡ lane j = ap (row_rank outer) (set-set o a (suc (column j)) 0 ∙ sym (set-set o a (column j) 0)) ∙ number_row ns a on w pairs j under in
+            ap seen (number_next ns a on w pairs j under) ∙ (λ i. left (row i) (get_or-set_same o a (suc (column j)) 0 on_o i))
 
         seen_starts : StartsAlong ns a (at old) seen
         seen_starts i h zero_there =
@@ -116,19 +117,22 @@ module _ (offset : ℕ) (ns : List ℕ) (ss : List ℤ) (a : ℕ) (on : a < leng
     module _ (new : ℕ → Option A) (last : F) (done : AreAccumulated g place all w old new f last) where
       pub axis_visits : AccumulatesAll g ns a (at old) (at new) f
       axis_visits =
-          let index = index_of_number ns a on w in (
+          let pairs = done.pairs in
+          let lane = done.lane in
+          let column = done.column in
+          let index = index_of_number ns a on w pairs in (
             last,
             (
-              listed index (all * w),
-              listed_all shorter_numbers,
-              numbers_rise ns a on w (all * w) (omega arith),
-              ran_listed (λ p i q. ChangesAfter g (at new i) (at old (next_index a i)) (at new (next_index a i)) p q) index f last (all * w)
-                  (ran_weaker (λ p j q. ChangesAfter g (stored_at new (place (j / w) (j % w))) (stored_at old (place (j / w) (suc (j % w)))) (stored_at new (place (j / w) (suc (j % w)))) p q)
-                  (λ p j q. ChangesAfter g (at new (index j)) (at old (next_index a (index j))) (at new (next_index a (index j))) p q) f last (all * w)
+              listed index done.all,
+              listed_all (shorter_numbers pairs),
+              numbers_rise ns a on w pairs done.all (omega arith),
+              ran_listed (λ p i q. ChangesAfter g (at new i) (at old (next_index a i)) (at new (next_index a i)) p q) index f last done.all
+                  (ran_weaker (λ p j q. ChangesAfter g (stored_at new (place (lane j) (column j))) (stored_at old (place (lane j) (suc (column j)))) (stored_at new (place (lane j) (suc (column j)))) p q)
+                  (λ p j q. ChangesAfter g (at new (index j)) (at old (next_index a (index j))) (at new (next_index a (index j))) p q) f last done.all
                   (λ p j q under call.
-                  subst (λ o. ChangesAfter g o (at old (next_index a (index j))) (at new (next_index a (index j))) p q) (here_is new j under)
-                  (subst (λ o. ChangesAfter g (stored_at new (place (j / w) (j % w))) o (at new (next_index a (index j))) p q) (next_is old j under)
-                  (subst (λ o. ChangesAfter g (stored_at new (place (j / w) (j % w))) (stored_at old (place (j / w) (suc (j % w)))) o p q) (next_is new j under) call))) done.calls),
+                  subst (λ o. ChangesAfter g o (at old (next_index a (index j))) (at new (next_index a (index j))) p q) (here_is new pairs j under)
+                  (subst (λ o. ChangesAfter g (stored_at new (place (lane j) (column j))) o (at new (next_index a (index j))) p q) (next_is old pairs j under)
+                  (subst (λ o. ChangesAfter g (stored_at new (place (lane j) (column j))) (stored_at old (place (lane j) (suc (column j)))) o p q) (next_is new pairs j under) call))) done.calls),
             ),
           )
 
@@ -157,10 +161,14 @@ module _ (offset : ℕ) (ns : List ℕ) (ss : List ℤ) (a : ℕ) (on : a < leng
           by_coordinate (suc k) e =
               let under = coordinate_below ns i a h on in
               let low : k < w = omega (arith, under, e, long) in
-              let numbers = lane_number w (row_of i) k low in
-              let here : place (row_of i) (suc k) ≡ place_of offset ss i = ap (place (row_of i)) (sym e) ∙ in_lane i h in
-              let call = ran_at (λ p j q. ChangesAfter g (stored_at new (place (j / w) (j % w))) (stored_at old (place (j / w) (suc (j % w)))) (stored_at new (place (j / w) (suc (j % w)))) p q) f last (all * w) (row_of i * w + k) (lane_number_below all w (row_of i) k (row_below i h) low) done.calls in
-              ap (names_place new) (sym here) ∙ (sym (λ j. names_place new (place (numbers.0 j) (suc (numbers.1 j)))) ∙ ap is_some call.2.5)
+              let r = row_of i in
+              let on_r = row_below i h in
+              let pairs = done.pairs in
+              let lane = done.lane in
+              let column = done.column in
+              let here : place r (suc k) ≡ place_of offset ss i = ap (place r) (sym e) ∙ in_lane i h in
+              let call = ran_at (λ p j q. ChangesAfter g (stored_at new (place (lane j) (column j))) (stored_at old (place (lane j) (suc (column j)))) (stored_at new (place (lane j) (suc (column j)))) p q) f last done.all (done.number r k) (pairs.below r k on_r low) done.calls in
+              ap (names_place new) (sym here) ∙ (sym (λ j. names_place new (place (pairs.lane_is r k on_r low j) (suc (pairs.column_is r k on_r low j)))) ∙ ap is_some call.2.5)
 
       pub axis_others : (p : ℕ) → ((i : List ℕ) → inside ns i (place_number (place_of offset ss i)) ≡ Some p → ⊥) → new p ≡ old p
       axis_others p nowhere =
@@ -221,7 +229,7 @@ module _ {F A : Type 0} (g : Mut F (Bor A × (MutBor A × Unit {0})) (Unit {0} �
         f,
         (
           [],
-          subst (λ v. ListsBox (set ns a v) []) (sym empty) (subst (λ n. ListsBox (set ns a 0) (listed (index_of_number ns a on 0) n)) no_number (listed_all (lane_numbers ns a on 0))),
+          subst (λ v. ListsBox (set ns a v) []) (sym empty) (subst (λ n. ListsBox (set ns a 0) (listed (index_of_number ns a on 0 (by_lanes (size_of (set ns a 1)) 0)) n)) no_number (listed_all (lane_numbers ns a on 0 (by_lanes (size_of (set ns a 1)) 0)))),
           (λ m k i found. absurd (let never : None ≡ Some i = found in cc)),
           refl,
         ),

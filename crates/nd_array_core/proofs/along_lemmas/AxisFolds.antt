@@ -15,8 +15,9 @@ use Rattle.nd_storage.specs.Collected.{collected}
 use Rattle.nd_storage.specs.Meaning.{inside}
 use Rattle.nd_storage.specs.elements.Folds.{RanTo}
 use Rattle.nd_array_core.specs.along.AxisFolds.{lane_at, FoldsBetween, MayFold, FoldsShownBy, FoldsAt, FoldsAxis, AxisFoldable, FoldsShown, FoldsRun, TakesRun, FoldsNumbered, TakesNumbered, AreFoldedTo, AreFoldedBy}
-use Rattle.nd_array_core.proofs.along_lemmas.AxisNumbers.{remove-inserted, IsPairing, index_of, index_rank, index_column, pair_numbers, pairs_rise}
+use Rattle.nd_array_core.proofs.along_lemmas.AxisNumbers.{remove-inserted, index_of, index_rank, index_column, pair_numbers, pairs_rise}
 use Rattle.nd_storage.proofs.FreeOrder.{listed, listed_part, listed_all, done_at_each}
+use Rattle.nd_storage.specs.along.AxisLanes.{IsPairing}
 use Rattle.nd_storage.proofs.LaneNumbers.{number_lane, lane_number, lane_number_below}
 use Rattle.nd_storage.proofs.Ran.{ran_weaker, ran_then, ran_listed}
 

@@ -3,7 +3,6 @@ use Rattle.std.proofs.Common.{◌≡◌, ℕ, zero, suc, ◌+◌, ◌*◌, ◌/�
 use Rattle.std.specs.Prelude.{Some}
 use Rattle.std.specs.List.{insert, remove}
 use Rattle.std.proofs.lemmas.Bool.{and_from, lt-ltb, ltb-true}
-use Rattle.std.proofs.lemmas.Nat.{div-add-mod'}
 use Rattle.std.proofs.lemmas.List.Edits.{get_or-insert_at, length-remove}
 use Rattle.nd_shape_and_slice.specs.Shape.{in_box, size_of, row_rank, index_at}
 use Rattle.nd_shape_and_slice.specs.Maps.{indexed_shape}
@@ -11,9 +10,10 @@ use Rattle.nd_shape_and_slice.proofs.AxisTests.{and_left, and_right}
 use Rattle.nd_shape_and_slice.proofs.RowMajor.{length-in_box, row_rank_below}
 use Rattle.nd_shape_and_slice.proofs.RankIndexes.{in_box-index_at, row_rank-index_at, index_at-row_rank}
 use Rattle.nd_layout.proofs.Removed.{in_box-inserted}
+use Rattle.nd_storage.specs.along.AxisLanes.{IsPairing}
 use Rattle.nd_storage.specs.along.Rising.{RisesAlong}
 use Rattle.nd_storage.proofs.FreeOrder.{IsNumbering, listed}
-use Rattle.nd_storage.proofs.LaneNumbers.{number_lane, lane_number, lane_number_below, listed_at, listed_has}
+use Rattle.nd_storage.proofs.LaneNumbers.{listed_at, listed_has}
 
 pub remove-inserted : (o : List ℕ) (a k : ℕ) → a ≤ length o → remove (insert o a k) a ≡ o
 remove-inserted [] zero k fits = refl
@@ -31,40 +31,6 @@ set-inserted [] zero k j fits = refl
 set-inserted [] (suc a) k j fits = absurd (omega (arith, fits))
 set-inserted (x ∷ o) zero k j fits = refl
 set-inserted (x ∷ o) (suc a) k j fits = ap (λ r. x ∷ r) (set-inserted o a k j (omega (arith, fits)))
-
--- numbers of so many lanes and coordinates, each pair once, in which the coordinates of a lane rise
-pub record IsPairing (lanes count all : ℕ) (lane column : ℕ → ℕ) (number : ℕ → ℕ → ℕ) : Type 0 where
-  pub lane_below : (m : ℕ) → m < all → lane m < lanes
-  pub column_below : (m : ℕ) → m < all → column m < count
-  pub is_number : (m : ℕ) → m < all → number (lane m) (column m) ≡ m
-  pub below : (r k : ℕ) → r < lanes → k < count → number r k < all
-  pub lane_is : (r k : ℕ) → r < lanes → k < count → lane (number r k) ≡ r
-  pub column_is : (r k : ℕ) → r < lanes → k < count → column (number r k) ≡ k
-  pub rises : (r k : ℕ) → r < lanes → k + 1 < count → number r k < number r (k + 1)
-
--- one lane after the other
-pub by_lanes : (lanes count : ℕ) → IsPairing lanes count (lanes * count) (λ m. m / count) (λ m. m % count) (λ r k. r * count + k)
-by_lanes lanes count = record {
-  lane_below = λ m h. (number_lane lanes count m h).0;
-  column_below = λ m h. (number_lane lanes count m h).1;
-  is_number = λ m h. div-add-mod' m count;
-  below = λ r k on under. lane_number_below lanes count r k on under;
-  lane_is = λ r k on under. (lane_number count r k under).0;
-  column_is = λ r k on under. (lane_number count r k under).1;
-  rises = λ r k on under. omega arith;
-}
-
--- one coordinate after the other
-pub by_columns : (lanes count : ℕ) → IsPairing lanes count (count * lanes) (λ m. m % lanes) (λ m. m / lanes) (λ r k. k * lanes + r)
-by_columns lanes count = record {
-  lane_below = λ m h. (number_lane count lanes m h).1;
-  column_below = λ m h. (number_lane count lanes m h).0;
-  is_number = λ m h. div-add-mod' m lanes;
-  below = λ r k on under. lane_number_below count lanes k r under on;
-  lane_is = λ r k on under. (lane_number lanes k r on).1;
-  column_is = λ r k on under. (lane_number lanes k r on).0;
-  rises = λ r k on under. let one : (k + 1) * lanes ≡ k * lanes + lanes = omega arith in omega (arith, one, on);
-}
 
 module _ (ns : List ℕ) (a : ℕ) (on : a < length ns) {lane column : ℕ → ℕ} {number : ℕ → ℕ → ℕ} {all : ℕ} (pairs : IsPairing (size_of (indexed_shape ns a)) (get_or ns a 0) all lane column number) where
   abbrev outer : List ℕ

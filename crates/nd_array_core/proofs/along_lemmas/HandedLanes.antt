@@ -18,7 +18,7 @@ use Rattle.nd_layout.proofs.Removed.{displacement_of-inserted}
 use Rattle.nd_layout.specs.Places.{is_place, ReachesPlaces}
 use Rattle.nd_layout.specs.Steps.{IsStep}
 use Rattle.nd_layout.specs.Walk.{place_at_rank}
-use Rattle.nd_array_core.specs.declared.along.lane_mut.LaneMut.{LaneMut}
+use Rattle.nd_storage.specs.declared.along.lane_mut.LaneMut.{LaneMut}
 use Rattle.nd_storage.specs.Meaning.{Meaning, inside}
 use Rattle.nd_storage.specs.Places.{stored_at, names_place, place_number, HoldsAll}
 use Rattle.nd_storage.specs.FreeOrder.{AnswersThere, HasAnswers}
@@ -28,12 +28,14 @@ use Rattle.nd_storage.specs.elements.Maps.{AnswersAt, TakesNumbered, AskableOfAl
 use Rattle.nd_storage.specs.elements.MapsMut.{paired_at}
 use Rattle.nd_storage.specs.along.AxisLanes.{lane_place, LanesReach, LanesDistinct}
 use Rattle.nd_array_core.specs.along.AxisMaps.{lane_of, lanes_of}
-use Rattle.nd_array_core.specs.along.LanesWritten.{lane_held, LeavesLane, MayBeHandedLane, LeavesLanesBy, AnswersHandedLanesBy, lanes_held, AreHandedOut, AreLeftBy}
+use Rattle.nd_storage.specs.along.LanesWritten.{lane_held, LeavesLane, MayBeHandedLane, LeavesLanesBy, AnswersHandedLanesBy, lanes_held, AreHandedOut}
+use Rattle.nd_array_core.specs.along.LanesWritten.{AreLeftBy}
 use Rattle.nd_array_core.proofs.along_lemmas.AxisFolding.{lane_in}
-use Rattle.nd_array_core.proofs.along_lemmas.AxisNumbers.{remove-inserted, insert-removed, by_lanes, lane_in as outer_in, column_in}
+use Rattle.nd_array_core.proofs.along_lemmas.AxisNumbers.{remove-inserted, insert-removed, lane_in as outer_in, column_in}
+use Rattle.nd_storage.proofs.LaneNumbers.{by_lanes}
 use Rattle.nd_storage.proofs.FreeOrder.{done_at_each}
 use Rattle.nd_array_core.proofs.elements_lemmas.Handed.{both_is, handed_answered}
-use Rattle.nd_array_core.proofs.along_lemmas.LentLanes.{line_same}
+use Rattle.nd_storage.proofs.LentLanes.{line_same}
 use Rattle.nd_storage.proofs.Mapped.{indexes_taken}
 use Rattle.nd_storage.proofs.Numbered.{order_numbers}
 use Rattle.nd_storage.proofs.WriteStep.{one_index}

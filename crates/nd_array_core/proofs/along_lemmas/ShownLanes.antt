@@ -22,6 +22,7 @@ use Rattle.nd_storage.specs.Places.{stored_at, HoldsAll}
 use Rattle.nd_storage.specs.Meaning.{Meaning, inside}
 use Rattle.nd_storage.specs.Meaning.{row_major_elements}
 use Rattle.nd_storage.proofs.Collecting.{collected_alike}
+use Rattle.nd_storage.proofs.LentLanes.{lane_coordinate, seen_inside}
 use Rattle.nd_array_core.specs.along.AxisFolds.{lane_at, lane_elements}
 use Rattle.nd_array_core.specs.along.AxisMaps.{lane_of, lanes_of, lane_seen, AnswersLane, AnswersLanesBy}
 
@@ -75,20 +76,6 @@ lane_is_valid place count stride few reach = record {
         let e : place_of place (stride ∷ []) (k ∷ []) ≡ pos place +ℤ (pos k *ℤ stride) = omega (arith, sums) in
         ap is_place e ∙ reach k below
     reaches (k ∷ j ∷ js) inbox = absurd (grind (arith, nat_tests, inbox))
-
--- the one coordinate of an index of a lane
-pub lane_coordinate : (n : ℕ) (k : List ℕ) → in_box (n ∷ []) k ≡ true → get_or k 0 0 < n
-lane_coordinate n [] inbox = absurd cc
-lane_coordinate n (j ∷ []) inbox = grind (arith, nat_tests, inbox)
-lane_coordinate n (j ∷ l ∷ ls) inbox = absurd (grind (arith, nat_tests, inbox))
-
--- what is the same in a box is the same, seen there
-pub seen_inside : {A : Type 0} (shape k : List ℕ) (x y : Option A) → (in_box shape k ≡ true → x ≡ y) → inside shape k x ≡ inside shape k y
-seen_inside shape k x y same = by_box (in_box shape k) refl
-  where
-    by_box : (b : Bool) → in_box shape k ≡ b → inside shape k x ≡ inside shape k y
-    by_box true e = rw e (same e)
-    by_box false e = rw e refl
 
 -- an array over the layout of a lane: where it lies, and what it shows
 module _ {A : Type 0} (stored : ℕ → Option A) (offset : ℕ) (ns : List ℕ) (ss : List ℤ) (place count : ℕ) (stride : ℤ) (from : offset ≡ place) (long : ns ≡ count ∷ []) (apart : ss ≡ stride ∷ []) where

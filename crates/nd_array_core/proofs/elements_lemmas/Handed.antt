@@ -15,6 +15,7 @@ use Rattle.nd_storage.specs.elements.Maps.{AnswersAt, RanNumbered, TakesNumbered
 use Rattle.nd_storage.specs.elements.MapsMut.{paired_at, LeavesAndAnswers, LeavesBy, AnswersHandedBy, Collects, TakesCollecting}
 use Rattle.nd_storage.proofs.Answered.{got_last, got_still}
 use Rattle.nd_storage.proofs.FreeOrder.{IsNumbering, listed, listed_all, done_at_each}
+use Rattle.nd_storage.proofs.LentLanes.{collects_ran}
 use Rattle.nd_storage.proofs.Mapped.{joined_numbers}
 use Rattle.nd_storage.proofs.Ran.{ran_at, ran_weaker, ran_listed}
 
@@ -40,13 +41,8 @@ both_is (Some x) None p e = absurd cc
 both_is None w p e = absurd cc
 
 module _ {P A B : Type 0} (answers : P → Option A → A × B → P → Type 0) where
-  -- the calls alone
-  pub collects_ran : (found : ℕ → Option A) (first last : P × List B) (count : ℕ) → RanNumbered (Collects answers) found first count last → RanNumbered answers found first.0 count last.0
-  collects_ran found first last zero run = ap (λ p. p.0) run
-  collects_ran found first last (suc k) run = (run.0.0, collects_ran found first run.0 k run.1, ((run.2.0, run.2.1.0), run.2.1.2))
-
   pub collects_taken : (takes : P → Option A → Type 0) (found : ℕ → Option A) (first : P) (items : List B) (count : ℕ) → TakesNumbered answers takes found first count → TakesNumbered (Collects answers) (TakesCollecting takes) found (first, items) count
-  collects_taken takes found first items count may k now below run = may k now.0 below (collects_ran found (first, items) now k run)
+  collects_taken takes found first items count may k now below run = may k now.0 below (collects_ran answers found (first, items) now k run)
 
   -- the calls, each with what it left and the item that it answered
   pub collects_items : (old new : ℕ → Option A) (first : P) (count : ℕ) (last : P × List B) → RanTo (λ p k q. Replaces (Collects answers) (old k) (new k) p q) (first, []) count last

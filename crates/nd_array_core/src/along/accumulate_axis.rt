@@ -7,6 +7,7 @@ ghost use Rattle.nd_storage.specs.along.Accumulated.{AccumulatesAll, Accumulable
 use crate::base::array::ArrayBase;
 use nd_shape_and_slice::{Axis, Dimension, StrideList};
 use nd_storage::along::accumulate_axis::accumulate_lanes;
+use nd_storage::along::axis_lanes::AxisLanes;
 use nd_storage::storage::DataMut;
 
 impl<S: DataMut, D: Dimension> ArrayBase<S, D> {
@@ -24,17 +25,10 @@ impl<S: DataMut, D: Dimension> ArrayBase<S, D> {
     {
         let count = self.len_of(axis);
         let stride = self.stride_of(axis);
-        let mut outer = self.layout.copied();
-        outer.collapse_axis(axis.0, 0);
-        accumulate_lanes(
-            &mut self.storage,
-            outer.offset,
-            outer.dim.slice(),
-            outer.strides.slice(),
-            count,
-            stride,
-            f,
-        );
+        let mut firsts = self.layout.copied();
+        firsts.collapse_axis(axis.0, 0);
+        let lanes = AxisLanes::new(&firsts, count, stride);
+        accumulate_lanes(&mut self.storage, lanes, f);
     }
 
     /// Goes along each lane of an axis from its second element on: shows the function the element before, as the call there

@@ -8,6 +8,7 @@ ghost use Rattle.nd_storage.specs.along.Removed.{removed_shape, rotated_index, r
 use crate::base::array::ArrayBase;
 use crate::laws::elements_have_places;
 use nd_shape_and_slice::{Axis, Dimension, Slice, StrideList};
+use nd_storage::along::axis_lanes::AxisLanes;
 use nd_storage::along::remove_index::rotate_lanes;
 use nd_storage::storage::DataMut;
 
@@ -27,17 +28,10 @@ impl<S: DataMut, D: Dimension> ArrayBase<S, D> {
     {
         let count = self.len_of(axis);
         let stride = self.stride_of(axis);
-        let mut outer = self.layout.copied();
-        outer.collapse_axis(axis.0, 0);
-        rotate_lanes(
-            &mut self.storage,
-            outer.offset,
-            outer.dim.slice(),
-            outer.strides.slice(),
-            count,
-            stride,
-            index,
-        );
+        let mut firsts = self.layout.copied();
+        firsts.collapse_axis(axis.0, 0);
+        let lanes = AxisLanes::new(&firsts, count, stride);
+        rotate_lanes(&mut self.storage, lanes, index);
     }
 
     /// Takes one coordinate of an axis out: in each lane the elements after it move one towards the front, the removed one

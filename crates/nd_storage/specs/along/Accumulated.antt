@@ -1,15 +1,29 @@
 -- Closures that go along an axis: each call is shown the element before, as the call there left it, and handed one to be written.
-use Rattle.std.specs.Prelude.{◌≡◌, ◌<◌, ℕ, suc, ◌/◌, ◌%◌, ◌*◌, List, Option, Some, true, ℤ, pos, slice_index}
+use Rattle.std.specs.Prelude.{◌≡◌, ◌+◌, ◌-◌, ◌<◌, ℕ, suc, List, length, Option, Some, true, ℤ, pos, slice_get, slice_index}
 use Rattle.std.specs.Borrow.{Bor, MutBor}
 use Rattle.std.specs.Fn.{Mut, Called}
 use Rattle.nd_shape_and_slice.specs.Shape.{in_box}
 use Rattle.nd_region.specs.declared.region.Region.{Region}
-use Rattle.nd_region.specs.Region.{region_stored, with_element}
+use Rattle.nd_region.specs.Region.{region_stored, borrow_of, with_element, with_run}
+use Rattle.nd_layout.specs.Lanes.{Numbered}
 use Rattle.nd_storage.specs.Places.{stored_at}
 use Rattle.nd_storage.specs.elements.Folds.{RanTo}
 use Rattle.nd_storage.specs.elements.Pairs.{option_both}
+use Rattle.nd_storage.specs.RunLent.{IsBesideRun}
+use Rattle.nd_storage.specs.along.AxisLanes.{LanePlaces, IsPairing}
 use Rattle.nd_storage.specs.along.Removed.{removed_shape}
 use Rattle.nd_storage.specs.along.Rising.{next_index, VisitedAlong, CallableAlong}
+
+-- what a map, and a region, has from a place on
+abbrev pub run_of : {A : Type 0} → (ℕ → Option A) → ℕ → ℕ → Option A
+run_of stored p k = stored (p + k)
+
+abbrev pub run_at : {A : Type 0} → Region A → ℕ → ℕ → Option A
+run_at r p k = region_stored r (p + k)
+
+-- two runs have no place together
+abbrev pub AreRunsApart : ℕ → ℕ → ℕ → Type 0
+AreRunsApart p q count = (j k : ℕ) → j < count → k < count → p + j ≡ q + k → ⊥
 
 -- the first element of each lane of an axis is the old one
 abbrev pub StartsAlong : {A : Type 0} → List ℕ → ℕ → (List ℕ → Option A) → (List ℕ → Option A) → Type 0
@@ -72,20 +86,70 @@ module _ {F A : Type 0} (g : Mut F (Bor A × (MutBor A × Unit {0})) (Unit {0} �
     pub calls : RanTo (λ p k q. ChangesAfter (stored_at new (place k)) (stored_at old (place (suc k))) (stored_at new (place (suc k))) p q) first count last
     pub left : (p : ℕ) → ((k : ℕ) → k < count → place (suc k) ≡ pos p → ⊥) → new p ≡ old p
 
-  -- the same in each of that many lanes, one after the other
-  pub record AreAccumulated (place : ℕ → ℕ → ℤ) (lanes count : ℕ) (old new : ℕ → Option A) (first last : F) : Type 0 where
-    pub calls : RanTo (λ p m q. ChangesAfter (stored_at new (place (m / count) (m % count))) (stored_at old (place (m / count) (suc (m % count)))) (stored_at new (place (m / count) (suc (m % count)))) p q) first (lanes * count) last
-    pub left : (p : ℕ) → ((r k : ℕ) → r < lanes → k < count → place r (suc k) ≡ pos p → ⊥) → new p ≡ old p
-
   -- whichever calls of a lane came before, the next may be made
   abbrev pub TakesLane : (ℕ → ℤ) → ℕ → (ℕ → Option A) → F → Type 0
   TakesLane place count old first =
       (left : ℕ → Option A) (k : ℕ) (now : F) → k < count → left 0 ≡ stored_at old (place 0)
       → RanTo (λ p j q. ChangesAfter (left j) (stored_at old (place (suc j))) (left (suc j)) p q) first k now → TakesAfter (left k) (stored_at old (place (suc k))) now
 
-  -- and of all lanes
+  -- ---- lanes beside one another, at one coordinate: what is shown for each, what is found there, and what is left
+  abbrev pub ChangesRow : (ℕ → Option A) → (ℕ → Option A) → (ℕ → Option A) → F → ℕ → F → Type 0
+  ChangesRow before old left first count last = RanTo (λ p r q. ChangesAfter (before r) (old r) (left r) p q) first count last
+
+  -- whichever of them came before, the next call may be made
+  abbrev pub TakesRow : (ℕ → Option A) → (ℕ → Option A) → ℕ → F → Type 0
+  TakesRow before old count first = (left : ℕ → Option A) (r : ℕ) (now : F) → r < count → ChangesRow before old left first r now → TakesAfter (before r) (old r) now
+
+  -- two regions, once the elements of a run of the one were shown, and those of a run of the other changed
+  abbrev pub RowChangedBetween : Region A → ℕ → Region A → ℕ → ℕ → F → Region A × Region A × F → Type 0
+  RowChangedBetween r p s q count f out =
+      (ws : List A) × (length ws ≡ count) × (out.0 ≡ r) × (out.1 ≡ with_run s q count ws) × ChangesRow (run_at r p) (run_at s q) (slice_get ws) f count out.2
+
+  -- the same in one region
+  abbrev pub RowChangedInside : Region A → ℕ → ℕ → ℕ → F → Region A × F → Type 0
+  RowChangedInside r p q count f out =
+      (borrow_of out.0 ≡ borrow_of r) × ChangesRow (run_at r p) (run_at r q) (run_at out.0 q) f count out.1
+      × ((i : ℕ) → IsBesideRun q count i → region_stored out.0 i ≡ region_stored r i)
+
+  -- ---- by numbers: each is that of a lane and of a coordinate there that isn't the last; `left` tells what is left of each
+  abbrev pub AccumulatesNumbered : (ℕ → ℕ) → (ℕ → ℕ) → (ℕ → ℕ → Option A) → (ℕ → ℕ → Option A) → F → ℕ → F → Type 0
+  AccumulatesNumbered lane column old left first count last = RanTo (λ p m q. ChangesAfter (left (lane m) (column m)) (old (lane m) (suc (column m))) (left (lane m) (suc (column m))) p q) first count last
+
+  -- so many lanes were gone along, in some order in which the coordinates of each rise, and nothing else changed
+  pub record AreAccumulated (place : ℕ → ℕ → ℤ) (lanes count : ℕ) (old new : ℕ → Option A) (first last : F) : Type 0 where
+    pub all : ℕ
+    pub lane : ℕ → ℕ
+    pub column : ℕ → ℕ
+    pub number : ℕ → ℕ → ℕ
+    pub pairs : IsPairing lanes count all lane column number
+    pub calls : AccumulatesNumbered lane column (λ r k. stored_at old (place r k)) (λ r k. stored_at new (place r k)) first all last
+    pub left : (p : ℕ) → ((r k : ℕ) → r < lanes → k < count → place r (suc k) ≡ pos p → ⊥) → new p ≡ old p
+
+  -- whichever calls came before in such an order, the next may be made
   abbrev pub TakesLanes : (ℕ → ℕ → ℤ) → ℕ → ℕ → (ℕ → Option A) → F → Type 0
   TakesLanes place lanes count old first =
-      (left : ℕ → ℕ → Option A) (m : ℕ) (now : F) → m < lanes * count → ((r : ℕ) → r < lanes → left r 0 ≡ stored_at old (place r 0))
-      → RanTo (λ p j q. ChangesAfter (left (j / count) (j % count)) (stored_at old (place (j / count) (suc (j % count)))) (left (j / count) (suc (j % count))) p q) first m now
-      → TakesAfter (left (m / count) (m % count)) (stored_at old (place (m / count) (suc (m % count)))) now
+      (all : ℕ) (lane column : ℕ → ℕ) (number : ℕ → ℕ → ℕ) → IsPairing lanes count all lane column number
+      → (left : ℕ → ℕ → Option A) (m : ℕ) (now : F) → m < all → ((r : ℕ) → r < lanes → left r 0 ≡ stored_at old (place r 0))
+      → AccumulatesNumbered lane column (λ r k. stored_at old (place r k)) left first m now
+      → TakesAfter (left (lane m) (column m)) (stored_at old (place (lane m) (suc (column m)))) now
+
+  -- ---- the same of a storage
+  module _ {S : Type 0} (stored : S → ℕ → Option A) where
+    abbrev pub AccumulatesLane : Numbered → S → S → F → F → Type 0
+    AccumulatesLane at old new first last = IsAccumulated at.place (at.count - 1) (stored old) (stored new) first last
+
+    abbrev pub AccumulableLane : Numbered → S → F → Type 0
+    AccumulableLane at s f = TakesLane at.place (at.count - 1) (stored s) f
+
+    abbrev pub AccumulatesLanes : LanePlaces → S → S → F → F → Type 0
+    AccumulatesLanes at old new first last = AreAccumulated at.place at.lanes (at.count - 1) (stored old) (stored new) first last
+
+    abbrev pub AccumulableLanes : LanePlaces → S → F → Type 0
+    AccumulableLanes at s f = TakesLanes at.place at.lanes (at.count - 1) (stored s) f
+
+    -- a run of a storage
+    abbrev pub ChangesNextRun : ℕ → ℕ → ℕ → S → S → F → F → Type 0
+    ChangesNextRun p q count old new f last = ChangesRow (run_of (stored old) p) (run_of (stored old) q) (run_of (stored new) q) f count last
+
+    abbrev pub TakesNextRun : ℕ → ℕ → ℕ → S → F → Type 0
+    TakesNextRun p q count s f = TakesRow (run_of (stored s) p) (run_of (stored s) q) count f

@@ -1,9 +1,11 @@
 -- One coordinate of an axis taken out: those behind it move one towards the front, and in storage it goes to the end.
 use Rattle.std.specs.Prelude.{◌≡◌, ◌+◌, ◌-◌, ◌<◌, ℕ, ℤ, pos, nat_lt, nat_eq, List, Option, Some, slice_index, slice_set, if◌then◌else◌}
 use Rattle.nd_shape_and_slice.specs.declared.slice.Slice.{Slice}
+use Rattle.nd_layout.specs.Lanes.{Numbered}
 use Rattle.nd_layout.specs.Strides.{sliced_strides}
 use Rattle.nd_storage.specs.Meaning.{Meaning, inside}
 use Rattle.nd_storage.specs.Places.{stored_at}
+use Rattle.nd_storage.specs.along.AxisLanes.{LanePlaces}
 
 -- the axis is one shorter
 abbrev pub removed_shape : List ℕ → ℕ → List ℕ
@@ -50,3 +52,11 @@ module _ {A : Type 0} (old new : ℕ → Option A) where
   pub record AreMovedBy (place : ℕ → ℕ → ℤ) (lanes n : ℕ) (from : ℕ → ℕ) : Type 0 where
     pub done : (r k : ℕ) → r < lanes → k < n → stored_at new (place r k) ≡ stored_at old (place r (from k))
     pub left : (p : ℕ) → ((r k : ℕ) → r < lanes → k < n → place r k ≡ pos p → ⊥) → new p ≡ old p
+
+-- the same of a storage
+module _ {S A : Type 0} (stored : S → ℕ → Option A) where
+  abbrev pub MovesPlaces : Numbered → (ℕ → ℕ) → S → S → Type 0
+  MovesPlaces at from old new = IsMovedBy (stored old) (stored new) at.place at.count from
+
+  abbrev pub MovesLanes : LanePlaces → (ℕ → ℕ) → S → S → Type 0
+  MovesLanes at from old new = AreMovedBy (stored old) (stored new) at.place at.lanes at.count from

@@ -1,14 +1,17 @@
 //! A closure that goes along an axis and is shown the element before each.
 
-ghost use Rattle.std.specs.Prelude.{◌≡◌, ◌+◌, ◌-◌, ◌<◌, ◌≤◌, ◌^◌, ℕ, true, Some, IsSome, length, pos, ◌+ℤ◌, ◌*ℤ◌};
-ghost use Rattle.nd_shape_and_slice.specs.Shape.{size_of, HasCheckedSize};
-ghost use Rattle.nd_layout.specs.Places.{ReachesPlaces};
+ghost use Rattle.std.specs.Prelude.{◌≡◌, ◌+◌, ◌<◌, ℕ, true, IsSome, pos, ◌+ℤ◌, ◌*ℤ◌};
+ghost use Rattle.nd_layout.specs.Lanes.{along};
 ghost use Rattle.nd_region.specs.Region.{region_stored};
+ghost use Rattle.nd_storage.specs.NumberedPlaces.{PlacesDiffer, Holds};
 ghost use Rattle.nd_storage.specs.Places.{names_place, stored_at};
 ghost use Rattle.nd_storage.specs.elements.Changes.{AreDistinct};
-ghost use Rattle.nd_storage.specs.along.AxisLanes.{lane_place, LanesReach, LanesDistinct};
-ghost use Rattle.nd_storage.specs.along.Accumulated.{TakesAfter, ChangesAfter, ChangedBetween, ChangedInside, IsAccumulated, AreAccumulated, TakesLane, TakesLanes};
+ghost use Rattle.nd_storage.specs.along.AxisLanes.{LanesDiffer, LanesHold};
+ghost use Rattle.nd_storage.specs.along.LanesIn.{lanes_in};
+ghost use Rattle.nd_storage.specs.along.Accumulated.{TakesAfter, ChangesAfter, ChangedBetween, ChangedInside, AccumulatesLane, AccumulableLane, AccumulatesLanes, AccumulableLanes};
 
+use crate::along::accumulate_beside::accumulate_beside;
+use crate::along::axis_lanes::AxisLanes;
 use crate::along::first_places::lane_from;
 use crate::storage::DataMut;
 use nd_layout::{Lane, Walk};
@@ -93,10 +96,10 @@ fn accumulate_lane<S: DataMut, F: FnMut(&S::Elem, &mut S::Elem)>(
     f: F,
 ) -> F
     requires some { 0 < lane.count }
-    requires apart { AreDistinct (λ k. pos lane.place +ℤ (pos k *ℤ lane.stride)) lane.count }
-    requires holds { (k : ℕ) → k < lane.count → names_place (S.stored storage.old) (pos lane.place +ℤ (pos k *ℤ lane.stride)) ≡ true }
-    requires callable { TakesLane F.FnMut (λ k. pos lane.place +ℤ (pos k *ℤ lane.stride)) (lane.count - 1) (S.stored storage.old) f }
-    ensures accumulated { IsAccumulated F.FnMut (λ k. pos lane.place +ℤ (pos k *ℤ lane.stride)) (lane.count - 1) (S.stored storage.old) (S.stored storage.new) f result }
+    requires apart { PlacesDiffer (along lane) }
+    requires holds { Holds S.stored (along lane) storage.old }
+    requires callable { AccumulableLane F.FnMut S.stored (along lane) storage.old f }
+    ensures accumulated { AccumulatesLane F.FnMut S.stored (along lane) storage.old storage.new f result }
     ensures frame { S.frame storage.new ≡ S.frame storage.old }
 {
     let mut now = f;
@@ -106,35 +109,50 @@ fn accumulate_lane<S: DataMut, F: FnMut(&S::Elem, &mut S::Elem)>(
     now
 }
 
-/// Goes along each lane of an axis from its second element on, with the element before. The first places of the lanes
-/// are those of a layout.
-pub fn accumulate_lanes<S: DataMut, F: FnMut(&S::Elem, &mut S::Elem)>(
+/// The same along one lane of an axis after the other.
+fn accumulate_in_turn<S: DataMut, F: FnMut(&S::Elem, &mut S::Elem)>(
     storage: &mut S,
-    first: usize,
-    lengths: &[usize],
-    strides: &[isize],
-    count: usize,
-    stride: isize,
+    lanes: AxisLanes<'_>,
     f: F,
 ) -> F
-    requires as_many { length strides.now ≡ length lengths.now }
-    requires few { length lengths.now ≤ 32 }
-    requires checked { HasCheckedSize lengths.now }
-    requires reach { ReachesPlaces first lengths.now strides.now }
-    requires some { 0 < count }
-    requires short { count < 2 ^ 63 }
-    requires lanes { LanesReach (lane_place first lengths.now strides.now stride) (size_of lengths.now) count }
-    requires apart { LanesDistinct (lane_place first lengths.now strides.now stride) (size_of lengths.now) count }
-    requires holds { (r k : ℕ) → r < size_of lengths.now → k < count → names_place (S.stored storage.old) (lane_place first lengths.now strides.now stride r k) ≡ true }
-    requires callable { TakesLanes F.FnMut (lane_place first lengths.now strides.now stride) (size_of lengths.now) (count - 1) (S.stored storage.old) f }
-    ensures accumulated { AreAccumulated F.FnMut (lane_place first lengths.now strides.now stride) (size_of lengths.now) (count - 1) (S.stored storage.old) (S.stored storage.new) f result }
+    requires some { 0 < lanes.count }
+    requires apart { LanesDiffer (lanes_in lanes) }
+    requires holds { LanesHold S.stored (lanes_in lanes) storage.old }
+    requires callable { AccumulableLanes F.FnMut S.stored (lanes_in lanes) storage.old f }
+    ensures accumulated { AccumulatesLanes F.FnMut S.stored (lanes_in lanes.entry) storage.old storage.new f result }
     ensures frame { S.frame storage.new ≡ S.frame storage.old }
 {
-    let mut outer = Walk::new(first, lengths, strides);
+    let mut outer = Walk::new(
+        lanes.firsts.first,
+        lanes.firsts.lengths,
+        lanes.firsts.strides,
+    );
     let mut now = f;
     while let Some(place) = outer.place() {
-        now = accumulate_lane(storage, lane_from(place, count, stride), now);
+        now = accumulate_lane(storage, lane_from(place, lanes.count, lanes.stride), now);
         outer.advance();
     }
     now
+}
+
+/// Goes along each lane of an axis from its second element on, with the element before: shows the function the one, and
+/// hands it the other, to be written. Where the lanes begin side by side they are gone along together, one coordinate
+/// after the other, and else one lane after the other.
+pub fn accumulate_lanes<S: DataMut, F: FnMut(&S::Elem, &mut S::Elem)>(
+    storage: &mut S,
+    lanes: AxisLanes<'_>,
+    f: F,
+) -> F
+    requires some { 0 < lanes.count }
+    requires apart { LanesDiffer (lanes_in lanes) }
+    requires holds { LanesHold S.stored (lanes_in lanes) storage.old }
+    requires callable { AccumulableLanes F.FnMut S.stored (lanes_in lanes) storage.old f }
+    ensures accumulated { AccumulatesLanes F.FnMut S.stored (lanes_in lanes.entry) storage.old storage.new f result }
+    ensures frame { S.frame storage.new ≡ S.frame storage.old }
+{
+    if lanes.are_beside() {
+        let lane = lane_from(lanes.firsts.first, lanes.count, lanes.stride);
+        return accumulate_beside(storage, lane, lanes.lanes, f);
+    }
+    accumulate_in_turn(storage, lanes, f)
 }

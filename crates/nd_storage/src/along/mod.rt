@@ -1,5 +1,9 @@
 //! The lanes of an axis.
 
 pub mod accumulate_axis;
+mod accumulate_beside;
+pub mod axis_lanes;
 pub mod first_places;
+pub mod lane_mut;
+pub mod map_axis_mut;
 pub mod remove_index;

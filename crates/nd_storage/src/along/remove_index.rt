@@ -1,13 +1,13 @@
 //! One coordinate of an axis taken out.
 
-ghost use Rattle.std.specs.Prelude.{◌≡◌, ◌+◌, ◌-◌, ◌<◌, ◌≤◌, ◌^◌, ℕ, true, Some, length, pos, ◌+ℤ◌, ◌*ℤ◌};
-ghost use Rattle.nd_shape_and_slice.specs.Shape.{size_of, HasCheckedSize};
-ghost use Rattle.nd_layout.specs.Places.{ReachesPlaces};
-ghost use Rattle.nd_storage.specs.Places.{names_place};
-ghost use Rattle.nd_storage.specs.along.AxisLanes.{lane_place, LanesReach, LanesDistinct};
-ghost use Rattle.nd_storage.specs.along.Removed.{rotated, IsMovedBy, AreMovedBy};
-ghost use Rattle.nd_storage.specs.elements.Changes.{AreDistinct};
+ghost use Rattle.std.specs.Prelude.{◌≡◌, ◌<◌};
+ghost use Rattle.nd_layout.specs.Lanes.{along};
+ghost use Rattle.nd_storage.specs.NumberedPlaces.{PlacesDiffer, Holds};
+ghost use Rattle.nd_storage.specs.along.AxisLanes.{LanesDiffer, LanesHold};
+ghost use Rattle.nd_storage.specs.along.LanesIn.{lanes_in};
+ghost use Rattle.nd_storage.specs.along.Removed.{rotated, MovesPlaces, MovesLanes};
 
+use crate::along::axis_lanes::AxisLanes;
 use crate::along::first_places::lane_from;
 use crate::storage::DataMut;
 use nd_layout::{Lane, Walk};
@@ -16,9 +16,9 @@ use nd_shape_and_slice::{Dimension, StrideList};
 /// Moves the elements of a lane that come after one towards the front, each by one place; that one goes to the end.
 fn rotate_lane<S: DataMut>(storage: &mut S, lane: Lane, from: usize)
     requires from { from < lane.count }
-    requires apart { AreDistinct (λ k. pos lane.place +ℤ (pos k *ℤ lane.stride)) lane.count }
-    requires holds { (k : ℕ) → k < lane.count → names_place (S.stored storage.old) (pos lane.place +ℤ (pos k *ℤ lane.stride)) ≡ true }
-    ensures moved { IsMovedBy (S.stored storage.old) (S.stored storage.new) (λ k. pos lane.place +ℤ (pos k *ℤ lane.stride)) lane.count (rotated from lane.count) }
+    requires apart { PlacesDiffer (along lane) }
+    requires holds { Holds S.stored (along lane) storage.old }
+    ensures moved { MovesPlaces S.stored (along lane) (rotated from lane.count) storage.old storage.new }
     ensures frame { S.frame storage.new ≡ S.frame storage.old }
 {
     for nth in from..lane.count - 1 {
@@ -26,32 +26,21 @@ fn rotate_lane<S: DataMut>(storage: &mut S, lane: Lane, from: usize)
     }
 }
 
-/// Moves the element at a coordinate behind the others in each lane of an axis. The first places of the lanes are those
-/// of a layout.
-pub fn rotate_lanes<S: DataMut>(
-    storage: &mut S,
-    first: usize,
-    lengths: &[usize],
-    strides: &[isize],
-    count: usize,
-    stride: isize,
-    from: usize,
-)
-    requires as_many { length strides.now ≡ length lengths.now }
-    requires few { length lengths.now ≤ 32 }
-    requires checked { HasCheckedSize lengths.now }
-    requires reach { ReachesPlaces first lengths.now strides.now }
-    requires from { from < count }
-    requires short { count < 2 ^ 63 }
-    requires lanes { LanesReach (lane_place first lengths.now strides.now stride) (size_of lengths.now) count }
-    requires apart { LanesDistinct (lane_place first lengths.now strides.now stride) (size_of lengths.now) count }
-    requires holds { (r k : ℕ) → r < size_of lengths.now → k < count → names_place (S.stored storage.old) (lane_place first lengths.now strides.now stride r k) ≡ true }
-    ensures moved { AreMovedBy (S.stored storage.old) (S.stored storage.new) (lane_place first lengths.now strides.now stride) (size_of lengths.now) count (rotated from count) }
+/// Moves the element at a coordinate behind the others in each lane of an axis.
+pub fn rotate_lanes<S: DataMut>(storage: &mut S, lanes: AxisLanes<'_>, from: usize)
+    requires from { from < lanes.count }
+    requires apart { LanesDiffer (lanes_in lanes) }
+    requires holds { LanesHold S.stored (lanes_in lanes) storage.old }
+    ensures moved { MovesLanes S.stored (lanes_in lanes.entry) (rotated from lanes.entry.count) storage.old storage.new }
     ensures frame { S.frame storage.new ≡ S.frame storage.old }
 {
-    let mut outer = Walk::new(first, lengths, strides);
+    let mut outer = Walk::new(
+        lanes.firsts.first,
+        lanes.firsts.lengths,
+        lanes.firsts.strides,
+    );
     while let Some(place) = outer.place() {
-        rotate_lane(storage, lane_from(place, count, stride), from);
+        rotate_lane(storage, lane_from(place, lanes.count, lanes.stride), from);
         outer.advance();
     }
 }

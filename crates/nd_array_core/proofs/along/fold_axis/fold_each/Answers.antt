@@ -6,7 +6,7 @@ use Rattle.nd_shape_and_slice.specs.Maps.{indexed_shape}
 use Rattle.nd_shape_and_slice.specs.declared.builder.Order.TheVariants.{RowMajor}
 use Rattle.nd_array_core.specs.Meaning.{meaning_of, element_at}
 use Rattle.nd_storage.specs.ByRank.{found_by_rank}
-use Rattle.nd_array_core.proofs.along_lemmas.AxisNumbers.{by_lanes, by_columns}
+use Rattle.nd_storage.proofs.LaneNumbers.{by_lanes, by_columns}
 use Rattle.nd_array_core.specs.along.AxisFolds.{FoldsAxis, AreFoldedByLanes}
 use Rattle.nd_array_core.proofs.along_lemmas.AxisFolds.{axis_takes, axis_visited}
 use Rattle.nd_storage.proofs.Mapped.{ok_from_both}

@@ -1,121 +1,102 @@
-use Rattle.std.proofs.Common.{◌≡◌, ◌-◌, ◌<◌, ◌∙◌, suc, pos, ◌+ℤ◌, ◌*ℤ◌, refl, ap, sym, subst, rules, arith, w64, to_z, of_z, FitsSigned}
+use Rattle.std.proofs.Common.{◌≡◌, ◌+◌, ◌-◌, ◌<◌, ◌∙◌, ℕ, pos, ◌+ℤ◌, ◌*ℤ◌, ap, sym, subst, rules, arith, w64, FitsSigned}
 use Rattle.std.proofs.lemmas.Int.{to_z-of_z}
 use Rattle.nd_shape_and_slice.specs.Shape.{size_of}
 use Rattle.nd_layout.specs.Places.{is_place}
-use Rattle.nd_layout.specs.Walk.{place_at_rank}
-use Rattle.nd_storage.specs.along.AxisLanes.{lane_place, LanesDistinct}
-use Rattle.nd_storage.specs.along.Accumulated.{AreAccumulated}
-use Rattle.nd_storage.proofs.AxisLanes.{lane_goes, next_rank}
-use Rattle.nd_storage.proofs.Rotating.{lane_apart}
-use Rattle.nd_storage.proofs.LanesAccumulating.{given_accumulable, given_holds, given_accumulated}
-use Rattle.nd_layout.proofs.WalkSteps.{reaches_usizes}
+use Rattle.nd_storage.specs.Places.{names_place}
+use Rattle.nd_storage.specs.along.AxisLanes.{lane_place, lanes_beside}
+use Rattle.nd_storage.specs.along.Accumulated.{AreAccumulated, TakesLanes}
+use Rattle.nd_storage.proofs.AxisLanes.{beside_goes}
+use Rattle.nd_storage.proofs.RowsAccumulating.{lanes_taken_alike, lanes_done_alike}
 use Rattle.nd_storage.proofs.along.accumulate_axis.accumulate_lanes.Goals as goal
 
-pub new-outer-requires-clause-reach : goal.new-outer-requires-clause-reach
-new-outer-requires-clause-reach g c = reaches_usizes c.args.first c.args.lengths.now c.args.strides.now c.requires.reach
+pub lane_from-lane-requires-clause-reach : goal.lane_from-lane-requires-clause-reach
+lane_from-lane-requires-clause-reach g c k below =
+    let l = c.args.lanes.firsts in
+    let ns = l.lengths.now in
+    let ss = l.strides.now in
+    let fits : FitsSigned w64 c.args.lanes.stride = search rules in
+    let stride = to_z-of_z w64 c.args.lanes.stride fits in
+    let standard = c.are_beside.ensures.standard c.if-are_beside.true in
+    let some = subst (λ n. 0 < n) c.args.lanes.many (c.are_beside.ensures.some c.if-are_beside.true) in
+    let first : l.first ≡ l.first + 0 = omega arith in
+    (λ i. is_place (pos (first i) +ℤ (pos k *ℤ stride i))) ∙ (ap is_place (beside_goes l.first ns ss c.args.lanes.stride standard 0 k some) ∙ c.args.lanes.lie 0 k some below)
 
-pub lane_from-requires-clause-reach : goal.lane_from-requires-clause-reach
-lane_from-requires-clause-reach g c k below =
-    let so_far = c.loop-place.invariant in
-    let fits : FitsSigned w64 c.args.stride = search rules in
-    let rank = c.loop-place.outer.rank in
-    let all = size_of c.args.lengths.now in
-    let count = c.args.count in
-    let some = c.requires.some in
-    let last : suc (count - 1) ≡ count = omega (arith, some) in
-    let on : rank < size_of c.args.lengths.now = subst (λ ls. c.loop-place.outer.rank < size_of ls) so_far.1 c.in-Some.ensures.0 in
-    let at : pos c.in-Some.place ≡ place_at_rank c.args.first c.args.lengths.now c.args.strides.now c.loop-place.outer.rank = rw (so_far.0, so_far.1, so_far.2) at c.in-Some.ensures.1 in
-    ap is_place (lane_goes c.args.first c.args.lengths.now c.args.strides.now c.args.stride rank c.in-Some.place c.in-Some.place (to_z w64 (of_z w64 c.args.stride)) refl (to_z-of_z w64 c.args.stride fits) at k)
-    ∙ c.requires.lanes rank k on below
+pub accumulate_beside-requires-clause-apart : goal.accumulate_beside-requires-clause-apart
+accumulate_beside-requires-clause-apart g c r k q j on_r on_q on_k on_j e =
+    let l = c.args.lanes.firsts in
+    let ns = l.lengths.now in
+    let ss = l.strides.now in
+    let fits : FitsSigned w64 c.args.lanes.stride = search rules in
+    let stride = to_z-of_z w64 c.args.lanes.stride fits in
+    let standard = c.are_beside.ensures.standard c.if-are_beside.true in
+    let place = lane_place l.first ns ss c.args.lanes.stride in
+    let made = c.lane_from-lane.ensures.lane in
+    let lane = c.lane_from-lane.result in
+    let lanes = c.args.lanes.lanes in
+    let all : lanes ≡ size_of ns = c.args.lanes.many in
+    let beside = (lanes_beside lanes lane.count lane.place lane.stride).place in
+    let same : (r k : ℕ) → r < size_of ns → beside r k ≡ place r k = λ r k below. (λ i. pos (made.0 i + r) +ℤ (pos k *ℤ (made.2 ∙ stride) i)) ∙ beside_goes l.first ns ss c.args.lanes.stride standard r k below in
+    let within : (r : ℕ) → r < lanes → r < size_of ns = λ r below. subst (λ n. r < n) all below in
+    c.requires.apart r k q j (within r on_r) (within q on_q) (subst (λ n. k < n) made.1 on_k) (subst (λ n. j < n) made.1 on_j) (sym (same r k (within r on_r)) ∙ (e ∙ same q j (within q on_q)))
 
-pub accumulate_lane-now-requires-clause-apart : goal.accumulate_lane-now-requires-clause-apart
-accumulate_lane-now-requires-clause-apart g c =
-    let so_far = c.loop-place.invariant in
-    let fits : FitsSigned w64 c.args.stride = search rules in
-    let rank = c.loop-place.outer.rank in
-    let all = size_of c.args.lengths.now in
-    let count = c.args.count in
-    let some = c.requires.some in
-    let last : suc (count - 1) ≡ count = omega (arith, some) in
-    let on : rank < size_of c.args.lengths.now = subst (λ ls. c.loop-place.outer.rank < size_of ls) so_far.1 c.in-Some.ensures.0 in
-    let at : pos c.in-Some.place ≡ place_at_rank c.args.first c.args.lengths.now c.args.strides.now c.loop-place.outer.rank = rw (so_far.0, so_far.1, so_far.2) at c.in-Some.ensures.1 in
-    let made = c.lane_from.ensures.lane in
-    let lane = c.lane_from.result in
-    let place = lane_place c.args.first c.args.lengths.now c.args.strides.now c.args.stride in
-    let goes = lane_goes c.args.first c.args.lengths.now c.args.strides.now c.args.stride rank c.in-Some.place lane.place lane.stride made.0 (made.2 ∙ to_z-of_z w64 c.args.stride fits) at in
-    lane_apart place count (λ k. k) (g.S.Data.stored c.args.storage.now) rank all on c.requires.apart (λ k. pos lane.place +ℤ (pos k *ℤ lane.stride)) lane.count made.1 goes
+pub accumulate_beside-requires-clause-holds : goal.accumulate_beside-requires-clause-holds
+accumulate_beside-requires-clause-holds g c r k on under =
+    let l = c.args.lanes.firsts in
+    let ns = l.lengths.now in
+    let ss = l.strides.now in
+    let fits : FitsSigned w64 c.args.lanes.stride = search rules in
+    let stride = to_z-of_z w64 c.args.lanes.stride fits in
+    let standard = c.are_beside.ensures.standard c.if-are_beside.true in
+    let place = lane_place l.first ns ss c.args.lanes.stride in
+    let made = c.lane_from-lane.ensures.lane in
+    let lane = c.lane_from-lane.result in
+    let lanes = c.args.lanes.lanes in
+    let all : lanes ≡ size_of ns = c.args.lanes.many in
+    let beside = (lanes_beside lanes lane.count lane.place lane.stride).place in
+    let same : (r k : ℕ) → r < size_of ns → beside r k ≡ place r k = λ r k below. (λ i. pos (made.0 i + r) +ℤ (pos k *ℤ (made.2 ∙ stride) i)) ∙ beside_goes l.first ns ss c.args.lanes.stride standard r k below in
+    let within : (r : ℕ) → r < lanes → r < size_of ns = λ r below. subst (λ n. r < n) all below in
+    ap (names_place (g.S.Data.stored c.args.storage.now)) (same r k (within r on)) ∙ c.requires.holds r k (within r on) (subst (λ n. k < n) made.1 under)
 
-pub accumulate_lane-now-requires-clause-holds : goal.accumulate_lane-now-requires-clause-holds
-accumulate_lane-now-requires-clause-holds g c =
-    let so_far = c.loop-place.invariant in
-    let fits : FitsSigned w64 c.args.stride = search rules in
-    let rank = c.loop-place.outer.rank in
-    let all = size_of c.args.lengths.now in
-    let count = c.args.count in
-    let some = c.requires.some in
-    let last : suc (count - 1) ≡ count = omega (arith, some) in
-    let on : rank < size_of c.args.lengths.now = subst (λ ls. c.loop-place.outer.rank < size_of ls) so_far.1 c.in-Some.ensures.0 in
-    let at : pos c.in-Some.place ≡ place_at_rank c.args.first c.args.lengths.now c.args.strides.now c.loop-place.outer.rank = rw (so_far.0, so_far.1, so_far.2) at c.in-Some.ensures.1 in
-    let made = c.lane_from.ensures.lane in
-    let lane = c.lane_from.result in
-    let place = lane_place c.args.first c.args.lengths.now c.args.strides.now c.args.stride in
-    let goes = lane_goes c.args.first c.args.lengths.now c.args.strides.now c.args.stride rank c.in-Some.place lane.place lane.stride made.0 (made.2 ∙ to_z-of_z w64 c.args.stride fits) at in
+pub accumulate_beside-requires-clause-callable : goal.accumulate_beside-requires-clause-callable
+accumulate_beside-requires-clause-callable g c =
+    let l = c.args.lanes.firsts in
+    let ns = l.lengths.now in
+    let ss = l.strides.now in
+    let fits : FitsSigned w64 c.args.lanes.stride = search rules in
+    let stride = to_z-of_z w64 c.args.lanes.stride fits in
+    let standard = c.are_beside.ensures.standard c.if-are_beside.true in
+    let place = lane_place l.first ns ss c.args.lanes.stride in
+    let made = c.lane_from-lane.ensures.lane in
+    let lane = c.lane_from-lane.result in
+    let lanes = c.args.lanes.lanes in
+    let all : lanes ≡ size_of ns = c.args.lanes.many in
+    let beside = (lanes_beside lanes lane.count lane.place lane.stride).place in
+    let same : (r k : ℕ) → r < size_of ns → beside r k ≡ place r k = λ r k below. (λ i. pos (made.0 i + r) +ℤ (pos k *ℤ (made.2 ∙ stride) i)) ∙ beside_goes l.first ns ss c.args.lanes.stride standard r k below in
+    let within : (r : ℕ) → r < lanes → r < size_of ns = λ r below. subst (λ n. r < n) all below in
     let old = g.S.Data.stored c.args.storage.now in
-    let now = g.S.Data.stored c.loop-place.storage in
-    let apart : LanesDistinct place all (suc (count - 1)) = subst (LanesDistinct place all) (sym last) c.requires.apart in
-    let done : AreAccumulated g.F.FnMut place rank (count - 1) old now c.args.f c.loop-place.now = rw (to_z-of_z w64 c.args.stride fits) at so_far.3 in
-    let long : lane.count - 1 ≡ count - 1 = ap (λ m. m - 1) made.1 in
-    given_holds g.F.FnMut place all (count - 1) apart old now c.args.f c.loop-place.now rank on done (λ k. pos lane.place +ℤ (pos k *ℤ lane.stride)) lane.count long goes
-    (λ q k on_q below. c.requires.holds q k on_q (subst (λ n. k < n) last below)) (subst (λ n. 0 < n) (sym made.1) some)
+    subst (λ n. TakesLanes g.F.FnMut beside n (lane.count - 1) old c.args.f) (sym all)
+    (subst (λ n. TakesLanes g.F.FnMut beside (size_of ns) (n - 1) old c.args.f) (sym made.1)
+    (lanes_taken_alike g.F.FnMut place beside (size_of ns) (c.args.lanes.count - 1) same old c.args.f c.requires.callable))
 
-pub accumulate_lane-now-requires-clause-callable : goal.accumulate_lane-now-requires-clause-callable
-accumulate_lane-now-requires-clause-callable g c =
-    let so_far = c.loop-place.invariant in
-    let fits : FitsSigned w64 c.args.stride = search rules in
-    let rank = c.loop-place.outer.rank in
-    let all = size_of c.args.lengths.now in
-    let count = c.args.count in
-    let some = c.requires.some in
-    let last : suc (count - 1) ≡ count = omega (arith, some) in
-    let on : rank < size_of c.args.lengths.now = subst (λ ls. c.loop-place.outer.rank < size_of ls) so_far.1 c.in-Some.ensures.0 in
-    let at : pos c.in-Some.place ≡ place_at_rank c.args.first c.args.lengths.now c.args.strides.now c.loop-place.outer.rank = rw (so_far.0, so_far.1, so_far.2) at c.in-Some.ensures.1 in
-    let made = c.lane_from.ensures.lane in
-    let lane = c.lane_from.result in
-    let place = lane_place c.args.first c.args.lengths.now c.args.strides.now c.args.stride in
-    let goes = lane_goes c.args.first c.args.lengths.now c.args.strides.now c.args.stride rank c.in-Some.place lane.place lane.stride made.0 (made.2 ∙ to_z-of_z w64 c.args.stride fits) at in
+pub returns-then-are_beside-clause-accumulated : goal.returns-then-are_beside-clause-accumulated
+returns-then-are_beside-clause-accumulated g c =
+    let l = c.args.lanes.firsts in
+    let ns = l.lengths.now in
+    let ss = l.strides.now in
+    let fits : FitsSigned w64 c.args.lanes.stride = search rules in
+    let stride = to_z-of_z w64 c.args.lanes.stride fits in
+    let standard = c.are_beside.ensures.standard c.if-are_beside.true in
+    let place = lane_place l.first ns ss c.args.lanes.stride in
+    let made = c.lane_from-lane.ensures.lane in
+    let lane = c.lane_from-lane.result in
+    let lanes = c.args.lanes.lanes in
+    let all : lanes ≡ size_of ns = c.args.lanes.many in
+    let beside = (lanes_beside lanes lane.count lane.place lane.stride).place in
+    let same : (r k : ℕ) → r < size_of ns → beside r k ≡ place r k = λ r k below. (λ i. pos (made.0 i + r) +ℤ (pos k *ℤ (made.2 ∙ stride) i)) ∙ beside_goes l.first ns ss c.args.lanes.stride standard r k below in
+    let within : (r : ℕ) → r < lanes → r < size_of ns = λ r below. subst (λ n. r < n) all below in
     let old = g.S.Data.stored c.args.storage.now in
-    let now = g.S.Data.stored c.loop-place.storage in
-    let apart : LanesDistinct place all (suc (count - 1)) = subst (LanesDistinct place all) (sym last) c.requires.apart in
-    let done : AreAccumulated g.F.FnMut place rank (count - 1) old now c.args.f c.loop-place.now = rw (to_z-of_z w64 c.args.stride fits) at so_far.3 in
-    let long : lane.count - 1 ≡ count - 1 = ap (λ m. m - 1) made.1 in
-    given_accumulable g.F.FnMut place all (count - 1) apart old now c.args.f c.loop-place.now rank on done (λ k. pos lane.place +ℤ (pos k *ℤ lane.stride)) lane.count long goes c.requires.callable
-
-pub loop-place-preserved : goal.loop-place-preserved
-loop-place-preserved g c =
-    let so_far = c.loop-place.invariant in
-    let fits : FitsSigned w64 c.args.stride = search rules in
-    let rank = c.loop-place.outer.rank in
-    let all = size_of c.args.lengths.now in
-    let count = c.args.count in
-    let some = c.requires.some in
-    let last : suc (count - 1) ≡ count = omega (arith, some) in
-    let on : rank < size_of c.args.lengths.now = subst (λ ls. c.loop-place.outer.rank < size_of ls) so_far.1 c.in-Some.ensures.0 in
-    let at : pos c.in-Some.place ≡ place_at_rank c.args.first c.args.lengths.now c.args.strides.now c.loop-place.outer.rank = rw (so_far.0, so_far.1, so_far.2) at c.in-Some.ensures.1 in
-    let made = c.lane_from.ensures.lane in
-    let lane = c.lane_from.result in
-    let place = lane_place c.args.first c.args.lengths.now c.args.strides.now c.args.stride in
-    let goes = lane_goes c.args.first c.args.lengths.now c.args.strides.now c.args.stride rank c.in-Some.place lane.place lane.stride made.0 (made.2 ∙ to_z-of_z w64 c.args.stride fits) at in
-    let old = g.S.Data.stored c.args.storage.now in
-    let now = g.S.Data.stored c.loop-place.storage in
-    let apart : LanesDistinct place all (suc (count - 1)) = subst (LanesDistinct place all) (sym last) c.requires.apart in
-    let done : AreAccumulated g.F.FnMut place rank (count - 1) old now c.args.f c.loop-place.now = rw (to_z-of_z w64 c.args.stride fits) at so_far.3 in
-    let long : lane.count - 1 ≡ count - 1 = ap (λ m. m - 1) made.1 in
-    let next = next_rank rank (size_of c.loop-place.outer.lengths.now) c.advance.new.self.rank c.in-Some.ensures.0 c.advance.ensures.rank in (
-      c.advance.ensures.over.0 ∙ so_far.0,
-      c.advance.ensures.over.1 ∙ so_far.1,
-      c.advance.ensures.over.2 ∙ so_far.2,
-      rw (to_z-of_z w64 c.args.stride fits)
-          (given_accumulated g.F.FnMut place all (count - 1) apart old now c.args.f c.loop-place.now rank on done (λ k. pos lane.place +ℤ (pos k *ℤ lane.stride)) lane.count long goes
-          c.advance.new.self.rank next (g.S.Data.stored c.accumulate_lane-now.new.storage) c.accumulate_lane-now.result c.accumulate_lane-now.ensures.accumulated),
-      c.accumulate_lane-now.ensures.frame ∙ so_far.4,
-    )
+    let new = g.S.Data.stored c.accumulate_beside.new.storage in
+    let last = c.accumulate_beside.result in
+    lanes_done_alike g.F.FnMut place beside (size_of ns) (c.args.lanes.count - 1) same old c.args.f new last
+    (subst (λ n. AreAccumulated g.F.FnMut beside (size_of ns) (n - 1) old new c.args.f last) made.1
+    (subst (λ n. AreAccumulated g.F.FnMut beside n (lane.count - 1) old new c.args.f last) all c.accumulate_beside.ensures.accumulated))

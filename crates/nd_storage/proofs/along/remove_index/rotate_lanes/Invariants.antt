@@ -6,9 +6,9 @@ use Rattle.nd_storage.proofs.along.remove_index.rotate_lanes.Given as goal
 
 abbrev pub invariant-loop-place : goal.invariant-loop-place
 invariant-loop-place g l =
-    (l.outer.first.value ≡ l.fn.first) × (l.outer.lengths.now ≡ l.fn.lengths) × (l.outer.strides.now ≡ l.fn.strides)
-    × AreMovedBy (g.S.Data.stored l.fn.storage) (g.S.Data.stored l.storage) (lane_place l.fn.first l.fn.lengths l.fn.strides l.fn.stride) l.outer.rank l.fn.count (rotated l.fn.from l.fn.count)
+    (l.outer.first.value ≡ l.fn.lanes.firsts.first) × (l.outer.lengths.now ≡ l.fn.lanes.firsts.lengths.now) × (l.outer.strides.now ≡ l.fn.lanes.firsts.strides.now)
+    × AreMovedBy (g.S.Data.stored l.fn.storage) (g.S.Data.stored l.storage) (lane_place l.fn.lanes.firsts.first l.fn.lanes.firsts.lengths.now l.fn.lanes.firsts.strides.now l.fn.lanes.stride) l.outer.rank l.fn.lanes.count (rotated l.fn.from l.fn.lanes.count)
     × (g.S.DataMut.frame l.storage ≡ g.S.DataMut.frame l.fn.storage)
 
 abbrev pub decreases-loop-place : goal.decreases-loop-place
-decreases-loop-place g l = size_of l.fn.lengths - l.outer.rank
+decreases-loop-place g l = size_of l.fn.lanes.firsts.lengths.now - l.outer.rank

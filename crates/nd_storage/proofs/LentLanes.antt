@@ -1,5 +1,5 @@
 -- A lane lent as a part of a storage, and the lanes of an axis handed out one after the other.
-use Rattle.std.proofs.Common.{◌≡◌, ℕ, ◌+◌, ◌<◌, Bool, true, false, List, [], ◌∷◌, ◌++◌, get_or, ℤ, pos, negsuc, ◌+ℤ◌, ◌*ℤ◌, refl, ap, sym, subst, ◌∙◌, arith}
+use Rattle.std.proofs.Common.{◌≡◌, ℕ, zero, suc, ◌+◌, ◌<◌, Bool, true, false, List, [], ◌∷◌, ◌++◌, get_or, ℤ, pos, negsuc, ◌+ℤ◌, ◌*ℤ◌, refl, ap, sym, subst, ◌∙◌, arith}
 use Rattle.std.specs.Prelude.{Option, None, Some, is_some, nat_eq, nat_lt, if◌then◌else◌}
 use Rattle.std.specs.Borrow.{MutBor}
 use Rattle.std.specs.Fn.{Mut}
@@ -13,22 +13,39 @@ use Rattle.nd_region.specs.Places.{names}
 use Rattle.nd_region.specs.Region.{region_stored, with_element}
 use Rattle.nd_region.proofs.Stored.{written_same, written_other}
 use Rattle.nd_region.proofs.Names.{named_at, named_by}
-use Rattle.nd_array_core.specs.declared.along.lane_mut.LaneMut.{LaneMut}
+use Rattle.nd_storage.specs.declared.along.lane_mut.LaneMut.{LaneMut}
 use Rattle.nd_storage.specs.Collected.{stored_along}
 use Rattle.nd_storage.specs.Meaning.{Meaning, inside}
 use Rattle.nd_storage.specs.Places.{stored_at, names_place, HoldsAll}
 use Rattle.nd_storage.specs.ElementMut.{KeepsPlaces}
 use Rattle.nd_storage.specs.Scoped.{with_named, IsNamedPart}
 use Rattle.nd_storage.specs.along.AxisLanes.{LanesDistinct}
-use Rattle.nd_array_core.specs.along.LanesWritten.{line_of, LeavesLane, MayBeHandedLane, lanes_held, AreHandedOut}
+use Rattle.nd_storage.specs.along.LanesWritten.{line_of, LeavesLane, MayBeHandedLane, lanes_held, AreHandedOut}
 use Rattle.nd_storage.specs.elements.Changes.{AreDistinct}
-use Rattle.nd_storage.specs.elements.Maps.{Replaces, TakesNumbered}
+use Rattle.nd_storage.specs.elements.Maps.{Replaces, RanNumbered, TakesNumbered}
 use Rattle.nd_storage.specs.elements.MapsMut.{Collects}
 use Rattle.nd_storage.proofs.Changed.{stored_same, changed_none, changed_more}
-use Rattle.nd_array_core.proofs.elements_lemmas.Handed.{collects_ran}
 use Rattle.nd_storage.proofs.Replaced.{replaced_ran, still_next}
 use Rattle.nd_storage.proofs.RunPairs.{number, numbers_distinct}
-use Rattle.nd_array_core.proofs.along_lemmas.ShownLanes.{lane_coordinate, seen_inside}
+
+-- the one coordinate of an index of a lane
+pub lane_coordinate : (n : ℕ) (k : List ℕ) → in_box (n ∷ []) k ≡ true → get_or k 0 0 < n
+lane_coordinate n [] inbox = absurd cc
+lane_coordinate n (j ∷ []) inbox = grind (arith, nat_tests, inbox)
+lane_coordinate n (j ∷ l ∷ ls) inbox = absurd (grind (arith, nat_tests, inbox))
+
+-- what is the same in a box is the same, seen there
+pub seen_inside : {A : Type 0} (shape k : List ℕ) (x y : Option A) → (in_box shape k ≡ true → x ≡ y) → inside shape k x ≡ inside shape k y
+seen_inside shape k x y same = by_box (in_box shape k) refl
+  where
+    by_box : (b : Bool) → in_box shape k ≡ b → inside shape k x ≡ inside shape k y
+    by_box true e = rw e (same e)
+    by_box false e = rw e refl
+
+-- calls that collect what they answer, without the answers
+pub collects_ran : {P A B : Type 0} (answers : P → Option A → A × B → P → Type 0) (found : ℕ → Option A) (first last : P × List B) (count : ℕ) → RanNumbered (Collects answers) found first count last → RanNumbered answers found first.0 count last.0
+collects_ran answers found first last zero run = ap (λ p. p.0) run
+collects_ran answers found first last (suc k) run = (run.0.0, collects_ran answers found first run.0 k run.1, ((run.2.0, run.2.1.0), run.2.1.2))
 
 -- what names a place still does where each place holds something
 pub kept_places : {A : Type 0} (old now : ℕ → Option A) → KeepsPlaces old now → (z : ℤ) → names_place old z ≡ true → names_place now z ≡ true

@@ -1,9 +1,9 @@
 use Rattle.std.proofs.Common.{rules, sym, subst, w64, FitsSigned}
 use Rattle.std.specs.Prelude.{Some}
 use Rattle.std.proofs.lemmas.Int.{to_z-of_z}
-use Rattle.nd_array_core.specs.along.LanesWritten.{MayBeHandedLane}
-use Rattle.nd_array_core.proofs.along_lemmas.LentLanes.{lane_held_all, lent_holds, lent_line, back_line, lane_left, leaves_same}
-use Rattle.nd_array_core.proofs.along.map_axis_mut.answer_lane.Goals as goal
+use Rattle.nd_storage.specs.along.LanesWritten.{MayBeHandedLane}
+use Rattle.nd_storage.proofs.LentLanes.{lane_held_all, lent_holds, lent_line, back_line, lane_left, leaves_same}
+use Rattle.nd_storage.proofs.along.map_axis_mut.answer_lane.Goals as goal
 
 pub with_part-requires-clause-holds : goal.with_part-requires-clause-holds
 with_part-requires-clause-holds g c =

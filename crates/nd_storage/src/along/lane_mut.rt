@@ -19,12 +19,14 @@ pub struct LaneMut<'a, A> {
 }
 
 impl<'a, A> LaneMut<'a, A> {
-    ghost use Rattle.nd_array_core.specs.along.LanesWritten.{lane_held, lane_len, held_at, IsSameLane};
+    ghost use Rattle.nd_layout.specs.Lanes.{along};
+    ghost use Rattle.nd_storage.specs.NumberedPlaces.{PlacesDiffer, Holds};
+    ghost use Rattle.nd_storage.specs.along.LanesWritten.{lane_held, lane_len, held_at, IsSameLane};
 
     /// The places of a region along a lane.
     pub(crate) fn over(region: Region<'a, A>, lane: Lane) -> Self
-        requires holds { (k : ℕ) → k < lane.count → is_some (stored_along (region_stored region) lane.place lane.stride k) ≡ true }
-        requires apart { AreDistinct (λ k. pos lane.place +ℤ (pos k *ℤ lane.stride)) lane.count }
+        requires holds { Holds region_stored (along lane) region }
+        requires apart { PlacesDiffer (along lane) }
         ensures region { result.region ≡ region.entry }
         ensures lane { (result.lane.place ≡ lane.place) × (result.lane.count ≡ lane.count) × (result.lane.stride ≡ lane.stride) }
     {

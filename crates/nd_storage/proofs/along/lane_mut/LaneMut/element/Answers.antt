@@ -1,6 +1,6 @@
-use Rattle.nd_array_core.specs.along.LanesWritten.{lane_held, lane_len}
-use Rattle.nd_array_core.proofs.along_lemmas.LentLanes.{held_here, seen_here}
-use Rattle.nd_array_core.proofs.along.lane_mut.LaneMut.element.Goals as goal
+use Rattle.nd_storage.specs.along.LanesWritten.{lane_held, lane_len}
+use Rattle.nd_storage.proofs.LentLanes.{held_here, seen_here}
+use Rattle.nd_storage.proofs.along.lane_mut.LaneMut.element.Goals as goal
 
 pub get-requires : goal.get-requires
 unfolding lane_len

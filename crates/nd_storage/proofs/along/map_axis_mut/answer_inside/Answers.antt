@@ -3,8 +3,8 @@ use Rattle.std.specs.Prelude.{Some}
 use Rattle.std.specs.Fn.{CalledAtMut}
 use Rattle.nd_region.specs.Region.{region_stored, borrow_of}
 use Rattle.nd_storage.specs.Collected.{stored_along}
-use Rattle.nd_array_core.specs.along.LanesWritten.{line_of, lane_held}
-use Rattle.nd_array_core.proofs.along.map_axis_mut.answer_inside.Goals as goal
+use Rattle.nd_storage.specs.along.LanesWritten.{line_of, lane_held}
+use Rattle.nd_storage.proofs.along.map_axis_mut.answer_inside.Goals as goal
 
 pub f-answer-requires : goal.f-answer-requires
 unfolding lane_held
