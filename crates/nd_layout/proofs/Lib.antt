@@ -37,6 +37,7 @@ pub mod LaneSteps
 pub mod LanesOf
 pub mod Rearranged
 pub mod MemoryOrder
+pub mod Halved
 pub mod Filled
 pub mod AxisJoins
 pub mod OneLane

@@ -11,5 +11,6 @@ pub mod Placements
 pub mod Walk
 pub mod Merging
 pub mod MemoryOrder
+pub mod Halves
 pub mod Spans
 pub mod Lanes

@@ -6,6 +6,7 @@
 mod grown;
 mod growing_order;
 mod grows;
+mod halves;
 mod in_line;
 mod joined;
 mod lanes;
@@ -21,6 +22,7 @@ mod turned;
 mod walk;
 
 pub use grows::growth;
+pub use halves::{Halves, halved_alike};
 pub use lanes::{Lane, Lanes};
 pub use layout::Layout;
 pub use places::Places;

@@ -6,11 +6,13 @@ pub mod Changed
 pub mod Clones
 pub mod Collecting
 pub mod Comparing
+pub mod EqualHalves
 pub mod Feeding
 pub mod Filling
 pub mod FoldOrder
 pub mod Folded
 pub mod FreeOrder
+pub mod InHalves
 pub mod LaidAnew
 pub mod LaneNumbers
 pub mod Lanes
@@ -35,7 +37,9 @@ pub mod Seats
 pub mod Taking
 pub mod TurnedAlike
 pub mod TurnedEqual
+pub mod VisitedInHalves
 pub mod WriteStep
+pub mod ZippedHalves
 pub mod ZippedLayouts
 pub mod lending
 pub mod tasks

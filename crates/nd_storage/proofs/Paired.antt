@@ -14,6 +14,7 @@ use Rattle.nd_layout.specs.Walk.{place_at_rank, IsRearranged}
 use Rattle.nd_storage.specs.Meaning.{inside}
 use Rattle.nd_storage.specs.Places.{stored_at, names_place, place_number, HoldsAll}
 use Rattle.nd_storage.specs.Writes.{OthersStay}
+use Rattle.nd_storage.specs.FreeOrder.{VisitedInSomeOrder}
 use Rattle.nd_storage.specs.elements.Changes.{AreDistinct}
 use Rattle.nd_storage.specs.elements.Pairs.{option_both, ChangesWith, ChangesWithSomehow, TakesBoth, IsZippedTo, TakesPairs, ZipsBy, ZipsAll, ZippableInAnyOrder}
 use Rattle.nd_storage.proofs.WriteStep.{one_index}
@@ -82,17 +83,14 @@ module _ {F A B : Type 0} (g : Mut F (MutBor A × (Bor B × Unit {0})) (Unit {0}
       (λ p j q under call. subst (λ o. ChangesWithSomehow g o (at stored (by.index_of j)) p q) (is_beside j (omega (arith, under, below))) (subst (λ o. ChangesWithSomehow g (stored_at others (beside j)) o p q) (there stored j (omega (arith, under, below))) call)) run)) x b
       (sym (there stored k below) ∙ is) (sym (is_beside k below) ∙ is_other)
 
-  pub zips_all : (old new : ℕ → Option A) (f last : F) → IsZippedTo g (place_at_rank to ms ts) others beside (size_of ms) old new f last → ZipsAll g ns (at old) other_at (at new) f
+  pub zips_all : (old new : ℕ → Option A) (f last : F) → IsZippedTo g (place_at_rank to ms ts) others beside (size_of ms) old new f last → VisitedInSomeOrder ns (λ p i q. ChangesWith g (other_at i) (at old i) (at new i) p q) f last
   zips_all old new f last changed =
       let numbers = rearranged_numbers offset ns ss to ms ts by in (
-        last,
-        (
-          listed by.index_of (size_of ms),
-          listed_all numbers,
-          ran_listed (λ p i q. ChangesWith g (other_at i) (at old i) (at new i) p q) by.index_of f last (size_of ms)
-              (ran_weaker (λ p k q. ChangesWith g (stored_at others (beside k)) (stored_at old (place_at_rank to ms ts k)) (stored_at new (place_at_rank to ms ts k)) p q) (λ p k q. ChangesWith g (other_at (by.index_of k)) (at old (by.index_of k)) (at new (by.index_of k)) p q) f last (size_of ms)
-              (λ p k q below call. subst (λ o. ChangesWith g o (at old (by.index_of k)) (at new (by.index_of k)) p q) (is_beside k below) (subst (λ o. ChangesWith g (stored_at others (beside k)) (at old (by.index_of k)) o p q) (there new k below) (subst (λ o. ChangesWith g (stored_at others (beside k)) o (stored_at new (place_at_rank to ms ts k)) p q) (there old k below) call))) changed.calls),
-        ),
+        listed by.index_of (size_of ms),
+        listed_all numbers,
+        ran_listed (λ p i q. ChangesWith g (other_at i) (at old i) (at new i) p q) by.index_of f last (size_of ms)
+            (ran_weaker (λ p k q. ChangesWith g (stored_at others (beside k)) (stored_at old (place_at_rank to ms ts k)) (stored_at new (place_at_rank to ms ts k)) p q) (λ p k q. ChangesWith g (other_at (by.index_of k)) (at old (by.index_of k)) (at new (by.index_of k)) p q) f last (size_of ms)
+            (λ p k q below call. subst (λ o. ChangesWith g o (at old (by.index_of k)) (at new (by.index_of k)) p q) (is_beside k below) (subst (λ o. ChangesWith g (stored_at others (beside k)) (at old (by.index_of k)) o p q) (there new k below) (subst (λ o. ChangesWith g (stored_at others (beside k)) o (stored_at new (place_at_rank to ms ts k)) p q) (there old k below) call))) changed.calls),
       )
 
 -- where the closure leaves what h gives and stays as it is, h's values stand everywhere

@@ -13,6 +13,10 @@ use Rattle.nd_storage.specs.Places.{stored_at}
 use Rattle.nd_storage.proofs.Comparing.{is_inside, equal_at, all_at}
 use Rattle.nd_storage.proofs.SamePlaces.{seen_holds, seen_element}
 
+-- what a map shows under a placement, in row-major order
+abbrev pub listed : {A : Type 0} → (ℕ → Option A) → Placement → List A
+listed stored p = filter_map (shown_at stored p) (indexes_of p.lengths)
+
 inside_some : {A : Type 0} (ns i : List ℕ) (o : Option A) (x : A) → inside ns i o ≡ Some x → o ≡ Some x
 inside_some ns i o x e = by_test (in_box ns i) refl e
   where
@@ -20,7 +24,7 @@ inside_some ns i o x e = by_test (in_box ns i) refl e
     by_test true h e = rw h at e
     by_test false h e = absurd (let none : None ≡ Some x = rw h at e in cc)
 
-both_ways : (p q : Bool) → (p ≡ true → q ≡ true) → (q ≡ true → p ≡ true) → p ≡ q
+pub both_ways : (p q : Bool) → (p ≡ true → q ≡ true) → (q ≡ true → p ≡ true) → p ≡ q
 both_ways true q there back = sym (there refl)
 both_ways false true there back = back refl
 both_ways false false there back = refl
@@ -30,7 +34,7 @@ module _ (one new_one : Placement) (source back : List ℕ → List ℕ) (step :
   view = record { within = step.within; same = step.same }
 
   -- what is shown at a new index is shown at the old one that it names
-  shown_before : {A : Type 0} (stored : ℕ → Option A) (i : List ℕ) (x : A) → shown_at stored new_one i ≡ Some x → shown_at stored one (source i) ≡ Some x
+  pub shown_before : {A : Type 0} (stored : ℕ → Option A) (i : List ℕ) (x : A) → shown_at stored new_one i ≡ Some x → shown_at stored one (source i) ≡ Some x
   shown_before stored i x is = inside_some new_one.lengths i (shown_at stored one (source i)) x (sym (seen_element stored view i) ∙ is)
 
   -- and the other way round
@@ -41,9 +45,6 @@ module _ (one new_one : Placement) (source back : List ℕ → List ℕ) (step :
   holds_turned stored holds = seen_holds stored view holds
 
 module _ {A : Type 0} (E : A → A → Bool) (a b : ℕ → Option A) (one two new_one new_two : Placement) (alike : two.lengths ≡ one.lengths) (t : AreTurned one two new_one new_two) (holds : HoldsEach a one) (has : HoldsEach b two) where
-  abbrev listed : (ℕ → Option A) → Placement → List A
-  listed stored p = filter_map (shown_at stored p) (indexes_of p.lengths)
-
   new_holds : HoldsEach a new_one
   new_holds = holds_turned one new_one t.source t.back t.first a holds
 

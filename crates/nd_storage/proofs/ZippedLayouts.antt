@@ -8,7 +8,8 @@ use Rattle.nd_layout.specs.Placements.{Placement, IsRearrangedOf}
 use Rattle.nd_layout.specs.Walk.{place_at_rank}
 use Rattle.nd_storage.specs.ByLayout.{shown_at, HoldsEach, StaysBeside}
 use Rattle.nd_storage.specs.Collected.{stored_by_rank}
-use Rattle.nd_storage.specs.elements.Pairs.{IsZippedTo, TakesPairs, ZipsAll, ZippableInAnyOrder}
+use Rattle.nd_storage.specs.FreeOrder.{VisitedInSomeOrder}
+use Rattle.nd_storage.specs.elements.Pairs.{ChangesWith, IsZippedTo, TakesPairs, ZippableInAnyOrder}
 use Rattle.nd_storage.proofs.Paired.{places_zippable, zips_all, zipped_holds, others_stay}
 
 -- `to` has the places of `one` in its own order, and `beside` shows at a rank what `two` shows at the index of it
@@ -18,7 +19,7 @@ module _ {F A B : Type 0} (g : Mut F (MutBor A × (Bor B × Unit {0})) (Unit {0}
       subst (λ ns. TakesPairs g old (place_at_rank to.offset to.lengths to.strides) others (place_at_rank beside.offset ns beside.strides) f (size_of to.lengths)) (sym alike)
       (places_zippable g others one.offset one.lengths one.strides to.offset to.lengths to.strides by (place_at_rank beside.offset to.lengths beside.strides) (shown_at others two) shows old f callable)
 
-  pub layouts_zipped : (new : ℕ → Option A) (last : F) → IsZippedTo g (place_at_rank to.offset to.lengths to.strides) others (place_at_rank beside.offset beside.lengths beside.strides) (size_of to.lengths) old new f last → ZipsAll g one.lengths (shown_at old one) (shown_at others two) (shown_at new one) f × HoldsEach new one × StaysBeside one old new
+  pub layouts_zipped : (new : ℕ → Option A) (last : F) → IsZippedTo g (place_at_rank to.offset to.lengths to.strides) others (place_at_rank beside.offset beside.lengths beside.strides) (size_of to.lengths) old new f last → VisitedInSomeOrder one.lengths (λ p i q. ChangesWith g (shown_at others two i) (shown_at old one i) (shown_at new one i) p q) f last × HoldsEach new one × StaysBeside one old new
   layouts_zipped new last zipped =
       let changed : IsZippedTo g (place_at_rank to.offset to.lengths to.strides) others (place_at_rank beside.offset to.lengths beside.strides) (size_of to.lengths) old new f last = subst (λ ns. IsZippedTo g (place_at_rank to.offset to.lengths to.strides) others (place_at_rank beside.offset ns beside.strides) (size_of to.lengths) old new f last) alike zipped in (
         zips_all g others one.offset one.lengths one.strides to.offset to.lengths to.strides by (place_at_rank beside.offset to.lengths beside.strides) (shown_at others two) shows old new f last changed,

@@ -8,13 +8,13 @@ use Rattle.nd_shape_and_slice.specs.Place.{place_of}
 use Rattle.nd_shape_and_slice.specs.declared.dimension.Dimension as dimension
 use Rattle.nd_shape_and_slice.specs.declared.dimension.AxisCount as axis_count
 use Rattle.nd_shape_and_slice.specs.declared.dimension.StrideList as stride_list
-use Rattle.nd_layout.specs.Lanes.{by_rank}
 use Rattle.nd_layout.specs.Placements.{Placement, placement_of}
 use Rattle.nd_layout.specs.declared.layout.Layout.{Layout}
 use Rattle.nd_storage.specs.Meaning.{inside}
 use Rattle.nd_storage.specs.Places.{place_number, stored_at, HoldsAll}
 use Rattle.nd_storage.specs.Writes.{OthersStay}
-use Rattle.nd_storage.specs.elements.Pairs.{IsOldOrOf, IsZippedTo, TakesPairs, ZipsAll, ZippableInAnyOrder}
+use Rattle.nd_storage.specs.FreeOrder.{VisitedInSomeOrder}
+use Rattle.nd_storage.specs.elements.Pairs.{ChangesWith, IsOldOrOf, ZipsAll, ZippableInAnyOrder}
 
 -- the element that a map has at an index of a placement, and the place that the index names
 abbrev pub shown_at : {A : Type 0} → (ℕ → Option A) → Placement → List ℕ → Option A
@@ -56,20 +56,12 @@ module _ {S A D T P R L M : Type 0} {d : dimension.Ghosts D P R L M} {n : axis_c
 
 -- closures that are handed the element at each index, to be written, and the one that a second storage has there
 module _ {S Z F A B D T P R L M : Type 0} {d : dimension.Ghosts D P R L M} {n : axis_count.Ghosts D} {r : stride_list.Ghosts R} {t : stride_list.Ghosts T} (g : Mut F (MutBor A × (Bor B × Unit {0})) (Unit {0} × (MutBor A × Unit {0}))) (stored : S → ℕ → Option A) (others_stored : Z → ℕ → Option B) (s : S) (l : Layout D T P R L M d n r t) (others : Z) (beside : Layout D T P R L M d n r t) where
-  -- in row-major order: the next may be called; all were
-  abbrev pub TakesRanked : F → Type 0
-  TakesRanked f =
-      let at = by_rank (placement_of l) in
-      TakesPairs g (stored s) at.place (others_stored others) (by_rank (placement_of beside)).place f at.count
-
-  abbrev pub ZipsRanked : S → F → F → Type 0
-  ZipsRanked new first last =
-      let at = by_rank (placement_of l) in
-      IsZippedTo g at.place (others_stored others) (by_rank (placement_of beside)).place at.count (stored s) (stored new) first last
-
-  -- the same in an order that is free
+  -- in an order that is free: the next may be called; all were, the last of which left the closure so
   abbrev pub TakesShown : F → Type 0
   TakesShown f = ZippableInAnyOrder g (d.lengths l.dim) (shown stored s l) (shown others_stored others beside) f
 
   abbrev pub ZipsShown : S → F → Type 0
   ZipsShown new f = ZipsAll g (d.lengths l.dim) (shown stored s l) (shown others_stored others beside) (shown stored new l) f
+
+  abbrev pub ZipsShownTo : S → F → F → Type 0
+  ZipsShownTo new first last = VisitedInSomeOrder (d.lengths l.dim) (λ p i q. ChangesWith g (shown others_stored others beside i) (shown stored s l i) (shown stored new l i) p q) first last

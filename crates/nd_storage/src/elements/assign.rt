@@ -14,7 +14,7 @@ ghost use Rattle.nd_storage.specs.elements.Assigns.{IsAssignedTo, IsPartlyAssign
 ghost use Rattle.nd_storage.specs.elements.Changes.{AreDistinct};
 
 use crate::storage::{Data, DataMut};
-use nd_layout::{Lane, Lanes, Layout, is_worth_turning, turned_alike};
+use nd_layout::{Lane, Lanes, Layout, halved_alike, is_worth_turning, turned_alike};
 use nd_shape_and_slice::{Dimension, NoMemory, StrideList};
 
 /// Writes clones of the elements along a second lane at the places of a lane.
@@ -236,7 +236,42 @@ where
     )
 }
 
-/// The same in an order that goes along memory: where that pays, the axes of both layouts are turned alike before.
+/// The same in halves, one after the other, where long lanes go across the order of the second storage's elements.
+fn assign_in_halves<A, S, Z, D, T>(
+    storage: &mut S,
+    layout: &Layout<D, T>,
+    others: &Z,
+    beside: &Layout<D, T>,
+) -> Result<(), NoMemory>
+where
+    A: Clone + Drop,
+    S: DataMut<Elem = A>,
+    Z: Data<Elem = A>,
+    D: Dimension,
+    T: StrideList,
+    requires alike { D.lengths beside.now.dim ≡ D.lengths layout.now.dim }
+    requires apart { KeepsApart (placement_of layout.now) }
+    requires holds { HoldsShown S.stored storage.old layout.now }
+    requires others_hold { HoldsShown Z.stored others.now beside.now }
+    requires clones { ClonesOfAllAreEqual A.is_clone (shown Z.stored others.now beside.now) }
+    ensures assigned { OnOk result (ShowsSame S.stored Z.stored storage.new layout.now others.now beside.now) }
+    ensures stopped { OnErr result (ShowsOldOr S.stored Z.stored storage.old storage.new layout.now others.now beside.now) }
+    ensures refused { OnErr result (MayRefuseClone A.is_infallible (shown Z.stored others.now beside.now)) }
+    ensures holds { HoldsShown S.stored storage.new layout.now }
+    ensures others { LeavesOthers S.stored layout.now storage.old storage.new }
+    ensures frame { S.frame storage.new ≡ S.frame storage.old }
+{
+    let Some(halves) = halved_alike(layout, beside) else {
+        return assign_in_order(storage, layout, others, beside);
+    };
+    match assign_in_halves(storage, &halves.lower, others, &halves.lower_beside) {
+        Ok(()) => assign_in_halves(storage, &halves.upper, others, &halves.upper_beside),
+        Err(refused) => Err(refused),
+    }
+}
+
+/// The same in an order that goes along memory: where that pays, the axes of both layouts are turned alike before, and both
+/// are cut in halves.
 pub fn assign_layouts<A, S, Z, D, T>(
     storage: &mut S,
     layout: &Layout<D, T>,
@@ -265,5 +300,5 @@ where
         return assign_in_order(storage, layout, others, beside);
     }
     let (turned, other) = turned_alike(layout, beside);
-    assign_in_order(storage, &turned, others, &other)
+    assign_in_halves(storage, &turned, others, &other)
 }

@@ -6,7 +6,7 @@ ghost use Rattle.nd_storage.specs.ByLayout.{listed_by, HoldsShown};
 ghost use Rattle.nd_storage.specs.Collected.{collected, stored_along};
 
 use crate::storage::Data;
-use nd_layout::{Lane, Lanes, Layout, is_worth_turning, turned_alike};
+use nd_layout::{Lane, Lanes, Layout, halved_alike, is_worth_turning, turned_alike};
 use nd_shape_and_slice::{Dimension, StrideList};
 
 /// How many elements are compared between two tests whether to go on.
@@ -109,7 +109,29 @@ where
     true
 }
 
-/// The same in an order that goes along memory: where that pays, the axes of both layouts are turned alike before.
+/// The same in halves, one after the other, where long lanes go across the order of the second storage's elements.
+fn equal_in_halves<S: Data, D: Dimension, T: StrideList>(
+    a: &S,
+    ours: &Layout<D, T>,
+    b: &S,
+    theirs: &Layout<D, T>,
+) -> bool
+where
+    S::Elem: PartialEq,
+    requires alike { D.lengths theirs.now.dim ≡ D.lengths ours.now.dim }
+    requires ours { HoldsShown S.stored a.now ours.now }
+    requires theirs { HoldsShown S.stored b.now theirs.now }
+    ensures { result ≡ pointwise S.Elem.eq (listed_by S.stored a.now ours.now) (listed_by S.stored b.now theirs.now) }
+{
+    let Some(halves) = halved_alike(ours, theirs) else {
+        return equal_in_order(a, ours, b, theirs);
+    };
+    equal_in_halves(a, &halves.lower, b, &halves.lower_beside)
+        && equal_in_halves(a, &halves.upper, b, &halves.upper_beside)
+}
+
+/// The same in an order that goes along memory: where that pays, the axes of both layouts are turned alike before, and both
+/// are cut in halves.
 pub fn layouts_equal<S: Data, D: Dimension, T: StrideList>(
     a: &S,
     ours: &Layout<D, T>,
@@ -127,5 +149,5 @@ where
         return equal_in_order(a, ours, b, theirs);
     }
     let (turned, other) = turned_alike(ours, theirs);
-    equal_in_order(a, &turned, b, &other)
+    equal_in_halves(a, &turned, b, &other)
 }

@@ -11,7 +11,7 @@ ghost use Rattle.nd_storage.specs.elements.Assigns.{IsAssignedTo};
 ghost use Rattle.nd_storage.specs.elements.Changes.{AreDistinct};
 
 use crate::storage::DataMut;
-use nd_layout::{Lane, Lanes, Layout, is_worth_turning, turned_alike};
+use nd_layout::{Lane, Lanes, Layout, halved_alike, is_worth_turning, turned_alike};
 use nd_shape_and_slice::{Dimension, StrideList};
 use std::mem;
 
@@ -76,6 +76,7 @@ fn exchange_places<A, S: DataMut<Elem = A>, Z: DataMut<Elem = A>>(
     requires holds { (rank : ℕ) → rank < size_of lengths.now → names_place (S.stored storage.old) (place_at_rank first lengths.now strides.now rank) ≡ true }
     requires others_hold { (rank : ℕ) → rank < size_of lengths.now → names_place (Z.stored others.old) (place_at_rank from lengths.now steps.now rank) ≡ true }
     ensures moved { IsAssignedTo (λ rank. stored_at (Z.stored others.old) (place_at_rank from lengths.now steps.now rank)) (place_at_rank first lengths.now strides.now) (size_of lengths.now) (S.stored storage.old) (S.stored storage.new) }
+    ensures back { IsAssignedTo (λ rank. stored_at (S.stored storage.old) (place_at_rank first lengths.now strides.now rank)) (place_at_rank from lengths.now steps.now) (size_of lengths.now) (Z.stored others.old) (Z.stored others.new) }
     ensures frame { S.frame storage.new ≡ S.frame storage.old }
 {
     let mut ours = Lanes::new(first, lengths, strides);
@@ -109,6 +110,7 @@ where
     ensures moved { ShowsSame S.stored Z.stored storage.new layout.now others.old beside.now }
     ensures holds { HoldsShown S.stored storage.new layout.now }
     ensures others { LeavesOthers S.stored layout.now storage.old storage.new }
+    ensures beside { LeavesOthers Z.stored beside.now others.old others.new }
     ensures frame { S.frame storage.new ≡ S.frame storage.old }
 {
     exchange_places(
@@ -122,7 +124,39 @@ where
     );
 }
 
-/// The same in an order that goes along memory: where that pays, the axes of both layouts are turned alike before.
+/// The same in halves, one after the other, where long lanes go across the order of the second storage's elements.
+fn exchange_in_halves<A, S, Z, D, T>(
+    storage: &mut S,
+    layout: &Layout<D, T>,
+    others: &mut Z,
+    beside: &Layout<D, T>,
+)
+where
+    S: DataMut<Elem = A>,
+    Z: DataMut<Elem = A>,
+    D: Dimension,
+    T: StrideList,
+    requires alike { D.lengths beside.now.dim ≡ D.lengths layout.now.dim }
+    requires apart { KeepsApart (placement_of layout.now) }
+    requires others_apart { KeepsApart (placement_of beside.now) }
+    requires holds { HoldsShown S.stored storage.old layout.now }
+    requires others_hold { HoldsShown Z.stored others.old beside.now }
+    ensures moved { ShowsSame S.stored Z.stored storage.new layout.now others.old beside.now }
+    ensures holds { HoldsShown S.stored storage.new layout.now }
+    ensures others { LeavesOthers S.stored layout.now storage.old storage.new }
+    ensures beside { LeavesOthers Z.stored beside.now others.old others.new }
+    ensures frame { S.frame storage.new ≡ S.frame storage.old }
+{
+    let Some(halves) = halved_alike(layout, beside) else {
+        exchange_in_order(storage, layout, others, beside);
+        return;
+    };
+    exchange_in_halves(storage, &halves.lower, others, &halves.lower_beside);
+    exchange_in_halves(storage, &halves.upper, others, &halves.upper_beside);
+}
+
+/// The same in an order that goes along memory: where that pays, the axes of both layouts are turned alike before, and both
+/// are cut in halves.
 pub fn exchange_layouts<A, S, Z, D, T>(
     storage: &mut S,
     layout: &Layout<D, T>,
@@ -149,5 +183,5 @@ where
         return;
     }
     let (turned, other) = turned_alike(layout, beside);
-    exchange_in_order(storage, &turned, others, &other);
+    exchange_in_halves(storage, &turned, others, &other);
 }

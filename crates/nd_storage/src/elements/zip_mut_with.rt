@@ -5,13 +5,13 @@ ghost use Rattle.nd_shape_and_slice.specs.Shape.{size_of, HasCheckedSize};
 ghost use Rattle.nd_layout.specs.Places.{ReachesPlaces};
 ghost use Rattle.nd_layout.specs.Walk.{place_at_rank};
 ghost use Rattle.nd_layout.specs.Placements.{placement_of, KeepsApart};
-ghost use Rattle.nd_storage.specs.ByLayout.{HoldsShown, LeavesOthers, TakesRanked, ZipsRanked, TakesShown, ZipsShown};
+ghost use Rattle.nd_storage.specs.ByLayout.{HoldsShown, LeavesOthers, TakesShown, ZipsShown, ZipsShownTo};
 ghost use Rattle.nd_storage.specs.Places.{names_place};
 ghost use Rattle.nd_storage.specs.elements.Changes.{AreDistinct};
 ghost use Rattle.nd_storage.specs.elements.Pairs.{ChangesWith, TakesBoth, IsZippedTo, TakesPairs};
 
 use crate::storage::{Data, DataMut};
-use nd_layout::{Lane, Lanes, Layout, is_worth_turning, turned_alike};
+use nd_layout::{Lane, Lanes, Layout, halved_alike, is_worth_turning, turned_alike};
 use nd_shape_and_slice::{Dimension, StrideList};
 
 /// Hands the element at a place to the function, to be written, with another one beside it. It returns the function, as
@@ -215,8 +215,10 @@ where
     requires apart { KeepsApart (placement_of layout.now) }
     requires holds { HoldsShown S.stored storage.old layout.now }
     requires others_hold { HoldsShown Z.stored others.now beside.now }
-    requires callable { TakesRanked F.FnMut S.stored Z.stored storage.old layout.now others.now beside.now f }
-    ensures changed { ZipsRanked F.FnMut S.stored Z.stored storage.old layout.now others.now beside.now storage.new f result }
+    requires callable { TakesShown F.FnMut S.stored Z.stored storage.old layout.now others.now beside.now f }
+    ensures visits { ZipsShownTo F.FnMut S.stored Z.stored storage.old layout.now others.now beside.now storage.new f result }
+    ensures holds { HoldsShown S.stored storage.new layout.now }
+    ensures others { LeavesOthers S.stored layout.now storage.old storage.new }
     ensures frame { S.frame storage.new ≡ S.frame storage.old }
 {
     zip_places(
@@ -231,7 +233,39 @@ where
     )
 }
 
-/// The same in an order that is free and goes along memory: where that pays, the axes of both layouts are turned alike before.
+/// The same in halves, one after the other, where long lanes go across the order of the second storage's elements.
+fn zip_in_halves<B, S, Z, D, T, F>(
+    storage: &mut S,
+    layout: &Layout<D, T>,
+    others: &Z,
+    beside: &Layout<D, T>,
+    f: F,
+) -> F
+where
+    S: DataMut,
+    Z: Data<Elem = B>,
+    D: Dimension,
+    T: StrideList,
+    F: FnMut(&mut S::Elem, &B),
+    requires alike { D.lengths beside.now.dim ≡ D.lengths layout.now.dim }
+    requires apart { KeepsApart (placement_of layout.now) }
+    requires holds { HoldsShown S.stored storage.old layout.now }
+    requires others_hold { HoldsShown Z.stored others.now beside.now }
+    requires callable { TakesShown F.FnMut S.stored Z.stored storage.old layout.now others.now beside.now f }
+    ensures visits { ZipsShownTo F.FnMut S.stored Z.stored storage.old layout.now others.now beside.now storage.new f result }
+    ensures holds { HoldsShown S.stored storage.new layout.now }
+    ensures others { LeavesOthers S.stored layout.now storage.old storage.new }
+    ensures frame { S.frame storage.new ≡ S.frame storage.old }
+{
+    let Some(halves) = halved_alike(layout, beside) else {
+        return zip_in_order(storage, layout, others, beside, f);
+    };
+    let now = zip_in_halves(storage, &halves.lower, others, &halves.lower_beside, f);
+    zip_in_halves(storage, &halves.upper, others, &halves.upper_beside, now)
+}
+
+/// The same in an order that is free and goes along memory: where that pays, the axes of both layouts are turned alike before,
+/// and both are cut in halves.
 pub fn zip_layouts<B, S, Z, D, T, F>(
     storage: &mut S,
     layout: &Layout<D, T>,
@@ -260,5 +294,5 @@ where
         return;
     }
     let (turned, other) = turned_alike(layout, beside);
-    zip_in_order(storage, &turned, others, &other, f);
+    zip_in_halves(storage, &turned, others, &other, f);
 }

@@ -1,4 +1,4 @@
-use Rattle.std.proofs.Common.{sym, subst}
+use Rattle.std.proofs.Common.{◌≡◌, ◌<◌, ℕ, pos, sym, subst}
 use Rattle.nd_shape_and_slice.specs.Shape.{size_of, index_at}
 use Rattle.nd_shape_and_slice.proofs.RankIndexes.{in_box-index_at}
 use Rattle.nd_layout.specs.Placements.{placement_of}
@@ -62,3 +62,14 @@ returns-clause-others g c =
     let new = g.S.Data.stored c.exchange_places.new.storage in
     let moved : IsAssignedTo (stored_by_rank theirs two.offset one.lengths two.strides) (place_at_rank one.offset one.lengths one.strides) (size_of one.lengths) ours new = rw (c.slice.ensures.lengths, c.slice-2.ensures, c.slice-3.ensures) at c.exchange_places.ensures.moved in
     others_stay one.offset one.lengths one.strides one.offset one.lengths one.strides (in_row_major one.offset one.lengths one.strides) ours new moved.left
+
+pub returns-clause-beside : goal.returns-clause-beside
+returns-clause-beside g c =
+    let one = placement_of c.args.layout.now in
+    let two = placement_of c.args.beside.now in
+    let theirs = g.Z.Data.stored c.args.others.now in
+    let ours = g.S.Data.stored c.args.storage.now in
+    let new = g.Z.Data.stored c.exchange_places.new.others in
+    let back : IsAssignedTo (stored_by_rank ours one.offset one.lengths one.strides) (place_at_rank two.offset one.lengths two.strides) (size_of one.lengths) theirs new = rw (c.slice.ensures.lengths, c.slice-2.ensures, c.slice-3.ensures) at c.exchange_places.ensures.back in
+    others_stay two.offset two.lengths two.strides two.offset two.lengths two.strides (in_row_major two.offset two.lengths two.strides) theirs new
+    (subst (λ ls. (p : ℕ) → ((k : ℕ) → k < size_of ls → place_at_rank two.offset ls two.strides k ≡ pos p → ⊥) → new p ≡ theirs p) (sym c.requires.alike) back.left)

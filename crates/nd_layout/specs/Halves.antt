@@ -1,0 +1,29 @@
+-- Two layouts of one shape cut at one coordinate of one axis.
+use Rattle.std.specs.Prelude.{ℕ, ◌<◌, ◌≡◌, ◌⊎◌, true, List}
+use Rattle.std.specs.List.{sum}
+use Rattle.nd_shape_and_slice.specs.Shape.{in_box}
+use Rattle.nd_shape_and_slice.specs.declared.dimension.Dimension as dimension
+use Rattle.nd_shape_and_slice.specs.declared.dimension.AxisCount as axis_count
+use Rattle.nd_shape_and_slice.specs.declared.dimension.StrideList as stride_list
+use Rattle.nd_layout.specs.Placements.{Placement, placement_of, IsStepOf}
+use Rattle.nd_layout.specs.declared.layout.Layout.{Layout}
+use Rattle.nd_layout.specs.declared.halves.Halves.{Halves}
+
+-- Each index is one of the lower half, or named by one of the upper half, which names it alone; both halves are smaller.
+pub record AreHalved (one two lower lower_two upper upper_two : Placement) : Type 0 where
+  pub source : List ℕ → List ℕ
+  pub low_first : IsStepOf one lower (λ i. i)
+  pub low_second : IsStepOf two lower_two (λ i. i)
+  pub high_first : IsStepOf one upper source
+  pub high_second : IsStepOf two upper_two source
+  pub low_alike : lower_two.lengths ≡ lower.lengths
+  pub high_alike : upper_two.lengths ≡ upper.lengths
+  pub found : (i : List ℕ) → in_box one.lengths i ≡ true → (in_box lower.lengths i ≡ true) ⊎ ((j : List ℕ) × (in_box upper.lengths j ≡ true) × (source j ≡ i))
+  pub apart : (i j : List ℕ) → in_box lower.lengths i ≡ true → in_box upper.lengths j ≡ true → source j ≡ i → ⊥
+  pub once : (j k : List ℕ) → in_box upper.lengths j ≡ true → in_box upper.lengths k ≡ true → source j ≡ source k → j ≡ k
+  pub low_smaller : sum lower.lengths < sum one.lengths
+  pub high_smaller : sum upper.lengths < sum one.lengths
+
+-- the same of layouts
+abbrev pub HalvesBoth : {D T P R L M : Type 0} {d : dimension.Ghosts D P R L M} {n : axis_count.Ghosts D} {r : stride_list.Ghosts R} {t : stride_list.Ghosts T} → (one two : Layout D T P R L M d n r t) → Halves D T P R L M d n r t → Type 0
+HalvesBoth one two halves = AreHalved (placement_of one) (placement_of two) (placement_of halves.lower) (placement_of halves.lower_beside) (placement_of halves.upper) (placement_of halves.upper_beside)

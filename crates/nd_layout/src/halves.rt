@@ -1,0 +1,115 @@
+//! Two layouts of one shape cut at one coordinate of an axis, so that what a loop over both meets again is still near. Where
+//! they are cut changes the time of the loop alone.
+
+ghost use Rattle.std.specs.Prelude.{◌≡◌, ◌<◌, ◌-◌, true, length, slice_index, IfSome};
+ghost use Rattle.nd_layout.specs.Halves.{HalvesBoth};
+
+use crate::layout::Layout;
+use crate::turned::nearest_axis;
+use nd_shape_and_slice::{Dimension, StrideList};
+
+/// So many elements of two arrays lie near enough to be met again before they are gone.
+const NEAR: usize = 8192;
+
+/// A lane with more elements is cut.
+const LONG: usize = 512;
+
+/// A lane with no more elements is never cut.
+const SHORT: usize = 128;
+
+/// A lane that steps over so many elements of the second array is cut.
+const FAR: usize = 1_048_576;
+
+/// Elements that fill whole lines of the cache.
+const LINE: usize = 64;
+
+/// The halves of two layouts of one shape, cut at one coordinate of one axis.
+#[derive(Drop)]
+pub struct Halves<D: Dimension, T: StrideList> {
+    pub lower: Layout<D, T>,
+    pub lower_beside: Layout<D, T>,
+    pub upper: Layout<D, T>,
+    pub upper_beside: Layout<D, T>,
+}
+
+/// Whether the elements of a lane are too many, or lie too far apart, to be near when the next lane is done.
+fn is_long(len: usize, step: isize) -> bool
+    ensures { result ≡ true → 1 < len }
+{
+    len > LONG || (len > SHORT && step.unsigned_abs() >= FAR / len)
+}
+
+/// Whether long lanes go across the order of the second layout's elements, and there are more of them than lie near.
+fn leads_away(lengths: &[usize], steps: &[isize]) -> bool
+    requires as_many { length steps.now ≡ length lengths.now }
+    ensures { result ≡ true → (1 < length lengths.now) × (1 < slice_index lengths.now (length lengths.now - 1)) }
+{
+    let axes = lengths.len();
+    if axes < 2 {
+        return false;
+    }
+    let (rows, len) = (lengths[axes - 2], lengths[axes - 1]);
+    is_long(len, steps[axes - 1]) && rows > NEAR / len && nearest_axis(lengths, steps) + 1 < axes
+}
+
+/// The first axis longer than 1, of the last and those before the two last.
+fn outermost_axis(lengths: &[usize]) -> usize
+    requires some { 1 < length lengths.now }
+    requires last { 1 < slice_index lengths.now (length lengths.now - 1) }
+    ensures on { result < length lengths.now }
+    ensures long { 1 < slice_index lengths.now result }
+{
+    let axes = lengths.len();
+    for axis in 0..axes - 2 {
+        if lengths[axis] > 1 {
+            return axis;
+        }
+    }
+    axes - 1
+}
+
+/// A coordinate near the middle of an axis.
+fn middle_of(len: usize) -> usize
+    requires { 1 < len }
+    ensures some { 0 < result }
+    ensures within { result < len }
+{
+    let half = len / 2;
+    if len > SHORT {
+        (half + (LINE - 1)) / LINE * LINE
+    } else {
+        half
+    }
+}
+
+/// The axis at which two layouts are to be cut, and the coordinate; None where they may be gone over as they are.
+fn cut_of(lengths: &[usize], steps: &[isize]) -> Option<(usize, usize)>
+    requires as_many { length steps.now ≡ length lengths.now }
+    ensures { IfSome result (λ cut. (cut.0 < length lengths.now) × (0 < cut.1) × (cut.1 < slice_index lengths.now cut.0)) }
+{
+    if !leads_away(lengths, steps) {
+        return None;
+    }
+    let axis = outermost_axis(lengths);
+    Some((axis, middle_of(lengths[axis])))
+}
+
+/// The halves of two layouts of one shape, where it pays to go over the lower ones first: long lanes of the first go across
+/// the order in which the second has its elements. Outer axes are cut first, and then the lanes.
+pub fn halved_alike<D: Dimension, T: StrideList>(
+    layout: &Layout<D, T>,
+    other: &Layout<D, T>,
+) -> Option<Halves<D, T>>
+    requires alike { D.lengths other.now.dim ≡ D.lengths layout.now.dim }
+    ensures { IfSome result (λ halves. HalvesBoth layout.now other.now halves) }
+{
+    let (axis, index) = cut_of(layout.dim.slice(), other.strides.slice())?;
+    let (lower, upper) = layout.halves(axis, index);
+    let (lower_beside, upper_beside) = other.halves(axis, index);
+    Some(Halves {
+        lower,
+        lower_beside,
+        upper,
+        upper_beside,
+    })
+}
