@@ -11,3 +11,4 @@ pub mod SliceView
 pub mod Said
 pub mod RowsLent
 pub mod RowsView
+pub mod Asked

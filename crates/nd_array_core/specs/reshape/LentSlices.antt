@@ -1,6 +1,6 @@
 -- What an array ends as, once a borrow of all its elements as one slice is over.
-use Rattle.std.specs.Prelude.{◌≡◌, ℕ, List, length, slice_get}
-use Rattle.std.specs.Borrow.{Fml, RattleType, MutBor, Lends, Array}
+use Rattle.std.specs.Prelude.{◌≡◌, ℕ, List, Option, length, slice_get}
+use Rattle.std.specs.Borrow.{Fml, RattleType, MutBor, Lends, LendsIf, Array}
 use Rattle.nd_shape_and_slice.specs.Shape.{size_of, row_rank}
 use Rattle.nd_shape_and_slice.specs.declared.dimension.Dimension as dimension
 use Rattle.nd_shape_and_slice.specs.declared.dimension.AxisCount as axis_count
@@ -51,3 +51,10 @@ module _ (S A D P R L M : RattleType) (s : data_trait.Ghosts S.Denot A.Denot) (d
   -- and from its lowest place on
   abbrev pub lends_places : MutBor (array_row S A D P R L M s d n r).Denot → MutBor (List A.Denot) → Fml
   lends_places a x = Lends (array_row S A D P R L M s d n r) (Array A 0) a x (array_with_places s.with_run a.now)
+
+  -- the same where there is a slice; where there is none, the array stays as it is
+  abbrev pub may_lend_rows : MutBor (array_row S A D P R L M s d n r).Denot → Option (MutBor (List A.Denot)) → Fml
+  may_lend_rows a x = LendsIf (array_row S A D P R L M s d n r) (Array A 0) a x (array_with_rows s.with_run a.now) a.now
+
+  abbrev pub may_lend_places : MutBor (array_row S A D P R L M s d n r).Denot → Option (MutBor (List A.Denot)) → Fml
+  may_lend_places a x = LendsIf (array_row S A D P R L M s d n r) (Array A 0) a x (array_with_places s.with_run a.now) a.now

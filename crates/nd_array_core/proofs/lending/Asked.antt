@@ -1,0 +1,18 @@
+-- What a walk has of the answer to a question: the answer, where it is tested, and that both parts of a value have their types.
+use mathlib.Core.Path.{◌≡◌, refl}
+use mathlib.Core.Bool.{Bool, true, false, not, ◌&&◌}
+use lib.Dec.{T}
+use Rattle.std.specs.Prelude.{IsTrue, ◌↔◌}
+
+pub is_on : (asked : Bool) → T asked → IsTrue asked
+is_on true on = refl
+is_on false on = absurd on
+
+-- an answer that isn't given fits no question's yes
+pub none_asked : {φ : Type 0} (asked : Bool) → T (not asked) → IsTrue asked ↔ φ → IsTrue false ↔ φ
+none_asked true off is = absurd off
+none_asked false off is = is
+
+pub both : (a b : Bool) → T a → T b → T (a && b)
+both true b p q = q
+both false b p q = absurd p
