@@ -1,6 +1,7 @@
 -- What an array ends as, once a borrow of all its elements as one slice is over.
 use Rattle.std.specs.Prelude.{◌≡◌, ℕ, List, Option, length, slice_get}
-use Rattle.std.specs.Borrow.{Fml, RattleType, MutBor, Lends, LendsIf, Array}
+use Rattle.std.specs.Borrow.{Fml, RattleType, MutBor, Lends, LendsIf, Array, follows_if}
+use Rattle.std.specs.Option.{ghost_name_of}
 use Rattle.nd_shape_and_slice.specs.Shape.{size_of, row_rank}
 use Rattle.nd_shape_and_slice.specs.declared.dimension.Dimension as dimension
 use Rattle.nd_shape_and_slice.specs.declared.dimension.AxisCount as axis_count
@@ -10,6 +11,10 @@ use Rattle.nd_array_core.specs.declared.base.array.ArrayBase.{ArrayBase}
 use Rattle.nd_array_core.specs.Meaning.{shape_of, element_at, layout_offset}
 use Rattle.nd_storage.specs.Meaning.{inside}
 use Rattle.nd_storage.specs.ElementMut.{KeepsPlaces}
+use Rattle.nd_region.specs.declared.region.Region.{Region}
+use Rattle.nd_region.specs.Places.{overwritten_items, run_written}
+use Rattle.nd_storage.specs.declared.storage.RegionRepr.{RegionRepr}
+use Rattle.nd_array_core.specs.base.LongerLent.{region_of}
 use Rattle.nd_array_core.specs.base.ElementLent.{DimensionMembers, array_row, with_storage}
 use Rattle.nd_array_core.specs.base.Writes.{KeepsFrame}
 use Rattle.nd_array_core.specs.reshape.RunSlices.{IsInMemoryOrder, lowest_place}
@@ -58,3 +63,14 @@ module _ (S A D P R L M : RattleType) (s : data_trait.Ghosts S.Denot A.Denot) (d
 
   abbrev pub may_lend_places : MutBor (array_row S A D P R L M s d n r).Denot → Option (MutBor (List A.Denot)) → Fml
   may_lend_places a x = LendsIf (array_row S A D P R L M s d n r) (Array A 0) a x (array_with_places s.with_run a.now) a.now
+
+module _ {A D T P R L M : Type 0} {s : data_trait.Ghosts (RegionRepr (Region A)) A} {d : dimension.Ghosts D P R L M} {n : axis_count.Ghosts D} {r : stride_list.Ghosts R} {t : stride_list.Ghosts T} where
+  -- the elements of what a mutable view is of, with others at as many places as the view has elements, from one on
+  abbrev pub items_with_run : ArrayBase (RegionRepr (Region A)) D T A P R L M s d n r t → ℕ → List A → List A
+  items_with_run v first ws = overwritten_items (region_of v).items (run_written (region_of v).items first (size_of (shape_of v)) ws)
+
+module _ (A : RattleType) {D T P R L M : Type 0} {s : data_trait.Ghosts (RegionRepr (Region A.Denot)) A.Denot} {d : dimension.Ghosts D P R L M} {n : axis_count.Ghosts D} {r : stride_list.Ghosts R} {t : stride_list.Ghosts T} where
+  -- what a mutable view is of ends with the elements that are left behind the slice at those places, and with what it held
+  -- at every other; where there is no slice, with what it held
+  abbrev pub may_follow_run : ArrayBase (RegionRepr (Region A.Denot)) D T A.Denot P R L M s d n r t → ℕ → Option (MutBor (List A.Denot)) → Fml
+  may_follow_run v first xs = follows_if (Array A 0) (Array A 0) (region_of v).name (ghost_name_of xs) (items_with_run v first) (region_of v).items

@@ -1,14 +1,18 @@
 //! The elements as one slice, to be written, where they lie so.
 #![tactic(auto, unfolding(crate::specs::Meaning::meaning_of, crate::specs::Meaning::memory_layout_of))]
 
-ghost use Rattle.std.specs.Prelude.{◌↔◌, ◌≡◌, IsSome, IfSome, OnSome, IsTrue};
+ghost use Rattle.std.specs.Prelude.{◌↔◌, ◌≡◌, List, IsSome, IfSome, OnSome, IsTrue};
 ghost use Rattle.std.specs.Borrow.{sem};
-ghost use Rattle.nd_array_core.specs.Meaning.{meaning_of};
+ghost use Rattle.nd_shape_and_slice.specs.Shape.{size_of};
+ghost use Rattle.nd_region.specs.Region.{HasRun, IsRunOf};
+ghost use Rattle.nd_array_core.specs.Meaning.{meaning_of, shape_of, layout_offset};
+ghost use Rattle.nd_array_core.specs.base.LongerLent.{region_of};
 ghost use Rattle.nd_storage.specs.Meaning.{row_major_elements};
-ghost use Rattle.nd_array_core.specs.reshape.RunSlices.{IsStandardArray, IsRunArray, IsInMemoryOrder};
+ghost use Rattle.nd_array_core.specs.reshape.RunSlices.{IsStandardArray, IsRunArray, IsInMemoryOrder, lowest_place};
 
 use crate::base::array::{ArrayBase, ArrayViewMut};
 use nd_layout::is_run;
+use nd_region::Region;
 use nd_shape_and_slice::{Dimension, StrideList};
 use nd_storage::storage::{Data, DataMut, RegionRepr};
 
@@ -25,8 +29,8 @@ impl<S: DataMut, D: Dimension> ArrayBase<S, D> {
     ghost use Rattle.nd_array_core.specs.reshape.LentSlices.{lends_rows, lends_places, may_lend_rows, may_lend_places, LeavesByRank, LeavesInMemoryOrder, array_with_rows, array_with_places};
 
     /// The elements in row-major order as one slice, to be written. The array is in the standard layout
-    /// (`is_standard_layout`). This project's own, beside `as_slice_mut`: of a slice that comes in an `Option` no contract
-    /// can tell what it leaves.
+    /// (`is_standard_layout`). This project's own, beside `as_slice_mut`: the checker tells a caller what it leaves
+    /// behind a slice, and not what it leaves behind one that comes in an `Option`.
     pub fn elements_mut(&mut self) -> &mut [S::Elem]
         requires { IsStandardArray self.old }
         ensures* writes_back { sem 𝓛 (lends_rows S.row S.Elem.row D.row D.Pattern.row D.Strides.row D.Smaller.row D.Larger.row S.Data D.Dimension D.AxisCount D.Strides.StrideList self.entry result) }
@@ -106,34 +110,75 @@ impl<S: DataMut, D: Dimension> ArrayBase<S, D> {
     }
 }
 
+/// The region of a mutable view, the place of its first element, how many it has, and whether it is in the standard layout.
+fn apart_rows<'a, A, D: Dimension>(
+    view: ArrayViewMut<'a, A, D>,
+) -> (Region<'a, A>, usize, usize, bool)
+    ensures region { result.0 ≡ region_of view.entry }
+    ensures first { result.1 ≡ layout_offset view.entry }
+    ensures count { result.2 ≡ size_of (shape_of view.entry) }
+    ensures asked { IsTrue result.3 ↔ IsStandardArray view.entry }
+    ensures there { IsTrue result.3 → HasRun result.0 result.1 result.2 }
+    ensures elements { IsTrue result.3 → (xs : List A) → IsRunOf result.0 result.1 result.2 xs → xs ≡ row_major_elements (meaning_of view.entry) }
+{
+    let asked = view.is_standard_layout();
+    let ArrayBase { storage, layout } = view;
+    let RegionRepr { region, tie: _ } = storage;
+    let count = layout.dim.size();
+    (region, layout.offset, count, asked)
+}
+
+/// The same with the lowest place, and whether the elements lie in a run.
+fn apart_run<'a, A, D: Dimension>(
+    view: ArrayViewMut<'a, A, D>,
+) -> (Region<'a, A>, usize, usize, bool)
+    ensures region { result.0 ≡ region_of view.entry }
+    ensures first { result.1 ≡ lowest_place view.entry }
+    ensures count { result.2 ≡ size_of (shape_of view.entry) }
+    ensures asked { IsTrue result.3 ↔ IsRunArray view.entry }
+    ensures there { IsTrue result.3 → HasRun result.0 result.1 result.2 }
+    ensures elements { IsTrue result.3 → (xs : List A) → IsRunOf result.0 result.1 result.2 xs → IsInMemoryOrder view.entry xs }
+{
+    let asked = view.has_run();
+    let ArrayBase { storage, layout } = view;
+    let RegionRepr { region, tie: _ } = storage;
+    let first = layout.lowest_place();
+    let count = layout.dim.size();
+    (region, first, count, asked)
+}
+
 impl<'a, A, D: Dimension> ArrayViewMut<'a, A, D> {
+    ghost use Rattle.nd_array_core.specs.reshape.LentSlices.{may_follow_run};
+
     /// The elements in row-major order as one slice, to be written for as long as what the view is of is borrowed; None
-    /// exactly where they don't lie so (`is_standard_layout`). ndarray's `into_slice`.
+    /// exactly where they don't lie so (`is_standard_layout`), and then nothing changes. ndarray's `into_slice`.
     pub fn into_slice(self) -> Option<&'a mut [A]>
+        ensures* writes_back { sem 𝓛 (may_follow_run A.row self.entry (layout_offset self.entry) result) }
         ensures some { IsSome result ↔ IsStandardArray self.entry }
         ensures elements { IfSome result (λ xs. xs.now ≡ row_major_elements (meaning_of self.entry)) }
     {
-        if self.is_standard_layout() {
-            let ArrayBase { storage, layout } = self;
-            let RegionRepr { region, tie: _ } = storage;
-            Some(region.into_run(layout.offset, layout.dim.size()))
+        let (region, first, count, asked) = apart_rows(self);
+        if asked {
+            Some(region.into_run(first, count))
         } else {
+            region.end();
             None
         }
     }
 
     /// The elements in the order in which they lie as one slice, to be written for as long as what the view is of is
-    /// borrowed; None exactly where their places aren't as many consecutive numbers as there are elements, each once.
-    /// ndarray's `into_slice_memory_order`.
+    /// borrowed; None exactly where their places aren't as many consecutive numbers as there are elements, each once, and
+    /// then nothing changes. ndarray's `into_slice_memory_order`.
     pub fn into_slice_memory_order(self) -> Option<&'a mut [A]>
+        ensures* writes_back { sem 𝓛 (may_follow_run A.row self.entry (lowest_place self.entry) result) }
         ensures some { IsSome result ↔ IsRunArray self.entry }
         ensures elements { IfSome result (λ xs. IsInMemoryOrder self.entry xs.now) }
     {
-        if self.has_run() {
-            let ArrayBase { storage, layout } = self;
-            let RegionRepr { region, tie: _ } = storage;
-            Some(region.into_run(layout.lowest_place(), layout.dim.size()))
+        let (region, first, count, asked) = apart_run(self);
+        if asked {
+            Some(region.into_run(first, count))
         } else {
+            region.end();
             None
         }
     }
