@@ -2,7 +2,7 @@
 use mathlib.Core.Path.{◌≡◌, refl}
 use mathlib.Core.Bool.{Bool, true, false, not, ◌&&◌}
 use lib.Dec.{T}
-use Rattle.std.specs.Prelude.{IsTrue, ◌↔◌}
+use Rattle.std.specs.Prelude.{Option, Some, None, IsSome, IfSome, IsTrue, ◌↔◌}
 
 pub is_on : (asked : Bool) → T asked → IsTrue asked
 is_on true on = refl
@@ -16,3 +16,8 @@ none_asked false off is = is
 pub both : (a b : Bool) → T a → T b → T (a && b)
 both true b p q = q
 both false b p q = absurd p
+
+-- what holds of a value that is there gives what else holds of it
+pub shown_as : {X : Type 0} (m : Option X) (P Q : X → Type 0) → (IsSome m → (x : X) → P x → Q x) → IfSome m P → IfSome m Q
+shown_as (Some x) P Q gives p = gives refl x p
+shown_as None P Q gives p = tt

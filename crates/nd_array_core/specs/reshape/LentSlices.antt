@@ -64,13 +64,13 @@ module _ (S A D P R L M : RattleType) (s : data_trait.Ghosts S.Denot A.Denot) (d
   abbrev pub may_lend_places : MutBor (array_row S A D P R L M s d n r).Denot → Option (MutBor (List A.Denot)) → Fml
   may_lend_places a x = LendsIf (array_row S A D P R L M s d n r) (Array A 0) a x (array_with_places s.with_run a.now) a.now
 
-module _ {A D T P R L M : Type 0} {s : data_trait.Ghosts (RegionRepr (Region A)) A} {d : dimension.Ghosts D P R L M} {n : axis_count.Ghosts D} {r : stride_list.Ghosts R} {t : stride_list.Ghosts T} where
-  -- the elements of what a mutable view is of, with others at as many places as the view has elements, from one on
-  abbrev pub items_with_run : ArrayBase (RegionRepr (Region A)) D T A P R L M s d n r t → ℕ → List A → List A
-  items_with_run v first ws = overwritten_items (region_of v).items (run_written (region_of v).items first (size_of (shape_of v)) ws)
+module _ (A : RattleType) where
+  -- the region's borrow ends with what is left behind the slice at the n places from p on, and with what it held at every
+  -- other; where there is no slice, with what it held
+  abbrev pub run_may_follow : Region A.Denot → ℕ → ℕ → Option (MutBor (List A.Denot)) → Fml
+  run_may_follow r p n xs = follows_if (Array A 0) (Array A 0) r.name (ghost_name_of xs) (λ ws. overwritten_items r.items (run_written r.items p n ws)) r.items
 
 module _ (A : RattleType) {D T P R L M : Type 0} {s : data_trait.Ghosts (RegionRepr (Region A.Denot)) A.Denot} {d : dimension.Ghosts D P R L M} {n : axis_count.Ghosts D} {r : stride_list.Ghosts R} {t : stride_list.Ghosts T} where
-  -- what a mutable view is of ends with the elements that are left behind the slice at those places, and with what it held
-  -- at every other; where there is no slice, with what it held
+  -- what a mutable view is of ends so, with a slice of as many places as the view has elements, from one on
   abbrev pub may_follow_run : ArrayBase (RegionRepr (Region A.Denot)) D T A.Denot P R L M s d n r t → ℕ → Option (MutBor (List A.Denot)) → Fml
-  may_follow_run v first xs = follows_if (Array A 0) (Array A 0) (region_of v).name (ghost_name_of xs) (items_with_run v first) (region_of v).items
+  may_follow_run v first xs = run_may_follow A (region_of v) first (size_of (shape_of v)) xs

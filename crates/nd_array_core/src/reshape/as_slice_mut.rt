@@ -8,6 +8,7 @@ ghost use Rattle.nd_region.specs.Region.{HasRun, IsRunOf};
 ghost use Rattle.nd_array_core.specs.Meaning.{meaning_of, shape_of, layout_offset};
 ghost use Rattle.nd_array_core.specs.base.LongerLent.{region_of};
 ghost use Rattle.nd_storage.specs.Meaning.{row_major_elements};
+ghost use Rattle.nd_array_core.specs.reshape.LentSlices.{run_may_follow};
 ghost use Rattle.nd_array_core.specs.reshape.RunSlices.{IsStandardArray, IsRunArray, IsInMemoryOrder, lowest_place};
 
 use crate::base::array::{ArrayBase, ArrayViewMut};
@@ -147,6 +148,27 @@ fn apart_run<'a, A, D: Dimension>(
     (region, first, count, asked)
 }
 
+/// The `count` elements of a region from a place on, to be written for as long as its borrow lasts; None where they aren't
+/// asked for, and then nothing changes.
+fn run_if<'a, A>(
+    region: Region<'a, A>,
+    place: usize,
+    count: usize,
+    asked: bool,
+) -> Option<&'a mut [A]>
+    requires { IsTrue asked → HasRun region place count }
+    ensures* writes_back { sem 𝓛 (run_may_follow A.row region.entry place count result) }
+    ensures some { IsSome result ↔ IsTrue asked }
+    ensures values { IfSome result (λ xs. IsRunOf region.entry place count xs.now) }
+{
+    if asked {
+        Some(region.into_run(place, count))
+    } else {
+        region.end();
+        None
+    }
+}
+
 impl<'a, A, D: Dimension> ArrayViewMut<'a, A, D> {
     ghost use Rattle.nd_array_core.specs.reshape.LentSlices.{may_follow_run};
 
@@ -158,12 +180,7 @@ impl<'a, A, D: Dimension> ArrayViewMut<'a, A, D> {
         ensures elements { IfSome result (λ xs. xs.now ≡ row_major_elements (meaning_of self.entry)) }
     {
         let (region, first, count, asked) = apart_rows(self);
-        if asked {
-            Some(region.into_run(first, count))
-        } else {
-            region.end();
-            None
-        }
+        run_if(region, first, count, asked)
     }
 
     /// The elements in the order in which they lie as one slice, to be written for as long as what the view is of is
@@ -175,11 +192,6 @@ impl<'a, A, D: Dimension> ArrayViewMut<'a, A, D> {
         ensures elements { IfSome result (λ xs. IsInMemoryOrder self.entry xs.now) }
     {
         let (region, first, count, asked) = apart_run(self);
-        if asked {
-            Some(region.into_run(first, count))
-        } else {
-            region.end();
-            None
-        }
+        run_if(region, first, count, asked)
     }
 }
