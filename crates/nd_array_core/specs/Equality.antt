@@ -3,7 +3,7 @@ use Rattle.std.specs.Prelude.{◌≡◌, ◌↔◌, ◌<◌, ℕ, Bool, true, �
 use Rattle.std.specs.Cmp.{IsPartialEquivalence, IsEquivalence, partial_equiv_from_equiv, and_per, and_equiv, on_per, on_equiv, nat_eq_equiv, unsigned_Decides, first_so, second_so}
 use Rattle.std.specs.Cmp.Lexicographic.{pointwise, lists_per, lists_equiv}
 use Rattle.std.specs.Hash.{HashWrites, Alike, and-Alike, on_Alike, items_Alike, same_Alike, slice, usize}
-use Rattle.std.specs.List.{flat_map}
+use Rattle.std.specs.List.{fold, flat_map}
 use Rattle.std.proofs.Common.{refl}
 use Rattle.nd_storage.specs.Meaning.{Meaning}
 use Rattle.nd_storage.specs.Meaning.{row_major_elements}
@@ -28,6 +28,10 @@ module _ {A : Type 0} where
   -- the lengths as a slice, and then each element in row-major order
   abbrev pub fed_meaning : (A → HashWrites) → Meaning A → HashWrites
   fed_meaning feed m = slice usize m.shape ++ flat_map feed (row_major_elements m)
+
+  -- a hasher is fed each element, in row-major order
+  abbrev pub FeedsElements : {H : Type 0} → (H → List ℕ → H) → (A → HashWrites) → Meaning A → H → H → Type 0
+  FeedsElements write feed m old new = new ≡ fold write old (flat_map feed (row_major_elements m))
 
   -- equality of arrays is as good as that of elements
   pub meanings_per : {E : A → A → Bool} → IsPartialEquivalence E → IsPartialEquivalence (equal_meanings E)

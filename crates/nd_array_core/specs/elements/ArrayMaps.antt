@@ -1,11 +1,12 @@
 -- Arrays that show what a function gives of another's elements.
+use Rattle.std.specs.Prelude.{Option}
 use Rattle.nd_shape_and_slice.specs.declared.dimension.Dimension as dimension
 use Rattle.nd_shape_and_slice.specs.declared.dimension.AxisCount as axis_count
 use Rattle.nd_shape_and_slice.specs.declared.dimension.StrideList as stride_list
 use Rattle.nd_storage.specs.declared.storage.Data as data_trait
 use Rattle.nd_array_core.specs.declared.base.array.ArrayBase.{ArrayBase}
-use Rattle.nd_array_core.specs.Meaning.{element_at}
-use Rattle.nd_storage.specs.elements.Maps.{IsMappedBy, IsOldOrMapped}
+use Rattle.nd_array_core.specs.Meaning.{meaning_of, element_at}
+use Rattle.nd_storage.specs.elements.Maps.{HasAnswersOfAll, HasSomeAnswersOf, IsMappedBy, IsOldOrMapped}
 
 module _
     {S D T A P R L M : Type 0} {s : data_trait.Ghosts S A} {d : dimension.Ghosts D P R L M} {n : axis_count.Ghosts D} {r : stride_list.Ghosts R} {t : stride_list.Ghosts T}
@@ -14,7 +15,15 @@ module _
   abbrev pub ShowsMapped : (A → B) → ArrayBase S D T A P R L M s d n r t → ArrayBase Z E U B Q X V W z e k x u → Type 0
   ShowsMapped h a b = IsMappedBy h (element_at a) (element_at b)
 
+  -- b has at each index the answer of the call for a's element there, one call for each
+  abbrev pub ShowsAnswers : {F : Type 0} → (F → Option A → B → F → Type 0) → F → ArrayBase S D T A P R L M s d n r t → ArrayBase Z E U B Q X V W z e k x u → Type 0
+  ShowsAnswers answers f a b = HasAnswersOfAll answers (meaning_of a) f (element_at b)
+
 module _ {S D T A P R L M : Type 0} {s : data_trait.Ghosts S A} {d : dimension.Ghosts D P R L M} {n : axis_count.Ghosts D} {r : stride_list.Ghosts R} {t : stride_list.Ghosts T} where
   -- b has at each index a's element, or what h gives of it
   abbrev pub ShowsOldOrMapped : (A → A) → ArrayBase S D T A P R L M s d n r t → ArrayBase S D T A P R L M s d n r t → Type 0
   ShowsOldOrMapped h a b = IsOldOrMapped h (element_at a) (element_at b)
+
+  -- b has at some indexes the answer of the call for a's element there, and a's element at the others
+  abbrev pub ShowsSomeAnswers : {F : Type 0} → (F → Option A → A → F → Type 0) → F → ArrayBase S D T A P R L M s d n r t → ArrayBase S D T A P R L M s d n r t → Type 0
+  ShowsSomeAnswers answers f a b = HasSomeAnswersOf answers (meaning_of a) f (element_at b)

@@ -3,9 +3,7 @@
 
 ghost use Rattle.std.specs.Prelude.{◌≡◌, ◌<◌};
 ghost use Rattle.std.specs.Hash.{on_Alike};
-ghost use Rattle.std.specs.List.{fold, flat_map};
-ghost use Rattle.nd_array_core.specs.Equality.{fed_meaning, meanings_alike};
-ghost use Rattle.nd_storage.specs.Meaning.{row_major_elements};
+ghost use Rattle.nd_array_core.specs.Equality.{FeedsElements, fed_meaning, meanings_alike};
 ghost use Rattle.nd_array_core.specs.Meaning.{meaning_of};
 
 use crate::base::array::ArrayBase;
@@ -18,7 +16,7 @@ use std::hash::{Hash, Hasher};
 fn hash_by_lanes<S: Data, D: Dimension, H: Hasher>(array: &ArrayBase<S, D>, state: &mut H)
 where
     S::Elem: Hash,
-    ensures { state.new ≡ fold H.write state.old (flat_map S.Elem.hash_input (row_major_elements (meaning_of array.now))) }
+    ensures { FeedsElements H.write S.Elem.hash_input (meaning_of array.now) state.old state.new }
 {
     let mut joined = array.layout.copied();
     joined.join_axes();
@@ -29,7 +27,7 @@ where
 fn hash_elements<S: Data, D: Dimension, H: Hasher>(array: &ArrayBase<S, D>, state: &mut H)
 where
     S::Elem: Hash,
-    ensures { state.new ≡ fold H.write state.old (flat_map S.Elem.hash_input (row_major_elements (meaning_of array.now))) }
+    ensures { FeedsElements H.write S.Elem.hash_input (meaning_of array.now) state.old state.new }
 {
     match array.as_slice() {
         Some(xs) => <S::Elem as Hash>::hash_slice(xs, state),

@@ -3,10 +3,10 @@
 
 ghost use Rattle.std.specs.Prelude.{◌≡◌, ◌<◌, ◌≤◌, [], IfOk, vec_len, vec_capacity};
 ghost use Rattle.nd_shape_and_slice.specs.Shape.{size_of};
-ghost use Rattle.nd_storage.specs.FreeOrder.{AskableInAnyOrder, HasAnswers};
-ghost use Rattle.nd_array_core.specs.Meaning.{shape_of, element_at, meaning_of};
+ghost use Rattle.nd_array_core.specs.Meaning.{shape_of, meaning_of};
 ghost use Rattle.nd_array_core.specs.reshape.RunSlices.{IsRunArray};
-ghost use Rattle.nd_storage.specs.elements.Maps.{AnswersElement, MayBeShown, AnswersBy, AnswersAt, TakesAt, AskableOfAll, HasAnswersOfAll, IsMappedBy};
+ghost use Rattle.nd_storage.specs.elements.Maps.{AnswersElement, MayBeShown, AnswersBy, AskableOfAll};
+ghost use Rattle.nd_array_core.specs.elements.ArrayMaps.{ShowsAnswers, ShowsMapped};
 
 use crate::base::array::{Array, ArrayBase};
 use crate::base::from_elem::of_items;
@@ -26,9 +26,9 @@ fn map_in_order<S: Data, D: Dimension, B, F: FnMut(&S::Elem) -> B>(
 ) -> Array<B, D>
     requires empty { (room.items ≡ []) × (vec_len room ≡ 0) }
     requires room { size_of (shape_of array.now) ≤ vec_capacity room }
-    requires callable { AskableInAnyOrder (AnswersAt (AnswersElement F.FnMut) (element_at array.now)) (shape_of array.now) (TakesAt (MayBeShown F.FnMut) (element_at array.now)) f }
+    requires callable { AskableOfAll (AnswersElement F.FnMut) (MayBeShown F.FnMut) (meaning_of array.now) f }
     ensures shape { shape_of result ≡ shape_of array.now }
-    ensures visits { HasAnswers (AnswersAt (AnswersElement F.FnMut) (element_at array.now)) (shape_of array.now) f (element_at result) }
+    ensures visits { ShowsAnswers (AnswersElement F.FnMut) f array.now result }
 {
     let mut joined = array.layout.copied();
     joined.join_axes();
@@ -45,9 +45,9 @@ fn map_run<S: Data, D: Dimension, B, F: FnMut(&S::Elem) -> B>(
     requires run { IsRunArray array.now }
     requires empty { (room.items ≡ []) × (vec_len room ≡ 0) }
     requires room { size_of (shape_of array.now) ≤ vec_capacity room }
-    requires callable { AskableInAnyOrder (AnswersAt (AnswersElement F.FnMut) (element_at array.now)) (shape_of array.now) (TakesAt (MayBeShown F.FnMut) (element_at array.now)) f }
+    requires callable { AskableOfAll (AnswersElement F.FnMut) (MayBeShown F.FnMut) (meaning_of array.now) f }
     ensures shape { shape_of result ≡ shape_of array.now }
-    ensures visits { HasAnswers (AnswersAt (AnswersElement F.FnMut) (element_at array.now)) (shape_of array.now) f (element_at result) }
+    ensures visits { ShowsAnswers (AnswersElement F.FnMut) f array.now result }
 {
     let mut items = room;
     answer_run(&mut items, run_elements(array), f);
@@ -66,8 +66,8 @@ impl<S: Data, D: Dimension> ArrayBase<S, D> {
     ) -> Result<Array<B, D>, NoMemory>
         requires callable { AskableOfAll (AnswersElement F.FnMut) (MayBeShown F.FnMut) (meaning_of self.now) f }
         ensures shape { IfOk result (λ a. shape_of a ≡ shape_of self.now) }
-        ensures visits { IfOk result (λ a. HasAnswersOfAll (AnswersElement F.FnMut) (meaning_of self.now) f (element_at a)) }
-        ensures alike { (h : _) → AnswersBy F.FnMut h f → IfOk result (λ a. IsMappedBy h (element_at self.now) (element_at a)) }
+        ensures visits { IfOk result (ShowsAnswers (AnswersElement F.FnMut) f self.now) }
+        ensures alike { (h : _) → AnswersBy F.FnMut h f → IfOk result (ShowsMapped h self.now) }
     {
         let room = room_of(alloc, self.len())?;
         if is_run(self.layout.dim.slice(), self.layout.strides.slice()) {

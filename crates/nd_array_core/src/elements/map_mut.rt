@@ -8,7 +8,7 @@ ghost use Rattle.nd_storage.specs.elements.MapsMut.{HandableElements, HandsOutEl
 use crate::base::array::{Array, ArrayBase};
 use crate::base::from_elem::of_items;
 use nd_shape_and_slice::{Dimension, NoMemory, Order, StrideList};
-use nd_storage::elements::map_mut::answer_places;
+use nd_storage::elements::map_mut::hand_places;
 use nd_storage::elements::to_vec::room_of;
 use nd_storage::storage::DataMut;
 use std::alloc::Global;
@@ -37,7 +37,7 @@ impl<S: DataMut, D: Dimension> ArrayBase<S, D> {
         let dim = self.raw_dim();
         let mut joined = self.layout.copied();
         joined.join_axes();
-        let (_f, items) = answer_places(room, &mut self.storage, joined.places(), f);
+        let (_f, items) = hand_places(room, &mut self.storage, joined.places(), f);
         Ok(of_items(items, dim, Order::RowMajor))
     }
 }

@@ -3,12 +3,11 @@
 
 ghost use Rattle.std.specs.Prelude.{◌≡◌, ◌<◌, ◌≤◌, [], IfOk, vec_len, vec_capacity};
 ghost use Rattle.nd_shape_and_slice.specs.Shape.{size_of};
-ghost use Rattle.nd_storage.specs.FreeOrder.{AskableInAnyOrder, HasAnswers};
 ghost use Rattle.nd_array_core.specs.Meaning.{shape_of, element_at, meaning_of};
 ghost use Rattle.nd_storage.specs.Clones.{ClonesOfAllAreEqual};
 ghost use Rattle.nd_array_core.specs.reshape.RunSlices.{IsRunArray};
-ghost use Rattle.nd_storage.specs.elements.Maps.{AnswersValue, MayBeGiven, AnswersValuesBy, AnswersAt, TakesAt, AskableOfAll, HasAnswersOfAll};
-ghost use Rattle.nd_array_core.specs.elements.ArrayMaps.{ShowsMapped};
+ghost use Rattle.nd_storage.specs.elements.Maps.{AnswersValue, MayBeGiven, AnswersValuesBy, AskableOfAll};
+ghost use Rattle.nd_array_core.specs.elements.ArrayMaps.{ShowsAnswers, ShowsMapped};
 
 use crate::base::array::{Array, ArrayBase};
 use crate::base::from_elem::of_items;
@@ -31,9 +30,9 @@ where
     requires clones { ClonesOfAllAreEqual S.Elem.is_clone (element_at array.now) }
     requires empty { (room.items ≡ []) × (vec_len room ≡ 0) }
     requires room { size_of (shape_of array.now) ≤ vec_capacity room }
-    requires callable { AskableInAnyOrder (AnswersAt (AnswersValue F.FnMut) (element_at array.now)) (shape_of array.now) (TakesAt (MayBeGiven F.FnMut) (element_at array.now)) f }
+    requires callable { AskableOfAll (AnswersValue F.FnMut) (MayBeGiven F.FnMut) (meaning_of array.now) f }
     ensures shape { IfOk result (λ a. shape_of a ≡ shape_of array.now) }
-    ensures visits { IfOk result (λ a. HasAnswers (AnswersAt (AnswersValue F.FnMut) (element_at array.now)) (shape_of array.now) f (element_at a)) }
+    ensures visits { IfOk result (ShowsAnswers (AnswersValue F.FnMut) f array.now) }
 {
     let mut joined = array.layout.copied();
     joined.join_axes();
@@ -53,9 +52,9 @@ where
     requires clones { ClonesOfAllAreEqual S.Elem.is_clone (element_at array.now) }
     requires empty { (room.items ≡ []) × (vec_len room ≡ 0) }
     requires room { size_of (shape_of array.now) ≤ vec_capacity room }
-    requires callable { AskableInAnyOrder (AnswersAt (AnswersValue F.FnMut) (element_at array.now)) (shape_of array.now) (TakesAt (MayBeGiven F.FnMut) (element_at array.now)) f }
+    requires callable { AskableOfAll (AnswersValue F.FnMut) (MayBeGiven F.FnMut) (meaning_of array.now) f }
     ensures shape { IfOk result (λ a. shape_of a ≡ shape_of array.now) }
-    ensures visits { IfOk result (λ a. HasAnswers (AnswersAt (AnswersValue F.FnMut) (element_at array.now)) (shape_of array.now) f (element_at a)) }
+    ensures visits { IfOk result (ShowsAnswers (AnswersValue F.FnMut) f array.now) }
 {
     let mut items = room;
     let _f = value_run(&mut items, run_elements(array), f)?;
@@ -79,7 +78,7 @@ where
         requires clones { ClonesOfAllAreEqual S.Elem.is_clone (element_at self.now) }
         requires callable { AskableOfAll (AnswersValue F.FnMut) (MayBeGiven F.FnMut) (meaning_of self.now) f }
         ensures shape { IfOk result (λ a. shape_of a ≡ shape_of self.now) }
-        ensures visits { IfOk result (λ a. HasAnswersOfAll (AnswersValue F.FnMut) (meaning_of self.now) f (element_at a)) }
+        ensures visits { IfOk result (ShowsAnswers (AnswersValue F.FnMut) f self.now) }
         ensures alike { (h : _) → AnswersValuesBy F.FnMut h f → IfOk result (ShowsMapped h self.now) }
     {
         let room = room_of(alloc, self.len())?;

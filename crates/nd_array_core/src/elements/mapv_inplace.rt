@@ -5,8 +5,8 @@ ghost use Rattle.std.specs.Prelude.{◌<◌, IfOk, OnOk, OnErr};
 ghost use Rattle.nd_storage.specs.CloneRefusals.{MayRefuseClone};
 ghost use Rattle.nd_storage.specs.Clones.{ClonesOfAllAreEqual};
 ghost use Rattle.nd_array_core.specs.base.Writes.{KeepsFrame};
-ghost use Rattle.nd_storage.specs.elements.Maps.{AnswersValue, MayBeGiven, AnswersValuesBy, AskableOfAll, HasAnswersOfAll, HasSomeAnswersOf};
-ghost use Rattle.nd_array_core.specs.elements.ArrayMaps.{ShowsMapped, ShowsOldOrMapped};
+ghost use Rattle.nd_storage.specs.elements.Maps.{AnswersValue, MayBeGiven, AnswersValuesBy, AskableOfAll};
+ghost use Rattle.nd_array_core.specs.elements.ArrayMaps.{ShowsAnswers, ShowsMapped, ShowsOldOrMapped, ShowsSomeAnswers};
 
 use crate::base::array::ArrayBase;
 use nd_shape_and_slice::{Dimension, NoMemory, StrideList};
@@ -26,9 +26,9 @@ where
     pub fn mapv_inplace<F: FnMut(S::Elem) -> S::Elem>(&mut self, f: F) -> Result<(), NoMemory>
         requires clones { ClonesOfAllAreEqual S.Elem.is_clone (element_at self.old) }
         requires callable { AskableOfAll (AnswersValue F.FnMut) (MayBeGiven F.FnMut) (meaning_of self.old) f }
-        ensures visits { OnOk result (HasAnswersOfAll (AnswersValue F.FnMut) (meaning_of self.old) f (element_at self.new)) }
+        ensures visits { OnOk result (ShowsAnswers (AnswersValue F.FnMut) f self.old self.new) }
         ensures alike { (h : _) → AnswersValuesBy F.FnMut h f → OnOk result (ShowsMapped h self.old self.new) }
-        ensures stopped { OnErr result (HasSomeAnswersOf (AnswersValue F.FnMut) (meaning_of self.old) f (element_at self.new)) }
+        ensures stopped { OnErr result (ShowsSomeAnswers (AnswersValue F.FnMut) f self.old self.new) }
         ensures either { (h : _) → AnswersValuesBy F.FnMut h f → OnErr result (ShowsOldOrMapped h self.old self.new) }
         ensures refused { OnErr result (MayRefuseClone S.Elem.is_infallible (element_at self.old)) }
         ensures frame { KeepsFrame S.frame self.old self.new }
@@ -50,7 +50,7 @@ where
     pub fn mapv_into<F: FnMut(S::Elem) -> S::Elem>(self, f: F) -> Result<Self, NoMemory>
         requires clones { ClonesOfAllAreEqual S.Elem.is_clone (element_at self) }
         requires callable { AskableOfAll (AnswersValue F.FnMut) (MayBeGiven F.FnMut) (meaning_of self) f }
-        ensures visits { IfOk result (λ a. HasAnswersOfAll (AnswersValue F.FnMut) (meaning_of self) f (element_at a)) }
+        ensures visits { IfOk result (ShowsAnswers (AnswersValue F.FnMut) f self) }
         ensures alike { (h : _) → AnswersValuesBy F.FnMut h f → IfOk result (ShowsMapped h self) }
         ensures refused { OnErr result (MayRefuseClone S.Elem.is_infallible (element_at self)) }
         ensures frame { IfOk result (KeepsFrame S.frame self) }

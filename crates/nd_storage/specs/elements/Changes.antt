@@ -55,7 +55,15 @@ module _ {F A : Type 0} (g : Mut F (MutBor A × Unit {0}) (Unit {0} × (MutBor A
   abbrev pub ChangeableInAnyOrder : List ℕ → (List ℕ → Option A) → F → Type 0
   ChangeableInAnyOrder shape old f = CallableInAnyOrder shape (λ p i q. ChangesSomehow (old i) p q) (λ p i. TakesElementMut (old i) p) f
 
--- the elements at numbered places of a storage, one after the other: they may be handed out; they were
+-- the element at a place of a storage: it may be handed out; it was
+module _ {S F A : Type 0} (g : Mut F (MutBor A × Unit {0}) (Unit {0} × (MutBor A × Unit {0}))) (stored : S → ℕ → Option A) (place : ℕ) where
+  abbrev pub MayChangeAt : S → F → Type 0
+  MayChangeAt s first = TakesElementMut g (stored s place) first
+
+  abbrev pub ChangesAt : S → S → F → F → Type 0
+  ChangesAt old new first last = ChangesElement g (stored old place) (stored new place) first last
+
+-- those at numbered places, one after the other
 module _ {S F A : Type 0} (g : Mut F (MutBor A × Unit {0}) (Unit {0} × (MutBor A × Unit {0}))) (stored : S → ℕ → Option A) (at : Numbered) where
   abbrev pub MayChangeEach : S → F → Type 0
   MayChangeEach s first = TakesPlacesMut g (stored s) at.place first at.count

@@ -75,8 +75,8 @@ module _ {S F A B : Type 0} (g : Mut F (Bor A × Unit {0}) B) (stored : S → �
   abbrev pub ShowsEach : F → F → Type 0
   ShowsEach first last = RanNumbered (AnswersElement g) (elements_at stored at s) first at.count last
 
-  abbrev pub PushesEach : {Z : Type 0} → F → Vec B Z → Vec B Z → F → Type 0
-  PushesEach first old new last = AnswersBehind (AnswersElement g) (elements_at stored at s) at.count old.items new.items first last
+  abbrev pub Pushes : {Z : Type 0} → F → Vec B Z → Vec B Z → F → Type 0
+  Pushes first old new last = AnswersBehind (AnswersElement g) (elements_at stored at s) at.count old.items new.items first last
 
   abbrev pub AnswersEach : {Z : Type 0} → F → F × Vec B Z → Type 0
   AnswersEach first last = AnswersBehind (AnswersElement g) (elements_at stored at s) at.count [] last.1.items first last.0

@@ -19,10 +19,6 @@ module _ {F A B : Type 0} (g : Mut F (MutBor A × Unit {0}) (B × (MutBor A × U
   abbrev pub LeavesAndAnswers : F → Option A → A × B → F → Type 0
   LeavesAndAnswers f element out f' = (x : A) × (element ≡ Some x) × CalledAtMut g f x out.1 f' out.0
 
-  -- the same where an element stood and stands
-  abbrev pub HandsElement : Option A → Option A → F → F × B → Type 0
-  HandsElement old new first last = (x : A) × (new ≡ Some x) × LeavesAndAnswers first old (x, last.1) last.0
-
   -- it may be called for an element
   abbrev pub MayBeHanded : F → Option A → Type 0
   MayBeHanded f element = (x : MutBor A) → element ≡ Some x.now → g.pre f (x, tt)
@@ -62,7 +58,15 @@ module _ {F A B : Type 0} (g : Mut F (MutBor A × Unit {0}) (B × (MutBor A × U
   abbrev pub AnswersHandedAlike : F → (List ℕ → Option A) → (List ℕ → Option B) → Type 0
   AnswersHandedAlike f old answers = (h : A → B) → AnswersHandedBy g h f → IsMappedBy h old answers
 
--- the elements at numbered places of a storage, one after the other, with the answers so far: they may be handed out;
+-- the element at a place of a storage: it may be handed out; it was, and this was answered
+module _ {S F A B : Type 0} (g : Mut F (MutBor A × Unit {0}) (B × (MutBor A × Unit {0}))) (stored : S → ℕ → Option A) (place : ℕ) where
+  abbrev pub MayHandAt : S → F → Type 0
+  MayHandAt s first = MayBeHanded g first (stored s place)
+
+  abbrev pub HandsAt : S → S → F → F × B → Type 0
+  HandsAt old new first last = (x : A) × (stored new place ≡ Some x) × LeavesAndAnswers g first (stored old place) (x, last.1) last.0
+
+-- those at numbered places, one after the other, with the answers so far: they may be handed out;
 -- they were, and the answers stand in a vector behind what that had, or in a new one
 module _ {S F A B : Type 0} (g : Mut F (MutBor A × Unit {0}) (B × (MutBor A × Unit {0}))) (stored : S → ℕ → Option A) (at : Numbered) where
   abbrev pub MayHandEach : S → F → List B → Type 0

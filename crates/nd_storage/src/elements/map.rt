@@ -3,7 +3,7 @@
 ghost use Rattle.std.specs.Prelude.{◌≡◌, ◌+◌, ◌≤◌, [], length, pos, slice_get, vec_len, vec_capacity};
 ghost use Rattle.nd_layout.specs.Lanes.{along, ranked};
 ghost use Rattle.nd_storage.specs.NumberedPlaces.{Holds, in_turn};
-ghost use Rattle.nd_storage.specs.elements.Maps.{AnswersEach, MayShowEach, PushesEach};
+ghost use Rattle.nd_storage.specs.elements.Maps.{AnswersEach, MayShowEach, Pushes};
 
 use crate::storage::Data;
 use nd_layout::{Lane, Places};
@@ -13,7 +13,7 @@ use nd_layout::{Lane, Places};
 pub fn answer_run<A, B, F: FnMut(&A) -> B>(items: &mut Vec<B>, xs: &[A], mut f: F) -> F
     requires room { vec_len items.old + length xs.now ≤ vec_capacity items.old }
     requires callable { MayShowEach F.FnMut slice_get (in_turn xs.now) xs.now f }
-    ensures answers { PushesEach F.FnMut slice_get (in_turn xs.now) xs.now f items.old items.new result }
+    ensures pushed { Pushes F.FnMut slice_get (in_turn xs.now) xs.now f items.old items.new result }
     ensures len { vec_len items.new ≡ vec_len items.old + length xs.now }
     ensures room { vec_capacity items.new ≡ vec_capacity items.old }
 {
@@ -33,7 +33,7 @@ fn answer_by_steps<S: Data, B, F: FnMut(&S::Elem) -> B>(
     requires holds { Holds S.stored (along lane) storage.now }
     requires room { vec_len items.old + lane.count ≤ vec_capacity items.old }
     requires callable { MayShowEach F.FnMut S.stored (along lane) storage.now f }
-    ensures answers { PushesEach F.FnMut S.stored (along lane) storage.now f items.old items.new result }
+    ensures pushed { Pushes F.FnMut S.stored (along lane) storage.now f items.old items.new result }
     ensures len { vec_len items.new ≡ vec_len items.old + lane.count }
     ensures room { vec_capacity items.new ≡ vec_capacity items.old }
 {
@@ -56,7 +56,7 @@ fn answer_beside<S: Data, B, F: FnMut(&S::Elem) -> B>(
     requires holds { Holds S.stored (along lane) storage.now }
     requires room { vec_len items.old + lane.count ≤ vec_capacity items.old }
     requires callable { MayShowEach F.FnMut S.stored (along lane) storage.now f }
-    ensures answers { PushesEach F.FnMut S.stored (along lane) storage.now f items.old items.new result }
+    ensures pushed { Pushes F.FnMut S.stored (along lane) storage.now f items.old items.new result }
     ensures len { vec_len items.new ≡ vec_len items.old + lane.count }
     ensures room { vec_capacity items.new ≡ vec_capacity items.old }
 {
@@ -74,7 +74,7 @@ pub fn answer_lane<S: Data, B, F: FnMut(&S::Elem) -> B>(
     requires holds { Holds S.stored (along lane) storage.now }
     requires room { vec_len items.old + lane.count ≤ vec_capacity items.old }
     requires callable { MayShowEach F.FnMut S.stored (along lane) storage.now f }
-    ensures answers { PushesEach F.FnMut S.stored (along lane) storage.now f items.old items.new result }
+    ensures pushed { Pushes F.FnMut S.stored (along lane) storage.now f items.old items.new result }
     ensures len { vec_len items.new ≡ vec_len items.old + lane.count }
     ensures room { vec_capacity items.new ≡ vec_capacity items.old }
 {

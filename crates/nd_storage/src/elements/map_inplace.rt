@@ -3,7 +3,7 @@
 ghost use Rattle.std.specs.Prelude.{◌≡◌, ℕ, IsSome};
 ghost use Rattle.nd_layout.specs.Lanes.{along, ranked};
 ghost use Rattle.nd_storage.specs.NumberedPlaces.{Holds, PlacesDiffer};
-ghost use Rattle.nd_storage.specs.elements.Changes.{ChangesEach, ChangesElement, MayChangeEach, TakesElementMut};
+ghost use Rattle.nd_storage.specs.elements.Changes.{ChangesAt, ChangesEach, MayChangeAt, MayChangeEach};
 
 use crate::storage::DataMut;
 use nd_layout::{Lane, Places};
@@ -11,8 +11,8 @@ use nd_layout::{Lane, Places};
 /// Hands the element at a place to the function, to be written. It returns the function, as the call left it.
 fn change_element<S: DataMut, F: FnMut(&mut S::Elem)>(storage: &mut S, place: usize, mut f: F) -> F
     requires holds { IsSome (S.stored storage.old place) }
-    requires callable { TakesElementMut F.FnMut (S.stored storage.old place) f }
-    ensures called { ChangesElement F.FnMut (S.stored storage.old place) (S.stored storage.new place) f result }
+    requires callable { MayChangeAt F.FnMut S.stored place storage.old f }
+    ensures called { ChangesAt F.FnMut S.stored place storage.old storage.new f result }
     ensures left { (p : ℕ) → (p ≡ place → ⊥) → S.stored storage.new p ≡ S.stored storage.old p }
     ensures frame { S.frame storage.new ≡ S.frame storage.old }
 {

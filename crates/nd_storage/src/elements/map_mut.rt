@@ -3,7 +3,7 @@
 ghost use Rattle.std.specs.Prelude.{◌≡◌, ◌+◌, ◌≤◌, ℕ, [], IsSome, vec_len, vec_capacity};
 ghost use Rattle.nd_layout.specs.Lanes.{along, ranked};
 ghost use Rattle.nd_storage.specs.NumberedPlaces.{Holds, PlacesDiffer};
-ghost use Rattle.nd_storage.specs.elements.MapsMut.{HandsBehind, HandsEach, HandsElement, MayBeHanded, MayHandEach};
+ghost use Rattle.nd_storage.specs.elements.MapsMut.{HandsAt, HandsBehind, HandsEach, MayHandAt, MayHandEach};
 
 use crate::storage::DataMut;
 use nd_layout::{Lane, Places};
@@ -11,14 +11,14 @@ use nd_layout::{Lane, Places};
 /// Hands the element at a place to the function, to be written. It returns the function, as the call left it, and what it
 /// returned.
 #[inline(always)]
-fn answer_for<S: DataMut, B, F: FnMut(&mut S::Elem) -> B>(
+fn hand_element<S: DataMut, B, F: FnMut(&mut S::Elem) -> B>(
     storage: &mut S,
     place: usize,
     mut f: F,
 ) -> (F, B)
     requires holds { IsSome (S.stored storage.old place) }
-    requires callable { MayBeHanded F.FnMut f (S.stored storage.old place) }
-    ensures called { HandsElement F.FnMut (S.stored storage.old place) (S.stored storage.new place) f result }
+    requires callable { MayHandAt F.FnMut S.stored place storage.old f }
+    ensures called { HandsAt F.FnMut S.stored place storage.old storage.new f result }
     ensures left { (p : ℕ) → (p ≡ place → ⊥) → S.stored storage.new p ≡ S.stored storage.old p }
     ensures frame { S.frame storage.new ≡ S.frame storage.old }
 {
@@ -28,7 +28,7 @@ fn answer_for<S: DataMut, B, F: FnMut(&mut S::Elem) -> B>(
 
 /// Hands the elements of a lane to the function, one after the other, and puts what it returns behind what a vector has.
 #[inline(always)]
-fn answer_along<S: DataMut, B, F: FnMut(&mut S::Elem) -> B>(
+fn hand_along<S: DataMut, B, F: FnMut(&mut S::Elem) -> B>(
     items: &mut Vec<B>,
     storage: &mut S,
     lane: Lane,
@@ -45,7 +45,7 @@ fn answer_along<S: DataMut, B, F: FnMut(&mut S::Elem) -> B>(
 {
     let mut now = f;
     for nth in 0..lane.count {
-        let (after, answer) = answer_for(storage, lane.place_of(nth), now);
+        let (after, answer) = hand_element(storage, lane.place_of(nth), now);
         items.push_reserved(answer);
         now = after;
     }
@@ -53,7 +53,7 @@ fn answer_along<S: DataMut, B, F: FnMut(&mut S::Elem) -> B>(
 }
 
 /// The same at the places of a layout, in row-major order of its indexes.
-pub fn answer_places<S: DataMut, B, F: FnMut(&mut S::Elem) -> B>(
+pub fn hand_places<S: DataMut, B, F: FnMut(&mut S::Elem) -> B>(
     room: Vec<B>,
     storage: &mut S,
     places: Places<'_>,
@@ -72,7 +72,7 @@ pub fn answer_places<S: DataMut, B, F: FnMut(&mut S::Elem) -> B>(
     let mut now = f;
     let mut lanes = places.lanes();
     while let Some(lane) = lanes.next() {
-        now = answer_along(&mut items, storage, lane, now);
+        now = hand_along(&mut items, storage, lane, now);
     }
     (now, items)
 }

@@ -20,7 +20,7 @@ pub fn value_run<A: Clone, B, F: FnMut(A) -> B>(
     requires clones { StoredClonesAreEqual A.is_clone xs.now }
     requires room { vec_len items.old + length xs.now ≤ vec_capacity items.old }
     requires callable { MayGiveEach F.FnMut slice_get (in_turn xs.now) xs.now f }
-    ensures answers { IfOk result (PushesValues F.FnMut slice_get (in_turn xs.now) xs.now f items.old items.new) }
+    ensures pushed { IfOk result (PushesValues F.FnMut slice_get (in_turn xs.now) xs.now f items.old items.new) }
     ensures len { IfOk result (λ _. vec_len items.new ≡ vec_len items.old + length xs.now) }
     ensures room { vec_capacity items.new ≡ vec_capacity items.old }
 {
@@ -46,7 +46,7 @@ where
     requires holds { Holds S.stored (along lane) storage.now }
     requires room { vec_len items.old + lane.count ≤ vec_capacity items.old }
     requires callable { MayGiveEach F.FnMut S.stored (along lane) storage.now f }
-    ensures answers { IfOk result (PushesValues F.FnMut S.stored (along lane) storage.now f items.old items.new) }
+    ensures pushed { IfOk result (PushesValues F.FnMut S.stored (along lane) storage.now f items.old items.new) }
     ensures len { IfOk result (λ _. vec_len items.new ≡ vec_len items.old + lane.count) }
     ensures room { vec_capacity items.new ≡ vec_capacity items.old }
 {
@@ -75,7 +75,7 @@ where
     requires holds { Holds S.stored (along lane) storage.now }
     requires room { vec_len items.old + lane.count ≤ vec_capacity items.old }
     requires callable { MayGiveEach F.FnMut S.stored (along lane) storage.now f }
-    ensures answers { IfOk result (PushesValues F.FnMut S.stored (along lane) storage.now f items.old items.new) }
+    ensures pushed { IfOk result (PushesValues F.FnMut S.stored (along lane) storage.now f items.old items.new) }
     ensures len { IfOk result (λ _. vec_len items.new ≡ vec_len items.old + lane.count) }
     ensures room { vec_capacity items.new ≡ vec_capacity items.old }
 {
@@ -96,7 +96,7 @@ where
     requires holds { Holds S.stored (along lane) storage.now }
     requires room { vec_len items.old + lane.count ≤ vec_capacity items.old }
     requires callable { MayGiveEach F.FnMut S.stored (along lane) storage.now f }
-    ensures answers { IfOk result (PushesValues F.FnMut S.stored (along lane) storage.now f items.old items.new) }
+    ensures pushed { IfOk result (PushesValues F.FnMut S.stored (along lane) storage.now f items.old items.new) }
     ensures len { IfOk result (λ _. vec_len items.new ≡ vec_len items.old + lane.count) }
     ensures room { vec_capacity items.new ≡ vec_capacity items.old }
 {

@@ -33,7 +33,7 @@ returns-clause-visits g c =
     let items = c.value_run.new.items.items in
     let down : c.reach_below-below.result ≡ reach_down ns ss = rw (c.slice.ensures.lengths, c.slice-2.ensures) at c.reach_below-below.ensures in
     let seen : (i : List ℕ) → inside ns i (stored_at (slice_get items) (place_of (reach_down ns ss) ss i)) ≡ element_at c.of_run.result i = λ i. (λ k. inside ns i (stored_at (slice_get items) (place_of (sym down k) ss i))) ∙ sym (c.of_run.ensures.elements i) in
-    let empty = subst (λ old. AnswersBehind (AnswersValue g.F.FnMut) (slice_get xs) (length xs) old items c.args.f c.in_ok-_f._f) c.requires.empty.0 c.in_ok-_f.ensures.answers in
+    let empty = subst (λ old. AnswersBehind (AnswersValue g.F.FnMut) (slice_get xs) (length xs) old items c.args.f c.in_ok-_f._f) c.requires.empty.0 c.in_ok-_f.ensures.pushed in
     let answers = subst (λ n. AnswersBehind (AnswersValue g.F.FnMut) (slice_get xs) n [] items c.args.f c.in_ok-_f._f) c.run_elements.ensures.count empty in
     indexes_answered (AnswersValue g.F.FnMut) by.numbered _ (slice_get xs) (run_shows ns ss by xs (element_at array) c.run_elements.ensures.shifted)
     (element_at c.of_run.result) items (λ k below. sym (run_shows ns ss by items (element_at c.of_run.result) seen k below)) c.args.f c.in_ok-_f._f answers

@@ -33,7 +33,7 @@ loop-lane-preserved g c =
       go_on c.args.places lanes c.next.new.self so_far.0 c.in-Some.ensures.over,
       subst (λ r. AnswersBehind (AnswersElement g.F.FnMut) found r [] items.items c.args.f c.answer_lane-now.result) (sym given.1)
           (behind_then (AnswersElement g.F.FnMut) found (elements_at g.S.Data.stored (along lane) c.args.storage.now) lanes.rank lane.count (λ j below. ap (stored_at stored) (lies.places j below))
-          [] c.loop-lane.items.items items.items c.args.f c.loop-lane.now c.answer_lane-now.result so_far.1 c.answer_lane-now.ensures.answers),
+          [] c.loop-lane.items.items items.items c.args.f c.loop-lane.now c.answer_lane-now.result so_far.1 c.answer_lane-now.ensures.pushed),
       (let e = so_far.2 in let l = c.answer_lane-now.ensures.len in let n = given.1 in omega (arith, e, l, n)),
       (let e = so_far.3 in let l = c.answer_lane-now.ensures.room in omega (arith, e, l)),
     )

@@ -22,8 +22,8 @@ value_run-requires-clause-callable g c =
     subst (TakesNumbered (AnswersValue g.F.FnMut) (MayBeGiven g.F.FnMut) (slice_get xs) c.args.f) (sym c.run-run.ensures.count)
     (takes_alike (AnswersValue g.F.FnMut) (MayBeGiven g.F.FnMut) (slice_get xs) (elements_at g.S.Data.stored (along lane) c.args.storage.now) lane.count same c.args.f c.requires.callable)
 
-pub returns-clause-answers : goal.returns-clause-answers
-returns-clause-answers g c =
+pub returns-clause-pushed : goal.returns-clause-pushed
+returns-clause-pushed g c =
     let lane = c.args.lane in
     let stored = g.S.Data.stored c.args.storage.now in
     let xs = c.run-run.result.now in
@@ -32,7 +32,7 @@ returns-clause-answers g c =
     behind_alike (AnswersValue g.F.FnMut) (slice_get xs) (elements_at g.S.Data.stored (along lane) c.args.storage.now) lane.count same c.args.items.now.items c.value_run.new.items.items c.args.f last
     (subst (λ n. AnswersBehind (AnswersValue g.F.FnMut) (slice_get xs) n c.args.items.now.items c.value_run.new.items.items c.args.f last) c.run-run.ensures.count done) in
     IfOk-weaker c.value_run.result (λ last. AnswersBehind (AnswersValue g.F.FnMut) (slice_get xs) (length xs) c.args.items.now.items c.value_run.new.items.items c.args.f last)
-    (λ last. AnswersBehind (AnswersValue g.F.FnMut) (elements_at g.S.Data.stored (along lane) c.args.storage.now) lane.count c.args.items.now.items c.value_run.new.items.items c.args.f last) mapped c.value_run.ensures.answers
+    (λ last. AnswersBehind (AnswersValue g.F.FnMut) (elements_at g.S.Data.stored (along lane) c.args.storage.now) lane.count c.args.items.now.items c.value_run.new.items.items c.args.f last) mapped c.value_run.ensures.pushed
 
 pub value_run-requires-clause-clones : goal.value_run-requires-clause-clones
 value_run-requires-clause-clones g c p x e =

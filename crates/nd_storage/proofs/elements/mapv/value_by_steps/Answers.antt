@@ -29,8 +29,8 @@ loop-nth-preserved g c =
       c.push_reserved.ensures.capacity ∙ so_far.2,
     )
 
-pub returns-clause-answers : goal.returns-clause-answers
-returns-clause-answers g c =
+pub returns-clause-pushed : goal.returns-clause-pushed
+returns-clause-pushed g c =
     let ended = c.loop-nth-test.false in
     let within = c.loop-nth.auto.nth-end in
     let all : c.loop-nth.nth ≡ c.args.lane.count = omega (arith, ended, within) in

@@ -33,7 +33,7 @@ loop-lane-preserved g c =
       go_on c.args.places lanes c.next.new.self so_far.0 c.in-Some.ensures.over,
       subst (λ r. AnswersBehind (AnswersValue g.F.FnMut) found r [] items.items c.args.f c.in-Ok.later) (sym given.1)
           (behind_then (AnswersValue g.F.FnMut) found (elements_at g.S.Data.stored (along lane) c.args.storage.now) lanes.rank lane.count (λ j below. ap (stored_at stored) (lies.places j below))
-          [] c.loop-lane.items.items items.items c.args.f c.loop-lane.now c.in-Ok.later so_far.1 c.in-Ok.ensures.answers),
+          [] c.loop-lane.items.items items.items c.args.f c.loop-lane.now c.in-Ok.later so_far.1 c.in-Ok.ensures.pushed),
       (let e = so_far.2 in let l = c.in-Ok.ensures.len in let n = given.1 in omega (arith, e, l, n)),
       (let e = so_far.3 in let l = c.in-Ok.ensures.room in omega (arith, e, l)),
     )

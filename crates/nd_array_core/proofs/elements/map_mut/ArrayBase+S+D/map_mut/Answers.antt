@@ -18,8 +18,8 @@ use Rattle.nd_storage.proofs.Paired.{others_stay}
 use Rattle.nd_array_core.proofs.elements_lemmas.Handed.{joined_order, collects_taken, handed_answered, handed_there, handed_left, handed_seen}
 use Rattle.nd_array_core.proofs.elements.map_mut.ArrayBase+S+D.map_mut.Goals as goal
 
-pub answer_places-f-requires-clause-apart : goal.answer_places-f-requires-clause-apart
-answer_places-f-requires-clause-apart g c =
+pub hand_places-f-requires-clause-apart : goal.hand_places-f-requires-clause-apart
+hand_places-f-requires-clause-apart g c =
     let array = c.args.self.now in
     let order = c.join_axes.new.self in
     let stored = g.S.Data.stored array.storage in
@@ -32,8 +32,8 @@ answer_places-f-requires-clause-apart g c =
     subst (λ p. PlacesDiffer (by_rank p)) (sym c.places.ensures)
     (ranks_apart array.layout.offset ns ss order.offset ms ts (joined_order ns ss ms ts joined array.layout.offset order.offset from) (λ i j h q same. one_index ns ss array.layout.offset i j array.layout.as_many (array.separated g.met.S.DataMut.alone) h q same))
 
-pub answer_places-f-requires-clause-holds : goal.answer_places-f-requires-clause-holds
-answer_places-f-requires-clause-holds g c =
+pub hand_places-f-requires-clause-holds : goal.hand_places-f-requires-clause-holds
+hand_places-f-requires-clause-holds g c =
     let array = c.args.self.now in
     let order = c.join_axes.new.self in
     let stored = g.S.Data.stored array.storage in
@@ -45,9 +45,9 @@ answer_places-f-requires-clause-holds g c =
     let from = c.join_axes.ensures.offset ∙ c.copied-joined.ensures.offset in
     subst (λ p. Holds g.S.Data.stored (by_rank p) array.storage) (sym c.places.ensures) (joined_has stored array.layout.offset ns ss order.offset ms ts from joined array.inside)
 
-pub answer_places-f-requires-clause-callable : goal.answer_places-f-requires-clause-callable
+pub hand_places-f-requires-clause-callable : goal.hand_places-f-requires-clause-callable
 unfolding meaning_of
-answer_places-f-requires-clause-callable g c =
+hand_places-f-requires-clause-callable g c =
     let array = c.args.self.now in
     let order = c.join_axes.new.self in
     let stored = g.S.Data.stored array.storage in
@@ -73,12 +73,12 @@ invariant_of-self g c =
     let ts = g.D.Strides.StrideList.strides_of order.strides in
     let joined = rw (c.copied-joined.ensures.lengths, c.copied-joined.ensures.strides) at c.join_axes.ensures.joined in
     let from = c.join_axes.ensures.offset ∙ c.copied-joined.ensures.offset in
-    let new = g.S.Data.stored c.answer_places-f.new.storage in
-    let items = c.answer_places-f.result.1.items in
-    let handed = subst (λ p. HandsEach g.F.FnMut g.S.Data.stored (by_rank p) array.storage c.answer_places-f.new.storage c.args.f c.answer_places-f.result) c.places.ensures c.answer_places-f.ensures.handed in
+    let new = g.S.Data.stored c.hand_places-f.new.storage in
+    let items = c.hand_places-f.result.1.items in
+    let handed = subst (λ p. HandsEach g.F.FnMut g.S.Data.stored (by_rank p) array.storage c.hand_places-f.new.storage c.args.f c.hand_places-f.result) c.places.ensures c.hand_places-f.ensures.handed in
     record {
       inside = λ i inbox. rw inbox at (handed_there (LeavesAndAnswers g.F.FnMut) (joined_numbers ns ss ms ts joined) (by_rank (placement_of order)).place stored new (λ i. inside ns i (stored_at stored (place_of array.layout.offset ss i))) (λ i. inside ns i (stored_at new (place_of array.layout.offset ss i)))
-          (joined_there ns ss ms ts joined stored array.layout.offset order.offset from) (joined_there ns ss ms ts joined new array.layout.offset order.offset from) c.args.f c.answer_places-f.result.0 items handed i inbox);
+          (joined_there ns ss ms ts joined stored array.layout.offset order.offset from) (joined_there ns ss ms ts joined new array.layout.offset order.offset from) c.args.f c.hand_places-f.result.0 items handed i inbox);
       separated = array.separated;
     }
 
@@ -94,10 +94,10 @@ returns-clause-frame g c =
     let ts = g.D.Strides.StrideList.strides_of order.strides in
     let joined = rw (c.copied-joined.ensures.lengths, c.copied-joined.ensures.strides) at c.join_axes.ensures.joined in
     let from = c.join_axes.ensures.offset ∙ c.copied-joined.ensures.offset in
-    let new = g.S.Data.stored c.answer_places-f.new.storage in
-    let items = c.answer_places-f.result.1.items in
-    let handed = subst (λ p. HandsEach g.F.FnMut g.S.Data.stored (by_rank p) array.storage c.answer_places-f.new.storage c.args.f c.answer_places-f.result) c.places.ensures c.answer_places-f.ensures.handed in
-    (refl, refl, (λ i. refl), others_stay array.layout.offset ns ss order.offset ms ts (joined_order ns ss ms ts joined array.layout.offset order.offset from) stored new handed.left, c.answer_places-f.ensures.frame, refl)
+    let new = g.S.Data.stored c.hand_places-f.new.storage in
+    let items = c.hand_places-f.result.1.items in
+    let handed = subst (λ p. HandsEach g.F.FnMut g.S.Data.stored (by_rank p) array.storage c.hand_places-f.new.storage c.args.f c.hand_places-f.result) c.places.ensures c.hand_places-f.ensures.handed in
+    (refl, refl, (λ i. refl), others_stay array.layout.offset ns ss order.offset ms ts (joined_order ns ss ms ts joined array.layout.offset order.offset from) stored new handed.left, c.hand_places-f.ensures.frame, refl)
 
 pub returns-clause-visits : goal.returns-clause-visits
 unfolding meaning_of
@@ -111,12 +111,12 @@ returns-clause-visits g c =
     let ts = g.D.Strides.StrideList.strides_of order.strides in
     let joined = rw (c.copied-joined.ensures.lengths, c.copied-joined.ensures.strides) at c.join_axes.ensures.joined in
     let from = c.join_axes.ensures.offset ∙ c.copied-joined.ensures.offset in
-    let new = g.S.Data.stored c.answer_places-f.new.storage in
-    let items = c.answer_places-f.result.1.items in
-    let handed = subst (λ p. HandsEach g.F.FnMut g.S.Data.stored (by_rank p) array.storage c.answer_places-f.new.storage c.args.f c.answer_places-f.result) c.places.ensures c.answer_places-f.ensures.handed in
+    let new = g.S.Data.stored c.hand_places-f.new.storage in
+    let items = c.hand_places-f.result.1.items in
+    let handed = subst (λ p. HandsEach g.F.FnMut g.S.Data.stored (by_rank p) array.storage c.hand_places-f.new.storage c.args.f c.hand_places-f.result) c.places.ensures c.hand_places-f.ensures.handed in
     let seen : (i : List ℕ) → element_at c.of_items.result i ≡ found_by_rank (ns, RowMajor) items i = λ i. c.of_items.ensures.owns.4 i ∙ (λ k. found_by_rank (c.raw_dim-dim.ensures k, RowMajor) (c.of_items.ensures.stored k) i) in
     handed_answered (LeavesAndAnswers g.F.FnMut) (joined_numbers ns ss ms ts joined) (by_rank (placement_of order)).place stored new _ (λ i. inside ns i (stored_at new (place_of array.layout.offset ss i)))
-    (joined_there ns ss ms ts joined stored array.layout.offset order.offset from) (joined_there ns ss ms ts joined new array.layout.offset order.offset from) c.args.f c.answer_places-f.result.0 items handed
+    (joined_there ns ss ms ts joined stored array.layout.offset order.offset from) (joined_there ns ss ms ts joined new array.layout.offset order.offset from) c.args.f c.hand_places-f.result.0 items handed
     (element_at c.of_items.result) (λ k below. seen (index_at ns k) ∙ joined_shows ns ss ms ts joined items k below)
 
 pub returns-clause-alike : goal.returns-clause-alike
@@ -131,7 +131,7 @@ returns-clause-alike g c h by =
     let ts = g.D.Strides.StrideList.strides_of order.strides in
     let joined = rw (c.copied-joined.ensures.lengths, c.copied-joined.ensures.strides) at c.join_axes.ensures.joined in
     let from = c.join_axes.ensures.offset ∙ c.copied-joined.ensures.offset in
-    let new = g.S.Data.stored c.answer_places-f.new.storage in
+    let new = g.S.Data.stored c.hand_places-f.new.storage in
     handed_left g.F.FnMut ns (λ i. inside ns i (stored_at stored (place_of array.layout.offset ss i))) (λ i. inside ns i (stored_at new (place_of array.layout.offset ss i))) (element_at c.of_items.result) c.args.f (λ i out. rw out refl) (returns-clause-visits g c) h by (λ i out. rw out refl)
 
 pub returns-clause-answered : goal.returns-clause-answered
@@ -146,7 +146,7 @@ returns-clause-answered g c h by =
     let ts = g.D.Strides.StrideList.strides_of order.strides in
     let joined = rw (c.copied-joined.ensures.lengths, c.copied-joined.ensures.strides) at c.join_axes.ensures.joined in
     let from = c.join_axes.ensures.offset ∙ c.copied-joined.ensures.offset in
-    let new = g.S.Data.stored c.answer_places-f.new.storage in
-    let items = c.answer_places-f.result.1.items in
+    let new = g.S.Data.stored c.hand_places-f.new.storage in
+    let items = c.hand_places-f.result.1.items in
     let seen : (i : List ℕ) → element_at c.of_items.result i ≡ found_by_rank (ns, RowMajor) items i = λ i. c.of_items.ensures.owns.4 i ∙ (λ k. found_by_rank (c.raw_dim-dim.ensures k, RowMajor) (c.of_items.ensures.stored k) i) in
     handed_seen g.F.FnMut ns (λ i. inside ns i (stored_at stored (place_of array.layout.offset ss i))) (λ i. inside ns i (stored_at new (place_of array.layout.offset ss i))) (element_at c.of_items.result) c.args.f (λ i out. rw out refl) (returns-clause-visits g c) h by (λ i out. seen i ∙ (rw out refl))

@@ -3,7 +3,7 @@ use Rattle.nd_layout.specs.Lanes.{ranked, AreLanesOf}
 use Rattle.nd_storage.specs.elements.Changes.{IsChangedBy}
 use Rattle.nd_storage.specs.elements.Maps.{Replaces}
 use Rattle.nd_storage.specs.elements.MapsMut.{LeavesAndAnswers, Collects}
-use Rattle.nd_storage.proofs.elements.map_mut.answer_places.Given as goal
+use Rattle.nd_storage.proofs.elements.map_mut.hand_places.Given as goal
 
 abbrev pub invariant-loop-lane : goal.invariant-loop-lane
 invariant-loop-lane g l =

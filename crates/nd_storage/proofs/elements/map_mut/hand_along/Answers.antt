@@ -6,10 +6,10 @@ use Rattle.nd_storage.specs.elements.Maps.{Replaces}
 use Rattle.nd_storage.specs.elements.MapsMut.{LeavesAndAnswers, Collects}
 use Rattle.nd_storage.proofs.Changed.{changed_more}
 use Rattle.nd_storage.proofs.Replaced.{replaced_ran, still_next}
-use Rattle.nd_storage.proofs.elements.map_mut.answer_along.Goals as goal
+use Rattle.nd_storage.proofs.elements.map_mut.hand_along.Goals as goal
 
-pub answer_for-after-requires-clause-callable : goal.answer_for-after-requires-clause-callable
-answer_for-after-requires-clause-callable g c x is =
+pub hand_element-after-requires-clause-callable : goal.hand_element-after-requires-clause-callable
+hand_element-after-requires-clause-callable g c x is =
     let lane = c.args.lane in
     let place = (along lane).place in
     let old = g.S.Data.stored c.args.storage.now in
@@ -27,18 +27,18 @@ loop-nth-preserved g c =
     let place = (along lane).place in
     let old = g.S.Data.stored c.args.storage.now in
     let now = g.S.Data.stored c.loop-nth.storage in
-    let new = g.S.Data.stored c.answer_for-after.new.storage in
+    let new = g.S.Data.stored c.hand_element-after.new.storage in
     let k = c.loop-nth.nth in
     let so_far = c.loop-nth.invariant in
-    let step = c.answer_for-after.ensures.called in
+    let step = c.hand_element-after.ensures.called in
     let len = so_far.1 in
     let more = c.push_reserved.ensures.len in (
       changed_more (Replaces (Collects (LeavesAndAnswers g.F.FnMut))) place k lane.count c.place_of.result c.loop-nth-test.true c.requires.apart c.place_of.ensures old now new
-          (c.args.f, c.args.items.now.items) (c.loop-nth.now, c.loop-nth.items.items) (c.answer_for-after.result.0, c.push_reserved.new.self.items) so_far.0
-          (step.0, step.1, (c.answer_for-after.result.1, c.push_reserved.ensures.items, step.2)) c.answer_for-after.ensures.left,
+          (c.args.f, c.args.items.now.items) (c.loop-nth.now, c.loop-nth.items.items) (c.hand_element-after.result.0, c.push_reserved.new.self.items) so_far.0
+          (step.0, step.1, (c.hand_element-after.result.1, c.push_reserved.ensures.items, step.2)) c.hand_element-after.ensures.left,
       omega (arith, len, more),
       c.push_reserved.ensures.capacity ∙ so_far.2,
-      c.answer_for-after.ensures.frame ∙ so_far.3,
+      c.hand_element-after.ensures.frame ∙ so_far.3,
     )
 
 pub returns-clause-handed : goal.returns-clause-handed

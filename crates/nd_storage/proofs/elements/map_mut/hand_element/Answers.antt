@@ -2,7 +2,7 @@ use Rattle.std.proofs.Common.{Some, refl, ap, ◌∙◌}
 use Rattle.std.specs.Prelude.{if◌then◌else◌}
 use Rattle.std.specs.Cmp.{unsigned_Decides}
 use denote.MutBor.{at_last}
-use Rattle.nd_storage.proofs.elements.map_mut.answer_for.Goals as goal
+use Rattle.nd_storage.proofs.elements.map_mut.hand_element.Goals as goal
 
 pub returns-clause-called : goal.returns-clause-called
 returns-clause-called g c =

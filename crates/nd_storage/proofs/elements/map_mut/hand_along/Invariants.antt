@@ -3,7 +3,7 @@ use Rattle.nd_layout.specs.Lanes.{along}
 use Rattle.nd_storage.specs.elements.Changes.{IsChangedBy}
 use Rattle.nd_storage.specs.elements.Maps.{Replaces}
 use Rattle.nd_storage.specs.elements.MapsMut.{LeavesAndAnswers, Collects}
-use Rattle.nd_storage.proofs.elements.map_mut.answer_along.Given as goal
+use Rattle.nd_storage.proofs.elements.map_mut.hand_along.Given as goal
 
 abbrev pub invariant-loop-nth : goal.invariant-loop-nth
 invariant-loop-nth g l =
