@@ -8,7 +8,7 @@ ghost use Rattle.nd_storage.specs.CloneRefusals.{MayRefuseClonesOf};
 ghost use Rattle.nd_storage.specs.Writes.{IsOldOrNew};
 
 use crate::base::array::ArrayBase;
-use nd_shape_and_slice::{Dimension, NoMemory, StrideList};
+use nd_shape_and_slice::{Dimension, NoMemory};
 use nd_storage::elements::fill::fill_places;
 use nd_storage::storage::DataMut;
 

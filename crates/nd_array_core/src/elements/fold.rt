@@ -7,7 +7,7 @@ ghost use Rattle.nd_storage.specs.Meaning.{row_major_elements};
 ghost use Rattle.nd_storage.specs.elements.Folds.{FoldsAll, FoldableInAnyOrder, FoldsAlike};
 
 use crate::base::array::ArrayBase;
-use nd_shape_and_slice::{Dimension, StrideList};
+use nd_shape_and_slice::Dimension;
 use nd_storage::elements::fold::fold_places;
 use nd_storage::storage::Data;
 

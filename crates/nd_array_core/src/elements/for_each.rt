@@ -5,7 +5,7 @@ ghost use Rattle.std.specs.Prelude.{◌<◌};
 ghost use Rattle.nd_storage.specs.elements.Maps.{AnswersElement, MayBeShown, AskableOfAll, VisitsAll};
 
 use crate::base::array::ArrayBase;
-use nd_shape_and_slice::{Dimension, StrideList};
+use nd_shape_and_slice::Dimension;
 use nd_storage::elements::for_each::show_places;
 use nd_storage::storage::Data;
 

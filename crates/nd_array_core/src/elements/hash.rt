@@ -1,13 +1,13 @@
 //! The hash of arrays.
 #![tactic(auto, unfolding(crate::specs::Meaning::meaning_of, crate::specs::Meaning::memory_layout_of))]
 
-ghost use Rattle.std.specs.Prelude.{◌≡◌, ◌<◌};
+ghost use Rattle.std.specs.Prelude.{◌<◌};
 ghost use Rattle.std.specs.Hash.{on_Alike};
 ghost use Rattle.nd_array_core.specs.Equality.{FeedsElements, fed_meaning, meanings_alike};
 ghost use Rattle.nd_array_core.specs.Meaning.{meaning_of};
 
 use crate::base::array::ArrayBase;
-use nd_shape_and_slice::{Dimension, StrideList};
+use nd_shape_and_slice::Dimension;
 use nd_storage::elements::hash::hash_places;
 use nd_storage::storage::Data;
 use std::hash::{Hash, Hasher};

@@ -6,7 +6,7 @@ ghost use Rattle.nd_array_core.specs.base.Writes.{KeepsFrame};
 ghost use Rattle.nd_storage.specs.elements.Changes.{ChangesAll, ChangeableInAnyOrder, ChangesAlike};
 
 use crate::base::array::ArrayBase;
-use nd_shape_and_slice::{Dimension, StrideList};
+use nd_shape_and_slice::Dimension;
 use nd_storage::elements::map_inplace::change_places;
 use nd_storage::storage::DataMut;
 

@@ -7,7 +7,7 @@ ghost use Rattle.nd_storage.specs.elements.MapsMut.{HandableElements, HandsOutEl
 
 use crate::base::array::{Array, ArrayBase};
 use crate::base::from_elem::of_items;
-use nd_shape_and_slice::{Dimension, NoMemory, Order, StrideList};
+use nd_shape_and_slice::{Dimension, NoMemory, Order};
 use nd_storage::elements::map_mut::hand_places;
 use nd_storage::elements::to_vec::room_of;
 use nd_storage::storage::DataMut;

@@ -9,7 +9,7 @@ ghost use Rattle.nd_storage.specs.elements.Maps.{AnswersValue, MayBeGiven, Answe
 ghost use Rattle.nd_array_core.specs.elements.ArrayMaps.{ShowsAnswers, ShowsMapped, ShowsOldOrMapped, ShowsSomeAnswers};
 
 use crate::base::array::ArrayBase;
-use nd_shape_and_slice::{Dimension, NoMemory, StrideList};
+use nd_shape_and_slice::{Dimension, NoMemory};
 use nd_storage::elements::mapv_inplace::replace_places;
 use nd_storage::storage::DataMut;
 
