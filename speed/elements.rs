@@ -1,6 +1,5 @@
 //! Times calls over all elements of 1000 rows of 1000, beside the same loops in plain Rust: prints a line for each call,
-//! with who made it and the microseconds of one call. All memory, plain Rust's too, is malloc's. With `orders` it times calls
-//! over two arrays in any two orders alone.
+//! with who made it and the microseconds of one call. All memory, plain Rust's too, is malloc's.
 //!
 //! A row is added by an export in crates/nd_speed, its declaration and a line here, and the nearest call of numpy in
 //! elements.py.
@@ -8,24 +7,15 @@
 mod along;
 mod elementwise;
 mod joins;
-mod orders;
+mod runtime;
 
+use runtime::microseconds;
 use std::hint::black_box;
 
 const ROWS: usize = 1000;
 const COLUMNS: usize = 1000;
 
-#[repr(C)]
-struct TimeSpec {
-    seconds: i64,
-    nanoseconds: i64,
-}
-
-const PROCESS_CPU_TIME: i32 = 2;
-
 unsafe extern "C" {
-    fn clock_gettime(clock: i32, time: *mut TimeSpec) -> i32;
-
     fn nd_speed_fill(
         items: *mut u64,
         count: usize,
@@ -104,52 +94,6 @@ unsafe extern "C" {
         reversed: bool,
         calls: usize,
     ) -> u64;
-}
-
-/// What the library's allocator answers: whether there was memory, and where.
-#[repr(C)]
-struct Tried {
-    ok: bool,
-    place: *mut u8,
-}
-
-unsafe extern "C" {
-    fn malloc(size: usize) -> *mut u8;
-    fn realloc(block: *mut u8, size: usize) -> *mut u8;
-    fn free(block: *mut u8);
-}
-
-#[unsafe(no_mangle)]
-unsafe extern "C" fn rattle_alloc(size: usize, _align: usize) -> Tried {
-    let place = unsafe { malloc(size) };
-    Tried {
-        ok: !place.is_null(),
-        place,
-    }
-}
-
-#[unsafe(no_mangle)]
-unsafe extern "C" fn rattle_realloc(block: *mut u8, _kept: usize, size: usize, _align: usize) -> Tried {
-    let place = unsafe { realloc(block, size) };
-    Tried {
-        ok: !place.is_null(),
-        place,
-    }
-}
-
-#[unsafe(no_mangle)]
-unsafe extern "C" fn rattle_dealloc(block: *mut u8) {
-    unsafe { free(block) }
-}
-
-/// The processor time of this process, which other work on the machine doesn't lengthen much.
-fn microseconds() -> f64 {
-    let mut time = TimeSpec {
-        seconds: 0,
-        nanoseconds: 0,
-    };
-    unsafe { clock_gettime(PROCESS_CPU_TIME, &mut time) };
-    time.seconds as f64 * 1e6 + time.nanoseconds as f64 / 1e3
 }
 
 /// The microseconds of one call.
@@ -383,9 +327,6 @@ fn symmetric<A>(element: fn(usize) -> A) -> Vec<A> {
 }
 
 fn main() {
-    if std::env::args().nth(1).as_deref() == Some("orders") {
-        return orders::rows();
-    }
     fills("u64", &mut vec![0; ROWS * COLUMNS], |call| call as u64, nd_speed_fill);
     fills("u8", &mut vec![0; ROWS * COLUMNS], |call| call as u8, nd_speed_fill_bytes);
     owned();

@@ -12,14 +12,14 @@ unsafe extern "C" {
     fn nd_speed_map_bytes(items: *const u8, count: usize, lengths: *const usize, ndim: usize, case: usize, calls: usize) -> u64;
     fn nd_speed_map_inplace(items: *mut i64, count: usize, lengths: *const usize, ndim: usize, case: usize, calls: usize) -> u64;
     fn nd_speed_map_inplace_bytes(items: *mut u8, count: usize, lengths: *const usize, ndim: usize, case: usize, calls: usize) -> u64;
-    pub fn nd_speed_zip(left: *mut i64, left_count: usize, right: *const i64, right_count: usize, lengths: *const usize, ndim: usize, turned: bool, case: usize, calls: usize) -> u64;
-    pub fn nd_speed_zip_bytes(left: *mut u8, left_count: usize, right: *const u8, right_count: usize, lengths: *const usize, ndim: usize, turned: bool, case: usize, calls: usize) -> u64;
-    pub fn nd_speed_assign(left: *mut i64, left_count: usize, right: *const i64, right_count: usize, lengths: *const usize, ndim: usize, turned: bool, case: usize, calls: usize) -> u64;
-    pub fn nd_speed_assign_bytes(left: *mut u8, left_count: usize, right: *const u8, right_count: usize, lengths: *const usize, ndim: usize, turned: bool, case: usize, calls: usize) -> u64;
+    fn nd_speed_zip(left: *mut i64, left_count: usize, right: *const i64, right_count: usize, lengths: *const usize, ndim: usize, turned: bool, case: usize, calls: usize) -> u64;
+    fn nd_speed_zip_bytes(left: *mut u8, left_count: usize, right: *const u8, right_count: usize, lengths: *const usize, ndim: usize, turned: bool, case: usize, calls: usize) -> u64;
+    fn nd_speed_assign(left: *mut i64, left_count: usize, right: *const i64, right_count: usize, lengths: *const usize, ndim: usize, turned: bool, case: usize, calls: usize) -> u64;
+    fn nd_speed_assign_bytes(left: *mut u8, left_count: usize, right: *const u8, right_count: usize, lengths: *const usize, ndim: usize, turned: bool, case: usize, calls: usize) -> u64;
     fn nd_speed_select(items: *const i64, count: usize, lengths: *const usize, ndim: usize, rows: *const usize, row_count: usize, calls: usize) -> u64;
 }
 
-pub type OfTwo<A> = unsafe extern "C" fn(*mut A, usize, *const A, usize, *const usize, usize, bool, usize, usize) -> u64;
+type OfTwo<A> = unsafe extern "C" fn(*mut A, usize, *const A, usize, *const usize, usize, bool, usize, usize) -> u64;
 type OfPart<A> = unsafe extern "C" fn(*const A, usize, *const usize, usize, usize, usize) -> u64;
 type OfPartToWrite<A> = unsafe extern "C" fn(*mut A, usize, *const usize, usize, usize, usize) -> u64;
 

@@ -1,47 +1,255 @@
-"""Prints one markdown table of microseconds a call over two square arrays in any two orders, each beside plain Rust's and
-numpy's, from the driver given as an argument."""
+"""Times calls over one or two arrays whose axes lie in memory in any order, each by this library, by the best of some plain loops
+in Rust, by numpy and, where it is given, by xtensor: all in one process, over the same memory, in turns.
 
-import subprocess
-import sys
+    orders.py LIBRARY [--xtensor LIBRARY] [--quick] [--table FILE] [--picture FILE]
+
+Writes the whole table and the rows that miss the aims to the one file, a picture of the ratios to the other, and prints a table of
+few rows.
+"""
+
+import argparse
+import ctypes
+import itertools
 import time
-import timeit
+from dataclasses import dataclass, field
 
 import numpy
 
-ROUNDS = 3
-CALLS = {"assign": "a[...] = b", "zip_mut_with": "numpy.add(a, b, out=a)"}
+from orders_picture import drawn
+
 KINDS = {"i64": numpy.int64, "u8": numpy.uint8}
+FORMS = ["slices", "lanes of the left", "lanes of the right", "parts, left", "parts, right"]
+LARGE = 1000  # From this side on numpy is not to be faster.
+
+# What numpy writes for a call.
+CALLS = {
+    "assign": lambda a, b: a.__setitem__(..., b),
+    "zip_mut_with": lambda a, b: numpy.add(a, b, out=a),
+    "==": numpy.array_equal,
+    "to_owned": lambda a, b: b.copy(order="K"),
+    "to_vec": lambda a, b: b.flatten(),
+}
+PAIRS = ["assign", "zip_mut_with", "=="]
+COPIES = ["to_owned", "to_vec"]
 
 
-def of_numpy(name):
-    """The microseconds of numpy's nearest call."""
-    call, orders, side = name.split(", ")
-    verb, kind = (word.strip("`") for word in call.split(" of "))
-    side = int(side)
-    left, right = (numpy.ones((side, side), dtype=KINDS[kind], order=order) for order in orders.split(" from "))
-    number = max(2, min(2000, 4_000_000 // side**2))
-    timer = timeit.Timer(CALLS[verb], globals={"a": left, "b": right, "numpy": numpy}, timer=time.process_time)
-    return min(timer.repeat(10, number)) / number * 1e6
+class Side(ctypes.Structure):
+    _fields_ = [
+        ("items", ctypes.c_void_p),
+        ("count", ctypes.c_size_t),
+        ("lengths", ctypes.c_size_t * 3),
+        ("order", ctypes.c_size_t * 3),
+        ("backwards", ctypes.c_bool),
+    ]
+
+
+class Case(ctypes.Structure):
+    _fields_ = [
+        ("call", ctypes.c_size_t),
+        ("axes", ctypes.c_size_t),
+        ("bytes", ctypes.c_bool),
+        ("left", Side),
+        ("right", Side),
+    ]
+
+
+@dataclass(frozen=True)
+class Order:
+    """The axes as they lie in memory, the nearest one last; and whether each has every second coordinate, from the last one back."""
+
+    name: str
+    axes: tuple
+    backwards: bool = False
+
+    def stored(self, shape):
+        return tuple(shape[axis] * (2 if self.backwards else 1) for axis in self.axes)
+
+    def order(self):
+        return tuple(self.axes.index(axis) for axis in range(len(self.axes)))
+
+    def side(self, items, shape):
+        stored, order = self.stored(shape), self.order()
+        missing = (0,) * (3 - len(shape))
+        count = int(numpy.prod(stored))
+        return Side(items.ctypes.data, count, (ctypes.c_size_t * 3)(*stored, *missing), (ctypes.c_size_t * 3)(*order, *missing), self.backwards)
+
+    def view(self, items, shape):
+        stored = self.stored(shape)
+        view = items[: numpy.prod(stored)].reshape(stored).transpose(self.order())
+        return view[tuple([slice(None, None, -2)] * len(shape))] if self.backwards else view
+
+
+C, F, BACK = Order("C", (0, 1)), Order("F", (1, 0)), Order("back", (0, 1), True)
+CUBES = [Order("".join(map(str, axes)), axes) for axes in itertools.permutations(range(3))]
+
+
+@dataclass
+class Row:
+    call: str
+    kind: str
+    shape: tuple
+    left: Order
+    right: Order
+    times: dict = field(default_factory=dict)
+    form: int = 0
+
+    def orders(self):
+        return self.right.name if self.call in COPIES else f"{self.left.name} from {self.right.name}"
+
+    def over(self, who):
+        return self.times["here"] / self.times[who] if who in self.times else None
+
+    def misses(self):
+        """What the row aims at and misses: 1.1 of plain Rust where places are consecutive and 1.3 elsewhere, 1.0 of numpy from LARGE up."""
+        most = 1.1 if self.form == 0 else 1.3
+        if self.over("plain") >= most + 0.005:
+            yield f"{self.over('plain'):.2f} of plain Rust, not {most}"
+        if max(self.shape) >= LARGE or len(self.shape) > 2:
+            if self.over("numpy") >= 1.005:
+                yield f"{self.over('numpy'):.2f} of numpy"
+
+
+def rows(quick):
+    sides = [100, 1000, 2048] if quick else [10, 100, 1000, 2048, 4096]
+    for kind in KINDS:
+        for side in sides:
+            for call, left, right in itertools.product(PAIRS, [C, F, BACK], [C, F, BACK]):
+                yield Row(call, kind, (side, side), left, right)
+            for call, order in itertools.product(COPIES, [C, F, BACK]):
+                yield Row(call, kind, (side, side), C, order)
+        first, others = CUBES[0], CUBES[1:]
+        pairs = [(first, order) for order in CUBES] + [(order, first) for order in others]
+        for call, (left, right) in itertools.product(PAIRS, pairs):
+            yield Row(call, kind, (200, 200, 200), left, right)
+        for call, order in itertools.product(COPIES, CUBES):
+            yield Row(call, kind, (200, 200, 200), first, order)
+        for shape in [(4, 1_000_000), (1_000_000, 4)]:
+            for call, left, right in itertools.product(PAIRS, [C, F], [C, F]):
+                yield Row(call, kind, shape, left, right)
+            for call, order in itertools.product(COPIES, [C, F]):
+                yield Row(call, kind, shape, C, order)
+
+
+class Bench:
+    def __init__(self, library, xtensor):
+        self.lib = ctypes.CDLL(library)
+        self.lib.orders_has_form.restype = ctypes.c_bool
+        self.xtensor = xtensor and ctypes.CDLL(xtensor)
+        for function in [self.lib.orders_here, self.lib.orders_plain] + ([self.xtensor.orders_xtensor] if xtensor else []):
+            function.restype = ctypes.c_double
+        self.items = {}
+
+    def memory(self, kind, count):
+        """The memory of both sides, made anew where more is wanted. All elements are 1, so that any two arrays are equal."""
+        if kind not in self.items or self.items[kind][0].size < count:
+            self.items = {kind: [numpy.ones(count, dtype=KINDS[kind]) for _ in range(2)]}
+        return self.items[kind]
+
+    def measure(self, row, budget):
+        """The least times of a call by each, in turns until the budget of seconds is spent."""
+        count = max(int(numpy.prod(order.stored(row.shape))) for order in [row.left, row.right])
+        left, right = self.memory(row.kind, count)
+        left[:count] = 1
+        sides = row.left.side(left, row.shape), row.right.side(right, row.shape)
+        case = Case(list(CALLS).index(row.call), len(row.shape), row.kind == "u8", *sides)
+        a, b = row.left.view(left, row.shape), row.right.view(right, row.shape)
+        here = lambda calls: self.lib.orders_here(ctypes.byref(case), ctypes.c_size_t(calls))
+        plain = lambda form: lambda calls: self.lib.orders_plain(ctypes.byref(case), ctypes.c_size_t(form), ctypes.c_size_t(calls))
+        calls = max(1, min(20_000, int(1000 / min(here(1) for _ in range(3)))))
+        forms = [form for form in range(len(FORMS)) if self.lib.orders_has_form(ctypes.byref(case), ctypes.c_size_t(form))]
+        row.form = min(forms, key=lambda form: min(plain(form)(calls) for _ in range(3))) if len(forms) > 1 else forms[0]
+        makers = {"here": here, "plain": plain(row.form), "numpy": lambda calls: of_numpy(CALLS[row.call], a, b, calls)}
+        if self.xtensor:
+            makers["xtensor"] = lambda calls: self.xtensor.orders_xtensor(ctypes.byref(case), ctypes.c_size_t(calls))
+        start, turn = time.monotonic(), 0
+        while turn < 4 or (turn < 40 and time.monotonic() - start < budget):
+            for who, maker in makers.items():
+                if who != "xtensor" or turn < 4:
+                    row.times[who] = min(row.times.get(who, float("inf")), maker(calls))
+            turn += 1
+
+
+def of_numpy(call, a, b, calls):
+    start = time.process_time()
+    for _ in range(calls):
+        call(a, b)
+    return (time.process_time() - start) / calls * 1e6
+
+
+def shown(number):
+    return "-" if number is None else f"{number:.0f}" if number >= 100 else f"{number:.1f}" if number >= 1 else f"{number:.3f}"
+
+
+def ratio(number):
+    return "-" if number is None else f"{number:.2f}"
+
+
+def whole_table(measured):
+    """The lines of the table of all rows, and of those that miss."""
+    yield f"Microseconds of processor time a call, the least of several turns; numpy {numpy.__version__}. F is column-major order; back is"
+    yield "every second row and column from the last ones back; 021 names the axes as they lie, the nearest one last. The plain loop is the"
+    yield "best of: both as slices; lanes along the left or right side; the same in parts of 128 elements of each lane."
+    yield ""
+    head = ["call", "of", "shape", "orders", "here", "plain", "the loop", "over plain", "numpy", "over numpy", "xtensor", "over xtensor"]
+    lines = [head]
+    for row in measured:
+        times = [row.times.get(who) for who in ["here", "plain", "numpy", "xtensor"]]
+        shape = " x ".join(map(str, row.shape))
+        lines.append([row.call, row.kind, shape, row.orders(), shown(times[0]), shown(times[1]), FORMS[row.form], ratio(row.over("plain")),
+                      shown(times[2]), ratio(row.over("numpy")), shown(times[3]), ratio(row.over("xtensor"))])
+    widths = [max(len(line[at]) for line in lines) for at in range(len(head))]
+    left = {0, 1, 2, 3, 6}
+    for line in lines:
+        yield "  ".join(word.ljust(width) if at in left else word.rjust(width) for at, (word, width) in enumerate(zip(line, widths))).rstrip()
+    yield ""
+    missing = [(row, list(row.misses())) for row in measured]
+    missing = [(row, reasons) for row, reasons in missing if reasons]
+    yield f"Rows that miss what is aimed at, {len(missing)} of {len(measured)}:"
+    for row, reasons in missing:
+        yield f"{row.call} of {row.kind}, {' x '.join(map(str, row.shape))}, {row.orders()}: {'; '.join(reasons)}"
+
+
+def middle(numbers):
+    numbers = sorted(number for number in numbers if number is not None)
+    return f"{numbers[len(numbers) // 2]:.2f} ({numbers[-1]:.2f})" if numbers else "-"
+
+
+def short_table(measured):
+    """A line for each call and type of elements: the median and the greatest ratio of all rows from LARGE elements a side up."""
+    large = [row for row in measured if max(row.shape) >= LARGE or len(row.shape) > 2]
+    kinds = [(call, kind) for call in CALLS for kind in KINDS]
+    groups = {"two axes, one order": lambda row: row.form == 0, "across orders": lambda row: row.form != 0}
+    yield "| median (greatest) | " + " | ".join(f"{group}: over plain | over numpy" for group in groups) + " |"
+    yield "|---|" + "--:|" * (2 * len(groups))
+    for call, kind in kinds:
+        line = []
+        for holds in groups.values():
+            these = [row for row in large if (row.call, row.kind) == (call, kind) and holds(row)]
+            line += [middle(row.over(who) for row in these) for who in ["plain", "numpy"]]
+        yield f"| `{call}` of `{kind}` | " + " | ".join(line) + " |"
 
 
 def main():
-    times, nearest = {}, {}
-    for _ in range(ROUNDS):
-        lines = subprocess.run(sys.argv[1:], check=True, capture_output=True, text=True).stdout.splitlines()
-        for name, who, microseconds in (line.split("\t") for line in lines):
-            of = times.setdefault(name, {})
-            of[who] = min(of.get(who, float("inf")), float(microseconds))
-        for name in times:
-            nearest[name] = min(nearest.get(name, float("inf")), of_numpy(name))
-    rows = {}
-    for name, of in times.items():
-        row, _, side = name.rpartition(", ")
-        rows.setdefault(row, {})[side] = f"{of['here']:.1f} ({of['here'] / of['plain']:.2f}; {of['here'] / nearest[name]:.2f})"
-    sides = list(next(iter(rows.values())))
-    print(f"| microseconds here (over plain Rust; over numpy {numpy.__version__}) | " + " | ".join(f"{side} x {side}" for side in sides) + " |")
-    print("|---|" + "--:|" * len(sides))
-    for row, of in rows.items():
-        print(f"| {row} | " + " | ".join(of[side] for side in sides) + " |")
+    parser = argparse.ArgumentParser()
+    parser.add_argument("library")
+    parser.add_argument("--xtensor")
+    parser.add_argument("--quick", action="store_true")
+    parser.add_argument("--table")
+    parser.add_argument("--picture")
+    given = parser.parse_args()
+    bench = Bench(given.library, given.xtensor)
+    measured = list(rows(given.quick))
+    for row in measured:
+        bench.measure(row, 0.25 if given.quick else 0.5)
+    if given.table:
+        with open(given.table, "w") as out:
+            out.writelines(line + "\n" for line in whole_table(measured))
+    if given.picture:
+        with open(given.picture, "w") as out:
+            out.write(drawn(measured))
+    for line in short_table(measured):
+        print(line)
+    print(f"{sum(any(row.misses()) for row in measured)} of {len(measured)} rows miss what is aimed at")
 
 
 if __name__ == "__main__":

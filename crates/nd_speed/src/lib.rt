@@ -11,6 +11,7 @@ mod copies;
 mod elementwise;
 mod fills;
 mod joins;
+mod orders;
 mod pairs;
 mod parts;
 mod reshapes;
