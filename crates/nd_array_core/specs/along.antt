@@ -6,3 +6,4 @@ pub mod Selected
 pub mod AxisFolds
 pub mod AxisMaps
 pub mod LanesWritten
+pub mod RankLanes

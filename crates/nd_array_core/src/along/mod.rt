@@ -4,6 +4,7 @@ mod accumulate_axis;
 mod fold_axis;
 mod fold_beside;
 pub mod lane_view;
+mod lane_of_rank;
 mod map_axis;
 mod map_axis_mut;
 mod remove_index;

@@ -1,0 +1,18 @@
+-- A lane of the last axis, by the row-major ranks of its elements.
+use Rattle.std.specs.Prelude.{◌≡◌, ◌+◌, ◌<◌, ℕ, [], ◌∷◌, Option, slice_get, slice_index}
+use Rattle.nd_storage.specs.Meaning.{Meaning, row_major_elements}
+use Rattle.nd_array_core.specs.declared.along.lane_view.LaneView.{LaneView}
+use Rattle.nd_array_core.specs.along.AxisMaps.{lane_seen}
+
+module _ {A : Type 0} (v : LaneView A) where
+  -- how many elements a lane has
+  abbrev pub lane_length : ℕ
+  lane_length = slice_index (lane_seen v).shape 0
+
+  -- the element at a number
+  abbrev pub lane_element : ℕ → Option A
+  lane_element k = (lane_seen v).at (k ∷ [])
+
+  -- its elements are those of a row-major list from a rank on
+  abbrev pub ListsFrom : ℕ → Meaning A → Type 0
+  ListsFrom from m = (k : ℕ) → k < lane_length → lane_element k ≡ slice_get (row_major_elements m) (from + k)
