@@ -1,2 +1,5 @@
 pub mod ByRank
+pub mod IndexedElements
 pub mod Parts
+pub mod PartsAlong
+pub mod Runs

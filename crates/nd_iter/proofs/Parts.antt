@@ -64,3 +64,34 @@ module _ {A : Type 0} where
   -- how many are left
   pub length_given : (f : ℕ → A) (from count : ℕ) → length (map f (range_with_len from count)) ≡ count
   length_given f from count = length-map-range_with_len f from count
+
+  -- a step from either end, of a list that is such
+  module _ (f : ℕ → A) (from to : ℕ) (s : List A) (is : s ≡ map f (range_with_len from (to - from))) (more : from < to) where
+    pub last_step : (x : A) → x ≡ f (to - 1) → s ≡ map f (range_with_len from (to - 1 - from)) ++ x ∷ []
+    last_step x same = is ∙ last_given f from to more ∙ (λ t. map f (range_with_len from (to - 1 - from)) ++ sym same t ∷ [])
+
+    pub last_nearer : length (map f (range_with_len from (to - 1 - from))) < length s
+    last_nearer =
+        let left = length_given f from (to - 1 - from) in
+        let before = ap length is ∙ length_given f from (to - from) in
+        omega (arith, more, left, before)
+
+  -- the same of a part of a list
+  module _ (xs : List A) (from to : ℕ) (within : to ≤ length xs) (s : List A) (is : s ≡ drop from (take to xs)) (more : from < to) (x : A) where
+    pub first_part : slice_get xs from ≡ Some x → s ≡ x ∷ drop (from + 1) (take to xs)
+    first_part there = is ∙ first_taken xs from to x there more
+
+    pub last_part : slice_get xs (to - 1) ≡ Some x → s ≡ drop from (take (to - 1) xs) ++ x ∷ []
+    last_part there = is ∙ last_taken xs from to x there more
+
+    pub first_part_nearer : length (drop (from + 1) (take to xs)) < length s
+    first_part_nearer =
+        let left = length_taken xs (from + 1) to within in
+        let before = ap length is ∙ length_taken xs from to within in
+        omega (arith, more, left, before)
+
+    pub last_part_nearer : length (drop from (take (to - 1) xs)) < length s
+    last_part_nearer =
+        let left = length_taken xs from (to - 1) (omega (arith, within)) in
+        let before = ap length is ∙ length_taken xs from to within in
+        omega (arith, more, left, before)

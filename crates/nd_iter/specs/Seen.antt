@@ -1,6 +1,7 @@
 -- What the iterators over an array show of it, one after another.
 use Rattle.std.specs.Prelude.{◌-◌, ◌<◌, ◌≤◌, ℕ, List, drop, length, map, take, slice_index}
 use Rattle.std.specs.List.{range_with_len}
+use Rattle.std.specs.Option.{option_map}
 use Rattle.nd_shape_and_slice.specs.Maps.{indexed_shape, indexed_index}
 use Rattle.nd_shape_and_slice.specs.Shape.{size_of}
 use Rattle.nd_array_core.specs.Meaning.{Meaning, meaning_through}
@@ -37,3 +38,7 @@ elements_left m from to = drop from (take to (row_major_elements m))
 pub record AreRanks (ns : List ℕ) (from to : ℕ) : Type 0 where
   pub ahead : from ≤ to
   pub within : to ≤ size_of ns
+
+-- at each index the index and the element
+abbrev pub with_indexes : {A : Type 0} → Meaning A → Meaning (List ℕ × A)
+with_indexes m = record { shape = m.shape; at = λ i. option_map (λ x. (i, x)) (m.at i) }

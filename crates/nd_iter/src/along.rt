@@ -1,7 +1,7 @@
 //! The views at each coordinate of an axis.
 
 ghost use Rattle.std.specs.Prelude.{◌≡◌, ◌<◌, length, slice_index};
-ghost use Rattle.std.specs.Iterator.{YieldsFirstBy, item_count};
+ghost use Rattle.std.specs.Iterator.{YieldsFirstBy, YieldsLastBy, item_count};
 ghost use Rattle.nd_array_core.specs.Meaning.{meaning_of, shape_of};
 ghost use Rattle.nd_iter.specs.Seen.{along_axis, at_coordinate, listing};
 
@@ -77,6 +77,22 @@ where
     fn size_hint(&self) -> (usize, Option<usize>) {
         let count = self.back - self.front;
         (count, Some(count))
+    }
+}
+
+impl<'a, A, S: Data<Elem = A>, D: RemoveAxis> DoubleEndedIterator for AxisIter<'a, A, S, D>
+where
+    D::Smaller: Dimension,
+{
+    ghost next_back_gives = { YieldsLastBy (λ item. listing (meaning_of item)) (λ rest. rest) };
+
+    #[tactic(auto, using(crate::proofs::Parts::last_given, crate::proofs::Parts::none_given))]
+    fn next_back(&mut self) -> Option<ArrayView<'a, A, D::Smaller>> {
+        if self.front == self.back {
+            return None;
+        }
+        self.back -= 1;
+        Some(view_at(self.array, self.axis, self.back))
     }
 }
 

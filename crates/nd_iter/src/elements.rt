@@ -5,12 +5,12 @@ ghost use Rattle.std.specs.Iterator.{YieldsFirstRef, YieldsLastRef, item_count};
 ghost use Rattle.nd_array_core.specs.Meaning.{meaning_of};
 ghost use Rattle.nd_array_core.specs.Joined.{row_major_elements};
 
-use crate::ranks::listed_at;
+use crate::ranks::{LaneInHand, listed_at, listed_in};
 use nd_array_core::laws::elements_by_rank;
 use nd_array_core::{ArrayBase, Data};
 use nd_shape_and_slice::Dimension;
 use std::iter::FusedIterator;
-use std::marker::{Model, PhantomData};
+use std::marker::Model;
 
 /// The elements that are left, seen as their list. ndarray's `Iter`.
 #[derive(Drop)]
@@ -21,20 +21,26 @@ pub struct Iter<'a, A, S: Data<Elem = A>, D: Dimension> {
     back: usize,
     // All elements, where they lie side by side in row-major order.
     run: Option<&'a [A]>,
-    of: PhantomData<&'a A>,
+    // Elsewhere the lanes in which the last elements from either end lay.
+    ahead: Option<LaneInHand<'a, A>>,
+    behind: Option<LaneInHand<'a, A>>,
 }
 
 impl<'a, A, S: Data<Elem = A>, D: Dimension> Model for Iter<'a, A, S, D> {
     ghost use Rattle.std.specs.Prelude.{◌≡◌, List, IfSome};
     ghost use Rattle.nd_array_core.specs.Joined.{row_major_elements};
     ghost use Rattle.nd_array_core.specs.Meaning.{meaning_of, shape_of};
+    ghost use Rattle.nd_iter.specs.Hands.{IsInHand};
     ghost use Rattle.nd_iter.specs.Seen.{AreRanks, elements_left};
 
     ghost Value = { List A };
 
     ghost view = { λ it. elements_left (meaning_of it.array.now) it.front it.back };
 
-    ghost invariant = { λ it. AreRanks (shape_of it.array.now) it.front it.back × IfSome it.run (λ run. run.now ≡ row_major_elements (meaning_of it.array.now)) };
+    ghost invariant = { λ it. AreRanks (shape_of it.array.now) it.front it.back
+        × IfSome it.run (λ run. run.now ≡ row_major_elements (meaning_of it.array.now))
+        × IsInHand (meaning_of it.array.now) it.ahead
+        × IsInHand (meaning_of it.array.now) it.behind };
 }
 
 impl<'a, A, S: Data<Elem = A>, D: Dimension> Iterator for Iter<'a, A, S, D> {
@@ -52,7 +58,10 @@ impl<'a, A, S: Data<Elem = A>, D: Dimension> Iterator for Iter<'a, A, S, D> {
         }
         let rank = self.front;
         self.front += 1;
-        Some(listed_at(self.array, self.run, rank))
+        match self.run {
+            Some(all) => Some(listed_in(self.array, all, rank)),
+            None => Some(listed_at(self.array, &mut self.ahead, rank)),
+        }
     }
 
     #[tactic(auto, using(crate::proofs::Parts::length_taken))]
@@ -73,7 +82,10 @@ impl<'a, A, S: Data<Elem = A>, D: Dimension> DoubleEndedIterator for Iter<'a, A,
             return None;
         }
         self.back -= 1;
-        Some(listed_at(self.array, self.run, self.back))
+        match self.run {
+            Some(all) => Some(listed_in(self.array, all, self.back)),
+            None => Some(listed_at(self.array, &mut self.behind, self.back)),
+        }
     }
 }
 
@@ -100,7 +112,8 @@ impl<'a, A, S: Data<Elem = A>, D: Dimension> Iter<'a, A, S, D> {
             front: 0,
             back,
             run: array.as_slice(),
-            of: PhantomData,
+            ahead: None,
+            behind: None,
         }
     }
 }

@@ -2,9 +2,12 @@
 #![tactic(auto)]
 
 mod along;
+pub mod blocks;
 pub mod elements;
+pub mod indexed;
 mod ranks;
 mod whole;
 
 pub use along::{AxisIter, axis_iter, rows};
-pub use whole::iter;
+pub use indexed::{IndexedIter, indexed_iter};
+pub use whole::{exact_chunks, iter, windows, windows_with_stride};

@@ -1,12 +1,14 @@
 //! The element of a row-major rank, and its index.
 
-ghost use Rattle.std.specs.Prelude.{◌≡◌, ◌<◌, Some, IfSome, slice_get};
+ghost use Rattle.std.specs.Prelude.{◌↔◌, ◌≡◌, ◌+◌, ◌-◌, ◌<◌, ◌≤◌, IsTrue, Some, slice_get};
 ghost use Rattle.nd_shape_and_slice.specs.Shape.{index_at, size_of};
-ghost use Rattle.nd_array_core.specs.Meaning.{element_at, meaning_of, shape_of};
+ghost use Rattle.nd_array_core.specs.Meaning.{meaning_of, shape_of};
 ghost use Rattle.nd_array_core.specs.Joined.{row_major_elements};
+ghost use Rattle.nd_array_core.specs.along.RankLanes.{lane_length, lane_element, ListsFrom};
+ghost use Rattle.nd_iter.specs.Hands.{IsInHand};
 
 use nd_array_core::laws::elements_by_rank;
-use nd_array_core::{ArrayBase, Data};
+use nd_array_core::{ArrayBase, Data, LaneView};
 use nd_shape_and_slice::{Dimension, MAX_AXES, index_of_rank};
 
 /// The index of a rank.
@@ -23,34 +25,82 @@ pub(crate) fn index_of<S: Data, D: Dimension>(array: &ArrayBase<S, D>, rank: usi
     }
 }
 
-/// The element of a rank.
-#[tactic(auto, using(crate::proofs::ByRank::rank_inside, crate::proofs::ByRank::listed_there))]
-pub(crate) fn element_of<A, S: Data<Elem = A>, D: Dimension>(
-    array: &ArrayBase<S, D>,
-    rank: usize,
-) -> &A
-    requires { rank < size_of (shape_of array.now) }
-    ensures element { element_at array.now (index_at (shape_of array.now) rank) ≡ Some result.now }
-    ensures listed { slice_get (row_major_elements (meaning_of array.now)) rank ≡ Some result.now }
-{
-    elements_by_rank(array);
-    array.uget(index_of(array, rank))
-}
-
-/// The element of a rank, from the list of all elements where there is one.
+/// The element of a rank, from the list of all elements.
 #[inline]
-pub(crate) fn listed_at<'a, A, S: Data<Elem = A>, D: Dimension>(
+pub(crate) fn listed_in<'a, A, S: Data<Elem = A>, D: Dimension>(
     array: &'a ArrayBase<S, D>,
-    run: Option<&'a [A]>,
+    all: &'a [A],
     rank: usize,
 ) -> &'a A
     requires within { rank < size_of (shape_of array.now) }
-    requires run { IfSome run (λ xs. xs.now ≡ row_major_elements (meaning_of array.now)) }
+    requires all { all.now ≡ row_major_elements (meaning_of array.now) }
     ensures { slice_get (row_major_elements (meaning_of array.now)) rank ≡ Some result.now }
 {
     elements_by_rank(array);
-    match run {
-        Some(xs) => &xs[rank],
-        None => element_of(array, rank),
+    &all[rank]
+}
+
+/// A lane of an array, and the rank of its first element: what lies along it is read without an index.
+#[derive(Drop)]
+pub(crate) struct LaneInHand<'a, A> {
+    lane: LaneView<'a, A>,
+    from: usize,
+}
+
+impl<'a, A> LaneInHand<'a, A> {
+    /// Whether a rank lies in the lane.
+    #[inline]
+    fn holds(&self, rank: usize) -> bool
+        ensures { IsTrue result ↔ ((self.now.from ≤ rank) × (rank < self.now.from + lane_length self.now.lane)) }
+    {
+        self.from <= rank && rank - self.from < self.lane.len()
     }
+
+    /// The element of a rank that lies in the lane.
+    #[inline]
+    fn element(&self, rank: usize) -> &'a A
+        requires from { self.now.from ≤ rank }
+        requires upto { rank < self.now.from + lane_length self.now.lane }
+        ensures { lane_element self.now.lane (rank - self.now.from) ≡ Some result.now }
+    {
+        self.lane.element(rank - self.from)
+    }
+}
+
+/// The lane of a rank.
+#[inline(never)]
+fn lane_with<A, S: Data<Elem = A>, D: Dimension>(
+    array: &ArrayBase<S, D>,
+    rank: usize,
+) -> LaneInHand<'_, A>
+    requires { rank < size_of (shape_of array.now) }
+    ensures lane { ListsFrom result.lane result.from (meaning_of array.now) }
+    ensures from { result.from ≤ rank }
+    ensures upto { rank < result.from + lane_length result.lane }
+{
+    let (lane, from) = array.lane_of_rank(rank);
+    LaneInHand { lane, from }
+}
+
+/// The element of a rank, by the lane in hand where it lies there, else by its own lane, which is then the one in hand.
+#[inline]
+pub(crate) fn listed_at<'a, A, S: Data<Elem = A>, D: Dimension>(
+    array: &'a ArrayBase<S, D>,
+    hand: &mut Option<LaneInHand<'a, A>>,
+    rank: usize,
+) -> &'a A
+    requires within { rank < size_of (shape_of array.now) }
+    requires hand { IsInHand (meaning_of array.now) hand.old }
+    ensures listed { slice_get (row_major_elements (meaning_of array.now)) rank ≡ Some result.now }
+    ensures hand { IsInHand (meaning_of array.now) hand.new }
+{
+    if let Some(lane) = hand {
+        if lane.holds(rank) {
+            return lane.element(rank);
+        }
+    }
+    let lane = lane_with(array, rank);
+    let element = lane.element(rank);
+    *hand = Some(lane);
+    element
 }

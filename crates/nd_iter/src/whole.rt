@@ -1,16 +1,67 @@
 //! Iterators over a whole array.
 
-ghost use Rattle.std.specs.Prelude.{◌≡◌};
+ghost use Rattle.std.specs.Prelude.{◌≡◌, ◌<◌};
+ghost use Rattle.std.specs.Iterator.{YieldsFirstRef, YieldsLastRef};
+ghost use Rattle.std.specs.Iterator.Runs.{YieldsRefsInOrder, YieldsRefsInReverse};
 ghost use Rattle.nd_array_core.specs.Meaning.{meaning_of};
 ghost use Rattle.nd_array_core.specs.Joined.{row_major_elements};
+ghost use Rattle.nd_iter.specs.TableParts.{parts_of};
 
+use crate::blocks::Parts;
 use crate::elements::Iter;
 use nd_array_core::{ArrayBase, Data};
-use nd_shape_and_slice::Dimension;
+use nd_shape_and_slice::{Dimension, Ix2};
 
 /// The elements in row-major order. ndarray's `iter`.
 pub fn iter<A, S: Data<Elem = A>, D: Dimension>(array: &ArrayBase<S, D>) -> Iter<'_, A, S, D>
-    ensures { result ≡ row_major_elements (meaning_of array.now) }
+    ensures rest { result ≡ row_major_elements (meaning_of array.now) }
+    ensures runs { YieldsRefsInOrder (YieldsFirstRef {A = A} (λ rest. rest)) (λ rest. rest) }
+    ensures runs_back { YieldsRefsInReverse (YieldsLastRef {A = A} (λ rest. rest)) (λ rest. rest) }
 {
     Iter::over(array)
+}
+
+/// The parts of so many rows and columns, in row-major order of where they begin: at each row and column from which one fits.
+/// Height and width aren't 0. ndarray's `windows` of two axes.
+pub fn windows<A, S: Data<Elem = A>>(
+    table: &ArrayBase<S, Ix2>,
+    height: usize,
+    width: usize,
+) -> Parts<'_, A, S>
+    requires height { 0 < height }
+    requires width { 0 < width }
+    ensures { result ≡ parts_of (meaning_of table.now) height width 1 1 }
+{
+    Parts::over(table, height, width, 1, 1)
+}
+
+/// The same, each next one so many rows or columns further; neither number is 0. ndarray's `windows_with_stride` of two axes.
+pub fn windows_with_stride<A, S: Data<Elem = A>>(
+    table: &ArrayBase<S, Ix2>,
+    height: usize,
+    width: usize,
+    down: usize,
+    right: usize,
+) -> Parts<'_, A, S>
+    requires height { 0 < height }
+    requires width { 0 < width }
+    requires down { 0 < down }
+    requires right { 0 < right }
+    ensures { result ≡ parts_of (meaning_of table.now) height width down right }
+{
+    Parts::over(table, height, width, down, right)
+}
+
+/// The blocks of so many rows and columns that lie side by side, in row-major order; rows and columns at the end that make no
+/// whole block are left out. Height and width aren't 0. ndarray's `exact_chunks` of two axes.
+pub fn exact_chunks<A, S: Data<Elem = A>>(
+    table: &ArrayBase<S, Ix2>,
+    height: usize,
+    width: usize,
+) -> Parts<'_, A, S>
+    requires height { 0 < height }
+    requires width { 0 < width }
+    ensures { result ≡ parts_of (meaning_of table.now) height width height width }
+{
+    Parts::over(table, height, width, height, width)
 }

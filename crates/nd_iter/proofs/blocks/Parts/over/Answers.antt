@@ -1,0 +1,24 @@
+use Rattle.std.proofs.Common.{◌≡◌, ◌*◌, ap, ◌∙◌, arith}
+use Rattle.std.specs.Prelude.{slice_index}
+use Rattle.nd_array_core.specs.Meaning.{meaning_of}
+use Rattle.nd_iter.specs.TableParts.{parts_along}
+use Rattle.nd_iter.proofs.PartsAlong.{some_across, rows_fit, columns_fit}
+use Rattle.nd_iter.proofs.blocks.Parts.over.Goals as goal
+
+pub invariant_of-result : goal.invariant_of-result
+invariant_of-result g c =
+    let a = c.args in
+    let rows = slice_index (meaning_of a.table.now).shape 0 in
+    let columns = slice_index (meaning_of a.table.now).shape 1 in
+    let beside = c.count_along-across.result in
+    let to = c.count_along.result * beside in
+    let is : beside ≡ parts_along columns a.width a.right = c.count_along-across.ensures.count ∙ ap (λ n. parts_along n a.width a.right) (ap (λ s. slice_index s 1) c.dim-rows.ensures.lengths) in
+    let down : c.count_along.result ≡ parts_along rows a.height a.down = c.count_along.ensures.count ∙ ap (λ n. parts_along n a.height a.down) (ap (λ s. slice_index s 0) c.dim-rows.ensures.lengths) in
+    let all : to ≡ parts_along rows a.height a.down * beside = ap (λ n. n * beside) down in
+    record {
+      across = is;
+      ahead = omega arith;
+      some = some_across rows columns a.height a.width a.down a.right beside c.requires.down c.requires.right is 0 to all;
+      rows = rows_fit rows columns a.height a.width a.down a.right beside c.requires.down c.requires.right is to all;
+      columns = columns_fit rows columns a.height a.width a.down a.right beside c.requires.down c.requires.right is to all;
+    }

@@ -1,0 +1,39 @@
+-- Parts of a table of one size, by rows and columns, a step apart.
+use Rattle.std.specs.Prelude.{◌≡◌, ◌+◌, ◌-◌, ◌*◌, ◌/◌, ◌%◌, ◌<◌, ◌≤◌, nat_lt, ℕ, List, [], ◌∷◌, map, slice_index, if◌then◌else◌}
+use Rattle.std.specs.List.{range_with_len}
+use Rattle.nd_array_core.specs.Meaning.{Meaning, meaning_through}
+use Rattle.nd_iter.specs.Seen.{listing}
+use Rattle.nd_iter.specs.declared.blocks.Grid.{Grid}
+
+-- how many parts of a size fit along an axis, the first at its beginning and each next one a step further
+abbrev pub parts_along : ℕ → ℕ → ℕ → ℕ
+parts_along n size step = if nat_lt n size then 0 else (n - size) / step + 1
+
+-- so many rows and columns of a table, from a row and a column on
+abbrev pub part_at : {A : Type 0} → Meaning A → ℕ → ℕ → ℕ → ℕ → Meaning A
+part_at m height width top left = meaning_through (height ∷ width ∷ []) (λ i. (top + slice_index i 0) ∷ (left + slice_index i 1) ∷ []) m
+
+module _ {A : Type 0} (m : Meaning A) (height width down right : ℕ) where
+  -- how many parts stand beside one another
+  abbrev pub parts_across : ℕ
+  parts_across = parts_along (slice_index m.shape 1) width right
+
+  -- the part of a number: along a row of parts first
+  abbrev pub numbered_part : ℕ → List ℕ × List A
+  numbered_part k = listing (part_at m height width (k / parts_across * down) (k % parts_across * right))
+
+  -- the parts of the numbers from one up to another
+  abbrev pub parts_left : ℕ → ℕ → List (List ℕ × List A)
+  parts_left from to = map numbered_part (range_with_len from (to - from))
+
+  -- all that fit
+  abbrev pub parts_of : List (List ℕ × List A)
+  parts_of = parts_left 0 (parts_along (slice_index m.shape 0) height down * parts_across)
+
+-- each number from one up to another is that of a part which fits
+pub record HaveParts (ns : List ℕ) (grid : Grid) (from to : ℕ) : Type 0 where
+  pub across : grid.across ≡ parts_along (slice_index ns 1) grid.width grid.right
+  pub ahead : from ≤ to
+  pub some : from < to → 0 < grid.across
+  pub rows : (k : ℕ) → k < to → k / grid.across * grid.down + grid.height ≤ slice_index ns 0
+  pub columns : (k : ℕ) → k < to → k % grid.across * grid.right + grid.width ≤ slice_index ns 1

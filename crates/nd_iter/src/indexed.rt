@@ -1,0 +1,113 @@
+//! The elements in row-major order, each with its index.
+
+ghost use Rattle.std.specs.Prelude.{◌≡◌};
+ghost use Rattle.std.specs.Iterator.{YieldsFirstBy, YieldsLastBy, item_count};
+ghost use Rattle.nd_array_core.specs.Meaning.{meaning_of};
+ghost use Rattle.nd_array_core.specs.Joined.{row_major_elements};
+ghost use Rattle.nd_iter.specs.Seen.{with_indexes};
+
+use crate::ranks::{LaneInHand, index_of, listed_at};
+use nd_array_core::laws::elements_by_rank;
+use nd_array_core::{ArrayBase, Data};
+use nd_shape_and_slice::Dimension;
+use std::iter::FusedIterator;
+use std::marker::Model;
+
+/// The elements that are left, each with its index, seen as the list of both. ndarray's `IndexedIter`.
+#[derive(Drop)]
+pub struct IndexedIter<'a, A, S: Data<Elem = A>, D: Dimension> {
+    array: &'a ArrayBase<S, D>,
+    // The ranks that are left.
+    front: usize,
+    back: usize,
+    // The lanes in which the last elements from either end lay.
+    ahead: Option<LaneInHand<'a, A>>,
+    behind: Option<LaneInHand<'a, A>>,
+}
+
+impl<'a, A, S: Data<Elem = A>, D: Dimension> Model for IndexedIter<'a, A, S, D> {
+    ghost use Rattle.std.specs.Prelude.{ℕ, List};
+    ghost use Rattle.nd_array_core.specs.Meaning.{meaning_of, shape_of};
+    ghost use Rattle.nd_iter.specs.Hands.{IsInHand};
+    ghost use Rattle.nd_iter.specs.Seen.{AreRanks, elements_left, with_indexes};
+
+    ghost Value = { List (List ℕ × A) };
+
+    ghost view = { λ it. elements_left (with_indexes (meaning_of it.array.now)) it.front it.back };
+
+    ghost invariant = { λ it. AreRanks (shape_of it.array.now) it.front it.back
+        × IsInHand (meaning_of it.array.now) it.ahead
+        × IsInHand (meaning_of it.array.now) it.behind };
+}
+
+impl<'a, A, S: Data<Elem = A>, D: Dimension> Iterator for IndexedIter<'a, A, S, D> {
+    type Item = (D::Pattern, &'a A);
+
+    ghost next_gives = { YieldsFirstBy (λ item. (D.pattern_lengths item.0, item.1.now)) (λ rest. rest) };
+
+    ghost remaining = { item_count (λ rest. rest) };
+
+    fn next(&mut self) -> Option<(D::Pattern, &'a A)> {
+        if self.front == self.back {
+            return None;
+        }
+        elements_by_rank(self.array);
+        let rank = self.front;
+        self.front += 1;
+        let index = index_of(self.array, rank);
+        Some((
+            index.into_pattern(),
+            listed_at(self.array, &mut self.ahead, rank),
+        ))
+    }
+
+    fn size_hint(&self) -> (usize, Option<usize>) {
+        elements_by_rank(self.array);
+        let count = self.back - self.front;
+        (count, Some(count))
+    }
+}
+
+impl<'a, A, S: Data<Elem = A>, D: Dimension> DoubleEndedIterator for IndexedIter<'a, A, S, D> {
+    ghost next_back_gives = { YieldsLastBy (λ item. (D.pattern_lengths item.0, item.1.now)) (λ rest. rest) };
+
+    fn next_back(&mut self) -> Option<(D::Pattern, &'a A)> {
+        if self.front == self.back {
+            return None;
+        }
+        elements_by_rank(self.array);
+        self.back -= 1;
+        let index = index_of(self.array, self.back);
+        Some((
+            index.into_pattern(),
+            listed_at(self.array, &mut self.behind, self.back),
+        ))
+    }
+}
+
+impl<'a, A, S: Data<Elem = A>, D: Dimension> ExactSizeIterator for IndexedIter<'a, A, S, D> {
+    fn len(&self) -> usize {
+        elements_by_rank(self.array);
+        self.back - self.front
+    }
+}
+
+impl<'a, A, S: Data<Elem = A>, D: Dimension> FusedIterator for IndexedIter<'a, A, S, D> {}
+
+/// The elements in row-major order, each with its index: a number, a tuple or a list of coordinates, by the number of axes.
+/// ndarray's `indexed_iter`.
+pub fn indexed_iter<A, S: Data<Elem = A>, D: Dimension>(
+    array: &ArrayBase<S, D>,
+) -> IndexedIter<'_, A, S, D>
+    ensures { result ≡ row_major_elements (with_indexes (meaning_of array.now)) }
+{
+    elements_by_rank(array);
+    let back = array.len();
+    IndexedIter {
+        array,
+        front: 0,
+        back,
+        ahead: None,
+        behind: None,
+    }
+}
