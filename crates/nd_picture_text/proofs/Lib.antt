@@ -1,0 +1,2 @@
+pub mod Rasters
+pub mod StepLists

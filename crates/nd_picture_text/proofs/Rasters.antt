@@ -1,0 +1,37 @@
+-- Samples behind those read so far, and how many an image has.
+use Rattle.std.proofs.Common.{◌≡◌, ℕ, zero, suc, ◌+◌, ◌*◌, ◌<◌, ◌≤◌, ◌^◌, List, [], ◌∷◌, ◌++◌, ◌-◌, Result, Ok, Err, refl, sym, ap, ◌∙◌, append_assoc, length, length-append, arith}
+use Rattle.std.specs.Prelude.{All}
+use Rattle.std.proofs.lemmas.List.Elements.{All-append}
+use Rattle.nd_picture_text.specs.Numbers.{◌>>=◌, next_number}
+use Rattle.nd_picture_text.specs.Reading.{behind, plain_samples}
+
+pub behind_none : (r : Result (List ℕ) ℕ) → behind [] r ≡ r
+behind_none (Ok xs) = refl
+behind_none (Err n) = refl
+
+pub behind_more : (xs : List ℕ) (x : ℕ) (r : Result (List ℕ) ℕ) → behind (xs ++ x ∷ []) r ≡ behind xs (behind (x ∷ []) r)
+behind_more xs x (Ok ys) = ap (λ (l : List ℕ). Ok l) (append_assoc xs (x ∷ []) ys)
+behind_more xs x (Err n) = refl
+
+-- the pixels of sides that are read
+pub few_samples : (height width : ℕ) → height ≤ 1000000000 → width ≤ 1000000000 → height * width ≤ 1000000000000000000
+few_samples height width h w = grind arith
+
+-- one sample more in decimal
+pub plain_more : (maxval missing : ℕ) (xs rest after : List ℕ) (sample : ℕ) (whole : Result (List ℕ) ℕ) → 0 < missing → next_number maxval rest ≡ Ok (sample, after) → behind xs (plain_samples maxval missing rest) ≡ whole
+    → behind (xs ++ sample ∷ []) (plain_samples maxval (missing - 1) after) ≡ whole
+plain_more maxval zero xs rest after sample whole some next is = absurd (omega (arith, some))
+plain_more maxval (suc missing) xs rest after sample whole some next is =
+    let less : suc missing - 1 ≡ missing = omega arith in
+    let step : plain_samples maxval (suc missing) rest ≡ behind (sample ∷ []) (plain_samples maxval missing after) = ap (λ (r : Result (ℕ × List ℕ) ℕ). r >>= λ x. behind (x.0 ∷ []) (plain_samples maxval missing x.1)) next in
+    behind_more xs sample (plain_samples maxval (suc missing - 1) after) ∙ ap (λ n. behind xs (behind (sample ∷ []) (plain_samples maxval n after))) less ∙ ap (behind xs) (sym step) ∙ is
+
+pub one_more : (xs : List ℕ) (x missing count : ℕ) → 0 < missing → length xs + missing ≡ count → length (xs ++ x ∷ []) + (missing - 1) ≡ count
+one_more xs x missing count some is = omega (arith, length-append xs (x ∷ []))
+
+only_one : (limit x : ℕ) → x ≤ limit → All (λ s. s ≤ limit) (x ∷ [])
+only_one limit x within zero d h = within
+only_one limit x within (suc k) d h = absurd (omega (arith, h))
+
+pub all_more : (limit : ℕ) (xs : List ℕ) (x : ℕ) → x ≤ limit → All (λ s. s ≤ limit) xs → All (λ s. s ≤ limit) (xs ++ x ∷ [])
+all_more limit xs x within all = All-append (λ s. s ≤ limit) xs (x ∷ []) all (only_one limit x within)

@@ -1,0 +1,44 @@
+-- What an image file says.
+use Rattle.std.specs.Prelude.{◌≡◌, ◌<◌, ◌≤◌, ℕ, ◌*◌, All, length, Bool, true, false, List}
+use Rattle.nd_picture_text.specs.declared.image.Kind.{Kind}
+use Rattle.nd_picture_text.specs.declared.image.Kind.TheVariants.{PlainGrey, PlainColour, RawGrey, RawColour}
+use Rattle.nd_picture_text.specs.declared.image.Header.{Header}
+use Rattle.nd_picture_text.specs.declared.image.Image.{Image}
+
+-- how many samples a pixel has
+abbrev pub channels_of : Kind → ℕ
+channels_of PlainGrey = 1
+channels_of PlainColour = 3
+channels_of RawGrey = 1
+channels_of RawColour = 3
+
+-- whether samples are decimal numbers
+abbrev pub is_plain : Kind → Bool
+is_plain PlainGrey = true
+is_plain PlainColour = true
+is_plain RawGrey = false
+is_plain RawColour = false
+
+-- how many samples an image has
+abbrev pub sample_count : Header → ℕ
+sample_count h = h.height * h.width * channels_of h.kind
+
+-- an image without where its samples lie in memory
+pub record Pixmap : Type 0 where
+  pub header : Header
+  pub samples : List ℕ
+
+abbrev pub pixmap_of : Image → Pixmap
+pixmap_of image = record { header = image.header; samples = image.samples.items }
+
+-- the limits of a header: so the samples can be counted, and each takes two bytes at most
+pub record IsHeader (h : Header) : Type 0 where
+  pub wide : (0 < h.width) × (h.width ≤ 1000000000)
+  pub high : (0 < h.height) × (h.height ≤ 1000000000)
+  pub light : (0 < h.maxval) × (h.maxval < 65536)
+
+-- as many samples as there are pixels and channels, none above full light
+pub record IsWhole (p : Pixmap) : Type 0 where
+  pub header : IsHeader p.header
+  pub count : length p.samples ≡ sample_count p.header
+  pub within : All (λ s. s ≤ p.header.maxval) p.samples

@@ -1,0 +1,5 @@
+pub mod Images
+pub mod Numbers
+pub mod Reading
+pub mod Steps
+pub mod Writing

@@ -1,0 +1,71 @@
+-- How a list of steps is written: words, each a step's name or one of the numbers behind it.
+use Rattle.std.specs.Prelude.{◌≡◌, ℕ, ◌+◌, ◌==◌, false, List, [], ◌∷◌, length, Option, None, Some, Result, Ok, Err, codes, if◌then◌else◌}
+use Rattle.std.specs.Str.{bytes_eq}
+use Rattle.nd_text.specs.Numerals.{nat_of}
+use Rattle.nd_text.specs.Words.{first_as, is_wordless}
+use Rattle.nd_picture_text.specs.declared.step.Step.{Step}
+use Rattle.nd_picture_text.specs.declared.step.Step.TheVariants.{Crop, Flip, Flop, RotateQuarter, RotateHalf, RotateBack, Transpose, ScaleDown, Threshold, Invert, Blur}
+use Rattle.nd_picture_text.specs.declared.steps.StepsError.{StepsError}
+use Rattle.nd_picture_text.specs.declared.steps.StepsError.TheVariants.{BadStep, Memory}
+use Rattle.nd_picture_text.specs.declared.steps.StepName.{StepName}
+use Rattle.nd_picture_text.specs.declared.steps.StepName.TheVariants as names
+
+-- the step that a word names
+abbrev pub name_of : List ℕ → StepName
+name_of word = if bytes_eq word (codes "crop") then names.Crop else (if bytes_eq word (codes "flip") then names.Flip else (if bytes_eq word (codes "flop") then names.Flop else (if bytes_eq word (codes "rotate") then names.Rotate else (if bytes_eq word (codes "transpose") then names.Transpose else (if bytes_eq word (codes "scale-down") then names.ScaleDown else (if bytes_eq word (codes "threshold") then names.Threshold else (if bytes_eq word (codes "invert") then names.Invert else (if bytes_eq word (codes "blur") then names.Blur else names.Other))))))))
+
+infixl 10 ◌>>?◌
+abbrev pub ◌>>?◌ : {A B : Type 0} → Option A → (A → Option B) → Option B
+None >>? f = None
+(Some x) >>? f = f x
+
+-- the number that the first word writes, and the words behind it
+abbrev pub number_first : List (List ℕ) → Option (ℕ × List (List ℕ))
+number_first ws = first_as nat_of ws
+
+abbrev pub crop_of : List (List ℕ) → Option (Step × List (List ℕ))
+crop_of ws = number_first ws >>? λ t. number_first t.1 >>? λ l. number_first l.1 >>? λ h. number_first h.1 >>? λ w. Some (Crop t.0 l.0 h.0 w.0, w.1)
+
+-- a turn by so many degrees, clockwise
+abbrev pub turn_by : ℕ → Option Step
+turn_by degrees = if degrees == 90 then Some RotateQuarter else (if degrees == 180 then Some RotateHalf else (if degrees == 270 then Some RotateBack else None))
+
+abbrev pub rotate_of : List (List ℕ) → Option (Step × List (List ℕ))
+rotate_of ws = number_first ws >>? λ x. turn_by x.0 >>? λ step. Some (step, x.1)
+
+-- a step of this name, and the words behind its numbers
+abbrev pub step_named : StepName → List (List ℕ) → Option (Step × List (List ℕ))
+step_named names.Crop ws = crop_of ws
+step_named names.Flip ws = Some (Flip, ws)
+step_named names.Flop ws = Some (Flop, ws)
+step_named names.Rotate ws = rotate_of ws
+step_named names.Transpose ws = Some (Transpose, ws)
+step_named names.ScaleDown ws = number_first ws >>? λ x. Some (ScaleDown x.0, x.1)
+step_named names.Threshold ws = number_first ws >>? λ x. Some (Threshold x.0, x.1)
+step_named names.Invert ws = Some (Invert, ws)
+step_named names.Blur ws = Some (Blur, ws)
+step_named names.Other ws = None
+
+-- the step that the first words write, and the words behind it
+abbrev pub step_of : List (List ℕ) → Option (Step × List (List ℕ))
+step_of [] = None
+step_of (word ∷ ws) = step_named (name_of word) ws
+
+-- The words write these steps one behind the other, up to the rest.
+abbrev pub WritesBefore : List Step → List (List ℕ) → List (List ℕ) → Type 0
+WritesBefore [] ws rest = ws ≡ rest
+WritesBefore (step ∷ steps) ws rest = (others : List (List ℕ)) × (step_of ws ≡ Some (step, others)) × WritesBefore steps others rest
+
+-- The words write these steps and nothing else.
+abbrev pub AreSteps : List Step → List (List ℕ) → Type 0
+AreSteps steps ws = WritesBefore steps ws []
+
+-- Behind some steps the words go on with something that is no step: its number, counted from 1.
+abbrev pub IsBadStep : List (List ℕ) → ℕ → Type 0
+IsBadStep ws n = (front : List Step) × (rest : List (List ℕ)) × WritesBefore front ws rest × (step_of rest ≡ None) × (is_wordless rest ≡ false) × (n ≡ length front + 1)
+
+-- what reading the words gives, unless memory ran out
+abbrev pub GivesSteps : List (List ℕ) → Result (List Step) StepsError → Type 0
+GivesSteps ws (Ok steps) = AreSteps steps ws
+GivesSteps ws (Err (BadStep n)) = IsBadStep ws n
+GivesSteps ws (Err Memory) = Unit {0}

@@ -1,0 +1,17 @@
+//! Text about pictures: images in the formats of Netpbm, grey and coloured, plain and raw (P2, P3, P5, P6), and the steps that
+//! they are taken through. No array.
+#![tactic(auto)]
+
+mod header;
+mod image;
+mod numbers;
+mod raster;
+pub mod reader;
+mod step;
+pub mod steps;
+pub mod writer;
+
+pub use image::{Header, Image, Kind};
+pub use raster::ImageError;
+pub use step::Step;
+pub use steps::StepsError;

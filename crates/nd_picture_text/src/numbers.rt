@@ -1,0 +1,141 @@
+//! Numbers in the text of an image, taken from the front. What can't be read is told by how many bytes are left there.
+
+ghost use Rattle.std.specs.Prelude.{◌≡◌, ◌+◌, ◌-◌, ◌*◌, ◌<◌, ◌≤◌, ◌^◌, IfOk, length, SomeIff, true, false};
+ghost use Rattle.std.specs.Result.{result_map_both};
+ghost use Rattle.nd_picture_text.specs.Numbers.{ends_line, is_blank, goes_on, behind_gap, behind_blank, digits_behind, number_here, next_number};
+
+fn ends_line(byte: u8) -> bool
+    ensures { result ≡ ends_line byte }
+{
+    byte == b'\n' || byte == b'\r'
+}
+
+fn is_blank(byte: u8) -> bool
+    ensures { result ≡ is_blank byte }
+{
+    byte == b' ' || byte == b'\t' || ends_line(byte)
+}
+
+/// What follows the blanks and comments at the front.
+pub(crate) fn behind_gap(text: &[u8]) -> &[u8]
+    ensures { result.now ≡ behind_gap false text.now }
+{
+    let mut inside = false;
+    let mut rest = text;
+    while let [byte, after @ ..] = rest {
+        if inside {
+            inside = !ends_line(*byte);
+            rest = after;
+            continue;
+        }
+        if *byte == b'#' {
+            inside = true;
+            rest = after;
+            continue;
+        }
+        if !is_blank(*byte) {
+            return rest;
+        }
+        rest = after;
+    }
+    rest
+}
+
+/// What follows one blank at the front, with the comments before it.
+pub(crate) fn behind_blank(text: &[u8]) -> Result<&[u8], usize>
+    ensures { result_map_both (λ x. x.now) (λ n. n) result ≡ behind_blank false text.now }
+{
+    let mut inside = false;
+    let mut rest = text;
+    while let [byte, after @ ..] = rest {
+        if inside {
+            inside = !ends_line(*byte);
+            rest = after;
+            continue;
+        }
+        if *byte == b'#' {
+            inside = true;
+            rest = after;
+            continue;
+        }
+        if is_blank(*byte) {
+            return Ok(after);
+        }
+        return Err(rest.len());
+    }
+    Err(0)
+}
+
+/// The value of a digit with the others before it, where that is at most the limit.
+fn with_digit(limit: usize, number: usize, byte: u8) -> Option<usize>
+    requires number { number ≤ limit }
+    requires limit { limit < 2 ^ 32 }
+    ensures { SomeIff result (goes_on limit number byte ≡ true) (number * 10 + (byte - 48)) }
+{
+    if !byte.is_ascii_digit() {
+        return None;
+    }
+    let more = number * 10 + (byte - b'0') as usize;
+    if more > limit {
+        return None;
+    }
+    Some(more)
+}
+
+/// The number whose digits so far write this, and what follows it and a blank.
+fn digits_behind(limit: usize, first: usize, text: &[u8]) -> Result<(usize, &[u8]), usize>
+    requires first { first ≤ limit }
+    requires limit { limit < 2 ^ 32 }
+    ensures value { result_map_both (λ x. (x.0, x.1.now)) (λ n. n) result ≡ digits_behind limit false first text.now }
+    ensures within { IfOk result (λ x. x.0 ≤ limit) }
+{
+    let mut number = first;
+    let mut inside = false;
+    let mut rest = text;
+    while let [byte, after @ ..] = rest {
+        if inside {
+            inside = !ends_line(*byte);
+            rest = after;
+            continue;
+        }
+        if *byte == b'#' {
+            inside = true;
+            rest = after;
+            continue;
+        }
+        if is_blank(*byte) {
+            return Ok((number, after));
+        }
+        match with_digit(limit, number, *byte) {
+            Some(more) => number = more,
+            None => return Err(rest.len()),
+        }
+        rest = after;
+    }
+    Ok((number, rest))
+}
+
+/// The number that begins here.
+fn number_here(limit: usize, text: &[u8]) -> Result<(usize, &[u8]), usize>
+    requires { limit < 2 ^ 32 }
+    ensures value { result_map_both (λ x. (x.0, x.1.now)) (λ n. n) result ≡ number_here limit text.now }
+    ensures within { IfOk result (λ x. x.0 ≤ limit) }
+{
+    match text {
+        [] => Err(0),
+        [byte, after @ ..] => match with_digit(limit, 0, *byte) {
+            Some(first) => digits_behind(limit, first, after),
+            None => Err(text.len()),
+        },
+    }
+}
+
+/// The next number behind blanks and comments, and what follows it and a blank.
+#[tactic(auto, unfolding(crate::specs::Numbers::next_number))]
+pub(crate) fn next_number(limit: usize, text: &[u8]) -> Result<(usize, &[u8]), usize>
+    requires { limit < 2 ^ 32 }
+    ensures value { result_map_both (λ x. (x.0, x.1.now)) (λ n. n) result ≡ next_number limit text.now }
+    ensures within { IfOk result (λ x. x.0 ≤ limit) }
+{
+    number_here(limit, behind_gap(text))
+}

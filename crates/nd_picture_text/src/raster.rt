@@ -1,0 +1,173 @@
+//! Samples.
+#![tactic(auto, using(crate::proofs::Rasters::behind_none, crate::proofs::Rasters::behind_more))]
+
+ghost use Rattle.std.specs.Prelude.{◌≡◌, ◌<◌, ◌≤◌, ◌^◌, ◌*◌, [], ◌∷◌, ◌++◌, ◌+◌, All, OnOk, IfOk, IfErr, length};
+ghost use Rattle.nd_picture_text.specs.Images.{sample_count};
+ghost use Rattle.nd_picture_text.specs.Reading.{Gives, narrow_samples, wide_samples, exactly, plain_samples, raw_samples, raster_in};
+ghost use Rattle.nd_picture_text.specs.declared.raster.ImageError.TheVariants.{Memory};
+
+use crate::image::Header;
+use crate::numbers::{behind_gap, next_number};
+use std::alloc::{AllocError, Global};
+
+/// Why bytes give no image.
+#[derive(Clone, Copy, Debug, PartialEq, Eq)]
+pub enum ImageError {
+    /// The first byte at which they mean no image, counted from 0.
+    BadByte(usize),
+    /// Memory was refused.
+    Memory,
+}
+
+impl From<AllocError> for ImageError {
+    ghost from_gives = { λ _ e. e ≡ Memory };
+
+    fn from(_error: AllocError) -> ImageError {
+        ImageError::Memory
+    }
+}
+
+/// Puts a sample behind the others.
+fn keep(samples: &mut Vec<u16>, sample: u16) -> Result<(), ImageError>
+    ensures kept { OnOk result (samples.new.items ≡ samples.old.items ++ sample ∷ []) }
+    ensures memory { IfErr result (λ e. e ≡ Memory) }
+{
+    match samples.push(sample) {
+        Ok(()) => Ok(()),
+        Err(_) => Err(ImageError::Memory),
+    }
+}
+
+/// Samples of one byte.
+fn narrow_samples(alloc: Global, maxval: usize, bytes: &[u8]) -> Result<Vec<u16>, ImageError>
+    ensures read { Gives (λ v. v.items) result (narrow_samples maxval bytes.now) }
+    ensures count { IfOk result (λ v. length v.items ≡ length bytes.now) }
+    ensures within { IfOk result (λ v. All (λ s. s ≤ maxval) v.items) }
+{
+    let mut samples = Vec::with_capacity(alloc, bytes.len())?;
+    let mut rest = bytes;
+    while let [byte, after @ ..] = rest {
+        if *byte as usize > maxval {
+            return Err(ImageError::BadByte(rest.len()));
+        }
+        keep(&mut samples, u16::from(*byte))?;
+        rest = after;
+    }
+    Ok(samples)
+}
+
+/// Samples of two bytes.
+fn wide_samples(alloc: Global, maxval: usize, bytes: &[u8]) -> Result<Vec<u16>, ImageError>
+    requires { maxval < 65536 }
+    ensures read { Gives (λ v. v.items) result (wide_samples maxval bytes.now) }
+    ensures count { IfOk result (λ v. length v.items + length v.items ≡ length bytes.now) }
+    ensures within { IfOk result (λ v. All (λ s. s ≤ maxval) v.items) }
+{
+    let mut samples = Vec::with_capacity(alloc, bytes.len() / 2)?;
+    let mut rest = bytes;
+    while let [high, low, after @ ..] = rest {
+        let sample = *high as usize * 256 + *low as usize;
+        if sample > maxval {
+            return Err(ImageError::BadByte(rest.len()));
+        }
+        keep(&mut samples, sample as u16)?;
+        rest = after;
+    }
+    match rest {
+        [] => Ok(samples),
+        _ => Err(ImageError::BadByte(1)),
+    }
+}
+
+/// Samples in decimal.
+fn plain_samples(
+    alloc: Global,
+    maxval: usize,
+    count: usize,
+    text: &[u8],
+) -> Result<Vec<u16>, ImageError>
+    requires { maxval < 65536 }
+    ensures read { Gives (λ v. v.items) result (plain_samples maxval count text.now) }
+    ensures count { IfOk result (λ v. length v.items ≡ count) }
+    ensures within { IfOk result (λ v. All (λ s. s ≤ maxval) v.items) }
+{
+    let mut samples = Vec::new(alloc);
+    let mut missing = count;
+    let mut rest = text;
+    while missing > 0 {
+        match next_number(maxval, rest) {
+            Ok((sample, after)) => {
+                keep(&mut samples, sample as u16)?;
+                rest = after;
+            }
+            Err(left) => return Err(ImageError::BadByte(left)),
+        }
+        missing -= 1;
+    }
+    let end = behind_gap(rest);
+    if !end.is_empty() {
+        return Err(ImageError::BadByte(end.len()));
+    }
+    Ok(samples)
+}
+
+/// Samples in bytes, this many and no others.
+fn raw_samples(
+    alloc: Global,
+    maxval: usize,
+    count: usize,
+    bytes: &[u8],
+) -> Result<Vec<u16>, ImageError>
+    requires maxval { maxval < 65536 }
+    requires count { count < 2 ^ 63 }
+    ensures read { Gives (λ v. v.items) result (raw_samples maxval count bytes.now) }
+    ensures count { IfOk result (λ v. length v.items ≡ count) }
+    ensures within { IfOk result (λ v. All (λ s. s ≤ maxval) v.items) }
+{
+    let size = if maxval < 256 { count } else { count * 2 };
+    if bytes.len() < size {
+        return Err(ImageError::BadByte(0));
+    }
+    if bytes.len() > size {
+        return Err(ImageError::BadByte(bytes.len() - size));
+    }
+    if maxval < 256 {
+        narrow_samples(alloc, maxval, bytes)
+    } else {
+        wide_samples(alloc, maxval, bytes)
+    }
+}
+
+/// How many samples an image has.
+#[tactic(auto, using(crate::proofs::Rasters::few_samples))]
+fn sample_count(header: Header) -> usize
+    requires width { header.width ≤ 1000000000 }
+    requires height { header.height ≤ 1000000000 }
+    ensures count { result ≡ sample_count header }
+    ensures few { result < 2 ^ 63 }
+{
+    let pixels = header.height * header.width;
+    pixels * header.kind.channels()
+}
+
+/// The samples behind a header.
+#[tactic(auto, unfolding(crate::specs::Reading::raster_in))]
+pub(crate) fn raster_in(
+    alloc: Global,
+    header: Header,
+    bytes: &[u8],
+) -> Result<Vec<u16>, ImageError>
+    requires width { header.width ≤ 1000000000 }
+    requires height { header.height ≤ 1000000000 }
+    requires maxval { header.maxval < 65536 }
+    ensures read { Gives (λ v. v.items) result (raster_in header bytes.now) }
+    ensures count { IfOk result (λ v. length v.items ≡ sample_count header) }
+    ensures within { IfOk result (λ v. All (λ s. s ≤ header.maxval) v.items) }
+{
+    let count = sample_count(header);
+    if header.kind.is_plain() {
+        plain_samples(alloc, header.maxval, count, bytes)
+    } else {
+        raw_samples(alloc, header.maxval, count, bytes)
+    }
+}

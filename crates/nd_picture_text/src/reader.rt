@@ -1,0 +1,41 @@
+//! Reading an image.
+
+ghost use Rattle.std.specs.Prelude.{◌≡◌, length, IfOk};
+ghost use Rattle.nd_picture_text.specs.Images.{pixmap_of, IsWhole};
+ghost use Rattle.nd_picture_text.specs.Reading.{Gives, image_in, counted};
+
+use crate::header::header_in;
+use crate::image::Image;
+use crate::raster::{ImageError, raster_in};
+use std::alloc::Global;
+
+/// The image that bytes mean; what is bad is told by how many bytes are left there.
+#[tactic(auto, unfolding(crate::specs::Reading::image_in))]
+fn image_in(alloc: Global, bytes: &[u8]) -> Result<Image, ImageError>
+    ensures read { Gives pixmap_of result (image_in bytes.now) }
+    ensures whole { IfOk result (λ image. IsWhole (pixmap_of image)) }
+{
+    match header_in(bytes) {
+        Ok((header, rest)) => match raster_in(alloc, header, rest) {
+            Ok(samples) => Ok(Image { header, samples }),
+            Err(error) => Err(error),
+        },
+        Err(left) => Err(ImageError::BadByte(left)),
+    }
+}
+
+/// The image that bytes mean, in one of the formats P2, P3, P5 and P6. BadByte of the first byte at which they mean none,
+/// counted from 0: of one that is missing, how many there are. Width and height are from 1 to 1,000,000,000. No memory is
+/// taken for samples that aren't there.
+pub fn read_image(alloc: Global, bytes: &[u8]) -> Result<Image, ImageError>
+    ensures read { Gives pixmap_of result (counted (length bytes.now) (image_in bytes.now)) }
+    ensures whole { IfOk result (λ image. IsWhole (pixmap_of image)) }
+{
+    match image_in(alloc, bytes) {
+        Ok(image) => Ok(image),
+        Err(ImageError::BadByte(left)) => Err(
+            ImageError::BadByte(bytes.len().saturating_sub(left)),
+        ),
+        Err(ImageError::Memory) => Err(ImageError::Memory),
+    }
+}

@@ -1,0 +1,158 @@
+//! Reading steps.
+
+ghost use Rattle.std.specs.Prelude.{◌≡◌, [], ◌∷◌, ◌++◌, OnOk, IfErr};
+ghost use Rattle.std.specs.Option.{option_map};
+ghost use Rattle.std.specs.Result.{result_map_both};
+ghost use Rattle.nd_text.specs.Words.{words_of};
+ghost use Rattle.nd_picture_text.specs.Steps.{name_of, crop_of, turn_by, rotate_of, step_named, step_of, GivesSteps};
+ghost use Rattle.nd_picture_text.specs.declared.steps.StepsError.TheVariants.{Memory};
+
+use crate::step::Step;
+use nd_text::numbers::split_number;
+use nd_text::words::{is_wordless, split_word};
+use std::alloc::Global;
+
+/// Why words are no list of steps.
+#[derive(Clone, Copy, Debug, PartialEq, Eq)]
+pub enum StepsError {
+    /// The number of the first step that can't be read, counted from 1.
+    BadStep(usize),
+    /// Memory was refused.
+    Memory,
+}
+
+/// What a step's first word names.
+#[derive(Clone, Copy, Debug, PartialEq, Eq)]
+enum StepName {
+    Crop,
+    Flip,
+    Flop,
+    Rotate,
+    Transpose,
+    ScaleDown,
+    Threshold,
+    Invert,
+    Blur,
+    /// No step.
+    Other,
+}
+
+/// The step that a word names.
+fn name_of(word: &[u8]) -> StepName
+    ensures { result ≡ name_of word.now }
+{
+    if word == b"crop".as_slice() {
+        StepName::Crop
+    } else if word == b"flip".as_slice() {
+        StepName::Flip
+    } else if word == b"flop".as_slice() {
+        StepName::Flop
+    } else if word == b"rotate".as_slice() {
+        StepName::Rotate
+    } else if word == b"transpose".as_slice() {
+        StepName::Transpose
+    } else if word == b"scale-down".as_slice() {
+        StepName::ScaleDown
+    } else if word == b"threshold".as_slice() {
+        StepName::Threshold
+    } else if word == b"invert".as_slice() {
+        StepName::Invert
+    } else if word == b"blur".as_slice() {
+        StepName::Blur
+    } else {
+        StepName::Other
+    }
+}
+
+/// A crop of the four numbers that a line begins with, and what follows them.
+fn split_crop(line: &[u8]) -> Option<(Step, &[u8])>
+    ensures { option_map (λ x. (x.0, words_of x.1.now)) result ≡ crop_of (words_of line.now) }
+{
+    let (top, line) = split_number(line)?;
+    let (left, line) = split_number(line)?;
+    let (height, line) = split_number(line)?;
+    let (width, line) = split_number(line)?;
+    Some((Step::Crop(top, left, height, width), line))
+}
+
+/// A turn by so many degrees, clockwise.
+fn turn_by(degrees: usize) -> Option<Step>
+    ensures { result ≡ turn_by degrees }
+{
+    match degrees {
+        90 => Some(Step::RotateQuarter),
+        180 => Some(Step::RotateHalf),
+        270 => Some(Step::RotateBack),
+        _ => None,
+    }
+}
+
+/// A turn by the number that a line begins with, and what follows it.
+fn split_rotate(line: &[u8]) -> Option<(Step, &[u8])>
+    ensures { option_map (λ x. (x.0, words_of x.1.now)) result ≡ rotate_of (words_of line.now) }
+{
+    let (degrees, line) = split_number(line)?;
+    Some((turn_by(degrees)?, line))
+}
+
+/// A step of this name, with the numbers that a line begins with, and what follows them.
+fn split_named(name: StepName, line: &[u8]) -> Option<(Step, &[u8])>
+    ensures { option_map (λ x. (x.0, words_of x.1.now)) result ≡ step_named name (words_of line.now) }
+{
+    match name {
+        StepName::Crop => split_crop(line),
+        StepName::Flip => Some((Step::Flip, line)),
+        StepName::Flop => Some((Step::Flop, line)),
+        StepName::Rotate => split_rotate(line),
+        StepName::Transpose => Some((Step::Transpose, line)),
+        StepName::ScaleDown => {
+            let (factor, line) = split_number(line)?;
+            Some((Step::ScaleDown(factor), line))
+        }
+        StepName::Threshold => {
+            let (limit, line) = split_number(line)?;
+            Some((Step::Threshold(limit), line))
+        }
+        StepName::Invert => Some((Step::Invert, line)),
+        StepName::Blur => Some((Step::Blur, line)),
+        StepName::Other => None,
+    }
+}
+
+/// The step that a line begins with, and what follows it.
+fn split_step(line: &[u8]) -> Option<(Step, &[u8])>
+    ensures { option_map (λ x. (x.0, words_of x.1.now)) result ≡ step_of (words_of line.now) }
+{
+    let (word, rest) = split_word(line)?;
+    split_named(name_of(word), rest)
+}
+
+/// Puts a step behind the others.
+fn keep(steps: &mut Vec<Step>, step: Step) -> Result<(), StepsError>
+    ensures kept { OnOk result (steps.new.items ≡ steps.old.items ++ step ∷ []) }
+    ensures memory { IfErr result (λ e. e ≡ Memory) }
+{
+    match steps.push(step) {
+        Ok(()) => Ok(()),
+        Err(_) => Err(StepsError::Memory),
+    }
+}
+
+/// The steps that the words of a line write. BadStep is the number of the first that can't be read.
+#[tactic(auto, using(crate::proofs::StepLists::writes_more, crate::proofs::StepLists::fewer_words))]
+pub fn read_steps(alloc: Global, line: &[u8]) -> Result<Vec<Step>, StepsError>
+    ensures { GivesSteps (words_of line.now) (result_map_both (λ v. v.items) (λ e. e) result) }
+{
+    let mut steps = Vec::new(alloc);
+    let mut rest = line;
+    while !is_wordless(rest) {
+        match split_step(rest) {
+            Some((step, after)) => {
+                keep(&mut steps, step)?;
+                rest = after;
+            }
+            None => return Err(StepsError::BadStep(steps.len() + 1)),
+        }
+    }
+    Ok(steps)
+}
