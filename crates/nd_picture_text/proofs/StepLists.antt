@@ -1,11 +1,11 @@
 -- Steps read one behind the other: each has a word of its own.
-use Rattle.std.proofs.Common.{◌≡◌, List, [], ◌∷◌, ◌++◌, ℕ, ◌<◌, ◌≤◌, length, Option, None, Some, refl, sym, ap, subst, arith}
+use Rattle.std.proofs.Common.{◌≡◌, List, [], ◌∷◌, ◌++◌, ℕ, ◌<◌, ◌≤◌, length, Option, None, Some, refl, sym, subst, arith}
 use Rattle.nd_text.specs.Numerals.{nat_of}
 use Rattle.nd_text.specs.Words.{◌>>=◌}
 use Rattle.nd_picture_text.specs.declared.step.Step.{Step}
 use Rattle.nd_picture_text.specs.declared.steps.StepName.{StepName}
 use Rattle.nd_picture_text.specs.declared.steps.StepName.TheVariants as names
-use Rattle.nd_picture_text.specs.Steps.{◌>>?◌, name_of, number_first, crop_of, turn_by, rotate_of, step_named, step_of, WritesBefore}
+use Rattle.nd_picture_text.specs.Steps.{◌>>?◌, name_of, number_first, crop_of, turn_by, step_named, step_of, WritesBefore}
 
 -- one step more
 pub writes_more : (steps : List Step) (ws rest others : List (List ℕ)) (step : Step) → WritesBefore steps ws rest → step_of rest ≡ Some (step, others) → WritesBefore (steps ++ step ∷ []) ws others
@@ -16,7 +16,6 @@ writes_more (s ∷ steps) ws rest others step before e = (before.0, before.1, wr
 abbrev pub Fewer : {X : Type 0} → Option (X × List (List ℕ)) → ℕ → Type 0
 Fewer None n = Unit {0}
 Fewer (Some x) n = length x.1 ≤ n
-
 
 then_fewer : {X Y : Type 0} (r : Option (X × List (List ℕ))) (n : ℕ) (f : X × List (List ℕ) → Option (Y × List (List ℕ))) → Fewer r n → ((x : X × List (List ℕ)) → length x.1 ≤ n → Fewer (f x) n) → Fewer (r >>? f) n
 then_fewer None n f h g = tt

@@ -1,11 +1,11 @@
 -- What the bytes of an image mean, or how many of them are left where they mean none.
-use Rattle.std.specs.Prelude.{◌≡◌, ◌<◌, ℕ, zero, suc, ◌+◌, ◌-◌, ◌*◌, Bool, false, ◌==◌, nat_le, nat_lt, List, [], ◌∷◌, ◌++◌, length, Option, None, Some, Result, Ok, Err, if◌then◌else◌}
+use Rattle.std.specs.Prelude.{◌≡◌, ℕ, zero, suc, ◌+◌, ◌-◌, ◌*◌, false, ◌==◌, nat_le, nat_lt, List, [], ◌∷◌, ◌++◌, length, Option, None, Some, Result, Ok, Err, if◌then◌else◌}
 use Rattle.nd_picture_text.specs.declared.image.Kind.{Kind}
 use Rattle.nd_picture_text.specs.declared.image.Kind.TheVariants.{PlainGrey, PlainColour, RawGrey, RawColour}
 use Rattle.nd_picture_text.specs.declared.image.Header.{Header}
 use Rattle.nd_picture_text.specs.declared.raster.ImageError.{ImageError}
 use Rattle.nd_picture_text.specs.declared.raster.ImageError.TheVariants.{BadByte, Memory}
-use Rattle.nd_picture_text.specs.Images.{Pixmap, channels_of, is_plain, sample_count}
+use Rattle.nd_picture_text.specs.Images.{Pixmap, is_plain, sample_count}
 use Rattle.nd_picture_text.specs.Numbers.{◌>>=◌, behind_gap, behind_blank, next_number}
 
 -- the format that two bytes name: P2, P3, P5 and P6

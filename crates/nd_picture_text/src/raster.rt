@@ -152,11 +152,7 @@ fn sample_count(header: Header) -> usize
 
 /// The samples behind a header.
 #[tactic(auto, unfolding(crate::specs::Reading::raster_in))]
-pub(crate) fn raster_in(
-    alloc: Global,
-    header: Header,
-    bytes: &[u8],
-) -> Result<Vec<u16>, ImageError>
+pub(crate) fn raster_in(alloc: Global, header: Header, bytes: &[u8]) -> Result<Vec<u16>, ImageError>
     requires width { header.width ≤ 1000000000 }
     requires height { header.height ≤ 1000000000 }
     requires maxval { header.maxval < 65536 }

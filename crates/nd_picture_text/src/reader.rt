@@ -33,9 +33,9 @@ pub fn read_image(alloc: Global, bytes: &[u8]) -> Result<Image, ImageError>
 {
     match image_in(alloc, bytes) {
         Ok(image) => Ok(image),
-        Err(ImageError::BadByte(left)) => Err(
-            ImageError::BadByte(bytes.len().saturating_sub(left)),
-        ),
+        Err(ImageError::BadByte(left)) => Err(ImageError::BadByte(
+            bytes.len().saturating_sub(left),
+        )),
         Err(ImageError::Memory) => Err(ImageError::Memory),
     }
 }

@@ -57,12 +57,7 @@ fn put_sample<W: Write>(
     }
 }
 
-fn put_samples<W: Write>(
-    output: &mut Watched<W>,
-    page: &mut Page,
-    header: Header,
-    samples: &[u16],
-)
+fn put_samples<W: Write>(output: &mut Watched<W>, page: &mut Page, header: Header, samples: &[u16])
     ensures { Puts W.contents output.old page.old output.new page.new (flat_map (sample_text header) samples.now) }
 {
     let mut buffer = Buffer::new();

@@ -1,0 +1,104 @@
+-- Arrays that show every k-th row or column of a picture, each sample changed, or the mean of those around it.
+use Rattle.std.proofs.Common.{◌≡◌, ◌∙◌, ℕ, ◌+◌, ◌-◌, ◌*◌, ◌<◌, ◌≤◌, true, cond, leb, List, [], ◌∷◌, None, Some, refl, sym, ap, arith}
+use Rattle.std.proofs.Math.Nat.{mul-le-mul_left}
+use Rattle.std.proofs.lemmas.Nat.{div-add-mod'}
+use Rattle.std.proofs.lemmas.Bool.{lt-ltb}
+use Rattle.std.proofs.lemmas.Bool.Decides.{nat_tests}
+use Rattle.std.specs.Option.{option_map}
+use Rattle.nd_shape_and_slice.specs.Shape.{in_box}
+use Rattle.nd_shape_and_slice.specs.declared.slice.Slice.{Slice}
+use Rattle.nd_shape_and_slice.specs.Slice.{low_of, high_of, sliced_length, sliced_from, sliced_shape, sliced_index}
+use Rattle.nd_array_core.specs.Meaning.{Meaning, inside}
+use Rattle.nd_picture.specs.Parts.{every}
+use Rattle.nd_picture.specs.Pictures.{Picture, Shows, ceiling, every_row, every_column, changed, mean_around, blurred}
+
+-- coordinates below three lengths
+pub in_three : (n m l i j k : ℕ) → i < n → j < m → k < l → in_box (n ∷ m ∷ l ∷ []) (i ∷ j ∷ k ∷ []) ≡ true
+in_three n m l i j k a b c = rw (lt-ltb i n a, lt-ltb j m b, lt-ltb k l c) refl
+
+not_below : (n : ℕ) → leb 0 n ≡ true
+not_below n = grind (arith, nat_tests)
+
+lowest : (n k : ℕ) → low_of n (every k) ≡ 0
+lowest n k = rw (not_below n) refl
+
+highest : (n k : ℕ) → high_of n (every k) ≡ n
+highest n k = rw (not_below n) (omega arith)
+
+every_length : (n k : ℕ) → sliced_length n (every k) ≡ ceiling n k
+every_length n k = let range : high_of n (every k) - low_of n (every k) ≡ n = omega (arith, lowest n k, highest n k) in ap (λ r. ceiling r k) range
+
+every_from : (n k i : ℕ) → sliced_from n (every k) i ≡ i * k
+every_from n k i = omega (arith, lowest n k)
+
+-- a step stays below what it came from
+step_below : (n k i : ℕ) → 0 < k → i < ceiling n k → i * k < n
+step_below n k i some h =
+    let whole = div-add-mod' (n + (k - 1)) k in
+    let more : k * (i + 1) ≤ k * ceiling n k = mul-le-mul_left k (omega arith) in
+    omega (arith, whole, more)
+
+module _ (m n : Meaning ℕ) (p : Picture) (k : ℕ) (some : 0 < k) (shows : Shows m p) where
+  rows_shape : sliced_shape m.shape 0 (every k) ≡ ceiling p.height k ∷ p.width ∷ p.channels ∷ []
+  rows_shape = ap (λ ns. sliced_shape ns 0 (every k)) shows.shape ∙ ap (λ x. x ∷ p.width ∷ p.channels ∷ []) (every_length p.height k)
+
+  rows_source : (i j l : ℕ) → sliced_index m.shape 0 (every k) (i ∷ j ∷ l ∷ []) ≡ i * k ∷ j ∷ l ∷ []
+  rows_source i j l = ap (λ ns. sliced_index ns 0 (every k) (i ∷ j ∷ l ∷ [])) shows.shape ∙ ap (λ x. x ∷ j ∷ l ∷ []) (every_from p.height k i)
+
+  pub rows_shown : (s : Slice) → s ≡ every k → n.shape ≡ sliced_shape m.shape 0 s → ((i : List ℕ) → n.at i ≡ inside (sliced_shape m.shape 0 s) i (m.at (sliced_index m.shape 0 s i))) → Shows n (every_row k p)
+  rows_shown s is shape at = record {
+    shape = shape ∙ ap (sliced_shape m.shape 0) is ∙ rows_shape;
+    samples = λ i j l a b c.
+        at (i ∷ j ∷ l ∷ [])
+        ∙ ap (λ t. inside (sliced_shape m.shape 0 t) (i ∷ j ∷ l ∷ []) (m.at (sliced_index m.shape 0 t (i ∷ j ∷ l ∷ [])))) is
+        ∙ ap (λ ns. inside ns (i ∷ j ∷ l ∷ []) (m.at (sliced_index m.shape 0 (every k) (i ∷ j ∷ l ∷ [])))) rows_shape
+        ∙ ap (λ t. cond t (m.at (sliced_index m.shape 0 (every k) (i ∷ j ∷ l ∷ []))) None) (in_three (ceiling p.height k) p.width p.channels i j l a b c)
+        ∙ ap m.at (rows_source i j l)
+        ∙ shows.samples (i * k) j l (step_below p.height k i some a) b c;
+  }
+
+  columns_shape : sliced_shape m.shape 1 (every k) ≡ p.height ∷ ceiling p.width k ∷ p.channels ∷ []
+  columns_shape = ap (λ ns. sliced_shape ns 1 (every k)) shows.shape ∙ ap (λ x. p.height ∷ x ∷ p.channels ∷ []) (every_length p.width k)
+
+  columns_source : (i j l : ℕ) → sliced_index m.shape 1 (every k) (i ∷ j ∷ l ∷ []) ≡ i ∷ j * k ∷ l ∷ []
+  columns_source i j l = ap (λ ns. sliced_index ns 1 (every k) (i ∷ j ∷ l ∷ [])) shows.shape ∙ ap (λ x. i ∷ x ∷ l ∷ []) (every_from p.width k j)
+
+  pub columns_shown : (s : Slice) → s ≡ every k → n.shape ≡ sliced_shape m.shape 1 s → ((i : List ℕ) → n.at i ≡ inside (sliced_shape m.shape 1 s) i (m.at (sliced_index m.shape 1 s i))) → Shows n (every_column k p)
+  columns_shown s is shape at = record {
+    shape = shape ∙ ap (sliced_shape m.shape 1) is ∙ columns_shape;
+    samples = λ i j l a b c.
+        at (i ∷ j ∷ l ∷ [])
+        ∙ ap (λ t. inside (sliced_shape m.shape 1 t) (i ∷ j ∷ l ∷ []) (m.at (sliced_index m.shape 1 t (i ∷ j ∷ l ∷ [])))) is
+        ∙ ap (λ ns. inside ns (i ∷ j ∷ l ∷ []) (m.at (sliced_index m.shape 1 (every k) (i ∷ j ∷ l ∷ [])))) columns_shape
+        ∙ ap (λ t. cond t (m.at (sliced_index m.shape 1 (every k) (i ∷ j ∷ l ∷ []))) None) (in_three p.height (ceiling p.width k) p.channels i j l a b c)
+        ∙ ap m.at (columns_source i j l)
+        ∙ shows.samples i (j * k) l a (step_below p.width k j some b) c;
+  }
+
+-- each sample changed
+pub changed_shown : (m n : Meaning ℕ) (f : ℕ → ℕ) (p : Picture) → n.shape ≡ m.shape → ((i : List ℕ) → n.at i ≡ option_map f (m.at i)) → Shows m p → Shows n (changed f p)
+changed_shown m n f p shape at shows = record {
+  shape = shape ∙ shows.shape;
+  samples = λ i j l a b c. at (i ∷ j ∷ l ∷ []) ∙ ap (option_map f) (shows.samples i j l a b c);
+}
+
+-- the means, by index
+abbrev pub mean_of : Picture → List ℕ → ℕ
+mean_of p [] = 0
+mean_of p (i ∷ []) = 0
+mean_of p (i ∷ j ∷ []) = 0
+mean_of p (i ∷ j ∷ l ∷ []) = mean_around p i j l
+mean_of p (i ∷ j ∷ l ∷ k ∷ is) = 0
+
+pub means_shown : (m n : Meaning ℕ) (p : Picture) (shape : List ℕ) → m.shape ≡ shape → Shows m p → n.shape ≡ shape → ((i : List ℕ) → n.at i ≡ inside shape i (Some (mean_of p i))) → Shows n (blurred p)
+means_shown m n p shape same shows is at = record {
+  shape = is ∙ sym same ∙ shows.shape;
+  samples = λ i j l a b c.
+      at (i ∷ j ∷ l ∷ [])
+      ∙ ap (λ ns. inside ns (i ∷ j ∷ l ∷ []) (Some (mean_around p i j l))) (sym same ∙ shows.shape)
+      ∙ ap (λ t. cond t (Some (mean_around p i j l)) None) (in_three p.height p.width p.channels i j l a b c);
+}
+
+-- how many rows and columns there are
+pub sides_are : (m : Meaning ℕ) (p : Picture) (h w c : ℕ) → h ∷ w ∷ c ∷ [] ≡ m.shape → Shows m p → (h ≡ p.height) × (w ≡ p.width)
+sides_are m p h w c is shows = let same : h ∷ w ∷ c ∷ [] ≡ p.height ∷ p.width ∷ p.channels ∷ [] = is ∙ shows.shape in (cc, cc)

@@ -1,0 +1,16 @@
+use Rattle.nd_picture.proofs.drive.put_fault.Goals as goal
+
+pub returns-in-BadStep : goal.returns-in-BadStep
+returns-in-BadStep g c = rw c.in-BadStep.is c.put_between.ensures
+
+pub returns-in-BadByte : goal.returns-in-BadByte
+returns-in-BadByte g c = rw c.in-BadByte.is c.put_between-in-BadByte.ensures
+
+pub returns-in-Refused : goal.returns-in-Refused
+returns-in-Refused g c = rw c.in-Refused.is c.put_between-in-Refused.ensures
+
+pub returns-in-Memory : goal.returns-in-Memory
+returns-in-Memory g c = rw c.in-Memory.is c.put.ensures
+
+pub returns-in-ReadFailed : goal.returns-in-ReadFailed
+returns-in-ReadFailed g c = rw c.in-ReadFailed.is c.put-in-ReadFailed.ensures

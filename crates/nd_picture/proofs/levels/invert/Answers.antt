@@ -1,0 +1,8 @@
+use Rattle.nd_array_core.specs.Meaning.{meaning_of}
+use Rattle.nd_picture.proofs.Shown.{changed_shown}
+use Rattle.nd_picture.proofs.levels.invert.Goals as goal
+
+pub returns : goal.returns
+returns c = λ p shows.
+    let all = c.in_ok-changed.ensures in
+    changed_shown (meaning_of c.args.picture) (meaning_of c.in_ok-changed.changed) _ p all.shape all.samples shows

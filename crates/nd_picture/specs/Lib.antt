@@ -1,0 +1,5 @@
+pub mod Driven
+pub mod Images
+pub mod Parts
+pub mod Pictures
+pub mod Steps

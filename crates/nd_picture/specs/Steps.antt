@@ -1,0 +1,47 @@
+-- A list of steps: when each is refused, and what it gives.
+use Rattle.std.specs.Prelude.{◌≡◌, ℕ, ◌+◌, ◌-◌, ◌^◌, Bool, true, ◌&&◌, nat_lt, nat_le, List, [], ◌∷◌, Result, Ok, Err, if◌then◌else◌}
+use Rattle.nd_array_core.specs.Meaning.{Meaning}
+use Rattle.nd_picture_text.specs.declared.step.Step.{Step}
+use Rattle.nd_picture_text.specs.declared.step.Step.TheVariants.{Crop, Flip, Flop, RotateQuarter, RotateHalf, RotateBack, Transpose, ScaleDown, Threshold, Invert, Blur}
+use Rattle.nd_picture.specs.declared.steps.StepError.{StepError}
+use Rattle.nd_picture.specs.declared.steps.StepError.TheVariants.{Refused, Memory}
+use Rattle.nd_picture.specs.Pictures.{Picture, Shows, cropped, flipped, flopped, transposed, turned_quarter, turned_half, turned_back, scaled_down, changed, over, blurred}
+
+-- some rows, or columns, from one on lie within a picture's
+abbrev pub lie_within : ℕ → ℕ → ℕ → Bool
+lie_within first count all = nat_lt 0 count && nat_le (first + count) all
+
+-- the step can be taken on a picture of so many rows and columns: a part has pixels and lies in the picture, and of some rows
+-- there is a first
+abbrev pub fits : Step → ℕ → ℕ → Bool
+fits (Crop top left height width) rows columns = lie_within top height rows && lie_within left width columns
+fits (ScaleDown k) rows columns = nat_lt 0 k && nat_lt k (2 ^ 63)
+fits _ rows columns = true
+
+-- the picture after it, where full light is this
+abbrev pub after : ℕ → Step → Picture → Picture
+after maxval (Crop top left height width) p = cropped top left height width p
+after maxval Flip p = flipped p
+after maxval Flop p = flopped p
+after maxval RotateQuarter p = turned_quarter p
+after maxval RotateHalf p = turned_half p
+after maxval RotateBack p = turned_back p
+after maxval Transpose p = transposed p
+after maxval (ScaleDown k) p = scaled_down k p
+after maxval (Threshold limit) p = changed (over maxval limit) p
+after maxval Invert p = changed (λ sample. maxval - sample) p
+after maxval Blur p = blurred p
+
+-- the picture after all steps, in order, or the number of the first that can't be taken
+abbrev pub after_all : ℕ → ℕ → List Step → Picture → Result Picture ℕ
+after_all maxval number [] p = Ok p
+after_all maxval number (step ∷ steps) p = if fits step p.height p.width then after_all maxval (number + 1) steps (after maxval step p) else Err number
+
+-- the code ends with an array that shows that picture, or with that number, unless memory ran out
+abbrev pub StopsAt : StepError → Result Picture ℕ → Type 0
+StopsAt (Refused number) end = end ≡ Err number
+StopsAt Memory end = Unit {0}
+
+abbrev pub EndsWith : {X : Type 0} → (X → Meaning ℕ) → Result X StepError → Result Picture ℕ → Type 0
+EndsWith view (Ok x) end = (p : Picture) × (end ≡ Ok p) × Shows (view x) p
+EndsWith view (Err error) end = StopsAt error end

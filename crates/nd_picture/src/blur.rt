@@ -1,0 +1,73 @@
+//! The mean of the samples around each.
+
+ghost use Rattle.std.specs.Prelude.{◌≡◌, ◌<◌, ◌≤◌, IfOk, ℕ, [], ◌∷◌, slice_index};
+ghost use Rattle.nd_shape_and_slice.specs.Shape.{HasCheckedSize};
+ghost use Rattle.nd_array_core.specs.Meaning.{meaning_of, shape_of};
+ghost use Rattle.nd_picture.specs.Pictures.{Picture, Shows, three_around, mean_around, blurred};
+
+use nd_array_core::laws::shape_is_checked;
+use nd_array_core::{Array, Array3};
+use nd_shape_and_slice::NoMemory;
+use std::alloc::Global;
+
+/// The sample at a row, a column and a channel.
+fn sample_at(picture: &Array3<u16>, row: usize, column: usize, channel: usize) -> u16
+    requires row { row < slice_index (shape_of picture.now) 0 }
+    requires column { column < slice_index (shape_of picture.now) 1 }
+    requires channel { channel < slice_index (shape_of picture.now) 2 }
+    ensures { (p : Picture) → Shows (meaning_of picture.now) p → result ≡ p.at row column channel }
+{
+    let (_rows, _columns, _channels) = picture.dim();
+    picture[[row, column, channel]]
+}
+
+/// A row's sample with those to the left and to the right of it.
+fn three_around(picture: &Array3<u16>, row: usize, column: usize, channel: usize) -> u64
+    requires row { row < slice_index (shape_of picture.now) 0 }
+    requires column { column < slice_index (shape_of picture.now) 1 }
+    requires channel { channel < slice_index (shape_of picture.now) 2 }
+    ensures sum { (p : Picture) → Shows (meaning_of picture.now) p → result ≡ three_around p row column channel }
+    ensures bound { result ≤ 196605 }
+{
+    let (_rows, columns, _channels) = picture.dim();
+    let left = u64::from(sample_at(picture, row, column.saturating_sub(1), channel));
+    let here = u64::from(sample_at(picture, row, column, channel));
+    let right = u64::from(sample_at(picture, row, (column + 1).min(columns - 1), channel));
+    left + here + right
+}
+
+/// The mean of the nine samples around one, rounded down.
+fn mean_around(picture: &Array3<u16>, row: usize, column: usize, channel: usize) -> u16
+    requires row { row < slice_index (shape_of picture.now) 0 }
+    requires column { column < slice_index (shape_of picture.now) 1 }
+    requires channel { channel < slice_index (shape_of picture.now) 2 }
+    ensures { (p : Picture) → Shows (meaning_of picture.now) p → result ≡ mean_around p row column channel }
+{
+    let (rows, _columns, _channels) = picture.dim();
+    let above = three_around(picture, row.saturating_sub(1), column, channel);
+    let here = three_around(picture, row, column, channel);
+    let below = three_around(picture, (row + 1).min(rows - 1), column, channel);
+    ((above + here + below) / 9) as u16
+}
+
+/// How many rows, columns and channels a picture has; a shape of so many has a checked size.
+fn extents(picture: &Array3<u16>) -> (usize, usize, usize)
+    ensures shape { shape_of picture.now ≡ result.0 ∷ result.1 ∷ result.2 ∷ [] }
+    ensures checked { HasCheckedSize (result.0 ∷ result.1 ∷ result.2 ∷ []) }
+{
+    shape_is_checked(picture);
+    picture.dim()
+}
+
+/// Each sample the mean of the nine around it.
+pub(crate) fn blur(alloc: Global, picture: &Array3<u16>) -> Result<Array3<u16>, NoMemory>
+    ensures { IfOk result (λ a. (p : Picture) → Shows (meaning_of picture.now) p → Shows (meaning_of a) (blurred p)) }
+{
+    let (rows, columns, channels) = extents(picture);
+    let means = Array::from_shape_fn(
+        alloc,
+        (rows, columns, channels),
+        |(row, column, channel)| mean_around(picture, row, column, channel),
+    )?;
+    Ok(means)
+}

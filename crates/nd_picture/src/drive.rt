@@ -1,0 +1,138 @@
+//! The whole program, over any streams.
+
+ghost use Rattle.std.specs.Prelude.{◌≡◌, ◌<◌, ◌≤◌, ◌||◌, ◌++◌, true};
+ghost use Rattle.std.specs.Fmt.{decimal};
+ghost use Rattle.nd_text.specs.Puts.{Puts, TakesText};
+ghost use Rattle.nd_text.specs.Words.{words_of};
+ghost use Rattle.nd_text.specs.Watched.{watched_failed, watched_retried, GetsFlushed};
+ghost use Rattle.nd_picture_text.specs.Images.{pixmap_of};
+ghost use Rattle.nd_picture_text.specs.Writing.{image_text};
+ghost use Rattle.nd_picture.specs.Driven.{fault_text, fault_status, Driven, Tells};
+
+use crate::outcome::{Fault, produce};
+use itoa::Buffer;
+use nd_picture_text::Image;
+use nd_picture_text::writer::put_image;
+use nd_text::printing::{finish, put, put_number};
+use nd_text::{Page, Watched};
+use std::alloc::Global;
+use std::io::{Read, Write};
+
+/// Writes an image, and flushes once.
+fn show<W: Write>(output: &mut Watched<W>, image: &Image)
+    ensures text { TakesText W.contents output.old output.new (image_text (pixmap_of image.now)) }
+    ensures flushed { GetsFlushed output.old output.new }
+{
+    let mut page = Page::new();
+    put_image(output, &mut page, image.header, &image.samples);
+    finish(output, &page);
+}
+
+/// Puts a number between two texts.
+fn put_between<W: Write>(
+    output: &mut Watched<W>,
+    page: &mut Page,
+    before: &[u8],
+    number: usize,
+    behind: &[u8],
+)
+    ensures { Puts W.contents output.old page.old output.new page.new (before.now ++ (decimal number ++ behind.now)) }
+{
+    put(output, page, before);
+    put_number(output, page, &mut Buffer::new(), &number);
+    put(output, page, behind);
+}
+
+fn put_fault<W: Write>(output: &mut Watched<W>, page: &mut Page, fault: Fault)
+    ensures { Puts W.contents output.old page.old output.new page.new (fault_text fault) }
+{
+    match fault {
+        Fault::BadStep(number) => put_between(output, page, b"step ", number, b" can't be read\n"),
+        Fault::BadByte(number) => put_between(output, page, b"byte ", number, b" can't be read\n"),
+        Fault::Refused(number) => {
+            put_between(
+                output,
+                page,
+                b"step ",
+                number,
+                b" doesn't fit the picture\n",
+            )
+        }
+        Fault::Memory => put(output, page, b"out of memory\n"),
+        Fault::ReadFailed => put(output, page, b"read failed\n"),
+    }
+}
+
+/// Writes a line that tells a fault, and flushes once.
+fn report<W: Write>(errors: &mut Watched<W>, fault: Fault)
+    ensures text { TakesText W.contents errors.old errors.new (fault_text fault) }
+    ensures flushed { GetsFlushed errors.old errors.new }
+{
+    let mut page = Page::new();
+    put_fault(errors, &mut page, fault);
+    finish(errors, &page);
+}
+
+/// The status that tells a fault, where no call of a stream failed.
+fn fault_status(fault: Fault) -> u8
+    ensures { result ≡ fault_status fault }
+{
+    match fault {
+        Fault::BadStep(_) => 1,
+        Fault::BadByte(_) => 1,
+        Fault::Refused(_) => 1,
+        Fault::Memory => 2,
+        Fault::ReadFailed => 3,
+    }
+}
+
+/// `drive` without the test for failed calls: the status where there is none.
+fn drive_on<R: Read, W: Write, E: Write>(
+    alloc: Global,
+    line: &[u8],
+    input: &mut Watched<R>,
+    output: &mut Watched<W>,
+    errors: &mut Watched<E>,
+) -> u8
+    ensures driven { Driven R.remaining W.contents E.contents (words_of line.now) input.old input.new output.old output.new errors.old errors.new result }
+    ensures stops_reading { watched_retried input.new ≡ watched_retried input.old }
+    ensures stops_writing { watched_retried output.new ≡ watched_retried output.old }
+    ensures stops_telling { watched_retried errors.new ≡ watched_retried errors.old }
+    ensures flushed { result ≡ 0 → GetsFlushed output.old output.new }
+{
+    match produce(alloc, line, input) {
+        Ok(image) => {
+            show(output, &image);
+            0
+        }
+        Err(fault) => {
+            report(errors, fault);
+            fault_status(fault)
+        }
+    }
+}
+
+/// Reads an image to the end of the input, takes it through the steps that the words of a line write, and writes it in its
+/// own format; or writes a line on the errors that tells the first step or byte that is bad. Returns the status: 0, 1 for a
+/// bad step or byte, 2 if memory was refused, 3 if a call of a stream failed.
+pub fn drive<R: Read, W: Write, E: Write>(
+    alloc: Global,
+    line: &[u8],
+    input: &mut Watched<R>,
+    output: &mut Watched<W>,
+    errors: &mut Watched<E>,
+) -> u8
+    ensures told { result < 3 → Tells R.remaining W.contents E.contents (words_of line.now) input.old output.old output.new errors.old errors.new result }
+    ensures failed { (watched_failed input.new || watched_failed output.new || watched_failed errors.new) ≡ true → result ≡ 3 }
+    ensures statuses { result ≤ 3 }
+    ensures stops_reading { watched_retried input.new ≡ watched_retried input.old }
+    ensures stops_writing { watched_retried output.new ≡ watched_retried output.old }
+    ensures stops_telling { watched_retried errors.new ≡ watched_retried errors.old }
+    ensures flushed { result ≡ 0 → GetsFlushed output.old output.new }
+{
+    let status = drive_on(alloc, line, input, output, errors);
+    if input.failed() || output.failed() || errors.failed() {
+        return 3;
+    }
+    status
+}

@@ -1,0 +1,139 @@
+//! Steps that move pixels: none reads or writes a sample.
+
+ghost use Rattle.std.specs.Prelude.{◌≡◌, ◌<◌, ◌≤◌, ◌+◌, ◌^◌, slice_index};
+ghost use Rattle.nd_array_core.specs.Meaning.{meaning_of, shape_of};
+ghost use Rattle.nd_picture.specs.Parts.{every};
+ghost use Rattle.nd_picture.specs.Pictures.{Picture, Shows, rows_from, columns_from, cropped, flipped, flopped, transposed, turned_quarter, turned_half, turned_back, every_row, every_column, scaled_down};
+
+use nd_array_core::Array3;
+use nd_shape_and_slice::{Axis, Slice};
+
+/// The rows in the opposite order.
+pub(crate) fn flip(picture: Array3<u16>) -> Array3<u16>
+    ensures { (p : Picture) → Shows (meaning_of picture) p → Shows (meaning_of result) (flipped p) }
+{
+    let mut picture = picture;
+    let (_rows, _columns, _channels) = picture.dim();
+    picture.invert_axis(Axis(0));
+    picture
+}
+
+/// The columns in the opposite order.
+pub(crate) fn flop(picture: Array3<u16>) -> Array3<u16>
+    ensures { (p : Picture) → Shows (meaning_of picture) p → Shows (meaning_of result) (flopped p) }
+{
+    let mut picture = picture;
+    let (_rows, _columns, _channels) = picture.dim();
+    picture.invert_axis(Axis(1));
+    picture
+}
+
+/// Rows as columns.
+pub(crate) fn transpose(picture: Array3<u16>) -> Array3<u16>
+    ensures { (p : Picture) → Shows (meaning_of picture) p → Shows (meaning_of result) (transposed p) }
+{
+    let mut picture = picture;
+    let (_rows, _columns, _channels) = picture.dim();
+    picture.swap_axes(0, 1);
+    picture
+}
+
+/// Turned by a quarter, clockwise.
+pub(crate) fn turn_quarter(picture: Array3<u16>) -> Array3<u16>
+    ensures { (p : Picture) → Shows (meaning_of picture) p → Shows (meaning_of result) (turned_quarter p) }
+{
+    flop(transpose(picture))
+}
+
+/// Turned half round.
+pub(crate) fn turn_half(picture: Array3<u16>) -> Array3<u16>
+    ensures { (p : Picture) → Shows (meaning_of picture) p → Shows (meaning_of result) (turned_half p) }
+{
+    flip(flop(picture))
+}
+
+/// Turned by three quarters, clockwise.
+pub(crate) fn turn_back(picture: Array3<u16>) -> Array3<u16>
+    ensures { (p : Picture) → Shows (meaning_of picture) p → Shows (meaning_of result) (turned_back p) }
+{
+    flip(transpose(picture))
+}
+
+/// This many rows from one on.
+fn rows_from(picture: Array3<u16>, top: usize, height: usize) -> Array3<u16>
+    requires { top + height ≤ slice_index (shape_of picture) 0 }
+    ensures shown { (p : Picture) → Shows (meaning_of picture) p → Shows (meaning_of result) (rows_from top height p) }
+    ensures columns { slice_index (shape_of result) 1 ≡ slice_index (shape_of picture) 1 }
+{
+    let mut picture = picture;
+    let (_rows, _columns, _channels) = picture.dim();
+    picture.slice_axis_inplace(Axis(0), Slice::between(top, top + height));
+    picture
+}
+
+/// This many columns from one on.
+fn columns_from(picture: Array3<u16>, left: usize, width: usize) -> Array3<u16>
+    requires { left + width ≤ slice_index (shape_of picture) 1 }
+    ensures { (p : Picture) → Shows (meaning_of picture) p → Shows (meaning_of result) (columns_from left width p) }
+{
+    let mut picture = picture;
+    let (_rows, _columns, _channels) = picture.dim();
+    picture.slice_axis_inplace(Axis(1), Slice::between(left, left + width));
+    picture
+}
+
+/// The part of so many rows and columns, from a row and a column on.
+pub(crate) fn crop(
+    picture: Array3<u16>,
+    top: usize,
+    left: usize,
+    height: usize,
+    width: usize,
+) -> Array3<u16>
+    requires rows { top + height ≤ slice_index (shape_of picture) 0 }
+    requires columns { left + width ≤ slice_index (shape_of picture) 1 }
+    ensures { (p : Picture) → Shows (meaning_of picture) p → Shows (meaning_of result) (cropped top left height width p) }
+{
+    columns_from(rows_from(picture, top, height), left, width)
+}
+
+/// Of so many coordinates the first.
+fn every(factor: usize) -> Slice
+    requires { factor < 2 ^ 63 }
+    ensures { result ≡ every factor }
+{
+    Slice::new(0, None, factor as isize)
+}
+
+/// Of so many rows the first.
+fn every_row(picture: Array3<u16>, factor: usize) -> Array3<u16>
+    requires some { 0 < factor }
+    requires fits { factor < 2 ^ 63 }
+    ensures { (p : Picture) → Shows (meaning_of picture) p → Shows (meaning_of result) (every_row factor p) }
+{
+    let mut picture = picture;
+    let (_rows, _columns, _channels) = picture.dim();
+    picture.slice_axis_inplace(Axis(0), every(factor));
+    picture
+}
+
+/// Of so many columns the first.
+fn every_column(picture: Array3<u16>, factor: usize) -> Array3<u16>
+    requires some { 0 < factor }
+    requires fits { factor < 2 ^ 63 }
+    ensures { (p : Picture) → Shows (meaning_of picture) p → Shows (meaning_of result) (every_column factor p) }
+{
+    let mut picture = picture;
+    let (_rows, _columns, _channels) = picture.dim();
+    picture.slice_axis_inplace(Axis(1), every(factor));
+    picture
+}
+
+/// Of so many rows and columns the first.
+pub(crate) fn scale_down(picture: Array3<u16>, factor: usize) -> Array3<u16>
+    requires some { 0 < factor }
+    requires fits { factor < 2 ^ 63 }
+    ensures { (p : Picture) → Shows (meaning_of picture) p → Shows (meaning_of result) (scaled_down factor p) }
+{
+    every_column(every_row(picture, factor), factor)
+}

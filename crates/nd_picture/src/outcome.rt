@@ -1,0 +1,91 @@
+//! What comes of words and bytes.
+
+ghost use Rattle.std.specs.Prelude.{◌≡◌, ℕ, false, IfOk, IfSome};
+ghost use Rattle.std.specs.Result.{result_map_both};
+ghost use Rattle.nd_array_core.specs.Meaning.{meaning_of};
+ghost use Rattle.nd_text.specs.Words.{words_of};
+ghost use Rattle.nd_text.specs.Watched.{watched_inner, watched_failed, watched_retried};
+ghost use Rattle.nd_picture_text.specs.Images.{pixmap_of, IsWhole};
+ghost use Rattle.nd_picture.specs.Driven.{ComesOf, is_read_failure, Loads, Changes};
+
+use crate::samples::{image_of, picture_of};
+use crate::steps::{StepError, take_steps};
+use nd_picture_text::reader::read_image;
+use nd_picture_text::steps::read_steps;
+use nd_picture_text::{Image, ImageError, Step, StepsError};
+use nd_text::Watched;
+use nd_text::input::{InputError, read_input};
+use std::alloc::Global;
+use std::io::Read;
+
+/// Why no image is written.
+#[derive(Clone, Copy, Debug, PartialEq, Eq)]
+pub enum Fault {
+    /// The number of the first step that can't be read, counted from 1.
+    BadStep(usize),
+    /// The first byte at which the input is no image, counted from 0.
+    BadByte(usize),
+    /// The number of the first step that can't be taken, counted from 1.
+    Refused(usize),
+    /// Memory was refused.
+    Memory,
+    /// A read failed.
+    ReadFailed,
+}
+
+/// The image of all bytes of the input.
+fn load<R: Read>(alloc: Global, input: &mut Watched<R>) -> Result<Image, Fault>
+    ensures image { IfSome (R.remaining (watched_inner input.old)) (λ bytes. Loads bytes (result_map_both pixmap_of (λ e. e) result)) }
+    ensures whole { IfOk result (λ image. IsWhole (pixmap_of image)) }
+    ensures failed { watched_failed input.new ≡ is_read_failure result }
+    ensures stops { watched_retried input.new ≡ watched_retried input.old }
+{
+    let bytes = match read_input(alloc, input) {
+        Ok(bytes) => bytes,
+        Err(InputError::Failed) => return Err(Fault::ReadFailed),
+        Err(InputError::Memory) => return Err(Fault::Memory),
+    };
+    match read_image(alloc, &bytes) {
+        Ok(image) => Ok(image),
+        Err(ImageError::BadByte(number)) => Err(Fault::BadByte(number)),
+        Err(ImageError::Memory) => Err(Fault::Memory),
+    }
+}
+
+/// The image after all steps.
+fn change(alloc: Global, steps: &[Step], image: Image) -> Result<Image, Fault>
+    requires { IsWhole (pixmap_of image) }
+    ensures { Changes steps.now (pixmap_of image) (result_map_both pixmap_of (λ e. e) result) }
+{
+    let header = image.header;
+    match take_steps(alloc, header.maxval as u16, steps, picture_of(image)) {
+        Ok(picture) => match image_of(alloc, header, &picture) {
+            Ok(made) => Ok(made),
+            Err(_) => Err(Fault::Memory),
+        },
+        Err(StepError::Refused(number)) => Err(Fault::Refused(number)),
+        Err(StepError::Memory) => Err(Fault::Memory),
+    }
+}
+
+/// The image after the steps that the words of a line write, of all bytes of the input. No byte is read where the steps
+/// can't be.
+pub(crate) fn produce<R: Read>(
+    alloc: Global,
+    line: &[u8],
+    input: &mut Watched<R>,
+) -> Result<Image, Fault>
+    ensures made { ComesOf R.remaining (words_of line.now) input.old (result_map_both pixmap_of (λ e. e) result) }
+    ensures failed { watched_failed input.old ≡ false → watched_failed input.new ≡ is_read_failure result }
+    ensures stops { watched_retried input.new ≡ watched_retried input.old }
+{
+    let steps = match read_steps(alloc, line) {
+        Ok(steps) => steps,
+        Err(StepsError::BadStep(number)) => return Err(Fault::BadStep(number)),
+        Err(StepsError::Memory) => return Err(Fault::Memory),
+    };
+    match load(alloc, input) {
+        Ok(image) => change(alloc, &steps, image),
+        Err(fault) => Err(fault),
+    }
+}

@@ -1,0 +1,96 @@
+//! A list of steps on a picture.
+
+ghost use Rattle.std.specs.Prelude.{◌≡◌, ◌<◌, ◌≤◌, ◌+◌, ◌^◌, ℕ, true, length, slice_index, IfOk};
+ghost use Rattle.nd_array_core.specs.Meaning.{meaning_of, shape_of};
+ghost use Rattle.nd_picture.specs.Pictures.{Picture, Shows};
+ghost use Rattle.nd_picture.specs.Steps.{lie_within, fits, after, after_all, EndsWith};
+
+use crate::blur::blur;
+use crate::layouts::{crop, flip, flop, scale_down, transpose, turn_back, turn_half, turn_quarter};
+use crate::levels::{invert, threshold};
+use nd_array_core::Array3;
+use nd_picture_text::Step;
+use nd_shape_and_slice::NoMemory;
+use std::alloc::Global;
+
+/// Why the steps of a list were not all taken.
+#[derive(Clone, Copy, Debug, PartialEq, Eq)]
+pub enum StepError {
+    /// The number of the first that can't be taken, counted from 1.
+    Refused(usize),
+    /// Memory was refused.
+    Memory,
+}
+
+/// Whether some rows, or columns, from one on lie within a picture's.
+#[tactic(auto, using(std::proofs::lemmas::Bool::Decides::nat_tests))]
+fn lie_within(first: usize, count: usize, all: usize) -> bool
+    ensures { result ≡ lie_within first count all }
+{
+    0 < count && count <= all && first <= all - count
+}
+
+/// Whether the step can be taken.
+pub fn fits(step: Step, picture: &Array3<u16>) -> bool
+    ensures { result ≡ fits step (slice_index (shape_of picture.now) 0) (slice_index (shape_of picture.now) 1) }
+{
+    let (rows, columns, _channels) = picture.dim();
+    match step {
+        Step::Crop(top, left, height, width) => {
+            lie_within(top, height, rows) && lie_within(left, width, columns)
+        }
+        Step::ScaleDown(factor) => 0 < factor && factor < SCALE_LIMIT,
+        _ => true,
+    }
+}
+
+/// One more than the greatest factor.
+const SCALE_LIMIT: usize = 1 << 63;
+
+/// The picture after a step that can be taken.
+pub fn take_step(
+    alloc: Global,
+    maxval: u16,
+    step: Step,
+    picture: Array3<u16>,
+) -> Result<Array3<u16>, NoMemory>
+    requires { fits step (slice_index (shape_of picture) 0) (slice_index (shape_of picture) 1) ≡ true }
+    ensures { IfOk result (λ a. (p : Picture) → Shows (meaning_of picture) p → Shows (meaning_of a) (after maxval step p)) }
+{
+    match step {
+        Step::Crop(top, left, height, width) => Ok(crop(picture, top, left, height, width)),
+        Step::Flip => Ok(flip(picture)),
+        Step::Flop => Ok(flop(picture)),
+        Step::RotateQuarter => Ok(turn_quarter(picture)),
+        Step::RotateHalf => Ok(turn_half(picture)),
+        Step::RotateBack => Ok(turn_back(picture)),
+        Step::Transpose => Ok(transpose(picture)),
+        Step::ScaleDown(factor) => Ok(scale_down(picture, factor)),
+        Step::Threshold(limit) => threshold(picture, maxval, limit),
+        Step::Invert => invert(picture, maxval),
+        Step::Blur => blur(alloc, &picture),
+    }
+}
+
+/// The picture after all steps, in order. Refused is the number of the first that can't be taken.
+pub fn take_steps(
+    alloc: Global,
+    maxval: u16,
+    steps: &[Step],
+    picture: Array3<u16>,
+) -> Result<Array3<u16>, StepError>
+    ensures { (p : Picture) → Shows (meaning_of picture) p → EndsWith (λ a. meaning_of a) result (after_all maxval 1 steps.now p) }
+{
+    let mut picture = picture;
+    for nth in 0..steps.len() {
+        let step = steps[nth];
+        if !fits(step, &picture) {
+            return Err(StepError::Refused(nth + 1));
+        }
+        match take_step(alloc, maxval, step, picture) {
+            Ok(next) => picture = next,
+            Err(_) => return Err(StepError::Memory),
+        }
+    }
+    Ok(picture)
+}
