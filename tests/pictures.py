@@ -1,0 +1,224 @@
+#!/usr/bin/env python3
+"""Compares the picture program with ImageMagick, byte for byte, and runs it on mutated images.
+
+    tests/pictures.py [MUTATED [SEED [PROGRAM]]]
+
+Pictures of 1 x 1 to 4000 x 3000, grey and coloured, of one byte a sample and of two, are taken through each step that `convert` has
+too. Then so many mutated images (100,000 unless told) are read by the program and by a reader in plain Python: the image or the first
+bad byte must be the same, with a line on the errors and status 1, and no other end. Prints a table of processor seconds for the
+largest picture, and last `N passed, M failed`. Without a PROGRAM it is built by `rt run`, which first proves what isn't proved
+yet. It wants ImageMagick 6 (`convert`).
+"""
+
+import concurrent.futures
+import os
+import pathlib
+import random
+import resource
+import subprocess
+import sys
+import tempfile
+
+CRATE = pathlib.Path(__file__).resolve().parent.parent / "crates" / "nd_picture_program"
+SIZES = [(1, 1), (1, 7), (7, 1), (2, 3), (17, 13), (640, 480), (4000, 3000)]
+BLANKS = b" \t\r\n"
+
+
+def built():
+    """The program, as `rt run` builds it."""
+    ran = subprocess.run(["rt", "run", "--", "flip"], cwd=CRATE, input=b"P2 1 1 1 1", capture_output=True)
+    if ran.stdout != b"P2\n1 1\n1\n1\n":
+        sys.exit(f"rt run: {ran.stdout!r} {ran.stderr.decode()[-2000:]}")
+    return CRATE / "out" / "nd_picture_program"
+
+
+# ---- beside convert
+
+def steps_for(width, height, maxval):
+    """Each step as the program's words and as convert's."""
+    top, left = height // 3, width // 3
+    rows, columns = max(1, height // 2), max(1, width // 2)
+    level = maxval // 3
+    return [
+        (f"crop {top} {left} {rows} {columns}", f"-crop {columns}x{rows}+{left}+{top} +repage"),
+        ("flip", "-flip"),
+        ("flop", "-flop"),
+        ("rotate 90", "-rotate 90"),
+        ("rotate 180", "-rotate 180"),
+        ("rotate 270", "-rotate 270"),
+        ("transpose", "-transpose"),
+        (f"threshold {level}", f"-channel RGB -threshold {level * 65535 // maxval}"),
+        ("invert", "-negate"),
+        ("transpose flip crop 0 0 1 1", "-transpose +repage -flip +repage -crop 1x1+0+0 +repage"),
+    ]
+
+
+def timed(words, source):
+    """What a command writes for a file, and its processor seconds."""
+    before = resource.getrusage(resource.RUSAGE_CHILDREN)
+    with open(source, "rb") as file:
+        ran = subprocess.run(words, stdin=file, capture_output=True)
+    after = resource.getrusage(resource.RUSAGE_CHILDREN)
+    return ran.stdout, after.ru_utime + after.ru_stime - before.ru_utime - before.ru_stime
+
+
+def beside_convert(program, folder, rows):
+    """Which pictures and steps differ, of how many."""
+    failed, count = [], 0
+    for width, height in SIZES:
+        for kind, suffix, channels in [("P5", "pgm", 1), ("P6", "ppm", 3)]:
+            for maxval in [255, 65535]:
+                source = os.path.join(folder, "source")
+                size = width * height * channels * (1 if maxval < 256 else 2)
+                with open(source, "wb") as file:
+                    file.write(b"%s\n%d %d\n%d\n" % (kind.encode(), width, height, maxval) + os.urandom(size))
+                for words, options in steps_for(width, height, maxval):
+                    ours, time = timed([program, *words.split()], source)
+                    depth = ["-depth", "8" if maxval < 256 else "16"]
+                    theirs, beside = timed(["convert", f"{suffix}:-", *options.split(), *depth, f"{suffix}:-"], source)
+                    count += 1
+                    if ours != theirs:
+                        failed.append(f"{width} x {height} {kind} {maxval}: {words}")
+                    if (width, height) == SIZES[-1]:
+                        rows.append((kind, maxval, words, time, beside))
+    return failed, count
+
+
+# ---- mutated images, beside a reader in plain Python
+
+class Bad(Exception):
+    """The first bad byte."""
+
+
+def byte_behind_comments(text, at):
+    while at < len(text) and text[at] == ord("#"):
+        while at < len(text) and text[at] not in b"\r\n":
+            at += 1
+        at = min(at + 1, len(text))
+    return at
+
+
+def number(text, at, limit, least=0):
+    """The next number, and where it ends."""
+    start = at
+    at = byte_behind_comments(text, at)
+    while at < len(text) and text[at] in BLANKS:
+        at = byte_behind_comments(text, at + 1)
+    value = None
+    while at < len(text):
+        if text[at] in BLANKS and value is not None:
+            at += 1
+            break
+        digit = chr(text[at])
+        if digit not in "0123456789" or (value or 0) * 10 + int(digit) > limit:
+            raise Bad(at)
+        value = (value or 0) * 10 + int(digit)
+        at = byte_behind_comments(text, at + 1)
+    if value is None:
+        raise Bad(len(text))
+    if value < least:
+        raise Bad(start)
+    return value, at
+
+
+def read(text):
+    """Format, width, height, full light and samples."""
+    kind = text[:2]
+    if kind not in (b"P2", b"P3", b"P5", b"P6"):
+        raise Bad(len(text) - 1 if len(text) == 1 else 0)
+    at = byte_behind_comments(text, 2)
+    if at >= len(text) or text[at] not in BLANKS:
+        raise Bad(at)
+    width, at = number(text, at + 1, 10**9, 1)
+    height, at = number(text, at, 10**9, 1)
+    maxval, at = number(text, at, 65535, 1)
+    count = width * height * (3 if kind in (b"P3", b"P6") else 1)
+    if kind in (b"P2", b"P3"):
+        samples = []
+        for _ in range(count):
+            sample, at = number(text, at, maxval)
+            samples.append(sample)
+        while at < len(text) and (text[at] in BLANKS or text[at] == ord("#")):
+            at = byte_behind_comments(text, at) if text[at] == ord("#") else at + 1
+        if at < len(text):
+            raise Bad(at)
+        return kind, width, height, maxval, samples
+    wide = 1 if maxval < 256 else 2
+    if len(text) - at != count * wide:
+        raise Bad(min(len(text), at + count * wide))
+    samples = [int.from_bytes(text[k:k + wide], "big") for k in range(at, len(text), wide)]
+    for k, sample in enumerate(samples):
+        if sample > maxval:
+            raise Bad(at + k * wide)
+    return kind, width, height, maxval, samples
+
+
+def expected(text):
+    """What is to be written, on the errors, and the status."""
+    try:
+        kind, width, height, maxval, samples = read(text)
+    except Bad as bad:
+        return b"", b"byte %d can't be read\n" % bad.args[0], 1
+    head = b"%s\n%d %d\n%d\n" % (kind, width, height, maxval)
+    if kind in (b"P2", b"P3"):
+        return head + b"".join(b"%d\n" % sample for sample in samples), b"", 0
+    return head + b"".join(sample.to_bytes(1 if maxval < 256 else 2, "big") for sample in samples), b"", 0
+
+
+def drawn(chance):
+    """A small image."""
+    kind = chance.choice([b"P2", b"P3", b"P5", b"P6"])
+    width, height = chance.randint(1, 4), chance.randint(1, 4)
+    maxval = chance.choice([1, 9, 255, 256, 65535])
+    samples = [chance.randint(0, maxval) for _ in range(width * height * (3 if kind in (b"P3", b"P6") else 1))]
+    comment = chance.choice([b"", b"# drawn\n", b"#\r"])
+    head = kind + b"\n" + comment + b"%d %d\n%d\n" % (width, height, maxval)
+    if kind in (b"P2", b"P3"):
+        return head + b" ".join(b"%d" % sample for sample in samples)
+    return head + b"".join(sample.to_bytes(1 if maxval < 256 else 2, "big") for sample in samples)
+
+
+def mutated(chance):
+    """A small image with a few bytes changed, put in or taken out."""
+    text = bytearray(drawn(chance))
+    for _ in range(chance.randint(0, 3)):
+        at = chance.randrange(len(text) + 1)
+        way = chance.randrange(4)
+        if way == 0:
+            text[at:at + 1] = bytes([chance.choice(b"0123456789 \n\r\t#Px-\x00\xff")])
+        elif way == 1:
+            text[at:at] = bytes([chance.choice(b"0123456789 \n\r\t#")])
+        elif way == 2:
+            del text[at:at + chance.randint(1, 3)]
+        else:
+            del text[at:]
+    return bytes(text)
+
+
+def differs(program, text):
+    ran = subprocess.run([program], input=text, capture_output=True)
+    ends = (ran.stdout, ran.stderr, ran.returncode)
+    return None if ends == expected(text) else f"{text!r}: wanted {expected(text)}, got {ends}"
+
+
+def main():
+    count = int(sys.argv[1]) if len(sys.argv) > 1 else 100_000
+    chance = random.Random(int(sys.argv[2]) if len(sys.argv) > 2 else 1)
+    program = pathlib.Path(sys.argv[3]).resolve() if len(sys.argv) > 3 else built()
+    rows = []
+    with tempfile.TemporaryDirectory() as folder:
+        failed, passed = beside_convert(program, folder, rows)
+    print("| 4000 x 3000 | full light | steps | seconds | convert's |\n|---|---|---|---|---|")
+    for kind, maxval, words, time, beside in rows:
+        print(f"| {kind} | {maxval} | `{words}` | {time:.2f} | {beside:.2f} |")
+    with concurrent.futures.ThreadPoolExecutor(os.cpu_count()) as pool:
+        found = pool.map(lambda text: differs(program, text), (mutated(chance) for _ in range(count)))
+        failed += [line for line in found if line is not None]
+    passed += count - len(failed)
+    for line in failed[:20]:
+        print(line)
+    print(f"{passed} passed, {len(failed)} failed")
+    return 1 if failed else 0
+
+
+sys.exit(main())
