@@ -27,7 +27,9 @@ pub use lanes::{Lane, Lanes};
 pub use layout::Layout;
 pub use places::Places;
 pub use layout::axes::stride_at;
-pub use layout::offset_in_slice::{offset_in_slice, offset_in_vec, reach_below, size_in_slice, size_in_vec};
+pub use layout::offset_in_slice::{
+    offset_in_slice, offset_in_vec, reach_below, size_in_slice, size_in_vec, strides_in,
+};
 pub use layout::merge_axes::furthest_axis;
 pub use tail_order::in_tail_order;
 pub use axis_at::slow_axis_at;

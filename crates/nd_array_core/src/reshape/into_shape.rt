@@ -11,10 +11,10 @@ ghost use Rattle.nd_array_core.specs.reshape.Regrouped.{IsInOrder, IsShapeOf, Is
 ghost use Rattle.nd_shape_and_slice.specs.declared.builder.Order.TheVariants.{RowMajor, ColumnMajor};
 
 use crate::base::array::ArrayBase;
-use nd_layout::{Layout, is_standard};
+use nd_layout::{Layout, is_standard, strides_in};
 use nd_shape_and_slice::{
-    Dimension, ErrorKind, IntoDimension, Order, ShapeArg, ShapeError, StrideList, default_strides,
-    fortran_strides, size_of_shape_checked,
+    Dimension, ErrorKind, IntoDimension, Order, ShapeArg, ShapeError, StrideList,
+    size_of_shape_checked,
 };
 use nd_storage::storage::Data;
 
@@ -29,17 +29,6 @@ fn is_in_order<D: Dimension, T: StrideList>(layout: &Layout<D, T>, order: Order)
             turned.reverse_axes();
             is_standard(turned.dim.slice(), turned.strides.slice())
         }
-    }
-}
-
-/// The strides of a new array in an order.
-fn strides_in<D: Dimension>(dim: &D, order: Order) -> D::Strides
-    requires { HasCheckedSize (D.lengths dim.now) }
-    ensures { D.Strides.strides_of result ≡ ordered_strides order (D.lengths dim.now) }
-{
-    match order {
-        Order::RowMajor => default_strides(dim),
-        Order::ColumnMajor => fortran_strides(dim),
     }
 }
 

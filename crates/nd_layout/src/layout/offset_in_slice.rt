@@ -15,7 +15,7 @@ use nd_shape_and_slice::{
 };
 
 /// The strides that an order gives.
-pub(crate) fn strides_in<D: Dimension>(dim: &D, order: Order) -> D::Strides
+pub fn strides_in<D: Dimension>(dim: &D, order: Order) -> D::Strides
     requires { HasCheckedSize (D.lengths dim.now) }
     ensures { D.Strides.strides_of result ≡ ordered_strides order (D.lengths dim.now) }
 {
