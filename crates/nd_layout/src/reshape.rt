@@ -9,6 +9,7 @@ ghost use Rattle.nd_layout.specs.Strides.{RestsAtOnes};
 ghost use Rattle.nd_layout.specs.Groups.{IsClosed, TakesLength};
 
 use crate::axis_at::{length_at, put_at, stride_at};
+use crate::joined::continues;
 use nd_shape_and_slice::{Order, is_empty_shape};
 
 /// Axes that merge into one axis, and the number of the next axis.
@@ -17,17 +18,6 @@ struct Group {
     length: usize,
     step: isize,
     next: usize,
-}
-
-/// Whether an axis of this stride continues the group.
-fn goes_on(group: Group, stride: isize) -> bool
-    requires { group.length < 2 ^ 63 }
-    ensures { IsTrue result ↔ (stride ≡ pos group.length *ℤ group.step) }
-{
-    match group.step.checked_mul(group.length as isize) {
-        Some(next) => next == stride,
-        None => false,
-    }
 }
 
 /// The group with the next axis, if that continues it. An axis of length 1 always does.
@@ -52,7 +42,7 @@ fn joined(group: Group, len: usize, stride: isize) -> Option<Group>
             step: stride,
             next,
         })
-    } else if goes_on(group, stride) {
+    } else if continues(stride, group.length, group.step) {
         Some(Group {
             length: group.length * len,
             step: group.step,

@@ -13,8 +13,8 @@ returns-then-group-eq1 c =
     let f : FitsSigned w64 c.args.stride = search rules in
     (refl, λ ns ss e. rw (to_z-of_z w64 c.args.stride f, c.if-group-eq1.true) (Regroups-one_out (c.args.len ∷ ns) (c.args.stride ∷ ss) c.args.group.step (omega arith)))
 
-pub returns-then-goes_on : goal.returns-then-goes_on
-returns-then-goes_on c =
+pub returns-then-continues : goal.returns-then-continues
+returns-then-continues c =
     let f : FitsSigned w64 c.args.group.step = search rules in
     let g : c.args.stride ≡ pos c.args.group.length *ℤ c.args.group.step = search rules in
     let w = both_positive c.args.group.length c.args.len c.requires.some in
