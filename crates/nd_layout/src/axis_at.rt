@@ -31,7 +31,7 @@ pub fn slow_axis_at(order: Order, count: usize, nth: usize) -> usize
 }
 
 /// The length of the `nth` fastest axis.
-pub(crate) fn length_at(lengths: &[usize], order: Order, nth: usize) -> usize
+pub(crate) fn nth_length(lengths: &[usize], order: Order, nth: usize) -> usize
     requires { nth < length lengths.now }
     ensures { result ≡ slice_index (fastest_first order lengths.now) nth }
 {
@@ -39,7 +39,7 @@ pub(crate) fn length_at(lengths: &[usize], order: Order, nth: usize) -> usize
 }
 
 /// The stride of the `nth` fastest axis.
-pub(crate) fn stride_at(strides: &[isize], order: Order, nth: usize) -> isize
+pub(crate) fn nth_stride(strides: &[isize], order: Order, nth: usize) -> isize
     requires { nth < length strides.now }
     ensures { result ≡ slice_index_or (fastest_first order strides.now) nth (pos 0) }
 {
@@ -47,7 +47,7 @@ pub(crate) fn stride_at(strides: &[isize], order: Order, nth: usize) -> isize
 }
 
 /// Writes the stride of the `nth` fastest axis.
-pub(crate) fn put_at(out: &mut [isize], order: Order, nth: usize, stride: isize)
+pub(crate) fn put_nth_stride(out: &mut [isize], order: Order, nth: usize, stride: isize)
     requires { nth < length out.old }
     ensures { fastest_first order out.new ≡ slice_set (fastest_first order out.old) nth stride }
 {

@@ -8,7 +8,7 @@ ghost use Rattle.nd_layout.specs.Ranks.{fastest_first, IsRun};
 ghost use Rattle.nd_layout.specs.Growth.{IsContinued, case_number, greatest_end, greatest_step, grown_shape, growing_strides, growth_case, must_move, strides_in_case};
 ghost use Rattle.nd_layout.specs.Spans.{HasNoGaps, KeepsDisplacements};
 
-use crate::axis_at::{axis_at, put_at};
+use crate::axis_at::{axis_at, put_nth_stride};
 use crate::spans::length_without;
 use nd_shape_and_slice::{Order, is_empty_shape};
 
@@ -36,7 +36,7 @@ fn fill_strides(lengths: &[usize], axis: usize, order: Order, out: &mut [isize])
 {
     let mut product: usize = 1;
     for nth in 0..lengths.len() {
-        put_at(out, order, nth, product as isize);
+        put_nth_stride(out, order, nth, product as isize);
         product *= length_without(lengths, axis, axis_at(order, lengths.len(), nth));
     }
     product

@@ -8,7 +8,7 @@ ghost use Rattle.nd_layout.specs.Spans.{KeepsSeparation};
 ghost use Rattle.nd_layout.specs.Strides.{RestsAtOnes};
 ghost use Rattle.nd_layout.specs.Groups.{IsClosed, TakesLength};
 
-use crate::axis_at::{length_at, put_at, stride_at};
+use crate::axis_at::{nth_length, nth_stride, put_nth_stride};
 use crate::joined::continues;
 use nd_shape_and_slice::{Order, is_empty_shape};
 
@@ -73,8 +73,8 @@ fn next_group(lengths: &[usize], strides: &[isize], order: Order, from: usize) -
     for next in from..lengths.len() {
         match joined(
             group,
-            length_at(lengths, order, next),
-            stride_at(strides, order, next),
+            nth_length(lengths, order, next),
+            nth_stride(strides, order, next),
         ) {
             Some(more) => group = more,
             None => return group,
@@ -206,9 +206,9 @@ pub fn reshape_strides(
         next: 0,
     };
     for nth in 0..new.len() {
-        match take_length(lengths, strides, order, group, length_at(new, order, nth)) {
+        match take_length(lengths, strides, order, group, nth_length(new, order, nth)) {
             Some((stride, left)) => {
-                put_at(out, order, nth, stride);
+                put_nth_stride(out, order, nth, stride);
                 group = left;
             }
             None => return false,

@@ -5,7 +5,7 @@ ghost use Rattle.nd_shape_and_slice.specs.Shape.{HasCheckedSize, size_of};
 ghost use Rattle.nd_shape_and_slice.specs.Place.{span_of};
 ghost use Rattle.nd_layout.specs.Ranks.{IsRun, IsStandard};
 
-use crate::axis_at::{length_at, stride_at};
+use crate::axis_at::{nth_length, nth_stride};
 use crate::spans::{separated, span};
 use nd_shape_and_slice::{Order, is_empty_shape};
 
@@ -30,8 +30,8 @@ pub fn is_standard(lengths: &[usize], strides: &[isize]) -> bool
     }
     let mut expected: usize = 1;
     for nth in 0..lengths.len() {
-        let len = length_at(lengths, Order::RowMajor, nth);
-        if !steps_by(len, stride_at(strides, Order::RowMajor, nth), expected) {
+        let len = nth_length(lengths, Order::RowMajor, nth);
+        if !steps_by(len, nth_stride(strides, Order::RowMajor, nth), expected) {
             return false;
         }
         expected *= len;

@@ -53,7 +53,7 @@ loop-nth-preserved c =
     let n_is : c.length_without-product.result ≡ get_or ms nth 0 =
     c.length_without-product.ensures ∙ ap (λ (k : ℕ). get_or os k 0) (c.axis_at.ensures.value ∙ ap (λ n. axis_in o n nth) (sym l)) ∙ sym (get_or-ordered o os nth 0 (omega arith)) in
     let small : product < 2 ^ 63 = omega (arith, p.0) in
-    let put = c.put_at.ensures ∙ ap (λ (t : ℤ). set ts nth t) (to_z_pos w64 product small) in
+    let put = c.put_nth_stride.ensures ∙ ap (λ (t : ℤ). set ts nth t) (to_z_pos w64 product small) in
     let there = stride_at_nth ms cs product nth lc (omega arith) c.loop-nth.invariant.rest in
     rw n_is
     (record {

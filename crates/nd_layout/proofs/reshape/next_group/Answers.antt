@@ -22,7 +22,7 @@ joined-requires-clause-fits c =
     let ss = fastest_first c.args.order c.args.strides.now in
     let ln = length-ordered c.args.order c.args.lengths.now in
     let p = grouped_size _ _ ns ss c.loop-next.next c.loop-next.group.length c.loop-next.group.step (omega arith) c.requires.some c.loop-next.invariant.regroups in
-    rw c.length_at.ensures (omega arith)
+    rw c.nth_length.ensures (omega arith)
 
 pub joined-requires-clause-some : goal.joined-requires-clause-some
 joined-requires-clause-some c =
@@ -30,7 +30,7 @@ joined-requires-clause-some c =
     let ss = fastest_first c.args.order c.args.strides.now in
     let ln = length-ordered c.args.order c.args.lengths.now in
     let p = grouped_size _ _ ns ss c.loop-next.next c.loop-next.group.length c.loop-next.group.step (omega arith) c.requires.some c.loop-next.invariant.regroups in
-    rw c.length_at.ensures p.0
+    rw c.nth_length.ensures p.0
 
 pub returns-in-None-clause-closed : goal.returns-in-None-clause-closed
 returns-in-None-clause-closed c long more =
@@ -39,12 +39,12 @@ returns-in-None-clause-closed c long more =
     let ln = length-ordered c.args.order c.args.lengths.now in
     let ls = length-ordered c.args.order c.args.strides.now in
     let apart = c.in-None.ensures in
-    let f : FitsSigned w64 c.stride_at.result = search rules in
-    let same = to_z-of_z w64 c.stride_at.result f in
-    let n_is = c.length_at.ensures in
+    let f : FitsSigned w64 c.nth_stride.result = search rules in
+    let same = to_z-of_z w64 c.nth_stride.result f in
+    let n_is = c.nth_length.ensures in
     let wide : 1 < get_or ns c.loop-next.next 0 = omega arith in
     let at = at_rank-next ns ss c.loop-next.next (omega arith) (omega arith) wide in
-    rw c.loop-next.invariant.at (rw at (λ is. apart.2 (same ∙ c.stride_at.ensures ∙ is)))
+    rw c.loop-next.invariant.at (rw at (λ is. apart.2 (same ∙ c.nth_stride.ensures ∙ is)))
 
 pub loop-next-preserved : goal.loop-next-preserved
 loop-next-preserved c =
@@ -53,9 +53,9 @@ loop-next-preserved c =
     let ln = length-ordered c.args.order c.args.lengths.now in
     let ls = length-ordered c.args.order c.args.strides.now in
     let joins = c.in-Some.ensures in
-    let f : FitsSigned w64 c.stride_at.result = search rules in
-    let same = to_z-of_z w64 c.stride_at.result f in
+    let f : FitsSigned w64 c.nth_stride.result = search rules in
+    let same = to_z-of_z w64 c.nth_stride.result f in
     record {
       at = joins.0 ∙ ap (λ n. n + 1) c.loop-next.invariant.at;
-      regroups = grouped_more _ _ ns ss c.loop-next.next _ _ _ _ (omega arith) (omega arith) (rw (same, c.length_at.ensures, c.stride_at.ensures) at joins.1) c.loop-next.invariant.regroups;
+      regroups = grouped_more _ _ ns ss c.loop-next.next _ _ _ _ (omega arith) (omega arith) (rw (same, c.nth_length.ensures, c.nth_stride.ensures) at joins.1) c.loop-next.invariant.regroups;
     }

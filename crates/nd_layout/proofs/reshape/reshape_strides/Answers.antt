@@ -47,7 +47,7 @@ take_length-requires-clause-some c =
     let lm = length-ordered c.args.order c.args.new.now in
     let z = size_of-ordered c.args.order c.args.new.now in
     let some : 0 < size_of c.args.new.now = search rules in
-    rw c.length_at.ensures (some_to_take ms c.loop-nth.nth _ (omega arith) (omega arith) c.loop-nth.invariant.size)
+    rw c.nth_length.ensures (some_to_take ms c.loop-nth.nth _ (omega arith) (omega arith) c.loop-nth.invariant.size)
 
 pub take_length-requires-clause-small : goal.take_length-requires-clause-small
 take_length-requires-clause-small c =
@@ -79,9 +79,9 @@ returns-in-None-clause-exact c =
     let lt = length-ordered o c.loop-nth.out in
     let z = size_of-ordered o c.args.new.now in
     let some : 0 < size_of c.args.new.now = search rules in
-    let e : c.length_at.result ≡ get_or ms nth 0 = c.length_at.ensures in
+    let e : c.nth_length.result ≡ get_or ms nth 0 = c.nth_length.ensures in
     let within : nth < length ms = omega arith in
-    let sizes : c.length_at.result * size_of (drop (nth + 1) ms) ≡ g.length * size_of (drop g.next ns) =
+    let sizes : c.nth_length.result * size_of (drop (nth + 1) ms) ≡ g.length * size_of (drop g.next ns) =
     ap (λ (n : ℕ). n * size_of (drop (nth + 1) ms)) e ∙ sym (size_of-drop ms nth within) ∙ sym c.loop-nth.invariant.size in (
       λ no. absurd (false≢true no),
       λ w. absurd
@@ -106,8 +106,8 @@ loop-nth-preserved c =
     let z = size_of-ordered o c.args.new.now in
     let some : 0 < size_of c.args.new.now = search rules in
     let f : FitsSigned w64 c.in-Some.stride = search rules in
-    let put = c.put_at.ensures ∙ ap (λ t. set ts nth t) (to_z-of_z w64 c.in-Some.stride f) in
-    let e : c.length_at.result ≡ get_or ms nth 0 = c.length_at.ensures in
+    let put = c.put_nth_stride.ensures ∙ ap (λ t. set ts nth t) (to_z-of_z w64 c.in-Some.stride f) in
+    let e : c.nth_length.result ≡ get_or ms nth 0 = c.nth_length.ensures in
     let within : nth < length ms = omega arith in
     let taken = c.in-Some.ensures.taken in
     let step = subst (λ (n : ℕ). Regroups (g.length ∷ drop g.next ns) (g.step ∷ drop g.next ss) (n ∷ h.length ∷ drop h.next ns) (c.in-Some.stride ∷ h.step ∷ drop h.next ss)) e taken.0 in

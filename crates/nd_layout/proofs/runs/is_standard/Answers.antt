@@ -31,7 +31,7 @@ overflow_mul-expected c =
     let z = size_of-ordered RowMajor c.args.lengths.now in
     let some : 0 < size_of c.args.lengths.now = search rules in
     let p = part_of_size ns c.loop-nth.expected c.loop-nth.nth (size_of ns) (omega arith) (omega arith) c.loop-nth.invariant.size in
-    rw c.length_at-len.ensures (omega (arith, p.1, size-le-product c.args.lengths.now))
+    rw c.nth_length-len.ensures (omega (arith, p.1, size-le-product c.args.lengths.now))
 
 pub returns-then-not-steps_by : goal.returns-then-not-steps_by
 returns-then-not-steps_by c =
@@ -42,13 +42,13 @@ returns-then-not-steps_by c =
     let z = size_of-ordered RowMajor c.args.lengths.now in
     let some : 0 < size_of c.args.lengths.now = search rules in
     let p = part_of_size ns c.loop-nth.expected c.loop-nth.nth (size_of ns) (omega arith) (omega arith) c.loop-nth.invariant.size in
-    let n_is : c.length_at-len.result ≡ get_or ns c.loop-nth.nth 0 = c.length_at-len.ensures in
-    let f : FitsSigned w64 c.stride_at.result = search rules in (
+    let n_is : c.nth_length-len.result ≡ get_or ns c.loop-nth.nth 0 = c.nth_length-len.ensures in
+    let f : FitsSigned w64 c.nth_stride.result = search rules in (
       λ no. absurd (false≢true no),
       λ standard.
           let here = c.loop-nth.invariant.steps.0 (StepsBy-from_standard c.args.lengths.now c.args.strides.now c.requires.as_many standard) in
           let first = (StepsBy-at c.loop-nth.expected ns ss c.loop-nth.nth (omega arith) (omega arith) p.2 here).0 in
-          (c.if-not-steps_by.ensures {u = tt}).1 (λ long. to_z-of_z w64 c.stride_at.result f ∙ c.stride_at.ensures ∙ first (omega arith)),
+          (c.if-not-steps_by.ensures {u = tt}).1 (λ long. to_z-of_z w64 c.nth_stride.result f ∙ c.nth_stride.ensures ∙ first (omega arith)),
     )
 
 pub loop-nth-preserved : goal.loop-nth-preserved
@@ -62,11 +62,11 @@ loop-nth-preserved c =
     let nth = c.loop-nth.nth in
     let expected = c.loop-nth.expected in
     let p = part_of_size ns expected nth (size_of ns) (omega arith) (omega arith) c.loop-nth.invariant.size in
-    let n_is : c.length_at-len.result ≡ get_or ns nth 0 = c.length_at-len.ensures in
-    let f : FitsSigned w64 c.stride_at.result = search rules in
+    let n_is : c.nth_length-len.result ≡ get_or ns nth 0 = c.nth_length-len.ensures in
+    let f : FitsSigned w64 c.nth_stride.result = search rules in
     let first : 1 < get_or ns nth 0 → get_or ss nth (pos 0) ≡ pos expected =
-    λ long. sym c.stride_at.ensures ∙ sym (to_z-of_z w64 c.stride_at.result f) ∙ (c.if-not-steps_by.ensures {u = tt}).0 refl (λ is. omega arith) in
-    rw c.length_at-len.ensures
+    λ long. sym c.nth_stride.ensures ∙ sym (to_z-of_z w64 c.nth_stride.result f) ∙ (c.if-not-steps_by.ensures {u = tt}).0 refl (λ is. omega arith) in
+    rw c.nth_length-len.ensures
     (record {
       size = p.4;
       steps = (

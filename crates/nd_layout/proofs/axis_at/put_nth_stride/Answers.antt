@@ -1,7 +1,7 @@
 use Rattle.std.proofs.Common.{rules, FitsSigned, w64}
 use Rattle.std.proofs.lemmas.Int.{to_z-of_z}
 use Rattle.nd_layout.proofs.Orders.{ordered-set}
-use Rattle.nd_layout.proofs.axis_at.put_at.Goals as goal
+use Rattle.nd_layout.proofs.axis_at.put_nth_stride.Goals as goal
 
 pub returns : goal.returns
 returns c =
