@@ -26,7 +26,7 @@ fn joined(group: Group, len: usize, stride: isize) -> Option<Group>
     requires some { 0 < group.length * len }
     requires few { group.next < 32 }
     ensures { MatchOption result
-        ((1 < len) × (1 < group.length) × (stride ≡ pos group.length *ℤ group.step → ⊥))
+        ((1 < len) × (1 < group.length) × ¬ (stride ≡ pos group.length *ℤ group.step))
         (λ more. (more.next ≡ group.next + 1) × ((ns : List ℕ) (ss : List ℤ) → length ss ≡ length ns → Regroups (group.length ∷ len ∷ ns) (group.step ∷ stride ∷ ss) (more.length ∷ ns) (more.step ∷ ss))) }
 {
     let next = group.next + 1;
@@ -163,7 +163,7 @@ fn take_length(
     requires fits { (group.length - 1) * nat_abs group.step + span_of (drop group.next (fastest_first order lengths.now)) (drop group.next (fastest_first order strides.now)) < 2 ^ 63 }
     requires closed { IsClosed group (fastest_first order lengths.now) (fastest_first order strides.now) }
     ensures taken { MatchOption result
-        ((ms : List ℕ) (ts : List ℤ) → len * size_of ms ≡ group.length * size_of (drop group.next (fastest_first order lengths.now)) → ServesRanks (group.length ∷ drop group.next (fastest_first order lengths.now)) (group.step ∷ drop group.next (fastest_first order strides.now)) (len ∷ ms) ts → ⊥)
+        ((ms : List ℕ) (ts : List ℤ) → len * size_of ms ≡ group.length * size_of (drop group.next (fastest_first order lengths.now)) → ¬ (ServesRanks (group.length ∷ drop group.next (fastest_first order lengths.now)) (group.step ∷ drop group.next (fastest_first order strides.now)) (len ∷ ms) ts))
         (λ r. TakesLength (fastest_first order lengths.now) (fastest_first order strides.now) group len r.0 r.1 × (r.1.next ≤ length lengths.now) × IsClosed r.1 (fastest_first order lengths.now) (fastest_first order strides.now)) }
     ensures rests { len ≡ 1 → IfSome result (λ r. r.0 ≡ pos 0) }
 {
