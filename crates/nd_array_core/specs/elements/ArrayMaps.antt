@@ -1,11 +1,16 @@
 -- Arrays that show what a function gives of another's elements.
-use Rattle.std.specs.Prelude.{Option}
+use Rattle.std.specs.Prelude.{◌≡◌, ℕ, List, Option, Some}
+use Rattle.std.specs.Borrow.{MutBor}
+use Rattle.std.specs.Fn.{Mut}
 use Rattle.nd_shape_and_slice.specs.declared.dimension.Dimension as dimension
 use Rattle.nd_shape_and_slice.specs.declared.dimension.AxisCount as axis_count
 use Rattle.nd_shape_and_slice.specs.declared.dimension.StrideList as stride_list
 use Rattle.nd_storage.specs.declared.storage.Data as data_trait
 use Rattle.nd_array_core.specs.declared.base.array.ArrayBase.{ArrayBase}
-use Rattle.nd_array_core.specs.Meaning.{meaning_of, element_at}
+use Rattle.nd_array_core.specs.Meaning.{meaning_of, shape_of, element_at}
+use Rattle.nd_storage.specs.Meaning.{inside}
+use Rattle.nd_storage.specs.Writes.{IsOldOrNew}
+use Rattle.nd_storage.specs.elements.MapsMut.{HandsOutElements}
 use Rattle.nd_storage.specs.elements.Maps.{HasAnswersOfAll, HasSomeAnswersOf, IsMappedBy, IsOldOrMapped}
 
 module _
@@ -23,6 +28,18 @@ module _ {S D T A P R L M : Type 0} {s : data_trait.Ghosts S A} {d : dimension.G
   -- b has at each index a's element, or what h gives of it
   abbrev pub ShowsOldOrMapped : (A → A) → ArrayBase S D T A P R L M s d n r t → ArrayBase S D T A P R L M s d n r t → Type 0
   ShowsOldOrMapped h a b = IsOldOrMapped h (element_at a) (element_at b)
+
+  -- at each index stands what the call for it left in b, and what it answered in c
+  abbrev pub ShowsHanded : {F Z E U B Q X V W : Type 0} {z : data_trait.Ghosts Z B} {e : dimension.Ghosts E Q X V W} {k : axis_count.Ghosts E} {x : stride_list.Ghosts X} {u : stride_list.Ghosts U}
+      → Mut F (MutBor A × Unit {0}) (B × (MutBor A × Unit {0})) → F → ArrayBase S D T A P R L M s d n r t → ArrayBase S D T A P R L M s d n r t → ArrayBase Z E U B Q X V W z e k x u → Type 0
+  ShowsHanded g f a b = λ c. HandsOutElements g f (meaning_of a) (element_at b) (element_at c)
+
+  -- b has at each index of a's shape the value, or it or a's element there
+  abbrev pub ShowsValue : A → ArrayBase S D T A P R L M s d n r t → ArrayBase S D T A P R L M s d n r t → Type 0
+  ShowsValue x a b = (i : List ℕ) → element_at b i ≡ inside (shape_of a) i (Some x)
+
+  abbrev pub ShowsOldOrValue : A → ArrayBase S D T A P R L M s d n r t → ArrayBase S D T A P R L M s d n r t → Type 0
+  ShowsOldOrValue x a b = IsOldOrNew (shape_of a) (element_at a) x (element_at b)
 
   -- b has at some indexes the answer of the call for a's element there, and a's element at the others
   abbrev pub ShowsSomeAnswers : {F : Type 0} → (F → Option A → A → F → Type 0) → F → ArrayBase S D T A P R L M s d n r t → ArrayBase S D T A P R L M s d n r t → Type 0

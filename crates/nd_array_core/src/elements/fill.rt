@@ -1,11 +1,11 @@
 //! One value at every index.
 #![tactic(auto, unfolding(crate::specs::Meaning::meaning_of, crate::specs::Meaning::memory_layout_of))]
 
-ghost use Rattle.std.specs.Prelude.{◌≡◌, ◌<◌, ℕ, List, Some, OnOk, OnErr};
+ghost use Rattle.std.specs.Prelude.{◌≡◌, ◌<◌, OnOk, OnErr};
 ghost use Rattle.nd_shape_and_slice.specs.Shape.{size_of};
 ghost use Rattle.nd_array_core.specs.base.Writes.{KeepsFrame};
 ghost use Rattle.nd_storage.specs.CloneRefusals.{MayRefuseClonesOf};
-ghost use Rattle.nd_storage.specs.Writes.{IsOldOrNew};
+ghost use Rattle.nd_array_core.specs.elements.ArrayMaps.{ShowsOldOrValue, ShowsValue};
 
 use crate::base::array::ArrayBase;
 use nd_shape_and_slice::{Dimension, NoMemory};
@@ -16,15 +16,14 @@ impl<S: DataMut, D: Dimension> ArrayBase<S, D>
 where
     S::Elem: Clone + Drop,
 {
-    ghost use Rattle.nd_array_core.specs.Meaning.{shape_of, element_at};
-    ghost use Rattle.nd_storage.specs.Meaning.{inside};
+    ghost use Rattle.nd_array_core.specs.Meaning.{shape_of};
 
     /// Writes a clone of the value at each index; a clone must equal its original. NoMemory if a clone is refused, and for
     /// nothing else: each index then has its old element or the new one. ndarray's `fill`.
     pub fn fill(&mut self, value: S::Elem) -> Result<(), NoMemory>
         requires { (copy : S.Elem) → S.Elem.is_clone value copy → copy ≡ value }
-        ensures filled { OnOk result ((i : List ℕ) → element_at self.new i ≡ inside (shape_of self.old) i (Some value)) }
-        ensures stopped { OnErr result (IsOldOrNew (shape_of self.old) (element_at self.old) value (element_at self.new)) }
+        ensures filled { OnOk result (ShowsValue value self.old self.new) }
+        ensures stopped { OnErr result (ShowsOldOrValue value self.old self.new) }
         ensures refused { OnErr result (MayRefuseClonesOf S.Elem.is_infallible value (size_of (shape_of self.old))) }
         ensures frame { KeepsFrame S.frame self.old self.new }
     {

@@ -3,7 +3,8 @@
 
 ghost use Rattle.std.specs.Prelude.{◌≡◌, ◌<◌, ℕ, IfOk, IfErr, List, OnOk};
 ghost use Rattle.nd_array_core.specs.base.Writes.{KeepsFrame};
-ghost use Rattle.nd_storage.specs.elements.MapsMut.{HandableElements, HandsOutElements, LeavesAlike, AnswersHandedAlike};
+ghost use Rattle.nd_storage.specs.elements.MapsMut.{HandableElements, LeavesAlike, AnswersHandedAlike};
+ghost use Rattle.nd_array_core.specs.elements.ArrayMaps.{ShowsHanded};
 
 use crate::base::array::{Array, ArrayBase};
 use crate::base::from_elem::of_items;
@@ -27,7 +28,7 @@ impl<S: DataMut, D: Dimension> ArrayBase<S, D> {
     ) -> Result<Array<B, D>, NoMemory>
         requires callable { HandableElements F.FnMut (meaning_of self.old) f }
         ensures shape { IfOk result (λ a. shape_of a ≡ shape_of self.old) }
-        ensures visits { IfOk result (λ a. HandsOutElements F.FnMut f (meaning_of self.old) (element_at self.new) (element_at a)) }
+        ensures visits { IfOk result (ShowsHanded F.FnMut f self.old self.new) }
         ensures alike { OnOk result (LeavesAlike F.FnMut f (element_at self.old) (element_at self.new)) }
         ensures answered { IfOk result (λ a. AnswersHandedAlike F.FnMut f (element_at self.old) (element_at a)) }
         ensures kept { IfErr result (λ _. (i : List ℕ) → element_at self.new i ≡ element_at self.old i) }
