@@ -17,7 +17,7 @@ const LONG: usize = 512;
 /// A lane with no more elements is never cut.
 const SHORT: usize = 128;
 
-/// A lane that steps over so many elements of the second array is cut.
+/// A lane that steps over so many elements is cut.
 const FAR: usize = 1_048_576;
 
 /// Elements that fill whole lines of the cache.
@@ -39,9 +39,10 @@ fn is_long(len: usize, step: isize) -> bool
     len > LONG || (len > SHORT && step.unsigned_abs() >= FAR / len)
 }
 
-/// Whether long lanes go across the order of the second layout's elements, and there are more of them than lie near.
-fn leads_away(lengths: &[usize], steps: &[isize]) -> bool
-    requires as_many { length steps.now ≡ length lengths.now }
+/// Whether long lanes go across the order in which one of two layouts has its elements, and there are more than lie near.
+fn leads_away(lengths: &[usize], strides: &[isize], steps: &[isize]) -> bool
+    requires as_many { length strides.now ≡ length lengths.now }
+    requires steps_as_many { length steps.now ≡ length lengths.now }
     ensures { result ≡ true → (1 < length lengths.now) × (1 < slice_index lengths.now (length lengths.now - 1)) }
 {
     let axes = lengths.len();
@@ -49,7 +50,10 @@ fn leads_away(lengths: &[usize], steps: &[isize]) -> bool
         return false;
     }
     let (rows, len) = (lengths[axes - 2], lengths[axes - 1]);
-    is_long(len, steps[axes - 1]) && rows > NEAR / len && nearest_axis(lengths, steps) + 1 < axes
+    let is_far = is_long(len, strides[axes - 1]) || is_long(len, steps[axes - 1]);
+    is_far
+        && rows > NEAR / len
+        && (nearest_axis(lengths, strides) + 1 < axes || nearest_axis(lengths, steps) + 1 < axes)
 }
 
 /// The first axis longer than 1, of the last and those before the two last.
@@ -83,19 +87,20 @@ fn middle_of(len: usize) -> usize
 }
 
 /// The axis at which two layouts are to be cut, and the coordinate; None where they may be gone over as they are.
-fn cut_of(lengths: &[usize], steps: &[isize]) -> Option<(usize, usize)>
-    requires as_many { length steps.now ≡ length lengths.now }
+fn cut_of(lengths: &[usize], strides: &[isize], steps: &[isize]) -> Option<(usize, usize)>
+    requires as_many { length strides.now ≡ length lengths.now }
+    requires steps_as_many { length steps.now ≡ length lengths.now }
     ensures { IfSome result (λ cut. (cut.0 < length lengths.now) × (0 < cut.1) × (cut.1 < slice_index lengths.now cut.0)) }
 {
-    if !leads_away(lengths, steps) {
+    if !leads_away(lengths, strides, steps) {
         return None;
     }
     let axis = outermost_axis(lengths);
     Some((axis, middle_of(lengths[axis])))
 }
 
-/// The halves of two layouts of one shape, where it pays to go over the lower ones first: long lanes of the first go across
-/// the order in which the second has its elements. Outer axes are cut first, and then the lanes.
+/// The halves of two layouts of one shape, where it pays to go over the lower ones first: long lanes go across the order in
+/// which one of the two has its elements. Outer axes are cut first, and then the lanes.
 pub fn halved_alike<D: Dimension, T: StrideList>(
     layout: &Layout<D, T>,
     other: &Layout<D, T>,
@@ -103,7 +108,11 @@ pub fn halved_alike<D: Dimension, T: StrideList>(
     requires alike { D.lengths other.now.dim ≡ D.lengths layout.now.dim }
     ensures { IfSome result (λ halves. HalvesBoth layout.now other.now halves) }
 {
-    let (axis, index) = cut_of(layout.dim.slice(), other.strides.slice())?;
+    let (axis, index) = cut_of(
+        layout.dim.slice(),
+        layout.strides.slice(),
+        other.strides.slice(),
+    )?;
     let (lower, upper) = layout.halves(axis, index);
     let (lower_beside, upper_beside) = other.halves(axis, index);
     Some(Halves {

@@ -93,6 +93,7 @@ fn zip_beside<B, S: DataMut, Z: Data<Elem = B>, F: FnMut(&mut S::Elem, &B)>(
 }
 
 /// Hands the elements of a slice to the function, one after the other, each with the one of a lane beside it.
+#[inline(always)]
 fn zip_into<A, B, Z: Data<Elem = B>, F: FnMut(&mut A, &B)>(
     xs: &mut [A],
     others: &Z,
