@@ -7,7 +7,7 @@ ghost use Rattle.nd_array_core.specs.Part.{sliced_part};
 ghost use Rattle.nd_array_core_uses.specs.Painting.{in_row, in_column, is_border};
 
 use nd_array_core::{ArrayBase, Data, DataMut};
-use nd_shape_and_slice::{Axis, Ix1, Ix2, NoMemory, SliceInfo, SliceInfoElem};
+use nd_shape_and_slice::{Ix1, Ix2, NoMemory, SliceInfo, SliceInfoElem};
 
 const ALL: SliceInfoElem = SliceInfoElem::Slice {
     start: 0,
@@ -19,8 +19,7 @@ const ALL: SliceInfoElem = SliceInfoElem::Slice {
 fn rows_and_columns<S: Data>(image: &ArrayBase<S, Ix2>) -> (usize, usize)
     ensures { shape_of image.now ≡ result.0 ∷ result.1 ∷ [] }
 {
-    let _two = image.ndim();
-    (image.len_of(Axis(0)), image.len_of(Axis(1)))
+    image.dim()
 }
 
 /// A clone of a value.

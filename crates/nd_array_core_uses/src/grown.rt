@@ -9,13 +9,13 @@ ghost use Rattle.nd_array_core.specs.base.Storages.{stored_list, room_of};
 use nd_array_core::{Array, Array1, Array2, ArrayError};
 use nd_shape_and_slice::{Axis, Dimension, ErrorKind};
 
-/// Whether a list now has room for so many more elements.
-pub fn has_room<A>(list: &mut Array1<A>, more: usize) -> bool
-    ensures room { IsTrue result → length (stored_list (storage_of list.new)) + more ≤ room_of (storage_of list.new) }
+/// Whether a list now has room for as many elements again.
+pub fn has_room_again<A>(list: &mut Array1<A>) -> bool
+    ensures room { IsTrue result → length (stored_list (storage_of list.new)) + slice_index (shape_of list.old) 0 ≤ room_of (storage_of list.new) }
     ensures same { (i : ℕ) → element_of_1 list.new i ≡ element_of_1 list.old i }
 {
-    let _axes = list.ndim();
-    list.reserve(Axis(0), more).is_ok()
+    let len = list.dim();
+    list.reserve(Axis(0), len).is_ok()
 }
 
 /// Makes room in a table for so many more rows.
@@ -27,13 +27,14 @@ pub fn room_for_rows<A>(table: &mut Array2<A>, rows: usize) -> Result<(), ArrayE
     table.reserve_rows(rows)
 }
 
-/// No list that has an element can get room for `usize::MAX` more.
+/// Makes room for `usize::MAX` more elements in a list that has one: no list can get it. An empty list is left as it is.
 pub fn room_for_too_many<A>(list: &mut Array1<A>) -> Result<(), ArrayError>
-    requires { 0 < slice_index (shape_of list.old) 0 }
-    ensures refused { result ≡ Err (ArrayError.Shape ErrorKind.Overflow) }
+    ensures refused { 0 < slice_index (shape_of list.old) 0 → result ≡ Err (ArrayError.Shape ErrorKind.Overflow) }
     ensures same { (i : ℕ) → element_of_1 list.new i ≡ element_of_1 list.old i }
 {
-    let _axes = list.ndim();
+    if list.dim() == 0 {
+        return Ok(());
+    }
     list.reserve(Axis(0), usize::MAX)
 }
 

@@ -1,5 +1,5 @@
 //! The even rows of a grid and the odd ones, filled at once through two views.
-ghost use Rattle.std.specs.Prelude.{◌≡◌, ◌%◌, ◌∷◌, [], ℕ, true, length, nat_eq, Some, IsSome, IfSome, OnOk, if◌then◌else◌};
+ghost use Rattle.std.specs.Prelude.{◌≡◌, ◌<◌, ◌%◌, ◌∷◌, [], ℕ, true, length, nat_eq, slice_index, Some, IsSome, IfSome, OnOk, if◌then◌else◌};
 ghost use Rattle.nd_shape_and_slice.specs.Shape.{in_box};
 ghost use Rattle.nd_array_core.specs.Meaning.{shape_of, element_at};
 ghost use Rattle.nd_array_core.specs.layout.MultiSlice.{TwoFit};
@@ -9,7 +9,7 @@ ghost use Rattle.nd_array_core.specs.Part.{sliced_part};
 use crate::two_parts::FillBoth;
 use nd_array_core::{ArrayBase, DataMut};
 use nd_shape_and_slice::{
-    Axis, Dimension, Ix2, NoMemory, SliceArg, SliceInfo, SliceInfoElem, slices_intersect,
+    Dimension, Ix2, NoMemory, SliceArg, SliceInfo, SliceInfoElem, slices_intersect,
 };
 
 /// Fills what each of two lists of slices names with a value of its own. The lists fit the shape and name nothing in
@@ -76,22 +76,20 @@ const ODD: SliceInfoElem = SliceInfoElem::Slice {
     step: 2,
 };
 
-/// Fills the rows of even number of a grid, seen at any dimension, and those of odd number.
+/// Fills the rows of even number of a grid that has a row, seen at any dimension, and those of odd number.
 fn fill_rows<A: Clone + Drop, S: DataMut<Elem = A>, D: Dimension>(
     grid: &mut ArrayBase<S, D>,
     even: A,
     odd: A,
 ) -> Result<(), NoMemory>
     requires two { length (shape_of grid.old) ≡ 2 }
+    requires rows { 0 < slice_index (shape_of grid.old) 0 }
     requires axes { D.has_axes 2 ≡ true }
     requires even { (copy : A) → A.is_clone even copy → copy ≡ even }
     requires odd { (copy : A) → A.is_clone odd copy → copy ≡ odd }
     ensures shape { shape_of grid.new ≡ shape_of grid.old }
     ensures rows { OnOk result ((row column : ℕ) → in_box (shape_of grid.old) (row ∷ column ∷ []) ≡ true → element_at grid.new (row ∷ column ∷ []) ≡ Some (if nat_eq (row % 2) 0 then even else odd)) }
 {
-    if grid.len_of(Axis(0)) == 0 {
-        return Ok(());
-    }
     match SliceInfo::<D, D>::new(&[EVEN, ALL]) {
         Ok(evens) => match SliceInfo::<D, D>::new(&[ODD, ALL]) {
             Ok(odds) => fill_slices(grid, (evens, odds), even, odd),
@@ -112,7 +110,9 @@ pub fn interleave_rows<A: Clone + Drop, S: DataMut<Elem = A>>(
     ensures shape { shape_of grid.new ≡ shape_of grid.old }
     ensures rows { OnOk result ((row column : ℕ) → in_box (shape_of grid.old) (row ∷ column ∷ []) ≡ true → element_at grid.new (row ∷ column ∷ []) ≡ Some (if nat_eq (row % 2) 0 then even else odd)) }
 {
-    // A grid has two axes.
-    let _ = grid.ndim();
+    let (rows, _columns) = grid.dim();
+    if rows == 0 {
+        return Ok(());
+    }
     fill_rows(grid, even, odd)
 }

@@ -1,40 +1,40 @@
 //! One call after another, each caller exact at every index and proved with no proof file: over every element type and
 //! storage that the calls take, and at one that is written out.
-ghost use Rattle.std.specs.Prelude.{◌≡◌, ◌<◌, ◌∷◌, [], ℕ, true, List, slice_index, reverse, Some, OnOk, IfOk};
+ghost use Rattle.std.specs.Prelude.{◌≡◌, ◌<◌, ◌∷◌, [], ℕ, true, List, length, slice_index, reverse, Some, OnOk, IfOk, ◌↔◌, IsSome, IfSome};
 ghost use Rattle.nd_shape_and_slice.specs.Shape.{in_box};
 ghost use Rattle.nd_shape_and_slice.specs.Maps.{inverted_index, indexed_index};
 ghost use Rattle.nd_array_core.specs.Meaning.{shape_of, element_at, inside};
 ghost use Rattle.nd_array_core.specs.base.Writes.{with_swapped_at};
 
-use nd_array_core::{Array1, Array2, ArrayBase, ArrayView1, Data, DataMut};
-use nd_shape_and_slice::{Axis, Ix1, Ix2, NoMemory};
+use nd_array_core::{Array1, Array2, ArrayBase, ArrayD, ArrayView1, Data, DataMut};
+use nd_shape_and_slice::{Axis, Dimension, Ix1, Ix2, NoMemory};
 
-/// An image with its rows in the opposite order, and its columns too.
-pub fn flip_both<S: Data>(image: &mut ArrayBase<S, Ix2>)
+/// Puts the rows of an array with two axes or more in the opposite order, and its columns too.
+pub fn flip_both<S: Data, D: Dimension>(image: &mut ArrayBase<S, D>)
+    requires { 1 < length (shape_of image.old) }
     ensures shape { shape_of image.new ≡ shape_of image.old }
     ensures elements { (i : List ℕ) → element_at image.new i ≡ inside (shape_of image.old) i (inside (shape_of image.old) (inverted_index (shape_of image.old) 1 i) (element_at image.old (inverted_index (shape_of image.old) 0 (inverted_index (shape_of image.old) 1 i)))) }
 {
-    let _two = image.ndim();
     image.invert_axis(Axis(0));
     image.invert_axis(Axis(1));
 }
 
 /// The same of an owned array of any elements.
-pub fn flip_both_owned<A>(image: &mut Array2<A>)
+pub fn flip_both_owned<A>(image: &mut ArrayD<A>)
+    requires { 1 < length (shape_of image.old) }
     ensures shape { shape_of image.new ≡ shape_of image.old }
     ensures elements { (i : List ℕ) → element_at image.new i ≡ inside (shape_of image.old) i (inside (shape_of image.old) (inverted_index (shape_of image.old) 1 i) (element_at image.old (inverted_index (shape_of image.old) 0 (inverted_index (shape_of image.old) 1 i)))) }
 {
-    let _two = image.ndim();
     image.invert_axis(Axis(0));
     image.invert_axis(Axis(1));
 }
 
 /// The same of numbers.
-pub fn flip_numbers(image: &mut Array2<i64>)
+pub fn flip_numbers(image: &mut ArrayD<i64>)
+    requires { 1 < length (shape_of image.old) }
     ensures shape { shape_of image.new ≡ shape_of image.old }
     ensures elements { (i : List ℕ) → element_at image.new i ≡ inside (shape_of image.old) i (inside (shape_of image.old) (inverted_index (shape_of image.old) 1 i) (element_at image.old (inverted_index (shape_of image.old) 0 (inverted_index (shape_of image.old) 1 i)))) }
 {
-    let _two = image.ndim();
     image.invert_axis(Axis(0));
     image.invert_axis(Axis(1));
 }
@@ -63,31 +63,46 @@ pub fn column_of_numbers(image: &Array2<i64>, column: usize) -> ArrayView1<'_, i
     image.column(column)
 }
 
-/// A row of the transposed image, which is a column of the image.
-pub fn transposed_row<S: Data>(image: ArrayBase<S, Ix2>, row: usize) -> ArrayBase<S, Ix1>
-    requires { row < slice_index (shape_of image) 1 }
-    ensures { (i : List ℕ) → element_at result i ≡ inside (shape_of result) i (inside (reverse (shape_of image)) (indexed_index 0 row i) (element_at image (reverse (indexed_index 0 row i)))) }
+/// A row of the transposed image, which is a column of the image; None where there is none of this number.
+pub fn transposed_row<S: Data + Drop>(
+    image: ArrayBase<S, Ix2>,
+    row: usize,
+) -> Option<ArrayBase<S, Ix1>>
+    ensures there { IsSome result ↔ (row < slice_index (shape_of image) 1) }
+    ensures elements { IfSome result (λ line. (i : List ℕ) → element_at line i ≡ inside (shape_of line) i (inside (reverse (shape_of image)) (indexed_index 0 row i) (element_at image (reverse (indexed_index 0 row i))))) }
 {
-    let _two = image.ndim();
-    image.reversed_axes().index_axis_move(Axis(0), row)
+    let (_rows, columns) = image.dim();
+    if row < columns {
+        Some(image.reversed_axes().index_axis_move(Axis(0), row))
+    } else {
+        None
+    }
 }
 
 /// The same of an owned array of any elements.
-pub fn transposed_row_owned<A>(image: Array2<A>, row: usize) -> Array1<A>
-    requires { row < slice_index (shape_of image) 1 }
-    ensures { (i : List ℕ) → element_at result i ≡ inside (shape_of result) i (inside (reverse (shape_of image)) (indexed_index 0 row i) (element_at image (reverse (indexed_index 0 row i)))) }
+pub fn transposed_row_owned<A: Drop>(image: Array2<A>, row: usize) -> Option<Array1<A>>
+    ensures there { IsSome result ↔ (row < slice_index (shape_of image) 1) }
+    ensures elements { IfSome result (λ line. (i : List ℕ) → element_at line i ≡ inside (shape_of line) i (inside (reverse (shape_of image)) (indexed_index 0 row i) (element_at image (reverse (indexed_index 0 row i))))) }
 {
-    let _two = image.ndim();
-    image.reversed_axes().index_axis_move(Axis(0), row)
+    let (_rows, columns) = image.dim();
+    if row < columns {
+        Some(image.reversed_axes().index_axis_move(Axis(0), row))
+    } else {
+        None
+    }
 }
 
 /// The same of numbers.
-pub fn transposed_row_of_numbers(image: Array2<i64>, row: usize) -> Array1<i64>
-    requires { row < slice_index (shape_of image) 1 }
-    ensures { (i : List ℕ) → element_at result i ≡ inside (shape_of result) i (inside (reverse (shape_of image)) (indexed_index 0 row i) (element_at image (reverse (indexed_index 0 row i)))) }
+pub fn transposed_row_of_numbers(image: Array2<i64>, row: usize) -> Option<Array1<i64>>
+    ensures there { IsSome result ↔ (row < slice_index (shape_of image) 1) }
+    ensures elements { IfSome result (λ line. (i : List ℕ) → element_at line i ≡ inside (shape_of line) i (inside (reverse (shape_of image)) (indexed_index 0 row i) (element_at image (reverse (indexed_index 0 row i))))) }
 {
-    let _two = image.ndim();
-    image.reversed_axes().index_axis_move(Axis(0), row)
+    let (_rows, columns) = image.dim();
+    if row < columns {
+        Some(image.reversed_axes().index_axis_move(Axis(0), row))
+    } else {
+        None
+    }
 }
 
 /// One element of a row exchanged with that of another row in its column: a step of an exchange of two rows.
