@@ -1,12 +1,10 @@
--- What a storage shows under a layout, by the ranks of another of its shape, and of one whose axes are turned alike.
+-- What a storage shows under a layout, by the ranks of another of its shape.
 use Rattle.std.proofs.Common.{◌≡◌, ℕ, ◌<◌, true, List, refl, ap, ◌∙◌}
 use Rattle.std.specs.Prelude.{Option}
 use Rattle.nd_shape_and_slice.specs.Shape.{in_box, size_of, row_rank, index_at}
 use Rattle.nd_shape_and_slice.specs.Place.{place_of}
-use Rattle.nd_shape_and_slice.proofs.RowMajor.{row_rank_below}
-use Rattle.nd_shape_and_slice.proofs.RankIndexes.{in_box-index_at, row_rank-index_at, index_at-row_rank}
-use Rattle.nd_layout.specs.MemoryOrder.{AreTurned}
-use Rattle.nd_layout.specs.Placements.{Placement, IsRearrangedOf}
+use Rattle.nd_shape_and_slice.proofs.RankIndexes.{in_box-index_at, index_at-row_rank}
+use Rattle.nd_layout.specs.Placements.{Placement}
 use Rattle.nd_storage.specs.ByLayout.{shown_at}
 use Rattle.nd_storage.specs.CloneRefusals.{MayRefuseBelow, MayRefuseClone}
 use Rattle.nd_storage.specs.Collected.{stored_by_rank}
@@ -26,23 +24,3 @@ module _ {A : Type 0} (others : ℕ → Option A) (one two : Placement) (alike :
 
   pub second_refused : (is_infallible : A → Type 0) → MayRefuseBelow is_infallible (stored_by_rank others two.offset one.lengths two.strides) (size_of one.lengths) → MayRefuseClone is_infallible (shown_at others two)
   second_refused is_infallible refused = (index_at one.lengths refused.0, refused.1, second_shown refused.0 refused.2 ∙ refused.3, refused.4)
-
--- turned, the first has its places in another order, and the second shows at a rank what it shows at the index named
-module _ (one two new_one new_two : Placement) (t : AreTurned one two new_one new_two) where
-  abbrev pub turned_order : IsRearrangedOf one new_one
-  turned_order = record {
-    index_of = λ r. t.source (index_at new_one.lengths r);
-    rank_of = λ i. row_rank new_one.lengths (t.back i);
-    within = λ r h. t.first.within (index_at new_one.lengths r) (in_box-index_at new_one.lengths r h);
-    below = λ i h. row_rank_below new_one.lengths (t.back i) (t.inside i h);
-    there = λ r h. ap (row_rank new_one.lengths) (t.once (index_at new_one.lengths r) (in_box-index_at new_one.lengths r h)) ∙ row_rank-index_at new_one.lengths r h;
-    back = λ i h. ap t.source (index_at-row_rank new_one.lengths (t.back i) (t.inside i h)) ∙ t.found i h;
-    same = λ r h. t.first.same (index_at new_one.lengths r) (in_box-index_at new_one.lengths r h);
-  }
-
-  pub turned_shown : {A : Type 0} (others : ℕ → Option A) (rank : ℕ) → rank < size_of new_one.lengths → stored_by_rank others new_two.offset new_one.lengths new_two.strides rank ≡ shown_at others two (turned_order.index_of rank)
-  turned_shown others rank below =
-      let i = index_at new_one.lengths rank in
-      let there : in_box new_two.lengths i ≡ true = ap (λ ns. in_box ns i) t.alike ∙ in_box-index_at new_one.lengths rank below in
-      let shows : stored_at others (place_of new_two.offset new_two.strides i) ≡ shown_at others two (t.source i) = rw (t.second.within i there) (ap (stored_at others) (t.second.same i there)) in
-      shows
