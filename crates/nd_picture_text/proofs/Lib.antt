@@ -1,2 +1,3 @@
 pub mod Rasters
+pub mod ReadBack
 pub mod StepLists

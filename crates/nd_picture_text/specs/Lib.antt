@@ -1,4 +1,5 @@
 pub mod Images
+pub mod Laws
 pub mod Numbers
 pub mod Reading
 pub mod Steps

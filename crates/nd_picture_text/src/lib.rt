@@ -4,6 +4,7 @@
 
 mod header;
 mod image;
+pub mod laws;
 mod numbers;
 mod raster;
 pub mod reader;

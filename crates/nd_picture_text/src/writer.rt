@@ -1,9 +1,9 @@
 //! Writing an image.
 
-ghost use Rattle.std.specs.Prelude.{◌≡◌, ◌++◌};
+ghost use Rattle.std.specs.Prelude.{◌≡◌, ◌≤◌, ◌++◌, length, take};
 ghost use Rattle.std.specs.List.{flat_map};
 ghost use Rattle.nd_picture_text.specs.Images.{Pixmap};
-ghost use Rattle.nd_picture_text.specs.Writing.{kind_text, header_text, sample_text, image_text};
+ghost use Rattle.nd_picture_text.specs.Writing.{kind_text, header_text, low_byte, sample_text, image_text};
 ghost use Rattle.nd_text.specs.Puts.{Puts};
 
 use crate::image::{Header, Kind};
@@ -57,13 +57,53 @@ fn put_sample<W: Write>(
     }
 }
 
-fn put_samples<W: Write>(output: &mut Watched<W>, page: &mut Page, header: Header, samples: &[u16])
+/// How many samples of one byte are put at once.
+const PIECE_LEN: usize = 4096;
+
+/// Writes the low bytes of samples over the first bytes of a piece.
+fn fill_low(piece: &mut [u8], samples: &[u16])
+    requires { length samples.now ≤ length piece.old }
+    ensures bytes { take (length samples.now) piece.new ≡ flat_map low_byte samples.now }
+    ensures room { length piece.new ≡ length piece.old }
+{
+    for nth in 0..samples.len() {
+        piece[nth] = (samples[nth] % 256) as u8;
+    }
+}
+
+/// Puts samples of one byte, piece by piece.
+fn put_narrow<W: Write>(output: &mut Watched<W>, page: &mut Page, samples: &[u16])
+    ensures { Puts W.contents output.old page.old output.new page.new (flat_map low_byte samples.now) }
+{
+    let mut piece = [0; PIECE_LEN];
+    let mut done = 0;
+    while done < samples.len() {
+        let end = done + PIECE_LEN.min(samples.len() - done);
+        let part = &samples[done..end];
+        fill_low(&mut piece, part);
+        put(output, page, &piece[..part.len()]);
+        done = end;
+    }
+}
+
+/// Puts samples one by one.
+fn put_each<W: Write>(output: &mut Watched<W>, page: &mut Page, header: Header, samples: &[u16])
     ensures { Puts W.contents output.old page.old output.new page.new (flat_map (sample_text header) samples.now) }
 {
     let mut buffer = Buffer::new();
     for sample in samples {
         put_sample(output, page, &mut buffer, header, *sample);
     }
+}
+
+fn put_samples<W: Write>(output: &mut Watched<W>, page: &mut Page, header: Header, samples: &[u16])
+    ensures { Puts W.contents output.old page.old output.new page.new (flat_map (sample_text header) samples.now) }
+{
+    if !header.kind.is_plain() && header.maxval < 256 {
+        put_narrow(output, page, samples);
+        return;
+    }
+    put_each(output, page, header, samples);
 }
 
 /// Puts an image of these samples behind the bytes that wait.

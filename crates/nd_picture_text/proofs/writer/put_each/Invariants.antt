@@ -2,7 +2,7 @@ use Rattle.std.proofs.Common.{take}
 use Rattle.std.specs.List.{flat_map}
 use Rattle.nd_text.specs.Puts.{Puts}
 use Rattle.nd_picture_text.specs.Writing.{sample_text}
-use Rattle.nd_picture_text.proofs.writer.put_samples.Given as goal
+use Rattle.nd_picture_text.proofs.writer.put_each.Given as goal
 
 -- the samples so far are put
 abbrev pub invariant-loop-sample : goal.invariant-loop-sample

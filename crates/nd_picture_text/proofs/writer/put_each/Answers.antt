@@ -1,7 +1,7 @@
 use Rattle.std.proofs.Common.{get_or, append-nil, refl, sym}
 use Rattle.nd_picture_text.specs.Writing.{sample_text}
 use Rattle.nd_text.proofs.Puts.{puts_item, puts_nothing}
-use Rattle.nd_picture_text.proofs.writer.put_samples.Goals as goal
+use Rattle.nd_picture_text.proofs.writer.put_each.Goals as goal
 
 pub loop-sample-preserved : goal.loop-sample-preserved
 loop-sample-preserved g c =
