@@ -1,5 +1,10 @@
-//! Tests of `nd_iter` by its public calls.
+//! Callers of `nd_iter`, and tests of it by its public calls.
 #![tactic(auto)]
 
+pub mod callers;
+#[cfg(test)]
+mod callers_called;
+#[cfg(test)]
+mod parts_and_indexes;
 #[cfg(test)]
 mod rows_and_elements;
