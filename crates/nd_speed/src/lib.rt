@@ -6,6 +6,7 @@
 #![tactic(auto)]
 
 mod along;
+mod axes;
 mod conditions;
 mod copies;
 mod elementwise;
