@@ -3,7 +3,6 @@ pub mod AxisFolding
 pub mod Selecting
 pub mod AxisNumbers
 pub mod AxisFolds
-pub mod AxisBeside
 pub mod HandedLanes
 pub mod ShownLanes
 pub mod AxisIndexes

@@ -17,6 +17,7 @@ pub mod LaidAnew
 pub mod LaneNumbers
 pub mod Lanes
 pub mod LanesAccumulating
+pub mod LanesFolding
 pub mod LentLanes
 pub mod Mapped
 pub mod Moved

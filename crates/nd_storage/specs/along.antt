@@ -1,5 +1,6 @@
 pub mod Accumulated
 pub mod AxisLanes
+pub mod LanesFolded
 pub mod LanesIn
 pub mod LanesWritten
 pub mod Removed

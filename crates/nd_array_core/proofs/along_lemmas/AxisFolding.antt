@@ -1,8 +1,6 @@
 -- The lanes of an axis, by the indexes of the other axes: what lies along them, and what they are folded to.
 use Rattle.std.proofs.Common.{◌≡◌, ℕ, ◌<◌, ◌≤◌, true, List, length, get_or, ltb, ℤ, pos, ◌+ℤ◌, ◌*ℤ◌, ap, sym, ◌∙◌, subst, arith}
 use Rattle.std.specs.Prelude.{Option}
-use Rattle.std.specs.Borrow.{Bor}
-use Rattle.std.specs.Fn.{Mut}
 use Rattle.std.specs.List.{insert, remove}
 use Rattle.std.proofs.lemmas.Bool.{and_from, lt-ltb}
 use Rattle.nd_shape_and_slice.specs.Shape.{in_box, size_of, index_at}
@@ -18,9 +16,7 @@ use Rattle.nd_layout.specs.Walk.{place_at_rank}
 use Rattle.nd_storage.specs.Collected.{stored_along}
 use Rattle.nd_storage.specs.Meaning.{inside}
 use Rattle.nd_storage.specs.Places.{stored_at, names_place, HoldsAll}
-use Rattle.nd_storage.specs.elements.Folds.{RanTo}
-use Rattle.nd_array_core.specs.along.AxisFolds.{lane_at, FoldsShown, FoldsRun, TakesRun}
-use Rattle.nd_storage.proofs.Ran.{ran_weaker}
+use Rattle.nd_array_core.specs.along.AxisFolds.{lane_at}
 
 module _ (offset : ℕ) (ns : List ℕ) (ss : List ℤ) (a : ℕ) (on : a < length ns) (many : length ss ≡ length ns) (start : ℕ) (us : List ℤ) (step : IsStep offset ns ss start (indexed_shape ns a) us (indexed_index a 0)) (fewer : a ≤ length (remove ns a)) where
   -- the place and the index of the k-th of a lane
@@ -55,19 +51,3 @@ module _ (offset : ℕ) (ns : List ℕ) (ss : List ℤ) (a : ℕ) (on : a < leng
 
     pub fold_found : {A : Type 0} (stored : ℕ → Option A) → (k : ℕ) → k < count → stored_along stored first s k ≡ lane_at (λ i. inside ns i (stored_at stored (place_of offset ss i))) a (index_at (remove ns a) r) k
     fold_found stored k under = rw (lane_in r k below (subst (λ n. k < n) counts under)) (ap (stored_at stored) (goes k))
-
-module _ {F B A : Type 0} (g : Mut F (Bor B × (Bor A × Unit {0})) B) where
-  -- the same of two lanes with the same elements
-  module _ (found other : ℕ → Option A) (n m : ℕ) (long : n ≡ m) (same : (k : ℕ) → k < n → found k ≡ other k) (init start : B) (starts : start ≡ init) (f : F) where
-    pub takes_same : TakesRun g other m init f → TakesRun g found n start f
-    takes_same takes k now below run b x total is =
-        takes k now (subst (λ p. k < p) long below)
-        (subst (λ v. RanTo (λ p j q. FoldsShown g (other j) p q) (f, v) k now) starts
-        (ran_weaker (λ p j q. FoldsShown g (found j) p q) (λ p j q. FoldsShown g (other j) p q) (f, start) now k (λ p j q under call. subst (λ o. FoldsShown g o p q) (same j (omega (arith, under, below))) call) run))
-        b x total (sym (same k below) ∙ is)
-
-    pub folds_same : (y : B) (f' : F) → FoldsRun g found n start f y f' → FoldsRun g other m init f y f'
-    folds_same y f' run =
-        subst (λ p. RanTo (λ p j q. FoldsShown g (other j) p q) (f, init) p (f', y)) long
-        (subst (λ v. RanTo (λ p j q. FoldsShown g (other j) p q) (f, v) n (f', y)) starts
-        (ran_weaker (λ p j q. FoldsShown g (found j) p q) (λ p j q. FoldsShown g (other j) p q) (f, start) (f', y) n (λ p j q under call. subst (λ o. FoldsShown g o p q) (same j under) call) run))

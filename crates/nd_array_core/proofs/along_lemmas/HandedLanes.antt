@@ -27,6 +27,7 @@ use Rattle.nd_storage.specs.Writes.{OthersStay}
 use Rattle.nd_storage.specs.elements.Maps.{AnswersAt, TakesNumbered, AskableOfAll}
 use Rattle.nd_storage.specs.elements.MapsMut.{paired_at}
 use Rattle.nd_storage.specs.along.AxisLanes.{lane_place, LanesReach, LanesDistinct}
+use Rattle.nd_array_core.specs.along.AxisFolds.{lane_at}
 use Rattle.nd_array_core.specs.along.AxisMaps.{lane_of, lanes_of}
 use Rattle.nd_storage.specs.along.LanesWritten.{lane_held, LeavesLane, MayBeHandedLane, LeavesLanesBy, AnswersHandedLanesBy, lanes_held, AreHandedOut}
 use Rattle.nd_array_core.specs.along.LanesWritten.{AreLeftBy}
@@ -94,6 +95,10 @@ module _ (offset : ℕ) (ns : List ℕ) (ss : List ℤ) (a : ℕ) (on : a < leng
   others_stayed old new left p nowhere =
       left p (λ r k below within e. nowhere (insert (index_at outer r) a k) (rw (inside_at r k below within) (ap place_number (sym (goes r k below within) ∙ e))))
 
+  -- what lies there is the element at the index
+  lane_found : {A : Type 0} (stored : ℕ → Option A) (r k : ℕ) → r < size_of outer → k < n → stored_at stored (place r k) ≡ lane_at (λ i. inside ns i (stored_at stored (place_of offset ss i))) a (index_at outer r) k
+  lane_found stored r k below within = rw (inside_at r k below within) (ap (stored_at stored) (goes r k below within))
+
   -- what a storage's lanes show is what the array's do
   module _ {A : Type 0} (stored : ℕ → Option A) where
     abbrev shown : Meaning A
@@ -103,10 +108,7 @@ module _ (offset : ℕ) (ns : List ℕ) (ss : List ℤ) (a : ℕ) (on : a < leng
     lane_shown r below =
         let test : nat_lt r (size_of outer) ≡ true = grind (arith, nat_tests, below) in
         rw (test, in_box-index_at outer r below)
-        (ap Some (line_same n n refl (λ k. stored_at stored (place r k)) (λ k. shown.at (insert (index_at outer r) a k)) (λ k within. seen r k below within)))
-      where
-        seen : (r k : ℕ) → r < size_of outer → k < n → stored_at stored (place r k) ≡ inside ns (insert (index_at outer r) a k) (stored_at stored (place_of offset ss (insert (index_at outer r) a k)))
-        seen r k below within = rw (inside_at r k below within) (ap (stored_at stored) (goes r k below within))
+        (ap Some (line_same n n refl (λ k. stored_at stored (place r k)) (λ k. shown.at (insert (index_at outer r) a k)) (λ k within. lane_found stored r k below within)))
 
   module _ {F A B : Type 0} (g : Mut F (MutBor (LaneMut A) × Unit {0}) (B × (MutBor (LaneMut A) × Unit {0}))) (old : ℕ → Option A) (f : F) where
     lanes_taken : AskableOfAll (LeavesLane g) (MayBeHandedLane g) (lanes_of (shown old) a) f → TakesNumbered (LeavesLane g) (MayBeHandedLane g) (lanes_held place (size_of outer) n old) f (size_of outer)
@@ -130,6 +132,9 @@ module _ (offset : ℕ) (ns : List ℕ) (ss : List ℤ) (a : ℕ) (on : a < leng
 
     pub given_hold : {A : Type 0} (stored : ℕ → Option A) → HoldsAll stored offset ns ss → (r k : ℕ) → r < size_of ls → k < count → names_place stored (lane_place start ls vs s r k) ≡ true
     given_hold stored holds = given (λ l v z m. (r k : ℕ) → r < size_of l → k < m → names_place stored (lane_place start l v z r k) ≡ true) (lanes_hold stored holds)
+
+    pub given_found : {A : Type 0} (stored : ℕ → Option A) → (r k : ℕ) → r < size_of outer → k < n → stored_at stored (lane_place start ls vs s r k) ≡ lane_at (λ i. inside ns i (stored_at stored (place_of offset ss i))) a (index_at outer r) k
+    given_found stored = given (λ l v z m. (r k : ℕ) → r < size_of outer → k < n → stored_at stored (lane_place start l v z r k) ≡ lane_at (λ i. inside ns i (stored_at stored (place_of offset ss i))) a (index_at outer r) k) (lane_found stored)
 
     module _ {F A B : Type 0} (g : Mut F (MutBor (LaneMut A) × Unit {0}) (B × (MutBor (LaneMut A) × Unit {0}))) (old : ℕ → Option A) (f : F) where
       pub given_taken : AskableOfAll (LeavesLane g) (MayBeHandedLane g) (lanes_of (shown old) a) f → TakesNumbered (LeavesLane g) (MayBeHandedLane g) (lanes_held (lane_place start ls vs s) (size_of ls) count old) f (size_of ls)

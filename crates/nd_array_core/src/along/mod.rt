@@ -2,7 +2,6 @@
 
 mod accumulate_axis;
 mod fold_axis;
-mod fold_beside;
 pub mod lane_view;
 mod lane_of_rank;
 mod map_axis;

@@ -6,6 +6,7 @@ use Rattle.nd_shape_and_slice.specs.Shape.{in_box}
 use Rattle.nd_region.specs.declared.region.Region.{Region}
 use Rattle.nd_region.specs.Region.{region_stored, borrow_of, with_element, with_run}
 use Rattle.nd_layout.specs.Lanes.{Numbered}
+use Rattle.nd_storage.specs.NumberedPlaces.{elements_at}
 use Rattle.nd_storage.specs.Places.{stored_at}
 use Rattle.nd_storage.specs.elements.Folds.{RanTo}
 use Rattle.nd_storage.specs.elements.Pairs.{option_both}
@@ -20,6 +21,10 @@ run_of stored p k = stored (p + k)
 
 abbrev pub run_at : {A : Type 0} → Region A → ℕ → ℕ → Option A
 run_at r p k = region_stored r (p + k)
+
+-- no place but one changed
+abbrev pub LeavesAllBut : {S A : Type 0} → (S → ℕ → Option A) → ℤ → S → S → Type 0
+LeavesAllBut stored z old new = (p : ℕ) → (pos p ≡ z → ⊥) → stored new p ≡ stored old p
 
 -- two runs have no place together
 abbrev pub AreRunsApart : ℕ → ℕ → ℕ → Type 0
@@ -100,6 +105,13 @@ module _ {F A : Type 0} (g : Mut F (Bor A × (MutBor A × Unit {0})) (Unit {0} �
   abbrev pub TakesRow : (ℕ → Option A) → (ℕ → Option A) → ℕ → F → Type 0
   TakesRow before old count first = (left : ℕ → Option A) (r : ℕ) (now : F) → r < count → ChangesRow before old left first r now → TakesAfter (before r) (old r) now
 
+  -- the same of slices
+  abbrev pub ChangesSlice : List A → List A → List A → F → F → Type 0
+  ChangesSlice before old left f last = ChangesRow (slice_get before) (slice_get old) (slice_get left) f (length old) last
+
+  abbrev pub TakesSlice : List A → List A → F → Type 0
+  TakesSlice before old f = TakesRow (slice_get before) (slice_get old) (length old) f
+
   -- two regions, once the elements of a run of the one were shown, and those of a run of the other changed
   abbrev pub RowChangedBetween : Region A → ℕ → Region A → ℕ → ℕ → F → Region A × Region A × F → Type 0
   RowChangedBetween r p s q count f out =
@@ -135,6 +147,13 @@ module _ {F A : Type 0} (g : Mut F (Bor A × (MutBor A × Unit {0})) (Unit {0} �
 
   -- ---- the same of a storage
   module _ {S : Type 0} (stored : S → ℕ → Option A) where
+    -- the call for a number's element and the next one's; it may be made
+    abbrev pub ChangesNext : Numbered → ℕ → S → S → F → F → Type 0
+    ChangesNext at k old new f last = ChangesAfter (elements_at stored at old k) (elements_at stored at old (k + 1)) (elements_at stored at new (k + 1)) f last
+
+    abbrev pub TakesNext : Numbered → ℕ → S → F → Type 0
+    TakesNext at k s f = TakesAfter (elements_at stored at s k) (elements_at stored at s (k + 1)) f
+
     abbrev pub AccumulatesLane : Numbered → S → S → F → F → Type 0
     AccumulatesLane at old new first last = IsAccumulated at.place (at.count - 1) (stored old) (stored new) first last
 

@@ -1,9 +1,11 @@
 -- The lanes of an axis: the places that differ in its coordinate alone, by the place of the first of them.
-use Rattle.std.specs.Prelude.{◌≡◌, ◌+◌, ◌<◌, ℕ, ℤ, pos, ◌+ℤ◌, ◌*ℤ◌, true, List, Option}
+use Rattle.std.specs.Prelude.{◌≡◌, ◌+◌, ◌<◌, ℕ, ℤ, pos, ◌+ℤ◌, ◌*ℤ◌, true, List, Option, slice_index}
 use Rattle.nd_shape_and_slice.specs.Shape.{size_of}
-use Rattle.nd_layout.specs.Placements.{Placement}
+use Rattle.nd_shape_and_slice.specs.Maps.{indexed_index}
+use Rattle.nd_layout.specs.Placements.{Placement, IsStepOf}
 use Rattle.nd_layout.specs.Places.{is_place}
 use Rattle.nd_layout.specs.Walk.{place_at_rank}
+use Rattle.nd_layout.specs.declared.lanes.Lane.{Lane}
 use Rattle.nd_storage.specs.Places.{names_place}
 
 -- the place of the k-th of the lane whose first place has a rank in the outer layout
@@ -18,6 +20,14 @@ LanesReach place lanes count = (r k : ℕ) → r < lanes → k < count → is_pl
 abbrev pub LanesDistinct : (ℕ → ℕ → ℤ) → ℕ → ℕ → Type 0
 LanesDistinct place lanes count = (r k q j : ℕ) → r < lanes → q < lanes → k < count → j < count → place r k ≡ place q j → (r ≡ q) × (k ≡ j)
 
+-- where an axis has a length, the second layout has the places of its coordinate 0
+abbrev pub IsFirstOfLanes : ℕ → Placement → Placement → Type 0
+IsFirstOfLanes axis old new = 0 < slice_index old.lengths axis → IsStepOf old new (indexed_index axis 0)
+
+-- a lane with the places of another
+abbrev pub LiesAs : Lane → Lane → Type 0
+LiesAs lane other = (lane.place ≡ other.place) × (lane.count ≡ other.count) × (lane.stride ≡ other.stride)
+
 -- so many lanes of so many places each, and where the k-th of the r-th lies
 pub record LanePlaces : Type 0 where
   pub lanes : ℕ
@@ -28,9 +38,9 @@ pub record LanePlaces : Type 0 where
 abbrev pub lanes_from : Placement → ℕ → ℤ → LanePlaces
 lanes_from firsts count stride = record { lanes = size_of firsts.lengths; count = count; place = lane_place firsts.offset firsts.lengths firsts.strides stride }
 
--- the first of them, and each next one a place further
-abbrev pub lanes_beside : ℕ → ℕ → ℕ → ℤ → LanePlaces
-lanes_beside lanes count first stride = record { lanes = lanes; count = count; place = λ r k. pos (first + r) +ℤ (pos k *ℤ stride) }
+-- the first is a lane, and each next one begins a place further
+abbrev pub lanes_beside : ℕ → Lane → LanePlaces
+lanes_beside lanes lane = record { lanes = lanes; count = lane.count; place = λ r k. pos (lane.place + r) +ℤ (pos k *ℤ lane.stride) }
 
 abbrev pub LanesLie : LanePlaces → Type 0
 LanesLie at = LanesReach at.place at.lanes at.count

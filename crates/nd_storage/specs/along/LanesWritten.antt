@@ -2,6 +2,7 @@
 use Rattle.std.specs.Prelude.{◌≡◌, ◌<◌, ℕ, List, [], ◌∷◌, Option, None, Some, ℤ, pos, nat_lt, slice_index, if◌then◌else◌}
 use Rattle.std.specs.Borrow.{MutBor}
 use Rattle.std.specs.Fn.{Mut, CalledAtMut}
+use Rattle.std.specs.declared.vec.Vec.{Vec}
 use Rattle.nd_region.specs.declared.region.Region.{Region}
 use Rattle.nd_region.specs.Region.{region_stored, borrow_of}
 use Rattle.nd_storage.specs.declared.along.lane_mut.LaneMut.{LaneMut}
@@ -90,8 +91,8 @@ module _ {F A B : Type 0} (g : Mut F (MutBor (LaneMut A) × Unit {0}) (B × (Mut
     TakesLaneAt at s f = MayBeHandedLane f (Some (line_at stored at s))
 
     -- and so all lanes of an axis, one after the other
-    abbrev pub HandsOutAll : LanePlaces → S → S → F → F × List B → Type 0
-    HandsOutAll at old new first last = AreHandedOut at.place at.lanes at.count at.lanes (stored old) (stored new) first last
+    abbrev pub HandsOut : {Z : Type 0} → LanePlaces → S → S → F → F × Vec B Z → Type 0
+    HandsOut at old new first last = AreHandedOut at.place at.lanes at.count at.lanes (stored old) (stored new) first (last.0, last.1.items)
 
     abbrev pub TakesAllLanes : LanePlaces → S → F → Type 0
     TakesAllLanes at s f = TakesNumbered LeavesLane MayBeHandedLane (lanes_held at.place at.lanes at.count (stored s)) f at.lanes

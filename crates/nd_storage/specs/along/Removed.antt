@@ -55,8 +55,9 @@ module _ {A : Type 0} (old new : ℕ → Option A) where
 
 -- the same of a storage
 module _ {S A : Type 0} (stored : S → ℕ → Option A) where
-  abbrev pub MovesPlaces : Numbered → (ℕ → ℕ) → S → S → Type 0
-  MovesPlaces at from old new = IsMovedBy (stored old) (stored new) at.place at.count from
+  -- the k-th of a lane goes to its end, and those behind it one towards the front
+  abbrev pub RotatesPlaces : Numbered → ℕ → S → S → Type 0
+  RotatesPlaces at k old new = IsMovedBy (stored old) (stored new) at.place at.count (rotated k at.count)
 
-  abbrev pub MovesLanes : LanePlaces → (ℕ → ℕ) → S → S → Type 0
-  MovesLanes at from old new = AreMovedBy (stored old) (stored new) at.place at.lanes at.count from
+  abbrev pub RotatesLanes : LanePlaces → ℕ → S → S → Type 0
+  RotatesLanes at k old new = AreMovedBy (stored old) (stored new) at.place at.lanes at.count (rotated k at.count)

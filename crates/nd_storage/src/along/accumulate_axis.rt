@@ -1,14 +1,12 @@
 //! A closure that goes along an axis and is shown the element before each.
 
-ghost use Rattle.std.specs.Prelude.{◌≡◌, ◌+◌, ◌<◌, ℕ, true, IsSome, pos, ◌+ℤ◌, ◌*ℤ◌};
+ghost use Rattle.std.specs.Prelude.{◌≡◌, ◌+◌, ◌<◌, IsSome};
 ghost use Rattle.nd_layout.specs.Lanes.{along};
 ghost use Rattle.nd_region.specs.Region.{region_stored};
 ghost use Rattle.nd_storage.specs.NumberedPlaces.{PlacesDiffer, Holds};
-ghost use Rattle.nd_storage.specs.Places.{names_place, stored_at};
-ghost use Rattle.nd_storage.specs.elements.Changes.{AreDistinct};
 ghost use Rattle.nd_storage.specs.along.AxisLanes.{LanesDiffer, LanesHold};
 ghost use Rattle.nd_storage.specs.along.LanesIn.{lanes_in};
-ghost use Rattle.nd_storage.specs.along.Accumulated.{TakesAfter, ChangesAfter, ChangedBetween, ChangedInside, AccumulatesLane, AccumulableLane, AccumulatesLanes, AccumulableLanes};
+ghost use Rattle.nd_storage.specs.along.Accumulated.{TakesAfter, ChangesNext, TakesNext, LeavesAllBut, ChangedBetween, ChangedInside, AccumulatesLane, AccumulableLane, AccumulatesLanes, AccumulableLanes};
 
 use crate::along::accumulate_beside::accumulate_beside;
 use crate::along::axis_lanes::AxisLanes;
@@ -51,7 +49,9 @@ fn change_inside<'b, A, F: FnMut(&A, &mut A)>(
         &[],
         &[],
         |one, others|
-            requires { IsSome (region_stored one p) × IsSome (region_stored others q) × TakesAfter F.FnMut (region_stored one p) (region_stored others q) f }
+            requires one { IsSome (region_stored one p) }
+            requires other { IsSome (region_stored others q) }
+            requires callable { TakesAfter F.FnMut (region_stored one p) (region_stored others q) f }
             ensures { ChangedBetween F.FnMut one.entry p others.entry q f result }
         { change_between(one, p, others, q, f) },
     );
@@ -67,11 +67,11 @@ fn change_after<S: DataMut, F: FnMut(&S::Elem, &mut S::Elem)>(
     f: F,
 ) -> F
     requires within { nth + 1 < lane.count }
-    requires apart { AreDistinct (λ k. pos lane.place +ℤ (pos k *ℤ lane.stride)) lane.count }
-    requires holds { (k : ℕ) → k < lane.count → names_place (S.stored storage.old) (pos lane.place +ℤ (pos k *ℤ lane.stride)) ≡ true }
-    requires callable { TakesAfter F.FnMut (stored_at (S.stored storage.old) (pos lane.place +ℤ (pos nth *ℤ lane.stride))) (stored_at (S.stored storage.old) (pos lane.place +ℤ (pos (nth + 1) *ℤ lane.stride))) f }
-    ensures called { ChangesAfter F.FnMut (stored_at (S.stored storage.old) (pos lane.place +ℤ (pos nth *ℤ lane.stride))) (stored_at (S.stored storage.old) (pos lane.place +ℤ (pos (nth + 1) *ℤ lane.stride))) (stored_at (S.stored storage.new) (pos lane.place +ℤ (pos (nth + 1) *ℤ lane.stride))) f result }
-    ensures left { (p : ℕ) → (pos p ≡ pos lane.place +ℤ (pos (nth + 1) *ℤ lane.stride) → ⊥) → S.stored storage.new p ≡ S.stored storage.old p }
+    requires apart { PlacesDiffer (along lane) }
+    requires holds { Holds S.stored (along lane) storage.old }
+    requires callable { TakesNext F.FnMut S.stored (along lane) nth storage.old f }
+    ensures called { ChangesNext F.FnMut S.stored (along lane) nth storage.old storage.new f result }
+    ensures left { LeavesAllBut S.stored ((along lane).place (nth + 1)) storage.old storage.new }
     ensures frame { S.frame storage.new ≡ S.frame storage.old }
 {
     let from = lane.place_of(nth);

@@ -1,10 +1,10 @@
 //! The lanes of an axis gone along together, a coordinate after the other, where the elements at each are side by side.
 
-ghost use Rattle.std.specs.Prelude.{◌≡◌, ◌+◌, ◌<◌, ℕ, length, pos, slice_get, ◌+ℤ◌};
+ghost use Rattle.std.specs.Prelude.{◌≡◌, ◌+◌, ◌<◌, ℕ, length, pos, ◌+ℤ◌};
 ghost use Rattle.nd_region.specs.Region.{HasRun};
 ghost use Rattle.nd_storage.specs.RunLent.{HasRunAt, IsBesideRun};
 ghost use Rattle.nd_storage.specs.along.AxisLanes.{lanes_beside, LanesDiffer, LanesHold};
-ghost use Rattle.nd_storage.specs.along.Accumulated.{ChangesRow, TakesRow, RowChangedBetween, RowChangedInside, ChangesNextRun, TakesNextRun, AccumulatesLanes, AccumulableLanes, AreRunsApart, run_at};
+ghost use Rattle.nd_storage.specs.along.Accumulated.{ChangesSlice, TakesSlice, TakesRow, RowChangedBetween, RowChangedInside, ChangesNextRun, TakesNextRun, AccumulatesLanes, AccumulableLanes, AreRunsApart, run_at};
 
 use crate::storage::DataMut;
 use nd_layout::Lane;
@@ -15,8 +15,8 @@ use nd_shape_and_slice::Dimension;
 #[inline(always)]
 fn change_slice<A, F: FnMut(&A, &mut A)>(before: &[A], items: &mut [A], mut f: F) -> F
     requires as_long { length before.now ≡ length items.old }
-    requires callable { TakesRow F.FnMut (slice_get before.now) (slice_get items.old) (length items.old) f }
-    ensures changed { ChangesRow F.FnMut (slice_get before.now) (slice_get items.old) (slice_get items.new) f (length items.old) result }
+    requires callable { TakesSlice F.FnMut before.now items.old f }
+    ensures changed { ChangesSlice F.FnMut before.now items.old items.new f result }
     ensures long { length items.new ≡ length items.old }
 {
     for nth in 0..before.len() {
@@ -61,7 +61,9 @@ fn change_row_inside<'b, A, F: FnMut(&A, &mut A)>(
         &[count],
         &[1],
         |one, others|
-            requires { HasRun one p count × HasRun others q count × TakesRow F.FnMut (run_at one p) (run_at others q) count f }
+            requires one { HasRun one p count }
+            requires other { HasRun others q count }
+            requires callable { TakesRow F.FnMut (run_at one p) (run_at others q) count f }
             ensures { RowChangedBetween F.FnMut one.entry p others.entry q count f result }
         { change_rows(one, p, others, q, count, f) },
     );
@@ -107,10 +109,10 @@ pub(crate) fn accumulate_beside<S: DataMut, F: FnMut(&S::Elem, &mut S::Elem)>(
     f: F,
 ) -> F
     requires some { 0 < lane.count }
-    requires apart { LanesDiffer (lanes_beside lanes lane.count lane.place lane.stride) }
-    requires holds { LanesHold S.stored (lanes_beside lanes lane.count lane.place lane.stride) storage.old }
-    requires callable { AccumulableLanes F.FnMut S.stored (lanes_beside lanes lane.count lane.place lane.stride) storage.old f }
-    ensures accumulated { AccumulatesLanes F.FnMut S.stored (lanes_beside lanes lane.count lane.place lane.stride) storage.old storage.new f result }
+    requires apart { LanesDiffer (lanes_beside lanes lane) }
+    requires holds { LanesHold S.stored (lanes_beside lanes lane) storage.old }
+    requires callable { AccumulableLanes F.FnMut S.stored (lanes_beside lanes lane) storage.old f }
+    ensures accumulated { AccumulatesLanes F.FnMut S.stored (lanes_beside lanes lane) storage.old storage.new f result }
     ensures frame { S.frame storage.new ≡ S.frame storage.old }
 {
     let mut now = f;

@@ -1,9 +1,10 @@
 //! The lanes of an axis.
 
-ghost use Rattle.std.specs.Prelude.{◌≡◌, ◌<◌, ◌^◌, ◌+ℤ◌, ◌*ℤ◌, ℕ, true, pos, length, slice_index};
-ghost use Rattle.nd_shape_and_slice.specs.Maps.{indexed_shape, indexed_index};
+ghost use Rattle.std.specs.Prelude.{◌≡◌, ◌<◌, ◌^◌, ◌+ℤ◌, ◌*ℤ◌, ℕ, true, pos, length};
+ghost use Rattle.nd_shape_and_slice.specs.Maps.{indexed_shape};
 ghost use Rattle.nd_layout.specs.Places.{is_place};
-ghost use Rattle.nd_layout.specs.Placements.{placement_of, IsStepOf};
+ghost use Rattle.nd_layout.specs.Placements.{placement_of};
+ghost use Rattle.nd_storage.specs.along.AxisLanes.{IsFirstOfLanes};
 
 use nd_layout::{Lane, Layout};
 use nd_shape_and_slice::{Axis, Dimension, Order, RemoveAxis, StrideList};
@@ -32,7 +33,7 @@ where
     D::Smaller: Dimension,
     requires axis { axis.0 < length (D.lengths layout.now.dim) }
     ensures lengths { D.Smaller.lengths result.dim ≡ indexed_shape (D.lengths layout.now.dim) axis.0 }
-    ensures step { 0 < slice_index (D.lengths layout.now.dim) axis.0 → IsStepOf (placement_of layout.now) (placement_of result) (indexed_index axis.0 0) }
+    ensures step { IsFirstOfLanes axis.0 (placement_of layout.now) (placement_of result) }
 {
     if layout.dim.length(axis.0) > 0 {
         return layout.index_axis(axis.0, 0);

@@ -21,6 +21,7 @@ pub struct LaneMut<'a, A> {
 impl<'a, A> LaneMut<'a, A> {
     ghost use Rattle.nd_layout.specs.Lanes.{along};
     ghost use Rattle.nd_storage.specs.NumberedPlaces.{PlacesDiffer, Holds};
+    ghost use Rattle.nd_storage.specs.along.AxisLanes.{LiesAs};
     ghost use Rattle.nd_storage.specs.along.LanesWritten.{lane_held, lane_len, held_at, IsSameLane};
 
     /// The places of a region along a lane.
@@ -28,7 +29,7 @@ impl<'a, A> LaneMut<'a, A> {
         requires holds { Holds region_stored (along lane) region }
         requires apart { PlacesDiffer (along lane) }
         ensures region { result.region ≡ region.entry }
-        ensures lane { (result.lane.place ≡ lane.place) × (result.lane.count ≡ lane.count) × (result.lane.stride ≡ lane.stride) }
+        ensures lane { LiesAs result.lane lane }
     {
         LaneMut { region, lane }
     }

@@ -7,7 +7,7 @@ ghost use Rattle.nd_storage.specs.ElementMut.{KeepsPlaces};
 ghost use Rattle.nd_storage.specs.NumberedPlaces.{PlacesDiffer, Holds};
 ghost use Rattle.nd_storage.specs.along.AxisLanes.{LanesDiffer, LanesHold};
 ghost use Rattle.nd_storage.specs.along.LanesIn.{lanes_in};
-ghost use Rattle.nd_storage.specs.along.LanesWritten.{KeepsLanes, TakesLaneAt, LeavesLaneAt, ChangesNoOther, IsAnsweredInside, TakesAllLanes, HandsOutAll};
+ghost use Rattle.nd_storage.specs.along.LanesWritten.{KeepsLanes, TakesLaneAt, LeavesLaneAt, ChangesNoOther, IsAnsweredInside, TakesAllLanes, HandsOut};
 
 use crate::along::axis_lanes::AxisLanes;
 use crate::along::first_places::lane_from;
@@ -78,7 +78,7 @@ pub fn answer_lanes<S: DataMut, B, F: FnMut(&mut LaneMut<'_, S::Elem>) -> B>(
     requires empty { (room.items ≡ []) × (vec_len room ≡ 0) }
     requires room { lanes.lanes ≤ vec_capacity room }
     requires callable { TakesAllLanes F.FnMut S.stored (lanes_in lanes) storage.old f }
-    ensures handed { HandsOutAll F.FnMut S.stored (lanes_in lanes.entry) storage.old storage.new f (result.0, result.1.items) }
+    ensures handed { HandsOut F.FnMut S.stored (lanes_in lanes.entry) storage.old storage.new f result }
     ensures count { vec_len result.1 ≡ lanes.entry.lanes }
     ensures there { KeepsPlaces (S.stored storage.old) (S.stored storage.new) }
     ensures frame { S.frame storage.new ≡ S.frame storage.old }

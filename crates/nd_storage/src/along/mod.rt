@@ -4,6 +4,8 @@ pub mod accumulate_axis;
 mod accumulate_beside;
 pub mod axis_lanes;
 pub mod first_places;
+pub mod fold_axis;
+mod fold_beside;
 pub mod lane_mut;
 pub mod map_axis_mut;
 pub mod remove_index;

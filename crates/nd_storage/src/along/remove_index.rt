@@ -5,7 +5,7 @@ ghost use Rattle.nd_layout.specs.Lanes.{along};
 ghost use Rattle.nd_storage.specs.NumberedPlaces.{PlacesDiffer, Holds};
 ghost use Rattle.nd_storage.specs.along.AxisLanes.{LanesDiffer, LanesHold};
 ghost use Rattle.nd_storage.specs.along.LanesIn.{lanes_in};
-ghost use Rattle.nd_storage.specs.along.Removed.{rotated, MovesPlaces, MovesLanes};
+ghost use Rattle.nd_storage.specs.along.Removed.{RotatesPlaces, RotatesLanes};
 
 use crate::along::axis_lanes::AxisLanes;
 use crate::along::first_places::lane_from;
@@ -18,7 +18,7 @@ fn rotate_lane<S: DataMut>(storage: &mut S, lane: Lane, from: usize)
     requires from { from < lane.count }
     requires apart { PlacesDiffer (along lane) }
     requires holds { Holds S.stored (along lane) storage.old }
-    ensures moved { MovesPlaces S.stored (along lane) (rotated from lane.count) storage.old storage.new }
+    ensures moved { RotatesPlaces S.stored (along lane) from storage.old storage.new }
     ensures frame { S.frame storage.new ≡ S.frame storage.old }
 {
     for nth in from..lane.count - 1 {
@@ -31,7 +31,7 @@ pub fn rotate_lanes<S: DataMut>(storage: &mut S, lanes: AxisLanes<'_>, from: usi
     requires from { from < lanes.count }
     requires apart { LanesDiffer (lanes_in lanes) }
     requires holds { LanesHold S.stored (lanes_in lanes) storage.old }
-    ensures moved { MovesLanes S.stored (lanes_in lanes.entry) (rotated from lanes.entry.count) storage.old storage.new }
+    ensures moved { RotatesLanes S.stored (lanes_in lanes.entry) from storage.old storage.new }
     ensures frame { S.frame storage.new ≡ S.frame storage.old }
 {
     let mut outer = Walk::new(

@@ -1,24 +1,23 @@
 //! Elements moved out of a vector in the order of a layout.
 
-ghost use Rattle.std.specs.Prelude.{◌≡◌, ◌+◌, ◌<◌, ◌≤◌, ℕ, true, Some, IfOk, OnOk, OnErr, length, is_some, pos, ◌+ℤ◌, ◌*ℤ◌, slice_get, vec_len, vec_capacity, ◌^◌, List};
+ghost use Rattle.std.specs.Prelude.{◌≡◌, ◌+◌, ◌<◌, ◌≤◌, ℕ, true, Some, IfOk, OnOk, OnErr, is_some, length, slice_get, vec_len, vec_capacity, ◌^◌};
 ghost use Rattle.std.specs.Mem.Slots.{slots_len, SamePlaces};
-ghost use Rattle.nd_shape_and_slice.specs.Shape.{size_of, HasCheckedSize, in_box};
-ghost use Rattle.nd_layout.specs.Places.{ReachesPlaces};
-ghost use Rattle.nd_layout.specs.Walk.{place_at_rank};
-ghost use Rattle.nd_storage.specs.Collected.{collected, stored_along, stored_by_rank};
-ghost use Rattle.nd_storage.specs.elements.Changes.{AreDistinct};
-ghost use Rattle.nd_storage.specs.growth.Taken.{seated, is_kept, AreKept, IsTakenTo};
-ghost use Rattle.nd_shape_and_slice.specs.Place.{place_of, IsSeparated};
-ghost use Rattle.nd_storage.specs.Places.{HoldsAll, stored_at};
+ghost use Rattle.nd_shape_and_slice.specs.Shape.{size_of};
+ghost use Rattle.nd_shape_and_slice.specs.Place.{IsSeparated};
+ghost use Rattle.nd_layout.specs.Lanes.{along, ranked};
+ghost use Rattle.nd_layout.specs.Placements.{placement_of};
+ghost use Rattle.nd_storage.specs.ByLayout.{HoldsEach};
+ghost use Rattle.nd_storage.specs.NumberedPlaces.{PlacesDiffer, Holds, all_elements_at};
 ghost use Rattle.nd_storage.specs.Storages.{stored_list};
-ghost use Rattle.nd_storage.specs.growth.LaidToGrow.{IsLaidToGrow};
+ghost use Rattle.nd_storage.specs.growth.LaidToGrow.{IsLaidAnew, ShowsAlike};
+ghost use Rattle.nd_storage.specs.growth.Taken.{seated, is_kept, AreAllKept, TakesSeats};
 
+use crate::base::from_elem::repeated;
 use crate::elements::fill::fill_places;
 use crate::elements::to_vec::room_of;
-use crate::base::from_elem::repeated;
 use crate::storage::OwnedRepr;
 use core::slots::{Slots, release, reserve};
-use nd_layout::{Lane, Lanes, Layout, Places};
+use nd_layout::{Lane, Layout, Places};
 use nd_shape_and_slice::{Dimension, NoMemory, StrideList};
 use std::alloc::Global;
 use std::mem;
@@ -35,28 +34,17 @@ fn keeps(marks: &[bool], place: usize) -> bool
 fn marks_of<A>(
     alloc: Global,
     items: &[A],
-    first: usize,
-    lengths: &[usize],
-    strides: &[isize],
+    places: Places<'_>,
     size: usize,
 ) -> Result<Vec<bool>, NoMemory>
-    requires as_many { length strides.now ≡ length lengths.now }
-    requires few { length lengths.now ≤ 32 }
-    requires checked { HasCheckedSize lengths.now }
-    requires reach { ReachesPlaces first lengths.now strides.now }
-    requires holds { (rank : ℕ) → rank < size_of lengths.now → is_some (stored_by_rank (slice_get items.now) first lengths.now strides.now rank) ≡ true }
-    ensures kept { IfOk result (λ marks. AreKept (place_at_rank first lengths.now strides.now) (size_of lengths.now) marks.items) }
+    requires holds { Holds slice_get (ranked places) items.now }
+    ensures kept { IfOk result (AreAllKept (ranked places.entry)) }
 {
     if items.len() == size {
         return Ok(Vec::new(alloc));
     }
     let mut marks = OwnedRepr {
         items: repeated(alloc, false, items.len())?,
-    };
-    let places = Places {
-        first,
-        lengths,
-        strides,
     };
     fill_places(&mut marks, places, &true)?;
     Ok(marks.items)
@@ -104,10 +92,10 @@ fn take_at<A>(seats: &mut Slots<A>, place: usize) -> A
 /// Takes the elements of a lane, and puts them behind those that a vector has.
 #[inline(always)]
 fn take_lane<A>(items: &mut Vec<A>, seats: &mut Slots<A>, lane: Lane)
-    requires apart { AreDistinct (λ k. pos lane.place +ℤ (pos k *ℤ lane.stride)) lane.count }
-    requires holds { (k : ℕ) → k < lane.count → is_some (stored_along (seated seats.old) lane.place lane.stride k) ≡ true }
+    requires apart { PlacesDiffer (along lane) }
+    requires holds { Holds seated (along lane) seats.old }
     requires room { vec_len items.old + lane.count ≤ vec_capacity items.old }
-    ensures taken { IsTakenTo (λ k. pos lane.place +ℤ (pos k *ℤ lane.stride)) lane.count (seated seats.old) (seated seats.new) items.old.items items.new.items }
+    ensures taken { TakesSeats (along lane) seats.old seats.new items.old.items items.new.items }
     ensures places { SamePlaces seats.old seats.new }
     ensures len { vec_len items.new ≡ vec_len items.old + lane.count }
     ensures room { vec_capacity items.new ≡ vec_capacity items.old }
@@ -119,26 +107,16 @@ fn take_lane<A>(items: &mut Vec<A>, seats: &mut Slots<A>, lane: Lane)
 
 /// The same of a layout, by row-major rank.
 #[inline(always)]
-fn take_all<A>(
-    items: &mut Vec<A>,
-    seats: &mut Slots<A>,
-    first: usize,
-    lengths: &[usize],
-    strides: &[isize],
-)
-    requires as_many { length strides.now ≡ length lengths.now }
-    requires few { length lengths.now ≤ 32 }
-    requires checked { HasCheckedSize lengths.now }
-    requires reach { ReachesPlaces first lengths.now strides.now }
-    requires apart { AreDistinct (place_at_rank first lengths.now strides.now) (size_of lengths.now) }
-    requires holds { (rank : ℕ) → rank < size_of lengths.now → is_some (stored_by_rank (seated seats.old) first lengths.now strides.now rank) ≡ true }
-    requires room { vec_len items.old + size_of lengths.now ≤ vec_capacity items.old }
-    ensures taken { IsTakenTo (place_at_rank first lengths.now strides.now) (size_of lengths.now) (seated seats.old) (seated seats.new) items.old.items items.new.items }
+fn take_all<A>(items: &mut Vec<A>, seats: &mut Slots<A>, places: Places<'_>)
+    requires apart { PlacesDiffer (ranked places) }
+    requires holds { Holds seated (ranked places) seats.old }
+    requires room { vec_len items.old + (ranked places).count ≤ vec_capacity items.old }
+    ensures taken { TakesSeats (ranked places.entry) seats.old seats.new items.old.items items.new.items }
     ensures places { SamePlaces seats.old seats.new }
-    ensures len { vec_len items.new ≡ vec_len items.old + size_of lengths.now }
+    ensures len { vec_len items.new ≡ vec_len items.old + (ranked places.entry).count }
     ensures room { vec_capacity items.new ≡ vec_capacity items.old }
 {
-    let mut lanes = Lanes::new(first, lengths, strides);
+    let mut lanes = places.lanes();
     while let Some(lane) = lanes.next() {
         take_lane(items, seats, lane);
     }
@@ -149,26 +127,20 @@ fn take_all<A>(
 /// taken first, and NoMemory leaves the vector as it was.
 fn move_in_order<A: Drop>(
     items: &mut Vec<A>,
-    first: usize,
-    lengths: &[usize],
-    strides: &[isize],
+    places: Places<'_>,
     size: usize,
     room: usize,
 ) -> Result<(), NoMemory>
-    requires as_many { length strides.now ≡ length lengths.now }
-    requires few { length lengths.now ≤ 32 }
-    requires checked { HasCheckedSize lengths.now }
-    requires reach { ReachesPlaces first lengths.now strides.now }
-    requires apart { AreDistinct (place_at_rank first lengths.now strides.now) (size_of lengths.now) }
-    requires holds { (rank : ℕ) → rank < size_of lengths.now → is_some (stored_by_rank (slice_get items.old.items) first lengths.now strides.now rank) ≡ true }
-    requires room { size_of lengths.now ≤ room }
-    ensures moved { OnOk result (items.new.items ≡ collected (stored_by_rank (slice_get items.old.items) first lengths.now strides.now) (size_of lengths.now)) }
-    ensures len { OnOk result (vec_len items.new ≡ size_of lengths.now) }
+    requires apart { PlacesDiffer (ranked places) }
+    requires holds { Holds slice_get (ranked places) items.old.items }
+    requires room { (ranked places).count ≤ room }
+    ensures moved { OnOk result (items.new.items ≡ all_elements_at slice_get (ranked places.entry) items.old.items) }
+    ensures len { OnOk result (vec_len items.new ≡ (ranked places.entry).count) }
     ensures room { OnOk result (vec_capacity items.new ≡ room) }
     ensures kept { OnErr result (items.new ≡ items.old) }
 {
     let alloc = *items.allocator();
-    let marks = marks_of(alloc, items.as_slice(), first, lengths, strides, size)?;
+    let marks = marks_of(alloc, items.as_slice(), places, size)?;
     let mut moved = room_of(alloc, room)?;
     let (seats, lease) = match unsafe { reserve(&alloc, items.as_slice()) } {
         Ok(both) => both,
@@ -176,7 +148,7 @@ fn move_in_order<A: Drop>(
     };
     let old = mem::replace(items, Vec::new(alloc));
     let mut seats = seat_all(old, seats, marks.as_slice());
-    take_all(&mut moved, &mut seats, first, lengths, strides);
+    take_all(&mut moved, &mut seats, places);
     release(&alloc, seats, lease);
     *items = moved;
     Ok(())
@@ -193,25 +165,18 @@ pub fn lay_anew<A: Drop, D: Dimension>(
     requires axis { axis < length (D.lengths layout.old.dim) }
     requires some { 0 < size_of (D.lengths layout.old.dim) }
     requires fits { size_of (D.lengths layout.old.dim) + more < 2 ^ 64 }
-    requires holds { HoldsAll (slice_get (stored_list storage.old)) layout.old.offset (D.lengths layout.old.dim) (D.Strides.strides_of layout.old.strides) }
+    requires holds { HoldsEach (slice_get (stored_list storage.old)) (placement_of layout.old) }
     requires apart { IsSeparated (D.lengths layout.old.dim) (D.Strides.strides_of layout.old.strides) }
     ensures lengths { D.lengths layout.new.dim ≡ D.lengths layout.old.dim }
-    ensures elements { (i : List ℕ) → in_box (D.lengths layout.old.dim) i ≡ true → stored_at (slice_get (stored_list storage.new)) (place_of layout.new.offset (D.Strides.strides_of layout.new.strides) i) ≡ stored_at (slice_get (stored_list storage.old)) (place_of layout.old.offset (D.Strides.strides_of layout.old.strides) i) }
+    ensures elements { ShowsAlike storage.old (placement_of layout.old) storage.new (placement_of layout.new) }
     ensures apart { IsSeparated (D.lengths layout.new.dim) (D.Strides.strides_of layout.new.strides) }
-    ensures laid { OnOk result (IsLaidToGrow axis more (D.lengths layout.old.dim) layout.new.offset (D.Strides.strides_of layout.new.strides) storage.new) }
+    ensures laid { OnOk result (IsLaidAnew axis more (placement_of layout.old) (placement_of layout.new) storage.new) }
     ensures kept { OnErr result ((storage.new ≡ storage.old) × (layout.new ≡ layout.old)) }
 {
     let order = layout.growing_order(axis);
     let fresh = Layout::growing(layout.dim, axis);
     let size = layout.dim.size();
-    move_in_order(
-        &mut storage.items,
-        order.offset,
-        order.dim.slice(),
-        order.strides.slice(),
-        size,
-        size + more,
-    )?;
+    move_in_order(&mut storage.items, order.places(), size, size + more)?;
     *layout = fresh;
     Ok(())
 }

@@ -3,7 +3,8 @@ use Rattle.nd_storage.proofs.along.accumulate_axis.change_inside.Goals as goal
 
 pub split_with-f-requires-clause-callable : goal.split_with-f-requires-clause-callable
 split_with-f-requires-clause-callable g c x y first second =
-    pair_asks g.F.FnMut c.args.region c.args.p c.args.q c.requires.apart c.args.f c.requires.holds.0 c.requires.holds.1 c.requires.callable x y first second
+    let asked = pair_asks g.F.FnMut c.args.region c.args.p c.args.q c.requires.apart c.args.f c.requires.holds.0 c.requires.holds.1 c.requires.callable x y first second in
+    (asked.0, (asked.1, λ v w shows gives. asked.2 v w shows gives))
 
 pub returns : goal.returns
 returns g c =

@@ -28,7 +28,7 @@ change_row-now-requires-clause-apart g c j k on_j on_k same =
     let lanes = c.args.lanes in
     let nth = c.loop-nth.nth in
     let w = lane.count - 1 in
-    let place = (lanes_beside lanes lane.count lane.place lane.stride).place in
+    let place = (lanes_beside lanes lane).place in
     let old = g.S.Data.stored c.args.storage.now in
     let now = g.S.Data.stored c.loop-nth.storage in
     let some = c.requires.some in
@@ -48,7 +48,7 @@ change_row-now-requires-clause-holds g c =
     let lanes = c.args.lanes in
     let nth = c.loop-nth.nth in
     let w = lane.count - 1 in
-    let place = (lanes_beside lanes lane.count lane.place lane.stride).place in
+    let place = (lanes_beside lanes lane).place in
     let old = g.S.Data.stored c.args.storage.now in
     let now = g.S.Data.stored c.loop-nth.storage in
     let some = c.requires.some in
@@ -71,7 +71,7 @@ change_row-now-requires-clause-callable g c =
     let lanes = c.args.lanes in
     let nth = c.loop-nth.nth in
     let w = lane.count - 1 in
-    let place = (lanes_beside lanes lane.count lane.place lane.stride).place in
+    let place = (lanes_beside lanes lane).place in
     let old = g.S.Data.stored c.args.storage.now in
     let now = g.S.Data.stored c.loop-nth.storage in
     let some = c.requires.some in
@@ -92,7 +92,7 @@ loop-nth-preserved g c =
     let lanes = c.args.lanes in
     let nth = c.loop-nth.nth in
     let w = lane.count - 1 in
-    let place = (lanes_beside lanes lane.count lane.place lane.stride).place in
+    let place = (lanes_beside lanes lane).place in
     let old = g.S.Data.stored c.args.storage.now in
     let now = g.S.Data.stored c.loop-nth.storage in
     let some = c.requires.some in
@@ -116,13 +116,13 @@ pub loop-nth-init : goal.loop-nth-init
 loop-nth-init g c =
     let lane = c.args.lane in
     let lanes = c.args.lanes in
-    (rows_none g.F.FnMut (lanes_beside lanes lane.count lane.place lane.stride).place lanes (g.S.Data.stored c.args.storage.now) c.args.f, refl)
+    (rows_none g.F.FnMut (lanes_beside lanes lane).place lanes (g.S.Data.stored c.args.storage.now) c.args.f, refl)
 
 pub returns-clause-accumulated : goal.returns-clause-accumulated
 returns-clause-accumulated g c =
     let lane = c.args.lane in
     let lanes = c.args.lanes in
-    let place = (lanes_beside lanes lane.count lane.place lane.stride).place in
+    let place = (lanes_beside lanes lane).place in
     let test = c.loop-nth-test.false in
     let end = c.loop-nth.auto.nth-end in
     let some = c.requires.some in

@@ -4,7 +4,8 @@ use Rattle.nd_storage.proofs.along.accumulate_beside.change_row_inside.Goals as 
 
 pub split_with-f-requires-clause-callable : goal.split_with-f-requires-clause-callable
 split_with-f-requires-clause-callable g c x y first second =
-    row_asks c.args.p c.args.count _ refl g.F.FnMut c.args.region c.args.q c.requires.apart c.args.f c.requires.holds.0 c.requires.holds.1 c.requires.callable x y first second
+    let asked = row_asks c.args.p c.args.count _ refl g.F.FnMut c.args.region c.args.q c.requires.apart c.args.f c.requires.holds.0 c.requires.holds.1 c.requires.callable x y first second in
+    (asked.0, (asked.1, λ left r now below run v w shows gives. asked.2 left r now below run v w shows gives))
 
 pub returns : goal.returns
 returns g c =

@@ -7,11 +7,11 @@ use Rattle.nd_storage.proofs.growth.lay_anew.take_all.Given as goal
 
 abbrev pub invariant-loop-lane : goal.invariant-loop-lane
 invariant-loop-lane g l =
-    (l.lanes.first ≡ l.fn.first) × (l.lanes.lengths.now ≡ l.fn.lengths) × (l.lanes.strides.now ≡ l.fn.strides)
-    × IsTakenTo (place_at_rank l.fn.first l.fn.lengths l.fn.strides) l.lanes.rank (seated l.fn.seats) (seated l.seats) l.fn.items.items l.items.items
+    (l.lanes.first ≡ l.fn.places.first) × (l.lanes.lengths.now ≡ l.fn.places.lengths.now) × (l.lanes.strides.now ≡ l.fn.places.strides.now)
+    × IsTakenTo (place_at_rank l.fn.places.first l.fn.places.lengths.now l.fn.places.strides.now) l.lanes.rank (seated l.fn.seats) (seated l.seats) l.fn.items.items l.items.items
     × (vec_len l.items ≡ vec_len l.fn.items + l.lanes.rank)
     × (vec_capacity l.items ≡ vec_capacity l.fn.items)
     × SamePlaces l.fn.seats l.seats
 
 abbrev pub decreases-loop-lane : goal.decreases-loop-lane
-decreases-loop-lane g l = size_of l.fn.lengths - l.lanes.rank
+decreases-loop-lane g l = size_of l.fn.places.lengths.now - l.lanes.rank

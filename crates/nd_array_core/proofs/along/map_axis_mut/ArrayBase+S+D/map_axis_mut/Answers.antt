@@ -11,7 +11,7 @@ use Rattle.nd_storage.specs.Meaning.{Meaning, inside}
 use Rattle.nd_array_core.specs.Meaning.{meaning_of, memory_layout_of, element_at}
 use Rattle.nd_storage.specs.Places.{stored_at}
 use Rattle.nd_storage.specs.along.AxisLanes.{LanesDiffer, LanesHold}
-use Rattle.nd_storage.specs.along.LanesWritten.{TakesAllLanes, HandsOutAll}
+use Rattle.nd_storage.specs.along.LanesWritten.{TakesAllLanes, HandsOut}
 use Rattle.nd_storage.specs.ByRank.{found_by_rank}
 use Rattle.nd_array_core.proofs.along_lemmas.HandedLanes.{given_reach, given_apart, given_hold, given_taken, given_handed, others_stayed, lanes_answered, lanes_left, lanes_seen, found_there}
 use Rattle.nd_storage.proofs.Replaced.{still_holds_all}
@@ -132,7 +132,7 @@ returns-clause-frame g c =
     let new = g.S.Data.stored c.answer_lanes-f.new.storage in
     let last = c.answer_lanes-f.result.0 in
     let items = c.answer_lanes-f.result.1.items in
-    let handed = given_handed array.layout.offset ns ss a on array.layout.as_many outer.offset us step fewer ls us (to_z w64 (of_z w64 c.stride_of-stride.result)) c.len_of-count.result e_ls e_us e_s e_n g.F.FnMut old c.args.f new (last, items) (subst (λ at. HandsOutAll g.F.FnMut g.S.Data.stored at array.storage c.answer_lanes-f.new.storage c.args.f (last, items)) c.new-lanes.ensures c.answer_lanes-f.ensures.handed) in
+    let handed = given_handed array.layout.offset ns ss a on array.layout.as_many outer.offset us step fewer ls us (to_z w64 (of_z w64 c.stride_of-stride.result)) c.len_of-count.result e_ls e_us e_s e_n g.F.FnMut old c.args.f new (last, items) (subst (λ at. HandsOut g.F.FnMut g.S.Data.stored at array.storage c.answer_lanes-f.new.storage c.args.f c.answer_lanes-f.result) c.new-lanes.ensures c.answer_lanes-f.ensures.handed) in
     (refl, refl, (λ i. refl), others_stayed array.layout.offset ns ss a on array.layout.as_many outer.offset us step fewer old new handed.left, c.answer_lanes-f.ensures.frame, refl)
 
 pub returns-clause-visits : goal.returns-clause-visits
@@ -158,7 +158,7 @@ returns-clause-visits g c =
     let new = g.S.Data.stored c.answer_lanes-f.new.storage in
     let last = c.answer_lanes-f.result.0 in
     let items = c.answer_lanes-f.result.1.items in
-    let handed = given_handed array.layout.offset ns ss a on array.layout.as_many outer.offset us step fewer ls us (to_z w64 (of_z w64 c.stride_of-stride.result)) c.len_of-count.result e_ls e_us e_s e_n g.F.FnMut old c.args.f new (last, items) (subst (λ at. HandsOutAll g.F.FnMut g.S.Data.stored at array.storage c.answer_lanes-f.new.storage c.args.f (last, items)) c.new-lanes.ensures c.answer_lanes-f.ensures.handed) in
+    let handed = given_handed array.layout.offset ns ss a on array.layout.as_many outer.offset us step fewer ls us (to_z w64 (of_z w64 c.stride_of-stride.result)) c.len_of-count.result e_ls e_us e_s e_n g.F.FnMut old c.args.f new (last, items) (subst (λ at. HandsOut g.F.FnMut g.S.Data.stored at array.storage c.answer_lanes-f.new.storage c.args.f c.answer_lanes-f.result) c.new-lanes.ensures c.answer_lanes-f.ensures.handed) in
     let os = remove ns a in
     let seen : (i : List ℕ) → element_at c.of_items.result i ≡ found_by_rank (os, RowMajor) items i = λ i. c.of_items.ensures.owns.4 i ∙ (λ j. found_by_rank (c.first_places-firsts.ensures.lengths j, RowMajor) (c.of_items.ensures.stored j) i) in
     lanes_answered array.layout.offset ns ss a on array.layout.as_many outer.offset us step fewer g.F.FnMut old c.args.f new last items handed (element_at c.of_items.result) (λ k below. seen (index_at os k) ∙ found_there os items k below)
@@ -186,7 +186,7 @@ returns-clause-alike g c h by =
     let new = g.S.Data.stored c.answer_lanes-f.new.storage in
     let last = c.answer_lanes-f.result.0 in
     let items = c.answer_lanes-f.result.1.items in
-    let handed = given_handed array.layout.offset ns ss a on array.layout.as_many outer.offset us step fewer ls us (to_z w64 (of_z w64 c.stride_of-stride.result)) c.len_of-count.result e_ls e_us e_s e_n g.F.FnMut old c.args.f new (last, items) (subst (λ at. HandsOutAll g.F.FnMut g.S.Data.stored at array.storage c.answer_lanes-f.new.storage c.args.f (last, items)) c.new-lanes.ensures c.answer_lanes-f.ensures.handed) in
+    let handed = given_handed array.layout.offset ns ss a on array.layout.as_many outer.offset us step fewer ls us (to_z w64 (of_z w64 c.stride_of-stride.result)) c.len_of-count.result e_ls e_us e_s e_n g.F.FnMut old c.args.f new (last, items) (subst (λ at. HandsOut g.F.FnMut g.S.Data.stored at array.storage c.answer_lanes-f.new.storage c.args.f c.answer_lanes-f.result) c.new-lanes.ensures c.answer_lanes-f.ensures.handed) in
     let before : Meaning _ = record { shape = ns; at = λ i. inside ns i (stored_at old (place_of array.layout.offset ss i)) } in
     let after : Meaning _ = record { shape = ns; at = λ i. inside ns i (stored_at new (place_of array.layout.offset ss i)) } in
     lanes_left g.F.FnMut before after a on refl (element_at c.of_items.result) c.args.f (returns-clause-visits g c) h by
@@ -214,7 +214,7 @@ returns-clause-answered g c h by =
     let new = g.S.Data.stored c.answer_lanes-f.new.storage in
     let last = c.answer_lanes-f.result.0 in
     let items = c.answer_lanes-f.result.1.items in
-    let handed = given_handed array.layout.offset ns ss a on array.layout.as_many outer.offset us step fewer ls us (to_z w64 (of_z w64 c.stride_of-stride.result)) c.len_of-count.result e_ls e_us e_s e_n g.F.FnMut old c.args.f new (last, items) (subst (λ at. HandsOutAll g.F.FnMut g.S.Data.stored at array.storage c.answer_lanes-f.new.storage c.args.f (last, items)) c.new-lanes.ensures c.answer_lanes-f.ensures.handed) in
+    let handed = given_handed array.layout.offset ns ss a on array.layout.as_many outer.offset us step fewer ls us (to_z w64 (of_z w64 c.stride_of-stride.result)) c.len_of-count.result e_ls e_us e_s e_n g.F.FnMut old c.args.f new (last, items) (subst (λ at. HandsOut g.F.FnMut g.S.Data.stored at array.storage c.answer_lanes-f.new.storage c.args.f c.answer_lanes-f.result) c.new-lanes.ensures c.answer_lanes-f.ensures.handed) in
     let os = remove ns a in
     let seen : (i : List ℕ) → element_at c.of_items.result i ≡ found_by_rank (os, RowMajor) items i = λ i. c.of_items.ensures.owns.4 i ∙ (λ j. found_by_rank (c.first_places-firsts.ensures.lengths j, RowMajor) (c.of_items.ensures.stored j) i) in
     let before : Meaning _ = record { shape = ns; at = λ i. inside ns i (stored_at old (place_of array.layout.offset ss i)) } in

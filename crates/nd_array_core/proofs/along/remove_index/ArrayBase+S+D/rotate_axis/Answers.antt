@@ -3,7 +3,7 @@ use Rattle.std.proofs.lemmas.Int.{to_z-of_z}
 use Rattle.nd_shape_and_slice.specs.Maps.{collapsed_shape}
 use Rattle.nd_array_core.specs.Meaning.{meaning_of, memory_layout_of}
 use Rattle.nd_storage.specs.along.AxisLanes.{LanesDiffer, LanesHold}
-use Rattle.nd_storage.specs.along.Removed.{rotated, MovesLanes}
+use Rattle.nd_storage.specs.along.Removed.{RotatesLanes}
 use Rattle.nd_array_core.proofs.along_lemmas.AxisIndexes.{outer_step, given_reach, given_hold, given_distinct, given_moved, rotated_holds, rotated_element, rotated_others}
 use Rattle.nd_array_core.proofs.along.remove_index.ArrayBase+S+D.rotate_axis.Goals as goal
 
@@ -73,7 +73,7 @@ invariant_of-self g c =
     let e_ls : g.D.Dimension.lengths new.dim ≡ collapsed_shape ns a = c.collapse_axis.ensures.lengths ∙ ap (λ ms. collapsed_shape ms a) copy.lengths in
     let e_us : g.D.Strides.StrideList.strides_of new.strides ≡ ss = c.collapse_axis.ensures.strides ∙ copy.strides in
     let e_s : to_z w64 (of_z w64 c.stride_of-stride.result) ≡ get_or ss a (pos 0) = to_z-of_z w64 c.stride_of-stride.result fits ∙ c.stride_of-stride.ensures in
-    let moved = given_moved array.layout.offset ns ss a c.requires.axis array.layout.as_many new.offset step (g.D.Dimension.lengths new.dim) (g.D.Strides.StrideList.strides_of new.strides) (to_z w64 (of_z w64 c.stride_of-stride.result)) c.len_of-count.result e_ls e_us e_s c.len_of-count.ensures.value (g.S.Data.stored array.storage) (g.S.Data.stored c.rotate_lanes.new.storage) c.args.index (subst (λ at. MovesLanes g.S.Data.stored at (rotated c.args.index at.count) array.storage c.rotate_lanes.new.storage) c.new-lanes.ensures c.rotate_lanes.ensures.moved) in
+    let moved = given_moved array.layout.offset ns ss a c.requires.axis array.layout.as_many new.offset step (g.D.Dimension.lengths new.dim) (g.D.Strides.StrideList.strides_of new.strides) (to_z w64 (of_z w64 c.stride_of-stride.result)) c.len_of-count.result e_ls e_us e_s c.len_of-count.ensures.value (g.S.Data.stored array.storage) (g.S.Data.stored c.rotate_lanes.new.storage) c.args.index (subst (λ at. RotatesLanes g.S.Data.stored at c.args.index array.storage c.rotate_lanes.new.storage) c.new-lanes.ensures c.rotate_lanes.ensures.moved) in
     record {
       inside = rotated_holds array.layout.offset ns ss a c.requires.axis array.layout.as_many new.offset step c.args.index c.requires.within (g.S.Data.stored array.storage) (g.S.Data.stored c.rotate_lanes.new.storage) moved array.inside;
       separated = array.separated;
@@ -94,7 +94,7 @@ returns-clause-elements g c =
     let e_ls : g.D.Dimension.lengths new.dim ≡ collapsed_shape ns a = c.collapse_axis.ensures.lengths ∙ ap (λ ms. collapsed_shape ms a) copy.lengths in
     let e_us : g.D.Strides.StrideList.strides_of new.strides ≡ ss = c.collapse_axis.ensures.strides ∙ copy.strides in
     let e_s : to_z w64 (of_z w64 c.stride_of-stride.result) ≡ get_or ss a (pos 0) = to_z-of_z w64 c.stride_of-stride.result fits ∙ c.stride_of-stride.ensures in
-    let moved = given_moved array.layout.offset ns ss a c.requires.axis array.layout.as_many new.offset step (g.D.Dimension.lengths new.dim) (g.D.Strides.StrideList.strides_of new.strides) (to_z w64 (of_z w64 c.stride_of-stride.result)) c.len_of-count.result e_ls e_us e_s c.len_of-count.ensures.value (g.S.Data.stored array.storage) (g.S.Data.stored c.rotate_lanes.new.storage) c.args.index (subst (λ at. MovesLanes g.S.Data.stored at (rotated c.args.index at.count) array.storage c.rotate_lanes.new.storage) c.new-lanes.ensures c.rotate_lanes.ensures.moved) in
+    let moved = given_moved array.layout.offset ns ss a c.requires.axis array.layout.as_many new.offset step (g.D.Dimension.lengths new.dim) (g.D.Strides.StrideList.strides_of new.strides) (to_z w64 (of_z w64 c.stride_of-stride.result)) c.len_of-count.result e_ls e_us e_s c.len_of-count.ensures.value (g.S.Data.stored array.storage) (g.S.Data.stored c.rotate_lanes.new.storage) c.args.index (subst (λ at. RotatesLanes g.S.Data.stored at c.args.index array.storage c.rotate_lanes.new.storage) c.new-lanes.ensures c.rotate_lanes.ensures.moved) in
     rotated_element array.layout.offset ns ss a c.requires.axis array.layout.as_many new.offset step c.args.index c.requires.within (g.S.Data.stored array.storage) (g.S.Data.stored c.rotate_lanes.new.storage) moved
 
 pub returns-clause-frame : goal.returns-clause-frame
@@ -112,7 +112,7 @@ returns-clause-frame g c =
     let e_ls : g.D.Dimension.lengths new.dim ≡ collapsed_shape ns a = c.collapse_axis.ensures.lengths ∙ ap (λ ms. collapsed_shape ms a) copy.lengths in
     let e_us : g.D.Strides.StrideList.strides_of new.strides ≡ ss = c.collapse_axis.ensures.strides ∙ copy.strides in
     let e_s : to_z w64 (of_z w64 c.stride_of-stride.result) ≡ get_or ss a (pos 0) = to_z-of_z w64 c.stride_of-stride.result fits ∙ c.stride_of-stride.ensures in
-    let moved = given_moved array.layout.offset ns ss a c.requires.axis array.layout.as_many new.offset step (g.D.Dimension.lengths new.dim) (g.D.Strides.StrideList.strides_of new.strides) (to_z w64 (of_z w64 c.stride_of-stride.result)) c.len_of-count.result e_ls e_us e_s c.len_of-count.ensures.value (g.S.Data.stored array.storage) (g.S.Data.stored c.rotate_lanes.new.storage) c.args.index (subst (λ at. MovesLanes g.S.Data.stored at (rotated c.args.index at.count) array.storage c.rotate_lanes.new.storage) c.new-lanes.ensures c.rotate_lanes.ensures.moved) in
+    let moved = given_moved array.layout.offset ns ss a c.requires.axis array.layout.as_many new.offset step (g.D.Dimension.lengths new.dim) (g.D.Strides.StrideList.strides_of new.strides) (to_z w64 (of_z w64 c.stride_of-stride.result)) c.len_of-count.result e_ls e_us e_s c.len_of-count.ensures.value (g.S.Data.stored array.storage) (g.S.Data.stored c.rotate_lanes.new.storage) c.args.index (subst (λ at. RotatesLanes g.S.Data.stored at c.args.index array.storage c.rotate_lanes.new.storage) c.new-lanes.ensures c.rotate_lanes.ensures.moved) in
     (refl, refl, λ i. refl, rotated_others array.layout.offset ns ss a c.requires.axis array.layout.as_many new.offset step c.args.index c.requires.within (g.S.Data.stored array.storage) (g.S.Data.stored c.rotate_lanes.new.storage) moved, c.rotate_lanes.ensures.frame, refl)
 
 pub rotate_lanes-requires-clause-from : goal.rotate_lanes-requires-clause-from

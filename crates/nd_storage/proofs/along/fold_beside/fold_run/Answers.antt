@@ -1,10 +1,10 @@
 use Rattle.std.proofs.Common.{◌<◌, ◌∙◌, sym, refl, subst, length, arith}
 use Rattle.std.specs.Prelude.{Some, slice_get}
-use Rattle.nd_array_core.specs.along.AxisFolds.{FoldsBetween}
-use Rattle.nd_array_core.proofs.along_lemmas.AxisBeside.{beside_more, beside_kept}
+use Rattle.nd_storage.specs.along.LanesFolded.{FoldsBetween}
+use Rattle.nd_storage.proofs.LanesFolding.{beside_more, beside_kept}
 use Rattle.nd_storage.proofs.Mapped.{got_there}
 use Rattle.nd_storage.proofs.RunPairs.{got_or}
-use Rattle.nd_array_core.proofs.along.fold_beside.fold_run.Goals as goal
+use Rattle.nd_storage.proofs.along.fold_beside.fold_run.Goals as goal
 
 pub f-total-requires : goal.f-total-requires
 f-total-requires g c =

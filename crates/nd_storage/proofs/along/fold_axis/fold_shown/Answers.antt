@@ -1,9 +1,9 @@
 use Rattle.std.proofs.Common.{refl, ap, sym, ◌∙◌}
 use Rattle.nd_storage.specs.Places.{stored_at}
 use Rattle.nd_storage.specs.Collected.{stored_along}
-use Rattle.nd_array_core.specs.along.AxisFolds.{FoldsShown}
+use Rattle.nd_storage.specs.along.LanesFolded.{FoldsShown}
 use Rattle.nd_storage.proofs.Ran.{ran_more}
-use Rattle.nd_array_core.proofs.along.fold_axis.fold_shown.Goals as goal
+use Rattle.nd_storage.proofs.along.fold_axis.fold_shown.Goals as goal
 
 pub f-total-requires : goal.f-total-requires
 f-total-requires g c =
