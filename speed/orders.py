@@ -117,14 +117,15 @@ def rows(quick):
                 yield Row(call, kind, (side, side), left, right)
             for call, order in itertools.product(COPIES, [C, F, BACK]):
                 yield Row(call, kind, (side, side), C, order)
-        first, others = CUBES[0], CUBES[1:]
-        pairs = [(first, order) for order in CUBES] + [(order, first) for order in others]
+        cubes = [CUBES[0], CUBES[1], CUBES[-1]] if quick else CUBES
+        first, others = cubes[0], cubes[1:]
+        pairs = [(first, order) for order in cubes] + [(order, first) for order in others]
         for call, (left, right) in itertools.product(PAIRS, pairs):
             yield Row(call, kind, (200, 200, 200), left, right)
-        for call, order in itertools.product(COPIES, CUBES):
+        for call, order in itertools.product(COPIES, cubes):
             yield Row(call, kind, (200, 200, 200), first, order)
         for shape in [(4, 1_000_000), (1_000_000, 4)]:
-            for call, left, right in itertools.product(PAIRS, [C, F], [C, F]):
+            for call, left, right in itertools.product(PAIRS[:1] if quick else PAIRS, [C, F], [C, F]):
                 yield Row(call, kind, shape, left, right)
             for call, order in itertools.product(COPIES, [C, F]):
                 yield Row(call, kind, shape, C, order)
@@ -155,16 +156,16 @@ class Bench:
         a, b = row.left.view(left, row.shape), row.right.view(right, row.shape)
         here = lambda calls: self.lib.orders_here(ctypes.byref(case), ctypes.c_size_t(calls))
         plain = lambda form: lambda calls: self.lib.orders_plain(ctypes.byref(case), ctypes.c_size_t(form), ctypes.c_size_t(calls))
-        calls = max(1, min(20_000, int(1000 / min(here(1) for _ in range(3)))))
+        calls = max(1, min(20_000, int(1000 / min(here(1) for _ in range(2)))))
         forms = [form for form in range(len(FORMS)) if self.lib.orders_has_form(ctypes.byref(case), ctypes.c_size_t(form))]
-        row.form = min(forms, key=lambda form: min(plain(form)(calls) for _ in range(3))) if len(forms) > 1 else forms[0]
+        row.form = min(forms, key=lambda form: min(plain(form)(calls) for _ in range(2))) if len(forms) > 1 else forms[0]
         makers = {"here": here, "plain": plain(row.form), "numpy": lambda calls: of_numpy(CALLS[row.call], a, b, calls)}
         if self.xtensor:
             makers["xtensor"] = lambda calls: self.xtensor.orders_xtensor(ctypes.byref(case), ctypes.c_size_t(calls))
         start, turn = time.monotonic(), 0
-        while turn < 4 or (turn < 40 and time.monotonic() - start < budget):
+        while turn < 3 or (turn < 40 and time.monotonic() - start < budget):
             for who, maker in makers.items():
-                if who != "xtensor" or turn < 4:
+                if who != "xtensor" or turn < 3:
                     row.times[who] = min(row.times.get(who, float("inf")), maker(calls))
             turn += 1
 
@@ -240,7 +241,7 @@ def main():
     bench = Bench(given.library, given.xtensor)
     measured = list(rows(given.quick))
     for row in measured:
-        bench.measure(row, 0.25 if given.quick else 0.5)
+        bench.measure(row, 0.2 if given.quick else 0.5)
     if given.table:
         with open(given.table, "w") as out:
             out.writelines(line + "\n" for line in whole_table(measured))
