@@ -253,6 +253,7 @@ fn lanes_of_length_0_handed_out(rt: HostRuntime) {
 const ROWS: [u64; 24] = [
     1, 2, 3, 4, 5, 6, 7, 8, 1, 1, 1, 1, 1, 1, 1, 1, 0, 1, 0, 1, 0, 1, 0, 1,
 ];
+
 const SUMS: [u64; 24] = [
     1, 2, 3, 4, 5, 6, 7, 8, 2, 3, 4, 5, 6, 7, 8, 9, 2, 4, 4, 6, 6, 8, 8, 10,
 ];
@@ -262,7 +263,9 @@ fn sums_of_lanes_side_by_side(rt: HostRuntime) {
     let mut rows: Array2<u64> = made(rt.alloc(), (3, 8), ROWS.as_slice()).expect(&rt, "made");
     sum_along(&mut rows, 0);
     assert!(rt; stores(rows, SUMS.as_slice()));
-    let mut columns: Array2<u64> = made(rt.alloc(), (8, 3).f(), ROWS.as_slice()).expect(&rt, "made");
+    let mut columns: Array2<u64> = made(rt.alloc(), (8, 3).f(), ROWS.as_slice()).expect(
+        &rt, "made",
+    );
     sum_along(&mut columns, 1);
     assert!(rt; stores(columns, SUMS.as_slice()));
 }

@@ -33,7 +33,9 @@ fn lane_sums(alloc: Global, part: &ArrayView2<'_, i64>, axis: Axis, calls: usize
         let sums = part.map_axis(
             alloc,
             axis,
-            |lane: LaneView<'_, i64>| lane.into_view().fold(0, |sum: i64, x: &i64| sum.wrapping_add(*x)),
+            |lane: LaneView<'_, i64>| lane
+                .into_view()
+                .fold(0, |sum: i64, x: &i64| sum.wrapping_add(*x)),
         );
         match sums {
             Ok(sums) => count = count.wrapping_add(sums.len() as u64),
@@ -50,7 +52,10 @@ fn running_sums(part: &mut ArrayViewMut2<'_, i64>, axis: Axis, calls: usize) -> 
         if axis.index() >= part.ndim() {
             return 0;
         }
-        part.accumulate_axis_inplace(axis, |before: &i64, x: &mut i64| *x = x.wrapping_add(*before));
+        part.accumulate_axis_inplace(
+            axis,
+            |before: &i64, x: &mut i64| *x = x.wrapping_add(*before),
+        );
     }
     1
 }

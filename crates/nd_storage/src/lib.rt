@@ -8,7 +8,7 @@
 #![tactic(auto)]
 
 pub mod along;
-pub mod elements;
 pub mod base;
+pub mod elements;
 pub mod growth;
 pub mod storage;

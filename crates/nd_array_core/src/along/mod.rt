@@ -2,8 +2,8 @@
 
 mod accumulate_axis;
 mod fold_axis;
-pub mod lane_view;
 mod lane_of_rank;
+pub mod lane_view;
 mod map_axis;
 mod map_axis_mut;
 mod remove_index;

@@ -1,18 +1,18 @@
 //! Calls over all elements.
 
 mod assign;
-mod map_inplace;
 pub mod eq;
 pub mod fill;
 mod fold;
+mod for_each;
 pub mod hash;
-mod mapv_inplace;
-pub mod to_vec;
+mod into_scalar;
 mod map;
+mod map_inplace;
 mod map_mut;
+mod mapv;
+mod mapv_inplace;
 mod move_into;
 pub mod to_owned;
+pub mod to_vec;
 mod zip_mut_with;
-mod into_scalar;
-mod mapv;
-mod for_each;

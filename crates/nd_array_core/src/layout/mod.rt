@@ -3,7 +3,7 @@
 
 pub mod axes;
 pub mod broadcast;
-pub mod view_mut;
+pub mod row;
 pub mod slice;
 pub mod split_at;
-pub mod row;
+pub mod view_mut;

@@ -13,8 +13,8 @@ use crate::base::array::{Array, ArrayBase};
 use crate::base::array_error::ArrayError;
 use crate::reshape::copied_in::copied_in;
 use crate::reshape::either_array::{EitherArray, ViewOrOwned};
-use crate::reshape::served_layout::{served_layout, served_view};
 use crate::reshape::into_shape::has_size;
+use crate::reshape::served_layout::{served_layout, served_view};
 use nd_shape_and_slice::{
     Dimension, ErrorKind, IntoDimension, Ix1, NoMemory, Order, ShapeArg, ShapeError,
 };

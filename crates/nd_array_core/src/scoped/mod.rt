@@ -2,14 +2,14 @@
 
 mod assign_slice;
 mod fill_slice;
-pub mod with_split_at;
-mod with_slice_mut;
-mod with_multi_slice_mut;
 mod view_of;
+mod with_multi_slice_mut;
+mod with_slice_mut;
+pub mod with_split_at;
 mod with_view_mut;
 
 pub use assign_slice::{Assign, Change};
 pub use fill_slice::Fill;
-pub use with_split_at::PairTask;
 pub use view_of::with_view_of;
+pub use with_split_at::PairTask;
 pub use with_view_mut::{LentView, ViewTask};

@@ -1,16 +1,16 @@
 //! Loops over all elements of a storage that a layout names, lane by lane.
 
 pub mod assign;
-pub mod map_inplace;
 pub mod eq;
 pub mod fill;
 pub mod fold;
-pub mod hash;
-pub mod mapv_inplace;
-pub mod to_vec;
-pub mod map;
-pub mod map_mut;
-pub mod move_into;
-pub mod zip_mut_with;
-pub mod mapv;
 pub mod for_each;
+pub mod hash;
+pub mod map;
+pub mod map_inplace;
+pub mod map_mut;
+pub mod mapv;
+pub mod mapv_inplace;
+pub mod move_into;
+pub mod to_vec;
+pub mod zip_mut_with;
