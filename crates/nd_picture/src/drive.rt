@@ -1,6 +1,6 @@
 //! The whole program, over any streams.
 
-ghost use Rattle.std.specs.Prelude.{◌≡◌, ◌<◌, ◌≤◌, ◌||◌, ◌++◌, true};
+ghost use Rattle.std.specs.Prelude.{◌≡◌, ◌<◌, ◌≤◌, ◌||◌, ◌==◌, ◌++◌, true};
 ghost use Rattle.std.specs.Fmt.{decimal};
 ghost use Rattle.nd_text.specs.Puts.{Puts, TakesText};
 ghost use Rattle.nd_text.specs.Words.{words_of};
@@ -87,6 +87,7 @@ fn fault_status(fault: Fault) -> u8
 }
 
 /// `drive` without the test for failed calls: the status where there is none.
+#[tactic(auto, using(crate::proofs::Faults::read_fault))]
 fn drive_on<R: Read, W: Write, E: Write>(
     alloc: Global,
     line: &[u8],
@@ -99,6 +100,7 @@ fn drive_on<R: Read, W: Write, E: Write>(
     ensures stops_writing { watched_retried output.new ≡ watched_retried output.old }
     ensures stops_telling { watched_retried errors.new ≡ watched_retried errors.old }
     ensures flushed { result ≡ 0 → GetsFlushed output.old output.new }
+    ensures read { result ≡ 3 → watched_failed input.new ≡ true }
 {
     match produce(alloc, line, input) {
         Ok(image) => {
@@ -123,7 +125,7 @@ pub fn drive<R: Read, W: Write, E: Write>(
     errors: &mut Watched<E>,
 ) -> u8
     ensures told { result < 3 → Tells R.remaining W.contents E.contents (words_of line.now) input.old output.old output.new errors.old errors.new result }
-    ensures failed { (watched_failed input.new || watched_failed output.new || watched_failed errors.new) ≡ true → result ≡ 3 }
+    ensures failed { (result == 3) ≡ (watched_failed input.new || watched_failed output.new || watched_failed errors.new) }
     ensures statuses { result ≤ 3 }
     ensures stops_reading { watched_retried input.new ≡ watched_retried input.old }
     ensures stops_writing { watched_retried output.new ≡ watched_retried output.old }

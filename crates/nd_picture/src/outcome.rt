@@ -1,6 +1,6 @@
 //! What comes of words and bytes.
 
-ghost use Rattle.std.specs.Prelude.{◌≡◌, ℕ, false, IfOk, IfSome};
+ghost use Rattle.std.specs.Prelude.{◌≡◌, true, IfOk, IfSome};
 ghost use Rattle.std.specs.Result.{result_map_both};
 ghost use Rattle.nd_array_core.specs.Meaning.{meaning_of};
 ghost use Rattle.nd_text.specs.Words.{words_of};
@@ -76,7 +76,7 @@ pub(crate) fn produce<R: Read>(
     input: &mut Watched<R>,
 ) -> Result<Image, Fault>
     ensures made { ComesOf R.remaining (words_of line.now) input.old (result_map_both pixmap_of (λ e. e) result) }
-    ensures failed { watched_failed input.old ≡ false → watched_failed input.new ≡ is_read_failure result }
+    ensures failed { is_read_failure result ≡ true → watched_failed input.new ≡ true }
     ensures stops { watched_retried input.new ≡ watched_retried input.old }
 {
     let steps = match read_steps(alloc, line) {
