@@ -1,8 +1,8 @@
 //! Windows, blocks and elements with their indexes of small tables, drawn by hand.
 
 use nd_array_core::{Array2, ArrayBase, Data};
-use nd_iter::{exact_chunks, indexed_iter, iter, rows, windows, windows_with_stride};
-use nd_shape_and_slice::Dimension;
+use nd_iter::{axis_iter, exact_chunks, indexed_iter, iter, rows, windows, windows_with_stride};
+use nd_shape_and_slice::{Axis, Dimension, Slice};
 use nd_test_arrays::made;
 use std::alloc::Global;
 use std::process::Abort;
@@ -107,6 +107,22 @@ fn elements_with_indexes_of_the_transpose(rt: HostRuntime) {
 }
 
 #[test]
+fn every_second_column_backwards(rt: HostRuntime) {
+    let table = table(&rt, rt.alloc());
+    let _axes = table.ndim();
+    let part = table.slice_axis(Axis(1), Slice::new(0, None, -2));
+    assert_eq!(rt; digits(&part), 428631);
+}
+
+#[test]
+fn every_second_column_from_the_last_element(rt: HostRuntime) {
+    let table = table(&rt, rt.alloc());
+    let _axes = table.ndim();
+    let part = table.slice_axis(Axis(1), Slice::new(0, None, -2));
+    assert_eq!(rt; digits_back(&part), 136824);
+}
+
+#[test]
 fn the_transpose_from_the_last_element(rt: HostRuntime) {
     let table = table(&rt, rt.alloc());
     assert_eq!(rt; digits_back(&table.t()), 384273162951);
@@ -120,4 +136,15 @@ fn rows_from_the_last(rt: HostRuntime) {
     assert_eq!(rt; left.next().map(|row| digits(&row)), Some(1234));
     assert_eq!(rt; left.next_back().map(|row| digits(&row)), Some(5678));
     assert!(rt; left.next_back().is_none());
+}
+
+#[test]
+fn columns_from_the_last(rt: HostRuntime) {
+    let table = table(&rt, rt.alloc());
+    let _axes = table.ndim();
+    let mut columns = axis_iter(&table, Axis(1));
+    assert_eq!(rt;
+        columns.next_back().map(|column| digits(&column)),
+        Some(483)
+    );
 }
