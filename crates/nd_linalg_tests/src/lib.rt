@@ -1,5 +1,6 @@
-//! Tests of `nd_linalg` by its public calls.
+//! Callers of `nd_linalg`, and tests of it by its public calls.
 #![tactic(auto)]
 
+pub mod callers;
 #[cfg(test)]
 mod products;

@@ -1,0 +1,48 @@
+//! Callers of the products, each proved with no file of its own.
+
+ghost use Rattle.std.specs.Prelude.{◌≡◌, IfOk, IfSome, Some, pos, slice_index};
+ghost use Rattle.std.specs.Int.{w64, int_wrapping_add, int_wrapping_mul};
+ghost use Rattle.nd_array_core.specs.Meaning.{meaning_of, shape_of};
+ghost use Rattle.nd_linalg.specs.Products.{vector_by_vector, IsImage, IsProduct};
+
+use nd_array_core::laws::shape_is_checked;
+use nd_array_core::{Array1, Array2, ArrayBase, Data};
+use nd_linalg::{dot, matrix_dot, matrix_dot_vector};
+use nd_shape_and_slice::{Ix1, Ix2, NoMemory};
+use std::alloc::Global;
+
+/// The squared length of a vector, in wrapping numbers.
+pub fn squared_length<S: Data<Elem = i64>>(vector: &ArrayBase<S, Ix1>) -> i64
+    ensures { Some result ≡ vector_by_vector (int_wrapping_add w64) (int_wrapping_mul w64) (pos 0) (meaning_of vector.now) (meaning_of vector.now) }
+{
+    dot(vector, vector)
+}
+
+/// A matrix's image of a vector; None where the vector isn't as long as the matrix has columns.
+pub fn image_of<S: Data<Elem = i64>, Z: Data<Elem = i64>>(
+    alloc: Global,
+    matrix: &ArrayBase<S, Ix2>,
+    vector: &ArrayBase<Z, Ix1>,
+) -> Option<Result<Array1<i64>, NoMemory>>
+    ensures { IfSome result (λ made. IfOk made (λ image. IsImage (int_wrapping_add w64) (int_wrapping_mul w64) (pos 0) (meaning_of matrix.now) (meaning_of vector.now) (meaning_of image))) }
+{
+    let (_rows, columns) = matrix.dim();
+    if vector.dim() != columns {
+        return None;
+    }
+    Some(matrix_dot_vector(alloc, matrix, vector))
+}
+
+/// A square matrix times itself.
+pub fn squared<S: Data<Elem = i64>>(
+    alloc: Global,
+    matrix: &ArrayBase<S, Ix2>,
+) -> Result<Array2<i64>, NoMemory>
+    requires { slice_index (shape_of matrix.now) 0 ≡ slice_index (shape_of matrix.now) 1 }
+    ensures shape { IfOk result (λ square. shape_of square ≡ shape_of matrix.now) }
+    ensures sums { IfOk result (λ square. IsProduct (int_wrapping_add w64) (int_wrapping_mul w64) (pos 0) (meaning_of matrix.now) (meaning_of matrix.now) (meaning_of square)) }
+{
+    let (_rows, _columns) = matrix.dim();
+    shape_is_checked(matrix);
+    matrix_dot(alloc, matrix, matrix)
+}
