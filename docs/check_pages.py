@@ -10,7 +10,7 @@
 - A link to a file of the repository, and to a heading of a page, leads somewhere.
 - Each clause that docs/PROMISES.md names stands at a function of that name, and each law of arrays is named there.
 - As many edits are kept in docs/tried.txt as there are in must-fail/.
-- README.md names the toolchain as `rt version` does, where there is an rt; docs/views.svg is what docs/picture.py draws.
+- README.md names the toolchain as `rt version` does, where there is an rt; docs/views.svg and docs/turned.svg are what docs/picture.py draws.
 - No page is longer than LONGEST lines, and all together have at most WORDS words.
 
 Its first lines count: calls, blocks, links, clauses, edits and words; each line behind them is something to mend.

@@ -1,7 +1,8 @@
 #!/usr/bin/env python3
-"""Draws docs/views.svg: one list of numbers as an array, as its transpose, as a slice with a negative step, and as a broadcast.
+"""Draws docs/views.svg: one list of numbers as an array, as its transpose, as a slice with a negative step, and as a broadcast;
+and docs/turned.svg: the picture that the program of pictures is tried with, before its steps and after.
 
-    python3 docs/picture.py          at the repository's top; writes the file, and with --check compares it
+    python3 docs/picture.py          at the repository's top; writes the files, and with --check compares them
 
 Of each view the indexes stand above and the one storage below; a line leads from each index to its place, which is the offset plus
 each coordinate times its stride.
@@ -10,7 +11,9 @@ each coordinate times its stride.
 import itertools
 import sys
 
-FILE = "docs/views.svg"
+FILE, TURNED = "docs/views.svg", "docs/turned.svg"
+PROGRAM = "crates/nd_picture_program"
+PIXEL = 14
 STORED = [10, 20, 30, 40, 50, 60]
 CELL, ROW, GAP, TOP = 44, 30, 48, 96
 
@@ -82,12 +85,49 @@ def picture():
     return "\n".join(parts + ["</svg>", ""])
 
 
+def pixels(path):
+    """The rows of a plain grey picture, and its full light."""
+    with open(path, encoding="ascii") as file:
+        words = " ".join(line.partition("#")[0] for line in file).split()
+    width, height, light = map(int, words[1:4])
+    samples = list(map(int, words[4:]))
+    return [samples[row * width : (row + 1) * width] for row in range(height)], light
+
+
+def drawn(left, name, rows, light):
+    """A picture, pixel by pixel, with its name above."""
+    parts = [text(left + len(rows[0]) * PIXEL / 2, 24, name, 14, family="monospace")]
+    for row, samples in enumerate(rows):
+        for column, sample in enumerate(samples):
+            shade = f"#{255 * sample // light:02x}" + 2 * f"{255 * sample // light:02x}"
+            parts.append(box(left + column * PIXEL, 40 + row * PIXEL, PIXEL, PIXEL, shade, "#888"))
+    return parts
+
+
+def turned():
+    before, light = pixels(f"{PROGRAM}/stdin")
+    after, _ = pixels(f"{PROGRAM}/stdout")
+    with open(f"{PROGRAM}/args", encoding="ascii") as file:
+        steps = " ".join(file.read().split())
+    wide = max(len(steps) * 9, len(after[0]) * PIXEL)
+    second = GAP + len(before[0]) * PIXEL + GAP
+    width, height = second + wide + GAP, 60 + max(len(before), len(after)) * PIXEL
+    parts = [f'<svg xmlns="http://www.w3.org/2000/svg" width="{width}" height="{height}" viewBox="0 0 {width} {height}">']
+    parts.append(box(0, 0, width, height, "white", "none"))
+    parts += drawn(GAP, "before", before, light)
+    parts += drawn(second + (wide - len(after[0]) * PIXEL) / 2, steps, after, light)
+    return "\n".join(parts + ["</svg>", ""])
+
+
 def main():
-    if "--check" in sys.argv[1:]:
-        with open(FILE, encoding="utf-8") as file:
-            return 0 if file.read() == picture() else f"{FILE} isn't what docs/picture.py draws"
-    with open(FILE, "w", encoding="utf-8") as file:
-        file.write(picture())
+    for path, draw in [(FILE, picture), (TURNED, turned)]:
+        if "--check" in sys.argv[1:]:
+            with open(path, encoding="utf-8") as file:
+                if file.read() != draw():
+                    return f"{path} isn't what docs/picture.py draws"
+        else:
+            with open(path, "w", encoding="utf-8") as file:
+                file.write(draw())
     return 0
 
 

@@ -12,7 +12,7 @@ use Rattle.nd_shape_and_slice.specs.Shape.{nonzero_product, HasCheckedSize}
 use Rattle.nd_shape_and_slice.specs.declared.errors.ErrorKind.{ErrorKind}
 use Rattle.nd_array_core.specs.Meaning.{Meaning}
 use Rattle.nd_array_core.specs.growth.InTurn.{lengths_along, ClonesOfEachAreEqual}
-use Rattle.nd_stacking.specs.Stacking.{concatenation_refusal, concatenation_shape, size_test, is_alike_but, stack_refusal, HasRoomForAxis}
+use Rattle.nd_stacking.specs.Stacking.{concatenation_refusal, concatenation_shape, is_checked_size, is_alike_but, stack_refusal, HasRoomForAxis}
 use Rattle.nd_stacking.proofs.Joining.{cause, false_from_not}
 use Rattle.nd_run.specs.declared.cause.Cause.{Cause}
 use Rattle.nd_run.specs.declared.cause.Cause.TheVariants as causes
@@ -37,9 +37,9 @@ module _ {A : Type 0} (axis : ℕ) (m : Meaning A) (others : List (Meaning A)) w
       let size = passed (nat_lt (nonzero_product (set m.shape axis together)) (2 ^ 63)) causes.Overflow None alike.1 in
       let first : is_alike_but axis m.shape m.shape ≡ true = same_passes (set m.shape axis (get_or m.shape axis 0)) m.shape (set-get_or m.shape axis 0) in
       let all : list_all (λ n. is_alike_but axis m.shape n.shape) (m ∷ others) ≡ true = ap (λ b. b && list_all (λ n. is_alike_but axis m.shape n.shape) others) first ∙ alike.0 in
-      let fits : size_test (concatenation_shape axis (m ∷ others)) ≡ true = ap (λ n. size_test (set m.shape axis n)) (sum_by-cons (λ n. get_or n.shape axis 0) m others) ∙ size.0 in
-      ap (λ t. cause t (list_all (λ n. is_alike_but axis m.shape n.shape) (m ∷ others)) (size_test (concatenation_shape axis (m ∷ others)))) on.0
-      ∙ (ap (λ t. cause true t (size_test (concatenation_shape axis (m ∷ others)))) all ∙ ap (cause true true) fits)
+      let fits : is_checked_size (concatenation_shape axis (m ∷ others)) ≡ true = ap (λ n. is_checked_size (set m.shape axis n)) (sum_by-cons (λ n. get_or n.shape axis 0) m others) ∙ size.0 in
+      ap (λ t. cause t (list_all (λ n. is_alike_but axis m.shape n.shape) (m ∷ others)) (is_checked_size (concatenation_shape axis (m ∷ others)))) on.0
+      ∙ (ap (λ t. cause true t (is_checked_size (concatenation_shape axis (m ∷ others)))) all ∙ ap (cause true true) fits)
 
   -- nothing is against their stack, and there is room for an axis
   pub stack_allowed : first_failed (stack_tests axis others m.shape) ≡ None → (stack_refusal axis (m ∷ others) ≡ None) × (length m.shape < 32)
@@ -51,9 +51,9 @@ module _ {A : Type 0} (axis : ℕ) (m : Meaning A) (others : List (Meaning A)) w
       let first : pointwise nat_eq m.shape m.shape ≡ true = same_passes m.shape m.shape refl in
       let all : list_all (λ n. pointwise nat_eq n.shape m.shape) (m ∷ others) ≡ true = ap (λ b. b && list_all (λ n. pointwise nat_eq n.shape m.shape) others) first ∙ equal.0 in
       let count : length (m ∷ others) ≡ length others + 1 = omega arith in
-      let fits : size_test (insert m.shape axis (length (m ∷ others))) ≡ true = ap (λ n. size_test (insert m.shape axis n)) count ∙ size.0 in (
-        ap (λ t. cause t (list_all (λ n. pointwise nat_eq n.shape m.shape) (m ∷ others)) (size_test (insert m.shape axis (length (m ∷ others))))) place.0
-            ∙ (ap (λ t. cause true t (size_test (insert m.shape axis (length (m ∷ others))))) all ∙ ap (cause true true) fits),
+      let fits : is_checked_size (insert m.shape axis (length (m ∷ others))) ≡ true = ap (λ n. is_checked_size (insert m.shape axis n)) count ∙ size.0 in (
+        ap (λ t. cause t (list_all (λ n. pointwise nat_eq n.shape m.shape) (m ∷ others)) (is_checked_size (insert m.shape axis (length (m ∷ others))))) place.0
+            ∙ (ap (λ t. cause true t (is_checked_size (insert m.shape axis (length (m ∷ others))))) all ∙ ap (cause true true) fits),
         ltb-true (length m.shape) 32 room.0,
       )
 
