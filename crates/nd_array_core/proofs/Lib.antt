@@ -8,3 +8,4 @@ pub mod lending
 pub mod tasks
 pub mod elements_lemmas
 pub mod scoped_lemmas
+pub mod Axes

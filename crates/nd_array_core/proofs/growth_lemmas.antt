@@ -1,5 +1,6 @@
 pub mod JoinedParts
 pub mod Stretched
+pub mod BehindLaws
 pub mod GrownArrays
 pub mod JoinedInTurn
 pub mod Pushed

@@ -17,6 +17,7 @@ ghost use Rattle.nd_array_core.specs.Meaning.{element_at, meaning_of, placed_arr
 ghost use Rattle.nd_shape_and_slice.specs.Shape.{size_of, HasCheckedSize};
 ghost use Rattle.nd_array_core.specs.elements.Pairs.{IsItselfUnder};
 ghost use Rattle.nd_array_core.specs.growth.SlicedBack.{AppendedAndSliced};
+ghost use Rattle.nd_array_core.specs.growth.Appended.{FitsBehind, elements_behind};
 ghost use Rattle.nd_array_core.specs.along.AxisMaps.{LanesAreListed};
 ghost use Rattle.nd_shape_and_slice.specs.Squeeze.{squeezed_shape, squeezed_index};
 
@@ -63,6 +64,12 @@ pub fn split_and_joined<A>()
 #[tactic(auto, using(crate::proofs::law_lemmas::SlicedBack::appended_and_sliced))]
 pub fn appended_and_sliced<A>()
     ensures { AppendedAndSliced A }
+{}
+
+/// What fits behind a shape along an axis has as many axes; and where it has no element, none comes behind.
+pub fn shapes_behind()
+    ensures axes { (ns ms : List ℕ) (axis : ℕ) → FitsBehind ns ms axis → length ms ≡ length ns }
+    ensures none { (ns ms : List ℕ) (axis : ℕ) → FitsBehind ns ms axis → size_of ms ≡ 0 → elements_behind ns ms axis ≡ 0 }
 {}
 
 /// A reshape and the reshape back in the same order give the same meaning.

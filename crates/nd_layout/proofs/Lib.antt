@@ -38,6 +38,7 @@ pub mod LanesOf
 pub mod Rearranged
 pub mod MemoryOrder
 pub mod Halved
+pub mod FollowingHalves
 pub mod MergedAlike
 pub mod Filled
 pub mod AxisJoins

@@ -1,11 +1,12 @@
--- Two layouts of one shape cut at one coordinate of one axis.
-use Rattle.std.specs.Prelude.{ℕ, ◌<◌, ◌≡◌, ◌⊎◌, true, List}
+-- Layouts cut at one coordinate of one axis.
+use Rattle.std.specs.Prelude.{ℕ, ◌+◌, ◌<◌, ◌≡◌, ◌⊎◌, true, List, ℤ}
 use Rattle.std.specs.List.{sum}
-use Rattle.nd_shape_and_slice.specs.Shape.{in_box}
+use Rattle.nd_shape_and_slice.specs.Shape.{in_box, size_of}
 use Rattle.nd_shape_and_slice.specs.declared.dimension.Dimension as dimension
 use Rattle.nd_shape_and_slice.specs.declared.dimension.AxisCount as axis_count
 use Rattle.nd_shape_and_slice.specs.declared.dimension.StrideList as stride_list
 use Rattle.nd_layout.specs.Placements.{Placement, placement_of, IsStepOf}
+use Rattle.nd_layout.specs.Walk.{place_at_rank}
 use Rattle.nd_layout.specs.declared.layout.Layout.{Layout}
 use Rattle.nd_layout.specs.declared.halves.Halves.{Halves}
 
@@ -27,3 +28,16 @@ pub record AreHalved (one two lower lower_two upper upper_two : Placement) : Typ
 -- the same of layouts
 abbrev pub HalvesBoth : {D T P R L M : Type 0} {d : dimension.Ghosts D P R L M} {n : axis_count.Ghosts D} {r : stride_list.Ghosts R} {t : stride_list.Ghosts T} → (one two : Layout D T P R L M d n r t) → Halves D T P R L M d n r t → Type 0
 HalvesBoth one two halves = AreHalved (placement_of one) (placement_of two) (placement_of halves.lower) (placement_of halves.lower_beside) (placement_of halves.upper) (placement_of halves.upper_beside)
+
+-- where the index of a rank lies
+abbrev pub rank_place : Placement → ℕ → ℤ
+rank_place p = place_at_rank p.offset p.lengths p.strides
+
+-- The ranks of the second go on behind those of the first, and both together are those of the whole; both are smaller,
+-- where there are any.
+pub record FollowEachOther (whole first second : Placement) : Type 0 where
+  pub size : size_of first.lengths + size_of second.lengths ≡ size_of whole.lengths
+  pub early : (rank : ℕ) → rank < size_of first.lengths → rank_place first rank ≡ rank_place whole rank
+  pub late : (rank : ℕ) → rank < size_of second.lengths → rank_place second rank ≡ rank_place whole (size_of first.lengths + rank)
+  pub first_smaller : sum first.lengths < sum whole.lengths
+  pub second_smaller : sum second.lengths < sum whole.lengths

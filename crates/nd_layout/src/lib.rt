@@ -4,6 +4,7 @@
 #![tactic(auto)]
 
 mod axis_at;
+mod first_halves;
 mod growing_order;
 mod grown;
 mod grows;

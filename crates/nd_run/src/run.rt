@@ -18,7 +18,7 @@ use crate::joining::{concatenate, stack};
 use crate::laws::paths_lead_along;
 use crate::steps::{advance, check, check_index, keep_refusal, take_step};
 use crate::write::{write_parts, write_through};
-use nd_array_core::laws::nothing_outside;
+use nd_array_core::laws::{nothing_outside, shapes_behind};
 use nd_array_core::{Array, ArrayBase, ArrayError, ArrayView, Data, fits_behind};
 use nd_shape_and_slice::{Axis, Dimension, IxDyn, MAX_AXES, Order, size_of_shape_checked};
 use std::alloc::{AllocError, Global};
@@ -270,6 +270,7 @@ fn check_append<S: Data, T: Data>(
 ) -> Result<(), Cause>
     ensures { Refuses result (first_failed (append_tests axis (shape_of other.now) (shape_of array.now))) }
 {
+    shapes_behind();
     check(array.ndim() > 0, Cause::Shape)?;
     check(axis < array.ndim(), Cause::Axis)?;
     check(
@@ -293,6 +294,7 @@ fn append<A: Clone + Eq + Drop>(
     requires { (x y : A) → A.is_clone x y → y ≡ x }
     ensures { CarriesOut A.eq (Appending axis (meaning_of other.entry)) (meaning_of array.old) (meaning_of array.new) result }
 {
+    shapes_behind();
     match check_append(array, axis, &other) {
         Ok(()) => match array.append(Axis(axis), other) {
             Ok(()) => Ok(Reply::Done),
@@ -312,6 +314,7 @@ fn push<A: Clone + Eq + Drop>(
     requires { (x y : A) → A.is_clone x y → y ≡ x }
     ensures { CarriesOut A.eq (Appending axis (with_axis_inserted axis (meaning_of other.now))) (meaning_of array.old) (meaning_of array.new) result }
 {
+    shapes_behind();
     if array.ndim() == 0 {
         return Ok(Reply::Refused(Cause::Shape.number()));
     }

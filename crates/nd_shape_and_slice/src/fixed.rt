@@ -1,4 +1,5 @@
 //! Dimensions with a fixed number of axes.
+#![tactic(auto, using(std::proofs::lemmas::Bool::Decides::nat_tests))]
 
 ghost use Rattle.std.specs.Prelude.{◌≡◌, ◌≤◌, ◌==◌, ◌&&◌, nat_le, ℕ, ℤ, pos, Bool, true, false, List, [], ◌∷◌, Option, Some, None, length, take};
 
@@ -10,7 +11,7 @@ use crate::entries::{entry_at, set_entry};
 #[derive(Clone, Copy, Debug, PartialEq, Eq)]
 pub struct Dim<const N: usize> {
     lens: [usize; N],
-    ghost few: { length lens ≤ 32 },
+    ghost number: { (length lens == N && nat_le (length lens) 32) ≡ true },
 }
 
 impl<const N: usize> Dim<N> {

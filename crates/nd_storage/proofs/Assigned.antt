@@ -5,7 +5,8 @@ use Rattle.std.proofs.lemmas.Bool.Decides.{nat_tests}
 use Rattle.nd_shape_and_slice.specs.Shape.{in_box, size_of, row_rank, index_at}
 use Rattle.nd_shape_and_slice.specs.Place.{place_of}
 use Rattle.nd_shape_and_slice.proofs.RowMajor.{row_rank_below}
-use Rattle.nd_shape_and_slice.proofs.RankIndexes.{index_at-row_rank}
+use Rattle.nd_shape_and_slice.proofs.RankIndexes.{in_box-index_at, index_at-row_rank}
+use Rattle.nd_layout.specs.Lanes.{by_rank}
 use Rattle.nd_layout.specs.Placements.{Placement, KeepsApart}
 use Rattle.nd_layout.specs.Walk.{place_at_rank}
 use Rattle.nd_storage.specs.ByLayout.{shown_at, HoldsEach, StaysBeside}
@@ -13,11 +14,11 @@ use Rattle.nd_storage.specs.Collected.{stored_by_rank}
 use Rattle.nd_storage.specs.Meaning.{inside}
 use Rattle.nd_storage.specs.Places.{stored_at, names_place, HoldsAll}
 use Rattle.nd_storage.specs.elements.Changes.{AreDistinct}
-use Rattle.nd_storage.specs.elements.Assigns.{IsAssignedTo, IsPartlyAssigned}
+use Rattle.nd_storage.specs.elements.Assigns.{IsAssignedTo, IsPartlyAssigned, MovesAt, AssignsAt}
 use Rattle.nd_storage.specs.elements.Pairs.{IsOldOrOf}
 use Rattle.nd_storage.proofs.Paired.{in_row_major, ranks_apart, others_stay}
 use Rattle.nd_storage.proofs.Rewritten.{stored_same}
-use Rattle.nd_storage.proofs.TurnedAlike.{second_inside, second_given}
+use Rattle.nd_storage.proofs.TurnedAlike.{second_given}
 
 module _ {A : Type 0} (given : ℕ → Option A) (place : ℕ → ℤ) where
   pub assigned_none : (old : ℕ → Option A) → IsAssignedTo given place 0 old old
@@ -102,14 +103,14 @@ module _ {A : Type 0} (offset : ℕ) (ns : List ℕ) (ss : List ℤ) (given : �
   abbrev at : (ℕ → Option A) → List ℕ → Option A
   at stored i = inside ns i (stored_at stored (place_of offset ss i))
 
-  by_rank : (i : List ℕ) → in_box ns i ≡ true → place_at_rank offset ns ss (row_rank ns i) ≡ place_of offset ss i
-  by_rank i h = ap (place_of offset ss) (index_at-row_rank ns i h)
+  at_rank : (i : List ℕ) → in_box ns i ≡ true → place_at_rank offset ns ss (row_rank ns i) ≡ place_of offset ss i
+  at_rank i h = ap (place_of offset ss) (index_at-row_rank ns i h)
 
   pub partly_holds : IsPartlyAssigned given (place_at_rank offset ns ss) (size_of ns) old new → ((rank : ℕ) → rank < size_of ns → is_some (given rank) ≡ true) → HoldsAll old offset ns ss → HoldsAll new offset ns ss
-  partly_holds partly has holds i h = ap (names_place new) (sym (by_rank i h)) ∙ by_case (partly.each (row_rank ns i) (row_rank_below ns i h))
+  partly_holds partly has holds i h = ap (names_place new) (sym (at_rank i h)) ∙ by_case (partly.each (row_rank ns i) (row_rank_below ns i h))
     where
       by_case : (stored_at new (place_at_rank offset ns ss (row_rank ns i)) ≡ stored_at old (place_at_rank offset ns ss (row_rank ns i))) ⊎ (stored_at new (place_at_rank offset ns ss (row_rank ns i)) ≡ given (row_rank ns i)) → names_place new (place_at_rank offset ns ss (row_rank ns i)) ≡ true
-      by_case (inl same) = ap is_some same ∙ (ap (names_place old) (by_rank i h) ∙ holds i h)
+      by_case (inl same) = ap is_some same ∙ (ap (names_place old) (at_rank i h) ∙ holds i h)
       by_case (inr other) = ap is_some other ∙ has (row_rank ns i) (row_rank_below ns i h)
 
   module _ (other_at : List ℕ → Option A) (is_given : (i : List ℕ) → in_box ns i ≡ true → given (row_rank ns i) ≡ other_at i) where
@@ -117,7 +118,7 @@ module _ {A : Type 0} (offset : ℕ) (ns : List ℕ) (ss : List ℤ) (given : �
     assigned_at assigned outside i = by_box (in_box ns i) refl
       where
         by_box : (b : Bool) → in_box ns i ≡ b → at new i ≡ other_at i
-        by_box true h = rw h (ap (stored_at new) (sym (by_rank i h)) ∙ (assigned.done (row_rank ns i) (row_rank_below ns i h) ∙ is_given i h))
+        by_box true h = rw h (ap (stored_at new) (sym (at_rank i h)) ∙ (assigned.done (row_rank ns i) (row_rank_below ns i h) ∙ is_given i h))
         by_box false h = sym (outside i h)
 
     pub partly_at : IsPartlyAssigned given (place_at_rank offset ns ss) (size_of ns) old new → (i : List ℕ) → (at new i ≡ at old i) ⊎ (at new i ≡ other_at i)
@@ -127,8 +128,8 @@ module _ {A : Type 0} (offset : ℕ) (ns : List ℕ) (ss : List ℤ) (given : �
         Here b = ((if b then stored_at new (place_of offset ss i) else None) ≡ (if b then stored_at old (place_of offset ss i) else None)) ⊎ ((if b then stored_at new (place_of offset ss i) else None) ≡ other_at i)
 
         by_case : in_box ns i ≡ true → (stored_at new (place_at_rank offset ns ss (row_rank ns i)) ≡ stored_at old (place_at_rank offset ns ss (row_rank ns i))) ⊎ (stored_at new (place_at_rank offset ns ss (row_rank ns i)) ≡ given (row_rank ns i)) → Here true
-        by_case h (inl same) = inl (ap (stored_at new) (sym (by_rank i h)) ∙ (same ∙ ap (stored_at old) (by_rank i h)))
-        by_case h (inr other) = inr (ap (stored_at new) (sym (by_rank i h)) ∙ (other ∙ is_given i h))
+        by_case h (inl same) = inl (ap (stored_at new) (sym (at_rank i h)) ∙ (same ∙ ap (stored_at old) (at_rank i h)))
+        by_case h (inr other) = inr (ap (stored_at new) (sym (at_rank i h)) ∙ (other ∙ is_given i h))
 
         by_box : (b : Bool) → in_box ns i ≡ b → (at new i ≡ at old i) ⊎ (at new i ≡ other_at i)
         by_box true h = subst Here (sym h) (by_case h (partly.each (row_rank ns i) (row_rank_below ns i h)))
@@ -150,7 +151,7 @@ on_err (Err e) f p = f p
 -- the same of a placement, and of a second one of its lengths
 module _ {A : Type 0} (others : ℕ → Option A) (one two : Placement) (alike : two.lengths ≡ one.lengths) (old new : ℕ → Option A) where
   abbrev given_there : ℕ → Option A
-  given_there = stored_by_rank others two.offset one.lengths two.strides
+  given_there = stored_by_rank others two.offset two.lengths two.strides
 
   abbrev place_there : ℕ → ℤ
   place_there = place_at_rank one.offset one.lengths one.strides
@@ -167,13 +168,29 @@ module _ {A : Type 0} (others : ℕ → Option A) (one two : Placement) (alike :
   -- each index still has an element, and nothing beside them changed
   pub partly_still : HoldsEach old one → HoldsEach others two → IsPartlyAssigned given_there place_there (size_of one.lengths) old new → HoldsEach new one × StaysBeside one old new
   partly_still holds others_hold partly = (
-    partly_holds one.offset one.lengths one.strides given_there old new partly (λ rank below. others_hold (index_at one.lengths rank) (second_inside others one two alike rank below)) holds,
+    partly_holds one.offset one.lengths one.strides given_there old new partly (λ rank below. others_hold (index_at two.lengths rank) (in_box-index_at two.lengths rank (subst (λ ns. rank < size_of ns) (sym alike) below))) holds,
     others_stay one.offset one.lengths one.strides one.offset one.lengths one.strides (in_row_major one.offset one.lengths one.strides) old new partly.left,
   )
 
+  pub assigned_still : length one.strides ≡ length one.lengths → KeepsApart one → HoldsEach old one → HoldsEach others two → IsAssignedTo given_there place_there (size_of one.lengths) old new → HoldsEach new one × StaysBeside one old new
+  assigned_still many apart holds others_hold assigned =
+      partly_still holds others_hold (assigned_partly given_there place_there (size_of one.lengths) (size_of one.lengths) (ranks_apart one.offset one.lengths one.strides many apart) old new assigned (omega arith))
+
   pub either_still : {E : Type 0} (result : Result (Unit {0}) E) → length one.strides ≡ length one.lengths → KeepsApart one → HoldsEach old one → HoldsEach others two → OnOk result (IsAssignedTo given_there place_there (size_of one.lengths) old new) → OnErr result (IsPartlyAssigned given_there place_there (size_of one.lengths) old new) → HoldsEach new one × StaysBeside one old new
   either_still result many apart holds others_hold assigned stopped =
-      partly_still holds others_hold (either_way result assigned stopped (λ all. assigned_partly given_there place_there (size_of one.lengths) (size_of one.lengths) (ranks_apart one.offset one.lengths one.strides many apart) old new all (omega arith)) (λ some. some))
+      either_way result assigned stopped (assigned_still many apart holds others_hold) (partly_still holds others_hold)
+
+-- the same of the places that a call was handed
+module _ {S Z A : Type 0} (stored : S → ℕ → Option A) (others_stored : Z → ℕ → Option A) (others : Z) (old new : S) (one two to from : Placement) (is_one : to ≡ one) (is_two : from ≡ two) where
+  pub moved_between : MovesAt stored others_stored (by_rank to) (by_rank from) others old new → MovesAt stored others_stored (by_rank one) (by_rank two) others old new
+  moved_between moved =
+      subst (λ p. MovesAt stored others_stored (by_rank p) (by_rank two) others old new) is_one
+      (subst (λ p. MovesAt stored others_stored (by_rank to) (by_rank p) others old new) is_two moved)
+
+  pub assigned_between : {E : Type 0} (result : Result (Unit {0}) E) → AssignsAt stored others_stored (by_rank to) (by_rank from) others old new result → AssignsAt stored others_stored (by_rank one) (by_rank two) others old new result
+  assigned_between result assigned =
+      subst (λ p. AssignsAt stored others_stored (by_rank p) (by_rank two) others old new result) is_one
+      (subst (λ p. AssignsAt stored others_stored (by_rank to) (by_rank p) others old new result) is_two assigned)
 
 -- the same beside a map with the same elements
 pub old_or_same : {A : Type 0} (old other other' new : List ℕ → Option A) → ((i : List ℕ) → other i ≡ other' i) → IsOldOrOf old other new → IsOldOrOf old other' new

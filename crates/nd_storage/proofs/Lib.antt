@@ -14,8 +14,12 @@ pub mod Folded
 pub mod FreeOrder
 pub mod InHalves
 pub mod LaidAnew
+pub mod ListedTurned
+pub mod ListedHalves
+pub mod ListedJoined
 pub mod LaneNumbers
 pub mod Lanes
+pub mod LanesBeside
 pub mod LanesAccumulating
 pub mod LanesFolding
 pub mod LentLanes

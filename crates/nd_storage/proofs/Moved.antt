@@ -1,15 +1,10 @@
 -- Elements of two storages exchanged, one place after another.
-use Rattle.std.proofs.Common.{◌≡◌, ℕ, ◌+◌, ◌<◌, ◌≤◌, List, true, ℤ, pos, refl, ap, sym, subst, ◌∙◌, arith}
-use Rattle.std.specs.Prelude.{Option, is_some}
-use Rattle.nd_shape_and_slice.specs.Shape.{in_box, size_of, index_at}
-use Rattle.nd_shape_and_slice.specs.Place.{place_of}
-use Rattle.nd_shape_and_slice.proofs.RankIndexes.{in_box-index_at, index_at-row_rank}
-use Rattle.nd_layout.specs.Walk.{place_at_rank}
-use Rattle.nd_storage.specs.Meaning.{inside}
-use Rattle.nd_storage.specs.Places.{stored_at, HoldsAll}
+use Rattle.std.proofs.Common.{◌≡◌, ℕ, ◌+◌, ◌<◌, ◌≤◌, ℤ, pos, refl, ap, sym, ◌∙◌, arith}
+use Rattle.std.specs.Prelude.{Option}
+use Rattle.nd_storage.specs.Places.{stored_at}
 use Rattle.nd_storage.specs.elements.Assigns.{IsAssignedTo}
 use Rattle.nd_storage.specs.elements.Changes.{AreDistinct}
-use Rattle.nd_storage.proofs.Assigned.{assigned_then, later_there, assigned_partly, partly_holds, assigned_at}
+use Rattle.nd_storage.proofs.Assigned.{assigned_then, later_there}
 
 module _ {A : Type 0} (given : ℕ → Option A) (place : ℕ → ℤ) where
   -- one place more, where what stands there is what was given
@@ -33,20 +28,3 @@ lane_exchanged k count n within place their_place lane beside goes_on beside_goe
     assigned_then (λ j. stored_at others (their_place j)) place k n apart old now so_far lane (λ j. stored_at others_now (beside j)) count within goes_on
     (λ j below. ap (stored_at others_now) (beside_goes_on j below) ∙ later_there (λ j. stored_at old (place j)) their_place k n others_apart others others_now theirs (k + j) (omega arith) (omega (arith, below, within)))
     new later
-
-module _ {A : Type 0} (offset : ℕ) (ns : List ℕ) (ss : List ℤ) (from : ℕ) (ms : List ℕ) (us : List ℤ) (same : ns ≡ ms) (others : ℕ → Option A) where
-  -- the places of the second layout, by the ranks of the first
-  pub theirs_hold : HoldsAll others from ms us → (rank : ℕ) → rank < size_of ns → is_some (stored_at others (place_at_rank from ns us rank)) ≡ true
-  theirs_hold holds rank below = holds (index_at ns rank) (subst (λ ls. in_box ls (index_at ns rank) ≡ true) same (in_box-index_at ns rank below))
-
-  module _ (old new : ℕ → Option A) (moved : IsAssignedTo (λ rank. stored_at others (place_at_rank from ns us rank)) (place_at_rank offset ns ss) (size_of ns) old new) where
-    pub moved_at : (i : List ℕ) → inside ns i (stored_at new (place_of offset ss i)) ≡ inside ms i (stored_at others (place_of from us i))
-    moved_at i =
-        assigned_at offset ns ss (λ rank. stored_at others (place_at_rank from ns us rank)) old new (λ i. inside ns i (stored_at others (place_of from us i)))
-        (λ i h. rw h (ap (λ j. stored_at others (place_of from us j)) (index_at-row_rank ns i h))) moved (λ i out. rw out refl) i
-        ∙ ap (λ ls. inside ls i (stored_at others (place_of from us i))) same
-
-    pub moved_holds : AreDistinct (place_at_rank offset ns ss) (size_of ns) → HoldsAll others from ms us → HoldsAll old offset ns ss → HoldsAll new offset ns ss
-    moved_holds apart theirs ours =
-        partly_holds offset ns ss (λ rank. stored_at others (place_at_rank from ns us rank)) old new
-        (assigned_partly (λ rank. stored_at others (place_at_rank from ns us rank)) (place_at_rank offset ns ss) (size_of ns) (size_of ns) apart old new moved (omega arith)) (theirs_hold theirs) ours

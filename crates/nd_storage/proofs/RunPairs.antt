@@ -93,3 +93,9 @@ module _ {A : Type 0} (given : ℕ → Option A) (place : ℕ → ℤ) (n : ℕ)
       by_case : (k : ℕ) → k < n → (slice_get ws k ≡ slice_get xs k) ⊎ (slice_get ws k ≡ shown k) → (stored_at new (place k) ≡ stored_at old (place k)) ⊎ (stored_at new (place k) ≡ given k)
       by_case k below (inl kept) = inl (sym (same_new k below) ∙ (kept ∙ same k below))
       by_case k below (inr put) = inr (sym (same_new k below) ∙ (put ∙ same_given k below))
+
+  -- both, of all of a slice's items
+  pub run_outcome : {E : Type 0} (result : Result (Unit {0}) E) → length xs ≡ n → (OnOk result (IsAssignedTo shown number (length xs) (slice_get xs) (slice_get ws)) × OnErr result (IsPartlyAssigned shown number (length xs) (slice_get xs) (slice_get ws))) → (OnOk result (IsAssignedTo given place n old new) × OnErr result (IsPartlyAssigned given place n old new))
+  run_outcome result whole outcome =
+      let same = subst (λ m. OnOk result (IsAssignedTo shown number m (slice_get xs) (slice_get ws)) × OnErr result (IsPartlyAssigned shown number m (slice_get xs) (slice_get ws))) whole outcome in
+      (run_assigned result same.0, run_partly result same.1)

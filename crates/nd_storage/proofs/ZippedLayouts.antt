@@ -4,12 +4,13 @@ use Rattle.std.specs.Prelude.{Option}
 use Rattle.std.specs.Borrow.{Bor, MutBor}
 use Rattle.std.specs.Fn.{Mut}
 use Rattle.nd_shape_and_slice.specs.Shape.{size_of}
+use Rattle.nd_layout.specs.Lanes.{by_rank}
 use Rattle.nd_layout.specs.Placements.{Placement, IsRearrangedOf}
 use Rattle.nd_layout.specs.Walk.{place_at_rank}
 use Rattle.nd_storage.specs.ByLayout.{shown_at, HoldsEach, StaysBeside}
 use Rattle.nd_storage.specs.Collected.{stored_by_rank}
 use Rattle.nd_storage.specs.FreeOrder.{VisitedInSomeOrder}
-use Rattle.nd_storage.specs.elements.Pairs.{ChangesWith, IsZippedTo, TakesPairs, ZippableInAnyOrder}
+use Rattle.nd_storage.specs.elements.Pairs.{ChangesWith, IsZippedTo, TakesPairs, ZippableInAnyOrder, ZipsAt}
 use Rattle.nd_storage.proofs.Paired.{places_zippable, zips_all, zipped_holds, others_stay}
 
 -- `to` has the places of `one` in its own order, and `beside` shows at a rank what `two` shows at the index of it
@@ -26,3 +27,10 @@ module _ {F A B : Type 0} (g : Mut F (MutBor A × (Bor B × Unit {0})) (Unit {0}
         zipped_holds g others one.offset one.lengths one.strides to.offset to.lengths to.strides by (place_at_rank beside.offset to.lengths beside.strides) (shown_at others two) shows old new f last changed,
         others_stay one.offset one.lengths one.strides to.offset to.lengths to.strides by old new changed.left,
       )
+
+-- the same of the places that a call was handed
+pub zipped_between : {S Z F A B : Type 0} (g : Mut F (MutBor A × (Bor B × Unit {0})) (Unit {0} × (MutBor A × Unit {0}))) (stored : S → ℕ → Option A) (others_stored : Z → ℕ → Option B) (others : Z) (old new : S) (f last : F) (one two to from : Placement) → to ≡ one → from ≡ two
+    → ZipsAt g stored others_stored (by_rank to) (by_rank from) others old new f last → ZipsAt g stored others_stored (by_rank one) (by_rank two) others old new f last
+zipped_between g stored others_stored others old new f last one two to from is_one is_two zipped =
+    subst (λ p. ZipsAt g stored others_stored (by_rank p) (by_rank two) others old new f last) is_one
+    (subst (λ p. ZipsAt g stored others_stored (by_rank to) (by_rank p) others old new f last) is_two zipped)

@@ -11,7 +11,8 @@ use Rattle.nd_shape_and_slice.specs.declared.dimension.StrideList as stride_list
 use Rattle.nd_layout.specs.Placements.{Placement, placement_of}
 use Rattle.nd_layout.specs.declared.layout.Layout.{Layout}
 use Rattle.nd_storage.specs.Meaning.{inside}
-use Rattle.nd_storage.specs.Places.{place_number, stored_at, HoldsAll}
+use Rattle.nd_region.specs.Places.{names, names_not}
+use Rattle.nd_storage.specs.Places.{place_number, stored_at, kept_at, HoldsAll}
 use Rattle.nd_storage.specs.Writes.{OthersStay}
 use Rattle.nd_storage.specs.FreeOrder.{VisitedInSomeOrder}
 use Rattle.nd_storage.specs.elements.Pairs.{ChangesWith, IsOldOrOf, ZipsAll, ZippableInAnyOrder}
@@ -26,6 +27,13 @@ place_named p i = inside p.lengths i (place_number (place_of p.offset p.strides 
 -- the map has an element at each index
 abbrev pub HoldsEach : {A : Type 0} → (ℕ → Option A) → Placement → Type 0
 HoldsEach stored p = HoldsAll stored p.offset p.lengths p.strides
+
+-- the second map has the first one's elements at the places that an index names, and nothing elsewhere; or the other way about
+abbrev pub HasNamed : {A : Type 0} → Placement → (ℕ → Option A) → (ℕ → Option A) → Type 0
+HasNamed p old new = (place : ℕ) → new place ≡ kept_at (names p.offset p.lengths p.strides) old place
+
+abbrev pub HasUnnamed : {A : Type 0} → Placement → (ℕ → Option A) → (ℕ → Option A) → Type 0
+HasUnnamed p old new = (place : ℕ) → new place ≡ kept_at (names_not p.offset p.lengths p.strides) old place
 
 -- places that no index names hold what they held
 abbrev pub StaysBeside : {A : Type 0} → Placement → (ℕ → Option A) → (ℕ → Option A) → Type 0
@@ -63,5 +71,5 @@ module _ {S Z F A B D T P R L M : Type 0} {d : dimension.Ghosts D P R L M} {n : 
   abbrev pub ZipsShown : S → F → Type 0
   ZipsShown new f = ZipsAll g (d.lengths l.dim) (shown stored s l) (shown others_stored others beside) (shown stored new l) f
 
-  abbrev pub ZipsShownTo : S → F → F → Type 0
-  ZipsShownTo new first last = VisitedInSomeOrder (d.lengths l.dim) (λ p i q. ChangesWith g (shown others_stored others beside i) (shown stored s l i) (shown stored new l i) p q) first last
+  abbrev pub ZipsTo : S → F → F → Type 0
+  ZipsTo new first last = VisitedInSomeOrder (d.lengths l.dim) (λ p i q. ChangesWith g (shown others_stored others beside i) (shown stored s l i) (shown stored new l i) p q) first last

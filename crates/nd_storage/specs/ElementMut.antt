@@ -8,9 +8,9 @@ use Rattle.nd_region.proofs.Stored.{whole_got, written_has}
 use Rattle.nd_region.proofs.Written.{written_map}
 use Rattle.nd_storage.specs.Places.{written_at}
 
--- the storage ends with what is left behind the reference, by the function that sets one element
-abbrev pub element_follows : (S A : RattleType) → MutBor S.Denot → MutBor A.Denot → (A.Denot → S.Denot) → Fml
-element_follows S A s r with_last = Lends S A s r with_last
+-- the storage ends with what is left behind the reference to the element at a place, by the function that sets one element
+abbrev pub place_ends : (S A : RattleType) {Kept : S.Denot → Type 0} → MutBor S.Denot → MutBor A.Denot → (A.Denot → (t : S.Denot) × Kept t) → Fml
+place_ends S A s r with_last = Lends S A s r (λ x. (with_last x).0)
 
 -- wherever a map holds something, another does too
 abbrev pub KeepsPlaces : {A : Type 0} → (ℕ → Option A) → (ℕ → Option A) → Type 0

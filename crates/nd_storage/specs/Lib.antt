@@ -7,6 +7,7 @@ pub mod ElementMut
 pub mod Filled
 pub mod FreeOrder
 pub mod Lends
+pub mod ListedAnswers
 pub mod Meaning
 pub mod NewElements
 pub mod NumberedPlaces

@@ -1,10 +1,11 @@
 -- What a storage ends as, once a borrow of elements that lie side by side is over.
 use mathlib.Core.Path.{◌≡◌, refl, sym, ap, ◌∙◌}
 use native.Mathlib.Omega.{arith}
-use Rattle.std.specs.Prelude.{ℕ, zero, suc, ◌+◌, ◌-◌, ◌<◌, ◌≤◌, List, [], ◌∷◌, ◌++◌, Bool, true, false, length, take, drop, replicate, Option, is_some, slice_get}
-use Rattle.std.specs.Borrow.{Fml, RattleType, MutBor, Lends, Array}
+use Rattle.std.specs.Prelude.{ℕ, zero, suc, ◌+◌, ◌-◌, ◌<◌, ◌≤◌, List, [], ◌∷◌, ◌++◌, Bool, true, false, length, take, drop, replicate, Option, Some, is_some, slice_get, slice_index_or}
+use Rattle.std.specs.Borrow.{Fml, RattleType, MutBor, Lends, Array, follows}
 use Rattle.std.specs.Vec.{with_items}
 use Rattle.std.specs.declared.vec.Vec.{Vec}
+use Rattle.nd_region.specs.declared.region.Region.{Region}
 use Rattle.nd_region.specs.Places.{element_in, stored_in, overwritten_items, run_written}
 use Rattle.nd_region.proofs.Stored.{whole_got}
 use Rattle.nd_region.proofs.Overwritten.{overwritten_by, nothing_written}
@@ -12,8 +13,12 @@ use Rattle.nd_storage.specs.Lends.{written_from}
 use Rattle.nd_storage.specs.NewElements.{items_put, items_itself}
 
 -- the storage ends with what is left behind the slice, by the function that sets these elements
-abbrev pub run_ends : (S A : RattleType) → MutBor S.Denot → MutBor (List A.Denot) → (List A.Denot → S.Denot) → Fml
-run_ends S A s r with_last = Lends S (Array A 0) s r with_last
+abbrev pub run_ends : (S A : RattleType) {Kept : S.Denot → Type 0} → MutBor S.Denot → MutBor (List A.Denot) → (List A.Denot → (t : S.Denot) × Kept t) → Fml
+run_ends S A s r with_last = Lends S (Array A 0) s r (λ ws. (with_last ws).0)
+
+-- the same of a region of all elements
+abbrev pub region_ends : (S A : RattleType) {Kept : S.Denot → Type 0} → MutBor S.Denot → Region A.Denot → (List A.Denot → (t : S.Denot) × Kept t) → Fml
+region_ends S A s r with_last = follows S (Array A 0) s.ghost_name r.name (λ ws. (with_last ws).0)
 
 -- where that many places from one on begin: none need no place
 abbrev pub run_start : ℕ → ℕ → ℕ
@@ -27,6 +32,10 @@ HasRunAt stored place count = (k : ℕ) → k < count → is_some (stored (place
 -- they are these
 abbrev pub IsRunAt : {A : Type 0} → (ℕ → Option A) → ℕ → ℕ → List A → Type 0
 IsRunAt stored place count xs = (length xs ≡ count) × ((k : ℕ) → k < count → slice_get xs k ≡ stored (place + k))
+
+-- the same, whatever item stands in for one that is missing
+abbrev pub HasItemsAt : {A : Type 0} → (ℕ → Option A) → ℕ → ℕ → List A → Type 0
+HasItemsAt {A} stored place count xs = (k : ℕ) (d : A) → k < count → stored (place + k) ≡ Some (slice_index_or xs k d)
 
 -- no number of them is p
 abbrev pub IsBesideRun : ℕ → ℕ → ℕ → Type 0

@@ -1,8 +1,9 @@
 -- Scoped calls: a part of a storage is lent to a task for the length of a call.
-use Rattle.std.specs.Prelude.{◌≡◌, ℕ, List, ℤ, Option, None, if◌then◌else◌}
+use Rattle.std.specs.Prelude.{◌≡◌, ℕ, List, length, ℤ, Option, None, if◌then◌else◌}
 use Rattle.nd_region.specs.declared.region.Region.{Region}
 use Rattle.nd_region.specs.Places.{names}
-use Rattle.nd_region.specs.Region.{region_stored, borrow_of}
+use Rattle.nd_region.specs.Region.{region_stored, borrow_of, HasPlaces}
+use Rattle.nd_region.specs.Scoped.{TakesPart, GivesPartBack, IsPartReturned}
 
 -- a map from places, at the places alone that the layout names
 abbrev pub named_part : {A : Type 0} → (ℕ → Option A) → ℕ → List ℕ → List ℤ → ℕ → Option A
@@ -40,3 +41,15 @@ module _ {A R : Type 0} where
 -- the same of two storages, by what they hold
 abbrev pub IsStoredReturned : {S A R : Type 0} → (Region A → Region A × R → Type 0) → (S → ℕ → Option A) → S → S → ℕ → List ℕ → List ℤ → R → Type 0
 IsStoredReturned post stored old new offset lengths strides answer = IsNamedReturned post (stored old) (stored new) offset lengths strides answer
+
+-- a region lends its part at the places that the layout names: it has them, and the function takes the part and gives it back
+abbrev pub MayLendPart : {A R : Type 0} → (Region A → Type 0) → (Region A → Region A × R → Type 0) → ℕ → List ℕ → List ℤ → Region A → Type 0
+MayLendPart pre post offset lengths strides whole =
+    (length lengths ≡ length strides)
+    × HasPlaces whole offset lengths strides
+    × TakesPart pre (names offset lengths strides) whole
+    × GivesPartBack post (names offset lengths strides) whole
+
+-- the region has at these places what the function gave back, and elsewhere what it had
+abbrev pub IsPartGivenBack : {A R : Type 0} → (Region A → Region A × R → Type 0) → ℕ → List ℕ → List ℤ → Region A → Region A → R → Type 0
+IsPartGivenBack post offset lengths strides old new answer = IsPartReturned post (names offset lengths strides) old new answer

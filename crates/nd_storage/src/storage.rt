@@ -1,22 +1,23 @@
 //! The storages of arrays: an owned vector, or a borrow of elements, shared or to be written.
 
-ghost use Rattle.std.specs.Prelude.{◌≡◌, ◌+◌, ◌*◌, ◌<◌, ◌≤◌, ◌^◌, ⊤, ℕ, length, Bool, true, false, List, [], Option, IsSome, Some, IfOk, IfErr, is_ok, slice_get, slice_range, refl, slice_index_or, vec_capacity};
-ghost use Rattle.std.specs.Borrow.{sem, follows, Array};
+ghost use Rattle.std.specs.Prelude.{◌≡◌, ◌+◌, ◌*◌, ◌<◌, ◌≤◌, ◌^◌, ⊤, ℕ, length, Bool, true, false, List, [], Option, IsSome, Some, IfOk, IfErr, is_ok, slice_get, slice_range, refl, vec_capacity};
+ghost use Rattle.std.specs.Borrow.{sem};
 ghost use Rattle.std.specs.List.{flat_map};
 ghost use Rattle.std.specs.Option.{is_some};
 ghost use Rattle.std.specs.Vec.{with_item, with_items};
 ghost use Rattle.nd_storage.specs.StorageFrame.{StorageFrame, Owned, Borrowed};
-ghost use Rattle.nd_region.specs.Scoped.{TakesPart, GivesPartBack, IsPartReturned};
+ghost use Rattle.nd_layout.specs.Placements.{placement_of};
 ghost use Rattle.nd_region.specs.Shared.{shared_stored};
-ghost use Rattle.nd_region.specs.Places.{names, names_not, overwritten_items, run_written};
-ghost use Rattle.nd_region.specs.Region.{region_stored, borrow_of, elements_of, with_element as region_with, with_items as region_items, with_run as region_with_run, HasPlaces, IsAsLong};
-ghost use Rattle.nd_storage.specs.Places.{HoldsAll, kept_at, written_at, swapped_at};
-ghost use Rattle.nd_storage.specs.Scoped.{TakesNamed, GivesNamedBack, IsNamedReturned, IsStoredReturned};
+ghost use Rattle.nd_region.specs.Places.{overwritten_items, run_written};
+ghost use Rattle.nd_region.specs.Region.{region_stored, borrow_of, elements_of, with_element as region_with, with_items as region_items, with_run as region_with_run, IsAsLong};
+ghost use Rattle.nd_storage.specs.ByLayout.{HoldsEach, HasNamed, HasUnnamed};
+ghost use Rattle.nd_storage.specs.Places.{HoldsAll, written_at, swapped_at};
+ghost use Rattle.nd_storage.specs.Scoped.{TakesNamed, GivesNamedBack, IsStoredReturned, MayLendPart, IsPartGivenBack};
 ghost use Rattle.nd_storage.specs.Storages.{shown_by, stored_list, room_of};
-ghost use Rattle.nd_storage.specs.ElementMut.{element_follows, KeepsPlaces, item_kept, item_written, place_kept, place_written};
+ghost use Rattle.nd_storage.specs.ElementMut.{place_ends, KeepsPlaces, item_kept, item_written, place_kept, place_written};
 ghost use Rattle.nd_storage.specs.NewElements.{overwritten_itself, overwritten_again, places_there, places_kept, items_there, items_kept, items_itself, items_again, items_put, items_beside, places_put, places_beside};
 ghost use Rattle.nd_storage.specs.StorageLaws.{WritesOneElement, HoldsWrittenRun, KeepsBesideRun, HoldsLastRefill, HasRefilledItems, KeepsUnfilledPlaces, HoldsWhereBefore};
-ghost use Rattle.nd_storage.specs.RunLent.{run_ends, run_start, HasRunAt, IsRunAt, places_run, places_beside_run, items_run, items_beside_run};
+ghost use Rattle.nd_storage.specs.RunLent.{run_ends, region_ends, run_start, HasRunAt, IsRunAt, HasItemsAt, places_run, places_beside_run, items_run, items_beside_run};
 ghost use Rattle.nd_storage.specs.Lends.{written_from};
 ghost use Rattle.nd_storage.specs.Clones.{StoredClonesAreEqual};
 
@@ -242,9 +243,9 @@ impl<'a, A> ViewMutRepr<'a, A> {
 
     /// Moves the places that a layout names into a storage of their own. They keep their numbers.
     pub fn split<D: Dimension, T: StrideList>(&mut self, layout: &Layout<D, T>) -> Self
-        requires { HoldsAll (region_stored self.old.region) layout.now.offset (D.lengths layout.now.dim) (T.strides_of layout.now.strides) }
-        ensures taken { (place : ℕ) → region_stored result.region place ≡ kept_at (names layout.now.offset (D.lengths layout.now.dim) (T.strides_of layout.now.strides)) (region_stored self.old.region) place }
-        ensures left { (place : ℕ) → region_stored self.new.region place ≡ kept_at (names_not layout.now.offset (D.lengths layout.now.dim) (T.strides_of layout.now.strides)) (region_stored self.old.region) place }
+        requires { HoldsEach (region_stored self.old.region) (placement_of layout.now) }
+        ensures taken { HasNamed (placement_of layout.now) (region_stored self.old.region) (region_stored result.region) }
+        ensures left { HasUnnamed (placement_of layout.now) (region_stored self.old.region) (region_stored self.new.region) }
     {
         RegionRepr {
             region: self
@@ -317,18 +318,18 @@ pub trait DataMut: Data {
     /// The element at a place, to be written.
     fn element_mut(&mut self, place: usize) -> &mut Self::Elem
         requires { IsSome (Self.stored self.old place) }
-        ensures* writes_back { sem 𝓛 (element_follows Self.row Self.Elem.row self.entry result (λ x. (Self.with_element self.old place x).0)) }
+        ensures* writes_back { sem 𝓛 (place_ends Self.row Self.Elem.row self.entry result (Self.with_element self.old place)) }
         ensures value { Self.stored self.old place ≡ Some result.now };
 
     /// The elements at that many places from one on, to be written. None need no place.
     fn lend_run(&mut self, place: usize, count: usize) -> &mut [Self::Elem]
         requires { HasRunAt (Self.stored self.old) place count }
-        ensures* writes_back { sem 𝓛 (run_ends Self.row Self.Elem.row self.entry result (λ ws. (Self.with_run self.old place count ws).0)) }
+        ensures* writes_back { sem 𝓛 (run_ends Self.row Self.Elem.row self.entry result (Self.with_run self.old place count)) }
         ensures values { IsRunAt (Self.stored self.old) place count result.now };
 
     /// Lends all places, for a shorter time.
     fn lend(&mut self) -> Region<'_, Self::Elem>
-        ensures* writes_back { sem 𝓛 (follows Self.row (Array Self.Elem.row 0) self.entry.ghost_name result.name (λ ws. (Self.refilled self.old ws).0)) }
+        ensures* writes_back { sem 𝓛 (region_ends Self.row Self.Elem.row self.entry result (Self.refilled self.old)) }
         ensures places { (place : ℕ) → region_stored result place ≡ Self.stored self.old place }
         ensures items { elements_of result ≡ Self.items self.old };
 
@@ -546,14 +547,14 @@ pub fn part_of_slice<A, R, F: for<'b> FnOnce(Region<'b, A>) -> (Region<'b, A>, R
     requires holds { HoldsAll (slice_get items.old) offset lengths.now strides.now }
     requires callable { TakesNamed (F.pre f) (slice_get items.old) offset lengths.now strides.now }
     requires returns { GivesNamedBack (F.post f) (slice_get items.old) offset lengths.now strides.now }
-    ensures part { IsNamedReturned (F.post f) (slice_get items.old) (slice_get items.new) offset lengths.now strides.now result }
+    ensures part { IsStoredReturned (F.post f) slice_get items.old items.new offset lengths.now strides.now result }
     ensures long { length items.new ≡ length items.old }
 {
     with_region(
         items,
         |region|
-            requires { (length lengths.now ≡ length strides.now) × HasPlaces region offset lengths.now strides.now × TakesPart (F.pre f) (names offset lengths.now strides.now) region × GivesPartBack (F.post f) (names offset lengths.now strides.now) region }
-            ensures part { IsPartReturned (F.post f) (names offset lengths.entry.now strides.entry.now) region.entry result.0 result.1 }
+            requires { MayLendPart (F.pre f) (F.post f) offset lengths.now strides.now region }
+            ensures part { IsPartGivenBack (F.post f) offset lengths.entry.now strides.entry.now region.entry result.0 result.1 }
             ensures same { borrow_of result.0 ≡ borrow_of region.entry }
             ensures long { IsAsLong region.entry result.0 }
         {
@@ -578,9 +579,9 @@ pub fn cloned_storage<A: Clone>(storage: &OwnedRepr<A>) -> Result<OwnedRepr<A>, 
 impl<'a, A> ViewRepr<'a, A> {
     /// That many elements from a place on.
     pub fn run(self, first: usize, count: usize) -> &'a [A]
-        requires { (k : ℕ) → k < count → is_some (shown_by self (first + k)) ≡ true }
+        requires { HasRunAt (shown_by self) first count }
         ensures count { length result.now ≡ count }
-        ensures elements { (k : ℕ) (d : A) → k < count → shown_by self.entry (first + k) ≡ Some (slice_index_or result.now k d) }
+        ensures elements { HasItemsAt (shown_by self.entry) first count result.now }
     {
         self.region.run(first, count)
     }

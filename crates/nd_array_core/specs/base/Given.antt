@@ -10,6 +10,7 @@ use Rattle.nd_shape_and_slice.specs.declared.errors.ErrorKind.{ErrorKind}
 use Rattle.nd_layout.specs.Refusals.{vec_refusal, slice_refusal, slice_mut_refusal}
 use Rattle.nd_array_core.specs.declared.base.from_shape.GivenIn.{GivenIn}
 use Rattle.nd_array_core.specs.declared.base.from_shape.GivenIn.TheVariants.{Vector, Slice, SliceMut}
+use Rattle.nd_array_core.specs.scoped.Sources.{GivenShape}
 
 -- why a shape, strides of the caller's and a count of elements don't fit together
 abbrev pub refusal_in : GivenIn → List ℕ → Option (List ℤ) → ℕ → Option ErrorKind
@@ -36,3 +37,18 @@ pub record IsLaidOut (lengths : List ℕ) (order : Order) (strides : Option (Lis
   pub places : (i : List ℕ) → in_box lengths i ≡ true → place_of layout.offset layout.strides i ≡ given_place lengths order strides i
   pub holds : HoldsAll (first_places count) layout.offset layout.lengths layout.strides
   pub separated : alone ≡ true → 0 < size_of lengths → IsSeparated layout.lengths layout.strides
+
+-- where two indexes may share no element: where there are elements, the strides keep them apart
+abbrev pub KeepsApartIn : GivenIn → List ℕ → List ℤ → Type 0
+KeepsApartIn given_in ns ss = is_apart_in given_in ≡ true → 0 < size_of ns → IsSeparated ns ss
+
+-- the same by what a caller gives as a shape: why elements can't be laid out so, and how they lie
+abbrev pub refusal_meant : GivenIn → GivenShape → ℕ → Option ErrorKind
+refusal_meant given_in given count = refusal_in given_in given.0 given.2 count
+
+abbrev pub IsLaidOutAs : GivenShape → GivenIn → ℕ → Placement → Type 0
+IsLaidOutAs given given_in count layout = IsLaidOut given.0 given.1 given.2 (is_apart_in given_in) count layout
+
+-- by strides of the caller's the order says nothing
+abbrev pub IsLaidByStrides : List ℕ → List ℤ → GivenIn → ℕ → Placement → Type 0
+IsLaidByStrides ns ss given_in count layout = (order : Order) → IsLaidOut ns order (Some ss) (is_apart_in given_in) count layout

@@ -1,5 +1,5 @@
 -- What a view of a slice or of rows is.
-use Rattle.std.specs.Prelude.{◌≡◌, ℕ, List, length, replicate, slice_get}
+use Rattle.std.specs.Prelude.{◌≡◌, ℕ, List, length, replicate, slice_get, Option}
 use Rattle.nd_shape_and_slice.specs.declared.dimension.Dimension as dimension
 use Rattle.nd_shape_and_slice.specs.declared.dimension.AxisCount as axis_count
 use Rattle.nd_shape_and_slice.specs.declared.dimension.StrideList as stride_list
@@ -7,8 +7,14 @@ use Rattle.nd_shape_and_slice.specs.Shape.{row_rank, HasCheckedSize}
 use Rattle.nd_shape_and_slice.specs.Strides.{c_strides}
 use Rattle.nd_storage.specs.declared.storage.Data as data_trait
 use Rattle.nd_array_core.specs.declared.base.array.ArrayBase.{ArrayBase}
-use Rattle.nd_array_core.specs.Meaning.{shape_of, element_at, layout_strides}
+use Rattle.nd_array_core.specs.Meaning.{shape_of, element_at, layout_strides, layout_offset}
 use Rattle.nd_storage.specs.Meaning.{inside}
+use Rattle.nd_shape_and_slice.specs.Place.{place_of}
+use Rattle.nd_layout.specs.Ranks.{rank_in}
+use Rattle.nd_layout.specs.GivenStrides.{given_place}
+use Rattle.nd_storage.specs.Places.{stored_at}
+use Rattle.nd_storage.specs.ByRank.{BuiltShape}
+use Rattle.nd_array_core.specs.scoped.Sources.{GivenShape}
 
 module _ {S D T A P R L M : Type 0} {s : data_trait.Ghosts S A} {d : dimension.Ghosts D P R L M} {n : axis_count.Ghosts D} {r : stride_list.Ghosts R} {t : stride_list.Ghosts T} where
   -- the elements xs under these lengths, in row-major order; without elements where the lengths have no checked size
@@ -16,3 +22,18 @@ module _ {S D T A P R L M : Type 0} {s : data_trait.Ghosts S A} {d : dimension.G
   IsRowMajorOf ns xs view =
       (HasCheckedSize ns → (shape_of view ≡ ns) × (layout_strides view ≡ c_strides ns) × ((i : List ℕ) → element_at view i ≡ inside ns i (slice_get xs (row_rank ns i))))
       × ((HasCheckedSize ns → ⊥) → shape_of view ≡ replicate (length ns) 0)
+
+  -- the array shows at each index what a map has by the index's rank in an order, or at the place that a given shape says
+  abbrev pub ShowsRanked : BuiltShape → (ℕ → Option A) → ArrayBase S D T A P R L M s d n r t → Type 0
+  ShowsRanked built stored a = (i : List ℕ) → element_at a i ≡ inside built.0 i (stored (rank_in built.1 built.0 i))
+
+  abbrev pub ShowsGiven : GivenShape → (ℕ → Option A) → ArrayBase S D T A P R L M s d n r t → Type 0
+  ShowsGiven given stored a = (i : List ℕ) → element_at a i ≡ inside given.0 i (stored_at stored (given_place given.0 given.1 given.2 i))
+
+  -- or what it has at the place that the array's own layout gives the index
+  abbrev pub ShowsPlaces : (ℕ → Option A) → ArrayBase S D T A P R L M s d n r t → Type 0
+  ShowsPlaces stored a = (i : List ℕ) → element_at a i ≡ inside (shape_of a) i (stored_at stored (place_of (layout_offset a) (layout_strides a) i))
+
+  -- where the lengths have a checked size, the array has them, lies in row-major order, and shows what a map has by rank
+  abbrev pub IsRowMajorIn : List ℕ → (ℕ → Option A) → ArrayBase S D T A P R L M s d n r t → Type 0
+  IsRowMajorIn ns stored a = HasCheckedSize ns → (shape_of a ≡ ns) × (layout_strides a ≡ c_strides ns) × ((i : List ℕ) → element_at a i ≡ inside ns i (stored (row_rank ns i)))

@@ -1,5 +1,5 @@
 -- One array behind another along an axis, in the storage of the first.
-use Rattle.std.specs.Prelude.{ℕ, ◌+◌, ◌<◌, ◌≡◌, true, List, length, slice_get, slice_index, slice_set, Option}
+use Rattle.std.specs.Prelude.{ℕ, ◌+◌, ◌<◌, ◌≡◌, true, List, length, slice_get, slice_index, slice_set, Option, ◌≤◌, [], vec_len, vec_capacity}
 use Rattle.nd_shape_and_slice.specs.Shape.{in_box, size_of, HasCheckedSize}
 use Rattle.nd_shape_and_slice.specs.Place.{place_of}
 use Rattle.nd_shape_and_slice.specs.Broadcast.{stretches}
@@ -8,13 +8,26 @@ use Rattle.nd_shape_and_slice.specs.declared.errors.ErrorKind.{ErrorKind}
 use Rattle.nd_shape_and_slice.specs.declared.errors.ErrorKind.TheVariants.{IncompatibleShape, Overflow}
 use Rattle.nd_array_core.specs.declared.base.array_error.ArrayError.{ArrayError}
 use Rattle.nd_array_core.specs.declared.base.array_error.ArrayError.TheVariants.{Shape, NoMemory}
-use Rattle.nd_layout.specs.Placements.{Placement}
+use Rattle.nd_layout.specs.Placements.{Placement, as_placement, placement_of}
 use Rattle.nd_storage.specs.Collected.{IsFront}
 use Rattle.nd_array_core.specs.Joined.{concatenated, concatenated_alike, concatenated_shape, shape_behind}
 use Rattle.nd_array_core.specs.Laws.{with_axis_inserted}
-use Rattle.nd_array_core.specs.growth.Reserved.{added_elements}
+use Rattle.nd_array_core.specs.growth.Reserved.{added_elements, HasRoomFor}
 use Rattle.nd_storage.specs.Meaning.{Meaning}
 use Rattle.nd_storage.specs.Places.{stored_at}
+use Rattle.std.specs.declared.vec.Vec.{Vec}
+use Rattle.nd_layout.specs.Growth.{growing_strides}
+use Rattle.nd_layout.specs.MemoryOrder.{IsGrown}
+use Rattle.nd_layout.specs.declared.layout.Layout.{Layout}
+use Rattle.nd_storage.specs.declared.storage.OwnedRepr.{OwnedRepr}
+use Rattle.nd_storage.specs.Storages.{stored_list, room_of}
+use Rattle.nd_array_core.specs.Meaning.{shape_of, element_at}
+use Rattle.nd_array_core.specs.declared.base.array.ArrayBase.{ArrayBase}
+use Rattle.nd_shape_and_slice.specs.declared.dimension.Dimension as dimension
+use Rattle.nd_shape_and_slice.specs.declared.dimension.AxisCount as axis_count
+use Rattle.nd_shape_and_slice.specs.declared.dimension.StrideList as stride_list
+use Rattle.nd_storage.specs.declared.storage.Data as data_trait
+use Rattle.nd_storage.specs.CloneRefusals.{MayRefuseClone}
 
 -- an array of the second shape can be broadcast to come behind one of the first along the axis: there are axes, as many in
 -- both, and each other length of the second is the first's, or it is 1
@@ -69,3 +82,40 @@ pub record ArePutBehind {A : Type 0} (grown : Placement) (axis from : ℕ) (shap
   pub front : IsFront old new
   pub count : length new ≡ length old + size_of shape
   pub put : (i : List ℕ) → in_box shape i ≡ true → stored_at (slice_get new) (place_of grown.offset grown.strides (upper_index axis from i)) ≡ at i
+
+module _ {S D A T P R L M : Type 0} {s : data_trait.Ghosts S A} {d : dimension.Ghosts D P R L M} {n : axis_count.Ghosts D} {r : stride_list.Ghosts R} {t : stride_list.Ghosts T} where
+  -- the same of an array's elements and of vectors
+  abbrev pub PutsBehind : {Z : Type 0} → Placement → ℕ → ℕ → ArrayBase S D T A P R L M s d n r t → Vec A Z → Vec A Z → Type 0
+  PutsBehind grown axis from a old new = ArePutBehind grown axis from (shape_of a) (element_at a) old.items new.items
+
+  -- of one of its elements a clone may be refused
+  abbrev pub MayRefuseCloneOf : (A → Type 0) → ArrayBase S D T A P R L M s d n r t → Type 0
+  MayRefuseCloneOf is_infallible a = MayRefuseClone is_infallible (element_at a)
+
+  -- the vector has capacity for as many elements more
+  abbrev pub HasCapacityFor : {Z : Type 0} → ArrayBase S D T A P R L M s d n r t → Vec A Z → Type 0
+  HasCapacityFor a items = vec_len items + size_of (shape_of a) ≤ vec_capacity items
+
+  -- the storage has room for as many more, or for as many in place of its own
+  abbrev pub HasRoomBehind : ArrayBase S D T A P R L M s d n r t → OwnedRepr A → Type 0
+  HasRoomBehind a storage = HasRoomFor (size_of (shape_of a)) storage
+
+  abbrev pub FitsInto : ArrayBase S D T A P R L M s d n r t → OwnedRepr A → Type 0
+  FitsInto a storage = size_of (shape_of a) ≤ room_of storage
+
+  module _ {E U Q X V W : Type 0} {e : dimension.Ghosts E Q X V W} {k : axis_count.Ghosts E} {x : stride_list.Ghosts X} {u : stride_list.Ghosts U} where
+    -- the layout has grown along the axis by the array's length there
+    abbrev pub GrowsBy : ℕ → ArrayBase S D T A P R L M s d n r t → Layout E U Q X V W e k x u → Layout E U Q X V W e k x u → Type 0
+    GrowsBy axis a old new = IsGrown (placement_of old) axis (slice_index (shape_of a) axis) (placement_of new)
+
+    -- and the array's elements have come behind those of the storage
+    abbrev pub ComesBehind : ℕ → ArrayBase S D T A P R L M s d n r t → Layout E U Q X V W e k x u → Layout E U Q X V W e k x u → OwnedRepr A → OwnedRepr A → Type 0
+    ComesBehind axis a old new storage filled =
+        ArePutBehind (placement_of new) axis (slice_index (e.lengths old.dim) axis) (shape_of a) (element_at a) (stored_list storage) (stored_list filled)
+
+    -- the layout is that of fresh storage for the array, which is to grow along the axis, and its elements are there alone
+    abbrev pub LiesFresh : ℕ → ArrayBase S D T A P R L M s d n r t → Layout E U Q X V W e k x u → Type 0
+    LiesFresh axis a l = placement_of l ≡ as_placement 0 (shape_of a) (growing_strides axis (shape_of a))
+
+    abbrev pub ComesFresh : ℕ → ArrayBase S D T A P R L M s d n r t → Layout E U Q X V W e k x u → OwnedRepr A → Type 0
+    ComesFresh axis a l filled = ArePutBehind (placement_of l) axis 0 (shape_of a) (element_at a) [] (stored_list filled)

@@ -20,7 +20,7 @@ use Rattle.nd_storage.specs.Clones.{ClonesOfAllAreEqual}
 use Rattle.nd_array_core.specs.base.Fresh.{OwnsInOrder}
 use Rattle.nd_array_core.specs.reshape.Regrouped.{IsShapeOf, LiesInOrder}
 use Rattle.nd_array_core.specs.reshape.RunSlices.{IsStandardArray}
-use Rattle.nd_array_core.specs.reshape.Serving.{SomeServe, StridesServe, ShowsServed, KeepsRanks}
+use Rattle.nd_array_core.specs.reshape.Serving.{SomeServe, StridesServe, ShowsServed, KeepsRanks, regrouped_meaning}
 
 module _ {A V S D P R L M : Type 0} {v : data_trait.Ghosts V A} {s : data_trait.Ghosts S A} {d : dimension.Ghosts D P R L M} {n : axis_count.Ghosts D} {r : stride_list.Ghosts R} where
   -- whether it is a view
@@ -72,6 +72,10 @@ module _
   abbrev pub ViewsOrCopies : ArrayBase S D T A P R L M s d n r t → Order → List ℕ → EitherArray A Z (OwnedRepr A) E Q X V W z o e k x → Type 0
   ViewsOrCopies a order ms (View b) = StridesServe a order ms × ShowsServed a order ms b
   ViewsOrCopies a order ms (Owned b) = (StridesServe a order ms → ⊥) × OwnsInOrder (ms, order) b × KeepsRanks a order ms b
+
+  -- either shows the elements under the lengths ms, each with its rank in an order
+  abbrev pub ShowsRegrouped : ArrayBase S D T A P R L M s d n r t → Order → List ℕ → EitherArray A Z (OwnedRepr A) E Q X V W z o e k x → Type 0
+  ShowsRegrouped a order ms either = meaning_in either ≡ regrouped_meaning order ms (meaning_of a)
 
   -- where strides serve these lengths, the answer is a view; the same where they must be a shape of the elements too
   abbrev pub IsViewIfServed : {B : Type 0} → ArrayBase S D T A P R L M s d n r t → Order → List ℕ → Result (EitherArray A Z (OwnedRepr A) E Q X V W z o e k x) B → Type 0

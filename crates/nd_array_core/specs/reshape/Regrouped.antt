@@ -15,6 +15,7 @@ use Rattle.nd_storage.specs.declared.storage.Data as data_trait
 use Rattle.nd_array_core.specs.declared.base.array.ArrayBase.{ArrayBase}
 use Rattle.nd_array_core.specs.Meaning.{shape_of, layout_strides}
 use Rattle.nd_array_core.specs.Part.{Part, BecomesPart}
+use Rattle.nd_layout.specs.Placements.{Placement}
 
 -- the index of the lengths ns that has the rank of an index of the lengths ms
 abbrev pub regrouped_index : Order → List ℕ → List ℕ → List ℕ → List ℕ
@@ -33,6 +34,10 @@ IsShapeOf ns ms = HasCheckedSize ms × (size_of ms ≡ size_of ns)
 pub data IsRefused (order : Order) (ns : List ℕ) (ss : List ℤ) (ms : List ℕ) : ErrorKind → Type 0 where
   NoShape : (IsShapeOf ns ms → ⊥) → IsRefused order ns ss ms IncompatibleShape
   NotInOrder : IsShapeOf ns ms → (IsInOrder order ns ss → ⊥) → IsRefused order ns ss ms IncompatibleLayout
+
+-- the same of elements that lie by a placement
+abbrev pub IsRefusedFor : Order → Placement → List ℕ → ErrorKind → Type 0
+IsRefusedFor order l ms e = IsRefused order l.lengths l.strides ms e
 
 -- why they can't be seen so in either order
 abbrev pub IsRefusedInBoth : List ℕ → List ℤ → List ℕ → ErrorKind → Type 0

@@ -1,12 +1,12 @@
 -- Another shape of the same elements under strides that give them the same places, where some do.
-use Rattle.std.specs.Prelude.{ℕ, ◌≡◌, ◌<◌, ◌≤◌, List, ℤ, pos, length, replicate}
+use Rattle.std.specs.Prelude.{ℕ, ◌≡◌, ◌<◌, ◌≤◌, List, ℤ, pos, length, replicate, slice_get}
 use Rattle.nd_shape_and_slice.specs.declared.dimension.Dimension as dimension
 use Rattle.nd_shape_and_slice.specs.declared.dimension.AxisCount as axis_count
 use Rattle.nd_shape_and_slice.specs.declared.dimension.StrideList as stride_list
 use Rattle.nd_shape_and_slice.specs.declared.builder.Order.{Order}
 use Rattle.nd_shape_and_slice.specs.Shape.{size_of}
 use Rattle.nd_shape_and_slice.specs.Place.{span_of, IsSeparated}
-use Rattle.nd_layout.specs.Ranks.{Serves}
+use Rattle.nd_layout.specs.Ranks.{Serves, index_in}
 use Rattle.nd_layout.specs.Strides.{RestsAtOnes}
 use Rattle.nd_storage.specs.declared.storage.Data as data_trait
 use Rattle.nd_array_core.specs.declared.base.array.ArrayBase.{ArrayBase}
@@ -14,6 +14,8 @@ use Rattle.nd_storage.specs.Meaning.{Meaning, inside}
 use Rattle.nd_array_core.specs.Meaning.{shape_of, element_at, layout_strides, layout_offset}
 use Rattle.nd_array_core.specs.Part.{Part, ShowsPart}
 use Rattle.nd_array_core.specs.reshape.Regrouped.{regrouped_index}
+use Rattle.nd_layout.specs.Placements.{Placement, IsViewStepOf}
+use Rattle.nd_layout.specs.declared.layout.Layout.{Layout}
 
 -- some integers, one for each axis, give every index of the lengths ms the place of the index that has its rank in the
 -- order among those of a layout
@@ -57,3 +59,29 @@ module _
       ShowsPart a (regrouped_part a order ms (layout_strides b)) b
       × IsServedBy order (shape_of a) (layout_strides a) ms (layout_strides b)
       × (layout_offset b ≡ layout_offset a)
+
+-- ---- the same of elements that lie by a placement
+-- other lengths can have strides in an order
+abbrev pub SomeServeFor : Order → Placement → List ℕ → Type 0
+SomeServeFor order l ms = SomeServe order l.lengths l.strides ms
+
+-- the second placement sees the elements of the first under other lengths, each with its rank in the order
+abbrev pub IsRegroupedStep : Order → Placement → List ℕ → Placement → Type 0
+IsRegroupedStep order old ms new = IsViewStepOf old new (regrouped_index order old.lengths ms)
+
+-- where there are elements of these lengths, no two indexes have one place; or they haven't where they hadn't before
+abbrev pub IsApartFor : List ℕ → Placement → Type 0
+IsApartFor ms l = 0 < size_of ms → IsSeparated l.lengths l.strides
+
+abbrev pub StaysApartFor : List ℕ → Placement → Placement → Type 0
+StaysApartFor ms old new = 0 < size_of ms → IsSeparated old.lengths old.strides → IsSeparated new.lengths new.strides
+
+-- the strides serve the other lengths over a layout
+module _ {D T P R L M : Type 0} {d : dimension.Ghosts D P R L M} {n : axis_count.Ghosts D} {r : stride_list.Ghosts R} {t : stride_list.Ghosts T} where
+  abbrev pub IsServedOver : Order → Layout D T P R L M d n r t → List ℕ → List ℤ → Type 0
+  IsServedOver order l ms ts = IsServedBy order (d.lengths l.dim) (t.strides_of l.strides) ms ts
+
+-- the list has the array's elements by their rank in an order
+module _ {S D A T P R L M : Type 0} {s : data_trait.Ghosts S A} {d : dimension.Ghosts D P R L M} {n : axis_count.Ghosts D} {r : stride_list.Ghosts R} {t : stride_list.Ghosts T} where
+  abbrev pub ListsInOrder : Order → ArrayBase S D T A P R L M s d n r t → List A → Type 0
+  ListsInOrder order a xs = (rank : ℕ) → rank < size_of (shape_of a) → slice_get xs rank ≡ element_at a (index_in order (shape_of a) rank)

@@ -15,9 +15,15 @@ use Rattle.nd_shape_and_slice.specs.declared.dimension.AxisCount as axis_count
 use Rattle.nd_shape_and_slice.specs.declared.dimension.StrideList as stride_list
 use Rattle.nd_storage.specs.declared.storage.Data as data_trait
 use Rattle.nd_storage.specs.Meaning.{inside}
-use Rattle.nd_storage.specs.elements.Changes.{ChangeableInAnyOrder, ChangesAll, ChangesBy}
+use Rattle.nd_storage.specs.elements.Changes.{ChangeableInAnyOrder, ChangesAll, ChangesBy, ChangesAlike}
 use Rattle.nd_array_core.specs.declared.base.array.ArrayBase.{ArrayBase}
 use Rattle.nd_array_core.specs.Meaning.{shape_of, element_at}
+use Rattle.nd_storage.specs.elements.Pairs.{IsOldOrOf}
+use Rattle.nd_region.specs.declared.region.Region.{Region}
+use Rattle.nd_storage.specs.declared.storage.RegionRepr.{RegionRepr}
+use Rattle.nd_array_core.specs.declared.scoped.with_view_mut.LentView.{LentView}
+use Rattle.nd_array_core.specs.PlacedArray.{element_placed}
+use Rattle.nd_array_core.specs.scoped.Tasks.{lent_view, view_left}
 
 -- ---- the index of a part that stands for one of the array
 -- the coordinate under a slice: how many steps lead to it, up from the low end, or down from the last coordinate of the range
@@ -75,3 +81,23 @@ module _
   -- each index of the array that the list names has the patch's element at the index that stands for it
   abbrev pub AssignsNamed : ArrayBase S D T A P R L M s d n r t → ArrayBase S D T A P R L M s d n r t → List SliceInfoElem → ArrayBase Z E U A Q X V W z e k x u → Type 0
   AssignsNamed old new slices patch = (i : List ℕ) → in_box (shape_of old) i ≡ true → names_index (shape_of old) slices i ≡ true → element_at new i ≡ element_at patch (index_after (shape_of old) slices i)
+
+-- ---- of a view as it is lent, and as its elements are given back
+module _ {A D T : Type 0} (lengths : D → List ℕ) (strides : T → List ℤ) (at : List ℕ → Option A) (l : LentView A D T) (back : RegionRepr (Region A)) where
+  -- it shows what a map has at each index; or that, or what it had
+  abbrev pub IsShown : Type 0
+  IsShown = (i : List ℕ) → element_placed (view_left lengths strides l back) i ≡ at i
+
+  abbrev pub IsOldOr : Type 0
+  IsOldOr = IsOldOrOf (element_placed (lent_view lengths strides l)) at (element_placed (view_left lengths strides l back))
+
+module _ {F A D T : Type 0} (g : Mut F (MutBor A × Unit {0}) (Unit {0} × (MutBor A × Unit {0}))) (lengths : D → List ℕ) (strides : T → List ℤ) (l : LentView A D T) where
+  -- a closure may be handed each element, to be written; it was; and it left what a function gives
+  abbrev pub MayChangeView : F → Type 0
+  MayChangeView f = ChangeableInAnyOrder g (lent_view lengths strides l).shape (element_placed (lent_view lengths strides l)) f
+
+  abbrev pub ChangesView : RegionRepr (Region A) → F → Type 0
+  ChangesView back f = ChangesAll g (lent_view lengths strides l).shape (element_placed (lent_view lengths strides l)) (element_placed (view_left lengths strides l back)) f
+
+  abbrev pub ChangesViewAlike : RegionRepr (Region A) → F → Type 0
+  ChangesViewAlike back f = ChangesAlike g f (element_placed (lent_view lengths strides l)) (element_placed (view_left lengths strides l back))

@@ -1,7 +1,8 @@
 //! The lanes of an axis, each folded into a value.
 #![tactic(auto, unfolding(crate::specs::Meaning::meaning_of, crate::specs::Meaning::memory_layout_of))]
 
-ghost use Rattle.std.specs.Prelude.{◌≡◌, ◌<◌, IfOk, length};
+ghost use Rattle.std.specs.Prelude.{◌≡◌, ◌<◌, IfOk, OnErr, length};
+ghost use Rattle.nd_shape_and_slice.specs.Shape.{size_of};
 ghost use Rattle.nd_shape_and_slice.specs.Maps.{indexed_shape};
 ghost use Rattle.nd_array_core.specs.Meaning.{shape_of, element_at};
 ghost use Rattle.nd_storage.specs.Clones.{ClonesAreEqual};
@@ -39,6 +40,7 @@ where
         ensures shape { IfOk result (λ a. shape_of a ≡ indexed_shape (shape_of self.now) axis.0) }
         ensures visits { IfOk result (λ a. FoldsLanes F.FnMut self.now axis.0 init f (element_at a)) }
         ensures alike { IfOk result (λ a. FoldsLanesAlike F.FnMut self.now axis.0 init f (element_at a)) }
+        ensures refused { OnErr result (0 < size_of (indexed_shape (shape_of self.now) axis.0)) }
     {
         let firsts = first_places(&self.layout, axis);
         let count = self.len_of(axis);

@@ -1,7 +1,7 @@
 //! What a closure returns for each lane of an axis.
 #![tactic(auto, unfolding(crate::specs::Meaning::meaning_of, crate::specs::Meaning::memory_layout_of))]
 
-ghost use Rattle.std.specs.Prelude.{◌≡◌, ◌<◌, ◌≤◌, [], IfOk, length, slice_index, vec_len, vec_capacity};
+ghost use Rattle.std.specs.Prelude.{◌≡◌, ◌<◌, ◌≤◌, [], IfOk, OnErr, length, slice_index, vec_len, vec_capacity};
 ghost use Rattle.nd_shape_and_slice.specs.Shape.{size_of};
 ghost use Rattle.nd_shape_and_slice.specs.Maps.{indexed_shape, indexed_index};
 ghost use Rattle.nd_shape_and_slice.specs.declared.builder.Order.TheVariants.{RowMajor};
@@ -71,6 +71,7 @@ where
         ensures shape { IfOk result (λ a. shape_of a ≡ indexed_shape (shape_of self.now) axis.0) }
         ensures visits { IfOk result (λ a. HasAnswersOfLanes F.FnMut (meaning_of self.now) axis.0 f (element_at a)) }
         ensures alike { IfOk result (λ a. MapsLanesAlike F.FnMut (meaning_of self.now) axis.0 f (element_at a)) }
+        ensures refused { OnErr result (0 < size_of (indexed_shape (shape_of self.now) axis.0)) }
     {
         let outer = first_places(&self.layout, axis);
         let room = room_of(alloc, outer.dim.size())?;

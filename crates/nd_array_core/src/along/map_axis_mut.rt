@@ -1,7 +1,8 @@
 //! What a closure returns for each lane of an axis, which it is handed to be written.
 #![tactic(auto, unfolding(crate::specs::Meaning::meaning_of, crate::specs::Meaning::memory_layout_of))]
 
-ghost use Rattle.std.specs.Prelude.{◌≡◌, ◌<◌, ℕ, IfOk, IfErr, length, List, OnOk};
+ghost use Rattle.std.specs.Prelude.{◌≡◌, ◌<◌, ℕ, IfOk, IfErr, length, List, OnOk, OnErr};
+ghost use Rattle.nd_shape_and_slice.specs.Shape.{size_of};
 ghost use Rattle.nd_shape_and_slice.specs.Maps.{indexed_shape};
 ghost use Rattle.nd_array_core.specs.along.LanesWritten.{KeepsLanes, HandableLanes, HandsOutLanes, LeavesLanesAlike, AnswersLanesAlike};
 
@@ -41,6 +42,7 @@ where
         ensures visits { IfOk result (λ a. HandsOutLanes F.FnMut axis.0 f (meaning_of self.old) (meaning_of self.new) (element_at a)) }
         ensures alike { OnOk result (LeavesLanesAlike F.FnMut axis.0 f (meaning_of self.old) (element_at self.new)) }
         ensures answered { IfOk result (λ a. AnswersLanesAlike F.FnMut axis.0 f (meaning_of self.old) (element_at a)) }
+        ensures refused { OnErr result (0 < size_of (indexed_shape (shape_of self.old) axis.0)) }
         ensures kept { IfErr result (λ _. (i : List ℕ) → element_at self.new i ≡ element_at self.old i) }
         ensures frame { KeepsFrame S.frame self.old self.new }
     {

@@ -1,7 +1,7 @@
 //! New arrays: of a vector's elements, of what an iterator gives, and of one value at every index.
 #![tactic(auto, unfolding(crate::specs::Meaning::meaning_of, crate::specs::Meaning::memory_layout_of))]
 
-ghost use Rattle.std.specs.Prelude.{◌≡◌, [], ◌∷◌, length, replicate, IfOk, vec_len, vec_capacity};
+ghost use Rattle.std.specs.Prelude.{◌≡◌, ◌<◌, [], ◌∷◌, length, replicate, IfOk, OnErr, vec_len, vec_capacity};
 ghost use Rattle.std.specs.Iterator.{IsFiniteIterable};
 ghost use Rattle.nd_shape_and_slice.specs.Shape.{size_of, HasCheckedSize};
 ghost use Rattle.nd_shape_and_slice.specs.declared.builder.Order.TheVariants.{RowMajor};
@@ -89,6 +89,7 @@ impl<A, D: Dimension> Array<A, D> {
         ensures owns { IfOk result (OwnsInOrder (built_by Sh.ShapeBuilder shape)) }
         ensures elements { IfOk result (ShowsSuch (built_by Sh.ShapeBuilder shape) A.is_default) }
         ensures alike { (x : A) → IsOnly A.is_default x → IfOk result (ShowsOneValue (built_by Sh.ShapeBuilder shape) x) }
+        ensures refused { OnErr result (0 < size_of (Sh.builds_lengths shape)) }
     {
         let shape = shape.into_shape_with_order();
         let items = defaults(alloc, shape.size())?;

@@ -1,26 +1,23 @@
 //! Arrays and views made of a shape and its elements.
 #![tactic(auto, unfolding(crate::specs::Meaning::meaning_of, crate::specs::Meaning::memory_layout_of))]
 
-ghost use Rattle.std.specs.Prelude.{◌≡◌, ◌<◌, ◌≤◌, ℕ, List, true, length, MatchResult, IsSome, IfOk, IfErr, Some, None, slice_get, vec_len, vec_capacity};
+ghost use Rattle.std.specs.Prelude.{◌≡◌, ◌<◌, ◌≤◌, ℕ, true, length, IsSome, IfOk, IfErr, Some, None, slice_get, vec_len, vec_capacity};
 ghost use Rattle.std.specs.Borrow.{sem};
 ghost use Rattle.nd_shape_and_slice.specs.Shape.{size_of, HasCheckedSize};
-ghost use Rattle.nd_shape_and_slice.specs.Place.{place_of, IsSeparated};
 ghost use Rattle.nd_region.specs.Region.{region_stored};
 ghost use Rattle.nd_layout.specs.Strides.{reach_down};
-ghost use Rattle.nd_layout.specs.Ranks.{rank_in};
-ghost use Rattle.nd_layout.specs.GivenStrides.{given_place, ordered_strides, given_strides, offset_given};
+ghost use Rattle.nd_layout.specs.GivenStrides.{ordered_strides};
 ghost use Rattle.nd_layout.specs.Refusals.{elements_asked};
-ghost use Rattle.nd_array_core.specs.Meaning.{shape_of, element_at, storage_of, layout_strides, layout_offset};
-ghost use Rattle.nd_storage.specs.Meaning.{inside};
-ghost use Rattle.nd_storage.specs.Places.{stored_at};
+ghost use Rattle.nd_array_core.specs.Meaning.{shape_of, storage_of, layout_strides, layout_offset};
 ghost use Rattle.nd_storage.specs.Storages.{stored_list, room_of, held_by};
-ghost use Rattle.nd_array_core.specs.base.Given.{refusal_in, is_apart_in, IsLaidOut};
+ghost use Rattle.nd_array_core.specs.base.Given.{refusal_in, is_apart_in, IsLaidOut, refusal_meant, IsLaidOutAs, KeepsApartIn, IsLaidByStrides};
 ghost use Rattle.nd_layout.specs.Placements.{as_placement, placement_of};
 ghost use Rattle.nd_array_core.specs.base.SliceLent.{slice_follows_view};
 ghost use Rattle.nd_array_core.specs.scoped.Tasks.{LiesBy};
 ghost use Rattle.nd_array_core.specs.scoped.Sources.{meant_by, refusal_for, read_refusal, vec_refusal_for, strides_under, offset_under, ShowsUnder};
 ghost use Rattle.nd_shape_and_slice.specs.declared.builder.Order.{Order};
 ghost use Rattle.nd_layout.specs.Steps.{IsValid};
+ghost use Rattle.nd_array_core.specs.base.Sources.{ShowsRanked, ShowsGiven, ShowsPlaces};
 
 use crate::base::array::{Array, ArrayBase, ArrayView, ArrayViewMut};
 use nd_layout::{Layout, offset_in_slice, offset_in_vec, size_in_slice, size_in_vec};
@@ -34,7 +31,7 @@ pub(crate) fn in_order<S: Data, D: Dimension>(storage: S, dim: D, order: Order) 
     requires holds { (place : ℕ) → place < size_of (D.lengths dim) → IsSome (S.stored storage place) }
     ensures shape { shape_of result ≡ D.lengths dim }
     ensures strides { layout_strides result ≡ ordered_strides order (D.lengths dim) }
-    ensures elements { (i : List ℕ) → element_at result i ≡ inside (D.lengths dim) i (S.stored storage (rank_in order (D.lengths dim) i)) }
+    ensures elements { ShowsRanked (D.lengths dim, order) (S.stored storage) result }
     ensures storage { storage_of result ≡ storage }
     ensures offset { layout_offset result ≡ 0 }
 {
@@ -69,7 +66,7 @@ fn given_offset(
     ensures offset { IfOk result (λ offset. offset ≡ reach_down lengths.now strides.now) }
     ensures valid { IfOk result (λ offset. IsValid offset lengths.now strides.now) }
     ensures enough { IfOk result (λ _. elements_asked lengths.now strides.now ≤ count) }
-    ensures apart { IfOk result (λ _. is_apart_in given_in ≡ true → 0 < size_of lengths.now → IsSeparated lengths.now strides.now) }
+    ensures apart { IfOk result (λ _. KeepsApartIn given_in lengths.now strides.now) }
 {
     match given_in {
         GivenIn::Vector => offset_in_vec(lengths, strides, count),
@@ -113,8 +110,8 @@ fn laid_by_strides<D: Dimension>(
     requires valid { IsValid offset (D.lengths dim) (D.Strides.strides_of strides) }
     requires from { offset ≡ reach_down (D.lengths dim) (D.Strides.strides_of strides) }
     requires enough { elements_asked (D.lengths dim) (D.Strides.strides_of strides) ≤ _count }
-    requires apart { is_apart_in given_in ≡ true → 0 < size_of (D.lengths dim) → IsSeparated (D.lengths dim) (D.Strides.strides_of strides) }
-    ensures laid { (order : Order) → IsLaidOut (D.lengths dim) order (Some (D.Strides.strides_of strides)) (is_apart_in given_in) _count (placement_of result) }
+    requires apart { KeepsApartIn given_in (D.lengths dim) (D.Strides.strides_of strides) }
+    ensures laid { IsLaidByStrides (D.lengths dim) (D.Strides.strides_of strides) given_in _count (placement_of result) }
 {
     Layout::strided(offset, dim, strides)
 }
@@ -125,9 +122,9 @@ pub(crate) fn laid_out<D: Dimension, Sh: IntoStrideShape<Dim = D>>(
     count: usize,
     shape: Sh,
 ) -> Result<Layout<D, D::Strides>, ShapeError>
-    ensures refused { IfErr result (λ e. refusal_in given_in (Sh.lengths_meant shape) (Sh.strides_meant shape) count ≡ Some e) }
-    ensures accepted { IfOk result (λ _. refusal_in given_in (Sh.lengths_meant shape) (Sh.strides_meant shape) count ≡ None) }
-    ensures laid { IfOk result (λ l. IsLaidOut (Sh.lengths_meant shape) (Sh.order_meant shape) (Sh.strides_meant shape) (is_apart_in given_in) count (placement_of l)) }
+    ensures refused { IfErr result (λ e. refusal_meant given_in (meant_by Sh.IntoStrideShape shape) count ≡ Some e) }
+    ensures accepted { IfOk result (λ _. refusal_meant given_in (meant_by Sh.IntoStrideShape shape) count ≡ None) }
+    ensures laid { IfOk result (λ l. IsLaidOutAs (meant_by Sh.IntoStrideShape shape) given_in count (placement_of l)) }
 {
     let given = shape.into_stride_shape();
     let dim = *given.raw_dim();
@@ -151,7 +148,7 @@ fn region_laid_out<'a, A, D: Dimension>(
     requires sound { LiesBy (region_stored region) (placement_of layout) }
     ensures region { (storage_of result).region ≡ region.entry }
     ensures placement { as_placement (layout_offset result) (shape_of result) (layout_strides result) ≡ placement_of layout }
-    ensures elements { (i : List ℕ) → element_at result i ≡ inside (shape_of result) i (stored_at (region_stored region.entry) (place_of (layout_offset result) (layout_strides result) i)) }
+    ensures elements { ShowsPlaces (region_stored region.entry) result }
 {
     ArrayBase {
         storage: ViewMutRepr::of_region(region),
@@ -168,13 +165,13 @@ fn under_shape<S: Data + Drop, D: Dimension, Sh: IntoStrideShape<Dim = D>>(
 ) -> Result<ArrayBase<S, D>, ShapeError>
     requires holds { (place : ℕ) → place < count → IsSome (S.stored storage place) }
     requires apart { S.exclusive ≡ true → is_apart_in given_in ≡ true }
-    ensures refused { IfErr result (λ e. refusal_in given_in (Sh.lengths_meant shape) (Sh.strides_meant shape) count ≡ Some e) }
-    ensures accepted { IfOk result (λ _. refusal_in given_in (Sh.lengths_meant shape) (Sh.strides_meant shape) count ≡ None) }
+    ensures refused { IfErr result (λ e. refusal_meant given_in (meant_by Sh.IntoStrideShape shape) count ≡ Some e) }
+    ensures accepted { IfOk result (λ _. refusal_meant given_in (meant_by Sh.IntoStrideShape shape) count ≡ None) }
     ensures shape { IfOk result (λ a. shape_of a ≡ Sh.lengths_meant shape) }
-    ensures strides { IfOk result (λ a. layout_strides a ≡ given_strides (Sh.lengths_meant shape) (Sh.order_meant shape) (Sh.strides_meant shape)) }
-    ensures offset { IfOk result (λ a. layout_offset a ≡ offset_given (Sh.lengths_meant shape) (Sh.strides_meant shape)) }
+    ensures strides { IfOk result (λ a. layout_strides a ≡ strides_under (meant_by Sh.IntoStrideShape shape)) }
+    ensures offset { IfOk result (λ a. layout_offset a ≡ offset_under (meant_by Sh.IntoStrideShape shape)) }
     ensures storage { IfOk result (λ a. storage_of a ≡ storage) }
-    ensures elements { IfOk result (λ a. (i : List ℕ) → element_at a i ≡ inside (Sh.lengths_meant shape) i (stored_at (S.stored storage) (given_place (Sh.lengths_meant shape) (Sh.order_meant shape) (Sh.strides_meant shape) i))) }
+    ensures elements { IfOk result (λ a. ShowsGiven (meant_by Sh.IntoStrideShape shape) (S.stored storage) a) }
 {
     let layout = laid_out(given_in, count, shape)?;
     Ok(ArrayBase { storage, layout })

@@ -1,7 +1,7 @@
 //! New arrays of what a function returns for each index, or for no index at all.
 #![tactic(auto, unfolding(crate::specs::Meaning::meaning_of, crate::specs::Meaning::memory_layout_of))]
 
-ghost use Rattle.std.specs.Prelude.{◌≡◌, ◌<◌, ◌≤◌, ℕ, List, [], IfOk, vec_len, vec_capacity};
+ghost use Rattle.std.specs.Prelude.{◌≡◌, ◌<◌, ◌≤◌, ℕ, List, [], IfOk, OnErr, vec_len, vec_capacity};
 ghost use Rattle.nd_shape_and_slice.specs.Shape.{size_of, HasCheckedSize};
 ghost use Rattle.nd_array_core.specs.Meaning.{element_at};
 ghost use Rattle.nd_storage.specs.FreeOrder.{HasAnswers, AskableInAnyOrder, AnswersIndex, TakesIndex, AnswersByIndex, AnswersNothing, TakesNothing, AnswersAlike, AskableByIndex};
@@ -67,6 +67,7 @@ impl<A, D: Dimension> Array<A, D> {
         ensures visits { IfOk result (ShowsAnswers F.FnMut D.pattern_lengths (Sh.builds_lengths shape) f) }
         ensures alike { ShowsAnswersAlike F.FnMut D.pattern_lengths (built_by Sh.ShapeBuilder shape) f result }
         ensures cells { ShowsCells F.FnMut D.pattern_lengths (Sh.builds_lengths shape) f result }
+        ensures refused { OnErr result (0 < size_of (Sh.builds_lengths shape)) }
     {
         let shape = shape.into_shape_with_order();
         let room = room_for(alloc, shape.size())?;
@@ -86,6 +87,7 @@ impl<A, D: Dimension> Array<A, D> {
         ensures owns { IfOk result (OwnsInOrder (built_by Sh.ShapeBuilder shape)) }
         ensures visits { IfOk result (λ a. HasAnswers (AnswersNothing F.FnMut) (Sh.builds_lengths shape) f (element_at a)) }
         ensures alike { (x : A) → AnswersAlike F.FnMut x f → IfOk result (ShowsOneValue (built_by Sh.ShapeBuilder shape) x) }
+        ensures refused { OnErr result (0 < size_of (Sh.builds_lengths shape)) }
     {
         let shape = shape.into_shape_with_order();
         let room = room_for(alloc, shape.size())?;

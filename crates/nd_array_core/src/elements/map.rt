@@ -1,7 +1,7 @@
 //! New arrays of what a closure returns for each element.
 #![tactic(auto, unfolding(crate::specs::Meaning::meaning_of, crate::specs::Meaning::memory_layout_of))]
 
-ghost use Rattle.std.specs.Prelude.{◌≡◌, ◌<◌, ◌≤◌, [], IfOk, vec_len, vec_capacity};
+ghost use Rattle.std.specs.Prelude.{◌≡◌, ◌<◌, ◌≤◌, [], IfOk, OnErr, vec_len, vec_capacity};
 ghost use Rattle.nd_shape_and_slice.specs.Shape.{size_of};
 ghost use Rattle.nd_array_core.specs.Meaning.{shape_of, meaning_of};
 ghost use Rattle.nd_array_core.specs.reshape.RunSlices.{IsRunArray};
@@ -68,6 +68,7 @@ impl<S: Data, D: Dimension> ArrayBase<S, D> {
         ensures shape { IfOk result (λ a. shape_of a ≡ shape_of self.now) }
         ensures visits { IfOk result (ShowsAnswers (AnswersElement F.FnMut) f self.now) }
         ensures alike { (h : _) → AnswersBy F.FnMut h f → IfOk result (ShowsMapped h self.now) }
+        ensures refused { OnErr result (0 < size_of (shape_of self.now)) }
     {
         let room = room_of(alloc, self.len())?;
         if is_run(self.layout.dim.slice(), self.layout.strides.slice()) {

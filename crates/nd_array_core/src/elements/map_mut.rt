@@ -1,8 +1,9 @@
 //! New arrays of what a closure returns for each element, which it is handed to be written.
 #![tactic(auto, unfolding(crate::specs::Meaning::meaning_of, crate::specs::Meaning::memory_layout_of))]
 
-ghost use Rattle.std.specs.Prelude.{◌≡◌, ◌<◌, ℕ, IfOk, IfErr, List, OnOk};
+ghost use Rattle.std.specs.Prelude.{◌≡◌, ◌<◌, ℕ, IfOk, IfErr, List, OnOk, OnErr};
 ghost use Rattle.nd_array_core.specs.base.Writes.{KeepsFrame};
+ghost use Rattle.nd_shape_and_slice.specs.Shape.{size_of};
 ghost use Rattle.nd_storage.specs.elements.MapsMut.{HandableElements, LeavesAlike, AnswersHandedAlike};
 ghost use Rattle.nd_array_core.specs.elements.ArrayMaps.{ShowsHanded};
 
@@ -31,6 +32,7 @@ impl<S: DataMut, D: Dimension> ArrayBase<S, D> {
         ensures visits { IfOk result (ShowsHanded F.FnMut f self.old self.new) }
         ensures alike { OnOk result (LeavesAlike F.FnMut f (element_at self.old) (element_at self.new)) }
         ensures answered { IfOk result (λ a. AnswersHandedAlike F.FnMut f (element_at self.old) (element_at a)) }
+        ensures refused { OnErr result (0 < size_of (shape_of self.old)) }
         ensures kept { IfErr result (λ _. (i : List ℕ) → element_at self.new i ≡ element_at self.old i) }
         ensures frame { KeepsFrame S.frame self.old self.new }
     {

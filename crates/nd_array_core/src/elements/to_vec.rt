@@ -10,13 +10,14 @@ ghost use Rattle.nd_storage.specs.CloneRefusals.{MayRefuseClone};
 ghost use Rattle.nd_storage.specs.Clones.{ClonesOfAllAreEqual};
 
 use crate::base::array::ArrayBase;
-use nd_shape_and_slice::{Dimension, NoMemory, StrideList};
-use nd_storage::elements::to_vec::{clones_of, list, room_of};
+use nd_shape_and_slice::{Dimension, NoMemory};
+use nd_storage::elements::list_layout::list_layout;
+use nd_storage::elements::to_vec::{clones_of, room_of};
 use nd_storage::storage::Data;
 use std::alloc::Global;
 
-/// Puts clones of the elements, in row-major order, behind those that a vector has: by lanes of axes that are joined where
-/// they continue one another. A refusal leaves some of them there.
+/// Puts clones of the elements, in row-major order, behind those that a vector has: axes are joined where they continue one
+/// another. A refusal leaves some of them there.
 pub(crate) fn list_behind<S: Data, D: Dimension>(
     items: &mut Vec<S::Elem>,
     array: &ArrayBase<S, D>,
@@ -33,13 +34,7 @@ where
 {
     let mut joined = array.layout.copied();
     joined.join_axes();
-    list(
-        items,
-        &array.storage,
-        joined.offset,
-        joined.dim.slice(),
-        joined.strides.slice(),
-    )
+    list_layout(items, &array.storage, &joined)
 }
 
 /// The same of a vector that is handed on; a refusal drops it.

@@ -3,18 +3,14 @@
 
 ghost use Rattle.std.specs.Prelude.{◌↔◌, ◌≡◌, ◌<◌, ◌≤◌, IsTrue, OnOk, OnErr, IfErr, [], length, slice_index};
 ghost use Rattle.nd_shape_and_slice.specs.Shape.{size_of, HasCheckedSize};
-ghost use Rattle.nd_layout.specs.Growth.{growing_strides};
-ghost use Rattle.nd_layout.specs.Placements.{as_placement, placement_of};
-ghost use Rattle.nd_layout.specs.MemoryOrder.{IsGrown};
+ghost use Rattle.nd_layout.specs.Placements.{placement_of};
 ghost use Rattle.nd_array_core.specs.Joined.{concatenated, concatenated_shape};
-ghost use Rattle.nd_array_core.specs.Meaning.{meaning_of, shape_of, element_at, storage_of};
-ghost use Rattle.nd_storage.specs.CloneRefusals.{MayRefuseClone};
+ghost use Rattle.nd_array_core.specs.Meaning.{meaning_of, shape_of, element_at};
 ghost use Rattle.nd_storage.specs.Clones.{ClonesOfAllAreEqual};
 ghost use Rattle.nd_storage.specs.Storages.{stored_list, room_of};
-ghost use Rattle.nd_array_core.specs.growth.Appended.{ArePutBehind, CanComeBehind, IsAppendRefused, JoinsAlike};
+ghost use Rattle.nd_array_core.specs.growth.Appended.{CanComeBehind, IsAppendRefused, JoinsAlike, GrowsBy, ComesBehind, HasRoomBehind, LiesFresh, ComesFresh, FitsInto, MayRefuseCloneOf};
 ghost use Rattle.nd_array_core.specs.growth.Grown.{BecomesReady, CanGrowOn, GoesOn, IsGrownBy, IsLeft, IsReadyAlong, KeepsRoom, LeavesRoom, LeavesRoomBehind, NeedsOnlyClones};
 ghost use Rattle.nd_array_core.specs.growth.Outcomes.{Appended, AppendRefused, ComesAsItIs, GrowsInPlace};
-ghost use Rattle.nd_array_core.specs.growth.Reserved.{HasRoomFor};
 
 use crate::base::array::{Array, ArrayView};
 use crate::base::array_error::ArrayError;
@@ -36,11 +32,11 @@ fn append_behind<A: Clone + Drop, D: Dimension>(
     requires grows { GrowsInPlace axis (placement_of layout.old) (stored_list storage.old) }
     requires more { 0 < size_of (shape_of array.now) }
     requires clones { ClonesOfAllAreEqual A.is_clone (element_at array.now) }
-    ensures grown { OnOk result (IsGrown (placement_of layout.old) axis (slice_index (shape_of array.now) axis) (placement_of layout.new)) }
-    ensures put { OnOk result (ArePutBehind (placement_of layout.new) axis (slice_index (D.lengths layout.old.dim) axis) (shape_of array.now) (element_at array.now) (stored_list storage.old) (stored_list storage.new)) }
+    ensures grown { OnOk result (GrowsBy axis array.now layout.old layout.new) }
+    ensures put { OnOk result (ComesBehind axis array.now layout.old layout.new storage.old storage.new) }
     ensures kept { OnErr result ((stored_list storage.new ≡ stored_list storage.old) × (layout.new ≡ layout.old)) }
     ensures room { room_of storage.old ≤ room_of storage.new }
-    ensures enough { HasRoomFor (size_of (shape_of array.now)) storage.old → OnErr result (MayRefuseClone A.is_infallible (element_at array.now)) }
+    ensures enough { HasRoomBehind array.now storage.old → OnErr result (MayRefuseCloneOf A.is_infallible array.now) }
 {
     let from = layout.dim.length(axis);
     let grown = layout.grown(axis, array.layout.dim.length(axis));
@@ -61,12 +57,12 @@ fn append_fresh<A: Clone + Drop, D: Dimension>(
     requires more { 0 < size_of (shape_of array.now) }
     requires checked { HasCheckedSize (shape_of array.now) }
     requires clones { ClonesOfAllAreEqual A.is_clone (element_at array.now) }
-    ensures laid { OnOk result (placement_of layout.new ≡ as_placement 0 (shape_of array.now) (growing_strides axis (shape_of array.now))) }
-    ensures put { OnOk result (ArePutBehind (placement_of layout.new) axis 0 (shape_of array.now) (element_at array.now) [] (stored_list storage.new)) }
+    ensures laid { OnOk result (LiesFresh axis array.now layout.new) }
+    ensures put { OnOk result (ComesFresh axis array.now layout.new storage.new) }
     ensures kept { OnErr result (layout.new ≡ layout.old) }
     ensures left { OnErr result (stored_list storage.new ≡ []) }
     ensures room { room_of storage.old ≤ room_of storage.new }
-    ensures enough { size_of (shape_of array.now) ≤ room_of storage.old → OnErr result (MayRefuseClone A.is_infallible (element_at array.now)) }
+    ensures enough { FitsInto array.now storage.old → OnErr result (MayRefuseCloneOf A.is_infallible array.now) }
 {
     storage.items.clear();
     let fresh = Layout::growing(array.layout.dim, axis);

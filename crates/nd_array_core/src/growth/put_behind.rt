@@ -1,16 +1,15 @@
 //! The elements of an array put behind those of a vector.
 #![tactic(auto, unfolding(crate::specs::Meaning::meaning_of, crate::specs::Meaning::memory_layout_of))]
 
-ghost use Rattle.std.specs.Prelude.{◌≡◌, ◌+◌, ◌<◌, ◌≤◌, ◌++◌, OnOk, OnErr, length, slice_index, vec_len, vec_capacity};
+ghost use Rattle.std.specs.Prelude.{◌≡◌, ◌+◌, ◌<◌, ◌≤◌, ◌++◌, OnOk, OnErr, length, slice_index, vec_capacity};
 ghost use Rattle.nd_shape_and_slice.specs.Shape.{size_of};
 ghost use Rattle.nd_shape_and_slice.specs.Maps.{lower_shape, upper_shape};
 ghost use Rattle.nd_layout.specs.Placements.{placement_of};
 ghost use Rattle.nd_layout.specs.MemoryOrder.{IsFilledBehind};
 ghost use Rattle.nd_storage.specs.Meaning.{row_major_elements};
 ghost use Rattle.nd_array_core.specs.Meaning.{meaning_of, shape_of, element_at};
-ghost use Rattle.nd_storage.specs.CloneRefusals.{MayRefuseClone};
 ghost use Rattle.nd_storage.specs.Clones.{ClonesOfAllAreEqual};
-ghost use Rattle.nd_array_core.specs.growth.Appended.{ArePutBehind};
+ghost use Rattle.nd_array_core.specs.growth.Appended.{PutsBehind, HasCapacityFor, MayRefuseCloneOf};
 
 use crate::base::array::{ArrayBase, ArrayView};
 use crate::elements::to_vec::list_behind;
@@ -30,7 +29,7 @@ where
     ensures items { OnOk result (items.new.items ≡ items.old.items ++ row_major_elements (meaning_of array.now)) }
     ensures kept { OnErr result (items.new.items ≡ items.old.items) }
     ensures room { vec_capacity items.old ≤ vec_capacity items.new }
-    ensures enough { vec_len items.old + size_of (shape_of array.now) ≤ vec_capacity items.old → OnErr result (MayRefuseClone S.Elem.is_infallible (element_at array.now)) }
+    ensures enough { HasCapacityFor array.now items.old → OnErr result (MayRefuseCloneOf S.Elem.is_infallible array.now) }
 {
     if items.reserve(array.len()).is_err() {
         return Err(NoMemory);
@@ -61,10 +60,10 @@ pub(crate) fn put_behind<A: Clone + Drop, D: Dimension>(
     requires filled { IsFilledBehind (placement_of grown.now) axis from }
     requires count { length items.old.items ≡ size_of (lower_shape (D.lengths grown.now.dim) axis from) }
     requires clones { ClonesOfAllAreEqual A.is_clone (element_at array.now) }
-    ensures put { OnOk result (ArePutBehind (placement_of grown.now) axis from (shape_of array.now) (element_at array.now) items.old.items items.new.items) }
+    ensures put { OnOk result (PutsBehind (placement_of grown.now) axis from array.now items.old items.new) }
     ensures kept { OnErr result (items.new.items ≡ items.old.items) }
     ensures room { vec_capacity items.old ≤ vec_capacity items.new }
-    ensures enough { vec_len items.old + size_of (shape_of array.now) ≤ vec_capacity items.old → OnErr result (MayRefuseClone A.is_infallible (element_at array.now)) }
+    ensures enough { HasCapacityFor array.now items.old → OnErr result (MayRefuseCloneOf A.is_infallible array.now) }
 {
     let turned = ArrayBase {
         storage: array.storage,

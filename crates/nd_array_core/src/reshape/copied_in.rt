@@ -1,15 +1,14 @@
 //! Elements copied in an order, under other lengths.
 #![tactic(auto, unfolding(crate::specs::Meaning::meaning_of, crate::specs::Meaning::memory_layout_of))]
 
-ghost use Rattle.std.specs.Prelude.{◌≡◌, ◌<◌, ℕ, IfOk, vec_len, slice_get};
-ghost use Rattle.nd_shape_and_slice.specs.Shape.{size_of, index_at};
-ghost use Rattle.nd_shape_and_slice.specs.declared.builder.Order.TheVariants.{ColumnMajor};
-ghost use Rattle.nd_layout.specs.Ranks.{index_in};
+ghost use Rattle.std.specs.Prelude.{◌≡◌, ◌<◌, IfOk, vec_len};
+ghost use Rattle.nd_shape_and_slice.specs.Shape.{size_of};
+ghost use Rattle.nd_shape_and_slice.specs.declared.builder.Order.TheVariants.{ColumnMajor, RowMajor};
 ghost use Rattle.nd_array_core.specs.Meaning.{shape_of, element_at};
 ghost use Rattle.nd_storage.specs.Clones.{ClonesOfAllAreEqual};
 ghost use Rattle.nd_array_core.specs.base.Fresh.{OwnsInOrder};
 ghost use Rattle.nd_array_core.specs.reshape.Regrouped.{IsShapeOf};
-ghost use Rattle.nd_array_core.specs.reshape.Serving.{KeepsRanks};
+ghost use Rattle.nd_array_core.specs.reshape.Serving.{KeepsRanks, ListsInOrder};
 
 use crate::base::array::{Array, ArrayBase};
 use crate::base::from_elem::of_items;
@@ -26,7 +25,7 @@ where
     S::Elem: Clone + Drop,
     requires clones { ClonesOfAllAreEqual S.Elem.is_clone (element_at array.now) }
     ensures count { IfOk result (λ v. vec_len v ≡ size_of (shape_of array.now)) }
-    ensures listed { IfOk result (λ v. (rank : ℕ) → rank < size_of (shape_of array.now) → slice_get v.items rank ≡ element_at array.now (index_at (shape_of array.now) rank)) }
+    ensures listed { IfOk result (λ v. ListsInOrder RowMajor array.now v.items) }
 {
     let items = array.to_vec(alloc)?;
     Ok(items)
@@ -41,7 +40,7 @@ where
     S::Elem: Clone + Drop,
     requires clones { ClonesOfAllAreEqual S.Elem.is_clone (element_at array.now) }
     ensures count { IfOk result (λ v. vec_len v ≡ size_of (shape_of array.now)) }
-    ensures listed { IfOk result (λ v. (rank : ℕ) → rank < size_of (shape_of array.now) → slice_get v.items rank ≡ element_at array.now (index_in ColumnMajor (shape_of array.now) rank)) }
+    ensures listed { IfOk result (λ v. ListsInOrder ColumnMajor array.now v.items) }
 {
     let turned = array.t();
     let items = rows_listed(alloc, &turned)?;
@@ -58,7 +57,7 @@ where
     S::Elem: Clone + Drop,
     requires clones { ClonesOfAllAreEqual S.Elem.is_clone (element_at array.now) }
     ensures count { IfOk result (λ v. vec_len v ≡ size_of (shape_of array.now)) }
-    ensures listed { IfOk result (λ v. (rank : ℕ) → rank < size_of (shape_of array.now) → slice_get v.items rank ≡ element_at array.now (index_in order (shape_of array.now) rank)) }
+    ensures listed { IfOk result (λ v. ListsInOrder order array.now v.items) }
 {
     match order {
         Order::RowMajor => rows_listed(alloc, array),

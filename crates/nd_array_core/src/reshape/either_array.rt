@@ -21,7 +21,8 @@ pub enum EitherArray<A, V: Data<Elem = A>, S: Data<Elem = A>, D: Dimension> {
 pub type ViewOrOwned<'a, A, D> = EitherArray<A, ViewRepr<'a, A>, OwnedRepr<A>, D>;
 
 impl<A, V: Data<Elem = A>, S: Data<Elem = A>, D: Dimension> EitherArray<A, V, S, D> {
-    ghost use Rattle.nd_array_core.specs.reshape.Either.{is_view_in, ShowsEither};
+    ghost use Rattle.nd_array_core.specs.reshape.Either.{is_view_in, meaning_in, ShowsEither};
+    ghost use Rattle.nd_array_core.specs.Meaning.{meaning_of};
 
     /// Whether it is a view, so that nothing was copied. ndarray's `CowArray::is_view`.
     pub fn is_view(&self) -> bool
@@ -41,8 +42,10 @@ impl<A, V: Data<Elem = A>, S: Data<Elem = A>, D: Dimension> EitherArray<A, V, S,
     }
 
     /// A read-only view of it, with the same strides. ndarray's `CowArray::view`.
+    #[tactic(auto, using(crate::proofs::law_lemmas::EitherShown::whole_shown))]
     pub fn view(&self) -> ArrayView<'_, A, D>
         ensures whole { ShowsEither self.now result }
+        ensures shown { meaning_of result ≡ meaning_in self.now }
     {
         match self {
             EitherArray::View(view) => view.view(),

@@ -3,12 +3,12 @@
 
 ghost use Rattle.std.specs.Prelude.{◌↔◌, ◌≡◌, ◌<◌, IsTrue, IfOk, IfErr};
 ghost use Rattle.nd_shape_and_slice.specs.Shape.{HasCheckedSize, size_of};
-ghost use Rattle.nd_shape_and_slice.specs.Place.{IsSeparated};
-ghost use Rattle.nd_layout.specs.Steps.{IsViewStep};
 ghost use Rattle.nd_layout.specs.GivenStrides.{ordered_strides};
 ghost use Rattle.nd_array_core.specs.Meaning.{shape_of, layout_strides, layout_offset};
-ghost use Rattle.nd_array_core.specs.reshape.Regrouped.{IsInOrder, IsShapeOf, IsRefused, IsOrderTried, regrouped_index, IsRefusedInBoth, LiesInOrder, RefusesShapeInOrder, IsReshapeOf};
+ghost use Rattle.nd_array_core.specs.reshape.Regrouped.{IsInOrder, IsShapeOf, IsOrderTried, IsRefusedInBoth, LiesInOrder, RefusesShapeInOrder, IsReshapeOf, IsRefusedFor};
 ghost use Rattle.nd_shape_and_slice.specs.declared.builder.Order.TheVariants.{RowMajor, ColumnMajor};
+ghost use Rattle.nd_array_core.specs.reshape.Serving.{IsRegroupedStep, IsApartFor};
+ghost use Rattle.nd_layout.specs.Placements.{placement_of};
 
 use crate::base::array::ArrayBase;
 use nd_layout::{Layout, is_standard, strides_in};
@@ -49,7 +49,7 @@ fn check_order<D: Dimension, T: StrideList>(
     lengths: &[usize],
     order: Order,
 ) -> Result<(), ShapeError>
-    ensures refused { IfErr result (λ e. IsRefused order (D.lengths layout.now.dim) (T.strides_of layout.now.strides) lengths.now e) }
+    ensures refused { IfErr result (λ e. IsRefusedFor order (placement_of layout.now) lengths.now e) }
     ensures shape { IfOk result (λ _. IsShapeOf (D.lengths layout.now.dim) lengths.now) }
     ensures order { IfOk result (λ _. IsInOrder order (D.lengths layout.now.dim) (T.strides_of layout.now.strides)) }
 {
@@ -75,8 +75,8 @@ fn ordered_layout<D: Dimension, E: Dimension>(
     ensures offset { result.offset ≡ layout.now.offset }
     ensures lengths { E.lengths result.dim ≡ E.lengths dim }
     ensures strides { E.Strides.strides_of result.strides ≡ ordered_strides order (E.lengths dim) }
-    ensures seen { IsViewStep layout.now.offset (D.lengths layout.now.dim) (D.Strides.strides_of layout.now.strides) result.offset (E.lengths result.dim) (E.Strides.strides_of result.strides) (regrouped_index order (D.lengths layout.now.dim) (E.lengths dim)) }
-    ensures separated { 0 < size_of (E.lengths dim) → IsSeparated (E.lengths result.dim) (E.Strides.strides_of result.strides) }
+    ensures seen { IsRegroupedStep order (placement_of layout.now) (E.lengths dim) (placement_of result) }
+    ensures separated { IsApartFor (E.lengths dim) (placement_of result) }
 {
     let strides = strides_in(&dim, order);
     Layout::strided(layout.offset, dim, strides)

@@ -2,12 +2,10 @@
 #![tactic(auto, unfolding(crate::specs::Meaning::meaning_of, crate::specs::Meaning::memory_layout_of))]
 
 ghost use Rattle.std.specs.Prelude.{◌↔◌, ◌≡◌, ◌<◌, IsSome, IfSome};
-ghost use Rattle.nd_shape_and_slice.specs.Shape.{size_of};
-ghost use Rattle.nd_shape_and_slice.specs.Place.{IsSeparated};
-ghost use Rattle.nd_layout.specs.Steps.{IsViewStep};
-ghost use Rattle.nd_array_core.specs.reshape.Regrouped.{IsShapeOf, regrouped_index};
-ghost use Rattle.nd_array_core.specs.reshape.Serving.{SomeServe, IsServedBy, StridesServe, ShowsServed};
-ghost use Rattle.nd_array_core.specs.Meaning.{shape_of, storage_of};
+ghost use Rattle.nd_array_core.specs.reshape.Regrouped.{IsShapeOf};
+ghost use Rattle.nd_array_core.specs.reshape.Serving.{StridesServe, ShowsServed, SomeServeFor, IsRegroupedStep, StaysApartFor, IsServedOver};
+ghost use Rattle.nd_array_core.specs.Meaning.{shape_of};
+ghost use Rattle.nd_layout.specs.Placements.{placement_of};
 
 use crate::base::array::{ArrayBase, ArrayView};
 use nd_layout::{Layout, reshape_strides};
@@ -22,8 +20,8 @@ fn serving_strides<D: Dimension, E: Dimension>(
     order: Order,
 ) -> Option<E::Strides>
     requires shape { IsShapeOf (D.lengths layout.now.dim) (E.lengths dim.now) }
-    ensures some { IsSome result ↔ SomeServe order (D.lengths layout.now.dim) (D.Strides.strides_of layout.now.strides) (E.lengths dim.now) }
-    ensures served { IfSome result (λ ts. IsServedBy order (D.lengths layout.now.dim) (D.Strides.strides_of layout.now.strides) (E.lengths dim.now) (E.Strides.strides_of ts)) }
+    ensures some { IsSome result ↔ SomeServeFor order (placement_of layout.now) (E.lengths dim.now) }
+    ensures served { IfSome result (λ ts. IsServedOver order layout.now (E.lengths dim.now) (E.Strides.strides_of ts)) }
 {
     let lengths = dim.slice();
     let mut list = [0; 32];
@@ -49,12 +47,12 @@ pub(crate) fn served_layout<D: Dimension, E: Dimension>(
     order: Order,
 ) -> Option<Layout<E, E::Strides>>
     requires shape { IsShapeOf (D.lengths layout.now.dim) (E.lengths dim) }
-    ensures some { IsSome result ↔ SomeServe order (D.lengths layout.now.dim) (D.Strides.strides_of layout.now.strides) (E.lengths dim) }
+    ensures some { IsSome result ↔ SomeServeFor order (placement_of layout.now) (E.lengths dim) }
     ensures offset { IfSome result (λ l. l.offset ≡ layout.now.offset) }
     ensures lengths { IfSome result (λ l. E.lengths l.dim ≡ E.lengths dim) }
-    ensures served { IfSome result (λ l. IsServedBy order (D.lengths layout.now.dim) (D.Strides.strides_of layout.now.strides) (E.lengths dim) (E.Strides.strides_of l.strides)) }
-    ensures seen { IfSome result (λ l. IsViewStep layout.now.offset (D.lengths layout.now.dim) (D.Strides.strides_of layout.now.strides) l.offset (E.lengths l.dim) (E.Strides.strides_of l.strides) (regrouped_index order (D.lengths layout.now.dim) (E.lengths dim))) }
-    ensures separated { IfSome result (λ l. 0 < size_of (E.lengths dim) → IsSeparated (D.lengths layout.now.dim) (D.Strides.strides_of layout.now.strides) → IsSeparated (E.lengths l.dim) (E.Strides.strides_of l.strides)) }
+    ensures served { IfSome result (λ l. IsServedOver order layout.now (E.lengths dim) (E.Strides.strides_of l.strides)) }
+    ensures seen { IfSome result (λ l. IsRegroupedStep order (placement_of layout.now) (E.lengths dim) (placement_of l)) }
+    ensures separated { IfSome result (λ l. StaysApartFor (E.lengths dim) (placement_of layout.now) (placement_of l)) }
 {
     match serving_strides(layout, &dim, order) {
         Some(strides) => Some(Layout::strided(layout.offset, dim, strides)),

@@ -7,7 +7,7 @@ ghost use Rattle.nd_shape_and_slice.specs.declared.builder.Order.TheVariants.{Ro
 ghost use Rattle.nd_array_core.specs.Meaning.{shape_of};
 ghost use Rattle.nd_array_core.specs.reshape.Regrouped.{IsShapeOf, flat_shape};
 ghost use Rattle.nd_array_core.specs.reshape.Serving.{StridesServe};
-ghost use Rattle.nd_array_core.specs.reshape.Either.{RefusesReshape, CopiesAreEqual, ViewsOrCopies, KeptOrCopied, IsViewIfServed, IsViewIfShapeServed, KeepsStorageIfServed, KeepsStorageIfShapeServed};
+ghost use Rattle.nd_array_core.specs.reshape.Either.{RefusesReshape, CopiesAreEqual, ViewsOrCopies, ShowsRegrouped, KeptOrCopied, IsViewIfServed, IsViewIfShapeServed, KeepsStorageIfServed, KeepsStorageIfShapeServed};
 
 use crate::base::array::{Array, ArrayBase};
 use crate::base::array_error::ArrayError;
@@ -30,6 +30,7 @@ fn line_of<S: Data, D: Dimension>(array: &ArrayBase<S, D>) -> usize
 }
 
 /// A view under other lengths where strides serve, and else a copy.
+#[tactic(auto, using(crate::proofs::law_lemmas::EitherShown::ranks_shown, crate::proofs::law_lemmas::EitherShown::served_shown))]
 fn view_or_copy<S: Data, D: Dimension, E: Dimension>(
     alloc: Global,
     array: &ArrayBase<S, D>,
@@ -42,6 +43,7 @@ where
     requires clones { CopiesAreEqual S.Elem.is_clone array.now order (E.lengths dim) }
     ensures refused { IfErr result (RefusesReshape array.now order (E.lengths dim)) }
     ensures kind { IfOk result (ViewsOrCopies array.now order (E.lengths dim)) }
+    ensures shown { IfOk result (ShowsRegrouped array.now order (E.lengths dim)) }
     ensures serves { IsViewIfServed array.now order (E.lengths dim) result }
 {
     match served_view(array, dim, order) {
@@ -70,6 +72,7 @@ where
         ensures refused { IfErr result (RefusesReshape self.now (E.order_asked shape) (E.shape_asked shape)) }
         ensures shape { IfOk result (λ _. IsShapeOf (shape_of self.now) (E.shape_asked shape)) }
         ensures kind { IfOk result (ViewsOrCopies self.now (E.order_asked shape) (E.shape_asked shape)) }
+        ensures shown { IfOk result (ShowsRegrouped self.now (E.order_asked shape) (E.shape_asked shape)) }
         ensures serves { IsViewIfShapeServed self.now (E.order_asked shape) (E.shape_asked shape) result }
     {
         let (dim, order) = shape.into_shape_and_order();
@@ -91,6 +94,7 @@ where
         requires clones { CopiesAreEqual S.Elem.is_clone self.now order (flat_shape self.now) }
         ensures refused { IfErr result (λ _. StridesServe self.now order (flat_shape self.now) → ⊥) }
         ensures kind { IfOk result (ViewsOrCopies self.now order (flat_shape self.now)) }
+        ensures shown { IfOk result (ShowsRegrouped self.now order (flat_shape self.now)) }
         ensures serves { IsViewIfServed self.now order (flat_shape self.now) result }
     {
         match view_or_copy(alloc, self, line_of(self).into_dimension(), order) {
@@ -106,6 +110,7 @@ where
         requires clones { CopiesAreEqual S.Elem.is_clone self.now RowMajor (flat_shape self.now) }
         ensures refused { IfErr result (λ _. StridesServe self.now RowMajor (flat_shape self.now) → ⊥) }
         ensures kind { IfOk result (ViewsOrCopies self.now RowMajor (flat_shape self.now)) }
+        ensures shown { IfOk result (ShowsRegrouped self.now RowMajor (flat_shape self.now)) }
         ensures serves { IsViewIfServed self.now RowMajor (flat_shape self.now) result }
     {
         self.flatten_with_order(alloc, Order::RowMajor)

@@ -9,11 +9,11 @@ ghost use Rattle.nd_storage.specs.elements.Changes.{ChangeableInAnyOrder, Change
 ghost use Rattle.nd_storage.specs.elements.Pairs.{IsOldOrOf};
 ghost use Rattle.nd_array_core.specs.PlacedArray.{element_placed};
 ghost use Rattle.nd_array_core.specs.base.Writes.{KeepsFrame};
-ghost use Rattle.nd_array_core.specs.scoped.Tasks.{view_frame, lent_frame, lent_view, view_left, CanBeSeen};
+ghost use Rattle.nd_array_core.specs.scoped.Tasks.{view_frame, lent_frame, lent_view, CanBeSeen};
 ghost use Rattle.nd_array_core.specs.scoped.PartTasks.{KeepsBut};
 ghost use Rattle.nd_array_core.specs.scoped.Fills.{KeepsOtherIndexes};
 ghost use Rattle.nd_array_core.specs.Part.{sliced_part};
-ghost use Rattle.nd_array_core.specs.scoped.Assigned.{FitsPart, AssignsPart, AssignsPartly, AssignsNamed, ChangeableInPart, ChangesPart, ChangesNamed};
+ghost use Rattle.nd_array_core.specs.scoped.Assigned.{FitsPart, AssignsPart, AssignsPartly, AssignsNamed, ChangeableInPart, ChangesPart, ChangesNamed, IsShown, IsOldOr, MayChangeView, ChangesView, ChangesViewAlike};
 
 use super::with_view_mut::{LentView, ViewTask};
 use crate::base::array::ArrayBase;
@@ -43,8 +43,8 @@ impl<A: Clone + Drop, Z: Data<Elem = A> + Drop, D: Dimension, E: Dimension> View
         requires same { shape_of self.patch ≡ (lent_view D.lengths D.Strides.strides_of lent).shape }
         requires clones { ClonesOfAllAreEqual A.is_clone (element_at self.patch) }
         ensures frame { view_frame result.0 ≡ lent_frame lent.entry }
-        ensures assigned { OnOk result.1 ((i : List ℕ) → element_placed (view_left D.lengths D.Strides.strides_of lent.entry result.0) i ≡ element_at self.patch i) }
-        ensures stopped { OnErr result.1 (IsOldOrOf (element_placed (lent_view D.lengths D.Strides.strides_of lent.entry)) (element_at self.patch) (element_placed (view_left D.lengths D.Strides.strides_of lent.entry result.0))) }
+        ensures assigned { OnOk result.1 (IsShown D.lengths D.Strides.strides_of (element_at self.patch) lent.entry result.0) }
+        ensures stopped { OnErr result.1 (IsOldOr D.lengths D.Strides.strides_of (element_at self.patch) lent.entry result.0) }
         ensures refused { OnErr result.1 (MayRefuseClone A.is_infallible (element_at self.patch)) }
     {
         let mut view = lent.into_view();
@@ -70,10 +70,10 @@ impl<A, D: Dimension, F: FnMut(&mut A) + Drop> ViewTask<A, D> for Change<F> {
 
     fn run(self, lent: LentView<'_, A, D, D::Strides>) -> (ViewMutRepr<'_, A>, ())
         requires sound { CanBeSeen D.lengths D.Strides.strides_of lent }
-        requires callable { ChangeableInAnyOrder F.FnMut (lent_view D.lengths D.Strides.strides_of lent).shape (element_placed (lent_view D.lengths D.Strides.strides_of lent)) self.f }
+        requires callable { MayChangeView F.FnMut D.lengths D.Strides.strides_of lent self.f }
         ensures frame { view_frame result.0 ≡ lent_frame lent.entry }
-        ensures visits { ChangesAll F.FnMut (lent_view D.lengths D.Strides.strides_of lent.entry).shape (element_placed (lent_view D.lengths D.Strides.strides_of lent.entry)) (element_placed (view_left D.lengths D.Strides.strides_of lent.entry result.0)) self.f }
-        ensures alike { ChangesAlike F.FnMut self.f (element_placed (lent_view D.lengths D.Strides.strides_of lent.entry)) (element_placed (view_left D.lengths D.Strides.strides_of lent.entry result.0)) }
+        ensures visits { ChangesView F.FnMut D.lengths D.Strides.strides_of lent.entry result.0 self.f }
+        ensures alike { ChangesViewAlike F.FnMut D.lengths D.Strides.strides_of lent.entry result.0 self.f }
     {
         let mut view = lent.into_view();
         view.map_inplace(self.f);

@@ -5,7 +5,7 @@
 
 ghost use Rattle.std.specs.Prelude.{◌≡◌, length, IfOk, IfErr, Some, None, slice_get};
 ghost use Rattle.nd_region.specs.Region.{region_stored, borrow_of};
-ghost use Rattle.nd_array_core.specs.scoped.Tasks.{LiesBy, array_placed_by, AsksOfPlacement};
+ghost use Rattle.nd_array_core.specs.scoped.Tasks.{LiesBy, AsksOfPlacement, shown_under, IsDoneUnder};
 ghost use Rattle.nd_layout.specs.Placements.{placement_of};
 ghost use Rattle.nd_array_core.specs.scoped.Sources.{meant_by, refusal_for, AsksOfSlice, IsDoneOnSlice, IsDoneByLayout, KeepsUnseen};
 
@@ -34,9 +34,9 @@ fn with_slice_placement<A, D: Dimension, K: ViewTask<A, D>>(
         layout.strides.slice(),
         move |region|
             requires sound { LiesBy (region_stored region) (placement_of lent) }
-            requires pre { K.pre task (array_placed_by (region_stored region) (placement_of lent)) }
+            requires pre { K.pre task (shown_under region lent) }
             ensures borrow { borrow_of result.0 ≡ borrow_of region.entry }
-            ensures done { K.post task (array_placed_by (region_stored region.entry) (placement_of lent)) (array_placed_by (region_stored result.0) (placement_of lent)) result.1 }
+            ensures done { IsDoneUnder (K.post task) lent region.entry result }
         { run_on_placement(region, lent, task) },
     )
 }

@@ -5,7 +5,7 @@ ghost use Rattle.std.specs.Prelude.{◌≡◌, ◌≤◌, ◌<◌, ℕ, length, 
 ghost use Rattle.std.specs.Option.{is_some};
 ghost use Rattle.nd_region.specs.Region.{region_stored, borrow_of};
 ghost use Rattle.nd_array_core.specs.PlacedArray.{PlacedArray};
-ghost use Rattle.nd_array_core.specs.scoped.Tasks.{view_frame, lent_frame, lent_view, CanBeSeen, IsDoneOnViews, LiesBy, array_placed_by, HoldsBy, AreApart, IsWithin, AsksOfPair, IsDoneOnPair, KeepsUnnamed, KeepsUnnamedByTwo};
+ghost use Rattle.nd_array_core.specs.scoped.Tasks.{view_frame, lent_frame, lent_view, CanBeSeen, IsDoneOnViews, LiesBy, HoldsBy, AreApart, IsWithin, AsksOfPair, KeepsUnnamed, KeepsUnnamedByTwo, shown_under, IsDoneUnderBoth, IsDoneOnTwo, IsDoneInParts, KeepsBesideTwo};
 ghost use Rattle.nd_layout.specs.Placements.{placement_of};
 ghost use Rattle.nd_array_core.specs.scoped.PartTasks.{AsksOfHalves, IsDoneOnHalves};
 ghost use Rattle.nd_array_core.specs.base.Writes.{KeepsFrame};
@@ -53,10 +53,10 @@ fn run_pair<'b, A, D: Dimension, E: Dimension, K: PairTask<A, D, E>>(
 ) -> (Region<'b, A>, Region<'b, A>, K::Answer)
     requires one { LiesBy (region_stored part) (placement_of one) }
     requires two { LiesBy (region_stored rest) (placement_of two) }
-    requires pre { K.pre task (array_placed_by (region_stored part) (placement_of one)) (array_placed_by (region_stored rest) (placement_of two)) }
+    requires pre { K.pre task (shown_under part one) (shown_under rest two) }
     ensures part { borrow_of result.0 ≡ borrow_of part.entry }
     ensures rest { borrow_of result.1 ≡ borrow_of rest.entry }
-    ensures done { K.post task (array_placed_by (region_stored part.entry) (placement_of one)) (array_placed_by (region_stored rest.entry) (placement_of two)) (array_placed_by (region_stored result.0) (placement_of one)) (array_placed_by (region_stored result.1) (placement_of two)) result.2 }
+    ensures done { IsDoneUnderBoth (K.post task) one two part.entry rest.entry result }
 {
     let first = LentView::over(part, one);
     let second = LentView::over(rest, two);
@@ -76,7 +76,7 @@ fn run_on_split<'b, A, D: Dimension, E: Dimension, K: PairTask<A, D, E>>(
     requires apart { AreApart (placement_of one) (placement_of two) }
     requires callable { AsksOfPair (K.pre task) (region_stored region) (placement_of one) (placement_of two) }
     ensures borrow { borrow_of result.0 ≡ borrow_of region.entry }
-    ensures done { IsDoneOnPair (λ v0 v1 w0 w1. K.post task v0 v1 w0 w1 result.1) (region_stored region.entry) (region_stored result.0) (placement_of one) (placement_of two) }
+    ensures done { IsDoneOnTwo (K.post task) one two region.entry result }
 {
     let mut region = region;
     let lent = one.copied();
@@ -87,10 +87,10 @@ fn run_on_split<'b, A, D: Dimension, E: Dimension, K: PairTask<A, D, E>>(
         move |part, rest|
             requires one { LiesBy (region_stored part) (placement_of lent) }
             requires two { LiesBy (region_stored rest) (placement_of two) }
-            requires pre { K.pre task (array_placed_by (region_stored part) (placement_of lent)) (array_placed_by (region_stored rest) (placement_of two)) }
+            requires pre { K.pre task (shown_under part lent) (shown_under rest two) }
             ensures part { borrow_of result.0 ≡ borrow_of part.entry }
             ensures rest { borrow_of result.1 ≡ borrow_of rest.entry }
-            ensures done { K.post task (array_placed_by (region_stored part.entry) (placement_of lent)) (array_placed_by (region_stored rest.entry) (placement_of two)) (array_placed_by (region_stored result.0) (placement_of lent)) (array_placed_by (region_stored result.1) (placement_of two)) result.2 }
+            ensures done { IsDoneUnderBoth (K.post task) lent two part.entry rest.entry result }
         { run_pair(part, lent, rest, two, task) },
     );
     (region, answer)
@@ -108,8 +108,8 @@ fn run_on_either<'b, A, D: Dimension, E: Dimension, K: PairTask<A, D, E>>(
     requires apart { AreApart (placement_of one) (placement_of two) }
     requires callable { AsksOfPair (K.pre task) (region_stored region) (placement_of one) (placement_of two) }
     ensures borrow { borrow_of result.0 ≡ borrow_of region.entry }
-    ensures done { IsDoneOnPair (λ v0 v1 w0 w1. K.post task v0 v1 w0 w1 result.1) (region_stored region.entry) (region_stored result.0) (placement_of one) (placement_of two) }
-    ensures kept { KeepsUnnamedByTwo (region_stored region.entry) (region_stored result.0) (placement_of one) (placement_of two) }
+    ensures done { IsDoneOnTwo (K.post task) one two region.entry result }
+    ensures kept { KeepsBesideTwo region.entry result.0 one two }
 {
     let mut region = region;
     let first = one.copied();
@@ -127,7 +127,7 @@ fn run_on_either<'b, A, D: Dimension, E: Dimension, K: PairTask<A, D, E>>(
             requires apart { AreApart (placement_of one) (placement_of two) }
             requires callable { AsksOfPair (K.pre task) (region_stored both) (placement_of one) (placement_of two) }
             ensures borrow { borrow_of result.0 ≡ borrow_of both.entry }
-            ensures done { IsDoneOnPair (λ v0 v1 w0 w1. K.post task v0 v1 w0 w1 result.1) (region_stored both.entry) (region_stored result.0) (placement_of one) (placement_of two) }
+            ensures done { IsDoneOnTwo (K.post task) one two both.entry result }
         { run_on_split(both, one, two, task) },
     );
     (region, answer)
@@ -158,7 +158,7 @@ pub(crate) fn with_placement_pair<
     ensures frame { S.frame storage.new ≡ S.frame storage.old }
     ensures others { KeepsUnnamed (S.stored storage.old) (S.stored storage.new) (placement_of whole.now) }
     ensures kept { KeepsUnnamedByTwo (S.stored storage.old) (S.stored storage.new) (placement_of one) (placement_of two) }
-    ensures done { IsDoneOnPair (λ v0 v1 w0 w1. K.post task v0 v1 w0 w1 result) (S.stored storage.old) (S.stored storage.new) (placement_of one) (placement_of two) }
+    ensures done { IsDoneInParts (K.post task) S.stored storage.old storage.new one two result }
 {
     storage.with_part(
         whole.offset,
@@ -170,8 +170,8 @@ pub(crate) fn with_placement_pair<
             requires apart { AreApart (placement_of one) (placement_of two) }
             requires callable { AsksOfPair (K.pre task) (region_stored region) (placement_of one) (placement_of two) }
             ensures borrow { borrow_of result.0 ≡ borrow_of region.entry }
-            ensures done { IsDoneOnPair (λ v0 v1 w0 w1. K.post task v0 v1 w0 w1 result.1) (region_stored region.entry) (region_stored result.0) (placement_of one) (placement_of two) }
-            ensures kept { KeepsUnnamedByTwo (region_stored region.entry) (region_stored result.0) (placement_of one) (placement_of two) }
+            ensures done { IsDoneOnTwo (K.post task) one two region.entry result }
+            ensures kept { KeepsBesideTwo region.entry result.0 one two }
         { run_on_either(region, one, two, task) },
     )
 }

@@ -11,7 +11,7 @@ ghost use Rattle.nd_region.specs.Region.{region_stored, borrow_of};
 ghost use Rattle.nd_array_core.specs.Laws.{ShowsStored};
 ghost use Rattle.nd_array_core.specs.PlacedArray.{PlacedArray, found_at};
 ghost use Rattle.nd_storage.specs.Storages.{held_by};
-ghost use Rattle.nd_array_core.specs.scoped.Tasks.{view_frame, lent_frame, lent_view, CanBeSeen, IsDoneOnView, LiesBy, array_placed_by, AsksOfPlacement, IsDoneOnPlacement, KeepsUnnamed};
+ghost use Rattle.nd_array_core.specs.scoped.Tasks.{view_frame, lent_frame, lent_view, CanBeSeen, IsDoneOnView, LiesBy, AsksOfPlacement, KeepsUnnamed, shown_under, IsDoneUnder, IsDoneInPart};
 ghost use Rattle.nd_layout.specs.Placements.{placement_of};
 ghost use Rattle.nd_array_core.specs.base.Writes.{KeepsFrame};
 ghost use Rattle.nd_array_core.specs.scoped.PartTasks.{AsksOfWhole, IsDoneOnWhole};
@@ -106,9 +106,9 @@ pub(crate) fn run_on_placement<'a, A, D: Dimension, K: ViewTask<A, D>>(
     task: K,
 ) -> (Region<'a, A>, K::Answer)
     requires sound { LiesBy (region_stored region) (placement_of layout) }
-    requires pre { K.pre task (array_placed_by (region_stored region) (placement_of layout)) }
+    requires pre { K.pre task (shown_under region layout) }
     ensures borrow { borrow_of result.0 ≡ borrow_of region.entry }
-    ensures done { K.post task (array_placed_by (region_stored region.entry) (placement_of layout)) (array_placed_by (region_stored result.0) (placement_of layout)) result.1 }
+    ensures done { IsDoneUnder (K.post task) layout region.entry result }
 {
     let (storage, answer) = task.run(LentView::over(region, layout));
     (storage.region, answer)
@@ -124,7 +124,7 @@ pub(crate) fn with_placement<S: DataMut, D: Dimension, K: ViewTask<S::Elem, D>>(
     requires callable { AsksOfPlacement (K.pre task) (S.stored storage.old) (placement_of layout.now) }
     ensures there { (p : ℕ) → is_some (S.stored storage.new p) ≡ is_some (S.stored storage.old p) }
     ensures frame { S.frame storage.new ≡ S.frame storage.old }
-    ensures done { IsDoneOnPlacement (λ v w. K.post task v w result) (S.stored storage.old) (S.stored storage.new) (placement_of layout.now) }
+    ensures done { IsDoneInPart (K.post task) S.stored storage.old storage.new layout.now result }
     ensures kept { KeepsUnnamed (S.stored storage.old) (S.stored storage.new) (placement_of layout.now) }
 {
     let lent = layout.copied();
@@ -134,9 +134,9 @@ pub(crate) fn with_placement<S: DataMut, D: Dimension, K: ViewTask<S::Elem, D>>(
         layout.strides.slice(),
         move |region|
             requires sound { LiesBy (region_stored region) (placement_of lent) }
-            requires pre { K.pre task (array_placed_by (region_stored region) (placement_of lent)) }
+            requires pre { K.pre task (shown_under region lent) }
             ensures borrow { borrow_of result.0 ≡ borrow_of region.entry }
-            ensures done { K.post task (array_placed_by (region_stored region.entry) (placement_of lent)) (array_placed_by (region_stored result.0) (placement_of lent)) result.1 }
+            ensures done { IsDoneUnder (K.post task) lent region.entry result }
         { run_on_placement(region, lent, task) },
     )
 }

@@ -2,6 +2,9 @@
 use Rattle.std.specs.Prelude.{◌≡◌, ◌⊎◌, ◌<◌, ℕ, List, Option, None, Some, ℤ, pos}
 use Rattle.std.specs.Borrow.{Bor, MutBor}
 use Rattle.std.specs.Fn.{Mut, CalledWithState}
+use Rattle.nd_layout.specs.Lanes.{Numbered, along, ranked}
+use Rattle.nd_layout.specs.declared.lanes.Lane.{Lane}
+use Rattle.nd_layout.specs.declared.places.Places.{Places}
 use Rattle.nd_storage.specs.Places.{stored_at}
 use Rattle.nd_storage.specs.FreeOrder.{VisitedInSomeOrder, CallableInAnyOrder}
 use Rattle.nd_storage.specs.elements.Folds.{RanTo}
@@ -55,3 +58,28 @@ module _ {F A B : Type 0} (g : Mut F (MutBor A × (Bor B × Unit {0})) (Unit {0}
   -- whichever elements were changed, the next call may be made
   abbrev pub ZippableInAnyOrder : List ℕ → (List ℕ → Option A) → (List ℕ → Option B) → F → Type 0
   ZippableInAnyOrder shape old others f = CallableInAnyOrder shape (λ p i q. ChangesWithSomehow (others i) (old i) p q) (λ p i. TakesBoth (others i) (old i) p) f
+
+-- the call was handed the element at a place of a storage, with another beside it
+abbrev pub ChangesBoth : {S F A B : Type 0} → Mut F (MutBor A × (Bor B × Unit {0})) (Unit {0} × (MutBor A × Unit {0})) → (S → ℕ → Option A) → Option B → ℕ → S → S → F → F → Type 0
+ChangesBoth g stored other place old new first last = ChangesWith g other (stored old place) (stored new place) first last
+
+-- the same of two storages, at places with one number: each next pair may be handed out; all were, one after the other
+module _ {S Z F A B : Type 0} (g : Mut F (MutBor A × (Bor B × Unit {0})) (Unit {0} × (MutBor A × Unit {0}))) (stored : S → ℕ → Option A) (others_stored : Z → ℕ → Option B) where
+  abbrev pub MayZipAt : Numbered → Numbered → S → Z → F → Type 0
+  MayZipAt at beside s others first = TakesPairs g (stored s) at.place (others_stored others) beside.place first at.count
+
+  abbrev pub ZipsAt : Numbered → Numbered → Z → S → S → F → F → Type 0
+  ZipsAt at beside others old new first last = IsZippedTo g at.place (others_stored others) beside.place at.count (stored old) (stored new) first last
+
+  -- those along a lane, and those at the indexes of a layout
+  abbrev pub MayZipAlong : Lane → Lane → S → Z → F → Type 0
+  MayZipAlong lane beside s others first = MayZipAt (along lane) (along beside) s others first
+
+  abbrev pub ZipsAlong : Lane → Lane → Z → S → S → F → F → Type 0
+  ZipsAlong lane beside others old new first last = ZipsAt (along lane) (along beside) others old new first last
+
+  abbrev pub MayZip : Places → Places → S → Z → F → Type 0
+  MayZip places beside s others first = MayZipAt (ranked places) (ranked beside) s others first
+
+  abbrev pub Zips : Places → Places → Z → S → S → F → F → Type 0
+  Zips places beside others old new first last = ZipsAt (ranked places) (ranked beside) others old new first last

@@ -1,6 +1,6 @@
 //! Lists of one value.
 
-ghost use Rattle.std.specs.Prelude.{◌≡◌, replicate, IfOk, vec_len};
+ghost use Rattle.std.specs.Prelude.{◌≡◌, ◌<◌, replicate, IfOk, OnErr, vec_len};
 ghost use Rattle.std.specs.List.{All};
 ghost use Rattle.nd_storage.specs.Clones.{ClonesAreEqual};
 
@@ -23,6 +23,7 @@ pub fn repeated<A: Clone>(alloc: Global, elem: A, count: usize) -> Result<Vec<A>
 pub fn defaults<A: Default>(alloc: Global, count: usize) -> Result<Vec<A>, NoMemory>
     ensures items { IfOk result (λ v. All A.is_default v.items) }
     ensures count { IfOk result (λ v. vec_len v ≡ count) }
+    ensures refused { OnErr result (0 < count) }
 {
     let mut items = match Vec::with_capacity(alloc, count) {
         Ok(items) => items,

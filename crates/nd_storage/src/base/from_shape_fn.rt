@@ -1,10 +1,10 @@
 //! What a function returns for each index of a shape, as a list.
 
-ghost use Rattle.std.specs.Prelude.{◌≡◌, ◌+◌, ◌<◌, ◌≤◌, take, [], length, IfOk, Some, vec_len, vec_capacity};
+ghost use Rattle.std.specs.Prelude.{◌≡◌, ◌+◌, ◌<◌, ◌≤◌, take, [], length, IfOk, OnErr, Some, vec_len, vec_capacity};
 ghost use Rattle.nd_shape_and_slice.specs.Shape.{size_of, HasCheckedSize};
 ghost use Rattle.nd_layout.specs.Ranks.{slowest_first};
-ghost use Rattle.nd_storage.specs.FreeOrder.{HasAnswers, AskableInAnyOrder, AnswersIndex, TakesIndex, AnswersNothing, TakesNothing};
-ghost use Rattle.nd_storage.specs.ByRank.{found_by_rank};
+ghost use Rattle.nd_storage.specs.FreeOrder.{AskableByIndex, AskableInAnyOrder, AnswersIndex, AnswersNothing, TakesNothing};
+ghost use Rattle.nd_storage.specs.ListedAnswers.{ListsAnswers};
 
 use nd_layout::{Walk, slow_axis_at};
 use nd_shape_and_slice::{Dimension, NoMemory, Order, StrideList};
@@ -39,6 +39,7 @@ pub fn room_for<A>(alloc: Global, count: usize) -> Result<Vec<A>, NoMemory>
     ensures none { IfOk result (λ v. v.items ≡ []) }
     ensures empty { IfOk result (λ v. vec_len v ≡ 0) }
     ensures room { IfOk result (λ v. vec_capacity v ≡ count) }
+    ensures refused { OnErr result (0 < count) }
 {
     match Vec::with_capacity(alloc, count) {
         Ok(items) => Ok(items),
@@ -59,9 +60,9 @@ fn answers_by_lanes<A, D: Dimension, F: FnMut(D::Pattern) -> A>(
     requires checked { HasCheckedSize (D.lengths dim.now) }
     requires empty { (room.items ≡ []) × (vec_len room ≡ 0) }
     requires room { size_of (D.lengths dim.now) ≤ vec_capacity room }
-    requires callable { AskableInAnyOrder (AnswersIndex F.FnMut D.pattern_lengths) (D.lengths dim.now) (TakesIndex F.FnMut D.pattern_lengths) f }
+    requires callable { AskableByIndex F.FnMut D.pattern_lengths (D.lengths dim.now) f }
     ensures count { vec_len result ≡ size_of (D.lengths dim.now) }
-    ensures visits { HasAnswers (AnswersIndex F.FnMut D.pattern_lengths) (D.lengths dim.now) f (found_by_rank (D.lengths dim.now, order) result.items) }
+    ensures visits { ListsAnswers (AnswersIndex F.FnMut D.pattern_lengths) (D.lengths dim.now, order) f result.items }
 {
     let last = dim.ndim() - 1;
     let slow = slow_lengths(dim, order);
@@ -92,9 +93,9 @@ pub fn answers_by_index<A, D: Dimension, F: FnMut(D::Pattern) -> A>(
     requires checked { HasCheckedSize (D.lengths dim.now) }
     requires empty { (room.items ≡ []) × (vec_len room ≡ 0) }
     requires room { size_of (D.lengths dim.now) ≤ vec_capacity room }
-    requires callable { AskableInAnyOrder (AnswersIndex F.FnMut D.pattern_lengths) (D.lengths dim.now) (TakesIndex F.FnMut D.pattern_lengths) f }
+    requires callable { AskableByIndex F.FnMut D.pattern_lengths (D.lengths dim.now) f }
     ensures count { vec_len result ≡ size_of (D.lengths dim.now) }
-    ensures visits { HasAnswers (AnswersIndex F.FnMut D.pattern_lengths) (D.lengths dim.now) f (found_by_rank (D.lengths dim.now, order) result.items) }
+    ensures visits { ListsAnswers (AnswersIndex F.FnMut D.pattern_lengths) (D.lengths dim.now, order) f result.items }
 {
     if dim.size() == 0 {
         return room;
@@ -119,7 +120,7 @@ pub fn answers_for_each<A, D: Dimension, F: FnMut() -> A>(
     requires room { size_of (D.lengths dim.now) ≤ vec_capacity room }
     requires callable { AskableInAnyOrder (AnswersNothing F.FnMut) (D.lengths dim.now) (TakesNothing F.FnMut) f }
     ensures count { vec_len result ≡ size_of (D.lengths dim.now) }
-    ensures visits { HasAnswers (AnswersNothing F.FnMut) (D.lengths dim.now) f (found_by_rank (D.lengths dim.now, _order) result.items) }
+    ensures visits { ListsAnswers (AnswersNothing F.FnMut) (D.lengths dim.now, _order) f result.items }
 {
     let mut items = room;
     for rank in 0..dim.size() {

@@ -1,20 +1,16 @@
 //! Clones of the elements of one storage written over those of another.
 
-ghost use Rattle.std.specs.Prelude.{◌≡◌, ◌<◌, ◌≤◌, ℕ, true, Some, OnOk, OnErr, pos, length, slice_get, ◌+ℤ◌, ◌*ℤ◌};
-ghost use Rattle.nd_shape_and_slice.specs.Shape.{size_of, HasCheckedSize};
-ghost use Rattle.nd_layout.specs.Places.{ReachesPlaces};
-ghost use Rattle.nd_layout.specs.Walk.{place_at_rank};
-ghost use Rattle.nd_storage.specs.Collected.{stored_along, stored_by_rank};
-ghost use Rattle.nd_storage.specs.Places.{names_place, stored_at};
+ghost use Rattle.std.specs.Prelude.{◌≡◌, ◌<◌, OnOk, OnErr, pos, length, slice_get};
+ghost use Rattle.nd_layout.specs.Lanes.{along, ranked};
 ghost use Rattle.nd_layout.specs.Placements.{placement_of, KeepsApart};
 ghost use Rattle.nd_storage.specs.ByLayout.{shown, HoldsShown, LeavesOthers, ShowsSame, ShowsOldOr};
 ghost use Rattle.nd_storage.specs.CloneRefusals.{MayRefuseBelow, MayRefuseClone};
-ghost use Rattle.nd_storage.specs.Clones.{ClonesAreEqual, ClonesOfAllAreEqual, StoredClonesAreEqual};
-ghost use Rattle.nd_storage.specs.elements.Assigns.{IsAssignedTo, IsPartlyAssigned};
-ghost use Rattle.nd_storage.specs.elements.Changes.{AreDistinct};
+ghost use Rattle.nd_storage.specs.Clones.{ClonesOfAllAreEqual, StoredClonesAreEqual};
+ghost use Rattle.nd_storage.specs.NumberedPlaces.{in_turn, Holds, PlacesDiffer, ClonesAreEqualAt, MayRefuseAt};
+ghost use Rattle.nd_storage.specs.elements.Assigns.{AssignsAt, AssignsAlong, Assigns};
 
 use crate::storage::{Data, DataMut};
-use nd_layout::{Lane, Lanes, Layout, halved_alike, is_worth_turning, turned_alike};
+use nd_layout::{Lane, Layout, Places, halved_alike, is_worth_turning, turned_alike};
 use nd_shape_and_slice::{Dimension, NoMemory, StrideList};
 
 /// Writes clones of the elements along a second lane at the places of a lane.
@@ -26,13 +22,12 @@ fn assign_along<A: Clone + Drop, S: DataMut<Elem = A>, Z: Data<Elem = A>>(
     beside: Lane,
 ) -> Result<(), NoMemory>
     requires as_long { beside.count ≡ lane.count }
-    requires apart { AreDistinct (λ k. pos lane.place +ℤ (pos k *ℤ lane.stride)) lane.count }
-    requires holds { (k : ℕ) → k < lane.count → names_place (S.stored storage.old) (pos lane.place +ℤ (pos k *ℤ lane.stride)) ≡ true }
-    requires others_hold { (k : ℕ) → k < lane.count → names_place (Z.stored others.now) (pos beside.place +ℤ (pos k *ℤ beside.stride)) ≡ true }
-    requires clones { (k : ℕ) (x : A) → k < lane.count → stored_at (Z.stored others.now) (pos beside.place +ℤ (pos k *ℤ beside.stride)) ≡ Some x → ClonesAreEqual A.is_clone x }
-    ensures assigned { OnOk result (IsAssignedTo (λ k. stored_at (Z.stored others.now) (pos beside.place +ℤ (pos k *ℤ beside.stride))) (λ k. pos lane.place +ℤ (pos k *ℤ lane.stride)) lane.count (S.stored storage.old) (S.stored storage.new)) }
-    ensures stopped { OnErr result (IsPartlyAssigned (λ k. stored_at (Z.stored others.now) (pos beside.place +ℤ (pos k *ℤ beside.stride))) (λ k. pos lane.place +ℤ (pos k *ℤ lane.stride)) lane.count (S.stored storage.old) (S.stored storage.new)) }
-    ensures refused { OnErr result (MayRefuseBelow A.is_infallible (stored_along (Z.stored others.now) beside.place beside.stride) lane.count) }
+    requires apart { PlacesDiffer (along lane) }
+    requires holds { Holds S.stored (along lane) storage.old }
+    requires others_hold { Holds Z.stored (along beside) others.now }
+    requires clones { ClonesAreEqualAt A.is_clone Z.stored (along beside) others.now }
+    ensures outcome { AssignsAlong S.stored Z.stored lane beside others.now storage.old storage.new result }
+    ensures refused { OnErr result (MayRefuseAt A.is_infallible Z.stored (along beside) others.now) }
     ensures frame { S.frame storage.new ≡ S.frame storage.old }
 {
     for nth in 0..lane.count {
@@ -51,8 +46,7 @@ fn assign_along<A: Clone + Drop, S: DataMut<Elem = A>, Z: Data<Elem = A>>(
 fn assign_run<A: Clone + Drop>(xs: &mut [A], ys: &[A]) -> Result<(), NoMemory>
     requires as_long { length ys.now ≡ length xs.old }
     requires clones { StoredClonesAreEqual A.is_clone ys.now }
-    ensures assigned { OnOk result (IsAssignedTo (slice_get ys.now) (λ k. pos k) (length xs.old) (slice_get xs.old) (slice_get xs.new)) }
-    ensures stopped { OnErr result (IsPartlyAssigned (slice_get ys.now) (λ k. pos k) (length xs.old) (slice_get xs.old) (slice_get xs.new)) }
+    ensures outcome { AssignsAt slice_get slice_get (in_turn xs.old) (in_turn ys.now) ys.now xs.old xs.new result }
     ensures refused { OnErr result (MayRefuseBelow A.is_infallible (slice_get ys.now) (length ys.now)) }
     ensures long { length xs.new ≡ length xs.old }
 {
@@ -75,12 +69,11 @@ fn assign_beside<A: Clone + Drop, S: DataMut<Elem = A>, Z: Data<Elem = A>>(
     requires some { 0 < lane.count }
     requires steps { (lane.stride ≡ pos 1) × (beside.stride ≡ pos 1) }
     requires as_long { beside.count ≡ lane.count }
-    requires holds { (k : ℕ) → k < lane.count → names_place (S.stored storage.old) (pos lane.place +ℤ (pos k *ℤ lane.stride)) ≡ true }
-    requires others_hold { (k : ℕ) → k < lane.count → names_place (Z.stored others.now) (pos beside.place +ℤ (pos k *ℤ beside.stride)) ≡ true }
-    requires clones { (k : ℕ) (x : A) → k < lane.count → stored_at (Z.stored others.now) (pos beside.place +ℤ (pos k *ℤ beside.stride)) ≡ Some x → ClonesAreEqual A.is_clone x }
-    ensures assigned { OnOk result (IsAssignedTo (λ k. stored_at (Z.stored others.now) (pos beside.place +ℤ (pos k *ℤ beside.stride))) (λ k. pos lane.place +ℤ (pos k *ℤ lane.stride)) lane.count (S.stored storage.old) (S.stored storage.new)) }
-    ensures stopped { OnErr result (IsPartlyAssigned (λ k. stored_at (Z.stored others.now) (pos beside.place +ℤ (pos k *ℤ beside.stride))) (λ k. pos lane.place +ℤ (pos k *ℤ lane.stride)) lane.count (S.stored storage.old) (S.stored storage.new)) }
-    ensures refused { OnErr result (MayRefuseBelow A.is_infallible (stored_along (Z.stored others.now) beside.place beside.stride) lane.count) }
+    requires holds { Holds S.stored (along lane) storage.old }
+    requires others_hold { Holds Z.stored (along beside) others.now }
+    requires clones { ClonesAreEqualAt A.is_clone Z.stored (along beside) others.now }
+    ensures outcome { AssignsAlong S.stored Z.stored lane beside others.now storage.old storage.new result }
+    ensures refused { OnErr result (MayRefuseAt A.is_infallible Z.stored (along beside) others.now) }
     ensures frame { S.frame storage.new ≡ S.frame storage.old }
 {
     let ys = others.borrowed().run(beside.place, beside.count);
@@ -95,11 +88,10 @@ fn assign_into<A: Clone + Drop, Z: Data<Elem = A>>(
     beside: Lane,
 ) -> Result<(), NoMemory>
     requires as_long { beside.count ≡ length xs.old }
-    requires others_hold { (k : ℕ) → k < beside.count → names_place (Z.stored others.now) (pos beside.place +ℤ (pos k *ℤ beside.stride)) ≡ true }
-    requires clones { (k : ℕ) (x : A) → k < beside.count → stored_at (Z.stored others.now) (pos beside.place +ℤ (pos k *ℤ beside.stride)) ≡ Some x → ClonesAreEqual A.is_clone x }
-    ensures assigned { OnOk result (IsAssignedTo (λ k. stored_at (Z.stored others.now) (pos beside.place +ℤ (pos k *ℤ beside.stride))) (λ k. pos k) (length xs.old) (slice_get xs.old) (slice_get xs.new)) }
-    ensures stopped { OnErr result (IsPartlyAssigned (λ k. stored_at (Z.stored others.now) (pos beside.place +ℤ (pos k *ℤ beside.stride))) (λ k. pos k) (length xs.old) (slice_get xs.old) (slice_get xs.new)) }
-    ensures refused { OnErr result (MayRefuseBelow A.is_infallible (stored_along (Z.stored others.now) beside.place beside.stride) (length xs.old)) }
+    requires others_hold { Holds Z.stored (along beside) others.now }
+    requires clones { ClonesAreEqualAt A.is_clone Z.stored (along beside) others.now }
+    ensures outcome { AssignsAt slice_get Z.stored (in_turn xs.old) (along beside) others.now xs.old xs.new result }
+    ensures refused { OnErr result (MayRefuseAt A.is_infallible Z.stored (along beside) others.now) }
     ensures long { length xs.new ≡ length xs.old }
 {
     for nth in 0..beside.count {
@@ -122,12 +114,11 @@ fn assign_aside<A: Clone + Drop, S: DataMut<Elem = A>, Z: Data<Elem = A>>(
     requires some { 0 < lane.count }
     requires step { lane.stride ≡ pos 1 }
     requires as_long { beside.count ≡ lane.count }
-    requires holds { (k : ℕ) → k < lane.count → names_place (S.stored storage.old) (pos lane.place +ℤ (pos k *ℤ lane.stride)) ≡ true }
-    requires others_hold { (k : ℕ) → k < lane.count → names_place (Z.stored others.now) (pos beside.place +ℤ (pos k *ℤ beside.stride)) ≡ true }
-    requires clones { (k : ℕ) (x : A) → k < lane.count → stored_at (Z.stored others.now) (pos beside.place +ℤ (pos k *ℤ beside.stride)) ≡ Some x → ClonesAreEqual A.is_clone x }
-    ensures assigned { OnOk result (IsAssignedTo (λ k. stored_at (Z.stored others.now) (pos beside.place +ℤ (pos k *ℤ beside.stride))) (λ k. pos lane.place +ℤ (pos k *ℤ lane.stride)) lane.count (S.stored storage.old) (S.stored storage.new)) }
-    ensures stopped { OnErr result (IsPartlyAssigned (λ k. stored_at (Z.stored others.now) (pos beside.place +ℤ (pos k *ℤ beside.stride))) (λ k. pos lane.place +ℤ (pos k *ℤ lane.stride)) lane.count (S.stored storage.old) (S.stored storage.new)) }
-    ensures refused { OnErr result (MayRefuseBelow A.is_infallible (stored_along (Z.stored others.now) beside.place beside.stride) lane.count) }
+    requires holds { Holds S.stored (along lane) storage.old }
+    requires others_hold { Holds Z.stored (along beside) others.now }
+    requires clones { ClonesAreEqualAt A.is_clone Z.stored (along beside) others.now }
+    ensures outcome { AssignsAlong S.stored Z.stored lane beside others.now storage.old storage.new result }
+    ensures refused { OnErr result (MayRefuseAt A.is_infallible Z.stored (along beside) others.now) }
     ensures frame { S.frame storage.new ≡ S.frame storage.old }
 {
     assign_into(storage.lend_run(lane.place, lane.count), others, beside)
@@ -141,13 +132,12 @@ fn assign_lane<A: Clone + Drop, S: DataMut<Elem = A>, Z: Data<Elem = A>>(
     beside: Lane,
 ) -> Result<(), NoMemory>
     requires as_long { beside.count ≡ lane.count }
-    requires apart { AreDistinct (λ k. pos lane.place +ℤ (pos k *ℤ lane.stride)) lane.count }
-    requires holds { (k : ℕ) → k < lane.count → names_place (S.stored storage.old) (pos lane.place +ℤ (pos k *ℤ lane.stride)) ≡ true }
-    requires others_hold { (k : ℕ) → k < lane.count → names_place (Z.stored others.now) (pos beside.place +ℤ (pos k *ℤ beside.stride)) ≡ true }
-    requires clones { (k : ℕ) (x : A) → k < lane.count → stored_at (Z.stored others.now) (pos beside.place +ℤ (pos k *ℤ beside.stride)) ≡ Some x → ClonesAreEqual A.is_clone x }
-    ensures assigned { OnOk result (IsAssignedTo (λ k. stored_at (Z.stored others.now) (pos beside.place +ℤ (pos k *ℤ beside.stride))) (λ k. pos lane.place +ℤ (pos k *ℤ lane.stride)) lane.count (S.stored storage.old) (S.stored storage.new)) }
-    ensures stopped { OnErr result (IsPartlyAssigned (λ k. stored_at (Z.stored others.now) (pos beside.place +ℤ (pos k *ℤ beside.stride))) (λ k. pos lane.place +ℤ (pos k *ℤ lane.stride)) lane.count (S.stored storage.old) (S.stored storage.new)) }
-    ensures refused { OnErr result (MayRefuseBelow A.is_infallible (stored_along (Z.stored others.now) beside.place beside.stride) lane.count) }
+    requires apart { PlacesDiffer (along lane) }
+    requires holds { Holds S.stored (along lane) storage.old }
+    requires others_hold { Holds Z.stored (along beside) others.now }
+    requires clones { ClonesAreEqualAt A.is_clone Z.stored (along beside) others.now }
+    ensures outcome { AssignsAlong S.stored Z.stored lane beside others.now storage.old storage.new result }
+    ensures refused { OnErr result (MayRefuseAt A.is_infallible Z.stored (along beside) others.now) }
     ensures frame { S.frame storage.new ≡ S.frame storage.old }
 {
     if lane.count == 0 || lane.stride != 1 {
@@ -160,36 +150,27 @@ fn assign_lane<A: Clone + Drop, S: DataMut<Elem = A>, Z: Data<Elem = A>>(
 }
 
 /// Writes at the place of each index of a layout a clone of the element that a second storage has at the place of that index
-/// under other strides.
+/// under a layout of its own.
 fn assign_places<A: Clone + Drop, S: DataMut<Elem = A>, Z: Data<Elem = A>>(
     storage: &mut S,
-    first: usize,
-    lengths: &[usize],
-    strides: &[isize],
+    places: Places<'_>,
     others: &Z,
-    from: usize,
-    steps: &[isize],
+    beside: Places<'_>,
 ) -> Result<(), NoMemory>
-    requires as_many { length strides.now ≡ length lengths.now }
-    requires steps_as_many { length steps.now ≡ length lengths.now }
-    requires few { length lengths.now ≤ 32 }
-    requires checked { HasCheckedSize lengths.now }
-    requires reach { ReachesPlaces first lengths.now strides.now }
-    requires others_reach { ReachesPlaces from lengths.now steps.now }
-    requires apart { AreDistinct (place_at_rank first lengths.now strides.now) (size_of lengths.now) }
-    requires holds { (rank : ℕ) → rank < size_of lengths.now → names_place (S.stored storage.old) (place_at_rank first lengths.now strides.now rank) ≡ true }
-    requires others_hold { (rank : ℕ) → rank < size_of lengths.now → names_place (Z.stored others.now) (place_at_rank from lengths.now steps.now rank) ≡ true }
-    requires clones { (rank : ℕ) (x : A) → rank < size_of lengths.now → stored_at (Z.stored others.now) (place_at_rank from lengths.now steps.now rank) ≡ Some x → ClonesAreEqual A.is_clone x }
-    ensures assigned { OnOk result (IsAssignedTo (λ rank. stored_at (Z.stored others.now) (place_at_rank from lengths.now steps.now rank)) (place_at_rank first lengths.now strides.now) (size_of lengths.now) (S.stored storage.old) (S.stored storage.new)) }
-    ensures stopped { OnErr result (IsPartlyAssigned (λ rank. stored_at (Z.stored others.now) (place_at_rank from lengths.now steps.now rank)) (place_at_rank first lengths.now strides.now) (size_of lengths.now) (S.stored storage.old) (S.stored storage.new)) }
-    ensures refused { OnErr result (MayRefuseBelow A.is_infallible (stored_by_rank (Z.stored others.now) from lengths.now steps.now) (size_of lengths.now)) }
+    requires alike { beside.lengths.now ≡ places.lengths.now }
+    requires apart { PlacesDiffer (ranked places) }
+    requires holds { Holds S.stored (ranked places) storage.old }
+    requires others_hold { Holds Z.stored (ranked beside) others.now }
+    requires clones { ClonesAreEqualAt A.is_clone Z.stored (ranked beside) others.now }
+    ensures outcome { Assigns S.stored Z.stored places.entry beside.entry others.now storage.old storage.new result }
+    ensures refused { OnErr result (MayRefuseAt A.is_infallible Z.stored (ranked beside.entry) others.now) }
     ensures frame { S.frame storage.new ≡ S.frame storage.old }
 {
-    let mut ours = Lanes::new(first, lengths, strides);
-    let mut theirs = Lanes::new(from, lengths, steps);
+    let mut ours = places.lanes();
+    let mut theirs = beside.lanes();
     while let Some(lane) = ours.next() {
         match theirs.next() {
-            Some(beside) => match assign_lane(storage, lane, others, beside) {
+            Some(aside) => match assign_lane(storage, lane, others, aside) {
                 Ok(()) => {}
                 Err(refused) => return Err(refused),
             },
@@ -225,15 +206,7 @@ where
     ensures others { LeavesOthers S.stored layout.now storage.old storage.new }
     ensures frame { S.frame storage.new ≡ S.frame storage.old }
 {
-    assign_places(
-        storage,
-        layout.offset,
-        layout.dim.slice(),
-        layout.strides.slice(),
-        others,
-        beside.offset,
-        beside.strides.slice(),
-    )
+    assign_places(storage, layout.places(), others, beside.places())
 }
 
 /// The same in halves, one after the other, where long lanes go across the order of the second storage's elements.

@@ -1,9 +1,10 @@
 //! Whether the elements of two storages are equal, index by index.
 
-ghost use Rattle.std.specs.Prelude.{◌≡◌, ◌+◌, ◌<◌, ◌≤◌, ℕ, true, is_some, length};
+ghost use Rattle.std.specs.Prelude.{◌≡◌, ◌+◌, ◌≤◌, length};
 ghost use Rattle.std.specs.Cmp.Lexicographic.{pointwise};
+ghost use Rattle.nd_layout.specs.Lanes.{along};
 ghost use Rattle.nd_storage.specs.ByLayout.{listed_by, HoldsShown};
-ghost use Rattle.nd_storage.specs.Collected.{collected, stored_along};
+ghost use Rattle.nd_storage.specs.NumberedPlaces.{Holds, equal_from, equal_along};
 
 use crate::storage::Data;
 use nd_layout::{Lane, Lanes, Layout, halved_alike, is_worth_turning, turned_alike};
@@ -46,9 +47,9 @@ fn block_equal<S: Data>(a: &S, ours: Lane, b: &S, theirs: Lane, from: usize, cou
 where
     S::Elem: PartialEq,
     requires within { (from + count ≤ ours.count) × (from + count ≤ theirs.count) }
-    requires ours { (k : ℕ) → k < ours.count → is_some (stored_along (S.stored a.now) ours.place ours.stride k) ≡ true }
-    requires theirs { (k : ℕ) → k < theirs.count → is_some (stored_along (S.stored b.now) theirs.place theirs.stride k) ≡ true }
-    ensures { result ≡ pointwise S.Elem.eq (collected (λ k. stored_along (S.stored a.now) ours.place ours.stride (from + k)) count) (collected (λ k. stored_along (S.stored b.now) theirs.place theirs.stride (from + k)) count) }
+    requires ours { Holds S.stored (along ours) a.now }
+    requires theirs { Holds S.stored (along theirs) b.now }
+    ensures { result ≡ equal_from S.Elem.eq S.stored from count a.now ours b.now theirs }
 {
     let mut same = true;
     for nth in 0..count {
@@ -64,9 +65,9 @@ fn lanes_equal<S: Data>(a: &S, ours: Lane, b: &S, theirs: Lane) -> bool
 where
     S::Elem: PartialEq,
     requires as_long { theirs.count ≡ ours.count }
-    requires ours { (k : ℕ) → k < ours.count → is_some (stored_along (S.stored a.now) ours.place ours.stride k) ≡ true }
-    requires theirs { (k : ℕ) → k < theirs.count → is_some (stored_along (S.stored b.now) theirs.place theirs.stride k) ≡ true }
-    ensures { result ≡ pointwise S.Elem.eq (collected (stored_along (S.stored a.now) ours.place ours.stride) ours.count) (collected (stored_along (S.stored b.now) theirs.place theirs.stride) ours.count) }
+    requires ours { Holds S.stored (along ours) a.now }
+    requires theirs { Holds S.stored (along theirs) b.now }
+    ensures { result ≡ equal_along S.Elem.eq S.stored a.now ours b.now theirs }
 {
     let mut from = 0;
     while from < ours.count {

@@ -6,6 +6,7 @@ pub mod fill;
 pub mod fold;
 pub mod for_each;
 pub mod hash;
+pub mod list_layout;
 pub mod map;
 pub mod map_inplace;
 pub mod map_mut;

@@ -1,17 +1,14 @@
 //! Elements moved out of one storage into another.
 
-ghost use Rattle.std.specs.Prelude.{◌≡◌, ◌<◌, ◌≤◌, ℕ, true, IsSome, pos, length, ◌+ℤ◌, ◌*ℤ◌};
-ghost use Rattle.nd_shape_and_slice.specs.Shape.{size_of, HasCheckedSize};
-ghost use Rattle.nd_layout.specs.Places.{ReachesPlaces};
-ghost use Rattle.nd_layout.specs.Walk.{place_at_rank};
+ghost use Rattle.std.specs.Prelude.{◌≡◌, ◌<◌, ℕ, IsSome};
+ghost use Rattle.nd_layout.specs.Lanes.{along, ranked};
 ghost use Rattle.nd_layout.specs.Placements.{placement_of, KeepsApart};
 ghost use Rattle.nd_storage.specs.ByLayout.{HoldsShown, LeavesOthers, ShowsSame};
-ghost use Rattle.nd_storage.specs.Places.{names_place, stored_at};
-ghost use Rattle.nd_storage.specs.elements.Assigns.{IsAssignedTo};
-ghost use Rattle.nd_storage.specs.elements.Changes.{AreDistinct};
+ghost use Rattle.nd_storage.specs.NumberedPlaces.{Holds, PlacesDiffer};
+ghost use Rattle.nd_storage.specs.elements.Assigns.{MovesAlong, Moves};
 
 use crate::storage::DataMut;
-use nd_layout::{Lane, Lanes, Layout, halved_alike, is_worth_turning, turned_alike};
+use nd_layout::{Lane, Layout, Places, halved_alike, is_worth_turning, turned_alike};
 use nd_shape_and_slice::{Dimension, StrideList};
 use std::mem;
 
@@ -41,12 +38,12 @@ fn exchange_lane<A, S: DataMut<Elem = A>, Z: DataMut<Elem = A>>(
     beside: Lane,
 )
     requires as_long { beside.count ≡ lane.count }
-    requires apart { AreDistinct (λ k. pos lane.place +ℤ (pos k *ℤ lane.stride)) lane.count }
-    requires others_apart { AreDistinct (λ k. pos beside.place +ℤ (pos k *ℤ beside.stride)) lane.count }
-    requires holds { (k : ℕ) → k < lane.count → names_place (S.stored storage.old) (pos lane.place +ℤ (pos k *ℤ lane.stride)) ≡ true }
-    requires others_hold { (k : ℕ) → k < lane.count → names_place (Z.stored others.old) (pos beside.place +ℤ (pos k *ℤ beside.stride)) ≡ true }
-    ensures moved { IsAssignedTo (λ k. stored_at (Z.stored others.old) (pos beside.place +ℤ (pos k *ℤ beside.stride))) (λ k. pos lane.place +ℤ (pos k *ℤ lane.stride)) lane.count (S.stored storage.old) (S.stored storage.new) }
-    ensures back { IsAssignedTo (λ k. stored_at (S.stored storage.old) (pos lane.place +ℤ (pos k *ℤ lane.stride))) (λ k. pos beside.place +ℤ (pos k *ℤ beside.stride)) lane.count (Z.stored others.old) (Z.stored others.new) }
+    requires apart { PlacesDiffer (along lane) }
+    requires others_apart { PlacesDiffer (along beside) }
+    requires holds { Holds S.stored (along lane) storage.old }
+    requires others_hold { Holds Z.stored (along beside) others.old }
+    ensures moved { MovesAlong S.stored Z.stored lane beside others.old storage.old storage.new }
+    ensures back { MovesAlong Z.stored S.stored beside lane storage.old others.old others.new }
     ensures frame { S.frame storage.new ≡ S.frame storage.old }
 {
     for nth in 0..lane.count {
@@ -55,35 +52,27 @@ fn exchange_lane<A, S: DataMut<Elem = A>, Z: DataMut<Elem = A>>(
 }
 
 /// Exchanges the elements at the places of a layout with those that a second storage has at the places of the same indexes
-/// under other strides.
+/// under a layout of its own.
 fn exchange_places<A, S: DataMut<Elem = A>, Z: DataMut<Elem = A>>(
     storage: &mut S,
-    first: usize,
-    lengths: &[usize],
-    strides: &[isize],
+    places: Places<'_>,
     others: &mut Z,
-    from: usize,
-    steps: &[isize],
+    beside: Places<'_>,
 )
-    requires as_many { length strides.now ≡ length lengths.now }
-    requires steps_as_many { length steps.now ≡ length lengths.now }
-    requires few { length lengths.now ≤ 32 }
-    requires checked { HasCheckedSize lengths.now }
-    requires reach { ReachesPlaces first lengths.now strides.now }
-    requires others_reach { ReachesPlaces from lengths.now steps.now }
-    requires apart { AreDistinct (place_at_rank first lengths.now strides.now) (size_of lengths.now) }
-    requires others_apart { AreDistinct (place_at_rank from lengths.now steps.now) (size_of lengths.now) }
-    requires holds { (rank : ℕ) → rank < size_of lengths.now → names_place (S.stored storage.old) (place_at_rank first lengths.now strides.now rank) ≡ true }
-    requires others_hold { (rank : ℕ) → rank < size_of lengths.now → names_place (Z.stored others.old) (place_at_rank from lengths.now steps.now rank) ≡ true }
-    ensures moved { IsAssignedTo (λ rank. stored_at (Z.stored others.old) (place_at_rank from lengths.now steps.now rank)) (place_at_rank first lengths.now strides.now) (size_of lengths.now) (S.stored storage.old) (S.stored storage.new) }
-    ensures back { IsAssignedTo (λ rank. stored_at (S.stored storage.old) (place_at_rank first lengths.now strides.now rank)) (place_at_rank from lengths.now steps.now) (size_of lengths.now) (Z.stored others.old) (Z.stored others.new) }
+    requires alike { beside.lengths.now ≡ places.lengths.now }
+    requires apart { PlacesDiffer (ranked places) }
+    requires others_apart { PlacesDiffer (ranked beside) }
+    requires holds { Holds S.stored (ranked places) storage.old }
+    requires others_hold { Holds Z.stored (ranked beside) others.old }
+    ensures moved { Moves S.stored Z.stored places.entry beside.entry others.old storage.old storage.new }
+    ensures back { Moves Z.stored S.stored beside.entry places.entry storage.old others.old others.new }
     ensures frame { S.frame storage.new ≡ S.frame storage.old }
 {
-    let mut ours = Lanes::new(first, lengths, strides);
-    let mut theirs = Lanes::new(from, lengths, steps);
+    let mut ours = places.lanes();
+    let mut theirs = beside.lanes();
     while let Some(lane) = ours.next() {
         match theirs.next() {
-            Some(beside) => exchange_lane(storage, lane, others, beside),
+            Some(aside) => exchange_lane(storage, lane, others, aside),
             None => unreachable!(),
         }
     }
@@ -113,15 +102,7 @@ where
     ensures beside { LeavesOthers Z.stored beside.now others.old others.new }
     ensures frame { S.frame storage.new ≡ S.frame storage.old }
 {
-    exchange_places(
-        storage,
-        layout.offset,
-        layout.dim.slice(),
-        layout.strides.slice(),
-        others,
-        beside.offset,
-        beside.strides.slice(),
-    );
+    exchange_places(storage, layout.places(), others, beside.places());
 }
 
 /// The same in halves, one after the other, where long lanes go across the order of the second storage's elements.

@@ -1,15 +1,15 @@
 //! Clones of the elements in a vector.
 
-ghost use Rattle.std.specs.Prelude.{◌≡◌, ◌+◌, ◌<◌, ◌≤◌, ◌++◌, ℕ, true, [], Some, IfOk, OnOk, OnErr, length, is_some, pos, slice_get, vec_len, vec_capacity};
-ghost use Rattle.nd_shape_and_slice.specs.Shape.{size_of, HasCheckedSize};
-ghost use Rattle.nd_layout.specs.Places.{ReachesPlaces};
-ghost use Rattle.nd_storage.specs.Collected.{collected, stored_along, stored_by_rank, IsFront};
+ghost use Rattle.std.specs.Prelude.{◌≡◌, ◌+◌, ◌<◌, ◌≤◌, [], IfOk, OnOk, OnErr, length, pos, slice_get, vec_len, vec_capacity};
+ghost use Rattle.nd_layout.specs.Lanes.{along, ranked};
+ghost use Rattle.nd_storage.specs.Collected.{IsFront};
 ghost use Rattle.nd_storage.specs.CloneRefusals.{MayRefuseBelow};
-ghost use Rattle.nd_storage.specs.Clones.{ClonesAreEqual, StoredClonesAreEqual};
+ghost use Rattle.nd_storage.specs.Clones.{StoredClonesAreEqual};
+ghost use Rattle.nd_storage.specs.NumberedPlaces.{in_turn, Holds, ListsBehind, ClonesAreEqualAt, MayRefuseAt};
 
 use crate::storage::Data;
-use nd_layout::{Lane, Lanes};
-use nd_shape_and_slice::{Dimension, NoMemory, StrideList};
+use nd_layout::{Lane, Places};
+use nd_shape_and_slice::NoMemory;
 use std::alloc::Global;
 use std::mem;
 
@@ -32,7 +32,7 @@ pub fn clones_of<A: Clone>(alloc: Global, xs: &[A]) -> Result<Vec<A>, NoMemory>
 fn clones_behind<A: Clone>(items: Vec<A>, run: &[A]) -> (Vec<A>, Result<(), NoMemory>)
     requires clones { StoredClonesAreEqual A.is_clone run.now }
     requires room { vec_len items + length run.now ≤ vec_capacity items }
-    ensures items { OnOk result.1 (result.0.items ≡ items.items ++ collected (slice_get run.now) (length run.now)) }
+    ensures items { OnOk result.1 (ListsBehind slice_get (in_turn run.now) run.now items result.0) }
     ensures len { OnOk result.1 (vec_len result.0 ≡ vec_len items + length run.now) }
     ensures room { vec_capacity result.0 ≡ vec_capacity items }
     ensures kept { OnErr result.1 (IsFront items.items result.0.items) }
@@ -57,14 +57,14 @@ fn clones_along<S: Data>(
 ) -> (Vec<S::Elem>, Result<(), NoMemory>)
 where
     S::Elem: Clone,
-    requires clones { (k : ℕ) (x : S.Elem) → k < lane.count → stored_along (S.stored storage.now) lane.place lane.stride k ≡ Some x → ClonesAreEqual S.Elem.is_clone x }
-    requires holds { (k : ℕ) → k < lane.count → is_some (stored_along (S.stored storage.now) lane.place lane.stride k) ≡ true }
+    requires clones { ClonesAreEqualAt S.Elem.is_clone S.stored (along lane) storage.now }
+    requires holds { Holds S.stored (along lane) storage.now }
     requires room { vec_len items + lane.count ≤ vec_capacity items }
-    ensures items { OnOk result.1 (result.0.items ≡ items.items ++ collected (stored_along (S.stored storage.now) lane.place lane.stride) lane.count) }
+    ensures items { OnOk result.1 (ListsBehind S.stored (along lane) storage.now items result.0) }
     ensures len { OnOk result.1 (vec_len result.0 ≡ vec_len items + lane.count) }
     ensures room { vec_capacity result.0 ≡ vec_capacity items }
     ensures kept { OnErr result.1 (IsFront items.items result.0.items) }
-    ensures refused { OnErr result.1 (MayRefuseBelow S.Elem.is_infallible (stored_along (S.stored storage.now) lane.place lane.stride) lane.count) }
+    ensures refused { OnErr result.1 (MayRefuseAt S.Elem.is_infallible S.stored (along lane) storage.now) }
 {
     // A region in hand: what a write may not change isn't read anew for each element.
     let region = storage.borrowed();
@@ -86,14 +86,14 @@ fn extend_by_steps<S: Data>(
 ) -> Result<(), NoMemory>
 where
     S::Elem: Clone,
-    requires clones { (k : ℕ) (x : S.Elem) → k < lane.count → stored_along (S.stored storage.now) lane.place lane.stride k ≡ Some x → ClonesAreEqual S.Elem.is_clone x }
-    requires holds { (k : ℕ) → k < lane.count → is_some (stored_along (S.stored storage.now) lane.place lane.stride k) ≡ true }
+    requires clones { ClonesAreEqualAt S.Elem.is_clone S.stored (along lane) storage.now }
+    requires holds { Holds S.stored (along lane) storage.now }
     requires room { vec_len items.old + lane.count ≤ vec_capacity items.old }
-    ensures items { OnOk result (items.new.items ≡ items.old.items ++ collected (stored_along (S.stored storage.now) lane.place lane.stride) lane.count) }
+    ensures items { OnOk result (ListsBehind S.stored (along lane) storage.now items.old items.new) }
     ensures len { OnOk result (vec_len items.new ≡ vec_len items.old + lane.count) }
     ensures room { vec_capacity items.new ≡ vec_capacity items.old }
     ensures kept { OnErr result (IsFront items.old.items items.new.items) }
-    ensures refused { OnErr result (MayRefuseBelow S.Elem.is_infallible (stored_along (S.stored storage.now) lane.place lane.stride) lane.count) }
+    ensures refused { OnErr result (MayRefuseAt S.Elem.is_infallible S.stored (along lane) storage.now) }
 {
     let alloc = *items.allocator();
     let held = mem::replace(items, Vec::new(alloc));
@@ -108,14 +108,14 @@ fn extend_by_run<S: Data>(items: &mut Vec<S::Elem>, storage: &S, lane: Lane) -> 
 where
     S::Elem: Clone,
     requires beside { lane.stride ≡ pos 1 }
-    requires clones { (k : ℕ) (x : S.Elem) → k < lane.count → stored_along (S.stored storage.now) lane.place lane.stride k ≡ Some x → ClonesAreEqual S.Elem.is_clone x }
-    requires holds { (k : ℕ) → k < lane.count → is_some (stored_along (S.stored storage.now) lane.place lane.stride k) ≡ true }
+    requires clones { ClonesAreEqualAt S.Elem.is_clone S.stored (along lane) storage.now }
+    requires holds { Holds S.stored (along lane) storage.now }
     requires room { vec_len items.old + lane.count ≤ vec_capacity items.old }
-    ensures items { OnOk result (items.new.items ≡ items.old.items ++ collected (stored_along (S.stored storage.now) lane.place lane.stride) lane.count) }
+    ensures items { OnOk result (ListsBehind S.stored (along lane) storage.now items.old items.new) }
     ensures len { OnOk result (vec_len items.new ≡ vec_len items.old + lane.count) }
     ensures room { vec_capacity items.new ≡ vec_capacity items.old }
     ensures kept { OnErr result (IsFront items.old.items items.new.items) }
-    ensures refused { OnErr result (MayRefuseBelow S.Elem.is_infallible (stored_along (S.stored storage.now) lane.place lane.stride) lane.count) }
+    ensures refused { OnErr result (MayRefuseAt S.Elem.is_infallible S.stored (along lane) storage.now) }
 {
     let run = storage.borrowed().run(lane.place, lane.count);
     let alloc = *items.allocator();
@@ -134,14 +134,14 @@ fn extend_by_lane<S: Data>(
 ) -> Result<(), NoMemory>
 where
     S::Elem: Clone,
-    requires clones { (k : ℕ) (x : S.Elem) → k < lane.count → stored_along (S.stored storage.now) lane.place lane.stride k ≡ Some x → ClonesAreEqual S.Elem.is_clone x }
-    requires holds { (k : ℕ) → k < lane.count → is_some (stored_along (S.stored storage.now) lane.place lane.stride k) ≡ true }
+    requires clones { ClonesAreEqualAt S.Elem.is_clone S.stored (along lane) storage.now }
+    requires holds { Holds S.stored (along lane) storage.now }
     requires room { vec_len items.old + lane.count ≤ vec_capacity items.old }
-    ensures items { OnOk result (items.new.items ≡ items.old.items ++ collected (stored_along (S.stored storage.now) lane.place lane.stride) lane.count) }
+    ensures items { OnOk result (ListsBehind S.stored (along lane) storage.now items.old items.new) }
     ensures len { OnOk result (vec_len items.new ≡ vec_len items.old + lane.count) }
     ensures room { vec_capacity items.new ≡ vec_capacity items.old }
     ensures kept { OnErr result (IsFront items.old.items items.new.items) }
-    ensures refused { OnErr result (MayRefuseBelow S.Elem.is_infallible (stored_along (S.stored storage.now) lane.place lane.stride) lane.count) }
+    ensures refused { OnErr result (MayRefuseAt S.Elem.is_infallible S.stored (along lane) storage.now) }
 {
     if lane.stride == 1 {
         return extend_by_run(items, storage, lane);
@@ -149,30 +149,24 @@ where
     extend_by_steps(items, storage, lane)
 }
 
-/// Puts clones of the elements of a layout, by row-major rank, behind those that a vector has.
+/// Puts clones of the elements at the places of a layout, by row-major rank, behind those that a vector has.
 pub fn list<S: Data>(
     items: &mut Vec<S::Elem>,
     storage: &S,
-    first: usize,
-    lengths: &[usize],
-    strides: &[isize],
+    places: Places<'_>,
 ) -> Result<(), NoMemory>
 where
     S::Elem: Clone + Drop,
-    requires as_many { length strides.now ≡ length lengths.now }
-    requires few { length lengths.now ≤ 32 }
-    requires checked { HasCheckedSize lengths.now }
-    requires reach { ReachesPlaces first lengths.now strides.now }
-    requires clones { (rank : ℕ) (x : S.Elem) → rank < size_of lengths.now → stored_by_rank (S.stored storage.now) first lengths.now strides.now rank ≡ Some x → ClonesAreEqual S.Elem.is_clone x }
-    requires holds { (rank : ℕ) → rank < size_of lengths.now → is_some (stored_by_rank (S.stored storage.now) first lengths.now strides.now rank) ≡ true }
-    requires room { vec_len items.old + size_of lengths.now ≤ vec_capacity items.old }
-    ensures items { OnOk result (items.new.items ≡ items.old.items ++ collected (stored_by_rank (S.stored storage.now) first lengths.now strides.now) (size_of lengths.now)) }
-    ensures count { OnOk result (vec_len items.new ≡ vec_len items.old + size_of lengths.now) }
+    requires clones { ClonesAreEqualAt S.Elem.is_clone S.stored (ranked places) storage.now }
+    requires holds { Holds S.stored (ranked places) storage.now }
+    requires room { vec_len items.old + (ranked places).count ≤ vec_capacity items.old }
+    ensures items { OnOk result (ListsBehind S.stored (ranked places.entry) storage.now items.old items.new) }
+    ensures count { OnOk result (vec_len items.new ≡ vec_len items.old + (ranked places.entry).count) }
     ensures room { vec_capacity items.old ≤ vec_capacity items.new }
     ensures kept { OnErr result (IsFront items.old.items items.new.items) }
-    ensures refused { OnErr result (MayRefuseBelow S.Elem.is_infallible (stored_by_rank (S.stored storage.now) first lengths.now strides.now) (size_of lengths.now)) }
+    ensures refused { OnErr result (MayRefuseAt S.Elem.is_infallible S.stored (ranked places.entry) storage.now) }
 {
-    let mut lanes = Lanes::new(first, lengths, strides);
+    let mut lanes = places.lanes();
     while let Some(lane) = lanes.next() {
         match extend_by_lane(items, storage, lane) {
             Ok(()) => {}
@@ -186,6 +180,7 @@ where
 pub fn room_of<A>(alloc: Global, count: usize) -> Result<Vec<A>, NoMemory>
     ensures none { IfOk result (λ v. (v.items ≡ []) × (vec_len v ≡ 0)) }
     ensures room { IfOk result (λ v. vec_capacity v ≡ count) }
+    ensures refused { OnErr result (0 < count) }
 {
     match Vec::with_capacity(alloc, count) {
         Ok(items) => Ok(items),

@@ -1,17 +1,14 @@
 //! A closure that is handed the elements of two storages: one to be written, and one beside it.
 
-ghost use Rattle.std.specs.Prelude.{◌≡◌, ◌<◌, ◌≤◌, ℕ, true, Some, IsSome, pos, length, slice_get, ◌+ℤ◌, ◌*ℤ◌};
-ghost use Rattle.nd_shape_and_slice.specs.Shape.{size_of, HasCheckedSize};
-ghost use Rattle.nd_layout.specs.Places.{ReachesPlaces};
-ghost use Rattle.nd_layout.specs.Walk.{place_at_rank};
+ghost use Rattle.std.specs.Prelude.{◌≡◌, ◌<◌, ℕ, Some, IsSome, pos, length, slice_get};
+ghost use Rattle.nd_layout.specs.Lanes.{along, ranked};
 ghost use Rattle.nd_layout.specs.Placements.{placement_of, KeepsApart};
-ghost use Rattle.nd_storage.specs.ByLayout.{HoldsShown, LeavesOthers, TakesShown, ZipsShown, ZipsShownTo};
-ghost use Rattle.nd_storage.specs.Places.{names_place};
-ghost use Rattle.nd_storage.specs.elements.Changes.{AreDistinct};
-ghost use Rattle.nd_storage.specs.elements.Pairs.{ChangesWith, TakesBoth, IsZippedTo, TakesPairs};
+ghost use Rattle.nd_storage.specs.ByLayout.{HoldsShown, LeavesOthers, TakesShown, ZipsShown, ZipsTo};
+ghost use Rattle.nd_storage.specs.NumberedPlaces.{in_turn, Holds, PlacesDiffer};
+ghost use Rattle.nd_storage.specs.elements.Pairs.{ChangesBoth, TakesBoth, MayZipAt, ZipsAt, MayZipAlong, ZipsAlong, MayZip, Zips};
 
 use crate::storage::{Data, DataMut};
-use nd_layout::{Lane, Lanes, Layout, halved_alike, is_worth_turning, turned_alike};
+use nd_layout::{Lane, Layout, Places, halved_alike, is_worth_turning, turned_alike};
 use nd_shape_and_slice::{Dimension, StrideList};
 
 /// Hands the element at a place to the function, to be written, with another one beside it. It returns the function, as
@@ -24,7 +21,7 @@ fn change_with<B, S: DataMut, F: FnMut(&mut S::Elem, &B)>(
 ) -> F
     requires holds { IsSome (S.stored storage.old place) }
     requires callable { TakesBoth F.FnMut (Some other.now) (S.stored storage.old place) f }
-    ensures called { ChangesWith F.FnMut (Some other.now) (S.stored storage.old place) (S.stored storage.new place) f result }
+    ensures called { ChangesBoth F.FnMut S.stored (Some other.now) place storage.old storage.new f result }
     ensures left { (p : ℕ) → (p ≡ place → ⊥) → S.stored storage.new p ≡ S.stored storage.old p }
     ensures frame { S.frame storage.new ≡ S.frame storage.old }
 {
@@ -42,11 +39,11 @@ fn zip_along<B, S: DataMut, Z: Data<Elem = B>, F: FnMut(&mut S::Elem, &B)>(
     f: F,
 ) -> F
     requires as_long { beside.count ≡ lane.count }
-    requires apart { AreDistinct (λ k. pos lane.place +ℤ (pos k *ℤ lane.stride)) lane.count }
-    requires holds { (k : ℕ) → k < lane.count → names_place (S.stored storage.old) (pos lane.place +ℤ (pos k *ℤ lane.stride)) ≡ true }
-    requires others_hold { (k : ℕ) → k < lane.count → names_place (Z.stored others.now) (pos beside.place +ℤ (pos k *ℤ beside.stride)) ≡ true }
-    requires callable { TakesPairs F.FnMut (S.stored storage.old) (λ k. pos lane.place +ℤ (pos k *ℤ lane.stride)) (Z.stored others.now) (λ k. pos beside.place +ℤ (pos k *ℤ beside.stride)) f lane.count }
-    ensures changed { IsZippedTo F.FnMut (λ k. pos lane.place +ℤ (pos k *ℤ lane.stride)) (Z.stored others.now) (λ k. pos beside.place +ℤ (pos k *ℤ beside.stride)) lane.count (S.stored storage.old) (S.stored storage.new) f result }
+    requires apart { PlacesDiffer (along lane) }
+    requires holds { Holds S.stored (along lane) storage.old }
+    requires others_hold { Holds Z.stored (along beside) others.now }
+    requires callable { MayZipAlong F.FnMut S.stored Z.stored lane beside storage.old others.now f }
+    ensures changed { ZipsAlong F.FnMut S.stored Z.stored lane beside others.now storage.old storage.new f result }
     ensures frame { S.frame storage.new ≡ S.frame storage.old }
 {
     let mut now = f;
@@ -60,8 +57,8 @@ fn zip_along<B, S: DataMut, Z: Data<Elem = B>, F: FnMut(&mut S::Elem, &B)>(
 /// The same of two slices.
 fn zip_run<A, B, F: FnMut(&mut A, &B)>(xs: &mut [A], ys: &[B], mut f: F) -> F
     requires as_long { length ys.now ≡ length xs.old }
-    requires callable { TakesPairs F.FnMut (slice_get xs.old) (λ k. pos k) (slice_get ys.now) (λ k. pos k) f (length xs.old) }
-    ensures changed { IsZippedTo F.FnMut (λ k. pos k) (slice_get ys.now) (λ k. pos k) (length xs.old) (slice_get xs.old) (slice_get xs.new) f result }
+    requires callable { MayZipAt F.FnMut slice_get slice_get (in_turn xs.old) (in_turn ys.now) xs.old ys.now f }
+    ensures changed { ZipsAt F.FnMut slice_get slice_get (in_turn xs.old) (in_turn ys.now) ys.now xs.old xs.new f result }
     ensures long { length xs.new ≡ length xs.old }
 {
     for nth in 0..ys.len() {
@@ -81,11 +78,11 @@ fn zip_beside<B, S: DataMut, Z: Data<Elem = B>, F: FnMut(&mut S::Elem, &B)>(
     requires some { 0 < lane.count }
     requires steps { (lane.stride ≡ pos 1) × (beside.stride ≡ pos 1) }
     requires as_long { beside.count ≡ lane.count }
-    requires apart { AreDistinct (λ k. pos lane.place +ℤ (pos k *ℤ lane.stride)) lane.count }
-    requires holds { (k : ℕ) → k < lane.count → names_place (S.stored storage.old) (pos lane.place +ℤ (pos k *ℤ lane.stride)) ≡ true }
-    requires others_hold { (k : ℕ) → k < lane.count → names_place (Z.stored others.now) (pos beside.place +ℤ (pos k *ℤ beside.stride)) ≡ true }
-    requires callable { TakesPairs F.FnMut (S.stored storage.old) (λ k. pos lane.place +ℤ (pos k *ℤ lane.stride)) (Z.stored others.now) (λ k. pos beside.place +ℤ (pos k *ℤ beside.stride)) f lane.count }
-    ensures changed { IsZippedTo F.FnMut (λ k. pos lane.place +ℤ (pos k *ℤ lane.stride)) (Z.stored others.now) (λ k. pos beside.place +ℤ (pos k *ℤ beside.stride)) lane.count (S.stored storage.old) (S.stored storage.new) f result }
+    requires apart { PlacesDiffer (along lane) }
+    requires holds { Holds S.stored (along lane) storage.old }
+    requires others_hold { Holds Z.stored (along beside) others.now }
+    requires callable { MayZipAlong F.FnMut S.stored Z.stored lane beside storage.old others.now f }
+    ensures changed { ZipsAlong F.FnMut S.stored Z.stored lane beside others.now storage.old storage.new f result }
     ensures frame { S.frame storage.new ≡ S.frame storage.old }
 {
     let ys = others.borrowed().run(beside.place, beside.count);
@@ -101,9 +98,9 @@ fn zip_into<A, B, Z: Data<Elem = B>, F: FnMut(&mut A, &B)>(
     mut f: F,
 ) -> F
     requires as_long { beside.count ≡ length xs.old }
-    requires others_hold { (k : ℕ) → k < beside.count → names_place (Z.stored others.now) (pos beside.place +ℤ (pos k *ℤ beside.stride)) ≡ true }
-    requires callable { TakesPairs F.FnMut (slice_get xs.old) (λ k. pos k) (Z.stored others.now) (λ k. pos beside.place +ℤ (pos k *ℤ beside.stride)) f (length xs.old) }
-    ensures changed { IsZippedTo F.FnMut (λ k. pos k) (Z.stored others.now) (λ k. pos beside.place +ℤ (pos k *ℤ beside.stride)) (length xs.old) (slice_get xs.old) (slice_get xs.new) f result }
+    requires others_hold { Holds Z.stored (along beside) others.now }
+    requires callable { MayZipAt F.FnMut slice_get Z.stored (in_turn xs.old) (along beside) xs.old others.now f }
+    ensures changed { ZipsAt F.FnMut slice_get Z.stored (in_turn xs.old) (along beside) others.now xs.old xs.new f result }
     ensures long { length xs.new ≡ length xs.old }
 {
     for nth in 0..beside.count {
@@ -124,10 +121,10 @@ fn zip_aside<B, S: DataMut, Z: Data<Elem = B>, F: FnMut(&mut S::Elem, &B)>(
     requires some { 0 < lane.count }
     requires step { lane.stride ≡ pos 1 }
     requires as_long { beside.count ≡ lane.count }
-    requires holds { (k : ℕ) → k < lane.count → names_place (S.stored storage.old) (pos lane.place +ℤ (pos k *ℤ lane.stride)) ≡ true }
-    requires others_hold { (k : ℕ) → k < lane.count → names_place (Z.stored others.now) (pos beside.place +ℤ (pos k *ℤ beside.stride)) ≡ true }
-    requires callable { TakesPairs F.FnMut (S.stored storage.old) (λ k. pos lane.place +ℤ (pos k *ℤ lane.stride)) (Z.stored others.now) (λ k. pos beside.place +ℤ (pos k *ℤ beside.stride)) f lane.count }
-    ensures changed { IsZippedTo F.FnMut (λ k. pos lane.place +ℤ (pos k *ℤ lane.stride)) (Z.stored others.now) (λ k. pos beside.place +ℤ (pos k *ℤ beside.stride)) lane.count (S.stored storage.old) (S.stored storage.new) f result }
+    requires holds { Holds S.stored (along lane) storage.old }
+    requires others_hold { Holds Z.stored (along beside) others.now }
+    requires callable { MayZipAlong F.FnMut S.stored Z.stored lane beside storage.old others.now f }
+    ensures changed { ZipsAlong F.FnMut S.stored Z.stored lane beside others.now storage.old storage.new f result }
     ensures frame { S.frame storage.new ≡ S.frame storage.old }
 {
     zip_into(storage.lend_run(lane.place, lane.count), others, beside, f)
@@ -142,11 +139,11 @@ fn zip_lane<B, S: DataMut, Z: Data<Elem = B>, F: FnMut(&mut S::Elem, &B)>(
     f: F,
 ) -> F
     requires as_long { beside.count ≡ lane.count }
-    requires apart { AreDistinct (λ k. pos lane.place +ℤ (pos k *ℤ lane.stride)) lane.count }
-    requires holds { (k : ℕ) → k < lane.count → names_place (S.stored storage.old) (pos lane.place +ℤ (pos k *ℤ lane.stride)) ≡ true }
-    requires others_hold { (k : ℕ) → k < lane.count → names_place (Z.stored others.now) (pos beside.place +ℤ (pos k *ℤ beside.stride)) ≡ true }
-    requires callable { TakesPairs F.FnMut (S.stored storage.old) (λ k. pos lane.place +ℤ (pos k *ℤ lane.stride)) (Z.stored others.now) (λ k. pos beside.place +ℤ (pos k *ℤ beside.stride)) f lane.count }
-    ensures changed { IsZippedTo F.FnMut (λ k. pos lane.place +ℤ (pos k *ℤ lane.stride)) (Z.stored others.now) (λ k. pos beside.place +ℤ (pos k *ℤ beside.stride)) lane.count (S.stored storage.old) (S.stored storage.new) f result }
+    requires apart { PlacesDiffer (along lane) }
+    requires holds { Holds S.stored (along lane) storage.old }
+    requires others_hold { Holds Z.stored (along beside) others.now }
+    requires callable { MayZipAlong F.FnMut S.stored Z.stored lane beside storage.old others.now f }
+    ensures changed { ZipsAlong F.FnMut S.stored Z.stored lane beside others.now storage.old storage.new f result }
     ensures frame { S.frame storage.new ≡ S.frame storage.old }
 {
     if lane.count == 0 || lane.stride != 1 {
@@ -159,37 +156,29 @@ fn zip_lane<B, S: DataMut, Z: Data<Elem = B>, F: FnMut(&mut S::Elem, &B)>(
 }
 
 /// Hands the elements at the places of a layout to the function, in row-major order of its indexes, each with the element
-/// that a second storage has at the place of that index under other strides.
+/// that a second storage has at the place of that index under a layout of its own.
 fn zip_places<B, S: DataMut, Z: Data<Elem = B>, F: FnMut(&mut S::Elem, &B)>(
     storage: &mut S,
-    first: usize,
-    lengths: &[usize],
-    strides: &[isize],
+    places: Places<'_>,
     others: &Z,
-    from: usize,
-    steps: &[isize],
+    beside: Places<'_>,
     f: F,
 ) -> F
-    requires as_many { length strides.now ≡ length lengths.now }
-    requires steps_as_many { length steps.now ≡ length lengths.now }
-    requires few { length lengths.now ≤ 32 }
-    requires checked { HasCheckedSize lengths.now }
-    requires reach { ReachesPlaces first lengths.now strides.now }
-    requires others_reach { ReachesPlaces from lengths.now steps.now }
-    requires apart { AreDistinct (place_at_rank first lengths.now strides.now) (size_of lengths.now) }
-    requires holds { (rank : ℕ) → rank < size_of lengths.now → names_place (S.stored storage.old) (place_at_rank first lengths.now strides.now rank) ≡ true }
-    requires others_hold { (rank : ℕ) → rank < size_of lengths.now → names_place (Z.stored others.now) (place_at_rank from lengths.now steps.now rank) ≡ true }
-    requires callable { TakesPairs F.FnMut (S.stored storage.old) (place_at_rank first lengths.now strides.now) (Z.stored others.now) (place_at_rank from lengths.now steps.now) f (size_of lengths.now) }
-    ensures changed { IsZippedTo F.FnMut (place_at_rank first lengths.now strides.now) (Z.stored others.now) (place_at_rank from lengths.now steps.now) (size_of lengths.now) (S.stored storage.old) (S.stored storage.new) f result }
+    requires alike { beside.lengths.now ≡ places.lengths.now }
+    requires apart { PlacesDiffer (ranked places) }
+    requires holds { Holds S.stored (ranked places) storage.old }
+    requires others_hold { Holds Z.stored (ranked beside) others.now }
+    requires callable { MayZip F.FnMut S.stored Z.stored places beside storage.old others.now f }
+    ensures changed { Zips F.FnMut S.stored Z.stored places.entry beside.entry others.now storage.old storage.new f result }
     ensures frame { S.frame storage.new ≡ S.frame storage.old }
 {
-    let mut ours = Lanes::new(first, lengths, strides);
-    let mut theirs = Lanes::new(from, lengths, steps);
+    let mut ours = places.lanes();
+    let mut theirs = beside.lanes();
     let mut now = f;
     while let Some(lane) = ours.next() {
         match theirs.next() {
-            Some(beside) => {
-                now = zip_lane(storage, lane, others, beside, now);
+            Some(aside) => {
+                now = zip_lane(storage, lane, others, aside, now);
             }
             None => unreachable!(),
         }
@@ -217,21 +206,12 @@ where
     requires holds { HoldsShown S.stored storage.old layout.now }
     requires others_hold { HoldsShown Z.stored others.now beside.now }
     requires callable { TakesShown F.FnMut S.stored Z.stored storage.old layout.now others.now beside.now f }
-    ensures visits { ZipsShownTo F.FnMut S.stored Z.stored storage.old layout.now others.now beside.now storage.new f result }
+    ensures visits { ZipsTo F.FnMut S.stored Z.stored storage.old layout.now others.now beside.now storage.new f result }
     ensures holds { HoldsShown S.stored storage.new layout.now }
     ensures others { LeavesOthers S.stored layout.now storage.old storage.new }
     ensures frame { S.frame storage.new ≡ S.frame storage.old }
 {
-    zip_places(
-        storage,
-        layout.offset,
-        layout.dim.slice(),
-        layout.strides.slice(),
-        others,
-        beside.offset,
-        beside.strides.slice(),
-        f,
-    )
+    zip_places(storage, layout.places(), others, beside.places(), f)
 }
 
 /// The same in halves, one after the other, where long lanes go across the order of the second storage's elements.
@@ -253,7 +233,7 @@ where
     requires holds { HoldsShown S.stored storage.old layout.now }
     requires others_hold { HoldsShown Z.stored others.now beside.now }
     requires callable { TakesShown F.FnMut S.stored Z.stored storage.old layout.now others.now beside.now f }
-    ensures visits { ZipsShownTo F.FnMut S.stored Z.stored storage.old layout.now others.now beside.now storage.new f result }
+    ensures visits { ZipsTo F.FnMut S.stored Z.stored storage.old layout.now others.now beside.now storage.new f result }
     ensures holds { HoldsShown S.stored storage.new layout.now }
     ensures others { LeavesOthers S.stored layout.now storage.old storage.new }
     ensures frame { S.frame storage.new ≡ S.frame storage.old }

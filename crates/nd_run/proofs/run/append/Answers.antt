@@ -7,7 +7,6 @@ use Rattle.nd_shape_and_slice.specs.declared.errors.ErrorKind.{ErrorKind}
 use Rattle.nd_array_core.specs.Joined.{concatenated_shape, shape_behind}
 use Rattle.nd_array_core.specs.Meaning.{shape_of}
 use Rattle.nd_array_core.specs.growth.Appended.{CanComeBehind, FitsBehind, IsJoiningRefused, NotFitting, TooLarge, IsAppendRefused}
-use Rattle.nd_array_core.proofs.growth_lemmas.Stretched.{none_behind}
 use Rattle.nd_run.specs.declared.cause.Cause.{Cause}
 use Rattle.nd_run.specs.declared.cause.Cause.TheVariants as causes
 use Rattle.nd_run.specs.Steps.{first_failed}
@@ -38,12 +37,6 @@ unreachable-requires g c =
     let fit = fits c.args.axis ms ns (c.in-Ok.ensures {u = tt}) in
     not_refused ns ms c.args.axis c.in-Err-Shape.field-0-0 fit.0 fit.1 (subst (IsAppendRefused ns ms c.args.axis) c.in-Err-Shape.field-0-is (c.in-Err-Shape.ensures {u = tt}).refused)
 
-on_axis : (axis : ℕ) (ms ns : List ℕ) → first_failed (append_tests axis ms ns) ≡ None → axis < length ns
-on_axis axis ms ns e =
-    let axes = passed (nat_lt 0 (length ns)) causes.Shape _ e in
-    let on = passed (nat_lt axis (length ns)) causes.Axis _ axes.1 in
-    ltb-true axis (length ns) on.0
-
 pub returns-in-Err-NoMemory : goal.returns-in-Err-NoMemory
 returns-in-Err-NoMemory g c =
     let axis = c.args.axis in
@@ -52,4 +45,4 @@ returns-in-Err-NoMemory g c =
     let tests : first_failed (append_tests axis ms ns) ≡ None = c.in-Ok.ensures {u = tt} in
     let fit = fits axis ms ns tests in
     let lacks = subst (IsAppendRefused ns ms axis) c.in-Err-NoMemory.field-0-is (c.in-Err-NoMemory.ensures {u = tt}).refused in
-    (tests, ap not (ne_eqb (size_of ms) 0 (λ none. let gone = none_behind ns ms axis (on_axis axis ms ns tests) fit.0 none in let some = lacks.1 in omega (arith, some, gone))))
+    (tests, ap not (ne_eqb (size_of ms) 0 (λ none. let gone = c.shapes_behind.ensures.none ns ms axis fit.0 none in let some = lacks.1 in omega (arith, some, gone))))

@@ -1,12 +1,12 @@
-use Rattle.std.proofs.Common.{◌≡◌, ◌∙◌, ℕ, ◌+◌, ◌<◌, Bool, true, false, List, ◌∷◌, length, length-append, take, drop, get_or, Some, refl, ap, subst, sym, arith}
+use Rattle.std.proofs.Common.{◌≡◌, ◌∙◌, ℕ, ◌+◌, ◌<◌, Bool, true, false, List, ◌∷◌, length, length-append, take, drop, Some, refl, ap, subst, sym, arith}
 use Rattle.std.specs.List.{insert}
 use Rattle.std.proofs.lemmas.Bool.{lt-ltb}
-use Rattle.std.proofs.lemmas.List.{length-set, take-append-drop}
+use Rattle.std.proofs.lemmas.List.{take-append-drop}
 use Rattle.nd_shape_and_slice.specs.Broadcast.{stretches}
 use Rattle.nd_array_core.specs.Joined.{shape_behind}
+use Rattle.nd_array_core.specs.growth.Appended.{FitsBehind}
 use Rattle.nd_array_core.specs.Laws.{with_axis_inserted}
 use Rattle.nd_array_core.specs.Meaning.{meaning_of}
-use Rattle.nd_array_core.proofs.growth_lemmas.Stretched.{stretches_long}
 use Rattle.nd_run.specs.declared.cause.Cause.TheVariants as causes
 use Rattle.nd_run.specs.Calls.{Appending, SaidRefused}
 use Rattle.nd_run.specs.Steps.{first_failed}
@@ -14,19 +14,22 @@ use Rattle.nd_run.specs.Fold.{append_tests, CarriesOut}
 use Rattle.nd_run.proofs.FoldLemmas.{carried, same_meaning}
 use Rattle.nd_run.proofs.run.push.Goals as goal
 
+-- what fits behind a shape has as many axes
+abbrev AsManyAxes : Type 0
+AsManyAxes = (ns ms : List ℕ) (axis : ℕ) → FitsBehind ns ms axis → length ms ≡ length ns
+
 -- a shape of another number of axes stretches to none
-other_axes : (axis : ℕ) (ms ns : List ℕ) → (length ms + 1 ≡ length ns → ⊥) → stretches (insert ms axis 1) (shape_behind ns (insert ms axis 1) axis) ≡ false
-other_axes axis ms ns apart = by_test (stretches (insert ms axis 1) (shape_behind ns (insert ms axis 1) axis)) refl
+other_axes : AsManyAxes → (axis : ℕ) (ms ns : List ℕ) → 0 < length ns → (length ms + 1 ≡ length ns → ⊥) → stretches (insert ms axis 1) (shape_behind ns (insert ms axis 1) axis) ≡ false
+other_axes as_many axis ms ns some apart = by_test (stretches (insert ms axis 1) (shape_behind ns (insert ms axis 1) axis)) refl
   where
     by_test : (t : Bool) → stretches (insert ms axis 1) (shape_behind ns (insert ms axis 1) axis) ≡ t → t ≡ false
     by_test false e = refl
     by_test true e =
-        let n = get_or (insert ms axis 1) axis 0 in
-        let same = stretches_long (insert ms axis 1) (shape_behind ns (insert ms axis 1) axis) e in
-        absurd (apart (omega (arith, same, length-set ns axis n, length-append (take axis ms) (1 ∷ drop axis ms), length-append (take axis ms) (drop axis ms), ap length (take-append-drop axis ms))))
+        let same = as_many ns (insert ms axis 1) axis (some, e) in
+        absurd (apart (omega (arith, same, length-append (take axis ms) (1 ∷ drop axis ms), length-append (take axis ms) (drop axis ms), ap length (take-append-drop axis ms))))
 
-unfit : (axis : ℕ) (ms ns : List ℕ) → 0 < length ns → axis < length ns → (length ms + 1 ≡ length ns → ⊥) → first_failed (append_tests axis (insert ms axis 1) ns) ≡ Some causes.Shape
-unfit axis ms ns some on apart = rw (lt-ltb 0 (length ns) some, lt-ltb axis (length ns) on, other_axes axis ms ns apart) refl
+unfit : AsManyAxes → (axis : ℕ) (ms ns : List ℕ) → 0 < length ns → axis < length ns → (length ms + 1 ≡ length ns → ⊥) → first_failed (append_tests axis (insert ms axis 1) ns) ≡ Some causes.Shape
+unfit as_many axis ms ns some on apart = rw (lt-ltb 0 (length ns) some, lt-ltb axis (length ns) on, other_axes as_many axis ms ns some apart) refl
 
 pub returns : goal.returns
 returns g c =
@@ -46,4 +49,4 @@ returns-then-ndim g c =
     let on : axis < length m.shape = let all = c.ndim-2.ensures.value in omega (arith, c.if-axis-ndim.false, all) in
     let apart : length n.shape + 1 ≡ length m.shape → ⊥ = λ e. c.if-ndim.true (let few = c.ndim-3.ensures.value in let all = c.ndim-4.ensures.value in omega (arith, e, few, all)) in
     ap (λ k. (SaidRefused k, m)) c.number-then-ndim.ensures
-    ∙ carried g.A.PartialEq.eq (Appending axis (with_axis_inserted axis n)) m (Some causes.Shape) m (sym (unfit axis n.shape m.shape some on apart)) refl refl
+    ∙ carried g.A.PartialEq.eq (Appending axis (with_axis_inserted axis n)) m (Some causes.Shape) m (sym (unfit c.shapes_behind.ensures.axes axis n.shape m.shape some on apart)) refl refl

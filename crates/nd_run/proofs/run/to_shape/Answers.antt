@@ -3,7 +3,6 @@ use Rattle.nd_shape_and_slice.specs.declared.builder.Order.{Order}
 use Rattle.nd_array_core.specs.Meaning.{Meaning, meaning_of}
 use Rattle.nd_array_core.specs.Joined.{row_major_elements}
 use Rattle.nd_array_core.specs.reshape.Serving.{regrouped_meaning}
-use Rattle.nd_array_core.proofs.law_lemmas.EitherShown.{either_is}
 use Rattle.nd_run.specs.declared.cause.Cause.{Cause}
 use Rattle.nd_run.specs.Calls.{SaidElements, AskReshaped}
 use Rattle.nd_run.specs.Steps.{first_failed, unless}
@@ -21,6 +20,6 @@ returns-in_ok-elements-in-Ok-to_shape-clause-reply g c =
     let order = c.args.order in
     let m = meaning_of c.args.view.now in
     let asked = ap (λ (to : List ℕ). regrouped_meaning order to m) c.in-Ok.ensures.lengths in
-    let is : meaning_of c.view.result ≡ regrouped_meaning order c.args.lengths.now m = either_is c.args.view.now order _ c.in-Ok-to_shape.reshaped c.view.result c.in-Ok-to_shape.ensures.kind c.view.ensures.whole ∙ asked in
+    let is : meaning_of c.view.result ≡ regrouped_meaning order c.args.lengths.now m = c.view.ensures.shown ∙ (c.in-Ok-to_shape.ensures.shown ∙ asked) in
     let lengths : c.in_ok-shape.shape.items ≡ c.args.lengths.now = (search rules) in
     told g.A.PartialEq.eq c.args.lengths.now order m c.in_ok-shape.shape.items c.in_ok-elements-in-Ok-to_shape.field-0.items c.in-Ok.ensures.refused lengths (c.in_ok-elements-in-Ok-to_shape.ensures ∙ ap row_major_elements is)

@@ -5,21 +5,19 @@ use Rattle.nd_array_core.proofs.elements_lemmas.CloneRefusals.{joined_refused}
 use Rattle.nd_storage.proofs.Collecting.{joined_has, joined_clones, joined_elements}
 use Rattle.nd_array_core.proofs.elements.to_vec.list_behind.Goals as goal
 
-pub list-requires-clause-holds : goal.list-requires-clause-holds
-list-requires-clause-holds g c =
+pub list_layout-requires-clause-holds : goal.list_layout-requires-clause-holds
+list_layout-requires-clause-holds g c =
     let layout = c.args.array.now.layout in
     let joined = rw (c.copied-joined.ensures.lengths, c.copied-joined.ensures.strides) at c.join_axes.ensures.joined in
-    rw (c.slice.ensures.lengths, c.slice-2.ensures)
     (joined_has (g.S.Data.stored c.args.array.now.storage) layout.offset (g.D.Dimension.lengths layout.dim) (g.D.Strides.StrideList.strides_of layout.strides)
     c.join_axes.new.self.offset (g.D.Dimension.lengths c.join_axes.new.self.dim) (g.D.Strides.StrideList.strides_of c.join_axes.new.self.strides)
     (c.join_axes.ensures.offset ∙ c.copied-joined.ensures.offset) joined c.args.array.now.inside)
 
-pub list-requires-clause-clones : goal.list-requires-clause-clones
+pub list_layout-requires-clause-clones : goal.list_layout-requires-clause-clones
 unfolding meaning_of
-list-requires-clause-clones g c =
+list_layout-requires-clause-clones g c =
     let layout = c.args.array.now.layout in
     let joined = rw (c.copied-joined.ensures.lengths, c.copied-joined.ensures.strides) at c.join_axes.ensures.joined in
-    rw (c.slice.ensures.lengths, c.slice-2.ensures)
     (joined_clones (g.S.Data.stored c.args.array.now.storage) layout.offset (g.D.Dimension.lengths layout.dim) (g.D.Strides.StrideList.strides_of layout.strides)
     c.join_axes.new.self.offset (g.D.Dimension.lengths c.join_axes.new.self.dim) (g.D.Strides.StrideList.strides_of c.join_axes.new.self.strides)
     (c.join_axes.ensures.offset ∙ c.copied-joined.ensures.offset) joined g.S.Elem.Clone.is_clone c.requires.clones)
@@ -29,8 +27,8 @@ unfolding meaning_of
 returns-clause-items g c =
     let layout = c.args.array.now.layout in
     let joined = rw (c.copied-joined.ensures.lengths, c.copied-joined.ensures.strides) at c.join_axes.ensures.joined in
-    let items = rw (c.slice.ensures.lengths, c.slice-2.ensures) at c.list.ensures.items in
-    subst (λ xs. OnOk c.list.result (c.list.new.items.items ≡ c.args.items.now.items ++ xs))
+    let items = c.list_layout.ensures.items in
+    subst (λ xs. OnOk c.list_layout.result (c.list_layout.new.items.items ≡ c.args.items.now.items ++ xs))
     (joined_elements (g.S.Data.stored c.args.array.now.storage) layout.offset (g.D.Dimension.lengths layout.dim) (g.D.Strides.StrideList.strides_of layout.strides)
     c.join_axes.new.self.offset (g.D.Dimension.lengths c.join_axes.new.self.dim) (g.D.Strides.StrideList.strides_of c.join_axes.new.self.strides)
     (c.join_axes.ensures.offset ∙ c.copied-joined.ensures.offset) joined)
@@ -41,8 +39,8 @@ unfolding meaning_of
 returns-clause-refused g c =
     let layout = c.args.array.now.layout in
     let joined = rw (c.copied-joined.ensures.lengths, c.copied-joined.ensures.strides) at c.join_axes.ensures.joined in
-    let refused = rw (c.slice.ensures.lengths, c.slice-2.ensures) at c.list.ensures.refused in
-    on_err c.list.result
+    let refused = c.list_layout.ensures.refused in
+    on_err c.list_layout.result
     (joined_refused g.S.Elem.Clone.is_infallible (g.S.Data.stored c.args.array.now.storage) layout.offset (g.D.Dimension.lengths layout.dim) (g.D.Strides.StrideList.strides_of layout.strides)
     c.join_axes.new.self.offset (g.D.Dimension.lengths c.join_axes.new.self.dim) (g.D.Strides.StrideList.strides_of c.join_axes.new.self.strides)
     (c.join_axes.ensures.offset ∙ c.copied-joined.ensures.offset) joined)

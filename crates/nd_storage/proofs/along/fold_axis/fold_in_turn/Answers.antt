@@ -1,5 +1,5 @@
 use Rattle.std.proofs.Common.{◌≡◌, ◌*◌, ◌+◌, ◌/◌, ◌%◌, ◌<◌, ◌≤◌, ◌∙◌, ℕ, suc, length, pos, ◌+ℤ◌, ◌*ℤ◌, refl, ap, sym, subst, rules, arith, w64, to_z, of_z, FitsSigned}
-use Rattle.std.specs.Prelude.{Some, slice_get, vec_len, vec_capacity}
+use Rattle.std.specs.Prelude.{slice_get, vec_capacity}
 use Rattle.std.proofs.lemmas.Int.{to_z-of_z}
 use Rattle.nd_shape_and_slice.specs.Shape.{size_of}
 use Rattle.nd_layout.specs.Places.{is_place}

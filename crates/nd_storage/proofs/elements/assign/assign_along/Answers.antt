@@ -1,4 +1,6 @@
-use Rattle.std.proofs.Common.{◌≡◌, Some, pos, ◌+ℤ◌, ◌*ℤ◌, ap, sym, ◌∙◌, arith, rules}
+use Rattle.std.proofs.Common.{◌≡◌, ◌<◌, Some, ap, sym, subst, ◌∙◌, arith, rules}
+use Rattle.nd_layout.specs.Lanes.{along}
+use Rattle.nd_storage.specs.NumberedPlaces.{elements_at}
 use Rattle.nd_storage.specs.Places.{stored_at}
 use Rattle.nd_storage.proofs.WriteStep.{written_there}
 use Rattle.nd_storage.proofs.Assigned.{assigned_more, assigned_partly}
@@ -6,24 +8,25 @@ use Rattle.nd_storage.proofs.elements.assign.assign_along.Goals as goal
 
 pub loop-nth-preserved : goal.loop-nth-preserved
 loop-nth-preserved g c =
-    let lane = c.args.lane in
-    let other = c.args.beside in
-    let others = g.Z.Data.stored c.args.others.now in
+    let at = along c.args.lane in
+    let given = elements_at g.Z.Data.stored (along c.args.beside) c.args.others.now in
+    let nth = c.loop-nth.nth in
     let now = g.S.Data.stored c.loop-nth.storage in
     let new = g.S.Data.stored c.replace.new.self in
     let copy = c.in-Ok.copy in
-    let there : stored_at others (pos other.place +ℤ (pos c.loop-nth.nth *ℤ other.stride)) ≡ Some c.element-other.result.now = ap (stored_at others) (sym c.place_of.ensures) ∙ c.element-other.ensures in
-    let copied : copy ≡ c.element-other.result.now = c.requires.clones c.loop-nth.nth c.element-other.result.now c.loop-nth-test.true there copy c.in-Ok.ensures.cases in (
-      assigned_more (λ k. stored_at others (pos other.place +ℤ (pos k *ℤ other.stride))) (λ k. pos lane.place +ℤ (pos k *ℤ lane.stride)) c.loop-nth.nth lane.count c.place_of-in-Ok.result copy c.loop-nth-test.true c.requires.apart c.place_of-in-Ok.ensures
+    let there : given nth ≡ Some c.element-other.result.now = ap (stored_at (g.Z.Data.stored c.args.others.now)) (sym c.place_of.ensures) ∙ c.element-other.ensures in
+    let copied : copy ≡ c.element-other.result.now = c.requires.clones nth c.element-other.result.now (subst (λ n. nth < n) (sym c.requires.as_long) c.loop-nth-test.true) there copy c.in-Ok.ensures.cases in (
+      assigned_more given at.place nth at.count c.place_of-in-Ok.result copy c.loop-nth-test.true c.requires.apart c.place_of-in-Ok.ensures
           (ap Some copied ∙ sym there) (g.S.Data.stored c.args.storage.now) now new c.loop-nth.invariant.0
           (written_there now new c.place_of-in-Ok.result copy c.replace.ensures.new)
           (λ q other. search rules),
       c.replace.ensures.frame ∙ c.loop-nth.invariant.1,
     )
 
-pub returns-in-Err-clause-stopped : goal.returns-in-Err-clause-stopped
-returns-in-Err-clause-stopped g c =
-    let lane = c.args.lane in
-    let other = c.args.beside in
-    let turn = c.loop-nth-test.true in
-    assigned_partly (λ k. stored_at (g.Z.Data.stored c.args.others.now) (pos other.place +ℤ (pos k *ℤ other.stride))) (λ k. pos lane.place +ℤ (pos k *ℤ lane.stride)) c.loop-nth.nth lane.count c.requires.apart (g.S.Data.stored c.args.storage.now) (g.S.Data.stored c.loop-nth.storage) c.loop-nth.invariant.0 (omega (arith, turn))
+pub returns-in-Err-clause-outcome : goal.returns-in-Err-clause-outcome
+returns-in-Err-clause-outcome g c =
+    let at = along c.args.lane in
+    let turn = c.loop-nth-test.true in (
+      tt,
+      assigned_partly (elements_at g.Z.Data.stored (along c.args.beside) c.args.others.now) at.place c.loop-nth.nth at.count c.requires.apart (g.S.Data.stored c.args.storage.now) (g.S.Data.stored c.loop-nth.storage) c.loop-nth.invariant.0 (omega (arith, turn)),
+    )

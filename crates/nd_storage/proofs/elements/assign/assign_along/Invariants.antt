@@ -1,9 +1,10 @@
-use Rattle.std.specs.Prelude.{◌≡◌, pos, ◌+ℤ◌, ◌*ℤ◌}
-use Rattle.nd_storage.specs.Places.{stored_at}
+use Rattle.std.specs.Prelude.{◌≡◌}
+use Rattle.nd_layout.specs.Lanes.{along}
+use Rattle.nd_storage.specs.NumberedPlaces.{elements_at}
 use Rattle.nd_storage.specs.elements.Assigns.{IsAssignedTo}
 use Rattle.nd_storage.proofs.elements.assign.assign_along.Given as goal
 
 abbrev pub invariant-loop-nth : goal.invariant-loop-nth
 invariant-loop-nth g l =
-    IsAssignedTo (λ k. stored_at (g.Z.Data.stored l.fn.others) (pos l.fn.beside.place +ℤ (pos k *ℤ l.fn.beside.stride))) (λ k. pos l.fn.lane.place +ℤ (pos k *ℤ l.fn.lane.stride)) l.nth (g.S.Data.stored l.fn.storage) (g.S.Data.stored l.storage)
+    IsAssignedTo (elements_at g.Z.Data.stored (along l.fn.beside) l.fn.others) (along l.fn.lane).place l.nth (g.S.Data.stored l.fn.storage) (g.S.Data.stored l.storage)
     × (g.S.DataMut.frame l.storage ≡ g.S.DataMut.frame l.fn.storage)

@@ -18,8 +18,10 @@ loop-nth-preserved g c =
     (set_there c.loop-nth.xs nth copy (subst (λ n. nth < n) (long ∙ sym c.loop-nth.auto.xs) c.loop-nth-test.true))
     (λ q apart. set_left c.loop-nth.xs nth q copy apart)
 
-pub returns-in-Err-clause-stopped : goal.returns-in-Err-clause-stopped
-returns-in-Err-clause-stopped g c =
+pub returns-in-Err-clause-outcome : goal.returns-in-Err-clause-outcome
+returns-in-Err-clause-outcome g c =
     let turn = c.loop-nth-test.true in
-    let long = c.requires.as_long in
-    assigned_partly (slice_get c.args.ys.now) number c.loop-nth.nth (length c.args.xs.now) (numbers_distinct (length c.args.xs.now)) (slice_get c.args.xs.now) (slice_get c.loop-nth.xs) c.loop-nth.invariant (omega (arith, turn, long))
+    let long = c.requires.as_long in (
+      tt,
+      assigned_partly (slice_get c.args.ys.now) number c.loop-nth.nth (length c.args.xs.now) (numbers_distinct (length c.args.xs.now)) (slice_get c.args.xs.now) (slice_get c.loop-nth.xs) c.loop-nth.invariant (omega (arith, turn, long)),
+    )

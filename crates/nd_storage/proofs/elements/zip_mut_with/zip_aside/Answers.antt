@@ -1,5 +1,6 @@
-use Rattle.std.proofs.Common.{ℕ, ℤ, ◌∙◌, pos, ◌+ℤ◌, ◌*ℤ◌, refl, sym, subst}
+use Rattle.std.proofs.Common.{◌∙◌, refl, sym, subst}
 use Rattle.std.specs.Prelude.{slice_get}
+use Rattle.nd_layout.specs.Lanes.{along}
 use Rattle.nd_storage.specs.RunLent.{HasRunAt}
 use Rattle.nd_storage.specs.elements.Pairs.{IsZippedTo, TakesPairs}
 use Rattle.nd_storage.proofs.Collecting.{beside_has}
@@ -14,12 +15,12 @@ pub zip_into-requires-clause-callable : goal.zip_into-requires-clause-callable
 zip_into-requires-clause-callable g c =
     let lane = c.args.lane in
     let other = c.args.beside in
-    let beside : ℕ → ℤ = λ k. pos other.place +ℤ (pos k *ℤ other.stride) in
+    let beside = (along other).place in
     let old = g.S.Data.stored c.args.storage.now in
     let others = g.Z.Data.stored c.args.others.now in
     let xs = c.lend_run.result.now in
     subst (TakesPairs g.F.FnMut (slice_get xs) number others beside c.args.f) (sym c.lend_run.ensures.values.0)
-    (run_takes g.F.FnMut (λ k. pos lane.place +ℤ (pos k *ℤ lane.stride)) beside lane.count old others xs others beside
+    (run_takes g.F.FnMut (along lane).place beside lane.count old others xs others beside
     (λ k below. c.lend_run.ensures.values.1 k below ∙ sym (side_shows old lane.place k lane.stride c.requires.step))
     (λ k below. refl)
     c.args.f c.requires.callable)
@@ -28,7 +29,7 @@ pub returns-clause-changed : goal.returns-clause-changed
 returns-clause-changed g c =
     let lane = c.args.lane in
     let other = c.args.beside in
-    let beside : ℕ → ℤ = λ k. pos other.place +ℤ (pos k *ℤ other.stride) in
+    let beside = (along other).place in
     let old = g.S.Data.stored c.args.storage.now in
     let others = g.Z.Data.stored c.args.others.now in
     let xs = c.lend_run.result.now in
@@ -36,7 +37,7 @@ returns-clause-changed g c =
     let holds : HasRunAt old lane.place lane.count = λ k below. beside_has old lane.place lane.count lane.stride c.requires.step c.requires.holds k below in
     let long = c.zip_into.ensures.long ∙ c.lend_run.ensures.values.0 in
     let new = g.S.Data.stored (g.S.Data.with_run c.args.storage.now lane.place lane.count ws).0 in
-    run_zipped g.F.FnMut (λ k. pos lane.place +ℤ (pos k *ℤ lane.stride)) beside lane.count old others xs others beside
+    run_zipped g.F.FnMut (along lane).place beside lane.count old others xs others beside
     (λ k below. c.lend_run.ensures.values.1 k below ∙ sym (side_shows old lane.place k lane.stride c.requires.step))
     (λ k below. refl)
     new ws

@@ -1,5 +1,6 @@
-use Rattle.std.proofs.Common.{◌∙◌, ◌+◌, ◌<◌, pos, ◌+ℤ◌, ◌*ℤ◌, ap, sym, subst}
+use Rattle.std.proofs.Common.{◌∙◌, ◌+◌, ◌<◌, ap, sym, subst}
 use Rattle.std.specs.Prelude.{is_some, slice_get}
+use Rattle.nd_layout.specs.Lanes.{along}
 use Rattle.nd_storage.specs.RunLent.{HasRunAt}
 use Rattle.nd_storage.specs.elements.Pairs.{IsZippedTo, TakesPairs}
 use Rattle.nd_storage.proofs.Collecting.{beside_has}
@@ -11,7 +12,7 @@ pub run-ys-requires : goal.run-ys-requires
 run-ys-requires g c k below =
     let beside = c.args.beside in
     ap is_some (c.borrowed.ensures (beside.place + k))
-    ∙ beside_has (g.Z.Data.stored c.args.others.now) beside.place beside.count beside.stride c.requires.steps.1 (λ j under. c.requires.others_hold j (subst (λ n. j < n) c.requires.as_long under)) k below
+    ∙ beside_has (g.Z.Data.stored c.args.others.now) beside.place beside.count beside.stride c.requires.steps.1 c.requires.others_hold k below
 
 pub lend_run-requires : goal.lend_run-requires
 lend_run-requires g c k below =
@@ -26,7 +27,7 @@ zip_run-requires-clause-callable g c =
     let xs = c.lend_run.result.now in
     let ys = c.run-ys.result.now in
     subst (TakesPairs g.F.FnMut (slice_get xs) number (slice_get ys) number c.args.f) (sym c.lend_run.ensures.values.0)
-    (run_takes g.F.FnMut (λ k. pos lane.place +ℤ (pos k *ℤ lane.stride)) (λ k. pos beside.place +ℤ (pos k *ℤ beside.stride)) lane.count old others xs (slice_get ys) number
+    (run_takes g.F.FnMut (along lane).place (along beside).place lane.count old others xs (slice_get ys) number
     (λ k below. c.lend_run.ensures.values.1 k below ∙ sym (side_shows old lane.place k lane.stride c.requires.steps.0))
     (λ k below. beside_found others beside.place beside.count beside.stride c.requires.steps.1 ys c.run-ys.ensures.count (λ j d under. sym (c.borrowed.ensures (beside.place + j)) ∙ c.run-ys.ensures.elements j d under) k (subst (λ n. k < n) (sym c.requires.as_long) below))
     c.args.f c.requires.callable)
@@ -43,7 +44,7 @@ returns-clause-changed g c =
     let holds : HasRunAt old lane.place lane.count = λ k below. beside_has old lane.place lane.count lane.stride c.requires.steps.0 c.requires.holds k below in
     let long = c.zip_run.ensures.long ∙ c.lend_run.ensures.values.0 in
     let new = g.S.Data.stored (g.S.Data.with_run c.args.storage.now lane.place lane.count ws).0 in
-    run_zipped g.F.FnMut (λ k. pos lane.place +ℤ (pos k *ℤ lane.stride)) (λ k. pos beside.place +ℤ (pos k *ℤ beside.stride)) lane.count old others xs (slice_get ys) number
+    run_zipped g.F.FnMut (along lane).place (along beside).place lane.count old others xs (slice_get ys) number
     (λ k below. c.lend_run.ensures.values.1 k below ∙ sym (side_shows old lane.place k lane.stride c.requires.steps.0))
     (λ k below. beside_found others beside.place beside.count beside.stride c.requires.steps.1 ys c.run-ys.ensures.count (λ j d under. sym (c.borrowed.ensures (beside.place + j)) ∙ c.run-ys.ensures.elements j d under) k (subst (λ n. k < n) (sym c.requires.as_long) below))
     new ws

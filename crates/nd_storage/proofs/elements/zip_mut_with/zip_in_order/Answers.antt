@@ -1,59 +1,62 @@
-use Rattle.std.proofs.Common.{sym}
-use Rattle.nd_shape_and_slice.specs.Shape.{size_of, index_at}
+use Rattle.std.proofs.Common.{ap, sym, subst, ◌∙◌}
+use Rattle.nd_shape_and_slice.specs.Shape.{index_at}
 use Rattle.nd_shape_and_slice.proofs.RankIndexes.{in_box-index_at}
+use Rattle.nd_layout.specs.Lanes.{by_rank, ranked}
 use Rattle.nd_layout.specs.Placements.{placement_of}
-use Rattle.nd_layout.specs.Walk.{place_at_rank}
-use Rattle.nd_storage.specs.elements.Pairs.{IsZippedTo, TakesPairs}
+use Rattle.nd_storage.specs.NumberedPlaces.{Holds, PlacesDiffer}
+use Rattle.nd_storage.specs.elements.Pairs.{MayZipAt}
 use Rattle.nd_storage.proofs.Paired.{in_row_major, ranks_apart}
-use Rattle.nd_storage.proofs.TurnedAlike.{second_inside, second_shown}
-use Rattle.nd_storage.proofs.ZippedLayouts.{layouts_zippable, layouts_zipped}
+use Rattle.nd_storage.proofs.TurnedAlike.{second_shown}
+use Rattle.nd_storage.proofs.ZippedLayouts.{layouts_zippable, layouts_zipped, zipped_between}
 use Rattle.nd_storage.proofs.elements.zip_mut_with.zip_in_order.Goals as goal
+
+pub zip_places-requires-clause-alike : goal.zip_places-requires-clause-alike
+zip_places-requires-clause-alike g c = ap (λ p. p.lengths) c.places-2.ensures ∙ (c.requires.alike ∙ sym (ap (λ p. p.lengths) c.places.ensures))
 
 pub zip_places-requires-clause-apart : goal.zip_places-requires-clause-apart
 zip_places-requires-clause-apart g c =
     let one = placement_of c.args.layout.now in
-    rw (c.slice.ensures.lengths, c.slice-2.ensures) (ranks_apart one.offset one.lengths one.strides c.args.layout.now.as_many c.requires.apart)
+    subst (λ p. PlacesDiffer (by_rank p)) (sym c.places.ensures) (ranks_apart one.offset one.lengths one.strides c.args.layout.now.as_many c.requires.apart)
 
 pub zip_places-requires-clause-holds : goal.zip_places-requires-clause-holds
 zip_places-requires-clause-holds g c =
     let one = placement_of c.args.layout.now in
-    rw (c.slice.ensures.lengths, c.slice-2.ensures) (λ rank below. c.requires.holds (index_at one.lengths rank) (in_box-index_at one.lengths rank below))
+    subst (λ p. Holds g.S.Data.stored (by_rank p) c.args.storage.now) (sym c.places.ensures) (λ rank below. c.requires.holds (index_at one.lengths rank) (in_box-index_at one.lengths rank below))
 
 pub zip_places-requires-clause-others_hold : goal.zip_places-requires-clause-others_hold
 zip_places-requires-clause-others_hold g c =
-    let one = placement_of c.args.layout.now in
     let two = placement_of c.args.beside.now in
-    rw (c.slice.ensures.lengths, c.slice-3.ensures) (λ rank below. c.requires.others_hold (index_at one.lengths rank) (second_inside (g.Z.Data.stored c.args.others.now) one two c.requires.alike rank below))
+    subst (λ p. Holds g.Z.Data.stored (by_rank p) c.args.others.now) (sym c.places-2.ensures) (λ rank below. c.requires.others_hold (index_at two.lengths rank) (in_box-index_at two.lengths rank below))
 
 pub zip_places-requires-clause-callable : goal.zip_places-requires-clause-callable
 zip_places-requires-clause-callable g c =
     let one = placement_of c.args.layout.now in
     let two = placement_of c.args.beside.now in
     let others = g.Z.Data.stored c.args.others.now in
-    let ranked = layouts_zippable g.F.FnMut others one two one two (in_row_major one.offset one.lengths one.strides) c.requires.alike (λ rank below. sym (second_shown others one two c.requires.alike rank below)) (g.S.Data.stored c.args.storage.now) c.args.f c.requires.callable in
-    let callable : TakesPairs g.F.FnMut (g.S.Data.stored c.args.storage.now) (place_at_rank one.offset one.lengths one.strides) others (place_at_rank two.offset one.lengths two.strides) c.args.f (size_of one.lengths) = rw c.requires.alike at ranked in
-    rw (c.slice.ensures.lengths, c.slice-2.ensures, c.slice-3.ensures) callable
+    let callable = layouts_zippable g.F.FnMut others one two one two (in_row_major one.offset one.lengths one.strides) c.requires.alike (λ rank below. sym (second_shown others one two c.requires.alike rank below)) (g.S.Data.stored c.args.storage.now) c.args.f c.requires.callable in
+    subst (λ p. MayZipAt g.F.FnMut g.S.Data.stored g.Z.Data.stored (by_rank p) (ranked c.places-2.result) c.args.storage.now c.args.others.now c.args.f) (sym c.places.ensures)
+    (subst (λ p. MayZipAt g.F.FnMut g.S.Data.stored g.Z.Data.stored (by_rank one) (by_rank p) c.args.storage.now c.args.others.now c.args.f) (sym c.places-2.ensures) callable)
 
 pub returns-clause-visits : goal.returns-clause-visits
 returns-clause-visits g c =
     let one = placement_of c.args.layout.now in
     let two = placement_of c.args.beside.now in
     let others = g.Z.Data.stored c.args.others.now in
-    let changed : IsZippedTo g.F.FnMut (place_at_rank one.offset one.lengths one.strides) others (place_at_rank two.offset one.lengths two.strides) (size_of one.lengths) (g.S.Data.stored c.args.storage.now) (g.S.Data.stored c.zip_places.new.storage) c.args.f c.zip_places.result = rw (c.slice.ensures.lengths, c.slice-2.ensures, c.slice-3.ensures) at c.zip_places.ensures.changed in
-    (layouts_zipped g.F.FnMut others one two one two (in_row_major one.offset one.lengths one.strides) c.requires.alike (λ rank below. sym (second_shown others one two c.requires.alike rank below)) (g.S.Data.stored c.args.storage.now) c.args.f (g.S.Data.stored c.zip_places.new.storage) c.zip_places.result (rw c.requires.alike changed)).0
+    let changed = zipped_between g.F.FnMut g.S.Data.stored g.Z.Data.stored c.args.others.now c.args.storage.now c.zip_places.new.storage c.args.f c.zip_places.result one two _ _ c.places.ensures c.places-2.ensures c.zip_places.ensures.changed in
+    (layouts_zipped g.F.FnMut others one two one two (in_row_major one.offset one.lengths one.strides) c.requires.alike (λ rank below. sym (second_shown others one two c.requires.alike rank below)) (g.S.Data.stored c.args.storage.now) c.args.f (g.S.Data.stored c.zip_places.new.storage) c.zip_places.result changed).0
 
 pub returns-clause-holds : goal.returns-clause-holds
 returns-clause-holds g c =
     let one = placement_of c.args.layout.now in
     let two = placement_of c.args.beside.now in
     let others = g.Z.Data.stored c.args.others.now in
-    let changed : IsZippedTo g.F.FnMut (place_at_rank one.offset one.lengths one.strides) others (place_at_rank two.offset one.lengths two.strides) (size_of one.lengths) (g.S.Data.stored c.args.storage.now) (g.S.Data.stored c.zip_places.new.storage) c.args.f c.zip_places.result = rw (c.slice.ensures.lengths, c.slice-2.ensures, c.slice-3.ensures) at c.zip_places.ensures.changed in
-    (layouts_zipped g.F.FnMut others one two one two (in_row_major one.offset one.lengths one.strides) c.requires.alike (λ rank below. sym (second_shown others one two c.requires.alike rank below)) (g.S.Data.stored c.args.storage.now) c.args.f (g.S.Data.stored c.zip_places.new.storage) c.zip_places.result (rw c.requires.alike changed)).1
+    let changed = zipped_between g.F.FnMut g.S.Data.stored g.Z.Data.stored c.args.others.now c.args.storage.now c.zip_places.new.storage c.args.f c.zip_places.result one two _ _ c.places.ensures c.places-2.ensures c.zip_places.ensures.changed in
+    (layouts_zipped g.F.FnMut others one two one two (in_row_major one.offset one.lengths one.strides) c.requires.alike (λ rank below. sym (second_shown others one two c.requires.alike rank below)) (g.S.Data.stored c.args.storage.now) c.args.f (g.S.Data.stored c.zip_places.new.storage) c.zip_places.result changed).1
 
 pub returns-clause-others : goal.returns-clause-others
 returns-clause-others g c =
     let one = placement_of c.args.layout.now in
     let two = placement_of c.args.beside.now in
     let others = g.Z.Data.stored c.args.others.now in
-    let changed : IsZippedTo g.F.FnMut (place_at_rank one.offset one.lengths one.strides) others (place_at_rank two.offset one.lengths two.strides) (size_of one.lengths) (g.S.Data.stored c.args.storage.now) (g.S.Data.stored c.zip_places.new.storage) c.args.f c.zip_places.result = rw (c.slice.ensures.lengths, c.slice-2.ensures, c.slice-3.ensures) at c.zip_places.ensures.changed in
-    (layouts_zipped g.F.FnMut others one two one two (in_row_major one.offset one.lengths one.strides) c.requires.alike (λ rank below. sym (second_shown others one two c.requires.alike rank below)) (g.S.Data.stored c.args.storage.now) c.args.f (g.S.Data.stored c.zip_places.new.storage) c.zip_places.result (rw c.requires.alike changed)).2
+    let changed = zipped_between g.F.FnMut g.S.Data.stored g.Z.Data.stored c.args.others.now c.args.storage.now c.zip_places.new.storage c.args.f c.zip_places.result one two _ _ c.places.ensures c.places-2.ensures c.zip_places.ensures.changed in
+    (layouts_zipped g.F.FnMut others one two one two (in_row_major one.offset one.lengths one.strides) c.requires.alike (λ rank below. sym (second_shown others one two c.requires.alike rank below)) (g.S.Data.stored c.args.storage.now) c.args.f (g.S.Data.stored c.zip_places.new.storage) c.zip_places.result changed).2

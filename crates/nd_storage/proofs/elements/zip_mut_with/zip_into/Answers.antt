@@ -1,5 +1,6 @@
-use Rattle.std.proofs.Common.{◌<◌, ◌∙◌, ℕ, ℤ, pos, ◌+ℤ◌, ◌*ℤ◌, ap, refl, sym, subst, length, get_or, slice_set}
+use Rattle.std.proofs.Common.{◌<◌, ◌∙◌, ℤ, pos, ◌+ℤ◌, ◌*ℤ◌, ap, refl, sym, subst, length, get_or, slice_set}
 use Rattle.std.specs.Prelude.{slice_get}
+use Rattle.nd_layout.specs.Lanes.{along}
 use Rattle.nd_storage.specs.Places.{stored_at}
 use Rattle.nd_storage.specs.elements.Pairs.{ChangesWith}
 use Rattle.nd_storage.proofs.Paired.{next_zipped}
@@ -13,7 +14,7 @@ f-requires g c =
     let nth = c.loop-nth.nth in
     let lane = c.args.beside in
     let others = g.Z.Data.stored c.args.others.now in
-    let beside : ℕ → ℤ = λ k. pos lane.place +ℤ (pos k *ℤ lane.stride) in
+    let beside = (along lane).place in
     next_zipped g.F.FnMut others number beside (length c.args.xs.now) nth nth c.element-other.result.now (subst (λ n. nth < n) long c.loop-nth-test.true) (numbers_distinct (length c.args.xs.now)) refl
     (sym (ap (stored_at others) (sym c.place_of.ensures) ∙ c.element-other.ensures)) (slice_get c.args.xs.now) (slice_get c.loop-nth.xs) c.args.f c.loop-nth.f c.loop-nth.invariant c.requires.callable _ _
     (got_or c.loop-nth.xs nth c.index-xs-nth.result (subst (λ n. nth < n) (long ∙ sym c.loop-nth.auto.xs) c.loop-nth-test.true)) refl

@@ -1,16 +1,14 @@
 use Rattle.std.specs.Prelude.{◌≡◌, ◌-◌}
-use Rattle.nd_shape_and_slice.specs.Shape.{size_of}
-use Rattle.nd_layout.specs.Walk.{place_at_rank}
+use Rattle.nd_layout.specs.Lanes.{ranked}
 use Rattle.nd_storage.specs.elements.Pairs.{IsZippedTo}
+use Rattle.nd_storage.proofs.LanesBeside.{AreLanesBeside}
 use Rattle.nd_storage.proofs.elements.zip_mut_with.zip_places.Given as goal
 
 abbrev pub invariant-loop-lane : goal.invariant-loop-lane
 invariant-loop-lane g l =
-    (l.ours.first ≡ l.fn.first) × (l.ours.lengths.now ≡ l.fn.lengths) × (l.ours.strides.now ≡ l.fn.strides)
-    × (l.theirs.first ≡ l.fn.from) × (l.theirs.lengths.now ≡ l.fn.lengths) × (l.theirs.strides.now ≡ l.fn.steps)
-    × (l.theirs.rank ≡ l.ours.rank)
-    × IsZippedTo g.F.FnMut (place_at_rank l.fn.first l.fn.lengths l.fn.strides) (g.Z.Data.stored l.fn.others) (place_at_rank l.fn.from l.fn.lengths l.fn.steps) l.ours.rank (g.S.Data.stored l.fn.storage) (g.S.Data.stored l.storage) l.fn.f l.now
+    AreLanesBeside l.fn.places l.fn.beside l.ours l.theirs
+    × IsZippedTo g.F.FnMut (ranked l.fn.places).place (g.Z.Data.stored l.fn.others) (ranked l.fn.beside).place l.ours.rank (g.S.Data.stored l.fn.storage) (g.S.Data.stored l.storage) l.fn.f l.now
     × (g.S.DataMut.frame l.storage ≡ g.S.DataMut.frame l.fn.storage)
 
 abbrev pub decreases-loop-lane : goal.decreases-loop-lane
-decreases-loop-lane g l = size_of l.fn.lengths - l.ours.rank
+decreases-loop-lane g l = (ranked l.fn.places).count - l.ours.rank

@@ -1,0 +1,21 @@
+-- What fits behind a shape along an axis: how many axes it has, and how many elements come behind.
+use Rattle.std.proofs.Common.{◌≡◌, ◌∙◌, ℕ, ◌*◌, ◌≤◌, List, length, get_or, ap, arith, ⊎_elim}
+use Rattle.std.specs.List.{remove}
+use Rattle.std.proofs.lemmas.Bool.{cases_lt}
+use Rattle.std.proofs.lemmas.List.{get_or_past, length-set}
+use Rattle.nd_shape_and_slice.specs.Shape.{size_of}
+use Rattle.nd_array_core.specs.Joined.{shape_behind}
+use Rattle.nd_array_core.specs.growth.Appended.{FitsBehind, elements_behind}
+use Rattle.nd_array_core.proofs.growth_lemmas.Stretched.{stretches_long, none_behind}
+
+pub as_many_axes : (ns ms : List ℕ) (axis : ℕ) → FitsBehind ns ms axis → length ms ≡ length ns
+as_many_axes ns ms axis fits = stretches_long ms (shape_behind ns ms axis) fits.1 ∙ length-set ns axis (get_or ms axis 0)
+
+-- of what has no element none come behind
+pub none_of_none : (ns ms : List ℕ) (axis : ℕ) → FitsBehind ns ms axis → size_of ms ≡ 0 → elements_behind ns ms axis ≡ 0
+none_of_none ns ms axis fits none = ⊎_elim (λ on. none_behind ns ms axis on fits none) past (cases_lt axis (length ns))
+  where
+    past : length ns ≤ axis → elements_behind ns ms axis ≡ 0
+    past off =
+        let long = as_many_axes ns ms axis fits in
+        ap (λ n. n * size_of (remove ns axis)) (get_or_past ms axis 0 (omega (arith, off, long))) ∙ omega arith

@@ -1,0 +1,87 @@
+//! A layout cut so that its parts, listed one behind the other, are the whole in row-major order. Where it is cut changes the
+//! time of a loop alone.
+
+ghost use Rattle.std.specs.Prelude.{◌≡◌, ◌<◌, ℕ, true, length, slice_index, IfSome};
+ghost use Rattle.nd_layout.specs.Placements.{placement_of};
+ghost use Rattle.nd_layout.specs.Halves.{FollowEachOther};
+
+use crate::layout::Layout;
+use crate::turned::nearest_axis;
+use nd_shape_and_slice::{Dimension, StrideList};
+
+/// So many elements are near enough to be met again before they are gone.
+const NEAR: usize = 131_072;
+
+/// A lane that steps over so many elements leaves those that lie beside it behind.
+const FAR: usize = 2_097_152;
+
+/// A lane with fewer elements meets those that lie beside it again.
+const SHORT: usize = 1024;
+
+/// Fewer elements side by side aren't worth another order.
+const LINE: usize = 8;
+
+/// The first axis longer than 1; all before it have length 1.
+fn first_long(lengths: &[usize]) -> Option<usize>
+    ensures { IfSome result (λ axis. (axis < length lengths.now) × (1 < slice_index lengths.now axis) × ((k : ℕ) → k < axis → slice_index lengths.now k ≡ 1)) }
+{
+    for axis in 0..lengths.len() {
+        if lengths[axis] > 1 {
+            return Some(axis);
+        }
+        if lengths[axis] == 0 {
+            return None;
+        }
+    }
+    None
+}
+
+/// Whether lanes go far across the order in which elements lie.
+fn goes_across(lengths: &[usize], strides: &[isize]) -> bool
+    requires as_many { length strides.now ≡ length lengths.now }
+    ensures { result ≡ true → 1 < length lengths.now }
+{
+    let axes = lengths.len();
+    if axes < 2 {
+        return false;
+    }
+    let (len, nearest) = (lengths[axes - 1], nearest_axis(lengths, strides));
+    nearest + 1 < axes
+        && len >= SHORT
+        && lengths[nearest] >= LINE
+        && strides[axes - 1].unsigned_abs() >= FAR / len
+}
+
+/// Whether elements are few, and those that lie nearest are along the first axis longer than 1.
+fn is_near(lengths: &[usize], strides: &[isize], size: usize) -> bool
+    requires as_many { length strides.now ≡ length lengths.now }
+{
+    match first_long(lengths) {
+        Some(axis) => size <= NEAR && axis == nearest_axis(lengths, strides),
+        None => true,
+    }
+}
+
+impl<D: Dimension, T: StrideList> Layout<D, T> {
+    /// Whether row-major order goes so far across memory that elements are better taken in another order, part by part.
+    #[inline]
+    pub fn leaves_lines(&self) -> bool
+        ensures { result ≡ true → 1 < length (D.lengths self.now.dim) }
+    {
+        goes_across(self.dim.slice(), self.strides.slice())
+    }
+
+    /// Whether the elements are few enough to be taken in column-major order, which goes along memory.
+    pub fn is_near(&self) -> bool {
+        is_near(self.dim.slice(), self.strides.slice(), self.dim.size())
+    }
+
+    /// The halves along the first axis longer than 1: the ranks of the one come before those of the other. None where there
+    /// is no such axis.
+    pub fn first_halves(&self) -> Option<(Self, Self)>
+        ensures { IfSome result (λ halves. FollowEachOther (placement_of self.now) (placement_of halves.0) (placement_of halves.1)) }
+    {
+        let axis = first_long(self.dim.slice())?;
+        Some(self.halves(axis, self.dim.length(axis) / 2))
+    }
+}

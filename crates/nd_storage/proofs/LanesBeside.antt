@@ -1,0 +1,31 @@
+-- The lanes of two layouts of one shape, one of each at a time.
+use Rattle.std.proofs.Common.{◌≡◌, ◌∙◌, ◌+◌, ◌-◌, ap, sym, length, arith}
+use Rattle.std.specs.Prelude.{slice_index_or}
+use Rattle.nd_layout.specs.Lanes.{AreLanesOf, AreSameLanes}
+use Rattle.nd_layout.specs.Walk.{IsLane, IsLastAxis}
+use Rattle.nd_layout.specs.declared.lanes.Lane.{Lane}
+use Rattle.nd_layout.specs.declared.lanes.Lanes.{Lanes}
+use Rattle.nd_layout.specs.declared.places.Places.{Places}
+use Rattle.nd_layout.proofs.LanesOf.{go_on, lane_of}
+
+-- both have come to one rank
+abbrev pub AreLanesBeside : Places → Places → Lanes → Lanes → Type 0
+AreLanesBeside places beside ours theirs = AreLanesOf places ours × AreLanesOf beside theirs × (theirs.rank ≡ ours.rank)
+
+module _ (places beside : Places) (ours theirs : Lanes) (so_far : AreLanesBeside places beside ours theirs) (lane other : Lane) where
+  pub as_long : beside.lengths.now ≡ places.lengths.now → IsLastAxis ours.lengths.now ours.strides.now lane.count lane.stride → IsLastAxis theirs.lengths.now theirs.strides.now other.count other.stride → other.count ≡ lane.count
+  as_long alike last other_last =
+      let one = rw so_far.1.1 at other_last.0 in
+      let two = rw so_far.0.1 at last.0 in
+      one ∙ (ap (λ ns. slice_index_or ns (length ns - 1) 1) alike ∙ sym two)
+
+  -- the second lane has the places beside those of the first
+  pub beside_lies : IsLane theirs.first theirs.lengths.now theirs.strides.now theirs.rank other.place other.count other.stride → other.count ≡ lane.count → IsLane beside.first beside.lengths.now beside.strides.now ours.rank other.place lane.count other.stride
+  beside_lies given long = let lies = lane_of beside theirs other so_far.1 given in rw (so_far.2, long) at lies
+
+  pub go_on_both : (next others_next : Lanes) → AreSameLanes ours next → AreSameLanes theirs others_next → next.rank ≡ ours.rank + lane.count → others_next.rank ≡ theirs.rank + other.count → other.count ≡ lane.count → AreLanesBeside places beside next others_next
+  go_on_both next others_next same others_same ranked others_ranked long = (
+    go_on places ours next so_far.0 same,
+    go_on beside theirs others_next so_far.1 others_same,
+    let level = so_far.2 in omega (arith, level, ranked, others_ranked, long),
+  )
