@@ -4,10 +4,10 @@
     tests/pictures.py [MUTATED [SEED [PROGRAM]]]
 
 Pictures of 1 x 1 to 4000 x 3000, grey and coloured, of one byte a sample and of two, are taken through each step that `convert` has
-too. Then so many mutated images (100,000 unless told) are read by the program and by a reader in plain Python: the image or the first
-bad byte must be the same, with a line on the errors and status 1, and no other end. Prints a table of processor seconds for the
-largest picture, and last `N passed, M failed`. Without a PROGRAM it is built by `rt run`, which first proves what isn't proved
-yet. It wants ImageMagick 6 (`convert`).
+too. Then so many mutated images (100,000 unless told), half of them with a step or two, are taken by the program and by plain
+Python: the picture, the first bad byte or the first step that doesn't fit must be the same, with a line on the errors and status 1,
+and no other end. Prints a table of processor seconds for the largest picture, the least of three runs, and last `N passed, M
+failed`. Without a PROGRAM it is built by `rt run`, which first proves what isn't proved yet. It wants ImageMagick 6 (`convert`).
 """
 
 import concurrent.futures
@@ -53,13 +53,16 @@ def steps_for(width, height, maxval):
     ]
 
 
-def timed(words, source):
-    """What a command writes for a file, and its processor seconds."""
-    before = resource.getrusage(resource.RUSAGE_CHILDREN)
-    with open(source, "rb") as file:
-        ran = subprocess.run(words, stdin=file, capture_output=True)
-    after = resource.getrusage(resource.RUSAGE_CHILDREN)
-    return ran.stdout, after.ru_utime + after.ru_stime - before.ru_utime - before.ru_stime
+def timed(words, source, runs):
+    """What a command writes for a file, and its processor seconds, the least of so many runs."""
+    least = float("inf")
+    for _ in range(runs):
+        before = resource.getrusage(resource.RUSAGE_CHILDREN)
+        with open(source, "rb") as file:
+            ran = subprocess.run(words, stdin=file, capture_output=True)
+        after = resource.getrusage(resource.RUSAGE_CHILDREN)
+        least = min(least, after.ru_utime + after.ru_stime - before.ru_utime - before.ru_stime)
+    return ran.stdout, least
 
 
 def beside_convert(program, folder, rows):
@@ -73,9 +76,10 @@ def beside_convert(program, folder, rows):
                 with open(source, "wb") as file:
                     file.write(b"%s\n%d %d\n%d\n" % (kind.encode(), width, height, maxval) + os.urandom(size))
                 for words, options in steps_for(width, height, maxval):
-                    ours, time = timed([program, *words.split()], source)
+                    runs = 3 if (width, height) == SIZES[-1] else 1
+                    ours, time = timed([program, *words.split()], source, runs)
                     depth = ["-depth", "8" if maxval < 256 else "16"]
-                    theirs, beside = timed(["convert", f"{suffix}:-", *options.split(), *depth, f"{suffix}:-"], source)
+                    theirs, beside = timed(["convert", f"{suffix}:-", *options.split(), *depth, f"{suffix}:-"], source, runs)
                     count += 1
                     if ours != theirs:
                         failed.append(f"{width} x {height} {kind} {maxval}: {words}")
@@ -153,16 +157,69 @@ def read(text):
     return kind, width, height, maxval, samples
 
 
-def expected(text):
+class Refused(Exception):
+    """The step that doesn't fit, counted from 1."""
+
+
+def around(at, whole):
+    """A coordinate's neighbours and itself; the nearest for one that isn't there."""
+    return [max(at - 1, 0), at, min(at + 1, whole - 1)]
+
+
+def blurred(rows, height, width):
+    def mean(row, column, channel):
+        return sum(rows[r][c][channel] for r in around(row, height) for c in around(column, width)) // 9
+
+    return [[[mean(row, column, channel) for channel in range(len(rows[0][0]))] for column in range(width)] for row in range(height)]
+
+
+def after(rows, maxval, number, name, arguments):
+    """Rows of pixels after one step."""
+    height, width = len(rows), len(rows[0])
+    if name == "crop":
+        top, left, high, wide = arguments
+        if high == 0 or wide == 0 or top + high > height or left + wide > width:
+            raise Refused(number)
+        return [row[left:left + wide] for row in rows[top:top + high]]
+    if name == "scale-down":
+        if arguments[0] == 0:
+            raise Refused(number)
+        return [row[::arguments[0]] for row in rows[::arguments[0]]]
+    if name == "blur":
+        return blurred(rows, height, width)
+    if name in ("threshold", "invert"):
+        changed = (lambda x: maxval if x > arguments[0] else 0) if name == "threshold" else (lambda x: maxval - x)
+        return [[[changed(x) for x in pixel] for pixel in row] for row in rows]
+    if name in ("transpose", "rotate") and arguments != [180]:
+        rows = [list(row) for row in zip(*rows)]
+    if name == "flip" or (name == "rotate" and arguments in ([180], [270])):
+        rows = rows[::-1]
+    if name == "flop" or (name == "rotate" and arguments in ([90], [180])):
+        rows = [row[::-1] for row in rows]
+    return rows
+
+
+def written(kind, width, height, maxval, samples):
+    head = b"%s\n%d %d\n%d\n" % (kind, width, height, maxval)
+    if kind in (b"P2", b"P3"):
+        return head + b"".join(b"%d\n" % sample for sample in samples)
+    return head + b"".join(sample.to_bytes(1 if maxval < 256 else 2, "big") for sample in samples)
+
+
+def expected(text, steps):
     """What is to be written, on the errors, and the status."""
     try:
         kind, width, height, maxval, samples = read(text)
+        deep = 3 if kind in (b"P3", b"P6") else 1
+        pixels = [samples[k:k + deep] for k in range(0, len(samples), deep)]
+        rows = [pixels[k:k + width] for k in range(0, len(pixels), width)]
+        for number, step in enumerate(steps, 1):
+            rows = after(rows, maxval, number, step[0], step[1:])
     except Bad as bad:
         return b"", b"byte %d can't be read\n" % bad.args[0], 1
-    head = b"%s\n%d %d\n%d\n" % (kind, width, height, maxval)
-    if kind in (b"P2", b"P3"):
-        return head + b"".join(b"%d\n" % sample for sample in samples), b"", 0
-    return head + b"".join(sample.to_bytes(1 if maxval < 256 else 2, "big") for sample in samples), b"", 0
+    except Refused as refused:
+        return b"", b"step %d doesn't fit the picture\n" % refused.args[0], 1
+    return written(kind, len(rows[0]), len(rows), maxval, [x for row in rows for pixel in row for x in pixel]), b"", 0
 
 
 def drawn(chance):
@@ -172,10 +229,27 @@ def drawn(chance):
     maxval = chance.choice([1, 9, 255, 256, 65535])
     samples = [chance.randint(0, maxval) for _ in range(width * height * (3 if kind in (b"P3", b"P6") else 1))]
     comment = chance.choice([b"", b"# drawn\n", b"#\r"])
-    head = kind + b"\n" + comment + b"%d %d\n%d\n" % (width, height, maxval)
+    image = written(kind, width, height, maxval, samples)
     if kind in (b"P2", b"P3"):
-        return head + b" ".join(b"%d" % sample for sample in samples)
-    return head + b"".join(sample.to_bytes(1 if maxval < 256 else 2, "big") for sample in samples)
+        image = image.replace(b"\n", chance.choice([b"\n", b" ", b"\r\n", b"\t"]))
+    return image[:3] + comment + image[3:]
+
+
+def drawn_steps(chance):
+    """A step or two, or none; some don't fit."""
+    numbers = lambda count, upto: [chance.randint(0, upto) for _ in range(count)]
+    kinds = [
+        lambda: ["crop", *numbers(4, 3)],
+        lambda: ["flip"],
+        lambda: ["flop"],
+        lambda: ["rotate", chance.choice([90, 180, 270])],
+        lambda: ["transpose"],
+        lambda: ["scale-down", *numbers(1, 3)],
+        lambda: ["threshold", chance.choice([0, 4, 127, 300, 65535])],
+        lambda: ["invert"],
+        lambda: ["blur"],
+    ]
+    return [chance.choice(kinds)() for _ in range(chance.choice([0, 0, 1, 2]))]
 
 
 def mutated(chance):
@@ -195,15 +269,21 @@ def mutated(chance):
     return bytes(text)
 
 
-def differs(program, text):
-    ran = subprocess.run([program], input=text, capture_output=True)
-    ends = (ran.stdout, ran.stderr, ran.returncode)
-    return None if ends == expected(text) else f"{text!r}: wanted {expected(text)}, got {ends}"
+def differing(program, seed, count):
+    """What is told of those of so many mutated images that end otherwise."""
+    chance, told = random.Random(seed), []
+    for _ in range(count):
+        text, steps = mutated(chance), drawn_steps(chance)
+        ran = subprocess.run([program, *(str(word) for step in steps for word in step)], input=text, capture_output=True)
+        ends, wanted = (ran.stdout, ran.stderr, ran.returncode), expected(text, steps)
+        if ends != wanted:
+            told.append(f"{text!r}, {steps}: wanted {wanted}, got {ends}")
+    return told
 
 
 def main():
     count = int(sys.argv[1]) if len(sys.argv) > 1 else 100_000
-    chance = random.Random(int(sys.argv[2]) if len(sys.argv) > 2 else 1)
+    seed = int(sys.argv[2]) if len(sys.argv) > 2 else 1
     program = pathlib.Path(sys.argv[3]).resolve() if len(sys.argv) > 3 else built()
     rows = []
     with tempfile.TemporaryDirectory() as folder:
@@ -211,10 +291,13 @@ def main():
     print("| 4000 x 3000 | full light | steps | seconds | convert's |\n|---|---|---|---|---|")
     for kind, maxval, words, time, beside in rows:
         print(f"| {kind} | {maxval} | `{words}` | {time:.2f} | {beside:.2f} |")
-    with concurrent.futures.ThreadPoolExecutor(os.cpu_count()) as pool:
-        found = pool.map(lambda text: differs(program, text), (mutated(chance) for _ in range(count)))
-        failed += [line for line in found if line is not None]
-    passed += count - len(failed)
+    at_once = 250
+    counts = [min(at_once, count - k) for k in range(0, count, at_once)]
+    seeds = [f"{seed} {k}" for k in range(len(counts))]
+    with concurrent.futures.ProcessPoolExecutor(os.cpu_count()) as pool:
+        found = [line for lines in pool.map(differing, [program] * len(counts), seeds, counts) for line in lines]
+    failed += found
+    passed += count - len(found)
     for line in failed[:20]:
         print(line)
     print(f"{passed} passed, {len(failed)} failed")

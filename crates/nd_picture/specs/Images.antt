@@ -5,8 +5,8 @@ use Rattle.nd_picture_text.specs.Images.{Pixmap, channels_of}
 use Rattle.nd_picture.specs.Pictures.{Picture}
 
 -- which sample of the list is that of a row, a column and a channel
-abbrev pub number_of : ℕ → ℕ → ℕ → ℕ → ℕ → ℕ
-number_of width channels row column channel = (row * width + column) * channels + channel
+abbrev pub sample_number : ℕ → ℕ → ℕ → ℕ → ℕ → ℕ
+sample_number width channels row column channel = (row * width + column) * channels + channel
 
 -- the picture of an image
 abbrev pub picture_in : Pixmap → Picture
@@ -14,15 +14,15 @@ picture_in p = record {
   height = p.header.height;
   width = p.header.width;
   channels = channels_of p.header.kind;
-  at = λ row column channel. slice_index p.samples (number_of p.header.width (channels_of p.header.kind) row column channel);
+  at = λ row column channel. slice_index p.samples (sample_number p.header.width (channels_of p.header.kind) row column channel);
 }
 
 -- the list has a picture's samples, and no others
 pub record Lists (xs : List ℕ) (p : Picture) : Type 0 where
   pub count : length xs ≡ p.height * p.width * p.channels
-  pub samples : (row column channel : ℕ) → row < p.height → column < p.width → channel < p.channels → slice_get xs (number_of p.width p.channels row column channel) ≡ Some (p.at row column channel)
+  pub samples : (row column channel : ℕ) → row < p.height → column < p.width → channel < p.channels → slice_get xs (sample_number p.width p.channels row column channel) ≡ Some (p.at row column channel)
 
 -- an image of a picture, in the format and with the full light of another header
 pub record IsImageOf (h : Header) (p : Picture) (image : Pixmap) : Type 0 where
-  pub header : image.header ≡ record { kind = h.kind; width = p.width; height = p.height; maxval = h.maxval }
+  pub headed : image.header ≡ record { kind = h.kind; width = p.width; height = p.height; maxval = h.maxval }
   pub samples : Lists image.samples p

@@ -1,4 +1,4 @@
-pub mod Driven
+pub mod Comes
 pub mod Images
 pub mod Parts
 pub mod Pictures

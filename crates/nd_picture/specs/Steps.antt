@@ -1,5 +1,5 @@
 -- A list of steps: when each is refused, and what it gives.
-use Rattle.std.specs.Prelude.{◌≡◌, ℕ, ◌+◌, ◌-◌, ◌^◌, Bool, true, ◌&&◌, nat_lt, nat_le, List, [], ◌∷◌, Result, Ok, Err, if◌then◌else◌}
+use Rattle.std.specs.Prelude.{◌≡◌, ℕ, ◌+◌, ◌-◌, ◌^◌, Bool, true, ◌&&◌, nat_lt, nat_le, List, [], ◌∷◌, slice_get, Some, Result, Ok, Err, if◌then◌else◌}
 use Rattle.nd_array_core.specs.Meaning.{Meaning}
 use Rattle.nd_picture_text.specs.declared.step.Step.{Step}
 use Rattle.nd_picture_text.specs.declared.step.Step.TheVariants.{Crop, Flip, Flop, RotateQuarter, RotateHalf, RotateBack, Transpose, ScaleDown, Threshold, Invert, Blur}
@@ -38,10 +38,14 @@ after_all maxval number [] p = Ok p
 after_all maxval number (step ∷ steps) p = if fits step p.height p.width then after_all maxval (number + 1) steps (after maxval step p) else Err number
 
 -- the code ends with an array that shows that picture, or with that number, unless memory ran out
-abbrev pub StopsAt : StepError → Result Picture ℕ → Type 0
-StopsAt (Refused number) end = end ≡ Err number
-StopsAt Memory end = Unit {0}
+abbrev pub IsRefusedAt : StepError → Result Picture ℕ → Type 0
+IsRefusedAt (Refused number) end = end ≡ Err number
+IsRefusedAt Memory end = Unit {0}
 
-abbrev pub EndsWith : {X : Type 0} → (X → Meaning ℕ) → Result X StepError → Result Picture ℕ → Type 0
-EndsWith view (Ok x) end = (p : Picture) × (end ≡ Ok p) × Shows (view x) p
-EndsWith view (Err error) end = StopsAt error end
+abbrev pub GivesPicture : {X : Type 0} → (X → Meaning ℕ) → Result X StepError → Result Picture ℕ → Type 0
+GivesPicture view (Ok x) end = (p : Picture) × (end ≡ Ok p) × Shows (view x) p
+GivesPicture view (Err error) end = IsRefusedAt error end
+
+-- one of them is blur, the only one that takes memory
+abbrev pub Blurs : List Step → Type 0
+Blurs steps = (nth : ℕ) × (slice_get steps nth ≡ Some Blur)

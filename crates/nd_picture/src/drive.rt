@@ -7,7 +7,7 @@ ghost use Rattle.nd_text.specs.Words.{words_of};
 ghost use Rattle.nd_text.specs.Watched.{watched_failed, watched_retried, GetsFlushed};
 ghost use Rattle.nd_picture_text.specs.Images.{pixmap_of};
 ghost use Rattle.nd_picture_text.specs.Writing.{image_text};
-ghost use Rattle.nd_picture.specs.Driven.{fault_text, fault_status, Driven, Tells};
+ghost use Rattle.nd_picture.specs.Comes.{fault_text, fault_status, PutsWhatComes, WritesWhatComes};
 
 use crate::outcome::{Fault, produce};
 use itoa::Buffer;
@@ -95,7 +95,7 @@ fn drive_on<R: Read, W: Write, E: Write>(
     output: &mut Watched<W>,
     errors: &mut Watched<E>,
 ) -> u8
-    ensures driven { Driven R.remaining W.contents E.contents (words_of line.now) input.old input.new output.old output.new errors.old errors.new result }
+    ensures driven { PutsWhatComes R.remaining W.contents E.contents (words_of line.now) input.old input.new output.old output.new errors.old errors.new result }
     ensures stops_reading { watched_retried input.new ≡ watched_retried input.old }
     ensures stops_writing { watched_retried output.new ≡ watched_retried output.old }
     ensures stops_telling { watched_retried errors.new ≡ watched_retried errors.old }
@@ -124,7 +124,7 @@ pub fn drive<R: Read, W: Write, E: Write>(
     output: &mut Watched<W>,
     errors: &mut Watched<E>,
 ) -> u8
-    ensures told { result < 3 → Tells R.remaining W.contents E.contents (words_of line.now) input.old output.old output.new errors.old errors.new result }
+    ensures told { result < 3 → WritesWhatComes R.remaining W.contents E.contents (words_of line.now) input.old output.old output.new errors.old errors.new result }
     ensures failed { (result == 3) ≡ (watched_failed input.new || watched_failed output.new || watched_failed errors.new) }
     ensures statuses { result ≤ 3 }
     ensures stops_reading { watched_retried input.new ≡ watched_retried input.old }

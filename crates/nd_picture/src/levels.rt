@@ -1,12 +1,11 @@
-//! Steps that change each sample by itself.
+//! Steps that change each sample by itself. They take no memory, since a clone of a number takes none.
 
-ghost use Rattle.std.specs.Prelude.{◌≡◌, ◌-◌, IfOk, ℕ, List};
+ghost use Rattle.std.specs.Prelude.{◌≡◌, ◌-◌, ℕ, List};
 ghost use Rattle.std.specs.Option.{option_map};
 ghost use Rattle.nd_array_core.specs.Meaning.{meaning_of, shape_of, element_at};
 ghost use Rattle.nd_picture.specs.Pictures.{Picture, Shows, changed, over};
 
 use nd_array_core::Array3;
-use nd_shape_and_slice::NoMemory;
 
 /// Full light above the limit, else none.
 fn over(maxval: u16, limit: usize, sample: u16) -> u16
@@ -16,39 +15,37 @@ fn over(maxval: u16, limit: usize, sample: u16) -> u16
 }
 
 /// Full light where a sample is above the limit, else none.
-fn all_over(picture: Array3<u16>, maxval: u16, limit: usize) -> Result<Array3<u16>, NoMemory>
-    ensures shape { IfOk result (λ a. shape_of a ≡ shape_of picture) }
-    ensures samples { IfOk result (λ a. (i : List ℕ) → element_at a i ≡ option_map (over maxval limit) (element_at picture i)) }
+fn all_over(picture: Array3<u16>, maxval: u16, limit: usize) -> Array3<u16>
+    ensures shape { shape_of result ≡ shape_of picture }
+    ensures samples { (i : List ℕ) → element_at result i ≡ option_map (over maxval limit) (element_at picture i) }
 {
-    let changed = picture.mapv_into(|sample| over(maxval, limit, sample))?;
-    Ok(changed)
+    match picture.mapv_into(|sample| over(maxval, limit, sample)) {
+        Ok(changed) => changed,
+        Err(_) => unreachable!(),
+    }
 }
 
 /// Each sample full light where it is above the limit, else none.
-pub(crate) fn threshold(
-    picture: Array3<u16>,
-    maxval: u16,
-    limit: usize,
-) -> Result<Array3<u16>, NoMemory>
-    ensures { IfOk result (λ a. (p : Picture) → Shows (meaning_of picture) p → Shows (meaning_of a) (changed (over maxval limit) p)) }
+pub(crate) fn threshold(picture: Array3<u16>, maxval: u16, limit: usize) -> Array3<u16>
+    ensures { (p : Picture) → Shows (meaning_of picture) p → Shows (meaning_of result) (changed (over maxval limit) p) }
 {
-    let changed = all_over(picture, maxval, limit)?;
-    Ok(changed)
+    all_over(picture, maxval, limit)
 }
 
 /// What is left to full light of each sample.
-fn all_left(picture: Array3<u16>, maxval: u16) -> Result<Array3<u16>, NoMemory>
-    ensures shape { IfOk result (λ a. shape_of a ≡ shape_of picture) }
-    ensures samples { IfOk result (λ a. (i : List ℕ) → element_at a i ≡ option_map (λ sample. maxval - sample) (element_at picture i)) }
+fn all_left(picture: Array3<u16>, maxval: u16) -> Array3<u16>
+    ensures shape { shape_of result ≡ shape_of picture }
+    ensures samples { (i : List ℕ) → element_at result i ≡ option_map (λ sample. maxval - sample) (element_at picture i) }
 {
-    let changed = picture.mapv_into(|sample| maxval.saturating_sub(sample))?;
-    Ok(changed)
+    match picture.mapv_into(|sample| maxval.saturating_sub(sample)) {
+        Ok(changed) => changed,
+        Err(_) => unreachable!(),
+    }
 }
 
 /// Each sample as far from full light as it was from none.
-pub(crate) fn invert(picture: Array3<u16>, maxval: u16) -> Result<Array3<u16>, NoMemory>
-    ensures { IfOk result (λ a. (p : Picture) → Shows (meaning_of picture) p → Shows (meaning_of a) (changed (λ sample. maxval - sample) p)) }
+pub(crate) fn invert(picture: Array3<u16>, maxval: u16) -> Array3<u16>
+    ensures { (p : Picture) → Shows (meaning_of picture) p → Shows (meaning_of result) (changed (λ sample. maxval - sample) p) }
 {
-    let changed = all_left(picture, maxval)?;
-    Ok(changed)
+    all_left(picture, maxval)
 }

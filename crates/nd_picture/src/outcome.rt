@@ -5,8 +5,8 @@ ghost use Rattle.std.specs.Result.{result_map_both};
 ghost use Rattle.nd_array_core.specs.Meaning.{meaning_of};
 ghost use Rattle.nd_text.specs.Words.{words_of};
 ghost use Rattle.nd_text.specs.Watched.{watched_inner, watched_failed, watched_retried};
-ghost use Rattle.nd_picture_text.specs.Images.{pixmap_of, IsWhole};
-ghost use Rattle.nd_picture.specs.Driven.{ComesOf, is_read_failure, Loads, Changes};
+ghost use Rattle.nd_picture_text.specs.Images.{pixmap_of, IsWholeImage};
+ghost use Rattle.nd_picture.specs.Comes.{ComesOf, is_failed_read, IsImageRead, Changes};
 
 use crate::samples::{image_of, picture_of};
 use crate::steps::{StepError, take_steps};
@@ -34,10 +34,11 @@ pub enum Fault {
 }
 
 /// The image of all bytes of the input.
+#[tactic(auto, using(crate::proofs::Wants::some_asked))]
 fn load<R: Read>(alloc: Global, input: &mut Watched<R>) -> Result<Image, Fault>
-    ensures image { IfSome (R.remaining (watched_inner input.old)) (λ bytes. Loads bytes (result_map_both pixmap_of (λ e. e) result)) }
-    ensures whole { IfOk result (λ image. IsWhole (pixmap_of image)) }
-    ensures failed { watched_failed input.new ≡ is_read_failure result }
+    ensures image { IfSome (R.remaining (watched_inner input.old)) (λ bytes. IsImageRead bytes (result_map_both pixmap_of (λ e. e) result)) }
+    ensures whole { IfOk result (λ image. IsWholeImage (pixmap_of image)) }
+    ensures failed { watched_failed input.new ≡ is_failed_read result }
     ensures stops { watched_retried input.new ≡ watched_retried input.old }
 {
     let bytes = match read_input(alloc, input) {
@@ -54,7 +55,7 @@ fn load<R: Read>(alloc: Global, input: &mut Watched<R>) -> Result<Image, Fault>
 
 /// The image after all steps.
 fn change(alloc: Global, steps: &[Step], image: Image) -> Result<Image, Fault>
-    requires { IsWhole (pixmap_of image) }
+    requires { IsWholeImage (pixmap_of image) }
     ensures { Changes steps.now (pixmap_of image) (result_map_both pixmap_of (λ e. e) result) }
 {
     let header = image.header;
@@ -70,13 +71,14 @@ fn change(alloc: Global, steps: &[Step], image: Image) -> Result<Image, Fault>
 
 /// The image after the steps that the words of a line write, of all bytes of the input. No byte is read where the steps
 /// can't be.
+#[tactic(auto, using(crate::proofs::Wants::comes_unloaded, crate::proofs::Wants::comes_changed))]
 pub(crate) fn produce<R: Read>(
     alloc: Global,
     line: &[u8],
     input: &mut Watched<R>,
 ) -> Result<Image, Fault>
     ensures made { ComesOf R.remaining (words_of line.now) input.old (result_map_both pixmap_of (λ e. e) result) }
-    ensures failed { is_read_failure result ≡ true → watched_failed input.new ≡ true }
+    ensures failed { is_failed_read result ≡ true → watched_failed input.new ≡ true }
     ensures stops { watched_retried input.new ≡ watched_retried input.old }
 {
     let steps = match read_steps(alloc, line) {

@@ -4,7 +4,7 @@ ghost use Rattle.std.specs.Prelude.{◌≡◌, ◌<◌, ◌≤◌, ◌*◌, ◌^
 ghost use Rattle.nd_shape_and_slice.specs.Shape.{HasCheckedSize, row_rank};
 ghost use Rattle.nd_array_core.specs.Meaning.{meaning_of, shape_of};
 ghost use Rattle.nd_array_core.specs.Coordinates.{element_of_3};
-ghost use Rattle.nd_picture_text.specs.Images.{IsWhole, pixmap_of};
+ghost use Rattle.nd_picture_text.specs.Images.{IsWholeImage, pixmap_of};
 ghost use Rattle.nd_picture.specs.Pictures.{Picture, Shows};
 ghost use Rattle.nd_picture.specs.Images.{picture_in, Lists, IsImageOf};
 
@@ -31,7 +31,7 @@ fn shaped(height: usize, width: usize, channels: usize, samples: Vec<u16>) -> Ar
 
 /// The array of an image's picture.
 pub fn picture_of(image: Image) -> Array3<u16>
-    requires { IsWhole (pixmap_of image) }
+    requires { IsWholeImage (pixmap_of image) }
     ensures { Shows (meaning_of result) (picture_in (pixmap_of image)) }
 {
     let Image { header, samples } = image;

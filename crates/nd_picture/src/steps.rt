@@ -1,9 +1,11 @@
 //! A list of steps on a picture.
 
-ghost use Rattle.std.specs.Prelude.{◌≡◌, ◌<◌, ◌≤◌, ◌+◌, ◌^◌, ℕ, true, length, slice_index, IfOk};
+ghost use Rattle.std.specs.Prelude.{◌≡◌, ◌<◌, ◌≤◌, ◌+◌, ◌^◌, ℕ, true, length, slice_index, IfOk, OnErr, Err};
 ghost use Rattle.nd_array_core.specs.Meaning.{meaning_of, shape_of};
 ghost use Rattle.nd_picture.specs.Pictures.{Picture, Shows};
-ghost use Rattle.nd_picture.specs.Steps.{lie_within, fits, after, after_all, EndsWith};
+ghost use Rattle.nd_picture.specs.Steps.{lie_within, fits, after, after_all, GivesPicture, Blurs};
+ghost use Rattle.nd_picture_text.specs.declared.step.Step.TheVariants.{Blur};
+ghost use Rattle.nd_picture.specs.declared.steps.StepError.TheVariants.{Memory};
 
 use crate::blur::blur;
 use crate::layouts::{crop, flip, flop, scale_down, transpose, turn_back, turn_half, turn_quarter};
@@ -55,7 +57,8 @@ pub fn take_step(
     picture: Array3<u16>,
 ) -> Result<Array3<u16>, NoMemory>
     requires { fits step (slice_index (shape_of picture) 0) (slice_index (shape_of picture) 1) ≡ true }
-    ensures { IfOk result (λ a. (p : Picture) → Shows (meaning_of picture) p → Shows (meaning_of a) (after maxval step p)) }
+    ensures after { IfOk result (λ a. (p : Picture) → Shows (meaning_of picture) p → Shows (meaning_of a) (after maxval step p)) }
+    ensures memory { OnErr result (step ≡ Blur) }
 {
     match step {
         Step::Crop(top, left, height, width) => Ok(crop(picture, top, left, height, width)),
@@ -66,20 +69,22 @@ pub fn take_step(
         Step::RotateBack => Ok(turn_back(picture)),
         Step::Transpose => Ok(transpose(picture)),
         Step::ScaleDown(factor) => Ok(scale_down(picture, factor)),
-        Step::Threshold(limit) => threshold(picture, maxval, limit),
-        Step::Invert => invert(picture, maxval),
+        Step::Threshold(limit) => Ok(threshold(picture, maxval, limit)),
+        Step::Invert => Ok(invert(picture, maxval)),
         Step::Blur => blur(alloc, &picture),
     }
 }
 
-/// The picture after all steps, in order. Refused is the number of the first that can't be taken.
+/// The picture after all steps, in order. Refused is the number of the first that can't be taken. Memory is taken for a
+/// blur alone.
 pub fn take_steps(
     alloc: Global,
     maxval: u16,
     steps: &[Step],
     picture: Array3<u16>,
 ) -> Result<Array3<u16>, StepError>
-    ensures { (p : Picture) → Shows (meaning_of picture) p → EndsWith (λ a. meaning_of a) result (after_all maxval 1 steps.now p) }
+    ensures ends { (p : Picture) → Shows (meaning_of picture) p → GivesPicture (λ a. meaning_of a) result (after_all maxval 1 steps.now p) }
+    ensures memory { result ≡ Err Memory → Blurs steps.now }
 {
     let mut picture = picture;
     for nth in 0..steps.len() {

@@ -1,6 +1,7 @@
 -- Samples behind those read so far, and how many an image has.
-use Rattle.std.proofs.Common.{◌≡◌, ℕ, zero, suc, ◌+◌, ◌*◌, ◌<◌, ◌≤◌, List, [], ◌∷◌, ◌++◌, ◌-◌, Result, Ok, Err, refl, sym, ap, ◌∙◌, append_assoc, length, length-append, arith, take, drop, subst, Option}
+use Rattle.std.proofs.Common.{◌≡◌, ℕ, zero, suc, ◌+◌, ◌*◌, ◌<◌, ◌≤◌, List, [], ◌∷◌, ◌++◌, ◌-◌, Result, Ok, Err, refl, sym, ap, ◌∙◌, append_assoc, length, length-append, arith, set, take, drop, subst, Option}
 use Rattle.std.specs.List.{flat_map}
+use Rattle.std.proofs.lemmas.List.{length-set, take_more_set}
 use Rattle.std.proofs.lemmas.List.Concat.{flat_map-append}
 use Rattle.nd_text.specs.declared.watched.Watched.{Watched}
 use Rattle.nd_text.specs.Puts.{Puts}
@@ -8,13 +9,13 @@ use Rattle.nd_text.proofs.Puts.{puts_then}
 use Rattle.std.specs.Prelude.{All}
 use Rattle.std.proofs.lemmas.List.Elements.{All-append}
 use Rattle.nd_picture_text.specs.Numbers.{◌>>=◌, next_number}
-use Rattle.nd_picture_text.specs.Reading.{behind, plain_samples}
+use Rattle.nd_picture_text.specs.Reading.{samples_behind, plain_samples}
 
-pub behind_none : (r : Result (List ℕ) ℕ) → behind [] r ≡ r
+pub behind_none : (r : Result (List ℕ) ℕ) → samples_behind [] r ≡ r
 behind_none (Ok xs) = refl
 behind_none (Err n) = refl
 
-pub behind_more : (xs : List ℕ) (x : ℕ) (r : Result (List ℕ) ℕ) → behind (xs ++ x ∷ []) r ≡ behind xs (behind (x ∷ []) r)
+pub behind_more : (xs : List ℕ) (x : ℕ) (r : Result (List ℕ) ℕ) → samples_behind (xs ++ x ∷ []) r ≡ samples_behind xs (samples_behind (x ∷ []) r)
 behind_more xs x (Ok ys) = ap (λ (l : List ℕ). Ok l) (append_assoc xs (x ∷ []) ys)
 behind_more xs x (Err n) = refl
 
@@ -23,13 +24,13 @@ pub few_samples : (height width : ℕ) → height ≤ 1000000000 → width ≤ 1
 few_samples height width h w = grind arith
 
 -- one sample more in decimal
-pub plain_more : (maxval missing : ℕ) (xs rest after : List ℕ) (sample : ℕ) (whole : Result (List ℕ) ℕ) → 0 < missing → next_number maxval rest ≡ Ok (sample, after) → behind xs (plain_samples maxval missing rest) ≡ whole
-    → behind (xs ++ sample ∷ []) (plain_samples maxval (missing - 1) after) ≡ whole
+pub plain_more : (maxval missing : ℕ) (xs rest after : List ℕ) (sample : ℕ) (whole : Result (List ℕ) ℕ) → 0 < missing → next_number maxval rest ≡ Ok (sample, after) → samples_behind xs (plain_samples maxval missing rest) ≡ whole
+    → samples_behind (xs ++ sample ∷ []) (plain_samples maxval (missing - 1) after) ≡ whole
 plain_more maxval zero xs rest after sample whole some next is = absurd (omega (arith, some))
 plain_more maxval (suc missing) xs rest after sample whole some next is =
     let less : suc missing - 1 ≡ missing = omega arith in
-    let step : plain_samples maxval (suc missing) rest ≡ behind (sample ∷ []) (plain_samples maxval missing after) = ap (λ (r : Result (ℕ × List ℕ) ℕ). r >>= λ x. behind (x.0 ∷ []) (plain_samples maxval missing x.1)) next in
-    behind_more xs sample (plain_samples maxval (suc missing - 1) after) ∙ ap (λ n. behind xs (behind (sample ∷ []) (plain_samples maxval n after))) less ∙ ap (behind xs) (sym step) ∙ is
+    let step : plain_samples maxval (suc missing) rest ≡ samples_behind (sample ∷ []) (plain_samples maxval missing after) = ap (λ (r : Result (ℕ × List ℕ) ℕ). r >>= λ x. samples_behind (x.0 ∷ []) (plain_samples maxval missing x.1)) next in
+    behind_more xs sample (plain_samples maxval (suc missing - 1) after) ∙ ap (λ n. samples_behind xs (samples_behind (sample ∷ []) (plain_samples maxval n after))) less ∙ ap (samples_behind xs) (sym step) ∙ is
 
 pub one_more : (xs : List ℕ) (x missing count : ℕ) → 0 < missing → length xs + missing ≡ count → length (xs ++ x ∷ []) + (missing - 1) ≡ count
 one_more xs x missing count some is = omega (arith, length-append xs (x ∷ []))
@@ -58,3 +59,14 @@ pub piece_put : {W : Type 0} {contents : W → Option (List ℕ)} {old mid new :
 piece_put {W} {contents} {old} {mid} {new} {held} {one} {left} f xs from count piece p is q =
     let whole : flat_map f (take (from + count) xs) ≡ flat_map f (take from xs) ++ piece = ap (flat_map f) (part_taken xs from count) ∙ flat_map-append f (take from xs) (take count (drop from xs)) ∙ ap (λ l. flat_map f (take from xs) ++ l) (sym is) in
     subst (Puts contents old held new left) (sym whole) (puts_then p q)
+
+-- two bytes more of a piece
+pub pair_set : (xs : List ℕ) (i a b : ℕ) → i * 2 + 1 < length xs → take ((i + 1) * 2) (set (set xs (i * 2) a) (i * 2 + 1) b) ≡ take (i * 2) xs ++ a ∷ b ∷ []
+pair_set xs i a b h =
+    let next : (i + 1) * 2 ≡ i * 2 + 1 + 1 = omega arith in
+    let first : i * 2 < length xs = omega (arith, h) in
+    let second : i * 2 + 1 < length (set xs (i * 2) a) = omega (arith, h, length-set xs (i * 2) a) in
+    ap (λ k. take k (set (set xs (i * 2) a) (i * 2 + 1) b)) next
+    ∙ take_more_set (set xs (i * 2) a) (i * 2 + 1) b second
+    ∙ ap (λ t. t ++ b ∷ []) (take_more_set xs (i * 2) a first)
+    ∙ append_assoc (take (i * 2) xs) (a ∷ []) (b ∷ [])

@@ -6,8 +6,8 @@ use Rattle.std.specs.List.{flat_map}
 use Rattle.std.proofs.lemmas.Bool.{ltb-true, le-ltb}
 use Rattle.std.proofs.lemmas.Bool.Decides.{nat_tests}
 use Rattle.nd_picture_text.specs.Laws.{SamplesReadBack}
-use Rattle.nd_picture_text.specs.Reading.{behind, narrow_samples, wide_samples, exactly, raw_samples}
-use Rattle.nd_picture_text.specs.Writing.{low_byte, sample_text}
+use Rattle.nd_picture_text.specs.Reading.{samples_behind, narrow_samples, wide_samples, exactly, raw_samples}
+use Rattle.nd_picture_text.specs.Writing.{low_byte, both_bytes, sample_text}
 
 module _ (limit : ℕ) where
   first_within : (x : ℕ) (xs : List ℕ) → All (λ s. s ≤ limit) (x ∷ xs) → x ≤ limit
@@ -16,16 +16,13 @@ module _ (limit : ℕ) where
   rest_within : (x : ℕ) (xs : List ℕ) → All (λ s. s ≤ limit) (x ∷ xs) → All (λ s. s ≤ limit) xs
   rest_within x xs all k d h = all (suc k) d (omega (arith, h))
 
-abbrev pub two_bytes : ℕ → List ℕ
-two_bytes s = s / 256 ∷ s % 256 ∷ []
-
 within : (x limit : ℕ) → x ≤ limit → leb x limit ≡ true
 within x limit h = grind (arith, nat_tests)
 
 narrow_step : (limit b x : ℕ) (xs rest : List ℕ) → b ≡ x → x ≤ limit → narrow_samples limit rest ≡ Ok xs → narrow_samples limit (b ∷ rest) ≡ Ok (x ∷ xs)
 narrow_step limit b x xs rest same h is =
     let fits : leb b limit ≡ true = within b limit (omega (arith, same, h)) in
-    ap (λ t. cond t (behind (b ∷ []) (narrow_samples limit rest)) (Err (length (b ∷ rest)))) fits ∙ ap (behind (b ∷ [])) is ∙ ap (λ y. Ok (y ∷ xs)) same
+    ap (λ t. cond t (samples_behind (b ∷ []) (narrow_samples limit rest)) (Err (length (b ∷ rest)))) fits ∙ ap (samples_behind (b ∷ [])) is ∙ ap (λ y. Ok (y ∷ xs)) same
 
 narrow_back : (limit : ℕ) (xs : List ℕ) → limit < 256 → All (λ s. s ≤ limit) xs → narrow_samples limit (flat_map low_byte xs) ≡ Ok xs
 narrow_back limit [] small all = refl
@@ -36,17 +33,17 @@ narrow_back limit (x ∷ xs) small all =
 wide_step : (limit a b x : ℕ) (xs rest : List ℕ) → a * 256 + b ≡ x → x ≤ limit → wide_samples limit rest ≡ Ok xs → wide_samples limit (a ∷ b ∷ rest) ≡ Ok (x ∷ xs)
 wide_step limit a b x xs rest same h is =
     let fits : leb (a * 256 + b) limit ≡ true = within (a * 256 + b) limit (omega (arith, same, h)) in
-    ap (λ t. cond t (behind ((a * 256 + b) ∷ []) (wide_samples limit rest)) (Err (length (a ∷ b ∷ rest)))) fits ∙ ap (behind ((a * 256 + b) ∷ [])) is ∙ ap (λ y. Ok (y ∷ xs)) same
+    ap (λ t. cond t (samples_behind ((a * 256 + b) ∷ []) (wide_samples limit rest)) (Err (length (a ∷ b ∷ rest)))) fits ∙ ap (samples_behind ((a * 256 + b) ∷ [])) is ∙ ap (λ y. Ok (y ∷ xs)) same
 
-wide_back : (limit : ℕ) (xs : List ℕ) → All (λ s. s ≤ limit) xs → wide_samples limit (flat_map two_bytes xs) ≡ Ok xs
+wide_back : (limit : ℕ) (xs : List ℕ) → All (λ s. s ≤ limit) xs → wide_samples limit (flat_map both_bytes xs) ≡ Ok xs
 wide_back limit [] all = refl
-wide_back limit (x ∷ xs) all = wide_step limit (x / 256) (x % 256) x xs (flat_map two_bytes xs) (omega arith) (first_within limit x xs all) (wide_back limit xs (rest_within limit x xs all))
+wide_back limit (x ∷ xs) all = wide_step limit (x / 256) (x % 256) x xs (flat_map both_bytes xs) (omega arith) (first_within limit x xs all) (wide_back limit xs (rest_within limit x xs all))
 
 narrow_length : (xs : List ℕ) → length (flat_map low_byte xs) ≡ length xs
 narrow_length [] = refl
 narrow_length (x ∷ xs) = ap suc (narrow_length xs)
 
-wide_length : (xs : List ℕ) → length (flat_map two_bytes xs) ≡ length xs * 2
+wide_length : (xs : List ℕ) → length (flat_map both_bytes xs) ≡ length xs * 2
 wide_length [] = omega arith
 wide_length (x ∷ xs) = omega (arith, wide_length xs)
 
@@ -54,10 +51,10 @@ exact : (size : ℕ) (bytes : List ℕ) (r : Result (List ℕ) ℕ) → length b
 exact size bytes r long = rw (le-ltb (length bytes) size (omega (arith, long)), le-ltb size (length bytes) (omega (arith, long))) refl
 
 raw_by : (t : Bool) (limit : ℕ) (xs : List ℕ) → ltb limit 256 ≡ t → All (λ s. s ≤ limit) xs
-    → cond t (exactly (length xs) (flat_map (λ s. cond t (low_byte s) (two_bytes s)) xs) (narrow_samples limit (flat_map (λ s. cond t (low_byte s) (two_bytes s)) xs))) (exactly (length xs * 2) (flat_map (λ s. cond t (low_byte s) (two_bytes s)) xs) (wide_samples limit (flat_map (λ s. cond t (low_byte s) (two_bytes s)) xs))) ≡ Ok xs
+    → cond t (exactly (length xs) (flat_map (λ s. cond t (low_byte s) (both_bytes s)) xs) (narrow_samples limit (flat_map (λ s. cond t (low_byte s) (both_bytes s)) xs))) (exactly (length xs * 2) (flat_map (λ s. cond t (low_byte s) (both_bytes s)) xs) (wide_samples limit (flat_map (λ s. cond t (low_byte s) (both_bytes s)) xs))) ≡ Ok xs
 raw_by true limit xs e all = exact (length xs) (flat_map low_byte xs) (narrow_samples limit (flat_map low_byte xs)) (narrow_length xs) ∙ narrow_back limit xs (ltb-true limit 256 e) all
-raw_by false limit xs e all = exact (length xs * 2) (flat_map two_bytes xs) (wide_samples limit (flat_map two_bytes xs)) (wide_length xs) ∙ wide_back limit xs all
+raw_by false limit xs e all = exact (length xs * 2) (flat_map both_bytes xs) (wide_samples limit (flat_map both_bytes xs)) (wide_length xs) ∙ wide_back limit xs all
 
 pub read_back : SamplesReadBack
 read_back h xs raw small all =
-    subst (λ (t : Bool). raw_samples h.maxval (length xs) (flat_map (λ s. cond t (decimal s ++ codes "\n") (cond (ltb h.maxval 256) (low_byte s) (two_bytes s))) xs) ≡ Ok xs) (sym raw) (raw_by (ltb h.maxval 256) h.maxval xs refl all)
+    subst (λ (t : Bool). raw_samples h.maxval (length xs) (flat_map (λ s. cond t (decimal s ++ codes "\n") (cond (ltb h.maxval 256) (low_byte s) (both_bytes s))) xs) ≡ Ok xs) (sym raw) (raw_by (ltb h.maxval 256) h.maxval xs refl all)

@@ -38,7 +38,7 @@ pub record IsHeader (h : Header) : Type 0 where
   pub light : (0 < h.maxval) × (h.maxval < 65536)
 
 -- as many samples as there are pixels and channels, none above full light
-pub record IsWhole (p : Pixmap) : Type 0 where
+pub record IsWholeImage (p : Pixmap) : Type 0 where
   pub header : IsHeader p.header
   pub count : length p.samples ≡ sample_count p.header
   pub within : All (λ s. s ≤ p.header.maxval) p.samples

@@ -37,20 +37,20 @@ header_in bytes =
     Ok (record { kind = o.0; width = w.0; height = h.0; maxval = m.0 }, m.1)
 
 -- samples behind others
-abbrev pub behind : List ℕ → Result (List ℕ) ℕ → Result (List ℕ) ℕ
-behind xs (Ok ys) = Ok (xs ++ ys)
-behind xs (Err n) = Err n
+abbrev pub samples_behind : List ℕ → Result (List ℕ) ℕ → Result (List ℕ) ℕ
+samples_behind xs (Ok ys) = Ok (xs ++ ys)
+samples_behind xs (Err n) = Err n
 
 -- samples of one byte
 abbrev pub narrow_samples : ℕ → List ℕ → Result (List ℕ) ℕ
 narrow_samples maxval [] = Ok []
-narrow_samples maxval (b ∷ bs) = if nat_le b maxval then behind (b ∷ []) (narrow_samples maxval bs) else Err (length (b ∷ bs))
+narrow_samples maxval (b ∷ bs) = if nat_le b maxval then samples_behind (b ∷ []) (narrow_samples maxval bs) else Err (length (b ∷ bs))
 
 -- samples of two bytes, the more significant one first
 abbrev pub wide_samples : ℕ → List ℕ → Result (List ℕ) ℕ
 wide_samples maxval [] = Ok []
 wide_samples maxval (a ∷ []) = Err 1
-wide_samples maxval (a ∷ b ∷ bs) = if nat_le (a * 256 + b) maxval then behind ((a * 256 + b) ∷ []) (wide_samples maxval bs) else Err (length (a ∷ b ∷ bs))
+wide_samples maxval (a ∷ b ∷ bs) = if nat_le (a * 256 + b) maxval then samples_behind ((a * 256 + b) ∷ []) (wide_samples maxval bs) else Err (length (a ∷ b ∷ bs))
 
 -- this many bytes and no others: where the first is missing, or is too many
 abbrev pub exactly : ℕ → List ℕ → Result (List ℕ) ℕ → Result (List ℕ) ℕ
@@ -64,11 +64,15 @@ at_end (b ∷ bs) = Err (length (b ∷ bs))
 -- this many samples in decimal, and nothing behind them but a gap
 abbrev pub plain_samples : ℕ → ℕ → List ℕ → Result (List ℕ) ℕ
 plain_samples maxval zero bytes = at_end (behind_gap false bytes)
-plain_samples maxval (suc count) bytes = next_number maxval bytes >>= λ x. behind (x.0 ∷ []) (plain_samples maxval count x.1)
+plain_samples maxval (suc count) bytes = next_number maxval bytes >>= λ x. samples_behind (x.0 ∷ []) (plain_samples maxval count x.1)
 
 -- bytes for each sample
 abbrev pub raw_samples : ℕ → ℕ → List ℕ → Result (List ℕ) ℕ
 raw_samples maxval count bytes = if nat_lt maxval 256 then exactly count bytes (narrow_samples maxval bytes) else exactly (count * 2) bytes (wide_samples maxval bytes)
+
+-- how many bytes so many samples take
+abbrev pub raw_size : ℕ → ℕ → ℕ
+raw_size maxval count = if nat_lt maxval 256 then count else count * 2
 
 -- the samples behind a header
 unfoldable pub raster_in : Header → List ℕ → Result (List ℕ) ℕ
@@ -79,15 +83,21 @@ unfoldable pub image_in : List ℕ → Result Pixmap ℕ
 image_in bytes = header_in bytes >>= λ x. raster_in x.0 x.1 >>= λ samples. Ok (record { header = x.0; samples = samples })
 
 -- A reader of the code gives what the bytes mean, unless memory ran out.
-abbrev pub StopsAt : {Y : Type 0} → ImageError → Result Y ℕ → Type 0
-StopsAt Memory meant = Unit {0}
-StopsAt (BadByte left) meant = meant ≡ Err left
+abbrev pub IsLeftAt : {Y : Type 0} → ImageError → Result Y ℕ → Type 0
+IsLeftAt Memory meant = Unit {0}
+IsLeftAt (BadByte left) meant = meant ≡ Err left
 
-abbrev pub Gives : {X Y : Type 0} → (X → Y) → Result X ImageError → Result Y ℕ → Type 0
-Gives view (Ok x) meant = meant ≡ Ok (view x)
-Gives view (Err error) meant = StopsAt error meant
+abbrev pub ReadsAs : {X Y : Type 0} → (X → Y) → Result X ImageError → Result Y ℕ → Type 0
+ReadsAs view (Ok x) meant = meant ≡ Ok (view x)
+ReadsAs view (Err error) meant = IsLeftAt error meant
 
 -- the first byte at which it can't be read, counted from 0, in place of how many are left
 abbrev pub counted : {Y : Type 0} → ℕ → Result Y ℕ → Result Y ℕ
 counted size (Ok y) = Ok y
 counted size (Err left) = Err (size - left)
+
+-- memory is asked for samples: behind a header, and where they are bytes, only if there are as many as samples take
+abbrev pub AsksForSamples : List ℕ → Type 0
+AsksForSamples bytes =
+    (h : Header) × (rest : List ℕ) × (header_in bytes ≡ Ok (h, rest))
+    × (is_plain h.kind ≡ false → length rest ≡ raw_size h.maxval (sample_count h))

@@ -17,13 +17,18 @@ kind_text RawColour = codes "P6\n"
 abbrev pub header_text : Header → List ℕ
 header_text h = kind_text h.kind ++ (decimal h.width ++ (codes " " ++ (decimal h.height ++ (codes "\n" ++ (decimal h.maxval ++ codes "\n")))))
 
--- a sample of one byte
+-- a sample: a line of its own, one byte, or two, the more significant one first
+abbrev pub number_line : ℕ → List ℕ
+number_line s = decimal s ++ codes "\n"
+
 abbrev pub low_byte : ℕ → List ℕ
 low_byte s = s % 256 ∷ []
 
--- a sample: a line of its own, one byte, or two, the more significant one first
+abbrev pub both_bytes : ℕ → List ℕ
+both_bytes s = s / 256 ∷ s % 256 ∷ []
+
 abbrev pub sample_text : Header → ℕ → List ℕ
-sample_text h s = if is_plain h.kind then decimal s ++ codes "\n" else (if nat_lt h.maxval 256 then low_byte s else s / 256 ∷ s % 256 ∷ [])
+sample_text h s = if is_plain h.kind then number_line s else (if nat_lt h.maxval 256 then low_byte s else both_bytes s)
 
 abbrev pub image_text : Pixmap → List ℕ
 image_text p = header_text p.header ++ flat_map (sample_text p.header) p.samples

@@ -2,7 +2,7 @@
 
 ghost use Rattle.std.specs.Prelude.{◌≡◌, ◌+◌, ◌-◌, ◌*◌, ◌<◌, ◌≤◌, ◌^◌, IfOk, length, SomeIff, true, false};
 ghost use Rattle.std.specs.Result.{result_map_both};
-ghost use Rattle.nd_picture_text.specs.Numbers.{ends_line, is_blank, goes_on, behind_gap, behind_blank, digits_behind, number_here, next_number};
+ghost use Rattle.nd_picture_text.specs.Numbers.{ends_line, is_whitespace, takes_digit, behind_gap, behind_blank, digits_behind, number_here, next_number};
 
 fn ends_line(byte: u8) -> bool
     ensures { result ≡ ends_line byte }
@@ -10,8 +10,8 @@ fn ends_line(byte: u8) -> bool
     byte == b'\n' || byte == b'\r'
 }
 
-fn is_blank(byte: u8) -> bool
-    ensures { result ≡ is_blank byte }
+fn is_whitespace(byte: u8) -> bool
+    ensures { result ≡ is_whitespace byte }
 {
     byte == b' ' || byte == b'\t' || ends_line(byte)
 }
@@ -33,7 +33,7 @@ pub(crate) fn behind_gap(text: &[u8]) -> &[u8]
             rest = after;
             continue;
         }
-        if !is_blank(*byte) {
+        if !is_whitespace(*byte) {
             return rest;
         }
         rest = after;
@@ -58,7 +58,7 @@ pub(crate) fn behind_blank(text: &[u8]) -> Result<&[u8], usize>
             rest = after;
             continue;
         }
-        if is_blank(*byte) {
+        if is_whitespace(*byte) {
             return Ok(after);
         }
         return Err(rest.len());
@@ -70,7 +70,7 @@ pub(crate) fn behind_blank(text: &[u8]) -> Result<&[u8], usize>
 fn with_digit(limit: usize, number: usize, byte: u8) -> Option<usize>
     requires number { number ≤ limit }
     requires limit { limit < 2 ^ 32 }
-    ensures { SomeIff result (goes_on limit number byte ≡ true) (number * 10 + (byte - 48)) }
+    ensures { SomeIff result (takes_digit limit number byte ≡ true) (number * 10 + (byte - 48)) }
 {
     if !byte.is_ascii_digit() {
         return None;
@@ -103,7 +103,7 @@ fn digits_behind(limit: usize, first: usize, text: &[u8]) -> Result<(usize, &[u8
             rest = after;
             continue;
         }
-        if is_blank(*byte) {
+        if is_whitespace(*byte) {
             return Ok((number, after));
         }
         match with_digit(limit, number, *byte) {

@@ -1,9 +1,9 @@
 //! Samples.
 #![tactic(auto, using(crate::proofs::Rasters::behind_none, crate::proofs::Rasters::behind_more))]
 
-ghost use Rattle.std.specs.Prelude.{◌≡◌, ◌<◌, ◌≤◌, ◌^◌, ◌*◌, [], ◌∷◌, ◌++◌, ◌+◌, All, OnOk, IfOk, IfErr, length};
-ghost use Rattle.nd_picture_text.specs.Images.{sample_count};
-ghost use Rattle.nd_picture_text.specs.Reading.{Gives, narrow_samples, wide_samples, exactly, plain_samples, raw_samples, raster_in};
+ghost use Rattle.std.specs.Prelude.{◌≡◌, ◌<◌, ◌≤◌, ◌^◌, ◌*◌, [], ◌∷◌, ◌++◌, ◌+◌, All, OnOk, IfOk, IfErr, Err, false, length};
+ghost use Rattle.nd_picture_text.specs.Images.{is_plain, sample_count};
+ghost use Rattle.nd_picture_text.specs.Reading.{ReadsAs, narrow_samples, wide_samples, exactly, plain_samples, raw_samples, raster_in, raw_size};
 ghost use Rattle.nd_picture_text.specs.declared.raster.ImageError.TheVariants.{Memory};
 
 use crate::image::Header;
@@ -40,7 +40,7 @@ fn keep(samples: &mut Vec<u16>, sample: u16) -> Result<(), ImageError>
 
 /// Samples of one byte.
 fn narrow_samples(alloc: Global, maxval: usize, bytes: &[u8]) -> Result<Vec<u16>, ImageError>
-    ensures read { Gives (λ v. v.items) result (narrow_samples maxval bytes.now) }
+    ensures read { ReadsAs (λ v. v.items) result (narrow_samples maxval bytes.now) }
     ensures count { IfOk result (λ v. length v.items ≡ length bytes.now) }
     ensures within { IfOk result (λ v. All (λ s. s ≤ maxval) v.items) }
 {
@@ -59,7 +59,7 @@ fn narrow_samples(alloc: Global, maxval: usize, bytes: &[u8]) -> Result<Vec<u16>
 /// Samples of two bytes.
 fn wide_samples(alloc: Global, maxval: usize, bytes: &[u8]) -> Result<Vec<u16>, ImageError>
     requires { maxval < 65536 }
-    ensures read { Gives (λ v. v.items) result (wide_samples maxval bytes.now) }
+    ensures read { ReadsAs (λ v. v.items) result (wide_samples maxval bytes.now) }
     ensures count { IfOk result (λ v. length v.items + length v.items ≡ length bytes.now) }
     ensures within { IfOk result (λ v. All (λ s. s ≤ maxval) v.items) }
 {
@@ -87,7 +87,7 @@ fn plain_samples(
     text: &[u8],
 ) -> Result<Vec<u16>, ImageError>
     requires { maxval < 65536 }
-    ensures read { Gives (λ v. v.items) result (plain_samples maxval count text.now) }
+    ensures read { ReadsAs (λ v. v.items) result (plain_samples maxval count text.now) }
     ensures count { IfOk result (λ v. length v.items ≡ count) }
     ensures within { IfOk result (λ v. All (λ s. s ≤ maxval) v.items) }
 {
@@ -120,7 +120,8 @@ fn raw_samples(
 ) -> Result<Vec<u16>, ImageError>
     requires maxval { maxval < 65536 }
     requires count { count < 2 ^ 63 }
-    ensures read { Gives (λ v. v.items) result (raw_samples maxval count bytes.now) }
+    ensures read { ReadsAs (λ v. v.items) result (raw_samples maxval count bytes.now) }
+    ensures memory { result ≡ Err Memory → length bytes.now ≡ raw_size maxval count }
     ensures count { IfOk result (λ v. length v.items ≡ count) }
     ensures within { IfOk result (λ v. All (λ s. s ≤ maxval) v.items) }
 {
@@ -156,7 +157,8 @@ pub(crate) fn raster_in(alloc: Global, header: Header, bytes: &[u8]) -> Result<V
     requires width { header.width ≤ 1000000000 }
     requires height { header.height ≤ 1000000000 }
     requires maxval { header.maxval < 65536 }
-    ensures read { Gives (λ v. v.items) result (raster_in header bytes.now) }
+    ensures read { ReadsAs (λ v. v.items) result (raster_in header bytes.now) }
+    ensures memory { result ≡ Err Memory → is_plain header.kind ≡ false → length bytes.now ≡ raw_size header.maxval (sample_count header) }
     ensures count { IfOk result (λ v. length v.items ≡ sample_count header) }
     ensures within { IfOk result (λ v. All (λ s. s ≤ header.maxval) v.items) }
 {

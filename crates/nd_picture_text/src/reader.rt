@@ -1,8 +1,9 @@
 //! Reading an image.
 
-ghost use Rattle.std.specs.Prelude.{◌≡◌, length, IfOk};
-ghost use Rattle.nd_picture_text.specs.Images.{pixmap_of, IsWhole};
-ghost use Rattle.nd_picture_text.specs.Reading.{Gives, image_in, counted};
+ghost use Rattle.std.specs.Prelude.{◌≡◌, length, IfOk, Err};
+ghost use Rattle.nd_picture_text.specs.Images.{pixmap_of, IsWholeImage};
+ghost use Rattle.nd_picture_text.specs.Reading.{ReadsAs, image_in, counted, AsksForSamples};
+ghost use Rattle.nd_picture_text.specs.declared.raster.ImageError.TheVariants.{Memory};
 
 use crate::header::header_in;
 use crate::image::Image;
@@ -12,8 +13,9 @@ use std::alloc::Global;
 /// The image that bytes mean; what is bad is told by how many bytes are left there.
 #[tactic(auto, unfolding(crate::specs::Reading::image_in))]
 fn image_in(alloc: Global, bytes: &[u8]) -> Result<Image, ImageError>
-    ensures read { Gives pixmap_of result (image_in bytes.now) }
-    ensures whole { IfOk result (λ image. IsWhole (pixmap_of image)) }
+    ensures read { ReadsAs pixmap_of result (image_in bytes.now) }
+    ensures memory { result ≡ Err Memory → AsksForSamples bytes.now }
+    ensures whole { IfOk result (λ image. IsWholeImage (pixmap_of image)) }
 {
     match header_in(bytes) {
         Ok((header, rest)) => match raster_in(alloc, header, rest) {
@@ -28,8 +30,9 @@ fn image_in(alloc: Global, bytes: &[u8]) -> Result<Image, ImageError>
 /// counted from 0: of one that is missing, how many there are. Width and height are from 1 to 1,000,000,000. No memory is
 /// taken for samples that aren't there.
 pub fn read_image(alloc: Global, bytes: &[u8]) -> Result<Image, ImageError>
-    ensures read { Gives pixmap_of result (counted (length bytes.now) (image_in bytes.now)) }
-    ensures whole { IfOk result (λ image. IsWhole (pixmap_of image)) }
+    ensures read { ReadsAs pixmap_of result (counted (length bytes.now) (image_in bytes.now)) }
+    ensures memory { result ≡ Err Memory → AsksForSamples bytes.now }
+    ensures whole { IfOk result (λ image. IsWholeImage (pixmap_of image)) }
 {
     match image_in(alloc, bytes) {
         Ok(image) => Ok(image),

@@ -1,9 +1,9 @@
 //! Writing an image.
 
-ghost use Rattle.std.specs.Prelude.{◌≡◌, ◌≤◌, ◌++◌, length, take};
+ghost use Rattle.std.specs.Prelude.{◌≡◌, ◌≤◌, ◌*◌, length, take};
 ghost use Rattle.std.specs.List.{flat_map};
 ghost use Rattle.nd_picture_text.specs.Images.{Pixmap};
-ghost use Rattle.nd_picture_text.specs.Writing.{kind_text, header_text, low_byte, sample_text, image_text};
+ghost use Rattle.nd_picture_text.specs.Writing.{kind_text, header_text, low_byte, both_bytes, number_line, sample_text, image_text};
 ghost use Rattle.nd_text.specs.Puts.{Puts};
 
 use crate::image::{Header, Kind};
@@ -37,27 +37,7 @@ fn put_header<W: Write>(output: &mut Watched<W>, page: &mut Page, header: Header
     put(output, page, b"\n");
 }
 
-fn put_sample<W: Write>(
-    output: &mut Watched<W>,
-    page: &mut Page,
-    buffer: &mut Buffer,
-    header: Header,
-    sample: u16,
-)
-    ensures { Puts W.contents output.old page.old output.new page.new (sample_text header sample) }
-{
-    let low = (sample % 256) as u8;
-    if header.kind.is_plain() {
-        put_number(output, page, buffer, &sample);
-        put(output, page, b"\n");
-    } else if header.maxval < 256 {
-        put(output, page, &[low]);
-    } else {
-        put(output, page, &[(sample / 256) as u8, low]);
-    }
-}
-
-/// How many samples of one byte are put at once.
+/// How many samples are put at once.
 const PIECE_LEN: usize = 4096;
 
 /// Writes the low bytes of samples over the first bytes of a piece.
@@ -86,24 +66,56 @@ fn put_narrow<W: Write>(output: &mut Watched<W>, page: &mut Page, samples: &[u16
     }
 }
 
-/// Puts samples one by one.
-fn put_each<W: Write>(output: &mut Watched<W>, page: &mut Page, header: Header, samples: &[u16])
-    ensures { Puts W.contents output.old page.old output.new page.new (flat_map (sample_text header) samples.now) }
+/// Writes samples of two bytes over the first bytes of a piece, the more significant one first.
+#[tactic(auto, using(crate::proofs::Rasters::pair_set))]
+fn fill_both(piece: &mut [u8], samples: &[u16])
+    requires { length samples.now * 2 ≤ length piece.old }
+    ensures bytes { take (length samples.now * 2) piece.new ≡ flat_map both_bytes samples.now }
+    ensures room { length piece.new ≡ length piece.old }
+{
+    for nth in 0..samples.len() {
+        let sample = samples[nth];
+        piece[nth * 2] = (sample / 256) as u8;
+        piece[nth * 2 + 1] = (sample % 256) as u8;
+    }
+}
+
+/// Puts samples of two bytes, piece by piece.
+fn put_wide<W: Write>(output: &mut Watched<W>, page: &mut Page, samples: &[u16])
+    ensures { Puts W.contents output.old page.old output.new page.new (flat_map both_bytes samples.now) }
+{
+    let mut piece = [0; PIECE_LEN * 2];
+    let mut done = 0;
+    while done < samples.len() {
+        let end = done + PIECE_LEN.min(samples.len() - done);
+        let part = &samples[done..end];
+        fill_both(&mut piece, part);
+        put(output, page, &piece[..part.len() * 2]);
+        done = end;
+    }
+}
+
+/// Puts samples in decimal, each on a line of its own.
+fn put_plain<W: Write>(output: &mut Watched<W>, page: &mut Page, samples: &[u16])
+    ensures { Puts W.contents output.old page.old output.new page.new (flat_map number_line samples.now) }
 {
     let mut buffer = Buffer::new();
     for sample in samples {
-        put_sample(output, page, &mut buffer, header, *sample);
+        put_number(output, page, &mut buffer, sample);
+        put(output, page, b"\n");
     }
 }
 
 fn put_samples<W: Write>(output: &mut Watched<W>, page: &mut Page, header: Header, samples: &[u16])
     ensures { Puts W.contents output.old page.old output.new page.new (flat_map (sample_text header) samples.now) }
 {
-    if !header.kind.is_plain() && header.maxval < 256 {
+    if header.kind.is_plain() {
+        put_plain(output, page, samples);
+    } else if header.maxval < 256 {
         put_narrow(output, page, samples);
-        return;
+    } else {
+        put_wide(output, page, samples);
     }
-    put_each(output, page, header, samples);
 }
 
 /// Puts an image of these samples behind the bytes that wait.

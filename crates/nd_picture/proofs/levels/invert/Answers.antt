@@ -4,5 +4,5 @@ use Rattle.nd_picture.proofs.levels.invert.Goals as goal
 
 pub returns : goal.returns
 returns c = λ p shows.
-    let all = c.in_ok-changed.ensures in
-    changed_shown (meaning_of c.args.picture) (meaning_of c.in_ok-changed.changed) _ p all.shape all.samples shows
+    let all = c.all_left.ensures in
+    changed_shown (meaning_of c.args.picture) (meaning_of c.all_left.result) _ p all.shape all.samples shows

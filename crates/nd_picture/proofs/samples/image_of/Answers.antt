@@ -7,6 +7,6 @@ pub returns : goal.returns
 returns c = λ p shows.
     let sides = sides_are (meaning_of c.args.picture.now) p _ _ _ c.dim-height.ensures.lengths shows in
     record {
-      header = rw (sides.0, sides.1) refl;
+      headed = rw (sides.0, sides.1) refl;
       samples = c.in_ok-samples.ensures p shows;
     }

@@ -1,4 +1,4 @@
 use Rattle.nd_picture.proofs.steps.take_step.Goals as goal
 
-pub returns-in-Invert : goal.returns-in-Invert
-returns-in-Invert c = rw c.in-Invert.is c.invert.ensures
+pub returns-in-Invert-clause-after : goal.returns-in-Invert-clause-after
+returns-in-Invert-clause-after c = rw c.in-Invert.is c.invert.ensures

@@ -6,17 +6,17 @@ use Rattle.nd_picture.proofs.steps.take_steps.Goals as goal
 pub loop-nth-init : goal.loop-nth-init
 loop-nth-init c = λ p shows. (p, shows, refl)
 
-pub returns-then-not-fits : goal.returns-then-not-fits
-returns-then-not-fits c = λ p shows.
+pub returns-then-not-fits-clause-ends : goal.returns-then-not-fits-clause-ends
+returns-then-not-fits-clause-ends c = λ p shows.
     let so = c.loop-nth.invariant p shows in
     run_stops c.args.maxval c.loop-nth.nth c.args.steps.now _ (meaning_of c.loop-nth.picture) so.0 _ so.1 so.2 c.loop-nth-test.true (sym c.if-not-fits.ensures)
 
 pub loop-nth-preserved : goal.loop-nth-preserved
 loop-nth-preserved c = λ p shows.
     let so = c.loop-nth.invariant p shows in
-    (_, c.in-Ok.ensures so.0 so.1, run_more c.args.maxval c.loop-nth.nth c.args.steps.now _ (meaning_of c.loop-nth.picture) so.0 _ so.1 so.2 c.loop-nth-test.true (sym c.if-not-fits.ensures))
+    (_, c.in-Ok.ensures.after so.0 so.1, run_more c.args.maxval c.loop-nth.nth c.args.steps.now _ (meaning_of c.loop-nth.picture) so.0 _ so.1 so.2 c.loop-nth-test.true (sym c.if-not-fits.ensures))
 
-pub returns : goal.returns
-returns c = λ p shows.
+pub returns-clause-ends : goal.returns-clause-ends
+returns-clause-ends c = λ p shows.
     let so = c.loop-nth.invariant p shows in
     (so.0, run_ends c.args.maxval c.loop-nth.nth c.args.steps.now so.0 _ so.2 c.loop-nth-test.false, so.1)

@@ -1,12 +1,12 @@
 use Rattle.std.proofs.Common.{◌≡◌, ◌≤◌, ◌+◌, length}
 use Rattle.std.specs.Prelude.{All}
-use Rattle.nd_picture_text.specs.Reading.{behind, wide_samples}
+use Rattle.nd_picture_text.specs.Reading.{samples_behind, wide_samples}
 use Rattle.nd_picture_text.proofs.raster.wide_samples.Given as goal
 
 -- what is left, read behind the samples so far, is the whole
 abbrev pub invariant-loop-rest : goal.invariant-loop-rest
 invariant-loop-rest l = record {
-  read : behind l.samples.items (wide_samples l.maxval l.rest) ≡ wide_samples l.maxval l.fn.bytes;
+  read : samples_behind l.samples.items (wide_samples l.maxval l.rest) ≡ wide_samples l.maxval l.fn.bytes;
   count : length l.samples.items + length l.samples.items + length l.rest ≡ length l.fn.bytes;
   within : All (λ s. s ≤ l.maxval) l.samples.items;
 }

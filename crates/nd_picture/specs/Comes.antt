@@ -1,5 +1,5 @@
 -- What the program makes of its words and of the bytes that it reads, what it writes, and its status.
-use Rattle.std.specs.Prelude.{◌≡◌, ℕ, Bool, true, false, List, [], ◌++◌, length, Option, IfSome, Result, Ok, Err, codes}
+use Rattle.std.specs.Prelude.{◌≡◌, ◌⊎◌, ◌<◌, ℕ, Bool, true, false, List, [], ◌++◌, length, Option, IfSome, Result, Ok, Err, codes}
 use Rattle.std.specs.Fmt.{decimal}
 use Rattle.std.specs.Io.KnownBytes.{Appends}
 use Rattle.nd_text.specs.declared.watched.Watched.{Watched}
@@ -8,7 +8,7 @@ use Rattle.nd_text.specs.Puts.{TakesText}
 use Rattle.nd_picture_text.specs.declared.step.Step.{Step}
 use Rattle.nd_picture_text.specs.Images.{Pixmap}
 use Rattle.nd_picture_text.specs.Reading.{image_in, counted}
-use Rattle.nd_picture_text.specs.Steps.{AreSteps, IsBadStep}
+use Rattle.nd_picture_text.specs.Steps.{AreSteps, IsBadStep, LacksForStep}
 use Rattle.nd_picture_text.specs.Writing.{image_text}
 use Rattle.nd_picture.specs.declared.outcome.Fault.{Fault}
 use Rattle.nd_picture.specs.declared.outcome.Fault.TheVariants.{BadStep, BadByte, Refused, Memory, ReadFailed}
@@ -17,21 +17,25 @@ use Rattle.nd_picture.specs.Images.{picture_in, IsImageOf}
 use Rattle.nd_picture.specs.Steps.{after_all}
 
 -- what the steps make of an image's picture
-abbrev pub end_of : List Step → Pixmap → Result Picture ℕ
-end_of steps image = after_all image.header.maxval 1 steps (picture_in image)
+abbrev pub picture_after : List Step → Pixmap → Result Picture ℕ
+picture_after steps image = after_all image.header.maxval 1 steps (picture_in image)
 
 -- The words are steps, the bytes an image, and the steps end so.
-abbrev pub Ends : List (List ℕ) → List ℕ → (Pixmap → Result Picture ℕ → Type 0) → Type 0
-Ends words bytes P = (steps : List Step) × (image : Pixmap) × AreSteps steps words × (image_in bytes ≡ Ok image) × P image (end_of steps image)
+abbrev pub StepsEnd : List (List ℕ) → List ℕ → (Pixmap → Result Picture ℕ → Type 0) → Type 0
+StepsEnd words bytes P = (steps : List Step) × (image : Pixmap) × AreSteps steps words × (image_in bytes ≡ Ok image) × P image (picture_after steps image)
+
+-- memory may run out: for a step that can be read, behind others; or the words are steps and there are bytes
+abbrev pub MayLackMemory : List (List ℕ) → List ℕ → Type 0
+MayLackMemory words bytes = LacksForStep words ⊎ (((steps : List Step) × AreSteps steps words) × (0 < length bytes))
 
 -- what comes of these words and bytes: an image of the picture that the steps end with; or the first that is bad: a
 -- step that can't be read, a byte, a step that can't be taken
 abbrev pub Comes : List (List ℕ) → List ℕ → Result Pixmap Fault → Type 0
-Comes words bytes (Ok made) = Ends words bytes (λ image end. (p : Picture) × (end ≡ Ok p) × IsImageOf image.header p made)
+Comes words bytes (Ok made) = StepsEnd words bytes (λ image end. (p : Picture) × (end ≡ Ok p) × IsImageOf image.header p made)
 Comes words bytes (Err (BadStep number)) = IsBadStep words number
 Comes words bytes (Err (BadByte number)) = counted (length bytes) (image_in bytes) ≡ Err number
-Comes words bytes (Err (Refused number)) = Ends words bytes (λ image end. end ≡ Err number)
-Comes words bytes (Err Memory) = Unit {0}
+Comes words bytes (Err (Refused number)) = StepsEnd words bytes (λ image end. end ≡ Err number)
+Comes words bytes (Err Memory) = MayLackMemory words bytes
 Comes words bytes (Err ReadFailed) = Unit {0}
 
 -- what is written to the output, and what on the errors
@@ -51,10 +55,10 @@ errors_text (Ok image) = []
 errors_text (Err fault) = fault_text fault
 
 -- a read failed
-abbrev pub is_read_failure : {X : Type 0} → Result X Fault → Bool
-is_read_failure (Ok x) = false
-is_read_failure (Err ReadFailed) = true
-is_read_failure (Err _) = false
+abbrev pub is_failed_read : {X : Type 0} → Result X Fault → Bool
+is_failed_read (Ok x) = false
+is_failed_read (Err ReadFailed) = true
+is_failed_read (Err _) = false
 
 -- the status, where no call of a reader or writer failed
 abbrev pub fault_status : Fault → ℕ
@@ -73,29 +77,29 @@ abbrev pub ComesOf : {R : Type 0} → (R → Option (List ℕ)) → List (List �
 ComesOf remaining words input made = IfSome (remaining (watched_inner input)) (λ bytes. Comes words bytes made)
 
 -- the parts of it: the image that bytes mean, and that after steps
-abbrev pub Loads : List ℕ → Result Pixmap Fault → Type 0
-Loads bytes (Ok image) = image_in bytes ≡ Ok image
-Loads bytes (Err (BadByte number)) = counted (length bytes) (image_in bytes) ≡ Err number
-Loads bytes (Err Memory) = Unit {0}
-Loads bytes (Err ReadFailed) = Unit {0}
-Loads bytes (Err _) = ⊥
+abbrev pub IsImageRead : List ℕ → Result Pixmap Fault → Type 0
+IsImageRead bytes (Ok image) = image_in bytes ≡ Ok image
+IsImageRead bytes (Err (BadByte number)) = counted (length bytes) (image_in bytes) ≡ Err number
+IsImageRead bytes (Err Memory) = 0 < length bytes
+IsImageRead bytes (Err ReadFailed) = Unit {0}
+IsImageRead bytes (Err _) = ⊥
 
 abbrev pub Changes : List Step → Pixmap → Result Pixmap Fault → Type 0
-Changes steps image (Ok made) = (p : Picture) × (end_of steps image ≡ Ok p) × IsImageOf image.header p made
-Changes steps image (Err (Refused number)) = end_of steps image ≡ Err number
+Changes steps image (Ok made) = (p : Picture) × (picture_after steps image ≡ Ok p) × IsImageOf image.header p made
+Changes steps image (Err (Refused number)) = picture_after steps image ≡ Err number
 Changes steps image (Err Memory) = Unit {0}
 Changes steps image (Err _) = ⊥
 
 module _ {R W E : Type 0} (remaining : R → Option (List ℕ)) (contents : W → Option (List ℕ)) (reports : E → Option (List ℕ)) where
   -- what comes of words and bytes is written, an image on the output or a line on the errors, unless a call failed; then a
   -- beginning of it
-  abbrev pub Driven : List (List ℕ) → Watched R → Watched R → Watched W → Watched W → Watched E → Watched E → ℕ → Type 0
-  Driven words input input' output output' errors errors' status =
+  abbrev pub PutsWhatComes : List (List ℕ) → Watched R → Watched R → Watched W → Watched W → Watched E → Watched E → ℕ → Type 0
+  PutsWhatComes words input input' output output' errors errors' status =
       (made : Result Pixmap Fault) × ComesOf remaining words input made × TakesText contents output output' (output_text made) × TakesText reports errors errors' (errors_text made) × (status ≡ status_of made)
 
   -- that was written whole, and this is its status
-  abbrev pub Tells : List (List ℕ) → Watched R → Watched W → Watched W → Watched E → Watched E → ℕ → Type 0
-  Tells words input output output' errors errors' status =
+  abbrev pub WritesWhatComes : List (List ℕ) → Watched R → Watched W → Watched W → Watched E → Watched E → ℕ → Type 0
+  WritesWhatComes words input output output' errors errors' status =
       (made : Result Pixmap Fault) × ComesOf remaining words input made
       × Appends (contents (watched_inner output)) (contents (watched_inner output')) (output_text made)
       × Appends (reports (watched_inner errors)) (reports (watched_inner errors')) (errors_text made)

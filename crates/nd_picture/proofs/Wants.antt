@@ -1,0 +1,42 @@
+-- What comes of bytes that give no image, and where memory may run out.
+use Rattle.std.proofs.Common.{◌≡◌, ℕ, ◌<◌, List, [], ◌∷◌, length, Result, Ok, Err, inr, arith}
+use Rattle.nd_picture_text.specs.declared.step.Step.{Step}
+use Rattle.nd_picture_text.specs.declared.image.Header.{Header}
+use Rattle.nd_picture_text.specs.Images.{Pixmap}
+use Rattle.nd_picture_text.specs.Reading.{header_in, image_in, AsksForSamples}
+use Rattle.nd_picture_text.specs.Steps.{AreSteps}
+use Rattle.nd_picture.specs.declared.outcome.Fault.{Fault}
+use Rattle.nd_picture.specs.declared.outcome.Fault.TheVariants.{BadStep, BadByte, Refused, Memory, ReadFailed}
+use Rattle.nd_picture.specs.Comes.{Comes, IsImageRead, Changes, MayLackMemory}
+
+-- a header has bytes, and so has an image
+pub some_header : (bytes : List ℕ) (x : Header × List ℕ) → header_in bytes ≡ Ok x → 0 < length bytes
+unfolding header_in
+some_header [] x e = absurd cc
+some_header (b ∷ bytes) x e = omega arith
+
+pub some_image : (bytes : List ℕ) (image : Pixmap) → image_in bytes ≡ Ok image → 0 < length bytes
+unfolding image_in header_in
+some_image [] image e = absurd cc
+some_image (b ∷ bytes) image e = omega arith
+
+pub some_asked : (bytes : List ℕ) → AsksForSamples bytes → 0 < length bytes
+some_asked bytes asks = some_header bytes (asks.0, asks.1) asks.2
+
+module _ (steps : List Step) (words : List (List ℕ)) (bytes : List ℕ) (are : AreSteps steps words) where
+  -- what loading gives where it gives no image
+  pub comes_unloaded : (fault : Fault) → IsImageRead bytes (Err fault) → Comes words bytes (Err fault)
+  comes_unloaded (BadStep n) loads = absurd loads
+  comes_unloaded (BadByte n) loads = loads
+  comes_unloaded (Refused n) loads = absurd loads
+  comes_unloaded Memory loads = inr ((steps, are), loads)
+  comes_unloaded ReadFailed loads = tt
+
+  -- what the steps make of an image
+  pub comes_changed : (image : Pixmap) (made : Result Pixmap Fault) → image_in bytes ≡ Ok image → Changes steps image made → Comes words bytes made
+  comes_changed image (Ok made) is changes = (steps, image, are, is, changes)
+  comes_changed image (Err (BadStep n)) is changes = absurd changes
+  comes_changed image (Err (BadByte n)) is changes = absurd changes
+  comes_changed image (Err (Refused n)) is changes = (steps, image, are, is, changes)
+  comes_changed image (Err Memory) is changes = inr ((steps, are), some_image bytes image is)
+  comes_changed image (Err ReadFailed) is changes = absurd changes
