@@ -1,5 +1,5 @@
 -- Sums of products in rising order, and the products of vectors and matrices.
-use Rattle.std.specs.Prelude.{◌≡◌, ◌<◌, ℕ, zero, suc, List, [], ◌∷◌, Option, Some, slice_index}
+use Rattle.std.specs.Prelude.{◌≡◌, ◌+◌, ◌*◌, ◌<◌, ℕ, zero, suc, List, [], ◌∷◌, length, Option, Some, slice_get, slice_index}
 use Rattle.nd_array_core.specs.Meaning.{Meaning}
 use Rattle.nd_array_core.specs.elements.Pairs.{option_both}
 
@@ -8,6 +8,14 @@ module _ {A : Type 0} (plus times : A → A → A) (nought : A) where
   abbrev pub sum_of_products : (ℕ → Option A) → (ℕ → Option A) → ℕ → Option A
   sum_of_products xs ys zero = Some nought
   sum_of_products xs ys (suc n) = option_both plus (sum_of_products xs ys n) (option_both times (xs n) (ys n))
+
+  -- the sum for a row of a list of rows, each as long as another list, and that list
+  abbrev pub row_sum : List A → List A → ℕ → Option A
+  row_sum cells list i = sum_of_products (λ k. slice_get cells (i * length list + k)) (slice_get list) (length list)
+
+  -- the sum for a row, which stands in a list from a place on, and a column of a list of rows of so many
+  abbrev pub column_sum : List A → ℕ → List A → ℕ → ℕ → ℕ → Option A
+  column_sum left from right columns j = sum_of_products (λ k. slice_get left (from + k)) (λ k. slice_get right (k * columns + j))
 
   -- of two vectors
   abbrev pub vector_by_vector : Meaning A → Meaning A → Option A

@@ -3,7 +3,7 @@
 
 ghost use Rattle.std.specs.Prelude.{◌≡◌, ◌<◌, ◌≤◌, ◌+◌, ◌*◌, ◌^◌, ℕ, [], length, slice_get, vec_len, vec_capacity, Some, IfOk};
 ghost use Rattle.nd_array_core.specs.elements.Pairs.{option_both};
-ghost use Rattle.nd_linalg.specs.Products.{sum_of_products};
+ghost use Rattle.nd_linalg.specs.Products.{sum_of_products, column_sum, row_sum};
 
 use crate::scalar::LinalgScalar;
 use nd_shape_and_slice::NoMemory;
@@ -42,16 +42,46 @@ fn add_row<A: LinalgScalar>(sums: &mut [A], x: A, cells: &[A], from: usize)
     }
 }
 
+/// Takes the sums of a row's first products with each column of a matrix on by four products; the row stands in a list of
+/// cells from a place on.
+fn add_four<A: LinalgScalar>(sums: &mut [A], left: &[A], from: usize, done: usize, right: &[A])
+    requires row { from + done + 4 ≤ length left.now }
+    requires cells { (done + 4) * length sums.old ≤ length right.now }
+    requires before { (j : ℕ) → j < length sums.old → slice_get sums.old j ≡ column_sum A.plus A.times A.zero left.now from right.now (length sums.old) j done }
+    ensures count { length sums.new ≡ length sums.old }
+    ensures each { (j : ℕ) → j < length sums.old → slice_get sums.new j ≡ column_sum A.plus A.times A.zero left.now from right.now (length sums.old) j (done + 4) }
+{
+    let columns = sums.len();
+    let (x, y) = (left[from + done], left[from + done + 1]);
+    let (z, w) = (left[from + done + 2], left[from + done + 3]);
+    let one = done * columns;
+    let two = one + columns;
+    let three = two + columns;
+    let four = three + columns;
+    for j in 0..columns {
+        let sum = sums[j]
+            .add_product(x, right[one + j])
+            .add_product(y, right[two + j]);
+        sums[j] = sum
+            .add_product(z, right[three + j])
+            .add_product(w, right[four + j]);
+    }
+}
+
 /// The sums of a row's products with each column of a matrix; the row stands in a list of cells from a place on.
 fn sum_columns<A: LinalgScalar>(sums: &mut [A], left: &[A], from: usize, inner: usize, right: &[A])
     requires row { from + inner ≤ length left.now }
     requires cells { length right.now ≡ inner * length sums.old }
     ensures count { length sums.new ≡ length sums.old }
-    ensures each { (j : ℕ) → j < length sums.old → slice_get sums.new j ≡ sum_of_products A.plus A.times A.zero (λ k. slice_get left.now (from + k)) (λ k. slice_get right.now (k * length sums.old + j)) inner }
+    ensures each { (j : ℕ) → j < length sums.old → slice_get sums.new j ≡ column_sum A.plus A.times A.zero left.now from right.now (length sums.old) j inner }
 {
     let columns = sums.len();
+    let fours = inner / 4;
     clear(sums);
-    for k in 0..inner {
+    for four in 0..fours {
+        add_four(sums, left, from, four * 4, right);
+    }
+    for k in fours * 4..inner {
         add_row(sums, left[from + k], right, k * columns);
     }
 }
@@ -87,7 +117,7 @@ fn push_sums<A: LinalgScalar>(
     ensures len { vec_len cells.new ≡ vec_len cells.old + length sums.old }
     ensures room { vec_capacity cells.new ≡ vec_capacity cells.old }
     ensures before { (p : ℕ) → p < length cells.old.items → slice_get cells.new.items p ≡ slice_get cells.old.items p }
-    ensures row { (j : ℕ) → j < length sums.old → slice_get cells.new.items (length cells.old.items + j) ≡ sum_of_products A.plus A.times A.zero (λ k. slice_get left.now (from + k)) (λ k. slice_get right.now (k * length sums.old + j)) inner }
+    ensures row { (j : ℕ) → j < length sums.old → slice_get cells.new.items (length cells.old.items + j) ≡ column_sum A.plus A.times A.zero left.now from right.now (length sums.old) j inner }
 {
     sum_columns(sums, left, from, inner, right);
     push_row(cells, sums);
@@ -120,7 +150,7 @@ pub(crate) fn product_of<A: LinalgScalar>(
     requires right { length right.now ≡ inner * columns }
     requires fits { rows * columns < 2 ^ 64 }
     ensures count { IfOk result (λ v. length v.items ≡ rows * columns) }
-    ensures each { IfOk result (λ v. (i j : ℕ) → i < rows → j < columns → slice_get v.items (i * columns + j) ≡ sum_of_products A.plus A.times A.zero (λ k. slice_get left.now (i * inner + k)) (λ k. slice_get right.now (k * columns + j)) inner) }
+    ensures each { IfOk result (λ v. (i j : ℕ) → i < rows → j < columns → slice_get v.items (i * columns + j) ≡ column_sum A.plus A.times A.zero left.now (i * inner) right.now columns j inner) }
 {
     let mut row = zeros(alloc, columns)?;
     let sums = row.as_mut_slice();
@@ -134,6 +164,55 @@ pub(crate) fn product_of<A: LinalgScalar>(
     Ok(cells)
 }
 
+/// The sums of the products of two rows, which stand in a list of cells from their places on, and a list as long.
+fn sum_two<A: LinalgScalar>(cells: &[A], from: usize, next: usize, list: &[A]) -> (A, A)
+    requires first { from + length list.now ≤ length cells.now }
+    requires second { next + length list.now ≤ length cells.now }
+    ensures first { Some result.0 ≡ sum_of_products A.plus A.times A.zero (λ k. slice_get cells.now (from + k)) (slice_get list.now) (length list.now) }
+    ensures second { Some result.1 ≡ sum_of_products A.plus A.times A.zero (λ k. slice_get cells.now (next + k)) (slice_get list.now) (length list.now) }
+{
+    let mut one = A::zero();
+    let mut two = A::zero();
+    for k in 0..list.len() {
+        one = one.add_product(cells[from + k], list[k]);
+        two = two.add_product(cells[next + k], list[k]);
+    }
+    (one, two)
+}
+
+/// Puts the sum for the next row behind those for so many; there is room.
+fn push_sum<A: LinalgScalar>(sums: &mut Vec<A>, cells: &[A], row: usize, list: &[A], sum: A)
+    requires room { vec_len sums.old < vec_capacity sums.old }
+    requires count { length sums.old.items ≡ row }
+    requires each { (i : ℕ) → i < row → slice_get sums.old.items i ≡ row_sum A.plus A.times A.zero cells.now list.now i }
+    requires sum { Some sum ≡ row_sum A.plus A.times A.zero cells.now list.now row }
+    ensures count { length sums.new.items ≡ row + 1 }
+    ensures len { vec_len sums.new ≡ vec_len sums.old + 1 }
+    ensures room { vec_capacity sums.new ≡ vec_capacity sums.old }
+    ensures each { (i : ℕ) → i < row + 1 → slice_get sums.new.items i ≡ row_sum A.plus A.times A.zero cells.now list.now i }
+{
+    sums.push_reserved(sum);
+}
+
+/// Puts the sums for so many rows, an even number, into a list that has none; there is room.
+fn push_pairs<A: LinalgScalar>(sums: &mut Vec<A>, cells: &[A], pairs: usize, list: &[A])
+    requires rows { pairs * 2 * length list.now ≤ length cells.now }
+    requires room { pairs * 2 ≤ vec_capacity sums.old }
+    requires len { vec_len sums.old ≡ 0 }
+    requires none { length sums.old.items ≡ 0 }
+    ensures count { length sums.new.items ≡ pairs * 2 }
+    ensures len { vec_len sums.new ≡ pairs * 2 }
+    ensures room { vec_capacity sums.new ≡ vec_capacity sums.old }
+    ensures each { (i : ℕ) → i < pairs * 2 → slice_get sums.new.items i ≡ row_sum A.plus A.times A.zero cells.now list.now i }
+{
+    for pair in 0..pairs {
+        let row = pair * 2;
+        let (one, two) = sum_two(cells, row * list.len(), (row + 1) * list.len(), list);
+        push_sum(sums, cells, row, list, one);
+        push_sum(sums, cells, row + 1, list, two);
+    }
+}
+
 /// The products of each row of a matrix and a list.
 pub(crate) fn rows_by_list<A: LinalgScalar>(
     alloc: Global,
@@ -143,14 +222,17 @@ pub(crate) fn rows_by_list<A: LinalgScalar>(
 ) -> Result<Vec<A>, NoMemory>
     requires { length cells.now ≡ rows * length list.now }
     ensures count { IfOk result (λ v. length v.items ≡ rows) }
-    ensures each { IfOk result (λ v. (i : ℕ) → i < rows → slice_get v.items i ≡ sum_of_products A.plus A.times A.zero (λ k. slice_get cells.now (i * length list.now + k)) (slice_get list.now) (length list.now)) }
+    ensures each { IfOk result (λ v. (i : ℕ) → i < rows → slice_get v.items i ≡ row_sum A.plus A.times A.zero cells.now list.now i) }
 {
     let mut sums = match Vec::with_capacity(alloc, rows) {
         Ok(room) => room,
         Err(_) => return Err(NoMemory),
     };
-    for i in 0..rows {
-        sums.push_reserved(sum_along(cells, i * list.len(), list));
+    let pairs = rows / 2;
+    push_pairs(&mut sums, cells, pairs, list);
+    for i in pairs * 2..rows {
+        let sum = sum_along(cells, i * list.len(), list);
+        push_sum(&mut sums, cells, i, list, sum);
     }
     Ok(sums)
 }
