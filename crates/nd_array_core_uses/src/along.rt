@@ -1,5 +1,5 @@
 //! Calls along an axis: rows of a table chosen by their numbers, and one taken out.
-#![tactic(auto, using(std::proofs::lemmas::Bool::Decides::nat_tests))]
+#![tactic(auto, using(std::proofs::lemmas::Bool::Decides::nat_tests, nd_array_core::proofs::Axes::known_axes))]
 
 ghost use Rattle.std.specs.Prelude.{◌≡◌, ◌+◌, ◌%◌, ◌^◌, ◌<◌, ◌≤◌, ◌∷◌, [], ℕ, List, IfOk, length, slice_index};
 ghost use Rattle.std.specs.List.{fold};
@@ -35,7 +35,6 @@ pub fn rows_chosen<A: Clone + Drop, S: Data<Elem = A>>(
     ensures shape { IfOk result (λ chosen. shape_of chosen ≡ length numbers.now ∷ slice_index (shape_of table.now) 1 ∷ []) }
     ensures elements { IfOk result (λ chosen. (row column : ℕ) → row < length numbers.now → column < slice_index (shape_of table.now) 1 → element_of_2 chosen row column ≡ element_of_2 table.now (slice_index numbers.now row) column) }
 {
-    let (_rows, _columns) = table.dim();
     let chosen = table.select(alloc, Axis(0), numbers)?;
     Ok(chosen)
 }
@@ -48,7 +47,6 @@ pub fn take_row_out<A, S: DataMut<Elem = A>>(table: &mut ArrayBase<S, Ix2>, row:
     ensures above { (i j : ℕ) → i < row → j < slice_index (shape_of table.old) 1 → element_of_2 table.new i j ≡ element_of_2 table.old i j }
     ensures below { (i j : ℕ) → row ≤ i → i + 1 < slice_index (shape_of table.old) 0 → j < slice_index (shape_of table.old) 1 → element_of_2 table.new i j ≡ element_of_2 table.old (i + 1) j }
 {
-    let (_rows, _columns) = table.dim();
     table.remove_index(Axis(0), row);
 }
 
@@ -68,7 +66,6 @@ pub fn sums_down<S: DataMut<Elem = u64>>(table: &mut ArrayBase<S, Ix2>)
     ensures first { (column : ℕ) → column < slice_index (shape_of table.old) 1 → element_of_2 table.new 0 column ≡ element_of_2 table.old 0 column }
     ensures below { (row column : ℕ) → row + 1 < slice_index (shape_of table.old) 0 → column < slice_index (shape_of table.old) 1 → element_of_2 table.new (row + 1) column ≡ option_both (λ sum x. (x + sum) % 2 ^ 64) (element_of_2 table.new row column) (element_of_2 table.old (row + 1) column) }
 {
-    let (_rows, _columns) = table.dim();
     running_sums(table, Axis(0));
 }
 
@@ -132,7 +129,6 @@ pub fn row_sums_twice<S: Data<Elem = u64>>(
 ) -> Result<(Array1<u64>, Array1<u64>), NoMemory>
     ensures same { IfOk result (λ both. (i : List ℕ) → element_at both.0 i ≡ element_at both.1 i) }
 {
-    let (_rows, _columns) = table.dim();
     let shown = sums_of_lanes(alloc, table, Axis(1))?;
     let folded = sums_along(alloc, table, Axis(1))?;
     lanes_are_folded::<u64>();

@@ -9,6 +9,7 @@ use nd_array_core::{Array2, ArrayBase, DataMut};
 use nd_shape_and_slice::{Ix2, NoMemory, Slice, slices};
 
 /// Fills a rectangle of an image: the rows from one up to another, in the columns from one up to another.
+#[tactic(auto)]
 pub fn fill_rectangle<A: Clone + Drop, S: DataMut<Elem = A>>(
     image: &mut ArrayBase<S, Ix2>,
     top: usize,
@@ -35,6 +36,7 @@ pub fn fill_rectangle<A: Clone + Drop, S: DataMut<Elem = A>>(
 }
 
 /// Fills every second column.
+#[tactic(auto)]
 pub fn fill_every_second_column<A: Clone + Drop, S: DataMut<Elem = A>>(
     image: &mut ArrayBase<S, Ix2>,
     colour: A,
@@ -50,6 +52,7 @@ pub fn fill_every_second_column<A: Clone + Drop, S: DataMut<Elem = A>>(
 }
 
 /// Fills the two blocks on the diagonal of a matrix that is cut at a row and a column of the same number.
+#[tactic(auto)]
 pub fn fill_two_blocks(matrix: &mut Array2<i64>, cut: usize, value: i64) -> Result<(), NoMemory>
     requires rows { cut ≤ slice_index (shape_of matrix.old) 0 }
     requires columns { cut ≤ slice_index (shape_of matrix.old) 1 }
@@ -67,7 +70,7 @@ pub fn fill_two_blocks(matrix: &mut Array2<i64>, cut: usize, value: i64) -> Resu
 
 /// Fills the square blocks of a size that lie one after another down the diagonal of a matrix; the last is cut where the
 /// matrix ends.
-#[tactic(auto, using(std::proofs::lemmas::Bool::Decides::nat_tests))]
+#[tactic(auto, using(std::proofs::lemmas::Bool::Decides::nat_tests, nd_array_core::proofs::Axes::known_axes))]
 pub fn fill_diagonal_blocks<A: Copy + Drop, S: DataMut<Elem = A>>(
     matrix: &mut ArrayBase<S, Ix2>,
     size: usize,

@@ -56,6 +56,7 @@ fn fill_line<A: Clone + Drop, S: DataMut<Elem = A>>(
 
 /// Fills a row of the image; a negative number counts from the end. Every other index keeps its element. In ndarray:
 /// `image.slice_mut(s![row, ..]).fill(value)`.
+#[tactic(auto)]
 pub fn fill_row<A: Clone + Drop, S: DataMut<Elem = A>>(
     image: &mut ArrayBase<S, Ix2>,
     row: isize,
@@ -73,6 +74,7 @@ pub fn fill_row<A: Clone + Drop, S: DataMut<Elem = A>>(
 
 /// Fills a column that the image has, counted from the end where its number is negative; every other index keeps its
 /// element. In ndarray: `image.slice_mut(s![.., column]).fill(value)`.
+#[tactic(auto)]
 pub fn fill_column<A: Clone + Drop, S: DataMut<Elem = A>>(
     image: &mut ArrayBase<S, Ix2>,
     column: isize,

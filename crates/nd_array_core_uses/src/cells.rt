@@ -23,8 +23,7 @@ fn product_at<S: Data<Elem = u64>, Z: Data<Elem = u64>>(
     requires column { column < slice_index (shape_of other.now) 1 }
     ensures { result ≡ row_times_column (element_of_2 one.now) (element_of_2 other.now) (slice_index (shape_of one.now) 1) row column % 2 ^ 64 }
 {
-    let (_rows, inner) = one.dim();
-    let (_inner, _columns) = other.dim();
+    let inner = one.ncols();
     let mut total: u64 = 0;
     for k in 0..inner {
         total = total.wrapping_add(one[[row, k]].wrapping_mul(other[[k, column]]));
@@ -43,8 +42,8 @@ pub fn product<S: Data<Elem = u64>, Z: Data<Elem = u64>>(
     ensures shape { IfOk result (λ c. HasRowsAndColumns c (slice_index (shape_of one.now) 0) (slice_index (shape_of other.now) 1)) }
     ensures cells { IfOk result (λ c. (row column : ℕ) → row < slice_index (shape_of one.now) 0 → column < slice_index (shape_of other.now) 1 → element_of_2 c row column ≡ Some (row_times_column (element_of_2 one.now) (element_of_2 other.now) (slice_index (shape_of one.now) 1) row column % 2 ^ 64)) }
 {
-    let (rows, _inner) = one.dim();
-    let (_inner, columns) = other.dim();
+    let rows = one.nrows();
+    let columns = other.ncols();
     Array::from_shape_fn(
         alloc,
         (rows, columns),
@@ -68,7 +67,7 @@ fn three_pixels<S: Data<Elem = u8>>(image: &ArrayBase<S, Ix2>, row: usize, colum
     ensures sum { result ≡ three_of (element_of_2 image.now) (slice_index (shape_of image.now) 1) row column }
     ensures bound { result ≤ 765 }
 {
-    let (_rows, columns) = image.dim();
+    let columns = image.ncols();
     let before = image[[row, column.saturating_sub(1)]] as u64;
     let here = image[[row, column]] as u64;
     let behind = image[[row, (column + 1).min(columns - 1)]] as u64;
@@ -81,7 +80,7 @@ fn mean_at<S: Data<Elem = u8>>(image: &ArrayBase<S, Ix2>, row: usize, column: us
     requires column { column < slice_index (shape_of image.now) 1 }
     ensures { result ≡ mean_around (element_of_2 image.now) (slice_index (shape_of image.now) 0) (slice_index (shape_of image.now) 1) row column }
 {
-    let (rows, _columns) = image.dim();
+    let rows = image.nrows();
     let above = three_pixels(image, row.saturating_sub(1), column);
     let here = three_pixels(image, row, column);
     let below = three_pixels(image, (row + 1).min(rows - 1), column);
@@ -136,7 +135,6 @@ fn lives_next<S: Data<Elem = bool>>(cells: &ArrayBase<S, Ix2>, row: usize, colum
     requires column { column < slice_index (shape_of cells.now) 1 }
     ensures { result ≡ lives_on (element_of_2 cells.now) row column }
 {
-    let (_rows, _columns) = cells.dim();
     let all = living_in_row(cells, row, column)
         + living_in_row(cells, row + 1, column)
         + living_in_row(cells, row + 2, column);

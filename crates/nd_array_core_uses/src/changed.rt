@@ -9,6 +9,7 @@ use nd_array_core::{ArrayBase, Data, DataMut};
 use nd_shape_and_slice::{Ix2, NoMemory, slices};
 
 /// Doubles the pixels of a rectangle, modulo 2 to the 64th.
+#[tactic(auto)]
 pub fn double_rectangle<S: DataMut<Elem = u64>>(
     image: &mut ArrayBase<S, Ix2>,
     top: usize,

@@ -22,7 +22,6 @@ fn pixel_equal<S: Data<Elem = u64>>(
     ensures same { IsTrue result ↔ (element_of_2 one.now row column ≡ element_of_2 other.now row column) }
     ensures needed { EqualEverywhere nat_eq (meaning_of one.now) (meaning_of other.now) → IsTrue result }
 {
-    let (_rows, _columns) = one.dim();
     match (one.get([row, column]), other.get([row, column])) {
         (Some(x), Some(y)) => *x == *y,
         _ => unreachable!(),
@@ -68,8 +67,6 @@ pub fn equal_either_way<S: Data<Elem = u64>>(
 pub fn is_transpose<S: Data<Elem = u64>>(one: &ArrayBase<S, Ix2>, other: &ArrayBase<S, Ix2>) -> bool
     ensures { IsTrue result ↔ ((slice_index (shape_of one.now) 0 ≡ slice_index (shape_of other.now) 1) × (slice_index (shape_of one.now) 1 ≡ slice_index (shape_of other.now) 0) × ((row column : ℕ) → row < slice_index (shape_of one.now) 0 → column < slice_index (shape_of one.now) 1 → element_of_2 one.now row column ≡ element_of_2 other.now column row)) }
 {
-    let (_rows, _columns) = one.dim();
-    let (_other_rows, _other_columns) = other.dim();
     let turned = other.t();
     let seen = one.view();
     equal_cells(&seen, &turned);

@@ -14,12 +14,12 @@ pub fn turn_half<S: Data>(image: &mut ArrayBase<S, Ix2>)
     ensures shape { shape_of image.new ≡ shape_of image.old }
     ensures elements { (rows columns row column : ℕ) → HasRowsAndColumns image.old rows columns → row < rows → column < columns → element_of_2 image.new row column ≡ element_of_2 image.old (rows - 1 - row) (columns - 1 - column) }
 {
-    let (_rows, _columns) = image.dim();
     image.invert_axis(Axis(0));
     image.invert_axis(Axis(1));
 }
 
 /// The part of an image from one row up to another, and from one column up to another.
+#[tactic(auto)]
 pub fn crop<'a, S: Data>(
     image: &'a ArrayBase<S, Ix2>,
     top: usize,
@@ -39,6 +39,7 @@ pub fn crop<'a, S: Data>(
 }
 
 /// The same, one axis after the other.
+#[tactic(auto)]
 pub fn crop_by_axes<'a, S: Data>(
     image: &'a ArrayBase<S, Ix2>,
     top: usize,
@@ -83,7 +84,6 @@ pub fn neighbourhood<'a, S: Data>(
 pub fn every_second_row<S: Data>(image: &ArrayBase<S, Ix2>) -> ArrayView2<'_, S::Elem>
     ensures elements { (row column : ℕ) → row + row < slice_index (shape_of image.now) 0 → column < slice_index (shape_of image.now) 1 → element_of_2 result row column ≡ element_of_2 image.now (row + row) column }
 {
-    let (_rows, _columns) = image.dim();
     image.slice(s![Slice::from(..).step_by(2), ..])
 }
 
@@ -93,7 +93,6 @@ pub fn second_column<S: Data>(image: &ArrayBase<S, Ix2>) -> ArrayView1<'_, S::El
     requires rows { 1 ≤ slice_index (shape_of image.now) 0 }
     ensures elements { (row : ℕ) → row + 1 < slice_index (shape_of image.now) 0 → element_of_1 result row ≡ element_of_2 image.now (row + 1) 1 }
 {
-    let (_rows, _columns) = image.dim();
     image.slice(s![1.., 1])
 }
 
@@ -103,7 +102,6 @@ pub fn column_seen<S: Data>(image: &ArrayBase<S, Ix2>, column: usize) -> ArrayVi
     ensures shape { HasLength result (slice_index (shape_of image.now) 0) }
     ensures elements { (row : ℕ) → row < slice_index (shape_of image.now) 0 → element_of_1 result row ≡ element_of_2 image.now row column }
 {
-    let (_rows, _columns) = image.dim();
     image.column(column)
 }
 
@@ -113,11 +111,11 @@ pub fn transpose_then_row<S: Data>(image: ArrayBase<S, Ix2>, row: usize) -> Arra
     ensures shape { HasLength result (slice_index (shape_of image) 0) }
     ensures elements { (i : ℕ) → i < slice_index (shape_of image) 0 → element_of_1 result i ≡ element_of_2 image i row }
 {
-    let (_rows, _columns) = image.dim();
     image.reversed_axes().index_axis_move(Axis(0), row)
 }
 
 /// A part of a row of the transposed image, by three calls: a part of a column.
+#[tactic(auto)]
 pub fn part_of_transposed_row<S: Data>(
     image: &ArrayBase<S, Ix2>,
     row: usize,
@@ -142,6 +140,7 @@ pub fn corner<S: Data, D: Dimension>(array: &ArrayBase<S, D>) -> Option<&S::Elem
 }
 
 /// One channel of an image that has three axes: rows, columns and channels.
+#[tactic(auto)]
 pub fn channel<S: Data>(image: &ArrayBase<S, Ix3>, channel: usize) -> ArrayView2<'_, S::Elem>
     requires { channel < slice_index (shape_of image.now) 2 }
     ensures shape { HasRowsAndColumns result (slice_index (shape_of image.now) 0) (slice_index (shape_of image.now) 1) }
@@ -169,7 +168,6 @@ pub fn begin_alike<S: Data<Elem = u8>>(image: &ArrayBase<S, Ix2>, row: usize, co
     requires column { column < slice_index (shape_of image.now) 1 }
     ensures { result ≡ nat_eq (value_or_0 (element_of_2 image.now row 0)) (value_or_0 (element_of_2 image.now 0 column)) }
 {
-    let (_rows, _columns) = image.dim();
     let of_row = image.row(row).get(0).copied();
     let of_column = image.column(column).get(0).copied();
     of_row == of_column

@@ -18,7 +18,6 @@ pub fn transposed_copy<A: Clone + Drop, S: Data<Elem = A>>(
     ensures elements { IfOk result (λ copy. (i j : ℕ) → element_of_2 copy i j ≡ element_of_2 matrix.now j i) }
     ensures transposed { IfOk result (λ copy. IsTransposed (meaning_of matrix.now) (meaning_of copy)) }
 {
-    let (_rows, _columns) = matrix.dim();
     matrix.t().to_owned(alloc)
 }
 

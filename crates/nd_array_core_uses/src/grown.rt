@@ -1,5 +1,5 @@
 //! Room made in arrays before more comes in.
-#![tactic(auto, using(std::proofs::lemmas::Bool::Decides::nat_tests))]
+#![tactic(auto, using(std::proofs::lemmas::Bool::Decides::nat_tests, nd_array_core::proofs::Axes::known_axes))]
 
 ghost use Rattle.std.specs.Prelude.{◌≡◌, ◌+◌, ◌*◌, ◌<◌, ◌≤◌, ℕ, List, true, IsTrue, Err, OnOk, IfOk, length, slice_index};
 ghost use Rattle.nd_array_core.specs.Meaning.{shape_of, element_at, storage_of};
@@ -9,13 +9,12 @@ ghost use Rattle.nd_array_core.specs.base.Storages.{stored_list, room_of};
 use nd_array_core::{Array, Array1, Array2, ArrayError};
 use nd_shape_and_slice::{Axis, Dimension, ErrorKind};
 
-/// Whether a list now has room for as many elements again.
-pub fn has_room_again<A>(list: &mut Array1<A>) -> bool
-    ensures room { IsTrue result → length (stored_list (storage_of list.new)) + slice_index (shape_of list.old) 0 ≤ room_of (storage_of list.new) }
+/// Whether a list now has room for so many more elements.
+pub fn has_room<A>(list: &mut Array1<A>, more: usize) -> bool
+    ensures room { IsTrue result → length (stored_list (storage_of list.new)) + more ≤ room_of (storage_of list.new) }
     ensures same { (i : ℕ) → element_of_1 list.new i ≡ element_of_1 list.old i }
 {
-    let len = list.dim();
-    list.reserve(Axis(0), len).is_ok()
+    list.reserve(Axis(0), more).is_ok()
 }
 
 /// Makes room in a table for so many more rows.
@@ -23,7 +22,6 @@ pub fn room_for_rows<A>(table: &mut Array2<A>, rows: usize) -> Result<(), ArrayE
     ensures room { OnOk result (length (stored_list (storage_of table.new)) + rows * slice_index (shape_of table.old) 1 ≤ room_of (storage_of table.new)) }
     ensures same { (row column : ℕ) → element_of_2 table.new row column ≡ element_of_2 table.old row column }
 {
-    let (_rows, _columns) = table.dim();
     table.reserve_rows(rows)
 }
 

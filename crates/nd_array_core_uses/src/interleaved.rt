@@ -110,7 +110,7 @@ pub fn interleave_rows<A: Clone + Drop, S: DataMut<Elem = A>>(
     ensures shape { shape_of grid.new ≡ shape_of grid.old }
     ensures rows { OnOk result ((row column : ℕ) → in_box (shape_of grid.old) (row ∷ column ∷ []) ≡ true → element_at grid.new (row ∷ column ∷ []) ≡ Some (if nat_eq (row % 2) 0 then even else odd)) }
 {
-    let (rows, _columns) = grid.dim();
+    let rows = grid.nrows();
     if rows == 0 {
         return Ok(());
     }

@@ -1,5 +1,5 @@
 //! Uses of arrays and views, as a caller writes them: each is proved from the contracts of the calls alone.
-#![tactic(auto)]
+#![tactic(auto, using(nd_array_core::proofs::Axes::known_axes))]
 
 ghost use Rattle.std.specs.Prelude.{◌≡◌, ◌<◌, ◌∷◌, [], ℕ, true, List, length, slice_index, IsSome, IfSome, IfOk};
 ghost use Rattle.nd_shape_and_slice.specs.Slice.{fits_axis, sliced_shape, sliced_index};

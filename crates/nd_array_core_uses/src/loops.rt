@@ -21,8 +21,7 @@ fn wrapped_at<S: Data<Elem = i64>, Z: Data<Elem = i64>>(
     requires column { column < slice_index (shape_of other.now) 1 }
     ensures { result ≡ wrapped_product (element_of_2 one.now) (element_of_2 other.now) row column (slice_index (shape_of one.now) 1) }
 {
-    let (_rows, inner) = one.dim();
-    let (_inner, _columns) = other.dim();
+    let inner = one.ncols();
     let mut total: i64 = 0;
     for k in 0..inner {
         total = total.wrapping_add(one[[row, k]].wrapping_mul(other[[k, column]]));
@@ -31,7 +30,7 @@ fn wrapped_at<S: Data<Elem = i64>, Z: Data<Elem = i64>>(
 }
 
 /// The product of two matrices, written cell by cell; sums and products wrap.
-#[tactic(auto, using(std::proofs::lemmas::Bool::Decides::nat_tests))]
+#[tactic(auto, using(std::proofs::lemmas::Bool::Decides::nat_tests, nd_array_core::proofs::Axes::known_axes))]
 pub fn product_in_loops<S: Data<Elem = i64>, Z: Data<Elem = i64>>(
     alloc: Global,
     one: &ArrayBase<S, Ix2>,
@@ -42,8 +41,8 @@ pub fn product_in_loops<S: Data<Elem = i64>, Z: Data<Elem = i64>>(
     ensures shape { IfOk result (λ c. HasRowsAndColumns c (slice_index (shape_of one.now) 0) (slice_index (shape_of other.now) 1)) }
     ensures cells { IfOk result (λ c. (row column : ℕ) → row < slice_index (shape_of one.now) 0 → column < slice_index (shape_of other.now) 1 → element_of_2 c row column ≡ Some (wrapped_product (element_of_2 one.now) (element_of_2 other.now) row column (slice_index (shape_of one.now) 1))) }
 {
-    let (rows, _inner) = one.dim();
-    let (_inner, columns) = other.dim();
+    let rows = one.nrows();
+    let columns = other.ncols();
     let mut c = Array2::zeros(alloc, (rows, columns))?;
     for row in 0..rows {
         for column in 0..columns {
@@ -54,7 +53,7 @@ pub fn product_in_loops<S: Data<Elem = i64>, Z: Data<Elem = i64>>(
 }
 
 /// How many pixels have each of the 256 values; a count wraps at 2 to the 64th.
-#[tactic(auto, using(std::proofs::lemmas::Bool::Decides::nat_tests))]
+#[tactic(auto, using(std::proofs::lemmas::Bool::Decides::nat_tests, nd_array_core::proofs::Axes::known_axes))]
 pub fn histogram<S: Data<Elem = u8>>(image: &ArrayBase<S, Ix2>) -> [u64; 256]
     ensures { (value : ℕ) → value < 256 → slice_index result value ≡ count_in_rows (element_of_2 image.now) value (slice_index (shape_of image.now) 1) (slice_index (shape_of image.now) 0) % 2 ^ 64 }
 {

@@ -1,5 +1,5 @@
 //! Elements moved out of an array into another one.
-#![tactic(auto, using(std::proofs::lemmas::Bool::Decides::nat_tests))]
+#![tactic(auto, using(std::proofs::lemmas::Bool::Decides::nat_tests, nd_array_core::proofs::Axes::known_axes))]
 
 ghost use Rattle.std.specs.Prelude.{◌≡◌, ◌<◌, ℕ, reverse, slice_index};
 ghost use Rattle.nd_array_core.specs.Coordinates.{element_of_2};
@@ -14,6 +14,5 @@ pub fn move_transposed<A: Drop, S: DataMut<Elem = A>>(image: Array2<A>, to: &mut
     ensures shape { shape_of to.new ≡ reverse (shape_of image) }
     ensures pixels { (row column : ℕ) → row < slice_index (shape_of image) 1 → column < slice_index (shape_of image) 0 → element_of_2 to.new row column ≡ element_of_2 image column row }
 {
-    let (_rows, _columns) = image.dim();
     image.reversed_axes().move_into(to);
 }

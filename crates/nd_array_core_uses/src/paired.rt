@@ -1,5 +1,4 @@
 //! Two arrays side by side: one added to another, a row added to each row, and a view copied into another array.
-#![tactic(auto)]
 
 ghost use Rattle.std.specs.Prelude.{◌≡◌, ◌+◌, ◌%◌, ◌^◌, ◌<◌, ◌∷◌, [], ℕ, true, List, OnOk, slice_index};
 ghost use Rattle.nd_shape_and_slice.specs.Broadcast.{broadcasts};
@@ -27,7 +26,7 @@ pub fn add_all<S: DataMut<Elem = u64>, D: Dimension, Z: Data<Elem = u64>, E: Dim
 }
 
 /// Adds a row to each row of an image, modulo 2 to the 64th.
-#[tactic(auto, using(std::proofs::lemmas::Bool::Decides::nat_tests))]
+#[tactic(auto, using(std::proofs::lemmas::Bool::Decides::nat_tests, nd_array_core::proofs::Axes::known_axes))]
 pub fn add_row<S: DataMut<Elem = u64>, Z: Data<Elem = u64>>(
     image: &mut ArrayBase<S, Ix2>,
     row: &ArrayBase<Z, Ix1>,
@@ -36,8 +35,6 @@ pub fn add_row<S: DataMut<Elem = u64>, Z: Data<Elem = u64>>(
     ensures shape { shape_of image.new ≡ shape_of image.old }
     ensures elements { (i j : ℕ) → i < slice_index (shape_of image.old) 0 → j < slice_index (shape_of image.old) 1 → element_of_2 image.new i j ≡ option_both (λ x y. (x + y) % 2 ^ 64) (element_of_2 image.old i j) (element_of_1 row.now j) }
 {
-    let (_rows, _columns) = image.dim();
-    let _columns = row.dim();
     shape_is_checked(image);
     add_all(image, row);
 }

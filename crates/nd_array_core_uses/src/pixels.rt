@@ -10,14 +10,14 @@ use nd_array_core::{ArrayBase, Data, DataMut, GetMut};
 use nd_shape_and_slice::Ix2;
 
 /// Two rows of an image exchanged.
-#[tactic(auto, using(std::proofs::lemmas::Bool::Decides::nat_tests))]
+#[tactic(auto, using(std::proofs::lemmas::Bool::Decides::nat_tests, nd_array_core::proofs::Axes::known_axes))]
 pub fn swap_rows<S: DataMut>(image: &mut ArrayBase<S, Ix2>, first: usize, second: usize)
     requires first { first < slice_index (shape_of image.old) 0 }
     requires second { second < slice_index (shape_of image.old) 0 }
     ensures shape { shape_of image.new ≡ shape_of image.old }
     ensures elements { (row column : ℕ) → column < slice_index (shape_of image.old) 1 → element_of_2 image.new row column ≡ element_of_2 image.old (exchanged first second row) column }
 {
-    let (_rows, columns) = image.dim();
+    let columns = image.ncols();
     for column in 0..columns {
         image.swap([first, column], [second, column]);
     }
@@ -62,7 +62,7 @@ pub fn row_sum<S: Data<Elem = u64>>(image: &ArrayBase<S, Ix2>, row: usize) -> u6
     requires { row < slice_index (shape_of image.now) 0 }
     ensures { result ≡ sum_below (λ column. value_or_0 (element_of_2 image.now row column)) (slice_index (shape_of image.now) 1) % 2 ^ 64 }
 {
-    let (_rows, columns) = image.dim();
+    let columns = image.ncols();
     let mut total: u64 = 0;
     for column in 0..columns {
         total = total.wrapping_add(image[[row, column]]);

@@ -16,7 +16,6 @@ pub fn rows_reversed<A: Clone + Drop, S: Data<Elem = A>>(
     ensures shape { IfOk result (λ built. shape_of built ≡ shape_of matrix.now) }
     ensures elements { IfOk result (λ built. (row column : ℕ) → row < slice_index (shape_of matrix.now) 0 → column < slice_index (shape_of matrix.now) 1 → element_of_2 built row column ≡ element_of_2 matrix.now (slice_index (shape_of matrix.now) 0 - 1 - row) column) }
 {
-    let (_rows, _columns) = matrix.dim();
     let mut turned = matrix.view();
     turned.invert_axis(Axis(0));
     turned.to_owned(alloc)

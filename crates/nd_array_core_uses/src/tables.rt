@@ -1,5 +1,5 @@
 //! Tables that grow: read row by row, lengthened by columns, and a log of the last rows.
-#![tactic(auto, using(std::proofs::lemmas::Bool::Decides::nat_tests))]
+#![tactic(auto, using(std::proofs::lemmas::Bool::Decides::nat_tests, nd_array_core::proofs::Axes::known_axes))]
 
 ghost use Rattle.std.specs.Prelude.{◌≡◌, ◌+◌, ◌<◌, ℕ, Some, IfOk, OnOk, OnErr, length, slice_get, slice_index};
 ghost use Rattle.nd_array_core.specs.Meaning.{meaning_of, shape_of};
@@ -22,8 +22,6 @@ pub fn row_behind<A: Clone + Drop>(
     ensures row { OnOk result ((j : ℕ) → j < slice_index (shape_of table.old) 1 → element_of_2 table.new (slice_index (shape_of table.old) 0) j ≡ element_of_1 row.entry j) }
     ensures kept { OnErr result (meaning_of table.new ≡ meaning_of table.old) }
 {
-    let (_rows, _columns) = table.dim();
-    let _length = row.dim();
     table.push_row(row)
 }
 
@@ -40,7 +38,6 @@ pub fn push_out<A: Clone + Drop>(
     ensures last { OnOk result ((i j : ℕ) → i + 1 ≡ slice_index (shape_of log.old) 0 → j < slice_index (shape_of log.old) 1 → element_of_2 log.new i j ≡ element_of_1 line.entry j) }
     ensures kept { OnErr result (meaning_of log.new ≡ meaning_of log.old) }
 {
-    let (_rows, _columns) = log.dim();
     row_behind(log, line)?;
     log.remove_index(Axis(0), 0);
     Ok(())
@@ -57,7 +54,7 @@ pub fn rows_read<A: Clone + Drop, S: Data<Elem = A>>(
     ensures shape { IfOk result (λ table. HasRowsAndColumns table (length numbers.now) (slice_index (shape_of source.now) 1)) }
     ensures rows { IfOk result (λ table. (i j : ℕ) → i < length numbers.now → j < slice_index (shape_of source.now) 1 → element_of_2 table i j ≡ element_of_2 source.now (slice_index numbers.now i) j) }
 {
-    let (_rows, columns) = source.dim();
+    let columns = source.ncols();
     let mut table = match Array2::from_shape_vec((0, columns), Vec::new(alloc)) {
         Ok(table) => table,
         Err(refused) => return Err(ArrayError::Shape(refused)),
@@ -94,7 +91,6 @@ pub fn rows_behind<A: Clone + Drop>(
     ensures before { OnOk result ((i j : ℕ) → i < slice_index (shape_of table.old) 0 → j < slice_index (shape_of table.old) 1 → element_of_2 table.new i j ≡ element_of_2 table.old i j) }
     ensures rows { OnOk result ((k j : ℕ) (row : _) → slice_get rows.now k ≡ Some row → j < slice_index (shape_of table.old) 1 → element_of_2 table.new (slice_index (shape_of table.old) 0 + k) j ≡ element_of_1 row j) }
 {
-    let (_rows, _columns) = table.dim();
     for row in rows {
         row_lent_behind(table, row)?;
     }
@@ -113,8 +109,6 @@ pub fn column_behind<A: Clone + Drop>(
     ensures column { OnOk result ((i : ℕ) → i < slice_index (shape_of table.old) 0 → element_of_2 table.new i (slice_index (shape_of table.old) 1) ≡ element_of_1 column.entry i) }
     ensures kept { OnErr result (meaning_of table.new ≡ meaning_of table.old) }
 {
-    let (_rows, _columns) = table.dim();
-    let _length = column.dim();
     table.push_column(column)
 }
 
@@ -149,8 +143,6 @@ pub fn columns_behind<A: Clone + Drop, S: Data<Elem = A>>(
     ensures before { OnOk result ((i j : ℕ) → i < slice_index (shape_of table.old) 0 → j < slice_index (shape_of table.old) 1 → element_of_2 table.new i j ≡ element_of_2 table.old i j) }
     ensures columns { OnOk result ((i k : ℕ) → i < slice_index (shape_of table.old) 0 → k < length numbers.now → element_of_2 table.new i (slice_index (shape_of table.old) 1 + k) ≡ element_of_2 source.now i (slice_index numbers.now k)) }
 {
-    let (_rows, _columns) = table.dim();
-    let (_source_rows, _source_columns) = source.dim();
     for k in 0..numbers.len() {
         column_behind(table, source.column(numbers[k]))?;
     }
@@ -170,8 +162,5 @@ pub fn both_behind<'a, A: Clone + Drop>(
     ensures first { OnOk result ((i j : ℕ) → i < slice_index (shape_of table.old) 0 → j < slice_index (shape_of first.entry) 1 → element_of_2 table.new i (slice_index (shape_of table.old) 1 + j) ≡ element_of_2 first.entry i j) }
     ensures second { OnOk result ((i j : ℕ) → i < slice_index (shape_of table.old) 0 → j < slice_index (shape_of second.entry) 1 → element_of_2 table.new i (slice_index (shape_of table.old) 1 + slice_index (shape_of first.entry) 1 + j) ≡ element_of_2 second.entry i j) }
 {
-    let (_rows, _columns) = table.dim();
-    let (_first, _first_columns) = first.dim();
-    let (_second, _second_columns) = second.dim();
     table.append_each(Axis(1), &[first, second])
 }

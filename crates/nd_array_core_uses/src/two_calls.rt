@@ -1,17 +1,16 @@
 //! One call after another, each caller exact at every index and proved with no proof file: over every element type and
 //! storage that the calls take, and at one that is written out.
-ghost use Rattle.std.specs.Prelude.{◌≡◌, ◌<◌, ◌∷◌, [], ℕ, true, List, length, slice_index, reverse, Some, OnOk, IfOk, ◌↔◌, IsSome, IfSome};
+ghost use Rattle.std.specs.Prelude.{◌≡◌, ◌<◌, ◌∷◌, [], ℕ, true, List, slice_index, reverse, Some, OnOk, IfOk, ◌↔◌, IsSome, IfSome};
 ghost use Rattle.nd_shape_and_slice.specs.Shape.{in_box};
 ghost use Rattle.nd_shape_and_slice.specs.Maps.{inverted_index, indexed_index};
 ghost use Rattle.nd_array_core.specs.Meaning.{shape_of, element_at, inside};
 ghost use Rattle.nd_array_core.specs.base.Writes.{with_swapped_at};
 
-use nd_array_core::{Array1, Array2, ArrayBase, ArrayD, ArrayView1, Data, DataMut};
-use nd_shape_and_slice::{Axis, Dimension, Ix1, Ix2, NoMemory};
+use nd_array_core::{Array1, Array2, ArrayBase, ArrayView1, Data, DataMut};
+use nd_shape_and_slice::{Axis, Ix1, Ix2, NoMemory};
 
-/// Puts the rows of an array with two axes or more in the opposite order, and its columns too.
-pub fn flip_both<S: Data, D: Dimension>(image: &mut ArrayBase<S, D>)
-    requires { 1 < length (shape_of image.old) }
+/// Puts the rows of an image in the opposite order, and its columns too.
+pub fn flip_both<S: Data>(image: &mut ArrayBase<S, Ix2>)
     ensures shape { shape_of image.new ≡ shape_of image.old }
     ensures elements { (i : List ℕ) → element_at image.new i ≡ inside (shape_of image.old) i (inside (shape_of image.old) (inverted_index (shape_of image.old) 1 i) (element_at image.old (inverted_index (shape_of image.old) 0 (inverted_index (shape_of image.old) 1 i)))) }
 {
@@ -20,8 +19,7 @@ pub fn flip_both<S: Data, D: Dimension>(image: &mut ArrayBase<S, D>)
 }
 
 /// The same of an owned array of any elements.
-pub fn flip_both_owned<A>(image: &mut ArrayD<A>)
-    requires { 1 < length (shape_of image.old) }
+pub fn flip_both_owned<A>(image: &mut Array2<A>)
     ensures shape { shape_of image.new ≡ shape_of image.old }
     ensures elements { (i : List ℕ) → element_at image.new i ≡ inside (shape_of image.old) i (inside (shape_of image.old) (inverted_index (shape_of image.old) 1 i) (element_at image.old (inverted_index (shape_of image.old) 0 (inverted_index (shape_of image.old) 1 i)))) }
 {
@@ -30,8 +28,7 @@ pub fn flip_both_owned<A>(image: &mut ArrayD<A>)
 }
 
 /// The same of numbers.
-pub fn flip_numbers(image: &mut ArrayD<i64>)
-    requires { 1 < length (shape_of image.old) }
+pub fn flip_numbers(image: &mut Array2<i64>)
     ensures shape { shape_of image.new ≡ shape_of image.old }
     ensures elements { (i : List ℕ) → element_at image.new i ≡ inside (shape_of image.old) i (inside (shape_of image.old) (inverted_index (shape_of image.old) 1 i) (element_at image.old (inverted_index (shape_of image.old) 0 (inverted_index (shape_of image.old) 1 i)))) }
 {
@@ -71,7 +68,7 @@ pub fn transposed_row<S: Data + Drop>(
     ensures there { IsSome result ↔ (row < slice_index (shape_of image) 1) }
     ensures elements { IfSome result (λ line. (i : List ℕ) → element_at line i ≡ inside (shape_of line) i (inside (reverse (shape_of image)) (indexed_index 0 row i) (element_at image (reverse (indexed_index 0 row i))))) }
 {
-    let (_rows, columns) = image.dim();
+    let columns = image.ncols();
     if row < columns {
         Some(image.reversed_axes().index_axis_move(Axis(0), row))
     } else {
@@ -84,7 +81,7 @@ pub fn transposed_row_owned<A: Drop>(image: Array2<A>, row: usize) -> Option<Arr
     ensures there { IsSome result ↔ (row < slice_index (shape_of image) 1) }
     ensures elements { IfSome result (λ line. (i : List ℕ) → element_at line i ≡ inside (shape_of line) i (inside (reverse (shape_of image)) (indexed_index 0 row i) (element_at image (reverse (indexed_index 0 row i))))) }
 {
-    let (_rows, columns) = image.dim();
+    let columns = image.ncols();
     if row < columns {
         Some(image.reversed_axes().index_axis_move(Axis(0), row))
     } else {
@@ -97,7 +94,7 @@ pub fn transposed_row_of_numbers(image: Array2<i64>, row: usize) -> Option<Array
     ensures there { IsSome result ↔ (row < slice_index (shape_of image) 1) }
     ensures elements { IfSome result (λ line. (i : List ℕ) → element_at line i ≡ inside (shape_of line) i (inside (reverse (shape_of image)) (indexed_index 0 row i) (element_at image (reverse (indexed_index 0 row i))))) }
 {
-    let (_rows, columns) = image.dim();
+    let columns = image.ncols();
     if row < columns {
         Some(image.reversed_axes().index_axis_move(Axis(0), row))
     } else {

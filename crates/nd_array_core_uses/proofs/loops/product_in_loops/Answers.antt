@@ -15,5 +15,5 @@ loop-row-preserved g c =
     let so_far = c.loop-column.invariant in
     record {
       shape = so_far.shape;
-      above = rows_more (element_of_2 c.loop-column.c) (λ i j. Some (wrapped_product (element_of_2 c.args.one.now) (element_of_2 c.args.other.now) i j (slice_index (shape_of c.args.one.now) 1))) c.loop-row.row c.dim-inner.result.1 c.loop-column.column (omega arith) so_far.above so_far.before;
+      above = rows_more (element_of_2 c.loop-column.c) (λ i j. Some (wrapped_product (element_of_2 c.args.one.now) (element_of_2 c.args.other.now) i j (slice_index (shape_of c.args.one.now) 1))) c.loop-row.row c.ncols-columns.result c.loop-column.column (omega arith) so_far.above so_far.before;
     }
