@@ -8,6 +8,7 @@ pub mod GivenStrides
 pub mod Refusals
 pub mod Elements
 pub mod Placements
+pub mod OneAxis
 pub mod Walk
 pub mod Merging
 pub mod MemoryOrder

@@ -8,6 +8,10 @@ pub record StepsFurthest (ns : List ℕ) (ss : List ℤ) (a : ℕ) : Type 0 wher
   pub furthest : (k : ℕ) → 1 < slice_index ns k → (1 < slice_index ns a) × (magnitude_at ss k ≤ magnitude_at ss a)
   pub first : slice_index ns a ≤ 1 → a ≡ 0
 
+-- axis a is longer than 1, and steps as far as axis b or further, where that is longer than 1
+abbrev pub StepsNoLess : List ℕ → List ℤ → ℕ → ℕ → Type 0
+StepsNoLess ns ss a b = (1 < slice_index ns a) × (1 < slice_index ns b → magnitude_at ss b ≤ magnitude_at ss a)
+
 -- axis a goes into axis b: one of them has length 1 at most, or they are two and a steps where b's steps end
 pub data CanMerge (ns : List ℕ) (ss : List ℤ) (a b : ℕ) : Type 0 where
   ShortTaken : slice_index ns a ≤ 1 → CanMerge ns ss a b
@@ -18,9 +22,12 @@ pub data CanMerge (ns : List ℕ) (ss : List ℤ) (a b : ℕ) : Type 0 where
 abbrev pub merged_shape : List ℕ → ℕ → ℕ → List ℕ
 merged_shape ns a b = slice_set (slice_set ns b (slice_index ns b * slice_index ns a)) a (min 1 (slice_index ns b * slice_index ns a))
 
--- b steps as before, or as a did where b was no longer than 1
+-- b, of length m, steps as before, or where it is no longer than 1 as a did, of length n
+abbrev pub strides_merged_by : List ℤ → ℕ → ℕ → ℕ → ℕ → List ℤ
+strides_merged_by ss a n b m = if nat_lt 1 m then ss else (if nat_lt 1 n then swap ss a b else ss)
+
 abbrev pub merged_strides : List ℕ → List ℤ → ℕ → ℕ → List ℤ
-merged_strides ns ss a b = if nat_lt 1 (slice_index ns b) then ss else (if nat_lt 1 (slice_index ns a) then swap ss a b else ss)
+merged_strides ns ss a b = strides_merged_by ss a (slice_index ns a) b (slice_index ns b)
 
 -- t times the old length of b, and i, names t at a and i at b
 abbrev pub merged_index : List ℕ → ℕ → ℕ → List ℕ → List ℕ

@@ -14,13 +14,14 @@ use Rattle.nd_shape_and_slice.specs.EachAxis.{each_sliced_shape, each_sliced_ind
 use Rattle.nd_shape_and_slice.specs.Maps.{diagonal_index}
 use Rattle.nd_shape_and_slice.specs.Slice.{sliced_index}
 use Rattle.nd_shape_and_slice.specs.SliceInfo.{index_before}
-use Rattle.nd_shape_and_slice.specs.Slicing.{collapsed_before}
-use Rattle.nd_shape_and_slice.specs.Squeeze.{squeezed_shape, squeezed_index}
+use Rattle.nd_shape_and_slice.specs.Slicing.{collapsed_before, index_with}
+use Rattle.nd_shape_and_slice.specs.Squeeze.{squeezed_shape, squeezed_index, shape_squeezed_at, index_squeezed_at}
+use Rattle.nd_layout.specs.Elements.{strides_with}
 use Rattle.nd_layout.specs.Growth.{IsInGrowingOrder}
 use Rattle.nd_layout.specs.Merging.{merged_strides, merged_index}
 use Rattle.nd_layout.specs.Ranks.{IsRun}
 use Rattle.nd_layout.specs.Steps.{IsStep, IsViewStep}
-use Rattle.nd_layout.specs.Strides.{broadcast_strides, sliced_strides, strides_after, collapsed_strides, each_sliced_strides, squeezed_strides, reach_down}
+use Rattle.nd_layout.specs.Strides.{broadcast_strides, sliced_strides, strides_after, collapsed_strides, each_sliced_strides, squeezed_strides, strides_squeezed_at, reach_down}
 use Rattle.nd_layout.specs.Walk.{IsOneLane, IsRearranged, IsRejoined}
 use Rattle.nd_layout.specs.declared.layout.Layout.{Layout}
 
@@ -70,6 +71,13 @@ IsListStep old new list = IsStepOf old new (index_before old.lengths list)
 abbrev pub IsCollapsedStep : Placement → Placement → List SliceInfoElem → Type 0
 IsCollapsedStep old new list = IsStepOf old new (collapsed_before old.lengths list)
 
+-- one element of a list has been applied to an axis, and an indexed axis stays
+abbrev pub HasElementStrides : Placement → Placement → ℕ → SliceInfoElem → Type 0
+HasElementStrides old new axis element = new.strides ≡ strides_with old.lengths old.strides axis element
+
+abbrev pub IsElementStep : Placement → Placement → ℕ → SliceInfoElem → Type 0
+IsElementStep old new axis element = IsStepOf old new (index_with old.lengths axis element)
+
 -- the second is the diagonal of the first
 abbrev pub IsDiagonalStep : Placement → Placement → Type 0
 IsDiagonalStep old new = IsStepOf old new (diagonal_index old.lengths)
@@ -101,6 +109,16 @@ HasSqueezedStrides old new = new.strides ≡ squeezed_strides old.lengths old.st
 abbrev pub IsSqueezedStep : Placement → Placement → Type 0
 IsSqueezedStep old new = IsStepOf old new (squeezed_index old.lengths)
 
+-- one axis is considered, and taken out if it has length 1 and isn't the only one
+abbrev pub HasLengthsSqueezedAt : Placement → Placement → ℕ → Type 0
+HasLengthsSqueezedAt old new axis = new.lengths ≡ shape_squeezed_at old.lengths axis
+
+abbrev pub HasStridesSqueezedAt : Placement → Placement → ℕ → Type 0
+HasStridesSqueezedAt old new axis = new.strides ≡ strides_squeezed_at old.lengths old.strides axis
+
+abbrev pub IsStepSqueezedAt : Placement → Placement → ℕ → Type 0
+IsStepSqueezedAt old new axis = IsStepOf old new (index_squeezed_at old.lengths axis)
+
 -- the second has the places of the first, each as often, in an order of its own
 abbrev pub IsRearrangedOf : Placement → Placement → Type 0
 IsRearrangedOf old new = IsRearranged old.offset old.lengths old.strides new.offset new.lengths new.strides
@@ -108,6 +126,10 @@ IsRearrangedOf old new = IsRearranged old.offset old.lengths old.strides new.off
 -- the same in the same row-major order
 abbrev pub IsRejoinedOf : Placement → Placement → Type 0
 IsRejoinedOf old new = IsRejoined old.lengths old.strides new.lengths new.strides
+
+-- there are places, and they are a run
+abbrev pub HasRunOfPlaces : Placement → Type 0
+HasRunOfPlaces l = (0 < size_of l.lengths) × IsRun l.lengths l.strides
 
 -- where the places of the first are a run, the second begins at the lowest of them
 abbrev pub BeginsLowest : Placement → Placement → Type 0

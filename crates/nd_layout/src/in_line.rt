@@ -4,7 +4,8 @@ ghost use Rattle.std.specs.Prelude.{◌↔◌, ◌≡◌, ◌-◌, ◌<◌, leng
 ghost use Rattle.nd_shape_and_slice.specs.Shape.{size_of};
 ghost use Rattle.nd_layout.specs.Ranks.{IsRun};
 ghost use Rattle.nd_layout.specs.Strides.{reach_down};
-ghost use Rattle.nd_layout.specs.Walk.{IsOneLane, IsRearranged};
+ghost use Rattle.nd_layout.specs.Walk.{IsOneLane};
+ghost use Rattle.nd_layout.specs.Placements.{placement_of, HasRunOfPlaces, IsRearrangedOf};
 
 use crate::layout::Layout;
 use crate::layout::offset_in_slice::reach_below;
@@ -38,7 +39,7 @@ impl<D: Dimension, T: StrideList> Layout<D, T> {
 
     /// Whether there are places, and they are a run.
     pub(crate) fn has_run(&self) -> bool
-        ensures { IsTrue result ↔ ((0 < size_of (D.lengths self.now.dim)) × IsRun (D.lengths self.now.dim) (T.strides_of self.now.strides)) }
+        ensures { IsTrue result ↔ HasRunOfPlaces (placement_of self.now) }
     {
         if is_empty_shape(self.dim.slice()) {
             false
@@ -54,7 +55,7 @@ impl<D: Dimension, T: StrideList> Layout<D, T> {
         requires run { IsRun (D.lengths self.now.dim) (T.strides_of self.now.strides) }
         ensures offset { result.offset ≡ self.now.offset - reach_down (D.lengths self.now.dim) (T.strides_of self.now.strides) }
         ensures lane { IsOneLane (size_of (D.lengths self.now.dim)) (D.lengths result.dim) (T.strides_of result.strides) }
-        ensures order { IsRearranged self.now.offset (D.lengths self.now.dim) (T.strides_of self.now.strides) result.offset (D.lengths result.dim) (T.strides_of result.strides) }
+        ensures order { IsRearrangedOf (placement_of self.now) (placement_of result) }
     {
         let mut dim = self.dim;
         let mut strides = self.strides;

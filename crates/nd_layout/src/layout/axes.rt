@@ -5,8 +5,8 @@ ghost use Rattle.nd_shape_and_slice.specs.Shape.{size_of};
 ghost use Rattle.nd_shape_and_slice.specs.Axes.{HasEachAxis, permuted_list, unpermuted_list};
 ghost use Rattle.nd_layout.specs.Strides.{permuted_strides as permuted_ints, inverted_strides, opposite_stride};
 ghost use Rattle.nd_shape_and_slice.specs.Maps.{inverted_index, collapsed_shape, collapsed_index, lower_shape, upper_shape, upper_index};
-ghost use Rattle.nd_layout.specs.Steps.{IsStep};
 ghost use Rattle.nd_layout.specs.Placements.{placement_of, IsStepOf};
+ghost use Rattle.nd_layout.specs.OneAxis.{IsMovedAlong, IsOffsetCollapsed, IsOffsetInverted, IsOffsetUpper, LeavesSome};
 
 use super::Layout;
 use super::place_at::moved_by;
@@ -52,7 +52,7 @@ impl<D: Dimension, T: StrideList> Layout<D, T> {
         requires on { axis < length (D.lengths self.now.dim) }
         requires shorter { len ≤ slice_index (D.lengths self.now.dim) axis }
         requires within { 0 < len → steps < slice_index (D.lengths self.now.dim) axis }
-        ensures moved { 0 < size_of (slice_set (D.lengths self.now.dim) axis len) → pos result ≡ pos self.now.offset +ℤ (pos steps *ℤ slice_index_or (T.strides_of self.now.strides) axis (pos 0)) }
+        ensures moved { LeavesSome self.now axis len → IsMovedAlong self.now axis steps self.now.offset result }
         ensures empty { size_of (D.lengths self.now.dim) ≡ 0 → result ≡ self.now.offset }
     {
         if self.leaves_none(axis, len) {
@@ -66,7 +66,7 @@ impl<D: Dimension, T: StrideList> Layout<D, T> {
     #[inline]
     fn offset_inverted(&self, axis: usize) -> usize
         requires { axis < length (D.lengths self.now.dim) }
-        ensures step { IsStep self.now.offset (D.lengths self.now.dim) (T.strides_of self.now.strides) result (D.lengths self.now.dim) (slice_set (T.strides_of self.now.strides) axis (opposite_stride (slice_index_or (T.strides_of self.now.strides) axis (pos 0)))) (inverted_index (D.lengths self.now.dim) axis) }
+        ensures step { IsOffsetInverted (placement_of self.now) axis result }
         ensures empty { size_of (D.lengths self.now.dim) ≡ 0 → result ≡ self.now.offset }
     {
         let len = self.dim.length(axis);
@@ -78,7 +78,7 @@ impl<D: Dimension, T: StrideList> Layout<D, T> {
     pub(crate) fn offset_collapsed(&self, axis: usize, index: usize) -> usize
         requires on { axis < length (D.lengths self.now.dim) }
         requires within { index < slice_index (D.lengths self.now.dim) axis }
-        ensures step { IsStep self.now.offset (D.lengths self.now.dim) (T.strides_of self.now.strides) result (collapsed_shape (D.lengths self.now.dim) axis) (T.strides_of self.now.strides) (collapsed_index axis index) }
+        ensures step { IsOffsetCollapsed (placement_of self.now) axis index result }
         ensures empty { size_of (D.lengths self.now.dim) ≡ 0 → result ≡ self.now.offset }
     {
         self.offset_after(axis, 1, index)
@@ -89,7 +89,7 @@ impl<D: Dimension, T: StrideList> Layout<D, T> {
     fn offset_upper(&self, axis: usize, index: usize) -> usize
         requires on { axis < length (D.lengths self.now.dim) }
         requires within { index ≤ slice_index (D.lengths self.now.dim) axis }
-        ensures step { IsStep self.now.offset (D.lengths self.now.dim) (T.strides_of self.now.strides) result (upper_shape (D.lengths self.now.dim) axis index) (T.strides_of self.now.strides) (upper_index axis index) }
+        ensures step { IsOffsetUpper (placement_of self.now) axis index result }
         ensures empty { size_of (D.lengths self.now.dim) ≡ 0 → result ≡ self.now.offset }
     {
         self.offset_after(axis, self.dim.length(axis) - index, index)

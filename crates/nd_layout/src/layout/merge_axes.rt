@@ -1,9 +1,8 @@
 //! The axis that steps furthest, and two axes merged into one. Each costs by the number of axes alone.
 
-ghost use Rattle.std.specs.Prelude.{◌↔◌, ◌≡◌, ◌<◌, ◌≤◌, ◌*◌, ◌^◌, IsTrue, true, false, min, nat_lt, swap, if◌then◌else◌, length, slice_index};
+ghost use Rattle.std.specs.Prelude.{◌↔◌, ◌≡◌, ◌<◌, ◌*◌, ◌^◌, IsTrue, true, false, min, swap, length, slice_index};
 ghost use Rattle.nd_shape_and_slice.specs.Shape.{HasCheckedSize};
-ghost use Rattle.nd_shape_and_slice.specs.Place.{magnitude_at};
-ghost use Rattle.nd_layout.specs.Merging.{StepsFurthest, CanMerge, merged_shape, merged_strides};
+ghost use Rattle.nd_layout.specs.Merging.{StepsFurthest, StepsNoLess, CanMerge, merged_shape, merged_strides, strides_merged_by};
 ghost use Rattle.nd_layout.specs.Placements.{placement_of, HasMergedStrides, IsMergedStep};
 
 use super::Layout;
@@ -15,7 +14,7 @@ fn steps_no_less(lengths: &[usize], strides: &[isize], axis: usize, best: usize)
     requires as_many { length strides.now ≡ length lengths.now }
     requires axis { axis < length lengths.now }
     requires best { best < length lengths.now }
-    ensures { IsTrue result ↔ ((1 < slice_index lengths.now axis) × (1 < slice_index lengths.now best → magnitude_at strides.now best ≤ magnitude_at strides.now axis)) }
+    ensures { IsTrue result ↔ StepsNoLess lengths.now strides.now axis best }
 {
     if lengths[axis] <= 1 {
         return false;
@@ -77,7 +76,7 @@ fn exchange_strides<T: StrideList>(strides: &mut T, a: usize, b: usize)
 fn merge_strides<T: StrideList>(strides: &mut T, take: usize, taken: usize, into: usize, len: usize)
     requires take { take < length (T.strides_of strides.old) }
     requires into { into < length (T.strides_of strides.old) }
-    ensures { T.strides_of strides.new ≡ (if nat_lt 1 len then T.strides_of strides.old else (if nat_lt 1 taken then swap (T.strides_of strides.old) take into else T.strides_of strides.old)) }
+    ensures { T.strides_of strides.new ≡ strides_merged_by (T.strides_of strides.old) take taken into len }
 {
     if len > 1 {
         return;

@@ -1,17 +1,18 @@
 //! Slices of a layout's axes: of one axis, by a list of slices, and by a closure that is asked of each axis.
 
-ghost use Rattle.std.specs.Prelude.{◌≡◌, ◌<◌, ℤ, true, false, is_some, nat_eq, ◌||◌, length, slice_index, slice_index_or, slice_get, pos, ◌+ℤ◌, ◌*ℤ◌, if◌then◌else◌};
-ghost use Rattle.std.specs.Option.{unwrap_or};
+ghost use Rattle.std.specs.Prelude.{◌≡◌, ◌<◌, ℤ, true, false, is_some, nat_eq, ◌||◌, length, slice_index, slice_get, ◌*ℤ◌};
 ghost use Rattle.nd_shape_and_slice.specs.declared.slice.Slice.{Slice};
+ghost use Rattle.nd_shape_and_slice.specs.declared.slice_info.SliceInfoElem.TheVariants.{Index};
 ghost use Rattle.nd_shape_and_slice.specs.Descriptions.{axes_from};
-ghost use Rattle.nd_shape_and_slice.specs.Slice.{fits_axis, sliced_from, sliced_length, sliced_shape};
+ghost use Rattle.nd_shape_and_slice.specs.Slice.{fits_axis, sliced_length, sliced_shape};
 ghost use Rattle.nd_shape_and_slice.specs.SliceInfo.{coordinate_on, reads_axis, axes_kept, each_fits, fits_next, fits_shape, shape_after};
 ghost use Rattle.nd_shape_and_slice.specs.Shape.{size_of};
 ghost use Rattle.nd_layout.specs.Strides.{stepped_stride, FitsStride};
 ghost use Rattle.nd_shape_and_slice.specs.EachAxis.{AnswersFit};
-ghost use Rattle.nd_shape_and_slice.specs.Slicing.{collapsed_after, shape_with, index_with};
-ghost use Rattle.nd_layout.specs.Elements.{length_by, start_by, stride_by, strides_with, LeadsToPlaces};
-ghost use Rattle.nd_layout.specs.Placements.{placement_of, IsStepOf, HasSlicedStrides, HasListStrides, HasCollapsedStrides, IsSlicedStep, IsListStep, IsCollapsedStep, IsEachSliced};
+ghost use Rattle.nd_shape_and_slice.specs.Slicing.{collapsed_after, shape_with};
+ghost use Rattle.nd_layout.specs.Elements.{length_by, stride_by};
+ghost use Rattle.nd_layout.specs.OneAxis.{length_on, stride_on, AxisLeads, StartsBy, StartsSliced};
+ghost use Rattle.nd_layout.specs.Placements.{placement_of, HasSlicedStrides, HasListStrides, HasCollapsedStrides, HasElementStrides, IsSlicedStep, IsListStep, IsCollapsedStep, IsElementStep, IsEachSliced};
 
 use super::Layout;
 use super::axes::{length_at, stride_at};
@@ -50,11 +51,11 @@ impl<D: Dimension, T: StrideList> Layout<D, T> {
     #[inline]
     fn part_of_axis(&self, axis: usize, slice: Slice, offset: usize, is_empty: bool) -> AxisChange
         requires on { axis < length (D.lengths self.now.dim) }
-        requires fits { fits_axis (slice_index (D.lengths self.now.dim) axis) slice ≡ true }
-        requires leads { is_empty ≡ false → LeadsToPlaces offset (slice_index (D.lengths self.now.dim) axis) (slice_index_or (T.strides_of self.now.strides) axis (pos 0)) }
-        ensures len { result.len ≡ sliced_length (slice_index (D.lengths self.now.dim) axis) slice }
-        ensures stride { result.stride ≡ stepped_stride result.len (slice_index_or (T.strides_of self.now.strides) axis (pos 0)) slice.step }
-        ensures offset { is_empty ≡ false → 0 < result.len → pos result.offset ≡ pos offset +ℤ (pos (sliced_from (slice_index (D.lengths self.now.dim) axis) slice 0) *ℤ slice_index_or (T.strides_of self.now.strides) axis (pos 0)) }
+        requires fits { fits_axis (length_on self.now axis) slice ≡ true }
+        requires leads { is_empty ≡ false → AxisLeads self.now axis offset }
+        ensures len { result.len ≡ sliced_length (length_on self.now axis) slice }
+        ensures stride { result.stride ≡ stepped_stride result.len (stride_on self.now axis) slice.step }
+        ensures offset { is_empty ≡ false → 0 < result.len → StartsSliced self.now axis slice offset result.offset }
         ensures empty { is_empty ≡ true → result.offset ≡ offset }
     {
         let sliced = slice.on_axis(self.dim.length(axis));
@@ -71,9 +72,9 @@ impl<D: Dimension, T: StrideList> Layout<D, T> {
     #[inline]
     fn offset_at(&self, axis: usize, coordinate: isize, offset: usize, is_empty: bool) -> usize
         requires on { axis < length (D.lengths self.now.dim) }
-        requires fits { is_some (coordinate_on (slice_index (D.lengths self.now.dim) axis) coordinate) ≡ true }
-        requires leads { is_empty ≡ false → LeadsToPlaces offset (slice_index (D.lengths self.now.dim) axis) (slice_index_or (T.strides_of self.now.strides) axis (pos 0)) }
-        ensures moved { is_empty ≡ false → pos result ≡ pos offset +ℤ (pos (unwrap_or (coordinate_on (slice_index (D.lengths self.now.dim) axis) coordinate) 0) *ℤ slice_index_or (T.strides_of self.now.strides) axis (pos 0)) }
+        requires fits { is_some (coordinate_on (length_on self.now axis) coordinate) ≡ true }
+        requires leads { is_empty ≡ false → AxisLeads self.now axis offset }
+        ensures moved { is_empty ≡ false → StartsBy self.now axis (Index coordinate) offset result }
         ensures empty { is_empty ≡ true → result ≡ offset }
     {
         let index = coordinate_on_axis(self.dim.length(axis), coordinate).unwrap_or(0);
@@ -91,10 +92,10 @@ impl<D: Dimension, T: StrideList> Layout<D, T> {
         is_empty: bool,
     ) -> AxisChange
         requires fits { fits_next (slice_get (D.lengths self.now.dim) axis) element ≡ true }
-        requires leads { is_empty ≡ false → LeadsToPlaces offset (slice_index (D.lengths self.now.dim) axis) (slice_index_or (T.strides_of self.now.strides) axis (pos 0)) }
-        ensures len { result.len ≡ length_by (slice_index (D.lengths self.now.dim) axis) element }
-        ensures stride { result.stride ≡ stride_by (slice_index (D.lengths self.now.dim) axis) (slice_index_or (T.strides_of self.now.strides) axis (pos 0)) element }
-        ensures offset { is_empty ≡ false → 0 < result.len → pos result.offset ≡ pos offset +ℤ (pos (start_by (slice_index (D.lengths self.now.dim) axis) element) *ℤ slice_index_or (T.strides_of self.now.strides) axis (pos 0)) }
+        requires leads { is_empty ≡ false → AxisLeads self.now axis offset }
+        ensures len { result.len ≡ length_by (length_on self.now axis) element }
+        ensures stride { result.stride ≡ stride_by (length_on self.now axis) (stride_on self.now axis) element }
+        ensures offset { is_empty ≡ false → 0 < result.len → StartsBy self.now axis element offset result.offset }
         ensures new { reads_axis element ≡ false → result.offset ≡ offset }
         ensures empty { is_empty ≡ true → result.offset ≡ offset }
     {
@@ -175,8 +176,8 @@ impl<D: Dimension, T: StrideList> Layout<D, T> {
     fn slice_element(&mut self, axis: usize, element: SliceInfoElem)
         requires { fits_next (slice_get (D.lengths self.old.dim) axis) element ≡ true }
         ensures lengths { D.lengths self.new.dim ≡ shape_with (D.lengths self.old.dim) axis element }
-        ensures step { IsStepOf (placement_of self.old) (placement_of self.new) (index_with (D.lengths self.old.dim) axis element) }
-        ensures strides { T.strides_of self.new.strides ≡ strides_with (D.lengths self.old.dim) (T.strides_of self.old.strides) axis element }
+        ensures step { IsElementStep (placement_of self.old) (placement_of self.new) axis element }
+        ensures strides { HasElementStrides (placement_of self.old) (placement_of self.new) axis element }
         ensures empty { size_of (D.lengths self.old.dim) ≡ 0 → self.new.offset ≡ self.old.offset }
     {
         match element {
