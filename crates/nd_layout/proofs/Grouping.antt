@@ -5,7 +5,7 @@ use Rattle.std.proofs.lemmas.List.{drop_more, length-drop}
 use Rattle.nd_shape_and_slice.specs.Shape.{size_of}
 use Rattle.nd_layout.specs.declared.reshape.Group.{Group}
 use Rattle.nd_layout.specs.Ranks.{at_rank, ServesRanks, Regroups}
-use Rattle.nd_layout.specs.Groups.{IsClosed, TakesLength}
+use Rattle.nd_layout.specs.Groups.{IsClosed, TakesLength, SplitsOff}
 use Rattle.nd_layout.proofs.Serving.{none_serves}
 use Rattle.nd_layout.proofs.Integers.{one-mul, mul-mul}
 use Rattle.nd_layout.proofs.Ranks.{at_rank-below}
@@ -58,7 +58,7 @@ pub taken : (ns : List ℕ) (ss : List ℤ) (g full : Group) (len : ℕ) (r : Op
     → length ss ≡ length ns → 1 < len → 0 < len * (g.length * size_of (drop g.next ns))
     → Regroups (g.length ∷ drop g.next ns) (g.step ∷ drop g.next ss) (full.length ∷ drop full.next ns) (full.step ∷ drop full.next ss)
     → IsClosed full ns ss → (1 < size_of (drop full.next ns) → 1 < full.length)
-    → MatchOption r (0 < full.length % len) (λ w. (w.0 ≡ full.step) × (full.length ≡ len * w.1.length) × (1 < w.1.length → w.1.step ≡ pos len *ℤ full.step) × (w.1.next ≡ full.next))
+    → MatchOption r (0 < full.length % len) (λ w. SplitsOff full len w.0 w.1)
     → full.next ≤ length ns
     → MatchOption r ((ms : List ℕ) (ts : List ℤ) → len * size_of ms ≡ g.length * size_of (drop g.next ns) → ServesRanks (g.length ∷ drop g.next ns) (g.step ∷ drop g.next ss) (len ∷ ms) ts → ⊥) (λ w. TakesLength ns ss g len w.0 w.1 × (w.1.next ≤ length ns) × IsClosed w.1 ns ss)
 taken ns ss g full len None e long some grouped closed wide odd on =

@@ -1,12 +1,12 @@
 //! Strides under which another shape names the same places in the same order.
 
-ghost use Rattle.std.specs.Prelude.{◌↔◌, ◌≡◌, ◌<◌, ◌≤◌, ◌^◌, ◌-◌, ◌*◌, ◌%◌, ◌+◌, ◌*ℤ◌, ℕ, ℤ, pos, List, ◌∷◌, length, drop, replicate, IsTrue, IfSome, MatchOption, nat_abs};
+ghost use Rattle.std.specs.Prelude.{◌↔◌, ◌≡◌, ◌<◌, ◌≤◌, ◌^◌, ◌-◌, ◌*◌, ◌%◌, ◌*ℤ◌, ℤ, pos, List, length, drop, replicate, IsTrue, IfSome, MatchOption, nat_abs};
 ghost use Rattle.nd_shape_and_slice.specs.Shape.{size_of};
 ghost use Rattle.nd_shape_and_slice.specs.Place.{span_of};
-ghost use Rattle.nd_layout.specs.Ranks.{fastest_first, Serves, ServesRanks, Regroups};
+ghost use Rattle.nd_layout.specs.Ranks.{fastest_first, Serves};
 ghost use Rattle.nd_layout.specs.Spans.{KeepsSeparation};
 ghost use Rattle.nd_layout.specs.Strides.{RestsAtOnes};
-ghost use Rattle.nd_layout.specs.Groups.{IsClosed, TakesLength};
+ghost use Rattle.nd_layout.specs.Groups.{IsClosed, BeginsAnother, JoinsNext, SplitsOff, IsGroupFrom, RegroupsRest, NoneServes, IsTakenOff, size_from, span_from};
 
 use crate::axis_at::{nth_length, nth_stride, put_nth_stride};
 use crate::joined::continues;
@@ -26,8 +26,8 @@ fn joined(group: Group, len: usize, stride: isize) -> Option<Group>
     requires some { 0 < group.length * len }
     requires few { group.next < 32 }
     ensures { MatchOption result
-        ((1 < len) × (1 < group.length) × ¬ (stride ≡ pos group.length *ℤ group.step))
-        (λ more. (more.next ≡ group.next + 1) × ((ns : List ℕ) (ss : List ℤ) → length ss ≡ length ns → Regroups (group.length ∷ len ∷ ns) (group.step ∷ stride ∷ ss) (more.length ∷ ns) (more.step ∷ ss))) }
+        (BeginsAnother group len stride)
+        (λ more. JoinsNext group len stride more) }
 {
     let next = group.next + 1;
     if len == 1 {
@@ -61,7 +61,7 @@ fn next_group(lengths: &[usize], strides: &[isize], order: Order, from: usize) -
     requires some { 0 < size_of (drop from (fastest_first order lengths.now)) }
     requires fits { size_of (drop from (fastest_first order lengths.now)) < 2 ^ 63 }
     ensures on { result.next ≤ length lengths.now }
-    ensures regroups { Regroups (drop from (fastest_first order lengths.now)) (drop from (fastest_first order strides.now)) (result.length ∷ drop result.next (fastest_first order lengths.now)) (result.step ∷ drop result.next (fastest_first order strides.now)) }
+    ensures regroups { IsGroupFrom order lengths.now strides.now from result }
     ensures closed { IsClosed result (fastest_first order lengths.now) (fastest_first order strides.now) }
     ensures wide { 1 < size_of (drop result.next (fastest_first order lengths.now)) → 1 < result.length }
 {
@@ -110,7 +110,7 @@ fn split_group(group: Group, len: usize) -> Option<(isize, Group)>
     requires fits { (group.length - 1) * nat_abs group.step < 2 ^ 63 }
     ensures { MatchOption result
         (0 < group.length % len)
-        (λ r. (r.0 ≡ group.step) × (group.length ≡ len * r.1.length) × (1 < r.1.length → r.1.step ≡ pos len *ℤ group.step) × (r.1.next ≡ group.next)) }
+        (λ r. SplitsOff group len r.0 r.1) }
 {
     if group.length % len != 0 {
         return None;
@@ -132,11 +132,11 @@ fn filled_group(lengths: &[usize], strides: &[isize], order: Order, group: Group
     requires as_many { length strides.now ≡ length lengths.now }
     requires few { length lengths.now ≤ 32 }
     requires on { group.next ≤ length lengths.now }
-    requires some { 0 < group.length * size_of (drop group.next (fastest_first order lengths.now)) }
-    requires small { group.length * size_of (drop group.next (fastest_first order lengths.now)) < 2 ^ 63 }
+    requires some { 0 < size_from order lengths.now group }
+    requires small { size_from order lengths.now group < 2 ^ 63 }
     requires closed { IsClosed group (fastest_first order lengths.now) (fastest_first order strides.now) }
     ensures on { result.next ≤ length lengths.now }
-    ensures regroups { Regroups (group.length ∷ drop group.next (fastest_first order lengths.now)) (group.step ∷ drop group.next (fastest_first order strides.now)) (result.length ∷ drop result.next (fastest_first order lengths.now)) (result.step ∷ drop result.next (fastest_first order strides.now)) }
+    ensures regroups { RegroupsRest order lengths.now strides.now group result }
     ensures closed { IsClosed result (fastest_first order lengths.now) (fastest_first order strides.now) }
     ensures wide { 1 < size_of (drop result.next (fastest_first order lengths.now)) → 1 < result.length }
 {
@@ -158,13 +158,13 @@ fn take_length(
     requires as_many { length strides.now ≡ length lengths.now }
     requires few { length lengths.now ≤ 32 }
     requires on { group.next ≤ length lengths.now }
-    requires some { 0 < len * (group.length * size_of (drop group.next (fastest_first order lengths.now))) }
-    requires small { group.length * size_of (drop group.next (fastest_first order lengths.now)) < 2 ^ 63 }
-    requires fits { (group.length - 1) * nat_abs group.step + span_of (drop group.next (fastest_first order lengths.now)) (drop group.next (fastest_first order strides.now)) < 2 ^ 63 }
+    requires some { 0 < len * size_from order lengths.now group }
+    requires small { size_from order lengths.now group < 2 ^ 63 }
+    requires fits { span_from order lengths.now strides.now group < 2 ^ 63 }
     requires closed { IsClosed group (fastest_first order lengths.now) (fastest_first order strides.now) }
     ensures taken { MatchOption result
-        ((ms : List ℕ) (ts : List ℤ) → len * size_of ms ≡ group.length * size_of (drop group.next (fastest_first order lengths.now)) → ¬ (ServesRanks (group.length ∷ drop group.next (fastest_first order lengths.now)) (group.step ∷ drop group.next (fastest_first order strides.now)) (len ∷ ms) ts))
-        (λ r. TakesLength (fastest_first order lengths.now) (fastest_first order strides.now) group len r.0 r.1 × (r.1.next ≤ length lengths.now) × IsClosed r.1 (fastest_first order lengths.now) (fastest_first order strides.now)) }
+        (NoneServes order lengths.now strides.now group len)
+        (λ r. IsTakenOff order lengths.now strides.now group len r.0 r.1) }
     ensures rests { len ≡ 1 → IfSome result (λ r. r.0 ≡ pos 0) }
 {
     if len == 1 {
