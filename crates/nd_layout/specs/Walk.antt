@@ -35,6 +35,26 @@ abbrev pub IsMovedOn : List ℕ → List ℤ → List ℕ → ℕ → ℕ → Ty
 IsMovedOn lengths strides index place next =
     (axis : ℕ) × Advances lengths index axis × (pos next ≡ (pos place +ℤ slice_index_or strides axis (pos 0)) -ℤ displacement_of (drop (axis + 1) strides) (drop (axis + 1) index))
 
+-- behind the index comes another
+abbrev pub HasNext : List ℕ → List ℕ → Type 0
+HasNext lengths index = row_rank lengths index + 1 < size_of lengths
+
+-- where there is one, the second index has the next rank
+abbrev pub RanksNext : List ℕ → List ℕ → List ℕ → Type 0
+RanksNext lengths index next = HasNext lengths index → row_rank lengths next ≡ row_rank lengths index + 1
+
+-- and the place moves on to it
+abbrev pub MovesToNext : List ℕ → List ℤ → List ℕ → ℕ → ℕ → Type 0
+MovesToNext lengths strides index place next = HasNext lengths index → IsMovedOn lengths strides index place next
+
+-- where the one index is at its place, from whatever first place, the other is at its own
+abbrev pub KeepsWay : List ℤ → List ℕ → ℕ → List ℕ → ℕ → Type 0
+KeepsWay strides index place new_index new_place = (first : ℕ) → pos place ≡ place_of first strides index → pos new_place ≡ place_of first strides new_index
+
+-- an index of the box, at the front of a longer list
+abbrev pub front_of : List ℕ → List ℕ → List ℕ
+front_of lengths index = take (length lengths) index
+
 -- The lane has the places of the ranks from this one on, as many as it counts: the first lies at `place`, each
 -- next one a stride further. All of them are ranks of the box, and there is at least one.
 pub record IsLane (offset : ℕ) (lengths : List ℕ) (strides : List ℤ) (rank place count : ℕ) (stride : ℤ) : Type 0 where

@@ -1,10 +1,9 @@
 //! A walk over the indexes of a box in row-major order. It moves a place along, and computes none from an index.
 
-ghost use Rattle.std.specs.Prelude.{◌≡◌, ◌+◌, ◌<◌, ◌≤◌, ◌+ℤ◌, ◌-ℤ◌, ◌*ℤ◌, ℕ, true, min, pos, length, take};
-ghost use Rattle.nd_shape_and_slice.specs.Shape.{in_box, size_of, row_rank, index_at, HasCheckedSize};
-ghost use Rattle.nd_shape_and_slice.specs.Place.{place_of};
+ghost use Rattle.std.specs.Prelude.{◌≡◌, ◌+◌, ◌<◌, ◌≤◌, ◌+ℤ◌, ◌-ℤ◌, ◌*ℤ◌, true, min, pos, length};
+ghost use Rattle.nd_shape_and_slice.specs.Shape.{in_box, size_of, index_at, HasCheckedSize};
 ghost use Rattle.nd_layout.specs.Places.{is_usize, ReachesUsizes};
-ghost use Rattle.nd_layout.specs.Walk.{StandsAt, IsPlaceAtRank, IsOnItsWay, IsMovedOn};
+ghost use Rattle.nd_layout.specs.Walk.{StandsAt, IsPlaceAtRank, IsOnItsWay, RanksNext, MovesToNext, KeepsWay, front_of};
 
 use crate::runs::count_of;
 use nd_shape_and_slice::{MAX_AXES, is_empty_shape};
@@ -54,9 +53,9 @@ fn advanced(lengths: &[usize], strides: &[isize], index: &mut [usize], place: us
     requires inside { in_box lengths.now index.old ≡ true }
     requires way { IsOnItsWay lengths.now strides.now index.old place }
     ensures inside { in_box lengths.now index.new ≡ true }
-    ensures rank { row_rank lengths.now index.old + 1 < size_of lengths.now → row_rank lengths.now index.new ≡ row_rank lengths.now index.old + 1 }
-    ensures moves { row_rank lengths.now index.old + 1 < size_of lengths.now → IsMovedOn lengths.now strides.now index.old place result }
-    ensures lies { (first : ℕ) → pos place ≡ place_of first strides.now index.old → pos result ≡ place_of first strides.now index.new }
+    ensures rank { RanksNext lengths.now index.old index.new }
+    ensures moves { MovesToNext lengths.now strides.now index.old place result }
+    ensures lies { KeepsWay strides.now index.old place index.new result }
 {
     let mut place = place;
     let mut axis = lengths.len();
@@ -83,12 +82,12 @@ fn advanced_front(
     requires as_many { length strides.now ≡ length lengths.now }
     requires few { length lengths.now ≤ 32 }
     requires checked { HasCheckedSize lengths.now }
-    requires inside { in_box lengths.now (take (length lengths.now) index.old) ≡ true }
-    requires way { IsOnItsWay lengths.now strides.now (take (length lengths.now) index.old) place }
-    ensures inside { in_box lengths.now (take (length lengths.now) index.new) ≡ true }
-    ensures rank { row_rank lengths.now (take (length lengths.now) index.old) + 1 < size_of lengths.now → row_rank lengths.now (take (length lengths.now) index.new) ≡ row_rank lengths.now (take (length lengths.now) index.old) + 1 }
-    ensures moves { row_rank lengths.now (take (length lengths.now) index.old) + 1 < size_of lengths.now → IsMovedOn lengths.now strides.now (take (length lengths.now) index.old) place result }
-    ensures lies { (first : ℕ) → pos place ≡ place_of first strides.now (take (length lengths.now) index.old) → pos result ≡ place_of first strides.now (take (length lengths.now) index.new) }
+    requires inside { in_box lengths.now (front_of lengths.now index.old) ≡ true }
+    requires way { IsOnItsWay lengths.now strides.now (front_of lengths.now index.old) place }
+    ensures inside { in_box lengths.now (front_of lengths.now index.new) ≡ true }
+    ensures rank { RanksNext lengths.now (front_of lengths.now index.old) (front_of lengths.now index.new) }
+    ensures moves { MovesToNext lengths.now strides.now (front_of lengths.now index.old) place result }
+    ensures lies { KeepsWay strides.now (front_of lengths.now index.old) place (front_of lengths.now index.new) result }
 {
     let axes = lengths.len();
     advanced(lengths, strides, &mut index[..axes], place)
