@@ -19,6 +19,10 @@ grown_shape ns axis added = slice_set ns axis (slice_index ns axis + added)
 abbrev pub growing_strides : ℕ → List ℕ → List ℤ
 growing_strides axis ns = if nat_eq (axis + 1) (length ns) then column_strides_from 1 ns else insert (row_strides (remove ns axis)) axis (pos (size_of (remove ns axis)))
 
+-- what a list has for one axis first, then what it has for the others in their order
+abbrev pub with_axis_first : {X : Type 0} → X → List X → ℕ → List X
+with_axis_first default xs axis = slice_index_or xs axis default ∷ remove xs axis
+
 -- the greatest magnitude of the axes longer than 1
 abbrev pub greatest_step : List ℕ → List ℤ → ℕ
 greatest_step [] ss = 0

@@ -1,10 +1,9 @@
 //! Layouts of fresh storage that is to grow along an axis, and the order in which elements move there.
 
-ghost use Rattle.std.specs.Prelude.{◌≡◌, ◌∷◌, ◌<◌, ◌-◌, false, length, pos, slice_index, slice_index_or};
-ghost use Rattle.std.specs.List.{remove};
+ghost use Rattle.std.specs.Prelude.{◌≡◌, ◌<◌, ◌-◌, false, length, pos};
 ghost use Rattle.nd_shape_and_slice.specs.Shape.{size_of, HasCheckedSize};
 ghost use Rattle.nd_shape_and_slice.specs.Place.{IsSeparated};
-ghost use Rattle.nd_layout.specs.Growth.{growing_strides, must_move};
+ghost use Rattle.nd_layout.specs.Growth.{growing_strides, must_move, with_axis_first};
 ghost use Rattle.nd_layout.specs.Placements.{placement_of, IsGrowingOrderOf};
 
 use crate::grows::lay_out;
@@ -15,8 +14,8 @@ impl<D: Dimension, T: StrideList> Layout<D, T> {
     /// Moves an axis to the front; the others keep their order.
     fn move_to_front(&mut self, axis: usize)
         requires { axis < length (D.lengths self.old.dim) }
-        ensures lengths { D.lengths self.new.dim ≡ slice_index (D.lengths self.old.dim) axis ∷ remove (D.lengths self.old.dim) axis }
-        ensures strides { T.strides_of self.new.strides ≡ slice_index_or (T.strides_of self.old.strides) axis (pos 0) ∷ remove (T.strides_of self.old.strides) axis }
+        ensures lengths { D.lengths self.new.dim ≡ with_axis_first 0 (D.lengths self.old.dim) axis }
+        ensures strides { T.strides_of self.new.strides ≡ with_axis_first (pos 0) (T.strides_of self.old.strides) axis }
         ensures offset { self.new.offset ≡ self.old.offset }
     {
         let mut at = axis;
