@@ -1,5 +1,5 @@
 -- Layouts cut at one coordinate of one axis.
-use Rattle.std.specs.Prelude.{ℕ, ◌+◌, ◌<◌, ◌≡◌, ◌⊎◌, true, List, ℤ}
+use Rattle.std.specs.Prelude.{ℕ, ◌+◌, ◌<◌, ◌≡◌, ◌⊎◌, true, List, length, slice_index, ℤ}
 use Rattle.std.specs.List.{sum}
 use Rattle.nd_shape_and_slice.specs.Shape.{in_box, size_of}
 use Rattle.nd_shape_and_slice.specs.declared.dimension.Dimension as dimension
@@ -28,6 +28,10 @@ pub record AreHalved (one two lower lower_two upper upper_two : Placement) : Typ
 -- the same of layouts
 abbrev pub HalvesBoth : {D T P R L M : Type 0} {d : dimension.Ghosts D P R L M} {n : axis_count.Ghosts D} {r : stride_list.Ghosts R} {t : stride_list.Ghosts T} → (one two : Layout D T P R L M d n r t) → Halves D T P R L M d n r t → Type 0
 HalvesBoth one two halves = AreHalved (placement_of one) (placement_of two) (placement_of halves.lower) (placement_of halves.lower_beside) (placement_of halves.upper) (placement_of halves.upper_beside)
+
+-- the first axis longer than 1: all before it have length 1
+abbrev pub IsFirstLong : List ℕ → ℕ → Type 0
+IsFirstLong lengths axis = (axis < length lengths) × (1 < slice_index lengths axis) × ((k : ℕ) → k < axis → slice_index lengths k ≡ 1)
 
 -- where the index of a rank lies
 abbrev pub rank_place : Placement → ℕ → ℤ

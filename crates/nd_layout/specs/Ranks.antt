@@ -2,6 +2,7 @@
 use Rattle.std.specs.Prelude.{ℕ, ◌-◌, ◌*◌, ◌/◌, ◌%◌, ◌<◌, ◌≡◌, true, nat_lt, nat_abs, if◌then◌else◌, slice_index, List, [], ◌∷◌, ◌++◌, length, reverse, ℤ, pos, ◌+ℤ◌, ◌*ℤ◌}
 use Rattle.nd_shape_and_slice.specs.Shape.{in_box, size_of, row_rank, column_rank, index_at}
 use Rattle.nd_shape_and_slice.specs.Place.{displacement_of, span_of, magnitude_at, IsSeparated}
+use Rattle.nd_shape_and_slice.specs.Strides.{column_strides_from}
 use Rattle.nd_shape_and_slice.specs.declared.builder.Order.{Order}
 use Rattle.nd_shape_and_slice.specs.declared.builder.Order.TheVariants.{RowMajor, ColumnMajor}
 
@@ -52,6 +53,10 @@ StepsInOrder ns ss = (k : ℕ) → 1 < slice_index ns k → magnitude_at ss k �
 abbrev pub fastest_first : {X : Type 0} → Order → List X → List X
 fastest_first RowMajor xs = reverse xs
 fastest_first ColumnMajor xs = xs
+
+-- each axis steps over all indexes of the faster ones: its stride is the product of their lengths
+abbrev pub StepsOverFaster : Order → List ℕ → List ℤ → Type 0
+StepsOverFaster order ns ss = fastest_first order ss ≡ column_strides_from 1 (fastest_first order ns)
 
 -- which of n axes is the k-th fastest
 abbrev pub axis_in : Order → ℕ → ℕ → ℕ

@@ -1,11 +1,15 @@
 -- What keeps strides from growing: spans that fit, that have no gaps, and elements that stay where they are.
-use Rattle.std.specs.Prelude.{ℕ, ◌≡◌, ◌+◌, ◌<◌, ◌≤◌, true, List, ℤ, Option, MatchOption}
+use Rattle.std.specs.Prelude.{ℕ, ◌≡◌, ◌+◌, ◌*◌, ◌<◌, ◌≤◌, true, List, slice_index, ℤ, Option, MatchOption}
 use Rattle.nd_shape_and_slice.specs.Shape.{in_box, size_of}
-use Rattle.nd_shape_and_slice.specs.Place.{span_of, displacement_of, IsSeparated}
+use Rattle.nd_shape_and_slice.specs.Place.{span_of, span_within, displacement_of, magnitude_at, IsSeparated}
 
 -- the number where it is below a bound, and else nothing
 abbrev pub IsNumberBelow : ℕ → ℕ → Option ℕ → Type 0
 IsNumberBelow bound n answer = MatchOption answer (bound ≤ n) (λ m. (m ≡ n) × (m < bound))
+
+-- an axis longer than 1 steps further than the other axes of no greater magnitude reach together
+abbrev pub StandsApart : List ℕ → List ℤ → ℕ → Type 0
+StandsApart ns ss axis = 1 < slice_index ns axis → span_within (magnitude_at ss axis) ns ss < slice_index ns axis * magnitude_at ss axis
 
 -- the elements reach no further than as many lie side by side
 abbrev pub HasNoGaps : List ℕ → List ℤ → Type 0

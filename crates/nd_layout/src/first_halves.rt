@@ -1,9 +1,9 @@
 //! A layout cut so that its parts, listed one behind the other, are the whole in row-major order. Where it is cut changes the
 //! time of a loop alone.
 
-ghost use Rattle.std.specs.Prelude.{◌≡◌, ◌<◌, ℕ, true, length, slice_index, IfSome};
+ghost use Rattle.std.specs.Prelude.{◌≡◌, ◌<◌, true, length, IfSome};
 ghost use Rattle.nd_layout.specs.Placements.{placement_of};
-ghost use Rattle.nd_layout.specs.Halves.{FollowEachOther};
+ghost use Rattle.nd_layout.specs.Halves.{FollowEachOther, IsFirstLong};
 
 use crate::layout::Layout;
 use crate::turned::nearest_axis;
@@ -23,7 +23,7 @@ const LINE: usize = 8;
 
 /// The first axis longer than 1; all before it have length 1.
 fn first_long(lengths: &[usize]) -> Option<usize>
-    ensures { IfSome result (λ axis. (axis < length lengths.now) × (1 < slice_index lengths.now axis) × ((k : ℕ) → k < axis → slice_index lengths.now k ≡ 1)) }
+    ensures { IfSome result (λ axis. IsFirstLong lengths.now axis) }
 {
     for axis in 0..lengths.len() {
         if lengths[axis] > 1 {
@@ -79,7 +79,7 @@ impl<D: Dimension, T: StrideList> Layout<D, T> {
     /// The halves along the first axis longer than 1: the ranks of the one come before those of the other. None where there
     /// is no such axis.
     pub fn first_halves(&self) -> Option<(Self, Self)>
-        ensures { IfSome result (λ halves. FollowEachOther (placement_of self.now) (placement_of halves.0) (placement_of halves.1)) }
+        ensures { IfSome result (λ pair. FollowEachOther (placement_of self.now) (placement_of pair.0) (placement_of pair.1)) }
     {
         let axis = first_long(self.dim.slice())?;
         Some(self.halves(axis, self.dim.length(axis) / 2))

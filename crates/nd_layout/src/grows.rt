@@ -4,7 +4,7 @@ ghost use Rattle.std.specs.Prelude.{true, false, ◌↔◌, ◌≡◌, ◌<◌, 
 ghost use Rattle.nd_shape_and_slice.specs.Shape.{HasCheckedSize, size_of};
 ghost use Rattle.nd_shape_and_slice.specs.Place.{IsSeparated, span_of};
 ghost use Rattle.nd_shape_and_slice.specs.Strides.{column_strides_from};
-ghost use Rattle.nd_layout.specs.Ranks.{fastest_first, IsRun};
+ghost use Rattle.nd_layout.specs.Ranks.{IsRun, StepsOverFaster};
 ghost use Rattle.nd_layout.specs.Growth.{IsContinued, case_number, greatest_end, greatest_step, grown_shape, growing_strides, growth_case, must_move, strides_in_case};
 ghost use Rattle.nd_layout.specs.Spans.{HasNoGaps, KeepsDisplacements};
 
@@ -32,7 +32,7 @@ fn fill_strides(lengths: &[usize], axis: usize, order: Order, out: &mut [isize])
     requires some { 0 < size_of (slice_set lengths.now axis 1) }
     requires fits { size_of (slice_set lengths.now axis 1) < 2 ^ 63 }
     ensures value { result ≡ size_of (slice_set lengths.now axis 1) }
-    ensures written { fastest_first order out.new ≡ column_strides_from 1 (fastest_first order (slice_set lengths.now axis 1)) }
+    ensures written { StepsOverFaster order (slice_set lengths.now axis 1) out.new }
 {
     let mut product: usize = 1;
     for nth in 0..lengths.len() {

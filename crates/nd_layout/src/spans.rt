@@ -1,8 +1,8 @@
 //! How far apart the elements of a layout lie, and whether they are kept apart.
 
 ghost use Rattle.std.specs.Prelude.{◌↔◌, ◌≡◌, ◌<◌, ◌≤◌, ◌^◌, ◌-◌, ◌*◌, length, IsTrue, MatchOption, slice_index, slice_set, nat_abs, nat_le, if◌then◌else◌};
-ghost use Rattle.nd_shape_and_slice.specs.Place.{span_of, span_within, magnitude_at, IsSeparated};
-ghost use Rattle.nd_layout.specs.Spans.{IsNumberBelow};
+ghost use Rattle.nd_shape_and_slice.specs.Place.{span_of, span_within, IsSeparated};
+ghost use Rattle.nd_layout.specs.Spans.{IsNumberBelow, StandsApart};
 
 const LARGEST: usize = isize::MAX as usize;
 
@@ -70,7 +70,7 @@ fn reach_of_others(
 fn stands_apart(lengths: &[usize], strides: &[isize], axis: usize) -> bool
     requires as_many { length strides.now ≡ length lengths.now }
     requires on_axis { axis < length lengths.now }
-    ensures { IsTrue result ↔ (1 < slice_index lengths.now axis → span_within (magnitude_at strides.now axis) lengths.now strides.now < slice_index lengths.now axis * magnitude_at strides.now axis) }
+    ensures { IsTrue result ↔ StandsApart lengths.now strides.now axis }
 {
     if lengths[axis] <= 1 {
         return true;
