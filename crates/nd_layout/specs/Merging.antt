@@ -22,10 +22,11 @@ pub data CanMerge (ns : List ℕ) (ss : List ℤ) (a b : ℕ) : Type 0 where
 abbrev pub merged_shape : List ℕ → ℕ → ℕ → List ℕ
 merged_shape ns a b = slice_set (slice_set ns b (slice_index ns b * slice_index ns a)) a (min 1 (slice_index ns b * slice_index ns a))
 
--- b, of length m, steps as before, or where it is no longer than 1 as a did, of length n
+-- b, of length m, steps as before; where that is 1 at most, as a did, if the length n of a is more
 abbrev pub strides_merged_by : List ℤ → ℕ → ℕ → ℕ → ℕ → List ℤ
 strides_merged_by ss a n b m = if nat_lt 1 m then ss else (if nat_lt 1 n then swap ss a b else ss)
 
+-- the same by the lengths that the axes have
 abbrev pub merged_strides : List ℕ → List ℤ → ℕ → ℕ → List ℤ
 merged_strides ns ss a b = strides_merged_by ss a (slice_index ns a) b (slice_index ns b)
 
