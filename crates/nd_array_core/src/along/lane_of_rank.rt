@@ -71,4 +71,11 @@ impl<S: Data, D: Dimension> ArrayBase<S, D> {
         let lane = lane_from(self.place_of_rank(from), count, stride);
         (LaneView::over(self.storage.borrowed(), lane), from)
     }
+
+    /// A lane of no elements: what is in hand before the first one is.
+    pub fn no_lane(&self) -> LaneView<'_, S::Elem>
+        ensures { lane_length result ≡ 0 }
+    {
+        LaneView::over(self.storage.borrowed(), lane_from(0, 0, 1))
+    }
 }
