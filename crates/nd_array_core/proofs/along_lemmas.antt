@@ -8,3 +8,4 @@ pub mod ShownLanes
 pub mod AxisIndexes
 pub mod Removing
 pub mod RankLanes
+pub mod LaneParts

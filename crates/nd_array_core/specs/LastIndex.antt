@@ -1,10 +1,16 @@
 -- The last index of a shape.
 use Rattle.std.specs.Prelude.{ℕ, ◌-◌, List, map, nat_eq, Option, None, Some, if◌then◌else◌}
 use Rattle.nd_shape_and_slice.specs.Shape.{size_of}
+use Rattle.nd_layout.specs.Places.{IsPlaceOf}
+use Rattle.nd_layout.specs.Placements.{Placement}
 
 -- the last coordinate on each axis: where there are elements the index of the greatest row-major rank
 abbrev pub last_index : List ℕ → List ℕ
 last_index shape = map (λ n. n - 1) shape
+
+-- what was found is where a layout has its last index: None exactly where it has none
+abbrev pub IsLastPlace : Placement → Option ℕ → Type 0
+IsLastPlace l found = IsPlaceOf l.offset l.lengths l.strides (last_index l.lengths) found
 
 -- the offset, where there are elements
 abbrev pub offset_if_any : List ℕ → ℕ → Option ℕ

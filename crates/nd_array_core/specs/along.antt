@@ -7,3 +7,4 @@ pub mod AxisFolds
 pub mod AxisMaps
 pub mod LanesWritten
 pub mod RankLanes
+pub mod Rotated

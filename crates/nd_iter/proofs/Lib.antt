@@ -1,5 +1,6 @@
 pub mod ByRank
 pub mod IndexedElements
+pub mod LanesTaken
 pub mod Parts
 pub mod PartsAlong
 pub mod Runs

@@ -132,9 +132,9 @@ where
 }
 
 /// The rows of a table, from the first on. ndarray's `rows` of two axes.
+#[tactic(auto, using(nd_array_core::proofs::Axes::known_axes))]
 pub fn rows<A, S: Data<Elem = A>>(table: &ArrayBase<S, Ix2>) -> AxisIter<'_, A, S, Ix2>
     ensures { result ≡ along_axis (meaning_of table.now) 0 }
 {
-    let (_rows, _columns) = table.dim();
     axis_iter(table, Axis(0))
 }

@@ -84,6 +84,7 @@ fn part_from<A, S: Data<Elem = A>>(
 }
 
 /// The part of a number.
+#[tactic(auto, using(nd_array_core::proofs::Axes::known_axes))]
 fn numbered<'a, A, S: Data<Elem = A>>(
     table: &'a ArrayBase<S, Ix2>,
     grid: Grid,
@@ -95,7 +96,6 @@ fn numbered<'a, A, S: Data<Elem = A>>(
     requires columns { number % grid.across * grid.right + grid.width ≤ slice_index (shape_of table.now) 1 }
     ensures { listing (meaning_of result) ≡ numbered_part (meaning_of table.now) grid.height grid.width grid.down grid.right number }
 {
-    let (_rows, _columns) = table.dim();
     let top = number / grid.across * grid.down;
     let left = number % grid.across * grid.right;
     part_from(table, top, left, grid.height, grid.width)

@@ -4,6 +4,7 @@
 mod along;
 pub mod blocks;
 pub mod elements;
+pub mod ends;
 pub mod indexed;
 mod ranks;
 mod whole;

@@ -104,3 +104,40 @@ pub(crate) fn listed_at<'a, A, S: Data<Elem = A>, D: Dimension>(
     *hand = Some(lane);
     element
 }
+
+/// What is left from a rank on of its lane, up to another rank.
+#[inline(never)]
+pub(crate) fn lane_ahead<A, S: Data<Elem = A>, D: Dimension>(
+    array: &ArrayBase<S, D>,
+    from: usize,
+    until: usize,
+) -> LaneView<'_, A>
+    requires some { from < until }
+    requires within { until ≤ size_of (shape_of array.now) }
+    ensures some { 0 < lane_length result }
+    ensures within { from + lane_length result ≤ until }
+    ensures lists { ListsFrom result from (meaning_of array.now) }
+{
+    let (lane, first) = array.lane_of_rank(from);
+    let skipped = from - first;
+    let count = (lane.len() - skipped).min(until - from);
+    lane.part(skipped, count)
+}
+
+/// What is left before a rank of the lane of the one before it, from another rank on.
+#[inline(never)]
+pub(crate) fn lane_behind<A, S: Data<Elem = A>, D: Dimension>(
+    array: &ArrayBase<S, D>,
+    from: usize,
+    until: usize,
+) -> LaneView<'_, A>
+    requires some { from < until }
+    requires within { until ≤ size_of (shape_of array.now) }
+    ensures some { 0 < lane_length result }
+    ensures within { from + lane_length result ≤ until }
+    ensures lists { ListsFrom result (until - lane_length result) (meaning_of array.now) }
+{
+    let (lane, first) = array.lane_of_rank(until - 1);
+    let start = first.max(from);
+    lane.part(start - first, until - start)
+}

@@ -3,6 +3,8 @@ use Rattle.std.specs.Prelude.{◌≡◌, ℕ, List, [], ◌∷◌, Option, Some,
 use Rattle.std.specs.Fn.{Mut, Called}
 use Rattle.std.specs.List.{insert}
 use Rattle.nd_shape_and_slice.specs.Maps.{indexed_shape}
+use Rattle.nd_shape_and_slice.specs.declared.builder.Order.TheVariants.{RowMajor}
+use Rattle.nd_storage.specs.ByRank.{found_by_rank}
 use Rattle.nd_array_core.specs.declared.along.lane_view.LaneView.{LaneView}
 use Rattle.nd_storage.specs.Storages.{shown_by}
 use Rattle.nd_storage.specs.Collected.{stored_along}
@@ -51,6 +53,10 @@ module _ {F A B : Type 0} (g : Mut F (LaneView A × Unit {0}) B) where
   -- at each index of the other axes stands its answer for the lane there
   abbrev pub HasAnswersOfLanes : Meaning A → ℕ → F → (List ℕ → Option B) → Type 0
   HasAnswersOfLanes m a f answers = HasAnswersOfAll AnswersLane (lanes_of m a) f answers
+
+  -- the list has them in row-major order of the other axes' indexes
+  abbrev pub ListsAnswersOfLanes : Meaning A → ℕ → F → List B → Type 0
+  ListsAnswersOfLanes m a f items = HasAnswersOfLanes m a f (found_by_rank (indexed_shape m.shape a, RowMajor) items)
 
   -- whatever function of the lane the closure is, its values stand there
   abbrev pub MapsLanesAlike : Meaning A → ℕ → F → (List ℕ → Option B) → Type 0

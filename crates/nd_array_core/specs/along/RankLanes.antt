@@ -1,8 +1,15 @@
 -- A lane of the last axis, by the row-major ranks of its elements.
-use Rattle.std.specs.Prelude.{◌≡◌, ◌+◌, ◌<◌, ℕ, [], ◌∷◌, Option, slice_get, slice_index}
+use Rattle.std.specs.Prelude.{◌≡◌, ◌+◌, ◌<◌, ◌+ℤ◌, ◌*ℤ◌, ℕ, ℤ, pos, [], ◌∷◌, Option, slice_get, slice_index}
+use Rattle.nd_layout.specs.declared.lanes.Lane.{Lane}
+use Rattle.nd_layout.specs.Placements.{Placement}
+use Rattle.nd_layout.specs.Walk.{place_at_rank}
 use Rattle.nd_storage.specs.Meaning.{Meaning, row_major_elements}
 use Rattle.nd_array_core.specs.declared.along.lane_view.LaneView.{LaneView}
 use Rattle.nd_array_core.specs.along.AxisMaps.{lane_seen}
+
+-- where a layout has the index of a row-major rank
+abbrev pub rank_place : Placement → ℕ → ℤ
+rank_place l rank = place_at_rank l.offset l.lengths l.strides rank
 
 module _ {A : Type 0} (v : LaneView A) where
   -- how many elements a lane has
@@ -16,3 +23,11 @@ module _ {A : Type 0} (v : LaneView A) where
   -- its elements are those of a row-major list from a rank on
   abbrev pub ListsFrom : ℕ → Meaning A → Type 0
   ListsFrom from m = (k : ℕ) → k < lane_length → lane_element k ≡ slice_get (row_major_elements m) (from + k)
+
+  -- the elements of another lane are its own from a number on
+  abbrev pub GoesOnFrom : ℕ → LaneView A → Type 0
+  GoesOnFrom from w = (k : ℕ) → k < slice_index (lane_seen w).shape 0 → (lane_seen w).at (k ∷ []) ≡ lane_element (from + k)
+
+-- the places of another lane are a lane's own from a number on
+abbrev pub LiesFrom : Lane → ℕ → Lane → Type 0
+LiesFrom lane from part = (k : ℕ) → k < part.count → pos part.place +ℤ (pos k *ℤ part.stride) ≡ pos lane.place +ℤ (pos (from + k) *ℤ lane.stride)

@@ -30,3 +30,7 @@ abbrev pub ListsSelected : {A : Type 0} → List ℕ → (List ℕ → Option A)
 ListsSelected ns at indices n items =
     (length items ≡ n * size_of (collapsed_shape ns 0))
     × ((k : ℕ) (i : List ℕ) → k < n → in_box (collapsed_shape ns 0) i ≡ true → slice_get items (k * size_of (collapsed_shape ns 0) + row_rank (collapsed_shape ns 0) i) ≡ at (collapsed_index 0 (slice_index indices k) i))
+
+-- the same of what is seen of an array
+abbrev pub ListsRows : {A : Type 0} → Meaning A → List ℕ → ℕ → List A → Type 0
+ListsRows m indices n items = ListsSelected m.shape m.at indices n items

@@ -38,6 +38,10 @@ module _ {D T A P R L M : Type 0} {s : data_trait.Ghosts (OwnedRepr A) A} {d : d
     ShowsAnswers shape f a = HasAnswersByIndex g lengths_of shape f (element_at a)
 
     -- where it answers what some h gives of the index, and stays as it is, that stands at each index
+    abbrev pub OwnsAnswersAlike : BuiltShape → F → ArrayBase (OwnedRepr A) D T A P R L M s d n r t → Type 0
+    OwnsAnswersAlike built f a = (h : List ℕ → A) → AnswersByIndex g lengths_of built.0 h f → ShowsValues built h a
+
+    -- the same, where there is an array
     abbrev pub ShowsAnswersAlike : {E : Type 0} → BuiltShape → F → Result (ArrayBase (OwnedRepr A) D T A P R L M s d n r t) E → Type 0
     ShowsAnswersAlike built f result = (h : List ℕ → A) → AnswersByIndex g lengths_of built.0 h f → IfOk result (ShowsValues built h)
 

@@ -1,5 +1,5 @@
 -- What a view of a slice or of rows is.
-use Rattle.std.specs.Prelude.{◌≡◌, ℕ, List, length, replicate, slice_get, Option}
+use Rattle.std.specs.Prelude.{◌≡◌, ◌<◌, ℕ, List, length, replicate, slice_get, Option, IsSome}
 use Rattle.nd_shape_and_slice.specs.declared.dimension.Dimension as dimension
 use Rattle.nd_shape_and_slice.specs.declared.dimension.AxisCount as axis_count
 use Rattle.nd_shape_and_slice.specs.declared.dimension.StrideList as stride_list
@@ -10,11 +10,16 @@ use Rattle.nd_array_core.specs.declared.base.array.ArrayBase.{ArrayBase}
 use Rattle.nd_array_core.specs.Meaning.{shape_of, element_at, layout_strides, layout_offset}
 use Rattle.nd_storage.specs.Meaning.{inside}
 use Rattle.nd_shape_and_slice.specs.Place.{place_of}
+use Rattle.nd_layout.specs.Placements.{Placement, as_placement}
 use Rattle.nd_layout.specs.Ranks.{rank_in}
 use Rattle.nd_layout.specs.GivenStrides.{given_place}
 use Rattle.nd_storage.specs.Places.{stored_at}
 use Rattle.nd_storage.specs.ByRank.{BuiltShape}
 use Rattle.nd_array_core.specs.scoped.Sources.{GivenShape}
+
+-- something is stored at each place below a number
+abbrev pub HoldsBelow : {A : Type 0} → ℕ → (ℕ → Option A) → Type 0
+HoldsBelow count stored = (place : ℕ) → place < count → IsSome (stored place)
 
 module _ {S D T A P R L M : Type 0} {s : data_trait.Ghosts S A} {d : dimension.Ghosts D P R L M} {n : axis_count.Ghosts D} {r : stride_list.Ghosts R} {t : stride_list.Ghosts T} where
   -- the elements xs under these lengths, in row-major order; without elements where the lengths have no checked size
@@ -37,3 +42,7 @@ module _ {S D T A P R L M : Type 0} {s : data_trait.Ghosts S A} {d : dimension.G
   -- where the lengths have a checked size, the array has them, lies in row-major order, and shows what a map has by rank
   abbrev pub IsRowMajorIn : List ℕ → (ℕ → Option A) → ArrayBase S D T A P R L M s d n r t → Type 0
   IsRowMajorIn ns stored a = HasCheckedSize ns → (shape_of a ≡ ns) × (layout_strides a ≡ c_strides ns) × ((i : List ℕ) → element_at a i ≡ inside ns i (stored (row_rank ns i)))
+
+  -- it lies by a placement
+  abbrev pub HasPlacement : Placement → ArrayBase S D T A P R L M s d n r t → Type 0
+  HasPlacement l a = as_placement (layout_offset a) (shape_of a) (layout_strides a) ≡ l

@@ -22,6 +22,7 @@ use Rattle.nd_layout.specs.declared.layout.Layout.{Layout}
 use Rattle.nd_storage.specs.declared.storage.OwnedRepr.{OwnedRepr}
 use Rattle.nd_storage.specs.Storages.{stored_list, room_of}
 use Rattle.nd_array_core.specs.Meaning.{shape_of, element_at}
+use Rattle.nd_array_core.specs.Part.{Part, broadcast_part}
 use Rattle.nd_array_core.specs.declared.base.array.ArrayBase.{ArrayBase}
 use Rattle.nd_shape_and_slice.specs.declared.dimension.Dimension as dimension
 use Rattle.nd_shape_and_slice.specs.declared.dimension.AxisCount as axis_count
@@ -84,6 +85,10 @@ pub record ArePutBehind {A : Type 0} (grown : Placement) (axis from : ℕ) (shap
   pub put : (i : List ℕ) → in_box shape i ≡ true → stored_at (slice_get new) (place_of grown.offset grown.strides (upper_index axis from i)) ≡ at i
 
 module _ {S D A T P R L M : Type 0} {s : data_trait.Ghosts S A} {d : dimension.Ghosts D P R L M} {n : axis_count.Ghosts D} {r : stride_list.Ghosts R} {t : stride_list.Ghosts T} where
+  -- what comes behind an array of a shape: it is broadcast to that shape, with its own length along the axis
+  abbrev pub part_behind : List ℕ → ℕ → ArrayBase S D T A P R L M s d n r t → Part
+  part_behind ns axis a = broadcast_part a (shape_behind ns (shape_of a) axis)
+
   -- the same of an array's elements and of vectors
   abbrev pub PutsBehind : {Z : Type 0} → Placement → ℕ → ℕ → ArrayBase S D T A P R L M s d n r t → Vec A Z → Vec A Z → Type 0
   PutsBehind grown axis from a old new = ArePutBehind grown axis from (shape_of a) (element_at a) old.items new.items

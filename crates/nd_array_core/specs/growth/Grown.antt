@@ -17,6 +17,7 @@ use Rattle.nd_storage.specs.Meaning.{Meaning}
 use Rattle.nd_array_core.specs.Meaning.{shape_of, storage_of, layout_strides, layout_offset}
 use Rattle.nd_array_core.specs.Part.{ShowsWhole, BecomesWhole}
 use Rattle.nd_storage.specs.CloneRefusals.{MayRefuseClone}
+use Rattle.nd_storage.specs.growth.LaidToGrow.{IsLaidToGrow}
 use Rattle.nd_storage.specs.Storages.{stored_list, room_of}
 use Rattle.nd_array_core.specs.growth.Reserved.{added_elements, HasRoomAlong}
 
@@ -74,6 +75,10 @@ module _ {D T A P R L M : Type 0} {s : data_trait.Ghosts (OwnedRepr A) A} {d : d
 
   abbrev pub GoesOn : ℕ → ArrayBase (OwnedRepr A) D T A P R L M s d n r t → ArrayBase (OwnedRepr A) D T A P R L M s d n r t → Type 0
   GoesOn axis a b = GoesOnUnder axis (lies a) (stored_list (storage_of a)) (lies b) (stored_list (storage_of b))
+
+  -- the second lies as fresh storage does that is to grow along the axis, with room for so many elements more
+  abbrev pub IsRelaid : ℕ → ℕ → ArrayBase (OwnedRepr A) D T A P R L M s d n r t → ArrayBase (OwnedRepr A) D T A P R L M s d n r t → Type 0
+  IsRelaid axis more a b = IsLaidToGrow axis more (shape_of a) (layout_offset b) (layout_strides b) (storage_of b)
 
   -- no element has to be laid anew before the axis grows
   abbrev pub NeedsNoMove : ℕ → ArrayBase (OwnedRepr A) D T A P R L M s d n r t → Type 0

@@ -4,7 +4,14 @@ use Rattle.nd_shape_and_slice.specs.Shape.{size_of}
 use Rattle.nd_shape_and_slice.specs.Place.{place_of, IsSeparated}
 use Rattle.nd_layout.specs.Placements.{Placement}
 use Rattle.nd_storage.specs.Meaning.{inside}
-use Rattle.nd_storage.specs.Places.{HoldsAll, stored_at, place_number}
+use Rattle.nd_storage.specs.Places.{HoldsAll, kept_at, stored_at, place_number}
+use Rattle.nd_region.specs.Places.{names}
+use Rattle.nd_shape_and_slice.specs.declared.dimension.Dimension as dimension
+use Rattle.nd_shape_and_slice.specs.declared.dimension.AxisCount as axis_count
+use Rattle.nd_shape_and_slice.specs.declared.dimension.StrideList as stride_list
+use Rattle.nd_storage.specs.declared.storage.Data as data_trait
+use Rattle.nd_array_core.specs.declared.base.array.ArrayBase.{ArrayBase}
+use Rattle.nd_array_core.specs.Meaning.{shape_of, element_at, place_at, layout_strides}
 
 -- the storage holds the elements that the layout names, each under one index
 pub record HoldsEachOnce {A : Type 0} (stored : ℕ → Option A) (offset : ℕ) (lengths : List ℕ) (strides : List ℤ) : Type 0 where
@@ -21,3 +28,12 @@ pub record IsViewUnder {A : Type 0} (stored : ℕ → Option A) (offset : ℕ) (
 -- the same of what lies by a placement
 abbrev pub IsViewBy : {A : Type 0} → (ℕ → Option A) → Placement → List ℕ → List ℤ → (List ℕ → Option A) → (List ℕ → Option ℕ) → Type 0
 IsViewBy stored l shape shape_strides at place = IsViewUnder stored l.offset l.lengths l.strides shape shape_strides at place
+
+-- a part of a storage has what a layout names
+abbrev pub HasNamed : {A : Type 0} → (ℕ → Option A) → ℕ → List ℕ → List ℤ → (ℕ → Option A) → Type 0
+HasNamed old offset lengths strides part = (place : ℕ) → part place ≡ kept_at (names offset lengths strides) old place
+
+-- an array shows what lies by a placement
+module _ {S D T A P R L M : Type 0} {s : data_trait.Ghosts S A} {d : dimension.Ghosts D P R L M} {n : axis_count.Ghosts D} {r : stride_list.Ghosts R} {t : stride_list.Ghosts T} where
+  abbrev pub ViewsBy : (ℕ → Option A) → Placement → ArrayBase S D T A P R L M s d n r t → Type 0
+  ViewsBy stored l a = IsViewBy stored l (shape_of a) (layout_strides a) (element_at a) (place_at a)

@@ -4,9 +4,13 @@ use Rattle.nd_shape_and_slice.specs.declared.dimension.Dimension as dimension
 use Rattle.nd_shape_and_slice.specs.declared.dimension.AxisCount as axis_count
 use Rattle.nd_shape_and_slice.specs.declared.dimension.StrideList as stride_list
 use Rattle.nd_shape_and_slice.specs.Shape.{in_box, size_of}
+use Rattle.nd_layout.specs.Placements.{Placement, as_placement}
 use Rattle.nd_layout.specs.Ranks.{IsStandard, IsRun}
 use Rattle.nd_storage.specs.declared.storage.Data as data_trait
 use Rattle.nd_array_core.specs.declared.base.array.ArrayBase.{ArrayBase}
+use Rattle.nd_region.specs.declared.region.Region.{Region}
+use Rattle.nd_region.specs.Region.{IsRunOf}
+use Rattle.nd_storage.specs.ByLayout.{shown_at}
 use Rattle.nd_storage.specs.Meaning.{Meaning, row_major_elements}
 use Rattle.nd_array_core.specs.Meaning.{meaning_of, shape_of, layout_strides, layout_offset, element_at, place_at, storage_of}
 use Rattle.nd_layout.specs.Strides.{reach_down}
@@ -25,7 +29,23 @@ pub record LiesAlong {A : Type 0} (shape : List ℕ) (first : ℕ) (place : List
 abbrev pub MemoryOrderReorders : Type 0 → Type 0
 MemoryOrderReorders A = (m : Meaning A) (first : ℕ) (place : List ℕ → Option ℕ) (xs : List A) → LiesAlong m.shape first place m.at xs → IsPermutation (row_major_elements m) xs
 
+-- whatever list stands in a region from a place on, and has so many items, is such a one
+abbrev pub RunIs : {A : Type 0} → Region A → ℕ → ℕ → (List A → Type 0) → Type 0
+RunIs {A} region first count is_such = (xs : List A) → IsRunOf region first count xs → is_such xs
+
+-- a layout has no index, or its places are as many consecutive numbers as there are indexes, each once
+abbrev pub IsRunUnder : Placement → Type 0
+IsRunUnder l = (size_of l.lengths ≡ 0) ⊎ IsRun l.lengths l.strides
+
 module _ {S D T A P R L M : Type 0} {s : data_trait.Ghosts S A} {d : dimension.Ghosts D P R L M} {n : axis_count.Ghosts D} {r : stride_list.Ghosts R} {t : stride_list.Ghosts T} where
+  -- each index has what a list has at its place under a layout that begins elsewhere
+  abbrev pub ShowsListFrom : ℕ → Placement → List A → ArrayBase S D T A P R L M s d n r t → Type 0
+  ShowsListFrom offset l xs a = (i : List ℕ) → element_at a i ≡ shown_at (slice_get xs) (as_placement offset l.lengths l.strides) i
+
+  -- each index has in a list, as far behind its front as from the lowest place, its element
+  abbrev pub IsListedFromLowest : ArrayBase S D T A P R L M s d n r t → List A → Type 0
+  IsListedFromLowest a xs = (i : List ℕ) → shown_at (slice_get xs) (as_placement (reach_down (shape_of a) (layout_strides a)) (shape_of a) (layout_strides a)) i ≡ element_at a i
+
   -- each index lies at its row-major rank from the offset on
   abbrev pub IsStandardArray : ArrayBase S D T A P R L M s d n r t → Type 0
   IsStandardArray a = IsStandard (shape_of a) (layout_strides a)
@@ -41,6 +61,10 @@ module _ {S D T A P R L M : Type 0} {s : data_trait.Ghosts S A} {d : dimension.G
   -- xs are the elements in the order of their places
   abbrev pub IsInMemoryOrder : ArrayBase S D T A P R L M s d n r t → List A → Type 0
   IsInMemoryOrder a xs = LiesAlong (shape_of a) (lowest_place a) (place_at a) (element_at a) xs
+
+  -- xs are the elements in row-major order
+  abbrev pub IsInRowMajorOrder : ArrayBase S D T A P R L M s d n r t → List A → Type 0
+  IsInRowMajorOrder a xs = xs ≡ row_major_elements (meaning_of a)
 
   -- xs are the elements in row-major order, put in another order
   abbrev pub IsReordering : ArrayBase S D T A P R L M s d n r t → List A → Type 0

@@ -3,9 +3,10 @@
 
 ghost use Rattle.std.specs.Prelude.{◌≡◌, ◌+◌, ◌<◌, ◌≤◌, length, Some, pos};
 ghost use Rattle.nd_shape_and_slice.specs.Shape.{size_of};
-ghost use Rattle.nd_layout.specs.Walk.{place_at_rank, IsLastAxis};
+ghost use Rattle.nd_layout.specs.Placements.{placement_of};
+ghost use Rattle.nd_layout.specs.Walk.{IsLastAxis};
 ghost use Rattle.nd_array_core.specs.Meaning.{meaning_of, shape_of};
-ghost use Rattle.nd_array_core.specs.along.RankLanes.{lane_length, lane_element, ListsFrom};
+ghost use Rattle.nd_array_core.specs.along.RankLanes.{rank_place, lane_length, lane_element, ListsFrom};
 
 use crate::along::lane_view::LaneView;
 use crate::base::array::ArrayBase;
@@ -49,7 +50,7 @@ impl<S: Data, D: Dimension> ArrayBase<S, D> {
     /// The place of the index of a rank.
     fn place_of_rank(&self, rank: usize) -> usize
         requires { rank < size_of (shape_of self.now) }
-        ensures { pos result ≡ place_at_rank self.now.layout.offset (D.lengths self.now.layout.dim) (D.Strides.strides_of self.now.layout.strides) rank }
+        ensures { pos result ≡ rank_place (placement_of self.now.layout) rank }
     {
         let mut coordinates = [0; MAX_AXES];
         let index = &mut coordinates[..self.ndim()];
@@ -70,5 +71,12 @@ impl<S: Data, D: Dimension> ArrayBase<S, D> {
         let from = rank - rank % count;
         let lane = lane_from(self.place_of_rank(from), count, stride);
         (LaneView::over(self.storage.borrowed(), lane), from)
+    }
+
+    /// A lane of no elements: what is in hand before the first one is.
+    pub fn no_lane(&self) -> LaneView<'_, S::Elem>
+        ensures { lane_length result ≡ 0 }
+    {
+        LaneView::over(self.storage.borrowed(), lane_from(0, 0, 1))
     }
 }

@@ -3,6 +3,7 @@
 ghost use Rattle.std.specs.Prelude.{◌≡◌, ◌<◌, ℕ, true, is_some, [], ◌∷◌, List};
 ghost use Rattle.nd_storage.specs.Storages.{shown_by};
 ghost use Rattle.nd_storage.specs.Collected.{stored_along};
+ghost use Rattle.nd_storage.specs.along.AxisLanes.{LiesAs};
 
 use crate::base::array::{ArrayBase, ArrayView};
 use nd_layout::{Lane, Layout};
@@ -35,7 +36,7 @@ impl<'a, A> LaneView<'a, A> {
     pub(crate) fn over(storage: ViewRepr<'a, A>, lane: Lane) -> Self
         requires { (k : ℕ) → k < lane.count → is_some (stored_along (shown_by storage) lane.place lane.stride k) ≡ true }
         ensures storage { result.storage ≡ storage.entry }
-        ensures lane { (result.lane.place ≡ lane.place) × (result.lane.count ≡ lane.count) × (result.lane.stride ≡ lane.stride) }
+        ensures lane { LiesAs result.lane lane }
     {
         LaneView { storage, lane }
     }

@@ -3,13 +3,11 @@
 
 ghost use Rattle.std.specs.Prelude.{◌≡◌, ◌<◌, ◌≤◌, [], IfOk, OnErr, length, slice_index, vec_len, vec_capacity};
 ghost use Rattle.nd_shape_and_slice.specs.Shape.{size_of};
-ghost use Rattle.nd_shape_and_slice.specs.Maps.{indexed_shape, indexed_index};
-ghost use Rattle.nd_shape_and_slice.specs.declared.builder.Order.TheVariants.{RowMajor};
-ghost use Rattle.nd_layout.specs.Placements.{placement_of, IsStepOf};
+ghost use Rattle.nd_shape_and_slice.specs.Maps.{indexed_shape};
+ghost use Rattle.nd_layout.specs.Placements.{placement_of};
 ghost use Rattle.nd_array_core.specs.Meaning.{meaning_of, shape_of, element_at};
-ghost use Rattle.nd_storage.specs.ByRank.{found_by_rank};
-ghost use Rattle.nd_storage.specs.elements.Maps.{AskableOfAll, HasAnswersOfAll};
-ghost use Rattle.nd_array_core.specs.along.AxisMaps.{lanes_of, AnswersLane, MayBeShownLane, AskableOfLanes, HasAnswersOfLanes, MapsLanesAlike};
+ghost use Rattle.nd_storage.specs.along.AxisLanes.{IsFirstOfLanes};
+ghost use Rattle.nd_array_core.specs.along.AxisMaps.{AskableOfLanes, HasAnswersOfLanes, ListsAnswersOfLanes, MapsLanesAlike};
 
 use crate::along::lane_view::LaneView;
 use crate::base::array::{Array, ArrayBase};
@@ -33,12 +31,12 @@ where
     D::Smaller: Dimension,
     requires axis { axis.0 < length (shape_of array.now) }
     requires lengths { D.Smaller.lengths outer.now.dim ≡ indexed_shape (shape_of array.now) axis.0 }
-    requires step { 0 < slice_index (shape_of array.now) axis.0 → IsStepOf (placement_of array.now.layout) (placement_of outer.now) (indexed_index axis.0 0) }
+    requires step { IsFirstOfLanes axis.0 (placement_of array.now.layout) (placement_of outer.now) }
     requires empty { (room.items ≡ []) × (vec_len room ≡ 0) }
     requires room { size_of (indexed_shape (shape_of array.now) axis.0) ≤ vec_capacity room }
-    requires callable { AskableOfAll (AnswersLane F.FnMut) (MayBeShownLane F.FnMut) (lanes_of (meaning_of array.now) axis.0) f }
+    requires callable { AskableOfLanes F.FnMut (meaning_of array.now) axis.0 f }
     ensures count { vec_len result ≡ size_of (indexed_shape (shape_of array.now) axis.0) }
-    ensures visits { HasAnswersOfAll (AnswersLane F.FnMut) (lanes_of (meaning_of array.now) axis.0) f (found_by_rank (indexed_shape (shape_of array.now) axis.0, RowMajor) result.items) }
+    ensures visits { ListsAnswersOfLanes F.FnMut (meaning_of array.now) axis.0 f result.items }
 {
     let count = array.len_of(axis);
     let stride = array.stride_of(axis);

@@ -3,6 +3,7 @@
 mod accumulate_axis;
 mod fold_axis;
 mod lane_of_rank;
+mod lane_parts;
 pub mod lane_view;
 mod map_axis;
 mod map_axis_mut;

@@ -3,7 +3,7 @@
 
 ghost use Rattle.std.specs.Prelude.{◌≡◌, ◌-◌, ◌<◌, ℕ, List, length, slice_index};
 ghost use Rattle.nd_shape_and_slice.specs.Shape.{size_of};
-ghost use Rattle.nd_storage.specs.along.Removed.{removed_shape, rotated_index, removed_at, removed_strides, LieAtEnds, KeepPlaces};
+ghost use Rattle.nd_storage.specs.along.Removed.{removed_shape, removed_at, removed_strides, LieAtEnds, KeepPlaces};
 
 use crate::base::array::ArrayBase;
 use crate::laws::elements_have_places;
@@ -14,7 +14,7 @@ use nd_storage::storage::DataMut;
 
 impl<S: DataMut, D: Dimension> ArrayBase<S, D> {
     ghost use Rattle.nd_array_core.specs.Meaning.{meaning_of, shape_of, element_at, storage_of, place_at, layout_strides, layout_offset};
-    ghost use Rattle.nd_storage.specs.Meaning.{inside};
+    ghost use Rattle.nd_array_core.specs.along.Rotated.{rotated_at};
     ghost use Rattle.nd_array_core.specs.base.Writes.{KeepsFrame};
     ghost use Rattle.nd_storage.specs.Writes.{OthersStay};
 
@@ -23,7 +23,7 @@ impl<S: DataMut, D: Dimension> ArrayBase<S, D> {
     fn rotate_axis(&mut self, axis: Axis, index: usize)
         requires axis { axis.0 < length (shape_of self.old) }
         requires within { index < slice_index (shape_of self.old) axis.0 }
-        ensures elements { (i : List ℕ) → element_at self.new i ≡ inside (shape_of self.old) i (element_at self.old (rotated_index (shape_of self.old) axis.0 index i)) }
+        ensures elements { (i : List ℕ) → element_at self.new i ≡ rotated_at (meaning_of self.old) axis.0 index i }
         ensures frame { KeepsFrame S.frame self.old self.new }
     {
         let count = self.len_of(axis);

@@ -3,7 +3,7 @@
 
 ghost use Rattle.std.specs.Prelude.{◌≡◌, ◌+◌, ◌<◌, ◌≤◌, ℕ, [], List, IfOk, length, vec_len, vec_capacity};
 ghost use Rattle.nd_shape_and_slice.specs.Shape.{size_of, HasCheckedSize};
-ghost use Rattle.nd_array_core.specs.along.Selected.{selected_at, selected_shape, AreCoordinates, ListsSelected, ShowsSelected};
+ghost use Rattle.nd_array_core.specs.along.Selected.{selected_shape, AreCoordinates, ListsRows, ShowsSelected};
 ghost use Rattle.nd_array_core.specs.Meaning.{meaning_of, shape_of, element_at};
 ghost use Rattle.nd_storage.specs.Clones.{ClonesOfAllAreEqual};
 
@@ -28,9 +28,9 @@ where
     requires coordinates { AreCoordinates (shape_of array.now) 0 indices.now }
     requires within { nth < length indices.now }
     requires clones { ClonesOfAllAreEqual S.Elem.is_clone (element_at array.now) }
-    requires so_far { ListsSelected (shape_of array.now) (element_at array.now) indices.now nth before.items }
+    requires so_far { ListsRows (meaning_of array.now) indices.now nth before.items }
     requires room { size_of (selected_shape (shape_of array.now) 0 indices.now) ≤ vec_capacity before }
-    ensures items { IfOk result (λ v. ListsSelected (shape_of array.now) (element_at array.now) indices.now (nth + 1) v.items) }
+    ensures items { IfOk result (λ v. ListsRows (meaning_of array.now) indices.now (nth + 1) v.items) }
     ensures room { IfOk result (λ v. vec_capacity before ≤ vec_capacity v) }
 {
     let mut row = array.view();
@@ -51,7 +51,7 @@ where
     requires clones { ClonesOfAllAreEqual S.Elem.is_clone (element_at array.now) }
     requires empty { room.items ≡ [] }
     requires room { size_of (selected_shape (shape_of array.now) 0 indices.now) ≤ vec_capacity room }
-    ensures items { IfOk result (λ v. ListsSelected (shape_of array.now) (element_at array.now) indices.now (length indices.now) v.items) }
+    ensures items { IfOk result (λ v. ListsRows (meaning_of array.now) indices.now (length indices.now) v.items) }
     ensures count { IfOk result (λ v. vec_len v ≡ size_of (selected_shape (shape_of array.now) 0 indices.now)) }
 {
     let mut items = room;
@@ -74,7 +74,7 @@ where
     requires checked { HasCheckedSize (selected_shape (shape_of array.now) 0 indices.now) }
     requires clones { ClonesOfAllAreEqual S.Elem.is_clone (element_at array.now) }
     ensures shape { IfOk result (λ a. shape_of a ≡ selected_shape (shape_of array.now) 0 indices.now) }
-    ensures elements { IfOk result (λ a. (i : List ℕ) → element_at a i ≡ selected_at (meaning_of array.now) 0 indices.now i) }
+    ensures elements { IfOk result (λ a. ShowsSelected (meaning_of array.now) 0 indices.now (element_at a)) }
 {
     let mut dim = array.raw_dim();
     dim.set_length(0, indices.len());

@@ -1,7 +1,7 @@
 //! Views of slices, of rows and of arrays, and an array of a vector.
 #![tactic(auto, unfolding(crate::specs::Meaning::meaning_of, crate::specs::Meaning::memory_layout_of))]
 
-ghost use Rattle.std.specs.Prelude.{◌≡◌, ◌*◌, ◌<◌, ◌≤◌, ◌^◌, ℕ, [], ◌∷◌, length, IsSome, vec_len, vec_capacity};
+ghost use Rattle.std.specs.Prelude.{◌≡◌, ◌*◌, ◌<◌, ◌≤◌, ◌^◌, ℕ, [], ◌∷◌, length, vec_len, vec_capacity};
 ghost use Rattle.std.specs.List.{flat_map};
 ghost use Rattle.nd_shape_and_slice.specs.Shape.{HasCheckedSize};
 ghost use Rattle.nd_array_core.specs.Meaning.{shape_of, place_at, storage_of};
@@ -11,7 +11,7 @@ ghost use Rattle.nd_region.specs.Lends.{slice_follows};
 ghost use Rattle.nd_shape_and_slice.specs.declared.builder.Order.TheVariants.{RowMajor};
 ghost use Rattle.nd_array_core.specs.Part.{ShowsWhole};
 ghost use Rattle.nd_array_core.specs.base.Fresh.{OwnsInOrder, OwnsVec};
-ghost use Rattle.nd_array_core.specs.base.Sources.{IsRowMajorOf, IsRowMajorIn};
+ghost use Rattle.nd_array_core.specs.base.Sources.{HoldsBelow, IsRowMajorOf, IsRowMajorIn};
 ghost use Rattle.nd_array_core.specs.base.SliceLent.{rows_follow_view};
 
 use crate::base::array::{Array, ArrayBase, ArrayView, ArrayViewMut};
@@ -22,7 +22,7 @@ use nd_storage::storage::{Data, DataMut, ViewMutRepr, ViewRepr};
 
 /// That many elements of a storage, from place 0 on, along one axis; none where they are more than `isize::MAX`.
 fn on_one_axis<S: Data>(storage: S, len: usize) -> ArrayBase<S, Ix1>
-    requires { (place : ℕ) → place < len → IsSome (S.stored storage place) }
+    requires { HoldsBelow len (S.stored storage) }
     ensures held { IsRowMajorIn (len ∷ []) (S.stored storage) result }
     ensures empty { (HasCheckedSize (len ∷ []) → ⊥) → shape_of result ≡ 0 ∷ [] }
     ensures storage { storage_of result ≡ storage }
@@ -79,7 +79,7 @@ impl<'a, A> From<&'a [A]> for ArrayView<'a, A, Ix1> {
 
 /// The region of a slice as a view with one axis.
 fn region_on_one_axis<'a, A>(region: Region<'a, A>, len: usize) -> ArrayViewMut<'a, A, Ix1>
-    requires { (place : ℕ) → place < len → IsSome (region_stored region place) }
+    requires { HoldsBelow len (region_stored region) }
     ensures held { IsRowMajorIn (len ∷ []) (region_stored region.entry) result }
     ensures empty { (HasCheckedSize (len ∷ []) → ⊥) → shape_of result ≡ 0 ∷ [] }
     ensures region { (storage_of result).region ≡ region.entry }
@@ -140,7 +140,7 @@ fn region_on_two_axes<'a, A>(
     rows: usize,
     columns: usize,
 ) -> ArrayViewMut<'a, A, Ix2>
-    requires { HasCheckedSize (rows ∷ columns ∷ []) → (place : ℕ) → place < rows * columns → IsSome (region_stored region place) }
+    requires { HasCheckedSize (rows ∷ columns ∷ []) → HoldsBelow (rows * columns) (region_stored region) }
     ensures held { IsRowMajorIn (rows ∷ columns ∷ []) (region_stored region.entry) result }
     ensures empty { (HasCheckedSize (rows ∷ columns ∷ []) → ⊥) → shape_of result ≡ 0 ∷ 0 ∷ [] }
     ensures region { (storage_of result).region ≡ region.entry }

@@ -11,13 +11,13 @@ ghost use Rattle.nd_layout.specs.Refusals.{elements_asked};
 ghost use Rattle.nd_array_core.specs.Meaning.{shape_of, storage_of, layout_strides, layout_offset};
 ghost use Rattle.nd_storage.specs.Storages.{stored_list, room_of, held_by};
 ghost use Rattle.nd_array_core.specs.base.Given.{refusal_in, is_apart_in, IsLaidOut, refusal_meant, IsLaidOutAs, KeepsApartIn, IsLaidByStrides};
-ghost use Rattle.nd_layout.specs.Placements.{as_placement, placement_of};
+ghost use Rattle.nd_layout.specs.Placements.{placement_of};
 ghost use Rattle.nd_array_core.specs.base.SliceLent.{slice_follows_view};
 ghost use Rattle.nd_array_core.specs.scoped.Tasks.{LiesBy};
 ghost use Rattle.nd_array_core.specs.scoped.Sources.{meant_by, refusal_for, read_refusal, vec_refusal_for, strides_under, offset_under, ShowsUnder};
 ghost use Rattle.nd_shape_and_slice.specs.declared.builder.Order.{Order};
 ghost use Rattle.nd_layout.specs.Steps.{IsValid};
-ghost use Rattle.nd_array_core.specs.base.Sources.{ShowsRanked, ShowsGiven, ShowsPlaces};
+ghost use Rattle.nd_array_core.specs.base.Sources.{HasPlacement, ShowsRanked, ShowsGiven, ShowsPlaces};
 
 use crate::base::array::{Array, ArrayBase, ArrayView, ArrayViewMut};
 use nd_layout::{Layout, offset_in_slice, offset_in_vec, size_in_slice, size_in_vec};
@@ -147,7 +147,7 @@ fn region_laid_out<'a, A, D: Dimension>(
 ) -> ArrayViewMut<'a, A, D>
     requires sound { LiesBy (region_stored region) (placement_of layout) }
     ensures region { (storage_of result).region ≡ region.entry }
-    ensures placement { as_placement (layout_offset result) (shape_of result) (layout_strides result) ≡ placement_of layout }
+    ensures placement { HasPlacement (placement_of layout) result }
     ensures elements { ShowsPlaces (region_stored region.entry) result }
 {
     ArrayBase {

@@ -1,12 +1,12 @@
 //! New arrays of what a function returns for each index, or for no index at all.
 #![tactic(auto, unfolding(crate::specs::Meaning::meaning_of, crate::specs::Meaning::memory_layout_of))]
 
-ghost use Rattle.std.specs.Prelude.{◌≡◌, ◌<◌, ◌≤◌, ℕ, List, [], IfOk, OnErr, vec_len, vec_capacity};
+ghost use Rattle.std.specs.Prelude.{◌≡◌, ◌<◌, ◌≤◌, [], IfOk, OnErr, vec_len, vec_capacity};
 ghost use Rattle.nd_shape_and_slice.specs.Shape.{size_of, HasCheckedSize};
 ghost use Rattle.nd_array_core.specs.Meaning.{element_at};
-ghost use Rattle.nd_storage.specs.FreeOrder.{HasAnswers, AskableInAnyOrder, AnswersIndex, TakesIndex, AnswersByIndex, AnswersNothing, TakesNothing, AnswersAlike, AskableByIndex};
-ghost use Rattle.nd_array_core.specs.base.Fresh.{built_by, OwnsInOrder, ShowsOneValue, ShowsValues};
-ghost use Rattle.nd_array_core.specs.base.Makers.{ShowsAnswers, ShowsAnswersAlike, ShowsCells};
+ghost use Rattle.nd_storage.specs.FreeOrder.{HasAnswers, AskableInAnyOrder, AnswersNothing, TakesNothing, AnswersAlike, AskableByIndex};
+ghost use Rattle.nd_array_core.specs.base.Fresh.{built_by, OwnsInOrder, ShowsOneValue};
+ghost use Rattle.nd_array_core.specs.base.Makers.{OwnsAnswersAlike, ShowsAnswers, ShowsAnswersAlike, ShowsCells};
 
 use crate::base::array::Array;
 use crate::base::from_elem::of_items;
@@ -24,10 +24,10 @@ fn of_answers<A, D: Dimension, F: FnMut(D::Pattern) -> A>(
     requires checked { HasCheckedSize (D.lengths dim) }
     requires empty { (room.items ≡ []) × (vec_len room ≡ 0) }
     requires room { size_of (D.lengths dim) ≤ vec_capacity room }
-    requires callable { AskableInAnyOrder (AnswersIndex F.FnMut D.pattern_lengths) (D.lengths dim) (TakesIndex F.FnMut D.pattern_lengths) f }
+    requires callable { AskableByIndex F.FnMut D.pattern_lengths (D.lengths dim) f }
     ensures owns { OwnsInOrder (D.lengths dim, order) result }
-    ensures visits { HasAnswers (AnswersIndex F.FnMut D.pattern_lengths) (D.lengths dim) f (element_at result) }
-    ensures alike { (h : List ℕ → A) → AnswersByIndex F.FnMut D.pattern_lengths (D.lengths dim) h f → ShowsValues (D.lengths dim, order) h result }
+    ensures visits { ShowsAnswers F.FnMut D.pattern_lengths (D.lengths dim) f result }
+    ensures alike { OwnsAnswersAlike F.FnMut D.pattern_lengths (D.lengths dim, order) f result }
 {
     let items = answers_by_index(room, &dim, order, f);
     of_items(items, dim, order)

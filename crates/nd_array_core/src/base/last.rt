@@ -1,11 +1,11 @@
 //! The last element of an array, and the vector that an array was laid over.
 #![tactic(auto, unfolding(crate::specs::Meaning::meaning_of, crate::specs::Meaning::memory_layout_of))]
 
-ghost use Rattle.std.specs.Prelude.{◌↔◌, ◌≡◌, true, false, pos, MatchOption, IsNone, vec_capacity};
+ghost use Rattle.std.specs.Prelude.{◌↔◌, ◌≡◌, IsNone, vec_capacity};
 ghost use Rattle.std.specs.Option.{option_copied};
-ghost use Rattle.nd_shape_and_slice.specs.Shape.{in_box, size_of};
-ghost use Rattle.nd_shape_and_slice.specs.Place.{place_of};
-ghost use Rattle.nd_array_core.specs.LastIndex.{last_index, offset_if_any};
+ghost use Rattle.nd_shape_and_slice.specs.Shape.{size_of};
+ghost use Rattle.nd_layout.specs.Placements.{placement_of};
+ghost use Rattle.nd_array_core.specs.LastIndex.{last_index, offset_if_any, IsLastPlace};
 ghost use Rattle.nd_array_core.specs.Meaning.{shape_of, element_at, storage_of, layout_offset};
 ghost use Rattle.nd_storage.specs.Storages.{stored_list, room_of};
 
@@ -17,7 +17,7 @@ use nd_storage::storage::Data;
 /// The place of the last index of a layout, None exactly where it has no index.
 #[tactic(auto, using(crate::proofs::base_lemmas::LastIndexes::last_inside, crate::proofs::base_lemmas::LastIndexes::last_outside, crate::proofs::base_lemmas::LastIndexes::last_by_rank))]
 pub(crate) fn last_place<D: Dimension, T: StrideList>(layout: &Layout<D, T>) -> Option<usize>
-    ensures place { MatchOption result (in_box (D.lengths layout.now.dim) (last_index (D.lengths layout.now.dim)) ≡ false) (λ place. (in_box (D.lengths layout.now.dim) (last_index (D.lengths layout.now.dim)) ≡ true) × (pos place ≡ place_of layout.now.offset (T.strides_of layout.now.strides) (last_index (D.lengths layout.now.dim)))) }
+    ensures place { IsLastPlace (placement_of layout.now) result }
     ensures none { IsNone result ↔ (size_of (D.lengths layout.now.dim) ≡ 0) }
 {
     let lengths = layout.dim.slice();

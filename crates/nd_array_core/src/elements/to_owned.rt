@@ -1,20 +1,18 @@
 //! Arrays of their own made of any array.
 #![tactic(auto, unfolding(crate::specs::Meaning::meaning_of, crate::specs::Meaning::memory_layout_of))]
 
-ghost use Rattle.std.specs.Prelude.{◌≡◌, ◌⊎◌, ◌<◌, ℕ, List, IfOk, IfErr, length, true, false, is_ok, slice_get, vec_capacity};
+ghost use Rattle.std.specs.Prelude.{◌≡◌, ℕ, List, IfOk, IfErr, length, true, false, is_ok, slice_get, vec_capacity};
 ghost use Rattle.nd_shape_and_slice.specs.Shape.{size_of};
-ghost use Rattle.nd_shape_and_slice.specs.Place.{place_of, IsSeparated};
 ghost use Rattle.nd_shape_and_slice.specs.declared.builder.Order.TheVariants.{RowMajor};
-ghost use Rattle.nd_layout.specs.Ranks.{IsRun};
+ghost use Rattle.nd_layout.specs.Placements.{placement_of, KeepsApart};
 ghost use Rattle.nd_layout.specs.Strides.{reach_down};
 ghost use Rattle.nd_array_core.specs.Meaning.{meaning_of, shape_of, element_at, storage_of, layout_strides, layout_offset};
-ghost use Rattle.nd_storage.specs.Meaning.{inside};
 ghost use Rattle.nd_array_core.specs.Part.{ShowsWhole, BecomesWhole};
-ghost use Rattle.nd_storage.specs.Places.{HoldsAll, stored_at};
+ghost use Rattle.nd_array_core.specs.scoped.Tasks.{HoldsBy};
 ghost use Rattle.nd_storage.specs.Clones.{ClonesOfAllAreEqual};
 ghost use Rattle.nd_array_core.specs.base.Fresh.{OwnsInOrder};
 ghost use Rattle.nd_storage.specs.Storages.{stored_list, room_of};
-ghost use Rattle.nd_array_core.specs.reshape.RunSlices.{IsRunArray, IsInMemoryOrder, CopiesRun, StoresInRowMajorOrder};
+ghost use Rattle.nd_array_core.specs.reshape.RunSlices.{IsRunArray, IsRunUnder, IsInMemoryOrder, IsListedFromLowest, ShowsListFrom, CopiesRun, StoresInRowMajorOrder};
 
 use crate::base::array::{Array, ArrayBase};
 use crate::base::from_elem::of_items;
@@ -30,14 +28,14 @@ pub(crate) fn of_run<A, D: Dimension>(
     offset: usize,
     layout: &Layout<D, D::Strides>,
 ) -> Array<A, D>
-    requires run { (size_of (D.lengths layout.now.dim) ≡ 0) ⊎ IsRun (D.lengths layout.now.dim) (D.Strides.strides_of layout.now.strides) }
+    requires run { IsRunUnder (placement_of layout.now) }
     requires from { offset ≡ reach_down (D.lengths layout.now.dim) (D.Strides.strides_of layout.now.strides) }
     requires count { length items.items ≡ size_of (D.lengths layout.now.dim) }
     ensures shape { shape_of result ≡ D.lengths layout.now.dim }
     ensures strides { layout_strides result ≡ D.Strides.strides_of layout.now.strides }
     ensures offset { layout_offset result ≡ offset }
     ensures stored { stored_list (storage_of result) ≡ items.items }
-    ensures elements { (i : List ℕ) → element_at result i ≡ inside (D.lengths layout.now.dim) i (stored_at (slice_get items.items) (place_of offset (D.Strides.strides_of layout.now.strides) i)) }
+    ensures elements { ShowsListFrom offset (placement_of layout.now) items.items result }
 {
     ArrayBase {
         storage: OwnedRepr { items },
@@ -50,7 +48,7 @@ pub(crate) fn run_elements<'a, S: Data, D: Dimension>(array: &'a ArrayBase<S, D>
     requires { IsRunArray array.now }
     ensures order { IsInMemoryOrder array.now result.now }
     ensures count { length result.now ≡ size_of (shape_of array.now) }
-    ensures shifted { (i : List ℕ) → inside (shape_of array.now) i (stored_at (slice_get result.now) (place_of (reach_down (shape_of array.now) (layout_strides array.now)) (layout_strides array.now) i)) ≡ element_at array.now i }
+    ensures shifted { IsListedFromLowest array.now result.now }
 {
     let below = reach_below(array.layout.dim.slice(), array.layout.strides.slice());
     let first = array.layout.offset.saturating_sub(below);
@@ -118,8 +116,8 @@ where
 
 /// The array of a vector's elements under a layout.
 fn of_vector<A, D: Dimension>(items: Vec<A>, layout: Layout<D, D::Strides>) -> Array<A, D>
-    requires holds { HoldsAll (slice_get items.items) layout.offset (D.lengths layout.dim) (D.Strides.strides_of layout.strides) }
-    requires apart { 0 < size_of (D.lengths layout.dim) → IsSeparated (D.lengths layout.dim) (D.Strides.strides_of layout.strides) }
+    requires holds { HoldsBy (slice_get items.items) (placement_of layout) }
+    requires apart { KeepsApart (placement_of layout) }
     ensures storage { stored_list (storage_of result) ≡ items.items }
     ensures room { room_of (storage_of result) ≡ vec_capacity items }
     ensures layout { result.layout ≡ layout }

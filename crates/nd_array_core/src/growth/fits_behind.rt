@@ -5,8 +5,8 @@ ghost use Rattle.std.specs.Prelude.{◌↔◌, ◌≡◌, ◌<◌, IsTrue, IfOk,
 ghost use Rattle.nd_shape_and_slice.specs.Shape.{HasCheckedSize};
 ghost use Rattle.nd_array_core.specs.Joined.{concatenated_shape, shape_behind};
 ghost use Rattle.nd_array_core.specs.Meaning.{shape_of};
-ghost use Rattle.nd_array_core.specs.Part.{broadcast_part, ShowsPart};
-ghost use Rattle.nd_array_core.specs.growth.Appended.{CanComeBehind, FitsBehind, IsJoiningRefused};
+ghost use Rattle.nd_array_core.specs.Part.{ShowsPart};
+ghost use Rattle.nd_array_core.specs.growth.Appended.{part_behind, CanComeBehind, FitsBehind, IsJoiningRefused};
 
 use crate::base::array::ArrayView;
 use nd_shape_and_slice::{Dimension, ErrorKind, ShapeError, size_of_shape_checked};
@@ -84,7 +84,7 @@ pub(crate) fn broadcast_behind<'a, A, D: Dimension>(
 ) -> ArrayView<'a, A, D>
     requires on { axis < length (D.lengths dim.now) }
     requires comes { CanComeBehind (D.lengths dim.now) (shape_of array) axis }
-    ensures part { ShowsPart array.entry (broadcast_part array.entry (shape_behind (D.lengths dim.now) (shape_of array.entry) axis)) result }
+    ensures part { ShowsPart array.entry (part_behind (D.lengths dim.now) axis array.entry) result }
 {
     let mut beside = *dim;
     beside.set_length(axis, array.layout.dim.length(axis));

@@ -3,9 +3,9 @@
 
 ghost use Rattle.std.specs.Prelude.{◌≡◌, ◌+◌, ◌<◌, ◌^◌, ℕ, List, OnOk, OnErr, length};
 ghost use Rattle.nd_shape_and_slice.specs.Shape.{size_of};
-ghost use Rattle.nd_array_core.specs.Meaning.{shape_of, element_at, storage_of, layout_strides, layout_offset};
+ghost use Rattle.nd_array_core.specs.Meaning.{shape_of, element_at};
 ghost use Rattle.nd_array_core.specs.Part.{BecomesWhole};
-ghost use Rattle.nd_storage.specs.growth.LaidToGrow.{IsLaidToGrow};
+ghost use Rattle.nd_array_core.specs.growth.Grown.{IsRelaid};
 
 use crate::base::array::Array;
 use nd_shape_and_slice::{Axis, Dimension, NoMemory, StrideList};
@@ -20,7 +20,7 @@ impl<A: Drop, D: Dimension> Array<A, D> {
         requires fits { size_of (shape_of self.old) + more < 2 ^ 64 }
         ensures shape { shape_of self.new ≡ shape_of self.old }
         ensures elements { (i : List ℕ) → element_at self.new i ≡ element_at self.old i }
-        ensures laid { OnOk result (IsLaidToGrow axis.0 more (shape_of self.old) (layout_offset self.new) (layout_strides self.new) (storage_of self.new)) }
+        ensures laid { OnOk result (IsRelaid axis.0 more self.old self.new) }
         ensures kept { OnErr result (BecomesWhole self.old self.new) }
     {
         lay_anew(&mut self.storage, &mut self.layout, axis.0, more)

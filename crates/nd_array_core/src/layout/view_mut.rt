@@ -6,8 +6,8 @@ ghost use Rattle.std.specs.Prelude.{◌≡◌, ℕ, length, List};
 ghost use Rattle.std.specs.Borrow.{sem};
 ghost use Rattle.nd_region.specs.Places.{names};
 ghost use Rattle.nd_region.specs.Region.{region_stored};
-ghost use Rattle.nd_storage.specs.Places.{HoldsAll, kept_at};
-ghost use Rattle.nd_array_core.specs.layout.Parts.{IsViewBy};
+ghost use Rattle.nd_storage.specs.Places.{HoldsAll};
+ghost use Rattle.nd_array_core.specs.layout.Parts.{HasNamed, ViewsBy};
 ghost use Rattle.nd_array_core.specs.scoped.Tasks.{HoldsBy};
 ghost use Rattle.nd_layout.specs.Placements.{placement_of, KeepsApart};
 ghost use Rattle.nd_array_core.specs.Meaning.{shape_of, element_at, place_at, layout_strides, layout_offset};
@@ -31,7 +31,7 @@ impl<S: DataMut, D: Dimension> ArrayBase<S, D> {
         requires as_many { length lengths.now ≡ length strides.now }
         requires holds { HoldsAll (S.stored self.old.storage) offset lengths.now strides.now }
         ensures* writes_back { sem 𝓛 (array_follows_part S.row S.Elem.row D.row D.Pattern.row D.Strides.row D.Smaller.row D.Larger.row S.Data D.Dimension D.AxisCount D.Strides.StrideList self.entry result.tie.value (names offset lengths.now strides.now)) }
-        ensures elements { (place : ℕ) → region_stored result.region place ≡ kept_at (names offset lengths.now strides.now) (S.stored self.old.storage) place }
+        ensures elements { HasNamed (S.stored self.old.storage) offset lengths.now strides.now (region_stored result.region) }
     {
         ViewMutRepr::of_region(self.storage.lend().into_part(offset, lengths, strides))
     }
@@ -44,7 +44,7 @@ impl<S: DataMut, D: Dimension> ArrayBase<S, D> {
         requires holds { HoldsBy (S.stored self.old.storage) (placement_of layout) }
         requires separated { KeepsApart (placement_of layout) }
         ensures* writes_back { sem 𝓛 (array_follows_part S.row S.Elem.row D.row D.Pattern.row D.Strides.row D.Smaller.row D.Larger.row S.Data D.Dimension D.AxisCount D.Strides.StrideList self.entry (tie_of result) (lent_places result)) }
-        ensures seen { IsViewBy (S.stored self.old.storage) (placement_of layout) (shape_of result) (layout_strides result) (element_at result) (place_at result) }
+        ensures seen { ViewsBy (S.stored self.old.storage) (placement_of layout) result }
         ensures offset { layout_offset result ≡ layout.offset }
         ensures refilled { LeavesRefilled S.frame self.old (left_by self.old result) }
         ensures others { LeavesPlacesBut (place_at result) self.old (left_by self.old result) }

@@ -1,7 +1,7 @@
 //! The elements as one slice, to be written, where they lie so.
 #![tactic(auto, unfolding(crate::specs::Meaning::meaning_of, crate::specs::Meaning::memory_layout_of))]
 
-ghost use Rattle.std.specs.Prelude.{◌↔◌, ◌≡◌, List, IsSome, IfSome, OnSome, IsTrue};
+ghost use Rattle.std.specs.Prelude.{◌↔◌, ◌≡◌, IsSome, IfSome, OnSome, IsTrue};
 ghost use Rattle.std.specs.Borrow.{sem};
 ghost use Rattle.nd_shape_and_slice.specs.Shape.{size_of};
 ghost use Rattle.nd_region.specs.Region.{HasRun, IsRunOf};
@@ -9,7 +9,7 @@ ghost use Rattle.nd_array_core.specs.Meaning.{meaning_of, shape_of, layout_offse
 ghost use Rattle.nd_array_core.specs.base.LongerLent.{region_of};
 ghost use Rattle.nd_storage.specs.Meaning.{row_major_elements};
 ghost use Rattle.nd_array_core.specs.reshape.LentSlices.{run_may_follow};
-ghost use Rattle.nd_array_core.specs.reshape.RunSlices.{IsStandardArray, IsRunArray, IsInMemoryOrder, lowest_place};
+ghost use Rattle.nd_array_core.specs.reshape.RunSlices.{lowest_place, IsStandardArray, IsRunArray, IsInMemoryOrder, IsInRowMajorOrder, RunIs};
 
 use crate::base::array::{ArrayBase, ArrayViewMut};
 use nd_layout::is_run;
@@ -120,7 +120,7 @@ fn apart_rows<'a, A, D: Dimension>(
     ensures count { result.2 ≡ size_of (shape_of view.entry) }
     ensures asked { IsTrue result.3 ↔ IsStandardArray view.entry }
     ensures there { IsTrue result.3 → HasRun result.0 result.1 result.2 }
-    ensures elements { IsTrue result.3 → (xs : List A) → IsRunOf result.0 result.1 result.2 xs → xs ≡ row_major_elements (meaning_of view.entry) }
+    ensures elements { IsTrue result.3 → RunIs result.0 result.1 result.2 (IsInRowMajorOrder view.entry) }
 {
     let asked = view.is_standard_layout();
     let ArrayBase { storage, layout } = view;
@@ -138,7 +138,7 @@ fn apart_run<'a, A, D: Dimension>(
     ensures count { result.2 ≡ size_of (shape_of view.entry) }
     ensures asked { IsTrue result.3 ↔ IsRunArray view.entry }
     ensures there { IsTrue result.3 → HasRun result.0 result.1 result.2 }
-    ensures elements { IsTrue result.3 → (xs : List A) → IsRunOf result.0 result.1 result.2 xs → IsInMemoryOrder view.entry xs }
+    ensures elements { IsTrue result.3 → RunIs result.0 result.1 result.2 (IsInMemoryOrder view.entry) }
 {
     let asked = view.has_run();
     let ArrayBase { storage, layout } = view;

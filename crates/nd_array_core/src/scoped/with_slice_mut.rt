@@ -2,8 +2,8 @@
 #![tactic(auto, unfolding(crate::specs::Meaning::meaning_of, crate::specs::Meaning::memory_layout_of))]
 
 ghost use Rattle.std.specs.Prelude.{◌≡◌, ◌<◌, true, length, slice_index};
-ghost use Rattle.nd_shape_and_slice.specs.Slice.{fits_axis, sliced_shape, sliced_index};
-ghost use Rattle.nd_layout.specs.Placements.{placement_of, IsStepOf};
+ghost use Rattle.nd_shape_and_slice.specs.Slice.{fits_axis, sliced_shape};
+ghost use Rattle.nd_layout.specs.Placements.{placement_of, IsSlicedStep};
 ghost use Rattle.nd_shape_and_slice.specs.SliceInfo.{fits_shape};
 ghost use Rattle.nd_array_core.specs.scoped.PartTasks.{AsksOfPart, IsDoneOnPart, KeepsBut};
 ghost use Rattle.nd_array_core.specs.base.Writes.{KeepsFrame};
@@ -25,7 +25,7 @@ fn sliced_on<D: Dimension, T: StrideList>(
     requires on { axis < length (D.lengths layout.now.dim) }
     requires fits { fits_axis (slice_index (D.lengths layout.now.dim) axis) slice ≡ true }
     ensures lengths { D.lengths result.dim ≡ sliced_shape (D.lengths layout.now.dim) axis slice }
-    ensures step { IsStepOf (placement_of layout.now) (placement_of result) (sliced_index (D.lengths layout.now.dim) axis slice) }
+    ensures step { IsSlicedStep (placement_of layout.now) (placement_of result) axis slice }
 {
     let mut layout = layout.copied();
     layout.slice_axis(axis, slice);

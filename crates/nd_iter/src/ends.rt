@@ -1,0 +1,153 @@
+//! What is left of the elements of an array: lanes in hand at both ends, and ranks between them.
+
+ghost use Rattle.std.specs.Prelude.{◌≡◌, length};
+ghost use Rattle.std.specs.Iterator.{YieldsFirstRef, YieldsLastRef};
+ghost use Rattle.nd_array_core.specs.Joined.{row_major_elements};
+ghost use Rattle.nd_array_core.specs.Meaning.{meaning_of};
+ghost use Rattle.nd_iter.specs.Hands.{left_in, AreEndsOf, IsByRanks};
+
+use crate::ranks::{lane_ahead, lane_behind, listed_in};
+use nd_array_core::laws::elements_by_rank;
+use nd_array_core::{ArrayBase, Data, LaneView};
+use nd_shape_and_slice::Dimension;
+
+/// The elements that are left: those of the lane ahead, then those of the ranks, then those of the lane behind.
+#[derive(Drop)]
+pub(crate) struct Ends<'a, A> {
+    pub ahead: LaneView<'a, A>,
+    pub front: usize,
+    pub back: usize,
+    pub behind: LaneView<'a, A>,
+}
+
+impl<'a, A> Ends<'a, A> {
+    /// All elements of an array.
+    pub fn of<S: Data<Elem = A>, D: Dimension>(array: &'a ArrayBase<S, D>) -> Self
+        ensures ends { AreEndsOf (meaning_of array.now) result }
+        ensures ranks { IsByRanks result }
+        ensures all { left_in (meaning_of array.now) result ≡ row_major_elements (meaning_of array.now) }
+    {
+        elements_by_rank(array);
+        let ahead = array.no_lane();
+        let back = array.len();
+        let behind = array.no_lane();
+        Ends {
+            ahead,
+            front: 0,
+            back,
+            behind,
+        }
+    }
+
+    /// How many there are.
+    pub fn count<S: Data<Elem = A>, D: Dimension>(&self, array: &ArrayBase<S, D>) -> usize
+        requires { AreEndsOf (meaning_of array.now) self.now }
+        ensures { result ≡ length (left_in (meaning_of array.now) self.now) }
+    {
+        elements_by_rank(array);
+        let _all = array.len();
+        self.back + self.behind.len() - (self.front - self.ahead.len())
+    }
+
+    /// The first of them, which is then taken; all elements lie side by side.
+    #[inline]
+    pub fn first_in<S: Data<Elem = A>, D: Dimension>(
+        &mut self,
+        array: &'a ArrayBase<S, D>,
+        all: &'a [A],
+    ) -> Option<&'a A>
+        requires ends { AreEndsOf (meaning_of array.now) self.old }
+        requires ranks { IsByRanks self.old }
+        requires all { all.now ≡ row_major_elements (meaning_of array.now) }
+        ensures first { YieldsFirstRef (left_in (meaning_of array.now)) self.old result self.new }
+        ensures ends { AreEndsOf (meaning_of array.now) self.new }
+        ensures ranks { IsByRanks self.new }
+    {
+        if self.front == self.back {
+            return None;
+        }
+        let rank = self.front;
+        self.front += 1;
+        Some(listed_in(array, all, rank))
+    }
+
+    /// The last of them, which is then taken; all elements lie side by side.
+    #[inline]
+    pub fn last_in<S: Data<Elem = A>, D: Dimension>(
+        &mut self,
+        array: &'a ArrayBase<S, D>,
+        all: &'a [A],
+    ) -> Option<&'a A>
+        requires ends { AreEndsOf (meaning_of array.now) self.old }
+        requires ranks { IsByRanks self.old }
+        requires all { all.now ≡ row_major_elements (meaning_of array.now) }
+        ensures last { YieldsLastRef (left_in (meaning_of array.now)) self.old result self.new }
+        ensures ends { AreEndsOf (meaning_of array.now) self.new }
+        ensures ranks { IsByRanks self.new }
+    {
+        if self.front == self.back {
+            return None;
+        }
+        self.back -= 1;
+        Some(listed_in(array, all, self.back))
+    }
+
+    /// The first of them, which is then taken.
+    #[inline]
+    pub fn first<S: Data<Elem = A>, D: Dimension>(
+        &mut self,
+        array: &'a ArrayBase<S, D>,
+    ) -> Option<&'a A>
+        requires { AreEndsOf (meaning_of array.now) self.old }
+        ensures first { YieldsFirstRef (left_in (meaning_of array.now)) self.old result self.new }
+        ensures ends { AreEndsOf (meaning_of array.now) self.new }
+    {
+        if self.ahead.len() > 0 {
+            return Some(self.ahead.take_first());
+        }
+        if self.front < self.back {
+            let mut lane = lane_ahead(array, self.front, self.back);
+            let count = lane.len();
+            let element = lane.take_first();
+            self.front += count;
+            self.ahead = lane;
+            return Some(element);
+        }
+        if self.behind.len() > 0 {
+            let _all = array.len();
+            self.front += 1;
+            self.back += 1;
+            return Some(self.behind.take_first());
+        }
+        None
+    }
+
+    /// The last of them, which is then taken.
+    #[inline]
+    pub fn last<S: Data<Elem = A>, D: Dimension>(
+        &mut self,
+        array: &'a ArrayBase<S, D>,
+    ) -> Option<&'a A>
+        requires { AreEndsOf (meaning_of array.now) self.old }
+        ensures last { YieldsLastRef (left_in (meaning_of array.now)) self.old result self.new }
+        ensures ends { AreEndsOf (meaning_of array.now) self.new }
+    {
+        if self.behind.len() > 0 {
+            return Some(self.behind.take_last());
+        }
+        if self.front < self.back {
+            let mut lane = lane_behind(array, self.front, self.back);
+            let count = lane.len();
+            let element = lane.take_last();
+            self.back -= count;
+            self.behind = lane;
+            return Some(element);
+        }
+        if self.ahead.len() > 0 {
+            self.front -= 1;
+            self.back -= 1;
+            return Some(self.ahead.take_last());
+        }
+        None
+    }
+}
