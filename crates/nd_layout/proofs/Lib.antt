@@ -3,6 +3,8 @@ pub mod Reaches
 pub mod Offsets
 pub mod AxisChange
 pub mod Totals
+pub mod TurnedLoop
+pub mod TwoAxes
 pub mod Permuted
 pub mod Bounds
 pub mod Removed

@@ -200,17 +200,27 @@ fn reverse<D: Dimension, T: StrideList>(dim: &mut D, strides: &mut T)
     ensures lengths { D.lengths dim.new ≡ reverse (D.lengths dim.old) }
     ensures strides { T.strides_of strides.new ≡ reverse (T.strides_of strides.old) }
 {
-    let (old_dim, old_strides) = (*dim, *strides);
-    let count = old_dim.ndim();
-    for k in 0..count {
-        dim.set_length(k, old_dim.length(count - 1 - k));
-        strides.set(k, old_strides.stride(count - 1 - k));
+    let count = dim.ndim();
+    for k in 0..count / 2 {
+        exchange(dim, strides, k, count - 1 - k);
     }
 }
 
-/// Puts the axes of lengths and strides in another order.
+/// Puts two axes of lengths and strides in another order.
 #[inline]
-fn permute<D: Dimension, T: StrideList>(dim: &mut D, strides: &mut T, axes: &[usize])
+fn permute_two<D: Dimension, T: StrideList>(dim: &mut D, strides: &mut T, axes: &[usize])
+    requires as_many { length (T.strides_of strides.old) ≡ length (D.lengths dim.old) }
+    requires each { HasEachAxis axes.now (length (D.lengths dim.old)) }
+    requires two { length axes.now ≡ 2 }
+    ensures lengths { D.lengths dim.new ≡ permuted_list axes.now (D.lengths dim.old) }
+    ensures strides { T.strides_of strides.new ≡ permuted_ints axes.now (T.strides_of strides.old) }
+{
+    exchange(dim, strides, 0, axes[0]);
+}
+
+/// Puts any number of axes of lengths and strides in another order.
+#[inline]
+fn permute_each<D: Dimension, T: StrideList>(dim: &mut D, strides: &mut T, axes: &[usize])
     requires as_many { length (T.strides_of strides.old) ≡ length (D.lengths dim.old) }
     requires each { HasEachAxis axes.now (length (D.lengths dim.old)) }
     ensures lengths { D.lengths dim.new ≡ permuted_list axes.now (D.lengths dim.old) }
@@ -220,6 +230,21 @@ fn permute<D: Dimension, T: StrideList>(dim: &mut D, strides: &mut T, axes: &[us
     for k in 0..axes.len() {
         dim.set_length(k, old_dim.length(axes[k]));
         strides.set(k, old_strides.stride(axes[k]));
+    }
+}
+
+/// Puts the axes of lengths and strides in another order. Two axes are exchanged where they lie: nothing is copied.
+#[inline]
+fn permute<D: Dimension, T: StrideList>(dim: &mut D, strides: &mut T, axes: &[usize])
+    requires as_many { length (T.strides_of strides.old) ≡ length (D.lengths dim.old) }
+    requires each { HasEachAxis axes.now (length (D.lengths dim.old)) }
+    ensures lengths { D.lengths dim.new ≡ permuted_list axes.now (D.lengths dim.old) }
+    ensures strides { T.strides_of strides.new ≡ permuted_ints axes.now (T.strides_of strides.old) }
+{
+    if axes.len() == 2 {
+        permute_two(dim, strides, axes);
+    } else {
+        permute_each(dim, strides, axes);
     }
 }
 

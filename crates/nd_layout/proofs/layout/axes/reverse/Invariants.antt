@@ -1,8 +1,8 @@
-use Rattle.std.proofs.Common.{pos, reverse}
-use Rattle.nd_shape_and_slice.proofs.FillLoop.{IsFilledBelow}
+use Rattle.std.proofs.Common.{pos}
+use Rattle.nd_layout.proofs.TurnedLoop.{IsTurnedTo}
 use Rattle.nd_layout.proofs.layout.axes.reverse.Given as goal
 
 abbrev pub invariant-loop-k : goal.invariant-loop-k
 invariant-loop-k g l =
-    IsFilledBelow 0 (reverse (g.D.Dimension.lengths l.old_dim)) (g.D.Dimension.lengths l.dim) l.k
-    × IsFilledBelow (pos 0) (reverse (g.T.StrideList.strides_of l.old_strides)) (g.T.StrideList.strides_of l.strides) l.k
+    IsTurnedTo 0 (g.D.Dimension.lengths l.fn.dim) (g.D.Dimension.lengths l.dim) l.k
+    × IsTurnedTo (pos 0) (g.T.StrideList.strides_of l.fn.strides) (g.T.StrideList.strides_of l.strides) l.k

@@ -2,7 +2,7 @@ use Rattle.std.proofs.Common.{◌≡◌, ◌∙◌, arith, rules, sym, subst, le
 use Rattle.std.proofs.lemmas.Int.{to_z-of_z}
 use Rattle.nd_shape_and_slice.proofs.PermuteLoop.{IsPermutedBelow, permuted_none, permuted_more, permuted_all}
 use Rattle.nd_layout.proofs.Permuted.{axis_below}
-use Rattle.nd_layout.proofs.layout.axes.permute.Goals as goal
+use Rattle.nd_layout.proofs.layout.axes.permute_each.Goals as goal
 
 pub loop-k-init : goal.loop-k-init
 loop-k-init g c = (
