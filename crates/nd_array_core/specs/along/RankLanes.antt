@@ -1,5 +1,5 @@
 -- A lane of the last axis, by the row-major ranks of its elements.
-use Rattle.std.specs.Prelude.{◌≡◌, ◌+◌, ◌<◌, ℕ, [], ◌∷◌, Option, slice_get, slice_index}
+use Rattle.std.specs.Prelude.{◌≡◌, ◌+◌, ◌-◌, ◌*◌, ◌<◌, ℕ, List, [], ◌∷◌, Option, length, slice_get, slice_index, slice_index_or}
 use Rattle.nd_storage.specs.Meaning.{Meaning, row_major_elements}
 use Rattle.nd_array_core.specs.declared.along.lane_view.LaneView.{LaneView}
 use Rattle.nd_array_core.specs.along.AxisMaps.{lane_seen}
@@ -16,3 +16,7 @@ module _ {A : Type 0} (v : LaneView A) where
   -- its elements are those of a row-major list from a rank on
   abbrev pub ListsFrom : ℕ → Meaning A → Type 0
   ListsFrom from m = (k : ℕ) → k < lane_length → lane_element k ≡ slice_get (row_major_elements m) (from + k)
+
+  -- it is all of a lane of these lengths: as long as the last axis, or 1 without axes, and from a multiple of that on
+  abbrev pub IsWholeLane : ℕ → List ℕ → Type 0
+  IsWholeLane from lengths = (lane_length ≡ slice_index_or lengths (length lengths - 1) 1) × ((row : ℕ) × (from ≡ row * lane_length))
