@@ -1,5 +1,5 @@
 -- A lane of the last axis, by the row-major ranks of its elements.
-use Rattle.std.specs.Prelude.{◌≡◌, ◌+◌, ◌<◌, ◌+ℤ◌, ◌*ℤ◌, ℕ, ℤ, pos, [], ◌∷◌, Option, slice_get, slice_index}
+use Rattle.std.specs.Prelude.{◌≡◌, ◌+◌, ◌<◌, ◌+ℤ◌, ◌*ℤ◌, ℕ, ℤ, pos, [], ◌∷◌, Option, slice_get, slice_index, ◌-◌, ◌*◌, List, length, slice_index_or}
 use Rattle.nd_layout.specs.declared.lanes.Lane.{Lane}
 use Rattle.nd_layout.specs.Placements.{Placement}
 use Rattle.nd_layout.specs.Walk.{place_at_rank}
@@ -27,6 +27,10 @@ module _ {A : Type 0} (v : LaneView A) where
   -- the elements of another lane are its own from a number on
   abbrev pub GoesOnFrom : ℕ → LaneView A → Type 0
   GoesOnFrom from w = (k : ℕ) → k < slice_index (lane_seen w).shape 0 → (lane_seen w).at (k ∷ []) ≡ lane_element (from + k)
+
+  -- it is all of a lane of these lengths: as long as the last axis, or 1 without axes, and from a multiple of that on
+  abbrev pub IsWholeLane : ℕ → List ℕ → Type 0
+  IsWholeLane from lengths = (lane_length ≡ slice_index_or lengths (length lengths - 1) 1) × ((row : ℕ) × (from ≡ row * lane_length))
 
 -- the places of another lane are a lane's own from a number on
 abbrev pub LiesFrom : Lane → ℕ → Lane → Type 0

@@ -6,7 +6,7 @@ ghost use Rattle.nd_shape_and_slice.specs.Shape.{size_of};
 ghost use Rattle.nd_layout.specs.Placements.{placement_of};
 ghost use Rattle.nd_layout.specs.Walk.{IsLastAxis};
 ghost use Rattle.nd_array_core.specs.Meaning.{meaning_of, shape_of};
-ghost use Rattle.nd_array_core.specs.along.RankLanes.{rank_place, lane_length, lane_element, ListsFrom};
+ghost use Rattle.nd_array_core.specs.along.RankLanes.{rank_place, lane_length, lane_element, ListsFrom, IsWholeLane};
 
 use crate::along::lane_view::LaneView;
 use crate::base::array::ArrayBase;
@@ -66,6 +66,7 @@ impl<S: Data, D: Dimension> ArrayBase<S, D> {
         ensures upto { rank < result.1 + lane_length result.0 }
         ensures within { result.1 + lane_length result.0 ≤ size_of (shape_of self.now) }
         ensures elements { ListsFrom result.0 result.1 (meaning_of self.now) }
+        ensures whole { IsWholeLane result.0 result.1 (shape_of self.now) }
     {
         let (count, stride) = last_axis(self.layout.dim.slice(), self.layout.strides.slice());
         let from = rank - rank % count;

@@ -1,7 +1,7 @@
 //! New square matrices: identities, and diagonals with zeros around them.
 #![tactic(auto, unfolding(crate::specs::Meaning::meaning_of, crate::specs::Meaning::memory_layout_of))]
 
-ghost use Rattle.std.specs.Prelude.{◌≡◌, [], ◌∷◌, IfOk, Some, slice_index};
+ghost use Rattle.std.specs.Prelude.{◌≡◌, ◌<◌, [], ◌∷◌, IfOk, OnErr, Some, slice_index};
 ghost use Rattle.nd_shape_and_slice.specs.Shape.{HasCheckedSize};
 ghost use Rattle.nd_array_core.specs.Meaning.{shape_of, element_at};
 ghost use Rattle.nd_array_core.specs.Coordinates.{element_of_1};
@@ -36,6 +36,7 @@ impl<A: Clone + Zero> Array<A, Ix2> {
         requires zeros { ClonesAreEqual A.is_clone A.zero }
         ensures owns { IfOk result (OwnsSquare n) }
         ensures elements { IfOk result (ShowsOnDiagonal n (λ k. Some A.one) A.zero) }
+        ensures refused { OnErr result (0 < n) }
     {
         let mut eye = Array::zeros(alloc, (n, n))?;
         for k in 0..n {
@@ -56,6 +57,7 @@ impl<A: Clone + Zero> Array<A, Ix2> {
         requires clones { ClonesOfAllAreEqual A.is_clone (element_at diag.now) }
         ensures owns { IfOk result (OwnsSquare (slice_index (shape_of diag.now) 0)) }
         ensures elements { IfOk result (ShowsOnDiagonal (slice_index (shape_of diag.now) 0) (element_of_1 diag.now) A.zero) }
+        ensures refused { OnErr result (0 < slice_index (shape_of diag.now) 0) }
     {
         let n = diag.dim();
         let mut matrix = Array::zeros(alloc, (n, n))?;
@@ -73,6 +75,7 @@ impl<A: Clone + Zero> Array<A, Ix2> {
         requires clones { ClonesAreEqual A.is_clone elem }
         ensures owns { IfOk result (OwnsSquare n) }
         ensures elements { IfOk result (ShowsOnDiagonal n (λ k. Some elem) A.zero) }
+        ensures refused { OnErr result (0 < n) }
     {
         let mut matrix = Array::zeros(alloc, (n, n))?;
         for k in 0..n {

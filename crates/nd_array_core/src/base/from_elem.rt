@@ -46,6 +46,7 @@ impl<A, D: Dimension> Array<A, D> {
         ensures owns { IfOk result (OwnsInOrder (built_by Sh.ShapeBuilder shape)) }
         ensures stored { IfOk result (λ a. stored_list (storage_of a) ≡ replicate (size_of (Sh.builds_lengths shape)) elem) }
         ensures elements { IfOk result (ShowsOneValue (built_by Sh.ShapeBuilder shape) elem) }
+        ensures refused { OnErr result (0 < size_of (Sh.builds_lengths shape)) }
     {
         let shape = shape.into_shape_with_order();
         let items = repeated(alloc, elem, shape.size())?;
@@ -62,6 +63,7 @@ impl<A, D: Dimension> Array<A, D> {
         ensures owns { IfOk result (OwnsInOrder (built_by Sh.ShapeBuilder shape)) }
         ensures stored { IfOk result (λ a. stored_list (storage_of a) ≡ replicate (size_of (Sh.builds_lengths shape)) A.zero) }
         ensures elements { IfOk result (ShowsOneValue (built_by Sh.ShapeBuilder shape) A.zero) }
+        ensures refused { OnErr result (0 < size_of (Sh.builds_lengths shape)) }
     {
         Array::from_elem(alloc, shape, A::zero())
     }
@@ -76,6 +78,7 @@ impl<A, D: Dimension> Array<A, D> {
         ensures owns { IfOk result (OwnsInOrder (built_by Sh.ShapeBuilder shape)) }
         ensures stored { IfOk result (λ a. stored_list (storage_of a) ≡ replicate (size_of (Sh.builds_lengths shape)) A.one) }
         ensures elements { IfOk result (ShowsOneValue (built_by Sh.ShapeBuilder shape) A.one) }
+        ensures refused { OnErr result (0 < size_of (Sh.builds_lengths shape)) }
     {
         Array::from_elem(alloc, shape, A::one())
     }

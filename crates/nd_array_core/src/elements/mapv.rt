@@ -1,7 +1,7 @@
 //! New arrays of what a closure returns for a clone of each element.
 #![tactic(auto, unfolding(crate::specs::Meaning::meaning_of, crate::specs::Meaning::memory_layout_of))]
 
-ghost use Rattle.std.specs.Prelude.{◌≡◌, ◌<◌, ◌≤◌, [], IfOk, vec_len, vec_capacity};
+ghost use Rattle.std.specs.Prelude.{◌≡◌, ◌<◌, ◌≤◌, [], IfOk, OnErr, vec_len, vec_capacity};
 ghost use Rattle.nd_shape_and_slice.specs.Shape.{size_of};
 ghost use Rattle.nd_array_core.specs.Meaning.{shape_of, element_at, meaning_of};
 ghost use Rattle.nd_storage.specs.Clones.{ClonesOfAllAreEqual};
@@ -33,6 +33,7 @@ where
     requires callable { AskableOfAll (AnswersValue F.FnMut) (MayBeGiven F.FnMut) (meaning_of array.now) f }
     ensures shape { IfOk result (λ a. shape_of a ≡ shape_of array.now) }
     ensures visits { IfOk result (ShowsAnswers (AnswersValue F.FnMut) f array.now) }
+    ensures refused { OnErr result (0 < size_of (shape_of array.now)) }
 {
     let mut joined = array.layout.copied();
     joined.join_axes();
@@ -55,6 +56,7 @@ where
     requires callable { AskableOfAll (AnswersValue F.FnMut) (MayBeGiven F.FnMut) (meaning_of array.now) f }
     ensures shape { IfOk result (λ a. shape_of a ≡ shape_of array.now) }
     ensures visits { IfOk result (ShowsAnswers (AnswersValue F.FnMut) f array.now) }
+    ensures refused { OnErr result (0 < size_of (shape_of array.now)) }
 {
     let mut items = room;
     let _f = value_run(&mut items, run_elements(array), f)?;
@@ -80,6 +82,7 @@ where
         ensures shape { IfOk result (λ a. shape_of a ≡ shape_of self.now) }
         ensures visits { IfOk result (ShowsAnswers (AnswersValue F.FnMut) f self.now) }
         ensures alike { (h : _) → AnswersValuesBy F.FnMut h f → IfOk result (ShowsMapped h self.now) }
+        ensures refused { OnErr result (0 < size_of (shape_of self.now)) }
     {
         let room = room_of(alloc, self.len())?;
         if is_run(self.layout.dim.slice(), self.layout.strides.slice()) {

@@ -1,7 +1,7 @@
 //! Arrays of their own made of any array.
 #![tactic(auto, unfolding(crate::specs::Meaning::meaning_of, crate::specs::Meaning::memory_layout_of))]
 
-ghost use Rattle.std.specs.Prelude.{◌≡◌, ℕ, List, IfOk, IfErr, length, true, false, is_ok, slice_get, vec_capacity};
+ghost use Rattle.std.specs.Prelude.{◌≡◌, ℕ, List, IfOk, IfErr, length, true, false, is_ok, slice_get, vec_capacity, ◌<◌, OnErr};
 ghost use Rattle.nd_shape_and_slice.specs.Shape.{size_of};
 ghost use Rattle.nd_shape_and_slice.specs.declared.builder.Order.TheVariants.{RowMajor};
 ghost use Rattle.nd_layout.specs.Placements.{placement_of, KeepsApart};
@@ -67,6 +67,7 @@ where
     ensures shape { IfOk result (λ a. shape_of a ≡ shape_of array.now) }
     ensures elements { IfOk result (λ a. (i : List ℕ) → element_at a i ≡ element_at array.now i) }
     ensures run { IfOk result (CopiesRun array.now) }
+    ensures refused { OnErr result (0 < size_of (shape_of array.now)) }
 {
     let items = clones_of(alloc, run_elements(array))?;
     let below = reach_below(array.layout.dim.slice(), array.layout.strides.slice());
@@ -85,6 +86,7 @@ where
     ensures elements { IfOk result (λ a. (i : List ℕ) → element_at a i ≡ element_at array.now i) }
     ensures owns { IfOk result (OwnsInOrder (shape_of array.now, RowMajor)) }
     ensures stored { IfOk result (StoresInRowMajorOrder array.now) }
+    ensures refused { OnErr result (0 < size_of (shape_of array.now)) }
 {
     let items = array.to_vec(alloc)?;
     Ok(of_items(items, array.raw_dim(), Order::RowMajor))
@@ -105,6 +107,7 @@ where
         ensures run { IsRunArray self.now → IfOk result (CopiesRun self.now) }
         ensures owns { (IsRunArray self.now → ⊥) → IfOk result (OwnsInOrder (shape_of self.now, RowMajor)) }
         ensures stored { (IsRunArray self.now → ⊥) → IfOk result (StoresInRowMajorOrder self.now) }
+        ensures refused { OnErr result (0 < size_of (shape_of self.now)) }
     {
         if is_run(self.layout.dim.slice(), self.layout.strides.slice()) {
             run_to_owned(alloc, self)
@@ -164,6 +167,7 @@ where
         ensures room { S.owned ≡ true → IfOk result (λ a. room_of (storage_of a) ≡ S.room (storage_of self)) }
         ensures run { S.owned ≡ false → IsRunArray self → IfOk result (CopiesRun self) }
         ensures owns { S.owned ≡ false → (IsRunArray self → ⊥) → IfOk result (OwnsInOrder (shape_of self, RowMajor)) }
+        ensures refused { OnErr result (0 < size_of (shape_of self)) }
     {
         match self.try_into_owned_nocopy() {
             Ok(array) => Ok(array),

@@ -82,6 +82,7 @@ where
         requires clones { ClonesOfAllAreEqual S.Elem.is_clone (element_at self.now) }
         ensures items { IfOk result (λ v. v.items ≡ row_major_elements (meaning_of self.now)) }
         ensures count { IfOk result (λ v. vec_len v ≡ size_of (shape_of self.now)) }
+        ensures refused { OnErr result (0 < size_of (shape_of self.now)) }
     {
         match self.as_slice() {
             Some(xs) => clones_of(alloc, xs),

@@ -12,9 +12,11 @@ pub fn repeated<A: Clone>(alloc: Global, elem: A, count: usize) -> Result<Vec<A>
     requires { ClonesAreEqual A.is_clone elem }
     ensures items { IfOk result (λ v. v.items ≡ replicate count elem) }
     ensures count { IfOk result (λ v. vec_len v ≡ count) }
+    ensures refused { OnErr result (0 < count) }
 {
     match Vec::from_elem(alloc, elem, count) {
         Ok(items) => Ok(items),
+        Err(_) if count == 0 => Ok(Vec::new(alloc)),
         Err(_) => Err(NoMemory),
     }
 }

@@ -19,9 +19,11 @@ pub fn clones_of<A: Clone>(alloc: Global, xs: &[A]) -> Result<Vec<A>, NoMemory>
     requires { StoredClonesAreEqual A.is_clone xs.now }
     ensures items { IfOk result (λ v. v.items ≡ xs.now) }
     ensures count { IfOk result (λ v. vec_len v ≡ length xs.now) }
+    ensures refused { OnErr result (0 < length xs.now) }
 {
     match Vec::from_clones(alloc, xs) {
         Ok(items) => Ok(items),
+        Err(_) if xs.is_empty() => Ok(Vec::new(alloc)),
         Err(_) => Err(NoMemory),
     }
 }

@@ -1,7 +1,7 @@
-use Rattle.std.proofs.Common.{◌≡◌, ℕ, ◌+◌, ◌-◌, ◌%◌, ◌<◌, true, ap, sym, subst, ◌∙◌, arith, rules, w64, FitsSigned, pos, ℤ}
+use Rattle.std.proofs.Common.{◌≡◌, ◌-◌, ◌*◌, ◌/◌, ◌%◌, ap, sym, ◌∙◌, arith, rules, w64, FitsSigned}
 use Rattle.std.specs.Prelude.{is_some}
 use Rattle.std.proofs.lemmas.Int.{to_z-of_z}
-use Rattle.std.proofs.lemmas.Nat.{mod_below}
+use Rattle.std.proofs.lemmas.Nat.{div-add-mod', mod_below}
 use Rattle.nd_storage.specs.Collected.{stored_along}
 use Rattle.nd_storage.specs.Storages.{shown_by}
 use Rattle.nd_array_core.specs.Meaning.{meaning_of}
@@ -106,3 +106,14 @@ returns-clause-elements g c k below =
     ∙ rank_listed (g.S.Data.stored array.storage) layout.offset ns ss (c.args.rank - c.args.rank % count) count stride
     (lane_of_rank layout.offset ns ss layout.as_many count stride last c.args.rank c.requires)
     c.place_of_rank.result c.place_of_rank.ensures array.inside k (let long = shown.lane.1 in let same = lies.1 in omega (arith, below, long, same))
+
+pub returns-clause-whole : goal.returns-clause-whole
+unfolding meaning_of lane_seen
+returns-clause-whole g c =
+    let last = rw (c.slice.ensures.lengths, c.slice-2.ensures) at c.last_axis-count.ensures in
+    let rank = c.args.rank in
+    let count = c.last_axis-count.result.0 in
+    let long = c.over.ensures.lane.1 ∙ c.lane_from-lane.ensures.lane.1 in
+    let parts = div-add-mod' rank count in
+    let from : rank - rank % count ≡ rank / count * count = omega (arith, parts) in
+    (long ∙ last.0, (rank / count, from ∙ ap (λ m. rank / count * m) (sym long)))

@@ -1,4 +1,5 @@
-use Rattle.std.proofs.Common.{◌≡◌, ◌-◌, ◌∙◌, ◌⊎◌, sym, subst, IfOk}
+use Rattle.std.proofs.Common.{◌≡◌, ◌-◌, ◌∙◌, ◌⊎◌, ◌<◌, sym, subst, IfOk}
+use Rattle.std.specs.Prelude.{OnErr}
 use Rattle.std.proofs.lemmas.Result.{IfOk-weaker}
 use Rattle.nd_shape_and_slice.specs.Shape.{size_of}
 use Rattle.nd_shape_and_slice.specs.declared.builder.Order.TheVariants.{RowMajor}
@@ -24,3 +25,6 @@ returns-in-Err-clause-owns g c _ scattered =
     let whole = c.in-Err.ensures.kept.0 in
     let scattered_left = λ (run : (size_of (shape_of c.in-Err.array) ≡ 0) ⊎ IsRun (shape_of c.in-Err.array) (layout_strides c.in-Err.array)). scattered (rw (sym whole.0, sym whole.1) run) in
     subst (λ ns. IfOk c.to_owned.result (OwnsInOrder (ns, RowMajor))) whole.0 (c.to_owned.ensures.owns scattered_left)
+
+pub returns-in-Err-clause-refused : goal.returns-in-Err-clause-refused
+returns-in-Err-clause-refused g c = subst (λ ns. OnErr c.to_owned.result (0 < size_of ns)) c.in-Err.ensures.kept.0.0 c.to_owned.ensures.refused

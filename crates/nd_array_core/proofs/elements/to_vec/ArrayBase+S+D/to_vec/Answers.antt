@@ -1,6 +1,11 @@
-use Rattle.std.proofs.Common.{◌≡◌, ◌∙◌, ap, sym, subst, length, IfOk}
-use Rattle.std.specs.Prelude.{vec_len}
-use Rattle.nd_array_core.specs.Meaning.{meaning_of}
+use Rattle.std.proofs.Common.{◌≡◌, ◌∙◌, ◌<◌, ℕ, ℤ, List, ap, sym, subst, length, arith, IfOk}
+use Rattle.std.specs.Prelude.{Result, Ok, Err, OnErr, vec_len}
+use Rattle.std.proofs.lemmas.Bool.{false≢true}
+use Rattle.nd_shape_and_slice.specs.Shape.{size_of}
+use Rattle.nd_shape_and_slice.proofs.RowMajor.{row_rank_below}
+use Rattle.nd_layout.specs.Ranks.{IsStandard}
+use Rattle.nd_layout.proofs.steps.AxisStep.{positive}
+use Rattle.nd_array_core.specs.Meaning.{meaning_of, shape_of, layout_strides}
 use Rattle.nd_storage.specs.Clones.{StoredClonesAreEqual}
 use Rattle.nd_storage.proofs.Collecting.{elements_equal_clones, elements_count}
 use Rattle.nd_array_core.proofs.elements.to_vec.ArrayBase+S+D.to_vec.Goals as goal
@@ -17,3 +22,24 @@ returns-in-Some-clause-count g c =
     subst (λ n. IfOk c.clones_of.result (λ v. vec_len v ≡ n))
     (ap length c.in-Some.ensures.elements ∙ elements_count (g.S.Data.stored array.storage) array.layout.offset (g.D.Dimension.lengths array.layout.dim) (g.D.Strides.StrideList.strides_of array.layout.strides) array.inside)
     c.clones_of.ensures.count
+
+pub returns-in-Some-clause-refused : goal.returns-in-Some-clause-refused
+unfolding meaning_of
+returns-in-Some-clause-refused g c =
+    let array = c.args.self.now in
+    subst (λ n. OnErr c.clones_of.result (0 < n))
+    (ap length c.in-Some.ensures.elements ∙ elements_count (g.S.Data.stored array.storage) array.layout.offset (g.D.Dimension.lengths array.layout.dim) (g.D.Strides.StrideList.strides_of array.layout.strides) array.inside)
+    c.clones_of.ensures.refused
+
+-- there is an element where the layout isn't standard
+some_scattered : (ns : List ℕ) (ss : List ℤ) → (IsStandard ns ss → ⊥) → 0 < size_of ns
+some_scattered ns ss scattered = positive (size_of ns) (λ none. scattered (λ i inside. absurd (let below = row_rank_below ns i inside in omega (arith, below, none))))
+
+on_err : {X E : Type 0} {P : Type 0} (r : Result X E) → P → OnErr r P
+on_err (Ok x) p = tt
+on_err (Err e) p = p
+
+pub returns-in-None-clause-refused : goal.returns-in-None-clause-refused
+returns-in-None-clause-refused g c =
+    let array = c.args.self.now in
+    on_err c.listed_by_lanes.result (some_scattered (shape_of array) (layout_strides array) (λ standard. false≢true (c.in-None.ensures.some.1 standard)))
