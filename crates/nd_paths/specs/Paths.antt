@@ -1,5 +1,5 @@
 -- Tasks on the part of an array that a path leads to, and on the two halves of a split: what they do, over meanings alone.
-use Rattle.std.specs.Prelude.{◌≡◌, ℕ, List, Option, None, Some, Result, Ok, Err}
+use Rattle.std.specs.Prelude.{◌≡◌, ℕ, ℤ, List, Option, None, Some, Result, Ok, Err}
 use Rattle.nd_shape_and_slice.specs.Maps.{lower_shape, upper_shape, upper_index}
 use Rattle.nd_shape_and_slice.specs.declared.dimension.Dimension as dimension
 use Rattle.nd_shape_and_slice.specs.declared.dimension.AxisCount as axis_count
@@ -8,7 +8,10 @@ use Rattle.nd_storage.specs.declared.storage.Data as data_trait
 use Rattle.nd_array_core.specs.declared.base.array.ArrayBase.{ArrayBase}
 use Rattle.nd_array_core.specs.Meaning.{Meaning, inside, meaning_through, shape_of, storage_of, place_at}
 use Rattle.nd_array_core.specs.PlacedArray.{PlacedArray, element_placed, left_at}
-use Rattle.nd_array_core.specs.scoped.Tasks.{OthersKeep}
+use Rattle.nd_array_core.specs.scoped.Tasks.{OthersKeep, lent_view, view_left}
+use Rattle.nd_array_core.specs.declared.scoped.with_view_mut.LentView.{LentView}
+use Rattle.nd_region.specs.declared.region.Region.{Region}
+use Rattle.nd_storage.specs.declared.storage.RegionRepr.{RegionRepr}
 
 -- a path: the cause for which an array of these lengths refuses it, if it does; the lengths at its end; and the index of the
 -- array that an index at its end names
@@ -52,9 +55,33 @@ meaning_in v = record { shape = v.shape; at = element_placed v }
 abbrev pub meaning_left : {A : Type 0} → PlacedArray A → PlacedArray A → Meaning A
 meaning_left v w = record { shape = v.shape; at = left_at v w }
 
+-- the task is done along a path of what lies so, which is left as w
+abbrev pub IsDoneAlongPlaced : {A E Q : Type 0} → PathMap E → (Meaning A → Meaning A → Q → Type 0) → PlacedArray A → PlacedArray A → Result Q E → Type 0
+IsDoneAlongPlaced p done v w answer = IsDoneAlong p done (meaning_in v) (meaning_left v w) answer
+
 -- the places of an array that lies so
 abbrev pub places_in : {A : Type 0} → PlacedArray A → Meaning ℕ
 places_in v = record { shape = v.shape; at = v.place }
+
+-- ---- a view as it is lent, by the words of its dimension for lengths and strides
+module _ {A D T : Type 0} (lengths : D → List ℕ) (strides : T → List ℤ) where
+  -- what it means, and what it means once its elements are those of a storage that is given back
+  abbrev pub lent_meaning : LentView A D T → Meaning A
+  lent_meaning l = meaning_in (lent_view lengths strides l)
+
+  abbrev pub given_back : LentView A D T → RegionRepr (Region A) → Meaning A
+  given_back l s = meaning_left (lent_view lengths strides l) (view_left lengths strides l s)
+
+  -- the task is done along a path of the view, which gave its storage back, and answered
+  abbrev pub IsDoneAlongView : {E Q : Type 0} → PathMap E → (Meaning A → Meaning A → Q → Type 0) → LentView A D T → RegionRepr (Region A) × Result Q E → Type 0
+  IsDoneAlongView p done l out = IsDoneAlong p done (lent_meaning l) (given_back l out.0) out.1
+
+  -- what a task asks holds of two views; it is done with them, which gave their storages back, and answered
+  abbrev pub AsksOfViews : (Meaning A → Meaning A → Type 0) → LentView A D T → LentView A D T → Type 0
+  AsksOfViews asks one two = asks (lent_meaning one) (lent_meaning two)
+
+  abbrev pub IsDoneWithViews : {Q : Type 0} → (Meaning A → Meaning A → Meaning A → Meaning A → Q → Type 0) → LentView A D T → LentView A D T → RegionRepr (Region A) × RegionRepr (Region A) × Q → Type 0
+  IsDoneWithViews done one two out = done (lent_meaning one) (lent_meaning two) (given_back one out.0) (given_back two out.1) out.2
 
 module _ {S D A T P R L M : Type 0} {s : data_trait.Ghosts S A} {d : dimension.Ghosts D P R L M} {n : axis_count.Ghosts D} {r : stride_list.Ghosts R} {t : stride_list.Ghosts T} where
   -- b lies in what a lies in

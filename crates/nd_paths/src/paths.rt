@@ -5,8 +5,8 @@
 ghost use Rattle.std.specs.Prelude.{◌≡◌, ◌≤◌, ◌<◌, ℕ, None, List, length, slice_index};
 ghost use Rattle.nd_array_core.specs.Meaning.{Meaning, shape_of, meaning_of, storage_of, placed_array};
 ghost use Rattle.nd_array_core.specs.base.Writes.{KeepsFrame};
-ghost use Rattle.nd_array_core.specs.scoped.Tasks.{view_frame, lent_frame, lent_view, view_left, CanBeSeen};
-ghost use Rattle.nd_paths.specs.Paths.{PathMap, AsksAlong, IsDoneAlong, AsksOfTwo, IsDoneWithTwo, meaning_in, meaning_left, LiesWith, EndsAlong};
+ghost use Rattle.nd_array_core.specs.scoped.Tasks.{view_frame, lent_frame, CanBeSeen};
+ghost use Rattle.nd_paths.specs.Paths.{PathMap, AsksAlong, IsDoneAlong, IsDoneAlongPlaced, IsDoneAlongView, AsksOfTwo, AsksOfViews, IsDoneWithTwo, IsDoneWithViews, lent_meaning, meaning_in, meaning_left, LiesWith, EndsAlong};
 
 use nd_array_core::laws::{distinct_places, elements_have_places};
 use nd_array_core::scoped::{LentView, PairTask, ViewTask};
@@ -78,7 +78,7 @@ fn run_along<S: DataMut, P: ArrayPath, K: ArrayTask<S::Elem>>(
 ) -> (ArrayBase<S, IxDyn>, Result<K::Answer, P::Refusal>)
     requires { AsksAlong (P.leads path) (K.pre task) (meaning_in (placed_array array)) }
     ensures frame { S.frame (storage_of result.0) ≡ S.frame (storage_of array) }
-    ensures done { IsDoneAlong (P.leads path) (K.post task) (meaning_in (placed_array array)) (meaning_left (placed_array array) (placed_array result.0)) result.1 }
+    ensures done { IsDoneAlongPlaced (P.leads path) (K.post task) (placed_array array) (placed_array result.0) result.1 }
 {
     distinct_places(&array);
     let (mut end, refused) = path.follow(array);
@@ -105,16 +105,16 @@ impl<A, D: Dimension, P: ArrayPath, K: ArrayTask<A>> ViewTask<A, D> for Along<P,
 
     ghost pre = { λ both v. AsksAlong (P.leads both.path) (K.pre both.task) (meaning_in v) };
 
-    ghost post = { λ both v w answer. IsDoneAlong (P.leads both.path) (K.post both.task) (meaning_in v) (meaning_left v w) answer };
+    ghost post = { λ both v w answer. IsDoneAlongPlaced (P.leads both.path) (K.post both.task) v w answer };
 
     fn run(
         self,
         lent: LentView<'_, A, D, D::Strides>,
     ) -> (ViewMutRepr<'_, A>, Result<K::Answer, P::Refusal>)
         requires sound { CanBeSeen D.lengths D.Strides.strides_of lent }
-        requires pre { AsksAlong (P.leads self.path) (K.pre self.task) (meaning_in (lent_view D.lengths D.Strides.strides_of lent)) }
+        requires pre { AsksAlong (P.leads self.path) (K.pre self.task) (lent_meaning D.lengths D.Strides.strides_of lent) }
         ensures frame { view_frame result.0 ≡ lent_frame lent.entry }
-        ensures done { IsDoneAlong (P.leads self.path) (K.post self.task) (meaning_in (lent_view D.lengths D.Strides.strides_of lent.entry)) (meaning_left (lent_view D.lengths D.Strides.strides_of lent.entry) (view_left D.lengths D.Strides.strides_of lent.entry result.0)) result.1 }
+        ensures done { IsDoneAlongView D.lengths D.Strides.strides_of (P.leads self.path) (K.post self.task) lent.entry result }
     {
         let view = lent.into_view().into_dyn();
         elements_have_places(&view);
@@ -143,10 +143,10 @@ impl<A, D: Dimension, K: PairOfArraysTask<A>> PairTask<A, D, D> for Halves<K> {
     ) -> (ViewMutRepr<'b, A>, ViewMutRepr<'b, A>, K::Answer)
         requires one { CanBeSeen D.lengths D.Strides.strides_of one }
         requires two { CanBeSeen D.lengths D.Strides.strides_of two }
-        requires pre { K.pre self.task (meaning_in (lent_view D.lengths D.Strides.strides_of one)) (meaning_in (lent_view D.lengths D.Strides.strides_of two)) }
+        requires pre { AsksOfViews D.lengths D.Strides.strides_of (K.pre self.task) one two }
         ensures one_frame { view_frame result.0 ≡ lent_frame one.entry }
         ensures two_frame { view_frame result.1 ≡ lent_frame two.entry }
-        ensures done { K.post self.task (meaning_in (lent_view D.lengths D.Strides.strides_of one.entry)) (meaning_in (lent_view D.lengths D.Strides.strides_of two.entry)) (meaning_left (lent_view D.lengths D.Strides.strides_of one.entry) (view_left D.lengths D.Strides.strides_of one.entry result.0)) (meaning_left (lent_view D.lengths D.Strides.strides_of two.entry) (view_left D.lengths D.Strides.strides_of two.entry result.1)) result.2 }
+        ensures done { IsDoneWithViews D.lengths D.Strides.strides_of (K.post self.task) one.entry two.entry result }
     {
         let mut lower = one.into_view().into_dyn();
         let mut upper = two.into_view().into_dyn();

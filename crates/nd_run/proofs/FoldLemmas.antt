@@ -11,7 +11,7 @@ use Rattle.nd_run.specs.Calls.{AskedStep, Asking, Asked, About, Said, SaidDone, 
 use Rattle.nd_run.specs.Steps.{Test, first_failed, tests_of, refusal, unless, step_shape, step_index, shape_along, index_along}
 use Rattle.nd_run.specs.Acts.{path_tests, meaning_at_end}
 use Rattle.nd_run.specs.Written.{unless_refused, said_unless}
-use Rattle.nd_run.specs.Fold.{LeadsAlong, step_result, answer_to, answer_or_refusal, number_of, question_tests, answers_in_memory, look_refusal, CarriesOut, tests_for, done, outcome, given_by, reply_to}
+use Rattle.nd_run.specs.Fold.{LeadsAlong, step_result, answer_to, answer_or_refusal, number_of, question_tests, answers_in_memory, look_refusal, IsCarriedOutOrLacks, tests_for, done, outcome, given_by, reply_to}
 
 -- ---- tests before others
 
@@ -106,6 +106,6 @@ module _ {A : Type 0} where
 
     -- at the path's end it was answered or refused, or memory was lacking
     pub answered : {E : Type 0} (n : Meaning A) (r : Result (Reply A) E) → look_refusal path m.shape ≡ None → n ≡ meaning_at_end path m → IfOk r (λ reply. said_reply reply ≡ answer_or_refusal eq question n)
-        → OnErr r ((first_failed (question_tests question n.shape) ≡ None) × (answers_in_memory question ≡ true)) → CarriesOut eq (About path question) m m r
+        → OnErr r ((first_failed (question_tests question n.shape) ≡ None) × (answers_in_memory question ≡ true)) → IsCarriedOutOrLacks eq (About path question) m m r
     answered n (Ok reply) h e is lacks = asked_is (said_reply reply) (is ∙ answer_is n h e)
     answered n (Err error) h e is lacks = (sym (ap (λ (s : Meaning A). first_failed (question_tests question s.shape)) e ∙ ask_decides h) ∙ lacks.0, lacks.1)

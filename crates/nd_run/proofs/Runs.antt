@@ -4,7 +4,7 @@ use Rattle.std.proofs.lemmas.List.{take_more, take_all, take-append-drop, length
 use Rattle.std.specs.Prelude.{IfErr}
 use Rattle.nd_array_core.specs.Meaning.{Meaning}
 use Rattle.nd_run.specs.Calls.{Asked, Said}
-use Rattle.nd_run.specs.Fold.{reply_to, meaning_after, replies_to, end_of, MayLackMemory, StopsAt, StopsBefore, KeepsReplies, replies_before}
+use Rattle.nd_run.specs.Fold.{reply_to, meaning_after, replies_to, end_of, LacksOnlyMemory, StopsAt, StopsBefore, KeepsReplies, replies_before}
 use Rattle.nd_run.specs.declared.run.RunFault.{RunFault}
 
 module _ {A : Type 0} (eq : A → A → Bool) where
@@ -38,10 +38,10 @@ module _ {A : Type 0} (eq : A → A → Bool) where
       let whole : take k calls ≡ calls = take_all k calls h in
       (all.replied ∙ ap (λ t. replies_to eq t start) whole, all.left ∙ ap (λ t. end_of eq t start) whole)
 
-  pub run_stops : (calls : List (Asked A)) (start array : Meaning A) (replies : List (Said A)) (k : ℕ) (call : Asked A) → k < length calls → get_or calls k call ≡ call → MayLackMemory call array → IsRunBelow calls start replies array k → StopsAt eq calls start replies
+  pub run_stops : (calls : List (Asked A)) (start array : Meaning A) (replies : List (Said A)) (k : ℕ) (call : Asked A) → k < length calls → get_or calls k call ≡ call → LacksOnlyMemory call array → IsRunBelow calls start replies array k → StopsAt eq calls start replies
   run_stops calls start array replies k call lt at lacks so_far =
       let cut : calls ≡ take k calls ++ call ∷ drop (k + 1) calls = sym (take-append-drop k calls) ∙ ap (λ t. take k calls ++ t) (rw (add-one, drop-cons calls k call) (ap (λ x. x ∷ drop (suc k) calls) at)) in
-      (take k calls, call, drop (k + 1) calls, cut, so_far.replied, subst (MayLackMemory call) so_far.left lacks)
+      (take k calls, call, drop (k + 1) calls, cut, so_far.replied, subst (LacksOnlyMemory call) so_far.left lacks)
 
   -- a run that stopped did so behind the replies that it has, whatever room their list has
   module _ {X : Type 0} (calls : List (Asked A)) (m : Meaning A) where

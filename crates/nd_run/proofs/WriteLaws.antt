@@ -1,6 +1,6 @@
 -- What a write leaves of an array's meaning: through a path, and on two arrays.
 use Rattle.std.proofs.Common.{◌≡◌, ℕ, Bool, true, false, List, Option, Some, None, Ok, Err, Result, refl, sym, ap, ◌∙◌, if◌then◌else◌}
-use Rattle.std.specs.Prelude.{is_some, ◌||◌, IfOk, OnErr}
+use Rattle.std.specs.Prelude.{is_some}
 use Rattle.nd_shape_and_slice.specs.Shape.{in_box}
 use Rattle.nd_array_core.specs.Meaning.{Meaning, inside}
 use Rattle.nd_array_core.specs.scoped.Tasks.{OthersKeep}
@@ -8,7 +8,7 @@ use Rattle.nd_paths.specs.Paths.{IsDoneAlong}
 use Rattle.nd_run.specs.declared.cause.Cause.{Cause}
 use Rattle.nd_run.specs.Calls.{AskedStep, Acting}
 use Rattle.nd_run.specs.Steps.{keep_tests, shape_along, index_along}
-use Rattle.nd_run.specs.Acts.{act_tests, act_refusal, path_tests, path_refusal, write_refusal, meaning_at_end, leading_to, new_or_old, written, clones, parts_refusal}
+use Rattle.nd_run.specs.Acts.{act_tests, act_refusal, path_tests, path_refusal, write_refusal, meaning_at_end, leading_to, new_or_old, written, parts_refusal}
 use Rattle.nd_run.specs.Written.{acted_elements_unless, written_path, Acts, ActsOnTwo, WritesThrough, as_one}
 use Rattle.nd_run.proofs.FoldLemmas.{tests_pass, tests_fail, same_meaning}
 use Rattle.nd_run.proofs.Indexes.{leads_here, leads_nowhere}
@@ -21,11 +21,14 @@ module _ {A : Type 0} where
   acts_refused act m None some e = absurd cc
   acts_refused act m (Some cause) some e = (e, λ i. refl)
 
-  pub both_act : {E : Type 0} (first second : Acting A) (lower upper lower' upper' : Meaning A) (answer : Result (Option Cause) E)
-      → IfOk answer (λ r. r ≡ parts_refusal first second lower.shape upper.shape) → IfOk answer (λ r. (i : List ℕ) → lower'.at i ≡ acted_elements_unless r first lower i) → IfOk answer (λ r. (i : List ℕ) → upper'.at i ≡ acted_elements_unless r second upper i)
-      → OnErr answer (parts_refusal first second lower.shape upper.shape ≡ None) → OnErr answer ((clones first || clones second) ≡ true) → ActsOnTwo first second lower upper lower' upper' answer
-  both_act first second lower upper lower' upper' (Ok r) refused is is' free clones = (refused, is, is')
-  both_act first second lower upper lower' upper' (Err error) refused is is' free clones = (free, clones)
+  -- where there is a cause against one of two acts, neither changes anything
+  pub both_refused : (first second : Acting A) (lower upper : Meaning A) (r : Option Cause) → is_some r ≡ true → r ≡ parts_refusal first second lower.shape upper.shape → ActsOnTwo {E = Unit {0}} first second lower upper lower upper (Ok r)
+  both_refused first second lower upper None some e = absurd cc
+  both_refused first second lower upper (Some cause) some e = (e, λ i. refl, λ i. refl)
+
+  -- two acts that nothing is against
+  pub both_allowed : (first second : Acting A) (lower upper : Meaning A) → act_refusal first lower.shape ≡ None → act_refusal second upper.shape ≡ None → parts_refusal first second lower.shape upper.shape ≡ None
+  both_allowed first second lower upper free free' = tests_pass (act_tests first lower.shape) (act_tests second upper.shape) free ∙ free'
 
 -- ---- an act at the end of a path
 

@@ -108,6 +108,14 @@ module _ {A T : Type 0} (held : T → Meaning A) where
   acting (acts.Set index value) = Setting index.items value
   acting (acts.Swap a b) = Swapping a.items b.items
 
+  -- an act and another
+  abbrev pub acting_both : Act A T × Act A T → Acting A × Acting A
+  acting_both both = (acting both.0, acting both.1)
+
+  -- a split, and an act on each of its two parts
+  abbrev pub asked_split : ℕ → ℕ → Act A T → Act A T → Asked A
+  asked_split axis index first second = SplitWriting axis index (acting first) (acting second)
+
   abbrev pub asking : Question A T → Asking A
   asking questions.Shape = AskShape
   asking questions.Elements = AskElements
@@ -122,7 +130,7 @@ module _ {A T : Type 0} (held : T → Meaning A) where
   asked_call (calls.Keep step) = Keeping (asked_step step)
   asked_call (calls.Ask path question) = About (map asked_step path.items) (asking question)
   asked_call (calls.Write path act) = Writing (map asked_step path.items) (acting act)
-  asked_call (calls.SplitWrite axis index first second) = SplitWriting axis index (acting first) (acting second)
+  asked_call (calls.SplitWrite axis index first second) = asked_split axis index first second
   asked_call (calls.Select axis indexes) = Selecting axis indexes.items
   asked_call (calls.RemoveIndex axis index) = Removing axis index
   asked_call (calls.Reshape lengths order) = Reshaping lengths.items order
@@ -132,6 +140,10 @@ module _ {A T : Type 0} (held : T → Meaning A) where
   asked_call (calls.Concatenate axis others) = Concatenating axis (map held others.items)
   asked_call (calls.Stack axis others) = Stacking axis (map held others.items)
 
+  -- what is asked by a list of calls
+  abbrev pub asked_calls : List (Call A T) → List (Asked A)
+  asked_calls calls = map asked_call calls
+
 abbrev pub said_reply : {A : Type 0} → Reply A → Said A
 said_reply replies.Done = SaidDone
 said_reply (replies.Refused cause) = SaidRefused cause
@@ -140,3 +152,7 @@ said_reply (replies.Elements lengths elements) = SaidElements lengths.items elem
 said_reply (replies.Element element) = SaidElement element
 said_reply (replies.Truth truth) = SaidTruth truth
 said_reply (replies.Number number) = SaidNumber number
+
+-- what is said by a list of replies
+abbrev pub said_replies : {A : Type 0} → List (Reply A) → List (Said A)
+said_replies replies = map said_reply replies

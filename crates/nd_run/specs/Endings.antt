@@ -1,9 +1,9 @@
 -- How a script ends, what is written then, and the status.
-use Rattle.std.specs.Prelude.{◌≡◌, ◌<◌, length, ℕ, ℤ, Bool, true, false, List, [], ◌++◌, map, Result, Ok, Err, ◌⊎◌, codes, if◌then◌else◌}
+use Rattle.std.specs.Prelude.{◌≡◌, ◌<◌, length, ℕ, ℤ, Bool, true, false, List, [], ◌++◌, Result, Ok, Err, ◌⊎◌, codes, if◌then◌else◌}
 use Rattle.std.specs.Fmt.{decimal}
 use Rattle.nd_run.specs.declared.outcome.Outcome.{Outcome}
 use Rattle.nd_run.specs.declared.outcome.Outcome.TheVariants as outcomes
-use Rattle.nd_run.specs.Calls.{Said, said_reply}
+use Rattle.nd_run.specs.Calls.{Said, said_replies}
 use Rattle.nd_run.specs.Script.{AskedScript, IsScript, IsFirstBad}
 use Rattle.nd_run.specs.Text.{replies_text, array_text}
 use Rattle.nd_text.specs.Words.{lines_of}
@@ -18,7 +18,7 @@ pub data Ending : Type 0 where
 
 abbrev pub ending : Outcome → Ending
 ending (outcomes.BadLine number) = BadAt number
-ending (outcomes.Memory replies) = OutOfMemory (map said_reply replies.items)
+ending (outcomes.Memory replies) = OutOfMemory (said_replies replies.items)
 ending outcomes.ReadFailed = NoInput
 
 -- what is written

@@ -11,7 +11,7 @@ use Rattle.nd_array_core.specs.Joined.{row_major_elements, concatenated, concate
 use Rattle.nd_array_core.specs.Laws.{with_axis_inserted}
 use Rattle.nd_array_core.specs.growth.InTurn.{lengths_along}
 use Rattle.nd_stacking.specs.Stacking.{followed_by, is_alike_but}
-use Rattle.nd_run.specs.Calls.{AskedStep, Asking, AskShape, AskElements, AskElement, AskFirst, AskLast, AskEqual, AskCount, AskReshaped, Asked, Keeping, About, Writing, SplitWriting, Selecting, Removing, Reshaping, Appending, Reserving, Concatenating, Stacking, Said, SaidDone, SaidRefused, SaidShape, SaidElements, SaidElement, SaidTruth, SaidNumber, said_reply}
+use Rattle.nd_run.specs.Calls.{AskedStep, Asking, AskShape, AskElements, AskElement, AskFirst, AskLast, AskEqual, AskCount, AskReshaped, Asked, Keeping, About, Writing, SplitWriting, Selecting, Removing, Reshaping, Appending, Reserving, Concatenating, Stacking, Said, SaidDone, SaidRefused, SaidShape, SaidElements, SaidElement, SaidTruth, SaidNumber, said_reply, said_replies}
 use Rattle.std.specs.Prelude.{map, nat_eq}
 use Rattle.std.specs.Cmp.Lexicographic.{pointwise}
 use Rattle.std.specs.List.{count_by, insert, list_all}
@@ -203,18 +203,18 @@ reply_to eq call m = (given_by (outcome eq call m) m).0
 abbrev pub meaning_after : {A : Type 0} → (A → A → Bool) → Asked A → Meaning A → Meaning A
 meaning_after eq call m = (given_by (outcome eq call m) m).1
 
--- a call that may lack memory: it isn't refused, and it takes some
-abbrev pub MayLackMemory : {A : Type 0} → Asked A → Meaning A → Type 0
-MayLackMemory call m = (first_failed (tests_for call m.shape) ≡ None) × (takes_memory call ≡ true)
+-- a call that lacks nothing but memory: it isn't refused, and it takes some
+abbrev pub LacksOnlyMemory : {A : Type 0} → Asked A → Meaning A → Type 0
+LacksOnlyMemory call m = (first_failed (tests_for call m.shape) ≡ None) × (takes_memory call ≡ true)
 
 -- the code carried out a call: its reply, and what it made of m, are those of the call
 abbrev pub IsCarriedOut : {A : Type 0} → (A → A → Bool) → Asked A → Meaning A → Meaning A → Reply A → Type 0
 IsCarriedOut {A = A} eq call m n reply = ◌≡◌ {A = Said A × Meaning A} (said_reply reply, n) (given_by (outcome eq call m) m)
 
 -- so it did, or lacked memory
-abbrev pub CarriesOut : {A E : Type 0} → (A → A → Bool) → Asked A → Meaning A → Meaning A → Result (Reply A) E → Type 0
-CarriesOut eq call m n (Ok reply) = IsCarriedOut eq call m n reply
-CarriesOut eq call m n (Err error) = MayLackMemory call m
+abbrev pub IsCarriedOutOrLacks : {A E : Type 0} → (A → A → Bool) → Asked A → Meaning A → Meaning A → Result (Reply A) E → Type 0
+IsCarriedOutOrLacks eq call m n (Ok reply) = IsCarriedOut eq call m n reply
+IsCarriedOutOrLacks eq call m n (Err error) = LacksOnlyMemory call m
 
 abbrev pub replies_to : {A : Type 0} → (A → A → Bool) → List (Asked A) → Meaning A → List (Said A)
 replies_to eq [] m = []
@@ -224,11 +224,15 @@ abbrev pub end_of : {A : Type 0} → (A → A → Bool) → List (Asked A) → M
 end_of eq [] m = m
 end_of eq (call ∷ calls) m = end_of eq calls (meaning_after eq call m)
 
--- the replies to a front of the calls, whose next one may lack memory
+-- the code's replies are those to the calls
+abbrev pub AreRepliesTo : {A : Type 0} → (A → A → Bool) → List (Asked A) → Meaning A → List (Reply A) → Type 0
+AreRepliesTo eq calls m replies = said_replies replies ≡ replies_to eq calls m
+
+-- the replies to a front of the calls, whose next one lacks nothing but memory
 abbrev pub StopsAt : {A : Type 0} → (A → A → Bool) → List (Asked A) → Meaning A → List (Said A) → Type 0
 StopsAt {A = A} eq calls m replies =
     (front : List (Asked A)) × (call : Asked A) × (rest : List (Asked A)) × (calls ≡ front ++ (call ∷ rest))
-    × (replies ≡ replies_to eq front m) × MayLackMemory call (end_of eq front m)
+    × (replies ≡ replies_to eq front m) × LacksOnlyMemory call (end_of eq front m)
 
 -- The replies up to a want of memory: these, or none where the list of replies was refused, which no calls don't ask for.
 abbrev pub StopsBefore : {A : Type 0} → (A → A → Bool) → List (Asked A) → Meaning A → List (Said A) → Type 0
@@ -236,7 +240,15 @@ StopsBefore eq calls m replies = ((0 < length calls) × (replies ≡ [])) ⊎ St
 
 -- the replies of a run that stopped
 abbrev pub replies_before : {A : Type 0} → RunFault A → List (Said A)
-replies_before (faults.Memory replies) = map said_reply replies.items
+replies_before (faults.Memory replies) = said_replies replies.items
+
+-- a run that stopped did so at a call that lacked nothing but memory, with the replies to those before it
+abbrev pub StoppedAt : {A : Type 0} → (A → A → Bool) → List (Asked A) → Meaning A → RunFault A → Type 0
+StoppedAt eq calls m fault = StopsAt eq calls m (replies_before fault)
+
+-- the same, but that it may have stopped before the first call, for want of room for the replies
+abbrev pub StoppedBefore : {A : Type 0} → (A → A → Bool) → List (Asked A) → Meaning A → RunFault A → Type 0
+StoppedBefore eq calls m fault = StopsBefore eq calls m (replies_before fault)
 
 -- the room of their list
 abbrev pub replies_room : {A : Type 0} → RunFault A → ℕ
@@ -244,4 +256,4 @@ replies_room (faults.Memory replies) = vec_capacity replies
 
 -- where that list has room, it has the reply to each call before the one that was refused memory
 abbrev pub KeepsReplies : {A : Type 0} → (A → A → Bool) → List (Asked A) → Meaning A → RunFault A → Type 0
-KeepsReplies eq calls m fault = 0 < replies_room fault → StopsAt eq calls m (replies_before fault)
+KeepsReplies eq calls m fault = 0 < replies_room fault → StoppedAt eq calls m fault

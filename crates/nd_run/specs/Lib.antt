@@ -3,6 +3,7 @@ pub mod Steps
 pub mod Acts
 pub mod Written
 pub mod Meaning
+pub mod Arrays
 pub mod Endings
 pub mod Driven
 pub mod Grammar

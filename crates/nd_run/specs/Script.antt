@@ -1,11 +1,11 @@
 -- A script: a line that starts with an array, and a call in each later line with words.
-use Rattle.std.specs.Prelude.{◌≡◌, ℕ, ◌+◌, Bool, true, false, List, [], ◌∷◌, ◌++◌, length, ℤ, Option, None, Some, Result, Ok, Err, ◌⊎◌, if◌then◌else◌, map}
+use Rattle.std.specs.Prelude.{◌≡◌, ℕ, ◌+◌, Bool, true, false, List, [], ◌∷◌, ◌++◌, length, ℤ, Option, None, Some, Result, Ok, Err, ◌⊎◌, if◌then◌else◌}
 use Rattle.nd_array_core.specs.Meaning.{Meaning, meaning_of}
 use Rattle.nd_run.specs.declared.reader.fault.ScriptError.{ScriptError}
 use Rattle.nd_run.specs.declared.reader.fault.ScriptError.TheVariants.{BadLine, Memory}
 use Rattle.nd_run.specs.declared.reader.Script.{Script}
 use Rattle.nd_run.specs.declared.reader.lines.LineReader.{LineReader}
-use Rattle.nd_run.specs.Calls.{Asked, asked_call, boxed}
+use Rattle.nd_run.specs.Calls.{Asked, asked_calls, boxed}
 use Rattle.nd_run.specs.Grammar.{AreAll, IsStart, IsCall}
 use Rattle.nd_run.specs.Reading.{call_of, start_of}
 use Rattle.nd_text.specs.Words.{words_of, is_wordless}
@@ -16,7 +16,7 @@ pub record AskedScript : Type 0 where
   pub calls : List (Asked ℤ)
 
 abbrev pub asked_script : Script → AskedScript
-asked_script script = record { start = meaning_of script.start; calls = map (asked_call (boxed meaning_of)) script.calls.items }
+asked_script script = record { start = meaning_of script.start; calls = asked_calls (boxed meaning_of) script.calls.items }
 
 -- the words of each line that has some
 abbrev pub worded_lines : List (List ℕ) → List (List (List ℕ))

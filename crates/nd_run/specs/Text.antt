@@ -2,12 +2,18 @@
 use Rattle.std.specs.Prelude.{ℕ, ℤ, Bool, true, false, List, ◌++◌, Option, Some, None, codes}
 use Rattle.std.specs.List.{flat_map}
 use Rattle.std.specs.Fmt.{decimal, signed_decimal}
+use Rattle.nd_array_core.specs.Joined.{row_major_elements}
+use Rattle.nd_array_core.specs.Meaning.{Meaning}
 use Rattle.nd_text.specs.Text.{list_text, values_text}
 use Rattle.nd_run.specs.Calls.{Said, SaidDone, SaidRefused, SaidShape, SaidElements, SaidElement, SaidTruth, SaidNumber}
 
 -- the lengths as a list, and the elements
 abbrev pub array_text : List ℕ → List ℤ → List ℕ
 array_text lengths elements = list_text lengths ++ values_text elements
+
+-- the elements of an array in row-major order
+abbrev pub elements_text : Meaning ℤ → List ℕ
+elements_text m = values_text (row_major_elements m)
 
 -- the element, or that there is none
 abbrev pub element_text : Option ℤ → List ℕ

@@ -7,8 +7,9 @@ ghost use Rattle.nd_array_core.specs.Meaning.{meaning_of, shape_of};
 ghost use Rattle.nd_array_core.specs.growth.InTurn.{meanings_of};
 ghost use Rattle.nd_stacking.specs.Stacking.{followed_by, is_alike_but};
 ghost use Rattle.nd_run.specs.Steps.{Refuses, first_failed, size_test};
+ghost use Rattle.nd_run.specs.Arrays.{CarriesOut};
 ghost use Rattle.nd_run.specs.Calls.{Concatenating, Stacking};
-ghost use Rattle.nd_run.specs.Fold.{concatenate_tests, joined_shape, lengths_with, stack_of, stack_tests, CarriesOut};
+ghost use Rattle.nd_run.specs.Fold.{concatenate_tests, joined_shape, lengths_with, stack_of, stack_tests};
 
 use crate::calls::{Holds, Reply};
 use crate::cause::Cause;
@@ -206,7 +207,7 @@ pub(crate) fn concatenate<A: Clone + Eq + Drop, T: Holds<A>>(
     others: &[T],
 ) -> Result<Reply<A>, AllocError>
     requires { (x y : A) → A.is_clone x y → y ≡ x }
-    ensures { CarriesOut A.eq (Concatenating axis (map T.held others.now)) (meaning_of array.old) (meaning_of array.new) result }
+    ensures { CarriesOut A.eq (Concatenating axis (map T.held others.now)) array.old array.new result }
 {
     match check_concatenate(array, axis, others) {
         Ok(()) => match concatenated(alloc, array, axis, others) {
@@ -228,7 +229,7 @@ pub(crate) fn stack<A: Clone + Eq + Drop, T: Holds<A>>(
     others: &[T],
 ) -> Result<Reply<A>, AllocError>
     requires { (x y : A) → A.is_clone x y → y ≡ x }
-    ensures { CarriesOut A.eq (Stacking axis (map T.held others.now)) (meaning_of array.old) (meaning_of array.new) result }
+    ensures { CarriesOut A.eq (Stacking axis (map T.held others.now)) array.old array.new result }
 {
     match check_stack(array, axis, others) {
         Ok(()) => match stacked(alloc, array, axis, others) {

@@ -1,12 +1,11 @@
 //! How a script ends, and what is written then.
 
-ghost use Rattle.std.specs.Prelude.{◌≡◌, map, IfSome, if◌then◌else◌};
-ghost use Rattle.nd_array_core.specs.Meaning.{shape_of, meaning_of};
-ghost use Rattle.nd_run.specs.Calls.{said_reply};
+ghost use Rattle.std.specs.Prelude.{◌≡◌, IfSome, if◌then◌else◌};
+ghost use Rattle.nd_array_core.specs.Meaning.{meaning_of};
+ghost use Rattle.nd_run.specs.Arrays.{whole_ending};
 ghost use Rattle.nd_run.specs.Script.{asked_script};
-ghost use Rattle.nd_array_core.specs.Joined.{row_major_elements};
-ghost use Rattle.nd_text.specs.Text.{values_text};
-ghost use Rattle.nd_run.specs.Endings.{Finished, ending, ending_text, status_of, is_load_failure, Loads};
+ghost use Rattle.nd_run.specs.Text.{elements_text};
+ghost use Rattle.nd_run.specs.Endings.{ending, ending_text, status_of, is_load_failure, Loads};
 ghost use Rattle.nd_text.specs.Puts.{TakesText, Puts};
 ghost use Rattle.nd_text.specs.Watched.{watched_inner, watched_failed, watched_retried, GetsFlushed};
 
@@ -96,7 +95,7 @@ pub fn conclude<W: Write>(output: &mut Watched<W>, outcome: &Outcome) -> u8
 
 /// Writes the elements of an array in row-major order, each after a space. It takes no memory.
 fn put_elements<W: Write>(output: &mut Watched<W>, page: &mut Page, array: &Array<i64, IxDyn>)
-    ensures { Puts W.contents output.old page.old output.new page.new (values_text (row_major_elements (meaning_of array.now))) }
+    ensures { Puts W.contents output.old page.old output.new page.new (elements_text (meaning_of array.now)) }
 {
     let mut coordinates = [0; MAX_AXES];
     let index = &mut coordinates[..array.ndim()];
@@ -112,7 +111,7 @@ fn put_elements<W: Write>(output: &mut Watched<W>, page: &mut Page, array: &Arra
 
 /// The same, from one slice where they lie in order.
 fn put_values<W: Write>(output: &mut Watched<W>, page: &mut Page, array: &Array<i64, IxDyn>)
-    ensures { Puts W.contents output.old page.old output.new page.new (values_text (row_major_elements (meaning_of array.now))) }
+    ensures { Puts W.contents output.old page.old output.new page.new (elements_text (meaning_of array.now)) }
 {
     match array.as_slice() {
         Some(values) => put_numbers(output, page, values),
@@ -126,7 +125,7 @@ fn put_whole<W: Write>(
     replies: &[Reply<i64>],
     array: &Array<i64, IxDyn>,
 )
-    ensures { Puts W.contents output.old page.old output.new page.new (ending_text (Finished (map said_reply replies.now) (shape_of array.now) (row_major_elements (meaning_of array.now)))) }
+    ensures { Puts W.contents output.old page.old output.new page.new (ending_text (whole_ending replies.now array.now)) }
 {
     put_replies(output, page, replies);
     put(output, page, b"end ");
@@ -141,7 +140,7 @@ pub fn conclude_whole<W: Write>(
     replies: &[Reply<i64>],
     array: &Array<i64, IxDyn>,
 ) -> u8
-    ensures text { TakesText W.contents output.old output.new (ending_text (Finished (map said_reply replies.now) (shape_of array.now) (row_major_elements (meaning_of array.now)))) }
+    ensures text { TakesText W.contents output.old output.new (ending_text (whole_ending replies.now array.now)) }
     ensures flushed { GetsFlushed output.old output.new }
     ensures status { result ≡ (if watched_failed output.new then 3 else 0) }
 {

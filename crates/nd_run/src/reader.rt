@@ -1,9 +1,9 @@
 //! Reading scripts.
 
-ghost use Rattle.std.specs.Prelude.{◌≡◌, ◌||◌, ℕ, ◌+◌, ◌^◌, ◌<◌, map, length, IfOk};
+ghost use Rattle.std.specs.Prelude.{◌≡◌, ◌||◌, ℕ, ◌+◌, ◌^◌, ◌<◌, length, IfOk};
 ghost use Rattle.nd_array_core.specs.Meaning.{meaning_of};
 ghost use Rattle.nd_text.specs.Words.{lines_of};
-ghost use Rattle.nd_run.specs.Calls.{asked_call, boxed};
+ghost use Rattle.nd_run.specs.Calls.{asked_calls, boxed};
 ghost use Rattle.nd_run.specs.Script.{AskedScript, IsScript, IsFirstBad, MayLackIn, MayLackInCalls, GivesScript, asked_script, calls_from, script_from, lacked_memory, lacks_memory};
 
 pub mod fault;
@@ -38,7 +38,7 @@ fn calls(
     text: &[u8],
 ) -> Result<Vec<Call<i64, Held>>, ScriptError>
     requires { first + length text.now < 2 ^ 64 }
-    ensures read { GivesScript (λ v. map (asked_call (boxed meaning_of)) v.items) result (calls_from first (lines_of text.now)) }
+    ensures read { GivesScript (λ v. asked_calls (boxed meaning_of) v.items) result (calls_from first (lines_of text.now)) }
     ensures stopped { result ≡ Err ScriptError.Memory → MayLackInCalls (lines_of text.now) }
     ensures lacked { lacked_memory reader.new ≡ (lacks_memory result || lacked_memory reader.old) }
 {

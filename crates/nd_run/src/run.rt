@@ -1,12 +1,13 @@
 //! A list of calls on one array.
 
-ghost use Rattle.std.specs.Prelude.{◌≡◌, ◌≤◌, nat_lt, map, length, vec_capacity, [], None, true, IfOk, IfErr, OnErr};
+ghost use Rattle.std.specs.Prelude.{◌≡◌, ◌≤◌, nat_lt, map, length, vec_capacity, [], None, IfOk, IfErr, OnErr};
 ghost use Rattle.std.specs.Option.{option_copied};
-ghost use Rattle.nd_array_core.specs.Meaning.{meaning_of, shape_of, element_at};
+ghost use Rattle.nd_array_core.specs.Meaning.{meaning_of, shape_of};
 ghost use Rattle.std.specs.List.{count_by, list_all};
 ghost use Rattle.nd_run.specs.Steps.{Refuses, first_failed};
-ghost use Rattle.nd_run.specs.Calls.{asked_call, asked_step, asking, said_reply, Keeping, About, Selecting, Removing, Reshaping, Appending, Reserving, AskReshaped, SaidElement};
-ghost use Rattle.nd_run.specs.Fold.{LeadsAlong, look_refusal, question_tests, select_tests, reshape_tests, append_tests, answer_or_refusal, answers_in_memory, reply_to, replies_to, end_of, MayLackMemory, IsCarriedOut, CarriesOut, StopsAt, StopsBefore, KeepsReplies, replies_before};
+ghost use Rattle.nd_run.specs.Arrays.{AnswerLacksOnlyMemory, CarriesOut, IsAnswerTo};
+ghost use Rattle.nd_run.specs.Calls.{asked_call, asked_calls, asked_step, asking, said_reply, Keeping, About, Selecting, Removing, Reshaping, Appending, Reserving, AskReshaped, SaidElement};
+ghost use Rattle.nd_run.specs.Fold.{LeadsAlong, look_refusal, select_tests, reshape_tests, append_tests, AreRepliesTo, end_of, IsCarriedOut, StoppedAt, StoppedBefore, KeepsReplies};
 ghost use Rattle.nd_array_core.specs.growth.Reserved.{HasRoomAlong};
 ghost use Rattle.nd_array_core.specs.Laws.{with_axis_inserted};
 ghost use Rattle.nd_array_core.specs.Equality.{equal_meanings};
@@ -104,7 +105,7 @@ fn to_shape<A: Clone + Eq + Drop>(
     order: Order,
 ) -> Result<Reply<A>, AllocError>
     requires { (x y : A) → A.is_clone x y → y ≡ x }
-    ensures reply { IfOk result (λ reply. said_reply reply ≡ answer_or_refusal A.eq (AskReshaped lengths.now order) (meaning_of view.now)) }
+    ensures reply { IfOk result (IsAnswerTo A.eq (AskReshaped lengths.now order) view.now) }
     ensures memory { OnErr result (first_failed (reshape_tests lengths.now (shape_of view.now)) ≡ None) }
 {
     let dim = match reshape_dim(view, lengths) {
@@ -125,8 +126,8 @@ fn answer<A: Clone + Eq + Drop, T: Holds<A>>(
     question: &Question<A, T>,
 ) -> Result<Reply<A>, AllocError>
     requires { (x y : A) → A.is_clone x y → y ≡ x }
-    ensures reply { IfOk result (λ reply. said_reply reply ≡ answer_or_refusal A.eq (asking T.held question.now) (meaning_of view.now)) }
-    ensures memory { OnErr result ((first_failed (question_tests (asking T.held question.now) (shape_of view.now)) ≡ None) × (answers_in_memory (asking T.held question.now) ≡ true)) }
+    ensures reply { IfOk result (IsAnswerTo A.eq (asking T.held question.now) view.now) }
+    ensures memory { OnErr result (AnswerLacksOnlyMemory (asking T.held question.now) view.now) }
 {
     match question {
         Question::Shape => Ok(Reply::Shape(view.shape().to_vec(alloc)?)),
@@ -151,7 +152,7 @@ fn ask<A: Clone + Eq + Drop, T: Holds<A>>(
     question: &Question<A, T>,
 ) -> Result<Reply<A>, AllocError>
     requires { (x y : A) → A.is_clone x y → y ≡ x }
-    ensures { CarriesOut A.eq (About (map asked_step path.now) (asking T.held question.now)) (meaning_of array.now) (meaning_of array.now) result }
+    ensures { CarriesOut A.eq (About (map asked_step path.now) (asking T.held question.now)) array.now array.now result }
 {
     let mut view = array.view();
     match follow_path(&mut view, path) {
@@ -213,7 +214,7 @@ fn select<A: Clone + Eq + Drop>(
     indexes: &[usize],
 ) -> Result<Reply<A>, AllocError>
     requires { (x y : A) → A.is_clone x y → y ≡ x }
-    ensures { CarriesOut A.eq (Selecting axis indexes.now) (meaning_of array.old) (meaning_of array.new) result }
+    ensures { CarriesOut A.eq (Selecting axis indexes.now) array.old array.new result }
 {
     match check_select(array, axis, indexes) {
         Ok(()) => match array.select(alloc, Axis(axis), indexes) {
@@ -248,7 +249,7 @@ fn reshape<A: Clone + Eq + Drop>(
     order: Order,
 ) -> Result<Reply<A>, AllocError>
     requires { (x y : A) → A.is_clone x y → y ≡ x }
-    ensures { CarriesOut A.eq (Reshaping lengths.now order) (meaning_of array.old) (meaning_of array.new) result }
+    ensures { CarriesOut A.eq (Reshaping lengths.now order) array.old array.new result }
 {
     match reshape_dim(array, lengths) {
         Ok(dim) => match taken(alloc, array).into_shape_clone(alloc, (dim, order)) {
@@ -292,7 +293,7 @@ fn append<A: Clone + Eq + Drop>(
     other: ArrayView<'_, A, IxDyn>,
 ) -> Result<Reply<A>, AllocError>
     requires { (x y : A) → A.is_clone x y → y ≡ x }
-    ensures { CarriesOut A.eq (Appending axis (meaning_of other.entry)) (meaning_of array.old) (meaning_of array.new) result }
+    ensures { CarriesOut A.eq (Appending axis (meaning_of other.entry)) array.old array.new result }
 {
     shapes_behind();
     match check_append(array, axis, &other) {
@@ -312,7 +313,7 @@ fn push<A: Clone + Eq + Drop>(
     other: &Array<A, IxDyn>,
 ) -> Result<Reply<A>, AllocError>
     requires { (x y : A) → A.is_clone x y → y ≡ x }
-    ensures { CarriesOut A.eq (Appending axis (with_axis_inserted axis (meaning_of other.now))) (meaning_of array.old) (meaning_of array.new) result }
+    ensures { CarriesOut A.eq (Appending axis (with_axis_inserted axis (meaning_of other.now))) array.old array.new result }
 {
     shapes_behind();
     if array.ndim() == 0 {
@@ -333,7 +334,7 @@ fn reserve<A: Eq + Drop>(
     axis: usize,
     additional: usize,
 ) -> Result<Reply<A>, AllocError>
-    ensures carried { CarriesOut A.eq (Reserving axis additional) (meaning_of array.old) (meaning_of array.new) result }
+    ensures carried { CarriesOut A.eq (Reserving axis additional) array.old array.new result }
     ensures room { IfOk result (λ reply. reply ≡ Reply.Done → HasRoomAlong axis additional array.new) }
 {
     if axis >= array.ndim() {
@@ -353,7 +354,7 @@ fn act<A: Clone + Eq + Drop, T: Holds<A>>(
     call: &Call<A, T>,
 ) -> Result<Reply<A>, AllocError>
     requires { (x y : A) → A.is_clone x y → y ≡ x }
-    ensures { CarriesOut A.eq (asked_call T.held call.now) (meaning_of array.old) (meaning_of array.new) result }
+    ensures { CarriesOut A.eq (asked_call T.held call.now) array.old array.new result }
 {
     match call {
         Call::Keep(step) => Ok(keep(alloc, array, step)),
@@ -391,9 +392,9 @@ fn run_with_room<A: Clone + Eq + Drop, T: Holds<A>>(
     requires clone { (x y : A) → A.is_clone x y → y ≡ x }
     requires empty { room.items ≡ [] }
     requires room { length calls.now ≤ vec_capacity room }
-    ensures replies { IfOk result (λ r. map said_reply r.0.items ≡ replies_to A.eq (map (asked_call T.held) calls.now) (meaning_of start)) }
-    ensures array { IfOk result (λ r. meaning_of r.1 ≡ end_of A.eq (map (asked_call T.held) calls.now) (meaning_of start)) }
-    ensures memory { IfErr result (λ fault. StopsAt A.eq (map (asked_call T.held) calls.now) (meaning_of start) (replies_before fault)) }
+    ensures replies { IfOk result (λ r. AreRepliesTo A.eq (asked_calls T.held calls.now) (meaning_of start) r.0.items) }
+    ensures array { IfOk result (λ r. meaning_of r.1 ≡ end_of A.eq (asked_calls T.held calls.now) (meaning_of start)) }
+    ensures memory { IfErr result (StoppedAt A.eq (asked_calls T.held calls.now) (meaning_of start)) }
 {
     let mut replies = room;
     let mut array = start;
@@ -413,10 +414,10 @@ pub fn run_held<A: Clone + Eq + Drop, T: Holds<A>>(
     calls: &[Call<A, T>],
 ) -> Result<(Vec<Reply<A>>, Array<A, IxDyn>), RunFault<A>>
     requires { (x y : A) → A.is_clone x y → y ≡ x }
-    ensures replies { IfOk result (λ r. map said_reply r.0.items ≡ replies_to A.eq (map (asked_call T.held) calls.now) (meaning_of start)) }
-    ensures array { IfOk result (λ r. meaning_of r.1 ≡ end_of A.eq (map (asked_call T.held) calls.now) (meaning_of start)) }
-    ensures memory { IfErr result (λ fault. StopsBefore A.eq (map (asked_call T.held) calls.now) (meaning_of start) (replies_before fault)) }
-    ensures kept { IfErr result (KeepsReplies A.eq (map (asked_call T.held) calls.now) (meaning_of start)) }
+    ensures replies { IfOk result (λ r. AreRepliesTo A.eq (asked_calls T.held calls.now) (meaning_of start) r.0.items) }
+    ensures array { IfOk result (λ r. meaning_of r.1 ≡ end_of A.eq (asked_calls T.held calls.now) (meaning_of start)) }
+    ensures memory { IfErr result (StoppedBefore A.eq (asked_calls T.held calls.now) (meaning_of start)) }
+    ensures kept { IfErr result (KeepsReplies A.eq (asked_calls T.held calls.now) (meaning_of start)) }
 {
     match Vec::with_capacity(alloc, calls.len()) {
         Ok(room) => run_with_room(alloc, start, calls, room),
@@ -432,10 +433,10 @@ pub fn run<A: Clone + Eq + Drop>(
     calls: &[Call<A>],
 ) -> Result<(Vec<Reply<A>>, Array<A, IxDyn>), RunFault<A>>
     requires { (x y : A) → A.is_clone x y → y ≡ x }
-    ensures replies { IfOk result (λ r. map said_reply r.0.items ≡ replies_to A.eq (map (asked_call meaning_of) calls.now) (meaning_of start)) }
-    ensures array { IfOk result (λ r. meaning_of r.1 ≡ end_of A.eq (map (asked_call meaning_of) calls.now) (meaning_of start)) }
-    ensures memory { IfErr result (λ fault. StopsBefore A.eq (map (asked_call meaning_of) calls.now) (meaning_of start) (replies_before fault)) }
-    ensures kept { IfErr result (KeepsReplies A.eq (map (asked_call meaning_of) calls.now) (meaning_of start)) }
+    ensures replies { IfOk result (λ r. AreRepliesTo A.eq (asked_calls meaning_of calls.now) (meaning_of start) r.0.items) }
+    ensures array { IfOk result (λ r. meaning_of r.1 ≡ end_of A.eq (asked_calls meaning_of calls.now) (meaning_of start)) }
+    ensures memory { IfErr result (StoppedBefore A.eq (asked_calls meaning_of calls.now) (meaning_of start)) }
+    ensures kept { IfErr result (KeepsReplies A.eq (asked_calls meaning_of calls.now) (meaning_of start)) }
 {
     run_held(alloc, start, calls)
 }

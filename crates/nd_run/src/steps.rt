@@ -1,13 +1,13 @@
 //! Steps of a path: the cause for which one is refused, and what it gives.
 
-ghost use Rattle.std.specs.Prelude.{◌≡◌, ◌<◌, ◌+◌, ◌^◌, ◌∷◌, [], ℕ, true, List, None, length, MatchOption, Ok, Err};
+ghost use Rattle.std.specs.Prelude.{◌≡◌, ◌<◌, ◌+◌, ◌^◌, ◌∷◌, [], true, None, length};
 ghost use Rattle.nd_shape_and_slice.specs.Axes.{names_each_axis, permuted_list, unpermuted_list};
-ghost use Rattle.nd_array_core.specs.Meaning.{shape_of, element_at, inside, meaning_of};
+ghost use Rattle.nd_array_core.specs.Meaning.{shape_of};
 ghost use Rattle.nd_paths.specs.Paths.{LiesWith, LiesThrough};
 ghost use Rattle.nd_shape_and_slice.specs.SliceInfo.{reads_axis, axes_read};
+ghost use Rattle.nd_run.specs.Arrays.{MovesBy, ShowsThrough};
 ghost use Rattle.nd_run.specs.Calls.{asked_step, Sliced, BroadcastTo, Indexed};
 ghost use Rattle.nd_run.specs.Steps.{Refuses, first_failed, element_tests, refusal, keep_refusal, changes_axes, step_shape, step_index};
-ghost use Rattle.nd_run.specs.Fold.{step_result};
 
 use crate::calls::Step;
 use crate::cause::Cause;
@@ -110,7 +110,7 @@ pub fn keep_refusal(shape: &[usize], step: &Step) -> Option<Cause>
 fn permute<S: Data>(array: &mut ArrayBase<S, IxDyn>, axes: &[usize])
     requires { names_each_axis axes.now (length (shape_of array.old)) ≡ true }
     ensures shape { shape_of array.new ≡ permuted_list axes.now (shape_of array.old) }
-    ensures elements { (i : List ℕ) → element_at array.new i ≡ inside (shape_of array.new) i (element_at array.old (unpermuted_list axes.now i)) }
+    ensures elements { ShowsThrough array.old (unpermuted_list axes.now) array.new }
     ensures storage { LiesWith array.old array.new }
     ensures source { LiesThrough array.old (unpermuted_list axes.now) array.new }
 {
@@ -133,7 +133,7 @@ pub fn change_axes<S: Data>(array: &mut ArrayBase<S, IxDyn>, step: &Step)
     requires changes { changes_axes (asked_step step.now) ≡ true }
     requires allowed { keep_refusal (asked_step step.now) (shape_of array.old) ≡ None }
     ensures shape { shape_of array.new ≡ step_shape (asked_step step.now) (shape_of array.old) }
-    ensures elements { (i : List ℕ) → element_at array.new i ≡ inside (shape_of array.new) i (element_at array.old (step_index (asked_step step.now) (shape_of array.old) i)) }
+    ensures elements { ShowsThrough array.old (step_index (asked_step step.now) (shape_of array.old)) array.new }
     ensures storage { LiesWith array.old array.new }
     ensures source { LiesThrough array.old (step_index (asked_step step.now) (shape_of array.old)) array.new }
 {
@@ -155,7 +155,7 @@ pub fn change_axes<S: Data>(array: &mut ArrayBase<S, IxDyn>, step: &Step)
 pub fn take_step<S: Data>(array: ArrayBase<S, IxDyn>, step: &Step) -> ArrayBase<S, IxDyn>
     requires { keep_refusal (asked_step step.now) (shape_of array) ≡ None }
     ensures shape { shape_of result ≡ step_shape (asked_step step.now) (shape_of array) }
-    ensures elements { (i : List ℕ) → element_at result i ≡ inside (shape_of result) i (element_at array (step_index (asked_step step.now) (shape_of array) i)) }
+    ensures elements { ShowsThrough array (step_index (asked_step step.now) (shape_of array)) result }
     ensures storage { LiesWith array result }
     ensures source { LiesThrough array (step_index (asked_step step.now) (shape_of array)) result }
 {
@@ -174,7 +174,7 @@ pub fn take_step<S: Data>(array: ArrayBase<S, IxDyn>, step: &Step) -> ArrayBase<
 
 /// Shows a view under a larger shape, or returns the cause of the refusal.
 fn broadcast_to<A>(view: &mut ArrayView<'_, A, IxDyn>, lengths: &[usize]) -> Option<Cause>
-    ensures { MatchOption result (step_result (BroadcastTo lengths.now) (meaning_of view.old) ≡ Ok (meaning_of view.new)) (λ cause. step_result (BroadcastTo lengths.now) (meaning_of view.old) ≡ Err cause) }
+    ensures { MovesBy (BroadcastTo lengths.now) view.old view.new result }
 {
     if lengths.len() > MAX_AXES {
         return Some(Cause::TooManyAxes);
@@ -190,7 +190,7 @@ fn broadcast_to<A>(view: &mut ArrayView<'_, A, IxDyn>, lengths: &[usize]) -> Opt
 
 /// Takes a step on a view, or returns the cause of the refusal.
 pub fn advance<A>(view: &mut ArrayView<'_, A, IxDyn>, step: &Step) -> Option<Cause>
-    ensures { MatchOption result (step_result (asked_step step.now) (meaning_of view.old) ≡ Ok (meaning_of view.new)) (λ cause. step_result (asked_step step.now) (meaning_of view.old) ≡ Err cause) }
+    ensures { MovesBy (asked_step step.now) view.old view.new result }
 {
     if let Step::Broadcast(lengths) = step {
         return broadcast_to(view, lengths.as_slice());

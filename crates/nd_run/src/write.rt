@@ -1,14 +1,14 @@
 //! Acts on an array's elements, through a path of steps or on the two parts of a split.
 
-ghost use Rattle.std.specs.Prelude.{◌≡◌, ◌||◌, ℕ, true, List, map, Option, None, IfOk, OnErr};
-ghost use Rattle.nd_array_core.specs.Meaning.{shape_of, element_at, meaning_of};
+ghost use Rattle.std.specs.Prelude.{◌≡◌, true, map, None, OnErr, OnOk};
+ghost use Rattle.nd_array_core.specs.Meaning.{shape_of, meaning_of};
 ghost use Rattle.nd_array_core.specs.base.Writes.{KeepsFrame};
 ghost use Rattle.nd_paths.specs.Paths.{LiesWith, EndsAlong};
-ghost use Rattle.nd_run.specs.Calls.{asked_step, acting, said_reply, Writing, SplitWriting};
+ghost use Rattle.nd_run.specs.Arrays.{ActsOnBoth, CarriesOut, HasElements, WritesAlong};
+ghost use Rattle.nd_run.specs.Calls.{asked_split, asked_step, acting, said_reply, Writing};
 ghost use Rattle.nd_run.specs.Steps.{Refuses};
-ghost use Rattle.nd_run.specs.Acts.{act_refusal, acted_elements, clones, path_refusal, parts_refusal, point_refusal};
-ghost use Rattle.nd_run.specs.Written.{acted_elements_unless, written_path, Acts, ActsOnTwo, WritesThrough, as_one, said_unless};
-ghost use Rattle.nd_run.specs.Fold.{CarriesOut};
+ghost use Rattle.nd_run.specs.Acts.{act_refusal, acted_elements, clones, path_refusal, point_refusal};
+ghost use Rattle.nd_run.specs.Written.{written_path, Acts, ActsOnTwo, as_one, said_unless};
 
 use crate::calls::{Act, Holds, Reply, Step};
 use crate::cause::Cause;
@@ -107,7 +107,7 @@ where
     requires clone { (x y : S.Elem) → S.Elem.is_clone x y → y ≡ x }
     requires fits { act_refusal (acting T.held act.now) (shape_of array.old) ≡ None }
     ensures frame { KeepsFrame S.frame array.old array.new }
-    ensures elements { IfOk result (λ _. (i : List ℕ) → element_at array.new i ≡ acted_elements (acting T.held act.now) (meaning_of array.old) i) }
+    ensures elements { OnOk result (HasElements array.new (acted_elements (acting T.held act.now) (meaning_of array.old))) }
     ensures memory { OnErr result (clones (acting T.held act.now) ≡ true) }
 {
     match act {
@@ -181,13 +181,9 @@ fn act_on_both<S: DataMut, T: Holds<S::Elem>>(
 where
     S::Elem: Clone + Drop,
     requires { (x y : S.Elem) → S.Elem.is_clone x y → y ≡ x }
-    ensures refused { IfOk result (λ refused. refused ≡ parts_refusal (acting T.held first.now) (acting T.held second.now) (shape_of lower.old) (shape_of upper.old)) }
-    ensures lower { IfOk result (λ refused. (i : List ℕ) → element_at lower.new i ≡ acted_elements_unless refused (acting T.held first.now) (meaning_of lower.old) i) }
-    ensures upper { IfOk result (λ refused. (i : List ℕ) → element_at upper.new i ≡ acted_elements_unless refused (acting T.held second.now) (meaning_of upper.old) i) }
     ensures lower_frame { KeepsFrame S.frame lower.old lower.new }
     ensures upper_frame { KeepsFrame S.frame upper.old upper.new }
-    ensures allowed { OnErr result (parts_refusal (acting T.held first.now) (acting T.held second.now) (shape_of lower.old) (shape_of upper.old) ≡ None) }
-    ensures memory { OnErr result ((clones (acting T.held first.now) || clones (acting T.held second.now)) ≡ true) }
+    ensures done { ActsOnBoth T.held first.now second.now lower.old upper.old lower.new upper.new result }
 {
     let refused = act_refusal(lower, first);
     if refused.is_some() {
@@ -224,7 +220,7 @@ impl<'p, A: Clone + Drop, T: Holds<A>> PairOfArraysTask<A> for ActOnParts<'p, A,
         requires { (x y : A) → A.is_clone x y → y ≡ x }
         ensures one_frame { KeepsFrame S.frame one.old one.new }
         ensures two_frame { KeepsFrame S.frame two.old two.new }
-        ensures done { ActsOnTwo (acting T.held self.entry.first.now) (acting T.held self.entry.second.now) (meaning_of one.old) (meaning_of two.old) (meaning_of one.new) (meaning_of two.new) result }
+        ensures done { ActsOnBoth T.held self.entry.first.now self.entry.second.now one.old two.old one.new two.new result }
     {
         act_on_both(one, two, self.first, self.second)
     }
@@ -272,7 +268,7 @@ fn act_along<A: Clone + Drop, T: Holds<A>>(
     act: &Act<A, T>,
 ) -> Result<Option<Cause>, AllocError>
     requires { (x y : A) → A.is_clone x y → y ≡ x }
-    ensures { WritesThrough (map asked_step path.now) (acting T.held act.now) (meaning_of array.old) (meaning_of array.new) result }
+    ensures { WritesAlong (map asked_step path.now) (acting T.held act.now) array.old array.new result }
 {
     as_one(with_path_mut(array, WritePath { path }, ActOn { act }))
 }
@@ -284,7 +280,7 @@ pub fn write_through<A: Clone + Eq + Drop, T: Holds<A>>(
     act: &Act<A, T>,
 ) -> Result<Reply<A>, AllocError>
     requires { (x y : A) → A.is_clone x y → y ≡ x }
-    ensures { CarriesOut A.eq (Writing (map asked_step path.now) (acting T.held act.now)) (meaning_of array.old) (meaning_of array.new) result }
+    ensures { CarriesOut A.eq (Writing (map asked_step path.now) (acting T.held act.now)) array.old array.new result }
 {
     let refused = act_along(array, path, act)?;
     Ok(write_reply(refused))
@@ -299,7 +295,7 @@ pub fn write_parts<A: Clone + Eq + Drop, T: Holds<A>>(
     second: &Act<A, T>,
 ) -> Result<Reply<A>, AllocError>
     requires { (x y : A) → A.is_clone x y → y ≡ x }
-    ensures { CarriesOut A.eq (SplitWriting axis index (acting T.held first.now) (acting T.held second.now)) (meaning_of array.old) (meaning_of array.new) result }
+    ensures { CarriesOut A.eq (asked_split T.held axis index first.now second.now) array.old array.new result }
 {
     let refused = point_refusal(array.shape(), axis, index);
     if refused.is_some() {

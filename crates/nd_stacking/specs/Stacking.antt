@@ -1,9 +1,9 @@
 -- The concatenation of a list of arrays along an axis, and their stack along a new one: what they show, and why there is
 -- none.
-use Rattle.std.specs.Prelude.{◌≡◌, ℕ, ◌+◌, ◌-◌, ◌^◌, Bool, true, nat_eq, nat_le, nat_lt, List, [], ◌∷◌, length, map, slice_get, slice_index, slice_set, Option, None, Some, if◌then◌else◌}
+use Rattle.std.specs.Prelude.{◌≡◌, ℕ, ◌+◌, ◌-◌, ◌^◌, ◌≤◌, Bool, true, nat_eq, nat_le, nat_lt, List, [], ◌∷◌, length, map, slice_get, slice_index, slice_set, Option, None, Some, if◌then◌else◌}
 use Rattle.std.specs.Cmp.Lexicographic.{pointwise}
 use Rattle.std.specs.List.{insert, list_all}
-use Rattle.nd_shape_and_slice.specs.Shape.{nonzero_product}
+use Rattle.nd_shape_and_slice.specs.Shape.{nonzero_product, HasCheckedSize}
 use Rattle.nd_shape_and_slice.specs.declared.errors.ErrorKind.{ErrorKind}
 use Rattle.nd_shape_and_slice.specs.declared.errors.ErrorKind.TheVariants.{IncompatibleShape, OutOfBounds, Overflow, Unsupported}
 use Rattle.nd_array_core.specs.declared.base.array_error.ArrayError.{ArrayError}
@@ -64,6 +64,19 @@ concatenation_refusal axis (m ∷ ms) =
 -- there is a concatenation, and these are its lengths
 abbrev pub AreLengthsTogether : {A : Type 0} → ℕ → List (Meaning A) → List ℕ → Type 0
 AreLengthsTogether axis ms lengths = (concatenation_refusal axis ms ≡ None) × (lengths ≡ concatenation_shape axis ms)
+
+-- there is a stack, and these are its lengths
+abbrev pub AreLengthsBeside : {A : Type 0} → ℕ → List (Meaning A) → List ℕ → Type 0
+AreLengthsBeside axis ms lengths = AreLengthsTogether axis (map (with_axis_inserted axis) ms) lengths
+
+-- a total, or none where it doesn't fit 64 bits
+abbrev pub IsTotal : ℕ → Option ℕ → Type 0
+IsTotal n None = 2 ^ 64 ≤ n
+IsTotal n (Some total) = total ≡ n
+
+-- an error for lengths without a checked size
+abbrev pub IsTooLarge : List ℕ → ErrorKind → Type 0
+IsTooLarge ns kind = (kind ≡ Overflow) × ¬ (HasCheckedSize ns)
 
 -- no arrays; no place for the new axis; another shape than the first array's; no checked size
 abbrev pub stack_refusal : {A : Type 0} → ℕ → List (Meaning A) → Option ErrorKind

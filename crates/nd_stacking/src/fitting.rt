@@ -1,12 +1,11 @@
 //! Which arrays can be joined along an axis, and the lengths of the result.
 
-ghost use Rattle.std.specs.Prelude.{◌≡◌, ◌<◌, ◌^◌, ◌≤◌, nat_eq, None, Some, IfOk, IfErr, OnOk, MatchOption, length, map, slice_index, slice_set};
+ghost use Rattle.std.specs.Prelude.{◌≡◌, ◌<◌, nat_eq, None, Some, IfOk, IfErr, OnOk, length, slice_index, slice_set};
 ghost use Rattle.std.specs.Cmp.Lexicographic.{pointwise};
 ghost use Rattle.std.specs.List.{list_all};
 ghost use Rattle.nd_shape_and_slice.specs.Shape.{HasCheckedSize};
-ghost use Rattle.nd_array_core.specs.Laws.{with_axis_inserted};
 ghost use Rattle.nd_array_core.specs.growth.InTurn.{lengths_along, meanings_of};
-ghost use Rattle.nd_stacking.specs.Stacking.{concatenation_refusal, is_alike_but, stack_refusal, AreLengthsTogether, HasRoomForAxis};
+ghost use Rattle.nd_stacking.specs.Stacking.{concatenation_refusal, is_alike_but, stack_refusal, AreLengthsBeside, AreLengthsTogether, HasRoomForAxis, IsTooLarge, IsTotal};
 
 use nd_array_core::ArrayView;
 use nd_shape_and_slice::{
@@ -48,7 +47,7 @@ pub(crate) fn length_at(shape: &[usize], axis: usize) -> usize
 
 /// How many lengths of an axis the arrays have together, where that fits.
 fn lengths_together<A, D: Dimension>(arrays: &[ArrayView<'_, A, D>], axis: usize) -> Option<usize>
-    ensures { MatchOption result (2 ^ 64 ≤ lengths_along axis (meanings_of arrays.now)) (λ total. total ≡ lengths_along axis (meanings_of arrays.now)) }
+    ensures { IsTotal (lengths_along axis (meanings_of arrays.now)) result }
 {
     let mut total = 0usize;
     for nth in 0..arrays.len() {
@@ -64,7 +63,7 @@ fn lengths_together<A, D: Dimension>(arrays: &[ArrayView<'_, A, D>], axis: usize
 fn with_length<D: Dimension>(dim: &D, axis: usize, len: usize) -> Result<D, ShapeError>
     ensures lengths { IfOk result (λ d. D.lengths d ≡ slice_set (D.lengths dim.now) axis len) }
     ensures checked { IfOk result (λ d. HasCheckedSize (D.lengths d)) }
-    ensures refused { IfErr result (λ e. (e ≡ ErrorKind.Overflow) × ¬ (HasCheckedSize (slice_set (D.lengths dim.now) axis len))) }
+    ensures refused { IfErr result (IsTooLarge (slice_set (D.lengths dim.now) axis len)) }
 {
     let mut longer = *dim;
     longer.set_length(axis, len);
@@ -122,7 +121,7 @@ pub(crate) fn stacked_dim<A, D: Dimension>(
 where
     D::Larger: Dimension,
     requires room { HasRoomForAxis D.Larger.has_axes (meanings_of arrays.now) }
-    ensures lengths { IfOk result (λ d. AreLengthsTogether axis.0 (map (with_axis_inserted axis.0) (meanings_of arrays.now)) (D.Larger.lengths d)) }
+    ensures lengths { IfOk result (λ d. AreLengthsBeside axis.0 (meanings_of arrays.now) (D.Larger.lengths d)) }
     ensures fits { OnOk result (stack_refusal axis.0 (meanings_of arrays.now) ≡ None) }
     ensures refused { IfErr result (λ e. stack_refusal axis.0 (meanings_of arrays.now) ≡ Some e) }
 {

@@ -1,10 +1,11 @@
 //! Arrays beside one another along a new axis.
 
-ghost use Rattle.std.specs.Prelude.{◌≡◌, ◌≤◌, ◌+◌, ℕ, true, None, Some, IfOk, IfErr, OnOk, length, map, slice_get};
+ghost use Rattle.std.specs.Prelude.{◌≡◌, ◌≤◌, ◌+◌, true, None, IfOk, IfErr, OnOk, length, map};
 ghost use Rattle.nd_array_core.specs.Laws.{with_axis_inserted};
-ghost use Rattle.nd_array_core.specs.Meaning.{meaning_of, Meaning};
+ghost use Rattle.nd_array_core.specs.Meaning.{meaning_of};
 ghost use Rattle.nd_array_core.specs.growth.InTurn.{meanings_of, ClonesOfEachAreEqual};
 ghost use Rattle.nd_stacking.specs.Stacking.{stack_refusal, HasRoomForAxis, IsStack, Tells};
+ghost use Rattle.nd_stacking.specs.Weaving.{EachIs};
 
 use crate::concatenating::joined;
 use crate::fitting::stacked_dim;
@@ -20,8 +21,8 @@ fn with_axis<'a, A, D: Dimension>(
 ) -> Result<Vec<ArrayView<'a, A, D::Larger>>, NoMemory>
 where
     D::Larger: Dimension,
-    requires place { (nth : ℕ) (m : Meaning A) → slice_get (meanings_of arrays.now) nth ≡ Some m → axis.0 ≤ length m.shape }
-    requires room { (nth : ℕ) (m : Meaning A) → slice_get (meanings_of arrays.now) nth ≡ Some m → D.Larger.has_axes (length m.shape + 1) ≡ true }
+    requires place { EachIs (λ m. axis.0 ≤ length m.shape) (meanings_of arrays.now) }
+    requires room { EachIs (λ m. D.Larger.has_axes (length m.shape + 1) ≡ true) (meanings_of arrays.now) }
     ensures { IfOk result (λ views. meanings_of views.items ≡ map (with_axis_inserted axis.0) (meanings_of arrays.now)) }
 {
     let mut views = match Vec::with_capacity(alloc, arrays.len()) {

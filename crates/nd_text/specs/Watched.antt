@@ -1,5 +1,6 @@
 -- What contracts see of a watched reader or writer, and what counts as a failed write.
-use Rattle.std.specs.Prelude.{◌≡◌, ℕ, Bool, true, false, ◌&&◌, not, ◌==◌, List, length, Result, Ok, Err}
+use Rattle.std.specs.Prelude.{◌≡◌, ℕ, Bool, true, false, ◌&&◌, not, ◌==◌, List, length, Option, Result, Ok, Err}
+use Rattle.std.specs.Io.KnownBytes.{ReadConsumes, WriteAppends}
 use Rattle.nd_text.specs.declared.watched.Flushes.{Flushes}
 use Rattle.nd_text.specs.declared.watched.Flushes.TheVariants.{Never, AtEnd, Other}
 use Rattle.nd_text.specs.declared.watched.Watched.{Watched}
@@ -46,3 +47,11 @@ GetsFlushed old new = watched_flushes old ≡ Never → is_flushed_once (watched
 abbrev pub write_failed : {E : Type 0} → Result ℕ E → List ℕ → Bool
 write_failed (Ok n) piece = (n == 0) && not (length piece == 0)
 write_failed (Err e) piece = true
+
+-- a read takes its bytes from the reader inside
+abbrev pub ReadsFromInner : {R E : Type 0} → (R → Option (List ℕ)) → Watched R → Watched R → Result ℕ E → List ℕ → Type 0
+ReadsFromInner remaining old new result bytes = ReadConsumes (remaining (watched_inner old)) (remaining (watched_inner new)) result bytes
+
+-- a write puts its bytes behind those of the writer inside
+abbrev pub WritesToInner : {W E : Type 0} → (W → Option (List ℕ)) → Watched W → Watched W → Result ℕ E → List ℕ → Type 0
+WritesToInner contents old new result bytes = WriteAppends (contents (watched_inner old)) (contents (watched_inner new)) result bytes

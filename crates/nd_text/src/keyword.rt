@@ -1,6 +1,6 @@
 //! The words that name calls, steps, questions and acts.
 
-ghost use Rattle.std.specs.Prelude.{◌≡◌};
+ghost use Rattle.std.specs.Prelude.{◌≡◌, ◌<◌, ◌≤◌, length};
 ghost use Rattle.nd_text.specs.Spelling.{keyword_of, keyword_among, long_keywords, is_step};
 
 /// What a word names.
@@ -60,16 +60,52 @@ impl Keyword {
         ensures { result ≡ keyword_of word.now }
     {
         if word.len() > 7 {
-            return Keyword::of_long(word);
+            Keyword::of_long(word)
+        } else if word.len() > 4 {
+            Keyword::of_middle(word)
+        } else {
+            Keyword::of_short(word)
         }
+    }
+
+    /// What a word of at most four bytes names.
+    #[tactic(auto, unfolding(crate::specs::Spelling::keyword_of))]
+    fn of_short(word: &[u8]) -> Keyword
+        requires { length word.now ≤ 4 }
+        ensures { result ≡ keyword_of word.now }
+    {
         match word {
-            b"start" => Keyword::Start,
             b"keep" => Keyword::Keep,
             b"ask" => Keyword::Ask,
-            b"write" => Keyword::Write,
-            b"split" => Keyword::Split,
             b"/" => Keyword::Slash,
             b"cut" => Keyword::Cut,
+            b"diag" => Keyword::Diag,
+            b"s" => Keyword::Part,
+            b"i" => Keyword::Coordinate,
+            b"n" => Keyword::New,
+            b"get" => Keyword::Get,
+            b"last" => Keyword::Last,
+            b"push" => Keyword::Push,
+            b"row" => Keyword::Row,
+            b"col" => Keyword::Column,
+            b"fill" => Keyword::Fill,
+            b"set" => Keyword::Set,
+            b"swap" => Keyword::Swap,
+            _ => Keyword::Other,
+        }
+    }
+
+    /// What a word of five to seven bytes names.
+    #[tactic(auto, unfolding(crate::specs::Spelling::keyword_of))]
+    fn of_middle(word: &[u8]) -> Keyword
+        requires more { 4 < length word.now }
+        requires most { length word.now ≤ 7 }
+        ensures { result ≡ keyword_of word.now }
+    {
+        match word {
+            b"start" => Keyword::Start,
+            b"write" => Keyword::Write,
+            b"split" => Keyword::Split,
             b"slice" => Keyword::Slice,
             b"index" => Keyword::Index,
             b"permute" => Keyword::Permute,
@@ -78,29 +114,17 @@ impl Keyword {
             b"insert" => Keyword::Insert,
             b"remove" => Keyword::Remove,
             b"squeeze" => Keyword::Squeeze,
-            b"diag" => Keyword::Diag,
-            b"s" => Keyword::Part,
-            b"i" => Keyword::Coordinate,
-            b"n" => Keyword::New,
             b"shape" => Keyword::Shape,
-            b"get" => Keyword::Get,
             b"first" => Keyword::First,
-            b"last" => Keyword::Last,
             b"equal" => Keyword::Equal,
             b"count" => Keyword::Count,
             b"select" => Keyword::Select,
             b"reshape" => Keyword::Reshape,
             b"append" => Keyword::Append,
-            b"push" => Keyword::Push,
             b"reserve" => Keyword::Reserve,
             b"concat" => Keyword::Concat,
             b"stack" => Keyword::Stack,
-            b"row" => Keyword::Row,
-            b"col" => Keyword::Column,
-            b"fill" => Keyword::Fill,
             b"assign" => Keyword::Assign,
-            b"set" => Keyword::Set,
-            b"swap" => Keyword::Swap,
             _ => Keyword::Other,
         }
     }

@@ -2,9 +2,9 @@
 
 ghost use Rattle.std.specs.Prelude.{◌≡◌, ◌||◌, false, is_err};
 ghost use Rattle.std.specs.Io.{ReadsAtMost, WritesAtMost};
-ghost use Rattle.std.specs.Io.KnownBytes.{Keeps, ReadConsumes, WriteAppends};
+ghost use Rattle.std.specs.Io.KnownBytes.{Keeps};
 ghost use Rattle.nd_text.specs.declared.watched.Flushes.TheVariants.{Never};
-ghost use Rattle.nd_text.specs.Watched.{watched_inner, watched_failed, watched_retried, watched_flushes, after_write, after_flush, write_failed};
+ghost use Rattle.nd_text.specs.Watched.{watched_inner, watched_failed, watched_retried, watched_flushes, after_write, after_flush, write_failed, ReadsFromInner, WritesToInner};
 
 use std::io;
 use std::io::{Read, Write};
@@ -90,7 +90,7 @@ impl<R: Read> Read for Watched<R> {
 
     fn read(&mut self, buf: &mut [u8]) -> io::Result<usize>
         ensures bound { ReadsAtMost result buf.new }
-        ensures bytes { ReadConsumes (R.remaining (watched_inner self.old)) (R.remaining (watched_inner self.new)) result buf.new }
+        ensures bytes { ReadsFromInner R.remaining self.old self.new result buf.new }
         ensures failed { watched_failed self.new ≡ (watched_failed self.old || is_err result) }
         ensures retried { watched_retried self.new ≡ (watched_failed self.old || watched_retried self.old) }
         ensures flushes { watched_flushes self.new ≡ watched_flushes self.old }
@@ -109,7 +109,7 @@ impl<W: Write> Write for Watched<W> {
 
     fn write(&mut self, buf: &[u8]) -> io::Result<usize>
         ensures bound { WritesAtMost result buf.now }
-        ensures bytes { WriteAppends (W.contents (watched_inner self.old)) (W.contents (watched_inner self.new)) result buf.now }
+        ensures bytes { WritesToInner W.contents self.old self.new result buf.now }
         ensures failed { watched_failed self.new ≡ (watched_failed self.old || write_failed result buf.now) }
         ensures retried { watched_retried self.new ≡ (watched_failed self.old || watched_retried self.old) }
         ensures flushes { watched_flushes self.new ≡ after_write (watched_flushes self.old) }

@@ -3,7 +3,7 @@
 ghost use Rattle.std.specs.Prelude.{◌≡◌, map, length};
 ghost use Rattle.nd_array_core.specs.Meaning.{meaning_of};
 ghost use Rattle.nd_text.specs.Words.{words_of};
-ghost use Rattle.nd_run.specs.Calls.{asked_step, asking, acting, asked_call, boxed};
+ghost use Rattle.nd_run.specs.Calls.{asked_step, asking, acting, acting_both, asked_call, boxed};
 ghost use Rattle.nd_run.specs.Reading.{Gives, IsRead, step_at, slashed_at, path_at, question_at, act_at, acts_at, call_at, call_of, start_of};
 
 use crate::calls::{Act, Call, Question, Step};
@@ -99,7 +99,7 @@ impl<'a> Line<'a> {
     /// Two acts, and the slash between them.
     #[tactic(auto, unfolding(crate::specs::Reading::map_read, crate::specs::Reading::both_at))]
     fn acts(&mut self, alloc: Global) -> Result<(Act<i64, Held>, Act<i64, Held>), LineFault>
-        ensures { IsRead (λ x. (acting (boxed meaning_of) x.0, acting (boxed meaning_of) x.1)) result self.new (acts_at self.old) }
+        ensures { IsRead (λ x. acting_both (boxed meaning_of) x) result self.new (acts_at self.old) }
     {
         let first = self.act(alloc)?;
         self.slash()?;

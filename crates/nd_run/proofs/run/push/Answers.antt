@@ -10,7 +10,7 @@ use Rattle.nd_array_core.specs.Meaning.{meaning_of}
 use Rattle.nd_run.specs.declared.cause.Cause.TheVariants as causes
 use Rattle.nd_run.specs.Calls.{Appending, SaidRefused}
 use Rattle.nd_run.specs.Steps.{first_failed}
-use Rattle.nd_run.specs.Fold.{append_tests, CarriesOut}
+use Rattle.nd_run.specs.Fold.{append_tests, IsCarriedOutOrLacks}
 use Rattle.nd_run.proofs.FoldLemmas.{carried, same_meaning}
 use Rattle.nd_run.proofs.run.push.Goals as goal
 
@@ -38,7 +38,7 @@ returns g c =
     let seen : meaning_of c.view.result ≡ m = same_meaning m (meaning_of c.view.result) c.view.ensures.whole.0 c.view.ensures.whole.2 in
     let is : meaning_of c.insert_axis.result ≡ with_axis_inserted axis m =
     same_meaning (with_axis_inserted axis (meaning_of c.view.result)) (meaning_of c.insert_axis.result) c.insert_axis.ensures.part.0.0 c.insert_axis.ensures.part.0.2 ∙ ap (with_axis_inserted axis) seen in
-    subst (λ n. CarriesOut g.A.PartialEq.eq (Appending axis n) (meaning_of c.args.array.now) (meaning_of c.append.new.array) c.append.result) is c.append.ensures
+    subst (λ n. IsCarriedOutOrLacks g.A.PartialEq.eq (Appending axis n) (meaning_of c.args.array.now) (meaning_of c.append.new.array) c.append.result) is c.append.ensures
 
 pub returns-then-ndim : goal.returns-then-ndim
 returns-then-ndim g c =
