@@ -3,7 +3,7 @@
 ghost use Rattle.std.specs.Prelude.{◌≡◌, ◌-◌, ℕ, List};
 ghost use Rattle.std.specs.Option.{option_map};
 ghost use Rattle.nd_array_core.specs.Meaning.{meaning_of, shape_of, element_at};
-ghost use Rattle.nd_picture.specs.Pictures.{Picture, Shows, changed, over};
+ghost use Rattle.nd_picture.specs.Pictures.{Picture, Shows, changed, over, inverted};
 
 use nd_array_core::Array3;
 
@@ -11,7 +11,7 @@ use nd_array_core::Array3;
 fn over(maxval: u16, limit: usize, sample: u16) -> u16
     ensures { result ≡ over maxval limit sample }
 {
-    if sample as usize > limit { maxval } else { 0 }
+    maxval * (sample as usize > limit) as u16
 }
 
 /// Full light where a sample is above the limit, else none.
@@ -45,7 +45,7 @@ fn all_left(picture: Array3<u16>, maxval: u16) -> Array3<u16>
 
 /// Each sample as far from full light as it was from none.
 pub(crate) fn invert(picture: Array3<u16>, maxval: u16) -> Array3<u16>
-    ensures { (p : Picture) → Shows (meaning_of picture) p → Shows (meaning_of result) (changed (λ sample. maxval - sample) p) }
+    ensures { (p : Picture) → Shows (meaning_of picture) p → Shows (meaning_of result) (inverted maxval p) }
 {
     all_left(picture, maxval)
 }
