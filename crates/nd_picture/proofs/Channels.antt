@@ -1,9 +1,8 @@
 -- A channel of an array written from that of another, and what the array shows once each was.
-use Rattle.std.proofs.Common.{◌≡◌, ◌∙◌, ℕ, ◌+◌, ◌-◌, ◌<◌, ◌≤◌, ◌^◌, Bool, true, false, cond, leb, List, [], ◌∷◌, ℤ, pos, negsuc, None, Some, refl, sym, ap, arith}
+use Rattle.std.proofs.Common.{◌≡◌, ◌∙◌, ℕ, ◌+◌, ◌-◌, ◌<◌, ◌^◌, Bool, true, false, cond, leb, List, [], ◌∷◌, ℤ, pos, negsuc, None, refl, sym, ap, arith}
 use Rattle.std.proofs.lemmas.Bool.{lt-ltb}
 use Rattle.std.proofs.lemmas.Bool.Decides.{nat_tests}
-use Rattle.std.specs.Prelude.{◌&&◌, nat_lt, nat_le, nat_eq, slice_index, max, if◌then◌else◌, Result, Ok, Err, OnOk}
-use Rattle.nd_shape_and_slice.specs.declared.slice.Slice.{Slice}
+use Rattle.std.specs.Prelude.{◌&&◌, nat_lt, nat_eq, slice_index, max, if◌then◌else◌, Result, Ok, Err, OnOk}
 use Rattle.nd_shape_and_slice.specs.declared.slice_info.SliceInfoElem.{SliceInfoElem}
 use Rattle.nd_shape_and_slice.specs.declared.slice_info.SliceInfoElem.TheVariants.{Slice as Part, Index}
 use Rattle.nd_shape_and_slice.specs.Ranges.{bound_of, slice_between, element_of}
@@ -13,7 +12,7 @@ use Rattle.nd_shape_and_slice.proofs.RowMajor.{row_rank_below, displacement_of-r
 use Rattle.nd_shape_and_slice.specs.Place.{displacement_of}
 use Rattle.nd_shape_and_slice.specs.Maps.{indexed_shape, indexed_index}
 use Rattle.nd_shape_and_slice.specs.Slice.{low_of, high_of, sliced_length}
-use Rattle.nd_shape_and_slice.specs.SliceInfo.{fits_shape, shape_after, coordinate_on}
+use Rattle.nd_shape_and_slice.specs.SliceInfo.{fits_shape, shape_after}
 use Rattle.nd_shape_and_slice.specs.Naming.{names_index, slice_names}
 use Rattle.nd_array_core.specs.Meaning.{Meaning, inside}
 use Rattle.nd_array_core.specs.scoped.Assigned.{index_after}

@@ -1,17 +1,27 @@
 //! Steps that change each sample by itself. They take no memory, since a clone of a number takes none.
 
-ghost use Rattle.std.specs.Prelude.{◌≡◌, ◌-◌, ℕ, List};
+ghost use Rattle.std.specs.Prelude.{◌≡◌, nat_lt, if◌then◌else◌, ◌-◌, ℕ, List};
 ghost use Rattle.std.specs.Option.{option_map};
 ghost use Rattle.nd_array_core.specs.Meaning.{meaning_of, shape_of, element_at};
 ghost use Rattle.nd_picture.specs.Pictures.{Picture, Shows, changed, over, inverted};
 
 use nd_array_core::Array3;
 
+/// The greatest number that a sample's type holds.
+const GREATEST: usize = 65535;
+
+/// 1 above the limit, else 0. It is a quotient: samples come in any order, so a branch would often be guessed wrong.
+fn is_over(limit: usize, sample: u16) -> u16
+    ensures { result ≡ if nat_lt limit sample then 1 else 0 }
+{
+    ((sample as usize + (GREATEST - limit.min(GREATEST))) / (GREATEST + 1)) as u16
+}
+
 /// Full light above the limit, else none.
 fn over(maxval: u16, limit: usize, sample: u16) -> u16
     ensures { result ≡ over maxval limit sample }
 {
-    maxval * (sample as usize > limit) as u16
+    maxval * is_over(limit, sample)
 }
 
 /// Full light where a sample is above the limit, else none.

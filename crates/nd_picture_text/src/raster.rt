@@ -50,7 +50,7 @@ fn narrow_samples(alloc: Global, maxval: usize, bytes: &[u8]) -> Result<Vec<u16>
         if *byte as usize > maxval {
             return Err(ImageError::BadByte(rest.len()));
         }
-        keep(&mut samples, u16::from(*byte))?;
+        samples.push_reserved(u16::from(*byte));
         rest = after;
     }
     Ok(samples)
@@ -70,7 +70,7 @@ fn wide_samples(alloc: Global, maxval: usize, bytes: &[u8]) -> Result<Vec<u16>, 
         if sample > maxval {
             return Err(ImageError::BadByte(rest.len()));
         }
-        keep(&mut samples, sample as u16)?;
+        samples.push_reserved(sample as u16);
         rest = after;
     }
     match rest {
