@@ -1,7 +1,20 @@
 -- Sums of products in rising order, and the products of vectors and matrices.
 use Rattle.std.specs.Prelude.{◌≡◌, ◌+◌, ◌*◌, ◌<◌, ℕ, zero, suc, List, [], ◌∷◌, length, Option, Some, slice_get, slice_index}
+use Rattle.std.specs.declared.vec.Vec.{Vec}
 use Rattle.nd_array_core.specs.Meaning.{Meaning}
 use Rattle.nd_array_core.specs.elements.Pairs.{option_both}
+
+-- the cell of a row and a column in a list of rows of so many
+abbrev pub row_cell : {A : Type 0} → List A → ℕ → ℕ → ℕ → Option A
+row_cell cells columns i j = slice_get cells (i * columns + j)
+
+-- a list has another's items from a place on
+abbrev pub HasFrom : {A : Type 0} → List A → ℕ → List A → Type 0
+HasFrom cells from row = (j : ℕ) → j < length row → slice_get cells (from + j) ≡ slice_get row j
+
+-- to each sum is added a number's product with the cell of a row, which stands in a list from a place on
+abbrev pub AddsProducts : {A : Type 0} → (A → A → A) → (A → A → A) → List A → A → List A → ℕ → List A → Type 0
+AddsProducts plus times sums x cells from sums' = (j : ℕ) → j < length sums → slice_get sums' j ≡ option_both plus (slice_get sums j) (option_both times (Some x) (slice_get cells (from + j)))
 
 module _ {A : Type 0} (plus times : A → A → A) (nought : A) where
   -- nought, and to it one after another the products of what stands in xs and ys at 0, .., n - 1
@@ -16,6 +29,26 @@ module _ {A : Type 0} (plus times : A → A → A) (nought : A) where
   -- the sum for a row, which stands in a list from a place on, and a column of a list of rows of so many
   abbrev pub column_sum : List A → ℕ → List A → ℕ → ℕ → ℕ → Option A
   column_sum left from right columns j = sum_of_products (λ k. slice_get left (from + k)) (λ k. slice_get right (k * columns + j))
+
+  -- the sum for a row, which stands in a list from a place on, and a list as long
+  abbrev pub sum_from : List A → ℕ → List A → Option A
+  sum_from cells from list = sum_of_products (λ k. slice_get cells (from + k)) (slice_get list) (length list)
+
+  -- the sums for so many rows and a list
+  abbrev pub HasRowSums : List A → List A → ℕ → List A → Type 0
+  HasRowSums cells list rows sums = (i : ℕ) → i < rows → slice_get sums i ≡ row_sum cells list i
+
+  -- the sums for a row and each column
+  abbrev pub HasColumnSums : List A → ℕ → List A → ℕ → ℕ → List A → Type 0
+  HasColumnSums left from right columns inner sums = (j : ℕ) → j < columns → slice_get sums j ≡ column_sum left from right columns j inner
+
+  -- the same behind the cells that a vector had, for as many columns as a list has items
+  abbrev pub PutsSums : {Z : Type 0} → List A → ℕ → List A → List A → ℕ → Vec A Z → Vec A Z → Type 0
+  PutsSums left from right sums inner cells cells' = (j : ℕ) → j < length sums → slice_get cells'.items (length cells.items + j) ≡ column_sum left from right (length sums) j inner
+
+  -- the sums for each row and column
+  abbrev pub ListsProduct : List A → List A → ℕ → ℕ → ℕ → List A → Type 0
+  ListsProduct left right rows inner columns cells = (i j : ℕ) → i < rows → j < columns → row_cell cells columns i j ≡ column_sum left (i * inner) right columns j inner
 
   -- of two vectors
   abbrev pub vector_by_vector : Meaning A → Meaning A → Option A

@@ -1,10 +1,10 @@
 //! The product of two matrices.
 
-ghost use Rattle.std.specs.Prelude.{◌≡◌, ◌<◌, ◌+◌, ◌*◌, ℕ, ◌∷◌, [], IfOk, length, slice_get, slice_index};
+ghost use Rattle.std.specs.Prelude.{◌≡◌, ◌<◌, ◌+◌, ◌*◌, ℕ, ◌∷◌, [], IfOk, length, slice_index};
 ghost use Rattle.nd_shape_and_slice.specs.Shape.{HasCheckedSize};
 ghost use Rattle.nd_array_core.specs.Meaning.{meaning_of, shape_of};
 ghost use Rattle.nd_array_core.specs.Coordinates.{element_of_2, HasRowsAndColumns};
-ghost use Rattle.nd_linalg.specs.Products.{product_shape, IsProduct};
+ghost use Rattle.nd_linalg.specs.Products.{product_shape, row_cell, IsProduct};
 
 use crate::cells::cells_of;
 use crate::scalar::LinalgScalar;
@@ -19,7 +19,7 @@ fn of_cells<A: LinalgScalar>(cells: Vec<A>, rows: usize, columns: usize) -> Arra
     requires checked { HasCheckedSize (rows ∷ columns ∷ []) }
     requires count { length cells.items ≡ rows * columns }
     ensures shape { HasRowsAndColumns result rows columns }
-    ensures elements { (i j : ℕ) → i < rows → j < columns → element_of_2 result i j ≡ slice_get cells.items (i * columns + j) }
+    ensures elements { (i j : ℕ) → i < rows → j < columns → element_of_2 result i j ≡ row_cell cells.items columns i j }
 {
     match Array2::from_shape_vec((rows, columns), cells) {
         Ok(matrix) => matrix,

@@ -2,8 +2,7 @@
 #![tactic(auto, using(std::proofs::lemmas::Bool::Decides::nat_tests, crate::proofs::Rows::row_within))]
 
 ghost use Rattle.std.specs.Prelude.{◌≡◌, ◌<◌, ◌≤◌, ◌+◌, ◌*◌, ◌^◌, ℕ, [], length, slice_get, vec_len, vec_capacity, Some, IfOk};
-ghost use Rattle.nd_array_core.specs.elements.Pairs.{option_both};
-ghost use Rattle.nd_linalg.specs.Products.{sum_of_products, column_sum, row_sum};
+ghost use Rattle.nd_linalg.specs.Products.{sum_from, row_sum, HasFrom, AddsProducts, HasRowSums, HasColumnSums, PutsSums, ListsProduct};
 
 use crate::scalar::LinalgScalar;
 use nd_shape_and_slice::NoMemory;
@@ -12,7 +11,7 @@ use std::alloc::Global;
 /// The sum of the products of a row, which stands in a list of cells from a place on, and a list as long.
 pub(crate) fn sum_along<A: LinalgScalar>(cells: &[A], from: usize, list: &[A]) -> A
     requires { from + length list.now ≤ length cells.now }
-    ensures { Some result ≡ sum_of_products A.plus A.times A.zero (λ k. slice_get cells.now (from + k)) (slice_get list.now) (length list.now) }
+    ensures { Some result ≡ sum_from A.plus A.times A.zero cells.now from list.now }
 {
     let mut sum = A::zero();
     for k in 0..list.len() {
@@ -35,7 +34,7 @@ fn clear<A: LinalgScalar>(sums: &mut [A])
 fn add_row<A: LinalgScalar>(sums: &mut [A], x: A, cells: &[A], from: usize)
     requires { from + length sums.old ≤ length cells.now }
     ensures count { length sums.new ≡ length sums.old }
-    ensures each { (j : ℕ) → j < length sums.old → slice_get sums.new j ≡ option_both A.plus (slice_get sums.old j) (option_both A.times (Some x) (slice_get cells.now (from + j))) }
+    ensures each { AddsProducts A.plus A.times sums.old x cells.now from sums.new }
 {
     for j in 0..sums.len() {
         sums[j] = sums[j].add_product(x, cells[from + j]);
@@ -47,9 +46,9 @@ fn add_row<A: LinalgScalar>(sums: &mut [A], x: A, cells: &[A], from: usize)
 fn add_four<A: LinalgScalar>(sums: &mut [A], left: &[A], from: usize, done: usize, right: &[A])
     requires row { from + done + 4 ≤ length left.now }
     requires cells { (done + 4) * length sums.old ≤ length right.now }
-    requires before { (j : ℕ) → j < length sums.old → slice_get sums.old j ≡ column_sum A.plus A.times A.zero left.now from right.now (length sums.old) j done }
+    requires before { HasColumnSums A.plus A.times A.zero left.now from right.now (length sums.old) done sums.old }
     ensures count { length sums.new ≡ length sums.old }
-    ensures each { (j : ℕ) → j < length sums.old → slice_get sums.new j ≡ column_sum A.plus A.times A.zero left.now from right.now (length sums.old) j (done + 4) }
+    ensures each { HasColumnSums A.plus A.times A.zero left.now from right.now (length sums.old) (done + 4) sums.new }
 {
     let columns = sums.len();
     let (x, y) = (left[from + done], left[from + done + 1]);
@@ -73,7 +72,7 @@ fn sum_columns<A: LinalgScalar>(sums: &mut [A], left: &[A], from: usize, inner: 
     requires row { from + inner ≤ length left.now }
     requires cells { length right.now ≡ inner * length sums.old }
     ensures count { length sums.new ≡ length sums.old }
-    ensures each { (j : ℕ) → j < length sums.old → slice_get sums.new j ≡ column_sum A.plus A.times A.zero left.now from right.now (length sums.old) j inner }
+    ensures each { HasColumnSums A.plus A.times A.zero left.now from right.now (length sums.old) inner sums.new }
 {
     let columns = sums.len();
     let fours = inner / 4;
@@ -93,7 +92,7 @@ fn push_row<A: LinalgScalar>(cells: &mut Vec<A>, row: &[A])
     ensures len { vec_len cells.new ≡ vec_len cells.old + length row.now }
     ensures room { vec_capacity cells.new ≡ vec_capacity cells.old }
     ensures before { (p : ℕ) → p < length cells.old.items → slice_get cells.new.items p ≡ slice_get cells.old.items p }
-    ensures row { (j : ℕ) → j < length row.now → slice_get cells.new.items (length cells.old.items + j) ≡ slice_get row.now j }
+    ensures row { HasFrom cells.new.items (length cells.old.items) row.now }
 {
     for j in 0..row.len() {
         cells.push_reserved(row[j]);
@@ -117,7 +116,7 @@ fn push_sums<A: LinalgScalar>(
     ensures len { vec_len cells.new ≡ vec_len cells.old + length sums.old }
     ensures room { vec_capacity cells.new ≡ vec_capacity cells.old }
     ensures before { (p : ℕ) → p < length cells.old.items → slice_get cells.new.items p ≡ slice_get cells.old.items p }
-    ensures row { (j : ℕ) → j < length sums.old → slice_get cells.new.items (length cells.old.items + j) ≡ column_sum A.plus A.times A.zero left.now from right.now (length sums.old) j inner }
+    ensures row { PutsSums A.plus A.times A.zero left.now from right.now sums.old inner cells.old cells.new }
 {
     sum_columns(sums, left, from, inner, right);
     push_row(cells, sums);
@@ -150,7 +149,7 @@ pub(crate) fn product_of<A: LinalgScalar>(
     requires right { length right.now ≡ inner * columns }
     requires fits { rows * columns < 2 ^ 64 }
     ensures count { IfOk result (λ v. length v.items ≡ rows * columns) }
-    ensures each { IfOk result (λ v. (i j : ℕ) → i < rows → j < columns → slice_get v.items (i * columns + j) ≡ column_sum A.plus A.times A.zero left.now (i * inner) right.now columns j inner) }
+    ensures each { IfOk result (λ v. ListsProduct A.plus A.times A.zero left.now right.now rows inner columns v.items) }
 {
     let mut row = zeros(alloc, columns)?;
     let sums = row.as_mut_slice();
@@ -168,8 +167,8 @@ pub(crate) fn product_of<A: LinalgScalar>(
 fn sum_two<A: LinalgScalar>(cells: &[A], from: usize, next: usize, list: &[A]) -> (A, A)
     requires first { from + length list.now ≤ length cells.now }
     requires second { next + length list.now ≤ length cells.now }
-    ensures first { Some result.0 ≡ sum_of_products A.plus A.times A.zero (λ k. slice_get cells.now (from + k)) (slice_get list.now) (length list.now) }
-    ensures second { Some result.1 ≡ sum_of_products A.plus A.times A.zero (λ k. slice_get cells.now (next + k)) (slice_get list.now) (length list.now) }
+    ensures first { Some result.0 ≡ sum_from A.plus A.times A.zero cells.now from list.now }
+    ensures second { Some result.1 ≡ sum_from A.plus A.times A.zero cells.now next list.now }
 {
     let mut one = A::zero();
     let mut two = A::zero();
@@ -184,12 +183,12 @@ fn sum_two<A: LinalgScalar>(cells: &[A], from: usize, next: usize, list: &[A]) -
 fn push_sum<A: LinalgScalar>(sums: &mut Vec<A>, cells: &[A], row: usize, list: &[A], sum: A)
     requires room { vec_len sums.old < vec_capacity sums.old }
     requires count { length sums.old.items ≡ row }
-    requires each { (i : ℕ) → i < row → slice_get sums.old.items i ≡ row_sum A.plus A.times A.zero cells.now list.now i }
+    requires each { HasRowSums A.plus A.times A.zero cells.now list.now row sums.old.items }
     requires sum { Some sum ≡ row_sum A.plus A.times A.zero cells.now list.now row }
     ensures count { length sums.new.items ≡ row + 1 }
     ensures len { vec_len sums.new ≡ vec_len sums.old + 1 }
     ensures room { vec_capacity sums.new ≡ vec_capacity sums.old }
-    ensures each { (i : ℕ) → i < row + 1 → slice_get sums.new.items i ≡ row_sum A.plus A.times A.zero cells.now list.now i }
+    ensures each { HasRowSums A.plus A.times A.zero cells.now list.now (row + 1) sums.new.items }
 {
     sums.push_reserved(sum);
 }
@@ -203,7 +202,7 @@ fn push_pairs<A: LinalgScalar>(sums: &mut Vec<A>, cells: &[A], pairs: usize, lis
     ensures count { length sums.new.items ≡ pairs * 2 }
     ensures len { vec_len sums.new ≡ pairs * 2 }
     ensures room { vec_capacity sums.new ≡ vec_capacity sums.old }
-    ensures each { (i : ℕ) → i < pairs * 2 → slice_get sums.new.items i ≡ row_sum A.plus A.times A.zero cells.now list.now i }
+    ensures each { HasRowSums A.plus A.times A.zero cells.now list.now (pairs * 2) sums.new.items }
 {
     for pair in 0..pairs {
         let row = pair * 2;
@@ -222,7 +221,7 @@ pub(crate) fn rows_by_list<A: LinalgScalar>(
 ) -> Result<Vec<A>, NoMemory>
     requires { length cells.now ≡ rows * length list.now }
     ensures count { IfOk result (λ v. length v.items ≡ rows) }
-    ensures each { IfOk result (λ v. (i : ℕ) → i < rows → slice_get v.items i ≡ row_sum A.plus A.times A.zero cells.now list.now i) }
+    ensures each { IfOk result (λ v. HasRowSums A.plus A.times A.zero cells.now list.now rows v.items) }
 {
     let mut sums = match Vec::with_capacity(alloc, rows) {
         Ok(room) => room,

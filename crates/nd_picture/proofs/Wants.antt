@@ -7,7 +7,7 @@ use Rattle.nd_picture_text.specs.Reading.{header_in, image_in, AsksForSamples}
 use Rattle.nd_picture_text.specs.Steps.{AreSteps}
 use Rattle.nd_picture.specs.declared.outcome.Fault.{Fault}
 use Rattle.nd_picture.specs.declared.outcome.Fault.TheVariants.{BadStep, BadByte, Refused, Memory, ReadFailed}
-use Rattle.nd_picture.specs.Comes.{Comes, IsImageRead, Changes, MayLackMemory}
+use Rattle.nd_picture.specs.Comes.{Comes, IsImageRead, Changes}
 
 -- a header has bytes, and so has an image
 pub some_header : (bytes : List ℕ) (x : Header × List ℕ) → header_in bytes ≡ Ok x → 0 < length bytes

@@ -84,6 +84,10 @@ IsImageRead bytes (Err Memory) = 0 < length bytes
 IsImageRead bytes (Err ReadFailed) = Unit {0}
 IsImageRead bytes (Err _) = ⊥
 
+-- the first of what a reader still gives, where that is known
+abbrev pub IsImageReadFrom : {R : Type 0} → (R → Option (List ℕ)) → Watched R → Result Pixmap Fault → Type 0
+IsImageReadFrom remaining input made = IfSome (remaining (watched_inner input)) (λ bytes. IsImageRead bytes made)
+
 abbrev pub Changes : List Step → Pixmap → Result Pixmap Fault → Type 0
 Changes steps image (Ok made) = (p : Picture) × (picture_after steps image ≡ Ok p) × IsImageOf image.header p made
 Changes steps image (Err (Refused number)) = picture_after steps image ≡ Err number

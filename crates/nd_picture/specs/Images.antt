@@ -1,8 +1,9 @@
 -- Pictures as lists of samples, row by row, pixel by pixel, channel by channel.
 use Rattle.std.specs.Prelude.{◌≡◌, ◌<◌, ℕ, ◌+◌, ◌*◌, List, length, slice_get, slice_index, Some}
+use Rattle.nd_array_core.specs.Meaning.{Meaning}
 use Rattle.nd_picture_text.specs.declared.image.Header.{Header}
 use Rattle.nd_picture_text.specs.Images.{Pixmap, channels_of}
-use Rattle.nd_picture.specs.Pictures.{Picture}
+use Rattle.nd_picture.specs.Pictures.{Picture, Shows}
 
 -- which sample of the list is that of a row, a column and a channel
 abbrev pub sample_number : ℕ → ℕ → ℕ → ℕ → ℕ → ℕ
@@ -26,3 +27,7 @@ pub record Lists (xs : List ℕ) (p : Picture) : Type 0 where
 pub record IsImageOf (h : Header) (p : Picture) (image : Pixmap) : Type 0 where
   pub headed : image.header ≡ record { kind = h.kind; width = p.width; height = p.height; maxval = h.maxval }
   pub samples : Lists image.samples p
+
+-- the same of each picture that an array shows
+abbrev pub IsImageShown : Header → Meaning ℕ → Pixmap → Type 0
+IsImageShown h m image = (p : Picture) → Shows m p → IsImageOf h p image

@@ -15,6 +15,10 @@ pub record Shows (m : Meaning ℕ) (p : Picture) : Type 0 where
   pub shape : m.shape ≡ p.height ∷ p.width ∷ p.channels ∷ []
   pub samples : (row column channel : ℕ) → row < p.height → column < p.width → channel < p.channels → m.at (row ∷ column ∷ channel ∷ []) ≡ Some (p.at row column channel)
 
+-- the second shows what a change makes of each picture that the first shows
+abbrev pub ShowsAfter : (Picture → Picture) → Meaning ℕ → Meaning ℕ → Type 0
+ShowsAfter change m n = (p : Picture) → Shows m p → Shows n (change p)
+
 -- this many rows from one on
 abbrev pub rows_from : ℕ → ℕ → Picture → Picture
 rows_from top height p = record { height = height; width = p.width; channels = p.channels; at = λ row column channel. p.at (top + row) column channel }
@@ -70,6 +74,10 @@ scaled_down k p = record { height = ceiling p.height k; width = ceiling p.width 
 -- each sample changed
 abbrev pub changed : (ℕ → ℕ) → Picture → Picture
 changed f p = record { height = p.height; width = p.width; channels = p.channels; at = λ row column channel. f (p.at row column channel) }
+
+-- each sample as far from full light as it was from none
+abbrev pub inverted : ℕ → Picture → Picture
+inverted maxval p = changed (λ sample. maxval - sample) p
 
 -- full light above the limit, else none
 abbrev pub over : ℕ → ℕ → ℕ → ℕ

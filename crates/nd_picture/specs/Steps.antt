@@ -1,11 +1,11 @@
 -- A list of steps: when each is refused, and what it gives.
-use Rattle.std.specs.Prelude.{◌≡◌, ℕ, ◌+◌, ◌-◌, ◌^◌, Bool, true, ◌&&◌, nat_lt, nat_le, List, [], ◌∷◌, slice_get, Some, Result, Ok, Err, if◌then◌else◌}
+use Rattle.std.specs.Prelude.{◌≡◌, ℕ, ◌+◌, ◌^◌, Bool, true, ◌&&◌, nat_lt, nat_le, List, [], ◌∷◌, slice_get, Some, Result, Ok, Err, if◌then◌else◌}
 use Rattle.nd_array_core.specs.Meaning.{Meaning}
 use Rattle.nd_picture_text.specs.declared.step.Step.{Step}
 use Rattle.nd_picture_text.specs.declared.step.Step.TheVariants.{Crop, Flip, Flop, RotateQuarter, RotateHalf, RotateBack, Transpose, ScaleDown, Threshold, Invert, Blur}
 use Rattle.nd_picture.specs.declared.steps.StepError.{StepError}
 use Rattle.nd_picture.specs.declared.steps.StepError.TheVariants.{Refused, Memory}
-use Rattle.nd_picture.specs.Pictures.{Picture, Shows, cropped, flipped, flopped, transposed, turned_quarter, turned_half, turned_back, scaled_down, changed, over, blurred}
+use Rattle.nd_picture.specs.Pictures.{Picture, Shows, cropped, flipped, flopped, transposed, turned_quarter, turned_half, turned_back, scaled_down, changed, over, inverted, blurred}
 
 -- some rows, or columns, from one on lie within a picture's
 abbrev pub lie_within : ℕ → ℕ → ℕ → Bool
@@ -29,7 +29,7 @@ after maxval RotateBack p = turned_back p
 after maxval Transpose p = transposed p
 after maxval (ScaleDown k) p = scaled_down k p
 after maxval (Threshold limit) p = changed (over maxval limit) p
-after maxval Invert p = changed (λ sample. maxval - sample) p
+after maxval Invert p = inverted maxval p
 after maxval Blur p = blurred p
 
 -- the picture after all steps, in order, or the number of the first that can't be taken
@@ -45,6 +45,10 @@ IsRefusedAt Memory end = Unit {0}
 abbrev pub GivesPicture : {X : Type 0} → (X → Meaning ℕ) → Result X StepError → Result Picture ℕ → Type 0
 GivesPicture view (Ok x) end = (p : Picture) × (end ≡ Ok p) × Shows (view x) p
 GivesPicture view (Err error) end = IsRefusedAt error end
+
+-- the same of each picture that an array shows, after all steps
+abbrev pub GivesAfter : {X : Type 0} → (X → Meaning ℕ) → ℕ → List Step → Meaning ℕ → Result X StepError → Type 0
+GivesAfter view maxval steps m result = (p : Picture) → Shows m p → GivesPicture view result (after_all maxval 1 steps p)
 
 -- one of them is blur, the only one that takes memory
 abbrev pub Blurs : List Step → Type 0

@@ -17,7 +17,6 @@ fn sample_at(picture: &Array3<u16>, row: usize, column: usize, channel: usize) -
     requires channel { channel < slice_index (shape_of picture.now) 2 }
     ensures { (p : Picture) → Shows (meaning_of picture.now) p → result ≡ p.at row column channel }
 {
-    let (_rows, _columns, _channels) = picture.dim();
     picture[[row, column, channel]]
 }
 

@@ -5,26 +5,41 @@ ghost use Rattle.std.specs.Fmt.{decimal};
 ghost use Rattle.nd_text.specs.Puts.{Puts, TakesText};
 ghost use Rattle.nd_text.specs.Words.{words_of};
 ghost use Rattle.nd_text.specs.Watched.{watched_failed, watched_retried, GetsFlushed};
-ghost use Rattle.nd_picture_text.specs.Images.{pixmap_of};
+ghost use Rattle.nd_array_core.specs.Meaning.{meaning_of};
+ghost use Rattle.nd_array_core.specs.Joined.{row_major_elements};
+ghost use Rattle.nd_array_core.specs.reshape.RunSlices.{IsStandardArray};
+ghost use Rattle.nd_picture.specs.Drawn.{drawn_image, LiesInRows};
 ghost use Rattle.nd_picture_text.specs.Writing.{image_text};
 ghost use Rattle.nd_picture.specs.Comes.{fault_text, fault_status, PutsWhatComes, WritesWhatComes};
 
-use crate::outcome::{Fault, produce};
+use crate::outcome::{Drawn, Fault, produce};
 use itoa::Buffer;
-use nd_picture_text::Image;
+use nd_array_core::Array3;
 use nd_picture_text::writer::put_image;
 use nd_text::printing::{finish, put, put_number};
 use nd_text::{Page, Watched};
 use std::alloc::Global;
 use std::io::{Read, Write};
 
+/// The samples of a picture in the standard layout, as they lie.
+fn samples_in(picture: &Array3<u16>) -> &[u16]
+    requires { IsStandardArray picture.now }
+    ensures { result.now ≡ row_major_elements (meaning_of picture.now) }
+{
+    match picture.as_slice() {
+        Some(samples) => samples,
+        None => unreachable!(),
+    }
+}
+
 /// Writes an image, and flushes once.
-fn show<W: Write>(output: &mut Watched<W>, image: &Image)
-    ensures text { TakesText W.contents output.old output.new (image_text (pixmap_of image.now)) }
+fn show<W: Write>(output: &mut Watched<W>, image: &Drawn)
+    requires { LiesInRows image.now }
+    ensures text { TakesText W.contents output.old output.new (image_text (drawn_image image.now)) }
     ensures flushed { GetsFlushed output.old output.new }
 {
     let mut page = Page::new();
-    put_image(output, &mut page, image.header, &image.samples);
+    put_image(output, &mut page, image.header, samples_in(&image.picture));
     finish(output, &page);
 }
 

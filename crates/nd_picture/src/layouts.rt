@@ -13,7 +13,6 @@ pub(crate) fn flip(picture: Array3<u16>) -> Array3<u16>
     ensures { (p : Picture) → Shows (meaning_of picture) p → Shows (meaning_of result) (flipped p) }
 {
     let mut picture = picture;
-    let (_rows, _columns, _channels) = picture.dim();
     picture.invert_axis(Axis(0));
     picture
 }
@@ -23,7 +22,6 @@ pub(crate) fn flop(picture: Array3<u16>) -> Array3<u16>
     ensures { (p : Picture) → Shows (meaning_of picture) p → Shows (meaning_of result) (flopped p) }
 {
     let mut picture = picture;
-    let (_rows, _columns, _channels) = picture.dim();
     picture.invert_axis(Axis(1));
     picture
 }
@@ -33,7 +31,6 @@ pub(crate) fn transpose(picture: Array3<u16>) -> Array3<u16>
     ensures { (p : Picture) → Shows (meaning_of picture) p → Shows (meaning_of result) (transposed p) }
 {
     let mut picture = picture;
-    let (_rows, _columns, _channels) = picture.dim();
     picture.swap_axes(0, 1);
     picture
 }
@@ -66,7 +63,6 @@ fn rows_from(picture: Array3<u16>, top: usize, height: usize) -> Array3<u16>
     ensures columns { slice_index (shape_of result) 1 ≡ slice_index (shape_of picture) 1 }
 {
     let mut picture = picture;
-    let (_rows, _columns, _channels) = picture.dim();
     picture.slice_axis_inplace(Axis(0), Slice::between(top, top + height));
     picture
 }
@@ -77,7 +73,6 @@ fn columns_from(picture: Array3<u16>, left: usize, width: usize) -> Array3<u16>
     ensures { (p : Picture) → Shows (meaning_of picture) p → Shows (meaning_of result) (columns_from left width p) }
 {
     let mut picture = picture;
-    let (_rows, _columns, _channels) = picture.dim();
     picture.slice_axis_inplace(Axis(1), Slice::between(left, left + width));
     picture
 }
@@ -112,7 +107,6 @@ fn every_row(picture: Array3<u16>, factor: usize) -> Array3<u16>
     ensures { (p : Picture) → Shows (meaning_of picture) p → Shows (meaning_of result) (every_row factor p) }
 {
     let mut picture = picture;
-    let (_rows, _columns, _channels) = picture.dim();
     picture.slice_axis_inplace(Axis(0), every(factor));
     picture
 }
@@ -124,7 +118,6 @@ fn every_column(picture: Array3<u16>, factor: usize) -> Array3<u16>
     ensures { (p : Picture) → Shows (meaning_of picture) p → Shows (meaning_of result) (every_column factor p) }
 {
     let mut picture = picture;
-    let (_rows, _columns, _channels) = picture.dim();
     picture.slice_axis_inplace(Axis(1), every(factor));
     picture
 }

@@ -1,17 +1,27 @@
 //! Steps that change each sample by itself. They take no memory, since a clone of a number takes none.
 
-ghost use Rattle.std.specs.Prelude.{◌≡◌, ◌-◌, ℕ, List};
+ghost use Rattle.std.specs.Prelude.{◌≡◌, nat_lt, if◌then◌else◌, ◌-◌, ℕ, List};
 ghost use Rattle.std.specs.Option.{option_map};
 ghost use Rattle.nd_array_core.specs.Meaning.{meaning_of, shape_of, element_at};
-ghost use Rattle.nd_picture.specs.Pictures.{Picture, Shows, changed, over};
+ghost use Rattle.nd_picture.specs.Pictures.{Picture, Shows, changed, over, inverted};
 
 use nd_array_core::Array3;
+
+/// The greatest number that a sample's type holds.
+const GREATEST: usize = 65535;
+
+/// 1 above the limit, else 0. It is a quotient: samples come in any order, so a branch would often be guessed wrong.
+fn is_over(limit: usize, sample: u16) -> u16
+    ensures { result ≡ if nat_lt limit sample then 1 else 0 }
+{
+    ((sample as usize + (GREATEST - limit.min(GREATEST))) / (GREATEST + 1)) as u16
+}
 
 /// Full light above the limit, else none.
 fn over(maxval: u16, limit: usize, sample: u16) -> u16
     ensures { result ≡ over maxval limit sample }
 {
-    if sample as usize > limit { maxval } else { 0 }
+    maxval * is_over(limit, sample)
 }
 
 /// Full light where a sample is above the limit, else none.
@@ -45,7 +55,7 @@ fn all_left(picture: Array3<u16>, maxval: u16) -> Array3<u16>
 
 /// Each sample as far from full light as it was from none.
 pub(crate) fn invert(picture: Array3<u16>, maxval: u16) -> Array3<u16>
-    ensures { (p : Picture) → Shows (meaning_of picture) p → Shows (meaning_of result) (changed (λ sample. maxval - sample) p) }
+    ensures { (p : Picture) → Shows (meaning_of picture) p → Shows (meaning_of result) (inverted maxval p) }
 {
     all_left(picture, maxval)
 }

@@ -1,18 +1,23 @@
 //! What comes of words and bytes.
 
-ghost use Rattle.std.specs.Prelude.{◌≡◌, true, IfOk, IfSome};
+ghost use Rattle.std.specs.Prelude.{◌≡◌, true, IfOk};
 ghost use Rattle.std.specs.Result.{result_map_both};
 ghost use Rattle.nd_array_core.specs.Meaning.{meaning_of};
 ghost use Rattle.nd_text.specs.Words.{words_of};
-ghost use Rattle.nd_text.specs.Watched.{watched_inner, watched_failed, watched_retried};
+ghost use Rattle.nd_text.specs.Watched.{watched_failed, watched_retried};
 ghost use Rattle.nd_picture_text.specs.Images.{pixmap_of, IsWholeImage};
-ghost use Rattle.nd_picture.specs.Comes.{ComesOf, is_failed_read, IsImageRead, Changes};
+ghost use Rattle.nd_array_core.specs.reshape.RunSlices.{IsStandardArray};
+ghost use Rattle.nd_picture.specs.Drawn.{drawn_image, LiesInRows};
+ghost use Rattle.nd_picture.specs.Images.{IsImageShown};
+ghost use Rattle.nd_picture.specs.Comes.{ComesOf, is_failed_read, IsImageReadFrom, Changes};
 
-use crate::samples::{image_of, picture_of};
+use crate::samples::{laid_out, picture_of};
 use crate::steps::{StepError, take_steps};
+use nd_array_core::Array3;
+use nd_array_core::laws::elements_by_rank;
 use nd_picture_text::reader::read_image;
 use nd_picture_text::steps::read_steps;
-use nd_picture_text::{Image, ImageError, Step, StepsError};
+use nd_picture_text::{Header, Image, ImageError, Step, StepsError};
 use nd_text::Watched;
 use nd_text::input::{InputError, read_input};
 use std::alloc::Global;
@@ -33,10 +38,19 @@ pub enum Fault {
     ReadFailed,
 }
 
+/// The image that is written: a picture in the standard layout, and its header.
+#[derive(Drop)]
+pub(crate) struct Drawn {
+    /// What stands in front of the samples.
+    pub(crate) header: Header,
+    /// The samples.
+    pub(crate) picture: Array3<u16>,
+}
+
 /// The image of all bytes of the input.
 #[tactic(auto, using(crate::proofs::Wants::some_asked))]
 fn load<R: Read>(alloc: Global, input: &mut Watched<R>) -> Result<Image, Fault>
-    ensures image { IfSome (R.remaining (watched_inner input.old)) (λ bytes. IsImageRead bytes (result_map_both pixmap_of (λ e. e) result)) }
+    ensures image { IsImageReadFrom R.remaining input.old (result_map_both pixmap_of (λ e. e) result) }
     ensures whole { IfOk result (λ image. IsWholeImage (pixmap_of image)) }
     ensures failed { watched_failed input.new ≡ is_failed_read result }
     ensures stops { watched_retried input.new ≡ watched_retried input.old }
@@ -53,15 +67,35 @@ fn load<R: Read>(alloc: Global, input: &mut Watched<R>) -> Result<Image, Fault>
     }
 }
 
+/// The image of a picture, in the format and with the full light of another header.
+fn with_header(header: Header, picture: Array3<u16>) -> Drawn
+    requires { IsStandardArray picture }
+    ensures image { IsImageShown header (meaning_of picture) (drawn_image result) }
+    ensures standard { LiesInRows result }
+{
+    let (height, width, _channels) = picture.dim();
+    elements_by_rank(&picture);
+    Drawn {
+        header: Header {
+            kind: header.kind,
+            width,
+            height,
+            maxval: header.maxval,
+        },
+        picture,
+    }
+}
+
 /// The image after all steps.
-fn change(alloc: Global, steps: &[Step], image: Image) -> Result<Image, Fault>
+fn change(alloc: Global, steps: &[Step], image: Image) -> Result<Drawn, Fault>
     requires { IsWholeImage (pixmap_of image) }
-    ensures { Changes steps.now (pixmap_of image) (result_map_both pixmap_of (λ e. e) result) }
+    ensures changed { Changes steps.now (pixmap_of image) (result_map_both drawn_image (λ e. e) result) }
+    ensures standard { IfOk result LiesInRows }
 {
     let header = image.header;
     match take_steps(alloc, header.maxval as u16, steps, picture_of(image)) {
-        Ok(picture) => match image_of(alloc, header, &picture) {
-            Ok(made) => Ok(made),
+        Ok(picture) => match laid_out(alloc, picture) {
+            Ok(laid) => Ok(with_header(header, laid)),
             Err(_) => Err(Fault::Memory),
         },
         Err(StepError::Refused(number)) => Err(Fault::Refused(number)),
@@ -76,8 +110,9 @@ pub(crate) fn produce<R: Read>(
     alloc: Global,
     line: &[u8],
     input: &mut Watched<R>,
-) -> Result<Image, Fault>
-    ensures made { ComesOf R.remaining (words_of line.now) input.old (result_map_both pixmap_of (λ e. e) result) }
+) -> Result<Drawn, Fault>
+    ensures made { ComesOf R.remaining (words_of line.now) input.old (result_map_both drawn_image (λ e. e) result) }
+    ensures standard { IfOk result LiesInRows }
     ensures failed { is_failed_read result ≡ true → watched_failed input.new ≡ true }
     ensures stops { watched_retried input.new ≡ watched_retried input.old }
 {

@@ -1,17 +1,18 @@
 //! Images as arrays of rows, columns and channels, and back.
 
-ghost use Rattle.std.specs.Prelude.{◌≡◌, ◌<◌, ◌≤◌, ◌*◌, ◌^◌, ℕ, [], ◌∷◌, IfOk, length, slice_get};
-ghost use Rattle.nd_shape_and_slice.specs.Shape.{HasCheckedSize, row_rank};
-ghost use Rattle.nd_array_core.specs.Meaning.{meaning_of, shape_of};
-ghost use Rattle.nd_array_core.specs.Coordinates.{element_of_3};
+ghost use Rattle.std.specs.Prelude.{◌≡◌, ◌<◌, ◌*◌, [], ◌∷◌, IfOk, OnOk, length, slice_index};
+ghost use Rattle.nd_shape_and_slice.specs.Shape.{HasCheckedSize};
+ghost use Rattle.nd_array_core.specs.Meaning.{meaning_of, shape_of, layout_strides};
+ghost use Rattle.nd_array_core.specs.reshape.RunSlices.{IsStandardArray};
 ghost use Rattle.nd_picture_text.specs.Images.{IsWholeImage, pixmap_of};
 ghost use Rattle.nd_picture.specs.Pictures.{Picture, Shows};
-ghost use Rattle.nd_picture.specs.Images.{picture_in, Lists, IsImageOf};
+ghost use Rattle.nd_picture.specs.Images.{picture_in, Lists, IsImageShown};
+ghost use Rattle.nd_picture.specs.Samples.{HasInOrder, HasChannel, HasChannelsBelow, HasSamplesOf};
 
 use nd_array_core::Array3;
-use nd_array_core::laws::elements_by_rank;
+use nd_array_core::laws::{broadcast_to_itself, elements_by_rank, shape_is_checked};
 use nd_picture_text::{Header, Image};
-use nd_shape_and_slice::NoMemory;
+use nd_shape_and_slice::{Axis, NoMemory, slices};
 use std::alloc::Global;
 
 /// An array of this shape from its elements in row-major order.
@@ -21,7 +22,7 @@ fn shaped(height: usize, width: usize, channels: usize, samples: Vec<u16>) -> Ar
     requires channels { 0 < channels }
     requires count { length samples.items ≡ height * width * channels }
     ensures shape { shape_of result ≡ height ∷ width ∷ channels ∷ [] }
-    ensures samples { (row column channel : ℕ) → row < height → column < width → channel < channels → element_of_3 result row column channel ≡ slice_get samples.items (row_rank (height ∷ width ∷ channels ∷ []) (row ∷ column ∷ channel ∷ [])) }
+    ensures samples { HasInOrder (meaning_of result) height width channels samples.items }
 {
     match Array3::from_shape_vec((height, width, channels), samples) {
         Ok(array) => array,
@@ -38,6 +39,92 @@ pub fn picture_of(image: Image) -> Array3<u16>
     shaped(header.height, header.width, header.kind.channels(), samples)
 }
 
+/// Writes the samples of a channel over those of another array.
+fn copy_channel(
+    laid: &mut Array3<u16>,
+    picture: &Array3<u16>,
+    channel: usize,
+) -> Result<(), NoMemory>
+    requires same { shape_of picture.now ≡ shape_of laid.old }
+    requires channel { channel < slice_index (shape_of laid.old) 2 }
+    ensures shape { shape_of laid.new ≡ shape_of laid.old }
+    ensures strides { layout_strides laid.new ≡ layout_strides laid.old }
+    ensures copied { OnOk result (HasChannel (meaning_of laid.new) (meaning_of picture.now) channel) }
+    ensures others { HasChannelsBelow (meaning_of laid.new) (meaning_of laid.old) channel }
+{
+    let plane = picture.index_axis(Axis(2), channel);
+    laid.assign_slice(slices![.., .., channel], &plane)
+}
+
+/// Writes the samples over those of another array, channel by channel: so lanes are as long as rows or columns.
+fn copy_channels(laid: &mut Array3<u16>, picture: &Array3<u16>) -> Result<(), NoMemory>
+    requires same { shape_of picture.now ≡ shape_of laid.old }
+    ensures shape { shape_of laid.new ≡ shape_of laid.old }
+    ensures strides { layout_strides laid.new ≡ layout_strides laid.old }
+    ensures copied { OnOk result (HasSamplesOf (meaning_of laid.new) (meaning_of picture.now)) }
+{
+    let (_, _, channels) = picture.dim();
+    for channel in 0..channels {
+        copy_channel(laid, picture, channel)?;
+    }
+    Ok(())
+}
+
+/// The same, row by row.
+fn copy_rows(laid: &mut Array3<u16>, picture: &Array3<u16>) -> Result<(), NoMemory>
+    requires same { shape_of picture.now ≡ shape_of laid.old }
+    ensures shape { shape_of laid.new ≡ shape_of laid.old }
+    ensures strides { layout_strides laid.new ≡ layout_strides laid.old }
+    ensures copied { OnOk result (HasSamplesOf (meaning_of laid.new) (meaning_of picture.now)) }
+{
+    broadcast_to_itself(picture);
+    laid.assign(picture)
+}
+
+/// Whether the pixels of a row lie one behind the other in memory.
+fn has_rows(picture: &Array3<u16>) -> bool {
+    let (_, _, channels) = picture.dim();
+    picture.stride_of(Axis(1)) == channels as isize
+}
+
+/// Writes the samples over those of another array, in the order that suits how the picture lies.
+fn copy_into(laid: &mut Array3<u16>, picture: &Array3<u16>) -> Result<(), NoMemory>
+    requires same { shape_of picture.now ≡ shape_of laid.old }
+    ensures shape { shape_of laid.new ≡ shape_of laid.old }
+    ensures strides { layout_strides laid.new ≡ layout_strides laid.old }
+    ensures copied { OnOk result (HasSamplesOf (meaning_of laid.new) (meaning_of picture.now)) }
+{
+    if has_rows(picture) {
+        copy_rows(laid, picture)
+    } else {
+        copy_channels(laid, picture)
+    }
+}
+
+/// A copy in the standard layout.
+fn laid_anew(alloc: Global, picture: &Array3<u16>) -> Result<Array3<u16>, NoMemory>
+    ensures shape { IfOk result (λ a. shape_of a ≡ shape_of picture.now) }
+    ensures copied { IfOk result (λ a. HasSamplesOf (meaning_of a) (meaning_of picture.now)) }
+    ensures standard { IfOk result IsStandardArray }
+{
+    shape_is_checked(picture);
+    let mut laid = Array3::zeros(alloc, picture.raw_dim())?;
+    copy_into(&mut laid, picture)?;
+    Ok(laid)
+}
+
+/// The same picture in the standard layout, as it is if it lies so.
+pub(crate) fn laid_out(alloc: Global, picture: Array3<u16>) -> Result<Array3<u16>, NoMemory>
+    ensures shown { IfOk result (λ a. (p : Picture) → Shows (meaning_of picture) p → Shows (meaning_of a) p) }
+    ensures standard { IfOk result IsStandardArray }
+{
+    if picture.is_standard_layout() {
+        return Ok(picture);
+    }
+    let laid = laid_anew(alloc, &picture)?;
+    Ok(laid)
+}
+
 /// The samples of a picture, row by row, pixel by pixel, channel by channel.
 fn samples_of(alloc: Global, picture: &Array3<u16>) -> Result<Vec<u16>, NoMemory>
     ensures { IfOk result (λ v. (p : Picture) → Shows (meaning_of picture.now) p → Lists v.items p) }
@@ -49,7 +136,7 @@ fn samples_of(alloc: Global, picture: &Array3<u16>) -> Result<Vec<u16>, NoMemory
 
 /// The image of a picture, in the format and with the full light of another header.
 pub fn image_of(alloc: Global, header: Header, picture: &Array3<u16>) -> Result<Image, NoMemory>
-    ensures { IfOk result (λ image. (p : Picture) → Shows (meaning_of picture.now) p → IsImageOf header p (pixmap_of image)) }
+    ensures { IfOk result (λ image. IsImageShown header (meaning_of picture.now) (pixmap_of image)) }
 {
     let (height, width, _channels) = picture.dim();
     let samples = samples_of(alloc, picture)?;

@@ -1,9 +1,9 @@
 //! A list of steps on a picture.
 
-ghost use Rattle.std.specs.Prelude.{◌≡◌, ◌<◌, ◌≤◌, ◌+◌, ◌^◌, ℕ, true, length, slice_index, IfOk, OnErr, Err};
+ghost use Rattle.std.specs.Prelude.{◌≡◌, ◌<◌, ◌≤◌, ◌+◌, ◌^◌, true, length, slice_index, IfOk, OnErr, Err};
 ghost use Rattle.nd_array_core.specs.Meaning.{meaning_of, shape_of};
-ghost use Rattle.nd_picture.specs.Pictures.{Picture, Shows};
-ghost use Rattle.nd_picture.specs.Steps.{lie_within, fits, after, after_all, GivesPicture, Blurs};
+ghost use Rattle.nd_picture.specs.Pictures.{ShowsAfter};
+ghost use Rattle.nd_picture.specs.Steps.{lie_within, fits, after, GivesAfter, Blurs};
 ghost use Rattle.nd_picture_text.specs.declared.step.Step.TheVariants.{Blur};
 ghost use Rattle.nd_picture.specs.declared.steps.StepError.TheVariants.{Memory};
 
@@ -57,7 +57,7 @@ pub fn take_step(
     picture: Array3<u16>,
 ) -> Result<Array3<u16>, NoMemory>
     requires { fits step (slice_index (shape_of picture) 0) (slice_index (shape_of picture) 1) ≡ true }
-    ensures after { IfOk result (λ a. (p : Picture) → Shows (meaning_of picture) p → Shows (meaning_of a) (after maxval step p)) }
+    ensures after { IfOk result (λ a. ShowsAfter (after maxval step) (meaning_of picture) (meaning_of a)) }
     ensures memory { OnErr result (step ≡ Blur) }
 {
     match step {
@@ -83,7 +83,7 @@ pub fn take_steps(
     steps: &[Step],
     picture: Array3<u16>,
 ) -> Result<Array3<u16>, StepError>
-    ensures ends { (p : Picture) → Shows (meaning_of picture) p → GivesPicture (λ a. meaning_of a) result (after_all maxval 1 steps.now p) }
+    ensures ends { GivesAfter (λ a. meaning_of a) maxval steps.now (meaning_of picture) result }
     ensures memory { result ≡ Err Memory → Blurs steps.now }
 {
     let mut picture = picture;

@@ -1,5 +1,5 @@
 -- Samples written in bytes, and read back.
-use Rattle.std.proofs.Common.{◌≡◌, ◌∙◌, ℕ, zero, suc, ◌+◌, ◌*◌, ◌/◌, ◌%◌, ◌<◌, ◌≤◌, Bool, true, false, cond, leb, ltb, List, [], ◌∷◌, ◌++◌, length, Result, Ok, Err, refl, sym, ap, subst, arith}
+use Rattle.std.proofs.Common.{◌≡◌, ◌∙◌, ℕ, suc, ◌+◌, ◌*◌, ◌/◌, ◌%◌, ◌<◌, ◌≤◌, Bool, true, false, cond, leb, ltb, List, [], ◌∷◌, ◌++◌, length, Result, Ok, Err, refl, sym, ap, subst, arith}
 use Rattle.std.specs.Prelude.{All, codes}
 use Rattle.std.specs.Fmt.{decimal}
 use Rattle.std.specs.List.{flat_map}
@@ -7,7 +7,7 @@ use Rattle.std.proofs.lemmas.Bool.{ltb-true, le-ltb}
 use Rattle.std.proofs.lemmas.Bool.Decides.{nat_tests}
 use Rattle.nd_picture_text.specs.Laws.{SamplesReadBack}
 use Rattle.nd_picture_text.specs.Reading.{samples_behind, narrow_samples, wide_samples, exactly, raw_samples}
-use Rattle.nd_picture_text.specs.Writing.{low_byte, both_bytes, sample_text}
+use Rattle.nd_picture_text.specs.Writing.{low_byte, both_bytes}
 
 module _ (limit : ℕ) where
   first_within : (x : ℕ) (xs : List ℕ) → All (λ s. s ≤ limit) (x ∷ xs) → x ≤ limit

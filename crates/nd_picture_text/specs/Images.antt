@@ -31,6 +31,10 @@ pub record Pixmap : Type 0 where
 abbrev pub pixmap_of : Image → Pixmap
 pixmap_of image = record { header = image.header; samples = image.samples.items }
 
+-- the image of a header and samples
+abbrev pub pixmap_with : Header → List ℕ → Pixmap
+pixmap_with header samples = record { header = header; samples = samples }
+
 -- the limits of a header: so the samples can be counted, and each takes two bytes at most
 pub record IsHeader (h : Header) : Type 0 where
   pub wide : (0 < h.width) × (h.width ≤ 1000000000)

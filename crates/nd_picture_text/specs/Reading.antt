@@ -74,6 +74,10 @@ raw_samples maxval count bytes = if nat_lt maxval 256 then exactly count bytes (
 abbrev pub raw_size : ℕ → ℕ → ℕ
 raw_size maxval count = if nat_lt maxval 256 then count else count * 2
 
+-- where samples are bytes, there are as many as the header's samples take
+abbrev pub HasRawSize : Header → List ℕ → Type 0
+HasRawSize h bytes = is_plain h.kind ≡ false → length bytes ≡ raw_size h.maxval (sample_count h)
+
 -- the samples behind a header
 unfoldable pub raster_in : Header → List ℕ → Result (List ℕ) ℕ
 raster_in h bytes = if is_plain h.kind then plain_samples h.maxval (sample_count h) bytes else raw_samples h.maxval (sample_count h) bytes
@@ -98,6 +102,4 @@ counted size (Err left) = Err (size - left)
 
 -- memory is asked for samples: behind a header, and where they are bytes, only if there are as many as samples take
 abbrev pub AsksForSamples : List ℕ → Type 0
-AsksForSamples bytes =
-    (h : Header) × (rest : List ℕ) × (header_in bytes ≡ Ok (h, rest))
-    × (is_plain h.kind ≡ false → length rest ≡ raw_size h.maxval (sample_count h))
+AsksForSamples bytes = (h : Header) × (rest : List ℕ) × (header_in bytes ≡ Ok (h, rest)) × HasRawSize h rest

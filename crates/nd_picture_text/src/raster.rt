@@ -1,9 +1,9 @@
 //! Samples.
 #![tactic(auto, using(crate::proofs::Rasters::behind_none, crate::proofs::Rasters::behind_more))]
 
-ghost use Rattle.std.specs.Prelude.{◌≡◌, ◌<◌, ◌≤◌, ◌^◌, ◌*◌, [], ◌∷◌, ◌++◌, ◌+◌, All, OnOk, IfOk, IfErr, Err, false, length};
-ghost use Rattle.nd_picture_text.specs.Images.{is_plain, sample_count};
-ghost use Rattle.nd_picture_text.specs.Reading.{ReadsAs, narrow_samples, wide_samples, exactly, plain_samples, raw_samples, raster_in, raw_size};
+ghost use Rattle.std.specs.Prelude.{◌≡◌, ◌<◌, ◌≤◌, ◌^◌, ◌*◌, [], ◌∷◌, ◌++◌, ◌+◌, All, OnOk, IfOk, IfErr, Err, length};
+ghost use Rattle.nd_picture_text.specs.Images.{sample_count};
+ghost use Rattle.nd_picture_text.specs.Reading.{ReadsAs, narrow_samples, wide_samples, exactly, plain_samples, raw_samples, raster_in, raw_size, HasRawSize};
 ghost use Rattle.nd_picture_text.specs.declared.raster.ImageError.TheVariants.{Memory};
 
 use crate::image::Header;
@@ -50,7 +50,7 @@ fn narrow_samples(alloc: Global, maxval: usize, bytes: &[u8]) -> Result<Vec<u16>
         if *byte as usize > maxval {
             return Err(ImageError::BadByte(rest.len()));
         }
-        keep(&mut samples, u16::from(*byte))?;
+        samples.push_reserved(u16::from(*byte));
         rest = after;
     }
     Ok(samples)
@@ -70,7 +70,7 @@ fn wide_samples(alloc: Global, maxval: usize, bytes: &[u8]) -> Result<Vec<u16>, 
         if sample > maxval {
             return Err(ImageError::BadByte(rest.len()));
         }
-        keep(&mut samples, sample as u16)?;
+        samples.push_reserved(sample as u16);
         rest = after;
     }
     match rest {
@@ -158,7 +158,7 @@ pub(crate) fn raster_in(alloc: Global, header: Header, bytes: &[u8]) -> Result<V
     requires height { header.height ≤ 1000000000 }
     requires maxval { header.maxval < 65536 }
     ensures read { ReadsAs (λ v. v.items) result (raster_in header bytes.now) }
-    ensures memory { result ≡ Err Memory → is_plain header.kind ≡ false → length bytes.now ≡ raw_size header.maxval (sample_count header) }
+    ensures memory { result ≡ Err Memory → HasRawSize header bytes.now }
     ensures count { IfOk result (λ v. length v.items ≡ sample_count header) }
     ensures within { IfOk result (λ v. All (λ s. s ≤ header.maxval) v.items) }
 {

@@ -2,7 +2,7 @@
 
 ghost use Rattle.std.specs.Prelude.{◌≡◌, ◌≤◌, ◌*◌, length, take};
 ghost use Rattle.std.specs.List.{flat_map};
-ghost use Rattle.nd_picture_text.specs.Images.{Pixmap};
+ghost use Rattle.nd_picture_text.specs.Images.{pixmap_with};
 ghost use Rattle.nd_picture_text.specs.Writing.{kind_text, header_text, low_byte, both_bytes, number_line, sample_text, image_text};
 ghost use Rattle.nd_text.specs.Puts.{Puts};
 
@@ -125,7 +125,7 @@ pub fn put_image<W: Write>(
     header: Header,
     samples: &[u16],
 )
-    ensures { Puts W.contents output.old page.old output.new page.new (image_text (record { header = header; samples = samples.now })) }
+    ensures { Puts W.contents output.old page.old output.new page.new (image_text (pixmap_with header samples.now)) }
 {
     put_header(output, page, header);
     put_samples(output, page, header, samples);

@@ -1,5 +1,5 @@
-use Rattle.std.proofs.Common.{◌≡◌, ◌≤◌, ◌+◌, length}
-use Rattle.std.specs.Prelude.{All}
+use Rattle.std.proofs.Common.{◌≡◌, ◌≤◌, ◌+◌, ◌*◌, length}
+use Rattle.std.specs.Prelude.{All, vec_len, vec_capacity}
 use Rattle.nd_picture_text.specs.Reading.{samples_behind, wide_samples}
 use Rattle.nd_picture_text.proofs.raster.wide_samples.Given as goal
 
@@ -7,6 +7,7 @@ use Rattle.nd_picture_text.proofs.raster.wide_samples.Given as goal
 abbrev pub invariant-loop-rest : goal.invariant-loop-rest
 invariant-loop-rest l = record {
   read : samples_behind l.samples.items (wide_samples l.maxval l.rest) ≡ wide_samples l.maxval l.fn.bytes;
+  room : vec_len l.samples * 2 + length l.rest ≤ vec_capacity l.samples * 2 + 1;
   count : length l.samples.items + length l.samples.items + length l.rest ≡ length l.fn.bytes;
   within : All (λ s. s ≤ l.maxval) l.samples.items;
 }
