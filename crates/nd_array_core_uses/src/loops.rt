@@ -1,10 +1,11 @@
 //! A matrix product by loops that write a matrix of their own, cell by cell; and a histogram.
-ghost use Rattle.std.specs.Prelude.{◌≡◌, ◌<◌, ◌%◌, ◌^◌, ℕ, [], ◌∷◌, IfOk, Some, slice_index};
+ghost use Rattle.std.specs.Prelude.{◌≡◌, ◌<◌, ◌≤◌, ◌+◌, ◌^◌, ℕ, [], ◌∷◌, IfOk, Some, slice_index};
 ghost use Rattle.nd_shape_and_slice.specs.Shape.{HasCheckedSize};
 ghost use Rattle.nd_array_core.specs.Meaning.{shape_of};
 ghost use Rattle.nd_array_core.specs.Coordinates.{element_of_2, HasRowsAndColumns};
-ghost use Rattle.nd_array_core_uses.specs.Loops.{wrapped_product, count_in_rows};
+ghost use Rattle.nd_array_core_uses.specs.Loops.{wrapped_product, counts_for, count_in_row, count_in_rows};
 
+use nd_array_core::laws::rows_joined;
 use nd_array_core::{Array2, ArrayBase, Data};
 use nd_shape_and_slice::{Ix2, NoMemory};
 use std::alloc::Global;
@@ -30,7 +31,7 @@ fn wrapped_at<S: Data<Elem = i64>, Z: Data<Elem = i64>>(
 }
 
 /// The product of two matrices, written cell by cell; sums and products wrap.
-#[tactic(auto, using(std::proofs::lemmas::Bool::Decides::nat_tests, nd_array_core::proofs::Axes::known_axes))]
+#[tactic(auto, using(std::proofs::lemmas::Bool::Decides::nat_tests))]
 pub fn product_in_loops<S: Data<Elem = i64>, Z: Data<Elem = i64>>(
     alloc: Global,
     one: &ArrayBase<S, Ix2>,
@@ -52,18 +53,45 @@ pub fn product_in_loops<S: Data<Elem = i64>, Z: Data<Elem = i64>>(
     Ok(c)
 }
 
-/// How many pixels have each of the 256 values; a count wraps at 2 to the 64th.
+/// So many zeros.
+fn zeros<const N: usize>() -> [u64; N]
+    ensures { (k : ℕ) → k < N → slice_index result k ≡ 0 }
+{
+    [0; N]
+}
+
+/// Counts a pixel by its value.
+fn count_pixel(counts: &mut [u64; 256], value: u8)
+    requires room { slice_index counts.old value + 1 < 2 ^ 64 }
+    ensures { (v : ℕ) → v < 256 → slice_index counts.new v ≡ slice_index counts.old v + counts_for v (Some value) }
+{
+    counts[value as usize] += 1;
+}
+
+/// Counts the pixels of a row, each by its value.
+#[tactic(auto, using(std::proofs::lemmas::Bool::Decides::nat_tests, nd_array_core::proofs::Axes::known_axes))]
+fn count_row<S: Data<Elem = u8>>(counts: &mut [u64; 256], image: &ArrayBase<S, Ix2>, row: usize)
+    requires row { row < slice_index (shape_of image.now) 0 }
+    requires room { (v : ℕ) → v < 256 → slice_index counts.old v + slice_index (shape_of image.now) 1 < 2 ^ 64 }
+    ensures counted { (v : ℕ) → v < 256 → slice_index counts.new v ≡ slice_index counts.old v + count_in_row (element_of_2 image.now row) v (slice_index (shape_of image.now) 1) }
+    ensures few { (v : ℕ) → v < 256 → slice_index counts.new v ≤ slice_index counts.old v + slice_index (shape_of image.now) 1 }
+{
+    let columns = image.ncols();
+    for column in 0..columns {
+        count_pixel(counts, image[[row, column]]);
+    }
+}
+
+/// How many pixels have each of the 256 values.
 #[tactic(auto, using(std::proofs::lemmas::Bool::Decides::nat_tests, nd_array_core::proofs::Axes::known_axes))]
 pub fn histogram<S: Data<Elem = u8>>(image: &ArrayBase<S, Ix2>) -> [u64; 256]
-    ensures { (value : ℕ) → value < 256 → slice_index result value ≡ count_in_rows (element_of_2 image.now) value (slice_index (shape_of image.now) 1) (slice_index (shape_of image.now) 0) % 2 ^ 64 }
+    ensures { (value : ℕ) → value < 256 → slice_index result value ≡ count_in_rows (element_of_2 image.now) value (slice_index (shape_of image.now) 1) (slice_index (shape_of image.now) 0) }
 {
-    let (rows, columns) = image.dim();
-    let mut counts = [0u64; 256];
+    rows_joined(image);
+    let rows = image.nrows();
+    let mut counts: [u64; 256] = zeros();
     for row in 0..rows {
-        for column in 0..columns {
-            let value = image[[row, column]] as usize;
-            counts[value] = counts[value].wrapping_add(1);
-        }
+        count_row(&mut counts, image, row);
     }
     counts
 }
