@@ -4,6 +4,7 @@ ghost use Rattle.std.specs.Prelude.{◌≡◌, length};
 ghost use Rattle.std.specs.Iterator.{YieldsFirstRef, YieldsLastRef};
 ghost use Rattle.nd_array_core.specs.Joined.{row_major_elements};
 ghost use Rattle.nd_array_core.specs.Meaning.{meaning_of};
+ghost use Rattle.nd_array_core.specs.along.RankLanes.{lane_length};
 ghost use Rattle.nd_iter.specs.Hands.{left_in, AreEndsOf, IsByRanks};
 
 use crate::ranks::{lane_ahead, lane_behind, listed_in};
@@ -92,6 +93,36 @@ impl<'a, A> Ends<'a, A> {
         Some(listed_in(array, all, self.back))
     }
 
+    /// Takes the lane of the first rank in hand, where there is one and none is in hand before it.
+    #[inline]
+    fn fill_ahead<S: Data<Elem = A>, D: Dimension>(&mut self, array: &'a ArrayBase<S, D>)
+        requires { AreEndsOf (meaning_of array.now) self.old }
+        ensures ends { AreEndsOf (meaning_of array.now) self.new }
+        ensures same { left_in (meaning_of array.now) self.new ≡ left_in (meaning_of array.now) self.old }
+        ensures filled { lane_length self.new.ahead ≡ 0 → self.new.front ≡ self.new.back }
+    {
+        if self.ahead.len() == 0 && self.front < self.back {
+            let lane = lane_ahead(array, self.front, self.back);
+            self.front += lane.len();
+            self.ahead = lane;
+        }
+    }
+
+    /// The same of the last rank.
+    #[inline]
+    fn fill_behind<S: Data<Elem = A>, D: Dimension>(&mut self, array: &'a ArrayBase<S, D>)
+        requires { AreEndsOf (meaning_of array.now) self.old }
+        ensures ends { AreEndsOf (meaning_of array.now) self.new }
+        ensures same { left_in (meaning_of array.now) self.new ≡ left_in (meaning_of array.now) self.old }
+        ensures filled { lane_length self.new.behind ≡ 0 → self.new.front ≡ self.new.back }
+    {
+        if self.behind.len() == 0 && self.front < self.back {
+            let lane = lane_behind(array, self.front, self.back);
+            self.back -= lane.len();
+            self.behind = lane;
+        }
+    }
+
     /// The first of them, which is then taken.
     #[inline]
     pub fn first<S: Data<Elem = A>, D: Dimension>(
@@ -102,16 +133,9 @@ impl<'a, A> Ends<'a, A> {
         ensures first { YieldsFirstRef (left_in (meaning_of array.now)) self.old result self.new }
         ensures ends { AreEndsOf (meaning_of array.now) self.new }
     {
+        self.fill_ahead(array);
         if self.ahead.len() > 0 {
             return Some(self.ahead.take_first());
-        }
-        if self.front < self.back {
-            let mut lane = lane_ahead(array, self.front, self.back);
-            let count = lane.len();
-            let element = lane.take_first();
-            self.front += count;
-            self.ahead = lane;
-            return Some(element);
         }
         if self.behind.len() > 0 {
             let _all = array.len();
@@ -132,16 +156,9 @@ impl<'a, A> Ends<'a, A> {
         ensures last { YieldsLastRef (left_in (meaning_of array.now)) self.old result self.new }
         ensures ends { AreEndsOf (meaning_of array.now) self.new }
     {
+        self.fill_behind(array);
         if self.behind.len() > 0 {
             return Some(self.behind.take_last());
-        }
-        if self.front < self.back {
-            let mut lane = lane_behind(array, self.front, self.back);
-            let count = lane.len();
-            let element = lane.take_last();
-            self.back -= count;
-            self.behind = lane;
-            return Some(element);
         }
         if self.ahead.len() > 0 {
             self.front -= 1;

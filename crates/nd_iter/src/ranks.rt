@@ -106,7 +106,7 @@ pub(crate) fn listed_at<'a, A, S: Data<Elem = A>, D: Dimension>(
 }
 
 /// What is left from a rank on of its lane, up to another rank.
-#[inline(never)]
+#[inline]
 pub(crate) fn lane_ahead<A, S: Data<Elem = A>, D: Dimension>(
     array: &ArrayBase<S, D>,
     from: usize,
@@ -125,7 +125,7 @@ pub(crate) fn lane_ahead<A, S: Data<Elem = A>, D: Dimension>(
 }
 
 /// What is left before a rank of the lane of the one before it, from another rank on.
-#[inline(never)]
+#[inline]
 pub(crate) fn lane_behind<A, S: Data<Elem = A>, D: Dimension>(
     array: &ArrayBase<S, D>,
     from: usize,

@@ -35,6 +35,7 @@ impl<'a, A> LaneView<'a, A> {
 }
 
 /// The length and the stride of the last axis, 1 where there is no axis.
+#[inline]
 fn last_axis(lengths: &[usize], strides: &[isize]) -> (usize, isize)
     requires { length strides.now ≡ length lengths.now }
     ensures { IsLastAxis lengths.now strides.now result.0 result.1 }
@@ -48,6 +49,7 @@ fn last_axis(lengths: &[usize], strides: &[isize]) -> (usize, isize)
 
 impl<S: Data, D: Dimension> ArrayBase<S, D> {
     /// The place of the index of a rank.
+    #[inline(never)]
     fn place_of_rank(&self, rank: usize) -> usize
         requires { rank < size_of (shape_of self.now) }
         ensures { pos result ≡ rank_place (placement_of self.now.layout) rank }
@@ -60,6 +62,7 @@ impl<S: Data, D: Dimension> ArrayBase<S, D> {
 
     /// The lane of the last axis in which a row-major rank below `len` lies, and the rank of its first element; of an array
     /// without axes its one element.
+    #[inline]
     pub fn lane_of_rank(&self, rank: usize) -> (LaneView<'_, S::Elem>, usize)
         requires { rank < size_of (shape_of self.now) }
         ensures from { result.1 ≤ rank }

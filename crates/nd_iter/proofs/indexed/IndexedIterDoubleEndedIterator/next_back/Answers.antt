@@ -1,4 +1,4 @@
-use Rattle.std.proofs.Common.{ap, ◌∙◌, sym, arith, Some, ◌-◌}
+use Rattle.std.proofs.Common.{◌∙◌, sym, arith, Some, ◌-◌}
 use Rattle.nd_array_core.specs.Joined.{row_major_elements}
 use Rattle.nd_array_core.specs.Meaning.{meaning_of}
 use Rattle.nd_iter.specs.Seen.{with_indexes}
