@@ -1,10 +1,11 @@
 //! Tables that grow: read row by row, lengthened by columns, and a log of the last rows.
 #![tactic(auto, using(std::proofs::lemmas::Bool::Decides::nat_tests, nd_array_core::proofs::Axes::known_axes))]
 
-ghost use Rattle.std.specs.Prelude.{◌≡◌, ◌+◌, ◌<◌, ℕ, Some, IfOk, OnOk, OnErr, length, slice_get, slice_index};
+ghost use Rattle.std.specs.Prelude.{◌≡◌, ◌+◌, ◌<◌, ◌∷◌, [], ℕ, Some, IfOk, OnOk, OnErr, length, slice_get, slice_index};
 ghost use Rattle.nd_array_core.specs.Meaning.{meaning_of, shape_of};
 ghost use Rattle.nd_array_core.specs.Coordinates.{element_of_1, element_of_2, HasLength, HasRowsAndColumns};
 ghost use Rattle.nd_array_core.specs.along.Selected.{AreCoordinates};
+ghost use Rattle.nd_array_core.specs.growth.InTurn.{JoinsAllAlike};
 
 use nd_array_core::{Array2, ArrayBase, ArrayError, ArrayView1, ArrayView2, Data};
 use nd_shape_and_slice::{Axis, Ix2};
@@ -149,6 +150,18 @@ pub fn columns_behind<A: Clone + Drop, S: Data<Elem = A>>(
     Ok(())
 }
 
+/// Two tables behind one, along its columns.
+fn append_both<'a, A: Clone + Drop>(
+    table: &mut Array2<A>,
+    first: ArrayView2<'a, A>,
+    second: ArrayView2<'a, A>,
+) -> Result<(), (usize, ArrayError)>
+    requires clones { (x copy : A) → A.is_clone x copy → copy ≡ x }
+    ensures { OnOk result (JoinsAllAlike 1 (meaning_of table.old) (meaning_of first.entry ∷ meaning_of second.entry ∷ []) (meaning_of table.new)) }
+{
+    table.append_each(Axis(1), &[first, second])
+}
+
 /// Further columns behind those of a table, all in one call.
 pub fn both_behind<'a, A: Clone + Drop>(
     table: &mut Array2<A>,
@@ -162,5 +175,6 @@ pub fn both_behind<'a, A: Clone + Drop>(
     ensures first { OnOk result ((i j : ℕ) → i < slice_index (shape_of table.old) 0 → j < slice_index (shape_of first.entry) 1 → element_of_2 table.new i (slice_index (shape_of table.old) 1 + j) ≡ element_of_2 first.entry i j) }
     ensures second { OnOk result ((i j : ℕ) → i < slice_index (shape_of table.old) 0 → j < slice_index (shape_of second.entry) 1 → element_of_2 table.new i (slice_index (shape_of table.old) 1 + slice_index (shape_of first.entry) 1 + j) ≡ element_of_2 second.entry i j) }
 {
-    table.append_each(Axis(1), &[first, second])
+    append_both(table, first, second)?;
+    Ok(())
 }
