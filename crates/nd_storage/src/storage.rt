@@ -1,6 +1,6 @@
 //! The storages of arrays: an owned vector, or a borrow of elements, shared or to be written.
 
-ghost use Rattle.std.specs.Prelude.{◌≡◌, ◌+◌, ◌*◌, ◌<◌, ◌≤◌, ◌^◌, ⊤, ℕ, length, Bool, true, false, List, [], Option, IsSome, Some, IfOk, IfErr, is_ok, slice_get, slice_range, refl, vec_capacity};
+ghost use Rattle.std.specs.Prelude.{◌≡◌, ◌+◌, ◌*◌, ◌<◌, ◌≤◌, ◌^◌, ⊤, ℕ, length, Bool, true, false, List, [], Option, IsSome, Some, IfOk, IfErr, OnErr, is_ok, slice_get, slice_range, refl, vec_capacity};
 ghost use Rattle.std.specs.Borrow.{sem};
 ghost use Rattle.std.specs.List.{flat_map};
 ghost use Rattle.std.specs.Option.{is_some};
@@ -569,11 +569,16 @@ pub fn part_of_slice<A, R, F: for<'b> FnOnce(Region<'b, A>) -> (Region<'b, A>, R
 #[tactic(auto, using(crate::proofs::Clones::clones_same))]
 pub fn cloned_storage<A: Clone>(storage: &OwnedRepr<A>) -> Result<OwnedRepr<A>, AllocError>
     requires { StoredClonesAreEqual A.is_clone (stored_list storage.now) }
-    ensures { IfOk result (λ copy. stored_list copy ≡ stored_list storage.now) }
+    ensures stored { IfOk result (λ copy. stored_list copy ≡ stored_list storage.now) }
+    ensures refused { OnErr result (0 < length (stored_list storage.now)) }
 {
-    Ok(OwnedRepr {
-        items: storage.items.clone()?,
-    })
+    match storage.items.clone() {
+        Ok(items) => Ok(OwnedRepr { items }),
+        Err(_) if storage.items.as_slice().is_empty() => Ok(OwnedRepr {
+            items: Vec::new(*storage.items.allocator()),
+        }),
+        Err(refused) => Err(refused),
+    }
 }
 
 impl<'a, A> ViewRepr<'a, A> {

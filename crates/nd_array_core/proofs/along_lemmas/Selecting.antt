@@ -8,9 +8,10 @@ use Rattle.std.proofs.lemmas.List.Edits.{length-swap, swapped_from_swap}
 use Rattle.std.proofs.lemmas.List.Elements.{All-get_or}
 use Rattle.std.specs.Prelude.{Option, Some, None, is_some, slice_get, slice_index, if◌then◌else◌}
 use Rattle.std.specs.List.{swap, All}
-use Rattle.nd_shape_and_slice.specs.Shape.{in_box, size_of, row_rank, HasCheckedSize}
+use Rattle.nd_shape_and_slice.specs.Shape.{in_box, size_of, row_rank, index_at, HasCheckedSize}
 use Rattle.nd_shape_and_slice.specs.Maps.{collapsed_shape, collapsed_index}
 use Rattle.nd_shape_and_slice.specs.Place.{place_of}
+use Rattle.nd_shape_and_slice.proofs.RankIndexes.{in_box-index_at}
 use Rattle.nd_shape_and_slice.proofs.RowMajor.{in_box-cons, row_rank_below, length-in_box}
 use Rattle.nd_layout.specs.Steps.{IsStep}
 use Rattle.nd_layout.proofs.steps.ExchangeStep.{swap_back, swap_is_step}
@@ -32,6 +33,14 @@ row_fits n m w below =
     let more : suc n * w ≤ m * w = mul-le-mul_right w (let b : suc n ≤ m = omega (arith, below) in b) in
     let sum : suc n * w ≡ n * w + w = grind arith in
     omega (arith, more, sum)
+
+-- a choice of something of a row with an element has one
+pub row_is_some : (ns ms indices : List ℕ) (n : ℕ) → 0 < length ns → n < length indices → ms ≡ collapsed_shape ns 0 → 0 < size_of ms → 0 < size_of (selected_shape ns 0 indices)
+row_is_some ns ms indices n axes within row some =
+    let size = rows_size ns (length indices) axes in
+    let fits = row_fits n (length indices) (size_of (collapsed_shape ns 0)) within in
+    let one : 0 < size_of (collapsed_shape ns 0) = subst (λ s. 0 < size_of s) row some in
+    omega (arith, size, fits, one)
 
 module _ {A : Type 0} where
   get_front : (xs ys : List A) (k : ℕ) → k < length xs → slice_get (xs ++ ys) k ≡ slice_get xs k
@@ -251,3 +260,14 @@ turned_shape_checked a ns vs ts indices on same turned few =
 pub selected_shape_back : (a : ℕ) (ns vs ts ms ls indices : List ℕ) → a < length ns → vs ≡ ns → ts ≡ swap vs 0 a → ms ≡ selected_shape ts 0 indices → ls ≡ swap ms 0 a → ls ≡ selected_shape ns a indices
 selected_shape_back a ns vs ts ms ls indices on same turned chosen back =
     back ∙ ap (λ us. swap us 0 a) (chosen ∙ ap (λ us. selected_shape us 0 indices) (turned ∙ ap (λ us. swap us 0 a) same)) ∙ swap_set_back a ns (length indices) on
+
+-- there is something along the axis where there is along the first
+pub turned_is_some : (a : ℕ) (ns vs ts indices : List ℕ) → a < length ns → vs ≡ ns → ts ≡ swap vs 0 a → 0 < size_of (selected_shape ts 0 indices) → 0 < size_of (selected_shape ns a indices)
+turned_is_some a ns vs ts indices on same turned some =
+    let ms = selected_shape ns a indices in
+    let long : length ms ≡ length ns = length-set ns a (length indices) in
+    let chosen : swap ms 0 a ≡ selected_shape ts 0 indices = swap_set a ns (length indices) on ∙ sym (ap (λ us. selected_shape us 0 indices) (turned ∙ ap (λ us. swap us 0 a) same)) in
+    let i = index_at (selected_shape ts 0 indices) 0 in
+    let box : in_box (swap ms 0 a) i ≡ true = ap (λ s. in_box s i) chosen ∙ in_box-index_at (selected_shape ts 0 indices) 0 some in
+    let below = row_rank_below ms (swap i 0 a) ((exchange_step a ms (omega (arith, long, on))).within i box) in
+    omega (arith, below)

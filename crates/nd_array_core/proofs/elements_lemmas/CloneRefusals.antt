@@ -55,3 +55,17 @@ module _ {A : Type 0} (is_infallible : A → Type 0) where
   pub part_refused : (at part : List ℕ → Option A) (ns : List ℕ) (source : List ℕ → List ℕ) → ((i : List ℕ) → part i ≡ inside ns i (at (source i))) → MayRefuseClone is_infallible part → MayRefuseClone is_infallible at
   part_refused at part ns source is refused =
       (source refused.0, refused.1, inside_some ns refused.0 (at (source refused.0)) refused.1 (sym (is refused.0) ∙ refused.2), refused.3)
+
+  -- there is an element then
+  pub refused_some : (stored : ℕ → Option A) (first : ℕ) (ns : List ℕ) (ss : List ℤ) → MayRefuseClone is_infallible (λ i. inside ns i (stored_at stored (place_of first ss i))) → 0 < size_of ns
+  refused_some stored first ns ss refused = let below = row_rank_below ns i (by_test (in_box ns i) refl refused.2) in omega (arith, below)
+    where
+      i : List ℕ
+      i = refused.0
+
+      o : Option A
+      o = stored_at stored (place_of first ss i)
+
+      by_test : (t : Bool) → in_box ns i ≡ t → inside ns i o ≡ Some refused.1 → in_box ns i ≡ true
+      by_test true h e = h
+      by_test false h e = absurd (let none : None ≡ Some refused.1 = rw h at e in cc)

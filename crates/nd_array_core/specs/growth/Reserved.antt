@@ -1,5 +1,5 @@
 -- Room for more lengths of an axis.
-use Rattle.std.specs.Prelude.{ℕ, ◌+◌, ◌*◌, ◌≤◌, List, length}
+use Rattle.std.specs.Prelude.{ℕ, ◌+◌, ◌*◌, ◌<◌, ◌≤◌, List, length}
 use Rattle.std.specs.List.{remove}
 use Rattle.nd_shape_and_slice.specs.declared.dimension.Dimension as dimension
 use Rattle.nd_shape_and_slice.specs.declared.dimension.AxisCount as axis_count
@@ -24,6 +24,10 @@ module _ {S D T A P R L M : Type 0} {s : data_trait.Ghosts S A} {d : dimension.G
   -- the shape with so many more lengths of an axis has a checked size
   abbrev pub CanGrowBy : ℕ → ℕ → ArrayBase S D T A P R L M s d n r t → Type 0
   CanGrowBy axis additional a = HasCheckedSize (grown_shape (shape_of a) axis additional)
+
+  -- so many more lengths of an axis have an element
+  abbrev pub AddsElements : ℕ → ℕ → ArrayBase S D T A P R L M s d n r t → Type 0
+  AddsElements axis additional a = 0 < added_elements (shape_of a) axis additional
 
 module _ {D T A P R L M : Type 0} {s : data_trait.Ghosts (OwnedRepr A) A} {d : dimension.Ghosts D P R L M} {n : axis_count.Ghosts D} {r : stride_list.Ghosts R} {t : stride_list.Ghosts T} where
   -- the elements of so many more lengths of an axis find room without memory

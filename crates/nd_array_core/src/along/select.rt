@@ -1,7 +1,7 @@
 //! Coordinates of one axis chosen.
 #![tactic(auto, unfolding(crate::specs::Meaning::meaning_of, crate::specs::Meaning::memory_layout_of))]
 
-ghost use Rattle.std.specs.Prelude.{◌≡◌, ◌+◌, ◌<◌, ◌≤◌, ℕ, [], List, IfOk, length, vec_len, vec_capacity};
+ghost use Rattle.std.specs.Prelude.{◌≡◌, ◌+◌, ◌<◌, ◌≤◌, ℕ, [], List, IfOk, OnErr, length, vec_len, vec_capacity};
 ghost use Rattle.nd_shape_and_slice.specs.Shape.{size_of, HasCheckedSize};
 ghost use Rattle.nd_array_core.specs.along.Selected.{selected_shape, AreCoordinates, ListsRows, ShowsSelected};
 ghost use Rattle.nd_array_core.specs.Meaning.{meaning_of, shape_of, element_at};
@@ -32,6 +32,7 @@ where
     requires room { size_of (selected_shape (shape_of array.now) 0 indices.now) ≤ vec_capacity before }
     ensures items { IfOk result (λ v. ListsRows (meaning_of array.now) indices.now (nth + 1) v.items) }
     ensures room { IfOk result (λ v. vec_capacity before ≤ vec_capacity v) }
+    ensures refused { OnErr result (0 < size_of (selected_shape (shape_of array.now) 0 indices.now)) }
 {
     let mut row = array.view();
     row.collapse_axis(Axis(0), indices[nth]);
@@ -53,6 +54,7 @@ where
     requires room { size_of (selected_shape (shape_of array.now) 0 indices.now) ≤ vec_capacity room }
     ensures items { IfOk result (λ v. ListsRows (meaning_of array.now) indices.now (length indices.now) v.items) }
     ensures count { IfOk result (λ v. vec_len v ≡ size_of (selected_shape (shape_of array.now) 0 indices.now)) }
+    ensures refused { OnErr result (0 < size_of (selected_shape (shape_of array.now) 0 indices.now)) }
 {
     let mut items = room;
     for nth in 0..indices.len() {
@@ -75,6 +77,7 @@ where
     requires clones { ClonesOfAllAreEqual S.Elem.is_clone (element_at array.now) }
     ensures shape { IfOk result (λ a. shape_of a ≡ selected_shape (shape_of array.now) 0 indices.now) }
     ensures elements { IfOk result (λ a. ShowsSelected (meaning_of array.now) 0 indices.now (element_at a)) }
+    ensures refused { OnErr result (0 < size_of (selected_shape (shape_of array.now) 0 indices.now)) }
 {
     let mut dim = array.raw_dim();
     dim.set_length(0, indices.len());
@@ -103,6 +106,7 @@ where
         requires clones { ClonesOfAllAreEqual S.Elem.is_clone (element_at self.now) }
         ensures shape { IfOk result (λ a. shape_of a ≡ selected_shape (shape_of self.now) axis.0 indices.now) }
         ensures elements { IfOk result (λ a. ShowsSelected (meaning_of self.now) axis.0 indices.now (element_at a)) }
+        ensures refused { OnErr result (0 < size_of (selected_shape (shape_of self.now) axis.0 indices.now)) }
     {
         let mut turned = self.view();
         turned.swap_axes(0, axis.0);

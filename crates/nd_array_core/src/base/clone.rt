@@ -1,7 +1,7 @@
 //! Copies of owned arrays.
 #![tactic(auto, unfolding(crate::specs::Meaning::meaning_of, crate::specs::Meaning::memory_layout_of))]
 
-ghost use Rattle.std.specs.Prelude.{◌≡◌, IfOk, OnOk, OnErr};
+ghost use Rattle.std.specs.Prelude.{◌≡◌, ◌<◌, IfOk, OnOk, OnErr, length};
 ghost use Rattle.nd_array_core.specs.Meaning.{storage_of};
 ghost use Rattle.nd_array_core.specs.Part.{ShowsWhole};
 ghost use Rattle.nd_storage.specs.Storages.{stored_list};
@@ -19,6 +19,7 @@ impl<A: Clone, D: Dimension> Array<A, D> {
         requires { StoredClonesAreEqual A.is_clone (stored_list (storage_of self.now)) }
         ensures whole { IfOk result (λ copy. ShowsWhole self.now copy) }
         ensures stored { IfOk result (λ copy. stored_list (storage_of copy) ≡ stored_list (storage_of self.now)) }
+        ensures refused { OnErr result (0 < length (stored_list (storage_of self.now))) }
     {
         let storage = cloned_storage(&self.storage)?;
         Ok(ArrayBase {
@@ -34,6 +35,7 @@ impl<A: Clone, D: Dimension> Array<A, D> {
         ensures whole { OnOk result (ShowsWhole source.now self.new) }
         ensures stored { OnOk result (stored_list (storage_of self.new) ≡ stored_list (storage_of source.now)) }
         ensures refused { OnErr result (self.new ≡ self.old) }
+        ensures some_stored { OnErr result (0 < length (stored_list (storage_of source.now))) }
     {
         *self = source.clone()?;
         Ok(())

@@ -49,6 +49,7 @@ where
     ensures items { IfOk result (λ v. v.items ≡ before.items ++ row_major_elements (meaning_of array.now)) }
     ensures count { IfOk result (λ v. vec_len v ≡ vec_len before + size_of (shape_of array.now)) }
     ensures room { IfOk result (λ v. vec_capacity before ≤ vec_capacity v) }
+    ensures refused { OnErr result (0 < size_of (shape_of array.now)) }
 {
     let mut items = before;
     match list_behind(&mut items, array) {

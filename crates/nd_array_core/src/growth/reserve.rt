@@ -7,7 +7,7 @@ ghost use Rattle.nd_layout.specs.Growth.{grown_shape};
 ghost use Rattle.nd_array_core.specs.Meaning.{shape_of, storage_of};
 ghost use Rattle.nd_array_core.specs.Part.{ShowsWhole};
 ghost use Rattle.nd_storage.specs.Storages.{stored_list, room_of};
-ghost use Rattle.nd_array_core.specs.growth.Reserved.{added_elements, CanGrowBy, HasRoomAlong};
+ghost use Rattle.nd_array_core.specs.growth.Reserved.{added_elements, AddsElements, CanGrowBy, HasRoomAlong};
 
 use crate::base::array::Array;
 use crate::base::array_error::ArrayError;
@@ -44,6 +44,7 @@ fn reserve_elements<A>(items: &mut Vec<A>, count: usize) -> Result<(), ArrayErro
     ensures no_less { vec_capacity items.old ≤ vec_capacity items.new }
     ensures cause { IfErr result (λ e. e ≡ ArrayError.NoMemory) }
     ensures kept { OnErr result (vec_capacity items.new ≡ vec_capacity items.old) }
+    ensures refused { OnErr result (0 < count) }
 {
     match items.reserve(count) {
         Ok(()) => Ok(()),
@@ -62,6 +63,7 @@ impl<A, D: Dimension> Array<A, D> {
         ensures overflow { ¬ (CanGrowBy axis.0 additional self.old) → result ≡ Err (ArrayError.Shape ErrorKind.Overflow) }
         ensures no_memory { CanGrowBy axis.0 additional self.old → IfErr result (λ e. e ≡ ArrayError.NoMemory) }
         ensures enough { CanGrowBy axis.0 additional self.old → HasRoomAlong axis.0 additional self.old → result ≡ Ok tt }
+        ensures refused { CanGrowBy axis.0 additional self.old → OnErr result (AddsElements axis.0 additional self.old) }
         ensures room { OnOk result (HasRoomAlong axis.0 additional self.new) }
         ensures kept { OnErr result (room_of (storage_of self.new) ≡ room_of (storage_of self.old)) }
         ensures no_less { room_of (storage_of self.old) ≤ room_of (storage_of self.new) }
@@ -82,6 +84,7 @@ impl<A> Array<A, Ix2> {
         ensures overflow { ¬ (CanGrowBy 0 additional self.old) → result ≡ Err (ArrayError.Shape ErrorKind.Overflow) }
         ensures no_memory { CanGrowBy 0 additional self.old → IfErr result (λ e. e ≡ ArrayError.NoMemory) }
         ensures enough { CanGrowBy 0 additional self.old → HasRoomAlong 0 additional self.old → result ≡ Ok tt }
+        ensures refused { CanGrowBy 0 additional self.old → OnErr result (AddsElements 0 additional self.old) }
         ensures room { OnOk result (HasRoomAlong 0 additional self.new) }
         ensures kept { OnErr result (room_of (storage_of self.new) ≡ room_of (storage_of self.old)) }
         ensures no_less { room_of (storage_of self.old) ≤ room_of (storage_of self.new) }
@@ -98,6 +101,7 @@ impl<A> Array<A, Ix2> {
         ensures overflow { ¬ (CanGrowBy 1 additional self.old) → result ≡ Err (ArrayError.Shape ErrorKind.Overflow) }
         ensures no_memory { CanGrowBy 1 additional self.old → IfErr result (λ e. e ≡ ArrayError.NoMemory) }
         ensures enough { CanGrowBy 1 additional self.old → HasRoomAlong 1 additional self.old → result ≡ Ok tt }
+        ensures refused { CanGrowBy 1 additional self.old → OnErr result (AddsElements 1 additional self.old) }
         ensures room { OnOk result (HasRoomAlong 1 additional self.new) }
         ensures kept { OnErr result (room_of (storage_of self.new) ≡ room_of (storage_of self.old)) }
         ensures no_less { room_of (storage_of self.old) ≤ room_of (storage_of self.new) }

@@ -4,7 +4,8 @@ use Rattle.std.proofs.lemmas.Result.{IfOk-weaker}
 use Rattle.nd_shape_and_slice.specs.Maps.{collapsed_shape}
 use Rattle.nd_array_core.specs.Meaning.{meaning_of, shape_of, element_at}
 use Rattle.nd_storage.specs.Storages.{shown_by}
-use Rattle.nd_array_core.proofs.along_lemmas.Selecting.{selected_more, row_shown, box_has}
+use Rattle.nd_storage.proofs.Assigned.{on_err}
+use Rattle.nd_array_core.proofs.along_lemmas.Selecting.{selected_more, row_shown, row_is_some, box_has}
 use Rattle.nd_array_core.proofs.along.select.selected_row.Goals as goal
 
 pub returns-clause-items : goal.returns-clause-items
@@ -21,3 +22,11 @@ returns-clause-items g c =
     (box_has (shown_by row.storage) row.layout.offset (g.D.Dimension.lengths row.layout.dim) (g.D.Strides.StrideList.strides_of row.layout.strides) row.inside)
     put c.requires.so_far)
     c.listed_behind.ensures.items
+
+pub returns-clause-refused : goal.returns-clause-refused
+returns-clause-refused g c =
+    let array = c.args.array.now in
+    on_err c.listed_behind.result
+    (row_is_some (shape_of array) (shape_of c.collapse_axis.new.self) c.args.indices.now c.args.nth c.requires.axes c.requires.within
+    (c.collapse_axis.ensures.part.0.0 ∙ ap (λ ns. collapsed_shape ns 0) c.view-row.ensures.whole.0))
+    c.listed_behind.ensures.refused

@@ -1,5 +1,6 @@
+use Rattle.std.specs.Prelude.{Result, Ok, Err, OnErr}
 use Rattle.nd_array_core.specs.Meaning.{shape_of, element_at}
-use Rattle.nd_array_core.proofs.along_lemmas.Selecting.{selected_by_turns, turned_shape_checked, selected_shape_back}
+use Rattle.nd_array_core.proofs.along_lemmas.Selecting.{selected_by_turns, turned_shape_checked, turned_is_some, selected_shape_back}
 use Rattle.nd_array_core.proofs.along.select.ArrayBase+S+D.select.Goals as goal
 
 pub select_first-requires-clause-checked : goal.select_first-requires-clause-checked
@@ -18,3 +19,12 @@ returns-clause-elements g c =
     (element_at c.view-turned.result) (element_at c.swap_axes.new.self) (element_at c.in_ok-selected.selected) (element_at c.swap_axes-2.new.self)
     c.view-turned.ensures.whole.0 c.view-turned.ensures.whole.2 c.swap_axes.ensures.part.0.0 c.swap_axes.ensures.part.0.2
     c.in_ok-selected.ensures.shape c.in_ok-selected.ensures.elements c.swap_axes-2.ensures.part.0.2
+
+on_err : {X E : Type 0} {P : Type 0} (r : Result X E) → P → OnErr r P
+on_err (Ok x) p = tt
+on_err (Err e) p = p
+
+pub returns-in_err-selected-clause-refused : goal.returns-in_err-selected-clause-refused
+returns-in_err-selected-clause-refused g c =
+    on_err c.from_residual.result
+    (turned_is_some c.args.axis.0 (shape_of c.args.self.now) (shape_of c.view-turned.result) (shape_of c.swap_axes.new.self) c.args.indices.now c.requires.axis c.view-turned.ensures.whole.0 c.swap_axes.ensures.part.0.0 c.in_err-selected.ensures.refused)
