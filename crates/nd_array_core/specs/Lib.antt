@@ -2,6 +2,7 @@ pub use Rattle.nd_storage.specs.Collected
 pub use Rattle.nd_storage.specs.Filled
 pub use Rattle.nd_storage.specs.FreeOrder
 pub use Rattle.nd_storage.specs.Places
+pub use Rattle.nd_storage.specs.declared.storage.Data
 pub mod PlacedArray
 pub mod Meaning
 pub mod Part
