@@ -174,11 +174,11 @@ takes_memory (Keeping step) = false
 takes_memory (About path question) = answers_in_memory question
 takes_memory (Writing path act) = clones act
 takes_memory (SplitWriting axis index first second) = clones first || clones second
-takes_memory (Selecting axis indexes) = true
+takes_memory (Selecting axis indexes) = not (length indexes == 0)
 takes_memory (Removing axis index) = false
 takes_memory (Reshaping to order) = true
 takes_memory (Appending axis other) = not (size_of other.shape == 0)
-takes_memory (Reserving axis additional) = true
+takes_memory (Reserving axis additional) = not (additional == 0)
 takes_memory (Concatenating axis others) = true
 takes_memory (Stacking axis others) = true
 

@@ -1,7 +1,8 @@
-use Rattle.std.proofs.Common.{◌≡◌, ◌<◌, ◌+◌, ◌^◌, ℕ, List, length, set, get_or, None, Some, refl, sym, arith, rules}
-use Rattle.std.proofs.lemmas.Bool.{lt-ltb, le-ltb}
-use Rattle.nd_shape_and_slice.specs.Shape.{nonzero_product, HasCheckedSize}
-use Rattle.nd_array_core.specs.Meaning.{meaning_of}
+use Rattle.std.proofs.Common.{◌≡◌, ◌<◌, ◌≤◌, ◌+◌, ◌*◌, ◌^◌, ℕ, List, length, set, get_or, not, None, Some, refl, ap, sym, subst, ⊎_elim, arith, rules}
+use Rattle.std.proofs.lemmas.Bool.{cases_lt, lt-ltb, le-ltb, ne_eqb}
+use Rattle.std.specs.List.{remove}
+use Rattle.nd_shape_and_slice.specs.Shape.{nonzero_product, size_of, HasCheckedSize}
+use Rattle.nd_array_core.specs.Meaning.{meaning_of, shape_of}
 use Rattle.nd_run.specs.declared.cause.Cause.TheVariants as causes
 use Rattle.nd_run.specs.Calls.{Reserving}
 use Rattle.nd_run.specs.Steps.{first_failed}
@@ -15,6 +16,13 @@ module _ (axis n : ℕ) (ns : List ℕ) (on : axis < length ns) where
 
   cannot_grow : (HasCheckedSize (set ns axis (get_or ns axis 0 + n)) → ⊥) → first_failed (reserve_tests axis n ns) ≡ Some causes.Overflow
   cannot_grow too_large = rw (lt-ltb axis (length ns) on, le-ltb (nonzero_product (set ns axis (get_or ns axis 0 + n))) (2 ^ 63) (omega (arith, too_large))) refl
+
+-- what isn't refused can grow
+by_refusal : (ns : List ℕ) → ((HasCheckedSize ns → ⊥) → ⊥) → HasCheckedSize ns
+by_refusal ns allowed = ⊎_elim (λ less. less) (λ (large : 2 ^ 63 ≤ nonzero_product ns). absurd (allowed (λ less. omega (arith, large, less)))) (cases_lt (nonzero_product ns) (2 ^ 63))
+
+some_more : (n elements : ℕ) → 0 < n * elements → n ≡ 0 → ⊥
+some_more n elements some none = let here : 0 < 0 * elements = subst (λ k. 0 < k * elements) none some in omega (arith, here)
 
 pub returns-in-Ok-clause-carried : goal.returns-in-Ok-clause-carried
 returns-in-Ok-clause-carried g c =
@@ -30,3 +38,12 @@ returns-in-Err-Shape-clause-carried g c =
     rw c.number-in-Err-Shape.ensures
     (carried g.A.PartialEq.eq (Reserving c.args.axis c.args.additional) m (Some causes.Overflow) (meaning_of c.reserve.new.self) (sym (cannot_grow c.args.axis c.args.additional m.shape on (λ fits. (let e = c.in-Err-Shape.ensures.no_memory fits in absurd cc)))) refl
     (same_meaning m (meaning_of c.reserve.new.self) c.reserve.ensures.whole.0 c.reserve.ensures.whole.2))
+
+pub returns-in-Err-NoMemory-clause-carried : goal.returns-in-Err-NoMemory-clause-carried
+returns-in-Err-NoMemory-clause-carried g c =
+    let ns = shape_of c.args.array.now in
+    let axis = c.args.axis in
+    let n = c.args.additional in
+    let on : axis < length ns = search rules in
+    let fits = by_refusal (set ns axis (get_or ns axis 0 + n)) (λ unfit. (let e = c.in-Err-NoMemory.ensures.overflow unfit in absurd cc)) in
+    (can_grow axis n ns on fits, ap not (ne_eqb n 0 (some_more n (size_of (remove ns axis)) (c.in-Err-NoMemory.ensures.refused fits))))
