@@ -6,7 +6,7 @@ import timeit
 
 import numpy
 
-import orders
+import products
 
 CALLS = {
     "fold_axis": "a.sum(axis)",
@@ -17,9 +17,10 @@ CALLS = {
 
 def of_numpy(name):
     """The microseconds of numpy's nearest call."""
-    call, order, side = name.split(", ")
+    call, _, case = name.partition(": ")
     verb = call.split(" of ")[0].strip("`")
-    _, axis, _, order = order.split(" ")
+    lane, side = case.split(", ")
+    _, axis, _, order = lane.split(" ")
     side = int(side)
     array = numpy.ones((side, side), dtype=numpy.int64, order=order)
     number = max(2, min(2000, 4_000_000 // side**2)) if verb != "map_axis" else 2
@@ -27,7 +28,7 @@ def of_numpy(name):
     return min(timer.repeat(10 if verb != "map_axis" else 3, number)) / number * 1e6
 
 
-orders.of_numpy = of_numpy
+products.of_numpy = of_numpy
 
 if __name__ == "__main__":
-    orders.main()
+    products.main()

@@ -65,14 +65,14 @@ pub fn rows() {
                 }
                 1
             };
-            row_of(&format!("`fold_axis` of `i64`, {name}, {side}"), 30, calls, &mut plain_sums, &mut |calls| unsafe {
+            row_of(&format!("`fold_axis` of `i64`: {name}, {side}"), 30, calls, &mut plain_sums, &mut |calls| unsafe {
                 nd_speed_sums_along(place, count, lengths.as_ptr(), 2, axis, case, calls)
             });
-            row_of(&format!("`map_axis` of `i64`, {name}, {side}"), 30, calls, &mut plain_sums, &mut |calls| unsafe {
+            row_of(&format!("`map_axis` of `i64`: {name}, {side}"), 30, calls, &mut plain_sums, &mut |calls| unsafe {
                 nd_speed_lane_sums(place, count, lengths.as_ptr(), 2, axis, case, calls)
             });
             row_of(
-                &format!("`accumulate_axis_inplace` of `i64`, {name}, {side}"),
+                &format!("`accumulate_axis_inplace` of `i64`: {name}, {side}"),
                 30,
                 calls,
                 &mut |calls| {
