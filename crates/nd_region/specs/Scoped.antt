@@ -71,3 +71,14 @@ module _ {A R : Type 0} where
   -- the region has at these places what the function gave back, and elsewhere what it had
   abbrev pub HasEither : (Region A → Region A × R → Type 0) → ℕ → List ℕ → List ℤ → ℕ → List ℕ → List ℤ → Region A → Region A → R → Type 0
   HasEither post offset lengths strides from sizes steps old new answer = IsPartReturned post (names_either offset lengths strides from sizes steps) old new answer
+
+-- ---- and of those places with all others beside them
+abbrev pub TakesEitherApart : {A : Type 0} → (Region A → Region A → Type 0) → ℕ → List ℕ → List ℤ → ℕ → List ℕ → List ℤ → Region A → Type 0
+TakesEitherApart pre offset lengths strides from sizes steps whole = TakesParts pre (names_either offset lengths strides from sizes steps) whole
+
+module _ {A R : Type 0} where
+  abbrev pub GivesBothBack : (Region A → Region A → Region A × Region A × R → Type 0) → ℕ → List ℕ → List ℤ → ℕ → List ℕ → List ℤ → Region A → Type 0
+  GivesBothBack post offset lengths strides from sizes steps whole = GivesPartsBack post (names_either offset lengths strides from sizes steps) whole
+
+  abbrev pub AreBothReturned : (Region A → Region A → Region A × Region A × R → Type 0) → ℕ → List ℕ → List ℤ → ℕ → List ℕ → List ℤ → Region A → Region A → R → Type 0
+  AreBothReturned post offset lengths strides from sizes steps old new answer = ArePartsReturned post (names_either offset lengths strides from sizes steps) old new answer

@@ -1,8 +1,8 @@
 //! A region for the length of a call.
 ghost use Rattle.std.specs.Prelude.{◌≡◌, ℕ, Bool, length, IsSome};
-ghost use Rattle.nd_region.specs.Places.{names, names_either};
+ghost use Rattle.nd_region.specs.Places.{names};
 ghost use Rattle.nd_region.specs.Region.{HasPlaces, IsAsLong, borrow_of, region_stored, with_swapped, SwappedBetween};
-ghost use Rattle.nd_region.specs.Scoped.{TakesWhole, GivesWholeBack, IsWholeReturned, TakesPart, GivesPartBack, IsPartReturned, TakesEither, GivesEitherBack, HasEither, TakesParts, GivesPartsBack, ArePartsReturned};
+ghost use Rattle.nd_region.specs.Scoped.{TakesWhole, GivesWholeBack, IsWholeReturned, TakesPart, GivesPartBack, IsPartReturned, TakesEither, GivesEitherBack, HasEither, TakesEitherApart, GivesBothBack, AreBothReturned, TakesParts, GivesPartsBack, ArePartsReturned};
 
 use crate::region::Region;
 use std::marker::PhantomData;
@@ -126,9 +126,9 @@ impl<'a, A> Region<'a, A> {
         steps: &[isize],
         f: F,
     ) -> R
-        requires callable { TakesParts (F.pre f) (names_either offset lengths.now strides.now from sizes.now steps.now) self.old }
-        requires returns { GivesPartsBack (F.post f) (names_either offset lengths.now strides.now from sizes.now steps.now) self.old }
-        ensures { ArePartsReturned (F.post f) (names_either offset lengths.now strides.now from sizes.now steps.now) self.old self.new result }
+        requires callable { TakesEitherApart (F.pre f) offset lengths.now strides.now from sizes.now steps.now self.old }
+        requires returns { GivesBothBack (F.post f) offset lengths.now strides.now from sizes.now steps.now self.old }
+        ensures { AreBothReturned (F.post f) offset lengths.now strides.now from sizes.now steps.now self.old self.new result }
     {
         self.split_where(offset, lengths, strides, from, sizes, steps, f)
     }
