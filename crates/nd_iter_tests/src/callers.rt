@@ -1,4 +1,4 @@
-//! Callers of the iterators of an array, each proved with no file of its own but a loop's invariant.
+//! Callers of the iterators of an array: no proof file but a loop's invariant and one line for the greatest.
 
 ghost use Rattle.std.specs.Prelude.{◌↔◌, ◌≡◌, ◌==◌, ◌+◌, ◌*◌, ◌<◌, ◌≤◌, ◌^◌, IfOk, IfSome, IsNone, [], count_by, nat_lt, reverse, sum, sum_by};
 ghost use Rattle.std.specs.List.{All, Contains, list_all, zip};
