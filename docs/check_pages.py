@@ -28,7 +28,7 @@ LONGEST = [("README.md", 80), ("crates/README.md", 10), ("crates/*/README.md", 6
 WORDS = 20000
 CALLED = ["nd_array_core", "nd_stacking"]
 # What nd_array_core hands on from a library below.
-HANDED_ON = ["crates/nd_storage/src/along/lane_mut.rt"]
+HANDED_ON = ["crates/nd_elements/src/along/lane_mut.rt"]
 WITH_BLOCKS = ["README.md", "crates/*/README.md", "crates/*/CALLING.md"]
 BLOCK = re.compile(r"^```(rust|antt)\n(.*?)^```$", re.MULTILINE | re.DOTALL)
 FUNCTION = re.compile(r"^\s*(pub )?(const )?fn ", re.MULTILINE)

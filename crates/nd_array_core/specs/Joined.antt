@@ -1,10 +1,10 @@
 -- An array's elements as a list, the parts of a split, and one array behind another along an axis.
 use Rattle.std.specs.Prelude.{◌≡◌, ◌+◌, ◌-◌, ◌<◌, ◌≤◌, nat_lt, ℕ, List, length, slice_index, slice_set, if◌then◌else◌}
 use Rattle.nd_shape_and_slice.specs.Maps.{lower_shape, upper_shape, upper_index}
-use Rattle.nd_storage.specs.Meaning.{Meaning, inside}
+use Rattle.nd_elements.specs.Meaning.{Meaning, inside}
 use Rattle.nd_array_core.specs.Meaning.{meaning_through}
 use Rattle.nd_array_core.specs.Laws.{NothingOutside, broadcast_to}
-pub use Rattle.nd_storage.specs.Meaning.{row_major_elements}
+pub use Rattle.nd_elements.specs.Meaning.{row_major_elements}
 
 -- the coordinates of an axis below k, and those from k on
 abbrev pub lower_of : {A : Type 0} → ℕ → ℕ → Meaning A → Meaning A

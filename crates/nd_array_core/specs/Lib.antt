@@ -1,8 +1,8 @@
-pub use Rattle.nd_storage.specs.Collected
-pub use Rattle.nd_storage.specs.Filled
-pub use Rattle.nd_storage.specs.FreeOrder
-pub use Rattle.nd_storage.specs.Places
-pub use Rattle.nd_storage.specs.declared.storage.Data
+pub use Rattle.nd_elements.specs.Collected
+pub use Rattle.nd_elements.specs.Filled
+pub use Rattle.nd_elements.specs.FreeOrder
+pub use Rattle.nd_elements.specs.Places
+pub use Rattle.nd_elements.specs.declared.storage.Data
 pub mod PlacedArray
 pub mod Meaning
 pub mod Part

@@ -4,11 +4,11 @@ use Rattle.nd_shape_and_slice.specs.declared.dimension.Dimension as dimension
 use Rattle.nd_shape_and_slice.specs.declared.dimension.AxisCount as axis_count
 use Rattle.nd_shape_and_slice.specs.declared.dimension.StrideList as stride_list
 use Rattle.nd_shape_and_slice.specs.Place.{place_of}
-use Rattle.nd_storage.specs.declared.storage.Data as data_trait
+use Rattle.nd_elements.specs.declared.storage.Data as data_trait
 use Rattle.nd_array_core.specs.declared.base.array.ArrayBase.{ArrayBase}
-use Rattle.nd_storage.specs.Places.{stored_at, place_number}
+use Rattle.nd_elements.specs.Places.{stored_at, place_number}
 use Rattle.nd_array_core.specs.PlacedArray.{PlacedArray}
-pub use Rattle.nd_storage.specs.Meaning.{Meaning, inside}
+pub use Rattle.nd_elements.specs.Meaning.{Meaning, inside}
 
 -- what is seen of an array under another shape, where each new index names an old one
 abbrev pub meaning_through : {A : Type 0} → List ℕ → (List ℕ → List ℕ) → Meaning A → Meaning A

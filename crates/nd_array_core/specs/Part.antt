@@ -19,10 +19,10 @@ use Rattle.nd_shape_and_slice.specs.declared.descriptions.AxisDescription.{AxisD
 use Rattle.nd_shape_and_slice.specs.declared.slice_info.SliceInfoElem.{SliceInfoElem}
 use Rattle.nd_layout.specs.Merging.{merged_shape, merged_strides, merged_index}
 use Rattle.nd_layout.specs.Strides.{permuted_strides, inverted_strides, sliced_strides, diagonal_stride, broadcast_strides, strides_after, collapsed_strides, each_sliced_strides, squeezed_strides}
-use Rattle.nd_storage.specs.declared.storage.Data as data_trait
+use Rattle.nd_elements.specs.declared.storage.Data as data_trait
 use Rattle.nd_array_core.specs.declared.base.array.ArrayBase.{ArrayBase}
 use Rattle.nd_array_core.specs.Meaning.{shape_of, element_at, storage_of, place_at, layout_strides, layout_offset}
-use Rattle.nd_storage.specs.Meaning.{inside}
+use Rattle.nd_elements.specs.Meaning.{inside}
 
 -- a shape, the stride of each of its axes, and for each of its indexes the index of the array that it names
 pub record Part : Type 0 where

@@ -1,7 +1,7 @@
-pub use Rattle.nd_storage.specs.along.Accumulated
-pub use Rattle.nd_storage.specs.along.AxisLanes
-pub use Rattle.nd_storage.specs.along.Removed
-pub use Rattle.nd_storage.specs.along.Rising
+pub use Rattle.nd_elements.specs.along.Accumulated
+pub use Rattle.nd_elements.specs.along.AxisLanes
+pub use Rattle.nd_elements.specs.along.Removed
+pub use Rattle.nd_elements.specs.along.Rising
 pub mod Selected
 pub mod AxisFolds
 pub mod AxisMaps

@@ -1,7 +1,7 @@
-pub use Rattle.nd_storage.specs.elements.Assigns
-pub use Rattle.nd_storage.specs.elements.Changes
-pub use Rattle.nd_storage.specs.elements.Folds
-pub use Rattle.nd_storage.specs.elements.Maps
-pub use Rattle.nd_storage.specs.elements.MapsMut
+pub use Rattle.nd_elements.specs.elements.Assigns
+pub use Rattle.nd_elements.specs.elements.Changes
+pub use Rattle.nd_elements.specs.elements.Folds
+pub use Rattle.nd_elements.specs.elements.Maps
+pub use Rattle.nd_elements.specs.elements.MapsMut
 pub mod Pairs
 pub mod ArrayMaps

@@ -1,5 +1,5 @@
-pub use Rattle.nd_storage.specs.growth.LaidToGrow
-pub use Rattle.nd_storage.specs.growth.Taken
+pub use Rattle.nd_elements.specs.growth.LaidToGrow
+pub use Rattle.nd_elements.specs.growth.Taken
 pub mod Reserved
 pub mod Appended
 pub mod Grown

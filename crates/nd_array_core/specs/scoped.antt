@@ -1,4 +1,4 @@
-pub use Rattle.nd_storage.specs.Scoped
+pub use Rattle.nd_elements.specs.Scoped
 pub mod Tasks
 pub mod PartTasks
 pub mod Sources

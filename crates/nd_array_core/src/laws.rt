@@ -8,7 +8,7 @@ ghost use Rattle.nd_array_core.specs.reshape.RunSlices.{MemoryOrderReorders};
 ghost use Rattle.nd_shape_and_slice.specs.Maps.{inverted_index, inserted_shape, inserted_index, diagonal_length, diagonal_index};
 ghost use Rattle.nd_shape_and_slice.specs.Broadcast.{broadcasts, broadcast_index};
 ghost use Rattle.nd_array_core.specs.Joined.{SplitAndJoined};
-ghost use Rattle.nd_storage.specs.Meaning.{row_major_elements, Meaning};
+ghost use Rattle.nd_elements.specs.Meaning.{row_major_elements, Meaning};
 ghost use Rattle.nd_array_core.specs.reshape.Regrouping.{RegroupedBack, RanksAreBelow, ListsByRank, JoinsFirstAxes, JoinsRows};
 ghost use Rattle.nd_array_core.specs.reshape.Regrouped.{IsShapeOf};
 ghost use Rattle.nd_array_core.specs.Equality.{EqualEverywhere, EqualIsSame, SameCells};
@@ -22,8 +22,8 @@ ghost use Rattle.nd_array_core.specs.along.AxisMaps.{LanesAreListed};
 ghost use Rattle.nd_shape_and_slice.specs.Squeeze.{squeezed_shape, squeezed_index};
 
 use crate::base::array::ArrayBase;
+use nd_elements::storage::{Data, DataMut};
 use nd_shape_and_slice::Dimension;
-use nd_storage::storage::{Data, DataMut};
 
 /// Permuting axes and permuting them back gives the same meaning.
 #[tactic(auto, using(crate::proofs::law_lemmas::LawProofs::permuted_back))]

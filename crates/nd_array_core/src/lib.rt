@@ -1,4 +1,4 @@
-//! n-dimensional arrays and views: a storage of nd_storage, and how its elements lie in it.
+//! n-dimensional arrays and views: a storage of nd_elements, and how its elements lie in it.
 //!
 //! - `base`: the type, what makes an array, and its elements read and written
 //! - `layout`: slices, axes, rows and columns, parts, broadcasts, and views to be written
@@ -32,8 +32,8 @@ pub use base::get::IndexLonger;
 pub use base::get_mut::GetMut;
 pub use growth::fits_behind::fits_behind;
 pub use layout::split_at::MultiSliceArg;
-pub use nd_storage::along::lane_mut::LaneMut;
-pub use nd_storage::storage::{
+pub use nd_elements::along::lane_mut::LaneMut;
+pub use nd_elements::storage::{
     Data, DataMut, DataOwned, OwnedRepr, RegionRepr, ViewMutRepr, ViewRepr,
 };
 pub use reshape::either_array::{EitherArray, ViewOrOwned};

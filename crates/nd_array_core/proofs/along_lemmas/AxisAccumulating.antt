@@ -12,19 +12,19 @@ use Rattle.nd_shape_and_slice.proofs.RowMajor.{length-in_box, row_rank_below}
 use Rattle.nd_shape_and_slice.proofs.RankIndexes.{in_box-index_at, index_at-row_rank}
 use Rattle.nd_layout.proofs.Distinct.{in_box-set}
 use Rattle.nd_layout.specs.Steps.{IsStep}
-use Rattle.nd_storage.specs.Meaning.{inside}
-use Rattle.nd_storage.specs.Places.{stored_at, names_place, place_number, HoldsAll}
-use Rattle.nd_storage.specs.elements.Pairs.{option_both}
-use Rattle.nd_storage.specs.along.AxisLanes.{lane_place, IsPairing}
-use Rattle.nd_storage.specs.FreeOrder.{ListsBox}
-use Rattle.nd_storage.specs.along.Removed.{removed_shape}
-use Rattle.nd_storage.specs.along.Rising.{next_index}
-use Rattle.nd_storage.specs.along.Accumulated.{StartsAlong, ChangesAfter, AccumulatesBy, AccumulatesAll, AccumulableAlong, AreAccumulatedBy, AreAccumulated, TakesLanes}
+use Rattle.nd_elements.specs.Meaning.{inside}
+use Rattle.nd_elements.specs.Places.{stored_at, names_place, place_number, HoldsAll}
+use Rattle.nd_elements.specs.elements.Pairs.{option_both}
+use Rattle.nd_elements.specs.along.AxisLanes.{lane_place, IsPairing}
+use Rattle.nd_elements.specs.FreeOrder.{ListsBox}
+use Rattle.nd_elements.specs.along.Removed.{removed_shape}
+use Rattle.nd_elements.specs.along.Rising.{next_index}
+use Rattle.nd_elements.specs.along.Accumulated.{StartsAlong, ChangesAfter, AccumulatesBy, AccumulatesAll, AccumulableAlong, AreAccumulatedBy, AreAccumulated, TakesLanes}
 use Rattle.nd_array_core.proofs.along_lemmas.AxisIndexes.{lane_inside, lane_lies, lanes_distinct}
-use Rattle.nd_storage.proofs.Changed.{stored_same}
-use Rattle.nd_storage.proofs.FreeOrder.{IsNumbering, listed, listed_part, listed_all, done_at_each}
-use Rattle.nd_storage.proofs.LaneNumbers.{by_lanes, index_of_number, number_of_index, number_row, number_column, number_next, lane_numbers, numbers_rise}
-use Rattle.nd_storage.proofs.Ran.{ran_at, ran_weaker, ran_listed}
+use Rattle.nd_elements.proofs.Changed.{stored_same}
+use Rattle.nd_elements.proofs.FreeOrder.{IsNumbering, listed, listed_part, listed_all, done_at_each}
+use Rattle.nd_elements.proofs.LaneNumbers.{by_lanes, index_of_number, number_of_index, number_row, number_column, number_next, lane_numbers, numbers_rise}
+use Rattle.nd_elements.proofs.Ran.{ran_at, ran_weaker, ran_listed}
 
 module _ (offset : ℕ) (ns : List ℕ) (ss : List ℤ) (a : ℕ) (on : a < length ns) (many : length ss ≡ length ns) (start : ℕ) (step : IsStep offset ns ss start (collapsed_shape ns a) ss (collapsed_index a 0)) (w : ℕ) (long : suc w ≡ get_or ns a 0) where
   abbrev outer : List ℕ

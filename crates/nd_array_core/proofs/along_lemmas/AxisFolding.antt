@@ -13,9 +13,9 @@ use Rattle.nd_layout.proofs.Removed.{displacement_of-inserted, in_box-inserted}
 use Rattle.nd_layout.specs.Places.{is_place, ReachesPlaces}
 use Rattle.nd_layout.specs.Steps.{IsStep}
 use Rattle.nd_layout.specs.Walk.{place_at_rank}
-use Rattle.nd_storage.specs.Collected.{stored_along}
-use Rattle.nd_storage.specs.Meaning.{inside}
-use Rattle.nd_storage.specs.Places.{stored_at, names_place, HoldsAll}
+use Rattle.nd_elements.specs.Collected.{stored_along}
+use Rattle.nd_elements.specs.Meaning.{inside}
+use Rattle.nd_elements.specs.Places.{stored_at, names_place, HoldsAll}
 use Rattle.nd_array_core.specs.along.AxisFolds.{lane_at}
 
 module _ (offset : ℕ) (ns : List ℕ) (ss : List ℤ) (a : ℕ) (on : a < length ns) (many : length ss ≡ length ns) (start : ℕ) (us : List ℤ) (step : IsStep offset ns ss start (indexed_shape ns a) us (indexed_index a 0)) (fewer : a ≤ length (remove ns a)) where

@@ -11,15 +11,15 @@ use Rattle.nd_shape_and_slice.specs.Shape.{in_box, size_of, row_rank, index_at}
 use Rattle.nd_shape_and_slice.specs.Maps.{indexed_shape}
 use Rattle.nd_shape_and_slice.proofs.RowMajor.{length-in_box, row_rank_below}
 use Rattle.nd_layout.proofs.Removed.{in_box-inserted}
-use Rattle.nd_storage.specs.Collected.{collected}
-use Rattle.nd_storage.specs.Meaning.{inside}
-use Rattle.nd_storage.specs.along.LanesFolded.{FoldsBetween, FoldableNumbered, AreFoldedTo, FoldableLanes, AreLanesFolded}
+use Rattle.nd_elements.specs.Collected.{collected}
+use Rattle.nd_elements.specs.Meaning.{inside}
+use Rattle.nd_elements.specs.along.LanesFolded.{FoldsBetween, FoldableNumbered, AreFoldedTo, FoldableLanes, AreLanesFolded}
 use Rattle.nd_array_core.specs.along.AxisFolds.{lane_at, FoldsShownBy, FoldsAt, FoldsAxis, AxisFoldable, AreFoldedBy}
 use Rattle.nd_array_core.proofs.along_lemmas.AxisNumbers.{remove-inserted, index_of, index_rank, index_column, pair_numbers, pairs_rise}
-use Rattle.nd_storage.proofs.FreeOrder.{listed, listed_part, listed_all, done_at_each}
-use Rattle.nd_storage.specs.along.AxisLanes.{IsPairing}
-use Rattle.nd_storage.proofs.LanesFolding.{foldable_alike, folded_alike}
-use Rattle.nd_storage.proofs.Ran.{ran_weaker, ran_listed}
+use Rattle.nd_elements.proofs.FreeOrder.{listed, listed_part, listed_all, done_at_each}
+use Rattle.nd_elements.specs.along.AxisLanes.{IsPairing}
+use Rattle.nd_elements.proofs.LanesFolding.{foldable_alike, folded_alike}
+use Rattle.nd_elements.proofs.Ran.{ran_weaker, ran_listed}
 
 module _ {F B A : Type 0} (g : Mut F (Bor B × (Bor A × Unit {0})) B) where
   -- by the indexes of the array

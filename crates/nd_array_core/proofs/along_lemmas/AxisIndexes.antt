@@ -14,12 +14,12 @@ use Rattle.nd_layout.proofs.Integers.{sums}
 use Rattle.nd_layout.proofs.Offsets.{displacement_of-at}
 use Rattle.nd_layout.specs.Places.{is_place, ReachesPlaces}
 use Rattle.nd_layout.specs.Steps.{IsStep}
-use Rattle.nd_storage.specs.Meaning.{inside}
-use Rattle.nd_storage.specs.Places.{stored_at, names_place, place_number, HoldsAll}
-use Rattle.nd_storage.specs.along.AxisLanes.{lane_place, LanesReach, LanesDistinct}
-use Rattle.nd_storage.specs.along.Removed.{rotated, rotated_index, AreMovedBy}
-use Rattle.nd_storage.proofs.WriteStep.{one_index}
-use Rattle.nd_storage.proofs.Rotating.{rotated_below}
+use Rattle.nd_elements.specs.Meaning.{inside}
+use Rattle.nd_elements.specs.Places.{stored_at, names_place, place_number, HoldsAll}
+use Rattle.nd_elements.specs.along.AxisLanes.{lane_place, LanesReach, LanesDistinct}
+use Rattle.nd_elements.specs.along.Removed.{rotated, rotated_index, AreMovedBy}
+use Rattle.nd_elements.proofs.WriteStep.{one_index}
+use Rattle.nd_elements.proofs.Rotating.{rotated_below}
 
 module _ (offset : ℕ) (ns : List ℕ) (ss : List ℤ) (a : ℕ) (on : a < length ns) (many : length ss ≡ length ns) (start : ℕ) (step : IsStep offset ns ss start (collapsed_shape ns a) ss (collapsed_index a 0)) where
   abbrev outer : List ℕ

@@ -10,10 +10,10 @@ use Rattle.nd_shape_and_slice.proofs.AxisTests.{and_left, and_right}
 use Rattle.nd_shape_and_slice.proofs.RowMajor.{length-in_box, row_rank_below}
 use Rattle.nd_shape_and_slice.proofs.RankIndexes.{in_box-index_at, row_rank-index_at, index_at-row_rank}
 use Rattle.nd_layout.proofs.Removed.{in_box-inserted}
-use Rattle.nd_storage.specs.along.AxisLanes.{IsPairing}
-use Rattle.nd_storage.specs.along.Rising.{RisesAlong}
-use Rattle.nd_storage.proofs.FreeOrder.{IsNumbering, listed}
-use Rattle.nd_storage.proofs.LaneNumbers.{listed_at, listed_has}
+use Rattle.nd_elements.specs.along.AxisLanes.{IsPairing}
+use Rattle.nd_elements.specs.along.Rising.{RisesAlong}
+use Rattle.nd_elements.proofs.FreeOrder.{IsNumbering, listed}
+use Rattle.nd_elements.proofs.LaneNumbers.{listed_at, listed_has}
 
 pub remove-inserted : (o : List ℕ) (a k : ℕ) → a ≤ length o → remove (insert o a k) a ≡ o
 remove-inserted [] zero k fits = refl

@@ -18,28 +18,28 @@ use Rattle.nd_layout.proofs.Removed.{displacement_of-inserted}
 use Rattle.nd_layout.specs.Places.{is_place, ReachesPlaces}
 use Rattle.nd_layout.specs.Steps.{IsStep}
 use Rattle.nd_layout.specs.Walk.{place_at_rank}
-use Rattle.nd_storage.specs.declared.along.lane_mut.LaneMut.{LaneMut}
-use Rattle.nd_storage.specs.Meaning.{Meaning, inside}
-use Rattle.nd_storage.specs.Places.{stored_at, names_place, place_number, HoldsAll}
-use Rattle.nd_storage.specs.FreeOrder.{AnswersThere, HasAnswers}
-use Rattle.nd_storage.specs.ByRank.{found_by_rank}
-use Rattle.nd_storage.specs.Writes.{OthersStay}
-use Rattle.nd_storage.specs.elements.Maps.{AnswersAt, TakesNumbered, AskableOfAll}
-use Rattle.nd_storage.specs.elements.MapsMut.{paired_at}
-use Rattle.nd_storage.specs.along.AxisLanes.{lane_place, LanesReach, LanesDistinct}
+use Rattle.nd_elements.specs.declared.along.lane_mut.LaneMut.{LaneMut}
+use Rattle.nd_elements.specs.Meaning.{Meaning, inside}
+use Rattle.nd_elements.specs.Places.{stored_at, names_place, place_number, HoldsAll}
+use Rattle.nd_elements.specs.FreeOrder.{AnswersThere, HasAnswers}
+use Rattle.nd_elements.specs.ByRank.{found_by_rank}
+use Rattle.nd_elements.specs.Writes.{OthersStay}
+use Rattle.nd_elements.specs.elements.Maps.{AnswersAt, TakesNumbered, AskableOfAll}
+use Rattle.nd_elements.specs.elements.MapsMut.{paired_at}
+use Rattle.nd_elements.specs.along.AxisLanes.{lane_place, LanesReach, LanesDistinct}
 use Rattle.nd_array_core.specs.along.AxisFolds.{lane_at}
 use Rattle.nd_array_core.specs.along.AxisMaps.{lane_of, lanes_of}
-use Rattle.nd_storage.specs.along.LanesWritten.{lane_held, LeavesLane, MayBeHandedLane, LeavesLanesBy, AnswersHandedLanesBy, lanes_held, AreHandedOut}
+use Rattle.nd_elements.specs.along.LanesWritten.{lane_held, LeavesLane, MayBeHandedLane, LeavesLanesBy, AnswersHandedLanesBy, lanes_held, AreHandedOut}
 use Rattle.nd_array_core.specs.along.LanesWritten.{AreLeftBy}
 use Rattle.nd_array_core.proofs.along_lemmas.AxisFolding.{lane_in}
 use Rattle.nd_array_core.proofs.along_lemmas.AxisNumbers.{remove-inserted, insert-removed, lane_in as outer_in, column_in}
-use Rattle.nd_storage.proofs.LaneNumbers.{by_lanes}
-use Rattle.nd_storage.proofs.FreeOrder.{done_at_each}
+use Rattle.nd_elements.proofs.LaneNumbers.{by_lanes}
+use Rattle.nd_elements.proofs.FreeOrder.{done_at_each}
 use Rattle.nd_array_core.proofs.elements_lemmas.Handed.{both_is, handed_answered}
-use Rattle.nd_storage.proofs.LentLanes.{line_same}
-use Rattle.nd_storage.proofs.Mapped.{indexes_taken}
-use Rattle.nd_storage.proofs.Numbered.{order_numbers}
-use Rattle.nd_storage.proofs.WriteStep.{one_index}
+use Rattle.nd_elements.proofs.LentLanes.{line_same}
+use Rattle.nd_elements.proofs.Mapped.{indexes_taken}
+use Rattle.nd_elements.proofs.Numbered.{order_numbers}
+use Rattle.nd_elements.proofs.WriteStep.{one_index}
 
 -- an item in row-major order, by its rank
 pub found_there : {A : Type 0} (ns : List ℕ) (items : List A) (k : ℕ) → k < size_of ns → found_by_rank (ns, RowMajor) items (index_at ns k) ≡ slice_get items k

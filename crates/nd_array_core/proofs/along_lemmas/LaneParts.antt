@@ -5,9 +5,9 @@ use Rattle.std.proofs.lemmas.Bool.Decides.{nat_tests}
 use Rattle.std.specs.Prelude.{Option, is_some}
 use Rattle.nd_layout.specs.Places.{is_place}
 use Rattle.nd_layout.proofs.Integers.{sums, add-mul, one-mul}
-use Rattle.nd_storage.specs.Collected.{stored_along}
-use Rattle.nd_storage.specs.Meaning.{inside}
-use Rattle.nd_storage.specs.Places.{stored_at}
+use Rattle.nd_elements.specs.Collected.{stored_along}
+use Rattle.nd_elements.specs.Meaning.{inside}
+use Rattle.nd_elements.specs.Places.{stored_at}
 use Rattle.nd_array_core.proofs.along_lemmas.RankLanes.{lane_opens}
 
 -- from a place that is so many strides further the places are those from that number on

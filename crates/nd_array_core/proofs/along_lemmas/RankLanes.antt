@@ -15,9 +15,9 @@ use Rattle.nd_layout.specs.Walk.{place_at_rank, IsCutInLanes, IsLastAxis}
 use Rattle.nd_layout.proofs.Integers.{sums, zero-mul}
 use Rattle.nd_layout.proofs.Sizes.{size-le-product}
 use Rattle.nd_layout.proofs.LaneSteps.{size_of-front, cut_last, along_last}
-use Rattle.nd_storage.specs.Collected.{stored_along}
-use Rattle.nd_storage.specs.Meaning.{inside}
-use Rattle.nd_storage.specs.Places.{stored_at, names_place, HoldsAll}
+use Rattle.nd_elements.specs.Collected.{stored_along}
+use Rattle.nd_elements.specs.Meaning.{inside}
+use Rattle.nd_elements.specs.Places.{stored_at, names_place, HoldsAll}
 use Rattle.nd_array_core.proofs.reshape_lemmas.Relisted.{listed_row}
 
 -- a lane of the last axis: its ranks, and their places

@@ -9,10 +9,10 @@ use Rattle.nd_shape_and_slice.specs.Slice.{bound_on, fits_axis, low_of, high_of,
 use Rattle.nd_shape_and_slice.specs.declared.slice.Slice.{Slice}
 use Rattle.nd_shape_and_slice.proofs.Boxes.{coordinate_below}
 use Rattle.nd_layout.proofs.Distinct.{in_box-set}
-use Rattle.nd_storage.specs.Meaning.{inside}
+use Rattle.nd_elements.specs.Meaning.{inside}
 use Rattle.nd_array_core.specs.PlacedArray.{found_at}
-use Rattle.nd_storage.specs.along.Removed.{removed_shape, removed_index, rotated_index, front_slice}
-use Rattle.nd_storage.proofs.Rotating.{rotated_end}
+use Rattle.nd_elements.specs.along.Removed.{removed_shape, removed_index, rotated_index, front_slice}
+use Rattle.nd_elements.proofs.Rotating.{rotated_end}
 
 bound_in : (n k : ℕ) → k ≤ n → bound_on n (pos k) ≡ Some k
 bound_in n k h = let yes : nat_le k n ≡ true = grind (arith, nat_tests, h) in rw yes refl

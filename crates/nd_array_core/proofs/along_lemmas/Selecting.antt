@@ -15,12 +15,12 @@ use Rattle.nd_shape_and_slice.proofs.RankIndexes.{in_box-index_at}
 use Rattle.nd_shape_and_slice.proofs.RowMajor.{in_box-cons, row_rank_below, length-in_box}
 use Rattle.nd_layout.specs.Steps.{IsStep}
 use Rattle.nd_layout.proofs.steps.ExchangeStep.{swap_back, swap_is_step}
-use Rattle.nd_storage.specs.Meaning.{Meaning, inside}
-use Rattle.nd_storage.specs.Meaning.{row_major_elements}
-use Rattle.nd_storage.specs.Places.{stored_at, HoldsAll}
-use Rattle.nd_storage.specs.Clones.{ClonesAreEqual, ClonesOfAllAreEqual}
+use Rattle.nd_elements.specs.Meaning.{Meaning, inside}
+use Rattle.nd_elements.specs.Meaning.{row_major_elements}
+use Rattle.nd_elements.specs.Places.{stored_at, HoldsAll}
+use Rattle.nd_elements.specs.Clones.{ClonesAreEqual, ClonesOfAllAreEqual}
 use Rattle.nd_array_core.specs.along.Selected.{selected_shape, selected_index, AreCoordinates, ListsSelected}
-use Rattle.nd_storage.proofs.Collecting.{meaning_count, meaning_get}
+use Rattle.nd_elements.proofs.Collecting.{meaning_count, meaning_get}
 
 -- ---- sizes
 pub rows_size : (ns : List ℕ) (m : ℕ) → 0 < length ns → size_of (set ns 0 m) ≡ m * size_of (collapsed_shape ns 0)

@@ -16,13 +16,13 @@ use Rattle.nd_layout.specs.Places.{is_place}
 use Rattle.nd_layout.specs.Steps.{IsValid}
 use Rattle.nd_shape_and_slice.specs.Maps.{indexed_shape}
 use Rattle.nd_array_core.specs.declared.along.lane_view.LaneView.{LaneView}
-use Rattle.nd_storage.specs.Storages.{shown_by}
-use Rattle.nd_storage.specs.Collected.{collected, stored_along}
-use Rattle.nd_storage.specs.Places.{stored_at, HoldsAll}
-use Rattle.nd_storage.specs.Meaning.{Meaning, inside}
-use Rattle.nd_storage.specs.Meaning.{row_major_elements}
-use Rattle.nd_storage.proofs.Collecting.{collected_alike}
-use Rattle.nd_storage.proofs.LentLanes.{lane_coordinate, seen_inside}
+use Rattle.nd_elements.specs.Storages.{shown_by}
+use Rattle.nd_elements.specs.Collected.{collected, stored_along}
+use Rattle.nd_elements.specs.Places.{stored_at, HoldsAll}
+use Rattle.nd_elements.specs.Meaning.{Meaning, inside}
+use Rattle.nd_elements.specs.Meaning.{row_major_elements}
+use Rattle.nd_elements.proofs.Collecting.{collected_alike}
+use Rattle.nd_elements.proofs.LentLanes.{lane_coordinate, seen_inside}
 use Rattle.nd_array_core.specs.along.AxisFolds.{lane_at, lane_elements}
 use Rattle.nd_array_core.specs.along.AxisMaps.{lane_of, lanes_of, lane_seen, AnswersLane, AnswersLanesBy}
 

@@ -3,8 +3,8 @@ use Rattle.std.proofs.Common.{◌≡◌, ◌∙◌, ℕ, ◌<◌, true, List, []
 use Rattle.std.specs.Prelude.{Option, Some}
 use Rattle.std.proofs.lemmas.Bool.Decides.{nat_tests}
 use Rattle.nd_shape_and_slice.specs.Shape.{in_box}
-use Rattle.nd_storage.specs.FreeOrder.{AnswersThere, HasAnswers}
-use Rattle.nd_storage.proofs.FreeOrder.{done_at_each}
+use Rattle.nd_elements.specs.FreeOrder.{AnswersThere, HasAnswers}
+use Rattle.nd_elements.proofs.FreeOrder.{done_at_each}
 use Rattle.nd_array_core.specs.Coordinates.{IsCell}
 
 in_rows : (rows columns row column : ℕ) → row < rows → column < columns → in_box (rows ∷ columns ∷ []) (row ∷ column ∷ []) ≡ true

@@ -4,10 +4,10 @@ use Rattle.std.specs.Prelude.{◌&&◌, Option, Some, None, if◌then◌else◌,
 use Rattle.std.proofs.lemmas.Bool.{and_parts}
 use Rattle.std.proofs.lemmas.Bool.Decides.{nat_tests}
 use Rattle.nd_shape_and_slice.specs.Shape.{in_box}
-use Rattle.nd_storage.specs.Meaning.{inside}
-use Rattle.nd_storage.specs.Writes.{is_index, with_element_at}
+use Rattle.nd_elements.specs.Meaning.{inside}
+use Rattle.nd_elements.specs.Writes.{is_index, with_element_at}
 use Rattle.nd_array_core.specs.base.Fresh.{on_diagonal}
-use Rattle.nd_storage.proofs.WriteStep.{is_index_same}
+use Rattle.nd_elements.proofs.WriteStep.{is_index_same}
 
 module _ {A : Type 0} (n : ℕ) (at : ℕ → Option A) (other : A) where
   -- the diagonal as far as the coordinates below k

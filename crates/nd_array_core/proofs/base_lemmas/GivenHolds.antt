@@ -4,7 +4,7 @@ use Rattle.std.specs.Prelude.{Option, IsSome}
 use Rattle.nd_shape_and_slice.proofs.RowMajor.{row_rank_below}
 use Rattle.nd_layout.specs.Strides.{reach_down}
 use Rattle.nd_layout.proofs.Bounds.{place-in_box, span_of-reaches}
-use Rattle.nd_storage.specs.Places.{names_place, HoldsAll}
+use Rattle.nd_elements.specs.Places.{names_place, HoldsAll}
 use Rattle.nd_layout.specs.Refusals.{elements_asked}
 use Rattle.nd_layout.proofs.steps.GivenStrides.{asked_of_some}
 

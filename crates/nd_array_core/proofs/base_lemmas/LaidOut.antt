@@ -10,8 +10,8 @@ use Rattle.nd_layout.specs.Strides.{reach_down}
 use Rattle.nd_layout.specs.Refusals.{elements_asked}
 use Rattle.nd_layout.specs.GivenStrides.{given_place, ordered_strides}
 use Rattle.nd_layout.proofs.steps.Ranked.{ordered_is_ranked, ranked_place}
-use Rattle.nd_storage.specs.Places.{names_place, HoldsAll}
-use Rattle.nd_storage.specs.Meaning.{inside}
+use Rattle.nd_elements.specs.Places.{names_place, HoldsAll}
+use Rattle.nd_elements.specs.Meaning.{inside}
 use Rattle.nd_layout.specs.Placements.{Placement}
 use Rattle.nd_array_core.specs.base.Given.{first_places, IsLaidOut}
 use Rattle.nd_array_core.proofs.base_lemmas.GivenHolds.{given_holds}

@@ -3,8 +3,8 @@ use Rattle.std.proofs.Common.{◌≡◌, ℕ, ◌<◌, Bool, true, false, List, 
 use Rattle.std.specs.Prelude.{Option, IsSome}
 use Rattle.nd_shape_and_slice.specs.Shape.{in_box, size_of}
 use Rattle.nd_shape_and_slice.specs.Place.{place_of}
-use Rattle.nd_storage.specs.Places.{stored_at, names_place, HoldsAll}
-use Rattle.nd_storage.specs.Meaning.{inside}
+use Rattle.nd_elements.specs.Places.{stored_at, names_place, HoldsAll}
+use Rattle.nd_elements.specs.Meaning.{inside}
 use Rattle.nd_layout.proofs.steps.Ranked.{IsRanked, ranked_place}
 
 module _ {ns : List ℕ} {ss : List ℤ} {rank : List ℕ → ℕ} (ranked : IsRanked ns ss rank) where

@@ -7,12 +7,12 @@ use Rattle.nd_shape_and_slice.proofs.RankIndexes.{in_box-index_at}
 use Rattle.nd_shape_and_slice.proofs.RowMajor.{row_rank_below}
 use Rattle.nd_layout.specs.Steps.{IsViewStep}
 use Rattle.nd_layout.specs.Walk.{IsRearranged, IsRejoined}
-use Rattle.nd_storage.specs.Collected.{stored_by_rank}
-use Rattle.nd_storage.specs.Meaning.{inside}
-use Rattle.nd_storage.specs.Places.{stored_at}
-use Rattle.nd_storage.specs.CloneRefusals.{MayRefuseBelow, MayRefuseClone, MayRefuseClonesOf}
-use Rattle.nd_storage.proofs.Mapped.{rearranged_there}
-use Rattle.nd_storage.proofs.Paired.{element_by_rank}
+use Rattle.nd_elements.specs.Collected.{stored_by_rank}
+use Rattle.nd_elements.specs.Meaning.{inside}
+use Rattle.nd_elements.specs.Places.{stored_at}
+use Rattle.nd_elements.specs.CloneRefusals.{MayRefuseBelow, MayRefuseClone, MayRefuseClonesOf}
+use Rattle.nd_elements.proofs.Mapped.{rearranged_there}
+use Rattle.nd_elements.proofs.Paired.{element_by_rank}
 
 module _ {A : Type 0} (is_infallible : A → Type 0) where
   -- of a value for each index, whatever their order

@@ -14,9 +14,9 @@ use Rattle.nd_layout.proofs.RunFrom.{above_low, above_low-is, above_low-lt, each
 use Rattle.nd_layout.proofs.OneLane.{from_low}
 use Rattle.nd_layout.proofs.RunTest.{run_strides, run_span}
 use Rattle.nd_layout.proofs.steps.Ranked.{none_or_some}
-use Rattle.nd_storage.specs.Meaning.{inside}
-use Rattle.nd_storage.specs.Places.{stored_at}
-use Rattle.nd_storage.proofs.FreeOrder.{IsNumbering}
+use Rattle.nd_elements.specs.Meaning.{inside}
+use Rattle.nd_elements.specs.Places.{stored_at}
+use Rattle.nd_elements.proofs.FreeOrder.{IsNumbering}
 
 -- each index has a number, which is its place where the run begins at place 0
 pub record IsRunNumbered (ns : List ℕ) (ss : List ℤ) : Type 0 where

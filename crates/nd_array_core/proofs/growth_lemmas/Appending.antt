@@ -18,16 +18,16 @@ use Rattle.nd_layout.proofs.Distinct.{in_box-set}
 use Rattle.nd_layout.proofs.GrowthCases.{zero_factor}
 use Rattle.nd_layout.proofs.Removed.{size_of-removed}
 use Rattle.nd_layout.proofs.Sizes.{size_of-set}
-use Rattle.nd_storage.specs.Meaning.{Meaning, inside}
-use Rattle.nd_storage.specs.Meaning.{row_major_elements}
+use Rattle.nd_elements.specs.Meaning.{Meaning, inside}
+use Rattle.nd_elements.specs.Meaning.{row_major_elements}
 use Rattle.nd_array_core.specs.Joined.{broadcast_behind, lower_of, upper_of, concatenated, concatenated_shape}
 use Rattle.nd_array_core.specs.Laws.{NothingOutside}
-use Rattle.nd_storage.specs.Places.{stored_at, names_place, HoldsAll}
+use Rattle.nd_elements.specs.Places.{stored_at, names_place, HoldsAll}
 use Rattle.nd_array_core.specs.growth.Appended.{IsAlikeBeside, ArePutBehind}
-use Rattle.nd_storage.proofs.Collecting.{meaning_count, meaning_get}
+use Rattle.nd_elements.proofs.Collecting.{meaning_count, meaning_get}
 use Rattle.nd_array_core.proofs.growth_lemmas.JoinedParts.{split_and_joined_at}
 use Rattle.nd_array_core.proofs.law_lemmas.LawProofs.{same_meaning, inside_box}
-use Rattle.nd_storage.proofs.Mapped.{got_below}
+use Rattle.nd_elements.proofs.Mapped.{got_below}
 use Rattle.nd_array_core.proofs.along_lemmas.Selecting.{box_has}
 use Rattle.nd_array_core.proofs.layout_lemmas.StepLemmas.{step_holds, step_element}
 

@@ -17,10 +17,10 @@ use Rattle.nd_layout.proofs.Integers.{sums}
 use Rattle.nd_layout.proofs.FreshOrder.{fresh_full, fresh_valid, length-growing_strides}
 use Rattle.nd_layout.proofs.RunFrom.{above_low, above_low-is, above_low-lt, each_above_low}
 use Rattle.nd_layout.proofs.Sizes.{size_of-set}
-use Rattle.nd_storage.specs.Meaning.{Meaning, inside}
+use Rattle.nd_elements.specs.Meaning.{Meaning, inside}
 use Rattle.nd_array_core.specs.Joined.{concatenated, concatenated_shape}
 use Rattle.nd_array_core.specs.Laws.{NothingOutside}
-use Rattle.nd_storage.specs.Places.{stored_at, names_place, HoldsAll}
+use Rattle.nd_elements.specs.Places.{stored_at, names_place, HoldsAll}
 use Rattle.nd_array_core.specs.growth.Appended.{IsAlikeBeside, ArePutBehind}
 use Rattle.nd_array_core.proofs.growth_lemmas.Appending.{shown, fits_back, first_none, no_index, is_there}
 use Rattle.nd_array_core.proofs.law_lemmas.LawProofs.{same_meaning, inside_box}

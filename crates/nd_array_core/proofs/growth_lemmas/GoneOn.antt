@@ -13,16 +13,16 @@ use Rattle.nd_layout.proofs.Removed.{size_of-removed}
 use Rattle.nd_layout.proofs.Sizes.{size_of-set}
 use Rattle.nd_layout.specs.Placements.{Placement}
 use Rattle.nd_layout.proofs.MemoryOrder.{same_placement}
-use Rattle.nd_storage.specs.declared.storage.Data as data_trait
-use Rattle.nd_storage.specs.declared.storage.OwnedRepr.{OwnedRepr}
+use Rattle.nd_elements.specs.declared.storage.Data as data_trait
+use Rattle.nd_elements.specs.declared.storage.OwnedRepr.{OwnedRepr}
 use Rattle.nd_array_core.specs.declared.base.array.ArrayBase.{ArrayBase}
 use Rattle.nd_array_core.specs.declared.base.array_error.ArrayError.{ArrayError}
 use Rattle.nd_array_core.specs.declared.base.array_error.ArrayError.TheVariants.{Shape, NoMemory}
 use Rattle.nd_array_core.specs.Meaning.{shape_of, storage_of}
 use Rattle.nd_array_core.specs.Part.{ShowsWhole}
-use Rattle.nd_storage.specs.Storages.{stored_list}
+use Rattle.nd_elements.specs.Storages.{stored_list}
 use Rattle.nd_array_core.specs.growth.Grown.{lies, BecomesReady, GoesOn, GoesOnUnder, IsGrownBy, IsLeft, IsReadyAlong, KeepsRoom, LeavesRoom, NeedsNoMove}
-use Rattle.nd_storage.specs.Meaning.{Meaning}
+use Rattle.nd_elements.specs.Meaning.{Meaning}
 use Rattle.nd_array_core.specs.growth.InTurn.{IsGrownInTurn}
 use Rattle.nd_array_core.specs.growth.Reserved.{added_elements, HasRoomAlong}
 use Rattle.nd_array_core.proofs.growth_lemmas.GrownArrays.{goes_same, remove_set}

@@ -20,7 +20,7 @@ use Rattle.nd_layout.proofs.MemoryOrder.{same_placement}
 use Rattle.nd_layout.proofs.Removed.{size_of-removed}
 use Rattle.nd_layout.proofs.RunFrom.{IsRun-from_separated}
 use Rattle.nd_layout.proofs.Sizes.{size_of-set}
-use Rattle.nd_storage.specs.Collected.{IsFront}
+use Rattle.nd_elements.specs.Collected.{IsFront}
 use Rattle.nd_array_core.specs.growth.Appended.{IsAlikeBeside}
 use Rattle.nd_array_core.specs.growth.Grown.{case_under, offset_in_case, GoesOnUnder, IsLaidInCase, IsReadyUnder, IsStoredInCase}
 use Rattle.nd_array_core.specs.growth.Reserved.{added_elements}

@@ -16,7 +16,7 @@ use Rattle.nd_array_core.specs.declared.base.array_error.ArrayError.{ArrayError}
 use Rattle.nd_array_core.specs.declared.base.array_error.ArrayError.TheVariants.{Shape, NoMemory}
 use Rattle.nd_array_core.specs.Joined.{concatenated, concatenated_alike}
 use Rattle.nd_array_core.specs.Laws.{NothingOutside}
-use Rattle.nd_storage.specs.Meaning.{Meaning}
+use Rattle.nd_elements.specs.Meaning.{Meaning}
 use Rattle.nd_array_core.specs.growth.Appended.{FitsBehind, IsAlikeBeside, IsAppendRefused, IsJoiningRefused, NotFitting, TooLarge}
 use Rattle.nd_array_core.specs.growth.InTurn.{alike_in_turn, joined_in_turn, lengths_along, AreAlikeBeside}
 use Rattle.nd_array_core.proofs.growth_lemmas.Stretched.{fits_grown, fits_ungrown, with_itself}

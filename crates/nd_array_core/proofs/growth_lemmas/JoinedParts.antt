@@ -7,7 +7,7 @@ use Rattle.nd_shape_and_slice.proofs.Boxes.{coordinate_below}
 use Rattle.nd_shape_and_slice.specs.Shape.{in_box}
 use Rattle.nd_shape_and_slice.specs.Maps.{lower_shape, upper_shape, upper_index}
 use Rattle.nd_layout.proofs.Distinct.{in_box-set}
-use Rattle.nd_storage.specs.Meaning.{Meaning, inside}
+use Rattle.nd_elements.specs.Meaning.{Meaning, inside}
 use Rattle.nd_array_core.specs.Laws.{NothingOutside}
 use Rattle.nd_array_core.specs.Joined.{lower_of, upper_of, concatenated_shape, concatenated, SplitAndJoined}
 use Rattle.nd_array_core.specs.growth.Appended.{IsAlikeBeside}

@@ -9,12 +9,12 @@ use Rattle.nd_shape_and_slice.specs.Maps.{inserted_shape}
 use Rattle.nd_shape_and_slice.specs.declared.errors.ErrorKind.TheVariants.{IncompatibleShape}
 use Rattle.nd_array_core.specs.declared.base.array_error.ArrayError.{ArrayError}
 use Rattle.nd_array_core.specs.declared.base.array_error.ArrayError.TheVariants.{Shape, NoMemory}
-use Rattle.nd_storage.specs.CloneRefusals.{MayRefuseClone}
+use Rattle.nd_elements.specs.CloneRefusals.{MayRefuseClone}
 use Rattle.nd_array_core.specs.growth.Grown.{IsNotForMemory}
 use Rattle.nd_array_core.specs.growth.Appended.{IsAlikeBeside, IsJoiningRefused, NotFitting, PushesAlike}
 use Rattle.nd_array_core.specs.Joined.{concatenated_alike}
 use Rattle.nd_array_core.specs.Laws.{NothingOutside, with_axis_inserted}
-use Rattle.nd_storage.specs.Meaning.{Meaning}
+use Rattle.nd_elements.specs.Meaning.{Meaning}
 use Rattle.nd_shape_and_slice.specs.Shape.{in_box}
 use Rattle.nd_array_core.proofs.growth_lemmas.Stretched.{stretches_long}
 

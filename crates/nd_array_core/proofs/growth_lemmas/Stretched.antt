@@ -8,7 +8,7 @@ use Rattle.nd_shape_and_slice.specs.Shape.{in_box, size_of, HasCheckedSize, nonz
 use Rattle.nd_shape_and_slice.specs.Broadcast.{axes_added, broadcasts, stretches}
 use Rattle.nd_layout.proofs.GrowthCases.{zero_factor}
 use Rattle.nd_layout.proofs.Sizes.{size_of-set, HasCheckedSize-set}
-use Rattle.nd_storage.specs.Meaning.{Meaning, inside}
+use Rattle.nd_elements.specs.Meaning.{Meaning, inside}
 use Rattle.nd_array_core.specs.Joined.{broadcast_behind, concatenated, concatenated_shape, shape_behind}
 use Rattle.nd_array_core.specs.Laws.{NothingOutside}
 use Rattle.nd_array_core.specs.growth.Appended.{CanComeBehind, FitsBehind, IsAlikeBeside, elements_behind}

@@ -24,7 +24,7 @@ use Rattle.nd_layout.proofs.Totals.{times, times_is}
 use Rattle.nd_layout.proofs.Removed.{in_box-inserted}
 use Rattle.nd_array_core.specs.Laws.{NothingOutside, inverse_of, PermutedBack, ReversedTwice, InvertedTwice, InsertedAndRemoved, twice_sliced_from, SlicedTwice, PathStep, path_shape, path_source, LeadsInside, StaysInside, PathIsOneMap}
 use Rattle.nd_shape_and_slice.specs.Maps.{inverted_index, collapsed_shape, collapsed_index, lower_shape, upper_shape, upper_index, indexed_shape, indexed_index, inserted_shape, inserted_index, diagonal_length, diagonal_index}
-use Rattle.nd_storage.specs.Meaning.{Meaning, inside}
+use Rattle.nd_elements.specs.Meaning.{Meaning, inside}
 use Rattle.nd_array_core.specs.Meaning.{meaning_through}
 use Rattle.nd_shape_and_slice.specs.Broadcast.{broadcasts, broadcast_index}
 use Rattle.nd_shape_and_slice.specs.Slicing.{collapsed_after, collapsed_before}

@@ -6,7 +6,7 @@ use Rattle.std.proofs.lemmas.Bool.{and_parts}
 use Rattle.std.proofs.lemmas.Bool.Decides.{nat_tests}
 use Rattle.nd_shape_and_slice.specs.Shape.{in_box, HasCheckedSize, nonzero_product}
 use Rattle.nd_shape_and_slice.specs.Broadcast.{broadcasts, stretches, stretched_index, axes_added}
-use Rattle.nd_storage.specs.Meaning.{Meaning}
+use Rattle.nd_elements.specs.Meaning.{Meaning}
 use Rattle.nd_array_core.specs.elements.Pairs.{broadcast_at}
 
 same_number : (n : ℕ) → nat_eq n n ≡ true

@@ -3,11 +3,11 @@ use Rattle.std.proofs.Common.{◌≡◌, ℕ, ◌<◌, Bool, true, false, List, 
 use Rattle.std.specs.Prelude.{Option, Some, None, is_some, if◌then◌else◌}
 use Rattle.nd_shape_and_slice.specs.Shape.{in_box, size_of}
 use Rattle.nd_shape_and_slice.specs.Place.{place_of, IsSeparated}
-use Rattle.nd_storage.specs.Places.{place_number, stored_at}
+use Rattle.nd_elements.specs.Places.{place_number, stored_at}
 use Rattle.nd_layout.specs.Places.{is_place, ReachesPlaces}
-use Rattle.nd_storage.specs.Meaning.{inside}
+use Rattle.nd_elements.specs.Meaning.{inside}
 use Rattle.nd_array_core.specs.PlacedArray.{found_at}
-use Rattle.nd_storage.proofs.WriteStep.{one_index}
+use Rattle.nd_elements.proofs.WriteStep.{one_index}
 
 module _ (offset : ℕ) (ns : List ℕ) (ss : List ℤ) where
   -- the place of an index

@@ -12,7 +12,7 @@ use Rattle.nd_shape_and_slice.proofs.RankIndexes.{index_at-row_rank}
 use Rattle.nd_layout.specs.Ranks.{rank_in, index_in, column_index}
 use Rattle.nd_layout.proofs.Orders.{rank_in-below}
 use Rattle.nd_layout.proofs.Permuted.{nonzero-cons}
-use Rattle.nd_storage.specs.Meaning.{inside}
+use Rattle.nd_elements.specs.Meaning.{inside}
 use Rattle.nd_array_core.specs.reshape.Regrouped.{regrouped_index, IsShapeOf}
 use Rattle.nd_array_core.specs.reshape.Regrouping.{RegroupedBack}
 use Rattle.nd_array_core.proofs.reshape_lemmas.ShortAxes.{length_short}

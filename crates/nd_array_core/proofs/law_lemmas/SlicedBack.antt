@@ -10,7 +10,7 @@ use Rattle.nd_shape_and_slice.proofs.Boxes.{coordinate_below}
 use Rattle.nd_layout.proofs.Continued.{in_box-longer}
 use Rattle.nd_array_core.specs.Joined.{broadcast_behind, concatenated}
 use Rattle.nd_array_core.specs.Laws.{NothingOutside}
-use Rattle.nd_storage.specs.Meaning.{Meaning, inside}
+use Rattle.nd_elements.specs.Meaning.{Meaning, inside}
 use Rattle.nd_array_core.specs.Meaning.{meaning_through}
 use Rattle.nd_array_core.specs.growth.SlicedBack.{slice_of_first, AppendedAndSliced}
 use Rattle.nd_array_core.proofs.law_lemmas.LawProofs.{same_meaning, inside_box}

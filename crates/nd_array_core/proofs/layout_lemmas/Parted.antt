@@ -10,13 +10,13 @@ use Rattle.nd_shape_and_slice.proofs.Boxes.{coordinate_below}
 use Rattle.nd_region.specs.Places.{names, names_not, LayoutsShareNoPlace}
 use Rattle.nd_region.proofs.Names.{named_by, named_at}
 use Rattle.nd_shape_and_slice.specs.Maps.{lower_shape, upper_shape, upper_index}
-use Rattle.nd_storage.specs.Meaning.{inside}
-use Rattle.nd_storage.specs.Places.{stored_at, place_number, names_place, HoldsAll, kept_at, ShareNoPlace}
+use Rattle.nd_elements.specs.Meaning.{inside}
+use Rattle.nd_elements.specs.Places.{stored_at, place_number, names_place, HoldsAll, kept_at, ShareNoPlace}
 use Rattle.nd_layout.specs.Steps.{IsStep}
 use Rattle.nd_array_core.specs.layout.Parts.{HoldsEachOnce, IsViewUnder}
 use Rattle.nd_array_core.proofs.layout_lemmas.StepLemmas.{step_holds, step_element}
 use Rattle.nd_layout.proofs.steps.StepLemmas.{step_some}
-use Rattle.nd_storage.proofs.WriteStep.{one_index}
+use Rattle.nd_elements.proofs.WriteStep.{one_index}
 
 not_named : (b : Bool) → (b ≡ true → ⊥) → not b ≡ true
 not_named true never = absurd (never refl)

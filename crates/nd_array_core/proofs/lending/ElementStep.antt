@@ -9,15 +9,15 @@ use Rattle.nd_shape_and_slice.specs.Place.{place_of, IsSeparated}
 use Rattle.nd_shape_and_slice.specs.declared.dimension.Dimension as dimension
 use Rattle.nd_shape_and_slice.specs.declared.dimension.AxisCount as axis_count
 use Rattle.nd_shape_and_slice.specs.declared.dimension.StrideList as stride_list
-use Rattle.nd_storage.specs.declared.storage.Data as data_trait
+use Rattle.nd_elements.specs.declared.storage.Data as data_trait
 use Rattle.nd_array_core.specs.declared.base.array.ArrayBase.{ArrayBase}
-use Rattle.nd_storage.specs.Places.{names_place, written_at, place_number}
+use Rattle.nd_elements.specs.Places.{names_place, written_at, place_number}
 use Rattle.nd_array_core.specs.Meaning.{shape_of, meaning_of, memory_layout_of}
-use Rattle.nd_storage.specs.Meaning.{inside}
-use Rattle.nd_storage.specs.Writes.{OthersStay}
+use Rattle.nd_elements.specs.Meaning.{inside}
+use Rattle.nd_elements.specs.Writes.{OthersStay}
 use Rattle.nd_array_core.specs.base.Writes.{IsWrittenAt}
-use Rattle.nd_storage.proofs.WriteStep.{written_element}
-use Rattle.nd_storage.specs.ElementMut.{KeepsPlaces}
+use Rattle.nd_elements.proofs.WriteStep.{written_element}
+use Rattle.nd_elements.specs.ElementMut.{KeepsPlaces}
 use Rattle.nd_array_core.specs.base.ElementLent.{array_with_element}
 use Rattle.nd_array_core.specs.reshape.LentSlices.{array_with_run}
 

@@ -4,13 +4,13 @@ use Rattle.std.specs.Prelude.{Option}
 use Rattle.nd_shape_and_slice.specs.Shape.{in_box, size_of}
 use Rattle.nd_shape_and_slice.specs.Place.{place_of, IsSeparated}
 use Rattle.nd_layout.specs.Steps.{IsStep}
-use Rattle.nd_storage.specs.Places.{stored_at}
-use Rattle.nd_storage.specs.Meaning.{inside}
-use Rattle.nd_storage.specs.Writes.{OthersStay}
+use Rattle.nd_elements.specs.Places.{stored_at}
+use Rattle.nd_elements.specs.Meaning.{inside}
+use Rattle.nd_elements.specs.Writes.{OthersStay}
 use Rattle.nd_array_core.specs.layout.Parts.{IsViewUnder}
 use Rattle.nd_array_core.specs.scoped.Tasks.{OthersKeep}
 use Rattle.nd_array_core.proofs.layout_lemmas.Parted.{has_place}
-use Rattle.nd_storage.proofs.WriteStep.{one_index}
+use Rattle.nd_elements.proofs.WriteStep.{one_index}
 
 module _ {A : Type 0} (m : ℕ → Option A) (offset : ℕ) (ns : List ℕ) (ss : List ℤ) {offset' : ℕ} {ns' : List ℕ} {ss' : List ℤ} {source : List ℕ → List ℕ} {shape : List ℕ} {strides : List ℤ} {at : List ℕ → Option A} {place : List ℕ → Option ℕ}
     (as_many : length ss ≡ length ns) (separated : 0 < size_of ns → IsSeparated ns ss) (step : IsStep offset ns ss offset' ns' ss' source) (seen : IsViewUnder m offset' ns' ss' shape strides at place) where

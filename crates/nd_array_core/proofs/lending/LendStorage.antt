@@ -18,7 +18,7 @@ use denote.Struct.Pick.{rest_at, record_field_out, record_field_back}
 use Rattle.nd_shape_and_slice.specs.declared.dimension.Dimension as dimension
 use Rattle.nd_shape_and_slice.specs.declared.dimension.AxisCount as axis_count
 use Rattle.nd_shape_and_slice.specs.declared.dimension.StrideList as stride_list
-use Rattle.nd_storage.specs.declared.storage.Data as data_trait
+use Rattle.nd_elements.specs.declared.storage.Data as data_trait
 use Rattle.nd_array_core.specs.contracts.base.array.ArrayBase as A
 use Rattle.nd_layout.specs.contracts.layout.Layout as L
 use Rattle.nd_region.specs.Places.{written_where}

@@ -7,7 +7,7 @@ use Rattle.nd_shape_and_slice.specs.Shape.{HasCheckedSize, nonzero_product}
 use Rattle.nd_region.specs.declared.region.Region.{Region}
 use Rattle.nd_region.specs.Region.{region_stored, IsWhole}
 use Rattle.nd_array_core.specs.base.SliceLent.{row_count}
-use Rattle.nd_storage.proofs.tasks.PartStep.{whole_holds}
+use Rattle.nd_elements.proofs.tasks.PartStep.{whole_holds}
 use Rattle.nd_array_core.proofs.tasks.SliceTask.{slice_has}
 
 abbrev shape : List ℕ → ℕ → List ℕ

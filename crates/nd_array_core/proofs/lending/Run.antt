@@ -11,21 +11,21 @@ use Rattle.nd_shape_and_slice.proofs.RowMajor.{row_rank_below}
 use Rattle.nd_layout.proofs.Integers.{sums}
 use Rattle.nd_layout.specs.Ranks.{IsStandard}
 use Rattle.nd_layout.specs.Strides.{reach_down}
-use Rattle.nd_storage.specs.declared.storage.Data as data_trait
+use Rattle.nd_elements.specs.declared.storage.Data as data_trait
 use Rattle.nd_array_core.specs.declared.base.array.ArrayBase.{ArrayBase}
-use Rattle.nd_storage.specs.Meaning.{inside}
+use Rattle.nd_elements.specs.Meaning.{inside}
 use Rattle.nd_array_core.specs.Meaning.{meaning_of, memory_layout_of, shape_of}
-use Rattle.nd_storage.specs.Places.{stored_at, place_number, HoldsAll}
-use Rattle.nd_storage.specs.ElementMut.{KeepsPlaces}
+use Rattle.nd_elements.specs.Places.{stored_at, place_number, HoldsAll}
+use Rattle.nd_elements.specs.ElementMut.{KeepsPlaces}
 use Rattle.nd_array_core.specs.base.ElementLent.{kept_names}
-use Rattle.nd_storage.specs.RunLent.{IsBesideRun, HasRunAt}
-use Rattle.nd_storage.specs.StorageLaws.{HoldsWrittenRun, KeepsBesideRun}
-use Rattle.nd_storage.specs.Writes.{OthersStay}
+use Rattle.nd_elements.specs.RunLent.{IsBesideRun, HasRunAt}
+use Rattle.nd_elements.specs.StorageLaws.{HoldsWrittenRun, KeepsBesideRun}
+use Rattle.nd_elements.specs.Writes.{OthersStay}
 use Rattle.nd_array_core.specs.reshape.RunSlices.{LiesAlong, IsStandardArray, IsRunArray}
 use Rattle.nd_array_core.specs.reshape.LentSlices.{array_with_run, array_with_rows, array_with_places, IsRewrittenByRank, IsRewrittenInMemoryOrder}
 use Rattle.nd_array_core.proofs.reshape_lemmas.MemoryOrder.{run_has, run_lies}
 use Rattle.nd_array_core.proofs.reshape_lemmas.RunElements.{standard_has}
-use Rattle.nd_storage.proofs.RunPairs.{got_or}
+use Rattle.nd_elements.proofs.RunPairs.{got_or}
 
 -- a slice of a run, read item by item
 pub run_read : {A : Type 0} (stored : ℕ → Option A) (first count : ℕ) (xs : List A) → length xs ≡ count → ((k : ℕ) → k < count → stored (first + k) ≡ slice_get xs k) → (k : ℕ) (d : A) → k < count → stored (first + k) ≡ Some (get_or xs k d)

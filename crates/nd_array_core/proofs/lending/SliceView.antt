@@ -6,14 +6,14 @@ use Rattle.nd_layout.specs.Steps.{IsValid}
 use Rattle.nd_layout.specs.GivenStrides.{given_place}
 use Rattle.nd_region.specs.declared.region.Region.{Region}
 use Rattle.nd_region.specs.Region.{region_stored, IsWhole}
-use Rattle.nd_storage.specs.Places.{stored_at}
-use Rattle.nd_storage.specs.Meaning.{inside}
+use Rattle.nd_elements.specs.Places.{stored_at}
+use Rattle.nd_elements.specs.Meaning.{inside}
 use Rattle.nd_array_core.specs.base.Given.{IsLaidOut}
 use Rattle.nd_layout.specs.Placements.{Placement}
 use Rattle.nd_array_core.specs.scoped.Tasks.{LiesBy}
 use Rattle.nd_array_core.specs.scoped.Sources.{GivenShape}
 use Rattle.nd_array_core.proofs.base_lemmas.LaidOut.{laid_at}
-use Rattle.nd_storage.proofs.tasks.PartStep.{whole_holds}
+use Rattle.nd_elements.proofs.tasks.PartStep.{whole_holds}
 use Rattle.nd_array_core.proofs.tasks.SliceTask.{slice_sound}
 
 module _ {A : Type 0} (xs : List A) (given : GivenShape) (l : Placement) (laid : IsLaidOut given.0 given.1 given.2 true (length xs) l) (r : Region A) (whole : IsWhole r xs) where

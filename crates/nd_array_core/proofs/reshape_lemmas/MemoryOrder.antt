@@ -17,10 +17,10 @@ use Rattle.nd_layout.proofs.RunTest.{run_strides, run_span}
 use Rattle.nd_layout.proofs.steps.Ranked.{none_or_some}
 use Rattle.nd_layout.specs.Refusals.{elements_asked}
 use Rattle.nd_layout.proofs.steps.GivenStrides.{asked_of_some}
-use Rattle.nd_storage.specs.Meaning.{inside}
-use Rattle.nd_storage.specs.Clones.{ClonesAreEqual, ClonesOfAllAreEqual, StoredClonesAreEqual}
+use Rattle.nd_elements.specs.Meaning.{inside}
+use Rattle.nd_elements.specs.Clones.{ClonesAreEqual, ClonesOfAllAreEqual, StoredClonesAreEqual}
 use Rattle.nd_array_core.proofs.base_lemmas.GivenHolds.{given_holds}
-use Rattle.nd_storage.specs.Places.{place_number, stored_at, names_place, HoldsAll}
+use Rattle.nd_elements.specs.Places.{place_number, stored_at, names_place, HoldsAll}
 use Rattle.nd_array_core.specs.reshape.RunSlices.{LiesAlong}
 
 -- a number that names a place is none below 0

@@ -11,10 +11,10 @@ use Rattle.nd_shape_and_slice.proofs.RowMajor.{row_rank_below}
 use Rattle.nd_layout.specs.Ranks.{rank_in, index_in}
 use Rattle.nd_layout.proofs.Orders.{rank_in-below, size_of-ordered}
 use Rattle.nd_layout.proofs.LaneIndexes.{slow_index}
-use Rattle.nd_storage.specs.Meaning.{inside}
-use Rattle.nd_storage.specs.Places.{stored_at, HoldsAll}
+use Rattle.nd_elements.specs.Meaning.{inside}
+use Rattle.nd_elements.specs.Places.{stored_at, HoldsAll}
 use Rattle.nd_array_core.specs.reshape.Regrouped.{regrouped_index}
-use Rattle.nd_storage.proofs.Collecting.{ordered_shows}
+use Rattle.nd_elements.proofs.Collecting.{ordered_shows}
 
 module _ {A : Type 0} where
   open_by : (t : Bool) (o : Option A) → t ≡ true → (if t then o else None) ≡ o

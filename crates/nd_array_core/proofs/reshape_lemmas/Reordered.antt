@@ -11,8 +11,8 @@ use Rattle.nd_shape_and_slice.specs.Shape.{in_box, size_of, index_at, row_rank, 
 use Rattle.nd_shape_and_slice.proofs.Ranks.{length-indexes_of, get_or-indexes_of}
 use Rattle.nd_shape_and_slice.proofs.RankIndexes.{in_box-index_at, index_at-row_rank}
 use Rattle.nd_shape_and_slice.proofs.RowMajor.{row_rank_below}
-use Rattle.nd_storage.specs.Meaning.{Meaning, row_major_elements}
-use Rattle.nd_storage.proofs.RunPairs.{got_or}
+use Rattle.nd_elements.specs.Meaning.{Meaning, row_major_elements}
+use Rattle.nd_elements.proofs.RunPairs.{got_or}
 use Rattle.nd_array_core.specs.reshape.RunSlices.{LiesAlong, MemoryOrderReorders}
 
 -- ---- a list that takes each place of another once

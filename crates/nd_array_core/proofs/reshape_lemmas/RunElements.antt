@@ -8,9 +8,9 @@ use Rattle.nd_shape_and_slice.proofs.Ranks.{length-indexes_of, get_or-indexes_of
 use Rattle.nd_shape_and_slice.proofs.RankIndexes.{in_box-index_at, row_rank-index_at}
 use Rattle.nd_layout.proofs.Integers.{sums}
 use Rattle.nd_layout.specs.Ranks.{IsStandard}
-use Rattle.nd_storage.specs.Meaning.{Meaning, inside}
-use Rattle.nd_storage.specs.Meaning.{row_major_elements}
-use Rattle.nd_storage.specs.Places.{stored_at, names_place, HoldsAll}
+use Rattle.nd_elements.specs.Meaning.{Meaning, inside}
+use Rattle.nd_elements.specs.Meaning.{row_major_elements}
+use Rattle.nd_elements.specs.Places.{stored_at, names_place, HoldsAll}
 
 -- what a map shows along a list of indexes, one after the other
 pub gathered : {A : Type 0} (f : List ℕ → Option A) (is : List (List ℕ)) (xs : List A) → length xs ≡ length is → ((k : ℕ) (d : A) → k < length is → f (get_or is k []) ≡ Some (get_or xs k d)) → xs ≡ filter_map f is

@@ -17,9 +17,9 @@ use Rattle.nd_shape_and_slice.specs.SliceInfo.{coordinate_on, fits_shape, each_f
 use Rattle.nd_shape_and_slice.specs.Naming.{names_index}
 use Rattle.nd_shape_and_slice.proofs.RowMajor.{in_box-cons}
 use Rattle.nd_shape_and_slice.proofs.NamedIndexes.{named_by}
-use Rattle.nd_storage.specs.Meaning.{inside}
-use Rattle.nd_storage.specs.elements.Pairs.{IsOldOrOf}
-use Rattle.nd_storage.specs.elements.Changes.{ChangeableInAnyOrder, ChangesAll, ChangesAlike, ChangesBy}
+use Rattle.nd_elements.specs.Meaning.{inside}
+use Rattle.nd_elements.specs.elements.Pairs.{IsOldOrOf}
+use Rattle.nd_elements.specs.elements.Changes.{ChangeableInAnyOrder, ChangesAll, ChangesAlike, ChangesBy}
 use Rattle.nd_array_core.specs.PlacedArray.{PlacedArray, element_placed}
 use Rattle.nd_array_core.specs.scoped.Tasks.{IsViewThrough}
 use Rattle.nd_array_core.specs.scoped.Assigned.{coordinate_after, index_after}

@@ -10,7 +10,7 @@ use Rattle.nd_region.proofs.Names.{named_at}
 use Rattle.nd_region.proofs.Splits.{named_once}
 use Rattle.nd_region.proofs.Stored.{part_holds}
 use Rattle.nd_region.proofs.Rejoined.{merged_stored}
-use Rattle.nd_storage.specs.Places.{names_place}
+use Rattle.nd_elements.specs.Places.{names_place}
 use Rattle.nd_array_core.specs.scoped.Tasks.{AgreesOnNamed, LiesSoundly}
 
 not_true : (b : Bool) → not b ≡ true → b ≡ false

@@ -2,7 +2,7 @@
 use Rattle.std.proofs.Common.{◌≡◌, ℕ, Bool, true, false, List, ℤ, refl, ap, sym, ◌∙◌}
 use Rattle.std.specs.Prelude.{Option, None, if◌then◌else◌}
 use Rattle.nd_region.specs.Places.{names}
-use Rattle.nd_storage.specs.Scoped.{with_named}
+use Rattle.nd_elements.specs.Scoped.{with_named}
 use Rattle.nd_array_core.specs.scoped.Tasks.{IsNamedMap, AgreesOnNamed}
 
 -- ---- layouts whose places are among those of a whole

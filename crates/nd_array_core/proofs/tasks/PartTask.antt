@@ -10,18 +10,18 @@ use Rattle.nd_region.specs.Places.{names}
 use Rattle.nd_region.proofs.Names.{named_by, named_at}
 use Rattle.nd_layout.specs.Steps.{IsStep}
 use Rattle.nd_layout.proofs.steps.StepLemmas.{step_valid, step_some}
-use Rattle.nd_storage.specs.declared.storage.Data as data_trait
+use Rattle.nd_elements.specs.declared.storage.Data as data_trait
 use Rattle.nd_array_core.specs.declared.base.array.ArrayBase.{ArrayBase}
-use Rattle.nd_storage.specs.Places.{stored_at, place_number}
+use Rattle.nd_elements.specs.Places.{stored_at, place_number}
 use Rattle.nd_array_core.specs.PlacedArray.{PlacedArray, found_at}
-use Rattle.nd_storage.specs.Meaning.{inside}
+use Rattle.nd_elements.specs.Meaning.{inside}
 use Rattle.nd_array_core.specs.Meaning.{meaning_of, memory_layout_of, element_at, place_at}
-use Rattle.nd_storage.specs.Scoped.{with_named}
+use Rattle.nd_elements.specs.Scoped.{with_named}
 use Rattle.nd_array_core.specs.scoped.Tasks.{array_placed_at, LiesBy, IsWithin, IsNamedMap, AgreesOnNamed, IsViewThrough, OthersKeep, OthersKeepTwo, IsDoneOnPlacement, IsDoneOnPair, KeepsUnnamed, KeepsUnnamedByTwo}
 use Rattle.nd_layout.specs.Placements.{placement_of}
-use Rattle.nd_storage.specs.Writes.{OthersStay}
+use Rattle.nd_elements.specs.Writes.{OthersStay}
 use Rattle.nd_array_core.proofs.layout_lemmas.StepLemmas.{step_holds}
-use Rattle.nd_storage.proofs.WriteStep.{one_index}
+use Rattle.nd_elements.proofs.WriteStep.{one_index}
 
 -- ---- maps that have the same at the places that a layout names
 module _ {A : Type 0} (m k : ℕ → Option A) (offset : ℕ) (ns : List ℕ) (ss : List ℤ) where

@@ -5,11 +5,11 @@ use Rattle.std.specs.Prelude.{Option, Some, None, is_some, IsSome, slice_get}
 use Rattle.nd_shape_and_slice.specs.Shape.{size_of}
 use Rattle.nd_shape_and_slice.specs.Place.{place_of}
 use Rattle.nd_layout.specs.Steps.{IsValid}
-use Rattle.nd_storage.specs.Places.{place_number, stored_at}
+use Rattle.nd_elements.specs.Places.{place_number, stored_at}
 use Rattle.nd_array_core.specs.PlacedArray.{PlacedArray}
-use Rattle.nd_storage.specs.Meaning.{inside}
+use Rattle.nd_elements.specs.Meaning.{inside}
 use Rattle.nd_array_core.specs.base.Given.{IsLaidOut}
-use Rattle.nd_storage.specs.Writes.{OthersStay}
+use Rattle.nd_elements.specs.Writes.{OthersStay}
 use Rattle.nd_array_core.specs.scoped.Tasks.{LiesBy, IsViewOf}
 use Rattle.nd_layout.specs.Placements.{Placement}
 use Rattle.nd_array_core.specs.scoped.Sources.{GivenShape, place_in_slice, IsViewOfSlice}

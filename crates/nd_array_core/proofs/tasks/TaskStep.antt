@@ -5,11 +5,11 @@ use Rattle.nd_shape_and_slice.specs.Shape.{in_box}
 use Rattle.nd_shape_and_slice.specs.Place.{place_of}
 use Rattle.nd_region.specs.Places.{names}
 use Rattle.nd_region.proofs.Names.{named_by, named_at}
-use Rattle.nd_storage.specs.Places.{stored_at, names_place, place_number, HoldsAll}
+use Rattle.nd_elements.specs.Places.{stored_at, names_place, place_number, HoldsAll}
 use Rattle.nd_array_core.specs.PlacedArray.{found_at}
-use Rattle.nd_storage.specs.Meaning.{inside}
-use Rattle.nd_storage.specs.Scoped.{with_named}
-use Rattle.nd_storage.specs.Writes.{OthersStay}
+use Rattle.nd_elements.specs.Meaning.{inside}
+use Rattle.nd_elements.specs.Scoped.{with_named}
+use Rattle.nd_elements.specs.Writes.{OthersStay}
 use Rattle.nd_array_core.specs.scoped.Tasks.{array_placed_at, IsNamedMap, IsViewOf, LiesSoundly}
 
 module _ {A : Type 0} (m : ℕ → Option A) (offset : ℕ) (ns : List ℕ) (ss : List ℤ) where

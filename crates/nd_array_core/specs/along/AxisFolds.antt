@@ -8,13 +8,13 @@ use Rattle.nd_shape_and_slice.specs.Maps.{indexed_shape}
 use Rattle.nd_shape_and_slice.specs.declared.dimension.Dimension as dimension
 use Rattle.nd_shape_and_slice.specs.declared.dimension.AxisCount as axis_count
 use Rattle.nd_shape_and_slice.specs.declared.dimension.StrideList as stride_list
-use Rattle.nd_storage.specs.declared.storage.Data as data_trait
+use Rattle.nd_elements.specs.declared.storage.Data as data_trait
 use Rattle.nd_array_core.specs.declared.base.array.ArrayBase.{ArrayBase}
-use Rattle.nd_storage.specs.Meaning.{inside}
+use Rattle.nd_elements.specs.Meaning.{inside}
 use Rattle.nd_array_core.specs.Meaning.{shape_of, element_at}
-use Rattle.nd_storage.specs.Collected.{collected}
-use Rattle.nd_storage.specs.along.LanesFolded.{FoldsBetween, MayFold}
-use Rattle.nd_storage.specs.along.Rising.{VisitedAlong, CallableAlong}
+use Rattle.nd_elements.specs.Collected.{collected}
+use Rattle.nd_elements.specs.along.LanesFolded.{FoldsBetween, MayFold}
+use Rattle.nd_elements.specs.along.Rising.{VisitedAlong, CallableAlong}
 
 -- the element of the lane at an index of the other axes, by its coordinate
 abbrev pub lane_at : {A : Type 0} → (List ℕ → Option A) → ℕ → List ℕ → ℕ → Option A

@@ -4,15 +4,15 @@ use Rattle.std.specs.Fn.{Mut, Called}
 use Rattle.std.specs.List.{insert}
 use Rattle.nd_shape_and_slice.specs.Maps.{indexed_shape}
 use Rattle.nd_shape_and_slice.specs.declared.builder.Order.TheVariants.{RowMajor}
-use Rattle.nd_storage.specs.ByRank.{found_by_rank}
+use Rattle.nd_elements.specs.ByRank.{found_by_rank}
 use Rattle.nd_array_core.specs.declared.along.lane_view.LaneView.{LaneView}
-use Rattle.nd_storage.specs.Storages.{shown_by}
-use Rattle.nd_storage.specs.Collected.{stored_along}
-use Rattle.nd_storage.specs.Meaning.{Meaning, inside}
+use Rattle.nd_elements.specs.Storages.{shown_by}
+use Rattle.nd_elements.specs.Collected.{stored_along}
+use Rattle.nd_elements.specs.Meaning.{Meaning, inside}
 use Rattle.nd_array_core.specs.Meaning.{meaning_through}
-use Rattle.nd_storage.specs.Meaning.{row_major_elements}
+use Rattle.nd_elements.specs.Meaning.{row_major_elements}
 use Rattle.nd_array_core.specs.along.AxisFolds.{lane_elements}
-use Rattle.nd_storage.specs.elements.Maps.{AskableOfAll, HasAnswersOfAll, IsMappedBy}
+use Rattle.nd_elements.specs.elements.Maps.{AskableOfAll, HasAnswersOfAll, IsMappedBy}
 
 -- the lane at an index of the other axes: one axis, and along it the elements that differ in their coordinate there
 abbrev pub lane_of : {A : Type 0} → Meaning A → ℕ → List ℕ → Meaning A

@@ -4,12 +4,12 @@ use Rattle.std.specs.Borrow.{MutBor}
 use Rattle.std.specs.Fn.{Mut}
 use Rattle.std.specs.List.{remove}
 use Rattle.nd_shape_and_slice.specs.Shape.{in_box}
-use Rattle.nd_storage.specs.declared.along.lane_mut.LaneMut.{LaneMut}
-use Rattle.nd_storage.specs.Meaning.{Meaning}
+use Rattle.nd_elements.specs.declared.along.lane_mut.LaneMut.{LaneMut}
+use Rattle.nd_elements.specs.Meaning.{Meaning}
 use Rattle.nd_array_core.specs.along.AxisMaps.{lane_of, lanes_of}
-use Rattle.nd_storage.specs.elements.Maps.{AskableOfAll, HasAnswersOfAll, IsMappedBy}
-use Rattle.nd_storage.specs.elements.MapsMut.{paired_at}
-pub use Rattle.nd_storage.specs.along.LanesWritten.{AnswersHandedLanesBy, IsSameLane, KeepsLanes, LeavesLane, LeavesLanesBy, MayBeHandedLane, held_at, lane_held, lane_len, line_of}
+use Rattle.nd_elements.specs.elements.Maps.{AskableOfAll, HasAnswersOfAll, IsMappedBy}
+use Rattle.nd_elements.specs.elements.MapsMut.{paired_at}
+pub use Rattle.nd_elements.specs.along.LanesWritten.{AnswersHandedLanesBy, IsSameLane, KeepsLanes, LeavesLane, LeavesLanesBy, MayBeHandedLane, held_at, lane_held, lane_len, line_of}
 
 -- at each index stands what h gives of the lane through it, at the coordinate there
 abbrev pub AreLeftBy : {A : Type 0} → (Meaning A → ℕ → Option A) → Meaning A → ℕ → (List ℕ → Option A) → Type 0

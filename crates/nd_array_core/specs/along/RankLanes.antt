@@ -3,7 +3,7 @@ use Rattle.std.specs.Prelude.{◌≡◌, ◌+◌, ◌<◌, ◌+ℤ◌, ◌*ℤ�
 use Rattle.nd_layout.specs.declared.lanes.Lane.{Lane}
 use Rattle.nd_layout.specs.Placements.{Placement}
 use Rattle.nd_layout.specs.Walk.{place_at_rank}
-use Rattle.nd_storage.specs.Meaning.{Meaning, row_major_elements}
+use Rattle.nd_elements.specs.Meaning.{Meaning, row_major_elements}
 use Rattle.nd_array_core.specs.declared.along.lane_view.LaneView.{LaneView}
 use Rattle.nd_array_core.specs.along.AxisMaps.{lane_seen}
 

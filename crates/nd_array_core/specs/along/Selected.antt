@@ -3,7 +3,7 @@ use Rattle.std.specs.Prelude.{◌≡◌, ◌+◌, ◌*◌, ◌<◌, ℕ, true, L
 use Rattle.std.specs.List.{All}
 use Rattle.nd_shape_and_slice.specs.Shape.{in_box, size_of, row_rank}
 use Rattle.nd_shape_and_slice.specs.Maps.{collapsed_shape, collapsed_index}
-use Rattle.nd_storage.specs.Meaning.{Meaning, inside}
+use Rattle.nd_elements.specs.Meaning.{Meaning, inside}
 
 -- the axis is as long as there are chosen coordinates
 abbrev pub selected_shape : List ℕ → ℕ → List ℕ → List ℕ

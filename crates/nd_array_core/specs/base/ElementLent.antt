@@ -5,11 +5,11 @@ use Rattle.nd_shape_and_slice.specs.Place.{place_of}
 use Rattle.nd_shape_and_slice.specs.declared.dimension.Dimension as dimension
 use Rattle.nd_shape_and_slice.specs.declared.dimension.AxisCount as axis_count
 use Rattle.nd_shape_and_slice.specs.declared.dimension.StrideList as stride_list
-use Rattle.nd_storage.specs.declared.storage.Data as data_trait
+use Rattle.nd_elements.specs.declared.storage.Data as data_trait
 use Rattle.nd_array_core.specs.declared.base.array.ArrayBase.{ArrayBase}
 use Rattle.nd_array_core.specs.contracts.base.array.ArrayBase.{the_row}
-use Rattle.nd_storage.specs.Places.{names_place}
-use Rattle.nd_storage.specs.ElementMut.{KeepsPlaces}
+use Rattle.nd_elements.specs.Places.{names_place}
+use Rattle.nd_elements.specs.ElementMut.{KeepsPlaces}
 
 pub kept_names : {A : Type 0} (old new : ℕ → Option A) → KeepsPlaces old new → (z : ℤ) → names_place old z ≡ true → names_place new z ≡ true
 kept_names old new kept (pos p) has = kept p has

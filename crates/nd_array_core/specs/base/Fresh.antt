@@ -6,14 +6,14 @@ use Rattle.nd_shape_and_slice.specs.declared.dimension.AxisCount as axis_count
 use Rattle.nd_shape_and_slice.specs.declared.dimension.StrideList as stride_list
 use Rattle.nd_shape_and_slice.specs.declared.builder.ShapeBuilder as shape_builder
 use Rattle.nd_layout.specs.GivenStrides.{ordered_strides}
-use Rattle.nd_storage.specs.declared.storage.Data as data_trait
-use Rattle.nd_storage.specs.declared.storage.OwnedRepr.{OwnedRepr}
+use Rattle.nd_elements.specs.declared.storage.Data as data_trait
+use Rattle.nd_elements.specs.declared.storage.OwnedRepr.{OwnedRepr}
 use Rattle.nd_array_core.specs.declared.base.array.ArrayBase.{ArrayBase}
 use Rattle.nd_array_core.specs.Meaning.{shape_of, element_at, storage_of, layout_strides, layout_offset}
-use Rattle.nd_storage.specs.Meaning.{inside}
-use Rattle.nd_storage.specs.Storages.{stored_list, room_of}
-pub use Rattle.nd_storage.specs.Clones.{ClonesAreEqual, ClonesOfAllAreEqual, StoredClonesAreEqual}
-pub use Rattle.nd_storage.specs.ByRank.{BuiltShape, found_by_rank}
+use Rattle.nd_elements.specs.Meaning.{inside}
+use Rattle.nd_elements.specs.Storages.{stored_list, room_of}
+pub use Rattle.nd_elements.specs.Clones.{ClonesAreEqual, ClonesOfAllAreEqual, StoredClonesAreEqual}
+pub use Rattle.nd_elements.specs.ByRank.{BuiltShape, found_by_rank}
 
 abbrev pub built_by : {S D P R L M : Type 0} → shape_builder.Ghosts S D P R L M → S → BuiltShape
 built_by g shape = (g.builds_lengths shape, g.builds_order shape)

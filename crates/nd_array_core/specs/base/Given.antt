@@ -4,7 +4,7 @@ use Rattle.nd_shape_and_slice.specs.Shape.{in_box, size_of}
 use Rattle.nd_shape_and_slice.specs.Place.{place_of, IsSeparated}
 use Rattle.nd_shape_and_slice.specs.declared.builder.Order.{Order}
 use Rattle.nd_layout.specs.GivenStrides.{given_place, given_strides, offset_given}
-use Rattle.nd_storage.specs.Places.{HoldsAll}
+use Rattle.nd_elements.specs.Places.{HoldsAll}
 use Rattle.nd_layout.specs.Placements.{Placement}
 use Rattle.nd_shape_and_slice.specs.declared.errors.ErrorKind.{ErrorKind}
 use Rattle.nd_layout.specs.Refusals.{vec_refusal, slice_refusal, slice_mut_refusal}

@@ -7,15 +7,15 @@ use Rattle.nd_shape_and_slice.specs.declared.dimension.Dimension as dimension
 use Rattle.nd_shape_and_slice.specs.declared.dimension.AxisCount as axis_count
 use Rattle.nd_shape_and_slice.specs.declared.dimension.StrideList as stride_list
 use Rattle.nd_shape_and_slice.specs.declared.builder.Order.TheVariants.{RowMajor}
-use Rattle.nd_storage.specs.declared.storage.Data as data_trait
-use Rattle.nd_storage.specs.declared.storage.OwnedRepr.{OwnedRepr}
+use Rattle.nd_elements.specs.declared.storage.Data as data_trait
+use Rattle.nd_elements.specs.declared.storage.OwnedRepr.{OwnedRepr}
 use Rattle.nd_array_core.specs.declared.base.array.ArrayBase.{ArrayBase}
-use Rattle.nd_storage.specs.FreeOrder.{AnswersByIndex, HasAnswersByIndex}
+use Rattle.nd_elements.specs.FreeOrder.{AnswersByIndex, HasAnswersByIndex}
 use Rattle.nd_array_core.specs.Coordinates.{HasCells, IsCell}
 use Rattle.nd_array_core.specs.Meaning.{element_at, storage_of}
-use Rattle.nd_storage.specs.ByRank.{BuiltShape}
+use Rattle.nd_elements.specs.ByRank.{BuiltShape}
 use Rattle.nd_array_core.specs.base.Fresh.{OwnsInOrder, ShowsValues}
-use Rattle.nd_storage.specs.Storages.{stored_list}
+use Rattle.nd_elements.specs.Storages.{stored_list}
 
 module _ {F X A : Type 0} (g : Mut F (X × Unit {0}) A) (lengths_of : X → List ℕ) where
   -- at each index of the box a closure answers what `cell` gives of the row and column, and stays as it is

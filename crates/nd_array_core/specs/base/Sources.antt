@@ -5,16 +5,16 @@ use Rattle.nd_shape_and_slice.specs.declared.dimension.AxisCount as axis_count
 use Rattle.nd_shape_and_slice.specs.declared.dimension.StrideList as stride_list
 use Rattle.nd_shape_and_slice.specs.Shape.{row_rank, HasCheckedSize}
 use Rattle.nd_shape_and_slice.specs.Strides.{c_strides}
-use Rattle.nd_storage.specs.declared.storage.Data as data_trait
+use Rattle.nd_elements.specs.declared.storage.Data as data_trait
 use Rattle.nd_array_core.specs.declared.base.array.ArrayBase.{ArrayBase}
 use Rattle.nd_array_core.specs.Meaning.{shape_of, element_at, layout_strides, layout_offset}
-use Rattle.nd_storage.specs.Meaning.{inside}
+use Rattle.nd_elements.specs.Meaning.{inside}
 use Rattle.nd_shape_and_slice.specs.Place.{place_of}
 use Rattle.nd_layout.specs.Placements.{Placement, as_placement}
 use Rattle.nd_layout.specs.Ranks.{rank_in}
 use Rattle.nd_layout.specs.GivenStrides.{given_place}
-use Rattle.nd_storage.specs.Places.{stored_at}
-use Rattle.nd_storage.specs.ByRank.{BuiltShape}
+use Rattle.nd_elements.specs.Places.{stored_at}
+use Rattle.nd_elements.specs.ByRank.{BuiltShape}
 use Rattle.nd_array_core.specs.scoped.Sources.{GivenShape}
 
 -- something is stored at each place below a number

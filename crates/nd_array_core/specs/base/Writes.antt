@@ -3,10 +3,10 @@ use Rattle.std.specs.Prelude.{◌≡◌, ℕ, List}
 use Rattle.nd_shape_and_slice.specs.declared.dimension.Dimension as dimension
 use Rattle.nd_shape_and_slice.specs.declared.dimension.AxisCount as axis_count
 use Rattle.nd_shape_and_slice.specs.declared.dimension.StrideList as stride_list
-use Rattle.nd_storage.specs.declared.storage.Data as data_trait
+use Rattle.nd_elements.specs.declared.storage.Data as data_trait
 use Rattle.nd_array_core.specs.declared.base.array.ArrayBase.{ArrayBase}
 use Rattle.nd_array_core.specs.Meaning.{shape_of, element_at, storage_of, place_at, layout_strides, layout_offset}
-pub use Rattle.nd_storage.specs.Writes.{IsOldOrNew, OthersStay, is_index, with_element_at, with_swapped_at}
+pub use Rattle.nd_elements.specs.Writes.{IsOldOrNew, OthersStay, is_index, with_element_at, with_swapped_at}
 
 module _ {S D T A P R L M : Type 0} {s : data_trait.Ghosts S A} {d : dimension.Ghosts D P R L M} {n : axis_count.Ghosts D} {r : stride_list.Ghosts R} {t : stride_list.Ghosts T} where
   -- new is old but for the elements at its indexes: the shape, the strides, the offset, the places, what the storage keeps while

@@ -6,12 +6,12 @@ use Rattle.std.specs.Fn.{Mut}
 use Rattle.nd_shape_and_slice.specs.declared.dimension.Dimension as dimension
 use Rattle.nd_shape_and_slice.specs.declared.dimension.AxisCount as axis_count
 use Rattle.nd_shape_and_slice.specs.declared.dimension.StrideList as stride_list
-use Rattle.nd_storage.specs.declared.storage.Data as data_trait
+use Rattle.nd_elements.specs.declared.storage.Data as data_trait
 use Rattle.nd_array_core.specs.declared.base.array.ArrayBase.{ArrayBase}
-use Rattle.nd_storage.specs.Meaning.{Meaning}
+use Rattle.nd_elements.specs.Meaning.{Meaning}
 use Rattle.nd_array_core.specs.Laws.{broadcast_to}
 use Rattle.nd_array_core.specs.Meaning.{meaning_of, shape_of, element_at}
-pub use Rattle.nd_storage.specs.elements.Pairs.{ChangesWith, ChangesWithSomehow, IsOldOrOf, IsRewrittenTo, IsZippedTo, TakesBoth, TakesPairs, ZippableInAnyOrder, ZipsAll, ZipsBy, option_both}
+pub use Rattle.nd_elements.specs.elements.Pairs.{ChangesWith, ChangesWithSomehow, IsOldOrOf, IsRewrittenTo, IsZippedTo, TakesBoth, TakesPairs, ZippableInAnyOrder, ZipsAll, ZipsBy, option_both}
 
 -- the element at an index once an array is broadcast to a shape
 abbrev pub broadcast_at : {A : Type 0} → List ℕ → Meaning A → List ℕ → Option A

@@ -9,26 +9,26 @@ use Rattle.nd_shape_and_slice.specs.declared.errors.ErrorKind.TheVariants.{Incom
 use Rattle.nd_array_core.specs.declared.base.array_error.ArrayError.{ArrayError}
 use Rattle.nd_array_core.specs.declared.base.array_error.ArrayError.TheVariants.{Shape, NoMemory}
 use Rattle.nd_layout.specs.Placements.{Placement, as_placement, placement_of}
-use Rattle.nd_storage.specs.Collected.{IsFront}
+use Rattle.nd_elements.specs.Collected.{IsFront}
 use Rattle.nd_array_core.specs.Joined.{concatenated, concatenated_alike, concatenated_shape, shape_behind}
 use Rattle.nd_array_core.specs.Laws.{with_axis_inserted}
 use Rattle.nd_array_core.specs.growth.Reserved.{added_elements, HasRoomFor}
-use Rattle.nd_storage.specs.Meaning.{Meaning}
-use Rattle.nd_storage.specs.Places.{stored_at}
+use Rattle.nd_elements.specs.Meaning.{Meaning}
+use Rattle.nd_elements.specs.Places.{stored_at}
 use Rattle.std.specs.declared.vec.Vec.{Vec}
 use Rattle.nd_layout.specs.Growth.{growing_strides}
 use Rattle.nd_layout.specs.MemoryOrder.{IsGrown}
 use Rattle.nd_layout.specs.declared.layout.Layout.{Layout}
-use Rattle.nd_storage.specs.declared.storage.OwnedRepr.{OwnedRepr}
-use Rattle.nd_storage.specs.Storages.{stored_list, room_of}
+use Rattle.nd_elements.specs.declared.storage.OwnedRepr.{OwnedRepr}
+use Rattle.nd_elements.specs.Storages.{stored_list, room_of}
 use Rattle.nd_array_core.specs.Meaning.{shape_of, element_at}
 use Rattle.nd_array_core.specs.Part.{Part, broadcast_part}
 use Rattle.nd_array_core.specs.declared.base.array.ArrayBase.{ArrayBase}
 use Rattle.nd_shape_and_slice.specs.declared.dimension.Dimension as dimension
 use Rattle.nd_shape_and_slice.specs.declared.dimension.AxisCount as axis_count
 use Rattle.nd_shape_and_slice.specs.declared.dimension.StrideList as stride_list
-use Rattle.nd_storage.specs.declared.storage.Data as data_trait
-use Rattle.nd_storage.specs.CloneRefusals.{MayRefuseClone}
+use Rattle.nd_elements.specs.declared.storage.Data as data_trait
+use Rattle.nd_elements.specs.CloneRefusals.{MayRefuseClone}
 
 -- an array of the second shape can be broadcast to come behind one of the first along the axis: there are axes, as many in
 -- both, and each other length of the second is the first's, or it is 1

@@ -7,18 +7,18 @@ use Rattle.nd_shape_and_slice.specs.Shape.{in_box, size_of}
 use Rattle.nd_shape_and_slice.specs.Place.{place_of}
 use Rattle.nd_layout.specs.Growth.{growth_case, must_move, strides_in_case}
 use Rattle.nd_layout.specs.Placements.{Placement}
-use Rattle.nd_storage.specs.declared.storage.Data as data_trait
-use Rattle.nd_storage.specs.declared.storage.OwnedRepr.{OwnedRepr}
+use Rattle.nd_elements.specs.declared.storage.Data as data_trait
+use Rattle.nd_elements.specs.declared.storage.OwnedRepr.{OwnedRepr}
 use Rattle.nd_array_core.specs.declared.base.array.ArrayBase.{ArrayBase}
 use Rattle.nd_array_core.specs.declared.base.array_error.ArrayError.{ArrayError}
 use Rattle.nd_array_core.specs.declared.base.array_error.ArrayError.TheVariants.{Shape, NoMemory}
-use Rattle.nd_storage.specs.Collected.{IsFront}
-use Rattle.nd_storage.specs.Meaning.{Meaning}
+use Rattle.nd_elements.specs.Collected.{IsFront}
+use Rattle.nd_elements.specs.Meaning.{Meaning}
 use Rattle.nd_array_core.specs.Meaning.{shape_of, storage_of, layout_strides, layout_offset}
 use Rattle.nd_array_core.specs.Part.{ShowsWhole, BecomesWhole}
-use Rattle.nd_storage.specs.CloneRefusals.{MayRefuseClone}
-use Rattle.nd_storage.specs.growth.LaidToGrow.{IsLaidToGrow}
-use Rattle.nd_storage.specs.Storages.{stored_list, room_of}
+use Rattle.nd_elements.specs.CloneRefusals.{MayRefuseClone}
+use Rattle.nd_elements.specs.growth.LaidToGrow.{IsLaidToGrow}
+use Rattle.nd_elements.specs.Storages.{stored_list, room_of}
 use Rattle.nd_array_core.specs.growth.Reserved.{added_elements, HasRoomAlong}
 
 -- the indexes name all that is stored, and there are none, or the axis can grow on at the end of the storage

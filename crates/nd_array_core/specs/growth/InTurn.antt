@@ -6,16 +6,16 @@ use Rattle.nd_layout.specs.Growth.{grown_shape}
 use Rattle.nd_shape_and_slice.specs.declared.dimension.Dimension as dimension
 use Rattle.nd_shape_and_slice.specs.declared.dimension.AxisCount as axis_count
 use Rattle.nd_shape_and_slice.specs.declared.dimension.StrideList as stride_list
-use Rattle.nd_storage.specs.declared.storage.Data as data_trait
+use Rattle.nd_elements.specs.declared.storage.Data as data_trait
 use Rattle.nd_array_core.specs.declared.base.array.ArrayBase.{ArrayBase}
 use Rattle.nd_array_core.specs.declared.base.array_error.ArrayError.{ArrayError}
 use Rattle.nd_array_core.specs.declared.base.array_error.ArrayError.TheVariants.{NoMemory}
 use Rattle.nd_array_core.specs.Joined.{concatenated, concatenated_alike}
-use Rattle.nd_storage.specs.Meaning.{Meaning}
+use Rattle.nd_elements.specs.Meaning.{Meaning}
 use Rattle.nd_array_core.specs.Meaning.{meaning_of, shape_of}
-use Rattle.nd_storage.specs.Clones.{ClonesOfAllAreEqual}
+use Rattle.nd_elements.specs.Clones.{ClonesOfAllAreEqual}
 use Rattle.nd_array_core.specs.growth.Appended.{FitsBehind, IsAlikeBeside, IsAppendRefused}
-use Rattle.nd_storage.specs.declared.storage.OwnedRepr.{OwnedRepr}
+use Rattle.nd_elements.specs.declared.storage.OwnedRepr.{OwnedRepr}
 use Rattle.nd_array_core.specs.growth.Grown.{IsGrownBy, IsLeft, IsNotForMemory, IsReadyFor}
 
 module _ {S D T A P R L M : Type 0} {s : data_trait.Ghosts S A} {d : dimension.Ghosts D P R L M} {n : axis_count.Ghosts D} {r : stride_list.Ghosts R} {t : stride_list.Ghosts T} where

@@ -7,11 +7,11 @@ use Rattle.nd_shape_and_slice.specs.Place.{IsSeparated}
 use Rattle.nd_shape_and_slice.specs.Shape.{size_of, HasCheckedSize}
 use Rattle.nd_layout.specs.Growth.{must_move}
 use Rattle.nd_layout.specs.Placements.{Placement}
-use Rattle.nd_storage.specs.declared.storage.Data as data_trait
-use Rattle.nd_storage.specs.declared.storage.OwnedRepr.{OwnedRepr}
-use Rattle.nd_storage.specs.CloneRefusals.{MayRefuseClone}
-use Rattle.nd_storage.specs.Meaning.{Meaning}
-use Rattle.nd_storage.specs.Places.{HoldsAll}
+use Rattle.nd_elements.specs.declared.storage.Data as data_trait
+use Rattle.nd_elements.specs.declared.storage.OwnedRepr.{OwnedRepr}
+use Rattle.nd_elements.specs.CloneRefusals.{MayRefuseClone}
+use Rattle.nd_elements.specs.Meaning.{Meaning}
+use Rattle.nd_elements.specs.Places.{HoldsAll}
 use Rattle.nd_array_core.specs.declared.base.array.ArrayBase.{ArrayBase}
 use Rattle.nd_array_core.specs.declared.base.array_error.ArrayError.TheVariants.{NoMemory}
 use Rattle.nd_array_core.specs.Joined.{concatenated, concatenated_shape}

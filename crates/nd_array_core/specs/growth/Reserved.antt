@@ -6,11 +6,11 @@ use Rattle.nd_shape_and_slice.specs.declared.dimension.AxisCount as axis_count
 use Rattle.nd_shape_and_slice.specs.declared.dimension.StrideList as stride_list
 use Rattle.nd_shape_and_slice.specs.Shape.{size_of, HasCheckedSize}
 use Rattle.nd_layout.specs.Growth.{grown_shape}
-use Rattle.nd_storage.specs.declared.storage.Data as data_trait
-use Rattle.nd_storage.specs.declared.storage.OwnedRepr.{OwnedRepr}
+use Rattle.nd_elements.specs.declared.storage.Data as data_trait
+use Rattle.nd_elements.specs.declared.storage.OwnedRepr.{OwnedRepr}
 use Rattle.nd_array_core.specs.declared.base.array.ArrayBase.{ArrayBase}
 use Rattle.nd_array_core.specs.Meaning.{shape_of, storage_of}
-use Rattle.nd_storage.specs.Storages.{stored_list, room_of}
+use Rattle.nd_elements.specs.Storages.{stored_list, room_of}
 
 -- how many elements so many more lengths of an axis have: as many times the product of the other lengths
 abbrev pub added_elements : List ℕ → ℕ → ℕ → ℕ

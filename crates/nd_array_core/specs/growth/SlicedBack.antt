@@ -3,7 +3,7 @@ use Rattle.std.specs.Prelude.{ℕ, ◌≡◌, ◌<◌, length, pos, Some, slice_
 use Rattle.nd_shape_and_slice.specs.declared.slice.Slice.{Slice}
 use Rattle.nd_array_core.specs.Joined.{concatenated}
 use Rattle.nd_array_core.specs.Laws.{NothingOutside, with_axis_sliced}
-use Rattle.nd_storage.specs.Meaning.{Meaning}
+use Rattle.nd_elements.specs.Meaning.{Meaning}
 
 -- the slice of the first so many coordinates
 abbrev pub slice_of_first : ℕ → Slice

@@ -3,7 +3,7 @@ use Rattle.std.specs.Prelude.{◌≡◌, ℕ, true, List, Option}
 use Rattle.nd_shape_and_slice.specs.declared.slice_info.SliceInfoElem.{SliceInfoElem}
 use Rattle.nd_shape_and_slice.specs.Meeting.{Intersect}
 use Rattle.nd_shape_and_slice.specs.SliceInfo.{fits_shape}
-use Rattle.nd_storage.specs.Places.{ShareNoPlace}
+use Rattle.nd_elements.specs.Places.{ShareNoPlace}
 
 -- no element is named by both lists
 abbrev pub NameNothingInCommon : List ℕ → List SliceInfoElem → List SliceInfoElem → Type 0

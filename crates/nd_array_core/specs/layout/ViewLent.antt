@@ -9,12 +9,12 @@ use Rattle.nd_shape_and_slice.specs.declared.dimension.StrideList as stride_list
 use Rattle.nd_region.specs.declared.region.Region.{Region}
 use Rattle.nd_region.specs.Places.{written_where}
 use Rattle.nd_region.specs.Region.{region_stored}
-use Rattle.nd_storage.specs.declared.storage.Data as data_trait
-use Rattle.nd_storage.specs.declared.storage.RegionRepr.{RegionRepr}
+use Rattle.nd_elements.specs.declared.storage.Data as data_trait
+use Rattle.nd_elements.specs.declared.storage.RegionRepr.{RegionRepr}
 use Rattle.nd_array_core.specs.declared.base.array.ArrayBase.{ArrayBase}
-use Rattle.nd_storage.specs.ElementMut.{KeepsPlaces}
+use Rattle.nd_elements.specs.ElementMut.{KeepsPlaces}
 use Rattle.nd_array_core.specs.base.ElementLent.{DimensionMembers, array_row, with_storage}
-use Rattle.nd_storage.specs.Writes.{OthersStay}
+use Rattle.nd_elements.specs.Writes.{OthersStay}
 use Rattle.nd_array_core.specs.Meaning.{shape_of, layout_strides, place_at, storage_of}
 use Rattle.nd_array_core.specs.Part.{Part}
 use Rattle.nd_array_core.specs.scoped.PartTasks.{KeepsBut}

@@ -9,14 +9,14 @@ use Rattle.nd_shape_and_slice.specs.declared.errors.ErrorKind.TheVariants.{Incom
 use Rattle.nd_array_core.specs.declared.base.array.ArrayBase.{ArrayBase}
 use Rattle.nd_array_core.specs.declared.base.array_error.ArrayError.{ArrayError}
 use Rattle.nd_array_core.specs.declared.base.array_error.ArrayError.TheVariants.{Shape, NoMemory}
-use Rattle.nd_storage.specs.declared.storage.Data as data_trait
-use Rattle.nd_storage.specs.declared.storage.OwnedRepr.{OwnedRepr}
+use Rattle.nd_elements.specs.declared.storage.Data as data_trait
+use Rattle.nd_elements.specs.declared.storage.OwnedRepr.{OwnedRepr}
 use Rattle.nd_array_core.specs.declared.reshape.either_array.EitherArray.{EitherArray}
 use Rattle.nd_array_core.specs.declared.reshape.either_array.EitherArray.TheVariants.{View, Owned}
-use Rattle.nd_storage.specs.Meaning.{Meaning}
+use Rattle.nd_elements.specs.Meaning.{Meaning}
 use Rattle.nd_array_core.specs.Meaning.{meaning_of, shape_of, element_at, layout_strides, storage_of}
 use Rattle.nd_array_core.specs.Part.{ShowsWhole}
-use Rattle.nd_storage.specs.Clones.{ClonesOfAllAreEqual}
+use Rattle.nd_elements.specs.Clones.{ClonesOfAllAreEqual}
 use Rattle.nd_array_core.specs.base.Fresh.{OwnsInOrder}
 use Rattle.nd_array_core.specs.reshape.Regrouped.{IsShapeOf, LiesInOrder}
 use Rattle.nd_array_core.specs.reshape.RunSlices.{IsStandardArray}

@@ -6,14 +6,14 @@ use Rattle.nd_shape_and_slice.specs.Shape.{size_of, row_rank}
 use Rattle.nd_shape_and_slice.specs.declared.dimension.Dimension as dimension
 use Rattle.nd_shape_and_slice.specs.declared.dimension.AxisCount as axis_count
 use Rattle.nd_shape_and_slice.specs.declared.dimension.StrideList as stride_list
-use Rattle.nd_storage.specs.declared.storage.Data as data_trait
+use Rattle.nd_elements.specs.declared.storage.Data as data_trait
 use Rattle.nd_array_core.specs.declared.base.array.ArrayBase.{ArrayBase}
 use Rattle.nd_array_core.specs.Meaning.{shape_of, element_at, layout_offset}
-use Rattle.nd_storage.specs.Meaning.{inside}
-use Rattle.nd_storage.specs.ElementMut.{KeepsPlaces}
+use Rattle.nd_elements.specs.Meaning.{inside}
+use Rattle.nd_elements.specs.ElementMut.{KeepsPlaces}
 use Rattle.nd_region.specs.declared.region.Region.{Region}
 use Rattle.nd_region.specs.Places.{overwritten_items, run_written}
-use Rattle.nd_storage.specs.declared.storage.RegionRepr.{RegionRepr}
+use Rattle.nd_elements.specs.declared.storage.RegionRepr.{RegionRepr}
 use Rattle.nd_array_core.specs.base.LongerLent.{region_of}
 use Rattle.nd_array_core.specs.base.ElementLent.{DimensionMembers, array_row, with_storage}
 use Rattle.nd_array_core.specs.base.Writes.{KeepsFrame}

@@ -11,7 +11,7 @@ use Rattle.nd_shape_and_slice.specs.Shape.{in_box, size_of, HasCheckedSize}
 use Rattle.nd_shape_and_slice.specs.Place.{displacement_of}
 use Rattle.nd_layout.specs.Ranks.{rank_in, index_in}
 use Rattle.nd_layout.specs.GivenStrides.{ordered_strides}
-use Rattle.nd_storage.specs.declared.storage.Data as data_trait
+use Rattle.nd_elements.specs.declared.storage.Data as data_trait
 use Rattle.nd_array_core.specs.declared.base.array.ArrayBase.{ArrayBase}
 use Rattle.nd_array_core.specs.Meaning.{shape_of, layout_strides}
 use Rattle.nd_array_core.specs.Part.{Part, BecomesPart}

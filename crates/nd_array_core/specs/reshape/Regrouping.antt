@@ -3,9 +3,9 @@ use Rattle.std.specs.Prelude.{ℕ, ◌≡◌, ◌<◌, ◌+◌, ◌*◌, true, L
 use Rattle.nd_shape_and_slice.specs.Shape.{in_box, row_rank, size_of}
 use Rattle.nd_shape_and_slice.specs.declared.builder.Order.{Order}
 use Rattle.nd_shape_and_slice.specs.declared.builder.Order.TheVariants.{RowMajor}
-use Rattle.nd_storage.specs.Meaning.{row_major_elements}
+use Rattle.nd_elements.specs.Meaning.{row_major_elements}
 use Rattle.nd_array_core.specs.Laws.{NothingOutside}
-use Rattle.nd_storage.specs.Meaning.{Meaning}
+use Rattle.nd_elements.specs.Meaning.{Meaning}
 use Rattle.nd_array_core.specs.reshape.Serving.{regrouped_meaning}
 
 -- a reshape and the reshape back in the same order give the same meaning

@@ -6,16 +6,16 @@ use Rattle.nd_shape_and_slice.specs.declared.dimension.StrideList as stride_list
 use Rattle.nd_shape_and_slice.specs.Shape.{in_box, size_of}
 use Rattle.nd_layout.specs.Placements.{Placement, as_placement}
 use Rattle.nd_layout.specs.Ranks.{IsStandard, IsRun}
-use Rattle.nd_storage.specs.declared.storage.Data as data_trait
+use Rattle.nd_elements.specs.declared.storage.Data as data_trait
 use Rattle.nd_array_core.specs.declared.base.array.ArrayBase.{ArrayBase}
 use Rattle.nd_region.specs.declared.region.Region.{Region}
 use Rattle.nd_region.specs.Region.{IsRunOf}
-use Rattle.nd_storage.specs.ByLayout.{shown_at}
-use Rattle.nd_storage.specs.Meaning.{Meaning, row_major_elements}
+use Rattle.nd_elements.specs.ByLayout.{shown_at}
+use Rattle.nd_elements.specs.Meaning.{Meaning, row_major_elements}
 use Rattle.nd_array_core.specs.Meaning.{meaning_of, shape_of, layout_strides, layout_offset, element_at, place_at, storage_of}
 use Rattle.nd_layout.specs.Strides.{reach_down}
-use Rattle.nd_storage.specs.Storages.{stored_list}
-use Rattle.nd_storage.specs.declared.storage.OwnedRepr.{OwnedRepr}
+use Rattle.nd_elements.specs.Storages.{stored_list}
+use Rattle.nd_elements.specs.declared.storage.OwnedRepr.{OwnedRepr}
 
 -- The elements xs lie one beside the other from the place `first` on, one for each index: the element of each index stands
 -- in xs as far from the front as its place from that one, and each of xs is that of an index.

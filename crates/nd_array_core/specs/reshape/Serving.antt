@@ -8,9 +8,9 @@ use Rattle.nd_shape_and_slice.specs.Shape.{size_of}
 use Rattle.nd_shape_and_slice.specs.Place.{span_of, IsSeparated}
 use Rattle.nd_layout.specs.Ranks.{Serves, index_in}
 use Rattle.nd_layout.specs.Strides.{RestsAtOnes}
-use Rattle.nd_storage.specs.declared.storage.Data as data_trait
+use Rattle.nd_elements.specs.declared.storage.Data as data_trait
 use Rattle.nd_array_core.specs.declared.base.array.ArrayBase.{ArrayBase}
-use Rattle.nd_storage.specs.Meaning.{Meaning, inside}
+use Rattle.nd_elements.specs.Meaning.{Meaning, inside}
 use Rattle.nd_array_core.specs.Meaning.{shape_of, element_at, layout_strides, layout_offset}
 use Rattle.nd_array_core.specs.Part.{Part, ShowsPart}
 use Rattle.nd_array_core.specs.reshape.Regrouped.{regrouped_index}

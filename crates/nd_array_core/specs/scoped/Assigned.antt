@@ -13,14 +13,14 @@ use Rattle.nd_shape_and_slice.specs.declared.slice_info.SliceInfoElem.TheVariant
 use Rattle.nd_shape_and_slice.specs.declared.dimension.Dimension as dimension
 use Rattle.nd_shape_and_slice.specs.declared.dimension.AxisCount as axis_count
 use Rattle.nd_shape_and_slice.specs.declared.dimension.StrideList as stride_list
-use Rattle.nd_storage.specs.declared.storage.Data as data_trait
-use Rattle.nd_storage.specs.Meaning.{inside}
-use Rattle.nd_storage.specs.elements.Changes.{ChangeableInAnyOrder, ChangesAll, ChangesBy, ChangesAlike}
+use Rattle.nd_elements.specs.declared.storage.Data as data_trait
+use Rattle.nd_elements.specs.Meaning.{inside}
+use Rattle.nd_elements.specs.elements.Changes.{ChangeableInAnyOrder, ChangesAll, ChangesBy, ChangesAlike}
 use Rattle.nd_array_core.specs.declared.base.array.ArrayBase.{ArrayBase}
 use Rattle.nd_array_core.specs.Meaning.{shape_of, element_at}
-use Rattle.nd_storage.specs.elements.Pairs.{IsOldOrOf}
+use Rattle.nd_elements.specs.elements.Pairs.{IsOldOrOf}
 use Rattle.nd_region.specs.declared.region.Region.{Region}
-use Rattle.nd_storage.specs.declared.storage.RegionRepr.{RegionRepr}
+use Rattle.nd_elements.specs.declared.storage.RegionRepr.{RegionRepr}
 use Rattle.nd_array_core.specs.declared.scoped.with_view_mut.LentView.{LentView}
 use Rattle.nd_array_core.specs.PlacedArray.{element_placed}
 use Rattle.nd_array_core.specs.scoped.Tasks.{lent_view, view_left}

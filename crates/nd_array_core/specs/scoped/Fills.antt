@@ -4,19 +4,19 @@ use Rattle.nd_shape_and_slice.specs.Shape.{in_box, size_of}
 use Rattle.nd_shape_and_slice.specs.declared.dimension.Dimension as dimension
 use Rattle.nd_shape_and_slice.specs.declared.dimension.AxisCount as axis_count
 use Rattle.nd_shape_and_slice.specs.declared.dimension.StrideList as stride_list
-use Rattle.nd_storage.specs.declared.storage.Data as data_trait
+use Rattle.nd_elements.specs.declared.storage.Data as data_trait
 use Rattle.nd_array_core.specs.declared.base.array.ArrayBase.{ArrayBase}
 use Rattle.nd_shape_and_slice.specs.declared.slice_info.SliceInfoElem.{SliceInfoElem}
 use Rattle.nd_shape_and_slice.specs.Naming.{names_index}
-use Rattle.nd_storage.specs.declared.storage.RegionRepr.{RegionRepr}
+use Rattle.nd_elements.specs.declared.storage.RegionRepr.{RegionRepr}
 use Rattle.nd_array_core.specs.declared.scoped.with_view_mut.LentView.{LentView}
 use Rattle.nd_region.specs.declared.region.Region.{Region}
 use Rattle.nd_array_core.specs.Meaning.{shape_of, element_at}
-use Rattle.nd_storage.specs.Meaning.{inside}
+use Rattle.nd_elements.specs.Meaning.{inside}
 use Rattle.nd_array_core.specs.Part.{Part}
 use Rattle.nd_array_core.specs.PlacedArray.{element_placed}
-use Rattle.nd_storage.specs.CloneRefusals.{MayRefuseClonesOf}
-use Rattle.nd_storage.specs.Writes.{IsOldOrNew}
+use Rattle.nd_elements.specs.CloneRefusals.{MayRefuseClonesOf}
+use Rattle.nd_elements.specs.Writes.{IsOldOrNew}
 use Rattle.nd_array_core.specs.scoped.Tasks.{lent_view, view_left}
 
 -- the part has an index, and of the value that fills it a clone may be refused

@@ -6,16 +6,16 @@ use Rattle.nd_shape_and_slice.specs.declared.builder.IntoStrideShape as given_sh
 use Rattle.nd_shape_and_slice.specs.declared.errors.ErrorKind.{ErrorKind}
 use Rattle.nd_layout.specs.GivenStrides.{given_place, given_strides, offset_given}
 use Rattle.nd_layout.specs.Refusals.{slice_mut_refusal, slice_refusal, vec_refusal}
-use Rattle.nd_storage.specs.Places.{place_number, stored_at}
+use Rattle.nd_elements.specs.Places.{place_number, stored_at}
 use Rattle.nd_array_core.specs.PlacedArray.{PlacedArray}
 use Rattle.nd_shape_and_slice.specs.declared.dimension.Dimension as dimension
 use Rattle.nd_shape_and_slice.specs.declared.dimension.AxisCount as axis_count
 use Rattle.nd_shape_and_slice.specs.declared.dimension.StrideList as stride_list
-use Rattle.nd_storage.specs.declared.storage.Data as data_trait
+use Rattle.nd_elements.specs.declared.storage.Data as data_trait
 use Rattle.nd_array_core.specs.declared.base.array.ArrayBase.{ArrayBase}
-use Rattle.nd_storage.specs.Meaning.{inside}
+use Rattle.nd_elements.specs.Meaning.{inside}
 use Rattle.nd_array_core.specs.Meaning.{element_at}
-use Rattle.nd_storage.specs.Writes.{OthersStay}
+use Rattle.nd_elements.specs.Writes.{OthersStay}
 use Rattle.nd_array_core.specs.scoped.Tasks.{IsViewOf, IsDoneOnPlacement}
 use Rattle.nd_layout.specs.Placements.{Placement}
 

@@ -1,17 +1,17 @@
 -- Tasks on mutable views: what a task is lent, and what an array holds after it.
 use Rattle.std.specs.Prelude.{◌≡◌, ℕ, ◌<◌, List, ℤ, true, false, Option}
-use Rattle.nd_storage.specs.StorageFrame.{StorageFrame, Borrowed}
+use Rattle.nd_elements.specs.StorageFrame.{StorageFrame, Borrowed}
 use Rattle.nd_shape_and_slice.specs.Shape.{in_box, size_of}
 use Rattle.nd_shape_and_slice.specs.Place.{place_of, IsSeparated}
 use Rattle.nd_region.specs.Places.{names, LayoutsShareNoPlace}
 use Rattle.nd_region.specs.Region.{region_stored, borrow_of}
 use Rattle.nd_region.specs.declared.region.Region.{Region}
-use Rattle.nd_storage.specs.declared.storage.RegionRepr.{RegionRepr}
+use Rattle.nd_elements.specs.declared.storage.RegionRepr.{RegionRepr}
 use Rattle.nd_array_core.specs.declared.scoped.with_view_mut.LentView.{LentView}
-use Rattle.nd_storage.specs.Places.{place_number, HoldsAll}
+use Rattle.nd_elements.specs.Places.{place_number, HoldsAll}
 use Rattle.nd_array_core.specs.PlacedArray.{PlacedArray, element_placed}
-use Rattle.nd_storage.specs.Meaning.{inside}
-use Rattle.nd_storage.specs.Scoped.{named_part, with_named}
+use Rattle.nd_elements.specs.Meaning.{inside}
+use Rattle.nd_elements.specs.Scoped.{named_part, with_named}
 use Rattle.nd_layout.specs.Steps.{IsValid}
 use Rattle.nd_layout.specs.Placements.{Placement, placement_of}
 use Rattle.nd_layout.specs.declared.layout.Layout.{Layout}

@@ -2,13 +2,13 @@
 #![tactic(auto, unfolding(crate::specs::Meaning::meaning_of, crate::specs::Meaning::memory_layout_of))]
 
 ghost use Rattle.std.specs.Prelude.{◌≡◌, ◌<◌, ℕ, List, length, slice_index};
-ghost use Rattle.nd_storage.specs.along.Accumulated.{AccumulatesAll, AccumulableAlong, AccumulatesAlike};
+ghost use Rattle.nd_elements.specs.along.Accumulated.{AccumulatesAll, AccumulableAlong, AccumulatesAlike};
 
 use crate::base::array::ArrayBase;
+use nd_elements::along::accumulate_axis::accumulate_lanes;
+use nd_elements::along::axis_lanes::AxisLanes;
+use nd_elements::storage::DataMut;
 use nd_shape_and_slice::{Axis, Dimension, StrideList};
-use nd_storage::along::accumulate_axis::accumulate_lanes;
-use nd_storage::along::axis_lanes::AxisLanes;
-use nd_storage::storage::DataMut;
 
 impl<S: DataMut, D: Dimension> ArrayBase<S, D> {
     ghost use Rattle.nd_array_core.specs.Meaning.{shape_of, element_at};

@@ -5,17 +5,17 @@ ghost use Rattle.std.specs.Prelude.{◌≡◌, ◌<◌, IfOk, OnErr, length};
 ghost use Rattle.nd_shape_and_slice.specs.Shape.{size_of};
 ghost use Rattle.nd_shape_and_slice.specs.Maps.{indexed_shape};
 ghost use Rattle.nd_array_core.specs.Meaning.{shape_of, element_at};
-ghost use Rattle.nd_storage.specs.Clones.{ClonesAreEqual};
+ghost use Rattle.nd_elements.specs.Clones.{ClonesAreEqual};
 ghost use Rattle.nd_array_core.specs.along.AxisFolds.{AxisFoldable, FoldsLanes, FoldsLanesAlike};
 
 use crate::base::array::{Array, ArrayBase};
 use crate::base::from_elem::of_items;
+use nd_elements::along::axis_lanes::AxisLanes;
+use nd_elements::along::first_places::first_places;
+use nd_elements::along::fold_axis::fold_lanes;
+use nd_elements::elements::to_vec::room_of;
+use nd_elements::storage::Data;
 use nd_shape_and_slice::{Axis, Dimension, NoMemory, Order, RemoveAxis, StrideList};
-use nd_storage::along::axis_lanes::AxisLanes;
-use nd_storage::along::first_places::first_places;
-use nd_storage::along::fold_axis::fold_lanes;
-use nd_storage::elements::to_vec::room_of;
-use nd_storage::storage::Data;
 use std::alloc::Global;
 
 impl<S: Data, D: RemoveAxis> ArrayBase<S, D>

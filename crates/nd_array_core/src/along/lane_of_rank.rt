@@ -10,9 +10,9 @@ ghost use Rattle.nd_array_core.specs.along.RankLanes.{rank_place, lane_length, l
 
 use crate::along::lane_view::LaneView;
 use crate::base::array::ArrayBase;
+use nd_elements::along::first_places::lane_from;
+use nd_elements::storage::Data;
 use nd_shape_and_slice::{Dimension, MAX_AXES, StrideList, index_of_rank};
-use nd_storage::along::first_places::lane_from;
-use nd_storage::storage::Data;
 
 impl<'a, A> LaneView<'a, A> {
     /// The number of elements.

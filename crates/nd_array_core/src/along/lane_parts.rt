@@ -5,8 +5,8 @@ ghost use Rattle.std.specs.Prelude.{◌≡◌, ◌+◌, ◌-◌, ◌<◌, ◌≤
 ghost use Rattle.nd_array_core.specs.along.RankLanes.{lane_length, lane_element, GoesOnFrom, LiesFrom};
 
 use crate::along::lane_view::LaneView;
+use nd_elements::along::first_places::lane_from;
 use nd_layout::Lane;
-use nd_storage::along::first_places::lane_from;
 
 /// So many of a lane's places from one on.
 #[inline]

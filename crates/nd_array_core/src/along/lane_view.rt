@@ -1,14 +1,14 @@
 //! A lane of an array, as it is shown to a closure.
 
 ghost use Rattle.std.specs.Prelude.{◌≡◌, ◌<◌, ℕ, true, is_some, [], ◌∷◌, List};
-ghost use Rattle.nd_storage.specs.Storages.{shown_by};
-ghost use Rattle.nd_storage.specs.Collected.{stored_along};
-ghost use Rattle.nd_storage.specs.along.AxisLanes.{LiesAs};
+ghost use Rattle.nd_elements.specs.Storages.{shown_by};
+ghost use Rattle.nd_elements.specs.Collected.{stored_along};
+ghost use Rattle.nd_elements.specs.along.AxisLanes.{LiesAs};
 
 use crate::base::array::{ArrayBase, ArrayView};
+use nd_elements::storage::ViewRepr;
 use nd_layout::{Lane, Layout};
 use nd_shape_and_slice::{Dimension, IntoDimension, Ix1};
-use nd_storage::storage::ViewRepr;
 
 /// A lane of an array while it is shown to a closure, to be used after `into_view`. It has no bound with ghost members, as
 /// an array has, which a closure's argument can't have.

@@ -6,17 +6,17 @@ ghost use Rattle.nd_shape_and_slice.specs.Shape.{size_of};
 ghost use Rattle.nd_shape_and_slice.specs.Maps.{indexed_shape};
 ghost use Rattle.nd_layout.specs.Placements.{placement_of};
 ghost use Rattle.nd_array_core.specs.Meaning.{meaning_of, shape_of, element_at};
-ghost use Rattle.nd_storage.specs.along.AxisLanes.{IsFirstOfLanes};
+ghost use Rattle.nd_elements.specs.along.AxisLanes.{IsFirstOfLanes};
 ghost use Rattle.nd_array_core.specs.along.AxisMaps.{AskableOfLanes, HasAnswersOfLanes, ListsAnswersOfLanes, MapsLanesAlike};
 
 use crate::along::lane_view::LaneView;
 use crate::base::array::{Array, ArrayBase};
 use crate::base::from_elem::of_items;
+use nd_elements::along::first_places::{first_places, lane_from};
+use nd_elements::elements::to_vec::room_of;
+use nd_elements::storage::Data;
 use nd_layout::{Layout, Walk};
 use nd_shape_and_slice::{Axis, Dimension, NoMemory, Order, RemoveAxis, StrideList};
-use nd_storage::along::first_places::{first_places, lane_from};
-use nd_storage::elements::to_vec::room_of;
-use nd_storage::storage::Data;
 use std::alloc::Global;
 
 /// What the function returns for each lane of an axis, in row-major order of the other axes' indexes.

@@ -8,13 +8,13 @@ ghost use Rattle.nd_array_core.specs.along.LanesWritten.{KeepsLanes, HandableLan
 
 use crate::base::array::{Array, ArrayBase};
 use crate::base::from_elem::of_items;
+use nd_elements::along::axis_lanes::AxisLanes;
+use nd_elements::along::first_places::first_places;
+use nd_elements::along::lane_mut::LaneMut;
+use nd_elements::along::map_axis_mut::answer_lanes;
+use nd_elements::elements::to_vec::room_of;
+use nd_elements::storage::DataMut;
 use nd_shape_and_slice::{Axis, Dimension, NoMemory, Order, RemoveAxis, StrideList};
-use nd_storage::along::axis_lanes::AxisLanes;
-use nd_storage::along::first_places::first_places;
-use nd_storage::along::lane_mut::LaneMut;
-use nd_storage::along::map_axis_mut::answer_lanes;
-use nd_storage::elements::to_vec::room_of;
-use nd_storage::storage::DataMut;
 use std::alloc::Global;
 
 impl<S: DataMut, D: RemoveAxis> ArrayBase<S, D>

@@ -3,20 +3,20 @@
 
 ghost use Rattle.std.specs.Prelude.{◌≡◌, ◌-◌, ◌<◌, ℕ, List, length, slice_index};
 ghost use Rattle.nd_shape_and_slice.specs.Shape.{size_of};
-ghost use Rattle.nd_storage.specs.along.Removed.{removed_shape, removed_at, removed_strides, LieAtEnds, KeepPlaces};
+ghost use Rattle.nd_elements.specs.along.Removed.{removed_shape, removed_at, removed_strides, LieAtEnds, KeepPlaces};
 
 use crate::base::array::ArrayBase;
 use crate::laws::elements_have_places;
+use nd_elements::along::axis_lanes::AxisLanes;
+use nd_elements::along::remove_index::rotate_lanes;
+use nd_elements::storage::DataMut;
 use nd_shape_and_slice::{Axis, Dimension, Slice, StrideList};
-use nd_storage::along::axis_lanes::AxisLanes;
-use nd_storage::along::remove_index::rotate_lanes;
-use nd_storage::storage::DataMut;
 
 impl<S: DataMut, D: Dimension> ArrayBase<S, D> {
     ghost use Rattle.nd_array_core.specs.Meaning.{meaning_of, shape_of, element_at, storage_of, place_at, layout_strides, layout_offset};
     ghost use Rattle.nd_array_core.specs.along.Rotated.{rotated_at};
     ghost use Rattle.nd_array_core.specs.base.Writes.{KeepsFrame};
-    ghost use Rattle.nd_storage.specs.Writes.{OthersStay};
+    ghost use Rattle.nd_elements.specs.Writes.{OthersStay};
 
     /// Moves in each lane of an axis the elements after a coordinate towards the front, each by one; the one there goes to
     /// the end.

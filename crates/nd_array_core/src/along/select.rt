@@ -5,14 +5,14 @@ ghost use Rattle.std.specs.Prelude.{◌≡◌, ◌+◌, ◌<◌, ◌≤◌, ℕ,
 ghost use Rattle.nd_shape_and_slice.specs.Shape.{size_of, HasCheckedSize};
 ghost use Rattle.nd_array_core.specs.along.Selected.{selected_shape, AreCoordinates, ListsRows, ShowsSelected};
 ghost use Rattle.nd_array_core.specs.Meaning.{meaning_of, shape_of, element_at};
-ghost use Rattle.nd_storage.specs.Clones.{ClonesOfAllAreEqual};
+ghost use Rattle.nd_elements.specs.Clones.{ClonesOfAllAreEqual};
 
 use crate::base::array::{Array, ArrayBase};
 use crate::base::from_elem::of_items;
 use crate::elements::to_vec::listed_behind;
+use nd_elements::elements::to_vec::room_of;
+use nd_elements::storage::Data;
 use nd_shape_and_slice::{Axis, Dimension, NoMemory, Order};
-use nd_storage::elements::to_vec::room_of;
-use nd_storage::storage::Data;
 use std::alloc::Global;
 
 /// Puts clones of what lies at a coordinate of the first axis, in row-major order, behind those that a vector has.

@@ -4,11 +4,11 @@
 ghost use Rattle.std.specs.Prelude.{◌≡◌, ◌<◌, ◌≤◌, ◌^◌, ⊤, ℕ, true, List, length, slice_index, slice_index_or, pos};
 ghost use Rattle.nd_shape_and_slice.specs.Shape.{in_box, size_of};
 ghost use Rattle.nd_shape_and_slice.specs.Place.{place_of, IsSeparated};
-ghost use Rattle.nd_storage.specs.Places.{names_place};
+ghost use Rattle.nd_elements.specs.Places.{names_place};
 
+use nd_elements::storage::{Data, OwnedRepr, ViewMutRepr, ViewRepr};
 use nd_layout::{Layout, stride_at};
 use nd_shape_and_slice::{Axis, Dimension, StrideList};
-use nd_storage::storage::{Data, OwnedRepr, ViewMutRepr, ViewRepr};
 use std::alloc::AllocError;
 
 /// An n-dimensional array over a storage: a shape, and one element for each index of its box. ndarray's

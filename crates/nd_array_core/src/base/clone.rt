@@ -4,12 +4,12 @@
 ghost use Rattle.std.specs.Prelude.{◌≡◌, ◌<◌, IfOk, OnOk, OnErr, length};
 ghost use Rattle.nd_array_core.specs.Meaning.{storage_of};
 ghost use Rattle.nd_array_core.specs.Part.{ShowsWhole};
-ghost use Rattle.nd_storage.specs.Storages.{stored_list};
-ghost use Rattle.nd_storage.specs.Clones.{StoredClonesAreEqual};
+ghost use Rattle.nd_elements.specs.Storages.{stored_list};
+ghost use Rattle.nd_elements.specs.Clones.{StoredClonesAreEqual};
 
 use crate::base::array::{Array, ArrayBase};
+use nd_elements::storage::cloned_storage;
 use nd_shape_and_slice::Dimension;
-use nd_storage::storage::cloned_storage;
 use std::alloc::AllocError;
 
 impl<A: Clone, D: Dimension> Array<A, D> {

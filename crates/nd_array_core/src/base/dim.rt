@@ -7,8 +7,8 @@ ghost use Rattle.nd_array_core.specs.Meaning.{shape_of};
 ghost use Rattle.nd_array_core.specs.Coordinates.{AllShort};
 
 use crate::base::array::ArrayBase;
+use nd_elements::storage::Data;
 use nd_shape_and_slice::{Axis, Dimension, Ix2, is_empty_shape};
-use nd_storage::storage::Data;
 
 impl<S: Data, D: Dimension> ArrayBase<S, D> {
     /// The lengths: a number, a tuple of them, or the dimension itself. ndarray's `dim`.

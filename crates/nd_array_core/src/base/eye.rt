@@ -5,13 +5,13 @@ ghost use Rattle.std.specs.Prelude.{◌≡◌, ◌<◌, [], ◌∷◌, IfOk, OnE
 ghost use Rattle.nd_shape_and_slice.specs.Shape.{HasCheckedSize};
 ghost use Rattle.nd_array_core.specs.Meaning.{shape_of, element_at};
 ghost use Rattle.nd_array_core.specs.Coordinates.{element_of_1};
-ghost use Rattle.nd_storage.specs.Clones.{ClonesAreEqual, ClonesOfAllAreEqual};
+ghost use Rattle.nd_elements.specs.Clones.{ClonesAreEqual, ClonesOfAllAreEqual};
 ghost use Rattle.nd_array_core.specs.base.Fresh.{ShowsOnDiagonal};
 ghost use Rattle.nd_array_core.specs.base.Makers.{OwnsSquare};
 
 use crate::base::array::{Array, ArrayBase};
+use nd_elements::storage::Data;
 use nd_shape_and_slice::{Ix1, Ix2, NoMemory};
-use nd_storage::storage::Data;
 use num_traits::{One, Zero};
 use std::alloc::Global;
 

@@ -16,9 +16,9 @@ ghost use Rattle.nd_array_core.specs.base.SliceLent.{rows_follow_view};
 
 use crate::base::array::{Array, ArrayBase, ArrayView, ArrayViewMut};
 use crate::base::from_shape::in_order;
+use nd_elements::storage::{Data, DataMut, ViewMutRepr, ViewRepr};
 use nd_region::Region;
 use nd_shape_and_slice::{Dimension, IntoDimension, Ix1, Ix2, Order, size_of_shape_checked};
-use nd_storage::storage::{Data, DataMut, ViewMutRepr, ViewRepr};
 
 /// That many elements of a storage, from place 0 on, along one axis; none where they are more than `isize::MAX`.
 fn on_one_axis<S: Data>(storage: S, len: usize) -> ArrayBase<S, Ix1>

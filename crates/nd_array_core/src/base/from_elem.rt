@@ -6,16 +6,16 @@ ghost use Rattle.std.specs.Iterator.{IsFiniteIterable};
 ghost use Rattle.nd_shape_and_slice.specs.Shape.{size_of, HasCheckedSize};
 ghost use Rattle.nd_shape_and_slice.specs.declared.builder.Order.TheVariants.{RowMajor};
 ghost use Rattle.nd_array_core.specs.Meaning.{storage_of};
-ghost use Rattle.nd_storage.specs.Storages.{stored_list, room_of};
+ghost use Rattle.nd_elements.specs.Storages.{stored_list, room_of};
 ghost use Rattle.nd_array_core.specs.base.Fresh.{built_by, IsOnly, OwnsInOrder, ShowsOneValue, ShowsSuch};
-ghost use Rattle.nd_storage.specs.Clones.{ClonesAreEqual};
+ghost use Rattle.nd_elements.specs.Clones.{ClonesAreEqual};
 ghost use Rattle.nd_array_core.specs.base.Makers.{StoresItemsOf};
 
 use crate::base::array::Array;
 use crate::base::from_shape::in_order;
+use nd_elements::base::from_elem::{defaults, repeated};
+use nd_elements::storage::OwnedRepr;
 use nd_shape_and_slice::{Dimension, IntoDimension, Ix1, NoMemory, Order, ShapeBuilder};
-use nd_storage::base::from_elem::{defaults, repeated};
-use nd_storage::storage::OwnedRepr;
 use num_traits::{One, Zero};
 use std::alloc::Global;
 

@@ -9,7 +9,7 @@ ghost use Rattle.nd_layout.specs.Strides.{reach_down};
 ghost use Rattle.nd_layout.specs.GivenStrides.{ordered_strides};
 ghost use Rattle.nd_layout.specs.Refusals.{elements_asked};
 ghost use Rattle.nd_array_core.specs.Meaning.{shape_of, storage_of, layout_strides, layout_offset};
-ghost use Rattle.nd_storage.specs.Storages.{stored_list, room_of, held_by};
+ghost use Rattle.nd_elements.specs.Storages.{stored_list, room_of, held_by};
 ghost use Rattle.nd_array_core.specs.base.Given.{refusal_in, is_apart_in, IsLaidOut, refusal_meant, IsLaidOutAs, KeepsApartIn, IsLaidByStrides};
 ghost use Rattle.nd_layout.specs.Placements.{placement_of};
 ghost use Rattle.nd_array_core.specs.base.SliceLent.{slice_follows_view};
@@ -20,10 +20,10 @@ ghost use Rattle.nd_layout.specs.Steps.{IsValid};
 ghost use Rattle.nd_array_core.specs.base.Sources.{HasPlacement, ShowsRanked, ShowsGiven, ShowsPlaces};
 
 use crate::base::array::{Array, ArrayBase, ArrayView, ArrayViewMut};
+use nd_elements::storage::{Data, OwnedRepr, ViewMutRepr, ViewRepr};
 use nd_layout::{Layout, offset_in_slice, offset_in_vec, size_in_slice, size_in_vec};
 use nd_region::Region;
 use nd_shape_and_slice::{Dimension, IntoStrideShape, Order, ShapeError, StrideList};
-use nd_storage::storage::{Data, OwnedRepr, ViewMutRepr, ViewRepr};
 
 /// The elements of a storage under a shape, in an order.
 pub(crate) fn in_order<S: Data, D: Dimension>(storage: S, dim: D, order: Order) -> ArrayBase<S, D>

@@ -4,14 +4,14 @@
 ghost use Rattle.std.specs.Prelude.{◌≡◌, ◌<◌, ◌≤◌, [], IfOk, OnErr, vec_len, vec_capacity};
 ghost use Rattle.nd_shape_and_slice.specs.Shape.{size_of, HasCheckedSize};
 ghost use Rattle.nd_array_core.specs.Meaning.{element_at};
-ghost use Rattle.nd_storage.specs.FreeOrder.{HasAnswers, AskableInAnyOrder, AnswersNothing, TakesNothing, AnswersAlike, AskableByIndex};
+ghost use Rattle.nd_elements.specs.FreeOrder.{HasAnswers, AskableInAnyOrder, AnswersNothing, TakesNothing, AnswersAlike, AskableByIndex};
 ghost use Rattle.nd_array_core.specs.base.Fresh.{built_by, OwnsInOrder, ShowsOneValue};
 ghost use Rattle.nd_array_core.specs.base.Makers.{OwnsAnswersAlike, ShowsAnswers, ShowsAnswersAlike, ShowsCells};
 
 use crate::base::array::Array;
 use crate::base::from_elem::of_items;
+use nd_elements::base::from_shape_fn::{answers_by_index, answers_for_each, room_for};
 use nd_shape_and_slice::{Dimension, NoMemory, Order, ShapeBuilder, StrideList};
-use nd_storage::base::from_shape_fn::{answers_by_index, answers_for_each, room_for};
 use std::alloc::Global;
 
 /// The array of what the function returns for each index.

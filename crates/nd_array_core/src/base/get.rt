@@ -11,9 +11,9 @@ ghost use Rattle.nd_array_core.specs.Meaning.{shape_of, element_at, place_at};
 ghost use Rattle.nd_array_core.specs.base.LongerLent.{region_of, follows_index, may_follow_index, IsElementOrOutside};
 
 use super::array::{ArrayBase, ArrayView, ArrayViewMut};
+use nd_elements::storage::{Data, RegionRepr};
 use nd_region::Region;
 use nd_shape_and_slice::{Dimension, NdIndex};
-use nd_storage::storage::{Data, RegionRepr};
 use std::ops::Index;
 
 impl<S: Data, D: Dimension> ArrayBase<S, D> {

@@ -13,8 +13,8 @@ ghost use Rattle.nd_array_core.specs.base.ElementLent.{IsAnyWritten, may_lend};
 
 use super::array::ArrayBase;
 use super::last::last_place;
+use nd_elements::storage::{Data, DataMut};
 use nd_shape_and_slice::{Dimension, NdIndex};
-use nd_storage::storage::{Data, DataMut};
 use std::ops::IndexMut;
 
 impl<S: DataMut, D: Dimension> ArrayBase<S, D> {

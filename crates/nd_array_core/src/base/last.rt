@@ -7,12 +7,12 @@ ghost use Rattle.nd_shape_and_slice.specs.Shape.{size_of};
 ghost use Rattle.nd_layout.specs.Placements.{placement_of};
 ghost use Rattle.nd_array_core.specs.LastIndex.{last_index, offset_if_any, IsLastPlace};
 ghost use Rattle.nd_array_core.specs.Meaning.{shape_of, element_at, storage_of, layout_offset};
-ghost use Rattle.nd_storage.specs.Storages.{stored_list, room_of};
+ghost use Rattle.nd_elements.specs.Storages.{stored_list, room_of};
 
 use crate::base::array::{Array, ArrayBase};
+use nd_elements::storage::Data;
 use nd_layout::Layout;
 use nd_shape_and_slice::{Dimension, MAX_AXES, StrideList, index_of_rank, is_empty_shape};
-use nd_storage::storage::Data;
 
 /// The place of the last index of a layout, None exactly where it has no index.
 #[tactic(auto, using(crate::proofs::base_lemmas::LastIndexes::last_inside, crate::proofs::base_lemmas::LastIndexes::last_outside, crate::proofs::base_lemmas::LastIndexes::last_by_rank))]

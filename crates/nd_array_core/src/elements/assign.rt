@@ -3,17 +3,17 @@
 
 ghost use Rattle.std.specs.Prelude.{◌≡◌, ◌<◌, ℕ, true, List, Some, OnOk, OnErr};
 ghost use Rattle.nd_shape_and_slice.specs.Broadcast.{broadcasts};
-ghost use Rattle.nd_storage.specs.CloneRefusals.{MayRefuseClone};
-ghost use Rattle.nd_storage.specs.Clones.{ClonesOfAllAreEqual};
+ghost use Rattle.nd_elements.specs.CloneRefusals.{MayRefuseClone};
+ghost use Rattle.nd_elements.specs.Clones.{ClonesOfAllAreEqual};
 ghost use Rattle.nd_array_core.specs.base.Writes.{KeepsFrame};
 ghost use Rattle.nd_array_core.specs.elements.Pairs.{beside_at};
-ghost use Rattle.nd_storage.specs.elements.Pairs.{IsOldOrOf};
+ghost use Rattle.nd_elements.specs.elements.Pairs.{IsOldOrOf};
 
 use crate::base::array::ArrayBase;
 use crate::laws::broadcast_to_itself;
+use nd_elements::elements::assign::assign_layouts;
+use nd_elements::storage::{Data, DataMut};
 use nd_shape_and_slice::{Dimension, NoMemory};
-use nd_storage::elements::assign::assign_layouts;
-use nd_storage::storage::{Data, DataMut};
 
 impl<A: Clone + Drop, S: DataMut<Elem = A>, D: Dimension> ArrayBase<S, D> {
     ghost use Rattle.nd_array_core.specs.Meaning.{meaning_of, shape_of, element_at};

@@ -4,14 +4,14 @@
 ghost use Rattle.std.specs.Prelude.{◌↔◌, ◌≡◌, ◌<◌, true, IsTrue};
 ghost use Rattle.std.specs.Cmp.Lexicographic.{pointwise};
 ghost use Rattle.nd_array_core.specs.Equality.{equal_meanings, EqualEverywhere, meanings_per, meanings_equiv};
-ghost use Rattle.nd_storage.specs.Meaning.{row_major_elements};
+ghost use Rattle.nd_elements.specs.Meaning.{row_major_elements};
 ghost use Rattle.nd_array_core.specs.Meaning.{meaning_of, shape_of};
 ghost use Rattle.std.specs.Cmp.{on_per, on_equiv};
 
 use crate::base::array::ArrayBase;
+use nd_elements::elements::eq::{layouts_equal, slices_equal};
+use nd_elements::storage::Data;
 use nd_shape_and_slice::Dimension;
-use nd_storage::elements::eq::{layouts_equal, slices_equal};
-use nd_storage::storage::Data;
 
 /// Whether the elements of two arrays of one shape are equal.
 fn elements_equal<S: Data, D: Dimension>(a: &ArrayBase<S, D>, b: &ArrayBase<S, D>) -> bool

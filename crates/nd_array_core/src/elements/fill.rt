@@ -4,13 +4,13 @@
 ghost use Rattle.std.specs.Prelude.{◌≡◌, ◌<◌, OnOk, OnErr};
 ghost use Rattle.nd_shape_and_slice.specs.Shape.{size_of};
 ghost use Rattle.nd_array_core.specs.base.Writes.{KeepsFrame};
-ghost use Rattle.nd_storage.specs.CloneRefusals.{MayRefuseClonesOf};
+ghost use Rattle.nd_elements.specs.CloneRefusals.{MayRefuseClonesOf};
 ghost use Rattle.nd_array_core.specs.elements.ArrayMaps.{ShowsOldOrValue, ShowsValue};
 
 use crate::base::array::ArrayBase;
+use nd_elements::elements::fill::fill_places;
+use nd_elements::storage::DataMut;
 use nd_shape_and_slice::{Dimension, NoMemory};
-use nd_storage::elements::fill::fill_places;
-use nd_storage::storage::DataMut;
 
 impl<S: DataMut, D: Dimension> ArrayBase<S, D>
 where

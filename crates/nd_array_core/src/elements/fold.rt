@@ -3,13 +3,13 @@
 
 ghost use Rattle.std.specs.Prelude.{◌<◌};
 ghost use Rattle.std.specs.List.{fold};
-ghost use Rattle.nd_storage.specs.Meaning.{row_major_elements};
-ghost use Rattle.nd_storage.specs.elements.Folds.{FoldsAll, FoldableInAnyOrder, FoldsAlike};
+ghost use Rattle.nd_elements.specs.Meaning.{row_major_elements};
+ghost use Rattle.nd_elements.specs.elements.Folds.{FoldsAll, FoldableInAnyOrder, FoldsAlike};
 
 use crate::base::array::ArrayBase;
+use nd_elements::elements::fold::fold_places;
+use nd_elements::storage::Data;
 use nd_shape_and_slice::Dimension;
-use nd_storage::elements::fold::fold_places;
-use nd_storage::storage::Data;
 
 impl<S: Data, D: Dimension> ArrayBase<S, D> {
     ghost use Rattle.nd_array_core.specs.Meaning.{meaning_of, shape_of, element_at};

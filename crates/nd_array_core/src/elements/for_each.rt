@@ -2,12 +2,12 @@
 #![tactic(auto, unfolding(crate::specs::Meaning::meaning_of, crate::specs::Meaning::memory_layout_of))]
 
 ghost use Rattle.std.specs.Prelude.{◌<◌};
-ghost use Rattle.nd_storage.specs.elements.Maps.{AnswersElement, MayBeShown, AskableOfAll, VisitsAll};
+ghost use Rattle.nd_elements.specs.elements.Maps.{AnswersElement, MayBeShown, AskableOfAll, VisitsAll};
 
 use crate::base::array::ArrayBase;
+use nd_elements::elements::for_each::show_places;
+use nd_elements::storage::Data;
 use nd_shape_and_slice::Dimension;
-use nd_storage::elements::for_each::show_places;
-use nd_storage::storage::Data;
 
 impl<S: Data, D: Dimension> ArrayBase<S, D> {
     ghost use Rattle.nd_array_core.specs.Meaning.{meaning_of};

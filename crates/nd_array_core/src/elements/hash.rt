@@ -7,9 +7,9 @@ ghost use Rattle.nd_array_core.specs.Equality.{FeedsElements, fed_meaning, meani
 ghost use Rattle.nd_array_core.specs.Meaning.{meaning_of};
 
 use crate::base::array::ArrayBase;
+use nd_elements::elements::hash::hash_places;
+use nd_elements::storage::Data;
 use nd_shape_and_slice::Dimension;
-use nd_storage::elements::hash::hash_places;
-use nd_storage::storage::Data;
 use std::hash::{Hash, Hasher};
 
 /// Feeds the elements to a hasher, by lanes of axes that are joined where they continue one another.

@@ -5,17 +5,17 @@ ghost use Rattle.std.specs.Prelude.{◌≡◌, ◌<◌, ◌≤◌, [], IfOk, OnE
 ghost use Rattle.nd_shape_and_slice.specs.Shape.{size_of};
 ghost use Rattle.nd_array_core.specs.Meaning.{shape_of, meaning_of};
 ghost use Rattle.nd_array_core.specs.reshape.RunSlices.{IsRunArray};
-ghost use Rattle.nd_storage.specs.elements.Maps.{AnswersElement, MayBeShown, AnswersBy, AskableOfAll};
+ghost use Rattle.nd_elements.specs.elements.Maps.{AnswersElement, MayBeShown, AnswersBy, AskableOfAll};
 ghost use Rattle.nd_array_core.specs.elements.ArrayMaps.{ShowsAnswers, ShowsMapped};
 
 use crate::base::array::{Array, ArrayBase};
 use crate::base::from_elem::of_items;
 use crate::elements::to_owned::{of_run, run_elements};
+use nd_elements::elements::map::{answer_places, answer_run};
+use nd_elements::elements::to_vec::room_of;
+use nd_elements::storage::Data;
 use nd_layout::{is_run, reach_below};
 use nd_shape_and_slice::{Dimension, NoMemory, Order, StrideList};
-use nd_storage::elements::map::{answer_places, answer_run};
-use nd_storage::elements::to_vec::room_of;
-use nd_storage::storage::Data;
 use std::alloc::Global;
 
 /// What the function returns for each element, in row-major order.

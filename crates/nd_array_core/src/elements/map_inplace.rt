@@ -3,12 +3,12 @@
 
 ghost use Rattle.std.specs.Prelude.{◌<◌};
 ghost use Rattle.nd_array_core.specs.base.Writes.{KeepsFrame};
-ghost use Rattle.nd_storage.specs.elements.Changes.{ChangesAll, ChangeableInAnyOrder, ChangesAlike};
+ghost use Rattle.nd_elements.specs.elements.Changes.{ChangesAll, ChangeableInAnyOrder, ChangesAlike};
 
 use crate::base::array::ArrayBase;
+use nd_elements::elements::map_inplace::change_places;
+use nd_elements::storage::DataMut;
 use nd_shape_and_slice::Dimension;
-use nd_storage::elements::map_inplace::change_places;
-use nd_storage::storage::DataMut;
 
 impl<S: DataMut, D: Dimension> ArrayBase<S, D> {
     ghost use Rattle.nd_array_core.specs.Meaning.{shape_of, element_at};

@@ -4,15 +4,15 @@
 ghost use Rattle.std.specs.Prelude.{◌≡◌, ◌<◌, ℕ, IfOk, IfErr, List, OnOk, OnErr};
 ghost use Rattle.nd_array_core.specs.base.Writes.{KeepsFrame};
 ghost use Rattle.nd_shape_and_slice.specs.Shape.{size_of};
-ghost use Rattle.nd_storage.specs.elements.MapsMut.{HandableElements, LeavesAlike, AnswersHandedAlike};
+ghost use Rattle.nd_elements.specs.elements.MapsMut.{HandableElements, LeavesAlike, AnswersHandedAlike};
 ghost use Rattle.nd_array_core.specs.elements.ArrayMaps.{ShowsHanded};
 
 use crate::base::array::{Array, ArrayBase};
 use crate::base::from_elem::of_items;
+use nd_elements::elements::map_mut::hand_places;
+use nd_elements::elements::to_vec::room_of;
+use nd_elements::storage::DataMut;
 use nd_shape_and_slice::{Dimension, NoMemory, Order};
-use nd_storage::elements::map_mut::hand_places;
-use nd_storage::elements::to_vec::room_of;
-use nd_storage::storage::DataMut;
 use std::alloc::Global;
 
 impl<S: DataMut, D: Dimension> ArrayBase<S, D> {

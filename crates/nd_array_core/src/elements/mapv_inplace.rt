@@ -2,16 +2,16 @@
 #![tactic(auto, unfolding(crate::specs::Meaning::meaning_of, crate::specs::Meaning::memory_layout_of))]
 
 ghost use Rattle.std.specs.Prelude.{◌<◌, IfOk, OnOk, OnErr};
-ghost use Rattle.nd_storage.specs.CloneRefusals.{MayRefuseClone};
-ghost use Rattle.nd_storage.specs.Clones.{ClonesOfAllAreEqual};
+ghost use Rattle.nd_elements.specs.CloneRefusals.{MayRefuseClone};
+ghost use Rattle.nd_elements.specs.Clones.{ClonesOfAllAreEqual};
 ghost use Rattle.nd_array_core.specs.base.Writes.{KeepsFrame};
-ghost use Rattle.nd_storage.specs.elements.Maps.{AnswersValue, MayBeGiven, AnswersValuesBy, AskableOfAll};
+ghost use Rattle.nd_elements.specs.elements.Maps.{AnswersValue, MayBeGiven, AnswersValuesBy, AskableOfAll};
 ghost use Rattle.nd_array_core.specs.elements.ArrayMaps.{ShowsAnswers, ShowsMapped, ShowsOldOrMapped, ShowsSomeAnswers};
 
 use crate::base::array::ArrayBase;
+use nd_elements::elements::mapv_inplace::replace_places;
+use nd_elements::storage::DataMut;
 use nd_shape_and_slice::{Dimension, NoMemory};
-use nd_storage::elements::mapv_inplace::replace_places;
-use nd_storage::storage::DataMut;
 
 impl<S: DataMut, D: Dimension> ArrayBase<S, D>
 where

@@ -6,9 +6,9 @@ ghost use Rattle.nd_array_core.specs.Meaning.{shape_of, element_at};
 ghost use Rattle.nd_array_core.specs.base.Writes.{KeepsFrame};
 
 use crate::base::array::{Array, ArrayBase};
+use nd_elements::elements::move_into::exchange_layouts;
+use nd_elements::storage::DataMut;
 use nd_shape_and_slice::Dimension;
-use nd_storage::elements::move_into::exchange_layouts;
-use nd_storage::storage::DataMut;
 
 impl<A: Drop, D: Dimension> Array<A, D> {
     /// Moves each element to its index of an array of the same shape. What stood there is dropped, and so are elements of

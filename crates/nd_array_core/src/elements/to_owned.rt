@@ -9,17 +9,17 @@ ghost use Rattle.nd_layout.specs.Strides.{reach_down};
 ghost use Rattle.nd_array_core.specs.Meaning.{meaning_of, shape_of, element_at, storage_of, layout_strides, layout_offset};
 ghost use Rattle.nd_array_core.specs.Part.{ShowsWhole, BecomesWhole};
 ghost use Rattle.nd_array_core.specs.scoped.Tasks.{HoldsBy};
-ghost use Rattle.nd_storage.specs.Clones.{ClonesOfAllAreEqual};
+ghost use Rattle.nd_elements.specs.Clones.{ClonesOfAllAreEqual};
 ghost use Rattle.nd_array_core.specs.base.Fresh.{OwnsInOrder};
-ghost use Rattle.nd_storage.specs.Storages.{stored_list, room_of};
+ghost use Rattle.nd_elements.specs.Storages.{stored_list, room_of};
 ghost use Rattle.nd_array_core.specs.reshape.RunSlices.{IsRunArray, IsRunUnder, IsInMemoryOrder, IsListedFromLowest, ShowsListFrom, CopiesRun, StoresInRowMajorOrder};
 
 use crate::base::array::{Array, ArrayBase};
 use crate::base::from_elem::of_items;
+use nd_elements::elements::to_vec::clones_of;
+use nd_elements::storage::{Data, OwnedRepr};
 use nd_layout::{Layout, is_run, reach_below};
 use nd_shape_and_slice::{Dimension, NoMemory, Order, StrideList};
-use nd_storage::elements::to_vec::clones_of;
-use nd_storage::storage::{Data, OwnedRepr};
 use std::alloc::Global;
 
 /// The array of a run's elements by rising place, under the run's strides.

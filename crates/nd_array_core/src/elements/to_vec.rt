@@ -3,17 +3,17 @@
 
 ghost use Rattle.std.specs.Prelude.{◌≡◌, ◌+◌, ◌<◌, ◌≤◌, ◌++◌, Some, IfOk, OnOk, OnErr, vec_len, vec_capacity};
 ghost use Rattle.nd_shape_and_slice.specs.Shape.{size_of};
-ghost use Rattle.nd_storage.specs.Collected.{IsFront};
-ghost use Rattle.nd_storage.specs.Meaning.{row_major_elements};
+ghost use Rattle.nd_elements.specs.Collected.{IsFront};
+ghost use Rattle.nd_elements.specs.Meaning.{row_major_elements};
 ghost use Rattle.nd_array_core.specs.Meaning.{meaning_of, shape_of, element_at};
-ghost use Rattle.nd_storage.specs.CloneRefusals.{MayRefuseClone};
-ghost use Rattle.nd_storage.specs.Clones.{ClonesOfAllAreEqual};
+ghost use Rattle.nd_elements.specs.CloneRefusals.{MayRefuseClone};
+ghost use Rattle.nd_elements.specs.Clones.{ClonesOfAllAreEqual};
 
 use crate::base::array::ArrayBase;
+use nd_elements::elements::list_layout::list_layout;
+use nd_elements::elements::to_vec::{clones_of, room_of};
+use nd_elements::storage::Data;
 use nd_shape_and_slice::{Dimension, NoMemory};
-use nd_storage::elements::list_layout::list_layout;
-use nd_storage::elements::to_vec::{clones_of, room_of};
-use nd_storage::storage::Data;
 use std::alloc::Global;
 
 /// Puts clones of the elements, in row-major order, behind those that a vector has: axes are joined where they continue one

@@ -4,13 +4,13 @@
 ghost use Rattle.std.specs.Prelude.{◌≡◌, ◌<◌, true, Some};
 ghost use Rattle.nd_shape_and_slice.specs.Broadcast.{broadcasts};
 ghost use Rattle.nd_array_core.specs.base.Writes.{KeepsFrame};
-ghost use Rattle.nd_storage.specs.elements.Pairs.{ZipsBy};
+ghost use Rattle.nd_elements.specs.elements.Pairs.{ZipsBy};
 ghost use Rattle.nd_array_core.specs.elements.Pairs.{ShowsBoth, ZipsWith, ZippableWith};
 
 use crate::base::array::ArrayBase;
+use nd_elements::elements::zip_mut_with::zip_layouts;
+use nd_elements::storage::{Data, DataMut};
 use nd_shape_and_slice::Dimension;
-use nd_storage::elements::zip_mut_with::zip_layouts;
-use nd_storage::storage::{Data, DataMut};
 
 impl<S: DataMut, D: Dimension> ArrayBase<S, D> {
     ghost use Rattle.nd_array_core.specs.Meaning.{shape_of};

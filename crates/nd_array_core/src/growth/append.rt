@@ -6,8 +6,8 @@ ghost use Rattle.nd_shape_and_slice.specs.Shape.{size_of, HasCheckedSize};
 ghost use Rattle.nd_layout.specs.Placements.{placement_of};
 ghost use Rattle.nd_array_core.specs.Joined.{concatenated, concatenated_shape};
 ghost use Rattle.nd_array_core.specs.Meaning.{meaning_of, shape_of, element_at};
-ghost use Rattle.nd_storage.specs.Clones.{ClonesOfAllAreEqual};
-ghost use Rattle.nd_storage.specs.Storages.{stored_list, room_of};
+ghost use Rattle.nd_elements.specs.Clones.{ClonesOfAllAreEqual};
+ghost use Rattle.nd_elements.specs.Storages.{stored_list, room_of};
 ghost use Rattle.nd_array_core.specs.growth.Appended.{CanComeBehind, IsAppendRefused, JoinsAlike, GrowsBy, ComesBehind, HasRoomBehind, LiesFresh, ComesFresh, FitsInto, MayRefuseCloneOf};
 ghost use Rattle.nd_array_core.specs.growth.Grown.{BecomesReady, CanGrowOn, GoesOn, IsGrownBy, IsLeft, IsReadyAlong, KeepsRoom, LeavesRoom, LeavesRoomBehind, NeedsOnlyClones};
 ghost use Rattle.nd_array_core.specs.growth.Outcomes.{Appended, AppendRefused, ComesAsItIs, GrowsInPlace};
@@ -16,9 +16,9 @@ use crate::base::array::{Array, ArrayView};
 use crate::base::array_error::ArrayError;
 use crate::growth::fits_behind::{broadcast_behind, joined_dim};
 use crate::growth::put_behind::put_behind;
+use nd_elements::storage::OwnedRepr;
 use nd_layout::Layout;
 use nd_shape_and_slice::{Axis, Dimension, NoMemory};
-use nd_storage::storage::OwnedRepr;
 
 /// Puts clones of an array's elements behind those of a storage that a layout fills, and lets the layout grow along the
 /// axis. A refusal leaves the elements and the layout.

@@ -5,7 +5,7 @@ ghost use Rattle.std.specs.Prelude.{◌≡◌, ◌+◌, ◌<◌, ◌≤◌, true
 ghost use Rattle.nd_array_core.specs.Coordinates.{GetsColumn, GetsRow};
 ghost use Rattle.nd_array_core.specs.Meaning.{meaning_of, shape_of, element_at};
 ghost use Rattle.nd_array_core.specs.Part.{inserted_part, ShowsPart};
-ghost use Rattle.nd_storage.specs.Clones.{ClonesOfAllAreEqual};
+ghost use Rattle.nd_elements.specs.Clones.{ClonesOfAllAreEqual};
 ghost use Rattle.nd_array_core.specs.growth.Appended.{pushed, CanBePushed, IsPushRefused, PushesAlike};
 ghost use Rattle.nd_array_core.specs.growth.Grown.{BecomesReady, GoesOn, IsGrownBy, IsLeft, IsNotForMemory, IsReadyAlong, IsReadyFor, KeepsRoom, LeavesRoom};
 

@@ -6,16 +6,16 @@ ghost use Rattle.nd_shape_and_slice.specs.Shape.{size_of};
 ghost use Rattle.nd_shape_and_slice.specs.Maps.{lower_shape, upper_shape};
 ghost use Rattle.nd_layout.specs.Placements.{placement_of};
 ghost use Rattle.nd_layout.specs.MemoryOrder.{IsFilledBehind};
-ghost use Rattle.nd_storage.specs.Meaning.{row_major_elements};
+ghost use Rattle.nd_elements.specs.Meaning.{row_major_elements};
 ghost use Rattle.nd_array_core.specs.Meaning.{meaning_of, shape_of, element_at};
-ghost use Rattle.nd_storage.specs.Clones.{ClonesOfAllAreEqual};
+ghost use Rattle.nd_elements.specs.Clones.{ClonesOfAllAreEqual};
 ghost use Rattle.nd_array_core.specs.growth.Appended.{PutsBehind, HasCapacityFor, MayRefuseCloneOf};
 
 use crate::base::array::{ArrayBase, ArrayView};
 use crate::elements::to_vec::list_behind;
+use nd_elements::storage::Data;
 use nd_layout::{Layout, in_tail_order};
 use nd_shape_and_slice::{Dimension, NoMemory};
-use nd_storage::storage::Data;
 
 /// Puts clones of the elements, in row-major order, behind those that a vector has, once it has room for all of them. A
 /// refusal drops the clones, and leaves the vector its elements.

@@ -8,8 +8,8 @@ ghost use Rattle.nd_array_core.specs.Part.{BecomesWhole};
 ghost use Rattle.nd_array_core.specs.growth.Grown.{IsRelaid};
 
 use crate::base::array::Array;
+use nd_elements::growth::lay_anew::lay_anew;
 use nd_shape_and_slice::{Axis, Dimension, NoMemory, StrideList};
-use nd_storage::growth::lay_anew::lay_anew;
 
 impl<A: Drop, D: Dimension> Array<A, D> {
     /// Moves the elements, of which there are some, to where fresh storage has them that is to grow along an axis, with

@@ -6,7 +6,7 @@ ghost use Rattle.nd_shape_and_slice.specs.Shape.{HasCheckedSize};
 ghost use Rattle.nd_layout.specs.Growth.{grown_shape};
 ghost use Rattle.nd_array_core.specs.Meaning.{shape_of, storage_of};
 ghost use Rattle.nd_array_core.specs.Part.{ShowsWhole};
-ghost use Rattle.nd_storage.specs.Storages.{stored_list, room_of};
+ghost use Rattle.nd_elements.specs.Storages.{stored_list, room_of};
 ghost use Rattle.nd_array_core.specs.growth.Reserved.{added_elements, AddsElements, CanGrowBy, HasRoomAlong};
 
 use crate::base::array::Array;

@@ -13,11 +13,11 @@ ghost use Rattle.nd_array_core.specs.Coordinates.{element_of_2};
 ghost use Rattle.nd_array_core.specs.Part.{permuted_part, inverted_part, collapsed_part, swapped_part, reversed_part, diagonal_part, coordinate_part, inserted_part, squeezed_part, ShowsPart, BecomesPart, BecomesWhole};
 
 use crate::base::array::{ArrayBase, ArrayView, ArrayViewMut};
+use nd_elements::storage::{Data, DataMut};
 use nd_shape_and_slice::{
     Axes, Axis, AxisCount, Dimension, ErrorKind, IntoDimension, Ix1, IxDyn, RemoveAxis, ShapeError,
     StrideList,
 };
-use nd_storage::storage::{Data, DataMut};
 
 impl<S: Data, D: Dimension> ArrayBase<S, D> {
     /// Goes over the axes from the first on, each with its number, its length and its stride. ndarray's `axes`.

@@ -7,8 +7,8 @@ ghost use Rattle.nd_array_core.specs.Meaning.{shape_of};
 ghost use Rattle.nd_array_core.specs.Part.{broadcast_part, ShowsPart};
 
 use crate::base::array::{ArrayBase, ArrayView};
+use nd_elements::storage::Data;
 use nd_shape_and_slice::{Dimension, IntoDimension};
-use nd_storage::storage::Data;
 
 impl<S: Data, D: Dimension> ArrayBase<S, D> {
     /// The view under a larger shape, where each new axis and each axis grown from length 1 repeats the same

@@ -8,8 +8,8 @@ ghost use Rattle.nd_array_core.specs.Part.{coordinate_part, ShowsPart};
 ghost use Rattle.nd_array_core.specs.Coordinates.{element_of_1, element_of_2};
 
 use crate::base::array::{ArrayBase, ArrayView, ArrayViewMut};
+use nd_elements::storage::{Data, DataMut};
 use nd_shape_and_slice::{Axis, AxisCount, Dimension, Ix1, Ix2, RemoveAxis, StrideList};
-use nd_storage::storage::{Data, DataMut};
 
 impl<S: Data> ArrayBase<S, Ix2> {
     /// The view of a row below the length of axis 0 (`len_of`). ndarray's `row`.

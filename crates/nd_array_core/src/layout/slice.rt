@@ -16,11 +16,11 @@ ghost use Rattle.nd_array_core.specs.Part.{axes_of, axis_part, sliced_part, coll
 ghost use Rattle.nd_array_core.specs.layout.EachAxis.{ShowsEachSliced, BecomesEachSliced, LendsEachSliced};
 
 use crate::base::array::{ArrayBase, ArrayView, ArrayViewMut};
+use nd_elements::storage::{Data, DataMut};
 use nd_layout::Layout;
 use nd_shape_and_slice::{
     Axis, AxisCount, AxisDescription, Dimension, Slice, SliceArg, StrideList,
 };
-use nd_storage::storage::{Data, DataMut};
 
 /// The layout of what a list of slices names. The list fits the shape.
 pub(crate) fn sliced_by<D: Dimension, I: SliceArg<D>>(

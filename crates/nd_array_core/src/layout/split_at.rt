@@ -12,14 +12,14 @@ ghost use Rattle.nd_array_core.specs.Meaning.{shape_of, element_at, place_at, la
 ghost use Rattle.nd_array_core.specs.layout.MultiSlice.{TwoFit, ThreeFit, FourFit, ThreeShareNoPlace, FourShareNoPlace, FitsEach, TakenOf};
 ghost use Rattle.nd_array_core.specs.scoped.Tasks.{AreApart};
 ghost use Rattle.nd_array_core.specs.layout.Parts.{HoldsEachOnce, IsViewUnder};
-ghost use Rattle.nd_storage.specs.Places.{kept_at, ShareNoPlace};
+ghost use Rattle.nd_elements.specs.Places.{kept_at, ShareNoPlace};
 ghost use Rattle.nd_array_core.specs.Part.{lower_part, upper_part, sliced_part, ShowsPart, ShowsWhole};
 
 use super::slice::sliced_by;
 use crate::base::array::{ArrayBase, ArrayView, ArrayViewMut};
+use nd_elements::storage::{DataMut, ViewMutRepr, ViewRepr};
 use nd_layout::Layout;
 use nd_shape_and_slice::{Axis, Dimension, SliceArg, StrideList};
-use nd_storage::storage::{DataMut, ViewMutRepr, ViewRepr};
 
 impl<'a, A, D: Dimension> ArrayView<'a, A, D> {
     /// The two parts of an axis: the coordinates below this one, and those from it on. The axis is below `ndim`,

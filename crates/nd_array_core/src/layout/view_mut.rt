@@ -6,7 +6,7 @@ ghost use Rattle.std.specs.Prelude.{◌≡◌, ℕ, length, List};
 ghost use Rattle.std.specs.Borrow.{sem};
 ghost use Rattle.nd_region.specs.Places.{names};
 ghost use Rattle.nd_region.specs.Region.{region_stored};
-ghost use Rattle.nd_storage.specs.Places.{HoldsAll};
+ghost use Rattle.nd_elements.specs.Places.{HoldsAll};
 ghost use Rattle.nd_array_core.specs.layout.Parts.{HasNamed, ViewsBy};
 ghost use Rattle.nd_array_core.specs.scoped.Tasks.{HoldsBy};
 ghost use Rattle.nd_layout.specs.Placements.{placement_of, KeepsApart};
@@ -14,9 +14,9 @@ ghost use Rattle.nd_array_core.specs.Meaning.{shape_of, element_at, place_at, la
 ghost use Rattle.nd_array_core.specs.Part.{ShowsWhole, BecomesWhole};
 
 use crate::base::array::{ArrayBase, ArrayView, ArrayViewMut};
+use nd_elements::storage::{DataMut, RegionRepr, ViewMutRepr, ViewRepr};
 use nd_layout::Layout;
 use nd_shape_and_slice::{AxisCount, Dimension, StrideList};
-use nd_storage::storage::{DataMut, RegionRepr, ViewMutRepr, ViewRepr};
 
 impl<S: DataMut, D: Dimension> ArrayBase<S, D> {
     ghost use Rattle.nd_array_core.specs.layout.ViewLent.{array_follows_part, left_by, lent_places, tie_of, LeavesBut, LeavesPlacesBut, LeavesRefilled};

@@ -3,13 +3,13 @@
 
 ghost use Rattle.std.specs.Prelude.{◌↔◌, ◌≡◌, ◌<◌, IsSome, IfSome, Some};
 ghost use Rattle.nd_array_core.specs.Meaning.{meaning_of};
-ghost use Rattle.nd_storage.specs.Meaning.{row_major_elements};
+ghost use Rattle.nd_elements.specs.Meaning.{row_major_elements};
 ghost use Rattle.nd_array_core.specs.reshape.RunSlices.{IsStandardArray, IsRunArray, IsInMemoryOrder, IsReordering};
 
 use crate::base::array::{ArrayBase, ArrayView};
+use nd_elements::storage::Data;
 use nd_layout::is_run;
 use nd_shape_and_slice::{Dimension, StrideList};
-use nd_storage::storage::Data;
 
 impl<'a, A, D: Dimension> ArrayView<'a, A, D> {
     /// The elements in row-major order as one slice, for as long as what the view is of; None exactly where they don't

@@ -7,15 +7,15 @@ ghost use Rattle.nd_shape_and_slice.specs.Shape.{size_of};
 ghost use Rattle.nd_region.specs.Region.{HasRun, IsRunOf};
 ghost use Rattle.nd_array_core.specs.Meaning.{meaning_of, shape_of, layout_offset};
 ghost use Rattle.nd_array_core.specs.base.LongerLent.{region_of};
-ghost use Rattle.nd_storage.specs.Meaning.{row_major_elements};
+ghost use Rattle.nd_elements.specs.Meaning.{row_major_elements};
 ghost use Rattle.nd_array_core.specs.reshape.LentSlices.{run_may_follow};
 ghost use Rattle.nd_array_core.specs.reshape.RunSlices.{lowest_place, IsStandardArray, IsRunArray, IsInMemoryOrder, IsInRowMajorOrder, RunIs};
 
 use crate::base::array::{ArrayBase, ArrayViewMut};
+use nd_elements::storage::{Data, DataMut, RegionRepr};
 use nd_layout::is_run;
 use nd_region::Region;
 use nd_shape_and_slice::{Dimension, StrideList};
-use nd_storage::storage::{Data, DataMut, RegionRepr};
 
 impl<S: Data, D: Dimension> ArrayBase<S, D> {
     /// Whether there is no element, or the places are as many consecutive numbers as there are elements, each once.

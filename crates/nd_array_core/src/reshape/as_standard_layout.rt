@@ -3,15 +3,15 @@
 
 ghost use Rattle.std.specs.Prelude.{IfOk, IfErr};
 ghost use Rattle.nd_array_core.specs.Meaning.{element_at};
-ghost use Rattle.nd_storage.specs.Clones.{ClonesOfAllAreEqual};
+ghost use Rattle.nd_elements.specs.Clones.{ClonesOfAllAreEqual};
 ghost use Rattle.nd_array_core.specs.reshape.Either.{AnswersView, ViewsOrLaysOut};
 ghost use Rattle.nd_array_core.specs.reshape.RunSlices.{IsStandardArray};
 
 use crate::base::array::ArrayBase;
 use crate::elements::to_owned::ordered_to_owned;
 use crate::reshape::either_array::{EitherArray, ViewOrOwned};
+use nd_elements::storage::Data;
 use nd_shape_and_slice::{Dimension, NoMemory};
-use nd_storage::storage::Data;
 use std::alloc::Global;
 
 impl<S: Data, D: Dimension> ArrayBase<S, D>

@@ -4,8 +4,8 @@
 ghost use Rattle.std.specs.Prelude.{◌↔◌, ◌≡◌, IsTrue, true, false};
 
 use crate::base::array::{ArrayBase, ArrayView};
+use nd_elements::storage::{Data, OwnedRepr, ViewRepr};
 use nd_shape_and_slice::Dimension;
-use nd_storage::storage::{Data, OwnedRepr, ViewRepr};
 
 /// A view, or an array that owns its elements. Users write `ViewOrOwned`.
 #[derive(Drop)]

@@ -11,12 +11,12 @@ ghost use Rattle.nd_array_core.specs.reshape.Serving.{IsRegroupedStep, IsApartFo
 ghost use Rattle.nd_layout.specs.Placements.{placement_of};
 
 use crate::base::array::ArrayBase;
+use nd_elements::storage::Data;
 use nd_layout::{Layout, is_standard, strides_in};
 use nd_shape_and_slice::{
     Dimension, ErrorKind, IntoDimension, Order, ShapeArg, ShapeError, StrideList,
     size_of_shape_checked,
 };
-use nd_storage::storage::Data;
 
 /// Whether each index lies at its rank in an order, from the offset on.
 fn is_in_order<D: Dimension, T: StrideList>(layout: &Layout<D, T>, order: Order) -> bool

@@ -8,9 +8,9 @@ ghost use Rattle.nd_array_core.specs.Part.{merged_part, BecomesPart, BecomesWhol
 ghost use Rattle.nd_array_core.specs.reshape.RunSlices.{IsStandardArray};
 
 use crate::base::array::ArrayBase;
+use nd_elements::storage::Data;
 use nd_layout::{furthest_axis, is_standard};
 use nd_shape_and_slice::{Axis, Dimension, StrideList};
-use nd_storage::storage::Data;
 
 impl<S: Data, D: Dimension> ArrayBase<S, D> {
     /// Whether the elements lie one beside the other in row-major order, as those of a new array do; so they do where

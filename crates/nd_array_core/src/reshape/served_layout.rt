@@ -8,9 +8,9 @@ ghost use Rattle.nd_array_core.specs.Meaning.{shape_of};
 ghost use Rattle.nd_layout.specs.Placements.{placement_of};
 
 use crate::base::array::{ArrayBase, ArrayView};
+use nd_elements::storage::Data;
 use nd_layout::{Layout, reshape_strides};
 use nd_shape_and_slice::{Dimension, Order, StrideList, strides_from};
-use nd_storage::storage::Data;
 
 /// Strides under which other lengths give each element, by its rank in an order, the place that it has; None exactly
 /// where no integers do.

@@ -15,10 +15,10 @@ use crate::reshape::copied_in::copied_in;
 use crate::reshape::either_array::{EitherArray, ViewOrOwned};
 use crate::reshape::into_shape::has_size;
 use crate::reshape::served_layout::{served_layout, served_view};
+use nd_elements::storage::Data;
 use nd_shape_and_slice::{
     Dimension, ErrorKind, IntoDimension, Ix1, NoMemory, Order, ShapeArg, ShapeError,
 };
-use nd_storage::storage::Data;
 use std::alloc::Global;
 
 /// The number of elements, which is the length of one axis for all of them.

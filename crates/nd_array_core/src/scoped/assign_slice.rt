@@ -3,10 +3,10 @@
 
 ghost use Rattle.std.specs.Prelude.{◌≡◌, ℕ, true, List, OnOk, OnErr};
 ghost use Rattle.nd_shape_and_slice.specs.SliceInfo.{fits_shape};
-ghost use Rattle.nd_storage.specs.CloneRefusals.{MayRefuseClone};
-ghost use Rattle.nd_storage.specs.Clones.{ClonesOfAllAreEqual};
-ghost use Rattle.nd_storage.specs.elements.Changes.{ChangeableInAnyOrder, ChangesAll, ChangesAlike};
-ghost use Rattle.nd_storage.specs.elements.Pairs.{IsOldOrOf};
+ghost use Rattle.nd_elements.specs.CloneRefusals.{MayRefuseClone};
+ghost use Rattle.nd_elements.specs.Clones.{ClonesOfAllAreEqual};
+ghost use Rattle.nd_elements.specs.elements.Changes.{ChangeableInAnyOrder, ChangesAll, ChangesAlike};
+ghost use Rattle.nd_elements.specs.elements.Pairs.{IsOldOrOf};
 ghost use Rattle.nd_array_core.specs.PlacedArray.{element_placed};
 ghost use Rattle.nd_array_core.specs.base.Writes.{KeepsFrame};
 ghost use Rattle.nd_array_core.specs.scoped.Tasks.{view_frame, lent_frame, lent_view, CanBeSeen};
@@ -18,8 +18,8 @@ ghost use Rattle.nd_array_core.specs.scoped.Assigned.{FitsPart, AssignsPart, Ass
 use super::with_view_mut::{LentView, ViewTask};
 use crate::base::array::ArrayBase;
 use crate::laws::broadcast_to_itself;
+use nd_elements::storage::{Data, DataMut, ViewMutRepr};
 use nd_shape_and_slice::{Dimension, NoMemory, SliceArg};
-use nd_storage::storage::{Data, DataMut, ViewMutRepr};
 
 /// The task that assigns an array to a view. If a clone is refused, each index has its old element or the new one.
 #[derive(Drop)]

@@ -5,8 +5,8 @@ ghost use Rattle.std.specs.Prelude.{◌≡◌, ℕ, true, List, Some, OnOk, OnEr
 ghost use Rattle.nd_shape_and_slice.specs.Shape.{size_of};
 ghost use Rattle.nd_shape_and_slice.specs.SliceInfo.{fits_shape};
 ghost use Rattle.nd_array_core.specs.PlacedArray.{element_placed};
-ghost use Rattle.nd_storage.specs.CloneRefusals.{MayRefuseClonesOf};
-ghost use Rattle.nd_storage.specs.Writes.{IsOldOrNew};
+ghost use Rattle.nd_elements.specs.CloneRefusals.{MayRefuseClonesOf};
+ghost use Rattle.nd_elements.specs.Writes.{IsOldOrNew};
 ghost use Rattle.nd_array_core.specs.base.Writes.{KeepsFrame};
 ghost use Rattle.nd_array_core.specs.scoped.Tasks.{view_frame, lent_frame, CanBeSeen};
 ghost use Rattle.nd_array_core.specs.scoped.PartTasks.{IsFilledWith, KeepsBut};
@@ -15,8 +15,8 @@ ghost use Rattle.nd_array_core.specs.scoped.Fills.{IsOldOrFilled, IsFilledWhere,
 
 use super::with_view_mut::{LentView, ViewTask};
 use crate::base::array::ArrayBase;
+use nd_elements::storage::{DataMut, ViewMutRepr};
 use nd_shape_and_slice::{Dimension, NoMemory, SliceArg};
-use nd_storage::storage::{DataMut, ViewMutRepr};
 
 /// The task that fills a view with one value. If a clone is refused, each index has its old element or the value.
 #[derive(Drop)]
@@ -26,7 +26,7 @@ pub struct Fill<A: Drop> {
 }
 
 impl<A: Clone + Drop, D: Dimension> ViewTask<A, D> for Fill<A> {
-    ghost use Rattle.nd_storage.specs.Meaning.{inside};
+    ghost use Rattle.nd_elements.specs.Meaning.{inside};
 
     type Answer = Result<(), NoMemory>;
 

@@ -11,9 +11,9 @@ ghost use Rattle.nd_array_core.specs.scoped.Sources.{meant_by, refusal_for, Asks
 
 use super::with_view_mut::{ViewTask, run_on_placement};
 use crate::base::from_shape::{GivenIn, laid_out};
+use nd_elements::storage::part_of_slice;
 use nd_layout::Layout;
 use nd_shape_and_slice::{Dimension, IntoStrideShape, ShapeError, StrideList};
-use nd_storage::storage::part_of_slice;
 
 /// Runs the task on a view of a slice, by a layout whose places the slice has.
 fn with_slice_placement<A, D: Dimension, K: ViewTask<A, D>>(

@@ -13,10 +13,10 @@ ghost use Rattle.nd_array_core.specs.base.Writes.{KeepsFrame};
 use super::with_view_mut::LentView;
 use crate::base::array::ArrayBase;
 use crate::layout::split_at::halves;
+use nd_elements::storage::{DataMut, ViewMutRepr};
 use nd_layout::Layout;
 use nd_region::Region;
 use nd_shape_and_slice::{Axis, Dimension, StrideList};
-use nd_storage::storage::{DataMut, ViewMutRepr};
 
 /// What a caller does with two mutable views that are lent for one call. A task gives back the storage of each, or of a
 /// part that it sliced it to, with the same borrows.

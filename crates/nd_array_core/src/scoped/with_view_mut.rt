@@ -10,17 +10,17 @@ ghost use Rattle.std.specs.Option.{is_some};
 ghost use Rattle.nd_region.specs.Region.{region_stored, borrow_of};
 ghost use Rattle.nd_array_core.specs.Laws.{ShowsStored};
 ghost use Rattle.nd_array_core.specs.PlacedArray.{PlacedArray, found_at};
-ghost use Rattle.nd_storage.specs.Storages.{held_by};
+ghost use Rattle.nd_elements.specs.Storages.{held_by};
 ghost use Rattle.nd_array_core.specs.scoped.Tasks.{view_frame, lent_frame, lent_view, CanBeSeen, IsDoneOnView, LiesBy, AsksOfPlacement, KeepsUnnamed, shown_under, IsDoneUnder, IsDoneInPart};
 ghost use Rattle.nd_layout.specs.Placements.{placement_of};
 ghost use Rattle.nd_array_core.specs.base.Writes.{KeepsFrame};
 ghost use Rattle.nd_array_core.specs.scoped.PartTasks.{AsksOfWhole, IsDoneOnWhole};
 
 use crate::base::array::{ArrayBase, ArrayViewMut};
+use nd_elements::storage::{DataMut, RegionRepr, ViewMutRepr};
 use nd_layout::Layout;
 use nd_region::Region;
 use nd_shape_and_slice::{Dimension, StrideList};
-use nd_storage::storage::{DataMut, RegionRepr, ViewMutRepr};
 use std::snapshot::Snapshot;
 
 /// A mutable view while it is lent to a task, to be used after `into_view`.

@@ -9,13 +9,13 @@ use Rattle.nd_shape_and_slice.specs.declared.builder.Order.TheVariants.{RowMajor
 use Rattle.nd_shape_and_slice.proofs.RankIndexes.{in_box-index_at}
 use Rattle.nd_layout.specs.Steps.{IsStep}
 use Rattle.nd_layout.specs.Walk.{place_at_rank}
-use Rattle.nd_storage.specs.Storages.{shown_by}
-use Rattle.nd_storage.specs.Collected.{stored_along}
+use Rattle.nd_elements.specs.Storages.{shown_by}
+use Rattle.nd_elements.specs.Collected.{stored_along}
 use Rattle.nd_array_core.specs.Meaning.{meaning_of, memory_layout_of, element_at}
-use Rattle.nd_storage.specs.elements.Maps.{AnswersAt, TakesAt}
+use Rattle.nd_elements.specs.elements.Maps.{AnswersAt, TakesAt}
 use Rattle.nd_array_core.specs.along.AxisMaps.{lanes_of, lane_seen, AnswersLane, MayBeShownLane}
-use Rattle.nd_storage.proofs.AxisLanes.{next_rank}
-use Rattle.nd_storage.proofs.Answered.{IsAnsweredTo, answered_next, answered_more, answered_all}
+use Rattle.nd_elements.proofs.AxisLanes.{next_rank}
+use Rattle.nd_elements.proofs.Answered.{IsAnsweredTo, answered_next, answered_more, answered_all}
 use Rattle.nd_array_core.proofs.along_lemmas.AxisFolding.{fold_reach, fold_holds, fold_found}
 use Rattle.nd_array_core.proofs.along_lemmas.ShownLanes.{lane_met}
 use Rattle.nd_layout.proofs.WalkSteps.{reaches_usizes}

@@ -3,8 +3,8 @@ use Rattle.std.specs.Prelude.{slice_index}
 use Rattle.std.proofs.lemmas.Result.{IfOk-weaker}
 use Rattle.nd_shape_and_slice.specs.Maps.{collapsed_shape}
 use Rattle.nd_array_core.specs.Meaning.{meaning_of, shape_of, element_at}
-use Rattle.nd_storage.specs.Storages.{shown_by}
-use Rattle.nd_storage.proofs.Assigned.{on_err}
+use Rattle.nd_elements.specs.Storages.{shown_by}
+use Rattle.nd_elements.proofs.Assigned.{on_err}
 use Rattle.nd_array_core.proofs.along_lemmas.Selecting.{selected_more, row_shown, row_is_some, box_has}
 use Rattle.nd_array_core.proofs.along.select.selected_row.Goals as goal
 

@@ -1,10 +1,10 @@
 use Rattle.std.proofs.Common.{◌∙◌, ap, sym, subst}
 use Rattle.std.specs.List.{fold, flat_map}
 use Rattle.nd_layout.specs.Lanes.{by_rank}
-use Rattle.nd_storage.specs.NumberedPlaces.{Holds}
-use Rattle.nd_storage.specs.elements.Hashes.{FeedsEach}
+use Rattle.nd_elements.specs.NumberedPlaces.{Holds}
+use Rattle.nd_elements.specs.elements.Hashes.{FeedsEach}
 use Rattle.nd_array_core.specs.Meaning.{meaning_of}
-use Rattle.nd_storage.proofs.Collecting.{joined_has, joined_elements}
+use Rattle.nd_elements.proofs.Collecting.{joined_has, joined_elements}
 use Rattle.nd_array_core.proofs.elements.hash.hash_by_lanes.Goals as goal
 
 pub hash_places-requires : goal.hash_places-requires

@@ -3,12 +3,12 @@ use Rattle.nd_shape_and_slice.specs.Shape.{index_at}
 use Rattle.nd_shape_and_slice.specs.declared.builder.Order.TheVariants.{RowMajor}
 use Rattle.nd_layout.specs.Lanes.{by_rank}
 use Rattle.nd_layout.specs.Placements.{placement_of}
-use Rattle.nd_storage.specs.NumberedPlaces.{elements_at, ClonesAreEqualAt, Holds}
+use Rattle.nd_elements.specs.NumberedPlaces.{elements_at, ClonesAreEqualAt, Holds}
 use Rattle.nd_array_core.specs.Meaning.{meaning_of, element_at}
-use Rattle.nd_storage.specs.ByRank.{found_by_rank}
-use Rattle.nd_storage.specs.elements.Maps.{AnswersValue, AnswersValues, MayBeGiven, MayGiveEach}
-use Rattle.nd_storage.proofs.Collecting.{joined_has, joined_clones}
-use Rattle.nd_storage.proofs.Mapped.{joined_numbers, joined_there, joined_shows, indexes_taken, indexes_answered}
+use Rattle.nd_elements.specs.ByRank.{found_by_rank}
+use Rattle.nd_elements.specs.elements.Maps.{AnswersValue, AnswersValues, MayBeGiven, MayGiveEach}
+use Rattle.nd_elements.proofs.Collecting.{joined_has, joined_clones}
+use Rattle.nd_elements.proofs.Mapped.{joined_numbers, joined_there, joined_shows, indexes_taken, indexes_answered}
 use Rattle.nd_array_core.proofs.elements.mapv.mapv_in_order.Goals as goal
 
 pub value_places-requires-clause-holds : goal.value_places-requires-clause-holds

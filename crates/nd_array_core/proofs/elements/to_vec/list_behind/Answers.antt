@@ -1,8 +1,8 @@
 use Rattle.std.proofs.Common.{◌≡◌, ◌∙◌, ◌++◌, subst, OnOk}
 use Rattle.nd_array_core.specs.Meaning.{meaning_of}
-use Rattle.nd_storage.proofs.Assigned.{on_err}
+use Rattle.nd_elements.proofs.Assigned.{on_err}
 use Rattle.nd_array_core.proofs.elements_lemmas.CloneRefusals.{joined_refused}
-use Rattle.nd_storage.proofs.Collecting.{joined_has, joined_clones, joined_elements}
+use Rattle.nd_elements.proofs.Collecting.{joined_has, joined_clones, joined_elements}
 use Rattle.nd_array_core.proofs.elements.to_vec.list_behind.Goals as goal
 
 pub list_layout-requires-clause-holds : goal.list_layout-requires-clause-holds

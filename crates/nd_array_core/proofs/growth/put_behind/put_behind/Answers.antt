@@ -1,7 +1,7 @@
 use Rattle.nd_layout.specs.Placements.{placement_of}
 use Rattle.nd_array_core.specs.Meaning.{meaning_of}
 use Rattle.nd_array_core.proofs.growth_lemmas.Appending.{tail_put}
-use Rattle.nd_storage.proofs.Assigned.{on_ok}
+use Rattle.nd_elements.proofs.Assigned.{on_ok}
 use Rattle.nd_array_core.proofs.growth.put_behind.put_behind.Goals as goal
 
 pub returns-clause-put : goal.returns-clause-put

@@ -2,8 +2,8 @@ use Rattle.std.proofs.Common.{◌≡◌, ◌-◌, ◌<◌, ◌∙◌, suc, ap, s
 use Rattle.std.proofs.lemmas.Int.{to_z-of_z}
 use Rattle.nd_shape_and_slice.specs.Maps.{collapsed_shape}
 use Rattle.nd_array_core.specs.Meaning.{meaning_of, memory_layout_of}
-use Rattle.nd_storage.specs.along.AxisLanes.{LanesDiffer, LanesHold}
-use Rattle.nd_storage.specs.along.Accumulated.{AccumulableLanes, AccumulatesLanes}
+use Rattle.nd_elements.specs.along.AxisLanes.{LanesDiffer, LanesHold}
+use Rattle.nd_elements.specs.along.Accumulated.{AccumulableLanes, AccumulatesLanes}
 use Rattle.nd_array_core.proofs.along_lemmas.AxisIndexes.{outer_step, given_reach, given_hold, given_distinct}
 use Rattle.nd_array_core.proofs.along_lemmas.AxisAccumulating.{axis_accumulable, axis_visits, axis_first, axis_holds, axis_others, given_takes, given_done}
 use Rattle.nd_array_core.proofs.along.accumulate_axis.ArrayBase+S+D.accumulate_some.Goals as goal

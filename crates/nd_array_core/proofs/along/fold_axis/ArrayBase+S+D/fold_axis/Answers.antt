@@ -8,10 +8,10 @@ use Rattle.nd_shape_and_slice.specs.Maps.{indexed_shape, indexed_index}
 use Rattle.nd_shape_and_slice.specs.declared.builder.Order.TheVariants.{RowMajor}
 use Rattle.nd_layout.specs.Steps.{IsStep}
 use Rattle.nd_array_core.specs.Meaning.{meaning_of, memory_layout_of, element_at}
-use Rattle.nd_storage.specs.Places.{stored_at}
-use Rattle.nd_storage.specs.ByRank.{found_by_rank}
-use Rattle.nd_storage.specs.along.AxisLanes.{lane_place, LanesHold}
-use Rattle.nd_storage.specs.along.LanesFolded.{FoldableLanes, AreLanesFolded, LanesFoldable, LanesFoldedTo}
+use Rattle.nd_elements.specs.Places.{stored_at}
+use Rattle.nd_elements.specs.ByRank.{found_by_rank}
+use Rattle.nd_elements.specs.along.AxisLanes.{lane_place, LanesHold}
+use Rattle.nd_elements.specs.along.LanesFolded.{FoldableLanes, AreLanesFolded, LanesFoldable, LanesFoldedTo}
 use Rattle.nd_array_core.proofs.along_lemmas.AxisFolds.{axis_folded, lanes_foldable, lanes_visited}
 use Rattle.nd_array_core.proofs.along_lemmas.HandedLanes.{given_reach, given_hold, given_found}
 use Rattle.nd_array_core.proofs.along.fold_axis.ArrayBase+S+D.fold_axis.Goals as goal

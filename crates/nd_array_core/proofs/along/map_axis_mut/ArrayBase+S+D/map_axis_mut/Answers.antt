@@ -7,14 +7,14 @@ use Rattle.nd_shape_and_slice.specs.Maps.{indexed_shape, indexed_index}
 use Rattle.nd_shape_and_slice.specs.Place.{place_of}
 use Rattle.nd_shape_and_slice.specs.declared.builder.Order.TheVariants.{RowMajor}
 use Rattle.nd_layout.specs.Steps.{IsStep}
-use Rattle.nd_storage.specs.Meaning.{Meaning, inside}
+use Rattle.nd_elements.specs.Meaning.{Meaning, inside}
 use Rattle.nd_array_core.specs.Meaning.{meaning_of, memory_layout_of, element_at}
-use Rattle.nd_storage.specs.Places.{stored_at}
-use Rattle.nd_storage.specs.along.AxisLanes.{LanesDiffer, LanesHold}
-use Rattle.nd_storage.specs.along.LanesWritten.{TakesAllLanes, HandsOut}
-use Rattle.nd_storage.specs.ByRank.{found_by_rank}
+use Rattle.nd_elements.specs.Places.{stored_at}
+use Rattle.nd_elements.specs.along.AxisLanes.{LanesDiffer, LanesHold}
+use Rattle.nd_elements.specs.along.LanesWritten.{TakesAllLanes, HandsOut}
+use Rattle.nd_elements.specs.ByRank.{found_by_rank}
 use Rattle.nd_array_core.proofs.along_lemmas.HandedLanes.{given_reach, given_apart, given_hold, given_taken, given_handed, others_stayed, lanes_answered, lanes_left, lanes_seen, found_there}
-use Rattle.nd_storage.proofs.Replaced.{still_holds_all}
+use Rattle.nd_elements.proofs.Replaced.{still_holds_all}
 use Rattle.nd_array_core.proofs.along.map_axis_mut.ArrayBase+S+D.map_axis_mut.Goals as goal
 
 pub new-lanes-requires-clause-lie : goal.new-lanes-requires-clause-lie

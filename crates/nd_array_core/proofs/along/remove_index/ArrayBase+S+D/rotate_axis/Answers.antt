@@ -2,8 +2,8 @@ use Rattle.std.proofs.Common.{◌≡◌, ◌<◌, ◌∙◌, ap, sym, subst, ref
 use Rattle.std.proofs.lemmas.Int.{to_z-of_z}
 use Rattle.nd_shape_and_slice.specs.Maps.{collapsed_shape}
 use Rattle.nd_array_core.specs.Meaning.{meaning_of, memory_layout_of}
-use Rattle.nd_storage.specs.along.AxisLanes.{LanesDiffer, LanesHold}
-use Rattle.nd_storage.specs.along.Removed.{RotatesLanes}
+use Rattle.nd_elements.specs.along.AxisLanes.{LanesDiffer, LanesHold}
+use Rattle.nd_elements.specs.along.Removed.{RotatesLanes}
 use Rattle.nd_array_core.proofs.along_lemmas.AxisIndexes.{outer_step, given_reach, given_hold, given_distinct, given_moved, rotated_holds, rotated_element, rotated_others}
 use Rattle.nd_array_core.proofs.along.remove_index.ArrayBase+S+D.rotate_axis.Goals as goal
 

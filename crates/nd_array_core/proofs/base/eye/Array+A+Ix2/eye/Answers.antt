@@ -1,6 +1,6 @@
 use Rattle.std.proofs.Common.{sym, ap}
 use Rattle.std.specs.Prelude.{Some}
-use Rattle.nd_storage.specs.StorageFrame.{Owned}
+use Rattle.nd_elements.specs.StorageFrame.{Owned}
 use Rattle.nd_array_core.specs.Meaning.{element_at}
 use Rattle.nd_array_core.proofs.base_lemmas.Frames.{keeps_again}
 use Rattle.nd_array_core.proofs.base_lemmas.Diagonals.{diagonal_more}

@@ -63,10 +63,10 @@ use Rattle.nd_region.specs.Region.{IsWhole, region_stored}
 use Rattle.nd_region.specs.contracts.region.Region.{the_row as region_row}
 use Rattle.nd_region.proofs.region.Region.TheLaws.{the_row_laws as region_laws}
 use Rattle.nd_array_core.specs.Meaning.{shape_of, element_at, layout_strides, storage_of}
-use Rattle.nd_storage.specs.Meaning.{inside}
-use Rattle.nd_storage.specs.contracts.storage.RegionRepr.{the_row as storage_row}
-use Rattle.nd_storage.proofs.storage.RegionRepr.TheLaws.{the_row_laws as storage_laws}
-use Rattle.nd_storage.specs.contracts.storage.ViewMutReprData.TheImpl as view_impl
+use Rattle.nd_elements.specs.Meaning.{inside}
+use Rattle.nd_elements.specs.contracts.storage.RegionRepr.{the_row as storage_row}
+use Rattle.nd_elements.proofs.storage.RegionRepr.TheLaws.{the_row_laws as storage_laws}
+use Rattle.nd_elements.specs.contracts.storage.ViewMutReprData.TheImpl as view_impl
 use Rattle.nd_array_core.proofs.base.array.ArrayBase.TheLaws.{the_row_laws as array_laws_of}
 use Rattle.nd_shape_and_slice.specs.contracts.fixed.Dim2FixedAxes2.TheImpl as two_impl
 use Rattle.nd_array_core.specs.base.SliceLent.{rows_rewritten}

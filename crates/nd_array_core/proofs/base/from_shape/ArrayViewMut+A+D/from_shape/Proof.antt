@@ -78,17 +78,17 @@ use Rattle.nd_region.proofs.region.Region.TheLaws.{the_row_laws as region_laws}
 use Rattle.nd_region.specs.contracts.region.Region.from_slice as O
 use Rattle.nd_region.proofs.region.Region.from_slice.Met.{met as of_met}
 use Rattle.nd_array_core.specs.Meaning.{shape_of, element_at, layout_strides, layout_offset, storage_of}
-use Rattle.nd_storage.specs.Meaning.{inside}
-use Rattle.nd_storage.specs.Places.{stored_at}
+use Rattle.nd_elements.specs.Meaning.{inside}
+use Rattle.nd_elements.specs.Places.{stored_at}
 use Rattle.nd_array_core.specs.base.Given.{IsLaidOut}
 use Rattle.nd_layout.specs.Placements.{as_placement, placement_of}
 use Rattle.nd_array_core.specs.scoped.Tasks.{LiesBy}
 use Rattle.nd_array_core.specs.scoped.Sources.{GivenShape, meant_by}
 use Rattle.nd_array_core.specs.contracts.base.from_shape.GivenIn as given_in
 use Rattle.nd_array_core.specs.declared.base.from_shape.GivenIn.TheVariants.{SliceMut}
-use Rattle.nd_storage.specs.contracts.storage.RegionRepr.{the_row as storage_row}
-use Rattle.nd_storage.proofs.storage.RegionRepr.TheLaws.{the_row_laws as storage_laws}
-use Rattle.nd_storage.specs.contracts.storage.ViewMutReprData.TheImpl as view_impl
+use Rattle.nd_elements.specs.contracts.storage.RegionRepr.{the_row as storage_row}
+use Rattle.nd_elements.proofs.storage.RegionRepr.TheLaws.{the_row_laws as storage_laws}
+use Rattle.nd_elements.specs.contracts.storage.ViewMutReprData.TheImpl as view_impl
 use Rattle.nd_array_core.specs.contracts.base.array.ArrayBase.{the_row as array_row}
 use Rattle.nd_array_core.proofs.base.array.ArrayBase.TheLaws.{the_row_laws as array_laws}
 use Rattle.nd_array_core.proofs.lending.ResultParts.{ok_typed, err_typed, ok_of, err_of, result_parts}

@@ -2,7 +2,7 @@ use Rattle.std.proofs.Common.{◌≡◌, ◌∙◌, ap, sym, subst}
 use Rattle.nd_shape_and_slice.specs.Shape.{in_box}
 use Rattle.nd_array_core.specs.Coordinates.{IsCell}
 use Rattle.nd_array_core.specs.Meaning.{element_at}
-use Rattle.nd_storage.specs.FreeOrder.{AnswersIndex}
+use Rattle.nd_elements.specs.FreeOrder.{AnswersIndex}
 use Rattle.nd_array_core.proofs.base_lemmas.Cells.{cells_settled}
 use Rattle.nd_array_core.proofs.base.from_shape_fn.Array+A+D.from_shape_fn.Goals as goal
 

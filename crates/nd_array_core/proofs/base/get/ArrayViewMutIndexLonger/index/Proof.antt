@@ -49,10 +49,10 @@ use Rattle.nd_shape_and_slice.specs.Shape.{in_box}
 use Rattle.nd_array_core.specs.Meaning.{shape_of, element_at, place_at}
 use Rattle.nd_array_core.specs.base.LongerLent.{region_of, with_item_at}
 use Rattle.nd_array_core.specs.contracts.base.array.ArrayBase.{the_row as array_row}
-use Rattle.nd_storage.specs.contracts.storage.RegionRepr.{the_row as storage_row}
-use Rattle.nd_storage.specs.contracts.storage.ViewMutReprData.TheImpl as view_impl
+use Rattle.nd_elements.specs.contracts.storage.RegionRepr.{the_row as storage_row}
+use Rattle.nd_elements.specs.contracts.storage.ViewMutReprData.TheImpl as view_impl
 use Rattle.nd_array_core.proofs.base.array.ArrayBase.TheLaws.{the_row_laws as array_laws_of}
-use Rattle.nd_storage.proofs.storage.RegionRepr.TheLaws.{the_row_laws as storage_laws}
+use Rattle.nd_elements.proofs.storage.RegionRepr.TheLaws.{the_row_laws as storage_laws}
 use Rattle.nd_array_core.proofs.lending.Longer.{one_value}
 use Rattle.nd_region.specs.contracts.region.Region.into_mut as K
 use Rattle.nd_region.proofs.region.Region.into_mut.Met.{met as into_met}

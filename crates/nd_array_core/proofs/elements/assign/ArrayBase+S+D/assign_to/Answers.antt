@@ -1,6 +1,6 @@
 use Rattle.nd_array_core.specs.Meaning.{shape_of, element_at}
 use Rattle.nd_array_core.specs.elements.Pairs.{beside_at}
-use Rattle.nd_storage.proofs.Assigned.{on_err}
+use Rattle.nd_elements.proofs.Assigned.{on_err}
 use Rattle.nd_array_core.proofs.elements_lemmas.CloneRefusals.{refused_alike}
 use Rattle.nd_array_core.proofs.elements.assign.ArrayBase+S+D.assign_to.Goals as goal
 

@@ -2,8 +2,8 @@ use Rattle.std.proofs.Common.{subst}
 use Rattle.std.specs.Prelude.{OnErr}
 use Rattle.nd_layout.specs.Lanes.{by_rank}
 use Rattle.nd_array_core.specs.Meaning.{meaning_of}
-use Rattle.nd_storage.specs.CloneRefusals.{MayRefuseClonesOf}
-use Rattle.nd_storage.proofs.Assigned.{on_err}
+use Rattle.nd_elements.specs.CloneRefusals.{MayRefuseClonesOf}
+use Rattle.nd_elements.proofs.Assigned.{on_err}
 use Rattle.nd_array_core.proofs.elements_lemmas.CloneRefusals.{value_refused}
 use Rattle.nd_array_core.proofs.elements.fill.ArrayBase+S+D.fill.Goals as goal
 

@@ -1,11 +1,11 @@
 use Rattle.std.proofs.Common.{sym, subst}
 use Rattle.nd_layout.specs.Lanes.{by_rank}
 use Rattle.nd_layout.specs.Placements.{placement_of}
-use Rattle.nd_storage.specs.NumberedPlaces.{elements_at}
+use Rattle.nd_elements.specs.NumberedPlaces.{elements_at}
 use Rattle.nd_array_core.specs.Meaning.{meaning_of}
-use Rattle.nd_storage.specs.elements.Maps.{AnswersElement, MayBeShown, MayShowEach, ShowsEach}
-use Rattle.nd_storage.proofs.Folded.{rearranged_numbers}
-use Rattle.nd_storage.proofs.Mapped.{rearranged_there, indexes_taken, indexes_visited}
+use Rattle.nd_elements.specs.elements.Maps.{AnswersElement, MayBeShown, MayShowEach, ShowsEach}
+use Rattle.nd_elements.proofs.Folded.{rearranged_numbers}
+use Rattle.nd_elements.proofs.Mapped.{rearranged_there, indexes_taken, indexes_visited}
 use Rattle.nd_array_core.proofs.elements.for_each.ArrayBase+S+D.for_each.Goals as goal
 
 pub show_places-requires-clause-callable : goal.show_places-requires-clause-callable

@@ -2,15 +2,15 @@ use Rattle.std.proofs.Common.{◌∙◌, refl, sym, subst}
 use Rattle.nd_shape_and_slice.specs.Place.{place_of}
 use Rattle.nd_layout.specs.Lanes.{by_rank}
 use Rattle.nd_layout.specs.Placements.{placement_of}
-use Rattle.nd_storage.specs.NumberedPlaces.{elements_at, ClonesAreEqualAt, MayRefuseAt, PlacesDiffer}
+use Rattle.nd_elements.specs.NumberedPlaces.{elements_at, ClonesAreEqualAt, MayRefuseAt, PlacesDiffer}
 use Rattle.nd_array_core.specs.Meaning.{meaning_of, element_at}
-use Rattle.nd_storage.specs.Meaning.{inside}
-use Rattle.nd_storage.specs.Places.{stored_at}
-use Rattle.nd_storage.specs.elements.Maps.{AnswersValue, MayBeGiven, MayGiveEach, ReplacesEach, ReplacesInPart}
-use Rattle.nd_storage.proofs.WriteStep.{one_index}
-use Rattle.nd_storage.proofs.Folded.{rearranged_numbers}
-use Rattle.nd_storage.proofs.Mapped.{indexes_taken, rearranged_there, answers_alike, value_by, on_err_from}
-use Rattle.nd_storage.proofs.Replaced.{ranks_apart, replaced_all, replaced_part, old_or_mapped}
+use Rattle.nd_elements.specs.Meaning.{inside}
+use Rattle.nd_elements.specs.Places.{stored_at}
+use Rattle.nd_elements.specs.elements.Maps.{AnswersValue, MayBeGiven, MayGiveEach, ReplacesEach, ReplacesInPart}
+use Rattle.nd_elements.proofs.WriteStep.{one_index}
+use Rattle.nd_elements.proofs.Folded.{rearranged_numbers}
+use Rattle.nd_elements.proofs.Mapped.{indexes_taken, rearranged_there, answers_alike, value_by, on_err_from}
+use Rattle.nd_elements.proofs.Replaced.{ranks_apart, replaced_all, replaced_part, old_or_mapped}
 use Rattle.nd_array_core.proofs.elements_lemmas.CloneRefusals.{rearranged_refused}
 use Rattle.nd_array_core.proofs.elements.mapv_inplace.ArrayBase+S+D.mapv_inplace.Goals as goal
 

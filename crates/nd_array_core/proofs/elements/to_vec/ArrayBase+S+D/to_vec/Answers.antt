@@ -6,8 +6,8 @@ use Rattle.nd_shape_and_slice.proofs.RowMajor.{row_rank_below}
 use Rattle.nd_layout.specs.Ranks.{IsStandard}
 use Rattle.nd_layout.proofs.steps.AxisStep.{positive}
 use Rattle.nd_array_core.specs.Meaning.{meaning_of, shape_of, layout_strides}
-use Rattle.nd_storage.specs.Clones.{StoredClonesAreEqual}
-use Rattle.nd_storage.proofs.Collecting.{elements_equal_clones, elements_count}
+use Rattle.nd_elements.specs.Clones.{StoredClonesAreEqual}
+use Rattle.nd_elements.proofs.Collecting.{elements_equal_clones, elements_count}
 use Rattle.nd_array_core.proofs.elements.to_vec.ArrayBase+S+D.to_vec.Goals as goal
 
 pub clones_of-requires : goal.clones_of-requires

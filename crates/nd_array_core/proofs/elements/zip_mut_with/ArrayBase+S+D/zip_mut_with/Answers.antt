@@ -4,11 +4,11 @@ use Rattle.nd_shape_and_slice.specs.Broadcast.{broadcast_index}
 use Rattle.nd_layout.specs.Placements.{placement_of, as_placement}
 use Rattle.nd_layout.specs.Steps.{IsViewStep}
 use Rattle.nd_array_core.specs.Meaning.{meaning_of, memory_layout_of}
-use Rattle.nd_storage.specs.ByLayout.{shown_at}
-use Rattle.nd_storage.specs.Meaning.{inside}
-use Rattle.nd_storage.specs.elements.Pairs.{ZippableInAnyOrder, ZipsAll}
-use Rattle.nd_storage.proofs.Paired.{zips_settled}
-use Rattle.nd_storage.proofs.SamePlaces.{seen_holds, seen_element}
+use Rattle.nd_elements.specs.ByLayout.{shown_at}
+use Rattle.nd_elements.specs.Meaning.{inside}
+use Rattle.nd_elements.specs.elements.Pairs.{ZippableInAnyOrder, ZipsAll}
+use Rattle.nd_elements.proofs.Paired.{zips_settled}
+use Rattle.nd_elements.proofs.SamePlaces.{seen_holds, seen_element}
 use Rattle.nd_array_core.proofs.elements.zip_mut_with.ArrayBase+S+D.zip_mut_with.Goals as goal
 
 pub zip_layouts-requires-clause-others_hold : goal.zip_layouts-requires-clause-others_hold

@@ -1,14 +1,14 @@
 use Rattle.std.proofs.Common.{◌<◌, ◌∙◌, ap, arith, get_or, inr, length, subst, sym}
 use Rattle.nd_shape_and_slice.specs.Shape.{size_of}
 use Rattle.nd_layout.specs.Growth.{must_move}
-use Rattle.nd_storage.specs.Storages.{room_of, stored_list}
+use Rattle.nd_elements.specs.Storages.{room_of, stored_list}
 use Rattle.nd_array_core.specs.Meaning.{meaning_of, memory_layout_of}
 use Rattle.nd_array_core.specs.growth.Grown.{lies}
 use Rattle.nd_array_core.specs.growth.Outcomes.{ComesAsItIs}
 use Rattle.nd_array_core.specs.growth.Reserved.{added_elements}
 use Rattle.nd_array_core.specs.Joined.{concatenated}
 use Rattle.nd_array_core.proofs.growth_lemmas.Appending.{fits_more, same_at}
-use Rattle.nd_storage.proofs.Assigned.{on_ok, on_err}
+use Rattle.nd_elements.proofs.Assigned.{on_ok, on_err}
 use Rattle.nd_array_core.proofs.growth_lemmas.GrownArrays.{can_grow, laid_anew, moves_by, never_calm}
 use Rattle.nd_array_core.proofs.growth.append.Array+A+D.append_relaid.Goals as goal
 

@@ -3,11 +3,11 @@ use Rattle.nd_shape_and_slice.specs.Place.{place_of}
 use Rattle.nd_layout.specs.Placements.{placement_of}
 use Rattle.nd_array_core.specs.Meaning.{meaning_of, memory_layout_of}
 use Rattle.std.specs.Prelude.{slice_get}
-use Rattle.nd_storage.specs.CloneRefusals.{MayRefuseClone}
-use Rattle.nd_storage.specs.Meaning.{inside}
-use Rattle.nd_storage.specs.Places.{place_number}
+use Rattle.nd_elements.specs.CloneRefusals.{MayRefuseClone}
+use Rattle.nd_elements.specs.Meaning.{inside}
+use Rattle.nd_elements.specs.Places.{place_number}
 use Rattle.nd_array_core.proofs.growth_lemmas.Appending.{err_three, err_under, fits_axis, on_both, same_none, shown}
-use Rattle.nd_storage.proofs.Assigned.{on_err}
+use Rattle.nd_elements.proofs.Assigned.{on_err}
 use Rattle.nd_array_core.proofs.growth_lemmas.FreshStorage.{fresh_or_none, fresh_joined}
 use Rattle.nd_array_core.proofs.growth_lemmas.GrownArrays.{added_is, goes_fresh, laid_fresh, ready_fresh}
 use Rattle.nd_array_core.proofs.growth.append.Array+A+D.append_to_none.Goals as goal

@@ -4,8 +4,8 @@ use Rattle.nd_shape_and_slice.specs.Shape.{in_box, HasCheckedSize}
 use Rattle.nd_array_core.specs.Joined.{concatenated}
 use Rattle.nd_array_core.specs.Laws.{NothingOutside}
 use Rattle.nd_array_core.specs.Meaning.{meaning_of, shape_of, storage_of}
-use Rattle.nd_storage.specs.Clones.{ClonesOfAllAreEqual}
-use Rattle.nd_storage.specs.Storages.{room_of, stored_list}
+use Rattle.nd_elements.specs.Clones.{ClonesOfAllAreEqual}
+use Rattle.nd_elements.specs.Storages.{room_of, stored_list}
 use Rattle.nd_layout.specs.Growth.{grown_shape}
 use Rattle.nd_array_core.specs.growth.Appended.{FitsBehind, IsAppendRefused}
 use Rattle.nd_array_core.specs.growth.Grown.{BecomesReady, IsGrownBy, IsNotForMemory, KeepsRoom, LeavesRoom}

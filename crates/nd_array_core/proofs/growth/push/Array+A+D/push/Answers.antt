@@ -5,7 +5,7 @@ use Rattle.nd_array_core.specs.Laws.{with_axis_inserted}
 use Rattle.nd_shape_and_slice.specs.Maps.{inserted_index, inserted_shape}
 use Rattle.nd_array_core.specs.growth.Appended.{IsJoiningRefused, JoinsAlike}
 use Rattle.nd_array_core.proofs.growth_lemmas.Appending.{same_at}
-use Rattle.nd_storage.proofs.Assigned.{on_ok}
+use Rattle.nd_elements.proofs.Assigned.{on_ok}
 use Rattle.nd_array_core.specs.growth.Grown.{BecomesReady, KeepsRoom, NeedsOnlyClones, IsNotForMemory, LeavesRoom}
 use Rattle.nd_array_core.specs.growth.Reserved.{HasRoomAlong}
 use Rattle.nd_array_core.proofs.elements_lemmas.CloneRefusals.{part_refused}

@@ -1,6 +1,6 @@
 use Rattle.std.proofs.Common.{length, refl}
 use Rattle.nd_array_core.specs.Meaning.{meaning_of, shape_of}
-use Rattle.nd_storage.proofs.Assigned.{on_ok}
+use Rattle.nd_elements.proofs.Assigned.{on_ok}
 use Rattle.nd_array_core.proofs.growth_lemmas.Pushed.{column_behind, two_axes}
 use Rattle.nd_array_core.proofs.growth.push.Array+A+Ix2.push_column.Goals as goal
 

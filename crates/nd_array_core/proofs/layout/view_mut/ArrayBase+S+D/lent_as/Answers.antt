@@ -6,8 +6,8 @@ use Rattle.nd_shape_and_slice.specs.Place.{place_of}
 use Rattle.nd_region.specs.Places.{names}
 use Rattle.nd_region.specs.Region.{region_stored}
 use Rattle.nd_region.proofs.Names.{named_by as index_of}
-use Rattle.nd_storage.specs.Places.{place_number, kept_at}
-use Rattle.nd_storage.specs.Meaning.{inside}
+use Rattle.nd_elements.specs.Places.{place_number, kept_at}
+use Rattle.nd_elements.specs.Meaning.{inside}
 use Rattle.nd_array_core.specs.Meaning.{meaning_of, memory_layout_of}
 use Rattle.nd_array_core.specs.layout.ViewLent.{lent_to, array_with_part}
 use Rattle.nd_array_core.proofs.layout_lemmas.Parted.{Taken, taken_holds, taken_element, taken_places}

@@ -44,20 +44,20 @@ use Rattle.nd_region.specs.Places.{names, written_where}
 use Rattle.nd_region.specs.Region.{region_stored, HasPlaces, IsPartWhere}
 use Rattle.nd_region.specs.contracts.region.Region.{the_row as region_row}
 use Rattle.nd_region.proofs.region.Region.TheLaws.{the_row_laws as region_laws}
-use Rattle.nd_storage.specs.contracts.storage.RegionRepr.{the_row as storage_row}
-use Rattle.nd_storage.proofs.storage.RegionRepr.TheLaws.{the_row_laws as storage_laws}
+use Rattle.nd_elements.specs.contracts.storage.RegionRepr.{the_row as storage_row}
+use Rattle.nd_elements.proofs.storage.RegionRepr.TheLaws.{the_row_laws as storage_laws}
 use Rattle.nd_array_core.proofs.base.array.ArrayBase.TheLaws.{the_loose}
-use Rattle.nd_storage.specs.Places.{HoldsAll}
+use Rattle.nd_elements.specs.Places.{HoldsAll}
 use Rattle.nd_array_core.specs.layout.ViewLent.{array_with_part}
 use Rattle.nd_array_core.proofs.lending.Refilled.{items_here, items_again}
 use Rattle.nd_array_core.proofs.lending.LendField as field
 use Rattle.nd_array_core.proofs.lending.LendStorage as stored_in
-use Rattle.nd_storage.proofs.tasks.PartStep.{places_held, part_is}
-use Rattle.nd_storage.specs.contracts.storage.DataMut.lend as L
+use Rattle.nd_elements.proofs.tasks.PartStep.{places_held, part_is}
+use Rattle.nd_elements.specs.contracts.storage.DataMut.lend as L
 use Rattle.nd_region.specs.contracts.region.Region.into_part as K
 use Rattle.nd_region.proofs.region.Region.into_part.Met.{met as part_met}
-use Rattle.nd_storage.specs.contracts.storage.ViewMutRepr+A.of_region as O
-use Rattle.nd_storage.proofs.storage.ViewMutRepr+A.of_region.Met.{met as of_met}
+use Rattle.nd_elements.specs.contracts.storage.ViewMutRepr+A.of_region as O
+use Rattle.nd_elements.proofs.storage.ViewMutRepr+A.of_region.Met.{met as of_met}
 use Rattle.nd_array_core.specs.contracts.layout.view_mut.ArrayBase+S+D.lent_part as F
 use Rattle.nd_array_core.specs.contracts.layout.view_mut.ArrayBase+S+D.lent_part.Key.{name as #self}
 use Rattle.nd_array_core.proofs.layout.view_mut.ArrayBase+S+D.lent_part.Statement.{statement}
@@ -169,7 +169,7 @@ lent_part_spec 𝓤 𝓛 𝓜 𝓡 wired S D E P T G B lS lD lE lP lT lG lB cD c
     nothing ! $ move ! (1 ∷ 0 ∷ []) $ join ! $ nothing ! $ move ! (4 ∷ 0 ∷ []) $ join ! $ move ! (2 ∷ 0 ∷ []) $ join ! $ join ! $
     nothing ! $ use0 𝓛 (raw (fact 𝓤 (κE ⊑ E.lives))) (fact_i 𝓤 (κE ⊑ E.lives) (emp 𝓤) inE) $ join ! $ move ! (1 ∷ 0 ∷ []) $ join ! $
     use1 𝓛 (raw (O-triple.pre (z₂ x₁ v₁))) (id⊢ 𝓤 _) $
-    calls_at ! (framed 𝓤 H 𝓜 𝓣) O-triple (of_met 𝓤 𝓛 𝓜 𝓡 (code.calls-nd_storage::storage::ViewMutRepr+A::of_region 𝓡.env wired) E lE) (z₂ x₁ v₁) (and_then ! (get ! refl) (no_more !)) (λ v'.
+    calls_at ! (framed 𝓤 H 𝓜 𝓣) O-triple (of_met 𝓤 𝓛 𝓜 𝓡 (code.calls-nd_elements::storage::ViewMutRepr+A::of_region 𝓡.env wired) E lE) (z₂ x₁ v₁) (and_then ! (get ! refl) (no_more !)) (λ v'.
     use1 𝓛 (later (some (λ (r : Storage.Denot). ((‵ (flft κ q) ⊛ ‵ (flft κE qE) ⊛ ‵ ftrue) ⊛ ‵ (Storage.own_val r (v' ∷ []))) ⊛
     some (λ (ws : Lasts O-ended κs₂ (x₁, tt)). ‵ (lasts O-ended κs₂ (x₁, tt) ws) ⊛ raw (fact 𝓤 (r.region ≡ x₁)))))) (id⊢ 𝓤 _) $ await ! tt $ pick ! (λ r.
     split ! $ move ! (1 ∷ []) $ pick ! (λ ws. split ! $ drop ! $ heard ! (r.region ≡ x₁) (λ is.

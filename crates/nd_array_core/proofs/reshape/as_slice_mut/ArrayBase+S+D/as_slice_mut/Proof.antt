@@ -43,7 +43,7 @@ use Rattle.std.proofs.VecSteps.Element.{Some-of, none_of}
 use Rattle.std.proofs.mem.Facts.{says_three}
 use Rattle.std.proofs.raw_atomic.Walks.{proved}
 use Rattle.nd_array_core.specs.Meaning.{meaning_of}
-use Rattle.nd_storage.specs.Meaning.{row_major_elements}
+use Rattle.nd_elements.specs.Meaning.{row_major_elements}
 use Rattle.nd_array_core.specs.reshape.RunSlices.{IsStandardArray}
 use Rattle.nd_array_core.specs.reshape.LentSlices.{array_with_rows, LeavesByRank}
 use Rattle.nd_array_core.specs.contracts.base.array.ArrayBase.{the_row as array_row}

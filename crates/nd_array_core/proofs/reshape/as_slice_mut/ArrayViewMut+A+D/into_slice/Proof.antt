@@ -53,10 +53,10 @@ use Rattle.nd_region.specs.contracts.region.Region.{the_row as region_row}
 use Rattle.nd_region.proofs.Bodies.{both as both_in}
 use Rattle.nd_region.proofs.Memory.{rg_vals, rg_Tells, ptr_Good}
 use Rattle.nd_region.proofs.region.Region.TheLaws.{the_row_laws as region_laws}
-use Rattle.nd_storage.specs.contracts.storage.RegionRepr.{the_row as storage_row}
-use Rattle.nd_storage.specs.contracts.storage.ViewMutReprData.TheImpl as view_impl
-use Rattle.nd_storage.proofs.storage.RegionRepr.TheLaws.{the_row_laws as storage_laws}
-use Rattle.nd_storage.specs.Meaning.{row_major_elements}
+use Rattle.nd_elements.specs.contracts.storage.RegionRepr.{the_row as storage_row}
+use Rattle.nd_elements.specs.contracts.storage.ViewMutReprData.TheImpl as view_impl
+use Rattle.nd_elements.proofs.storage.RegionRepr.TheLaws.{the_row_laws as storage_laws}
+use Rattle.nd_elements.specs.Meaning.{row_major_elements}
 use Rattle.nd_array_core.specs.Meaning.{meaning_of, shape_of, layout_offset}
 use Rattle.nd_array_core.specs.reshape.RunSlices.{IsStandardArray}
 use Rattle.nd_array_core.specs.base.LongerLent.{region_of}

@@ -1,0 +1,201 @@
+-- Elements of one storage written over those of another, one place after another.
+use Rattle.std.proofs.Common.{◌≡◌, ℕ, ◌+◌, ◌-◌, ◌<◌, ◌≤◌, Bool, true, false, List, length, ℤ, pos, refl, ap, sym, subst, ◌∙◌, arith, inl, inr}
+use Rattle.std.specs.Prelude.{Result, Ok, Err, OnOk, OnErr, ◌⊎◌, Option, None, Some, is_some, nat_lt, if◌then◌else◌}
+use Rattle.std.proofs.lemmas.Bool.Decides.{nat_tests}
+use Rattle.nd_shape_and_slice.specs.Shape.{in_box, size_of, row_rank, index_at}
+use Rattle.nd_shape_and_slice.specs.Place.{place_of}
+use Rattle.nd_shape_and_slice.proofs.RowMajor.{row_rank_below}
+use Rattle.nd_shape_and_slice.proofs.RankIndexes.{in_box-index_at, index_at-row_rank}
+use Rattle.nd_layout.specs.Lanes.{by_rank}
+use Rattle.nd_layout.specs.Placements.{Placement, KeepsApart}
+use Rattle.nd_layout.specs.Walk.{place_at_rank}
+use Rattle.nd_elements.specs.ByLayout.{shown_at, HoldsEach, StaysBeside}
+use Rattle.nd_elements.specs.Collected.{stored_by_rank}
+use Rattle.nd_elements.specs.Meaning.{inside}
+use Rattle.nd_elements.specs.Places.{stored_at, names_place, HoldsAll}
+use Rattle.nd_elements.specs.elements.Changes.{AreDistinct}
+use Rattle.nd_elements.specs.elements.Assigns.{IsAssignedTo, IsPartlyAssigned, MovesAt, AssignsAt}
+use Rattle.nd_elements.specs.elements.Pairs.{IsOldOrOf}
+use Rattle.nd_elements.proofs.Paired.{in_row_major, ranks_apart, others_stay}
+use Rattle.nd_elements.proofs.Rewritten.{stored_same}
+use Rattle.nd_elements.proofs.TurnedAlike.{second_given}
+
+module _ {A : Type 0} (given : ℕ → Option A) (place : ℕ → ℤ) where
+  pub assigned_none : (old : ℕ → Option A) → IsAssignedTo given place 0 old old
+  assigned_none old = record { done = λ k below. absurd (omega (arith, below)); left = λ p nowhere. refl }
+
+  module _ (k n : ℕ) (apart : AreDistinct place n) (old now : ℕ → Option A) (so_far : IsAssignedTo given place k old now) where
+    -- the later places hold what they held
+    pub later_there : (j : ℕ) → k ≤ j → j < n → stored_at now (place j) ≡ stored_at old (place j)
+    later_there j above below =
+        stored_same old now (place j) (λ p e. so_far.left p (λ i under f. let same = apart i j (omega (arith, under, above, below)) below (f ∙ sym e) in absurd (omega (arith, same, under, above))))
+
+    pub assigned_partly : k ≤ n → IsPartlyAssigned given place n old now
+    assigned_partly within = record {
+      each = λ j below. by_test j below (nat_lt j k) refl;
+      left = λ p nowhere. so_far.left p (λ j under. nowhere j (omega (arith, under, within)));
+    }
+      where
+        by_test : (j : ℕ) → j < n → (t : Bool) → nat_lt j k ≡ t → (stored_at now (place j) ≡ stored_at old (place j)) ⊎ (stored_at now (place j) ≡ given j)
+        by_test j below true e = inr (so_far.done j (grind (arith, nat_tests, e)))
+        by_test j below false e = inl (later_there j (grind (arith, nat_tests, e)) below)
+
+    -- a lane more: its places are the next ones
+    module _ (lane : ℕ → ℤ) (along : ℕ → Option A) (count : ℕ) (within : k + count ≤ n) (goes_on : (j : ℕ) → j < count → lane j ≡ place (k + j)) (given_goes_on : (j : ℕ) → j < count → along j ≡ given (k + j)) (new : ℕ → Option A) where
+      left_then : ((p : ℕ) → ((j : ℕ) → j < count → lane j ≡ pos p → ⊥) → new p ≡ now p) → (p : ℕ) → (m : ℕ) → k + count ≤ m → ((j : ℕ) → j < m → place j ≡ pos p → ⊥) → new p ≡ old p
+      left_then later p m upto nowhere = later p (λ j below e. nowhere (k + j) (omega (arith, below, upto)) (sym (goes_on j below) ∙ e)) ∙ so_far.left p (λ j below. nowhere j (omega (arith, below, upto)))
+
+      apart_there : ((p : ℕ) → ((j : ℕ) → j < count → lane j ≡ pos p → ⊥) → new p ≡ now p) → (j : ℕ) → j < n → (j < k) ⊎ (k + count ≤ j) → stored_at new (place j) ≡ stored_at now (place j)
+      apart_there later j below side = stored_same now new (place j) (λ p e. later p (λ i under f. let same = apart (k + i) j (omega (arith, under, within)) below (sym (goes_on i under) ∙ (f ∙ sym e)) in by_side side i under same))
+        where
+          by_side : (j < k) ⊎ (k + count ≤ j) → (i : ℕ) → i < count → k + i ≡ j → ⊥
+          by_side (inl less) i under same = absurd (omega (arith, less, same))
+          by_side (inr more) i under same = absurd (omega (arith, more, same, under))
+
+      -- a place of the lane, by its number
+      in_lane : (j : ℕ) → k ≤ j → j < k + count → (i : ℕ) × (i < count) × (k + i ≡ j)
+      in_lane j above below = (j - k, omega (arith, above, below), omega (arith, above))
+
+      pub assigned_then : IsAssignedTo along lane count now new → IsAssignedTo given place (k + count) old new
+      assigned_then later = record { done = λ j below. by_test j below (nat_lt j k) refl; left = λ p. left_then later.left p (k + count) (omega arith) }
+        where
+          by_test : (j : ℕ) → j < k + count → (t : Bool) → nat_lt j k ≡ t → stored_at new (place j) ≡ given j
+          by_test j below true e = let less : j < k = grind (arith, nat_tests, e) in apart_there later.left j (omega (arith, below, within)) (inl less) ∙ so_far.done j less
+          by_test j below false e =
+              let there = in_lane j (grind (arith, nat_tests, e)) below in
+              ap (λ m. stored_at new (place m)) (sym there.2) ∙ (ap (stored_at new) (sym (goes_on there.0 there.1)) ∙ (later.done there.0 there.1 ∙ (given_goes_on there.0 there.1 ∙ ap given there.2)))
+
+      pub partly_then : IsPartlyAssigned along lane count now new → IsPartlyAssigned given place n old new
+      partly_then later = record { each = λ j below. by_test j below (nat_lt j k) (nat_lt j (k + count)) refl refl; left = λ p. left_then later.left p n within }
+        where
+          Either : ℕ → Type 0
+          Either j = (stored_at new (place j) ≡ stored_at old (place j)) ⊎ (stored_at new (place j) ≡ given j)
+
+          in_between : (i : ℕ) → (i < count) → (stored_at new (lane i) ≡ stored_at now (lane i)) ⊎ (stored_at new (lane i) ≡ along i) → Either (k + i)
+          in_between i under (inl same) = inl (ap (stored_at new) (sym (goes_on i under)) ∙ (same ∙ (ap (stored_at now) (goes_on i under) ∙ later_there (k + i) (omega arith) (omega (arith, under, within)))))
+          in_between i under (inr other) = inr (ap (stored_at new) (sym (goes_on i under)) ∙ (other ∙ given_goes_on i under))
+
+          by_test : (j : ℕ) → j < n → (t u : Bool) → nat_lt j k ≡ t → nat_lt j (k + count) ≡ u → Either j
+          by_test j below true u e f = let less : j < k = grind (arith, nat_tests, e) in inr (apart_there later.left j below (inl less) ∙ so_far.done j less)
+          by_test j below false true e f =
+              let there = in_lane j (grind (arith, nat_tests, e)) (grind (arith, nat_tests, f)) in
+              subst Either there.2 (in_between there.0 there.1 (later.each there.0 there.1))
+          by_test j below false false e f =
+              let more : k + count ≤ j = grind (arith, nat_tests, f) in
+              inl (apart_there later.left j below (inr more) ∙ later_there j (omega (arith, more)) below)
+
+  -- one place more
+  pub assigned_more : (k n p : ℕ) (x : A) → k < n → AreDistinct place n → pos p ≡ place k → Some x ≡ given k → (old now new : ℕ → Option A) → IsAssignedTo given place k old now → new p ≡ Some x → ((q : ℕ) → (q ≡ p → ⊥) → new q ≡ now q) → IsAssignedTo given place (k + 1) old new
+  assigned_more k n p x below apart at is old now new so_far here left =
+      assigned_then k n apart old now so_far (λ j. place (k + j)) (λ j. given (k + j)) 1 (omega (arith, below)) (λ j under. refl) (λ j under. refl) new
+      (record { done = one; left = λ q nowhere. left q (λ same. nowhere 0 (omega arith) (ap place (zero_more k) ∙ (sym at ∙ ap pos (sym same)))) })
+    where
+      zero_more : (m : ℕ) → m + 0 ≡ m
+      zero_more m = omega arith
+
+      one : (j : ℕ) → j < 1 → stored_at new (place (k + j)) ≡ given (k + j)
+      one j under =
+          let last : k ≡ k + j = omega (arith, under) in
+          ap (λ m. stored_at new (place m)) (sym last) ∙ (ap (stored_at new) (sym at) ∙ (here ∙ (is ∙ ap given last)))
+
+-- the same by indexes
+module _ {A : Type 0} (offset : ℕ) (ns : List ℕ) (ss : List ℤ) (given : ℕ → Option A) (old new : ℕ → Option A) where
+  abbrev at : (ℕ → Option A) → List ℕ → Option A
+  at stored i = inside ns i (stored_at stored (place_of offset ss i))
+
+  at_rank : (i : List ℕ) → in_box ns i ≡ true → place_at_rank offset ns ss (row_rank ns i) ≡ place_of offset ss i
+  at_rank i h = ap (place_of offset ss) (index_at-row_rank ns i h)
+
+  pub partly_holds : IsPartlyAssigned given (place_at_rank offset ns ss) (size_of ns) old new → ((rank : ℕ) → rank < size_of ns → is_some (given rank) ≡ true) → HoldsAll old offset ns ss → HoldsAll new offset ns ss
+  partly_holds partly has holds i h = ap (names_place new) (sym (at_rank i h)) ∙ by_case (partly.each (row_rank ns i) (row_rank_below ns i h))
+    where
+      by_case : (stored_at new (place_at_rank offset ns ss (row_rank ns i)) ≡ stored_at old (place_at_rank offset ns ss (row_rank ns i))) ⊎ (stored_at new (place_at_rank offset ns ss (row_rank ns i)) ≡ given (row_rank ns i)) → names_place new (place_at_rank offset ns ss (row_rank ns i)) ≡ true
+      by_case (inl same) = ap is_some same ∙ (ap (names_place old) (at_rank i h) ∙ holds i h)
+      by_case (inr other) = ap is_some other ∙ has (row_rank ns i) (row_rank_below ns i h)
+
+  module _ (other_at : List ℕ → Option A) (is_given : (i : List ℕ) → in_box ns i ≡ true → given (row_rank ns i) ≡ other_at i) where
+    pub assigned_at : IsAssignedTo given (place_at_rank offset ns ss) (size_of ns) old new → ((i : List ℕ) → in_box ns i ≡ false → other_at i ≡ at new i) → (i : List ℕ) → at new i ≡ other_at i
+    assigned_at assigned outside i = by_box (in_box ns i) refl
+      where
+        by_box : (b : Bool) → in_box ns i ≡ b → at new i ≡ other_at i
+        by_box true h = rw h (ap (stored_at new) (sym (at_rank i h)) ∙ (assigned.done (row_rank ns i) (row_rank_below ns i h) ∙ is_given i h))
+        by_box false h = sym (outside i h)
+
+    pub partly_at : IsPartlyAssigned given (place_at_rank offset ns ss) (size_of ns) old new → (i : List ℕ) → (at new i ≡ at old i) ⊎ (at new i ≡ other_at i)
+    partly_at partly i = by_box (in_box ns i) refl
+      where
+        Here : Bool → Type 0
+        Here b = ((if b then stored_at new (place_of offset ss i) else None) ≡ (if b then stored_at old (place_of offset ss i) else None)) ⊎ ((if b then stored_at new (place_of offset ss i) else None) ≡ other_at i)
+
+        by_case : in_box ns i ≡ true → (stored_at new (place_at_rank offset ns ss (row_rank ns i)) ≡ stored_at old (place_at_rank offset ns ss (row_rank ns i))) ⊎ (stored_at new (place_at_rank offset ns ss (row_rank ns i)) ≡ given (row_rank ns i)) → Here true
+        by_case h (inl same) = inl (ap (stored_at new) (sym (at_rank i h)) ∙ (same ∙ ap (stored_at old) (at_rank i h)))
+        by_case h (inr other) = inr (ap (stored_at new) (sym (at_rank i h)) ∙ (other ∙ is_given i h))
+
+        by_box : (b : Bool) → in_box ns i ≡ b → (at new i ≡ at old i) ⊎ (at new i ≡ other_at i)
+        by_box true h = subst Here (sym h) (by_case h (partly.each (row_rank ns i) (row_rank_below ns i h)))
+        by_box false h = subst Here (sym h) (inl refl)
+
+-- what follows in both cases of a result
+pub either_way : {T E P Q C : Type 0} (r : Result T E) → OnOk r P → OnErr r Q → (P → C) → (Q → C) → C
+either_way (Ok x) p q f g = f p
+either_way (Err e) p q f g = g q
+
+pub on_ok : {T E P Q : Type 0} (r : Result T E) → (P → Q) → OnOk r P → OnOk r Q
+on_ok (Ok x) f p = f p
+on_ok (Err e) f p = p
+
+pub on_err : {T E P Q : Type 0} (r : Result T E) → (P → Q) → OnErr r P → OnErr r Q
+on_err (Ok x) f p = p
+on_err (Err e) f p = f p
+
+-- the same of a placement, and of a second one of its lengths
+module _ {A : Type 0} (others : ℕ → Option A) (one two : Placement) (alike : two.lengths ≡ one.lengths) (old new : ℕ → Option A) where
+  abbrev given_there : ℕ → Option A
+  given_there = stored_by_rank others two.offset two.lengths two.strides
+
+  abbrev place_there : ℕ → ℤ
+  place_there = place_at_rank one.offset one.lengths one.strides
+
+  none_outside : (i : List ℕ) → in_box one.lengths i ≡ false → shown_at others two i ≡ shown_at new one i
+  none_outside i out = let beyond : in_box two.lengths i ≡ false = ap (λ ns. in_box ns i) alike ∙ out in rw (out, beyond) refl
+
+  pub assigned_shown : IsAssignedTo given_there place_there (size_of one.lengths) old new → (i : List ℕ) → shown_at new one i ≡ shown_at others two i
+  assigned_shown assigned = assigned_at one.offset one.lengths one.strides given_there old new (shown_at others two) (second_given others one two alike) assigned none_outside
+
+  pub partly_shown : IsPartlyAssigned given_there place_there (size_of one.lengths) old new → IsOldOrOf (shown_at old one) (shown_at others two) (shown_at new one)
+  partly_shown = partly_at one.offset one.lengths one.strides given_there old new (shown_at others two) (second_given others one two alike)
+
+  -- each index still has an element, and nothing beside them changed
+  pub partly_still : HoldsEach old one → HoldsEach others two → IsPartlyAssigned given_there place_there (size_of one.lengths) old new → HoldsEach new one × StaysBeside one old new
+  partly_still holds others_hold partly = (
+    partly_holds one.offset one.lengths one.strides given_there old new partly (λ rank below. others_hold (index_at two.lengths rank) (in_box-index_at two.lengths rank (subst (λ ns. rank < size_of ns) (sym alike) below))) holds,
+    others_stay one.offset one.lengths one.strides one.offset one.lengths one.strides (in_row_major one.offset one.lengths one.strides) old new partly.left,
+  )
+
+  pub assigned_still : length one.strides ≡ length one.lengths → KeepsApart one → HoldsEach old one → HoldsEach others two → IsAssignedTo given_there place_there (size_of one.lengths) old new → HoldsEach new one × StaysBeside one old new
+  assigned_still many apart holds others_hold assigned =
+      partly_still holds others_hold (assigned_partly given_there place_there (size_of one.lengths) (size_of one.lengths) (ranks_apart one.offset one.lengths one.strides many apart) old new assigned (omega arith))
+
+  pub either_still : {E : Type 0} (result : Result (Unit {0}) E) → length one.strides ≡ length one.lengths → KeepsApart one → HoldsEach old one → HoldsEach others two → OnOk result (IsAssignedTo given_there place_there (size_of one.lengths) old new) → OnErr result (IsPartlyAssigned given_there place_there (size_of one.lengths) old new) → HoldsEach new one × StaysBeside one old new
+  either_still result many apart holds others_hold assigned stopped =
+      either_way result assigned stopped (assigned_still many apart holds others_hold) (partly_still holds others_hold)
+
+-- the same of the places that a call was handed
+module _ {S Z A : Type 0} (stored : S → ℕ → Option A) (others_stored : Z → ℕ → Option A) (others : Z) (old new : S) (one two to from : Placement) (is_one : to ≡ one) (is_two : from ≡ two) where
+  pub moved_between : MovesAt stored others_stored (by_rank to) (by_rank from) others old new → MovesAt stored others_stored (by_rank one) (by_rank two) others old new
+  moved_between moved =
+      subst (λ p. MovesAt stored others_stored (by_rank p) (by_rank two) others old new) is_one
+      (subst (λ p. MovesAt stored others_stored (by_rank to) (by_rank p) others old new) is_two moved)
+
+  pub assigned_between : {E : Type 0} (result : Result (Unit {0}) E) → AssignsAt stored others_stored (by_rank to) (by_rank from) others old new result → AssignsAt stored others_stored (by_rank one) (by_rank two) others old new result
+  assigned_between result assigned =
+      subst (λ p. AssignsAt stored others_stored (by_rank p) (by_rank two) others old new result) is_one
+      (subst (λ p. AssignsAt stored others_stored (by_rank to) (by_rank p) others old new result) is_two assigned)
+
+-- the same beside a map with the same elements
+pub old_or_same : {A : Type 0} (old other other' new : List ℕ → Option A) → ((i : List ℕ) → other i ≡ other' i) → IsOldOrOf old other new → IsOldOrOf old other' new
+old_or_same old other other' new same either i = by_case (either i)
+  where
+    by_case : (new i ≡ old i) ⊎ (new i ≡ other i) → (new i ≡ old i) ⊎ (new i ≡ other' i)
+    by_case (inl kept) = inl kept
+    by_case (inr is) = inr (is ∙ same i)

@@ -1,0 +1,45 @@
+-- The lanes of an axis, by the ranks of their first places and by the array's indexes.
+use Rattle.std.proofs.Common.{◌≡◌, ℕ, ◌+◌, ◌<◌, ◌^◌, true, List, ℤ, pos, ◌+ℤ◌, ◌*ℤ◌, ap, sym, ◌∙◌, arith, min}
+use Rattle.std.specs.Prelude.{nat_lt}
+use Rattle.std.proofs.lemmas.Bool.Decides.{nat_tests}
+use Rattle.nd_shape_and_slice.specs.Shape.{size_of, index_at}
+use Rattle.nd_shape_and_slice.proofs.RankIndexes.{in_box-index_at, row_rank-index_at}
+use Rattle.nd_layout.proofs.Integers.{sums, zero-mul}
+use Rattle.nd_layout.specs.Places.{is_place}
+use Rattle.nd_layout.specs.Ranks.{IsStandard}
+use Rattle.nd_layout.specs.Walk.{place_at_rank}
+use Rattle.nd_elements.specs.along.AxisLanes.{lane_place}
+
+-- the first place of a lane is one
+pub lane_starts : (place count : ℕ) (stride : ℤ) → ((k : ℕ) → k < count → is_place (pos place +ℤ (pos k *ℤ stride)) ≡ true) → 0 < count → place < 2 ^ 63
+lane_starts place count stride reach some =
+    let none : pos 0 *ℤ stride ≡ pos 0 = zero-mul stride in
+    let first : pos place +ℤ (pos 0 *ℤ stride) ≡ pos place = omega (arith, sums, none) in
+    let is : is_place (pos place) ≡ true = ap is_place (sym first) ∙ reach 0 some in
+    let test : nat_lt place (2 ^ 63) ≡ true = is in
+    grind (arith, nat_tests, test)
+
+-- its places are those of the lane of a rank
+pub lane_goes : (first : ℕ) (ls : List ℕ) (ss : List ℤ) (stride : ℤ) (r place start : ℕ) (s : ℤ) → start ≡ place → s ≡ stride → pos place ≡ place_at_rank first ls ss r
+    → (k : ℕ) → pos start +ℤ (pos k *ℤ s) ≡ lane_place first ls ss stride r k
+lane_goes first ls ss stride r place start s starts strides at k =
+    let here : pos start ≡ place_at_rank first ls ss r = ap pos starts ∙ at in
+    λ i. here i +ℤ (pos k *ℤ strides i)
+
+-- the walk's next rank
+pub next_rank : (r n next : ℕ) → r < n → next ≡ min (r + 1) n → next ≡ r + 1
+next_rank r n next below e = omega (arith, below, e)
+
+-- in the standard layout the place of a rank is as far behind the first
+pub rank_beside : (offset : ℕ) (ns : List ℕ) (ss : List ℤ) → IsStandard ns ss → (k : ℕ) → k < size_of ns → place_at_rank offset ns ss k ≡ pos (offset + k)
+rank_beside offset ns ss standard k below =
+    let h = in_box-index_at ns k below in
+    omega (arith, sums, standard (index_at ns k) h, row_rank-index_at ns k below)
+
+-- so are those of lanes that begin side by side
+pub beside_goes : (offset : ℕ) (ns : List ℕ) (ss : List ℤ) (stride : ℤ) → IsStandard ns ss → (r k : ℕ) → r < size_of ns → pos (offset + r) +ℤ (pos k *ℤ stride) ≡ lane_place offset ns ss stride r k
+beside_goes offset ns ss stride standard r k below = ap (λ z. z +ℤ (pos k *ℤ stride)) (sym (rank_beside offset ns ss standard r below))
+
+-- the place of a run's element, by that of its first
+pub beside_place : (first p r k : ℕ) (stride : ℤ) → pos p ≡ pos first +ℤ (pos k *ℤ stride) → pos (p + r) ≡ pos (first + r) +ℤ (pos k *ℤ stride)
+beside_place first p r k stride at = omega (arith, sums, at)

@@ -1,0 +1,42 @@
+-- Elements moved into the order of fresh storage that is to grow along an axis.
+use Rattle.std.proofs.Common.{◌≡◌, ℕ, ◌<◌, true, List, ℤ, pos, ◌+ℤ◌, length, ap, ◌∙◌, arith}
+use Rattle.std.proofs.lemmas.Int.{ints}
+use Rattle.std.specs.Prelude.{Option, is_some, slice_get}
+use Rattle.nd_shape_and_slice.specs.Shape.{in_box, size_of}
+use Rattle.nd_shape_and_slice.specs.Place.{place_of, IsSeparated}
+use Rattle.nd_layout.specs.Growth.{growing_strides, IsInGrowingOrder}
+use Rattle.nd_layout.specs.Walk.{place_at_rank}
+use Rattle.nd_elements.specs.Collected.{collected, stored_by_rank}
+use Rattle.nd_elements.specs.Places.{stored_at, names_place, HoldsAll}
+use Rattle.nd_elements.specs.elements.Changes.{AreDistinct}
+use Rattle.nd_elements.proofs.Collecting.{get-collected, length-collected}
+use Rattle.nd_elements.proofs.Replaced.{ranks_apart}
+use Rattle.nd_elements.proofs.WriteStep.{one_index}
+
+module _ (axis offset : ℕ) (ns : List ℕ) (ss : List ℤ) (start : ℕ) (ms : List ℕ) (ts : List ℤ) (growing : IsInGrowingOrder axis offset ns ss start ms ts) where
+  pub anew_apart : length ss ≡ length ns → IsSeparated ns ss → AreDistinct (place_at_rank start ms ts) (size_of ms)
+  anew_apart many apart = ranks_apart offset ns ss start ms ts growing.order (λ i j on_i on_j e. one_index ns ss offset i j many (λ _. apart) on_i on_j e)
+
+  module _ {A : Type 0} (stored : ℕ → Option A) (holds : HoldsAll stored offset ns ss) where
+    pub anew_holds : (r : ℕ) → r < size_of ms → is_some (stored_by_rank stored start ms ts r) ≡ true
+    anew_holds r below = ap (names_place stored) (growing.order.same r below) ∙ holds (growing.order.index_of r) (growing.order.within r below)
+
+    pub anew_count : length (collected (stored_by_rank stored start ms ts) (size_of ms)) ≡ size_of ns
+    anew_count = length-collected (stored_by_rank stored start ms ts) (size_of ms) anew_holds ∙ growing.size
+
+    pub anew_element : (items : List A) (from : ℕ) (us : List ℤ) → items ≡ collected (stored_by_rank stored start ms ts) (size_of ms) → from ≡ 0 → us ≡ growing_strides axis ns
+        → (i : List ℕ) → in_box ns i ≡ true → stored_at (slice_get items) (place_of from us i) ≡ stored_at stored (place_of offset ss i)
+    anew_element items from us put zero_first strides i h =
+        (λ k. stored_at (slice_get (put k)) (place_of (zero_first k) (strides k) i))
+        ∙ ap (stored_at (slice_get (collected (stored_by_rank stored start ms ts) (size_of ms)))) place
+        ∙ get-collected (stored_by_rank stored start ms ts) (size_of ms) rank below anew_holds
+        ∙ ap (stored_at stored) (growing.order.same rank below ∙ ap (place_of offset ss) (growing.order.back i h))
+      where
+        rank : ℕ
+        rank = growing.order.rank_of i
+
+        below : rank < size_of ms
+        below = growing.order.below i h
+
+        place : place_of 0 (growing_strides axis ns) i ≡ pos rank
+        place = ap (λ z. pos 0 +ℤ z) (growing.ranked i h) ∙ omega (arith, ints)

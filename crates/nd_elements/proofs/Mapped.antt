@@ -1,0 +1,200 @@
+-- Calls for one element after another, with what they answered; and the same calls by index.
+use Rattle.std.proofs.Common.{◌≡◌, ℕ, zero, suc, ◌+◌, ◌<◌, ◌≤◌, Bool, true, false, List, [], ◌∷◌, ◌++◌, length, get_or, ℤ, pos, ◌+ℤ◌, refl, ap, sym, subst, ◌∙◌, arith, length-append}
+use Rattle.std.proofs.lemmas.List.{append-nil, append_assoc}
+use Rattle.std.specs.Prelude.{Option, None, Some, slice_get}
+use Rattle.std.specs.declared.result.Result.{Result}
+use Rattle.std.specs.declared.result.Result.TheVariants.{Ok, Err}
+use Rattle.std.specs.Result.{IfOk, OnErr}
+use Rattle.std.specs.Borrow.{Bor}
+use Rattle.std.specs.Fn.{Mut}
+use Rattle.std.specs.List.{FoldsTo}
+use Rattle.std.specs.Option.{option_map}
+use Rattle.nd_shape_and_slice.specs.Shape.{in_box, size_of}
+use Rattle.nd_shape_and_slice.specs.Place.{place_of}
+use Rattle.nd_shape_and_slice.specs.Shape.{index_at, row_rank}
+use Rattle.nd_shape_and_slice.specs.declared.builder.Order.TheVariants.{RowMajor}
+use Rattle.nd_shape_and_slice.proofs.RankIndexes.{in_box-index_at}
+use Rattle.nd_layout.specs.Walk.{IsRearranged, IsRejoined}
+use Rattle.nd_elements.specs.Meaning.{inside}
+use Rattle.nd_elements.specs.Places.{stored_at}
+use Rattle.nd_elements.specs.Collected.{stored_along, stored_by_rank}
+use Rattle.nd_elements.specs.FreeOrder.{AnswersAny, AnswersThere, HasAnswers, VisitedInSomeOrder, AskableInAnyOrder}
+use Rattle.nd_elements.specs.elements.Maps.{AnswersElement, AnswersBy, AnswersValue, AnswersValuesBy, AnswersAt, TakesAt, AnswersSomehow, RanNumbered, TakesNumbered, AnswersBehind}
+use Rattle.nd_elements.proofs.FreeOrder.{IsNumbering, listed, listed_part, listed_all, done_at_each}
+use Rattle.nd_elements.specs.ByRank.{found_by_rank}
+use Rattle.nd_elements.proofs.Collecting.{beside}
+use Rattle.nd_elements.proofs.Numbered.{order_numbers}
+use Rattle.nd_elements.proofs.Ran.{ran_more, ran_weaker, ran_then, ran_listed}
+
+got_before : {A : Type 0} (xs ys : List A) (k : ℕ) (y : A) → slice_get xs k ≡ Some y → slice_get (xs ++ ys) k ≡ Some y
+got_before [] ys k y e = cc
+got_before (x ∷ xs) ys zero y e = e
+got_before (x ∷ xs) ys (suc k) y e = got_before xs ys k y e
+
+got_behind : {A : Type 0} (xs ys : List A) (n k : ℕ) → length xs ≡ n → slice_get (xs ++ ys) (n + k) ≡ slice_get ys k
+got_behind [] ys zero k e = let same : 0 + k ≡ k = omega arith in ap (slice_get ys) same
+got_behind [] ys (suc n) k e = absurd (omega (arith, e))
+got_behind (x ∷ xs) ys zero k e = absurd (omega (arith, e))
+got_behind (x ∷ xs) ys (suc n) k e = let next : suc n + k ≡ suc (n + k) = omega arith in ap (slice_get (x ∷ xs ++ ys)) next ∙ got_behind xs ys n k (omega (arith, e))
+
+-- an item of a list, by its number
+pub got_there : {A : Type 0} (xs : List A) (k : ℕ) (x : A) → k < length xs → x ≡ get_or xs k x → slice_get xs k ≡ Some x
+got_there [] k x below e = absurd (omega (arith, below))
+got_there (y ∷ ys) zero x below e = ap Some (sym e)
+got_there (y ∷ ys) (suc k) x below e = got_there ys k x (omega (arith, below)) e
+
+pub got_below : {A : Type 0} (xs : List A) (k : ℕ) (x : A) → slice_get xs k ≡ Some x → k < length xs
+got_below [] k x e = absurd cc
+got_below (y ∷ ys) zero x e = omega arith
+got_below (y ∷ ys) (suc k) x e = let below = got_below ys k x e in omega (arith, below)
+
+pub got_item : {A : Type 0} (xs : List A) (k : ℕ) (o : Option A) → k < length xs → ((d : A) → o ≡ Some (get_or xs k d)) → slice_get xs k ≡ o
+got_item [] k o below each = absurd (omega (arith, below))
+got_item (x ∷ xs) zero o below each = sym (each x)
+got_item (x ∷ xs) (suc k) o below each = got_item xs k o (omega (arith, below)) each
+
+-- elements side by side, as a slice
+pub beside_found : {A : Type 0} (stored : ℕ → Option A) (place count : ℕ) (s : ℤ) → s ≡ pos 1 → (xs : List A) → length xs ≡ count → ((k : ℕ) (d : A) → k < count → stored (place + k) ≡ Some (get_or xs k d)) → (k : ℕ) → k < count → slice_get xs k ≡ stored_along stored place s k
+beside_found stored place count s one xs long each k below = got_item xs k (stored_along stored place s k) (omega (arith, long, below)) (λ d. beside stored place k s one ∙ each k d below)
+
+module _ {P A B : Type 0} (answers : P → Option A → B → P → Type 0) where
+  -- one call more
+  pub ran_one_more : (found : ℕ → Option A) (first mid last : P) (k : ℕ) (y : B) → RanNumbered answers found first k mid → answers mid (found k) y last → RanNumbered answers found first (k + 1) last
+  ran_one_more found first mid last k y run call = ran_more (λ p j q. AnswersSomehow answers p (found j) q) first mid last k run (y, call)
+
+  pub behind_none : (found : ℕ → Option A) (old : List B) (first : P) → AnswersBehind answers found 0 old old first first
+  behind_none found old first = record { behind = []; whole = sym (append-nil old); many = refl; calls = refl }
+
+  -- whatever they answered
+  pub behind_ran : (found : ℕ → Option A) (count : ℕ) (old new : List B) (first last : P) → AnswersBehind answers found count old new first last → RanNumbered answers found first count last
+  behind_ran found count old new first last done =
+      ran_weaker (λ p k q. (y : B) × (slice_get done.behind k ≡ Some y) × answers p (found k) y q) (λ p k q. AnswersSomehow answers p (found k) q) first last count (λ p k q below call. (call.0, call.2)) done.calls
+
+  -- the same of elements that are found otherwise
+  pub behind_alike : (found other : ℕ → Option A) (count : ℕ) → ((k : ℕ) → k < count → found k ≡ other k) → (old new : List B) (first last : P) → AnswersBehind answers found count old new first last → AnswersBehind answers other count old new first last
+  behind_alike found other count same old new first last done = record {
+    behind = done.behind;
+    whole = done.whole;
+    many = done.many;
+    calls = ran_weaker (λ p k q. (y : B) × (slice_get done.behind k ≡ Some y) × answers p (found k) y q) (λ p k q. (y : B) × (slice_get done.behind k ≡ Some y) × answers p (other k) y q) first last count
+        (λ p k q below call. (call.0, call.1, subst (λ o. answers p o call.0 q) (same k below) call.2)) done.calls;
+  }
+
+  pub takes_alike : (takes : P → Option A → Type 0) (found other : ℕ → Option A) (count : ℕ) → ((k : ℕ) → k < count → found k ≡ other k) → (first : P) → TakesNumbered answers takes other first count → TakesNumbered answers takes found first count
+  takes_alike takes found other count same first may k now below run =
+      subst (takes now) (sym (same k below))
+      (may k now below
+      (ran_weaker (λ p j q. AnswersSomehow answers p (found j) q) (λ p j q. AnswersSomehow answers p (other j) q) first now k
+      (λ p j q under call. (call.0, subst (λ o. answers p o call.0 q) (same j (omega (arith, under, below))) call.1)) run))
+
+  -- elements numbered from k on, after those below it
+  module _ (found later : ℕ → Option A) (k count : ℕ) (goes_on : (j : ℕ) → j < count → later j ≡ found (k + j)) where
+    pub ran_later : (first mid last : P) → RanNumbered answers found first k mid → RanNumbered answers later mid count last → RanNumbered answers found first (k + count) last
+    ran_later first mid last run after =
+        ran_then (λ p j q. AnswersSomehow answers p (found j) q) (λ p j q. AnswersSomehow answers p (later j) q) first mid last k count
+        (λ p j q below call. subst (λ o. AnswersSomehow answers p o q) (goes_on j below) call) run after
+
+    pub behind_then : (old now new : List B) (first mid last : P) → AnswersBehind answers found k old now first mid → AnswersBehind answers later count now new mid last → AnswersBehind answers found (k + count) old new first last
+    behind_then old now new first mid last so_far after = record {
+      behind = so_far.behind ++ after.behind;
+      whole = after.whole ∙ (ap (λ xs. xs ++ after.behind) so_far.whole ∙ append_assoc old so_far.behind after.behind);
+      many = (let whole = length-append so_far.behind after.behind in let one = so_far.many in let other = after.many in omega (arith, whole, one, other));
+      calls = ran_then (λ p j q. (y : B) × (slice_get (so_far.behind ++ after.behind) j ≡ Some y) × answers p (found j) y q) (λ p j q. (y : B) × (slice_get after.behind j ≡ Some y) × answers p (later j) y q) first mid last k count
+          (λ p j q below call. (call.0, got_behind so_far.behind after.behind k j so_far.many ∙ call.1, subst (λ o. answers p o call.0 q) (goes_on j below) call.2))
+          (ran_weaker (λ p j q. (y : B) × (slice_get so_far.behind j ≡ Some y) × answers p (found j) y q) (λ p j q. (y : B) × (slice_get (so_far.behind ++ after.behind) j ≡ Some y) × answers p (found j) y q) first mid k
+          (λ p j q below call. (call.0, got_before so_far.behind after.behind j call.0 call.1, call.2)) so_far.calls)
+          after.calls;
+    }
+
+  -- the calls after the first k may be made
+  pub takes_later : (takes : P → Option A → Type 0) (found later : ℕ → Option A) (k count n : ℕ) → k + count ≤ n → ((j : ℕ) → j < count → later j ≡ found (k + j)) → (first mid : P)
+      → RanNumbered answers found first k mid → TakesNumbered answers takes found first n → TakesNumbered answers takes later mid count
+  takes_later takes found later k count n within goes_on first mid run may j now below after =
+      subst (takes now) (sym (goes_on j below))
+      (may (k + j) now (omega (arith, below, within)) (ran_later found later k j (λ i under. goes_on i (omega (arith, under, below))) first mid now run after))
+
+  -- one element more
+  pub behind_more : (found : ℕ → Option A) (k : ℕ) (old now new : List B) (first mid last : P) (y : B) → new ≡ now ++ y ∷ [] → answers mid (found k) y last → AnswersBehind answers found k old now first mid → AnswersBehind answers found (k + 1) old new first last
+  behind_more found k old now new first mid last y whole call so_far =
+      behind_then found (λ j. found (k + j)) k 1 (λ j below. refl) old now new first mid last so_far
+      (record { behind = y ∷ []; whole = whole; many = refl; calls = (mid, refl, (y, refl, subst (λ n. answers mid (found n) y last) (zero_more k) call)) })
+    where
+      zero_more : (m : ℕ) → m ≡ m + 0
+      zero_more m = omega arith
+
+-- the same by index
+module _ {P A B : Type 0} (answers : P → Option A → B → P → Type 0) {shape : List ℕ} {count : ℕ} {index : ℕ → List ℕ} {rank : List ℕ → ℕ} (numbered : IsNumbering shape count index rank) (at : List ℕ → Option A) (found : ℕ → Option A) (same : (k : ℕ) → k < count → found k ≡ at (index k)) where
+  ran_indexes : (first last : P) (k : ℕ) → k < count + 1 → RanNumbered answers found first k last → FoldsTo (AnswersAny (AnswersAt answers at)) first (listed index k) last
+  ran_indexes first last k within run =
+      ran_listed (AnswersAny (AnswersAt answers at)) index first last k
+      (ran_weaker (λ p j q. AnswersSomehow answers p (found j) q) (λ p j q. AnswersAny (AnswersAt answers at) p (index j) q) first last k
+      (λ p j q below call. (call.0, subst (λ o. answers p o call.0 q) (same j (omega (arith, below, within))) call.1)) run)
+
+  -- where a call may be made for each index in any order, one may be made for each number
+  pub indexes_taken : (takes : P → Option A → Type 0) (first : P) → AskableInAnyOrder (AnswersAt answers at) shape (TakesAt takes at) first → TakesNumbered answers takes found first count
+  indexes_taken takes first askable k now below run =
+      subst (takes now) (sym (same k below)) (askable (listed index k) now (index k) (numbered.inside k below) (listed_part numbered k below) (ran_indexes first now k (omega (arith, below)) run))
+
+  pub indexes_visited : (first last : P) → RanNumbered answers found first count last → VisitedInSomeOrder shape (AnswersAny (AnswersAt answers at)) first last
+  indexes_visited first last run = (listed index count, listed_all numbered, ran_indexes first last count (omega arith) run)
+
+  pub indexes_answered : (seen : List ℕ → Option B) (items : List B) → ((k : ℕ) → k < count → seen (index k) ≡ slice_get items k) → (first last : P) → AnswersBehind answers found count [] items first last → HasAnswers (AnswersAt answers at) shape first seen
+  indexes_answered seen items shows first last done = (
+    last,
+    (
+      listed index count,
+      listed_all numbered,
+      ran_listed (AnswersThere (AnswersAt answers at) seen) index first last count
+          (ran_weaker (λ p k q. (y : B) × (slice_get done.behind k ≡ Some y) × answers p (found k) y q) (λ p k q. AnswersThere (AnswersAt answers at) seen p (index k) q) first last count
+          (λ p k q below call. (call.0, shows k below ∙ (ap (λ xs. slice_get xs k) done.whole ∙ call.1), subst (λ o. answers p o call.0 q) (same k below) call.2)) done.calls),
+    ),
+  )
+
+-- what lies at the place of a rank of a rearranged layout is the element at its index
+pub rearranged_there : {A : Type 0} (stored : ℕ → Option A) (offset : ℕ) (ns : List ℕ) (ss : List ℤ) (to : ℕ) (ms : List ℕ) (ts : List ℤ) (by : IsRearranged offset ns ss to ms ts)
+    → (rank : ℕ) → rank < size_of ms → stored_by_rank stored to ms ts rank ≡ inside ns (by.index_of rank) (stored_at stored (place_of offset ss (by.index_of rank)))
+rearranged_there stored offset ns ss to ms ts by rank below = rw (by.within rank below) (ap (stored_at stored) (by.same rank below))
+
+-- a layout whose axes were joined numbers the indexes by their row-major rank, and what lies at the place of a rank is
+-- the element at its index
+module _ (ns : List ℕ) (ss : List ℤ) (ms : List ℕ) (ts : List ℤ) (joined : IsRejoined ns ss ms ts) where
+  pub joined_numbers : IsNumbering ns (size_of ms) (index_at ns) (row_rank ns)
+  joined_numbers = subst (λ n. IsNumbering ns n (index_at ns) (row_rank ns)) (sym joined.size) (order_numbers RowMajor ns)
+
+  pub joined_there : {A : Type 0} (stored : ℕ → Option A) (offset start : ℕ) → start ≡ offset → (rank : ℕ) → rank < size_of ms → stored_by_rank stored start ms ts rank ≡ inside ns (index_at ns rank) (stored_at stored (place_of offset ss (index_at ns rank)))
+  joined_there stored offset start from rank below =
+      let size = joined.size in
+      let under : rank < size_of ns = omega (arith, below, size) in
+      rw (in_box-index_at ns rank under) (λ k. stored_at stored (pos (from k) +ℤ joined.same rank under k))
+
+  -- items in row-major order, by their rank
+  pub joined_shows : {A : Type 0} (items : List A) (k : ℕ) → k < size_of ms → found_by_rank (ns, RowMajor) items (index_at ns k) ≡ slice_get items k
+  joined_shows items k below = rw (joined_numbers.inside k below, joined_numbers.rank_is k below) refl
+
+-- where each answer is what h gives and the closure stays as it is, h's values stand everywhere
+pub answers_alike : {P A B : Type 0} (answers : P → Option A → B → P → Type 0) (shape : List ℕ) (at : List ℕ → Option A) (seen : List ℕ → Option B) (first : P) (h : A → B)
+    → ((o : Option A) (y : B) (q : P) → answers first o y q → (q ≡ first) × (Some y ≡ option_map h o))
+    → ((i : List ℕ) → in_box shape i ≡ false → seen i ≡ None) → ((i : List ℕ) → in_box shape i ≡ false → at i ≡ None) → HasAnswers (AnswersAt answers at) shape first seen → (i : List ℕ) → seen i ≡ option_map h (at i)
+answers_alike answers shape at seen first h by nothing none has i = by_box (in_box shape i) refl
+  where
+    does : (j : List ℕ) (q : _) → in_box shape j ≡ true → AnswersThere (AnswersAt answers at) seen first j q → (q ≡ first) × (seen j ≡ option_map h (at j))
+    does j q inbox call = let gives = by (at j) call.0 q call.2 in (gives.0, call.1 ∙ gives.1)
+
+    by_box : (b : Bool) → in_box shape i ≡ b → seen i ≡ option_map h (at i)
+    by_box true e = done_at_each shape (AnswersThere (AnswersAt answers at) seen) first (λ j. seen j ≡ option_map h (at j)) does has.1.0 has.1.1 has.0 has.1.2 i e
+    by_box false e = nothing i e ∙ ap (option_map h) (sym (none i e))
+
+pub element_by : {F A B : Type 0} (g : Mut F (Bor A × Unit {0}) B) (h : A → B) (f : F) → AnswersBy g h f → (o : Option A) (y : B) (q : F) → AnswersElement g f o y q → (q ≡ f) × (Some y ≡ option_map h o)
+element_by g h f by o y q call = let gives = by call.0 y q call.2 in (gives.0, ap Some gives.1 ∙ ap (option_map h) (sym call.1))
+
+pub value_by : {F A B : Type 0} (g : Mut F (A × Unit {0}) B) (h : A → B) (f : F) → AnswersValuesBy g h f → (o : Option A) (y : B) (q : F) → AnswersValue g f o y q → (q ≡ f) × (Some y ≡ option_map h o)
+value_by g h f by o y q call = let gives = by call.0 y q call.2 in (gives.0, ap Some gives.1 ∙ ap (option_map h) (sym call.1))
+
+-- of an answer two facts give a third
+pub ok_from_both : {T E : Type 0} (P Q R : T → Type 0) → ((x : T) → P x → Q x → R x) → (r : Result T E) → IfOk r P → IfOk r Q → IfOk r R
+ok_from_both P Q R both (Ok x) p q = both x p q
+ok_from_both P Q R both (Err e) p q = tt
+
+pub on_err_from : {T E : Type 0} (P : Type 0) (r : Result T E) → P → OnErr r P
+on_err_from P (Ok x) p = tt
+on_err_from P (Err e) p = p

@@ -1,0 +1,91 @@
+-- Two neighbours of a lane, lent as a part of a storage: what one call is shown at the first and leaves at the second.
+use Rattle.std.proofs.Common.{◌≡◌, ℕ, zero, suc, ◌+◌, ◌<◌, Bool, true, false, [], ◌∷◌, ℤ, pos, ◌+ℤ◌, ◌*ℤ◌, refl, ap, sym, subst, ◌∙◌, arith}
+use Rattle.std.specs.Prelude.{Option, None, is_some, nat_lt, if◌then◌else◌}
+use Rattle.std.specs.Borrow.{Bor, MutBor}
+use Rattle.std.specs.Fn.{Mut}
+use Rattle.std.proofs.lemmas.Bool.{and_parts}
+use Rattle.std.proofs.lemmas.Bool.Decides.{nat_tests}
+use Rattle.nd_shape_and_slice.specs.Shape.{in_box}
+use Rattle.nd_shape_and_slice.specs.Place.{place_of}
+use Rattle.nd_layout.proofs.Integers.{sums, suc-mul, zero-mul, one-mul}
+use Rattle.nd_region.specs.declared.region.Region.{Region}
+use Rattle.nd_region.specs.Places.{names}
+use Rattle.nd_region.specs.Region.{region_stored}
+use Rattle.nd_region.proofs.Names.{named_at}
+use Rattle.nd_region.proofs.Stored.{written_same, written_other}
+use Rattle.nd_elements.specs.Places.{stored_at, names_place, HoldsAll}
+use Rattle.nd_elements.specs.elements.Changes.{AreDistinct}
+use Rattle.nd_elements.specs.Scoped.{with_named, IsNamedPart}
+use Rattle.nd_elements.specs.along.Accumulated.{ChangesAfter, TakesAfter, ChangedInside}
+
+module _ (place nth count from to : ℕ) (s t : ℤ) (strides : t ≡ s) (within : nth + 1 < count) (at_from : pos from ≡ pos place +ℤ (pos nth *ℤ s)) (at_to : pos to ≡ pos place +ℤ (pos (nth + 1) *ℤ s)) where
+  -- the two places, by the two indexes of a part of length 2
+  first_place : place_of from (t ∷ []) (0 ∷ []) ≡ pos from
+  first_place = let none = zero-mul t in omega (arith, sums, none)
+
+  second_place : place_of from (t ∷ []) (1 ∷ []) ≡ pos to
+  second_place =
+      let one = one-mul t in
+      let more : pos (nth + 1) *ℤ s ≡ (pos nth *ℤ s) +ℤ s = subst (λ m. pos m *ℤ s ≡ (pos nth *ℤ s) +ℤ s) (next nth) (suc-mul nth s) in
+      omega (arith, sums, one, strides, at_from, at_to, more)
+    where
+      next : (m : ℕ) → suc m ≡ m + 1
+      next m = omega arith
+
+  pub names_first : names from (2 ∷ []) (t ∷ []) from ≡ true
+  names_first = named_at from (2 ∷ []) (t ∷ []) from (0 ∷ []) refl first_place
+
+  pub names_second : names from (2 ∷ []) (t ∷ []) to ≡ true
+  names_second = named_at from (2 ∷ []) (t ∷ []) to (1 ∷ []) refl second_place
+
+  pub neighbours_apart : AreDistinct (λ k. pos place +ℤ (pos k *ℤ s)) count → from ≡ to → ⊥
+  neighbours_apart apart same = let one = apart nth (nth + 1) (omega (arith, within)) within (sym at_from ∙ (ap pos same ∙ at_to)) in absurd (omega (arith, one))
+
+  module _ {A : Type 0} (old : ℕ → Option A) where
+    pub neighbours_held : ((k : ℕ) → k < count → names_place old (pos place +ℤ (pos k *ℤ s)) ≡ true) → HoldsAll old from (2 ∷ []) (t ∷ [])
+    neighbours_held holds [] h = cc
+    neighbours_held holds (zero ∷ []) h = ap (names_place old) (first_place ∙ at_from) ∙ holds nth (omega (arith, within))
+    neighbours_held holds (suc zero ∷ []) h = ap (names_place old) (second_place ∙ at_to) ∙ holds (nth + 1) within
+    neighbours_held holds (suc (suc k) ∷ []) h = let off : nat_lt (suc (suc k)) 2 ≡ true = (and_parts (nat_lt (suc (suc k)) 2) true h).0 in absurd (grind (arith, nat_tests, off))
+    neighbours_held holds (k ∷ j ∷ js) h = let rest = (and_parts (nat_lt k 2) (in_box [] (j ∷ js)) h).1 in cc
+
+    module _ (x : Region A) (part : IsNamedPart old from (2 ∷ []) (t ∷ []) x) where
+      pub first_is : region_stored x from ≡ stored_at old (pos place +ℤ (pos nth *ℤ s))
+      first_is = part from ∙ (ap (λ (b : Bool). if b then old from else None) names_first ∙ ap (stored_at old) at_from)
+
+      pub second_is : region_stored x to ≡ stored_at old (pos place +ℤ (pos (nth + 1) *ℤ s))
+      second_is = part to ∙ (ap (λ (b : Bool). if b then old to else None) names_second ∙ ap (stored_at old) at_to)
+
+  module _ {F A : Type 0} (g : Mut F (Bor A × (MutBor A × Unit {0})) (Unit {0} × (MutBor A × Unit {0}))) (old : ℕ → Option A) (f : F) where
+    pub neighbours_ask : AreDistinct (λ k. pos place +ℤ (pos k *ℤ s)) count → ((k : ℕ) → k < count → names_place old (pos place +ℤ (pos k *ℤ s)) ≡ true)
+        → TakesAfter g (stored_at old (pos place +ℤ (pos nth *ℤ s))) (stored_at old (pos place +ℤ (pos (nth + 1) *ℤ s))) f
+        → (x : Region A) → IsNamedPart old from (2 ∷ []) (t ∷ []) x
+        → (from ≡ to → ⊥) × ((is_some (region_stored x from) ≡ true) × (is_some (region_stored x to) ≡ true)) × TakesAfter g (region_stored x from) (region_stored x to) f
+    neighbours_ask apart holds takes x part =
+        let one = first_is old x part in
+        let two = second_is old x part in
+        (neighbours_apart apart, (ap is_some one ∙ holds nth (omega (arith, within)), ap is_some two ∙ holds (nth + 1) within), λ v w shows gives. takes v w (sym one ∙ shows) (sym two ∙ gives))
+
+    module _ (new : ℕ → Option A) (x r : Region A) (f' : F) (part : IsNamedPart old from (2 ∷ []) (t ∷ []) x) (done : ChangedInside g x from to f (r, f')) (back : (p : ℕ) → new p ≡ with_named old from (2 ∷ []) (t ∷ []) (region_stored r) p) where
+      pub neighbour_changed : ChangesAfter g (stored_at old (pos place +ℤ (pos nth *ℤ s))) (stored_at old (pos place +ℤ (pos (nth + 1) *ℤ s))) (stored_at new (pos place +ℤ (pos (nth + 1) *ℤ s))) f f'
+      neighbour_changed = (
+        done.0,
+        done.1,
+        done.2,
+        sym (first_is old x part) ∙ done.3,
+        sym (second_is old x part) ∙ done.4,
+        ap (stored_at new) (sym at_to)
+            ∙ (back to ∙ (ap (λ (b : Bool). if b then region_stored r to else old to) names_second
+            ∙ (ap (λ w. region_stored w to) done.5 ∙ written_same x.items x.held to done.2 (ap is_some done.4)))),
+        done.6,
+      )
+
+      pub neighbours_left : (p : ℕ) → (pos p ≡ pos place +ℤ (pos (nth + 1) *ℤ s) → ⊥) → new p ≡ old p
+      neighbours_left p other = back p ∙ by_name (names from (2 ∷ []) (t ∷ []) p) refl
+        where
+          not_to : p ≡ to → ⊥
+          not_to same = other (ap pos same ∙ at_to)
+
+          by_name : (b : Bool) → names from (2 ∷ []) (t ∷ []) p ≡ b → (if b then region_stored r p else old p) ≡ old p
+          by_name true e = ap (λ w. region_stored w p) done.5 ∙ (written_other x.items x.held to p done.2 not_to ∙ (part p ∙ ap (λ (b : Bool). if b then old p else None) e))
+          by_name false e = refl

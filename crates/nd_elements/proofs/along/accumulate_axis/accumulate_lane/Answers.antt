@@ -1,0 +1,47 @@
+use Rattle.std.proofs.Common.{◌≡◌, ◌+◌, ◌-◌, ◌∙◌, ℕ, suc, pos, ◌+ℤ◌, ◌*ℤ◌, ap, sym, subst, arith}
+use Rattle.nd_elements.specs.Places.{stored_at}
+use Rattle.nd_elements.specs.along.Accumulated.{ChangesAfter, TakesAfter, IsAccumulated}
+use Rattle.nd_elements.proofs.Accumulating.{accumulated_there, next_accumulable, accumulated_more}
+use Rattle.nd_elements.proofs.along.accumulate_axis.accumulate_lane.Goals as goal
+
+next : (m : ℕ) → suc m ≡ m + 1
+next m = omega arith
+
+pub change_after-now-requires-clause-holds : goal.change_after-now-requires-clause-holds
+change_after-now-requires-clause-holds g c k below =
+    let lane = c.args.lane in
+    let test = c.loop-nth-test.true in
+    accumulated_there g.F.FnMut (λ k. pos lane.place +ℤ (pos k *ℤ lane.stride)) lane.count c.requires.apart (g.S.Data.stored c.args.storage.now) (g.S.Data.stored c.loop-nth.storage) c.args.f c.loop-nth.now
+    c.loop-nth.nth k (omega (arith, test)) below c.loop-nth.invariant.0 c.requires.holds
+
+pub change_after-now-requires-clause-callable : goal.change_after-now-requires-clause-callable
+change_after-now-requires-clause-callable g c =
+    let lane = c.args.lane in
+    let nth = c.loop-nth.nth in
+    let test = c.loop-nth-test.true in
+    subst (λ m. TakesAfter g.F.FnMut (stored_at (g.S.Data.stored c.loop-nth.storage) (pos lane.place +ℤ (pos nth *ℤ lane.stride))) (stored_at (g.S.Data.stored c.loop-nth.storage) (pos lane.place +ℤ (pos m *ℤ lane.stride))) c.loop-nth.now) (next nth)
+    (next_accumulable g.F.FnMut (λ k. pos lane.place +ℤ (pos k *ℤ lane.stride)) lane.count c.requires.apart (g.S.Data.stored c.args.storage.now) (g.S.Data.stored c.loop-nth.storage) c.args.f c.loop-nth.now
+    nth (omega (arith, test)) c.loop-nth.invariant.0 c.requires.callable)
+
+pub loop-nth-preserved : goal.loop-nth-preserved
+loop-nth-preserved g c =
+    let lane = c.args.lane in
+    let nth = c.loop-nth.nth in
+    let test = c.loop-nth-test.true in
+    let new = g.S.Data.stored c.change_after-now.new.storage in
+    let now = g.S.Data.stored c.loop-nth.storage in (
+      accumulated_more g.F.FnMut (λ k. pos lane.place +ℤ (pos k *ℤ lane.stride)) lane.count c.requires.apart (g.S.Data.stored c.args.storage.now) now c.args.f c.loop-nth.now
+          nth (omega (arith, test)) new c.change_after-now.result c.loop-nth.invariant.0
+          (subst (λ m. ChangesAfter g.F.FnMut (stored_at now (pos lane.place +ℤ (pos nth *ℤ lane.stride))) (stored_at now (pos lane.place +ℤ (pos m *ℤ lane.stride))) (stored_at new (pos lane.place +ℤ (pos m *ℤ lane.stride))) c.loop-nth.now c.change_after-now.result) (sym (next nth)) c.change_after-now.ensures.called)
+          (λ p other. c.change_after-now.ensures.left p (λ e. other (e ∙ ap (λ m. pos lane.place +ℤ (pos m *ℤ lane.stride)) (sym (next nth))))),
+      c.change_after-now.ensures.frame ∙ c.loop-nth.invariant.1,
+    )
+
+pub returns-clause-accumulated : goal.returns-clause-accumulated
+returns-clause-accumulated g c =
+    let lane = c.args.lane in
+    let test = c.loop-nth-test.false in
+    let end = c.loop-nth.auto.nth-end in
+    let some = c.requires.some in
+    let all : c.loop-nth.nth ≡ lane.count - 1 = omega (arith, test, end, some) in
+    subst (λ m. IsAccumulated g.F.FnMut (λ k. pos lane.place +ℤ (pos k *ℤ lane.stride)) m (g.S.Data.stored c.args.storage.now) (g.S.Data.stored c.loop-nth.storage) c.args.f c.loop-nth.now) all c.loop-nth.invariant.0

@@ -1,0 +1,38 @@
+use Rattle.std.proofs.Common.{◌<◌, ◌∙◌, sym, refl, subst, length, get_or, arith}
+use Rattle.std.specs.Prelude.{Some, slice_get}
+use Rattle.nd_elements.specs.along.Accumulated.{ChangesAfter}
+use Rattle.nd_elements.proofs.Mapped.{got_there}
+use Rattle.nd_elements.proofs.RowPairs.{row_more, row_kept}
+use Rattle.nd_elements.proofs.RunPairs.{got_or}
+use Rattle.nd_elements.proofs.along.accumulate_beside.change_slice.Goals as goal
+
+pub f-requires : goal.f-requires
+f-requires g c =
+    let nth = c.loop-nth.nth in
+    let below : nth < length c.args.items.now = subst (λ n. nth < n) c.requires.as_long c.loop-nth-test.true in
+    let so_far = c.loop-nth.invariant in
+    c.requires.callable (slice_get c.loop-nth.items) nth c.loop-nth.f below so_far.0 _ _
+    (got_there c.args.before.now nth c.index-before-nth.result c.loop-nth-test.true c.index-before-nth.is)
+    (sym (so_far.1 nth (omega arith)) ∙ got_or c.loop-nth.items nth c.index-items-nth.result (subst (λ n. nth < n) (sym c.loop-nth.auto.items) below))
+
+pub loop-nth-preserved : goal.loop-nth-preserved
+loop-nth-preserved g c =
+    let nth = c.loop-nth.nth in
+    let old = c.args.items.now in
+    let now = c.loop-nth.items in
+    let before = c.args.before.now in
+    let below : nth < length now = subst (λ n. nth < n) (c.requires.as_long ∙ sym c.loop-nth.auto.items) c.loop-nth-test.true in
+    let so_far = c.loop-nth.invariant in
+    let y = c.f.new.arg3 in
+    let call : ChangesAfter g.F.FnMut (slice_get before nth) (slice_get now nth) (Some y) c.loop-nth.f c.f.new.self = (
+      c.index-before-nth.result,
+      get_or now nth c.index-items-nth.result,
+      y,
+      got_there before nth c.index-before-nth.result c.loop-nth-test.true c.index-before-nth.is,
+      got_or now nth c.index-items-nth.result below,
+      refl,
+      record { shown = _; shows = refl; given = _; gives = refl; left = _; called = c.f.ensures; leaves = refl },
+    ) in (
+      row_more g.F.FnMut (slice_get before) old now c.args.f nth y so_far.1 c.loop-nth.f c.f.new.self below so_far.0 call,
+      row_kept g.F.FnMut (slice_get before) old now c.args.f nth y so_far.1,
+    )

@@ -1,0 +1,6 @@
+use Rattle.nd_elements.specs.Collected.{stored_along}
+use Rattle.nd_elements.specs.along.LanesFolded.{FoldsRun}
+use Rattle.nd_elements.proofs.along.fold_axis.fold_shown.Given as goal
+
+abbrev pub invariant-loop-nth : goal.invariant-loop-nth
+invariant-loop-nth g l = FoldsRun g.F.FnMut (stored_along (g.S.Data.stored l.fn.storage) l.fn.lane.place l.fn.lane.stride) l.nth l.fn.init l.fn.f l.total l.f

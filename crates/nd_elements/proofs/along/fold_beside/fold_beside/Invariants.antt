@@ -1,0 +1,12 @@
+use Rattle.std.specs.Prelude.{◌≡◌, slice_get, vec_len}
+use Rattle.nd_elements.specs.along.AxisLanes.{lanes_beside}
+use Rattle.nd_elements.specs.along.LanesFolded.{lanes_at}
+use Rattle.nd_elements.proofs.LanesFolding.{FoldedBelow}
+use Rattle.nd_elements.proofs.along.fold_beside.fold_beside.Given as goal
+
+abbrev pub invariant-loop-nth : goal.invariant-loop-nth
+invariant-loop-nth g l =
+    let lane = l.fn.lane in
+    let at = lanes_beside (vec_len l.fn.starts) lane in
+    (vec_len l.totals ≡ vec_len l.fn.starts)
+    × FoldedBelow g.F.FnMut at.lanes at.count (lanes_at g.F.FnMut g.S.Data.stored at l.fn.storage) (slice_get l.fn.starts.items) l.fn.f l.nth (slice_get l.totals.items) l.now

@@ -1,0 +1,18 @@
+use Rattle.std.proofs.Common.{◌+◌, ◌<◌, ◌∙◌, pos, ◌+ℤ◌, ◌*ℤ◌, refl, arith}
+use Rattle.nd_elements.proofs.Rotating.{rotated_more}
+use Rattle.nd_elements.proofs.along.remove_index.rotate_lane.Goals as goal
+
+pub loop-nth-preserved : goal.loop-nth-preserved
+loop-nth-preserved g c =
+    let lane = c.args.lane in
+    let so_far = c.loop-nth.invariant in
+    let m = c.loop-nth.nth in
+    let from = so_far.2 in
+    let test = c.loop-nth-test.true in
+    let within : m + 1 < lane.count = omega (arith, test) in (
+      rotated_more (λ k. pos lane.place +ℤ (pos k *ℤ lane.stride)) lane.count c.args.from (g.S.Data.stored c.args.storage.now) m (m + 1) c.place_of.result c.place_of-in-loop-nth.result
+          from within refl c.requires.apart c.place_of.ensures c.place_of-in-loop-nth.ensures (g.S.Data.stored c.loop-nth.storage) (g.S.Data.stored c.swap.new.self) c.swap.ensures.new so_far.0,
+      c.swap.ensures.frame ∙ so_far.1,
+      omega (arith, from),
+      within,
+    )

@@ -1,0 +1,11 @@
+use Rattle.std.proofs.Common.{◌≡◌, ◌≤◌, vec_len, vec_capacity}
+use Rattle.nd_shape_and_slice.specs.Shape.{size_of}
+use Rattle.nd_elements.specs.FreeOrder.{AnswersNothing}
+use Rattle.nd_elements.proofs.Answered.{IsAnsweredTo}
+use Rattle.nd_elements.proofs.base.from_shape_fn.answers_for_each.Given as goal
+
+abbrev pub invariant-loop-rank : goal.invariant-loop-rank
+invariant-loop-rank g l =
+    (size_of (g.D.Dimension.lengths l.fn.dim) ≤ vec_capacity l.items)
+    × (vec_len l.items ≡ l.rank)
+    × IsAnsweredTo (AnswersNothing g.F.FnMut) (g.D.Dimension.lengths l.fn.dim, l.fn._order) l.fn.f l.items.items l.rank l.f

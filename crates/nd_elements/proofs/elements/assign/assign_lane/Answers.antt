@@ -1,0 +1,10 @@
+use Rattle.std.proofs.Common.{subst}
+use Rattle.std.proofs.Math.Path.{fun_ext}
+use Rattle.nd_layout.specs.Lanes.{along}
+use Rattle.nd_elements.specs.elements.Assigns.{AssignsAt}
+use Rattle.nd_elements.proofs.elements.assign.assign_lane.Goals as goal
+
+pub returns-then-lane-eq0-clause-outcome : goal.returns-then-lane-eq0-clause-outcome
+returns-then-lane-eq0-clause-outcome g c =
+    subst (λ others. AssignsAt g.S.Data.stored (λ _. others) (along c.args.lane) (along c.args.beside) c.args.others.now c.args.storage.now c.assign_along.new.storage c.assign_along.result)
+    (fun_ext c.borrowed.ensures) c.assign_along.ensures.outcome

@@ -1,0 +1,33 @@
+use Rattle.std.proofs.Common.{◌≡◌, ◌∙◌, ◌+◌, ◌&&◌, ap, sym, arith}
+use Rattle.std.specs.Cmp.Lexicographic.{pointwise}
+use Rattle.nd_elements.specs.Places.{stored_at}
+use Rattle.nd_elements.specs.Collected.{collected, stored_along}
+use Rattle.nd_elements.proofs.Comparing.{compared_more}
+use Rattle.nd_elements.proofs.elements.eq.block_equal.Goals as goal
+
+pub loop-nth-preserved : goal.loop-nth-preserved
+loop-nth-preserved g c =
+    let a = g.S.Data.stored c.args.a.now in
+    let b = g.S.Data.stored c.args.b.now in
+    let ours = c.args.ours in
+    let theirs = c.args.theirs in
+    let within = c.requires.within in
+    let turn = c.loop-nth-test.true in
+    ap (λ t. c.loop-nth.same && t) c.eq-same.ensures
+    ∙ compared_more g.S.Elem.PartialEq.eq (λ k. stored_along a ours.place ours.stride (c.args.from + k)) (λ k. stored_along b theirs.place theirs.stride (c.args.from + k))
+    c.loop-nth.nth c.element-x.result.now c.element-y.result.now c.loop-nth.same
+    (λ j below. c.requires.ours (c.args.from + j) (omega (arith, below, within, turn)))
+    (λ j below. c.requires.theirs (c.args.from + j) (omega (arith, below, within, turn)))
+    (ap (stored_at a) (sym c.place_of.ensures) ∙ c.element-x.ensures)
+    (ap (stored_at b) (sym c.place_of-in-loop-nth.ensures) ∙ c.element-y.ensures)
+    c.loop-nth.invariant
+
+pub returns : goal.returns
+returns g c =
+    let whole : c.loop-nth.nth ≡ c.args.count = (let end = c.loop-nth-test.false in let most = c.loop-nth.auto.nth-end in omega (arith, end, most)) in
+    c.loop-nth.invariant
+    ∙ ap
+    (λ n. pointwise g.S.Elem.PartialEq.eq
+    (collected (λ k. stored_along (g.S.Data.stored c.args.a.now) c.args.ours.place c.args.ours.stride (c.args.from + k)) n)
+    (collected (λ k. stored_along (g.S.Data.stored c.args.b.now) c.args.theirs.place c.args.theirs.stride (c.args.from + k)) n))
+    whole

@@ -1,0 +1,23 @@
+use Rattle.std.proofs.Common.{◌∙◌, ◌+◌, ◌≤◌, sym, arith, rules}
+use Rattle.nd_elements.specs.Collected.{stored_along}
+use Rattle.nd_elements.proofs.Comparing.{block_more, block_differs}
+use Rattle.nd_elements.proofs.elements.eq.lanes_equal.Goals as goal
+
+pub returns-then-not-block_equal : goal.returns-then-not-block_equal
+returns-then-not-block_equal g c =
+    let a = stored_along (g.S.Data.stored c.args.a.now) c.args.ours.place c.args.ours.stride in
+    let b = stored_along (g.S.Data.stored c.args.b.now) c.args.theirs.place c.args.theirs.stride in
+    let within : c.loop-from.from + c.min-count.result ≤ c.args.ours.count = search rules in
+    sym
+    (block_differs g.S.Elem.PartialEq.eq a b c.args.ours.count c.requires.ours (λ k below. c.requires.theirs k (let as_long = c.requires.as_long in omega (arith, below, as_long)))
+    c.loop-from.from c.min-count.result within (sym c.block_equal.ensures ∙ c.if-not-block_equal.true))
+
+pub loop-from-preserved : goal.loop-from-preserved
+loop-from-preserved g c =
+    let a = stored_along (g.S.Data.stored c.args.a.now) c.args.ours.place c.args.ours.stride in
+    let b = stored_along (g.S.Data.stored c.args.b.now) c.args.theirs.place c.args.theirs.stride in
+    let within : c.loop-from.from + c.min-count.result ≤ c.args.ours.count = search rules in (
+      within,
+      block_more g.S.Elem.PartialEq.eq a b c.args.ours.count c.requires.ours (λ k below. c.requires.theirs k (let as_long = c.requires.as_long in omega (arith, below, as_long)))
+          c.loop-from.from c.min-count.result within c.loop-from.invariant.1 (sym c.block_equal.ensures ∙ c.if-not-block_equal.false),
+    )

@@ -1,0 +1,33 @@
+use Rattle.std.proofs.Common.{ap, sym, subst}
+use Rattle.nd_layout.specs.Lanes.{along, ranked}
+use Rattle.nd_layout.proofs.LanesOf.{go_on, lane_of}
+use Rattle.nd_elements.specs.NumberedPlaces.{elements_at}
+use Rattle.nd_elements.specs.Places.{stored_at}
+use Rattle.nd_elements.specs.elements.Maps.{AnswersElement, MayBeShown, RanNumbered}
+use Rattle.nd_elements.proofs.Mapped.{ran_later, takes_later}
+use Rattle.nd_elements.proofs.elements.for_each.show_places.Goals as goal
+
+pub show_lane-now-requires-clause-callable : goal.show_lane-now-requires-clause-callable
+show_lane-now-requires-clause-callable g c =
+    let so_far = c.loop-lane.invariant in
+    let lanes = c.loop-lane.lanes in
+    let lane = c.in-Some.lane in
+    let at = ranked c.args.places in
+    let lies = lane_of c.args.places lanes lane so_far.0 c.in-Some.ensures.lane.0 in
+    let stored = g.S.Data.stored c.args.storage.now in
+    takes_later (AnswersElement g.F.FnMut) (MayBeShown g.F.FnMut) (elements_at g.S.Data.stored at c.args.storage.now) (elements_at g.S.Data.stored (along lane) c.args.storage.now) lanes.rank lane.count at.count lies.within
+    (λ j below. ap (stored_at stored) (lies.places j below)) c.args.f c.loop-lane.now so_far.1 c.requires.callable
+
+pub loop-lane-preserved : goal.loop-lane-preserved
+loop-lane-preserved g c =
+    let so_far = c.loop-lane.invariant in
+    let lanes = c.loop-lane.lanes in
+    let lane = c.in-Some.lane in
+    let given = c.in-Some.ensures.lane in
+    let lies = lane_of c.args.places lanes lane so_far.0 given.0 in
+    let stored = g.S.Data.stored c.args.storage.now in
+    let found = elements_at g.S.Data.stored (ranked c.args.places) c.args.storage.now in (
+      go_on c.args.places lanes c.next.new.self so_far.0 c.in-Some.ensures.over,
+      subst (λ r. RanNumbered (AnswersElement g.F.FnMut) found c.args.f r c.show_lane-now.result) (sym given.1)
+          (ran_later (AnswersElement g.F.FnMut) found (elements_at g.S.Data.stored (along lane) c.args.storage.now) lanes.rank lane.count (λ j below. ap (stored_at stored) (lies.places j below)) c.args.f c.loop-lane.now c.show_lane-now.result so_far.1 c.show_lane-now.ensures.ran),
+    )

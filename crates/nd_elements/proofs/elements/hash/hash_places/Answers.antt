@@ -1,0 +1,25 @@
+use Rattle.std.proofs.Common.{◌∙◌, ap, sym}
+use Rattle.std.specs.List.{fold, flat_map}
+use Rattle.nd_layout.specs.Lanes.{along, ranked}
+use Rattle.nd_layout.proofs.LanesOf.{go_on, lane_of}
+use Rattle.nd_elements.specs.Collected.{collected}
+use Rattle.nd_elements.specs.NumberedPlaces.{elements_at, all_elements_at}
+use Rattle.nd_elements.proofs.Collecting.{lane_collected}
+use Rattle.nd_elements.proofs.Feeding.{fed_then}
+use Rattle.nd_elements.proofs.elements.hash.hash_places.Goals as goal
+
+pub loop-lane-preserved : goal.loop-lane-preserved
+loop-lane-preserved g c =
+    let so_far = c.loop-lane.invariant in
+    let lanes = c.loop-lane.lanes in
+    let lane = c.in-Some.lane in
+    let places = c.args.places in
+    let given = c.in-Some.ensures.lane in
+    let found = elements_at g.S.Data.stored (ranked places) c.args.storage.now in
+    let lies = lane_of places lanes lane so_far.0 given.0 in (
+      go_on places lanes c.next.new.self so_far.0 c.in-Some.ensures.over,
+      fed_then g.H.Hasher.write g.S.Elem.Hash.hash_input c.args.state.now c.loop-lane.state c.hash_lane.new.state
+          (collected found lanes.rank) (all_elements_at g.S.Data.stored (along lane) c.args.storage.now) so_far.1 c.hash_lane.ensures
+          ∙ ap (λ xs. fold g.H.Hasher.write c.args.state.now (flat_map g.S.Elem.Hash.hash_input xs))
+          (sym (lane_collected (g.S.Data.stored c.args.storage.now) places.first places.lengths.now places.strides.now lanes.rank lane.place lane.count lane.stride lies) ∙ ap (collected found) (sym given.1)),
+    )

@@ -1,0 +1,17 @@
+use Rattle.std.proofs.Common.{Some, refl, ap, ◌∙◌}
+use Rattle.std.specs.Prelude.{if◌then◌else◌}
+use Rattle.std.specs.Cmp.{unsigned_Decides}
+use denote.MutBor.{at_last}
+use Rattle.nd_elements.proofs.elements.map_mut.hand_element.Goals as goal
+
+pub returns-clause-called : goal.returns-clause-called
+returns-clause-called g c =
+    let stored = g.S.Data.stored c.args.storage.now in (
+      c.f-answer.new.arg2,
+      g.met.S.DataMut.element_written c.args.storage.now c.args.place c.f-answer.new.arg2 c.args.place c.requires.holds ∙ ap (λ t. if t then Some c.f-answer.new.arg2 else stored c.args.place) ((unsigned_Decides c.args.place c.args.place).1 refl),
+      (
+        c.element_mut.result.now,
+        c.element_mut.ensures.value,
+        record { shown = c.element_mut.result; shows = refl; left = at_last c.element_mut.result c.f-answer.new.arg2; called = c.f-answer.ensures; leaves = refl },
+      ),
+    )

@@ -1,0 +1,39 @@
+use Rattle.std.proofs.Common.{[], ◌∙◌, sym, subst, arith}
+use Rattle.nd_layout.specs.Lanes.{along, ranked}
+use Rattle.nd_layout.proofs.LanesOf.{go_on, lane_of}
+use Rattle.nd_elements.specs.elements.Changes.{IsChangedBy}
+use Rattle.nd_elements.specs.elements.Maps.{Replaces}
+use Rattle.nd_elements.specs.elements.MapsMut.{LeavesAndAnswers, MayBeHanded, Collects, TakesCollecting}
+use Rattle.nd_elements.proofs.Changed.{changed_then}
+use Rattle.nd_elements.proofs.Replaced.{replaced_takes}
+use Rattle.nd_elements.proofs.elements.map_mut.hand_places.Goals as goal
+
+pub hand_along-now-requires-clause-callable : goal.hand_along-now-requires-clause-callable
+hand_along-now-requires-clause-callable g c =
+    let so_far = c.loop-lane.invariant in
+    let lanes = c.loop-lane.lanes in
+    let lane = c.in-Some.lane in
+    let at = ranked c.args.places in
+    let lies = lane_of c.args.places lanes lane so_far.0 c.in-Some.ensures.lane.0 in
+    replaced_takes (Collects (LeavesAndAnswers g.F.FnMut)) (TakesCollecting (MayBeHanded g.F.FnMut)) at.place (along lane).place lanes.rank lane.count at.count lies.within c.requires.apart lies.places
+    (g.S.Data.stored c.args.storage.now) (g.S.Data.stored c.loop-lane.storage) (c.args.f, []) (c.loop-lane.now, c.loop-lane.items.items) so_far.1 c.requires.callable
+
+pub loop-lane-preserved : goal.loop-lane-preserved
+loop-lane-preserved g c =
+    let so_far = c.loop-lane.invariant in
+    let lanes = c.loop-lane.lanes in
+    let lane = c.in-Some.lane in
+    let at = ranked c.args.places in
+    let old = g.S.Data.stored c.args.storage.now in
+    let new = g.S.Data.stored c.hand_along-now.new.storage in
+    let items = c.hand_along-now.new.items.items in
+    let given = c.in-Some.ensures.lane in
+    let lies = lane_of c.args.places lanes lane so_far.0 given.0 in (
+      go_on c.args.places lanes c.next.new.self so_far.0 c.in-Some.ensures.over,
+      subst (λ r. IsChangedBy (Replaces (Collects (LeavesAndAnswers g.F.FnMut))) at.place r old new (c.args.f, []) (c.hand_along-now.result, items)) (sym given.1)
+          (changed_then (Replaces (Collects (LeavesAndAnswers g.F.FnMut))) at.place (along lane).place lanes.rank lane.count at.count lies.within c.requires.apart lies.places
+          old (g.S.Data.stored c.loop-lane.storage) new (c.args.f, []) (c.loop-lane.now, c.loop-lane.items.items) (c.hand_along-now.result, items) so_far.1 c.hand_along-now.ensures.handed),
+      (let e = so_far.2 in let l = c.hand_along-now.ensures.len in let n = given.1 in omega (arith, e, l, n)),
+      (let e = so_far.3 in let l = c.hand_along-now.ensures.room in omega (arith, e, l)),
+      c.hand_along-now.ensures.frame ∙ so_far.4,
+    )

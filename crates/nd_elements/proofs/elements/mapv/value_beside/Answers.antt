@@ -1,0 +1,44 @@
+use Rattle.std.proofs.Common.{◌≡◌, ◌∙◌, ◌+◌, ◌<◌, ℕ, length, ap, sym, subst}
+use Rattle.std.proofs.lemmas.Result.{IfOk-weaker}
+use Rattle.std.specs.Prelude.{is_some, slice_get}
+use Rattle.nd_layout.specs.Lanes.{along}
+use Rattle.nd_elements.specs.NumberedPlaces.{elements_at}
+use Rattle.nd_elements.specs.elements.Maps.{AnswersValue, MayBeGiven, AnswersBehind, TakesNumbered}
+use Rattle.nd_elements.proofs.Collecting.{beside_has}
+use Rattle.nd_elements.proofs.Mapped.{got_below, beside_found, behind_alike, takes_alike}
+use Rattle.nd_elements.proofs.elements.mapv.value_beside.Goals as goal
+
+pub run-run-requires : goal.run-run-requires
+run-run-requires g c k below =
+    ap is_some (c.borrowed.ensures (c.args.lane.place + k))
+    ∙ beside_has (g.S.Data.stored c.args.storage.now) c.args.lane.place c.args.lane.count c.args.lane.stride c.requires.beside c.requires.holds k below
+
+pub value_run-requires-clause-callable : goal.value_run-requires-clause-callable
+value_run-requires-clause-callable g c =
+    let lane = c.args.lane in
+    let stored = g.S.Data.stored c.args.storage.now in
+    let xs = c.run-run.result.now in
+    let same : (k : ℕ) → k < lane.count → slice_get xs k ≡ elements_at g.S.Data.stored (along lane) c.args.storage.now k = beside_found stored lane.place lane.count lane.stride c.requires.beside xs c.run-run.ensures.count (λ k d below. sym (c.borrowed.ensures (lane.place + k)) ∙ c.run-run.ensures.elements k d below) in
+    subst (TakesNumbered (AnswersValue g.F.FnMut) (MayBeGiven g.F.FnMut) (slice_get xs) c.args.f) (sym c.run-run.ensures.count)
+    (takes_alike (AnswersValue g.F.FnMut) (MayBeGiven g.F.FnMut) (slice_get xs) (elements_at g.S.Data.stored (along lane) c.args.storage.now) lane.count same c.args.f c.requires.callable)
+
+pub returns-clause-pushed : goal.returns-clause-pushed
+returns-clause-pushed g c =
+    let lane = c.args.lane in
+    let stored = g.S.Data.stored c.args.storage.now in
+    let xs = c.run-run.result.now in
+    let same : (k : ℕ) → k < lane.count → slice_get xs k ≡ elements_at g.S.Data.stored (along lane) c.args.storage.now k = beside_found stored lane.place lane.count lane.stride c.requires.beside xs c.run-run.ensures.count (λ k d below. sym (c.borrowed.ensures (lane.place + k)) ∙ c.run-run.ensures.elements k d below) in
+    let mapped = λ (last : _) (done : AnswersBehind (AnswersValue g.F.FnMut) (slice_get xs) (length xs) c.args.items.now.items c.value_run.new.items.items c.args.f last).
+    behind_alike (AnswersValue g.F.FnMut) (slice_get xs) (elements_at g.S.Data.stored (along lane) c.args.storage.now) lane.count same c.args.items.now.items c.value_run.new.items.items c.args.f last
+    (subst (λ n. AnswersBehind (AnswersValue g.F.FnMut) (slice_get xs) n c.args.items.now.items c.value_run.new.items.items c.args.f last) c.run-run.ensures.count done) in
+    IfOk-weaker c.value_run.result (λ last. AnswersBehind (AnswersValue g.F.FnMut) (slice_get xs) (length xs) c.args.items.now.items c.value_run.new.items.items c.args.f last)
+    (λ last. AnswersBehind (AnswersValue g.F.FnMut) (elements_at g.S.Data.stored (along lane) c.args.storage.now) lane.count c.args.items.now.items c.value_run.new.items.items c.args.f last) mapped c.value_run.ensures.pushed
+
+pub value_run-requires-clause-clones : goal.value_run-requires-clause-clones
+value_run-requires-clause-clones g c p x e =
+    let lane = c.args.lane in
+    let stored = g.S.Data.stored c.args.storage.now in
+    let xs = c.run-run.result.now in
+    let same : (k : ℕ) → k < lane.count → slice_get xs k ≡ elements_at g.S.Data.stored (along lane) c.args.storage.now k = beside_found stored lane.place lane.count lane.stride c.requires.beside xs c.run-run.ensures.count (λ k d below. sym (c.borrowed.ensures (lane.place + k)) ∙ c.run-run.ensures.elements k d below) in
+    let below = subst (λ n. p < n) c.run-run.ensures.count (got_below xs p x e) in
+    c.requires.clones p x below (sym (same p below) ∙ e)

@@ -1,0 +1,45 @@
+use Rattle.std.proofs.Common.{[], ap, sym, subst, arith}
+use Rattle.nd_layout.specs.Lanes.{along, ranked}
+use Rattle.nd_layout.proofs.LanesOf.{go_on, lane_of, all_through}
+use Rattle.nd_elements.specs.NumberedPlaces.{elements_at}
+use Rattle.nd_elements.specs.Places.{stored_at}
+use Rattle.nd_elements.specs.elements.Maps.{AnswersValue, MayBeGiven, AnswersBehind}
+use Rattle.nd_elements.proofs.Mapped.{behind_ran, behind_then, takes_later}
+use Rattle.nd_elements.proofs.elements.mapv.value_places.Goals as goal
+
+pub value_lane-requires-clause-callable : goal.value_lane-requires-clause-callable
+value_lane-requires-clause-callable g c =
+    let so_far = c.loop-lane.invariant in
+    let lanes = c.loop-lane.lanes in
+    let lane = c.in-Some.lane in
+    let at = ranked c.args.places in
+    let stored = g.S.Data.stored c.args.storage.now in
+    let found = elements_at g.S.Data.stored at c.args.storage.now in
+    let lies = lane_of c.args.places lanes lane so_far.0 c.in-Some.ensures.lane.0 in
+    takes_later (AnswersValue g.F.FnMut) (MayBeGiven g.F.FnMut) found (elements_at g.S.Data.stored (along lane) c.args.storage.now) lanes.rank lane.count at.count lies.within
+    (λ j below. ap (stored_at stored) (lies.places j below)) c.args.f c.loop-lane.now
+    (behind_ran (AnswersValue g.F.FnMut) found lanes.rank [] c.loop-lane.items.items c.args.f c.loop-lane.now so_far.1) c.requires.callable
+
+pub loop-lane-preserved : goal.loop-lane-preserved
+loop-lane-preserved g c =
+    let so_far = c.loop-lane.invariant in
+    let lanes = c.loop-lane.lanes in
+    let lane = c.in-Some.lane in
+    let given = c.in-Some.ensures.lane in
+    let stored = g.S.Data.stored c.args.storage.now in
+    let found = elements_at g.S.Data.stored (ranked c.args.places) c.args.storage.now in
+    let lies = lane_of c.args.places lanes lane so_far.0 given.0 in
+    let items = c.value_lane.new.items in (
+      go_on c.args.places lanes c.next.new.self so_far.0 c.in-Some.ensures.over,
+      subst (λ r. AnswersBehind (AnswersValue g.F.FnMut) found r [] items.items c.args.f c.in-Ok.later) (sym given.1)
+          (behind_then (AnswersValue g.F.FnMut) found (elements_at g.S.Data.stored (along lane) c.args.storage.now) lanes.rank lane.count (λ j below. ap (stored_at stored) (lies.places j below))
+          [] c.loop-lane.items.items items.items c.args.f c.loop-lane.now c.in-Ok.later so_far.1 c.in-Ok.ensures.pushed),
+      (let e = so_far.2 in let l = c.in-Ok.ensures.len in let n = given.1 in omega (arith, e, l, n)),
+      (let e = so_far.3 in let l = c.in-Ok.ensures.room in omega (arith, e, l)),
+    )
+
+pub returns-clause-answers : goal.returns-clause-answers
+returns-clause-answers g c =
+    let so_far = c.loop-lane.invariant in
+    let found = elements_at g.S.Data.stored (ranked c.args.places) c.args.storage.now in
+    subst (λ n. AnswersBehind (AnswersValue g.F.FnMut) found n [] c.loop-lane.items.items c.args.f c.loop-lane.now) (all_through c.args.places c.loop-lane.lanes so_far.0 c.in_default.ensures.lane.0) so_far.1

@@ -1,0 +1,12 @@
+use Rattle.std.specs.Prelude.{◌≡◌}
+use Rattle.nd_layout.specs.Lanes.{along}
+use Rattle.nd_elements.specs.ElementMut.{KeepsPlaces}
+use Rattle.nd_elements.specs.elements.Changes.{IsChangedBy}
+use Rattle.nd_elements.specs.elements.Maps.{AnswersValue, Replaces}
+use Rattle.nd_elements.proofs.elements.mapv_inplace.replace_lane.Given as goal
+
+abbrev pub invariant-loop-nth : goal.invariant-loop-nth
+invariant-loop-nth g l =
+    IsChangedBy (Replaces (AnswersValue g.F.FnMut)) (along l.fn.lane).place l.nth (g.S.Data.stored l.fn.storage) (g.S.Data.stored l.storage) l.fn.f l.f
+    × (g.S.DataMut.frame l.storage ≡ g.S.DataMut.frame l.fn.storage)
+    × KeepsPlaces (g.S.Data.stored l.fn.storage) (g.S.Data.stored l.storage)

@@ -1,0 +1,69 @@
+use Rattle.std.proofs.Common.{◌∙◌, ◌+◌, ◌<◌, sym, subst, arith}
+use Rattle.nd_layout.specs.Lanes.{along, ranked}
+use Rattle.nd_layout.proofs.LanesOf.{go_on, lane_of}
+use Rattle.nd_elements.specs.elements.Changes.{IsChangedBy}
+use Rattle.nd_elements.specs.elements.Maps.{AnswersValue, MayBeGiven, Replaces}
+use Rattle.nd_elements.proofs.Changed.{changed_then, still_there}
+use Rattle.nd_elements.proofs.Replaced.{replaced_takes}
+use Rattle.nd_elements.proofs.elements.mapv_inplace.replace_places.Goals as goal
+
+pub replace_lane-requires-clause-callable : goal.replace_lane-requires-clause-callable
+replace_lane-requires-clause-callable g c =
+    let so_far = c.loop-lane.invariant in
+    let lanes = c.loop-lane.lanes in
+    let lane = c.in-Some.lane in
+    let at = ranked c.args.places in
+    let lies = lane_of c.args.places lanes lane so_far.0 c.in-Some.ensures.lane.0 in
+    replaced_takes (AnswersValue g.F.FnMut) (MayBeGiven g.F.FnMut) at.place (along lane).place lanes.rank lane.count at.count lies.within c.requires.apart lies.places
+    (g.S.Data.stored c.args.storage.now) (g.S.Data.stored c.loop-lane.storage) c.args.f c.loop-lane.now so_far.1 c.requires.callable
+
+pub loop-lane-preserved : goal.loop-lane-preserved
+loop-lane-preserved g c =
+    let so_far = c.loop-lane.invariant in
+    let lanes = c.loop-lane.lanes in
+    let lane = c.in-Some.lane in
+    let at = ranked c.args.places in
+    let old = g.S.Data.stored c.args.storage.now in
+    let new = g.S.Data.stored c.replace_lane.new.storage in
+    let given = c.in-Some.ensures.lane in
+    let lies = lane_of c.args.places lanes lane so_far.0 given.0 in (
+      go_on c.args.places lanes c.next.new.self so_far.0 c.in-Some.ensures.over,
+      subst (λ r. IsChangedBy (Replaces (AnswersValue g.F.FnMut)) at.place r old new c.args.f c.in-Ok.later) (sym given.1)
+          (changed_then (Replaces (AnswersValue g.F.FnMut)) at.place (along lane).place lanes.rank lane.count at.count lies.within c.requires.apart lies.places
+          old (g.S.Data.stored c.loop-lane.storage) new c.args.f c.loop-lane.now c.in-Ok.later so_far.1 c.in-Ok.ensures.replaced),
+      c.replace_lane.ensures.frame ∙ so_far.2,
+      (λ p has. c.replace_lane.ensures.there p (so_far.3 p has)),
+    )
+
+pub returns-in-Err-clause-stopped : goal.returns-in-Err-clause-stopped
+returns-in-Err-clause-stopped g c =
+    let so_far = c.loop-lane.invariant in
+    let lanes = c.loop-lane.lanes in
+    let lane = c.in-Some.lane in
+    let at = ranked c.args.places in
+    let lies = lane_of c.args.places lanes lane so_far.0 c.in-Some.ensures.lane.0 in
+    let part = c.in-Err.ensures.stopped in
+    let k = part.0 in
+    let inner : k < lane.count = part.2 in
+    let within = lies.within in (
+      lanes.rank + k,
+      part.1,
+      omega (arith, within, inner),
+      changed_then (Replaces (AnswersValue g.F.FnMut)) at.place (along lane).place lanes.rank k at.count (omega (arith, within, inner)) c.requires.apart
+          (λ j under. lies.places j (omega (arith, under, inner)))
+          (g.S.Data.stored c.args.storage.now) (g.S.Data.stored c.loop-lane.storage) (g.S.Data.stored c.replace_lane.new.storage) c.args.f c.loop-lane.now part.1 so_far.1 part.3,
+    )
+
+pub returns-in-Err-clause-refused : goal.returns-in-Err-clause-refused
+returns-in-Err-clause-refused g c =
+    let so_far = c.loop-lane.invariant in
+    let lanes = c.loop-lane.lanes in
+    let lane = c.in-Some.lane in
+    let at = ranked c.args.places in
+    let now = g.S.Data.stored c.loop-lane.storage in
+    let lies = lane_of c.args.places lanes lane so_far.0 c.in-Some.ensures.lane.0 in
+    let refused = c.in-Err.ensures.refused in
+    let below = refused.2 in
+    let within = lies.within in
+    let still = still_there (Replaces (AnswersValue g.F.FnMut)) at.place (along lane).place lanes.rank lane.count at.count within c.requires.apart lies.places (g.S.Data.stored c.args.storage.now) now now c.args.f c.loop-lane.now c.loop-lane.now so_far.1 in
+    (lanes.rank + refused.0, refused.1, omega (arith, within, below), sym (still refused.0 below) ∙ refused.3, refused.4)

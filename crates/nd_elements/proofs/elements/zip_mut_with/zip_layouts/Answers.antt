@@ -1,0 +1,16 @@
+use Rattle.nd_layout.specs.Placements.{placement_of}
+use Rattle.nd_elements.proofs.ZippedHalves.{turned_zippable, turned_zipped}
+use Rattle.nd_elements.proofs.elements.zip_mut_with.zip_layouts.Goals as goal
+
+pub returns-then-not-is_worth_turning-clause-visits : goal.returns-then-not-is_worth_turning-clause-visits
+returns-then-not-is_worth_turning-clause-visits g c = (c.zip_in_order.result, c.zip_in_order.ensures.visits)
+
+pub zip_in_halves-requires-clause-callable : goal.zip_in_halves-requires-clause-callable
+zip_in_halves-requires-clause-callable g c =
+    let turned = c.turned_alike-turned in
+    turned_zippable g.F.FnMut (g.Z.Data.stored c.args.others.now) (placement_of c.args.layout.now) (placement_of c.args.beside.now) (placement_of turned.result.0) (placement_of turned.result.1) turned.ensures (g.S.Data.stored c.args.storage.now) c.args.f c.requires.callable
+
+pub returns-clause-visits : goal.returns-clause-visits
+returns-clause-visits g c =
+    let turned = c.turned_alike-turned in
+    (c.zip_in_halves.result, turned_zipped g.F.FnMut (g.Z.Data.stored c.args.others.now) (placement_of c.args.layout.now) (placement_of c.args.beside.now) (placement_of turned.result.0) (placement_of turned.result.1) turned.ensures (g.S.Data.stored c.args.storage.now) (g.S.Data.stored c.zip_in_halves.new.storage) c.args.f c.zip_in_halves.result c.zip_in_halves.ensures.visits)

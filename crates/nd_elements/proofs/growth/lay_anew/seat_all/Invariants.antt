@@ -1,0 +1,11 @@
+use Rattle.std.specs.Prelude.{vec_len}
+use Rattle.std.specs.Mem.Slots.{SamePlaces}
+use Rattle.nd_elements.specs.growth.Taken.{seated}
+use Rattle.nd_elements.proofs.Seats.{IsSeatedBehind}
+use Rattle.nd_elements.proofs.growth.lay_anew.seat_all.Given as goal
+
+abbrev pub invariant-loop-item : goal.invariant-loop-item
+invariant-loop-item g l = IsSeatedBehind l.marks l.fn.items.items l.items.items (seated l.seats) × SamePlaces l.fn.seats l.seats
+
+abbrev pub decreases-loop-item : goal.decreases-loop-item
+decreases-loop-item g l = vec_len l.items

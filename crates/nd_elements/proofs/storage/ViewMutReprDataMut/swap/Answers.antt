@@ -1,0 +1,9 @@
+use Rattle.std.proofs.Common.{◌∙◌, ap}
+use Rattle.nd_region.specs.Region.{region_stored}
+use Rattle.nd_region.proofs.Written.{swapped_map}
+use Rattle.nd_elements.proofs.storage.ViewMutReprDataMut.swap.Goals as goal
+
+pub returns-clause-new : goal.returns-clause-new
+returns-clause-new g c r =
+    let region = c.args.self.now.region in
+    ap (λ s. region_stored s r) c.swap.ensures ∙ swapped_map region.items region.held c.args.p c.args.q r c.requires.p c.requires.q

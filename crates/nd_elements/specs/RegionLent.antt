@@ -1,0 +1,7 @@
+-- What a storage in a region ends as, once a borrow of the region is over.
+use Rattle.std.specs.Borrow.{Fml, RattleType, MutBor, Lends}
+use Rattle.nd_elements.specs.contracts.storage.RegionRepr.{the_row}
+use Rattle.nd_elements.specs.declared.storage.RegionRepr.{RegionRepr}
+
+abbrev pub lends_region : (R : RattleType) → MutBor (RegionRepr R.Denot) → MutBor R.Denot → Fml
+lends_region R s r = Lends (the_row R) R s r (λ x. record { region = x; tie = s.now.tie })

@@ -1,0 +1,63 @@
+-- The lanes of an axis: the places that differ in its coordinate alone, by the place of the first of them.
+use Rattle.std.specs.Prelude.{◌≡◌, ◌+◌, ◌<◌, ℕ, ℤ, pos, ◌+ℤ◌, ◌*ℤ◌, true, List, Option, slice_index}
+use Rattle.nd_shape_and_slice.specs.Shape.{size_of}
+use Rattle.nd_shape_and_slice.specs.Maps.{indexed_index}
+use Rattle.nd_layout.specs.Placements.{Placement, IsStepOf}
+use Rattle.nd_layout.specs.Places.{is_place}
+use Rattle.nd_layout.specs.Walk.{place_at_rank}
+use Rattle.nd_layout.specs.declared.lanes.Lane.{Lane}
+use Rattle.nd_elements.specs.Places.{names_place}
+
+-- the place of the k-th of the lane whose first place has a rank in the outer layout
+abbrev pub lane_place : ℕ → List ℕ → List ℤ → ℤ → ℕ → ℕ → ℤ
+lane_place first lengths strides stride r k = place_at_rank first lengths strides r +ℤ (pos k *ℤ stride)
+
+-- all of them are places
+abbrev pub LanesReach : (ℕ → ℕ → ℤ) → ℕ → ℕ → Type 0
+LanesReach place lanes count = (r k : ℕ) → r < lanes → k < count → is_place (place r k) ≡ true
+
+-- no two of them are the same
+abbrev pub LanesDistinct : (ℕ → ℕ → ℤ) → ℕ → ℕ → Type 0
+LanesDistinct place lanes count = (r k q j : ℕ) → r < lanes → q < lanes → k < count → j < count → place r k ≡ place q j → (r ≡ q) × (k ≡ j)
+
+-- where an axis has a length, the second layout has the places of its coordinate 0
+abbrev pub IsFirstOfLanes : ℕ → Placement → Placement → Type 0
+IsFirstOfLanes axis old new = 0 < slice_index old.lengths axis → IsStepOf old new (indexed_index axis 0)
+
+-- a lane with the places of another
+abbrev pub LiesAs : Lane → Lane → Type 0
+LiesAs lane other = (lane.place ≡ other.place) × (lane.count ≡ other.count) × (lane.stride ≡ other.stride)
+
+-- so many lanes of so many places each, and where the k-th of the r-th lies
+pub record LanePlaces : Type 0 where
+  pub lanes : ℕ
+  pub count : ℕ
+  pub place : ℕ → ℕ → ℤ
+
+-- they begin at the places of a layout, and go on by a stride
+abbrev pub lanes_from : Placement → ℕ → ℤ → LanePlaces
+lanes_from firsts count stride = record { lanes = size_of firsts.lengths; count = count; place = lane_place firsts.offset firsts.lengths firsts.strides stride }
+
+-- the first is a lane, and each next one begins a place further
+abbrev pub lanes_beside : ℕ → Lane → LanePlaces
+lanes_beside lanes lane = record { lanes = lanes; count = lane.count; place = λ r k. pos (lane.place + r) +ℤ (pos k *ℤ lane.stride) }
+
+abbrev pub LanesLie : LanePlaces → Type 0
+LanesLie at = LanesReach at.place at.lanes at.count
+
+abbrev pub LanesDiffer : LanePlaces → Type 0
+LanesDiffer at = LanesDistinct at.place at.lanes at.count
+
+-- a storage holds an element at each of them
+abbrev pub LanesHold : {S A : Type 0} → (S → ℕ → Option A) → LanePlaces → S → Type 0
+LanesHold stored at s = (r k : ℕ) → r < at.lanes → k < at.count → names_place (stored s) (at.place r k) ≡ true
+
+-- numbers of so many lanes and coordinates, each pair once, in which the coordinates of a lane rise
+pub record IsPairing (lanes count all : ℕ) (lane column : ℕ → ℕ) (number : ℕ → ℕ → ℕ) : Type 0 where
+  pub lane_below : (m : ℕ) → m < all → lane m < lanes
+  pub column_below : (m : ℕ) → m < all → column m < count
+  pub is_number : (m : ℕ) → m < all → number (lane m) (column m) ≡ m
+  pub below : (r k : ℕ) → r < lanes → k < count → number r k < all
+  pub lane_is : (r k : ℕ) → r < lanes → k < count → lane (number r k) ≡ r
+  pub column_is : (r k : ℕ) → r < lanes → k < count → column (number r k) ≡ k
+  pub rises : (r k : ℕ) → r < lanes → k + 1 < count → number r k < number r (k + 1)

@@ -1,0 +1,24 @@
+-- Calls for the indexes of a shape, each once, in which every lane of an axis is gone along from its first index on.
+use Rattle.std.specs.Prelude.{◌≡◌, ◌+◌, ◌<◌, ℕ, true, List, [], ◌∷◌, ◌++◌, Some, slice_get, slice_index, slice_set}
+use Rattle.std.specs.List.{FoldsTo}
+use Rattle.nd_shape_and_slice.specs.Shape.{in_box}
+use Rattle.nd_elements.specs.FreeOrder.{ListsBox, ListsPartOfBox}
+
+-- the index behind one along the axis
+abbrev pub next_index : ℕ → List ℕ → List ℕ
+next_index a i = slice_set i a (slice_index i a + 1)
+
+-- each index of the list comes after the one before it along the axis
+abbrev pub RisesAlong : ℕ → List (List ℕ) → Type 0
+RisesAlong a listing = (m k : ℕ) (i : List ℕ) → slice_get listing m ≡ Some i → slice_index i a ≡ k + 1 → (j : ℕ) × (j < m) × (slice_get listing j ≡ Some (slice_set i a k))
+
+module _ {P : Type 0} (shape : List ℕ) (a : ℕ) where
+  -- one call for each index of the box, each lane in rising order, led from the first state to the last
+  abbrev pub VisitedAlong : (P → List ℕ → P → Type 0) → P → P → Type 0
+  VisitedAlong call first last = (listing : List (List ℕ)) × ListsBox shape listing × RisesAlong a listing × FoldsTo call first listing last
+
+  -- whichever indexes were visited so, the next call may be made; M is what the calls may have left
+  abbrev pub CallableAlong : {M : Type 0} → (M → Type 0) → (M → P → List ℕ → P → Type 0) → (M → P → List ℕ → Type 0) → P → Type 0
+  CallableAlong {M} starts call takes first =
+      (left : M) (before : List (List ℕ)) (now : P) (next : List ℕ) → starts left → in_box shape next ≡ true → ListsPartOfBox shape (next ∷ before)
+      → RisesAlong a (before ++ next ∷ []) → FoldsTo (call left) first before now → takes left now next

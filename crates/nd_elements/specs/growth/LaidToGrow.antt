@@ -1,0 +1,29 @@
+-- Owned elements that lie so that more can follow along an axis.
+use Rattle.std.specs.Prelude.{ℕ, ◌+◌, ◌≤◌, ◌≡◌, true, false, List, length, slice_get, ℤ}
+use Rattle.nd_shape_and_slice.specs.Shape.{size_of, in_box}
+use Rattle.nd_shape_and_slice.specs.Place.{place_of}
+use Rattle.nd_layout.specs.Growth.{growing_strides, must_move}
+use Rattle.nd_layout.specs.Placements.{Placement}
+use Rattle.nd_elements.specs.Places.{stored_at}
+use Rattle.nd_elements.specs.declared.storage.OwnedRepr.{OwnedRepr}
+use Rattle.nd_elements.specs.Storages.{stored_list, room_of}
+
+-- as fresh storage lies that is to grow along the axis, from place 0 on: it holds as many elements as the shape has
+-- indexes, and so many more find room
+abbrev pub IsLaidToGrow : {A : Type 0} → ℕ → ℕ → List ℕ → ℕ → List ℤ → OwnedRepr A → Type 0
+IsLaidToGrow axis more shape offset strides storage =
+    (offset ≡ 0)
+    × (strides ≡ growing_strides axis shape)
+    × (length (stored_list storage) ≡ size_of shape)
+    × (size_of shape + more ≤ room_of storage)
+    × (must_move shape strides axis ≡ false)
+
+-- the same of a layout, once another shape's elements lie in it
+abbrev pub IsLaidAnew : {A : Type 0} → ℕ → ℕ → Placement → Placement → OwnedRepr A → Type 0
+IsLaidAnew axis more old new storage = IsLaidToGrow axis more old.lengths new.offset new.strides storage
+
+-- each index of the one layout has its element in the other
+abbrev pub ShowsAlike : {A : Type 0} → OwnedRepr A → Placement → OwnedRepr A → Placement → Type 0
+ShowsAlike old from new to =
+    (i : List ℕ) → in_box from.lengths i ≡ true
+    → stored_at (slice_get (stored_list new)) (place_of to.offset to.strides i) ≡ stored_at (slice_get (stored_list old)) (place_of from.offset from.strides i)

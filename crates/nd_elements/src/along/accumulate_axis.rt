@@ -1,0 +1,158 @@
+//! A closure that goes along an axis and is shown the element before each.
+
+ghost use Rattle.std.specs.Prelude.{◌≡◌, ◌+◌, ◌<◌, IsSome};
+ghost use Rattle.nd_layout.specs.Lanes.{along};
+ghost use Rattle.nd_region.specs.Region.{region_stored};
+ghost use Rattle.nd_elements.specs.NumberedPlaces.{PlacesDiffer, Holds};
+ghost use Rattle.nd_elements.specs.along.AxisLanes.{LanesDiffer, LanesHold};
+ghost use Rattle.nd_elements.specs.along.LanesIn.{lanes_in};
+ghost use Rattle.nd_elements.specs.along.Accumulated.{TakesAfter, ChangesNext, TakesNext, LeavesAllBut, ChangedBetween, ChangedInside, AccumulatesLane, AccumulableLane, AccumulatesLanes, AccumulableLanes};
+
+use crate::along::accumulate_beside::accumulate_beside;
+use crate::along::axis_lanes::AxisLanes;
+use crate::along::first_places::lane_from;
+use crate::storage::DataMut;
+use nd_layout::{Lane, Walk};
+use nd_region::Region;
+use nd_shape_and_slice::{Dimension, StrideList};
+
+/// Shows the function the element at a place of one region, and hands it the one at a place of another, to be written.
+fn change_between<'b, A, F: FnMut(&A, &mut A)>(
+    one: Region<'b, A>,
+    p: usize,
+    mut other: Region<'b, A>,
+    q: usize,
+    mut f: F,
+) -> (Region<'b, A>, Region<'b, A>, F)
+    requires holds { IsSome (region_stored one p) × IsSome (region_stored other q) }
+    requires callable { TakesAfter F.FnMut (region_stored one p) (region_stored other q) f }
+    ensures { ChangedBetween F.FnMut one.entry p other.entry q f result }
+{
+    f(one.get(p), other.get_mut(q));
+    (one, other, f)
+}
+
+/// The same for two places of one region.
+fn change_inside<'b, A, F: FnMut(&A, &mut A)>(
+    mut region: Region<'b, A>,
+    p: usize,
+    q: usize,
+    f: F,
+) -> (Region<'b, A>, F)
+    requires apart { p ≡ q → ⊥ }
+    requires holds { IsSome (region_stored region p) × IsSome (region_stored region q) }
+    requires callable { TakesAfter F.FnMut (region_stored region p) (region_stored region q) f }
+    ensures { ChangedInside F.FnMut region.entry p q f result }
+{
+    let f = region.split_with(
+        p,
+        &[],
+        &[],
+        |one, others|
+            requires one { IsSome (region_stored one p) }
+            requires other { IsSome (region_stored others q) }
+            requires callable { TakesAfter F.FnMut (region_stored one p) (region_stored others q) f }
+            ensures { ChangedBetween F.FnMut one.entry p others.entry q f result }
+        { change_between(one, p, others, q, f) },
+    );
+    (region, f)
+}
+
+/// Shows the function the element of a lane with that number, and hands it the next one, to be written. It returns the
+/// function, as the call left it.
+fn change_after<S: DataMut, F: FnMut(&S::Elem, &mut S::Elem)>(
+    storage: &mut S,
+    lane: Lane,
+    nth: usize,
+    f: F,
+) -> F
+    requires within { nth + 1 < lane.count }
+    requires apart { PlacesDiffer (along lane) }
+    requires holds { Holds S.stored (along lane) storage.old }
+    requires callable { TakesNext F.FnMut S.stored (along lane) nth storage.old f }
+    ensures called { ChangesNext F.FnMut S.stored (along lane) nth storage.old storage.new f result }
+    ensures left { LeavesAllBut S.stored ((along lane).place (nth + 1)) storage.old storage.new }
+    ensures frame { S.frame storage.new ≡ S.frame storage.old }
+{
+    let from = lane.place_of(nth);
+    let to = lane.place_of(nth + 1);
+    storage.with_part(
+        from,
+        &[2],
+        &[lane.stride],
+        |region|
+            requires apart { from ≡ to → ⊥ }
+            requires holds { IsSome (region_stored region from) × IsSome (region_stored region to) }
+            requires callable { TakesAfter F.FnMut (region_stored region from) (region_stored region to) f }
+            ensures changed { ChangedInside F.FnMut region.entry from to f result }
+        { change_inside(region, from, to, f) },
+    )
+}
+
+/// Goes along a lane: shows the function each element but the last, and hands it the next one, to be written.
+fn accumulate_lane<S: DataMut, F: FnMut(&S::Elem, &mut S::Elem)>(
+    storage: &mut S,
+    lane: Lane,
+    f: F,
+) -> F
+    requires some { 0 < lane.count }
+    requires apart { PlacesDiffer (along lane) }
+    requires holds { Holds S.stored (along lane) storage.old }
+    requires callable { AccumulableLane F.FnMut S.stored (along lane) storage.old f }
+    ensures accumulated { AccumulatesLane F.FnMut S.stored (along lane) storage.old storage.new f result }
+    ensures frame { S.frame storage.new ≡ S.frame storage.old }
+{
+    let mut now = f;
+    for nth in 0..lane.count - 1 {
+        now = change_after(storage, lane, nth, now);
+    }
+    now
+}
+
+/// The same along one lane of an axis after the other.
+fn accumulate_in_turn<S: DataMut, F: FnMut(&S::Elem, &mut S::Elem)>(
+    storage: &mut S,
+    lanes: AxisLanes<'_>,
+    f: F,
+) -> F
+    requires some { 0 < lanes.count }
+    requires apart { LanesDiffer (lanes_in lanes) }
+    requires holds { LanesHold S.stored (lanes_in lanes) storage.old }
+    requires callable { AccumulableLanes F.FnMut S.stored (lanes_in lanes) storage.old f }
+    ensures accumulated { AccumulatesLanes F.FnMut S.stored (lanes_in lanes.entry) storage.old storage.new f result }
+    ensures frame { S.frame storage.new ≡ S.frame storage.old }
+{
+    let mut outer = Walk::new(
+        lanes.firsts.first,
+        lanes.firsts.lengths,
+        lanes.firsts.strides,
+    );
+    let mut now = f;
+    while let Some(place) = outer.place() {
+        now = accumulate_lane(storage, lane_from(place, lanes.count, lanes.stride), now);
+        outer.advance();
+    }
+    now
+}
+
+/// Goes along each lane of an axis from its second element on, with the element before: shows the function the one, and
+/// hands it the other, to be written. Where the lanes begin side by side they are gone along together, one coordinate
+/// after the other, and else one lane after the other.
+pub fn accumulate_lanes<S: DataMut, F: FnMut(&S::Elem, &mut S::Elem)>(
+    storage: &mut S,
+    lanes: AxisLanes<'_>,
+    f: F,
+) -> F
+    requires some { 0 < lanes.count }
+    requires apart { LanesDiffer (lanes_in lanes) }
+    requires holds { LanesHold S.stored (lanes_in lanes) storage.old }
+    requires callable { AccumulableLanes F.FnMut S.stored (lanes_in lanes) storage.old f }
+    ensures accumulated { AccumulatesLanes F.FnMut S.stored (lanes_in lanes.entry) storage.old storage.new f result }
+    ensures frame { S.frame storage.new ≡ S.frame storage.old }
+{
+    if lanes.are_beside() {
+        let lane = lane_from(lanes.firsts.first, lanes.count, lanes.stride);
+        return accumulate_beside(storage, lane, lanes.lanes, f);
+    }
+    accumulate_in_turn(storage, lanes, f)
+}

@@ -1,0 +1,61 @@
+//! The lanes of an axis as one value: what a loop over them goes by.
+
+ghost use Rattle.std.specs.Prelude.{◌≡◌, ◌<◌, ◌^◌, true};
+ghost use Rattle.nd_shape_and_slice.specs.Shape.{size_of};
+ghost use Rattle.nd_shape_and_slice.specs.Place.{span_of};
+ghost use Rattle.nd_elements.specs.along.AxisLanes.{lane_place, LanesReach};
+
+use nd_layout::{Layout, Places, is_standard};
+use nd_shape_and_slice::{Dimension, StrideList};
+
+/// From how many lanes on it is worth while to go along them together.
+const FEWEST: usize = 8;
+
+/// The lanes of an axis: each begins at a place of a layout, in row-major order, and has so many places, a stride apart.
+#[derive(Clone, Copy)]
+pub struct AxisLanes<'a> {
+    /// Where the lanes begin.
+    pub firsts: Places<'a>,
+    /// How many there are.
+    pub lanes: usize,
+    /// How many places each has.
+    pub count: usize,
+    pub stride: isize,
+    ghost many: { lanes ≡ size_of firsts.lengths.now },
+    ghost spread: { span_of firsts.lengths.now firsts.strides.now < 2 ^ 63 },
+    ghost short: { count < 2 ^ 63 },
+    ghost lie: { LanesReach (lane_place firsts.first firsts.lengths.now firsts.strides.now stride) (size_of firsts.lengths.now) count },
+}
+
+impl<'a> AxisLanes<'a> {
+    ghost use Rattle.nd_layout.specs.Placements.{placement_of};
+    ghost use Rattle.nd_layout.specs.Ranks.{IsStandard};
+    ghost use Rattle.nd_elements.specs.along.AxisLanes.{LanesLie, lanes_from};
+    ghost use Rattle.nd_elements.specs.along.LanesIn.{lanes_in};
+
+    /// The lanes that begin at the places of a layout.
+    pub fn new<D: Dimension, T: StrideList>(
+        firsts: &'a Layout<D, T>,
+        count: usize,
+        stride: isize,
+    ) -> Self
+        requires short { count < 2 ^ 63 }
+        requires lie { LanesLie (lanes_from (placement_of firsts.now) count stride) }
+        ensures { lanes_in result ≡ lanes_from (placement_of firsts.now) count stride }
+    {
+        AxisLanes {
+            firsts: firsts.places(),
+            lanes: firsts.dim.size(),
+            count,
+            stride,
+        }
+    }
+
+    /// Whether one begins beside the other, and there are enough for going along them together.
+    pub fn are_beside(&self) -> bool
+        ensures some { result ≡ true → 0 < self.now.lanes }
+        ensures standard { result ≡ true → IsStandard self.now.firsts.lengths.now self.now.firsts.strides.now }
+    {
+        self.lanes >= FEWEST && is_standard(self.firsts.lengths, self.firsts.strides)
+    }
+}

@@ -1,0 +1,42 @@
+//! The lanes of an axis.
+
+ghost use Rattle.std.specs.Prelude.{◌≡◌, ◌<◌, ◌^◌, ◌+ℤ◌, ◌*ℤ◌, ℕ, true, pos, length};
+ghost use Rattle.nd_shape_and_slice.specs.Maps.{indexed_shape};
+ghost use Rattle.nd_layout.specs.Places.{is_place};
+ghost use Rattle.nd_layout.specs.Placements.{placement_of};
+ghost use Rattle.nd_elements.specs.along.AxisLanes.{IsFirstOfLanes};
+
+use nd_layout::{Lane, Layout};
+use nd_shape_and_slice::{Axis, Dimension, Order, RemoveAxis, StrideList};
+
+/// That many places from one on, a stride apart.
+#[inline]
+#[tactic(auto, using(crate::proofs::AxisLanes::lane_starts))]
+pub fn lane_from(place: usize, count: usize, stride: isize) -> Lane
+    requires few { count < 2 ^ 63 }
+    requires reach { (k : ℕ) → k < count → is_place (pos place +ℤ (pos k *ℤ stride)) ≡ true }
+    ensures lane { (result.place ≡ place) × (result.count ≡ count) × (result.stride ≡ stride) }
+{
+    Lane {
+        place,
+        count,
+        stride,
+    }
+}
+
+/// A layout of the first places of an axis' lanes, by the indexes of the other axes; of none where the axis has length 0.
+pub fn first_places<D: RemoveAxis, T: StrideList>(
+    layout: &Layout<D, T>,
+    axis: Axis,
+) -> Layout<D::Smaller, <D::Smaller as Dimension>::Strides>
+where
+    D::Smaller: Dimension,
+    requires axis { axis.0 < length (D.lengths layout.now.dim) }
+    ensures lengths { D.Smaller.lengths result.dim ≡ indexed_shape (D.lengths layout.now.dim) axis.0 }
+    ensures step { IsFirstOfLanes axis.0 (placement_of layout.now) (placement_of result) }
+{
+    if layout.dim.length(axis.0) > 0 {
+        return layout.index_axis(axis.0, 0);
+    }
+    Layout::in_order(layout.dim.remove_axis(axis), Order::RowMajor)
+}

@@ -1,0 +1,104 @@
+//! The lanes of an axis, each folded into a value.
+
+ghost use Rattle.std.specs.Prelude.{◌≡◌, ◌<◌, ◌≤◌, [], IfOk, OnErr, vec_len, vec_capacity};
+ghost use Rattle.nd_layout.specs.Lanes.{along};
+ghost use Rattle.nd_elements.specs.Clones.{ClonesAreEqual};
+ghost use Rattle.nd_elements.specs.NumberedPlaces.{Holds, elements_at};
+ghost use Rattle.nd_elements.specs.along.AxisLanes.{LanesHold};
+ghost use Rattle.nd_elements.specs.along.LanesIn.{lanes_in};
+ghost use Rattle.nd_elements.specs.along.LanesFolded.{FoldsRun, TakesRun, LanesFoldable, LanesFoldedTo};
+
+use crate::along::axis_lanes::AxisLanes;
+use crate::along::first_places::lane_from;
+use crate::along::fold_beside::{clones_in, fold_beside};
+use crate::storage::Data;
+use nd_layout::{Lane, Walk};
+use nd_shape_and_slice::{Dimension, NoMemory, StrideList};
+
+/// Folds the elements of a lane, one after the other. It returns the function too, as the calls left it.
+#[inline(always)]
+fn fold_shown<S: Data, B: Drop, F: FnMut(&B, &S::Elem) -> B>(
+    storage: &S,
+    lane: Lane,
+    init: B,
+    mut f: F,
+) -> (F, B)
+    requires holds { Holds S.stored (along lane) storage.now }
+    requires callable { TakesRun F.FnMut (elements_at S.stored (along lane) storage.now) lane.count init f }
+    ensures ran { FoldsRun F.FnMut (elements_at S.stored (along lane) storage.now) lane.count init f result.1 result.0 }
+{
+    let mut total = init;
+    for nth in 0..lane.count {
+        total = f(&total, storage.element(lane.place_of(nth)));
+    }
+    (f, total)
+}
+
+/// What each lane of an axis is folded to, one lane after the other.
+fn fold_in_turn<S: Data, B: Clone + Drop, F: FnMut(&B, &S::Elem) -> B>(
+    room: Vec<B>,
+    storage: &S,
+    lanes: AxisLanes<'_>,
+    init: &B,
+    f: F,
+) -> Result<Vec<B>, NoMemory>
+    requires holds { LanesHold S.stored (lanes_in lanes) storage.now }
+    requires empty { (room.items ≡ []) × (vec_len room ≡ 0) }
+    requires room { lanes.lanes ≤ vec_capacity room }
+    requires clones { ClonesAreEqual B.is_clone init.now }
+    requires callable { LanesFoldable F.FnMut S.stored (lanes_in lanes) storage.now init.now f }
+    ensures count { IfOk result (λ v. vec_len v ≡ lanes.entry.lanes) }
+    ensures folds { IfOk result (LanesFoldedTo F.FnMut S.stored (lanes_in lanes.entry) storage.now init.now f) }
+    ensures refused { OnErr result (0 < lanes.entry.lanes) }
+{
+    let mut walk = Walk::new(
+        lanes.firsts.first,
+        lanes.firsts.lengths,
+        lanes.firsts.strides,
+    );
+    let mut items = room;
+    let mut now = f;
+    while let Some(place) = walk.place() {
+        let start = match init.clone() {
+            Ok(start) => start,
+            Err(_) => return Err(NoMemory),
+        };
+        let (after, total) = fold_shown(
+            storage,
+            lane_from(place, lanes.count, lanes.stride),
+            start,
+            now,
+        );
+        items.push_reserved(total);
+        now = after;
+        walk.advance();
+    }
+    Ok(items)
+}
+
+/// What each lane of an axis is folded to, in row-major order of the places where they begin: from a clone of the first
+/// value on the function is shown the total so far and each element. Where the lanes begin side by side they are folded
+/// together, one coordinate after the other, and else one lane after the other. NoMemory if a clone is refused.
+pub fn fold_lanes<S: Data, B: Clone + Drop, F: FnMut(&B, &S::Elem) -> B>(
+    room: Vec<B>,
+    storage: &S,
+    lanes: AxisLanes<'_>,
+    init: &B,
+    f: F,
+) -> Result<Vec<B>, NoMemory>
+    requires holds { LanesHold S.stored (lanes_in lanes) storage.now }
+    requires empty { (room.items ≡ []) × (vec_len room ≡ 0) }
+    requires room { lanes.lanes ≤ vec_capacity room }
+    requires clones { ClonesAreEqual B.is_clone init.now }
+    requires callable { LanesFoldable F.FnMut S.stored (lanes_in lanes) storage.now init.now f }
+    ensures count { IfOk result (λ v. vec_len v ≡ lanes.entry.lanes) }
+    ensures folds { IfOk result (LanesFoldedTo F.FnMut S.stored (lanes_in lanes.entry) storage.now init.now f) }
+    ensures refused { OnErr result (0 < lanes.entry.lanes) }
+{
+    if lanes.are_beside() {
+        let starts = clones_in(room, init, lanes.lanes)?;
+        let lane = lane_from(lanes.firsts.first, lanes.count, lanes.stride);
+        return Ok(fold_beside(starts, storage, lane, f));
+    }
+    fold_in_turn(room, storage, lanes, init, f)
+}

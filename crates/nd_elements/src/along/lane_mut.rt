@@ -1,0 +1,64 @@
+//! A lane of an array, as it is handed to a closure to be written.
+#![tactic(auto, unfolding(crate::specs::along::LanesWritten::lane_held, crate::specs::along::LanesWritten::lane_len))]
+
+ghost use Rattle.std.specs.Prelude.{◌≡◌, ◌<◌, ℕ, true, is_some, Some, [], ◌∷◌, pos, nat_eq, ◌+ℤ◌, ◌*ℤ◌, if◌then◌else◌};
+ghost use Rattle.nd_region.specs.Region.{region_stored};
+ghost use Rattle.nd_elements.specs.Collected.{stored_along};
+ghost use Rattle.nd_elements.specs.elements.Changes.{AreDistinct};
+
+use nd_layout::Lane;
+use nd_region::Region;
+
+/// A lane of an array while it is handed to a closure, which may read and write its elements by their numbers.
+#[derive(Drop)]
+pub struct LaneMut<'a, A> {
+    pub(crate) region: Region<'a, A>,
+    pub(crate) lane: Lane,
+    ghost holds: { (k : ℕ) → k < lane.count → is_some (stored_along (region_stored region) lane.place lane.stride k) ≡ true },
+    ghost apart: { AreDistinct (λ k. pos lane.place +ℤ (pos k *ℤ lane.stride)) lane.count },
+}
+
+impl<'a, A> LaneMut<'a, A> {
+    ghost use Rattle.nd_layout.specs.Lanes.{along};
+    ghost use Rattle.nd_elements.specs.NumberedPlaces.{PlacesDiffer, Holds};
+    ghost use Rattle.nd_elements.specs.along.AxisLanes.{LiesAs};
+    ghost use Rattle.nd_elements.specs.along.LanesWritten.{lane_held, lane_len, held_at, IsSameLane};
+
+    /// The places of a region along a lane.
+    pub(crate) fn over(region: Region<'a, A>, lane: Lane) -> Self
+        requires holds { Holds region_stored (along lane) region }
+        requires apart { PlacesDiffer (along lane) }
+        ensures region { result.region ≡ region.entry }
+        ensures lane { LiesAs result.lane lane }
+    {
+        LaneMut { region, lane }
+    }
+
+    /// How many elements it has.
+    pub fn len(&self) -> usize
+        ensures count { lane_len self.now ≡ result }
+        ensures shape { (lane_held self.now).shape ≡ result ∷ [] }
+    {
+        self.lane.count
+    }
+
+    /// The element of that number.
+    pub fn element(&self, nth: usize) -> &A
+        requires within { nth < lane_len self.now }
+        ensures value { held_at self.now nth ≡ Some result.now }
+    {
+        self.region.get(self.lane.place_of(nth))
+    }
+
+    /// Writes the element of that number, and returns the old one.
+    pub fn replace(&mut self, nth: usize, value: A) -> A
+        requires within { nth < lane_len self.old }
+        ensures old { held_at self.old nth ≡ Some result }
+        ensures new { (k : ℕ) → held_at self.new k ≡ (if nat_eq k nth then Some value else held_at self.old k) }
+        ensures count { lane_len self.new ≡ lane_len self.old }
+        ensures same { IsSameLane self.old self.new }
+    {
+        let place = self.lane.place_of(nth);
+        self.region.replace(place, value)
+    }
+}

@@ -1,0 +1,46 @@
+//! One coordinate of an axis taken out.
+
+ghost use Rattle.std.specs.Prelude.{◌≡◌, ◌<◌};
+ghost use Rattle.nd_layout.specs.Lanes.{along};
+ghost use Rattle.nd_elements.specs.NumberedPlaces.{PlacesDiffer, Holds};
+ghost use Rattle.nd_elements.specs.along.AxisLanes.{LanesDiffer, LanesHold};
+ghost use Rattle.nd_elements.specs.along.LanesIn.{lanes_in};
+ghost use Rattle.nd_elements.specs.along.Removed.{RotatesPlaces, RotatesLanes};
+
+use crate::along::axis_lanes::AxisLanes;
+use crate::along::first_places::lane_from;
+use crate::storage::DataMut;
+use nd_layout::{Lane, Walk};
+use nd_shape_and_slice::{Dimension, StrideList};
+
+/// Moves the elements of a lane that come after one towards the front, each by one place; that one goes to the end.
+fn rotate_lane<S: DataMut>(storage: &mut S, lane: Lane, from: usize)
+    requires from { from < lane.count }
+    requires apart { PlacesDiffer (along lane) }
+    requires holds { Holds S.stored (along lane) storage.old }
+    ensures moved { RotatesPlaces S.stored (along lane) from storage.old storage.new }
+    ensures frame { S.frame storage.new ≡ S.frame storage.old }
+{
+    for nth in from..lane.count - 1 {
+        storage.swap(lane.place_of(nth), lane.place_of(nth + 1));
+    }
+}
+
+/// Moves the element at a coordinate behind the others in each lane of an axis.
+pub fn rotate_lanes<S: DataMut>(storage: &mut S, lanes: AxisLanes<'_>, from: usize)
+    requires from { from < lanes.count }
+    requires apart { LanesDiffer (lanes_in lanes) }
+    requires holds { LanesHold S.stored (lanes_in lanes) storage.old }
+    ensures moved { RotatesLanes S.stored (lanes_in lanes.entry) from storage.old storage.new }
+    ensures frame { S.frame storage.new ≡ S.frame storage.old }
+{
+    let mut outer = Walk::new(
+        lanes.firsts.first,
+        lanes.firsts.lengths,
+        lanes.firsts.strides,
+    );
+    while let Some(place) = outer.place() {
+        rotate_lane(storage, lane_from(place, lanes.count, lanes.stride), from);
+        outer.advance();
+    }
+}

@@ -1,0 +1,277 @@
+//! Clones of the elements of one storage written over those of another.
+
+ghost use Rattle.std.specs.Prelude.{◌≡◌, ◌<◌, OnOk, OnErr, pos, length, slice_get};
+ghost use Rattle.nd_layout.specs.Lanes.{along, ranked};
+ghost use Rattle.nd_layout.specs.Placements.{placement_of, KeepsApart};
+ghost use Rattle.nd_elements.specs.ByLayout.{shown, HoldsShown, LeavesOthers, ShowsSame, ShowsOldOr};
+ghost use Rattle.nd_elements.specs.CloneRefusals.{MayRefuseBelow, MayRefuseClone};
+ghost use Rattle.nd_elements.specs.Clones.{ClonesOfAllAreEqual, StoredClonesAreEqual};
+ghost use Rattle.nd_elements.specs.NumberedPlaces.{in_turn, Holds, PlacesDiffer, ClonesAreEqualAt, MayRefuseAt};
+ghost use Rattle.nd_elements.specs.elements.Assigns.{AssignsAt, AssignsAlong, Assigns};
+
+use crate::storage::{Data, DataMut};
+use nd_layout::{Lane, Layout, Places, halved_alike, is_worth_turning, turned_alike};
+use nd_shape_and_slice::{Dimension, NoMemory, StrideList};
+
+/// Writes clones of the elements along a second lane at the places of a lane.
+#[inline(always)]
+fn assign_along<A: Clone + Drop, S: DataMut<Elem = A>, Z: Data<Elem = A>>(
+    storage: &mut S,
+    lane: Lane,
+    others: &Z,
+    beside: Lane,
+) -> Result<(), NoMemory>
+    requires as_long { beside.count ≡ lane.count }
+    requires apart { PlacesDiffer (along lane) }
+    requires holds { Holds S.stored (along lane) storage.old }
+    requires others_hold { Holds Z.stored (along beside) others.now }
+    requires clones { ClonesAreEqualAt A.is_clone Z.stored (along beside) others.now }
+    ensures outcome { AssignsAlong S.stored Z.stored lane beside others.now storage.old storage.new result }
+    ensures refused { OnErr result (MayRefuseAt A.is_infallible Z.stored (along beside) others.now) }
+    ensures frame { S.frame storage.new ≡ S.frame storage.old }
+{
+    for nth in 0..lane.count {
+        let other = others.element(beside.place_of(nth));
+        match other.clone() {
+            Ok(copy) => {
+                storage.replace(lane.place_of(nth), copy);
+            }
+            Err(_) => return Err(NoMemory),
+        }
+    }
+    Ok(())
+}
+
+/// The same of two slices.
+fn assign_run<A: Clone + Drop>(xs: &mut [A], ys: &[A]) -> Result<(), NoMemory>
+    requires as_long { length ys.now ≡ length xs.old }
+    requires clones { StoredClonesAreEqual A.is_clone ys.now }
+    ensures outcome { AssignsAt slice_get slice_get (in_turn xs.old) (in_turn ys.now) ys.now xs.old xs.new result }
+    ensures refused { OnErr result (MayRefuseBelow A.is_infallible (slice_get ys.now) (length ys.now)) }
+    ensures long { length xs.new ≡ length xs.old }
+{
+    for nth in 0..ys.len() {
+        match ys[nth].clone() {
+            Ok(copy) => xs[nth] = copy,
+            Err(_) => return Err(NoMemory),
+        }
+    }
+    Ok(())
+}
+
+/// The same of lanes whose elements lie side by side, as slices: what a write may not change isn't read anew for each.
+fn assign_beside<A: Clone + Drop, S: DataMut<Elem = A>, Z: Data<Elem = A>>(
+    storage: &mut S,
+    lane: Lane,
+    others: &Z,
+    beside: Lane,
+) -> Result<(), NoMemory>
+    requires some { 0 < lane.count }
+    requires steps { (lane.stride ≡ pos 1) × (beside.stride ≡ pos 1) }
+    requires as_long { beside.count ≡ lane.count }
+    requires holds { Holds S.stored (along lane) storage.old }
+    requires others_hold { Holds Z.stored (along beside) others.now }
+    requires clones { ClonesAreEqualAt A.is_clone Z.stored (along beside) others.now }
+    ensures outcome { AssignsAlong S.stored Z.stored lane beside others.now storage.old storage.new result }
+    ensures refused { OnErr result (MayRefuseAt A.is_infallible Z.stored (along beside) others.now) }
+    ensures frame { S.frame storage.new ≡ S.frame storage.old }
+{
+    let ys = others.borrowed().run(beside.place, beside.count);
+    assign_run(storage.lend_run(lane.place, lane.count), ys)
+}
+
+/// Writes clones of the elements along a lane at those of a slice, one after the other.
+#[inline(always)]
+fn assign_into<A: Clone + Drop, Z: Data<Elem = A>>(
+    xs: &mut [A],
+    others: &Z,
+    beside: Lane,
+) -> Result<(), NoMemory>
+    requires as_long { beside.count ≡ length xs.old }
+    requires others_hold { Holds Z.stored (along beside) others.now }
+    requires clones { ClonesAreEqualAt A.is_clone Z.stored (along beside) others.now }
+    ensures outcome { AssignsAt slice_get Z.stored (in_turn xs.old) (along beside) others.now xs.old xs.new result }
+    ensures refused { OnErr result (MayRefuseAt A.is_infallible Z.stored (along beside) others.now) }
+    ensures long { length xs.new ≡ length xs.old }
+{
+    for nth in 0..beside.count {
+        let other = others.element(beside.place_of(nth));
+        match other.clone() {
+            Ok(copy) => xs[nth] = copy,
+            Err(_) => return Err(NoMemory),
+        }
+    }
+    Ok(())
+}
+
+/// The same of a lane whose elements lie side by side, as a slice: a write can't change where it begins.
+fn assign_aside<A: Clone + Drop, S: DataMut<Elem = A>, Z: Data<Elem = A>>(
+    storage: &mut S,
+    lane: Lane,
+    others: &Z,
+    beside: Lane,
+) -> Result<(), NoMemory>
+    requires some { 0 < lane.count }
+    requires step { lane.stride ≡ pos 1 }
+    requires as_long { beside.count ≡ lane.count }
+    requires holds { Holds S.stored (along lane) storage.old }
+    requires others_hold { Holds Z.stored (along beside) others.now }
+    requires clones { ClonesAreEqualAt A.is_clone Z.stored (along beside) others.now }
+    ensures outcome { AssignsAlong S.stored Z.stored lane beside others.now storage.old storage.new result }
+    ensures refused { OnErr result (MayRefuseAt A.is_infallible Z.stored (along beside) others.now) }
+    ensures frame { S.frame storage.new ≡ S.frame storage.old }
+{
+    assign_into(storage.lend_run(lane.place, lane.count), others, beside)
+}
+
+/// The same of any lanes.
+fn assign_lane<A: Clone + Drop, S: DataMut<Elem = A>, Z: Data<Elem = A>>(
+    storage: &mut S,
+    lane: Lane,
+    others: &Z,
+    beside: Lane,
+) -> Result<(), NoMemory>
+    requires as_long { beside.count ≡ lane.count }
+    requires apart { PlacesDiffer (along lane) }
+    requires holds { Holds S.stored (along lane) storage.old }
+    requires others_hold { Holds Z.stored (along beside) others.now }
+    requires clones { ClonesAreEqualAt A.is_clone Z.stored (along beside) others.now }
+    ensures outcome { AssignsAlong S.stored Z.stored lane beside others.now storage.old storage.new result }
+    ensures refused { OnErr result (MayRefuseAt A.is_infallible Z.stored (along beside) others.now) }
+    ensures frame { S.frame storage.new ≡ S.frame storage.old }
+{
+    if lane.count == 0 || lane.stride != 1 {
+        return assign_along(storage, lane, &others.borrowed(), beside);
+    }
+    if beside.stride == 1 {
+        return assign_beside(storage, lane, others, beside);
+    }
+    assign_aside(storage, lane, &others.borrowed(), beside)
+}
+
+/// Writes at the place of each index of a layout a clone of the element that a second storage has at the place of that index
+/// under a layout of its own.
+fn assign_places<A: Clone + Drop, S: DataMut<Elem = A>, Z: Data<Elem = A>>(
+    storage: &mut S,
+    places: Places<'_>,
+    others: &Z,
+    beside: Places<'_>,
+) -> Result<(), NoMemory>
+    requires alike { beside.lengths.now ≡ places.lengths.now }
+    requires apart { PlacesDiffer (ranked places) }
+    requires holds { Holds S.stored (ranked places) storage.old }
+    requires others_hold { Holds Z.stored (ranked beside) others.now }
+    requires clones { ClonesAreEqualAt A.is_clone Z.stored (ranked beside) others.now }
+    ensures outcome { Assigns S.stored Z.stored places.entry beside.entry others.now storage.old storage.new result }
+    ensures refused { OnErr result (MayRefuseAt A.is_infallible Z.stored (ranked beside.entry) others.now) }
+    ensures frame { S.frame storage.new ≡ S.frame storage.old }
+{
+    let mut ours = places.lanes();
+    let mut theirs = beside.lanes();
+    while let Some(lane) = ours.next() {
+        match theirs.next() {
+            Some(aside) => match assign_lane(storage, lane, others, aside) {
+                Ok(()) => {}
+                Err(refused) => return Err(refused),
+            },
+            None => unreachable!(),
+        }
+    }
+    Ok(())
+}
+
+/// Writes at each index of a layout a clone of the element that a second storage has there under a layout of its own, in
+/// row-major order.
+fn assign_in_order<A, S, Z, D, T>(
+    storage: &mut S,
+    layout: &Layout<D, T>,
+    others: &Z,
+    beside: &Layout<D, T>,
+) -> Result<(), NoMemory>
+where
+    A: Clone + Drop,
+    S: DataMut<Elem = A>,
+    Z: Data<Elem = A>,
+    D: Dimension,
+    T: StrideList,
+    requires alike { D.lengths beside.now.dim ≡ D.lengths layout.now.dim }
+    requires apart { KeepsApart (placement_of layout.now) }
+    requires holds { HoldsShown S.stored storage.old layout.now }
+    requires others_hold { HoldsShown Z.stored others.now beside.now }
+    requires clones { ClonesOfAllAreEqual A.is_clone (shown Z.stored others.now beside.now) }
+    ensures assigned { OnOk result (ShowsSame S.stored Z.stored storage.new layout.now others.now beside.now) }
+    ensures stopped { OnErr result (ShowsOldOr S.stored Z.stored storage.old storage.new layout.now others.now beside.now) }
+    ensures refused { OnErr result (MayRefuseClone A.is_infallible (shown Z.stored others.now beside.now)) }
+    ensures holds { HoldsShown S.stored storage.new layout.now }
+    ensures others { LeavesOthers S.stored layout.now storage.old storage.new }
+    ensures frame { S.frame storage.new ≡ S.frame storage.old }
+{
+    assign_places(storage, layout.places(), others, beside.places())
+}
+
+/// The same in halves, one after the other, where long lanes go across the order of the second storage's elements.
+fn assign_in_halves<A, S, Z, D, T>(
+    storage: &mut S,
+    layout: &Layout<D, T>,
+    others: &Z,
+    beside: &Layout<D, T>,
+) -> Result<(), NoMemory>
+where
+    A: Clone + Drop,
+    S: DataMut<Elem = A>,
+    Z: Data<Elem = A>,
+    D: Dimension,
+    T: StrideList,
+    requires alike { D.lengths beside.now.dim ≡ D.lengths layout.now.dim }
+    requires apart { KeepsApart (placement_of layout.now) }
+    requires holds { HoldsShown S.stored storage.old layout.now }
+    requires others_hold { HoldsShown Z.stored others.now beside.now }
+    requires clones { ClonesOfAllAreEqual A.is_clone (shown Z.stored others.now beside.now) }
+    ensures assigned { OnOk result (ShowsSame S.stored Z.stored storage.new layout.now others.now beside.now) }
+    ensures stopped { OnErr result (ShowsOldOr S.stored Z.stored storage.old storage.new layout.now others.now beside.now) }
+    ensures refused { OnErr result (MayRefuseClone A.is_infallible (shown Z.stored others.now beside.now)) }
+    ensures holds { HoldsShown S.stored storage.new layout.now }
+    ensures others { LeavesOthers S.stored layout.now storage.old storage.new }
+    ensures frame { S.frame storage.new ≡ S.frame storage.old }
+{
+    let Some(halves) = halved_alike(layout, beside) else {
+        return assign_in_order(storage, layout, others, beside);
+    };
+    match assign_in_halves(storage, &halves.lower, others, &halves.lower_beside) {
+        Ok(()) => assign_in_halves(storage, &halves.upper, others, &halves.upper_beside),
+        Err(refused) => Err(refused),
+    }
+}
+
+/// The same in an order that goes along memory: where that pays, the axes of both layouts are turned alike before, and both
+/// are cut in halves.
+pub fn assign_layouts<A, S, Z, D, T>(
+    storage: &mut S,
+    layout: &Layout<D, T>,
+    others: &Z,
+    beside: &Layout<D, T>,
+) -> Result<(), NoMemory>
+where
+    A: Clone + Drop,
+    S: DataMut<Elem = A>,
+    Z: Data<Elem = A>,
+    D: Dimension,
+    T: StrideList,
+    requires alike { D.lengths beside.now.dim ≡ D.lengths layout.now.dim }
+    requires apart { KeepsApart (placement_of layout.now) }
+    requires holds { HoldsShown S.stored storage.old layout.now }
+    requires others_hold { HoldsShown Z.stored others.now beside.now }
+    requires clones { ClonesOfAllAreEqual A.is_clone (shown Z.stored others.now beside.now) }
+    ensures assigned { OnOk result (ShowsSame S.stored Z.stored storage.new layout.now others.now beside.now) }
+    ensures stopped { OnErr result (ShowsOldOr S.stored Z.stored storage.old storage.new layout.now others.now beside.now) }
+    ensures refused { OnErr result (MayRefuseClone A.is_infallible (shown Z.stored others.now beside.now)) }
+    ensures holds { HoldsShown S.stored storage.new layout.now }
+    ensures others { LeavesOthers S.stored layout.now storage.old storage.new }
+    ensures frame { S.frame storage.new ≡ S.frame storage.old }
+{
+    if !is_worth_turning(layout, beside) {
+        return assign_in_order(storage, layout, others, beside);
+    }
+    let (turned, other) = turned_alike(layout, beside);
+    assign_in_halves(storage, &turned, others, &other)
+}

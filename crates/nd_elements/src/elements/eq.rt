@@ -1,0 +1,154 @@
+//! Whether the elements of two storages are equal, index by index.
+
+ghost use Rattle.std.specs.Prelude.{◌≡◌, ◌+◌, ◌≤◌, length};
+ghost use Rattle.std.specs.Cmp.Lexicographic.{pointwise};
+ghost use Rattle.nd_layout.specs.Lanes.{along};
+ghost use Rattle.nd_elements.specs.ByLayout.{listed_by, HoldsShown};
+ghost use Rattle.nd_elements.specs.NumberedPlaces.{Holds, equal_from, equal_along};
+
+use crate::storage::Data;
+use nd_layout::{Lane, Lanes, Layout, halved_alike, is_worth_turning, turned_alike};
+use nd_shape_and_slice::{Dimension, StrideList};
+
+/// How many elements are compared between two tests whether to go on.
+const BLOCK: usize = 64;
+
+/// Whether the items of two blocks are equal.
+fn blocks_equal<A: PartialEq>(xs: &[A], ys: &[A]) -> bool
+    requires { (length xs.now ≡ 64) × (length ys.now ≡ 64) }
+    ensures { result ≡ pointwise A.eq xs.now ys.now }
+{
+    let mut same = true;
+    for nth in 0..BLOCK {
+        same = same & xs[nth].eq(&ys[nth]);
+    }
+    same
+}
+
+/// Whether the items of two slices of one length are equal.
+pub fn slices_equal<A: PartialEq>(xs: &[A], ys: &[A]) -> bool
+    requires { length ys.now ≡ length xs.now }
+    ensures { result ≡ pointwise A.eq xs.now ys.now }
+{
+    let (mut ours, mut theirs) = (xs, ys);
+    while ours.len() >= BLOCK {
+        let (block, rest) = ours.split_at(BLOCK);
+        let (other, others) = theirs.split_at(BLOCK);
+        if !blocks_equal(block, other) {
+            return false;
+        }
+        (ours, theirs) = (rest, others);
+    }
+    ours == theirs
+}
+
+/// Whether that many elements along two lanes are equal, from a number on.
+fn block_equal<S: Data>(a: &S, ours: Lane, b: &S, theirs: Lane, from: usize, count: usize) -> bool
+where
+    S::Elem: PartialEq,
+    requires within { (from + count ≤ ours.count) × (from + count ≤ theirs.count) }
+    requires ours { Holds S.stored (along ours) a.now }
+    requires theirs { Holds S.stored (along theirs) b.now }
+    ensures { result ≡ equal_from S.Elem.eq S.stored from count a.now ours b.now theirs }
+{
+    let mut same = true;
+    for nth in 0..count {
+        let x = a.element(ours.place_of(from + nth));
+        let y = b.element(theirs.place_of(from + nth));
+        same = same & x.eq(y);
+    }
+    same
+}
+
+/// Whether the elements along two lanes are equal.
+fn lanes_equal<S: Data>(a: &S, ours: Lane, b: &S, theirs: Lane) -> bool
+where
+    S::Elem: PartialEq,
+    requires as_long { theirs.count ≡ ours.count }
+    requires ours { Holds S.stored (along ours) a.now }
+    requires theirs { Holds S.stored (along theirs) b.now }
+    ensures { result ≡ equal_along S.Elem.eq S.stored a.now ours b.now theirs }
+{
+    let mut from = 0;
+    while from < ours.count {
+        let count = (ours.count - from).min(BLOCK);
+        if !block_equal(a, ours, b, theirs, from, count) {
+            return false;
+        }
+        from += count;
+    }
+    true
+}
+
+/// Whether the elements at each index of two layouts are equal, lane by lane in row-major order.
+fn equal_in_order<S: Data, D: Dimension, T: StrideList>(
+    a: &S,
+    ours: &Layout<D, T>,
+    b: &S,
+    theirs: &Layout<D, T>,
+) -> bool
+where
+    S::Elem: PartialEq,
+    requires alike { D.lengths theirs.now.dim ≡ D.lengths ours.now.dim }
+    requires ours { HoldsShown S.stored a.now ours.now }
+    requires theirs { HoldsShown S.stored b.now theirs.now }
+    ensures { result ≡ pointwise S.Elem.eq (listed_by S.stored a.now ours.now) (listed_by S.stored b.now theirs.now) }
+{
+    let lengths = ours.dim.slice();
+    let mut lanes = Lanes::new(ours.offset, lengths, ours.strides.slice());
+    let mut others = Lanes::new(theirs.offset, lengths, theirs.strides.slice());
+    while let Some(lane) = lanes.next() {
+        match others.next() {
+            Some(other) => {
+                if !lanes_equal(a, lane, b, other) {
+                    return false;
+                }
+            }
+            None => unreachable!(),
+        }
+    }
+    true
+}
+
+/// The same in halves, one after the other, where long lanes go across the order of the second storage's elements.
+fn equal_in_halves<S: Data, D: Dimension, T: StrideList>(
+    a: &S,
+    ours: &Layout<D, T>,
+    b: &S,
+    theirs: &Layout<D, T>,
+) -> bool
+where
+    S::Elem: PartialEq,
+    requires alike { D.lengths theirs.now.dim ≡ D.lengths ours.now.dim }
+    requires ours { HoldsShown S.stored a.now ours.now }
+    requires theirs { HoldsShown S.stored b.now theirs.now }
+    ensures { result ≡ pointwise S.Elem.eq (listed_by S.stored a.now ours.now) (listed_by S.stored b.now theirs.now) }
+{
+    let Some(halves) = halved_alike(ours, theirs) else {
+        return equal_in_order(a, ours, b, theirs);
+    };
+    equal_in_halves(a, &halves.lower, b, &halves.lower_beside)
+        && equal_in_halves(a, &halves.upper, b, &halves.upper_beside)
+}
+
+/// The same in an order that goes along memory: where that pays, the axes of both layouts are turned alike before, and both
+/// are cut in halves.
+pub fn layouts_equal<S: Data, D: Dimension, T: StrideList>(
+    a: &S,
+    ours: &Layout<D, T>,
+    b: &S,
+    theirs: &Layout<D, T>,
+) -> bool
+where
+    S::Elem: PartialEq,
+    requires alike { D.lengths theirs.now.dim ≡ D.lengths ours.now.dim }
+    requires ours { HoldsShown S.stored a.now ours.now }
+    requires theirs { HoldsShown S.stored b.now theirs.now }
+    ensures { result ≡ pointwise S.Elem.eq (listed_by S.stored a.now ours.now) (listed_by S.stored b.now theirs.now) }
+{
+    if !is_worth_turning(ours, theirs) {
+        return equal_in_order(a, ours, b, theirs);
+    }
+    let (turned, other) = turned_alike(ours, theirs);
+    equal_in_halves(a, &turned, b, &other)
+}

@@ -1,0 +1,79 @@
+//! A clone of one value written at every index.
+
+ghost use Rattle.std.specs.Prelude.{◌≡◌, OnOk, OnErr};
+ghost use Rattle.nd_layout.specs.Lanes.{along, ranked};
+ghost use Rattle.nd_elements.specs.CloneRefusals.{MayRefuseClonesOf};
+ghost use Rattle.nd_elements.specs.Clones.{ClonesAreEqual};
+ghost use Rattle.nd_elements.specs.Filled.{Fills, FillsInPart};
+ghost use Rattle.nd_elements.specs.NumberedPlaces.{Holds};
+
+use crate::storage::DataMut;
+use nd_layout::{Lane, Places};
+use nd_shape_and_slice::NoMemory;
+
+/// Writes a clone of the value at each place of a lane.
+#[inline(always)]
+fn fill_along<S: DataMut>(storage: &mut S, lane: Lane, value: &S::Elem) -> Result<(), NoMemory>
+where
+    S::Elem: Clone + Drop,
+    requires clones { ClonesAreEqual S.Elem.is_clone value.now }
+    requires holds { Holds S.stored (along lane) storage.old }
+    ensures filled { OnOk result (Fills S.stored (along lane) value.now storage.old storage.new) }
+    ensures stopped { OnErr result (FillsInPart S.stored (along lane) value.now storage.old storage.new) }
+    ensures refused { OnErr result (MayRefuseClonesOf S.Elem.is_infallible value.now lane.count) }
+    ensures frame { S.frame storage.new ≡ S.frame storage.old }
+{
+    for nth in 0..lane.count {
+        match value.clone() {
+            Ok(copy) => {
+                storage.replace(lane.place_of(nth), copy);
+            }
+            Err(_) => return Err(NoMemory),
+        }
+    }
+    Ok(())
+}
+
+/// The same; where the places lie side by side the compiler is told so, and may write them as one block.
+#[inline(always)]
+fn fill_lane<S: DataMut>(storage: &mut S, lane: Lane, value: &S::Elem) -> Result<(), NoMemory>
+where
+    S::Elem: Clone + Drop,
+    requires clones { ClonesAreEqual S.Elem.is_clone value.now }
+    requires holds { Holds S.stored (along lane) storage.old }
+    ensures filled { OnOk result (Fills S.stored (along lane) value.now storage.old storage.new) }
+    ensures stopped { OnErr result (FillsInPart S.stored (along lane) value.now storage.old storage.new) }
+    ensures refused { OnErr result (MayRefuseClonesOf S.Elem.is_infallible value.now lane.count) }
+    ensures frame { S.frame storage.new ≡ S.frame storage.old }
+{
+    if lane.stride == 1 {
+        return fill_along(storage, lane.side_by_side(), value);
+    }
+    fill_along(storage, lane, value)
+}
+
+/// Writes a clone of the value at the place of each index of a layout.
+#[inline(always)]
+pub fn fill_places<S: DataMut>(
+    storage: &mut S,
+    places: Places<'_>,
+    value: &S::Elem,
+) -> Result<(), NoMemory>
+where
+    S::Elem: Clone + Drop,
+    requires clones { ClonesAreEqual S.Elem.is_clone value.now }
+    requires holds { Holds S.stored (ranked places) storage.old }
+    ensures filled { OnOk result (Fills S.stored (ranked places.entry) value.now storage.old storage.new) }
+    ensures stopped { OnErr result (FillsInPart S.stored (ranked places.entry) value.now storage.old storage.new) }
+    ensures refused { OnErr result (MayRefuseClonesOf S.Elem.is_infallible value.now (ranked places.entry).count) }
+    ensures frame { S.frame storage.new ≡ S.frame storage.old }
+{
+    let mut lanes = places.lanes();
+    while let Some(lane) = lanes.next() {
+        match fill_lane(storage, lane, value) {
+            Ok(()) => {}
+            Err(refused) => return Err(refused),
+        }
+    }
+    Ok(())
+}

@@ -1,0 +1,65 @@
+//! A closure that is shown each element and hands a value on.
+
+ghost use Rattle.nd_layout.specs.Lanes.{along, ranked};
+ghost use Rattle.nd_elements.specs.NumberedPlaces.{Holds};
+ghost use Rattle.nd_elements.specs.elements.Folds.{FoldsEach, MayFoldEach};
+
+use crate::storage::Data;
+use nd_layout::{Lane, Places};
+
+/// Folds the elements of a lane, one after the other. It returns the closure too, as the calls left it.
+#[inline(always)]
+fn fold_along<S: Data, B, F: FnMut(B, &S::Elem) -> B>(
+    storage: &S,
+    lane: Lane,
+    init: B,
+    mut f: F,
+) -> (F, B)
+    requires holds { Holds S.stored (along lane) storage.now }
+    requires callable { MayFoldEach F.FnMut S.stored (along lane) storage.now (f, init) }
+    ensures ran { FoldsEach F.FnMut S.stored (along lane) storage.now (f, init) result }
+{
+    let mut total = init;
+    for nth in 0..lane.count {
+        total = f(total, storage.element(lane.place_of(nth)));
+    }
+    (f, total)
+}
+
+/// The same; where they lie side by side the compiler is told so.
+#[inline(always)]
+fn fold_lane<S: Data, B, F: FnMut(B, &S::Elem) -> B>(
+    storage: &S,
+    lane: Lane,
+    init: B,
+    f: F,
+) -> (F, B)
+    requires holds { Holds S.stored (along lane) storage.now }
+    requires callable { MayFoldEach F.FnMut S.stored (along lane) storage.now (f, init) }
+    ensures ran { FoldsEach F.FnMut S.stored (along lane) storage.now (f, init) result }
+{
+    if lane.stride == 1 {
+        return fold_along(storage, lane.side_by_side(), init, f);
+    }
+    fold_along(storage, lane, init, f)
+}
+
+/// Folds the elements at the places of a layout, in row-major order of its indexes.
+pub fn fold_places<S: Data, B, F: FnMut(B, &S::Elem) -> B>(
+    storage: &S,
+    places: Places<'_>,
+    init: B,
+    f: F,
+) -> (F, B)
+    requires holds { Holds S.stored (ranked places) storage.now }
+    requires callable { MayFoldEach F.FnMut S.stored (ranked places) storage.now (f, init) }
+    ensures ran { FoldsEach F.FnMut S.stored (ranked places.entry) storage.now (f, init) result }
+{
+    let mut lanes = places.lanes();
+    let mut f = f;
+    let mut total = init;
+    while let Some(lane) = lanes.next() {
+        (f, total) = fold_lane(storage, lane, total, f);
+    }
+    (f, total)
+}

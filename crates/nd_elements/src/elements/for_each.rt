@@ -1,0 +1,34 @@
+//! A closure that is shown each element.
+
+ghost use Rattle.nd_layout.specs.Lanes.{along, ranked};
+ghost use Rattle.nd_elements.specs.NumberedPlaces.{Holds};
+ghost use Rattle.nd_elements.specs.elements.Maps.{MayShowEach, ShowsEach};
+
+use crate::storage::Data;
+use nd_layout::{Lane, Places};
+
+/// Shows the elements of a lane to the function, one after the other. It returns the function, as the calls left it.
+fn show_lane<S: Data, F: FnMut(&S::Elem)>(storage: &S, lane: Lane, mut f: F) -> F
+    requires holds { Holds S.stored (along lane) storage.now }
+    requires callable { MayShowEach F.FnMut S.stored (along lane) storage.now f }
+    ensures ran { ShowsEach F.FnMut S.stored (along lane) storage.now f result }
+{
+    for nth in 0..lane.count {
+        f(storage.element(lane.place_of(nth)));
+    }
+    f
+}
+
+/// Shows the elements at the places of a layout to the function, in row-major order of its indexes.
+pub fn show_places<S: Data, F: FnMut(&S::Elem)>(storage: &S, places: Places<'_>, f: F) -> F
+    requires holds { Holds S.stored (ranked places) storage.now }
+    requires callable { MayShowEach F.FnMut S.stored (ranked places) storage.now f }
+    ensures ran { ShowsEach F.FnMut S.stored (ranked places.entry) storage.now f result }
+{
+    let mut lanes = places.lanes();
+    let mut now = f;
+    while let Some(lane) = lanes.next() {
+        now = show_lane(storage, lane, now);
+    }
+    now
+}

@@ -1,0 +1,34 @@
+//! Elements handed to a hasher.
+
+ghost use Rattle.nd_layout.specs.Lanes.{along, ranked};
+ghost use Rattle.nd_elements.specs.NumberedPlaces.{Holds};
+ghost use Rattle.nd_elements.specs.elements.Hashes.{FeedsEach};
+
+use crate::storage::Data;
+use nd_layout::{Lane, Places};
+use std::hash::{Hash, Hasher};
+
+/// Feeds the elements of a lane to a hasher.
+fn hash_lane<S: Data, H: Hasher>(storage: &S, lane: Lane, state: &mut H)
+where
+    S::Elem: Hash,
+    requires holds { Holds S.stored (along lane) storage.now }
+    ensures { FeedsEach H.write S.Elem.hash_input S.stored (along lane) storage.now state.old state.new }
+{
+    for nth in 0..lane.count {
+        storage.element(lane.place_of(nth)).hash(state);
+    }
+}
+
+/// Feeds the elements of a layout to a hasher, by row-major rank.
+pub fn hash_places<S: Data, H: Hasher>(storage: &S, places: Places<'_>, state: &mut H)
+where
+    S::Elem: Hash,
+    requires holds { Holds S.stored (ranked places) storage.now }
+    ensures { FeedsEach H.write S.Elem.hash_input S.stored (ranked places.entry) storage.now state.old state.new }
+{
+    let mut lanes = places.lanes();
+    while let Some(lane) = lanes.next() {
+        hash_lane(storage, lane, state);
+    }
+}

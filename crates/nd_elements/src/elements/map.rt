@@ -1,0 +1,108 @@
+//! What a closure returns for each element, in a vector.
+
+ghost use Rattle.std.specs.Prelude.{◌≡◌, ◌+◌, ◌≤◌, [], length, pos, slice_get, vec_len, vec_capacity};
+ghost use Rattle.nd_layout.specs.Lanes.{along, ranked};
+ghost use Rattle.nd_elements.specs.NumberedPlaces.{Holds, in_turn};
+ghost use Rattle.nd_elements.specs.elements.Maps.{AnswersEach, MayShowEach, Pushes};
+
+use crate::storage::Data;
+use nd_layout::{Lane, Places};
+
+/// Puts what the function returns for each element of a slice behind what a vector has. It returns the function, as the
+/// calls left it.
+pub fn answer_run<A, B, F: FnMut(&A) -> B>(items: &mut Vec<B>, xs: &[A], mut f: F) -> F
+    requires room { vec_len items.old + length xs.now ≤ vec_capacity items.old }
+    requires callable { MayShowEach F.FnMut slice_get (in_turn xs.now) xs.now f }
+    ensures pushed { Pushes F.FnMut slice_get (in_turn xs.now) xs.now f items.old items.new result }
+    ensures len { vec_len items.new ≡ vec_len items.old + length xs.now }
+    ensures room { vec_capacity items.new ≡ vec_capacity items.old }
+{
+    for nth in 0..xs.len() {
+        items.push_reserved(f(&xs[nth]));
+    }
+    f
+}
+
+/// The same of the elements of a lane.
+fn answer_by_steps<S: Data, B, F: FnMut(&S::Elem) -> B>(
+    items: &mut Vec<B>,
+    storage: &S,
+    lane: Lane,
+    mut f: F,
+) -> F
+    requires holds { Holds S.stored (along lane) storage.now }
+    requires room { vec_len items.old + lane.count ≤ vec_capacity items.old }
+    requires callable { MayShowEach F.FnMut S.stored (along lane) storage.now f }
+    ensures pushed { Pushes F.FnMut S.stored (along lane) storage.now f items.old items.new result }
+    ensures len { vec_len items.new ≡ vec_len items.old + lane.count }
+    ensures room { vec_capacity items.new ≡ vec_capacity items.old }
+{
+    // A region in hand: what a write may not change isn't read anew for each element.
+    let region = storage.borrowed();
+    for nth in 0..lane.count {
+        items.push_reserved(f(region.element(lane.place_of(nth))));
+    }
+    f
+}
+
+/// The same where they lie side by side.
+fn answer_beside<S: Data, B, F: FnMut(&S::Elem) -> B>(
+    items: &mut Vec<B>,
+    storage: &S,
+    lane: Lane,
+    f: F,
+) -> F
+    requires beside { lane.stride ≡ pos 1 }
+    requires holds { Holds S.stored (along lane) storage.now }
+    requires room { vec_len items.old + lane.count ≤ vec_capacity items.old }
+    requires callable { MayShowEach F.FnMut S.stored (along lane) storage.now f }
+    ensures pushed { Pushes F.FnMut S.stored (along lane) storage.now f items.old items.new result }
+    ensures len { vec_len items.new ≡ vec_len items.old + lane.count }
+    ensures room { vec_capacity items.new ≡ vec_capacity items.old }
+{
+    let run = storage.borrowed().run(lane.place, lane.count);
+    answer_run(items, run, f)
+}
+
+/// The same of any lane.
+pub fn answer_lane<S: Data, B, F: FnMut(&S::Elem) -> B>(
+    items: &mut Vec<B>,
+    storage: &S,
+    lane: Lane,
+    f: F,
+) -> F
+    requires holds { Holds S.stored (along lane) storage.now }
+    requires room { vec_len items.old + lane.count ≤ vec_capacity items.old }
+    requires callable { MayShowEach F.FnMut S.stored (along lane) storage.now f }
+    ensures pushed { Pushes F.FnMut S.stored (along lane) storage.now f items.old items.new result }
+    ensures len { vec_len items.new ≡ vec_len items.old + lane.count }
+    ensures room { vec_capacity items.new ≡ vec_capacity items.old }
+{
+    if lane.stride == 1 {
+        return answer_beside(items, storage, lane, f);
+    }
+    answer_by_steps(items, storage, lane, f)
+}
+
+/// What the function returns for the elements at the places of a layout, in row-major order of its indexes.
+pub fn answer_places<S: Data, B, F: FnMut(&S::Elem) -> B>(
+    room: Vec<B>,
+    storage: &S,
+    places: Places<'_>,
+    f: F,
+) -> (F, Vec<B>)
+    requires holds { Holds S.stored (ranked places) storage.now }
+    requires empty { (room.items ≡ []) × (vec_len room ≡ 0) }
+    requires room { (ranked places).count ≤ vec_capacity room }
+    requires callable { MayShowEach F.FnMut S.stored (ranked places) storage.now f }
+    ensures answers { AnswersEach F.FnMut S.stored (ranked places.entry) storage.now f result }
+    ensures count { vec_len result.1 ≡ (ranked places.entry).count }
+{
+    let mut items = room;
+    let mut now = f;
+    let mut lanes = places.lanes();
+    while let Some(lane) = lanes.next() {
+        now = answer_lane(&mut items, storage, lane, now);
+    }
+    (now, items)
+}

@@ -1,0 +1,72 @@
+//! A closure that is handed each element, to be written.
+
+ghost use Rattle.std.specs.Prelude.{◌≡◌, ℕ, IsSome};
+ghost use Rattle.nd_layout.specs.Lanes.{along, ranked};
+ghost use Rattle.nd_elements.specs.NumberedPlaces.{Holds, PlacesDiffer};
+ghost use Rattle.nd_elements.specs.elements.Changes.{ChangesAt, ChangesEach, MayChangeAt, MayChangeEach};
+
+use crate::storage::DataMut;
+use nd_layout::{Lane, Places};
+
+/// Hands the element at a place to the function, to be written. It returns the function, as the call left it.
+fn change_element<S: DataMut, F: FnMut(&mut S::Elem)>(storage: &mut S, place: usize, mut f: F) -> F
+    requires holds { IsSome (S.stored storage.old place) }
+    requires callable { MayChangeAt F.FnMut S.stored place storage.old f }
+    ensures called { ChangesAt F.FnMut S.stored place storage.old storage.new f result }
+    ensures left { (p : ℕ) → (p ≡ place → ⊥) → S.stored storage.new p ≡ S.stored storage.old p }
+    ensures frame { S.frame storage.new ≡ S.frame storage.old }
+{
+    f(storage.element_mut(place));
+    f
+}
+
+/// Hands the elements of a lane to the function, one after the other.
+#[inline(always)]
+fn change_along<S: DataMut, F: FnMut(&mut S::Elem)>(storage: &mut S, lane: Lane, f: F) -> F
+    requires apart { PlacesDiffer (along lane) }
+    requires holds { Holds S.stored (along lane) storage.old }
+    requires callable { MayChangeEach F.FnMut S.stored (along lane) storage.old f }
+    ensures changed { ChangesEach F.FnMut S.stored (along lane) storage.old storage.new f result }
+    ensures frame { S.frame storage.new ≡ S.frame storage.old }
+{
+    let mut now = f;
+    for nth in 0..lane.count {
+        now = change_element(storage, lane.place_of(nth), now);
+    }
+    now
+}
+
+/// The same; where they lie side by side the compiler is told so.
+#[inline(always)]
+fn change_lane<S: DataMut, F: FnMut(&mut S::Elem)>(storage: &mut S, lane: Lane, f: F) -> F
+    requires apart { PlacesDiffer (along lane) }
+    requires holds { Holds S.stored (along lane) storage.old }
+    requires callable { MayChangeEach F.FnMut S.stored (along lane) storage.old f }
+    ensures changed { ChangesEach F.FnMut S.stored (along lane) storage.old storage.new f result }
+    ensures frame { S.frame storage.new ≡ S.frame storage.old }
+{
+    if lane.stride == 1 {
+        return change_along(storage, lane.side_by_side(), f);
+    }
+    change_along(storage, lane, f)
+}
+
+/// Hands the elements at the places of a layout to the function, in row-major order of its indexes.
+pub fn change_places<S: DataMut, F: FnMut(&mut S::Elem)>(
+    storage: &mut S,
+    places: Places<'_>,
+    f: F,
+) -> F
+    requires apart { PlacesDiffer (ranked places) }
+    requires holds { Holds S.stored (ranked places) storage.old }
+    requires callable { MayChangeEach F.FnMut S.stored (ranked places) storage.old f }
+    ensures changed { ChangesEach F.FnMut S.stored (ranked places.entry) storage.old storage.new f result }
+    ensures frame { S.frame storage.new ≡ S.frame storage.old }
+{
+    let mut lanes = places.lanes();
+    let mut now = f;
+    while let Some(lane) = lanes.next() {
+        now = change_lane(storage, lane, now);
+    }
+    now
+}

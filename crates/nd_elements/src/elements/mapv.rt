@@ -1,0 +1,141 @@
+//! What a closure returns for a clone of each element, in a vector.
+
+ghost use Rattle.std.specs.Prelude.{◌≡◌, ◌+◌, ◌<◌, ◌≤◌, [], length, pos, slice_get, IfOk, OnErr, vec_len, vec_capacity};
+ghost use Rattle.nd_layout.specs.Lanes.{along, ranked};
+ghost use Rattle.nd_elements.specs.Clones.{StoredClonesAreEqual};
+ghost use Rattle.nd_elements.specs.NumberedPlaces.{ClonesAreEqualAt, Holds, in_turn};
+ghost use Rattle.nd_elements.specs.elements.Maps.{AnswersValues, MayGiveEach, PushesValues};
+
+use crate::storage::Data;
+use nd_layout::{Lane, Places};
+use nd_shape_and_slice::NoMemory;
+
+/// Puts what the function returns for a clone of each element of a slice behind what a vector has. It returns the
+/// function, as the calls left it.
+pub fn value_run<A: Clone, B, F: FnMut(A) -> B>(
+    items: &mut Vec<B>,
+    xs: &[A],
+    mut f: F,
+) -> Result<F, NoMemory>
+    requires clones { StoredClonesAreEqual A.is_clone xs.now }
+    requires room { vec_len items.old + length xs.now ≤ vec_capacity items.old }
+    requires callable { MayGiveEach F.FnMut slice_get (in_turn xs.now) xs.now f }
+    ensures pushed { IfOk result (PushesValues F.FnMut slice_get (in_turn xs.now) xs.now f items.old items.new) }
+    ensures len { IfOk result (λ _. vec_len items.new ≡ vec_len items.old + length xs.now) }
+    ensures room { vec_capacity items.new ≡ vec_capacity items.old }
+    ensures refused { OnErr result (0 < length xs.now) }
+{
+    for nth in 0..xs.len() {
+        match xs[nth].clone() {
+            Ok(copy) => items.push_reserved(f(copy)),
+            Err(_) => return Err(NoMemory),
+        }
+    }
+    Ok(f)
+}
+
+/// The same of the elements of a lane.
+fn value_by_steps<S: Data, B, F: FnMut(S::Elem) -> B>(
+    items: &mut Vec<B>,
+    storage: &S,
+    lane: Lane,
+    mut f: F,
+) -> Result<F, NoMemory>
+where
+    S::Elem: Clone,
+    requires clones { ClonesAreEqualAt S.Elem.is_clone S.stored (along lane) storage.now }
+    requires holds { Holds S.stored (along lane) storage.now }
+    requires room { vec_len items.old + lane.count ≤ vec_capacity items.old }
+    requires callable { MayGiveEach F.FnMut S.stored (along lane) storage.now f }
+    ensures pushed { IfOk result (PushesValues F.FnMut S.stored (along lane) storage.now f items.old items.new) }
+    ensures len { IfOk result (λ _. vec_len items.new ≡ vec_len items.old + lane.count) }
+    ensures room { vec_capacity items.new ≡ vec_capacity items.old }
+    ensures refused { OnErr result (0 < lane.count) }
+{
+    // A region in hand: what a write may not change isn't read anew for each element.
+    let region = storage.borrowed();
+    for nth in 0..lane.count {
+        match region.element(lane.place_of(nth)).clone() {
+            Ok(copy) => items.push_reserved(f(copy)),
+            Err(_) => return Err(NoMemory),
+        }
+    }
+    Ok(f)
+}
+
+/// The same where they lie side by side.
+fn value_beside<S: Data, B, F: FnMut(S::Elem) -> B>(
+    items: &mut Vec<B>,
+    storage: &S,
+    lane: Lane,
+    f: F,
+) -> Result<F, NoMemory>
+where
+    S::Elem: Clone,
+    requires beside { lane.stride ≡ pos 1 }
+    requires clones { ClonesAreEqualAt S.Elem.is_clone S.stored (along lane) storage.now }
+    requires holds { Holds S.stored (along lane) storage.now }
+    requires room { vec_len items.old + lane.count ≤ vec_capacity items.old }
+    requires callable { MayGiveEach F.FnMut S.stored (along lane) storage.now f }
+    ensures pushed { IfOk result (PushesValues F.FnMut S.stored (along lane) storage.now f items.old items.new) }
+    ensures len { IfOk result (λ _. vec_len items.new ≡ vec_len items.old + lane.count) }
+    ensures room { vec_capacity items.new ≡ vec_capacity items.old }
+    ensures refused { OnErr result (0 < lane.count) }
+{
+    let run = storage.borrowed().run(lane.place, lane.count);
+    value_run(items, run, f)
+}
+
+/// The same of any lane.
+fn value_lane<S: Data, B, F: FnMut(S::Elem) -> B>(
+    items: &mut Vec<B>,
+    storage: &S,
+    lane: Lane,
+    f: F,
+) -> Result<F, NoMemory>
+where
+    S::Elem: Clone,
+    requires clones { ClonesAreEqualAt S.Elem.is_clone S.stored (along lane) storage.now }
+    requires holds { Holds S.stored (along lane) storage.now }
+    requires room { vec_len items.old + lane.count ≤ vec_capacity items.old }
+    requires callable { MayGiveEach F.FnMut S.stored (along lane) storage.now f }
+    ensures pushed { IfOk result (PushesValues F.FnMut S.stored (along lane) storage.now f items.old items.new) }
+    ensures len { IfOk result (λ _. vec_len items.new ≡ vec_len items.old + lane.count) }
+    ensures room { vec_capacity items.new ≡ vec_capacity items.old }
+    ensures refused { OnErr result (0 < lane.count) }
+{
+    if lane.stride == 1 {
+        return value_beside(items, storage, lane, f);
+    }
+    value_by_steps(items, storage, lane, f)
+}
+
+/// What the function returns for clones of the elements at the places of a layout, in row-major order of its indexes.
+pub fn value_places<S: Data, B: Drop, F: FnMut(S::Elem) -> B>(
+    room: Vec<B>,
+    storage: &S,
+    places: Places<'_>,
+    f: F,
+) -> Result<(F, Vec<B>), NoMemory>
+where
+    S::Elem: Clone,
+    requires clones { ClonesAreEqualAt S.Elem.is_clone S.stored (ranked places) storage.now }
+    requires holds { Holds S.stored (ranked places) storage.now }
+    requires empty { (room.items ≡ []) × (vec_len room ≡ 0) }
+    requires room { (ranked places).count ≤ vec_capacity room }
+    requires callable { MayGiveEach F.FnMut S.stored (ranked places) storage.now f }
+    ensures answers { IfOk result (AnswersValues F.FnMut S.stored (ranked places.entry) storage.now f) }
+    ensures count { IfOk result (λ r. vec_len r.1 ≡ (ranked places.entry).count) }
+    ensures refused { OnErr result (0 < (ranked places.entry).count) }
+{
+    let mut items = room;
+    let mut now = f;
+    let mut lanes = places.lanes();
+    while let Some(lane) = lanes.next() {
+        match value_lane(&mut items, storage, lane, now) {
+            Ok(later) => now = later,
+            Err(refused) => return Err(refused),
+        }
+    }
+    Ok((now, items))
+}

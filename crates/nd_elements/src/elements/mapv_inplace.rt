@@ -1,0 +1,71 @@
+//! Elements exchanged where they lie for what a closure returns for a clone of each.
+
+ghost use Rattle.std.specs.Prelude.{◌≡◌, IfOk, OnErr};
+ghost use Rattle.nd_layout.specs.Lanes.{along, ranked};
+ghost use Rattle.nd_elements.specs.ElementMut.{KeepsPlaces};
+ghost use Rattle.nd_elements.specs.NumberedPlaces.{ClonesAreEqualAt, Holds, MayRefuseAt, PlacesDiffer};
+ghost use Rattle.nd_elements.specs.elements.Maps.{MayGiveEach, ReplacesEach, ReplacesInPart};
+
+use crate::storage::DataMut;
+use nd_layout::{Lane, Places};
+use nd_shape_and_slice::NoMemory;
+
+/// Puts at each place of a lane what the function returns for a clone of the element there. It returns the function, as
+/// the calls left it.
+fn replace_lane<S: DataMut, F: FnMut(S::Elem) -> S::Elem>(
+    storage: &mut S,
+    lane: Lane,
+    mut f: F,
+) -> Result<F, NoMemory>
+where
+    S::Elem: Clone + Drop,
+    requires apart { PlacesDiffer (along lane) }
+    requires clones { ClonesAreEqualAt S.Elem.is_clone S.stored (along lane) storage.old }
+    requires holds { Holds S.stored (along lane) storage.old }
+    requires callable { MayGiveEach F.FnMut S.stored (along lane) storage.old f }
+    ensures replaced { IfOk result (ReplacesEach F.FnMut S.stored (along lane) storage.old storage.new f) }
+    ensures stopped { OnErr result (ReplacesInPart F.FnMut S.stored (along lane) storage.old storage.new f) }
+    ensures refused { OnErr result (MayRefuseAt S.Elem.is_infallible S.stored (along lane) storage.old) }
+    ensures there { KeepsPlaces (S.stored storage.old) (S.stored storage.new) }
+    ensures frame { S.frame storage.new ≡ S.frame storage.old }
+{
+    for nth in 0..lane.count {
+        let place = lane.place_of(nth);
+        match storage.element(place).clone() {
+            Ok(copy) => {
+                storage.replace(place, f(copy));
+            }
+            Err(_) => return Err(NoMemory),
+        }
+    }
+    Ok(f)
+}
+
+/// The same at the places of a layout, in row-major order of its indexes.
+pub fn replace_places<S: DataMut, F: FnMut(S::Elem) -> S::Elem>(
+    storage: &mut S,
+    places: Places<'_>,
+    f: F,
+) -> Result<F, NoMemory>
+where
+    S::Elem: Clone + Drop,
+    requires apart { PlacesDiffer (ranked places) }
+    requires clones { ClonesAreEqualAt S.Elem.is_clone S.stored (ranked places) storage.old }
+    requires holds { Holds S.stored (ranked places) storage.old }
+    requires callable { MayGiveEach F.FnMut S.stored (ranked places) storage.old f }
+    ensures replaced { IfOk result (ReplacesEach F.FnMut S.stored (ranked places.entry) storage.old storage.new f) }
+    ensures stopped { OnErr result (ReplacesInPart F.FnMut S.stored (ranked places.entry) storage.old storage.new f) }
+    ensures refused { OnErr result (MayRefuseAt S.Elem.is_infallible S.stored (ranked places.entry) storage.old) }
+    ensures there { KeepsPlaces (S.stored storage.old) (S.stored storage.new) }
+    ensures frame { S.frame storage.new ≡ S.frame storage.old }
+{
+    let mut lanes = places.lanes();
+    let mut now = f;
+    while let Some(lane) = lanes.next() {
+        match replace_lane(storage, lane, now) {
+            Ok(later) => now = later,
+            Err(refused) => return Err(refused),
+        }
+    }
+    Ok(now)
+}

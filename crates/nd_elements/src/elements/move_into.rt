@@ -1,0 +1,168 @@
+//! Elements moved out of one storage into another.
+
+ghost use Rattle.std.specs.Prelude.{◌≡◌, ◌<◌, ℕ, IsSome};
+ghost use Rattle.nd_layout.specs.Lanes.{along, ranked};
+ghost use Rattle.nd_layout.specs.Placements.{placement_of, KeepsApart};
+ghost use Rattle.nd_elements.specs.ByLayout.{HoldsShown, LeavesOthers, ShowsSame};
+ghost use Rattle.nd_elements.specs.NumberedPlaces.{Holds, PlacesDiffer};
+ghost use Rattle.nd_elements.specs.elements.Assigns.{MovesAlong, Moves};
+
+use crate::storage::DataMut;
+use nd_layout::{Lane, Layout, Places, halved_alike, is_worth_turning, turned_alike};
+use nd_shape_and_slice::{Dimension, StrideList};
+use std::mem;
+
+/// Exchanges the element at a place with that at a place of a second storage.
+fn exchange<A, S: DataMut<Elem = A>, Z: DataMut<Elem = A>>(
+    storage: &mut S,
+    place: usize,
+    others: &mut Z,
+    other: usize,
+)
+    requires holds { IsSome (S.stored storage.old place) }
+    requires other_holds { IsSome (Z.stored others.old other) }
+    ensures put { S.stored storage.new place ≡ Z.stored others.old other }
+    ensures taken { Z.stored others.new other ≡ S.stored storage.old place }
+    ensures left { (p : ℕ) → (p ≡ place → ⊥) → S.stored storage.new p ≡ S.stored storage.old p }
+    ensures other_left { (p : ℕ) → (p ≡ other → ⊥) → Z.stored others.new p ≡ Z.stored others.old p }
+    ensures frame { S.frame storage.new ≡ S.frame storage.old }
+{
+    mem::swap(storage.element_mut(place), others.element_mut(other));
+}
+
+/// Exchanges the elements of a lane with those along a second one.
+fn exchange_lane<A, S: DataMut<Elem = A>, Z: DataMut<Elem = A>>(
+    storage: &mut S,
+    lane: Lane,
+    others: &mut Z,
+    beside: Lane,
+)
+    requires as_long { beside.count ≡ lane.count }
+    requires apart { PlacesDiffer (along lane) }
+    requires others_apart { PlacesDiffer (along beside) }
+    requires holds { Holds S.stored (along lane) storage.old }
+    requires others_hold { Holds Z.stored (along beside) others.old }
+    ensures moved { MovesAlong S.stored Z.stored lane beside others.old storage.old storage.new }
+    ensures back { MovesAlong Z.stored S.stored beside lane storage.old others.old others.new }
+    ensures frame { S.frame storage.new ≡ S.frame storage.old }
+{
+    for nth in 0..lane.count {
+        exchange(storage, lane.place_of(nth), others, beside.place_of(nth));
+    }
+}
+
+/// Exchanges the elements at the places of a layout with those that a second storage has at the places of the same indexes
+/// under a layout of its own.
+fn exchange_places<A, S: DataMut<Elem = A>, Z: DataMut<Elem = A>>(
+    storage: &mut S,
+    places: Places<'_>,
+    others: &mut Z,
+    beside: Places<'_>,
+)
+    requires alike { beside.lengths.now ≡ places.lengths.now }
+    requires apart { PlacesDiffer (ranked places) }
+    requires others_apart { PlacesDiffer (ranked beside) }
+    requires holds { Holds S.stored (ranked places) storage.old }
+    requires others_hold { Holds Z.stored (ranked beside) others.old }
+    ensures moved { Moves S.stored Z.stored places.entry beside.entry others.old storage.old storage.new }
+    ensures back { Moves Z.stored S.stored beside.entry places.entry storage.old others.old others.new }
+    ensures frame { S.frame storage.new ≡ S.frame storage.old }
+{
+    let mut ours = places.lanes();
+    let mut theirs = beside.lanes();
+    while let Some(lane) = ours.next() {
+        match theirs.next() {
+            Some(aside) => exchange_lane(storage, lane, others, aside),
+            None => unreachable!(),
+        }
+    }
+}
+
+/// Exchanges the element at each index of a layout with the one that a second storage has there under a layout of its own, in
+/// row-major order.
+fn exchange_in_order<A, S, Z, D, T>(
+    storage: &mut S,
+    layout: &Layout<D, T>,
+    others: &mut Z,
+    beside: &Layout<D, T>,
+)
+where
+    S: DataMut<Elem = A>,
+    Z: DataMut<Elem = A>,
+    D: Dimension,
+    T: StrideList,
+    requires alike { D.lengths beside.now.dim ≡ D.lengths layout.now.dim }
+    requires apart { KeepsApart (placement_of layout.now) }
+    requires others_apart { KeepsApart (placement_of beside.now) }
+    requires holds { HoldsShown S.stored storage.old layout.now }
+    requires others_hold { HoldsShown Z.stored others.old beside.now }
+    ensures moved { ShowsSame S.stored Z.stored storage.new layout.now others.old beside.now }
+    ensures holds { HoldsShown S.stored storage.new layout.now }
+    ensures others { LeavesOthers S.stored layout.now storage.old storage.new }
+    ensures beside { LeavesOthers Z.stored beside.now others.old others.new }
+    ensures frame { S.frame storage.new ≡ S.frame storage.old }
+{
+    exchange_places(storage, layout.places(), others, beside.places());
+}
+
+/// The same in halves, one after the other, where long lanes go across the order of the second storage's elements.
+fn exchange_in_halves<A, S, Z, D, T>(
+    storage: &mut S,
+    layout: &Layout<D, T>,
+    others: &mut Z,
+    beside: &Layout<D, T>,
+)
+where
+    S: DataMut<Elem = A>,
+    Z: DataMut<Elem = A>,
+    D: Dimension,
+    T: StrideList,
+    requires alike { D.lengths beside.now.dim ≡ D.lengths layout.now.dim }
+    requires apart { KeepsApart (placement_of layout.now) }
+    requires others_apart { KeepsApart (placement_of beside.now) }
+    requires holds { HoldsShown S.stored storage.old layout.now }
+    requires others_hold { HoldsShown Z.stored others.old beside.now }
+    ensures moved { ShowsSame S.stored Z.stored storage.new layout.now others.old beside.now }
+    ensures holds { HoldsShown S.stored storage.new layout.now }
+    ensures others { LeavesOthers S.stored layout.now storage.old storage.new }
+    ensures beside { LeavesOthers Z.stored beside.now others.old others.new }
+    ensures frame { S.frame storage.new ≡ S.frame storage.old }
+{
+    let Some(halves) = halved_alike(layout, beside) else {
+        exchange_in_order(storage, layout, others, beside);
+        return;
+    };
+    exchange_in_halves(storage, &halves.lower, others, &halves.lower_beside);
+    exchange_in_halves(storage, &halves.upper, others, &halves.upper_beside);
+}
+
+/// The same in an order that goes along memory: where that pays, the axes of both layouts are turned alike before, and both
+/// are cut in halves.
+pub fn exchange_layouts<A, S, Z, D, T>(
+    storage: &mut S,
+    layout: &Layout<D, T>,
+    others: &mut Z,
+    beside: &Layout<D, T>,
+)
+where
+    S: DataMut<Elem = A>,
+    Z: DataMut<Elem = A>,
+    D: Dimension,
+    T: StrideList,
+    requires alike { D.lengths beside.now.dim ≡ D.lengths layout.now.dim }
+    requires apart { KeepsApart (placement_of layout.now) }
+    requires others_apart { KeepsApart (placement_of beside.now) }
+    requires holds { HoldsShown S.stored storage.old layout.now }
+    requires others_hold { HoldsShown Z.stored others.old beside.now }
+    ensures moved { ShowsSame S.stored Z.stored storage.new layout.now others.old beside.now }
+    ensures holds { HoldsShown S.stored storage.new layout.now }
+    ensures others { LeavesOthers S.stored layout.now storage.old storage.new }
+    ensures frame { S.frame storage.new ≡ S.frame storage.old }
+{
+    if !is_worth_turning(layout, beside) {
+        exchange_in_order(storage, layout, others, beside);
+        return;
+    }
+    let (turned, other) = turned_alike(layout, beside);
+    exchange_in_halves(storage, &turned, others, &other);
+}

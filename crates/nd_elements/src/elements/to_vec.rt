@@ -1,0 +1,191 @@
+//! Clones of the elements in a vector.
+
+ghost use Rattle.std.specs.Prelude.{◌≡◌, ◌+◌, ◌<◌, ◌≤◌, [], IfOk, OnOk, OnErr, length, pos, slice_get, vec_len, vec_capacity};
+ghost use Rattle.nd_layout.specs.Lanes.{along, ranked};
+ghost use Rattle.nd_elements.specs.Collected.{IsFront};
+ghost use Rattle.nd_elements.specs.CloneRefusals.{MayRefuseBelow};
+ghost use Rattle.nd_elements.specs.Clones.{StoredClonesAreEqual};
+ghost use Rattle.nd_elements.specs.NumberedPlaces.{in_turn, Holds, ListsBehind, ClonesAreEqualAt, MayRefuseAt};
+
+use crate::storage::Data;
+use nd_layout::{Lane, Places};
+use nd_shape_and_slice::NoMemory;
+use std::alloc::Global;
+use std::mem;
+
+/// A new vector of clones.
+#[tactic(auto, using(crate::proofs::Clones::clones_same))]
+pub fn clones_of<A: Clone>(alloc: Global, xs: &[A]) -> Result<Vec<A>, NoMemory>
+    requires { StoredClonesAreEqual A.is_clone xs.now }
+    ensures items { IfOk result (λ v. v.items ≡ xs.now) }
+    ensures count { IfOk result (λ v. vec_len v ≡ length xs.now) }
+    ensures refused { OnErr result (0 < length xs.now) }
+{
+    match Vec::from_clones(alloc, xs) {
+        Ok(items) => Ok(items),
+        Err(_) if xs.is_empty() => Ok(Vec::new(alloc)),
+        Err(_) => Err(NoMemory),
+    }
+}
+
+/// Puts clones of the elements of a slice behind those of a vector, which is handed on and back: a local vector isn't read
+/// anew for each element. A refusal leaves some of them there.
+#[inline(always)]
+fn clones_behind<A: Clone>(items: Vec<A>, run: &[A]) -> (Vec<A>, Result<(), NoMemory>)
+    requires clones { StoredClonesAreEqual A.is_clone run.now }
+    requires room { vec_len items + length run.now ≤ vec_capacity items }
+    ensures items { OnOk result.1 (ListsBehind slice_get (in_turn run.now) run.now items result.0) }
+    ensures len { OnOk result.1 (vec_len result.0 ≡ vec_len items + length run.now) }
+    ensures room { vec_capacity result.0 ≡ vec_capacity items }
+    ensures kept { OnErr result.1 (IsFront items.items result.0.items) }
+    ensures refused { OnErr result.1 (MayRefuseBelow A.is_infallible (slice_get run.now) (length run.now)) }
+{
+    let mut items = items;
+    for nth in 0..run.len() {
+        match run[nth].clone() {
+            Ok(copy) => items.push_reserved(copy),
+            Err(_) => return (items, Err(NoMemory)),
+        }
+    }
+    (items, Ok(()))
+}
+
+/// Puts clones of the elements of a lane behind those of a vector, which is handed on and back as above.
+#[inline(always)]
+fn clones_along<S: Data>(
+    items: Vec<S::Elem>,
+    storage: &S,
+    lane: Lane,
+) -> (Vec<S::Elem>, Result<(), NoMemory>)
+where
+    S::Elem: Clone,
+    requires clones { ClonesAreEqualAt S.Elem.is_clone S.stored (along lane) storage.now }
+    requires holds { Holds S.stored (along lane) storage.now }
+    requires room { vec_len items + lane.count ≤ vec_capacity items }
+    ensures items { OnOk result.1 (ListsBehind S.stored (along lane) storage.now items result.0) }
+    ensures len { OnOk result.1 (vec_len result.0 ≡ vec_len items + lane.count) }
+    ensures room { vec_capacity result.0 ≡ vec_capacity items }
+    ensures kept { OnErr result.1 (IsFront items.items result.0.items) }
+    ensures refused { OnErr result.1 (MayRefuseAt S.Elem.is_infallible S.stored (along lane) storage.now) }
+{
+    // A region in hand: what a write may not change isn't read anew for each element.
+    let region = storage.borrowed();
+    let mut items = items;
+    for nth in 0..lane.count {
+        match region.element(lane.place_of(nth)).clone() {
+            Ok(copy) => items.push_reserved(copy),
+            Err(_) => return (items, Err(NoMemory)),
+        }
+    }
+    (items, Ok(()))
+}
+
+/// Puts clones of the elements of a lane behind those that a vector has.
+fn extend_by_steps<S: Data>(
+    items: &mut Vec<S::Elem>,
+    storage: &S,
+    lane: Lane,
+) -> Result<(), NoMemory>
+where
+    S::Elem: Clone,
+    requires clones { ClonesAreEqualAt S.Elem.is_clone S.stored (along lane) storage.now }
+    requires holds { Holds S.stored (along lane) storage.now }
+    requires room { vec_len items.old + lane.count ≤ vec_capacity items.old }
+    ensures items { OnOk result (ListsBehind S.stored (along lane) storage.now items.old items.new) }
+    ensures len { OnOk result (vec_len items.new ≡ vec_len items.old + lane.count) }
+    ensures room { vec_capacity items.new ≡ vec_capacity items.old }
+    ensures kept { OnErr result (IsFront items.old.items items.new.items) }
+    ensures refused { OnErr result (MayRefuseAt S.Elem.is_infallible S.stored (along lane) storage.now) }
+{
+    let alloc = *items.allocator();
+    let held = mem::replace(items, Vec::new(alloc));
+    let (longer, end) = clones_along(held, storage, lane);
+    let empty = mem::replace(items, longer);
+    empty.destroy_empty();
+    end
+}
+
+/// The same where they lie side by side.
+fn extend_by_run<S: Data>(items: &mut Vec<S::Elem>, storage: &S, lane: Lane) -> Result<(), NoMemory>
+where
+    S::Elem: Clone,
+    requires beside { lane.stride ≡ pos 1 }
+    requires clones { ClonesAreEqualAt S.Elem.is_clone S.stored (along lane) storage.now }
+    requires holds { Holds S.stored (along lane) storage.now }
+    requires room { vec_len items.old + lane.count ≤ vec_capacity items.old }
+    ensures items { OnOk result (ListsBehind S.stored (along lane) storage.now items.old items.new) }
+    ensures len { OnOk result (vec_len items.new ≡ vec_len items.old + lane.count) }
+    ensures room { vec_capacity items.new ≡ vec_capacity items.old }
+    ensures kept { OnErr result (IsFront items.old.items items.new.items) }
+    ensures refused { OnErr result (MayRefuseAt S.Elem.is_infallible S.stored (along lane) storage.now) }
+{
+    let run = storage.borrowed().run(lane.place, lane.count);
+    let alloc = *items.allocator();
+    let held = mem::replace(items, Vec::new(alloc));
+    let (longer, end) = clones_behind(held, run);
+    let empty = mem::replace(items, longer);
+    empty.destroy_empty();
+    end
+}
+
+/// The same of any lane.
+fn extend_by_lane<S: Data>(
+    items: &mut Vec<S::Elem>,
+    storage: &S,
+    lane: Lane,
+) -> Result<(), NoMemory>
+where
+    S::Elem: Clone,
+    requires clones { ClonesAreEqualAt S.Elem.is_clone S.stored (along lane) storage.now }
+    requires holds { Holds S.stored (along lane) storage.now }
+    requires room { vec_len items.old + lane.count ≤ vec_capacity items.old }
+    ensures items { OnOk result (ListsBehind S.stored (along lane) storage.now items.old items.new) }
+    ensures len { OnOk result (vec_len items.new ≡ vec_len items.old + lane.count) }
+    ensures room { vec_capacity items.new ≡ vec_capacity items.old }
+    ensures kept { OnErr result (IsFront items.old.items items.new.items) }
+    ensures refused { OnErr result (MayRefuseAt S.Elem.is_infallible S.stored (along lane) storage.now) }
+{
+    if lane.stride == 1 {
+        return extend_by_run(items, storage, lane);
+    }
+    extend_by_steps(items, storage, lane)
+}
+
+/// Puts clones of the elements at the places of a layout, by row-major rank, behind those that a vector has.
+pub fn list<S: Data>(
+    items: &mut Vec<S::Elem>,
+    storage: &S,
+    places: Places<'_>,
+) -> Result<(), NoMemory>
+where
+    S::Elem: Clone + Drop,
+    requires clones { ClonesAreEqualAt S.Elem.is_clone S.stored (ranked places) storage.now }
+    requires holds { Holds S.stored (ranked places) storage.now }
+    requires room { vec_len items.old + (ranked places).count ≤ vec_capacity items.old }
+    ensures items { OnOk result (ListsBehind S.stored (ranked places.entry) storage.now items.old items.new) }
+    ensures count { OnOk result (vec_len items.new ≡ vec_len items.old + (ranked places.entry).count) }
+    ensures room { vec_capacity items.old ≤ vec_capacity items.new }
+    ensures kept { OnErr result (IsFront items.old.items items.new.items) }
+    ensures refused { OnErr result (MayRefuseAt S.Elem.is_infallible S.stored (ranked places.entry) storage.now) }
+{
+    let mut lanes = places.lanes();
+    while let Some(lane) = lanes.next() {
+        match extend_by_lane(items, storage, lane) {
+            Ok(()) => {}
+            Err(refused) => return Err(refused),
+        }
+    }
+    Ok(())
+}
+
+/// A new vector with room for that many elements.
+pub fn room_of<A>(alloc: Global, count: usize) -> Result<Vec<A>, NoMemory>
+    ensures none { IfOk result (λ v. (v.items ≡ []) × (vec_len v ≡ 0)) }
+    ensures room { IfOk result (λ v. vec_capacity v ≡ count) }
+    ensures refused { OnErr result (0 < count) }
+{
+    match Vec::with_capacity(alloc, count) {
+        Ok(items) => Ok(items),
+        Err(_) => Err(NoMemory),
+    }
+}

@@ -1,0 +1,279 @@
+//! A closure that is handed the elements of two storages: one to be written, and one beside it.
+
+ghost use Rattle.std.specs.Prelude.{◌≡◌, ◌<◌, ℕ, Some, IsSome, pos, length, slice_get};
+ghost use Rattle.nd_layout.specs.Lanes.{along, ranked};
+ghost use Rattle.nd_layout.specs.Placements.{placement_of, KeepsApart};
+ghost use Rattle.nd_elements.specs.ByLayout.{HoldsShown, LeavesOthers, TakesShown, ZipsShown, ZipsTo};
+ghost use Rattle.nd_elements.specs.NumberedPlaces.{in_turn, Holds, PlacesDiffer};
+ghost use Rattle.nd_elements.specs.elements.Pairs.{ChangesBoth, TakesBoth, MayZipAt, ZipsAt, MayZipAlong, ZipsAlong, MayZip, Zips};
+
+use crate::storage::{Data, DataMut};
+use nd_layout::{Lane, Layout, Places, halved_alike, is_worth_turning, turned_alike};
+use nd_shape_and_slice::{Dimension, StrideList};
+
+/// Hands the element at a place to the function, to be written, with another one beside it. It returns the function, as
+/// the call left it.
+fn change_with<B, S: DataMut, F: FnMut(&mut S::Elem, &B)>(
+    storage: &mut S,
+    place: usize,
+    other: &B,
+    mut f: F,
+) -> F
+    requires holds { IsSome (S.stored storage.old place) }
+    requires callable { TakesBoth F.FnMut (Some other.now) (S.stored storage.old place) f }
+    ensures called { ChangesBoth F.FnMut S.stored (Some other.now) place storage.old storage.new f result }
+    ensures left { (p : ℕ) → (p ≡ place → ⊥) → S.stored storage.new p ≡ S.stored storage.old p }
+    ensures frame { S.frame storage.new ≡ S.frame storage.old }
+{
+    f(storage.element_mut(place), other);
+    f
+}
+
+/// Hands the elements of a lane to the function, one after the other, each with the one of a second lane beside it.
+#[inline(always)]
+fn zip_along<B, S: DataMut, Z: Data<Elem = B>, F: FnMut(&mut S::Elem, &B)>(
+    storage: &mut S,
+    lane: Lane,
+    others: &Z,
+    beside: Lane,
+    f: F,
+) -> F
+    requires as_long { beside.count ≡ lane.count }
+    requires apart { PlacesDiffer (along lane) }
+    requires holds { Holds S.stored (along lane) storage.old }
+    requires others_hold { Holds Z.stored (along beside) others.now }
+    requires callable { MayZipAlong F.FnMut S.stored Z.stored lane beside storage.old others.now f }
+    ensures changed { ZipsAlong F.FnMut S.stored Z.stored lane beside others.now storage.old storage.new f result }
+    ensures frame { S.frame storage.new ≡ S.frame storage.old }
+{
+    let mut now = f;
+    for nth in 0..lane.count {
+        let other = others.element(beside.place_of(nth));
+        now = change_with(storage, lane.place_of(nth), other, now);
+    }
+    now
+}
+
+/// The same of two slices.
+fn zip_run<A, B, F: FnMut(&mut A, &B)>(xs: &mut [A], ys: &[B], mut f: F) -> F
+    requires as_long { length ys.now ≡ length xs.old }
+    requires callable { MayZipAt F.FnMut slice_get slice_get (in_turn xs.old) (in_turn ys.now) xs.old ys.now f }
+    ensures changed { ZipsAt F.FnMut slice_get slice_get (in_turn xs.old) (in_turn ys.now) ys.now xs.old xs.new f result }
+    ensures long { length xs.new ≡ length xs.old }
+{
+    for nth in 0..ys.len() {
+        f(&mut xs[nth], &ys[nth]);
+    }
+    f
+}
+
+/// The same of lanes whose elements lie side by side, as slices: what a write may not change isn't read anew for each.
+fn zip_beside<B, S: DataMut, Z: Data<Elem = B>, F: FnMut(&mut S::Elem, &B)>(
+    storage: &mut S,
+    lane: Lane,
+    others: &Z,
+    beside: Lane,
+    f: F,
+) -> F
+    requires some { 0 < lane.count }
+    requires steps { (lane.stride ≡ pos 1) × (beside.stride ≡ pos 1) }
+    requires as_long { beside.count ≡ lane.count }
+    requires apart { PlacesDiffer (along lane) }
+    requires holds { Holds S.stored (along lane) storage.old }
+    requires others_hold { Holds Z.stored (along beside) others.now }
+    requires callable { MayZipAlong F.FnMut S.stored Z.stored lane beside storage.old others.now f }
+    ensures changed { ZipsAlong F.FnMut S.stored Z.stored lane beside others.now storage.old storage.new f result }
+    ensures frame { S.frame storage.new ≡ S.frame storage.old }
+{
+    let ys = others.borrowed().run(beside.place, beside.count);
+    zip_run(storage.lend_run(lane.place, lane.count), ys, f)
+}
+
+/// Hands the elements of a slice to the function, one after the other, each with the one of a lane beside it.
+#[inline(always)]
+fn zip_into<A, B, Z: Data<Elem = B>, F: FnMut(&mut A, &B)>(
+    xs: &mut [A],
+    others: &Z,
+    beside: Lane,
+    mut f: F,
+) -> F
+    requires as_long { beside.count ≡ length xs.old }
+    requires others_hold { Holds Z.stored (along beside) others.now }
+    requires callable { MayZipAt F.FnMut slice_get Z.stored (in_turn xs.old) (along beside) xs.old others.now f }
+    ensures changed { ZipsAt F.FnMut slice_get Z.stored (in_turn xs.old) (along beside) others.now xs.old xs.new f result }
+    ensures long { length xs.new ≡ length xs.old }
+{
+    for nth in 0..beside.count {
+        let other = others.element(beside.place_of(nth));
+        f(&mut xs[nth], other);
+    }
+    f
+}
+
+/// The same of a lane whose elements lie side by side, as a slice: a write can't change where it begins.
+fn zip_aside<B, S: DataMut, Z: Data<Elem = B>, F: FnMut(&mut S::Elem, &B)>(
+    storage: &mut S,
+    lane: Lane,
+    others: &Z,
+    beside: Lane,
+    f: F,
+) -> F
+    requires some { 0 < lane.count }
+    requires step { lane.stride ≡ pos 1 }
+    requires as_long { beside.count ≡ lane.count }
+    requires holds { Holds S.stored (along lane) storage.old }
+    requires others_hold { Holds Z.stored (along beside) others.now }
+    requires callable { MayZipAlong F.FnMut S.stored Z.stored lane beside storage.old others.now f }
+    ensures changed { ZipsAlong F.FnMut S.stored Z.stored lane beside others.now storage.old storage.new f result }
+    ensures frame { S.frame storage.new ≡ S.frame storage.old }
+{
+    zip_into(storage.lend_run(lane.place, lane.count), others, beside, f)
+}
+
+/// The same of any lanes.
+fn zip_lane<B, S: DataMut, Z: Data<Elem = B>, F: FnMut(&mut S::Elem, &B)>(
+    storage: &mut S,
+    lane: Lane,
+    others: &Z,
+    beside: Lane,
+    f: F,
+) -> F
+    requires as_long { beside.count ≡ lane.count }
+    requires apart { PlacesDiffer (along lane) }
+    requires holds { Holds S.stored (along lane) storage.old }
+    requires others_hold { Holds Z.stored (along beside) others.now }
+    requires callable { MayZipAlong F.FnMut S.stored Z.stored lane beside storage.old others.now f }
+    ensures changed { ZipsAlong F.FnMut S.stored Z.stored lane beside others.now storage.old storage.new f result }
+    ensures frame { S.frame storage.new ≡ S.frame storage.old }
+{
+    if lane.count == 0 || lane.stride != 1 {
+        return zip_along(storage, lane, &others.borrowed(), beside, f);
+    }
+    if beside.stride == 1 {
+        return zip_beside(storage, lane, others, beside, f);
+    }
+    zip_aside(storage, lane, &others.borrowed(), beside, f)
+}
+
+/// Hands the elements at the places of a layout to the function, in row-major order of its indexes, each with the element
+/// that a second storage has at the place of that index under a layout of its own.
+fn zip_places<B, S: DataMut, Z: Data<Elem = B>, F: FnMut(&mut S::Elem, &B)>(
+    storage: &mut S,
+    places: Places<'_>,
+    others: &Z,
+    beside: Places<'_>,
+    f: F,
+) -> F
+    requires alike { beside.lengths.now ≡ places.lengths.now }
+    requires apart { PlacesDiffer (ranked places) }
+    requires holds { Holds S.stored (ranked places) storage.old }
+    requires others_hold { Holds Z.stored (ranked beside) others.now }
+    requires callable { MayZip F.FnMut S.stored Z.stored places beside storage.old others.now f }
+    ensures changed { Zips F.FnMut S.stored Z.stored places.entry beside.entry others.now storage.old storage.new f result }
+    ensures frame { S.frame storage.new ≡ S.frame storage.old }
+{
+    let mut ours = places.lanes();
+    let mut theirs = beside.lanes();
+    let mut now = f;
+    while let Some(lane) = ours.next() {
+        match theirs.next() {
+            Some(aside) => {
+                now = zip_lane(storage, lane, others, aside, now);
+            }
+            None => unreachable!(),
+        }
+    }
+    now
+}
+
+/// Hands the element at each index of a layout to the function, to be written, with the one that a second storage has there
+/// under a layout of its own, in row-major order.
+fn zip_in_order<B, S, Z, D, T, F>(
+    storage: &mut S,
+    layout: &Layout<D, T>,
+    others: &Z,
+    beside: &Layout<D, T>,
+    f: F,
+) -> F
+where
+    S: DataMut,
+    Z: Data<Elem = B>,
+    D: Dimension,
+    T: StrideList,
+    F: FnMut(&mut S::Elem, &B),
+    requires alike { D.lengths beside.now.dim ≡ D.lengths layout.now.dim }
+    requires apart { KeepsApart (placement_of layout.now) }
+    requires holds { HoldsShown S.stored storage.old layout.now }
+    requires others_hold { HoldsShown Z.stored others.now beside.now }
+    requires callable { TakesShown F.FnMut S.stored Z.stored storage.old layout.now others.now beside.now f }
+    ensures visits { ZipsTo F.FnMut S.stored Z.stored storage.old layout.now others.now beside.now storage.new f result }
+    ensures holds { HoldsShown S.stored storage.new layout.now }
+    ensures others { LeavesOthers S.stored layout.now storage.old storage.new }
+    ensures frame { S.frame storage.new ≡ S.frame storage.old }
+{
+    zip_places(storage, layout.places(), others, beside.places(), f)
+}
+
+/// The same in halves, one after the other, where long lanes go across the order of the second storage's elements.
+fn zip_in_halves<B, S, Z, D, T, F>(
+    storage: &mut S,
+    layout: &Layout<D, T>,
+    others: &Z,
+    beside: &Layout<D, T>,
+    f: F,
+) -> F
+where
+    S: DataMut,
+    Z: Data<Elem = B>,
+    D: Dimension,
+    T: StrideList,
+    F: FnMut(&mut S::Elem, &B),
+    requires alike { D.lengths beside.now.dim ≡ D.lengths layout.now.dim }
+    requires apart { KeepsApart (placement_of layout.now) }
+    requires holds { HoldsShown S.stored storage.old layout.now }
+    requires others_hold { HoldsShown Z.stored others.now beside.now }
+    requires callable { TakesShown F.FnMut S.stored Z.stored storage.old layout.now others.now beside.now f }
+    ensures visits { ZipsTo F.FnMut S.stored Z.stored storage.old layout.now others.now beside.now storage.new f result }
+    ensures holds { HoldsShown S.stored storage.new layout.now }
+    ensures others { LeavesOthers S.stored layout.now storage.old storage.new }
+    ensures frame { S.frame storage.new ≡ S.frame storage.old }
+{
+    let Some(halves) = halved_alike(layout, beside) else {
+        return zip_in_order(storage, layout, others, beside, f);
+    };
+    let now = zip_in_halves(storage, &halves.lower, others, &halves.lower_beside, f);
+    zip_in_halves(storage, &halves.upper, others, &halves.upper_beside, now)
+}
+
+/// The same in an order that is free and goes along memory: where that pays, the axes of both layouts are turned alike before,
+/// and both are cut in halves.
+pub fn zip_layouts<B, S, Z, D, T, F>(
+    storage: &mut S,
+    layout: &Layout<D, T>,
+    others: &Z,
+    beside: &Layout<D, T>,
+    f: F,
+)
+where
+    S: DataMut,
+    Z: Data<Elem = B>,
+    D: Dimension,
+    T: StrideList,
+    F: FnMut(&mut S::Elem, &B),
+    requires alike { D.lengths beside.now.dim ≡ D.lengths layout.now.dim }
+    requires apart { KeepsApart (placement_of layout.now) }
+    requires holds { HoldsShown S.stored storage.old layout.now }
+    requires others_hold { HoldsShown Z.stored others.now beside.now }
+    requires callable { TakesShown F.FnMut S.stored Z.stored storage.old layout.now others.now beside.now f }
+    ensures visits { ZipsShown F.FnMut S.stored Z.stored storage.old layout.now others.now beside.now storage.new f }
+    ensures holds { HoldsShown S.stored storage.new layout.now }
+    ensures others { LeavesOthers S.stored layout.now storage.old storage.new }
+    ensures frame { S.frame storage.new ≡ S.frame storage.old }
+{
+    if !is_worth_turning(layout, beside) {
+        zip_in_order(storage, layout, others, beside, f);
+        return;
+    }
+    let (turned, other) = turned_alike(layout, beside);
+    zip_in_halves(storage, &turned, others, &other, f);
+}

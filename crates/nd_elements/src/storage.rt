@@ -1,0 +1,593 @@
+//! The storages of arrays: an owned vector, or a borrow of elements, shared or to be written.
+
+ghost use Rattle.std.specs.Prelude.{◌≡◌, ◌+◌, ◌*◌, ◌<◌, ◌≤◌, ◌^◌, ⊤, ℕ, length, Bool, true, false, List, [], Option, IsSome, Some, IfOk, IfErr, OnErr, is_ok, slice_get, slice_range, refl, vec_capacity};
+ghost use Rattle.std.specs.Borrow.{sem};
+ghost use Rattle.std.specs.List.{flat_map};
+ghost use Rattle.std.specs.Option.{is_some};
+ghost use Rattle.std.specs.Vec.{with_item, with_items};
+ghost use Rattle.nd_elements.specs.StorageFrame.{StorageFrame, Owned, Borrowed};
+ghost use Rattle.nd_layout.specs.Placements.{placement_of};
+ghost use Rattle.nd_region.specs.Shared.{shared_stored};
+ghost use Rattle.nd_region.specs.Places.{overwritten_items, run_written};
+ghost use Rattle.nd_region.specs.Region.{region_stored, borrow_of, elements_of, with_element as region_with, with_items as region_items, with_run as region_with_run, IsAsLong};
+ghost use Rattle.nd_elements.specs.ByLayout.{HoldsEach, HasNamed, HasUnnamed};
+ghost use Rattle.nd_elements.specs.Places.{HoldsAll, written_at, swapped_at};
+ghost use Rattle.nd_elements.specs.Scoped.{TakesNamed, GivesNamedBack, IsStoredReturned, MayLendPart, IsPartGivenBack};
+ghost use Rattle.nd_elements.specs.Storages.{shown_by, stored_list, room_of};
+ghost use Rattle.nd_elements.specs.ElementMut.{place_ends, KeepsPlaces, item_kept, item_written, place_kept, place_written};
+ghost use Rattle.nd_elements.specs.NewElements.{overwritten_itself, overwritten_again, places_there, places_kept, items_there, items_kept, items_itself, items_again, items_put, items_beside, places_put, places_beside};
+ghost use Rattle.nd_elements.specs.StorageLaws.{WritesOneElement, HoldsWrittenRun, KeepsBesideRun, HoldsLastRefill, HasRefilledItems, KeepsUnfilledPlaces, HoldsWhereBefore};
+ghost use Rattle.nd_elements.specs.RunLent.{run_ends, region_ends, run_start, HasRunAt, IsRunAt, HasItemsAt, places_run, places_beside_run, items_run, items_beside_run};
+ghost use Rattle.nd_elements.specs.Lends.{written_from};
+ghost use Rattle.nd_elements.specs.Clones.{StoredClonesAreEqual};
+
+use nd_layout::Layout;
+use nd_region::{Region, SharedRegion, with_region};
+use nd_shape_and_slice::{Dimension, StrideList};
+use std::alloc::AllocError;
+use std::mem;
+use std::snapshot::Snapshot;
+
+/// A storage of elements, each at a place: a number from 0. ndarray's `Data`.
+pub trait Data {
+    /// What is stored. ndarray's `RawData::Elem`.
+    type Elem;
+
+    /// The element at a place, if there is one.
+    ghost stored: { Self → ℕ → Option Self.Elem };
+    /// Whether each element of an array over it must have one index alone.
+    ghost exclusive: { Bool };
+    /// Whether it owns its elements.
+    ghost owned: { Bool };
+    /// The storage with another element at a place; a storage that can't be written stays as it is. It holds something
+    /// where it did before.
+    ghost with_element: { (s : Self) → ℕ → Self.Elem → (t : Self) × KeepsPlaces (stored s) (stored t) };
+
+    /// The storage with other elements at that many places from one on, where it may be written. It holds something where
+    /// it did before.
+    ghost with_run: { (s : Self) → ℕ → ℕ → List Self.Elem → (t : Self) × KeepsPlaces (stored s) (stored t) };
+
+    /// All elements in the order in which they lie, also those that no index names.
+    ghost items: { Self → List Self.Elem };
+    /// How many elements it can come to own without memory; a borrow none.
+    ghost room: { Self → ℕ };
+    /// The storage with these elements in place of its own, where it may be written. It holds something where it did
+    /// before.
+    ghost refilled: { (s : Self) → List Self.Elem → (t : Self) × KeepsPlaces (stored s) (stored t) };
+
+    /// The element at a place.
+    fn element(&self, place: usize) -> &Self::Elem
+        requires { IsSome (stored self.now place) }
+        ensures { stored self.now place ≡ Some result.now };
+
+    /// The same elements, borrowed.
+    #[inline]
+    fn borrowed(&self) -> ViewRepr<'_, Self::Elem>
+        ensures { (place : ℕ) → shown_by result place ≡ stored self.now place };
+
+    /// The elements themselves where it owns them, and else the storage as it is.
+    fn into_items(self) -> Result<Vec<Self::Elem>, Self>
+        ensures owned { is_ok result ≡ owned }
+        ensures alone { IfOk result (λ _. exclusive ≡ true) }
+        ensures items { IfOk result (λ v. v.items ≡ items self) }
+        ensures room { IfOk result (λ v. vec_capacity v ≡ room self) }
+        ensures elements { IfOk result (λ v. (place : ℕ) → slice_get v.items place ≡ stored self place) }
+        ensures kept { IfErr result (λ s. s ≡ self) };
+}
+
+/// Elements in a vector that the array owns. ndarray's `OwnedRepr`.
+#[derive(Drop)]
+pub struct OwnedRepr<A> {
+    pub items: Vec<A>,
+}
+
+impl<A> OwnedRepr<A> {
+    ghost use Rattle.std.specs.Borrow.{sem};
+    ghost use Rattle.nd_elements.specs.Lends.{items_follow, vec_run_follows};
+
+    /// The elements, to be written.
+    pub(crate) fn items_mut(&mut self) -> &mut [A]
+        ensures* writes_back { sem 𝓛 (items_follow A.row self.entry result) }
+        ensures value { result.now ≡ self.old.items.items }
+    {
+        self.items.as_mut_slice()
+    }
+
+    /// That many elements from a place on, to be written.
+    pub(crate) fn run_mut(&mut self, first: usize, count: usize) -> &mut [A]
+        requires { first + count ≤ length self.old.items.items }
+        ensures* writes_back { sem 𝓛 (vec_run_follows A.row self.entry first result) }
+        ensures value { result.now ≡ slice_range self.old.items.items first (first + count) }
+        ensures count { length result.now ≡ count }
+    {
+        self.items.slice_mut(first..first + count)
+    }
+}
+
+/// Where that many elements from a place on begin: none need no place.
+fn start_of_run(place: usize, count: usize) -> usize
+    ensures { result ≡ run_start place count }
+{
+    if count == 0 { 0 } else { place }
+}
+
+/// Elements that are borrowed, to be read. ndarray's `ViewRepr<&'a A>`.
+pub struct ViewRepr<'a, A> {
+    pub region: SharedRegion<'a, A>,
+}
+
+impl<'a, A> ViewRepr<'a, A> {
+    /// All places of a slice.
+    pub fn of_slice(items: &'a [A]) -> Self
+        ensures { (place : ℕ) → shared_stored result.region place ≡ slice_get items.now place }
+    {
+        ViewRepr {
+            region: SharedRegion::from_slice(items),
+        }
+    }
+
+    /// All places of rows of N elements each, one row after the other.
+    pub fn of_rows<const N: usize>(rows: &'a [[A; N]]) -> Self
+        requires { length rows.now * N < 2 ^ 63 }
+        ensures elements { (place : ℕ) → shared_stored result.region place ≡ slice_get (flat_map (λ row. row) rows.now) place }
+        ensures count { length (flat_map (λ row. row) rows.now) ≡ length rows.now * N }
+    {
+        ViewRepr::of_slice(rows.as_flattened())
+    }
+}
+
+impl<'a, A> Clone for ViewRepr<'a, A> {
+    ghost is_clone = { λ view copy. copy ≡ view };
+
+    ghost is_infallible = { λ _. ⊤ };
+
+    fn clone(&self) -> Result<Self, AllocError> {
+        Ok(ViewRepr {
+            region: self.region,
+        })
+    }
+}
+
+impl<'a, A> Copy for ViewRepr<'a, A> {}
+
+impl<A> Data for OwnedRepr<A> {
+    type Elem = A;
+
+    ghost stored = { λ s place. slice_get s.items.items place };
+
+    ghost exclusive = { true };
+
+    ghost owned = { true };
+
+    ghost with_element = { λ s place x. (record { items = with_item s.items place x }, item_kept s.items.items place x) };
+
+    ghost with_run = { λ s place count ws. (record { items = with_items s.items (written_from s.items.items (run_start place count) ws) }, items_kept s.items (written_from s.items.items (run_start place count) ws)) };
+
+    ghost items = { λ s. s.items.items };
+
+    ghost room = { λ s. room_of s };
+
+    ghost refilled = { λ s ws. (record { items = with_items s.items ws }, items_kept s.items ws) };
+
+    fn element(&self, place: usize) -> &A {
+        &self.items[place]
+    }
+
+    #[inline]
+    fn borrowed(&self) -> ViewRepr<'_, A> {
+        ViewRepr::of_slice(self.items.as_slice())
+    }
+
+    fn into_items(self) -> Result<Vec<A>, Self> {
+        Ok(self.items)
+    }
+}
+
+impl<'a, A> Data for ViewRepr<'a, A> {
+    type Elem = A;
+
+    ghost stored = { λ s place. shared_stored s.region place };
+
+    ghost exclusive = { false };
+
+    ghost owned = { false };
+
+    ghost with_element = { λ s _ _. (s, λ p has. has) };
+
+    ghost with_run = { λ s _ _ _. (s, λ p has. has) };
+
+    ghost items = { λ _. [] };
+
+    ghost room = { λ _. 0 };
+
+    ghost refilled = { λ s _. (s, λ p has. has) };
+
+    fn element(&self, place: usize) -> &A {
+        let region = self.region;
+        region.get(place)
+    }
+
+    #[inline]
+    fn borrowed(&self) -> ViewRepr<'_, A> {
+        ViewRepr {
+            region: self.region.reborrowed(),
+        }
+    }
+
+    fn into_items(self) -> Result<Vec<A>, Self> {
+        Err(self)
+    }
+}
+
+/// Elements in a region. The region's type is a parameter, so that a borrow of the field needs no proof by hand.
+#[derive(Drop)]
+pub struct RegionRepr<R> {
+    pub region: R,
+    /// Ties the region to the array that lends it: the array's contract follows this name. It has no bytes.
+    pub tie: Snapshot<usize>,
+}
+
+/// Elements that are borrowed, to be read and written. ndarray's `ViewRepr<&'a mut A>`.
+pub type ViewMutRepr<'a, A> = RegionRepr<Region<'a, A>>;
+
+impl<'a, A> ViewMutRepr<'a, A> {
+    /// A region as a storage.
+    pub fn of_region(region: Region<'a, A>) -> Self
+        ensures { result.region ≡ region.entry }
+    {
+        RegionRepr {
+            region,
+            tie: Snapshot::of(&0),
+        }
+    }
+
+    /// Moves the places that a layout names into a storage of their own. They keep their numbers.
+    pub fn split<D: Dimension, T: StrideList>(&mut self, layout: &Layout<D, T>) -> Self
+        requires { HoldsEach (region_stored self.old.region) (placement_of layout.now) }
+        ensures taken { HasNamed (placement_of layout.now) (region_stored self.old.region) (region_stored result.region) }
+        ensures left { HasUnnamed (placement_of layout.now) (region_stored self.old.region) (region_stored self.new.region) }
+    {
+        RegionRepr {
+            region: self
+                .region
+                .split(layout.offset, layout.dim.slice(), layout.strides.slice()),
+            tie: Snapshot::of(&0),
+        }
+    }
+}
+
+impl<R> RegionRepr<R> {
+    ghost use Rattle.nd_elements.specs.RegionLent.{lends_region};
+
+    fn region_mut(&mut self) -> &mut R
+        ensures* writes_back { sem 𝓛 (lends_region R.row self.entry result) }
+        ensures value { result.now ≡ self.old.region }
+    {
+        &mut self.region
+    }
+}
+
+impl<'a, A> Data for ViewMutRepr<'a, A> {
+    type Elem = A;
+
+    ghost stored = { λ s place. region_stored s.region place };
+
+    ghost exclusive = { true };
+
+    ghost owned = { false };
+
+    ghost with_element = { λ s place x. (record { region = region_with s.region place x; tie = s.tie }, place_kept s.region.items s.region.held place x) };
+
+    ghost with_run = { λ s place count ws. (record { region = region_with_run s.region place count ws; tie = s.tie }, places_kept s.region.items (run_written s.region.items place count ws) s.region.held) };
+
+    ghost items = { λ s. s.region.items };
+
+    ghost room = { λ _. 0 };
+
+    ghost refilled = { λ s ws. (record { region = region_items s.region (overwritten_items s.region.items ws); tie = s.tie }, places_kept s.region.items ws s.region.held) };
+
+    fn element(&self, place: usize) -> &A {
+        self.region.get(place)
+    }
+
+    #[inline]
+    fn borrowed(&self) -> ViewRepr<'_, A> {
+        ViewRepr {
+            region: self.region.share(),
+        }
+    }
+
+    fn into_items(self) -> Result<Vec<A>, Self> {
+        Err(self)
+    }
+}
+
+/// A storage whose elements may be written. ndarray's `DataMut`.
+pub trait DataMut: Data {
+    /// What stays the same while elements change: of owned elements how many there are and for how many there is room,
+    /// of borrowed ones which borrow they are of, and its places.
+    ghost frame: { Self → StorageFrame };
+
+    /// Writes the element at a place, and returns the old one.
+    fn replace(&mut self, place: usize, value: Self::Elem) -> Self::Elem
+        requires { IsSome (Self.stored self.old place) }
+        ensures old { Self.stored self.old place ≡ Some result }
+        ensures new { (p : ℕ) → Self.stored self.new p ≡ written_at (Self.stored self.old) place value p }
+        ensures frame { frame self.new ≡ frame self.old };
+
+    /// The element at a place, to be written.
+    fn element_mut(&mut self, place: usize) -> &mut Self::Elem
+        requires { IsSome (Self.stored self.old place) }
+        ensures* writes_back { sem 𝓛 (place_ends Self.row Self.Elem.row self.entry result (Self.with_element self.old place)) }
+        ensures value { Self.stored self.old place ≡ Some result.now };
+
+    /// The elements at that many places from one on, to be written. None need no place.
+    fn lend_run(&mut self, place: usize, count: usize) -> &mut [Self::Elem]
+        requires { HasRunAt (Self.stored self.old) place count }
+        ensures* writes_back { sem 𝓛 (run_ends Self.row Self.Elem.row self.entry result (Self.with_run self.old place count)) }
+        ensures values { IsRunAt (Self.stored self.old) place count result.now };
+
+    /// Lends all places, for a shorter time.
+    fn lend(&mut self) -> Region<'_, Self::Elem>
+        ensures* writes_back { sem 𝓛 (region_ends Self.row Self.Elem.row self.entry result (Self.refilled self.old)) }
+        ensures places { (place : ℕ) → region_stored result place ≡ Self.stored self.old place }
+        ensures items { elements_of result ≡ Self.items self.old };
+
+    /// Exchanges the elements at two places.
+    fn swap(&mut self, p: usize, q: usize)
+        requires p { IsSome (Self.stored self.old p) }
+        requires q { IsSome (Self.stored self.old q) }
+        ensures new { (r : ℕ) → Self.stored self.new r ≡ swapped_at (Self.stored self.old) p q r }
+        ensures frame { frame self.new ≡ frame self.old };
+
+    /// Lends f the places that the layout names by its offset, lengths and strides, for the length of the call.
+    /// Afterwards each of them holds what f left there, and every other place what it held before. That f gives the
+    /// same borrow back is the condition `returns`.
+    fn with_part<R, F: for<'b> FnOnce(Region<'b, Self::Elem>) -> (Region<'b, Self::Elem>, R)>(
+        &mut self,
+        offset: usize,
+        lengths: &[usize],
+        strides: &[isize],
+        f: F,
+    ) -> R
+        requires as_many { length lengths.now ≡ length strides.now }
+        requires holds { HoldsAll (Self.stored self.old) offset lengths.now strides.now }
+        requires callable { TakesNamed (F.pre f) (Self.stored self.old) offset lengths.now strides.now }
+        requires returns { GivesNamedBack (F.post f) (Self.stored self.old) offset lengths.now strides.now }
+        ensures part { IsStoredReturned (F.post f) Self.stored self.old self.new offset lengths.now strides.now result }
+        ensures there { (p : ℕ) → is_some (Self.stored self.new p) ≡ is_some (Self.stored self.old p) }
+        ensures frame { frame self.new ≡ frame self.old };
+
+    /// Each element has one index alone.
+    ghost alone: { Self.Data.exclusive ≡ true };
+
+    /// A write changes no other element.
+    ghost element_written: { WritesOneElement Self.Data.stored Self.Data.with_element };
+
+    /// A write keeps the frame.
+    ghost element_frame: { (s : Self) (place : ℕ) (x : Self.Elem) → frame (Self.Data.with_element s place x).0 ≡ frame s };
+
+    /// Written along a run, it holds these elements there.
+    ghost run_written: { HoldsWrittenRun Self.Data.stored Self.Data.with_run };
+
+    /// And elsewhere what it held.
+    ghost run_left: { KeepsBesideRun Self.Data.stored Self.Data.with_run };
+
+    /// A write along a run keeps the frame.
+    ghost run_frame: { (s : Self) (place count : ℕ) (ws : List Self.Elem) → frame (Self.Data.with_run s place count ws).0 ≡ frame s };
+
+    /// Refilled with its own elements, a storage is unchanged.
+    ghost refilled_itself: { (s : Self) → (Self.Data.refilled s (Self.Data.items s)).0 ≡ s };
+
+    /// Refilled twice, it holds the last elements.
+    ghost refilled_again: { HoldsLastRefill Self.Data.stored Self.Data.refilled Self.Data.items };
+
+    /// Refilled with as many elements as it has, it has these.
+    ghost refilled_items: { HasRefilledItems Self.Data.stored Self.Data.refilled Self.Data.items };
+
+    /// Refilled at the places that pass a test, it holds at every other what it held.
+    ghost refilled_elsewhere: { KeepsUnfilledPlaces Self.Data.stored Self.Data.refilled Self.Data.items };
+
+    /// A refilled storage holds something exactly where it did before.
+    ghost refilled_there: { HoldsWhereBefore Self.Data.stored Self.Data.refilled };
+
+    /// A refill keeps the frame.
+    ghost refilled_frame: { (s : Self) (ws : List Self.Elem) → frame (Self.Data.refilled s ws).0 ≡ frame s };
+}
+
+/// A storage that owns its elements. ndarray's `DataOwned`.
+pub trait DataOwned: Data {
+    /// A storage of a vector's elements, at the places from 0.
+    fn from_items(vector: Vec<Self::Elem>) -> Self
+        ensures items { Self.items result ≡ vector.items }
+        ensures elements { (place : ℕ) → Self.stored result place ≡ slice_get vector.items place };
+
+    /// It owns them.
+    ghost owns: { Self.Data.owned ≡ true };
+}
+
+impl<A> DataOwned for OwnedRepr<A> {
+    ghost owns = { refl };
+
+    fn from_items(vector: Vec<A>) -> Self
+        ensures items { result.items.items ≡ vector.items }
+        ensures elements { (place : ℕ) → slice_get result.items.items place ≡ slice_get vector.items place }
+    {
+        OwnedRepr { items: vector }
+    }
+}
+
+impl<A> DataMut for OwnedRepr<A> {
+    ghost frame = { λ s. Owned s.items.len s.items.cap };
+
+    ghost alone = { refl };
+
+    ghost element_written = { λ s place x p has. item_written s.items.items place p x has };
+
+    ghost element_frame = { λ s place x. refl };
+
+    ghost run_written = { λ s place count ws holds long k below. items_run s.items place count ws holds long k below };
+
+    ghost run_left = { λ s place count ws holds long p beside. items_beside_run s.items place count ws holds long p beside };
+
+    ghost run_frame = { λ s place count ws. refl };
+
+    ghost refilled_itself = { λ s k. record { items = items_itself s.items k } };
+
+    ghost refilled_again = { λ s ws k. record { items = items_again s.items ws k } };
+
+    ghost refilled_items = { λ s ws long. items_put s.items ws long };
+
+    ghost refilled_elsewhere = { λ s test ws p other. items_beside s.items test ws p other };
+
+    ghost refilled_there = { λ s ws p. items_there s.items ws p };
+
+    ghost refilled_frame = { λ s ws. refl };
+
+    fn element_mut(&mut self, place: usize) -> &mut A {
+        &mut self.items[place]
+    }
+
+    fn lend_run(&mut self, place: usize, count: usize) -> &mut [A] {
+        self.run_mut(start_of_run(place, count), count)
+    }
+
+    fn lend(&mut self) -> Region<'_, A> {
+        Region::from_slice(self.items_mut())
+    }
+
+    fn replace(&mut self, place: usize, value: A) -> A {
+        mem::replace(&mut self.items[place], value)
+    }
+
+    fn swap(&mut self, p: usize, q: usize) {
+        self.items.as_mut_slice().swap(p, q);
+    }
+
+    fn with_part<R, F: for<'b> FnOnce(Region<'b, A>) -> (Region<'b, A>, R)>(
+        &mut self,
+        offset: usize,
+        lengths: &[usize],
+        strides: &[isize],
+        f: F,
+    ) -> R {
+        part_of_slice(self.items.as_mut_slice(), offset, lengths, strides, f)
+    }
+}
+
+impl<'a, A> DataMut for ViewMutRepr<'a, A> {
+    ghost frame = { λ s. Borrowed (borrow_of s.region) };
+
+    ghost alone = { refl };
+
+    ghost element_written = { λ s place x p has. place_written s.region.items s.region.held place p x has };
+
+    ghost element_frame = { λ s place x. refl };
+
+    ghost run_written = { λ s place count ws holds long k below. places_run s.region.items s.region.held place count ws holds long k below };
+
+    ghost run_left = { λ s place count ws holds long p beside. places_beside_run s.region.items s.region.held place count ws holds long p beside };
+
+    ghost run_frame = { λ s place count ws. refl };
+
+    ghost refilled_itself = { λ s k. record { region = region_items s.region (overwritten_itself s.region.items k); tie = s.tie } };
+
+    ghost refilled_again = { λ s ws k. record { region = region_items s.region (overwritten_again s.region.items ws k); tie = s.tie } };
+
+    ghost refilled_items = { λ s ws long. places_put s.region.items ws long };
+
+    ghost refilled_elsewhere = { λ s test ws p other. places_beside s.region.items s.region.held test ws p other };
+
+    ghost refilled_there = { λ s ws p. places_there s.region.items ws s.region.held p };
+
+    ghost refilled_frame = { λ s ws. refl };
+
+    fn lend(&mut self) -> Region<'_, A> {
+        self.region.reborrow()
+    }
+
+    fn element_mut(&mut self, place: usize) -> &mut A {
+        let region = self.region_mut();
+        region.get_mut(place)
+    }
+
+    fn lend_run(&mut self, place: usize, count: usize) -> &mut [A] {
+        let region = self.region_mut();
+        region.run_mut(place, count)
+    }
+
+    fn replace(&mut self, place: usize, value: A) -> A {
+        self.region.replace(place, value)
+    }
+
+    fn swap(&mut self, p: usize, q: usize) {
+        self.region.swap(p, q);
+    }
+
+    fn with_part<R, F: for<'b> FnOnce(Region<'b, A>) -> (Region<'b, A>, R)>(
+        &mut self,
+        offset: usize,
+        lengths: &[usize],
+        strides: &[isize],
+        f: F,
+    ) -> R {
+        self.region.with_part(offset, lengths, strides, f)
+    }
+}
+
+/// Lends a part of a slice as a region, for the length of the call.
+pub fn part_of_slice<A, R, F: for<'b> FnOnce(Region<'b, A>) -> (Region<'b, A>, R)>(
+    items: &mut [A],
+    offset: usize,
+    lengths: &[usize],
+    strides: &[isize],
+    f: F,
+) -> R
+    requires as_many { length lengths.now ≡ length strides.now }
+    requires holds { HoldsAll (slice_get items.old) offset lengths.now strides.now }
+    requires callable { TakesNamed (F.pre f) (slice_get items.old) offset lengths.now strides.now }
+    requires returns { GivesNamedBack (F.post f) (slice_get items.old) offset lengths.now strides.now }
+    ensures part { IsStoredReturned (F.post f) slice_get items.old items.new offset lengths.now strides.now result }
+    ensures long { length items.new ≡ length items.old }
+{
+    with_region(
+        items,
+        |region|
+            requires { MayLendPart (F.pre f) (F.post f) offset lengths.now strides.now region }
+            ensures part { IsPartGivenBack (F.post f) offset lengths.entry.now strides.entry.now region.entry result.0 result.1 }
+            ensures same { borrow_of result.0 ≡ borrow_of region.entry }
+            ensures long { IsAsLong region.entry result.0 }
+        {
+            let mut region = region;
+            let answer = region.with_part(offset, lengths, strides, f);
+            (region, answer)
+        },
+    )
+}
+
+/// A storage of clones.
+#[tactic(auto, using(crate::proofs::Clones::clones_same))]
+pub fn cloned_storage<A: Clone>(storage: &OwnedRepr<A>) -> Result<OwnedRepr<A>, AllocError>
+    requires { StoredClonesAreEqual A.is_clone (stored_list storage.now) }
+    ensures stored { IfOk result (λ copy. stored_list copy ≡ stored_list storage.now) }
+    ensures refused { OnErr result (0 < length (stored_list storage.now)) }
+{
+    match storage.items.clone() {
+        Ok(items) => Ok(OwnedRepr { items }),
+        Err(_) if storage.items.as_slice().is_empty() => Ok(OwnedRepr {
+            items: Vec::new(*storage.items.allocator()),
+        }),
+        Err(refused) => Err(refused),
+    }
+}
+
+impl<'a, A> ViewRepr<'a, A> {
+    /// That many elements from a place on.
+    pub fn run(self, first: usize, count: usize) -> &'a [A]
+        requires { HasRunAt (shown_by self) first count }
+        ensures count { length result.now ≡ count }
+        ensures elements { HasItemsAt (shown_by self.entry) first count result.now }
+    {
+        self.region.run(first, count)
+    }
+}

@@ -1,8 +1,0 @@
-use Rattle.std.specs.Prelude.{◌≡◌, pos, ◌+ℤ◌, ◌*ℤ◌}
-use Rattle.nd_storage.specs.along.Accumulated.{IsAccumulated}
-use Rattle.nd_storage.proofs.along.accumulate_axis.accumulate_lane.Given as goal
-
-abbrev pub invariant-loop-nth : goal.invariant-loop-nth
-invariant-loop-nth g l =
-    IsAccumulated g.F.FnMut (λ k. pos l.fn.lane.place +ℤ (pos k *ℤ l.fn.lane.stride)) l.nth (g.S.Data.stored l.fn.storage) (g.S.Data.stored l.storage) l.fn.f l.now
-    × (g.S.DataMut.frame l.storage ≡ g.S.DataMut.frame l.fn.storage)

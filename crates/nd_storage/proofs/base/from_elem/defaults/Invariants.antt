@@ -1,6 +1,0 @@
-use Rattle.std.proofs.Common.{◌≡◌, ◌≤◌, vec_len, vec_capacity}
-use Rattle.std.specs.List.{All}
-use Rattle.nd_storage.proofs.base.from_elem.defaults.Given as goal
-
-abbrev pub invariant-loop : goal.invariant-loop
-invariant-loop g l = (vec_len l.items ≡ l.counter) × (l.fn.count ≤ vec_capacity l.items) × All g.A.Default.is_default l.items.items

@@ -1,6 +1,0 @@
-use Rattle.std.specs.Prelude.{◌≡◌, take}
-use Rattle.std.specs.Cmp.Lexicographic.{pointwise}
-use Rattle.nd_storage.proofs.elements.eq.blocks_equal.Given as goal
-
-abbrev pub invariant-loop-nth : goal.invariant-loop-nth
-invariant-loop-nth g l = l.same ≡ pointwise g.A.PartialEq.eq (take l.nth l.fn.xs) (take l.nth l.fn.ys)

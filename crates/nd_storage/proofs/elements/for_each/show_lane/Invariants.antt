@@ -1,7 +1,0 @@
-use Rattle.nd_layout.specs.Lanes.{along}
-use Rattle.nd_storage.specs.NumberedPlaces.{elements_at}
-use Rattle.nd_storage.specs.elements.Maps.{AnswersElement, RanNumbered}
-use Rattle.nd_storage.proofs.elements.for_each.show_lane.Given as goal
-
-abbrev pub invariant-loop-nth : goal.invariant-loop-nth
-invariant-loop-nth g l = RanNumbered (AnswersElement g.F.FnMut) (elements_at g.S.Data.stored (along l.fn.lane) l.fn.storage) l.fn.f l.nth l.f

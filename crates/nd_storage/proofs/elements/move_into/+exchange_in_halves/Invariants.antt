@@ -1,5 +1,0 @@
-use Rattle.std.specs.List.{sum}
-use Rattle.nd_storage.proofs.elements.move_into.+exchange_in_halves.Given as goal
-
-abbrev pub decreases-exchange_in_halves : goal.decreases-exchange_in_halves
-decreases-exchange_in_halves g l = sum (g.D.Dimension.lengths l.layout.now.dim)

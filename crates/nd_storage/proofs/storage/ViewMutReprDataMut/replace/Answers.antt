@@ -1,9 +1,0 @@
-use Rattle.std.proofs.Common.{◌∙◌, ap}
-use Rattle.nd_region.specs.Region.{region_stored}
-use Rattle.nd_region.proofs.Written.{written_map}
-use Rattle.nd_storage.proofs.storage.ViewMutReprDataMut.replace.Goals as goal
-
-pub returns-clause-new : goal.returns-clause-new
-returns-clause-new g c p =
-    let region = c.args.self.now.region in
-    ap (λ r. region_stored r p) c.replace.ensures.new ∙ written_map region.items region.held c.args.place p c.args.value c.requires
