@@ -1,5 +1,5 @@
 -- When two arrays are equal, and what of an array a hasher is fed.
-use Rattle.std.specs.Prelude.{◌≡◌, ◌↔◌, ◌<◌, ℕ, Bool, true, ◌&&◌, nat_eq, List, [], ◌∷◌, ◌++◌, Some, slice_index}
+use Rattle.std.specs.Prelude.{◌≡◌, ◌↔◌, ◌<◌, ℕ, Bool, ◌&&◌, nat_eq, List, [], ◌∷◌, ◌++◌, Some, slice_index, IsTrue}
 use Rattle.std.specs.Cmp.{IsPartialEquivalence, IsEquivalence, partial_equiv_from_equiv, and_per, and_equiv, on_per, on_equiv, nat_eq_equiv, unsigned_Decides, first_so, second_so}
 use Rattle.std.specs.Cmp.Lexicographic.{pointwise, lists_per, lists_equiv}
 use Rattle.std.specs.Hash.{HashWrites, Alike, and-Alike, on_Alike, items_Alike, same_Alike, slice, usize}
@@ -15,11 +15,11 @@ module _ {A : Type 0} where
 
   -- the shapes are the same, and the elements at each index are equal
   abbrev pub EqualEverywhere : (A → A → Bool) → Meaning A → Meaning A → Type 0
-  EqualEverywhere equal m n = (m.shape ≡ n.shape) × ((i : List ℕ) (x y : A) → m.at i ≡ Some x → n.at i ≡ Some y → equal x y ≡ true)
+  EqualEverywhere equal m n = (m.shape ≡ n.shape) × ((i : List ℕ) (x y : A) → m.at i ≡ Some x → n.at i ≡ Some y → IsTrue (equal x y))
 
   -- elements are equal exactly where they are the same, as numbers are
   abbrev pub EqualIsSame : (A → A → Bool) → Type 0
-  EqualIsSame equal = (x y : A) → (equal x y ≡ true) ↔ (x ≡ y)
+  EqualIsSame equal = (x y : A) → IsTrue (equal x y) ↔ (x ≡ y)
 
   -- two images have the same shape, and the same element at each row and column
   abbrev pub SameCells : Meaning A → Meaning A → Type 0
@@ -40,8 +40,8 @@ module _ {A : Type 0} where
   pub meanings_equiv : {E : A → A → Bool} → IsEquivalence E → IsEquivalence (equal_meanings E)
   meanings_equiv e = and_equiv (on_equiv (λ m. m.shape) (lists_equiv nat_eq_equiv)) (on_equiv row_major_elements (lists_equiv e))
 
-  module _ {E : A → A → Bool} {F : A → HashWrites} (alike : (x y : A) → E x y ≡ true → F x ≡ F y) where
-    each_fed : (xs ys : List A) → pointwise E xs ys ≡ true → flat_map F xs ≡ flat_map F ys
+  module _ {E : A → A → Bool} {F : A → HashWrites} (alike : (x y : A) → IsTrue (E x y) → F x ≡ F y) where
+    each_fed : (xs ys : List A) → IsTrue (pointwise E xs ys) → flat_map F xs ≡ flat_map F ys
     each_fed [] [] h = refl
     each_fed [] (y ∷ ys) h = absurd cc
     each_fed (x ∷ xs) [] h = absurd cc

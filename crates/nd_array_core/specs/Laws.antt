@@ -1,5 +1,5 @@
 -- Laws of layout calls. They stand over meanings alone: a shape, and an element at each index of its box.
-use Rattle.std.specs.Prelude.{◌≡◌, ◌<◌, ◌≤◌, ◌==◌, ℕ, true, false, List, [], ◌∷◌, length, map, reverse, swap, slice_index, slice_set, Option, None, Some, is_some, ⊤}
+use Rattle.std.specs.Prelude.{◌≡◌, ◌<◌, ◌≤◌, ◌==◌, ℕ, false, List, [], ◌∷◌, length, map, reverse, swap, slice_index, slice_set, Option, None, Some, is_some, ⊤, IsTrue}
 use Rattle.std.specs.List.{position_or_len, range_with_len}
 use Rattle.nd_shape_and_slice.specs.declared.slice.Slice.{Slice}
 use Rattle.nd_shape_and_slice.specs.Axes.{HasEachAxis, permuted_list, unpermuted_list}
@@ -62,7 +62,7 @@ abbrev pub twice_sliced_from : ℕ → Slice → Slice → ℕ → ℕ
 twice_sliced_from n first second c = sliced_from n first (sliced_from (sliced_length n first) second c)
 
 abbrev pub SlicedTwice : Type 0 → Type 0
-SlicedTwice A = (m : Meaning A) (a : ℕ) (first second : Slice) → a < length m.shape → fits_axis (slice_index m.shape a) first ≡ true → fits_axis (sliced_length (slice_index m.shape a) first) second ≡ true → with_axis_sliced a second (with_axis_sliced a first m) ≡ meaning_through (slice_set m.shape a (sliced_length (sliced_length (slice_index m.shape a) first) second)) (λ i. slice_set i a (twice_sliced_from (slice_index m.shape a) first second (slice_index i a))) m
+SlicedTwice A = (m : Meaning A) (a : ℕ) (first second : Slice) → a < length m.shape → IsTrue (fits_axis (slice_index m.shape a) first) → IsTrue (fits_axis (sliced_length (slice_index m.shape a) first) second) → with_axis_sliced a second (with_axis_sliced a first m) ≡ meaning_through (slice_set m.shape a (sliced_length (sliced_length (slice_index m.shape a) first) second)) (λ i. slice_set i a (twice_sliced_from (slice_index m.shape a) first second (slice_index i a))) m
 
 -- ---- paths: one layout step after another, each with its new shape and the old index that each new one names
 pub record PathStep : Type 0 where
@@ -83,18 +83,18 @@ path_source (p ∷ ps) i = p.source (path_source ps i)
 
 -- a map from one box into another
 abbrev pub LeadsInside : List ℕ → (List ℕ → List ℕ) → List ℕ → Type 0
-LeadsInside new source old = (i : List ℕ) → in_box new i ≡ true → in_box old (source i) ≡ true
+LeadsInside new source old = (i : List ℕ) → IsTrue (in_box new i) → IsTrue (in_box old (source i))
 
 -- so do the maps of slices of one axis, of lists of slices, of lists under which an indexed axis stays, and of the axes in
 -- another order
 abbrev pub SlicesLeadInside : Type 0
-SlicesLeadInside = (ns : List ℕ) (a : ℕ) (s : Slice) → a < length ns → fits_axis (slice_index ns a) s ≡ true → LeadsInside (sliced_shape ns a s) (sliced_index ns a s) ns
+SlicesLeadInside = (ns : List ℕ) (a : ℕ) (s : Slice) → a < length ns → IsTrue (fits_axis (slice_index ns a) s) → LeadsInside (sliced_shape ns a s) (sliced_index ns a s) ns
 
 abbrev pub ListsLeadInside : Type 0
-ListsLeadInside = (ns : List ℕ) (es : List SliceInfoElem) → each_fits ns es ≡ true → LeadsInside (shape_after ns es) (index_before ns es) ns
+ListsLeadInside = (ns : List ℕ) (es : List SliceInfoElem) → IsTrue (each_fits ns es) → LeadsInside (shape_after ns es) (index_before ns es) ns
 
 abbrev pub CollapsedListsLeadInside : Type 0
-CollapsedListsLeadInside = (ns : List ℕ) (es : List SliceInfoElem) → each_fits ns es ≡ true → LeadsInside (collapsed_after ns es) (collapsed_before ns es) ns
+CollapsedListsLeadInside = (ns : List ℕ) (es : List SliceInfoElem) → IsTrue (each_fits ns es) → LeadsInside (collapsed_after ns es) (collapsed_before ns es) ns
 
 abbrev pub PermutationsLeadInside : Type 0
 PermutationsLeadInside = (ns : List ℕ) (axes : List ℕ) → HasEachAxis axes (length ns) → LeadsInside (permuted_list axes ns) (unpermuted_list axes) ns

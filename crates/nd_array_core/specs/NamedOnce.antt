@@ -1,6 +1,6 @@
 -- Index maps that name no old index twice: those of every layout step but broadcast, of a reshape, and so of each path of
 -- such steps. They are maps alone: no stride, and no storage, so they hold of read-only views too.
-use Rattle.std.specs.Prelude.{◌≡◌, ◌<◌, ◌≤◌, ◌&&◌, ℕ, Bool, true, false, List, [], ◌∷◌, length, reverse, swap, slice_index, ⊤}
+use Rattle.std.specs.Prelude.{◌≡◌, ◌<◌, ◌≤◌, ◌&&◌, ℕ, Bool, true, false, List, [], ◌∷◌, length, reverse, swap, slice_index, ⊤, IsTrue}
 use Rattle.nd_shape_and_slice.specs.declared.builder.Order.{Order}
 use Rattle.nd_shape_and_slice.specs.declared.slice.Slice.{Slice}
 use Rattle.nd_shape_and_slice.specs.declared.slice_info.SliceInfoElem.{SliceInfoElem}
@@ -18,17 +18,17 @@ use Rattle.nd_array_core.specs.reshape.Regrouped.{regrouped_index}
 
 -- no two indexes of a box lead to one
 abbrev pub NamesOnce : List ℕ → (List ℕ → List ℕ) → Type 0
-NamesOnce new source = (i j : List ℕ) → in_box new i ≡ true → in_box new j ≡ true → source i ≡ source j → i ≡ j
+NamesOnce new source = (i j : List ℕ) → IsTrue (in_box new i) → IsTrue (in_box new j) → source i ≡ source j → i ≡ j
 
 -- ---- slices: of one axis, by a list, by a list under which an indexed axis stays, and of each axis
 abbrev pub SlicesNameOnce : Type 0
-SlicesNameOnce = (ns : List ℕ) (a : ℕ) (s : Slice) → a < length ns → fits_axis (slice_index ns a) s ≡ true → NamesOnce (sliced_shape ns a s) (sliced_index ns a s)
+SlicesNameOnce = (ns : List ℕ) (a : ℕ) (s : Slice) → a < length ns → IsTrue (fits_axis (slice_index ns a) s) → NamesOnce (sliced_shape ns a s) (sliced_index ns a s)
 
 abbrev pub ListsNameOnce : Type 0
-ListsNameOnce = (ns : List ℕ) (es : List SliceInfoElem) → each_fits ns es ≡ true → NamesOnce (shape_after ns es) (index_before ns es)
+ListsNameOnce = (ns : List ℕ) (es : List SliceInfoElem) → IsTrue (each_fits ns es) → NamesOnce (shape_after ns es) (index_before ns es)
 
 abbrev pub CollapsedListsNameOnce : Type 0
-CollapsedListsNameOnce = (ns : List ℕ) (es : List SliceInfoElem) → each_fits ns es ≡ true → NamesOnce (collapsed_after ns es) (collapsed_before ns es)
+CollapsedListsNameOnce = (ns : List ℕ) (es : List SliceInfoElem) → IsTrue (each_fits ns es) → NamesOnce (collapsed_after ns es) (collapsed_before ns es)
 
 -- whether each slice fits its axis
 abbrev pub each_slice_fits : List ℕ → List Slice → Bool
@@ -37,7 +37,7 @@ each_slice_fits [] (s ∷ ss) = false
 each_slice_fits (n ∷ ns) (s ∷ ss) = fits_axis n s && each_slice_fits ns ss
 
 abbrev pub EachSlicesNameOnce : Type 0
-EachSlicesNameOnce = (ns : List ℕ) (ss : List Slice) → each_slice_fits ns ss ≡ true → NamesOnce (each_sliced_shape ns ss) (each_sliced_index ns ss)
+EachSlicesNameOnce = (ns : List ℕ) (ss : List Slice) → IsTrue (each_slice_fits ns ss) → NamesOnce (each_sliced_shape ns ss) (each_sliced_index ns ss)
 
 -- ---- axes in another order, two of them exchanged, and one turned round
 abbrev pub PermutationsNameOnce : Type 0

@@ -1,12 +1,12 @@
 -- What a fill leaves of a slice of the caller's.
-use Rattle.std.specs.Prelude.{◌≡◌, ℕ, nat_lt, List, true, Some, slice_get, if◌then◌else◌}
+use Rattle.std.specs.Prelude.{◌≡◌, ℕ, nat_lt, List, Some, slice_get, if◌then◌else◌, IsTrue}
 use Rattle.nd_shape_and_slice.specs.Shape.{in_box}
 use Rattle.nd_array_core.specs.scoped.Sources.{GivenShape, element_in_slice}
 
 module _ {A : Type 0} where
   -- the slice has x at the place of each index of the shape
   abbrev pub IsFilledWhereSeen : List A → GivenShape → A → Type 0
-  IsFilledWhereSeen xs given x = (i : List ℕ) → in_box given.0 i ≡ true → element_in_slice xs given i ≡ Some x
+  IsFilledWhereSeen xs given x = (i : List ℕ) → IsTrue (in_box given.0 i) → element_in_slice xs given i ≡ Some x
 
   -- the first n elements are x, and the others as they were
   abbrev pub IsFrontFilled : List A → List A → ℕ → A → Type 0

@@ -1,5 +1,5 @@
 //! The border of an image, drawn by four writes: its first and last row, and its first and last column.
-ghost use Rattle.std.specs.Prelude.{◌≡◌, ◌∷◌, [], ℕ, true, false, List, slice_index, is_some, Some, OnOk, IfOk};
+ghost use Rattle.std.specs.Prelude.{◌≡◌, ◌∷◌, [], ℕ, false, List, slice_index, is_some, Some, OnOk, IfOk, IsTrue};
 ghost use Rattle.nd_shape_and_slice.specs.SliceInfo.{axes_read, axes_kept, coordinate_on, fits_shape};
 ghost use Rattle.nd_array_core.specs.Meaning.{shape_of, element_at};
 ghost use Rattle.nd_array_core.specs.scoped.PartTasks.{IsFilledWith, KeepsBut};
@@ -41,7 +41,7 @@ fn fill_line<A: Clone + Drop, S: DataMut<Elem = A>>(
 ) -> Result<(), NoMemory>
     requires reads { axes_read list.now ≡ 2 }
     requires keeps { axes_kept list.now ≡ 1 }
-    requires fits { fits_shape (shape_of image.old) list.now ≡ true }
+    requires fits { IsTrue (fits_shape (shape_of image.old) list.now) }
     requires clones { (copy : A) → A.is_clone value.now copy → copy ≡ value.now }
     ensures shape { shape_of image.new ≡ shape_of image.old }
     ensures filled { OnOk result (IsFilledWith image.new (sliced_part image.old list.now) value.now) }
@@ -62,10 +62,10 @@ pub fn fill_row<A: Clone + Drop, S: DataMut<Elem = A>>(
     row: isize,
     value: &A,
 ) -> Result<(), NoMemory>
-    requires there { is_some (coordinate_on (slice_index (shape_of image.old) 0) row) ≡ true }
+    requires there { IsTrue (is_some (coordinate_on (slice_index (shape_of image.old) 0) row)) }
     requires clones { (copy : A) → A.is_clone value.now copy → copy ≡ value.now }
     ensures shape { shape_of image.new ≡ shape_of image.old }
-    ensures filled { OnOk result ((i : List ℕ) → in_row (shape_of image.old) row i ≡ true → element_at image.new i ≡ Some value.now) }
+    ensures filled { OnOk result ((i : List ℕ) → IsTrue (in_row (shape_of image.old) row i) → element_at image.new i ≡ Some value.now) }
     ensures kept { (i : List ℕ) → in_row (shape_of image.old) row i ≡ false → element_at image.new i ≡ element_at image.old i }
 {
     let _size = rows_and_columns(image);
@@ -80,10 +80,10 @@ pub fn fill_column<A: Clone + Drop, S: DataMut<Elem = A>>(
     column: isize,
     value: &A,
 ) -> Result<(), NoMemory>
-    requires there { is_some (coordinate_on (slice_index (shape_of image.old) 1) column) ≡ true }
+    requires there { IsTrue (is_some (coordinate_on (slice_index (shape_of image.old) 1) column)) }
     requires clones { (copy : A) → A.is_clone value.now copy → copy ≡ value.now }
     ensures shape { shape_of image.new ≡ shape_of image.old }
-    ensures filled { OnOk result ((i : List ℕ) → in_column (shape_of image.old) column i ≡ true → element_at image.new i ≡ Some value.now) }
+    ensures filled { OnOk result ((i : List ℕ) → IsTrue (in_column (shape_of image.old) column i) → element_at image.new i ≡ Some value.now) }
     ensures kept { (i : List ℕ) → in_column (shape_of image.old) column i ≡ false → element_at image.new i ≡ element_at image.old i }
 {
     let _size = rows_and_columns(image);
@@ -98,7 +98,7 @@ pub fn draw_border<A: Clone + Drop, S: DataMut<Elem = A>>(
 ) -> Result<(), NoMemory>
     requires clones { (copy : A) → A.is_clone value copy → copy ≡ value }
     ensures shape { shape_of image.new ≡ shape_of image.old }
-    ensures drawn { OnOk result ((i : List ℕ) → is_border (shape_of image.old) i ≡ true → element_at image.new i ≡ Some value) }
+    ensures drawn { OnOk result ((i : List ℕ) → IsTrue (is_border (shape_of image.old) i) → element_at image.new i ≡ Some value) }
     ensures kept { (i : List ℕ) → is_border (shape_of image.old) i ≡ false → element_at image.new i ≡ element_at image.old i }
 {
     let (rows, columns) = rows_and_columns(image);

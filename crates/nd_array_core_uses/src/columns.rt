@@ -1,5 +1,5 @@
 //! Every second column of a grid, painted through one view.
-ghost use Rattle.std.specs.Prelude.{◌≡◌, ◌%◌, ◌∷◌, [], ℕ, true, nat_eq, length, Some, OnOk, if◌then◌else◌};
+ghost use Rattle.std.specs.Prelude.{◌≡◌, ◌%◌, ◌∷◌, [], ℕ, nat_eq, length, Some, OnOk, if◌then◌else◌, IsTrue};
 ghost use Rattle.nd_shape_and_slice.specs.Shape.{in_box};
 ghost use Rattle.nd_array_core.specs.Meaning.{shape_of, element_at};
 
@@ -26,7 +26,7 @@ pub fn paint_every_second_column<A: Clone + Drop, S: DataMut<Elem = A>>(
     requires two { length (shape_of grid.old) ≡ 2 }
     requires clones { (copy : A) → A.is_clone colour copy → copy ≡ colour }
     ensures shape { shape_of grid.new ≡ shape_of grid.old }
-    ensures painted { OnOk result ((row column : ℕ) → in_box (shape_of grid.old) (row ∷ column ∷ []) ≡ true → element_at grid.new (row ∷ column ∷ []) ≡ if nat_eq (column % 2) 0 then Some colour else element_at grid.old (row ∷ column ∷ [])) }
+    ensures painted { OnOk result ((row column : ℕ) → IsTrue (in_box (shape_of grid.old) (row ∷ column ∷ [])) → element_at grid.new (row ∷ column ∷ []) ≡ if nat_eq (column % 2) 0 then Some colour else element_at grid.old (row ∷ column ∷ [])) }
 {
     grid.fill_slice([ALL, EVERY_SECOND].as_slice(), colour)
 }

@@ -1,5 +1,5 @@
 //! Images compared pixel by pixel.
-ghost use Rattle.std.specs.Prelude.{◌↔◌, ◌≡◌, ◌<◌, ℕ, true, nat_eq, IsTrue, slice_index};
+ghost use Rattle.std.specs.Prelude.{◌↔◌, ◌≡◌, ◌<◌, ℕ, nat_eq, IsTrue, slice_index};
 ghost use Rattle.nd_array_core.specs.Equality.{EqualEverywhere};
 ghost use Rattle.nd_array_core.specs.Meaning.{meaning_of, shape_of};
 ghost use Rattle.nd_array_core.specs.Coordinates.{element_of_2};
@@ -58,7 +58,7 @@ pub fn equal_either_way<S: Data<Elem = u64>>(
     one: &ArrayBase<S, Ix2>,
     other: &ArrayBase<S, Ix2>,
 ) -> bool
-    ensures { result ≡ true }
+    ensures { IsTrue result }
 {
     pixels_equal(one, other) == (*one == *other)
 }

@@ -1,7 +1,7 @@
 //! Room made in arrays before more comes in.
 #![tactic(auto, using(std::proofs::lemmas::Bool::Decides::nat_tests, nd_array_core::proofs::Axes::known_axes))]
 
-ghost use Rattle.std.specs.Prelude.{◌≡◌, ◌+◌, ◌*◌, ◌<◌, ◌≤◌, ℕ, List, true, IsTrue, Err, OnOk, IfOk, length, slice_index};
+ghost use Rattle.std.specs.Prelude.{◌≡◌, ◌+◌, ◌*◌, ◌<◌, ◌≤◌, ℕ, List, IsTrue, Err, OnOk, IfOk, length, slice_index};
 ghost use Rattle.nd_array_core.specs.Meaning.{shape_of, element_at, storage_of};
 ghost use Rattle.nd_array_core.specs.Coordinates.{element_of_1, element_of_2};
 ghost use Rattle.nd_array_core.specs.base.Storages.{stored_list, room_of};
@@ -43,7 +43,7 @@ pub fn made_again<A, D: Dimension>(
     more: usize,
 ) -> Result<bool, ArrayError>
     requires { axis.0 < length (shape_of array.old) }
-    ensures again { IfOk result (λ again. again ≡ true) }
+    ensures again { IfOk result (λ again. IsTrue again) }
     ensures shape { shape_of array.new ≡ shape_of array.old }
     ensures same { (i : List ℕ) → element_at array.new i ≡ element_at array.old i }
 {

@@ -1,5 +1,5 @@
 //! The even rows of a grid and the odd ones, filled at once through two views.
-ghost use Rattle.std.specs.Prelude.{◌≡◌, ◌<◌, ◌%◌, ◌∷◌, [], ℕ, true, length, nat_eq, slice_index, Some, IsSome, IfSome, OnOk, if◌then◌else◌};
+ghost use Rattle.std.specs.Prelude.{◌≡◌, ◌<◌, ◌%◌, ◌∷◌, [], ℕ, length, nat_eq, slice_index, Some, IsSome, IfSome, OnOk, if◌then◌else◌, IsTrue};
 ghost use Rattle.nd_shape_and_slice.specs.Shape.{in_box};
 ghost use Rattle.nd_array_core.specs.Meaning.{shape_of, element_at};
 ghost use Rattle.nd_array_core.specs.layout.MultiSlice.{TwoFit};
@@ -84,11 +84,11 @@ fn fill_rows<A: Clone + Drop, S: DataMut<Elem = A>, D: Dimension>(
 ) -> Result<(), NoMemory>
     requires two { length (shape_of grid.old) ≡ 2 }
     requires rows { 0 < slice_index (shape_of grid.old) 0 }
-    requires axes { D.has_axes 2 ≡ true }
+    requires axes { IsTrue (D.has_axes 2) }
     requires even { (copy : A) → A.is_clone even copy → copy ≡ even }
     requires odd { (copy : A) → A.is_clone odd copy → copy ≡ odd }
     ensures shape { shape_of grid.new ≡ shape_of grid.old }
-    ensures rows { OnOk result ((row column : ℕ) → in_box (shape_of grid.old) (row ∷ column ∷ []) ≡ true → element_at grid.new (row ∷ column ∷ []) ≡ Some (if nat_eq (row % 2) 0 then even else odd)) }
+    ensures rows { OnOk result ((row column : ℕ) → IsTrue (in_box (shape_of grid.old) (row ∷ column ∷ [])) → element_at grid.new (row ∷ column ∷ []) ≡ Some (if nat_eq (row % 2) 0 then even else odd)) }
 {
     match SliceInfo::<D, D>::new(&[EVEN, ALL]) {
         Ok(evens) => match SliceInfo::<D, D>::new(&[ODD, ALL]) {
@@ -108,7 +108,7 @@ pub fn interleave_rows<A: Clone + Drop, S: DataMut<Elem = A>>(
     requires even { (copy : A) → A.is_clone even copy → copy ≡ even }
     requires odd { (copy : A) → A.is_clone odd copy → copy ≡ odd }
     ensures shape { shape_of grid.new ≡ shape_of grid.old }
-    ensures rows { OnOk result ((row column : ℕ) → in_box (shape_of grid.old) (row ∷ column ∷ []) ≡ true → element_at grid.new (row ∷ column ∷ []) ≡ Some (if nat_eq (row % 2) 0 then even else odd)) }
+    ensures rows { OnOk result ((row column : ℕ) → IsTrue (in_box (shape_of grid.old) (row ∷ column ∷ [])) → element_at grid.new (row ∷ column ∷ []) ≡ Some (if nat_eq (row % 2) 0 then even else odd)) }
 {
     let rows = grid.nrows();
     if rows == 0 {

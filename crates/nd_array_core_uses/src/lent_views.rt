@@ -1,5 +1,5 @@
 //! Arrays filled through a mutable view that is lent in the open, and what is known of the array once the view is over.
-ghost use Rattle.std.specs.Prelude.{◌≡◌, ℕ, true, List, length};
+ghost use Rattle.std.specs.Prelude.{◌≡◌, ℕ, List, length, IsTrue};
 ghost use Rattle.nd_shape_and_slice.specs.SliceInfo.{fits_shape};
 ghost use Rattle.nd_array_core.specs.Meaning.{shape_of, place_at};
 ghost use Rattle.nd_array_core.specs.layout.ViewLent.{IsRefilled};
@@ -30,7 +30,7 @@ pub fn fill_part<S: DataMut, D: Dimension, I: SliceArg<D>>(
 ) -> Result<(), NoMemory>
 where
     S::Elem: Clone + Drop,
-    requires fits { fits_shape (shape_of array.old) (I.elements_of info) ≡ true }
+    requires fits { IsTrue (fits_shape (shape_of array.old) (I.elements_of info)) }
     requires clones { (copy : S.Elem) → S.Elem.is_clone value copy → copy ≡ value }
     ensures shape { shape_of array.new ≡ shape_of array.old }
     ensures places { (i : List ℕ) → place_at array.new i ≡ place_at array.old i }

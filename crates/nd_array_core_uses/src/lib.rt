@@ -1,7 +1,7 @@
 //! Uses of arrays and views, as a caller writes them: each is proved from the contracts of the calls alone.
 #![tactic(auto, using(nd_array_core::proofs::Axes::known_axes))]
 
-ghost use Rattle.std.specs.Prelude.{◌≡◌, ◌<◌, ◌∷◌, [], ℕ, true, List, length, slice_index, IsSome, IfSome, IfOk};
+ghost use Rattle.std.specs.Prelude.{◌≡◌, ◌<◌, ◌∷◌, [], ℕ, List, length, slice_index, IsSome, IfSome, IfOk, IsTrue};
 ghost use Rattle.nd_shape_and_slice.specs.Slice.{fits_axis, sliced_shape, sliced_index};
 ghost use Rattle.nd_array_core.specs.Meaning.{shape_of, element_at, inside};
 
@@ -153,7 +153,7 @@ pub fn try_slice_axis<'a, S: Data, D: Dimension>(
     axis: Axis,
     slice: Slice,
 ) -> Option<ArrayView<'a, S::Elem, D>>
-    ensures some { axis.0 < length (shape_of array.now) → fits_axis (slice_index (shape_of array.now) axis.0) slice ≡ true → IsSome result }
+    ensures some { axis.0 < length (shape_of array.now) → IsTrue (fits_axis (slice_index (shape_of array.now) axis.0) slice) → IsSome result }
     ensures shape { IfSome result (λ part. shape_of part ≡ sliced_shape (shape_of array.now) axis.0 slice) }
     ensures elements { IfSome result (λ part. (i : List ℕ) → element_at part i ≡ inside (shape_of part) i (element_at array.now (sliced_index (shape_of array.now) axis.0 slice i))) }
 {

@@ -1,6 +1,6 @@
 //! Two arrays side by side: one added to another, a row added to each row, and a view copied into another array.
 
-ghost use Rattle.std.specs.Prelude.{◌≡◌, ◌+◌, ◌%◌, ◌^◌, ◌<◌, ◌∷◌, [], ℕ, true, List, OnOk, slice_index};
+ghost use Rattle.std.specs.Prelude.{◌≡◌, ◌+◌, ◌%◌, ◌^◌, ◌<◌, ◌∷◌, [], ℕ, List, OnOk, slice_index, IsTrue};
 ghost use Rattle.nd_shape_and_slice.specs.Broadcast.{broadcasts};
 ghost use Rattle.nd_array_core.specs.Meaning.{meaning_of, shape_of, element_at};
 ghost use Rattle.nd_array_core.specs.Coordinates.{element_of_1, element_of_2};
@@ -18,7 +18,7 @@ pub fn add_all<S: DataMut<Elem = u64>, D: Dimension, Z: Data<Elem = u64>, E: Dim
     array: &mut ArrayBase<S, D>,
     other: &ArrayBase<Z, E>,
 )
-    requires { broadcasts (shape_of other.now) (shape_of array.old) ≡ true }
+    requires { IsTrue (broadcasts (shape_of other.now) (shape_of array.old)) }
     ensures shape { shape_of array.new ≡ shape_of array.old }
     ensures elements { (i : List ℕ) → element_at array.new i ≡ option_both (λ x y. (x + y) % 2 ^ 64) (element_at array.old i) (broadcast_at (shape_of array.old) (meaning_of other.now) i) }
 {
@@ -63,8 +63,8 @@ pub fn paste<
     Z: Data<Elem = A>,
     E: Dimension,
 >(array: &mut ArrayBase<S, D>, info: I, source: &ArrayBase<Z, E>) -> Result<(), NoMemory>
-    requires fits { fits_shape (shape_of array.old) (I.elements_of info) ≡ true }
-    requires broadcasts { broadcasts (shape_of source.now) (shape_after (shape_of array.old) (I.elements_of info)) ≡ true }
+    requires fits { IsTrue (fits_shape (shape_of array.old) (I.elements_of info)) }
+    requires broadcasts { IsTrue (broadcasts (shape_of source.now) (shape_after (shape_of array.old) (I.elements_of info))) }
     requires clones { (x copy : A) → A.is_clone x copy → copy ≡ x }
     ensures shape { shape_of array.new ≡ shape_of array.old }
     ensures kept { KeepsBut array.old array.new (sliced_part array.old (I.elements_of info)) }

@@ -1,6 +1,6 @@
 //! Parts of arrays written through mutable views in the open: each index that the view doesn't name has the element that
 //! it had.
-ghost use Rattle.std.specs.Prelude.{◌≡◌, ◌<◌, ◌∷◌, [], ℕ, true, List, length, slice_index};
+ghost use Rattle.std.specs.Prelude.{◌≡◌, ◌<◌, ◌∷◌, [], ℕ, List, length, slice_index, IsTrue};
 ghost use Rattle.nd_shape_and_slice.specs.Maps.{indexed_shape};
 ghost use Rattle.nd_shape_and_slice.specs.Shape.{in_box};
 ghost use Rattle.nd_shape_and_slice.specs.Slice.{fits_axis, sliced_shape};
@@ -20,7 +20,7 @@ pub fn fill_named<S: DataMut, D: Dimension, I: SliceArg<D>>(
 ) -> Result<(), NoMemory>
 where
     S::Elem: Clone + Drop,
-    requires fits { fits_shape (shape_of array.old) (I.elements_of info) ≡ true }
+    requires fits { IsTrue (fits_shape (shape_of array.old) (I.elements_of info)) }
     requires clones { (copy : S.Elem) → S.Elem.is_clone value copy → copy ≡ value }
     ensures shape { shape_of array.new ≡ shape_of array.old }
     ensures kept { KeepsBut array.old array.new (sliced_part array.old (I.elements_of info)) }
@@ -37,11 +37,11 @@ pub fn swap_in_row<S: DataMut>(
     second: usize,
 )
     requires row { row < slice_index (shape_of image.old) 0 }
-    requires first { in_box (indexed_shape (shape_of image.old) 0) (first ∷ []) ≡ true }
-    requires second { in_box (indexed_shape (shape_of image.old) 0) (second ∷ []) ≡ true }
+    requires first { IsTrue (in_box (indexed_shape (shape_of image.old) 0) (first ∷ [])) }
+    requires second { IsTrue (in_box (indexed_shape (shape_of image.old) 0) (second ∷ [])) }
     ensures shape { shape_of image.new ≡ shape_of image.old }
     ensures kept { KeepsBut image.old image.new (coordinate_part image.old 0 row) }
-    ensures other_rows { (r c : ℕ) → (r ≡ row → ⊥) → element_at image.new (r ∷ c ∷ []) ≡ element_at image.old (r ∷ c ∷ []) }
+    ensures other_rows { (r c : ℕ) → ¬ (r ≡ row) → element_at image.new (r ∷ c ∷ []) ≡ element_at image.old (r ∷ c ∷ []) }
 {
     image.row_mut(row).swap([first], [second]);
 }
@@ -57,7 +57,7 @@ pub fn write_in_part<S: DataMut, D: Dimension, I: NdIndex<D> + Copy>(
 where
     S::Elem: Copy + Drop,
     requires axis { axis.0 < length (shape_of array.old) }
-    requires fits { fits_axis (slice_index (shape_of array.old) axis.0) slice ≡ true }
+    requires fits { IsTrue (fits_axis (slice_index (shape_of array.old) axis.0) slice) }
     ensures shape { shape_of array.new ≡ shape_of array.old }
     ensures kept { KeepsBut array.old array.new (axis_part array.old axis.0 slice) }
 {
@@ -81,9 +81,9 @@ pub fn fill_inner<S: DataMut, D: Dimension>(
 where
     S::Elem: Clone + Drop,
     requires axis { axis.0 < length (shape_of array.old) }
-    requires outer { fits_axis (slice_index (shape_of array.old) axis.0) outer ≡ true }
+    requires outer { IsTrue (fits_axis (slice_index (shape_of array.old) axis.0) outer) }
     requires inner { axis.0 < length (sliced_shape (shape_of array.old) axis.0 outer) }
-    requires within { fits_axis (slice_index (sliced_shape (shape_of array.old) axis.0 outer) axis.0) inner ≡ true }
+    requires within { IsTrue (fits_axis (slice_index (sliced_shape (shape_of array.old) axis.0 outer) axis.0) inner) }
     requires clones { (copy : S.Elem) → S.Elem.is_clone value copy → copy ≡ value }
     ensures shape { shape_of array.new ≡ shape_of array.old }
     ensures kept { KeepsBut array.old array.new (axis_part array.old axis.0 outer) }
@@ -130,7 +130,7 @@ pub fn fill_row_of_owned<A: Clone + Drop>(
     requires row { row < slice_index (shape_of image.old) 0 }
     requires clones { (copy : A) → A.is_clone value copy → copy ≡ value }
     ensures shape { shape_of image.new ≡ shape_of image.old }
-    ensures other_rows { (r c : ℕ) → (r ≡ row → ⊥) → element_at image.new (r ∷ c ∷ []) ≡ element_at image.old (r ∷ c ∷ []) }
+    ensures other_rows { (r c : ℕ) → ¬ (r ≡ row) → element_at image.new (r ∷ c ∷ []) ≡ element_at image.old (r ∷ c ∷ []) }
 {
     image.row_mut(row).fill(value)
 }
@@ -138,9 +138,9 @@ pub fn fill_row_of_owned<A: Clone + Drop>(
 /// Exchanges two numbers of a row.
 pub fn swap_numbers_in_row(image: &mut Array2<i64>, row: usize, first: usize, second: usize)
     requires row { row < slice_index (shape_of image.old) 0 }
-    requires first { in_box (indexed_shape (shape_of image.old) 0) (first ∷ []) ≡ true }
-    requires second { in_box (indexed_shape (shape_of image.old) 0) (second ∷ []) ≡ true }
-    ensures other_rows { (r c : ℕ) → (r ≡ row → ⊥) → element_at image.new (r ∷ c ∷ []) ≡ element_at image.old (r ∷ c ∷ []) }
+    requires first { IsTrue (in_box (indexed_shape (shape_of image.old) 0) (first ∷ [])) }
+    requires second { IsTrue (in_box (indexed_shape (shape_of image.old) 0) (second ∷ [])) }
+    ensures other_rows { (r c : ℕ) → ¬ (r ≡ row) → element_at image.new (r ∷ c ∷ []) ≡ element_at image.old (r ∷ c ∷ []) }
 {
     swap_in_row(image, row, first, second);
 }
@@ -157,7 +157,7 @@ where
     D::Smaller: Dimension,
     S::Elem: Clone + Drop,
     requires axis { axis.0 < length (shape_of array.old) }
-    requires fits { fits_axis (slice_index (shape_of array.old) axis.0) slice ≡ true }
+    requires fits { IsTrue (fits_axis (slice_index (shape_of array.old) axis.0) slice) }
     requires part { axis.0 < length (sliced_shape (shape_of array.old) axis.0 slice) }
     requires within { index < slice_index (sliced_shape (shape_of array.old) axis.0 slice) axis.0 }
     requires clones { (copy : S.Elem) → S.Elem.is_clone value copy → copy ≡ value }

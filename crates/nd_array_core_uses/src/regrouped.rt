@@ -2,7 +2,7 @@
 //! must be.
 #![tactic(auto)]
 
-ghost use Rattle.std.specs.Prelude.{◌≡◌, ◌<◌, ◌+◌, ◌*◌, ◌%◌, ◌^◌, ◌∷◌, [], ℕ, List, true, false, slice_index, IfOk};
+ghost use Rattle.std.specs.Prelude.{◌≡◌, ◌<◌, ◌+◌, ◌*◌, ◌%◌, ◌^◌, ◌∷◌, [], ℕ, List, false, slice_index, IfOk, IsTrue};
 ghost use Rattle.nd_shape_and_slice.specs.Shape.{in_box, size_of};
 ghost use Rattle.nd_shape_and_slice.specs.declared.builder.Order.TheVariants.{RowMajor};
 ghost use Rattle.nd_array_core.specs.Meaning.{shape_of, element_at, inside};
@@ -43,7 +43,7 @@ pub fn pixels_seen<'a, A: Clone + Drop, S: Data<Elem = A>>(
 ) -> ArrayView2<'a, A>
     requires { IsStandardArray image.now }
     ensures shape { (rows columns colours : ℕ) → shape_of image.now ≡ rows ∷ columns ∷ colours ∷ [] → HasRowsAndColumns result (rows * columns) colours }
-    ensures elements { (rows columns colours row column colour : ℕ) → shape_of image.now ≡ rows ∷ columns ∷ colours ∷ [] → in_box (shape_of image.now) (row ∷ column ∷ colour ∷ []) ≡ true → element_of_2 result (row * columns + column) colour ≡ element_of_3 image.now row column colour }
+    ensures elements { (rows columns colours row column colour : ℕ) → shape_of image.now ≡ rows ∷ columns ∷ colours ∷ [] → IsTrue (in_box (shape_of image.now) (row ∷ column ∷ colour ∷ [])) → element_of_2 result (row * columns + column) colour ≡ element_of_3 image.now row column colour }
 {
     first_axes_joined(image);
     pixels_by_rank(alloc, image)
@@ -72,8 +72,8 @@ pub fn number_in_line<S: Data<Elem = u64>, D: Dimension>(
     array: &ArrayBase<S, D>,
     rank: usize,
 ) -> Result<(bool, Option<u64>), NoMemory>
-    ensures seen { IfOk result (λ r. r.0 ≡ true → StridesServe array.now RowMajor (size_of (shape_of array.now) ∷ [])) }
-    ensures copied { IfOk result (λ r. r.0 ≡ false → StridesServe array.now RowMajor (size_of (shape_of array.now) ∷ []) → ⊥) }
+    ensures seen { IfOk result (λ r. IsTrue r.0 → StridesServe array.now RowMajor (size_of (shape_of array.now) ∷ [])) }
+    ensures copied { IfOk result (λ r. r.0 ≡ false → ¬ (StridesServe array.now RowMajor (size_of (shape_of array.now) ∷ []))) }
     ensures number { IfOk result (λ r. rank < size_of (shape_of array.now) → r.1 ≡ element_at array.now (regrouped_index RowMajor (shape_of array.now) (size_of (shape_of array.now) ∷ []) (rank ∷ []))) }
 {
     match array.flatten(alloc) {

@@ -1,7 +1,7 @@
 //! Elements written as one slice, with no walk over indexes.
 #![tactic(auto)]
 
-ghost use Rattle.std.specs.Prelude.{◌≡◌, ◌<◌, ◌*◌, ◌%◌, ◌^◌, ℕ, List, Some, true, length, slice_get, slice_index};
+ghost use Rattle.std.specs.Prelude.{◌≡◌, ◌<◌, ◌*◌, ◌%◌, ◌^◌, ℕ, List, Some, length, slice_get, slice_index, IsTrue};
 ghost use Rattle.std.specs.Option.{option_map};
 ghost use Rattle.nd_shape_and_slice.specs.Shape.{in_box};
 ghost use Rattle.nd_array_core.specs.Meaning.{shape_of, element_at};
@@ -27,7 +27,7 @@ fn double_all(numbers: &mut [u64])
 pub fn double_each<S: DataMut<Elem = u64>, D: Dimension>(array: &mut ArrayBase<S, D>)
     requires { IsStandardArray array.old }
     ensures shape { shape_of array.new ≡ shape_of array.old }
-    ensures elements { (i : List ℕ) → in_box (shape_of array.old) i ≡ true → element_at array.new i ≡ option_map (λ x. x * 2 % 2 ^ 64) (element_at array.old i) }
+    ensures elements { (i : List ℕ) → IsTrue (in_box (shape_of array.old) i) → element_at array.new i ≡ option_map (λ x. x * 2 % 2 ^ 64) (element_at array.old i) }
 {
     elements_by_rank(array);
     double_all(array.elements_mut());
@@ -37,7 +37,7 @@ pub fn double_each<S: DataMut<Elem = u64>, D: Dimension>(array: &mut ArrayBase<S
 pub fn fill_run<S: DataMut<Elem = u64>, D: Dimension>(array: &mut ArrayBase<S, D>, value: u64)
     requires { IsRunArray array.old }
     ensures shape { shape_of array.new ≡ shape_of array.old }
-    ensures elements { (i : List ℕ) → in_box (shape_of array.old) i ≡ true → element_at array.new i ≡ Some value }
+    ensures elements { (i : List ℕ) → IsTrue (in_box (shape_of array.old) i) → element_at array.new i ≡ Some value }
 {
     array.elements_memory_order_mut().fill(value);
 }

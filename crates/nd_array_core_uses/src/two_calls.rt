@@ -1,6 +1,6 @@
 //! One call after another, each caller exact at every index and proved with no proof file: over every element type and
 //! storage that the calls take, and at one that is written out.
-ghost use Rattle.std.specs.Prelude.{◌≡◌, ◌<◌, ◌∷◌, [], ℕ, true, List, slice_index, reverse, Some, OnOk, IfOk, ◌↔◌, IsSome, IfSome};
+ghost use Rattle.std.specs.Prelude.{◌≡◌, ◌<◌, ◌∷◌, [], ℕ, List, slice_index, reverse, Some, OnOk, IfOk, ◌↔◌, IsSome, IfSome, IsTrue};
 ghost use Rattle.nd_shape_and_slice.specs.Shape.{in_box};
 ghost use Rattle.nd_shape_and_slice.specs.Maps.{inverted_index, indexed_index};
 ghost use Rattle.nd_array_core.specs.Meaning.{shape_of, element_at, inside};
@@ -109,8 +109,8 @@ pub fn swap_in_column<S: DataMut>(
     second: usize,
     column: usize,
 )
-    requires first { in_box (shape_of image.old) (first ∷ column ∷ []) ≡ true }
-    requires second { in_box (shape_of image.old) (second ∷ column ∷ []) ≡ true }
+    requires first { IsTrue (in_box (shape_of image.old) (first ∷ column ∷ [])) }
+    requires second { IsTrue (in_box (shape_of image.old) (second ∷ column ∷ [])) }
     ensures shape { shape_of image.new ≡ shape_of image.old }
     ensures elements { (i : List ℕ) → element_at image.new i ≡ with_swapped_at (element_at image.old) (first ∷ column ∷ []) (second ∷ column ∷ []) i }
 {
@@ -119,8 +119,8 @@ pub fn swap_in_column<S: DataMut>(
 
 /// The same of an owned array of any elements.
 pub fn swap_in_column_owned<A>(image: &mut Array2<A>, first: usize, second: usize, column: usize)
-    requires first { in_box (shape_of image.old) (first ∷ column ∷ []) ≡ true }
-    requires second { in_box (shape_of image.old) (second ∷ column ∷ []) ≡ true }
+    requires first { IsTrue (in_box (shape_of image.old) (first ∷ column ∷ [])) }
+    requires second { IsTrue (in_box (shape_of image.old) (second ∷ column ∷ [])) }
     ensures shape { shape_of image.new ≡ shape_of image.old }
     ensures elements { (i : List ℕ) → element_at image.new i ≡ with_swapped_at (element_at image.old) (first ∷ column ∷ []) (second ∷ column ∷ []) i }
 {
@@ -129,8 +129,8 @@ pub fn swap_in_column_owned<A>(image: &mut Array2<A>, first: usize, second: usiz
 
 /// The same of numbers.
 pub fn swap_numbers_in_column(image: &mut Array2<i64>, first: usize, second: usize, column: usize)
-    requires first { in_box (shape_of image.old) (first ∷ column ∷ []) ≡ true }
-    requires second { in_box (shape_of image.old) (second ∷ column ∷ []) ≡ true }
+    requires first { IsTrue (in_box (shape_of image.old) (first ∷ column ∷ [])) }
+    requires second { IsTrue (in_box (shape_of image.old) (second ∷ column ∷ [])) }
     ensures shape { shape_of image.new ≡ shape_of image.old }
     ensures elements { (i : List ℕ) → element_at image.new i ≡ with_swapped_at (element_at image.old) (first ∷ column ∷ []) (second ∷ column ∷ []) i }
 {
@@ -145,9 +145,9 @@ pub fn fill_then_get<A: Clone + Drop, S: DataMut<Elem = A>>(
     column: usize,
 ) -> Result<bool, NoMemory>
     requires clones { (copy : A) → A.is_clone colour copy → copy ≡ colour }
-    requires there { in_box (shape_of image.old) (row ∷ column ∷ []) ≡ true }
+    requires there { IsTrue (in_box (shape_of image.old) (row ∷ column ∷ [])) }
     ensures there { OnOk result (element_at image.new (row ∷ column ∷ []) ≡ Some colour) }
-    ensures got { IfOk result (λ got. got ≡ true) }
+    ensures got { IfOk result (λ got. IsTrue got) }
 {
     image.fill(colour)?;
     Ok(image.get([row, column]).is_some())
@@ -160,7 +160,7 @@ pub fn fill_then_get_number(
     row: usize,
     column: usize,
 ) -> Result<Option<i64>, NoMemory>
-    requires there { in_box (shape_of image.old) (row ∷ column ∷ []) ≡ true }
+    requires there { IsTrue (in_box (shape_of image.old) (row ∷ column ∷ [])) }
     ensures there { OnOk result (element_at image.new (row ∷ column ∷ []) ≡ Some colour) }
     ensures got { IfOk result (λ got. got ≡ Some colour) }
 {

@@ -1,5 +1,5 @@
 //! The two parts of an axis, filled at once through two views.
-ghost use Rattle.std.specs.Prelude.{◌≡◌, ◌<◌, ◌≤◌, ℕ, true, List, length, slice_index, Some, OnOk, IsOk};
+ghost use Rattle.std.specs.Prelude.{◌≡◌, ◌<◌, ◌≤◌, ℕ, List, length, slice_index, Some, OnOk, IsOk, IsTrue};
 ghost use Rattle.nd_shape_and_slice.specs.Shape.{in_box};
 ghost use Rattle.nd_shape_and_slice.specs.Maps.{lower_shape, upper_shape, upper_index};
 ghost use Rattle.nd_array_core.specs.Meaning.{shape_of, element_at, inside};
@@ -72,8 +72,8 @@ pub fn fill_halves<A: Clone + Drop, S: DataMut<Elem = A>, D: Dimension>(
     requires below { (copy : A) → A.is_clone below copy → copy ≡ below }
     requires above { (copy : A) → A.is_clone above copy → copy ≡ above }
     ensures shape { shape_of array.new ≡ shape_of array.old }
-    ensures below { OnOk result ((i : List ℕ) → in_box (lower_shape (shape_of array.old) axis.0 index) i ≡ true → element_at array.new i ≡ Some below) }
-    ensures above { OnOk result ((i : List ℕ) → in_box (upper_shape (shape_of array.old) axis.0 index) i ≡ true → element_at array.new (upper_index axis.0 index i) ≡ Some above) }
+    ensures below { OnOk result ((i : List ℕ) → IsTrue (in_box (lower_shape (shape_of array.old) axis.0 index) i) → element_at array.new i ≡ Some below) }
+    ensures above { OnOk result ((i : List ℕ) → IsTrue (in_box (upper_shape (shape_of array.old) axis.0 index) i) → element_at array.new (upper_index axis.0 index i) ≡ Some above) }
 {
     array.with_split_at(
         axis,

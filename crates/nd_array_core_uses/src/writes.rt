@@ -1,6 +1,6 @@
 //! Writes through references to elements: the shape stays, the element at the index is the new one, and every other
 //! is as it was.
-ghost use Rattle.std.specs.Prelude.{◌≡◌, ℕ, true, List};
+ghost use Rattle.std.specs.Prelude.{◌≡◌, ℕ, List, IsTrue};
 ghost use Rattle.nd_shape_and_slice.specs.Shape.{in_box, size_of};
 ghost use Rattle.nd_shape_and_slice.specs.FirstIndex.{first_index};
 ghost use Rattle.nd_array_core.specs.Meaning.{shape_of, element_at};
@@ -17,7 +17,7 @@ pub fn put<S: DataMut, D: Dimension, I: NdIndex<D>>(
 )
 where
     S::Elem: Drop,
-    requires { in_box (shape_of array.old) (I.coordinates_of index) ≡ true }
+    requires { IsTrue (in_box (shape_of array.old) (I.coordinates_of index)) }
     ensures shape { shape_of array.new ≡ shape_of array.old }
     ensures elements { (i : List ℕ) → element_at array.new i ≡ with_element_at (element_at array.old) (I.coordinates_of index) value i }
 {
@@ -33,7 +33,7 @@ pub fn try_put<S: DataMut, D: Dimension, I: NdIndex<D>>(
 where
     S::Elem: Drop,
     ensures shape { shape_of array.new ≡ shape_of array.old }
-    ensures elements { in_box (shape_of array.old) (I.coordinates_of index) ≡ true → (i : List ℕ) → element_at array.new i ≡ with_element_at (element_at array.old) (I.coordinates_of index) value i }
+    ensures elements { IsTrue (in_box (shape_of array.old) (I.coordinates_of index)) → (i : List ℕ) → element_at array.new i ≡ with_element_at (element_at array.old) (I.coordinates_of index) value i }
 {
     match array.get_mut(index) {
         Some(element) => *element = value,
@@ -46,7 +46,7 @@ pub fn try_put_first<S: DataMut, D: Dimension>(array: &mut ArrayBase<S, D>, valu
 where
     S::Elem: Drop,
     ensures shape { shape_of array.new ≡ shape_of array.old }
-    ensures elements { (size_of (shape_of array.old) ≡ 0 → ⊥) → (i : List ℕ) → element_at array.new i ≡ with_element_at (element_at array.old) (first_index (shape_of array.old)) value i }
+    ensures elements { ¬ (size_of (shape_of array.old) ≡ 0) → (i : List ℕ) → element_at array.new i ≡ with_element_at (element_at array.old) (first_index (shape_of array.old)) value i }
 {
     match array.first_mut() {
         Some(element) => *element = value,
@@ -56,7 +56,7 @@ where
 
 /// Writes an element of an owned array, in brackets.
 pub fn put_owned(array: &mut Array<u64, Ix2>, index: [usize; 2], value: u64)
-    requires { in_box (shape_of array.old) index ≡ true }
+    requires { IsTrue (in_box (shape_of array.old) index) }
     ensures shape { shape_of array.new ≡ shape_of array.old }
     ensures elements { (i : List ℕ) → element_at array.new i ≡ with_element_at (element_at array.old) index value i }
 {
@@ -65,7 +65,7 @@ pub fn put_owned(array: &mut Array<u64, Ix2>, index: [usize; 2], value: u64)
 
 /// Writes an element of a mutable view, in brackets.
 pub fn put_seen(view: &mut ArrayViewMut<'_, u64, Ix2>, index: [usize; 2], value: u64)
-    requires { in_box (shape_of view.old) index ≡ true }
+    requires { IsTrue (in_box (shape_of view.old) index) }
     ensures shape { shape_of view.new ≡ shape_of view.old }
     ensures elements { (i : List ℕ) → element_at view.new i ≡ with_element_at (element_at view.old) index value i }
 {

@@ -1,6 +1,6 @@
 //! Slices of a caller's lent to a task as views.
 
-ghost use Rattle.std.specs.Prelude.{◌≡◌, true, Some, IfOk, IfErr};
+ghost use Rattle.std.specs.Prelude.{◌≡◌, Some, IfOk, IfErr, IsTrue};
 ghost use Rattle.nd_shape_and_slice.specs.Shape.{in_box};
 ghost use Rattle.nd_array_core.specs.scoped.Sources.{meant_by, element_in_slice, KeepsUnseen};
 
@@ -15,7 +15,7 @@ fn put_seen<A: Drop, D: Dimension, Sh: IntoStrideShape<Dim = D>, I: NdIndex<D>>(
     shape: Sh,
     task: Put<I, A>,
 ) -> Result<A, ShapeError>
-    requires { in_box (Sh.lengths_meant shape) (I.coordinates_of task.index) ≡ true }
+    requires { IsTrue (in_box (Sh.lengths_meant shape) (I.coordinates_of task.index)) }
     ensures unchanged { IfErr result (λ _. slice.new ≡ slice.old) }
     ensures old { IfOk result (λ x. element_in_slice slice.old (meant_by Sh.IntoStrideShape shape) (I.coordinates_of task.index) ≡ Some x) }
     ensures new { IfOk result (λ _. element_in_slice slice.new (meant_by Sh.IntoStrideShape shape) (I.coordinates_of task.index) ≡ Some task.value) }

@@ -1,6 +1,6 @@
 //! Tasks on mutable views, and callers that know what the array holds after them.
 
-ghost use Rattle.std.specs.Prelude.{◌≡◌, ◌<◌, ◌≤◌, ℕ, true, List, [], ◌∷◌, Some, length, slice_index};
+ghost use Rattle.std.specs.Prelude.{◌≡◌, ◌<◌, ◌≤◌, ℕ, List, [], ◌∷◌, Some, length, slice_index, IsTrue};
 ghost use Rattle.nd_shape_and_slice.specs.Shape.{in_box};
 ghost use Rattle.nd_shape_and_slice.specs.Slice.{fits_axis, sliced_shape, sliced_index};
 ghost use Rattle.nd_shape_and_slice.specs.SliceInfo.{fits_shape, shape_after, index_before};
@@ -29,13 +29,13 @@ pub(crate) struct Put<I: Drop, A: Drop> {
 impl<A: Drop, D: Dimension, I: NdIndex<D>> ViewTask<A, D> for Put<I, A> {
     type Answer = A;
 
-    ghost pre = { λ task v. in_box v.shape (I.coordinates_of task.index) ≡ true };
+    ghost pre = { λ task v. IsTrue (in_box v.shape (I.coordinates_of task.index)) };
 
     ghost post = { λ task v w answer. (element_placed v (I.coordinates_of task.index) ≡ Some answer) × ((i : List ℕ) → element_placed w i ≡ with_element_at (element_placed v) (I.coordinates_of task.index) task.value i) };
 
     fn run(self, lent: LentView<'_, A, D, D::Strides>) -> (ViewMutRepr<'_, A>, A)
         requires sound { CanBeSeen D.lengths D.Strides.strides_of lent }
-        requires pre { in_box (lent_view D.lengths D.Strides.strides_of lent).shape (I.coordinates_of self.index) ≡ true }
+        requires pre { IsTrue (in_box (lent_view D.lengths D.Strides.strides_of lent).shape (I.coordinates_of self.index)) }
         ensures frame { view_frame result.0 ≡ lent_frame lent.entry }
         ensures old { element_placed (lent_view D.lengths D.Strides.strides_of lent.entry) (I.coordinates_of self.index) ≡ Some result.1 }
         ensures elements { (i : List ℕ) → element_placed (view_left D.lengths D.Strides.strides_of lent.entry result.0) i ≡ with_element_at (element_placed (lent_view D.lengths D.Strides.strides_of lent.entry)) (I.coordinates_of self.index) self.value i }
@@ -59,7 +59,7 @@ impl<A: Drop, D: Dimension, E: Dimension, I: NdIndex<D>, X: NdIndex<E>> PairTask
     for PutBoth<I, X, A> {
     type Answer = ();
 
-    ghost pre = { λ task v0 v1. (in_box v0.shape (I.coordinates_of task.low) ≡ true) × (in_box v1.shape (X.coordinates_of task.high) ≡ true) };
+    ghost pre = { λ task v0 v1. IsTrue (in_box v0.shape (I.coordinates_of task.low)) × IsTrue (in_box v1.shape (X.coordinates_of task.high)) };
 
     ghost post = { λ task v0 v1 w0 w1 answer. ((i : List ℕ) → element_placed w0 i ≡ with_element_at (element_placed v0) (I.coordinates_of task.low) task.lower i) × ((i : List ℕ) → element_placed w1 i ≡ with_element_at (element_placed v1) (X.coordinates_of task.high) task.upper i) };
 
@@ -70,7 +70,7 @@ impl<A: Drop, D: Dimension, E: Dimension, I: NdIndex<D>, X: NdIndex<E>> PairTask
     ) -> (ViewMutRepr<'b, A>, ViewMutRepr<'b, A>, ())
         requires one { CanBeSeen D.lengths D.Strides.strides_of one }
         requires two { CanBeSeen E.lengths E.Strides.strides_of two }
-        requires pre { (in_box (lent_view D.lengths D.Strides.strides_of one).shape (I.coordinates_of self.low) ≡ true) × (in_box (lent_view E.lengths E.Strides.strides_of two).shape (X.coordinates_of self.high) ≡ true) }
+        requires pre { IsTrue (in_box (lent_view D.lengths D.Strides.strides_of one).shape (I.coordinates_of self.low)) × IsTrue (in_box (lent_view E.lengths E.Strides.strides_of two).shape (X.coordinates_of self.high)) }
         ensures one_frame { view_frame result.0 ≡ lent_frame one.entry }
         ensures two_frame { view_frame result.1 ≡ lent_frame two.entry }
         ensures lower { (i : List ℕ) → element_placed (view_left D.lengths D.Strides.strides_of one.entry result.0) i ≡ with_element_at (element_placed (lent_view D.lengths D.Strides.strides_of one.entry)) (I.coordinates_of self.low) self.lower i }
@@ -98,8 +98,8 @@ fn put_both<A: Drop, S: DataMut<Elem = A>, D: Dimension, I: NdIndex<D>>(
 )
     requires axis { axis.0 < length (shape_of array.old) }
     requires within { index ≤ slice_index (shape_of array.old) axis.0 }
-    requires low { in_box (lower_shape (shape_of array.old) axis.0 index) (I.coordinates_of task.low) ≡ true }
-    requires high { in_box (upper_shape (shape_of array.old) axis.0 index) (I.coordinates_of task.high) ≡ true }
+    requires low { IsTrue (in_box (lower_shape (shape_of array.old) axis.0 index) (I.coordinates_of task.low)) }
+    requires high { IsTrue (in_box (upper_shape (shape_of array.old) axis.0 index) (I.coordinates_of task.high)) }
     ensures low { element_at array.new (I.coordinates_of task.low) ≡ Some task.lower }
     ensures high { element_at array.new (upper_index axis.0 index (I.coordinates_of task.high)) ≡ Some task.upper }
 {
@@ -116,8 +116,8 @@ fn put_in_slices<
     Y: NdIndex<J::OutDim>,
 >(array: &mut ArrayBase<S, D>, lists: (I, J), task: PutBoth<X, Y, A>)
     requires fits { TwoFit (shape_of array.old) (I.elements_of lists.0) (J.elements_of lists.1) }
-    requires low { in_box (shape_after (shape_of array.old) (I.elements_of lists.0)) (X.coordinates_of task.low) ≡ true }
-    requires high { in_box (shape_after (shape_of array.old) (J.elements_of lists.1)) (Y.coordinates_of task.high) ≡ true }
+    requires low { IsTrue (in_box (shape_after (shape_of array.old) (I.elements_of lists.0)) (X.coordinates_of task.low)) }
+    requires high { IsTrue (in_box (shape_after (shape_of array.old) (J.elements_of lists.1)) (Y.coordinates_of task.high)) }
     ensures low { element_at array.new (index_before (shape_of array.old) (I.elements_of lists.0) (X.coordinates_of task.low)) ≡ Some task.lower }
     ensures high { element_at array.new (index_before (shape_of array.old) (J.elements_of lists.1) (Y.coordinates_of task.high)) ≡ Some task.upper }
     ensures kept { KeepsButTwo array.old array.new (sliced_part array.old (I.elements_of lists.0)) (sliced_part array.old (J.elements_of lists.1)) }
@@ -131,8 +131,8 @@ fn put_in_slice<A: Drop, S: DataMut<Elem = A>, D: Dimension, I: SliceArg<D>, X: 
     index: X,
     value: A,
 ) -> A
-    requires fits { fits_shape (shape_of array.old) (I.elements_of info) ≡ true }
-    requires within { in_box (shape_after (shape_of array.old) (I.elements_of info)) (X.coordinates_of index) ≡ true }
+    requires fits { IsTrue (fits_shape (shape_of array.old) (I.elements_of info)) }
+    requires within { IsTrue (in_box (shape_after (shape_of array.old) (I.elements_of info)) (X.coordinates_of index)) }
     ensures old { element_at array.old (index_before (shape_of array.old) (I.elements_of info) (X.coordinates_of index)) ≡ Some result }
     ensures new { element_at array.new (index_before (shape_of array.old) (I.elements_of info) (X.coordinates_of index)) ≡ Some value }
     ensures kept { KeepsBut array.old array.new (sliced_part array.old (I.elements_of info)) }
@@ -145,7 +145,7 @@ fn put_at<A: Drop, S: DataMut<Elem = A>, D: Dimension, I: NdIndex<D>>(
     index: I,
     value: A,
 ) -> A
-    requires { in_box (shape_of array.old) (I.coordinates_of index) ≡ true }
+    requires { IsTrue (in_box (shape_of array.old) (I.coordinates_of index)) }
     ensures old { element_at array.old (I.coordinates_of index) ≡ Some result }
     ensures elements { (i : List ℕ) → element_at array.new i ≡ with_element_at (element_at array.old) (I.coordinates_of index) value i }
 {
@@ -159,8 +159,8 @@ fn put_along_axis<A: Drop, S: DataMut<Elem = A>, D: Dimension, X: NdIndex<D>>(
     task: Put<X, A>,
 ) -> A
     requires axis { axis.0 < length (shape_of array.old) }
-    requires fits { fits_axis (slice_index (shape_of array.old) axis.0) slice ≡ true }
-    requires within { in_box (sliced_shape (shape_of array.old) axis.0 slice) (X.coordinates_of task.index) ≡ true }
+    requires fits { IsTrue (fits_axis (slice_index (shape_of array.old) axis.0) slice) }
+    requires within { IsTrue (in_box (sliced_shape (shape_of array.old) axis.0 slice) (X.coordinates_of task.index)) }
     ensures shape { shape_of array.new ≡ shape_of array.old }
     ensures old { element_at array.old (sliced_index (shape_of array.old) axis.0 slice (X.coordinates_of task.index)) ≡ Some result }
     ensures new { element_at array.new (sliced_index (shape_of array.old) axis.0 slice (X.coordinates_of task.index)) ≡ Some task.value }
@@ -179,7 +179,7 @@ where
     D::Smaller: Dimension,
     requires axis { axis.0 < length (shape_of array.old) }
     requires below { index < slice_index (shape_of array.old) axis.0 }
-    requires within { in_box (indexed_shape (shape_of array.old) axis.0) (X.coordinates_of task.index) ≡ true }
+    requires within { IsTrue (in_box (indexed_shape (shape_of array.old) axis.0) (X.coordinates_of task.index)) }
     ensures shape { shape_of array.new ≡ shape_of array.old }
     ensures old { element_at array.old (indexed_index axis.0 index (X.coordinates_of task.index)) ≡ Some result }
     ensures new { element_at array.new (indexed_index axis.0 index (X.coordinates_of task.index)) ≡ Some task.value }
@@ -192,7 +192,7 @@ fn put_on_diagonal<A: Drop, S: DataMut<Elem = A>, D: Dimension, X: NdIndex<Ix1>>
     array: &mut ArrayBase<S, D>,
     task: Put<X, A>,
 ) -> A
-    requires within { in_box (diagonal_length (shape_of array.old) ∷ []) (X.coordinates_of task.index) ≡ true }
+    requires within { IsTrue (in_box (diagonal_length (shape_of array.old) ∷ []) (X.coordinates_of task.index)) }
     ensures shape { shape_of array.new ≡ shape_of array.old }
     ensures old { element_at array.old (diagonal_index (shape_of array.old) (X.coordinates_of task.index)) ≡ Some result }
     ensures new { element_at array.new (diagonal_index (shape_of array.old) (X.coordinates_of task.index)) ≡ Some task.value }

@@ -1,7 +1,7 @@
 -- What a storage ends as, once a borrow of one of its elements is over.
 use mathlib.Core.Path.{sym, ap, ◌∙◌}
 use lib.ListN.{length-set}
-use Rattle.std.specs.Prelude.{◌≡◌, ℕ, List, Bool, true, length, replicate, Option, Some, IsSome, is_some, slice_get, slice_set, nat_eq, if◌then◌else◌}
+use Rattle.std.specs.Prelude.{◌≡◌, ℕ, List, Bool, true, length, replicate, Option, Some, IsSome, is_some, slice_get, slice_set, nat_eq, if◌then◌else◌, IsTrue}
 use Rattle.std.specs.Borrow.{Fml, RattleType, MutBor, Lends}
 use Rattle.nd_region.specs.Places.{stored_in}
 use Rattle.nd_region.proofs.Stored.{whole_got, written_has}
@@ -14,7 +14,7 @@ place_ends S A s r with_last = Lends S A s r (λ x. (with_last x).0)
 
 -- wherever a map holds something, another does too
 abbrev pub KeepsPlaces : {A : Type 0} → (ℕ → Option A) → (ℕ → Option A) → Type 0
-KeepsPlaces old new = (p : ℕ) → is_some (old p) ≡ true → is_some (new p) ≡ true
+KeepsPlaces old new = (p : ℕ) → IsTrue (is_some (old p)) → IsTrue (is_some (new p))
 
 pub place_kept : {A : Type 0} (xs : List A) (held : List Bool) (place : ℕ) (x : A) → KeepsPlaces (stored_in xs held) (stored_in (slice_set xs place x) held)
 place_kept xs held place x p has = written_has xs held place p x ∙ has

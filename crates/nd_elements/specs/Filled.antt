@@ -6,13 +6,13 @@ use Rattle.nd_elements.specs.Places.{stored_at}
 module _ {A : Type 0} (place : ℕ → ℤ) (count : ℕ) (x : A) (old new : ℕ → Option A) where
   -- nothing else was written than x, and nowhere else than at that many places
   pub record IsPartlyFilled : Type 0 where
-    pub left : (p : ℕ) → ((k : ℕ) → k < count → place k ≡ pos p → ⊥) → new p ≡ old p
+    pub left : (p : ℕ) → ((k : ℕ) → k < count → ¬ (place k ≡ pos p)) → new p ≡ old p
     pub each : (p : ℕ) → (new p ≡ old p) ⊎ (new p ≡ Some x)
 
   -- x stands at that many places, and all others are as they were
   pub record IsFilledTo : Type 0 where
     pub done : (k : ℕ) → k < count → stored_at new (place k) ≡ Some x
-    pub left : (p : ℕ) → ((k : ℕ) → k < count → place k ≡ pos p → ⊥) → new p ≡ old p
+    pub left : (p : ℕ) → ((k : ℕ) → k < count → ¬ (place k ≡ pos p)) → new p ≡ old p
     pub each : (p : ℕ) → (new p ≡ old p) ⊎ (new p ≡ Some x)
 
 -- the same of a storage: x stands at each of its numbered places, or at some of them

@@ -1,5 +1,5 @@
 -- Closures that are called once for each index of a shape, in an order that is free.
-use Rattle.std.specs.Prelude.{◌≡◌, ◌≤◌, ℕ, true, List, ◌∷◌, Option, Some, if◌then◌else◌}
+use Rattle.std.specs.Prelude.{◌≡◌, ◌≤◌, ℕ, List, ◌∷◌, Option, Some, if◌then◌else◌, IsTrue}
 use Rattle.std.specs.Fn.{Mut, Called}
 use Rattle.std.specs.List.{FoldsTo, count_by}
 use Rattle.nd_shape_and_slice.specs.Shape.{in_box}
@@ -21,7 +21,7 @@ module _ {P : Type 0} (shape : List ℕ) (call : P → List ℕ → P → Type 0
 
   -- whichever indexes were visited, the next call may be made
   abbrev pub CallableInAnyOrder : (P → List ℕ → Type 0) → P → Type 0
-  CallableInAnyOrder takes first = (before : List (List ℕ)) (now : P) (next : List ℕ) → in_box shape next ≡ true → ListsPartOfBox shape (next ∷ before) → FoldsTo call first before now → takes now next
+  CallableInAnyOrder takes first = (before : List (List ℕ)) (now : P) (next : List ℕ) → IsTrue (in_box shape next) → ListsPartOfBox shape (next ∷ before) → FoldsTo call first before now → takes now next
 
 -- `answers p i y q` says that a call for the index i answered y, and led from p to q
 module _ {P A : Type 0} (answers : P → List ℕ → A → P → Type 0) where
@@ -59,7 +59,7 @@ module _ {F X A : Type 0} (g : Mut F (X × Unit {0}) A) (lengths_of : X → List
 
   -- at each index of the box the closure answers what h gives, and stays as it is
   abbrev pub AnswersByIndex : List ℕ → (List ℕ → A) → F → Type 0
-  AnswersByIndex shape h f = (x : X) (y : A) (f' : F) → in_box shape (lengths_of x) ≡ true → Called g f (x, tt) y f' → (f' ≡ f) × (y ≡ h (lengths_of x))
+  AnswersByIndex shape h f = (x : X) (y : A) (f' : F) → IsTrue (in_box shape (lengths_of x)) → Called g f (x, tt) y f' → (f' ≡ f) × (y ≡ h (lengths_of x))
 
 -- closures that are handed nothing
 module _ {F A : Type 0} (g : Mut F (Unit {0}) A) where

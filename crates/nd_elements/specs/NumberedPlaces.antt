@@ -1,5 +1,5 @@
 -- What a storage holds at numbered places, those of a lane or of a layout.
-use Rattle.std.specs.Prelude.{◌≡◌, ◌+◌, ◌<◌, ◌++◌, ℕ, Bool, true, List, length, pos, Option, Some}
+use Rattle.std.specs.Prelude.{◌≡◌, ◌+◌, ◌<◌, ◌++◌, ℕ, Bool, List, length, pos, Option, Some, IsTrue}
 use Rattle.std.specs.Cmp.Lexicographic.{pointwise}
 use Rattle.std.specs.declared.vec.Vec.{Vec}
 use Rattle.nd_shape_and_slice.specs.declared.dimension.Dimension as dimension
@@ -30,7 +30,7 @@ PlacesDiffer at = AreDistinct at.place at.count
 module _ {S A : Type 0} (stored : S → ℕ → Option A) (at : Numbered) where
   -- it holds an element at each of them
   abbrev pub Holds : S → Type 0
-  Holds s = (k : ℕ) → k < at.count → names_place (stored s) (at.place k) ≡ true
+  Holds s = (k : ℕ) → k < at.count → IsTrue (names_place (stored s) (at.place k))
 
   -- the element of each number, and all of them in turn
   abbrev pub elements_at : S → ℕ → Option A

@@ -1,5 +1,5 @@
 -- Places of a storage.
-use Rattle.std.specs.Prelude.{ℕ, ◌≡◌, Bool, true, List, ℤ, pos, negsuc, Option, None, Some, is_some, nat_eq, if◌then◌else◌}
+use Rattle.std.specs.Prelude.{ℕ, ◌≡◌, Bool, List, ℤ, pos, negsuc, Option, None, Some, is_some, nat_eq, if◌then◌else◌, IsTrue}
 use Rattle.nd_shape_and_slice.specs.Shape.{in_box}
 use Rattle.nd_shape_and_slice.specs.Place.{place_of}
 
@@ -19,7 +19,7 @@ names_place stored z = is_some (stored_at stored z)
 
 -- the storage holds something at the place of every index of the box
 abbrev pub HoldsAll : {A : Type 0} → (ℕ → Option A) → ℕ → List ℕ → List ℤ → Type 0
-HoldsAll stored offset lengths strides = (i : List ℕ) → in_box lengths i ≡ true → names_place stored (place_of offset strides i) ≡ true
+HoldsAll stored offset lengths strides = (i : List ℕ) → IsTrue (in_box lengths i) → IsTrue (names_place stored (place_of offset strides i))
 
 -- a map once the element at a place is another
 abbrev pub written_at : {A : Type 0} → (ℕ → Option A) → ℕ → A → ℕ → Option A
@@ -35,4 +35,4 @@ kept_at g stored p = if g p then stored p else None
 
 -- no place is that of an index of each of two arrays
 abbrev pub ShareNoPlace : (List ℕ → Option ℕ) → (List ℕ → Option ℕ) → Type 0
-ShareNoPlace places others = (i j : List ℕ) (p : ℕ) → places i ≡ Some p → others j ≡ Some p → ⊥
+ShareNoPlace places others = (i j : List ℕ) (p : ℕ) → places i ≡ Some p → ¬ (others j ≡ Some p)

@@ -1,7 +1,7 @@
 -- What a storage ends as, once a borrow of elements that lie side by side is over.
 use mathlib.Core.Path.{◌≡◌, refl, sym, ap, ◌∙◌}
 use native.Mathlib.Omega.{arith}
-use Rattle.std.specs.Prelude.{ℕ, zero, suc, ◌+◌, ◌-◌, ◌<◌, ◌≤◌, List, [], ◌∷◌, ◌++◌, Bool, true, false, length, take, drop, replicate, Option, Some, is_some, slice_get, slice_index_or}
+use Rattle.std.specs.Prelude.{ℕ, zero, suc, ◌+◌, ◌-◌, ◌<◌, ◌≤◌, List, [], ◌∷◌, ◌++◌, Bool, true, false, length, take, drop, replicate, Option, Some, is_some, slice_get, slice_index_or, IsTrue}
 use Rattle.std.specs.Borrow.{Fml, RattleType, MutBor, Lends, Array, follows}
 use Rattle.std.specs.Vec.{with_items}
 use Rattle.std.specs.declared.vec.Vec.{Vec}
@@ -27,7 +27,7 @@ run_start place (suc n) = place
 
 -- a map has elements at that many places from one on
 abbrev pub HasRunAt : {A : Type 0} → (ℕ → Option A) → ℕ → ℕ → Type 0
-HasRunAt stored place count = (k : ℕ) → k < count → is_some (stored (place + k)) ≡ true
+HasRunAt stored place count = (k : ℕ) → k < count → IsTrue (is_some (stored (place + k)))
 
 -- they are these
 abbrev pub IsRunAt : {A : Type 0} → (ℕ → Option A) → ℕ → ℕ → List A → Type 0
@@ -39,10 +39,10 @@ HasItemsAt {A} stored place count xs = (k : ℕ) (d : A) → k < count → store
 
 -- no number of them is p
 abbrev pub IsBesideRun : ℕ → ℕ → ℕ → Type 0
-IsBesideRun place count p = (k : ℕ) → k < count → p ≡ place + k → ⊥
+IsBesideRun place count p = (k : ℕ) → k < count → ¬ (p ≡ place + k)
 
 module _ {A : Type 0} where
-  there_is : (xs : List A) (fs : List Bool) (p : ℕ) → is_some (element_in xs fs p) ≡ true → p < length xs
+  there_is : (xs : List A) (fs : List Bool) (p : ℕ) → IsTrue (is_some (element_in xs fs p)) → p < length xs
   there_is [] fs p has = absurd cc
   there_is (x ∷ xs) [] p has = absurd cc
   there_is (x ∷ xs) (true ∷ fs) zero has = omega arith
@@ -54,7 +54,7 @@ module _ {A : Type 0} where
   abbrev around : List A → ℕ → ℕ → List A → List A
   around xs p m ws = take p xs ++ (ws ++ drop m xs)
 
-  run_inside : (xs : List A) (fs : List Bool) (p m q k : ℕ) (ws : List A) → m ≡ p + length ws → q ≡ p + k → k < length ws → is_some (element_in xs fs q) ≡ true → element_in (around xs p m ws) fs q ≡ slice_get ws k
+  run_inside : (xs : List A) (fs : List Bool) (p m q k : ℕ) (ws : List A) → m ≡ p + length ws → q ≡ p + k → k < length ws → IsTrue (is_some (element_in xs fs q)) → element_in (around xs p m ws) fs q ≡ slice_get ws k
   run_inside [] fs p m q k ws long at below has = absurd cc
   run_inside (x ∷ xs) [] p m q k ws long at below has = absurd cc
   run_inside (x ∷ xs) (f ∷ fs) (suc p) zero q k ws long at below has = absurd (omega (arith, long))
@@ -72,7 +72,7 @@ module _ {A : Type 0} where
   run_inside (x ∷ xs) (false ∷ fs) zero (suc m) (suc q) (suc k) (w ∷ ws) long at below has =
       let e : suc m ≡ 0 + suc (length ws) = long in let l : suc k < suc (length ws) = below in run_inside xs fs zero m q k ws (omega (arith, e)) (omega (arith, at)) (omega (arith, l)) has
 
-  run_outside : (xs : List A) (fs : List Bool) (p m q : ℕ) (ws : List A) → m ≡ p + length ws → m ≤ length xs → ((k : ℕ) → k < length ws → q ≡ p + k → ⊥) → element_in (around xs p m ws) fs q ≡ element_in xs fs q
+  run_outside : (xs : List A) (fs : List Bool) (p m q : ℕ) (ws : List A) → m ≡ p + length ws → m ≤ length xs → ((k : ℕ) → k < length ws → ¬ (q ≡ p + k)) → element_in (around xs p m ws) fs q ≡ element_in xs fs q
   run_outside [] fs (suc p) m q ws long room beside = absurd (let bad : m ≤ 0 = room in omega (arith, bad, long))
   run_outside [] fs zero m q [] long room beside = by_end m
     where

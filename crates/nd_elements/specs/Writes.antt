@@ -19,7 +19,7 @@ with_swapped_at at a b i = if is_index i b then at a else (if is_index i a then 
 
 -- every place that no index names holds what it held
 abbrev pub OthersStay : {A : Type 0} → (List ℕ → Option ℕ) → (ℕ → Option A) → (ℕ → Option A) → Type 0
-OthersStay place old new = (p : ℕ) → ((i : List ℕ) → place i ≡ Some p → ⊥) → new p ≡ old p
+OthersStay place old new = (p : ℕ) → ((i : List ℕ) → ¬ (place i ≡ Some p)) → new p ≡ old p
 
 -- each index has its old element or x
 abbrev pub IsOldOrNew : {A : Type 0} → List ℕ → (List ℕ → Option A) → A → (List ℕ → Option A) → Type 0

@@ -1,6 +1,6 @@
 //! The storages of arrays: an owned vector, or a borrow of elements, shared or to be written.
 
-ghost use Rattle.std.specs.Prelude.{◌≡◌, ◌+◌, ◌*◌, ◌<◌, ◌≤◌, ◌^◌, ⊤, ℕ, length, Bool, true, false, List, [], Option, IsSome, Some, IfOk, IfErr, OnErr, is_ok, slice_get, slice_range, refl, vec_capacity};
+ghost use Rattle.std.specs.Prelude.{◌≡◌, ◌+◌, ◌*◌, ◌<◌, ◌≤◌, ◌^◌, ⊤, ℕ, length, Bool, true, false, List, [], Option, IsSome, Some, IfOk, IfErr, OnErr, is_ok, slice_get, slice_range, refl, vec_capacity, IsTrue};
 ghost use Rattle.std.specs.Borrow.{sem};
 ghost use Rattle.std.specs.List.{flat_map};
 ghost use Rattle.std.specs.Option.{is_some};
@@ -68,7 +68,7 @@ pub trait Data {
     /// The elements themselves where it owns them, and else the storage as it is.
     fn into_items(self) -> Result<Vec<Self::Elem>, Self>
         ensures owned { is_ok result ≡ owned }
-        ensures alone { IfOk result (λ _. exclusive ≡ true) }
+        ensures alone { IfOk result (λ _. IsTrue exclusive) }
         ensures items { IfOk result (λ v. v.items ≡ items self) }
         ensures room { IfOk result (λ v. vec_capacity v ≡ room self) }
         ensures elements { IfOk result (λ v. (place : ℕ) → slice_get v.items place ≡ stored self place) }
@@ -359,7 +359,7 @@ pub trait DataMut: Data {
         ensures frame { frame self.new ≡ frame self.old };
 
     /// Each element has one index alone.
-    ghost alone: { Self.Data.exclusive ≡ true };
+    ghost alone: { IsTrue Self.Data.exclusive };
 
     /// A write changes no other element.
     ghost element_written: { WritesOneElement Self.Data.stored Self.Data.with_element };
@@ -403,7 +403,7 @@ pub trait DataOwned: Data {
         ensures elements { (place : ℕ) → Self.stored result place ≡ slice_get vector.items place };
 
     /// It owns them.
-    ghost owns: { Self.Data.owned ≡ true };
+    ghost owns: { IsTrue Self.Data.owned };
 }
 
 impl<A> DataOwned for OwnedRepr<A> {

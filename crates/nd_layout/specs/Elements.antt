@@ -1,6 +1,6 @@
 -- What one element of a list of slices makes of the axis that it reads: a slice shortens it, an index keeps one
 -- coordinate of it, and a new axis has length 1 and stride 0.
-use Rattle.std.specs.Prelude.{ℕ, ◌<◌, ◌≡◌, true, List, slice_index, slice_index_or, slice_set, ℤ, pos, ◌+ℤ◌, ◌*ℤ◌}
+use Rattle.std.specs.Prelude.{ℕ, ◌<◌, List, slice_index, slice_index_or, slice_set, ℤ, pos, ◌+ℤ◌, ◌*ℤ◌, IsTrue}
 use Rattle.std.specs.Option.{unwrap_or}
 use Rattle.nd_shape_and_slice.specs.declared.slice_info.SliceInfoElem.{SliceInfoElem}
 use Rattle.nd_shape_and_slice.specs.declared.slice_info.SliceInfoElem.TheVariants.{Slice as Part, Index, NewAxis}
@@ -35,4 +35,4 @@ strides_with ns ss a NewAxis = ss
 
 -- each coordinate of an axis of length n leads from the offset to a place
 abbrev pub LeadsToPlaces : ℕ → ℕ → ℤ → Type 0
-LeadsToPlaces offset n s = (c : ℕ) → c < n → is_place (pos offset +ℤ (pos c *ℤ s)) ≡ true
+LeadsToPlaces offset n s = (c : ℕ) → c < n → IsTrue (is_place (pos offset +ℤ (pos c *ℤ s)))

@@ -8,7 +8,7 @@ use Rattle.nd_layout.specs.Ranks.{at_rank, fastest_first, Regroups, ServesRanks}
 
 -- no further axis goes on from the group: the next one longer than 1 has another stride than length times step
 abbrev pub IsClosed : Group → List ℕ → List ℤ → Type 0
-IsClosed g ns ss = 1 < g.length → 1 < size_of (drop g.next ns) → at_rank (drop g.next ns) (drop g.next ss) 1 ≡ pos g.length *ℤ g.step → ⊥
+IsClosed g ns ss = 1 < g.length → 1 < size_of (drop g.next ns) → ¬ (at_rank (drop g.next ns) (drop g.next ss) 1 ≡ pos g.length *ℤ g.step)
 
 -- the new length m of stride t is taken from the group g, and h is left
 abbrev pub TakesLength : List ℕ → List ℤ → Group → ℕ → ℤ → Group → Type 0
@@ -16,7 +16,7 @@ TakesLength ns ss g m t h = Regroups (g.length ∷ drop g.next ns) (g.step ∷ d
 
 -- the axis doesn't continue the group: both are longer than 1, and it has another stride than length times step
 abbrev pub BeginsAnother : Group → ℕ → ℤ → Type 0
-BeginsAnother g len stride = (1 < len) × (1 < g.length) × (stride ≡ pos g.length *ℤ g.step → ⊥)
+BeginsAnother g len stride = (1 < len) × (1 < g.length) × ¬ (stride ≡ pos g.length *ℤ g.step)
 
 -- the second group is the first with the next axis, whatever axes follow
 abbrev pub JoinsNext : Group → ℕ → ℤ → Group → Type 0
@@ -49,7 +49,7 @@ RegroupsRest order ns ss g h = Regroups (lengths_from order ns g) (steps_from or
 
 -- over the group and the axes behind it no strides serve a shape of as many indexes whose fastest axis has this length
 abbrev pub NoneServes : Order → List ℕ → List ℤ → Group → ℕ → Type 0
-NoneServes order ns ss g len = (ms : List ℕ) (ts : List ℤ) → len * size_of ms ≡ size_from order ns g → ServesRanks (lengths_from order ns g) (steps_from order ss g) (len ∷ ms) ts → ⊥
+NoneServes order ns ss g len = (ms : List ℕ) (ts : List ℤ) → len * size_of ms ≡ size_from order ns g → ¬ (ServesRanks (lengths_from order ns g) (steps_from order ss g) (len ∷ ms) ts)
 
 -- that axis is taken from the group with this stride; the group that is left is closed, and the next axis is one of all
 abbrev pub IsTakenOff : Order → List ℕ → List ℤ → Group → ℕ → ℤ → Group → Type 0

@@ -1,5 +1,5 @@
 -- The layout after an array has grown along one axis.
-use Rattle.std.specs.Prelude.{ℕ, ◌+◌, ◌*◌, ◌<◌, ◌≤◌, ◌≡◌, max, Bool, true, false, not, ◌&&◌, ◌||◌, nat_eq, nat_lt, nat_le, if◌then◌else◌, List, [], ◌∷◌, length, replicate, slice_index, slice_index_or, slice_set, ℤ, pos, nat_abs, int_lt}
+use Rattle.std.specs.Prelude.{ℕ, ◌+◌, ◌*◌, ◌<◌, ◌≤◌, ◌≡◌, max, Bool, false, not, ◌&&◌, ◌||◌, nat_eq, nat_lt, nat_le, if◌then◌else◌, List, [], ◌∷◌, length, replicate, slice_index, slice_index_or, slice_set, ℤ, pos, nat_abs, int_lt, IsTrue}
 use Rattle.std.specs.List.{remove, insert}
 use Rattle.nd_shape_and_slice.specs.Shape.{in_box, size_of}
 use Rattle.nd_shape_and_slice.specs.Place.{place_of, displacement_of}
@@ -72,13 +72,13 @@ strides_in_case row ns ss axis added =
 -- the places below the old number of elements, and the indexes that only the new shape has are at the places from that
 -- number on, one at each.
 pub record IsContinued (ns : List ℕ) (ss : List ℤ) (ms : List ℕ) (ts : List ℤ) : Type 0 where
-  pub before : (i : List ℕ) → in_box ns i ≡ true → (k : ℕ) × (k < size_of ns) × (place_of (reach_down ns ss) ts i ≡ pos k)
-  pub beyond : (i : List ℕ) → in_box ms i ≡ true → in_box ns i ≡ false → (k : ℕ) × (size_of ns ≤ k) × (k < size_of ms) × (place_of (reach_down ns ss) ts i ≡ pos k)
-  pub each : (k : ℕ) → size_of ns ≤ k → k < size_of ms → (i : List ℕ) × (in_box ms i ≡ true) × (in_box ns i ≡ false) × (place_of (reach_down ns ss) ts i ≡ pos k)
+  pub before : (i : List ℕ) → IsTrue (in_box ns i) → (k : ℕ) × (k < size_of ns) × (place_of (reach_down ns ss) ts i ≡ pos k)
+  pub beyond : (i : List ℕ) → IsTrue (in_box ms i) → in_box ns i ≡ false → (k : ℕ) × (size_of ns ≤ k) × (k < size_of ms) × (place_of (reach_down ns ss) ts i ≡ pos k)
+  pub each : (k : ℕ) → size_of ns ≤ k → k < size_of ms → (i : List ℕ) × IsTrue (in_box ms i) × (in_box ns i ≡ false) × (place_of (reach_down ns ss) ts i ≡ pos k)
 
 -- The second layout has the places of the first in the order of fresh storage that is to grow along an axis: the index
 -- whose place there is k has rank k.
 pub record IsInGrowingOrder (axis : ℕ) (offset : ℕ) (ns : List ℕ) (ss : List ℤ) (start : ℕ) (ms : List ℕ) (ts : List ℤ) : Type 0 where
   pub order : IsRearranged offset ns ss start ms ts
   pub size : size_of ms ≡ size_of ns
-  pub ranked : (i : List ℕ) → in_box ns i ≡ true → displacement_of (growing_strides axis ns) i ≡ pos (order.rank_of i)
+  pub ranked : (i : List ℕ) → IsTrue (in_box ns i) → displacement_of (growing_strides axis ns) i ≡ pos (order.rank_of i)

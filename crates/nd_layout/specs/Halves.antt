@@ -1,5 +1,5 @@
 -- Layouts cut at one coordinate of one axis.
-use Rattle.std.specs.Prelude.{ℕ, ◌+◌, ◌<◌, ◌≡◌, ◌⊎◌, true, List, length, slice_index, ℤ}
+use Rattle.std.specs.Prelude.{ℕ, ◌+◌, ◌<◌, ◌≡◌, ◌⊎◌, List, length, slice_index, ℤ, IsTrue}
 use Rattle.std.specs.List.{sum}
 use Rattle.nd_shape_and_slice.specs.Shape.{in_box, size_of}
 use Rattle.nd_shape_and_slice.specs.declared.dimension.Dimension as dimension
@@ -19,9 +19,9 @@ pub record AreHalved (one two lower lower_two upper upper_two : Placement) : Typ
   pub high_second : IsStepOf two upper_two source
   pub low_alike : lower_two.lengths ≡ lower.lengths
   pub high_alike : upper_two.lengths ≡ upper.lengths
-  pub found : (i : List ℕ) → in_box one.lengths i ≡ true → (in_box lower.lengths i ≡ true) ⊎ ((j : List ℕ) × (in_box upper.lengths j ≡ true) × (source j ≡ i))
-  pub apart : (i j : List ℕ) → in_box lower.lengths i ≡ true → in_box upper.lengths j ≡ true → source j ≡ i → ⊥
-  pub once : (j k : List ℕ) → in_box upper.lengths j ≡ true → in_box upper.lengths k ≡ true → source j ≡ source k → j ≡ k
+  pub found : (i : List ℕ) → IsTrue (in_box one.lengths i) → IsTrue (in_box lower.lengths i) ⊎ ((j : List ℕ) × IsTrue (in_box upper.lengths j) × (source j ≡ i))
+  pub apart : (i j : List ℕ) → IsTrue (in_box lower.lengths i) → IsTrue (in_box upper.lengths j) → ¬ (source j ≡ i)
+  pub once : (j k : List ℕ) → IsTrue (in_box upper.lengths j) → IsTrue (in_box upper.lengths k) → source j ≡ source k → j ≡ k
   pub low_smaller : sum lower.lengths < sum one.lengths
   pub high_smaller : sum upper.lengths < sum one.lengths
 

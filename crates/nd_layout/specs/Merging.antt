@@ -16,7 +16,7 @@ StepsNoLess ns ss a b = (1 < slice_index ns a) × (1 < slice_index ns b → magn
 pub data CanMerge (ns : List ℕ) (ss : List ℤ) (a b : ℕ) : Type 0 where
   ShortTaken : slice_index ns a ≤ 1 → CanMerge ns ss a b
   ShortInto : slice_index ns b ≤ 1 → CanMerge ns ss a b
-  GoesOn : (a ≡ b → ⊥) → slice_index_or ss a (pos 0) ≡ pos (slice_index ns b) *ℤ slice_index_or ss b (pos 0) → CanMerge ns ss a b
+  GoesOn : ¬ (a ≡ b) → slice_index_or ss a (pos 0) ≡ pos (slice_index ns b) *ℤ slice_index_or ss b (pos 0) → CanMerge ns ss a b
 
 -- b has both lengths' product, and a length 1, or 0 where the product is 0
 abbrev pub merged_shape : List ℕ → ℕ → ℕ → List ℕ

@@ -1,5 +1,5 @@
 -- Places: the whole numbers at which elements can lie.
-use Rattle.std.specs.Prelude.{ℕ, ◌^◌, ◌≡◌, Bool, true, false, nat_lt, List, ℤ, pos, negsuc, Option, MatchOption}
+use Rattle.std.specs.Prelude.{ℕ, ◌^◌, ◌≡◌, Bool, false, nat_lt, List, ℤ, pos, negsuc, Option, MatchOption, IsTrue}
 use Rattle.nd_shape_and_slice.specs.FirstIndex.{first_index}
 use Rattle.nd_shape_and_slice.specs.Shape.{in_box}
 use Rattle.nd_shape_and_slice.specs.Place.{place_of}
@@ -16,15 +16,15 @@ is_usize (negsuc p) = false
 
 -- every index of the box lies at such a number
 abbrev pub ReachesUsizes : ℕ → List ℕ → List ℤ → Type 0
-ReachesUsizes first lengths strides = (i : List ℕ) → in_box lengths i ≡ true → is_usize (place_of first strides i) ≡ true
+ReachesUsizes first lengths strides = (i : List ℕ) → IsTrue (in_box lengths i) → IsTrue (is_usize (place_of first strides i))
 
 -- every index of the box has a place
 abbrev pub ReachesPlaces : ℕ → List ℕ → List ℤ → Type 0
-ReachesPlaces offset lengths strides = (i : List ℕ) → in_box lengths i ≡ true → is_place (place_of offset strides i) ≡ true
+ReachesPlaces offset lengths strides = (i : List ℕ) → IsTrue (in_box lengths i) → IsTrue (is_place (place_of offset strides i))
 
 -- the place of an index, None exactly outside the box
 abbrev pub IsPlaceOf : ℕ → List ℕ → List ℤ → List ℕ → Option ℕ → Type 0
-IsPlaceOf offset lengths strides index found = MatchOption found (in_box lengths index ≡ false) (λ place. (in_box lengths index ≡ true) × (pos place ≡ place_of offset strides index))
+IsPlaceOf offset lengths strides index found = MatchOption found (in_box lengths index ≡ false) (λ place. IsTrue (in_box lengths index) × (pos place ≡ place_of offset strides index))
 
 -- the same of the index of zeros
 abbrev pub IsFirstPlace : ℕ → List ℕ → List ℤ → Option ℕ → Type 0

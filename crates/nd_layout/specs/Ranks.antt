@@ -1,5 +1,5 @@
 -- The indexes of a shape by their ranks, and what it means that strides serve another shape.
-use Rattle.std.specs.Prelude.{ℕ, ◌-◌, ◌*◌, ◌/◌, ◌%◌, ◌<◌, ◌≡◌, true, nat_lt, nat_abs, if◌then◌else◌, slice_index, List, [], ◌∷◌, ◌++◌, length, reverse, ℤ, pos, ◌+ℤ◌, ◌*ℤ◌}
+use Rattle.std.specs.Prelude.{ℕ, ◌-◌, ◌*◌, ◌/◌, ◌%◌, ◌<◌, ◌≡◌, nat_lt, nat_abs, if◌then◌else◌, slice_index, List, [], ◌∷◌, ◌++◌, length, reverse, ℤ, pos, ◌+ℤ◌, ◌*ℤ◌, IsTrue}
 use Rattle.nd_shape_and_slice.specs.Shape.{in_box, size_of, row_rank, column_rank, index_at}
 use Rattle.nd_shape_and_slice.specs.Place.{displacement_of, span_of, magnitude_at, IsSeparated}
 use Rattle.nd_shape_and_slice.specs.Strides.{column_strides_from}
@@ -25,18 +25,18 @@ index_in ColumnMajor ns rank = column_index ns rank
 -- the old index of equal rank lies, from the same offset. Any integers may serve.
 pub record Serves (order : Order) (lengths : List ℕ) (strides : List ℤ) (new : List ℕ) (ts : List ℤ) : Type 0 where
   pub as_many : length ts ≡ length new
-  pub same_displacement : (i j : List ℕ) → in_box lengths i ≡ true → in_box new j ≡ true → rank_in order lengths i ≡ rank_in order new j → displacement_of ts j ≡ displacement_of strides i
+  pub same_displacement : (i j : List ℕ) → IsTrue (in_box lengths i) → IsTrue (in_box new j) → rank_in order lengths i ≡ rank_in order new j → displacement_of ts j ≡ displacement_of strides i
 
 -- standard layout: each index lies at its row-major rank from the offset
 abbrev pub IsStandard : List ℕ → List ℤ → Type 0
-IsStandard ns ss = (i : List ℕ) → in_box ns i ≡ true → displacement_of ss i ≡ pos (row_rank ns i)
+IsStandard ns ss = (i : List ℕ) → IsTrue (in_box ns i) → displacement_of ss i ≡ pos (row_rank ns i)
 
 -- a run: the displacements of all indexes are as many consecutive integers as there are indexes, each once
 pub record IsRun (ns : List ℕ) (ss : List ℤ) : Type 0 where
   pub low : ℤ
-  pub within : (i : List ℕ) → in_box ns i ≡ true → (k : ℕ) × (k < size_of ns) × (displacement_of ss i ≡ low +ℤ pos k)
-  pub each : (k : ℕ) → k < size_of ns → (i : List ℕ) × (in_box ns i ≡ true) × (displacement_of ss i ≡ low +ℤ pos k)
-  pub once : (i j : List ℕ) → in_box ns i ≡ true → in_box ns j ≡ true → displacement_of ss i ≡ displacement_of ss j → i ≡ j
+  pub within : (i : List ℕ) → IsTrue (in_box ns i) → (k : ℕ) × (k < size_of ns) × (displacement_of ss i ≡ low +ℤ pos k)
+  pub each : (k : ℕ) → k < size_of ns → (i : List ℕ) × IsTrue (in_box ns i) × (displacement_of ss i ≡ low +ℤ pos k)
+  pub once : (i j : List ℕ) → IsTrue (in_box ns i) → IsTrue (in_box ns j) → displacement_of ss i ≡ displacement_of ss j → i ≡ j
 
 -- the product of the lengths of the axes whose stride is of magnitude below m
 abbrev pub size_below : ℕ → List ℕ → List ℤ → ℕ

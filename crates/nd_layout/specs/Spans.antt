@@ -1,5 +1,5 @@
 -- What keeps strides from growing: spans that fit, that have no gaps, and elements that stay where they are.
-use Rattle.std.specs.Prelude.{ℕ, ◌≡◌, ◌+◌, ◌*◌, ◌<◌, ◌≤◌, true, List, slice_index, ℤ, Option, MatchOption}
+use Rattle.std.specs.Prelude.{ℕ, ◌≡◌, ◌+◌, ◌*◌, ◌<◌, ◌≤◌, List, slice_index, ℤ, Option, MatchOption, IsTrue}
 use Rattle.nd_shape_and_slice.specs.Shape.{in_box, size_of}
 use Rattle.nd_shape_and_slice.specs.Place.{span_of, span_within, displacement_of, magnitude_at, IsSeparated}
 
@@ -17,7 +17,7 @@ HasNoGaps ns ss = span_of ns ss + 1 ≡ size_of ns
 
 -- by the strides ts each index of the lengths ns lies as far from the first as by the strides ss
 abbrev pub KeepsDisplacements : List ℕ → List ℤ → List ℤ → Type 0
-KeepsDisplacements ns ss ts = (i : List ℕ) → in_box ns i ≡ true → displacement_of ts i ≡ displacement_of ss i
+KeepsDisplacements ns ss ts = (i : List ℕ) → IsTrue (in_box ns i) → displacement_of ts i ≡ displacement_of ss i
 
 -- where elements of these lengths and strides are kept apart, those of the other lengths and strides are
 abbrev pub KeepsSeparation : List ℕ → List ℤ → List ℕ → List ℤ → Type 0

@@ -1,5 +1,5 @@
 -- A layout step: from the lengths and strides of an array to those of a view of it.
-use Rattle.std.specs.Prelude.{◌≡◌, ℕ, ◌≤◌, true, List, length, ℤ, ◌<◌, ◌^◌}
+use Rattle.std.specs.Prelude.{◌≡◌, ℕ, ◌≤◌, List, length, ℤ, ◌<◌, ◌^◌, IsTrue}
 use Rattle.nd_shape_and_slice.specs.Shape.{in_box, HasCheckedSize}
 use Rattle.nd_shape_and_slice.specs.Place.{place_of, span_of, IsSeparated}
 use Rattle.nd_layout.specs.Places.{ReachesPlaces}
@@ -15,8 +15,8 @@ pub record IsValid (offset : ℕ) (lengths : List ℕ) (strides : List ℤ) : Ty
 -- each index of the new box names, by the step's map, an old index that has the same place; and the new lengths
 -- and strides are as good as the old
 pub record IsStep (offset : ℕ) (lengths : List ℕ) (strides : List ℤ) (new_offset : ℕ) (new_lengths : List ℕ) (new_strides : List ℤ) (source : List ℕ → List ℕ) : Type 0 where
-  pub within : (i : List ℕ) → in_box new_lengths i ≡ true → in_box lengths (source i) ≡ true
-  pub same : (i : List ℕ) → in_box new_lengths i ≡ true → place_of new_offset new_strides i ≡ place_of offset strides (source i)
+  pub within : (i : List ℕ) → IsTrue (in_box new_lengths i) → IsTrue (in_box lengths (source i))
+  pub same : (i : List ℕ) → IsTrue (in_box new_lengths i) → place_of new_offset new_strides i ≡ place_of offset strides (source i)
   pub as_many : length new_strides ≡ length new_lengths
   pub spread : span_of new_lengths new_strides ≤ span_of lengths strides
   pub checked : HasCheckedSize lengths → HasCheckedSize new_lengths
@@ -25,5 +25,5 @@ pub record IsStep (offset : ℕ) (lengths : List ℕ) (strides : List ℤ) (new_
 -- each index of a new box names, by a map, an old index that has the same place: what a view needs, where several
 -- indexes may share an element
 pub record IsViewStep (offset : ℕ) (lengths : List ℕ) (strides : List ℤ) (new_offset : ℕ) (new_lengths : List ℕ) (new_strides : List ℤ) (source : List ℕ → List ℕ) : Type 0 where
-  pub within : (i : List ℕ) → in_box new_lengths i ≡ true → in_box lengths (source i) ≡ true
-  pub same : (i : List ℕ) → in_box new_lengths i ≡ true → place_of new_offset new_strides i ≡ place_of offset strides (source i)
+  pub within : (i : List ℕ) → IsTrue (in_box new_lengths i) → IsTrue (in_box lengths (source i))
+  pub same : (i : List ℕ) → IsTrue (in_box new_lengths i) → place_of new_offset new_strides i ≡ place_of offset strides (source i)

@@ -1,5 +1,5 @@
 -- The places of a layout in row-major order of its indexes, one by one or by lanes.
-use Rattle.std.specs.Prelude.{◌∷◌, ◌⊎◌, ℕ, ◌+◌, ◌-◌, ◌*◌, ◌<◌, ◌≤◌, ◌≡◌, true, List, Option, MatchOption, length, take, slice_index, slice_index_or, drop, ℤ, pos, ◌+ℤ◌, ◌-ℤ◌, ◌*ℤ◌}
+use Rattle.std.specs.Prelude.{◌∷◌, ◌⊎◌, ℕ, ◌+◌, ◌-◌, ◌*◌, ◌<◌, ◌≤◌, ◌≡◌, List, Option, MatchOption, length, take, slice_index, slice_index_or, drop, ℤ, pos, ◌+ℤ◌, ◌-ℤ◌, ◌*ℤ◌, IsTrue}
 use Rattle.nd_shape_and_slice.specs.Shape.{in_box, size_of, row_rank, index_at}
 use Rattle.nd_shape_and_slice.specs.Place.{place_of, displacement_of, span_of}
 use Rattle.nd_layout.specs.Places.{ReachesUsizes}
@@ -18,7 +18,7 @@ IsLastAxis lengths strides count stride = (count ≡ slice_index_or lengths (len
 
 -- the first coordinates of the list are the index of this rank, and it lies at the place
 pub record StandsAt (offset : ℕ) (lengths : List ℕ) (strides : List ℤ) (rank place : ℕ) (index : List ℕ) : Type 0 where
-  pub inside : in_box lengths (take (length lengths) index) ≡ true
+  pub inside : IsTrue (in_box lengths (take (length lengths) index))
   pub ranked : row_rank lengths (take (length lengths) index) ≡ rank
   pub lies : pos place ≡ place_of offset strides (take (length lengths) index)
 
@@ -73,10 +73,10 @@ pub record IsCutInLanes (offset : ℕ) (lengths : List ℕ) (strides : List ℤ)
 pub record IsRearranged (offset : ℕ) (lengths : List ℕ) (strides : List ℤ) (new_offset : ℕ) (new_lengths : List ℕ) (new_strides : List ℤ) : Type 0 where
   pub index_of : ℕ → List ℕ
   pub rank_of : List ℕ → ℕ
-  pub within : (rank : ℕ) → rank < size_of new_lengths → in_box lengths (index_of rank) ≡ true
-  pub below : (i : List ℕ) → in_box lengths i ≡ true → rank_of i < size_of new_lengths
+  pub within : (rank : ℕ) → rank < size_of new_lengths → IsTrue (in_box lengths (index_of rank))
+  pub below : (i : List ℕ) → IsTrue (in_box lengths i) → rank_of i < size_of new_lengths
   pub there : (rank : ℕ) → rank < size_of new_lengths → rank_of (index_of rank) ≡ rank
-  pub back : (i : List ℕ) → in_box lengths i ≡ true → index_of (rank_of i) ≡ i
+  pub back : (i : List ℕ) → IsTrue (in_box lengths i) → index_of (rank_of i) ≡ i
   pub same : (rank : ℕ) → rank < size_of new_lengths → place_at_rank new_offset new_lengths new_strides rank ≡ place_of offset strides (index_of rank)
 
 -- the second lengths and strides name the same places in the same row-major order, and reach as far

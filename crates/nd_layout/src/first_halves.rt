@@ -1,7 +1,7 @@
 //! A layout cut so that its parts, listed one behind the other, are the whole in row-major order. Where it is cut changes the
 //! time of a loop alone.
 
-ghost use Rattle.std.specs.Prelude.{◌≡◌, ◌<◌, true, length, IfSome};
+ghost use Rattle.std.specs.Prelude.{◌≡◌, ◌<◌, length, IfSome, IsTrue};
 ghost use Rattle.nd_layout.specs.Placements.{placement_of};
 ghost use Rattle.nd_layout.specs.Halves.{FollowEachOther, IsFirstLong};
 
@@ -39,7 +39,7 @@ fn first_long(lengths: &[usize]) -> Option<usize>
 /// Whether lanes go far across the order in which elements lie.
 fn goes_across(lengths: &[usize], strides: &[isize]) -> bool
     requires as_many { length strides.now ≡ length lengths.now }
-    ensures { result ≡ true → 1 < length lengths.now }
+    ensures { IsTrue result → 1 < length lengths.now }
 {
     let axes = lengths.len();
     if axes < 2 {
@@ -66,7 +66,7 @@ impl<D: Dimension, T: StrideList> Layout<D, T> {
     /// Whether row-major order goes so far across memory that elements are better taken in another order, part by part.
     #[inline]
     pub fn leaves_lines(&self) -> bool
-        ensures { result ≡ true → 1 < length (D.lengths self.now.dim) }
+        ensures { IsTrue result → 1 < length (D.lengths self.now.dim) }
     {
         goes_across(self.dim.slice(), self.strides.slice())
     }

@@ -1,7 +1,7 @@
 //! Two layouts of one shape cut at one coordinate of an axis, so that what a loop over both meets again is still near. Where
 //! they are cut changes the time of the loop alone.
 
-ghost use Rattle.std.specs.Prelude.{◌≡◌, ◌<◌, ◌-◌, true, length, slice_index, IfSome};
+ghost use Rattle.std.specs.Prelude.{◌≡◌, ◌<◌, ◌-◌, length, slice_index, IfSome, IsTrue};
 ghost use Rattle.nd_layout.specs.Halves.{HalvesBoth};
 
 use crate::layout::Layout;
@@ -34,7 +34,7 @@ pub struct Halves<D: Dimension, T: StrideList> {
 
 /// Whether the elements of a lane are too many, or lie too far apart, to be near when the next lane is done.
 fn is_long(len: usize, step: isize) -> bool
-    ensures { result ≡ true → 1 < len }
+    ensures { IsTrue result → 1 < len }
 {
     len > LONG || (len > SHORT && step.unsigned_abs() >= FAR / len)
 }
@@ -43,7 +43,7 @@ fn is_long(len: usize, step: isize) -> bool
 fn leads_away(lengths: &[usize], strides: &[isize], steps: &[isize]) -> bool
     requires as_many { length strides.now ≡ length lengths.now }
     requires steps_as_many { length steps.now ≡ length lengths.now }
-    ensures { result ≡ true → (1 < length lengths.now) × (1 < slice_index lengths.now (length lengths.now - 1)) }
+    ensures { IsTrue result → (1 < length lengths.now) × (1 < slice_index lengths.now (length lengths.now - 1)) }
 {
     let axes = lengths.len();
     if axes < 2 {

@@ -1,6 +1,6 @@
 //! The places of a layout by lanes: places that lie a stride apart, as many as the last axis is long.
 
-ghost use Rattle.std.specs.Prelude.{◌≡◌, ◌+◌, ◌-◌, ◌*◌, ◌<◌, ◌≤◌, ◌^◌, ◌+ℤ◌, ◌*ℤ◌, ℕ, true, pos, length, slice_index, IfSome};
+ghost use Rattle.std.specs.Prelude.{◌≡◌, ◌+◌, ◌-◌, ◌*◌, ◌<◌, ◌≤◌, ◌^◌, ◌+ℤ◌, ◌*ℤ◌, ℕ, pos, length, slice_index, IfSome, IsTrue};
 ghost use Rattle.nd_shape_and_slice.specs.Shape.{size_of, HasCheckedSize};
 ghost use Rattle.nd_layout.specs.Places.{is_place, ReachesPlaces};
 ghost use Rattle.nd_layout.specs.Walk.{IsCutInLanes, IsLastAxis};
@@ -18,7 +18,7 @@ pub struct Lane {
     pub stride: isize,
     ghost few: { count < 2 ^ 63 },
     ghost from: { 0 < count → place < 2 ^ 63 },
-    ghost reach: { (k : ℕ) → k < count → is_place (pos place +ℤ (pos k *ℤ stride)) ≡ true },
+    ghost reach: { (k : ℕ) → k < count → IsTrue (is_place (pos place +ℤ (pos k *ℤ stride))) },
 }
 
 impl Lane {

@@ -1,6 +1,6 @@
 //! Where the elements of an array lie: an offset, lengths and strides.
 
-ghost use Rattle.std.specs.Prelude.{◌↔◌, ◌≡◌, ◌<◌, ◌^◌, ⊤, ℕ, true, List, length, pos, IsNone};
+ghost use Rattle.std.specs.Prelude.{◌↔◌, ◌≡◌, ◌<◌, ◌^◌, ⊤, ℕ, List, length, pos, IsNone, IsTrue};
 ghost use Rattle.nd_shape_and_slice.specs.Shape.{in_box, size_of, nonzero_product, HasCheckedSize};
 ghost use Rattle.nd_shape_and_slice.specs.Place.{place_of, span_of};
 ghost use Rattle.nd_layout.specs.GivenStrides.{ordered_strides};
@@ -31,7 +31,7 @@ pub struct Layout<D: Dimension, T: StrideList> {
     ghost as_many: { length (T.strides_of strides) ≡ length (D.lengths dim) },
     ghost spread: { span_of (D.lengths dim) (T.strides_of strides) < 2 ^ 63 },
     ghost checked: { nonzero_product (D.lengths dim) < 2 ^ 63 },
-    ghost reach: { (i : List ℕ) → in_box (D.lengths dim) i ≡ true → is_place (place_of offset (T.strides_of strides) i) ≡ true },
+    ghost reach: { (i : List ℕ) → IsTrue (in_box (D.lengths dim) i) → IsTrue (is_place (place_of offset (T.strides_of strides) i)) },
 }
 
 impl<D: Dimension, T: StrideList> Clone for Layout<D, T> {
@@ -123,7 +123,7 @@ impl<D: Dimension, T: StrideList> Layout<D, T> {
 
     /// The place of an index of the box.
     pub fn place_in_box(&self, index: &[usize]) -> usize
-        requires { in_box (D.lengths self.now.dim) index.now ≡ true }
+        requires { IsTrue (in_box (D.lengths self.now.dim) index.now) }
         ensures { pos result ≡ place_of self.now.offset (T.strides_of self.now.strides) index.now }
     {
         place_at(self.offset, self.dim.slice(), self.strides.slice(), index)

@@ -1,6 +1,6 @@
 //! A walk over the indexes of a box in row-major order. It moves a place along, and computes none from an index.
 
-ghost use Rattle.std.specs.Prelude.{◌≡◌, ◌+◌, ◌<◌, ◌≤◌, ◌+ℤ◌, ◌-ℤ◌, ◌*ℤ◌, true, min, pos, length};
+ghost use Rattle.std.specs.Prelude.{◌≡◌, ◌+◌, ◌<◌, ◌≤◌, ◌+ℤ◌, ◌-ℤ◌, ◌*ℤ◌, min, pos, length, IsTrue};
 ghost use Rattle.nd_shape_and_slice.specs.Shape.{in_box, size_of, index_at, HasCheckedSize};
 ghost use Rattle.nd_layout.specs.Places.{is_usize, ReachesUsizes};
 ghost use Rattle.nd_layout.specs.Walk.{StandsAt, IsPlaceAtRank, IsOnItsWay, RanksNext, MovesToNext, KeepsWay, front_of};
@@ -12,7 +12,7 @@ use std::snapshot::Snapshot;
 /// The place that lies a stride further.
 #[inline]
 fn moved_on(place: usize, stride: isize) -> usize
-    requires { is_usize (pos place +ℤ stride) ≡ true }
+    requires { IsTrue (is_usize (pos place +ℤ stride)) }
     ensures { pos result ≡ pos place +ℤ stride }
 {
     if stride < 0 {
@@ -25,7 +25,7 @@ fn moved_on(place: usize, stride: isize) -> usize
 /// The place that lies a number of steps before another.
 #[inline]
 fn moved_back(place: usize, steps: usize, stride: isize) -> usize
-    requires { is_usize (pos place -ℤ (pos steps *ℤ stride)) ≡ true }
+    requires { IsTrue (is_usize (pos place -ℤ (pos steps *ℤ stride))) }
     ensures { pos result ≡ pos place -ℤ (pos steps *ℤ stride) }
 {
     let way = steps * stride.unsigned_abs();
@@ -50,9 +50,9 @@ fn size(lengths: &[usize]) -> usize
 fn advanced(lengths: &[usize], strides: &[isize], index: &mut [usize], place: usize) -> usize
     requires as_many { length strides.now ≡ length lengths.now }
     requires checked { HasCheckedSize lengths.now }
-    requires inside { in_box lengths.now index.old ≡ true }
+    requires inside { IsTrue (in_box lengths.now index.old) }
     requires way { IsOnItsWay lengths.now strides.now index.old place }
-    ensures inside { in_box lengths.now index.new ≡ true }
+    ensures inside { IsTrue (in_box lengths.now index.new) }
     ensures rank { RanksNext lengths.now index.old index.new }
     ensures moves { MovesToNext lengths.now strides.now index.old place result }
     ensures lies { KeepsWay strides.now index.old place index.new result }
@@ -82,9 +82,9 @@ fn advanced_front(
     requires as_many { length strides.now ≡ length lengths.now }
     requires few { length lengths.now ≤ 32 }
     requires checked { HasCheckedSize lengths.now }
-    requires inside { in_box lengths.now (front_of lengths.now index.old) ≡ true }
+    requires inside { IsTrue (in_box lengths.now (front_of lengths.now index.old)) }
     requires way { IsOnItsWay lengths.now strides.now (front_of lengths.now index.old) place }
-    ensures inside { in_box lengths.now (front_of lengths.now index.new) ≡ true }
+    ensures inside { IsTrue (in_box lengths.now (front_of lengths.now index.new)) }
     ensures rank { RanksNext lengths.now (front_of lengths.now index.old) (front_of lengths.now index.new) }
     ensures moves { MovesToNext lengths.now strides.now (front_of lengths.now index.old) place result }
     ensures lies { KeepsWay strides.now (front_of lengths.now index.old) place (front_of lengths.now index.new) result }

@@ -8,7 +8,7 @@ use Rattle.nd_array_core.specs.PlacedArray.{PlacedArray, found_at, element_place
 use Rattle.nd_array_core.specs.Laws.{IndexesHavePlaces, DistinctPlaces}
 use Rattle.nd_array_core.specs.base.Writes.{OthersStay}
 use Rattle.nd_array_core.specs.scoped.Tasks.{OthersKeep, IsViewThrough}
-use Rattle.nd_paths.specs.Paths.{PathMap, seen_along, meaning_in, meaning_left}
+use Rattle.nd_paths.specs.Paths.{PathMap, seen_along, meaning_placed, meaning_left}
 
 module _ {A : Type 0} where
   -- two arrays of one shape with the same elements mean the same
@@ -23,7 +23,7 @@ module _ {A : Type 0} where
   in_stored v stored = record { shape = v.shape; at = λ i. found_at stored (v.place i) }
 
   -- where the storage stays, so does all that the array means
-  pub stays : (v w : PlacedArray A) → w.stored ≡ v.stored → meaning_left v w ≡ meaning_in v
+  pub stays : (v w : PlacedArray A) → w.stored ≡ v.stored → meaning_left v w ≡ meaning_placed v
   stays v w same = ap (in_stored v) same
 
 -- ---- an array that lies as e, where the path leads from one that lies as v

@@ -16,7 +16,7 @@ use Rattle.nd_elements.specs.declared.storage.RegionRepr.{RegionRepr}
 -- a path: the cause for which an array of these lengths refuses it, if it does; the lengths at its end; and the index of the
 -- array that an index at its end names
 pub record PathMap (E : Type 0) : Type 0 where
-  pub refusal : List ℕ → Option E
+  pub cause_against : List ℕ → Option E
   pub shape : List ℕ → List ℕ
   pub source : List ℕ → List ℕ → List ℕ
 
@@ -26,12 +26,12 @@ seen_along p m = meaning_through (p.shape m.shape) (p.source m.shape) m
 
 -- what a task asks holds of it, where the path isn't refused
 abbrev pub AsksAlong : {A E : Type 0} → PathMap E → (Meaning A → Type 0) → Meaning A → Type 0
-AsksAlong p asks m = p.refusal m.shape ≡ None → asks (seen_along p m)
+AsksAlong p asks m = p.cause_against m.shape ≡ None → asks (seen_along p m)
 
 -- the task is done there, and each index that none at the end names keeps its element; or the path is refused, and all stays
 abbrev pub IsDoneAlong : {A E Q : Type 0} → PathMap E → (Meaning A → Meaning A → Q → Type 0) → Meaning A → Meaning A → Result Q E → Type 0
-IsDoneAlong p done old new (Ok answer) = (p.refusal old.shape ≡ None) × done (seen_along p old) (seen_along p new) answer × OthersKeep (p.shape old.shape) (p.source old.shape) old.at new.at
-IsDoneAlong p done old new (Err cause) = (p.refusal old.shape ≡ Some cause) × (new ≡ old)
+IsDoneAlong p done old new (Ok answer) = (p.cause_against old.shape ≡ None) × done (seen_along p old) (seen_along p new) answer × OthersKeep (p.shape old.shape) (p.source old.shape) old.at new.at
+IsDoneAlong p done old new (Err cause) = (p.cause_against old.shape ≡ Some cause) × (new ≡ old)
 
 -- what is seen below a coordinate of an axis, and from it on
 abbrev pub seen_below : {A : Type 0} → ℕ → ℕ → Meaning A → Meaning A
@@ -49,15 +49,15 @@ abbrev pub IsDoneWithTwo : {A Q : Type 0} → ℕ → ℕ → (Meaning A → Mea
 IsDoneWithTwo axis k done old new answer = done (seen_below axis k old) (seen_from axis k old) (seen_below axis k new) (seen_from axis k new) answer
 
 -- ---- what an array that lies so means, and what it means once its storage holds what w's does
-abbrev pub meaning_in : {A : Type 0} → PlacedArray A → Meaning A
-meaning_in v = record { shape = v.shape; at = element_placed v }
+abbrev pub meaning_placed : {A : Type 0} → PlacedArray A → Meaning A
+meaning_placed v = record { shape = v.shape; at = element_placed v }
 
 abbrev pub meaning_left : {A : Type 0} → PlacedArray A → PlacedArray A → Meaning A
 meaning_left v w = record { shape = v.shape; at = left_at v w }
 
 -- the task is done along a path of what lies so, which is left as w
 abbrev pub IsDoneAlongPlaced : {A E Q : Type 0} → PathMap E → (Meaning A → Meaning A → Q → Type 0) → PlacedArray A → PlacedArray A → Result Q E → Type 0
-IsDoneAlongPlaced p done v w answer = IsDoneAlong p done (meaning_in v) (meaning_left v w) answer
+IsDoneAlongPlaced p done v w answer = IsDoneAlong p done (meaning_placed v) (meaning_left v w) answer
 
 -- the places of an array that lies so
 abbrev pub places_in : {A : Type 0} → PlacedArray A → Meaning ℕ
@@ -67,7 +67,7 @@ places_in v = record { shape = v.shape; at = v.place }
 module _ {A D T : Type 0} (lengths : D → List ℕ) (strides : T → List ℤ) where
   -- what it means, and what it means once its elements are those of a storage that is given back
   abbrev pub lent_meaning : LentView A D T → Meaning A
-  lent_meaning l = meaning_in (lent_view lengths strides l)
+  lent_meaning l = meaning_placed (lent_view lengths strides l)
 
   abbrev pub given_back : LentView A D T → RegionRepr (Region A) → Meaning A
   given_back l s = meaning_left (lent_view lengths strides l) (view_left lengths strides l s)

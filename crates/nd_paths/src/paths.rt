@@ -6,7 +6,7 @@ ghost use Rattle.std.specs.Prelude.{◌≡◌, ◌≤◌, ◌<◌, ℕ, None, Li
 ghost use Rattle.nd_array_core.specs.Meaning.{Meaning, shape_of, meaning_of, storage_of, placed_array};
 ghost use Rattle.nd_array_core.specs.base.Writes.{KeepsFrame};
 ghost use Rattle.nd_array_core.specs.scoped.Tasks.{view_frame, lent_frame, CanBeSeen};
-ghost use Rattle.nd_paths.specs.Paths.{PathMap, AsksAlong, IsDoneAlong, IsDoneAlongPlaced, IsDoneAlongView, AsksOfTwo, AsksOfViews, IsDoneWithTwo, IsDoneWithViews, lent_meaning, meaning_in, meaning_left, LiesWith, EndsAlong};
+ghost use Rattle.nd_paths.specs.Paths.{PathMap, AsksAlong, IsDoneAlong, IsDoneAlongPlaced, IsDoneAlongView, AsksOfTwo, AsksOfViews, IsDoneWithTwo, IsDoneWithViews, lent_meaning, meaning_placed, meaning_left, LiesWith, EndsAlong};
 
 use nd_array_core::laws::{distinct_places, elements_have_places};
 use nd_array_core::scoped::{LentView, PairTask, ViewTask};
@@ -26,7 +26,7 @@ pub trait ArrayPath: Drop {
         self,
         array: ArrayBase<S, IxDyn>,
     ) -> (ArrayBase<S, IxDyn>, Option<Self::Refusal>)
-        ensures refused { result.1 ≡ (leads self).refusal (shape_of array) }
+        ensures refused { result.1 ≡ (leads self).cause_against (shape_of array) }
         ensures storage { LiesWith array result.0 }
         ensures end { result.1 ≡ None → EndsAlong (leads self) array result.0 };
 }
@@ -76,7 +76,7 @@ fn run_along<S: DataMut, P: ArrayPath, K: ArrayTask<S::Elem>>(
     path: P,
     task: K,
 ) -> (ArrayBase<S, IxDyn>, Result<K::Answer, P::Refusal>)
-    requires { AsksAlong (P.leads path) (K.pre task) (meaning_in (placed_array array)) }
+    requires { AsksAlong (P.leads path) (K.pre task) (meaning_placed (placed_array array)) }
     ensures frame { S.frame (storage_of result.0) ≡ S.frame (storage_of array) }
     ensures done { IsDoneAlongPlaced (P.leads path) (K.post task) (placed_array array) (placed_array result.0) result.1 }
 {
@@ -103,7 +103,7 @@ struct Along<P: Drop, K: Drop> {
 impl<A, D: Dimension, P: ArrayPath, K: ArrayTask<A>> ViewTask<A, D> for Along<P, K> {
     type Answer = Result<K::Answer, P::Refusal>;
 
-    ghost pre = { λ both v. AsksAlong (P.leads both.path) (K.pre both.task) (meaning_in v) };
+    ghost pre = { λ both v. AsksAlong (P.leads both.path) (K.pre both.task) (meaning_placed v) };
 
     ghost post = { λ both v w answer. IsDoneAlongPlaced (P.leads both.path) (K.post both.task) v w answer };
 
@@ -132,9 +132,9 @@ struct Halves<K: Drop> {
 impl<A, D: Dimension, K: PairOfArraysTask<A>> PairTask<A, D, D> for Halves<K> {
     type Answer = K::Answer;
 
-    ghost pre = { λ both v v'. K.pre both.task (meaning_in v) (meaning_in v') };
+    ghost pre = { λ both v v'. K.pre both.task (meaning_placed v) (meaning_placed v') };
 
-    ghost post = { λ both v v' w w' answer. K.post both.task (meaning_in v) (meaning_in v') (meaning_left v w) (meaning_left v' w') answer };
+    ghost post = { λ both v v' w w' answer. K.post both.task (meaning_placed v) (meaning_placed v') (meaning_left v w) (meaning_left v' w') answer };
 
     fn run<'b>(
         self,

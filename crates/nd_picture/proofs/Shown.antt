@@ -10,7 +10,7 @@ use Rattle.nd_shape_and_slice.specs.declared.slice.Slice.{Slice}
 use Rattle.nd_shape_and_slice.specs.Slice.{low_of, high_of, sliced_length, sliced_from, sliced_shape, sliced_index}
 use Rattle.nd_array_core.specs.Meaning.{Meaning, inside}
 use Rattle.nd_picture.specs.Parts.{every}
-use Rattle.nd_picture.specs.Pictures.{Picture, Shows, ceiling, every_row, every_column, changed, mean_around, blurred}
+use Rattle.nd_picture.specs.Pictures.{Picture, Shows, ceiling, every_row, every_column, changed, blurred_at, blurred}
 
 -- coordinates below three lengths
 pub in_three : (n m l i j k : ℕ) → i < n → j < m → k < l → in_box (n ∷ m ∷ l ∷ []) (i ∷ j ∷ k ∷ []) ≡ true
@@ -87,7 +87,7 @@ abbrev pub mean_of : Picture → List ℕ → ℕ
 mean_of p [] = 0
 mean_of p (i ∷ []) = 0
 mean_of p (i ∷ j ∷ []) = 0
-mean_of p (i ∷ j ∷ l ∷ []) = mean_around p i j l
+mean_of p (i ∷ j ∷ l ∷ []) = blurred_at p i j l
 mean_of p (i ∷ j ∷ l ∷ k ∷ is) = 0
 
 pub means_shown : (m n : Meaning ℕ) (p : Picture) (shape : List ℕ) → m.shape ≡ shape → Shows m p → n.shape ≡ shape → ((i : List ℕ) → n.at i ≡ inside shape i (Some (mean_of p i))) → Shows n (blurred p)
@@ -95,8 +95,8 @@ means_shown m n p shape same shows is at = record {
   shape = is ∙ sym same ∙ shows.shape;
   samples = λ i j l a b c.
       at (i ∷ j ∷ l ∷ [])
-      ∙ ap (λ ns. inside ns (i ∷ j ∷ l ∷ []) (Some (mean_around p i j l))) (sym same ∙ shows.shape)
-      ∙ ap (λ t. cond t (Some (mean_around p i j l)) None) (in_three p.height p.width p.channels i j l a b c);
+      ∙ ap (λ ns. inside ns (i ∷ j ∷ l ∷ []) (Some (blurred_at p i j l))) (sym same ∙ shows.shape)
+      ∙ ap (λ t. cond t (Some (blurred_at p i j l)) None) (in_three p.height p.width p.channels i j l a b c);
 }
 
 -- how many rows and columns there are

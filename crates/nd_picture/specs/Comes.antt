@@ -68,9 +68,9 @@ fault_status (Refused number) = 1
 fault_status Memory = 2
 fault_status ReadFailed = 3
 
-abbrev pub status_of : {X : Type 0} → Result X Fault → ℕ
-status_of (Ok x) = 0
-status_of (Err fault) = fault_status fault
+abbrev pub status_after : {X : Type 0} → Result X Fault → ℕ
+status_after (Ok x) = 0
+status_after (Err fault) = fault_status fault
 
 -- what comes of the words and of what a reader still gives, where that is known
 abbrev pub ComesOf : {R : Type 0} → (R → Option (List ℕ)) → List (List ℕ) → Watched R → Result Pixmap Fault → Type 0
@@ -99,7 +99,7 @@ module _ {R W E : Type 0} (remaining : R → Option (List ℕ)) (contents : W �
   -- beginning of it
   abbrev pub PutsWhatComes : List (List ℕ) → Watched R → Watched R → Watched W → Watched W → Watched E → Watched E → ℕ → Type 0
   PutsWhatComes words input input' output output' errors errors' status =
-      (made : Result Pixmap Fault) × ComesOf remaining words input made × TakesText contents output output' (output_text made) × TakesText reports errors errors' (errors_text made) × (status ≡ status_of made)
+      (made : Result Pixmap Fault) × ComesOf remaining words input made × TakesText contents output output' (output_text made) × TakesText reports errors errors' (errors_text made) × (status ≡ status_after made)
 
   -- that was written whole, and this is its status
   abbrev pub WritesWhatComes : List (List ℕ) → Watched R → Watched W → Watched W → Watched E → Watched E → ℕ → Type 0
@@ -107,4 +107,4 @@ module _ {R W E : Type 0} (remaining : R → Option (List ℕ)) (contents : W �
       (made : Result Pixmap Fault) × ComesOf remaining words input made
       × Appends (contents (watched_inner output)) (contents (watched_inner output')) (output_text made)
       × Appends (reports (watched_inner errors)) (reports (watched_inner errors')) (errors_text made)
-      × (status ≡ status_of made)
+      × (status ≡ status_after made)

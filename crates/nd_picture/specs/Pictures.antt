@@ -88,8 +88,8 @@ abbrev pub three_around : Picture → ℕ → ℕ → ℕ → ℕ
 three_around p row column channel = p.at row (column - 1) channel + p.at row column channel + p.at row (min (column + 1) (p.width - 1)) channel
 
 -- the mean of the nine samples around one, rounded down
-abbrev pub mean_around : Picture → ℕ → ℕ → ℕ → ℕ
-mean_around p row column channel = (three_around p (row - 1) column channel + three_around p row column channel + three_around p (min (row + 1) (p.height - 1)) column channel) / 9
+abbrev pub blurred_at : Picture → ℕ → ℕ → ℕ → ℕ
+blurred_at p row column channel = (three_around p (row - 1) column channel + three_around p row column channel + three_around p (min (row + 1) (p.height - 1)) column channel) / 9
 
 abbrev pub blurred : Picture → Picture
-blurred p = record { height = p.height; width = p.width; channels = p.channels; at = mean_around p }
+blurred p = record { height = p.height; width = p.width; channels = p.channels; at = blurred_at p }

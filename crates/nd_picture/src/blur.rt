@@ -3,7 +3,7 @@
 ghost use Rattle.std.specs.Prelude.{◌≡◌, ◌<◌, ◌≤◌, IfOk, ℕ, [], ◌∷◌, slice_index};
 ghost use Rattle.nd_shape_and_slice.specs.Shape.{HasCheckedSize};
 ghost use Rattle.nd_array_core.specs.Meaning.{meaning_of, shape_of};
-ghost use Rattle.nd_picture.specs.Pictures.{Picture, Shows, three_around, mean_around, blurred};
+ghost use Rattle.nd_picture.specs.Pictures.{Picture, Shows, three_around, blurred_at, blurred};
 
 use nd_array_core::laws::shape_is_checked;
 use nd_array_core::{Array, Array3};
@@ -40,7 +40,7 @@ fn mean_around(picture: &Array3<u16>, row: usize, column: usize, channel: usize)
     requires row { row < slice_index (shape_of picture.now) 0 }
     requires column { column < slice_index (shape_of picture.now) 1 }
     requires channel { channel < slice_index (shape_of picture.now) 2 }
-    ensures { (p : Picture) → Shows (meaning_of picture.now) p → result ≡ mean_around p row column channel }
+    ensures { (p : Picture) → Shows (meaning_of picture.now) p → result ≡ blurred_at p row column channel }
 {
     let (rows, _columns, _channels) = picture.dim();
     let above = three_around(picture, row.saturating_sub(1), column, channel);

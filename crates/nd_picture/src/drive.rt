@@ -1,6 +1,6 @@
 //! The whole program, over any streams.
 
-ghost use Rattle.std.specs.Prelude.{◌≡◌, ◌<◌, ◌≤◌, ◌||◌, ◌==◌, ◌++◌, true};
+ghost use Rattle.std.specs.Prelude.{◌≡◌, ◌<◌, ◌≤◌, ◌||◌, ◌==◌, ◌++◌, IsTrue};
 ghost use Rattle.std.specs.Fmt.{decimal};
 ghost use Rattle.nd_text.specs.Puts.{Puts, TakesText};
 ghost use Rattle.nd_text.specs.Words.{words_of};
@@ -115,7 +115,7 @@ fn drive_on<R: Read, W: Write, E: Write>(
     ensures stops_writing { watched_retried output.new ≡ watched_retried output.old }
     ensures stops_telling { watched_retried errors.new ≡ watched_retried errors.old }
     ensures flushed { result ≡ 0 → GetsFlushed output.old output.new }
-    ensures read { result ≡ 3 → watched_failed input.new ≡ true }
+    ensures read { result ≡ 3 → IsTrue (watched_failed input.new) }
 {
     match produce(alloc, line, input) {
         Ok(image) => {

@@ -1,6 +1,6 @@
 //! What comes of words and bytes.
 
-ghost use Rattle.std.specs.Prelude.{◌≡◌, true, IfOk};
+ghost use Rattle.std.specs.Prelude.{◌≡◌, IfOk, IsTrue};
 ghost use Rattle.std.specs.Result.{result_map_both};
 ghost use Rattle.nd_array_core.specs.Meaning.{meaning_of};
 ghost use Rattle.nd_text.specs.Words.{words_of};
@@ -113,7 +113,7 @@ pub(crate) fn produce<R: Read>(
 ) -> Result<Drawn, Fault>
     ensures made { ComesOf R.remaining (words_of line.now) input.old (result_map_both drawn_image (λ e. e) result) }
     ensures standard { IfOk result LiesInRows }
-    ensures failed { is_failed_read result ≡ true → watched_failed input.new ≡ true }
+    ensures failed { IsTrue (is_failed_read result) → IsTrue (watched_failed input.new) }
     ensures stops { watched_retried input.new ≡ watched_retried input.old }
 {
     let steps = match read_steps(alloc, line) {

@@ -1,6 +1,6 @@
 //! A list of steps on a picture.
 
-ghost use Rattle.std.specs.Prelude.{◌≡◌, ◌<◌, ◌≤◌, ◌+◌, ◌^◌, true, length, slice_index, IfOk, OnErr, Err};
+ghost use Rattle.std.specs.Prelude.{◌≡◌, ◌<◌, ◌≤◌, ◌+◌, ◌^◌, length, slice_index, IfOk, OnErr, Err, IsTrue};
 ghost use Rattle.nd_array_core.specs.Meaning.{meaning_of, shape_of};
 ghost use Rattle.nd_picture.specs.Pictures.{ShowsAfter};
 ghost use Rattle.nd_picture.specs.Steps.{lie_within, fits, after, GivesAfter, Blurs};
@@ -56,7 +56,7 @@ pub fn take_step(
     step: Step,
     picture: Array3<u16>,
 ) -> Result<Array3<u16>, NoMemory>
-    requires { fits step (slice_index (shape_of picture) 0) (slice_index (shape_of picture) 1) ≡ true }
+    requires { IsTrue (fits step (slice_index (shape_of picture) 0) (slice_index (shape_of picture) 1)) }
     ensures after { IfOk result (λ a. ShowsAfter (after maxval step) (meaning_of picture) (meaning_of a)) }
     ensures memory { OnErr result (step ≡ Blur) }
 {

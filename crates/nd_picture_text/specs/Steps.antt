@@ -1,5 +1,5 @@
 -- How a list of steps is written: words, each a step's name or one of the numbers behind it.
-use Rattle.std.specs.Prelude.{◌≡◌, ℕ, ◌+◌, ◌==◌, true, false, is_some, List, [], ◌∷◌, length, Option, None, Some, Result, Ok, Err, codes, if◌then◌else◌}
+use Rattle.std.specs.Prelude.{◌≡◌, ℕ, ◌+◌, ◌==◌, false, is_some, List, [], ◌∷◌, length, Option, None, Some, Result, Ok, Err, codes, if◌then◌else◌, IsTrue}
 use Rattle.std.specs.Str.{bytes_eq}
 use Rattle.nd_text.specs.Numerals.{nat_of}
 use Rattle.nd_text.specs.Words.{first_as, is_wordless}
@@ -66,7 +66,7 @@ IsBadStep ws n = (front : List Step) × (rest : List (List ℕ)) × WritesBefore
 
 -- memory was asked for a step that can be read, behind others
 abbrev pub LacksForStep : List (List ℕ) → Type 0
-LacksForStep ws = (front : List Step) × (rest : List (List ℕ)) × WritesBefore front ws rest × (is_some (step_of rest) ≡ true)
+LacksForStep ws = (front : List Step) × (rest : List (List ℕ)) × WritesBefore front ws rest × IsTrue (is_some (step_of rest))
 
 -- what reading the words gives
 abbrev pub GivesSteps : List (List ℕ) → Result (List Step) StepsError → Type 0

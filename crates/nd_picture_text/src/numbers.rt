@@ -1,6 +1,6 @@
 //! Numbers in the text of an image, taken from the front. What can't be read is told by how many bytes are left there.
 
-ghost use Rattle.std.specs.Prelude.{◌≡◌, ◌+◌, ◌-◌, ◌*◌, ◌<◌, ◌≤◌, ◌^◌, IfOk, length, SomeIff, true, false};
+ghost use Rattle.std.specs.Prelude.{◌≡◌, ◌+◌, ◌-◌, ◌*◌, ◌<◌, ◌≤◌, ◌^◌, IfOk, length, SomeIff, false, IsTrue};
 ghost use Rattle.std.specs.Result.{result_map_both};
 ghost use Rattle.nd_picture_text.specs.Numbers.{ends_line, is_whitespace, takes_digit, behind_gap, behind_blank, digits_behind, number_here, next_number};
 
@@ -70,7 +70,7 @@ pub(crate) fn behind_blank(text: &[u8]) -> Result<&[u8], usize>
 fn with_digit(limit: usize, number: usize, byte: u8) -> Option<usize>
     requires number { number ≤ limit }
     requires limit { limit < 2 ^ 32 }
-    ensures { SomeIff result (takes_digit limit number byte ≡ true) (number * 10 + (byte - 48)) }
+    ensures { SomeIff result (IsTrue (takes_digit limit number byte)) (number * 10 + (byte - 48)) }
 {
     if !byte.is_ascii_digit() {
         return None;

@@ -1,5 +1,5 @@
 -- The set of places of a region and the elements at them, as a map from numbers; and the places that a layout names.
-use Rattle.std.specs.Prelude.{◌≡◌, ℕ, zero, suc, ◌+◌, List, [], ◌∷◌, ◌++◌, take, drop, ℤ, pos, negsuc, ◌+ℤ◌, ◌*ℤ◌, Bool, true, false, ◌&&◌, ◌||◌, not, Option, Some, None, nat_eq, if◌then◌else◌}
+use Rattle.std.specs.Prelude.{◌≡◌, ℕ, zero, suc, ◌+◌, List, [], ◌∷◌, ◌++◌, take, drop, ℤ, pos, negsuc, ◌+ℤ◌, ◌*ℤ◌, Bool, true, false, ◌&&◌, ◌||◌, not, Option, Some, None, nat_eq, if◌then◌else◌, IsTrue}
 use Rattle.std.specs.Option.{is_some}
 use Rattle.nd_shape_and_slice.specs.Shape.{in_box}
 use Rattle.nd_shape_and_slice.specs.Place.{place_of}
@@ -96,8 +96,8 @@ all_pass g z (n ∷ ns) (s ∷ ss) = all_below n (λ j. all_pass g (z +ℤ (pos 
 
 -- no place is that of an index of each of two layouts
 abbrev pub LayoutsShareNoPlace : ℕ → List ℕ → List ℤ → ℕ → List ℕ → List ℤ → Type 0
-LayoutsShareNoPlace offset ns ss offset' ns' ss' = (i j : List ℕ) → in_box ns i ≡ true → in_box ns' j ≡ true → place_of offset ss i ≡ place_of offset' ss' j → ⊥
+LayoutsShareNoPlace offset ns ss offset' ns' ss' = (i j : List ℕ) → IsTrue (in_box ns i) → IsTrue (in_box ns' j) → ¬ (place_of offset ss i ≡ place_of offset' ss' j)
 
 -- distinct indexes of a layout have distinct places
 abbrev pub HasDistinctPlaces : ℕ → List ℕ → List ℤ → Type 0
-HasDistinctPlaces offset ns ss = (i j : List ℕ) → in_box ns i ≡ true → in_box ns j ≡ true → place_of offset ss i ≡ place_of offset ss j → i ≡ j
+HasDistinctPlaces offset ns ss = (i j : List ℕ) → IsTrue (in_box ns i) → IsTrue (in_box ns j) → place_of offset ss i ≡ place_of offset ss j → i ≡ j

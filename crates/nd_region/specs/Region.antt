@@ -1,5 +1,5 @@
 -- What contracts say of a region.
-use Rattle.std.specs.Prelude.{◌≡◌, ℕ, ◌+◌, ◌<◌, slice_index_or, ℤ, List, Bool, true, Option, Some, None, if◌then◌else◌, length, replicate, slice_set}
+use Rattle.std.specs.Prelude.{◌≡◌, ℕ, ◌+◌, ◌<◌, slice_index_or, ℤ, List, Bool, true, Option, Some, None, if◌then◌else◌, length, replicate, slice_set, IsTrue}
 use Rattle.nd_shape_and_slice.specs.Shape.{in_box}
 use Rattle.nd_shape_and_slice.specs.Place.{place_of}
 use Rattle.nd_region.specs.Places.{stored_in, overwritten_items, run_written, merged_rows, has_place, kept_where}
@@ -51,7 +51,7 @@ module _ {A : Type 0} where
 
   -- each place that the layout names is in the region's set
   abbrev pub HasPlaces : Region A → ℕ → List ℕ → List ℤ → Type 0
-  HasPlaces r offset ns ss = (i : List ℕ) → in_box ns i ≡ true → has_place (region_stored r) (place_of offset ss i) ≡ true
+  HasPlaces r offset ns ss = (i : List ℕ) → IsTrue (in_box ns i) → IsTrue (has_place (region_stored r) (place_of offset ss i))
 
   -- r is the part of s at the places that pass the test, under their numbers in s
   abbrev pub IsPartWhere : (ℕ → Bool) → Region A → Region A → Type 0
@@ -71,7 +71,7 @@ module _ {A : Type 0} where
 
   -- each of the n places from p on is in the region's set
   abbrev pub HasRun : Region A → ℕ → ℕ → Type 0
-  HasRun r p n = (k : ℕ) → k < n → is_some (region_stored r (p + k)) ≡ true
+  HasRun r p n = (k : ℕ) → k < n → IsTrue (is_some (region_stored r (p + k)))
 
   -- they hold the elements xs
   abbrev pub IsRunOf : Region A → ℕ → ℕ → List A → Type 0

@@ -1,5 +1,5 @@
 -- What contracts say of a shared region.
-use Rattle.std.specs.Prelude.{◌≡◌, ℕ, ◌+◌, ◌<◌, List, true, Option, Some, length, replicate, slice_index_or}
+use Rattle.std.specs.Prelude.{◌≡◌, ℕ, ◌+◌, ◌<◌, List, true, Option, Some, length, replicate, slice_index_or, IsTrue}
 use Rattle.std.specs.Option.{is_some}
 use Rattle.nd_region.specs.Places.{stored_in}
 use Rattle.nd_region.specs.Region.{region_stored}
@@ -18,7 +18,7 @@ module _ {A : Type 0} where
 
   -- each of the n places from p on is in the set
   abbrev pub HasSharedRun : SharedRegion A → ℕ → ℕ → Type 0
-  HasSharedRun r p n = (k : ℕ) → k < n → is_some (shared_stored r (p + k)) ≡ true
+  HasSharedRun r p n = (k : ℕ) → k < n → IsTrue (is_some (shared_stored r (p + k)))
 
   -- they hold the elements xs
   abbrev pub IsSharedRunOf : SharedRegion A → ℕ → ℕ → List A → Type 0

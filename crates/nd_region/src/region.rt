@@ -1,4 +1,4 @@
-ghost use Rattle.std.specs.Prelude.{length, ◌*◌, ◌≡◌, ℕ, ◌<◌, ◌^◌, List, Bool, true, Option, Some, IsSome};
+ghost use Rattle.std.specs.Prelude.{length, ◌*◌, ◌≡◌, ℕ, ◌<◌, ◌^◌, List, Bool, Option, Some, IsSome, IsTrue};
 ghost use Rattle.std.specs.Option.{option_copied_mut};
 ghost use Rattle.std.specs.Borrow.{sem};
 ghost use Rattle.std.specs.List.{flat_map};
@@ -158,7 +158,7 @@ impl<'a, A> Region<'a, A> {
     /// The element at a place, to be written for as long as the region's borrow lasts, where the place is asked for. The
     /// other places keep theirs; where it isn't, the region ends, and each place keeps its element.
     pub fn into_mut_if(self, place: usize, asked: bool) -> Option<&'a mut A>
-        requires { asked ≡ true → IsSome (region_stored self place) }
+        requires { IsTrue asked → IsSome (region_stored self place) }
         ensures* writes_back { sem 𝓛 (borrow_may_follow A.row self.entry place result) }
         ensures value { option_copied_mut result ≡ stored_if asked (region_stored self.entry place) }
     {

@@ -1,5 +1,5 @@
 -- Steps, questions, acts and calls on the arrays that hold the elements.
-use Rattle.std.specs.Prelude.{◌≡◌, ℕ, ℤ, true, List, Option, None, Some, Result, Ok, Err, Bool}
+use Rattle.std.specs.Prelude.{◌≡◌, ℕ, ℤ, List, Option, None, Some, Result, Ok, Err, Bool, IsTrue}
 use Rattle.nd_shape_and_slice.specs.declared.dimension.Dimension as dimension
 use Rattle.nd_shape_and_slice.specs.declared.dimension.AxisCount as axis_count
 use Rattle.nd_shape_and_slice.specs.declared.dimension.StrideList as stride_list
@@ -36,7 +36,7 @@ module _ {S D A T P R L M : Type 0} {s : data_trait.Ghosts S A} {d : dimension.G
 
   -- an answer that lacks nothing but memory: the question isn't refused, and its answer takes some
   abbrev pub AnswerLacksOnlyMemory : Asking A → ArrayBase S D T A P R L M s d n r t → Type 0
-  AnswerLacksOnlyMemory question a = (first_failed (question_tests question (shape_of a)) ≡ None) × (answers_in_memory question ≡ true)
+  AnswerLacksOnlyMemory question a = (first_failed (question_tests question (shape_of a)) ≡ None) × IsTrue (answers_in_memory question)
 
   -- an act through a path: the first cause against both, or the act
   abbrev pub WritesAlong : {E : Type 0} → List AskedStep → Acting A → ArrayBase S D T A P R L M s d n r t → ArrayBase S D T A P R L M s d n r t → Result (Option Cause) E → Type 0

@@ -1,6 +1,6 @@
 -- What the program writes for the bytes that it reads, and which status tells of it. Each is said of a reader whose bytes
 -- are known.
-use Rattle.std.specs.Prelude.{◌≡◌, ℕ, ℤ, true, false, List, ◌++◌, Option, IfSome}
+use Rattle.std.specs.Prelude.{◌≡◌, ℕ, ℤ, false, List, ◌++◌, Option, IfSome, IsTrue}
 use Rattle.std.specs.Ordering.{int_eq}
 use Rattle.std.specs.Io.KnownBytes.{Appends}
 use Rattle.nd_array_core.specs.Joined.{row_major_elements}
@@ -25,7 +25,7 @@ MayEnd bytes input end = (watched_failed input ≡ is_no_input end) × Ends Runs
 
 -- once a call has failed none follows, and a writer of which one had failed before is left alone
 abbrev pub StopsAtFailure : {W : Type 0} → Watched W → Watched W → Type 0
-StopsAtFailure old new = (watched_failed old ≡ true → new ≡ old) × (watched_retried new ≡ watched_retried old)
+StopsAtFailure old new = (IsTrue (watched_failed old) → new ≡ old) × (watched_retried new ≡ watched_retried old)
 
 module _ {W : Type 0} (contents : W → Option (List ℕ)) where
   -- the writer took a text
@@ -63,4 +63,4 @@ module _ {R W : Type 0} (remaining : R → Option (List ℕ)) (contents : W → 
   -- after a failed write, the writer took a beginning of the text of an end that the bytes may have
   abbrev pub TellsBeginning : Watched R → Watched R → Watched W → Watched W → Type 0
   TellsBeginning input input' old new =
-      IfSome (remaining (watched_inner input)) (λ bytes. watched_failed new ≡ true → (end : Ending) × MayEnd bytes input' end × (front rest : List ℕ) × (ending_text end ≡ front ++ rest) × Took contents old new front)
+      IfSome (remaining (watched_inner input)) (λ bytes. IsTrue (watched_failed new) → (end : Ending) × MayEnd bytes input' end × (front rest : List ℕ) × (ending_text end ≡ front ++ rest) × Took contents old new front)

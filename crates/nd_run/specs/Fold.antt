@@ -1,6 +1,6 @@
 -- What a list of calls answers, and what it leaves of an array's meaning: a fold over the calls. No view, borrow
 -- or storage occurs.
-use Rattle.std.specs.Prelude.{◌≡◌, ◌<◌, ◌+◌, ◌^◌, ◌==◌, ℕ, nat_lt, nat_le, slice_index, slice_set, length, vec_capacity, Bool, Option, None, true, false, not, ◌||◌, List, [], ◌∷◌, ◌++◌, Result, Ok, Err, ◌⊎◌}
+use Rattle.std.specs.Prelude.{◌≡◌, ◌<◌, ◌+◌, ◌^◌, ◌==◌, ℕ, nat_lt, nat_le, slice_index, slice_set, length, vec_capacity, Bool, Option, None, true, false, not, ◌||◌, List, [], ◌∷◌, ◌++◌, Result, Ok, Err, ◌⊎◌, IsTrue}
 use Rattle.nd_shape_and_slice.specs.Shape.{in_box}
 use Rattle.nd_array_core.specs.Meaning.{Meaning, meaning_through}
 use Rattle.nd_shape_and_slice.specs.FirstIndex.{first_index}
@@ -51,7 +51,7 @@ path_result tests (step ∷ steps) m = and_then (unless (first_failed (tests ste
 abbrev pub LeadsAlong : {A : Type 0} → List AskedStep → Meaning A → Meaning A → Type 0
 LeadsAlong path m n =
     (n.shape ≡ shape_along path m.shape)
-    × ((i : List ℕ) → in_box n.shape i ≡ true → (in_box m.shape (index_along path m.shape i) ≡ true) × (n.at i ≡ m.at (index_along path m.shape i)))
+    × ((i : List ℕ) → IsTrue (in_box n.shape i) → IsTrue (in_box m.shape (index_along path m.shape i)) × (n.at i ≡ m.at (index_along path m.shape i)))
 
 -- the answer to a question, where elements compare by eq
 abbrev pub answer_to : {A : Type 0} → (A → A → Bool) → Asking A → Meaning A → Said A
@@ -205,7 +205,7 @@ meaning_after eq call m = (given_by (outcome eq call m) m).1
 
 -- a call that lacks nothing but memory: it isn't refused, and it takes some
 abbrev pub LacksOnlyMemory : {A : Type 0} → Asked A → Meaning A → Type 0
-LacksOnlyMemory call m = (first_failed (tests_for call m.shape) ≡ None) × (takes_memory call ≡ true)
+LacksOnlyMemory call m = (first_failed (tests_for call m.shape) ≡ None) × IsTrue (takes_memory call)
 
 -- the code carried out a call: its reply, and what it made of m, are those of the call
 abbrev pub IsCarriedOut : {A : Type 0} → (A → A → Bool) → Asked A → Meaning A → Meaning A → Reply A → Type 0

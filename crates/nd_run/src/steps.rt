@@ -1,6 +1,6 @@
 //! Steps of a path: the cause for which one is refused, and what it gives.
 
-ghost use Rattle.std.specs.Prelude.{◌≡◌, ◌<◌, ◌+◌, ◌^◌, ◌∷◌, [], true, None, length};
+ghost use Rattle.std.specs.Prelude.{◌≡◌, ◌<◌, ◌+◌, ◌^◌, ◌∷◌, [], None, length, IsTrue};
 ghost use Rattle.nd_shape_and_slice.specs.Axes.{names_each_axis, permuted_list, unpermuted_list};
 ghost use Rattle.nd_array_core.specs.Meaning.{shape_of};
 ghost use Rattle.nd_paths.specs.Paths.{LiesWith, LiesThrough};
@@ -26,7 +26,7 @@ pub fn check(holds: bool, cause: Cause) -> Result<(), Cause>
 
 /// Whether an element that reads this axis, if it reads one, fits it.
 fn check_element(shape: &[usize], axis: usize, element: SliceInfoElem) -> Result<(), Cause>
-    requires { reads_axis element ≡ true → axis < length shape.now }
+    requires { IsTrue (reads_axis element) → axis < length shape.now }
     ensures { Refuses result (first_failed (element_tests axis shape.now (element ∷ []))) }
 {
     match element {
@@ -108,7 +108,7 @@ pub fn keep_refusal(shape: &[usize], step: &Step) -> Option<Cause>
 
 /// Puts the axes of an array in this order.
 fn permute<S: Data>(array: &mut ArrayBase<S, IxDyn>, axes: &[usize])
-    requires { names_each_axis axes.now (length (shape_of array.old)) ≡ true }
+    requires { IsTrue (names_each_axis axes.now (length (shape_of array.old))) }
     ensures shape { shape_of array.new ≡ permuted_list axes.now (shape_of array.old) }
     ensures elements { ShowsThrough array.old (unpermuted_list axes.now) array.new }
     ensures storage { LiesWith array.old array.new }
@@ -130,7 +130,7 @@ pub fn changes_axes(step: &Step) -> bool
 
 /// Takes a step that changes the axes. Nothing of the array is copied, which matters on long paths: a view is 536 bytes.
 pub fn change_axes<S: Data>(array: &mut ArrayBase<S, IxDyn>, step: &Step)
-    requires changes { changes_axes (asked_step step.now) ≡ true }
+    requires changes { IsTrue (changes_axes (asked_step step.now)) }
     requires allowed { keep_refusal (asked_step step.now) (shape_of array.old) ≡ None }
     ensures shape { shape_of array.new ≡ step_shape (asked_step step.now) (shape_of array.old) }
     ensures elements { ShowsThrough array.old (step_index (asked_step step.now) (shape_of array.old)) array.new }

@@ -1,6 +1,6 @@
 //! Acts on an array's elements, through a path of steps or on the two parts of a split.
 
-ghost use Rattle.std.specs.Prelude.{◌≡◌, true, map, None, OnErr, OnOk};
+ghost use Rattle.std.specs.Prelude.{◌≡◌, map, None, OnErr, OnOk, IsTrue};
 ghost use Rattle.nd_array_core.specs.Meaning.{shape_of, meaning_of};
 ghost use Rattle.nd_array_core.specs.base.Writes.{KeepsFrame};
 ghost use Rattle.nd_paths.specs.Paths.{LiesWith, EndsAlong};
@@ -108,7 +108,7 @@ where
     requires fits { act_refusal (acting T.held act.now) (shape_of array.old) ≡ None }
     ensures frame { KeepsFrame S.frame array.old array.new }
     ensures elements { OnOk result (HasElements array.new (acted_elements (acting T.held act.now) (meaning_of array.old))) }
-    ensures memory { OnErr result (clones (acting T.held act.now) ≡ true) }
+    ensures memory { OnErr result (IsTrue (clones (acting T.held act.now))) }
 {
     match act {
         Act::Fill(value) => array.fill(value.clone()?).map_err(|_| AllocError),

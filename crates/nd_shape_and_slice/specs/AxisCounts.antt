@@ -1,9 +1,9 @@
 -- Dimensions, by how many axes they can have.
-use Rattle.std.specs.Prelude.{◌≡◌, ℕ, nat_le, Bool, true, false, List, length, Option, MatchOption}
+use Rattle.std.specs.Prelude.{◌≡◌, ℕ, nat_le, Bool, false, List, length, Option, MatchOption, IsTrue}
 
 -- the dimension can have that many axes, where they are at most 32
 abbrev pub HasAxesIfFew : (ℕ → Bool) → ℕ → Type 0
-HasAxesIfFew has_axes n = nat_le n 32 ≡ true → has_axes n ≡ true
+HasAxesIfFew has_axes n = IsTrue (nat_le n 32) → IsTrue (has_axes n)
 
 -- the dimension with these lengths, and nothing where it can't have so many axes
 abbrev pub IsDimensionWith : {D : Type 0} → (ℕ → Bool) → (D → List ℕ) → List ℕ → Option D → Type 0

@@ -1,5 +1,5 @@
 -- A slice for each axis, answered by a closure that is asked of one axis after another.
-use Rattle.std.specs.Prelude.{◌≡◌, ℕ, true, ⊤, List, [], ◌∷◌}
+use Rattle.std.specs.Prelude.{◌≡◌, ℕ, ⊤, List, [], ◌∷◌, IsTrue}
 use Rattle.nd_shape_and_slice.specs.declared.slice.Slice.{Slice}
 use Rattle.nd_shape_and_slice.specs.declared.descriptions.AxisDescription.{AxisDescription}
 use Rattle.nd_shape_and_slice.specs.Slice.{fits_axis, sliced_length, sliced_from}
@@ -19,7 +19,7 @@ each_sliced_index (n ∷ ns) (s ∷ ss) (i ∷ is) = sliced_from n s i ∷ each_
 -- a closure in state f may be asked of these axes in turn, and whatever it answers fits the axis
 abbrev pub AnswersFit : {F : Type 0} → (F → AxisDescription → Type 0) → (F → AxisDescription → Slice → F → Type 0) → F → List AxisDescription → Type 0
 AnswersFit pre step f [] = ⊤
-AnswersFit {F} pre step f (d ∷ ds) = pre f d × ((s : Slice) (g : F) → step f d s g → (fits_axis d.len s ≡ true) × AnswersFit pre step g ds)
+AnswersFit {F} pre step f (d ∷ ds) = pre f d × ((s : Slice) (g : F) → step f d s g → IsTrue (fits_axis d.len s) × AnswersFit pre step g ds)
 
 -- asked of these axes in turn it answered these slices, and that left it in this state
 abbrev pub AnswersAre : {F : Type 0} → (F → AxisDescription → Slice → F → Type 0) → F → List AxisDescription → List Slice → F → Type 0

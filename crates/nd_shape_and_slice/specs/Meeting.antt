@@ -1,5 +1,5 @@
 -- Which elements of an array two lists of slices both name.
-use Rattle.std.specs.Prelude.{ℕ, suc, ◌+◌, ◌-◌, ◌*◌, ◌<◌, ◌≤◌, ◌≡◌, nat_le, Bool, true, ℤ, pos, negsuc, List, [], ◌∷◌}
+use Rattle.std.specs.Prelude.{ℕ, suc, ◌+◌, ◌-◌, ◌*◌, ◌<◌, ◌≤◌, ◌≡◌, nat_le, Bool, true, ℤ, pos, negsuc, List, [], ◌∷◌, IsTrue}
 use Rattle.std.specs.Option.{unwrap_or}
 use Rattle.nd_shape_and_slice.specs.declared.slice_info.SliceInfoElem.{SliceInfoElem}
 use Rattle.nd_shape_and_slice.specs.declared.slice_info.SliceInfoElem.TheVariants.{Slice as Part, Index, NewAxis}
@@ -10,7 +10,7 @@ use Rattle.nd_shape_and_slice.specs.SliceInfo.{coordinate_on, shape_after, index
 -- the list names this index of the array: some index of its result stands for it
 pub record IsNamed (ns : List ℕ) (es : List SliceInfoElem) (index : List ℕ) : Type 0 where
   pub new : List ℕ
-  pub in_result : in_box (shape_after ns es) new ≡ true
+  pub in_result : IsTrue (in_box (shape_after ns es) new)
   pub stands_for : index_before ns es new ≡ index
 
 -- some index of the array is named by both

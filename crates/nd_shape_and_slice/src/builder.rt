@@ -1,6 +1,6 @@
 //! Shapes with the order or the strides that a constructor is to give.
 
-ghost use Rattle.std.specs.Prelude.{◌≡◌, ◌≤◌, ℕ, ℤ, Bool, true, List, length, Option, None, Some, if◌then◌else◌};
+ghost use Rattle.std.specs.Prelude.{◌≡◌, ◌≤◌, ℕ, ℤ, Bool, List, length, Option, None, Some, if◌then◌else◌, IsTrue};
 ghost use Rattle.std.specs.Option.{option_map};
 ghost use Rattle.nd_shape_and_slice.specs.Shape.{HasCheckedSize, size_of};
 ghost use Rattle.nd_shape_and_slice.specs.Builder.{are_as_many};
@@ -99,7 +99,7 @@ pub struct StrideShape<D: Dimension> {
     dim: D,
     order: Order,
     custom: Option<D::Strides>,
-    ghost as_many: { are_as_many (option_map D.Strides.strides_of custom) (length (D.lengths dim)) ≡ true },
+    ghost as_many: { IsTrue (are_as_many (option_map D.Strides.strides_of custom) (length (D.lengths dim))) },
 }
 
 impl<D: Dimension> StrideShape<D> {
@@ -120,7 +120,7 @@ impl<D: Dimension> StrideShape<D> {
     /// The caller's strides, if there are any: as many as there are axes.
     pub fn custom_strides(&self) -> Option<D::Strides>
         ensures strides { result ≡ self.now.custom }
-        ensures as_many { are_as_many (option_map D.Strides.strides_of result) (length (D.lengths self.now.dim)) ≡ true }
+        ensures as_many { IsTrue (are_as_many (option_map D.Strides.strides_of result) (length (D.lengths self.now.dim))) }
     {
         self.custom
     }

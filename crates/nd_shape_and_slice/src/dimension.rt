@@ -1,6 +1,6 @@
 //! Dimensions: lists of lengths and of strides, one for each axis.
 
-ghost use Rattle.std.specs.Prelude.{◌≡◌, ◌<◌, ◌≤◌, ◌==◌, ◌&&◌, nat_le, ℕ, ℤ, pos, Bool, true, false, List, Option, Some, None, length, take, slice_index, slice_index_or, slice_set, slice_get, replicate, MatchOption, map};
+ghost use Rattle.std.specs.Prelude.{◌≡◌, ◌<◌, ◌≤◌, ◌==◌, ◌&&◌, nat_le, ℕ, ℤ, pos, Bool, false, List, Option, Some, None, length, take, slice_index, slice_index_or, slice_set, slice_get, replicate, MatchOption, map, IsTrue};
 ghost use Rattle.nd_shape_and_slice.specs.AxisCounts.{IsDimensionWith};
 ghost use Rattle.nd_shape_and_slice.specs.Shape.{HasCheckedSize, size_of};
 
@@ -80,7 +80,7 @@ pub trait Dimension: AxisCount + Copy {
     /// The lengths, axis by axis. ndarray's `Dimension::slice`.
     fn slice(&self) -> &[usize]
         ensures lengths { result.now ≡ lengths self.now }
-        ensures number { has_axes (length result.now) ≡ true }
+        ensures number { IsTrue (has_axes (length result.now)) }
         ensures few { length result.now ≤ 32 };
 
     /// The length of one axis. ndarray's `Dimension` has brackets for it.
@@ -98,7 +98,7 @@ pub trait Dimension: AxisCount + Copy {
 
     /// The dimension with this many axes, each of length 0. It can have so many. ndarray's `Dimension::zeros`.
     fn zeros(count: usize) -> Self
-        requires number { has_axes count ≡ true }
+        requires number { IsTrue (has_axes count) }
         requires few { count ≤ 32 }
         ensures { lengths result ≡ replicate count 0 };
 

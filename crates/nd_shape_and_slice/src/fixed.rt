@@ -1,7 +1,7 @@
 //! Dimensions with a fixed number of axes.
 #![tactic(auto, using(std::proofs::lemmas::Bool::Decides::nat_tests))]
 
-ghost use Rattle.std.specs.Prelude.{◌≡◌, ◌≤◌, ◌==◌, ◌&&◌, nat_le, ℕ, ℤ, pos, Bool, true, false, List, [], ◌∷◌, Option, Some, None, length, take};
+ghost use Rattle.std.specs.Prelude.{◌≡◌, ◌≤◌, ◌==◌, ◌&&◌, nat_le, ℕ, ℤ, pos, Bool, false, List, [], ◌∷◌, Option, Some, None, length, take, IsTrue};
 
 use crate::dimension::{AxisCount, Dimension, MAX_AXES, StrideList};
 use crate::dynamic::IxDyn;
@@ -11,7 +11,7 @@ use crate::entries::{entry_at, set_entry};
 #[derive(Clone, Copy, Debug, PartialEq, Eq)]
 pub struct Dim<const N: usize> {
     lens: [usize; N],
-    ghost number: { (length lens == N && nat_le (length lens) 32) ≡ true },
+    ghost number: { IsTrue (length lens == N && nat_le (length lens) 32) },
 }
 
 impl<const N: usize> Dim<N> {

@@ -1,6 +1,6 @@
 //! Whether two lists of slices name an element in common: by arithmetic on each axis, with no walk over indexes.
 
-ghost use Rattle.std.specs.Prelude.{◌↔◌, ◌≡◌, ◌≤◌, ◌<◌, ◌+◌, ◌-◌, ◌*◌, ℕ, true, Some, length, drop, IsTrue, MatchOption};
+ghost use Rattle.std.specs.Prelude.{◌↔◌, ◌≡◌, ◌≤◌, ◌<◌, ◌+◌, ◌-◌, ◌*◌, ℕ, Some, length, drop, IsTrue, MatchOption};
 ghost use Rattle.nd_shape_and_slice.specs.Slice.{fits_axis};
 ghost use Rattle.nd_shape_and_slice.specs.SliceInfo.{fits_next, fits_shape};
 ghost use Rattle.nd_shape_and_slice.specs.Meeting.{IsFirstMultiple, Share, IsProgression, Intersect, from_reader, lowest_from, stays_above};
@@ -12,7 +12,7 @@ use crate::slice_info::{SliceInfoElem, coordinate_on_axis};
 /// to it, and the quotient. None where the divisor divides none of them.
 fn first_multiple(divisor: usize, start: usize, step: usize) -> Option<(usize, usize)>
     requires { 0 < divisor }
-    ensures { MatchOption result ((v u : ℕ) → divisor * u ≡ start + step * v → ⊥) (λ r. IsFirstMultiple divisor start step r.0 r.1) }
+    ensures { MatchOption result ((v u : ℕ) → ¬ (divisor * u ≡ start + step * v)) (λ r. IsFirstMultiple divisor start step r.0 r.1) }
 {
     let over = start % divisor;
     if over == 0 {
@@ -68,7 +68,7 @@ fn spaced_meet(first: Spaced, second: Spaced) -> bool
 
 /// The lowest of `count` coordinates from `first` on, by a step.
 fn lowest(first: usize, count: usize, step: isize) -> usize
-    requires { stays_above first count step ≡ true }
+    requires { IsTrue (stays_above first count step) }
     ensures { result ≡ lowest_from first count step }
 {
     if step < 0 && count > 0 {
@@ -81,7 +81,7 @@ fn lowest(first: usize, count: usize, step: isize) -> usize
 /// The coordinates that a slice names, from the lowest on.
 #[tactic(auto, using(crate::proofs::Progressions::progression_of, crate::proofs::Progressions::stays_on))]
 fn spaced_by_slice(len: usize, slice: Slice) -> Spaced
-    requires { fits_axis len slice ≡ true }
+    requires { IsTrue (fits_axis len slice) }
     ensures { IsProgression len (SliceInfoElem.Slice slice.start slice.end slice.step) result.low result.distance result.count }
 {
     let on_axis = slice.on_axis(len);
@@ -95,7 +95,7 @@ fn spaced_by_slice(len: usize, slice: Slice) -> Spaced
 /// The coordinates of an axis that an element names, from the lowest on.
 #[tactic(auto, using(crate::proofs::Progressions::whole_axis))]
 fn spaced_by(len: usize, element: SliceInfoElem) -> Spaced
-    requires { fits_next (Some len) element ≡ true }
+    requires { IsTrue (fits_next (Some len) element) }
     ensures { IsProgression len element result.low result.distance result.count }
 {
     match element {
@@ -132,8 +132,8 @@ fn next_reader(elements: &[SliceInfoElem], from: usize) -> usize
 /// Whether two lists that fit the shape name an element of the array in common.
 #[tactic(auto, using(crate::proofs::CommonElements::met_start, crate::proofs::CommonElements::met_more, crate::proofs::CommonElements::met_not, crate::proofs::CommonElements::met_all))]
 pub fn slices_intersect(shape: &[usize], a: &[SliceInfoElem], b: &[SliceInfoElem]) -> bool
-    requires first { fits_shape shape.now a.now ≡ true }
-    requires second { fits_shape shape.now b.now ≡ true }
+    requires first { IsTrue (fits_shape shape.now a.now) }
+    requires second { IsTrue (fits_shape shape.now b.now) }
     ensures { IsTrue result ↔ Intersect shape.now a.now b.now }
 {
     let mut in_a = 0;

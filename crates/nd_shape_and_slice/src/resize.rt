@@ -1,6 +1,6 @@
 //! Dimensions with one axis more or fewer.
 
-ghost use Rattle.std.specs.Prelude.{◌≡◌, ◌≤◌, ◌<◌, ◌+◌, ◌-◌, true, List, ℕ, length};
+ghost use Rattle.std.specs.Prelude.{◌≡◌, ◌≤◌, ◌<◌, ◌+◌, ◌-◌, List, ℕ, length, IsTrue};
 ghost use Rattle.std.specs.List.{remove, insert};
 
 use crate::axes::Axis;
@@ -28,7 +28,7 @@ where
     /// number of axes; `IxDyn` must have fewer than 32.
     fn insert_axis(&self, axis: Axis) -> Self::Larger
         requires place { axis.0 ≤ length (Self.lengths self.now) }
-        requires room { Self.Larger.has_axes (length (Self.lengths self.now) + 1) ≡ true }
+        requires room { IsTrue (Self.Larger.has_axes (length (Self.lengths self.now) + 1)) }
         ensures { Self.Larger.lengths result ≡ insert (Self.lengths self.now) axis.0 1 };
 }
 

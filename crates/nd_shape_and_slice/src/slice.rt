@@ -1,6 +1,6 @@
 //! Slices of one axis.
 
-ghost use Rattle.std.specs.Prelude.{◌↔◌, ◌≡◌, ◌<◌, nat_abs, IsTrue, true, is_some};
+ghost use Rattle.std.specs.Prelude.{◌↔◌, ◌≡◌, ◌<◌, nat_abs, IsTrue, is_some};
 ghost use Rattle.std.specs.Option.{unwrap_or};
 ghost use Rattle.nd_shape_and_slice.specs.Slice.{fits_axis, bound_on, end_on, quotient_up, sliced_length, sliced_from};
 
@@ -38,7 +38,7 @@ pub struct SlicedAxis {
 impl Slice {
     /// What the slice makes of an axis of this length, which it fits.
     pub fn on_axis(self, len: usize) -> SlicedAxis
-        requires { fits_axis len self ≡ true }
+        requires { IsTrue (fits_axis len self) }
         ensures first { result.first ≡ sliced_from len self 0 }
         ensures len { result.len ≡ sliced_length len self }
     {
@@ -81,7 +81,7 @@ fn end_on_axis(len: usize, end: Option<isize>) -> Option<usize>
 /// Where a bound that lies on an axis of this length lies: nothing is left to test.
 #[inline]
 fn place_of_bound(len: usize, bound: isize) -> usize
-    requires { is_some (bound_on len bound) ≡ true }
+    requires { IsTrue (is_some (bound_on len bound)) }
     ensures { result ≡ unwrap_or (bound_on len bound) 0 }
 {
     if bound < 0 {
@@ -94,7 +94,7 @@ fn place_of_bound(len: usize, bound: isize) -> usize
 /// Where the end of a slice lies that fits an axis of this length.
 #[inline]
 fn place_of_end(len: usize, end: Option<isize>) -> usize
-    requires { is_some (end_on len end) ≡ true }
+    requires { IsTrue (is_some (end_on len end)) }
     ensures { result ≡ unwrap_or (end_on len end) 0 }
 {
     match end {
@@ -122,7 +122,7 @@ fn steps_in(range: usize, step: isize) -> usize
 
 /// Whether the slice fits an axis of this length: the step isn't 0, and both bounds lie on it.
 pub fn slice_fits(len: usize, slice: Slice) -> bool
-    ensures { IsTrue result ↔ (fits_axis len slice ≡ true) }
+    ensures { IsTrue result ↔ IsTrue (fits_axis len slice) }
 {
     slice.step != 0
         && bound_on_axis(len, slice.start).is_some()

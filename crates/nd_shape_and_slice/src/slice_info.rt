@@ -1,6 +1,6 @@
 //! Lists of slices, which read the axes of an array in order.
 
-ghost use Rattle.std.specs.Prelude.{◌↔◌, ◌≡◌, ◌≤◌, ◌==◌, ◌&&◌, not, nat_le, ℕ, Bool, true, false, List, length, drop, OnOk, IfOk, OnErr, IfErr, IsTrue, MatchOption, Option, Some, None, count_by, ◌∷◌, ◌+◌, ◌<◌, ◌^◌, if◌then◌else◌, slice_get};
+ghost use Rattle.std.specs.Prelude.{◌↔◌, ◌≡◌, ◌≤◌, ◌==◌, ◌&&◌, not, nat_le, ℕ, Bool, false, List, length, drop, OnOk, IfOk, OnErr, IfErr, IsTrue, MatchOption, Option, Some, None, count_by, ◌∷◌, ◌+◌, ◌<◌, ◌^◌, if◌then◌else◌, slice_get};
 ghost use Rattle.nd_shape_and_slice.specs.AxisCounts.{HasAxesIfFew};
 ghost use Rattle.nd_shape_and_slice.specs.SliceInfo.{reads_axis, keeps_axis, axes_read, axes_kept, coordinate_on, each_fits, fits_shape, fits_next, has_counts};
 ghost use Rattle.nd_shape_and_slice.specs.Slicing.{next_axis};
@@ -177,15 +177,15 @@ pub struct SliceInfo<'e, In: Dimension, Out: Dimension> {
     elements: &'e [SliceInfoElem],
     takes: PhantomData<In>,
     gives: PhantomData<Out>,
-    ghost reads: { In.has_axes (axes_read elements.now) ≡ true },
-    ghost keeps: { Out.has_axes (axes_kept elements.now) ≡ true },
+    ghost reads: { IsTrue (In.has_axes (axes_read elements.now)) },
+    ghost keeps: { IsTrue (Out.has_axes (axes_kept elements.now)) },
 }
 
 impl<'e, In: Dimension, Out: Dimension> SliceInfo<'e, In, Out> {
     /// The list, where it reads as many axes as `In` may have and leaves as many as `Out` may, 32 at most;
     /// IncompatibleShape exactly where it doesn't. ndarray's `SliceInfo::new`.
     pub fn new(elements: &'e [SliceInfoElem]) -> Result<Self, ShapeError>
-        ensures counts { OnOk result (has_counts In.has_axes Out.has_axes elements.now ≡ true) }
+        ensures counts { OnOk result (IsTrue (has_counts In.has_axes Out.has_axes elements.now)) }
         ensures list { IfOk result (λ info. info.elements.now ≡ elements.now) }
         ensures refused { OnErr result (has_counts In.has_axes Out.has_axes elements.now ≡ false) }
         ensures cause { IfErr result (λ e. e ≡ ErrorKind.IncompatibleShape) }
@@ -204,7 +204,7 @@ impl<'e, In: Dimension, Out: Dimension> SliceInfo<'e, In, Out> {
     /// The list, which reads as many axes as `In` may have and leaves as many as `Out` may, 32 at most. ndarray's
     /// `SliceInfo::new_unchecked`, which is unsafe there.
     pub fn new_unchecked(elements: &'e [SliceInfoElem]) -> Self
-        requires { has_counts In.has_axes Out.has_axes elements.now ≡ true }
+        requires { IsTrue (has_counts In.has_axes Out.has_axes elements.now) }
         ensures { result.elements.now ≡ elements.now }
     {
         SliceInfo {

@@ -1,6 +1,6 @@
 //! The strides that a constructor gives, and strides as they are listed.
 
-ghost use Rattle.std.specs.Prelude.{◌≡◌, true, length};
+ghost use Rattle.std.specs.Prelude.{◌≡◌, length, IsTrue};
 ghost use Rattle.nd_shape_and_slice.specs.Shape.{HasCheckedSize};
 ghost use Rattle.nd_shape_and_slice.specs.Strides.{c_strides, f_strides};
 
@@ -51,7 +51,7 @@ pub fn fortran_strides<D: Dimension>(dim: &D) -> D::Strides
 pub fn strides_from<D: Dimension>(dim: &D, list: &[isize]) -> D::Strides
     requires { length list.now ≡ length (D.lengths dim.now) }
     ensures listed { D.Strides.strides_of result ≡ list.now }
-    ensures number { D.has_axes (length (D.lengths dim.now)) ≡ true }
+    ensures number { IsTrue (D.has_axes (length (D.lengths dim.now))) }
 {
     let mut strides = dim.zero_strides();
     for axis in 0..dim.slice().len() {

@@ -1,6 +1,6 @@
 //! Lists of slices, and the tests that a caller makes before a call.
 
-ghost use Rattle.std.specs.Prelude.{◌≡◌, ◌≤◌, true, length};
+ghost use Rattle.std.specs.Prelude.{◌≤◌, length, IsTrue};
 ghost use Rattle.nd_shape_and_slice.specs.SliceInfo.{fits_shape};
 
 use nd_shape_and_slice::{
@@ -89,8 +89,8 @@ pub extern "C" fn nd_speed_fits(lengths: &[usize], bounds: &[Bounds], calls: usi
 /// One `slices_intersect`.
 #[inline(never)]
 fn add_meeting(shape: &[usize], a: &[SliceInfoElem], b: &[SliceInfoElem], sum: &mut u64)
-    requires first { fits_shape shape.now a.now ≡ true }
-    requires second { fits_shape shape.now b.now ≡ true }
+    requires first { IsTrue (fits_shape shape.now a.now) }
+    requires second { IsTrue (fits_shape shape.now b.now) }
 {
     let meeting = slices_intersect(shape, a, b);
     *sum = sum.wrapping_add(if meeting { 1 } else { 2 });

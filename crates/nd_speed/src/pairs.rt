@@ -3,7 +3,7 @@
 //! The left array has `lengths`, its elements lie in row-major order, or in column-major order where `turned` says so. `case`
 //! says what the right side is: 0 as many elements in row-major order, 1 one row, 2 as many elements in column-major order.
 
-ghost use Rattle.std.specs.Prelude.{◌≡◌, true};
+ghost use Rattle.std.specs.Prelude.{IsTrue};
 ghost use Rattle.nd_array_core.specs.Meaning.{shape_of, element_at};
 ghost use Rattle.nd_array_core.specs.along.Selected.{AreCoordinates, selected_shape};
 ghost use Rattle.nd_array_core.specs.base.Fresh.{ClonesOfAllAreEqual};
@@ -95,8 +95,8 @@ fn assign_again<'a, A: Clone + Drop>(
 
 /// Whether all of these are rows, and an array of them has a checked size.
 fn rows_fit(part: &ArrayView2<'_, i64>, rows: &[usize]) -> bool
-    ensures rows { result ≡ true → AreCoordinates (shape_of part.now) 0 rows.now }
-    ensures checked { result ≡ true → HasCheckedSize (selected_shape (shape_of part.now) 0 rows.now) }
+    ensures rows { IsTrue result → AreCoordinates (shape_of part.now) 0 rows.now }
+    ensures checked { IsTrue result → HasCheckedSize (selected_shape (shape_of part.now) 0 rows.now) }
 {
     let mut dim = part.raw_dim();
     let count = part.nrows();

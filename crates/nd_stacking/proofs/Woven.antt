@@ -17,7 +17,7 @@ use Rattle.nd_array_core.specs.Joined.{row_major_elements}
 use Rattle.nd_array_core.specs.growth.InTurn.{lengths_along}
 use Rattle.nd_array_core.specs.reshape.Regrouping.{ListsByRank}
 use Rattle.nd_stacking.specs.Stacking.{followed_by, two_behind, AreLengthsTogether, IsConcatenation}
-use Rattle.nd_stacking.specs.Weaving.{row_of, rows_below, run_in, run_of, size_before, size_behind, woven, AreElementsOf, EachIs, HasWholeRun, IsByRank}
+use Rattle.nd_stacking.specs.Weaving.{row_of, rows_below, run_in, given_to_row, size_before, size_behind, woven, AreElementsOf, EachIs, HasWholeRun, IsByRank}
 use Rattle.nd_stacking.proofs.Alike.{same_meaning}
 use Rattle.nd_stacking.proofs.Joining.{alike_with, fit, take_next}
 use Rattle.nd_stacking.proofs.Boxed.{and_true, both_true, box_set}
@@ -116,7 +116,7 @@ module _ {A : Type 0} where
         let whole = piece_size m piece in
         omega (arith, next, split, whole)
 
-    piece_run : (m : Meaning A) → Piece shape axis m → (row : ℕ) → row < size_before axis shape → length (run_of axis (size_behind axis shape) row m) ≡ get_or m.shape axis 0 * size_behind axis shape
+    piece_run : (m : Meaning A) → Piece shape axis m → (row : ℕ) → row < size_before axis shape → length (given_to_row axis (size_behind axis shape) row m) ≡ get_or m.shape axis 0 * size_behind axis shape
     piece_run m piece row below =
         length-run row (get_or m.shape axis 0 * size_behind axis shape) (row_major_elements m) (let fits = run_fits m piece row below in let count = piece.count in omega (arith, fits, count))
 
@@ -127,11 +127,11 @@ module _ {A : Type 0} where
         let rest = length-row ms row below (λ nth n at. pieces (suc nth) n at) in
         let total : lengths_along axis (m ∷ ms) ≡ get_or m.shape axis 0 + lengths_along axis ms = sum_by-cons (λ n. get_or n.shape axis 0) m ms in
         let split = add-mul (get_or m.shape axis 0) (lengths_along axis ms) (size_behind axis shape) in
-        length-append (run_of axis (size_behind axis shape) row m) (row_of axis (size_behind axis shape) row ms) ∙ (omega (arith, here, rest, split) ∙ ap (λ n. n * size_behind axis shape) (sym total))
+        length-append (given_to_row axis (size_behind axis shape) row m) (row_of axis (size_behind axis shape) row ms) ∙ (omega (arith, here, rest, split) ∙ ap (λ n. n * size_behind axis shape) (sym total))
 
     module _ (i : List ℕ) (inside_shape : in_box shape i ≡ true) (many : length i ≡ length shape) (low : rank_before axis shape i < size_before axis shape) (near : rank_behind axis shape i < size_behind axis shape) where
       -- in one array
-      at_piece : (m : Meaning A) → Piece shape axis m → (c : ℕ) → c < get_or m.shape axis 0 → slice_get (run_of axis (size_behind axis shape) (rank_before axis shape i) m) (c * size_behind axis shape + rank_behind axis shape i) ≡ m.at (set i axis c)
+      at_piece : (m : Meaning A) → Piece shape axis m → (c : ℕ) → c < get_or m.shape axis 0 → slice_get (given_to_row axis (size_behind axis shape) (rank_before axis shape i) m) (c * size_behind axis shape + rank_behind axis shape i) ≡ m.at (set i axis c)
       at_piece m piece c below =
           let len = get_or m.shape axis 0 in
           let xs = row_major_elements m in
@@ -146,7 +146,7 @@ module _ {A : Type 0} where
       at_pieces [] c pieces below = absurd (omega (arith, below))
       at_pieces (m ∷ ms) c pieces below =
           let len = get_or m.shape axis 0 in
-          let run = run_of axis (size_behind axis shape) (rank_before axis shape i) m in
+          let run = given_to_row axis (size_behind axis shape) (rank_before axis shape i) m in
           let rest = row_of axis (size_behind axis shape) (rank_before axis shape i) ms in
           let long = piece_run m (pieces 0 m refl) (rank_before axis shape i) low in
           let total : lengths_along axis (m ∷ ms) ≡ len + lengths_along axis ms = sum_by-cons (λ n. get_or n.shape axis 0) m ms in
@@ -319,12 +319,12 @@ module _ {A : Type 0} where
       (woven_shows axis ls m ms f.on are.1 (λ nth n at. pieces_of axis m ms ls are ranks nth n at) items joined.at (nothing m refl) (is ∙ (λ k. woven axis (beside k) (before k) (m ∷ ms))) shows)
 
   -- ---- the loops: one array more, and one row more
-  pub row_more : (axis behind row : ℕ) (ms : List (Meaning A)) (nth : ℕ) (m : Meaning A) (before old new run : List A) → slice_get ms nth ≡ Some m → old ≡ before ++ row_of axis behind row (take nth ms) → new ≡ old ++ run → run ≡ run_of axis behind row m
+  pub row_more : (axis behind row : ℕ) (ms : List (Meaning A)) (nth : ℕ) (m : Meaning A) (before old new run : List A) → slice_get ms nth ≡ Some m → old ≡ before ++ row_of axis behind row (take nth ms) → new ≡ old ++ run → run ≡ given_to_row axis behind row m
       → new ≡ before ++ row_of axis behind row (take (nth + 1) ms)
   row_more axis behind row ms nth m before old new run at so_far put is =
       put
       ∙ ((λ k. so_far k ++ is k)
-      ∙ (flat_map_more (run_of axis behind row) before (take nth ms) m
+      ∙ (flat_map_more (given_to_row axis behind row) before (take nth ms) m
       ∙ ap (λ ns. before ++ row_of axis behind row ns) (sym (take_next ms nth m at))))
 
   pub woven_more : (axis behind row : ℕ) (ms : List (Meaning A)) (old new : List A) → old ≡ woven axis behind row ms → new ≡ old ++ row_of axis behind row ms → new ≡ woven axis behind (row + 1) ms

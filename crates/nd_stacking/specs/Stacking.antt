@@ -1,6 +1,6 @@
 -- The concatenation of a list of arrays along an axis, and their stack along a new one: what they show, and why there is
 -- none.
-use Rattle.std.specs.Prelude.{◌≡◌, ℕ, ◌+◌, ◌-◌, ◌^◌, ◌≤◌, Bool, true, nat_eq, nat_le, nat_lt, List, [], ◌∷◌, length, map, slice_get, slice_index, slice_set, Option, None, Some, if◌then◌else◌}
+use Rattle.std.specs.Prelude.{◌≡◌, ℕ, ◌+◌, ◌-◌, ◌^◌, ◌≤◌, Bool, nat_eq, nat_le, nat_lt, List, [], ◌∷◌, length, map, slice_get, slice_index, slice_set, Option, None, Some, if◌then◌else◌, IsTrue}
 use Rattle.std.specs.Cmp.Lexicographic.{pointwise}
 use Rattle.std.specs.List.{insert, list_all}
 use Rattle.nd_shape_and_slice.specs.Shape.{nonzero_product, HasCheckedSize}
@@ -95,4 +95,4 @@ Tells cause NoMemory = cause ≡ None
 
 -- the first array can have an axis more
 abbrev pub HasRoomForAxis : {A : Type 0} → (ℕ → Bool) → List (Meaning A) → Type 0
-HasRoomForAxis {A} has_axes ms = (m : Meaning A) → slice_get ms 0 ≡ Some m → has_axes (length m.shape + 1) ≡ true
+HasRoomForAxis {A} has_axes ms = (m : Meaning A) → slice_get ms 0 ≡ Some m → IsTrue (has_axes (length m.shape + 1))

@@ -26,12 +26,12 @@ module _ {A : Type 0} where
   abbrev pub run_length : ℕ → ℕ → Meaning A → ℕ
   run_length axis behind m = slice_index m.shape axis * behind
 
-  abbrev pub run_of : ℕ → ℕ → ℕ → Meaning A → List A
-  run_of axis behind row m = run_in row (run_length axis behind m) (row_major_elements m)
+  abbrev pub given_to_row : ℕ → ℕ → ℕ → Meaning A → List A
+  given_to_row axis behind row m = run_in row (run_length axis behind m) (row_major_elements m)
 
   -- a row: what each array gives to it
   abbrev pub row_of : ℕ → ℕ → ℕ → List (Meaning A) → List A
-  row_of axis behind row ms = flat_map (run_of axis behind row) ms
+  row_of axis behind row ms = flat_map (given_to_row axis behind row) ms
 
   -- the rows below one
   abbrev pub rows_below : (ℕ → List A) → ℕ → List A

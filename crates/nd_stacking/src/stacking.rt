@@ -1,6 +1,6 @@
 //! Arrays beside one another along a new axis.
 
-ghost use Rattle.std.specs.Prelude.{◌≡◌, ◌≤◌, ◌+◌, true, None, IfOk, IfErr, OnOk, length, map};
+ghost use Rattle.std.specs.Prelude.{◌≡◌, ◌≤◌, ◌+◌, None, IfOk, IfErr, OnOk, length, map, IsTrue};
 ghost use Rattle.nd_array_core.specs.Laws.{with_axis_inserted};
 ghost use Rattle.nd_array_core.specs.Meaning.{meaning_of};
 ghost use Rattle.nd_array_core.specs.growth.InTurn.{meanings_of, ClonesOfEachAreEqual};
@@ -22,7 +22,7 @@ fn with_axis<'a, A, D: Dimension>(
 where
     D::Larger: Dimension,
     requires place { EachIs (λ m. axis.0 ≤ length m.shape) (meanings_of arrays.now) }
-    requires room { EachIs (λ m. D.Larger.has_axes (length m.shape + 1) ≡ true) (meanings_of arrays.now) }
+    requires room { EachIs (λ m. IsTrue (D.Larger.has_axes (length m.shape + 1))) (meanings_of arrays.now) }
     ensures { IfOk result (λ views. meanings_of views.items ≡ map (with_axis_inserted axis.0) (meanings_of arrays.now)) }
 {
     let mut views = match Vec::with_capacity(alloc, arrays.len()) {

@@ -1,10 +1,10 @@
 //! Arrays that lie in row-major order, one behind the other along an axis, run by run.
 
-ghost use Rattle.std.specs.Prelude.{◌≡◌, ◌+◌, ◌*◌, ◌++◌, ◌<◌, ◌≤◌, ℕ, true, IfOk, IfSome, length, vec_len, vec_capacity};
+ghost use Rattle.std.specs.Prelude.{◌≡◌, ◌+◌, ◌*◌, ◌++◌, ◌<◌, ◌≤◌, ℕ, IfOk, IfSome, length, vec_len, vec_capacity, IsTrue};
 ghost use Rattle.nd_array_core.specs.Meaning.{meaning_of};
 ghost use Rattle.nd_array_core.specs.growth.InTurn.{lengths_along, meanings_of, ClonesOfEachAreEqual};
 ghost use Rattle.nd_array_core.specs.reshape.RunSlices.{IsStandardArray};
-ghost use Rattle.nd_stacking.specs.Weaving.{row_of, run_length, run_of, size_before, size_behind, woven, AreElementsOf, EachIs, HasWholeRun, IsByRank};
+ghost use Rattle.nd_stacking.specs.Weaving.{row_of, run_length, given_to_row, size_before, size_behind, woven, AreElementsOf, EachIs, HasWholeRun, IsByRank};
 
 use crate::fitting::length_at;
 use nd_array_core::ArrayView;
@@ -17,8 +17,8 @@ const SHORTEST: usize = 4;
 
 /// Whether each of the arrays lies in row-major order.
 pub(crate) fn are_standard<A, D: Dimension>(arrays: &[ArrayView<'_, A, D>]) -> bool
-    ensures standard { result ≡ true → EachIs (λ a. IsStandardArray a) arrays.now }
-    ensures ranks { result ≡ true → EachIs IsByRank (meanings_of arrays.now) }
+    ensures standard { IsTrue result → EachIs (λ a. IsStandardArray a) arrays.now }
+    ensures ranks { IsTrue result → EachIs IsByRank (meanings_of arrays.now) }
 {
     for nth in 0..arrays.len() {
         elements_by_rank(&arrays[nth]);
@@ -77,7 +77,7 @@ fn run_of<'a, A, D: Dimension>(
 ) -> &'a [A]
     requires standard { IsStandardArray array.now }
     requires within { HasWholeRun axis behind row (meaning_of array.now) }
-    ensures items { result.now ≡ run_of axis behind row (meaning_of array.now) }
+    ensures items { result.now ≡ given_to_row axis behind row (meaning_of array.now) }
     ensures len { length result.now ≡ run_length axis behind (meaning_of array.now) }
     ensures elements { AreElementsOf (meaning_of array.now) result.now }
 {

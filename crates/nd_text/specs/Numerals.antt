@@ -1,5 +1,5 @@
 -- The number that a word writes in decimal digits.
-use Rattle.std.specs.Prelude.{◌≡◌, ℕ, ◌+◌, ◌-◌, ◌*◌, ◌^◌, ◌<◌, ◌≤◌, Bool, true, false, ◌&&◌, not, ◌==◌, nat_lt, nat_le, List, [], ◌∷◌, length, ℤ, pos, neg_ℤ, Option, Some, None, ◌⊎◌, if◌then◌else◌}
+use Rattle.std.specs.Prelude.{◌≡◌, ℕ, ◌+◌, ◌-◌, ◌*◌, ◌^◌, ◌<◌, ◌≤◌, Bool, true, false, ◌&&◌, not, ◌==◌, nat_lt, nat_le, List, [], ◌∷◌, length, ℤ, pos, neg_ℤ, Option, Some, None, ◌⊎◌, if◌then◌else◌, IsTrue}
 use Rattle.std.specs.Char.{is_ascii_digit}
 use Rattle.std.specs.List.{list_all}
 use Rattle.std.specs.Option.{option_map, option_and_then}
@@ -12,7 +12,7 @@ is_numeral word = not (length word == 0) && list_all is_ascii_digit word
 
 -- the digits write n
 abbrev pub IsNumeral : List ℕ → ℕ → Type 0
-IsNumeral digits n = (is_numeral digits ≡ true) × (n ≡ digits_value 10 digits)
+IsNumeral digits n = IsTrue (is_numeral digits) × (n ≡ digits_value 10 digits)
 
 -- the word writes a `usize`
 abbrev pub IsNat : List ℕ → ℕ → Type 0

@@ -1,5 +1,5 @@
 -- What printing does to a watched writer, and to the bytes that wait to be written to it.
-use Rattle.std.specs.Prelude.{◌≡◌, true, false, ℕ, List, ◌++◌, Option}
+use Rattle.std.specs.Prelude.{◌≡◌, false, ℕ, List, ◌++◌, Option, IsTrue}
 use Rattle.std.specs.Io.KnownBytes.{Appends}
 use Rattle.nd_text.specs.declared.watched.Flushes.TheVariants.{Never}
 use Rattle.nd_text.specs.declared.watched.Watched.{Watched}
@@ -8,7 +8,7 @@ use Rattle.nd_text.specs.Watched.{watched_inner, watched_failed, watched_retried
 -- The writer took the whole text, unless a call failed, and then a beginning of it. Once a call has failed
 -- the writer is left alone.
 pub record TakesText {W : Type 0} (contents : W → Option (List ℕ)) (old new : Watched W) (text : List ℕ) : Type 0 where
-  pub idle : watched_failed old ≡ true → new ≡ old
+  pub idle : IsTrue (watched_failed old) → new ≡ old
   pub whole : watched_failed new ≡ false → Appends (contents (watched_inner old)) (contents (watched_inner new)) text
   pub part : (front rest : List ℕ) × (text ≡ front ++ rest) × Appends (contents (watched_inner old)) (contents (watched_inner new)) front
   pub stops : watched_retried new ≡ watched_retried old
@@ -21,7 +21,7 @@ pub record Writes {W : Type 0} (contents : W → Option (List ℕ)) (old new : W
 -- Of the bytes that waited and of the text behind them, the writer took a beginning, without a flush; unless a call
 -- failed, the rest waits now. Once a call has failed the writer is left alone.
 pub record Puts {W : Type 0} (contents : W → Option (List ℕ)) (old : Watched W) (held : List ℕ) (new : Watched W) (left : List ℕ) (text : List ℕ) : Type 0 where
-  pub idle : watched_failed old ≡ true → new ≡ old
+  pub idle : IsTrue (watched_failed old) → new ≡ old
   pub part : (front rest : List ℕ) × (held ++ text ≡ front ++ rest) × Appends (contents (watched_inner old)) (contents (watched_inner new)) front × (watched_failed new ≡ false → rest ≡ left)
   pub unflushed : watched_flushes old ≡ Never → watched_flushes new ≡ Never
   pub stops : watched_retried new ≡ watched_retried old

@@ -1,5 +1,5 @@
 -- What contracts see of a watched reader or writer, and what counts as a failed write.
-use Rattle.std.specs.Prelude.{◌≡◌, ℕ, Bool, true, false, ◌&&◌, not, ◌==◌, List, length, Option, Result, Ok, Err}
+use Rattle.std.specs.Prelude.{◌≡◌, ℕ, Bool, true, false, ◌&&◌, not, ◌==◌, List, length, Option, Result, Ok, Err, IsTrue}
 use Rattle.std.specs.Io.KnownBytes.{ReadConsumes, WriteAppends}
 use Rattle.nd_text.specs.declared.watched.Flushes.{Flushes}
 use Rattle.nd_text.specs.declared.watched.Flushes.TheVariants.{Never, AtEnd, Other}
@@ -41,7 +41,7 @@ is_flushed_once Other failed = false
 
 -- a writer that wasn't flushed before is so now
 abbrev pub GetsFlushed : {T : Type 0} → Watched T → Watched T → Type 0
-GetsFlushed old new = watched_flushes old ≡ Never → is_flushed_once (watched_flushes new) (watched_failed new) ≡ true
+GetsFlushed old new = watched_flushes old ≡ Never → IsTrue (is_flushed_once (watched_flushes new) (watched_failed new))
 
 -- a write failed: an error, or no byte taken of a piece that isn't empty
 abbrev pub write_failed : {E : Type 0} → Result ℕ E → List ℕ → Bool

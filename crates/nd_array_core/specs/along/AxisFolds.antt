@@ -1,5 +1,5 @@
 -- Closures that go along the lanes of an axis: each is folded from a first value on.
-use Rattle.std.specs.Prelude.{◌≡◌, ℕ, suc, true, List, Option, Some, slice_index}
+use Rattle.std.specs.Prelude.{◌≡◌, ℕ, suc, List, Option, Some, slice_index, IsTrue}
 use Rattle.std.specs.Borrow.{Bor}
 use Rattle.std.specs.Fn.{Mut, Called}
 use Rattle.std.specs.List.{fold, insert, remove}
@@ -38,11 +38,11 @@ module _ {F B A : Type 0} (g : Mut F (Bor B × (Bor A × Unit {0})) B) where
   module _ (shape : List ℕ) (at : List ℕ → Option A) (a : ℕ) (init : B) where
     -- before coordinate 0 there is the first value
     abbrev pub BeginsWith : (List ℕ → ℕ → Option B) → Type 0
-    BeginsWith totals = (j : List ℕ) → in_box (indexed_shape shape a) j ≡ true → totals j 0 ≡ Some init
+    BeginsWith totals = (j : List ℕ) → IsTrue (in_box (indexed_shape shape a) j) → totals j 0 ≡ Some init
 
     -- behind the last coordinate is the answer
     abbrev pub EndsWith : (List ℕ → Option B) → (List ℕ → ℕ → Option B) → Type 0
-    EndsWith result totals = (j : List ℕ) → in_box (indexed_shape shape a) j ≡ true → result j ≡ totals j (slice_index shape a)
+    EndsWith result totals = (j : List ℕ) → IsTrue (in_box (indexed_shape shape a) j) → result j ≡ totals j (slice_index shape a)
 
     abbrev pub FoldsAxis : F → (List ℕ → Option B) → Type 0
     FoldsAxis f result = (totals : List ℕ → ℕ → Option B) × BeginsWith totals × EndsWith result totals × ((last : F) × VisitedAlong shape a (FoldsAt at a totals) f last)

@@ -1,5 +1,5 @@
 -- The lanes of an axis handed to closures to be written, each once, in an order that is free, by the indexes of an array.
-use Rattle.std.specs.Prelude.{◌≡◌, ℕ, true, List, Option, slice_index}
+use Rattle.std.specs.Prelude.{◌≡◌, ℕ, List, Option, slice_index, IsTrue}
 use Rattle.std.specs.Borrow.{MutBor}
 use Rattle.std.specs.Fn.{Mut}
 use Rattle.std.specs.List.{remove}
@@ -13,7 +13,7 @@ pub use Rattle.nd_elements.specs.along.LanesWritten.{AnswersHandedLanesBy, IsSam
 
 -- at each index stands what h gives of the lane through it, at the coordinate there
 abbrev pub AreLeftBy : {A : Type 0} → (Meaning A → ℕ → Option A) → Meaning A → ℕ → (List ℕ → Option A) → Type 0
-AreLeftBy h old a new = (i : List ℕ) → in_box old.shape i ≡ true → new i ≡ h (lane_of old a (remove i a)) (slice_index i a)
+AreLeftBy h old a new = (i : List ℕ) → IsTrue (in_box old.shape i) → new i ≡ h (lane_of old a (remove i a)) (slice_index i a)
 
 -- the lanes of an axis of all that a meaning shows, handed to a closure
 module _ {F A B : Type 0} (g : Mut F (MutBor (LaneMut A) × Unit {0}) (B × (MutBor (LaneMut A) × Unit {0}))) where

@@ -1,15 +1,9 @@
 -- A lane of the last axis, by the row-major ranks of its elements.
 use Rattle.std.specs.Prelude.{◌≡◌, ◌+◌, ◌<◌, ◌+ℤ◌, ◌*ℤ◌, ℕ, ℤ, pos, [], ◌∷◌, Option, slice_get, slice_index, ◌-◌, ◌*◌, List, length, slice_index_or}
 use Rattle.nd_layout.specs.declared.lanes.Lane.{Lane}
-use Rattle.nd_layout.specs.Placements.{Placement}
-use Rattle.nd_layout.specs.Walk.{place_at_rank}
 use Rattle.nd_elements.specs.Meaning.{Meaning, row_major_elements}
 use Rattle.nd_array_core.specs.declared.along.lane_view.LaneView.{LaneView}
 use Rattle.nd_array_core.specs.along.AxisMaps.{lane_seen}
-
--- where a layout has the index of a row-major rank
-abbrev pub rank_place : Placement → ℕ → ℤ
-rank_place l rank = place_at_rank l.offset l.lengths l.strides rank
 
 module _ {A : Type 0} (v : LaneView A) where
   -- how many elements a lane has

@@ -1,5 +1,5 @@
 -- Coordinates of an axis chosen, repeats allowed: the shape of what they name, and the index that each of its indexes names.
-use Rattle.std.specs.Prelude.{◌≡◌, ◌+◌, ◌*◌, ◌<◌, ℕ, true, List, length, Option, slice_get, slice_index, slice_set}
+use Rattle.std.specs.Prelude.{◌≡◌, ◌+◌, ◌*◌, ◌<◌, ℕ, List, length, Option, slice_get, slice_index, slice_set, IsTrue}
 use Rattle.std.specs.List.{All}
 use Rattle.nd_shape_and_slice.specs.Shape.{in_box, size_of, row_rank}
 use Rattle.nd_shape_and_slice.specs.Maps.{collapsed_shape, collapsed_index}
@@ -29,7 +29,7 @@ AreCoordinates ns a indices = All (λ k. k < slice_index ns a) indices
 abbrev pub ListsSelected : {A : Type 0} → List ℕ → (List ℕ → Option A) → List ℕ → ℕ → List A → Type 0
 ListsSelected ns at indices n items =
     (length items ≡ n * size_of (collapsed_shape ns 0))
-    × ((k : ℕ) (i : List ℕ) → k < n → in_box (collapsed_shape ns 0) i ≡ true → slice_get items (k * size_of (collapsed_shape ns 0) + row_rank (collapsed_shape ns 0) i) ≡ at (collapsed_index 0 (slice_index indices k) i))
+    × ((k : ℕ) (i : List ℕ) → k < n → IsTrue (in_box (collapsed_shape ns 0) i) → slice_get items (k * size_of (collapsed_shape ns 0) + row_rank (collapsed_shape ns 0) i) ≡ at (collapsed_index 0 (slice_index indices k) i))
 
 -- the same of what is seen of an array
 abbrev pub ListsRows : {A : Type 0} → Meaning A → List ℕ → ℕ → List A → Type 0

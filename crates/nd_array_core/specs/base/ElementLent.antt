@@ -1,5 +1,5 @@
 -- What an array ends as, once a borrow of one of its elements is over.
-use Rattle.std.specs.Prelude.{◌≡◌, ℕ, List, Bool, true, Option, ℤ, pos, negsuc, nat_abs}
+use Rattle.std.specs.Prelude.{ℕ, List, Bool, Option, ℤ, pos, negsuc, nat_abs, IsTrue}
 use Rattle.std.specs.Borrow.{Fml, RattleType, MutBor, Lends, LendsIf}
 use Rattle.nd_shape_and_slice.specs.Place.{place_of}
 use Rattle.nd_shape_and_slice.specs.declared.dimension.Dimension as dimension
@@ -11,7 +11,7 @@ use Rattle.nd_array_core.specs.contracts.base.array.ArrayBase.{the_row}
 use Rattle.nd_elements.specs.Places.{names_place}
 use Rattle.nd_elements.specs.ElementMut.{KeepsPlaces}
 
-pub kept_names : {A : Type 0} (old new : ℕ → Option A) → KeepsPlaces old new → (z : ℤ) → names_place old z ≡ true → names_place new z ≡ true
+pub kept_names : {A : Type 0} (old new : ℕ → Option A) → KeepsPlaces old new → (z : ℤ) → IsTrue (names_place old z) → IsTrue (names_place new z)
 kept_names old new kept (pos p) has = kept p has
 kept_names old new kept (negsuc p) has = has
 

@@ -1,5 +1,5 @@
 -- What a new array is: elements of its own, in an order from place 0 on.
-use Rattle.std.specs.Prelude.{◌≡◌, ℕ, nat_eq, true, List, [], ◌∷◌, length, Option, None, Some, if◌then◌else◌}
+use Rattle.std.specs.Prelude.{◌≡◌, ℕ, nat_eq, List, [], ◌∷◌, length, Option, None, Some, if◌then◌else◌, IsTrue}
 use Rattle.nd_shape_and_slice.specs.Shape.{in_box, size_of}
 use Rattle.nd_shape_and_slice.specs.declared.dimension.Dimension as dimension
 use Rattle.nd_shape_and_slice.specs.declared.dimension.AxisCount as axis_count
@@ -54,7 +54,7 @@ module _ {D T A P R L M : Type 0} {s : data_trait.Ghosts (OwnedRepr A) A} {d : d
 
   -- the element at each index has the property
   abbrev pub ShowsSuch : BuiltShape → (A → Type 0) → ArrayBase (OwnedRepr A) D T A P R L M s d n r t → Type 0
-  ShowsSuch built is_such a = (i : List ℕ) → in_box built.0 i ≡ true → (x : A) × (element_at a i ≡ Some x) × is_such x
+  ShowsSuch built is_such a = (i : List ℕ) → IsTrue (in_box built.0 i) → (x : A) × (element_at a i ≡ Some x) × is_such x
 
   -- a matrix of n rows and n columns shows these values on the diagonal, and another one everywhere else
   abbrev pub ShowsOnDiagonal : ℕ → (ℕ → Option A) → A → ArrayBase (OwnedRepr A) D T A P R L M s d n r t → Type 0

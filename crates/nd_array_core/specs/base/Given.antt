@@ -1,5 +1,5 @@
 -- What a constructor is given its elements in, and so why it refuses; and how it lays them out.
-use Rattle.std.specs.Prelude.{◌≡◌, ◌<◌, ℕ, nat_lt, Bool, true, false, List, ℤ, Option, Some, None, ⊤, if◌then◌else◌}
+use Rattle.std.specs.Prelude.{◌≡◌, ◌<◌, ℕ, nat_lt, Bool, true, false, List, ℤ, Option, Some, None, ⊤, if◌then◌else◌, IsTrue}
 use Rattle.nd_shape_and_slice.specs.Shape.{in_box, size_of}
 use Rattle.nd_shape_and_slice.specs.Place.{place_of, IsSeparated}
 use Rattle.nd_shape_and_slice.specs.declared.builder.Order.{Order}
@@ -34,13 +34,13 @@ pub record IsLaidOut (lengths : List ℕ) (order : Order) (strides : Option (Lis
   pub offset_is : layout.offset ≡ offset_given lengths strides
   pub lengths_are : layout.lengths ≡ lengths
   pub strides_are : layout.strides ≡ given_strides lengths order strides
-  pub places : (i : List ℕ) → in_box lengths i ≡ true → place_of layout.offset layout.strides i ≡ given_place lengths order strides i
+  pub places : (i : List ℕ) → IsTrue (in_box lengths i) → place_of layout.offset layout.strides i ≡ given_place lengths order strides i
   pub holds : HoldsAll (first_places count) layout.offset layout.lengths layout.strides
-  pub separated : alone ≡ true → 0 < size_of lengths → IsSeparated layout.lengths layout.strides
+  pub separated : IsTrue alone → 0 < size_of lengths → IsSeparated layout.lengths layout.strides
 
 -- where two indexes may share no element: where there are elements, the strides keep them apart
 abbrev pub KeepsApartIn : GivenIn → List ℕ → List ℤ → Type 0
-KeepsApartIn given_in ns ss = is_apart_in given_in ≡ true → 0 < size_of ns → IsSeparated ns ss
+KeepsApartIn given_in ns ss = IsTrue (is_apart_in given_in) → 0 < size_of ns → IsSeparated ns ss
 
 -- the same by what a caller gives as a shape: why elements can't be laid out so, and how they lie
 abbrev pub refusal_meant : GivenIn → GivenShape → ℕ → Option ErrorKind

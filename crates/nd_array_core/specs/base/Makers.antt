@@ -1,5 +1,5 @@
 -- What a new array has of the items or answers that it is made of.
-use Rattle.std.specs.Prelude.{◌≡◌, ℕ, true, List, [], ◌∷◌, Option, Result, IfOk}
+use Rattle.std.specs.Prelude.{◌≡◌, ℕ, List, [], ◌∷◌, Option, Result, IfOk, IsTrue}
 use Rattle.std.specs.Fn.{Mut, Called}
 use Rattle.std.specs.Iterator.{Drains}
 use Rattle.nd_shape_and_slice.specs.Shape.{in_box}
@@ -20,7 +20,7 @@ use Rattle.nd_elements.specs.Storages.{stored_list}
 module _ {F X A : Type 0} (g : Mut F (X × Unit {0}) A) (lengths_of : X → List ℕ) where
   -- at each index of the box a closure answers what `cell` gives of the row and column, and stays as it is
   abbrev pub AnswersCells : List ℕ → (ℕ → ℕ → A) → F → Type 0
-  AnswersCells shape cell f = (x : X) (y : A) (f' : F) → in_box shape (lengths_of x) ≡ true → Called g f (x, tt) y f' → (f' ≡ f) × IsCell cell (lengths_of x) y
+  AnswersCells shape cell f = (x : X) (y : A) (f' : F) → IsTrue (in_box shape (lengths_of x)) → Called g f (x, tt) y f' → (f' ≡ f) × IsCell cell (lengths_of x) y
 
 module _ {D T A P R L M : Type 0} {s : data_trait.Ghosts (OwnedRepr A) A} {d : dimension.Ghosts D P R L M} {n : axis_count.Ghosts D} {r : stride_list.Ghosts R} {t : stride_list.Ghosts T} where
   -- the array owns a matrix of count rows and count columns, in row-major order

@@ -26,7 +26,7 @@ module _ {S D T A P R L M : Type 0} {s : data_trait.Ghosts S A} {d : dimension.G
   abbrev pub IsRowMajorOf : List ℕ → List A → ArrayBase S D T A P R L M s d n r t → Type 0
   IsRowMajorOf ns xs view =
       (HasCheckedSize ns → (shape_of view ≡ ns) × (layout_strides view ≡ c_strides ns) × ((i : List ℕ) → element_at view i ≡ inside ns i (slice_get xs (row_rank ns i))))
-      × ((HasCheckedSize ns → ⊥) → shape_of view ≡ replicate (length ns) 0)
+      × (¬ (HasCheckedSize ns) → shape_of view ≡ replicate (length ns) 0)
 
   -- the array shows at each index what a map has by the index's rank in an order, or at the place that a given shape says
   abbrev pub ShowsRanked : BuiltShape → (ℕ → Option A) → ArrayBase S D T A P R L M s d n r t → Type 0

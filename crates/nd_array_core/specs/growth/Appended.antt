@@ -1,5 +1,5 @@
 -- One array behind another along an axis, in the storage of the first.
-use Rattle.std.specs.Prelude.{ℕ, ◌+◌, ◌<◌, ◌≡◌, true, List, length, slice_get, slice_index, slice_set, Option, ◌≤◌, [], vec_len, vec_capacity}
+use Rattle.std.specs.Prelude.{ℕ, ◌+◌, ◌<◌, ◌≡◌, List, length, slice_get, slice_index, slice_set, Option, ◌≤◌, [], vec_len, vec_capacity, IsTrue}
 use Rattle.nd_shape_and_slice.specs.Shape.{in_box, size_of, HasCheckedSize}
 use Rattle.nd_shape_and_slice.specs.Place.{place_of}
 use Rattle.nd_shape_and_slice.specs.Broadcast.{stretches}
@@ -33,7 +33,7 @@ use Rattle.nd_elements.specs.CloneRefusals.{MayRefuseClone}
 -- an array of the second shape can be broadcast to come behind one of the first along the axis: there are axes, as many in
 -- both, and each other length of the second is the first's, or it is 1
 abbrev pub FitsBehind : List ℕ → List ℕ → ℕ → Type 0
-FitsBehind ns ms axis = (0 < length ns) × (stretches ms (shape_behind ns ms axis) ≡ true)
+FitsBehind ns ms axis = (0 < length ns) × IsTrue (stretches ms (shape_behind ns ms axis))
 
 -- it needn't be broadcast: all other lengths are equal
 abbrev pub IsAlikeBeside : List ℕ → List ℕ → ℕ → Type 0
@@ -49,8 +49,8 @@ CanComeBehind ns ms axis = FitsBehind ns ms axis × HasCheckedSize (concatenated
 
 -- why it can't come: it doesn't fit, or both together have no checked size
 pub data IsJoiningRefused (ns ms : List ℕ) (axis : ℕ) : ErrorKind → Type 0 where
-  NotFitting : (FitsBehind ns ms axis → ⊥) → IsJoiningRefused ns ms axis IncompatibleShape
-  TooLarge : FitsBehind ns ms axis → (HasCheckedSize (concatenated_shape ns ms axis) → ⊥) → IsJoiningRefused ns ms axis Overflow
+  NotFitting : ¬ (FitsBehind ns ms axis) → IsJoiningRefused ns ms axis IncompatibleShape
+  TooLarge : FitsBehind ns ms axis → ¬ (HasCheckedSize (concatenated_shape ns ms axis)) → IsJoiningRefused ns ms axis Overflow
 
 -- why an append was refused: the shape doesn't fit, or both together have no checked size; or it can come, and memory for
 -- its elements, of which there are some, was refused
@@ -82,7 +82,7 @@ IsPushRefused ns ms axis = IsAppendRefused ns (inserted_shape ms axis) axis
 pub record ArePutBehind {A : Type 0} (grown : Placement) (axis from : ℕ) (shape : List ℕ) (at : List ℕ → Option A) (old new : List A) : Type 0 where
   pub front : IsFront old new
   pub count : length new ≡ length old + size_of shape
-  pub put : (i : List ℕ) → in_box shape i ≡ true → stored_at (slice_get new) (place_of grown.offset grown.strides (upper_index axis from i)) ≡ at i
+  pub put : (i : List ℕ) → IsTrue (in_box shape i) → stored_at (slice_get new) (place_of grown.offset grown.strides (upper_index axis from i)) ≡ at i
 
 module _ {S D A T P R L M : Type 0} {s : data_trait.Ghosts S A} {d : dimension.Ghosts D P R L M} {n : axis_count.Ghosts D} {r : stride_list.Ghosts R} {t : stride_list.Ghosts T} where
   -- what comes behind an array of a shape: it is broadcast to that shape, with its own length along the axis

@@ -1,5 +1,5 @@
 -- How an owned array lies before and after another came behind it along an axis.
-use Rattle.std.specs.Prelude.{ℕ, ◌≡◌, ◌+◌, ◌<◌, ◌≤◌, ◌⊎◌, ◌||◌, true, false, List, length, nat_eq, slice_index, if◌then◌else◌, Option, ⊤}
+use Rattle.std.specs.Prelude.{ℕ, ◌≡◌, ◌+◌, ◌<◌, ◌≤◌, ◌⊎◌, ◌||◌, false, List, length, nat_eq, slice_index, if◌then◌else◌, Option, ⊤, IsTrue}
 use Rattle.nd_shape_and_slice.specs.declared.dimension.Dimension as dimension
 use Rattle.nd_shape_and_slice.specs.declared.dimension.AxisCount as axis_count
 use Rattle.nd_shape_and_slice.specs.declared.dimension.StrideList as stride_list
@@ -49,7 +49,7 @@ pub record IsLaidInCase {A : Type 0} (axis added : ℕ) (l : Placement) (old : L
 -- What was stored comes first, each index has its place, and the axis can grow on.
 pub record GoesOnUnder {A : Type 0} (axis : ℕ) (l : Placement) (old : List A) (m : Placement) (new : List A) : Type 0 where
   pub front : IsFront old new
-  pub places : (i : List ℕ) → in_box l.lengths i ≡ true → place_of m.offset m.strides i ≡ place_of l.offset l.strides i
+  pub places : (i : List ℕ) → IsTrue (in_box l.lengths i) → place_of m.offset m.strides i ≡ place_of l.offset l.strides i
   pub ready : IsReadyUnder axis m new
 
 -- want of memory means that a clone was refused, which may be only where one can be

@@ -1,5 +1,5 @@
 -- Several lists of slices of one array.
-use Rattle.std.specs.Prelude.{◌≡◌, ℕ, true, List, Option}
+use Rattle.std.specs.Prelude.{◌≡◌, ℕ, List, Option, IsTrue}
 use Rattle.nd_shape_and_slice.specs.declared.slice_info.SliceInfoElem.{SliceInfoElem}
 use Rattle.nd_shape_and_slice.specs.Meeting.{Intersect}
 use Rattle.nd_shape_and_slice.specs.SliceInfo.{fits_shape}
@@ -7,17 +7,17 @@ use Rattle.nd_elements.specs.Places.{ShareNoPlace}
 
 -- no element is named by both lists
 abbrev pub NameNothingInCommon : List ℕ → List SliceInfoElem → List SliceInfoElem → Type 0
-NameNothingInCommon shape es fs = Intersect shape es fs → ⊥
+NameNothingInCommon shape es fs = ¬ (Intersect shape es fs)
 
 -- the lists fit the shape, and no two name an element in common
 abbrev pub TwoFit : List ℕ → List SliceInfoElem → List SliceInfoElem → Type 0
-TwoFit shape a b = (fits_shape shape a ≡ true) × (fits_shape shape b ≡ true) × NameNothingInCommon shape a b
+TwoFit shape a b = IsTrue (fits_shape shape a) × IsTrue (fits_shape shape b) × NameNothingInCommon shape a b
 
 abbrev pub ThreeFit : List ℕ → List SliceInfoElem → List SliceInfoElem → List SliceInfoElem → Type 0
-ThreeFit shape a b c = (fits_shape shape a ≡ true) × TwoFit shape b c × NameNothingInCommon shape a b × NameNothingInCommon shape a c
+ThreeFit shape a b c = IsTrue (fits_shape shape a) × TwoFit shape b c × NameNothingInCommon shape a b × NameNothingInCommon shape a c
 
 abbrev pub FourFit : List ℕ → List SliceInfoElem → List SliceInfoElem → List SliceInfoElem → List SliceInfoElem → Type 0
-FourFit shape a b c d = (fits_shape shape a ≡ true) × ThreeFit shape b c d × NameNothingInCommon shape a b × NameNothingInCommon shape a c × NameNothingInCommon shape a d
+FourFit shape a b c d = IsTrue (fits_shape shape a) × ThreeFit shape b c d × NameNothingInCommon shape a b × NameNothingInCommon shape a c × NameNothingInCommon shape a d
 
 -- no two of three arrays, or of four, share a place
 abbrev pub ThreeShareNoPlace : (List ℕ → Option ℕ) → (List ℕ → Option ℕ) → (List ℕ → Option ℕ) → Type 0

@@ -1,5 +1,5 @@
 -- A view or an array of its own: which it is, what is seen of it, and which one a reshape answers.
-use Rattle.std.specs.Prelude.{ℕ, ◌≡◌, ◌⊎◌, Bool, true, false, List, ℤ, Result, IsOkAnd}
+use Rattle.std.specs.Prelude.{ℕ, ◌≡◌, ◌⊎◌, Bool, true, false, List, ℤ, Result, IsOkAnd, IsTrue}
 use Rattle.nd_shape_and_slice.specs.declared.dimension.Dimension as dimension
 use Rattle.nd_shape_and_slice.specs.declared.dimension.AxisCount as axis_count
 use Rattle.nd_shape_and_slice.specs.declared.dimension.StrideList as stride_list
@@ -35,7 +35,7 @@ module _ {A V S D P R L M : Type 0} {v : data_trait.Ghosts V A} {s : data_trait.
 
   -- nothing was refused, and the answer is a view
   abbrev pub AnswersView : {E : Type 0} → Result (EitherArray A V S D P R L M v s d n r) E → Type 0
-  AnswersView answer = IsOkAnd answer (λ either. is_view_in either ≡ true)
+  AnswersView answer = IsOkAnd answer (λ either. IsTrue (is_view_in either))
 
 module _
     {A V S D P R L M : Type 0} {v : data_trait.Ghosts V A} {s : data_trait.Ghosts S A} {d : dimension.Ghosts D P R L M} {n : axis_count.Ghosts D} {r : stride_list.Ghosts R}
@@ -48,8 +48,8 @@ module _
 -- why elements can't be had under other lengths, each with its rank in an order: the lengths aren't a shape of as many
 -- elements; or no strides serve, and memory for copies was refused
 pub data IsReshapeRefused (order : Order) (ns : List ℕ) (ss : List ℤ) (ms : List ℕ) : ArrayError → Type 0 where
-  NotAsMany : (IsShapeOf ns ms → ⊥) → IsReshapeRefused order ns ss ms (Shape IncompatibleShape)
-  NotCopied : IsShapeOf ns ms → (SomeServe order ns ss ms → ⊥) → IsReshapeRefused order ns ss ms NoMemory
+  NotAsMany : ¬ (IsShapeOf ns ms) → IsReshapeRefused order ns ss ms (Shape IncompatibleShape)
+  NotCopied : IsShapeOf ns ms → ¬ (SomeServe order ns ss ms) → IsReshapeRefused order ns ss ms NoMemory
 
 module _ {S D T A P R L M : Type 0} {s : data_trait.Ghosts S A} {d : dimension.Ghosts D P R L M} {n : axis_count.Ghosts D} {r : stride_list.Ghosts R} {t : stride_list.Ghosts T} where
   -- why an array's elements can't be had under the lengths ms
@@ -58,7 +58,7 @@ module _ {S D T A P R L M : Type 0} {s : data_trait.Ghosts S A} {d : dimension.G
 
   -- where no strides serve, so that the elements are copied, each clone of one is the element
   abbrev pub CopiesAreEqual : (A → A → Type 0) → ArrayBase S D T A P R L M s d n r t → Order → List ℕ → Type 0
-  CopiesAreEqual is_clone a order ms = (StridesServe a order ms → ⊥) → ClonesOfAllAreEqual is_clone (element_at a)
+  CopiesAreEqual is_clone a order ms = ¬ (StridesServe a order ms) → ClonesOfAllAreEqual is_clone (element_at a)
 
   -- in the order in which the elements lie, strides serve each shape of as many
   abbrev pub IsServedInItsOrder : ArrayBase S D T A P R L M s d n r t → Type 0
@@ -71,7 +71,7 @@ module _
   -- element where it is; else copies in that order, from place 0 on
   abbrev pub ViewsOrCopies : ArrayBase S D T A P R L M s d n r t → Order → List ℕ → EitherArray A Z (OwnedRepr A) E Q X V W z o e k x → Type 0
   ViewsOrCopies a order ms (View b) = StridesServe a order ms × ShowsServed a order ms b
-  ViewsOrCopies a order ms (Owned b) = (StridesServe a order ms → ⊥) × OwnsInOrder (ms, order) b × KeepsRanks a order ms b
+  ViewsOrCopies a order ms (Owned b) = (¬ (StridesServe a order ms)) × OwnsInOrder (ms, order) b × KeepsRanks a order ms b
 
   -- either shows the elements under the lengths ms, each with its rank in an order
   abbrev pub ShowsRegrouped : ArrayBase S D T A P R L M s d n r t → Order → List ℕ → EitherArray A Z (OwnedRepr A) E Q X V W z o e k x → Type 0
@@ -88,7 +88,7 @@ module _
   -- so; else copies, from place 0 on
   abbrev pub ViewsOrLaysOut : ArrayBase S D T A P R L M s d n r t → EitherArray A Z (OwnedRepr A) E Q X V W z o e k x → Type 0
   ViewsOrLaysOut a (View b) = IsStandardArray a × ShowsWhole a b
-  ViewsOrLaysOut a (Owned b) = (IsStandardArray a → ⊥) × OwnsInOrder (shape_of a, RowMajor) b × ((i : List ℕ) → element_at b i ≡ element_at a i)
+  ViewsOrLaysOut a (Owned b) = (¬ (IsStandardArray a)) × OwnsInOrder (shape_of a, RowMajor) b × ((i : List ℕ) → element_at b i ≡ element_at a i)
 
 module _
     {D T A P R L M : Type 0} {s : data_trait.Ghosts (OwnedRepr A) A} {d : dimension.Ghosts D P R L M} {n : axis_count.Ghosts D} {r : stride_list.Ghosts R} {t : stride_list.Ghosts T}
@@ -109,4 +109,4 @@ module _
   abbrev pub KeptOrCopied : ArrayBase (OwnedRepr A) D T A P R L M s d n r t → Order → List ℕ → ArrayBase (OwnedRepr A) E U A Q X V W s e k x u → Type 0
   KeptOrCopied a order ms b =
       (StridesServe a order ms × ShowsServed a order ms b × (storage_of b ≡ storage_of a))
-      ⊎ ((StridesServe a order ms → ⊥) × OwnsInOrder (ms, order) b × KeepsRanks a order ms b)
+      ⊎ ((¬ (StridesServe a order ms)) × OwnsInOrder (ms, order) b × KeepsRanks a order ms b)

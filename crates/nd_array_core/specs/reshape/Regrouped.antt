@@ -1,5 +1,5 @@
 -- Another shape of the same elements: each keeps its rank in an order.
-use Rattle.std.specs.Prelude.{ℕ, ◌≡◌, true, List, [], ◌∷◌, ℤ, pos}
+use Rattle.std.specs.Prelude.{ℕ, ◌≡◌, List, [], ◌∷◌, ℤ, pos, IsTrue}
 use Rattle.nd_shape_and_slice.specs.declared.dimension.Dimension as dimension
 use Rattle.nd_shape_and_slice.specs.declared.dimension.AxisCount as axis_count
 use Rattle.nd_shape_and_slice.specs.declared.dimension.StrideList as stride_list
@@ -23,7 +23,7 @@ regrouped_index order ns ms i = index_in order ns (rank_in order ms i)
 
 -- each index lies at its rank in the order, from the offset on
 abbrev pub IsInOrder : Order → List ℕ → List ℤ → Type 0
-IsInOrder order ns ss = (i : List ℕ) → in_box ns i ≡ true → displacement_of ss i ≡ pos (rank_in order ns i)
+IsInOrder order ns ss = (i : List ℕ) → IsTrue (in_box ns i) → displacement_of ss i ≡ pos (rank_in order ns i)
 
 -- a shape with a checked size, which is the number of elements
 abbrev pub IsShapeOf : List ℕ → List ℕ → Type 0
@@ -32,8 +32,8 @@ IsShapeOf ns ms = HasCheckedSize ms × (size_of ms ≡ size_of ns)
 -- why elements of these lengths and strides can't be seen under other lengths in an order, where the strides are to be
 -- those of a new array
 pub data IsRefused (order : Order) (ns : List ℕ) (ss : List ℤ) (ms : List ℕ) : ErrorKind → Type 0 where
-  NoShape : (IsShapeOf ns ms → ⊥) → IsRefused order ns ss ms IncompatibleShape
-  NotInOrder : IsShapeOf ns ms → (IsInOrder order ns ss → ⊥) → IsRefused order ns ss ms IncompatibleLayout
+  NoShape : ¬ (IsShapeOf ns ms) → IsRefused order ns ss ms IncompatibleShape
+  NotInOrder : IsShapeOf ns ms → ¬ (IsInOrder order ns ss) → IsRefused order ns ss ms IncompatibleLayout
 
 -- the same of elements that lie by a placement
 abbrev pub IsRefusedFor : Order → Placement → List ℕ → ErrorKind → Type 0
@@ -46,7 +46,7 @@ IsRefusedInBoth ns ss ms e = IsRefused RowMajor ns ss ms e × IsRefused ColumnMa
 -- row-major order where the elements lie so, and else column-major
 pub data IsOrderTried (ns : List ℕ) (ss : List ℤ) : Order → Type 0 where
   Rows : IsInOrder RowMajor ns ss → IsOrderTried ns ss RowMajor
-  Columns : (IsInOrder RowMajor ns ss → ⊥) → IsOrderTried ns ss ColumnMajor
+  Columns : ¬ (IsInOrder RowMajor ns ss) → IsOrderTried ns ss ColumnMajor
 
 module _ {S D T A P R L M : Type 0} {s : data_trait.Ghosts S A} {d : dimension.Ghosts D P R L M} {n : axis_count.Ghosts D} {r : stride_list.Ghosts R} {t : stride_list.Ghosts T} where
   -- the elements lie in an order, from the offset on

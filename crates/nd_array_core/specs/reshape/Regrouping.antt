@@ -1,5 +1,5 @@
 -- Laws of reshapes, and of an array's elements as a list, over meanings and lists of lengths alone.
-use Rattle.std.specs.Prelude.{ℕ, ◌≡◌, ◌<◌, ◌+◌, ◌*◌, true, List, [], ◌∷◌, slice_get}
+use Rattle.std.specs.Prelude.{ℕ, ◌≡◌, ◌<◌, ◌+◌, ◌*◌, List, [], ◌∷◌, slice_get, IsTrue}
 use Rattle.nd_shape_and_slice.specs.Shape.{in_box, row_rank, size_of}
 use Rattle.nd_shape_and_slice.specs.declared.builder.Order.{Order}
 use Rattle.nd_shape_and_slice.specs.declared.builder.Order.TheVariants.{RowMajor}
@@ -14,15 +14,15 @@ RegroupedBack A = (m : Meaning A) (order : Order) (ms : List ℕ) → NothingOut
 
 -- no index has a rank past the last element
 abbrev pub RanksAreBelow : List ℕ → Type 0
-RanksAreBelow ns = (i : List ℕ) → in_box ns i ≡ true → row_rank ns i < size_of ns
+RanksAreBelow ns = (i : List ℕ) → IsTrue (in_box ns i) → row_rank ns i < size_of ns
 
 -- the list of all elements has each index's at the rank of the index
 abbrev pub ListsByRank : {A : Type 0} → Meaning A → Type 0
-ListsByRank x = (i : List ℕ) → in_box x.shape i ≡ true → slice_get (row_major_elements x) (row_rank x.shape i) ≡ x.at i
+ListsByRank x = (i : List ℕ) → IsTrue (in_box x.shape i) → slice_get (row_major_elements x) (row_rank x.shape i) ≡ x.at i
 
 -- where the first two axes are as one, row-major, stands what stood at each index
 abbrev pub JoinsFirstAxes : {A : Type 0} → Meaning A → Type 0
-JoinsFirstAxes x = (n m : ℕ) (ms : List ℕ) → x.shape ≡ n ∷ m ∷ ms → (i j : ℕ) (is : List ℕ) → in_box x.shape (i ∷ j ∷ is) ≡ true → (regrouped_meaning RowMajor (n * m ∷ ms) x).at ((i * m + j) ∷ is) ≡ x.at (i ∷ j ∷ is)
+JoinsFirstAxes x = (n m : ℕ) (ms : List ℕ) → x.shape ≡ n ∷ m ∷ ms → (i j : ℕ) (is : List ℕ) → IsTrue (in_box x.shape (i ∷ j ∷ is)) → (regrouped_meaning RowMajor (n * m ∷ ms) x).at ((i * m + j) ∷ is) ≡ x.at (i ∷ j ∷ is)
 
 -- where the rows of a table are one list, stands what stood at each row and column
 abbrev pub JoinsRows : {A : Type 0} → Meaning A → Type 0

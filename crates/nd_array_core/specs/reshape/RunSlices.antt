@@ -1,5 +1,5 @@
 -- Which arrays show their elements as one slice, and in which order.
-use Rattle.std.specs.Prelude.{ℕ, ◌≡◌, ◌<◌, ◌+◌, ◌-◌, ◌⊎◌, true, List, length, Option, Some, slice_get, IsPermutation}
+use Rattle.std.specs.Prelude.{ℕ, ◌≡◌, ◌<◌, ◌+◌, ◌-◌, ◌⊎◌, List, length, Option, Some, slice_get, IsPermutation, IsTrue}
 use Rattle.nd_shape_and_slice.specs.declared.dimension.Dimension as dimension
 use Rattle.nd_shape_and_slice.specs.declared.dimension.AxisCount as axis_count
 use Rattle.nd_shape_and_slice.specs.declared.dimension.StrideList as stride_list
@@ -21,9 +21,9 @@ use Rattle.nd_elements.specs.declared.storage.OwnedRepr.{OwnedRepr}
 -- in xs as far from the front as its place from that one, and each of xs is that of an index.
 pub record LiesAlong {A : Type 0} (shape : List ℕ) (first : ℕ) (place : List ℕ → Option ℕ) (at : List ℕ → Option A) (xs : List A) : Type 0 where
   pub count : length xs ≡ size_of shape
-  pub within : (i : List ℕ) → in_box shape i ≡ true → (k : ℕ) × (k < size_of shape) × (place i ≡ Some (first + k)) × (at i ≡ slice_get xs k)
-  pub each : (k : ℕ) → k < size_of shape → (i : List ℕ) × (in_box shape i ≡ true) × (place i ≡ Some (first + k)) × (at i ≡ slice_get xs k)
-  pub once : (i j : List ℕ) → in_box shape i ≡ true → in_box shape j ≡ true → place i ≡ place j → i ≡ j
+  pub within : (i : List ℕ) → IsTrue (in_box shape i) → (k : ℕ) × (k < size_of shape) × (place i ≡ Some (first + k)) × (at i ≡ slice_get xs k)
+  pub each : (k : ℕ) → k < size_of shape → (i : List ℕ) × IsTrue (in_box shape i) × (place i ≡ Some (first + k)) × (at i ≡ slice_get xs k)
+  pub once : (i j : List ℕ) → IsTrue (in_box shape i) → IsTrue (in_box shape j) → place i ≡ place j → i ≡ j
 
 -- such elements are those in row-major order, put in another order
 abbrev pub MemoryOrderReorders : Type 0 → Type 0

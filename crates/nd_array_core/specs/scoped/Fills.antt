@@ -1,5 +1,5 @@
 -- An array after a part of it was filled, or a view that is lent to a task; and where a clone was refused on the way.
-use Rattle.std.specs.Prelude.{◌≡◌, ◌⊎◌, ℕ, ℤ, List, true, false, Some, if◌then◌else◌}
+use Rattle.std.specs.Prelude.{◌≡◌, ◌⊎◌, ℕ, ℤ, List, false, Some, if◌then◌else◌, IsTrue}
 use Rattle.nd_shape_and_slice.specs.Shape.{in_box, size_of}
 use Rattle.nd_shape_and_slice.specs.declared.dimension.Dimension as dimension
 use Rattle.nd_shape_and_slice.specs.declared.dimension.AxisCount as axis_count
@@ -36,11 +36,11 @@ module _ {A D T : Type 0} (lengths : D → List ℕ) (strides : T → List ℤ) 
 module _ {S D A T P R L M : Type 0} {s : data_trait.Ghosts S A} {d : dimension.Ghosts D P R L M} {n : axis_count.Ghosts D} {r : stride_list.Ghosts R} {t : stride_list.Ghosts T} where
   -- each index that one of the part names has its old element or x
   abbrev pub IsOldOrFilled : ArrayBase S D T A P R L M s d n r t → ArrayBase S D T A P R L M s d n r t → Part → A → Type 0
-  IsOldOrFilled old new part x = (i : List ℕ) → in_box part.shape i ≡ true → (element_at new (part.source i) ≡ element_at old (part.source i)) ⊎ (element_at new (part.source i) ≡ Some x)
+  IsOldOrFilled old new part x = (i : List ℕ) → IsTrue (in_box part.shape i) → (element_at new (part.source i) ≡ element_at old (part.source i)) ⊎ (element_at new (part.source i) ≡ Some x)
 
   -- each index of the array has x where the list names it, and else the element that it had
   abbrev pub IsFilledWhere : ArrayBase S D T A P R L M s d n r t → ArrayBase S D T A P R L M s d n r t → List SliceInfoElem → A → Type 0
-  IsFilledWhere old new slices x = (i : List ℕ) → in_box (shape_of old) i ≡ true → element_at new i ≡ (if names_index (shape_of old) slices i then Some x else element_at old i)
+  IsFilledWhere old new slices x = (i : List ℕ) → IsTrue (in_box (shape_of old) i) → element_at new i ≡ (if names_index (shape_of old) slices i then Some x else element_at old i)
 
   -- each index that the list doesn't name has the element that it had
   abbrev pub KeepsOtherIndexes : ArrayBase S D T A P R L M s d n r t → ArrayBase S D T A P R L M s d n r t → List SliceInfoElem → Type 0
@@ -48,4 +48,4 @@ module _ {S D A T P R L M : Type 0} {s : data_trait.Ghosts S A} {d : dimension.G
 
   -- each index of the array that the list names has x
   abbrev pub FillsNamed : ArrayBase S D T A P R L M s d n r t → ArrayBase S D T A P R L M s d n r t → List SliceInfoElem → A → Type 0
-  FillsNamed old new slices x = (i : List ℕ) → in_box (shape_of old) i ≡ true → names_index (shape_of old) slices i ≡ true → element_at new i ≡ Some x
+  FillsNamed old new slices x = (i : List ℕ) → IsTrue (in_box (shape_of old) i) → IsTrue (names_index (shape_of old) slices i) → element_at new i ≡ Some x

@@ -1,5 +1,5 @@
 -- Tasks on mutable views of parts of an array.
-use Rattle.std.specs.Prelude.{◌≡◌, ℕ, List, true, Some}
+use Rattle.std.specs.Prelude.{◌≡◌, ℕ, List, Some, IsTrue}
 use Rattle.nd_shape_and_slice.specs.Shape.{in_box}
 use Rattle.nd_shape_and_slice.specs.declared.dimension.Dimension as dimension
 use Rattle.nd_shape_and_slice.specs.declared.dimension.AxisCount as axis_count
@@ -88,4 +88,4 @@ module _ {S D A T P R L M : Type 0} {s : data_trait.Ghosts S A} {d : dimension.G
 
   -- each index that one of the part names has the element x
   abbrev pub IsFilledWith : ArrayBase S D T A P R L M s d n r t → Part → A → Type 0
-  IsFilledWith a part x = (i : List ℕ) → in_box part.shape i ≡ true → element_at a (part.source i) ≡ Some x
+  IsFilledWith a part x = (i : List ℕ) → IsTrue (in_box part.shape i) → element_at a (part.source i) ≡ Some x

@@ -1,5 +1,5 @@
 -- Tasks on mutable views: what a task is lent, and what an array holds after it.
-use Rattle.std.specs.Prelude.{◌≡◌, ℕ, ◌<◌, List, ℤ, true, false, Option}
+use Rattle.std.specs.Prelude.{◌≡◌, ℕ, ◌<◌, List, ℤ, false, Option, IsTrue}
 use Rattle.nd_elements.specs.StorageFrame.{StorageFrame, Borrowed}
 use Rattle.nd_shape_and_slice.specs.Shape.{in_box, size_of}
 use Rattle.nd_shape_and_slice.specs.Place.{place_of, IsSeparated}
@@ -74,15 +74,15 @@ IsViewThrough shape source place at v = IsViewOf shape (λ i. inside shape i (pl
 
 -- each index that none of the part names has the element that it had
 abbrev pub OthersKeep : {A : Type 0} → List ℕ → (List ℕ → List ℕ) → (List ℕ → Option A) → (List ℕ → Option A) → Type 0
-OthersKeep shape source old new = (i : List ℕ) → ((j : List ℕ) → in_box shape j ≡ true → source j ≡ i → ⊥) → new i ≡ old i
+OthersKeep shape source old new = (i : List ℕ) → ((j : List ℕ) → IsTrue (in_box shape j) → ¬ (source j ≡ i)) → new i ≡ old i
 
 -- each index that neither of two parts names has the element that it had
 abbrev pub OthersKeepTwo : {A : Type 0} → List ℕ → (List ℕ → List ℕ) → List ℕ → (List ℕ → List ℕ) → (List ℕ → Option A) → (List ℕ → Option A) → Type 0
-OthersKeepTwo shape source shape' source' old new = (i : List ℕ) → ((j : List ℕ) → in_box shape j ≡ true → source j ≡ i → ⊥) → ((j : List ℕ) → in_box shape' j ≡ true → source' j ≡ i → ⊥) → new i ≡ old i
+OthersKeepTwo shape source shape' source' old new = (i : List ℕ) → ((j : List ℕ) → IsTrue (in_box shape j) → ¬ (source j ≡ i)) → ((j : List ℕ) → IsTrue (in_box shape' j) → ¬ (source' j ≡ i)) → new i ≡ old i
 
 -- both maps have the same at each place that the layout names
 abbrev pub AgreesOnNamed : {A : Type 0} → (ℕ → Option A) → ℕ → List ℕ → List ℤ → (ℕ → Option A) → Type 0
-AgreesOnNamed old offset lengths strides part = (p : ℕ) → names offset lengths strides p ≡ true → part p ≡ old p
+AgreesOnNamed old offset lengths strides part = (p : ℕ) → IsTrue (names offset lengths strides p) → part p ≡ old p
 
 -- ---- by a placement: an offset, lengths and strides
 module _ {A : Type 0} where
@@ -144,7 +144,7 @@ AreApart one two = LayoutsShareNoPlace one.offset one.lengths one.strides two.of
 
 -- the whole names each place that the part does
 abbrev pub IsWithin : Placement → Placement → Type 0
-IsWithin part whole = (p : ℕ) → names part.offset part.lengths part.strides p ≡ true → names whole.offset whole.lengths whole.strides p ≡ true
+IsWithin part whole = (p : ℕ) → IsTrue (names part.offset part.lengths part.strides p) → IsTrue (names whole.offset whole.lengths whole.strides p)
 
 -- ---- by a layout: a task on what a region shows under it, or on what two regions show, gave the regions back, and answered
 module _ {A D T P R L M : Type 0} {d : dimension.Ghosts D P R L M} {n : axis_count.Ghosts D} {r : stride_list.Ghosts R} {t : stride_list.Ghosts T} where

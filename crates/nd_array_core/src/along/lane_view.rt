@@ -1,6 +1,6 @@
 //! A lane of an array, as it is shown to a closure.
 
-ghost use Rattle.std.specs.Prelude.{◌≡◌, ◌<◌, ℕ, true, is_some, [], ◌∷◌, List};
+ghost use Rattle.std.specs.Prelude.{◌≡◌, ◌<◌, ℕ, is_some, [], ◌∷◌, List, IsTrue};
 ghost use Rattle.nd_elements.specs.Storages.{shown_by};
 ghost use Rattle.nd_elements.specs.Collected.{stored_along};
 ghost use Rattle.nd_elements.specs.along.AxisLanes.{LiesAs};
@@ -16,7 +16,7 @@ use nd_shape_and_slice::{Dimension, IntoDimension, Ix1};
 pub struct LaneView<'a, A> {
     pub(crate) storage: ViewRepr<'a, A>,
     pub(crate) lane: Lane,
-    ghost holds: { (k : ℕ) → k < lane.count → is_some (stored_along (shown_by storage) lane.place lane.stride k) ≡ true },
+    ghost holds: { (k : ℕ) → k < lane.count → IsTrue (is_some (stored_along (shown_by storage) lane.place lane.stride k)) },
 }
 
 /// The layout with one axis that has the places of a lane.
@@ -34,7 +34,7 @@ impl<'a, A> LaneView<'a, A> {
 
     /// The elements of a storage along a lane.
     pub(crate) fn over(storage: ViewRepr<'a, A>, lane: Lane) -> Self
-        requires { (k : ℕ) → k < lane.count → is_some (stored_along (shown_by storage) lane.place lane.stride k) ≡ true }
+        requires { (k : ℕ) → k < lane.count → IsTrue (is_some (stored_along (shown_by storage) lane.place lane.stride k)) }
         ensures storage { result.storage ≡ storage.entry }
         ensures lane { LiesAs result.lane lane }
     {

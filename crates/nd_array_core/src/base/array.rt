@@ -1,7 +1,7 @@
 //! Arrays over any storage, and the questions to them.
 #![tactic(auto, unfolding(crate::specs::Meaning::meaning_of, crate::specs::Meaning::memory_layout_of), using(crate::proofs::reshape_lemmas::ShortAxes::length_short, crate::proofs::reshape_lemmas::ShortAxes::size_short))]
 
-ghost use Rattle.std.specs.Prelude.{◌≡◌, ◌<◌, ◌≤◌, ◌^◌, ⊤, ℕ, true, List, length, slice_index, slice_index_or, pos};
+ghost use Rattle.std.specs.Prelude.{◌≡◌, ◌<◌, ◌≤◌, ◌^◌, ⊤, ℕ, List, length, slice_index, slice_index_or, pos, IsTrue};
 ghost use Rattle.nd_shape_and_slice.specs.Shape.{in_box, size_of};
 ghost use Rattle.nd_shape_and_slice.specs.Place.{place_of, IsSeparated};
 ghost use Rattle.nd_elements.specs.Places.{names_place};
@@ -20,8 +20,8 @@ where
 {
     pub(crate) storage: S,
     pub(crate) layout: Layout<D, T>,
-    ghost inside: { (i : List ℕ) → in_box (D.lengths layout.dim) i ≡ true → names_place (S.stored storage) (place_of layout.offset (T.strides_of layout.strides) i) ≡ true },
-    ghost separated: { S.exclusive ≡ true → 0 < size_of (D.lengths layout.dim) → IsSeparated (D.lengths layout.dim) (T.strides_of layout.strides) },
+    ghost inside: { (i : List ℕ) → IsTrue (in_box (D.lengths layout.dim) i) → IsTrue (names_place (S.stored storage) (place_of layout.offset (T.strides_of layout.strides) i)) },
+    ghost separated: { IsTrue S.exclusive → 0 < size_of (D.lengths layout.dim) → IsSeparated (D.lengths layout.dim) (T.strides_of layout.strides) },
 }
 
 /// An array that owns its elements. ndarray's `Array`.
@@ -48,7 +48,7 @@ impl<S: Data, D: Dimension> ArrayBase<S, D> {
     /// The number of axes, at most 32. ndarray's `ndim`.
     pub fn ndim(&self) -> usize
         ensures value { result ≡ length (shape_of self.now) }
-        ensures number { D.has_axes result ≡ true }
+        ensures number { IsTrue (D.has_axes result) }
         ensures few { result ≤ 32 }
     {
         let dim = &self.layout.dim;

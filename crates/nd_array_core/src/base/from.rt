@@ -24,7 +24,7 @@ use nd_shape_and_slice::{Dimension, IntoDimension, Ix1, Ix2, Order, size_of_shap
 fn on_one_axis<S: Data>(storage: S, len: usize) -> ArrayBase<S, Ix1>
     requires { HoldsBelow len (S.stored storage) }
     ensures held { IsRowMajorIn (len ∷ []) (S.stored storage) result }
-    ensures empty { (HasCheckedSize (len ∷ []) → ⊥) → shape_of result ≡ 0 ∷ [] }
+    ensures empty { ¬ (HasCheckedSize (len ∷ [])) → shape_of result ≡ 0 ∷ [] }
     ensures storage { storage_of result ≡ storage }
 {
     match size_of_shape_checked(&[len]) {
@@ -81,7 +81,7 @@ impl<'a, A> From<&'a [A]> for ArrayView<'a, A, Ix1> {
 fn region_on_one_axis<'a, A>(region: Region<'a, A>, len: usize) -> ArrayViewMut<'a, A, Ix1>
     requires { HoldsBelow len (region_stored region) }
     ensures held { IsRowMajorIn (len ∷ []) (region_stored region.entry) result }
-    ensures empty { (HasCheckedSize (len ∷ []) → ⊥) → shape_of result ≡ 0 ∷ [] }
+    ensures empty { ¬ (HasCheckedSize (len ∷ [])) → shape_of result ≡ 0 ∷ [] }
     ensures region { (storage_of result).region ≡ region.entry }
 {
     on_one_axis(ViewMutRepr::of_region(region), len)
@@ -124,7 +124,7 @@ impl<'a, A, const N: usize> From<&'a [[A; N]]> for ArrayView<'a, A, Ix2> {
 /// That many of the rows of a number of elements each have places: all of them, or none where they have no checked size.
 fn rows_with_places(rows: usize, columns: usize) -> usize
     ensures all { HasCheckedSize (rows ∷ columns ∷ []) → result ≡ rows }
-    ensures none { (HasCheckedSize (rows ∷ columns ∷ []) → ⊥) → result ≡ 0 }
+    ensures none { ¬ (HasCheckedSize (rows ∷ columns ∷ [])) → result ≡ 0 }
     ensures few { result ≤ rows }
     ensures small { result * columns < 2 ^ 63 }
 {
@@ -142,7 +142,7 @@ fn region_on_two_axes<'a, A>(
 ) -> ArrayViewMut<'a, A, Ix2>
     requires { HasCheckedSize (rows ∷ columns ∷ []) → HoldsBelow (rows * columns) (region_stored region) }
     ensures held { IsRowMajorIn (rows ∷ columns ∷ []) (region_stored region.entry) result }
-    ensures empty { (HasCheckedSize (rows ∷ columns ∷ []) → ⊥) → shape_of result ≡ 0 ∷ 0 ∷ [] }
+    ensures empty { ¬ (HasCheckedSize (rows ∷ columns ∷ [])) → shape_of result ≡ 0 ∷ 0 ∷ [] }
     ensures region { (storage_of result).region ≡ region.entry }
 {
     let storage = ViewMutRepr::of_region(region);

@@ -1,7 +1,7 @@
 //! Arrays and views made of a shape and its elements.
 #![tactic(auto, unfolding(crate::specs::Meaning::meaning_of, crate::specs::Meaning::memory_layout_of))]
 
-ghost use Rattle.std.specs.Prelude.{◌≡◌, ◌<◌, ◌≤◌, ℕ, true, length, IsSome, IfOk, IfErr, Some, None, slice_get, vec_len, vec_capacity};
+ghost use Rattle.std.specs.Prelude.{◌≡◌, ◌<◌, ◌≤◌, ℕ, true, length, IsSome, IfOk, IfErr, Some, None, slice_get, vec_len, vec_capacity, IsTrue};
 ghost use Rattle.std.specs.Borrow.{sem};
 ghost use Rattle.nd_shape_and_slice.specs.Shape.{size_of, HasCheckedSize};
 ghost use Rattle.nd_region.specs.Region.{region_stored};
@@ -164,7 +164,7 @@ fn under_shape<S: Data + Drop, D: Dimension, Sh: IntoStrideShape<Dim = D>>(
     shape: Sh,
 ) -> Result<ArrayBase<S, D>, ShapeError>
     requires holds { (place : ℕ) → place < count → IsSome (S.stored storage place) }
-    requires apart { S.exclusive ≡ true → is_apart_in given_in ≡ true }
+    requires apart { IsTrue S.exclusive → IsTrue (is_apart_in given_in) }
     ensures refused { IfErr result (λ e. refusal_meant given_in (meant_by Sh.IntoStrideShape shape) count ≡ Some e) }
     ensures accepted { IfOk result (λ _. refusal_meant given_in (meant_by Sh.IntoStrideShape shape) count ≡ None) }
     ensures shape { IfOk result (λ a. shape_of a ≡ Sh.lengths_meant shape) }

@@ -1,7 +1,7 @@
 //! Elements written: replaced, exchanged, and through references.
 #![tactic(auto, unfolding(crate::specs::Meaning::meaning_of, crate::specs::Meaning::memory_layout_of))]
 
-ghost use Rattle.std.specs.Prelude.{◌↔◌, ◌≡◌, ℕ, true, List, Bool, Some, Option, is_some, IsNone, OnSome};
+ghost use Rattle.std.specs.Prelude.{◌↔◌, ◌≡◌, ℕ, List, Bool, Some, Option, is_some, IsNone, OnSome, IsTrue};
 ghost use Rattle.std.specs.Option.{option_copied_mut};
 ghost use Rattle.std.specs.Borrow.{sem};
 ghost use Rattle.nd_shape_and_slice.specs.Shape.{in_box, size_of};
@@ -21,7 +21,7 @@ impl<S: DataMut, D: Dimension> ArrayBase<S, D> {
     /// Writes the element at an index of the box (`get` tells which indexes are in it), and returns the old one. This
     /// project's own, beside ndarray's `IndexMut`.
     pub fn replace<I: NdIndex<D>>(&mut self, index: I, value: S::Elem) -> S::Elem
-        requires { in_box (shape_of self.old) (I.coordinates_of index) ≡ true }
+        requires { IsTrue (in_box (shape_of self.old) (I.coordinates_of index)) }
         ensures old { element_at self.old (I.coordinates_of index) ≡ Some result }
         ensures new { IsWrittenAt S.frame self.old (I.coordinates_of index) value self.new }
     {
@@ -30,7 +30,7 @@ impl<S: DataMut, D: Dimension> ArrayBase<S, D> {
 
     /// Writes the element at an index of the box, given as a list, and returns the old one.
     pub(crate) fn replace_at(&mut self, index: &[usize], value: S::Elem) -> S::Elem
-        requires { in_box (shape_of self.old) index.now ≡ true }
+        requires { IsTrue (in_box (shape_of self.old) index.now) }
         ensures old { element_at self.old index.now ≡ Some result }
         ensures new { IsWrittenAt S.frame self.old index.now value self.new }
     {
@@ -40,8 +40,8 @@ impl<S: DataMut, D: Dimension> ArrayBase<S, D> {
 
     /// Exchanges the elements at two indexes of the shape's box. ndarray's `swap`.
     pub fn swap<I: NdIndex<D>>(&mut self, a: I, b: I)
-        requires a { in_box (shape_of self.old) (I.coordinates_of a) ≡ true }
-        requires b { in_box (shape_of self.old) (I.coordinates_of b) ≡ true }
+        requires a { IsTrue (in_box (shape_of self.old) (I.coordinates_of a)) }
+        requires b { IsTrue (in_box (shape_of self.old) (I.coordinates_of b)) }
         ensures new { IsSwappedAt S.frame self.old (I.coordinates_of a) (I.coordinates_of b) self.new }
     {
         let p = self.layout.place_in_box(a.coordinates());
@@ -51,8 +51,8 @@ impl<S: DataMut, D: Dimension> ArrayBase<S, D> {
 
     /// Exchanges the elements at two indexes of the shape's box. ndarray's `uswap`.
     pub fn uswap<I: NdIndex<D>>(&mut self, a: I, b: I)
-        requires a { in_box (shape_of self.old) (I.coordinates_of a) ≡ true }
-        requires b { in_box (shape_of self.old) (I.coordinates_of b) ≡ true }
+        requires a { IsTrue (in_box (shape_of self.old) (I.coordinates_of a)) }
+        requires b { IsTrue (in_box (shape_of self.old) (I.coordinates_of b)) }
         ensures new { IsSwappedAt S.frame self.old (I.coordinates_of a) (I.coordinates_of b) self.new }
     {
         self.swap(a, b);
@@ -65,7 +65,7 @@ impl<S: DataMut, D: Dimension> ArrayBase<S, D> {
     /// The element at an index of the shape's box (`get` tells which indexes are in it), to be written. ndarray's
     /// `uget_mut`.
     pub fn uget_mut<I: NdIndex<D>>(&mut self, index: I) -> &mut S::Elem
-        requires { in_box (shape_of self.old) (I.coordinates_of index) ≡ true }
+        requires { IsTrue (in_box (shape_of self.old) (I.coordinates_of index)) }
         ensures* writes_back { sem 𝓛 (lends_element S.row S.Elem.row D.row D.Pattern.row D.Strides.row D.Smaller.row D.Larger.row S.Data D.Dimension D.AxisCount D.Strides.StrideList self.entry (I.coordinates_of index) result) }
         ensures value { element_at self.old (I.coordinates_of index) ≡ Some result.now }
         ensures written { IsAnyWrittenAt S.frame self.old (I.coordinates_of index) (array_with_element S.with_element self.old (I.coordinates_of index)) }
@@ -177,7 +177,7 @@ impl<S: DataMut, D: Dimension, I: NdIndex<D>> IndexMut<I> for ArrayBase<S, D> {
     ghost use Rattle.nd_array_core.specs.base.ElementLent.{lends_element, array_with_element};
 
     fn index_mut(&mut self, index: I) -> &mut S::Elem
-        requires { in_box (shape_of self.old) (I.coordinates_of index) ≡ true }
+        requires { IsTrue (in_box (shape_of self.old) (I.coordinates_of index)) }
         ensures* writes_back { sem 𝓛 (lends_element S.row S.Elem.row D.row D.Pattern.row D.Strides.row D.Smaller.row D.Larger.row S.Data D.Dimension D.AxisCount D.Strides.StrideList self.entry (I.coordinates_of index) result) }
         ensures value { element_at self.old (I.coordinates_of index) ≡ Some result.now }
         ensures written { IsAnyWrittenAt S.frame self.old (I.coordinates_of index) (array_with_element S.with_element self.old (I.coordinates_of index)) }

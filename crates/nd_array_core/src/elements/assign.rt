@@ -1,7 +1,7 @@
 //! The elements of another array at every index.
 #![tactic(auto, unfolding(crate::specs::Meaning::meaning_of, crate::specs::Meaning::memory_layout_of))]
 
-ghost use Rattle.std.specs.Prelude.{◌≡◌, ◌<◌, ℕ, true, List, Some, OnOk, OnErr};
+ghost use Rattle.std.specs.Prelude.{◌≡◌, ◌<◌, ℕ, List, Some, OnOk, OnErr, IsTrue};
 ghost use Rattle.nd_shape_and_slice.specs.Broadcast.{broadcasts};
 ghost use Rattle.nd_elements.specs.CloneRefusals.{MayRefuseClone};
 ghost use Rattle.nd_elements.specs.Clones.{ClonesOfAllAreEqual};
@@ -25,7 +25,7 @@ impl<A: Clone + Drop, S: DataMut<Elem = A>, D: Dimension> ArrayBase<S, D> {
         &mut self,
         rhs: &ArrayBase<Z, E>,
     ) -> Result<(), NoMemory>
-        requires broadcasts { broadcasts (shape_of rhs.now) (shape_of self.old) ≡ true }
+        requires broadcasts { IsTrue (broadcasts (shape_of rhs.now) (shape_of self.old)) }
         requires clones { ClonesOfAllAreEqual A.is_clone (element_at rhs.now) }
         ensures assigned { OnOk result ((i : List ℕ) → element_at self.new i ≡ beside_at self.old rhs.now i) }
         ensures stopped { OnErr result (IsOldOrOf (element_at self.old) (beside_at self.old rhs.now) (element_at self.new)) }

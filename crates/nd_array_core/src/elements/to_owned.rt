@@ -1,7 +1,7 @@
 //! Arrays of their own made of any array.
 #![tactic(auto, unfolding(crate::specs::Meaning::meaning_of, crate::specs::Meaning::memory_layout_of))]
 
-ghost use Rattle.std.specs.Prelude.{◌≡◌, ℕ, List, IfOk, IfErr, length, true, false, is_ok, slice_get, vec_capacity, ◌<◌, OnErr};
+ghost use Rattle.std.specs.Prelude.{◌≡◌, ℕ, List, IfOk, IfErr, length, false, is_ok, slice_get, vec_capacity, ◌<◌, OnErr, IsTrue};
 ghost use Rattle.nd_shape_and_slice.specs.Shape.{size_of};
 ghost use Rattle.nd_shape_and_slice.specs.declared.builder.Order.TheVariants.{RowMajor};
 ghost use Rattle.nd_layout.specs.Placements.{placement_of, KeepsApart};
@@ -105,8 +105,8 @@ where
         ensures shape { IfOk result (λ a. shape_of a ≡ shape_of self.now) }
         ensures elements { IfOk result (λ a. (i : List ℕ) → element_at a i ≡ element_at self.now i) }
         ensures run { IsRunArray self.now → IfOk result (CopiesRun self.now) }
-        ensures owns { (IsRunArray self.now → ⊥) → IfOk result (OwnsInOrder (shape_of self.now, RowMajor)) }
-        ensures stored { (IsRunArray self.now → ⊥) → IfOk result (StoresInRowMajorOrder self.now) }
+        ensures owns { ¬ (IsRunArray self.now) → IfOk result (OwnsInOrder (shape_of self.now, RowMajor)) }
+        ensures stored { ¬ (IsRunArray self.now) → IfOk result (StoresInRowMajorOrder self.now) }
         ensures refused { OnErr result (0 < size_of (shape_of self.now)) }
     {
         if is_run(self.layout.dim.slice(), self.layout.strides.slice()) {
@@ -161,12 +161,12 @@ where
         requires clones { S.owned ≡ false → ClonesOfAllAreEqual S.Elem.is_clone (element_at self) }
         ensures shape { IfOk result (λ a. shape_of a ≡ shape_of self) }
         ensures elements { IfOk result (λ a. (i : List ℕ) → element_at a i ≡ element_at self i) }
-        ensures owned { S.owned ≡ true → is_ok result ≡ true }
-        ensures whole { S.owned ≡ true → IfOk result (ShowsWhole self) }
-        ensures items { S.owned ≡ true → IfOk result (λ a. stored_list (storage_of a) ≡ S.items (storage_of self)) }
-        ensures room { S.owned ≡ true → IfOk result (λ a. room_of (storage_of a) ≡ S.room (storage_of self)) }
+        ensures owned { IsTrue S.owned → IsTrue (is_ok result) }
+        ensures whole { IsTrue S.owned → IfOk result (ShowsWhole self) }
+        ensures items { IsTrue S.owned → IfOk result (λ a. stored_list (storage_of a) ≡ S.items (storage_of self)) }
+        ensures room { IsTrue S.owned → IfOk result (λ a. room_of (storage_of a) ≡ S.room (storage_of self)) }
         ensures run { S.owned ≡ false → IsRunArray self → IfOk result (CopiesRun self) }
-        ensures owns { S.owned ≡ false → (IsRunArray self → ⊥) → IfOk result (OwnsInOrder (shape_of self, RowMajor)) }
+        ensures owns { S.owned ≡ false → ¬ (IsRunArray self) → IfOk result (OwnsInOrder (shape_of self, RowMajor)) }
         ensures refused { OnErr result (0 < size_of (shape_of self)) }
     {
         match self.try_into_owned_nocopy() {

@@ -1,7 +1,7 @@
 //! Closures that are handed the elements of two arrays: one to be written, and one beside it.
 #![tactic(auto, unfolding(crate::specs::Meaning::meaning_of, crate::specs::Meaning::memory_layout_of))]
 
-ghost use Rattle.std.specs.Prelude.{◌≡◌, ◌<◌, true, Some};
+ghost use Rattle.std.specs.Prelude.{◌<◌, Some, IsTrue};
 ghost use Rattle.nd_shape_and_slice.specs.Broadcast.{broadcasts};
 ghost use Rattle.nd_array_core.specs.base.Writes.{KeepsFrame};
 ghost use Rattle.nd_elements.specs.elements.Pairs.{ZipsBy};
@@ -23,7 +23,7 @@ impl<S: DataMut, D: Dimension> ArrayBase<S, D> {
         rhs: &ArrayBase<Z, E>,
         f: F,
     )
-        requires broadcasts { broadcasts (shape_of rhs.now) (shape_of self.old) ≡ true }
+        requires broadcasts { IsTrue (broadcasts (shape_of rhs.now) (shape_of self.old)) }
         requires callable { ZippableWith F.FnMut self.old rhs.now f }
         ensures visits { ZipsWith F.FnMut self.old rhs.now self.new f }
         ensures alike { (h : _) → ZipsBy F.FnMut h f → ShowsBoth h self.old rhs.now self.new }

@@ -1,7 +1,7 @@
 //! An array of one axis fewer behind another along an axis.
 #![tactic(auto, unfolding(crate::specs::Meaning::meaning_of, crate::specs::Meaning::memory_layout_of))]
 
-ghost use Rattle.std.specs.Prelude.{◌≡◌, ◌+◌, ◌<◌, ◌≤◌, true, length, IfErr, OnOk, OnErr};
+ghost use Rattle.std.specs.Prelude.{◌≡◌, ◌+◌, ◌<◌, ◌≤◌, length, IfErr, OnOk, OnErr, IsTrue};
 ghost use Rattle.nd_array_core.specs.Coordinates.{GetsColumn, GetsRow};
 ghost use Rattle.nd_array_core.specs.Meaning.{meaning_of, shape_of, element_at};
 ghost use Rattle.nd_array_core.specs.Part.{inserted_part, ShowsPart};
@@ -22,7 +22,7 @@ where
     D::Smaller: Dimension,
     requires place { axis.0 ≤ length (shape_of array) }
     requires few { length (shape_of array) < 32 }
-    requires room { D.has_axes (length (shape_of array) + 1) ≡ true }
+    requires room { IsTrue (D.has_axes (length (shape_of array) + 1)) }
     ensures part { ShowsPart array.entry (inserted_part array.entry axis.0) result }
 {
     match array

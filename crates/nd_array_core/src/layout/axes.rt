@@ -2,7 +2,7 @@
 //! as another dimension; of arrays and views by value, in place, and as views to be read or written.
 #![tactic(auto, unfolding(crate::specs::Meaning::meaning_of, crate::specs::Meaning::memory_layout_of))]
 
-ghost use Rattle.std.specs.Prelude.{◌↔◌, ◌≡◌, ◌<◌, ◌≤◌, ◌+◌, ℕ, true, false, length, slice_index, IsErr, IfErr, IfOk, List};
+ghost use Rattle.std.specs.Prelude.{◌↔◌, ◌≡◌, ◌<◌, ◌≤◌, ◌+◌, ℕ, false, length, slice_index, IsErr, IfErr, IfOk, List, IsTrue};
 ghost use Rattle.std.specs.Borrow.{sem};
 ghost use Rattle.nd_shape_and_slice.specs.declared.errors.ErrorKind.{ErrorKind};
 ghost use Rattle.nd_shape_and_slice.specs.Axes.{HasEachAxis};
@@ -236,7 +236,7 @@ where
     /// axes. ndarray's `insert_axis`.
     pub fn insert_axis(self, axis: Axis) -> ArrayBase<S, D::Larger>
         requires place { axis.0 ≤ length (shape_of self) }
-        requires room { D.Larger.has_axes (length (shape_of self) + 1) ≡ true }
+        requires room { IsTrue (D.Larger.has_axes (length (shape_of self) + 1)) }
         ensures part { BecomesPart self (inserted_part self axis.0) result }
     {
         let layout = self.layout.insert_axis(axis.0);

@@ -2,7 +2,7 @@
 //! place, and as views to be read or written.
 #![tactic(auto, unfolding(crate::specs::Meaning::meaning_of, crate::specs::Meaning::memory_layout_of))]
 
-ghost use Rattle.std.specs.Prelude.{◌≡◌, ◌<◌, true, length, slice_index};
+ghost use Rattle.std.specs.Prelude.{◌≡◌, ◌<◌, length, slice_index, IsTrue};
 ghost use Rattle.std.specs.Borrow.{sem};
 ghost use Rattle.nd_shape_and_slice.specs.declared.slice.Slice.{Slice};
 ghost use Rattle.nd_shape_and_slice.specs.Shape.{size_of};
@@ -27,7 +27,7 @@ pub(crate) fn sliced_by<D: Dimension, I: SliceArg<D>>(
     layout: &Layout<D, D::Strides>,
     list: I,
 ) -> Layout<I::OutDim, <I::OutDim as Dimension>::Strides>
-    requires { fits_shape (D.lengths layout.now.dim) (I.elements_of list) ≡ true }
+    requires { IsTrue (fits_shape (D.lengths layout.now.dim) (I.elements_of list)) }
     ensures lengths { I.OutDim.lengths result.dim ≡ shape_after (D.lengths layout.now.dim) (I.elements_of list) }
     ensures step { IsStep layout.now.offset (D.lengths layout.now.dim) (D.Strides.strides_of layout.now.strides) result.offset (I.OutDim.lengths result.dim) (I.OutDim.Strides.strides_of result.strides) (index_before (D.lengths layout.now.dim) (I.elements_of list)) }
     ensures strides { I.OutDim.Strides.strides_of result.strides ≡ strides_after (D.lengths layout.now.dim) (D.Strides.strides_of layout.now.strides) (I.elements_of list) }
@@ -41,7 +41,7 @@ impl<S: Data, D: Dimension> ArrayBase<S, D> {
     /// 1. The list fits the shape (`SliceArg::fits`). ndarray's `slice_move`.
     #[inline]
     pub fn slice_move<I: SliceArg<D>>(self, info: I) -> ArrayBase<S, I::OutDim>
-        requires { fits_shape (shape_of self) (I.elements_of info) ≡ true }
+        requires { IsTrue (fits_shape (shape_of self) (I.elements_of info)) }
         ensures part { BecomesPart self (sliced_part self (I.elements_of info)) result }
     {
         let layout = sliced_by(&self.layout, info);
@@ -55,7 +55,7 @@ impl<S: Data, D: Dimension> ArrayBase<S, D> {
     /// 1. The list fits the shape (`SliceArg::fits`). ndarray's `slice`.
     #[inline]
     pub fn slice<I: SliceArg<D>>(&self, info: I) -> ArrayView<'_, S::Elem, I::OutDim>
-        requires { fits_shape (shape_of self.now) (I.elements_of info) ≡ true }
+        requires { IsTrue (fits_shape (shape_of self.now) (I.elements_of info)) }
         ensures part { ShowsPart self.now (sliced_part self.now (I.elements_of info)) result }
     {
         ArrayBase {
@@ -67,7 +67,7 @@ impl<S: Data, D: Dimension> ArrayBase<S, D> {
     /// Keeps of each axis what the list names; an indexed axis keeps length 1. The list fits the shape
     /// (`SliceArg::fits`) and adds no axis: it has as many elements as there are axes. ndarray's `slice_collapse`.
     pub fn slice_collapse<I: SliceArg<D>>(&mut self, info: I)
-        requires fits { fits_shape (shape_of self.old) (I.elements_of info) ≡ true }
+        requires fits { IsTrue (fits_shape (shape_of self.old) (I.elements_of info)) }
         requires no_new_axis { length (I.elements_of info) ≡ length (shape_of self.old) }
         ensures part { BecomesPart self.old (collapsed_by_part self.old (I.elements_of info)) self.new }
     {
@@ -79,7 +79,7 @@ impl<S: Data, D: Dimension> ArrayBase<S, D> {
     #[inline]
     pub fn slice_axis_inplace(&mut self, axis: Axis, slice: Slice)
         requires axis { axis.0 < length (shape_of self.old) }
-        requires fits { fits_axis (slice_index (shape_of self.old) axis.0) slice ≡ true }
+        requires fits { IsTrue (fits_axis (slice_index (shape_of self.old) axis.0) slice) }
         ensures part { BecomesPart self.old (axis_part self.old axis.0 slice) self.new }
     {
         self.layout.slice_axis(axis.0, slice);
@@ -90,7 +90,7 @@ impl<S: Data, D: Dimension> ArrayBase<S, D> {
     #[inline]
     pub fn slice_axis(&self, axis: Axis, slice: Slice) -> ArrayView<'_, S::Elem, D>
         requires axis { axis.0 < length (shape_of self.now) }
-        requires fits { fits_axis (slice_index (shape_of self.now) axis.0) slice ≡ true }
+        requires fits { IsTrue (fits_axis (slice_index (shape_of self.now) axis.0) slice) }
         ensures part { ShowsPart self.now (axis_part self.now axis.0 slice) result }
     {
         let mut view = self.view();
@@ -103,7 +103,7 @@ impl<S: Data, D: Dimension> ArrayBase<S, D> {
     #[inline]
     pub fn slice_axis_move(self, axis: Axis, slice: Slice) -> Self
         requires axis { axis.0 < length (shape_of self) }
-        requires fits { fits_axis (slice_index (shape_of self) axis.0) slice ≡ true }
+        requires fits { IsTrue (fits_axis (slice_index (shape_of self) axis.0) slice) }
         ensures part { BecomesPart self (axis_part self axis.0 slice) result }
     {
         let mut array = self;
@@ -143,7 +143,7 @@ impl<S: DataMut, D: Dimension> ArrayBase<S, D> {
     /// Once the view is over, a caller knows of the array what it knows after `view_mut`, and that each index that the
     /// view doesn't name shows what it showed (`kept`).
     pub fn slice_mut<I: SliceArg<D>>(&mut self, info: I) -> ArrayViewMut<'_, S::Elem, I::OutDim>
-        requires { fits_shape (shape_of self.old) (I.elements_of info) ≡ true }
+        requires { IsTrue (fits_shape (shape_of self.old) (I.elements_of info)) }
         ensures* writes_back { sem 𝓛 (array_follows_part S.row S.Elem.row D.row D.Pattern.row D.Strides.row D.Smaller.row D.Larger.row S.Data D.Dimension D.AxisCount D.Strides.StrideList self.entry (tie_of result) (lent_places result)) }
         ensures part { ShowsPart self.old (sliced_part self.old (I.elements_of info)) result }
         ensures refilled { LeavesRefilled S.frame self.old (left_by self.old result) }
@@ -160,7 +160,7 @@ impl<S: DataMut, D: Dimension> ArrayBase<S, D> {
     /// view doesn't name shows what it showed (`kept`).
     pub fn slice_axis_mut(&mut self, axis: Axis, slice: Slice) -> ArrayViewMut<'_, S::Elem, D>
         requires axis { axis.0 < length (shape_of self.old) }
-        requires fits { fits_axis (slice_index (shape_of self.old) axis.0) slice ≡ true }
+        requires fits { IsTrue (fits_axis (slice_index (shape_of self.old) axis.0) slice) }
         ensures* writes_back { sem 𝓛 (array_follows_part S.row S.Elem.row D.row D.Pattern.row D.Strides.row D.Smaller.row D.Larger.row S.Data D.Dimension D.AxisCount D.Strides.StrideList self.entry (tie_of result) (lent_places result)) }
         ensures part { ShowsPart self.old (axis_part self.old axis.0 slice) result }
         ensures refilled { LeavesRefilled S.frame self.old (left_by self.old result) }

@@ -22,8 +22,8 @@ where
     /// and clones nothing; else an array of clones in row-major order. A clone equals its original. NoMemory if storage
     /// or a clone is refused. ndarray's `as_standard_layout`.
     pub fn as_standard_layout(&self, alloc: Global) -> Result<ViewOrOwned<'_, S::Elem, D>, NoMemory>
-        requires clones { (IsStandardArray self.now → ⊥) → ClonesOfAllAreEqual S.Elem.is_clone (element_at self.now) }
-        ensures refused { IfErr result (λ _. IsStandardArray self.now → ⊥) }
+        requires clones { ¬ (IsStandardArray self.now) → ClonesOfAllAreEqual S.Elem.is_clone (element_at self.now) }
+        ensures refused { IfErr result (λ _. ¬ (IsStandardArray self.now)) }
         ensures kind { IfOk result (ViewsOrLaysOut self.now) }
         ensures standard { IsStandardArray self.now → AnswersView result }
     {

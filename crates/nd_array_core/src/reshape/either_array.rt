@@ -1,7 +1,7 @@
 //! A view of an array where that serves, and else an array of its own.
 #![tactic(auto, unfolding(crate::specs::Meaning::meaning_of, crate::specs::Meaning::memory_layout_of))]
 
-ghost use Rattle.std.specs.Prelude.{◌↔◌, ◌≡◌, IsTrue, true, false};
+ghost use Rattle.std.specs.Prelude.{◌↔◌, ◌≡◌, IsTrue, false};
 
 use crate::base::array::{ArrayBase, ArrayView};
 use nd_elements::storage::{Data, OwnedRepr, ViewRepr};
@@ -36,7 +36,7 @@ impl<A, V: Data<Elem = A>, S: Data<Elem = A>, D: Dimension> EitherArray<A, V, S,
 
     /// Whether it owns its elements. ndarray's `CowArray::is_owned`.
     pub fn is_owned(&self) -> bool
-        ensures { result ≡ false ↔ is_view_in self.now ≡ true }
+        ensures { result ≡ false ↔ IsTrue (is_view_in self.now) }
     {
         !self.is_view()
     }

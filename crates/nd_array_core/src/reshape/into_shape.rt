@@ -123,7 +123,7 @@ impl<S: Data + Drop, D: Dimension> ArrayBase<S, D> {
     pub fn into_shape<E: IntoDimension>(self, shape: E) -> Result<ArrayBase<S, E::Dim>, ShapeError>
         ensures refused { IfErr result (IsRefusedInBoth (shape_of self) (layout_strides self) (E.lengths_given shape)) }
         ensures rows { LiesInOrder RowMajor self → IfOk result (IsReshapeOf self RowMajor (E.lengths_given shape)) }
-        ensures columns { (LiesInOrder RowMajor self → ⊥) → IfOk result (IsReshapeOf self ColumnMajor (E.lengths_given shape)) }
+        ensures columns { ¬ (LiesInOrder RowMajor self) → IfOk result (IsReshapeOf self ColumnMajor (E.lengths_given shape)) }
         ensures shape { IfOk result (λ _. IsShapeOf (shape_of self) (E.lengths_given shape)) }
         ensures offset { IfOk result (λ a. layout_offset a ≡ layout_offset self) }
     {

@@ -1,7 +1,7 @@
 //! Questions about how an array's elements lie.
 #![tactic(auto, unfolding(crate::specs::Meaning::meaning_of, crate::specs::Meaning::memory_layout_of))]
 
-ghost use Rattle.std.specs.Prelude.{◌↔◌, ◌≡◌, ◌<◌, IsTrue, true, false, length};
+ghost use Rattle.std.specs.Prelude.{◌↔◌, ◌≡◌, ◌<◌, IsTrue, false, length};
 ghost use Rattle.nd_layout.specs.Merging.{StepsFurthest, CanMerge};
 ghost use Rattle.nd_array_core.specs.Meaning.{shape_of, layout_strides, layout_offset};
 ghost use Rattle.nd_array_core.specs.Part.{merged_part, BecomesPart, BecomesWhole};
@@ -38,7 +38,7 @@ impl<S: Data, D: Dimension> ArrayBase<S, D> {
         requires take { take.0 < length (shape_of self.old) }
         requires into { into.0 < length (shape_of self.old) }
         ensures merges { IsTrue result ↔ CanMerge (shape_of self.old) (layout_strides self.old) take.0 into.0 }
-        ensures part { result ≡ true → BecomesPart self.old (merged_part self.old take.0 into.0) self.new }
+        ensures part { IsTrue result → BecomesPart self.old (merged_part self.old take.0 into.0) self.new }
         ensures kept { result ≡ false → BecomesWhole self.old self.new }
         ensures offset { layout_offset self.new ≡ layout_offset self.old }
     {

@@ -92,7 +92,7 @@ where
         order: Order,
     ) -> Result<ViewOrOwned<'_, S::Elem, Ix1>, NoMemory>
         requires clones { CopiesAreEqual S.Elem.is_clone self.now order (flat_shape self.now) }
-        ensures refused { IfErr result (λ _. StridesServe self.now order (flat_shape self.now) → ⊥) }
+        ensures refused { IfErr result (λ _. ¬ (StridesServe self.now order (flat_shape self.now))) }
         ensures kind { IfOk result (ViewsOrCopies self.now order (flat_shape self.now)) }
         ensures shown { IfOk result (ShowsRegrouped self.now order (flat_shape self.now)) }
         ensures serves { IsViewIfServed self.now order (flat_shape self.now) result }
@@ -108,7 +108,7 @@ where
     /// storage or a clone is refused. ndarray's `flatten`.
     pub fn flatten(&self, alloc: Global) -> Result<ViewOrOwned<'_, S::Elem, Ix1>, NoMemory>
         requires clones { CopiesAreEqual S.Elem.is_clone self.now RowMajor (flat_shape self.now) }
-        ensures refused { IfErr result (λ _. StridesServe self.now RowMajor (flat_shape self.now) → ⊥) }
+        ensures refused { IfErr result (λ _. ¬ (StridesServe self.now RowMajor (flat_shape self.now))) }
         ensures kind { IfOk result (ViewsOrCopies self.now RowMajor (flat_shape self.now)) }
         ensures shown { IfOk result (ShowsRegrouped self.now RowMajor (flat_shape self.now)) }
         ensures serves { IsViewIfServed self.now RowMajor (flat_shape self.now) result }
@@ -171,7 +171,7 @@ impl<A: Clone + Drop, D: Dimension> Array<A, D> {
     /// original. NoMemory if storage or a clone is refused; the array is then dropped. ndarray's `into_flat`.
     pub fn into_flat(self, alloc: Global) -> Result<Array<A, Ix1>, NoMemory>
         requires clones { CopiesAreEqual A.is_clone self RowMajor (flat_shape self) }
-        ensures refused { IfErr result (λ _. StridesServe self RowMajor (flat_shape self) → ⊥) }
+        ensures refused { IfErr result (λ _. ¬ (StridesServe self RowMajor (flat_shape self))) }
         ensures kind { IfOk result (KeptOrCopied self RowMajor (flat_shape self)) }
         ensures serves { KeepsStorageIfServed self RowMajor (flat_shape self) result }
     {

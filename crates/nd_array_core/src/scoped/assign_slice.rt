@@ -1,7 +1,7 @@
 //! A part of an array written from another array, or changed by a closure, through a view that is lent for the call.
 #![tactic(auto)]
 
-ghost use Rattle.std.specs.Prelude.{◌≡◌, ℕ, true, List, OnOk, OnErr};
+ghost use Rattle.std.specs.Prelude.{◌≡◌, ℕ, List, OnOk, OnErr, IsTrue};
 ghost use Rattle.nd_shape_and_slice.specs.SliceInfo.{fits_shape};
 ghost use Rattle.nd_elements.specs.CloneRefusals.{MayRefuseClone};
 ghost use Rattle.nd_elements.specs.Clones.{ClonesOfAllAreEqual};
@@ -93,7 +93,7 @@ impl<A: Clone + Drop, S: DataMut<Elem = A>, D: Dimension> ArrayBase<S, D> {
         info: I,
         patch: &ArrayBase<Z, E>,
     ) -> Result<(), NoMemory>
-        requires fits { fits_shape (shape_of self.old) (I.elements_of info) ≡ true }
+        requires fits { IsTrue (fits_shape (shape_of self.old) (I.elements_of info)) }
         requires same { FitsPart self.old (I.elements_of info) patch.now }
         requires clones { ClonesOfAllAreEqual A.is_clone (element_at patch.now) }
         ensures assigned { OnOk result (AssignsPart self.old self.new (I.elements_of info) patch.now) }
@@ -120,7 +120,7 @@ impl<S: DataMut, D: Dimension> ArrayBase<S, D> {
     /// other index keeps its element. The list fits the shape (`SliceArg::fits`); the function may be called with whatever such
     /// calls lead to. This project's own, beside ndarray's `slice_mut(info).map_inplace(f)`.
     pub fn map_slice<I: SliceArg<D>, F: FnMut(&mut S::Elem) + Drop>(&mut self, info: I, f: F)
-        requires fits { fits_shape (shape_of self.old) (I.elements_of info) ≡ true }
+        requires fits { IsTrue (fits_shape (shape_of self.old) (I.elements_of info)) }
         requires callable { ChangeableInPart F.FnMut self.old (I.elements_of info) f }
         ensures visits { ChangesPart F.FnMut self.old self.new (I.elements_of info) f }
         ensures named { ChangesNamed F.FnMut self.old self.new (I.elements_of info) f }

@@ -1,7 +1,7 @@
 //! A part of an array filled, through a view that is lent for the call.
 #![tactic(auto)]
 
-ghost use Rattle.std.specs.Prelude.{◌≡◌, ℕ, true, List, Some, OnOk, OnErr};
+ghost use Rattle.std.specs.Prelude.{◌≡◌, ℕ, List, Some, OnOk, OnErr, IsTrue};
 ghost use Rattle.nd_shape_and_slice.specs.Shape.{size_of};
 ghost use Rattle.nd_shape_and_slice.specs.SliceInfo.{fits_shape};
 ghost use Rattle.nd_array_core.specs.PlacedArray.{element_placed};
@@ -59,7 +59,7 @@ where
     /// nothing else: each index that is named then has its old element or the value. This project's own, beside ndarray's
     /// `slice_mut(info).fill(value)`.
     pub fn fill_slice<I: SliceArg<D>>(&mut self, info: I, value: S::Elem) -> Result<(), NoMemory>
-        requires fits { fits_shape (shape_of self.old) (I.elements_of info) ≡ true }
+        requires fits { IsTrue (fits_shape (shape_of self.old) (I.elements_of info)) }
         requires clones { (copy : S.Elem) → S.Elem.is_clone value copy → copy ≡ value }
         ensures filled { OnOk result (IsFilledWith self.new (sliced_part self.old (I.elements_of info)) value) }
         ensures stopped { OnErr result (IsOldOrFilled self.old self.new (sliced_part self.old (I.elements_of info)) value) }

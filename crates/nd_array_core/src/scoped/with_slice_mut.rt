@@ -1,7 +1,7 @@
 //! Calls that lend a mutable view of a part of an array to a task for their length.
 #![tactic(auto, unfolding(crate::specs::Meaning::meaning_of, crate::specs::Meaning::memory_layout_of))]
 
-ghost use Rattle.std.specs.Prelude.{◌≡◌, ◌<◌, true, length, slice_index};
+ghost use Rattle.std.specs.Prelude.{◌≡◌, ◌<◌, length, slice_index, IsTrue};
 ghost use Rattle.nd_shape_and_slice.specs.Slice.{fits_axis, sliced_shape};
 ghost use Rattle.nd_layout.specs.Placements.{placement_of, IsSlicedStep};
 ghost use Rattle.nd_shape_and_slice.specs.SliceInfo.{fits_shape};
@@ -23,7 +23,7 @@ fn sliced_on<D: Dimension, T: StrideList>(
     slice: Slice,
 ) -> Layout<D, T>
     requires on { axis < length (D.lengths layout.now.dim) }
-    requires fits { fits_axis (slice_index (D.lengths layout.now.dim) axis) slice ≡ true }
+    requires fits { IsTrue (fits_axis (slice_index (D.lengths layout.now.dim) axis) slice) }
     ensures lengths { D.lengths result.dim ≡ sliced_shape (D.lengths layout.now.dim) axis slice }
     ensures step { IsSlicedStep (placement_of layout.now) (placement_of result) axis slice }
 {
@@ -43,7 +43,7 @@ impl<S: DataMut, D: Dimension> ArrayBase<S, D> {
         info: I,
         task: K,
     ) -> K::Answer
-        requires fits { fits_shape (shape_of self.old) (I.elements_of info) ≡ true }
+        requires fits { IsTrue (fits_shape (shape_of self.old) (I.elements_of info)) }
         requires callable { AsksOfPart (K.pre task) self.old (sliced_part self.old (I.elements_of info)) }
         ensures frame { KeepsFrame S.frame self.old self.new }
         ensures kept { KeepsBut self.old self.new (sliced_part self.old (I.elements_of info)) }
@@ -63,7 +63,7 @@ impl<S: DataMut, D: Dimension> ArrayBase<S, D> {
         task: K,
     ) -> K::Answer
         requires axis { axis.0 < length (shape_of self.old) }
-        requires fits { fits_axis (slice_index (shape_of self.old) axis.0) slice ≡ true }
+        requires fits { IsTrue (fits_axis (slice_index (shape_of self.old) axis.0) slice) }
         requires callable { AsksOfPart (K.pre task) self.old (axis_part self.old axis.0 slice) }
         ensures frame { KeepsFrame S.frame self.old self.new }
         ensures kept { KeepsBut self.old self.new (axis_part self.old axis.0 slice) }

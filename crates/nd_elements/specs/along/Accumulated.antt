@@ -1,5 +1,5 @@
 -- Closures that go along an axis: each call is shown the element before, as the call there left it, and handed one to be written.
-use Rattle.std.specs.Prelude.{◌≡◌, ◌+◌, ◌-◌, ◌<◌, ℕ, suc, List, length, Option, Some, true, ℤ, pos, slice_get, slice_index}
+use Rattle.std.specs.Prelude.{◌≡◌, ◌+◌, ◌-◌, ◌<◌, ℕ, suc, List, length, Option, Some, ℤ, pos, slice_get, slice_index, IsTrue}
 use Rattle.std.specs.Borrow.{Bor, MutBor}
 use Rattle.std.specs.Fn.{Mut, Called}
 use Rattle.nd_shape_and_slice.specs.Shape.{in_box}
@@ -24,15 +24,15 @@ run_at r p k = region_stored r (p + k)
 
 -- no place but one changed
 abbrev pub LeavesAllBut : {S A : Type 0} → (S → ℕ → Option A) → ℤ → S → S → Type 0
-LeavesAllBut stored z old new = (p : ℕ) → (pos p ≡ z → ⊥) → stored new p ≡ stored old p
+LeavesAllBut stored z old new = (p : ℕ) → ¬ (pos p ≡ z) → stored new p ≡ stored old p
 
 -- two runs have no place together
 abbrev pub AreRunsApart : ℕ → ℕ → ℕ → Type 0
-AreRunsApart p q count = (j k : ℕ) → j < count → k < count → p + j ≡ q + k → ⊥
+AreRunsApart p q count = (j k : ℕ) → j < count → k < count → ¬ (p + j ≡ q + k)
 
 -- the first element of each lane of an axis is the old one
 abbrev pub StartsAlong : {A : Type 0} → List ℕ → ℕ → (List ℕ → Option A) → (List ℕ → Option A) → Type 0
-StartsAlong shape a old new = (i : List ℕ) → in_box shape i ≡ true → slice_index i a ≡ 0 → new i ≡ old i
+StartsAlong shape a old new = (i : List ℕ) → IsTrue (in_box shape i) → slice_index i a ≡ 0 → new i ≡ old i
 
 -- each element that has one before it is what h gives of the new one there and the old one
 abbrev pub AreAccumulatedBy : {A : Type 0} → (A → A → A) → ℕ → (List ℕ → Option A) → (List ℕ → Option A) → Type 0
@@ -89,7 +89,7 @@ module _ {F A : Type 0} (g : Mut F (Bor A × (MutBor A × Unit {0})) (Unit {0} �
   -- along a lane that many calls, one after the other, each shown the place before; and nothing else changed
   pub record IsAccumulated (place : ℕ → ℤ) (count : ℕ) (old new : ℕ → Option A) (first last : F) : Type 0 where
     pub calls : RanTo (λ p k q. ChangesAfter (stored_at new (place k)) (stored_at old (place (suc k))) (stored_at new (place (suc k))) p q) first count last
-    pub left : (p : ℕ) → ((k : ℕ) → k < count → place (suc k) ≡ pos p → ⊥) → new p ≡ old p
+    pub left : (p : ℕ) → ((k : ℕ) → k < count → ¬ (place (suc k) ≡ pos p)) → new p ≡ old p
 
   -- whichever calls of a lane came before, the next may be made
   abbrev pub TakesLane : (ℕ → ℤ) → ℕ → (ℕ → Option A) → F → Type 0
@@ -135,7 +135,7 @@ module _ {F A : Type 0} (g : Mut F (Bor A × (MutBor A × Unit {0})) (Unit {0} �
     pub number : ℕ → ℕ → ℕ
     pub pairs : IsPairing lanes count all lane column number
     pub calls : AccumulatesNumbered lane column (λ r k. stored_at old (place r k)) (λ r k. stored_at new (place r k)) first all last
-    pub left : (p : ℕ) → ((r k : ℕ) → r < lanes → k < count → place r (suc k) ≡ pos p → ⊥) → new p ≡ old p
+    pub left : (p : ℕ) → ((r k : ℕ) → r < lanes → k < count → ¬ (place r (suc k) ≡ pos p)) → new p ≡ old p
 
   -- whichever calls came before in such an order, the next may be made
   abbrev pub TakesLanes : (ℕ → ℕ → ℤ) → ℕ → ℕ → (ℕ → Option A) → F → Type 0

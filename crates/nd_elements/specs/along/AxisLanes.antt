@@ -1,5 +1,5 @@
 -- The lanes of an axis: the places that differ in its coordinate alone, by the place of the first of them.
-use Rattle.std.specs.Prelude.{◌≡◌, ◌+◌, ◌<◌, ℕ, ℤ, pos, ◌+ℤ◌, ◌*ℤ◌, true, List, Option, slice_index}
+use Rattle.std.specs.Prelude.{◌≡◌, ◌+◌, ◌<◌, ℕ, ℤ, pos, ◌+ℤ◌, ◌*ℤ◌, List, Option, slice_index, IsTrue}
 use Rattle.nd_shape_and_slice.specs.Shape.{size_of}
 use Rattle.nd_shape_and_slice.specs.Maps.{indexed_index}
 use Rattle.nd_layout.specs.Placements.{Placement, IsStepOf}
@@ -14,7 +14,7 @@ lane_place first lengths strides stride r k = place_at_rank first lengths stride
 
 -- all of them are places
 abbrev pub LanesReach : (ℕ → ℕ → ℤ) → ℕ → ℕ → Type 0
-LanesReach place lanes count = (r k : ℕ) → r < lanes → k < count → is_place (place r k) ≡ true
+LanesReach place lanes count = (r k : ℕ) → r < lanes → k < count → IsTrue (is_place (place r k))
 
 -- no two of them are the same
 abbrev pub LanesDistinct : (ℕ → ℕ → ℤ) → ℕ → ℕ → Type 0
@@ -50,7 +50,7 @@ LanesDiffer at = LanesDistinct at.place at.lanes at.count
 
 -- a storage holds an element at each of them
 abbrev pub LanesHold : {S A : Type 0} → (S → ℕ → Option A) → LanePlaces → S → Type 0
-LanesHold stored at s = (r k : ℕ) → r < at.lanes → k < at.count → names_place (stored s) (at.place r k) ≡ true
+LanesHold stored at s = (r k : ℕ) → r < at.lanes → k < at.count → IsTrue (names_place (stored s) (at.place r k))
 
 -- numbers of so many lanes and coordinates, each pair once, in which the coordinates of a lane rise
 pub record IsPairing (lanes count all : ℕ) (lane column : ℕ → ℕ) (number : ℕ → ℕ → ℕ) : Type 0 where

@@ -26,7 +26,7 @@ line_at stored at s = line_of (elements_at stored at s) at.count
 
 -- no other place changed
 abbrev pub ChangesNoOther : {S A : Type 0} → (S → ℕ → Option A) → Numbered → S → S → Type 0
-ChangesNoOther stored at old new = (p : ℕ) → ((k : ℕ) → k < at.count → at.place k ≡ pos p → ⊥) → stored new p ≡ stored old p
+ChangesNoOther stored at old new = (p : ℕ) → ((k : ℕ) → k < at.count → ¬ (at.place k ≡ pos p)) → stored new p ≡ stored old p
 
 -- that many lanes of a storage, each of so many elements; `place` tells the k-th place of the lane of a number
 abbrev pub lanes_held : {A : Type 0} → (ℕ → ℕ → ℤ) → ℕ → ℕ → (ℕ → Option A) → ℕ → Option (Meaning A)
@@ -79,7 +79,7 @@ module _ {F A B : Type 0} (g : Mut F (MutBor (LaneMut A) × Unit {0}) (B × (Mut
     -- so many of the lanes were handed out, one after the other, and nothing else changed
     pub record AreHandedOut (lanes count done : ℕ) (old new : ℕ → Option A) (first : F) (last : F × List B) : Type 0 where
       pub calls : IsChangedBy (Replaces (Collects LeavesLane)) (λ r. pos r) done (lanes_held place lanes count old) (lanes_held place lanes count new) (first, []) last
-      pub left : (p : ℕ) → ((r k : ℕ) → r < done → k < count → place r k ≡ pos p → ⊥) → new p ≡ old p
+      pub left : (p : ℕ) → ((r k : ℕ) → r < done → k < count → ¬ (place r k ≡ pos p)) → new p ≡ old p
 
   -- ---- the same of a storage
   module _ {S : Type 0} (stored : S → ℕ → Option A) where

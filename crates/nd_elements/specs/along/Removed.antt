@@ -46,12 +46,12 @@ module _ {A : Type 0} (old new : ℕ → Option A) where
   -- each of the first n numbered places holds what the one numbered by the map held, and all others are as they were
   pub record IsMovedBy (place : ℕ → ℤ) (n : ℕ) (from : ℕ → ℕ) : Type 0 where
     pub done : (k : ℕ) → k < n → stored_at new (place k) ≡ stored_at old (place (from k))
-    pub left : (p : ℕ) → ((k : ℕ) → k < n → place k ≡ pos p → ⊥) → new p ≡ old p
+    pub left : (p : ℕ) → ((k : ℕ) → k < n → ¬ (place k ≡ pos p)) → new p ≡ old p
 
   -- so in each of that many lanes
   pub record AreMovedBy (place : ℕ → ℕ → ℤ) (lanes n : ℕ) (from : ℕ → ℕ) : Type 0 where
     pub done : (r k : ℕ) → r < lanes → k < n → stored_at new (place r k) ≡ stored_at old (place r (from k))
-    pub left : (p : ℕ) → ((r k : ℕ) → r < lanes → k < n → place r k ≡ pos p → ⊥) → new p ≡ old p
+    pub left : (p : ℕ) → ((r k : ℕ) → r < lanes → k < n → ¬ (place r k ≡ pos p)) → new p ≡ old p
 
 -- the same of a storage
 module _ {S A : Type 0} (stored : S → ℕ → Option A) where

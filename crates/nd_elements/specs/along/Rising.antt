@@ -1,5 +1,5 @@
 -- Calls for the indexes of a shape, each once, in which every lane of an axis is gone along from its first index on.
-use Rattle.std.specs.Prelude.{◌≡◌, ◌+◌, ◌<◌, ℕ, true, List, [], ◌∷◌, ◌++◌, Some, slice_get, slice_index, slice_set}
+use Rattle.std.specs.Prelude.{◌≡◌, ◌+◌, ◌<◌, ℕ, List, [], ◌∷◌, ◌++◌, Some, slice_get, slice_index, slice_set, IsTrue}
 use Rattle.std.specs.List.{FoldsTo}
 use Rattle.nd_shape_and_slice.specs.Shape.{in_box}
 use Rattle.nd_elements.specs.FreeOrder.{ListsBox, ListsPartOfBox}
@@ -20,5 +20,5 @@ module _ {P : Type 0} (shape : List ℕ) (a : ℕ) where
   -- whichever indexes were visited so, the next call may be made; M is what the calls may have left
   abbrev pub CallableAlong : {M : Type 0} → (M → Type 0) → (M → P → List ℕ → P → Type 0) → (M → P → List ℕ → Type 0) → P → Type 0
   CallableAlong {M} starts call takes first =
-      (left : M) (before : List (List ℕ)) (now : P) (next : List ℕ) → starts left → in_box shape next ≡ true → ListsPartOfBox shape (next ∷ before)
+      (left : M) (before : List (List ℕ)) (now : P) (next : List ℕ) → starts left → IsTrue (in_box shape next) → ListsPartOfBox shape (next ∷ before)
       → RisesAlong a (before ++ next ∷ []) → FoldsTo (call left) first before now → takes left now next

@@ -10,12 +10,12 @@ module _ {A : Type 0} (given : ℕ → Option A) (place : ℕ → ℤ) (count : 
   -- the element given for each number below a count stands at its place, and all others are as they were
   pub record IsAssignedTo : Type 0 where
     pub done : (k : ℕ) → k < count → stored_at new (place k) ≡ given k
-    pub left : (p : ℕ) → ((k : ℕ) → k < count → place k ≡ pos p → ⊥) → new p ≡ old p
+    pub left : (p : ℕ) → ((k : ℕ) → k < count → ¬ (place k ≡ pos p)) → new p ≡ old p
 
   -- at each of these places stands what did, or what is given; all others are as they were
   pub record IsPartlyAssigned : Type 0 where
     pub each : (k : ℕ) → k < count → (stored_at new (place k) ≡ stored_at old (place k)) ⊎ (stored_at new (place k) ≡ given k)
-    pub left : (p : ℕ) → ((k : ℕ) → k < count → place k ≡ pos p → ⊥) → new p ≡ old p
+    pub left : (p : ℕ) → ((k : ℕ) → k < count → ¬ (place k ≡ pos p)) → new p ≡ old p
 
 -- the same of two storages, at places with one number: the elements that a second one has beside are given
 module _ {S Z A : Type 0} (stored : S → ℕ → Option A) (others_stored : Z → ℕ → Option A) where

@@ -16,7 +16,7 @@ AreDistinct place count = (j k : ℕ) → j < count → k < count → place j �
 -- one for each of the places numbered below a count, one after the other, and nothing else changed
 pub record IsChangedBy {P A : Type 0} (call : Option A → Option A → P → P → Type 0) (place : ℕ → ℤ) (count : ℕ) (old new : ℕ → Option A) (first last : P) : Type 0 where
   pub calls : RanTo (λ p k q. call (stored_at old (place k)) (stored_at new (place k)) p q) first count last
-  pub left : (p : ℕ) → ((k : ℕ) → k < count → place k ≡ pos p → ⊥) → new p ≡ old p
+  pub left : (p : ℕ) → ((k : ℕ) → k < count → ¬ (place k ≡ pos p)) → new p ≡ old p
 
 module _ {F A : Type 0} (g : Mut F (MutBor A × Unit {0}) (Unit {0} × (MutBor A × Unit {0}))) where
   -- a call that is handed an element and leaves another

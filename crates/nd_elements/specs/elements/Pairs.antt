@@ -24,7 +24,7 @@ module _ {F A : Type 0} (call : ℕ → Option A → Option A → F → F → Ty
   -- the places numbered below a count were rewritten one after the other, and nothing else changed
   pub record IsRewrittenTo (place : ℕ → ℤ) (count : ℕ) (old new : ℕ → Option A) (first last : F) : Type 0 where
     pub calls : RanTo (λ p k q. call k (stored_at old (place k)) (stored_at new (place k)) p q) first count last
-    pub left : (p : ℕ) → ((k : ℕ) → k < count → place k ≡ pos p → ⊥) → new p ≡ old p
+    pub left : (p : ℕ) → ((k : ℕ) → k < count → ¬ (place k ≡ pos p)) → new p ≡ old p
 
 module _ {F A B : Type 0} (g : Mut F (MutBor A × (Bor B × Unit {0})) (Unit {0} × (MutBor A × Unit {0}))) where
   -- a call that is handed an element with another beside it, and leaves a new one

@@ -1,5 +1,5 @@
 -- Owned elements that lie so that more can follow along an axis.
-use Rattle.std.specs.Prelude.{ℕ, ◌+◌, ◌≤◌, ◌≡◌, true, false, List, length, slice_get, ℤ}
+use Rattle.std.specs.Prelude.{ℕ, ◌+◌, ◌≤◌, ◌≡◌, false, List, length, slice_get, ℤ, IsTrue}
 use Rattle.nd_shape_and_slice.specs.Shape.{size_of, in_box}
 use Rattle.nd_shape_and_slice.specs.Place.{place_of}
 use Rattle.nd_layout.specs.Growth.{growing_strides, must_move}
@@ -25,5 +25,5 @@ IsLaidAnew axis more old new storage = IsLaidToGrow axis more old.lengths new.of
 -- each index of the one layout has its element in the other
 abbrev pub ShowsAlike : {A : Type 0} → OwnedRepr A → Placement → OwnedRepr A → Placement → Type 0
 ShowsAlike old from new to =
-    (i : List ℕ) → in_box from.lengths i ≡ true
+    (i : List ℕ) → IsTrue (in_box from.lengths i)
     → stored_at (slice_get (stored_list new)) (place_of to.offset to.strides i) ≡ stored_at (slice_get (stored_list old)) (place_of from.offset from.strides i)

@@ -39,7 +39,7 @@ fn change_inside<'b, A, F: FnMut(&A, &mut A)>(
     q: usize,
     f: F,
 ) -> (Region<'b, A>, F)
-    requires apart { p ≡ q → ⊥ }
+    requires apart { ¬ (p ≡ q) }
     requires holds { IsSome (region_stored region p) × IsSome (region_stored region q) }
     requires callable { TakesAfter F.FnMut (region_stored region p) (region_stored region q) f }
     ensures { ChangedInside F.FnMut region.entry p q f result }
@@ -81,7 +81,7 @@ fn change_after<S: DataMut, F: FnMut(&S::Elem, &mut S::Elem)>(
         &[2],
         &[lane.stride],
         |region|
-            requires apart { from ≡ to → ⊥ }
+            requires apart { ¬ (from ≡ to) }
             requires holds { IsSome (region_stored region from) × IsSome (region_stored region to) }
             requires callable { TakesAfter F.FnMut (region_stored region from) (region_stored region to) f }
             ensures changed { ChangedInside F.FnMut region.entry from to f result }

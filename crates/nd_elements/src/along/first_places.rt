@@ -1,6 +1,6 @@
 //! The lanes of an axis.
 
-ghost use Rattle.std.specs.Prelude.{◌≡◌, ◌<◌, ◌^◌, ◌+ℤ◌, ◌*ℤ◌, ℕ, true, pos, length};
+ghost use Rattle.std.specs.Prelude.{◌≡◌, ◌<◌, ◌^◌, ◌+ℤ◌, ◌*ℤ◌, ℕ, pos, length, IsTrue};
 ghost use Rattle.nd_shape_and_slice.specs.Maps.{indexed_shape};
 ghost use Rattle.nd_layout.specs.Places.{is_place};
 ghost use Rattle.nd_layout.specs.Placements.{placement_of};
@@ -14,7 +14,7 @@ use nd_shape_and_slice::{Axis, Dimension, Order, RemoveAxis, StrideList};
 #[tactic(auto, using(crate::proofs::AxisLanes::lane_starts))]
 pub fn lane_from(place: usize, count: usize, stride: isize) -> Lane
     requires few { count < 2 ^ 63 }
-    requires reach { (k : ℕ) → k < count → is_place (pos place +ℤ (pos k *ℤ stride)) ≡ true }
+    requires reach { (k : ℕ) → k < count → IsTrue (is_place (pos place +ℤ (pos k *ℤ stride))) }
     ensures lane { (result.place ≡ place) × (result.count ≡ count) × (result.stride ≡ stride) }
 {
     Lane {

@@ -13,7 +13,7 @@ fn change_element<S: DataMut, F: FnMut(&mut S::Elem)>(storage: &mut S, place: us
     requires holds { IsSome (S.stored storage.old place) }
     requires callable { MayChangeAt F.FnMut S.stored place storage.old f }
     ensures called { ChangesAt F.FnMut S.stored place storage.old storage.new f result }
-    ensures left { (p : ℕ) → (p ≡ place → ⊥) → S.stored storage.new p ≡ S.stored storage.old p }
+    ensures left { (p : ℕ) → ¬ (p ≡ place) → S.stored storage.new p ≡ S.stored storage.old p }
     ensures frame { S.frame storage.new ≡ S.frame storage.old }
 {
     f(storage.element_mut(place));

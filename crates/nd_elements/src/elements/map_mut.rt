@@ -19,7 +19,7 @@ fn hand_element<S: DataMut, B, F: FnMut(&mut S::Elem) -> B>(
     requires holds { IsSome (S.stored storage.old place) }
     requires callable { MayHandAt F.FnMut S.stored place storage.old f }
     ensures called { HandsAt F.FnMut S.stored place storage.old storage.new f result }
-    ensures left { (p : ℕ) → (p ≡ place → ⊥) → S.stored storage.new p ≡ S.stored storage.old p }
+    ensures left { (p : ℕ) → ¬ (p ≡ place) → S.stored storage.new p ≡ S.stored storage.old p }
     ensures frame { S.frame storage.new ≡ S.frame storage.old }
 {
     let answer = f(storage.element_mut(place));

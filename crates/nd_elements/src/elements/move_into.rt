@@ -23,8 +23,8 @@ fn exchange<A, S: DataMut<Elem = A>, Z: DataMut<Elem = A>>(
     requires other_holds { IsSome (Z.stored others.old other) }
     ensures put { S.stored storage.new place ≡ Z.stored others.old other }
     ensures taken { Z.stored others.new other ≡ S.stored storage.old place }
-    ensures left { (p : ℕ) → (p ≡ place → ⊥) → S.stored storage.new p ≡ S.stored storage.old p }
-    ensures other_left { (p : ℕ) → (p ≡ other → ⊥) → Z.stored others.new p ≡ Z.stored others.old p }
+    ensures left { (p : ℕ) → ¬ (p ≡ place) → S.stored storage.new p ≡ S.stored storage.old p }
+    ensures other_left { (p : ℕ) → ¬ (p ≡ other) → Z.stored others.new p ≡ Z.stored others.old p }
     ensures frame { S.frame storage.new ≡ S.frame storage.old }
 {
     mem::swap(storage.element_mut(place), others.element_mut(other));

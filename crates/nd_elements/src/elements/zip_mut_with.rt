@@ -22,7 +22,7 @@ fn change_with<B, S: DataMut, F: FnMut(&mut S::Elem, &B)>(
     requires holds { IsSome (S.stored storage.old place) }
     requires callable { TakesBoth F.FnMut (Some other.now) (S.stored storage.old place) f }
     ensures called { ChangesBoth F.FnMut S.stored (Some other.now) place storage.old storage.new f result }
-    ensures left { (p : ℕ) → (p ≡ place → ⊥) → S.stored storage.new p ≡ S.stored storage.old p }
+    ensures left { (p : ℕ) → ¬ (p ≡ place) → S.stored storage.new p ≡ S.stored storage.old p }
     ensures frame { S.frame storage.new ≡ S.frame storage.old }
 {
     f(storage.element_mut(place), other);

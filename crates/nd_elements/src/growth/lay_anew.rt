@@ -1,6 +1,6 @@
 //! Elements moved out of a vector in the order of a layout.
 
-ghost use Rattle.std.specs.Prelude.{◌≡◌, ◌+◌, ◌<◌, ◌≤◌, ℕ, true, Some, IfOk, OnOk, OnErr, is_some, length, slice_get, vec_len, vec_capacity, ◌^◌};
+ghost use Rattle.std.specs.Prelude.{◌≡◌, ◌+◌, ◌<◌, ◌≤◌, ℕ, Some, IfOk, OnOk, OnErr, is_some, length, slice_get, vec_len, vec_capacity, ◌^◌, IsTrue};
 ghost use Rattle.std.specs.Mem.Slots.{slots_len, SamePlaces};
 ghost use Rattle.nd_shape_and_slice.specs.Shape.{size_of};
 ghost use Rattle.nd_shape_and_slice.specs.Place.{IsSeparated};
@@ -54,8 +54,8 @@ fn marks_of<A>(
 #[inline(always)]
 fn seat_if<A: Drop>(seats: &mut Slots<A>, place: usize, item: A, is_wanted: bool)
     requires { place < slots_len seats.old }
-    ensures seated { is_wanted ≡ true → seated seats.new place ≡ Some item }
-    ensures left { (p : ℕ) → (p ≡ place → ⊥) → seated seats.new p ≡ seated seats.old p }
+    ensures seated { IsTrue is_wanted → seated seats.new place ≡ Some item }
+    ensures left { (p : ℕ) → ¬ (p ≡ place) → seated seats.new p ≡ seated seats.old p }
     ensures places { SamePlaces seats.old seats.new }
 {
     if is_wanted {
@@ -66,7 +66,7 @@ fn seat_if<A: Drop>(seats: &mut Slots<A>, place: usize, item: A, is_wanted: bool
 /// Moves the elements of a vector to empty places, each to its own; those that aren't kept are dropped.
 fn seat_all<A: Drop>(items: Vec<A>, seats: Slots<A>, marks: &[bool]) -> Slots<A>
     requires { slots_len seats ≡ vec_len items }
-    ensures seated { (p : ℕ) → is_kept marks.now p ≡ true → seated result p ≡ slice_get items.items p }
+    ensures seated { (p : ℕ) → IsTrue (is_kept marks.now p) → seated result p ≡ slice_get items.items p }
     ensures places { SamePlaces seats result }
 {
     let mut items = items;
@@ -81,9 +81,9 @@ fn seat_all<A: Drop>(items: Vec<A>, seats: Slots<A>, marks: &[bool]) -> Slots<A>
 /// Takes the element that sits at a place.
 #[inline(always)]
 fn take_at<A>(seats: &mut Slots<A>, place: usize) -> A
-    requires { is_some (seated seats.old place) ≡ true }
+    requires { IsTrue (is_some (seated seats.old place)) }
     ensures value { seated seats.old place ≡ Some result }
-    ensures left { (p : ℕ) → (p ≡ place → ⊥) → seated seats.new p ≡ seated seats.old p }
+    ensures left { (p : ℕ) → ¬ (p ≡ place) → seated seats.new p ≡ seated seats.old p }
     ensures places { SamePlaces seats.old seats.new }
 {
     seats.take(place)

@@ -1,6 +1,6 @@
 //! Broadcast: a layout seen under a larger shape.
 
-ghost use Rattle.std.specs.Prelude.{◌↔◌, ◌≡◌, ◌<◌, ◌≤◌, ◌^◌, true, false, IsTrue, IsNone, IfSome, length, slice_index_or, pos};
+ghost use Rattle.std.specs.Prelude.{◌↔◌, ◌≡◌, ◌<◌, ◌≤◌, ◌^◌, false, IsTrue, IsNone, IfSome, length, slice_index_or, pos};
 ghost use Rattle.nd_shape_and_slice.specs.Broadcast.{stretches, broadcasts};
 ghost use Rattle.nd_layout.specs.Placements.{placement_of, HasBroadcastStrides, IsBroadcastStep};
 ghost use Rattle.nd_layout.specs.Strides.{broadcast_strides};
@@ -11,7 +11,7 @@ use nd_shape_and_slice::{Dimension, StrideList, size_of_shape_checked};
 /// Whether axis by axis a length is the one asked for, or 1.
 fn lengths_stretch(from: &[usize], to: &[usize]) -> bool
     requires { length from.now ≡ length to.now }
-    ensures { IsTrue result ↔ (stretches from.now to.now ≡ true) }
+    ensures { IsTrue result ↔ IsTrue (stretches from.now to.now) }
 {
     for axis in 0..from.len() {
         if from[axis] != to[axis] && from[axis] != 1 {
@@ -23,7 +23,7 @@ fn lengths_stretch(from: &[usize], to: &[usize]) -> bool
 
 /// Whether a shape can be seen as another.
 fn can_broadcast(from: &[usize], to: &[usize]) -> bool
-    ensures { IsTrue result ↔ (broadcasts from.now to.now ≡ true) }
+    ensures { IsTrue result ↔ IsTrue (broadcasts from.now to.now) }
 {
     if size_of_shape_checked(to).is_err() || to.len() < from.len() {
         return false;

@@ -1,6 +1,6 @@
 //! Layout steps to another number of axes, or another dimension.
 
-ghost use Rattle.std.specs.Prelude.{◌↔◌, ◌≡◌, ◌<◌, ◌≤◌, ◌+◌, ℕ, ℤ, true, false, length, slice_index, slice_index_or, pos, IsNone, IfSome};
+ghost use Rattle.std.specs.Prelude.{◌↔◌, ◌≡◌, ◌<◌, ◌≤◌, ◌+◌, ℕ, ℤ, false, length, slice_index, slice_index_or, pos, IsNone, IfSome, IsTrue};
 ghost use Rattle.std.specs.List.{remove, insert};
 ghost use Rattle.nd_shape_and_slice.specs.Shape.{size_of};
 ghost use Rattle.nd_shape_and_slice.specs.Maps.{indexed_shape, indexed_index, inserted_shape, inserted_index};
@@ -138,7 +138,7 @@ where
     /// Puts an axis of length 1 in.
     pub fn insert_axis(&self, axis: usize) -> Layout<D::Larger, <D::Larger as Dimension>::Strides>
         requires place { axis ≤ length (D.lengths self.now.dim) }
-        requires room { D.Larger.has_axes (length (D.lengths self.now.dim) + 1) ≡ true }
+        requires room { IsTrue (D.Larger.has_axes (length (D.lengths self.now.dim) + 1)) }
         ensures lengths { D.Larger.lengths result.dim ≡ inserted_shape (D.lengths self.now.dim) axis }
         ensures strides { D.Larger.Strides.strides_of result.strides ≡ insert (T.strides_of self.now.strides) axis (pos 1) }
         ensures step { IsStepOf (placement_of self.now) (placement_of result) (inserted_index axis) }

@@ -1,6 +1,6 @@
 //! The axis that steps furthest, and two axes merged into one. Each costs by the number of axes alone.
 
-ghost use Rattle.std.specs.Prelude.{◌↔◌, ◌≡◌, ◌<◌, ◌*◌, ◌^◌, IsTrue, true, false, min, swap, length, slice_index};
+ghost use Rattle.std.specs.Prelude.{◌↔◌, ◌≡◌, ◌<◌, ◌*◌, ◌^◌, IsTrue, false, min, swap, length, slice_index};
 ghost use Rattle.nd_shape_and_slice.specs.Shape.{HasCheckedSize};
 ghost use Rattle.nd_layout.specs.Merging.{StepsFurthest, StepsNoLess, CanMerge, merged_shape, merged_strides, strides_merged_by};
 ghost use Rattle.nd_layout.specs.Placements.{placement_of, HasMergedStrides, IsMergedStep};
@@ -109,9 +109,9 @@ impl<D: Dimension, T: StrideList> Layout<D, T> {
         requires take { take < length (D.lengths self.old.dim) }
         requires into { into < length (D.lengths self.old.dim) }
         ensures merges { IsTrue result ↔ CanMerge (D.lengths self.old.dim) (T.strides_of self.old.strides) take into }
-        ensures lengths { result ≡ true → D.lengths self.new.dim ≡ merged_shape (D.lengths self.old.dim) take into }
-        ensures strides { result ≡ true → HasMergedStrides (placement_of self.old) (placement_of self.new) take into }
-        ensures step { result ≡ true → IsMergedStep (placement_of self.old) (placement_of self.new) take into }
+        ensures lengths { IsTrue result → D.lengths self.new.dim ≡ merged_shape (D.lengths self.old.dim) take into }
+        ensures strides { IsTrue result → HasMergedStrides (placement_of self.old) (placement_of self.new) take into }
+        ensures step { IsTrue result → IsMergedStep (placement_of self.old) (placement_of self.new) take into }
         ensures offset { self.new.offset ≡ self.old.offset }
         ensures kept { result ≡ false → placement_of self.new ≡ placement_of self.old }
     {

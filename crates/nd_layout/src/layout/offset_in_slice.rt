@@ -1,6 +1,6 @@
 //! What a constructor is given: the strides of an order, and whether the caller's own strides can be used.
 
-ghost use Rattle.std.specs.Prelude.{◌↔◌, ◌≡◌, ◌<◌, ◌≤◌, ◌-◌, ◌*◌, ◌^◌, ◌||◌, nat_eq, ℕ, true, List, [], ◌∷◌, length, nat_abs, IsTrue, IfOk, IfErr, Some, None};
+ghost use Rattle.std.specs.Prelude.{◌↔◌, ◌≡◌, ◌<◌, ◌≤◌, ◌-◌, ◌*◌, ◌^◌, ◌||◌, nat_eq, ℕ, List, [], ◌∷◌, length, nat_abs, IsTrue, IfOk, IfErr, Some, None};
 ghost use Rattle.nd_shape_and_slice.specs.Shape.{size_of, HasCheckedSize};
 ghost use Rattle.nd_shape_and_slice.specs.Place.{span_of, IsSeparated};
 ghost use Rattle.nd_layout.specs.Strides.{reach_down};
@@ -123,7 +123,7 @@ pub fn offset_in_slice(
 fn keeps_apart(lengths: &[usize], strides: &[isize]) -> bool
     requires as_many { length strides.now ≡ length lengths.now }
     requires few { length lengths.now ≤ 32 }
-    ensures { IsTrue result ↔ ((nat_eq (size_of lengths.now) 0 || is_separated lengths.now strides.now) ≡ true) }
+    ensures { IsTrue result ↔ IsTrue (nat_eq (size_of lengths.now) 0 || is_separated lengths.now strides.now) }
 {
     is_empty_shape(lengths) || separated(lengths, strides)
 }

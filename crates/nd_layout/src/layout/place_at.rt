@@ -1,13 +1,13 @@
 //! Places, computed from an offset, strides and an index.
 
-ghost use Rattle.std.specs.Prelude.{◌↔◌, ◌≡◌, ◌<◌, ◌^◌, ℕ, true, false, IsTrue, List, length, pos, ◌+ℤ◌, ◌*ℤ◌};
+ghost use Rattle.std.specs.Prelude.{◌↔◌, ◌≡◌, ◌<◌, ◌^◌, ℕ, false, IsTrue, List, length, pos, ◌+ℤ◌, ◌*ℤ◌};
 ghost use Rattle.nd_shape_and_slice.specs.Shape.{in_box, HasCheckedSize};
 ghost use Rattle.nd_shape_and_slice.specs.Place.{place_of};
 ghost use Rattle.nd_layout.specs.Places.{is_place, ReachesPlaces};
 
 /// Whether the index has one coordinate for each axis, each below its length.
 pub(crate) fn is_in_box(lengths: &[usize], index: &[usize]) -> bool
-    ensures { IsTrue result ↔ (in_box lengths.now index.now ≡ true) }
+    ensures { IsTrue result ↔ IsTrue (in_box lengths.now index.now) }
 {
     if lengths.len() != index.len() {
         return false;
@@ -24,7 +24,7 @@ pub(crate) fn is_in_box(lengths: &[usize], index: &[usize]) -> bool
 pub(crate) fn moved_by(place: usize, steps: usize, stride: isize) -> usize
     requires from { place < 2 ^ 63 }
     requires few { steps < 2 ^ 63 }
-    requires to { is_place (pos place +ℤ (pos steps *ℤ stride)) ≡ true }
+    requires to { IsTrue (is_place (pos place +ℤ (pos steps *ℤ stride))) }
     ensures { pos result ≡ pos place +ℤ (pos steps *ℤ stride) }
 {
     (place as isize + steps as isize * stride) as usize
@@ -35,9 +35,9 @@ pub(crate) fn moved_by(place: usize, steps: usize, stride: isize) -> usize
 pub(crate) fn moved_unless(stays: bool, place: usize, steps: usize, stride: isize) -> usize
     requires from { stays ≡ false → place < 2 ^ 63 }
     requires few { stays ≡ false → steps < 2 ^ 63 }
-    requires to { stays ≡ false → is_place (pos place +ℤ (pos steps *ℤ stride)) ≡ true }
+    requires to { stays ≡ false → IsTrue (is_place (pos place +ℤ (pos steps *ℤ stride))) }
     ensures moved { stays ≡ false → pos result ≡ pos place +ℤ (pos steps *ℤ stride) }
-    ensures kept { stays ≡ true → result ≡ place }
+    ensures kept { IsTrue stays → result ≡ place }
 {
     if stays {
         place
@@ -56,7 +56,7 @@ pub(crate) fn place_at(
     requires as_many { length strides.now ≡ length lengths.now }
     requires checked { HasCheckedSize lengths.now }
     requires reach { ReachesPlaces offset lengths.now strides.now }
-    requires inside { in_box lengths.now index.now ≡ true }
+    requires inside { IsTrue (in_box lengths.now index.now) }
     ensures { pos result ≡ place_of offset strides.now index.now }
 {
     let mut place = offset;

@@ -1,6 +1,6 @@
 //! Slices of a layout's axes: of one axis, by a list of slices, and by a closure that is asked of each axis.
 
-ghost use Rattle.std.specs.Prelude.{◌≡◌, ◌<◌, ℤ, true, false, is_some, nat_eq, ◌||◌, length, slice_index, slice_get, ◌*ℤ◌};
+ghost use Rattle.std.specs.Prelude.{◌≡◌, ◌<◌, ℤ, false, is_some, nat_eq, ◌||◌, length, slice_index, slice_get, ◌*ℤ◌, IsTrue};
 ghost use Rattle.nd_shape_and_slice.specs.declared.slice.Slice.{Slice};
 ghost use Rattle.nd_shape_and_slice.specs.declared.slice_info.SliceInfoElem.TheVariants.{Index};
 ghost use Rattle.nd_shape_and_slice.specs.Descriptions.{axes_from};
@@ -51,12 +51,12 @@ impl<D: Dimension, T: StrideList> Layout<D, T> {
     #[inline]
     fn part_of_axis(&self, axis: usize, slice: Slice, offset: usize, is_empty: bool) -> AxisChange
         requires on { axis < length (D.lengths self.now.dim) }
-        requires fits { fits_axis (length_on self.now axis) slice ≡ true }
+        requires fits { IsTrue (fits_axis (length_on self.now axis) slice) }
         requires leads { is_empty ≡ false → AxisLeads self.now axis offset }
         ensures len { result.len ≡ sliced_length (length_on self.now axis) slice }
         ensures stride { result.stride ≡ stepped_stride result.len (stride_on self.now axis) slice.step }
         ensures offset { is_empty ≡ false → 0 < result.len → StartsSliced self.now axis slice offset result.offset }
-        ensures empty { is_empty ≡ true → result.offset ≡ offset }
+        ensures empty { IsTrue is_empty → result.offset ≡ offset }
     {
         let sliced = slice.on_axis(self.dim.length(axis));
         let stride = self.strides.stride(axis);
@@ -72,10 +72,10 @@ impl<D: Dimension, T: StrideList> Layout<D, T> {
     #[inline]
     fn offset_at(&self, axis: usize, coordinate: isize, offset: usize, is_empty: bool) -> usize
         requires on { axis < length (D.lengths self.now.dim) }
-        requires fits { is_some (coordinate_on (length_on self.now axis) coordinate) ≡ true }
+        requires fits { IsTrue (is_some (coordinate_on (length_on self.now axis) coordinate)) }
         requires leads { is_empty ≡ false → AxisLeads self.now axis offset }
         ensures moved { is_empty ≡ false → StartsBy self.now axis (Index coordinate) offset result }
-        ensures empty { is_empty ≡ true → result ≡ offset }
+        ensures empty { IsTrue is_empty → result ≡ offset }
     {
         let index = coordinate_on_axis(self.dim.length(axis), coordinate).unwrap_or(0);
         moved_unless(is_empty, offset, index, self.strides.stride(axis))
@@ -91,13 +91,13 @@ impl<D: Dimension, T: StrideList> Layout<D, T> {
         offset: usize,
         is_empty: bool,
     ) -> AxisChange
-        requires fits { fits_next (slice_get (D.lengths self.now.dim) axis) element ≡ true }
+        requires fits { IsTrue (fits_next (slice_get (D.lengths self.now.dim) axis) element) }
         requires leads { is_empty ≡ false → AxisLeads self.now axis offset }
         ensures len { result.len ≡ length_by (length_on self.now axis) element }
         ensures stride { result.stride ≡ stride_by (length_on self.now axis) (stride_on self.now axis) element }
         ensures offset { is_empty ≡ false → 0 < result.len → StartsBy self.now axis element offset result.offset }
         ensures new { reads_axis element ≡ false → result.offset ≡ offset }
-        ensures empty { is_empty ≡ true → result.offset ≡ offset }
+        ensures empty { IsTrue is_empty → result.offset ≡ offset }
     {
         match element {
             SliceInfoElem::Slice { start, end, step } => {
@@ -122,7 +122,7 @@ impl<D: Dimension, T: StrideList> Layout<D, T> {
     #[inline]
     pub fn slice_axis(&mut self, axis: usize, slice: Slice)
         requires on { axis < length (D.lengths self.old.dim) }
-        requires fits { fits_axis (slice_index (D.lengths self.old.dim) axis) slice ≡ true }
+        requires fits { IsTrue (fits_axis (slice_index (D.lengths self.old.dim) axis) slice) }
         ensures lengths { D.lengths self.new.dim ≡ sliced_shape (D.lengths self.old.dim) axis slice }
         ensures strides { HasSlicedStrides (placement_of self.old) (placement_of self.new) axis slice }
         ensures step { IsSlicedStep (placement_of self.old) (placement_of self.new) axis slice }
@@ -141,8 +141,8 @@ impl<D: Dimension, T: StrideList> Layout<D, T> {
     /// length 1. It is inlined, so that the caller's result is filled where it lies.
     #[inline(always)]
     pub fn sliced<E: Dimension>(&self, elements: &[SliceInfoElem]) -> Layout<E, E::Strides>
-        requires fits { fits_shape (D.lengths self.now.dim) elements.now ≡ true }
-        requires room { E.has_axes (axes_kept elements.now) ≡ true }
+        requires fits { IsTrue (fits_shape (D.lengths self.now.dim) elements.now) }
+        requires room { IsTrue (E.has_axes (axes_kept elements.now)) }
         ensures lengths { E.lengths result.dim ≡ shape_after (D.lengths self.now.dim) elements.now }
         ensures step { IsListStep (placement_of self.now) (placement_of result) elements.now }
         ensures strides { HasListStrides (placement_of self.now) (placement_of result) elements.now }
@@ -174,7 +174,7 @@ impl<D: Dimension, T: StrideList> Layout<D, T> {
 
     /// The layout after one element of the list: the part that a slice names, or one coordinate.
     fn slice_element(&mut self, axis: usize, element: SliceInfoElem)
-        requires { fits_next (slice_get (D.lengths self.old.dim) axis) element ≡ true }
+        requires { IsTrue (fits_next (slice_get (D.lengths self.old.dim) axis) element) }
         ensures lengths { D.lengths self.new.dim ≡ shape_with (D.lengths self.old.dim) axis element }
         ensures step { IsElementStep (placement_of self.old) (placement_of self.new) axis element }
         ensures strides { HasElementStrides (placement_of self.old) (placement_of self.new) axis element }
@@ -195,7 +195,7 @@ impl<D: Dimension, T: StrideList> Layout<D, T> {
 
     /// The layout after the whole list, axis by axis. An indexed axis keeps length 1.
     pub fn slice_axes(&mut self, elements: &[SliceInfoElem])
-        requires { each_fits (D.lengths self.old.dim) elements.now ≡ true }
+        requires { IsTrue (each_fits (D.lengths self.old.dim) elements.now) }
         ensures lengths { D.lengths self.new.dim ≡ collapsed_after (D.lengths self.old.dim) elements.now }
         ensures step { IsCollapsedStep (placement_of self.old) (placement_of self.new) elements.now }
         ensures strides { HasCollapsedStrides (placement_of self.old) (placement_of self.new) elements.now }

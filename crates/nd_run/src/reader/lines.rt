@@ -1,6 +1,6 @@
 //! Lines read one by one, by what remembers whether memory was refused for one of them.
 
-ghost use Rattle.std.specs.Prelude.{◌≡◌, ◌||◌, ◌++◌, ◌∷◌, [], true, false, OnOk, IfErr};
+ghost use Rattle.std.specs.Prelude.{◌≡◌, ◌||◌, ◌++◌, ◌∷◌, [], false, OnOk, IfErr, IsTrue};
 ghost use Rattle.nd_array_core.specs.Meaning.{meaning_of};
 ghost use Rattle.nd_run.specs.Calls.{asked_call, boxed};
 ghost use Rattle.nd_run.specs.Script.{GivesScript, read_or_number, call_in, start_in, lacked_memory, lacks_memory};
@@ -32,7 +32,7 @@ impl LineReader {
     /// Notes that memory was refused.
     fn lack(&mut self) -> ScriptError
         ensures fault { result ≡ ScriptError.Memory }
-        ensures lacked { lacked_memory self.new ≡ true }
+        ensures lacked { IsTrue (lacked_memory self.new) }
     {
         self.lacked = true;
         ScriptError::Memory

@@ -1,7 +1,7 @@
 use Rattle.std.proofs.Common.{◌≡◌, ◌∙◌, sym, ap, refl, subst}
 use Rattle.nd_array_core.specs.Meaning.{meaning_of, placed_array}
 use Rattle.nd_array_core.specs.PlacedArray.{found_at}
-use Rattle.nd_paths.specs.Paths.{seen_along, meaning_in, meaning_left}
+use Rattle.nd_paths.specs.Paths.{seen_along, meaning_placed, meaning_left}
 use Rattle.nd_paths.proofs.PathTasks.{stays, end_means, others_keep}
 use Rattle.nd_paths.proofs.paths.run_along.Goals as goal
 
@@ -16,7 +16,7 @@ run-answer-requires g c =
     let end = c.follow-end.result.0 in
     let e = placed_array end in
     let ends = c.follow-end.ensures.end c.in-None.is in
-    let before : meaning_of end ≡ seen_along p (meaning_in v) =
+    let before : meaning_of end ≡ seen_along p (meaning_placed v) =
     end_means p v e ends.0 ends.1 (meaning_of end) v.stored refl (λ i. c.elements_have_places.ensures.elements i ∙ ap (λ s. found_at s (e.place i)) (ap g.S.Data.stored c.follow-end.ensures.storage)) in
     subst (λ m. g.K.ArrayTask.pre c.args.task m) (sym before) (c.requires (sym c.follow-end.ensures.refused ∙ c.in-None.is))
 
@@ -34,6 +34,6 @@ returns-in-None-clause-done g c =
     let frame = c.run-answer.ensures.frame in
     let ends = c.follow-end.ensures.end c.in-None.is in
     let stored : e.stored ≡ v.stored = ap g.S.Data.stored c.follow-end.ensures.storage in
-    let before : meaning_of end ≡ seen_along p (meaning_in v) = end_means p v e ends.0 ends.1 (meaning_of end) v.stored refl (λ i. c.elements_have_places.ensures.elements i ∙ ap (λ s. found_at s (e.place i)) stored) in
+    let before : meaning_of end ≡ seen_along p (meaning_placed v) = end_means p v e ends.0 ends.1 (meaning_of end) v.stored refl (λ i. c.elements_have_places.ensures.elements i ∙ ap (λ s. found_at s (e.place i)) stored) in
     let left : meaning_of after ≡ seen_along p (meaning_left v w) = end_means p v e ends.0 ends.1 (meaning_of after) w.stored frame.0 (λ i. c.elements_have_places-in-None.ensures.elements i ∙ ap (found_at w.stored) (frame.2 i)) in
-    (sym c.follow-end.ensures.refused ∙ c.in-None.is, subst (λ m. g.K.ArrayTask.post c.args.task (seen_along p (meaning_in v)) m c.run-answer.result) left (subst (λ m. g.K.ArrayTask.post c.args.task m (meaning_of after) c.run-answer.result) before c.run-answer.ensures.done), others_keep p v e ends.0 ends.1 w.stored c.elements_have_places.ensures.places c.distinct_places.ensures (λ q none. frame.3 q none ∙ ap (λ s. s q) stored))
+    (sym c.follow-end.ensures.refused ∙ c.in-None.is, subst (λ m. g.K.ArrayTask.post c.args.task (seen_along p (meaning_placed v)) m c.run-answer.result) left (subst (λ m. g.K.ArrayTask.post c.args.task m (meaning_of after) c.run-answer.result) before c.run-answer.ensures.done), others_keep p v e ends.0 ends.1 w.stored c.elements_have_places.ensures.places c.distinct_places.ensures (λ q none. frame.3 q none ∙ ap (λ s. s q) stored))

@@ -1,7 +1,7 @@
 use Rattle.std.proofs.Common.{◌≡◌, ◌∙◌, sym, ap, subst}
 use Rattle.nd_shape_and_slice.specs.Maps.{lower_shape, upper_shape, upper_index}
 use Rattle.nd_array_core.specs.Meaning.{meaning_of, place_at, element_at, shape_of}
-use Rattle.nd_paths.specs.Paths.{seen_below, seen_from, meaning_in, meaning_left}
+use Rattle.nd_paths.specs.Paths.{seen_below, seen_from, meaning_placed, meaning_left}
 use Rattle.nd_paths.proofs.PathTasks.{alike, left_seen, said_of}
 use Rattle.nd_paths.proofs.paths.with_halves_mut.Goals as goal
 
@@ -10,9 +10,9 @@ with_split_at-requires-clause-callable g c = λ v v' is is'.
     let m = meaning_of c.args.array.now in
     let axis = c.args.axis.0 in
     let pre = g.K.PairOfArraysTask.pre c.args.task in
-    let one : meaning_in v ≡ seen_below axis c.args.index m = alike (seen_below axis c.args.index m) (meaning_in v) is.same_shape is.same_element in
-    let two : meaning_in v' ≡ seen_from axis c.args.index m = alike (seen_from axis c.args.index m) (meaning_in v') is'.same_shape is'.same_element in
-    subst (λ x. pre (meaning_in v) x) (sym two) (subst (λ x. pre x (seen_from axis c.args.index m)) (sym one) c.requires.asks)
+    let one : meaning_placed v ≡ seen_below axis c.args.index m = alike (seen_below axis c.args.index m) (meaning_placed v) is.same_shape is.same_element in
+    let two : meaning_placed v' ≡ seen_from axis c.args.index m = alike (seen_from axis c.args.index m) (meaning_placed v') is'.same_shape is'.same_element in
+    subst (λ x. pre (meaning_placed v) x) (sym two) (subst (λ x. pre x (seen_from axis c.args.index m)) (sym one) c.requires.asks)
 
 pub returns-clause-done : goal.returns-clause-done
 returns-clause-done g c =
@@ -25,8 +25,8 @@ returns-clause-done g c =
     let new = meaning_of after in
     let frame = c.with_split_at.ensures.frame in
     let d = c.with_split_at.ensures.done in
-    let one : meaning_in d.0 ≡ seen_below axis k old = alike (seen_below axis k old) (meaning_in d.0) d.4.same_shape d.4.same_element in
-    let two : meaning_in d.1 ≡ seen_from axis k old = alike (seen_from axis k old) (meaning_in d.1) d.5.same_shape d.5.same_element in
+    let one : meaning_placed d.0 ≡ seen_below axis k old = alike (seen_below axis k old) (meaning_placed d.0) d.4.same_shape d.4.same_element in
+    let two : meaning_placed d.1 ≡ seen_from axis k old = alike (seen_from axis k old) (meaning_placed d.1) d.5.same_shape d.5.same_element in
     let left : meaning_left d.0 d.2 ≡ seen_below axis k new =
     left_seen d.0 d.2 (lower_shape old.shape axis k) (lower_shape new.shape axis k) (λ i. i) (place_at before) (place_at after) old.at new.at d.4 d.7 frame.2 (ap (λ ns. lower_shape ns axis k) frame.0) in
     let left' : meaning_left d.1 d.3 ≡ seen_from axis k new =

@@ -1,12 +1,12 @@
 use Rattle.std.proofs.Common.{◌≡◌, ◌∙◌, sym, ap, subst}
 use Rattle.nd_array_core.specs.Meaning.{meaning_of}
 use Rattle.nd_array_core.specs.PlacedArray.{found_at}
-use Rattle.nd_paths.specs.Paths.{AsksAlong, IsDoneAlong, meaning_in, meaning_left}
+use Rattle.nd_paths.specs.Paths.{AsksAlong, IsDoneAlong, meaning_placed, meaning_left}
 use Rattle.nd_paths.proofs.PathTasks.{alike}
 use Rattle.nd_paths.proofs.paths.with_path_mut.Goals as goal
 
 pub with_view_mut-requires : goal.with_view_mut-requires
-with_view_mut-requires g c = λ v is. subst (λ m. AsksAlong (g.P.ArrayPath.leads c.args.path) (g.K.ArrayTask.pre c.args.task) m) (sym (alike (meaning_of c.args.array.now) (meaning_in v) is.same_shape is.same_element)) c.requires
+with_view_mut-requires g c = λ v is. subst (λ m. AsksAlong (g.P.ArrayPath.leads c.args.path) (g.K.ArrayTask.pre c.args.task) m) (sym (alike (meaning_of c.args.array.now) (meaning_placed v) is.same_shape is.same_element)) c.requires
 
 pub returns-clause-done : goal.returns-clause-done
 returns-clause-done g c =
@@ -18,6 +18,6 @@ returns-clause-done g c =
     let frame = c.with_view_mut.ensures.frame in
     let v = d.0 in
     let w = d.1 in
-    let start : meaning_in v ≡ old = alike old (meaning_in v) d.2.same_shape d.2.same_element in
+    let start : meaning_placed v ≡ old = alike old (meaning_placed v) d.2.same_shape d.2.same_element in
     let left : meaning_left v w ≡ new = alike new (meaning_left v w) (d.2.same_shape ∙ sym frame.0) (λ i. ap (found_at w.stored) (d.2.same_place i ∙ (sym (frame.2 i) ∙ sym (d.3.same_place i))) ∙ d.3.same_element i) in
     subst (λ m. IsDoneAlong p post old m c.with_view_mut.result) left (subst (λ m. IsDoneAlong p post m (meaning_left v w) c.with_view_mut.result) start d.4)

@@ -2,7 +2,7 @@ use Rattle.std.proofs.Common.{◌≡◌, ◌∙◌, sym, ap, subst}
 use Rattle.nd_array_core.specs.Meaning.{meaning_of, placed_array}
 use Rattle.nd_array_core.specs.PlacedArray.{found_at}
 use Rattle.nd_array_core.specs.scoped.Tasks.{lent_view, view_left}
-use Rattle.nd_paths.specs.Paths.{meaning_in, meaning_left}
+use Rattle.nd_paths.specs.Paths.{meaning_placed, meaning_left}
 use Rattle.nd_paths.proofs.PathTasks.{alike, said_of}
 use Rattle.nd_paths.proofs.paths.HalvesPairTask.run.Goals as goal
 
@@ -15,9 +15,9 @@ run-answer-requires g c =
     let v' = lent_view lengths strides c.args.two in
     let lower = meaning_of c.into_dyn-lower.result in
     let upper = meaning_of c.into_dyn-upper.result in
-    let one : lower ≡ meaning_in v = alike (meaning_in v) lower (c.into_dyn-lower.ensures.whole.0.0 ∙ c.into_view.ensures.shape) (λ i. c.into_dyn-lower.ensures.whole.0.2 i ∙ c.into_view.ensures.elements i) in
-    let two : upper ≡ meaning_in v' = alike (meaning_in v') upper (c.into_dyn-upper.ensures.whole.0.0 ∙ c.into_view-2.ensures.shape) (λ i. c.into_dyn-upper.ensures.whole.0.2 i ∙ c.into_view-2.ensures.elements i) in
-    subst (λ m. pre lower m) (sym two) (subst (λ m. pre m (meaning_in v')) (sym one) c.requires.pre)
+    let one : lower ≡ meaning_placed v = alike (meaning_placed v) lower (c.into_dyn-lower.ensures.whole.0.0 ∙ c.into_view.ensures.shape) (λ i. c.into_dyn-lower.ensures.whole.0.2 i ∙ c.into_view.ensures.elements i) in
+    let two : upper ≡ meaning_placed v' = alike (meaning_placed v') upper (c.into_dyn-upper.ensures.whole.0.0 ∙ c.into_view-2.ensures.shape) (λ i. c.into_dyn-upper.ensures.whole.0.2 i ∙ c.into_view-2.ensures.elements i) in
+    subst (λ m. pre lower m) (sym two) (subst (λ m. pre m (meaning_placed v')) (sym one) c.requires.pre)
 
 pub returns-clause-done : goal.returns-clause-done
 returns-clause-done g c =
@@ -40,8 +40,8 @@ returns-clause-done g c =
     let shape' = c.into_dyn-upper.ensures.whole.0.0 ∙ c.into_view-2.ensures.shape in
     let stored : w.stored ≡ b.stored = ap (λ s. (view_left lengths strides c.args.one s).stored) c.into_storage.ensures.same in
     let stored' : w'.stored ≡ b'.stored = ap (λ s. (view_left lengths strides c.args.two s).stored) c.into_storage-2.ensures.same in
-    let one : lower ≡ meaning_in v = alike (meaning_in v) lower shape (λ i. c.into_dyn-lower.ensures.whole.0.2 i ∙ c.into_view.ensures.elements i) in
-    let two : upper ≡ meaning_in v' = alike (meaning_in v') upper shape' (λ i. c.into_dyn-upper.ensures.whole.0.2 i ∙ c.into_view-2.ensures.elements i) in
+    let one : lower ≡ meaning_placed v = alike (meaning_placed v) lower shape (λ i. c.into_dyn-lower.ensures.whole.0.2 i ∙ c.into_view.ensures.elements i) in
+    let two : upper ≡ meaning_placed v' = alike (meaning_placed v') upper shape' (λ i. c.into_dyn-upper.ensures.whole.0.2 i ∙ c.into_view-2.ensures.elements i) in
     let left : lower' ≡ meaning_left v w =
     alike (meaning_left v w) lower' (frame.0 ∙ shape)
     (λ i. c.elements_have_places-3.ensures.elements i ∙ (ap (found_at b.stored) (frame.2 i ∙ (c.into_dyn-lower.ensures.whole.0.3 i ∙ c.into_view.ensures.places i)) ∙ sym (ap (λ s. found_at s (v.place i)) stored))) in
