@@ -10,7 +10,7 @@ ghost use Rattle.nd_layout.specs.Spans.{HasNoGaps, KeepsDisplacements};
 
 use crate::axis_at::{axis_at, put_nth_stride};
 use crate::spans::length_without;
-use nd_shape_and_slice::{Order, is_empty_shape};
+use nd_shape_and_slice::{MAX_AXES, Order, is_empty_shape};
 
 /// Whether some length other than this axis's is 0.
 fn others_are_empty(lengths: &[usize], axis: usize) -> bool
@@ -27,7 +27,7 @@ fn others_are_empty(lengths: &[usize], axis: usize) -> bool
 /// Writes for each axis the product of the faster lengths, without this axis's, and returns the product of all lengths
 /// but this axis's.
 fn fill_strides(lengths: &[usize], axis: usize, order: Order, out: &mut [isize]) -> usize
-    requires few { length lengths.now ≤ 32 }
+    requires few { length lengths.now ≤ MAX_AXES }
     requires as_long { length out.old ≡ length lengths.now }
     requires some { 0 < size_of (slice_set lengths.now axis 1) }
     requires fits { size_of (slice_set lengths.now axis 1) < 2 ^ 63 }
@@ -45,7 +45,7 @@ fn fill_strides(lengths: &[usize], axis: usize, order: Order, out: &mut [isize])
 /// The order of fresh storage that can grow along an axis: that axis is the slowest.
 fn growing_order(axis: usize, count: usize) -> Order
     requires on_axis { axis < count }
-    requires few { count ≤ 32 }
+    requires few { count ≤ MAX_AXES }
     ensures { result ≡ (if nat_eq (axis + 1) count then Order.ColumnMajor else Order.RowMajor) }
 {
     if axis + 1 == count {
@@ -57,7 +57,7 @@ fn growing_order(axis: usize, count: usize) -> Order
 
 /// Writes the strides of fresh storage that can grow along an axis.
 pub(crate) fn lay_out(lengths: &[usize], axis: usize, out: &mut [isize])
-    requires few { length lengths.now ≤ 32 }
+    requires few { length lengths.now ≤ MAX_AXES }
     requires as_long { length out.old ≡ length lengths.now }
     requires on_axis { axis < length lengths.now }
     requires some { 0 < size_of (slice_set lengths.now axis 1) }
@@ -201,7 +201,7 @@ fn write_case(
     out: &mut [isize],
 ) -> GrowthCase
     requires as_many { length strides.now ≡ length lengths.now }
-    requires few { length lengths.now ≤ 32 }
+    requires few { length lengths.now ≤ MAX_AXES }
     requires checked { HasCheckedSize lengths.now }
     requires fits { span_of lengths.now strides.now < 2 ^ 63 }
     requires on_axis { axis < length lengths.now }
@@ -237,7 +237,7 @@ pub fn growth(
     out: &mut [isize],
 ) -> u8
     requires as_many { length strides.now ≡ length lengths.now }
-    requires few { length lengths.now ≤ 32 }
+    requires few { length lengths.now ≤ MAX_AXES }
     requires checked { HasCheckedSize lengths.now }
     requires fits { span_of lengths.now strides.now < 2 ^ 63 }
     requires on_axis { axis < length lengths.now }

@@ -7,6 +7,7 @@ ghost use Rattle.nd_layout.specs.Walk.{IsCutInLanes, IsLastAxis};
 
 use crate::layout::place_at::moved_by;
 use crate::walk::Walk;
+use nd_shape_and_slice::MAX_AXES;
 
 /// Places that lie a stride apart.
 #[derive(Clone, Copy, Debug, PartialEq, Eq)]
@@ -91,7 +92,7 @@ impl<'a> Lanes<'a> {
     /// The lanes of a layout. Each index has a place.
     pub fn new(first: usize, lengths: &'a [usize], strides: &'a [isize]) -> Self
         requires as_many { length strides.now ≡ length lengths.now }
-        requires few { length lengths.now ≤ 32 }
+        requires few { length lengths.now ≤ MAX_AXES }
         requires checked { HasCheckedSize lengths.now }
         requires reach { ReachesPlaces first lengths.now strides.now }
         ensures over { (result.first ≡ first) × (result.lengths.now ≡ lengths.now) × (result.strides.now ≡ strides.now) }

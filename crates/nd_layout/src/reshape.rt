@@ -10,7 +10,7 @@ ghost use Rattle.nd_layout.specs.Groups.{IsClosed, BeginsAnother, JoinsNext, Spl
 
 use crate::axis_at::{nth_length, nth_stride, put_nth_stride};
 use crate::joined::continues;
-use nd_shape_and_slice::{Order, is_empty_shape};
+use nd_shape_and_slice::{MAX_AXES, Order, is_empty_shape};
 
 /// Axes that merge into one axis, and the number of the next axis.
 #[derive(Clone, Copy)]
@@ -24,7 +24,7 @@ struct Group {
 fn joined(group: Group, len: usize, stride: isize) -> Option<Group>
     requires fits { group.length * len < 2 ^ 63 }
     requires some { 0 < group.length * len }
-    requires few { group.next < 32 }
+    requires few { group.next < MAX_AXES }
     ensures { MatchOption result
         (BeginsAnother group len stride)
         (λ more. JoinsNext group len stride more) }
@@ -56,7 +56,7 @@ fn joined(group: Group, len: usize, stride: isize) -> Option<Group>
 /// The longest group of axes from `from` on, as one axis.
 fn next_group(lengths: &[usize], strides: &[isize], order: Order, from: usize) -> Group
     requires as_many { length strides.now ≡ length lengths.now }
-    requires few { length lengths.now ≤ 32 }
+    requires few { length lengths.now ≤ MAX_AXES }
     requires on { from ≤ length lengths.now }
     requires some { 0 < size_of (drop from (fastest_first order lengths.now)) }
     requires fits { size_of (drop from (fastest_first order lengths.now)) < 2 ^ 63 }
@@ -130,7 +130,7 @@ fn split_group(group: Group, len: usize) -> Option<(isize, Group)>
 /// The group, or the next one where it is used up.
 fn filled_group(lengths: &[usize], strides: &[isize], order: Order, group: Group) -> Group
     requires as_many { length strides.now ≡ length lengths.now }
-    requires few { length lengths.now ≤ 32 }
+    requires few { length lengths.now ≤ MAX_AXES }
     requires on { group.next ≤ length lengths.now }
     requires some { 0 < size_from order lengths.now group }
     requires small { size_from order lengths.now group < 2 ^ 63 }
@@ -156,7 +156,7 @@ fn take_length(
     len: usize,
 ) -> Option<(isize, Group)>
     requires as_many { length strides.now ≡ length lengths.now }
-    requires few { length lengths.now ≤ 32 }
+    requires few { length lengths.now ≤ MAX_AXES }
     requires on { group.next ≤ length lengths.now }
     requires some { 0 < len * size_from order lengths.now group }
     requires small { size_from order lengths.now group < 2 ^ 63 }
@@ -183,8 +183,8 @@ pub fn reshape_strides(
     out: &mut [isize],
 ) -> bool
     requires as_many { length strides.now ≡ length lengths.now }
-    requires few { length lengths.now ≤ 32 }
-    requires few_new { length new.now ≤ 32 }
+    requires few { length lengths.now ≤ MAX_AXES }
+    requires few_new { length new.now ≤ MAX_AXES }
     requires as_long { length out.old ≡ length new.now }
     requires same_size { size_of lengths.now ≡ size_of new.now }
     requires checked { size_of new.now < 2 ^ 63 }

@@ -7,7 +7,7 @@ ghost use Rattle.nd_layout.specs.Ranks.{IsRun, IsStandard};
 
 use crate::axis_at::{nth_length, nth_stride};
 use crate::spans::{separated, span};
-use nd_shape_and_slice::{Order, is_empty_shape};
+use nd_shape_and_slice::{MAX_AXES, Order, is_empty_shape};
 
 /// Whether an axis has this stride; an axis of length 1 may have any.
 fn steps_by(len: usize, stride: isize, count: usize) -> bool
@@ -20,7 +20,7 @@ fn steps_by(len: usize, stride: isize, count: usize) -> bool
 /// Whether the layout is the standard one: each index lies at its row-major rank from the offset.
 pub fn is_standard(lengths: &[usize], strides: &[isize]) -> bool
     requires as_many { length strides.now ≡ length lengths.now }
-    requires few { length lengths.now ≤ 32 }
+    requires few { length lengths.now ≤ MAX_AXES }
     requires checked { HasCheckedSize lengths.now }
     requires fits { span_of lengths.now strides.now < 2 ^ 63 }
     ensures { IsTrue result ↔ IsStandard lengths.now strides.now }
@@ -55,7 +55,7 @@ pub(crate) fn count_of(lengths: &[usize]) -> usize
 /// Whether the places of all indexes are as many consecutive numbers as there are indexes, each once.
 pub fn is_run(lengths: &[usize], strides: &[isize]) -> bool
     requires as_many { length strides.now ≡ length lengths.now }
-    requires few { length lengths.now ≤ 32 }
+    requires few { length lengths.now ≤ MAX_AXES }
     requires checked { HasCheckedSize lengths.now }
     requires fits { span_of lengths.now strides.now < 2 ^ 63 }
     ensures { IsTrue result ↔ ((size_of lengths.now ≡ 0) ⊎ IsRun lengths.now strides.now) }

@@ -4,6 +4,8 @@ ghost use Rattle.std.specs.Prelude.{◌↔◌, ◌≡◌, ◌<◌, ◌≤◌, �
 ghost use Rattle.nd_shape_and_slice.specs.Place.{span_of, span_within, IsSeparated};
 ghost use Rattle.nd_layout.specs.Spans.{IsNumberBelow, StandsApart};
 
+use nd_shape_and_slice::MAX_AXES;
+
 const LARGEST: usize = isize::MAX as usize;
 
 /// How far one axis reaches: (length - 1) times the stride's magnitude, where that is a `usize`.
@@ -17,7 +19,7 @@ fn reach(length: usize, stride: isize) -> Option<usize>
 /// stride's magnitude. None exactly where that passes `isize::MAX`.
 pub fn span(lengths: &[usize], strides: &[isize]) -> Option<usize>
     requires as_many { length strides.now ≡ length lengths.now }
-    requires few { length lengths.now ≤ 32 }
+    requires few { length lengths.now ≤ MAX_AXES }
     ensures { IsNumberBelow (2 ^ 63) (span_of lengths.now strides.now) result }
 {
     let mut total: usize = 0;
@@ -86,7 +88,7 @@ fn stands_apart(lengths: &[usize], strides: &[isize], axis: usize) -> bool
 /// its magnitude reach together. Then no two indexes share a place.
 pub fn separated(lengths: &[usize], strides: &[isize]) -> bool
     requires as_many { length strides.now ≡ length lengths.now }
-    requires few { length lengths.now ≤ 32 }
+    requires few { length lengths.now ≤ MAX_AXES }
     ensures { IsTrue result ↔ IsSeparated lengths.now strides.now }
 {
     for axis in 0..lengths.len() {

@@ -80,7 +80,7 @@ fn advanced_front(
     place: usize,
 ) -> usize
     requires as_many { length strides.now ≡ length lengths.now }
-    requires few { length lengths.now ≤ 32 }
+    requires few { length lengths.now ≤ MAX_AXES }
     requires checked { HasCheckedSize lengths.now }
     requires inside { IsTrue (in_box lengths.now (front_of lengths.now index.old)) }
     requires way { IsOnItsWay lengths.now strides.now (front_of lengths.now index.old) place }
@@ -123,7 +123,7 @@ impl<'a> Walk<'a> {
     /// The walk that stands at the first index, where there is one. The place of each index is a `usize`.
     pub fn new(first: usize, lengths: &'a [usize], strides: &'a [isize]) -> Self
         requires as_many { length strides.now ≡ length lengths.now }
-        requires few { length lengths.now ≤ 32 }
+        requires few { length lengths.now ≤ MAX_AXES }
         requires checked { HasCheckedSize lengths.now }
         requires reach { ReachesUsizes first lengths.now strides.now }
         ensures over { (result.first.value ≡ first) × (result.lengths.now ≡ lengths.now) × (result.strides.now ≡ strides.now) }

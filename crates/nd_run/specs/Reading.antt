@@ -2,6 +2,7 @@
 use Rattle.std.specs.Prelude.{◌≡◌, ◌<◌, ℕ, zero, suc, ◌^◌, Bool, true, false, nat_le, nat_lt, List, [], ◌∷◌, ℤ, Option, None, Some, Result, Ok, Err, codes, length, if◌then◌else◌}
 use Rattle.std.specs.Str.{bytes_eq}
 use Rattle.std.specs.Option.{option_map}
+use Rattle.nd_shape_and_slice.specs.declared.TheConstants.{MAX_AXES}
 use Rattle.nd_shape_and_slice.specs.Shape.{nonzero_product, size_of}
 use Rattle.nd_shape_and_slice.specs.declared.slice.Slice.{Slice}
 use Rattle.nd_shape_and_slice.specs.declared.slice_info.SliceInfoElem.{SliceInfoElem}
@@ -119,7 +120,7 @@ ordered_list_at words = both_at order_at list_at words
 unfoldable pub lengths_at : List (List ℕ) → Option (List ℕ × List (List ℕ))
 lengths_at words = do
   count ← first_as nat_of words
-  if nat_le count.0 32 then many_at (first_as nat_of) count.0 count.1 else None
+  if nat_le count.0 MAX_AXES then many_at (first_as nat_of) count.0 count.1 else None
 
 -- the size of an array, where it has a checked one
 abbrev pub checked_size : List ℕ → Option ℕ

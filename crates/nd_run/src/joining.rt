@@ -112,7 +112,7 @@ fn are_equal<A, T: Holds<A>>(array: &Array<A, IxDyn>, others: &[T]) -> bool
 /// Whether the array has a checked size with so many others beside it.
 fn fit_beside<A>(array: &Array<A, IxDyn>, axis: usize, others: usize) -> bool
     requires place { axis ≤ length (shape_of array.now) }
-    requires room { length (shape_of array.now) < 32 }
+    requires room { length (shape_of array.now) < MAX_AXES }
     ensures { result ≡ (size_test (insert (shape_of array.now) axis (others + 1))).0 }
 {
     match others.checked_add(1) {

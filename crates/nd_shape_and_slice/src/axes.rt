@@ -39,7 +39,7 @@ fn counts_each_axis(axes: &[usize], ndim: usize) -> bool
 
 /// The same in one pass: each axis that was read is a bit of a mask.
 fn marks_each_axis(axes: &[usize], ndim: usize) -> bool
-    requires { ndim ≤ 32 }
+    requires { ndim ≤ MAX_AXES }
     ensures { IsTrue result ↔ HasEachBelow axes.now ndim }
 {
     let mut seen: u64 = 0;

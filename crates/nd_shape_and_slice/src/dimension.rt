@@ -81,7 +81,7 @@ pub trait Dimension: AxisCount + Copy {
     fn slice(&self) -> &[usize]
         ensures lengths { result.now ≡ lengths self.now }
         ensures number { IsTrue (has_axes (length result.now)) }
-        ensures few { length result.now ≤ 32 };
+        ensures few { length result.now ≤ MAX_AXES };
 
     /// The length of one axis. ndarray's `Dimension` has brackets for it.
     fn length(&self, axis: usize) -> usize
@@ -99,7 +99,7 @@ pub trait Dimension: AxisCount + Copy {
     /// The dimension with this many axes, each of length 0. It can have so many. ndarray's `Dimension::zeros`.
     fn zeros(count: usize) -> Self
         requires number { IsTrue (has_axes count) }
-        requires few { count ≤ 32 }
+        requires few { count ≤ MAX_AXES }
         ensures { lengths result ≡ replicate count 0 };
 
     /// Strides of 0, as many as there are axes.
@@ -121,7 +121,7 @@ pub trait Dimension: AxisCount + Copy {
     /// The number of axes, at most 32. ndarray's `Dimension::ndim`.
     fn ndim(&self) -> usize
         ensures value { result ≡ length (lengths self.now) }
-        ensures few { result ≤ 32 }
+        ensures few { result ≤ MAX_AXES }
     {
         self.slice().len()
     }

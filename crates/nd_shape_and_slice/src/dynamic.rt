@@ -7,7 +7,7 @@ use crate::dimension::{AxisCount, Dimension, MAX_AXES, StrideList};
 /// A number of axes known only at run time, at most 32. It takes no memory. ndarray's `IxDyn`.
 #[derive(Clone, Copy, Debug)]
 pub struct IxDyn {
-    lens: [usize; 32],
+    lens: [usize; MAX_AXES],
     count: usize,
     ghost few: { count ≤ 32 },
 }
@@ -15,7 +15,7 @@ pub struct IxDyn {
 /// The strides of an array whose number of axes is known only at run time.
 #[derive(Clone, Copy, Debug)]
 pub struct DynStrides {
-    strides: [isize; 32],
+    strides: [isize; MAX_AXES],
     count: usize,
     ghost few: { count ≤ 32 },
 }
@@ -47,10 +47,10 @@ impl AxisCount for IxDyn {
 impl IxDyn {
     /// The dimension with these lengths, at most 32. ndarray's `IxDyn`.
     pub fn new(lengths: &[usize]) -> Self
-        requires { length lengths.now ≤ 32 }
+        requires { length lengths.now ≤ MAX_AXES }
         ensures { ⟦<IxDyn as Dimension>⟧.lengths result ≡ lengths.now }
     {
-        let mut lens = [0; 32];
+        let mut lens = [0; MAX_AXES];
         let count = lengths.len();
         lens[..count].copy_from_slice(lengths);
         IxDyn { lens, count }
@@ -97,7 +97,7 @@ impl Dimension for IxDyn {
     #[inline]
     fn zeros(count: usize) -> Self {
         IxDyn {
-            lens: [0; 32],
+            lens: [0; MAX_AXES],
             count,
         }
     }
@@ -108,7 +108,7 @@ impl Dimension for IxDyn {
 
     fn zero_strides(&self) -> DynStrides {
         DynStrides {
-            strides: [0; 32],
+            strides: [0; MAX_AXES],
             count: self.count,
         }
     }

@@ -17,7 +17,7 @@ pub struct Dim<const N: usize> {
 impl<const N: usize> Dim<N> {
     /// The dimension with these lengths.
     pub(crate) fn new(lens: [usize; N]) -> Self
-        requires { N ≤ 32 }
+        requires { N ≤ MAX_AXES }
         ensures { result.lens ≡ lens.entry }
     {
         Dim { lens }

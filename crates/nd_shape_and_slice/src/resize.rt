@@ -106,7 +106,7 @@ impl RemoveAxis for Dim<6> {
 
 impl RemoveAxis for IxDyn {
     fn remove_axis(&self, axis: Axis) -> IxDyn {
-        let mut lengths = [0; 32];
+        let mut lengths = [0; MAX_AXES];
         let count = self.ndim() - 1;
         copy_without(self.slice(), axis.0, &mut lengths[..count]);
         IxDyn::new(&lengths[..count])

@@ -139,7 +139,7 @@ fn elements_fit(lengths: &[usize], elements: &[SliceInfoElem]) -> bool
 /// Whether the list leaves 32 axes at most. No list of 32 elements leaves more, so it is rarely counted.
 #[tactic(auto, using(crate::proofs::SliceLists::few_kept))]
 fn keeps_few_axes(elements: &[SliceInfoElem]) -> bool
-    ensures { result ≡ nat_le (axes_kept elements.now) 32 }
+    ensures { result ≡ nat_le (axes_kept elements.now) MAX_AXES }
 {
     elements.len() <= MAX_AXES || axes_kept(elements) <= MAX_AXES
 }
@@ -154,7 +154,7 @@ pub fn slices_fit(shape: &[usize], elements: &[SliceInfoElem]) -> bool
 
 /// Whether values of the dimension may have this many axes, at most 32.
 fn takes_axes<D: Dimension>(count: usize) -> bool
-    requires { count ≤ 32 }
+    requires { count ≤ MAX_AXES }
     ensures { result ≡ D.has_axes count }
 {
     let lengths = [0; MAX_AXES];
@@ -166,7 +166,7 @@ fn takes_axes<D: Dimension>(count: usize) -> bool
 
 /// Whether the dimension may have this many axes, at most 32.
 fn is_axis_count<D: Dimension>(count: usize) -> bool
-    ensures { result ≡ (nat_le count 32 && D.has_axes count) }
+    ensures { result ≡ (nat_le count MAX_AXES && D.has_axes count) }
 {
     count <= MAX_AXES && takes_axes::<D>(count)
 }

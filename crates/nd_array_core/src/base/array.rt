@@ -8,7 +8,7 @@ ghost use Rattle.nd_elements.specs.Places.{names_place};
 
 use nd_elements::storage::{Data, OwnedRepr, ViewMutRepr, ViewRepr};
 use nd_layout::{Layout, stride_at};
-use nd_shape_and_slice::{Axis, Dimension, StrideList};
+use nd_shape_and_slice::{Axis, Dimension, MAX_AXES, StrideList};
 use std::alloc::AllocError;
 
 /// An n-dimensional array over a storage: a shape, and one element for each index of its box. ndarray's
@@ -49,7 +49,7 @@ impl<S: Data, D: Dimension> ArrayBase<S, D> {
     pub fn ndim(&self) -> usize
         ensures value { result ≡ length (shape_of self.now) }
         ensures number { IsTrue (D.has_axes result) }
-        ensures few { result ≤ 32 }
+        ensures few { result ≤ MAX_AXES }
     {
         let dim = &self.layout.dim;
         dim.slice().len()

@@ -23,7 +23,7 @@ use crate::base::array::{Array, ArrayBase, ArrayView, ArrayViewMut};
 use nd_elements::storage::{Data, OwnedRepr, ViewMutRepr, ViewRepr};
 use nd_layout::{Layout, offset_in_slice, offset_in_vec, size_in_slice, size_in_vec};
 use nd_region::Region;
-use nd_shape_and_slice::{Dimension, IntoStrideShape, Order, ShapeError, StrideList};
+use nd_shape_and_slice::{Dimension, IntoStrideShape, MAX_AXES, Order, ShapeError, StrideList};
 
 /// The elements of a storage under a shape, in an order.
 pub(crate) fn in_order<S: Data, D: Dimension>(storage: S, dim: D, order: Order) -> ArrayBase<S, D>
@@ -60,7 +60,7 @@ fn given_offset(
     count: usize,
 ) -> Result<usize, ShapeError>
     requires as_many { length strides.now ≡ length lengths.now }
-    requires few { length lengths.now ≤ 32 }
+    requires few { length lengths.now ≤ MAX_AXES }
     ensures refused { IfErr result (λ e. refusal_in given_in lengths.now (Some strides.now) count ≡ Some e) }
     ensures accepted { IfOk result (λ _. refusal_in given_in lengths.now (Some strides.now) count ≡ None) }
     ensures offset { IfOk result (λ offset. offset ≡ reach_down lengths.now strides.now) }

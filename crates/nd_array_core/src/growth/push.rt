@@ -11,7 +11,7 @@ ghost use Rattle.nd_array_core.specs.growth.Grown.{BecomesReady, GoesOn, IsGrown
 
 use crate::base::array::{Array, ArrayView};
 use crate::base::array_error::ArrayError;
-use nd_shape_and_slice::{Axis, Dimension, ErrorKind, Ix1, Ix2, RemoveAxis, ShapeError};
+use nd_shape_and_slice::{Axis, Dimension, ErrorKind, Ix1, Ix2, MAX_AXES, RemoveAxis, ShapeError};
 
 /// The view with an axis of length 1 put in, as one of a dimension that has as many axes.
 fn with_axis<'a, A, D: RemoveAxis>(
@@ -21,7 +21,7 @@ fn with_axis<'a, A, D: RemoveAxis>(
 where
     D::Smaller: Dimension,
     requires place { axis.0 ≤ length (shape_of array) }
-    requires few { length (shape_of array) < 32 }
+    requires few { length (shape_of array) < MAX_AXES }
     requires room { IsTrue (D.has_axes (length (shape_of array) + 1)) }
     ensures part { ShowsPart array.entry (inserted_part array.entry axis.0) result }
 {

@@ -15,8 +15,8 @@ ghost use Rattle.nd_array_core.specs.Part.{permuted_part, inverted_part, collaps
 use crate::base::array::{ArrayBase, ArrayView, ArrayViewMut};
 use nd_elements::storage::{Data, DataMut};
 use nd_shape_and_slice::{
-    Axes, Axis, AxisCount, Dimension, ErrorKind, IntoDimension, Ix1, IxDyn, RemoveAxis, ShapeError,
-    StrideList,
+    Axes, Axis, AxisCount, Dimension, ErrorKind, IntoDimension, Ix1, IxDyn, MAX_AXES, RemoveAxis,
+    ShapeError, StrideList,
 };
 
 impl<S: Data, D: Dimension> ArrayBase<S, D> {
@@ -263,7 +263,7 @@ impl<S: Data> ArrayBase<S, IxDyn> {
     /// `insert_axis_inplace`.
     pub fn insert_axis_inplace(&mut self, axis: Axis)
         requires place { axis.0 ≤ length (shape_of self.old) }
-        requires room { length (shape_of self.old) < 32 }
+        requires room { length (shape_of self.old) < MAX_AXES }
         ensures part { BecomesPart self.old (inserted_part self.old axis.0) self.new }
     {
         let layout = self.layout.insert_axis(axis.0);

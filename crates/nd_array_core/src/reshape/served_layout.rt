@@ -10,7 +10,7 @@ ghost use Rattle.nd_layout.specs.Placements.{placement_of};
 use crate::base::array::{ArrayBase, ArrayView};
 use nd_elements::storage::Data;
 use nd_layout::{Layout, reshape_strides};
-use nd_shape_and_slice::{Dimension, Order, StrideList, strides_from};
+use nd_shape_and_slice::{Dimension, MAX_AXES, Order, StrideList, strides_from};
 
 /// Strides under which other lengths give each element, by its rank in an order, the place that it has; None exactly
 /// where no integers do.
@@ -24,7 +24,7 @@ fn serving_strides<D: Dimension, E: Dimension>(
     ensures served { IfSome result (λ ts. IsServedOver order layout.now (E.lengths dim.now) (E.Strides.strides_of ts)) }
 {
     let lengths = dim.slice();
-    let mut list = [0; 32];
+    let mut list = [0; MAX_AXES];
     let strides = &mut list[..lengths.len()];
     if reshape_strides(
         layout.dim.slice(),

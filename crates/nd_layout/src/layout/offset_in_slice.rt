@@ -10,8 +10,8 @@ ghost use Rattle.nd_layout.specs.Steps.{IsValid};
 
 use crate::spans::{separated, span};
 use nd_shape_and_slice::{
-    Dimension, ErrorKind, Order, ShapeError, default_strides, fortran_strides, is_empty_shape,
-    size_of_shape_checked,
+    Dimension, ErrorKind, MAX_AXES, Order, ShapeError, default_strides, fortran_strides,
+    is_empty_shape, size_of_shape_checked,
 };
 
 /// The strides that an order gives.
@@ -102,7 +102,7 @@ pub fn offset_in_slice(
     count: usize,
 ) -> Result<usize, ShapeError>
     requires as_many { length strides.now ≡ length lengths.now }
-    requires few { length lengths.now ≤ 32 }
+    requires few { length lengths.now ≤ MAX_AXES }
     ensures refused { IfErr result (λ e. slice_refusal lengths.now (Some strides.now) count ≡ Some e) }
     ensures accepted { IfOk result (λ _. slice_refusal lengths.now (Some strides.now) count ≡ None) }
     ensures offset { IfOk result (λ offset. offset ≡ reach_down lengths.now strides.now) }
@@ -122,7 +122,7 @@ pub fn offset_in_slice(
 /// Whether an owned array may have these strides: no two indexes may share an element.
 fn keeps_apart(lengths: &[usize], strides: &[isize]) -> bool
     requires as_many { length strides.now ≡ length lengths.now }
-    requires few { length lengths.now ≤ 32 }
+    requires few { length lengths.now ≤ MAX_AXES }
     ensures { IsTrue result ↔ IsTrue (nat_eq (size_of lengths.now) 0 || is_separated lengths.now strides.now) }
 {
     is_empty_shape(lengths) || separated(lengths, strides)
@@ -135,7 +135,7 @@ pub fn offset_in_vec(
     count: usize,
 ) -> Result<usize, ShapeError>
     requires as_many { length strides.now ≡ length lengths.now }
-    requires few { length lengths.now ≤ 32 }
+    requires few { length lengths.now ≤ MAX_AXES }
     ensures refused { IfErr result (λ e. vec_refusal lengths.now (Some strides.now) count ≡ Some e) }
     ensures accepted { IfOk result (λ _. vec_refusal lengths.now (Some strides.now) count ≡ None) }
     ensures offset { IfOk result (λ offset. offset ≡ reach_down lengths.now strides.now) }

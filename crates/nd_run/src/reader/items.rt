@@ -211,7 +211,7 @@ fn checked_size(lengths: &[usize]) -> Result<usize, LineFault>
 /// The array of these lengths and elements.
 fn array_of(lengths: &[usize], elements: Vec<i64>) -> Array<i64, IxDyn>
     requires checked { HasCheckedSize lengths.now }
-    requires few { length lengths.now ≤ 32 }
+    requires few { length lengths.now ≤ MAX_AXES }
     requires full { length elements.items ≡ size_of lengths.now }
     ensures { meaning_of result ≡ array_of lengths.now elements.items }
 {
