@@ -116,7 +116,7 @@ fn sought<'a, A, D: Dimension, I: NdIndex<D>>(
     ensures region { result.0 ≡ region_of view.entry }
     ensures within { result.2 ≡ in_box (shape_of view.entry) (I.coordinates_of index) }
     ensures place { result.2 ≡ true → place_at view.entry (I.coordinates_of index) ≡ Some result.1 }
-    ensures element { element_at view.entry (I.coordinates_of index) ≡ stored_if result.2 (region_stored result.0 result.1) }
+    ensures shown { element_at view.entry (I.coordinates_of index) ≡ stored_if result.2 (region_stored result.0 result.1) }
     ensures there { result.2 ≡ true → IsSome (region_stored result.0 result.1) }
 {
     let ArrayBase { storage, layout } = view;

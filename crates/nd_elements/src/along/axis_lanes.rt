@@ -29,9 +29,8 @@ pub struct AxisLanes<'a> {
 
 impl<'a> AxisLanes<'a> {
     ghost use Rattle.nd_layout.specs.Placements.{placement_of};
-    ghost use Rattle.nd_layout.specs.Ranks.{IsStandard};
     ghost use Rattle.nd_elements.specs.along.AxisLanes.{LanesLie, lanes_from};
-    ghost use Rattle.nd_elements.specs.along.LanesIn.{lanes_in};
+    ghost use Rattle.nd_elements.specs.along.LanesIn.{lanes_in, BeginInTurn};
 
     /// The lanes that begin at the places of a layout.
     pub fn new<D: Dimension, T: StrideList>(
@@ -54,7 +53,7 @@ impl<'a> AxisLanes<'a> {
     /// Whether one begins beside the other, and there are enough for going along them together.
     pub fn are_beside(&self) -> bool
         ensures some { result ≡ true → 0 < self.now.lanes }
-        ensures standard { result ≡ true → IsStandard self.now.firsts.lengths.now self.now.firsts.strides.now }
+        ensures standard { result ≡ true → BeginInTurn self.now }
     {
         self.lanes >= FEWEST && is_standard(self.firsts.lengths, self.firsts.strides)
     }

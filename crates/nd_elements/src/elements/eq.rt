@@ -3,7 +3,7 @@
 ghost use Rattle.std.specs.Prelude.{◌≡◌, ◌+◌, ◌≤◌, length};
 ghost use Rattle.std.specs.Cmp.Lexicographic.{pointwise};
 ghost use Rattle.nd_layout.specs.Lanes.{along};
-ghost use Rattle.nd_elements.specs.ByLayout.{listed_by, HoldsShown};
+ghost use Rattle.nd_elements.specs.ByLayout.{equal_shown, HoldsShown};
 ghost use Rattle.nd_elements.specs.NumberedPlaces.{Holds, equal_from, equal_along};
 
 use crate::storage::Data;
@@ -92,7 +92,7 @@ where
     requires alike { D.lengths theirs.now.dim ≡ D.lengths ours.now.dim }
     requires ours { HoldsShown S.stored a.now ours.now }
     requires theirs { HoldsShown S.stored b.now theirs.now }
-    ensures { result ≡ pointwise S.Elem.eq (listed_by S.stored a.now ours.now) (listed_by S.stored b.now theirs.now) }
+    ensures { result ≡ equal_shown S.stored S.Elem.eq a.now ours.now b.now theirs.now }
 {
     let lengths = ours.dim.slice();
     let mut lanes = Lanes::new(ours.offset, lengths, ours.strides.slice());
@@ -122,7 +122,7 @@ where
     requires alike { D.lengths theirs.now.dim ≡ D.lengths ours.now.dim }
     requires ours { HoldsShown S.stored a.now ours.now }
     requires theirs { HoldsShown S.stored b.now theirs.now }
-    ensures { result ≡ pointwise S.Elem.eq (listed_by S.stored a.now ours.now) (listed_by S.stored b.now theirs.now) }
+    ensures { result ≡ equal_shown S.stored S.Elem.eq a.now ours.now b.now theirs.now }
 {
     let Some(halves) = halved_alike(ours, theirs) else {
         return equal_in_order(a, ours, b, theirs);
@@ -144,7 +144,7 @@ where
     requires alike { D.lengths theirs.now.dim ≡ D.lengths ours.now.dim }
     requires ours { HoldsShown S.stored a.now ours.now }
     requires theirs { HoldsShown S.stored b.now theirs.now }
-    ensures { result ≡ pointwise S.Elem.eq (listed_by S.stored a.now ours.now) (listed_by S.stored b.now theirs.now) }
+    ensures { result ≡ equal_shown S.stored S.Elem.eq a.now ours.now b.now theirs.now }
 {
     if !is_worth_turning(ours, theirs) {
         return equal_in_order(a, ours, b, theirs);
