@@ -12,7 +12,7 @@ ghost use Rattle.nd_region.specs.Region.{region_stored, borrow_of, elements_of, 
 ghost use Rattle.nd_elements.specs.ByLayout.{HoldsShown, ShowsNamed, ShowsUnnamed};
 ghost use Rattle.nd_elements.specs.Places.{HoldsAll, written_at, swapped_at};
 ghost use Rattle.nd_elements.specs.Scoped.{TakesNamed, GivesNamedBack, IsStoredReturned, MayLendPart, IsPartGivenBack};
-ghost use Rattle.nd_elements.specs.Storages.{shown_by, stored_list, room_of, ShowsItems};
+ghost use Rattle.nd_elements.specs.Storages.{held_by, shown_by, stored_list, room_of, ShowsItems};
 ghost use Rattle.nd_elements.specs.ElementMut.{place_ends, KeepsPlaces, item_kept, item_written, place_kept, place_written};
 ghost use Rattle.nd_elements.specs.NewElements.{overwritten_itself, overwritten_again, places_there, places_kept, items_there, items_kept, items_itself, items_again, items_put, items_beside, places_put, places_beside};
 ghost use Rattle.nd_elements.specs.StorageLaws.{WritesOneElement, HoldsWrittenRun, KeepsBesideRun, HoldsLastRefill, HasRefilledItems, KeepsUnfilledPlaces, HoldsWhereBefore};
@@ -242,9 +242,9 @@ impl<'a, A> ViewMutRepr<'a, A> {
 
     /// Moves the places that a layout names into a storage of their own. They keep their numbers.
     pub fn split<D: Dimension, T: StrideList>(&mut self, layout: &Layout<D, T>) -> Self
-        requires { HoldsShown region_stored self.old.region layout.now }
-        ensures taken { ShowsNamed region_stored layout.now self.old.region result.region }
-        ensures left { ShowsUnnamed region_stored layout.now self.old.region self.new.region }
+        requires { HoldsShown held_by self.old layout.now }
+        ensures taken { ShowsNamed held_by layout.now self.old result }
+        ensures left { ShowsUnnamed held_by layout.now self.old self.new }
     {
         RegionRepr {
             region: self

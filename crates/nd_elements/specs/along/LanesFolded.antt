@@ -99,8 +99,8 @@ module _ {F B A : Type 0} (g : Mut F (Bor B × (Bor A × Unit {0})) B) where
     abbrev pub AreFoldedBeside : S → (ℕ → Option B) → F → (ℕ → Option B) → Type 0
     AreFoldedBeside s start f found = AreFoldedTo (λ m. m % at.lanes) (λ m. m / at.lanes) at.lanes at.count (at.count * at.lanes) (lanes_at s) start f found
 
-  abbrev pub FoldsLanes : {S Z : Type 0} → (S → ℕ → Option A) → AxisLanes → S → B → F → Vec B Z → Type 0
-  FoldsLanes stored lanes s init f found = LanesFoldedTo stored (lanes_in lanes) s init f found
+  abbrev pub FoldsEachLane : {S Z : Type 0} → (S → ℕ → Option A) → AxisLanes → S → B → F → Vec B Z → Type 0
+  FoldsEachLane stored lanes s init f found = LanesFoldedTo stored (lanes_in lanes) s init f found
 
   -- as many lanes as there are totals, the first a given one, and each next one beside it
   module _ {S Z : Type 0} (stored : S → ℕ → Option A) (lane : Lane) (s : S) (starts : Vec B Z) where

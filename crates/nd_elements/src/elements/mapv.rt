@@ -1,6 +1,6 @@
 //! What a closure returns for a clone of each element, in a vector.
 
-ghost use Rattle.std.specs.Prelude.{◌≡◌, ◌+◌, ◌<◌, ◌≤◌, [], length, pos, slice_get, IfOk, OnErr, vec_len, vec_capacity};
+ghost use Rattle.std.specs.Prelude.{◌≡◌, ◌+◌, ◌<◌, ◌≤◌, [], length, pos, IfOk, OnErr, vec_len, vec_capacity};
 ghost use Rattle.nd_layout.specs.Lanes.{along, ranked};
 ghost use Rattle.nd_elements.specs.Clones.{StoredClonesAreEqual};
 ghost use Rattle.nd_elements.specs.NumberedPlaces.{ClonesAreEqualAt, Holds};
