@@ -25,6 +25,10 @@ module _ {A : Type 0} where
   abbrev pub SameCells : Meaning A → Meaning A → Type 0
   SameCells m n = (m.shape ≡ n.shape) × ((row column : ℕ) → row < slice_index m.shape 0 → column < slice_index m.shape 1 → m.at (row ∷ column ∷ []) ≡ n.at (row ∷ column ∷ []))
 
+  -- where the first has rows and columns, they are equal exactly if their cells are the same
+  abbrev pub EqualByCells : (A → A → Bool) → Meaning A → Meaning A → Type 0
+  EqualByCells equal m n = (rows columns : ℕ) → m.shape ≡ rows ∷ columns ∷ [] → EqualEverywhere equal m n ↔ SameCells m n
+
   -- the lengths as a slice, and then each element in row-major order
   abbrev pub fed_meaning : (A → HashWrites) → Meaning A → HashWrites
   fed_meaning feed m = slice usize m.shape ++ flat_map feed (row_major_elements m)

@@ -157,7 +157,7 @@ fn append_both<'a, A: Clone + Drop>(
     second: ArrayView2<'a, A>,
 ) -> Result<(), (usize, ArrayError)>
     requires clones { (x copy : A) → A.is_clone x copy → copy ≡ x }
-    ensures { OnOk result (JoinsAllAlike 1 (meaning_of table.old) (meaning_of first.entry ∷ meaning_of second.entry ∷ []) (meaning_of table.new)) }
+    ensures { OnOk result (JoinsAllAlike 1 table.old (meaning_of first.entry ∷ meaning_of second.entry ∷ []) table.new) }
 {
     table.append_each(Axis(1), &[first, second])
 }

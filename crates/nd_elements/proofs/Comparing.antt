@@ -1,5 +1,5 @@
 -- Elements compared one by one: block behind block, and lane behind lane.
-use Rattle.std.proofs.Common.{◌≡◌, ℕ, ◌+◌, ◌-◌, ◌<◌, ◌≤◌, Bool, true, false, ◌&&◌, List, [], ◌∷◌, ◌++◌, length, get_or, zero, suc, inl, inr, ℤ, refl, ap, sym, ◌∙◌, subst, arith}
+use Rattle.std.proofs.Common.{◌≡◌, ℕ, ◌+◌, ◌-◌, ◌<◌, ◌≤◌, Bool, true, false, ◌&&◌, List, [], ◌∷◌, ◌++◌, length, get_or, zero, suc, inl, inr, ℤ, refl, ap, sym, ◌∙◌, arith}
 use Rattle.std.specs.Prelude.{◌⊎◌, Option, Some, None, is_some, nat_eq, slice_get, take, drop, if◌then◌else◌}
 use Rattle.std.specs.Option.{unwrap_or}
 use Rattle.std.specs.Cmp.{unsigned_Decides, first_so, second_so}
@@ -10,11 +10,10 @@ use Rattle.std.specs.List.{filter_map}
 use Rattle.nd_shape_and_slice.specs.Shape.{in_box, size_of, row_rank, index_at, indexes_of}
 use Rattle.nd_shape_and_slice.proofs.RankIndexes.{in_box-index_at, row_rank-index_at}
 use Rattle.nd_shape_and_slice.specs.Place.{place_of}
-use Rattle.nd_layout.specs.Walk.{IsLane}
 use Rattle.nd_elements.specs.Meaning.{inside}
 use Rattle.nd_elements.specs.Places.{stored_at, HoldsAll}
-use Rattle.nd_elements.specs.Collected.{collected, stored_along, stored_by_rank}
-use Rattle.nd_elements.proofs.Collecting.{collected_more, collected_then, length-collected, all_collected, lane_collected, rank_has, listed_get, elements_count}
+use Rattle.nd_elements.specs.Collected.{collected}
+use Rattle.nd_elements.proofs.Collecting.{collected_alike, collected_more, collected_then, length-collected, listed_get, elements_count}
 
 and_assoc : (a b c : Bool) → ((a && b) && c) ≡ (a && (b && c))
 and_assoc true b c = refl
@@ -118,10 +117,16 @@ module _ {A : Type 0} (E : A → A → Bool) where
           ∙ ap (λ t. pointwise E (collected f k) (collected h k) && t) differs
           ∙ and_false (pointwise E (collected f k) (collected h k)))
 
-  lane_has : (stored : ℕ → Option A) (first : ℕ) (ns : List ℕ) (ss : List ℤ) (rank place count : ℕ) (stride : ℤ) → HoldsAll stored first ns ss → IsLane first ns ss rank place count stride → (k : ℕ) → k < count → is_some (stored_along stored place stride k) ≡ true
-  lane_has stored first ns ss rank place count stride holds lane k below =
-      let within = lane.within in
-      ap (λ z. is_some (stored_at stored z)) (lane.places k below) ∙ rank_has stored first ns ss holds (rank + k) (omega (arith, below, within))
+      -- the same of a block that is also found otherwise, as that of a lane
+      module _ (k m : ℕ) (one two : ℕ → Option A) (within : k + m ≤ n) (ours : (j : ℕ) → j < m → one j ≡ f (k + j)) (theirs : (j : ℕ) → j < m → two j ≡ h (k + j)) where
+        same_block : pointwise E (collected one m) (collected two m) ≡ pointwise E (collected (λ j. f (k + j)) m) (collected (λ j. h (k + j)) m)
+        same_block = λ i. pointwise E (collected_alike one (λ j. f (k + j)) m ours i) (collected_alike two (λ j. h (k + j)) m theirs i)
+
+        pub lane_more : pointwise E (collected f k) (collected h k) ≡ true → pointwise E (collected one m) (collected two m) ≡ true → pointwise E (collected f (k + m)) (collected h (k + m)) ≡ true
+        lane_more before same = block_more k m within before (sym same_block ∙ same)
+
+        pub lane_differs : pointwise E (collected one m) (collected two m) ≡ false → pointwise E (collected f n) (collected h n) ≡ false
+        lane_differs differs = block_differs k m within (sym same_block ∙ differs)
 
   pair_equal : (xs ys : List A) → pointwise E xs ys ≡ true → (k : ℕ) (x y : A) → slice_get xs k ≡ Some x → slice_get ys k ≡ Some y → E x y ≡ true
   pair_equal [] ys h k x y e f = absurd cc
@@ -140,51 +145,8 @@ module _ {A : Type 0} (E : A → A → Bool) where
 
   -- two arrays of one shape
   module _ (a b : ℕ → Option A) (from start : ℕ) (ns ms : List ℕ) (ss ts : List ℤ) (shape : ms ≡ ns) (holds : HoldsAll a from ns ss) (has : HoldsAll b start ms ts) where
-    theirs_has : HoldsAll b start ns ts
-    theirs_has = subst (λ ls. HoldsAll b start ls ts) shape has
-
-    abbrev ours : ℕ → Option A
-    ours = stored_by_rank a from ns ss
-
-    abbrev theirs : ℕ → Option A
-    theirs = stored_by_rank b start ns ts
-
     abbrev listed_at : (ℕ → Option A) → ℕ → List ℕ → List ℤ → List A
     listed_at stored offset lengths strides = filter_map (λ i. inside lengths i (stored_at stored (place_of offset strides i))) (indexes_of lengths)
-
-    pub all_compared : (r : Bool) → r ≡ pointwise E (collected ours (size_of ns)) (collected theirs (size_of ns)) → r ≡ pointwise E (listed_at a from ns ss) (listed_at b start ms ts)
-    all_compared r e =
-        e ∙ ap (λ xs. pointwise E xs (collected theirs (size_of ns))) (all_collected a from ns ss)
-        ∙ ap (pointwise E (listed_at a from ns ss)) (ap (λ ls. collected (stored_by_rank b start ls ts) (size_of ls)) (sym shape) ∙ all_collected b start ms ts)
-
-    module _ (rank place count : ℕ) (stride : ℤ) (lane : IsLane from ns ss rank place count stride) where
-      pub ours_along : (k : ℕ) → k < count → is_some (stored_along a place stride k) ≡ true
-      ours_along = lane_has a from ns ss rank place count stride holds lane
-
-    module _ (rank place count : ℕ) (stride : ℤ) (lane : IsLane start ns ts rank place count stride) where
-      pub theirs_along : (k : ℕ) → k < count → is_some (stored_along b place stride k) ≡ true
-      theirs_along = lane_has b start ns ts rank place count stride theirs_has lane
-
-    module _ (rank place place' count : ℕ) (stride stride' : ℤ) (lane : IsLane from ns ss rank place count stride) (other : IsLane start ns ts rank place' count stride') where
-      compared_lane : pointwise E (collected ours (rank + count)) (collected theirs (rank + count))
-          ≡ (pointwise E (collected ours rank) (collected theirs rank) && pointwise E (collected (stored_along a place stride) count) (collected (stored_along b place' stride') count))
-      compared_lane =
-          let within = lane.within in
-          (λ i. pointwise E (lane_collected a from ns ss rank place count stride lane i) (lane_collected b start ns ts rank place' count stride' other i))
-          ∙ pointwise_append (collected ours rank) (collected theirs rank) (collected (stored_along a place stride) count) (collected (stored_along b place' stride') count)
-          (long ours theirs rank (λ k below. rank_has a from ns ss holds k (omega (arith, below, within))) (λ k below. rank_has b start ns ts theirs_has k (omega (arith, below, within))))
-
-      pub lane_more : pointwise E (collected ours rank) (collected theirs rank) ≡ true → pointwise E (collected (stored_along a place stride) count) (collected (stored_along b place' stride') count) ≡ true
-          → pointwise E (collected ours (rank + count)) (collected theirs (rank + count)) ≡ true
-      lane_more before along =
-          compared_lane ∙ ap (λ t. t && pointwise E (collected (stored_along a place stride) count) (collected (stored_along b place' stride') count)) before ∙ along
-
-      pub lane_differs : pointwise E (collected (stored_along a place stride) count) (collected (stored_along b place' stride') count) ≡ false
-          → false ≡ pointwise E (listed_at a from ns ss) (listed_at b start ms ts)
-      lane_differs differs =
-          all_compared false
-          (sym (front_differs ours theirs (size_of ns) (rank_has a from ns ss holds) (rank_has b start ns ts theirs_has) (rank + count) lane.within
-          (compared_lane ∙ ap (λ t. pointwise E (collected ours rank) (collected theirs rank) && t) differs ∙ and_false (pointwise E (collected ours rank) (collected theirs rank)))))
 
     abbrev at_ours : List ℕ → Option A
     at_ours i = inside ns i (stored_at a (place_of from ss i))

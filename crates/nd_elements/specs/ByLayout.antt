@@ -1,6 +1,7 @@
 -- What a storage holds where a layout has its indexes.
-use Rattle.std.specs.Prelude.{◌≡◌, ℕ, List, Option}
+use Rattle.std.specs.Prelude.{◌≡◌, ℕ, Bool, List, Option}
 use Rattle.std.specs.Borrow.{Bor, MutBor}
+use Rattle.std.specs.Cmp.Lexicographic.{pointwise}
 use Rattle.std.specs.Fn.{Mut}
 use Rattle.std.specs.List.{filter_map}
 use Rattle.nd_shape_and_slice.specs.Shape.{indexes_of}
@@ -10,6 +11,7 @@ use Rattle.nd_shape_and_slice.specs.declared.dimension.AxisCount as axis_count
 use Rattle.nd_shape_and_slice.specs.declared.dimension.StrideList as stride_list
 use Rattle.nd_layout.specs.Placements.{Placement, placement_of}
 use Rattle.nd_layout.specs.declared.layout.Layout.{Layout}
+use Rattle.nd_elements.specs.CloneRefusals.{MayRefuseClone}
 use Rattle.nd_elements.specs.Meaning.{inside}
 use Rattle.nd_region.specs.Places.{names, names_not}
 use Rattle.nd_elements.specs.Places.{place_number, stored_at, kept_at, HoldsAll}
@@ -53,6 +55,21 @@ module _ {S A D T P R L M : Type 0} {d : dimension.Ghosts D P R L M} {n : axis_c
 
   abbrev pub LeavesOthers : Layout D T P R L M d n r t → S → S → Type 0
   LeavesOthers l old new = StaysBeside (placement_of l) (stored old) (stored new)
+
+  -- a second storage has what the first one has at the places of a layout, or elsewhere
+  abbrev pub ShowsNamed : Layout D T P R L M d n r t → S → S → Type 0
+  ShowsNamed l old new = HasNamed (placement_of l) (stored old) (stored new)
+
+  abbrev pub ShowsUnnamed : Layout D T P R L M d n r t → S → S → Type 0
+  ShowsUnnamed l old new = HasUnnamed (placement_of l) (stored old) (stored new)
+
+  -- both storages have equal elements, in row-major order
+  abbrev pub equal_shown : (A → A → Bool) → S → Layout D T P R L M d n r t → S → Layout D T P R L M d n r t → Bool
+  equal_shown eq a ours b theirs = pointwise eq (listed_by a ours) (listed_by b theirs)
+
+  -- of an element a clone may be refused
+  abbrev pub MayRefuseShown : (A → Type 0) → S → Layout D T P R L M d n r t → Type 0
+  MayRefuseShown is_infallible s l = MayRefuseClone is_infallible (shown s l)
 
   -- each index has in `new` what it has in a second storage under a layout of its own; or that or what it had
   module _ {Z : Type 0} (others_stored : Z → ℕ → Option A) where

@@ -1,6 +1,8 @@
 -- What a storage holds once one value was written at one place after another.
 use Rattle.std.specs.Prelude.{◌≡◌, ◌⊎◌, ℕ, ◌<◌, ℤ, pos, Option, Some}
-use Rattle.nd_layout.specs.Lanes.{Numbered}
+use Rattle.nd_layout.specs.Lanes.{Numbered, ranked}
+use Rattle.nd_layout.specs.declared.places.Places.{Places}
+use Rattle.nd_elements.specs.CloneRefusals.{MayRefuseClonesOf}
 use Rattle.nd_elements.specs.Places.{stored_at}
 
 module _ {A : Type 0} (place : ℕ → ℤ) (count : ℕ) (x : A) (old new : ℕ → Option A) where
@@ -22,3 +24,15 @@ module _ {S A : Type 0} (stored : S → ℕ → Option A) (at : Numbered) (x : A
 
   abbrev pub FillsInPart : Type 0
   FillsInPart = IsPartlyFilled at.place at.count x (stored old) (stored new)
+
+-- and at the places of a layout
+module _ {S A : Type 0} (stored : S → ℕ → Option A) (places : Places) (x : A) (old new : S) where
+  abbrev pub FillsAll : Type 0
+  FillsAll = Fills stored (ranked places) x old new
+
+  abbrev pub FillsSome : Type 0
+  FillsSome = FillsInPart stored (ranked places) x old new
+
+-- x is cloned for each place, and a clone of it may be refused
+abbrev pub MayRefuseFilling : {A : Type 0} → (A → Type 0) → A → Places → Type 0
+MayRefuseFilling is_infallible x places = MayRefuseClonesOf is_infallible x (ranked places).count

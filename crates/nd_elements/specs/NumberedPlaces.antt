@@ -5,10 +5,11 @@ use Rattle.std.specs.declared.vec.Vec.{Vec}
 use Rattle.nd_shape_and_slice.specs.declared.dimension.Dimension as dimension
 use Rattle.nd_shape_and_slice.specs.declared.dimension.AxisCount as axis_count
 use Rattle.nd_shape_and_slice.specs.declared.dimension.StrideList as stride_list
-use Rattle.nd_layout.specs.Lanes.{Numbered, along, by_rank}
+use Rattle.nd_layout.specs.Lanes.{Numbered, along, by_rank, ranked}
 use Rattle.nd_layout.specs.Placements.{placement_of}
 use Rattle.nd_layout.specs.declared.lanes.Lane.{Lane}
 use Rattle.nd_layout.specs.declared.layout.Layout.{Layout}
+use Rattle.nd_layout.specs.declared.places.Places.{Places}
 use Rattle.nd_elements.specs.CloneRefusals.{MayRefuseBelow}
 use Rattle.nd_elements.specs.Clones.{ClonesAreEqual}
 use Rattle.nd_elements.specs.Collected.{collected}
@@ -54,6 +55,17 @@ ClonesAreEqualAt {A = A} is_clone stored at s = (k : ℕ) (x : A) → k < at.cou
 -- of one of them a clone may be refused
 abbrev pub MayRefuseAt : {S A : Type 0} → (A → Type 0) → (S → ℕ → Option A) → Numbered → S → Type 0
 MayRefuseAt is_infallible stored at s = MayRefuseBelow is_infallible (elements_at stored at s) at.count
+
+abbrev pub MayRefuse : {S A : Type 0} → (A → Type 0) → (S → ℕ → Option A) → Places → S → Type 0
+MayRefuse is_infallible stored places s = MayRefuseAt is_infallible stored (ranked places) s
+
+-- all elements of a layout are listed behind what a vector had; of one of them a clone may be refused
+module _ {S A D T P R L M : Type 0} {d : dimension.Ghosts D P R L M} {n : axis_count.Ghosts D} {r : stride_list.Ghosts R} {t : stride_list.Ghosts T} where
+  abbrev pub ListsShown : {Z : Type 0} → (S → ℕ → Option A) → Layout D T P R L M d n r t → S → Vec A Z → Vec A Z → Type 0
+  ListsShown stored l s old new = ListsBehind stored (ranked_by l) s old new
+
+  abbrev pub MayRefuseBy : (A → Type 0) → (S → ℕ → Option A) → Layout D T P R L M d n r t → S → Type 0
+  MayRefuseBy is_infallible stored l s = MayRefuseAt is_infallible stored (ranked_by l) s
 
 -- the elements along two lanes are equal, one by one: so many from a number on, and as many as the first lane has
 module _ {S A : Type 0} (eq : A → A → Bool) (stored : S → ℕ → Option A) where

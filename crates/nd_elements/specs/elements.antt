@@ -1,5 +1,6 @@
 pub mod Assigns
 pub mod Changes
+pub mod Equals
 pub mod Folds
 pub mod Hashes
 pub mod Maps

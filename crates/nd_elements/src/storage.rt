@@ -6,14 +6,13 @@ ghost use Rattle.std.specs.List.{flat_map};
 ghost use Rattle.std.specs.Option.{is_some};
 ghost use Rattle.std.specs.Vec.{with_item, with_items};
 ghost use Rattle.nd_elements.specs.StorageFrame.{StorageFrame, Owned, Borrowed};
-ghost use Rattle.nd_layout.specs.Placements.{placement_of};
 ghost use Rattle.nd_region.specs.Shared.{shared_stored};
 ghost use Rattle.nd_region.specs.Places.{overwritten_items, run_written};
 ghost use Rattle.nd_region.specs.Region.{region_stored, borrow_of, elements_of, with_element as region_with, with_items as region_items, with_run as region_with_run, IsAsLong};
-ghost use Rattle.nd_elements.specs.ByLayout.{HoldsEach, HasNamed, HasUnnamed};
+ghost use Rattle.nd_elements.specs.ByLayout.{HoldsShown, ShowsNamed, ShowsUnnamed};
 ghost use Rattle.nd_elements.specs.Places.{HoldsAll, written_at, swapped_at};
 ghost use Rattle.nd_elements.specs.Scoped.{TakesNamed, GivesNamedBack, IsStoredReturned, MayLendPart, IsPartGivenBack};
-ghost use Rattle.nd_elements.specs.Storages.{shown_by, stored_list, room_of};
+ghost use Rattle.nd_elements.specs.Storages.{held_by, shown_by, stored_list, room_of, ShowsItems};
 ghost use Rattle.nd_elements.specs.ElementMut.{place_ends, KeepsPlaces, item_kept, item_written, place_kept, place_written};
 ghost use Rattle.nd_elements.specs.NewElements.{overwritten_itself, overwritten_again, places_there, places_kept, items_there, items_kept, items_itself, items_again, items_put, items_beside, places_put, places_beside};
 ghost use Rattle.nd_elements.specs.StorageLaws.{WritesOneElement, HoldsWrittenRun, KeepsBesideRun, HoldsLastRefill, HasRefilledItems, KeepsUnfilledPlaces, HoldsWhereBefore};
@@ -119,7 +118,7 @@ pub struct ViewRepr<'a, A> {
 impl<'a, A> ViewRepr<'a, A> {
     /// All places of a slice.
     pub fn of_slice(items: &'a [A]) -> Self
-        ensures { (place : ℕ) → shared_stored result.region place ≡ slice_get items.now place }
+        ensures { ShowsItems result items.now }
     {
         ViewRepr {
             region: SharedRegion::from_slice(items),
@@ -129,7 +128,7 @@ impl<'a, A> ViewRepr<'a, A> {
     /// All places of rows of N elements each, one row after the other.
     pub fn of_rows<const N: usize>(rows: &'a [[A; N]]) -> Self
         requires { length rows.now * N < 2 ^ 63 }
-        ensures elements { (place : ℕ) → shared_stored result.region place ≡ slice_get (flat_map (λ row. row) rows.now) place }
+        ensures elements { ShowsItems result (flat_map (λ row. row) rows.now) }
         ensures count { length (flat_map (λ row. row) rows.now) ≡ length rows.now * N }
     {
         ViewRepr::of_slice(rows.as_flattened())
@@ -243,9 +242,9 @@ impl<'a, A> ViewMutRepr<'a, A> {
 
     /// Moves the places that a layout names into a storage of their own. They keep their numbers.
     pub fn split<D: Dimension, T: StrideList>(&mut self, layout: &Layout<D, T>) -> Self
-        requires { HoldsEach (region_stored self.old.region) (placement_of layout.now) }
-        ensures taken { HasNamed (placement_of layout.now) (region_stored self.old.region) (region_stored result.region) }
-        ensures left { HasUnnamed (placement_of layout.now) (region_stored self.old.region) (region_stored self.new.region) }
+        requires { HoldsShown held_by self.old layout.now }
+        ensures taken { ShowsNamed held_by layout.now self.old result }
+        ensures left { ShowsUnnamed held_by layout.now self.old self.new }
     {
         RegionRepr {
             region: self

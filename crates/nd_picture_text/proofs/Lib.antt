@@ -1,3 +1,4 @@
+pub mod Comments
 pub mod Rasters
 pub mod ReadBack
 pub mod StepLists

@@ -15,7 +15,17 @@ is_whitespace b = b == 32 || (b == 9 || ends_line b)
 abbrev pub is_hash : ℕ → Bool
 is_hash b = b == 35
 
--- what follows the blanks and comments at the front; whether a comment has begun
+abbrev pub begins_comment : List ℕ → Bool
+begins_comment [] = false
+begins_comment (b ∷ bs) = is_hash b
+
+-- what follows the comments at the front; whether one has begun
+abbrev pub behind_comments : Bool → List ℕ → List ℕ
+behind_comments inside [] = []
+behind_comments true (b ∷ bs) = behind_comments (not (ends_line b)) bs
+behind_comments false (b ∷ bs) = if is_hash b then behind_comments true bs else b ∷ bs
+
+-- what follows the blanks and comments at the front
 abbrev pub behind_gap : Bool → List ℕ → List ℕ
 behind_gap inside [] = []
 behind_gap true (b ∷ bs) = behind_gap (not (ends_line b)) bs

@@ -2,7 +2,7 @@
 
 ghost use Rattle.std.specs.Prelude.{◌≡◌, ◌+◌, ◌-◌, ◌*◌, ◌<◌, ◌≤◌, ◌^◌, IfOk, length, SomeIff, false, IsTrue};
 ghost use Rattle.std.specs.Result.{result_map_both};
-ghost use Rattle.nd_picture_text.specs.Numbers.{ends_line, is_whitespace, takes_digit, behind_gap, behind_blank, digits_behind, number_here, next_number};
+ghost use Rattle.nd_picture_text.specs.Numbers.{ends_line, is_whitespace, takes_digit, begins_comment, behind_comments, behind_gap, behind_blank, digits_behind, number_here, next_number};
 
 fn ends_line(byte: u8) -> bool
     ensures { result ≡ ends_line byte }
@@ -16,9 +16,12 @@ fn is_whitespace(byte: u8) -> bool
     byte == b' ' || byte == b'\t' || ends_line(byte)
 }
 
-/// What follows the blanks and comments at the front.
-pub(crate) fn behind_gap(text: &[u8]) -> &[u8]
-    ensures { result.now ≡ behind_gap false text.now }
+/// What follows the comments at the front.
+#[tactic(auto, using(crate::proofs::Comments::outside_comments, crate::proofs::Comments::comments_shorten))]
+fn behind_comments(text: &[u8]) -> &[u8]
+    ensures rest { result.now ≡ behind_comments false text.now }
+    ensures outside { begins_comment result.now ≡ false }
+    ensures shorter { length result.now ≤ length text.now }
 {
     let mut inside = false;
     let mut rest = text;
@@ -28,42 +31,40 @@ pub(crate) fn behind_gap(text: &[u8]) -> &[u8]
             rest = after;
             continue;
         }
-        if *byte == b'#' {
-            inside = true;
-            rest = after;
-            continue;
-        }
-        if !is_whitespace(*byte) {
+        if *byte != b'#' {
             return rest;
         }
+        inside = true;
         rest = after;
     }
     rest
 }
 
+/// What follows the blanks and comments at the front.
+#[tactic(auto, using(crate::proofs::Comments::gap_behind))]
+pub(crate) fn behind_gap(text: &[u8]) -> &[u8]
+    ensures { result.now ≡ behind_gap false text.now }
+{
+    let mut rest = behind_comments(text);
+    while let [byte, after @ ..] = rest {
+        if !is_whitespace(*byte) {
+            return rest;
+        }
+        rest = behind_comments(after);
+    }
+    rest
+}
+
 /// What follows one blank at the front, with the comments before it.
+#[tactic(auto, using(crate::proofs::Comments::blank_behind))]
 pub(crate) fn behind_blank(text: &[u8]) -> Result<&[u8], usize>
     ensures { result_map_both (λ x. x.now) (λ n. n) result ≡ behind_blank false text.now }
 {
-    let mut inside = false;
-    let mut rest = text;
-    while let [byte, after @ ..] = rest {
-        if inside {
-            inside = !ends_line(*byte);
-            rest = after;
-            continue;
-        }
-        if *byte == b'#' {
-            inside = true;
-            rest = after;
-            continue;
-        }
-        if is_whitespace(*byte) {
-            return Ok(after);
-        }
-        return Err(rest.len());
+    let rest = behind_comments(text);
+    match rest {
+        [byte, after @ ..] if is_whitespace(*byte) => Ok(after),
+        _ => Err(rest.len()),
     }
-    Err(0)
 }
 
 /// The value of a digit with the others before it, where that is at most the limit.
@@ -83,6 +84,7 @@ fn with_digit(limit: usize, number: usize, byte: u8) -> Option<usize>
 }
 
 /// The number whose digits so far write this, and what follows it and a blank.
+#[tactic(auto, using(crate::proofs::Comments::digits_then))]
 fn digits_behind(limit: usize, first: usize, text: &[u8]) -> Result<(usize, &[u8]), usize>
     requires first { first ≤ limit }
     requires limit { limit < 2 ^ 32 }
@@ -90,19 +92,8 @@ fn digits_behind(limit: usize, first: usize, text: &[u8]) -> Result<(usize, &[u8
     ensures within { IfOk result (λ x. x.0 ≤ limit) }
 {
     let mut number = first;
-    let mut inside = false;
-    let mut rest = text;
+    let mut rest = behind_comments(text);
     while let [byte, after @ ..] = rest {
-        if inside {
-            inside = !ends_line(*byte);
-            rest = after;
-            continue;
-        }
-        if *byte == b'#' {
-            inside = true;
-            rest = after;
-            continue;
-        }
         if is_whitespace(*byte) {
             return Ok((number, after));
         }
@@ -110,7 +101,7 @@ fn digits_behind(limit: usize, first: usize, text: &[u8]) -> Result<(usize, &[u8
             Some(more) => number = more,
             None => return Err(rest.len()),
         }
-        rest = after;
+        rest = behind_comments(after);
     }
     Ok((number, rest))
 }

@@ -4,6 +4,12 @@ use Rattle.std.specs.Borrow.{MutBor}
 use Rattle.std.specs.Fn.{Mut}
 use Rattle.std.specs.List.{remove}
 use Rattle.nd_shape_and_slice.specs.Shape.{in_box}
+use Rattle.nd_shape_and_slice.specs.declared.dimension.Dimension as dimension
+use Rattle.nd_shape_and_slice.specs.declared.dimension.AxisCount as axis_count
+use Rattle.nd_shape_and_slice.specs.declared.dimension.StrideList as stride_list
+use Rattle.nd_elements.specs.declared.storage.Data as data_trait
+use Rattle.nd_array_core.specs.declared.base.array.ArrayBase.{ArrayBase}
+use Rattle.nd_array_core.specs.Meaning.{meaning_of}
 use Rattle.nd_elements.specs.declared.along.lane_mut.LaneMut.{LaneMut}
 use Rattle.nd_elements.specs.Meaning.{Meaning}
 use Rattle.nd_array_core.specs.along.AxisMaps.{lane_of, lanes_of}
@@ -22,8 +28,9 @@ module _ {F A B : Type 0} (g : Mut F (MutBor (LaneMut A) × Unit {0}) (B × (Mut
   HandableLanes m a f = AskableOfAll (LeavesLane g) (MayBeHandedLane g) (lanes_of m a) f
 
   -- of the call for each of them there stand what it left and, at the index of the other axes, what it answered
-  abbrev pub HandsOutLanes : ℕ → F → Meaning A → Meaning A → (List ℕ → Option B) → Type 0
-  HandsOutLanes a f old new answers = HasAnswersOfAll (LeavesLane g) (lanes_of old a) f (paired_at (lanes_of new a).at answers)
+  module _ {S D T P R L M : Type 0} {s : data_trait.Ghosts S A} {d : dimension.Ghosts D P R L M} {n : axis_count.Ghosts D} {r : stride_list.Ghosts R} {t : stride_list.Ghosts T} where
+    abbrev pub HandsOutLanes : ℕ → F → ArrayBase S D T A P R L M s d n r t → ArrayBase S D T A P R L M s d n r t → (List ℕ → Option B) → Type 0
+    HandsOutLanes a f old new answers = HasAnswersOfAll (LeavesLane g) (lanes_of (meaning_of old) a) f (paired_at (lanes_of (meaning_of new) a).at answers)
 
   -- whatever function of the lane tells what the closure leaves, its values stand there
   abbrev pub LeavesLanesAlike : ℕ → F → Meaning A → (List ℕ → Option A) → Type 0

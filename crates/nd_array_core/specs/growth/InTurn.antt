@@ -38,16 +38,17 @@ abbrev pub alike_in_turn : {A : Type 0} → ℕ → Meaning A → List (Meaning 
 alike_in_turn axis m [] = m
 alike_in_turn axis m (n ∷ ns) = alike_in_turn axis (concatenated_alike axis m n) ns
 
--- what an array shows, once all arrays of a list came behind it, or the first k of them
-abbrev pub JoinsAll : {A : Type 0} → ℕ → Meaning A → List (Meaning A) → Meaning A → Type 0
-JoinsAll axis m ms n = n ≡ joined_in_turn axis m ms
+-- an array before and after all arrays of a list came behind it, or the first k of them
+module _ {S D T A P R L M : Type 0} {s : data_trait.Ghosts S A} {d : dimension.Ghosts D P R L M} {n : axis_count.Ghosts D} {r : stride_list.Ghosts R} {t : stride_list.Ghosts T} where
+  abbrev pub JoinsAll : ℕ → ArrayBase S D T A P R L M s d n r t → List (Meaning A) → ArrayBase S D T A P R L M s d n r t → Type 0
+  JoinsAll axis old ms new = meaning_of new ≡ joined_in_turn axis (meaning_of old) ms
 
-abbrev pub JoinsFirst : {A : Type 0} → ℕ → ℕ → Meaning A → List (Meaning A) → Meaning A → Type 0
-JoinsFirst k axis m ms n = n ≡ joined_in_turn axis m (take k ms)
+  abbrev pub JoinsFirst : ℕ → ℕ → ArrayBase S D T A P R L M s d n r t → List (Meaning A) → ArrayBase S D T A P R L M s d n r t → Type 0
+  JoinsFirst k axis old ms new = meaning_of new ≡ joined_in_turn axis (meaning_of old) (take k ms)
 
--- the same where none needs to be broadcast
-abbrev pub JoinsAllAlike : {A : Type 0} → ℕ → Meaning A → List (Meaning A) → Meaning A → Type 0
-JoinsAllAlike axis m ms n = AreAlikeBeside axis m.shape ms → n ≡ alike_in_turn axis m ms
+  -- the same where none needs to be broadcast
+  abbrev pub JoinsAllAlike : ℕ → ArrayBase S D T A P R L M s d n r t → List (Meaning A) → ArrayBase S D T A P R L M s d n r t → Type 0
+  JoinsAllAlike axis old ms new = AreAlikeBeside axis (shape_of old) ms → meaning_of new ≡ alike_in_turn axis (meaning_of old) ms
 
 -- each clone of an element of one of them is the element
 abbrev pub ClonesOfEachAreEqual : {A : Type 0} → (A → A → Type 0) → List (Meaning A) → Type 0

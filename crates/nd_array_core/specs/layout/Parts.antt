@@ -4,8 +4,7 @@ use Rattle.nd_shape_and_slice.specs.Shape.{size_of}
 use Rattle.nd_shape_and_slice.specs.Place.{place_of, IsSeparated}
 use Rattle.nd_layout.specs.Placements.{Placement}
 use Rattle.nd_elements.specs.Meaning.{inside}
-use Rattle.nd_elements.specs.Places.{HoldsAll, kept_at, stored_at, place_number}
-use Rattle.nd_region.specs.Places.{names}
+use Rattle.nd_elements.specs.Places.{HoldsAll, stored_at, place_number}
 use Rattle.nd_shape_and_slice.specs.declared.dimension.Dimension as dimension
 use Rattle.nd_shape_and_slice.specs.declared.dimension.AxisCount as axis_count
 use Rattle.nd_shape_and_slice.specs.declared.dimension.StrideList as stride_list
@@ -18,6 +17,10 @@ pub record HoldsEachOnce {A : Type 0} (stored : ℕ → Option A) (offset : ℕ)
   pub holds : HoldsAll stored offset lengths strides
   pub separated : 0 < size_of lengths → IsSeparated lengths strides
 
+-- the same by a placement
+abbrev pub HoldsOnce : {A : Type 0} → (ℕ → Option A) → Placement → Type 0
+HoldsOnce stored l = HoldsEachOnce stored l.offset l.lengths l.strides
+
 -- an array of this shape, with these strides, elements and places, shows what the layout names of the storage
 pub record IsViewUnder {A : Type 0} (stored : ℕ → Option A) (offset : ℕ) (lengths : List ℕ) (strides : List ℤ) (shape : List ℕ) (shape_strides : List ℤ) (at : List ℕ → Option A) (place : List ℕ → Option ℕ) : Type 0 where
   pub shape_is : shape ≡ lengths
@@ -28,10 +31,6 @@ pub record IsViewUnder {A : Type 0} (stored : ℕ → Option A) (offset : ℕ) (
 -- the same of what lies by a placement
 abbrev pub IsViewBy : {A : Type 0} → (ℕ → Option A) → Placement → List ℕ → List ℤ → (List ℕ → Option A) → (List ℕ → Option ℕ) → Type 0
 IsViewBy stored l shape shape_strides at place = IsViewUnder stored l.offset l.lengths l.strides shape shape_strides at place
-
--- a part of a storage has what a layout names
-abbrev pub HasNamed : {A : Type 0} → (ℕ → Option A) → ℕ → List ℕ → List ℤ → (ℕ → Option A) → Type 0
-HasNamed old offset lengths strides part = (place : ℕ) → part place ≡ kept_at (names offset lengths strides) old place
 
 -- an array shows what lies by a placement
 module _ {S D T A P R L M : Type 0} {s : data_trait.Ghosts S A} {d : dimension.Ghosts D P R L M} {n : axis_count.Ghosts D} {r : stride_list.Ghosts R} {t : stride_list.Ghosts T} where

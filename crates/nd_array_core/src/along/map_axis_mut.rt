@@ -39,7 +39,7 @@ where
         requires keeps { KeepsLanes F.FnMut }
         requires callable { HandableLanes F.FnMut (meaning_of self.old) axis.0 f }
         ensures shape { IfOk result (λ a. shape_of a ≡ indexed_shape (shape_of self.old) axis.0) }
-        ensures visits { IfOk result (λ a. HandsOutLanes F.FnMut axis.0 f (meaning_of self.old) (meaning_of self.new) (element_at a)) }
+        ensures visits { IfOk result (λ a. HandsOutLanes F.FnMut axis.0 f self.old self.new (element_at a)) }
         ensures alike { OnOk result (LeavesLanesAlike F.FnMut axis.0 f (meaning_of self.old) (element_at self.new)) }
         ensures answered { IfOk result (λ a. AnswersLanesAlike F.FnMut axis.0 f (meaning_of self.old) (element_at a)) }
         ensures refused { OnErr result (0 < size_of (indexed_shape (shape_of self.old) axis.0)) }

@@ -2,7 +2,7 @@
 #![tactic(auto, unfolding(crate::specs::Meaning::meaning_of, crate::specs::Meaning::memory_layout_of))]
 
 ghost use Rattle.std.specs.Prelude.{◌≡◌, ◌<◌, [], Ok, IfErr, OnOk, length, take};
-ghost use Rattle.nd_array_core.specs.Meaning.{meaning_of, shape_of};
+ghost use Rattle.nd_array_core.specs.Meaning.{shape_of};
 ghost use Rattle.nd_array_core.specs.Part.{BecomesWhole};
 ghost use Rattle.nd_array_core.specs.growth.Grown.{BecomesReady, GoesOn, IsReadyAlong, KeepsRoom};
 ghost use Rattle.nd_array_core.specs.growth.InTurn.{lengths_along, meanings_of, ClonesOfEachAreEqual, FitInTurn, IsGrownInTurn, IsLeftInTurn, IsRefusedInTurn, JoinsAll, JoinsAllAlike, JoinsFirst, LacksMemory, NeedsOnlyClonesInTurn};
@@ -23,9 +23,9 @@ impl<A: Clone + Drop, D: Dimension> Array<A, D> {
         requires axis { 0 < length (shape_of self.old) → axis.0 < length (shape_of self.old) }
         requires clones { ClonesOfEachAreEqual A.is_clone (meanings_of arrays.now) }
         ensures refused { IfErr result (λ e. IsRefusedInTurn axis.0 (shape_of self.new) (meanings_of arrays.now) e.0 e.1) }
-        ensures plain { OnOk result (JoinsAllAlike axis.0 (meaning_of self.old) (meanings_of arrays.now) (meaning_of self.new)) }
-        ensures joined { OnOk result (JoinsAll axis.0 (meaning_of self.old) (meanings_of arrays.now) (meaning_of self.new)) }
-        ensures kept { IfErr result (λ e. JoinsFirst e.0 axis.0 (meaning_of self.old) (meanings_of arrays.now) (meaning_of self.new)) }
+        ensures plain { OnOk result (JoinsAllAlike axis.0 self.old (meanings_of arrays.now) self.new) }
+        ensures joined { OnOk result (JoinsAll axis.0 self.old (meanings_of arrays.now) self.new) }
+        ensures kept { IfErr result (λ e. JoinsFirst e.0 axis.0 self.old (meanings_of arrays.now) self.new) }
         ensures none { arrays.now ≡ [] → result ≡ Ok tt }
         ensures unchanged { arrays.now ≡ [] → BecomesWhole self.old self.new }
         ensures goes_on { IsReadyAlong axis.0 self.old → GoesOn axis.0 self.old self.new }

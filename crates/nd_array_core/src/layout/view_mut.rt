@@ -5,11 +5,12 @@
 ghost use Rattle.std.specs.Prelude.{◌≡◌, ℕ, length, List};
 ghost use Rattle.std.specs.Borrow.{sem};
 ghost use Rattle.nd_region.specs.Places.{names};
-ghost use Rattle.nd_region.specs.Region.{region_stored};
 ghost use Rattle.nd_elements.specs.Places.{HoldsAll};
-ghost use Rattle.nd_array_core.specs.layout.Parts.{HasNamed, ViewsBy};
+ghost use Rattle.nd_elements.specs.ByLayout.{HasNamed};
+ghost use Rattle.nd_elements.specs.Storages.{held_by};
+ghost use Rattle.nd_array_core.specs.layout.Parts.{ViewsBy};
 ghost use Rattle.nd_array_core.specs.scoped.Tasks.{HoldsBy};
-ghost use Rattle.nd_layout.specs.Placements.{placement_of, KeepsApart};
+ghost use Rattle.nd_layout.specs.Placements.{as_placement, placement_of, KeepsApart};
 ghost use Rattle.nd_array_core.specs.Meaning.{shape_of, element_at, place_at, layout_strides, layout_offset};
 ghost use Rattle.nd_array_core.specs.Part.{ShowsWhole, BecomesWhole};
 
@@ -31,7 +32,7 @@ impl<S: DataMut, D: Dimension> ArrayBase<S, D> {
         requires as_many { length lengths.now ≡ length strides.now }
         requires holds { HoldsAll (S.stored self.old.storage) offset lengths.now strides.now }
         ensures* writes_back { sem 𝓛 (array_follows_part S.row S.Elem.row D.row D.Pattern.row D.Strides.row D.Smaller.row D.Larger.row S.Data D.Dimension D.AxisCount D.Strides.StrideList self.entry result.tie.value (names offset lengths.now strides.now)) }
-        ensures elements { HasNamed (S.stored self.old.storage) offset lengths.now strides.now (region_stored result.region) }
+        ensures elements { HasNamed (as_placement offset lengths.now strides.now) (S.stored self.old.storage) (held_by result) }
     {
         ViewMutRepr::of_region(self.storage.lend().into_part(offset, lengths, strides))
     }

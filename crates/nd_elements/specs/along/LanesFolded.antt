@@ -7,6 +7,8 @@ use Rattle.nd_layout.specs.declared.lanes.Lane.{Lane}
 use Rattle.nd_elements.specs.Places.{stored_at}
 use Rattle.nd_elements.specs.elements.Folds.{RanTo}
 use Rattle.nd_elements.specs.along.AxisLanes.{LanePlaces, IsPairing, lanes_beside}
+use Rattle.nd_elements.specs.along.LanesIn.{lanes_in}
+use Rattle.nd_elements.specs.declared.along.axis_lanes.AxisLanes.{AxisLanes}
 
 -- what calls change is the closure; `totals r k` is the total of the lane r before coordinate k
 module _ {F B A : Type 0} (g : Mut F (Bor B × (Bor A × Unit {0})) B) where
@@ -96,6 +98,9 @@ module _ {F B A : Type 0} (g : Mut F (Bor B × (Bor A × Unit {0})) B) where
 
     abbrev pub AreFoldedBeside : S → (ℕ → Option B) → F → (ℕ → Option B) → Type 0
     AreFoldedBeside s start f found = AreFoldedTo (λ m. m % at.lanes) (λ m. m / at.lanes) at.lanes at.count (at.count * at.lanes) (lanes_at s) start f found
+
+  abbrev pub FoldsEachLane : {S Z : Type 0} → (S → ℕ → Option A) → AxisLanes → S → B → F → Vec B Z → Type 0
+  FoldsEachLane stored lanes s init f found = LanesFoldedTo stored (lanes_in lanes) s init f found
 
   -- as many lanes as there are totals, the first a given one, and each next one beside it
   module _ {S Z : Type 0} (stored : S → ℕ → Option A) (lane : Lane) (s : S) (starts : Vec B Z) where

@@ -3,7 +3,8 @@ use Rattle.std.specs.Prelude.{◌≡◌, ◌<◌, ℕ, List, Option, Some, ℤ, 
 use Rattle.std.specs.Borrow.{MutBor}
 use Rattle.std.specs.Fn.{Mut, CalledAtMut}
 use Rattle.std.specs.Option.{option_map}
-use Rattle.nd_layout.specs.Lanes.{Numbered}
+use Rattle.nd_layout.specs.Lanes.{Numbered, ranked}
+use Rattle.nd_layout.specs.declared.places.Places.{Places}
 use Rattle.nd_elements.specs.Places.{stored_at}
 use Rattle.nd_elements.specs.FreeOrder.{VisitedInSomeOrder, CallableInAnyOrder}
 use Rattle.nd_elements.specs.elements.Folds.{RanTo}
@@ -70,3 +71,7 @@ module _ {S F A : Type 0} (g : Mut F (MutBor A × Unit {0}) (Unit {0} × (MutBor
 
   abbrev pub ChangesEach : S → S → F → F → Type 0
   ChangesEach old new first last = IsChangedTo g at.place at.count (stored old) (stored new) first last
+
+-- and those at the places of a layout
+abbrev pub ChangesPlaces : {S F A : Type 0} → Mut F (MutBor A × Unit {0}) (Unit {0} × (MutBor A × Unit {0})) → (S → ℕ → Option A) → Places → S → S → F → F → Type 0
+ChangesPlaces g stored places old new first last = ChangesEach g stored (ranked places) old new first last

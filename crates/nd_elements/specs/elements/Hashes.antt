@@ -2,9 +2,14 @@
 use Rattle.std.specs.Prelude.{◌≡◌, ℕ, List, Option}
 use Rattle.std.specs.Hash.{HashWrites}
 use Rattle.std.specs.List.{fold, flat_map}
-use Rattle.nd_layout.specs.Lanes.{Numbered}
+use Rattle.nd_layout.specs.Lanes.{Numbered, ranked}
+use Rattle.nd_layout.specs.declared.places.Places.{Places}
 use Rattle.nd_elements.specs.NumberedPlaces.{all_elements_at}
 
 -- those at numbered places of a storage, each as its writes
 abbrev pub FeedsEach : {S A H : Type 0} → (H → List ℕ → H) → (A → HashWrites) → (S → ℕ → Option A) → Numbered → S → H → H → Type 0
 FeedsEach write feed stored at s old new = new ≡ fold write old (flat_map feed (all_elements_at stored at s))
+
+-- and those at the places of a layout
+abbrev pub Feeds : {S A H : Type 0} → (H → List ℕ → H) → (A → HashWrites) → (S → ℕ → Option A) → Places → S → H → H → Type 0
+Feeds write feed stored places s old new = FeedsEach write feed stored (ranked places) s old new

@@ -5,8 +5,9 @@ use Rattle.std.specs.Fn.{Mut, Called}
 use Rattle.std.specs.declared.vec.Vec.{Vec}
 use Rattle.std.specs.List.{FoldsTo, count_by}
 use Rattle.std.specs.Option.{option_map}
-use Rattle.nd_layout.specs.Lanes.{Numbered}
-use Rattle.nd_elements.specs.NumberedPlaces.{elements_at}
+use Rattle.nd_layout.specs.Lanes.{Numbered, ranked}
+use Rattle.nd_layout.specs.declared.places.Places.{Places}
+use Rattle.nd_elements.specs.NumberedPlaces.{elements_at, in_turn}
 use Rattle.nd_elements.specs.Writes.{is_index}
 use Rattle.nd_elements.specs.FreeOrder.{ListsPartOfBox, AnswersThere, AnswersAny, AskableInAnyOrder, HasAnswers, VisitedInSomeOrder}
 use Rattle.nd_elements.specs.Meaning.{Meaning}
@@ -92,6 +93,14 @@ module _ {S F A B : Type 0} (g : Mut F (A × Unit {0}) B) (stored : S → ℕ �
   abbrev pub AnswersValues : {Z : Type 0} → F → F × Vec B Z → Type 0
   AnswersValues first = λ last. AnswersBehind (AnswersValue g) (elements_at stored at s) at.count [] last.1.items first last.0
 
+-- and of clones of the items of a list
+module _ {F A B : Type 0} (g : Mut F (A × Unit {0}) B) (xs : List A) where
+  abbrev pub MayGiveItems : F → Type 0
+  MayGiveItems first = MayGiveEach g slice_get (in_turn xs) xs first
+
+  abbrev pub PushesItems : {Z : Type 0} → F → Vec B Z → Vec B Z → F → Type 0
+  PushesItems first old new = PushesValues g slice_get (in_turn xs) xs first old new
+
 -- `takes p element` says that it may be called for the element
 abbrev pub TakesAt : {P A : Type 0} → (P → Option A → Type 0) → (List ℕ → Option A) → P → List ℕ → Type 0
 TakesAt takes at p i = takes p (at i)
@@ -147,3 +156,11 @@ module _ {S F A : Type 0} (g : Mut F (A × Unit {0}) A) (stored : S → ℕ → 
 
   abbrev pub ReplacesInPart : F → Type 0
   ReplacesInPart first = IsReplacedInPart (AnswersValue g) at.place at.count (stored old) (stored new) first
+
+-- the same at the places of a layout
+module _ {S F A : Type 0} (g : Mut F (A × Unit {0}) A) (stored : S → ℕ → Option A) (places : Places) (old new : S) where
+  abbrev pub Rewrites : F → F → Type 0
+  Rewrites first = ReplacesEach g stored (ranked places) old new first
+
+  abbrev pub RewritesInPart : F → Type 0
+  RewritesInPart first = ReplacesInPart g stored (ranked places) old new first

@@ -1,9 +1,12 @@
 -- Owned elements that lie so that more can follow along an axis.
-use Rattle.std.specs.Prelude.{ℕ, ◌+◌, ◌≤◌, ◌≡◌, false, List, length, slice_get, ℤ, IsTrue}
+use Rattle.std.specs.Prelude.{ℕ, ◌+◌, ◌≤◌, ◌≡◌, true, false, List, length, slice_get, ℤ}
 use Rattle.nd_shape_and_slice.specs.Shape.{size_of, in_box}
 use Rattle.nd_shape_and_slice.specs.Place.{place_of}
+use Rattle.nd_shape_and_slice.specs.declared.dimension.Dimension as dimension
+use Rattle.nd_shape_and_slice.specs.declared.dimension.AxisCount as axis_count
+use Rattle.nd_shape_and_slice.specs.declared.dimension.StrideList as stride_list
 use Rattle.nd_layout.specs.Growth.{growing_strides, must_move}
-use Rattle.nd_layout.specs.Placements.{Placement}
+use Rattle.nd_layout.specs.declared.layout.Layout.{Layout}
 use Rattle.nd_elements.specs.Places.{stored_at}
 use Rattle.nd_elements.specs.declared.storage.OwnedRepr.{OwnedRepr}
 use Rattle.nd_elements.specs.Storages.{stored_list, room_of}
@@ -18,12 +21,13 @@ IsLaidToGrow axis more shape offset strides storage =
     × (size_of shape + more ≤ room_of storage)
     × (must_move shape strides axis ≡ false)
 
--- the same of a layout, once another shape's elements lie in it
-abbrev pub IsLaidAnew : {A : Type 0} → ℕ → ℕ → Placement → Placement → OwnedRepr A → Type 0
-IsLaidAnew axis more old new storage = IsLaidToGrow axis more old.lengths new.offset new.strides storage
+module _ {A D T P R L M : Type 0} {d : dimension.Ghosts D P R L M} {n : axis_count.Ghosts D} {r : stride_list.Ghosts R} {t : stride_list.Ghosts T} where
+  -- the same of a layout, once another's elements lie in it
+  abbrev pub IsLaidAnew : ℕ → ℕ → Layout D T P R L M d n r t → Layout D T P R L M d n r t → OwnedRepr A → Type 0
+  IsLaidAnew axis more old new storage = IsLaidToGrow axis more (d.lengths old.dim) new.offset (t.strides_of new.strides) storage
 
--- each index of the one layout has its element in the other
-abbrev pub ShowsAlike : {A : Type 0} → OwnedRepr A → Placement → OwnedRepr A → Placement → Type 0
-ShowsAlike old from new to =
-    (i : List ℕ) → IsTrue (in_box from.lengths i)
-    → stored_at (slice_get (stored_list new)) (place_of to.offset to.strides i) ≡ stored_at (slice_get (stored_list old)) (place_of from.offset from.strides i)
+  -- each index of the one layout has its element in the other
+  abbrev pub ShowsAlike : OwnedRepr A → Layout D T P R L M d n r t → OwnedRepr A → Layout D T P R L M d n r t → Type 0
+  ShowsAlike old from new to =
+      (i : List ℕ) → in_box (d.lengths from.dim) i ≡ true
+      → stored_at (slice_get (stored_list new)) (place_of to.offset (t.strides_of to.strides) i) ≡ stored_at (slice_get (stored_list old)) (place_of from.offset (t.strides_of from.strides) i)

@@ -6,7 +6,7 @@ ghost use Rattle.nd_elements.specs.Clones.{ClonesAreEqual};
 ghost use Rattle.nd_elements.specs.NumberedPlaces.{Holds, elements_at};
 ghost use Rattle.nd_elements.specs.along.AxisLanes.{LanesHold};
 ghost use Rattle.nd_elements.specs.along.LanesIn.{lanes_in};
-ghost use Rattle.nd_elements.specs.along.LanesFolded.{FoldsRun, TakesRun, LanesFoldable, LanesFoldedTo};
+ghost use Rattle.nd_elements.specs.along.LanesFolded.{FoldsRun, TakesRun, LanesFoldable, FoldsEachLane};
 
 use crate::along::axis_lanes::AxisLanes;
 use crate::along::first_places::lane_from;
@@ -48,7 +48,7 @@ fn fold_in_turn<S: Data, B: Clone + Drop, F: FnMut(&B, &S::Elem) -> B>(
     requires clones { ClonesAreEqual B.is_clone init.now }
     requires callable { LanesFoldable F.FnMut S.stored (lanes_in lanes) storage.now init.now f }
     ensures count { IfOk result (λ v. vec_len v ≡ lanes.entry.lanes) }
-    ensures folds { IfOk result (LanesFoldedTo F.FnMut S.stored (lanes_in lanes.entry) storage.now init.now f) }
+    ensures folds { IfOk result (FoldsEachLane F.FnMut S.stored lanes.entry storage.now init.now f) }
     ensures refused { OnErr result (0 < lanes.entry.lanes) }
 {
     let mut walk = Walk::new(
@@ -92,7 +92,7 @@ pub fn fold_lanes<S: Data, B: Clone + Drop, F: FnMut(&B, &S::Elem) -> B>(
     requires clones { ClonesAreEqual B.is_clone init.now }
     requires callable { LanesFoldable F.FnMut S.stored (lanes_in lanes) storage.now init.now f }
     ensures count { IfOk result (λ v. vec_len v ≡ lanes.entry.lanes) }
-    ensures folds { IfOk result (LanesFoldedTo F.FnMut S.stored (lanes_in lanes.entry) storage.now init.now f) }
+    ensures folds { IfOk result (FoldsEachLane F.FnMut S.stored lanes.entry storage.now init.now f) }
     ensures refused { OnErr result (0 < lanes.entry.lanes) }
 {
     if lanes.are_beside() {

@@ -1,7 +1,7 @@
 //! A lane of an array, as it is handed to a closure to be written.
 #![tactic(auto, unfolding(crate::specs::along::LanesWritten::lane_held, crate::specs::along::LanesWritten::lane_len))]
 
-ghost use Rattle.std.specs.Prelude.{◌≡◌, ◌<◌, ℕ, is_some, Some, [], ◌∷◌, pos, nat_eq, ◌+ℤ◌, ◌*ℤ◌, if◌then◌else◌, IsTrue};
+ghost use Rattle.std.specs.Prelude.{◌≡◌, ◌<◌, ℕ, true, is_some, Some, [], ◌∷◌, pos, ◌+ℤ◌, ◌*ℤ◌};
 ghost use Rattle.nd_region.specs.Region.{region_stored};
 ghost use Rattle.nd_elements.specs.Collected.{stored_along};
 ghost use Rattle.nd_elements.specs.elements.Changes.{AreDistinct};
@@ -14,13 +14,14 @@ use nd_region::Region;
 pub struct LaneMut<'a, A> {
     pub(crate) region: Region<'a, A>,
     pub(crate) lane: Lane,
-    ghost holds: { (k : ℕ) → k < lane.count → IsTrue (is_some (stored_along (region_stored region) lane.place lane.stride k)) },
+    ghost holds: { (k : ℕ) → k < lane.count → is_some (stored_along (region_stored region) lane.place lane.stride k) ≡ true },
     ghost apart: { AreDistinct (λ k. pos lane.place +ℤ (pos k *ℤ lane.stride)) lane.count },
 }
 
 impl<'a, A> LaneMut<'a, A> {
     ghost use Rattle.nd_layout.specs.Lanes.{along};
     ghost use Rattle.nd_elements.specs.NumberedPlaces.{PlacesDiffer, Holds};
+    ghost use Rattle.nd_elements.specs.Places.{written_at};
     ghost use Rattle.nd_elements.specs.along.AxisLanes.{LiesAs};
     ghost use Rattle.nd_elements.specs.along.LanesWritten.{lane_held, lane_len, held_at, IsSameLane};
 
@@ -54,7 +55,7 @@ impl<'a, A> LaneMut<'a, A> {
     pub fn replace(&mut self, nth: usize, value: A) -> A
         requires within { nth < lane_len self.old }
         ensures old { held_at self.old nth ≡ Some result }
-        ensures new { (k : ℕ) → held_at self.new k ≡ (if nat_eq k nth then Some value else held_at self.old k) }
+        ensures new { (k : ℕ) → held_at self.new k ≡ written_at (held_at self.old) nth value k }
         ensures count { lane_len self.new ≡ lane_len self.old }
         ensures same { IsSameLane self.old self.new }
     {

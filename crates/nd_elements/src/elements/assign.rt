@@ -3,8 +3,8 @@
 ghost use Rattle.std.specs.Prelude.{◌≡◌, ◌<◌, OnOk, OnErr, pos, length, slice_get};
 ghost use Rattle.nd_layout.specs.Lanes.{along, ranked};
 ghost use Rattle.nd_layout.specs.Placements.{placement_of, KeepsApart};
-ghost use Rattle.nd_elements.specs.ByLayout.{shown, HoldsShown, LeavesOthers, ShowsSame, ShowsOldOr};
-ghost use Rattle.nd_elements.specs.CloneRefusals.{MayRefuseBelow, MayRefuseClone};
+ghost use Rattle.nd_elements.specs.ByLayout.{shown, HoldsShown, LeavesOthers, MayRefuseShown, ShowsSame, ShowsOldOr};
+ghost use Rattle.nd_elements.specs.CloneRefusals.{MayRefuseBelow};
 ghost use Rattle.nd_elements.specs.Clones.{ClonesOfAllAreEqual, StoredClonesAreEqual};
 ghost use Rattle.nd_elements.specs.NumberedPlaces.{in_turn, Holds, PlacesDiffer, ClonesAreEqualAt, MayRefuseAt};
 ghost use Rattle.nd_elements.specs.elements.Assigns.{AssignsAt, AssignsAlong, Assigns};
@@ -201,7 +201,7 @@ where
     requires clones { ClonesOfAllAreEqual A.is_clone (shown Z.stored others.now beside.now) }
     ensures assigned { OnOk result (ShowsSame S.stored Z.stored storage.new layout.now others.now beside.now) }
     ensures stopped { OnErr result (ShowsOldOr S.stored Z.stored storage.old storage.new layout.now others.now beside.now) }
-    ensures refused { OnErr result (MayRefuseClone A.is_infallible (shown Z.stored others.now beside.now)) }
+    ensures refused { OnErr result (MayRefuseShown Z.stored A.is_infallible others.now beside.now) }
     ensures holds { HoldsShown S.stored storage.new layout.now }
     ensures others { LeavesOthers S.stored layout.now storage.old storage.new }
     ensures frame { S.frame storage.new ≡ S.frame storage.old }
@@ -229,7 +229,7 @@ where
     requires clones { ClonesOfAllAreEqual A.is_clone (shown Z.stored others.now beside.now) }
     ensures assigned { OnOk result (ShowsSame S.stored Z.stored storage.new layout.now others.now beside.now) }
     ensures stopped { OnErr result (ShowsOldOr S.stored Z.stored storage.old storage.new layout.now others.now beside.now) }
-    ensures refused { OnErr result (MayRefuseClone A.is_infallible (shown Z.stored others.now beside.now)) }
+    ensures refused { OnErr result (MayRefuseShown Z.stored A.is_infallible others.now beside.now) }
     ensures holds { HoldsShown S.stored storage.new layout.now }
     ensures others { LeavesOthers S.stored layout.now storage.old storage.new }
     ensures frame { S.frame storage.new ≡ S.frame storage.old }
@@ -264,7 +264,7 @@ where
     requires clones { ClonesOfAllAreEqual A.is_clone (shown Z.stored others.now beside.now) }
     ensures assigned { OnOk result (ShowsSame S.stored Z.stored storage.new layout.now others.now beside.now) }
     ensures stopped { OnErr result (ShowsOldOr S.stored Z.stored storage.old storage.new layout.now others.now beside.now) }
-    ensures refused { OnErr result (MayRefuseClone A.is_infallible (shown Z.stored others.now beside.now)) }
+    ensures refused { OnErr result (MayRefuseShown Z.stored A.is_infallible others.now beside.now) }
     ensures holds { HoldsShown S.stored storage.new layout.now }
     ensures others { LeavesOthers S.stored layout.now storage.old storage.new }
     ensures frame { S.frame storage.new ≡ S.frame storage.old }

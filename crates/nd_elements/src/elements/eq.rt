@@ -2,12 +2,13 @@
 
 ghost use Rattle.std.specs.Prelude.{◌≡◌, ◌+◌, ◌≤◌, length};
 ghost use Rattle.std.specs.Cmp.Lexicographic.{pointwise};
-ghost use Rattle.nd_layout.specs.Lanes.{along};
-ghost use Rattle.nd_elements.specs.ByLayout.{listed_by, HoldsShown};
+ghost use Rattle.nd_layout.specs.Lanes.{along, ranked};
+ghost use Rattle.nd_elements.specs.ByLayout.{equal_shown, HoldsShown};
 ghost use Rattle.nd_elements.specs.NumberedPlaces.{Holds, equal_from, equal_along};
+ghost use Rattle.nd_elements.specs.elements.Equals.{equal_ranked};
 
 use crate::storage::Data;
-use nd_layout::{Lane, Lanes, Layout, halved_alike, is_worth_turning, turned_alike};
+use nd_layout::{Lane, Layout, Places, halved_alike, is_worth_turning, turned_alike};
 use nd_shape_and_slice::{Dimension, StrideList};
 
 /// How many elements are compared between two tests whether to go on.
@@ -80,23 +81,17 @@ where
     true
 }
 
-/// Whether the elements at each index of two layouts are equal, lane by lane in row-major order.
-fn equal_in_order<S: Data, D: Dimension, T: StrideList>(
-    a: &S,
-    ours: &Layout<D, T>,
-    b: &S,
-    theirs: &Layout<D, T>,
-) -> bool
+/// Whether the elements at the places of two layouts of one shape are equal, lane by lane in row-major order.
+fn equal_places<S: Data>(a: &S, ours: Places<'_>, b: &S, theirs: Places<'_>) -> bool
 where
     S::Elem: PartialEq,
-    requires alike { D.lengths theirs.now.dim ≡ D.lengths ours.now.dim }
-    requires ours { HoldsShown S.stored a.now ours.now }
-    requires theirs { HoldsShown S.stored b.now theirs.now }
-    ensures { result ≡ pointwise S.Elem.eq (listed_by S.stored a.now ours.now) (listed_by S.stored b.now theirs.now) }
+    requires alike { theirs.lengths.now ≡ ours.lengths.now }
+    requires ours { Holds S.stored (ranked ours) a.now }
+    requires theirs { Holds S.stored (ranked theirs) b.now }
+    ensures { result ≡ equal_ranked S.Elem.eq S.stored a.now ours.entry b.now theirs.entry }
 {
-    let lengths = ours.dim.slice();
-    let mut lanes = Lanes::new(ours.offset, lengths, ours.strides.slice());
-    let mut others = Lanes::new(theirs.offset, lengths, theirs.strides.slice());
+    let mut lanes = ours.lanes();
+    let mut others = theirs.lanes();
     while let Some(lane) = lanes.next() {
         match others.next() {
             Some(other) => {
@@ -108,6 +103,23 @@ where
         }
     }
     true
+}
+
+/// Whether the elements at each index of two layouts are equal, in row-major order.
+fn equal_in_order<S: Data, D: Dimension, T: StrideList>(
+    a: &S,
+    ours: &Layout<D, T>,
+    b: &S,
+    theirs: &Layout<D, T>,
+) -> bool
+where
+    S::Elem: PartialEq,
+    requires alike { D.lengths theirs.now.dim ≡ D.lengths ours.now.dim }
+    requires ours { HoldsShown S.stored a.now ours.now }
+    requires theirs { HoldsShown S.stored b.now theirs.now }
+    ensures { result ≡ equal_shown S.stored S.Elem.eq a.now ours.now b.now theirs.now }
+{
+    equal_places(a, ours.places(), b, theirs.places())
 }
 
 /// The same in halves, one after the other, where long lanes go across the order of the second storage's elements.
@@ -122,7 +134,7 @@ where
     requires alike { D.lengths theirs.now.dim ≡ D.lengths ours.now.dim }
     requires ours { HoldsShown S.stored a.now ours.now }
     requires theirs { HoldsShown S.stored b.now theirs.now }
-    ensures { result ≡ pointwise S.Elem.eq (listed_by S.stored a.now ours.now) (listed_by S.stored b.now theirs.now) }
+    ensures { result ≡ equal_shown S.stored S.Elem.eq a.now ours.now b.now theirs.now }
 {
     let Some(halves) = halved_alike(ours, theirs) else {
         return equal_in_order(a, ours, b, theirs);
@@ -144,7 +156,7 @@ where
     requires alike { D.lengths theirs.now.dim ≡ D.lengths ours.now.dim }
     requires ours { HoldsShown S.stored a.now ours.now }
     requires theirs { HoldsShown S.stored b.now theirs.now }
-    ensures { result ≡ pointwise S.Elem.eq (listed_by S.stored a.now ours.now) (listed_by S.stored b.now theirs.now) }
+    ensures { result ≡ equal_shown S.stored S.Elem.eq a.now ours.now b.now theirs.now }
 {
     if !is_worth_turning(ours, theirs) {
         return equal_in_order(a, ours, b, theirs);

@@ -4,7 +4,7 @@ ghost use Rattle.std.specs.Prelude.{◌≡◌, OnOk, OnErr};
 ghost use Rattle.nd_layout.specs.Lanes.{along, ranked};
 ghost use Rattle.nd_elements.specs.CloneRefusals.{MayRefuseClonesOf};
 ghost use Rattle.nd_elements.specs.Clones.{ClonesAreEqual};
-ghost use Rattle.nd_elements.specs.Filled.{Fills, FillsInPart};
+ghost use Rattle.nd_elements.specs.Filled.{Fills, FillsAll, FillsInPart, FillsSome, MayRefuseFilling};
 ghost use Rattle.nd_elements.specs.NumberedPlaces.{Holds};
 
 use crate::storage::DataMut;
@@ -63,9 +63,9 @@ where
     S::Elem: Clone + Drop,
     requires clones { ClonesAreEqual S.Elem.is_clone value.now }
     requires holds { Holds S.stored (ranked places) storage.old }
-    ensures filled { OnOk result (Fills S.stored (ranked places.entry) value.now storage.old storage.new) }
-    ensures stopped { OnErr result (FillsInPart S.stored (ranked places.entry) value.now storage.old storage.new) }
-    ensures refused { OnErr result (MayRefuseClonesOf S.Elem.is_infallible value.now (ranked places.entry).count) }
+    ensures filled { OnOk result (FillsAll S.stored places.entry value.now storage.old storage.new) }
+    ensures stopped { OnErr result (FillsSome S.stored places.entry value.now storage.old storage.new) }
+    ensures refused { OnErr result (MayRefuseFilling S.Elem.is_infallible value.now places.entry) }
     ensures frame { S.frame storage.new ≡ S.frame storage.old }
 {
     let mut lanes = places.lanes();

@@ -2,7 +2,7 @@
 
 ghost use Rattle.nd_layout.specs.Lanes.{along, ranked};
 ghost use Rattle.nd_elements.specs.NumberedPlaces.{Holds};
-ghost use Rattle.nd_elements.specs.elements.Hashes.{FeedsEach};
+ghost use Rattle.nd_elements.specs.elements.Hashes.{Feeds, FeedsEach};
 
 use crate::storage::Data;
 use nd_layout::{Lane, Places};
@@ -25,7 +25,7 @@ pub fn hash_places<S: Data, H: Hasher>(storage: &S, places: Places<'_>, state: &
 where
     S::Elem: Hash,
     requires holds { Holds S.stored (ranked places) storage.now }
-    ensures { FeedsEach H.write S.Elem.hash_input S.stored (ranked places.entry) storage.now state.old state.new }
+    ensures { Feeds H.write S.Elem.hash_input S.stored places.entry storage.now state.old state.new }
 {
     let mut lanes = places.lanes();
     while let Some(lane) = lanes.next() {

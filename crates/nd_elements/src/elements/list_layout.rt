@@ -3,7 +3,7 @@
 ghost use Rattle.std.specs.Prelude.{◌≡◌, ◌+◌, ◌<◌, ◌≤◌, OnOk, OnErr, length, vec_len, vec_capacity};
 ghost use Rattle.nd_shape_and_slice.specs.Shape.{size_of};
 ghost use Rattle.nd_elements.specs.Collected.{IsFront};
-ghost use Rattle.nd_elements.specs.NumberedPlaces.{ranked_by, Holds, ListsBehind, ClonesAreEqualAt, MayRefuseAt};
+ghost use Rattle.nd_elements.specs.NumberedPlaces.{ranked_by, Holds, ListsShown, ClonesAreEqualAt, MayRefuseBy};
 
 use crate::elements::to_vec::{list, room_of};
 use crate::growth::lay_anew::move_behind;
@@ -22,11 +22,11 @@ where
     requires clones { ClonesAreEqualAt S.Elem.is_clone S.stored (ranked_by layout.now) storage.now }
     requires holds { Holds S.stored (ranked_by layout.now) storage.now }
     requires room { vec_len items.old + size_of (D.lengths layout.now.dim) ≤ vec_capacity items.old }
-    ensures items { OnOk result (ListsBehind S.stored (ranked_by layout.now) storage.now items.old items.new) }
+    ensures items { OnOk result (ListsShown S.stored layout.now storage.now items.old items.new) }
     ensures count { OnOk result (vec_len items.new ≡ vec_len items.old + size_of (D.lengths layout.now.dim)) }
     ensures room { vec_capacity items.old ≤ vec_capacity items.new }
     ensures kept { OnErr result (IsFront items.old.items items.new.items) }
-    ensures refused { OnErr result (MayRefuseAt S.Elem.is_infallible S.stored (ranked_by layout.now) storage.now) }
+    ensures refused { OnErr result (MayRefuseBy S.Elem.is_infallible S.stored layout.now storage.now) }
 {
     list(items, storage, layout.places())
 }
@@ -42,11 +42,11 @@ where
     requires clones { ClonesAreEqualAt S.Elem.is_clone S.stored (ranked_by layout.now) storage.now }
     requires holds { Holds S.stored (ranked_by layout.now) storage.now }
     requires room { vec_len items.old + size_of (D.lengths layout.now.dim) ≤ vec_capacity items.old }
-    ensures items { OnOk result (ListsBehind S.stored (ranked_by layout.now) storage.now items.old items.new) }
+    ensures items { OnOk result (ListsShown S.stored layout.now storage.now items.old items.new) }
     ensures count { OnOk result (vec_len items.new ≡ vec_len items.old + size_of (D.lengths layout.now.dim)) }
     ensures room { vec_capacity items.old ≤ vec_capacity items.new }
     ensures kept { OnErr result (IsFront items.old.items items.new.items) }
-    ensures refused { OnErr result (MayRefuseAt S.Elem.is_infallible S.stored (ranked_by layout.now) storage.now) }
+    ensures refused { OnErr result (MayRefuseBy S.Elem.is_infallible S.stored layout.now storage.now) }
 {
     let mut joined = layout.copied();
     joined.join_axes();
@@ -66,11 +66,11 @@ where
     requires clones { ClonesAreEqualAt S.Elem.is_clone S.stored (ranked_by layout.now) storage.now }
     requires holds { Holds S.stored (ranked_by layout.now) storage.now }
     requires room { vec_len items.old + size_of (D.lengths layout.now.dim) ≤ vec_capacity items.old }
-    ensures items { OnOk result (ListsBehind S.stored (ranked_by layout.now) storage.now items.old items.new) }
+    ensures items { OnOk result (ListsShown S.stored layout.now storage.now items.old items.new) }
     ensures count { OnOk result (vec_len items.new ≡ vec_len items.old + size_of (D.lengths layout.now.dim)) }
     ensures room { vec_capacity items.old ≤ vec_capacity items.new }
     ensures kept { OnErr result (IsFront items.old.items items.new.items) }
-    ensures refused { OnErr result (MayRefuseAt S.Elem.is_infallible S.stored (ranked_by layout.now) storage.now) }
+    ensures refused { OnErr result (MayRefuseBy S.Elem.is_infallible S.stored layout.now storage.now) }
 {
     let axis = layout.dim.ndim() - 1;
     let order = layout.growing_order(axis);
@@ -101,11 +101,11 @@ where
     requires clones { ClonesAreEqualAt S.Elem.is_clone S.stored (ranked_by layout.now) storage.now }
     requires holds { Holds S.stored (ranked_by layout.now) storage.now }
     requires room { vec_len items.old + size_of (D.lengths layout.now.dim) ≤ vec_capacity items.old }
-    ensures items { OnOk result (ListsBehind S.stored (ranked_by layout.now) storage.now items.old items.new) }
+    ensures items { OnOk result (ListsShown S.stored layout.now storage.now items.old items.new) }
     ensures count { OnOk result (vec_len items.new ≡ vec_len items.old + size_of (D.lengths layout.now.dim)) }
     ensures room { vec_capacity items.old ≤ vec_capacity items.new }
     ensures kept { OnErr result (IsFront items.old.items items.new.items) }
-    ensures refused { OnErr result (MayRefuseAt S.Elem.is_infallible S.stored (ranked_by layout.now) storage.now) }
+    ensures refused { OnErr result (MayRefuseBy S.Elem.is_infallible S.stored layout.now storage.now) }
 {
     if layout.is_near() {
         if layout.dim.size() > 0 && layout.leaves_lines() {
@@ -134,11 +134,11 @@ where
     requires clones { ClonesAreEqualAt S.Elem.is_clone S.stored (ranked_by layout.now) storage.now }
     requires holds { Holds S.stored (ranked_by layout.now) storage.now }
     requires room { vec_len items.old + size_of (D.lengths layout.now.dim) ≤ vec_capacity items.old }
-    ensures items { OnOk result (ListsBehind S.stored (ranked_by layout.now) storage.now items.old items.new) }
+    ensures items { OnOk result (ListsShown S.stored layout.now storage.now items.old items.new) }
     ensures count { OnOk result (vec_len items.new ≡ vec_len items.old + size_of (D.lengths layout.now.dim)) }
     ensures room { vec_capacity items.old ≤ vec_capacity items.new }
     ensures kept { OnErr result (IsFront items.old.items items.new.items) }
-    ensures refused { OnErr result (MayRefuseAt S.Elem.is_infallible S.stored (ranked_by layout.now) storage.now) }
+    ensures refused { OnErr result (MayRefuseBy S.Elem.is_infallible S.stored layout.now storage.now) }
 {
     if layout.leaves_lines() {
         list_in_halves(items, storage, layout)

@@ -3,7 +3,7 @@
 ghost use Rattle.std.specs.Prelude.{◌≡◌, ℕ, IsSome};
 ghost use Rattle.nd_layout.specs.Lanes.{along, ranked};
 ghost use Rattle.nd_elements.specs.NumberedPlaces.{Holds, PlacesDiffer};
-ghost use Rattle.nd_elements.specs.elements.Changes.{ChangesAt, ChangesEach, MayChangeAt, MayChangeEach};
+ghost use Rattle.nd_elements.specs.elements.Changes.{ChangesAt, ChangesEach, ChangesPlaces, MayChangeAt, MayChangeEach};
 
 use crate::storage::DataMut;
 use nd_layout::{Lane, Places};
@@ -60,7 +60,7 @@ pub fn change_places<S: DataMut, F: FnMut(&mut S::Elem)>(
     requires apart { PlacesDiffer (ranked places) }
     requires holds { Holds S.stored (ranked places) storage.old }
     requires callable { MayChangeEach F.FnMut S.stored (ranked places) storage.old f }
-    ensures changed { ChangesEach F.FnMut S.stored (ranked places.entry) storage.old storage.new f result }
+    ensures changed { ChangesPlaces F.FnMut S.stored places.entry storage.old storage.new f result }
     ensures frame { S.frame storage.new ≡ S.frame storage.old }
 {
     let mut lanes = places.lanes();

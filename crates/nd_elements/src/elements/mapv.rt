@@ -1,10 +1,10 @@
 //! What a closure returns for a clone of each element, in a vector.
 
-ghost use Rattle.std.specs.Prelude.{◌≡◌, ◌+◌, ◌<◌, ◌≤◌, [], length, pos, slice_get, IfOk, OnErr, vec_len, vec_capacity};
+ghost use Rattle.std.specs.Prelude.{◌≡◌, ◌+◌, ◌<◌, ◌≤◌, [], length, pos, IfOk, OnErr, vec_len, vec_capacity};
 ghost use Rattle.nd_layout.specs.Lanes.{along, ranked};
 ghost use Rattle.nd_elements.specs.Clones.{StoredClonesAreEqual};
-ghost use Rattle.nd_elements.specs.NumberedPlaces.{ClonesAreEqualAt, Holds, in_turn};
-ghost use Rattle.nd_elements.specs.elements.Maps.{AnswersValues, MayGiveEach, PushesValues};
+ghost use Rattle.nd_elements.specs.NumberedPlaces.{ClonesAreEqualAt, Holds};
+ghost use Rattle.nd_elements.specs.elements.Maps.{AnswersValues, MayGiveEach, MayGiveItems, PushesItems, PushesValues};
 
 use crate::storage::Data;
 use nd_layout::{Lane, Places};
@@ -19,8 +19,8 @@ pub fn value_run<A: Clone, B, F: FnMut(A) -> B>(
 ) -> Result<F, NoMemory>
     requires clones { StoredClonesAreEqual A.is_clone xs.now }
     requires room { vec_len items.old + length xs.now ≤ vec_capacity items.old }
-    requires callable { MayGiveEach F.FnMut slice_get (in_turn xs.now) xs.now f }
-    ensures pushed { IfOk result (PushesValues F.FnMut slice_get (in_turn xs.now) xs.now f items.old items.new) }
+    requires callable { MayGiveItems F.FnMut xs.now f }
+    ensures pushed { IfOk result (PushesItems F.FnMut xs.now f items.old items.new) }
     ensures len { IfOk result (λ _. vec_len items.new ≡ vec_len items.old + length xs.now) }
     ensures room { vec_capacity items.new ≡ vec_capacity items.old }
     ensures refused { OnErr result (0 < length xs.now) }

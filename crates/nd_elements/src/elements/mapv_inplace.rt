@@ -3,8 +3,8 @@
 ghost use Rattle.std.specs.Prelude.{◌≡◌, IfOk, OnErr};
 ghost use Rattle.nd_layout.specs.Lanes.{along, ranked};
 ghost use Rattle.nd_elements.specs.ElementMut.{KeepsPlaces};
-ghost use Rattle.nd_elements.specs.NumberedPlaces.{ClonesAreEqualAt, Holds, MayRefuseAt, PlacesDiffer};
-ghost use Rattle.nd_elements.specs.elements.Maps.{MayGiveEach, ReplacesEach, ReplacesInPart};
+ghost use Rattle.nd_elements.specs.NumberedPlaces.{ClonesAreEqualAt, Holds, MayRefuse, MayRefuseAt, PlacesDiffer};
+ghost use Rattle.nd_elements.specs.elements.Maps.{MayGiveEach, ReplacesEach, ReplacesInPart, Rewrites, RewritesInPart};
 
 use crate::storage::DataMut;
 use nd_layout::{Lane, Places};
@@ -53,9 +53,9 @@ where
     requires clones { ClonesAreEqualAt S.Elem.is_clone S.stored (ranked places) storage.old }
     requires holds { Holds S.stored (ranked places) storage.old }
     requires callable { MayGiveEach F.FnMut S.stored (ranked places) storage.old f }
-    ensures replaced { IfOk result (ReplacesEach F.FnMut S.stored (ranked places.entry) storage.old storage.new f) }
-    ensures stopped { OnErr result (ReplacesInPart F.FnMut S.stored (ranked places.entry) storage.old storage.new f) }
-    ensures refused { OnErr result (MayRefuseAt S.Elem.is_infallible S.stored (ranked places.entry) storage.old) }
+    ensures replaced { IfOk result (Rewrites F.FnMut S.stored places.entry storage.old storage.new f) }
+    ensures stopped { OnErr result (RewritesInPart F.FnMut S.stored places.entry storage.old storage.new f) }
+    ensures refused { OnErr result (MayRefuse S.Elem.is_infallible S.stored places.entry storage.old) }
     ensures there { KeepsPlaces (S.stored storage.old) (S.stored storage.new) }
     ensures frame { S.frame storage.new ≡ S.frame storage.old }
 {

@@ -195,9 +195,9 @@ pub fn lay_anew<A: Drop, D: Dimension>(
     requires holds { HoldsEach (slice_get (stored_list storage.old)) (placement_of layout.old) }
     requires apart { IsSeparated (D.lengths layout.old.dim) (D.Strides.strides_of layout.old.strides) }
     ensures lengths { D.lengths layout.new.dim ≡ D.lengths layout.old.dim }
-    ensures elements { ShowsAlike storage.old (placement_of layout.old) storage.new (placement_of layout.new) }
+    ensures elements { ShowsAlike storage.old layout.old storage.new layout.new }
     ensures apart { IsSeparated (D.lengths layout.new.dim) (D.Strides.strides_of layout.new.strides) }
-    ensures laid { OnOk result (IsLaidAnew axis more (placement_of layout.old) (placement_of layout.new) storage.new) }
+    ensures laid { OnOk result (IsLaidAnew axis more layout.old layout.new storage.new) }
     ensures kept { OnErr result ((storage.new ≡ storage.old) × (layout.new ≡ layout.old)) }
 {
     let order = layout.growing_order(axis);

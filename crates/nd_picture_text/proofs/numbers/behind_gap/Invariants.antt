@@ -1,10 +1,13 @@
 use Rattle.std.proofs.Common.{◌≡◌, false, length}
-use Rattle.nd_picture_text.specs.Numbers.{behind_gap}
+use Rattle.nd_picture_text.specs.Numbers.{begins_comment, behind_gap}
 use Rattle.nd_picture_text.proofs.numbers.behind_gap.Given as goal
 
 -- what follows the gap that is left is what follows the whole gap
 abbrev pub invariant-loop-rest : goal.invariant-loop-rest
-invariant-loop-rest l = behind_gap l.inside l.rest ≡ behind_gap false l.fn.text
+invariant-loop-rest l = record {
+  read : behind_gap false l.rest ≡ behind_gap false l.fn.text;
+  outside : begins_comment l.rest ≡ false;
+}
 
 abbrev pub decreases-loop-rest : goal.decreases-loop-rest
 decreases-loop-rest l = length l.rest

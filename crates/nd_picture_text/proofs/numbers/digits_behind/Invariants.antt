@@ -1,12 +1,13 @@
 use Rattle.std.proofs.Common.{◌≡◌, ◌≤◌, false, length}
-use Rattle.nd_picture_text.specs.Numbers.{digits_behind}
+use Rattle.nd_picture_text.specs.Numbers.{begins_comment, digits_behind}
 use Rattle.nd_picture_text.proofs.numbers.digits_behind.Given as goal
 
 -- what is left, read behind the number so far, is the whole
 abbrev pub invariant-loop-rest : goal.invariant-loop-rest
 invariant-loop-rest l = record {
-  read : digits_behind l.limit l.inside l.number l.rest ≡ digits_behind l.limit false l.fn.first l.fn.text;
+  read : digits_behind l.limit false l.number l.rest ≡ digits_behind l.limit false l.fn.first l.fn.text;
   within : l.number ≤ l.limit;
+  outside : begins_comment l.rest ≡ false;
 }
 
 abbrev pub decreases-loop-rest : goal.decreases-loop-rest

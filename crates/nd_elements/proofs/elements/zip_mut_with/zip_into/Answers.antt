@@ -1,4 +1,4 @@
-use Rattle.std.proofs.Common.{◌<◌, ◌∙◌, ℤ, pos, ◌+ℤ◌, ◌*ℤ◌, ap, refl, sym, subst, length, get_or, slice_set}
+use Rattle.std.proofs.Common.{◌<◌, ◌∙◌, pos, ◌+ℤ◌, ◌*ℤ◌, ap, refl, sym, subst, length, get_or, slice_set}
 use Rattle.std.specs.Prelude.{slice_get}
 use Rattle.nd_layout.specs.Lanes.{along}
 use Rattle.nd_elements.specs.Places.{stored_at}

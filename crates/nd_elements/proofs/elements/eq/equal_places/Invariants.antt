@@ -1,0 +1,17 @@
+use Rattle.std.specs.Prelude.{◌≡◌, ◌-◌, true}
+use Rattle.std.specs.Cmp.Lexicographic.{pointwise}
+use Rattle.nd_layout.specs.Lanes.{ranked}
+use Rattle.nd_elements.specs.Collected.{collected}
+use Rattle.nd_elements.specs.NumberedPlaces.{elements_at}
+use Rattle.nd_elements.proofs.LanesBeside.{AreLanesBeside}
+use Rattle.nd_elements.proofs.elements.eq.equal_places.Given as goal
+
+abbrev pub invariant-loop-lane : goal.invariant-loop-lane
+invariant-loop-lane g l =
+    AreLanesBeside l.fn.ours l.fn.theirs l.lanes l.others
+    × (pointwise g.S.Elem.PartialEq.eq
+    (collected (elements_at g.S.Data.stored (ranked l.fn.ours) l.fn.a) l.lanes.rank)
+    (collected (elements_at g.S.Data.stored (ranked l.fn.theirs) l.fn.b) l.lanes.rank) ≡ true)
+
+abbrev pub decreases-loop-lane : goal.decreases-loop-lane
+decreases-loop-lane g l = (ranked l.fn.ours).count - l.lanes.rank

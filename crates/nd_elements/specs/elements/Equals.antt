@@ -1,0 +1,10 @@
+-- The elements of two storages compared one by one.
+use Rattle.std.specs.Prelude.{ℕ, Bool, Option}
+use Rattle.std.specs.Cmp.Lexicographic.{pointwise}
+use Rattle.nd_layout.specs.Lanes.{ranked}
+use Rattle.nd_layout.specs.declared.places.Places.{Places}
+use Rattle.nd_elements.specs.NumberedPlaces.{all_elements_at}
+
+-- those at the places of two layouts are equal, in row-major order
+abbrev pub equal_ranked : {S A : Type 0} → (A → A → Bool) → (S → ℕ → Option A) → S → Places → S → Places → Bool
+equal_ranked eq stored a ours b theirs = pointwise eq (all_elements_at stored (ranked ours) a) (all_elements_at stored (ranked theirs) b)
