@@ -9,6 +9,7 @@ ghost use Rattle.nd_elements.specs.along.LanesIn.{lanes_in};
 ghost use Rattle.nd_elements.specs.along.Accumulated.{TakesAfter, ChangesNext, TakesNext, LeavesAllBut, ChangedBetween, ChangedInside, AccumulatesLane, AccumulableLane, AccumulatesLanes, AccumulableLanes};
 
 use crate::along::accumulate_beside::accumulate_beside;
+use crate::along::accumulate_run::accumulate_run;
 use crate::along::axis_lanes::AxisLanes;
 use crate::along::first_places::lane_from;
 use crate::storage::DataMut;
@@ -90,7 +91,7 @@ fn change_after<S: DataMut, F: FnMut(&S::Elem, &mut S::Elem)>(
 }
 
 /// Goes along a lane: shows the function each element but the last, and hands it the next one, to be written.
-fn accumulate_lane<S: DataMut, F: FnMut(&S::Elem, &mut S::Elem)>(
+fn accumulate_by_steps<S: DataMut, F: FnMut(&S::Elem, &mut S::Elem)>(
     storage: &mut S,
     lane: Lane,
     f: F,
@@ -107,6 +108,25 @@ fn accumulate_lane<S: DataMut, F: FnMut(&S::Elem, &mut S::Elem)>(
         now = change_after(storage, lane, nth, now);
     }
     now
+}
+
+/// The same; where the elements lie side by side they are gone along as a slice.
+fn accumulate_lane<S: DataMut, F: FnMut(&S::Elem, &mut S::Elem)>(
+    storage: &mut S,
+    lane: Lane,
+    f: F,
+) -> F
+    requires some { 0 < lane.count }
+    requires apart { PlacesDiffer (along lane) }
+    requires holds { Holds S.stored (along lane) storage.old }
+    requires callable { AccumulableLane F.FnMut S.stored (along lane) storage.old f }
+    ensures accumulated { AccumulatesLane F.FnMut S.stored (along lane) storage.old storage.new f result }
+    ensures frame { S.frame storage.new ≡ S.frame storage.old }
+{
+    if lane.stride == 1 {
+        return accumulate_run(storage, lane, f);
+    }
+    accumulate_by_steps(storage, lane, f)
 }
 
 /// The same along one lane of an axis after the other.

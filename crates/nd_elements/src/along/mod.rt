@@ -2,6 +2,7 @@
 
 pub mod accumulate_axis;
 mod accumulate_beside;
+mod accumulate_run;
 pub mod axis_lanes;
 pub mod first_places;
 pub mod fold_axis;

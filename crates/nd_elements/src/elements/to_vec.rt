@@ -80,75 +80,81 @@ where
     (items, Ok(()))
 }
 
-/// Puts clones of the elements of a lane behind those that a vector has.
-fn extend_by_steps<S: Data>(
-    items: &mut Vec<S::Elem>,
+/// The same where they lie side by side.
+#[inline(always)]
+fn clones_beside<S: Data>(
+    items: Vec<S::Elem>,
     storage: &S,
     lane: Lane,
-) -> Result<(), NoMemory>
-where
-    S::Elem: Clone,
-    requires clones { ClonesAreEqualAt S.Elem.is_clone S.stored (along lane) storage.now }
-    requires holds { Holds S.stored (along lane) storage.now }
-    requires room { vec_len items.old + lane.count ≤ vec_capacity items.old }
-    ensures items { OnOk result (ListsBehind S.stored (along lane) storage.now items.old items.new) }
-    ensures len { OnOk result (vec_len items.new ≡ vec_len items.old + lane.count) }
-    ensures room { vec_capacity items.new ≡ vec_capacity items.old }
-    ensures kept { OnErr result (IsFront items.old.items items.new.items) }
-    ensures refused { OnErr result (MayRefuseAt S.Elem.is_infallible S.stored (along lane) storage.now) }
-{
-    let alloc = *items.allocator();
-    let held = mem::replace(items, Vec::new(alloc));
-    let (longer, end) = clones_along(held, storage, lane);
-    let empty = mem::replace(items, longer);
-    empty.destroy_empty();
-    end
-}
-
-/// The same where they lie side by side.
-fn extend_by_run<S: Data>(items: &mut Vec<S::Elem>, storage: &S, lane: Lane) -> Result<(), NoMemory>
+) -> (Vec<S::Elem>, Result<(), NoMemory>)
 where
     S::Elem: Clone,
     requires beside { lane.stride ≡ pos 1 }
     requires clones { ClonesAreEqualAt S.Elem.is_clone S.stored (along lane) storage.now }
     requires holds { Holds S.stored (along lane) storage.now }
-    requires room { vec_len items.old + lane.count ≤ vec_capacity items.old }
-    ensures items { OnOk result (ListsBehind S.stored (along lane) storage.now items.old items.new) }
-    ensures len { OnOk result (vec_len items.new ≡ vec_len items.old + lane.count) }
-    ensures room { vec_capacity items.new ≡ vec_capacity items.old }
-    ensures kept { OnErr result (IsFront items.old.items items.new.items) }
-    ensures refused { OnErr result (MayRefuseAt S.Elem.is_infallible S.stored (along lane) storage.now) }
+    requires room { vec_len items + lane.count ≤ vec_capacity items }
+    ensures items { OnOk result.1 (ListsBehind S.stored (along lane) storage.now items result.0) }
+    ensures len { OnOk result.1 (vec_len result.0 ≡ vec_len items + lane.count) }
+    ensures room { vec_capacity result.0 ≡ vec_capacity items }
+    ensures kept { OnErr result.1 (IsFront items.items result.0.items) }
+    ensures refused { OnErr result.1 (MayRefuseAt S.Elem.is_infallible S.stored (along lane) storage.now) }
 {
     let run = storage.borrowed().run(lane.place, lane.count);
-    let alloc = *items.allocator();
-    let held = mem::replace(items, Vec::new(alloc));
-    let (longer, end) = clones_behind(held, run);
-    let empty = mem::replace(items, longer);
-    empty.destroy_empty();
-    end
+    clones_behind(items, run)
 }
 
 /// The same of any lane.
-fn extend_by_lane<S: Data>(
-    items: &mut Vec<S::Elem>,
+#[inline(always)]
+fn clones_of_lane<S: Data>(
+    items: Vec<S::Elem>,
     storage: &S,
     lane: Lane,
-) -> Result<(), NoMemory>
+) -> (Vec<S::Elem>, Result<(), NoMemory>)
 where
     S::Elem: Clone,
     requires clones { ClonesAreEqualAt S.Elem.is_clone S.stored (along lane) storage.now }
     requires holds { Holds S.stored (along lane) storage.now }
-    requires room { vec_len items.old + lane.count ≤ vec_capacity items.old }
-    ensures items { OnOk result (ListsBehind S.stored (along lane) storage.now items.old items.new) }
-    ensures len { OnOk result (vec_len items.new ≡ vec_len items.old + lane.count) }
-    ensures room { vec_capacity items.new ≡ vec_capacity items.old }
-    ensures kept { OnErr result (IsFront items.old.items items.new.items) }
-    ensures refused { OnErr result (MayRefuseAt S.Elem.is_infallible S.stored (along lane) storage.now) }
+    requires room { vec_len items + lane.count ≤ vec_capacity items }
+    ensures items { OnOk result.1 (ListsBehind S.stored (along lane) storage.now items result.0) }
+    ensures len { OnOk result.1 (vec_len result.0 ≡ vec_len items + lane.count) }
+    ensures room { vec_capacity result.0 ≡ vec_capacity items }
+    ensures kept { OnErr result.1 (IsFront items.items result.0.items) }
+    ensures refused { OnErr result.1 (MayRefuseAt S.Elem.is_infallible S.stored (along lane) storage.now) }
 {
     if lane.stride == 1 {
-        return extend_by_run(items, storage, lane);
+        return clones_beside(items, storage, lane);
     }
-    extend_by_steps(items, storage, lane)
+    clones_along(items, storage, lane)
+}
+
+/// The same of all lanes of a layout: rows may be short, so the vector is handed on from lane to lane.
+fn clones_by_rank<S: Data>(
+    items: Vec<S::Elem>,
+    storage: &S,
+    places: Places<'_>,
+) -> (Vec<S::Elem>, Result<(), NoMemory>)
+where
+    S::Elem: Clone + Drop,
+    requires clones { ClonesAreEqualAt S.Elem.is_clone S.stored (ranked places) storage.now }
+    requires holds { Holds S.stored (ranked places) storage.now }
+    requires room { vec_len items + (ranked places).count ≤ vec_capacity items }
+    ensures items { OnOk result.1 (ListsBehind S.stored (ranked places.entry) storage.now items result.0) }
+    ensures len { OnOk result.1 (vec_len result.0 ≡ vec_len items + (ranked places.entry).count) }
+    ensures room { vec_capacity result.0 ≡ vec_capacity items }
+    ensures kept { OnErr result.1 (IsFront items.items result.0.items) }
+    ensures refused { OnErr result.1 (MayRefuseAt S.Elem.is_infallible S.stored (ranked places.entry) storage.now) }
+{
+    let mut items = items;
+    let mut lanes = places.lanes();
+    while let Some(lane) = lanes.next() {
+        let (longer, end) = clones_of_lane(items, storage, lane);
+        items = longer;
+        match end {
+            Ok(()) => {}
+            Err(refused) => return (items, Err(refused)),
+        }
+    }
+    (items, Ok(()))
 }
 
 /// Puts clones of the elements at the places of a layout, by row-major rank, behind those that a vector has.
@@ -168,14 +174,12 @@ where
     ensures kept { OnErr result (IsFront items.old.items items.new.items) }
     ensures refused { OnErr result (MayRefuseAt S.Elem.is_infallible S.stored (ranked places.entry) storage.now) }
 {
-    let mut lanes = places.lanes();
-    while let Some(lane) = lanes.next() {
-        match extend_by_lane(items, storage, lane) {
-            Ok(()) => {}
-            Err(refused) => return Err(refused),
-        }
-    }
-    Ok(())
+    let alloc = *items.allocator();
+    let held = mem::replace(items, Vec::new(alloc));
+    let (longer, end) = clones_by_rank(held, storage, places);
+    let empty = mem::replace(items, longer);
+    empty.destroy_empty();
+    end
 }
 
 /// A new vector with room for that many elements.

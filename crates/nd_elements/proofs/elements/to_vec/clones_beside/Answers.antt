@@ -1,17 +1,17 @@
-use Rattle.std.proofs.Common.{◌+◌, ◌∙◌, ap, sym}
+use Rattle.std.proofs.Common.{◌+◌, ◌∙◌, ap, sym, refl}
 use Rattle.std.specs.Prelude.{is_some}
 use Rattle.nd_elements.specs.Collected.{stored_along}
 use Rattle.nd_elements.proofs.Collecting.{beside, beside_has}
 use Rattle.nd_elements.proofs.RunsBehind.{run_behind, run_clones, run_front, run_refuses}
-use Rattle.nd_elements.proofs.elements.to_vec.extend_by_run.Goals as goal
+use Rattle.nd_elements.proofs.elements.to_vec.clones_beside.Goals as goal
 
 pub run-run-requires : goal.run-run-requires
 run-run-requires g c k below =
     ap is_some (c.borrowed.ensures (c.args.lane.place + k))
     ∙ beside_has (g.S.Data.stored c.args.storage.now) c.args.lane.place c.args.lane.count c.args.lane.stride c.requires.beside c.requires.holds k below
 
-pub clones_behind-longer-requires-clause-clones : goal.clones_behind-longer-requires-clause-clones
-clones_behind-longer-requires-clause-clones g c =
+pub clones_behind-requires-clause-clones : goal.clones_behind-requires-clause-clones
+clones_behind-requires-clause-clones g c =
     run_clones c.run-run.result.now (stored_along (g.S.Data.stored c.args.storage.now) c.args.lane.place c.args.lane.stride) c.args.lane.count c.run-run.ensures.count
     (λ k d below. beside (g.S.Data.stored c.args.storage.now) c.args.lane.place k c.args.lane.stride c.requires.beside ∙ (sym (c.borrowed.ensures (c.args.lane.place + k)) ∙ c.run-run.ensures.elements k d below))
     g.S.Elem.Clone.is_clone c.requires.clones
@@ -20,18 +20,18 @@ pub returns-clause-items : goal.returns-clause-items
 returns-clause-items g c =
     run_behind c.run-run.result.now (stored_along (g.S.Data.stored c.args.storage.now) c.args.lane.place c.args.lane.stride) c.args.lane.count c.run-run.ensures.count
     (λ k d below. beside (g.S.Data.stored c.args.storage.now) c.args.lane.place k c.args.lane.stride c.requires.beside ∙ (sym (c.borrowed.ensures (c.args.lane.place + k)) ∙ c.run-run.ensures.elements k d below))
-    c.clones_behind-longer.result.1 c.replace-held.result.items c.clones_behind-longer.result.0.items c.args.items.now.items c.replace-empty.new.dest.items
-    (ap (λ v. v.items) c.replace-held.ensures.value) (ap (λ v. v.items) c.replace-empty.ensures.after) c.clones_behind-longer.ensures.items
+    c.clones_behind.result.1 c.args.items.items c.clones_behind.result.0.items c.args.items.items c.clones_behind.result.0.items
+    refl refl c.clones_behind.ensures.items
 
 pub returns-clause-kept : goal.returns-clause-kept
 returns-clause-kept g c =
     run_front c.run-run.result.now (stored_along (g.S.Data.stored c.args.storage.now) c.args.lane.place c.args.lane.stride) c.args.lane.count c.run-run.ensures.count
     (λ k d below. beside (g.S.Data.stored c.args.storage.now) c.args.lane.place k c.args.lane.stride c.requires.beside ∙ (sym (c.borrowed.ensures (c.args.lane.place + k)) ∙ c.run-run.ensures.elements k d below))
-    c.clones_behind-longer.result.1 c.replace-held.result.items c.clones_behind-longer.result.0.items c.args.items.now.items c.replace-empty.new.dest.items
-    (ap (λ v. v.items) c.replace-held.ensures.value) (ap (λ v. v.items) c.replace-empty.ensures.after) c.clones_behind-longer.ensures.kept
+    c.clones_behind.result.1 c.args.items.items c.clones_behind.result.0.items c.args.items.items c.clones_behind.result.0.items
+    refl refl c.clones_behind.ensures.kept
 
 pub returns-clause-refused : goal.returns-clause-refused
 returns-clause-refused g c =
     run_refuses c.run-run.result.now (stored_along (g.S.Data.stored c.args.storage.now) c.args.lane.place c.args.lane.stride) c.args.lane.count c.run-run.ensures.count
     (λ k d below. beside (g.S.Data.stored c.args.storage.now) c.args.lane.place k c.args.lane.stride c.requires.beside ∙ (sym (c.borrowed.ensures (c.args.lane.place + k)) ∙ c.run-run.ensures.elements k d below))
-    c.clones_behind-longer.result.1 g.S.Elem.Clone.is_infallible c.clones_behind-longer.ensures.refused
+    c.clones_behind.result.1 g.S.Elem.Clone.is_infallible c.clones_behind.ensures.refused

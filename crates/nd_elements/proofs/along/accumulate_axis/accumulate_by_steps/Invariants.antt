@@ -1,6 +1,6 @@
 use Rattle.std.specs.Prelude.{◌≡◌, pos, ◌+ℤ◌, ◌*ℤ◌}
 use Rattle.nd_elements.specs.along.Accumulated.{IsAccumulated}
-use Rattle.nd_elements.proofs.along.accumulate_axis.accumulate_lane.Given as goal
+use Rattle.nd_elements.proofs.along.accumulate_axis.accumulate_by_steps.Given as goal
 
 abbrev pub invariant-loop-nth : goal.invariant-loop-nth
 invariant-loop-nth g l =

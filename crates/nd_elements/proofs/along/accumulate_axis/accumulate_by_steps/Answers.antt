@@ -2,7 +2,7 @@ use Rattle.std.proofs.Common.{◌≡◌, ◌+◌, ◌-◌, ◌∙◌, ℕ, suc, 
 use Rattle.nd_elements.specs.Places.{stored_at}
 use Rattle.nd_elements.specs.along.Accumulated.{ChangesAfter, TakesAfter, IsAccumulated}
 use Rattle.nd_elements.proofs.Accumulating.{accumulated_there, next_accumulable, accumulated_more}
-use Rattle.nd_elements.proofs.along.accumulate_axis.accumulate_lane.Goals as goal
+use Rattle.nd_elements.proofs.along.accumulate_axis.accumulate_by_steps.Goals as goal
 
 next : (m : ℕ) → suc m ≡ m + 1
 next m = omega arith

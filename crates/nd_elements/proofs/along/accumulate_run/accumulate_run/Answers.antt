@@ -1,0 +1,39 @@
+use Rattle.std.proofs.Common.{◌≡◌, ℕ, ◌+◌, ◌<◌, ◌∙◌, ap, pos, sym, arith}
+use Rattle.nd_layout.specs.Lanes.{along}
+use Rattle.nd_elements.specs.RunLent.{HasRunAt}
+use Rattle.nd_elements.proofs.Collecting.{beside_has}
+use Rattle.nd_elements.proofs.LaneRuns.{run_accumulable, run_accumulated}
+use Rattle.nd_elements.proofs.RunPairs.{side_place, side_shows, beside_lane}
+use Rattle.nd_elements.proofs.along.accumulate_run.accumulate_run.Goals as goal
+
+none_more : (p : ℕ) → p + 0 ≡ p
+none_more p = omega arith
+
+pub lend_run-requires : goal.lend_run-requires
+lend_run-requires g c k below =
+    let lane = c.args.lane in
+    beside_has (g.S.Data.stored c.args.storage.now) lane.place lane.count lane.stride c.requires.step c.requires.holds k below
+
+pub accumulate_slice-requires-clause-callable : goal.accumulate_slice-requires-clause-callable
+accumulate_slice-requires-clause-callable g c =
+    let lane = c.args.lane in
+    let old = g.S.Data.stored c.args.storage.now in
+    run_accumulable g.F.FnMut (along lane).place lane.count c.requires.some old c.lend_run.result.now c.lend_run.ensures.values.0
+    (λ k below. c.lend_run.ensures.values.1 k below ∙ sym (side_shows old lane.place k lane.stride c.requires.step))
+    c.args.f c.requires.callable
+
+pub returns-clause-accumulated : goal.returns-clause-accumulated
+returns-clause-accumulated g c =
+    let lane = c.args.lane in
+    let old = g.S.Data.stored c.args.storage.now in
+    let ws = c.accumulate_slice.new.items in
+    let holds : HasRunAt old lane.place lane.count = λ k below. beside_has old lane.place lane.count lane.stride c.requires.step c.requires.holds k below in
+    let long = c.accumulate_slice.ensures.long ∙ c.lend_run.ensures.values.0 in
+    let new = g.S.Data.stored (g.S.Data.with_run c.args.storage.now lane.place lane.count ws).0 in
+    run_accumulated g.F.FnMut (along lane).place lane.count c.requires.some old c.lend_run.result.now c.lend_run.ensures.values.0
+    (λ k below. c.lend_run.ensures.values.1 k below ∙ sym (side_shows old lane.place k lane.stride c.requires.step))
+    new ws
+    (λ k below. sym (g.met.S.DataMut.run_written c.args.storage.now lane.place lane.count ws holds long k below) ∙ sym (side_shows new lane.place k lane.stride c.requires.step))
+    (λ p nowhere. g.met.S.DataMut.run_left c.args.storage.now lane.place lane.count ws holds long p (beside_lane lane.place lane.count lane.stride c.requires.step p nowhere))
+    lane.place (side_place lane.place 0 lane.stride c.requires.step ∙ ap pos (none_more lane.place))
+    c.args.f c.accumulate_slice.result c.accumulate_slice.ensures.accumulated
