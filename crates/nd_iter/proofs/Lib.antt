@@ -3,4 +3,5 @@ pub mod IndexedElements
 pub mod LanesTaken
 pub mod Parts
 pub mod PartsAlong
+pub mod RowsTaken
 pub mod Runs

@@ -1,11 +1,12 @@
 -- The lanes that an iterator has in hand, and what they leave.
-use Rattle.std.specs.Prelude.{◌≡◌, ◌+◌, ◌-◌, ◌≤◌, ℕ, List, Option, IfSome}
+use Rattle.std.specs.Prelude.{◌≡◌, ◌+◌, ◌-◌, ◌≤◌, ◌++◌, ℕ, List, length, Option, IfSome}
 use Rattle.nd_shape_and_slice.specs.Shape.{size_of}
 use Rattle.nd_array_core.specs.Meaning.{Meaning}
 use Rattle.nd_array_core.specs.along.RankLanes.{lane_length, ListsFrom}
 use Rattle.nd_iter.specs.Seen.{elements_left}
 use Rattle.nd_iter.specs.declared.ends.Ends.{Ends}
 use Rattle.nd_iter.specs.declared.ranks.LaneInHand.{LaneInHand}
+use Rattle.nd_iter.specs.declared.row_ends.RowEnds.{RowEnds}
 
 -- where there is one, it lists an array's elements from its first rank on
 abbrev pub IsInHand : {A : Type 0} → Meaning A → Option (LaneInHand A) → Type 0
@@ -34,3 +35,13 @@ pub record AreEndsOf {A : Type 0} (m : Meaning A) (h : Ends A) : Type 0 where
   pub within : rank_behind h ≤ size_of m.shape
   pub ahead : ListsFrom h.ahead (first_rank h) m
   pub behind : ListsFrom h.behind h.back m
+
+-- the elements that are left of an array whose rows lie side by side
+abbrev pub rows_left : {A : Type 0} → Meaning A → RowEnds A → List A
+rows_left m h = h.ahead.now ++ (elements_left m h.front h.back ++ h.behind.now)
+
+-- as many ranks lie before the first one, and behind the last, as elements are in hand there
+pub record AreRowsOf {A : Type 0} (m : Meaning A) (h : RowEnds A) : Type 0 where
+  pub before : length h.ahead.now ≤ h.front
+  pub between : h.front ≤ h.back
+  pub within : h.back + length h.behind.now ≤ size_of m.shape

@@ -1,5 +1,5 @@
 -- What the iterators over an array show of it, one after another.
-use Rattle.std.specs.Prelude.{◌-◌, ◌<◌, ◌≤◌, ℕ, List, drop, length, map, take, slice_index}
+use Rattle.std.specs.Prelude.{◌≡◌, ◌+◌, ◌-◌, ◌<◌, ◌≤◌, ◌++◌, ℕ, List, drop, length, map, take, slice_index}
 use Rattle.std.specs.List.{range_with_len}
 use Rattle.std.specs.Option.{option_map}
 use Rattle.nd_shape_and_slice.specs.Maps.{indexed_shape, indexed_index}
@@ -33,6 +33,14 @@ pub record CanGoAlong (ns : List ℕ) (axis from to : ℕ) : Type 0 where
 -- the elements of the ranks from one up to another
 abbrev pub elements_left : {A : Type 0} → Meaning A → ℕ → ℕ → List A
 elements_left m from to = drop from (take to (row_major_elements m))
+
+-- a list has the first of them
+abbrev pub IsTakenAhead : {A : Type 0} → Meaning A → ℕ → ℕ → List A → Type 0
+IsTakenAhead m from to xs = elements_left m from to ≡ xs ++ elements_left m (from + length xs) to
+
+-- a list has the last of them
+abbrev pub IsTakenBehind : {A : Type 0} → Meaning A → ℕ → ℕ → List A → Type 0
+IsTakenBehind m from to xs = elements_left m from to ≡ elements_left m from (to - length xs) ++ xs
 
 -- the ranks from one up to another are those of indexes
 pub record AreRanks (ns : List ℕ) (from to : ℕ) : Type 0 where

@@ -1,11 +1,12 @@
 //! The elements in row-major order.
 
-ghost use Rattle.std.specs.Prelude.{◌≡◌};
+ghost use Rattle.std.specs.Prelude.{◌≡◌, length};
 ghost use Rattle.std.specs.Iterator.{YieldsFirstRef, YieldsLastRef, item_count};
 ghost use Rattle.nd_array_core.specs.Meaning.{meaning_of};
 ghost use Rattle.nd_array_core.specs.Joined.{row_major_elements};
 
 use crate::ends::Ends;
+use crate::row_ends::{RowEnds, are_side_by_side};
 use nd_array_core::{ArrayBase, Data};
 use nd_shape_and_slice::Dimension;
 use std::iter::FusedIterator;
@@ -15,22 +16,28 @@ use std::marker::Model;
 #[derive(Drop)]
 pub struct Iter<'a, A, S: Data<Elem = A>, D: Dimension> {
     array: &'a ArrayBase<S, D>,
+    // Whether the elements of each row lie side by side, but not all elements do: then what is left stands in `rows`.
+    by_rows: bool,
+    rows: RowEnds<'a, A>,
     // All elements, where they lie side by side in row-major order: then no lane is taken in hand.
     run: Option<&'a [A]>,
     ends: Ends<'a, A>,
 }
 
 impl<'a, A, S: Data<Elem = A>, D: Dimension> Model for Iter<'a, A, S, D> {
-    ghost use Rattle.std.specs.Prelude.{◌≡◌, List, IfSome};
+    ghost use Rattle.std.specs.Prelude.{◌≡◌, List, IfSome, IsTrue, if◌then◌else◌};
     ghost use Rattle.nd_array_core.specs.Joined.{row_major_elements};
     ghost use Rattle.nd_array_core.specs.Meaning.{meaning_of};
-    ghost use Rattle.nd_iter.specs.Hands.{left_in, AreEndsOf, IsByRanks};
+    ghost use Rattle.nd_array_core.specs.along.RankLanes.{RowsLieSideBySide};
+    ghost use Rattle.nd_iter.specs.Hands.{left_in, rows_left, AreEndsOf, AreRowsOf, IsByRanks};
 
     ghost Value = { List A };
 
-    ghost view = { λ it. left_in (meaning_of it.array.now) it.ends };
+    ghost view = { λ it. if it.by_rows then rows_left (meaning_of it.array.now) it.rows else left_in (meaning_of it.array.now) it.ends };
 
     ghost invariant = { λ it. AreEndsOf (meaning_of it.array.now) it.ends
+        × AreRowsOf (meaning_of it.array.now) it.rows
+        × (IsTrue it.by_rows → RowsLieSideBySide it.array.now)
         × IfSome it.run (λ run. (run.now ≡ row_major_elements (meaning_of it.array.now)) × IsByRanks it.ends) };
 }
 
@@ -43,6 +50,9 @@ impl<'a, A, S: Data<Elem = A>, D: Dimension> Iterator for Iter<'a, A, S, D> {
 
     #[inline]
     fn next(&mut self) -> Option<&'a A> {
+        if self.by_rows {
+            return self.rows.first(self.array);
+        }
         match self.run {
             Some(all) => self.ends.first_in(self.array, all),
             None => self.ends.first(self.array),
@@ -50,7 +60,7 @@ impl<'a, A, S: Data<Elem = A>, D: Dimension> Iterator for Iter<'a, A, S, D> {
     }
 
     fn size_hint(&self) -> (usize, Option<usize>) {
-        let count = self.ends.count(self.array);
+        let count = self.count_left();
         (count, Some(count))
     }
 }
@@ -60,6 +70,9 @@ impl<'a, A, S: Data<Elem = A>, D: Dimension> DoubleEndedIterator for Iter<'a, A,
 
     #[inline]
     fn next_back(&mut self) -> Option<&'a A> {
+        if self.by_rows {
+            return self.rows.last(self.array);
+        }
         match self.run {
             Some(all) => self.ends.last_in(self.array, all),
             None => self.ends.last(self.array),
@@ -69,7 +82,7 @@ impl<'a, A, S: Data<Elem = A>, D: Dimension> DoubleEndedIterator for Iter<'a, A,
 
 impl<'a, A, S: Data<Elem = A>, D: Dimension> ExactSizeIterator for Iter<'a, A, S, D> {
     fn len(&self) -> usize {
-        self.ends.count(self.array)
+        self.count_left()
     }
 }
 
@@ -80,10 +93,24 @@ impl<'a, A, S: Data<Elem = A>, D: Dimension> Iter<'a, A, S, D> {
     pub(crate) fn over(array: &'a ArrayBase<S, D>) -> Self
         ensures { result ≡ row_major_elements (meaning_of array.now) }
     {
+        let run = array.as_slice();
         Iter {
             array,
-            run: array.as_slice(),
+            by_rows: run.is_none() && are_side_by_side(array),
+            rows: RowEnds::of(array),
+            run,
             ends: Ends::of(array),
+        }
+    }
+
+    /// How many are left.
+    fn count_left(&self) -> usize
+        ensures { result ≡ length self.now }
+    {
+        if self.by_rows {
+            self.rows.count(self.array)
+        } else {
+            self.ends.count(self.array)
         }
     }
 }

@@ -7,6 +7,7 @@ pub mod elements;
 pub mod ends;
 pub mod indexed;
 mod ranks;
+pub mod row_ends;
 mod whole;
 
 pub use along::{AxisIter, axis_iter, rows};

@@ -1,11 +1,12 @@
 //! The element of a row-major rank, and its index.
 
-ghost use Rattle.std.specs.Prelude.{◌↔◌, ◌≡◌, ◌+◌, ◌-◌, ◌<◌, ◌≤◌, IsTrue, Some, slice_get};
+ghost use Rattle.std.specs.Prelude.{◌↔◌, ◌≡◌, ◌+◌, ◌-◌, ◌<◌, ◌≤◌, IsTrue, Some, length, slice_get};
 ghost use Rattle.nd_shape_and_slice.specs.Shape.{index_at, size_of};
 ghost use Rattle.nd_array_core.specs.Meaning.{meaning_of, shape_of};
 ghost use Rattle.nd_array_core.specs.Joined.{row_major_elements};
-ghost use Rattle.nd_array_core.specs.along.RankLanes.{lane_length, lane_element, ListsFrom};
+ghost use Rattle.nd_array_core.specs.along.RankLanes.{lane_length, lane_element, ListsFrom, RowsLieSideBySide};
 ghost use Rattle.nd_iter.specs.Hands.{IsInHand};
+ghost use Rattle.nd_iter.specs.Seen.{IsTakenAhead, IsTakenBehind};
 
 use nd_array_core::laws::elements_by_rank;
 use nd_array_core::{ArrayBase, Data, LaneView};
@@ -140,4 +141,46 @@ pub(crate) fn lane_behind<A, S: Data<Elem = A>, D: Dimension>(
     let (lane, first) = array.lane_of_rank(until - 1);
     let start = first.max(from);
     lane.part(start - first, until - start)
+}
+
+/// What is left from a rank on of its row, up to another rank.
+#[inline]
+pub(crate) fn row_ahead<A, S: Data<Elem = A>, D: Dimension>(
+    array: &ArrayBase<S, D>,
+    from: usize,
+    until: usize,
+) -> &[A]
+    requires rows { RowsLieSideBySide array.now }
+    requires some { from < until }
+    requires within { until ≤ size_of (shape_of array.now) }
+    ensures some { 0 < length result.now }
+    ensures within { from + length result.now ≤ until }
+    ensures lists { IsTakenAhead (meaning_of array.now) from until result.now }
+{
+    elements_by_rank(array);
+    match array.row_of_rank(from) {
+        Some((row, first)) => &row[from - first..row.len().min(until - first)],
+        None => unreachable!(),
+    }
+}
+
+/// What is left before a rank of the row of the one before it, from another rank on.
+#[inline]
+pub(crate) fn row_behind<A, S: Data<Elem = A>, D: Dimension>(
+    array: &ArrayBase<S, D>,
+    from: usize,
+    until: usize,
+) -> &[A]
+    requires rows { RowsLieSideBySide array.now }
+    requires some { from < until }
+    requires within { until ≤ size_of (shape_of array.now) }
+    ensures some { 0 < length result.now }
+    ensures within { from + length result.now ≤ until }
+    ensures lists { IsTakenBehind (meaning_of array.now) from until result.now }
+{
+    elements_by_rank(array);
+    match array.row_of_rank(until - 1) {
+        Some((row, first)) => &row[first.max(from) - first..until - first],
+        None => unreachable!(),
+    }
 }

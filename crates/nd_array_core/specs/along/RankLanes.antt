@@ -1,7 +1,14 @@
 -- A lane of the last axis, by the row-major ranks of its elements.
-use Rattle.std.specs.Prelude.{◌≡◌, ◌+◌, ◌<◌, ◌+ℤ◌, ◌*ℤ◌, ℕ, ℤ, pos, [], ◌∷◌, Option, slice_get, slice_index, ◌-◌, ◌*◌, List, length, slice_index_or}
+use Rattle.std.specs.Prelude.{◌≡◌, ◌+◌, ◌<◌, ◌≤◌, ◌+ℤ◌, ◌*ℤ◌, ℕ, ℤ, pos, [], ◌∷◌, Option, slice_get, slice_index, ◌-◌, ◌*◌, List, length, slice_index_or}
+use Rattle.nd_shape_and_slice.specs.declared.dimension.Dimension as dimension
+use Rattle.nd_shape_and_slice.specs.declared.dimension.AxisCount as axis_count
+use Rattle.nd_shape_and_slice.specs.declared.dimension.StrideList as stride_list
+use Rattle.nd_shape_and_slice.specs.Shape.{size_of}
 use Rattle.nd_layout.specs.declared.lanes.Lane.{Lane}
+use Rattle.nd_elements.specs.declared.storage.Data as data_trait
 use Rattle.nd_elements.specs.Meaning.{Meaning, row_major_elements}
+use Rattle.nd_array_core.specs.declared.base.array.ArrayBase.{ArrayBase}
+use Rattle.nd_array_core.specs.Meaning.{layout_strides}
 use Rattle.nd_array_core.specs.declared.along.lane_view.LaneView.{LaneView}
 use Rattle.nd_array_core.specs.along.AxisMaps.{lane_seen}
 
@@ -29,3 +36,20 @@ module _ {A : Type 0} (v : LaneView A) where
 -- the places of another lane are a lane's own from a number on
 abbrev pub LiesFrom : Lane → ℕ → Lane → Type 0
 LiesFrom lane from part = (k : ℕ) → k < part.count → pos part.place +ℤ (pos k *ℤ part.stride) ≡ pos lane.place +ℤ (pos (from + k) *ℤ lane.stride)
+
+module _ {S D T A P R L M : Type 0} {s : data_trait.Ghosts S A} {d : dimension.Ghosts D P R L M} {n : axis_count.Ghosts D} {r : stride_list.Ghosts R} {t : stride_list.Ghosts T} where
+  -- the last axis' stride, 1 where there is no axis
+  abbrev pub last_stride : ArrayBase S D T A P R L M s d n r t → ℤ
+  last_stride a = slice_index_or (layout_strides a) (length (layout_strides a) - 1) (pos 1)
+
+  -- the elements of a row lie one beside the other
+  abbrev pub RowsLieSideBySide : ArrayBase S D T A P R L M s d n r t → Type 0
+  RowsLieSideBySide a = last_stride a ≡ pos 1
+
+-- the list has the elements of row-major ranks from one on, as many as the last axis is long, and this rank is one of them
+pub record IsRowOf {A : Type 0} (m : Meaning A) (rank : ℕ) (xs : List A) (start : ℕ) : Type 0 where
+  pub from : start ≤ rank
+  pub upto : rank < start + length xs
+  pub within : start + length xs ≤ size_of m.shape
+  pub elements : (k : ℕ) → k < length xs → slice_get xs k ≡ slice_get (row_major_elements m) (start + k)
+  pub whole : length xs ≡ slice_index_or m.shape (length m.shape - 1) 1

@@ -1,13 +1,13 @@
 //! The lane of the last axis in which a row-major rank lies: so elements are read one after another without an index.
 #![tactic(auto, unfolding(crate::specs::Meaning::meaning_of, crate::specs::Meaning::memory_layout_of, crate::specs::along::AxisMaps::lane_seen))]
 
-ghost use Rattle.std.specs.Prelude.{◌≡◌, ◌+◌, ◌<◌, ◌≤◌, length, Some, pos};
+ghost use Rattle.std.specs.Prelude.{◌↔◌, ◌≡◌, ◌+◌, ◌<◌, ◌≤◌, ℕ, length, Some, IsSome, IfSome, pos, slice_get};
 ghost use Rattle.nd_shape_and_slice.specs.Shape.{size_of};
 ghost use Rattle.nd_layout.specs.Halves.{rank_place};
 ghost use Rattle.nd_layout.specs.Placements.{placement_of};
 ghost use Rattle.nd_layout.specs.Walk.{IsLastAxis};
 ghost use Rattle.nd_array_core.specs.Meaning.{meaning_of, shape_of};
-ghost use Rattle.nd_array_core.specs.along.RankLanes.{lane_length, lane_element, ListsFrom, IsWholeLane};
+ghost use Rattle.nd_array_core.specs.along.RankLanes.{last_stride, lane_length, lane_element, ListsFrom, IsWholeLane, RowsLieSideBySide, IsRowOf};
 
 use crate::along::lane_view::LaneView;
 use crate::base::array::ArrayBase;
@@ -32,6 +32,20 @@ impl<'a, A> LaneView<'a, A> {
     {
         let region = self.storage.region;
         region.get(self.lane.place_of(nth))
+    }
+
+    /// Its elements as one slice; None where its stride isn't 1.
+    #[inline]
+    pub(crate) fn to_slice(&self) -> Option<&'a [A]>
+        ensures some { IsSome result ↔ (self.now.lane.stride ≡ pos 1) }
+        ensures length { IfSome result (λ xs. length xs.now ≡ lane_length self.now) }
+        ensures elements { IfSome result (λ xs. (k : ℕ) → k < lane_length self.now → slice_get xs.now k ≡ lane_element self.now k) }
+    {
+        if self.lane.stride != 1 {
+            return None;
+        }
+        let storage = self.storage;
+        Some(storage.run(self.lane.place, self.lane.count))
     }
 }
 
@@ -61,6 +75,23 @@ impl<S: Data, D: Dimension> ArrayBase<S, D> {
         self.layout.place_in_box(index)
     }
 
+    /// The lane of the last axis in which a rank lies, and the rank of its first element.
+    #[inline]
+    fn last_lane(&self, rank: usize) -> (LaneView<'_, S::Elem>, usize)
+        requires { rank < size_of (shape_of self.now) }
+        ensures from { result.1 ≤ rank }
+        ensures upto { rank < result.1 + lane_length result.0 }
+        ensures within { result.1 + lane_length result.0 ≤ size_of (shape_of self.now) }
+        ensures elements { ListsFrom result.0 result.1 (meaning_of self.now) }
+        ensures whole { IsWholeLane result.0 result.1 (shape_of self.now) }
+        ensures stride { result.0.lane.stride ≡ last_stride self.now }
+    {
+        let (count, stride) = last_axis(self.layout.dim.slice(), self.layout.strides.slice());
+        let from = rank - rank % count;
+        let lane = lane_from(self.place_of_rank(from), count, stride);
+        (LaneView::over(self.storage.borrowed(), lane), from)
+    }
+
     /// The lane of the last axis in which a row-major rank below `len` lies, and the rank of its first element; of an array
     /// without axes its one element.
     #[inline]
@@ -72,10 +103,21 @@ impl<S: Data, D: Dimension> ArrayBase<S, D> {
         ensures elements { ListsFrom result.0 result.1 (meaning_of self.now) }
         ensures whole { IsWholeLane result.0 result.1 (shape_of self.now) }
     {
-        let (count, stride) = last_axis(self.layout.dim.slice(), self.layout.strides.slice());
-        let from = rank - rank % count;
-        let lane = lane_from(self.place_of_rank(from), count, stride);
-        (LaneView::over(self.storage.borrowed(), lane), from)
+        self.last_lane(rank)
+    }
+
+    /// The same as a slice; None exactly where the last axis' stride isn't 1.
+    #[inline]
+    pub fn row_of_rank(&self, rank: usize) -> Option<(&[S::Elem], usize)>
+        requires { rank < size_of (shape_of self.now) }
+        ensures some { IsSome result ↔ RowsLieSideBySide self.now }
+        ensures row { IfSome result (λ row. IsRowOf (meaning_of self.now) rank row.0.now row.1) }
+    {
+        let (lane, from) = self.last_lane(rank);
+        match lane.to_slice() {
+            Some(row) => Some((row, from)),
+            None => None,
+        }
     }
 
     /// A lane of no elements: what is in hand before the first one is.

@@ -7,7 +7,7 @@ use Rattle.nd_elements.specs.Storages.{shown_by}
 use Rattle.nd_array_core.specs.Meaning.{meaning_of}
 use Rattle.nd_array_core.specs.along.AxisMaps.{lane_seen}
 use Rattle.nd_array_core.proofs.along_lemmas.RankLanes.{lane_of_rank, lane_is_short, lane_reaches, lane_holds, lane_opens, rank_listed, shown_along}
-use Rattle.nd_array_core.proofs.along.lane_of_rank.ArrayBase+S+D.lane_of_rank.Goals as goal
+use Rattle.nd_array_core.proofs.along.lane_of_rank.ArrayBase+S+D.last_lane.Goals as goal
 
 pub nonzero_rem-from : goal.nonzero_rem-from
 unfolding meaning_of

@@ -1,0 +1,22 @@
+use Rattle.std.proofs.Common.{◌≡◌, pos, sym, ◌∙◌, rules}
+use Rattle.nd_elements.specs.Collected.{stored_along}
+use Rattle.nd_elements.specs.Storages.{shown_by}
+use Rattle.nd_elements.proofs.Collecting.{beside_has}
+use Rattle.nd_elements.proofs.Mapped.{beside_found}
+use Rattle.nd_array_core.specs.along.AxisMaps.{lane_seen}
+use Rattle.nd_array_core.proofs.along_lemmas.RankLanes.{lane_opens}
+use Rattle.nd_array_core.proofs.along.lane_view.LaneView.to_slice.Goals as goal
+
+pub run-requires : goal.run-requires
+run-requires g c =
+    let v = c.args.self.now in
+    let one : v.lane.stride ≡ pos 1 = search rules in
+    beside_has (shown_by v.storage) v.lane.place v.lane.count v.lane.stride one v.holds
+
+pub returns-clause-elements : goal.returns-clause-elements
+unfolding lane_seen
+returns-clause-elements g c k below =
+    let v = c.args.self.now in
+    let one : v.lane.stride ≡ pos 1 = search rules in
+    beside_found (shown_by v.storage) v.lane.place v.lane.count v.lane.stride one c.run.result.now c.run.ensures.count c.run.ensures.elements k below
+    ∙ sym (lane_opens v.lane.count k (stored_along (shown_by v.storage) v.lane.place v.lane.stride k) below)

@@ -1,0 +1,135 @@
+//! What is left of the elements of an array whose rows lie side by side: slices in hand at both ends, and ranks between them.
+
+ghost use Rattle.std.specs.Prelude.{◌≡◌, IsTrue, length};
+ghost use Rattle.std.specs.Iterator.{YieldsFirstRef, YieldsLastRef};
+ghost use Rattle.nd_array_core.specs.Joined.{row_major_elements};
+ghost use Rattle.nd_array_core.specs.Meaning.{meaning_of};
+ghost use Rattle.nd_array_core.specs.along.RankLanes.{RowsLieSideBySide};
+ghost use Rattle.nd_iter.specs.Hands.{rows_left, AreRowsOf};
+
+use crate::ranks::{row_ahead, row_behind};
+use nd_array_core::laws::elements_by_rank;
+use nd_array_core::{ArrayBase, Data};
+use nd_shape_and_slice::Dimension;
+
+/// The elements that are left: those of the slice ahead, then those of the ranks, then those of the slice behind.
+#[derive(Drop)]
+pub(crate) struct RowEnds<'a, A> {
+    pub ahead: &'a [A],
+    pub front: usize,
+    pub back: usize,
+    pub behind: &'a [A],
+}
+
+/// Whether the rows of an array lie side by side.
+pub(crate) fn are_side_by_side<S: Data, D: Dimension>(array: &ArrayBase<S, D>) -> bool
+    ensures { IsTrue result → RowsLieSideBySide array.now }
+{
+    let strides = array.strides();
+    let axes = strides.len();
+    axes > 0 && strides[axes - 1] == 1
+}
+
+impl<'a, A> RowEnds<'a, A> {
+    /// All elements of an array.
+    pub fn of<S: Data<Elem = A>, D: Dimension>(array: &'a ArrayBase<S, D>) -> Self
+        ensures rows { AreRowsOf (meaning_of array.now) result }
+        ensures all { rows_left (meaning_of array.now) result ≡ row_major_elements (meaning_of array.now) }
+    {
+        elements_by_rank(array);
+        RowEnds {
+            ahead: &[],
+            front: 0,
+            back: array.len(),
+            behind: &[],
+        }
+    }
+
+    /// How many there are.
+    pub fn count<S: Data<Elem = A>, D: Dimension>(&self, array: &ArrayBase<S, D>) -> usize
+        requires { AreRowsOf (meaning_of array.now) self.now }
+        ensures { result ≡ length (rows_left (meaning_of array.now) self.now) }
+    {
+        elements_by_rank(array);
+        let _all = array.len();
+        self.ahead.len() + (self.back - self.front) + self.behind.len()
+    }
+
+    /// Takes what is left of the row of the first rank in hand, where there is one and none is in hand before it.
+    #[inline]
+    fn fill_ahead<S: Data<Elem = A>, D: Dimension>(&mut self, array: &'a ArrayBase<S, D>)
+        requires side_by_side { RowsLieSideBySide array.now }
+        requires rows { AreRowsOf (meaning_of array.now) self.old }
+        ensures rows { AreRowsOf (meaning_of array.now) self.new }
+        ensures same { rows_left (meaning_of array.now) self.new ≡ rows_left (meaning_of array.now) self.old }
+        ensures filled { length self.new.ahead.now ≡ 0 → self.new.front ≡ self.new.back }
+    {
+        if self.ahead.is_empty() && self.front < self.back {
+            let row = row_ahead(array, self.front, self.back);
+            self.front += row.len();
+            self.ahead = row;
+        }
+    }
+
+    /// The same of the last rank.
+    #[inline]
+    fn fill_behind<S: Data<Elem = A>, D: Dimension>(&mut self, array: &'a ArrayBase<S, D>)
+        requires side_by_side { RowsLieSideBySide array.now }
+        requires rows { AreRowsOf (meaning_of array.now) self.old }
+        ensures rows { AreRowsOf (meaning_of array.now) self.new }
+        ensures same { rows_left (meaning_of array.now) self.new ≡ rows_left (meaning_of array.now) self.old }
+        ensures filled { length self.new.behind.now ≡ 0 → self.new.front ≡ self.new.back }
+    {
+        if self.behind.is_empty() && self.front < self.back {
+            let row = row_behind(array, self.front, self.back);
+            self.back -= row.len();
+            self.behind = row;
+        }
+    }
+
+    /// The first of them, which is then taken.
+    #[inline]
+    pub fn first<S: Data<Elem = A>, D: Dimension>(
+        &mut self,
+        array: &'a ArrayBase<S, D>,
+    ) -> Option<&'a A>
+        requires side_by_side { RowsLieSideBySide array.now }
+        requires rows { AreRowsOf (meaning_of array.now) self.old }
+        ensures first { YieldsFirstRef (rows_left (meaning_of array.now)) self.old result self.new }
+        ensures rows { AreRowsOf (meaning_of array.now) self.new }
+    {
+        self.fill_ahead(array);
+        if let Some((element, rest)) = self.ahead.split_first() {
+            self.ahead = rest;
+            return Some(element);
+        }
+        if let Some((element, rest)) = self.behind.split_first() {
+            self.behind = rest;
+            return Some(element);
+        }
+        None
+    }
+
+    /// The last of them, which is then taken.
+    #[inline]
+    pub fn last<S: Data<Elem = A>, D: Dimension>(
+        &mut self,
+        array: &'a ArrayBase<S, D>,
+    ) -> Option<&'a A>
+        requires side_by_side { RowsLieSideBySide array.now }
+        requires rows { AreRowsOf (meaning_of array.now) self.old }
+        ensures last { YieldsLastRef (rows_left (meaning_of array.now)) self.old result self.new }
+        ensures rows { AreRowsOf (meaning_of array.now) self.new }
+    {
+        self.fill_behind(array);
+        if let Some((element, rest)) = self.behind.split_last() {
+            self.behind = rest;
+            return Some(element);
+        }
+        if let Some((element, rest)) = self.ahead.split_last() {
+            self.ahead = rest;
+            return Some(element);
+        }
+        None
+    }
+}
