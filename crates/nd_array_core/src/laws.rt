@@ -1,7 +1,7 @@
 //! Laws of layout calls, over meanings alone: a shape, and an element at each index of its box; of places; and of
 //! quotients, for callers that divide. Nothing here runs: each function's clause is the law.
 
-ghost use Rattle.std.specs.Prelude.{◌≡◌, ◌<◌, ◌≤◌, ◌+◌, ◌*◌, ◌/◌, ◌^◌, ℕ, true, List, [], ◌∷◌, length, reverse};
+ghost use Rattle.std.specs.Prelude.{◌≡◌, ◌<◌, ◌≤◌, ◌+◌, ◌*◌, ◌/◌, ◌^◌, ℕ, List, [], ◌∷◌, length, reverse, IsTrue};
 ghost use Rattle.nd_array_core.specs.Laws.{PermutedBack, ReversedTwice, InvertedTwice, InsertedAndRemoved, SlicedTwice, PathIsOneMap, CollapsedListsLeadInside, CollapsesLeadInside, CoordinatesLeadInside, ExchangesLeadInside, LeadsInside, ListsLeadInside, LowerPartsLeadInside, NothingOutside, PermutationsLeadInside, SlicesLeadInside, UpperPartsLeadInside, IndexesHavePlaces, ShowsStored, DistinctPlaces};
 ghost use Rattle.nd_array_core.specs.NamedOnce.{SlicesNameOnce, ListsNameOnce, CollapsedListsNameOnce, EachSlicesNameOnce, PermutationsNameOnce, ReversalsNameOnce, ExchangesNameOnce, InversionsNameOnce, CollapsesNameOnce, CoordinatesNameOnce, LowerPartsNameOnce, UpperPartsNameOnce, InsertionsNameOnce, SqueezesNameOnce, MergesNameOnce, DiagonalsNameOnce, ReshapesNameOnce, PathsNameOnce};
 ghost use Rattle.nd_array_core.specs.reshape.RunSlices.{MemoryOrderReorders};
@@ -100,7 +100,7 @@ pub fn maps_lead_inside()
     ensures inserted { (ns : List ℕ) (a : ℕ) → a ≤ length ns → LeadsInside (inserted_shape ns a) (inserted_index a) ns }
     ensures squeezed { (ns : List ℕ) → LeadsInside (squeezed_shape ns) (squeezed_index ns) ns }
     ensures diagonal { (ns : List ℕ) → LeadsInside (diagonal_length ns ∷ []) (diagonal_index ns) ns }
-    ensures broadcast { (ns to : List ℕ) → broadcasts ns to ≡ true → LeadsInside to (broadcast_index ns to) ns }
+    ensures broadcast { (ns to : List ℕ) → IsTrue (broadcasts ns to) → LeadsInside to (broadcast_index ns to) ns }
 {}
 
 /// No layout step names an old index twice, broadcast apart: two indexes of the new box that lead to one are one. So of a
@@ -170,7 +170,7 @@ pub fn shape_is_checked<S: Data, D: Dimension>(array: &ArrayBase<S, D>)
 /// An array broadcast to its own shape shows what it shows.
 #[tactic(auto, unfolding(crate::specs::Meaning::meaning_of))]
 pub fn broadcast_to_itself<S: Data, D: Dimension>(array: &ArrayBase<S, D>)
-    ensures some { (to : List ℕ) → to ≡ shape_of array.now → broadcasts (shape_of array.now) to ≡ true }
+    ensures some { (to : List ℕ) → to ≡ shape_of array.now → IsTrue (broadcasts (shape_of array.now) to) }
     ensures elements { (to : List ℕ) → to ≡ shape_of array.now → IsItselfUnder to array.now }
 {}
 

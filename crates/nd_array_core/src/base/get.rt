@@ -1,7 +1,7 @@
 //! The element at an index, to be read; and references that live as long as what a view borrows.
 #![tactic(auto, unfolding(crate::specs::Meaning::meaning_of, crate::specs::Meaning::memory_layout_of))]
 
-ghost use Rattle.std.specs.Prelude.{◌↔◌, ◌≡◌, Bool, true, false, is_some, IsNone, IsSome, MatchOption, Some};
+ghost use Rattle.std.specs.Prelude.{◌↔◌, ◌≡◌, Bool, false, is_some, IsNone, IsSome, MatchOption, Some, IsTrue};
 ghost use Rattle.std.specs.Borrow.{sem};
 ghost use Rattle.std.specs.Option.{option_copied};
 ghost use Rattle.nd_shape_and_slice.specs.Shape.{in_box, size_of};
@@ -38,7 +38,7 @@ impl<S: Data, D: Dimension> ArrayBase<S, D> {
 
     /// The element at an index of the shape's box (`get` tells which indexes are in it). ndarray's `uget`.
     pub fn uget<I: NdIndex<D>>(&self, index: I) -> &S::Elem
-        requires { in_box (shape_of self.now) (I.coordinates_of index) ≡ true }
+        requires { IsTrue (in_box (shape_of self.now) (I.coordinates_of index)) }
         ensures { element_at self.now (I.coordinates_of index) ≡ Some result.now }
     {
         let place = self.layout.place_in_box(index.coordinates());
@@ -49,7 +49,7 @@ impl<S: Data, D: Dimension> ArrayBase<S, D> {
 impl<S: Data, D: Dimension, I: NdIndex<D>> Index<I> for ArrayBase<S, D> {
     type Output = S::Elem;
 
-    ghost can_index = { λ a i. in_box (shape_of a) (I.coordinates_of i) ≡ true };
+    ghost can_index = { λ a i. IsTrue (in_box (shape_of a) (I.coordinates_of i)) };
 
     ghost index_gives = { λ a i x. element_at a (I.coordinates_of i) ≡ Some x };
 
@@ -71,7 +71,7 @@ pub trait IndexLonger<I> {
 
     /// The element at an index of the shape. ndarray's `IndexLonger::index`.
     fn index(self, index: I) -> Self::Output
-        requires { has_index self index ≡ true }
+        requires { IsTrue (has_index self index) }
         ensures { longer_gives self index result };
 
     /// The element at an index, None exactly outside the shape. ndarray's `IndexLonger::get`.
@@ -80,7 +80,7 @@ pub trait IndexLonger<I> {
 
     /// The element at an index of the shape. ndarray's `IndexLonger::uget`.
     fn uget(self, index: I) -> Self::Output
-        requires { has_index self index ≡ true }
+        requires { IsTrue (has_index self index) }
         ensures { longer_gives self index result };
 }
 
@@ -115,9 +115,9 @@ fn sought<'a, A, D: Dimension, I: NdIndex<D>>(
 ) -> (Region<'a, A>, usize, bool)
     ensures region { result.0 ≡ region_of view.entry }
     ensures within { result.2 ≡ in_box (shape_of view.entry) (I.coordinates_of index) }
-    ensures place { result.2 ≡ true → place_at view.entry (I.coordinates_of index) ≡ Some result.1 }
+    ensures place { IsTrue result.2 → place_at view.entry (I.coordinates_of index) ≡ Some result.1 }
     ensures shown { element_at view.entry (I.coordinates_of index) ≡ stored_if result.2 (region_stored result.0 result.1) }
-    ensures there { result.2 ≡ true → IsSome (region_stored result.0 result.1) }
+    ensures there { IsTrue result.2 → IsSome (region_stored result.0 result.1) }
 {
     let ArrayBase { storage, layout } = view;
     let RegionRepr { region, tie: _ } = storage;
@@ -132,7 +132,7 @@ fn sought_in_box<'a, A, D: Dimension, I: NdIndex<D>>(
     view: ArrayViewMut<'a, A, D>,
     index: I,
 ) -> (Region<'a, A>, usize)
-    requires { in_box (shape_of view) (I.coordinates_of index) ≡ true }
+    requires { IsTrue (in_box (shape_of view) (I.coordinates_of index)) }
     ensures region { result.0 ≡ region_of view.entry }
     ensures place { place_at view.entry (I.coordinates_of index) ≡ Some result.1 }
     ensures element { element_at view.entry (I.coordinates_of index) ≡ region_stored result.0 result.1 }
@@ -154,7 +154,7 @@ impl<'a, A, D: Dimension, I: NdIndex<D>> IndexLonger<I> for ArrayViewMut<'a, A, 
     ghost longer_gives = { λ view index element. element_at view (I.coordinates_of index) ≡ Some element.now };
 
     fn index(self, index: I) -> &'a mut A
-        requires { in_box (shape_of self) (I.coordinates_of index) ≡ true }
+        requires { IsTrue (in_box (shape_of self) (I.coordinates_of index)) }
         ensures* writes_back { sem 𝓛 (follows_index A.row self.entry (I.coordinates_of index) result) }
         ensures element { element_at self.entry (I.coordinates_of index) ≡ Some result.now }
     {
@@ -171,7 +171,7 @@ impl<'a, A, D: Dimension, I: NdIndex<D>> IndexLonger<I> for ArrayViewMut<'a, A, 
     }
 
     fn uget(self, index: I) -> &'a mut A
-        requires { in_box (shape_of self) (I.coordinates_of index) ≡ true }
+        requires { IsTrue (in_box (shape_of self) (I.coordinates_of index)) }
         ensures* writes_back { sem 𝓛 (follows_index A.row self.entry (I.coordinates_of index) result) }
         ensures element { element_at self.entry (I.coordinates_of index) ≡ Some result.now }
     {

@@ -1,5 +1,5 @@
 -- Owned elements that lie so that more can follow along an axis.
-use Rattle.std.specs.Prelude.{ℕ, ◌+◌, ◌≤◌, ◌≡◌, true, false, List, length, slice_get, ℤ}
+use Rattle.std.specs.Prelude.{ℕ, ◌+◌, ◌≤◌, ◌≡◌, false, List, length, slice_get, ℤ, IsTrue}
 use Rattle.nd_shape_and_slice.specs.Shape.{size_of, in_box}
 use Rattle.nd_shape_and_slice.specs.Place.{place_of}
 use Rattle.nd_shape_and_slice.specs.declared.dimension.Dimension as dimension
@@ -29,5 +29,5 @@ module _ {A D T P R L M : Type 0} {d : dimension.Ghosts D P R L M} {n : axis_cou
   -- each index of the one layout has its element in the other
   abbrev pub ShowsAlike : OwnedRepr A → Layout D T P R L M d n r t → OwnedRepr A → Layout D T P R L M d n r t → Type 0
   ShowsAlike old from new to =
-      (i : List ℕ) → in_box (d.lengths from.dim) i ≡ true
+      (i : List ℕ) → IsTrue (in_box (d.lengths from.dim) i)
       → stored_at (slice_get (stored_list new)) (place_of to.offset (t.strides_of to.strides) i) ≡ stored_at (slice_get (stored_list old)) (place_of from.offset (t.strides_of from.strides) i)

@@ -1,6 +1,6 @@
 //! The lanes of an axis as one value: what a loop over them goes by.
 
-ghost use Rattle.std.specs.Prelude.{◌≡◌, ◌<◌, ◌^◌, true};
+ghost use Rattle.std.specs.Prelude.{◌≡◌, ◌<◌, ◌^◌, IsTrue};
 ghost use Rattle.nd_shape_and_slice.specs.Shape.{size_of};
 ghost use Rattle.nd_shape_and_slice.specs.Place.{span_of};
 ghost use Rattle.nd_elements.specs.along.AxisLanes.{lane_place, LanesReach};
@@ -52,8 +52,8 @@ impl<'a> AxisLanes<'a> {
 
     /// Whether one begins beside the other, and there are enough for going along them together.
     pub fn are_beside(&self) -> bool
-        ensures some { result ≡ true → 0 < self.now.lanes }
-        ensures standard { result ≡ true → BeginInTurn self.now }
+        ensures some { IsTrue result → 0 < self.now.lanes }
+        ensures standard { IsTrue result → BeginInTurn self.now }
     {
         self.lanes >= FEWEST && is_standard(self.firsts.lengths, self.firsts.strides)
     }

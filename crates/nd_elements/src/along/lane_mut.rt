@@ -1,7 +1,7 @@
 //! A lane of an array, as it is handed to a closure to be written.
 #![tactic(auto, unfolding(crate::specs::along::LanesWritten::lane_held, crate::specs::along::LanesWritten::lane_len))]
 
-ghost use Rattle.std.specs.Prelude.{◌≡◌, ◌<◌, ℕ, true, is_some, Some, [], ◌∷◌, pos, ◌+ℤ◌, ◌*ℤ◌};
+ghost use Rattle.std.specs.Prelude.{◌≡◌, ◌<◌, ℕ, is_some, Some, [], ◌∷◌, pos, ◌+ℤ◌, ◌*ℤ◌, IsTrue};
 ghost use Rattle.nd_region.specs.Region.{region_stored};
 ghost use Rattle.nd_elements.specs.Collected.{stored_along};
 ghost use Rattle.nd_elements.specs.elements.Changes.{AreDistinct};
@@ -14,7 +14,7 @@ use nd_region::Region;
 pub struct LaneMut<'a, A> {
     pub(crate) region: Region<'a, A>,
     pub(crate) lane: Lane,
-    ghost holds: { (k : ℕ) → k < lane.count → is_some (stored_along (region_stored region) lane.place lane.stride k) ≡ true },
+    ghost holds: { (k : ℕ) → k < lane.count → IsTrue (is_some (stored_along (region_stored region) lane.place lane.stride k)) },
     ghost apart: { AreDistinct (λ k. pos lane.place +ℤ (pos k *ℤ lane.stride)) lane.count },
 }
 
