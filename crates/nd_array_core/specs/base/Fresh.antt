@@ -12,7 +12,7 @@ use Rattle.nd_array_core.specs.declared.base.array.ArrayBase.{ArrayBase}
 use Rattle.nd_array_core.specs.Meaning.{shape_of, element_at, storage_of, layout_strides, layout_offset}
 use Rattle.nd_elements.specs.Meaning.{inside}
 use Rattle.nd_elements.specs.Storages.{stored_list, room_of}
-pub use Rattle.nd_elements.specs.Clones.{ClonesAreEqual, ClonesOfAllAreEqual, StoredClonesAreEqual}
+pub use Rattle.nd_elements.specs.Clones.{ClonesAreEqual, EachCloneIsEqual, ClonesOfAllAreEqual, StoredClonesAreEqual}
 pub use Rattle.nd_elements.specs.ByRank.{BuiltShape, found_by_rank}
 
 abbrev pub built_by : {S D P R L M : Type 0} → shape_builder.Ghosts S D P R L M → S → BuiltShape

@@ -6,6 +6,7 @@ ghost use Rattle.nd_shape_and_slice.specs.Shape.{size_of};
 ghost use Rattle.nd_array_core.specs.base.Writes.{KeepsFrame};
 ghost use Rattle.nd_elements.specs.CloneRefusals.{MayRefuseClonesOf};
 ghost use Rattle.nd_array_core.specs.elements.ArrayMaps.{ShowsOldOrValue, ShowsValue};
+ghost use Rattle.nd_elements.specs.Clones.{ClonesAreEqual};
 
 use crate::base::array::ArrayBase;
 use nd_elements::elements::fill::fill_places;
@@ -21,7 +22,7 @@ where
     /// Writes a clone of the value at each index; a clone must equal its original. NoMemory if a clone is refused, and for
     /// nothing else: each index then has its old element or the new one. ndarray's `fill`.
     pub fn fill(&mut self, value: S::Elem) -> Result<(), NoMemory>
-        requires { (copy : S.Elem) → S.Elem.is_clone value copy → copy ≡ value }
+        requires { ClonesAreEqual S.Elem.is_clone value }
         ensures filled { OnOk result (ShowsValue value self.old self.new) }
         ensures stopped { OnErr result (ShowsOldOrValue value self.old self.new) }
         ensures refused { OnErr result (MayRefuseClonesOf S.Elem.is_infallible value (size_of (shape_of self.old))) }

@@ -12,6 +12,7 @@ ghost use Rattle.nd_array_core.specs.scoped.Tasks.{view_frame, lent_frame, CanBe
 ghost use Rattle.nd_array_core.specs.scoped.PartTasks.{IsFilledWith, KeepsBut};
 ghost use Rattle.nd_array_core.specs.Part.{sliced_part};
 ghost use Rattle.nd_array_core.specs.scoped.Fills.{IsOldOrFilled, IsFilledWhere, FillsNamed, KeepsOtherIndexes, IsViewFilled, IsViewFilledInPart, MayRefuseFill};
+ghost use Rattle.nd_elements.specs.Clones.{ClonesAreEqual};
 
 use super::with_view_mut::{LentView, ViewTask};
 use crate::base::array::ArrayBase;
@@ -30,13 +31,13 @@ impl<A: Clone + Drop, D: Dimension> ViewTask<A, D> for Fill<A> {
 
     type Answer = Result<(), NoMemory>;
 
-    ghost pre = { λ task v. (copy : A) → A.is_clone task.value copy → copy ≡ task.value };
+    ghost pre = { λ task v. ClonesAreEqual A.is_clone task.value };
 
     ghost post = { λ task v w answer. OnOk answer ((i : List ℕ) → element_placed w i ≡ inside v.shape i (Some task.value)) × OnErr answer (IsOldOrNew v.shape (element_placed v) task.value (element_placed w)) × OnErr answer (MayRefuseClonesOf A.is_infallible task.value (size_of v.shape)) };
 
     fn run(self, lent: LentView<'_, A, D, D::Strides>) -> (ViewMutRepr<'_, A>, Result<(), NoMemory>)
         requires sound { CanBeSeen D.lengths D.Strides.strides_of lent }
-        requires clones { (copy : A) → A.is_clone self.value copy → copy ≡ self.value }
+        requires clones { ClonesAreEqual A.is_clone self.value }
         ensures frame { view_frame result.0 ≡ lent_frame lent.entry }
         ensures filled { OnOk result.1 (IsViewFilled D.lengths D.Strides.strides_of lent.entry result.0 self.value) }
         ensures stopped { OnErr result.1 (IsViewFilledInPart D.lengths D.Strides.strides_of lent.entry result.0 self.value) }
@@ -60,7 +61,7 @@ where
     /// `slice_mut(info).fill(value)`.
     pub fn fill_slice<I: SliceArg<D>>(&mut self, info: I, value: S::Elem) -> Result<(), NoMemory>
         requires fits { IsTrue (fits_shape (shape_of self.old) (I.elements_of info)) }
-        requires clones { (copy : S.Elem) → S.Elem.is_clone value copy → copy ≡ value }
+        requires clones { ClonesAreEqual S.Elem.is_clone value }
         ensures filled { OnOk result (IsFilledWith self.new (sliced_part self.old (I.elements_of info)) value) }
         ensures stopped { OnErr result (IsOldOrFilled self.old self.new (sliced_part self.old (I.elements_of info)) value) }
         ensures kept { KeepsBut self.old self.new (sliced_part self.old (I.elements_of info)) }
