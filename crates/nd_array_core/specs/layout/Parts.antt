@@ -17,10 +17,6 @@ pub record HoldsEachOnce {A : Type 0} (stored : ℕ → Option A) (offset : ℕ)
   pub holds : HoldsAll stored offset lengths strides
   pub separated : 0 < size_of lengths → IsSeparated lengths strides
 
--- the same by a placement
-abbrev pub HoldsOnce : {A : Type 0} → (ℕ → Option A) → Placement → Type 0
-HoldsOnce stored l = HoldsEachOnce stored l.offset l.lengths l.strides
-
 -- an array of this shape, with these strides, elements and places, shows what the layout names of the storage
 pub record IsViewUnder {A : Type 0} (stored : ℕ → Option A) (offset : ℕ) (lengths : List ℕ) (strides : List ℤ) (shape : List ℕ) (shape_strides : List ℤ) (at : List ℕ → Option A) (place : List ℕ → Option ℕ) : Type 0 where
   pub shape_is : shape ≡ lengths

@@ -2,17 +2,17 @@
 //! Parts to be written share no place.
 #![tactic(auto, unfolding(crate::specs::Meaning::meaning_of, crate::specs::Meaning::memory_layout_of))]
 
-ghost use Rattle.std.specs.Prelude.{◌≡◌, ◌<◌, ◌≤◌, length, slice_index};
+ghost use Rattle.std.specs.Prelude.{◌≡◌, ◌<◌, ◌≤◌, ℕ, length, slice_index};
 ghost use Rattle.nd_shape_and_slice.specs.Shape.{size_of};
 ghost use Rattle.nd_shape_and_slice.specs.Maps.{lower_shape, upper_shape, upper_index};
+ghost use Rattle.nd_region.specs.Places.{names_not};
+ghost use Rattle.nd_region.specs.Region.{region_stored};
 ghost use Rattle.nd_layout.specs.Placements.{placement_of, IsStepOf, KeepsApart};
-ghost use Rattle.nd_array_core.specs.Meaning.{shape_of, place_at, layout_offset};
+ghost use Rattle.nd_array_core.specs.Meaning.{shape_of, element_at, place_at, layout_strides, layout_offset};
 ghost use Rattle.nd_array_core.specs.layout.MultiSlice.{TwoFit, ThreeFit, FourFit, ThreeShareNoPlace, FourShareNoPlace, FitsEach, TakenOf};
 ghost use Rattle.nd_array_core.specs.scoped.Tasks.{AreApart};
-ghost use Rattle.nd_array_core.specs.layout.Parts.{HoldsOnce, ViewsBy};
-ghost use Rattle.nd_elements.specs.ByLayout.{ShowsUnnamed};
-ghost use Rattle.nd_elements.specs.Places.{ShareNoPlace};
-ghost use Rattle.nd_elements.specs.Storages.{held_by};
+ghost use Rattle.nd_array_core.specs.layout.Parts.{HoldsEachOnce, IsViewUnder};
+ghost use Rattle.nd_elements.specs.Places.{kept_at, ShareNoPlace};
 ghost use Rattle.nd_array_core.specs.Part.{lower_part, upper_part, sliced_part, ShowsPart, ShowsWhole};
 
 use super::slice::sliced_by;
@@ -72,10 +72,10 @@ fn part<'a, A, D: Dimension>(
     storage: &mut ViewMutRepr<'a, A>,
     layout: Layout<D, D::Strides>,
 ) -> ArrayViewMut<'a, A, D>
-    requires { HoldsOnce (held_by storage.old) (placement_of layout) }
-    ensures shown { ViewsBy (held_by storage.old) (placement_of layout) result }
+    requires { HoldsEachOnce (region_stored storage.old.region) layout.offset (D.lengths layout.dim) (D.Strides.strides_of layout.strides) }
+    ensures shown { IsViewUnder (region_stored storage.old.region) layout.offset (D.lengths layout.dim) (D.Strides.strides_of layout.strides) (shape_of result) (layout_strides result) (element_at result) (place_at result) }
     ensures offset { layout_offset result ≡ layout.offset }
-    ensures left { ShowsUnnamed held_by layout storage.old storage.new }
+    ensures left { (place : ℕ) → region_stored storage.new.region place ≡ kept_at (names_not layout.offset (D.lengths layout.dim) (D.Strides.strides_of layout.strides)) (region_stored storage.old.region) place }
 {
     let storage = storage.split(&layout);
     ArrayBase { storage, layout }
