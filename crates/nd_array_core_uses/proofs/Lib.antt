@@ -4,4 +4,3 @@ pub mod Outcomes
 pub mod Rows
 pub mod Fronts
 pub mod Images
-pub mod Patches

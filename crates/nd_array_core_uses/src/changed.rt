@@ -56,3 +56,25 @@ pub fn patch_rectangle<A: Clone + Drop, S: DataMut<Elem = A>, Z: Data<Elem = A>>
     image.assign_slice(slices![top..top + rows, left..left + columns], patch)?;
     Ok(())
 }
+
+/// Puts an image into the inside of a board that is wider and higher by two: its border stays. NoMemory if a clone is refused.
+#[tactic(auto, using(std::proofs::lemmas::Bool::Decides::nat_tests))]
+pub fn put_inside<A: Clone + Drop, S: DataMut<Elem = A>, Z: Data<Elem = A>>(
+    board: &mut ArrayBase<S, Ix2>,
+    image: &ArrayBase<Z, Ix2>,
+) -> Result<(), NoMemory>
+    requires clones { ClonesOfAllAreEqual A.is_clone (element_at image.now) }
+    requires rows { slice_index (shape_of board.old) 0 ≡ slice_index (shape_of image.now) 0 + 2 }
+    requires columns { slice_index (shape_of board.old) 1 ≡ slice_index (shape_of image.now) 1 + 2 }
+    ensures shape { shape_of board.new ≡ shape_of board.old }
+    ensures inside { OnOk result ((row column : ℕ) → row < slice_index (shape_of image.now) 0 → column < slice_index (shape_of image.now) 1 → element_of_2 board.new (row + 1) (column + 1) ≡ element_of_2 image.now row column) }
+    ensures above { (column : ℕ) → element_of_2 board.new 0 column ≡ element_of_2 board.old 0 column }
+    ensures below { (row column : ℕ) → row ≡ slice_index (shape_of image.now) 0 + 1 → element_of_2 board.new row column ≡ element_of_2 board.old row column }
+    ensures before { (row : ℕ) → element_of_2 board.new row 0 ≡ element_of_2 board.old row 0 }
+    ensures after { (row column : ℕ) → column ≡ slice_index (shape_of image.now) 1 + 1 → element_of_2 board.new row column ≡ element_of_2 board.old row column }
+{
+    let (_rows, _columns) = board.dim();
+    let (rows, columns) = image.dim();
+    board.assign_slice(slices![1..rows + 1, 1..columns + 1], image)?;
+    Ok(())
+}

@@ -1,5 +1,5 @@
 //! Images seen otherwise, each caller exact in coordinates and proved with no proof file, over every storage and element.
-ghost use Rattle.std.specs.Prelude.{◌↔◌, ◌≡◌, ◌<◌, ◌≤◌, ◌+◌, ◌-◌, ◌∷◌, [], ℕ, length, nat_eq, replicate, slice_get, slice_index, IsSome, IfSome, IfOk};
+ghost use Rattle.std.specs.Prelude.{◌↔◌, ◌≡◌, ◌<◌, ◌≤◌, ◌+◌, ◌-◌, ◌*◌, ◌∷◌, [], ℕ, length, min, nat_eq, replicate, slice_get, slice_index, IsSome, IfSome, IfOk};
 ghost use Rattle.std.specs.Option.{option_copied};
 ghost use Rattle.nd_shape_and_slice.specs.Shape.{row_rank};
 ghost use Rattle.nd_array_core.specs.Meaning.{shape_of, element_at};
@@ -85,6 +85,24 @@ pub fn every_second_row<S: Data>(image: &ArrayBase<S, Ix2>) -> ArrayView2<'_, S:
     ensures elements { (row column : ℕ) → row + row < slice_index (shape_of image.now) 0 → column < slice_index (shape_of image.now) 1 → element_of_2 result row column ≡ element_of_2 image.now (row + row) column }
 {
     image.slice(s![Slice::from(..).step_by(2), ..])
+}
+
+/// Every second row and column, from the first on.
+#[tactic(auto)]
+pub fn thumbnail<S: Data>(image: &ArrayBase<S, Ix2>) -> ArrayView2<'_, S::Elem>
+    ensures elements { (row column : ℕ) → row * 2 < slice_index (shape_of image.now) 0 → column * 2 < slice_index (shape_of image.now) 1 → element_of_2 result row column ≡ element_of_2 image.now (row * 2) (column * 2) }
+{
+    let (_rows, _columns) = image.dim();
+    image.slice(s![Slice::from(..).step_by(2), Slice::from(..).step_by(2)])
+}
+
+/// The diagonal of a matrix, as long as the shorter axis.
+#[tactic(auto, using(std::proofs::lemmas::Bool::Decides::nat_tests, nd_array_core::proofs::Axes::known_axes))]
+pub fn diagonal_seen<S: Data>(matrix: &ArrayBase<S, Ix2>) -> ArrayView1<'_, S::Elem>
+    ensures length { HasLength result (min (slice_index (shape_of matrix.now) 0) (slice_index (shape_of matrix.now) 1)) }
+    ensures elements { (k : ℕ) → k < slice_index (shape_of matrix.now) 0 → k < slice_index (shape_of matrix.now) 1 → element_of_1 result k ≡ element_of_2 matrix.now k k }
+{
+    matrix.diag()
 }
 
 /// The second column without its first element.

@@ -2,6 +2,7 @@
 #![tactic(auto, using(std::proofs::lemmas::Bool::Decides::nat_tests, nd_array_core::proofs::Axes::known_axes))]
 
 ghost use Rattle.std.specs.Prelude.{◌≡◌, ◌+◌, ◌<◌, ◌∷◌, [], ℕ, Some, IfOk, OnOk, OnErr, length, slice_get, slice_index};
+ghost use Rattle.std.specs.List.{AllByRecursion};
 ghost use Rattle.nd_array_core.specs.Meaning.{meaning_of, shape_of};
 ghost use Rattle.nd_array_core.specs.Coordinates.{element_of_1, element_of_2, HasLength, HasRowsAndColumns};
 ghost use Rattle.nd_array_core.specs.along.Selected.{AreCoordinates};
@@ -82,12 +83,13 @@ pub fn row_lent_behind<A: Clone + Drop>(
 }
 
 /// Puts the rows of a list behind those of a table, one after the other.
+#[tactic(auto, using(std::proofs::lemmas::Bool::Decides::nat_tests, std::proofs::lemmas::Option::gets, nd_array_core::proofs::Axes::known_axes))]
 pub fn rows_behind<A: Clone + Drop>(
     table: &mut Array2<A>,
     rows: &[ArrayView1<'_, A>],
 ) -> Result<(), ArrayError>
     requires clones { (x copy : A) → A.is_clone x copy → copy ≡ x }
-    requires long { (k : ℕ) (row : _) → slice_get rows.now k ≡ Some row → HasLength row (slice_index (shape_of table.old) 1) }
+    requires long { AllByRecursion (λ row. HasLength row (slice_index (shape_of table.old) 1)) rows.now }
     ensures shape { OnOk result (HasRowsAndColumns table.new (slice_index (shape_of table.old) 0 + length rows.now) (slice_index (shape_of table.old) 1)) }
     ensures before { OnOk result ((i j : ℕ) → i < slice_index (shape_of table.old) 0 → j < slice_index (shape_of table.old) 1 → element_of_2 table.new i j ≡ element_of_2 table.old i j) }
     ensures rows { OnOk result ((k j : ℕ) (row : _) → slice_get rows.now k ≡ Some row → j < slice_index (shape_of table.old) 1 → element_of_2 table.new (slice_index (shape_of table.old) 0 + k) j ≡ element_of_1 row j) }

@@ -1,7 +1,7 @@
 //! Images painted: blocks, borders, columns, rows, checkerboards and the parts of an axis.
 
 use nd_array_core::{Array2, ArrayD};
-use nd_array_core_uses::changed::patch_rectangle;
+use nd_array_core_uses::changed::{patch_rectangle, put_inside};
 use nd_array_core_uses::{
     checkerboard, checkerboard_of_references, draw_border, fill_diagonal_blocks, fill_halves,
     interleave_rows, paint_every_second_column, paint_owned_columns, try_fill_slices,
@@ -116,4 +116,19 @@ fn patches(rt: HostRuntime) {
     assert!(rt; shows(&image, [3, 4], &[0, 0, 0, 0, 0, 0, 1, 2, 0, 0, 3, 4]));
     assert!(rt; patch_rectangle(&mut image, &patch.t(), 0, 1).is_ok());
     assert!(rt; shows(&image, [3, 4], &[0, 1, 3, 0, 0, 2, 4, 2, 0, 0, 3, 4]));
+}
+
+// 1 2 3 / 4 5 6 within a border of nines.
+#[test]
+fn a_board(rt: HostRuntime) {
+    let mut board: Array2<u64> = made(rt.alloc(), (4, 5), &[9; 20]).expect(&rt, "made");
+    let image: Array2<u64> = made(rt.alloc(), (2, 3), &[1, 2, 3, 4, 5, 6]).expect(&rt, "made");
+    assert!(rt; put_inside(&mut board, &image).is_ok());
+    assert!(rt;
+        shows(
+            &board,
+            [4, 5],
+            &[9, 9, 9, 9, 9, 9, 1, 2, 3, 9, 9, 4, 5, 6, 9, 9, 9, 9, 9, 9]
+        )
+    );
 }

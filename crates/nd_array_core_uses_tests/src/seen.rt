@@ -6,8 +6,8 @@ ghost use Rattle.nd_array_core.specs.Meaning.{shape_of};
 use nd_array_core::{Array2, Array3, ArrayView1};
 use nd_array_core_uses::regrouped::{number_in_line, pixels_seen, row_sum_of_slice};
 use nd_array_core_uses::{
-    corner, every_second_row, in_row, neighbourhood, row_repeated, table_of, try_slice_axis,
-    turn_half, turned_at_the_least_stride, turned_table, turned_twice,
+    corner, diagonal_seen, every_second_row, in_row, neighbourhood, row_repeated, table_of,
+    thumbnail, try_slice_axis, turn_half, turned_at_the_least_stride, turned_table, turned_twice,
 };
 use nd_shape_and_slice::{Axis, Slice};
 use nd_test_arrays::{made, shows};
@@ -73,6 +73,22 @@ fn parts_of_an_image(rt: HostRuntime) {
     assert!(rt; shows(&second, [2, 4], &[1, 2, 3, 4, 9, 10, 11, 12]));
     turn_half(&mut image);
     assert_eq!(rt; image.get([0, 1]).copied(), Some(11));
+}
+
+// Of 1 2 3 4 / 5 6 7 8 / 9 10 11 12 every second row and column, and the diagonal.
+#[test]
+fn a_thumbnail_and_a_diagonal(rt: HostRuntime) {
+    let image: Array2<u64> = made(rt.alloc(), (3, 4), &TO_12).expect(&rt, "made");
+    assert!(rt; shows(&thumbnail(&image), [2, 2], &[1, 3, 9, 11]));
+    let line = diagonal_seen(&image);
+    assert_eq!(rt;
+        (
+            line.get(0).copied(),
+            line.get(2).copied(),
+            line.get(3).copied()
+        ),
+        (Some(1), Some(11), None)
+    );
 }
 
 const FROM_0: [u64; 24] = [
