@@ -106,6 +106,6 @@ module _ {A : Type 0} where
 
     -- at the path's end it was answered or refused, or memory was lacking
     pub answered : {E : Type 0} (n : Meaning A) (r : Result (Reply A) E) → look_refusal path m.shape ≡ None → n ≡ meaning_at_end path m → IfOk r (λ reply. said_reply reply ≡ answer_or_refusal eq question n)
-        → OnErr r ((first_failed (question_tests question n.shape) ≡ None) × (answers_in_memory question ≡ true)) → IsCarriedOutOrLacks eq (About path question) m m r
+        → OnErr r ((first_failed (question_tests question n.shape) ≡ None) × (answers_in_memory question n ≡ true)) → IsCarriedOutOrLacks eq (About path question) m m r
     answered n (Ok reply) h e is lacks = asked_is (said_reply reply) (is ∙ answer_is n h e)
-    answered n (Err error) h e is lacks = (sym (ap (λ (s : Meaning A). first_failed (question_tests question s.shape)) e ∙ ask_decides h) ∙ lacks.0, lacks.1)
+    answered n (Err error) h e is lacks = (sym (ap (λ (s : Meaning A). first_failed (question_tests question s.shape)) e ∙ ask_decides h) ∙ lacks.0, sym (ap (answers_in_memory question) e) ∙ lacks.1)

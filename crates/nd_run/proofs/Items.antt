@@ -1,9 +1,11 @@
 -- Reading items one after the other, as a loop does.
-use Rattle.std.proofs.Common.{◌≡◌, ℕ, zero, suc, ◌-◌, ◌+◌, ◌≤◌, ◌<◌, Bool, true, false, List, [], ◌∷◌, ◌++◌, length, Option, Some, None, refl, sym, ap, ◌∙◌, append_assoc, arith}
+use Rattle.std.proofs.Common.{◌≡◌, ℕ, zero, suc, ◌-◌, ◌+◌, ◌≤◌, ◌<◌, ◌||◌, Bool, true, false, List, [], ◌∷◌, ◌++◌, length, Option, Some, None, refl, sym, ap, ◌∙◌, append_assoc, arith}
+use Rattle.std.proofs.lemmas.Bool.{lt-ltb, le-leb}
 use Rattle.std.proofs.lemmas.List.{append-nil}
 use Rattle.nd_run.specs.declared.reader.fault.LineFault.{LineFault}
 use Rattle.nd_run.specs.declared.reader.fault.LineFault.TheVariants.{Bad, Memory}
-use Rattle.nd_run.specs.Reading.{◌>>=◌, Fails, first_as, both_at, map_read, many_while, many_at, TakesWords}
+use Rattle.nd_run.specs.Calls.{AskedStep}
+use Rattle.nd_run.specs.Reading.{◌>>=◌, Fails, first_as, both_at, map_read, many_while, many_at, path_at, begins_step, many_may_lack, TakesWords}
 
 -- what was read before, and what is still read
 abbrev pub with_front : {X : Type 0} → List X → Option (List X × List (List ℕ)) → Option (List X × List (List ℕ))
@@ -22,11 +24,12 @@ goes_on begins read front count i words x after total lt on h so_far =
     let one : with_front front (many_while begins read (count - i) words) ≡ with_front (front ++ x ∷ []) (many_while begins read (count - (i + 1)) after) = rw (k, on, h) (regroup front x (many_while begins read (count - (i + 1)) after)) in
     sym one ∙ so_far
 
-pub stops : {X : Type 0} (begins : List (List ℕ) → Bool) (read : List (List ℕ) → Option (X × List (List ℕ))) (fault : LineFault) (front : List X) (count i : ℕ) (words : List (List ℕ)) (total : Option (List X × List (List ℕ))) → i < count → begins words ≡ true → Fails fault (read words)
-    → with_front front (many_while begins read (count - i) words) ≡ total → Fails fault total
+-- here is what reading one takes, where memory may be lacked of it
+pub stops : {X : Type 0} (begins : List (List ℕ) → Bool) (read : List (List ℕ) → Option (X × List (List ℕ))) (fault : LineFault) (front : List X) (count i : ℕ) (words : List (List ℕ)) (total : Option (List X × List (List ℕ))) (takes here : Bool) → i < count → begins words ≡ true → (here ≡ true → takes ≡ true) → Fails here fault (read words)
+    → with_front front (many_while begins read (count - i) words) ≡ total → Fails takes fault total
 unfolding many_while both_at map_read
-stops begins read Memory front count i words total lt on h so_far = tt
-stops begins read Bad front count i words total lt on h so_far =
+stops begins read Memory front count i words total takes here lt on lacks h so_far = lacks h
+stops begins read Bad front count i words total takes here lt on lacks h so_far =
     let k : count - i ≡ suc (count - (i + 1)) = omega arith in
     let one : with_front front (many_while begins read (count - i) words) ≡ None = rw (k, on, h) refl in
     sym so_far ∙ one
@@ -67,3 +70,25 @@ left_by {X} (Some y) words x rest e = let same : (y, words) ≡ (x, rest) = cc i
 pub item_words : {X : Type 0} (of : List ℕ → Option X) → TakesWords (first_as of)
 item_words of [] x rest e = absurd cc
 item_words of (word ∷ words) x rest e = let same : words ≡ rest = left_by (of word) words x rest e in omega (arith, ap length same)
+
+-- ---- where items lack memory
+
+pub many_lack : (count i : ℕ) (words : List (List ℕ)) → i < count → count ≤ length words → many_may_lack count words ≡ true
+many_lack count i words lt le = let some : 0 < count = omega (arith, lt) in rw (lt-ltb 0 count some, le-leb count (length words) le) refl
+
+-- a path that begins no step leaves all words
+path_stays_by : (t : Bool) (n : ℕ) (words : List (List ℕ)) (path : List AskedStep) (rest : List (List ℕ)) → begins_step words ≡ t → t ≡ false → path_at n words ≡ Some (path, rest) → words ≡ rest
+unfolding many_while
+path_stays_by t zero words path rest is none e = let same : ([], words) ≡ (path, rest) = cc in ap (λ (p : List AskedStep × List (List ℕ)). p.1) same
+path_stays_by true (suc n) words path rest is none e = absurd cc
+path_stays_by false (suc n) words path rest is none e =
+    let ended : ◌≡◌ {A = Option (List AskedStep × List (List ℕ))} (Some ([], words)) (Some (path, rest)) = rw is at e in
+    let same : ([], words) ≡ (path, rest) = cc in ap (λ (p : List AskedStep × List (List ℕ)). p.1) same
+
+-- what takes memory behind a path does in front of it, where the path has no step
+lack_behind_by : (t : Bool) (takes : List (List ℕ) → Bool) (n : ℕ) (words : List (List ℕ)) (path : List AskedStep) (rest : List (List ℕ)) → begins_step words ≡ t → path_at n words ≡ Some (path, rest) → takes rest ≡ true → (t || takes words) ≡ true
+lack_behind_by true takes n words path rest is e lacks = refl
+lack_behind_by false takes n words path rest is e lacks = ap takes (path_stays_by false n words path rest is refl e) ∙ lacks
+
+pub lack_behind : (takes : List (List ℕ) → Bool) (n : ℕ) (words : List (List ℕ)) (path : List AskedStep) (rest : List (List ℕ)) → path_at n words ≡ Some (path, rest) → takes rest ≡ true → (begins_step words || takes words) ≡ true
+lack_behind takes n words path rest e lacks = lack_behind_by (begins_step words) takes n words path rest refl e lacks

@@ -4,6 +4,7 @@ pub mod Counts
 pub mod Driving
 pub mod Indexes
 pub mod Items
+pub mod Lacking
 pub mod ScriptLaws
 pub mod Scripts
 pub mod FoldLemmas

@@ -8,7 +8,7 @@ use Rattle.nd_run.specs.declared.reader.fault.ScriptError.TheVariants.{BadLine, 
 use Rattle.nd_run.specs.Calls.{Asked}
 use Rattle.nd_text.specs.Words.{lines_of, words_of, is_wordless}
 use Rattle.nd_run.specs.Grammar.{AreAll, IsStart, IsCall}
-use Rattle.nd_run.specs.Script.{◌>>=◌, AskedScript, worded_lines, MayLackIn, MayLackInCalls, FailsAt, read_or_number, call_in, start_in, calls_from, script_from}
+use Rattle.nd_run.specs.Script.{◌>>=◌, AskedScript, worded_lines, StartMayLack, CallMayLack, MayLackIn, MayLackInCalls, FailsAt, read_or_number, call_in, start_in, calls_from, script_from}
 use Rattle.nd_run.proofs.Rows.{call_takes, start_takes}
 use Rattle.nd_run.proofs.ScriptLaws.{numbered_ok}
 
@@ -128,8 +128,18 @@ read_more lines rest more line calls call n e some h (front, parts, all) =
     let is : IsCall (words_of line) call = call_takes (length line) (words_of line) call (numbered_ok n (call_in line) call h) in
     (front ++ line ∷ [], one_more lines front rest more line parts e, subst (λ ws. AreAll IsCall ws (calls ++ call ∷ [])) (sym same) (all_more IsCall (worded_lines front) calls (words_of line) call all is))
 
-pub read_stops : (lines rest more : List (List ℕ)) (line : List ℕ) (calls : List (Asked ℤ)) → rest ≡ line ∷ more → is_wordless (words_of line) ≡ false → AreReadTo lines rest calls → MayLackInCalls lines
-read_stops lines rest more line calls e some (front, parts, all) = (front, line, more, parts ∙ ap (λ (ls : List (List ℕ)). front ++ ls) e, some, calls, all)
+pub read_stops : (lines rest more : List (List ℕ)) (line : List ℕ) (calls : List (Asked ℤ)) → rest ≡ line ∷ more → is_wordless (words_of line) ≡ false → CallMayLack line → AreReadTo lines rest calls → MayLackInCalls lines
+read_stops lines rest more line calls e some lacks (front, parts, all) = (front, line, more, parts ∙ ap (λ (ls : List (List ℕ)). front ++ ls) e, some, calls, all, lacks)
+
+-- a fault that is handed on is the one that is answered
+pub same_fault : {X Y : Type 0} (r : Result X ScriptError) (given fault : ScriptError) → r ≡ Err given → given ≡ fault → r ≡ Err Memory → ◌≡◌ {A = Result Y ScriptError} (Err fault) (Err Memory)
+same_fault {X} r given fault e f h =
+    let same : ◌≡◌ {A = Result X ScriptError} (Err given) (Err Memory) = sym e ∙ h in
+    let is : given ≡ Memory = cc in ap Err (sym f ∙ is)
+
+-- the list of calls takes a call in that was read
+pub taken_in : (line : List ℕ) (call : Asked ℤ) (n : ℕ) → read_or_number n (call_in line) ≡ Ok call → CallMayLack line
+taken_in line call n h = inr (call, call_takes (length line) (words_of line) call (numbered_ok n (call_in line) call h))
 
 -- the lines in front of these have no words
 abbrev pub AreSkippedTo : List (List ℕ) → List (List ℕ) → Type 0
@@ -141,14 +151,14 @@ skip_more lines rest more line e none (front, parts, skipped) =
     (front ++ line ∷ [], one_more lines front rest more line parts e, same)
 
 -- want of memory in the start, or in a call behind it
-pub start_stops : (lines rest more : List (List ℕ)) (line : List ℕ) → rest ≡ line ∷ more → is_wordless (words_of line) ≡ false → AreSkippedTo lines rest → MayLackIn lines
-start_stops lines rest more line e some (front, parts, skipped) = (front, line, more, parts ∙ ap (λ (ls : List (List ℕ)). front ++ ls) e, some, inl skipped)
+pub start_stops : (lines rest more : List (List ℕ)) (line : List ℕ) → rest ≡ line ∷ more → is_wordless (words_of line) ≡ false → StartMayLack line → AreSkippedTo lines rest → MayLackIn lines
+start_stops lines rest more line e some lacks (front, parts, skipped) = (front, line, more, parts ∙ ap (λ (ls : List (List ℕ)). front ++ ls) e, some, inl (skipped, lacks))
 
 pub calls_stop_in : (lines rest more : List (List ℕ)) (line : List ℕ) (start : Meaning ℤ) (n : ℕ) → rest ≡ line ∷ more → is_wordless (words_of line) ≡ false → read_or_number n (start_in line) ≡ Ok start → AreSkippedTo lines rest → MayLackInCalls more → MayLackIn lines
-calls_stop_in lines rest more line start n e some h (front, parts, skipped) (before, last, back, split, words, calls, all) =
+calls_stop_in lines rest more line start n e some h (front, parts, skipped) (before, last, back, split, words, calls, all, lacks) =
     let script : AskedScript = record { start = start; calls = calls } in
     let is : IsStart (words_of line) start = start_takes (words_of line) start (numbered_ok n (start_in line) start h) in
     let worded : worded_lines (front ++ line ∷ before) ≡ words_of line ∷ worded_lines before = worded-append front (line ∷ before) ∙ (ap (λ ls. ls ++ worded_lines (line ∷ before)) skipped ∙ rw some refl) in
     let cut : lines ≡ (front ++ line ∷ before) ++ (last ∷ back) =
     parts ∙ (ap (λ (ls : List (List ℕ)). front ++ ls) (e ∙ ap (λ (ls : List (List ℕ)). line ∷ ls) split) ∙ sym (append_assoc front (line ∷ before) (last ∷ back))) in
-    (front ++ line ∷ before, last, back, cut, words, inr (script, (words_of line, worded_lines before, worded, is, all)))
+    (front ++ line ∷ before, last, back, cut, words, inr (script, (words_of line, worded_lines before, worded, is, all), lacks))

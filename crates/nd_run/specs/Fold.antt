@@ -1,6 +1,6 @@
 -- What a list of calls answers, and what it leaves of an array's meaning: a fold over the calls. No view, borrow
 -- or storage occurs.
-use Rattle.std.specs.Prelude.{◌≡◌, ◌<◌, ◌+◌, ◌^◌, ◌==◌, ℕ, nat_lt, nat_le, slice_index, slice_set, length, vec_capacity, Bool, Option, None, true, false, not, ◌||◌, List, [], ◌∷◌, ◌++◌, Result, Ok, Err, ◌⊎◌, IsTrue}
+use Rattle.std.specs.Prelude.{◌≡◌, ◌<◌, ◌+◌, ◌^◌, ◌==◌, ℕ, nat_lt, nat_le, slice_index, slice_set, length, vec_capacity, Bool, Option, None, is_some, true, false, not, ◌||◌, List, [], ◌∷◌, ◌++◌, Result, Ok, Err, ◌⊎◌}
 use Rattle.nd_shape_and_slice.specs.Shape.{in_box}
 use Rattle.nd_array_core.specs.Meaning.{Meaning, meaning_through}
 use Rattle.nd_shape_and_slice.specs.FirstIndex.{first_index}
@@ -9,7 +9,9 @@ use Rattle.nd_array_core.specs.Equality.{equal_meanings}
 use Rattle.nd_shape_and_slice.specs.Broadcast.{stretches}
 use Rattle.nd_array_core.specs.Joined.{row_major_elements, concatenated, concatenated_shape, shape_behind}
 use Rattle.nd_array_core.specs.Laws.{with_axis_inserted}
+use Rattle.nd_array_core.specs.growth.Appended.{elements_behind}
 use Rattle.nd_array_core.specs.growth.InTurn.{lengths_along}
+use Rattle.nd_array_core.specs.growth.Reserved.{added_elements}
 use Rattle.nd_stacking.specs.Stacking.{followed_by, is_alike_but}
 use Rattle.nd_run.specs.Calls.{AskedStep, Asking, AskShape, AskElements, AskElement, AskFirst, AskLast, AskEqual, AskCount, AskReshaped, Asked, Keeping, About, Writing, SplitWriting, Selecting, Removing, Reshaping, Appending, Reserving, Concatenating, Stacking, Said, SaidDone, SaidRefused, SaidShape, SaidElements, SaidElement, SaidTruth, SaidNumber, said_reply, said_replies}
 use Rattle.std.specs.Prelude.{map, nat_eq}
@@ -89,11 +91,14 @@ abbrev pub question_tests : {A : Type 0} → Asking A → List ℕ → List Test
 question_tests (AskReshaped to order) ns = reshape_tests to ns
 question_tests _ ns = []
 
--- a question whose answer takes memory
-abbrev pub answers_in_memory : {A : Type 0} → Asking A → Bool
-answers_in_memory (AskEqual other) = false
-answers_in_memory (AskCount x) = false
-answers_in_memory _ = true
+-- a question of an array whose answer takes memory: that of one element does where it is there
+abbrev pub answers_in_memory : {A : Type 0} → Asking A → Meaning A → Bool
+answers_in_memory (AskElement index) m = is_some (m.at index)
+answers_in_memory AskFirst m = is_some (m.at (first_index m.shape))
+answers_in_memory AskLast m = is_some (m.at (last_index m.shape))
+answers_in_memory (AskEqual other) m = false
+answers_in_memory (AskCount x) m = false
+answers_in_memory _ m = true
 
 -- the first cause against a path that is only looked along
 abbrev pub look_refusal : List AskedStep → List ℕ → Option Cause
@@ -170,18 +175,20 @@ done eq (Reserving axis additional) m = (SaidDone, m)
 done eq (Concatenating axis others) m = (SaidDone, followed_by axis m others)
 done eq (Stacking axis others) m = (SaidDone, stack_of axis m others)
 
-abbrev pub takes_memory : {A : Type 0} → Asked A → Bool
-takes_memory (Keeping step) = false
-takes_memory (About path question) = answers_in_memory question
-takes_memory (Writing path act) = clones act
-takes_memory (SplitWriting axis index first second) = clones first || clones second
-takes_memory (Selecting axis indexes) = not (length indexes == 0)
-takes_memory (Removing axis index) = false
-takes_memory (Reshaping to order) = true
-takes_memory (Appending axis other) = not (size_of other.shape == 0)
-takes_memory (Reserving axis additional) = not (additional == 0)
-takes_memory (Concatenating axis others) = true
-takes_memory (Stacking axis others) = true
+-- whether it takes memory of an array: a selection where what is chosen has an element, an array that comes behind where
+-- it brings one, and room where it is for one
+abbrev pub takes_memory : {A : Type 0} → Asked A → Meaning A → Bool
+takes_memory (Keeping step) m = false
+takes_memory (About path question) m = answers_in_memory question (meaning_at_end path m)
+takes_memory (Writing path act) m = clones act
+takes_memory (SplitWriting axis index first second) m = clones first || clones second
+takes_memory (Selecting axis indexes) m = not (size_of (selected_shape m.shape axis indexes) == 0)
+takes_memory (Removing axis index) m = false
+takes_memory (Reshaping to order) m = true
+takes_memory (Appending axis other) m = not (elements_behind m.shape other.shape axis == 0)
+takes_memory (Reserving axis additional) m = not (added_elements m.shape axis additional == 0)
+takes_memory (Concatenating axis others) m = true
+takes_memory (Stacking axis others) m = true
 
 -- ---- what comes of a call
 
@@ -206,7 +213,7 @@ meaning_after eq call m = (given_by (outcome eq call m) m).1
 
 -- a call that lacks nothing but memory: it isn't refused, and it takes some
 abbrev pub LacksOnlyMemory : {A : Type 0} → Asked A → Meaning A → Type 0
-LacksOnlyMemory call m = (first_failed (tests_for call m.shape) ≡ None) × IsTrue (takes_memory call)
+LacksOnlyMemory call m = (first_failed (tests_for call m.shape) ≡ None) × (takes_memory call m ≡ true)
 
 -- the code carried out a call: its reply, and what it made of m, are those of the call
 abbrev pub IsCarriedOut : {A : Type 0} → (A → A → Bool) → Asked A → Meaning A → Meaning A → Reply A → Type 0

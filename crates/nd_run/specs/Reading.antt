@@ -1,5 +1,5 @@
 -- Reading the words of a line from left to right. A reader answers what it read and the words that are left.
-use Rattle.std.specs.Prelude.{◌≡◌, ◌<◌, ℕ, zero, suc, ◌^◌, Bool, true, false, nat_le, nat_lt, List, [], ◌∷◌, ℤ, Option, None, Some, Result, Ok, Err, codes, length, if◌then◌else◌}
+use Rattle.std.specs.Prelude.{◌≡◌, ◌<◌, ℕ, zero, suc, ◌^◌, ◌&&◌, ◌||◌, Bool, true, false, nat_le, nat_lt, List, [], ◌∷◌, ℤ, Option, None, Some, Result, Ok, Err, codes, length, if◌then◌else◌}
 use Rattle.std.specs.Str.{bytes_eq}
 use Rattle.std.specs.Option.{option_map}
 use Rattle.nd_shape_and_slice.specs.declared.TheConstants.{MAX_AXES}
@@ -22,20 +22,20 @@ use Rattle.nd_text.specs.Spelling.{is_step, keyword_of}
 -- one word, by what it writes, is `first_as`
 pub use Rattle.nd_text.specs.Words.{◌>>=◌, first_as}
 
--- A reader of the code fails as reading does, unless memory ran out.
-abbrev pub Fails : {Y : Type 0} → LineFault → Option Y → Type 0
-Fails Memory read = Unit {0}
-Fails Bad read = read ≡ None
+-- A reader of the code fails as reading does, or for want of memory, where some is taken.
+abbrev pub Fails : {Y : Type 0} → Bool → LineFault → Option Y → Type 0
+Fails takes Memory read = takes ≡ true
+Fails takes Bad read = read ≡ None
 
 -- What a reader of the code returned, seen by view, is what reading gives, unless memory ran out.
-abbrev pub Gives : {X Y : Type 0} → (X → Y) → Result X LineFault → Option Y → Type 0
-Gives view (Ok x) read = read ≡ Some (view x)
-Gives view (Err fault) read = Fails fault read
+abbrev pub Gives : {X Y : Type 0} → Bool → (X → Y) → Result X LineFault → Option Y → Type 0
+Gives takes view (Ok x) read = read ≡ Some (view x)
+Gives takes view (Err fault) read = Fails takes fault read
 
 -- What a reader of the code returned, seen by view, and the words that it left, are what reading gives.
-abbrev pub IsRead : {X Y : Type 0} → (X → Y) → Result X LineFault → List (List ℕ) → Option (Y × List (List ℕ)) → Type 0
-IsRead view (Ok x) left read = read ≡ Some (view x, left)
-IsRead view (Err fault) left read = Fails fault read
+abbrev pub IsRead : {X Y : Type 0} → Bool → (X → Y) → Result X LineFault → List (List ℕ) → Option (Y × List (List ℕ)) → Type 0
+IsRead takes view (Ok x) left read = read ≡ Some (view x, left)
+IsRead takes view (Err fault) left read = Fails takes fault read
 
 -- a reader that takes a word or more
 abbrev pub TakesWords : {X : Type 0} → (List (List ℕ) → Option (X × List (List ℕ))) → Type 0
@@ -136,6 +136,9 @@ parts_at words = do
 
 abbrev pub array_at : List (List ℕ) → Option (Meaning ℤ × List (List ℕ))
 array_at words = map_read (λ parts. array_of parts.0 parts.1) (parts_at words)
+
+abbrev pub many_arrays : ℕ → List (List ℕ) → Option (List (Meaning ℤ) × List (List ℕ))
+many_arrays n words = many_at array_at n words
 
 abbrev pub arrays_at : List (List ℕ) → Option (List (Meaning ℤ) × List (List ℕ))
 arrays_at words = counted_at array_at words
@@ -253,3 +256,83 @@ unfoldable pub start_of : List (List ℕ) → Option (Meaning ℤ)
 start_of words = do
   start ← named_at start_word_by words
   read_to_end start
+
+-- ---- whether memory may be lacked while words are read: whether some is taken for them
+
+-- what was read is followed by words for which this holds
+abbrev pub read_then : {X : Type 0} → Option (X × List (List ℕ)) → (X → List (List ℕ) → Bool) → Bool
+read_then None holds = false
+read_then (Some read) holds = holds read.0 read.1
+
+-- n items: where there is one, and the words may do for all
+abbrev pub many_may_lack : ℕ → List (List ℕ) → Bool
+many_may_lack n words = nat_lt 0 n && nat_le n (length words)
+
+abbrev pub list_may_lack : List (List ℕ) → Bool
+list_may_lack words = read_then (first_as nat_of words) many_may_lack
+
+-- at most 32 lengths, or the element of an array without axes
+abbrev pub parts_may_lack : ℕ → List (List ℕ) → Bool
+parts_may_lack n words = nat_le n 32 && (nat_lt 0 (length words) && nat_le n (length words))
+
+abbrev pub array_may_lack : List (List ℕ) → Bool
+array_may_lack words = read_then (first_as nat_of words) parts_may_lack
+
+abbrev pub ordered_list_may_lack : List (List ℕ) → Bool
+ordered_list_may_lack words = read_then (order_at words) (λ order rest. list_may_lack rest)
+
+abbrev pub step_may_lack_by : Keyword → List (List ℕ) → Bool
+step_may_lack_by SliceWord words = list_may_lack words
+step_may_lack_by Permute words = list_may_lack words
+step_may_lack_by Broadcast words = list_may_lack words
+step_may_lack_by _ words = false
+
+abbrev pub step_may_lack : List (List ℕ) → Bool
+step_may_lack words = read_then (keyword_at words) step_may_lack_by
+
+abbrev pub question_may_lack_by : Keyword → List (List ℕ) → Bool
+question_may_lack_by Get words = list_may_lack words
+question_may_lack_by Equal words = array_may_lack words
+question_may_lack_by Reshape words = ordered_list_may_lack words
+question_may_lack_by _ words = false
+
+abbrev pub question_may_lack : List (List ℕ) → Bool
+question_may_lack words = read_then (keyword_at words) question_may_lack_by
+
+abbrev pub act_may_lack_by : Keyword → List (List ℕ) → Bool
+act_may_lack_by Assign words = array_may_lack words
+act_may_lack_by Set words = list_may_lack words
+act_may_lack_by Swap words = list_may_lack words || read_then (list_at words) (λ index rest. list_may_lack rest)
+act_may_lack_by _ words = false
+
+abbrev pub act_may_lack : List (List ℕ) → Bool
+act_may_lack words = read_then (keyword_at words) act_may_lack_by
+
+abbrev pub acts_may_lack : List (List ℕ) → Bool
+acts_may_lack words = act_may_lack words || read_then (slashed_at act_at words) (λ act rest. act_may_lack rest)
+
+-- a path takes memory where it has a step
+abbrev pub call_may_lack_by : Keyword → List (List ℕ) → Bool
+call_may_lack_by Keep words = step_may_lack words
+call_may_lack_by Ask words = begins_step words || question_may_lack words
+call_may_lack_by Write words = begins_step words || act_may_lack words
+call_may_lack_by Split words = read_then (pair_at words) (λ place rest. acts_may_lack rest)
+call_may_lack_by Select words = read_then (first_as nat_of words) (λ axis rest. list_may_lack rest)
+call_may_lack_by Reshape words = ordered_list_may_lack words
+call_may_lack_by Append words = read_then (first_as nat_of words) (λ axis rest. array_may_lack rest)
+call_may_lack_by Push words = read_then (first_as nat_of words) (λ axis rest. array_may_lack rest)
+call_may_lack_by Concat words = read_then (first_as nat_of words) (λ axis rest. list_may_lack rest)
+call_may_lack_by Stack words = read_then (first_as nat_of words) (λ axis rest. list_may_lack rest)
+call_may_lack_by _ words = false
+
+-- while the words of a line are read as a call
+abbrev pub call_may_lack : List (List ℕ) → Bool
+call_may_lack words = read_then (keyword_at words) call_may_lack_by
+
+abbrev pub start_may_lack_by : Keyword → List (List ℕ) → Bool
+start_may_lack_by Start words = array_may_lack words
+start_may_lack_by _ words = false
+
+-- while they are read as the array that a script starts with
+abbrev pub start_may_lack : List (List ℕ) → Bool
+start_may_lack words = read_then (keyword_at words) start_may_lack_by

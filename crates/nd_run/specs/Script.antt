@@ -7,7 +7,7 @@ use Rattle.nd_run.specs.declared.reader.Script.{Script}
 use Rattle.nd_run.specs.declared.reader.lines.LineReader.{LineReader}
 use Rattle.nd_run.specs.Calls.{Asked, asked_calls, boxed}
 use Rattle.nd_run.specs.Grammar.{AreAll, IsStart, IsCall}
-use Rattle.nd_run.specs.Reading.{call_of, start_of}
+use Rattle.nd_run.specs.Reading.{call_of, start_of, call_may_lack, start_may_lack}
 use Rattle.nd_text.specs.Words.{words_of, is_wordless}
 
 -- a script without where it lies in memory
@@ -48,17 +48,25 @@ IsBadFrom n lines bad =
 abbrev pub IsFirstBad : List (List ℕ) → ℕ → Type 0
 IsFirstBad lines bad = IsBadFrom 1 lines bad
 
--- Where reading may lack memory: in a line with words, behind lines that can be read.
+-- a line for whose words memory is taken, where they are to start a script
+abbrev pub StartMayLack : List ℕ → Type 0
+StartMayLack line = start_may_lack (words_of line) ≡ true
+
+-- where they are to be a call; or they are one, and memory is taken for its place in the list of calls
+abbrev pub CallMayLack : List ℕ → Type 0
+CallMayLack line = (call_may_lack (words_of line) ≡ true) ⊎ ((call : Asked ℤ) × IsCall (words_of line) call)
+
+-- Where reading may lack memory: in a line that takes some, behind lines that can be read.
 abbrev pub MayLackIn : List (List ℕ) → Type 0
 MayLackIn lines =
     (front : List (List ℕ)) × (line : List ℕ) × (back : List (List ℕ)) × (lines ≡ front ++ (line ∷ back)) × (is_wordless (words_of line) ≡ false)
-    × ((worded_lines front ≡ []) ⊎ ((script : AskedScript) × IsScript front script))
+    × (((worded_lines front ≡ []) × StartMayLack line) ⊎ ((script : AskedScript) × IsScript front script × CallMayLack line))
 
 -- the same of the lines behind the start
 abbrev pub MayLackInCalls : List (List ℕ) → Type 0
 MayLackInCalls lines =
     (front : List (List ℕ)) × (line : List ℕ) × (back : List (List ℕ)) × (lines ≡ front ++ (line ∷ back)) × (is_wordless (words_of line) ≡ false)
-    × (calls : List (Asked ℤ)) × AreAll IsCall (worded_lines front) calls
+    × (calls : List (Asked ℤ)) × AreAll IsCall (worded_lines front) calls × CallMayLack line
 
 -- memory was refused to a reader of lines
 abbrev pub lacked_memory : LineReader → Bool

@@ -91,7 +91,7 @@ pub fn read_script(alloc: Global, text: &[u8]) -> Result<Script, ScriptError>
     ensures bad { (n : ℕ) → result ≡ Err (ScriptError.BadLine n) → IsFirstBad (lines_of text.now) n }
     // Where a line is bad the first such number is answered, unless memory runs out.
     ensures bad_only { (n : ℕ) → IsFirstBad (lines_of text.now) n → GivesScript asked_script result (Err n) }
-    // Memory runs out in a line with words, and the lines before it are good.
+    // Memory runs out in a line for whose words some is taken, or that is a call; the lines before it are good.
     ensures memory { result ≡ Err ScriptError.Memory → MayLackIn (lines_of text.now) }
 {
     whole_script(&mut LineReader::new(alloc), text)

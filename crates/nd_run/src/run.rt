@@ -1,6 +1,6 @@
 //! A list of calls on one array.
 
-ghost use Rattle.std.specs.Prelude.{◌≡◌, ◌≤◌, nat_lt, map, length, vec_capacity, [], None, IfOk, IfErr, OnErr};
+ghost use Rattle.std.specs.Prelude.{◌≡◌, ◌≤◌, nat_lt, map, length, vec_capacity, true, [], None, is_some, IfOk, IfErr, OnErr};
 ghost use Rattle.std.specs.Option.{option_copied};
 ghost use Rattle.nd_array_core.specs.Meaning.{meaning_of, shape_of};
 ghost use Rattle.std.specs.List.{count_by, list_all};
@@ -53,7 +53,8 @@ fn elements<A: Clone + Drop>(
 /// The reply of an element, where there is one.
 fn told<A: Clone>(element: Option<&A>) -> Result<Reply<A>, AllocError>
     requires { (x y : A) → A.is_clone x y → y ≡ x }
-    ensures { IfOk result (λ reply. said_reply reply ≡ SaidElement (option_copied element.entry)) }
+    ensures reply { IfOk result (λ reply. said_reply reply ≡ SaidElement (option_copied element.entry)) }
+    ensures memory { OnErr result (is_some (option_copied element.entry) ≡ true) }
 {
     match element {
         Some(element) => Ok(Reply::Element(Some(element.clone()?))),
@@ -336,6 +337,7 @@ fn reserve<A: Eq + Drop>(
 ) -> Result<Reply<A>, AllocError>
     ensures carried { CarriesOut A.eq (Reserving axis additional) array.old array.new result }
     ensures room { IfOk result (λ reply. reply ≡ Reply.Done → HasRoomAlong axis additional array.new) }
+    ensures enough { OnErr result (¬ HasRoomAlong axis additional array.old) }
 {
     if axis >= array.ndim() {
         return Ok(Reply::Refused(Cause::Axis.number()));

@@ -1,13 +1,13 @@
 //! What is left of a line, and words, numbers, lists and arrays from its front.
 
-ghost use Rattle.std.specs.Prelude.{◌≡◌, ◌<◌, ◌≤◌, ℕ, List, Option, length, map};
+ghost use Rattle.std.specs.Prelude.{◌≡◌, false, ◌<◌, ◌≤◌, ℕ, List, Option, length, map};
 ghost use Rattle.nd_shape_and_slice.specs.Shape.{HasCheckedSize, size_of};
 ghost use Rattle.nd_array_core.specs.Meaning.{meaning_of};
 ghost use Rattle.nd_run.specs.Calls.{boxed};
 ghost use Rattle.nd_run.specs.Grammar.{array_of};
 ghost use Rattle.nd_text.specs.Numerals.{nat_of, int_of};
 ghost use Rattle.nd_text.specs.Words.{words_of};
-ghost use Rattle.nd_run.specs.Reading.{Gives, IsRead, TakesWords, word_at, first_as, many_at, counted_at, slice_end_of, slice_at, slice_element_at, order_at, lengths_at, parts_at, array_at, arrays_at, checked_size, keyword_at, slash_at, begins_step, read_to_end};
+ghost use Rattle.nd_run.specs.Reading.{Gives, IsRead, TakesWords, word_at, first_as, many_at, counted_at, slice_end_of, slice_at, slice_element_at, order_at, lengths_at, parts_at, array_at, many_arrays, arrays_at, checked_size, keyword_at, slash_at, begins_step, read_to_end, many_may_lack, list_may_lack, array_may_lack};
 
 use crate::reader::Held;
 use crate::reader::fault::LineFault;
@@ -40,7 +40,7 @@ pub trait Item: Copy {
 
     /// What the front of the line writes.
     fn read(line: &mut Line<'_>) -> Result<Self, LineFault>
-        ensures { IsRead (λ x. x) result line.new (read_at line.old) };
+        ensures { IsRead false (λ x. x) result line.new (read_at line.old) };
 }
 
 /// The lengths of an array, and its elements in row-major order.
@@ -55,7 +55,7 @@ impl<'a> Line<'a> {
 
     /// The first word.
     fn word(&mut self) -> Result<&'a [u8], LineFault>
-        ensures { IsRead (λ word. word.now) result self.new (word_at self.old) }
+        ensures { IsRead false (λ word. word.now) result self.new (word_at self.old) }
     {
         match split_word(self.rest) {
             Some((word, rest)) => {
@@ -68,7 +68,7 @@ impl<'a> Line<'a> {
 
     /// What the first word names.
     pub fn keyword(&mut self) -> Result<Keyword, LineFault>
-        ensures { IsRead (λ x. x) result self.new (keyword_at self.old) }
+        ensures { IsRead false (λ x. x) result self.new (keyword_at self.old) }
     {
         Ok(Keyword::of(self.word()?))
     }
@@ -85,7 +85,7 @@ impl<'a> Line<'a> {
 
     #[tactic(auto, unfolding(crate::specs::Reading::named_at))]
     pub fn slash(&mut self) -> Result<(), LineFault>
-        ensures { IsRead (λ x. x) result self.new (slash_at self.old) }
+        ensures { IsRead false (λ x. x) result self.new (slash_at self.old) }
     {
         match self.keyword()? {
             Keyword::Slash => Ok(()),
@@ -95,7 +95,7 @@ impl<'a> Line<'a> {
 
     /// The value that was read, if it took the whole line.
     pub fn end<T: Drop>(&self, value: T) -> Result<T, LineFault>
-        ensures { Gives (λ x. x) result (read_to_end (value, self.now)) }
+        ensures { Gives false (λ x. x) result (read_to_end (value, self.now)) }
     {
         if is_wordless(self.rest) {
             Ok(value)
@@ -106,7 +106,7 @@ impl<'a> Line<'a> {
 
     /// What the front of the line writes.
     pub fn read<I: Item>(&mut self) -> Result<I, LineFault>
-        ensures { IsRead (λ x. x) result self.new (I.read_at self.old) }
+        ensures { IsRead false (λ x. x) result self.new (I.read_at self.old) }
     {
         I::read(self)
     }
@@ -114,7 +114,7 @@ impl<'a> Line<'a> {
     /// As many items as asked for. A line with fewer words is bad; no memory is taken for it.
     fn items<I: Item>(&mut self, alloc: Global, count: usize) -> Result<Vec<I>, LineFault>
         requires { TakesWords I.read_at }
-        ensures read { IsRead (λ x. x.items) result self.new (many_at I.read_at count self.old) }
+        ensures read { IsRead (many_may_lack count self.old) (λ x. x.items) result self.new (many_at I.read_at count self.old) }
         ensures few { length self.old < count → result ≡ Err LineFault.Bad }
     {
         if !has_words(self.rest, count) {
@@ -131,7 +131,7 @@ impl<'a> Line<'a> {
     #[tactic(auto, unfolding(crate::specs::Reading::counted_at))]
     pub fn list<I: Item>(&mut self, alloc: Global) -> Result<Vec<I>, LineFault>
         requires { TakesWords I.read_at }
-        ensures { IsRead (λ x. x.items) result self.new (counted_at I.read_at self.old) }
+        ensures { IsRead (list_may_lack self.old) (λ x. x.items) result self.new (counted_at I.read_at self.old) }
     {
         let count = self.read::<usize>()?;
         self.items(alloc, count)
@@ -140,7 +140,7 @@ impl<'a> Line<'a> {
     /// The lengths of an array: a list of at most 32 numbers.
     #[tactic(auto, unfolding(crate::specs::Reading::lengths_at))]
     fn lengths(&mut self, alloc: Global) -> Result<Vec<usize>, LineFault>
-        ensures { IsRead (λ x. x.items) result self.new (lengths_at self.old) }
+        ensures { IsRead (array_may_lack self.old) (λ x. x.items) result self.new (lengths_at self.old) }
     {
         let count = self.read::<usize>()?;
         if count > MAX_AXES {
@@ -152,7 +152,7 @@ impl<'a> Line<'a> {
     /// The lengths of an array, and then as many elements as its shape has.
     #[tactic(auto, unfolding(crate::specs::Reading::parts_at))]
     fn parts(&mut self, alloc: Global) -> Result<Parts, LineFault>
-        ensures { IsRead (λ x. (x.0.items, x.1.items)) result self.new (parts_at self.old) }
+        ensures { IsRead (array_may_lack self.old) (λ x. (x.0.items, x.1.items)) result self.new (parts_at self.old) }
     {
         let lengths = self.lengths(alloc)?;
         let size = checked_size(&lengths)?;
@@ -163,14 +163,14 @@ impl<'a> Line<'a> {
     /// An ARRAY, boxed. A function of its own, so that lines with no array don't pay for its locals.
     #[inline(never)]
     pub fn boxed(&mut self, alloc: Global) -> Result<Held, LineFault>
-        ensures { IsRead (λ x. meaning_of x.value) result self.new (array_at self.old) }
+        ensures { IsRead (array_may_lack self.old) (λ x. meaning_of x.value) result self.new (array_at self.old) }
     {
         Ok(Box::new(alloc, self.array(alloc)?)?)
     }
 
     /// As many arrays as asked for, boxed. A line with fewer words is bad; no memory is taken for it.
     fn boxes(&mut self, alloc: Global, count: usize) -> Result<Vec<Held>, LineFault>
-        ensures read { IsRead (λ x. map (boxed meaning_of) x.items) result self.new (many_at array_at count self.old) }
+        ensures read { IsRead (many_may_lack count self.old) (λ x. map (boxed meaning_of) x.items) result self.new (many_arrays count self.old) }
         ensures few { length self.old < count → result ≡ Err LineFault.Bad }
     {
         if !has_words(self.rest, count) {
@@ -186,7 +186,7 @@ impl<'a> Line<'a> {
     /// A count, and then as many arrays.
     #[tactic(auto, unfolding(crate::specs::Reading::counted_at))]
     pub fn arrays(&mut self, alloc: Global) -> Result<Vec<Held>, LineFault>
-        ensures { IsRead (λ x. map (boxed meaning_of) x.items) result self.new (arrays_at self.old) }
+        ensures { IsRead (list_may_lack self.old) (λ x. map (boxed meaning_of) x.items) result self.new (arrays_at self.old) }
     {
         let count = self.read::<usize>()?;
         self.boxes(alloc, count)
@@ -195,7 +195,7 @@ impl<'a> Line<'a> {
     /// An ARRAY: its lengths, and its elements in row-major order.
     #[tactic(auto, unfolding(crate::specs::Reading::map_read))]
     pub fn array(&mut self, alloc: Global) -> Result<Array<i64, IxDyn>, LineFault>
-        ensures { IsRead (λ x. meaning_of x) result self.new (array_at self.old) }
+        ensures { IsRead (array_may_lack self.old) (λ x. meaning_of x) result self.new (array_at self.old) }
     {
         let (lengths, elements) = self.parts(alloc)?;
         Ok(array_of(&lengths, elements))
@@ -203,7 +203,7 @@ impl<'a> Line<'a> {
 }
 
 fn checked_size(lengths: &[usize]) -> Result<usize, LineFault>
-    ensures { Gives (λ x. x) result (checked_size lengths.now) }
+    ensures { Gives false (λ x. x) result (checked_size lengths.now) }
 {
     size_of_shape_checked(lengths).map_err(|_| LineFault::Bad)
 }

@@ -1,10 +1,11 @@
 //! Steps, questions, acts and calls from the words of a line.
 
-ghost use Rattle.std.specs.Prelude.{◌≡◌, map, length};
+ghost use Rattle.std.specs.Prelude.{◌≡◌, map};
 ghost use Rattle.nd_array_core.specs.Meaning.{meaning_of};
 ghost use Rattle.nd_text.specs.Words.{words_of};
 ghost use Rattle.nd_run.specs.Calls.{asked_step, asking, acting, acting_both, asked_call, boxed};
-ghost use Rattle.nd_run.specs.Reading.{Gives, IsRead, step_at, slashed_at, path_at, question_at, act_at, acts_at, call_at, call_of, start_of};
+ghost use Rattle.nd_run.specs.Script.{call_in, start_in};
+ghost use Rattle.nd_run.specs.Reading.{Gives, IsRead, step_at, slashed_at, path_at, question_at, act_at, acts_at, call_at, begins_step, step_may_lack, question_may_lack, act_may_lack, acts_may_lack, call_may_lack, start_may_lack};
 
 use crate::calls::{Act, Call, Question, Step};
 use crate::reader::Held;
@@ -18,7 +19,7 @@ use std::alloc::Global;
 impl<'a> Line<'a> {
     #[tactic(auto, unfolding(crate::specs::Reading::named_at, crate::specs::Reading::map_read, crate::specs::Reading::both_at), using(crate::proofs::Items::item_words))]
     fn step(&mut self, alloc: Global) -> Result<Step, LineFault>
-        ensures { IsRead asked_step result self.new (step_at self.old) }
+        ensures { IsRead (step_may_lack self.old) asked_step result self.new (step_at self.old) }
     {
         match self.keyword()? {
             Keyword::Cut => Ok(Step::SliceAxis(self.read()?, self.read()?)),
@@ -41,7 +42,7 @@ impl<'a> Line<'a> {
     /// One step of a path, with the slash that follows it.
     #[tactic(auto, unfolding(crate::specs::Reading::map_read, crate::specs::Reading::both_at))]
     fn leg(&mut self, alloc: Global) -> Result<Step, LineFault>
-        ensures { IsRead asked_step result self.new (slashed_at step_at self.old) }
+        ensures { IsRead (step_may_lack self.old) asked_step result self.new (slashed_at step_at self.old) }
     {
         let step = self.step(alloc)?;
         self.slash()?;
@@ -50,7 +51,7 @@ impl<'a> Line<'a> {
 
     /// The steps of a path, each followed by a slash; at most as many as asked for.
     fn path(&mut self, alloc: Global, most: usize) -> Result<Vec<Step>, LineFault>
-        ensures { IsRead (λ x. map asked_step x.items) result self.new (path_at most self.old) }
+        ensures { IsRead (begins_step self.old) (λ x. map asked_step x.items) result self.new (path_at most self.old) }
     {
         // Most paths have one step or none.
         let mut steps = Vec::with_capacity(alloc, usize::from(self.begins_step()))?;
@@ -65,7 +66,7 @@ impl<'a> Line<'a> {
 
     #[tactic(auto, unfolding(crate::specs::Reading::named_at, crate::specs::Reading::map_read, crate::specs::Reading::both_at), using(crate::proofs::Items::item_words))]
     fn question(&mut self, alloc: Global) -> Result<Question<i64, Held>, LineFault>
-        ensures { IsRead (λ x. asking (boxed meaning_of) x) result self.new (question_at self.old) }
+        ensures { IsRead (question_may_lack self.old) (λ x. asking (boxed meaning_of) x) result self.new (question_at self.old) }
     {
         match self.keyword()? {
             Keyword::Shape => Ok(Question::Shape),
@@ -85,7 +86,7 @@ impl<'a> Line<'a> {
 
     #[tactic(auto, unfolding(crate::specs::Reading::named_at, crate::specs::Reading::map_read, crate::specs::Reading::both_at), using(crate::proofs::Items::item_words))]
     fn act(&mut self, alloc: Global) -> Result<Act<i64, Held>, LineFault>
-        ensures { IsRead (λ x. acting (boxed meaning_of) x) result self.new (act_at self.old) }
+        ensures { IsRead (act_may_lack self.old) (λ x. acting (boxed meaning_of) x) result self.new (act_at self.old) }
     {
         match self.keyword()? {
             Keyword::Fill => Ok(Act::Fill(self.read()?)),
@@ -99,7 +100,7 @@ impl<'a> Line<'a> {
     /// Two acts, and the slash between them.
     #[tactic(auto, unfolding(crate::specs::Reading::map_read, crate::specs::Reading::both_at))]
     fn acts(&mut self, alloc: Global) -> Result<(Act<i64, Held>, Act<i64, Held>), LineFault>
-        ensures { IsRead (λ x. acting_both (boxed meaning_of) x) result self.new (acts_at self.old) }
+        ensures { IsRead (acts_may_lack self.old) (λ x. acting_both (boxed meaning_of) x) result self.new (acts_at self.old) }
     {
         let first = self.act(alloc)?;
         self.slash()?;
@@ -108,7 +109,7 @@ impl<'a> Line<'a> {
 
     #[tactic(auto, unfolding(crate::specs::Reading::named_at, crate::specs::Reading::map_read, crate::specs::Reading::both_at), using(crate::proofs::Items::item_words))]
     fn call(&mut self, alloc: Global, most: usize) -> Result<Call<i64, Held>, LineFault>
-        ensures { IsRead (λ x. asked_call (boxed meaning_of) x) result self.new (call_at most self.old) }
+        ensures { IsRead (call_may_lack self.old) (λ x. asked_call (boxed meaning_of) x) result self.new (call_at most self.old) }
     {
         match self.keyword()? {
             Keyword::Keep => Ok(Call::Keep(self.step(alloc)?)),
@@ -138,7 +139,7 @@ impl<'a> Line<'a> {
 /// The call of a line, all of whose words belong to it.
 #[tactic(auto, unfolding(crate::specs::Reading::call_of))]
 pub fn call(alloc: Global, line: &[u8]) -> Result<Call<i64, Held>, LineFault>
-    ensures { Gives (asked_call (boxed meaning_of)) result (call_of (length line.now) (words_of line.now)) }
+    ensures { Gives (call_may_lack (words_of line.now)) (asked_call (boxed meaning_of)) result (call_in line.now) }
 {
     let mut words = Line::new(line);
     let call = words.call(alloc, line.len())?;
@@ -148,7 +149,7 @@ pub fn call(alloc: Global, line: &[u8]) -> Result<Call<i64, Held>, LineFault>
 /// The array that a line starts a script with, all of whose words belong to it.
 #[tactic(auto, unfolding(crate::specs::Reading::start_of, crate::specs::Reading::named_at))]
 pub fn start(alloc: Global, line: &[u8]) -> Result<Array<i64, IxDyn>, LineFault>
-    ensures { Gives meaning_of result (start_of (words_of line.now)) }
+    ensures { Gives (start_may_lack (words_of line.now)) meaning_of result (start_in line.now) }
 {
     let mut words = Line::new(line);
     match words.keyword()? {

@@ -3,7 +3,7 @@
 ghost use Rattle.std.specs.Prelude.{◌≡◌, ◌||◌, ◌++◌, ◌∷◌, [], false, OnOk, IfErr, IsTrue};
 ghost use Rattle.nd_array_core.specs.Meaning.{meaning_of};
 ghost use Rattle.nd_run.specs.Calls.{asked_call, boxed};
-ghost use Rattle.nd_run.specs.Script.{GivesScript, read_or_number, call_in, start_in, lacked_memory, lacks_memory};
+ghost use Rattle.nd_run.specs.Script.{GivesScript, StartMayLack, CallMayLack, read_or_number, call_in, start_in, lacked_memory, lacks_memory};
 
 use super::fault::{LineFault, ScriptError};
 use super::{Held, line};
@@ -41,6 +41,7 @@ impl LineReader {
     /// The array that a line of this number starts a script with.
     pub fn start(&mut self, number: usize, line: &[u8]) -> Result<Array<i64, IxDyn>, ScriptError>
         ensures read { GivesScript meaning_of result (read_or_number number (start_in line.now)) }
+        ensures memory { result ≡ Err ScriptError.Memory → StartMayLack line.now }
         ensures lacked { lacked_memory self.new ≡ (lacks_memory result || lacked_memory self.old) }
     {
         match line::start(self.alloc, line) {
@@ -53,6 +54,7 @@ impl LineReader {
     /// The call of a line of this number.
     pub fn call(&mut self, number: usize, line: &[u8]) -> Result<Call<i64, Held>, ScriptError>
         ensures read { GivesScript (asked_call (boxed meaning_of)) result (read_or_number number (call_in line.now)) }
+        ensures memory { result ≡ Err ScriptError.Memory → CallMayLack line.now }
         ensures lacked { lacked_memory self.new ≡ (lacks_memory result || lacked_memory self.old) }
     {
         match line::call(self.alloc, line) {

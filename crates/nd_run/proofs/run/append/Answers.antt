@@ -6,7 +6,7 @@ use Rattle.nd_shape_and_slice.specs.Broadcast.{stretches}
 use Rattle.nd_shape_and_slice.specs.declared.errors.ErrorKind.{ErrorKind}
 use Rattle.nd_array_core.specs.Joined.{concatenated_shape, shape_behind}
 use Rattle.nd_array_core.specs.Meaning.{shape_of}
-use Rattle.nd_array_core.specs.growth.Appended.{CanComeBehind, FitsBehind, IsJoiningRefused, NotFitting, TooLarge, IsAppendRefused}
+use Rattle.nd_array_core.specs.growth.Appended.{elements_behind, CanComeBehind, FitsBehind, IsJoiningRefused, NotFitting, TooLarge, IsAppendRefused}
 use Rattle.nd_run.specs.declared.cause.Cause.{Cause}
 use Rattle.nd_run.specs.declared.cause.Cause.TheVariants as causes
 use Rattle.nd_run.specs.Steps.{first_failed}
@@ -45,4 +45,5 @@ returns-in-Err-NoMemory g c =
     let tests : first_failed (append_tests axis ms ns) ≡ None = c.in-Ok.ensures {u = tt} in
     let fit = fits axis ms ns tests in
     let lacks = subst (IsAppendRefused ns ms axis) c.in-Err-NoMemory.field-0-is (c.in-Err-NoMemory.ensures {u = tt}).refused in
-    (tests, ap not (ne_eqb (size_of ms) 0 (λ none. let gone = c.shapes_behind.ensures.none ns ms axis fit.0 none in let some = lacks.1 in omega (arith, some, gone))))
+    let some : 0 < elements_behind ns ms axis = lacks.1 in
+    (tests, ap not (ne_eqb (elements_behind ns ms axis) 0 (λ none. omega (arith, some, none))))

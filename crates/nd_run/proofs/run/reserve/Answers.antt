@@ -1,7 +1,7 @@
 use Rattle.std.proofs.Common.{◌≡◌, ◌<◌, ◌≤◌, ◌+◌, ◌*◌, ◌^◌, ℕ, List, length, set, get_or, not, None, Some, refl, ap, sym, subst, ⊎_elim, arith, rules}
 use Rattle.std.proofs.lemmas.Bool.{cases_lt, lt-ltb, le-ltb, ne_eqb}
-use Rattle.std.specs.List.{remove}
-use Rattle.nd_shape_and_slice.specs.Shape.{nonzero_product, size_of, HasCheckedSize}
+use Rattle.nd_array_core.specs.growth.Reserved.{added_elements}
+use Rattle.nd_shape_and_slice.specs.Shape.{nonzero_product, HasCheckedSize}
 use Rattle.nd_array_core.specs.Meaning.{meaning_of, shape_of}
 use Rattle.nd_run.specs.declared.cause.Cause.TheVariants as causes
 use Rattle.nd_run.specs.Calls.{Reserving}
@@ -20,9 +20,6 @@ module _ (axis n : ℕ) (ns : List ℕ) (on : axis < length ns) where
 -- what isn't refused can grow
 by_refusal : (ns : List ℕ) → ((HasCheckedSize ns → ⊥) → ⊥) → HasCheckedSize ns
 by_refusal ns allowed = ⊎_elim (λ less. less) (λ (large : 2 ^ 63 ≤ nonzero_product ns). absurd (allowed (λ less. omega (arith, large, less)))) (cases_lt (nonzero_product ns) (2 ^ 63))
-
-some_more : (n elements : ℕ) → 0 < n * elements → n ≡ 0 → ⊥
-some_more n elements some none = let here : 0 < 0 * elements = subst (λ k. 0 < k * elements) none some in omega (arith, here)
 
 pub returns-in-Ok-clause-carried : goal.returns-in-Ok-clause-carried
 returns-in-Ok-clause-carried g c =
@@ -46,4 +43,13 @@ returns-in-Err-NoMemory-clause-carried g c =
     let n = c.args.additional in
     let on : axis < length ns = search rules in
     let fits = by_refusal (set ns axis (get_or ns axis 0 + n)) (λ unfit. (let e = c.in-Err-NoMemory.ensures.overflow unfit in absurd cc)) in
-    (can_grow axis n ns on fits, ap not (ne_eqb n 0 (some_more n (size_of (remove ns axis)) (c.in-Err-NoMemory.ensures.refused fits))))
+    let some : 0 < added_elements ns axis n = c.in-Err-NoMemory.ensures.refused fits in
+    (can_grow axis n ns on fits, ap not (ne_eqb (added_elements ns axis n) 0 (λ none. omega (arith, some, none))))
+
+pub returns-in-Err-NoMemory-clause-enough : goal.returns-in-Err-NoMemory-clause-enough
+returns-in-Err-NoMemory-clause-enough g c =
+    let ns = shape_of c.args.array.now in
+    let axis = c.args.axis in
+    let n = c.args.additional in
+    let fits = by_refusal (set ns axis (get_or ns axis 0 + n)) (λ unfit. (let e = c.in-Err-NoMemory.ensures.overflow unfit in absurd cc)) in
+    λ room. (let e = c.in-Err-NoMemory.ensures.enough fits room in absurd cc)

@@ -4,9 +4,9 @@ use Rattle.std.proofs.lemmas.Bool.{cases_lt}
 use Rattle.std.proofs.lemmas.List.{map_push}
 use Rattle.nd_array_core.specs.Meaning.{meaning_of}
 use Rattle.nd_run.specs.Calls.{boxed}
-use Rattle.nd_run.specs.Reading.{array_at, many_at}
+use Rattle.nd_run.specs.Reading.{array_at, many_at, array_may_lack, many_may_lack}
 use Rattle.nd_run.proofs.ArrayLaws.{array_words}
-use Rattle.nd_run.proofs.Items.{goes_on, stops, is_done, short}
+use Rattle.nd_run.proofs.Items.{goes_on, stops, is_done, short, many_lack}
 use Rattle.nd_run.proofs.reader.items.Line.boxes.Goals as goal
 
 pub returns-then-not-has_words-clause-read : goal.returns-then-not-has_words-clause-read
@@ -17,7 +17,7 @@ returns-then-not-has_words-clause-read c =
 pub returns-in_err-boxed-clause-read : goal.returns-in_err-boxed-clause-read
 returns-in_err-boxed-clause-read c =
     let p = err_from_is_err_and c.from_residual-in_err-boxed.result c.from_residual-in_err-boxed.ensures.1 in
-    rw (p.1, p.2) (stops (λ ws. true) array_at c.in_err-boxed.field-0.0 (map (boxed meaning_of) c.loop.arrays.items) c.args.count c.loop.counter c.loop.self (many_at array_at c.args.count c.args.self.now) c.loop-test.true refl c.in_err-boxed.ensures c.loop.invariant)
+    rw (p.1, p.2) (stops (λ ws. true) array_at c.in_err-boxed.field-0.0 (map (boxed meaning_of) c.loop.arrays.items) c.args.count c.loop.counter c.loop.self (many_at array_at c.args.count c.args.self.now) (many_may_lack c.args.count c.args.self.now) (array_may_lack c.loop.self) c.loop-test.true refl (λ e. many_lack c.args.count c.loop.counter c.args.self.now c.loop-test.true (rw (← c.self.view_is) (c.if-not-has_words.ensures.0 refl))) c.in_err-boxed.ensures c.loop.invariant)
 
 pub loop-preserved : goal.loop-preserved
 loop-preserved c =

@@ -1,7 +1,7 @@
 use Rattle.std.proofs.Common.{◌≡◌, ◌<◌, length, true, false, refl, inl, inr}
 use Rattle.std.proofs.lemmas.Result.{err_from_is_err_and}
 use Rattle.std.proofs.lemmas.Bool.{cases_lt}
-use Rattle.nd_run.specs.Reading.{many_at}
+use Rattle.nd_run.specs.Reading.{many_at, many_may_lack}
 use Rattle.nd_run.proofs.Items.{goes_on, stops, is_done, short}
 use Rattle.nd_run.proofs.reader.items.Line.items.Goals as goal
 
@@ -13,7 +13,7 @@ returns-then-not-has_words-clause-read g c =
 pub returns-in_err-read-clause-read : goal.returns-in_err-read-clause-read
 returns-in_err-read-clause-read g c =
     let p = err_from_is_err_and c.from_residual-in_err-read.result c.from_residual-in_err-read.ensures.1 in
-    rw (p.1, p.2) (stops (λ ws. true) g.I.Item.read_at c.in_err-read.field-0.0 c.loop.items.items c.args.count c.loop.counter c.loop.self (many_at g.I.Item.read_at c.args.count c.args.self.now) c.loop-test.true refl c.in_err-read.ensures c.loop.invariant)
+    rw (p.1, p.2) (stops (λ ws. true) g.I.Item.read_at c.in_err-read.field-0.0 c.loop.items.items c.args.count c.loop.counter c.loop.self (many_at g.I.Item.read_at c.args.count c.args.self.now) (many_may_lack c.args.count c.args.self.now) false c.loop-test.true refl (λ e. absurd cc) c.in_err-read.ensures c.loop.invariant)
 
 pub loop-preserved : goal.loop-preserved
 loop-preserved g c =
