@@ -36,7 +36,7 @@ module _ {S D A T P R L M : Type 0} {s : data_trait.Ghosts S A} {d : dimension.G
 
   -- an answer that lacks nothing but memory: the question isn't refused, and its answer takes some
   abbrev pub AnswerLacksOnlyMemory : Asking A → ArrayBase S D T A P R L M s d n r t → Type 0
-  AnswerLacksOnlyMemory question a = (first_failed (question_tests question (shape_of a)) ≡ None) × (answers_in_memory question (meaning_of a) ≡ true)
+  AnswerLacksOnlyMemory question a = (first_failed (question_tests question (shape_of a)) ≡ None) × IsTrue (answers_in_memory question (meaning_of a))
 
   -- an act through a path: the first cause against both, or the act
   abbrev pub WritesAlong : {E : Type 0} → List AskedStep → Acting A → ArrayBase S D T A P R L M s d n r t → ArrayBase S D T A P R L M s d n r t → Result (Option Cause) E → Type 0

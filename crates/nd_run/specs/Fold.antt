@@ -1,6 +1,6 @@
 -- What a list of calls answers, and what it leaves of an array's meaning: a fold over the calls. No view, borrow
 -- or storage occurs.
-use Rattle.std.specs.Prelude.{◌≡◌, ◌<◌, ◌+◌, ◌^◌, ◌==◌, ℕ, nat_lt, nat_le, slice_index, slice_set, length, vec_capacity, Bool, Option, None, is_some, true, false, not, ◌||◌, List, [], ◌∷◌, ◌++◌, Result, Ok, Err, ◌⊎◌}
+use Rattle.std.specs.Prelude.{◌≡◌, ◌<◌, ◌+◌, ◌^◌, ◌==◌, ℕ, nat_lt, nat_le, slice_index, slice_set, length, vec_capacity, Bool, Option, None, is_some, true, false, not, ◌||◌, List, [], ◌∷◌, ◌++◌, Result, Ok, Err, ◌⊎◌, IsTrue}
 use Rattle.nd_shape_and_slice.specs.Shape.{in_box}
 use Rattle.nd_array_core.specs.Meaning.{Meaning, meaning_through}
 use Rattle.nd_shape_and_slice.specs.FirstIndex.{first_index}
@@ -213,7 +213,7 @@ meaning_after eq call m = (given_by (outcome eq call m) m).1
 
 -- a call that lacks nothing but memory: it isn't refused, and it takes some
 abbrev pub LacksOnlyMemory : {A : Type 0} → Asked A → Meaning A → Type 0
-LacksOnlyMemory call m = (first_failed (tests_for call m.shape) ≡ None) × (takes_memory call m ≡ true)
+LacksOnlyMemory call m = (first_failed (tests_for call m.shape) ≡ None) × IsTrue (takes_memory call m)
 
 -- the code carried out a call: its reply, and what it made of m, are those of the call
 abbrev pub IsCarriedOut : {A : Type 0} → (A → A → Bool) → Asked A → Meaning A → Meaning A → Reply A → Type 0

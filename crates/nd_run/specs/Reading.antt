@@ -1,5 +1,5 @@
 -- Reading the words of a line from left to right. A reader answers what it read and the words that are left.
-use Rattle.std.specs.Prelude.{◌≡◌, ◌<◌, ℕ, zero, suc, ◌^◌, ◌&&◌, ◌||◌, Bool, true, false, nat_le, nat_lt, List, [], ◌∷◌, ℤ, Option, None, Some, Result, Ok, Err, codes, length, if◌then◌else◌}
+use Rattle.std.specs.Prelude.{◌≡◌, ◌<◌, ℕ, zero, suc, ◌^◌, ◌&&◌, ◌||◌, Bool, true, false, nat_le, nat_lt, List, [], ◌∷◌, ℤ, Option, None, Some, Result, Ok, Err, codes, length, if◌then◌else◌, IsTrue}
 use Rattle.std.specs.Str.{bytes_eq}
 use Rattle.std.specs.Option.{option_map}
 use Rattle.nd_shape_and_slice.specs.declared.TheConstants.{MAX_AXES}
@@ -24,7 +24,7 @@ pub use Rattle.nd_text.specs.Words.{◌>>=◌, first_as}
 
 -- A reader of the code fails as reading does, or for want of memory, where some is taken.
 abbrev pub Fails : {Y : Type 0} → Bool → LineFault → Option Y → Type 0
-Fails takes Memory read = takes ≡ true
+Fails takes Memory read = IsTrue takes
 Fails takes Bad read = read ≡ None
 
 -- What a reader of the code returned, seen by view, is what reading gives, unless memory ran out.
@@ -273,7 +273,7 @@ list_may_lack words = read_then (first_as nat_of words) many_may_lack
 
 -- at most 32 lengths, or the element of an array without axes
 abbrev pub parts_may_lack : ℕ → List (List ℕ) → Bool
-parts_may_lack n words = nat_le n 32 && (nat_lt 0 (length words) && nat_le n (length words))
+parts_may_lack n words = nat_le n MAX_AXES && (nat_lt 0 (length words) && nat_le n (length words))
 
 abbrev pub array_may_lack : List (List ℕ) → Bool
 array_may_lack words = read_then (first_as nat_of words) parts_may_lack

@@ -1,5 +1,5 @@
 -- A script: a line that starts with an array, and a call in each later line with words.
-use Rattle.std.specs.Prelude.{◌≡◌, ℕ, ◌+◌, Bool, true, false, List, [], ◌∷◌, ◌++◌, length, ℤ, Option, None, Some, Result, Ok, Err, ◌⊎◌, if◌then◌else◌}
+use Rattle.std.specs.Prelude.{◌≡◌, ℕ, ◌+◌, Bool, true, false, List, [], ◌∷◌, ◌++◌, length, ℤ, Option, None, Some, Result, Ok, Err, ◌⊎◌, if◌then◌else◌, IsTrue}
 use Rattle.nd_array_core.specs.Meaning.{Meaning, meaning_of}
 use Rattle.nd_run.specs.declared.reader.fault.ScriptError.{ScriptError}
 use Rattle.nd_run.specs.declared.reader.fault.ScriptError.TheVariants.{BadLine, Memory}
@@ -50,11 +50,11 @@ IsFirstBad lines bad = IsBadFrom 1 lines bad
 
 -- a line for whose words memory is taken, where they are to start a script
 abbrev pub StartMayLack : List ℕ → Type 0
-StartMayLack line = start_may_lack (words_of line) ≡ true
+StartMayLack line = IsTrue (start_may_lack (words_of line))
 
 -- where they are to be a call; or they are one, and memory is taken for its place in the list of calls
 abbrev pub CallMayLack : List ℕ → Type 0
-CallMayLack line = (call_may_lack (words_of line) ≡ true) ⊎ ((call : Asked ℤ) × IsCall (words_of line) call)
+CallMayLack line = IsTrue (call_may_lack (words_of line)) ⊎ ((call : Asked ℤ) × IsCall (words_of line) call)
 
 -- Where reading may lack memory: in a line that takes some, behind lines that can be read.
 abbrev pub MayLackIn : List (List ℕ) → Type 0

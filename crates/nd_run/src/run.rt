@@ -1,6 +1,6 @@
 //! A list of calls on one array.
 
-ghost use Rattle.std.specs.Prelude.{◌≡◌, ◌≤◌, nat_lt, map, length, vec_capacity, true, [], None, is_some, IfOk, IfErr, OnErr};
+ghost use Rattle.std.specs.Prelude.{◌≡◌, ◌≤◌, nat_lt, map, length, vec_capacity, [], None, is_some, IfOk, IfErr, OnErr, IsTrue};
 ghost use Rattle.std.specs.Option.{option_copied};
 ghost use Rattle.nd_array_core.specs.Meaning.{meaning_of, shape_of};
 ghost use Rattle.std.specs.List.{count_by, list_all};
@@ -54,7 +54,7 @@ fn elements<A: Clone + Drop>(
 fn told<A: Clone>(element: Option<&A>) -> Result<Reply<A>, AllocError>
     requires { (x y : A) → A.is_clone x y → y ≡ x }
     ensures reply { IfOk result (λ reply. said_reply reply ≡ SaidElement (option_copied element.entry)) }
-    ensures memory { OnErr result (is_some (option_copied element.entry) ≡ true) }
+    ensures memory { OnErr result (IsTrue (is_some (option_copied element.entry))) }
 {
     match element {
         Some(element) => Ok(Reply::Element(Some(element.clone()?))),

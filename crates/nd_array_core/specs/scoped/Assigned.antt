@@ -73,7 +73,7 @@ module _
   -- each index of the part has the patch's element. A search doesn't look into this word: beside the next but one it would go
   -- from the array to the patch and back with no end
   unfoldable pub AssignsPart : ArrayBase S D T A P R L M s d n r t → ArrayBase S D T A P R L M s d n r t → List SliceInfoElem → ArrayBase Z E U A Q X V W z e k x u → Type 0
-  AssignsPart old new slices patch = (i : List ℕ) → in_box (shape_after (shape_of old) slices) i ≡ true → element_at new (index_before (shape_of old) slices i) ≡ element_at patch i
+  AssignsPart old new slices patch = (i : List ℕ) → IsTrue (in_box (shape_after (shape_of old) slices) i) → element_at new (index_before (shape_of old) slices i) ≡ element_at patch i
 
   -- or its old element at some
   abbrev pub AssignsPartly : ArrayBase S D T A P R L M s d n r t → ArrayBase S D T A P R L M s d n r t → List SliceInfoElem → ArrayBase Z E U A Q X V W z e k x u → Type 0
