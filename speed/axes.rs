@@ -1,5 +1,5 @@
 //! Calls along either axis of square arrays in row-major (C) or column-major (F) order, of several sizes, beside plain loops
-//! that go along the memory.
+//! that go along the memory; `map_axis`, which hands out lane after lane, also beside one that does the same.
 
 use crate::row_of;
 use std::hint::black_box;
@@ -28,6 +28,20 @@ fn sums(items: &[i64], side: usize, across: bool) -> Vec<i64> {
     } else {
         items.chunks_exact(side).map(|row| row.iter().fold(0i64, |sum, x| sum.wrapping_add(*x))).collect()
     }
+}
+
+/// What a closure makes of the lanes across the memory's rows, each handed to it by itself, one after the other.
+fn by_lane<F: FnMut(&[i64], usize) -> i64>(items: &[i64], side: usize, mut of_lane: F) -> Vec<i64> {
+    (0..side).map(|nth| of_lane(&items[nth..][..(side - 1) * side + 1], side)).collect()
+}
+
+/// The sum of every `step`-th element.
+fn sum_of_lane(lane: &[i64], step: usize) -> i64 {
+    let mut sum = 0i64;
+    for place in (0..lane.len()).step_by(step) {
+        sum = sum.wrapping_add(lane[place]);
+    }
+    sum
 }
 
 /// Running sums the same way.
@@ -71,6 +85,20 @@ pub fn rows() {
             row_of(&format!("`map_axis` of `i64`: {name}, {side}"), 30, calls, &mut plain_sums, &mut |calls| unsafe {
                 nd_speed_lane_sums(place, count, lengths.as_ptr(), 2, axis, case, calls)
             });
+            if across {
+                row_of(
+                    &format!("`map_axis` of `i64` beside lane after lane: {name}, {side}"),
+                    30,
+                    calls,
+                    &mut |calls| {
+                        for _ in 0..calls {
+                            black_box(by_lane(black_box(&items), lengths[0], sum_of_lane));
+                        }
+                        1
+                    },
+                    &mut |calls| unsafe { nd_speed_lane_sums(place, count, lengths.as_ptr(), 2, axis, case, calls) },
+                );
+            }
             row_of(
                 &format!("`accumulate_axis_inplace` of `i64`: {name}, {side}"),
                 30,

@@ -41,6 +41,7 @@ unsafe extern "C" {
     ) -> u64;
     fn nd_speed_fill_owned(rows: usize, columns: usize, calls: usize) -> u64;
     fn nd_speed_from_shape_fn(rows: usize, columns: usize, calls: usize) -> u64;
+    fn nd_speed_from_shape_fn_by_columns(rows: usize, columns: usize, calls: usize) -> u64;
     fn nd_speed_to_owned(
         items: *const i64,
         count: usize,
@@ -321,6 +322,21 @@ fn owned() {
             1
         },
         &mut |calls| unsafe { nd_speed_from_shape_fn(rows, columns, calls) },
+    );
+    let name = "`from_shape_fn` of `usize`, the sum of the coordinates in column-major order";
+    row(
+        name,
+        &mut |calls| {
+            for _ in 0..calls {
+                let mut items = Vec::with_capacity(rows * columns);
+                for column in 0..columns {
+                    items.extend((0..rows).map(|row| row.wrapping_add(column)));
+                }
+                black_box(&items);
+            }
+            1
+        },
+        &mut |calls| unsafe { nd_speed_from_shape_fn_by_columns(rows, columns, calls) },
     );
 }
 

@@ -6,7 +6,7 @@ ghost use Rattle.nd_array_core.specs.Meaning.{element_at};
 ghost use Rattle.nd_array_core.specs.base.Fresh.{ClonesOfAllAreEqual};
 
 use nd_array_core::{Array, ArrayView, ArrayView2};
-use nd_shape_and_slice::{Axis, Ix2, Slice, size_of_shape_checked, slice_fits};
+use nd_shape_and_slice::{Axis, Ix2, ShapeBuilder, Slice, size_of_shape_checked, slice_fits};
 use std::alloc::Global;
 
 /// The part that is timed; None where there are too few elements, or the step doesn't fit.
@@ -189,6 +189,29 @@ pub extern "C" fn nd_speed_from_shape_fn(
             return 0;
         }
         match Array::from_shape_fn(alloc, (rows, columns), |(row, column)| {
+            row.wrapping_add(column)
+        }) {
+            Ok(table) => sum = sum.wrapping_add(table.len() as u64),
+            Err(_) => return 0,
+        }
+    }
+    sum
+}
+
+/// The same in column-major order.
+#[unsafe(no_mangle)]
+pub extern "C" fn nd_speed_from_shape_fn_by_columns(
+    alloc: Global,
+    rows: usize,
+    columns: usize,
+    calls: usize,
+) -> u64 {
+    let mut sum: u64 = 0;
+    for _ in 0..calls {
+        if size_of_shape_checked(&[rows, columns]).is_err() {
+            return 0;
+        }
+        match Array::from_shape_fn(alloc, (rows, columns).f(), |(row, column)| {
             row.wrapping_add(column)
         }) {
             Ok(table) => sum = sum.wrapping_add(table.len() as u64),
