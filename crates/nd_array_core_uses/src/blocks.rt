@@ -9,7 +9,7 @@ use nd_array_core::{Array2, ArrayBase, DataMut};
 use nd_shape_and_slice::{Ix2, NoMemory, Slice, slices};
 
 /// Fills a rectangle of an image: the rows from one up to another, in the columns from one up to another.
-#[tactic(auto)]
+#[tactic(auto, using(std::proofs::lemmas::Bool::Decides::nat_tests, nd_array_core::proofs::Axes::known_axes))]
 pub fn fill_rectangle<A: Clone + Drop, S: DataMut<Elem = A>>(
     image: &mut ArrayBase<S, Ix2>,
     top: usize,
@@ -30,13 +30,12 @@ pub fn fill_rectangle<A: Clone + Drop, S: DataMut<Elem = A>>(
     ensures before { (row column : ℕ) → column < left → element_of_2 image.new row column ≡ element_of_2 image.old row column }
     ensures after { (row column : ℕ) → right ≤ column → element_of_2 image.new row column ≡ element_of_2 image.old row column }
 {
-    let (_rows, _columns) = image.dim();
     image.fill_slice(slices![top..bottom, left..right], colour)?;
     Ok(())
 }
 
 /// Fills every second column.
-#[tactic(auto)]
+#[tactic(auto, using(std::proofs::lemmas::Bool::Decides::nat_tests, nd_array_core::proofs::Axes::known_axes))]
 pub fn fill_every_second_column<A: Clone + Drop, S: DataMut<Elem = A>>(
     image: &mut ArrayBase<S, Ix2>,
     colour: A,
@@ -46,13 +45,12 @@ pub fn fill_every_second_column<A: Clone + Drop, S: DataMut<Elem = A>>(
     ensures even { OnOk result ((i j : ℕ) → i < slice_index (shape_of image.old) 0 → j < slice_index (shape_of image.old) 1 → j % 2 ≡ 0 → element_of_2 image.new i j ≡ Some colour) }
     ensures odd { (i j : ℕ) → j % 2 ≡ 1 → element_of_2 image.new i j ≡ element_of_2 image.old i j }
 {
-    let (_rows, _columns) = image.dim();
     image.fill_slice(slices![.., Slice::from(..).step_by(2)], colour)?;
     Ok(())
 }
 
 /// Fills the two blocks on the diagonal of a matrix that is cut at a row and a column of the same number.
-#[tactic(auto)]
+#[tactic(auto, using(std::proofs::lemmas::Bool::Decides::nat_tests, nd_array_core::proofs::Axes::rows_and_columns, nd_array_core::proofs::Axes::length_short))]
 pub fn fill_two_blocks(matrix: &mut Array2<i64>, cut: usize, value: i64) -> Result<(), NoMemory>
     requires rows { cut ≤ slice_index (shape_of matrix.old) 0 }
     requires columns { cut ≤ slice_index (shape_of matrix.old) 1 }
@@ -62,7 +60,6 @@ pub fn fill_two_blocks(matrix: &mut Array2<i64>, cut: usize, value: i64) -> Resu
     ensures above { (row column : ℕ) → row < cut → cut ≤ column → element_of_2 matrix.new row column ≡ element_of_2 matrix.old row column }
     ensures below { (row column : ℕ) → cut ≤ row → column < cut → element_of_2 matrix.new row column ≡ element_of_2 matrix.old row column }
 {
-    let (_rows, _columns) = matrix.dim();
     matrix.fill_slice(slices![..cut, ..cut], value)?;
     matrix.fill_slice(slices![cut.., cut..], value)?;
     Ok(())

@@ -56,7 +56,7 @@ fn fill_line<A: Clone + Drop, S: DataMut<Elem = A>>(
 
 /// Fills a row of the image; a negative number counts from the end. Every other index keeps its element. In ndarray:
 /// `image.slice_mut(s![row, ..]).fill(value)`.
-#[tactic(auto)]
+#[tactic(auto, using(std::proofs::lemmas::Bool::Decides::nat_tests, nd_array_core::proofs::Axes::known_axes))]
 pub fn fill_row<A: Clone + Drop, S: DataMut<Elem = A>>(
     image: &mut ArrayBase<S, Ix2>,
     row: isize,
@@ -68,13 +68,12 @@ pub fn fill_row<A: Clone + Drop, S: DataMut<Elem = A>>(
     ensures filled { OnOk result ((i : List ℕ) → IsTrue (in_row (shape_of image.old) row i) → element_at image.new i ≡ Some value.now) }
     ensures kept { (i : List ℕ) → in_row (shape_of image.old) row i ≡ false → element_at image.new i ≡ element_at image.old i }
 {
-    let _size = rows_and_columns(image);
     fill_line(image, &[SliceInfoElem::Index(row), ALL], value)
 }
 
 /// Fills a column that the image has, counted from the end where its number is negative; every other index keeps its
 /// element. In ndarray: `image.slice_mut(s![.., column]).fill(value)`.
-#[tactic(auto)]
+#[tactic(auto, using(std::proofs::lemmas::Bool::Decides::nat_tests, nd_array_core::proofs::Axes::known_axes))]
 pub fn fill_column<A: Clone + Drop, S: DataMut<Elem = A>>(
     image: &mut ArrayBase<S, Ix2>,
     column: isize,
@@ -86,7 +85,6 @@ pub fn fill_column<A: Clone + Drop, S: DataMut<Elem = A>>(
     ensures filled { OnOk result ((i : List ℕ) → IsTrue (in_column (shape_of image.old) column i) → element_at image.new i ≡ Some value.now) }
     ensures kept { (i : List ℕ) → in_column (shape_of image.old) column i ≡ false → element_at image.new i ≡ element_at image.old i }
 {
-    let _size = rows_and_columns(image);
     fill_line(image, &[ALL, SliceInfoElem::Index(column)], value)
 }
 

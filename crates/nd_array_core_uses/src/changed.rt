@@ -9,7 +9,7 @@ use nd_array_core::{ArrayBase, Data, DataMut};
 use nd_shape_and_slice::{Ix2, NoMemory, slices};
 
 /// Doubles the pixels of a rectangle, modulo 2 to the 64th.
-#[tactic(auto)]
+#[tactic(auto, using(std::proofs::lemmas::Bool::Decides::nat_tests, nd_array_core::proofs::Axes::known_axes))]
 pub fn double_rectangle<S: DataMut<Elem = u64>>(
     image: &mut ArrayBase<S, Ix2>,
     top: usize,
@@ -26,7 +26,6 @@ pub fn double_rectangle<S: DataMut<Elem = u64>>(
     ensures above { (row column : ℕ) → row < top → element_of_2 image.new row column ≡ element_of_2 image.old row column }
     ensures after { (row column : ℕ) → right ≤ column → element_of_2 image.new row column ≡ element_of_2 image.old row column }
 {
-    let (_rows, _columns) = image.dim();
     image.map_slice(
         slices![top..bottom, left..right],
         |x| *x = x.wrapping_mul(2),
@@ -34,7 +33,7 @@ pub fn double_rectangle<S: DataMut<Elem = u64>>(
 }
 
 /// Writes a patch into an image, its first pixel at a row and a column. NoMemory if a clone is refused.
-#[tactic(auto, using(std::proofs::lemmas::Bool::Decides::nat_tests))]
+#[tactic(auto, using(std::proofs::lemmas::Bool::Decides::nat_tests, nd_array_core::proofs::Axes::known_axes))]
 pub fn patch_rectangle<A: Clone + Drop, S: DataMut<Elem = A>, Z: Data<Elem = A>>(
     image: &mut ArrayBase<S, Ix2>,
     patch: &ArrayBase<Z, Ix2>,
@@ -51,7 +50,6 @@ pub fn patch_rectangle<A: Clone + Drop, S: DataMut<Elem = A>, Z: Data<Elem = A>>
     ensures before { (row column : ℕ) → column < left → element_of_2 image.new row column ≡ element_of_2 image.old row column }
     ensures after { (row column : ℕ) → left + slice_index (shape_of patch.now) 1 ≤ column → element_of_2 image.new row column ≡ element_of_2 image.old row column }
 {
-    let (_rows, _columns) = image.dim();
     let (rows, columns) = patch.dim();
     image.assign_slice(slices![top..top + rows, left..left + columns], patch)?;
     Ok(())

@@ -19,7 +19,7 @@ pub fn turn_half<S: Data>(image: &mut ArrayBase<S, Ix2>)
 }
 
 /// The part of an image from one row up to another, and from one column up to another.
-#[tactic(auto)]
+#[tactic(auto, using(std::proofs::lemmas::Bool::Decides::nat_tests, nd_array_core::proofs::Axes::known_axes))]
 pub fn crop<'a, S: Data>(
     image: &'a ArrayBase<S, Ix2>,
     top: usize,
@@ -34,12 +34,11 @@ pub fn crop<'a, S: Data>(
     ensures shape { HasRowsAndColumns result (bottom - top) (right - left) }
     ensures elements { (row column : ℕ) → row < bottom - top → column < right - left → element_of_2 result row column ≡ element_of_2 image.now (top + row) (left + column) }
 {
-    let (_rows, _columns) = image.dim();
     image.slice(s![top..bottom, left..right])
 }
 
 /// The same, one axis after the other.
-#[tactic(auto)]
+#[tactic(auto, using(std::proofs::lemmas::Bool::Decides::nat_tests, nd_array_core::proofs::Axes::known_axes))]
 pub fn crop_by_axes<'a, S: Data>(
     image: &'a ArrayBase<S, Ix2>,
     top: usize,
@@ -54,7 +53,6 @@ pub fn crop_by_axes<'a, S: Data>(
     ensures shape { HasRowsAndColumns result (bottom - top) (right - left) }
     ensures elements { (row column : ℕ) → row < bottom - top → column < right - left → element_of_2 result row column ≡ element_of_2 image.now (top + row) (left + column) }
 {
-    let (_rows, _columns) = image.dim();
     let rows = image.slice_axis(Axis(0), Slice::between(top, bottom));
     rows.slice_axis_move(Axis(1), Slice::between(left, right))
 }
@@ -133,7 +131,7 @@ pub fn transpose_then_row<S: Data>(image: ArrayBase<S, Ix2>, row: usize) -> Arra
 }
 
 /// A part of a row of the transposed image, by three calls: a part of a column.
-#[tactic(auto)]
+#[tactic(auto, using(std::proofs::lemmas::Bool::Decides::nat_tests, nd_array_core::proofs::Axes::known_axes))]
 pub fn part_of_transposed_row<S: Data>(
     image: &ArrayBase<S, Ix2>,
     row: usize,
@@ -145,7 +143,6 @@ pub fn part_of_transposed_row<S: Data>(
     requires to { to ≤ slice_index (shape_of image.now) 0 }
     ensures elements { (i : ℕ) → i < to - from → element_of_1 result i ≡ element_of_2 image.now (from + i) row }
 {
-    let (_rows, _columns) = image.dim();
     let part = image.t().slice_axis_move(Axis(1), Slice::between(from, to));
     part.index_axis_move(Axis(0), row)
 }
@@ -158,13 +155,12 @@ pub fn corner<S: Data, D: Dimension>(array: &ArrayBase<S, D>) -> Option<&S::Elem
 }
 
 /// One channel of an image that has three axes: rows, columns and channels.
-#[tactic(auto)]
+#[tactic(auto, using(std::proofs::lemmas::Bool::Decides::nat_tests, nd_array_core::proofs::Axes::known_axes))]
 pub fn channel<S: Data>(image: &ArrayBase<S, Ix3>, channel: usize) -> ArrayView2<'_, S::Elem>
     requires { channel < slice_index (shape_of image.now) 2 }
     ensures shape { HasRowsAndColumns result (slice_index (shape_of image.now) 0) (slice_index (shape_of image.now) 1) }
     ensures elements { (row column : ℕ) → row < slice_index (shape_of image.now) 0 → column < slice_index (shape_of image.now) 1 → element_of_2 result row column ≡ element_of_3 image.now row column channel }
 {
-    let (_rows, _columns, _channels) = image.dim();
     image.slice(s![.., .., channel])
 }
 

@@ -49,6 +49,7 @@ impl<'a, A, S: Data<Elem = A>> Model for Parts<'a, A, S> {
 }
 
 /// So many rows and columns of a table from a row and a column on, in coordinates.
+#[tactic(auto, using(std::proofs::lemmas::Bool::Decides::nat_tests, nd_array_core::proofs::Axes::known_axes))]
 fn cut_at<A, S: Data<Elem = A>>(
     table: &ArrayBase<S, Ix2>,
     top: usize,
@@ -62,7 +63,6 @@ fn cut_at<A, S: Data<Elem = A>>(
     ensures elements { (row column : ℕ) → row < height → column < width → element_of_2 result row column ≡ element_of_2 table.now (top + row) (left + column) }
     ensures outside { NothingOutside (meaning_of result) }
 {
-    let (_rows, _columns) = table.dim();
     let part = table.slice(s![top..top + height, left..left + width]);
     nothing_outside(&part);
     part

@@ -1,7 +1,8 @@
-use Rattle.std.proofs.Common.{FitsSigned, w64, rules, ap}
+use Rattle.std.proofs.Common.{FitsSigned, w64, rules, ap, slice_index}
 use Rattle.std.proofs.lemmas.Int.{to_z-of_z}
 use Rattle.std.proofs.lemmas.Result.{on_ok_weaker}
 use Rattle.nd_array_core.specs.Meaning.{shape_of, element_at}
+use Rattle.nd_array_core.proofs.Axes.{rows_and_columns}
 use Rattle.nd_array_core_uses.proofs.Lines.{row_of, row_filled_of}
 use Rattle.nd_array_core_uses.proofs.border.fill_row.Goals as goal
 
@@ -9,5 +10,4 @@ pub returns-clause-filled : goal.returns-clause-filled
 returns-clause-filled g c =
     let k = c.args.row in
     let fits : FitsSigned w64 k = search rules in
-    let size = c.rows_and_columns-size in
-    on_ok_weaker c.fill_line.result (λ filled. row_filled_of size.result.0 size.result.1 k (shape_of c.args.image.now) _ c.args.value.now (element_at c.fill_line.new.image) size.ensures (ap row_of (to_z-of_z w64 k fits)) c.requires.there filled) c.fill_line.ensures.filled
+    on_ok_weaker c.fill_line.result (λ filled. row_filled_of (slice_index (shape_of c.args.image.now) 0) (slice_index (shape_of c.args.image.now) 1) k (shape_of c.args.image.now) _ c.args.value.now (element_at c.fill_line.new.image) (rows_and_columns c.args.image.now) (ap row_of (to_z-of_z w64 k fits)) c.requires.there filled) c.fill_line.ensures.filled
