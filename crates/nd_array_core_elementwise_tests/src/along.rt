@@ -2,6 +2,7 @@
 
 ghost use Rattle.std.specs.Prelude.{◌≡◌, ◌∷◌, []};
 ghost use Rattle.nd_array_core.specs.Meaning.{shape_of};
+ghost use Rattle.nd_array_core.specs.base.Fresh.{EachCloneIsEqual};
 
 use nd_array_core::Array2;
 use nd_shape_and_slice::{Axis, ShapeBuilder};
@@ -15,7 +16,7 @@ fn rows_chosen<A: Numbered + Clone + Drop>(
     alloc: Global,
     table: &Array2<A>,
 ) -> Result<Vec<u64>, Fail>
-    requires clones { (x y : A) → A.is_clone x y → y ≡ x }
+    requires clones { EachCloneIsEqual A.is_clone }
     requires shape { shape_of table.now ≡ 3 ∷ 2 ∷ [] }
 {
     match table.select(alloc, Axis(0), &[2, 0, 2]) {

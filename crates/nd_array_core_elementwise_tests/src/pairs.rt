@@ -2,6 +2,7 @@
 
 ghost use Rattle.std.specs.Prelude.{◌≡◌};
 ghost use Rattle.nd_array_core.specs.Meaning.{shape_of};
+ghost use Rattle.nd_array_core.specs.base.Fresh.{EachCloneIsEqual};
 
 use nd_array_core::{Array1, Array2, ArrayBase, Data, DataMut};
 use nd_shape_and_slice::{Axis, Dimension, ShapeBuilder, Slice, slice_fits};
@@ -47,7 +48,7 @@ fn assigned<S: DataMut<Elem = u64>, D: Dimension, Z: Data<Elem = u64>, E: Dimens
 
 /// Copies a row to each row of an image, and tells whether no clone was refused.
 fn row_assigned<A: Clone + Drop>(image: &mut Array2<A>, row: &Array1<A>) -> Result<bool, Fail>
-    requires { (x y : A) → A.is_clone x y → y ≡ x }
+    requires { EachCloneIsEqual A.is_clone }
 {
     match row.broadcast(image.raw_dim()) {
         Some(_) => {}

@@ -1,6 +1,7 @@
 //! Arrays put behind one another along an axis, and where their elements then lie.
 
 ghost use Rattle.std.specs.Prelude.{◌≡◌};
+ghost use Rattle.nd_array_core.specs.base.Fresh.{EachCloneIsEqual};
 
 use crate::growth::{End, end_of};
 use nd_array_core::{Array, Array1, Array2, ArrayD};
@@ -173,7 +174,7 @@ fn rows_and_columns_behind_tables(rt: HostRuntime) {
 
 /// Whether columns could be put behind those of a table.
 fn widens<A: Numbered + Clone + Drop>(table: &mut Array2<A>, more: &Array2<A>) -> bool
-    requires clones { (x y : A) → A.is_clone x y → y ≡ x }
+    requires clones { EachCloneIsEqual A.is_clone }
 {
     let _extents = table.dim();
     table.append(Axis(1), more.view()).is_ok()

@@ -1,6 +1,7 @@
 //! Arrays that are broadcast to come behind others, and those that can't be.
 
 ghost use Rattle.std.specs.Prelude.{◌≡◌};
+ghost use Rattle.nd_array_core.specs.base.Fresh.{EachCloneIsEqual};
 
 use crate::appends::counted;
 use crate::growth::{End, end_of};
@@ -14,7 +15,7 @@ fn end_behind<A: Numbered + Clone + Drop>(
     axis: usize,
     more: &Array2<A>,
 ) -> End
-    requires clones { (x y : A) → A.is_clone x y → y ≡ x }
+    requires clones { EachCloneIsEqual A.is_clone }
 {
     let (_rows, _columns) = array.dim();
     if axis < 2 {

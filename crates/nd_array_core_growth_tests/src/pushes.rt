@@ -1,6 +1,7 @@
 //! Rows and columns behind tables, and several arrays behind one another: what they show and how it lies.
 
 ghost use Rattle.std.specs.Prelude.{◌≡◌};
+ghost use Rattle.nd_array_core.specs.base.Fresh.{EachCloneIsEqual};
 
 use crate::growth::{End, end_of};
 use nd_array_core::{Array1, Array2, ArrayD, ArrayError};
@@ -148,7 +149,7 @@ fn lists_in_room_that_was_reserved(rt: HostRuntime) {
 
 /// Whether a row could be put behind those of a table.
 fn lengthens<A: Numbered + Clone + Drop>(table: &mut Array2<A>, row: &Array1<A>) -> bool
-    requires clones { (x y : A) → A.is_clone x y → y ≡ x }
+    requires clones { EachCloneIsEqual A.is_clone }
 {
     table.push_row(row.view()).is_ok()
 }

@@ -1,6 +1,7 @@
 //! Reshapes of numbers whose clones are refused: a view and a kept storage clone nothing, and a copy wants each clone.
 
 ghost use Rattle.std.specs.Prelude.{◌≡◌};
+ghost use Rattle.nd_array_core.specs.base.Fresh.{EachCloneIsEqual};
 
 use nd_array_core::{Array1, Array2, ArrayBase, ArrayError, Data, ViewOrOwned};
 use nd_shape_and_slice::{Axis, Dimension, NoMemory, Order, ShapeArg, Slice, slice_fits};
@@ -34,7 +35,7 @@ fn end_of_shape<A: Numbered + Clone + Drop, S: Data<Elem = A>, D: Dimension, E: 
     array: &ArrayBase<S, D>,
     shape: E,
 ) -> &'static str
-    requires { (x y : A) → A.is_clone x y → y ≡ x }
+    requires { EachCloneIsEqual A.is_clone }
 {
     end_of(&array.to_shape(alloc, shape))
 }
@@ -45,7 +46,7 @@ fn two_columns<A: Numbered + Clone + Drop, E: ShapeArg + Drop>(
     image: &Array2<A>,
     shape: E,
 ) -> &'static str
-    requires { (x y : A) → A.is_clone x y → y ≡ x }
+    requires { EachCloneIsEqual A.is_clone }
 {
     let (_rows, columns) = image.dim();
     let two = Slice::new(0, Some(2), 1);
@@ -62,7 +63,7 @@ fn end_of_way<A: Numbered + Clone + Drop>(
     image: &Array2<A>,
     way: u64,
 ) -> &'static str
-    requires { (x y : A) → A.is_clone x y → y ≡ x }
+    requires { EachCloneIsEqual A.is_clone }
 {
     match way {
         0 => two_columns(alloc, image, 4),
@@ -113,7 +114,7 @@ fn end_of_line<A: Numbered + Clone + Drop>(
     line: &mut Array1<A>,
     rows: usize,
 ) -> &'static str
-    requires { (x y : A) → A.is_clone x y → y ≡ x }
+    requires { EachCloneIsEqual A.is_clone }
 {
     let count = line.dim();
     if rows == 0 {

@@ -16,6 +16,7 @@ ghost use Rattle.nd_array_core.specs.along.LanesWritten.{lane_held, held_at, IsS
 ghost use Rattle.nd_array_core.specs.elements.Maps.{IsMappedBy};
 ghost use Rattle.nd_array_core.specs.elements.Pairs.{option_both};
 ghost use Rattle.nd_array_core_uses.specs.Lanes.{zero_first, first_or_0};
+ghost use Rattle.nd_array_core.specs.base.Fresh.{EachCloneIsEqual};
 
 use crate::folded::wrapping_sum;
 use nd_array_core::laws::lanes_are_folded;
@@ -29,7 +30,7 @@ pub fn rows_chosen<A: Clone + Drop, S: Data<Elem = A>>(
     table: &ArrayBase<S, Ix2>,
     numbers: &[usize],
 ) -> Result<Array2<A>, NoMemory>
-    requires clones { (x copy : A) → A.is_clone x copy → copy ≡ x }
+    requires clones { EachCloneIsEqual A.is_clone }
     requires numbers { AreCoordinates (shape_of table.now) 0 numbers.now }
     requires checked { HasCheckedSize (selected_shape (shape_of table.now) 0 numbers.now) }
     ensures shape { IfOk result (λ chosen. shape_of chosen ≡ length numbers.now ∷ slice_index (shape_of table.now) 1 ∷ []) }

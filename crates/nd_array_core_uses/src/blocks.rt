@@ -3,6 +3,7 @@
 ghost use Rattle.std.specs.Prelude.{◌≡◌, ◌≢◌, ◌<◌, ◌≤◌, ◌%◌, ◌/◌, ℕ, slice_index, Some, OnOk};
 ghost use Rattle.nd_array_core.specs.Meaning.{shape_of};
 ghost use Rattle.nd_array_core.specs.Coordinates.{element_of_2};
+ghost use Rattle.nd_array_core.specs.base.Fresh.{ClonesAreEqual};
 
 use nd_array_core::laws::quotients;
 use nd_array_core::{Array2, ArrayBase, DataMut};
@@ -18,7 +19,7 @@ pub fn fill_rectangle<A: Clone + Drop, S: DataMut<Elem = A>>(
     right: usize,
     colour: A,
 ) -> Result<(), NoMemory>
-    requires clones { (copy : A) → A.is_clone colour copy → copy ≡ colour }
+    requires clones { ClonesAreEqual A.is_clone colour }
     requires rows { top ≤ bottom }
     requires rows_within { bottom ≤ slice_index (shape_of image.old) 0 }
     requires columns { left ≤ right }
@@ -40,7 +41,7 @@ pub fn fill_every_second_column<A: Clone + Drop, S: DataMut<Elem = A>>(
     image: &mut ArrayBase<S, Ix2>,
     colour: A,
 ) -> Result<(), NoMemory>
-    requires clones { (copy : A) → A.is_clone colour copy → copy ≡ colour }
+    requires clones { ClonesAreEqual A.is_clone colour }
     ensures shape { shape_of image.new ≡ shape_of image.old }
     ensures even { OnOk result ((i j : ℕ) → i < slice_index (shape_of image.old) 0 → j < slice_index (shape_of image.old) 1 → j % 2 ≡ 0 → element_of_2 image.new i j ≡ Some colour) }
     ensures odd { (i j : ℕ) → j % 2 ≡ 1 → element_of_2 image.new i j ≡ element_of_2 image.old i j }

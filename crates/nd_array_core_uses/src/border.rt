@@ -5,6 +5,7 @@ ghost use Rattle.nd_array_core.specs.Meaning.{shape_of, element_at};
 ghost use Rattle.nd_array_core.specs.scoped.PartTasks.{IsFilledWith, KeepsBut};
 ghost use Rattle.nd_array_core.specs.Part.{sliced_part};
 ghost use Rattle.nd_array_core_uses.specs.Painting.{in_row, in_column, is_border};
+ghost use Rattle.nd_array_core.specs.base.Fresh.{ClonesAreEqual};
 
 use nd_array_core::{ArrayBase, Data, DataMut};
 use nd_shape_and_slice::{Ix1, Ix2, NoMemory, SliceInfo, SliceInfoElem};
@@ -24,7 +25,7 @@ fn rows_and_columns<S: Data>(image: &ArrayBase<S, Ix2>) -> (usize, usize)
 
 /// A clone of a value.
 fn copy_of<A: Clone>(value: &A) -> Result<A, NoMemory>
-    requires { (copy : A) → A.is_clone value.now copy → copy ≡ value.now }
+    requires { ClonesAreEqual A.is_clone value.now }
     ensures { IfOk result (λ copy. copy ≡ value.now) }
 {
     match value.clone() {
@@ -42,7 +43,7 @@ fn fill_line<A: Clone + Drop, S: DataMut<Elem = A>>(
     requires reads { axes_read list.now ≡ 2 }
     requires keeps { axes_kept list.now ≡ 1 }
     requires fits { IsTrue (fits_shape (shape_of image.old) list.now) }
-    requires clones { (copy : A) → A.is_clone value.now copy → copy ≡ value.now }
+    requires clones { ClonesAreEqual A.is_clone value.now }
     ensures shape { shape_of image.new ≡ shape_of image.old }
     ensures filled { OnOk result (IsFilledWith image.new (sliced_part image.old list.now) value.now) }
     ensures kept { KeepsBut image.old image.new (sliced_part image.old list.now) }
@@ -63,7 +64,7 @@ pub fn fill_row<A: Clone + Drop, S: DataMut<Elem = A>>(
     value: &A,
 ) -> Result<(), NoMemory>
     requires there { IsTrue (is_some (coordinate_on (slice_index (shape_of image.old) 0) row)) }
-    requires clones { (copy : A) → A.is_clone value.now copy → copy ≡ value.now }
+    requires clones { ClonesAreEqual A.is_clone value.now }
     ensures shape { shape_of image.new ≡ shape_of image.old }
     ensures filled { OnOk result ((i : List ℕ) → IsTrue (in_row (shape_of image.old) row i) → element_at image.new i ≡ Some value.now) }
     ensures kept { (i : List ℕ) → in_row (shape_of image.old) row i ≡ false → element_at image.new i ≡ element_at image.old i }
@@ -80,7 +81,7 @@ pub fn fill_column<A: Clone + Drop, S: DataMut<Elem = A>>(
     value: &A,
 ) -> Result<(), NoMemory>
     requires there { IsTrue (is_some (coordinate_on (slice_index (shape_of image.old) 1) column)) }
-    requires clones { (copy : A) → A.is_clone value.now copy → copy ≡ value.now }
+    requires clones { ClonesAreEqual A.is_clone value.now }
     ensures shape { shape_of image.new ≡ shape_of image.old }
     ensures filled { OnOk result ((i : List ℕ) → IsTrue (in_column (shape_of image.old) column i) → element_at image.new i ≡ Some value.now) }
     ensures kept { (i : List ℕ) → in_column (shape_of image.old) column i ≡ false → element_at image.new i ≡ element_at image.old i }
@@ -94,7 +95,7 @@ pub fn draw_border<A: Clone + Drop, S: DataMut<Elem = A>>(
     image: &mut ArrayBase<S, Ix2>,
     value: A,
 ) -> Result<(), NoMemory>
-    requires clones { (copy : A) → A.is_clone value copy → copy ≡ value }
+    requires clones { ClonesAreEqual A.is_clone value }
     ensures shape { shape_of image.new ≡ shape_of image.old }
     ensures drawn { OnOk result ((i : List ℕ) → IsTrue (is_border (shape_of image.old) i) → element_at image.new i ≡ Some value) }
     ensures kept { (i : List ℕ) → is_border (shape_of image.old) i ≡ false → element_at image.new i ≡ element_at image.old i }

@@ -56,7 +56,7 @@ pub fn patch_rectangle<A: Clone + Drop, S: DataMut<Elem = A>, Z: Data<Elem = A>>
 }
 
 /// Puts an image into the inside of a board that is wider and higher by two: its border stays. NoMemory if a clone is refused.
-#[tactic(auto, using(std::proofs::lemmas::Bool::Decides::nat_tests))]
+#[tactic(auto, using(std::proofs::lemmas::Bool::Decides::nat_tests, nd_array_core::proofs::Axes::known_axes))]
 pub fn put_inside<A: Clone + Drop, S: DataMut<Elem = A>, Z: Data<Elem = A>>(
     board: &mut ArrayBase<S, Ix2>,
     image: &ArrayBase<Z, Ix2>,
@@ -71,7 +71,6 @@ pub fn put_inside<A: Clone + Drop, S: DataMut<Elem = A>, Z: Data<Elem = A>>(
     ensures before { (row : ℕ) → element_of_2 board.new row 0 ≡ element_of_2 board.old row 0 }
     ensures after { (row column : ℕ) → column ≡ slice_index (shape_of image.now) 1 + 1 → element_of_2 board.new row column ≡ element_of_2 board.old row column }
 {
-    let (_rows, _columns) = board.dim();
     let (rows, columns) = image.dim();
     board.assign_slice(slices![1..rows + 1, 1..columns + 1], image)?;
     Ok(())

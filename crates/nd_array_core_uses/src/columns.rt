@@ -2,6 +2,7 @@
 ghost use Rattle.std.specs.Prelude.{◌≡◌, ◌%◌, ◌∷◌, [], ℕ, nat_eq, length, Some, OnOk, if◌then◌else◌, IsTrue};
 ghost use Rattle.nd_shape_and_slice.specs.Shape.{in_box};
 ghost use Rattle.nd_array_core.specs.Meaning.{shape_of, element_at};
+ghost use Rattle.nd_array_core.specs.base.Fresh.{ClonesAreEqual};
 
 use nd_array_core::{ArrayBase, DataMut};
 use nd_shape_and_slice::{IxDyn, NoMemory, SliceInfoElem};
@@ -24,7 +25,7 @@ pub fn paint_every_second_column<A: Clone + Drop, S: DataMut<Elem = A>>(
     colour: A,
 ) -> Result<(), NoMemory>
     requires two { length (shape_of grid.old) ≡ 2 }
-    requires clones { (copy : A) → A.is_clone colour copy → copy ≡ colour }
+    requires clones { ClonesAreEqual A.is_clone colour }
     ensures shape { shape_of grid.new ≡ shape_of grid.old }
     ensures painted { OnOk result ((row column : ℕ) → IsTrue (in_box (shape_of grid.old) (row ∷ column ∷ [])) → element_at grid.new (row ∷ column ∷ []) ≡ if nat_eq (column % 2) 0 then Some colour else element_at grid.old (row ∷ column ∷ [])) }
 {

@@ -3,6 +3,7 @@ ghost use Rattle.std.specs.Prelude.{◌≡◌, ℕ, reverse, IsTrue, IfOk};
 ghost use Rattle.nd_array_core.specs.Meaning.{meaning_of, shape_of};
 ghost use Rattle.nd_array_core.specs.Coordinates.{element_of_2};
 ghost use Rattle.nd_array_core_uses.specs.Images.{IsTransposed};
+ghost use Rattle.nd_array_core.specs.base.Fresh.{EachCloneIsEqual};
 
 use nd_array_core::{Array2, ArrayBase, Data};
 use nd_shape_and_slice::{Ix2, NoMemory};
@@ -13,7 +14,7 @@ pub fn transposed_copy<A: Clone + Drop, S: Data<Elem = A>>(
     alloc: Global,
     matrix: &ArrayBase<S, Ix2>,
 ) -> Result<Array2<A>, NoMemory>
-    requires clones { (x copy : A) → A.is_clone x copy → copy ≡ x }
+    requires clones { EachCloneIsEqual A.is_clone }
     ensures shape { IfOk result (λ copy. shape_of copy ≡ reverse (shape_of matrix.now)) }
     ensures elements { IfOk result (λ copy. (i j : ℕ) → element_of_2 copy i j ≡ element_of_2 matrix.now j i) }
     ensures transposed { IfOk result (λ copy. IsTransposed (meaning_of matrix.now) (meaning_of copy)) }
@@ -26,7 +27,7 @@ pub fn transposed_copy_is_equal<A: Clone + Eq + Drop, S: Data<Elem = A>>(
     alloc: Global,
     matrix: &ArrayBase<S, Ix2>,
 ) -> Result<bool, NoMemory>
-    requires clones { (x copy : A) → A.is_clone x copy → copy ≡ x }
+    requires clones { EachCloneIsEqual A.is_clone }
     ensures { IfOk result (λ equal. IsTrue equal) }
 {
     let copy = transposed_copy(alloc, matrix)?;

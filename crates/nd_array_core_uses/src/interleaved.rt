@@ -5,6 +5,7 @@ ghost use Rattle.nd_array_core.specs.Meaning.{shape_of, element_at};
 ghost use Rattle.nd_array_core.specs.layout.MultiSlice.{TwoFit};
 ghost use Rattle.nd_array_core.specs.scoped.PartTasks.{IsFilledWith, KeepsButTwo};
 ghost use Rattle.nd_array_core.specs.Part.{sliced_part};
+ghost use Rattle.nd_array_core.specs.base.Fresh.{ClonesAreEqual};
 
 use crate::two_parts::FillBoth;
 use nd_array_core::{ArrayBase, DataMut};
@@ -22,8 +23,8 @@ pub fn fill_slices<
     J: SliceArg<D>,
 >(array: &mut ArrayBase<S, D>, lists: (I, J), first: A, second: A) -> Result<(), NoMemory>
     requires fits { TwoFit (shape_of array.old) (I.elements_of lists.0) (J.elements_of lists.1) }
-    requires first { (copy : A) → A.is_clone first copy → copy ≡ first }
-    requires second { (copy : A) → A.is_clone second copy → copy ≡ second }
+    requires first { ClonesAreEqual A.is_clone first }
+    requires second { ClonesAreEqual A.is_clone second }
     ensures shape { shape_of array.new ≡ shape_of array.old }
     ensures first { OnOk result (IsFilledWith array.new (sliced_part array.old (I.elements_of lists.0)) first) }
     ensures second { OnOk result (IsFilledWith array.new (sliced_part array.old (J.elements_of lists.1)) second) }
@@ -41,8 +42,8 @@ pub fn try_fill_slices<
     I: SliceArg<D>,
     J: SliceArg<D>,
 >(array: &mut ArrayBase<S, D>, lists: (I, J), first: A, second: A) -> Option<Result<(), NoMemory>>
-    requires first { (copy : A) → A.is_clone first copy → copy ≡ first }
-    requires second { (copy : A) → A.is_clone second copy → copy ≡ second }
+    requires first { ClonesAreEqual A.is_clone first }
+    requires second { ClonesAreEqual A.is_clone second }
     ensures some { TwoFit (shape_of array.old) (I.elements_of lists.0) (J.elements_of lists.1) → IsSome result }
     ensures shape { shape_of array.new ≡ shape_of array.old }
     ensures first { IfSome result (λ done. OnOk done (IsFilledWith array.new (sliced_part array.old (I.elements_of lists.0)) first)) }
@@ -85,8 +86,8 @@ fn fill_rows<A: Clone + Drop, S: DataMut<Elem = A>, D: Dimension>(
     requires two { length (shape_of grid.old) ≡ 2 }
     requires rows { 0 < slice_index (shape_of grid.old) 0 }
     requires axes { IsTrue (D.has_axes 2) }
-    requires even { (copy : A) → A.is_clone even copy → copy ≡ even }
-    requires odd { (copy : A) → A.is_clone odd copy → copy ≡ odd }
+    requires even { ClonesAreEqual A.is_clone even }
+    requires odd { ClonesAreEqual A.is_clone odd }
     ensures shape { shape_of grid.new ≡ shape_of grid.old }
     ensures rows { OnOk result ((row column : ℕ) → IsTrue (in_box (shape_of grid.old) (row ∷ column ∷ [])) → element_at grid.new (row ∷ column ∷ []) ≡ Some (if nat_eq (row % 2) 0 then even else odd)) }
 {
@@ -105,8 +106,8 @@ pub fn interleave_rows<A: Clone + Drop, S: DataMut<Elem = A>>(
     even: A,
     odd: A,
 ) -> Result<(), NoMemory>
-    requires even { (copy : A) → A.is_clone even copy → copy ≡ even }
-    requires odd { (copy : A) → A.is_clone odd copy → copy ≡ odd }
+    requires even { ClonesAreEqual A.is_clone even }
+    requires odd { ClonesAreEqual A.is_clone odd }
     ensures shape { shape_of grid.new ≡ shape_of grid.old }
     ensures rows { OnOk result ((row column : ℕ) → IsTrue (in_box (shape_of grid.old) (row ∷ column ∷ [])) → element_at grid.new (row ∷ column ∷ []) ≡ Some (if nat_eq (row % 2) 0 then even else odd)) }
 {

@@ -2,6 +2,7 @@
 ghost use Rattle.std.specs.Prelude.{◌≡◌, OnOk, IfOk, IfErr};
 ghost use Rattle.nd_array_core.specs.scoped.Sources.{meant_by, KeepsUnseen};
 ghost use Rattle.nd_array_core_uses.specs.Slices.{IsFilledWhereSeen, IsFrontFilled};
+ghost use Rattle.nd_array_core.specs.base.Fresh.{ClonesAreEqual};
 
 use nd_array_core::scoped::{Fill, with_view_of};
 use nd_shape_and_slice::{Dimension, IntoStrideShape, NoMemory, ShapeError};
@@ -13,7 +14,7 @@ pub fn fill_seen<A: Clone + Drop, D: Dimension, Sh: IntoStrideShape<Dim = D>>(
     shape: Sh,
     value: A,
 ) -> Result<Result<(), NoMemory>, ShapeError>
-    requires clones { (copy : A) → A.is_clone value copy → copy ≡ value }
+    requires clones { ClonesAreEqual A.is_clone value }
     ensures unchanged { IfErr result (λ _. slice.new ≡ slice.old) }
     ensures filled { IfOk result (λ r. OnOk r (IsFilledWhereSeen slice.new (meant_by Sh.IntoStrideShape shape) value)) }
     ensures kept { KeepsUnseen slice.old slice.new (meant_by Sh.IntoStrideShape shape) }
@@ -27,7 +28,7 @@ pub fn fill_front<A: Clone + Drop>(
     count: usize,
     value: A,
 ) -> Result<Result<(), NoMemory>, ShapeError>
-    requires clones { (copy : A) → A.is_clone value copy → copy ≡ value }
+    requires clones { ClonesAreEqual A.is_clone value }
     ensures unchanged { IfErr result (λ _. slice.new ≡ slice.old) }
     ensures elements { IfOk result (λ done. OnOk done (IsFrontFilled slice.old slice.new count value)) }
 {

@@ -3,6 +3,7 @@ ghost use Rattle.std.specs.Prelude.{◌≡◌, ℕ, List, length, IsTrue};
 ghost use Rattle.nd_shape_and_slice.specs.SliceInfo.{fits_shape};
 ghost use Rattle.nd_array_core.specs.Meaning.{shape_of, place_at};
 ghost use Rattle.nd_array_core.specs.layout.ViewLent.{IsRefilled};
+ghost use Rattle.nd_array_core.specs.base.Fresh.{ClonesAreEqual};
 
 use nd_array_core::{Array, ArrayBase, ArrayViewMut, DataMut};
 use nd_shape_and_slice::{Dimension, Ix2, IxDyn, NoMemory, SliceArg, SliceInfoElem};
@@ -14,7 +15,7 @@ pub fn fill_view<S: DataMut, D: Dimension>(
 ) -> Result<(), NoMemory>
 where
     S::Elem: Clone + Drop,
-    requires clones { (copy : S.Elem) → S.Elem.is_clone value copy → copy ≡ value }
+    requires clones { ClonesAreEqual S.Elem.is_clone value }
     ensures shape { shape_of array.new ≡ shape_of array.old }
     ensures places { (i : List ℕ) → place_at array.new i ≡ place_at array.old i }
 {
@@ -31,7 +32,7 @@ pub fn fill_part<S: DataMut, D: Dimension, I: SliceArg<D>>(
 where
     S::Elem: Clone + Drop,
     requires fits { IsTrue (fits_shape (shape_of array.old) (I.elements_of info)) }
-    requires clones { (copy : S.Elem) → S.Elem.is_clone value copy → copy ≡ value }
+    requires clones { ClonesAreEqual S.Elem.is_clone value }
     ensures shape { shape_of array.new ≡ shape_of array.old }
     ensures places { (i : List ℕ) → place_at array.new i ≡ place_at array.old i }
     ensures refilled { IsRefilled S.frame array.old array.new }
@@ -45,7 +46,7 @@ pub fn fill_again<A: Clone + Drop, D: Dimension>(
     view: &mut ArrayViewMut<'_, A, D>,
     value: A,
 ) -> Result<(), NoMemory>
-    requires clones { (copy : A) → A.is_clone value copy → copy ≡ value }
+    requires clones { ClonesAreEqual A.is_clone value }
     ensures shape { shape_of view.new ≡ shape_of view.old }
     ensures places { (i : List ℕ) → place_at view.new i ≡ place_at view.old i }
 {

@@ -8,6 +8,7 @@ ghost use Rattle.nd_array_core.specs.Part.{sliced_part};
 ghost use Rattle.nd_array_core.specs.scoped.PartTasks.{KeepsBut};
 ghost use Rattle.nd_shape_and_slice.specs.SliceInfo.{fits_shape, shape_after};
 ghost use Rattle.nd_array_core.specs.elements.Pairs.{broadcast_at, option_both};
+ghost use Rattle.nd_array_core.specs.base.Fresh.{EachCloneIsEqual};
 
 use nd_array_core::laws::{broadcast_to_itself, shape_is_checked};
 use nd_array_core::{ArrayBase, Data, DataMut};
@@ -45,7 +46,7 @@ pub fn overwrite<A: Clone + Drop, S: DataMut<Elem = A>, Z: Data<Elem = A>, D: Di
     source: &ArrayBase<Z, D>,
 ) -> Result<(), NoMemory>
     requires same { shape_of source.now ≡ shape_of array.old }
-    requires clones { (x copy : A) → A.is_clone x copy → copy ≡ x }
+    requires clones { EachCloneIsEqual A.is_clone }
     ensures shape { shape_of array.new ≡ shape_of array.old }
     ensures elements { OnOk result ((i : List ℕ) → element_at array.new i ≡ element_at source.now i) }
 {
@@ -65,7 +66,7 @@ pub fn paste<
 >(array: &mut ArrayBase<S, D>, info: I, source: &ArrayBase<Z, E>) -> Result<(), NoMemory>
     requires fits { IsTrue (fits_shape (shape_of array.old) (I.elements_of info)) }
     requires broadcasts { IsTrue (broadcasts (shape_of source.now) (shape_after (shape_of array.old) (I.elements_of info))) }
-    requires clones { (x copy : A) → A.is_clone x copy → copy ≡ x }
+    requires clones { EachCloneIsEqual A.is_clone }
     ensures shape { shape_of array.new ≡ shape_of array.old }
     ensures kept { KeepsBut array.old array.new (sliced_part array.old (I.elements_of info)) }
 {

@@ -8,6 +8,7 @@ ghost use Rattle.nd_shape_and_slice.specs.SliceInfo.{fits_shape};
 ghost use Rattle.nd_array_core.specs.Meaning.{shape_of, element_at};
 ghost use Rattle.nd_array_core.specs.Part.{sliced_part, axis_part, coordinate_part, diagonal_part};
 ghost use Rattle.nd_array_core.specs.scoped.PartTasks.{KeepsBut};
+ghost use Rattle.nd_array_core.specs.base.Fresh.{ClonesAreEqual};
 
 use nd_array_core::{Array2, ArrayBase, ArrayViewMut, DataMut, GetMut};
 use nd_shape_and_slice::{Axis, Dimension, Ix2, NdIndex, NoMemory, RemoveAxis, Slice, SliceArg};
@@ -21,7 +22,7 @@ pub fn fill_named<S: DataMut, D: Dimension, I: SliceArg<D>>(
 where
     S::Elem: Clone + Drop,
     requires fits { IsTrue (fits_shape (shape_of array.old) (I.elements_of info)) }
-    requires clones { (copy : S.Elem) → S.Elem.is_clone value copy → copy ≡ value }
+    requires clones { ClonesAreEqual S.Elem.is_clone value }
     ensures shape { shape_of array.new ≡ shape_of array.old }
     ensures kept { KeepsBut array.old array.new (sliced_part array.old (I.elements_of info)) }
 {
@@ -84,7 +85,7 @@ where
     requires outer { IsTrue (fits_axis (slice_index (shape_of array.old) axis.0) outer) }
     requires inner { axis.0 < length (sliced_shape (shape_of array.old) axis.0 outer) }
     requires within { IsTrue (fits_axis (slice_index (sliced_shape (shape_of array.old) axis.0 outer) axis.0) inner) }
-    requires clones { (copy : S.Elem) → S.Elem.is_clone value copy → copy ≡ value }
+    requires clones { ClonesAreEqual S.Elem.is_clone value }
     ensures shape { shape_of array.new ≡ shape_of array.old }
     ensures kept { KeepsBut array.old array.new (axis_part array.old axis.0 outer) }
 {
@@ -100,7 +101,7 @@ pub fn fill_diagonal<S: DataMut, D: Dimension>(
 ) -> Result<(), NoMemory>
 where
     S::Elem: Clone + Drop,
-    requires clones { (copy : S.Elem) → S.Elem.is_clone value copy → copy ≡ value }
+    requires clones { ClonesAreEqual S.Elem.is_clone value }
     ensures shape { shape_of grid.new ≡ shape_of grid.old }
     ensures kept { KeepsBut grid.old grid.new (diagonal_part grid.old) }
 {
@@ -114,7 +115,7 @@ pub fn fill_column_of_view<A: Clone + Drop>(
     value: A,
 ) -> Result<(), NoMemory>
     requires column { column < slice_index (shape_of view.old) 1 }
-    requires clones { (copy : A) → A.is_clone value copy → copy ≡ value }
+    requires clones { ClonesAreEqual A.is_clone value }
     ensures shape { shape_of view.new ≡ shape_of view.old }
     ensures kept { KeepsBut view.old view.new (coordinate_part view.old 1 column) }
 {
@@ -128,7 +129,7 @@ pub fn fill_row_of_owned<A: Clone + Drop>(
     value: A,
 ) -> Result<(), NoMemory>
     requires row { row < slice_index (shape_of image.old) 0 }
-    requires clones { (copy : A) → A.is_clone value copy → copy ≡ value }
+    requires clones { ClonesAreEqual A.is_clone value }
     ensures shape { shape_of image.new ≡ shape_of image.old }
     ensures other_rows { (r c : ℕ) → ¬ (r ≡ row) → element_at image.new (r ∷ c ∷ []) ≡ element_at image.old (r ∷ c ∷ []) }
 {
@@ -160,7 +161,7 @@ where
     requires fits { IsTrue (fits_axis (slice_index (shape_of array.old) axis.0) slice) }
     requires part { axis.0 < length (sliced_shape (shape_of array.old) axis.0 slice) }
     requires within { index < slice_index (sliced_shape (shape_of array.old) axis.0 slice) axis.0 }
-    requires clones { (copy : S.Elem) → S.Elem.is_clone value copy → copy ≡ value }
+    requires clones { ClonesAreEqual S.Elem.is_clone value }
     ensures shape { shape_of array.new ≡ shape_of array.old }
     ensures kept { KeepsBut array.old array.new (axis_part array.old axis.0 slice) }
 {

@@ -2,6 +2,7 @@
 ghost use Rattle.std.specs.Prelude.{◌≡◌, ◌<◌, ◌-◌, ℕ, slice_index, IfOk};
 ghost use Rattle.nd_array_core.specs.Meaning.{shape_of};
 ghost use Rattle.nd_array_core.specs.Coordinates.{element_of_2};
+ghost use Rattle.nd_array_core.specs.base.Fresh.{EachCloneIsEqual};
 
 use nd_array_core::{Array2, ArrayBase, Data};
 use nd_shape_and_slice::{Axis, Ix2, NoMemory};
@@ -12,7 +13,7 @@ pub fn rows_reversed<A: Clone + Drop, S: Data<Elem = A>>(
     alloc: Global,
     matrix: &ArrayBase<S, Ix2>,
 ) -> Result<Array2<A>, NoMemory>
-    requires clones { (x copy : A) → A.is_clone x copy → copy ≡ x }
+    requires clones { EachCloneIsEqual A.is_clone }
     ensures shape { IfOk result (λ built. shape_of built ≡ shape_of matrix.now) }
     ensures elements { IfOk result (λ built. (row column : ℕ) → row < slice_index (shape_of matrix.now) 0 → column < slice_index (shape_of matrix.now) 1 → element_of_2 built row column ≡ element_of_2 matrix.now (slice_index (shape_of matrix.now) 0 - 1 - row) column) }
 {
@@ -26,7 +27,7 @@ pub fn rows_reversed_twice<A: Clone + Drop, S: Data<Elem = A>>(
     alloc: Global,
     matrix: &ArrayBase<S, Ix2>,
 ) -> Result<Array2<A>, NoMemory>
-    requires clones { (x copy : A) → A.is_clone x copy → copy ≡ x }
+    requires clones { EachCloneIsEqual A.is_clone }
     ensures shape { IfOk result (λ built. shape_of built ≡ shape_of matrix.now) }
     ensures elements { IfOk result (λ built. (row column : ℕ) → row < slice_index (shape_of matrix.now) 0 → column < slice_index (shape_of matrix.now) 1 → element_of_2 built row column ≡ element_of_2 matrix.now row column) }
 {

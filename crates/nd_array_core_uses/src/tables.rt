@@ -7,6 +7,7 @@ ghost use Rattle.nd_array_core.specs.Meaning.{meaning_of, shape_of};
 ghost use Rattle.nd_array_core.specs.Coordinates.{element_of_1, element_of_2, HasLength, HasRowsAndColumns};
 ghost use Rattle.nd_array_core.specs.along.Selected.{AreCoordinates};
 ghost use Rattle.nd_array_core.specs.growth.InTurn.{JoinsAllAlike};
+ghost use Rattle.nd_array_core.specs.base.Fresh.{EachCloneIsEqual};
 
 use nd_array_core::{Array2, ArrayBase, ArrayError, ArrayView1, ArrayView2, Data};
 use nd_shape_and_slice::{Axis, Ix2};
@@ -17,7 +18,7 @@ pub fn row_behind<A: Clone + Drop>(
     table: &mut Array2<A>,
     row: ArrayView1<'_, A>,
 ) -> Result<(), ArrayError>
-    requires clones { (x copy : A) → A.is_clone x copy → copy ≡ x }
+    requires clones { EachCloneIsEqual A.is_clone }
     requires length { HasLength row (slice_index (shape_of table.old) 1) }
     ensures shape { OnOk result (HasRowsAndColumns table.new (slice_index (shape_of table.old) 0 + 1) (slice_index (shape_of table.old) 1)) }
     ensures before { OnOk result ((i j : ℕ) → i < slice_index (shape_of table.old) 0 → j < slice_index (shape_of table.old) 1 → element_of_2 table.new i j ≡ element_of_2 table.old i j) }
@@ -32,7 +33,7 @@ pub fn push_out<A: Clone + Drop>(
     log: &mut Array2<A>,
     line: ArrayView1<'_, A>,
 ) -> Result<(), ArrayError>
-    requires clones { (x copy : A) → A.is_clone x copy → copy ≡ x }
+    requires clones { EachCloneIsEqual A.is_clone }
     requires some { 0 < slice_index (shape_of log.old) 0 }
     requires length { HasLength line (slice_index (shape_of log.old) 1) }
     ensures shape { HasRowsAndColumns log.new (slice_index (shape_of log.old) 0) (slice_index (shape_of log.old) 1) }
@@ -51,7 +52,7 @@ pub fn rows_read<A: Clone + Drop, S: Data<Elem = A>>(
     source: &ArrayBase<S, Ix2>,
     numbers: &[usize],
 ) -> Result<Array2<A>, ArrayError>
-    requires clones { (x copy : A) → A.is_clone x copy → copy ≡ x }
+    requires clones { EachCloneIsEqual A.is_clone }
     requires numbers { AreCoordinates (shape_of source.now) 0 numbers.now }
     ensures shape { IfOk result (λ table. HasRowsAndColumns table (length numbers.now) (slice_index (shape_of source.now) 1)) }
     ensures rows { IfOk result (λ table. (i j : ℕ) → i < length numbers.now → j < slice_index (shape_of source.now) 1 → element_of_2 table i j ≡ element_of_2 source.now (slice_index numbers.now i) j) }
@@ -73,7 +74,7 @@ pub fn row_lent_behind<A: Clone + Drop>(
     table: &mut Array2<A>,
     row: &ArrayView1<'_, A>,
 ) -> Result<(), ArrayError>
-    requires clones { (x copy : A) → A.is_clone x copy → copy ≡ x }
+    requires clones { EachCloneIsEqual A.is_clone }
     requires length { HasLength row.now (slice_index (shape_of table.old) 1) }
     ensures shape { OnOk result (HasRowsAndColumns table.new (slice_index (shape_of table.old) 0 + 1) (slice_index (shape_of table.old) 1)) }
     ensures before { OnOk result ((i j : ℕ) → i < slice_index (shape_of table.old) 0 → j < slice_index (shape_of table.old) 1 → element_of_2 table.new i j ≡ element_of_2 table.old i j) }
@@ -88,7 +89,7 @@ pub fn rows_behind<A: Clone + Drop>(
     table: &mut Array2<A>,
     rows: &[ArrayView1<'_, A>],
 ) -> Result<(), ArrayError>
-    requires clones { (x copy : A) → A.is_clone x copy → copy ≡ x }
+    requires clones { EachCloneIsEqual A.is_clone }
     requires long { AllByRecursion (λ row. HasLength row (slice_index (shape_of table.old) 1)) rows.now }
     ensures shape { OnOk result (HasRowsAndColumns table.new (slice_index (shape_of table.old) 0 + length rows.now) (slice_index (shape_of table.old) 1)) }
     ensures before { OnOk result ((i j : ℕ) → i < slice_index (shape_of table.old) 0 → j < slice_index (shape_of table.old) 1 → element_of_2 table.new i j ≡ element_of_2 table.old i j) }
@@ -105,7 +106,7 @@ pub fn column_behind<A: Clone + Drop>(
     table: &mut Array2<A>,
     column: ArrayView1<'_, A>,
 ) -> Result<(), ArrayError>
-    requires clones { (x copy : A) → A.is_clone x copy → copy ≡ x }
+    requires clones { EachCloneIsEqual A.is_clone }
     requires length { HasLength column (slice_index (shape_of table.old) 0) }
     ensures shape { OnOk result (HasRowsAndColumns table.new (slice_index (shape_of table.old) 0) (slice_index (shape_of table.old) 1 + 1)) }
     ensures before { OnOk result ((i j : ℕ) → i < slice_index (shape_of table.old) 0 → j < slice_index (shape_of table.old) 1 → element_of_2 table.new i j ≡ element_of_2 table.old i j) }
@@ -121,7 +122,7 @@ pub fn two_columns_behind<A: Clone + Drop>(
     first: ArrayView1<'_, A>,
     second: ArrayView1<'_, A>,
 ) -> Result<(), ArrayError>
-    requires clones { (x copy : A) → A.is_clone x copy → copy ≡ x }
+    requires clones { EachCloneIsEqual A.is_clone }
     requires first { HasLength first (slice_index (shape_of table.old) 0) }
     requires second { HasLength second (slice_index (shape_of table.old) 0) }
     ensures shape { OnOk result (HasRowsAndColumns table.new (slice_index (shape_of table.old) 0) (slice_index (shape_of table.old) 1 + 2)) }
@@ -139,7 +140,7 @@ pub fn columns_behind<A: Clone + Drop, S: Data<Elem = A>>(
     source: &ArrayBase<S, Ix2>,
     numbers: &[usize],
 ) -> Result<(), ArrayError>
-    requires clones { (x copy : A) → A.is_clone x copy → copy ≡ x }
+    requires clones { EachCloneIsEqual A.is_clone }
     requires rows { slice_index (shape_of source.now) 0 ≡ slice_index (shape_of table.old) 0 }
     requires numbers { AreCoordinates (shape_of source.now) 1 numbers.now }
     ensures shape { OnOk result (HasRowsAndColumns table.new (slice_index (shape_of table.old) 0) (slice_index (shape_of table.old) 1 + length numbers.now)) }
@@ -158,7 +159,7 @@ fn append_both<'a, A: Clone + Drop>(
     first: ArrayView2<'a, A>,
     second: ArrayView2<'a, A>,
 ) -> Result<(), (usize, ArrayError)>
-    requires clones { (x copy : A) → A.is_clone x copy → copy ≡ x }
+    requires clones { EachCloneIsEqual A.is_clone }
     ensures { OnOk result (JoinsAllAlike 1 table.old (meaning_of first.entry ∷ meaning_of second.entry ∷ []) table.new) }
 {
     table.append_each(Axis(1), &[first, second])
@@ -170,7 +171,7 @@ pub fn both_behind<'a, A: Clone + Drop>(
     first: ArrayView2<'a, A>,
     second: ArrayView2<'a, A>,
 ) -> Result<(), (usize, ArrayError)>
-    requires clones { (x copy : A) → A.is_clone x copy → copy ≡ x }
+    requires clones { EachCloneIsEqual A.is_clone }
     requires first { slice_index (shape_of first) 0 ≡ slice_index (shape_of table.old) 0 }
     requires second { slice_index (shape_of second) 0 ≡ slice_index (shape_of table.old) 0 }
     ensures shape { OnOk result (HasRowsAndColumns table.new (slice_index (shape_of table.old) 0) (slice_index (shape_of table.old) 1 + slice_index (shape_of first.entry) 1 + slice_index (shape_of second.entry) 1)) }

@@ -5,6 +5,7 @@ ghost use Rattle.nd_shape_and_slice.specs.Shape.{in_box};
 ghost use Rattle.nd_shape_and_slice.specs.Maps.{inverted_index, indexed_index};
 ghost use Rattle.nd_array_core.specs.Meaning.{shape_of, element_at, inside};
 ghost use Rattle.nd_array_core.specs.base.Writes.{with_swapped_at};
+ghost use Rattle.nd_array_core.specs.base.Fresh.{ClonesAreEqual};
 
 use nd_array_core::{Array1, Array2, ArrayBase, ArrayView1, Data, DataMut};
 use nd_shape_and_slice::{Axis, Ix1, Ix2, NoMemory};
@@ -144,7 +145,7 @@ pub fn fill_then_get<A: Clone + Drop, S: DataMut<Elem = A>>(
     row: usize,
     column: usize,
 ) -> Result<bool, NoMemory>
-    requires clones { (copy : A) → A.is_clone colour copy → copy ≡ colour }
+    requires clones { ClonesAreEqual A.is_clone colour }
     requires there { IsTrue (in_box (shape_of image.old) (row ∷ column ∷ [])) }
     ensures there { OnOk result (element_at image.new (row ∷ column ∷ []) ≡ Some colour) }
     ensures got { IfOk result (λ got. IsTrue got) }

@@ -5,6 +5,7 @@ ghost use Rattle.nd_shape_and_slice.specs.Maps.{lower_shape, upper_shape, upper_
 ghost use Rattle.nd_array_core.specs.Meaning.{shape_of, element_at, inside};
 ghost use Rattle.nd_array_core.specs.PlacedArray.{element_placed};
 ghost use Rattle.nd_array_core.specs.scoped.Tasks.{view_frame, lent_frame, lent_view, view_left, CanBeSeen};
+ghost use Rattle.nd_array_core.specs.base.Fresh.{ClonesAreEqual};
 
 use nd_array_core::scoped::{LentView, PairTask};
 use nd_array_core::{ArrayBase, DataMut, ViewMutRepr};
@@ -20,7 +21,7 @@ pub(crate) struct FillBoth<A: Drop> {
 impl<A: Clone + Drop, D: Dimension, E: Dimension> PairTask<A, D, E> for FillBoth<A> {
     type Answer = Result<(), NoMemory>;
 
-    ghost pre = { λ task _ _. ((copy : A) → A.is_clone task.first copy → copy ≡ task.first) × ((copy : A) → A.is_clone task.second copy → copy ≡ task.second) };
+    ghost pre = { λ task _ _. ClonesAreEqual A.is_clone task.first × ClonesAreEqual A.is_clone task.second };
 
     ghost post = { λ task v0 v1 w0 w1 answer. OnOk answer (((i : List ℕ) → element_placed w0 i ≡ inside v0.shape i (Some task.first)) × ((i : List ℕ) → element_placed w1 i ≡ inside v1.shape i (Some task.second))) };
 
@@ -31,8 +32,8 @@ impl<A: Clone + Drop, D: Dimension, E: Dimension> PairTask<A, D, E> for FillBoth
     ) -> (ViewMutRepr<'b, A>, ViewMutRepr<'b, A>, Result<(), NoMemory>)
         requires one { CanBeSeen D.lengths D.Strides.strides_of one }
         requires two { CanBeSeen E.lengths E.Strides.strides_of two }
-        requires first { (copy : A) → A.is_clone self.first copy → copy ≡ self.first }
-        requires second { (copy : A) → A.is_clone self.second copy → copy ≡ self.second }
+        requires first { ClonesAreEqual A.is_clone self.first }
+        requires second { ClonesAreEqual A.is_clone self.second }
         ensures one_frame { view_frame result.0 ≡ lent_frame one.entry }
         ensures two_frame { view_frame result.1 ≡ lent_frame two.entry }
         ensures filled { OnOk result.2 (((i : List ℕ) → element_placed (view_left D.lengths D.Strides.strides_of one.entry result.0) i ≡ inside (lent_view D.lengths D.Strides.strides_of one.entry).shape i (Some self.first)) × ((i : List ℕ) → element_placed (view_left E.lengths E.Strides.strides_of two.entry result.1) i ≡ inside (lent_view E.lengths E.Strides.strides_of two.entry).shape i (Some self.second))) }
@@ -69,8 +70,8 @@ pub fn fill_halves<A: Clone + Drop, S: DataMut<Elem = A>, D: Dimension>(
 ) -> Result<(), NoMemory>
     requires axis { axis.0 < length (shape_of array.old) }
     requires within { index ≤ slice_index (shape_of array.old) axis.0 }
-    requires below { (copy : A) → A.is_clone below copy → copy ≡ below }
-    requires above { (copy : A) → A.is_clone above copy → copy ≡ above }
+    requires below { ClonesAreEqual A.is_clone below }
+    requires above { ClonesAreEqual A.is_clone above }
     ensures shape { shape_of array.new ≡ shape_of array.old }
     ensures below { OnOk result ((i : List ℕ) → IsTrue (in_box (lower_shape (shape_of array.old) axis.0 index) i) → element_at array.new i ≡ Some below) }
     ensures above { OnOk result ((i : List ℕ) → IsTrue (in_box (upper_shape (shape_of array.old) axis.0 index) i) → element_at array.new (upper_index axis.0 index i) ≡ Some above) }

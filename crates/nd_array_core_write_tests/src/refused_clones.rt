@@ -2,6 +2,7 @@
 //! returned, what must stay stays, every number is dropped once, and the last run gives the right answer.
 
 ghost use Rattle.std.specs.Prelude.{◌≡◌};
+ghost use Rattle.nd_array_core.specs.base.Fresh.{EachCloneIsEqual};
 
 use crate::sparing::Sparing;
 use nd_array_core::{Array, Array2, ArrayBase, Data};
@@ -15,7 +16,7 @@ fn copied<A: Numbered + Clone + Drop, S: Data<Elem = A>>(
     alloc: Global,
     image: &ArrayBase<S, Ix2>,
 ) -> Result<Vec<u64>, Fail>
-    requires { (x y : A) → A.is_clone x y → y ≡ x }
+    requires { EachCloneIsEqual A.is_clone }
 {
     match image.to_owned(alloc) {
         Ok(copy) => rows_listed(alloc, &copy),
@@ -28,7 +29,7 @@ fn collected<A: Numbered + Clone + Drop, S: Data<Elem = A>>(
     alloc: Global,
     image: &ArrayBase<S, Ix2>,
 ) -> Result<Vec<u64>, Fail>
-    requires { (x y : A) → A.is_clone x y → y ≡ x }
+    requires { EachCloneIsEqual A.is_clone }
 {
     let mut numbers = Vec::new(alloc);
     if let Ok(items) = image.to_vec(alloc) {
@@ -46,7 +47,7 @@ fn made<A: Numbered + Clone + Drop>(
     image: &Array2<A>,
     way: u64,
 ) -> Result<Vec<u64>, Fail>
-    requires { (x y : A) → A.is_clone x y → y ≡ x }
+    requires { EachCloneIsEqual A.is_clone }
 {
     let (_rows, _columns) = image.dim();
     match way {
@@ -243,7 +244,7 @@ fn numbers_by_value<A: Numbered + Clone + Drop, S: Data<Elem = A>>(
     alloc: Global,
     image: &ArrayBase<S, Ix2>,
 ) -> Result<Vec<u64>, Fail>
-    requires { (x y : A) → A.is_clone x y → y ≡ x }
+    requires { EachCloneIsEqual A.is_clone }
 {
     match image.mapv(alloc, |x| x.number()) {
         Ok(numbers) => rows_listed(alloc, &numbers),
@@ -257,7 +258,7 @@ fn numbers_of_part<A: Numbered + Clone + Drop>(
     image: &Array2<A>,
     stepped: bool,
 ) -> Result<Vec<u64>, Fail>
-    requires { (x y : A) → A.is_clone x y → y ≡ x }
+    requires { EachCloneIsEqual A.is_clone }
 {
     let (_rows, _columns) = image.dim();
     if stepped {

@@ -10,6 +10,7 @@ ghost use Rattle.nd_run.specs.Steps.{Refuses, first_failed, size_test};
 ghost use Rattle.nd_run.specs.Arrays.{CarriesOut};
 ghost use Rattle.nd_run.specs.Calls.{Concatenating, Stacking};
 ghost use Rattle.nd_run.specs.Fold.{concatenate_tests, joined_shape, lengths_with, stack_of, stack_tests};
+ghost use Rattle.nd_array_core.specs.base.Fresh.{EachCloneIsEqual};
 
 use crate::calls::{Holds, Reply};
 use crate::cause::Cause;
@@ -162,7 +163,7 @@ fn concatenated<A: Clone + Drop, T: Holds<A>>(
     axis: usize,
     others: &[T],
 ) -> Result<Array<A, IxDyn>, AllocError>
-    requires clones { (x y : A) → A.is_clone x y → y ≡ x }
+    requires clones { EachCloneIsEqual A.is_clone }
     requires fits { first_failed (concatenate_tests axis (map T.held others.now) (shape_of array.now)) ≡ None }
     ensures { IfOk result (λ all. meaning_of all ≡ followed_by axis (meaning_of array.now) (map T.held others.now)) }
 {
@@ -184,7 +185,7 @@ fn stacked<A: Clone + Drop, T: Holds<A>>(
     axis: usize,
     others: &[T],
 ) -> Result<Array<A, IxDyn>, AllocError>
-    requires clones { (x y : A) → A.is_clone x y → y ≡ x }
+    requires clones { EachCloneIsEqual A.is_clone }
     requires fits { first_failed (stack_tests axis (map T.held others.now) (shape_of array.now)) ≡ None }
     ensures { IfOk result (λ all. meaning_of all ≡ stack_of axis (meaning_of array.now) (map T.held others.now)) }
 {
@@ -206,7 +207,7 @@ pub(crate) fn concatenate<A: Clone + Eq + Drop, T: Holds<A>>(
     axis: usize,
     others: &[T],
 ) -> Result<Reply<A>, AllocError>
-    requires { (x y : A) → A.is_clone x y → y ≡ x }
+    requires { EachCloneIsEqual A.is_clone }
     ensures { CarriesOut A.eq (Concatenating axis (map T.held others.now)) array.old array.new result }
 {
     match check_concatenate(array, axis, others) {
@@ -228,7 +229,7 @@ pub(crate) fn stack<A: Clone + Eq + Drop, T: Holds<A>>(
     axis: usize,
     others: &[T],
 ) -> Result<Reply<A>, AllocError>
-    requires { (x y : A) → A.is_clone x y → y ≡ x }
+    requires { EachCloneIsEqual A.is_clone }
     ensures { CarriesOut A.eq (Stacking axis (map T.held others.now)) array.old array.new result }
 {
     match check_stack(array, axis, others) {

@@ -12,6 +12,7 @@ ghost use Rattle.nd_array_core.specs.growth.Reserved.{HasRoomAlong};
 ghost use Rattle.nd_array_core.specs.Laws.{with_axis_inserted};
 ghost use Rattle.nd_array_core.specs.Equality.{equal_meanings};
 ghost use Rattle.nd_array_core.specs.Joined.{row_major_elements};
+ghost use Rattle.nd_array_core.specs.base.Fresh.{EachCloneIsEqual};
 
 use crate::calls::{Call, Holds, Question, Reply, Step};
 use crate::cause::Cause;
@@ -44,7 +45,7 @@ fn elements<A: Clone + Drop>(
     alloc: Global,
     view: &ArrayView<'_, A, IxDyn>,
 ) -> Result<Vec<A>, AllocError>
-    requires { (x y : A) → A.is_clone x y → y ≡ x }
+    requires { EachCloneIsEqual A.is_clone }
     ensures { IfOk result (λ v. v.items ≡ row_major_elements (meaning_of view.now)) }
 {
     view.to_vec(alloc).map_err(|_| AllocError)
@@ -52,7 +53,7 @@ fn elements<A: Clone + Drop>(
 
 /// The reply of an element, where there is one.
 fn told<A: Clone>(element: Option<&A>) -> Result<Reply<A>, AllocError>
-    requires { (x y : A) → A.is_clone x y → y ≡ x }
+    requires { EachCloneIsEqual A.is_clone }
     ensures reply { IfOk result (λ reply. said_reply reply ≡ SaidElement (option_copied element.entry)) }
     ensures memory { OnErr result (IsTrue (is_some (option_copied element.entry))) }
 {
@@ -105,7 +106,7 @@ fn to_shape<A: Clone + Eq + Drop>(
     lengths: &[usize],
     order: Order,
 ) -> Result<Reply<A>, AllocError>
-    requires { (x y : A) → A.is_clone x y → y ≡ x }
+    requires { EachCloneIsEqual A.is_clone }
     ensures reply { IfOk result (IsAnswerTo A.eq (AskReshaped lengths.now order) view.now) }
     ensures memory { OnErr result (first_failed (reshape_tests lengths.now (shape_of view.now)) ≡ None) }
 {
@@ -126,7 +127,7 @@ fn answer<A: Clone + Eq + Drop, T: Holds<A>>(
     view: &ArrayView<'_, A, IxDyn>,
     question: &Question<A, T>,
 ) -> Result<Reply<A>, AllocError>
-    requires { (x y : A) → A.is_clone x y → y ≡ x }
+    requires { EachCloneIsEqual A.is_clone }
     ensures reply { IfOk result (IsAnswerTo A.eq (asking T.held question.now) view.now) }
     ensures memory { OnErr result (AnswerLacksOnlyMemory (asking T.held question.now) view.now) }
 {
@@ -152,7 +153,7 @@ fn ask<A: Clone + Eq + Drop, T: Holds<A>>(
     path: &[Step],
     question: &Question<A, T>,
 ) -> Result<Reply<A>, AllocError>
-    requires { (x y : A) → A.is_clone x y → y ≡ x }
+    requires { EachCloneIsEqual A.is_clone }
     ensures { CarriesOut A.eq (About (map asked_step path.now) (asking T.held question.now)) array.now array.now result }
 {
     let mut view = array.view();
@@ -214,7 +215,7 @@ fn select<A: Clone + Eq + Drop>(
     axis: usize,
     indexes: &[usize],
 ) -> Result<Reply<A>, AllocError>
-    requires { (x y : A) → A.is_clone x y → y ≡ x }
+    requires { EachCloneIsEqual A.is_clone }
     ensures { CarriesOut A.eq (Selecting axis indexes.now) array.old array.new result }
 {
     match check_select(array, axis, indexes) {
@@ -249,7 +250,7 @@ fn reshape<A: Clone + Eq + Drop>(
     lengths: &[usize],
     order: Order,
 ) -> Result<Reply<A>, AllocError>
-    requires { (x y : A) → A.is_clone x y → y ≡ x }
+    requires { EachCloneIsEqual A.is_clone }
     ensures { CarriesOut A.eq (Reshaping lengths.now order) array.old array.new result }
 {
     match reshape_dim(array, lengths) {
@@ -293,7 +294,7 @@ fn append<A: Clone + Eq + Drop>(
     axis: usize,
     other: ArrayView<'_, A, IxDyn>,
 ) -> Result<Reply<A>, AllocError>
-    requires { (x y : A) → A.is_clone x y → y ≡ x }
+    requires { EachCloneIsEqual A.is_clone }
     ensures { CarriesOut A.eq (Appending axis (meaning_of other.entry)) array.old array.new result }
 {
     shapes_behind();
@@ -313,7 +314,7 @@ fn push<A: Clone + Eq + Drop>(
     axis: usize,
     other: &Array<A, IxDyn>,
 ) -> Result<Reply<A>, AllocError>
-    requires { (x y : A) → A.is_clone x y → y ≡ x }
+    requires { EachCloneIsEqual A.is_clone }
     ensures { CarriesOut A.eq (Appending axis (with_axis_inserted axis (meaning_of other.now))) array.old array.new result }
 {
     shapes_behind();
@@ -355,7 +356,7 @@ fn act<A: Clone + Eq + Drop, T: Holds<A>>(
     array: &mut Array<A, IxDyn>,
     call: &Call<A, T>,
 ) -> Result<Reply<A>, AllocError>
-    requires { (x y : A) → A.is_clone x y → y ≡ x }
+    requires { EachCloneIsEqual A.is_clone }
     ensures { CarriesOut A.eq (asked_call T.held call.now) array.old array.new result }
 {
     match call {
@@ -391,7 +392,7 @@ fn run_with_room<A: Clone + Eq + Drop, T: Holds<A>>(
     calls: &[Call<A, T>],
     room: Vec<Reply<A>>,
 ) -> Result<(Vec<Reply<A>>, Array<A, IxDyn>), RunFault<A>>
-    requires clone { (x y : A) → A.is_clone x y → y ≡ x }
+    requires clone { EachCloneIsEqual A.is_clone }
     requires empty { room.items ≡ [] }
     requires room { length calls.now ≤ vec_capacity room }
     ensures replies { IfOk result (λ r. AreRepliesTo A.eq (asked_calls T.held calls.now) (meaning_of start) r.0.items) }
@@ -415,7 +416,7 @@ pub fn run_held<A: Clone + Eq + Drop, T: Holds<A>>(
     start: Array<A, IxDyn>,
     calls: &[Call<A, T>],
 ) -> Result<(Vec<Reply<A>>, Array<A, IxDyn>), RunFault<A>>
-    requires { (x y : A) → A.is_clone x y → y ≡ x }
+    requires { EachCloneIsEqual A.is_clone }
     ensures replies { IfOk result (λ r. AreRepliesTo A.eq (asked_calls T.held calls.now) (meaning_of start) r.0.items) }
     ensures array { IfOk result (λ r. meaning_of r.1 ≡ end_of A.eq (asked_calls T.held calls.now) (meaning_of start)) }
     ensures memory { IfErr result (StoppedBefore A.eq (asked_calls T.held calls.now) (meaning_of start)) }
@@ -434,7 +435,7 @@ pub fn run<A: Clone + Eq + Drop>(
     start: Array<A, IxDyn>,
     calls: &[Call<A>],
 ) -> Result<(Vec<Reply<A>>, Array<A, IxDyn>), RunFault<A>>
-    requires { (x y : A) → A.is_clone x y → y ≡ x }
+    requires { EachCloneIsEqual A.is_clone }
     ensures replies { IfOk result (λ r. AreRepliesTo A.eq (asked_calls meaning_of calls.now) (meaning_of start) r.0.items) }
     ensures array { IfOk result (λ r. meaning_of r.1 ≡ end_of A.eq (asked_calls meaning_of calls.now) (meaning_of start)) }
     ensures memory { IfErr result (StoppedBefore A.eq (asked_calls meaning_of calls.now) (meaning_of start)) }

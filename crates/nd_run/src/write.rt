@@ -9,6 +9,7 @@ ghost use Rattle.nd_run.specs.Calls.{asked_split, asked_step, acting, said_reply
 ghost use Rattle.nd_run.specs.Steps.{Refuses};
 ghost use Rattle.nd_run.specs.Acts.{act_refusal, acted_elements, clones, path_refusal, point_refusal};
 ghost use Rattle.nd_run.specs.Written.{written_path, Acts, ActsOnTwo, as_one, said_unless};
+ghost use Rattle.nd_array_core.specs.base.Fresh.{EachCloneIsEqual};
 
 use crate::calls::{Act, Holds, Reply, Step};
 use crate::cause::Cause;
@@ -104,7 +105,7 @@ fn do_act<S: DataMut, T: Holds<S::Elem>>(
 ) -> Result<(), AllocError>
 where
     S::Elem: Clone + Drop,
-    requires clone { (x y : S.Elem) → S.Elem.is_clone x y → y ≡ x }
+    requires clone { EachCloneIsEqual S.Elem.is_clone }
     requires fits { act_refusal (acting T.held act.now) (shape_of array.old) ≡ None }
     ensures frame { KeepsFrame S.frame array.old array.new }
     ensures elements { OnOk result (HasElements array.new (acted_elements (acting T.held act.now) (meaning_of array.old))) }
@@ -132,7 +133,7 @@ fn act_on<S: DataMut, T: Holds<S::Elem>>(
 ) -> Result<Option<Cause>, AllocError>
 where
     S::Elem: Clone + Drop,
-    requires { (x y : S.Elem) → S.Elem.is_clone x y → y ≡ x }
+    requires { EachCloneIsEqual S.Elem.is_clone }
     ensures frame { KeepsFrame S.frame array.old array.new }
     ensures done { Acts (acting T.held act.now) (meaning_of array.old) (meaning_of array.new) result }
 {
@@ -155,7 +156,7 @@ struct ActOn<'p, A, T> {
 impl<'p, A: Clone + Drop, T: Holds<A>> ArrayTask<A> for ActOn<'p, A, T> {
     type Answer = Result<Option<Cause>, AllocError>;
 
-    ghost pre = { λ _ _. (x y : A) → A.is_clone x y → y ≡ x };
+    ghost pre = { λ _ _. EachCloneIsEqual A.is_clone };
 
     ghost post = { λ task m n answer. Acts (acting T.held task.act.now) m n answer };
 
@@ -163,7 +164,7 @@ impl<'p, A: Clone + Drop, T: Holds<A>> ArrayTask<A> for ActOn<'p, A, T> {
         self,
         array: &mut ArrayBase<S, IxDyn>,
     ) -> Result<Option<Cause>, AllocError>
-        requires { (x y : A) → A.is_clone x y → y ≡ x }
+        requires { EachCloneIsEqual A.is_clone }
         ensures frame { KeepsFrame S.frame array.old array.new }
         ensures done { Acts (acting T.held self.entry.act.now) (meaning_of array.old) (meaning_of array.new) result }
     {
@@ -180,7 +181,7 @@ fn act_on_both<S: DataMut, T: Holds<S::Elem>>(
 ) -> Result<Option<Cause>, AllocError>
 where
     S::Elem: Clone + Drop,
-    requires { (x y : S.Elem) → S.Elem.is_clone x y → y ≡ x }
+    requires { EachCloneIsEqual S.Elem.is_clone }
     ensures lower_frame { KeepsFrame S.frame lower.old lower.new }
     ensures upper_frame { KeepsFrame S.frame upper.old upper.new }
     ensures done { ActsOnBoth T.held first.now second.now lower.old upper.old lower.new upper.new result }
@@ -208,7 +209,7 @@ struct ActOnParts<'p, A, T> {
 impl<'p, A: Clone + Drop, T: Holds<A>> PairOfArraysTask<A> for ActOnParts<'p, A, T> {
     type Answer = Result<Option<Cause>, AllocError>;
 
-    ghost pre = { λ _ _ _. (x y : A) → A.is_clone x y → y ≡ x };
+    ghost pre = { λ _ _ _. EachCloneIsEqual A.is_clone };
 
     ghost post = { λ task m m' n n' answer. ActsOnTwo (acting T.held task.first.now) (acting T.held task.second.now) m m' n n' answer };
 
@@ -217,7 +218,7 @@ impl<'p, A: Clone + Drop, T: Holds<A>> PairOfArraysTask<A> for ActOnParts<'p, A,
         one: &mut ArrayBase<S, IxDyn>,
         two: &mut ArrayBase<S, IxDyn>,
     ) -> Result<Option<Cause>, AllocError>
-        requires { (x y : A) → A.is_clone x y → y ≡ x }
+        requires { EachCloneIsEqual A.is_clone }
         ensures one_frame { KeepsFrame S.frame one.old one.new }
         ensures two_frame { KeepsFrame S.frame two.old two.new }
         ensures done { ActsOnBoth T.held self.entry.first.now self.entry.second.now one.old two.old one.new two.new result }
@@ -267,7 +268,7 @@ fn act_along<A: Clone + Drop, T: Holds<A>>(
     path: &[Step],
     act: &Act<A, T>,
 ) -> Result<Option<Cause>, AllocError>
-    requires { (x y : A) → A.is_clone x y → y ≡ x }
+    requires { EachCloneIsEqual A.is_clone }
     ensures { WritesAlong (map asked_step path.now) (acting T.held act.now) array.old array.new result }
 {
     as_one(with_path_mut(array, WritePath { path }, ActOn { act }))
@@ -279,7 +280,7 @@ pub fn write_through<A: Clone + Eq + Drop, T: Holds<A>>(
     path: &[Step],
     act: &Act<A, T>,
 ) -> Result<Reply<A>, AllocError>
-    requires { (x y : A) → A.is_clone x y → y ≡ x }
+    requires { EachCloneIsEqual A.is_clone }
     ensures { CarriesOut A.eq (Writing (map asked_step path.now) (acting T.held act.now)) array.old array.new result }
 {
     let refused = act_along(array, path, act)?;
@@ -294,7 +295,7 @@ pub fn write_parts<A: Clone + Eq + Drop, T: Holds<A>>(
     first: &Act<A, T>,
     second: &Act<A, T>,
 ) -> Result<Reply<A>, AllocError>
-    requires { (x y : A) → A.is_clone x y → y ≡ x }
+    requires { EachCloneIsEqual A.is_clone }
     ensures { CarriesOut A.eq (asked_split T.held axis index first.now second.now) array.old array.new result }
 {
     let refused = point_refusal(array.shape(), axis, index);

@@ -1,6 +1,7 @@
 //! Calls on elements whose clones are refused. Each element is dropped once.
 
 ghost use Rattle.std.specs.Prelude.{◌≡◌, ◌≤◌, length};
+ghost use Rattle.nd_array_core.specs.base.Fresh.{EachCloneIsEqual};
 
 use nd_array_core::Array;
 use nd_run::run::{RunFault, run};
@@ -26,7 +27,7 @@ fn asked_from_the_back<A: Clone + Eq + Drop>(
     alloc: Global,
     start: Array<A, IxDyn>,
 ) -> Result<(usize, bool), Fail>
-    requires { (x y : A) → A.is_clone x y → y ≡ x }
+    requires { EachCloneIsEqual A.is_clone }
 {
     let mut calls = Vec::new(alloc);
     calls.push(Call::Keep(Step::SliceAxis(0, Slice::new(0, None, -1))))?;
@@ -79,7 +80,7 @@ fn written<A: Clone + Eq + Drop>(
     three: A,
     four: A,
 ) -> Result<(usize, Option<Array<A, IxDyn>>), Fail>
-    requires { (x y : A) → A.is_clone x y → y ≡ x }
+    requires { EachCloneIsEqual A.is_clone }
 {
     let mut path = Vec::new(alloc);
     path.push(Step::SliceAxis(0, Slice::new(1, None, 1)))?;
@@ -149,7 +150,7 @@ fn laid_out_and_assigned<A: Clone + Eq + Drop>(
     start: Array<A, IxDyn>,
     other: Array<A, IxDyn>,
 ) -> Result<(usize, Option<Array<A, IxDyn>>), Fail>
-    requires { (x y : A) → A.is_clone x y → y ≡ x }
+    requires { EachCloneIsEqual A.is_clone }
 {
     let mut calls = Vec::new(alloc);
     calls.push(Call::Keep(Step::Reverse))?;
@@ -224,7 +225,7 @@ fn lengthened<A: Clone + Eq + Drop>(
     two: Array<A, IxDyn>,
     one: Array<A, IxDyn>,
 ) -> Result<(usize, usize), Fail>
-    requires { (x y : A) → A.is_clone x y → y ≡ x }
+    requires { EachCloneIsEqual A.is_clone }
 {
     let mut calls = Vec::new(alloc);
     calls.push(Call::Append(0, two))?;
@@ -258,7 +259,7 @@ fn chosen_and_asked<A: Clone + Eq + Drop>(
     alloc: Global,
     start: Array<A, IxDyn>,
 ) -> Result<(usize, bool), Fail>
-    requires { (x y : A) → A.is_clone x y → y ≡ x }
+    requires { EachCloneIsEqual A.is_clone }
 {
     let mut calls = Vec::new(alloc);
     calls.push(Call::Select(0, Vec::from_slice(alloc, &[2, 0, 2])?))?;
@@ -305,7 +306,7 @@ fn joined<A: Clone + Eq + Drop>(
     behind: Array<A, IxDyn>,
     beside: Array<A, IxDyn>,
 ) -> Result<(usize, usize), Fail>
-    requires { (x y : A) → A.is_clone x y → y ≡ x }
+    requires { EachCloneIsEqual A.is_clone }
 {
     let mut first = Vec::new(alloc);
     first.push(behind)?;

@@ -5,6 +5,7 @@ ghost use Rattle.nd_array_core.specs.Meaning.{meaning_of};
 ghost use Rattle.nd_array_core.specs.growth.InTurn.{lengths_along, meanings_of, ClonesOfEachAreEqual};
 ghost use Rattle.nd_array_core.specs.reshape.RunSlices.{IsStandardArray};
 ghost use Rattle.nd_stacking.specs.Weaving.{row_of, run_length, given_to_row, size_before, size_behind, woven, AreElementsOf, EachIs, HasWholeRun, IsByRank};
+ghost use Rattle.nd_array_core.specs.base.Fresh.{ClonesAreEqual};
 
 use crate::fitting::length_at;
 use nd_array_core::ArrayView;
@@ -52,7 +53,7 @@ pub(crate) fn are_long(count: usize, rows: usize, arrays: usize) -> bool {
 /// anew for each element.
 #[inline(always)]
 fn with_clones<A: Clone + Drop>(items: Vec<A>, run: &[A]) -> Result<Vec<A>, NoMemory>
-    requires clones { EachIs (λ x. (copy : A) → A.is_clone x copy → copy ≡ x) run.now }
+    requires clones { EachIs (λ x. ClonesAreEqual A.is_clone x) run.now }
     requires room { vec_len items + length run.now ≤ vec_capacity items }
     ensures items { IfOk result (λ v. v.items ≡ items.items ++ run.now) }
     ensures len { IfOk result (λ v. vec_len v ≡ vec_len items + length run.now) }

@@ -4,6 +4,7 @@
 ghost use Rattle.std.specs.Prelude.{◌≡◌, ◌+◌, ◌<◌, ◌∷◌, [], ℕ, IfOk, slice_index};
 ghost use Rattle.nd_array_core.specs.Meaning.{shape_of};
 ghost use Rattle.nd_array_core.specs.Coordinates.{element_of_2, element_of_3, HasRowsAndColumns};
+ghost use Rattle.nd_array_core.specs.base.Fresh.{EachCloneIsEqual};
 
 use nd_array_core::{Array2, Array3, ArrayError, ArrayView2};
 use nd_shape_and_slice::Axis;
@@ -16,7 +17,7 @@ pub fn side_by_side<'a, A: Clone + Drop>(
     left: ArrayView2<'a, A>,
     right: ArrayView2<'a, A>,
 ) -> Result<Array2<A>, ArrayError>
-    requires clones { (x copy : A) → A.is_clone x copy → copy ≡ x }
+    requires clones { EachCloneIsEqual A.is_clone }
     requires rows { slice_index (shape_of right) 0 ≡ slice_index (shape_of left) 0 }
     ensures shape { IfOk result (λ table. HasRowsAndColumns table (slice_index (shape_of left.entry) 0) (slice_index (shape_of left.entry) 1 + slice_index (shape_of right.entry) 1)) }
     ensures left { IfOk result (λ table. (i j : ℕ) → i < slice_index (shape_of left.entry) 0 → j < slice_index (shape_of left.entry) 1 → element_of_2 table i j ≡ element_of_2 left.entry i j) }
@@ -33,7 +34,7 @@ pub fn film<'a, A: Clone + Drop>(
     before: ArrayView2<'a, A>,
     after: ArrayView2<'a, A>,
 ) -> Result<Array3<A>, ArrayError>
-    requires clones { (x copy : A) → A.is_clone x copy → copy ≡ x }
+    requires clones { EachCloneIsEqual A.is_clone }
     requires size { shape_of after ≡ shape_of before }
     ensures shape { IfOk result (λ film. shape_of film ≡ 2 ∷ slice_index (shape_of before.entry) 0 ∷ slice_index (shape_of before.entry) 1 ∷ []) }
     ensures first { IfOk result (λ film. (i j : ℕ) → i < slice_index (shape_of before.entry) 0 → j < slice_index (shape_of before.entry) 1 → element_of_3 film 0 i j ≡ element_of_2 before.entry i j) }

@@ -1,6 +1,7 @@
 //! Each clone of both calls refused in turn: what was made is dropped, and the arguments are as they were.
 
 ghost use Rattle.std.specs.Prelude.{◌≡◌};
+ghost use Rattle.nd_array_core.specs.base.Fresh.{EachCloneIsEqual};
 
 use nd_array_core::Array2;
 use nd_shape_and_slice::Axis;
@@ -29,7 +30,7 @@ fn joins<'a, A: Numbered + Clone + Drop>(
     other: &'a Array2<A>,
     way: usize,
 ) -> bool
-    requires clones { (x y : A) → A.is_clone x y → y ≡ x }
+    requires clones { EachCloneIsEqual A.is_clone }
 {
     let first = one.view();
     let (_rows, _columns) = first.dim();
