@@ -86,11 +86,10 @@ pub fn every_second_row<S: Data>(image: &ArrayBase<S, Ix2>) -> ArrayView2<'_, S:
 }
 
 /// Every second row and column, from the first on.
-#[tactic(auto)]
+#[tactic(auto, using(std::proofs::lemmas::Bool::Decides::nat_tests, nd_array_core::proofs::Axes::known_axes))]
 pub fn thumbnail<S: Data>(image: &ArrayBase<S, Ix2>) -> ArrayView2<'_, S::Elem>
     ensures elements { (row column : ℕ) → row * 2 < slice_index (shape_of image.now) 0 → column * 2 < slice_index (shape_of image.now) 1 → element_of_2 result row column ≡ element_of_2 image.now (row * 2) (column * 2) }
 {
-    let (_rows, _columns) = image.dim();
     image.slice(s![Slice::from(..).step_by(2), Slice::from(..).step_by(2)])
 }
 
