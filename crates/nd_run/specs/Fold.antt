@@ -175,8 +175,8 @@ done eq (Reserving axis additional) m = (SaidDone, m)
 done eq (Concatenating axis others) m = (SaidDone, followed_by axis m others)
 done eq (Stacking axis others) m = (SaidDone, stack_of axis m others)
 
--- whether it takes memory of an array: a selection where what is chosen has an element, an array that comes behind where
--- it brings one, and room where it is for one
+-- Whether a call takes memory where nothing is against it: a selection does where it has an element, an array that comes
+-- behind where it brings one, and room where it is room for one.
 abbrev pub takes_memory : {A : Type 0} → Asked A → Meaning A → Bool
 takes_memory (Keeping step) m = false
 takes_memory (About path question) m = answers_in_memory question (meaning_at_end path m)

@@ -1,6 +1,6 @@
 //! Steps, questions, acts and calls from the words of a line.
 
-ghost use Rattle.std.specs.Prelude.{◌≡◌, map};
+ghost use Rattle.std.specs.Prelude.{map};
 ghost use Rattle.nd_array_core.specs.Meaning.{meaning_of};
 ghost use Rattle.nd_text.specs.Words.{words_of};
 ghost use Rattle.nd_run.specs.Calls.{asked_step, asking, acting, acting_both, asked_call, boxed};

@@ -1,7 +1,7 @@
 use Rattle.std.proofs.Common.{◌≡◌, ◌<◌, ◌^◌, ap, arith, not, ℕ, Bool, true, false, cond, List, length, Option, None, Some, refl, subst}
 use Rattle.std.specs.Prelude.{nat_lt}
 use Rattle.std.proofs.lemmas.Bool.{ltb-true, ne_eqb}
-use Rattle.nd_shape_and_slice.specs.Shape.{nonzero_product, size_of, HasCheckedSize}
+use Rattle.nd_shape_and_slice.specs.Shape.{nonzero_product, HasCheckedSize}
 use Rattle.nd_shape_and_slice.specs.Broadcast.{stretches}
 use Rattle.nd_shape_and_slice.specs.declared.errors.ErrorKind.{ErrorKind}
 use Rattle.nd_array_core.specs.Joined.{concatenated_shape, shape_behind}
