@@ -11,17 +11,17 @@ use std::alloc::Global;
 use std::test::Fail;
 
 /// Whether the list could get these numbers behind it.
+#[tactic(auto, using(nd_array_core::proofs::Axes::known_axes))]
 fn grows(alloc: Global, list: &mut Array1<u64>, more: &[u64]) -> Result<bool, Fail> {
     let count = more.len();
     let added: Array1<u64> = array_of(count, Vec::from_slice(alloc, more)?)?;
-    let _axes = list.ndim();
     Ok(list.append(Axis(0), added.view()).is_ok())
 }
 
 #[test]
+#[tactic(auto, using(nd_array_core::proofs::Axes::known_axes))]
 fn room_is_taken_once(rt: HostRuntime) -> Result<(), Fail> {
     let mut list: Array1<u64> = array_of(3, numbers(rt.alloc(), 1, 3)?)?;
-    let _axes = list.ndim();
     if list.reserve(Axis(0), 4).is_err() {
         assert_eq!(rt; listed(rt.alloc(), &list)?.as_slice(), [1, 2, 3].as_slice());
         return Err("refused: reserve".into());
@@ -37,9 +37,9 @@ fn room_is_taken_once(rt: HostRuntime) -> Result<(), Fail> {
 }
 
 #[test]
+#[tactic(auto, using(nd_array_core::proofs::Axes::known_axes))]
 fn room_behind_what_was_taken_out(rt: HostRuntime) -> Result<(), Fail> {
     let mut list: Array1<u64> = array_of(3, numbers(rt.alloc(), 1, 3)?)?;
-    let _axes = list.ndim();
     if list.reserve(Axis(0), 4).is_err() {
         return Err("refused: reserve".into());
     }
@@ -81,10 +81,10 @@ fn columns_in_reserved_room(rt: HostRuntime) -> Result<(), Fail> {
 }
 
 /// Whether a table of one row gets another row behind it, or room, by one of the calls.
+#[tactic(auto, using(nd_array_core::proofs::Axes::known_axes))]
 fn longer(table: &mut Array2<u64>, row: &Array2<u64>, way: u64) -> bool
     requires row { shape_of row.now ≡ 1 ∷ 2 ∷ [] }
 {
-    let (_rows, _columns) = table.dim();
     match way {
         0 => table.push_row(row.index_axis(Axis(0), 0)).is_ok(),
         1 => table.push(Axis(0), row.index_axis(Axis(0), 0)).is_ok(),
@@ -116,6 +116,7 @@ fn tables_made_longer(rt: HostRuntime) -> Result<(), Fail> {
 }
 
 #[test]
+#[tactic(auto, using(nd_array_core::proofs::Axes::known_axes))]
 fn broadcast_rows_in_reserved_room(rt: HostRuntime) -> Result<(), Fail> {
     let nine: Array2<u64> = array_of((1, 1), Vec::from_slice(rt.alloc(), &[9])?)?;
     let row: Array2<u64> = array_of((1, 2), Vec::from_slice(rt.alloc(), &[3, 4])?)?;
@@ -123,7 +124,6 @@ fn broadcast_rows_in_reserved_room(rt: HostRuntime) -> Result<(), Fail> {
     if table.reserve_rows(3).is_err() {
         return Err("refused: reserve_rows".into());
     }
-    let (_rows, _columns) = table.dim();
     let done = table
         .append_each(Axis(0), &[nine.view(), row.view(), nine.view()])
         .is_ok();

@@ -107,17 +107,17 @@ fn elements_with_indexes_of_the_transpose(rt: HostRuntime) {
 }
 
 #[test]
+#[tactic(auto, using(std::proofs::lemmas::Bool::Decides::nat_tests, nd_array_core::proofs::Axes::known_axes))]
 fn every_second_column_backwards(rt: HostRuntime) {
     let table = table(&rt, rt.alloc());
-    let _axes = table.ndim();
     let part = table.slice_axis(Axis(1), Slice::new(0, None, -2));
     assert_eq!(rt; digits(&part), 428631);
 }
 
 #[test]
+#[tactic(auto, using(std::proofs::lemmas::Bool::Decides::nat_tests, nd_array_core::proofs::Axes::known_axes))]
 fn every_second_column_from_the_last_element(rt: HostRuntime) {
     let table = table(&rt, rt.alloc());
-    let _axes = table.ndim();
     let part = table.slice_axis(Axis(1), Slice::new(0, None, -2));
     assert_eq!(rt; digits_back(&part), 136824);
 }
@@ -139,9 +139,9 @@ fn rows_from_the_last(rt: HostRuntime) {
 }
 
 #[test]
+#[tactic(auto, using(nd_array_core::proofs::Axes::known_axes))]
 fn columns_from_the_last(rt: HostRuntime) {
     let table = table(&rt, rt.alloc());
-    let _axes = table.ndim();
     let mut columns = axis_iter(&table, Axis(1));
     assert_eq!(rt;
         columns.next_back().map(|column| digits(&column)),
