@@ -9,6 +9,7 @@ use nd_shape_and_slice::Axis;
 use nd_test_arrays::{Numbered, Tally, made, shows, stores};
 
 /// How an append of rows or columns behind a table ended.
+#[tactic(auto, using(nd_array_core::proofs::Axes::known_axes))]
 fn end_behind<A: Numbered + Clone + Drop>(
     array: &mut Array2<A>,
     axis: usize,
@@ -16,7 +17,6 @@ fn end_behind<A: Numbered + Clone + Drop>(
 ) -> End
     requires clones { (x y : A) → A.is_clone x y → y ≡ x }
 {
-    let (_rows, _columns) = array.dim();
     if axis < 2 {
         end_of(&array.append(Axis(axis), more.view()))
     } else {
