@@ -62,10 +62,10 @@ fn behind_none(rt: HostRuntime) {
 }
 
 #[test]
+#[tactic(auto, using(nd_array_core::proofs::Axes::known_axes))]
 fn behind_a_part_without_elements(rt: HostRuntime) {
     let mut table: Array2<u64> = made(rt.alloc(), (1, 3), &[1, 2, 3]).expect(&rt, "made");
     let more: Array2<u64> = made(rt.alloc(), (1, 3), &[7, 8, 9]).expect(&rt, "made");
-    let (_rows, _columns) = table.dim();
     table.slice_axis_inplace(Axis(0), Slice::new(0, Some(0), 1));
     assert_eq!(rt; end_behind(&mut table, 0, &more), End::Done);
     assert_eq!(rt; table.strides(), [3, 1].as_slice());
@@ -104,9 +104,9 @@ fn behind_what_was_taken_out(rt: HostRuntime) {
 }
 
 #[test]
+#[tactic(auto, using(nd_array_core::proofs::Axes::known_axes))]
 fn room_that_was_reserved(rt: HostRuntime) {
     let mut list: Array1<u64> = made(rt.alloc(), 3, &[1, 2, 3]).expect(&rt, "made");
-    let _axes = list.ndim();
     assert!(rt; list.reserve(Axis(0), 4).is_ok());
     let all = [1, 2, 3, 4, 5, 6, 7];
     behind_list(&rt, list, &[&[4, 5], &[6], &[7]], &all, &all);
@@ -173,10 +173,10 @@ fn rows_and_columns_behind_tables(rt: HostRuntime) {
 }
 
 /// Whether columns could be put behind those of a table.
+#[tactic(auto, using(nd_array_core::proofs::Axes::known_axes))]
 fn widens<A: Numbered + Clone + Drop>(table: &mut Array2<A>, more: &Array2<A>) -> bool
     requires clones { EachCloneIsEqual A.is_clone }
 {
-    let _extents = table.dim();
     table.append(Axis(1), more.view()).is_ok()
 }
 

@@ -10,6 +10,7 @@ use nd_shape_and_slice::Axis;
 use nd_test_arrays::{Numbered, Tally, made, shows, stores};
 
 /// How an append of rows or columns behind a table ended.
+#[tactic(auto, using(nd_array_core::proofs::Axes::known_axes))]
 fn end_behind<A: Numbered + Clone + Drop>(
     array: &mut Array2<A>,
     axis: usize,
@@ -17,7 +18,6 @@ fn end_behind<A: Numbered + Clone + Drop>(
 ) -> End
     requires clones { EachCloneIsEqual A.is_clone }
 {
-    let (_rows, _columns) = array.dim();
     if axis < 2 {
         end_of(&array.append(Axis(axis), more.view()))
     } else {

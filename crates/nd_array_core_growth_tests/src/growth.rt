@@ -42,10 +42,10 @@ fn room_for_more_than_a_shape_can_have(rt: HostRuntime) {
 }
 
 #[test]
+#[tactic(auto, using(nd_array_core::proofs::Axes::known_axes))]
 fn room_for_elements_without_bytes(rt: HostRuntime) {
     let units = Vec::from_slice(rt.alloc(), &[(), (), ()]).expect(&rt, "memory");
     let mut nothing: Array1<()> = Array1::from_shape_vec(3, units).expect(&rt, "shape");
-    let _axes = nothing.ndim();
     let most = 9223372036854775805;
     assert_eq!(rt; end_of(&nothing.reserve(Axis(0), most)), End::Overflow);
     assert_eq!(rt; nothing.len(), 3);
@@ -63,10 +63,10 @@ fn room_in_tables(rt: HostRuntime) {
 }
 
 #[test]
+#[tactic(auto, using(nd_array_core::proofs::Axes::known_axes))]
 fn room_where_there_is_no_element(rt: HostRuntime) {
     let mut wide: Array2<u64> = made(rt.alloc(), (0, 4611686018427387904), &[]).expect(&rt, "made");
     for (rows, end) in [(0, End::Done), (2, End::Overflow), (1, End::NoMemory)] {
-        let _extents = wide.dim();
         assert_eq!(rt; end_of(&wide.reserve(Axis(0), rows)), end);
     }
     assert_eq!(rt; wide.shape(), [0, 4611686018427387904].as_slice());
@@ -75,7 +75,6 @@ fn room_where_there_is_no_element(rt: HostRuntime) {
         (3074457345618258599, End::Done),
         (9223372036854775805, End::Overflow),
     ] {
-        let _extents = flat.dim();
         assert_eq!(rt; end_of(&flat.reserve(Axis(0), rows)), end);
     }
     assert_eq!(rt; flat.shape(), [3, 0].as_slice());

@@ -107,11 +107,11 @@ fn refused_at(outcome: &Result<(), (usize, ArrayError)>) -> (usize, End) {
 }
 
 #[test]
+#[tactic(auto, using(nd_array_core::proofs::Axes::known_axes))]
 fn several_in_turn(rt: HostRuntime) {
     let mut table: Array2<u64> = made(rt.alloc(), (1, 2), &[1, 2]).expect(&rt, "made");
     let first: Array2<u64> = made(rt.alloc(), (1, 2), &[3, 4]).expect(&rt, "made");
     let second: Array2<u64> = made(rt.alloc(), (1, 3), &[5, 6, 7]).expect(&rt, "made");
-    let _extents = table.dim();
     let none = refused_at(&table.append_each(Axis(0), &[]));
     assert_eq!(rt; none, (0, End::Done));
     let refused = refused_at(&table.append_each(
@@ -135,9 +135,9 @@ fn columns_in_room_that_was_reserved(rt: HostRuntime) {
 }
 
 #[test]
+#[tactic(auto, using(nd_array_core::proofs::Axes::known_axes))]
 fn lists_in_room_that_was_reserved(rt: HostRuntime) {
     let mut list: Array1<u64> = made(rt.alloc(), 3, &[1, 2, 3]).expect(&rt, "made");
-    let _axes = list.ndim();
     assert!(rt; list.reserve(Axis(0), 4).is_ok());
     let first: Array1<u64> = made(rt.alloc(), 2, &[4, 5]).expect(&rt, "made");
     let second: Array1<u64> = made(rt.alloc(), 1, &[6]).expect(&rt, "made");

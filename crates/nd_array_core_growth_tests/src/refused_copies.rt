@@ -9,9 +9,9 @@ use nd_test_arrays::{array_of, lists, shows};
 use std::test::Fail;
 
 #[test]
+#[tactic(auto, using(nd_array_core::proofs::Axes::known_axes))]
 fn rows_chosen_and_a_view_owned(rt: HostRuntime) -> Result<(), Fail> {
     let image: Array2<u64> = array_of((2, 2), Vec::from_slice(rt.alloc(), &[1, 2, 3, 4])?)?;
-    let (_rows, _columns) = image.dim();
     match image.select(rt.alloc(), Axis(1), &[1, 0, 1]) {
         Ok(chosen) => assert!(rt; shows(&chosen, [2, 3], &[2, 1, 2, 4, 3, 4])),
         Err(_) => return Err("refused: select".into()),
@@ -37,9 +37,9 @@ fn last_doubled(lane: &mut LaneMut<'_, u64>) -> u64
 }
 
 #[test]
+#[tactic(auto, using(nd_array_core::proofs::Axes::known_axes))]
 fn lanes_handed_or_not(rt: HostRuntime) -> Result<(), Fail> {
     let mut image: Array2<u64> = array_of((2, 2), Vec::from_slice(rt.alloc(), &[1, 2, 3, 4])?)?;
-    let (_rows, _columns) = image.dim();
     match image.map_axis_mut(rt.alloc(), Axis(1), last_doubled) {
         Ok(lasts) => assert!(rt; lists(&lasts, &[2, 4])),
         Err(_) => {

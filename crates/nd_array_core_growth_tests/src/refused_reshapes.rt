@@ -150,12 +150,12 @@ fn lines_repeated_or_turned_round(rt: HostRuntime) -> Result<(), Fail> {
 }
 
 #[test]
+#[tactic(auto, using(nd_array_core::proofs::Axes::known_axes))]
 fn a_line_that_goes_backwards_is_kept(rt: HostRuntime) -> Result<(), Fail> {
     let tally = Tally::allowing(0);
     {
         let items = Refusing::listed(rt.alloc(), &[1, 2, 3, 4], &tally)?;
         let mut line: Array1<Refusing<'_>> = array_of(4, items)?;
-        let _count = line.dim();
         line.invert_axis(Axis(0));
         match line.into_shape_clone(rt.alloc(), (2, 2)) {
             Ok(square) => {
