@@ -17,7 +17,6 @@ use Rattle.nd_run.specs.Calls.{AskedStep, Asking, AskShape, AskElements, AskElem
 use Rattle.std.specs.Prelude.{map, nat_eq}
 use Rattle.std.specs.Cmp.Lexicographic.{pointwise}
 use Rattle.std.specs.List.{count_by, insert, list_all}
-use Rattle.nd_shape_and_slice.specs.declared.TheConstants.{MAX_AXES}
 use Rattle.nd_shape_and_slice.specs.Shape.{nonzero_product, size_of}
 use Rattle.nd_array_core.specs.along.Selected.{selected_shape, selected_index}
 use Rattle.nd_array_core.specs.along.Removed.{removed_shape, removed_index}
@@ -83,7 +82,7 @@ number_of causes.Broadcast = 8
 -- the tests of other lengths for the same elements
 abbrev pub reshape_tests : List ℕ → List ℕ → List Test
 reshape_tests to ns =
-    (nat_le (length to) MAX_AXES, causes.TooManyAxes) ∷ (nat_lt (nonzero_product to) (2 ^ 63), causes.Shape)
+    (nat_le (length to) 32, causes.TooManyAxes) ∷ (nat_lt (nonzero_product to) (2 ^ 63), causes.Shape)
     ∷ (size_of to == size_of ns, causes.Shape) ∷ []
 
 -- the tests of a question on an array of these lengths
@@ -145,7 +144,7 @@ stack_of axis m others = followed_by axis (with_axis_inserted axis m) (map (with
 -- the tests of these: each has the same lengths
 abbrev pub stack_tests : {A : Type 0} → ℕ → List (Meaning A) → List ℕ → List Test
 stack_tests axis others ns =
-    (nat_le axis (length ns), causes.Axis) ∷ (nat_lt (length ns) MAX_AXES, causes.TooManyAxes)
+    (nat_le axis (length ns), causes.Axis) ∷ (nat_lt (length ns) 32, causes.TooManyAxes)
     ∷ (list_all (λ n. pointwise nat_eq n.shape ns) others, causes.Shape) ∷ size_test (insert ns axis (length others + 1)) ∷ []
 
 abbrev pub tests_for : {A : Type 0} → Asked A → List ℕ → List Test

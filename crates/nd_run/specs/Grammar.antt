@@ -1,6 +1,5 @@
 -- Which words write what: the grammar of a line, apart from any way of reading it.
 use Rattle.std.specs.Prelude.{◌≡◌, ℕ, ◌≤◌, List, [], ◌∷◌, ◌++◌, length, slice_get, ℤ, Option, None, Some, codes}
-use Rattle.nd_shape_and_slice.specs.declared.TheConstants.{MAX_AXES}
 use Rattle.nd_shape_and_slice.specs.Shape.{HasCheckedSize, size_of, row_rank}
 use Rattle.nd_array_core.specs.Laws.{with_axis_inserted}
 use Rattle.nd_array_core.specs.Meaning.{Meaning, inside}
@@ -86,7 +85,7 @@ array_of lengths elements = record { shape = lengths; at = λ i. inside lengths 
 abbrev pub AreParts : List (List ℕ) → List ℕ × List ℤ → Type 0
 AreParts words parts =
     (front : List (List ℕ)) × (back : List (List ℕ)) × (words ≡ front ++ back)
-    × IsList front parts.0 × (length parts.0 ≤ MAX_AXES) × HasCheckedSize parts.0
+    × IsList front parts.0 × (length parts.0 ≤ 32) × HasCheckedSize parts.0
     × AreInTurn (IsWord IsInt) back parts.1 × (length parts.1 ≡ size_of parts.0)
 
 -- an array: its lengths, and its elements in row-major order

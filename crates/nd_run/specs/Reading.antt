@@ -2,7 +2,6 @@
 use Rattle.std.specs.Prelude.{◌≡◌, ◌<◌, ℕ, zero, suc, ◌^◌, ◌&&◌, ◌||◌, Bool, true, false, nat_le, nat_lt, List, [], ◌∷◌, ℤ, Option, None, Some, Result, Ok, Err, codes, length, if◌then◌else◌, IsTrue}
 use Rattle.std.specs.Str.{bytes_eq}
 use Rattle.std.specs.Option.{option_map}
-use Rattle.nd_shape_and_slice.specs.declared.TheConstants.{MAX_AXES}
 use Rattle.nd_shape_and_slice.specs.Shape.{nonzero_product, size_of}
 use Rattle.nd_shape_and_slice.specs.declared.slice.Slice.{Slice}
 use Rattle.nd_shape_and_slice.specs.declared.slice_info.SliceInfoElem.{SliceInfoElem}
@@ -120,7 +119,7 @@ ordered_list_at words = both_at order_at list_at words
 unfoldable pub lengths_at : List (List ℕ) → Option (List ℕ × List (List ℕ))
 lengths_at words = do
   count ← first_as nat_of words
-  if nat_le count.0 MAX_AXES then many_at (first_as nat_of) count.0 count.1 else None
+  if nat_le count.0 32 then many_at (first_as nat_of) count.0 count.1 else None
 
 -- the size of an array, where it has a checked one
 abbrev pub checked_size : List ℕ → Option ℕ
@@ -273,7 +272,7 @@ list_may_lack words = read_then (first_as nat_of words) many_may_lack
 
 -- at most 32 lengths, or the element of an array without axes
 abbrev pub parts_may_lack : ℕ → List (List ℕ) → Bool
-parts_may_lack n words = nat_le n MAX_AXES && (nat_lt 0 (length words) && nat_le n (length words))
+parts_may_lack n words = nat_le n 32 && (nat_lt 0 (length words) && nat_le n (length words))
 
 abbrev pub array_may_lack : List (List ℕ) → Bool
 array_may_lack words = read_then (first_as nat_of words) parts_may_lack

@@ -1,6 +1,5 @@
 -- What a step asks of an array, by its lengths alone, and what it makes of the lengths and of the indexes.
 use Rattle.std.specs.Prelude.{◌≡◌, ℕ, ◌+◌, ◌^◌, ◌==◌, Bool, true, false, not, nat_lt, nat_le, List, [], ◌∷◌, length, reverse, swap, slice_index, Option, None, Some, is_some, Result, Ok, Err, if◌then◌else◌}
-use Rattle.nd_shape_and_slice.specs.declared.TheConstants.{MAX_AXES}
 use Rattle.nd_shape_and_slice.specs.Shape.{nonzero_product}
 use Rattle.nd_shape_and_slice.specs.Axes.{names_each_axis, permuted_list, unpermuted_list}
 use Rattle.nd_shape_and_slice.specs.Slice.{fits_axis, sliced_shape, sliced_index}
@@ -43,18 +42,18 @@ element_tests axis ns (NewAxis ∷ es) = element_tests axis ns es
 -- the tests of a step, in order
 abbrev pub tests_of : AskedStep → List ℕ → List Test
 tests_of (SlicedAxis axis slice) ns = has_axis axis ns ∷ (fits_axis (slice_index ns axis) slice, causes.Slice) ∷ []
-tests_of (Sliced es) ns = (axes_read es == length ns, causes.Shape) ∷ (nat_le (axes_kept es) MAX_AXES, causes.TooManyAxes) ∷ element_tests 0 ns es
+tests_of (Sliced es) ns = (axes_read es == length ns, causes.Shape) ∷ (nat_le (axes_kept es) 32, causes.TooManyAxes) ∷ element_tests 0 ns es
 tests_of (Collapsed axis index) ns = has_axis axis ns ∷ has_coordinate axis index ns ∷ []
 tests_of (Indexed axis index) ns = has_axis axis ns ∷ has_coordinate axis index ns ∷ []
 tests_of (Permuted axes) ns = (names_each_axis axes (length ns), causes.Permutation) ∷ []
 tests_of Reversed ns = []
 tests_of (Exchanged a b) ns = has_axis a ns ∷ has_axis b ns ∷ []
 tests_of (Inverted axis) ns = has_axis axis ns ∷ []
-tests_of (Inserted axis) ns = (nat_le axis (length ns), causes.Axis) ∷ (nat_lt (length ns) MAX_AXES, causes.TooManyAxes) ∷ []
+tests_of (Inserted axis) ns = (nat_le axis (length ns), causes.Axis) ∷ (nat_lt (length ns) 32, causes.TooManyAxes) ∷ []
 tests_of (Removed axis) ns = has_axis axis ns ∷ has_coordinate axis 0 ns ∷ []
 tests_of Squeezed ns = []
 tests_of Diagonal ns = []
-tests_of (BroadcastTo to) ns = (nat_le (length to) MAX_AXES, causes.TooManyAxes) ∷ (broadcasts ns to, causes.Broadcast) ∷ []
+tests_of (BroadcastTo to) ns = (nat_le (length to) 32, causes.TooManyAxes) ∷ (broadcasts ns to, causes.Broadcast) ∷ []
 
 -- the first cause against a step
 abbrev pub refusal : AskedStep → List ℕ → Option Cause
