@@ -1,4 +1,4 @@
-use Rattle.std.proofs.Common.{refl, rules, w64, FitsSigned}
+use Rattle.std.proofs.Common.{arith, refl, rules, w64, FitsSigned}
 use Rattle.std.proofs.lemmas.Int.{to_z-of_z}
 use Rattle.nd_layout.specs.Places.{is_place}
 use Rattle.nd_elements.proofs.RowPairs.{rows_checked, rows_pass, rows_held, rows_ask, rows_changed, rows_left}
@@ -31,6 +31,8 @@ pub invariant_of-with_part : goal.invariant_of-with_part
 invariant_of-with_part g c =
     let fits : FitsSigned w64 c.args.stride = search rules in
     record {
+      as_many = refl;
+      few = omega arith;
       checked = rows_checked c.args.count c.requires.checked;
       reach = rows_pass c.args.p c.args.q c.args.count c.args.stride _ _ c.requires.behind (to_z-of_z w64 c.args.stride fits) refl is_place c.requires.reach.0 c.requires.reach.1;
     }

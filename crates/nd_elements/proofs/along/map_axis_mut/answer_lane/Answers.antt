@@ -1,4 +1,4 @@
-use Rattle.std.proofs.Common.{rules, sym, subst, w64, FitsSigned}
+use Rattle.std.proofs.Common.{refl, arith, rules, sym, subst, w64, FitsSigned}
 use Rattle.std.specs.Prelude.{Some}
 use Rattle.std.proofs.lemmas.Int.{to_z-of_z}
 use Rattle.nd_elements.specs.along.LanesWritten.{MayBeHandedLane}
@@ -41,6 +41,8 @@ invariant_of-with_part g c =
     let lane = c.args.lane in
     let fits : FitsSigned w64 lane.stride = search rules in
     record {
+      as_many = refl;
+      few = omega arith;
       checked = lane_checked lane.count lane.few;
       reach = lane_passes lane.place lane.count lane.stride _ (to_z-of_z w64 lane.stride fits) is_place lane.reach;
     }
