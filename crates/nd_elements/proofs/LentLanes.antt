@@ -1,11 +1,11 @@
 -- A lane lent as a part of a storage, and the lanes of an axis handed out one after the other.
-use Rattle.std.proofs.Common.{◌≡◌, ℕ, zero, suc, ◌+◌, ◌<◌, Bool, true, false, List, [], ◌∷◌, ◌++◌, get_or, ℤ, pos, negsuc, ◌+ℤ◌, ◌*ℤ◌, refl, ap, sym, subst, ◌∙◌, arith}
+use Rattle.std.proofs.Common.{◌≡◌, ℕ, zero, suc, ◌+◌, ◌^◌, ◌<◌, Bool, true, false, List, [], ◌∷◌, ◌++◌, get_or, ℤ, pos, negsuc, ◌+ℤ◌, ◌*ℤ◌, refl, ap, sym, subst, ◌∙◌, arith}
 use Rattle.std.specs.Prelude.{Option, None, Some, is_some, nat_eq, nat_lt, if◌then◌else◌}
 use Rattle.std.specs.Borrow.{MutBor}
 use Rattle.std.specs.Fn.{Mut}
 use Rattle.std.proofs.Math.Path.{fun_ext}
 use Rattle.std.proofs.lemmas.Bool.Decides.{nat_tests}
-use Rattle.nd_shape_and_slice.specs.Shape.{in_box}
+use Rattle.nd_shape_and_slice.specs.Shape.{in_box, HasCheckedSize}
 use Rattle.nd_shape_and_slice.specs.Place.{place_of}
 use Rattle.nd_layout.proofs.Integers.{sums}
 use Rattle.nd_region.specs.declared.region.Region.{Region}
@@ -27,6 +27,11 @@ use Rattle.nd_elements.specs.elements.MapsMut.{Collects}
 use Rattle.nd_elements.proofs.Changed.{stored_same, changed_none, changed_more}
 use Rattle.nd_elements.proofs.Replaced.{replaced_ran, still_next}
 use Rattle.nd_elements.proofs.RunPairs.{number, numbers_distinct}
+
+-- a lane is short enough for a layout
+pub lane_checked : (n : ℕ) → n < 2 ^ 63 → HasCheckedSize (n ∷ [])
+lane_checked zero small = omega arith
+lane_checked (suc n) small = omega (arith, small)
 
 -- the one coordinate of an index of a lane
 pub lane_coordinate : (n : ℕ) (k : List ℕ) → in_box (n ∷ []) k ≡ true → get_or k 0 0 < n
@@ -85,11 +90,15 @@ module _ (place count : ℕ) (s t : ℤ) (strides : t ≡ s) where
       by_index (k ∷ []) h at = (k, lane_coordinate count (k ∷ []) h, sym (lies k) ∙ at)
       by_index (k ∷ j ∷ js) h at = absurd (grind (arith, nat_tests, h))
 
+  -- what is true of its numbers is true of each index' place
+  pub lane_passes : (test : ℤ → Bool) → ((k : ℕ) → k < count → test (pos place +ℤ (pos k *ℤ s)) ≡ true) → (i : List ℕ) → in_box (count ∷ []) i ≡ true → test (place_of place (t ∷ []) i) ≡ true
+  lane_passes test passes [] h = absurd cc
+  lane_passes test passes (k ∷ []) h = ap test (lies k) ∙ passes k (lane_coordinate count (k ∷ []) h)
+  lane_passes test passes (k ∷ j ∷ js) h = absurd (grind (arith, nat_tests, h))
+
   module _ {A : Type 0} (old : ℕ → Option A) where
     pub lane_held_all : ((k : ℕ) → k < count → names_place old (pos place +ℤ (pos k *ℤ s)) ≡ true) → HoldsAll old place (count ∷ []) (t ∷ [])
-    lane_held_all holds [] h = absurd cc
-    lane_held_all holds (k ∷ []) h = ap (names_place old) (lies k) ∙ holds k (lane_coordinate count (k ∷ []) h)
-    lane_held_all holds (k ∷ j ∷ js) h = absurd (grind (arith, nat_tests, h))
+    lane_held_all holds = lane_passes (names_place old) holds
 
     module _ (x : Region A) (part : IsNamedPart old place (count ∷ []) (t ∷ []) x) where
       -- the part shows along the lane what the storage does

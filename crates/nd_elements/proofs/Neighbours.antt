@@ -1,5 +1,5 @@
 -- Two neighbours of a lane, lent as a part of a storage: what one call is shown at the first and leaves at the second.
-use Rattle.std.proofs.Common.{◌≡◌, ℕ, zero, suc, ◌+◌, ◌<◌, Bool, true, false, [], ◌∷◌, ℤ, pos, ◌+ℤ◌, ◌*ℤ◌, refl, ap, sym, subst, ◌∙◌, arith}
+use Rattle.std.proofs.Common.{◌≡◌, ℕ, zero, suc, ◌+◌, ◌<◌, Bool, true, false, List, [], ◌∷◌, ℤ, pos, ◌+ℤ◌, ◌*ℤ◌, refl, ap, sym, subst, ◌∙◌, arith}
 use Rattle.std.specs.Prelude.{Option, None, is_some, nat_lt, if◌then◌else◌}
 use Rattle.std.specs.Borrow.{Bor, MutBor}
 use Rattle.std.specs.Fn.{Mut}
@@ -41,13 +41,17 @@ module _ (place nth count from to : ℕ) (s t : ℤ) (strides : t ≡ s) (within
   pub neighbours_apart : AreDistinct (λ k. pos place +ℤ (pos k *ℤ s)) count → from ≡ to → ⊥
   neighbours_apart apart same = let one = apart nth (nth + 1) (omega (arith, within)) within (sym at_from ∙ (ap pos same ∙ at_to)) in absurd (omega (arith, one))
 
+  -- what is true of the numbers of the lane is true of each index' place
+  pub neighbours_pass : (test : ℤ → Bool) → ((k : ℕ) → k < count → test (pos place +ℤ (pos k *ℤ s)) ≡ true) → (i : List ℕ) → in_box (2 ∷ []) i ≡ true → test (place_of from (t ∷ []) i) ≡ true
+  neighbours_pass test passes [] h = cc
+  neighbours_pass test passes (zero ∷ []) h = ap test (first_place ∙ at_from) ∙ passes nth (omega (arith, within))
+  neighbours_pass test passes (suc zero ∷ []) h = ap test (second_place ∙ at_to) ∙ passes (nth + 1) within
+  neighbours_pass test passes (suc (suc k) ∷ []) h = let off : nat_lt (suc (suc k)) 2 ≡ true = (and_parts (nat_lt (suc (suc k)) 2) true h).0 in absurd (grind (arith, nat_tests, off))
+  neighbours_pass test passes (k ∷ j ∷ js) h = let rest = (and_parts (nat_lt k 2) (in_box [] (j ∷ js)) h).1 in cc
+
   module _ {A : Type 0} (old : ℕ → Option A) where
     pub neighbours_held : ((k : ℕ) → k < count → names_place old (pos place +ℤ (pos k *ℤ s)) ≡ true) → HoldsAll old from (2 ∷ []) (t ∷ [])
-    neighbours_held holds [] h = cc
-    neighbours_held holds (zero ∷ []) h = ap (names_place old) (first_place ∙ at_from) ∙ holds nth (omega (arith, within))
-    neighbours_held holds (suc zero ∷ []) h = ap (names_place old) (second_place ∙ at_to) ∙ holds (nth + 1) within
-    neighbours_held holds (suc (suc k) ∷ []) h = let off : nat_lt (suc (suc k)) 2 ≡ true = (and_parts (nat_lt (suc (suc k)) 2) true h).0 in absurd (grind (arith, nat_tests, off))
-    neighbours_held holds (k ∷ j ∷ js) h = let rest = (and_parts (nat_lt k 2) (in_box [] (j ∷ js)) h).1 in cc
+    neighbours_held holds = neighbours_pass (names_place old) holds
 
     module _ (x : Region A) (part : IsNamedPart old from (2 ∷ []) (t ∷ []) x) where
       pub first_is : region_stored x from ≡ stored_at old (pos place +ℤ (pos nth *ℤ s))

@@ -1,11 +1,12 @@
 -- Two runs of a region, or of a storage: what calls are shown along the first, and leave along the second.
-use Rattle.std.proofs.Common.{◌≡◌, ℕ, zero, suc, ◌+◌, ◌<◌, ◌≤◌, Bool, true, false, List, [], ◌∷◌, length, slice_set, ℤ, pos, ◌+ℤ◌, ◌*ℤ◌, refl, ap, sym, subst, ◌∙◌, arith}
+use Rattle.std.proofs.Common.{◌≡◌, ℕ, zero, suc, ◌+◌, ◌*◌, ◌^◌, ◌<◌, ◌≤◌, Bool, true, false, List, [], ◌∷◌, length, slice_set, ℤ, pos, ◌+ℤ◌, ◌*ℤ◌, refl, ap, sym, subst, ◌∙◌, arith}
 use Rattle.std.specs.Prelude.{Option, None, Some, is_some, not, nat_lt, slice_get, if◌then◌else◌}
 use Rattle.std.specs.Borrow.{Bor, MutBor}
 use Rattle.std.specs.Fn.{Mut}
+use Rattle.std.proofs.Math.Nat.{mul-le-mul_left}
 use Rattle.std.proofs.lemmas.Bool.{and_parts}
 use Rattle.std.proofs.lemmas.Bool.Decides.{nat_tests}
-use Rattle.nd_shape_and_slice.specs.Shape.{in_box}
+use Rattle.nd_shape_and_slice.specs.Shape.{in_box, HasCheckedSize}
 use Rattle.nd_shape_and_slice.specs.Place.{place_of}
 use Rattle.nd_layout.proofs.Integers.{sums, zero-mul, one-mul}
 use Rattle.nd_region.specs.declared.region.Region.{Region}
@@ -139,6 +140,14 @@ module _ (p n : ℕ) (t : ℤ) (one : t ≡ pos 1) where
           row_beside d x y q apart first second ws s u new done.1 done.2 done.3 as_long is holds,
         )
 
+-- two rows are few enough for a layout where they are two of so many
+pub rows_checked : (n : ℕ) → 2 * n < 2 ^ 63 → HasCheckedSize (2 ∷ n ∷ [])
+rows_checked zero small = omega arith
+rows_checked (suc n) small = omega (arith, small)
+
+pub two_of : (n count : ℕ) → 1 < count → n * count < 2 ^ 63 → 2 * n < 2 ^ 63
+two_of n count more small = let least = mul-le-mul_left {m = 2} {n = count} n (omega (arith, more)) in omega (arith, small, least)
+
 -- two rows of a storage, lent as a part of it
 module _ (p q n : ℕ) (s t u : ℤ) (behind : pos q ≡ pos p +ℤ s) (strides : t ≡ s) (one : u ≡ pos 1) where
   rows_at : (k : ℕ) → place_of p (t ∷ u ∷ []) (0 ∷ k ∷ []) ≡ pos (p + k)
@@ -165,14 +174,18 @@ module _ (p q n : ℕ) (s t u : ℤ) (behind : pos q ≡ pos p +ℤ s) (strides 
   second_named : (k : ℕ) → k < n → rows_named (q + k) ≡ true
   second_named k below = named_at p (2 ∷ n ∷ []) (t ∷ u ∷ []) (q + k) (1 ∷ k ∷ []) (in_rows 1 k (omega arith) below) (next_at k)
 
+  -- what is true of all numbers of both is true of each index' place
+  pub rows_pass : (test : ℤ → Bool) → ((k : ℕ) → k < n → test (pos (p + k)) ≡ true) → ((k : ℕ) → k < n → test (pos (q + k)) ≡ true) → (i : List ℕ) → in_box (2 ∷ n ∷ []) i ≡ true → test (place_of p (t ∷ u ∷ []) i) ≡ true
+  rows_pass test at_p at_q [] h = cc
+  rows_pass test at_p at_q (j ∷ []) h = absurd (grind (arith, nat_tests, h))
+  rows_pass test at_p at_q (zero ∷ k ∷ []) h = ap test (rows_at k) ∙ at_p k (grind (arith, nat_tests, h))
+  rows_pass test at_p at_q (suc zero ∷ k ∷ []) h = ap test (next_at k) ∙ at_q k (grind (arith, nat_tests, h))
+  rows_pass test at_p at_q (suc (suc j) ∷ k ∷ []) h = let off : nat_lt (suc (suc j)) 2 ≡ true = (and_parts (nat_lt (suc (suc j)) 2) (in_box (n ∷ []) (k ∷ [])) h).0 in absurd (grind (arith, nat_tests, off))
+  rows_pass test at_p at_q (j ∷ k ∷ l ∷ ls) h = absurd (grind (arith, nat_tests, h))
+
   module _ {A : Type 0} (old : ℕ → Option A) (at_p : HasRunAt old p n) (at_q : HasRunAt old q n) where
     pub rows_held : HoldsAll old p (2 ∷ n ∷ []) (t ∷ u ∷ [])
-    rows_held [] h = cc
-    rows_held (j ∷ []) h = absurd (grind (arith, nat_tests, h))
-    rows_held (zero ∷ k ∷ []) h = ap (names_place old) (rows_at k) ∙ at_p k (grind (arith, nat_tests, h))
-    rows_held (suc zero ∷ k ∷ []) h = ap (names_place old) (next_at k) ∙ at_q k (grind (arith, nat_tests, h))
-    rows_held (suc (suc j) ∷ k ∷ []) h = let off : nat_lt (suc (suc j)) 2 ≡ true = (and_parts (nat_lt (suc (suc j)) 2) (in_box (n ∷ []) (k ∷ [])) h).0 in absurd (grind (arith, nat_tests, off))
-    rows_held (j ∷ k ∷ l ∷ ls) h = absurd (grind (arith, nat_tests, h))
+    rows_held = rows_pass (names_place old) at_p at_q
 
     module _ (x : Region A) (part : IsNamedPart old p (2 ∷ n ∷ []) (t ∷ u ∷ []) x) where
       pub first_row : (k : ℕ) → k < n → run_at x p k ≡ run_of old p k

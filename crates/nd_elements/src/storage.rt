@@ -6,11 +6,12 @@ ghost use Rattle.std.specs.List.{flat_map};
 ghost use Rattle.std.specs.Option.{is_some};
 ghost use Rattle.std.specs.Vec.{with_item, with_items};
 ghost use Rattle.nd_elements.specs.StorageFrame.{StorageFrame, Owned, Borrowed};
+ghost use Rattle.nd_layout.specs.Lanes.{placement_in};
 ghost use Rattle.nd_region.specs.Shared.{shared_stored};
 ghost use Rattle.nd_region.specs.Places.{overwritten_items, run_written};
 ghost use Rattle.nd_region.specs.Region.{region_stored, borrow_of, elements_of, with_element as region_with, with_items as region_items, with_run as region_with_run, IsAsLong};
-ghost use Rattle.nd_elements.specs.ByLayout.{HoldsShown, ShowsNamed, ShowsUnnamed};
-ghost use Rattle.nd_elements.specs.Places.{HoldsAll, written_at, swapped_at};
+ghost use Rattle.nd_elements.specs.ByLayout.{HoldsEach, HoldsShown, ShowsNamed, ShowsUnnamed};
+ghost use Rattle.nd_elements.specs.Places.{written_at, swapped_at};
 ghost use Rattle.nd_elements.specs.Scoped.{TakesNamed, GivesNamedBack, IsStoredReturned, MayLendPart, IsPartGivenBack};
 ghost use Rattle.nd_elements.specs.Storages.{held_by, shown_by, stored_list, room_of, ShowsItems};
 ghost use Rattle.nd_elements.specs.ElementMut.{place_ends, KeepsPlaces, item_kept, item_written, place_kept, place_written};
@@ -20,7 +21,7 @@ ghost use Rattle.nd_elements.specs.RunLent.{run_ends, region_ends, run_start, Ha
 ghost use Rattle.nd_elements.specs.Lends.{written_from};
 ghost use Rattle.nd_elements.specs.Clones.{StoredClonesAreEqual};
 
-use nd_layout::Layout;
+use nd_layout::{Layout, Places};
 use nd_region::{Region, SharedRegion, with_region};
 use nd_shape_and_slice::{Dimension, StrideList};
 use std::alloc::AllocError;
@@ -339,21 +340,17 @@ pub trait DataMut: Data {
         ensures new { (r : ℕ) → Self.stored self.new r ≡ swapped_at (Self.stored self.old) p q r }
         ensures frame { frame self.new ≡ frame self.old };
 
-    /// Lends f the places that the layout names by its offset, lengths and strides, for the length of the call.
-    /// Afterwards each of them holds what f left there, and every other place what it held before. That f gives the
-    /// same borrow back is the condition `returns`.
+    /// Lends f these places, for the length of the call. Afterwards each of them holds what f left there, and every
+    /// other place what it held before. That f gives the same borrow back is the condition `returns`.
     fn with_part<R, F: for<'b> FnOnce(Region<'b, Self::Elem>) -> (Region<'b, Self::Elem>, R)>(
         &mut self,
-        offset: usize,
-        lengths: &[usize],
-        strides: &[isize],
+        places: Places<'_>,
         f: F,
     ) -> R
-        requires as_many { length lengths.now ≡ length strides.now }
-        requires holds { HoldsAll (Self.stored self.old) offset lengths.now strides.now }
-        requires callable { TakesNamed (F.pre f) (Self.stored self.old) offset lengths.now strides.now }
-        requires returns { GivesNamedBack (F.post f) (Self.stored self.old) offset lengths.now strides.now }
-        ensures part { IsStoredReturned (F.post f) Self.stored self.old self.new offset lengths.now strides.now result }
+        requires holds { HoldsEach (Self.stored self.old) (placement_in places) }
+        requires callable { TakesNamed (F.pre f) (Self.stored self.old) (placement_in places) }
+        requires returns { GivesNamedBack (F.post f) (Self.stored self.old) (placement_in places) }
+        ensures part { IsStoredReturned (F.post f) Self.stored self.old self.new (placement_in places.entry) result }
         ensures there { (p : ℕ) → is_some (Self.stored self.new p) ≡ is_some (Self.stored self.old p) }
         ensures frame { frame self.new ≡ frame self.old };
 
@@ -465,12 +462,10 @@ impl<A> DataMut for OwnedRepr<A> {
 
     fn with_part<R, F: for<'b> FnOnce(Region<'b, A>) -> (Region<'b, A>, R)>(
         &mut self,
-        offset: usize,
-        lengths: &[usize],
-        strides: &[isize],
+        places: Places<'_>,
         f: F,
     ) -> R {
-        part_of_slice(self.items.as_mut_slice(), offset, lengths, strides, f)
+        part_of_slice(self.items.as_mut_slice(), places, f)
     }
 }
 
@@ -525,40 +520,38 @@ impl<'a, A> DataMut for ViewMutRepr<'a, A> {
 
     fn with_part<R, F: for<'b> FnOnce(Region<'b, A>) -> (Region<'b, A>, R)>(
         &mut self,
-        offset: usize,
-        lengths: &[usize],
-        strides: &[isize],
+        places: Places<'_>,
         f: F,
     ) -> R {
-        self.region.with_part(offset, lengths, strides, f)
+        self.region
+            .with_part(places.first, places.lengths, places.strides, f)
     }
 }
 
 /// Lends a part of a slice as a region, for the length of the call.
 pub fn part_of_slice<A, R, F: for<'b> FnOnce(Region<'b, A>) -> (Region<'b, A>, R)>(
     items: &mut [A],
-    offset: usize,
-    lengths: &[usize],
-    strides: &[isize],
+    places: Places<'_>,
     f: F,
 ) -> R
-    requires as_many { length lengths.now ≡ length strides.now }
-    requires holds { HoldsAll (slice_get items.old) offset lengths.now strides.now }
-    requires callable { TakesNamed (F.pre f) (slice_get items.old) offset lengths.now strides.now }
-    requires returns { GivesNamedBack (F.post f) (slice_get items.old) offset lengths.now strides.now }
-    ensures part { IsStoredReturned (F.post f) slice_get items.old items.new offset lengths.now strides.now result }
+    requires holds { HoldsEach (slice_get items.old) (placement_in places) }
+    requires callable { TakesNamed (F.pre f) (slice_get items.old) (placement_in places) }
+    requires returns { GivesNamedBack (F.post f) (slice_get items.old) (placement_in places) }
+    ensures part { IsStoredReturned (F.post f) slice_get items.old items.new (placement_in places.entry) result }
     ensures long { length items.new ≡ length items.old }
 {
     with_region(
         items,
         |region|
-            requires { MayLendPart (F.pre f) (F.post f) offset lengths.now strides.now region }
-            ensures part { IsPartGivenBack (F.post f) offset lengths.entry.now strides.entry.now region.entry result.0 result.1 }
+            requires { MayLendPart (F.pre f) (F.post f) (placement_in places) region }
+            ensures part { IsPartGivenBack (F.post f) (placement_in places.entry) region.entry result.0 result.1 }
             ensures same { borrow_of result.0 ≡ borrow_of region.entry }
             ensures long { IsAsLong region.entry result.0 }
         {
+            // Taken whole, as the clauses name it.
+            let at = places;
             let mut region = region;
-            let answer = region.with_part(offset, lengths, strides, f);
+            let answer = region.with_part(at.first, at.lengths, at.strides, f);
             (region, answer)
         },
     )

@@ -1,15 +1,18 @@
 -- The lanes of an axis by the array's indexes: the outer layout has length 1 there, and a lane's k-th place is that of the
 -- index with k at the axis.
-use Rattle.std.proofs.Common.{◌≡◌, ℕ, ◌<◌, Bool, true, false, List, length, get_or, set, ℤ, pos, ◌+ℤ◌, ◌*ℤ◌, refl, ap, sym, ◌∙◌, subst, arith}
+use Rattle.std.proofs.Common.{◌≡◌, ℕ, ◌*◌, ◌^◌, ◌<◌, Bool, true, false, List, length, get_or, set, ℤ, pos, ◌+ℤ◌, ◌*ℤ◌, refl, ap, sym, ◌∙◌, subst, arith}
 use Rattle.std.proofs.lemmas.List.{length-set, set-set, set-get_or, get_or-set_same}
+use Rattle.std.proofs.Math.Nat.{mul_comm}
+use Rattle.std.specs.List.{remove}
 use Rattle.std.specs.Prelude.{Option, Some, is_some}
-use Rattle.nd_shape_and_slice.specs.Shape.{in_box, size_of, row_rank, index_at}
+use Rattle.nd_shape_and_slice.specs.Shape.{in_box, size_of, HasCheckedSize, row_rank, index_at}
 use Rattle.nd_shape_and_slice.specs.Maps.{collapsed_shape, collapsed_index}
 use Rattle.nd_shape_and_slice.specs.Place.{place_of, displacement_of, IsSeparated}
 use Rattle.nd_shape_and_slice.proofs.Boxes.{coordinate_below}
 use Rattle.nd_shape_and_slice.proofs.RowMajor.{length-in_box, row_rank_below}
 use Rattle.nd_shape_and_slice.proofs.RankIndexes.{in_box-index_at, row_rank-index_at, index_at-row_rank}
 use Rattle.nd_layout.proofs.Distinct.{in_box-set}
+use Rattle.nd_layout.proofs.Sizes.{size_of-set}
 use Rattle.nd_layout.proofs.Integers.{sums}
 use Rattle.nd_layout.proofs.Offsets.{displacement_of-at}
 use Rattle.nd_layout.specs.Places.{is_place, ReachesPlaces}
@@ -20,6 +23,7 @@ use Rattle.nd_elements.specs.along.AxisLanes.{lane_place, LanesReach, LanesDisti
 use Rattle.nd_elements.specs.along.Removed.{rotated, rotated_index, AreMovedBy}
 use Rattle.nd_elements.proofs.WriteStep.{one_index}
 use Rattle.nd_elements.proofs.Rotating.{rotated_below}
+use Rattle.nd_array_core.proofs.reshape_lemmas.ShortAxes.{size_short}
 
 module _ (offset : ℕ) (ns : List ℕ) (ss : List ℤ) (a : ℕ) (on : a < length ns) (many : length ss ≡ length ns) (start : ℕ) (step : IsStep offset ns ss start (collapsed_shape ns a) ss (collapsed_index a 0)) where
   abbrev outer : List ℕ
@@ -27,6 +31,17 @@ module _ (offset : ℕ) (ns : List ℕ) (ss : List ℤ) (a : ℕ) (on : a < leng
 
   abbrev stride : ℤ
   stride = get_or ss a (pos 0)
+
+  -- together the lanes are as many places as the array has indexes
+  lanes_size : size_of outer * get_or ns a 0 ≡ size_of ns
+  lanes_size =
+      let n = get_or ns a 0 in
+      let one = size_of-set ns a 1 on in
+      let whole : size_of ns ≡ n * size_of (remove ns a) = ap size_of (sym (set-get_or ns a 0)) ∙ size_of-set ns a n on in
+      ap (λ m. m * n) (one ∙ single (size_of (remove ns a))) ∙ mul_comm (size_of (remove ns a)) n ∙ sym whole
+    where
+      single : (m : ℕ) → 1 * m ≡ m
+      single m = omega arith
 
   -- the index of the k-th place of a lane
   abbrev lane_index : ℕ → ℕ → List ℕ
@@ -138,6 +153,9 @@ module _ (offset : ℕ) (ns : List ℕ) (ss : List ℤ) (a : ℕ) (on : a < leng
 
     count_within : (k : ℕ) → k < count → k < get_or ns a 0
     count_within k below = subst (λ m. k < m) e_count below
+
+    pub given_checked : HasCheckedSize ns → size_of ls * count < 2 ^ 63
+    given_checked checked = let same : size_of ls * count ≡ size_of ns = (λ i. size_of (e_ls i) * e_count i) ∙ lanes_size in omega (arith, size_short ns checked, same)
 
     pub given_reach : ReachesPlaces offset ns ss → LanesReach (lane_place start ls us s) (size_of ls) count
     given_reach reach r k below under = ap is_place (same_lane r k) ∙ lanes_reach reach r k (row_within r below) (count_within k under)

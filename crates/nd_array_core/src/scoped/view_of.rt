@@ -29,9 +29,7 @@ fn with_slice_placement<A, D: Dimension, K: ViewTask<A, D>>(
     let lent = layout.copied();
     part_of_slice(
         slice,
-        layout.offset,
-        layout.dim.slice(),
-        layout.strides.slice(),
+        layout.places(),
         move |region|
             requires sound { LiesBy (region_stored region) (placement_of lent) }
             requires pre { K.pre task (shown_under region lent) }

@@ -161,9 +161,7 @@ pub(crate) fn with_placement_pair<
     ensures done { IsDoneInParts (K.post task) S.stored storage.old storage.new one two result }
 {
     storage.with_part(
-        whole.offset,
-        whole.dim.slice(),
-        whole.strides.slice(),
+        whole.places(),
         move |region|
             requires one { LiesBy (region_stored region) (placement_of one) }
             requires two { LiesBy (region_stored region) (placement_of two) }

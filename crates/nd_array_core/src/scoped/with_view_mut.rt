@@ -129,9 +129,7 @@ pub(crate) fn with_placement<S: DataMut, D: Dimension, K: ViewTask<S::Elem, D>>(
 {
     let lent = layout.copied();
     storage.with_part(
-        layout.offset,
-        layout.dim.slice(),
-        layout.strides.slice(),
+        layout.places(),
         move |region|
             requires sound { LiesBy (region_stored region) (placement_of lent) }
             requires pre { K.pre task (shown_under region lent) }

@@ -1,5 +1,5 @@
 -- The lanes of an axis: the places that differ in its coordinate alone, by the place of the first of them.
-use Rattle.std.specs.Prelude.{◌≡◌, ◌+◌, ◌<◌, ℕ, ℤ, pos, ◌+ℤ◌, ◌*ℤ◌, List, Option, slice_index, IsTrue}
+use Rattle.std.specs.Prelude.{◌≡◌, ◌+◌, ◌*◌, ◌<◌, ◌^◌, ℕ, ℤ, pos, ◌+ℤ◌, ◌*ℤ◌, List, Option, slice_index, IsTrue}
 use Rattle.nd_shape_and_slice.specs.Shape.{size_of}
 use Rattle.nd_shape_and_slice.specs.Maps.{indexed_index}
 use Rattle.nd_layout.specs.Placements.{Placement, IsStepOf}
@@ -15,6 +15,10 @@ lane_place first lengths strides stride r k = place_at_rank first lengths stride
 -- all of them are places
 abbrev pub LanesReach : (ℕ → ℕ → ℤ) → ℕ → ℕ → Type 0
 LanesReach place lanes count = (r k : ℕ) → r < lanes → k < count → IsTrue (is_place (place r k))
+
+-- so many numbers from one on are places
+abbrev pub RunReaches : ℕ → ℕ → Type 0
+RunReaches first count = (k : ℕ) → k < count → IsTrue (is_place (pos (first + k)))
 
 -- no two of them are the same
 abbrev pub LanesDistinct : (ℕ → ℕ → ℤ) → ℕ → ℕ → Type 0
@@ -41,6 +45,10 @@ lanes_from firsts count stride = record { lanes = size_of firsts.lengths; count 
 -- the first is a lane, and each next one begins a place further
 abbrev pub lanes_beside : ℕ → Lane → LanePlaces
 lanes_beside lanes lane = record { lanes = lanes; count = lane.count; place = λ r k. pos (lane.place + r) +ℤ (pos k *ℤ lane.stride) }
+
+-- together they have so few places that a layout of all of them may exist
+abbrev pub AreChecked : LanePlaces → Type 0
+AreChecked at = at.lanes * at.count < 2 ^ 63
 
 abbrev pub LanesLie : LanePlaces → Type 0
 LanesLie at = LanesReach at.place at.lanes at.count

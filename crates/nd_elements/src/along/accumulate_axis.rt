@@ -4,7 +4,7 @@ ghost use Rattle.std.specs.Prelude.{◌≡◌, ◌+◌, ◌<◌, IsSome};
 ghost use Rattle.nd_layout.specs.Lanes.{along};
 ghost use Rattle.nd_region.specs.Region.{region_stored};
 ghost use Rattle.nd_elements.specs.NumberedPlaces.{PlacesDiffer, Holds};
-ghost use Rattle.nd_elements.specs.along.AxisLanes.{LanesDiffer, LanesHold};
+ghost use Rattle.nd_elements.specs.along.AxisLanes.{AreChecked, LanesDiffer, LanesHold};
 ghost use Rattle.nd_elements.specs.along.LanesIn.{lanes_in};
 ghost use Rattle.nd_elements.specs.along.Accumulated.{TakesAfter, ChangesNext, TakesNext, LeavesAllBut, ChangedBetween, ChangedInside, AccumulatesLane, AccumulableLane, AccumulatesLanes, AccumulableLanes};
 
@@ -13,7 +13,7 @@ use crate::along::accumulate_run::accumulate_run;
 use crate::along::axis_lanes::AxisLanes;
 use crate::along::first_places::lane_from;
 use crate::storage::DataMut;
-use nd_layout::{Lane, Walk};
+use nd_layout::{Lane, Places, Walk};
 use nd_region::Region;
 use nd_shape_and_slice::{Dimension, StrideList};
 
@@ -78,9 +78,11 @@ fn change_after<S: DataMut, F: FnMut(&S::Elem, &mut S::Elem)>(
     let from = lane.place_of(nth);
     let to = lane.place_of(nth + 1);
     storage.with_part(
-        from,
-        &[2],
-        &[lane.stride],
+        Places {
+            first: from,
+            lengths: &[2],
+            strides: &[lane.stride],
+        },
         |region|
             requires apart { ¬ (from ≡ to) }
             requires holds { IsSome (region_stored region from) × IsSome (region_stored region to) }
@@ -164,6 +166,7 @@ pub fn accumulate_lanes<S: DataMut, F: FnMut(&S::Elem, &mut S::Elem)>(
     f: F,
 ) -> F
     requires some { 0 < lanes.count }
+    requires checked { AreChecked (lanes_in lanes) }
     requires apart { LanesDiffer (lanes_in lanes) }
     requires holds { LanesHold S.stored (lanes_in lanes) storage.old }
     requires callable { AccumulableLanes F.FnMut S.stored (lanes_in lanes) storage.old f }

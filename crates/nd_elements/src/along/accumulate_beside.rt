@@ -1,13 +1,13 @@
 //! The lanes of an axis gone along together, a coordinate after the other, where the elements at each are side by side.
 
-ghost use Rattle.std.specs.Prelude.{◌≡◌, ◌+◌, ◌<◌, ℕ, length, pos, ◌+ℤ◌};
+ghost use Rattle.std.specs.Prelude.{◌≡◌, ◌*◌, ◌<◌, ◌^◌, ℕ, length, pos, ◌+ℤ◌};
 ghost use Rattle.nd_region.specs.Region.{HasRun};
 ghost use Rattle.nd_elements.specs.RunLent.{HasRunAt, IsBesideRun};
-ghost use Rattle.nd_elements.specs.along.AxisLanes.{lanes_beside, LanesDiffer, LanesHold};
+ghost use Rattle.nd_elements.specs.along.AxisLanes.{lanes_beside, AreChecked, RunReaches, LanesLie, LanesDiffer, LanesHold};
 ghost use Rattle.nd_elements.specs.along.Accumulated.{ChangesSlice, TakesSlice, TakesRow, RowChangedBetween, RowChangedInside, ChangesNextRun, TakesNextRun, AccumulatesLanes, AccumulableLanes, AreRunsApart, run_at};
 
 use crate::storage::DataMut;
-use nd_layout::Lane;
+use nd_layout::{Lane, Places};
 use nd_region::Region;
 use nd_shape_and_slice::Dimension;
 
@@ -80,6 +80,8 @@ fn change_row<S: DataMut, F: FnMut(&S::Elem, &mut S::Elem)>(
     f: F,
 ) -> F
     requires behind { pos q ≡ pos p +ℤ stride }
+    requires checked { 2 * count < 2 ^ 63 }
+    requires reach { RunReaches p count × RunReaches q count }
     requires apart { AreRunsApart p q count }
     requires holds { HasRunAt (S.stored storage.old) p count × HasRunAt (S.stored storage.old) q count }
     requires callable { TakesNextRun F.FnMut S.stored p q count storage.old f }
@@ -88,9 +90,11 @@ fn change_row<S: DataMut, F: FnMut(&S::Elem, &mut S::Elem)>(
     ensures frame { S.frame storage.new ≡ S.frame storage.old }
 {
     storage.with_part(
-        p,
-        &[2, count],
-        &[stride, 1],
+        Places {
+            first: p,
+            lengths: &[2, count],
+            strides: &[stride, 1],
+        },
         |region|
             requires apart { AreRunsApart p q count }
             requires holds { HasRun region p count × HasRun region q count }
@@ -109,6 +113,8 @@ pub(crate) fn accumulate_beside<S: DataMut, F: FnMut(&S::Elem, &mut S::Elem)>(
     f: F,
 ) -> F
     requires some { 0 < lane.count }
+    requires checked { AreChecked (lanes_beside lanes lane) }
+    requires lie { LanesLie (lanes_beside lanes lane) }
     requires apart { LanesDiffer (lanes_beside lanes lane) }
     requires holds { LanesHold S.stored (lanes_beside lanes lane) storage.old }
     requires callable { AccumulableLanes F.FnMut S.stored (lanes_beside lanes lane) storage.old f }

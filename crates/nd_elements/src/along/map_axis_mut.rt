@@ -13,7 +13,7 @@ use crate::along::axis_lanes::AxisLanes;
 use crate::along::first_places::lane_from;
 use crate::along::lane_mut::LaneMut;
 use crate::storage::DataMut;
-use nd_layout::{Lane, Walk};
+use nd_layout::{Lane, Places, Walk};
 use nd_region::Region;
 use nd_shape_and_slice::{Dimension, StrideList};
 
@@ -51,9 +51,11 @@ fn answer_lane<S: DataMut, B, F: FnMut(&mut LaneMut<'_, S::Elem>) -> B>(
     ensures frame { S.frame storage.new ≡ S.frame storage.old }
 {
     storage.with_part(
-        lane.place,
-        &[lane.count],
-        &[lane.stride],
+        Places {
+            first: lane.place,
+            lengths: &[lane.count],
+            strides: &[lane.stride],
+        },
         |region|
             requires apart { PlacesDiffer (along lane) }
             requires holds { Holds region_stored (along lane) region }

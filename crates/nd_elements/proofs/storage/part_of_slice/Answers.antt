@@ -7,11 +7,10 @@ use Rattle.nd_elements.proofs.storage.part_of_slice.Goals as goal
 pub with_region-requires-clause-callable : goal.with_region-requires-clause-callable
 with_region-requires-clause-callable g c r whole =
     let xs = c.args.items.now in
-    let offset = c.args.offset in
-    let ns = c.args.lengths.now in
-    let ss = c.args.strides.now in
+    let offset = c.args.places.first in
+    let ns = c.args.places.lengths.now in
+    let ss = c.args.places.strides.now in
     let same = whole_holds r xs whole in (
-      c.requires.as_many,
       places_held (slice_get xs) r same offset ns ss c.requires.holds,
       λ x part. c.requires.callable x (part_is (slice_get xs) r same offset ns ss x part),
       λ x out part post. c.requires.returns x out (part_is (slice_get xs) r same offset ns ss x part) post,
@@ -20,9 +19,9 @@ with_region-requires-clause-callable g c r whole =
 pub returns-clause-part : goal.returns-clause-part
 returns-clause-part g c =
     let xs = c.args.items.now in
-    let offset = c.args.offset in
-    let ns = c.args.lengths.now in
-    let ss = c.args.strides.now in
+    let offset = c.args.places.first in
+    let ns = c.args.places.lengths.now in
+    let ss = c.args.places.strides.now in
     let e = c.with_region.ensures in
     let same = whole_holds e.0 xs e.2 in
     let post = e.3.1 in

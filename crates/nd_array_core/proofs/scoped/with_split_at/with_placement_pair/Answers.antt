@@ -1,5 +1,7 @@
-use Rattle.std.proofs.Common.{◌∙◌}
+use Rattle.std.proofs.Common.{◌≡◌, ℕ, sym, subst, ◌∙◌}
 use Rattle.nd_region.specs.Region.{region_stored}
+use Rattle.nd_elements.specs.ByLayout.{HoldsEach}
+use Rattle.nd_elements.specs.Scoped.{with_named, IsNamedPart}
 use Rattle.nd_array_core.specs.scoped.Tasks.{IsNamedMap}
 use Rattle.nd_array_core.proofs.tasks.PairStep.{agrees_sound}
 use Rattle.nd_array_core.proofs.tasks.PairTask.{within_agrees, within_left, unnamed_left, named_left}
@@ -17,12 +19,15 @@ with_part-requires-clause-callable g c x is_x =
     let f2 = c.args.two.offset in
     let n2 = g.E.Dimension.lengths c.args.two.dim in
     let s2 = g.E.Strides.StrideList.strides_of c.args.two.strides in
-    let named : IsNamedMap m offset ns ss (region_stored x) = rw (c.slice.ensures.lengths, c.slice-2.ensures) at is_x in
+    let named : IsNamedMap m offset ns ss (region_stored x) = subst (λ p. IsNamedPart m p.offset p.lengths p.strides x) c.places.ensures is_x in
     let one = within_agrees m offset ns ss f1 n1 s1 c.requires.one_within (region_stored x) named in
     let two = within_agrees m offset ns ss f2 n2 s2 c.requires.two_within (region_stored x) named in (
       agrees_sound m (region_stored x) f1 n1 s1 one c.requires.one,
       (agrees_sound m (region_stored x) f2 n2 s2 two c.requires.two, (c.requires.apart, λ m1 m2 a b. c.requires.callable m1 m2 (λ p h. a p h ∙ one p h) (λ p h. b p h ∙ two p h))),
     )
+
+pub with_part-requires-clause-holds : goal.with_part-requires-clause-holds
+with_part-requires-clause-holds g c = subst (HoldsEach (g.S.Data.stored c.args.storage.now)) (sym c.places.ensures) c.requires.whole
 
 pub returns-clause-others : goal.returns-clause-others
 returns-clause-others g c p unnamed =
@@ -30,8 +35,9 @@ returns-clause-others g c p unnamed =
     let offset = c.args.whole.now.offset in
     let ns = g.W.Dimension.lengths c.args.whole.now.dim in
     let ss = g.W.Strides.StrideList.strides_of c.args.whole.now.strides in
-    let e = rw (c.slice.ensures.lengths, c.slice-2.ensures) at c.with_part.ensures.part in
-    unnamed_left m (g.S.Data.stored c.with_part.new.self) (region_stored e.1) offset ns ss e.4 p unnamed
+    let e = c.with_part.ensures.part in
+    let left = subst (λ l. (k : ℕ) → g.S.Data.stored c.with_part.new.self k ≡ with_named m l.offset l.lengths l.strides (region_stored e.1) k) c.places.ensures e.4 in
+    unnamed_left m (g.S.Data.stored c.with_part.new.self) (region_stored e.1) offset ns ss left p unnamed
 
 pub returns-clause-done : goal.returns-clause-done
 returns-clause-done g c =
@@ -45,13 +51,15 @@ returns-clause-done g c =
     let f2 = c.args.two.offset in
     let n2 = g.E.Dimension.lengths c.args.two.dim in
     let s2 = g.E.Strides.StrideList.strides_of c.args.two.strides in
-    let e = rw (c.slice.ensures.lengths, c.slice-2.ensures) at c.with_part.ensures.part in
+    let e = c.with_part.ensures.part in
+    let left = subst (λ l. (k : ℕ) → g.S.Data.stored c.with_part.new.self k ≡ with_named m l.offset l.lengths l.strides (region_stored e.1) k) c.places.ensures e.4 in
+    let named = subst (λ l. IsNamedPart m l.offset l.lengths l.strides e.0) c.places.ensures e.2 in
     let new = g.S.Data.stored c.with_part.new.self in
     let x = e.0 in
     let s = e.1 in
     let done = e.3.1.1.0 in
-    let one = within_agrees m offset ns ss f1 n1 s1 c.requires.one_within (region_stored x) e.2 in
-    let two = within_agrees m offset ns ss f2 n2 s2 c.requires.two_within (region_stored x) e.2 in (
+    let one = within_agrees m offset ns ss f1 n1 s1 c.requires.one_within (region_stored x) named in
+    let two = within_agrees m offset ns ss f2 n2 s2 c.requires.two_within (region_stored x) named in (
       done.0,
       done.1,
       done.2,
@@ -59,8 +67,8 @@ returns-clause-done g c =
       λ p h. done.4 p h ∙ one p h,
       λ p h. done.5 p h ∙ two p h,
       done.6,
-      within_left m offset ns ss f1 n1 s1 c.requires.one_within new (region_stored s) done.2 e.4 done.7,
-      within_left m offset ns ss f2 n2 s2 c.requires.two_within new (region_stored s) done.3 e.4 done.8,
+      within_left m offset ns ss f1 n1 s1 c.requires.one_within new (region_stored s) done.2 left done.7,
+      within_left m offset ns ss f2 n2 s2 c.requires.two_within new (region_stored s) done.3 left done.8,
     )
 
 pub returns-clause-kept : goal.returns-clause-kept
@@ -69,5 +77,7 @@ returns-clause-kept g c p one two =
     let offset = c.args.whole.now.offset in
     let ns = g.W.Dimension.lengths c.args.whole.now.dim in
     let ss = g.W.Strides.StrideList.strides_of c.args.whole.now.strides in
-    let e = rw (c.slice.ensures.lengths, c.slice-2.ensures) at c.with_part.ensures.part in
-    named_left m (g.S.Data.stored c.with_part.new.self) (region_stored e.0) (region_stored e.1) offset ns ss e.2 e.4 p (e.3.1.1.1 p one two)
+    let e = c.with_part.ensures.part in
+    let left = subst (λ l. (k : ℕ) → g.S.Data.stored c.with_part.new.self k ≡ with_named m l.offset l.lengths l.strides (region_stored e.1) k) c.places.ensures e.4 in
+    let named = subst (λ l. IsNamedPart m l.offset l.lengths l.strides e.0) c.places.ensures e.2 in
+    named_left m (g.S.Data.stored c.with_part.new.self) (region_stored e.0) (region_stored e.1) offset ns ss named left p (e.3.1.1.1 p one two)

@@ -1,4 +1,4 @@
-use Rattle.std.proofs.Common.{◌≡◌, ◌+◌, ◌-◌, ◌<◌, ◌∙◌, ℕ, pos, ◌+ℤ◌, ◌*ℤ◌, ap, sym, subst, rules, arith, w64, FitsSigned}
+use Rattle.std.proofs.Common.{◌≡◌, ◌+◌, ◌-◌, ◌*◌, ◌^◌, ◌<◌, ◌∙◌, ℕ, pos, ◌+ℤ◌, ◌*ℤ◌, ap, sym, subst, rules, arith, w64, FitsSigned}
 use Rattle.std.proofs.lemmas.Int.{to_z-of_z}
 use Rattle.nd_shape_and_slice.specs.Shape.{size_of}
 use Rattle.nd_layout.specs.Places.{is_place}
@@ -100,3 +100,22 @@ returns-then-are_beside-clause-accumulated g c =
     lanes_done_alike g.F.FnMut place beside (size_of ns) (c.args.lanes.count - 1) same old c.args.f new last
     (subst (λ n. AreAccumulated g.F.FnMut beside (size_of ns) (n - 1) old new c.args.f last) made.1
     (subst (λ n. AreAccumulated g.F.FnMut beside n (lane.count - 1) old new c.args.f last) all c.accumulate_beside.ensures.accumulated))
+
+pub accumulate_beside-requires-clause-checked : goal.accumulate_beside-requires-clause-checked
+accumulate_beside-requires-clause-checked g c =
+    let ns = c.args.lanes.firsts.lengths.now in
+    let lane = c.lane_from-lane.result in
+    let made = c.lane_from-lane.ensures.lane in
+    subst (λ n. n * lane.count < 2 ^ 63) (sym c.args.lanes.many) (subst (λ n. size_of ns * n < 2 ^ 63) (sym made.1) c.requires.checked)
+
+pub accumulate_beside-requires-clause-lie : goal.accumulate_beside-requires-clause-lie
+accumulate_beside-requires-clause-lie g c r k on under =
+    let l = c.args.lanes.firsts in
+    let ns = l.lengths.now in
+    let ss = l.strides.now in
+    let fits : FitsSigned w64 c.args.lanes.stride = search rules in
+    let stride = to_z-of_z w64 c.args.lanes.stride fits in
+    let standard = c.are_beside.ensures.standard c.if-are_beside.true in
+    let made = c.lane_from-lane.ensures.lane in
+    let within : r < size_of ns = subst (λ n. r < n) c.args.lanes.many on in
+    (λ i. is_place (pos (made.0 i + r) +ℤ (pos k *ℤ (made.2 ∙ stride) i))) ∙ (ap is_place (beside_goes l.first ns ss c.args.lanes.stride standard r k within) ∙ c.args.lanes.lie r k within (subst (λ n. k < n) made.1 under))

@@ -1,6 +1,7 @@
-use Rattle.std.proofs.Common.{rules, w64, FitsSigned}
+use Rattle.std.proofs.Common.{refl, arith, rules, w64, FitsSigned}
 use Rattle.std.proofs.lemmas.Int.{to_z-of_z}
-use Rattle.nd_elements.proofs.Neighbours.{neighbours_held, neighbours_ask, neighbour_changed, neighbours_left}
+use Rattle.nd_layout.specs.Places.{is_place}
+use Rattle.nd_elements.proofs.Neighbours.{neighbours_pass, neighbours_held, neighbours_ask, neighbour_changed, neighbours_left}
 use Rattle.nd_elements.proofs.along.accumulate_axis.change_after.Goals as goal
 
 pub with_part-requires-clause-holds : goal.with_part-requires-clause-holds
@@ -29,3 +30,14 @@ returns-clause-left g c =
     let e = c.with_part.ensures.part in
     let fits : FitsSigned w64 lane.stride = search rules in
     neighbours_left lane.place c.args.nth lane.count c.place_of-from.result c.place_of-to.result lane.stride _ (to_z-of_z w64 lane.stride fits) c.requires.within c.place_of-from.ensures c.place_of-to.ensures g.F.FnMut (g.S.Data.stored c.args.storage.now) c.args.f (g.S.Data.stored c.with_part.new.self) e.0 e.1 c.with_part.result e.2 e.3.1 e.4
+
+pub invariant_of-with_part : goal.invariant_of-with_part
+invariant_of-with_part g c =
+    let lane = c.args.lane in
+    let fits : FitsSigned w64 lane.stride = search rules in
+    record {
+      as_many = refl;
+      few = omega arith;
+      checked = omega arith;
+      reach = neighbours_pass lane.place c.args.nth lane.count c.place_of-from.result c.place_of-to.result lane.stride _ (to_z-of_z w64 lane.stride fits) c.requires.within c.place_of-from.ensures c.place_of-to.ensures is_place lane.reach;
+    }

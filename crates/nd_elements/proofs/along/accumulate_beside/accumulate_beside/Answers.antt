@@ -1,11 +1,12 @@
 use Rattle.std.proofs.Common.{◌≡◌, ◌+◌, ◌-◌, ◌<◌, ◌∙◌, ℕ, suc, true, pos, ◌+ℤ◌, ◌*ℤ◌, ap, sym, subst, refl, rules, arith, w64, FitsSigned}
 use Rattle.std.proofs.lemmas.Int.{to_z-of_z}
 use Rattle.nd_layout.proofs.Integers.{sums, suc-mul}
+use Rattle.nd_layout.specs.Places.{is_place}
 use Rattle.nd_elements.specs.Places.{stored_at, names_place}
 use Rattle.nd_elements.specs.along.AxisLanes.{lanes_beside, LanesDistinct}
 use Rattle.nd_elements.specs.along.Accumulated.{run_of}
 use Rattle.nd_elements.proofs.AxisLanes.{beside_place}
-use Rattle.nd_elements.proofs.RowPairs.{row_takes_alike, row_changes_alike}
+use Rattle.nd_elements.proofs.RowPairs.{two_of, row_takes_alike, row_changes_alike}
 use Rattle.nd_elements.proofs.RowsAccumulating.{RowsAccumulated, rows_none, rows_all, rows_more, rows_apart, row_takes, row_there, next_there}
 use Rattle.nd_elements.proofs.along.accumulate_beside.accumulate_beside.Goals as goal
 
@@ -130,3 +131,17 @@ returns-clause-accumulated g c =
     let old = g.S.Data.stored c.args.storage.now in
     let new = g.S.Data.stored c.loop-nth.storage in
     rows_all g.F.FnMut place lanes (lane.count - 1) old new c.args.f c.loop-nth.now (subst (λ m. RowsAccumulated g.F.FnMut place lanes m old new c.args.f c.loop-nth.now) all c.loop-nth.invariant.0)
+
+pub change_row-now-requires-clause-checked : goal.change_row-now-requires-clause-checked
+change_row-now-requires-clause-checked g c =
+    let under = c.loop-nth-test.true in
+    two_of c.args.lanes c.args.lane.count (omega (arith, under)) c.requires.checked
+
+pub change_row-now-requires-clause-reach : goal.change_row-now-requires-clause-reach
+change_row-now-requires-clause-reach g c =
+    let lane = c.args.lane in
+    let nth = c.loop-nth.nth in
+    let under = c.loop-nth-test.true in (
+      (λ r on. ap is_place (beside_place lane.place c.place_of.result r nth lane.stride c.place_of.ensures) ∙ c.requires.lie r nth on (omega (arith, under))),
+      (λ r on. ap is_place (beside_place lane.place c.place_of-in-loop-nth.result r (nth + 1) lane.stride c.place_of-in-loop-nth.ensures) ∙ c.requires.lie r (nth + 1) on (omega (arith, under))),
+    )

@@ -1,6 +1,7 @@
-use Rattle.std.proofs.Common.{refl, rules, w64, FitsSigned}
+use Rattle.std.proofs.Common.{arith, refl, rules, w64, FitsSigned}
 use Rattle.std.proofs.lemmas.Int.{to_z-of_z}
-use Rattle.nd_elements.proofs.RowPairs.{rows_held, rows_ask, rows_changed, rows_left}
+use Rattle.nd_layout.specs.Places.{is_place}
+use Rattle.nd_elements.proofs.RowPairs.{rows_checked, rows_pass, rows_held, rows_ask, rows_changed, rows_left}
 use Rattle.nd_elements.proofs.along.accumulate_beside.change_row.Goals as goal
 
 pub with_part-requires-clause-holds : goal.with_part-requires-clause-holds
@@ -25,3 +26,13 @@ returns-clause-left g c =
     let e = c.with_part.ensures.part in
     let fits : FitsSigned w64 c.args.stride = search rules in
     rows_left c.args.p c.args.q c.args.count c.args.stride _ _ c.requires.behind (to_z-of_z w64 c.args.stride fits) refl (g.S.Data.stored c.args.storage.now) c.requires.holds.0 c.requires.holds.1 g.F.FnMut c.args.f (g.S.Data.stored c.with_part.new.self) e.0 e.1 c.with_part.result e.2 e.3.1 e.4
+
+pub invariant_of-with_part : goal.invariant_of-with_part
+invariant_of-with_part g c =
+    let fits : FitsSigned w64 c.args.stride = search rules in
+    record {
+      as_many = refl;
+      few = omega arith;
+      checked = rows_checked c.args.count c.requires.checked;
+      reach = rows_pass c.args.p c.args.q c.args.count c.args.stride _ _ c.requires.behind (to_z-of_z w64 c.args.stride fits) refl is_place c.requires.reach.0 c.requires.reach.1;
+    }

@@ -1,8 +1,9 @@
-use Rattle.std.proofs.Common.{rules, sym, subst, w64, FitsSigned}
+use Rattle.std.proofs.Common.{refl, arith, rules, sym, subst, w64, FitsSigned}
 use Rattle.std.specs.Prelude.{Some}
 use Rattle.std.proofs.lemmas.Int.{to_z-of_z}
 use Rattle.nd_elements.specs.along.LanesWritten.{MayBeHandedLane}
-use Rattle.nd_elements.proofs.LentLanes.{lane_held_all, lent_holds, lent_line, back_line, lane_left, leaves_same}
+use Rattle.nd_layout.specs.Places.{is_place}
+use Rattle.nd_elements.proofs.LentLanes.{lane_checked, lane_passes, lane_held_all, lent_holds, lent_line, back_line, lane_left, leaves_same}
 use Rattle.nd_elements.proofs.along.map_axis_mut.answer_lane.Goals as goal
 
 pub with_part-requires-clause-holds : goal.with_part-requires-clause-holds
@@ -34,3 +35,14 @@ returns-clause-left g c =
     let e = c.with_part.ensures.part in
     let fits : FitsSigned w64 lane.stride = search rules in
     lane_left lane.place lane.count lane.stride _ (to_z-of_z w64 lane.stride fits) (g.S.Data.stored c.args.storage.now) (g.S.Data.stored c.with_part.new.self) e.1 e.4
+
+pub invariant_of-with_part : goal.invariant_of-with_part
+invariant_of-with_part g c =
+    let lane = c.args.lane in
+    let fits : FitsSigned w64 lane.stride = search rules in
+    record {
+      as_many = refl;
+      few = omega arith;
+      checked = lane_checked lane.count lane.few;
+      reach = lane_passes lane.place lane.count lane.stride _ (to_z-of_z w64 lane.stride fits) is_place lane.reach;
+    }

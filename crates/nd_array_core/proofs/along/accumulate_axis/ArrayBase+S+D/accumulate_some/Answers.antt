@@ -2,9 +2,9 @@ use Rattle.std.proofs.Common.{◌≡◌, ◌-◌, ◌<◌, ◌∙◌, suc, ap, s
 use Rattle.std.proofs.lemmas.Int.{to_z-of_z}
 use Rattle.nd_shape_and_slice.specs.Maps.{collapsed_shape}
 use Rattle.nd_array_core.specs.Meaning.{meaning_of, memory_layout_of}
-use Rattle.nd_elements.specs.along.AxisLanes.{LanesDiffer, LanesHold}
+use Rattle.nd_elements.specs.along.AxisLanes.{AreChecked, LanesDiffer, LanesHold}
 use Rattle.nd_elements.specs.along.Accumulated.{AccumulableLanes, AccumulatesLanes}
-use Rattle.nd_array_core.proofs.along_lemmas.AxisIndexes.{outer_step, given_reach, given_hold, given_distinct}
+use Rattle.nd_array_core.proofs.along_lemmas.AxisIndexes.{outer_step, given_checked, given_reach, given_hold, given_distinct}
 use Rattle.nd_array_core.proofs.along_lemmas.AxisAccumulating.{axis_accumulable, axis_visits, axis_first, axis_holds, axis_others, given_takes, given_done}
 use Rattle.nd_array_core.proofs.along.accumulate_axis.ArrayBase+S+D.accumulate_some.Goals as goal
 
@@ -24,6 +24,23 @@ new-lanes-requires-clause-lie g c =
     let e_us : g.D.Strides.StrideList.strides_of new.strides ≡ ss = c.collapse_axis.ensures.strides ∙ copy.strides in
     let e_s : to_z w64 (of_z w64 c.stride_of-stride.result) ≡ get_or ss a (pos 0) = to_z-of_z w64 c.stride_of-stride.result fits ∙ c.stride_of-stride.ensures in
     given_reach array.layout.offset ns ss a c.requires.axis array.layout.as_many new.offset step (g.D.Dimension.lengths new.dim) (g.D.Strides.StrideList.strides_of new.strides) (to_z w64 (of_z w64 c.stride_of-stride.result)) c.len_of-count.result e_ls e_us e_s c.len_of-count.ensures.value array.layout.reach
+
+pub accumulate_lanes-requires-clause-checked : goal.accumulate_lanes-requires-clause-checked
+unfolding meaning_of memory_layout_of
+accumulate_lanes-requires-clause-checked g c =
+    let array = c.args.self.now in
+    let ns = g.D.Dimension.lengths array.layout.dim in
+    let ss = g.D.Strides.StrideList.strides_of array.layout.strides in
+    let a = c.args.axis.0 in
+    let new = c.collapse_axis.new.self in
+    let fits : FitsSigned w64 c.stride_of-stride.result = search rules in
+    let copy = c.copied-firsts.ensures in
+    let step = outer_step array.layout.offset c.copied-firsts.result.offset ns (g.D.Dimension.lengths c.copied-firsts.result.dim) (g.D.Dimension.lengths new.dim) ss (g.D.Strides.StrideList.strides_of c.copied-firsts.result.strides) (g.D.Strides.StrideList.strides_of new.strides) new.offset a
+    copy.offset copy.lengths copy.strides c.collapse_axis.ensures.lengths c.collapse_axis.ensures.strides c.collapse_axis.ensures.step in
+    let e_ls : g.D.Dimension.lengths new.dim ≡ collapsed_shape ns a = c.collapse_axis.ensures.lengths ∙ ap (λ ms. collapsed_shape ms a) copy.lengths in
+    let e_us : g.D.Strides.StrideList.strides_of new.strides ≡ ss = c.collapse_axis.ensures.strides ∙ copy.strides in
+    let e_s : to_z w64 (of_z w64 c.stride_of-stride.result) ≡ get_or ss a (pos 0) = to_z-of_z w64 c.stride_of-stride.result fits ∙ c.stride_of-stride.ensures in
+    subst AreChecked (sym c.new-lanes.ensures) (given_checked array.layout.offset ns ss a c.requires.axis array.layout.as_many new.offset step (g.D.Dimension.lengths new.dim) (g.D.Strides.StrideList.strides_of new.strides) (to_z w64 (of_z w64 c.stride_of-stride.result)) c.len_of-count.result e_ls e_us e_s c.len_of-count.ensures.value array.layout.checked)
 
 pub accumulate_lanes-requires-clause-apart : goal.accumulate_lanes-requires-clause-apart
 unfolding meaning_of memory_layout_of
