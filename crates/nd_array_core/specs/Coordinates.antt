@@ -19,37 +19,37 @@ IsCell cell (i ∷ []) y = ⊤
 IsCell cell (row ∷ column ∷ []) y = y ≡ cell row column
 IsCell cell (i ∷ j ∷ k ∷ is) y = ⊤
 
-module _ {S D T A P R L M : Type 0} {s : data_trait.Ghosts S A} {d : dimension.Ghosts D P R L M} {n : axis_count.Ghosts D} {r : stride_list.Ghosts R} {t : stride_list.Ghosts T} where
+module _ {S D T A R : Type 0} {s : data_trait.Ghosts S A} {d : dimension.Ghosts D R} {n : axis_count.Ghosts D} {r : stride_list.Ghosts R} {t : stride_list.Ghosts T} where
   -- the element of a list at its place
-  abbrev pub element_of_1 : ArrayBase S D T A P R L M s d n r t → ℕ → Option A
+  abbrev pub element_of_1 : ArrayBase S D T A R s d n r t → ℕ → Option A
   element_of_1 a i = element_at a (i ∷ [])
 
   -- the element of an image at a row and a column
-  abbrev pub element_of_2 : ArrayBase S D T A P R L M s d n r t → ℕ → ℕ → Option A
+  abbrev pub element_of_2 : ArrayBase S D T A R s d n r t → ℕ → ℕ → Option A
   element_of_2 a row column = element_at a (row ∷ column ∷ [])
 
   -- the element at three coordinates
-  abbrev pub element_of_3 : ArrayBase S D T A P R L M s d n r t → ℕ → ℕ → ℕ → Option A
+  abbrev pub element_of_3 : ArrayBase S D T A R s d n r t → ℕ → ℕ → ℕ → Option A
   element_of_3 a i j k = element_at a (i ∷ j ∷ k ∷ [])
 
   -- the array has this length
-  abbrev pub HasLength : ArrayBase S D T A P R L M s d n r t → ℕ → Type 0
+  abbrev pub HasLength : ArrayBase S D T A R s d n r t → ℕ → Type 0
   HasLength a count = shape_of a ≡ count ∷ []
 
   -- the array has this many rows and columns
-  abbrev pub HasRowsAndColumns : ArrayBase S D T A P R L M s d n r t → ℕ → ℕ → Type 0
+  abbrev pub HasRowsAndColumns : ArrayBase S D T A R s d n r t → ℕ → ℕ → Type 0
   HasRowsAndColumns a rows columns = shape_of a ≡ rows ∷ columns ∷ []
 
   -- at each row and column stands what the function gives of them
-  abbrev pub HasCells : ArrayBase S D T A P R L M s d n r t → ℕ → ℕ → (ℕ → ℕ → A) → Type 0
+  abbrev pub HasCells : ArrayBase S D T A R s d n r t → ℕ → ℕ → (ℕ → ℕ → A) → Type 0
   HasCells a rows columns cell = (row column : ℕ) → row < rows → column < columns → element_of_2 a row column ≡ Some (cell row column)
 
 module _
-    {S D A T P R L M : Type 0} {s : data_trait.Ghosts S A} {d : dimension.Ghosts D P R L M} {n : axis_count.Ghosts D} {r : stride_list.Ghosts R} {t : stride_list.Ghosts T}
-    {Z E U Q X V W : Type 0} {z : data_trait.Ghosts Z A} {e : dimension.Ghosts E Q X V W} {k : axis_count.Ghosts E} {x : stride_list.Ghosts X} {u : stride_list.Ghosts U} where
+    {S D A T R : Type 0} {s : data_trait.Ghosts S A} {d : dimension.Ghosts D R} {n : axis_count.Ghosts D} {r : stride_list.Ghosts R} {t : stride_list.Ghosts T}
+    {Z E U X : Type 0} {z : data_trait.Ghosts Z A} {e : dimension.Ghosts E X} {k : axis_count.Ghosts E} {x : stride_list.Ghosts X} {u : stride_list.Ghosts U} where
   -- a line as long as the rows of the first comes behind them in the second, and one as long as the columns behind those
-  abbrev pub GetsRow : ArrayBase S D T A P R L M s d n r t → ArrayBase Z E U A Q X V W z e k x u → ArrayBase S D T A P R L M s d n r t → Type 0
+  abbrev pub GetsRow : ArrayBase S D T A R s d n r t → ArrayBase Z E U A X z e k x u → ArrayBase S D T A R s d n r t → Type 0
   GetsRow a line b = HasLength line (slice_index (shape_of a) 1) → (column : ℕ) → element_of_2 b (slice_index (shape_of a) 0) column ≡ element_of_1 line column
 
-  abbrev pub GetsColumn : ArrayBase S D T A P R L M s d n r t → ArrayBase Z E U A Q X V W z e k x u → ArrayBase S D T A P R L M s d n r t → Type 0
+  abbrev pub GetsColumn : ArrayBase S D T A R s d n r t → ArrayBase Z E U A X z e k x u → ArrayBase S D T A R s d n r t → Type 0
   GetsColumn a line b = HasLength line (slice_index (shape_of a) 0) → (row : ℕ) → element_of_2 b row (slice_index (shape_of a) 1) ≡ element_of_1 line row

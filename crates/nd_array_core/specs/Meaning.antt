@@ -23,17 +23,17 @@ pub record MemoryLayout (S : Type 0) : Type 0 where
   pub strides : List ℤ
   pub offset : ℕ
 
-module _ {S D T A P R L M : Type 0} {s : data_trait.Ghosts S A} {d : dimension.Ghosts D P R L M} {n : axis_count.Ghosts D} {r : stride_list.Ghosts R} {t : stride_list.Ghosts T} where
+module _ {S D T A R : Type 0} {s : data_trait.Ghosts S A} {d : dimension.Ghosts D R} {n : axis_count.Ghosts D} {r : stride_list.Ghosts R} {t : stride_list.Ghosts T} where
   -- what is seen of an array. This word and the next are opaque above this crate, and all that callers read of an
   -- array is a field of one of them: the search looks through a field, and not through an opaque word's own arguments
-  unfoldable pub meaning_of : ArrayBase S D T A P R L M s d n r t → Meaning A
+  unfoldable pub meaning_of : ArrayBase S D T A R s d n r t → Meaning A
   meaning_of a = record {
     shape = d.lengths a.layout.dim;
     at = λ i. inside (d.lengths a.layout.dim) i (stored_at (s.stored a.storage) (place_of a.layout.offset (t.strides_of a.layout.strides) i));
   }
 
   -- how it lies in memory
-  unfoldable pub memory_layout_of : ArrayBase S D T A P R L M s d n r t → MemoryLayout S
+  unfoldable pub memory_layout_of : ArrayBase S D T A R s d n r t → MemoryLayout S
   memory_layout_of a = record {
     storage = a.storage;
     place = λ i. inside (d.lengths a.layout.dim) i (place_number (place_of a.layout.offset (t.strides_of a.layout.strides) i));
@@ -42,29 +42,29 @@ module _ {S D T A P R L M : Type 0} {s : data_trait.Ghosts S A} {d : dimension.G
   }
 
   -- the length of each axis
-  abbrev pub shape_of : ArrayBase S D T A P R L M s d n r t → List ℕ
+  abbrev pub shape_of : ArrayBase S D T A R s d n r t → List ℕ
   shape_of a = (meaning_of a).shape
 
   -- the element at an index: nothing outside the shape's box
-  abbrev pub element_at : ArrayBase S D T A P R L M s d n r t → List ℕ → Option A
+  abbrev pub element_at : ArrayBase S D T A R s d n r t → List ℕ → Option A
   element_at a i = (meaning_of a).at i
 
   -- the stride of each axis
-  abbrev pub layout_strides : ArrayBase S D T A P R L M s d n r t → List ℤ
+  abbrev pub layout_strides : ArrayBase S D T A R s d n r t → List ℤ
   layout_strides a = (memory_layout_of a).strides
 
   -- the offset: the place of the index of zeros, where there are elements
-  abbrev pub layout_offset : ArrayBase S D T A P R L M s d n r t → ℕ
+  abbrev pub layout_offset : ArrayBase S D T A R s d n r t → ℕ
   layout_offset a = (memory_layout_of a).offset
 
   -- what the array lies in: its elements, each at a place
-  abbrev pub storage_of : ArrayBase S D T A P R L M s d n r t → S
+  abbrev pub storage_of : ArrayBase S D T A R s d n r t → S
   storage_of a = (memory_layout_of a).storage
 
   -- the place there of an index's element: nothing outside the shape's box
-  abbrev pub place_at : ArrayBase S D T A P R L M s d n r t → List ℕ → Option ℕ
+  abbrev pub place_at : ArrayBase S D T A R s d n r t → List ℕ → Option ℕ
   place_at a i = (memory_layout_of a).place i
 
   -- shape, places and storage together
-  abbrev pub placed_array : ArrayBase S D T A P R L M s d n r t → PlacedArray A
+  abbrev pub placed_array : ArrayBase S D T A R s d n r t → PlacedArray A
   placed_array a = record { shape = shape_of a; place = place_at a; stored = s.stored (storage_of a) }

@@ -30,84 +30,84 @@ pub record Part : Type 0 where
   pub strides : List ℤ
   pub source : List ℕ → List ℕ
 
-module _ {S D A T P R L M : Type 0} {s : data_trait.Ghosts S A} {d : dimension.Ghosts D P R L M} {n : axis_count.Ghosts D} {r : stride_list.Ghosts R} {t : stride_list.Ghosts T} where
+module _ {S D A T R : Type 0} {s : data_trait.Ghosts S A} {d : dimension.Ghosts D R} {n : axis_count.Ghosts D} {r : stride_list.Ghosts R} {t : stride_list.Ghosts T} where
   -- what one slice names, of one axis
-  abbrev pub axis_part : ArrayBase S D T A P R L M s d n r t → ℕ → Slice → Part
+  abbrev pub axis_part : ArrayBase S D T A R s d n r t → ℕ → Slice → Part
   axis_part a axis slice = record { shape = sliced_shape (shape_of a) axis slice; strides = sliced_strides (shape_of a) (layout_strides a) axis slice; source = sliced_index (shape_of a) axis slice }
 
   -- what a list of slices names
-  abbrev pub sliced_part : ArrayBase S D T A P R L M s d n r t → List SliceInfoElem → Part
+  abbrev pub sliced_part : ArrayBase S D T A R s d n r t → List SliceInfoElem → Part
   sliced_part a list = record { shape = shape_after (shape_of a) list; strides = strides_after (shape_of a) (layout_strides a) list; source = index_before (shape_of a) list }
 
   -- the same where an indexed axis stays, with length 1
-  abbrev pub collapsed_by_part : ArrayBase S D T A P R L M s d n r t → List SliceInfoElem → Part
+  abbrev pub collapsed_by_part : ArrayBase S D T A R s d n r t → List SliceInfoElem → Part
   collapsed_by_part a list = record { shape = collapsed_after (shape_of a) list; strides = collapsed_strides (shape_of a) (layout_strides a) list; source = collapsed_before (shape_of a) list }
 
   -- what a slice for each axis names
-  abbrev pub each_sliced_part : ArrayBase S D T A P R L M s d n r t → List Slice → Part
+  abbrev pub each_sliced_part : ArrayBase S D T A R s d n r t → List Slice → Part
   each_sliced_part a slices = record { shape = each_sliced_shape (shape_of a) slices; strides = each_sliced_strides (shape_of a) (layout_strides a) slices; source = each_sliced_index (shape_of a) slices }
 
   -- the axes with their numbers, lengths and strides
-  abbrev pub axes_of : ArrayBase S D T A P R L M s d n r t → List AxisDescription
+  abbrev pub axes_of : ArrayBase S D T A R s d n r t → List AxisDescription
   axes_of a = axes_from 0 (shape_of a) (layout_strides a)
 
   -- the axes in another order: axis k is the axis at k of the list
-  abbrev pub permuted_part : ArrayBase S D T A P R L M s d n r t → List ℕ → Part
+  abbrev pub permuted_part : ArrayBase S D T A R s d n r t → List ℕ → Part
   permuted_part a axes = record { shape = permuted_list axes (shape_of a); strides = permuted_strides axes (layout_strides a); source = unpermuted_list axes }
 
   -- an axis counted from its other end
-  abbrev pub inverted_part : ArrayBase S D T A P R L M s d n r t → ℕ → Part
+  abbrev pub inverted_part : ArrayBase S D T A R s d n r t → ℕ → Part
   inverted_part a axis = record { shape = shape_of a; strides = inverted_strides (layout_strides a) axis; source = inverted_index (shape_of a) axis }
 
   -- one coordinate of an axis, which keeps length 1
-  abbrev pub collapsed_part : ArrayBase S D T A P R L M s d n r t → ℕ → ℕ → Part
+  abbrev pub collapsed_part : ArrayBase S D T A R s d n r t → ℕ → ℕ → Part
   collapsed_part a axis k = record { shape = collapsed_shape (shape_of a) axis; strides = layout_strides a; source = collapsed_index axis k }
 
   -- two axes exchanged
-  abbrev pub swapped_part : ArrayBase S D T A P R L M s d n r t → ℕ → ℕ → Part
+  abbrev pub swapped_part : ArrayBase S D T A R s d n r t → ℕ → ℕ → Part
   swapped_part a x y = record { shape = swap (shape_of a) x y; strides = swap (layout_strides a) x y; source = λ i. swap i x y }
 
   -- the axes in the opposite order
-  abbrev pub reversed_part : ArrayBase S D T A P R L M s d n r t → Part
+  abbrev pub reversed_part : ArrayBase S D T A R s d n r t → Part
   reversed_part a = record { shape = reverse (shape_of a); strides = reverse (layout_strides a); source = reverse }
 
   -- the indexes whose coordinates are all the same
-  abbrev pub diagonal_part : ArrayBase S D T A P R L M s d n r t → Part
+  abbrev pub diagonal_part : ArrayBase S D T A R s d n r t → Part
   diagonal_part a = record { shape = diagonal_length (shape_of a) ∷ []; strides = diagonal_stride (shape_of a) (layout_strides a) ∷ []; source = diagonal_index (shape_of a) }
 
   -- what lies at one coordinate of an axis, without the axis
-  abbrev pub coordinate_part : ArrayBase S D T A P R L M s d n r t → ℕ → ℕ → Part
+  abbrev pub coordinate_part : ArrayBase S D T A R s d n r t → ℕ → ℕ → Part
   coordinate_part a axis k = record { shape = indexed_shape (shape_of a) axis; strides = remove (layout_strides a) axis; source = indexed_index axis k }
 
   -- an axis of length 1 put in
-  abbrev pub inserted_part : ArrayBase S D T A P R L M s d n r t → ℕ → Part
+  abbrev pub inserted_part : ArrayBase S D T A R s d n r t → ℕ → Part
   inserted_part a axis = record { shape = inserted_shape (shape_of a) axis; strides = insert (layout_strides a) axis (pos 1); source = inserted_index axis }
 
   -- the axes but those of length 1; the first of these stays where there is no other
-  abbrev pub squeezed_part : ArrayBase S D T A P R L M s d n r t → Part
+  abbrev pub squeezed_part : ArrayBase S D T A R s d n r t → Part
   squeezed_part a = record { shape = squeezed_shape (shape_of a); strides = squeezed_strides (shape_of a) (layout_strides a); source = squeezed_index (shape_of a) }
 
   -- one axis merged into another
-  abbrev pub merged_part : ArrayBase S D T A P R L M s d n r t → ℕ → ℕ → Part
+  abbrev pub merged_part : ArrayBase S D T A R s d n r t → ℕ → ℕ → Part
   merged_part a take into = record { shape = merged_shape (shape_of a) take into; strides = merged_strides (shape_of a) (layout_strides a) take into; source = merged_index (shape_of a) take into }
 
   -- the coordinates of an axis below k, and those from k on
-  abbrev pub lower_part : ArrayBase S D T A P R L M s d n r t → ℕ → ℕ → Part
+  abbrev pub lower_part : ArrayBase S D T A R s d n r t → ℕ → ℕ → Part
   lower_part a axis k = record { shape = lower_shape (shape_of a) axis k; strides = layout_strides a; source = λ i. i }
 
-  abbrev pub upper_part : ArrayBase S D T A P R L M s d n r t → ℕ → ℕ → Part
+  abbrev pub upper_part : ArrayBase S D T A R s d n r t → ℕ → ℕ → Part
   upper_part a axis k = record { shape = upper_shape (shape_of a) axis k; strides = layout_strides a; source = upper_index axis k }
 
   -- a larger shape that repeats the elements
-  abbrev pub broadcast_part : ArrayBase S D T A P R L M s d n r t → List ℕ → Part
+  abbrev pub broadcast_part : ArrayBase S D T A R s d n r t → List ℕ → Part
   broadcast_part a to = record { shape = to; strides = broadcast_strides (shape_of a) (layout_strides a) to; source = broadcast_index (shape_of a) to }
 
 module _
-    {S D A T P R L M : Type 0} {s : data_trait.Ghosts S A} {d : dimension.Ghosts D P R L M} {n : axis_count.Ghosts D} {r : stride_list.Ghosts R} {t : stride_list.Ghosts T}
-    {Z E U Q X V W : Type 0} {z : data_trait.Ghosts Z A} {e : dimension.Ghosts E Q X V W} {k : axis_count.Ghosts E} {x : stride_list.Ghosts X} {u : stride_list.Ghosts U} where
+    {S D A T R : Type 0} {s : data_trait.Ghosts S A} {d : dimension.Ghosts D R} {n : axis_count.Ghosts D} {r : stride_list.Ghosts R} {t : stride_list.Ghosts T}
+    {Z E U X : Type 0} {z : data_trait.Ghosts Z A} {e : dimension.Ghosts E X} {k : axis_count.Ghosts E} {x : stride_list.Ghosts X} {u : stride_list.Ghosts U} where
   -- b is the part of a: it has the part's shape and strides, and each of its indexes the element and the place of the
   -- index that it names; where a has no elements, which leaves b without a place to tell, it has a's offset
-  abbrev pub ShowsPart : ArrayBase S D T A P R L M s d n r t → Part → ArrayBase Z E U A Q X V W z e k x u → Type 0
+  abbrev pub ShowsPart : ArrayBase S D T A R s d n r t → Part → ArrayBase Z E U A X z e k x u → Type 0
   ShowsPart a part b =
       (shape_of b ≡ part.shape)
       × (layout_strides b ≡ part.strides)
@@ -116,7 +116,7 @@ module _
       × (size_of (shape_of a) ≡ 0 → layout_offset b ≡ layout_offset a)
 
   -- b shows all that a does, in the same places
-  abbrev pub ShowsWhole : ArrayBase S D T A P R L M s d n r t → ArrayBase Z E U A Q X V W z e k x u → Type 0
+  abbrev pub ShowsWhole : ArrayBase S D T A R s d n r t → ArrayBase Z E U A X z e k x u → Type 0
   ShowsWhole a b =
       (shape_of b ≡ shape_of a)
       × (layout_strides b ≡ layout_strides a)
@@ -125,11 +125,11 @@ module _
       × (layout_offset b ≡ layout_offset a)
 
 module _
-    {S D A T P R L M : Type 0} {s : data_trait.Ghosts S A} {d : dimension.Ghosts D P R L M} {n : axis_count.Ghosts D} {r : stride_list.Ghosts R} {t : stride_list.Ghosts T}
-    {E U Q X V W : Type 0} {e : dimension.Ghosts E Q X V W} {k : axis_count.Ghosts E} {x : stride_list.Ghosts X} {u : stride_list.Ghosts U} where
+    {S D A T R : Type 0} {s : data_trait.Ghosts S A} {d : dimension.Ghosts D R} {n : axis_count.Ghosts D} {r : stride_list.Ghosts R} {t : stride_list.Ghosts T}
+    {E U X : Type 0} {e : dimension.Ghosts E X} {k : axis_count.Ghosts E} {x : stride_list.Ghosts X} {u : stride_list.Ghosts U} where
   -- and in a's own storage
-  abbrev pub BecomesPart : ArrayBase S D T A P R L M s d n r t → Part → ArrayBase S E U A Q X V W s e k x u → Type 0
+  abbrev pub BecomesPart : ArrayBase S D T A R s d n r t → Part → ArrayBase S E U A X s e k x u → Type 0
   BecomesPart a part b = ShowsPart a part b × (storage_of b ≡ storage_of a)
 
-  abbrev pub BecomesWhole : ArrayBase S D T A P R L M s d n r t → ArrayBase S E U A Q X V W s e k x u → Type 0
+  abbrev pub BecomesWhole : ArrayBase S D T A R s d n r t → ArrayBase S E U A X s e k x u → Type 0
   BecomesWhole a b = ShowsWhole a b × (storage_of b ≡ storage_of a)

@@ -76,8 +76,6 @@ pub fn sums_along<S: Data<Elem = u64>, D: RemoveAxis>(
     array: &ArrayBase<S, D>,
     axis: Axis,
 ) -> Result<Array<u64, D::Smaller>, NoMemory>
-where
-    D::Smaller: Dimension,
     requires { axis.0 < length (shape_of array.now) }
     ensures sums { IfOk result (λ a. AreFoldedBy (λ sum x. (sum + x) % 2 ^ 64) (shape_of array.now) (element_at array.now) axis.0 0 (element_at a)) }
 {
@@ -91,8 +89,6 @@ pub fn lengths_along<A, S: Data<Elem = A>, D: RemoveAxis>(
     array: &ArrayBase<S, D>,
     axis: Axis,
 ) -> Result<Array<usize, D::Smaller>, NoMemory>
-where
-    D::Smaller: Dimension,
     requires { axis.0 < length (shape_of array.now) }
     ensures shape { IfOk result (λ a. shape_of a ≡ indexed_shape (shape_of array.now) axis.0) }
     ensures lengths { IfOk result (λ a. IsMappedBy (λ lane. size_of lane.shape) (lanes_of (meaning_of array.now) axis.0).at (element_at a)) }
@@ -114,8 +110,6 @@ pub fn sums_of_lanes<S: Data<Elem = u64>, D: RemoveAxis>(
     array: &ArrayBase<S, D>,
     axis: Axis,
 ) -> Result<Array<u64, D::Smaller>, NoMemory>
-where
-    D::Smaller: Dimension,
     requires { axis.0 < length (shape_of array.now) }
     ensures sums { IfOk result (λ a. IsMappedBy (λ lane. fold (λ sum x. (sum + x) % 2 ^ 64) 0 (row_major_elements lane)) (lanes_of (meaning_of array.now) axis.0).at (element_at a)) }
 {
@@ -155,8 +149,6 @@ pub fn firsts_out<S: DataMut<Elem = u64>, D: RemoveAxis>(
     array: &mut ArrayBase<S, D>,
     axis: Axis,
 ) -> Result<Array<u64, D::Smaller>, NoMemory>
-where
-    D::Smaller: Dimension,
     requires { axis.0 < length (shape_of array.old) }
     ensures left { IfOk result (λ _. AreLeftBy zero_first (meaning_of array.old) axis.0 (element_at array.new)) }
     ensures firsts { IfOk result (λ a. IsMappedBy first_or_0 (lanes_of (meaning_of array.old) axis.0).at (element_at a)) }

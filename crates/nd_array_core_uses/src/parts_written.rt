@@ -155,7 +155,6 @@ pub fn fill_one_of_part<S: DataMut, D: RemoveAxis>(
     value: S::Elem,
 ) -> Result<(), NoMemory>
 where
-    D::Smaller: Dimension,
     S::Elem: Clone + Drop,
     requires axis { axis.0 < length (shape_of array.old) }
     requires fits { IsTrue (fits_axis (slice_index (shape_of array.old) axis.0) slice) }

@@ -175,8 +175,6 @@ fn put_at_coordinate<A: Drop, S: DataMut<Elem = A>, D: RemoveAxis, X: NdIndex<D:
     index: usize,
     task: Put<X, A>,
 ) -> A
-where
-    D::Smaller: Dimension,
     requires axis { axis.0 < length (shape_of array.old) }
     requires below { index < slice_index (shape_of array.old) axis.0 }
     requires within { IsTrue (in_box (indexed_shape (shape_of array.old) axis.0) (X.coordinates_of task.index)) }

@@ -42,45 +42,45 @@ abbrev pub StaysBeside : {A : Type 0} → Placement → (ℕ → Option A) → (
 StaysBeside p old new = OthersStay (place_named p) old new
 
 -- the same of a storage and a layout
-module _ {S A D T P R L M : Type 0} {d : dimension.Ghosts D P R L M} {n : axis_count.Ghosts D} {r : stride_list.Ghosts R} {t : stride_list.Ghosts T} (stored : S → ℕ → Option A) where
-  abbrev pub shown : S → Layout D T P R L M d n r t → List ℕ → Option A
+module _ {S A D T R : Type 0} {d : dimension.Ghosts D R} {n : axis_count.Ghosts D} {r : stride_list.Ghosts R} {t : stride_list.Ghosts T} (stored : S → ℕ → Option A) where
+  abbrev pub shown : S → Layout D T R d n r t → List ℕ → Option A
   shown s l = shown_at (stored s) (placement_of l)
 
   -- in row-major order
-  abbrev pub listed_by : S → Layout D T P R L M d n r t → List A
+  abbrev pub listed_by : S → Layout D T R d n r t → List A
   listed_by s l = filter_map (shown s l) (indexes_of (d.lengths l.dim))
 
-  abbrev pub HoldsShown : S → Layout D T P R L M d n r t → Type 0
+  abbrev pub HoldsShown : S → Layout D T R d n r t → Type 0
   HoldsShown s l = HoldsEach (stored s) (placement_of l)
 
-  abbrev pub LeavesOthers : Layout D T P R L M d n r t → S → S → Type 0
+  abbrev pub LeavesOthers : Layout D T R d n r t → S → S → Type 0
   LeavesOthers l old new = StaysBeside (placement_of l) (stored old) (stored new)
 
   -- a second storage has what the first one has at the places of a layout, or elsewhere
-  abbrev pub ShowsNamed : Layout D T P R L M d n r t → S → S → Type 0
+  abbrev pub ShowsNamed : Layout D T R d n r t → S → S → Type 0
   ShowsNamed l old new = HasNamed (placement_of l) (stored old) (stored new)
 
-  abbrev pub ShowsUnnamed : Layout D T P R L M d n r t → S → S → Type 0
+  abbrev pub ShowsUnnamed : Layout D T R d n r t → S → S → Type 0
   ShowsUnnamed l old new = HasUnnamed (placement_of l) (stored old) (stored new)
 
   -- both storages have equal elements, in row-major order
-  abbrev pub equal_shown : (A → A → Bool) → S → Layout D T P R L M d n r t → S → Layout D T P R L M d n r t → Bool
+  abbrev pub equal_shown : (A → A → Bool) → S → Layout D T R d n r t → S → Layout D T R d n r t → Bool
   equal_shown eq a ours b theirs = pointwise eq (listed_by a ours) (listed_by b theirs)
 
   -- of an element a clone may be refused
-  abbrev pub MayRefuseShown : (A → Type 0) → S → Layout D T P R L M d n r t → Type 0
+  abbrev pub MayRefuseShown : (A → Type 0) → S → Layout D T R d n r t → Type 0
   MayRefuseShown is_infallible s l = MayRefuseClone is_infallible (shown s l)
 
   -- each index has in `new` what it has in a second storage under a layout of its own; or that or what it had
   module _ {Z : Type 0} (others_stored : Z → ℕ → Option A) where
-    abbrev pub ShowsSame : S → Layout D T P R L M d n r t → Z → Layout D T P R L M d n r t → Type 0
+    abbrev pub ShowsSame : S → Layout D T R d n r t → Z → Layout D T R d n r t → Type 0
     ShowsSame new l others beside = (i : List ℕ) → shown new l i ≡ shown_at (others_stored others) (placement_of beside) i
 
-    abbrev pub ShowsOldOr : S → S → Layout D T P R L M d n r t → Z → Layout D T P R L M d n r t → Type 0
+    abbrev pub ShowsOldOr : S → S → Layout D T R d n r t → Z → Layout D T R d n r t → Type 0
     ShowsOldOr old new l others beside = IsOldOrOf (shown old l) (shown_at (others_stored others) (placement_of beside)) (shown new l)
 
 -- closures that are handed the element at each index, to be written, and the one that a second storage has there
-module _ {S Z F A B D T P R L M : Type 0} {d : dimension.Ghosts D P R L M} {n : axis_count.Ghosts D} {r : stride_list.Ghosts R} {t : stride_list.Ghosts T} (g : Mut F (MutBor A × (Bor B × Unit {0})) (Unit {0} × (MutBor A × Unit {0}))) (stored : S → ℕ → Option A) (others_stored : Z → ℕ → Option B) (s : S) (l : Layout D T P R L M d n r t) (others : Z) (beside : Layout D T P R L M d n r t) where
+module _ {S Z F A B D T R : Type 0} {d : dimension.Ghosts D R} {n : axis_count.Ghosts D} {r : stride_list.Ghosts R} {t : stride_list.Ghosts T} (g : Mut F (MutBor A × (Bor B × Unit {0})) (Unit {0} × (MutBor A × Unit {0}))) (stored : S → ℕ → Option A) (others_stored : Z → ℕ → Option B) (s : S) (l : Layout D T R d n r t) (others : Z) (beside : Layout D T R d n r t) where
   -- in an order that is free: the next may be called; all were, the last of which left the closure so
   abbrev pub TakesShown : F → Type 0
   TakesShown f = ZippableInAnyOrder g (d.lengths l.dim) (shown stored s l) (shown others_stored others beside) f

@@ -21,7 +21,7 @@ abbrev pub in_turn : {A : Type 0} → List A → Numbered
 in_turn xs = record { count = length xs; place = λ k. pos k }
 
 -- those of a layout, by row-major rank
-abbrev pub ranked_by : {D T P R L M : Type 0} {d : dimension.Ghosts D P R L M} {n : axis_count.Ghosts D} {r : stride_list.Ghosts R} {t : stride_list.Ghosts T} → Layout D T P R L M d n r t → Numbered
+abbrev pub ranked_by : {D T R : Type 0} {d : dimension.Ghosts D R} {n : axis_count.Ghosts D} {r : stride_list.Ghosts R} {t : stride_list.Ghosts T} → Layout D T R d n r t → Numbered
 ranked_by l = by_rank (placement_of l)
 
 -- no two numbers have one place
@@ -60,11 +60,11 @@ abbrev pub MayRefuse : {S A : Type 0} → (A → Type 0) → (S → ℕ → Opti
 MayRefuse is_infallible stored places s = MayRefuseAt is_infallible stored (ranked places) s
 
 -- all elements of a layout are listed behind what a vector had; of one of them a clone may be refused
-module _ {S A D T P R L M : Type 0} {d : dimension.Ghosts D P R L M} {n : axis_count.Ghosts D} {r : stride_list.Ghosts R} {t : stride_list.Ghosts T} where
-  abbrev pub ListsShown : {Z : Type 0} → (S → ℕ → Option A) → Layout D T P R L M d n r t → S → Vec A Z → Vec A Z → Type 0
+module _ {S A D T R : Type 0} {d : dimension.Ghosts D R} {n : axis_count.Ghosts D} {r : stride_list.Ghosts R} {t : stride_list.Ghosts T} where
+  abbrev pub ListsShown : {Z : Type 0} → (S → ℕ → Option A) → Layout D T R d n r t → S → Vec A Z → Vec A Z → Type 0
   ListsShown stored l s old new = ListsBehind stored (ranked_by l) s old new
 
-  abbrev pub MayRefuseBy : (A → Type 0) → (S → ℕ → Option A) → Layout D T P R L M d n r t → S → Type 0
+  abbrev pub MayRefuseBy : (A → Type 0) → (S → ℕ → Option A) → Layout D T R d n r t → S → Type 0
   MayRefuseBy is_infallible stored l s = MayRefuseAt is_infallible stored (ranked_by l) s
 
 -- the elements along two lanes are equal, one by one: so many from a number on, and as many as the first lane has

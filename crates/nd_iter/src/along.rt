@@ -12,10 +12,7 @@ use std::marker::{Model, PhantomData};
 
 /// The views at the coordinates of an axis that are left, seen as the list of their shapes and elements. ndarray's `AxisIter`.
 #[derive(Drop)]
-pub struct AxisIter<'a, A, S: Data<Elem = A>, D: RemoveAxis>
-where
-    D::Smaller: Dimension,
-{
+pub struct AxisIter<'a, A, S: Data<Elem = A>, D: RemoveAxis> {
     array: &'a ArrayBase<S, D>,
     axis: usize,
     front: usize,
@@ -23,10 +20,7 @@ where
     of: PhantomData<&'a A>,
 }
 
-impl<'a, A, S: Data<Elem = A>, D: RemoveAxis> Model for AxisIter<'a, A, S, D>
-where
-    D::Smaller: Dimension,
-{
+impl<'a, A, S: Data<Elem = A>, D: RemoveAxis> Model for AxisIter<'a, A, S, D> {
     ghost use Rattle.std.specs.Prelude.{ℕ, List};
     ghost use Rattle.nd_array_core.specs.Meaning.{meaning_of, shape_of};
     ghost use Rattle.nd_iter.specs.Seen.{at_coordinates, CanGoAlong};
@@ -44,8 +38,6 @@ fn view_at<'a, A, S: Data<Elem = A>, D: RemoveAxis>(
     axis: usize,
     index: usize,
 ) -> ArrayView<'a, A, D::Smaller>
-where
-    D::Smaller: Dimension,
     requires on { axis < length (shape_of array.now) }
     requires within { index < slice_index (shape_of array.now) axis }
     ensures { listing (meaning_of result) ≡ listing (at_coordinate (meaning_of array.now) axis index) }
@@ -53,10 +45,7 @@ where
     array.index_axis(Axis(axis), index)
 }
 
-impl<'a, A, S: Data<Elem = A>, D: RemoveAxis> Iterator for AxisIter<'a, A, S, D>
-where
-    D::Smaller: Dimension,
-{
+impl<'a, A, S: Data<Elem = A>, D: RemoveAxis> Iterator for AxisIter<'a, A, S, D> {
     type Item = ArrayView<'a, A, D::Smaller>;
 
     ghost next_gives = { YieldsFirstBy (λ item. listing (meaning_of item)) (λ rest. rest) };
@@ -80,10 +69,7 @@ where
     }
 }
 
-impl<'a, A, S: Data<Elem = A>, D: RemoveAxis> DoubleEndedIterator for AxisIter<'a, A, S, D>
-where
-    D::Smaller: Dimension,
-{
+impl<'a, A, S: Data<Elem = A>, D: RemoveAxis> DoubleEndedIterator for AxisIter<'a, A, S, D> {
     ghost next_back_gives = { YieldsLastBy (λ item. listing (meaning_of item)) (λ rest. rest) };
 
     #[tactic(auto, using(crate::proofs::Parts::last_given, crate::proofs::Parts::none_given))]
@@ -96,28 +82,20 @@ where
     }
 }
 
-impl<'a, A, S: Data<Elem = A>, D: RemoveAxis> ExactSizeIterator for AxisIter<'a, A, S, D>
-where
-    D::Smaller: Dimension,
-{
+impl<'a, A, S: Data<Elem = A>, D: RemoveAxis> ExactSizeIterator for AxisIter<'a, A, S, D> {
     #[tactic(auto, using(crate::proofs::Parts::length_given))]
     fn len(&self) -> usize {
         self.back - self.front
     }
 }
 
-impl<'a, A, S: Data<Elem = A>, D: RemoveAxis> FusedIterator for AxisIter<'a, A, S, D>
-where
-    D::Smaller: Dimension,
-{}
+impl<'a, A, S: Data<Elem = A>, D: RemoveAxis> FusedIterator for AxisIter<'a, A, S, D> {}
 
 /// The views at each coordinate of an axis, from the first on, without the axis. The axis is there. ndarray's `axis_iter`.
 pub fn axis_iter<A, S: Data<Elem = A>, D: RemoveAxis>(
     array: &ArrayBase<S, D>,
     axis: Axis,
 ) -> AxisIter<'_, A, S, D>
-where
-    D::Smaller: Dimension,
     requires { axis.0 < length (shape_of array.now) }
     ensures { result ≡ along_axis (meaning_of array.now) axis.0 }
 {

@@ -9,13 +9,13 @@ ghost use Rattle.nd_iter.specs.Seen.{with_indexes};
 use crate::ranks::{LaneInHand, index_of, listed_at};
 use nd_array_core::laws::elements_by_rank;
 use nd_array_core::{ArrayBase, Data};
-use nd_shape_and_slice::Dimension;
+use nd_shape_and_slice::{Dimension, IntoPattern};
 use std::iter::FusedIterator;
 use std::marker::Model;
 
 /// The elements that are left, each with its index, seen as the list of both. ndarray's `IndexedIter`.
 #[derive(Drop)]
-pub struct IndexedIter<'a, A, S: Data<Elem = A>, D: Dimension> {
+pub struct IndexedIter<'a, A, S: Data<Elem = A>, D: IntoPattern> {
     array: &'a ArrayBase<S, D>,
     // The ranks that are left.
     front: usize,
@@ -25,7 +25,7 @@ pub struct IndexedIter<'a, A, S: Data<Elem = A>, D: Dimension> {
     behind: Option<LaneInHand<'a, A>>,
 }
 
-impl<'a, A, S: Data<Elem = A>, D: Dimension> Model for IndexedIter<'a, A, S, D> {
+impl<'a, A, S: Data<Elem = A>, D: IntoPattern> Model for IndexedIter<'a, A, S, D> {
     ghost use Rattle.std.specs.Prelude.{ℕ, List};
     ghost use Rattle.nd_array_core.specs.Meaning.{meaning_of, shape_of};
     ghost use Rattle.nd_iter.specs.Hands.{IsInHand};
@@ -40,7 +40,7 @@ impl<'a, A, S: Data<Elem = A>, D: Dimension> Model for IndexedIter<'a, A, S, D> 
         × IsInHand (meaning_of it.array.now) it.behind };
 }
 
-impl<'a, A, S: Data<Elem = A>, D: Dimension> Iterator for IndexedIter<'a, A, S, D> {
+impl<'a, A, S: Data<Elem = A>, D: IntoPattern> Iterator for IndexedIter<'a, A, S, D> {
     type Item = (D::Pattern, &'a A);
 
     ghost next_gives = { YieldsFirstBy (λ item. (D.pattern_lengths item.0, item.1.now)) (λ rest. rest) };
@@ -68,7 +68,7 @@ impl<'a, A, S: Data<Elem = A>, D: Dimension> Iterator for IndexedIter<'a, A, S, 
     }
 }
 
-impl<'a, A, S: Data<Elem = A>, D: Dimension> DoubleEndedIterator for IndexedIter<'a, A, S, D> {
+impl<'a, A, S: Data<Elem = A>, D: IntoPattern> DoubleEndedIterator for IndexedIter<'a, A, S, D> {
     ghost next_back_gives = { YieldsLastBy (λ item. (D.pattern_lengths item.0, item.1.now)) (λ rest. rest) };
 
     fn next_back(&mut self) -> Option<(D::Pattern, &'a A)> {
@@ -85,18 +85,18 @@ impl<'a, A, S: Data<Elem = A>, D: Dimension> DoubleEndedIterator for IndexedIter
     }
 }
 
-impl<'a, A, S: Data<Elem = A>, D: Dimension> ExactSizeIterator for IndexedIter<'a, A, S, D> {
+impl<'a, A, S: Data<Elem = A>, D: IntoPattern> ExactSizeIterator for IndexedIter<'a, A, S, D> {
     fn len(&self) -> usize {
         elements_by_rank(self.array);
         self.back - self.front
     }
 }
 
-impl<'a, A, S: Data<Elem = A>, D: Dimension> FusedIterator for IndexedIter<'a, A, S, D> {}
+impl<'a, A, S: Data<Elem = A>, D: IntoPattern> FusedIterator for IndexedIter<'a, A, S, D> {}
 
 /// The elements in row-major order, each with its index: a number, a tuple or a list of coordinates, by the number of axes.
 /// ndarray's `indexed_iter`.
-pub fn indexed_iter<A, S: Data<Elem = A>, D: Dimension>(
+pub fn indexed_iter<A, S: Data<Elem = A>, D: IntoPattern>(
     array: &ArrayBase<S, D>,
 ) -> IndexedIter<'_, A, S, D>
     ensures { result ≡ row_major_elements (with_indexes (meaning_of array.now)) }

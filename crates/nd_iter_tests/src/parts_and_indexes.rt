@@ -1,6 +1,6 @@
 //! Windows, blocks and elements with their indexes of small tables, drawn by hand.
 
-use nd_array_core::{Array2, ArrayBase, Data};
+use nd_array_core::{Array2, ArrayBase, ArrayView, Data};
 use nd_iter::{axis_iter, exact_chunks, indexed_iter, iter, rows, windows, windows_with_stride};
 use nd_shape_and_slice::{Axis, Dimension, Slice};
 use nd_test_arrays::made;
@@ -27,6 +27,14 @@ fn digits<S: Data<Elem = u64>, D: Dimension>(array: &ArrayBase<S, D>) -> u64 {
     digits
 }
 
+/// The elements of a part as digits, where there is one.
+fn digits_of<D: Dimension>(part: Option<ArrayView<'_, u64, D>>) -> Option<u64> {
+    match part {
+        Some(part) => Some(digits(&part)),
+        None => None,
+    }
+}
+
 /// The elements as digits, from the last one back.
 fn digits_back<S: Data<Elem = u64>, D: Dimension>(array: &ArrayBase<S, D>) -> u64 {
     let mut digits: u64 = 0;
@@ -41,11 +49,11 @@ fn two_by_three_windows(rt: HostRuntime) {
     let table = table(&rt, rt.alloc());
     let mut left = windows(&table, 2, 3);
     assert_eq!(rt; left.len(), 4);
-    assert_eq!(rt; left.next().map(|part| digits(&part)), Some(123567));
-    assert_eq!(rt; left.next_back().map(|part| digits(&part)), Some(678123));
-    assert_eq!(rt; left.next().map(|part| digits(&part)), Some(234678));
-    assert_eq!(rt; left.next().map(|part| digits(&part)), Some(567912));
-    assert_eq!(rt; left.next().map(|part| digits(&part)), None);
+    assert_eq!(rt; digits_of(left.next()), Some(123567));
+    assert_eq!(rt; digits_of(left.next_back()), Some(678123));
+    assert_eq!(rt; digits_of(left.next()), Some(234678));
+    assert_eq!(rt; digits_of(left.next()), Some(567912));
+    assert_eq!(rt; digits_of(left.next()), None);
 }
 
 #[test]
@@ -65,9 +73,9 @@ fn two_by_two_blocks(rt: HostRuntime) {
     let table = table(&rt, rt.alloc());
     let mut left = exact_chunks(&table, 2, 2);
     assert_eq!(rt; left.len(), 2);
-    assert_eq!(rt; left.next().map(|part| digits(&part)), Some(1256));
-    assert_eq!(rt; left.next().map(|part| digits(&part)), Some(3478));
-    assert_eq!(rt; left.next().map(|part| digits(&part)), None);
+    assert_eq!(rt; digits_of(left.next()), Some(1256));
+    assert_eq!(rt; digits_of(left.next()), Some(3478));
+    assert_eq!(rt; digits_of(left.next()), None);
 }
 
 #[test]
@@ -75,10 +83,10 @@ fn windows_two_columns_apart(rt: HostRuntime) {
     let table = table(&rt, rt.alloc());
     let mut left = windows_with_stride(&table, 1, 2, 1, 2);
     assert_eq!(rt; left.len(), 6);
-    assert_eq!(rt; left.next().map(|part| digits(&part)), Some(12));
-    assert_eq!(rt; left.next().map(|part| digits(&part)), Some(34));
-    assert_eq!(rt; left.next().map(|part| digits(&part)), Some(56));
-    assert_eq!(rt; left.next_back().map(|part| digits(&part)), Some(23));
+    assert_eq!(rt; digits_of(left.next()), Some(12));
+    assert_eq!(rt; digits_of(left.next()), Some(34));
+    assert_eq!(rt; digits_of(left.next()), Some(56));
+    assert_eq!(rt; digits_of(left.next_back()), Some(23));
 }
 
 #[test]
@@ -132,9 +140,9 @@ fn the_transpose_from_the_last_element(rt: HostRuntime) {
 fn rows_from_the_last(rt: HostRuntime) {
     let table = table(&rt, rt.alloc());
     let mut left = rows(&table);
-    assert_eq!(rt; left.next_back().map(|row| digits(&row)), Some(9123));
-    assert_eq!(rt; left.next().map(|row| digits(&row)), Some(1234));
-    assert_eq!(rt; left.next_back().map(|row| digits(&row)), Some(5678));
+    assert_eq!(rt; digits_of(left.next_back()), Some(9123));
+    assert_eq!(rt; digits_of(left.next()), Some(1234));
+    assert_eq!(rt; digits_of(left.next_back()), Some(5678));
     assert!(rt; left.next_back().is_none());
 }
 
@@ -143,8 +151,5 @@ fn rows_from_the_last(rt: HostRuntime) {
 fn columns_from_the_last(rt: HostRuntime) {
     let table = table(&rt, rt.alloc());
     let mut columns = axis_iter(&table, Axis(1));
-    assert_eq!(rt;
-        columns.next_back().map(|column| digits(&column)),
-        Some(483)
-    );
+    assert_eq!(rt; digits_of(columns.next_back()), Some(483));
 }

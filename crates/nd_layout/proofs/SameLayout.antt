@@ -10,7 +10,7 @@ use Rattle.nd_shape_and_slice.specs.declared.dimension.StrideList as stride_list
 use Rattle.nd_layout.specs.Places.{is_place}
 use Rattle.nd_layout.specs.declared.layout.Layout.{Layout}
 
-pub same_layout : {D T P R L M : Type 0} {d : dimension.Ghosts D P R L M} {n : axis_count.Ghosts D} {r : stride_list.Ghosts R} {t : stride_list.Ghosts T} (a b : Layout D T P R L M d n r t)
+pub same_layout : {D T R : Type 0} {d : dimension.Ghosts D R} {n : axis_count.Ghosts D} {r : stride_list.Ghosts R} {t : stride_list.Ghosts T} (a b : Layout D T R d n r t)
     → a.offset ≡ b.offset → a.dim ≡ b.dim → a.strides ≡ b.strides → a ≡ b
 same_layout {d = d} {t = t} a b o p q = λ k. record {
   offset = o k;

@@ -26,7 +26,7 @@ pub record AreHalved (one two lower lower_two upper upper_two : Placement) : Typ
   pub high_smaller : sum upper.lengths < sum one.lengths
 
 -- the same of layouts
-abbrev pub HalvesBoth : {D T P R L M : Type 0} {d : dimension.Ghosts D P R L M} {n : axis_count.Ghosts D} {r : stride_list.Ghosts R} {t : stride_list.Ghosts T} → (one two : Layout D T P R L M d n r t) → Halves D T P R L M d n r t → Type 0
+abbrev pub HalvesBoth : {D T R : Type 0} {d : dimension.Ghosts D R} {n : axis_count.Ghosts D} {r : stride_list.Ghosts R} {t : stride_list.Ghosts T} → (one two : Layout D T R d n r t) → Halves D T R d n r t → Type 0
 HalvesBoth one two halves = AreHalved (placement_of one) (placement_of two) (placement_of halves.lower) (placement_of halves.lower_beside) (placement_of halves.upper) (placement_of halves.upper_beside)
 
 -- the first axis longer than 1: all before it have length 1

@@ -33,7 +33,7 @@ pub record Placement : Type 0 where
 abbrev pub as_placement : ℕ → List ℕ → List ℤ → Placement
 as_placement offset lengths strides = record { offset = offset; lengths = lengths; strides = strides }
 
-abbrev pub placement_of : {D T P R L M : Type 0} {d : dimension.Ghosts D P R L M} {n : axis_count.Ghosts D} {r : stride_list.Ghosts R} {t : stride_list.Ghosts T} → Layout D T P R L M d n r t → Placement
+abbrev pub placement_of : {D T R : Type 0} {d : dimension.Ghosts D R} {n : axis_count.Ghosts D} {r : stride_list.Ghosts R} {t : stride_list.Ghosts T} → Layout D T R d n r t → Placement
 placement_of {d = d} {t = t} l = record { offset = l.offset; lengths = d.lengths l.dim; strides = t.strides_of l.strides }
 
 -- a layout step from one placement to another, whose indexes name those of the first by the map

@@ -83,15 +83,15 @@ module _ {A D T : Type 0} (lengths : D → List ℕ) (strides : T → List ℤ) 
   abbrev pub IsDoneWithViews : {Q : Type 0} → (Meaning A → Meaning A → Meaning A → Meaning A → Q → Type 0) → LentView A D T → LentView A D T → RegionRepr (Region A) × RegionRepr (Region A) × Q → Type 0
   IsDoneWithViews done one two out = done (lent_meaning one) (lent_meaning two) (given_back one out.0) (given_back two out.1) out.2
 
-module _ {S D A T P R L M : Type 0} {s : data_trait.Ghosts S A} {d : dimension.Ghosts D P R L M} {n : axis_count.Ghosts D} {r : stride_list.Ghosts R} {t : stride_list.Ghosts T} where
+module _ {S D A T R : Type 0} {s : data_trait.Ghosts S A} {d : dimension.Ghosts D R} {n : axis_count.Ghosts D} {r : stride_list.Ghosts R} {t : stride_list.Ghosts T} where
   -- b lies in what a lies in
-  abbrev pub LiesWith : ArrayBase S D T A P R L M s d n r t → ArrayBase S D T A P R L M s d n r t → Type 0
+  abbrev pub LiesWith : ArrayBase S D T A R s d n r t → ArrayBase S D T A R s d n r t → Type 0
   LiesWith a b = storage_of b ≡ storage_of a
 
   -- each index of b lies where the index of a that the map names does
-  abbrev pub LiesThrough : ArrayBase S D T A P R L M s d n r t → (List ℕ → List ℕ) → ArrayBase S D T A P R L M s d n r t → Type 0
+  abbrev pub LiesThrough : ArrayBase S D T A R s d n r t → (List ℕ → List ℕ) → ArrayBase S D T A R s d n r t → Type 0
   LiesThrough a source b = (i : List ℕ) → place_at b i ≡ inside (shape_of b) i (place_at a (source i))
 
   -- b is where the path leads from a
-  abbrev pub EndsAlong : {E : Type 0} → PathMap E → ArrayBase S D T A P R L M s d n r t → ArrayBase S D T A P R L M s d n r t → Type 0
+  abbrev pub EndsAlong : {E : Type 0} → PathMap E → ArrayBase S D T A R s d n r t → ArrayBase S D T A R s d n r t → Type 0
   EndsAlong p a b = (shape_of b ≡ p.shape (shape_of a)) × LiesThrough a (p.source (shape_of a)) b

@@ -62,20 +62,12 @@ pub trait AxisCount {
 
 /// The lengths of an array's axes. ndarray's `Dimension`.
 pub trait Dimension: AxisCount + Copy {
-    /// The lengths as a number, a tuple or the dimension itself. ndarray's `Dimension::Pattern`.
-    type Pattern;
     /// The strides that go with it, one for each axis.
     type Strides: StrideList;
-    /// The dimension with one axis fewer.
-    type Smaller;
-    /// The dimension with one axis more.
-    type Larger;
 
     ghost lengths: { Self → List ℕ };
 
     ghost has_axes: { ℕ → Bool };
-
-    ghost pattern_lengths: { Self.Pattern → List ℕ };
 
     /// The lengths, axis by axis. ndarray's `Dimension::slice`.
     fn slice(&self) -> &[usize]
@@ -106,10 +98,6 @@ pub trait Dimension: AxisCount + Copy {
     fn zero_strides(&self) -> Self::Strides
         ensures { Self.Strides.strides_of result ≡ replicate (length (lengths self.now)) (pos 0) };
 
-    /// The lengths as a pattern. ndarray's `Dimension::into_pattern`.
-    fn into_pattern(self) -> Self::Pattern
-        ensures { pattern_lengths result ≡ lengths self };
-
     /// The number of elements, where the checked size exists. ndarray's `Dimension::size`.
     fn size(&self) -> usize
         requires { HasCheckedSize (lengths self.now) }
@@ -125,6 +113,19 @@ pub trait Dimension: AxisCount + Copy {
     {
         self.slice().len()
     }
+}
+
+/// A dimension whose lengths, and whose indexes, can be read as a number, a tuple or the dimension itself. In ndarray a
+/// part of `Dimension`.
+pub trait IntoPattern: Dimension {
+    /// The number, the tuple or the dimension. ndarray's `Dimension::Pattern`.
+    type Pattern;
+
+    ghost pattern_lengths: { Self.Pattern → List ℕ };
+
+    /// The lengths as a pattern. ndarray's `Dimension::into_pattern`.
+    fn into_pattern(self) -> Self::Pattern
+        ensures { pattern_lengths result ≡ Self.lengths self };
 }
 
 /// A dimension made from another. ndarray's `Dimension::from_dimension`.

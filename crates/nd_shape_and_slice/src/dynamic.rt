@@ -2,7 +2,7 @@
 
 ghost use Rattle.std.specs.Prelude.{◌≡◌, ◌≤◌, ◌==◌, ◌&&◌, nat_le, ℕ, ℤ, pos, Bool, true, false, List, [], ◌∷◌, Option, Some, None, length, take};
 
-use crate::dimension::{AxisCount, Dimension, MAX_AXES, StrideList};
+use crate::dimension::{AxisCount, Dimension, IntoPattern, MAX_AXES, StrideList};
 
 /// A number of axes known only at run time, at most 32. It takes no memory. ndarray's `IxDyn`.
 #[derive(Clone, Copy, Debug)]
@@ -58,19 +58,11 @@ impl IxDyn {
 }
 
 impl Dimension for IxDyn {
-    type Pattern = IxDyn;
-
     type Strides = DynStrides;
-
-    type Smaller = IxDyn;
-
-    type Larger = IxDyn;
 
     ghost lengths = { λ d. take d.count d.lens };
 
     ghost has_axes = { λ n. nat_le n 32 };
-
-    ghost pattern_lengths = { λ d. take d.count d.lens };
 
     fn slice(&self) -> &[usize] {
         &self.lens[..self.count]
@@ -102,14 +94,20 @@ impl Dimension for IxDyn {
         }
     }
 
-    fn into_pattern(self) -> IxDyn {
-        self
-    }
-
     fn zero_strides(&self) -> DynStrides {
         DynStrides {
             strides: [0; MAX_AXES],
             count: self.count,
         }
+    }
+}
+
+impl IntoPattern for IxDyn {
+    type Pattern = IxDyn;
+
+    ghost pattern_lengths = { λ d. take d.count d.lens };
+
+    fn into_pattern(self) -> IxDyn {
+        self
     }
 }

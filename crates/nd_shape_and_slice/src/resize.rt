@@ -9,10 +9,10 @@ use crate::dynamic::IxDyn;
 use crate::fixed::Dim;
 
 /// A dimension from which an axis can be removed: all but `Ix0`. ndarray's `RemoveAxis`.
-pub trait RemoveAxis: Dimension
-where
-    Self::Smaller: Dimension,
-{
+pub trait RemoveAxis: Dimension {
+    /// The dimension with one axis fewer. ndarray's `Dimension::Smaller`.
+    type Smaller: Dimension;
+
     /// The dimension without the length of this axis. ndarray's `RemoveAxis::remove_axis`.
     fn remove_axis(&self, axis: Axis) -> Self::Smaller
         requires { axis.0 < length (Self.lengths self.now) }
@@ -20,16 +20,22 @@ where
 }
 
 /// A dimension to which an axis can be added. ndarray's `Dimension::insert_axis`.
-pub trait InsertAxis: Dimension
-where
-    Self::Larger: Dimension,
-{
+pub trait InsertAxis: Dimension {
+    /// The dimension with one axis more. ndarray's `Dimension::Larger`.
+    type Larger: Dimension;
+
     /// The dimension with an axis of length 1 put in. The larger dimension must have room: it always has for a fixed
     /// number of axes; `IxDyn` must have fewer than 32.
     fn insert_axis(&self, axis: Axis) -> Self::Larger
         requires place { axis.0 ≤ length (Self.lengths self.now) }
         requires room { IsTrue (Self.Larger.has_axes (length (Self.lengths self.now) + 1)) }
-        ensures { Self.Larger.lengths result ≡ insert (Self.lengths self.now) axis.0 1 };
+        ensures { Self.Larger.lengths result ≡ insert (Self.lengths self.now) axis.0 1 }
+    {
+        let mut lengths = [0; MAX_AXES + 1];
+        let count = self.ndim() + 1;
+        copy_with(self.slice(), axis.0, &mut lengths[..count]);
+        Self::Larger::from_lengths(&lengths[..count]).unwrap()
+    }
 }
 
 /// Writes all lengths but that of one axis.
@@ -57,6 +63,8 @@ pub(crate) fn copy_with(lengths: &[usize], axis: usize, out: &mut [usize])
 }
 
 impl RemoveAxis for Dim<1> {
+    type Smaller = Dim<0>;
+
     fn remove_axis(&self, axis: Axis) -> Dim<0> {
         let mut lengths = [0; 0];
         copy_without(self.slice(), axis.0, &mut lengths);
@@ -65,6 +73,8 @@ impl RemoveAxis for Dim<1> {
 }
 
 impl RemoveAxis for Dim<2> {
+    type Smaller = Dim<1>;
+
     fn remove_axis(&self, axis: Axis) -> Dim<1> {
         let mut lengths = [0; 1];
         copy_without(self.slice(), axis.0, &mut lengths);
@@ -73,6 +83,8 @@ impl RemoveAxis for Dim<2> {
 }
 
 impl RemoveAxis for Dim<3> {
+    type Smaller = Dim<2>;
+
     fn remove_axis(&self, axis: Axis) -> Dim<2> {
         let mut lengths = [0; 2];
         copy_without(self.slice(), axis.0, &mut lengths);
@@ -81,6 +93,8 @@ impl RemoveAxis for Dim<3> {
 }
 
 impl RemoveAxis for Dim<4> {
+    type Smaller = Dim<3>;
+
     fn remove_axis(&self, axis: Axis) -> Dim<3> {
         let mut lengths = [0; 3];
         copy_without(self.slice(), axis.0, &mut lengths);
@@ -89,6 +103,8 @@ impl RemoveAxis for Dim<4> {
 }
 
 impl RemoveAxis for Dim<5> {
+    type Smaller = Dim<4>;
+
     fn remove_axis(&self, axis: Axis) -> Dim<4> {
         let mut lengths = [0; 4];
         copy_without(self.slice(), axis.0, &mut lengths);
@@ -97,6 +113,8 @@ impl RemoveAxis for Dim<5> {
 }
 
 impl RemoveAxis for Dim<6> {
+    type Smaller = Dim<5>;
+
     fn remove_axis(&self, axis: Axis) -> Dim<5> {
         let mut lengths = [0; 5];
         copy_without(self.slice(), axis.0, &mut lengths);
@@ -105,6 +123,8 @@ impl RemoveAxis for Dim<6> {
 }
 
 impl RemoveAxis for IxDyn {
+    type Smaller = IxDyn;
+
     fn remove_axis(&self, axis: Axis) -> IxDyn {
         let mut lengths = [0; MAX_AXES];
         let count = self.ndim() - 1;
@@ -113,14 +133,34 @@ impl RemoveAxis for IxDyn {
     }
 }
 
-impl<D: Dimension> InsertAxis for D
-where
-    D::Larger: Dimension,
-{
-    fn insert_axis(&self, axis: Axis) -> D::Larger {
-        let mut lengths = [0; MAX_AXES + 1];
-        let count = self.ndim() + 1;
-        copy_with(self.slice(), axis.0, &mut lengths[..count]);
-        D::Larger::from_lengths(&lengths[..count]).unwrap()
-    }
+impl InsertAxis for Dim<0> {
+    type Larger = Dim<1>;
+}
+
+impl InsertAxis for Dim<1> {
+    type Larger = Dim<2>;
+}
+
+impl InsertAxis for Dim<2> {
+    type Larger = Dim<3>;
+}
+
+impl InsertAxis for Dim<3> {
+    type Larger = Dim<4>;
+}
+
+impl InsertAxis for Dim<4> {
+    type Larger = Dim<5>;
+}
+
+impl InsertAxis for Dim<5> {
+    type Larger = Dim<6>;
+}
+
+impl InsertAxis for Dim<6> {
+    type Larger = IxDyn;
+}
+
+impl InsertAxis for IxDyn {
+    type Larger = IxDyn;
 }

@@ -1,7 +1,7 @@
 //! Dimensions, and what gives them: each call once, and their ends.
 
 use nd_shape_and_slice::{
-    Axis, AxisCount, Dimension, FromDimension, InsertAxis, IntoDimension, Ix0, Ix1, Ix2, Ix6,
+    Axis, AxisCount, Dimension, FromDimension, InsertAxis, IntoDimension, IntoPattern, Ix0, Ix1, Ix2, Ix6,
     IxDyn, MAX_AXES, NdIndex, RemoveAxis, StrideList,
 };
 

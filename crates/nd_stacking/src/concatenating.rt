@@ -115,8 +115,6 @@ pub fn concatenate<A: Clone + Drop, D: RemoveAxis>(
     axis: Axis,
     arrays: &[ArrayView<'_, A, D>],
 ) -> Result<Array<A, D>, ArrayError>
-where
-    D::Smaller: Dimension,
     requires clones { ClonesOfEachAreEqual A.is_clone (meanings_of arrays.now) }
     ensures joined { IfOk result (λ a. IsConcatenation axis.0 (meanings_of arrays.now) (meaning_of a)) }
     ensures fits { OnOk result (concatenation_refusal axis.0 (meanings_of arrays.now) ≡ None) }

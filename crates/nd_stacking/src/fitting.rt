@@ -114,12 +114,10 @@ fn are_equal<A, D: Dimension>(arrays: &[ArrayView<'_, A, D>], first: &D) -> bool
 }
 
 /// The dimension of the stack of arrays along a new axis, or the first cause why there is none.
-pub(crate) fn stacked_dim<A, D: Dimension>(
+pub(crate) fn stacked_dim<A, D: InsertAxis>(
     arrays: &[ArrayView<'_, A, D>],
     axis: Axis,
 ) -> Result<D::Larger, ShapeError>
-where
-    D::Larger: Dimension,
     requires room { HasRoomForAxis D.Larger.has_axes (meanings_of arrays.now) }
     ensures lengths { IfOk result (λ d. AreLengthsBeside axis.0 (meanings_of arrays.now) (D.Larger.lengths d)) }
     ensures fits { OnOk result (stack_refusal axis.0 (meanings_of arrays.now) ≡ None) }

@@ -10,17 +10,15 @@ ghost use Rattle.nd_stacking.specs.Weaving.{EachIs};
 use crate::concatenating::joined;
 use crate::fitting::stacked_dim;
 use nd_array_core::{Array, ArrayError, ArrayView};
-use nd_shape_and_slice::{Axis, Dimension, NoMemory, RemoveAxis};
+use nd_shape_and_slice::{Axis, Dimension, InsertAxis, NoMemory, RemoveAxis};
 use std::alloc::Global;
 
 /// Views of the arrays with an axis of length 1 put in.
-fn with_axis<'a, A, D: Dimension>(
+fn with_axis<'a, A, D: InsertAxis>(
     alloc: Global,
     axis: Axis,
     arrays: &'a [ArrayView<'_, A, D>],
 ) -> Result<Vec<ArrayView<'a, A, D::Larger>>, NoMemory>
-where
-    D::Larger: Dimension,
     requires place { EachIs (λ m. axis.0 ≤ length m.shape) (meanings_of arrays.now) }
     requires room { EachIs (λ m. IsTrue (D.Larger.has_axes (length m.shape + 1))) (meanings_of arrays.now) }
     ensures { IfOk result (λ views. meanings_of views.items ≡ map (with_axis_inserted axis.0) (meanings_of arrays.now)) }
@@ -40,14 +38,13 @@ where
 /// array's axes; IncompatibleShape where another has another shape; Overflow where the result has no checked size; NoMemory
 /// where storage or a clone is refused, and nothing else is against it. `IxDyn` arrays have fewer than 32 axes. ndarray's
 /// `stack`.
-pub fn stack<A: Clone + Drop, D: Dimension>(
+pub fn stack<A: Clone + Drop, D: InsertAxis>(
     alloc: Global,
     axis: Axis,
     arrays: &[ArrayView<'_, A, D>],
 ) -> Result<Array<A, D::Larger>, ArrayError>
 where
     D::Larger: RemoveAxis,
-    <D::Larger as Dimension>::Smaller: Dimension,
     requires room { HasRoomForAxis D.Larger.has_axes (meanings_of arrays.now) }
     requires clones { ClonesOfEachAreEqual A.is_clone (meanings_of arrays.now) }
     ensures stacked { IfOk result (λ a. IsStack axis.0 (meanings_of arrays.now) (meaning_of a)) }

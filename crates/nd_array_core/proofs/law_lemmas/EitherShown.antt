@@ -12,16 +12,16 @@ use Rattle.nd_array_core.specs.reshape.Serving.{KeepsRanks, ShowsServed, regroup
 use Rattle.nd_array_core.proofs.law_lemmas.LawProofs.{same_meaning}
 
 module _
-    {S D A T P R L M : Type 0} {s : data_trait.Ghosts S A} {d : dimension.Ghosts D P R L M} {n : axis_count.Ghosts D} {r : stride_list.Ghosts R} {t : stride_list.Ghosts T}
-    {Z E U Q X V W : Type 0} {z : data_trait.Ghosts Z A} {e : dimension.Ghosts E Q X V W} {k : axis_count.Ghosts E} {x : stride_list.Ghosts X} {u : stride_list.Ghosts U} where
+    {S D A T R : Type 0} {s : data_trait.Ghosts S A} {d : dimension.Ghosts D R} {n : axis_count.Ghosts D} {r : stride_list.Ghosts R} {t : stride_list.Ghosts T}
+    {Z E U X : Type 0} {z : data_trait.Ghosts Z A} {e : dimension.Ghosts E X} {k : axis_count.Ghosts E} {x : stride_list.Ghosts X} {u : stride_list.Ghosts U} where
   -- one that shows the whole
-  pub whole_shown : (a : ArrayBase S D T A P R L M s d n r t) (b : ArrayBase Z E U A Q X V W z e k x u) → ShowsWhole a b → meaning_of b ≡ meaning_of a
+  pub whole_shown : (a : ArrayBase S D T A R s d n r t) (b : ArrayBase Z E U A X z e k x u) → ShowsWhole a b → meaning_of b ≡ meaning_of a
   whole_shown a b shows = same_meaning (meaning_of a) (shape_of b) (element_at b) shows.0 shows.2
 
   -- one where each element keeps its rank
-  pub ranks_shown : (a : ArrayBase S D T A P R L M s d n r t) (order : Order) (ms : List ℕ) (b : ArrayBase Z E U A Q X V W z e k x u) → KeepsRanks a order ms b → meaning_of b ≡ regrouped_meaning order ms (meaning_of a)
+  pub ranks_shown : (a : ArrayBase S D T A R s d n r t) (order : Order) (ms : List ℕ) (b : ArrayBase Z E U A X z e k x u) → KeepsRanks a order ms b → meaning_of b ≡ regrouped_meaning order ms (meaning_of a)
   ranks_shown a order ms b keeps = same_meaning (regrouped_meaning order ms (meaning_of a)) (shape_of b) (element_at b) keeps.0 keeps.1
 
   -- one by strides that serve
-  pub served_shown : (a : ArrayBase S D T A P R L M s d n r t) (order : Order) (ms : List ℕ) (b : ArrayBase Z E U A Q X V W z e k x u) → ShowsServed a order ms b → meaning_of b ≡ regrouped_meaning order ms (meaning_of a)
+  pub served_shown : (a : ArrayBase S D T A R s d n r t) (order : Order) (ms : List ℕ) (b : ArrayBase Z E U A X z e k x u) → ShowsServed a order ms b → meaning_of b ≡ regrouped_meaning order ms (meaning_of a)
   served_shown a order ms b shows = ranks_shown a order ms b (shows.0.0, shows.0.2)

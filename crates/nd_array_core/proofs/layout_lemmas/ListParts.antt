@@ -13,7 +13,7 @@ use Rattle.nd_array_core.specs.layout.MultiSlice.{NameNothingInCommon}
 use Rattle.nd_layout.specs.Steps.{IsStep}
 use Rattle.nd_array_core.proofs.layout_lemmas.Parted.{steps_apart}
 
-module _ {S D T A P R L M : Type 0} {s : data_trait.Ghosts S A} {d : dimension.Ghosts D P R L M} {n : axis_count.Ghosts D} {r : stride_list.Ghosts R} {t : stride_list.Ghosts T} (a : ArrayBase S D T A P R L M s d n r t) (alone : s.exclusive ≡ true)
+module _ {S D T A R : Type 0} {s : data_trait.Ghosts S A} {d : dimension.Ghosts D R} {n : axis_count.Ghosts D} {r : stride_list.Ghosts R} {t : stride_list.Ghosts T} (a : ArrayBase S D T A R s d n r t) (alone : s.exclusive ≡ true)
     {offset' : ℕ} {ns' : List ℕ} {ss' : List ℤ} {es : List SliceInfoElem} (is : ns' ≡ shape_after (d.lengths a.layout.dim) es) (step : IsStep a.layout.offset (d.lengths a.layout.dim) (t.strides_of a.layout.strides) offset' ns' ss' (index_before (d.lengths a.layout.dim) es)) where
   -- lists that name nothing in common give layouts that share no place
   pub lists_apart : {offset'' : ℕ} {ns'' : List ℕ} {ss'' : List ℤ} {fs : List SliceInfoElem} → ns'' ≡ shape_after (d.lengths a.layout.dim) fs → IsStep a.layout.offset (d.lengths a.layout.dim) (t.strides_of a.layout.strides) offset'' ns'' ss'' (index_before (d.lengths a.layout.dim) fs)

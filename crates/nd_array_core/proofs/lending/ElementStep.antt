@@ -33,9 +33,9 @@ others stored new place index q x at_q is p unnamed = is p ∙ by_test (nat_eq p
     by_test true e = absurd (unnamed index (at_q ∙ ap Some (sym ((unsigned_Decides p q).0 e))))
     by_test false e = refl
 
-module _ {S D T A P R L M : Type 0} {s : data_trait.Ghosts S A} {d : dimension.Ghosts D P R L M} {n : axis_count.Ghosts D} {r : stride_list.Ghosts R} {t : stride_list.Ghosts T} where
+module _ {S D T A R : Type 0} {s : data_trait.Ghosts S A} {d : dimension.Ghosts D R} {n : axis_count.Ghosts D} {r : stride_list.Ghosts R} {t : stride_list.Ghosts T} where
   -- arrays of one storage and one layout are one array
-  pub same_array : (a b : ArrayBase S D T A P R L M s d n r t) → a.storage ≡ b.storage → a.layout ≡ b.layout → a ≡ b
+  pub same_array : (a b : ArrayBase S D T A R s d n r t) → a.storage ≡ b.storage → a.layout ≡ b.layout → a ≡ b
   same_array a b p q = λ k. record {
     storage = p k;
     layout = q k;
@@ -44,19 +44,19 @@ module _ {S D T A P R L M : Type 0} {s : data_trait.Ghosts S A} {d : dimension.G
   }
 
   -- one whose storage has another element at the place of an index
-  pub with_element_is : (set : (x : S) → ℕ → A → (y : S) × KeepsPlaces (s.stored x) (s.stored y)) (a : ArrayBase S D T A P R L M s d n r t) (p : ℕ) (i : List ℕ) (x : A) (b : ArrayBase S D T A P R L M s d n r t)
+  pub with_element_is : (set : (x : S) → ℕ → A → (y : S) × KeepsPlaces (s.stored x) (s.stored y)) (a : ArrayBase S D T A R s d n r t) (p : ℕ) (i : List ℕ) (x : A) (b : ArrayBase S D T A R s d n r t)
       → p ≡ nat_abs (place_of a.layout.offset (t.strides_of a.layout.strides) i) → b.storage ≡ (set a.storage p x).0 → b.layout ≡ a.layout → b ≡ array_with_element set a i x
   unfolding array_with_element
   with_element_is set a p i x b at_p storage layout = same_array b (array_with_element set a i x) (storage ∙ ap (λ q. (set a.storage q x).0) at_p) layout
 
   -- one whose storage has others at as many places as it has elements
-  pub with_run_is : (set : (x : S) → ℕ → ℕ → List A → (y : S) × KeepsPlaces (s.stored x) (s.stored y)) (a : ArrayBase S D T A P R L M s d n r t) (first p k : ℕ) (ws : List A) (b : ArrayBase S D T A P R L M s d n r t)
+  pub with_run_is : (set : (x : S) → ℕ → ℕ → List A → (y : S) × KeepsPlaces (s.stored x) (s.stored y)) (a : ArrayBase S D T A R s d n r t) (first p k : ℕ) (ws : List A) (b : ArrayBase S D T A R s d n r t)
       → p ≡ first → k ≡ size_of (d.lengths a.layout.dim) → b.storage ≡ (set a.storage p k ws).0 → b.layout ≡ a.layout → b ≡ array_with_run set a first ws
   unfolding array_with_run
   with_run_is set a first p k ws b at_first count storage layout = same_array b (array_with_run set a first ws) (storage ∙ ap (λ q. (set a.storage q k ws).0) at_first ∙ ap (λ m. (set a.storage first m ws).0) count) layout
 
   -- it shows the new element at the index, and every other as it was
-  pub is_written : (set : (x : S) → ℕ → A → (y : S) × KeepsPlaces (s.stored x) (s.stored y)) {F : Type 0} (frame : S → F) (a : ArrayBase S D T A P R L M s d n r t) (i : List ℕ) (x : A)
+  pub is_written : (set : (x : S) → ℕ → A → (y : S) × KeepsPlaces (s.stored x) (s.stored y)) {F : Type 0} (frame : S → F) (a : ArrayBase S D T A R s d n r t) (i : List ℕ) (x : A)
       → s.exclusive ≡ true → ((u : S) (q : ℕ) (y : A) (p : ℕ) → is_some (s.stored u q) ≡ true → s.stored (set u q y).0 p ≡ written_at (s.stored u) q y p)
       → ((u : S) (q : ℕ) (y : A) → frame (set u q y).0 ≡ frame u) → in_box (shape_of a) i ≡ true → IsWrittenAt frame a i x (array_with_element set a i x)
   unfolding array_with_element meaning_of memory_layout_of

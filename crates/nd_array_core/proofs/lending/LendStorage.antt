@@ -27,15 +27,15 @@ use Rattle.nd_array_core.specs.layout.ViewLent.{array_with_part}
 abbrev member : RattleType → Member
 member R = record { row = R; ty = layout R }
 
-module _ (S D T E P G B : RattleType) (s : data_trait.Ghosts S.Denot E.Denot) (d : dimension.Ghosts D.Denot P.Denot T.Denot G.Denot B.Denot) (n : axis_count.Ghosts D.Denot) (t : stride_list.Ghosts T.Denot) where
+module _ (S D T E : RattleType) (s : data_trait.Ghosts S.Denot E.Denot) (d : dimension.Ghosts D.Denot T.Denot) (n : axis_count.Ghosts D.Denot) (t : stride_list.Ghosts T.Denot) where
   abbrev pub Row : RattleType
-  Row = A.the_row (param 0 S) (copied 1 D) (copied 4 T) (param 2 E) (param 3 P) (copied 4 T) (param 5 G) (param 6 B) s d n t t
+  Row = A.the_row (param 0 S) (copied 1 D) (copied 3 T) (param 2 E) (copied 3 T) s d n t t
 
   abbrev pub Whole : Declared
-  Whole = A.the_type (param 0 S) (copied 1 D) (copied 4 T) (param 2 E) (param 3 P) (copied 4 T) (param 5 G) (param 6 B) s d n t t
+  Whole = A.the_type (param 0 S) (copied 1 D) (copied 3 T) (param 2 E) (copied 3 T) s d n t t
 
   abbrev pub members : List Member
-  members = member (param 0 S) ∷ member (L.the_field (copied 1 D) (copied 4 T) (param 3 P) (copied 4 T) (param 5 G) (param 6 B) d n t t).row ∷ []
+  members = member (param 0 S) ∷ member (L.the_field (copied 1 D) (copied 3 T) (copied 3 T) d n t t).row ∷ []
 
   module _ {M : Type 1} {𝓤 : Ura M} (𝓛 : Logic 𝓤) (b o : ℕ) where
     -- where the storage lies

@@ -15,7 +15,7 @@ use Rattle.nd_elements.specs.Writes.{OthersStay}
 use Rattle.nd_array_core.specs.layout.ViewLent.{IsRefilled, array_with_part}
 use Rattle.nd_array_core.proofs.lending.ElementStep.{same_array}
 
-module _ {S D A T P R L M : Type 0} {s : data_trait.Ghosts S A} {d : dimension.Ghosts D P R L M} {n : axis_count.Ghosts D} {r : stride_list.Ghosts R} {t : stride_list.Ghosts T} (refill : (x : S) → List A → (y : S) × KeepsPlaces (s.stored x) (s.stored y)) (items : S → List A) (a : ArrayBase S D T A P R L M s d n r t) (test : ℕ → Bool) where
+module _ {S D A T R : Type 0} {s : data_trait.Ghosts S A} {d : dimension.Ghosts D R} {n : axis_count.Ghosts D} {r : stride_list.Ghosts R} {t : stride_list.Ghosts T} (refill : (x : S) → List A → (y : S) × KeepsPlaces (s.stored x) (s.stored y)) (items : S → List A) (a : ArrayBase S D T A R s d n r t) (test : ℕ → Bool) where
   pub is_refilled : {F : Type 0} (frame : S → F) (ws : List A) → ((x : S) (us : List A) (p : ℕ) → is_some (s.stored (refill x us).0 p) ≡ is_some (s.stored x p)) → ((x : S) (us : List A) → frame (refill x us).0 ≡ frame x)
       → IsRefilled frame a (array_with_part refill items a test ws)
   unfolding meaning_of memory_layout_of array_with_part

@@ -61,19 +61,19 @@ module _ {A : Type 0} (old new : ℕ → Option A) (offset : ℕ) (ns : List ℕ
     others_by_place : OthersStay place old new
     others_by_place p unnamed = left p (λ k below e. let at = lies.each k below in unnamed at.0 (at.2 ∙ ap Some (sym e)))
 
-module _ {S D T A P R L M : Type 0} {s : data_trait.Ghosts S A} {d : dimension.Ghosts D P R L M} {n : axis_count.Ghosts D} {r : stride_list.Ghosts R} {t : stride_list.Ghosts T} where
+module _ {S D T A R : Type 0} {s : data_trait.Ghosts S A} {d : dimension.Ghosts D R} {n : axis_count.Ghosts D} {r : stride_list.Ghosts R} {t : stride_list.Ghosts T} where
   -- the elements are at these places
-  pub standard_there : (a : ArrayBase S D T A P R L M s d n r t) → IsStandardArray a → HasRunAt (s.stored a.storage) a.layout.offset (size_of (d.lengths a.layout.dim))
+  pub standard_there : (a : ArrayBase S D T A R s d n r t) → IsStandardArray a → HasRunAt (s.stored a.storage) a.layout.offset (size_of (d.lengths a.layout.dim))
   unfolding meaning_of memory_layout_of
   standard_there a standard k below = standard_has (s.stored a.storage) a.layout.offset (d.lengths a.layout.dim) (t.strides_of a.layout.strides) standard a.inside k below
 
-  pub run_there : (a : ArrayBase S D T A P R L M s d n r t) → IsRunArray a → HasRunAt (s.stored a.storage) (a.layout.offset - reach_down (d.lengths a.layout.dim) (t.strides_of a.layout.strides)) (size_of (d.lengths a.layout.dim))
+  pub run_there : (a : ArrayBase S D T A R s d n r t) → IsRunArray a → HasRunAt (s.stored a.storage) (a.layout.offset - reach_down (d.lengths a.layout.dim) (t.strides_of a.layout.strides)) (size_of (d.lengths a.layout.dim))
   unfolding meaning_of memory_layout_of
   run_there a which k below = run_has (s.stored a.storage) a.layout.offset (d.lengths a.layout.dim) (t.strides_of a.layout.strides) a.layout.as_many a.inside which k below
 
   module _ (set : (x : S) → ℕ → ℕ → List A → (y : S) × KeepsPlaces (s.stored x) (s.stored y)) {F : Type 0} (frame : S → F)
       (written : HoldsWrittenRun s.stored set) (left : KeepsBesideRun s.stored set) (same_frame : (u : S) (p k : ℕ) (ws : List A) → frame (set u p k ws).0 ≡ frame u) where
-    pub rewritten_by_rank : (a : ArrayBase S D T A P R L M s d n r t) (ws : List A) → IsStandardArray a → length ws ≡ size_of (shape_of a) → IsRewrittenByRank frame a ws (array_with_rows set a ws)
+    pub rewritten_by_rank : (a : ArrayBase S D T A R s d n r t) (ws : List A) → IsStandardArray a → length ws ≡ size_of (shape_of a) → IsRewrittenByRank frame a ws (array_with_rows set a ws)
     unfolding array_with_run meaning_of memory_layout_of
     rewritten_by_rank a ws standard long =
         let ns = d.lengths a.layout.dim in
@@ -87,7 +87,7 @@ module _ {S D T A P R L M : Type 0} {s : data_trait.Ghosts S A} {d : dimension.G
           (refl, refl, (λ k. refl), others_by_rank (s.stored a.storage) (s.stored new.0) first ns ss ws standard at beside, same_frame a.storage first (size_of ns) ws, refl),
         )
 
-    pub rewritten_by_place : (a : ArrayBase S D T A P R L M s d n r t) (ws : List A) → IsRunArray a → length ws ≡ size_of (shape_of a) → IsRewrittenInMemoryOrder frame a ws (array_with_places set a ws)
+    pub rewritten_by_place : (a : ArrayBase S D T A R s d n r t) (ws : List A) → IsRunArray a → length ws ≡ size_of (shape_of a) → IsRewrittenInMemoryOrder frame a ws (array_with_places set a ws)
     unfolding array_with_run meaning_of memory_layout_of
     rewritten_by_place a ws which long =
         let ns = d.lengths a.layout.dim in

@@ -31,7 +31,7 @@ module _ {A : Type 0} (m k : ℕ → Option A) (offset : ℕ) (ns : List ℕ) (s
   pub left_agrees : (new : ℕ → Option A) → ((p : ℕ) → new p ≡ with_named m offset ns ss k p) → AgreesOnNamed new offset ns ss k
   left_agrees new is p e = sym (is p ∙ ap (λ (b : Bool). if b then k p else m p) e)
 
-module _ {S D T A P R L M : Type 0} {s : data_trait.Ghosts S A} {d : dimension.Ghosts D P R L M} {n : axis_count.Ghosts D} {r : stride_list.Ghosts R} {t : stride_list.Ghosts T} (a : ArrayBase S D T A P R L M s d n r t) where
+module _ {S D T A R : Type 0} {s : data_trait.Ghosts S A} {d : dimension.Ghosts D R} {n : axis_count.Ghosts D} {r : stride_list.Ghosts R} {t : stride_list.Ghosts T} (a : ArrayBase S D T A R s d n r t) where
   abbrev here : List ℕ → ℤ
   here i = place_of a.layout.offset (t.strides_of a.layout.strides) i
 

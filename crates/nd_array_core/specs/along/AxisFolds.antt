@@ -56,7 +56,7 @@ abbrev pub AreFoldedBy : {A B : Type 0} → (B → A → B) → List ℕ → (Li
 AreFoldedBy h shape at a init result = (i : List ℕ) → result i ≡ inside (indexed_shape shape a) i (Some (fold h init (lane_elements at a (slice_index shape a) i)))
 
 -- the same of an array
-module _ {S D T A P R L M : Type 0} {s : data_trait.Ghosts S A} {d : dimension.Ghosts D P R L M} {n : axis_count.Ghosts D} {r : stride_list.Ghosts R} {t : stride_list.Ghosts T} {F B : Type 0} (g : Mut F (Bor B × (Bor A × Unit {0})) B) (array : ArrayBase S D T A P R L M s d n r t) (a : ℕ) (init : B) (f : F) where
+module _ {S D T A R : Type 0} {s : data_trait.Ghosts S A} {d : dimension.Ghosts D R} {n : axis_count.Ghosts D} {r : stride_list.Ghosts R} {t : stride_list.Ghosts T} {F B : Type 0} (g : Mut F (Bor B × (Bor A × Unit {0})) B) (array : ArrayBase S D T A R s d n r t) (a : ℕ) (init : B) (f : F) where
   abbrev pub FoldsLanes : (List ℕ → Option B) → Type 0
   FoldsLanes result = FoldsAxis g (shape_of array) (element_at array) a init f result
 

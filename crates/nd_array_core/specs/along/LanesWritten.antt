@@ -28,8 +28,8 @@ module _ {F A B : Type 0} (g : Mut F (MutBor (LaneMut A) × Unit {0}) (B × (Mut
   HandableLanes m a f = AskableOfAll (LeavesLane g) (MayBeHandedLane g) (lanes_of m a) f
 
   -- of the call for each of them there stand what it left and, at the index of the other axes, what it answered
-  module _ {S D T P R L M : Type 0} {s : data_trait.Ghosts S A} {d : dimension.Ghosts D P R L M} {n : axis_count.Ghosts D} {r : stride_list.Ghosts R} {t : stride_list.Ghosts T} where
-    abbrev pub HandsOutLanes : ℕ → F → ArrayBase S D T A P R L M s d n r t → ArrayBase S D T A P R L M s d n r t → (List ℕ → Option B) → Type 0
+  module _ {S D T R : Type 0} {s : data_trait.Ghosts S A} {d : dimension.Ghosts D R} {n : axis_count.Ghosts D} {r : stride_list.Ghosts R} {t : stride_list.Ghosts T} where
+    abbrev pub HandsOutLanes : ℕ → F → ArrayBase S D T A R s d n r t → ArrayBase S D T A R s d n r t → (List ℕ → Option B) → Type 0
     HandsOutLanes a f old new answers = HasAnswersOfAll (LeavesLane g) (lanes_of (meaning_of old) a) f (paired_at (lanes_of (meaning_of new) a).at answers)
 
   -- whatever function of the lane tells what the closure leaves, its values stand there

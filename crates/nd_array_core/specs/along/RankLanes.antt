@@ -37,13 +37,13 @@ module _ {A : Type 0} (v : LaneView A) where
 abbrev pub LiesFrom : Lane → ℕ → Lane → Type 0
 LiesFrom lane from part = (k : ℕ) → k < part.count → pos part.place +ℤ (pos k *ℤ part.stride) ≡ pos lane.place +ℤ (pos (from + k) *ℤ lane.stride)
 
-module _ {S D T A P R L M : Type 0} {s : data_trait.Ghosts S A} {d : dimension.Ghosts D P R L M} {n : axis_count.Ghosts D} {r : stride_list.Ghosts R} {t : stride_list.Ghosts T} where
+module _ {S D T A R : Type 0} {s : data_trait.Ghosts S A} {d : dimension.Ghosts D R} {n : axis_count.Ghosts D} {r : stride_list.Ghosts R} {t : stride_list.Ghosts T} where
   -- the last axis' stride, 1 where there is no axis
-  abbrev pub last_stride : ArrayBase S D T A P R L M s d n r t → ℤ
+  abbrev pub last_stride : ArrayBase S D T A R s d n r t → ℤ
   last_stride a = slice_index_or (layout_strides a) (length (layout_strides a) - 1) (pos 1)
 
   -- the elements of a row lie one beside the other
-  abbrev pub RowsLieSideBySide : ArrayBase S D T A P R L M s d n r t → Type 0
+  abbrev pub RowsLieSideBySide : ArrayBase S D T A R s d n r t → Type 0
   RowsLieSideBySide a = last_stride a ≡ pos 1
 
 -- the list has the elements of row-major ranks from one on, as many as the last axis is long, and this rank is one of them

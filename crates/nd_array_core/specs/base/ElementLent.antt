@@ -23,9 +23,9 @@ IsAnyWritten {X} {A} is_written with_element x i = (y : A) → is_written x i y 
 abbrev pub may_lend : (X A : RattleType) → MutBor X.Denot → (X.Denot → List ℕ → A.Denot → X.Denot) → List ℕ → Option (MutBor A.Denot) → Fml
 may_lend X A x with_element i found = LendsIf X A x found (with_element x.now i) x.now
 
-module _ {S D T A P R L M : Type 0} {s : data_trait.Ghosts S A} {d : dimension.Ghosts D P R L M} {n : axis_count.Ghosts D} {r : stride_list.Ghosts R} {t : stride_list.Ghosts T} where
+module _ {S D T A R : Type 0} {s : data_trait.Ghosts S A} {d : dimension.Ghosts D R} {n : axis_count.Ghosts D} {r : stride_list.Ghosts R} {t : stride_list.Ghosts T} where
   -- the array once its storage is another that holds something wherever it did
-  abbrev pub with_storage : (a : ArrayBase S D T A P R L M s d n r t) → (x : S) × KeepsPlaces (s.stored a.storage) (s.stored x) → ArrayBase S D T A P R L M s d n r t
+  abbrev pub with_storage : (a : ArrayBase S D T A R s d n r t) → (x : S) × KeepsPlaces (s.stored a.storage) (s.stored x) → ArrayBase S D T A R s d n r t
   with_storage a x = record {
     storage = x.0;
     layout = a.layout;
@@ -34,17 +34,17 @@ module _ {S D T A P R L M : Type 0} {s : data_trait.Ghosts S A} {d : dimension.G
   }
 
   -- the array once the element at an index is another
-  unfoldable pub array_with_element : ((x : S) → ℕ → A → (y : S) × KeepsPlaces (s.stored x) (s.stored y)) → ArrayBase S D T A P R L M s d n r t → List ℕ → A → ArrayBase S D T A P R L M s d n r t
+  unfoldable pub array_with_element : ((x : S) → ℕ → A → (y : S) × KeepsPlaces (s.stored x) (s.stored y)) → ArrayBase S D T A R s d n r t → List ℕ → A → ArrayBase S D T A R s d n r t
   array_with_element set a i x = with_storage a (set a.storage (nat_abs (place_of a.layout.offset (t.strides_of a.layout.strides) i)) x)
 
 -- what a clause has as D.Dimension
-abbrev pub DimensionMembers : Type 0 → Type 0 → Type 0
-DimensionMembers D P = record { NDIM : Option ℕ; lengths : D → List ℕ; has_axes : ℕ → Bool; pattern_lengths : P → List ℕ }
+abbrev pub DimensionMembers : Type 0 → Type 0
+DimensionMembers D = record { NDIM : Option ℕ; lengths : D → List ℕ; has_axes : ℕ → Bool }
 
-module _ (S A D P R L M : RattleType) (s : data_trait.Ghosts S.Denot A.Denot) (d : DimensionMembers D.Denot P.Denot) (n : axis_count.Ghosts D.Denot) (r : stride_list.Ghosts R.Denot) where
+module _ (S A D R : RattleType) (s : data_trait.Ghosts S.Denot A.Denot) (d : DimensionMembers D.Denot) (n : axis_count.Ghosts D.Denot) (r : stride_list.Ghosts R.Denot) where
   -- the type of an array over a storage, under a dimension
   abbrev pub array_row : RattleType
-  array_row = the_row S D R A P R L M s (record { lengths = d.lengths; has_axes = d.has_axes; pattern_lengths = d.pattern_lengths }) n r r
+  array_row = the_row S D R A R s (record { lengths = d.lengths; has_axes = d.has_axes }) n r r
 
   -- the array ends with what is left behind the reference at the index
   abbrev pub lends_element : MutBor array_row.Denot → List ℕ → MutBor A.Denot → Fml

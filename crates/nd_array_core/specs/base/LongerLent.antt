@@ -17,24 +17,24 @@ abbrev pub with_item_at : {A : Type 0} → List A → Option ℕ → A → List 
 with_item_at xs None x = xs
 with_item_at xs (Some p) x = slice_set xs p x
 
-module _ {A D T P R L M : Type 0} {s : data_trait.Ghosts (RegionRepr (Region A)) A} {d : dimension.Ghosts D P R L M} {n : axis_count.Ghosts D} {r : stride_list.Ghosts R} {t : stride_list.Ghosts T} where
+module _ {A D T R : Type 0} {s : data_trait.Ghosts (RegionRepr (Region A)) A} {d : dimension.Ghosts D R} {n : axis_count.Ghosts D} {r : stride_list.Ghosts R} {t : stride_list.Ghosts T} where
   -- the region that a mutable view holds
-  abbrev pub region_of : ArrayBase (RegionRepr (Region A)) D T A P R L M s d n r t → Region A
+  abbrev pub region_of : ArrayBase (RegionRepr (Region A)) D T A R s d n r t → Region A
   region_of v = (storage_of v).region
 
   -- its elements, with another at an index
-  abbrev pub items_with : ArrayBase (RegionRepr (Region A)) D T A P R L M s d n r t → List ℕ → A → List A
+  abbrev pub items_with : ArrayBase (RegionRepr (Region A)) D T A R s d n r t → List ℕ → A → List A
   items_with v i x = with_item_at (region_of v).items (place_at v i) x
 
   -- the element at an index, to be written, or none where the index isn't in the shape
-  abbrev pub IsElementOrOutside : ArrayBase (RegionRepr (Region A)) D T A P R L M s d n r t → List ℕ → Option (MutBor A) → Type 0
+  abbrev pub IsElementOrOutside : ArrayBase (RegionRepr (Region A)) D T A R s d n r t → List ℕ → Option (MutBor A) → Type 0
   IsElementOrOutside v i found = MatchOption found (in_box (shape_of v) i ≡ false) (λ x. element_at v i ≡ Some x.now)
 
-module _ (A : RattleType) {D T P R L M : Type 0} {s : data_trait.Ghosts (RegionRepr (Region A.Denot)) A.Denot} {d : dimension.Ghosts D P R L M} {n : axis_count.Ghosts D} {r : stride_list.Ghosts R} {t : stride_list.Ghosts T} where
+module _ (A : RattleType) {D T R : Type 0} {s : data_trait.Ghosts (RegionRepr (Region A.Denot)) A.Denot} {d : dimension.Ghosts D R} {n : axis_count.Ghosts D} {r : stride_list.Ghosts R} {t : stride_list.Ghosts T} where
   -- the borrow ends with what is left behind the reference at the place of the index, and with what it held at every other
-  abbrev pub follows_index : ArrayBase (RegionRepr (Region A.Denot)) D T A.Denot P R L M s d n r t → List ℕ → MutBor A.Denot → Fml
+  abbrev pub follows_index : ArrayBase (RegionRepr (Region A.Denot)) D T A.Denot R s d n r t → List ℕ → MutBor A.Denot → Fml
   follows_index v i x = follows (Array A 0) A (region_of v).name x.ghost_name (items_with v i)
 
   -- the same where there is a reference, and else with what it held at each place
-  abbrev pub may_follow_index : ArrayBase (RegionRepr (Region A.Denot)) D T A.Denot P R L M s d n r t → List ℕ → Option (MutBor A.Denot) → Fml
+  abbrev pub may_follow_index : ArrayBase (RegionRepr (Region A.Denot)) D T A.Denot R s d n r t → List ℕ → Option (MutBor A.Denot) → Fml
   may_follow_index v i x = follows_if (Array A 0) A (region_of v).name (ghost_name_of x) (items_with v i) (region_of v).items

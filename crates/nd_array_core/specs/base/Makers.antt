@@ -22,29 +22,29 @@ module _ {F X A : Type 0} (g : Mut F (X × Unit {0}) A) (lengths_of : X → List
   abbrev pub AnswersCells : List ℕ → (ℕ → ℕ → A) → F → Type 0
   AnswersCells shape cell f = (x : X) (y : A) (f' : F) → IsTrue (in_box shape (lengths_of x)) → Called g f (x, tt) y f' → (f' ≡ f) × IsCell cell (lengths_of x) y
 
-module _ {D T A P R L M : Type 0} {s : data_trait.Ghosts (OwnedRepr A) A} {d : dimension.Ghosts D P R L M} {n : axis_count.Ghosts D} {r : stride_list.Ghosts R} {t : stride_list.Ghosts T} where
+module _ {D T A R : Type 0} {s : data_trait.Ghosts (OwnedRepr A) A} {d : dimension.Ghosts D R} {n : axis_count.Ghosts D} {r : stride_list.Ghosts R} {t : stride_list.Ghosts T} where
   -- the array owns a matrix of count rows and count columns, in row-major order
-  abbrev pub OwnsSquare : ℕ → ArrayBase (OwnedRepr A) D T A P R L M s d n r t → Type 0
+  abbrev pub OwnsSquare : ℕ → ArrayBase (OwnedRepr A) D T A R s d n r t → Type 0
   OwnsSquare count a = OwnsInOrder (count ∷ count ∷ [], RowMajor) a
 
   -- its elements are all that an iterator gives that a source becomes, in their order
-  abbrev pub StoresItemsOf : {X I : Type 0} → (X → I → Type 0) → (I → Option A → I → Type 0) → X → ArrayBase (OwnedRepr A) D T A P R L M s d n r t → Type 0
+  abbrev pub StoresItemsOf : {X I : Type 0} → (X → I → Type 0) → (I → Option A → I → Type 0) → X → ArrayBase (OwnedRepr A) D T A R s d n r t → Type 0
   StoresItemsOf {X} {I} becomes gives source a = (it : I) × becomes source it × Drains gives it (stored_list (storage_of a))
 
   -- what a closure that is handed an index answers
   module _ {F X : Type 0} (g : Mut F (X × Unit {0}) A) (lengths_of : X → List ℕ) where
     -- at each index of the shape stands the answer of the call for it
-    abbrev pub ShowsAnswers : List ℕ → F → ArrayBase (OwnedRepr A) D T A P R L M s d n r t → Type 0
+    abbrev pub ShowsAnswers : List ℕ → F → ArrayBase (OwnedRepr A) D T A R s d n r t → Type 0
     ShowsAnswers shape f a = HasAnswersByIndex g lengths_of shape f (element_at a)
 
     -- where it answers what some h gives of the index, and stays as it is, that stands at each index
-    abbrev pub OwnsAnswersAlike : BuiltShape → F → ArrayBase (OwnedRepr A) D T A P R L M s d n r t → Type 0
+    abbrev pub OwnsAnswersAlike : BuiltShape → F → ArrayBase (OwnedRepr A) D T A R s d n r t → Type 0
     OwnsAnswersAlike built f a = (h : List ℕ → A) → AnswersByIndex g lengths_of built.0 h f → ShowsValues built h a
 
     -- the same, where there is an array
-    abbrev pub ShowsAnswersAlike : {E : Type 0} → BuiltShape → F → Result (ArrayBase (OwnedRepr A) D T A P R L M s d n r t) E → Type 0
+    abbrev pub ShowsAnswersAlike : {E : Type 0} → BuiltShape → F → Result (ArrayBase (OwnedRepr A) D T A R s d n r t) E → Type 0
     ShowsAnswersAlike built f result = (h : List ℕ → A) → AnswersByIndex g lengths_of built.0 h f → IfOk result (ShowsValues built h)
 
     -- where it answers so for a shape of rows and columns, these are the cells
-    abbrev pub ShowsCells : {E : Type 0} → List ℕ → F → Result (ArrayBase (OwnedRepr A) D T A P R L M s d n r t) E → Type 0
+    abbrev pub ShowsCells : {E : Type 0} → List ℕ → F → Result (ArrayBase (OwnedRepr A) D T A R s d n r t) E → Type 0
     ShowsCells shape f result = (rows columns : ℕ) (cell : ℕ → ℕ → A) → shape ≡ rows ∷ columns ∷ [] → AnswersCells g lengths_of shape cell f → IfOk result (λ a. HasCells a rows columns cell)

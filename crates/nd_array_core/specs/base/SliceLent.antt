@@ -11,14 +11,14 @@ use Rattle.nd_elements.specs.declared.storage.RegionRepr.{RegionRepr}
 use Rattle.nd_array_core.specs.declared.base.array.ArrayBase.{ArrayBase}
 use Rattle.nd_array_core.specs.Meaning.{storage_of, shape_of}
 
-module _ {A D T P R L M : Type 0} {s : data_trait.Ghosts (RegionRepr (Region A)) A} {d : dimension.Ghosts D P R L M} {n : axis_count.Ghosts D} {r : stride_list.Ghosts R} {t : stride_list.Ghosts T} where
+module _ {A D T R : Type 0} {s : data_trait.Ghosts (RegionRepr (Region A)) A} {d : dimension.Ghosts D R} {n : axis_count.Ghosts D} {r : stride_list.Ghosts R} {t : stride_list.Ghosts T} where
   -- the name under which a mutable view's region holds its elements
-  abbrev pub view_name : ArrayBase (RegionRepr (Region A)) D T A P R L M s d n r t → GName
+  abbrev pub view_name : ArrayBase (RegionRepr (Region A)) D T A R s d n r t → GName
   view_name a = (storage_of a).region.name
 
-module _ (E : RattleType) {D T P R L M V : Type 0} {s : data_trait.Ghosts (RegionRepr (Region E.Denot)) E.Denot} {d : dimension.Ghosts D P R L M} {n : axis_count.Ghosts D} {r : stride_list.Ghosts R} {t : stride_list.Ghosts T} where
+module _ (E : RattleType) {D T R V : Type 0} {s : data_trait.Ghosts (RegionRepr (Region E.Denot)) E.Denot} {d : dimension.Ghosts D R} {n : axis_count.Ghosts D} {r : stride_list.Ghosts R} {t : stride_list.Ghosts T} where
   -- the slice ends with the elements of the view's region; where there is no view it ends as it was
-  abbrev pub slice_follows_view : MutBor (List E.Denot) → Result (ArrayBase (RegionRepr (Region E.Denot)) D T E.Denot P R L M s d n r t) V → Fml
+  abbrev pub slice_follows_view : MutBor (List E.Denot) → Result (ArrayBase (RegionRepr (Region E.Denot)) D T E.Denot R s d n r t) V → Fml
   slice_follows_view xs view = follows_if (Array E 0) (Array E 0) xs.ghost_name (name_if_ok view_name view) (λ ws. ws) xs.now
 
 -- the number of rows of a shape
@@ -30,7 +30,7 @@ row_count (n ∷ ns) = n
 abbrev pub rows_rewritten : {X : Type 0} → ℕ → ℕ → List (List X) → List X → List (List X)
 rows_rewritten n k rows ws = first_chunks n k ws ++ drop k rows
 
-module _ (E : RattleType) {D T P R L M : Type 0} {s : data_trait.Ghosts (RegionRepr (Region E.Denot)) E.Denot} {d : dimension.Ghosts D P R L M} {n : axis_count.Ghosts D} {r : stride_list.Ghosts R} {t : stride_list.Ghosts T} where
+module _ (E : RattleType) {D T R : Type 0} {s : data_trait.Ghosts (RegionRepr (Region E.Denot)) E.Denot} {d : dimension.Ghosts D R} {n : axis_count.Ghosts D} {r : stride_list.Ghosts R} {t : stride_list.Ghosts T} where
   -- the rows that the view shows end with the elements of its region, and the others as they were
-  abbrev pub rows_follow_view : (m : ℕ) → MutBor (List (List E.Denot)) → ArrayBase (RegionRepr (Region E.Denot)) D T E.Denot P R L M s d n r t → Fml
+  abbrev pub rows_follow_view : (m : ℕ) → MutBor (List (List E.Denot)) → ArrayBase (RegionRepr (Region E.Denot)) D T E.Denot R s d n r t → Fml
   rows_follow_view m rows view = follows (Array (Array E m) 0) (Array E 0) rows.ghost_name (view_name view) (rows_rewritten m (row_count (shape_of view)) rows.now)

@@ -21,28 +21,28 @@ use Rattle.nd_array_core.specs.scoped.Sources.{GivenShape}
 abbrev pub HoldsBelow : {A : Type 0} → ℕ → (ℕ → Option A) → Type 0
 HoldsBelow count stored = (place : ℕ) → place < count → IsSome (stored place)
 
-module _ {S D T A P R L M : Type 0} {s : data_trait.Ghosts S A} {d : dimension.Ghosts D P R L M} {n : axis_count.Ghosts D} {r : stride_list.Ghosts R} {t : stride_list.Ghosts T} where
+module _ {S D T A R : Type 0} {s : data_trait.Ghosts S A} {d : dimension.Ghosts D R} {n : axis_count.Ghosts D} {r : stride_list.Ghosts R} {t : stride_list.Ghosts T} where
   -- the elements xs under these lengths, in row-major order; without elements where the lengths have no checked size
-  abbrev pub IsRowMajorOf : List ℕ → List A → ArrayBase S D T A P R L M s d n r t → Type 0
+  abbrev pub IsRowMajorOf : List ℕ → List A → ArrayBase S D T A R s d n r t → Type 0
   IsRowMajorOf ns xs view =
       (HasCheckedSize ns → (shape_of view ≡ ns) × (layout_strides view ≡ c_strides ns) × ((i : List ℕ) → element_at view i ≡ inside ns i (slice_get xs (row_rank ns i))))
       × (¬ (HasCheckedSize ns) → shape_of view ≡ replicate (length ns) 0)
 
   -- the array shows at each index what a map has by the index's rank in an order, or at the place that a given shape says
-  abbrev pub ShowsRanked : BuiltShape → (ℕ → Option A) → ArrayBase S D T A P R L M s d n r t → Type 0
+  abbrev pub ShowsRanked : BuiltShape → (ℕ → Option A) → ArrayBase S D T A R s d n r t → Type 0
   ShowsRanked built stored a = (i : List ℕ) → element_at a i ≡ inside built.0 i (stored (rank_in built.1 built.0 i))
 
-  abbrev pub ShowsGiven : GivenShape → (ℕ → Option A) → ArrayBase S D T A P R L M s d n r t → Type 0
+  abbrev pub ShowsGiven : GivenShape → (ℕ → Option A) → ArrayBase S D T A R s d n r t → Type 0
   ShowsGiven given stored a = (i : List ℕ) → element_at a i ≡ inside given.0 i (stored_at stored (given_place given.0 given.1 given.2 i))
 
   -- or what it has at the place that the array's own layout gives the index
-  abbrev pub ShowsPlaces : (ℕ → Option A) → ArrayBase S D T A P R L M s d n r t → Type 0
+  abbrev pub ShowsPlaces : (ℕ → Option A) → ArrayBase S D T A R s d n r t → Type 0
   ShowsPlaces stored a = (i : List ℕ) → element_at a i ≡ inside (shape_of a) i (stored_at stored (place_of (layout_offset a) (layout_strides a) i))
 
   -- where the lengths have a checked size, the array has them, lies in row-major order, and shows what a map has by rank
-  abbrev pub IsRowMajorIn : List ℕ → (ℕ → Option A) → ArrayBase S D T A P R L M s d n r t → Type 0
+  abbrev pub IsRowMajorIn : List ℕ → (ℕ → Option A) → ArrayBase S D T A R s d n r t → Type 0
   IsRowMajorIn ns stored a = HasCheckedSize ns → (shape_of a ≡ ns) × (layout_strides a ≡ c_strides ns) × ((i : List ℕ) → element_at a i ≡ inside ns i (stored (row_rank ns i)))
 
   -- it lies by a placement
-  abbrev pub HasPlacement : Placement → ArrayBase S D T A P R L M s d n r t → Type 0
+  abbrev pub HasPlacement : Placement → ArrayBase S D T A R s d n r t → Type 0
   HasPlacement l a = as_placement (layout_offset a) (shape_of a) (layout_strides a) ≡ l

@@ -8,10 +8,10 @@ use Rattle.nd_array_core.specs.declared.base.array.ArrayBase.{ArrayBase}
 use Rattle.nd_array_core.specs.Meaning.{shape_of, element_at, storage_of, place_at, layout_strides, layout_offset}
 pub use Rattle.nd_elements.specs.Writes.{IsOldOrNew, OthersStay, is_index, with_element_at, with_swapped_at}
 
-module _ {S D T A P R L M : Type 0} {s : data_trait.Ghosts S A} {d : dimension.Ghosts D P R L M} {n : axis_count.Ghosts D} {r : stride_list.Ghosts R} {t : stride_list.Ghosts T} where
+module _ {S D T A R : Type 0} {s : data_trait.Ghosts S A} {d : dimension.Ghosts D R} {n : axis_count.Ghosts D} {r : stride_list.Ghosts R} {t : stride_list.Ghosts T} where
   -- new is old but for the elements at its indexes: the shape, the strides, the offset, the places, what the storage keeps while
   -- elements change, and what lies at every place that no index names
-  abbrev pub KeepsFrame : {F : Type 0} → (S → F) → ArrayBase S D T A P R L M s d n r t → ArrayBase S D T A P R L M s d n r t → Type 0
+  abbrev pub KeepsFrame : {F : Type 0} → (S → F) → ArrayBase S D T A R s d n r t → ArrayBase S D T A R s d n r t → Type 0
   KeepsFrame frame old new =
       (shape_of new ≡ shape_of old)
       × (layout_strides new ≡ layout_strides old)
@@ -21,13 +21,13 @@ module _ {S D T A P R L M : Type 0} {s : data_trait.Ghosts S A} {d : dimension.G
       × (layout_offset new ≡ layout_offset old)
 
   -- new is old with x at an index: every other element is as it was, and all else
-  abbrev pub IsWrittenAt : {F : Type 0} → (S → F) → ArrayBase S D T A P R L M s d n r t → List ℕ → A → ArrayBase S D T A P R L M s d n r t → Type 0
+  abbrev pub IsWrittenAt : {F : Type 0} → (S → F) → ArrayBase S D T A R s d n r t → List ℕ → A → ArrayBase S D T A R s d n r t → Type 0
   IsWrittenAt frame old index x new = ((i : List ℕ) → element_at new i ≡ with_element_at (element_at old) index x i) × KeepsFrame frame old new
 
   -- whatever is written at the index, the array is old with that there
-  abbrev pub IsAnyWrittenAt : {F : Type 0} → (S → F) → ArrayBase S D T A P R L M s d n r t → List ℕ → (A → ArrayBase S D T A P R L M s d n r t) → Type 0
+  abbrev pub IsAnyWrittenAt : {F : Type 0} → (S → F) → ArrayBase S D T A R s d n r t → List ℕ → (A → ArrayBase S D T A R s d n r t) → Type 0
   IsAnyWrittenAt frame old index written = (x : A) → IsWrittenAt frame old index x (written x)
 
   -- new is old with the elements at two indexes exchanged
-  abbrev pub IsSwappedAt : {F : Type 0} → (S → F) → ArrayBase S D T A P R L M s d n r t → List ℕ → List ℕ → ArrayBase S D T A P R L M s d n r t → Type 0
+  abbrev pub IsSwappedAt : {F : Type 0} → (S → F) → ArrayBase S D T A R s d n r t → List ℕ → List ℕ → ArrayBase S D T A R s d n r t → Type 0
   IsSwappedAt frame old a b new = ((i : List ℕ) → element_at new i ≡ with_swapped_at (element_at old) a b i) × KeepsFrame frame old new

@@ -14,33 +14,33 @@ use Rattle.nd_elements.specs.elements.MapsMut.{HandsOutElements}
 use Rattle.nd_elements.specs.elements.Maps.{HasAnswersOfAll, HasSomeAnswersOf, IsMappedBy, IsOldOrMapped}
 
 module _
-    {S D T A P R L M : Type 0} {s : data_trait.Ghosts S A} {d : dimension.Ghosts D P R L M} {n : axis_count.Ghosts D} {r : stride_list.Ghosts R} {t : stride_list.Ghosts T}
-    {Z E U B Q X V W : Type 0} {z : data_trait.Ghosts Z B} {e : dimension.Ghosts E Q X V W} {k : axis_count.Ghosts E} {x : stride_list.Ghosts X} {u : stride_list.Ghosts U} where
+    {S D T A R : Type 0} {s : data_trait.Ghosts S A} {d : dimension.Ghosts D R} {n : axis_count.Ghosts D} {r : stride_list.Ghosts R} {t : stride_list.Ghosts T}
+    {Z E U B X : Type 0} {z : data_trait.Ghosts Z B} {e : dimension.Ghosts E X} {k : axis_count.Ghosts E} {x : stride_list.Ghosts X} {u : stride_list.Ghosts U} where
   -- b has at each index what h gives of a's element there
-  abbrev pub ShowsMapped : (A → B) → ArrayBase S D T A P R L M s d n r t → ArrayBase Z E U B Q X V W z e k x u → Type 0
+  abbrev pub ShowsMapped : (A → B) → ArrayBase S D T A R s d n r t → ArrayBase Z E U B X z e k x u → Type 0
   ShowsMapped h a b = IsMappedBy h (element_at a) (element_at b)
 
   -- b has at each index the answer of the call for a's element there, one call for each
-  abbrev pub ShowsAnswers : {F : Type 0} → (F → Option A → B → F → Type 0) → F → ArrayBase S D T A P R L M s d n r t → ArrayBase Z E U B Q X V W z e k x u → Type 0
+  abbrev pub ShowsAnswers : {F : Type 0} → (F → Option A → B → F → Type 0) → F → ArrayBase S D T A R s d n r t → ArrayBase Z E U B X z e k x u → Type 0
   ShowsAnswers answers f a b = HasAnswersOfAll answers (meaning_of a) f (element_at b)
 
-module _ {S D T A P R L M : Type 0} {s : data_trait.Ghosts S A} {d : dimension.Ghosts D P R L M} {n : axis_count.Ghosts D} {r : stride_list.Ghosts R} {t : stride_list.Ghosts T} where
+module _ {S D T A R : Type 0} {s : data_trait.Ghosts S A} {d : dimension.Ghosts D R} {n : axis_count.Ghosts D} {r : stride_list.Ghosts R} {t : stride_list.Ghosts T} where
   -- b has at each index a's element, or what h gives of it
-  abbrev pub ShowsOldOrMapped : (A → A) → ArrayBase S D T A P R L M s d n r t → ArrayBase S D T A P R L M s d n r t → Type 0
+  abbrev pub ShowsOldOrMapped : (A → A) → ArrayBase S D T A R s d n r t → ArrayBase S D T A R s d n r t → Type 0
   ShowsOldOrMapped h a b = IsOldOrMapped h (element_at a) (element_at b)
 
   -- at each index stands what the call for it left in b, and what it answered in c
-  abbrev pub ShowsHanded : {F Z E U B Q X V W : Type 0} {z : data_trait.Ghosts Z B} {e : dimension.Ghosts E Q X V W} {k : axis_count.Ghosts E} {x : stride_list.Ghosts X} {u : stride_list.Ghosts U}
-      → Mut F (MutBor A × Unit {0}) (B × (MutBor A × Unit {0})) → F → ArrayBase S D T A P R L M s d n r t → ArrayBase S D T A P R L M s d n r t → ArrayBase Z E U B Q X V W z e k x u → Type 0
+  abbrev pub ShowsHanded : {F Z E U B X : Type 0} {z : data_trait.Ghosts Z B} {e : dimension.Ghosts E X} {k : axis_count.Ghosts E} {x : stride_list.Ghosts X} {u : stride_list.Ghosts U}
+      → Mut F (MutBor A × Unit {0}) (B × (MutBor A × Unit {0})) → F → ArrayBase S D T A R s d n r t → ArrayBase S D T A R s d n r t → ArrayBase Z E U B X z e k x u → Type 0
   ShowsHanded g f a b = λ c. HandsOutElements g f (meaning_of a) (element_at b) (element_at c)
 
   -- b has at each index of a's shape the value, or it or a's element there
-  abbrev pub ShowsValue : A → ArrayBase S D T A P R L M s d n r t → ArrayBase S D T A P R L M s d n r t → Type 0
+  abbrev pub ShowsValue : A → ArrayBase S D T A R s d n r t → ArrayBase S D T A R s d n r t → Type 0
   ShowsValue x a b = (i : List ℕ) → element_at b i ≡ inside (shape_of a) i (Some x)
 
-  abbrev pub ShowsOldOrValue : A → ArrayBase S D T A P R L M s d n r t → ArrayBase S D T A P R L M s d n r t → Type 0
+  abbrev pub ShowsOldOrValue : A → ArrayBase S D T A R s d n r t → ArrayBase S D T A R s d n r t → Type 0
   ShowsOldOrValue x a b = IsOldOrNew (shape_of a) (element_at a) x (element_at b)
 
   -- b has at some indexes the answer of the call for a's element there, and a's element at the others
-  abbrev pub ShowsSomeAnswers : {F : Type 0} → (F → Option A → A → F → Type 0) → F → ArrayBase S D T A P R L M s d n r t → ArrayBase S D T A P R L M s d n r t → Type 0
+  abbrev pub ShowsSomeAnswers : {F : Type 0} → (F → Option A → A → F → Type 0) → F → ArrayBase S D T A R s d n r t → ArrayBase S D T A R s d n r t → Type 0
   ShowsSomeAnswers answers f a b = HasSomeAnswersOf answers (meaning_of a) f (element_at b)

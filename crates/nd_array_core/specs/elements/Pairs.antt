@@ -17,27 +17,27 @@ pub use Rattle.nd_elements.specs.elements.Pairs.{ChangesWith, ChangesWithSomehow
 abbrev pub broadcast_at : {A : Type 0} → List ℕ → Meaning A → List ℕ → Option A
 broadcast_at to m = (broadcast_to to m).at
 
-module _ {S D T A P R L M : Type 0} {s : data_trait.Ghosts S A} {d : dimension.Ghosts D P R L M} {n : axis_count.Ghosts D} {r : stride_list.Ghosts R} {t : stride_list.Ghosts T} where
+module _ {S D T A R : Type 0} {s : data_trait.Ghosts S A} {d : dimension.Ghosts D R} {n : axis_count.Ghosts D} {r : stride_list.Ghosts R} {t : stride_list.Ghosts T} where
   -- broadcast to these lengths, the array shows what it shows
-  abbrev pub IsItselfUnder : List ℕ → ArrayBase S D T A P R L M s d n r t → Type 0
+  abbrev pub IsItselfUnder : List ℕ → ArrayBase S D T A R s d n r t → Type 0
   IsItselfUnder to a = (i : List ℕ) → broadcast_at to (meaning_of a) i ≡ element_at a i
 
 module _
-    {S D T A P R L M : Type 0} {s : data_trait.Ghosts S A} {d : dimension.Ghosts D P R L M} {n : axis_count.Ghosts D} {r : stride_list.Ghosts R} {t : stride_list.Ghosts T}
-    {Z E U B Q X V W : Type 0} {z : data_trait.Ghosts Z B} {e : dimension.Ghosts E Q X V W} {k : axis_count.Ghosts E} {x : stride_list.Ghosts X} {u : stride_list.Ghosts U} where
+    {S D T A R : Type 0} {s : data_trait.Ghosts S A} {d : dimension.Ghosts D R} {n : axis_count.Ghosts D} {r : stride_list.Ghosts R} {t : stride_list.Ghosts T}
+    {Z E U B X : Type 0} {z : data_trait.Ghosts Z B} {e : dimension.Ghosts E X} {k : axis_count.Ghosts E} {x : stride_list.Ghosts X} {u : stride_list.Ghosts U} where
   -- the element that b has at an index once it is broadcast to a's shape
-  abbrev pub beside_at : ArrayBase S D T A P R L M s d n r t → ArrayBase Z E U B Q X V W z e k x u → List ℕ → Option B
+  abbrev pub beside_at : ArrayBase S D T A R s d n r t → ArrayBase Z E U B X z e k x u → List ℕ → Option B
   beside_at a b = broadcast_at (shape_of a) (meaning_of b)
 
   -- c has at each index what h gives of a's element and of b's beside it
-  abbrev pub ShowsBoth : (A → B → A) → ArrayBase S D T A P R L M s d n r t → ArrayBase Z E U B Q X V W z e k x u → ArrayBase S D T A P R L M s d n r t → Type 0
+  abbrev pub ShowsBoth : (A → B → A) → ArrayBase S D T A R s d n r t → ArrayBase Z E U B X z e k x u → ArrayBase S D T A R s d n r t → Type 0
   ShowsBoth h a b c = (i : List ℕ) → element_at c i ≡ option_both h (element_at a i) (beside_at a b i)
 
   module _ {F : Type 0} (g : Mut F (MutBor A × (Bor B × Unit {0})) (Unit {0} × (MutBor A × Unit {0}))) where
     -- whichever of a's elements were changed, each with b's beside it, the next call may be made
-    abbrev pub ZippableWith : ArrayBase S D T A P R L M s d n r t → ArrayBase Z E U B Q X V W z e k x u → F → Type 0
+    abbrev pub ZippableWith : ArrayBase S D T A R s d n r t → ArrayBase Z E U B X z e k x u → F → Type 0
     ZippableWith a b f = ZippableInAnyOrder g (shape_of a) (element_at a) (beside_at a b) f
 
     -- one call for each index, in some order, with a's element and b's beside it, left c's
-    abbrev pub ZipsWith : ArrayBase S D T A P R L M s d n r t → ArrayBase Z E U B Q X V W z e k x u → ArrayBase S D T A P R L M s d n r t → F → Type 0
+    abbrev pub ZipsWith : ArrayBase S D T A R s d n r t → ArrayBase Z E U B X z e k x u → ArrayBase S D T A R s d n r t → F → Type 0
     ZipsWith a b c f = ZipsAll g (shape_of a) (element_at a) (beside_at a b) (element_at c) f

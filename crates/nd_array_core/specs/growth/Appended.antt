@@ -84,43 +84,43 @@ pub record ArePutBehind {A : Type 0} (grown : Placement) (axis from : ℕ) (shap
   pub count : length new ≡ length old + size_of shape
   pub put : (i : List ℕ) → IsTrue (in_box shape i) → stored_at (slice_get new) (place_of grown.offset grown.strides (upper_index axis from i)) ≡ at i
 
-module _ {S D A T P R L M : Type 0} {s : data_trait.Ghosts S A} {d : dimension.Ghosts D P R L M} {n : axis_count.Ghosts D} {r : stride_list.Ghosts R} {t : stride_list.Ghosts T} where
+module _ {S D A T R : Type 0} {s : data_trait.Ghosts S A} {d : dimension.Ghosts D R} {n : axis_count.Ghosts D} {r : stride_list.Ghosts R} {t : stride_list.Ghosts T} where
   -- what comes behind an array of a shape: it is broadcast to that shape, with its own length along the axis
-  abbrev pub part_behind : List ℕ → ℕ → ArrayBase S D T A P R L M s d n r t → Part
+  abbrev pub part_behind : List ℕ → ℕ → ArrayBase S D T A R s d n r t → Part
   part_behind ns axis a = broadcast_part a (shape_behind ns (shape_of a) axis)
 
   -- the same of an array's elements and of vectors
-  abbrev pub PutsBehind : {Z : Type 0} → Placement → ℕ → ℕ → ArrayBase S D T A P R L M s d n r t → Vec A Z → Vec A Z → Type 0
+  abbrev pub PutsBehind : {Z : Type 0} → Placement → ℕ → ℕ → ArrayBase S D T A R s d n r t → Vec A Z → Vec A Z → Type 0
   PutsBehind grown axis from a old new = ArePutBehind grown axis from (shape_of a) (element_at a) old.items new.items
 
   -- of one of its elements a clone may be refused
-  abbrev pub MayRefuseCloneOf : (A → Type 0) → ArrayBase S D T A P R L M s d n r t → Type 0
+  abbrev pub MayRefuseCloneOf : (A → Type 0) → ArrayBase S D T A R s d n r t → Type 0
   MayRefuseCloneOf is_infallible a = MayRefuseClone is_infallible (element_at a)
 
   -- the vector has capacity for as many elements more
-  abbrev pub HasCapacityFor : {Z : Type 0} → ArrayBase S D T A P R L M s d n r t → Vec A Z → Type 0
+  abbrev pub HasCapacityFor : {Z : Type 0} → ArrayBase S D T A R s d n r t → Vec A Z → Type 0
   HasCapacityFor a items = vec_len items + size_of (shape_of a) ≤ vec_capacity items
 
   -- the storage has room for as many more, or for as many in place of its own
-  abbrev pub HasRoomBehind : ArrayBase S D T A P R L M s d n r t → OwnedRepr A → Type 0
+  abbrev pub HasRoomBehind : ArrayBase S D T A R s d n r t → OwnedRepr A → Type 0
   HasRoomBehind a storage = HasRoomFor (size_of (shape_of a)) storage
 
-  abbrev pub FitsInto : ArrayBase S D T A P R L M s d n r t → OwnedRepr A → Type 0
+  abbrev pub FitsInto : ArrayBase S D T A R s d n r t → OwnedRepr A → Type 0
   FitsInto a storage = size_of (shape_of a) ≤ room_of storage
 
-  module _ {E U Q X V W : Type 0} {e : dimension.Ghosts E Q X V W} {k : axis_count.Ghosts E} {x : stride_list.Ghosts X} {u : stride_list.Ghosts U} where
+  module _ {E U X : Type 0} {e : dimension.Ghosts E X} {k : axis_count.Ghosts E} {x : stride_list.Ghosts X} {u : stride_list.Ghosts U} where
     -- the layout has grown along the axis by the array's length there
-    abbrev pub GrowsBy : ℕ → ArrayBase S D T A P R L M s d n r t → Layout E U Q X V W e k x u → Layout E U Q X V W e k x u → Type 0
+    abbrev pub GrowsBy : ℕ → ArrayBase S D T A R s d n r t → Layout E U X e k x u → Layout E U X e k x u → Type 0
     GrowsBy axis a old new = IsGrown (placement_of old) axis (slice_index (shape_of a) axis) (placement_of new)
 
     -- and the array's elements have come behind those of the storage
-    abbrev pub ComesBehind : ℕ → ArrayBase S D T A P R L M s d n r t → Layout E U Q X V W e k x u → Layout E U Q X V W e k x u → OwnedRepr A → OwnedRepr A → Type 0
+    abbrev pub ComesBehind : ℕ → ArrayBase S D T A R s d n r t → Layout E U X e k x u → Layout E U X e k x u → OwnedRepr A → OwnedRepr A → Type 0
     ComesBehind axis a old new storage filled =
         ArePutBehind (placement_of new) axis (slice_index (e.lengths old.dim) axis) (shape_of a) (element_at a) (stored_list storage) (stored_list filled)
 
     -- the layout is that of fresh storage for the array, which is to grow along the axis, and its elements are there alone
-    abbrev pub LiesFresh : ℕ → ArrayBase S D T A P R L M s d n r t → Layout E U Q X V W e k x u → Type 0
+    abbrev pub LiesFresh : ℕ → ArrayBase S D T A R s d n r t → Layout E U X e k x u → Type 0
     LiesFresh axis a l = placement_of l ≡ as_placement 0 (shape_of a) (growing_strides axis (shape_of a))
 
-    abbrev pub ComesFresh : ℕ → ArrayBase S D T A P R L M s d n r t → Layout E U Q X V W e k x u → OwnedRepr A → Type 0
+    abbrev pub ComesFresh : ℕ → ArrayBase S D T A R s d n r t → Layout E U X e k x u → OwnedRepr A → Type 0
     ComesFresh axis a l filled = ArePutBehind (placement_of l) axis 0 (shape_of a) (element_at a) [] (stored_list filled)

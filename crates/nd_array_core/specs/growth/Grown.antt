@@ -57,59 +57,59 @@ abbrev pub IsNotForMemory : {A : Type 0} → (A → Type 0) → (List ℕ → Op
 IsNotForMemory is_infallible at (Shape kind) = ⊤
 IsNotForMemory is_infallible at NoMemory = MayRefuseClone is_infallible at
 
-module _ {D T A P R L M : Type 0} {s : data_trait.Ghosts (OwnedRepr A) A} {d : dimension.Ghosts D P R L M} {n : axis_count.Ghosts D} {r : stride_list.Ghosts R} {t : stride_list.Ghosts T} where
+module _ {D T A R : Type 0} {s : data_trait.Ghosts (OwnedRepr A) A} {d : dimension.Ghosts D R} {n : axis_count.Ghosts D} {r : stride_list.Ghosts R} {t : stride_list.Ghosts T} where
   -- how it lies
-  abbrev pub lies : ArrayBase (OwnedRepr A) D T A P R L M s d n r t → Placement
+  abbrev pub lies : ArrayBase (OwnedRepr A) D T A R s d n r t → Placement
   lies a = record { offset = layout_offset a; lengths = shape_of a; strides = layout_strides a }
 
   -- the storage holds no more, and the axis can grow on at its end
-  abbrev pub CanGrowOn : ℕ → ArrayBase (OwnedRepr A) D T A P R L M s d n r t → Type 0
+  abbrev pub CanGrowOn : ℕ → ArrayBase (OwnedRepr A) D T A R s d n r t → Type 0
   CanGrowOn axis a = (length (stored_list (storage_of a)) ≡ size_of (shape_of a)) × (must_move (shape_of a) (layout_strides a) axis ≡ false)
 
   -- the same of an array
-  abbrev pub IsReadyAlong : ℕ → ArrayBase (OwnedRepr A) D T A P R L M s d n r t → Type 0
+  abbrev pub IsReadyAlong : ℕ → ArrayBase (OwnedRepr A) D T A R s d n r t → Type 0
   IsReadyAlong axis a = IsReadyUnder axis (lies a) (stored_list (storage_of a))
 
-  abbrev pub IsGrownBy : ℕ → ℕ → ArrayBase (OwnedRepr A) D T A P R L M s d n r t → ArrayBase (OwnedRepr A) D T A P R L M s d n r t → Type 0
+  abbrev pub IsGrownBy : ℕ → ℕ → ArrayBase (OwnedRepr A) D T A R s d n r t → ArrayBase (OwnedRepr A) D T A R s d n r t → Type 0
   IsGrownBy axis added a b = IsLaidInCase axis added (lies a) (stored_list (storage_of a)) (lies b) (stored_list (storage_of b))
 
-  abbrev pub GoesOn : ℕ → ArrayBase (OwnedRepr A) D T A P R L M s d n r t → ArrayBase (OwnedRepr A) D T A P R L M s d n r t → Type 0
+  abbrev pub GoesOn : ℕ → ArrayBase (OwnedRepr A) D T A R s d n r t → ArrayBase (OwnedRepr A) D T A R s d n r t → Type 0
   GoesOn axis a b = GoesOnUnder axis (lies a) (stored_list (storage_of a)) (lies b) (stored_list (storage_of b))
 
   -- the second lies as fresh storage does that is to grow along the axis, with room for so many elements more
-  abbrev pub IsRelaid : ℕ → ℕ → ArrayBase (OwnedRepr A) D T A P R L M s d n r t → ArrayBase (OwnedRepr A) D T A P R L M s d n r t → Type 0
+  abbrev pub IsRelaid : ℕ → ℕ → ArrayBase (OwnedRepr A) D T A R s d n r t → ArrayBase (OwnedRepr A) D T A R s d n r t → Type 0
   IsRelaid axis more a b = IsLaidToGrow axis more (shape_of a) (layout_offset b) (layout_strides b) (storage_of b)
 
   -- no element has to be laid anew before the axis grows
-  abbrev pub NeedsNoMove : ℕ → ArrayBase (OwnedRepr A) D T A P R L M s d n r t → Type 0
+  abbrev pub NeedsNoMove : ℕ → ArrayBase (OwnedRepr A) D T A R s d n r t → Type 0
   NeedsNoMove axis a = (size_of (shape_of a) ≡ 0) ⊎ CanGrowOn axis a
 
   -- What a refusal leaves: by shape all; for want of memory all that is shown, in its places, where nothing had to move, and
   -- all that is stored, where the axis could grow on.
-  abbrev pub IsLeft : ℕ → ArrayBase (OwnedRepr A) D T A P R L M s d n r t → ArrayBase (OwnedRepr A) D T A P R L M s d n r t → ArrayError → Type 0
+  abbrev pub IsLeft : ℕ → ArrayBase (OwnedRepr A) D T A R s d n r t → ArrayBase (OwnedRepr A) D T A R s d n r t → ArrayError → Type 0
   IsLeft axis a b (Shape kind) = BecomesWhole a b
   IsLeft axis a b NoMemory = (NeedsNoMove axis a → ShowsWhole a b) × (IsReadyAlong axis a → stored_list (storage_of b) ≡ stored_list (storage_of a))
 
   -- it is ready, and the elements of so many more lengths find room without memory
-  abbrev pub IsReadyFor : ℕ → ℕ → ArrayBase (OwnedRepr A) D T A P R L M s d n r t → Type 0
+  abbrev pub IsReadyFor : ℕ → ℕ → ArrayBase (OwnedRepr A) D T A R s d n r t → Type 0
   IsReadyFor axis lengths a = IsReadyAlong axis a × HasRoomAlong axis lengths a
 
   -- where it is ready, with room for all that comes behind it, want of memory means that a clone was refused
-  abbrev pub NeedsOnlyClones : (A → Type 0) → ℕ → ArrayBase (OwnedRepr A) D T A P R L M s d n r t → Meaning A → ArrayError → Type 0
+  abbrev pub NeedsOnlyClones : (A → Type 0) → ℕ → ArrayBase (OwnedRepr A) D T A R s d n r t → Meaning A → ArrayError → Type 0
   NeedsOnlyClones is_infallible axis a m e = IsReadyFor axis (slice_index m.shape axis) a → IsNotForMemory is_infallible m.at e
 
   -- where there was room for so many more lengths than the used ones, it is left
-  abbrev pub LeavesRoom : ℕ → ℕ → ArrayBase (OwnedRepr A) D T A P R L M s d n r t → ArrayBase (OwnedRepr A) D T A P R L M s d n r t → Type 0
+  abbrev pub LeavesRoom : ℕ → ℕ → ArrayBase (OwnedRepr A) D T A R s d n r t → ArrayBase (OwnedRepr A) D T A R s d n r t → Type 0
   LeavesRoom axis used a b = (more : ℕ) → HasRoomAlong axis (more + used) a → HasRoomAlong axis more b
 
   -- the room that there was stays where no element of so many lengths comes, or none has to move
-  abbrev pub KeepsRoom : ℕ → ℕ → ArrayBase (OwnedRepr A) D T A P R L M s d n r t → ArrayBase (OwnedRepr A) D T A P R L M s d n r t → Type 0
+  abbrev pub KeepsRoom : ℕ → ℕ → ArrayBase (OwnedRepr A) D T A R s d n r t → ArrayBase (OwnedRepr A) D T A R s d n r t → Type 0
   KeepsRoom axis added a b = (added_elements (shape_of a) axis added ≡ 0) ⊎ NeedsNoMove axis a → room_of (storage_of a) ≤ room_of (storage_of b)
 
   -- where an element of so many lengths came, the axis can grow on
-  abbrev pub BecomesReady : ℕ → ℕ → ArrayBase (OwnedRepr A) D T A P R L M s d n r t → ArrayBase (OwnedRepr A) D T A P R L M s d n r t → Type 0
+  abbrev pub BecomesReady : ℕ → ℕ → ArrayBase (OwnedRepr A) D T A R s d n r t → ArrayBase (OwnedRepr A) D T A R s d n r t → Type 0
   BecomesReady axis added a b = 0 < added_elements (shape_of a) axis added → IsReadyAlong axis b
 
   -- so of the lengths of a shape that came behind a ready array
-  abbrev pub LeavesRoomBehind : ℕ → List ℕ → ArrayBase (OwnedRepr A) D T A P R L M s d n r t → ArrayBase (OwnedRepr A) D T A P R L M s d n r t → Type 0
+  abbrev pub LeavesRoomBehind : ℕ → List ℕ → ArrayBase (OwnedRepr A) D T A R s d n r t → ArrayBase (OwnedRepr A) D T A R s d n r t → Type 0
   LeavesRoomBehind axis shape a b = IsReadyAlong axis a → LeavesRoom axis (slice_index shape axis) a b

@@ -18,9 +18,9 @@ use Rattle.nd_array_core.specs.growth.Appended.{FitsBehind, IsAlikeBeside, IsApp
 use Rattle.nd_elements.specs.declared.storage.OwnedRepr.{OwnedRepr}
 use Rattle.nd_array_core.specs.growth.Grown.{IsGrownBy, IsLeft, IsNotForMemory, IsReadyFor}
 
-module _ {S D T A P R L M : Type 0} {s : data_trait.Ghosts S A} {d : dimension.Ghosts D P R L M} {n : axis_count.Ghosts D} {r : stride_list.Ghosts R} {t : stride_list.Ghosts T} where
+module _ {S D T A R : Type 0} {s : data_trait.Ghosts S A} {d : dimension.Ghosts D R} {n : axis_count.Ghosts D} {r : stride_list.Ghosts R} {t : stride_list.Ghosts T} where
   -- what each array of a list shows
-  abbrev pub meanings_of : List (ArrayBase S D T A P R L M s d n r t) → List (Meaning A)
+  abbrev pub meanings_of : List (ArrayBase S D T A R s d n r t) → List (Meaning A)
   meanings_of arrays = map (λ a. meaning_of a) arrays
 
 -- the arrays of a list behind one, each behind all before it
@@ -39,15 +39,15 @@ alike_in_turn axis m [] = m
 alike_in_turn axis m (n ∷ ns) = alike_in_turn axis (concatenated_alike axis m n) ns
 
 -- an array before and after all arrays of a list came behind it, or the first k of them
-module _ {S D T A P R L M : Type 0} {s : data_trait.Ghosts S A} {d : dimension.Ghosts D P R L M} {n : axis_count.Ghosts D} {r : stride_list.Ghosts R} {t : stride_list.Ghosts T} where
-  abbrev pub JoinsAll : ℕ → ArrayBase S D T A P R L M s d n r t → List (Meaning A) → ArrayBase S D T A P R L M s d n r t → Type 0
+module _ {S D T A R : Type 0} {s : data_trait.Ghosts S A} {d : dimension.Ghosts D R} {n : axis_count.Ghosts D} {r : stride_list.Ghosts R} {t : stride_list.Ghosts T} where
+  abbrev pub JoinsAll : ℕ → ArrayBase S D T A R s d n r t → List (Meaning A) → ArrayBase S D T A R s d n r t → Type 0
   JoinsAll axis old ms new = meaning_of new ≡ joined_in_turn axis (meaning_of old) ms
 
-  abbrev pub JoinsFirst : ℕ → ℕ → ArrayBase S D T A P R L M s d n r t → List (Meaning A) → ArrayBase S D T A P R L M s d n r t → Type 0
+  abbrev pub JoinsFirst : ℕ → ℕ → ArrayBase S D T A R s d n r t → List (Meaning A) → ArrayBase S D T A R s d n r t → Type 0
   JoinsFirst k axis old ms new = meaning_of new ≡ joined_in_turn axis (meaning_of old) (take k ms)
 
   -- the same where none needs to be broadcast
-  abbrev pub JoinsAllAlike : ℕ → ArrayBase S D T A P R L M s d n r t → List (Meaning A) → ArrayBase S D T A P R L M s d n r t → Type 0
+  abbrev pub JoinsAllAlike : ℕ → ArrayBase S D T A R s d n r t → List (Meaning A) → ArrayBase S D T A R s d n r t → Type 0
   JoinsAllAlike axis old ms new = AreAlikeBeside axis (shape_of old) ms → meaning_of new ≡ alike_in_turn axis (meaning_of old) ms
 
 -- each clone of an element of one of them is the element
@@ -74,16 +74,16 @@ LacksMemory e = e.1 ≡ NoMemory
 abbrev pub IsNotForMemoryInTurn : {A : Type 0} → (A → Type 0) → List (Meaning A) → ℕ → ArrayError → Type 0
 IsNotForMemoryInTurn {A} is_infallible ms nth error = (m : Meaning A) × (slice_get ms nth ≡ Some m) × IsNotForMemory is_infallible m.at error
 
-module _ {D T A P R L M : Type 0} {s : data_trait.Ghosts (OwnedRepr A) A} {d : dimension.Ghosts D P R L M} {n : axis_count.Ghosts D} {r : stride_list.Ghosts R} {t : stride_list.Ghosts T} where
+module _ {D T A R : Type 0} {s : data_trait.Ghosts (OwnedRepr A) A} {d : dimension.Ghosts D R} {n : axis_count.Ghosts D} {r : stride_list.Ghosts R} {t : stride_list.Ghosts T} where
   -- the second is how the first lies once the arrays of a list came behind it, each behind all before it
-  abbrev pub IsGrownInTurn : ℕ → List (Meaning A) → ArrayBase (OwnedRepr A) D T A P R L M s d n r t → ArrayBase (OwnedRepr A) D T A P R L M s d n r t → Type 0
+  abbrev pub IsGrownInTurn : ℕ → List (Meaning A) → ArrayBase (OwnedRepr A) D T A R s d n r t → ArrayBase (OwnedRepr A) D T A R s d n r t → Type 0
   IsGrownInTurn axis [] a b = b ≡ a
-  IsGrownInTurn axis (m ∷ ms) a b = (c : ArrayBase (OwnedRepr A) D T A P R L M s d n r t) × (shape_of c ≡ grown_shape (shape_of a) axis (slice_index m.shape axis)) × IsGrownBy axis (slice_index m.shape axis) a c × IsGrownInTurn axis ms c b
+  IsGrownInTurn axis (m ∷ ms) a b = (c : ArrayBase (OwnedRepr A) D T A R s d n r t) × (shape_of c ≡ grown_shape (shape_of a) axis (slice_index m.shape axis)) × IsGrownBy axis (slice_index m.shape axis) a c × IsGrownInTurn axis ms c b
 
   -- what is left where the next one was refused
-  abbrev pub IsLeftInTurn : ℕ → List (Meaning A) → ArrayBase (OwnedRepr A) D T A P R L M s d n r t → ArrayBase (OwnedRepr A) D T A P R L M s d n r t → ArrayError → Type 0
-  IsLeftInTurn axis ms a b e = (c : ArrayBase (OwnedRepr A) D T A P R L M s d n r t) × IsGrownInTurn axis ms a c × IsLeft axis c b e
+  abbrev pub IsLeftInTurn : ℕ → List (Meaning A) → ArrayBase (OwnedRepr A) D T A R s d n r t → ArrayBase (OwnedRepr A) D T A R s d n r t → ArrayError → Type 0
+  IsLeftInTurn axis ms a b e = (c : ArrayBase (OwnedRepr A) D T A R s d n r t) × IsGrownInTurn axis ms a c × IsLeft axis c b e
 
   -- where an array is ready, with room for all of them, it does
-  abbrev pub NeedsOnlyClonesInTurn : (A → Type 0) → ℕ → ArrayBase (OwnedRepr A) D T A P R L M s d n r t → List (Meaning A) → ℕ × ArrayError → Type 0
+  abbrev pub NeedsOnlyClonesInTurn : (A → Type 0) → ℕ → ArrayBase (OwnedRepr A) D T A R s d n r t → List (Meaning A) → ℕ × ArrayError → Type 0
   NeedsOnlyClonesInTurn is_infallible axis a ms e = IsReadyFor axis (lengths_along axis ms) a → IsNotForMemoryInTurn is_infallible ms e.0 e.1

@@ -33,9 +33,9 @@ pub record GrowsInPlace {A : Type 0} (axis : ℕ) (l : Placement) (items : List 
   pub full : length items ≡ size_of l.lengths
   pub stays : must_move l.lengths l.strides axis ≡ false
 
-module _ {D T A P R L M : Type 0} {s : data_trait.Ghosts (OwnedRepr A) A} {d : dimension.Ghosts D P R L M} {n : axis_count.Ghosts D} {r : stride_list.Ghosts R} {t : stride_list.Ghosts T} where
+module _ {D T A R : Type 0} {s : data_trait.Ghosts (OwnedRepr A) A} {d : dimension.Ghosts D R} {n : axis_count.Ghosts D} {r : stride_list.Ghosts R} {t : stride_list.Ghosts T} where
   -- the second is the first once that came behind it
-  pub record Appended (axis : ℕ) (m : Meaning A) (a b : ArrayBase (OwnedRepr A) D T A P R L M s d n r t) : Type 0 where
+  pub record Appended (axis : ℕ) (m : Meaning A) (a b : ArrayBase (OwnedRepr A) D T A R s d n r t) : Type 0 where
     pub joined : meaning_of b ≡ concatenated axis (meaning_of a) m
     pub laid : IsGrownBy axis (slice_index m.shape axis) a b
     pub ready : BecomesReady axis (slice_index m.shape axis) a b
@@ -43,7 +43,7 @@ module _ {D T A P R L M : Type 0} {s : data_trait.Ghosts (OwnedRepr A) A} {d : d
     pub room : KeepsRoom axis (slice_index m.shape axis) a b
 
   -- the second is the first once memory for that was refused
-  pub record AppendRefused (is_infallible : A → Type 0) (axis : ℕ) (m : Meaning A) (a b : ArrayBase (OwnedRepr A) D T A P R L M s d n r t) : Type 0 where
+  pub record AppendRefused (is_infallible : A → Type 0) (axis : ℕ) (m : Meaning A) (a b : ArrayBase (OwnedRepr A) D T A R s d n r t) : Type 0 where
     pub some : 0 < size_of m.shape
     pub kept : meaning_of b ≡ meaning_of a
     pub left : IsLeft axis a b NoMemory

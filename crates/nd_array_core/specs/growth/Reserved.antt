@@ -20,16 +20,16 @@ added_elements shape axis additional = additional * size_of (remove shape axis)
 abbrev pub HasRoomFor : {A : Type 0} → ℕ → OwnedRepr A → Type 0
 HasRoomFor count storage = length (stored_list storage) + count ≤ room_of storage
 
-module _ {S D T A P R L M : Type 0} {s : data_trait.Ghosts S A} {d : dimension.Ghosts D P R L M} {n : axis_count.Ghosts D} {r : stride_list.Ghosts R} {t : stride_list.Ghosts T} where
+module _ {S D T A R : Type 0} {s : data_trait.Ghosts S A} {d : dimension.Ghosts D R} {n : axis_count.Ghosts D} {r : stride_list.Ghosts R} {t : stride_list.Ghosts T} where
   -- the shape with so many more lengths of an axis has a checked size
-  abbrev pub CanGrowBy : ℕ → ℕ → ArrayBase S D T A P R L M s d n r t → Type 0
+  abbrev pub CanGrowBy : ℕ → ℕ → ArrayBase S D T A R s d n r t → Type 0
   CanGrowBy axis additional a = HasCheckedSize (grown_shape (shape_of a) axis additional)
 
   -- so many more lengths of an axis have an element
-  abbrev pub AddsElements : ℕ → ℕ → ArrayBase S D T A P R L M s d n r t → Type 0
+  abbrev pub AddsElements : ℕ → ℕ → ArrayBase S D T A R s d n r t → Type 0
   AddsElements axis additional a = 0 < added_elements (shape_of a) axis additional
 
-module _ {D T A P R L M : Type 0} {s : data_trait.Ghosts (OwnedRepr A) A} {d : dimension.Ghosts D P R L M} {n : axis_count.Ghosts D} {r : stride_list.Ghosts R} {t : stride_list.Ghosts T} where
+module _ {D T A R : Type 0} {s : data_trait.Ghosts (OwnedRepr A) A} {d : dimension.Ghosts D R} {n : axis_count.Ghosts D} {r : stride_list.Ghosts R} {t : stride_list.Ghosts T} where
   -- the elements of so many more lengths of an axis find room without memory
-  abbrev pub HasRoomAlong : ℕ → ℕ → ArrayBase (OwnedRepr A) D T A P R L M s d n r t → Type 0
+  abbrev pub HasRoomAlong : ℕ → ℕ → ArrayBase (OwnedRepr A) D T A R s d n r t → Type 0
   HasRoomAlong axis additional a = HasRoomFor (added_elements (shape_of a) axis additional) (storage_of a)

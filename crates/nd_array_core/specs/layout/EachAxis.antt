@@ -10,19 +10,19 @@ use Rattle.nd_array_core.specs.Part.{each_sliced_part, ShowsPart, BecomesPart}
 use Rattle.nd_array_core.specs.layout.ViewLent.{LeavesBut}
 
 module _
-    {S D T A P R L M : Type 0} {s : data_trait.Ghosts S A} {d : dimension.Ghosts D P R L M} {n : axis_count.Ghosts D} {r : stride_list.Ghosts R} {t : stride_list.Ghosts T}
-    {Z E U Q X V W : Type 0} {z : data_trait.Ghosts Z A} {e : dimension.Ghosts E Q X V W} {k : axis_count.Ghosts E} {x : stride_list.Ghosts X} {u : stride_list.Ghosts U} where
+    {S D T A R : Type 0} {s : data_trait.Ghosts S A} {d : dimension.Ghosts D R} {n : axis_count.Ghosts D} {r : stride_list.Ghosts R} {t : stride_list.Ghosts T}
+    {Z E U X : Type 0} {z : data_trait.Ghosts Z A} {e : dimension.Ghosts E X} {k : axis_count.Ghosts E} {x : stride_list.Ghosts X} {u : stride_list.Ghosts U} where
   -- b is what the slices name of a
-  abbrev pub ShowsEachSliced : ArrayBase S D T A P R L M s d n r t → ArrayBase Z E U A Q X V W z e k x u → List Slice → Type 0
+  abbrev pub ShowsEachSliced : ArrayBase S D T A R s d n r t → ArrayBase Z E U A X z e k x u → List Slice → Type 0
   ShowsEachSliced a b slices = ShowsPart a (each_sliced_part a slices) b
 
   -- and it is lent of a, which keeps all that they don't name
-  abbrev pub LendsEachSliced : ArrayBase S D T A P R L M s d n r t → (List A → ArrayBase S D T A P R L M s d n r t) → ArrayBase Z E U A Q X V W z e k x u → List Slice → Type 0
+  abbrev pub LendsEachSliced : ArrayBase S D T A R s d n r t → (List A → ArrayBase S D T A R s d n r t) → ArrayBase Z E U A X z e k x u → List Slice → Type 0
   LendsEachSliced a left b slices = ShowsPart a (each_sliced_part a slices) b × LeavesBut a left (each_sliced_part a slices)
 
 module _
-    {S D T A P R L M : Type 0} {s : data_trait.Ghosts S A} {d : dimension.Ghosts D P R L M} {n : axis_count.Ghosts D} {r : stride_list.Ghosts R} {t : stride_list.Ghosts T}
-    {E U Q X V W : Type 0} {e : dimension.Ghosts E Q X V W} {k : axis_count.Ghosts E} {x : stride_list.Ghosts X} {u : stride_list.Ghosts U} where
+    {S D T A R : Type 0} {s : data_trait.Ghosts S A} {d : dimension.Ghosts D R} {n : axis_count.Ghosts D} {r : stride_list.Ghosts R} {t : stride_list.Ghosts T}
+    {E U X : Type 0} {e : dimension.Ghosts E X} {k : axis_count.Ghosts E} {x : stride_list.Ghosts X} {u : stride_list.Ghosts U} where
   -- and in a's own storage
-  abbrev pub BecomesEachSliced : ArrayBase S D T A P R L M s d n r t → ArrayBase S E U A Q X V W s e k x u → List Slice → Type 0
+  abbrev pub BecomesEachSliced : ArrayBase S D T A R s d n r t → ArrayBase S E U A X s e k x u → List Slice → Type 0
   BecomesEachSliced a b slices = BecomesPart a (each_sliced_part a slices) b

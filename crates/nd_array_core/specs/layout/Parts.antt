@@ -29,6 +29,6 @@ abbrev pub IsViewBy : {A : Type 0} → (ℕ → Option A) → Placement → List
 IsViewBy stored l shape shape_strides at place = IsViewUnder stored l.offset l.lengths l.strides shape shape_strides at place
 
 -- an array shows what lies by a placement
-module _ {S D T A P R L M : Type 0} {s : data_trait.Ghosts S A} {d : dimension.Ghosts D P R L M} {n : axis_count.Ghosts D} {r : stride_list.Ghosts R} {t : stride_list.Ghosts T} where
-  abbrev pub ViewsBy : (ℕ → Option A) → Placement → ArrayBase S D T A P R L M s d n r t → Type 0
+module _ {S D T A R : Type 0} {s : data_trait.Ghosts S A} {d : dimension.Ghosts D R} {n : axis_count.Ghosts D} {r : stride_list.Ghosts R} {t : stride_list.Ghosts T} where
+  abbrev pub ViewsBy : (ℕ → Option A) → Placement → ArrayBase S D T A R s d n r t → Type 0
   ViewsBy stored l a = IsViewBy stored l (shape_of a) (layout_strides a) (element_at a) (place_at a)

@@ -22,26 +22,26 @@ use Rattle.nd_array_core.specs.reshape.Regrouped.{IsShapeOf, LiesInOrder}
 use Rattle.nd_array_core.specs.reshape.RunSlices.{IsStandardArray}
 use Rattle.nd_array_core.specs.reshape.Serving.{SomeServe, StridesServe, ShowsServed, KeepsRanks, regrouped_meaning}
 
-module _ {A V S D P R L M : Type 0} {v : data_trait.Ghosts V A} {s : data_trait.Ghosts S A} {d : dimension.Ghosts D P R L M} {n : axis_count.Ghosts D} {r : stride_list.Ghosts R} where
+module _ {A V S D R : Type 0} {v : data_trait.Ghosts V A} {s : data_trait.Ghosts S A} {d : dimension.Ghosts D R} {n : axis_count.Ghosts D} {r : stride_list.Ghosts R} where
   -- whether it is a view
-  abbrev pub is_view_in : EitherArray A V S D P R L M v s d n r → Bool
+  abbrev pub is_view_in : EitherArray A V S D R v s d n r → Bool
   is_view_in (View a) = true
   is_view_in (Owned a) = false
 
   -- what is seen of it
-  abbrev pub meaning_in : EitherArray A V S D P R L M v s d n r → Meaning A
+  abbrev pub meaning_in : EitherArray A V S D R v s d n r → Meaning A
   meaning_in (View a) = meaning_of a
   meaning_in (Owned a) = meaning_of a
 
   -- nothing was refused, and the answer is a view
-  abbrev pub AnswersView : {E : Type 0} → Result (EitherArray A V S D P R L M v s d n r) E → Type 0
+  abbrev pub AnswersView : {E : Type 0} → Result (EitherArray A V S D R v s d n r) E → Type 0
   AnswersView answer = IsOkAnd answer (λ either. IsTrue (is_view_in either))
 
 module _
-    {A V S D P R L M : Type 0} {v : data_trait.Ghosts V A} {s : data_trait.Ghosts S A} {d : dimension.Ghosts D P R L M} {n : axis_count.Ghosts D} {r : stride_list.Ghosts R}
-    {Z E U Q X W Y : Type 0} {z : data_trait.Ghosts Z A} {e : dimension.Ghosts E Q X W Y} {k : axis_count.Ghosts E} {x : stride_list.Ghosts X} {u : stride_list.Ghosts U} where
+    {A V S D R : Type 0} {v : data_trait.Ghosts V A} {s : data_trait.Ghosts S A} {d : dimension.Ghosts D R} {n : axis_count.Ghosts D} {r : stride_list.Ghosts R}
+    {Z E U X : Type 0} {z : data_trait.Ghosts Z A} {e : dimension.Ghosts E X} {k : axis_count.Ghosts E} {x : stride_list.Ghosts X} {u : stride_list.Ghosts U} where
   -- b shows all that it shows, in the same places
-  abbrev pub ShowsEither : EitherArray A V S D P R L M v s d n r → ArrayBase Z E U A Q X W Y z e k x u → Type 0
+  abbrev pub ShowsEither : EitherArray A V S D R v s d n r → ArrayBase Z E U A X z e k x u → Type 0
   ShowsEither (View a) b = ShowsWhole a b
   ShowsEither (Owned a) b = ShowsWhole a b
 
@@ -51,62 +51,62 @@ pub data IsReshapeRefused (order : Order) (ns : List ℕ) (ss : List ℤ) (ms : 
   NotAsMany : ¬ (IsShapeOf ns ms) → IsReshapeRefused order ns ss ms (Shape IncompatibleShape)
   NotCopied : IsShapeOf ns ms → ¬ (SomeServe order ns ss ms) → IsReshapeRefused order ns ss ms NoMemory
 
-module _ {S D T A P R L M : Type 0} {s : data_trait.Ghosts S A} {d : dimension.Ghosts D P R L M} {n : axis_count.Ghosts D} {r : stride_list.Ghosts R} {t : stride_list.Ghosts T} where
+module _ {S D T A R : Type 0} {s : data_trait.Ghosts S A} {d : dimension.Ghosts D R} {n : axis_count.Ghosts D} {r : stride_list.Ghosts R} {t : stride_list.Ghosts T} where
   -- why an array's elements can't be had under the lengths ms
-  abbrev pub RefusesReshape : ArrayBase S D T A P R L M s d n r t → Order → List ℕ → ArrayError → Type 0
+  abbrev pub RefusesReshape : ArrayBase S D T A R s d n r t → Order → List ℕ → ArrayError → Type 0
   RefusesReshape a order ms = IsReshapeRefused order (shape_of a) (layout_strides a) ms
 
   -- where no strides serve, so that the elements are copied, each clone of one is the element
-  abbrev pub CopiesAreEqual : (A → A → Type 0) → ArrayBase S D T A P R L M s d n r t → Order → List ℕ → Type 0
+  abbrev pub CopiesAreEqual : (A → A → Type 0) → ArrayBase S D T A R s d n r t → Order → List ℕ → Type 0
   CopiesAreEqual is_clone a order ms = ¬ (StridesServe a order ms) → ClonesOfAllAreEqual is_clone (element_at a)
 
   -- in the order in which the elements lie, strides serve each shape of as many
-  abbrev pub IsServedInItsOrder : ArrayBase S D T A P R L M s d n r t → Type 0
+  abbrev pub IsServedInItsOrder : ArrayBase S D T A R s d n r t → Type 0
   IsServedInItsOrder a = (order : Order) (ms : List ℕ) → LiesInOrder order a → IsShapeOf (shape_of a) ms → StridesServe a order ms
 
 module _
-    {S D A T P R L M : Type 0} {s : data_trait.Ghosts S A} {d : dimension.Ghosts D P R L M} {n : axis_count.Ghosts D} {r : stride_list.Ghosts R} {t : stride_list.Ghosts T}
-    {Z E Q X V W : Type 0} {z : data_trait.Ghosts Z A} {o : data_trait.Ghosts (OwnedRepr A) A} {e : dimension.Ghosts E Q X V W} {k : axis_count.Ghosts E} {x : stride_list.Ghosts X} where
+    {S D A T R : Type 0} {s : data_trait.Ghosts S A} {d : dimension.Ghosts D R} {n : axis_count.Ghosts D} {r : stride_list.Ghosts R} {t : stride_list.Ghosts T}
+    {Z E X : Type 0} {z : data_trait.Ghosts Z A} {o : data_trait.Ghosts (OwnedRepr A) A} {e : dimension.Ghosts E X} {k : axis_count.Ghosts E} {x : stride_list.Ghosts X} where
   -- the elements of an array under the lengths ms, each with its rank in an order: a view just where strides serve, each
   -- element where it is; else copies in that order, from place 0 on
-  abbrev pub ViewsOrCopies : ArrayBase S D T A P R L M s d n r t → Order → List ℕ → EitherArray A Z (OwnedRepr A) E Q X V W z o e k x → Type 0
+  abbrev pub ViewsOrCopies : ArrayBase S D T A R s d n r t → Order → List ℕ → EitherArray A Z (OwnedRepr A) E X z o e k x → Type 0
   ViewsOrCopies a order ms (View b) = StridesServe a order ms × ShowsServed a order ms b
   ViewsOrCopies a order ms (Owned b) = (¬ (StridesServe a order ms)) × OwnsInOrder (ms, order) b × KeepsRanks a order ms b
 
   -- either shows the elements under the lengths ms, each with its rank in an order
-  abbrev pub ShowsRegrouped : ArrayBase S D T A P R L M s d n r t → Order → List ℕ → EitherArray A Z (OwnedRepr A) E Q X V W z o e k x → Type 0
+  abbrev pub ShowsRegrouped : ArrayBase S D T A R s d n r t → Order → List ℕ → EitherArray A Z (OwnedRepr A) E X z o e k x → Type 0
   ShowsRegrouped a order ms either = meaning_in either ≡ regrouped_meaning order ms (meaning_of a)
 
   -- where strides serve these lengths, the answer is a view; the same where they must be a shape of the elements too
-  abbrev pub IsViewIfServed : {B : Type 0} → ArrayBase S D T A P R L M s d n r t → Order → List ℕ → Result (EitherArray A Z (OwnedRepr A) E Q X V W z o e k x) B → Type 0
+  abbrev pub IsViewIfServed : {B : Type 0} → ArrayBase S D T A R s d n r t → Order → List ℕ → Result (EitherArray A Z (OwnedRepr A) E X z o e k x) B → Type 0
   IsViewIfServed a order ms answer = StridesServe a order ms → AnswersView answer
 
-  abbrev pub IsViewIfShapeServed : {B : Type 0} → ArrayBase S D T A P R L M s d n r t → Order → List ℕ → Result (EitherArray A Z (OwnedRepr A) E Q X V W z o e k x) B → Type 0
+  abbrev pub IsViewIfShapeServed : {B : Type 0} → ArrayBase S D T A R s d n r t → Order → List ℕ → Result (EitherArray A Z (OwnedRepr A) E X z o e k x) B → Type 0
   IsViewIfShapeServed a order ms answer = IsShapeOf (shape_of a) ms → IsViewIfServed a order ms answer
 
   -- the elements of an array under its own lengths, in row-major order one beside the other: a view just where they lie
   -- so; else copies, from place 0 on
-  abbrev pub ViewsOrLaysOut : ArrayBase S D T A P R L M s d n r t → EitherArray A Z (OwnedRepr A) E Q X V W z o e k x → Type 0
+  abbrev pub ViewsOrLaysOut : ArrayBase S D T A R s d n r t → EitherArray A Z (OwnedRepr A) E X z o e k x → Type 0
   ViewsOrLaysOut a (View b) = IsStandardArray a × ShowsWhole a b
   ViewsOrLaysOut a (Owned b) = (¬ (IsStandardArray a)) × OwnsInOrder (shape_of a, RowMajor) b × ((i : List ℕ) → element_at b i ≡ element_at a i)
 
 module _
-    {D T A P R L M : Type 0} {s : data_trait.Ghosts (OwnedRepr A) A} {d : dimension.Ghosts D P R L M} {n : axis_count.Ghosts D} {r : stride_list.Ghosts R} {t : stride_list.Ghosts T}
-    {E U Q X V W : Type 0} {e : dimension.Ghosts E Q X V W} {k : axis_count.Ghosts E} {x : stride_list.Ghosts X} {u : stride_list.Ghosts U} where
+    {D T A R : Type 0} {s : data_trait.Ghosts (OwnedRepr A) A} {d : dimension.Ghosts D R} {n : axis_count.Ghosts D} {r : stride_list.Ghosts R} {t : stride_list.Ghosts T}
+    {E U X : Type 0} {e : dimension.Ghosts E X} {k : axis_count.Ghosts E} {x : stride_list.Ghosts X} {u : stride_list.Ghosts U} where
   -- b has a's storage as that is, each element where it is, under the lengths ms and with its rank in an order
-  abbrev pub KeepsStorage : ArrayBase (OwnedRepr A) D T A P R L M s d n r t → Order → List ℕ → ArrayBase (OwnedRepr A) E U A Q X V W s e k x u → Type 0
+  abbrev pub KeepsStorage : ArrayBase (OwnedRepr A) D T A R s d n r t → Order → List ℕ → ArrayBase (OwnedRepr A) E U A X s e k x u → Type 0
   KeepsStorage a order ms b = ShowsServed a order ms b × (storage_of b ≡ storage_of a)
 
   -- where strides serve these lengths, the answer keeps the storage; the same where they must be a shape of the elements too
-  abbrev pub KeepsStorageIfServed : {B : Type 0} → ArrayBase (OwnedRepr A) D T A P R L M s d n r t → Order → List ℕ → Result (ArrayBase (OwnedRepr A) E U A Q X V W s e k x u) B → Type 0
+  abbrev pub KeepsStorageIfServed : {B : Type 0} → ArrayBase (OwnedRepr A) D T A R s d n r t → Order → List ℕ → Result (ArrayBase (OwnedRepr A) E U A X s e k x u) B → Type 0
   KeepsStorageIfServed a order ms answer = StridesServe a order ms → IsOkAnd answer (KeepsStorage a order ms)
 
-  abbrev pub KeepsStorageIfShapeServed : {B : Type 0} → ArrayBase (OwnedRepr A) D T A P R L M s d n r t → Order → List ℕ → Result (ArrayBase (OwnedRepr A) E U A Q X V W s e k x u) B → Type 0
+  abbrev pub KeepsStorageIfShapeServed : {B : Type 0} → ArrayBase (OwnedRepr A) D T A R s d n r t → Order → List ℕ → Result (ArrayBase (OwnedRepr A) E U A X s e k x u) B → Type 0
   KeepsStorageIfShapeServed a order ms answer = IsShapeOf (shape_of a) ms → KeepsStorageIfServed a order ms answer
 
   -- the elements of an owned array under the lengths ms, each with its rank in an order: where strides serve in its own
   -- storage, as that is, each element where it is; else copies in that order, from place 0 on
-  abbrev pub KeptOrCopied : ArrayBase (OwnedRepr A) D T A P R L M s d n r t → Order → List ℕ → ArrayBase (OwnedRepr A) E U A Q X V W s e k x u → Type 0
+  abbrev pub KeptOrCopied : ArrayBase (OwnedRepr A) D T A R s d n r t → Order → List ℕ → ArrayBase (OwnedRepr A) E U A X s e k x u → Type 0
   KeptOrCopied a order ms b =
       (StridesServe a order ms × ShowsServed a order ms b × (storage_of b ≡ storage_of a))
       ⊎ ((¬ (StridesServe a order ms)) × OwnsInOrder (ms, order) b × KeepsRanks a order ms b)

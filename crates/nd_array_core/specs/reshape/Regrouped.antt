@@ -48,26 +48,26 @@ pub data IsOrderTried (ns : List ℕ) (ss : List ℤ) : Order → Type 0 where
   Rows : IsInOrder RowMajor ns ss → IsOrderTried ns ss RowMajor
   Columns : ¬ (IsInOrder RowMajor ns ss) → IsOrderTried ns ss ColumnMajor
 
-module _ {S D T A P R L M : Type 0} {s : data_trait.Ghosts S A} {d : dimension.Ghosts D P R L M} {n : axis_count.Ghosts D} {r : stride_list.Ghosts R} {t : stride_list.Ghosts T} where
+module _ {S D T A R : Type 0} {s : data_trait.Ghosts S A} {d : dimension.Ghosts D R} {n : axis_count.Ghosts D} {r : stride_list.Ghosts R} {t : stride_list.Ghosts T} where
   -- the elements lie in an order, from the offset on
-  abbrev pub LiesInOrder : Order → ArrayBase S D T A P R L M s d n r t → Type 0
+  abbrev pub LiesInOrder : Order → ArrayBase S D T A R s d n r t → Type 0
   LiesInOrder order a = IsInOrder order (shape_of a) (layout_strides a)
 
   -- the elements under other lengths, each with its rank in an order, and the strides of a new array
-  abbrev pub ordered_part : ArrayBase S D T A P R L M s d n r t → Order → List ℕ → Part
+  abbrev pub ordered_part : ArrayBase S D T A R s d n r t → Order → List ℕ → Part
   ordered_part a order ms = record { shape = ms; strides = ordered_strides order ms; source = regrouped_index order (shape_of a) ms }
 
   -- the lengths of a shape of one axis, along which all elements lie
-  abbrev pub flat_shape : ArrayBase S D T A P R L M s d n r t → List ℕ
+  abbrev pub flat_shape : ArrayBase S D T A R s d n r t → List ℕ
   flat_shape a = size_of (shape_of a) ∷ []
 
   -- why the elements can't be seen under other lengths in an order, by the strides of a new array
-  abbrev pub RefusesShapeInOrder : ArrayBase S D T A P R L M s d n r t → Order → List ℕ → ErrorKind → Type 0
+  abbrev pub RefusesShapeInOrder : ArrayBase S D T A R s d n r t → Order → List ℕ → ErrorKind → Type 0
   RefusesShapeInOrder a order ms = IsRefused order (shape_of a) (layout_strides a) ms
 
 module _
-    {S D T A P R L M : Type 0} {s : data_trait.Ghosts S A} {d : dimension.Ghosts D P R L M} {n : axis_count.Ghosts D} {r : stride_list.Ghosts R} {t : stride_list.Ghosts T}
-    {E U Q X V W : Type 0} {e : dimension.Ghosts E Q X V W} {k : axis_count.Ghosts E} {x : stride_list.Ghosts X} {u : stride_list.Ghosts U} where
+    {S D T A R : Type 0} {s : data_trait.Ghosts S A} {d : dimension.Ghosts D R} {n : axis_count.Ghosts D} {r : stride_list.Ghosts R} {t : stride_list.Ghosts T}
+    {E U X : Type 0} {e : dimension.Ghosts E X} {k : axis_count.Ghosts E} {x : stride_list.Ghosts X} {u : stride_list.Ghosts U} where
   -- b is a in its own storage under other lengths, each element with its rank in an order, by the strides of a new array
-  abbrev pub IsReshapeOf : ArrayBase S D T A P R L M s d n r t → Order → List ℕ → ArrayBase S E U A Q X V W s e k x u → Type 0
+  abbrev pub IsReshapeOf : ArrayBase S D T A R s d n r t → Order → List ℕ → ArrayBase S E U A X s e k x u → Type 0
   IsReshapeOf a order ms b = BecomesPart a (ordered_part a order ms) b

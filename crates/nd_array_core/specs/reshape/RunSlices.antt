@@ -37,49 +37,49 @@ RunIs {A} region first count is_such = (xs : List A) → IsRunOf region first co
 abbrev pub IsRunUnder : Placement → Type 0
 IsRunUnder l = (size_of l.lengths ≡ 0) ⊎ IsRun l.lengths l.strides
 
-module _ {S D T A P R L M : Type 0} {s : data_trait.Ghosts S A} {d : dimension.Ghosts D P R L M} {n : axis_count.Ghosts D} {r : stride_list.Ghosts R} {t : stride_list.Ghosts T} where
+module _ {S D T A R : Type 0} {s : data_trait.Ghosts S A} {d : dimension.Ghosts D R} {n : axis_count.Ghosts D} {r : stride_list.Ghosts R} {t : stride_list.Ghosts T} where
   -- each index has what a list has at its place under a layout that begins elsewhere
-  abbrev pub ShowsListFrom : ℕ → Placement → List A → ArrayBase S D T A P R L M s d n r t → Type 0
+  abbrev pub ShowsListFrom : ℕ → Placement → List A → ArrayBase S D T A R s d n r t → Type 0
   ShowsListFrom offset l xs a = (i : List ℕ) → element_at a i ≡ shown_at (slice_get xs) (as_placement offset l.lengths l.strides) i
 
   -- each index has in a list, as far behind its front as from the lowest place, its element
-  abbrev pub IsListedFromLowest : ArrayBase S D T A P R L M s d n r t → List A → Type 0
+  abbrev pub IsListedFromLowest : ArrayBase S D T A R s d n r t → List A → Type 0
   IsListedFromLowest a xs = (i : List ℕ) → shown_at (slice_get xs) (as_placement (reach_down (shape_of a) (layout_strides a)) (shape_of a) (layout_strides a)) i ≡ element_at a i
 
   -- each index lies at its row-major rank from the offset on
-  abbrev pub IsStandardArray : ArrayBase S D T A P R L M s d n r t → Type 0
+  abbrev pub IsStandardArray : ArrayBase S D T A R s d n r t → Type 0
   IsStandardArray a = IsStandard (shape_of a) (layout_strides a)
 
   -- there is no element, or the places are as many consecutive numbers as there are elements, each once
-  abbrev pub IsRunArray : ArrayBase S D T A P R L M s d n r t → Type 0
+  abbrev pub IsRunArray : ArrayBase S D T A R s d n r t → Type 0
   IsRunArray a = (size_of (shape_of a) ≡ 0) ⊎ IsRun (shape_of a) (layout_strides a)
 
   -- the lowest place that an index has, where there are elements
-  abbrev pub lowest_place : ArrayBase S D T A P R L M s d n r t → ℕ
+  abbrev pub lowest_place : ArrayBase S D T A R s d n r t → ℕ
   lowest_place a = layout_offset a - reach_down (shape_of a) (layout_strides a)
 
   -- xs are the elements in the order of their places
-  abbrev pub IsInMemoryOrder : ArrayBase S D T A P R L M s d n r t → List A → Type 0
+  abbrev pub IsInMemoryOrder : ArrayBase S D T A R s d n r t → List A → Type 0
   IsInMemoryOrder a xs = LiesAlong (shape_of a) (lowest_place a) (place_at a) (element_at a) xs
 
   -- xs are the elements in row-major order
-  abbrev pub IsInRowMajorOrder : ArrayBase S D T A P R L M s d n r t → List A → Type 0
+  abbrev pub IsInRowMajorOrder : ArrayBase S D T A R s d n r t → List A → Type 0
   IsInRowMajorOrder a xs = xs ≡ row_major_elements (meaning_of a)
 
   -- xs are the elements in row-major order, put in another order
-  abbrev pub IsReordering : ArrayBase S D T A P R L M s d n r t → List A → Type 0
+  abbrev pub IsReordering : ArrayBase S D T A R s d n r t → List A → Type 0
   IsReordering a xs = IsPermutation (row_major_elements (meaning_of a)) xs
 
 module _
-    {S D A T P R L M : Type 0} {s : data_trait.Ghosts S A} {d : dimension.Ghosts D P R L M} {n : axis_count.Ghosts D} {r : stride_list.Ghosts R} {t : stride_list.Ghosts T}
+    {S D A T R : Type 0} {s : data_trait.Ghosts S A} {d : dimension.Ghosts D R} {n : axis_count.Ghosts D} {r : stride_list.Ghosts R} {t : stride_list.Ghosts T}
     {U : Type 0} {z : data_trait.Ghosts (OwnedRepr A) A} {u : stride_list.Ghosts U} where
   -- b has a's strides, and owns a's elements in the order of their places, from the lowest on
-  abbrev pub CopiesRun : ArrayBase S D T A P R L M s d n r t → ArrayBase (OwnedRepr A) D U A P R L M z d n r u → Type 0
+  abbrev pub CopiesRun : ArrayBase S D T A R s d n r t → ArrayBase (OwnedRepr A) D U A R z d n r u → Type 0
   CopiesRun a b = (layout_strides b ≡ layout_strides a) × (layout_offset b ≡ reach_down (shape_of a) (layout_strides a)) × IsInMemoryOrder a (stored_list (storage_of b))
 
 module _
-    {S D T A P R L M : Type 0} {s : data_trait.Ghosts S A} {d : dimension.Ghosts D P R L M} {n : axis_count.Ghosts D} {r : stride_list.Ghosts R} {t : stride_list.Ghosts T}
-    {E U Q X V W : Type 0} {z : data_trait.Ghosts (OwnedRepr A) A} {e : dimension.Ghosts E Q X V W} {k : axis_count.Ghosts E} {x : stride_list.Ghosts X} {u : stride_list.Ghosts U} where
+    {S D T A R : Type 0} {s : data_trait.Ghosts S A} {d : dimension.Ghosts D R} {n : axis_count.Ghosts D} {r : stride_list.Ghosts R} {t : stride_list.Ghosts T}
+    {E U X : Type 0} {z : data_trait.Ghosts (OwnedRepr A) A} {e : dimension.Ghosts E X} {k : axis_count.Ghosts E} {x : stride_list.Ghosts X} {u : stride_list.Ghosts U} where
   -- b owns a's elements in row-major order
-  abbrev pub StoresInRowMajorOrder : ArrayBase S D T A P R L M s d n r t → ArrayBase (OwnedRepr A) E U A Q X V W z e k x u → Type 0
+  abbrev pub StoresInRowMajorOrder : ArrayBase S D T A R s d n r t → ArrayBase (OwnedRepr A) E U A X z e k x u → Type 0
   StoresInRowMajorOrder a b = stored_list (storage_of b) ≡ row_major_elements (meaning_of a)

@@ -35,26 +35,26 @@ pub record IsServedBy (order : Order) (ns : List ℕ) (ss : List ℤ) (ms : List
 abbrev pub regrouped_meaning : {A : Type 0} → Order → List ℕ → Meaning A → Meaning A
 regrouped_meaning order ms m = record { shape = ms; at = λ i. inside ms i (m.at (regrouped_index order m.shape ms i)) }
 
-module _ {S D A T P R L M : Type 0} {s : data_trait.Ghosts S A} {d : dimension.Ghosts D P R L M} {n : axis_count.Ghosts D} {r : stride_list.Ghosts R} {t : stride_list.Ghosts T} where
+module _ {S D A T R : Type 0} {s : data_trait.Ghosts S A} {d : dimension.Ghosts D R} {n : axis_count.Ghosts D} {r : stride_list.Ghosts R} {t : stride_list.Ghosts T} where
   -- some integers serve the lengths ms
-  abbrev pub StridesServe : ArrayBase S D T A P R L M s d n r t → Order → List ℕ → Type 0
+  abbrev pub StridesServe : ArrayBase S D T A R s d n r t → Order → List ℕ → Type 0
   StridesServe a order ms = SomeServe order (shape_of a) (layout_strides a) ms
 
   -- the elements under other lengths, each with its rank in an order, and some strides
-  abbrev pub regrouped_part : ArrayBase S D T A P R L M s d n r t → Order → List ℕ → List ℤ → Part
+  abbrev pub regrouped_part : ArrayBase S D T A R s d n r t → Order → List ℕ → List ℤ → Part
   regrouped_part a order ms ts = record { shape = ms; strides = ts; source = regrouped_index order (shape_of a) ms }
 
 module _
-    {S D A T P R L M : Type 0} {s : data_trait.Ghosts S A} {d : dimension.Ghosts D P R L M} {n : axis_count.Ghosts D} {r : stride_list.Ghosts R} {t : stride_list.Ghosts T}
-    {Z E U Q X V W : Type 0} {z : data_trait.Ghosts Z A} {e : dimension.Ghosts E Q X V W} {k : axis_count.Ghosts E} {x : stride_list.Ghosts X} {u : stride_list.Ghosts U} where
+    {S D A T R : Type 0} {s : data_trait.Ghosts S A} {d : dimension.Ghosts D R} {n : axis_count.Ghosts D} {r : stride_list.Ghosts R} {t : stride_list.Ghosts T}
+    {Z E U X : Type 0} {z : data_trait.Ghosts Z A} {e : dimension.Ghosts E X} {k : axis_count.Ghosts E} {x : stride_list.Ghosts X} {u : stride_list.Ghosts U} where
   -- b has the lengths ms, and each element has in b the rank in an order that it has in a
-  abbrev pub KeepsRanks : ArrayBase S D T A P R L M s d n r t → Order → List ℕ → ArrayBase Z E U A Q X V W z e k x u → Type 0
+  abbrev pub KeepsRanks : ArrayBase S D T A R s d n r t → Order → List ℕ → ArrayBase Z E U A X z e k x u → Type 0
   KeepsRanks a order ms b =
       (shape_of b ≡ ms)
       × ((i : List ℕ) → element_at b i ≡ inside ms i (element_at a (regrouped_index order (shape_of a) ms i)))
 
   -- and it is where it was, by strides that serve
-  abbrev pub ShowsServed : ArrayBase S D T A P R L M s d n r t → Order → List ℕ → ArrayBase Z E U A Q X V W z e k x u → Type 0
+  abbrev pub ShowsServed : ArrayBase S D T A R s d n r t → Order → List ℕ → ArrayBase Z E U A X z e k x u → Type 0
   ShowsServed a order ms b =
       ShowsPart a (regrouped_part a order ms (layout_strides b)) b
       × IsServedBy order (shape_of a) (layout_strides a) ms (layout_strides b)
@@ -77,11 +77,11 @@ abbrev pub StaysApartFor : List ℕ → Placement → Placement → Type 0
 StaysApartFor ms old new = 0 < size_of ms → IsSeparated old.lengths old.strides → IsSeparated new.lengths new.strides
 
 -- the strides serve the other lengths over a layout
-module _ {D T P R L M : Type 0} {d : dimension.Ghosts D P R L M} {n : axis_count.Ghosts D} {r : stride_list.Ghosts R} {t : stride_list.Ghosts T} where
-  abbrev pub IsServedOver : Order → Layout D T P R L M d n r t → List ℕ → List ℤ → Type 0
+module _ {D T R : Type 0} {d : dimension.Ghosts D R} {n : axis_count.Ghosts D} {r : stride_list.Ghosts R} {t : stride_list.Ghosts T} where
+  abbrev pub IsServedOver : Order → Layout D T R d n r t → List ℕ → List ℤ → Type 0
   IsServedOver order l ms ts = IsServedBy order (d.lengths l.dim) (t.strides_of l.strides) ms ts
 
 -- the list has the array's elements by their rank in an order
-module _ {S D A T P R L M : Type 0} {s : data_trait.Ghosts S A} {d : dimension.Ghosts D P R L M} {n : axis_count.Ghosts D} {r : stride_list.Ghosts R} {t : stride_list.Ghosts T} where
-  abbrev pub ListsInOrder : Order → ArrayBase S D T A P R L M s d n r t → List A → Type 0
+module _ {S D A T R : Type 0} {s : data_trait.Ghosts S A} {d : dimension.Ghosts D R} {n : axis_count.Ghosts D} {r : stride_list.Ghosts R} {t : stride_list.Ghosts T} where
+  abbrev pub ListsInOrder : Order → ArrayBase S D T A R s d n r t → List A → Type 0
   ListsInOrder order a xs = (rank : ℕ) → rank < size_of (shape_of a) → slice_get xs rank ≡ element_at a (index_in order (shape_of a) rank)

@@ -45,42 +45,42 @@ index_after (n ∷ ns) (Index k ∷ es) (i ∷ is) = index_after ns es is
 index_after [] (NewAxis ∷ es) is = 0 ∷ index_after [] es is
 index_after (n ∷ ns) (NewAxis ∷ es) is = 0 ∷ index_after (n ∷ ns) es is
 
-module _ {S D T A P R L M : Type 0} {s : data_trait.Ghosts S A} {d : dimension.Ghosts D P R L M} {n : axis_count.Ghosts D} {r : stride_list.Ghosts R} {t : stride_list.Ghosts T} where
+module _ {S D T A R : Type 0} {s : data_trait.Ghosts S A} {d : dimension.Ghosts D R} {n : axis_count.Ghosts D} {r : stride_list.Ghosts R} {t : stride_list.Ghosts T} where
   -- what the part that a list of slices names of the first array shows in the second one
-  abbrev pub seen_in_part : ArrayBase S D T A P R L M s d n r t → List SliceInfoElem → ArrayBase S D T A P R L M s d n r t → List ℕ → Option A
+  abbrev pub seen_in_part : ArrayBase S D T A R s d n r t → List SliceInfoElem → ArrayBase S D T A R s d n r t → List ℕ → Option A
   seen_in_part old slices a i = inside (shape_after (shape_of old) slices) i (element_at a (index_before (shape_of old) slices i))
 
   module _ {F : Type 0} (g : Mut F (MutBor A × Unit {0}) (Unit {0} × (MutBor A × Unit {0}))) where
     -- whichever elements of the part were changed, the next call may be made
-    abbrev pub ChangeableInPart : ArrayBase S D T A P R L M s d n r t → List SliceInfoElem → F → Type 0
+    abbrev pub ChangeableInPart : ArrayBase S D T A R s d n r t → List SliceInfoElem → F → Type 0
     ChangeableInPart a slices f = ChangeableInAnyOrder g (shape_after (shape_of a) slices) (seen_in_part a slices a) f
 
     -- one call for each index of the part, in some order, left its new elements
-    abbrev pub ChangesPart : ArrayBase S D T A P R L M s d n r t → ArrayBase S D T A P R L M s d n r t → List SliceInfoElem → F → Type 0
+    abbrev pub ChangesPart : ArrayBase S D T A R s d n r t → ArrayBase S D T A R s d n r t → List SliceInfoElem → F → Type 0
     ChangesPart old new slices f = ChangesAll g (shape_after (shape_of old) slices) (seen_in_part old slices old) (seen_in_part old slices new) f
 
     -- where the closure leaves what h gives of an element, and stays as it is, that stands at each index that the list names
-    abbrev pub ChangesNamed : ArrayBase S D T A P R L M s d n r t → ArrayBase S D T A P R L M s d n r t → List SliceInfoElem → F → Type 0
+    abbrev pub ChangesNamed : ArrayBase S D T A R s d n r t → ArrayBase S D T A R s d n r t → List SliceInfoElem → F → Type 0
     ChangesNamed old new slices f = (h : A → A) → ChangesBy g h f → (i : List ℕ) → IsTrue (in_box (shape_of old) i) → IsTrue (names_index (shape_of old) slices i) → element_at new i ≡ option_map h (element_at old i)
 
 module _
-    {S D T A P R L M : Type 0} {s : data_trait.Ghosts S A} {d : dimension.Ghosts D P R L M} {n : axis_count.Ghosts D} {r : stride_list.Ghosts R} {t : stride_list.Ghosts T}
-    {Z E U Q X V W : Type 0} {z : data_trait.Ghosts Z A} {e : dimension.Ghosts E Q X V W} {k : axis_count.Ghosts E} {x : stride_list.Ghosts X} {u : stride_list.Ghosts U} where
+    {S D T A R : Type 0} {s : data_trait.Ghosts S A} {d : dimension.Ghosts D R} {n : axis_count.Ghosts D} {r : stride_list.Ghosts R} {t : stride_list.Ghosts T}
+    {Z E U X : Type 0} {z : data_trait.Ghosts Z A} {e : dimension.Ghosts E X} {k : axis_count.Ghosts E} {x : stride_list.Ghosts X} {u : stride_list.Ghosts U} where
   -- the patch has the shape of the part that the list names
-  abbrev pub FitsPart : ArrayBase S D T A P R L M s d n r t → List SliceInfoElem → ArrayBase Z E U A Q X V W z e k x u → Type 0
+  abbrev pub FitsPart : ArrayBase S D T A R s d n r t → List SliceInfoElem → ArrayBase Z E U A X z e k x u → Type 0
   FitsPart a slices patch = shape_of patch ≡ shape_after (shape_of a) slices
 
   -- each index of the part has the patch's element. A search doesn't look into this word: beside the next but one it would go
   -- from the array to the patch and back with no end
-  unfoldable pub AssignsPart : ArrayBase S D T A P R L M s d n r t → ArrayBase S D T A P R L M s d n r t → List SliceInfoElem → ArrayBase Z E U A Q X V W z e k x u → Type 0
+  unfoldable pub AssignsPart : ArrayBase S D T A R s d n r t → ArrayBase S D T A R s d n r t → List SliceInfoElem → ArrayBase Z E U A X z e k x u → Type 0
   AssignsPart old new slices patch = (i : List ℕ) → IsTrue (in_box (shape_after (shape_of old) slices) i) → element_at new (index_before (shape_of old) slices i) ≡ element_at patch i
 
   -- or its old element at some
-  abbrev pub AssignsPartly : ArrayBase S D T A P R L M s d n r t → ArrayBase S D T A P R L M s d n r t → List SliceInfoElem → ArrayBase Z E U A Q X V W z e k x u → Type 0
+  abbrev pub AssignsPartly : ArrayBase S D T A R s d n r t → ArrayBase S D T A R s d n r t → List SliceInfoElem → ArrayBase Z E U A X z e k x u → Type 0
   AssignsPartly old new slices patch = (i : List ℕ) → IsTrue (in_box (shape_after (shape_of old) slices) i) → (element_at new (index_before (shape_of old) slices i) ≡ element_at old (index_before (shape_of old) slices i)) ⊎ (element_at new (index_before (shape_of old) slices i) ≡ element_at patch i)
 
   -- each index of the array that the list names has the patch's element at the index that stands for it
-  abbrev pub AssignsNamed : ArrayBase S D T A P R L M s d n r t → ArrayBase S D T A P R L M s d n r t → List SliceInfoElem → ArrayBase Z E U A Q X V W z e k x u → Type 0
+  abbrev pub AssignsNamed : ArrayBase S D T A R s d n r t → ArrayBase S D T A R s d n r t → List SliceInfoElem → ArrayBase Z E U A X z e k x u → Type 0
   AssignsNamed old new slices patch = (i : List ℕ) → IsTrue (in_box (shape_of old) i) → IsTrue (names_index (shape_of old) slices i) → element_at new i ≡ element_at patch (index_after (shape_of old) slices i)
 
 -- ---- of a view as it is lent, and as its elements are given back

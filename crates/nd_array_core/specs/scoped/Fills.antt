@@ -33,19 +33,19 @@ module _ {A D T : Type 0} (lengths : D → List ℕ) (strides : T → List ℤ) 
   abbrev pub IsViewFilledInPart : LentView A D T → RegionRepr (Region A) → A → Type 0
   IsViewFilledInPart l s x = IsOldOrNew (lent_view lengths strides l).shape (element_placed (lent_view lengths strides l)) x (element_placed (view_left lengths strides l s))
 
-module _ {S D A T P R L M : Type 0} {s : data_trait.Ghosts S A} {d : dimension.Ghosts D P R L M} {n : axis_count.Ghosts D} {r : stride_list.Ghosts R} {t : stride_list.Ghosts T} where
+module _ {S D A T R : Type 0} {s : data_trait.Ghosts S A} {d : dimension.Ghosts D R} {n : axis_count.Ghosts D} {r : stride_list.Ghosts R} {t : stride_list.Ghosts T} where
   -- each index that one of the part names has its old element or x
-  abbrev pub IsOldOrFilled : ArrayBase S D T A P R L M s d n r t → ArrayBase S D T A P R L M s d n r t → Part → A → Type 0
+  abbrev pub IsOldOrFilled : ArrayBase S D T A R s d n r t → ArrayBase S D T A R s d n r t → Part → A → Type 0
   IsOldOrFilled old new part x = (i : List ℕ) → IsTrue (in_box part.shape i) → (element_at new (part.source i) ≡ element_at old (part.source i)) ⊎ (element_at new (part.source i) ≡ Some x)
 
   -- each index of the array has x where the list names it, and else the element that it had
-  abbrev pub IsFilledWhere : ArrayBase S D T A P R L M s d n r t → ArrayBase S D T A P R L M s d n r t → List SliceInfoElem → A → Type 0
+  abbrev pub IsFilledWhere : ArrayBase S D T A R s d n r t → ArrayBase S D T A R s d n r t → List SliceInfoElem → A → Type 0
   IsFilledWhere old new slices x = (i : List ℕ) → IsTrue (in_box (shape_of old) i) → element_at new i ≡ (if names_index (shape_of old) slices i then Some x else element_at old i)
 
   -- each index that the list doesn't name has the element that it had
-  abbrev pub KeepsOtherIndexes : ArrayBase S D T A P R L M s d n r t → ArrayBase S D T A P R L M s d n r t → List SliceInfoElem → Type 0
+  abbrev pub KeepsOtherIndexes : ArrayBase S D T A R s d n r t → ArrayBase S D T A R s d n r t → List SliceInfoElem → Type 0
   KeepsOtherIndexes old new slices = (i : List ℕ) → names_index (shape_of old) slices i ≡ false → element_at new i ≡ element_at old i
 
   -- each index of the array that the list names has x
-  abbrev pub FillsNamed : ArrayBase S D T A P R L M s d n r t → ArrayBase S D T A P R L M s d n r t → List SliceInfoElem → A → Type 0
+  abbrev pub FillsNamed : ArrayBase S D T A R s d n r t → ArrayBase S D T A R s d n r t → List SliceInfoElem → A → Type 0
   FillsNamed old new slices x = (i : List ℕ) → IsTrue (in_box (shape_of old) i) → IsTrue (names_index (shape_of old) slices i) → element_at new i ≡ Some x

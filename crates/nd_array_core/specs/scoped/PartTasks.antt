@@ -12,17 +12,17 @@ use Rattle.nd_array_core.specs.Part.{Part, lower_part, upper_part, sliced_part}
 use Rattle.nd_array_core.specs.PlacedArray.{PlacedArray}
 use Rattle.nd_array_core.specs.scoped.Tasks.{IsViewOf, IsViewThrough, OthersKeep, OthersKeepTwo}
 
-module _ {S D A T P R L M : Type 0} {s : data_trait.Ghosts S A} {d : dimension.Ghosts D P R L M} {n : axis_count.Ghosts D} {r : stride_list.Ghosts R} {t : stride_list.Ghosts T} where
+module _ {S D A T R : Type 0} {s : data_trait.Ghosts S A} {d : dimension.Ghosts D R} {n : axis_count.Ghosts D} {r : stride_list.Ghosts R} {t : stride_list.Ghosts T} where
   -- v is a view of the part: its shape, and at each index the place and the element of the index that it names
-  abbrev pub IsViewOfPart : ArrayBase S D T A P R L M s d n r t → Part → PlacedArray A → Type 0
+  abbrev pub IsViewOfPart : ArrayBase S D T A R s d n r t → Part → PlacedArray A → Type 0
   IsViewOfPart a part v = IsViewThrough part.shape part.source (place_at a) (element_at a) v
 
   -- what a task asks holds of a view of the part
-  abbrev pub AsksOfPart : (PlacedArray A → Type 0) → ArrayBase S D T A P R L M s d n r t → Part → Type 0
+  abbrev pub AsksOfPart : (PlacedArray A → Type 0) → ArrayBase S D T A R s d n r t → Part → Type 0
   AsksOfPart asks a part = (v : PlacedArray A) → IsViewOfPart a part v → asks v
 
   -- it is done with a view of the part, and answered; the new array shows there what it left
-  abbrev pub IsDoneOnPart : {Q : Type 0} → (PlacedArray A → PlacedArray A → Q → Type 0) → Q → ArrayBase S D T A P R L M s d n r t → ArrayBase S D T A P R L M s d n r t → Part → Type 0
+  abbrev pub IsDoneOnPart : {Q : Type 0} → (PlacedArray A → PlacedArray A → Q → Type 0) → Q → ArrayBase S D T A R s d n r t → ArrayBase S D T A R s d n r t → Part → Type 0
   IsDoneOnPart done answer old new part =
       (v : PlacedArray A)
       × (w : PlacedArray A)
@@ -31,15 +31,15 @@ module _ {S D A T P R L M : Type 0} {s : data_trait.Ghosts S A} {d : dimension.G
       × done v w answer
 
   -- each index that none of the part names has the element that it had
-  abbrev pub KeepsBut : ArrayBase S D T A P R L M s d n r t → ArrayBase S D T A P R L M s d n r t → Part → Type 0
+  abbrev pub KeepsBut : ArrayBase S D T A R s d n r t → ArrayBase S D T A R s d n r t → Part → Type 0
   KeepsBut old new part = OthersKeep part.shape part.source (element_at old) (element_at new)
 
   -- what a task asks holds of views of both parts
-  abbrev pub AsksOfParts : (PlacedArray A → PlacedArray A → Type 0) → ArrayBase S D T A P R L M s d n r t → Part → Part → Type 0
+  abbrev pub AsksOfParts : (PlacedArray A → PlacedArray A → Type 0) → ArrayBase S D T A R s d n r t → Part → Part → Type 0
   AsksOfParts asks a one two = (v0 v1 : PlacedArray A) → IsViewOfPart a one v0 → IsViewOfPart a two v1 → asks v0 v1
 
   -- it is done with views of both parts, and the new array shows there what it left
-  abbrev pub IsDoneOnParts : (PlacedArray A → PlacedArray A → PlacedArray A → PlacedArray A → Type 0) → ArrayBase S D T A P R L M s d n r t → ArrayBase S D T A P R L M s d n r t → Part → Part → Type 0
+  abbrev pub IsDoneOnParts : (PlacedArray A → PlacedArray A → PlacedArray A → PlacedArray A → Type 0) → ArrayBase S D T A R s d n r t → ArrayBase S D T A R s d n r t → Part → Part → Type 0
   IsDoneOnParts done old new one two =
       (v0 : PlacedArray A)
       × (v1 : PlacedArray A)
@@ -52,15 +52,15 @@ module _ {S D A T P R L M : Type 0} {s : data_trait.Ghosts S A} {d : dimension.G
       × IsViewOfPart new two w1
 
   -- each index that none of either part names has the element that it had
-  abbrev pub KeepsButTwo : ArrayBase S D T A P R L M s d n r t → ArrayBase S D T A P R L M s d n r t → Part → Part → Type 0
+  abbrev pub KeepsButTwo : ArrayBase S D T A R s d n r t → ArrayBase S D T A R s d n r t → Part → Part → Type 0
   KeepsButTwo old new one two = OthersKeepTwo one.shape one.source two.shape two.source (element_at old) (element_at new)
 
   -- what a task asks holds of a view of the array
-  abbrev pub AsksOfWhole : (PlacedArray A → Type 0) → ArrayBase S D T A P R L M s d n r t → Type 0
+  abbrev pub AsksOfWhole : (PlacedArray A → Type 0) → ArrayBase S D T A R s d n r t → Type 0
   AsksOfWhole asks a = (v : PlacedArray A) → IsViewOf (shape_of a) (place_at a) (element_at a) v → asks v
 
   -- it is done with a view of the array, and answered; the new array shows what it left
-  abbrev pub IsDoneOnWhole : {Q : Type 0} → (PlacedArray A → PlacedArray A → Q → Type 0) → Q → ArrayBase S D T A P R L M s d n r t → ArrayBase S D T A P R L M s d n r t → Type 0
+  abbrev pub IsDoneOnWhole : {Q : Type 0} → (PlacedArray A → PlacedArray A → Q → Type 0) → Q → ArrayBase S D T A R s d n r t → ArrayBase S D T A R s d n r t → Type 0
   IsDoneOnWhole done answer old new =
       (v : PlacedArray A)
       × (w : PlacedArray A)
@@ -69,23 +69,23 @@ module _ {S D A T P R L M : Type 0} {s : data_trait.Ghosts S A} {d : dimension.G
       × done v w answer
 
   -- the same of views of the two parts that an axis has below a coordinate, and from it on
-  abbrev pub AsksOfHalves : (PlacedArray A → PlacedArray A → Type 0) → ArrayBase S D T A P R L M s d n r t → ℕ → ℕ → Type 0
+  abbrev pub AsksOfHalves : (PlacedArray A → PlacedArray A → Type 0) → ArrayBase S D T A R s d n r t → ℕ → ℕ → Type 0
   AsksOfHalves asks a axis k = AsksOfParts asks a (lower_part a axis k) (upper_part a axis k)
 
-  abbrev pub IsDoneOnHalves : {Q : Type 0} → (PlacedArray A → PlacedArray A → PlacedArray A → PlacedArray A → Q → Type 0) → Q → ArrayBase S D T A P R L M s d n r t → ArrayBase S D T A P R L M s d n r t → ℕ → ℕ → Type 0
+  abbrev pub IsDoneOnHalves : {Q : Type 0} → (PlacedArray A → PlacedArray A → PlacedArray A → PlacedArray A → Q → Type 0) → Q → ArrayBase S D T A R s d n r t → ArrayBase S D T A R s d n r t → ℕ → ℕ → Type 0
   IsDoneOnHalves done answer old new axis k = IsDoneOnParts (λ v0 v1 w0 w1. done v0 v1 w0 w1 answer) old new (lower_part old axis k) (upper_part old axis k)
 
   -- the same of views of what two lists of slices name
-  abbrev pub AsksOfSlices : (PlacedArray A → PlacedArray A → Type 0) → ArrayBase S D T A P R L M s d n r t → List SliceInfoElem → List SliceInfoElem → Type 0
+  abbrev pub AsksOfSlices : (PlacedArray A → PlacedArray A → Type 0) → ArrayBase S D T A R s d n r t → List SliceInfoElem → List SliceInfoElem → Type 0
   AsksOfSlices asks a one two = AsksOfParts asks a (sliced_part a one) (sliced_part a two)
 
-  abbrev pub IsDoneOnSlices : {Q : Type 0} → (PlacedArray A → PlacedArray A → PlacedArray A → PlacedArray A → Q → Type 0) → Q → ArrayBase S D T A P R L M s d n r t → ArrayBase S D T A P R L M s d n r t → List SliceInfoElem → List SliceInfoElem → Type 0
+  abbrev pub IsDoneOnSlices : {Q : Type 0} → (PlacedArray A → PlacedArray A → PlacedArray A → PlacedArray A → Q → Type 0) → Q → ArrayBase S D T A R s d n r t → ArrayBase S D T A R s d n r t → List SliceInfoElem → List SliceInfoElem → Type 0
   IsDoneOnSlices done answer old new one two = IsDoneOnParts (λ v0 v1 w0 w1. done v0 v1 w0 w1 answer) old new (sliced_part old one) (sliced_part old two)
 
   -- each index that neither list names has the element that it had
-  abbrev pub KeepsButSlices : ArrayBase S D T A P R L M s d n r t → ArrayBase S D T A P R L M s d n r t → List SliceInfoElem → List SliceInfoElem → Type 0
+  abbrev pub KeepsButSlices : ArrayBase S D T A R s d n r t → ArrayBase S D T A R s d n r t → List SliceInfoElem → List SliceInfoElem → Type 0
   KeepsButSlices old new one two = KeepsButTwo old new (sliced_part old one) (sliced_part old two)
 
   -- each index that one of the part names has the element x
-  abbrev pub IsFilledWith : ArrayBase S D T A P R L M s d n r t → Part → A → Type 0
+  abbrev pub IsFilledWith : ArrayBase S D T A R s d n r t → Part → A → Type 0
   IsFilledWith a part x = (i : List ℕ) → IsTrue (in_box part.shape i) → element_at a (part.source i) ≡ Some x

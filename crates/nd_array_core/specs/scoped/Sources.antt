@@ -23,7 +23,7 @@ use Rattle.nd_layout.specs.Placements.{Placement}
 abbrev pub GivenShape : Type 0
 GivenShape = List ℕ × Order × Option (List ℤ)
 
-abbrev pub meant_by : {S D P R L M : Type 0} → given_shape.Ghosts S D P R L M → S → GivenShape
+abbrev pub meant_by : {S D R : Type 0} → given_shape.Ghosts S D R → S → GivenShape
 meant_by g shape = (g.lengths_meant shape, g.order_meant shape, g.strides_meant shape)
 
 -- why a slice of so many elements can't be seen so, to be written
@@ -82,7 +82,7 @@ module _ {A R : Type 0} where
   IsDoneByLayout done old new layout answer =
       IsDoneOnPlacement (λ v w. done v w answer) (slice_get old) (slice_get new) layout
 
-module _ {S D T A P R L M : Type 0} {s : data_trait.Ghosts S A} {d : dimension.Ghosts D P R L M} {n : axis_count.Ghosts D} {r : stride_list.Ghosts R} {t : stride_list.Ghosts T} where
+module _ {S D T A R : Type 0} {s : data_trait.Ghosts S A} {d : dimension.Ghosts D R} {n : axis_count.Ghosts D} {r : stride_list.Ghosts R} {t : stride_list.Ghosts T} where
   -- the array shows at each index the element that the list has at its place
-  abbrev pub ShowsUnder : GivenShape → List A → ArrayBase S D T A P R L M s d n r t → Type 0
+  abbrev pub ShowsUnder : GivenShape → List A → ArrayBase S D T A R s d n r t → Type 0
   ShowsUnder given xs a = (i : List ℕ) → element_at a i ≡ element_in_slice xs given i

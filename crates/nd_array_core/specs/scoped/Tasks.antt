@@ -147,28 +147,28 @@ abbrev pub IsWithin : Placement → Placement → Type 0
 IsWithin part whole = (p : ℕ) → IsTrue (names part.offset part.lengths part.strides p) → IsTrue (names whole.offset whole.lengths whole.strides p)
 
 -- ---- by a layout: a task on what a region shows under it, or on what two regions show, gave the regions back, and answered
-module _ {A D T P R L M : Type 0} {d : dimension.Ghosts D P R L M} {n : axis_count.Ghosts D} {r : stride_list.Ghosts R} {t : stride_list.Ghosts T} where
-  abbrev pub shown_under : Region A → Layout D T P R L M d n r t → PlacedArray A
+module _ {A D T R : Type 0} {d : dimension.Ghosts D R} {n : axis_count.Ghosts D} {r : stride_list.Ghosts R} {t : stride_list.Ghosts T} where
+  abbrev pub shown_under : Region A → Layout D T R d n r t → PlacedArray A
   shown_under region l = array_placed_by (region_stored region) (placement_of l)
 
-  abbrev pub IsDoneUnder : {B : Type 0} → (PlacedArray A → PlacedArray A → B → Type 0) → Layout D T P R L M d n r t → Region A → Region A × B → Type 0
+  abbrev pub IsDoneUnder : {B : Type 0} → (PlacedArray A → PlacedArray A → B → Type 0) → Layout D T R d n r t → Region A → Region A × B → Type 0
   IsDoneUnder done l old out = done (shown_under old l) (shown_under out.0 l) out.1
 
   -- the same in a part of a storage
-  abbrev pub IsDoneInPart : {S B : Type 0} → (PlacedArray A → PlacedArray A → B → Type 0) → (S → ℕ → Option A) → S → S → Layout D T P R L M d n r t → B → Type 0
+  abbrev pub IsDoneInPart : {S B : Type 0} → (PlacedArray A → PlacedArray A → B → Type 0) → (S → ℕ → Option A) → S → S → Layout D T R d n r t → B → Type 0
   IsDoneInPart done stored old new l answer = IsDoneOnPlacement (λ v w. done v w answer) (stored old) (stored new) (placement_of l)
 
-  module _ {E U Q X V W : Type 0} {e : dimension.Ghosts E Q X V W} {k : axis_count.Ghosts E} {x : stride_list.Ghosts X} {u : stride_list.Ghosts U} where
-    abbrev pub IsDoneUnderBoth : {B : Type 0} → (PlacedArray A → PlacedArray A → PlacedArray A → PlacedArray A → B → Type 0) → Layout D T P R L M d n r t → Layout E U Q X V W e k x u → Region A → Region A → Region A × Region A × B → Type 0
+  module _ {E U X : Type 0} {e : dimension.Ghosts E X} {k : axis_count.Ghosts E} {x : stride_list.Ghosts X} {u : stride_list.Ghosts U} where
+    abbrev pub IsDoneUnderBoth : {B : Type 0} → (PlacedArray A → PlacedArray A → PlacedArray A → PlacedArray A → B → Type 0) → Layout D T R d n r t → Layout E U X e k x u → Region A → Region A → Region A × Region A × B → Type 0
     IsDoneUnderBoth done one two part rest out = done (shown_under part one) (array_placed_by (region_stored rest) (placement_of two)) (shown_under out.0 one) (array_placed_by (region_stored out.1) (placement_of two)) out.2
 
     -- on two views of one region, or of one storage
-    abbrev pub IsDoneOnTwo : {B : Type 0} → (PlacedArray A → PlacedArray A → PlacedArray A → PlacedArray A → B → Type 0) → Layout D T P R L M d n r t → Layout E U Q X V W e k x u → Region A → Region A × B → Type 0
+    abbrev pub IsDoneOnTwo : {B : Type 0} → (PlacedArray A → PlacedArray A → PlacedArray A → PlacedArray A → B → Type 0) → Layout D T R d n r t → Layout E U X e k x u → Region A → Region A × B → Type 0
     IsDoneOnTwo done one two old out = IsDoneOnPair (λ v0 v1 w0 w1. done v0 v1 w0 w1 out.1) (region_stored old) (region_stored out.0) (placement_of one) (placement_of two)
 
-    abbrev pub IsDoneInParts : {S B : Type 0} → (PlacedArray A → PlacedArray A → PlacedArray A → PlacedArray A → B → Type 0) → (S → ℕ → Option A) → S → S → Layout D T P R L M d n r t → Layout E U Q X V W e k x u → B → Type 0
+    abbrev pub IsDoneInParts : {S B : Type 0} → (PlacedArray A → PlacedArray A → PlacedArray A → PlacedArray A → B → Type 0) → (S → ℕ → Option A) → S → S → Layout D T R d n r t → Layout E U X e k x u → B → Type 0
     IsDoneInParts done stored old new one two answer = IsDoneOnPair (λ v0 v1 w0 w1. done v0 v1 w0 w1 answer) (stored old) (stored new) (placement_of one) (placement_of two)
 
     -- no other place changes
-    abbrev pub KeepsBesideTwo : Region A → Region A → Layout D T P R L M d n r t → Layout E U Q X V W e k x u → Type 0
+    abbrev pub KeepsBesideTwo : Region A → Region A → Layout D T R d n r t → Layout E U X e k x u → Type 0
     KeepsBesideTwo old new one two = KeepsUnnamedByTwo (region_stored old) (region_stored new) (placement_of one) (placement_of two)

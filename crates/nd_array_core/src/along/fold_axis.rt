@@ -18,10 +18,7 @@ use nd_elements::storage::Data;
 use nd_shape_and_slice::{Axis, Dimension, NoMemory, Order, RemoveAxis, StrideList};
 use std::alloc::Global;
 
-impl<S: Data, D: RemoveAxis> ArrayBase<S, D>
-where
-    D::Smaller: Dimension,
-{
+impl<S: Data, D: RemoveAxis> ArrayBase<S, D> {
     /// An array of its own without an axis that has at each index what the lane there is folded to: from a clone of `init`
     /// on, the function is shown the total so far and each element, from coordinate 0 upwards; between lanes the order is
     /// free, and calls of several lanes may alternate. Where the axis has length 0 each is a clone of `init`. The axis is below `ndim`, a clone equals its original,

@@ -27,8 +27,6 @@ fn map_lanes<S: Data, D: RemoveAxis, B, F: FnMut(LaneView<'_, S::Elem>) -> B>(
     outer: &Layout<D::Smaller, <D::Smaller as Dimension>::Strides>,
     mut f: F,
 ) -> Vec<B>
-where
-    D::Smaller: Dimension,
     requires axis { axis.0 < length (shape_of array.now) }
     requires lengths { D.Smaller.lengths outer.now.dim ≡ indexed_shape (shape_of array.now) axis.0 }
     requires step { IsFirstOfLanes axis.0 (placement_of array.now.layout) (placement_of outer.now) }
@@ -50,10 +48,7 @@ where
     items
 }
 
-impl<S: Data, D: RemoveAxis> ArrayBase<S, D>
-where
-    D::Smaller: Dimension,
-{
+impl<S: Data, D: RemoveAxis> ArrayBase<S, D> {
     /// An array of its own without an axis that has at each index what the function returns for the lane there, which it is
     /// shown as a view with one axis; one call for each index, in an order that is free. Where the axis has length 0 each
     /// lane is empty. The axis is below `ndim`, and the function may be called with whatever such calls lead to. The layout

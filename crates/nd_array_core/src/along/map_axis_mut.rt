@@ -17,10 +17,7 @@ use nd_elements::storage::DataMut;
 use nd_shape_and_slice::{Axis, Dimension, NoMemory, Order, RemoveAxis, StrideList};
 use std::alloc::Global;
 
-impl<S: DataMut, D: RemoveAxis> ArrayBase<S, D>
-where
-    D::Smaller: Dimension,
-{
+impl<S: DataMut, D: RemoveAxis> ArrayBase<S, D> {
     ghost use Rattle.nd_array_core.specs.Meaning.{meaning_of, shape_of, element_at};
     ghost use Rattle.nd_array_core.specs.base.Writes.{KeepsFrame};
 

@@ -8,9 +8,9 @@ ghost use Rattle.nd_array_core.specs.Coordinates.{AllShort};
 
 use crate::base::array::ArrayBase;
 use nd_elements::storage::Data;
-use nd_shape_and_slice::{Axis, Dimension, Ix2, is_empty_shape};
+use nd_shape_and_slice::{Axis, Dimension, IntoPattern, Ix2, is_empty_shape};
 
-impl<S: Data, D: Dimension> ArrayBase<S, D> {
+impl<S: Data, D: IntoPattern> ArrayBase<S, D> {
     /// The lengths: a number, a tuple of them, or the dimension itself. ndarray's `dim`.
     pub fn dim(&self) -> D::Pattern
         ensures lengths { D.pattern_lengths result ≡ shape_of self.now }
@@ -18,7 +18,9 @@ impl<S: Data, D: Dimension> ArrayBase<S, D> {
     {
         self.layout.dim.into_pattern()
     }
+}
 
+impl<S: Data, D: Dimension> ArrayBase<S, D> {
     /// Whether the array has no elements. ndarray's `is_empty`.
     pub fn is_empty(&self) -> bool
         ensures { IsTrue result ↔ (size_of (shape_of self.now) ≡ 0) }

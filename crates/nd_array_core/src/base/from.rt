@@ -58,7 +58,7 @@ impl<'a, S: DataMut, D: Dimension> From<&'a mut ArrayBase<S, D>> for ArrayViewMu
     ghost from_gives = { λ array view. ShowsWhole array.now view };
 
     fn from(array: &'a mut ArrayBase<S, D>) -> Self
-        ensures* writes_back { sem 𝓛 (array_follows_part S.row S.Elem.row D.row D.Pattern.row D.Strides.row D.Smaller.row D.Larger.row S.Data D.Dimension D.AxisCount D.Strides.StrideList array.entry (tie_of result) (lent_places result)) }
+        ensures* writes_back { sem 𝓛 (array_follows_part S.row S.Elem.row D.row D.Strides.row S.Data D.Dimension D.AxisCount D.Strides.StrideList array.entry (tie_of result) (lent_places result)) }
         ensures gives { ShowsWhole array.old result }
         ensures refilled { LeavesRefilled S.frame array.old (left_by array.old result) }
         ensures others { LeavesPlacesBut (place_at result) array.old (left_by array.old result) }

@@ -11,11 +11,11 @@ ghost use Rattle.nd_array_core.specs.base.Makers.{OwnsAnswersAlike, ShowsAnswers
 use crate::base::array::Array;
 use crate::base::from_elem::of_items;
 use nd_elements::base::from_shape_fn::{answers_by_index, answers_for_each, room_for};
-use nd_shape_and_slice::{Dimension, NoMemory, Order, ShapeBuilder, StrideList};
+use nd_shape_and_slice::{Dimension, IntoPattern, NoMemory, Order, ShapeBuilder, StrideList};
 use std::alloc::Global;
 
 /// The array of what the function returns for each index.
-fn of_answers<A, D: Dimension, F: FnMut(D::Pattern) -> A>(
+fn of_answers<A, D: IntoPattern, F: FnMut(D::Pattern) -> A>(
     room: Vec<A>,
     dim: D,
     order: Order,
@@ -52,7 +52,7 @@ fn of_equal_answers<A, D: Dimension, F: FnMut() -> A>(
     of_items(items, dim, order)
 }
 
-impl<A, D: Dimension> Array<A, D> {
+impl<A, D: IntoPattern> Array<A, D> {
     /// An array of a shape with what the function returns for each index, in row-major order, after `.f()` in
     /// column-major order. The function is called once for each index, in an order that is free. The shape has a checked
     /// size. NoMemory if the storage is refused: then the function wasn't called. ndarray's `from_shape_fn`.
@@ -73,7 +73,9 @@ impl<A, D: Dimension> Array<A, D> {
         let room = room_for(alloc, shape.size())?;
         Ok(of_answers(room, *shape.raw_dim(), shape.order(), f))
     }
+}
 
+impl<A, D: Dimension> Array<A, D> {
     /// An array of a shape with what the function returns, called once for each index, in row-major order, after `.f()`
     /// in column-major order; which call is for which index is free. The shape has a checked size. NoMemory if the
     /// storage is refused: then the function wasn't called. ndarray's `from_shape_simple_fn`.

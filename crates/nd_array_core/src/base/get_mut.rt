@@ -66,7 +66,7 @@ impl<S: DataMut, D: Dimension> ArrayBase<S, D> {
     /// `uget_mut`.
     pub fn uget_mut<I: NdIndex<D>>(&mut self, index: I) -> &mut S::Elem
         requires { IsTrue (in_box (shape_of self.old) (I.coordinates_of index)) }
-        ensures* writes_back { sem 𝓛 (lends_element S.row S.Elem.row D.row D.Pattern.row D.Strides.row D.Smaller.row D.Larger.row S.Data D.Dimension D.AxisCount D.Strides.StrideList self.entry (I.coordinates_of index) result) }
+        ensures* writes_back { sem 𝓛 (lends_element S.row S.Elem.row D.row D.Strides.row S.Data D.Dimension D.AxisCount D.Strides.StrideList self.entry (I.coordinates_of index) result) }
         ensures value { element_at self.old (I.coordinates_of index) ≡ Some result.now }
         ensures written { IsAnyWrittenAt S.frame self.old (I.coordinates_of index) (array_with_element S.with_element self.old (I.coordinates_of index)) }
     {
@@ -178,7 +178,7 @@ impl<S: DataMut, D: Dimension, I: NdIndex<D>> IndexMut<I> for ArrayBase<S, D> {
 
     fn index_mut(&mut self, index: I) -> &mut S::Elem
         requires { IsTrue (in_box (shape_of self.old) (I.coordinates_of index)) }
-        ensures* writes_back { sem 𝓛 (lends_element S.row S.Elem.row D.row D.Pattern.row D.Strides.row D.Smaller.row D.Larger.row S.Data D.Dimension D.AxisCount D.Strides.StrideList self.entry (I.coordinates_of index) result) }
+        ensures* writes_back { sem 𝓛 (lends_element S.row S.Elem.row D.row D.Strides.row S.Data D.Dimension D.AxisCount D.Strides.StrideList self.entry (I.coordinates_of index) result) }
         ensures value { element_at self.old (I.coordinates_of index) ≡ Some result.now }
         ensures written { IsAnyWrittenAt S.frame self.old (I.coordinates_of index) (array_with_element S.with_element self.old (I.coordinates_of index)) }
     {

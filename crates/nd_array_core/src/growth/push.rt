@@ -18,8 +18,6 @@ fn with_axis<'a, A, D: RemoveAxis>(
     array: ArrayView<'a, A, D::Smaller>,
     axis: Axis,
 ) -> ArrayView<'a, A, D>
-where
-    D::Smaller: Dimension,
     requires place { axis.0 ≤ length (shape_of array) }
     requires few { length (shape_of array) < MAX_AXES }
     requires room { IsTrue (D.has_axes (length (shape_of array) + 1)) }
@@ -35,10 +33,7 @@ where
     }
 }
 
-impl<A: Clone + Drop, D: RemoveAxis> Array<A, D>
-where
-    D::Smaller: Dimension,
-{
+impl<A: Clone + Drop, D: RemoveAxis> Array<A, D> {
     /// Appends clones of an array's elements as one more length of an axis, which is below `ndim` where there are axes:
     /// `append`, once an axis of length 1 was put in, so that each length of the array is this one's, or 1. IncompatibleShape
     /// also where the array hasn't one axis fewer; the other causes are those of `append`, and a refusal leaves what `append`

@@ -15,8 +15,8 @@ ghost use Rattle.nd_array_core.specs.Part.{permuted_part, inverted_part, collaps
 use crate::base::array::{ArrayBase, ArrayView, ArrayViewMut};
 use nd_elements::storage::{Data, DataMut};
 use nd_shape_and_slice::{
-    Axes, Axis, AxisCount, Dimension, ErrorKind, IntoDimension, Ix1, IxDyn, MAX_AXES, RemoveAxis,
-    ShapeError, StrideList,
+    Axes, Axis, AxisCount, Dimension, ErrorKind, InsertAxis, IntoDimension, Ix1, IxDyn, MAX_AXES,
+    RemoveAxis, ShapeError, StrideList,
 };
 
 impl<S: Data, D: Dimension> ArrayBase<S, D> {
@@ -149,7 +149,7 @@ impl<S: DataMut, D: Dimension> ArrayBase<S, D> {
     /// Once the view is over, a caller knows of the array what it knows after `view_mut`, and that each index that the
     /// view doesn't name shows what it showed (`kept`).
     pub fn diag_mut(&mut self) -> ArrayViewMut<'_, S::Elem, Ix1>
-        ensures* writes_back { sem 𝓛 (array_follows_part S.row S.Elem.row D.row D.Pattern.row D.Strides.row D.Smaller.row D.Larger.row S.Data D.Dimension D.AxisCount D.Strides.StrideList self.entry (tie_of result) (lent_places result)) }
+        ensures* writes_back { sem 𝓛 (array_follows_part S.row S.Elem.row D.row D.Strides.row S.Data D.Dimension D.AxisCount D.Strides.StrideList self.entry (tie_of result) (lent_places result)) }
         ensures part { ShowsPart self.old (diagonal_part self.old) result }
         ensures refilled { LeavesRefilled S.frame self.old (left_by self.old result) }
         ensures others { LeavesPlacesBut (place_at result) self.old (left_by self.old result) }
@@ -160,10 +160,7 @@ impl<S: DataMut, D: Dimension> ArrayBase<S, D> {
     }
 }
 
-impl<S: Data, D: RemoveAxis> ArrayBase<S, D>
-where
-    D::Smaller: Dimension,
-{
+impl<S: Data, D: RemoveAxis> ArrayBase<S, D> {
     /// The array at one coordinate of an axis, without the axis. The axis is below `ndim`, and the coordinate below
     /// its length. ndarray's `index_axis_move`.
     pub fn index_axis_move(self, axis: Axis, index: usize) -> ArrayBase<S, D::Smaller>
@@ -199,10 +196,7 @@ where
     }
 }
 
-impl<S: DataMut, D: RemoveAxis> ArrayBase<S, D>
-where
-    D::Smaller: Dimension,
-{
+impl<S: DataMut, D: RemoveAxis> ArrayBase<S, D> {
     ghost use Rattle.nd_array_core.specs.layout.ViewLent.{array_follows_part, left_by, lent_places, tie_of, LeavesBut, LeavesPlacesBut, LeavesRefilled};
     ghost use Rattle.nd_array_core.specs.scoped.PartTasks.{KeepsBut};
 
@@ -217,7 +211,7 @@ where
     ) -> ArrayViewMut<'_, S::Elem, D::Smaller>
         requires axis { axis.0 < length (shape_of self.old) }
         requires within { index < slice_index (shape_of self.old) axis.0 }
-        ensures* writes_back { sem 𝓛 (array_follows_part S.row S.Elem.row D.row D.Pattern.row D.Strides.row D.Smaller.row D.Larger.row S.Data D.Dimension D.AxisCount D.Strides.StrideList self.entry (tie_of result) (lent_places result)) }
+        ensures* writes_back { sem 𝓛 (array_follows_part S.row S.Elem.row D.row D.Strides.row S.Data D.Dimension D.AxisCount D.Strides.StrideList self.entry (tie_of result) (lent_places result)) }
         ensures part { ShowsPart self.old (coordinate_part self.old axis.0 index) result }
         ensures refilled { LeavesRefilled S.frame self.old (left_by self.old result) }
         ensures others { LeavesPlacesBut (place_at result) self.old (left_by self.old result) }
@@ -228,10 +222,7 @@ where
     }
 }
 
-impl<S: Data, D: Dimension> ArrayBase<S, D>
-where
-    D::Larger: Dimension,
-{
+impl<S: Data, D: InsertAxis> ArrayBase<S, D> {
     /// The array with an axis of length 1 put in. The axis is at most `ndim`; an `IxDyn` array has fewer than 32
     /// axes. ndarray's `insert_axis`.
     pub fn insert_axis(self, axis: Axis) -> ArrayBase<S, D::Larger>

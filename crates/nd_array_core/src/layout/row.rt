@@ -1,7 +1,7 @@
 //! Rows and columns of arrays with two axes.
 #![tactic(auto, unfolding(crate::specs::Meaning::meaning_of, crate::specs::Meaning::memory_layout_of))]
 
-ghost use Rattle.std.specs.Prelude.{◌≡◌, ◌<◌, [], ◌∷◌, ℕ, slice_index, List};
+ghost use Rattle.std.specs.Prelude.{◌≡◌, ◌<◌, ℕ, slice_index, List};
 ghost use Rattle.std.specs.Borrow.{sem};
 ghost use Rattle.nd_array_core.specs.Meaning.{shape_of, place_at};
 ghost use Rattle.nd_array_core.specs.Part.{coordinate_part, ShowsPart};
@@ -37,15 +37,14 @@ impl<S: DataMut> ArrayBase<S, Ix2> {
     ghost use Rattle.nd_shape_and_slice.specs.contracts.fixed.Dim.{the_row as dim_row};
     ghost use Rattle.std.specs.Borrow.{Array as Counted};
     ghost use denote.Param.{number};
-    ghost use denote.Struct.Tuple.{Tuple};
-    ghost use denote.Builtin.{usize, isize};
+    ghost use denote.Builtin.{isize};
 
     /// The view of a row below the length of axis 0 (`len_of`), to be read and written. ndarray's `row_mut`. Once the
     /// view is over, a caller knows of the array what it knows after `view_mut`, and that the other rows show what they
     /// showed (`kept`).
     pub fn row_mut(&mut self, index: usize) -> ArrayViewMut<'_, S::Elem, Ix1>
         requires { index < slice_index (shape_of self.old) 0 }
-        ensures* writes_back { sem 𝓛 (array_follows_part S.row S.Elem.row (dim_row (number 2)) (Tuple (usize ∷ usize ∷ [])) (Counted isize 2) (dim_row (number 1)) (dim_row (number 3)) S.Data ⟦<Ix2 as Dimension>⟧ ⟦<Ix2 as AxisCount>⟧ ⟦<[isize; 2] as StrideList>⟧ self.entry (tie_of result) (lent_places result)) }
+        ensures* writes_back { sem 𝓛 (array_follows_part S.row S.Elem.row (dim_row (number 2)) (Counted isize 2) S.Data ⟦<Ix2 as Dimension>⟧ ⟦<Ix2 as AxisCount>⟧ ⟦<[isize; 2] as StrideList>⟧ self.entry (tie_of result) (lent_places result)) }
         ensures part { ShowsPart self.old (coordinate_part self.old 0 index) result }
         ensures refilled { LeavesRefilled S.frame self.old (left_by self.old result) }
         ensures others { LeavesPlacesBut (place_at result) self.old (left_by self.old result) }
@@ -59,7 +58,7 @@ impl<S: DataMut> ArrayBase<S, Ix2> {
     /// showed (`kept`).
     pub fn column_mut(&mut self, index: usize) -> ArrayViewMut<'_, S::Elem, Ix1>
         requires { index < slice_index (shape_of self.old) 1 }
-        ensures* writes_back { sem 𝓛 (array_follows_part S.row S.Elem.row (dim_row (number 2)) (Tuple (usize ∷ usize ∷ [])) (Counted isize 2) (dim_row (number 1)) (dim_row (number 3)) S.Data ⟦<Ix2 as Dimension>⟧ ⟦<Ix2 as AxisCount>⟧ ⟦<[isize; 2] as StrideList>⟧ self.entry (tie_of result) (lent_places result)) }
+        ensures* writes_back { sem 𝓛 (array_follows_part S.row S.Elem.row (dim_row (number 2)) (Counted isize 2) S.Data ⟦<Ix2 as Dimension>⟧ ⟦<Ix2 as AxisCount>⟧ ⟦<[isize; 2] as StrideList>⟧ self.entry (tie_of result) (lent_places result)) }
         ensures part { ShowsPart self.old (coordinate_part self.old 1 index) result }
         ensures refilled { LeavesRefilled S.frame self.old (left_by self.old result) }
         ensures others { LeavesPlacesBut (place_at result) self.old (left_by self.old result) }

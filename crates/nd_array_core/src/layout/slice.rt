@@ -144,7 +144,7 @@ impl<S: DataMut, D: Dimension> ArrayBase<S, D> {
     /// view doesn't name shows what it showed (`kept`).
     pub fn slice_mut<I: SliceArg<D>>(&mut self, info: I) -> ArrayViewMut<'_, S::Elem, I::OutDim>
         requires { IsTrue (fits_shape (shape_of self.old) (I.elements_of info)) }
-        ensures* writes_back { sem 𝓛 (array_follows_part S.row S.Elem.row D.row D.Pattern.row D.Strides.row D.Smaller.row D.Larger.row S.Data D.Dimension D.AxisCount D.Strides.StrideList self.entry (tie_of result) (lent_places result)) }
+        ensures* writes_back { sem 𝓛 (array_follows_part S.row S.Elem.row D.row D.Strides.row S.Data D.Dimension D.AxisCount D.Strides.StrideList self.entry (tie_of result) (lent_places result)) }
         ensures part { ShowsPart self.old (sliced_part self.old (I.elements_of info)) result }
         ensures refilled { LeavesRefilled S.frame self.old (left_by self.old result) }
         ensures others { LeavesPlacesBut (place_at result) self.old (left_by self.old result) }
@@ -161,7 +161,7 @@ impl<S: DataMut, D: Dimension> ArrayBase<S, D> {
     pub fn slice_axis_mut(&mut self, axis: Axis, slice: Slice) -> ArrayViewMut<'_, S::Elem, D>
         requires axis { axis.0 < length (shape_of self.old) }
         requires fits { IsTrue (fits_axis (slice_index (shape_of self.old) axis.0) slice) }
-        ensures* writes_back { sem 𝓛 (array_follows_part S.row S.Elem.row D.row D.Pattern.row D.Strides.row D.Smaller.row D.Larger.row S.Data D.Dimension D.AxisCount D.Strides.StrideList self.entry (tie_of result) (lent_places result)) }
+        ensures* writes_back { sem 𝓛 (array_follows_part S.row S.Elem.row D.row D.Strides.row S.Data D.Dimension D.AxisCount D.Strides.StrideList self.entry (tie_of result) (lent_places result)) }
         ensures part { ShowsPart self.old (axis_part self.old axis.0 slice) result }
         ensures refilled { LeavesRefilled S.frame self.old (left_by self.old result) }
         ensures others { LeavesPlacesBut (place_at result) self.old (left_by self.old result) }
@@ -181,7 +181,7 @@ impl<S: DataMut, D: Dimension> ArrayBase<S, D> {
         f: F,
     ) -> ArrayViewMut<'_, S::Elem, D>
         requires { AnswersFit F.pre F.step f (axes_of self.old) }
-        ensures* writes_back { sem 𝓛 (array_follows_part S.row S.Elem.row D.row D.Pattern.row D.Strides.row D.Smaller.row D.Larger.row S.Data D.Dimension D.AxisCount D.Strides.StrideList self.entry (tie_of result) (lent_places result)) }
+        ensures* writes_back { sem 𝓛 (array_follows_part S.row S.Elem.row D.row D.Strides.row S.Data D.Dimension D.AxisCount D.Strides.StrideList self.entry (tie_of result) (lent_places result)) }
         ensures refilled { LeavesRefilled S.frame self.old (left_by self.old result) }
         ensures others { LeavesPlacesBut (place_at result) self.old (left_by self.old result) }
         ensures sliced { AnswersGive F.step f (axes_of self.old) (LendsEachSliced self.old (left_by self.old result) result) }

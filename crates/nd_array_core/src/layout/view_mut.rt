@@ -31,7 +31,7 @@ impl<S: DataMut, D: Dimension> ArrayBase<S, D> {
     ) -> ViewMutRepr<'_, S::Elem>
         requires as_many { length lengths.now ≡ length strides.now }
         requires holds { HoldsAll (S.stored self.old.storage) offset lengths.now strides.now }
-        ensures* writes_back { sem 𝓛 (array_follows_part S.row S.Elem.row D.row D.Pattern.row D.Strides.row D.Smaller.row D.Larger.row S.Data D.Dimension D.AxisCount D.Strides.StrideList self.entry result.tie.value (names offset lengths.now strides.now)) }
+        ensures* writes_back { sem 𝓛 (array_follows_part S.row S.Elem.row D.row D.Strides.row S.Data D.Dimension D.AxisCount D.Strides.StrideList self.entry result.tie.value (names offset lengths.now strides.now)) }
         ensures elements { HasNamed (as_placement offset lengths.now strides.now) (S.stored self.old.storage) (held_by result) }
     {
         ViewMutRepr::of_region(self.storage.lend().into_part(offset, lengths, strides))
@@ -44,7 +44,7 @@ impl<S: DataMut, D: Dimension> ArrayBase<S, D> {
     ) -> ArrayViewMut<'_, S::Elem, E>
         requires holds { HoldsBy (S.stored self.old.storage) (placement_of layout) }
         requires separated { KeepsApart (placement_of layout) }
-        ensures* writes_back { sem 𝓛 (array_follows_part S.row S.Elem.row D.row D.Pattern.row D.Strides.row D.Smaller.row D.Larger.row S.Data D.Dimension D.AxisCount D.Strides.StrideList self.entry (tie_of result) (lent_places result)) }
+        ensures* writes_back { sem 𝓛 (array_follows_part S.row S.Elem.row D.row D.Strides.row S.Data D.Dimension D.AxisCount D.Strides.StrideList self.entry (tie_of result) (lent_places result)) }
         ensures seen { ViewsBy (S.stored self.old.storage) (placement_of layout) result }
         ensures offset { layout_offset result ≡ layout.offset }
         ensures refilled { LeavesRefilled S.frame self.old (left_by self.old result) }
@@ -63,7 +63,7 @@ impl<S: DataMut, D: Dimension> ArrayBase<S, D> {
     /// the view's holds what it held (`others`). It doesn't know which elements were written: for that, lend the view
     /// for a call (`with_view_mut`).
     pub fn view_mut(&mut self) -> ArrayViewMut<'_, S::Elem, D>
-        ensures* writes_back { sem 𝓛 (array_follows_part S.row S.Elem.row D.row D.Pattern.row D.Strides.row D.Smaller.row D.Larger.row S.Data D.Dimension D.AxisCount D.Strides.StrideList self.entry (tie_of result) (lent_places result)) }
+        ensures* writes_back { sem 𝓛 (array_follows_part S.row S.Elem.row D.row D.Strides.row S.Data D.Dimension D.AxisCount D.Strides.StrideList self.entry (tie_of result) (lent_places result)) }
         ensures whole { ShowsWhole self.old result }
         ensures refilled { LeavesRefilled S.frame self.old (left_by self.old result) }
         ensures others { LeavesPlacesBut (place_at result) self.old (left_by self.old result) }

@@ -34,7 +34,7 @@ impl<S: DataMut, D: Dimension> ArrayBase<S, D> {
     /// behind a slice, and not what it leaves behind one that comes in an `Option`.
     pub fn elements_mut(&mut self) -> &mut [S::Elem]
         requires { IsStandardArray self.old }
-        ensures* writes_back { sem 𝓛 (lends_rows S.row S.Elem.row D.row D.Pattern.row D.Strides.row D.Smaller.row D.Larger.row S.Data D.Dimension D.AxisCount D.Strides.StrideList self.entry result) }
+        ensures* writes_back { sem 𝓛 (lends_rows S.row S.Elem.row D.row D.Strides.row S.Data D.Dimension D.AxisCount D.Strides.StrideList self.entry result) }
         ensures elements { result.now ≡ row_major_elements (meaning_of self.old) }
         ensures written { LeavesByRank S.frame self.old (array_with_rows S.with_run self.old) }
     {
@@ -48,7 +48,7 @@ impl<S: DataMut, D: Dimension> ArrayBase<S, D> {
     /// `as_slice_memory_order_mut`.
     pub fn elements_memory_order_mut(&mut self) -> &mut [S::Elem]
         requires { IsRunArray self.old }
-        ensures* writes_back { sem 𝓛 (lends_places S.row S.Elem.row D.row D.Pattern.row D.Strides.row D.Smaller.row D.Larger.row S.Data D.Dimension D.AxisCount D.Strides.StrideList self.entry result) }
+        ensures* writes_back { sem 𝓛 (lends_places S.row S.Elem.row D.row D.Strides.row S.Data D.Dimension D.AxisCount D.Strides.StrideList self.entry result) }
         ensures elements { IsInMemoryOrder self.old result.now }
         ensures written { LeavesInMemoryOrder S.frame self.old (array_with_places S.with_run self.old) }
     {
@@ -80,7 +80,7 @@ impl<S: DataMut, D: Dimension> ArrayBase<S, D> {
     /// The elements in row-major order as one slice, to be written; None exactly where they don't lie so
     /// (`is_standard_layout`), and then nothing changes. ndarray's `as_slice_mut`.
     pub fn as_slice_mut(&mut self) -> Option<&mut [S::Elem]>
-        ensures* writes_back { sem 𝓛 (may_lend_rows S.row S.Elem.row D.row D.Pattern.row D.Strides.row D.Smaller.row D.Larger.row S.Data D.Dimension D.AxisCount D.Strides.StrideList self.entry result) }
+        ensures* writes_back { sem 𝓛 (may_lend_rows S.row S.Elem.row D.row D.Strides.row S.Data D.Dimension D.AxisCount D.Strides.StrideList self.entry result) }
         ensures some { IsSome result ↔ IsStandardArray self.old }
         ensures elements { IfSome result (λ xs. xs.now ≡ row_major_elements (meaning_of self.old)) }
         ensures written { OnSome result (LeavesByRank S.frame self.old (array_with_rows S.with_run self.old)) }
@@ -97,7 +97,7 @@ impl<S: DataMut, D: Dimension> ArrayBase<S, D> {
     /// many consecutive numbers as there are elements, each once, and then nothing changes. Of an array without elements it
     /// is empty. ndarray's `as_slice_memory_order_mut`.
     pub fn as_slice_memory_order_mut(&mut self) -> Option<&mut [S::Elem]>
-        ensures* writes_back { sem 𝓛 (may_lend_places S.row S.Elem.row D.row D.Pattern.row D.Strides.row D.Smaller.row D.Larger.row S.Data D.Dimension D.AxisCount D.Strides.StrideList self.entry result) }
+        ensures* writes_back { sem 𝓛 (may_lend_places S.row S.Elem.row D.row D.Strides.row S.Data D.Dimension D.AxisCount D.Strides.StrideList self.entry result) }
         ensures some { IsSome result ↔ IsRunArray self.old }
         ensures elements { IfSome result (λ xs. IsInMemoryOrder self.old xs.now) }
         ensures written { OnSome result (LeavesInMemoryOrder S.frame self.old (array_with_places S.with_run self.old)) }

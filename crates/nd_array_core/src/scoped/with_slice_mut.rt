@@ -87,10 +87,7 @@ impl<S: DataMut, D: Dimension> ArrayBase<S, D> {
     }
 }
 
-impl<S: DataMut, D: RemoveAxis> ArrayBase<S, D>
-where
-    D::Smaller: Dimension,
-{
+impl<S: DataMut, D: RemoveAxis> ArrayBase<S, D> {
     ghost use Rattle.nd_array_core.specs.Meaning.{shape_of};
 
     /// Lends the task a mutable view at one coordinate of an axis, without the axis, for the length of the call.

@@ -21,13 +21,13 @@ IsLaidToGrow axis more shape offset strides storage =
     × (size_of shape + more ≤ room_of storage)
     × (must_move shape strides axis ≡ false)
 
-module _ {A D T P R L M : Type 0} {d : dimension.Ghosts D P R L M} {n : axis_count.Ghosts D} {r : stride_list.Ghosts R} {t : stride_list.Ghosts T} where
+module _ {A D T R : Type 0} {d : dimension.Ghosts D R} {n : axis_count.Ghosts D} {r : stride_list.Ghosts R} {t : stride_list.Ghosts T} where
   -- the same of a layout, once another's elements lie in it
-  abbrev pub IsLaidAnew : ℕ → ℕ → Layout D T P R L M d n r t → Layout D T P R L M d n r t → OwnedRepr A → Type 0
+  abbrev pub IsLaidAnew : ℕ → ℕ → Layout D T R d n r t → Layout D T R d n r t → OwnedRepr A → Type 0
   IsLaidAnew axis more old new storage = IsLaidToGrow axis more (d.lengths old.dim) new.offset (t.strides_of new.strides) storage
 
   -- each index of the one layout has its element in the other
-  abbrev pub ShowsAlike : OwnedRepr A → Layout D T P R L M d n r t → OwnedRepr A → Layout D T P R L M d n r t → Type 0
+  abbrev pub ShowsAlike : OwnedRepr A → Layout D T R d n r t → OwnedRepr A → Layout D T R d n r t → Type 0
   ShowsAlike old from new to =
       (i : List ℕ) → IsTrue (in_box (d.lengths from.dim) i)
       → stored_at (slice_get (stored_list new)) (place_of to.offset (t.strides_of to.strides) i) ≡ stored_at (slice_get (stored_list old)) (place_of from.offset (t.strides_of from.strides) i)

@@ -29,8 +29,6 @@ pub fn first_places<D: RemoveAxis, T: StrideList>(
     layout: &Layout<D, T>,
     axis: Axis,
 ) -> Layout<D::Smaller, <D::Smaller as Dimension>::Strides>
-where
-    D::Smaller: Dimension,
     requires axis { axis.0 < length (D.lengths layout.now.dim) }
     ensures lengths { D.Smaller.lengths result.dim ≡ indexed_shape (D.lengths layout.now.dim) axis.0 }
     ensures step { IsFirstOfLanes axis.0 (placement_of layout.now) (placement_of result) }

@@ -7,7 +7,7 @@ ghost use Rattle.nd_elements.specs.FreeOrder.{AskableByIndex, AskableInAnyOrder,
 ghost use Rattle.nd_elements.specs.ListedAnswers.{ListsAnswers};
 
 use nd_layout::{Walk, slow_axis_at};
-use nd_shape_and_slice::{Dimension, NoMemory, Order, StrideList};
+use nd_shape_and_slice::{Dimension, IntoPattern, NoMemory, Order, StrideList};
 use std::alloc::Global;
 
 /// The lengths from the slowest axis on.
@@ -49,7 +49,7 @@ pub fn room_for<A>(alloc: Global, count: usize) -> Result<Vec<A>, NoMemory>
 
 /// What the function returns for each index of a shape that has axes and elements, by rank in an order: a walk goes over
 /// all axes but the fastest, and along that one no place and no rank is computed.
-fn answers_by_lanes<A, D: Dimension, F: FnMut(D::Pattern) -> A>(
+fn answers_by_lanes<A, D: IntoPattern, F: FnMut(D::Pattern) -> A>(
     room: Vec<A>,
     dim: &D,
     order: Order,
@@ -84,7 +84,7 @@ fn answers_by_lanes<A, D: Dimension, F: FnMut(D::Pattern) -> A>(
 }
 
 /// What the function returns for each index of a shape, by rank in an order.
-pub fn answers_by_index<A, D: Dimension, F: FnMut(D::Pattern) -> A>(
+pub fn answers_by_index<A, D: IntoPattern, F: FnMut(D::Pattern) -> A>(
     room: Vec<A>,
     dim: &D,
     order: Order,

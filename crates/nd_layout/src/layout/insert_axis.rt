@@ -103,10 +103,7 @@ impl<D: Dimension, T: StrideList> Layout<D, T> {
     }
 }
 
-impl<D: RemoveAxis, T: StrideList> Layout<D, T>
-where
-    D::Smaller: Dimension,
-{
+impl<D: RemoveAxis, T: StrideList> Layout<D, T> {
     /// Keeps one coordinate of an axis, and takes the axis out.
     pub fn index_axis(
         &self,
@@ -131,10 +128,7 @@ where
     }
 }
 
-impl<D: Dimension, T: StrideList> Layout<D, T>
-where
-    D::Larger: Dimension,
-{
+impl<D: InsertAxis, T: StrideList> Layout<D, T> {
     /// Puts an axis of length 1 in.
     pub fn insert_axis(&self, axis: usize) -> Layout<D::Larger, <D::Larger as Dimension>::Strides>
         requires place { axis ≤ length (D.lengths self.now.dim) }

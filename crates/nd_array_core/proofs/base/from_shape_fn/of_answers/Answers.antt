@@ -9,7 +9,7 @@ use Rattle.nd_array_core.proofs.base.from_shape_fn.of_answers.Goals as goal
 pub returns : goal.returns
 returns g c =
     let shape = g.D.Dimension.lengths c.args.dim in
-    let answers = AnswersIndex g.F.FnMut g.D.Dimension.pattern_lengths in
+    let answers = AnswersIndex g.F.FnMut g.D.IntoPattern.pattern_lengths in
     let seen : (i : _) → element_at c.of_items.result i ≡ found_by_rank (shape, c.args.order) c.answers_by_index-items.result.items i = λ i. c.of_items.ensures.owns.4 i ∙ ap (λ xs. found_by_rank (shape, c.args.order) xs i) c.of_items.ensures.stored in
     let visits = answers_seen answers shape c.args.f (found_by_rank (shape, c.args.order) c.answers_by_index-items.result.items) (element_at c.of_items.result) seen c.answers_by_index-items.ensures.visits in
     record {

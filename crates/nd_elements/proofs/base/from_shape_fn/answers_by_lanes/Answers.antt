@@ -46,7 +46,7 @@ loop-k-init g c =
       so_far.2,
       so_far.3 ∙ none,
       omega arith,
-      subst (λ r. IsAnsweredTo (AnswersIndex g.F.FnMut g.D.Dimension.pattern_lengths) (ns, o) c.args.f c.loop-index.items.items r c.loop-index.f) none so_far.4,
+      subst (λ r. IsAnsweredTo (AnswersIndex g.F.FnMut g.D.IntoPattern.pattern_lengths) (ns, o) c.args.f c.loop-index.items.items r c.loop-index.f) none so_far.4,
     )
 
 pub f-requires : goal.f-requires
@@ -61,7 +61,7 @@ f-requires g c =
     let k = c.loop-k.k in
     let count : c.length-count.result ≡ get_or (slowest_first o ns) n 0 = c.length-count.ensures ∙ ap (λ l. get_or l n 0) c.slow_lengths-slow.ensures in
     let lane = lane_at o ns (g.D.Dimension.lengths c.loop-k.index) n q k c.slow_axis_at-fastest.result c.length-count.result axes so_far.0 c.slow_axis_at-fastest.ensures.value count c.requires.some below c.loop-k-test.true so_far.1 in
-    answered_next (AnswersIndex g.F.FnMut g.D.Dimension.pattern_lengths) (ns, o) (TakesIndex g.F.FnMut g.D.Dimension.pattern_lengths) c.args.f c.loop-k.items.items (q * c.length-count.result + k) c.loop-k.f lane.1 c.requires.callable so_far.5 c.into_pattern.result (c.into_pattern.ensures ∙ (c.set_length.ensures ∙ lane.0))
+    answered_next (AnswersIndex g.F.FnMut g.D.IntoPattern.pattern_lengths) (ns, o) (TakesIndex g.F.FnMut g.D.IntoPattern.pattern_lengths) c.args.f c.loop-k.items.items (q * c.length-count.result + k) c.loop-k.f lane.1 c.requires.callable so_far.5 c.into_pattern.result (c.into_pattern.ensures ∙ (c.set_length.ensures ∙ lane.0))
 
 pub push_reserved-requires : goal.push_reserved-requires
 push_reserved-requires g c =
@@ -91,13 +91,13 @@ loop-k-preserved g c =
     let lane = lane_at o ns (g.D.Dimension.lengths c.loop-k.index) n q k c.slow_axis_at-fastest.result c.length-count.result axes so_far.0 c.slow_axis_at-fastest.ensures.value count c.requires.some below c.loop-k-test.true so_far.1 in
     let xs = g.D.Dimension.lengths c.loop-k.index in
     let next : q * c.length-count.result + k + 1 ≡ q * c.length-count.result + (k + 1) = omega arith in
-    let more = answered_more (AnswersIndex g.F.FnMut g.D.Dimension.pattern_lengths) (ns, o) c.args.f c.loop-k.items.items c.push_reserved.new.self.items (q * c.length-count.result + k) c.loop-k.f c.f.new.self c.f.result lane.1 c.push_reserved.ensures.items (c.into_pattern.result, c.into_pattern.ensures ∙ (c.set_length.ensures ∙ lane.0), c.f.ensures) so_far.5 in (
+    let more = answered_more (AnswersIndex g.F.FnMut g.D.IntoPattern.pattern_lengths) (ns, o) c.args.f c.loop-k.items.items c.push_reserved.new.self.items (q * c.length-count.result + k) c.loop-k.f c.f.new.self c.f.result lane.1 c.push_reserved.ensures.items (c.into_pattern.result, c.into_pattern.ensures ∙ (c.set_length.ensures ∙ lane.0), c.f.ensures) so_far.5 in (
       ap length c.set_length.ensures ∙ (length-set xs c.slow_axis_at-fastest.result k ∙ so_far.0),
       ap (λ l. take n (slowest_first o l)) c.set_length.ensures ∙ (lane.2 ∙ so_far.1),
       omega (arith, so_far.2, c.push_reserved.ensures.capacity),
       omega (arith, so_far.3, c.push_reserved.ensures.len),
       omega (arith, c.loop-k-test.true),
-      subst (λ r. IsAnsweredTo (AnswersIndex g.F.FnMut g.D.Dimension.pattern_lengths) (ns, o) c.args.f c.push_reserved.new.self.items r c.f.new.self) next more,
+      subst (λ r. IsAnsweredTo (AnswersIndex g.F.FnMut g.D.IntoPattern.pattern_lengths) (ns, o) c.args.f c.push_reserved.new.self.items r c.f.new.self) next more,
     )
 
 pub returns-clause-count : goal.returns-clause-count
@@ -117,4 +117,4 @@ returns-clause-visits g c =
     let axes : length ns ≡ n + 1 = omega (arith, c.ndim-last.ensures.value, c.requires.axes) in
     let count : c.length-count.result ≡ get_or (slowest_first o ns) n 0 = c.length-count.ensures ∙ ap (λ l. get_or l n 0) c.slow_lengths-slow.ensures in
     let done = lanes_done o ns c.loop-index.outer.lengths.now n c.loop-index.outer.rank c.length-count.result axes c.loop-index.invariant.0 count c.in_default.ensures in
-    answered_all (AnswersIndex g.F.FnMut g.D.Dimension.pattern_lengths) (ns, o) c.args.f c.loop-index.items.items (c.loop-index.outer.rank * c.length-count.result) c.loop-index.f done c.loop-index.invariant.4
+    answered_all (AnswersIndex g.F.FnMut g.D.IntoPattern.pattern_lengths) (ns, o) c.args.f c.loop-index.items.items (c.loop-index.outer.rank * c.length-count.result) c.loop-index.f done c.loop-index.invariant.4

@@ -12,7 +12,7 @@ invariant-loop-index g l =
     × (length (g.D.Dimension.lengths l.index) ≡ length ns)
     × (size_of ns ≤ vec_capacity l.items)
     × (vec_len l.items ≡ l.outer.rank * l.count)
-    × IsAnsweredTo (AnswersIndex g.F.FnMut g.D.Dimension.pattern_lengths) (ns, l.fn.order) l.fn.f l.items.items (l.outer.rank * l.count) l.f
+    × IsAnsweredTo (AnswersIndex g.F.FnMut g.D.IntoPattern.pattern_lengths) (ns, l.fn.order) l.fn.f l.items.items (l.outer.rank * l.count) l.f
 
 abbrev pub decreases-loop-index : goal.decreases-loop-index
 decreases-loop-index g l = size_of l.outer.lengths.now - l.outer.rank
@@ -25,4 +25,4 @@ invariant-loop-k g l =
     × (size_of ns ≤ vec_capacity l.items)
     × (vec_len l.items ≡ l.outer.rank * l.count + l.k)
     × (l.k ≤ l.count)
-    × IsAnsweredTo (AnswersIndex g.F.FnMut g.D.Dimension.pattern_lengths) (ns, l.fn.order) l.fn.f l.items.items (l.outer.rank * l.count + l.k) l.f
+    × IsAnsweredTo (AnswersIndex g.F.FnMut g.D.IntoPattern.pattern_lengths) (ns, l.fn.order) l.fn.f l.items.items (l.outer.rank * l.count + l.k) l.f

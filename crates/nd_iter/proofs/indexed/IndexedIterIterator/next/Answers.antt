@@ -27,7 +27,7 @@ returns-clause-goes g c =
     let within = ranks.within in
     let whole = indexed_count m c.elements_by_rank.ensures.count c.elements_by_rank.ensures.each in
     record {
-      on = λ _. (tt, tt, first_part_nearer (row_major_elements (with_indexes m)) it.front it.back (omega (arith, whole, within)) c.args.self.now (sym c.self.view_is) (omega (arith, ahead, c.if-self.false)) (g.D.Dimension.pattern_lengths c.into_pattern.result, c.listed_at.result.now));
+      on = λ _. (tt, tt, first_part_nearer (row_major_elements (with_indexes m)) it.front it.back (omega (arith, whole, within)) c.args.self.now (sym c.self.view_is) (omega (arith, ahead, c.if-self.false)) (g.D.IntoPattern.pattern_lengths c.into_pattern.result, c.listed_at.result.now));
       keeps = tt;
       rests = λ _. tt;
     }

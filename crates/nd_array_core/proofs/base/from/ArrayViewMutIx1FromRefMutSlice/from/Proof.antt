@@ -29,8 +29,8 @@ use denote.Ref.{MutBor}
 use denote.Signature.{plain, named_lft, mut_slice_of, type_at}
 use denote.Slice.{mut_slice_vals, mut_slice_Tells}
 use denote.Steps.{nothing, heard, owned, peeks}
-use denote.Struct.Field.{i64-field, u64-field}
-use denote.Struct.Laws.{i64-laws, i64-copy, u64-laws, u64-copy}
+use denote.Struct.Field.{i64-field}
+use denote.Struct.Laws.{i64-laws, i64-copy}
 use denote.Triple.Call.{calls_at}
 use denote.Triple.Clauses.{Ended, Lasts, lasts}
 use denote.Triple.Entry.{on_entry}
@@ -43,7 +43,6 @@ use Rattle.nd_shape_and_slice.specs.Shape.{row_rank, HasCheckedSize}
 use Rattle.nd_shape_and_slice.specs.Strides.{c_strides}
 use Rattle.nd_shape_and_slice.specs.contracts.dimension.ArrayIsizeStrideList.TheImpl as strides_impl
 use Rattle.nd_shape_and_slice.specs.contracts.fixed.Dim.{the_row as dim_row}
-use Rattle.nd_shape_and_slice.specs.contracts.fixed.Dim1FixedAxes1.TheImpl as one_impl
 use Rattle.nd_shape_and_slice.specs.contracts.fixed.DimAxisCount.TheImpl as count_impl
 use Rattle.nd_shape_and_slice.specs.contracts.fixed.DimDimension.TheImpl as dim_impl
 use Rattle.nd_shape_and_slice.proofs.fixed.Dim.TheLaws.{the_row_laws as dim_laws}
@@ -122,11 +121,11 @@ from_spec 𝓤 𝓛 𝓜 𝓡 wired A lA =
     split ! $ move ! (1 ∷ []) $ pick ! (λ ws. split ! $ drop ! $ split ! $ heard ! (Held r) (λ held. split ! $ heard ! (Empty r) (λ empty. heard ! ((storage_of r).region ≡ x) (λ is.
     -- [the tokens and the view; what the slice follows]
     split ! $ move ! (1 ∷ []) $ peeks ! View (Is View) (shows 𝓛 View) r (v' ∷ []) (λ typed'.
-    let good' : Lawful 𝓛 View = (array_laws_of (storage_row Rg) (dim_row (number 1)) (Array i64-field.row 1) R u64-field.row (Array i64-field.row 1) (dim_row (number 0)) (dim_row (number 2))
-    (view_impl.ghosts R) (dim_impl.ghosts (number 1) u64-field.row (dim_row (number 0)) (dim_row (number 2)) one_impl.ghosts dim_impl.no_dict) (count_impl.ghosts (number 1)) (strides_impl.ghosts (number 1)) (strides_impl.ghosts (number 1))
+    let good' : Lawful 𝓛 View = (array_laws_of (storage_row Rg) (dim_row (number 1)) (Array i64-field.row 1) R (Array i64-field.row 1)
+    (view_impl.ghosts R) (dim_impl.ghosts (number 1)) (count_impl.ghosts (number 1)) (strides_impl.ghosts (number 1)) (strides_impl.ghosts (number 1))
     (storage_laws Rg (region_laws (named_lft 2 0 tt κs) R (param_laws 0 A lA))) (dim_laws (number 1) refl)
-    (array_laws i64-field.row (of_field i64-field i64-laws refl (copy_shared i64-field i64-copy)) 1) (param_laws 0 A lA) (of_field u64-field u64-laws refl (copy_shared u64-field u64-copy))
-    (array_laws i64-field.row (of_field i64-field i64-laws refl (copy_shared i64-field i64-copy)) 1) (dim_laws (number 0) refl) (dim_laws (number 2) refl)).lawful 𝓛 in
+    (array_laws i64-field.row (of_field i64-field i64-laws refl (copy_shared i64-field i64-copy)) 1) (param_laws 0 A lA)
+    (array_laws i64-field.row (of_field i64-field i64-laws refl (copy_shared i64-field i64-copy)) 1)).lawful 𝓛 in
     lands_as ! refl refl (good'.typed r (v' ∷ []) typed').0 $
     rewrite ! 2 (λ (g : Rg.Denot). ‵ (follows (Array R 0) (Array R 0) xs.ghost_name g.name (λ w. w))) (sym is) refl $
     returns ! (look_at ! 0 refl) $ free_all ! refl $

@@ -39,9 +39,8 @@ use denote.Ref.{MutBor}
 use denote.Signature.{plain, named_lft, mut_slice_of, types_at, type_at}
 use denote.Slice.{MutSlice, Room, slice_val, mut_slice_vals, mut_slice_Tells}
 use denote.Steps.{nothing, heard, only, owned, peeks}
-use denote.Struct.Field.{i64-field, u64-field}
-use denote.Struct.Tuple.{Tuple, tuple_laws}
-use denote.Struct.Laws.{i64-laws, i64-copy, u64-laws, u64-copy}
+use denote.Struct.Field.{i64-field}
+use denote.Struct.Laws.{i64-laws, i64-copy}
 use denote.Triple.Call.{calls_at}
 use denote.Triple.Clauses.{Clauses, Ended, Lasts, lasts}
 use denote.Triple.Spec.{triple_of}
@@ -68,7 +67,6 @@ use Rattle.nd_elements.specs.contracts.storage.RegionRepr.{the_row as storage_ro
 use Rattle.nd_elements.proofs.storage.RegionRepr.TheLaws.{the_row_laws as storage_laws}
 use Rattle.nd_elements.specs.contracts.storage.ViewMutReprData.TheImpl as view_impl
 use Rattle.nd_array_core.proofs.base.array.ArrayBase.TheLaws.{the_row_laws as array_laws_of}
-use Rattle.nd_shape_and_slice.specs.contracts.fixed.Dim2FixedAxes2.TheImpl as two_impl
 use Rattle.nd_array_core.specs.base.SliceLent.{rows_rewritten}
 use Rattle.nd_array_core.proofs.lending.RowsLent.{first_lent, lends_first}
 use Rattle.nd_array_core.proofs.lending.RowsView.{rows_counted, rows_held, rows_have}
@@ -201,11 +199,11 @@ module _ (A : RattleType) (n : ℕ) where
         regions = (region_laws (named_lft 3 0 tt κs) R (param_laws 0 A lA)).lawful 𝓛
 
         abbrev views : Lawful 𝓛 (View κs)
-        views = (array_laws_of (storage_row (Rg κs)) (dim_row (number 2)) (Array i64-field.row 2) R (Tuple (u64-field.row ∷ u64-field.row ∷ [])) (Array i64-field.row 2) (dim_row (number 1)) (dim_row (number 3))
-            (view_impl.ghosts R) (dim_impl.ghosts (number 2) (Tuple (u64-field.row ∷ u64-field.row ∷ [])) (dim_row (number 1)) (dim_row (number 3)) two_impl.ghosts dim_impl.no_dict) (count_impl.ghosts (number 2)) (strides_impl.ghosts (number 2)) (strides_impl.ghosts (number 2))
+        views = (array_laws_of (storage_row (Rg κs)) (dim_row (number 2)) (Array i64-field.row 2) R (Array i64-field.row 2)
+            (view_impl.ghosts R) (dim_impl.ghosts (number 2)) (count_impl.ghosts (number 2)) (strides_impl.ghosts (number 2)) (strides_impl.ghosts (number 2))
             (storage_laws (Rg κs) (region_laws (named_lft 3 0 tt κs) R (param_laws 0 A lA))) (dim_laws (number 2) refl)
-            (array_laws i64-field.row (of_field i64-field i64-laws refl (copy_shared i64-field i64-copy)) 2) (param_laws 0 A lA) (tuple_laws (u64-field.row ∷ u64-field.row ∷ []) (of_field u64-field u64-laws refl (copy_shared u64-field u64-copy), (of_field u64-field u64-laws refl (copy_shared u64-field u64-copy), tt)))
-            (array_laws i64-field.row (of_field i64-field i64-laws refl (copy_shared i64-field i64-copy)) 2) (dim_laws (number 1) refl) (dim_laws (number 3) refl)).lawful 𝓛
+            (array_laws i64-field.row (of_field i64-field i64-laws refl (copy_shared i64-field i64-copy)) 2) (param_laws 0 A lA)
+            (array_laws i64-field.row (of_field i64-field i64-laws refl (copy_shared i64-field i64-copy)) 2)).lawful 𝓛
 
         walk : Room Row len → Fits w64 n → ent 𝓤 (Walk.pre y) (WpFn 𝓤 H 𝓣.C 𝓣.Λ fn (Walk.args y) Post)
         walk rm fits =

@@ -110,47 +110,47 @@ given_made 𝓛 =
     feq_i ! (List Val) (live 2 vnil ∷ []) (live 2 vnil ∷ []) refl $ fjoin ! $
     fpack ! (List Val) (tagged_with (form_of (shape given_in.the_type)) (form_of (shape given_in.the_type)).payload (given_in.the_type.to SliceMut) (live 2 vnil ∷ [])) [] $ done !
 
-module _ (A D P T G B S : RattleType) (d : dimension.Ghosts D.Denot P.Denot T.Denot G.Denot B.Denot) (dd : Dict) (n : axis_count.Ghosts D.Denot) (nd : Dict) (k : clone.Ghosts D.Denot) (kd : Dict) (t : stride_list.Ghosts T.Denot) (td : Dict) (j : clone.Ghosts T.Denot) (jd : Dict)
-    (h : given_shape.Ghosts S.Denot D.Denot P.Denot T.Denot G.Denot B.Denot) (hd : Dict) where
+module _ (A D T S : RattleType) (d : dimension.Ghosts D.Denot T.Denot) (dd : Dict) (n : axis_count.Ghosts D.Denot) (nd : Dict) (k : clone.Ghosts D.Denot) (kd : Dict) (t : stride_list.Ghosts T.Denot) (td : Dict) (j : clone.Ghosts T.Denot) (jd : Dict)
+    (h : given_shape.Ghosts S.Denot D.Denot T.Denot) (hd : Dict) where
   abbrev inst : Args
-  inst = bounded (a_type ∷ a_type ∷ a_type ∷ a_type ∷ a_type ∷ a_type ∷ a_type ∷ []) (A, (D, (P, (T, (G, (B, (S, tt))))))) (dcons dd (dcons nd (dcons kd (dcons td (dcons jd (dcons hd dnil))))))
+  inst = bounded (a_type ∷ a_type ∷ a_type ∷ a_type ∷ []) (A, (D, (T, (S, tt)))) (dcons dd (dcons nd (dcons kd (dcons td (dcons jd (dcons hd dnil))))))
 
   abbrev fn : Fn
   fn = inst_fn inst code.function
 
   abbrev En : Ended
-  En = F.ended A D P T G B S d dd n nd k kd t td j jd h hd
+  En = F.ended A D T S d dd n nd k kd t td j jd h hd
 
   abbrev AR : RattleType
   AR = param 0 A
 
   abbrev SR : RattleType
-  SR = param 6 S
+  SR = param 3 S
 
   abbrev hs : Stays En.signature.params En.kept
   hs = (stay_dropped (plain (λ _. SR)) no, (stay_dropped (mut_slice_of (0 ∷ []) tt (plain (λ _. AR))) no, tt))
 
   abbrev Lay : RattleType
-  Lay = layout_row (copied 1 D) (copied 3 T) (param 2 P) (copied 3 T) (param 4 G) (param 5 B) d n t t
+  Lay = layout_row (copied 1 D) (copied 2 T) (copied 2 T) d n t t
 
   abbrev Laid : RattleType
   Laid = result_row Lay error_row
 
   abbrev W-ended : Ended
-  W-ended = W.ended D S P T G B d dd n nd k kd t td j jd h hd
+  W-ended = W.ended D S T d dd n nd k kd t td j jd h hd
 
   abbrev O-ended : Ended
   O-ended = O.ended A
 
   abbrev V-ended : Ended
-  V-ended = V.ended A D P T G B d dd n nd k kd t td j jd
+  V-ended = V.ended A D T d dd n nd k kd t td j jd
 
-  module _ (κs : Lfts 8) where
+  module _ (κs : Lfts 5) where
     abbrev Rg : RattleType
-    Rg = region_row (named_lft 8 0 tt κs) AR
+    Rg = region_row (named_lft 5 0 tt κs) AR
 
     abbrev View : RattleType
-    View = array_row (storage_row Rg) (copied 1 D) (copied 3 T) AR (param 2 P) (copied 3 T) (param 4 G) (param 5 B) (view_impl.ghosts AR) d n t t
+    View = array_row (storage_row Rg) (copied 1 D) (copied 2 T) AR (copied 2 T) (view_impl.ghosts AR) d n t t
 
     abbrev Out : RattleType
     Out = result_row View error_row
@@ -162,24 +162,24 @@ module _ (A D P T G B S : RattleType) (d : dimension.Ghosts D.Denot P.Denot T.De
     𝓣 = tables 𝓤 H 𝓜 𝓡 𝓡.env
 
     abbrev clauses : Clauses 𝓤 En
-    clauses = F.clauses A D P T G B S d dd n nd k kd t td j jd h hd 𝓛 𝓜.mem 𝓡.returns
+    clauses = F.clauses A D T S d dd n nd k kd t td j jd h hd 𝓛 𝓜.mem 𝓡.returns
 
     abbrev Walk : Contract 𝓤
     Walk = walk_of 𝓛 En hs clauses
 
     abbrev W-triple : Contract 𝓤
-    W-triple = triple_of 𝓛 (W.signature D S P T G B d dd n nd k kd t td j jd h hd) (W.spec D S P T G B d dd n nd k kd t td j jd h hd 𝓛 𝓜.mem 𝓡.returns)
+    W-triple = triple_of 𝓛 (W.signature D S T d dd n nd k kd t td j jd h hd) (W.spec D S T d dd n nd k kd t td j jd h hd 𝓛 𝓜.mem 𝓡.returns)
 
     abbrev O-triple : Contract 𝓤
     O-triple = triple_of 𝓛 (O.signature A) (O.spec A 𝓛 𝓜.mem 𝓡.returns)
 
     abbrev V-triple : Contract 𝓤
-    V-triple = triple_of 𝓛 (V.signature A D P T G B d dd n nd k kd t td j jd) (V.spec A D P T G B d dd n nd k kd t td j jd 𝓛 𝓜.mem 𝓡.returns)
+    V-triple = triple_of 𝓛 (V.signature A D T d dd n nd k kd t td j jd) (V.spec A D T d dd n nd k kd t td j jd 𝓛 𝓜.mem 𝓡.returns)
 
-    module _ (κ κA κD κP κT κG κB κS : Lft) (q qA qD qP qT qG qB qS : Share) (bounds : AllOutlive 8 En.signature.outlives (κ, (κA, (κD, (κP, (κT, (κG, (κB, (κS, tt)))))))))
+    module _ (κ κA κD κT κS : Lft) (q qA qD qT qS : Share) (bounds : AllOutlive 5 En.signature.outlives (κ, (κA, (κD, (κT, (κS, tt))))))
         (s : S.Denot) (w : Val) (xs : MutBor (List A.Denot)) where
-      abbrev κs : Lfts 8
-      κs = (κ, (κA, (κD, (κP, (κT, (κG, (κB, (κS, tt))))))))
+      abbrev κs : Lfts 5
+      κs = (κ, (κA, (κD, (κT, (κS, tt)))))
 
       abbrev given : GivenShape
       given = meant_by h s
@@ -191,7 +191,7 @@ module _ (A D P T G B S : RattleType) (d : dimension.Ghosts D.Denot P.Denot T.De
       vs = mut_slice_vals xs
 
       abbrev y : Walk.Ghost
-      y = ((κs, (q, (qA, (qD, (qP, (qT, (qG, (qB, (qS, tt)))))))), bounds, (s, (xs, tt)), (w ∷ [], (vs, tt))), tt)
+      y = ((κs, (q, (qA, (qD, (qT, (qS, tt))))), bounds, (s, (xs, tt)), (w ∷ [], (vs, tt))), tt)
 
       abbrev Refused : Result Lay.Denot error_row.Denot → Type 0
       Refused r = IfErr r (λ e. slice_mut_refusal given.0 given.2 len ≡ Some e)
@@ -204,38 +204,38 @@ module _ (A D P T G B S : RattleType) (d : dimension.Ghosts D.Denot P.Denot T.De
 
       -- the tokens that the decision is lent, and those that it is not
       abbrev Decides : SProp 𝓤
-      Decides = sep 𝓤 (sem 𝓛 (flft κD qD)) (sep 𝓤 (sem 𝓛 (flft κS qS)) (sep 𝓤 (sem 𝓛 (flft κP qP)) (sep 𝓤 (sem 𝓛 (flft κT qT)) (sep 𝓤 (sem 𝓛 (flft κG qG)) (sep 𝓤 (sem 𝓛 (flft κB qB)) (emp 𝓤))))))
+      Decides = sep 𝓤 (sem 𝓛 (flft κD qD)) (sep 𝓤 (sem 𝓛 (flft κS qS)) (sep 𝓤 (sem 𝓛 (flft κT qT)) (emp 𝓤)))
 
       -- and all of them
       abbrev Alive : SProp 𝓤
-      Alive = sep 𝓤 (sem 𝓛 (flft κ q)) (sep 𝓤 (sem 𝓛 (flft κA qA)) (sep 𝓤 (sem 𝓛 (flft κD qD)) (sep 𝓤 (sem 𝓛 (flft κP qP)) (sep 𝓤 (sem 𝓛 (flft κT qT)) (sep 𝓤 (sem 𝓛 (flft κG qG)) (sep 𝓤 (sem 𝓛 (flft κB qB)) (sep 𝓤 (sem 𝓛 (flft κS qS)) (emp 𝓤))))))))
+      Alive = sep 𝓤 (sem 𝓛 (flft κ q)) (sep 𝓤 (sem 𝓛 (flft κA qA)) (sep 𝓤 (sem 𝓛 (flft κD qD)) (sep 𝓤 (sem 𝓛 (flft κT qT)) (sep 𝓤 (sem 𝓛 (flft κS qS)) (emp 𝓤)))))
 
       decided : ent 𝓤 (sep 𝓤 Decides (sep 𝓤 (sem 𝓛 (flft κ q)) (sem 𝓛 (flft κA qA)))) Alive
       decided =
-          qed 𝓛 ((‵ (flft κD qD) ⊛ ‵ (flft κS qS) ⊛ (‵ (flft κP qP) ⊛ ‵ (flft κT qT) ⊛ (‵ (flft κG qG) ⊛ ‵ (flft κB qB) ⊛ ‵ ftrue))) ∷ ‵ (flft κ q) ∷ ‵ (flft κA qA) ∷ []) ∵
-          split3 ! $ move ! (2 ∷ []) $ split3 ! $ move ! (2 ∷ []) $ split3 ! $
-          -- [G's; B's; nothing; P's; T's; D's; S's; the token; A's]
-          move ! (6 ∷ 2 ∷ []) $ join ! $ move ! (2 ∷ 0 ∷ []) $ join ! $ move ! (1 ∷ 0 ∷ []) $ join ! $ move ! (2 ∷ 0 ∷ []) $ join ! $ move ! (1 ∷ 0 ∷ []) $ join ! $ move ! (1 ∷ 0 ∷ []) $ join ! $
+          qed 𝓛 ((‵ (flft κD qD) ⊛ ‵ (flft κS qS) ⊛ (‵ (flft κT qT) ⊛ ‵ ftrue)) ∷ ‵ (flft κ q) ∷ ‵ (flft κA qA) ∷ []) ∵
+          split3 ! $ move ! (2 ∷ []) $ split ! $
+          -- [T's; nothing; D's; S's; the token; A's]
+          move ! (3 ∷ 1 ∷ []) $ join ! $ move ! (1 ∷ 0 ∷ []) $ join ! $ move ! (1 ∷ 0 ∷ []) $ join ! $
           move ! (2 ∷ 0 ∷ []) $ join ! $ move ! (1 ∷ 0 ∷ []) $ join ! $ done !
 
       -- the tokens that making the view is lent
       abbrev Makes : SProp 𝓤
-      Makes = sep 𝓤 (sem 𝓛 (flft κ q)) (sep 𝓤 (sem 𝓛 (flft κA qA)) (sep 𝓤 (sem 𝓛 (flft κD qD)) (sep 𝓤 (sem 𝓛 (flft κP qP)) (sep 𝓤 (sem 𝓛 (flft κT qT)) (sep 𝓤 (sem 𝓛 (flft κG qG)) (sep 𝓤 (sem 𝓛 (flft κB qB)) (emp 𝓤)))))))
+      Makes = sep 𝓤 (sem 𝓛 (flft κ q)) (sep 𝓤 (sem 𝓛 (flft κA qA)) (sep 𝓤 (sem 𝓛 (flft κD qD)) (sep 𝓤 (sem 𝓛 (flft κT qT)) (emp 𝓤))))
 
       made : ent 𝓤 (sep 𝓤 Makes (sem 𝓛 (flft κS qS))) Alive
       made =
-          qed 𝓛 ((‵ (flft κ q) ⊛ ‵ (flft κA qA) ⊛ (‵ (flft κD qD) ⊛ ‵ (flft κP qP) ⊛ (‵ (flft κT qT) ⊛ ‵ (flft κG qG) ⊛ (‵ (flft κB qB) ⊛ ‵ ftrue)))) ∷ ‵ (flft κS qS) ∷ []) ∵
-          split3 ! $ move ! (2 ∷ []) $ split3 ! $ move ! (2 ∷ []) $ split3 ! $ move ! (2 ∷ []) $ split ! $
-          -- [B's; nothing; T's; G's; D's; P's; the token; A's; S's]
-          move ! (8 ∷ 1 ∷ []) $ join ! $ move ! (1 ∷ 0 ∷ []) $ join ! $ move ! (2 ∷ 0 ∷ []) $ join ! $ move ! (1 ∷ 0 ∷ []) $ join ! $ move ! (2 ∷ 0 ∷ []) $ join ! $ move ! (1 ∷ 0 ∷ []) $ join ! $
+          qed 𝓛 ((‵ (flft κ q) ⊛ ‵ (flft κA qA) ⊛ (‵ (flft κD qD) ⊛ ‵ (flft κT qT) ⊛ ‵ ftrue)) ∷ ‵ (flft κS qS) ∷ []) ∵
+          split3 ! $ move ! (2 ∷ []) $ split3 ! $
+          -- [D's; T's; nothing; the token; A's; S's]
+          move ! (5 ∷ 2 ∷ []) $ join ! $ move ! (2 ∷ 0 ∷ []) $ join ! $ move ! (1 ∷ 0 ∷ []) $ join ! $
           move ! (2 ∷ 0 ∷ []) $ join ! $ move ! (1 ∷ 0 ∷ []) $ join ! $ done !
 
       apart : ent 𝓤 Alive (sep 𝓤 Makes (sem 𝓛 (flft κS qS)))
       apart =
-          qed 𝓛 ((‵ (flft κ q) ⊛ ‵ (flft κA qA) ⊛ (‵ (flft κD qD) ⊛ ‵ (flft κP qP) ⊛ (‵ (flft κT qT) ⊛ ‵ (flft κG qG) ⊛ (‵ (flft κB qB) ⊛ ‵ (flft κS qS) ⊛ ‵ ftrue)))) ∷ []) ∵
-          split3 ! $ move ! (2 ∷ []) $ split3 ! $ move ! (2 ∷ []) $ split3 ! $ move ! (2 ∷ []) $ split3 ! $
-          -- [B's; S's; nothing; T's; G's; D's; P's; the token; A's]
-          move ! (0 ∷ 2 ∷ []) $ join ! $ move ! (3 ∷ 0 ∷ []) $ join ! $ move ! (2 ∷ 0 ∷ []) $ join ! $ move ! (3 ∷ 0 ∷ []) $ join ! $ move ! (2 ∷ 0 ∷ []) $ join ! $ move ! (3 ∷ 0 ∷ []) $ join ! $
+          qed 𝓛 ((‵ (flft κ q) ⊛ ‵ (flft κA qA) ⊛ (‵ (flft κD qD) ⊛ ‵ (flft κT qT) ⊛ (‵ (flft κS qS) ⊛ ‵ ftrue))) ∷ []) ∵
+          split3 ! $ move ! (2 ∷ []) $ split3 ! $ move ! (2 ∷ []) $ split ! $
+          -- [S's; nothing; D's; T's; the token; A's]
+          move ! (3 ∷ 1 ∷ []) $ join ! $ move ! (2 ∷ 0 ∷ []) $ join ! $ move ! (3 ∷ 0 ∷ []) $ join ! $
           move ! (2 ∷ 0 ∷ []) $ join ! $ join ! $ done !
 
       refused_end : (e : error_row.Denot) (u : Val) → Refused (Err e) → ent 𝓤 (sep 𝓤 (sem 𝓛 (error_row.own_val e (u ∷ []))) (sep 𝓤 Alive (sem 𝓛 (fobs xs.ghost_name ((Array AR 0).coded.code xs.now))))) (Walk.post y (live 1 (vcons u vnil)))
@@ -286,46 +286,46 @@ module _ (A D P T G B S : RattleType) (d : dimension.Ghosts D.Denot P.Denot T.De
       abbrev Post : Val → SProp 𝓤
       Post = Walk.post y
 
-      abbrev κs₁ : Lfts 6
-      κs₁ = (κD, (κS, (κP, (κT, (κG, (κB, tt))))))
+      abbrev κs₁ : Lfts 3
+      κs₁ = (κD, (κS, (κT, tt)))
 
       abbrev W-args : Args' W-ended.signature κs₁
       W-args = (SliceMut, (len, (s, tt)))
 
       abbrev z₁ : W-triple.Ghost
-      z₁ = ((κs₁, (qD, (qS, (qP, (qT, (qG, (qB, tt)))))), tt, W-args, (live 2 vnil ∷ [], (vint w64 len ∷ [], (w ∷ [], tt)))), tt)
+      z₁ = ((κs₁, (qD, (qS, (qT, tt))), tt, W-args, (live 2 vnil ∷ [], (vint w64 len ∷ [], (w ∷ [], tt)))), tt)
 
       abbrev z₂ : O-triple.Ghost
       z₂ = (((κ, (κA, tt)), (q, (qA, tt)), (bounds.0, tt), (xs, tt), (vs, tt)), tt)
 
-      abbrev κs₃ : Lfts 7
-      κs₃ = (κ, (κA, (κD, (κP, (κT, (κG, (κB, tt)))))))
+      abbrev κs₃ : Lfts 4
+      κs₃ = (κ, (κA, (κD, (κT, tt))))
 
       abbrev z₃ : (Rg κs).Denot → Lay.Denot → Val → Val → V-triple.Ghost
-      z₃ x lay v u = ((κs₃, (q, (qA, (qD, (qP, (qT, (qG, (qB, tt))))))), (bounds.0, tt), (x, (lay, tt)), (v ∷ [], (u ∷ [], tt))), tt)
+      z₃ x lay v u = ((κs₃, (q, (qA, (qD, (qT, tt)))), (bounds.0, tt), (x, (lay, tt)), (v ∷ [], (u ∷ [], tt))), tt)
 
-      module _ (wired : Wired 𝓡.env code.code) (lA : Laws A) (lD : Laws D) (lP : Laws P) (lT : Laws T) (lG : Laws G) (lB : Laws B) (lS : Laws S) (cD : IsCopy D) (cT : IsCopy T)
-          (md : dimension_bound.Met 𝓛 𝓜 𝓡 𝓡.env D P T G B d dd n nd k kd t td j jd) (mn : axis_bound.Met 𝓛 𝓜 𝓡 𝓡.env D n nd) (mk : clone_bound.Met 𝓛 𝓜 𝓡 𝓡.env D k kd)
-          (mt : stride_bound.Met 𝓛 𝓜 𝓡 𝓡.env T t td j jd) (mj : clone_bound.Met 𝓛 𝓜 𝓡 𝓡.env T j jd) (mh : shape_bound.Met 𝓛 𝓜 𝓡 𝓡.env S D P T G B h hd d dd n nd k kd t td j jd) where
+      module _ (wired : Wired 𝓡.env code.code) (lA : Laws A) (lD : Laws D) (lT : Laws T) (lS : Laws S) (cD : IsCopy D) (cT : IsCopy T)
+          (md : dimension_bound.Met 𝓛 𝓜 𝓡 𝓡.env D T d dd n nd k kd t td j jd) (mn : axis_bound.Met 𝓛 𝓜 𝓡 𝓡.env D n nd) (mk : clone_bound.Met 𝓛 𝓜 𝓡 𝓡.env D k kd)
+          (mt : stride_bound.Met 𝓛 𝓜 𝓡 𝓡.env T t td j jd) (mj : clone_bound.Met 𝓛 𝓜 𝓡 𝓡.env T j jd) (mh : shape_bound.Met 𝓛 𝓜 𝓡 𝓡.env S D T h hd d dd n nd k kd t td j jd) where
         abbrev layouts : Lawful 𝓛 Lay
-        layouts = (layout_laws (copied 1 D) (copied 3 T) (param 2 P) (copied 3 T) (param 4 G) (param 5 B) d n t t (copied_laws 1 D lD) (copied_laws 3 T lT) (param_laws 2 P lP) (copied_laws 3 T lT) (param_laws 4 G lG) (param_laws 5 B lB)).lawful 𝓛
+        layouts = (layout_laws (copied 1 D) (copied 2 T) (copied 2 T) d n t t (copied_laws 1 D lD) (copied_laws 2 T lT) (copied_laws 2 T lT)).lawful 𝓛
 
         abbrev regions : Lawful 𝓛 (Rg κs)
-        regions = (region_laws (named_lft 8 0 tt κs) AR (param_laws 0 A lA)).lawful 𝓛
+        regions = (region_laws (named_lft 5 0 tt κs) AR (param_laws 0 A lA)).lawful 𝓛
 
         abbrev views : Lawful 𝓛 (View κs)
-        views = (array_laws (storage_row (Rg κs)) (copied 1 D) (copied 3 T) AR (param 2 P) (copied 3 T) (param 4 G) (param 5 B) (view_impl.ghosts AR) d n t t
-            (storage_laws (Rg κs) (region_laws (named_lft 8 0 tt κs) AR (param_laws 0 A lA))) (copied_laws 1 D lD) (copied_laws 3 T lT) (param_laws 0 A lA) (param_laws 2 P lP) (copied_laws 3 T lT) (param_laws 4 G lG) (param_laws 5 B lB)).lawful 𝓛
+        views = (array_laws (storage_row (Rg κs)) (copied 1 D) (copied 2 T) AR (copied 2 T) (view_impl.ghosts AR) d n t t
+            (storage_laws (Rg κs) (region_laws (named_lft 5 0 tt κs) AR (param_laws 0 A lA))) (copied_laws 1 D lD) (copied_laws 2 T lT) (param_laws 0 A lA) (copied_laws 2 T lT)).lawful 𝓛
 
         walk : T' (has_ty (layout S) w) × WT w → Room AR len → ent 𝓤 (Walk.pre y) (WpFn 𝓤 H 𝓣.C 𝓣.Λ fn (Walk.args y) Post)
         walk w_good rm =
-            qed 𝓛 (((‵ (flft κ q) ⊛ ‵ (flft κA qA) ⊛ (‵ (flft κD qD) ⊛ ‵ (flft κP qP) ⊛ (‵ (flft κT qT) ⊛ ‵ (flft κG qG) ⊛ (‵ (flft κB qB) ⊛ ‵ (flft κS qS) ⊛ ‵ ftrue)))) ⊛ ‵ (owns (types_at En.signature.params κs) (s, (xs, tt)) (w ∷ [], (vs, tt))))
-            ∷ (raw (fact 𝓤 (κA ⊑ A.lives)) ⊛ raw (fact 𝓤 (κD ⊑ D.lives)) ⊛ raw (fact 𝓤 (κP ⊑ P.lives)) ⊛ raw (fact 𝓤 (κT ⊑ T.lives)) ⊛ raw (fact 𝓤 (κG ⊑ G.lives)) ⊛ raw (fact 𝓤 (κB ⊑ B.lives)) ⊛ raw (fact 𝓤 (κS ⊑ S.lives)) ⊛ ‵ ftrue) ∷ []) ∵
-            move ! (1 ∷ []) $ split ! $ heard ! (κA ⊑ A.lives) (λ inA. split ! $ heard ! (κD ⊑ D.lives) (λ inD. split ! $ heard ! (κP ⊑ P.lives) (λ inP. split ! $ heard ! (κT ⊑ T.lives) (λ inT.
-            split ! $ heard ! (κG ⊑ G.lives) (λ inG. split ! $ heard ! (κB ⊑ B.lives) (λ inB. split ! $ heard ! (κS ⊑ S.lives) (λ inS. drop ! $
-            split ! $ split3 ! $ move ! (2 ∷ []) $ split3 ! $ move ! (2 ∷ []) $ split3 ! $ move ! (2 ∷ []) $ split3 ! $ move ! (9 ∷ []) $ fsplit ! $ move ! (1 ∷ []) $ fsplit ! $
-            keep ! (10 ∷ 11 ∷ 8 ∷ 9 ∷ 6 ∷ 7 ∷ 3 ∷ 4 ∷ 2 ∷ 0 ∷ []) $
-            -- [the token; A's; D's; P's; T's; G's; B's; S's; the shape; the slice]
+            qed 𝓛 (((‵ (flft κ q) ⊛ ‵ (flft κA qA) ⊛ (‵ (flft κD qD) ⊛ ‵ (flft κT qT) ⊛ (‵ (flft κS qS) ⊛ ‵ ftrue))) ⊛ ‵ (owns (types_at En.signature.params κs) (s, (xs, tt)) (w ∷ [], (vs, tt))))
+            ∷ (raw (fact 𝓤 (κA ⊑ A.lives)) ⊛ raw (fact 𝓤 (κD ⊑ D.lives)) ⊛ raw (fact 𝓤 (κT ⊑ T.lives)) ⊛ raw (fact 𝓤 (κS ⊑ S.lives)) ⊛ ‵ ftrue) ∷ []) ∵
+            move ! (1 ∷ []) $ split ! $ heard ! (κA ⊑ A.lives) (λ inA. split ! $ heard ! (κD ⊑ D.lives) (λ inD. split ! $ heard ! (κT ⊑ T.lives) (λ inT.
+            split ! $ heard ! (κS ⊑ S.lives) (λ inS. drop ! $
+            split ! $ split3 ! $ move ! (2 ∷ []) $ split3 ! $ move ! (2 ∷ []) $ split ! $ move ! (6 ∷ []) $ fsplit ! $ move ! (1 ∷ []) $ fsplit ! $
+            keep ! (7 ∷ 8 ∷ 5 ∷ 6 ∷ 3 ∷ 2 ∷ 0 ∷ []) $
+            -- [the token; A's; D's; T's; S's; the shape; the slice]
             enter ! _ _ _ _ _ $ alloc_all ! (λ l. pass_all ! refl (w_good, ((tt, (tt, (record { fits = rm.0 }, tt))), tt)) $
             let Places : Env 𝓤 H = env fn.locals l in
             let both : Body = head (after 4 fn.body) in
@@ -333,13 +333,12 @@ module _ (A D P T G B S : RattleType) (d : dimension.Ghosts D.Denot P.Denot T.De
             sets ! (agg ! (and_then ! (lit ! tt) (no_more !))) refl (tt, (record { fits = lit< tt }, tt)) $
             sets ! (of_opd ! (get_in ! (fld ! refl (stop !)) (sub ! 1 refl (whole !)))) refl (tt, record { fits = rm.0 }) $
             sets ! (of_opd ! (get ! refl)) refl w_good $
-            nothing ! $ use0 𝓛 (raw (fact 𝓤 (κB ⊑ B.lives))) (fact_i 𝓤 (κB ⊑ B.lives) (emp 𝓤) inB) $ join ! $ use0 𝓛 (raw (fact 𝓤 (κG ⊑ G.lives))) (fact_i 𝓤 (κG ⊑ G.lives) (emp 𝓤) inG) $ join ! $
-            use0 𝓛 (raw (fact 𝓤 (κT ⊑ T.lives))) (fact_i 𝓤 (κT ⊑ T.lives) (emp 𝓤) inT) $ join ! $ use0 𝓛 (raw (fact 𝓤 (κP ⊑ P.lives))) (fact_i 𝓤 (κP ⊑ P.lives) (emp 𝓤) inP) $ join ! $
+            nothing ! $ use0 𝓛 (raw (fact 𝓤 (κT ⊑ T.lives))) (fact_i 𝓤 (κT ⊑ T.lives) (emp 𝓤) inT) $ join ! $
             use0 𝓛 (raw (fact 𝓤 (κS ⊑ S.lives))) (fact_i 𝓤 (κS ⊑ S.lives) (emp 𝓤) inS) $ join ! $ use0 𝓛 (raw (fact 𝓤 (κD ⊑ D.lives))) (fact_i 𝓤 (κD ⊑ D.lives) (emp 𝓤) inD) $ join ! $
-            nothing ! $ move ! (10 ∷ 0 ∷ []) $ join ! $ owned ! usize _ (uint_Makes 𝓛 w64) len _ (refl, rm.0) $ join ! $ use0 𝓛 (‵ (given_in.the_row.own_val SliceMut (live 2 vnil ∷ []))) (given_made 𝓛) $ join ! $
-            nothing ! $ move ! (9 ∷ 0 ∷ []) $ join ! $ move ! (8 ∷ 0 ∷ []) $ join ! $ move ! (7 ∷ 0 ∷ []) $ join ! $ move ! (6 ∷ 0 ∷ []) $ join ! $ move ! (6 ∷ 0 ∷ []) $ join ! $ move ! (5 ∷ 0 ∷ []) $ join ! $ join ! $ join ! $
+            nothing ! $ move ! (7 ∷ 0 ∷ []) $ join ! $ owned ! usize _ (uint_Makes 𝓛 w64) len _ (refl, rm.0) $ join ! $ use0 𝓛 (‵ (given_in.the_row.own_val SliceMut (live 2 vnil ∷ []))) (given_made 𝓛) $ join ! $
+            nothing ! $ move ! (6 ∷ 0 ∷ []) $ join ! $ move ! (6 ∷ 0 ∷ []) $ join ! $ move ! (5 ∷ 0 ∷ []) $ join ! $ join ! $ join ! $
             use1 𝓛 (raw (W-triple.pre z₁)) (id⊢ 𝓤 _) $
-            calls_at ! (framed 𝓤 H 𝓜 𝓣) W-triple (laid_met 𝓤 𝓛 𝓜 𝓡 (code.calls-nd_array_core::base::from_shape::laid_out 𝓡.env wired) D S P T G B lD lS lP lT lG lB cD cT d dd n nd k kd t td j jd h hd md mn mk mt mj mh) z₁
+            calls_at ! (framed 𝓤 H 𝓜 𝓣) W-triple (laid_met 𝓤 𝓛 𝓜 𝓡 (code.calls-nd_array_core::base::from_shape::laid_out 𝓡.env wired) D S T lD lS lT cD cT d dd n nd k kd t td j jd h hd md mn mk mt mj mh) z₁
             (and_then ! (get ! refl) (and_then ! (get ! refl) (and_then ! (get ! refl) (no_more !)))) (λ v.
             use1 𝓛 (later (some (λ (r : Laid.Denot). (raw Decides ⊛ ‵ (Laid.own_val r (v ∷ []))) ⊛
             some (λ (us : Lasts W-ended κs₁ W-args). ‵ (lasts W-ended κs₁ W-args us) ⊛ raw (fact 𝓤 (Refused r)) ⊛ raw (fact 𝓤 (Accepted r)) ⊛ raw (fact 𝓤 (Lies r)))))) (id⊢ 𝓤 _) $ await ! tt $ pick ! (λ r.
@@ -366,11 +365,10 @@ module _ (A D P T G B S : RattleType) (d : dimension.Ghosts D.Denot P.Denot T.De
             -- [the tokens; S's; nothing; the region; what the slice follows; the layout]
             let Sound : Type 0 = LiesBy (region_stored x) (placement_of lay) in
             use0 𝓛 (raw (fact 𝓤 Sound)) (fact_i 𝓤 Sound (emp 𝓤) (region_sound xs.now given (placement_of lay) laid x is_whole (record { as_many = lay.as_many; spread = lay.spread; checked = lay.checked; reach = lay.reach }))) $
-            use0 𝓛 (raw (fact 𝓤 (κB ⊑ B.lives))) (fact_i 𝓤 (κB ⊑ B.lives) (emp 𝓤) inB) $ join ! $ use0 𝓛 (raw (fact 𝓤 (κG ⊑ G.lives))) (fact_i 𝓤 (κG ⊑ G.lives) (emp 𝓤) inG) $ join ! $
-            use0 𝓛 (raw (fact 𝓤 (κT ⊑ T.lives))) (fact_i 𝓤 (κT ⊑ T.lives) (emp 𝓤) inT) $ join ! $ use0 𝓛 (raw (fact 𝓤 (κP ⊑ P.lives))) (fact_i 𝓤 (κP ⊑ P.lives) (emp 𝓤) inP) $ join ! $
+            use0 𝓛 (raw (fact 𝓤 (κT ⊑ T.lives))) (fact_i 𝓤 (κT ⊑ T.lives) (emp 𝓤) inT) $ join ! $
             use0 𝓛 (raw (fact 𝓤 (κD ⊑ D.lives))) (fact_i 𝓤 (κD ⊑ D.lives) (emp 𝓤) inD) $ join ! $ use0 𝓛 (raw (fact 𝓤 (κA ⊑ A.lives))) (fact_i 𝓤 (κA ⊑ A.lives) (emp 𝓤) inA) $ join ! $
             nothing ! $ move ! (7 ∷ 0 ∷ []) $ join ! $ move ! (5 ∷ 0 ∷ []) $ join ! $ move ! (2 ∷ 0 ∷ []) $ join ! $ join ! $ use1 𝓛 (raw (V-triple.pre (z₃ x lay v₁ u))) (id⊢ 𝓤 _) $
-            calls_at ! (framed 𝓤 H 𝓜 𝓣) V-triple (view_met 𝓤 𝓛 𝓜 𝓡 (code.calls-nd_array_core::base::from_shape::region_laid_out 𝓡.env wired) A D P T G B lA lD lP lT lG lB cD cT d dd n nd k kd t td j jd md mn mk mt mj) (z₃ x lay v₁ u)
+            calls_at ! (framed 𝓤 H 𝓜 𝓣) V-triple (view_met 𝓤 𝓛 𝓜 𝓡 (code.calls-nd_array_core::base::from_shape::region_laid_out 𝓡.env wired) A D T lA lD lT cD cT d dd n nd k kd t td j jd md mn mk mt mj) (z₃ x lay v₁ u)
             (and_then ! (get ! refl) (and_then ! (get ! refl) (no_more !))) (λ v₂.
             use1 𝓛 (later (some (λ (m : (View κs).Denot). (raw Makes ⊛ ‵ ((View κs).own_val m (v₂ ∷ []))) ⊛
             some (λ (us₂ : Lasts V-ended κs₃ (x, (lay, tt))). ‵ (lasts V-ended κs₃ (x, (lay, tt)) us₂) ⊛ raw (fact 𝓤 ((storage_of m).region ≡ x)) ⊛ raw (fact 𝓤 (Lays lay m)) ⊛ raw (fact 𝓤 (Elements x m)))))) (id⊢ 𝓤 _) $ await ! tt $ pick ! (λ m.
@@ -393,20 +391,20 @@ module _ (A D P T G B S : RattleType) (d : dimension.Ghosts D.Denot P.Denot T.De
             move ! (4 ∷ []) $ fsplit3 ! $ move ! (1 ∷ []) $ rewrite ! 0 (λ (zs : List A.Denot). ‵ (fobs xs.ghost_name ((coded_list AR.coded).code zs))) (heres_id AR xs.now) refl $
             returns ! (look_at ! 0 refl) $ free_all ! refl $ keep ! (3 ∷ 4 ∷ 5 ∷ 6 ∷ 0 ∷ []) $
             move ! (1 ∷ 2 ∷ 3 ∷ []) $ group ! 3 $ use1 𝓛 (raw Alive) decided $ move ! (1 ∷ 0 ∷ 2 ∷ []) $ by ! (refused_end e u (subst Refused is refused)))
-            ))))))))))))))
+            )))))))))))
 
 pub from_shape_spec : {M : Type 1} → statement M
-from_shape_spec 𝓤 𝓛 𝓜 𝓡 wired A D P T G B S lA lD lP lT lG lB lS cD cT d dd n nd k kd t td j jd h hd md mn mk mt mj mh =
-    let En' = En A D P T G B S d dd n nd k kd t td j jd h hd in
-    let hs' = hs A D P T G B S d dd n nd k kd t td j jd h hd in
-    let c' = clauses A D P T G B S d dd n nd k kd t td j jd h hd 𝓛 𝓜 𝓡 in
-    proved_at 𝓛 En' hs' c' 𝓜 𝓡 (Goes-dropped 𝓛 8 (plain (λ _. param 6 S)) no (λ κs x f. refl), (Goes-spent_slice 𝓛 8 (0 ∷ []) tt (plain (λ _. param 0 A)), tt))
-    (#self (inst A D P T G B S d dd n nd k kd t td j jd h hd)) (fn A D P T G B S d dd n nd k kd t td j jd h hd)
-    (code.unfolded 𝓤 𝓛.H 𝓜 𝓡 wired (A, (D, (P, (T, (G, (B, (S, tt))))))) dd nd kd td jd hd) (λ y are.
+from_shape_spec 𝓤 𝓛 𝓜 𝓡 wired A D T S lA lD lT lS cD cT d dd n nd k kd t td j jd h hd md mn mk mt mj mh =
+    let En' = En A D T S d dd n nd k kd t td j jd h hd in
+    let hs' = hs A D T S d dd n nd k kd t td j jd h hd in
+    let c' = clauses A D T S d dd n nd k kd t td j jd h hd 𝓛 𝓜 𝓡 in
+    proved_at 𝓛 En' hs' c' 𝓜 𝓡 (Goes-dropped 𝓛 5 (plain (λ _. param 3 S)) no (λ κs x f. refl), (Goes-spent_slice 𝓛 5 (0 ∷ []) tt (plain (λ _. param 0 A)), tt))
+    (#self (inst A D T S d dd n nd k kd t td j jd h hd)) (fn A D T S d dd n nd k kd t td j jd h hd)
+    (code.unfolded 𝓤 𝓛.H 𝓜 𝓡 wired (A, (D, (T, (S, tt)))) dd nd kd td jd hd) (λ y are.
     let κs = y.0.0 in let qs = y.0.1 in let a = y.0.3 in let xs : MutBor (List A.Denot) = a.1.0 in
     let Run = walk_of 𝓛 En' hs' c' in
     let at : List Val → List Val → Run.Ghost = λ ws us. ((κs, qs, y.0.2, a, (ws, (us, tt))), y.1) in
-    let Goes : List Val → List Val → Type 1 = λ ws us. ent 𝓤 (Run.pre (at ws us)) (WpFn 𝓤 𝓛.H (tables 𝓤 𝓛.H 𝓜 𝓡 𝓡.env).C (tables 𝓤 𝓛.H 𝓜 𝓡 𝓡.env).Λ (fn A D P T G B S d dd n nd k kd t td j jd h hd) (Run.args (at ws us)) (Run.post (at ws us))) in
-    subst (Goes y.0.4.0) (sym are.1.0.0.0) (one_value (layout S) (λ ws. Goes ws (mut_slice_vals xs)) y.0.4.0 (((param_laws 6 S lS).lawful 𝓛).typed a.0 y.0.4.0 are.0) (λ w w_good.
-    walk A D P T G B S d dd n nd k kd t td j jd h hd 𝓛 𝓜 𝓡 κs.0 κs.1.0 κs.1.1.0 κs.1.1.1.0 κs.1.1.1.1.0 κs.1.1.1.1.1.0 κs.1.1.1.1.1.1.0 κs.1.1.1.1.1.1.1.0
-    qs.0 qs.1.0 qs.1.1.0 qs.1.1.1.0 qs.1.1.1.1.0 qs.1.1.1.1.1.0 qs.1.1.1.1.1.1.0 qs.1.1.1.1.1.1.1.0 y.0.2 a.0 w xs wired lA lD lP lT lG lB lS cD cT md mn mk mt mj mh w_good are.1.0.0.1)))
+    let Goes : List Val → List Val → Type 1 = λ ws us. ent 𝓤 (Run.pre (at ws us)) (WpFn 𝓤 𝓛.H (tables 𝓤 𝓛.H 𝓜 𝓡 𝓡.env).C (tables 𝓤 𝓛.H 𝓜 𝓡 𝓡.env).Λ (fn A D T S d dd n nd k kd t td j jd h hd) (Run.args (at ws us)) (Run.post (at ws us))) in
+    subst (Goes y.0.4.0) (sym are.1.0.0.0) (one_value (layout S) (λ ws. Goes ws (mut_slice_vals xs)) y.0.4.0 (((param_laws 3 S lS).lawful 𝓛).typed a.0 y.0.4.0 are.0) (λ w w_good.
+    walk A D T S d dd n nd k kd t td j jd h hd 𝓛 𝓜 𝓡 κs.0 κs.1.0 κs.1.1.0 κs.1.1.1.0 κs.1.1.1.1.0
+    qs.0 qs.1.0 qs.1.1.0 qs.1.1.1.0 qs.1.1.1.1.0 y.0.2 a.0 w xs wired lA lD lT lS cD cT md mn mk mt mj mh w_good are.1.0.0.1)))

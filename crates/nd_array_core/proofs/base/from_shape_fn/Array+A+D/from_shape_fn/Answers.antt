@@ -10,7 +10,7 @@ pub returns-clause-cells : goal.returns-clause-cells
 returns-clause-cells g c rows columns cell is by row column r s =
     let ns = g.D.Dimension.lengths c.raw_dim.result.now in
     let lengths : ns ≡ g.Sh.ShapeBuilder.builds_lengths c.args.shape = ap g.D.Dimension.lengths c.raw_dim.ensures ∙ c.into_shape_with_order-shape.ensures.lengths in
-    cells_settled (AnswersIndex g.F.FnMut g.D.Dimension.pattern_lengths) ns rows columns c.args.f (element_at c.of_answers.result) cell (lengths ∙ is)
+    cells_settled (AnswersIndex g.F.FnMut g.D.IntoPattern.pattern_lengths) ns rows columns c.args.f (element_at c.of_answers.result) cell (lengths ∙ is)
     (λ i y q inside call.
     let there = ap (in_box (g.Sh.ShapeBuilder.builds_lengths c.args.shape)) call.1 ∙ ap (λ ms. in_box ms i) (sym lengths) ∙ inside in
     let settled = by call.0 y q there call.2 in

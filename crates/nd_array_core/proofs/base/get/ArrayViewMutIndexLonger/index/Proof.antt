@@ -64,35 +64,34 @@ use Rattle.nd_array_core.proofs.base.get.ArrayViewMutIndexLonger.index.Statement
 use Rattle.nd_array_core.proofs.base.get.ArrayViewMutIndexLonger.index.Code as code
 
 pub index_spec : {M : Type 1} → statement M
-index_spec 𝓤 𝓛 𝓜 𝓡 wired A D I P T' G B lA lD lI lP lT lG lB cD cT d dd n nd k kd t td j jd x xd xdrop mD mN mK mT mJ mX mdrop =
+index_spec 𝓤 𝓛 𝓜 𝓡 wired A D I T' lA lD lI lT cD cT d dd n nd k kd t td j jd x xd xdrop mD mN mK mT mJ mX mdrop =
     let H = 𝓛.H in let 𝓣 = tables 𝓤 H 𝓜 𝓡 𝓡.env in
-    let inst : Args = bounded (a_type ∷ a_type ∷ a_type ∷ a_type ∷ a_type ∷ a_type ∷ a_type ∷ []) (A, (D, (I, (P, (T', (G, (B, tt))))))) (dcons dd (dcons nd (dcons kd (dcons td (dcons jd (dcons xd (dcons xdrop dnil))))))) in
+    let inst : Args = bounded (a_type ∷ a_type ∷ a_type ∷ a_type ∷ []) (A, (D, (I, (T', tt)))) (dcons dd (dcons nd (dcons kd (dcons td (dcons jd (dcons xd (dcons xdrop dnil))))))) in
     let fn : Fn = inst_fn inst code.function in
-    let En : Ended = F.ended A D I P T' G B d dd n nd k kd t td j jd x xd xdrop in
-    let c = F.clauses A D I P T' G B d dd n nd k kd t td j jd x xd xdrop 𝓛 𝓜.mem 𝓡.returns in
+    let En : Ended = F.ended A D I T' d dd n nd k kd t td j jd x xd xdrop in
+    let c = F.clauses A D I T' d dd n nd k kd t td j jd x xd xdrop 𝓛 𝓜.mem 𝓡.returns in
     let E : El = record { row = A; laws = lA } in
-    let AR : RattleType = param 0 A in let DR : RattleType = copied 1 D in let PR : RattleType = param 3 P in let TR : RattleType = copied 4 T' in let GR : RattleType = param 5 G in let BR : RattleType = param 6 B in
-    let view : Slot 8 = plain (λ κs. array_row (storage_row (region_row (named_lft 8 0 tt κs) AR)) DR TR AR PR TR GR BR (view_impl.ghosts AR) d n t t) in
+    let AR : RattleType = param 0 A in let DR : RattleType = copied 1 D in let TR : RattleType = copied 3 T' in
+    let view : Slot 5 = plain (λ κs. array_row (storage_row (region_row (named_lft 5 0 tt κs) AR)) DR TR AR TR (view_impl.ghosts AR) d n t t) in
     let hs : Stays En.signature.params En.kept = (stay_dropped view no, (stay_dropped (plain (λ _. param 2 I)) no, tt)) in
     let W = walk_of 𝓛 En hs c in
-    proved_at 𝓛 En hs c 𝓜 𝓡 ((λ κs y f vs fit. qed 𝓛 (‵ ftrue ∷ []) ∵ updating ! $ nothing ! $ fjoin ! $ nothing ! $ fjoin ! $ nothing ! $ move ! (1 ∷ 0 ∷ []) $ fjoin ! $ now ! $ done !), (Goes-dropped 𝓛 8 (plain (λ _. param 2 I)) no (λ κs y f. refl), tt)) (#self inst) fn (code.unfolded 𝓤 H 𝓜 𝓡 wired (A, (D, (I, (P, (T', (G, (B, tt))))))) dd nd kd td jd xd xdrop) (λ y are.
-    let κs : Lfts 8 = y.0.0 in let qs = y.0.1 in let bounds = y.0.2 in let a = y.0.3 in let gh = y.1 in
+    proved_at 𝓛 En hs c 𝓜 𝓡 ((λ κs y f vs fit. qed 𝓛 (‵ ftrue ∷ []) ∵ updating ! $ nothing ! $ fjoin ! $ nothing ! $ fjoin ! $ nothing ! $ move ! (1 ∷ 0 ∷ []) $ fjoin ! $ now ! $ done !), (Goes-dropped 𝓛 5 (plain (λ _. param 2 I)) no (λ κs y f. refl), tt)) (#self inst) fn (code.unfolded 𝓤 H 𝓜 𝓡 wired (A, (D, (I, (T', tt)))) dd nd kd td jd xd xdrop) (λ y are.
+    let κs : Lfts 5 = y.0.0 in let qs = y.0.1 in let bounds = y.0.2 in let a = y.0.3 in let gh = y.1 in
     let κ : Lft = κs.0 in let κA : Lft = κs.1.0 in let q : Share = qs.0 in let qA : Share = qs.1.0 in
-    let others : SProp 𝓤 = toks 𝓛 6 κs.1.1 qs.1.1 in
-    let Rest : SProp 𝓤 = sep 𝓤 (fact 𝓤 (κs.1.1.0 ⊑ D.lives)) (sep 𝓤 (fact 𝓤 (κs.1.1.1.0 ⊑ I.lives)) (sep 𝓤 (fact 𝓤 (κs.1.1.1.1.0 ⊑ P.lives)) (sep 𝓤 (fact 𝓤 (κs.1.1.1.1.1.0 ⊑ T'.lives))
-    (sep 𝓤 (fact 𝓤 (κs.1.1.1.1.1.1.0 ⊑ G.lives)) (sep 𝓤 (fact 𝓤 (κs.1.1.1.1.1.1.1.0 ⊑ B.lives)) (fact 𝓤 (in_box (shape_of a.0) (x.coordinates_of a.1.0) ≡ true))))))) in
-    let Rg : RattleType = region_row (named_lft 8 0 tt κs) AR in
+    let others : SProp 𝓤 = toks 𝓛 3 κs.1.1 qs.1.1 in
+    let Rest : SProp 𝓤 = sep 𝓤 (fact 𝓤 (κs.1.1.0 ⊑ D.lives)) (sep 𝓤 (fact 𝓤 (κs.1.1.1.0 ⊑ I.lives)) (sep 𝓤 (fact 𝓤 (κs.1.1.1.1.0 ⊑ T'.lives)) (fact 𝓤 (in_box (shape_of a.0) (x.coordinates_of a.1.0) ≡ true)))) in
+    let Rg : RattleType = region_row (named_lft 5 0 tt κs) AR in
     let Two : RattleType = Tuple (Rg ∷ usize ∷ []) in
     let Lent : RattleType = MutRef (named 0) κ AR in
-    let View : RattleType = array_row (storage_row Rg) DR TR AR PR TR GR BR (view_impl.ghosts AR) d n t t in
-    let view_laws : Laws View = array_laws_of (storage_row Rg) DR TR AR PR TR GR BR (view_impl.ghosts AR) d n t t
-    (storage_laws Rg (region_laws (named_lft 8 0 tt κs) AR (param_laws 0 A lA))) (copied_laws 1 D lD) (copied_laws 4 T' lT) (param_laws 0 A lA) (param_laws 3 P lP) (copied_laws 4 T' lT) (param_laws 5 G lG) (param_laws 6 B lB) in
+    let View : RattleType = array_row (storage_row Rg) DR TR AR TR (view_impl.ghosts AR) d n t t in
+    let view_laws : Laws View = array_laws_of (storage_row Rg) DR TR AR TR (view_impl.ghosts AR) d n t t
+    (storage_laws Rg (region_laws (named_lft 5 0 tt κs) AR (param_laws 0 A lA))) (copied_laws 1 D lD) (copied_laws 3 T' lT) (param_laws 0 A lA) (copied_laws 3 T' lT) in
     let one = one_value (lone View.mir) y.0.4.0 ((view_laws.lawful 𝓛).typed a.0 y.0.4.0 are.0) in
     let two = one_value (lone (param 2 I).mir) y.0.4.1.0 (((param_laws 2 I lI).lawful 𝓛).typed a.1.0 y.0.4.1.0 are.1.0) in
     let v : Val = one.0 in let w : Val = two.0 in
     let vss : Vals En.signature κs = (v ∷ [], (w ∷ [], tt)) in
-    let S-ended : Ended = S.ended A D I P T' G B d dd n nd k kd t td j jd x xd xdrop in
-    let S-triple = triple_of 𝓛 (S.signature A D I P T' G B d dd n nd k kd t td j jd x xd xdrop) (S.spec A D I P T' G B d dd n nd k kd t td j jd x xd xdrop 𝓛 𝓜.mem 𝓡.returns) in
+    let S-ended : Ended = S.ended A D I T' d dd n nd k kd t td j jd x xd xdrop in
+    let S-triple = triple_of 𝓛 (S.signature A D I T' d dd n nd k kd t td j jd x xd xdrop) (S.spec A D I T' d dd n nd k kd t td j jd x xd xdrop 𝓛 𝓜.mem 𝓡.returns) in
     let z₁ : S-triple.Ghost = ((κs, qs, bounds, a, vss), tt) in
     let K-ended : Ended = K.ended A in
     let K-triple = triple_of 𝓛 (K.signature A) (K.spec A 𝓛 𝓜.mem 𝓡.returns) in
@@ -102,7 +101,7 @@ index_spec 𝓤 𝓛 𝓜 𝓡 wired A D I P T' G B lA lD lI lP lT lG lB cD cT d
     fact_use 𝓤 (κA ⊑ A.lives) (via 𝓤 _ (snd∗ 𝓤 (on_entry 𝓛 En.signature κs qs a vss) ((c κs a).requires gh)) (fst∗ 𝓤 (fact 𝓤 (κA ⊑ A.lives)) Rest)) (λ inA.
     qed 𝓛 (raw (S-triple.pre z₁) ∷ []) ∵ enter ! _ _ _ _ _ $ alloc_all ! (λ l. pass_all ! refl (one.2, (two.2, tt)) $
     sets ! (of_opd ! (get ! refl)) refl one.2 $ sets ! (of_opd ! (get ! refl)) refl two.2 $
-    calls_at ! (framed 𝓤 H 𝓜 𝓣) S-triple (sought_met 𝓤 𝓛 𝓜 𝓡 (code.calls-nd_array_core::base::get::sought_in_box 𝓡.env wired) A D I P T' G B lA lD lI lP lT lG lB cD cT d dd n nd k kd t td j jd x xd xdrop mD mN mK mT mJ mX mdrop) z₁
+    calls_at ! (framed 𝓤 H 𝓜 𝓣) S-triple (sought_met 𝓤 𝓛 𝓜 𝓡 (code.calls-nd_array_core::base::get::sought_in_box 𝓡.env wired) A D I T' lA lD lI lT cD cT d dd n nd k kd t td j jd x xd xdrop mD mN mK mT mJ mX mdrop) z₁
     (and_then ! (get ! refl) (and_then ! (get ! refl) (no_more !))) (λ got.
     let index : List ℕ = x.coordinates_of a.1.0 in
     let OfView : Two.Denot → Type 0 = λ r. r.0 ≡ region_of a.0 in
@@ -115,14 +114,14 @@ index_spec 𝓤 𝓛 𝓜 𝓡 wired A D I P T' G B lA lD lI lP lT lG lB cD cT d
     let region : Rg.Denot = r.0 in let place : ℕ = r.1 in let gp = ptr_Good region.ptr in
     -- [the tokens and the pair]
     split ! $ split3 ! $ move ! (3 ∷ []) $ fpick ! (λ uss. fsplit ! $ feq_l ! (λ e. fsplit3 ! $ peeks ! Rg (Is Rg) (shows 𝓛 Rg) region uss.0 (λ is.
-    let e₀ = rg_Tells (named_lft 8 0 tt κs) E region uss.0 is in rewrite ! 0 (λ (vs : List Val). ‵ (Rg.own_val region vs)) e₀ refl $
+    let e₀ = rg_Tells (named_lft 5 0 tt κs) E region uss.0 is in rewrite ! 0 (λ (vs : List Val). ‵ (Rg.own_val region vs)) e₀ refl $
     move ! (1 ∷ []) $ peeks ! usize (Is usize) (shows 𝓛 usize) place uss.1.0 (λ is'. rewrite ! 0 (λ (vs : List Val). ‵ (usize.own_val place vs)) is'.0 refl $
     -- [the place; the region; nothing; the borrow's token; A's; the others]
     lands_as ! (ap only e ∙ (λ i. vstruct (of_list (e₀ i ++ (is'.0 i ++ []))))) refl (both (has_ty ty_ptr (ptr_val region.ptr) && true) true gp.0 tt, ((gp.1, (record { fits = region.small }, (tt, tt))), (record { fits = is'.1 }, tt))) $
     sets ! (of_opd ! (get_in ! (fld ! refl (stop !)) (sub ! 0 refl (whole !)))) refl (gp.0, (gp.1, (record { fits = region.small }, (tt, tt)))) $
     sets ! (of_opd ! (get_in ! (fld ! refl (stop !)) (sub ! 1 refl (whole !)))) refl (tt, record { fits = is'.1 }) $
     sets ! (of_opd ! (get ! refl)) refl (gp.0, (gp.1, (record { fits = region.small }, (tt, tt)))) $
-    let z₂ : K-triple.Ghost = ((κs₂, (q, (qA, tt)), (bounds.0, tt), (region, (place, tt)), (rg_vals (named_lft 8 0 tt κs) E region, (vint w64 place ∷ [], tt))), tt) in
+    let z₂ : K-triple.Ghost = ((κs₂, (q, (qA, tt)), (bounds.0, tt), (region, (place, tt)), (rg_vals (named_lft 5 0 tt κs) E region, (vint w64 place ∷ [], tt))), tt) in
     nothing ! $ move ! (1 ∷ 0 ∷ []) $ join ! $ move ! (1 ∷ 0 ∷ []) $ join ! $ nothing ! $ move ! (4 ∷ 0 ∷ []) $ join ! $ move ! (3 ∷ 0 ∷ []) $ join ! $ move ! (0 ∷ 1 ∷ []) $ join ! $
     use0 𝓛 (raw (fact 𝓤 (There r))) (fact_i 𝓤 (There r) (emp 𝓤) there) $ use0 𝓛 (raw (fact 𝓤 (κA ⊑ A.lives))) (fact_i 𝓤 (κA ⊑ A.lives) (emp 𝓤) inA) $ join ! $
     move ! (1 ∷ 0 ∷ []) $ join ! $ use1 𝓛 (raw (K-triple.pre z₂)) (id⊢ 𝓤 _) $

@@ -64,40 +64,40 @@ use Rattle.nd_array_core.proofs.layout.view_mut.ArrayBase+S+D.lent_part.Statemen
 use Rattle.nd_array_core.proofs.layout.view_mut.ArrayBase+S+D.lent_part.Code as code
 
 pub lent_part_spec : {M : Type 1} → statement M
-lent_part_spec 𝓤 𝓛 𝓜 𝓡 wired S D E P T G B lS lD lE lP lT lG lB cD cT sm smd sd sdd d dd n nd k kd t td j jd mS msd md mn mk mt mj =
+lent_part_spec 𝓤 𝓛 𝓜 𝓡 wired S D E T lS lD lE lT cD cT sm smd sd sdd d dd n nd k kd t td j jd mS msd md mn mk mt mj =
     let H = 𝓛.H in let 𝓣 = tables 𝓤 H 𝓜 𝓡 𝓡.env in
-    let inst : Args = bounded (a_type ∷ a_type ∷ a_type ∷ a_type ∷ a_type ∷ a_type ∷ a_type ∷ []) (S, (D, (E, (P, (T, (G, (B, tt))))))) (dcons smd (dcons sdd (dcons dd (dcons nd (dcons kd (dcons td (dcons jd dnil))))))) in
+    let inst : Args = bounded (a_type ∷ a_type ∷ a_type ∷ a_type ∷ []) (S, (D, (E, (T, tt)))) (dcons smd (dcons sdd (dcons dd (dcons nd (dcons kd (dcons td (dcons jd dnil))))))) in
     let fn : Fn = inst_fn inst code.function in
-    let En : Ended = F.ended S D E P T G B sm smd sd sdd d dd n nd k kd t td j jd in
-    let c = F.clauses S D E P T G B sm smd sd sdd d dd n nd k kd t td j jd 𝓛 𝓜.mem 𝓡.returns in
-    let SR : RattleType = param 0 S in let DR : RattleType = copied 1 D in let ER : RattleType = param 2 E in let PR : RattleType = param 3 P in
-    let TR : RattleType = copied 4 T in let GR : RattleType = param 5 G in let BR : RattleType = param 6 B in
-    let Row : RattleType = stored_in.Row S D T E P G B sd d n t in
+    let En : Ended = F.ended S D E T sm smd sd sdd d dd n nd k kd t td j jd in
+    let c = F.clauses S D E T sm smd sd sdd d dd n nd k kd t td j jd 𝓛 𝓜.mem 𝓡.returns in
+    let SR : RattleType = param 0 S in let DR : RattleType = copied 1 D in let ER : RattleType = param 2 E in
+    let TR : RattleType = copied 3 T in
+    let Row : RattleType = stored_in.Row S D T E sd d n t in
     let hs : Stays En.signature.params En.kept = (
       stay_dropped (RefMutOf (0 ∷ []) tt (plain (λ _. Row)) (λ _. tt)) no,
       (stay_dropped (plain (λ _. usize)) yes, (stay_dropped (SliceRefOf (1 ∷ []) tt (plain (λ _. usize)) (λ _. tt)) yes, (stay_dropped (SliceRefOf (2 ∷ []) tt (plain (λ _. isize)) (λ _. tt)) yes, tt))),
     ) in
-    let lawful : Lawfuls 𝓛 (rows_of (stored_in.members S D T E P G B sd d n t)) = lawfuls 𝓛 (stored_in.Whole S D T E P G B sd d n t).parts
-    (the_loose SR DR TR ER PR TR GR BR sd d n t t (param_laws 0 S lS) (copied_laws 1 D lD) (copied_laws 4 T lT) (param_laws 2 E lE) (param_laws 3 P lP) (copied_laws 4 T lT) (param_laws 5 G lG) (param_laws 6 B lB)) in
+    let lawful : Lawfuls 𝓛 (rows_of (stored_in.members S D T E sd d n t)) = lawfuls 𝓛 (stored_in.Whole S D T E sd d n t).parts
+    (the_loose SR DR TR ER TR sd d n t t (param_laws 0 S lS) (copied_laws 1 D lD) (copied_laws 3 T lT) (param_laws 2 E lE) (copied_laws 3 T lT)) in
     proved 𝓛 En hs c 𝓜 𝓡 (
-      Goes-spent_ref 𝓛 10 (0 ∷ []) tt (plain (λ _. Row)),
+      Goes-spent_ref 𝓛 7 (0 ∷ []) tt (plain (λ _. Row)),
       (
-        Goes-dropped 𝓛 10 (plain (λ _. usize)) yes (λ κs x f. refl),
-        (Goes-dropped 𝓛 10 (SliceRefOf (1 ∷ []) tt (plain (λ _. usize)) (λ _. tt)) yes (λ κs x f. refl), (Goes-dropped 𝓛 10 (SliceRefOf (2 ∷ []) tt (plain (λ _. isize)) (λ _. tt)) yes (λ κs x f. refl), tt)),
+        Goes-dropped 𝓛 7 (plain (λ _. usize)) yes (λ κs x f. refl),
+        (Goes-dropped 𝓛 7 (SliceRefOf (1 ∷ []) tt (plain (λ _. usize)) (λ _. tt)) yes (λ κs x f. refl), (Goes-dropped 𝓛 7 (SliceRefOf (2 ∷ []) tt (plain (λ _. isize)) (λ _. tt)) yes (λ κs x f. refl), tt)),
       ),
-    ) (#self inst) fn (code.unfolded 𝓤 H 𝓜 𝓡 wired (S, (D, (E, (P, (T, (G, (B, tt))))))) smd sdd dd nd kd td jd)
+    ) (#self inst) fn (code.unfolded 𝓤 H 𝓜 𝓡 wired (S, (D, (E, (T, tt)))) smd sdd dd nd kd td jd)
     (λ κs. (mut_vals, (uint_vals w64, (shr_slice_vals, (shr_slice_vals, tt)))))
     (λ κs. (mut_Tells (named 0) κs.0 Row, (uint_Tells w64, (shr_slice_Tells (named 1) κs.1.0 usize, (shr_slice_Tells (named 2) κs.1.1.0 isize, tt))))) (λ κs qs bounds a gh are.
     let κ : Lft = κs.0 in let κl : Lft = κs.1.0 in let κm : Lft = κs.1.1.0 in let κS : Lft = κs.1.1.1.0 in let κD : Lft = κs.1.1.1.1.0 in let κE : Lft = κs.1.1.1.1.1.0 in
     let q : Share = qs.0 in let ql : Share = qs.1.0 in let qm : Share = qs.1.1.0 in let qS : Share = qs.1.1.1.0 in let qD : Share = qs.1.1.1.1.0 in let qE : Share = qs.1.1.1.1.1.0 in
     let lq : Share = left q in let rq : Share = right q in
-    let others : SProp 𝓤 = toks 𝓛 4 κs.1.1.1.1.1.1 qs.1.1.1.1.1.1 in
+    let others : SProp 𝓤 = toks 𝓛 1 κs.1.1.1.1.1.1 qs.1.1.1.1.1.1 in
     let vss : Vals En.signature κs = (mut_vals a.0, (uint_vals w64 a.1.0, (shr_slice_vals a.1.1.0, (shr_slice_vals a.1.1.1.0, tt)))) in
     let y : (walk_of 𝓛 En hs c).Ghost = ((κs, qs, bounds, a, vss), gh) in
     let old : Row.Denot = a.0.now in let γ : GName = a.0.ghost_name in let rb : ℕ = a.0.ref_ptr.0 in let ro : ℕ = a.0.ref_ptr.1 in
     let offset : ℕ = a.1.0 in let ns = a.1.1.0.now in let ss = a.1.1.1.0.now in let test : ℕ → Bool = names offset ns ss in
-    let at : ℕ = stored_in.storage_at S D T E P G B sd d n t 𝓛 rb ro in
-    let Rest : SProp 𝓤 = stored_in.Beside S D T E P G B sd d n t 𝓛 rb ro old in
+    let at : ℕ = stored_in.storage_at S D T E sd d n t 𝓛 rb ro in
+    let Rest : SProp 𝓤 = stored_in.Beside S D T E sd d n t 𝓛 rb ro old in
     let xs : List E.Denot = sd.items old.storage in
     let with : List E.Denot → Row.Denot = array_with_part sd.refilled sd.items old test in
     let ends : Row.Denot → Row.Denot = λ w. with (sd.items w.storage) in
@@ -109,13 +109,13 @@ lent_part_spec 𝓤 𝓛 𝓜 𝓡 wired S D E P T G B lS lD lE lP lT lG lB cD c
     let K-triple = triple_of 𝓛 (K.signature E) (K.spec E 𝓛 𝓜.mem 𝓡.returns) in
     let κs₁ : Lfts 3 = (κ, (κS, (κE, tt))) in let κs₂ : Lfts 2 = (κ, (κE, tt)) in let κs₃ : Lfts 4 = (κ, (κl, (κm, (κE, tt)))) in
     let Rg : RattleType = region_row (named_lft 3 0 tt κs₁) ER in let Part : RattleType = region_row (named_lft 4 0 tt κs₃) ER in
-    let Storage : RattleType = storage_row (region_row (named_lft 10 0 tt κs) ER) in
+    let Storage : RattleType = storage_row (region_row (named_lft 7 0 tt κs) ER) in
     let O-ended : Ended = O.ended E in
     let O-triple = triple_of 𝓛 (O.signature E) (O.spec E 𝓛 𝓜.mem 𝓡.returns) in
     let Many : Type 0 = length ns ≡ length ss in let Held : Type 0 = HoldsAll (sd.stored old.storage) offset ns ss in
     qed 𝓛 (((‵ (flft κ q) ⊛ ‵ (flft κl ql) ⊛ (‵ (flft κm qm) ⊛ ‵ (flft κS qS) ⊛ (‵ (flft κD qD) ⊛ ‵ (flft κE qE) ⊛ raw others))) ⊛ ‵ (owns (types_at En.signature.params κs) a vss))
-    ∷ (raw (fact 𝓤 (κS ⊑ S.lives)) ⊛ raw (fact 𝓤 (κD ⊑ D.lives)) ⊛ raw (fact 𝓤 (κE ⊑ E.lives)) ⊛ raw (fact 𝓤 (κs.1.1.1.1.1.1.0 ⊑ P.lives)) ⊛ raw (fact 𝓤 (κs.1.1.1.1.1.1.1.0 ⊑ T.lives)) ⊛ raw (fact 𝓤 (κs.1.1.1.1.1.1.1.1.0 ⊑ G.lives)) ⊛ raw (fact 𝓤 (κs.1.1.1.1.1.1.1.1.1.0 ⊑ B.lives)) ⊛ raw (fact 𝓤 Many) ⊛ raw (fact 𝓤 Held)) ∷ []) ∵
-    move ! (1 ∷ []) $ split ! $ heard ! (κS ⊑ S.lives) (λ inS. split ! $ drop ! $ split ! $ heard ! (κE ⊑ E.lives) (λ inE. split ! $ drop ! $ split ! $ drop ! $ split ! $ drop ! $ split ! $ drop ! $
+    ∷ (raw (fact 𝓤 (κS ⊑ S.lives)) ⊛ raw (fact 𝓤 (κD ⊑ D.lives)) ⊛ raw (fact 𝓤 (κE ⊑ E.lives)) ⊛ raw (fact 𝓤 (κs.1.1.1.1.1.1.0 ⊑ T.lives)) ⊛ raw (fact 𝓤 Many) ⊛ raw (fact 𝓤 Held)) ∷ []) ∵
+    move ! (1 ∷ []) $ split ! $ heard ! (κS ⊑ S.lives) (λ inS. split ! $ drop ! $ split ! $ heard ! (κE ⊑ E.lives) (λ inE. split ! $ drop ! $
     split ! $ heard ! Many (λ many. heard ! Held (λ there.
     split ! $ split3 ! $ move ! (2 ∷ []) $ split3 ! $ move ! (2 ∷ []) $ split3 ! $ move ! (7 ∷ []) $ fsplit ! $ fsplit3 ! $ move ! (3 ∷ []) $ fsplit ! $ move ! (1 ∷ []) $ fsplit ! $ move ! (1 ∷ []) $ fsplit ! $
     keep ! (5 ∷ 6 ∷ 12 ∷ 11 ∷ 8 ∷ 7 ∷ 9 ∷ 13 ∷ 10 ∷ 3 ∷ 2 ∷ 0 ∷ []) $
@@ -124,7 +124,7 @@ lent_part_spec 𝓤 𝓛 𝓜 𝓡 wired S D E P T G B lS lD lE lP lT lG lB cD c
     sets ! (addr ! (through ! refl (fld ! refl (stop !)))) refl (tt, tt) $
     move ! (2 ∷ []) $ use1 𝓛 (‵ (flft κ lq) ⊛ ‵ (flft κ rq)) (𝓛.lfts.lft_split κ q) $ split ! $ move ! (2 ∷ 3 ∷ 0 ∷ []) $
     use3 𝓛 (later (some (field.Lent Row SR 𝓛 ends κ rb ro rb at γ old old.storage Rest lq)))
-    (field.lends_field Row SR 𝓛 ends κ rb ro rb at γ old old.storage Rest (items_here sd.refilled sd.items old test mS.refilled_itself) (stored_in.storage_out S D T E P G B sd d n t 𝓛 rb ro lawful old) lq) $ await ! tt $ pick ! (λ z.
+    (field.lends_field Row SR 𝓛 ends κ rb ro rb at γ old old.storage Rest (items_here sd.refilled sd.items old test mS.refilled_itself) (stored_in.storage_out S D T E sd d n t 𝓛 rb ro lawful old) lq) $ await ! tt $ pick ! (λ z.
     let γ' : GName = z.0 in let δ : GName = z.1 in let m : ℕ = z.2 in
     let s : MutBor S.Denot = record { ref_ptr = (rb, at); ghost_name = δ; now = old.storage } in
     let zL : L-triple.Ghost = ((κs₁, (rq, (qS, (qE, tt))), (bounds.0, (bounds.1.1.1.0, tt)), (s, tt), (mut_vals s, tt)), tt) in
@@ -161,7 +161,7 @@ lent_part_spec 𝓤 𝓛 𝓜 𝓡 wired S D E P T G B lS lD lE lP lT lG lB cD c
     move ! (4 ∷ 0 ∷ []) $ use2 𝓛 (‵ (follows SR (Array ER 0) δ x₁.name part_filled)) (follows_then 𝓛 SR (Array ER 0) (Array ER 0) filled (written_where test xs) δ x.name x₁.name) $
     move ! (8 ∷ 9 ∷ 6 ∷ 7 ∷ 0 ∷ 4 ∷ []) $ group ! 6 $
     use1 𝓛 (later (‵ (flft κ lq))) (field.closes_field Row SR 𝓛 ends κ rb ro rb at (Array ER 0) part_filled with Rest (λ ws. items_again sd.refilled sd.items old test ws mS.refilled_items)
-    (stored_in.storage_back S D T E P G B sd d n t 𝓛 rb ro old test) lq γ' δ x₁.name m (Row.coded.code old) (Row.coded.code old)) $ await ! tt $
+    (stored_in.storage_back S D T E sd d n t 𝓛 rb ro old test) lq γ' δ x₁.name m (Row.coded.code old) (Row.coded.code old)) $ await ! tt $
     move ! (1 ∷ []) $ split ! $ split3 ! $ move ! (2 ∷ []) $ split3 ! $ move ! (6 ∷ 3 ∷ []) $ use2 𝓛 (‵ (flft κ q)) (𝓛.lfts.lft_join κ q) $
     -- [the token; the second slice's; E's; nothing; the first slice's; the part; nothing; S's; what the array follows; D's; the others]
     move ! (5 ∷ []) $ peeks ! Part (Is Part) (shows 𝓛 Part) x₁ (v₁ ∷ []) (λ typed₁.
@@ -174,7 +174,7 @@ lent_part_spec 𝓤 𝓛 𝓜 𝓡 wired S D E P T G B lS lD lE lP lT lG lB cD c
     some (λ (ws : Lasts O-ended κs₂ (x₁, tt)). ‵ (lasts O-ended κs₂ (x₁, tt) ws) ⊛ raw (fact 𝓤 (r.region ≡ x₁)))))) (id⊢ 𝓤 _) $ await ! tt $ pick ! (λ r.
     split ! $ move ! (1 ∷ []) $ pick ! (λ ws. split ! $ drop ! $ heard ! (r.region ≡ x₁) (λ is.
     split ! $ move ! (1 ∷ []) $ peeks ! Storage (Is Storage) (shows 𝓛 Storage) r (v' ∷ []) (λ typed'.
-    let good = (storage_laws (region_row (named_lft 10 0 tt κs) ER) (region_laws (named_lft 10 0 tt κs) ER (param_laws 2 E lE))).lawful 𝓛 in
+    let good = (storage_laws (region_row (named_lft 7 0 tt κs) ER) (region_laws (named_lft 7 0 tt κs) ER (param_laws 2 E lE))).lawful 𝓛 in
     lands_as ! refl refl (good.typed r (v' ∷ []) typed').0 $
     let out : Storage.Denot = record { region = r.region; tie = record { marker = r.tie.marker; value = γ' } } in
     use1 𝓛 (‵ (Storage.own_val out (v' ∷ []))) (id⊢ 𝓤 _) $

@@ -57,20 +57,20 @@ use Rattle.nd_array_core.proofs.reshape.as_slice_mut.ArrayBase+S+D.as_slice_memo
 
 pub as_slice_memory_order_mut_spec : {M : Type 1} → statement M
 unfolding follows_by
-as_slice_memory_order_mut_spec 𝓤 𝓛 𝓜 𝓡 wired S D E P X G B lS lD lE lP lX lG lB cD cX sm smd sd sdd d dd n nd k kd t td j jd mS msd md mn mk mt mj =
+as_slice_memory_order_mut_spec 𝓤 𝓛 𝓜 𝓡 wired S D E X lS lD lE lX cD cX sm smd sd sdd d dd n nd k kd t td j jd mS msd md mn mk mt mj =
     let H = 𝓛.H in let 𝓣 = tables 𝓤 H 𝓜 𝓡 𝓡.env in
-    let inst : Args = bounded (a_type ∷ a_type ∷ a_type ∷ a_type ∷ a_type ∷ a_type ∷ a_type ∷ []) (S, (D, (E, (P, (X, (G, (B, tt))))))) (dcons smd (dcons sdd (dcons dd (dcons nd (dcons kd (dcons td (dcons jd dnil))))))) in
+    let inst : Args = bounded (a_type ∷ a_type ∷ a_type ∷ a_type ∷ []) (S, (D, (E, (X, tt)))) (dcons smd (dcons sdd (dcons dd (dcons nd (dcons kd (dcons td (dcons jd dnil))))))) in
     let fn : Fn = inst_fn inst code.function in
-    let En : Ended = F.ended S D E P X G B sm smd sd sdd d dd n nd k kd t td j jd in
-    let c = F.clauses S D E P X G B sm smd sd sdd d dd n nd k kd t td j jd 𝓛 𝓜.mem 𝓡.returns in
+    let En : Ended = F.ended S D E X sm smd sd sdd d dd n nd k kd t td j jd in
+    let c = F.clauses S D E X sm smd sd sdd d dd n nd k kd t td j jd 𝓛 𝓜.mem 𝓡.returns in
     let ER : RattleType = param 2 E in
-    let Row : RattleType = array_row (param 0 S) (copied 1 D) (copied 4 X) ER (param 3 P) (copied 4 X) (param 5 G) (param 6 B) sd d n t t in
+    let Row : RattleType = array_row (param 0 S) (copied 1 D) (copied 3 X) ER (copied 3 X) sd d n t t in
     let hs : Stays En.signature.params En.kept = (stay_dropped (RefMutOf (0 ∷ []) tt (plain (λ _. Row)) (λ _. tt)) no, tt) in
-    proved 𝓛 En hs c 𝓜 𝓡 (Goes-spent_ref 𝓛 8 (0 ∷ []) tt (plain (λ _. Row)), tt) (#self inst) fn (code.unfolded 𝓤 H 𝓜 𝓡 wired (S, (D, (E, (P, (X, (G, (B, tt))))))) smd sdd dd nd kd td jd)
+    proved 𝓛 En hs c 𝓜 𝓡 (Goes-spent_ref 𝓛 5 (0 ∷ []) tt (plain (λ _. Row)), tt) (#self inst) fn (code.unfolded 𝓤 H 𝓜 𝓡 wired (S, (D, (E, (X, tt)))) smd sdd dd nd kd td jd)
     (λ κs. (mut_vals, tt)) (λ κs. (mut_Tells (named 0) κs.0 Row, tt)) (λ κs qs bounds a gh are.
-    let κ : Lft = κs.0 in let q : Share = qs.0 in let others : SProp 𝓤 = toks 𝓛 7 κs.1 qs.1 in
-    let inS : Type 0 = κs.1.0 ⊑ S.lives in let inD : Type 0 = κs.1.1.0 ⊑ D.lives in let inE : Type 0 = κs.1.1.1.0 ⊑ E.lives in let inP : Type 0 = κs.1.1.1.1.0 ⊑ P.lives in
-    let inX : Type 0 = κs.1.1.1.1.1.0 ⊑ X.lives in let inG : Type 0 = κs.1.1.1.1.1.1.0 ⊑ G.lives in let inB : Type 0 = κs.1.1.1.1.1.1.1.0 ⊑ B.lives in
+    let κ : Lft = κs.0 in let q : Share = qs.0 in let others : SProp 𝓤 = toks 𝓛 4 κs.1 qs.1 in
+    let inS : Type 0 = κs.1.0 ⊑ S.lives in let inD : Type 0 = κs.1.1.0 ⊑ D.lives in let inE : Type 0 = κs.1.1.1.0 ⊑ E.lives in
+    let inX : Type 0 = κs.1.1.1.1.0 ⊑ X.lives in
     let vss : Vals En.signature κs = (mut_vals a.0, tt) in
     let y : (walk_of 𝓛 En hs c).Ghost = ((κs, qs, bounds, a, vss), gh) in
     let Post = (walk_of 𝓛 En hs c).post y in
@@ -80,20 +80,20 @@ as_slice_memory_order_mut_spec 𝓤 𝓛 𝓜 𝓡 wired S D E P X G B lS lD lE 
     let Two : RattleType = Tuple (Mr ∷ bool ∷ []) in
     let Lent : RattleType = MutSlice (named 0) κ ER in
     let Out : RattleType = OP.the_row Lent in
-    let K-ended : Ended = K.ended S D E P X G B sm smd sd sdd d dd n nd k kd t td j jd in
-    let K-triple = triple_of 𝓛 (K.signature S D E P X G B sm smd sd sdd d dd n nd k kd t td j jd) (K.spec S D E P X G B sm smd sd sdd d dd n nd k kd t td j jd 𝓛 𝓜.mem 𝓡.returns) in
+    let K-ended : Ended = K.ended S D E X sm smd sd sdd d dd n nd k kd t td j jd in
+    let K-triple = triple_of 𝓛 (K.signature S D E X sm smd sd sdd d dd n nd k kd t td j jd) (K.spec S D E X sm smd sd sdd d dd n nd k kd t td j jd 𝓛 𝓜.mem 𝓡.returns) in
     let zK : K-triple.Ghost = ((κs, qs, (bounds.0, (bounds.1.0, (bounds.1.1.0, tt))), a, vss), tt) in
-    let O-ended : Ended = O.ended S D E P X G B sm smd sd sdd d dd n nd k kd t td j jd in
-    let O-triple = triple_of 𝓛 (O.signature S D E P X G B sm smd sd sdd d dd n nd k kd t td j jd) (O.spec S D E P X G B sm smd sd sdd d dd n nd k kd t td j jd 𝓛 𝓜.mem 𝓡.returns) in
+    let O-ended : Ended = O.ended S D E X sm smd sd sdd d dd n nd k kd t td j jd in
+    let O-triple = triple_of 𝓛 (O.signature S D E X sm smd sd sdd d dd n nd k kd t td j jd) (O.spec S D E X sm smd sd sdd d dd n nd k kd t td j jd 𝓛 𝓜.mem 𝓡.returns) in
     qed 𝓛 (((‵ (flft κ q) ⊛ raw others) ⊛ ‵ (owns (types_at En.signature.params κs) a vss))
-    ∷ (raw (fact 𝓤 inS) ⊛ raw (fact 𝓤 inD) ⊛ raw (fact 𝓤 inE) ⊛ raw (fact 𝓤 inP) ⊛ raw (fact 𝓤 inX) ⊛ raw (fact 𝓤 inG) ⊛ raw (fact 𝓤 inB) ⊛ ‵ ftrue) ∷ []) ∵
-    move ! (1 ∷ []) $ split ! $ heard ! inS (λ hS. split ! $ heard ! inD (λ hD. split ! $ heard ! inE (λ hE. split ! $ heard ! inP (λ hP. split ! $ heard ! inX (λ hX. split ! $ heard ! inG (λ hG. split ! $ heard ! inB (λ hB. drop ! $
+    ∷ (raw (fact 𝓤 inS) ⊛ raw (fact 𝓤 inD) ⊛ raw (fact 𝓤 inE) ⊛ raw (fact 𝓤 inX) ⊛ ‵ ftrue) ∷ []) ∵
+    move ! (1 ∷ []) $ split ! $ heard ! inS (λ hS. split ! $ heard ! inD (λ hD. split ! $ heard ! inE (λ hE. split ! $ heard ! inX (λ hX. drop ! $
     enter ! _ _ _ _ _ $ alloc_all ! (λ l. pass_all ! refl ((tt, tt), tt) $
     let Ev : Env 𝓤 H = env fn.locals l in
     sets ! (addr ! (through ! refl (stop !))) refl (tt, tt) $
-    nothing ! $ use0 𝓛 (raw (fact 𝓤 inB)) (fact_i 𝓤 inB (emp 𝓤) hB) $ join ! $ use0 𝓛 (raw (fact 𝓤 inG)) (fact_i 𝓤 inG (emp 𝓤) hG) $ join ! $ use0 𝓛 (raw (fact 𝓤 inX)) (fact_i 𝓤 inX (emp 𝓤) hX) $ join ! $ use0 𝓛 (raw (fact 𝓤 inP)) (fact_i 𝓤 inP (emp 𝓤) hP) $ join ! $ use0 𝓛 (raw (fact 𝓤 inE)) (fact_i 𝓤 inE (emp 𝓤) hE) $ join ! $ use0 𝓛 (raw (fact 𝓤 inD)) (fact_i 𝓤 inD (emp 𝓤) hD) $ join ! $ use0 𝓛 (raw (fact 𝓤 inS)) (fact_i 𝓤 inS (emp 𝓤) hS) $ join ! $
+    nothing ! $ use0 𝓛 (raw (fact 𝓤 inX)) (fact_i 𝓤 inX (emp 𝓤) hX) $ join ! $ use0 𝓛 (raw (fact 𝓤 inE)) (fact_i 𝓤 inE (emp 𝓤) hE) $ join ! $ use0 𝓛 (raw (fact 𝓤 inD)) (fact_i 𝓤 inD (emp 𝓤) hD) $ join ! $ use0 𝓛 (raw (fact 𝓤 inS)) (fact_i 𝓤 inS (emp 𝓤) hS) $ join ! $
     move ! (1 ∷ 0 ∷ []) $ join ! $ use1 𝓛 (raw (K-triple.pre zK)) (id⊢ 𝓤 _) $
-    calls_at ! (framed 𝓤 H 𝓜 𝓣) K-triple (asked_met 𝓤 𝓛 𝓜 𝓡 (code.calls-nd_array_core::reshape::as_slice_mut::ArrayBase+S+D::asked_run 𝓡.env wired) S D E P X G B lS lD lE lP lX lG lB cD cX sm smd sd sdd d dd n nd k kd t td j jd mS msd md mn mk mt mj) zK (and_then ! (get ! refl) (no_more !)) (λ got.
+    calls_at ! (framed 𝓤 H 𝓜 𝓣) K-triple (asked_met 𝓤 𝓛 𝓜 𝓡 (code.calls-nd_array_core::reshape::as_slice_mut::ArrayBase+S+D::asked_run 𝓡.env wired) S D E X lS lD lE lX cD cX sm smd sd sdd d dd n nd k kd t td j jd mS msd md mn mk mt mj) zK (and_then ! (get ! refl) (no_more !)) (λ got.
     let SameRef : Two.Denot → Type 0 = λ r. r.0.ghost_name ≡ a.0.ghost_name in
     let Same : Two.Denot → Type 0 = λ r. r.0.now ≡ old in
     let Asked : Two.Denot → Type 0 = λ r. IsTrue r.1 ↔ IsRunArray old in
@@ -114,9 +114,9 @@ as_slice_memory_order_mut_spec 𝓤 𝓛 𝓜 𝓡 wired S D E P X G B lS lD lE 
     let zO : O-triple.Ghost = ((κs, qs, bounds, (r.0, tt), (mut_vals r.0, tt)), tt) in
     sets ! (addr ! (through ! refl (stop !))) refl (tt, tt) $
     nothing ! $ move ! (1 ∷ 0 ∷ []) $ join ! $ move ! (3 ∷ []) $ move ! (3 ∷ 0 ∷ []) $ join ! $ join ! $
-    use0 𝓛 (raw (fact 𝓤 Fits)) (fact_i 𝓤 Fits (emp 𝓤) (subst (λ (b : Row.Denot). IsRunArray b) (sym same) here)) $ use0 𝓛 (raw (fact 𝓤 inB)) (fact_i 𝓤 inB (emp 𝓤) hB) $ join ! $ use0 𝓛 (raw (fact 𝓤 inG)) (fact_i 𝓤 inG (emp 𝓤) hG) $ join ! $ use0 𝓛 (raw (fact 𝓤 inX)) (fact_i 𝓤 inX (emp 𝓤) hX) $ join ! $ use0 𝓛 (raw (fact 𝓤 inP)) (fact_i 𝓤 inP (emp 𝓤) hP) $ join ! $ use0 𝓛 (raw (fact 𝓤 inE)) (fact_i 𝓤 inE (emp 𝓤) hE) $ join ! $ use0 𝓛 (raw (fact 𝓤 inD)) (fact_i 𝓤 inD (emp 𝓤) hD) $ join ! $ use0 𝓛 (raw (fact 𝓤 inS)) (fact_i 𝓤 inS (emp 𝓤) hS) $ join ! $
+    use0 𝓛 (raw (fact 𝓤 Fits)) (fact_i 𝓤 Fits (emp 𝓤) (subst (λ (b : Row.Denot). IsRunArray b) (sym same) here)) $ use0 𝓛 (raw (fact 𝓤 inX)) (fact_i 𝓤 inX (emp 𝓤) hX) $ join ! $ use0 𝓛 (raw (fact 𝓤 inE)) (fact_i 𝓤 inE (emp 𝓤) hE) $ join ! $ use0 𝓛 (raw (fact 𝓤 inD)) (fact_i 𝓤 inD (emp 𝓤) hD) $ join ! $ use0 𝓛 (raw (fact 𝓤 inS)) (fact_i 𝓤 inS (emp 𝓤) hS) $ join ! $
     move ! (1 ∷ 0 ∷ []) $ join ! $ use1 𝓛 (raw (O-triple.pre zO)) (id⊢ 𝓤 _) $
-    calls_at ! (framed 𝓤 H 𝓜 𝓣) O-triple (lent_met 𝓤 𝓛 𝓜 𝓡 (code.calls-nd_array_core::reshape::as_slice_mut::ArrayBase+S+D::elements_memory_order_mut 𝓡.env wired) S D E P X G B lS lD lE lP lX lG lB cD cX sm smd sd sdd d dd n nd k kd t td j jd mS msd md mn mk mt mj) zO (and_then ! (get ! refl) (no_more !)) (λ v.
+    calls_at ! (framed 𝓤 H 𝓜 𝓣) O-triple (lent_met 𝓤 𝓛 𝓜 𝓡 (code.calls-nd_array_core::reshape::as_slice_mut::ArrayBase+S+D::elements_memory_order_mut 𝓡.env wired) S D E X lS lD lE lX cD cX sm smd sd sdd d dd n nd k kd t td j jd mS msd md mn mk mt mj) zO (and_then ! (get ! refl) (no_more !)) (λ v.
     let Shown : Row.Denot → List E.Denot → Type 0 = λ b xs. IsInMemoryOrder b xs in
     let Leaves : Row.Denot → Type 0 = λ b. LeavesInMemoryOrder sm.frame b (array_with_places sd.with_run b) in
     use1 𝓛 (later (some (λ (s : Lent.Denot). ((‵ (flft κ q) ⊛ raw others) ⊛ ‵ (Lent.own_val s (v ∷ []))) ⊛
@@ -145,4 +145,4 @@ as_slice_memory_order_mut_spec 𝓤 𝓛 𝓜 𝓡 wired S D E P X G B lS lD lE 
     use0 𝓛 (‵ (Out.own_val None (live 0 (of_list []) ∷ []))) (none_of 𝓛 Lent) $
     suffices ! _ (ends_at 𝓛 En hs c y (live 0 (of_list [])) None (tt, tt) (tt, tt)) $
     nothing ! $ nothing ! $ fjoin ! $ join ! $ move ! (3 ∷ []) $ move ! (3 ∷ 0 ∷ []) $ join ! $ join ! $ frame ! $
-    says_three ! (none_asked r.1 other asks, tt, tt) $ done !))))))))))))))))))))
+    says_three ! (none_asked r.1 other asks, tt, tt) $ done !)))))))))))))))))

@@ -73,35 +73,35 @@ use Rattle.nd_array_core.proofs.reshape.as_slice_mut.ArrayViewMut+A+D.into_slice
 use Rattle.nd_array_core.proofs.reshape.as_slice_mut.ArrayViewMut+A+D.into_slice_memory_order.Code as code
 
 pub into_slice_memory_order_spec : {M : Type 1} → statement M
-into_slice_memory_order_spec 𝓤 𝓛 𝓜 𝓡 wired A D P X G B lA lD lP lX lG lB cD cX d dd n nd k kd t td j jd mD mN mK mX mJ =
+into_slice_memory_order_spec 𝓤 𝓛 𝓜 𝓡 wired A D X lA lD lX cD cX d dd n nd k kd t td j jd mD mN mK mX mJ =
     let H = 𝓛.H in let 𝓣 = tables 𝓤 H 𝓜 𝓡 𝓡.env in
-    let inst : Args = bounded (a_type ∷ a_type ∷ a_type ∷ a_type ∷ a_type ∷ a_type ∷ []) (A, (D, (P, (X, (G, (B, tt)))))) (dcons dd (dcons nd (dcons kd (dcons td (dcons jd dnil))))) in
+    let inst : Args = bounded (a_type ∷ a_type ∷ a_type ∷ []) (A, (D, (X, tt))) (dcons dd (dcons nd (dcons kd (dcons td (dcons jd dnil))))) in
     let fn : Fn = inst_fn inst code.function in
-    let En : Ended = F.ended A D P X G B d dd n nd k kd t td j jd in
-    let c = F.clauses A D P X G B d dd n nd k kd t td j jd 𝓛 𝓜.mem 𝓡.returns in
+    let En : Ended = F.ended A D X d dd n nd k kd t td j jd in
+    let c = F.clauses A D X d dd n nd k kd t td j jd 𝓛 𝓜.mem 𝓡.returns in
     let E : El = record { row = A; laws = lA } in
-    let AR : RattleType = param 0 A in let DR : RattleType = copied 1 D in let PR : RattleType = param 2 P in let XR : RattleType = copied 3 X in let GR : RattleType = param 4 G in let BR : RattleType = param 5 B in
-    let view : Slot 7 = plain (λ κs. array_row (storage_row (region_row (named_lft 7 0 tt κs) AR)) DR XR AR PR XR GR BR (view_impl.ghosts AR) d n t t) in
+    let AR : RattleType = param 0 A in let DR : RattleType = copied 1 D in let XR : RattleType = copied 2 X in
+    let view : Slot 4 = plain (λ κs. array_row (storage_row (region_row (named_lft 4 0 tt κs) AR)) DR XR AR XR (view_impl.ghosts AR) d n t t) in
     let hs : Stays En.signature.params En.kept = (stay_dropped view no, tt) in
     let W = walk_of 𝓛 En hs c in
-    proved_at 𝓛 En hs c 𝓜 𝓡 ((λ κs y f vs fit. qed 𝓛 (‵ ftrue ∷ []) ∵ updating ! $ nothing ! $ fjoin ! $ nothing ! $ fjoin ! $ nothing ! $ move ! (1 ∷ 0 ∷ []) $ fjoin ! $ now ! $ done !), tt) (#self inst) fn (code.unfolded 𝓤 H 𝓜 𝓡 wired (A, (D, (P, (X, (G, (B, tt)))))) dd nd kd td jd) (λ y are.
-    let κs : Lfts 7 = y.0.0 in let qs = y.0.1 in let bounds = y.0.2 in let a = y.0.3 in let gh = y.1 in
+    proved_at 𝓛 En hs c 𝓜 𝓡 ((λ κs y f vs fit. qed 𝓛 (‵ ftrue ∷ []) ∵ updating ! $ nothing ! $ fjoin ! $ nothing ! $ fjoin ! $ nothing ! $ move ! (1 ∷ 0 ∷ []) $ fjoin ! $ now ! $ done !), tt) (#self inst) fn (code.unfolded 𝓤 H 𝓜 𝓡 wired (A, (D, (X, tt))) dd nd kd td jd) (λ y are.
+    let κs : Lfts 4 = y.0.0 in let qs = y.0.1 in let bounds = y.0.2 in let a = y.0.3 in let gh = y.1 in
     let κ : Lft = κs.0 in let κA : Lft = κs.1.0 in let q : Share = qs.0 in let qA : Share = qs.1.0 in
-    let others : SProp 𝓤 = toks 𝓛 5 κs.1.1 qs.1.1 in
-    let Rest : SProp 𝓤 = sep 𝓤 (fact 𝓤 (κs.1.1.0 ⊑ D.lives)) (sep 𝓤 (fact 𝓤 (κs.1.1.1.0 ⊑ P.lives)) (sep 𝓤 (fact 𝓤 (κs.1.1.1.1.0 ⊑ X.lives)) (sep 𝓤 (fact 𝓤 (κs.1.1.1.1.1.0 ⊑ G.lives)) (sep 𝓤 (fact 𝓤 (κs.1.1.1.1.1.1.0 ⊑ B.lives)) (emp 𝓤))))) in
-    let Rg : RattleType = region_row (named_lft 7 0 tt κs) AR in
+    let others : SProp 𝓤 = toks 𝓛 2 κs.1.1 qs.1.1 in
+    let Rest : SProp 𝓤 = sep 𝓤 (fact 𝓤 (κs.1.1.0 ⊑ D.lives)) (sep 𝓤 (fact 𝓤 (κs.1.1.1.0 ⊑ X.lives)) (emp 𝓤)) in
+    let Rg : RattleType = region_row (named_lft 4 0 tt κs) AR in
     let Four : RattleType = Tuple (Rg ∷ usize ∷ usize ∷ bool ∷ []) in
     let Lent : RattleType = MutSlice (named 0) κ AR in let Out : RattleType = OP.the_row Lent in
     let borrowed : NamedLft = record { mir = named 0; lft = κ } in
     let out_laws : Laws Out = option_laws Lent (of_field (mut_slice_field borrowed AR tt) (mut_slice_laws borrowed AR tt) refl (mut_slice_shared borrowed AR tt (row_shared AR (param_laws 0 A lA)))) in
-    let View : RattleType = array_row (storage_row Rg) DR XR AR PR XR GR BR (view_impl.ghosts AR) d n t t in
-    let view_laws : Laws View = array_laws_of (storage_row Rg) DR XR AR PR XR GR BR (view_impl.ghosts AR) d n t t
-    (storage_laws Rg (region_laws (named_lft 7 0 tt κs) AR (param_laws 0 A lA))) (copied_laws 1 D lD) (copied_laws 3 X lX) (param_laws 0 A lA) (param_laws 2 P lP) (copied_laws 3 X lX) (param_laws 4 G lG) (param_laws 5 B lB) in
+    let View : RattleType = array_row (storage_row Rg) DR XR AR XR (view_impl.ghosts AR) d n t t in
+    let view_laws : Laws View = array_laws_of (storage_row Rg) DR XR AR XR (view_impl.ghosts AR) d n t t
+    (storage_laws Rg (region_laws (named_lft 4 0 tt κs) AR (param_laws 0 A lA))) (copied_laws 1 D lD) (copied_laws 2 X lX) (param_laws 0 A lA) (copied_laws 2 X lX) in
     let one = one_value (lone View.mir) y.0.4.0 ((view_laws.lawful 𝓛).typed a.0 y.0.4.0 are.0) in
     let v : Val = one.0 in
     let vss : Vals En.signature κs = (v ∷ [], tt) in
-    let K-ended : Ended = K.ended A D P X G B d dd n nd k kd t td j jd in
-    let K-triple = triple_of 𝓛 (K.signature A D P X G B d dd n nd k kd t td j jd) (K.spec A D P X G B d dd n nd k kd t td j jd 𝓛 𝓜.mem 𝓡.returns) in
+    let K-ended : Ended = K.ended A D X d dd n nd k kd t td j jd in
+    let K-triple = triple_of 𝓛 (K.signature A D X d dd n nd k kd t td j jd) (K.spec A D X d dd n nd k kd t td j jd 𝓛 𝓜.mem 𝓡.returns) in
     let zK : K-triple.Ghost = ((κs, qs, bounds, a, vss), tt) in
     let κs₂ : Lfts 2 = (κ, (κA, tt)) in
     let R-ended : Ended = R.ended A in
@@ -111,7 +111,7 @@ into_slice_memory_order_spec 𝓤 𝓛 𝓜 𝓡 wired A D P X G B lA lD lP lX l
     fact_use 𝓤 (κA ⊑ A.lives) (via 𝓤 _ (snd∗ 𝓤 (on_entry 𝓛 En.signature κs qs a vss) ((c κs a).requires gh)) (fst∗ 𝓤 (fact 𝓤 (κA ⊑ A.lives)) Rest)) (λ inA.
     qed 𝓛 (raw (K-triple.pre zK) ∷ []) ∵ enter ! _ _ _ _ _ $ alloc_all ! (λ l. pass_all ! refl (one.2, tt) $
     sets ! (of_opd ! (get ! refl)) refl one.2 $
-    calls_at ! (framed 𝓤 H 𝓜 𝓣) K-triple (apart_met 𝓤 𝓛 𝓜 𝓡 (code.calls-nd_array_core::reshape::as_slice_mut::apart_run 𝓡.env wired) A D P X G B lA lD lP lX lG lB cD cX d dd n nd k kd t td j jd mD mN mK mX mJ) zK (and_then ! (get ! refl) (no_more !)) (λ got.
+    calls_at ! (framed 𝓤 H 𝓜 𝓣) K-triple (apart_met 𝓤 𝓛 𝓜 𝓡 (code.calls-nd_array_core::reshape::as_slice_mut::apart_run 𝓡.env wired) A D X lA lD lX cD cX d dd n nd k kd t td j jd mD mN mK mX mJ) zK (and_then ! (get ! refl) (no_more !)) (λ got.
     let Count : ℕ = size_of (shape_of a.0) in let First : ℕ = lowest_place a.0 in
     let OfView : Four.Denot → Type 0 = λ r. r.0 ≡ region_of a.0 in
     let IsFirst : Four.Denot → Type 0 = λ r. r.1 ≡ First in
@@ -126,7 +126,7 @@ into_slice_memory_order_spec 𝓤 𝓛 𝓜 𝓡 wired A D P X G B lA lD lP lX l
     let region : Rg.Denot = r.0 in let place : ℕ = r.1 in let count : ℕ = r.2 in let asked : Bool = r.3 in let gp = ptr_Good region.ptr in
     -- [the tokens and the four]
     split ! $ split3 ! $ move ! (3 ∷ []) $ fpick ! (λ uss. fsplit ! $ feq_l ! (λ e. fsplit3 ! $ peeks ! Rg (Is Rg) (shows 𝓛 Rg) region uss.0 (λ is.
-    let e₀ = rg_Tells (named_lft 7 0 tt κs) E region uss.0 is in rewrite ! 0 (λ (vs : List Val). ‵ (Rg.own_val region vs)) e₀ refl $
+    let e₀ = rg_Tells (named_lft 4 0 tt κs) E region uss.0 is in rewrite ! 0 (λ (vs : List Val). ‵ (Rg.own_val region vs)) e₀ refl $
     move ! (1 ∷ []) $ peeks ! usize (Is usize) (shows 𝓛 usize) place uss.1.0 (λ is₁. rewrite ! 0 (λ (vs : List Val). ‵ (usize.own_val place vs)) is₁.0 refl $
     move ! (2 ∷ []) $ fsplit3 ! $ peeks ! usize (Is usize) (shows 𝓛 usize) count uss.1.1.0 (λ is₂. rewrite ! 0 (λ (vs : List Val). ‵ (usize.own_val count vs)) is₂.0 refl $
     move ! (1 ∷ []) $ peeks ! bool (Is bool) (shows 𝓛 bool) asked uss.1.1.1.0 (λ is₃. rewrite ! 0 (λ (vs : List Val). ‵ (bool.own_val asked vs)) is₃ refl $
@@ -139,7 +139,7 @@ into_slice_memory_order_spec 𝓤 𝓛 𝓜 𝓡 wired A D P X G B lA lD lP lX l
     sets ! (of_opd ! (get_in ! (fld ! refl (stop !)) (sub ! 3 refl (whole !)))) refl (tt, tt) $
     let Has : Type 0 = IsTrue asked → HasRun region place count in
     sets ! (of_opd ! (get ! refl)) refl (gp.0, (gp.1, (record { fits = region.small }, (tt, tt)))) $
-    let z₂ : R-triple.Ghost = ((κs₂, (q, (qA, tt)), (bounds.0, tt), (region, (place, (count, (asked, tt)))), (rg_vals (named_lft 7 0 tt κs) E region, (vint w64 place ∷ [], (vint w64 count ∷ [], (vbool asked ∷ [], tt))))), tt) in
+    let z₂ : R-triple.Ghost = ((κs₂, (q, (qA, tt)), (bounds.0, tt), (region, (place, (count, (asked, tt)))), (rg_vals (named_lft 4 0 tt κs) E region, (vint w64 place ∷ [], (vint w64 count ∷ [], (vbool asked ∷ [], tt))))), tt) in
     nothing ! $ move ! (1 ∷ 0 ∷ []) $ join ! $ move ! (1 ∷ 0 ∷ []) $ join ! $ move ! (2 ∷ 0 ∷ []) $ join ! $ move ! (2 ∷ 0 ∷ []) $ join ! $
     nothing ! $ move ! (4 ∷ 0 ∷ []) $ join ! $ move ! (3 ∷ 0 ∷ []) $ join ! $ join ! $
     use0 𝓛 (raw (fact 𝓤 Has)) (fact_i 𝓤 Has (emp 𝓤) there) $ use0 𝓛 (raw (fact 𝓤 (κA ⊑ A.lives))) (fact_i 𝓤 (κA ⊑ A.lives) (emp 𝓤) inA) $ join ! $
