@@ -144,7 +144,13 @@ impl IntoPattern for Dim<5> {
     ghost pattern_lengths = { λ n. n.0 ∷ n.1 ∷ n.2 ∷ n.3 ∷ n.4 ∷ [] };
 
     fn into_pattern(self) -> (usize, usize, usize, usize, usize) {
-        (self.lens[0], self.lens[1], self.lens[2], self.lens[3], self.lens[4])
+        (
+            self.lens[0],
+            self.lens[1],
+            self.lens[2],
+            self.lens[3],
+            self.lens[4],
+        )
     }
 }
 
@@ -157,6 +163,13 @@ impl IntoPattern for Dim<6> {
     ghost pattern_lengths = { λ n. n.0 ∷ n.1 ∷ n.2 ∷ n.3 ∷ n.4 ∷ n.5 ∷ [] };
 
     fn into_pattern(self) -> (usize, usize, usize, usize, usize, usize) {
-        (self.lens[0], self.lens[1], self.lens[2], self.lens[3], self.lens[4], self.lens[5])
+        (
+            self.lens[0],
+            self.lens[1],
+            self.lens[2],
+            self.lens[3],
+            self.lens[4],
+            self.lens[5],
+        )
     }
 }

@@ -22,7 +22,9 @@ mod strides;
 pub use axes::{Axis, axes_fit};
 pub use builder::{IntoStrideShape, Order, Shape, ShapeArg, ShapeBuilder, StrideShape};
 pub use descriptions::{Axes, AxisDescription};
-pub use dimension::{AxisCount, Dimension, FromDimension, IntoPattern, Ix, Ixs, MAX_AXES, StrideList};
+pub use dimension::{
+    AxisCount, Dimension, FromDimension, IntoPattern, Ix, Ixs, MAX_AXES, StrideList,
+};
 pub use dynamic::{DynStrides, IxDyn};
 pub use errors::{ErrorKind, NoMemory, ShapeError};
 pub use fixed::{Dim, Ix0, Ix1, Ix2, Ix3, Ix4, Ix5, Ix6};

@@ -1,8 +1,8 @@
 //! Dimensions, and what gives them: each call once, and their ends.
 
 use nd_shape_and_slice::{
-    Axis, AxisCount, Dimension, FromDimension, InsertAxis, IntoDimension, IntoPattern, Ix0, Ix1, Ix2, Ix6,
-    IxDyn, MAX_AXES, NdIndex, RemoveAxis, StrideList,
+    Axis, AxisCount, Dimension, FromDimension, InsertAxis, IntoDimension, IntoPattern, Ix0, Ix1,
+    Ix2, Ix6, IxDyn, MAX_AXES, NdIndex, RemoveAxis, StrideList,
 };
 
 /// Whether the two lists are equal.
