@@ -108,6 +108,22 @@ class Row:
             if self.over("numpy") >= 1.005:
                 yield f"{self.over('numpy'):.2f} of numpy"
 
+    def reason(self):
+        """What stands in the way of a row that misses an aim."""
+        if max(self.shape) < LARGE and len(self.shape) == 2:
+            return "the call's own time beside a short loop"
+        if self.over("plain") < 1.105:
+            return "plain Rust takes as long"
+        if self.over("plain") < 1.305 and self.form != 0 and self.over("numpy") < 1.105:
+            return "within a tenth of numpy"
+        if self.call == "==":
+            return "a test after every 64 elements" if self.form == 0 else "64 elements of a lane at a time"
+        if self.call in COPIES:
+            return "no call of memcpy" if self.form == 0 else "pushed in order, where the plain loop writes out of turn"
+        if self.kind == "u8":
+            return "no call of memcpy" if self.form == 0 else "bytes that aren't side by side go one by one"
+        return "one way for all orders, beside the best of five loops"
+
 
 def rows(quick):
     sides = [100, 1000, 2048] if quick else [10, 100, 1000, 2048, 4096]
@@ -207,7 +223,7 @@ def whole_table(measured):
     missing = [(row, reasons) for row, reasons in missing if reasons]
     yield f"Rows that miss what is aimed at, {len(missing)} of {len(measured)}:"
     for row, reasons in missing:
-        yield f"{row.call} of {row.kind}, {' x '.join(map(str, row.shape))}, {row.orders()}: {'; '.join(reasons)}"
+        yield f"{row.call} of {row.kind}, {' x '.join(map(str, row.shape))}, {row.orders()}: {'; '.join(reasons)}: {row.reason()}"
 
 
 def middle(numbers):
