@@ -1,6 +1,6 @@
 //! Whether the elements of two storages are equal, index by index.
 
-ghost use Rattle.std.specs.Prelude.{◌≡◌, ◌+◌, ◌≤◌, length};
+ghost use Rattle.std.specs.Prelude.{◌≡◌, ◌+◌, ◌≤◌, length, pos};
 ghost use Rattle.std.specs.Cmp.Lexicographic.{pointwise};
 ghost use Rattle.nd_layout.specs.Lanes.{along, ranked};
 ghost use Rattle.nd_elements.specs.ByLayout.{equal_shown, HoldsShown};
@@ -44,6 +44,7 @@ pub fn slices_equal<A: PartialEq>(xs: &[A], ys: &[A]) -> bool
 }
 
 /// Whether that many elements along two lanes are equal, from a number on.
+#[inline(always)]
 fn block_equal<S: Data>(a: &S, ours: Lane, b: &S, theirs: Lane, from: usize, count: usize) -> bool
 where
     S::Elem: PartialEq,
@@ -61,8 +62,8 @@ where
     same
 }
 
-/// Whether the elements along two lanes are equal.
-fn lanes_equal<S: Data>(a: &S, ours: Lane, b: &S, theirs: Lane) -> bool
+/// Whether the elements along two lanes are equal, by blocks: all but the last have a length that the compiler knows.
+fn equal_by_steps<S: Data>(a: &S, ours: Lane, b: &S, theirs: Lane) -> bool
 where
     S::Elem: PartialEq,
     requires as_long { theirs.count ≡ ours.count }
@@ -71,14 +72,43 @@ where
     ensures { result ≡ equal_along S.Elem.eq S.stored a.now ours b.now theirs }
 {
     let mut from = 0;
-    while from < ours.count {
-        let count = (ours.count - from).min(BLOCK);
-        if !block_equal(a, ours, b, theirs, from, count) {
+    while ours.count - from >= BLOCK {
+        if !block_equal(a, ours, b, theirs, from, BLOCK) {
             return false;
         }
-        from += count;
+        from += BLOCK;
     }
-    true
+    block_equal(a, ours, b, theirs, from, ours.count - from)
+}
+
+/// The same where they lie side by side in both, as slices.
+fn equal_beside<S: Data>(a: &S, ours: Lane, b: &S, theirs: Lane) -> bool
+where
+    S::Elem: PartialEq,
+    requires steps { (ours.stride ≡ pos 1) × (theirs.stride ≡ pos 1) }
+    requires as_long { theirs.count ≡ ours.count }
+    requires ours { Holds S.stored (along ours) a.now }
+    requires theirs { Holds S.stored (along theirs) b.now }
+    ensures { result ≡ equal_along S.Elem.eq S.stored a.now ours b.now theirs }
+{
+    let xs = a.borrowed().run(ours.place, ours.count);
+    let ys = b.borrowed().run(theirs.place, theirs.count);
+    slices_equal(xs, ys)
+}
+
+/// The same of any lanes.
+fn lanes_equal<S: Data>(a: &S, ours: Lane, b: &S, theirs: Lane) -> bool
+where
+    S::Elem: PartialEq,
+    requires as_long { theirs.count ≡ ours.count }
+    requires ours { Holds S.stored (along ours) a.now }
+    requires theirs { Holds S.stored (along theirs) b.now }
+    ensures { result ≡ equal_along S.Elem.eq S.stored a.now ours b.now theirs }
+{
+    if ours.stride == 1 && theirs.stride == 1 {
+        return equal_beside(a, ours, b, theirs);
+    }
+    equal_by_steps(a, ours, b, theirs)
 }
 
 /// Whether the elements at the places of two layouts of one shape are equal, lane by lane in row-major order.

@@ -1,7 +1,7 @@
 use Rattle.std.specs.Prelude.{◌≡◌, ◌≤◌, ◌-◌, true}
 use Rattle.std.specs.Cmp.Lexicographic.{pointwise}
 use Rattle.nd_elements.specs.Collected.{collected, stored_along}
-use Rattle.nd_elements.proofs.elements.eq.lanes_equal.Given as goal
+use Rattle.nd_elements.proofs.elements.eq.equal_by_steps.Given as goal
 
 abbrev pub invariant-loop-from : goal.invariant-loop-from
 invariant-loop-from g l =

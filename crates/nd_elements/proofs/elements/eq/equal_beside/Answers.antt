@@ -1,0 +1,31 @@
+use Rattle.std.proofs.Common.{◌≡◌, ◌∙◌, ◌+◌, ap, sym}
+use Rattle.std.specs.Prelude.{is_some}
+use Rattle.std.specs.Cmp.Lexicographic.{pointwise}
+use Rattle.nd_elements.specs.Collected.{collected, stored_along}
+use Rattle.nd_elements.proofs.Collecting.{beside_has, run_collected}
+use Rattle.nd_elements.proofs.elements.eq.equal_beside.Goals as goal
+
+pub run-xs-requires : goal.run-xs-requires
+run-xs-requires g c k below =
+    let ours = c.args.ours in
+    ap is_some (c.borrowed.ensures (ours.place + k))
+    ∙ beside_has (g.S.Data.stored c.args.a.now) ours.place ours.count ours.stride c.requires.steps.0 c.requires.ours k below
+
+pub run-ys-requires : goal.run-ys-requires
+run-ys-requires g c k below =
+    let theirs = c.args.theirs in
+    ap is_some (c.borrowed-2.ensures (theirs.place + k))
+    ∙ beside_has (g.S.Data.stored c.args.b.now) theirs.place theirs.count theirs.stride c.requires.steps.1 c.requires.theirs k below
+
+pub returns : goal.returns
+returns g c =
+    let ours = c.args.ours in
+    let theirs = c.args.theirs in
+    let a = g.S.Data.stored c.args.a.now in
+    let b = g.S.Data.stored c.args.b.now in
+    let xs = c.run-xs.result.now in
+    let ys = c.run-ys.result.now in
+    let one : xs ≡ collected (stored_along a ours.place ours.stride) ours.count = run_collected a ours.place ours.count ours.stride c.requires.steps.0 xs c.run-xs.ensures.count (λ k d below. sym (c.borrowed.ensures (ours.place + k)) ∙ c.run-xs.ensures.elements k d below) in
+    let two : ys ≡ collected (stored_along b theirs.place theirs.stride) theirs.count = run_collected b theirs.place theirs.count theirs.stride c.requires.steps.1 ys c.run-ys.ensures.count (λ k d below. sym (c.borrowed-2.ensures (theirs.place + k)) ∙ c.run-ys.ensures.elements k d below) in
+    let two_as_long : ys ≡ collected (stored_along b theirs.place theirs.stride) ours.count = two ∙ ap (collected (stored_along b theirs.place theirs.stride)) c.requires.as_long in
+    c.slices_equal.ensures ∙ (λ i. pointwise g.S.Elem.PartialEq.eq (one i) (two_as_long i))
