@@ -18,7 +18,7 @@ const LONG: usize = 512;
 const SHORT: usize = 128;
 
 /// A lane that steps over so many elements is cut.
-const FAR: usize = 1_048_576;
+const FAR: usize = 524_288;
 
 /// Elements that fill whole lines of the cache.
 const LINE: usize = 64;
