@@ -1,13 +1,31 @@
 //! Parts of an image filled by lists of slices, each caller in coordinates and with no proof file but the last one's
-//! invariant. `?` and then `Ok(())` lets the proof read what the fill tells.
-ghost use Rattle.std.specs.Prelude.{◌≡◌, ◌≢◌, ◌<◌, ◌≤◌, ◌%◌, ◌/◌, ℕ, slice_index, Some, OnOk};
+//! invariant. `?` and then `Ok(())` lets the proof read what the fill tells; one function hands on what the others need of it.
+ghost use Rattle.std.specs.Prelude.{◌≡◌, ◌≢◌, ◌<◌, ◌≤◌, ◌%◌, ◌/◌, ℕ, slice_index, Some, OnOk, IsTrue};
+ghost use Rattle.nd_shape_and_slice.specs.SliceInfo.{fits_shape};
 ghost use Rattle.nd_array_core.specs.Meaning.{shape_of};
 ghost use Rattle.nd_array_core.specs.Coordinates.{element_of_2};
+ghost use Rattle.nd_array_core.specs.scoped.Fills.{FillsNamed, KeepsOtherIndexes};
 ghost use Rattle.nd_array_core.specs.base.Fresh.{ClonesAreEqual};
 
 use nd_array_core::laws::quotients;
 use nd_array_core::{Array2, ArrayBase, DataMut};
-use nd_shape_and_slice::{Ix2, NoMemory, Slice, slices};
+use nd_shape_and_slice::{Ix2, NoMemory, Slice, SliceArg, slices};
+
+/// Fills what a list of slices names: `fill_slice` with no more clauses than a caller in coordinates needs.
+fn fill_named<A: Clone + Drop, S: DataMut<Elem = A>, I: SliceArg<Ix2>>(
+    image: &mut ArrayBase<S, Ix2>,
+    list: I,
+    colour: A,
+) -> Result<(), NoMemory>
+    requires fits { IsTrue (fits_shape (shape_of image.old) (I.elements_of list)) }
+    requires clones { ClonesAreEqual A.is_clone colour }
+    ensures shape { shape_of image.new ≡ shape_of image.old }
+    ensures named { OnOk result (FillsNamed image.old image.new (I.elements_of list) colour) }
+    ensures unnamed { KeepsOtherIndexes image.old image.new (I.elements_of list) }
+{
+    image.fill_slice(list, colour)?;
+    Ok(())
+}
 
 /// Fills a rectangle of an image: the rows from one up to another, in the columns from one up to another.
 #[tactic(auto, using(std::proofs::lemmas::Bool::Decides::nat_tests, nd_array_core::proofs::Axes::known_axes))]
@@ -31,8 +49,7 @@ pub fn fill_rectangle<A: Clone + Drop, S: DataMut<Elem = A>>(
     ensures before { (row column : ℕ) → column < left → element_of_2 image.new row column ≡ element_of_2 image.old row column }
     ensures after { (row column : ℕ) → right ≤ column → element_of_2 image.new row column ≡ element_of_2 image.old row column }
 {
-    image.fill_slice(slices![top..bottom, left..right], colour)?;
-    Ok(())
+    fill_named(image, slices![top..bottom, left..right], colour)
 }
 
 /// Fills every second column.
@@ -46,12 +63,10 @@ pub fn fill_every_second_column<A: Clone + Drop, S: DataMut<Elem = A>>(
     ensures even { OnOk result ((i j : ℕ) → i < slice_index (shape_of image.old) 0 → j < slice_index (shape_of image.old) 1 → j % 2 ≡ 0 → element_of_2 image.new i j ≡ Some colour) }
     ensures odd { (i j : ℕ) → j % 2 ≡ 1 → element_of_2 image.new i j ≡ element_of_2 image.old i j }
 {
-    image.fill_slice(slices![.., Slice::from(..).step_by(2)], colour)?;
-    Ok(())
+    fill_named(image, slices![.., Slice::from(..).step_by(2)], colour)
 }
 
 /// Fills the two blocks on the diagonal of a matrix that is cut at a row and a column of the same number.
-#[tactic(auto, using(std::proofs::lemmas::Bool::Decides::nat_tests, nd_array_core::proofs::Axes::rows_and_columns, nd_array_core::proofs::Axes::length_short))]
 pub fn fill_two_blocks(matrix: &mut Array2<i64>, cut: usize, value: i64) -> Result<(), NoMemory>
     requires rows { cut ≤ slice_index (shape_of matrix.old) 0 }
     requires columns { cut ≤ slice_index (shape_of matrix.old) 1 }
@@ -61,8 +76,9 @@ pub fn fill_two_blocks(matrix: &mut Array2<i64>, cut: usize, value: i64) -> Resu
     ensures above { (row column : ℕ) → row < cut → cut ≤ column → element_of_2 matrix.new row column ≡ element_of_2 matrix.old row column }
     ensures below { (row column : ℕ) → cut ≤ row → column < cut → element_of_2 matrix.new row column ≡ element_of_2 matrix.old row column }
 {
-    matrix.fill_slice(slices![..cut, ..cut], value)?;
-    matrix.fill_slice(slices![cut.., cut..], value)?;
+    let (rows, columns) = matrix.dim();
+    fill_rectangle(matrix, 0, cut, 0, cut, value)?;
+    fill_rectangle(matrix, cut, rows, cut, columns, value)?;
     Ok(())
 }
 

@@ -1,6 +1,6 @@
 //! New matrices of what a closure returns for each row and column: a product, a blur, and a generation of a game of life. Each
 //! is told cell by cell, by one line of proof that is the same for each.
-ghost use Rattle.std.specs.Prelude.{◌≡◌, ◌<◌, ◌≤◌, ◌%◌, ◌^◌, ℕ, [], ◌∷◌, IfOk, Some, slice_index};
+ghost use Rattle.std.specs.Prelude.{◌≡◌, ◌<◌, ◌≤◌, ◌%◌, ◌^◌, ◌&&◌, ◌||◌, ℕ, [], ◌∷◌, IfOk, Some, nat_eq, slice_index};
 ghost use Rattle.nd_shape_and_slice.specs.Shape.{HasCheckedSize};
 ghost use Rattle.nd_array_core.specs.Meaning.{shape_of};
 ghost use Rattle.nd_array_core.specs.Coordinates.{element_of_2, HasRowsAndColumns};
@@ -12,6 +12,7 @@ use nd_shape_and_slice::{Ix2, NoMemory};
 use std::alloc::Global;
 
 /// The sum of the products of a row of one matrix and a column of another, modulo 2 to the 64th.
+#[tactic(auto, using(nd_array_core::proofs::Axes::rows_and_columns))]
 fn product_at<S: Data<Elem = u64>, Z: Data<Elem = u64>>(
     one: &ArrayBase<S, Ix2>,
     other: &ArrayBase<Z, Ix2>,
@@ -129,6 +130,13 @@ fn living_in_row<S: Data<Elem = bool>>(cells: &ArrayBase<S, Ix2>, row: usize, co
         + living_at(cells, row, column + 2)
 }
 
+/// Whether a cell lives on, by how many live of it and the eight around it, and whether it lives itself.
+fn lives_among(all: u8, here: u8) -> bool
+    ensures { result ≡ (nat_eq all 3 || (nat_eq here 1 && nat_eq all 4)) }
+{
+    all == 3 || (here == 1 && all == 4)
+}
+
 /// Whether a cell lives in the next generation.
 fn lives_next<S: Data<Elem = bool>>(cells: &ArrayBase<S, Ix2>, row: usize, column: usize) -> bool
     requires row { row < slice_index (shape_of cells.now) 0 }
@@ -138,7 +146,7 @@ fn lives_next<S: Data<Elem = bool>>(cells: &ArrayBase<S, Ix2>, row: usize, colum
     let all = living_in_row(cells, row, column)
         + living_in_row(cells, row + 1, column)
         + living_in_row(cells, row + 2, column);
-    all == 3 || (living_at(cells, row + 1, column + 1) == 1 && all == 4)
+    lives_among(all, living_at(cells, row + 1, column + 1))
 }
 
 /// The next generation of a game of life on a board with nothing around it.

@@ -1,15 +1,18 @@
 //! Parts of an image written from another, or changed by a closure, in coordinates.
-ghost use Rattle.std.specs.Prelude.{◌≡◌, ◌+◌, ◌-◌, ◌*◌, ◌%◌, ◌^◌, ◌<◌, ◌≤◌, ℕ, slice_index, OnOk};
+ghost use Rattle.std.specs.Prelude.{◌≡◌, ◌+◌, ◌-◌, ◌*◌, ◌%◌, ◌^◌, ◌<◌, ◌≤◌, ℕ, slice_index, OnOk, IsTrue};
 ghost use Rattle.std.specs.Option.{option_map};
+ghost use Rattle.nd_shape_and_slice.specs.SliceInfo.{fits_shape};
 ghost use Rattle.nd_array_core.specs.Meaning.{shape_of, element_at};
 ghost use Rattle.nd_array_core.specs.base.Fresh.{ClonesOfAllAreEqual};
 ghost use Rattle.nd_array_core.specs.Coordinates.{element_of_2};
+ghost use Rattle.nd_array_core.specs.scoped.Fills.{KeepsOtherIndexes};
+ghost use Rattle.nd_array_core.specs.scoped.Assigned.{FitsPart, AssignsNamed};
 
 use nd_array_core::{ArrayBase, Data, DataMut};
-use nd_shape_and_slice::{Ix2, NoMemory, slices};
+use nd_shape_and_slice::{Ix2, NoMemory, SliceArg, slices};
 
 /// Doubles the pixels of a rectangle, modulo 2 to the 64th.
-#[tactic(auto, using(std::proofs::lemmas::Bool::Decides::nat_tests, nd_array_core::proofs::Axes::known_axes))]
+#[tactic(auto, using(std::proofs::lemmas::Bool::Decides::nat_tests, nd_array_core::proofs::Axes::rows_and_columns, nd_array_core::proofs::Axes::length_short))]
 pub fn double_rectangle<S: DataMut<Elem = u64>>(
     image: &mut ArrayBase<S, Ix2>,
     top: usize,
@@ -32,6 +35,23 @@ pub fn double_rectangle<S: DataMut<Elem = u64>>(
     );
 }
 
+/// Writes a patch where a list of slices names: `assign_slice` with no more clauses than a caller in coordinates needs.
+fn assign_named<A: Clone + Drop, S: DataMut<Elem = A>, Z: Data<Elem = A>, I: SliceArg<Ix2>>(
+    image: &mut ArrayBase<S, Ix2>,
+    list: I,
+    patch: &ArrayBase<Z, Ix2>,
+) -> Result<(), NoMemory>
+    requires fits { IsTrue (fits_shape (shape_of image.old) (I.elements_of list)) }
+    requires same { FitsPart image.old (I.elements_of list) patch.now }
+    requires clones { ClonesOfAllAreEqual A.is_clone (element_at patch.now) }
+    ensures shape { shape_of image.new ≡ shape_of image.old }
+    ensures named { OnOk result (AssignsNamed image.old image.new (I.elements_of list) patch.now) }
+    ensures unnamed { KeepsOtherIndexes image.old image.new (I.elements_of list) }
+{
+    image.assign_slice(list, patch)?;
+    Ok(())
+}
+
 /// Writes a patch into an image, its first pixel at a row and a column. NoMemory if a clone is refused.
 #[tactic(auto, using(std::proofs::lemmas::Bool::Decides::nat_tests, nd_array_core::proofs::Axes::known_axes))]
 pub fn patch_rectangle<A: Clone + Drop, S: DataMut<Elem = A>, Z: Data<Elem = A>>(
@@ -51,12 +71,10 @@ pub fn patch_rectangle<A: Clone + Drop, S: DataMut<Elem = A>, Z: Data<Elem = A>>
     ensures after { (row column : ℕ) → left + slice_index (shape_of patch.now) 1 ≤ column → element_of_2 image.new row column ≡ element_of_2 image.old row column }
 {
     let (rows, columns) = patch.dim();
-    image.assign_slice(slices![top..top + rows, left..left + columns], patch)?;
-    Ok(())
+    assign_named(image, slices![top..top + rows, left..left + columns], patch)
 }
 
 /// Puts an image into the inside of a board that is wider and higher by two: its border stays. NoMemory if a clone is refused.
-#[tactic(auto, using(std::proofs::lemmas::Bool::Decides::nat_tests, nd_array_core::proofs::Axes::known_axes))]
 pub fn put_inside<A: Clone + Drop, S: DataMut<Elem = A>, Z: Data<Elem = A>>(
     board: &mut ArrayBase<S, Ix2>,
     image: &ArrayBase<Z, Ix2>,
@@ -71,7 +89,5 @@ pub fn put_inside<A: Clone + Drop, S: DataMut<Elem = A>, Z: Data<Elem = A>>(
     ensures before { (row : ℕ) → element_of_2 board.new row 0 ≡ element_of_2 board.old row 0 }
     ensures after { (row column : ℕ) → column ≡ slice_index (shape_of image.now) 1 + 1 → element_of_2 board.new row column ≡ element_of_2 board.old row column }
 {
-    let (rows, columns) = image.dim();
-    board.assign_slice(slices![1..rows + 1, 1..columns + 1], image)?;
-    Ok(())
+    patch_rectangle(board, image, 1, 1)
 }

@@ -11,6 +11,7 @@ use nd_shape_and_slice::{Ix2, NoMemory};
 use std::alloc::Global;
 
 /// The sum of the products of a row of one matrix and a column of another; sums and products wrap.
+#[tactic(auto, using(nd_array_core::proofs::Axes::rows_and_columns))]
 fn wrapped_at<S: Data<Elem = i64>, Z: Data<Elem = i64>>(
     one: &ArrayBase<S, Ix2>,
     other: &ArrayBase<Z, Ix2>,
