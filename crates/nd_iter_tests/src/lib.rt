@@ -8,3 +8,5 @@ mod callers_called;
 mod parts_and_indexes;
 #[cfg(test)]
 mod rows_and_elements;
+#[cfg(test)]
+mod tables;

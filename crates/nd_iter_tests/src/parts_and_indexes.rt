@@ -1,8 +1,9 @@
 //! Windows, blocks and elements with their indexes of small tables, drawn by hand.
 
-use nd_array_core::{Array2, ArrayBase, ArrayView, Data};
-use nd_iter::{axis_iter, exact_chunks, indexed_iter, iter, rows, windows, windows_with_stride};
-use nd_shape_and_slice::{Axis, Dimension, Slice};
+use crate::tables::{digits, digits_back, has_digits, joined};
+use nd_array_core::Array2;
+use nd_iter::{axis_iter, exact_chunks, indexed_iter, rows, windows, windows_with_stride};
+use nd_shape_and_slice::{Axis, Slice};
 use nd_test_arrays::made;
 use std::alloc::Global;
 use std::process::Abort;
@@ -18,30 +19,12 @@ fn table(rt: &impl Abort, alloc: Global) -> Array2<u64> {
     made(alloc, (3, 4), &[1, 2, 3, 4, 5, 6, 7, 8, 9, 1, 2, 3]).expect(rt, "made")
 }
 
-/// The elements as digits.
-fn digits<S: Data<Elem = u64>, D: Dimension>(array: &ArrayBase<S, D>) -> u64 {
-    let mut digits: u64 = 0;
-    for x in iter(array) {
-        digits = digits.wrapping_mul(10).wrapping_add(*x);
+/// Whether there is an element, with this row, column and value.
+fn is_at(element: Option<((usize, usize), &u64)>, row: usize, column: usize, value: u64) -> bool {
+    match element {
+        Some((at, x)) => at.0 == row && at.1 == column && *x == value,
+        None => false,
     }
-    digits
-}
-
-/// The elements of a part as digits, where there is one.
-fn digits_of<D: Dimension>(part: Option<ArrayView<'_, u64, D>>) -> Option<u64> {
-    match part {
-        Some(part) => Some(digits(&part)),
-        None => None,
-    }
-}
-
-/// The elements as digits, from the last one back.
-fn digits_back<S: Data<Elem = u64>, D: Dimension>(array: &ArrayBase<S, D>) -> u64 {
-    let mut digits: u64 = 0;
-    for x in iter(array).rev() {
-        digits = digits.wrapping_mul(10).wrapping_add(*x);
-    }
-    digits
 }
 
 #[test]
@@ -49,11 +32,9 @@ fn two_by_three_windows(rt: HostRuntime) {
     let table = table(&rt, rt.alloc());
     let mut left = windows(&table, 2, 3);
     assert_eq!(rt; left.len(), 4);
-    assert_eq!(rt; digits_of(left.next()), Some(123567));
-    assert_eq!(rt; digits_of(left.next_back()), Some(678123));
-    assert_eq!(rt; digits_of(left.next()), Some(234678));
-    assert_eq!(rt; digits_of(left.next()), Some(567912));
-    assert_eq!(rt; digits_of(left.next()), None);
+    assert!(rt; has_digits(left.next(), 123567));
+    assert!(rt; has_digits(left.next_back(), 678123));
+    assert_eq!(rt; joined(left, 1_000_000), 234678567912);
 }
 
 #[test]
@@ -71,11 +52,9 @@ fn a_window_of_the_whole(rt: HostRuntime) {
 #[test]
 fn two_by_two_blocks(rt: HostRuntime) {
     let table = table(&rt, rt.alloc());
-    let mut left = exact_chunks(&table, 2, 2);
+    let left = exact_chunks(&table, 2, 2);
     assert_eq!(rt; left.len(), 2);
-    assert_eq!(rt; digits_of(left.next()), Some(1256));
-    assert_eq!(rt; digits_of(left.next()), Some(3478));
-    assert_eq!(rt; digits_of(left.next()), None);
+    assert_eq!(rt; joined(left, 10_000), 12563478);
 }
 
 #[test]
@@ -83,22 +62,17 @@ fn windows_two_columns_apart(rt: HostRuntime) {
     let table = table(&rt, rt.alloc());
     let mut left = windows_with_stride(&table, 1, 2, 1, 2);
     assert_eq!(rt; left.len(), 6);
-    assert_eq!(rt; digits_of(left.next()), Some(12));
-    assert_eq!(rt; digits_of(left.next()), Some(34));
-    assert_eq!(rt; digits_of(left.next()), Some(56));
-    assert_eq!(rt; digits_of(left.next_back()), Some(23));
+    assert!(rt; has_digits(left.next_back(), 23));
+    assert_eq!(rt; joined(left, 100), 1234567891);
 }
 
 #[test]
 fn elements_with_indexes(rt: HostRuntime) {
     let table = table(&rt, rt.alloc());
     let mut left = indexed_iter(&table);
-    let first = left.next().expect(&rt, "an element");
-    assert_eq!(rt; (first.0, *first.1), ((0, 0), 1));
-    let second = left.next().expect(&rt, "an element");
-    assert_eq!(rt; (second.0, *second.1), ((0, 1), 2));
-    let last = left.next_back().expect(&rt, "an element");
-    assert_eq!(rt; (last.0, *last.1), ((2, 3), 3));
+    assert!(rt; is_at(left.next(), 0, 0, 1));
+    assert!(rt; is_at(left.next(), 0, 1, 2));
+    assert!(rt; is_at(left.next_back(), 2, 3, 3));
     assert_eq!(rt; left.len(), 9);
 }
 
@@ -108,10 +82,8 @@ fn elements_with_indexes_of_the_transpose(rt: HostRuntime) {
     let turned = table.t();
     let mut left = indexed_iter(&turned);
     let _first = left.next();
-    let second = left.next().expect(&rt, "an element");
-    assert_eq!(rt; (second.0, *second.1), ((0, 1), 5));
-    let last = left.next_back().expect(&rt, "an element");
-    assert_eq!(rt; (last.0, *last.1), ((3, 2), 3));
+    assert!(rt; is_at(left.next(), 0, 1, 5));
+    assert!(rt; is_at(left.next_back(), 3, 2, 3));
 }
 
 #[test]
@@ -140,9 +112,9 @@ fn the_transpose_from_the_last_element(rt: HostRuntime) {
 fn rows_from_the_last(rt: HostRuntime) {
     let table = table(&rt, rt.alloc());
     let mut left = rows(&table);
-    assert_eq!(rt; digits_of(left.next_back()), Some(9123));
-    assert_eq!(rt; digits_of(left.next()), Some(1234));
-    assert_eq!(rt; digits_of(left.next_back()), Some(5678));
+    assert!(rt; has_digits(left.next_back(), 9123));
+    assert!(rt; has_digits(left.next(), 1234));
+    assert!(rt; has_digits(left.next_back(), 5678));
     assert!(rt; left.next_back().is_none());
 }
 
@@ -151,5 +123,5 @@ fn rows_from_the_last(rt: HostRuntime) {
 fn columns_from_the_last(rt: HostRuntime) {
     let table = table(&rt, rt.alloc());
     let mut columns = axis_iter(&table, Axis(1));
-    assert_eq!(rt; digits_of(columns.next_back()), Some(483));
+    assert!(rt; has_digits(columns.next_back(), 483));
 }

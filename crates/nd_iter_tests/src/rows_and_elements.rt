@@ -1,66 +1,54 @@
 //! Elements, rows and columns of a small table, each row beside what ndarray's iterator gives of it.
 
+use crate::tables::{digits, is, joined, nothing, table};
 use nd_array_core::Array2;
 use nd_iter::{axis_iter, iter, rows};
 use nd_shape_and_slice::Axis;
 use nd_test_arrays::made;
+use std::alloc::Global;
+use std::process::Abort;
+
+/// Rows 3 7, 8 5 and 2 4.
+fn high_table(rt: &impl Abort, alloc: Global) -> Array2<u64> {
+    made(alloc, (3, 2), &[3, 7, 8, 5, 2, 4]).expect(rt, "made")
+}
 
 #[test]
 fn elements(rt: HostRuntime) {
-    let table: Array2<u64> = made(rt.alloc(), (2, 3), &[3, 7, 8, 5, 2, 4]).expect(&rt, "made");
-    let mut digits: u64 = 0;
-    for x in iter(&table) {
-        digits = digits.wrapping_mul(10).wrapping_add(*x);
-    }
-    assert_eq!(rt; digits, 378524);
+    let table = table(&rt, rt.alloc());
+    assert_eq!(rt; digits(&table), 378524);
 }
 
 #[test]
 fn elements_of_the_transpose(rt: HostRuntime) {
-    let table: Array2<u64> = made(rt.alloc(), (2, 3), &[3, 7, 8, 5, 2, 4]).expect(&rt, "made");
-    let mut digits: u64 = 0;
-    for x in iter(&table.t()) {
-        digits = digits.wrapping_mul(10).wrapping_add(*x);
-    }
-    assert_eq!(rt; digits, 357284);
+    let table = table(&rt, rt.alloc());
+    assert_eq!(rt; digits(&table.t()), 357284);
 }
 
 #[test]
 fn elements_from_both_ends(rt: HostRuntime) {
-    let table: Array2<u64> = made(rt.alloc(), (2, 3), &[3, 7, 8, 5, 2, 4]).expect(&rt, "made");
+    let table = table(&rt, rt.alloc());
     let mut left = iter(&table);
-    assert_eq!(rt; left.next().copied(), Some(3));
-    assert_eq!(rt; left.next_back().copied(), Some(4));
+    assert!(rt; is(left.next(), 3));
+    assert!(rt; is(left.next_back(), 4));
     assert_eq!(rt; left.len(), 4);
 }
 
 #[test]
 fn elements_of_nothing(rt: HostRuntime) {
-    let table: Array2<u64> = made(rt.alloc(), (2, 0), &[]).expect(&rt, "made");
+    let table = nothing(&rt, rt.alloc());
     assert!(rt; iter(&table).next().is_none());
 }
 
 #[test]
 fn rows_of_a_table(rt: HostRuntime) {
-    let table: Array2<u64> = made(rt.alloc(), (3, 2), &[3, 7, 8, 5, 2, 4]).expect(&rt, "made");
-    let mut digits: u64 = 0;
-    for row in rows(&table) {
-        for x in iter(&row) {
-            digits = digits.wrapping_mul(10).wrapping_add(*x);
-        }
-        digits = digits.wrapping_mul(10);
-    }
-    assert_eq!(rt; digits, 370850240);
+    let table = high_table(&rt, rt.alloc());
+    assert_eq!(rt; joined(rows(&table), 1_000), 37085024);
 }
 
 #[test]
+#[tactic(auto, using(nd_array_core::proofs::Axes::known_axes))]
 fn columns_of_a_table(rt: HostRuntime) {
-    let table: Array2<u64> = made(rt.alloc(), (3, 2), &[3, 7, 8, 5, 2, 4]).expect(&rt, "made");
-    let mut digits: u64 = 0;
-    for column in axis_iter(&table, Axis(1)) {
-        for x in iter(&column) {
-            digits = digits.wrapping_mul(10).wrapping_add(*x);
-        }
-    }
-    assert_eq!(rt; digits, 382754);
+    let table = high_table(&rt, rt.alloc());
+    assert_eq!(rt; joined(axis_iter(&table, Axis(1)), 1_000), 382754);
 }

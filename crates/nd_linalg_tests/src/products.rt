@@ -2,7 +2,7 @@
 
 use nd_array_core::{Array1, Array2};
 use nd_linalg::{dot, matrix_dot, matrix_dot_vector};
-use nd_test_arrays::made;
+use nd_test_arrays::{lists, made, shows};
 use std::alloc::Global;
 
 #[test]
@@ -11,10 +11,7 @@ fn two_matrices(rt: HostRuntime) {
     let one: Array2<u64> = made(alloc, (2, 3), &[3, 7, 8, 5, 2, 4]).expect(&rt, "made");
     let other: Array2<u64> = made(alloc, (3, 2), &[1, 9, 0, 5, 4, 1]).expect(&rt, "made");
     let product = matrix_dot(alloc, &one, &other).expect(&rt, "memory");
-    assert_eq!(rt;
-        product.to_vec(alloc).expect(&rt, "memory").as_slice(),
-        [35, 70, 21, 59].as_slice()
-    );
+    assert!(rt; shows(&product, [2, 2], &[35, 70, 21, 59]));
 }
 
 #[test]
@@ -23,10 +20,7 @@ fn transposed_matrices(rt: HostRuntime) {
     let one: Array2<u64> = made(alloc, (2, 3), &[3, 7, 8, 5, 2, 4]).expect(&rt, "made");
     let other: Array2<u64> = made(alloc, (3, 2), &[1, 9, 0, 5, 4, 1]).expect(&rt, "made");
     let product = matrix_dot(alloc, &other.t(), &one.t()).expect(&rt, "memory");
-    assert_eq!(rt;
-        product.to_vec(alloc).expect(&rt, "memory").as_slice(),
-        [35, 21, 70, 59].as_slice()
-    );
+    assert!(rt; shows(&product, [2, 2], &[35, 21, 70, 59]));
 }
 
 #[test]
@@ -35,10 +29,7 @@ fn an_empty_inner_axis(rt: HostRuntime) {
     let one: Array2<u64> = made(alloc, (2, 0), &[]).expect(&rt, "made");
     let other: Array2<u64> = made(alloc, (0, 3), &[]).expect(&rt, "made");
     let product = matrix_dot(alloc, &one, &other).expect(&rt, "memory");
-    assert_eq!(rt;
-        product.to_vec(alloc).expect(&rt, "memory").as_slice(),
-        [0, 0, 0, 0, 0, 0].as_slice()
-    );
+    assert!(rt; shows(&product, [2, 3], &[0, 0, 0, 0, 0, 0]));
 }
 
 #[test]
@@ -47,10 +38,7 @@ fn matrix_and_vector(rt: HostRuntime) {
     let matrix: Array2<u64> = made(alloc, (2, 3), &[3, 7, 8, 5, 2, 4]).expect(&rt, "made");
     let vector: Array1<u64> = made(alloc, 3, &[1, 10, 100]).expect(&rt, "made");
     let product = matrix_dot_vector(alloc, &matrix, &vector).expect(&rt, "memory");
-    assert_eq!(rt;
-        product.to_vec(alloc).expect(&rt, "memory").as_slice(),
-        [873, 425].as_slice()
-    );
+    assert!(rt; lists(&product, &[873, 425]));
 }
 
 #[test]
@@ -59,10 +47,7 @@ fn transposed_matrix_and_vector(rt: HostRuntime) {
     let matrix: Array2<u64> = made(alloc, (3, 2), &[3, 5, 7, 2, 8, 4]).expect(&rt, "made");
     let vector: Array1<u64> = made(alloc, 3, &[1, 10, 100]).expect(&rt, "made");
     let product = matrix_dot_vector(alloc, &matrix.t(), &vector).expect(&rt, "memory");
-    assert_eq!(rt;
-        product.to_vec(alloc).expect(&rt, "memory").as_slice(),
-        [873, 425].as_slice()
-    );
+    assert!(rt; lists(&product, &[873, 425]));
 }
 
 #[test]

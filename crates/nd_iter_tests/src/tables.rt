@@ -1,0 +1,69 @@
+//! The small tables of the tests, and what is taken of them as digits.
+
+ghost use Rattle.std.specs.Iterator.{IsFinite};
+
+use nd_array_core::{Array2, ArrayBase, ArrayView, Data};
+use nd_iter::iter;
+use nd_shape_and_slice::Dimension;
+use nd_test_arrays::made;
+use std::alloc::Global;
+use std::process::Abort;
+
+/// Rows 3 7 8 and 5 2 4.
+pub(crate) fn table(rt: &impl Abort, alloc: Global) -> Array2<u64> {
+    made(alloc, (2, 3), &[3, 7, 8, 5, 2, 4]).expect(rt, "made")
+}
+
+/// Two rows without elements.
+pub(crate) fn nothing(rt: &impl Abort, alloc: Global) -> Array2<u64> {
+    made(alloc, (2, 0), &[]).expect(rt, "made")
+}
+
+/// The elements as digits.
+pub(crate) fn digits<S: Data<Elem = u64>, D: Dimension>(array: &ArrayBase<S, D>) -> u64 {
+    let mut digits: u64 = 0;
+    for x in iter(array) {
+        digits = digits.wrapping_mul(10).wrapping_add(*x);
+    }
+    digits
+}
+
+/// The elements as digits, from the last one back.
+pub(crate) fn digits_back<S: Data<Elem = u64>, D: Dimension>(array: &ArrayBase<S, D>) -> u64 {
+    let mut digits: u64 = 0;
+    for x in iter(array).rev() {
+        digits = digits.wrapping_mul(10).wrapping_add(*x);
+    }
+    digits
+}
+
+/// Whether there is a part, and it has these elements as digits.
+pub(crate) fn has_digits<D: Dimension>(part: Option<ArrayView<'_, u64, D>>, wanted: u64) -> bool {
+    match part {
+        Some(part) => digits(&part) == wanted,
+        None => false,
+    }
+}
+
+/// The parts that are left, each as so many digits.
+pub(crate) fn joined<'a, D: Dimension, I: Iterator<Item = ArrayView<'a, u64, D>>>(
+    parts: I,
+    scale: u64,
+) -> u64
+    requires can_next { I.can_next parts }
+    requires finite { IsFinite (I.remaining parts) }
+{
+    let mut joined: u64 = 0;
+    for part in parts {
+        joined = joined.wrapping_mul(scale).wrapping_add(digits(&part));
+    }
+    joined
+}
+
+/// Whether there is an element, of this value.
+pub(crate) fn is(element: Option<&u64>, value: u64) -> bool {
+    match element {
+        Some(element) => *element == value,
+        None => false,
+    }
+}
