@@ -1,6 +1,7 @@
 //! Callers of `nd_iter`, and tests of it by its public calls.
 #![tactic(auto)]
 
+#[cfg(test)]
 pub mod callers;
 #[cfg(test)]
 mod callers_called;
