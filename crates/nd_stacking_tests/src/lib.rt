@@ -1,6 +1,7 @@
 //! Callers of `nd_stacking` in coordinates, and tests of it by its public calls.
 #![tactic(auto)]
 
+#[cfg(test)]
 mod callers;
 #[cfg(test)]
 mod layouts;
