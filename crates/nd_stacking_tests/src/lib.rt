@@ -2,7 +2,7 @@
 #![tactic(auto)]
 
 #[cfg(test)]
-mod callers;
+pub mod callers;
 #[cfg(test)]
 mod layouts;
 #[cfg(test)]
@@ -11,5 +11,3 @@ mod refused_clones;
 mod refused_memory;
 #[cfg(test)]
 mod rows;
-
-pub use callers::{film, side_by_side};
