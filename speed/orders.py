@@ -109,20 +109,14 @@ class Row:
                 yield f"{self.over('numpy'):.2f} of numpy"
 
     def reason(self):
-        """What stands in the way of a row that misses an aim."""
+        """What stands in the way of a row that misses an aim, where that is known."""
         if max(self.shape) < LARGE and len(self.shape) == 2:
             return "the call's own time beside a short loop"
         if self.over("plain") < 1.105:
             return "plain Rust takes as long"
-        if self.over("plain") < 1.305 and self.form != 0 and self.over("numpy") < 1.105:
-            return "within a tenth of numpy"
-        if self.call == "==":
-            return "a test after every 64 elements" if self.form == 0 else "64 elements of a lane at a time"
-        if self.call in COPIES:
-            return "no call of memcpy" if self.form == 0 else "pushed in order, where the plain loop writes out of turn"
-        if self.kind == "u8":
-            return "no call of memcpy" if self.form == 0 else "bytes that aren't side by side go one by one"
-        return "one way for all orders, beside the best of five loops"
+        if self.call == "to_vec" and self.form != 0:
+            return "pushed in order, where the plain loop writes out of turn"
+        return "not known"
 
 
 def rows(quick):
