@@ -1,6 +1,7 @@
 pub mod Integers
 pub mod Reaches
 pub mod Offsets
+pub mod AxisByAxis
 pub mod AxisChange
 pub mod Totals
 pub mod TurnedLoop

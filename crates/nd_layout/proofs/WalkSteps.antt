@@ -54,7 +54,7 @@ displacement_of-put ss is k x e h =
     rw (set-get_or ss k (pos 0)) at whole
 
 -- ---- the place
-place_number : (z : ℤ) → is_place z ≡ true → (p : ℕ) × (z ≡ pos p) × (p < 9223372036854775808)
+pub place_number : (z : ℤ) → is_place z ≡ true → (p : ℕ) × (z ≡ pos p) × (p < 9223372036854775808)
 place_number (pos p) h = (p, refl, grind (arith, nat_tests))
 place_number (negsuc p) h = cc
 

@@ -2,7 +2,7 @@
 -- rest and the divisor.
 use Rattle.std.proofs.Common.{◌≡◌, ◌≢◌, ℕ, zero, suc, ◌+◌, ◌-◌, ◌*◌, ◌/◌, ◌%◌, ◌<◌, ◌≤◌, ap, sym, ◌∙◌, arith}
 use Rattle.std.proofs.Math.Nat.{mul-le-mul_left, le_of_mul-le-mul_left, lt_of_mul-lt-mul_left}
-use Rattle.std.specs.Prelude.{nat_lt, true}
+use Rattle.std.specs.Prelude.{nat_lt, true, false}
 use Rattle.std.proofs.lemmas.Bool.Decides.{nat_tests}
 use Rattle.std.proofs.lemmas.Nat.{div-add-mod', mod_below}
 use Rattle.nd_shape_and_slice.specs.Meeting.{IsFirstMultiple, Share}
@@ -135,3 +135,13 @@ passed a b h = grind (arith, nat_tests, h)
 -- where the second progression reaches the number, they share one exactly where the first one does
 pub shared_where : (l d k l' d' k' w t : ℕ) → 0 < d → l ≤ l' → IsFirstMultiple d (l' - l) d' w t → w < k' → (nat_lt t k ≡ true → Share l d k l' d' k') × (Share l d k l' d' k' → nat_lt t k ≡ true)
 shared_where l d k l' d' k' w t some order first within = (λ h. shared l d k l' d' k' w t order first within (passed t k h), λ s. passes t k (share_first l d k l' d' k' w t some order first s).1)
+
+-- where it doesn't, they share none, and neither where there is no such number
+pub missed_where : (l d k l' d' k' w t : ℕ) → 0 < d → l ≤ l' → IsFirstMultiple d (l' - l) d' w t → k' ≤ w → (nat_lt w k' ≡ true → Share l d k l' d' k') × (Share l d k l' d' k' → nat_lt w k' ≡ true)
+missed_where l d k l' d' k' w t some order first past = (
+  λ h. let within = passed w k' h in absurd (omega (arith, within, past)),
+  λ share. let within = (share_first l d k l' d' k' w t some order first share).0 in absurd (omega (arith, within, past)),
+)
+
+pub never_where : (l d k l' d' k' : ℕ) → l ≤ l' → ((v u : ℕ) → d * u ≡ l' - l + d' * v → ⊥) → (false ≡ true → Share l d k l' d' k') × (Share l d k l' d' k' → false ≡ true)
+never_where l d k l' d' k' order none = (λ h. cc, λ share. absurd (no_share l d k l' d' k' order none share))

@@ -40,7 +40,6 @@ struct Spaced {
 }
 
 /// Whether two progressions share a coordinate; the second begins no lower than the first.
-#[tactic(auto, using(crate::proofs::Multiples::shared, crate::proofs::Multiples::share_first, crate::proofs::Multiples::no_share))]
 fn meets_from(low: Spaced, high: Spaced) -> bool
     requires order { low.low ≤ high.low }
     requires distance { 0 < low.distance }

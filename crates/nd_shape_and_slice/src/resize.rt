@@ -44,9 +44,8 @@ pub(crate) fn copy_without(lengths: &[usize], axis: usize, out: &mut [usize])
     requires as_many { length out.old + 1 ≡ length lengths.now }
     ensures { out.new ≡ remove lengths.now axis }
 {
-    let (front, back) = out.split_at_mut(axis);
-    front.copy_from_slice(&lengths[..axis]);
-    back.copy_from_slice(&lengths[axis + 1..]);
+    out[..axis].copy_from_slice(&lengths[..axis]);
+    out[axis..].copy_from_slice(&lengths[axis + 1..]);
 }
 
 /// Writes the lengths with a 1 put in.
@@ -55,11 +54,9 @@ pub(crate) fn copy_with(lengths: &[usize], axis: usize, out: &mut [usize])
     requires as_many { length out.old ≡ length lengths.now + 1 }
     ensures { out.new ≡ insert lengths.now axis 1 }
 {
-    let (front, rest) = out.split_at_mut(axis);
-    let (new, back) = rest.split_at_mut(1);
-    front.copy_from_slice(&lengths[..axis]);
-    new.copy_from_slice(&[1]);
-    back.copy_from_slice(&lengths[axis..]);
+    out[..axis].copy_from_slice(&lengths[..axis]);
+    out[axis] = 1;
+    out[axis + 1..].copy_from_slice(&lengths[axis..]);
 }
 
 impl RemoveAxis for Dim<1> {

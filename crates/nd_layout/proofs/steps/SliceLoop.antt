@@ -3,10 +3,11 @@ use Rattle.std.proofs.Common.{◌≡◌, ℕ, zero, suc, ◌+◌, ◌-◌, ◌<�
 use Rattle.std.proofs.Math.ListN.{drop_of_length-le}
 use Rattle.std.proofs.lemmas.Bool.{and_parts, ltb-true}
 use Rattle.std.proofs.lemmas.List.{drop_more}
-use Rattle.std.specs.Prelude.{slice_get, None, Some, is_some}
+use Rattle.std.specs.Prelude.{slice_get, Option, None, Some, is_some}
 use Rattle.std.specs.Option.{unwrap_or}
 use Rattle.nd_shape_and_slice.specs.declared.slice_info.SliceInfoElem.{SliceInfoElem}
 use Rattle.nd_shape_and_slice.specs.declared.slice_info.SliceInfoElem.TheVariants.{Slice as Part, Index, NewAxis}
+use Rattle.nd_shape_and_slice.specs.Slice.{fits_axis}
 use Rattle.nd_shape_and_slice.specs.SliceInfo.{coordinate_on, each_fits, fits_next}
 use Rattle.nd_shape_and_slice.specs.Slicing.{collapsed_after, collapsed_before, shape_with, index_with, next_axis}
 use Rattle.nd_layout.specs.Elements.{strides_with}
@@ -28,6 +29,17 @@ coordinate_within n (negsuc k) = at (ltb k n) refl
     at : (b : Bool) → ltb k n ≡ b → is_some (cond b (Some (n - suc k)) None) ≡ true → unwrap_or (cond b (Some (n - suc k)) None) 0 < n
     at true e h = let below = ltb-true k n e in omega (arith, below)
     at false e h = absurd cc
+
+-- what a fitting slice, or index, says of the axis that it reads
+pub part_fits : (ns : List ℕ) (a : ℕ) (start : ℤ) (end : Option ℤ) (step : ℤ) → fits_next (slice_get ns a) (Part start end step) ≡ true → (a < length ns) × (fits_axis (get_or ns a 0) (record { start = start; end = end; step = step }) ≡ true)
+part_fits [] a start end step h = absurd cc
+part_fits (n ∷ ns) zero start end step h = (omega arith, h)
+part_fits (n ∷ ns) (suc a) start end step h = let later = part_fits ns a start end step h in (omega (arith, later.0), later.1)
+
+pub index_fits : (ns : List ℕ) (a : ℕ) (k : ℤ) → fits_next (slice_get ns a) (Index k) ≡ true → (a < length ns) × (is_some (coordinate_on (get_or ns a 0) k) ≡ true)
+index_fits [] a k h = absurd cc
+index_fits (n ∷ ns) zero k h = (omega arith, h)
+index_fits (n ∷ ns) (suc a) k h = let later = index_fits ns a k h in (omega (arith, later.0), later.1)
 
 -- the axes below a are done
 abbrev pub fits_from : ℕ → List ℕ → List SliceInfoElem → Bool

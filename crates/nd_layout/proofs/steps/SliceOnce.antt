@@ -37,6 +37,15 @@ some_left none m stays is goes =
     not_zero zero h = absurd cc
     not_zero (suc m) h = omega arith
 
+-- and one that stays: none were left
+pub goes_on : (none : Bool) (m : ℕ) (stays : Bool) → stays ≡ none || eqb m 0 → none ≡ false → 0 < m → stays ≡ false
+goes_on none m stays is here some =
+    let left : eqb m 0 ≡ false = grind (arith, nat_tests) in
+    is ∙ ap (λ b. b || eqb m 0) here ∙ left
+
+pub stays_put : (none : Bool) (m : ℕ) (stays : Bool) → stays ≡ none || eqb m 0 → none ≡ true → stays ≡ true
+stays_put none m stays is gone = is ∙ ap (λ b. b || eqb m 0) gone
+
 -- where a slice leaves coordinates, its first is on the axis
 pub first_within : (n : ℕ) (s : Slice) → fits_axis n s ≡ true → 0 < sliced_length n s → sliced_from n s 0 < n
 first_within n s fits some =

@@ -101,7 +101,7 @@ impl<D: Dimension, T: StrideList> Layout<D, T> {
     {
         match element {
             SliceInfoElem::Slice { start, end, step } => {
-                self.part_of_axis(axis, Slice::new(start, end, step), offset, is_empty)
+                self.part_of_axis(axis, Slice { start, end, step }, offset, is_empty)
             }
             SliceInfoElem::Index(coordinate) => AxisChange {
                 offset: self.offset_at(axis, coordinate, offset, is_empty),
@@ -182,11 +182,10 @@ impl<D: Dimension, T: StrideList> Layout<D, T> {
     {
         match element {
             SliceInfoElem::Slice { start, end, step } => {
-                self.slice_axis(axis, Slice::new(start, end, step))
+                self.slice_axis(axis, Slice { start, end, step })
             }
             SliceInfoElem::Index(coordinate) => {
-                let len = length_at(self.dim.slice(), axis);
-                let index = coordinate_on_axis(len, coordinate).unwrap_or(0);
+                let index = coordinate_on_axis(self.dim.length(axis), coordinate).unwrap_or(0);
                 self.collapse_axis(axis, index)
             }
             SliceInfoElem::NewAxis => {}
