@@ -1,26 +1,54 @@
 //! Products of small vectors and matrices, in both orders. Each call finds storage here.
 
-use nd_array_core::{Array1, Array2};
+use nd_array_core::{Array1, Array2, ArrayBase, Data};
 use nd_linalg::{dot, matrix_dot, matrix_dot_vector};
+use nd_shape_and_slice::{Ix2, size_of_shape_checked};
 use nd_test_arrays::{lists, made, shows};
 use std::alloc::Global;
+
+/// Whether two matrices fit each other, and their product has this shape and these numbers.
+fn multiply_to<S: Data<Elem = u64>, Z: Data<Elem = u64>>(
+    alloc: Global,
+    one: &ArrayBase<S, Ix2>,
+    other: &ArrayBase<Z, Ix2>,
+    shape: [usize; 2],
+    wanted: &[u64],
+) -> bool {
+    let (rows, inner) = one.dim();
+    let (same, columns) = other.dim();
+    if same != inner || size_of_shape_checked(&[rows, columns]).is_err() {
+        return false;
+    }
+    match matrix_dot(alloc, one, other) {
+        Ok(product) => shows(&product, shape, wanted),
+        Err(_) => false,
+    }
+}
+
+/// Whether a matrix fits a vector, and their product has these numbers.
+fn maps_to<S: Data<Elem = u64>>(
+    alloc: Global,
+    matrix: &ArrayBase<S, Ix2>,
+    vector: &Array1<u64>,
+    wanted: &[u64],
+) -> bool {
+    let (_rows, columns) = matrix.dim();
+    if vector.dim() != columns {
+        return false;
+    }
+    match matrix_dot_vector(alloc, matrix, vector) {
+        Ok(product) => lists(&product, wanted),
+        Err(_) => false,
+    }
+}
 
 #[test]
 fn two_matrices(rt: HostRuntime) {
     let alloc = rt.alloc();
     let one: Array2<u64> = made(alloc, (2, 3), &[3, 7, 8, 5, 2, 4]).expect(&rt, "made");
     let other: Array2<u64> = made(alloc, (3, 2), &[1, 9, 0, 5, 4, 1]).expect(&rt, "made");
-    let product = matrix_dot(alloc, &one, &other).expect(&rt, "memory");
-    assert!(rt; shows(&product, [2, 2], &[35, 70, 21, 59]));
-}
-
-#[test]
-fn transposed_matrices(rt: HostRuntime) {
-    let alloc = rt.alloc();
-    let one: Array2<u64> = made(alloc, (2, 3), &[3, 7, 8, 5, 2, 4]).expect(&rt, "made");
-    let other: Array2<u64> = made(alloc, (3, 2), &[1, 9, 0, 5, 4, 1]).expect(&rt, "made");
-    let product = matrix_dot(alloc, &other.t(), &one.t()).expect(&rt, "memory");
-    assert!(rt; shows(&product, [2, 2], &[35, 21, 70, 59]));
+    assert!(rt; multiply_to(alloc, &one, &other, [2, 2], &[35, 70, 21, 59]));
+    assert!(rt; multiply_to(alloc, &other.t(), &one.t(), [2, 2], &[35, 21, 70, 59]));
 }
 
 #[test]
@@ -28,26 +56,17 @@ fn an_empty_inner_axis(rt: HostRuntime) {
     let alloc = rt.alloc();
     let one: Array2<u64> = made(alloc, (2, 0), &[]).expect(&rt, "made");
     let other: Array2<u64> = made(alloc, (0, 3), &[]).expect(&rt, "made");
-    let product = matrix_dot(alloc, &one, &other).expect(&rt, "memory");
-    assert!(rt; shows(&product, [2, 3], &[0, 0, 0, 0, 0, 0]));
+    assert!(rt; multiply_to(alloc, &one, &other, [2, 3], &[0, 0, 0, 0, 0, 0]));
 }
 
 #[test]
 fn matrix_and_vector(rt: HostRuntime) {
     let alloc = rt.alloc();
     let matrix: Array2<u64> = made(alloc, (2, 3), &[3, 7, 8, 5, 2, 4]).expect(&rt, "made");
+    let turned: Array2<u64> = made(alloc, (3, 2), &[3, 5, 7, 2, 8, 4]).expect(&rt, "made");
     let vector: Array1<u64> = made(alloc, 3, &[1, 10, 100]).expect(&rt, "made");
-    let product = matrix_dot_vector(alloc, &matrix, &vector).expect(&rt, "memory");
-    assert!(rt; lists(&product, &[873, 425]));
-}
-
-#[test]
-fn transposed_matrix_and_vector(rt: HostRuntime) {
-    let alloc = rt.alloc();
-    let matrix: Array2<u64> = made(alloc, (3, 2), &[3, 5, 7, 2, 8, 4]).expect(&rt, "made");
-    let vector: Array1<u64> = made(alloc, 3, &[1, 10, 100]).expect(&rt, "made");
-    let product = matrix_dot_vector(alloc, &matrix.t(), &vector).expect(&rt, "memory");
-    assert!(rt; lists(&product, &[873, 425]));
+    assert!(rt; maps_to(alloc, &matrix, &vector, &[873, 425]));
+    assert!(rt; maps_to(alloc, &turned.t(), &vector, &[873, 425]));
 }
 
 #[test]

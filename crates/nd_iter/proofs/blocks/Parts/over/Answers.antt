@@ -1,5 +1,6 @@
 use Rattle.std.proofs.Common.{◌≡◌, ◌*◌, ap, ◌∙◌, arith}
 use Rattle.std.specs.Prelude.{slice_index}
+use Rattle.std.proofs.lemmas.Grind.{common_steps}
 use Rattle.nd_array_core.specs.Meaning.{meaning_of}
 use Rattle.nd_iter.specs.TableParts.{parts_along}
 use Rattle.nd_iter.proofs.PartsAlong.{some_across, rows_fit, columns_fit}
@@ -22,3 +23,6 @@ invariant_of-result g c =
       rows = rows_fit rows columns a.height a.width a.down a.right beside c.requires.down c.requires.right is to all;
       columns = columns_fit rows columns a.height a.width a.down a.right beside c.requires.down c.requires.right is to all;
     }
+
+pub overflow_mul-result : goal.overflow_mul-result
+overflow_mul-result g c = grind (arith, common_steps)

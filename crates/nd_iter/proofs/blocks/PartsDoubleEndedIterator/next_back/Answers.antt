@@ -1,4 +1,5 @@
 use Rattle.std.proofs.Common.{arith, sym}
+use Rattle.std.proofs.lemmas.Grind.{common_steps}
 use Rattle.nd_array_core.specs.Meaning.{meaning_of}
 use Rattle.nd_iter.specs.TableParts.{numbered_part}
 use Rattle.nd_iter.proofs.Parts.{last_step, last_nearer}
@@ -19,3 +20,6 @@ returns-clause-goes g c =
       keeps = tt;
       rests = λ _. tt;
     }
+
+pub invariant_of-self : goal.invariant_of-self
+invariant_of-self g c = grind (arith, common_steps)

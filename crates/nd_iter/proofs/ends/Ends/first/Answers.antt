@@ -1,4 +1,5 @@
 use Rattle.std.proofs.Common.{◌≡◌, ◌+◌, ◌-◌, ◌∷◌, ap, sym, ◌∙◌, arith}
+use Rattle.std.proofs.lemmas.Grind.{common_steps}
 use Rattle.nd_array_core.specs.Meaning.{meaning_of}
 use Rattle.nd_array_core.specs.along.RankLanes.{lane_length}
 use Rattle.nd_iter.specs.Hands.{first_rank, rank_behind}
@@ -34,3 +35,9 @@ returns-then-len-gt0-2-clause-first g c =
     ∙ first_of_lane m mid.behind mid.back ends.behind 0 (omega (arith, some, c.if-len-gt0-2.true)) taken.result.now taken.ensures.element (first_rank mid) (rank_behind mid)
     (omega (arith, met, none, some, c.if-len-gt0-2.true)) (omega (arith, met, none)) next (omega (arith, none))
     ∙ ap (λ to. taken.result.now ∷ elements_left m next to) same
+
+pub returns-then-len-gt0-2-clause-ends : goal.returns-then-len-gt0-2-clause-ends
+returns-then-len-gt0-2-clause-ends g c = grind (arith, common_steps)
+
+pub returns-clause-first : goal.returns-clause-first
+returns-clause-first g c = grind (arith, common_steps)

@@ -1,4 +1,5 @@
 use Rattle.std.proofs.Common.{◌+◌, ◌-◌, arith}
+use Rattle.std.proofs.lemmas.Grind.{common_steps}
 use Rattle.nd_array_core.specs.Joined.{row_major_elements}
 use Rattle.nd_array_core.specs.Meaning.{meaning_of}
 use Rattle.nd_array_core.specs.along.RankLanes.{lane_length}
@@ -15,3 +16,9 @@ returns-clause-first g c =
     let none = c.requires.ranks.0 in
     let near = c.requires.ranks.1 in
     first_left (row_major_elements m) (first_rank old) (rank_behind old) old.front c.listed_in.result.now c.listed_in.ensures (omega (arith, between, none, near, c.if-self.false)) (omega (arith, none)) (old.front + 1 - lane_length old.ahead) (omega (arith, none))
+
+pub returns-clause-ends : goal.returns-clause-ends
+returns-clause-ends g c = grind (arith, common_steps)
+
+pub returns-then-self-clause-first : goal.returns-then-self-clause-first
+returns-then-self-clause-first g c = grind (arith, common_steps)

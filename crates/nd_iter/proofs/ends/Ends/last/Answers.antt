@@ -1,4 +1,5 @@
 use Rattle.std.proofs.Common.{◌≡◌, ◌+◌, ◌-◌, [], ◌∷◌, ◌++◌, ap, sym, ◌∙◌, arith}
+use Rattle.std.proofs.lemmas.Grind.{common_steps}
 use Rattle.nd_array_core.specs.Meaning.{meaning_of}
 use Rattle.nd_array_core.specs.along.RankLanes.{lane_length}
 use Rattle.nd_iter.specs.Hands.{first_rank, rank_behind}
@@ -35,3 +36,6 @@ returns-then-len-gt0-2-clause-last g c =
     ∙ last_of_lane m mid.ahead (first_rank mid) ends.ahead (lane_length rest) (omega (arith, shorter)) taken.result.now taken.ensures.element (first_rank mid) (rank_behind mid)
     (omega (arith, before, met, shorter)) (omega (arith, before, met, none, shorter)) less (omega (arith, before, met, none, shorter))
     ∙ ap (λ from. elements_left m from less ++ taken.result.now ∷ []) same
+
+pub returns-clause-last : goal.returns-clause-last
+returns-clause-last g c = grind (arith, common_steps)

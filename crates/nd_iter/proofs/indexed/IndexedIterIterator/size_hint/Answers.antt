@@ -1,4 +1,5 @@
 use Rattle.std.proofs.Common.{length, ap, ◌∙◌, arith, sym}
+use Rattle.std.proofs.lemmas.Grind.{common_steps}
 use Rattle.nd_array_core.specs.Joined.{row_major_elements}
 use Rattle.nd_array_core.specs.Meaning.{meaning_of}
 use Rattle.nd_iter.specs.Seen.{with_indexes}
@@ -14,3 +15,6 @@ returns-clause-lower g c _ =
     let within = c.self.invariant.0.within in
     let left = ap length (sym c.self.view_is) ∙ length_taken (row_major_elements (with_indexes m)) it.front it.back (omega (arith, whole, within)) in
     omega (arith, left)
+
+pub returns-clause-upper : goal.returns-clause-upper
+returns-clause-upper g c = grind (arith, common_steps)

@@ -1,0 +1,9 @@
+use Rattle.std.proofs.Common.{arith}
+use Rattle.nd_iter.proofs.Parts.{length_given}
+use Rattle.nd_iter.proofs.blocks.PartsIterator.size_hint.Goals as goal
+
+pub returns-clause-lower : goal.returns-clause-lower
+returns-clause-lower g c = grind (arith, length_given)
+
+pub returns-clause-upper : goal.returns-clause-upper
+returns-clause-upper g c = grind (arith, length_given)
