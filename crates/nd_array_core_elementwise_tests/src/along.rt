@@ -4,148 +4,113 @@ ghost use Rattle.std.specs.Prelude.{◌≡◌, ◌∷◌, []};
 ghost use Rattle.nd_array_core.specs.Meaning.{shape_of};
 ghost use Rattle.nd_array_core.specs.base.Fresh.{EachCloneIsEqual};
 
-use nd_array_core::Array2;
+use crate::moves::counted;
+use nd_array_core::{Array1, Array2};
 use nd_shape_and_slice::{Axis, ShapeBuilder};
-use nd_test_arrays::{Numbered, Refusing, Tally, array_of, listed, numbers, rows_listed};
+use nd_test_arrays::{Numbered, Tally, lists, made, shows, stores};
 use std::alloc::Global;
-use std::test::Fail;
+use std::process::Abort;
 
-/// The numbers of the last, the first and the last row of a table, one row after the other; none if memory or a clone was
-/// refused.
-fn rows_chosen<A: Numbered + Clone + Drop>(
+// 0 1 / 2 3 / 4 5 in row-major and column-major order, and with its rows turned round and elements between them.
+const LAYOUTS: [([isize; 2], &[u64]); 3] = [
+    ([2, 1], &[0, 1, 2, 3, 4, 5]),
+    ([1, 3], &[0, 2, 4, 1, 3, 5]),
+    ([-4, 1], &[4, 5, 9, 9, 2, 3, 9, 9, 0, 1]),
+];
+
+fn table_of(rt: &(impl Abort + AllocGlobal), strides: &[isize; 2], items: &[u64]) -> Array2<u64>
+    ensures { shape_of result ≡ 3 ∷ 2 ∷ [] }
+{
+    made(rt.alloc(), (3, 2).strides(strides), items).expect(rt, "made")
+}
+
+/// Whether the last, the first and the last row of a table, one row after the other, have these numbers; None if memory or a
+/// clone was refused.
+fn chooses<A: Numbered + Clone + Drop>(
     alloc: Global,
     table: &Array2<A>,
-) -> Result<Vec<u64>, Fail>
+    wanted: &[u64],
+) -> Option<bool>
     requires clones { EachCloneIsEqual A.is_clone }
     requires shape { shape_of table.now ≡ 3 ∷ 2 ∷ [] }
 {
     match table.select(alloc, Axis(0), &[2, 0, 2]) {
-        Ok(chosen) => rows_listed(alloc, &chosen),
-        Err(_) => Ok(Vec::new(alloc)),
+        Ok(chosen) => Some(shows(&chosen, [3, 2], wanted)),
+        Err(_) => None,
     }
 }
 
 #[test]
-fn rows_chosen_in_several_layouts(rt: HostRuntime) -> Result<(), Fail> {
-    let wanted = [4, 5, 0, 1, 4, 5];
-    let rows = array_of((3, 2), numbers(rt.alloc(), 0, 6)?)?;
-    assert_eq!(rt;
-        rows_chosen(rt.alloc(), &rows)?.as_slice(),
-        wanted.as_slice()
-    );
-    let columns = array_of(
-        (3, 2).f(),
-        Vec::from_slice(rt.alloc(), &[0, 2, 4, 1, 3, 5])?,
-    )?;
-    assert_eq!(rt;
-        rows_chosen(rt.alloc(), &columns)?.as_slice(),
-        wanted.as_slice()
-    );
-    let items = Vec::from_slice(rt.alloc(), &[4, 5, 9, 9, 2, 3, 9, 9, 0, 1])?;
-    let apart = array_of((3, 2).strides(&[-4, 1]), items)?;
-    assert_eq!(rt;
-        rows_chosen(rt.alloc(), &apart)?.as_slice(),
-        wanted.as_slice()
-    );
-    Ok(())
+fn rows_chosen_in_several_layouts(rt: HostRuntime) {
+    for (strides, items) in LAYOUTS {
+        let table = table_of(&rt, &strides, items);
+        assert_eq!(rt;
+            chooses(rt.alloc(), &table, &[4, 5, 0, 1, 4, 5]),
+            Some(true)
+        );
+    }
 }
 
 #[test]
-fn columns_chosen_and_none(rt: HostRuntime) -> Result<(), Fail> {
-    let table = array_of((3, 2), numbers(rt.alloc(), 0, 6)?)?;
-    match table.select(rt.alloc(), Axis(1), &[1, 1, 0]) {
-        Ok(chosen) => {
-            assert_eq!(rt; chosen.shape(), [3, 3].as_slice());
-            let items = rows_listed(rt.alloc(), &chosen)?;
-            assert_eq!(rt; items.as_slice(), [1, 1, 0, 3, 3, 2, 5, 5, 4].as_slice());
-        }
-        Err(_) => return Err("memory".into()),
-    }
-    match table.select(rt.alloc(), Axis(0), &[]) {
-        Ok(chosen) => assert_eq!(rt; chosen.shape(), [0, 2].as_slice()),
-        Err(_) => return Err("memory".into()),
-    }
-    Ok(())
+fn columns_chosen_and_none(rt: HostRuntime) {
+    let table = table_of(&rt, &[2, 1], &[0, 1, 2, 3, 4, 5]);
+    let chosen = table
+        .select(rt.alloc(), Axis(1), &[1, 1, 0])
+        .expect(&rt, "memory");
+    assert!(rt; shows(&chosen, [3, 3], &[1, 1, 0, 3, 3, 2, 5, 5, 4]));
+    let none = table.select(rt.alloc(), Axis(0), &[]).expect(&rt, "memory");
+    assert!(rt; shows(&none, [0, 2], &[]));
 }
 
 #[test]
-fn clones_of_chosen_rows_refused_in_turn(rt: HostRuntime) -> Result<(), Fail> {
+fn clones_of_chosen_rows_refused_in_turn(rt: HostRuntime) {
     for allowed in 0..=6u64 {
         let tally = Tally::allowing(allowed);
         {
-            let items = Refusing::listed(rt.alloc(), &[0, 1, 2, 3, 4, 5], &tally)?;
-            let table: Array2<Refusing<'_>> = array_of((3, 2), items)?;
-            let chosen = rows_chosen(rt.alloc(), &table)?;
-            let wanted: &[u64] = if allowed < 6 {
-                &[]
-            } else {
-                &[4, 5, 0, 1, 4, 5]
-            };
-            assert_eq!(rt; chosen.as_slice(), wanted, "{allowed} clones");
+            let table = counted(&rt, 3, 2, &[2, 1], &[0, 1, 2, 3, 4, 5], &tally);
+            let wanted = if allowed < 6 { None } else { Some(true) };
+            let chosen = chooses(rt.alloc(), &table, &[4, 5, 0, 1, 4, 5]);
             assert_eq!(rt;
-                (tally.left(), tally.living()),
-                (0, Some(6)),
+                (chosen, tally.left(), tally.living()),
+                (wanted, 0, Some(6)),
                 "{allowed} clones"
             );
-            let stayed = rows_listed(rt.alloc(), &table)?;
-            assert_eq!(rt; stayed.as_slice(), [0, 1, 2, 3, 4, 5].as_slice());
+            assert!(rt; shows(&table, [3, 2], &[0, 1, 2, 3, 4, 5]));
         }
         assert_eq!(rt; tally.living(), Some(0), "{allowed} clones");
     }
-    Ok(())
 }
 
 #[test]
-fn one_taken_out(rt: HostRuntime) -> Result<(), Fail> {
-    let mut line = array_of(4, numbers(rt.alloc(), 1, 4)?)?;
-    line.remove_index(Axis(0), 1);
-    assert_eq!(rt; listed(rt.alloc(), &line)?.as_slice(), [1, 3, 4].as_slice());
-    let (stored, offset) = line.into_raw_vec_and_offset();
-    assert_eq!(rt; stored.as_slice(), [1, 3, 4, 2].as_slice());
-    assert_eq!(rt; offset, Some(0));
-    let mut turned = array_of(4, numbers(rt.alloc(), 1, 4)?)?;
-    turned.invert_axis(Axis(0));
-    turned.remove_index(Axis(0), 1);
-    assert_eq!(rt;
-        listed(rt.alloc(), &turned)?.as_slice(),
-        [4, 2, 1].as_slice()
-    );
-    assert_eq!(rt; turned.into_raw_vec().as_slice(), [3, 1, 2, 4].as_slice());
-    Ok(())
+fn one_taken_out(rt: HostRuntime) {
+    let table: [([isize; 1], &[u64], &[u64], usize); 2] = [
+        ([1], &[1, 3, 4], &[1, 3, 4, 2], 0),
+        ([-1], &[4, 2, 1], &[3, 1, 2, 4], 3),
+    ];
+    for (strides, shown, stored, at) in table {
+        let mut line: Array1<u64> = made(rt.alloc(), 4.strides(&strides), &[1, 2, 3, 4]).expect(
+            &rt, "made",
+        );
+        line.remove_index(Axis(0), 1);
+        assert!(rt; lists(&line, shown));
+        let (items, offset) = line.into_raw_vec_and_offset();
+        assert!(rt; items.as_slice() == stored && offset == Some(at));
+    }
 }
 
 #[test]
-fn a_row_taken_out(rt: HostRuntime) -> Result<(), Fail> {
-    let mut rows = array_of((3, 2), numbers(rt.alloc(), 0, 6)?)?;
-    rows.remove_index(Axis(0), 0);
-    assert_eq!(rt; rows.shape(), [2, 2].as_slice());
-    assert_eq!(rt;
-        rows_listed(rt.alloc(), &rows)?.as_slice(),
-        [2, 3, 4, 5].as_slice()
-    );
-    assert_eq!(rt;
-        rows.into_raw_vec().as_slice(),
-        [2, 3, 4, 5, 0, 1].as_slice()
-    );
-    let mut columns = array_of(
-        (3, 2).f(),
-        Vec::from_slice(rt.alloc(), &[0, 2, 4, 1, 3, 5])?,
-    )?;
-    columns.remove_index(Axis(0), 0);
-    assert_eq!(rt;
-        rows_listed(rt.alloc(), &columns)?.as_slice(),
-        [2, 3, 4, 5].as_slice()
-    );
-    assert_eq!(rt;
-        columns.into_raw_vec().as_slice(),
-        [2, 4, 0, 3, 5, 1].as_slice()
-    );
-    let items = Vec::from_slice(rt.alloc(), &[4, 5, 9, 9, 2, 3, 9, 9, 0, 1])?;
-    let mut apart = array_of((3, 2).strides(&[-4, 1]), items)?;
-    apart.remove_index(Axis(0), 2);
-    assert_eq!(rt;
-        rows_listed(rt.alloc(), &apart)?.as_slice(),
-        [0, 1, 2, 3].as_slice()
-    );
-    Ok(())
+fn a_row_taken_out(rt: HostRuntime) {
+    let table: [(usize, &[u64], &[u64]); 3] = [
+        (0, &[2, 3, 4, 5], &[2, 3, 4, 5, 0, 1]),
+        (0, &[2, 3, 4, 5], &[2, 4, 0, 3, 5, 1]),
+        (2, &[0, 1, 2, 3], &[4, 5, 9, 9, 2, 3, 9, 9, 0, 1]),
+    ];
+    for ((strides, items), (row, shown, stored)) in LAYOUTS.iter().zip(&table) {
+        let mut rows = table_of(&rt, strides, items);
+        if *row < 3 {
+            rows.remove_index(Axis(0), *row);
+        }
+        assert!(rt; shows(&rows, [2, 2], shown));
+        assert!(rt; stores(rows, stored));
+    }
 }

@@ -1,96 +1,106 @@
 //! Two arrays in two orders: with lanes so long that they are done in parts, a table of 20 rows and 700 columns, and with rows
 //! so short that lanes go along the columns, or that they are done as one.
 
+ghost use Rattle.std.specs.Prelude.{◌≡◌, ◌∷◌, []};
+ghost use Rattle.nd_array_core.specs.Meaning.{shape_of};
+
 use nd_array_core::{Array2, Array3, GetMut};
 use nd_shape_and_slice::ShapeBuilder;
 use nd_test_arrays::{array_of, numbers};
+use std::process::Abort;
 use std::test::Fail;
 
-/// The number that stands in a row and a column where the numbers from 1 on lie in columns, by its rank in the rows.
-fn by_columns(rank: usize) -> usize {
-    rank / 700 + 20 * (rank % 700) + 1
-}
-
-/// The same where they lie in rows, by its rank in the columns.
-fn by_rows(rank: usize) -> usize {
-    rank / 20 + 700 * (rank % 20) + 1
-}
-
-#[test]
-fn rows_assigned_from_columns(rt: HostRuntime) -> Result<(), Fail> {
-    let columns: Array2<u64> = array_of((20, 700).f(), numbers(rt.alloc(), 1, 14_000)?)?;
-    let mut rows: Array2<u64> = array_of((20, 700), numbers(rt.alloc(), 1, 14_000)?)?;
-    assert!(rt; columns.assign_to(&mut rows).is_ok());
-    assert!(rt; rows == columns);
-    let stored = rows.into_raw_vec();
-    assert_eq!(rt; stored.len(), 14_000);
-    for rank in 0..stored.len() {
-        assert_eq!(rt; stored[rank], by_columns(rank) as u64);
+/// The numbers from 1 on in a table of 20 rows and 700 columns.
+fn wide(rt: &(impl Abort + AllocGlobal), strides: &[isize; 2]) -> Array2<u64>
+    ensures { shape_of result ≡ 20 ∷ 700 ∷ [] }
+{
+    match numbers(rt.alloc(), 1, 14_000) {
+        Ok(items) => Array2::from_shape_vec((20, 700).strides(strides), items).expect(rt, "shape"),
+        Err(_) => rt.panic("memory"),
     }
-    Ok(())
 }
 
-#[test]
-fn columns_assigned_from_rows(rt: HostRuntime) -> Result<(), Fail> {
-    let rows: Array2<u64> = array_of((20, 700), numbers(rt.alloc(), 1, 14_000)?)?;
-    let mut columns: Array2<u64> = array_of((20, 700).f(), numbers(rt.alloc(), 1, 14_000)?)?;
-    assert!(rt; rows.assign_to(&mut columns).is_ok());
-    assert!(rt; columns == rows);
-    let stored = columns.into_raw_vec();
-    assert_eq!(rt; stored.len(), 14_000);
-    for rank in 0..stored.len() {
-        assert_eq!(rt; stored[rank], by_rows(rank) as u64);
+/// The numbers from the first one on in a table of 1200 rows and 4 columns.
+fn tall(rt: &(impl Abort + AllocGlobal), strides: &[isize; 2], first: u64) -> Array2<u64>
+    ensures { shape_of result ≡ 1200 ∷ 4 ∷ [] }
+{
+    match numbers(rt.alloc(), first, 4_800) {
+        Ok(items) => Array2::from_shape_vec((1200, 4).strides(strides), items).expect(rt, "shape"),
+        Err(_) => rt.panic("memory"),
     }
-    Ok(())
+}
+
+/// Whether a table is stored as so many runs of one length: the first begins with 1, each further one with the number
+/// behind that, and in each the numbers grow by a step.
+fn stored_in_runs(table: Array2<u64>, runs: u64, length: u64, step: u64) -> bool {
+    let stored = table.into_raw_vec();
+    let mut rank = 0usize;
+    for run in 0..runs {
+        for k in 0..length {
+            let wanted = step.wrapping_mul(k).wrapping_add(run).wrapping_add(1);
+            if stored.get(rank).copied() != Some(wanted) {
+                return false;
+            }
+            rank = rank.saturating_add(1);
+        }
+    }
+    stored.len() == rank
+}
+
+/// Writes a table's elements over another's, which equals it then.
+fn assigns(from: &Array2<u64>, to: &mut Array2<u64>) -> bool
+    requires { shape_of from.now ≡ shape_of to.old }
+{
+    from.assign_to(to).is_ok() && *to == *from
 }
 
 #[test]
-fn one_element_differs(rt: HostRuntime) -> Result<(), Fail> {
-    let columns: Array2<u64> = array_of((20, 700).f(), numbers(rt.alloc(), 1, 14_000)?)?;
-    let mut rows: Array2<u64> = array_of((20, 700), numbers(rt.alloc(), 1, 14_000)?)?;
-    assert!(rt; columns.assign_to(&mut rows).is_ok());
+fn assigned_from_the_other_order(rt: HostRuntime) {
+    let mut rows = wide(&rt, &[700, 1]);
+    assert!(rt; assigns(&wide(&rt, &[1, 20]), &mut rows));
+    assert!(rt; stored_in_runs(rows, 20, 700, 20));
+    let mut columns = wide(&rt, &[1, 20]);
+    assert!(rt; assigns(&wide(&rt, &[700, 1]), &mut columns));
+    assert!(rt; stored_in_runs(columns, 700, 20, 700));
+}
+
+#[test]
+fn one_element_differs(rt: HostRuntime) {
+    let columns = wide(&rt, &[1, 20]);
+    let mut rows = wide(&rt, &[700, 1]);
+    assert!(rt; assigns(&columns, &mut rows));
     match rows.get_mut([19, 699]) {
         Some(last) => *last = 0,
-        None => return Err("no such element".into()),
+        None => rt.panic("no such element"),
     }
     assert!(rt; rows != columns);
-    Ok(())
 }
 
 #[test]
-fn rows_zipped_with_columns(rt: HostRuntime) -> Result<(), Fail> {
-    let columns: Array2<u64> = array_of((20, 700).f(), numbers(rt.alloc(), 1, 14_000)?)?;
-    let mut rows: Array2<u64> = array_of((20, 700), numbers(rt.alloc(), 1, 14_000)?)?;
-    match columns.broadcast(rows.raw_dim()) {
-        Some(_) => {}
-        None => return Err("no broadcast".into()),
-    }
+fn rows_zipped_with_columns(rt: HostRuntime) {
+    let columns = wide(&rt, &[1, 20]);
+    let mut rows = wide(&rt, &[700, 1]);
     let mut calls = 0u64;
     rows.zip_mut_with(&columns, |x, y| {
         calls = calls.saturating_add(1);
         *x = x.wrapping_add(y.wrapping_mul(100_000));
     });
     assert_eq!(rt; calls, 14_000);
-    let stored = rows.into_raw_vec();
-    for rank in 0..stored.len() {
-        let sum = (by_columns(rank) as u64)
-            .wrapping_mul(100_000)
-            .wrapping_add(rank as u64);
-        assert_eq!(rt; stored[rank], sum.wrapping_add(1));
+    // what was stored was one more than the rank: without it, and in hundred thousands, the columns' number
+    for (rank, number) in rows.into_raw_vec().iter().enumerate() {
+        let column = rank / 700 + 20 * (rank % 700) + 1;
+        assert_eq!(rt;
+            (number / 100_000, number % 100_000),
+            (column as u64, rank as u64 + 1)
+        );
     }
-    Ok(())
 }
 
 #[test]
-fn columns_moved_into_rows(rt: HostRuntime) -> Result<(), Fail> {
-    let columns: Array2<u64> = array_of((20, 700).f(), numbers(rt.alloc(), 1, 14_000)?)?;
-    let mut rows: Array2<u64> = array_of((20, 700), numbers(rt.alloc(), 1, 14_000)?)?;
-    columns.move_into(&mut rows);
-    let stored = rows.into_raw_vec();
-    for rank in 0..stored.len() {
-        assert_eq!(rt; stored[rank], by_columns(rank) as u64);
-    }
-    Ok(())
+fn columns_moved_into_rows(rt: HostRuntime) {
+    let mut rows = wide(&rt, &[700, 1]);
+    wide(&rt, &[1, 20]).move_into(&mut rows);
+    assert!(rt; stored_in_runs(rows, 20, 700, 20));
 }
 
 #[test]
@@ -98,8 +108,7 @@ fn planes_assigned(rt: HostRuntime) -> Result<(), Fail> {
     // three planes of 20 rows of 700, the first coordinate first in memory
     let columns: Array3<u64> = array_of((3, 20, 700).f(), numbers(rt.alloc(), 1, 42_000)?)?;
     let mut rows: Array3<u64> = array_of((3, 20, 700), numbers(rt.alloc(), 1, 42_000)?)?;
-    assert!(rt; columns.assign_to(&mut rows).is_ok());
-    assert!(rt; rows == columns);
+    assert!(rt; columns.assign_to(&mut rows).is_ok() && rows == columns);
     let stored = rows.into_raw_vec();
     for rank in 0..stored.len() {
         let (plane, row, column) = (rank / 14_000, rank / 700 % 20, rank % 700);
@@ -109,28 +118,11 @@ fn planes_assigned(rt: HostRuntime) -> Result<(), Fail> {
 }
 
 #[test]
-fn short_rows_assigned_from_columns(rt: HostRuntime) -> Result<(), Fail> {
-    let columns: Array2<u64> = array_of((1200, 4).f(), numbers(rt.alloc(), 1, 4_800)?)?;
-    let mut rows: Array2<u64> = array_of((1200, 4), numbers(rt.alloc(), 5, 4_800)?)?;
-    assert!(rt; columns.assign_to(&mut rows).is_ok());
-    assert!(rt; rows == columns);
-    let stored = rows.into_raw_vec();
-    for rank in 0..stored.len() {
-        let (row, column) = (rank / 4, rank % 4);
-        assert_eq!(rt; stored[rank], (row + 1200 * column + 1) as u64);
-    }
-    Ok(())
-}
-
-#[test]
-fn short_rows_assigned_as_they_lie(rt: HostRuntime) -> Result<(), Fail> {
-    let from: Array2<u64> = array_of((1200, 4), numbers(rt.alloc(), 1, 4_800)?)?;
-    let mut to: Array2<u64> = array_of((1200, 4), numbers(rt.alloc(), 5, 4_800)?)?;
-    assert!(rt; from.assign_to(&mut to).is_ok());
-    let stored = to.into_raw_vec();
-    assert_eq!(rt; stored.len(), 4_800);
-    for rank in 0..stored.len() {
-        assert_eq!(rt; stored[rank], (rank + 1) as u64);
-    }
-    Ok(())
+fn short_rows_assigned(rt: HostRuntime) {
+    let mut rows = tall(&rt, &[4, 1], 5);
+    assert!(rt; assigns(&tall(&rt, &[1, 1200], 1), &mut rows));
+    assert!(rt; stored_in_runs(rows, 1200, 4, 1200));
+    let mut rows = tall(&rt, &[4, 1], 5);
+    assert!(rt; assigns(&tall(&rt, &[4, 1], 1), &mut rows));
+    assert!(rt; stored_in_runs(rows, 1, 4_800, 1));
 }

@@ -1,144 +1,130 @@
 //! Closures that are handed each element: what they answer stands at its index, and what they leave where it was, whatever the
 //! layout, and each is called once an element.
 
+ghost use Rattle.std.specs.Prelude.{◌≡◌, ◌∷◌, []};
+ghost use Rattle.nd_array_core.specs.Meaning.{shape_of};
+
 use nd_array_core::{Array2, ArrayBase, Data, DataMut};
 use nd_shape_and_slice::{Axis, Ix2, ShapeBuilder, Slice};
-use nd_test_arrays::{array_of, numbers, rows_listed};
-use std::alloc::Global;
-use std::test::Fail;
+use nd_test_arrays::{made, shows, stores};
+use std::process::Abort;
 
-/// Ten times each element by `map` and one more than each by `mapv`, row by row, one list behind the other; then how often
-/// each closure was called, and the sum of what `for_each` was shown.
-fn mapped<S: Data<Elem = u64>>(alloc: Global, image: &ArrayBase<S, Ix2>) -> Result<Vec<u64>, Fail> {
+/// Asserts ten times each element by `map` and one more than each by `mapv`, row by row; then how often each closure was
+/// called, and the sum of what `for_each` was shown.
+fn maps<S: Data<Elem = u64>>(
+    rt: &(impl Abort + AllocGlobal),
+    image: &ArrayBase<S, Ix2>,
+    tens: &[u64],
+    next: &[u64],
+    counts: [u64; 3],
+) {
+    let (rows, columns) = image.dim();
     let mut calls = 0u64;
-    let tens = image.map(alloc, |x| {
-        calls = calls.wrapping_add(1);
-        x.wrapping_mul(10)
-    });
+    let found = image
+        .map(rt.alloc(), |x| {
+            calls = calls.wrapping_add(1);
+            x.wrapping_mul(10)
+        })
+        .expect(rt, "map");
     let mut others = 0u64;
-    let next = image.mapv(alloc, |x| {
-        others = others.wrapping_add(1);
-        x.wrapping_add(1)
-    });
+    let added = image
+        .mapv(rt.alloc(), |x| {
+            others = others.wrapping_add(1);
+            x.wrapping_add(1)
+        })
+        .expect(rt, "mapv");
     let mut sum = 0u64;
     image.for_each(|x| sum = sum.wrapping_add(*x));
-    let mut seen = match tens {
-        Ok(array) => rows_listed(alloc, &array)?,
-        Err(_) => return Err("map".into()),
-    };
-    match next {
-        Ok(array) => {
-            for number in &rows_listed(alloc, &array)? {
-                seen.push(*number)?;
-            }
-        }
-        Err(_) => return Err("mapv".into()),
-    }
-    seen.push(calls)?;
-    seen.push(others)?;
-    seen.push(sum)?;
-    Ok(seen)
+    assert!(rt; shows(&found, [rows, columns], tens) && shows(&added, [rows, columns], next));
+    assert_eq!(rt; [calls, others, sum], counts);
 }
 
-/// Doubles each element by `map_mut`: what they were, row by row, and behind them how often the function was called.
-fn doubled<S: DataMut<Elem = u64>>(
-    alloc: Global,
+/// Doubles each element by `map_mut`, and asserts what they were, row by row, and how often the function was called.
+fn doubles<S: DataMut<Elem = u64>>(
+    rt: &(impl Abort + AllocGlobal),
     image: &mut ArrayBase<S, Ix2>,
-) -> Result<Vec<u64>, Fail> {
+    wanted: &[u64],
+) {
     let mut calls = 0u64;
-    let before = image.map_mut(alloc, |x| {
-        calls = calls.wrapping_add(1);
-        let old = *x;
-        *x = old.wrapping_mul(2);
-        old
-    });
-    match before {
-        Ok(before) => {
-            let mut seen = rows_listed(alloc, &before)?;
-            seen.push(calls)?;
-            Ok(seen)
-        }
-        Err(_) => Err("memory".into()),
+    let before = image
+        .map_mut(rt.alloc(), |x| {
+            calls = calls.wrapping_add(1);
+            let old = *x;
+            *x = old.wrapping_mul(2);
+            old
+        })
+        .expect(rt, "memory");
+    assert!(rt; shows(&before, [2, 2], wanted) && calls == 4);
+}
+
+// 1 2 3 4 as they are stored, in rows, in columns, and with one or both axes turned round: ten times what is shown, and one more.
+#[test]
+fn rows_and_columns_and_axes_turned_round(rt: HostRuntime) {
+    let table: [([isize; 2], &[u64], &[u64]); 4] = [
+        ([2, 1], &[10, 20, 30, 40], &[2, 3, 4, 5]),
+        ([1, 2], &[10, 30, 20, 40], &[2, 4, 3, 5]),
+        ([-2, 1], &[30, 40, 10, 20], &[4, 5, 2, 3]),
+        ([-2, -1], &[40, 30, 20, 10], &[5, 4, 3, 2]),
+    ];
+    for (strides, tens, next) in table {
+        let image: Array2<u64> = made(rt.alloc(), (2, 2).strides(&strides), &[1, 2, 3, 4]).expect(
+            &rt, "made",
+        );
+        maps(&rt, &image, tens, next, [4, 4, 10]);
     }
 }
 
 #[test]
-fn rows_and_columns(rt: HostRuntime) -> Result<(), Fail> {
-    let alloc = rt.alloc();
-    let image: Array2<u64> = array_of((2, 2), numbers(alloc, 1, 4)?)?;
-    let seen = mapped(alloc, &image)?;
-    assert_eq!(rt;
-        seen.as_slice(),
-        [10, 20, 30, 40, 2, 3, 4, 5, 4, 4, 10].as_slice()
+fn axes_exchanged(rt: HostRuntime) {
+    let image: Array2<u64> = made(rt.alloc(), (2, 2), &[1, 2, 3, 4]).expect(&rt, "made");
+    maps(
+        &rt,
+        &image.t(),
+        &[10, 30, 20, 40],
+        &[2, 4, 3, 5],
+        [4, 4, 10],
     );
-    let seen = mapped(alloc, &image.t())?;
-    assert_eq!(rt;
-        seen.as_slice(),
-        [10, 30, 20, 40, 2, 4, 3, 5, 4, 4, 10].as_slice()
-    );
-    let image: Array2<u64> = array_of((2, 2).f(), numbers(alloc, 1, 4)?)?;
-    let seen = mapped(alloc, &image)?;
-    assert_eq!(rt;
-        seen.as_slice(),
-        [10, 30, 20, 40, 2, 4, 3, 5, 4, 4, 10].as_slice()
-    );
-    Ok(())
+}
+
+// 1 to 12 in three rows of four.
+fn three_rows(rt: &(impl Abort + AllocGlobal)) -> Array2<u64>
+    ensures { shape_of result ≡ 3 ∷ 4 ∷ [] }
+{
+    made(rt.alloc(), (3, 4), &[1, 2, 3, 4, 5, 6, 7, 8, 9, 10, 11, 12]).expect(rt, "made")
+}
+
+// 1 3 / 5 7 / 9 11, the last row and the first one.
+#[test]
+fn steps_between_elements(rt: HostRuntime) {
+    let image: Array2<u64> = made(
+        rt.alloc(),
+        (3, 2).strides(&[4, 2]),
+        &[1, 2, 3, 4, 5, 6, 7, 8, 9, 10, 11, 12],
+    )
+    .expect(&rt, "made");
+    let part = image.slice_axis(Axis(0), Slice::new(0, None, -2));
+    maps(&rt, &part, &[90, 110, 10, 30], &[10, 12, 2, 4], [4, 4, 24]);
 }
 
 #[test]
-fn axes_turned_round(rt: HostRuntime) -> Result<(), Fail> {
-    let alloc = rt.alloc();
-    let mut image: Array2<u64> = array_of((2, 2), numbers(alloc, 1, 4)?)?;
-    image.invert_axis(Axis(0));
-    let seen = mapped(alloc, &image)?;
-    assert_eq!(rt;
-        seen.as_slice(),
-        [30, 40, 10, 20, 4, 5, 2, 3, 4, 4, 10].as_slice()
-    );
-    image.invert_axis(Axis(1));
-    let seen = mapped(alloc, &image)?;
-    assert_eq!(rt;
-        seen.as_slice(),
-        [40, 30, 20, 10, 5, 4, 3, 2, 4, 4, 10].as_slice()
-    );
-    Ok(())
-}
-
-#[test]
-fn steps_between_elements(rt: HostRuntime) -> Result<(), Fail> {
-    let alloc = rt.alloc();
-    let image: Array2<u64> = array_of((3, 4), numbers(alloc, 1, 12)?)?;
-    let rows = image.slice_axis(Axis(0), Slice::new(0, None, -2));
-    let part = rows.slice_axis(Axis(1), Slice::new(0, None, 2));
-    let seen = mapped(alloc, &part)?;
-    assert_eq!(rt;
-        seen.as_slice(),
-        [90, 110, 10, 30, 10, 12, 2, 4, 4, 4, 24].as_slice()
-    );
+fn no_elements(rt: HostRuntime) {
+    let image = three_rows(&rt);
     let none = image.slice_axis(Axis(1), Slice::new(0, Some(0), 1));
-    let seen = mapped(alloc, &none)?;
-    assert_eq!(rt; seen.as_slice(), [0, 0, 0].as_slice());
-    Ok(())
+    maps(&rt, &none, &[], &[], [0, 0, 0]);
 }
 
 #[test]
-fn elements_of_another_type(rt: HostRuntime) -> Result<(), Fail> {
-    let image: Array2<u64> = array_of((2, 2), numbers(rt.alloc(), 1, 4)?)?;
-    match image.t().map(rt.alloc(), |x| *x > 2) {
-        Ok(seen) => {
-            assert_eq!(rt; seen.shape(), [2, 2].as_slice());
-            assert_eq!(rt; seen.get([0, 1]).copied(), Some(true));
-            assert_eq!(rt; seen.get([1, 0]).copied(), Some(false));
-            Ok(())
-        }
-        Err(_) => Err("memory".into()),
-    }
+fn elements_of_another_type(rt: HostRuntime) {
+    let image: Array2<u64> = made(rt.alloc(), (2, 2), &[1, 2, 3, 4]).expect(&rt, "made");
+    let seen = image.t().map(rt.alloc(), |x| *x > 2).expect(&rt, "memory");
+    assert_eq!(rt; seen.shape(), [2, 2].as_slice());
+    let corners = (seen.get([0, 1]).copied(), seen.get([1, 0]).copied());
+    assert_eq!(rt; corners, (Some(true), Some(false)));
 }
 
 #[test]
-fn in_place(rt: HostRuntime) -> Result<(), Fail> {
-    let alloc = rt.alloc();
-    let mut image: Array2<u64> = array_of((3, 4), numbers(alloc, 1, 12)?)?;
+fn in_place(rt: HostRuntime) {
+    let mut image = three_rows(&rt);
     {
         let mut rows = image.slice_axis_mut(Axis(0), Slice::new(0, None, -2));
         let mut part = rows.slice_axis_mut(Axis(1), Slice::new(0, None, 2));
@@ -147,58 +133,50 @@ fn in_place(rt: HostRuntime) -> Result<(), Fail> {
             calls = calls.wrapping_add(1);
             x.wrapping_mul(100)
         });
-        assert_eq!(rt; (done.is_ok(), calls), (true, 4));
+        assert!(rt; done.is_ok() && calls == 4);
     }
-    let seen = rows_listed(alloc, &image)?;
-    assert_eq!(rt;
-        seen.as_slice(),
-        [100, 2, 300, 4, 5, 6, 7, 8, 900, 10, 1100, 12].as_slice()
+    assert!(rt;
+        shows(
+            &image,
+            [3, 4],
+            &[100, 2, 300, 4, 5, 6, 7, 8, 900, 10, 1100, 12]
+        )
     );
-    match image.reversed_axes().mapv_into(|x| x.wrapping_add(1)) {
-        Ok(array) => {
-            assert_eq!(rt; array.strides(), [1, 4].as_slice());
-            assert_eq!(rt; array.get([2, 0]).copied(), Some(301));
-            assert_eq!(rt; array.get([0, 2]).copied(), Some(901));
-            Ok(())
-        }
-        Err(_) => Err("memory".into()),
+    let turned = image
+        .reversed_axes()
+        .mapv_into(|x| x.wrapping_add(1))
+        .expect(&rt, "memory");
+    assert_eq!(rt; turned.strides(), [1, 4].as_slice());
+    assert!(rt;
+        shows(
+            &turned,
+            [4, 3],
+            &[101, 6, 901, 3, 7, 11, 301, 8, 1101, 5, 9, 13]
+        )
+    );
+}
+
+#[test]
+fn handed_out_in_either_order(rt: HostRuntime) {
+    let table: [([isize; 2], &[u64]); 2] = [([2, 1], &[1, 2, 3, 4]), ([1, 2], &[1, 3, 2, 4])];
+    for (strides, wanted) in table {
+        let mut image: Array2<u64> = made(
+            rt.alloc(),
+            (2, 2).strides(&strides),
+            &[1, 2, 3, 4],
+        ).expect(&rt, "made");
+        doubles(&rt, &mut image, wanted);
+        assert!(rt; stores(image, &[2, 4, 6, 8]));
     }
 }
 
 #[test]
-fn handed_out_in_row_major_order(rt: HostRuntime) -> Result<(), Fail> {
-    let alloc = rt.alloc();
-    let mut image: Array2<u64> = array_of((2, 2), numbers(alloc, 1, 4)?)?;
-    let before = doubled(alloc, &mut image)?;
-    assert_eq!(rt; before.as_slice(), [1, 2, 3, 4, 4].as_slice());
-    assert_eq!(rt; image.into_raw_vec().as_slice(), [2, 4, 6, 8].as_slice());
-    Ok(())
-}
-
-#[test]
-fn handed_out_in_column_major_order(rt: HostRuntime) -> Result<(), Fail> {
-    let alloc = rt.alloc();
-    let mut image: Array2<u64> = array_of((2, 2).f(), numbers(alloc, 1, 4)?)?;
-    let before = doubled(alloc, &mut image)?;
-    assert_eq!(rt; before.as_slice(), [1, 3, 2, 4, 4].as_slice());
-    assert_eq!(rt; image.into_raw_vec().as_slice(), [2, 4, 6, 8].as_slice());
-    Ok(())
-}
-
-#[test]
-fn handed_out_with_steps_between(rt: HostRuntime) -> Result<(), Fail> {
-    let alloc = rt.alloc();
-    let mut image: Array2<u64> = array_of((3, 4), numbers(alloc, 1, 12)?)?;
+fn handed_out_with_steps_between(rt: HostRuntime) {
+    let mut image = three_rows(&rt);
     {
         let mut rows = image.slice_axis_mut(Axis(0), Slice::new(0, None, -2));
         let mut part = rows.slice_axis_mut(Axis(1), Slice::new(0, None, 2));
-        let before = doubled(alloc, &mut part)?;
-        assert_eq!(rt; before.as_slice(), [9, 11, 1, 3, 4].as_slice());
+        doubles(&rt, &mut part, &[9, 11, 1, 3]);
     }
-    let seen = rows_listed(alloc, &image)?;
-    assert_eq!(rt;
-        seen.as_slice(),
-        [2, 2, 6, 4, 5, 6, 7, 8, 18, 10, 22, 12].as_slice()
-    );
-    Ok(())
+    assert!(rt; shows(&image, [3, 4], &[2, 2, 6, 4, 5, 6, 7, 8, 18, 10, 22, 12]));
 }
