@@ -37,6 +37,11 @@ module _ {A : Type 0} where
   left_but_next (x ∷ xs) ys y (suc n) zero long apart = refl
   left_but_next (x ∷ xs) ys y (suc n) (suc p) long apart = left_but_next xs ys y n p (omega (arith, long)) (λ e. apart (ap suc e))
 
+  pub long_after : (xs ys : List A) (y : A) → length (xs ++ slice_set ys 0 y) ≡ length (xs ++ ys)
+  long_after [] [] y = refl
+  long_after [] (z ∷ ys) y = refl
+  long_after (x ∷ xs) ys y = ap suc (long_after xs ys y)
+
 module _ {F A : Type 0} (g : Mut F (Bor A × (MutBor A × Unit {0})) (Unit {0} × (MutBor A × Unit {0}))) (place : ℕ → ℤ) (n : ℕ) (some : 0 < n) (old : ℕ → Option A) (xs : List A) (long : length xs ≡ n) (same : (k : ℕ) → k < n → slice_get xs k ≡ stored_at old (place k)) where
   -- the calls for the slice may be made where those for the places may
   pub run_accumulable : (f : F) → TakesLane g place (n - 1) old f → TakesLane g number (length xs - 1) (slice_get xs) f

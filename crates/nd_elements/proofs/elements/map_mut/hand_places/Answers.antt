@@ -1,6 +1,6 @@
 use Rattle.std.proofs.Common.{[], ◌∙◌, sym, subst, arith}
 use Rattle.nd_layout.specs.Lanes.{along, ranked}
-use Rattle.nd_layout.proofs.LanesOf.{go_on, lane_of}
+use Rattle.nd_layout.proofs.LanesOf.{go_on, lane_of, all_through}
 use Rattle.nd_elements.specs.elements.Changes.{IsChangedBy}
 use Rattle.nd_elements.specs.elements.Maps.{Replaces}
 use Rattle.nd_elements.specs.elements.MapsMut.{LeavesAndAnswers, MayBeHanded, Collects, TakesCollecting}
@@ -37,3 +37,14 @@ loop-lane-preserved g c =
       (let e = so_far.3 in let l = c.hand_along-now.ensures.room in omega (arith, e, l)),
       c.hand_along-now.ensures.frame ∙ so_far.4,
     )
+
+pub returns-clause-handed : goal.returns-clause-handed
+returns-clause-handed g c =
+    let so_far = c.loop-lane.invariant in
+    subst (λ r. IsChangedBy (Replaces (Collects (LeavesAndAnswers g.F.FnMut))) (ranked c.args.places).place r (g.S.Data.stored c.args.storage.now) (g.S.Data.stored c.loop-lane.storage) (c.args.f, []) (c.loop-lane.now, c.loop-lane.items.items)) (all_through c.args.places c.loop-lane.lanes so_far.0 c.in_default.ensures.lane.0) so_far.1
+
+pub returns-clause-count : goal.returns-clause-count
+returns-clause-count g c = let so_far = c.loop-lane.invariant in so_far.2 ∙ all_through c.args.places c.loop-lane.lanes so_far.0 c.in_default.ensures.lane.0
+
+pub returns-clause-frame : goal.returns-clause-frame
+returns-clause-frame g c = c.loop-lane.invariant.4

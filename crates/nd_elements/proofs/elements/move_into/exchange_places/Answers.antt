@@ -42,3 +42,11 @@ returns-clause-back g c =
     let so_far = c.loop-lane.invariant in
     let whole = all_through c.args.places c.loop-lane.ours so_far.0.0 c.in_default.ensures.lane.0 ∙ ap size_of (sym c.requires.alike) in
     subst (λ r. IsAssignedTo (elements_at g.S.Data.stored (ranked c.args.places) c.args.storage.now) (ranked c.args.beside).place r (g.Z.Data.stored c.args.others.now) (g.Z.Data.stored c.loop-lane.others)) whole so_far.2
+
+pub returns-clause-moved : goal.returns-clause-moved
+returns-clause-moved g c =
+    let so_far = c.loop-lane.invariant in
+    subst (λ r. IsAssignedTo (elements_at g.Z.Data.stored (ranked c.args.beside) c.args.others.now) (ranked c.args.places).place r (g.S.Data.stored c.args.storage.now) (g.S.Data.stored c.loop-lane.storage)) (all_through c.args.places c.loop-lane.ours so_far.0.0 c.in_default.ensures.lane.0) so_far.1
+
+pub returns-clause-frame : goal.returns-clause-frame
+returns-clause-frame g c = c.loop-lane.invariant.3

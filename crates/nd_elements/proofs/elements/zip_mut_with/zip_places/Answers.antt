@@ -1,6 +1,6 @@
 use Rattle.std.proofs.Common.{◌∙◌, sym, subst}
 use Rattle.nd_layout.specs.Lanes.{along, ranked}
-use Rattle.nd_layout.proofs.LanesOf.{lane_of}
+use Rattle.nd_layout.proofs.LanesOf.{lane_of, all_through}
 use Rattle.nd_elements.specs.elements.Pairs.{IsZippedTo}
 use Rattle.nd_elements.proofs.LanesBeside.{as_long, beside_lies, go_on_both}
 use Rattle.nd_elements.proofs.Paired.{zipped_then, zips_next}
@@ -41,3 +41,11 @@ loop-lane-preserved g c =
           lies.within c.requires.apart lies.places beside.places old (g.S.Data.stored c.loop-lane.storage) new c.args.f c.loop-lane.now c.zip_lane-now.result so_far.1 c.zip_lane-now.ensures.changed),
       c.zip_lane-now.ensures.frame ∙ so_far.2,
     )
+
+pub returns-clause-changed : goal.returns-clause-changed
+returns-clause-changed g c =
+    let so_far = c.loop-lane.invariant in
+    subst (λ r. IsZippedTo g.F.FnMut (ranked c.args.places).place (g.Z.Data.stored c.args.others.now) (ranked c.args.beside).place r (g.S.Data.stored c.args.storage.now) (g.S.Data.stored c.loop-lane.storage) c.args.f c.loop-lane.now) (all_through c.args.places c.loop-lane.ours so_far.0.0 c.in_default.ensures.lane.0) so_far.1
+
+pub returns-clause-frame : goal.returns-clause-frame
+returns-clause-frame g c = c.loop-lane.invariant.2
