@@ -3,7 +3,7 @@ use Rattle.nd_layout.specs.Lanes.{along, ranked}
 use Rattle.nd_layout.proofs.LanesOf.{go_on, lane_of, all_through}
 use Rattle.nd_elements.specs.Filled.{IsFilledTo}
 use Rattle.nd_elements.proofs.Filling.{filled_then, partly_then}
-use Rattle.nd_elements.proofs.LaneRefusals.{some_place}
+use Rattle.nd_elements.proofs.LanePart.{some_place}
 use Rattle.nd_elements.proofs.elements.fill.fill_places.Goals as goal
 
 pub loop-lane-preserved : goal.loop-lane-preserved

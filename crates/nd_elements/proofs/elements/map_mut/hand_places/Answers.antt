@@ -1,12 +1,23 @@
 use Rattle.std.proofs.Common.{[], ◌∙◌, sym, subst, arith}
+use Rattle.std.specs.Prelude.{vec_len, vec_capacity}
 use Rattle.nd_layout.specs.Lanes.{along, ranked}
 use Rattle.nd_layout.proofs.LanesOf.{go_on, lane_of, all_through}
 use Rattle.nd_elements.specs.elements.Changes.{IsChangedBy}
 use Rattle.nd_elements.specs.elements.Maps.{Replaces}
 use Rattle.nd_elements.specs.elements.MapsMut.{LeavesAndAnswers, MayBeHanded, Collects, TakesCollecting}
 use Rattle.nd_elements.proofs.Changed.{changed_then}
+use Rattle.nd_elements.proofs.LanePart.{lane_apart, still_holds, room_first}
 use Rattle.nd_elements.proofs.Replaced.{replaced_takes}
 use Rattle.nd_elements.proofs.elements.map_mut.hand_places.Goals as goal
+
+pub hand_along-now-requires-clause-apart : goal.hand_along-now-requires-clause-apart
+hand_along-now-requires-clause-apart g c = lane_apart c.args.places c.loop-lane.lanes c.in-Some.lane c.loop-lane.invariant.0 c.in-Some.ensures.lane.0 c.requires.apart
+
+pub hand_along-now-requires-clause-holds : goal.hand_along-now-requires-clause-holds
+hand_along-now-requires-clause-holds g c = still_holds c.args.places c.loop-lane.lanes c.in-Some.lane c.loop-lane.invariant.0 c.in-Some.ensures.lane.0 (g.S.Data.stored c.args.storage.now) (g.S.Data.stored c.loop-lane.storage) c.requires.apart c.loop-lane.invariant.1.left c.requires.holds
+
+pub hand_along-now-requires-clause-room : goal.hand_along-now-requires-clause-room
+hand_along-now-requires-clause-room g c = room_first c.args.places c.loop-lane.lanes c.in-Some.lane c.loop-lane.invariant.0 c.in-Some.ensures.lane.0 (vec_len c.loop-lane.items) (vec_capacity c.loop-lane.items) c.loop-lane.invariant.2 c.loop-lane.invariant.3
 
 pub hand_along-now-requires-clause-callable : goal.hand_along-now-requires-clause-callable
 hand_along-now-requires-clause-callable g c =

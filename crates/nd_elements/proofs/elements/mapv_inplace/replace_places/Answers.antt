@@ -4,8 +4,18 @@ use Rattle.nd_layout.proofs.LanesOf.{go_on, lane_of, all_through}
 use Rattle.nd_elements.specs.elements.Changes.{IsChangedBy}
 use Rattle.nd_elements.specs.elements.Maps.{AnswersValue, MayBeGiven, Replaces}
 use Rattle.nd_elements.proofs.Changed.{changed_then, still_there}
+use Rattle.nd_elements.proofs.LanePart.{lane_apart, still_clones, still_holds}
 use Rattle.nd_elements.proofs.Replaced.{replaced_takes}
 use Rattle.nd_elements.proofs.elements.mapv_inplace.replace_places.Goals as goal
+
+pub replace_lane-requires-clause-apart : goal.replace_lane-requires-clause-apart
+replace_lane-requires-clause-apart g c = lane_apart c.args.places c.loop-lane.lanes c.in-Some.lane c.loop-lane.invariant.0 c.in-Some.ensures.lane.0 c.requires.apart
+
+pub replace_lane-requires-clause-clones : goal.replace_lane-requires-clause-clones
+replace_lane-requires-clause-clones g c = still_clones c.args.places c.loop-lane.lanes c.in-Some.lane c.loop-lane.invariant.0 c.in-Some.ensures.lane.0 (g.S.Data.stored c.args.storage.now) (g.S.Data.stored c.loop-lane.storage) c.requires.apart c.loop-lane.invariant.1.left g.S.Elem.Clone.is_clone c.requires.clones
+
+pub replace_lane-requires-clause-holds : goal.replace_lane-requires-clause-holds
+replace_lane-requires-clause-holds g c = still_holds c.args.places c.loop-lane.lanes c.in-Some.lane c.loop-lane.invariant.0 c.in-Some.ensures.lane.0 (g.S.Data.stored c.args.storage.now) (g.S.Data.stored c.loop-lane.storage) c.requires.apart c.loop-lane.invariant.1.left c.requires.holds
 
 pub replace_lane-requires-clause-callable : goal.replace_lane-requires-clause-callable
 replace_lane-requires-clause-callable g c =

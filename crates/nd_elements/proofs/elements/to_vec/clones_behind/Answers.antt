@@ -1,17 +1,9 @@
-use Rattle.std.proofs.Common.{◌≡◌, ℕ, ◌∙◌, ◌+◌, List, [], ◌∷◌, ◌++◌, ap, sym, refl, arith}
-use Rattle.std.proofs.lemmas.List.{append_assoc}
+use Rattle.std.proofs.Common.{◌≡◌, ◌∙◌, ◌+◌, ◌++◌, ap, refl, arith}
 use Rattle.std.proofs.lemmas.Option.{slice_get_read}
-use Rattle.std.specs.Prelude.{Option, Some, length, slice_get, vec_len}
+use Rattle.std.specs.Prelude.{Some, length, slice_get, vec_len}
 use Rattle.nd_elements.specs.Collected.{collected}
-use Rattle.nd_elements.proofs.Collecting.{collected_more}
+use Rattle.nd_elements.proofs.Collecting.{one_behind}
 use Rattle.nd_elements.proofs.elements.to_vec.clones_behind.Goals as goal
-
-one_behind : {A : Type 0} (f : ℕ → Option A) (n : ℕ) (before old new : List A) (x y : A) → old ≡ before ++ collected f n → new ≡ old ++ y ∷ [] → y ≡ x → f n ≡ Some x → new ≡ before ++ collected f (n + 1)
-one_behind f n before old new x y so_far put same there =
-    put
-    ∙ ((λ k. so_far k ++ same k ∷ [])
-    ∙ (append_assoc before (collected f n) (x ∷ [])
-    ∙ ap (λ xs. before ++ xs) (sym (collected_more f n x there))))
 
 pub loop-nth-preserved : goal.loop-nth-preserved
 loop-nth-preserved g c =

@@ -1,11 +1,11 @@
-use Rattle.std.proofs.Common.{◌≡◌, ◌∙◌, subst, arith, ap, ◌++◌, ◌+◌, append_assoc}
-use Rattle.std.specs.Prelude.{Result, Ok, OnOk, Err, OnErr, vec_len}
+use Rattle.std.proofs.Common.{◌≡◌, ◌∙◌, subst, arith, ap, ◌++◌, ◌+◌, append_assoc, sym, ◌≤◌}
+use Rattle.std.specs.Prelude.{Result, Ok, OnOk, Err, OnErr, vec_len, vec_capacity}
 use Rattle.nd_layout.specs.Lanes.{ranked}
 use Rattle.nd_layout.proofs.LanesOf.{go_on, lane_of, all_through}
 use Rattle.nd_elements.specs.Collected.{collected}
 use Rattle.nd_elements.specs.NumberedPlaces.{elements_at}
 use Rattle.nd_elements.proofs.Collecting.{lane_behind}
-use Rattle.nd_elements.proofs.LaneRefusals.{lane_refused}
+use Rattle.nd_elements.proofs.LanePart.{lane_refused, lane_holds, room_behind}
 use Rattle.nd_elements.proofs.elements.to_vec.clones_by_rank.Goals as goal
 
 -- what a clause says of a result that is there
@@ -43,7 +43,7 @@ returns-in-Err-clause-kept g c =
 
 pub returns-in-Err-clause-refused : goal.returns-in-Err-clause-refused
 returns-in-Err-clause-refused g c =
-    lane_refused c.args.places c.loop-lane.lanes c.in-Some.lane c.loop-lane.invariant.0 c.in-Some.ensures.lane.0 g.S.Elem.Clone.is_infallible (g.S.Data.stored c.args.storage.now)
+    lane_refused c.args.places c.loop-lane.lanes c.in-Some.lane c.loop-lane.invariant.0 c.in-Some.ensures.lane.0 (g.S.Data.stored c.args.storage.now) g.S.Elem.Clone.is_infallible
     (refused c.clones_of_lane-longer.result.1 c.in-Err.refused c.in-Err.is c.clones_of_lane-longer.ensures.refused)
 
 pub returns-clause-items : goal.returns-clause-items
@@ -58,3 +58,11 @@ returns-clause-len g c =
 
 pub returns-clause-room : goal.returns-clause-room
 returns-clause-room g c = c.loop-lane.invariant.3
+
+pub clones_of_lane-longer-requires-clause-holds : goal.clones_of_lane-longer-requires-clause-holds
+clones_of_lane-longer-requires-clause-holds g c = lane_holds c.args.places c.loop-lane.lanes c.in-Some.lane c.loop-lane.invariant.0 c.in-Some.ensures.lane.0 (g.S.Data.stored c.args.storage.now) c.requires.holds
+
+pub clones_of_lane-longer-requires-clause-room : goal.clones_of_lane-longer-requires-clause-room
+clones_of_lane-longer-requires-clause-room g c =
+    let so_far = c.loop-lane.invariant in
+    room_behind c.args.places c.loop-lane.lanes c.in-Some.lane c.loop-lane.invariant.0 c.in-Some.ensures.lane.0 (vec_len c.args.items) (vec_len c.loop-lane.items) (vec_capacity c.loop-lane.items) so_far.2 (subst (λ m. vec_len c.args.items + (ranked c.args.places).count ≤ m) (sym so_far.3) c.requires.room)

@@ -2,9 +2,22 @@ use Rattle.std.proofs.Common.{◌∙◌, sym, subst}
 use Rattle.nd_layout.specs.Lanes.{along, ranked}
 use Rattle.nd_layout.proofs.LanesOf.{lane_of, all_through}
 use Rattle.nd_elements.specs.elements.Pairs.{IsZippedTo}
+use Rattle.nd_elements.proofs.LanePart.{lane_apart, lane_holds, still_holds}
 use Rattle.nd_elements.proofs.LanesBeside.{as_long, beside_lies, go_on_both}
 use Rattle.nd_elements.proofs.Paired.{zipped_then, zips_next}
 use Rattle.nd_elements.proofs.elements.zip_mut_with.zip_places.Goals as goal
+
+pub zip_lane-now-requires-clause-as_long : goal.zip_lane-now-requires-clause-as_long
+zip_lane-now-requires-clause-as_long g c = as_long c.args.places c.args.beside c.loop-lane.ours c.loop-lane.theirs c.loop-lane.invariant.0 c.in-Some.lane c.in-Some-next.aside c.requires.alike c.in-Some.ensures.along c.in-Some-next.ensures.along
+
+pub zip_lane-now-requires-clause-apart : goal.zip_lane-now-requires-clause-apart
+zip_lane-now-requires-clause-apart g c = lane_apart c.args.places c.loop-lane.ours c.in-Some.lane c.loop-lane.invariant.0.0 c.in-Some.ensures.lane.0 c.requires.apart
+
+pub zip_lane-now-requires-clause-holds : goal.zip_lane-now-requires-clause-holds
+zip_lane-now-requires-clause-holds g c = still_holds c.args.places c.loop-lane.ours c.in-Some.lane c.loop-lane.invariant.0.0 c.in-Some.ensures.lane.0 (g.S.Data.stored c.args.storage.now) (g.S.Data.stored c.loop-lane.storage) c.requires.apart c.loop-lane.invariant.1.left c.requires.holds
+
+pub zip_lane-now-requires-clause-others_hold : goal.zip_lane-now-requires-clause-others_hold
+zip_lane-now-requires-clause-others_hold g c = lane_holds c.args.beside c.loop-lane.theirs c.in-Some-next.aside c.loop-lane.invariant.0.1 c.in-Some-next.ensures.lane.0 (g.Z.Data.stored c.args.others.now) c.requires.others_hold
 
 pub zip_lane-now-requires-clause-callable : goal.zip_lane-now-requires-clause-callable
 zip_lane-now-requires-clause-callable g c =

@@ -1,4 +1,5 @@
-use Rattle.std.proofs.Common.{◌∙◌, pos, ◌+ℤ◌, ◌*ℤ◌, sym, subst, arith}
+use Rattle.std.proofs.Common.{◌∙◌, pos, ◌+ℤ◌, ◌*ℤ◌, sym, subst, arith, ◌+◌, ap}
+use Rattle.std.specs.Prelude.{vec_len}
 use Rattle.nd_shape_and_slice.specs.Shape.{size_of}
 use Rattle.nd_layout.specs.Walk.{place_at_rank, IsLane}
 use Rattle.nd_elements.specs.growth.Taken.{seated, IsTakenTo}
@@ -24,3 +25,19 @@ loop-lane-preserved g c =
       c.take_lane.ensures.room ∙ so_far.5,
       seats_stay c.args.seats.now c.loop-lane.seats c.take_lane.new.seats so_far.6 c.take_lane.ensures.places,
     )
+
+pub returns-clause-taken : goal.returns-clause-taken
+returns-clause-taken g c =
+    let so_far = c.loop-lane.invariant in
+    subst (λ r. IsTakenTo (place_at_rank c.args.places.first c.args.places.lengths.now c.args.places.strides.now) r (seated c.args.seats.now) (seated c.loop-lane.seats) c.args.items.now.items c.loop-lane.items.items) (c.in_default.ensures.lane.0 ∙ ap size_of so_far.1) so_far.3
+
+pub returns-clause-places : goal.returns-clause-places
+returns-clause-places g c = c.loop-lane.invariant.6
+
+pub returns-clause-len : goal.returns-clause-len
+returns-clause-len g c =
+    let so_far = c.loop-lane.invariant in
+    so_far.4 ∙ ap (λ r. vec_len c.args.items.now + r) (c.in_default.ensures.lane.0 ∙ ap size_of so_far.1)
+
+pub returns-clause-room : goal.returns-clause-room
+returns-clause-room g c = c.loop-lane.invariant.5
