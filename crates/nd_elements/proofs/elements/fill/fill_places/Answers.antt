@@ -2,9 +2,15 @@ use Rattle.std.proofs.Common.{◌∙◌, sym, subst}
 use Rattle.nd_layout.specs.Lanes.{along, ranked}
 use Rattle.nd_layout.proofs.LanesOf.{go_on, lane_of, all_through}
 use Rattle.nd_elements.specs.Filled.{IsFilledTo}
-use Rattle.nd_elements.proofs.Filling.{filled_then, partly_then}
-use Rattle.nd_elements.proofs.LanePart.{some_place}
+use Rattle.nd_elements.proofs.Filling.{filled_then, partly_then, filled_holds}
+use Rattle.nd_elements.proofs.LanePart.{some_place, lane_holds}
 use Rattle.nd_elements.proofs.elements.fill.fill_places.Goals as goal
+
+pub fill_lane-requires-clause-holds : goal.fill_lane-requires-clause-holds
+fill_lane-requires-clause-holds g c =
+    λ k below.
+    filled_holds c.args.value.now (ranked c.args.places).place c.loop-lane.lanes.rank (g.S.Data.stored c.args.storage.now) (g.S.Data.stored c.loop-lane.storage) c.loop-lane.invariant.1 ((along c.in-Some.lane).place k)
+    (lane_holds c.args.places c.loop-lane.lanes c.in-Some.lane c.loop-lane.invariant.0 c.in-Some.ensures.lane.0 (g.S.Data.stored c.args.storage.now) c.requires.holds k below)
 
 pub loop-lane-preserved : goal.loop-lane-preserved
 loop-lane-preserved g c =

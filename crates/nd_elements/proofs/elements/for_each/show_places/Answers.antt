@@ -4,8 +4,12 @@ use Rattle.nd_layout.proofs.LanesOf.{go_on, lane_of, all_through}
 use Rattle.nd_elements.specs.NumberedPlaces.{elements_at}
 use Rattle.nd_elements.specs.Places.{stored_at}
 use Rattle.nd_elements.specs.elements.Maps.{AnswersElement, MayBeShown, RanNumbered}
+use Rattle.nd_elements.proofs.LanePart.{lane_holds}
 use Rattle.nd_elements.proofs.Mapped.{ran_later, takes_later}
 use Rattle.nd_elements.proofs.elements.for_each.show_places.Goals as goal
+
+pub show_lane-now-requires-clause-holds : goal.show_lane-now-requires-clause-holds
+show_lane-now-requires-clause-holds g c = lane_holds c.args.places c.loop-lane.lanes c.in-Some.lane c.loop-lane.invariant.0 c.in-Some.ensures.lane.0 (g.S.Data.stored c.args.storage.now) c.requires.holds
 
 pub show_lane-now-requires-clause-callable : goal.show_lane-now-requires-clause-callable
 show_lane-now-requires-clause-callable g c =

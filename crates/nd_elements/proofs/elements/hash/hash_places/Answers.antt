@@ -6,7 +6,11 @@ use Rattle.nd_elements.specs.Collected.{collected}
 use Rattle.nd_elements.specs.NumberedPlaces.{elements_at, all_elements_at}
 use Rattle.nd_elements.proofs.Collecting.{lane_collected}
 use Rattle.nd_elements.proofs.Feeding.{fed_then}
+use Rattle.nd_elements.proofs.LanePart.{lane_holds}
 use Rattle.nd_elements.proofs.elements.hash.hash_places.Goals as goal
+
+pub hash_lane-requires : goal.hash_lane-requires
+hash_lane-requires g c = record { holds = lane_holds c.args.places c.loop-lane.lanes c.in-Some.lane c.loop-lane.invariant.0 c.in-Some.ensures.lane.0 (g.S.Data.stored c.args.storage.now) c.requires.holds }
 
 pub loop-lane-preserved : goal.loop-lane-preserved
 loop-lane-preserved g c =

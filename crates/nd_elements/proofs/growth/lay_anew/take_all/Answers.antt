@@ -1,10 +1,25 @@
-use Rattle.std.proofs.Common.{◌∙◌, pos, ◌+ℤ◌, ◌*ℤ◌, sym, subst, arith, ◌+◌, ap}
-use Rattle.std.specs.Prelude.{vec_len}
+use Rattle.std.proofs.Common.{◌∙◌, pos, ◌+ℤ◌, ◌*ℤ◌, sym, subst, arith, ◌+◌, ap, ◌≤◌}
+use Rattle.std.specs.Prelude.{vec_len, vec_capacity}
 use Rattle.nd_shape_and_slice.specs.Shape.{size_of}
 use Rattle.nd_layout.specs.Walk.{place_at_rank, IsLane}
 use Rattle.nd_elements.specs.growth.Taken.{seated, IsTakenTo}
+use Rattle.nd_elements.proofs.LanePart.{lane_apart, still_holds, room_behind}
 use Rattle.nd_elements.proofs.Taking.{seats_stay, taken_then}
 use Rattle.nd_elements.proofs.growth.lay_anew.take_all.Goals as goal
+
+pub take_lane-requires-clause-apart : goal.take_lane-requires-clause-apart
+take_lane-requires-clause-apart g c = let so_far = c.loop-lane.invariant in lane_apart c.args.places c.loop-lane.lanes c.in-Some.lane (so_far.0, so_far.1, so_far.2) c.in-Some.ensures.lane.0 c.requires.apart
+
+pub take_lane-requires-clause-holds : goal.take_lane-requires-clause-holds
+take_lane-requires-clause-holds g c =
+    let so_far = c.loop-lane.invariant in
+    still_holds c.args.places c.loop-lane.lanes c.in-Some.lane (so_far.0, so_far.1, so_far.2) c.in-Some.ensures.lane.0 (seated c.args.seats.now) (seated c.loop-lane.seats) c.requires.apart so_far.3.left c.requires.holds
+
+pub take_lane-requires-clause-room : goal.take_lane-requires-clause-room
+take_lane-requires-clause-room g c =
+    let so_far = c.loop-lane.invariant in
+    room_behind c.args.places c.loop-lane.lanes c.in-Some.lane (so_far.0, so_far.1, so_far.2) c.in-Some.ensures.lane.0 (vec_len c.args.items.now) (vec_len c.loop-lane.items) (vec_capacity c.loop-lane.items) so_far.4
+    (subst (λ m. vec_len c.args.items.now + size_of c.args.places.lengths.now ≤ m) (sym so_far.5) c.requires.room)
 
 pub loop-lane-preserved : goal.loop-lane-preserved
 loop-lane-preserved g c =
