@@ -1,5 +1,5 @@
-use Rattle.std.proofs.Common.{◌≡◌, ◌+◌, ◌<◌, ◌∙◌, pos, refl, ap, sym, subst, length, get_or, slice_set, arith}
-use Rattle.std.specs.Prelude.{Some, slice_get}
+use Rattle.std.proofs.Common.{◌+◌, ◌<◌, ◌∙◌, pos, refl, ap, sym, length, get_or, slice_set, arith}
+use Rattle.std.specs.Prelude.{slice_get}
 use Rattle.nd_elements.proofs.Answered.{got_still}
 use Rattle.nd_elements.proofs.LaneRuns.{got_next, left_but_next, long_after}
 use Rattle.nd_elements.proofs.RunPairs.{got_or, set_there}

@@ -1,6 +1,5 @@
 use Rattle.std.proofs.Common.{◌≡◌, ◌∙◌, arith, ◌+◌, ◌≤◌, ap, sym, subst}
 use Rattle.std.specs.List.{All}
-use Rattle.std.specs.Prelude.{vec_capacity}
 use Rattle.nd_elements.proofs.Clones.{all_more}
 use Rattle.nd_elements.proofs.base.from_elem.defaults.Goals as goal
 

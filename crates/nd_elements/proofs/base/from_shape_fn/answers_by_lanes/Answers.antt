@@ -1,4 +1,4 @@
-use Rattle.std.proofs.Common.{◌≡◌, ◌<◌, ◌+◌, ◌-◌, ◌*◌, ◌∙◌, length, take, get_or, ap, sym, subst, arith, refl, []}
+use Rattle.std.proofs.Common.{◌≡◌, ◌<◌, ◌+◌, ◌-◌, ◌*◌, ◌∙◌, length, take, get_or, ap, sym, subst, arith, refl}
 use Rattle.std.proofs.lemmas.List.{length-set}
 use Rattle.nd_shape_and_slice.specs.Shape.{size_of, index_at}
 use Rattle.nd_layout.specs.Ranks.{slowest_first}
