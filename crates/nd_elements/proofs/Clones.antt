@@ -1,6 +1,7 @@
 -- A list of clones, each of which equals its original, is the list.
-use Rattle.std.proofs.Common.{◌≡◌, suc, List, [], ◌∷◌, refl}
-use Rattle.std.specs.List.{AllZip}
+use Rattle.std.proofs.Common.{◌≡◌, ℕ, zero, suc, ◌+◌, ◌<◌, List, [], ◌∷◌, ◌++◌, length, refl, arith}
+use Rattle.std.specs.List.{All, AllZip}
+use Rattle.std.specs.Prelude.{Some, slice_get}
 use Rattle.nd_elements.specs.Clones.{StoredClonesAreEqual}
 
 pub clones_same : {A : Type 0} (is_clone : A → A → Type 0) (xs ys : List A) → StoredClonesAreEqual is_clone xs → AllZip is_clone xs ys → ys ≡ xs
@@ -8,3 +9,19 @@ clones_same is_clone [] [] equal each = refl
 clones_same is_clone [] (y ∷ ys) equal each = absurd each
 clones_same is_clone (x ∷ xs) [] equal each = absurd each
 clones_same is_clone (x ∷ xs) (y ∷ ys) equal each = λ k. equal 0 x refl y each.0 k ∷ clones_same is_clone xs ys (λ p. equal (suc p)) each.1 k
+
+-- a list of one value, with one more of it behind
+pub all_behind : {A : Type 0} (x : A) (xs : List A) (n : ℕ) → length xs ≡ n → ((k : ℕ) → k < n → slice_get xs k ≡ Some x) → (k : ℕ) → k < n + 1 → slice_get (xs ++ x ∷ []) k ≡ Some x
+all_behind x [] zero long each zero below = refl
+all_behind x [] zero long each (suc k) below = absurd (omega (arith, below))
+all_behind x [] (suc n) long each k below = absurd (omega (arith, long))
+all_behind x (y ∷ xs) zero long each k below = absurd (omega (arith, long))
+all_behind x (y ∷ xs) (suc n) long each zero below = each zero (omega arith)
+all_behind x (y ∷ xs) (suc n) long each (suc k) below = all_behind x xs n (omega (arith, long)) (λ j under. each (suc j) (omega (arith, under))) k (omega (arith, below))
+
+-- what holds of each of a list holds with one more
+pub all_more : {A : Type 0} (P : A → Type 0) (xs : List A) (y : A) → All P xs → P y → All P (xs ++ y ∷ [])
+all_more P [] y each last zero d below = last
+all_more P [] y each last (suc k) d below = absurd (omega (arith, below))
+all_more P (x ∷ xs) y each last zero d below = each zero d (omega arith)
+all_more P (x ∷ xs) y each last (suc k) d below = all_more P xs y (λ j e under. each (suc j) e (omega (arith, under))) last k d (omega (arith, below))

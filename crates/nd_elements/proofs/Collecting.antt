@@ -30,6 +30,13 @@ module _ {A : Type 0} where
   pub collected_more : (f : ℕ → Option A) (n : ℕ) (x : A) → f n ≡ Some x → collected f (n + 1) ≡ collected f n ++ x ∷ []
   collected_more f n x e = let next : n + 1 ≡ suc n = omega arith in ap (collected f) next ∙ ap (λ o. collected f n ++ cons_option o []) e
 
+  pub one_behind : (f : ℕ → Option A) (n : ℕ) (before old new : List A) (x y : A) → old ≡ before ++ collected f n → new ≡ old ++ y ∷ [] → y ≡ x → f n ≡ Some x → new ≡ before ++ collected f (n + 1)
+  one_behind f n before old new x y so_far put same there =
+      put
+      ∙ ((λ k. so_far k ++ same k ∷ [])
+      ∙ (append_assoc before (collected f n) (x ∷ [])
+      ∙ ap (λ xs. before ++ xs) (sym (collected_more f n x there))))
+
   -- the numbers from k on behind those below it
   pub collected_then : (f : ℕ → Option A) (k n : ℕ) → collected f (k + n) ≡ collected f k ++ collected (λ j. f (k + j)) n
   collected_then f k zero = let same : k + 0 ≡ k = omega arith in ap (collected f) same ∙ sym (append-nil (collected f k))

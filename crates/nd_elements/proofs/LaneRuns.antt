@@ -1,5 +1,5 @@
 -- A lane gone along as a slice: a slice split behind an element, and what its calls say of the places.
-use Rattle.std.proofs.Common.{◌≡◌, ℕ, zero, suc, ◌+◌, ◌-◌, ◌<◌, ◌≤◌, List, [], ◌∷◌, ◌++◌, length, ℤ, pos, negsuc, refl, ap, sym, subst, ◌∙◌, arith, slice_set, ⊎_elim}
+use Rattle.std.proofs.Common.{◌≡◌, ℕ, zero, suc, ◌-◌, ◌<◌, ◌≤◌, List, [], ◌∷◌, ◌++◌, length, ℤ, pos, negsuc, refl, ap, sym, subst, ◌∙◌, arith, slice_set, ⊎_elim}
 use Rattle.std.proofs.lemmas.Bool.{cases_lt}
 use Rattle.std.specs.Prelude.{Option, slice_get}
 use Rattle.std.specs.Borrow.{Bor, MutBor}
@@ -36,6 +36,11 @@ module _ {A : Type 0} where
   left_but_next (x ∷ xs) ys y zero p long apart = absurd (omega (arith, long))
   left_but_next (x ∷ xs) ys y (suc n) zero long apart = refl
   left_but_next (x ∷ xs) ys y (suc n) (suc p) long apart = left_but_next xs ys y n p (omega (arith, long)) (λ e. apart (ap suc e))
+
+  pub long_after : (xs ys : List A) (y : A) → length (xs ++ slice_set ys 0 y) ≡ length (xs ++ ys)
+  long_after [] [] y = refl
+  long_after [] (z ∷ ys) y = refl
+  long_after (x ∷ xs) ys y = ap suc (long_after xs ys y)
 
 module _ {F A : Type 0} (g : Mut F (Bor A × (MutBor A × Unit {0})) (Unit {0} × (MutBor A × Unit {0}))) (place : ℕ → ℤ) (n : ℕ) (some : 0 < n) (old : ℕ → Option A) (xs : List A) (long : length xs ≡ n) (same : (k : ℕ) → k < n → slice_get xs k ≡ stored_at old (place k)) where
   -- the calls for the slice may be made where those for the places may

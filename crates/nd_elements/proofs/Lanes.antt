@@ -1,5 +1,5 @@
 -- A shape's indexes lane by lane: what a loop over a walk of the outer axes keeps.
-use Rattle.std.proofs.Common.{◌≡◌, ℕ, zero, suc, ◌+◌, ◌*◌, ◌<◌, ◌≤◌, List, [], ◌∷◌, ◌++◌, length, take, replicate, get_or, set, refl, ap, sym, ◌∙◌, arith, add-one, pos, ◌+ℤ◌, ◌*ℤ◌}
+use Rattle.std.proofs.Common.{◌≡◌, ℕ, zero, suc, ◌+◌, ◌*◌, ◌<◌, ◌≤◌, min, List, [], ◌∷◌, ◌++◌, length, take, replicate, get_or, set, refl, ap, sym, ◌∙◌, arith, add-one, pos, ◌+ℤ◌, ◌*ℤ◌}
 use Rattle.std.proofs.Math.Seq.{take-suc}
 use Rattle.std.proofs.lemmas.List.{take_more_set}
 use Rattle.nd_shape_and_slice.specs.declared.builder.Order.{Order}
@@ -69,6 +69,18 @@ lane_at o ns xs n q k fastest count axes many axis is some outer inner walked =
     let more : (q + 1) * c ≤ size_of (take n (slowest_first o ns)) * c = mul-le-mul_right {m = q + 1} {n = size_of (take n (slowest_first o ns))} c (omega (arith, outer)) in
     let next : (q + 1) * c ≡ q * c + c = grind arith in
     rw (at, is) (index, omega (arith, whole, more, next, below), lane_kept o ns xs n q k axes long)
+
+-- before the first lane no rank is done
+pub lane_none : (q count : ℕ) → q ≡ 0 → 0 ≡ q * count
+lane_none q count is = rw is (omega arith)
+
+-- a lane is through: the ranks so far are those below the next
+pub lane_through : (q r size count k : ℕ) → q < size → r ≡ min (q + 1) size → k ≤ count → count ≤ k → q * count + k ≡ r * count
+lane_through q r size count k below is within end =
+    let next : r ≡ q + 1 = omega (arith, below, is) in
+    let more : (q + 1) * count ≡ q * count + count = grind arith in
+    let here : r * count ≡ (q + 1) * count = ap (λ m. m * count) next in
+    omega (arith, within, end, more, here)
 
 -- all lanes are through
 pub lanes_done : (o : Order) (ns ms : List ℕ) (n q count : ℕ) → length ns ≡ n + 1 → ms ≡ take n (slowest_first o ns) → count ≡ get_or (slowest_first o ns) n 0 → q ≡ size_of ms → q * count ≡ size_of ns

@@ -18,6 +18,7 @@ pub mod ListedTurned
 pub mod ListedHalves
 pub mod ListedJoined
 pub mod LaneNumbers
+pub mod LanePart
 pub mod LaneRuns
 pub mod Lanes
 pub mod LanesBeside

@@ -59,5 +59,8 @@ module _ {A : Type 0} (stored : ℕ → Option A) (whole first second : Placemen
       ∙ append_assoc before (collected (at first) (size first)) (collected (at second) (size second))
       ∙ ap (λ xs. before ++ xs) (sym both_collected)
 
+  pub both_counted : (before mid new : ℕ) → mid ≡ before + size first → new ≡ mid + size second → new ≡ before + size whole
+  both_counted before mid new one two = let e = follow.size in omega (arith, e, one, two)
+
 pub front_again : {A : Type 0} (before added mid new : List A) → mid ≡ before ++ added → IsFront mid new → IsFront before new
 front_again before added mid new one front = (added ++ front.0, front.1 ∙ ap (λ xs. xs ++ front.0) one ∙ append_assoc before added front.0)

@@ -1,5 +1,5 @@
 -- The elements of a vector moved to seats of their own, the last one first.
-use Rattle.std.proofs.Common.{◌≡◌, ℕ, ◌+◌, ◌≤◌, Bool, true, false, List, [], ◌∷◌, ◌++◌, nat_eq, refl, ap, sym, ◌∙◌, arith}
+use Rattle.std.proofs.Common.{◌≡◌, ℕ, zero, suc, ◌+◌, ◌≤◌, Bool, true, false, List, [], ◌∷◌, ◌++◌, nat_eq, refl, ap, sym, ◌∙◌, arith}
 use Rattle.std.proofs.lemmas.Bool.Decides.{nat_tests}
 use Rattle.std.proofs.lemmas.List.{append-nil, append_assoc}
 use Rattle.std.proofs.lemmas.Option.{slice_get_past}
@@ -7,6 +7,11 @@ use Rattle.std.specs.Prelude.{◌<◌, ℤ, Option, Some, None, length, slice_ge
 use Rattle.nd_elements.specs.Places.{kept_at, stored_at}
 use Rattle.nd_elements.specs.growth.Taken.{is_kept, AreKept}
 use Rattle.nd_elements.proofs.Changed.{stored_same}
+
+pub marked : (marks : List Bool) (p : ℕ) → slice_get marks p ≡ Some true → is_kept marks p ≡ true
+marked [] p is = refl
+marked (x ∷ marks) zero is = cc
+marked (x ∷ marks) (suc p) is = marked marks p is
 
 module _ {A : Type 0} where
   -- those behind the ones that are left sit where they belong, if they are kept

@@ -1,7 +1,7 @@
 use Rattle.std.proofs.Common.{◌≡◌, ◌+◌, ◌-◌, ◌∙◌, ℕ, suc, pos, ap, sym, subst, length, arith}
 use Rattle.std.specs.Prelude.{slice_get}
 use Rattle.nd_elements.specs.along.Accumulated.{ChangesAfter, TakesAfter, IsAccumulated}
-use Rattle.nd_elements.proofs.Accumulating.{next_accumulable, accumulated_more, accumulated_none}
+use Rattle.nd_elements.proofs.Accumulating.{next_accumulable, accumulated_more}
 use Rattle.nd_elements.proofs.RunPairs.{number, numbers_distinct}
 use Rattle.nd_elements.proofs.along.accumulate_run.accumulate_slice.Goals as goal
 

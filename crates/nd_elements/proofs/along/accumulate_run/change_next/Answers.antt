@@ -1,7 +1,7 @@
-use Rattle.std.proofs.Common.{◌≡◌, ◌+◌, ◌<◌, ◌∙◌, pos, refl, ap, sym, subst, length, get_or, slice_set, arith}
-use Rattle.std.specs.Prelude.{Some, slice_get}
+use Rattle.std.proofs.Common.{◌+◌, ◌<◌, ◌∙◌, pos, refl, ap, sym, length, get_or, slice_set, arith}
+use Rattle.std.specs.Prelude.{slice_get}
 use Rattle.nd_elements.proofs.Answered.{got_still}
-use Rattle.nd_elements.proofs.LaneRuns.{got_next, left_but_next}
+use Rattle.nd_elements.proofs.LaneRuns.{got_next, left_but_next, long_after}
 use Rattle.nd_elements.proofs.RunPairs.{got_or, set_there}
 use Rattle.nd_elements.proofs.along.accumulate_run.change_next.Goals as goal
 
@@ -32,3 +32,6 @@ returns-clause-left g c p other =
     let split = c.split_at_mut-before.ensures in
     left_but_next c.split_at_mut-before.result.0.now c.split_at_mut-before.result.1.now c.f.new.arg3 (c.args.nth + 1) p split.front_len (λ e. other (ap pos e))
     ∙ ap (λ xs. slice_get xs p) (sym split.value)
+
+pub returns-clause-long : goal.returns-clause-long
+returns-clause-long g c = let split = c.split_at_mut-before.ensures in long_after c.split_at_mut-before.result.0.now c.split_at_mut-before.result.1.now c.f.new.arg3 ∙ ap length (sym split.value)

@@ -1,4 +1,6 @@
-use Rattle.std.proofs.Common.{◌+◌, ◌<◌, ◌∙◌, pos, ◌+ℤ◌, ◌*ℤ◌, refl, arith}
+use Rattle.std.proofs.Common.{◌+◌, ◌<◌, ◌∙◌, pos, ◌+ℤ◌, ◌*ℤ◌, refl, arith, ◌≡◌, subst}
+use Rattle.nd_layout.specs.Lanes.{along}
+use Rattle.nd_elements.specs.along.Removed.{rotated, IsMovedBy}
 use Rattle.nd_elements.proofs.Rotating.{rotated_more}
 use Rattle.nd_elements.proofs.along.remove_index.rotate_lane.Goals as goal
 
@@ -16,3 +18,14 @@ loop-nth-preserved g c =
       omega (arith, from),
       within,
     )
+
+pub returns-clause-moved : goal.returns-clause-moved
+returns-clause-moved g c =
+    let so_far = c.loop-nth.invariant in
+    let within = so_far.3 in
+    let end = c.loop-nth-test.false in
+    let through : c.loop-nth.nth + 1 ≡ c.args.lane.count = omega (arith, within, end) in
+    subst (λ n. IsMovedBy (g.S.Data.stored c.args.storage.now) (g.S.Data.stored c.loop-nth.storage) (along c.args.lane).place c.args.lane.count (rotated c.args.from n)) through so_far.0
+
+pub returns-clause-frame : goal.returns-clause-frame
+returns-clause-frame g c = c.loop-nth.invariant.1

@@ -1,10 +1,10 @@
-use Rattle.std.proofs.Common.{◌≡◌, ◌<◌, ◌+◌, ◌-◌, ◌*◌, ◌∙◌, length, take, get_or, ap, sym, subst, arith}
+use Rattle.std.proofs.Common.{◌≡◌, ◌<◌, ◌+◌, ◌-◌, ◌*◌, ◌∙◌, length, take, get_or, ap, sym, subst, arith, refl}
 use Rattle.std.proofs.lemmas.List.{length-set}
 use Rattle.nd_shape_and_slice.specs.Shape.{size_of, index_at}
 use Rattle.nd_layout.specs.Ranks.{slowest_first}
 use Rattle.nd_elements.specs.FreeOrder.{AnswersIndex, TakesIndex}
-use Rattle.nd_elements.proofs.Lanes.{rests_reach, outer_checked, outer_long, lane_at, lanes_done}
-use Rattle.nd_elements.proofs.Answered.{IsAnsweredTo, answered_next, answered_more, answered_all}
+use Rattle.nd_elements.proofs.Lanes.{rests_reach, outer_checked, outer_long, lane_at, lanes_done, lane_none, lane_through}
+use Rattle.nd_elements.proofs.Answered.{IsAnsweredTo, answered_next, answered_more, answered_all, answered_none}
 use Rattle.nd_layout.proofs.WalkSteps.{reaches_usizes}
 use Rattle.nd_elements.proofs.base.from_shape_fn.answers_by_lanes.Goals as goal
 
@@ -118,3 +118,28 @@ returns-clause-visits g c =
     let count : c.length-count.result ≡ get_or (slowest_first o ns) n 0 = c.length-count.ensures ∙ ap (λ l. get_or l n 0) c.slow_lengths-slow.ensures in
     let done = lanes_done o ns c.loop-index.outer.lengths.now n c.loop-index.outer.rank c.length-count.result axes c.loop-index.invariant.0 count c.in_default.ensures in
     answered_all (AnswersIndex g.F.FnMut g.D.IntoPattern.pattern_lengths) (ns, o) c.args.f c.loop-index.items.items (c.loop-index.outer.rank * c.length-count.result) c.loop-index.f done c.loop-index.invariant.4
+
+pub loop-index-init : goal.loop-index-init
+loop-index-init g c =
+    let ns = g.D.Dimension.lengths c.args.dim.now in
+    let o = c.args.order in
+    let none = lane_none c.new-outer.result.rank c.length-count.result c.new-outer.ensures.rank in (
+      c.new-outer.ensures.over.1 ∙ ap (take (c.ndim-last.result - 1)) (c.slice.ensures.lengths ∙ c.slow_lengths-slow.ensures),
+      refl,
+      c.requires.room,
+      c.requires.empty.1 ∙ none,
+      subst (λ r. IsAnsweredTo (AnswersIndex g.F.FnMut g.D.IntoPattern.pattern_lengths) (ns, o) c.args.f c.args.room.items r c.args.f) none
+          (answered_none (AnswersIndex g.F.FnMut g.D.IntoPattern.pattern_lengths) (ns, o) c.args.f c.args.room.items c.requires.empty.0),
+    )
+
+pub loop-index-preserved : goal.loop-index-preserved
+loop-index-preserved g c =
+    let ns = g.D.Dimension.lengths c.args.dim.now in
+    let inner = c.loop-k.invariant in
+    let through = lane_through c.loop-index.outer.rank c.advance.new.self.rank (size_of c.loop-index.outer.lengths.now) c.length-count.result c.loop-k.k c.in-Some.ensures.0 c.advance.ensures.rank inner.4 c.loop-k-test.false in (
+      c.advance.ensures.over.1 ∙ c.loop-index.invariant.0,
+      inner.0,
+      inner.2,
+      inner.3 ∙ through,
+      subst (λ r. IsAnsweredTo (AnswersIndex g.F.FnMut g.D.IntoPattern.pattern_lengths) (ns, c.args.order) c.args.f c.loop-k.items.items r c.loop-k.f) through inner.5,
+    )

@@ -1,12 +1,28 @@
 use Rattle.std.proofs.Common.{◌∙◌, ap, sym, subst}
 use Rattle.nd_layout.specs.Lanes.{along, ranked}
-use Rattle.nd_layout.proofs.LanesOf.{lane_of}
+use Rattle.nd_layout.proofs.LanesOf.{lane_of, all_through}
 use Rattle.nd_elements.specs.NumberedPlaces.{elements_at}
 use Rattle.nd_elements.specs.Places.{stored_at}
 use Rattle.nd_elements.specs.elements.Assigns.{IsAssignedTo}
 use Rattle.nd_elements.proofs.Assigned.{assigned_then, partly_then}
+use Rattle.nd_elements.proofs.LanePart.{lane_refused, lane_apart, lane_clones, lane_holds, still_holds}
 use Rattle.nd_elements.proofs.LanesBeside.{as_long, beside_lies, go_on_both}
 use Rattle.nd_elements.proofs.elements.assign.assign_places.Goals as goal
+
+pub assign_lane-requires-clause-as_long : goal.assign_lane-requires-clause-as_long
+assign_lane-requires-clause-as_long g c = as_long c.args.places c.args.beside c.loop-lane.ours c.loop-lane.theirs c.loop-lane.invariant.0 c.in-Some.lane c.in-Some-next.aside c.requires.alike c.in-Some.ensures.along c.in-Some-next.ensures.along
+
+pub assign_lane-requires-clause-apart : goal.assign_lane-requires-clause-apart
+assign_lane-requires-clause-apart g c = lane_apart c.args.places c.loop-lane.ours c.in-Some.lane c.loop-lane.invariant.0.0 c.in-Some.ensures.lane.0 c.requires.apart
+
+pub assign_lane-requires-clause-holds : goal.assign_lane-requires-clause-holds
+assign_lane-requires-clause-holds g c = still_holds c.args.places c.loop-lane.ours c.in-Some.lane c.loop-lane.invariant.0.0 c.in-Some.ensures.lane.0 (g.S.Data.stored c.args.storage.now) (g.S.Data.stored c.loop-lane.storage) c.requires.apart c.loop-lane.invariant.1.left c.requires.holds
+
+pub assign_lane-requires-clause-others_hold : goal.assign_lane-requires-clause-others_hold
+assign_lane-requires-clause-others_hold g c = lane_holds c.args.beside c.loop-lane.theirs c.in-Some-next.aside c.loop-lane.invariant.0.1 c.in-Some-next.ensures.lane.0 (g.Z.Data.stored c.args.others.now) c.requires.others_hold
+
+pub assign_lane-requires-clause-clones : goal.assign_lane-requires-clause-clones
+assign_lane-requires-clause-clones g c = lane_clones c.args.beside c.loop-lane.theirs c.in-Some-next.aside c.loop-lane.invariant.0.1 c.in-Some-next.ensures.lane.0 (g.Z.Data.stored c.args.others.now) g.A.Clone.is_clone c.requires.clones
 
 pub loop-lane-preserved : goal.loop-lane-preserved
 loop-lane-preserved g c =
@@ -45,3 +61,20 @@ returns-in-Err-clause-outcome g c =
       partly_then given at.place ours.rank at.count c.requires.apart (g.S.Data.stored c.args.storage.now) (g.S.Data.stored c.loop-lane.storage) so_far.1 (along lane).place (elements_at g.Z.Data.stored (along other) c.args.others.now) lane.count
           lies.within lies.places (λ k below. ap (stored_at (g.Z.Data.stored c.args.others.now)) (beside.places k below)) (g.S.Data.stored c.assign_lane.new.storage) c.in-Err.ensures.outcome.1,
     )
+
+pub returns-in-Err-clause-refused : goal.returns-in-Err-clause-refused
+returns-in-Err-clause-refused g c =
+    let aside = c.in-Some-next.aside in
+    lane_refused c.args.beside c.loop-lane.theirs aside c.loop-lane.invariant.0.1 c.in-Some-next.ensures.lane.0 (g.Z.Data.stored c.args.others.now) g.A.Clone.is_infallible c.in-Err.ensures.refused
+
+pub returns-in-Err-clause-frame : goal.returns-in-Err-clause-frame
+returns-in-Err-clause-frame g c = c.assign_lane.ensures.frame ∙ c.loop-lane.invariant.2
+
+pub returns-clause-outcome : goal.returns-clause-outcome
+returns-clause-outcome g c =
+    let so_far = c.loop-lane.invariant in
+    let given = elements_at g.Z.Data.stored (ranked c.args.beside) c.args.others.now in
+    (subst (λ r. IsAssignedTo given (ranked c.args.places).place r (g.S.Data.stored c.args.storage.now) (g.S.Data.stored c.loop-lane.storage)) (all_through c.args.places c.loop-lane.ours so_far.0.0 c.in_default.ensures.lane.0) so_far.1, tt)
+
+pub returns-clause-frame : goal.returns-clause-frame
+returns-clause-frame g c = c.loop-lane.invariant.2

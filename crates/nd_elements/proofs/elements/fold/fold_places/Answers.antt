@@ -1,11 +1,15 @@
 use Rattle.std.proofs.Common.{◌+◌, ◌∙◌, ap, sym, subst, arith}
 use Rattle.nd_layout.specs.Lanes.{along, ranked}
-use Rattle.nd_layout.proofs.LanesOf.{go_on, lane_of}
+use Rattle.nd_layout.proofs.LanesOf.{go_on, lane_of, all_through}
 use Rattle.nd_elements.specs.NumberedPlaces.{elements_at}
 use Rattle.nd_elements.specs.Places.{stored_at}
 use Rattle.nd_elements.specs.elements.Folds.{FoldsElement, FoldsPlaces}
+use Rattle.nd_elements.proofs.LanePart.{lane_holds}
 use Rattle.nd_elements.proofs.Ran.{ran_then}
 use Rattle.nd_elements.proofs.elements.fold.fold_places.Goals as goal
+
+pub fold_lane-requires-clause-holds : goal.fold_lane-requires-clause-holds
+fold_lane-requires-clause-holds g c = lane_holds c.args.places c.loop-lane.lanes c.in-Some.lane c.loop-lane.invariant.0 c.in-Some.ensures.lane.0 (g.S.Data.stored c.args.storage.now) c.requires.holds
 
 pub fold_lane-requires-clause-callable : goal.fold_lane-requires-clause-callable
 fold_lane-requires-clause-callable g c k now below run x is =
@@ -34,3 +38,8 @@ loop-lane-preserved g c =
       subst (λ r. FoldsPlaces g.F.FnMut stored (ranked c.args.places).place (c.args.f, c.args.init) r (c.fold_lane.result.0, c.fold_lane.result.1)) (sym given.1)
           (ran_then (λ p j q. FoldsElement g.F.FnMut (found j) p q) (λ p j q. FoldsElement g.F.FnMut (later j) p q) (c.args.f, c.args.init) (c.loop-lane.f, c.loop-lane.total) (c.fold_lane.result.0, c.fold_lane.result.1) lanes.rank lane.count (λ p j q under step. subst (λ z. FoldsElement g.F.FnMut (stored_at stored z) p q) (lies.places j under) step) so_far.1 c.fold_lane.ensures.ran),
     )
+
+pub returns : goal.returns
+returns g c =
+    let so_far = c.loop-lane.invariant in
+    record { ran = subst (λ r. FoldsPlaces g.F.FnMut (g.S.Data.stored c.args.storage.now) (ranked c.args.places).place (c.args.f, c.args.init) r (c.loop-lane.f, c.loop-lane.total)) (all_through c.args.places c.loop-lane.lanes so_far.0 c.in_default.ensures.lane.0) so_far.1 }

@@ -1,11 +1,15 @@
 use Rattle.std.proofs.Common.{ap, sym, subst}
 use Rattle.nd_layout.specs.Lanes.{along, ranked}
-use Rattle.nd_layout.proofs.LanesOf.{go_on, lane_of}
+use Rattle.nd_layout.proofs.LanesOf.{go_on, lane_of, all_through}
 use Rattle.nd_elements.specs.NumberedPlaces.{elements_at}
 use Rattle.nd_elements.specs.Places.{stored_at}
 use Rattle.nd_elements.specs.elements.Maps.{AnswersElement, MayBeShown, RanNumbered}
+use Rattle.nd_elements.proofs.LanePart.{lane_holds}
 use Rattle.nd_elements.proofs.Mapped.{ran_later, takes_later}
 use Rattle.nd_elements.proofs.elements.for_each.show_places.Goals as goal
+
+pub show_lane-now-requires-clause-holds : goal.show_lane-now-requires-clause-holds
+show_lane-now-requires-clause-holds g c = lane_holds c.args.places c.loop-lane.lanes c.in-Some.lane c.loop-lane.invariant.0 c.in-Some.ensures.lane.0 (g.S.Data.stored c.args.storage.now) c.requires.holds
 
 pub show_lane-now-requires-clause-callable : goal.show_lane-now-requires-clause-callable
 show_lane-now-requires-clause-callable g c =
@@ -31,3 +35,8 @@ loop-lane-preserved g c =
       subst (λ r. RanNumbered (AnswersElement g.F.FnMut) found c.args.f r c.show_lane-now.result) (sym given.1)
           (ran_later (AnswersElement g.F.FnMut) found (elements_at g.S.Data.stored (along lane) c.args.storage.now) lanes.rank lane.count (λ j below. ap (stored_at stored) (lies.places j below)) c.args.f c.loop-lane.now c.show_lane-now.result so_far.1 c.show_lane-now.ensures.ran),
     )
+
+pub returns : goal.returns
+returns g c =
+    let so_far = c.loop-lane.invariant in
+    record { ran = subst (λ r. RanNumbered (AnswersElement g.F.FnMut) (elements_at g.S.Data.stored (ranked c.args.places) c.args.storage.now) c.args.f r c.loop-lane.now) (all_through c.args.places c.loop-lane.lanes so_far.0 c.in_default.ensures.lane.0) so_far.1 }

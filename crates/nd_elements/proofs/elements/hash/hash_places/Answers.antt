@@ -1,12 +1,16 @@
 use Rattle.std.proofs.Common.{◌∙◌, ap, sym}
 use Rattle.std.specs.List.{fold, flat_map}
 use Rattle.nd_layout.specs.Lanes.{along, ranked}
-use Rattle.nd_layout.proofs.LanesOf.{go_on, lane_of}
+use Rattle.nd_layout.proofs.LanesOf.{go_on, lane_of, all_through}
 use Rattle.nd_elements.specs.Collected.{collected}
 use Rattle.nd_elements.specs.NumberedPlaces.{elements_at, all_elements_at}
 use Rattle.nd_elements.proofs.Collecting.{lane_collected}
 use Rattle.nd_elements.proofs.Feeding.{fed_then}
+use Rattle.nd_elements.proofs.LanePart.{lane_holds}
 use Rattle.nd_elements.proofs.elements.hash.hash_places.Goals as goal
+
+pub hash_lane-requires : goal.hash_lane-requires
+hash_lane-requires g c = record { holds = lane_holds c.args.places c.loop-lane.lanes c.in-Some.lane c.loop-lane.invariant.0 c.in-Some.ensures.lane.0 (g.S.Data.stored c.args.storage.now) c.requires.holds }
 
 pub loop-lane-preserved : goal.loop-lane-preserved
 loop-lane-preserved g c =
@@ -23,3 +27,9 @@ loop-lane-preserved g c =
           ∙ ap (λ xs. fold g.H.Hasher.write c.args.state.now (flat_map g.S.Elem.Hash.hash_input xs))
           (sym (lane_collected (g.S.Data.stored c.args.storage.now) places.first places.lengths.now places.strides.now lanes.rank lane.place lane.count lane.stride lies) ∙ ap (collected found) (sym given.1)),
     )
+
+pub returns : goal.returns
+returns g c =
+    let so_far = c.loop-lane.invariant in
+    let found = elements_at g.S.Data.stored (ranked c.args.places) c.args.storage.now in
+    so_far.1 ∙ ap (λ r. fold g.H.Hasher.write c.args.state.now (flat_map g.S.Elem.Hash.hash_input (collected found r))) (all_through c.args.places c.loop-lane.lanes so_far.0 c.in_default.ensures.lane.0)

@@ -1,6 +1,9 @@
+use Rattle.std.proofs.Common.{arith}
+use Rattle.std.specs.Prelude.{vec_len}
 use Rattle.nd_layout.specs.Placements.{placement_of}
-use Rattle.nd_elements.proofs.Assigned.{on_ok}
-use Rattle.nd_elements.proofs.ListedHalves.{both_listed}
+use Rattle.nd_elements.specs.NumberedPlaces.{all_elements_at, ranked_by}
+use Rattle.nd_elements.proofs.Assigned.{on_ok, on_err}
+use Rattle.nd_elements.proofs.ListedHalves.{both_listed, both_counted, first_refused, second_refused, front_again}
 use Rattle.nd_elements.proofs.elements.list_layout.+list_in_halves.Goals as goal
 
 pub returns-in-Ok-clause-items : goal.returns-in-Ok-clause-items
@@ -9,3 +12,66 @@ returns-in-Ok-clause-items g t c =
     (both_listed (g.S.Data.stored c.args.storage.now) (placement_of c.args.layout.now) (placement_of c.in-Some.lower) (placement_of c.in-Some.upper) c.in-Some.ensures
     c.args.items.now.items c.list_in_halves.new.items.items c.list_in_halves-in-Ok.new.items.items c.in-Ok.ensures.items)
     c.list_in_halves-in-Ok.ensures.items
+
+pub returns-in-Ok-clause-count : goal.returns-in-Ok-clause-count
+returns-in-Ok-clause-count g t c =
+    on_ok c.list_in_halves-in-Ok.result
+    (both_counted (g.S.Data.stored c.args.storage.now) (placement_of c.args.layout.now) (placement_of c.in-Some.lower) (placement_of c.in-Some.upper) c.in-Some.ensures (vec_len c.args.items.now) (vec_len c.list_in_halves.new.items) (vec_len c.list_in_halves-in-Ok.new.items) c.in-Ok.ensures.count)
+    c.list_in_halves-in-Ok.ensures.count
+
+pub returns-in-Ok-clause-kept : goal.returns-in-Ok-clause-kept
+returns-in-Ok-clause-kept g t c =
+    on_err c.list_in_halves-in-Ok.result
+    (front_again c.args.items.now.items (all_elements_at g.S.Data.stored (ranked_by c.in-Some.lower) c.args.storage.now) c.list_in_halves.new.items.items c.list_in_halves-in-Ok.new.items.items c.in-Ok.ensures.items)
+    c.list_in_halves-in-Ok.ensures.kept
+
+pub returns-in-Ok-clause-refused : goal.returns-in-Ok-clause-refused
+returns-in-Ok-clause-refused g t c =
+    on_err c.list_in_halves-in-Ok.result
+    (second_refused (g.S.Data.stored c.args.storage.now) (placement_of c.args.layout.now) (placement_of c.in-Some.lower) (placement_of c.in-Some.upper) c.in-Some.ensures g.S.Elem.Clone.is_infallible)
+    c.list_in_halves-in-Ok.ensures.refused
+
+pub returns-in-Err-clause-kept : goal.returns-in-Err-clause-kept
+returns-in-Err-clause-kept g t c = c.in-Err.ensures.kept
+
+pub returns-in-Err-clause-refused : goal.returns-in-Err-clause-refused
+returns-in-Err-clause-refused g t c = first_refused (g.S.Data.stored c.args.storage.now) (placement_of c.args.layout.now) (placement_of c.in-Some.lower) (placement_of c.in-Some.upper) c.in-Some.ensures g.S.Elem.Clone.is_infallible c.in-Err.ensures.refused
+
+pub returns-then-leaves_lines-clause-items : goal.returns-then-leaves_lines-clause-items
+returns-then-leaves_lines-clause-items g t c = c.list_turned.ensures.items
+
+pub returns-then-leaves_lines-clause-count : goal.returns-then-leaves_lines-clause-count
+returns-then-leaves_lines-clause-count g t c = c.list_turned.ensures.count
+
+pub returns-then-leaves_lines-clause-room : goal.returns-then-leaves_lines-clause-room
+returns-then-leaves_lines-clause-room g t c = c.list_turned.ensures.room
+
+pub returns-then-leaves_lines-clause-kept : goal.returns-then-leaves_lines-clause-kept
+returns-then-leaves_lines-clause-kept g t c = c.list_turned.ensures.kept
+
+pub returns-then-leaves_lines-clause-refused : goal.returns-then-leaves_lines-clause-refused
+returns-then-leaves_lines-clause-refused g t c = c.list_turned.ensures.refused
+
+pub returns-then-is_near-clause-items : goal.returns-then-is_near-clause-items
+returns-then-is_near-clause-items g t c = c.list_in_order.ensures.items
+
+pub returns-then-is_near-clause-count : goal.returns-then-is_near-clause-count
+returns-then-is_near-clause-count g t c = c.list_in_order.ensures.count
+
+pub returns-then-is_near-clause-room : goal.returns-then-is_near-clause-room
+returns-then-is_near-clause-room g t c = c.list_in_order.ensures.room
+
+pub returns-then-is_near-clause-kept : goal.returns-then-is_near-clause-kept
+returns-then-is_near-clause-kept g t c = c.list_in_order.ensures.kept
+
+pub returns-then-is_near-clause-refused : goal.returns-then-is_near-clause-refused
+returns-then-is_near-clause-refused g t c = c.list_in_order.ensures.refused
+
+pub returns-in-Err-clause-room : goal.returns-in-Err-clause-room
+returns-in-Err-clause-room g t c = c.list_in_halves.ensures.room
+
+pub returns-in-Ok-clause-room : goal.returns-in-Ok-clause-room
+returns-in-Ok-clause-room g t c =
+    let first = c.list_in_halves.ensures.room in
+    let second = c.list_in_halves-in-Ok.ensures.room in
+    omega (arith, first, second)

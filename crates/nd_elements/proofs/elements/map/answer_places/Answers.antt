@@ -1,11 +1,19 @@
-use Rattle.std.proofs.Common.{[], ap, sym, subst, arith}
+use Rattle.std.proofs.Common.{[], ap, sym, subst, arith, ◌∙◌}
+use Rattle.std.specs.Prelude.{vec_len, vec_capacity}
 use Rattle.nd_layout.specs.Lanes.{along, ranked}
 use Rattle.nd_layout.proofs.LanesOf.{go_on, lane_of, all_through}
 use Rattle.nd_elements.specs.NumberedPlaces.{elements_at}
 use Rattle.nd_elements.specs.Places.{stored_at}
 use Rattle.nd_elements.specs.elements.Maps.{AnswersElement, MayBeShown, AnswersBehind}
+use Rattle.nd_elements.proofs.LanePart.{lane_holds, room_first}
 use Rattle.nd_elements.proofs.Mapped.{behind_ran, behind_then, takes_later}
 use Rattle.nd_elements.proofs.elements.map.answer_places.Goals as goal
+
+pub answer_lane-now-requires-clause-holds : goal.answer_lane-now-requires-clause-holds
+answer_lane-now-requires-clause-holds g c = lane_holds c.args.places c.loop-lane.lanes c.in-Some.lane c.loop-lane.invariant.0 c.in-Some.ensures.lane.0 (g.S.Data.stored c.args.storage.now) c.requires.holds
+
+pub answer_lane-now-requires-clause-room : goal.answer_lane-now-requires-clause-room
+answer_lane-now-requires-clause-room g c = room_first c.args.places c.loop-lane.lanes c.in-Some.lane c.loop-lane.invariant.0 c.in-Some.ensures.lane.0 (vec_len c.loop-lane.items) (vec_capacity c.loop-lane.items) c.loop-lane.invariant.2 c.loop-lane.invariant.3
 
 pub answer_lane-now-requires-clause-callable : goal.answer_lane-now-requires-clause-callable
 answer_lane-now-requires-clause-callable g c =
@@ -43,3 +51,6 @@ returns-clause-answers g c =
     let so_far = c.loop-lane.invariant in
     let found = elements_at g.S.Data.stored (ranked c.args.places) c.args.storage.now in
     subst (λ n. AnswersBehind (AnswersElement g.F.FnMut) found n [] c.loop-lane.items.items c.args.f c.loop-lane.now) (all_through c.args.places c.loop-lane.lanes so_far.0 c.in_default.ensures.lane.0) so_far.1
+
+pub returns-clause-count : goal.returns-clause-count
+returns-clause-count g c = let so_far = c.loop-lane.invariant in so_far.2 ∙ all_through c.args.places c.loop-lane.lanes so_far.0 c.in_default.ensures.lane.0

@@ -1,9 +1,16 @@
 use Rattle.std.proofs.Common.{◌∙◌, sym, subst}
 use Rattle.nd_layout.specs.Lanes.{along, ranked}
-use Rattle.nd_layout.proofs.LanesOf.{go_on, lane_of}
+use Rattle.nd_layout.proofs.LanesOf.{go_on, lane_of, all_through}
 use Rattle.nd_elements.specs.elements.Changes.{ChangesElement, IsChangedTo}
 use Rattle.nd_elements.proofs.Changed.{changed_then, takes_next}
+use Rattle.nd_elements.proofs.LanePart.{lane_apart, still_holds}
 use Rattle.nd_elements.proofs.elements.map_inplace.change_places.Goals as goal
+
+pub change_lane-now-requires-clause-apart : goal.change_lane-now-requires-clause-apart
+change_lane-now-requires-clause-apart g c = lane_apart c.args.places c.loop-lane.lanes c.in-Some.lane c.loop-lane.invariant.0 c.in-Some.ensures.lane.0 c.requires.apart
+
+pub change_lane-now-requires-clause-holds : goal.change_lane-now-requires-clause-holds
+change_lane-now-requires-clause-holds g c = still_holds c.args.places c.loop-lane.lanes c.in-Some.lane c.loop-lane.invariant.0 c.in-Some.ensures.lane.0 (g.S.Data.stored c.args.storage.now) (g.S.Data.stored c.loop-lane.storage) c.requires.apart c.loop-lane.invariant.1.left c.requires.holds
 
 pub change_lane-now-requires-clause-callable : goal.change_lane-now-requires-clause-callable
 change_lane-now-requires-clause-callable g c =
@@ -31,3 +38,11 @@ loop-lane-preserved g c =
           old (g.S.Data.stored c.loop-lane.storage) new c.args.f c.loop-lane.now c.change_lane-now.result so_far.1 c.change_lane-now.ensures.changed),
       c.change_lane-now.ensures.frame ∙ so_far.2,
     )
+
+pub returns-clause-changed : goal.returns-clause-changed
+returns-clause-changed g c =
+    let so_far = c.loop-lane.invariant in
+    subst (λ r. IsChangedTo g.F.FnMut (ranked c.args.places).place r (g.S.Data.stored c.args.storage.now) (g.S.Data.stored c.loop-lane.storage) c.args.f c.loop-lane.now) (all_through c.args.places c.loop-lane.lanes so_far.0 c.in_default.ensures.lane.0) so_far.1
+
+pub returns-clause-frame : goal.returns-clause-frame
+returns-clause-frame g c = c.loop-lane.invariant.2

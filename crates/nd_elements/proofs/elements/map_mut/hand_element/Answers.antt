@@ -1,6 +1,7 @@
 use Rattle.std.proofs.Common.{Some, refl, ap, ◌∙◌}
 use Rattle.std.specs.Prelude.{if◌then◌else◌}
 use Rattle.std.specs.Cmp.{unsigned_Decides}
+use Rattle.nd_elements.proofs.Replaced.{written_elsewhere}
 use denote.MutBor.{at_last}
 use Rattle.nd_elements.proofs.elements.map_mut.hand_element.Goals as goal
 
@@ -15,3 +16,12 @@ returns-clause-called g c =
         record { shown = c.element_mut.result; shows = refl; left = at_last c.element_mut.result c.f-answer.new.arg2; called = c.f-answer.ensures; leaves = refl },
       ),
     )
+
+pub returns-clause-left : goal.returns-clause-left
+returns-clause-left g c =
+    let old = c.args.storage.now in
+    let x = c.f-answer.new.arg2 in
+    written_elsewhere (g.S.Data.stored old) (g.S.Data.stored (g.S.Data.with_element old c.args.place x).0) c.args.place x (λ q. g.met.S.DataMut.element_written old c.args.place x q c.requires.holds)
+
+pub returns-clause-frame : goal.returns-clause-frame
+returns-clause-frame g c = g.met.S.DataMut.element_frame c.args.storage.now c.args.place c.f-answer.new.arg2

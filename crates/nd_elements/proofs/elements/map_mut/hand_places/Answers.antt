@@ -1,12 +1,23 @@
 use Rattle.std.proofs.Common.{[], ◌∙◌, sym, subst, arith}
+use Rattle.std.specs.Prelude.{vec_len, vec_capacity}
 use Rattle.nd_layout.specs.Lanes.{along, ranked}
-use Rattle.nd_layout.proofs.LanesOf.{go_on, lane_of}
+use Rattle.nd_layout.proofs.LanesOf.{go_on, lane_of, all_through}
 use Rattle.nd_elements.specs.elements.Changes.{IsChangedBy}
 use Rattle.nd_elements.specs.elements.Maps.{Replaces}
 use Rattle.nd_elements.specs.elements.MapsMut.{LeavesAndAnswers, MayBeHanded, Collects, TakesCollecting}
 use Rattle.nd_elements.proofs.Changed.{changed_then}
+use Rattle.nd_elements.proofs.LanePart.{lane_apart, still_holds, room_first}
 use Rattle.nd_elements.proofs.Replaced.{replaced_takes}
 use Rattle.nd_elements.proofs.elements.map_mut.hand_places.Goals as goal
+
+pub hand_along-now-requires-clause-apart : goal.hand_along-now-requires-clause-apart
+hand_along-now-requires-clause-apart g c = lane_apart c.args.places c.loop-lane.lanes c.in-Some.lane c.loop-lane.invariant.0 c.in-Some.ensures.lane.0 c.requires.apart
+
+pub hand_along-now-requires-clause-holds : goal.hand_along-now-requires-clause-holds
+hand_along-now-requires-clause-holds g c = still_holds c.args.places c.loop-lane.lanes c.in-Some.lane c.loop-lane.invariant.0 c.in-Some.ensures.lane.0 (g.S.Data.stored c.args.storage.now) (g.S.Data.stored c.loop-lane.storage) c.requires.apart c.loop-lane.invariant.1.left c.requires.holds
+
+pub hand_along-now-requires-clause-room : goal.hand_along-now-requires-clause-room
+hand_along-now-requires-clause-room g c = room_first c.args.places c.loop-lane.lanes c.in-Some.lane c.loop-lane.invariant.0 c.in-Some.ensures.lane.0 (vec_len c.loop-lane.items) (vec_capacity c.loop-lane.items) c.loop-lane.invariant.2 c.loop-lane.invariant.3
 
 pub hand_along-now-requires-clause-callable : goal.hand_along-now-requires-clause-callable
 hand_along-now-requires-clause-callable g c =
@@ -37,3 +48,14 @@ loop-lane-preserved g c =
       (let e = so_far.3 in let l = c.hand_along-now.ensures.room in omega (arith, e, l)),
       c.hand_along-now.ensures.frame ∙ so_far.4,
     )
+
+pub returns-clause-handed : goal.returns-clause-handed
+returns-clause-handed g c =
+    let so_far = c.loop-lane.invariant in
+    subst (λ r. IsChangedBy (Replaces (Collects (LeavesAndAnswers g.F.FnMut))) (ranked c.args.places).place r (g.S.Data.stored c.args.storage.now) (g.S.Data.stored c.loop-lane.storage) (c.args.f, []) (c.loop-lane.now, c.loop-lane.items.items)) (all_through c.args.places c.loop-lane.lanes so_far.0 c.in_default.ensures.lane.0) so_far.1
+
+pub returns-clause-count : goal.returns-clause-count
+returns-clause-count g c = let so_far = c.loop-lane.invariant in so_far.2 ∙ all_through c.args.places c.loop-lane.lanes so_far.0 c.in_default.ensures.lane.0
+
+pub returns-clause-frame : goal.returns-clause-frame
+returns-clause-frame g c = c.loop-lane.invariant.4

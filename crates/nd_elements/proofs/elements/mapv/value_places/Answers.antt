@@ -1,11 +1,22 @@
-use Rattle.std.proofs.Common.{[], ap, sym, subst, arith}
+use Rattle.std.proofs.Common.{[], ap, sym, subst, arith, ◌∙◌}
+use Rattle.std.specs.Prelude.{vec_len, vec_capacity}
 use Rattle.nd_layout.specs.Lanes.{along, ranked}
 use Rattle.nd_layout.proofs.LanesOf.{go_on, lane_of, all_through}
 use Rattle.nd_elements.specs.NumberedPlaces.{elements_at}
 use Rattle.nd_elements.specs.Places.{stored_at}
 use Rattle.nd_elements.specs.elements.Maps.{AnswersValue, MayBeGiven, AnswersBehind}
+use Rattle.nd_elements.proofs.LanePart.{some_place, lane_clones, lane_holds, room_first}
 use Rattle.nd_elements.proofs.Mapped.{behind_ran, behind_then, takes_later}
 use Rattle.nd_elements.proofs.elements.mapv.value_places.Goals as goal
+
+pub value_lane-requires-clause-clones : goal.value_lane-requires-clause-clones
+value_lane-requires-clause-clones g c = lane_clones c.args.places c.loop-lane.lanes c.in-Some.lane c.loop-lane.invariant.0 c.in-Some.ensures.lane.0 (g.S.Data.stored c.args.storage.now) g.S.Elem.Clone.is_clone c.requires.clones
+
+pub value_lane-requires-clause-holds : goal.value_lane-requires-clause-holds
+value_lane-requires-clause-holds g c = lane_holds c.args.places c.loop-lane.lanes c.in-Some.lane c.loop-lane.invariant.0 c.in-Some.ensures.lane.0 (g.S.Data.stored c.args.storage.now) c.requires.holds
+
+pub value_lane-requires-clause-room : goal.value_lane-requires-clause-room
+value_lane-requires-clause-room g c = room_first c.args.places c.loop-lane.lanes c.in-Some.lane c.loop-lane.invariant.0 c.in-Some.ensures.lane.0 (vec_len c.loop-lane.items) (vec_capacity c.loop-lane.items) c.loop-lane.invariant.2 c.loop-lane.invariant.3
 
 pub value_lane-requires-clause-callable : goal.value_lane-requires-clause-callable
 value_lane-requires-clause-callable g c =
@@ -43,3 +54,9 @@ returns-clause-answers g c =
     let so_far = c.loop-lane.invariant in
     let found = elements_at g.S.Data.stored (ranked c.args.places) c.args.storage.now in
     subst (λ n. AnswersBehind (AnswersValue g.F.FnMut) found n [] c.loop-lane.items.items c.args.f c.loop-lane.now) (all_through c.args.places c.loop-lane.lanes so_far.0 c.in_default.ensures.lane.0) so_far.1
+
+pub returns-in-Err-clause-refused : goal.returns-in-Err-clause-refused
+returns-in-Err-clause-refused g c = some_place c.args.places c.loop-lane.lanes c.in-Some.lane c.loop-lane.invariant.0 c.in-Some.ensures.lane.0
+
+pub returns-clause-count : goal.returns-clause-count
+returns-clause-count g c = let so_far = c.loop-lane.invariant in so_far.2 ∙ all_through c.args.places c.loop-lane.lanes so_far.0 c.in_default.ensures.lane.0

@@ -1,11 +1,21 @@
 use Rattle.std.proofs.Common.{◌∙◌, ◌+◌, ◌<◌, sym, subst, arith}
 use Rattle.nd_layout.specs.Lanes.{along, ranked}
-use Rattle.nd_layout.proofs.LanesOf.{go_on, lane_of}
+use Rattle.nd_layout.proofs.LanesOf.{go_on, lane_of, all_through}
 use Rattle.nd_elements.specs.elements.Changes.{IsChangedBy}
 use Rattle.nd_elements.specs.elements.Maps.{AnswersValue, MayBeGiven, Replaces}
 use Rattle.nd_elements.proofs.Changed.{changed_then, still_there}
+use Rattle.nd_elements.proofs.LanePart.{lane_apart, still_clones, still_holds}
 use Rattle.nd_elements.proofs.Replaced.{replaced_takes}
 use Rattle.nd_elements.proofs.elements.mapv_inplace.replace_places.Goals as goal
+
+pub replace_lane-requires-clause-apart : goal.replace_lane-requires-clause-apart
+replace_lane-requires-clause-apart g c = lane_apart c.args.places c.loop-lane.lanes c.in-Some.lane c.loop-lane.invariant.0 c.in-Some.ensures.lane.0 c.requires.apart
+
+pub replace_lane-requires-clause-clones : goal.replace_lane-requires-clause-clones
+replace_lane-requires-clause-clones g c = still_clones c.args.places c.loop-lane.lanes c.in-Some.lane c.loop-lane.invariant.0 c.in-Some.ensures.lane.0 (g.S.Data.stored c.args.storage.now) (g.S.Data.stored c.loop-lane.storage) c.requires.apart c.loop-lane.invariant.1.left g.S.Elem.Clone.is_clone c.requires.clones
+
+pub replace_lane-requires-clause-holds : goal.replace_lane-requires-clause-holds
+replace_lane-requires-clause-holds g c = still_holds c.args.places c.loop-lane.lanes c.in-Some.lane c.loop-lane.invariant.0 c.in-Some.ensures.lane.0 (g.S.Data.stored c.args.storage.now) (g.S.Data.stored c.loop-lane.storage) c.requires.apart c.loop-lane.invariant.1.left c.requires.holds
 
 pub replace_lane-requires-clause-callable : goal.replace_lane-requires-clause-callable
 replace_lane-requires-clause-callable g c =
@@ -67,3 +77,20 @@ returns-in-Err-clause-refused g c =
     let within = lies.within in
     let still = still_there (Replaces (AnswersValue g.F.FnMut)) at.place (along lane).place lanes.rank lane.count at.count within c.requires.apart lies.places (g.S.Data.stored c.args.storage.now) now now c.args.f c.loop-lane.now c.loop-lane.now so_far.1 in
     (lanes.rank + refused.0, refused.1, omega (arith, within, below), sym (still refused.0 below) ∙ refused.3, refused.4)
+
+pub returns-in-Err-clause-there : goal.returns-in-Err-clause-there
+returns-in-Err-clause-there g c = (λ p has. c.replace_lane.ensures.there p (c.loop-lane.invariant.3 p has))
+
+pub returns-in-Err-clause-frame : goal.returns-in-Err-clause-frame
+returns-in-Err-clause-frame g c = c.replace_lane.ensures.frame ∙ c.loop-lane.invariant.2
+
+pub returns-clause-replaced : goal.returns-clause-replaced
+returns-clause-replaced g c =
+    let so_far = c.loop-lane.invariant in
+    subst (λ r. IsChangedBy (Replaces (AnswersValue g.F.FnMut)) (ranked c.args.places).place r (g.S.Data.stored c.args.storage.now) (g.S.Data.stored c.loop-lane.storage) c.args.f c.loop-lane.now) (all_through c.args.places c.loop-lane.lanes so_far.0 c.in_default.ensures.lane.0) so_far.1
+
+pub returns-clause-there : goal.returns-clause-there
+returns-clause-there g c = c.loop-lane.invariant.3
+
+pub returns-clause-frame : goal.returns-clause-frame
+returns-clause-frame g c = c.loop-lane.invariant.2

@@ -1,13 +1,32 @@
-use Rattle.std.proofs.Common.{◌∙◌, ap, sym, subst}
+use Rattle.std.proofs.Common.{◌∙◌, ap, sym, subst, ◌<◌}
 use Rattle.nd_shape_and_slice.specs.Shape.{size_of}
 use Rattle.nd_layout.specs.Lanes.{along, ranked}
 use Rattle.nd_layout.proofs.LanesOf.{lane_of, all_through}
 use Rattle.nd_elements.specs.NumberedPlaces.{elements_at}
 use Rattle.nd_elements.specs.elements.Assigns.{IsAssignedTo}
 use Rattle.nd_elements.specs.elements.Changes.{AreDistinct}
+use Rattle.nd_elements.proofs.LanePart.{lane_apart, still_holds}
 use Rattle.nd_elements.proofs.LanesBeside.{as_long, beside_lies, go_on_both}
 use Rattle.nd_elements.proofs.Moved.{lane_exchanged}
 use Rattle.nd_elements.proofs.elements.move_into.exchange_places.Goals as goal
+
+pub exchange_lane-requires-clause-as_long : goal.exchange_lane-requires-clause-as_long
+exchange_lane-requires-clause-as_long g c = as_long c.args.places c.args.beside c.loop-lane.ours c.loop-lane.theirs c.loop-lane.invariant.0 c.in-Some.lane c.in-Some-next.aside c.requires.alike c.in-Some.ensures.along c.in-Some-next.ensures.along
+
+pub exchange_lane-requires-clause-apart : goal.exchange_lane-requires-clause-apart
+exchange_lane-requires-clause-apart g c = lane_apart c.args.places c.loop-lane.ours c.in-Some.lane c.loop-lane.invariant.0.0 c.in-Some.ensures.lane.0 c.requires.apart
+
+pub exchange_lane-requires-clause-others_apart : goal.exchange_lane-requires-clause-others_apart
+exchange_lane-requires-clause-others_apart g c = lane_apart c.args.beside c.loop-lane.theirs c.in-Some-next.aside c.loop-lane.invariant.0.1 c.in-Some-next.ensures.lane.0 c.requires.others_apart
+
+pub exchange_lane-requires-clause-holds : goal.exchange_lane-requires-clause-holds
+exchange_lane-requires-clause-holds g c = still_holds c.args.places c.loop-lane.ours c.in-Some.lane c.loop-lane.invariant.0.0 c.in-Some.ensures.lane.0 (g.S.Data.stored c.args.storage.now) (g.S.Data.stored c.loop-lane.storage) c.requires.apart c.loop-lane.invariant.1.left c.requires.holds
+
+pub exchange_lane-requires-clause-others_hold : goal.exchange_lane-requires-clause-others_hold
+exchange_lane-requires-clause-others_hold g c =
+    let so_far = c.loop-lane.invariant in
+    still_holds c.args.beside c.loop-lane.theirs c.in-Some-next.aside c.loop-lane.invariant.0.1 c.in-Some-next.ensures.lane.0 (g.Z.Data.stored c.args.others.now) (g.Z.Data.stored c.loop-lane.others) c.requires.others_apart
+    (λ p nowhere. so_far.2.left p (λ i under. nowhere i (subst (λ r. i < r) (sym so_far.0.2) under))) c.requires.others_hold
 
 pub loop-lane-preserved : goal.loop-lane-preserved
 loop-lane-preserved g c =
@@ -42,3 +61,11 @@ returns-clause-back g c =
     let so_far = c.loop-lane.invariant in
     let whole = all_through c.args.places c.loop-lane.ours so_far.0.0 c.in_default.ensures.lane.0 ∙ ap size_of (sym c.requires.alike) in
     subst (λ r. IsAssignedTo (elements_at g.S.Data.stored (ranked c.args.places) c.args.storage.now) (ranked c.args.beside).place r (g.Z.Data.stored c.args.others.now) (g.Z.Data.stored c.loop-lane.others)) whole so_far.2
+
+pub returns-clause-moved : goal.returns-clause-moved
+returns-clause-moved g c =
+    let so_far = c.loop-lane.invariant in
+    subst (λ r. IsAssignedTo (elements_at g.Z.Data.stored (ranked c.args.beside) c.args.others.now) (ranked c.args.places).place r (g.S.Data.stored c.args.storage.now) (g.S.Data.stored c.loop-lane.storage)) (all_through c.args.places c.loop-lane.ours so_far.0.0 c.in_default.ensures.lane.0) so_far.1
+
+pub returns-clause-frame : goal.returns-clause-frame
+returns-clause-frame g c = c.loop-lane.invariant.3

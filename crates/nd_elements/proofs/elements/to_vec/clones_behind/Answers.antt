@@ -1,17 +1,9 @@
-use Rattle.std.proofs.Common.{◌≡◌, ℕ, ◌∙◌, ◌+◌, List, [], ◌∷◌, ◌++◌, ap, sym, refl, arith}
-use Rattle.std.proofs.lemmas.List.{append_assoc}
+use Rattle.std.proofs.Common.{◌≡◌, ◌∙◌, ◌+◌, ◌++◌, ap, refl, arith}
 use Rattle.std.proofs.lemmas.Option.{slice_get_read}
-use Rattle.std.specs.Prelude.{Option, Some, length, slice_get}
+use Rattle.std.specs.Prelude.{Some, length, slice_get, vec_len}
 use Rattle.nd_elements.specs.Collected.{collected}
-use Rattle.nd_elements.proofs.Collecting.{collected_more}
+use Rattle.nd_elements.proofs.Collecting.{one_behind}
 use Rattle.nd_elements.proofs.elements.to_vec.clones_behind.Goals as goal
-
-one_behind : {A : Type 0} (f : ℕ → Option A) (n : ℕ) (before old new : List A) (x y : A) → old ≡ before ++ collected f n → new ≡ old ++ y ∷ [] → y ≡ x → f n ≡ Some x → new ≡ before ++ collected f (n + 1)
-one_behind f n before old new x y so_far put same there =
-    put
-    ∙ ((λ k. so_far k ++ same k ∷ [])
-    ∙ (append_assoc before (collected f n) (x ∷ [])
-    ∙ ap (λ xs. before ++ xs) (sym (collected_more f n x there))))
 
 pub loop-nth-preserved : goal.loop-nth-preserved
 loop-nth-preserved g c =
@@ -27,3 +19,30 @@ loop-nth-preserved g c =
       omega (arith, put.len, so_far.1),
       put.capacity ∙ so_far.2,
     )
+
+pub returns-in-Err-clause-room : goal.returns-in-Err-clause-room
+returns-in-Err-clause-room g c = c.loop-nth.invariant.2
+
+pub returns-in-Err-clause-kept : goal.returns-in-Err-clause-kept
+returns-in-Err-clause-kept g c = (collected (slice_get c.args.run.now) c.loop-nth.nth, c.loop-nth.invariant.0)
+
+pub returns-in-Err-clause-refused : goal.returns-in-Err-clause-refused
+returns-in-Err-clause-refused g c =
+    let run = c.args.run.now in
+    let x = c.index-run-nth.result in
+    let test = c.loop-nth-test.true in
+    (c.loop-nth.nth, x, test, slice_get_read run (length run) c.loop-nth.nth x refl (omega (arith, test)) c.index-run-nth.is, c.in-Err.ensures.cases)
+
+pub returns-clause-items : goal.returns-clause-items
+returns-clause-items g c =
+    let run = c.args.run.now in
+    let through : c.loop-nth.nth ≡ length run = omega arith in
+    c.loop-nth.invariant.0 ∙ ap (λ n. c.args.items.items ++ collected (slice_get run) n) through
+
+pub returns-clause-len : goal.returns-clause-len
+returns-clause-len g c =
+    let through : c.loop-nth.nth ≡ length c.args.run.now = omega arith in
+    c.loop-nth.invariant.1 ∙ ap (λ n. vec_len c.args.items + n) through
+
+pub returns-clause-room : goal.returns-clause-room
+returns-clause-room g c = c.loop-nth.invariant.2

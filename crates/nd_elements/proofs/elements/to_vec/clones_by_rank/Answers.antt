@@ -1,7 +1,11 @@
-use Rattle.std.proofs.Common.{◌≡◌, ◌∙◌, subst, arith}
-use Rattle.std.specs.Prelude.{Result, Ok, OnOk}
-use Rattle.nd_layout.proofs.LanesOf.{go_on, lane_of}
+use Rattle.std.proofs.Common.{◌≡◌, ◌∙◌, subst, arith, ap, ◌++◌, ◌+◌, append_assoc, sym, ◌≤◌}
+use Rattle.std.specs.Prelude.{Result, Ok, OnOk, Err, OnErr, vec_len, vec_capacity}
+use Rattle.nd_layout.specs.Lanes.{ranked}
+use Rattle.nd_layout.proofs.LanesOf.{go_on, lane_of, all_through}
+use Rattle.nd_elements.specs.Collected.{collected}
+use Rattle.nd_elements.specs.NumberedPlaces.{elements_at}
 use Rattle.nd_elements.proofs.Collecting.{lane_behind}
+use Rattle.nd_elements.proofs.LanePart.{lane_refused, lane_holds, room_behind}
 use Rattle.nd_elements.proofs.elements.to_vec.clones_by_rank.Goals as goal
 
 -- what a clause says of a result that is there
@@ -23,3 +27,42 @@ loop-lane-preserved g c =
       (let e = so_far.2 in let l = there end c.in-Ok.field-0 c.in-Ok.is done.len in let n = given.1 in omega (arith, e, l, n)),
       done.room ∙ so_far.3,
     )
+
+refused : {T E P : Type 0} (r : Result T E) (e : E) → r ≡ Err e → OnErr r P → P
+refused {P = P} r e is all = subst (λ r. OnErr r P) is all
+
+pub returns-in-Err-clause-room : goal.returns-in-Err-clause-room
+returns-in-Err-clause-room g c = c.clones_of_lane-longer.ensures.room ∙ c.loop-lane.invariant.3
+
+pub returns-in-Err-clause-kept : goal.returns-in-Err-clause-kept
+returns-in-Err-clause-kept g c =
+    let so_far = c.loop-lane.invariant in
+    let found = collected (elements_at g.S.Data.stored (ranked c.args.places) c.args.storage.now) c.loop-lane.lanes.rank in
+    let front = refused c.clones_of_lane-longer.result.1 c.in-Err.refused c.in-Err.is c.clones_of_lane-longer.ensures.kept in
+    (found ++ front.0, front.1 ∙ ap (λ xs. xs ++ front.0) so_far.1 ∙ append_assoc c.args.items.items found front.0)
+
+pub returns-in-Err-clause-refused : goal.returns-in-Err-clause-refused
+returns-in-Err-clause-refused g c =
+    lane_refused c.args.places c.loop-lane.lanes c.in-Some.lane c.loop-lane.invariant.0 c.in-Some.ensures.lane.0 (g.S.Data.stored c.args.storage.now) g.S.Elem.Clone.is_infallible
+    (refused c.clones_of_lane-longer.result.1 c.in-Err.refused c.in-Err.is c.clones_of_lane-longer.ensures.refused)
+
+pub returns-clause-items : goal.returns-clause-items
+returns-clause-items g c =
+    let so_far = c.loop-lane.invariant in
+    subst (λ r. c.loop-lane.items.items ≡ c.args.items.items ++ collected (elements_at g.S.Data.stored (ranked c.args.places) c.args.storage.now) r) (all_through c.args.places c.loop-lane.lanes so_far.0 c.in_default.ensures.lane.0) so_far.1
+
+pub returns-clause-len : goal.returns-clause-len
+returns-clause-len g c =
+    let so_far = c.loop-lane.invariant in
+    so_far.2 ∙ ap (λ r. vec_len c.args.items + r) (all_through c.args.places c.loop-lane.lanes so_far.0 c.in_default.ensures.lane.0)
+
+pub returns-clause-room : goal.returns-clause-room
+returns-clause-room g c = c.loop-lane.invariant.3
+
+pub clones_of_lane-longer-requires-clause-holds : goal.clones_of_lane-longer-requires-clause-holds
+clones_of_lane-longer-requires-clause-holds g c = lane_holds c.args.places c.loop-lane.lanes c.in-Some.lane c.loop-lane.invariant.0 c.in-Some.ensures.lane.0 (g.S.Data.stored c.args.storage.now) c.requires.holds
+
+pub clones_of_lane-longer-requires-clause-room : goal.clones_of_lane-longer-requires-clause-room
+clones_of_lane-longer-requires-clause-room g c =
+    let so_far = c.loop-lane.invariant in
+    room_behind c.args.places c.loop-lane.lanes c.in-Some.lane c.loop-lane.invariant.0 c.in-Some.ensures.lane.0 (vec_len c.args.items) (vec_len c.loop-lane.items) (vec_capacity c.loop-lane.items) so_far.2 (subst (λ m. vec_len c.args.items + (ranked c.args.places).count ≤ m) (sym so_far.3) c.requires.room)

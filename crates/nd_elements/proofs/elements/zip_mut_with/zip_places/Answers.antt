@@ -1,10 +1,23 @@
 use Rattle.std.proofs.Common.{◌∙◌, sym, subst}
 use Rattle.nd_layout.specs.Lanes.{along, ranked}
-use Rattle.nd_layout.proofs.LanesOf.{lane_of}
+use Rattle.nd_layout.proofs.LanesOf.{lane_of, all_through}
 use Rattle.nd_elements.specs.elements.Pairs.{IsZippedTo}
+use Rattle.nd_elements.proofs.LanePart.{lane_apart, lane_holds, still_holds}
 use Rattle.nd_elements.proofs.LanesBeside.{as_long, beside_lies, go_on_both}
 use Rattle.nd_elements.proofs.Paired.{zipped_then, zips_next}
 use Rattle.nd_elements.proofs.elements.zip_mut_with.zip_places.Goals as goal
+
+pub zip_lane-now-requires-clause-as_long : goal.zip_lane-now-requires-clause-as_long
+zip_lane-now-requires-clause-as_long g c = as_long c.args.places c.args.beside c.loop-lane.ours c.loop-lane.theirs c.loop-lane.invariant.0 c.in-Some.lane c.in-Some-next.aside c.requires.alike c.in-Some.ensures.along c.in-Some-next.ensures.along
+
+pub zip_lane-now-requires-clause-apart : goal.zip_lane-now-requires-clause-apart
+zip_lane-now-requires-clause-apart g c = lane_apart c.args.places c.loop-lane.ours c.in-Some.lane c.loop-lane.invariant.0.0 c.in-Some.ensures.lane.0 c.requires.apart
+
+pub zip_lane-now-requires-clause-holds : goal.zip_lane-now-requires-clause-holds
+zip_lane-now-requires-clause-holds g c = still_holds c.args.places c.loop-lane.ours c.in-Some.lane c.loop-lane.invariant.0.0 c.in-Some.ensures.lane.0 (g.S.Data.stored c.args.storage.now) (g.S.Data.stored c.loop-lane.storage) c.requires.apart c.loop-lane.invariant.1.left c.requires.holds
+
+pub zip_lane-now-requires-clause-others_hold : goal.zip_lane-now-requires-clause-others_hold
+zip_lane-now-requires-clause-others_hold g c = lane_holds c.args.beside c.loop-lane.theirs c.in-Some-next.aside c.loop-lane.invariant.0.1 c.in-Some-next.ensures.lane.0 (g.Z.Data.stored c.args.others.now) c.requires.others_hold
 
 pub zip_lane-now-requires-clause-callable : goal.zip_lane-now-requires-clause-callable
 zip_lane-now-requires-clause-callable g c =
@@ -41,3 +54,11 @@ loop-lane-preserved g c =
           lies.within c.requires.apart lies.places beside.places old (g.S.Data.stored c.loop-lane.storage) new c.args.f c.loop-lane.now c.zip_lane-now.result so_far.1 c.zip_lane-now.ensures.changed),
       c.zip_lane-now.ensures.frame ∙ so_far.2,
     )
+
+pub returns-clause-changed : goal.returns-clause-changed
+returns-clause-changed g c =
+    let so_far = c.loop-lane.invariant in
+    subst (λ r. IsZippedTo g.F.FnMut (ranked c.args.places).place (g.Z.Data.stored c.args.others.now) (ranked c.args.beside).place r (g.S.Data.stored c.args.storage.now) (g.S.Data.stored c.loop-lane.storage) c.args.f c.loop-lane.now) (all_through c.args.places c.loop-lane.ours so_far.0.0 c.in_default.ensures.lane.0) so_far.1
+
+pub returns-clause-frame : goal.returns-clause-frame
+returns-clause-frame g c = c.loop-lane.invariant.2
