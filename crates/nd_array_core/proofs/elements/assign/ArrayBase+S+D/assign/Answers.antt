@@ -20,7 +20,7 @@ pub assign_layouts-requires-clause-alike : goal.assign_layouts-requires-clause-a
 assign_layouts-requires-clause-alike g c = c.in-Some.ensures.lengths
 
 pub assign_layouts-requires-clause-apart : goal.assign_layouts-requires-clause-apart
-assign_layouts-requires-clause-apart g c = c.args.self.now.separated g.S.DataMut.alone
+assign_layouts-requires-clause-apart g c = c.args.self.now.separated g.met.S.DataMut.alone
 
 pub assign_layouts-requires-clause-holds : goal.assign_layouts-requires-clause-holds
 assign_layouts-requires-clause-holds g c = c.args.self.now.inside

@@ -20,7 +20,7 @@ pub zip_layouts-requires-clause-alike : goal.zip_layouts-requires-clause-alike
 zip_layouts-requires-clause-alike g c = c.in-Some.ensures.lengths
 
 pub zip_layouts-requires-clause-apart : goal.zip_layouts-requires-clause-apart
-zip_layouts-requires-clause-apart g c = c.args.self.now.separated g.S.DataMut.alone
+zip_layouts-requires-clause-apart g c = c.args.self.now.separated g.met.S.DataMut.alone
 
 pub zip_layouts-requires-clause-holds : goal.zip_layouts-requires-clause-holds
 zip_layouts-requires-clause-holds g c = c.args.self.now.inside
