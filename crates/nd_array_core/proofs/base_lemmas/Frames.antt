@@ -14,7 +14,7 @@ use Rattle.nd_elements.specs.StorageFrame.{Owned}
 use Rattle.nd_elements.specs.Storages.{stored_list}
 use Rattle.nd_elements.specs.declared.storage.Data as data_trait
 use Rattle.nd_elements.specs.declared.storage.OwnedRepr.{OwnedRepr}
-use Rattle.nd_array_core.specs.Meaning.{meaning_of, memory_layout_of, element_at}
+use Rattle.nd_array_core.specs.Meaning.{meaning_of, memory_layout_of}
 use Rattle.nd_array_core.specs.declared.base.array.ArrayBase.{ArrayBase}
 use Rattle.nd_array_core.specs.base.Fresh.{OwnsInOrder}
 use Rattle.nd_array_core.specs.base.Writes.{KeepsFrame}
