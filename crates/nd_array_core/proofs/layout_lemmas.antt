@@ -1,3 +1,4 @@
 pub mod StepLemmas
 pub mod Parted
 pub mod ListParts
+pub mod Whole

@@ -1,7 +1,7 @@
 -- A matrix of one value, of which the diagonal is written coordinate by coordinate.
 use Rattle.std.proofs.Common.{◌≡◌, ℕ, ◌+◌, ◌<◌, Bool, true, false, List, [], ◌∷◌, refl, ap, sym, ◌∙◌, arith}
 use Rattle.std.specs.Prelude.{◌&&◌, Option, Some, None, if◌then◌else◌, nat_lt, nat_eq}
-use Rattle.std.proofs.lemmas.Bool.{and_parts}
+use Rattle.std.proofs.lemmas.Bool.{and_parts, lt-ltb}
 use Rattle.std.proofs.lemmas.Bool.Decides.{nat_tests}
 use Rattle.nd_shape_and_slice.specs.Shape.{in_box}
 use Rattle.nd_elements.specs.Meaning.{inside}
@@ -70,6 +70,10 @@ module _ {A : Type 0} (n : ℕ) (at : ℕ → Option A) (other : A) where
       by_test false (a ∷ []) e = so_far.shows (a ∷ [])
       by_test false (a ∷ b ∷ []) e = so_far.shows (a ∷ b ∷ []) ∙ ap (inside (n ∷ n ∷ []) (a ∷ b ∷ [])) (beside a b e)
       by_test false (a ∷ b ∷ c ∷ i) e = so_far.shows (a ∷ b ∷ c ∷ i)
+
+  -- each coordinate of the diagonal is one of the matrix
+  pub on_diagonal_inside : (shape : List ℕ) (k : ℕ) → shape ≡ n ∷ n ∷ [] → k < n → in_box shape (k ∷ k ∷ []) ≡ true
+  on_diagonal_inside shape k square below = let under = lt-ltb k n below in ap (λ ns. in_box ns (k ∷ k ∷ [])) square ∙ rw under refl
 
   -- all coordinates are through
   pub diagonal_all : (f : List ℕ → Option A) (k : ℕ) → k ≡ n → IsDiagonalTo f k → (i : List ℕ) → f i ≡ inside (n ∷ n ∷ []) i (on_diagonal at other i)

@@ -1,5 +1,7 @@
 -- The last index of a shape is that of the greatest rank.
-use Rattle.std.proofs.Common.{◌≡◌, ℕ, zero, suc, ◌+◌, ◌-◌, ◌*◌, ◌/◌, ◌%◌, ◌<◌, Bool, true, false, List, [], ◌∷◌, refl, ap, sym, ◌∙◌, arith}
+use Rattle.std.proofs.Common.{◌≡◌, ℕ, zero, suc, ◌+◌, ◌-◌, ◌*◌, ◌/◌, ◌%◌, ◌<◌, ◌≤◌, Bool, true, false, List, [], ◌∷◌, length, take, refl, ap, sym, ◌∙◌, arith}
+use Rattle.std.proofs.lemmas.Bool.{true≢false}
+use Rattle.std.proofs.lemmas.List.{length-take}
 use Rattle.std.proofs.lemmas.Nat.{div-mul-add, mod-mul-add}
 use Rattle.nd_shape_and_slice.specs.Shape.{in_box, size_of, index_at}
 use Rattle.nd_shape_and_slice.proofs.RowMajor.{positive-cons, row_rank_below}
@@ -29,3 +31,17 @@ last_outside ns none = by_test (in_box ns (last_index ns)) refl
     by_test : (b : Bool) → in_box ns (last_index ns) ≡ b → in_box ns (last_index ns) ≡ false
     by_test true h = absurd (let below = row_rank_below ns (last_index ns) h in omega (arith, below, none))
     by_test false h = h
+
+-- where a test for no elements failed, there are some
+pub some_left : (none : Bool) (size : ℕ) → none ≡ false → (size ≡ 0 → none ≡ true) → 0 < size
+some_left none zero failed tests = absurd (true≢false (sym (tests refl) ∙ failed))
+some_left none (suc n) failed tests = omega arith
+
+pub rank_below : (size n : ℕ) → n ≡ size → 0 < size → n - 1 < size
+rank_below size n same some = omega (arith, same, some)
+
+pub taken_long : (n : ℕ) (xs : List ℕ) → n ≤ length xs → length (take n xs) ≡ n
+taken_long n xs within = omega (arith, length-take n xs, within)
+
+pub not_none : (size : ℕ) → 0 < size → (true ≡ false → size ≡ 0) × (size ≡ 0 → true ≡ false)
+not_none size some = ((λ is. absurd (true≢false is)), (λ none. absurd (omega (arith, some, none))))

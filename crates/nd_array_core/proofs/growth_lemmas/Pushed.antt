@@ -28,6 +28,13 @@ length-inserted ms a =
 abbrev pushed_alike : {A : Type 0} → ℕ → Meaning A → Meaning A → Meaning A
 pushed_alike axis m n = concatenated_alike axis m (with_axis_inserted axis n)
 
+-- an array of one axis fewer
+pub axis_within : (few all axis : ℕ) → few + 1 ≡ all → (0 < all → axis < all) → axis ≤ few
+axis_within few all axis one on = let below = on (omega (arith, one)) in omega (arith, below, one)
+
+pub one_fewer : (few all : ℕ) → few + 1 ≡ all → all ≤ 32 → few < 32
+one_fewer few all one within = omega (arith, one, within)
+
 -- an array of another number of axes doesn't fit
 pub other_axes : (ns ms : List ℕ) (a : ℕ) → (length ms + 1 ≡ length ns → ⊥) → IsJoiningRefused ns (inserted_shape ms a) a IncompatibleShape
 other_axes ns ms a other =

@@ -2,8 +2,8 @@
 use Rattle.std.proofs.Common.{◌≡◌, ℕ, zero, suc, ◌+◌, ◌-◌, ◌*◌, ◌<◌, ◌≤◌, ◌^◌, Bool, true, false, cond, eqb, ltb, leb, ◌&&◌, ◌||◌, List, [], ◌∷◌, length, drop, get_or, set, refl, ap, sym, subst, ◌∙◌, arith, ⊎_elim}
 use Rattle.std.specs.Prelude.{nat_eq, nat_lt, nat_le, None}
 use Rattle.std.specs.List.{remove}
-use Rattle.std.proofs.lemmas.Bool.{and_parts, cases_eq, eqb-true, lt-ltb, le-leb}
-use Rattle.std.proofs.lemmas.List.{drop_more, length-set, set-set, set-get_or, get_or-set_same, get_or-set_other}
+use Rattle.std.proofs.lemmas.Bool.{and_parts, cases_eq, eq-eqb, eqb-true, lt-ltb, le-leb, true≢false}
+use Rattle.std.proofs.lemmas.List.{drop_all, drop_more, length-set, set-set, set-get_or, get_or-set_same, get_or-set_other}
 use Rattle.nd_shape_and_slice.specs.Shape.{in_box, size_of, HasCheckedSize, nonzero_product}
 use Rattle.nd_shape_and_slice.specs.Broadcast.{axes_added, broadcasts, stretches}
 use Rattle.nd_layout.proofs.GrowthCases.{zero_factor}
@@ -25,6 +25,40 @@ stretches_long (m ∷ ms) (n ∷ to) h = ap suc (stretches_long ms to (and_parts
 -- one axis more
 pub stretched_more : (ms to : List ℕ) (k : ℕ) → k < length ms → length ms ≡ length to → stretches (drop k ms) (drop k to) ≡ ((eqb (get_or ms k 0) (get_or to k 0) || eqb (get_or ms k 0) 1) && stretches (drop (k + 1) ms) (drop (k + 1) to))
 stretched_more ms to k below long = (λ i. stretches (drop_more ms k 0 below i) (drop_more to k 0 (omega (arith, below, long)) i))
+
+pub fits_as_it_is : (m n : ℕ) → m ≡ n → (eqb m n || eqb m 1) ≡ true
+fits_as_it_is m n same = ap (λ b. b || eqb m 1) (eq-eqb m n same)
+
+pub fits_as_one : (m n : ℕ) → m ≡ 1 → (eqb m n || eqb m 1) ≡ true
+fits_as_one m n one = either (eqb m n) (eqb m 1) (eq-eqb m 1 one)
+  where
+    either : (b c : Bool) → c ≡ true → (b || c) ≡ true
+    either true c h = refl
+    either false c h = h
+
+pub stretched_next : (ms to : List ℕ) (k : ℕ) (all : Bool) → k < length ms → length ms ≡ length to → (eqb (get_or ms k 0) (get_or to k 0) || eqb (get_or ms k 0) 1) ≡ true
+    → stretches (drop k ms) (drop k to) ≡ all → stretches (drop (k + 1) ms) (drop (k + 1) to) ≡ all
+stretched_next ms to k all below long fits so_far = sym (stretched_more ms to k below long ∙ ap (λ b. b && stretches (drop (k + 1) ms) (drop (k + 1) to)) fits) ∙ so_far
+
+pub not_stretched : (ms to : List ℕ) (k n : ℕ) → k < length ms → length ms ≡ length to → n ≡ get_or to k 0 → ¬ (get_or ms k 0 ≡ n) → ¬ (get_or ms k 0 ≡ 1) → stretches (drop k ms) (drop k to) ≡ true → ⊥
+not_stretched ms to k n below long is apart above h = by_test (eqb m t) refl (and_parts (eqb m t || eqb m 1) (stretches (drop (k + 1) ms) (drop (k + 1) to)) (sym (stretched_more ms to k below long) ∙ h)).0
+  where
+    m : ℕ
+    m = get_or ms k 0
+
+    t : ℕ
+    t = get_or to k 0
+
+    by_test : (b : Bool) → eqb m t ≡ b → (b || eqb m 1) ≡ true → ⊥
+    by_test true e fits = apart (eqb-true m t e ∙ sym is)
+    by_test false e fits = above (eqb-true m 1 fits)
+
+pub stretched_all : (ms to : List ℕ) (k : ℕ) → length ms ≤ k → length ms ≡ length to → stretches (drop k ms) (drop k to) ≡ stretches ms to → stretches ms to ≡ true
+stretched_all ms to k all long so_far = sym so_far ∙ (λ i. stretches (drop_all k ms all i) (drop_all k to (omega (arith, all, long)) i))
+
+pub some_axes : (n : ℕ) → eqb n 0 ≡ false → 0 < n
+some_axes zero none = absurd (true≢false none)
+some_axes (suc n) none = omega arith
 
 -- a shape without elements stretches to none with any
 stretched_none : (ms to : List ℕ) → stretches ms to ≡ true → size_of ms ≡ 0 → size_of to ≡ 0

@@ -1,5 +1,5 @@
 //! New arrays: of a vector's elements, of what an iterator gives, and of one value at every index.
-#![tactic(auto, unfolding(crate::specs::Meaning::meaning_of, crate::specs::Meaning::memory_layout_of))]
+#![tactic(auto)]
 
 ghost use Rattle.std.specs.Prelude.{◌≡◌, ◌<◌, [], ◌∷◌, length, replicate, IfOk, OnErr, vec_len, vec_capacity};
 ghost use Rattle.std.specs.Iterator.{IsFiniteIterable};

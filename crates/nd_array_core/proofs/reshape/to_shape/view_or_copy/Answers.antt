@@ -1,3 +1,4 @@
+use Rattle.std.proofs.Common.{refl}
 use Rattle.std.proofs.lemmas.Bool.{false≢true}
 use Rattle.nd_array_core.specs.reshape.Either.{NotCopied}
 use Rattle.nd_array_core.proofs.law_lemmas.EitherShown.{ranks_shown}
@@ -8,3 +9,24 @@ returns-in-Err-clause-refused g c = NotCopied c.requires.shape (λ serve. false�
 
 pub returns-in-Ok-clause-shown : goal.returns-in-Ok-clause-shown
 returns-in-Ok-clause-shown g c = ranks_shown c.args.array.now c.args.order (g.E.Dimension.lengths c.args.dim) c.in-Ok.copy c.in-Ok.ensures.ranks
+
+pub copied_in-requires-clause-shape : goal.copied_in-requires-clause-shape
+copied_in-requires-clause-shape g c = c.requires.shape
+
+pub copied_in-requires-clause-clones : goal.copied_in-requires-clause-clones
+copied_in-requires-clause-clones g c = c.requires.clones (λ serve. false≢true (c.in-None.ensures.some.1 serve))
+
+pub returns-in-Some-clause-kind : goal.returns-in-Some-clause-kind
+returns-in-Some-clause-kind g c = (c.in-Some.ensures.some.0 refl, c.in-Some.ensures.shows)
+
+pub returns-in-Some-clause-serves : goal.returns-in-Some-clause-serves
+returns-in-Some-clause-serves g c serve = refl
+
+pub returns-in-Ok-clause-kind : goal.returns-in-Ok-clause-kind
+returns-in-Ok-clause-kind g c = ((λ serve. false≢true (c.in-None.ensures.some.1 serve)), c.in-Ok.ensures.owns, c.in-Ok.ensures.ranks)
+
+pub returns-in-Ok-clause-serves : goal.returns-in-Ok-clause-serves
+returns-in-Ok-clause-serves g c serve = absurd (false≢true (c.in-None.ensures.some.1 serve))
+
+pub returns-in-Err-clause-serves : goal.returns-in-Err-clause-serves
+returns-in-Err-clause-serves g c serve = absurd (false≢true (c.in-None.ensures.some.1 serve))

@@ -3,8 +3,37 @@ use Rattle.nd_shape_and_slice.specs.Shape.{in_box}
 use Rattle.nd_array_core.specs.Coordinates.{IsCell}
 use Rattle.nd_array_core.specs.Meaning.{element_at}
 use Rattle.nd_elements.specs.FreeOrder.{AnswersIndex}
+use Rattle.nd_array_core.specs.base.Fresh.{OwnsInOrder}
+use Rattle.nd_array_core.specs.base.Makers.{OwnsAnswersAlike, ShowsAnswers}
 use Rattle.nd_array_core.proofs.base_lemmas.Cells.{cells_settled}
 use Rattle.nd_array_core.proofs.base.from_shape_fn.Array+A+D.from_shape_fn.Goals as goal
+
+pub of_answers-requires-clause-checked : goal.of_answers-requires-clause-checked
+of_answers-requires-clause-checked g c =
+    let lengths : g.D.Dimension.lengths c.raw_dim.result.now ≡ g.Sh.ShapeBuilder.builds_lengths c.args.shape = ap g.D.Dimension.lengths c.raw_dim.ensures ∙ c.into_shape_with_order-shape.ensures.lengths in
+    rw lengths c.requires.checked
+
+pub of_answers-requires-clause-callable : goal.of_answers-requires-clause-callable
+of_answers-requires-clause-callable g c =
+    let lengths : g.D.Dimension.lengths c.raw_dim.result.now ≡ g.Sh.ShapeBuilder.builds_lengths c.args.shape = ap g.D.Dimension.lengths c.raw_dim.ensures ∙ c.into_shape_with_order-shape.ensures.lengths in
+    rw lengths c.requires.callable
+
+pub returns-clause-owns : goal.returns-clause-owns
+returns-clause-owns g c =
+    let lengths : g.D.Dimension.lengths c.raw_dim.result.now ≡ g.Sh.ShapeBuilder.builds_lengths c.args.shape = ap g.D.Dimension.lengths c.raw_dim.ensures ∙ c.into_shape_with_order-shape.ensures.lengths in
+    let order : c.order.result ≡ g.Sh.ShapeBuilder.builds_order c.args.shape = c.order.ensures ∙ c.into_shape_with_order-shape.ensures.order in
+    subst (λ built. OwnsInOrder built c.of_answers.result) (λ k. (lengths k, order k)) c.of_answers.ensures.owns
+
+pub returns-clause-visits : goal.returns-clause-visits
+returns-clause-visits g c =
+    let lengths : g.D.Dimension.lengths c.raw_dim.result.now ≡ g.Sh.ShapeBuilder.builds_lengths c.args.shape = ap g.D.Dimension.lengths c.raw_dim.ensures ∙ c.into_shape_with_order-shape.ensures.lengths in
+    subst (λ ns. ShowsAnswers g.F.FnMut g.D.IntoPattern.pattern_lengths ns c.args.f c.of_answers.result) lengths c.of_answers.ensures.visits
+
+pub returns-clause-alike : goal.returns-clause-alike
+returns-clause-alike g c =
+    let lengths : g.D.Dimension.lengths c.raw_dim.result.now ≡ g.Sh.ShapeBuilder.builds_lengths c.args.shape = ap g.D.Dimension.lengths c.raw_dim.ensures ∙ c.into_shape_with_order-shape.ensures.lengths in
+    let order : c.order.result ≡ g.Sh.ShapeBuilder.builds_order c.args.shape = c.order.ensures ∙ c.into_shape_with_order-shape.ensures.order in
+    subst (λ built. OwnsAnswersAlike g.F.FnMut g.D.IntoPattern.pattern_lengths built c.args.f c.of_answers.result) (λ k. (lengths k, order k)) c.of_answers.ensures.alike
 
 pub returns-clause-cells : goal.returns-clause-cells
 returns-clause-cells g c rows columns cell is by row column r s =

@@ -1,4 +1,5 @@
 use Rattle.std.proofs.Common.{◌≡◌, ◌∙◌, ℕ, List, refl, sym, OnOk, OnErr}
+use Rattle.std.proofs.lemmas.Bool.{true≢false}
 use Rattle.nd_shape_and_slice.specs.Broadcast.{broadcast_index}
 use Rattle.nd_layout.specs.Placements.{placement_of, as_placement}
 use Rattle.nd_layout.specs.Steps.{IsViewStep}
@@ -10,6 +11,19 @@ use Rattle.nd_elements.proofs.Assigned.{on_ok, on_err, old_or_same}
 use Rattle.nd_elements.proofs.SamePlaces.{seen_holds, seen_element}
 use Rattle.nd_array_core.proofs.elements_lemmas.CloneRefusals.{inside_some, refused_alike}
 use Rattle.nd_array_core.proofs.elements.assign.ArrayBase+S+D.assign.Goals as goal
+
+pub unreachable-requires : goal.unreachable-requires
+unfolding meaning_of
+unreachable-requires g c = true≢false (sym c.requires.broadcasts ∙ (c.in-None.ensures {u = tt}).none.0 refl)
+
+pub assign_layouts-requires-clause-alike : goal.assign_layouts-requires-clause-alike
+assign_layouts-requires-clause-alike g c = c.in-Some.ensures.lengths
+
+pub assign_layouts-requires-clause-apart : goal.assign_layouts-requires-clause-apart
+assign_layouts-requires-clause-apart g c = c.args.self.now.separated g.met.S.DataMut.alone
+
+pub assign_layouts-requires-clause-holds : goal.assign_layouts-requires-clause-holds
+assign_layouts-requires-clause-holds g c = c.args.self.now.inside
 
 pub assign_layouts-requires-clause-others_hold : goal.assign_layouts-requires-clause-others_hold
 assign_layouts-requires-clause-others_hold g c = seen_holds (g.Z.Data.stored c.args.rhs.now.storage) c.in-Some.ensures.seen c.args.rhs.now.inside

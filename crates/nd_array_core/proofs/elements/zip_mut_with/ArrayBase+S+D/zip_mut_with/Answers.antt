@@ -1,4 +1,5 @@
-use Rattle.std.proofs.Common.{refl, sym, subst}
+use Rattle.std.proofs.Common.{◌∙◌, refl, sym, subst}
+use Rattle.std.proofs.lemmas.Bool.{true≢false}
 use Rattle.std.proofs.Math.Path.{fun_ext}
 use Rattle.nd_shape_and_slice.specs.Broadcast.{broadcast_index}
 use Rattle.nd_layout.specs.Placements.{placement_of, as_placement}
@@ -10,6 +11,19 @@ use Rattle.nd_elements.specs.elements.Pairs.{ZippableInAnyOrder, ZipsAll}
 use Rattle.nd_elements.proofs.Paired.{zips_settled}
 use Rattle.nd_elements.proofs.SamePlaces.{seen_holds, seen_element}
 use Rattle.nd_array_core.proofs.elements.zip_mut_with.ArrayBase+S+D.zip_mut_with.Goals as goal
+
+pub unreachable-requires : goal.unreachable-requires
+unfolding meaning_of
+unreachable-requires g c = true≢false (sym c.requires.broadcasts ∙ (c.in-None.ensures {u = tt}).none.0 refl)
+
+pub zip_layouts-requires-clause-alike : goal.zip_layouts-requires-clause-alike
+zip_layouts-requires-clause-alike g c = c.in-Some.ensures.lengths
+
+pub zip_layouts-requires-clause-apart : goal.zip_layouts-requires-clause-apart
+zip_layouts-requires-clause-apart g c = c.args.self.now.separated g.met.S.DataMut.alone
+
+pub zip_layouts-requires-clause-holds : goal.zip_layouts-requires-clause-holds
+zip_layouts-requires-clause-holds g c = c.args.self.now.inside
 
 pub zip_layouts-requires-clause-others_hold : goal.zip_layouts-requires-clause-others_hold
 zip_layouts-requires-clause-others_hold g c = seen_holds (g.Z.Data.stored c.args.rhs.now.storage) c.in-Some.ensures.seen c.args.rhs.now.inside

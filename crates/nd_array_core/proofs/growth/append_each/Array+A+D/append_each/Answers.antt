@@ -1,4 +1,4 @@
-use Rattle.std.proofs.Common.{◌≡◌, ◌+◌, ◌≤◌, get_or, length, take, ap, sym, subst, ◌∙◌, arith, refl}
+use Rattle.std.proofs.Common.{◌≡◌, ℕ, ◌+◌, ◌<◌, ◌≤◌, List, [], get_or, length, map, take, ap, sym, subst, ◌∙◌, arith, refl}
 use Rattle.std.proofs.lemmas.List.{length-map, length-set, take_all}
 use Rattle.nd_shape_and_slice.specs.Shape.{in_box, HasCheckedSize}
 use Rattle.nd_array_core.specs.Joined.{concatenated}
@@ -7,6 +7,7 @@ use Rattle.nd_array_core.specs.Meaning.{meaning_of, shape_of, storage_of}
 use Rattle.nd_elements.specs.Clones.{ClonesOfAllAreEqual}
 use Rattle.nd_elements.specs.Storages.{room_of, stored_list}
 use Rattle.nd_layout.specs.Growth.{grown_shape}
+use Rattle.nd_array_core.specs.Part.{BecomesWhole}
 use Rattle.nd_array_core.specs.growth.Appended.{FitsBehind, IsAppendRefused}
 use Rattle.nd_array_core.specs.growth.Grown.{BecomesReady, IsGrownBy, IsNotForMemory, KeepsRoom, LeavesRoom}
 use Rattle.nd_array_core.specs.growth.InTurn.{joined_in_turn, lengths_along, meanings_of, IsGrownInTurn}
@@ -16,10 +17,22 @@ use Rattle.nd_array_core.proofs.growth_lemmas.GrownArrays.{room_within}
 use Rattle.nd_array_core.proofs.growth_lemmas.JoinedInTurn.{all_fit, each_mapped, in_box-grown, joined_more, lengths_more, lengths_within, mapped_get, none_fit, one_more_fits, only_memory, shape_in_turn, take_next, turn_alike}
 use Rattle.nd_array_core.proofs.growth.append_each.Array+A+D.append_each.Goals as goal
 
+nothing_there : {X : Type 0} (xs : List X) (nth : ℕ) → nth < length xs → xs ≡ [] → ⊥
+nothing_there xs nth below none = omega (arith, below, ap length none)
+
+first_there : {X : Type 0} (xs : List X) (nth : ℕ) → nth ≤ length xs → xs ≡ [] → nth ≡ 0
+first_there xs nth below none = omega (arith, below, ap length none)
+
+all_taken : {X Y : Type 0} (f : X → Y) (xs : List X) (nth : ℕ) → length xs ≤ nth → take nth (map f xs) ≡ map f xs
+all_taken f xs nth all = take_all nth (map f xs) (omega (arith, length-map xs f, all))
+
 pub loop-nth-init : goal.loop-nth-init
 loop-nth-init g c =
     let old = c.args.self.now in
     (c.requires.axis, refl, goes_nowhere c.args.axis.0 old, (λ _. omega arith), (λ _. leaves_none c.args.axis.0 old), (λ still. still), (λ some. absurd (omega (arith, some))), refl, none_fit c.args.axis.0 (shape_of old) (meanings_of c.args.arrays.now), (λ _. refl))
+
+pub append-requires-clause-axis : goal.append-requires-clause-axis
+append-requires-clause-axis g c = c.loop-nth.invariant.0
 
 pub append-requires-clause-clones : goal.append-requires-clause-clones
 append-requires-clause-clones g c =
@@ -37,6 +50,12 @@ returns-in-Err-clause-refused g c =
       subst (λ m. IsAppendRefused m.shape (meaning_of x).shape axis c.in-Err.refused) (sym c.in-Err.ensures.kept)
           (subst (λ s. IsAppendRefused (meaning_of c.loop-nth.self).shape s axis c.in-Err.refused) c.view.ensures.whole.0 c.in-Err.ensures.refused),
     )
+
+pub returns-in-Err-clause-none : goal.returns-in-Err-clause-none
+returns-in-Err-clause-none g c none = absurd (nothing_there c.args.arrays.now c.loop-nth.nth c.loop-nth-test.true none)
+
+pub returns-in-Err-clause-unchanged : goal.returns-in-Err-clause-unchanged
+returns-in-Err-clause-unchanged g c none = absurd (nothing_there c.args.arrays.now c.loop-nth.nth c.loop-nth-test.true none)
 
 pub returns-in-Err-clause-kept : goal.returns-in-Err-clause-kept
 returns-in-Err-clause-kept g c = c.in-Err.ensures.kept ∙ c.loop-nth.invariant.1
@@ -164,3 +183,27 @@ returns-clause-plain g c alike =
     c.loop-nth.invariant.1
     ∙ (ap (joined_in_turn axis (meaning_of old)) (take_all c.loop-nth.nth ms all)
     ∙ turn_alike axis (meaning_of old) ms c.requires.axis (each_mapped (λ a. meaning_of a) NothingOutside c.args.arrays.now (λ x i outside. rw outside refl)) alike)
+
+pub returns-clause-joined : goal.returns-clause-joined
+returns-clause-joined g c =
+    c.loop-nth.invariant.1 ∙ ap (joined_in_turn c.args.axis.0 (meaning_of c.args.self.now)) (all_taken (λ a. meaning_of a) c.args.arrays.now c.loop-nth.nth c.loop-nth-test.false)
+
+pub returns-clause-none : goal.returns-clause-none
+returns-clause-none g c none = refl
+
+pub returns-clause-unchanged : goal.returns-clause-unchanged
+returns-clause-unchanged g c none =
+    subst (BecomesWhole c.args.self.now) (sym (c.loop-nth.invariant.9 (first_there c.args.arrays.now c.loop-nth.nth c.loop-nth.auto.nth-end none)))
+    ((refl, refl, (λ i. refl), (λ i. refl), refl), refl)
+
+pub returns-clause-goes_on : goal.returns-clause-goes_on
+returns-clause-goes_on g c = c.loop-nth.invariant.2
+
+pub returns-clause-room : goal.returns-clause-room
+returns-clause-room g c = c.loop-nth.invariant.3
+
+pub returns-clause-ready : goal.returns-clause-ready
+returns-clause-ready g c = subst (λ xs. BecomesReady c.args.axis.0 (lengths_along c.args.axis.0 xs) c.args.self.now c.loop-nth.self) (all_taken (λ a. meaning_of a) c.args.arrays.now c.loop-nth.nth c.loop-nth-test.false) c.loop-nth.invariant.6
+
+pub returns-clause-laid : goal.returns-clause-laid
+returns-clause-laid g c = subst (λ xs. IsGrownInTurn c.args.axis.0 xs c.args.self.now c.loop-nth.self) (all_taken (λ a. meaning_of a) c.args.arrays.now c.loop-nth.nth c.loop-nth-test.false) c.loop-nth.invariant.7

@@ -1,5 +1,8 @@
-use Rattle.std.proofs.Common.{◌∙◌}
+use Rattle.std.proofs.Common.{ℕ, List, ◌∙◌, subst, sym}
+use Rattle.std.specs.Prelude.{IfErr, IfOk}
+use Rattle.nd_shape_and_slice.specs.declared.builder.Order.{Order}
 use Rattle.nd_array_core.specs.Meaning.{shape_of, layout_strides}
+use Rattle.nd_array_core.specs.reshape.Either.{CopiesAreEqual, IsViewIfServed, RefusesReshape, ShowsRegrouped, ViewsOrCopies}
 use Rattle.nd_array_core.proofs.reshape_lemmas.ServedStrides.{size_refused}
 use Rattle.nd_array_core.proofs.reshape.to_shape.ArrayBase+S+D.to_shape.Goals as goal
 
@@ -7,3 +10,28 @@ pub returns-else-has_size-clause-refused : goal.returns-else-has_size-clause-ref
 returns-else-has_size-clause-refused g c =
     size_refused (g.E.ShapeArg.order_asked c.args.shape) (shape_of c.args.self.now) (layout_strides c.args.self.now) (g.E.ShapeArg.shape_asked c.args.shape) c.slice.result.now c.len.result c.has_size.result c.from_kind.result
     (c.slice.ensures.lengths ∙ c.into_shape_and_order-dim.ensures.lengths) c.len.ensures.value c.has_size.ensures c.if-has_size.false c.from_kind.ensures
+
+pub view_or_copy-requires-clause-clones : goal.view_or_copy-requires-clause-clones
+view_or_copy-requires-clause-clones g c =
+    let asked = c.into_shape_and_order-dim.ensures in
+    subst (λ (p : Order × List ℕ). CopiesAreEqual g.S.Elem.Clone.is_clone c.args.self.now p.0 p.1) (λ k. (sym asked.order k, sym asked.lengths k)) c.requires.clones
+
+pub returns-then-has_size-clause-refused : goal.returns-then-has_size-clause-refused
+returns-then-has_size-clause-refused g c =
+    let asked = c.into_shape_and_order-dim.ensures in
+    subst (λ (p : Order × List ℕ). IfErr c.view_or_copy.result (RefusesReshape c.args.self.now p.0 p.1)) (λ k. (asked.order k, asked.lengths k)) c.view_or_copy.ensures.refused
+
+pub returns-then-has_size-clause-kind : goal.returns-then-has_size-clause-kind
+returns-then-has_size-clause-kind g c =
+    let asked = c.into_shape_and_order-dim.ensures in
+    subst (λ (p : Order × List ℕ). IfOk c.view_or_copy.result (ViewsOrCopies c.args.self.now p.0 p.1)) (λ k. (asked.order k, asked.lengths k)) c.view_or_copy.ensures.kind
+
+pub returns-then-has_size-clause-shown : goal.returns-then-has_size-clause-shown
+returns-then-has_size-clause-shown g c =
+    let asked = c.into_shape_and_order-dim.ensures in
+    subst (λ (p : Order × List ℕ). IfOk c.view_or_copy.result (ShowsRegrouped c.args.self.now p.0 p.1)) (λ k. (asked.order k, asked.lengths k)) c.view_or_copy.ensures.shown
+
+pub returns-then-has_size-clause-serves : goal.returns-then-has_size-clause-serves
+returns-then-has_size-clause-serves g c _ =
+    let asked = c.into_shape_and_order-dim.ensures in
+    subst (λ (p : Order × List ℕ). IsViewIfServed c.args.self.now p.0 p.1 c.view_or_copy.result) (λ k. (asked.order k, asked.lengths k)) c.view_or_copy.ensures.serves
