@@ -99,7 +99,6 @@ impl<S: Data, D: Dimension> ArrayBase<S, D> {
     }
 
     /// The view with the axes in the opposite order. ndarray's `t`.
-    #[tactic(auto, using(crate::proofs::law_lemmas::LawProofs::transposed_pair), unfolding(crate::specs::Meaning::meaning_of, crate::specs::Meaning::memory_layout_of))]
     #[inline]
     pub fn t(&self) -> ArrayView<'_, S::Elem, D>
         ensures part { ShowsPart self.now (reversed_part self.now) result }
