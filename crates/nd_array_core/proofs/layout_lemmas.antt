@@ -1,4 +1,5 @@
 pub mod StepLemmas
 pub mod Parted
 pub mod ListParts
-pub mod Whole
+pub mod Shown
+pub mod StepFrom

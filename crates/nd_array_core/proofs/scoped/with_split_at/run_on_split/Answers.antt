@@ -1,4 +1,4 @@
-use Rattle.std.proofs.Common.{ap, sym, ◌∙◌}
+use Rattle.std.proofs.Common.{ℕ, Bool, ap, sym, ◌∙◌, subst}
 use Rattle.nd_region.specs.Places.{names, names_not}
 use Rattle.nd_region.specs.Region.{region_stored, IsPartWhere}
 use Rattle.nd_region.proofs.Splits.{named_once}
@@ -14,8 +14,8 @@ split_with-answer-requires-clause-callable g c x y is_x is_y =
     let offset' = c.args.two.offset in
     let ns' = g.E.Dimension.lengths c.args.two.dim in
     let ss' = g.E.Strides.StrideList.strides_of c.args.two.strides in
-    let part : IsPartWhere (names offset ns ss) r x = rw (c.slice.ensures.lengths, c.slice-2.ensures) at is_x in
-    let rest : IsPartWhere (names_not offset ns ss) r y = rw (c.slice.ensures.lengths, c.slice-2.ensures) at is_y in
+    let part : IsPartWhere (names offset ns ss) r x = subst (λ (g : ℕ → Bool). IsPartWhere g r x) (λ k. names offset (c.slice.ensures.lengths k) (c.slice-2.ensures k)) is_x in
+    let rest : IsPartWhere (names_not offset ns ss) r y = subst (λ (g : ℕ → Bool). IsPartWhere g r y) (λ k. names_not offset (c.slice.ensures.lengths k) (c.slice-2.ensures k)) is_y in
     let one = part_agrees offset ns ss r x part in
     let two = rest_agrees offset ns ss r y offset' ns' ss' c.requires.apart rest in
     rw (c.copied-lent.ensures.offset, c.copied-lent.ensures.lengths, c.copied-lent.ensures.strides)
@@ -30,20 +30,22 @@ returns-clause-done g c =
     let offset' = c.args.two.offset in
     let ns' = g.E.Dimension.lengths c.args.two.dim in
     let ss' = g.E.Strides.StrideList.strides_of c.args.two.strides in
-    let e = rw (c.slice.ensures.lengths, c.slice-2.ensures, c.copied-lent.ensures.offset, c.copied-lent.ensures.lengths, c.copied-lent.ensures.strides) at c.split_with-answer.ensures in
+    let e = c.split_with-answer.ensures in
     let x = e.0 in
     let y = e.1 in
     let s = e.2 in
     let t = e.3 in
+    let part : IsPartWhere (names offset ns ss) r x = subst (λ (g : ℕ → Bool). IsPartWhere g r x) (λ k. names offset (c.slice.ensures.lengths k) (c.slice-2.ensures k)) e.4 in
+    let rest : IsPartWhere (names_not offset ns ss) r y = subst (λ (g : ℕ → Bool). IsPartWhere g r y) (λ k. names_not offset (c.slice.ensures.lengths k) (c.slice-2.ensures k)) e.5 in
     let post = e.6.2 in
     let g' = names offset ns ss in (
       region_stored x,
       region_stored y,
       region_stored s,
       region_stored t,
-      part_agrees offset ns ss r x e.4,
-      rest_agrees offset ns ss r y offset' ns' ss' c.requires.apart e.5,
-      post.1.1,
-      λ p named. first_back g' r x y s t e.4 e.5 post.0 post.1.0 e.8 e.9 p named ∙ ap (λ q. region_stored q p) (sym e.7),
-      λ p named. second_back g' r x y s t e.4 e.5 post.0 post.1.0 e.8 e.9 p (named_once offset ns ss offset' ns' ss' c.requires.apart p named) ∙ ap (λ q. region_stored q p) (sym e.7),
+      part_agrees offset ns ss r x part,
+      rest_agrees offset ns ss r y offset' ns' ss' c.requires.apart rest,
+      (rw (c.copied-lent.ensures.offset, c.copied-lent.ensures.lengths, c.copied-lent.ensures.strides) at post.1.1),
+      λ p named. first_back g' r x y s t part rest post.0 post.1.0 e.8 e.9 p named ∙ ap (λ q. region_stored q p) (sym e.7),
+      λ p named. second_back g' r x y s t part rest post.0 post.1.0 e.8 e.9 p (named_once offset ns ss offset' ns' ss' c.requires.apart p named) ∙ ap (λ q. region_stored q p) (sym e.7),
     )

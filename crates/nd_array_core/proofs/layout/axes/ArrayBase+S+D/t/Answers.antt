@@ -1,17 +1,16 @@
-use Rattle.std.proofs.Common.{◌∙◌, [], ◌∷◌, reverse}
-use Rattle.nd_array_core.specs.Meaning.{meaning_of}
-use Rattle.nd_array_core.specs.Part.{reversed_part}
+use Rattle.std.proofs.Common.{[], ◌∷◌, ◌∙◌, reverse}
+use Rattle.nd_shape_and_slice.specs.Place.{place_of}
+use Rattle.nd_elements.specs.Places.{stored_at}
+use Rattle.nd_array_core.specs.Meaning.{meaning_of, memory_layout_of}
 use Rattle.nd_array_core.proofs.law_lemmas.LawProofs.{transposed_pair}
-use Rattle.nd_array_core.proofs.layout_lemmas.Whole.{shown_through}
+use Rattle.nd_array_core.proofs.layout_lemmas.Shown.{shown_through}
 use Rattle.nd_array_core.proofs.layout.axes.ArrayBase+S+D.t.Goals as goal
 
 pub returns-clause-part : goal.returns-clause-part
-returns-clause-part g c =
-    let whole = c.view.ensures.whole in
-    shown_through c.args.self.now c.view.result c.reversed_axes.result (reversed_part c.view.result) (reversed_part c.args.self.now)
-    (λ k. record { shape = reverse (whole.0 k); strides = reverse (whole.1 k); source = reverse })
-    whole c.reversed_axes.ensures.part.0
+returns-clause-part g c = shown_through (λ ns ss. record { shape = reverse ns; strides = reverse ss; source = reverse }) c.view.ensures.whole c.reversed_axes.ensures.part.0
 
 pub returns-clause-elements : goal.returns-clause-elements
-unfolding meaning_of
-returns-clause-elements g c row column = (returns-clause-part g c).2 (row ∷ column ∷ []) ∙ transposed_pair (g.D.Dimension.lengths c.args.self.now.layout.dim) row column _
+unfolding meaning_of memory_layout_of
+returns-clause-elements g c row column =
+    let old = c.args.self.now in let ns = g.D.Dimension.lengths old.layout.dim in let ss = g.D.Strides.StrideList.strides_of old.layout.strides in
+    (returns-clause-part g c).2 (row ∷ column ∷ []) ∙ transposed_pair ns row column (stored_at (g.S.Data.stored old.storage) (place_of old.layout.offset ss (column ∷ row ∷ [])))

@@ -3,6 +3,14 @@ use Rattle.nd_array_core.specs.Meaning.{meaning_of, memory_layout_of}
 use Rattle.nd_array_core.proofs.tasks.PartTask.{part_lies, part_lent, part_stays, part_kept, part_done}
 use Rattle.nd_array_core.proofs.scoped.with_slice_mut.ArrayBase+S+D.with_slice_axis_mut.Goals as goal
 
+pub sliced_on-layout-requires-clause-on : goal.sliced_on-layout-requires-clause-on
+unfolding meaning_of
+sliced_on-layout-requires-clause-on g c = c.requires.axis
+
+pub sliced_on-layout-requires-clause-fits : goal.sliced_on-layout-requires-clause-fits
+unfolding meaning_of
+sliced_on-layout-requires-clause-fits g c = c.requires.fits
+
 pub with_placement-requires-clause-sound : goal.with_placement-requires-clause-sound
 with_placement-requires-clause-sound g c = part_lies c.args.self.now c.sliced_on-layout.ensures.step g.met.S.DataMut.alone
 

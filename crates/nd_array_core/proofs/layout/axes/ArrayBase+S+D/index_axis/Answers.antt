@@ -1,0 +1,16 @@
+use Rattle.std.specs.List.{remove}
+use Rattle.nd_shape_and_slice.specs.Maps.{indexed_shape, indexed_index}
+use Rattle.nd_array_core.proofs.layout_lemmas.Shown.{shown_through}
+use Rattle.nd_array_core.proofs.layout.axes.ArrayBase+S+D.index_axis.Goals as goal
+
+pub index_axis_move-requires-clause-axis : goal.index_axis_move-requires-clause-axis
+index_axis_move-requires-clause-axis g c = rw c.view.ensures.whole.0 c.requires.axis
+
+pub index_axis_move-requires-clause-within : goal.index_axis_move-requires-clause-within
+index_axis_move-requires-clause-within g c = rw c.view.ensures.whole.0 c.requires.within
+
+pub returns : goal.returns
+returns g c =
+    let axis = c.args.axis.0 in record {
+      part = shown_through (λ ns ss. record { shape = indexed_shape ns axis; strides = remove ss axis; source = indexed_index axis c.args.index }) c.view.ensures.whole c.index_axis_move.ensures.part.0;
+    }

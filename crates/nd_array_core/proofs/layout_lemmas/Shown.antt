@@ -1,0 +1,28 @@
+-- A part of a view that shows a whole array is that part of the array.
+use Rattle.std.proofs.Common.{◌≡◌, ℕ, List, ℤ, ap, ◌∙◌}
+use Rattle.std.specs.Prelude.{Option}
+use Rattle.nd_shape_and_slice.specs.Shape.{size_of}
+use Rattle.nd_elements.specs.Meaning.{inside}
+use Rattle.nd_array_core.specs.Part.{Part}
+
+-- what an array shows is told by its shape, its strides, its offset, and what lies at each index and where
+pub shown_through :
+    {A : Type 0} {ns ns' ms : List ℕ} {ss ss' ts : List ℤ} {offset offset' last : ℕ} {old view new : List ℕ → Option A} {place place' place'' : List ℕ → Option ℕ} (part : List ℕ → List ℤ → Part)
+    → (ns' ≡ ns) × (ss' ≡ ss) × ((i : List ℕ) → view i ≡ old i) × ((i : List ℕ) → place' i ≡ place i) × (offset' ≡ offset)
+    → (ms ≡ (part ns' ss').shape)
+    × (ts ≡ (part ns' ss').strides)
+    × ((i : List ℕ) → new i ≡ inside (part ns' ss').shape i (view ((part ns' ss').source i)))
+    × ((i : List ℕ) → place'' i ≡ inside (part ns' ss').shape i (place' ((part ns' ss').source i)))
+    × (size_of ns' ≡ 0 → last ≡ offset')
+    → (ms ≡ (part ns ss).shape)
+    × (ts ≡ (part ns ss).strides)
+    × ((i : List ℕ) → new i ≡ inside (part ns ss).shape i (old ((part ns ss).source i)))
+    × ((i : List ℕ) → place'' i ≡ inside (part ns ss).shape i (place ((part ns ss).source i)))
+    × (size_of ns ≡ 0 → last ≡ offset)
+shown_through part (shape, strides, same, placed, first) (lengths, steps, shown, lies, empty) = (
+  lengths ∙ (λ k. (part (shape k) (strides k)).shape),
+  steps ∙ (λ k. (part (shape k) (strides k)).strides),
+  (λ i. shown i ∙ (λ k. inside (part (shape k) (strides k)).shape i (same ((part (shape k) (strides k)).source i) k))),
+  (λ i. lies i ∙ (λ k. inside (part (shape k) (strides k)).shape i (placed ((part (shape k) (strides k)).source i) k))),
+  (λ none. empty (ap size_of shape ∙ none) ∙ first),
+)
