@@ -1,104 +1,61 @@
 //! Arrays of what a function returns; the last element; and the vector that an array lies in.
 
-use nd_array_core::Array;
-use nd_shape_and_slice::{Axis, Ix2, IxDyn, ShapeBuilder};
-use nd_test_arrays::{array_of, numbers, rows_listed};
-use std::test::Fail;
+use crate::tables::{inverted, is_table, lies_in, table};
+use nd_array_core::{Array, Array2};
+use nd_shape_and_slice::{Axis, IxDyn, ShapeBuilder};
+use nd_test_arrays::{made, stores};
 
-#[test]
-fn what_a_function_answers(rt: HostRuntime) -> Result<(), Fail> {
-    let table = match Array::from_shape_fn(rt.alloc(), (2, 3), |(row, column)| {
-        if row < column { 1u64 } else { 0 }
-    }) {
-        Ok(table) => table,
-        Err(_) => return Err("memory".into()),
-    };
-    assert_eq!(rt;
-        rows_listed(rt.alloc(), &table)?.as_slice(),
-        [0, 1, 1, 0, 0, 1].as_slice()
-    );
-    assert_eq!(rt;
-        table.into_raw_vec().as_slice(),
-        [0, 1, 1, 0, 0, 1].as_slice()
-    );
-    Ok(())
+/// 1 above the diagonal, and 0 elsewhere.
+fn above_diagonal((row, column): (usize, usize)) -> u64 {
+    if row < column { 1 } else { 0 }
 }
 
 #[test]
-fn what_a_function_answers_in_column_major_order(rt: HostRuntime) -> Result<(), Fail> {
-    let table = match Array::from_shape_fn(rt.alloc(), (2, 3).f(), |(row, column)| {
-        if row < column { 1u64 } else { 0 }
-    }) {
-        Ok(table) => table,
-        Err(_) => return Err("memory".into()),
-    };
-    assert_eq!(rt; table.strides(), [1, 2].as_slice());
-    assert_eq!(rt;
-        rows_listed(rt.alloc(), &table)?.as_slice(),
-        [0, 1, 1, 0, 0, 1].as_slice()
-    );
-    assert_eq!(rt;
-        table.into_raw_vec().as_slice(),
-        [0, 0, 1, 0, 1, 1].as_slice()
-    );
-    Ok(())
+fn what_a_function_answers(rt: HostRuntime) {
+    let table = Array2::from_shape_fn(rt.alloc(), (2, 3), above_diagonal).expect(&rt, "memory");
+    assert!(rt; is_table(&table, [2, 3], &[0, 1, 1, 0, 0, 1]));
+    assert!(rt; stores(table, &[0, 1, 1, 0, 0, 1]));
 }
 
 #[test]
-fn a_function_is_called_once_for_each_index(rt: HostRuntime) -> Result<(), Fail> {
+fn what_a_function_answers_in_column_major_order(rt: HostRuntime) {
+    let shape = (2, 3).f();
+    let table = Array2::from_shape_fn(rt.alloc(), shape, above_diagonal).expect(&rt, "memory");
+    assert!(rt; table.strides() == [1, 2].as_slice());
+    assert!(rt; is_table(&table, [2, 3], &[0, 1, 1, 0, 0, 1]));
+    assert!(rt; stores(table, &[0, 0, 1, 0, 1, 1]));
+}
+
+#[test]
+fn a_function_is_called_once_for_each_index(rt: HostRuntime) {
     let mut calls = 0u64;
-    let counted = match Array::from_shape_simple_fn(rt.alloc(), (2, 2), || {
+    let counted = Array2::from_shape_simple_fn(rt.alloc(), (2, 2), || {
         calls = calls.wrapping_add(1);
         calls
-    }) {
-        Ok(counted) => counted,
-        Err(_) => return Err("memory".into()),
-    };
-    assert_eq!(rt;
-        rows_listed(rt.alloc(), &counted)?.as_slice(),
-        [1, 2, 3, 4].as_slice()
-    );
-    assert_eq!(rt; calls, 4);
-    Ok(())
+    })
+    .expect(&rt, "memory");
+    assert!(rt; is_table(&counted, [2, 2], &[1, 2, 3, 4]) && calls == 4);
 }
 
 #[test]
-fn first_and_last(rt: HostRuntime) -> Result<(), Fail> {
-    let mut array = array_of((2, 2), numbers(rt.alloc(), 1, 4)?)?;
-    array.invert_axis(Axis(0));
-    assert_eq!(rt;
-        (array.first().copied(), array.last().copied()),
-        (Some(3), Some(2))
-    );
-    let none = array_of((2, 0), numbers(rt.alloc(), 0, 0)?)?;
+fn first_and_last(rt: HostRuntime) {
+    let array = inverted(&rt, (2, 2), Axis(0), &[1, 2, 3, 4]);
+    assert!(rt; array.first().copied() == Some(3) && array.last().copied() == Some(2));
+    let none = table(&rt, (2, 0), &[]);
     assert!(rt; none.first().is_none() && none.last().is_none());
-    Ok(())
 }
 
 #[test]
-fn vectors_of_arrays(rt: HostRuntime) -> Result<(), Fail> {
-    let turned = match Array::from_shape_vec(3.strides(&[-1]), numbers(rt.alloc(), 1, 3)?) {
-        Ok(turned) => turned,
-        Err(_) => return Err("shape".into()),
-    };
-    let (items, offset) = turned.into_raw_vec_and_offset();
-    assert_eq!(rt; (items.as_slice(), offset), ([1, 2, 3].as_slice(), Some(2)));
-    let none = match Array::<u64, Ix2>::zeros(rt.alloc(), (2, 0)) {
-        Ok(none) => none,
-        Err(_) => return Err("memory".into()),
-    };
-    let (items, offset) = none.into_raw_vec_and_offset();
-    assert_eq!(rt; (items.len(), offset), (0, None));
-    Ok(())
+fn vectors_of_arrays(rt: HostRuntime) {
+    let turned = made(rt.alloc(), 3.strides(&[-1]), &[1, 2, 3]).expect(&rt, "made");
+    assert!(rt; lies_in(turned, &[1, 2, 3], Some(2)));
+    let none = Array2::zeros(rt.alloc(), (2, 0)).expect(&rt, "memory");
+    assert!(rt; lies_in(none, &[], None));
 }
 
 #[test]
-fn dimensions_of_arrays(rt: HostRuntime) -> Result<(), Fail> {
-    let array = array_of(IxDyn::new(&[2, 3]), numbers(rt.alloc(), 0, 6)?)?;
-    let zeros = match Array::<u64, _>::from_elem(rt.alloc(), array.raw_dim(), 0) {
-        Ok(zeros) => zeros,
-        Err(_) => return Err("memory".into()),
-    };
-    assert_eq!(rt; zeros.shape(), [2, 3].as_slice());
-    Ok(())
+fn dimensions_of_arrays(rt: HostRuntime) {
+    let array = made(rt.alloc(), IxDyn::new(&[2, 3]), &[0, 1, 2, 3, 4, 5]).expect(&rt, "made");
+    let zeros = Array::<u64, _>::from_elem(rt.alloc(), array.raw_dim(), 0).expect(&rt, "memory");
+    assert!(rt; zeros.shape() == [2, 3].as_slice());
 }

@@ -1,50 +1,38 @@
 //! Clones of owned arrays, views made by `From`, and the last element written.
 
-use nd_array_core::{Array, ArrayView, ArrayViewMut, GetMut};
-use nd_shape_and_slice::{Axis, Ix2, ShapeBuilder};
-use nd_test_arrays::{array_of, numbers, rows_listed};
-use std::test::Fail;
+use crate::tables::{inverted, is_table, lies_in, table};
+use nd_array_core::{Array2, ArrayView, ArrayViewMut, GetMut};
+use nd_shape_and_slice::{Axis, ShapeBuilder};
+use nd_test_arrays::made;
 
 #[test]
-fn a_clone_lies_as_its_original_does(rt: HostRuntime) -> Result<(), Fail> {
-    let mut array = array_of((2, 3).f(), numbers(rt.alloc(), 1, 6)?)?;
+#[tactic(auto, using(nd_array_core::proofs::Axes::known_axes))]
+fn a_clone_lies_as_its_original_does(rt: HostRuntime) {
+    let mut array: Array2<u64> = made(rt.alloc(), (2, 3).f(), &[1, 2, 3, 4, 5, 6]).expect(
+        &rt, "made",
+    );
     array.invert_axis(Axis(0));
-    match array.clone() {
-        Ok(copy) => {
-            assert_eq!(rt; copy.strides(), array.strides());
-            let listed = rows_listed(rt.alloc(), &copy)?;
-            assert_eq!(rt; listed.as_slice(), [2, 4, 6, 1, 3, 5].as_slice());
-            let (items, offset) = copy.into_raw_vec_and_offset();
-            assert_eq!(rt;
-                (items.as_slice(), offset),
-                ([1, 2, 3, 4, 5, 6].as_slice(), Some(1))
-            );
-            Ok(())
-        }
-        Err(_) => Err("memory".into()),
-    }
+    let copy = array.clone().expect(&rt, "memory");
+    assert!(rt; copy.strides() == array.strides());
+    assert!(rt; is_table(&copy, [2, 3], &[2, 4, 6, 1, 3, 5]));
+    assert!(rt; lies_in(copy, &[1, 2, 3, 4, 5, 6], Some(1)));
 }
 
 #[test]
-fn views_of_arrays(rt: HostRuntime) -> Result<(), Fail> {
-    let mut array: Array<u64, Ix2> = array_of((2, 2), numbers(rt.alloc(), 1, 4)?)?;
+fn views_of_arrays(rt: HostRuntime) {
+    let mut array = table(&rt, (2, 2), &[1, 2, 3, 4]);
     let seen = ArrayView::from(&array).get([1, 0]).copied();
-    assert_eq!(rt; seen, Some(3));
+    assert!(rt; seen == Some(3));
     assert!(rt; ArrayViewMut::from(&mut array).fill(5).is_ok());
-    assert_eq!(rt; array.get([0, 1]).copied(), Some(5));
-    Ok(())
+    assert!(rt; is_table(&array, [2, 2], &[5, 5, 5, 5]));
 }
 
 #[test]
-fn the_last_element_written(rt: HostRuntime) -> Result<(), Fail> {
-    let mut array = array_of((2, 2), numbers(rt.alloc(), 1, 4)?)?;
-    array.invert_axis(Axis(0));
+fn the_last_element_written(rt: HostRuntime) {
+    let mut array = inverted(&rt, (2, 2), Axis(0), &[1, 2, 3, 4]);
     if let Some(last) = array.last_mut() {
         *last = 9;
     }
-    let listed = rows_listed(rt.alloc(), &array)?;
-    assert_eq!(rt; listed.as_slice(), [3, 4, 1, 9].as_slice());
-    let mut none = array_of((2, 0), numbers(rt.alloc(), 0, 0)?)?;
-    assert!(rt; none.last_mut().is_none());
-    Ok(())
+    let mut none = table(&rt, (2, 0), &[]);
+    assert!(rt; is_table(&array, [2, 2], &[3, 4, 1, 9]) && none.last_mut().is_none());
 }

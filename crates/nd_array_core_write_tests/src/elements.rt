@@ -1,74 +1,78 @@
 //! Elements written by index: replaced, exchanged, and through references to them.
 
-use nd_array_core::{ArrayViewMut, GetMut};
-use nd_shape_and_slice::{Axis, Ix2, ShapeBuilder};
-use nd_test_arrays::{array_of, numbers};
-use std::test::Fail;
+use crate::tables::{inverted, is_table, is_two_by_three, table};
+use nd_array_core::{ArrayBase, ArrayViewMut, DataMut, GetMut};
+use nd_shape_and_slice::{Axis, Dimension, Ix2, ShapeBuilder};
+use nd_test_arrays::made;
 
 #[test]
-fn writes_and_swaps(rt: HostRuntime) -> Result<(), Fail> {
-    let mut array = array_of([2, 3], numbers(rt.alloc(), 0, 6)?)?;
-    assert!(rt; array.ndim() == 2);
-    array.invert_axis(Axis(1));
-    assert!(rt; array.get([0, 0]).is_some() && array.get([1, 2]).is_some());
+fn writes_and_swaps(rt: HostRuntime) {
     // [[2, 1, 0], [5, 4, 3]]
+    let mut array = inverted(&rt, (2, 3), Axis(1), &[0, 1, 2, 3, 4, 5]);
     assert_eq!(rt; array.replace([0, 0], 9), 2);
-    assert!(rt; array.get([0, 0]).is_some() && array.get([1, 2]).is_some());
     array.swap([0, 0], [1, 2]);
-    assert_eq!(rt; array.get([0, 0]).copied(), Some(3));
-    assert_eq!(rt; array.get([1, 2]).copied(), Some(9));
-    assert_eq!(rt; array.get([0, 1]).copied(), Some(1));
-    Ok(())
+    assert!(rt; is_table(&array, [2, 3], &[3, 1, 0, 5, 4, 9]));
+}
+
+/// Puts a number at an index, and returns the old one; None outside.
+pub fn put<A: GetMut<Elem = u64, Dim = Ix2>>(
+    array: &mut A,
+    index: [usize; 2],
+    value: u64,
+) -> Option<u64> {
+    match array.get_mut(index) {
+        Some(element) => {
+            let old = *element;
+            *element = value;
+            Some(old)
+        }
+        None => None,
+    }
 }
 
 #[test]
-fn writes_to_an_owned_array(rt: HostRuntime) -> Result<(), Fail> {
-    let mut array = array_of((2, 3), numbers(rt.alloc(), 1, 6)?)?;
-    assert!(rt; array.ndim() == 2);
-    array.invert_axis(Axis(1));
+fn writes_to_an_owned_array(rt: HostRuntime) {
     // [[3, 2, 1], [6, 5, 4]]
-    *array.get_mut([0, 0]).ok_or("inside")? = 30;
-    assert!(rt; array.get_mut([2, 0]).is_none());
-    assert!(rt; array.get([1, 2]).is_some());
+    let mut array = inverted(&rt, (2, 3), Axis(1), &[1, 2, 3, 4, 5, 6]);
+    assert_eq!(rt; put(&mut array, [0, 0], 30), Some(3));
+    assert!(rt; put(&mut array, [2, 0], 0).is_none() && is_two_by_three(&array));
     array[[1, 2]] = 40;
-    assert!(rt; array.get([1, 0]).is_some());
     *array.uget_mut([1, 0]) = 7;
-    assert!(rt; array.get([0, 1]).is_some() && array.get([1, 1]).is_some());
     array.uswap([0, 1], [1, 1]);
-    assert_eq!(rt; array.get([0, 0]).copied(), Some(30));
-    assert_eq!(rt; array.get([0, 1]).copied(), Some(5));
-    assert_eq!(rt; array.get([0, 2]).copied(), Some(1));
-    assert_eq!(rt; array.get([1, 0]).copied(), Some(7));
-    assert_eq!(rt; array.get([1, 1]).copied(), Some(2));
-    assert_eq!(rt; array.get([1, 2]).copied(), Some(40));
-    Ok(())
+    assert!(rt; is_table(&array, [2, 3], &[30, 5, 1, 7, 2, 40]));
+}
+
+// Puts a number in place of the first element: what that was, whether there was one to write, and what it is then.
+fn put_first<S: DataMut<Elem = u64>, D: Dimension>(
+    array: &mut ArrayBase<S, D>,
+    value: u64,
+) -> (Option<u64>, bool, Option<u64>) {
+    let old = array.first().copied();
+    let written = match array.first_mut() {
+        Some(first) => {
+            *first = value;
+            true
+        }
+        None => false,
+    };
+    (old, written, array.first().copied())
 }
 
 #[test]
-fn writes_the_first_element(rt: HostRuntime) -> Result<(), Fail> {
-    let mut array = array_of((2, 3), numbers(rt.alloc(), 1, 6)?)?;
-    assert!(rt; array.ndim() == 2);
-    array.invert_axis(Axis(1));
+fn writes_the_first_element(rt: HostRuntime) {
     // [[3, 2, 1], [6, 5, 4]]
-    assert_eq!(rt; array.first().copied(), Some(3));
-    *array.first_mut().ok_or("elements")? = 30;
-    assert_eq!(rt; array.first().copied(), Some(30));
-    assert_eq!(rt; array.get([0, 0]).copied(), Some(30));
-    assert_eq!(rt; array.get([0, 1]).copied(), Some(2));
-    let mut none = array_of((2, 0), numbers(rt.alloc(), 1, 0)?)?;
-    assert!(rt; none.first().is_none());
-    assert!(rt; none.first_mut().is_none());
-    let mut point = array_of((), numbers(rt.alloc(), 7, 1)?)?;
-    assert_eq!(rt; point.first().copied(), Some(7));
-    *point.first_mut().ok_or("elements")? = 8;
-    assert_eq!(rt; point.first().copied(), Some(8));
+    let mut array = inverted(&rt, (2, 3), Axis(1), &[1, 2, 3, 4, 5, 6]);
+    assert_eq!(rt; put_first(&mut array, 30), (Some(3), true, Some(30)));
+    assert!(rt; is_table(&array, [2, 3], &[30, 2, 1, 6, 5, 4]));
+    let mut none = table(&rt, (2, 0), &[]);
+    assert_eq!(rt; put_first(&mut none, 30), (None, false, None));
+    let mut point = made(rt.alloc(), (), &[7]).expect(&rt, "made");
+    assert_eq!(rt; put_first(&mut point, 8), (Some(7), true, Some(8)));
     let mut items = [1, 2, 3, 4];
-    let mut view = strided(&mut items, (2, 2), &[2, 1]).ok_or("shape")?;
-    *view.first_mut().ok_or("elements")? = 10;
-    assert_eq!(rt; view.first().copied(), Some(10));
+    let mut view = strided(&mut items, (2, 2), &[2, 1]).expect(&rt, "shape");
+    assert_eq!(rt; put_first(&mut view, 10), (Some(1), true, Some(10)));
     drop(view);
     assert_eq!(rt; items, [10, 2, 3, 4]);
-    Ok(())
 }
 
 // The view of this shape's rows, by strides.
@@ -84,22 +88,19 @@ fn strided<'a>(
 }
 
 #[test]
-fn writes_to_a_view(rt: HostRuntime) -> Result<(), Fail> {
+fn writes_to_a_view(rt: HostRuntime) {
     let mut items = [1, 2, 3, 4, 5, 6, 7, 8];
-    let mut view = strided(&mut items, (2, 2), &[4, -1]).ok_or("shape")?;
+    let mut view = strided(&mut items, (2, 2), &[4, -1]).expect(&rt, "shape");
     // [[2, 1], [6, 5]]
-    assert_eq!(rt; view.get([1, 0]).copied(), Some(6));
-    *view.get_mut([1, 0]).ok_or("inside")? = 60;
-    assert!(rt; view.get_mut([0, 2]).is_none());
-    assert!(rt; view.get([0, 1]).is_some());
+    assert_eq!(rt; put(&mut view, [1, 0], 60), Some(6));
+    assert!(rt; put(&mut view, [0, 2], 0).is_none() && view.get([0, 1]).is_some());
     view[[0, 1]] = 10;
-    *nd_array_core::IndexLonger::get(view, [0, 0]).ok_or("inside")? = 20;
+    *nd_array_core::IndexLonger::get(view, [0, 0]).expect(&rt, "inside") = 20;
     assert_eq!(rt; items, [10, 20, 3, 4, 5, 60, 7, 8]);
-    let mut again = strided(&mut items, (2, 2), &[1, 4]).ok_or("shape")?;
+    let mut again = strided(&mut items, (2, 2), &[1, 4]).expect(&rt, "shape");
     assert!(rt; again.get([1, 1]).is_some());
     *nd_array_core::IndexLonger::index(again, [1, 1]) = 61;
-    let none = strided(&mut items, (2, 2), &[1, 4]).ok_or("shape")?;
+    let none = strided(&mut items, (2, 2), &[1, 4]).expect(&rt, "shape");
     assert!(rt; nd_array_core::IndexLonger::get(none, [2, 0]).is_none());
     assert_eq!(rt; items, [10, 20, 3, 4, 5, 61, 7, 8]);
-    Ok(())
 }

@@ -2,11 +2,13 @@
 
 ghost use Rattle.std.specs.Prelude.{ℕ};
 
+use crate::tables::{inverted, lies_in, table};
 use nd_array_core::{Array2, ArrayView2};
 use nd_shape_and_slice::{Axis, ShapeBuilder, Slice};
-use nd_test_arrays::{array_of, numbers, rows_listed};
+use nd_test_arrays::{array_of, made, numbers, rows_listed};
 use std::cell::Cell;
 use std::hash::{DefaultHasher, Hash, Hasher};
+use std::process::Abort;
 use std::test::Fail;
 
 /// The number that a hasher gives for an image.
@@ -57,68 +59,66 @@ impl Hasher for Recorder {
     }
 }
 
+/// Whether an array feeds a hasher what another hasher was fed.
+fn feeds(array: &Array2<(u8, u16)>, wanted: &Recorder) -> bool {
+    let mut hasher = Recorder::new();
+    array.hash(&mut hasher);
+    hasher.count.get() == wanted.count.get() && hasher.calls.get() == wanted.calls.get()
+}
+
+/// The square of two rows, or of two columns, that these four pairs are stored as.
+fn square(
+    rt: &(impl Abort + AllocGlobal),
+    by_columns: bool,
+    pairs: &[(u8, u16)],
+) -> Array2<(u8, u16)> {
+    let items = Vec::from_slice(rt.alloc(), pairs).expect(rt, "memory");
+    let strides = if by_columns { [1, 2] } else { [2, 1] };
+    Array2::from_shape_vec((2, 2).strides(&strides), items).expect(rt, "shape")
+}
+
 #[test]
-fn equal_arrays_are_fed_alike(rt: HostRuntime) -> Result<(), Fail> {
-    let items = Vec::from_slice(rt.alloc(), &[(1u8, 10u16), (2, 20), (3, 30), (4, 40)])?;
-    let rows: Array2<(u8, u16)> = array_of((2, 2), items)?;
-    let items = Vec::from_slice(rt.alloc(), &[(1u8, 10u16), (3, 30), (2, 20), (4, 40)])?;
-    let columns: Array2<(u8, u16)> = array_of((2, 2).f(), items)?;
-    assert!(rt; rows == columns);
-    let mut of_rows = Recorder::new();
-    rows.hash(&mut of_rows);
-    let mut of_columns = Recorder::new();
-    columns.hash(&mut of_columns);
+fn equal_arrays_are_fed_alike(rt: HostRuntime) {
+    let pairs = [(1, 10), (2, 20), (3, 30), (4, 40)];
+    let rows = square(&rt, false, &pairs);
+    let columns = square(&rt, true, &[(1, 10), (3, 30), (2, 20), (4, 40)]);
     let mut wanted = Recorder::new();
     [2usize, 2].as_slice().hash(&mut wanted);
-    for element in [(1u8, 10u16), (2, 20), (3, 30), (4, 40)] {
-        element.hash(&mut wanted);
+    for pair in pairs {
+        pair.hash(&mut wanted);
     }
-    assert_eq!(rt; (wanted.count.get(), wanted.calls.get()[10]), (11, (2, 40)));
-    assert_eq!(rt; of_rows.count.get(), 11);
-    assert_eq!(rt; of_rows.calls.get(), wanted.calls.get());
-    assert_eq!(rt; of_columns.count.get(), 11);
-    assert_eq!(rt; of_columns.calls.get(), wanted.calls.get());
-    Ok(())
+    assert!(rt; wanted.count.get() == 11 && wanted.calls.get()[10] == (2, 40));
+    assert!(rt; rows == columns && feeds(&rows, &wanted) && feeds(&columns, &wanted));
 }
 
 #[test]
-fn equal_in_either_order(rt: HostRuntime) -> Result<(), Fail> {
-    let rows: Array2<u64> = array_of((2, 3), numbers(rt.alloc(), 1, 6)?)?;
-    let mut items = Vec::new(rt.alloc());
-    for number in [1, 4, 2, 5, 3, 6] {
-        items.push(number)?;
-    }
-    let mut columns: Array2<u64> = array_of((2, 3).f(), items)?;
-    assert!(rt; rows == columns);
-    assert!(rt; columns == rows);
-    assert_eq!(rt; hashed(&rows.view()), hashed(&columns.view()));
+fn equal_in_either_order(rt: HostRuntime) {
+    let rows = table(&rt, (2, 3), &[1, 2, 3, 4, 5, 6]);
+    let mut columns = made(rt.alloc(), (2, 3).f(), &[1, 4, 2, 5, 3, 6]).expect(&rt, "made");
+    assert!(rt; rows == columns && columns == rows);
+    assert!(rt; hashed(&rows.view()) == hashed(&columns.view()));
     columns[[1, 2]] = 7;
     assert!(rt; rows != columns);
-    Ok(())
 }
 
 #[test]
-fn shapes_tell_arrays_apart(rt: HostRuntime) -> Result<(), Fail> {
-    let wide: Array2<u64> = array_of((2, 3), numbers(rt.alloc(), 1, 6)?)?;
-    let high: Array2<u64> = array_of((3, 2), numbers(rt.alloc(), 1, 6)?)?;
-    assert!(rt; wide != high);
-    let none: Array2<u64> = array_of((2, 0), numbers(rt.alloc(), 0, 0)?)?;
-    let other: Array2<u64> = array_of((0, 2), numbers(rt.alloc(), 0, 0)?)?;
-    assert!(rt; none != other);
-    assert!(rt; none == none);
-    Ok(())
+fn shapes_tell_arrays_apart(rt: HostRuntime) {
+    let wide = table(&rt, (2, 3), &[1, 2, 3, 4, 5, 6]);
+    let high = table(&rt, (3, 2), &[1, 2, 3, 4, 5, 6]);
+    let none = table(&rt, (2, 0), &[]);
+    let other = table(&rt, (0, 2), &[]);
+    assert!(rt; wide != high && none != other && none == none);
 }
 
 #[test]
-fn a_hasher_is_fed_the_shape_and_each_element(rt: HostRuntime) -> Result<(), Fail> {
-    let image: Array2<u64> = array_of((2, 2).f(), numbers(rt.alloc(), 1, 4)?)?;
+fn a_hasher_is_fed_the_shape_and_each_element(rt: HostRuntime) {
+    let image = made(rt.alloc(), (2, 2).f(), &[1, 2, 3, 4]).expect(&rt, "made");
     let mut hasher = DefaultHasher::default();
     [2usize, 2].as_slice().hash(&mut hasher);
     for number in [1u64, 3, 2, 4] {
         number.hash(&mut hasher);
     }
-    assert_eq!(rt; hashed(&image.view()), hasher.finish());
-    Ok(())
+    assert!(rt; hashed(&image.view()) == hasher.finish());
 }
 
 #[test]
@@ -143,22 +143,11 @@ fn elements_of_a_view_as_a_vector(rt: HostRuntime) -> Result<(), Fail> {
 }
 
 #[test]
-fn a_copy_of_a_run_keeps_its_strides(rt: HostRuntime) -> Result<(), Fail> {
-    let mut image: Array2<u64> = array_of((2, 3), numbers(rt.alloc(), 1, 6)?)?;
-    image.invert_axis(Axis(0));
-    match image.t().to_owned(rt.alloc()) {
-        Ok(copy) => {
-            assert_eq!(rt; copy.strides(), [1, -3].as_slice());
-            assert!(rt; copy.view() == image.t());
-            let (items, offset) = copy.into_raw_vec_and_offset();
-            assert_eq!(rt;
-                (items.as_slice(), offset),
-                ([1, 2, 3, 4, 5, 6].as_slice(), Some(3))
-            );
-            Ok(())
-        }
-        Err(_) => Err("memory".into()),
-    }
+fn a_copy_of_a_run_keeps_its_strides(rt: HostRuntime) {
+    let image = inverted(&rt, (2, 3), Axis(0), &[1, 2, 3, 4, 5, 6]);
+    let copy = image.t().to_owned(rt.alloc()).expect(&rt, "memory");
+    assert!(rt; copy.strides() == [1, -3].as_slice() && copy.view() == image.t());
+    assert!(rt; lies_in(copy, &[1, 2, 3, 4, 5, 6], Some(3)));
 }
 
 #[test]

@@ -1,125 +1,64 @@
 //! New arrays: of one value, of a vector, of an iterator, and square matrices.
 
-use nd_array_core::{Array, ArrayD};
-use nd_shape_and_slice::{Ix1, Ix2, IxDyn, ShapeBuilder};
-use nd_test_arrays::{array_of, listed, rows_listed};
-use std::test::Fail;
+use crate::tables::is_table;
+use nd_array_core::{Array, Array1, Array2, ArrayD};
+use nd_shape_and_slice::{IxDyn, ShapeBuilder};
+use nd_test_arrays::{lists, made, stores};
 
 #[test]
-fn zeros_in_column_major_order(rt: HostRuntime) -> Result<(), Fail> {
-    let zeros = match Array::<i64, _>::zeros(rt.alloc(), (3, 2, 4).f()) {
-        Ok(zeros) => zeros,
-        Err(_) => return Err("memory".into()),
-    };
-    assert_eq!(rt; zeros.strides(), [1, 3, 6].as_slice());
-    assert_eq!(rt; zeros.shape(), [3, 2, 4].as_slice());
-    assert_eq!(rt; zeros.get([2, 1, 3]).copied(), Some(0));
-    assert_eq!(rt; zeros.get([3, 0, 0]).copied(), None);
-    Ok(())
+fn zeros_in_column_major_order(rt: HostRuntime) {
+    let zeros = Array::<i64, _>::zeros(rt.alloc(), (3, 2, 4).f()).expect(&rt, "memory");
+    assert!(rt; zeros.strides() == [1, 3, 6].as_slice() && zeros.shape() == [3, 2, 4].as_slice());
+    assert!(rt; zeros.get([2, 1, 3]).copied() == Some(0) && zeros.get([3, 0, 0]).is_none());
 }
 
 #[test]
-fn ones_and_defaults(rt: HostRuntime) -> Result<(), Fail> {
-    let ones = match Array::<u64, _>::ones(rt.alloc(), (2, 3)) {
-        Ok(ones) => ones,
-        Err(_) => return Err("memory".into()),
-    };
-    assert_eq!(rt; ones.strides(), [3, 1].as_slice());
-    assert_eq!(rt;
-        rows_listed(rt.alloc(), &ones)?.as_slice(),
-        [1, 1, 1, 1, 1, 1].as_slice()
+fn ones_and_defaults(rt: HostRuntime) {
+    let ones = Array2::<u64>::ones(rt.alloc(), (2, 3)).expect(&rt, "memory");
+    assert!(rt;
+        ones.strides() == [3, 1].as_slice() && is_table(&ones, [2, 3], &[1, 1, 1, 1, 1, 1])
     );
-    let defaults = match Array::<bool, _>::default(rt.alloc(), [2, 1]) {
-        Ok(defaults) => defaults,
-        Err(_) => return Err("memory".into()),
-    };
-    assert_eq!(rt;
-        (defaults.len(), defaults.get([1, 0]).copied()),
-        (2, Some(false))
+    let defaults = Array::<bool, _>::default(rt.alloc(), [2, 1]).expect(&rt, "memory");
+    assert!(rt; defaults.len() == 2 && defaults.get([1, 0]).copied() == Some(false));
+}
+
+#[test]
+fn one_value_without_elements(rt: HostRuntime) {
+    let none = Array::from_elem(rt.alloc(), (2, 0), 5u64).expect(&rt, "memory");
+    assert!(rt; none.strides() == [0, 0].as_slice() && stores(none, &[]));
+}
+
+#[test]
+fn vectors_and_iterators(rt: HostRuntime) {
+    let items = Vec::from_slice(rt.alloc(), &[7, 8, 9]).expect(&rt, "memory");
+    assert!(rt; lists(&Array::from_vec(items), &[7, 8, 9]));
+    let items = Vec::from_slice(rt.alloc(), &[7, 8]).expect(&rt, "memory");
+    let same: Array1<u64> = Array::from(items);
+    assert!(rt; lists(&same, &[7, 8]));
+    let counted = Array::from_iter(rt.alloc(), 3..6u64).expect(&rt, "memory");
+    assert!(rt; lists(&counted, &[3, 4, 5]));
+}
+
+#[test]
+fn identities(rt: HostRuntime) {
+    let eye = Array2::eye(rt.alloc(), 2).expect(&rt, "memory");
+    let none = Array2::eye(rt.alloc(), 0).expect(&rt, "memory");
+    assert!(rt; is_table(&eye, [2, 2], &[1, 0, 0, 1]) && is_table(&none, [0, 0], &[]));
+}
+
+#[test]
+fn diagonals(rt: HostRuntime) {
+    let line: Array1<u64> = made(rt.alloc(), 2, &[7, 8]).expect(&rt, "made");
+    let matrix = Array2::from_diag(rt.alloc(), &line).expect(&rt, "memory");
+    let fives = Array2::from_diag_elem(rt.alloc(), 2, 5).expect(&rt, "memory");
+    assert!(rt;
+        is_table(&matrix, [2, 2], &[7, 0, 0, 8]) && is_table(&fives, [2, 2], &[5, 0, 0, 5])
     );
-    Ok(())
 }
 
 #[test]
-fn one_value_without_elements(rt: HostRuntime) -> Result<(), Fail> {
-    match Array::from_elem(rt.alloc(), (2, 0), 5u64) {
-        Ok(none) => {
-            assert_eq!(rt; none.strides(), [0, 0].as_slice());
-            assert_eq!(rt; none.into_raw_vec().len(), 0);
-            Ok(())
-        }
-        Err(_) => Err("memory".into()),
-    }
-}
-
-#[test]
-fn vectors_and_iterators(rt: HostRuntime) -> Result<(), Fail> {
-    let line = Array::from_vec(Vec::from_slice(rt.alloc(), &[7u64, 8, 9])?);
-    assert_eq!(rt; (line.len(), line.get(2).copied()), (3, Some(9)));
-    let same: Array<u64, Ix1> = Array::from(Vec::from_slice(rt.alloc(), &[7u64, 8])?);
-    assert_eq!(rt; (same.len(), same.get(1).copied()), (2, Some(8)));
-    match Array::from_iter(rt.alloc(), 3..6u64) {
-        Ok(counted) => {
-            assert_eq!(rt;
-                listed(rt.alloc(), &counted)?.as_slice(),
-                [3, 4, 5].as_slice()
-            );
-            Ok(())
-        }
-        Err(_) => Err("memory".into()),
-    }
-}
-
-#[test]
-fn identities(rt: HostRuntime) -> Result<(), Fail> {
-    let eye = match Array::<u64, Ix2>::eye(rt.alloc(), 2) {
-        Ok(eye) => eye,
-        Err(_) => return Err("memory".into()),
-    };
-    assert_eq!(rt;
-        rows_listed(rt.alloc(), &eye)?.as_slice(),
-        [1, 0, 0, 1].as_slice()
-    );
-    match Array::<u64, Ix2>::eye(rt.alloc(), 0) {
-        Ok(none) => {
-            assert_eq!(rt; none.shape(), [0, 0].as_slice());
-            Ok(())
-        }
-        Err(_) => Err("memory".into()),
-    }
-}
-
-#[test]
-fn diagonals(rt: HostRuntime) -> Result<(), Fail> {
-    let line = array_of(2, Vec::from_slice(rt.alloc(), &[7u64, 8])?)?;
-    let matrix = match Array::from_diag(rt.alloc(), &line) {
-        Ok(matrix) => matrix,
-        Err(_) => return Err("memory".into()),
-    };
-    assert_eq!(rt;
-        rows_listed(rt.alloc(), &matrix)?.as_slice(),
-        [7, 0, 0, 8].as_slice()
-    );
-    match Array::from_diag_elem(rt.alloc(), 2, 5u64) {
-        Ok(fives) => {
-            assert_eq!(rt;
-                rows_listed(rt.alloc(), &fives)?.as_slice(),
-                [5, 0, 0, 5].as_slice()
-            );
-            Ok(())
-        }
-        Err(_) => Err("memory".into()),
-    }
-}
-
-#[test]
-fn any_number_of_axes(rt: HostRuntime) -> Result<(), Fail> {
+fn any_number_of_axes(rt: HostRuntime) {
     let lengths = [2, 3];
-    match ArrayD::from_elem(rt.alloc(), IxDyn::new(&lengths), 4u64) {
-        Ok(array) => {
-            assert_eq!(rt; (array.ndim(), array.len()), (2, 6));
-            Ok(())
-        }
-        Err(_) => Err("memory".into()),
-    }
+    let array = ArrayD::from_elem(rt.alloc(), IxDyn::new(&lengths), 4u64).expect(&rt, "memory");
+    assert!(rt; array.ndim() == 2 && array.len() == 6);
 }

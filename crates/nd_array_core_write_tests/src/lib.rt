@@ -28,4 +28,6 @@ mod slices_to_write;
 #[cfg(test)]
 mod sparing;
 #[cfg(test)]
+mod tables;
+#[cfg(test)]
 mod views_of_slices;

@@ -5,65 +5,80 @@ ghost use Rattle.std.specs.Prelude.{◌≡◌};
 ghost use Rattle.nd_array_core.specs.base.Fresh.{EachCloneIsEqual};
 
 use crate::sparing::Sparing;
+use crate::tables::{counted, is_counted};
 use nd_array_core::{Array, Array2, ArrayBase, Data};
 use nd_shape_and_slice::{Axis, Ix2, Slice};
-use nd_test_arrays::{Numbered, Refusing, Tally, array_of, rows_listed};
+use nd_test_arrays::{Numbered, Refusing, Tally, lists, shows};
 use std::alloc::Global;
-use std::test::Fail;
 
-/// The numbers of an image's copy, row by row; none if a clone was refused.
+/// Whether a tally has so many clones left, and so many numbers are there.
+fn is_at(tally: &Tally, left: u64, living: u32) -> bool {
+    tally.left() == left && tally.living() == Some(living)
+}
+
+/// How a call ends that makes so many clones, where so many are allowed: refused, or with the right answer.
+fn awaited(allowed: usize, clones: usize) -> Option<bool> {
+    if allowed < clones { None } else { Some(true) }
+}
+
+/// Whether an image's copy has these numbers, row by row; None if a clone was refused.
 fn copied<A: Numbered + Clone + Drop, S: Data<Elem = A>>(
     alloc: Global,
     image: &ArrayBase<S, Ix2>,
-) -> Result<Vec<u64>, Fail>
+    wanted: &[u64],
+) -> Option<bool>
     requires { EachCloneIsEqual A.is_clone }
 {
+    let (rows, columns) = image.dim();
     match image.to_owned(alloc) {
-        Ok(copy) => rows_listed(alloc, &copy),
-        Err(_) => Ok(Vec::new(alloc)),
+        Ok(copy) => Some(shows(&copy, [rows, columns], wanted)),
+        Err(_) => None,
     }
 }
 
-/// The numbers of an image's elements as a vector; none if a clone was refused.
+/// Whether the vector of an image's elements has these numbers; None if a clone was refused.
 fn collected<A: Numbered + Clone + Drop, S: Data<Elem = A>>(
     alloc: Global,
     image: &ArrayBase<S, Ix2>,
-) -> Result<Vec<u64>, Fail>
+    wanted: &[u64],
+) -> Option<bool>
     requires { EachCloneIsEqual A.is_clone }
 {
-    let mut numbers = Vec::new(alloc);
-    if let Ok(items) = image.to_vec(alloc) {
-        for item in &items {
-            numbers.push(item.number())?;
-        }
+    match image.to_vec(alloc) {
+        Ok(items) => Some(lists(&Array::from_vec(items), wanted)),
+        Err(_) => None,
     }
-    Ok(numbers)
 }
 
-/// The numbers of a copy or of a vector, in one of five ways: a copy of the transpose, which is a run of places, and of
-/// every second column, which isn't; a vector of a slice, and of the transpose, which is none; a clone.
+/// Whether a copy or a vector has these numbers, in one of five ways: a copy of the transpose, which is a run of places,
+/// and of every second column, which isn't; a vector of a slice, and of the transpose, which is none; a clone.
 fn made<A: Numbered + Clone + Drop>(
     alloc: Global,
     image: &Array2<A>,
     way: u64,
-) -> Result<Vec<u64>, Fail>
+    wanted: &[u64],
+) -> Option<bool>
     requires { EachCloneIsEqual A.is_clone }
 {
-    let (_rows, _columns) = image.dim();
+    let (rows, columns) = image.dim();
     match way {
-        0 => copied(alloc, &image.t()),
-        1 => copied(alloc, &image.slice_axis(Axis(1), Slice::new(0, None, 2))),
-        2 => collected(alloc, image),
-        3 => collected(alloc, &image.t()),
+        0 => copied(alloc, &image.t(), wanted),
+        1 => copied(
+            alloc,
+            &image.slice_axis(Axis(1), Slice::new(0, None, 2)),
+            wanted,
+        ),
+        2 => collected(alloc, image, wanted),
+        3 => collected(alloc, &image.t(), wanted),
         _ => match image.clone() {
-            Ok(copy) => rows_listed(alloc, &copy),
-            Err(_) => Ok(Vec::new(alloc)),
+            Ok(copy) => Some(shows(&copy, [rows, columns], wanted)),
+            Err(_) => None,
         },
     }
 }
 
 #[test]
-fn copies(rt: HostRuntime) -> Result<(), Fail> {
+fn copies(rt: HostRuntime) {
     for (way, wanted) in [
         (0, [1, 4, 2, 5, 3, 6].as_slice()),
         (1, [1, 3, 4, 6].as_slice()),
@@ -71,184 +86,170 @@ fn copies(rt: HostRuntime) -> Result<(), Fail> {
         (3, [1, 4, 2, 5, 3, 6].as_slice()),
         (4, [1, 2, 3, 4, 5, 6].as_slice()),
     ] {
-        for allowed in 0..wanted.len().saturating_add(1) {
+        for allowed in 0..7usize {
+            if allowed > wanted.len() {
+                break;
+            }
             let tally = Tally::allowing(allowed as u64);
             {
-                let items = Refusing::listed(rt.alloc(), &[1, 2, 3, 4, 5, 6], &tally)?;
-                let image: Array2<Refusing<'_>> = array_of((2, 3), items)?;
-                let numbers = made(rt.alloc(), &image, way)?;
-                let answer = if allowed < wanted.len() { &[] } else { wanted };
-                assert_eq!(rt; numbers.as_slice(), answer, "way {way}, {allowed} clones");
-                assert_eq!(rt;
-                    (tally.left(), tally.living()),
-                    (0, Some(6)),
+                let image = counted(&rt, (2, 3), &[1, 2, 3, 4, 5, 6], &tally);
+                let end = made(rt.alloc(), &image, way, wanted);
+                assert!(rt;
+                    end == awaited(allowed, wanted.len()),
                     "way {way}, {allowed} clones"
                 );
-                let stayed = rows_listed(rt.alloc(), &image)?;
-                assert_eq!(rt; stayed.as_slice(), [1, 2, 3, 4, 5, 6].as_slice());
+                assert!(rt; is_at(&tally, 0, 6) && is_counted(&image, [2, 3], &[1, 2, 3, 4, 5, 6]));
             }
-            assert_eq!(rt; tally.living(), Some(0), "way {way}, {allowed} clones");
+            assert!(rt; is_at(&tally, 0, 0), "way {way}, {allowed} clones");
         }
     }
-    Ok(())
 }
 
 #[test]
-fn an_array_made_a_clone_of_another(rt: HostRuntime) -> Result<(), Fail> {
+fn an_array_made_a_clone_of_another(rt: HostRuntime) {
     for allowed in 0..=3u64 {
         let tally = Tally::allowing(allowed);
         {
-            let items = Refusing::listed(rt.alloc(), &[7, 8, 9], &tally)?;
-            let source: Array2<Refusing<'_>> = array_of((1, 3), items)?;
-            let items = Refusing::listed(rt.alloc(), &[1, 2], &tally)?;
-            let mut array: Array2<Refusing<'_>> = array_of((2, 1), items)?;
-            let done = array.clone_from(&source).is_ok();
-            assert_eq!(rt; (done, tally.left()), (allowed == 3, 0), "{allowed} clones");
-            let numbers = rows_listed(rt.alloc(), &array)?;
-            if done {
-                assert_eq!(rt; (array.dim(), tally.living()), ((1, 3), Some(6)));
-                assert_eq!(rt; numbers.as_slice(), [7, 8, 9].as_slice());
+            let source = counted(&rt, (1, 3), &[7, 8, 9], &tally);
+            let mut array = counted(&rt, (2, 1), &[1, 2], &tally);
+            if array.clone_from(&source).is_ok() {
+                assert!(rt; allowed == 3 && is_counted(&array, [1, 3], &[7, 8, 9]));
+                assert!(rt; is_at(&tally, 0, 6));
             } else {
-                assert_eq!(rt; (array.dim(), tally.living()), ((2, 1), Some(5)));
-                assert_eq!(rt; numbers.as_slice(), [1, 2].as_slice(), "{allowed} clones");
+                assert!(rt; allowed < 3 && is_counted(&array, [2, 1], &[1, 2]));
+                assert!(rt; is_at(&tally, 0, 5), "{allowed} clones");
             }
         }
-        assert_eq!(rt; tally.living(), Some(0), "{allowed} clones");
+        assert!(rt; is_at(&tally, 0, 0), "{allowed} clones");
     }
-    Ok(())
 }
 
 #[test]
-fn one_value(rt: HostRuntime) -> Result<(), Fail> {
+fn one_value(rt: HostRuntime) {
     for allowed in 0..=3u64 {
         let tally = Tally::allowing(allowed);
-        match Array::from_elem(rt.alloc(), (2, 2), Refusing::new(9, &tally)) {
+        match Array2::from_elem(rt.alloc(), (2, 2), Refusing::new(9, &tally)) {
             Ok(array) => {
-                assert_eq!(rt; (allowed, tally.living()), (3, Some(4)));
-                let numbers = rows_listed(rt.alloc(), &array)?;
-                assert_eq!(rt; numbers.as_slice(), [9, 9, 9, 9].as_slice());
+                assert!(rt; allowed == 3 && is_at(&tally, 0, 4));
+                assert!(rt; is_counted(&array, [2, 2], &[9, 9, 9, 9]));
             }
             Err(_) => assert!(rt; allowed < 3),
         }
-        assert_eq!(rt;
-            (tally.left(), tally.living()),
-            (0, Some(0)),
-            "{allowed} clones"
-        );
+        assert!(rt; is_at(&tally, 0, 0), "{allowed} clones");
     }
-    Ok(())
+}
+
+/// How many numbers of a square of 1 2 / 3 4 have become these; None where one is neither the old nor the new.
+fn changed(square: &Array2<Refusing<'_>>, new: [u64; 4]) -> Option<u64> {
+    let mut count = 0u64;
+    for k in 0..4usize {
+        let number = square.get([k / 2, k % 2])?.number;
+        if number == new[k] {
+            count = count.wrapping_add(1);
+        } else if number != (k as u64).wrapping_add(1) {
+            return None;
+        }
+    }
+    Some(count)
 }
 
 #[test]
-fn a_fill(rt: HostRuntime) -> Result<(), Fail> {
+fn a_fill(rt: HostRuntime) {
     for allowed in 0..=4u64 {
         let tally = Tally::allowing(allowed);
         {
-            let items = Refusing::listed(rt.alloc(), &[1, 2, 3, 4], &tally)?;
-            let mut array: Array2<Refusing<'_>> = array_of((2, 2), items)?;
-            let filled = array.fill(Refusing::new(9, &tally)).is_ok();
-            assert_eq!(rt;
-                (filled, tally.living()),
-                (allowed == 4, Some(4)),
-                "{allowed} clones"
-            );
-            let numbers = rows_listed(rt.alloc(), &array)?;
-            for k in 0..4usize {
-                let number = *numbers.get(k).ok_or("short")?;
-                assert!(rt; number == 9 || !filled && number == k as u64 + 1);
+            let mut array = counted(&rt, (2, 2), &[1, 2, 3, 4], &tally);
+            if array.fill(Refusing::new(9, &tally)).is_ok() {
+                assert!(rt; allowed == 4 && is_counted(&array, [2, 2], &[9, 9, 9, 9]));
+            } else {
+                assert!(rt; allowed < 4 && changed(&array, [9, 9, 9, 9]).is_some());
             }
+            assert!(rt; is_at(&tally, 0, 4), "{allowed} clones");
         }
-        assert_eq!(rt; tally.living(), Some(0), "{allowed} clones");
+        assert!(rt; is_at(&tally, 0, 0), "{allowed} clones");
     }
-    Ok(())
 }
 
-/// The numbers of zeros, of ones or of an identity, where so many clones are allowed; none if one was refused.
-fn constant<const CLONES: usize>(alloc: Global, way: u64) -> Result<Vec<u64>, Fail> {
+/// Whether zeros, ones or an identity have these numbers, where so many clones are allowed; None if one was refused.
+fn constant<const CLONES: usize>(alloc: Global, way: u64, wanted: &[u64]) -> Option<bool> {
     let matrix = match way {
         0 => Array2::<Sparing<'_, CLONES>>::zeros(alloc, (2, 2)),
         1 => Array2::<Sparing<'_, CLONES>>::ones(alloc, (2, 2)),
         _ => Array2::<Sparing<'_, CLONES>>::eye(alloc, 2),
     };
     match matrix {
-        Ok(matrix) => rows_listed(alloc, &matrix),
-        Err(_) => Ok(Vec::new(alloc)),
+        Ok(matrix) => Some(shows(&matrix, [2, 2], wanted)),
+        Err(_) => None,
     }
 }
 
 #[test]
-fn zeros_ones_and_identities(rt: HostRuntime) -> Result<(), Fail> {
-    for (way, wanted) in [
-        (0, [0, 0, 0, 0].as_slice()),
-        (1, [1, 1, 1, 1].as_slice()),
-        (2, [1, 0, 0, 1].as_slice()),
-    ] {
-        assert_eq!(rt; constant::<0>(rt.alloc(), way)?.len(), 0, "way {way}");
-        assert_eq!(rt; constant::<1>(rt.alloc(), way)?.len(), 0, "way {way}");
-        assert_eq!(rt; constant::<2>(rt.alloc(), way)?.len(), 0, "way {way}");
-        assert_eq!(rt;
-            constant::<3>(rt.alloc(), way)?.as_slice(),
-            wanted,
-            "way {way}"
-        );
+fn zeros_ones_and_identities(rt: HostRuntime) {
+    for (way, wanted) in [(0, [0, 0, 0, 0]), (1, [1, 1, 1, 1]), (2, [1, 0, 0, 1])] {
+        let refused = constant::<0>(rt.alloc(), way, &wanted).is_none()
+            && constant::<1>(rt.alloc(), way, &wanted).is_none()
+            && constant::<2>(rt.alloc(), way, &wanted).is_none();
+        let made = constant::<3>(rt.alloc(), way, &wanted) == Some(true);
+        assert!(rt; refused && made, "way {way}");
     }
-    Ok(())
 }
 
-/// The numbers of a matrix with 7 and 8 or with 5 and 5 on its diagonal, each counted in a tally, around which so many
-/// clones of zero are allowed; none if a clone was refused.
-fn diagonal<const CLONES: usize>(alloc: Global, tally: &Tally, way: u64) -> Result<Vec<u64>, Fail> {
+/// Whether a matrix with 7 and 8 or with 5 and 5 on its diagonal, each counted in a tally, around which so many clones of
+/// zero are allowed, has these numbers; None if a clone was refused.
+fn diagonal<const CLONES: usize>(
+    alloc: Global,
+    tally: &Tally,
+    way: u64,
+    wanted: &[u64],
+) -> Option<bool> {
     let matrix = if way == 0 {
         let mut items = Vec::new(alloc);
-        items.push(Sparing::<'_, CLONES>::counted(7, tally))?;
-        items.push(Sparing::<'_, CLONES>::counted(8, tally))?;
-        let line = array_of(2, items)?;
-        Array2::from_diag(alloc, &line)
+        let pushed = items.push(Sparing::<'_, CLONES>::counted(7, tally)).is_ok()
+            && items.push(Sparing::<'_, CLONES>::counted(8, tally)).is_ok();
+        if !pushed {
+            return Some(false);
+        }
+        Array2::from_diag(alloc, &Array::from_vec(items))
     } else {
         Array2::from_diag_elem(alloc, 2, Sparing::<'_, CLONES>::counted(5, tally))
     };
     match matrix {
-        Ok(matrix) => rows_listed(alloc, &matrix),
-        Err(_) => Ok(Vec::new(alloc)),
+        Ok(matrix) => Some(shows(&matrix, [2, 2], wanted)),
+        Err(_) => None,
     }
 }
 
 #[test]
-fn diagonals(rt: HostRuntime) -> Result<(), Fail> {
-    for (way, wanted) in [(0, [7, 0, 0, 8].as_slice()), (1, [5, 0, 0, 5].as_slice())] {
-        for allowed in 0..=2u64 {
-            let tally = Tally::allowing(allowed);
-            let numbers = diagonal::<3>(rt.alloc(), &tally, way)?;
-            assert_eq!(rt; numbers.as_slice(), if allowed < 2 { &[] } else { wanted });
-            assert_eq!(rt;
-                (tally.left(), tally.living()),
-                (0, Some(0)),
+fn diagonals(rt: HostRuntime) {
+    for (way, wanted) in [(0, [7, 0, 0, 8]), (1, [5, 0, 0, 5])] {
+        for allowed in 0..=2usize {
+            let tally = Tally::allowing(allowed as u64);
+            let end = diagonal::<3>(rt.alloc(), &tally, way, &wanted);
+            assert!(rt;
+                end == awaited(allowed, 2) && is_at(&tally, 0, 0),
                 "{allowed} clones"
             );
         }
         let tally = Tally::allowing(2);
-        let refused = diagonal::<0>(rt.alloc(), &tally, way)?.len()
-            + diagonal::<1>(rt.alloc(), &tally, way)?.len()
-            + diagonal::<2>(rt.alloc(), &tally, way)?.len();
-        assert_eq!(rt;
-            (refused, tally.left(), tally.living()),
-            (0, 2, Some(0)),
-            "way {way}"
-        );
+        let refused = diagonal::<0>(rt.alloc(), &tally, way, &wanted).is_none()
+            && diagonal::<1>(rt.alloc(), &tally, way, &wanted).is_none()
+            && diagonal::<2>(rt.alloc(), &tally, way, &wanted).is_none();
+        assert!(rt; refused && is_at(&tally, 2, 0), "way {way}");
     }
-    Ok(())
 }
 
-/// The numbers of clones of an image's elements, by `mapv`, row by row; none if a clone was refused.
+/// Whether clones of an image's elements, handed to `mapv`, have these numbers, row by row; None if a clone was refused.
 fn numbers_by_value<A: Numbered + Clone + Drop, S: Data<Elem = A>>(
     alloc: Global,
     image: &ArrayBase<S, Ix2>,
-) -> Result<Vec<u64>, Fail>
+    wanted: &[u64],
+) -> Option<bool>
     requires { EachCloneIsEqual A.is_clone }
 {
+    let (rows, columns) = image.dim();
     match image.mapv(alloc, |x| x.number()) {
-        Ok(numbers) => rows_listed(alloc, &numbers),
-        Err(_) => Ok(Vec::new(alloc)),
+        Ok(numbers) => Some(shows(&numbers, [rows, columns], wanted)),
+        Err(_) => None,
     }
 }
 
@@ -257,85 +258,75 @@ fn numbers_of_part<A: Numbered + Clone + Drop>(
     alloc: Global,
     image: &Array2<A>,
     stepped: bool,
-) -> Result<Vec<u64>, Fail>
+    wanted: &[u64],
+) -> Option<bool>
     requires { EachCloneIsEqual A.is_clone }
 {
     let (_rows, _columns) = image.dim();
     if stepped {
-        numbers_by_value(alloc, &image.slice_axis(Axis(1), Slice::new(0, None, 2)))
+        numbers_by_value(
+            alloc,
+            &image.slice_axis(Axis(1), Slice::new(0, None, 2)),
+            wanted,
+        )
     } else {
-        numbers_by_value(alloc, &image.t())
+        numbers_by_value(alloc, &image.t(), wanted)
     }
 }
 
 #[test]
-fn values_handed_to_a_closure(rt: HostRuntime) -> Result<(), Fail> {
+fn values_handed_to_a_closure(rt: HostRuntime) {
     for (stepped, wanted) in [
         (false, [1, 4, 2, 5, 3, 6].as_slice()),
         (true, [1, 3, 4, 6].as_slice()),
     ] {
-        for allowed in 0..wanted.len().saturating_add(1) {
+        for allowed in 0..7usize {
+            if allowed > wanted.len() {
+                break;
+            }
             let tally = Tally::allowing(allowed as u64);
             {
-                let items = Refusing::listed(rt.alloc(), &[1, 2, 3, 4, 5, 6], &tally)?;
-                let image: Array2<Refusing<'_>> = array_of((2, 3), items)?;
-                let numbers = numbers_of_part(rt.alloc(), &image, stepped)?;
-                let answer = if allowed < wanted.len() { &[] } else { wanted };
-                assert_eq!(rt; numbers.as_slice(), answer, "{allowed} clones");
-                assert_eq!(rt; (tally.left(), tally.living()), (0, Some(6)));
+                let image = counted(&rt, (2, 3), &[1, 2, 3, 4, 5, 6], &tally);
+                let end = numbers_of_part(rt.alloc(), &image, stepped, wanted);
+                assert!(rt; end == awaited(allowed, wanted.len()), "{allowed} clones");
+                assert!(rt; is_at(&tally, 0, 6));
             }
-            assert_eq!(rt; tally.living(), Some(0), "{allowed} clones");
+            assert!(rt; is_at(&tally, 0, 0), "{allowed} clones");
         }
     }
-    Ok(())
 }
 
 #[test]
-fn values_exchanged_in_place(rt: HostRuntime) -> Result<(), Fail> {
+fn values_exchanged_in_place(rt: HostRuntime) {
     for allowed in 0..=4u64 {
         let tally = Tally::allowing(allowed);
         {
-            let items = Refusing::listed(rt.alloc(), &[1, 2, 3, 4], &tally)?;
-            let mut array: Array2<Refusing<'_>> = array_of((2, 2), items)?;
+            let mut array = counted(&rt, (2, 2), &[1, 2, 3, 4], &tally);
             let mut calls = 0u64;
             let done = array.mapv_inplace(|x| {
                 calls = calls.wrapping_add(1);
                 Refusing::new(x.number.wrapping_add(10), &tally)
             });
-            assert_eq!(rt; (done.is_ok(), calls), (allowed == 4, allowed));
-            assert_eq!(rt; tally.living(), Some(4), "{allowed} clones");
-            let numbers = rows_listed(rt.alloc(), &array)?;
-            let mut changed = 0u64;
-            for k in 0..4usize {
-                let number = *numbers.get(k).ok_or("short")?;
-                if number == (k as u64).wrapping_add(11) {
-                    changed = changed.wrapping_add(1);
-                } else {
-                    assert_eq!(rt; number, (k as u64).wrapping_add(1));
-                }
-            }
-            assert_eq!(rt; changed, allowed);
+            assert!(rt; done.is_ok() == (allowed == 4) && calls == allowed);
+            assert!(rt; changed(&array, [11, 12, 13, 14]) == Some(allowed));
+            assert!(rt; is_at(&tally, 0, 4), "{allowed} clones");
         }
-        assert_eq!(rt; tally.living(), Some(0), "{allowed} clones");
+        assert!(rt; is_at(&tally, 0, 0), "{allowed} clones");
     }
-    Ok(())
 }
 
 #[test]
-fn values_exchanged_in_an_array_handed_over(rt: HostRuntime) -> Result<(), Fail> {
+fn values_exchanged_in_an_array_handed_over(rt: HostRuntime) {
     for allowed in 0..=4u64 {
         let tally = Tally::allowing(allowed);
-        let items = Refusing::listed(rt.alloc(), &[1, 2, 3, 4], &tally)?;
-        let array: Array2<Refusing<'_>> = array_of((2, 2), items)?;
+        let array = counted(&rt, (2, 2), &[1, 2, 3, 4], &tally);
         match array.mapv_into(|x| Refusing::new(x.number.wrapping_add(10), &tally)) {
             Ok(array) => {
-                assert_eq!(rt; (allowed, tally.living()), (4, Some(4)));
-                let numbers = rows_listed(rt.alloc(), &array)?;
-                assert_eq!(rt; numbers.as_slice(), [11, 12, 13, 14].as_slice());
+                assert!(rt; allowed == 4 && is_at(&tally, 0, 4));
+                assert!(rt; is_counted(&array, [2, 2], &[11, 12, 13, 14]));
             }
             Err(_) => assert!(rt; allowed < 4),
         }
-        assert_eq!(rt; tally.living(), Some(0), "{allowed} clones");
+        assert!(rt; is_at(&tally, 0, 0), "{allowed} clones");
     }
-    Ok(())
 }

@@ -13,11 +13,10 @@ ghost use Rattle.nd_array_core.specs.scoped.PartTasks.{KeepsBut, KeepsButTwo};
 ghost use Rattle.nd_array_core.specs.Part.{sliced_part, axis_part, coordinate_part, diagonal_part};
 ghost use Rattle.nd_array_core.specs.base.Writes.{with_element_at};
 
+use crate::tables::{is_table, table};
 use nd_array_core::scoped::{LentView, PairTask, ViewTask};
 use nd_array_core::{ArrayBase, DataMut, ViewMutRepr};
 use nd_shape_and_slice::{Axis, Dimension, Ix1, NdIndex, RemoveAxis, Slice, SliceArg, slice_fits};
-use nd_test_arrays::{array_of, numbers};
-use std::test::Fail;
 
 // Puts a value at an index of a view.
 #[derive(Drop)]
@@ -200,8 +199,8 @@ fn put_on_diagonal<A: Drop, S: DataMut<Elem = A>, D: Dimension, X: NdIndex<Ix1>>
 }
 
 #[test]
-fn puts_in_parts_of_a_grid(rt: HostRuntime) -> Result<(), Fail> {
-    let mut grid = array_of((2, 3), numbers(rt.alloc(), 1, 6)?)?;
+fn puts_in_parts_of_a_grid(rt: HostRuntime) {
+    let mut grid = table(&rt, (2, 3), &[1, 2, 3, 4, 5, 6]);
     let odd = Slice::new(0, None, 2);
     assert!(rt; grid.ndim() == 2 && slice_fits(grid.len_of(Axis(1)), odd));
     assert!(rt; grid.slice_axis(Axis(1), odd).get([0, 1]).is_some());
@@ -222,15 +221,5 @@ fn puts_in_parts_of_a_grid(rt: HostRuntime) -> Result<(), Fail> {
         value: 30,
     };
     assert_eq!(rt; put_on_diagonal(&mut grid, task), 20);
-    for (index, cell) in [
-        ([0, 0], 1),
-        ([0, 1], 2),
-        ([0, 2], 10),
-        ([1, 0], 4),
-        ([1, 1], 30),
-        ([1, 2], 6),
-    ] {
-        assert_eq!(rt; grid.get(index).copied(), Some(cell));
-    }
-    Ok(())
+    assert!(rt; is_table(&grid, [2, 3], &[1, 2, 10, 4, 30, 6]));
 }

@@ -3,10 +3,11 @@
 ghost use Rattle.std.specs.Prelude.{IsTrue};
 ghost use Rattle.nd_array_core.specs.layout.MultiSlice.{TwoFit, ThreeFit, FourFit};
 
-use nd_array_core::ArrayViewMut;
+use nd_array_core::{ArrayD, ArrayViewMut};
 use nd_shape_and_slice::{IxDyn, SliceInfoElem, slices_fit, slices_intersect};
-use nd_test_arrays::{array_of, numbers, part, rows_listed};
-use std::test::Fail;
+use nd_test_arrays::{made, part, shows};
+use std::process::Abort;
+
 // Whether the lists fit and no two of them meet.
 fn two_fit(shape: &[usize], a: &[SliceInfoElem], b: &[SliceInfoElem]) -> bool
     ensures { IsTrue result → TwoFit shape.now a.now b.now }
@@ -35,18 +36,38 @@ fn four_fit(
         && two_fit(shape, a, d)
 }
 
+// The grid of this shape and these numbers.
+fn grid(rt: &(impl Abort + AllocGlobal), shape: [usize; 2], numbers: &[u64]) -> ArrayD<u64> {
+    made(rt.alloc(), IxDyn::new(&shape), numbers).expect(rt, "made")
+}
+
 // A part of a grid.
 type Part<'a> = ArrayViewMut<'a, u64, IxDyn>;
 
-// Fills each part with a number of its own; false where memory lacks.
+// Fills a part with a number; false where memory lacks.
+fn filled(mut part: Part<'_>, number: u64) -> bool {
+    part.fill(number).is_ok()
+}
+
+// Fills each part with a number of its own.
 fn four_filled(parts: (Part<'_>, Part<'_>, Part<'_>, Part<'_>)) -> bool {
-    let (mut one, mut two, mut three, mut four) = parts;
-    one.fill(1).is_ok() && two.fill(2).is_ok() && three.fill(3).is_ok() && four.fill(4).is_ok()
+    let (one, two, three, four) = parts;
+    let done = (
+        filled(one, 1),
+        filled(two, 2),
+        filled(three, 3),
+        filled(four, 4),
+    );
+    done.0 && done.1 && done.2 && done.3
 }
 
 #[test]
-fn four_quadrants_of_a_grid(rt: HostRuntime) -> Result<(), Fail> {
-    let mut grid = array_of(IxDyn::new(&[3, 6]), numbers(rt.alloc(), 0, 18)?)?;
+fn four_quadrants_of_a_grid(rt: HostRuntime) {
+    let mut grid = grid(
+        &rt,
+        [3, 6],
+        &[0, 1, 2, 3, 4, 5, 6, 7, 8, 9, 10, 11, 12, 13, 14, 15, 16, 17],
+    );
     let (top, bottom) = (part(0, Some(1), 1), part(1, None, 1));
     let (left, right) = (part(0, Some(2), 1), part(2, Some(5), 1));
     let (a, b) = ([top, left], [top, right]);
@@ -54,21 +75,24 @@ fn four_quadrants_of_a_grid(rt: HostRuntime) -> Result<(), Fail> {
     assert!(rt; four_fit(grid.shape(), &a, &b, &c, &d));
     let parts = grid.multi_slice_mut((a.as_slice(), b.as_slice(), c.as_slice(), d.as_slice()));
     assert!(rt; four_filled(parts));
-    assert_eq!(rt;
-        rows_listed(rt.alloc(), &grid)?.as_slice(),
-        [1, 1, 2, 2, 2, 5, 3, 3, 4, 4, 4, 11, 3, 3, 4, 4, 4, 17].as_slice()
+    assert!(rt;
+        shows(
+            &grid,
+            [3, 6],
+            &[1, 1, 2, 2, 2, 5, 3, 3, 4, 4, 4, 11, 3, 3, 4, 4, 4, 17]
+        )
     );
-    Ok(())
 }
 
 fn two_filled(parts: (Part<'_>, Part<'_>)) -> bool {
-    let (mut one, mut two) = parts;
-    one.fill(1).is_ok() && two.fill(2).is_ok()
+    let (one, two) = parts;
+    let done = (filled(one, 1), filled(two, 2));
+    done.0 && done.1
 }
 
 #[test]
-fn every_second_column_of_a_view(rt: HostRuntime) -> Result<(), Fail> {
-    let mut grid = array_of(IxDyn::new(&[2, 5]), numbers(rt.alloc(), 0, 10)?)?;
+fn every_second_column_of_a_view(rt: HostRuntime) {
+    let mut grid = grid(&rt, [2, 5], &[0, 1, 2, 3, 4, 5, 6, 7, 8, 9]);
     let (a, b) = (
         [part(0, None, 1), part(0, None, 2)],
         [part(0, None, -1), part(1, Some(3), 2)],
@@ -76,29 +100,22 @@ fn every_second_column_of_a_view(rt: HostRuntime) -> Result<(), Fail> {
     let view = grid.view_mut();
     assert!(rt; two_fit(view.shape(), &a, &b));
     assert!(rt; two_filled(view.multi_slice_move((a.as_slice(), b.as_slice()))));
-    assert_eq!(rt;
-        rows_listed(rt.alloc(), &grid)?.as_slice(),
-        [1, 2, 1, 3, 1, 1, 2, 1, 8, 1].as_slice()
-    );
-    Ok(())
+    assert!(rt; shows(&grid, [2, 5], &[1, 2, 1, 3, 1, 1, 2, 1, 8, 1]));
 }
 
 fn three_filled(parts: (Part<'_>, Part<'_>, Part<'_>)) -> bool {
-    let (mut one, mut two, mut three) = parts;
-    one.fill(1).is_ok() && two.fill(2).is_ok() && three.fill(3).is_ok()
+    let (one, two, three) = parts;
+    let done = (filled(one, 1), filled(two, 2), filled(three, 3));
+    done.0 && done.1 && done.2
 }
 
 #[test]
-fn three_rows_of_a_grid(rt: HostRuntime) -> Result<(), Fail> {
-    let mut grid = array_of(IxDyn::new(&[3, 4]), numbers(rt.alloc(), 0, 12)?)?;
+fn three_rows_of_a_grid(rt: HostRuntime) {
+    let mut grid = grid(&rt, [3, 4], &[0, 1, 2, 3, 4, 5, 6, 7, 8, 9, 10, 11]);
     let a = [SliceInfoElem::Index(0), part(0, None, 1)];
     let b = [part(1, Some(2), 1), part(0, None, 3)];
     let c = [SliceInfoElem::Index(-1), part(1, None, -1)];
     assert!(rt; three_fit(grid.shape(), &a, &b, &c));
     assert!(rt; three_filled(grid.multi_slice_mut((a.as_slice(), b.as_slice(), c.as_slice()))));
-    assert_eq!(rt;
-        rows_listed(rt.alloc(), &grid)?.as_slice(),
-        [1, 1, 1, 1, 2, 5, 6, 2, 8, 3, 3, 3].as_slice()
-    );
-    Ok(())
+    assert!(rt; shows(&grid, [3, 4], &[1, 1, 1, 1, 2, 5, 6, 2, 8, 3, 3, 3]));
 }
