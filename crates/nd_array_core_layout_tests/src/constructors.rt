@@ -1,30 +1,35 @@
 //! Arrays and views made in either order or by strides of the caller's, and the causes of refusals.
 
-use nd_array_core::{Array, ArrayView};
-use nd_shape_and_slice::{
-    Axis, Dimension, ErrorKind, IntoStrideShape, Ix2, Ix3, IxDyn, ShapeBuilder,
-};
-use nd_test_arrays::{array_of, numbers};
-use std::test::Fail;
+use nd_array_core::{Array, Array1, Array2, Array3, ArrayView};
+use nd_shape_and_slice::{Axis, Dimension, ErrorKind, IntoStrideShape, IxDyn, ShapeBuilder};
+use nd_test_arrays::{lists, made, shows};
+use std::process::Abort;
+
+// Why an array of these elements under this shape is refused.
+fn array_refusal<D: Dimension, Sh: IntoStrideShape<Dim = D> + Drop>(
+    rt: &(impl Abort + AllocGlobal),
+    shape: Sh,
+    items: &[u64],
+) -> Option<ErrorKind> {
+    let items = Vec::from_slice(rt.alloc(), items).expect(rt, "memory");
+    match Array::from_shape_vec(shape, items) {
+        Ok(_) => None,
+        Err(error) => Some(error.kind()),
+    }
+}
 
 #[test]
-fn causes_of_vectors(rt: HostRuntime) -> Result<(), Fail> {
-    for (count, wanted) in [
-        (5, Some(ErrorKind::OutOfBounds)),
-        (6, None),
-        (7, Some(ErrorKind::IncompatibleShape)),
-    ] {
-        let made: Result<Array<u64, Ix2>, _> = Array::from_shape_vec(
-            (2, 3),
-            numbers(rt.alloc(), 0, count)?,
-        );
-        assert_eq!(rt; made.err().map(|e| e.kind()), wanted);
+fn causes_of_vectors(rt: HostRuntime) {
+    let table: [(&[u64], Option<ErrorKind>); 3] = [
+        (&[0, 1, 2, 3, 4], Some(ErrorKind::OutOfBounds)),
+        (&[0, 1, 2, 3, 4, 5], None),
+        (&[0, 1, 2, 3, 4, 5, 6], Some(ErrorKind::IncompatibleShape)),
+    ];
+    for (items, wanted) in table {
+        assert_eq!(rt; array_refusal(&rt, (2, 3), items), wanted);
     }
-    let large = 1 << 40;
-    let shape = IxDyn::new(&[large, large, 0]);
-    let made = Array::from_shape_vec(shape, numbers(rt.alloc(), 0, 0)?);
-    assert_eq!(rt; made.err().map(|e| e.kind()), Some(ErrorKind::Overflow));
-    Ok(())
+    let shape = IxDyn::new(&[1 << 40, 1 << 40, 0]);
+    assert_eq!(rt; array_refusal(&rt, shape, &[]), Some(ErrorKind::Overflow));
 }
 
 // Why a view of these elements under this shape is refused.
@@ -40,13 +45,13 @@ fn refusal<D: Dimension, Sh: IntoStrideShape<Dim = D>>(
 
 #[test]
 fn causes_of_slices(rt: HostRuntime) {
-    let items = [1, 2, 3, 4, 5, 6, 7];
-    assert_eq!(rt; refusal((2, 4), &items), Some(ErrorKind::OutOfBounds));
-    assert_eq!(rt; refusal((2, 3), &items), None);
-    assert_eq!(rt;
-        refusal((1 << 32, 1 << 31), &items),
-        Some(ErrorKind::Overflow)
-    );
+    for (shape, wanted) in [
+        ((2, 4), Some(ErrorKind::OutOfBounds)),
+        ((2, 3), None),
+        ((1 << 32, 1 << 31), Some(ErrorKind::Overflow)),
+    ] {
+        assert_eq!(rt; refusal(shape, &[1, 2, 3, 4, 5, 6, 7]), wanted);
+    }
 }
 
 // The view of this shape; None where it is refused.
@@ -60,98 +65,82 @@ fn seen<D: Dimension, Sh: IntoStrideShape<Dim = D>>(
     }
 }
 
+// Elements that two indexes share, and too few where some lie between.
 #[test]
-fn shared_elements(rt: HostRuntime) -> Result<(), Fail> {
-    let owned: Result<Array<u64, Ix2>, _> = Array::from_shape_vec(
-        (2, 2).strides(&[1, 1]),
-        numbers(rt.alloc(), 1, 3)?,
-    );
-    assert_eq!(rt; owned.err().map(|e| e.kind()), Some(ErrorKind::Unsupported));
-    let items = [1, 2, 3];
-    let view = seen((2, 2).strides(&[1, 1]), &items).ok_or("shape")?;
-    assert_eq!(rt; view.get([0, 0]).copied(), Some(1));
-    assert_eq!(rt; view.get([0, 1]).copied(), Some(2));
-    assert_eq!(rt; view.get([1, 0]).copied(), Some(2));
-    assert_eq!(rt; view.get([1, 1]).copied(), Some(3));
-    Ok(())
+fn causes_of_strides(rt: HostRuntime) {
+    let table: [([isize; 2], &[u64], ErrorKind); 2] = [
+        ([1, 1], &[1, 2, 3], ErrorKind::Unsupported),
+        ([4, 1], &[1, 2, 3, 4, 5], ErrorKind::OutOfBounds),
+    ];
+    for (strides, items, wanted) in table {
+        let shape = (2, 2).strides(&strides);
+        assert_eq!(rt; array_refusal(&rt, shape, items), Some(wanted));
+    }
 }
 
 #[test]
-fn negative_stride(rt: HostRuntime) -> Result<(), Fail> {
-    let back = array_of(3.strides(&[-1]), numbers(rt.alloc(), 1, 3)?)?;
-    assert_eq!(rt; back.get(0).copied(), Some(3));
-    assert_eq!(rt; back.get(1).copied(), Some(2));
-    assert_eq!(rt; back.get(2).copied(), Some(1));
-    assert_eq!(rt; back.strides(), [-1].as_slice());
-    Ok(())
+fn shared_elements(rt: HostRuntime) {
+    let view = seen((2, 2).strides(&[1, 1]), &[1, 2, 3]).expect(&rt, "shape");
+    assert!(rt; shows(&view, [2, 2], &[1, 2, 2, 3]));
 }
 
 #[test]
-fn strides_with_gaps(rt: HostRuntime) -> Result<(), Fail> {
+fn negative_stride(rt: HostRuntime) {
+    let back: Array1<u64> = made(rt.alloc(), 3.strides(&[-1]), &[1, 2, 3]).expect(&rt, "made");
+    assert!(rt; lists(&back, &[3, 2, 1]) && back.strides() == [-1].as_slice());
+}
+
+#[test]
+fn strides_with_gaps(rt: HostRuntime) {
     let shape = (2, 2).strides(&[4, 1]);
-    let array = array_of(shape, numbers(rt.alloc(), 1, 8)?)?;
-    assert_eq!(rt; array.get([0, 0]).copied(), Some(1));
-    assert_eq!(rt; array.get([0, 1]).copied(), Some(2));
-    assert_eq!(rt; array.get([1, 0]).copied(), Some(5));
-    assert_eq!(rt; array.get([1, 1]).copied(), Some(6));
-    let short: Result<Array<u64, Ix2>, _> = Array::from_shape_vec(
-        (2, 2).strides(&[4, 1]),
-        numbers(rt.alloc(), 1, 5)?,
-    );
-    assert_eq!(rt; short.err().map(|e| e.kind()), Some(ErrorKind::OutOfBounds));
-    Ok(())
+    let array: Array2<u64> = made(rt.alloc(), shape, &[1, 2, 3, 4, 5, 6, 7, 8]).expect(&rt, "made");
+    assert!(rt; shows(&array, [2, 2], &[1, 2, 5, 6]));
 }
 
 #[test]
-fn no_elements(rt: HostRuntime) -> Result<(), Fail> {
-    let short: Result<Array<u64, Ix3>, _> = Array::from_shape_vec(
-        (2, 0, 3).strides(&[3, 6, -1]),
-        numbers(rt.alloc(), 1, 4)?,
-    );
-    assert_eq!(rt; short.err().map(|e| e.kind()), Some(ErrorKind::OutOfBounds));
-    let array = array_of((2, 0, 3).strides(&[3, 6, -1]), numbers(rt.alloc(), 1, 5)?)?;
-    assert_eq!(rt; array.len(), 0);
-    assert_eq!(rt; array.get([0, 0, 0]).copied(), None);
-    Ok(())
+fn no_elements(rt: HostRuntime) {
+    for (items, wanted) in [
+        ([1, 2, 3, 4].as_slice(), Some(ErrorKind::OutOfBounds)),
+        ([1, 2, 3, 4, 5].as_slice(), None),
+    ] {
+        let shape = (2, 0, 3).strides(&[3, 6, -1]);
+        assert_eq!(rt; array_refusal(&rt, shape, items), wanted);
+    }
+    let shape = (2, 0, 3).strides(&[3, 6, -1]);
+    let array: Array3<u64> = made(rt.alloc(), shape, &[1, 2, 3, 4, 5]).expect(&rt, "made");
+    assert!(rt; array.len() == 0 && array.get([0, 0, 0]).is_none());
 }
 
 #[test]
-fn spans_too_large(rt: HostRuntime) -> Result<(), Fail> {
-    let large = 1 << 40;
-    let shape = (large, large, 0).strides(&[1, 1, 1]);
-    let made: Result<Array<u64, Ix3>, _> = Array::from_shape_vec(shape, numbers(rt.alloc(), 1, 1)?);
-    assert_eq!(rt; made.err().map(|e| e.kind()), Some(ErrorKind::Overflow));
-    let items = [1, 2];
-    assert_eq!(rt;
-        refusal(2.strides(&[isize::MIN]), &items),
-        Some(ErrorKind::Overflow)
-    );
-    assert_eq!(rt;
-        refusal(2.strides(&[isize::MAX]), &items),
-        Some(ErrorKind::OutOfBounds)
-    );
-    assert_eq!(rt; refusal(2.strides(&[-1]), &items), None);
-    Ok(())
+fn spans_too_large(rt: HostRuntime) {
+    let shape = (1 << 40, 1 << 40, 0).strides(&[1, 1, 1]);
+    assert_eq!(rt; array_refusal(&rt, shape, &[1]), Some(ErrorKind::Overflow));
+    for (stride, wanted) in [
+        (isize::MIN, Some(ErrorKind::Overflow)),
+        (isize::MAX, Some(ErrorKind::OutOfBounds)),
+        (-1, None),
+    ] {
+        assert_eq!(rt; refusal(2.strides(&[stride]), &[1, 2]), wanted);
+    }
 }
 
 #[test]
-fn least_stride(rt: HostRuntime) -> Result<(), Fail> {
-    let items = [5];
-    let mut view = seen(1.strides(&[isize::MIN]), &items).ok_or("shape")?;
-    assert_eq!(rt; view.get(0).copied(), Some(5));
-    assert_eq!(rt; view.strides(), [isize::MIN].as_slice());
+fn least_stride(rt: HostRuntime) {
+    let mut view = seen(1.strides(&[isize::MIN]), &[5]).expect(&rt, "shape");
+    assert!(rt; lists(&view, &[5]) && view.strides() == [isize::MIN].as_slice());
+    let _count = view.dim();
     view.invert_axis(Axis(0));
-    assert_eq!(rt; view.get(0).copied(), Some(5));
-    assert_eq!(rt; view.strides(), [0].as_slice());
-    Ok(())
+    assert!(rt; lists(&view, &[5]) && view.strides() == [0].as_slice());
 }
 
 #[test]
-fn column_major(rt: HostRuntime) -> Result<(), Fail> {
-    let array = array_of((3, 2, 4).f(), numbers(rt.alloc(), 1, 24)?)?;
+fn column_major(rt: HostRuntime) {
+    let items = [
+        1, 2, 3, 4, 5, 6, 7, 8, 9, 10, 11, 12, 13, 14, 15, 16, 17, 18, 19, 20, 21, 22, 23, 24,
+    ];
+    let array: Array3<u64> = made(rt.alloc(), (3, 2, 4).f(), items.as_slice()).expect(&rt, "made");
     assert_eq!(rt; array.strides(), [1, 3, 6].as_slice());
-    assert_eq!(rt; array.get([1, 0, 0]).copied(), Some(2));
-    assert_eq!(rt; array.get([0, 1, 0]).copied(), Some(4));
-    assert_eq!(rt; array.get([0, 0, 1]).copied(), Some(7));
-    Ok(())
+    for (index, number) in [([1, 0, 0], 2), ([0, 1, 0], 4), ([0, 0, 1], 7)] {
+        assert_eq!(rt; array.get(index).copied(), Some(number));
+    }
 }

@@ -18,4 +18,6 @@ mod regrouped;
 #[cfg(test)]
 mod reshapes;
 #[cfg(test)]
+mod shown;
+#[cfg(test)]
 mod standard_layouts;

@@ -1,36 +1,41 @@
 //! Reshapes that copy only where no strides give the elements their places.
 
-use nd_array_core::{Array1, Array2, Array3, ArrayError, ViewOrOwned};
-use nd_shape_and_slice::{Axis, Dimension, ErrorKind, Order, Slice};
-use nd_test_arrays::{array_of, numbers};
+use crate::shown::{lies, one_to_six};
+use nd_array_core::{Array1, Array2, ArrayBase, ArrayError, Data, ViewOrOwned};
+use nd_shape_and_slice::{Axis, Dimension, ErrorKind, Order, ShapeArg, ShapeBuilder, Slice};
+use nd_test_arrays::{array_of, made, numbers};
 use std::alloc::Global;
 use std::test::Fail;
 
-// Whether an answer is a view with these strides.
-fn is_view_by<D: Dimension>(answer: &ViewOrOwned<'_, u64, D>, strides: &[isize]) -> bool {
-    answer.is_view() && answer.view().strides() == strides
+// Whether an answer is a view or not, and has these strides and these elements in row-major order.
+fn is_seen<D: Dimension>(
+    alloc: Global,
+    answer: &ViewOrOwned<'_, u64, D>,
+    is_view: bool,
+    strides: &[isize],
+    wanted: &[u64],
+) -> bool {
+    answer.is_view() == is_view
+        && answer.is_owned() != is_view
+        && answer.view().strides() == strides
+        && match answer.view().to_vec(alloc) {
+            Ok(items) => items.as_slice() == wanted,
+            Err(_) => false,
+        }
 }
 
-// Whether an answer owns its elements, and has these strides.
-fn is_owned_by<D: Dimension>(answer: &ViewOrOwned<'_, u64, D>, strides: &[isize]) -> bool {
-    answer.is_owned() && answer.view().strides() == strides
-}
-
-// Its elements in row-major order.
-fn items<D: Dimension>(alloc: Global, answer: &ViewOrOwned<'_, u64, D>) -> Result<Vec<u64>, Fail> {
-    match answer.view().to_vec(alloc) {
-        Ok(items) => Ok(items),
-        Err(_) => Err("memory".into()),
-    }
-}
-
-// The answer, where a reshape was not refused.
-fn answered<'a, D: Dimension>(
-    outcome: Result<ViewOrOwned<'a, u64, D>, ArrayError>,
-) -> Result<ViewOrOwned<'a, u64, D>, Fail> {
-    match outcome {
-        Ok(answer) => Ok(answer),
-        Err(_) => Err("refused".into()),
+// Whether an array under another shape is a view or not, and has these strides and these elements in row-major order.
+fn reshapes<S: Data<Elem = u64>, D: Dimension, E: ShapeArg>(
+    alloc: Global,
+    array: &ArrayBase<S, D>,
+    shape: E,
+    is_view: bool,
+    strides: &[isize],
+    wanted: &[u64],
+) -> bool {
+    match array.to_shape(alloc, shape) {
+        Ok(answer) => is_seen(alloc, &answer, is_view, strides, wanted),
+        Err(_) => false,
     }
 }
 
@@ -44,132 +49,109 @@ fn is_no_shape<D: Dimension>(outcome: &Result<ViewOrOwned<'_, u64, D>, ArrayErro
 
 #[test]
 fn every_second_of_a_last_axis(rt: HostRuntime) -> Result<(), Fail> {
-    let whole: Array3<u64> = array_of((2, 3, 8), numbers(rt.alloc(), 0, 48)?)?;
+    let alloc = rt.alloc();
+    let whole = array_of((2, 3, 8), numbers(alloc, 0, 48)?)?;
     let _axes = whole.ndim();
-    let half = whole.slice_axis(
-        Axis(2),
-        Slice {
-            start: 0,
-            end: Some(8),
-            step: 2,
-        },
-    );
-    let line = answered(half.to_shape(rt.alloc(), 24))?;
-    assert!(rt; is_view_by(&line, &[2]));
-    let list = items(rt.alloc(), &line)?;
-    assert_eq!(rt; list.len(), 24);
-    assert_eq!(rt; list.get(1).copied(), Some(2));
-    assert_eq!(rt; list.get(23).copied(), Some(46));
-    let boxes = answered(half.to_shape(rt.alloc(), (6, 2, 2)))?;
-    assert!(rt; is_view_by(&boxes, &[8, 4, 2]));
-    let columns = answered(half.to_shape(rt.alloc(), (24, Order::ColumnMajor)))?;
-    assert!(rt; is_owned_by(&columns, &[1]));
-    Ok(())
-}
-
-#[test]
-fn two_columns_of_three(rt: HostRuntime) -> Result<(), Fail> {
-    let whole: Array2<u64> = array_of((2, 3), numbers(rt.alloc(), 1, 6)?)?;
-    let (_rows, _columns) = whole.dim();
-    let two = whole.slice_axis(
-        Axis(1),
-        Slice {
-            start: 0,
-            end: Some(2),
-            step: 1,
-        },
-    );
-    let line = answered(two.to_shape(rt.alloc(), 4))?;
-    assert!(rt; is_owned_by(&line, &[1]));
-    assert_eq!(rt;
-        items(rt.alloc(), &line)?.as_slice(),
-        [1, 2, 4, 5].as_slice()
-    );
-    let boxes = answered(two.to_shape(rt.alloc(), (2, 1, 2)))?;
-    assert!(rt; boxes.is_view());
-    assert_eq!(rt;
-        items(rt.alloc(), &boxes)?.as_slice(),
-        [1, 2, 4, 5].as_slice()
-    );
-    let refused = two.to_shape(rt.alloc(), 5);
-    assert!(rt; is_no_shape(&refused));
-    Ok(())
-}
-
-#[test]
-fn an_inverted_line_as_a_square(rt: HostRuntime) -> Result<(), Fail> {
-    let mut line: Array1<u64> = array_of(4, numbers(rt.alloc(), 1, 4)?)?;
-    let _count = line.dim();
-    line.invert_axis(Axis(0));
-    let square = answered(line.to_shape(rt.alloc(), (2, 2)))?;
-    assert!(rt; is_view_by(&square, &[-2, -1]));
-    assert_eq!(rt;
-        items(rt.alloc(), &square)?.as_slice(),
-        [4, 3, 2, 1].as_slice()
+    let half = whole.slice_axis(Axis(2), Slice::new(0, Some(8), 2));
+    let rows = [
+        0, 2, 4, 6, 8, 10, 12, 14, 16, 18, 20, 22, 24, 26, 28, 30, 32, 34, 36, 38, 40, 42, 44, 46,
+    ];
+    let columns = [
+        0, 24, 8, 32, 16, 40, 2, 26, 10, 34, 18, 42, 4, 28, 12, 36, 20, 44, 6, 30, 14, 38, 22, 46,
+    ];
+    assert!(rt; reshapes(alloc, &half, 24, true, &[2], &rows));
+    assert!(rt; reshapes(alloc, &half, (6, 2, 2), true, &[8, 4, 2], &rows));
+    assert!(rt;
+        reshapes(
+            alloc,
+            &half,
+            (24, Order::ColumnMajor),
+            false,
+            &[1],
+            &columns
+        )
     );
     Ok(())
 }
 
 #[test]
-fn a_transpose_in_both_orders(rt: HostRuntime) -> Result<(), Fail> {
-    let whole: Array2<u64> = array_of((2, 3), numbers(rt.alloc(), 1, 6)?)?;
+fn two_columns_of_three(rt: HostRuntime) {
+    let alloc = rt.alloc();
+    let whole = one_to_six(&rt);
+    let two = whole.slice_axis(Axis(1), Slice::new(0, Some(2), 1));
+    assert!(rt; reshapes(alloc, &two, 4, false, &[1], &[1, 2, 4, 5]));
+    assert!(rt; reshapes(alloc, &two, (2, 1, 2), true, &[3, 0, 1], &[1, 2, 4, 5]));
+    assert!(rt; is_no_shape(&two.to_shape(alloc, 5)));
+}
+
+#[test]
+fn an_inverted_line_as_a_square(rt: HostRuntime) {
+    let line: Array1<u64> = made(rt.alloc(), 4.strides(&[-1]), &[1, 2, 3, 4]).expect(&rt, "made");
+    assert!(rt; reshapes(rt.alloc(), &line, (2, 2), true, &[-2, -1], &[4, 3, 2, 1]));
+}
+
+#[test]
+fn a_transpose_in_both_orders(rt: HostRuntime) {
+    let alloc = rt.alloc();
+    let whole = one_to_six(&rt);
     let turned = whole.t();
-    let columns = answered(turned.to_shape(rt.alloc(), (6, Order::ColumnMajor)))?;
-    assert!(rt; columns.is_view());
-    assert_eq!(rt;
-        items(rt.alloc(), &columns)?.as_slice(),
-        [1, 2, 3, 4, 5, 6].as_slice()
-    );
-    let rows = answered(turned.to_shape(rt.alloc(), 6))?;
-    assert!(rt; rows.is_owned());
-    assert_eq!(rt;
-        items(rt.alloc(), &rows)?.as_slice(),
-        [1, 4, 2, 5, 3, 6].as_slice()
-    );
-    Ok(())
+    let columns = (6, Order::ColumnMajor);
+    assert!(rt; reshapes(alloc, &turned, columns, true, &[1], &[1, 2, 3, 4, 5, 6]));
+    assert!(rt; reshapes(alloc, &turned, 6, false, &[1], &[1, 4, 2, 5, 3, 6]));
+}
+
+// Whether an array in a line, in one of the orders, is a view or not, and has these elements.
+fn flattens(
+    alloc: Global,
+    array: &Array2<u64>,
+    order: Order,
+    is_view: bool,
+    wanted: &[u64],
+) -> bool {
+    match array.flatten_with_order(alloc, order) {
+        Ok(answer) => is_seen(alloc, &answer, is_view, &[1], wanted),
+        Err(_) => false,
+    }
 }
 
 #[test]
-fn flattened_in_both_orders(rt: HostRuntime) -> Result<(), Fail> {
-    let pairs: Array2<u64> = array_of((4, 2), numbers(rt.alloc(), 1, 8)?)?;
-    match pairs.flatten_with_order(rt.alloc(), Order::RowMajor) {
-        Ok(rows) => assert_eq!(rt;
-            items(rt.alloc(), &rows)?.as_slice(),
-            [1, 2, 3, 4, 5, 6, 7, 8].as_slice()
-        ),
-        Err(_) => return Err("memory".into()),
-    }
-    match pairs.flatten_with_order(rt.alloc(), Order::ColumnMajor) {
-        Ok(columns) => assert_eq!(rt;
-            items(rt.alloc(), &columns)?.as_slice(),
-            [1, 3, 5, 7, 2, 4, 6, 8].as_slice()
-        ),
-        Err(_) => return Err("memory".into()),
-    }
-    Ok(())
+fn flattened_in_both_orders(rt: HostRuntime) {
+    let alloc = rt.alloc();
+    let pairs: Array2<u64> = made(alloc, (4, 2), &[1, 2, 3, 4, 5, 6, 7, 8]).expect(&rt, "made");
+    assert!(rt;
+        flattens(
+            alloc,
+            &pairs,
+            Order::RowMajor,
+            true,
+            &[1, 2, 3, 4, 5, 6, 7, 8]
+        )
+    );
+    assert!(rt;
+        flattens(
+            alloc,
+            &pairs,
+            Order::ColumnMajor,
+            false,
+            &[1, 3, 5, 7, 2, 4, 6, 8]
+        )
+    );
 }
 
 #[test]
-fn storage_kept_or_copied(rt: HostRuntime) -> Result<(), Fail> {
-    let mut line: Array1<u64> = array_of(4, numbers(rt.alloc(), 1, 4)?)?;
-    let _count = line.dim();
-    line.invert_axis(Axis(0));
-    match line.into_shape_clone(rt.alloc(), (2, 2)) {
-        Ok(square) => {
-            assert_eq!(rt; square.strides(), [-2, -1].as_slice());
-            assert_eq!(rt;
-                square.as_slice_memory_order(),
-                Some([1, 2, 3, 4].as_slice())
-            );
-        }
-        Err(_) => return Err("refused".into()),
-    }
-    let square: Array2<u64> = array_of((2, 2), numbers(rt.alloc(), 1, 4)?)?;
-    match square.reversed_axes().into_flat(rt.alloc()) {
-        Ok(flat) => {
-            assert_eq!(rt; flat.as_slice(), Some([1, 3, 2, 4].as_slice()));
-        }
-        Err(_) => return Err("refused".into()),
-    }
-    Ok(())
+fn storage_kept(rt: HostRuntime) {
+    let line: Array1<u64> = made(rt.alloc(), 4.strides(&[-1]), &[1, 2, 3, 4]).expect(&rt, "made");
+    let square = line
+        .into_shape_clone(rt.alloc(), (2, 2))
+        .expect(&rt, "refused");
+    assert!(rt; lies(&square, [-2, -1], [2, 2], &[4, 3, 2, 1]));
+    let stored = square.as_slice_memory_order();
+    assert_eq!(rt; stored, Some([1, 2, 3, 4].as_slice()));
+}
+
+#[test]
+fn columns_copied_to_a_line(rt: HostRuntime) {
+    let square: Array2<u64> = made(rt.alloc(), (2, 2).f(), &[1, 2, 3, 4]).expect(&rt, "made");
+    let flat = square.into_flat(rt.alloc()).expect(&rt, "refused");
+    assert_eq!(rt; flat.as_slice(), Some([1, 3, 2, 4].as_slice()));
 }

@@ -1,96 +1,76 @@
 //! Arrays in the standard layout: views where the elements lie so already, and else copies.
 
-use nd_array_core::{Array2, ArrayBase, Data, ViewOrOwned};
-use nd_shape_and_slice::{Axis, Dimension, Slice, slice_fits};
-use nd_test_arrays::{array_of, numbers};
+use crate::shown::one_to_six;
+use nd_array_core::{Array2, ArrayBase, Data};
+use nd_shape_and_slice::{Axis, Ix2, Slice, slice_fits};
+use nd_test_arrays::made;
 use std::alloc::Global;
-use std::test::Fail;
+use std::process::Abort;
 
-// Whether an answer is a view, and its elements in row-major order; an error where its strides are others.
-fn seen<D: Dimension>(
+// Whether an array in the standard layout is a view or not, has these strides, and these elements in row-major order.
+fn is_seen<S: Data<Elem = u64>>(
     alloc: Global,
-    answer: &ViewOrOwned<'_, u64, D>,
-    strides: &[isize],
-) -> Result<(bool, Vec<u64>), Fail> {
-    if answer.view().strides() != strides || answer.is_view() == answer.is_owned() {
-        return Err("strides".into());
-    }
-    match answer.view().to_vec(alloc) {
-        Ok(items) => Ok((answer.is_view(), items)),
-        Err(_) => Err("memory".into()),
-    }
-}
-
-// Whether an array in the standard layout is a view, with these strides, and its elements in row-major order.
-fn standard_items<S: Data<Elem = u64>, D: Dimension>(
-    alloc: Global,
-    array: &ArrayBase<S, D>,
-    strides: &[isize],
-) -> Result<(bool, Vec<u64>), Fail> {
+    array: &ArrayBase<S, Ix2>,
+    is_view: bool,
+    strides: [isize; 2],
+    wanted: &[u64],
+) -> bool {
     match array.as_standard_layout(alloc) {
-        Ok(answer) => seen(alloc, &answer, strides),
-        Err(_) => Err("memory".into()),
-    }
-}
-
-fn one_to_six(rt: &HostRuntime) -> Result<Array2<u64>, Fail> {
-    array_of((2, 3), numbers(rt.alloc(), 1, 6)?)
-}
-
-#[test]
-fn a_new_array_is_seen(rt: HostRuntime) -> Result<(), Fail> {
-    let whole = one_to_six(&rt)?;
-    let (is_view, items) = standard_items(rt.alloc(), &whole, &[3, 1])?;
-    assert!(rt; is_view);
-    assert_eq!(rt; items.as_slice(), [1, 2, 3, 4, 5, 6].as_slice());
-    Ok(())
-}
-
-#[test]
-fn a_transpose_is_copied(rt: HostRuntime) -> Result<(), Fail> {
-    let whole = one_to_six(&rt)?;
-    let (is_view, items) = standard_items(rt.alloc(), &whole.t(), &[2, 1])?;
-    assert!(rt; !is_view);
-    assert_eq!(rt; items.as_slice(), [1, 4, 2, 5, 3, 6].as_slice());
-    Ok(())
-}
-
-// The elements of a part of an array in which a step is left out, or that goes backwards.
-fn of_columns(rt: &HostRuntime, columns: Slice) -> Result<(bool, Vec<u64>), Fail> {
-    let whole = one_to_six(rt)?;
-    let (_rows, _columns) = whole.dim();
-    if slice_fits(whole.len_of(Axis(1)), columns) {
-        standard_items(rt.alloc(), &whole.slice_axis(Axis(1), columns), &[2, 1])
-    } else {
-        Err("columns".into())
+        Ok(answer) => {
+            answer.is_view() == is_view
+                && answer.is_owned() != is_view
+                && answer.view().strides() == strides.as_slice()
+                && match answer.view().to_vec(alloc) {
+                    Ok(items) => items.as_slice() == wanted,
+                    Err(_) => false,
+                }
+        }
+        Err(_) => false,
     }
 }
 
 #[test]
-fn parts_are_copied(rt: HostRuntime) -> Result<(), Fail> {
-    let (is_view, items) = of_columns(&rt, Slice::new(0, Some(2), 1))?;
-    assert!(rt; !is_view);
-    assert_eq!(rt; items.as_slice(), [1, 2, 4, 5].as_slice());
-    let (is_view, items) = of_columns(&rt, Slice::new(0, None, -2))?;
-    assert!(rt; !is_view);
-    assert_eq!(rt; items.as_slice(), [3, 1, 6, 4].as_slice());
-    Ok(())
+fn a_new_array_is_seen(rt: HostRuntime) {
+    let whole = one_to_six(&rt);
+    assert!(rt; is_seen(rt.alloc(), &whole, true, [3, 1], &[1, 2, 3, 4, 5, 6]));
+}
+
+// Tables whose axes are exchanged: their shapes and elements before, whether they are seen, by which strides, and as what.
+// Axes of length 1 don't count, nor do any where there are no elements.
+#[test]
+fn a_transpose_is_copied(rt: HostRuntime) {
+    let table: [((usize, usize), &[u64], bool, [isize; 2], &[u64]); 3] = [
+        (
+            (2, 3),
+            &[1, 2, 3, 4, 5, 6],
+            false,
+            [2, 1],
+            &[1, 4, 2, 5, 3, 6],
+        ),
+        ((1, 3), &[1, 2, 3], true, [1, 3], &[1, 2, 3]),
+        ((0, 3), &[], true, [0, 0], &[]),
+    ];
+    for (shape, items, is_view, strides, wanted) in table {
+        let whole: Array2<u64> = made(rt.alloc(), shape, items).expect(&rt, "made");
+        assert!(rt; is_seen(rt.alloc(), &whole.t(), is_view, strides, wanted));
+    }
+}
+
+// Columns of a table: a last one is left out, or they go backwards by steps.
+fn are_copied(rt: &(impl Abort + AllocGlobal), columns: Slice, wanted: &[u64]) -> bool {
+    let whole = one_to_six(rt);
+    slice_fits(whole.len_of(Axis(1)), columns)
+        && is_seen(
+            rt.alloc(),
+            &whole.slice_axis(Axis(1), columns),
+            false,
+            [2, 1],
+            wanted,
+        )
 }
 
 #[test]
-fn axes_of_length_1_do_not_count(rt: HostRuntime) -> Result<(), Fail> {
-    let row: Array2<u64> = array_of((1, 3), numbers(rt.alloc(), 1, 3)?)?;
-    let (is_view, items) = standard_items(rt.alloc(), &row.t(), &[1, 3])?;
-    assert!(rt; is_view);
-    assert_eq!(rt; items.as_slice(), [1, 2, 3].as_slice());
-    Ok(())
-}
-
-#[test]
-fn no_elements_are_seen(rt: HostRuntime) -> Result<(), Fail> {
-    let none: Array2<u64> = array_of((0, 3), Vec::new(rt.alloc()))?;
-    let (is_view, items) = standard_items(rt.alloc(), &none.t(), &[0, 0])?;
-    assert!(rt; is_view);
-    assert_eq!(rt; items.len(), 0);
-    Ok(())
+fn parts_are_copied(rt: HostRuntime) {
+    assert!(rt; are_copied(&rt, Slice::new(0, Some(2), 1), &[1, 2, 4, 5]));
+    assert!(rt; are_copied(&rt, Slice::new(0, None, -2), &[3, 1, 6, 4]));
 }

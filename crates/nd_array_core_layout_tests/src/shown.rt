@@ -1,0 +1,26 @@
+//! What tests of this crate share: a table, and how one lies.
+
+ghost use Rattle.std.specs.Prelude.{◌≡◌, ◌∷◌, []};
+ghost use Rattle.nd_array_core.specs.Meaning.{shape_of};
+
+use nd_array_core::{Array2, ArrayBase, Data};
+use nd_shape_and_slice::Ix2;
+use nd_test_arrays::{made, shows};
+use std::process::Abort;
+
+/// 1 2 3 / 4 5 6.
+pub fn one_to_six(rt: &(impl Abort + AllocGlobal)) -> Array2<u64>
+    ensures { shape_of result ≡ 2 ∷ 3 ∷ [] }
+{
+    made(rt.alloc(), (2, 3), &[1, 2, 3, 4, 5, 6]).expect(rt, "made")
+}
+
+/// Whether a table has these strides, this shape, and these numbers row by row.
+pub fn lies<S: Data<Elem = u64>>(
+    table: &ArrayBase<S, Ix2>,
+    strides: [isize; 2],
+    shape: [usize; 2],
+    wanted: &[u64],
+) -> bool {
+    table.strides() == strides.as_slice() && shows(table, shape, wanted)
+}
