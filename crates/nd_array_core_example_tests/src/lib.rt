@@ -6,6 +6,4 @@ mod parts;
 #[cfg(test)]
 mod questions;
 #[cfg(test)]
-mod tables;
-#[cfg(test)]
 mod totals;
