@@ -40,6 +40,7 @@ WHY = [
     "- a lane more here: place and rank of the walk are kept in memory here, the same way in registers;",
     "- memcpy, memcmp: a clone may be refused and `==` is the elements' own, so both are loops here;",
     "- vectors of 32 bytes: this code is compiled for processors without them; numpy chooses as it starts;",
+    "- along the left: lanes go along the side that is written, whichever takes longer to step over;",
     "- in order: a vector takes an element behind its last one alone, and the best plain loop writes out of turn;",
     "- what may change read anew: the view that is written, or the vector that is filled, is lent to the loop, so its place in memory",
     "  (or length) is read again after each write, which might have changed it for all that the compiler knows.",
@@ -151,7 +152,7 @@ class Row:
         if self.over("plain") >= self.most() + 0.005:
             return "; ".join(self.causes(plain))
         loop = f"the best plain loop takes {plain / numpys:.2f} of numpy"
-        if plain >= 0.995 * numpys:
+        if plain >= 0.995 * numpys and here < 1.1 * plain:
             return loop + self.instead(plain, numpys)
         return "; ".join([loop, *self.causes(plain)])
 
@@ -166,7 +167,9 @@ class Row:
             anew = way
         if here < 1.1 * anew:
             return
-        if self.elements() < SHORT * self.lanes:
+        if self.is_small() and self.lanes == 1:
+            yield f"the call takes {here - anew:.2f} of its {here:.2f} microseconds more here"
+        elif self.elements() < SHORT * self.lanes:
             yield f"a lane takes {(here - anew) / self.lanes * 1000:.0f} ns of its {here / self.lanes * 1000:.0f} more here"
         else:
             yield f"here {here / anew:.2f} of that"
@@ -177,6 +180,9 @@ class Row:
             if ordered >= 1.1 * plain:
                 return f", in order by nested loops {self.beside.get('nested', way) / plain:.2f}"
         faster = self.instead(way, plain) if way >= 1.05 * plain else ""
+        left = min((self.beside[form] for form in ["lanes of the left", "parts, left"] if form in self.beside), default=plain)
+        if self.form in [2, 4] and min(way, left) >= 1.1 * plain:
+            faster += f", along the left, as here, the best loop {left / plain:.2f}"
         return faster or (f", which goes by {FORMS[self.form]}" if way >= 1.1 * plain else "")
 
     def instead(self, time, over):
@@ -260,6 +266,7 @@ class Bench:
         for number, name in enumerate(WAYS):
             if number == 0 or self.lib.orders_has_way(ctypes.byref(case), ctypes.c_size_t(number)):
                 makers[name] = way(number)
+        makers |= {FORMS[form]: plain(form) for form in forms if form != row.form}
         row.lanes = self.lib.orders_lanes(ctypes.byref(case))
         if self.lib.orders_has_slices(ctypes.byref(case)):
             row.memory = {"==": "by memcmp", "zip_mut_with": ""}.get(row.call, "by memcpy")
@@ -282,8 +289,8 @@ class Bench:
         if row.form != 0 or row.elements() < TURNED:
             return self.least(row, (1, 1), 1000)[0]
         part = tuple(length * 7 // 10 for length in row.shape)
-        whole, less = (self.least(row, shape, 100)[0] for shape in [row.shape, part])
-        return max(0, whole - (whole - less) / (1 - numpy.prod(part) / row.elements()))
+        whole, less = (min(times) for times in zip(*([self.least(row, shape, 10)[0] for shape in [row.shape, part]] for _ in range(20))))
+        return min(whole, max(0, whole - (whole - less) / (1 - numpy.prod(part) / row.elements())))
 
     def least(self, row, shape, calls, ways=()):
         """The least times of the row's call over another shape, here and by ways of as_here.rs."""
