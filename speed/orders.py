@@ -40,7 +40,7 @@ WHY = [
     "- a lane more here: place and rank of the walk are kept in memory here, the same way in registers;",
     "- memcpy, memcmp: a clone may be refused and `==` is the elements' own, so both are loops here;",
     "- vectors of 32 bytes: this code is compiled for processors without them; numpy chooses as it starts;",
-    "- along the left: lanes go along the side that is written, whichever takes longer to step over;",
+    "- along the left: lanes go along the left side, the one that `assign` writes, in every call and order;",
     "- in order: a vector takes an element behind its last one alone, and the best plain loop writes out of turn;",
     "- what may change read anew: the view that is written, or the vector that is filled, is lent to the loop, so its place in memory",
     "  (or length) is read again after each write, which might have changed it for all that the compiler knows.",
@@ -181,7 +181,7 @@ class Row:
                 return f", in order by nested loops {self.beside.get('nested', way) / plain:.2f}"
         faster = self.instead(way, plain) if way >= 1.05 * plain else ""
         left = min((self.beside[form] for form in ["lanes of the left", "parts, left"] if form in self.beside), default=plain)
-        if self.form in [2, 4] and min(way, left) >= 1.1 * plain:
+        if self.form in [2, 4] and left >= 1.1 * plain and way >= 0.95 * left:
             faster += f", along the left, as here, the best loop {left / plain:.2f}"
         return faster or (f", which goes by {FORMS[self.form]}" if way >= 1.1 * plain else "")
 
