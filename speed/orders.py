@@ -347,7 +347,8 @@ def whole_table(measured, lane_times):
     missing = [(row, list(row.misses())) for row in measured]
     missing = [(row, reasons) for row, reasons in missing if reasons]
     yield from WHY
-    yield "Nanoseconds that a lane of bytes takes beside its elements, in the cache, by a line through lengths of 64 to 384: " + "; ".join(
+    yield "Nanoseconds that a lane of bytes takes beside its elements, in the cache, by a line through lengths of 64 to 384:"
+    yield "; ".join(
         f"{call} {here:.0f} here, {way:.0f} the same way, {nested:.0f} by nested loops" for call, (here, way, nested) in lane_times) + "."
     yield "The call's own time: what it takes with one element, or where two runs are turned, by a line through two sizes."
     yield ""
