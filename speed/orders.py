@@ -1,5 +1,6 @@
 """Times calls over one or two arrays whose axes lie in memory in any order, each by this library, by the best of some plain loops
-in Rust, by numpy and, where it is given, by xtensor: all in one process, over the same memory, in turns.
+in Rust, by numpy and, where it is given, by xtensor: all in one process, over the same memory, in turns. A row that misses an aim is
+timed again beside the library's own way in plain Rust, and the same with one part of it left out: these tell where the time goes.
 
     orders.py LIBRARY [--xtensor LIBRARY] [--quick] [--table FILE] [--picture FILE]
 
@@ -20,6 +21,30 @@ from orders_picture import drawn
 KINDS = {"i64": numpy.int64, "u8": numpy.uint8}
 FORMS = ["slices", "lanes of the left", "lanes of the right", "parts, left", "parts, right"]
 LARGE = 1000  # From this side on numpy is not to be faster.
+TURNED = 4096  # From so many elements on axes are turned.
+SHORT = 512  # Lanes of fewer elements are short.
+
+# The ways of as_here.rs: the library's own in plain Rust, and what is left out of it or put in.
+WAYS = ["as here", "uncut", "shorter", "nested", "plain lanes", "plain both", "wide", "anew"]
+INSTEAD = {
+    "uncut": "not cut in halves",
+    "shorter": "cut to lanes of 128",
+    "nested": "from lane to lane by nested loops",
+    "wide": "by vectors of 32 bytes",
+}
+WHY = [
+    "Reasons are measured in the same turns as the row. `The same way` is the library's own in plain Rust, by unsafe pointers; behind",
+    "it stands what that takes of the best loop (of numpy, where that is the rule) with one part changed, if it then takes at most 0.95:",
+    "- not cut in halves, cut to lanes of 128: where to cut is chosen once for elements of all sizes, for arrays that no cache holds;",
+    "- nested loops: an index walks from lane to lane, since the number of axes may be known only at run time;",
+    "- a lane more here: place and rank of the walk are kept in memory here, the same way in registers;",
+    "- memcpy, memcmp: a clone may be refused and `==` is the elements' own, so both are loops here;",
+    "- vectors of 32 bytes: this code is compiled for processors without them; numpy chooses as it starts;",
+    "- along the left: lanes go along the left side, the one that `assign` writes, in every call and order;",
+    "- in order: a vector takes an element behind its last one alone, and the best plain loop writes out of turn;",
+    "- what may change read anew: the view that is written, or the vector that is filled, is lent to the loop, so its place in memory",
+    "  (or length) is read again after each write, which might have changed it for all that the compiler knows.",
+]
 
 # What numpy writes for a call.
 CALLS = {
@@ -91,7 +116,10 @@ class Row:
     left: Order
     right: Order
     times: dict = field(default_factory=dict)
+    beside: dict = field(default_factory=dict)
     form: int = 0
+    lanes: int = 1
+    memory: str = ""  # The call that does a lane where both sides are slices.
 
     def orders(self):
         return self.right.name if self.call in COPIES else f"{self.left.name} from {self.right.name}"
@@ -99,24 +127,79 @@ class Row:
     def over(self, who):
         return self.times["here"] / self.times[who] if who in self.times else None
 
+    def most(self):
+        """The most of plain Rust that is aimed at."""
+        return 1.1 if self.form == 0 else 1.3
+
     def misses(self):
         """What the row aims at and misses: 1.1 of plain Rust where places are consecutive and 1.3 elsewhere, 1.0 of numpy from LARGE up."""
-        most = 1.1 if self.form == 0 else 1.3
-        if self.over("plain") >= most + 0.005:
-            yield f"{self.over('plain'):.2f} of plain Rust, not {most}"
-        if max(self.shape) >= LARGE or len(self.shape) > 2:
-            if self.over("numpy") >= 1.005:
-                yield f"{self.over('numpy'):.2f} of numpy"
+        if self.over("plain") >= self.most() + 0.005:
+            yield f"{self.over('plain'):.2f} of plain Rust, not {self.most()}"
+        if not self.is_small() and self.over("numpy") >= 1.005:
+            yield f"{self.over('numpy'):.2f} of numpy"
+
+    def is_small(self):
+        return max(self.shape) < LARGE and len(self.shape) == 2
 
     def reason(self):
-        """What stands in the way of a row that misses an aim, where that is known."""
-        if max(self.shape) < LARGE and len(self.shape) == 2:
-            return "the call's own time beside a short loop"
-        if self.over("plain") < 1.105:
-            return "plain Rust takes as long"
-        if self.call == "to_vec" and self.form != 0:
-            return "pushed in order, where the plain loop writes out of turn"
-        return "not known"
+        """Where the time of a row goes that misses an aim, by what was measured beside it."""
+        here, plain, numpys = (self.beside[who] for who in ["here", "plain", "numpy"])
+        if self.elements() < TURNED:
+            own = self.beside["own"]
+            return f"of its {here:.2f} microseconds {own:.2f} with one element, {(here - own) / self.lanes * 1000:.0f} ns a lane"
+        if self.is_small() and here - self.beside["own"] < self.most() * plain:
+            return f"the call's own time, {self.beside['own']:.2f} of its {here:.2f} microseconds"
+        if self.over("plain") >= self.most() + 0.005:
+            return "; ".join(self.causes(plain))
+        loop = f"the best plain loop takes {plain / numpys:.2f} of numpy"
+        if plain >= 0.995 * numpys and here < 1.1 * plain:
+            return loop + self.instead(plain, numpys)
+        return "; ".join([loop, *self.causes(plain)])
+
+    def causes(self, plain):
+        """What the way costs beside the best plain loop, and what the code costs beside the way."""
+        way, here = self.beside["as here"], self.beside["here"]
+        yield f"the same way takes {way / plain:.2f} of the best loop" + self.of_the_way(way, plain)
+        anew = max(way, self.beside.get("anew", 0))
+        if here >= 1.1 * way and anew >= 1.05 * way:
+            yield f"what may change read anew {anew / plain:.2f}"
+        else:
+            anew = way
+        if here < 1.1 * anew:
+            return
+        if self.is_small() and self.lanes == 1:
+            yield f"the call takes {here - anew:.2f} of its {here:.2f} microseconds more here"
+        elif self.elements() < SHORT * self.lanes:
+            yield f"a lane takes {(here - anew) / self.lanes * 1000:.0f} ns of its {here / self.lanes * 1000:.0f} more here"
+        else:
+            yield f"here {here / anew:.2f} of that"
+
+    def of_the_way(self, way, plain):
+        if self.call == "to_vec" and self.form != 0 and way >= 1.1 * plain:
+            ordered = min(self.beside[who] for who in ["as here", "nested"] if who in self.beside)
+            if ordered >= 1.1 * plain:
+                return f", in order by nested loops {self.beside.get('nested', way) / plain:.2f}"
+        faster = self.instead(way, plain) if way >= 1.05 * plain else ""
+        left = min((self.beside[form] for form in ["lanes of the left", "parts, left"] if form in self.beside), default=plain)
+        if self.form in [2, 4] and left >= 1.1 * plain and way >= 0.95 * left:
+            faster += f", along the left, as here, the best loop {left / plain:.2f}"
+        return faster or (f", which goes by {FORMS[self.form]}" if way >= 1.1 * plain else "")
+
+    def instead(self, time, over):
+        """The two least ways that take less than this time, in proportion to another."""
+        lanes = self.memory or "lanes as in the plain loops"
+        names = INSTEAD | {"plain lanes": lanes, "plain both": f"both by nested loops and {lanes}"}
+        least = min(self.beside.get(who, time) for who in names if who != "plain both")
+        if self.beside.get("plain both", time) > 0.95 * least:
+            names.pop("plain both")
+        faster = sorted((self.beside[who], name) for who, name in names.items() if self.beside.get(who, time) <= 0.95 * time)
+        return "".join(f", {name} {way / over:.2f}" for way, name in faster[:2])
+
+    def elements(self):
+        count = 1
+        for length in self.shape:
+            count *= length
+        return count
 
 
 def rows(quick):
@@ -146,7 +229,10 @@ class Bench:
         self.lib = ctypes.CDLL(library)
         self.lib.orders_has_form.restype = ctypes.c_bool
         self.xtensor = xtensor and ctypes.CDLL(xtensor)
-        for function in [self.lib.orders_here, self.lib.orders_plain] + ([self.xtensor.orders_xtensor] if xtensor else []):
+        self.lib.orders_has_way.restype = ctypes.c_bool
+        self.lib.orders_has_slices.restype = ctypes.c_bool
+        self.lib.orders_lanes.restype = ctypes.c_size_t
+        for function in [self.lib.orders_here, self.lib.orders_plain, self.lib.orders_as_here] + ([self.xtensor.orders_xtensor] if xtensor else []):
             function.restype = ctypes.c_double
         self.items = {}
 
@@ -172,12 +258,57 @@ class Bench:
         makers = {"here": here, "plain": plain(row.form), "numpy": lambda calls: of_numpy(CALLS[row.call], a, b, calls)}
         if self.xtensor:
             makers["xtensor"] = lambda calls: self.xtensor.orders_xtensor(ctypes.byref(case), ctypes.c_size_t(calls))
+        self.take_turns(row.times, makers, calls, budget)
+        if not list(row.misses()):
+            return
+        makers.pop("xtensor", None)
+        way = lambda number: lambda calls: self.lib.orders_as_here(ctypes.byref(case), ctypes.c_size_t(number), ctypes.c_size_t(calls))
+        for number, name in enumerate(WAYS):
+            if number == 0 or self.lib.orders_has_way(ctypes.byref(case), ctypes.c_size_t(number)):
+                makers[name] = way(number)
+        makers |= {FORMS[form]: plain(form) for form in forms if form != row.form}
+        row.lanes = self.lib.orders_lanes(ctypes.byref(case))
+        if self.lib.orders_has_slices(ctypes.byref(case)):
+            row.memory = {"==": "by memcmp", "zip_mut_with": ""}.get(row.call, "by memcpy")
+        self.take_turns(row.beside, makers, calls, budget * 2)
+        for who in ["here", "plain", "numpy"]:
+            row.times[who] = min(row.times[who], row.beside[who])
+        if row.is_small():
+            row.beside["own"] = self.own_time(row)
+
+    def take_turns(self, times, makers, calls, budget):
         start, turn = time.monotonic(), 0
         while turn < 3 or (turn < 40 and time.monotonic() - start < budget):
             for who, maker in makers.items():
                 if who != "xtensor" or turn < 3:
-                    row.times[who] = min(row.times.get(who, float("inf")), maker(calls))
+                    times[who] = min(times.get(who, float("inf")), maker(calls))
             turn += 1
+
+    def own_time(self, row):
+        """What the call takes beside its elements: with one element; of a run, which may be turned, by a line through two sizes."""
+        if row.form != 0 or row.elements() < TURNED:
+            return self.least(row, (1, 1), 1000)[0]
+        part = tuple(length * 7 // 10 for length in row.shape)
+        whole, less = (min(times) for times in zip(*([self.least(row, shape, 10)[0] for shape in [row.shape, part]] for _ in range(20))))
+        return min(whole, max(0, whole - (whole - less) / (1 - numpy.prod(part) / row.elements())))
+
+    def least(self, row, shape, calls, ways=()):
+        """The least times of the row's call over another shape, here and by ways of as_here.rs."""
+        count = max(int(numpy.prod(order.stored(shape))) for order in [row.left, row.right])
+        left, right = self.memory(row.kind, count)
+        left[:count] = 1
+        case = Case(list(CALLS).index(row.call), len(shape), row.kind == "u8", row.left.side(left, shape), row.right.side(right, shape))
+        here = [lambda: self.lib.orders_here(ctypes.byref(case), ctypes.c_size_t(calls))]
+        makers = here + [lambda way=way: self.lib.orders_as_here(ctypes.byref(case), ctypes.c_size_t(WAYS.index(way)), ctypes.c_size_t(calls)) for way in ways]
+        return [min(times) for times in zip(*([maker() for maker in makers] for _ in range(100)))]
+
+    def lane_times(self):
+        """Nanoseconds that a lane of bytes takes beside its elements, by a line through four lengths: here, by the same way, by nested loops."""
+        lengths = [64, 128, 256, 384]
+        for call in PAIRS:
+            row = Row(call, "u8", (40, 40, 1), CUBES[0], CUBES[2])
+            times = [self.least(row, (40, 40, length), 10, ["as here", "nested"]) for length in lengths]
+            yield call, [max(0, numpy.polyfit(lengths, column, 1)[1] / 1600 * 1000) for column in zip(*times)]
 
 
 def of_numpy(call, a, b, calls):
@@ -195,7 +326,7 @@ def ratio(number):
     return "-" if number is None else f"{number:.2f}"
 
 
-def whole_table(measured):
+def whole_table(measured, lane_times):
     """The lines of the table of all rows, and of those that miss."""
     yield f"Microseconds of processor time a call, the least of several turns; numpy {numpy.__version__}. F is column-major order; back is"
     yield "every second row and column from the last ones back; 021 names the axes as they lie, the nearest one last. The plain loop is the"
@@ -215,6 +346,12 @@ def whole_table(measured):
     yield ""
     missing = [(row, list(row.misses())) for row in measured]
     missing = [(row, reasons) for row, reasons in missing if reasons]
+    yield from WHY
+    yield "Nanoseconds that a lane of bytes takes beside its elements, in the cache, by a line through lengths of 64 to 384:"
+    yield "; ".join(
+        f"{call} {here:.0f} here, {way:.0f} the same way, {nested:.0f} by nested loops" for call, (here, way, nested) in lane_times) + "."
+    yield "The call's own time: what it takes with one element, or where two runs are turned, by a line through two sizes."
+    yield ""
     yield f"Rows that miss what is aimed at, {len(missing)} of {len(measured)}:"
     for row, reasons in missing:
         yield f"{row.call} of {row.kind}, {' x '.join(map(str, row.shape))}, {row.orders()}: {'; '.join(reasons)}: {row.reason()}"
@@ -254,7 +391,7 @@ def main():
         bench.measure(row, 0.2 if given.quick else 0.5)
     if given.table:
         with open(given.table, "w") as out:
-            out.writelines(line + "\n" for line in whole_table(measured))
+            out.writelines(line + "\n" for line in whole_table(measured, list(bench.lane_times())))
     if given.picture:
         with open(given.picture, "w") as out:
             out.write(drawn(measured))

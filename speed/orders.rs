@@ -1,6 +1,7 @@
 //! A library that orders.py loads: calls over one or two arrays whose axes lie in memory in any order, each made by
 //! `nd_speed` or by a plain loop. Nothing is known when it is compiled but the number of bytes of an element.
 
+mod as_here;
 mod runtime;
 
 use runtime::microseconds;
@@ -108,7 +109,19 @@ impl Layout {
 
 /// What is done with each pair of elements; whether to go on.
 trait Act<A>: Copy {
+    /// How many pairs the library takes before it asks whether to go on, 0 where it doesn't ask.
+    const BLOCK: usize = 0;
+
+    /// Whether it writes what lies on the right side.
+    const COPIES: bool = false;
+
     fn at(self, left: &mut A, right: &A) -> bool;
+
+    /// Two lanes that both are slices, as the library takes them.
+    #[inline(always)]
+    fn beside(self, left: &mut [A], right: &[A]) -> bool {
+        self.along(left, right)
+    }
 
     /// Two lanes that both are slices.
     #[inline(always)]
@@ -125,6 +138,8 @@ trait Act<A>: Copy {
 struct Assign;
 
 impl<A: Copy> Act<A> for Assign {
+    const COPIES: bool = true;
+
     #[inline(always)]
     fn at(self, left: &mut A, right: &A) -> bool {
         *left = *right;
@@ -136,6 +151,8 @@ impl<A: Copy> Act<A> for Assign {
 struct Equal;
 
 impl<A: PartialEq> Act<A> for Equal {
+    const BLOCK: usize = 64;
+
     #[inline(always)]
     fn at(self, left: &mut A, right: &A) -> bool {
         left == right
@@ -144,6 +161,24 @@ impl<A: PartialEq> Act<A> for Equal {
     #[inline(always)]
     fn along(self, left: &mut [A], right: &[A]) -> bool {
         left == right
+    }
+
+    #[inline(always)]
+    fn beside(self, left: &mut [A], right: &[A]) -> bool {
+        let (mut ours, mut theirs) = (&*left, right);
+        while ours.len() >= 64 {
+            let (block, rest) = ours.split_at(64);
+            let (other, others) = theirs.split_at(64);
+            let mut same = true;
+            for nth in 0..64 {
+                same &= block[nth] == other[nth];
+            }
+            if !same {
+                return false;
+            }
+            (ours, theirs) = (rest, others);
+        }
+        ours.iter().zip(theirs).all(|(x, y)| x == y)
     }
 }
 
@@ -262,6 +297,26 @@ unsafe fn plain<A: Copy + PartialEq>(case: &Case, form: usize, calls: usize, plu
     }
 }
 
+unsafe fn as_here<A: Copy + PartialEq>(case: &Case, way: usize, calls: usize, plus: impl Fn(A, A) -> A + Copy) {
+    let (right, from) = (case.right.items as *const A, case.right.layout(case.axes));
+    let (left, to) = (case.left.items as *mut A, case.left.layout(case.axes));
+    for _ in 0..calls {
+        let (left, right) = black_box((left, right));
+        unsafe {
+            let on = match case.call {
+                0 => as_here::by_way(Assign, left, &to, right, &from, case.axes, way),
+                1 => as_here::by_way(Add(plus), left, &to, right, &from, case.axes, way),
+                2 => as_here::by_way(Equal, left, &to, right, &from, case.axes, way),
+                _ => {
+                    as_here::copy_by_way(right, &from, case.call == 4, case.axes, way);
+                    true
+                }
+            };
+            assert!(black_box(on));
+        }
+    }
+}
+
 unsafe fn here(case: &Case, calls: usize) {
     let (left, right, axes) = (&case.left, &case.right, case.axes);
     let made = unsafe {
@@ -308,6 +363,48 @@ pub unsafe extern "C" fn orders_plain(case: &Case, form: usize, calls: usize) ->
         }
     }
     (microseconds() - start) / calls as f64
+}
+
+/// The microseconds of one call in plain Rust by the way of this number: 0 is the library's own.
+#[unsafe(no_mangle)]
+pub unsafe extern "C" fn orders_as_here(case: &Case, way: usize, calls: usize) -> f64 {
+    let start = microseconds();
+    unsafe {
+        if case.bytes {
+            as_here::<u8>(black_box(case), way, calls, |x, y| x.wrapping_add(y));
+        } else {
+            as_here::<i64>(black_box(case), way, calls, |x, y| x.wrapping_add(y));
+        }
+    }
+    (microseconds() - start) / calls as f64
+}
+
+fn way_of(case: &Case) -> as_here::Way {
+    let (to, from) = (case.left.layout(case.axes), case.right.layout(case.axes));
+    match (case.call, case.axes) {
+        (3.., 2) => as_here::Way::over_one::<2>(&from, case.call == 4),
+        (3.., _) => as_here::Way::over_one::<3>(&from, case.call == 4),
+        (_, 2) => as_here::Way::over_two::<2>(&to, &from),
+        (_, _) => as_here::Way::over_two::<3>(&to, &from),
+    }
+}
+
+/// In how many lanes the library goes over the elements.
+#[unsafe(no_mangle)]
+pub unsafe extern "C" fn orders_lanes(case: &Case) -> usize {
+    way_of(case).lanes
+}
+
+/// Whether both sides of each lane are slices.
+#[unsafe(no_mangle)]
+pub unsafe extern "C" fn orders_has_slices(case: &Case) -> bool {
+    way_of(case).has_slices
+}
+
+/// Whether the way of this number differs from the library's own.
+#[unsafe(no_mangle)]
+pub unsafe extern "C" fn orders_has_way(case: &Case, way: usize) -> bool {
+    way_of(case).differs(way, case.call)
 }
 
 /// The microseconds of one call by the library.

@@ -4,7 +4,8 @@
 #
 #     speed/orders.sh [quick]
 #
-# Writes all rows and those that miss the aims to speed/orders.txt, a picture of them to docs/orders.svg, and prints a table of few rows.
+# Writes all rows, and those that miss the aims with a reason each, to speed/orders.txt, a picture of them to docs/orders.svg, and prints a
+# table of few rows.
 # With `quick` it takes fewer sizes and less time, some 5 minutes, and writes neither file.
 #
 # Wants rt, rustc, and a python3 with numpy: PYTHON names another than /usr/bin/python3. For xtensor also g++.
