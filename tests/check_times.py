@@ -2,8 +2,9 @@
 """tests/check_times.py CRATE [MOST]
 
 Prints where a check of a crate from nothing spent its time: seconds by kind of module, and the MOST dearest modules. Before it, in the
-crate's folder: `rm -rf out/incremental; rt check --jobs 1`. The prover writes a file for each module as it ends with it, so the time
-between two files is that of the second one; the first module and whatever is checked beside others can't be told so.
+crate's folder: `rm -rf out/incremental; rt check --jobs 1`, where no other copy of the repository was checked on the machine (rt begins
+with what such a copy kept). The prover writes a file for each module as it ends with it, so the time between two files is that of the
+second one; the first module and whatever is checked beside others can't be told so.
 
 Of a function `Proof` is the search of its goals, where an answer that closes at once helps; `Lts` and `Tie` are made of its body and of
 the contracts that it calls, where fewer calls, branches and type parameters help; `Answers` is what stands in proofs/.
