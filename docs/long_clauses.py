@@ -14,7 +14,7 @@ import sys
 
 LIMIT = 120
 FILES = "crates/nd_*/src/**/*.rt"
-OTHERS = re.compile(r"crates/\w+(_tests|_uses|_arrays)/|crates/nd_speed/")
+OTHERS = re.compile(r"crates/\w+(_tests|_uses|_arrays)/")
 FUNCTION = re.compile(r"\s*(pub )?(?:pub\([a-z]+\) )?(?:const )?fn (\w+)")
 BLOCK = re.compile(r"(?:pub )?(trait|impl)\b")
 CLAUSE = re.compile(r"\s*(?:requires|ensures)\b")

@@ -10,6 +10,6 @@ here=$(cd "$(dirname "$0")" && pwd)
 made=$(mktemp -d)
 trap 'rm -rf "$made"' EXIT
 
-(cd "$here/../crates/nd_speed" && rt lib > "$made/log" 2>&1) || { tail -20 "$made/log"; exit 1; }
-rustc -O -C target-cpu=x86-64-v2 -L "native=$here/../crates/nd_speed/out" -l static=nd_speed -o "$made/driver" "$here/elements.rs"
+"$here/library.sh" "$made"
+rustc -O -C target-cpu=x86-64-v2 -L "native=$made" -l static=nd_speed -o "$made/driver" "$here/elements.rs"
 "${PYTHON:-/usr/bin/python3}" "$here/axes.py" "$made/driver" axes

@@ -1,6 +1,6 @@
 //! Times what `nd_speed` exports: prints a line for each call and number of axes, with the nanoseconds of one call.
 //!
-//! A row is added by an export in crates/nd_speed, its declaration here, a line in `rows`, and the nearest call of numpy
+//! A row is added by an export in speed/nd_speed, its declaration here, a line in `rows`, and the nearest call of numpy
 //! in table.py.
 
 use std::hint::black_box;

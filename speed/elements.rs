@@ -2,7 +2,7 @@
 //! with who made it and the microseconds of one call. All memory, plain Rust's too, is malloc's. With `axes` it times calls
 //! along either axis alone, with `products` products and iterators.
 //!
-//! A row is added by an export in crates/nd_speed, its declaration and a line here, and the nearest call of numpy in
+//! A row is added by an export in speed/nd_speed, its declaration and a line here, and the nearest call of numpy in
 //! elements.py.
 
 mod along;

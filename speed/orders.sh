@@ -14,8 +14,8 @@ here=$(cd "$(dirname "$0")" && pwd)
 made=$(mktemp -d)
 trap 'rm -rf "$made"' EXIT
 
-(cd "$here/../crates/nd_speed" && rt lib > "$made/log" 2>&1) || { tail -20 "$made/log"; exit 1; }
-rustc --edition 2021 -O --crate-type cdylib -C target-cpu=x86-64-v2 -L "native=$here/../crates/nd_speed/out" -l static=nd_speed -o "$made/orders.so" "$here/orders.rs"
+"$here/library.sh" "$made"
+rustc --edition 2021 -O --crate-type cdylib -C target-cpu=x86-64-v2 -L "native=$made" -l static=nd_speed -o "$made/orders.so" "$here/orders.rs"
 set -- "$made/orders.so" "$1"
 if g++ -std=c++17 -O3 -DNDEBUG -march=x86-64-v2 -shared -fPIC -o "$made/xtensor.so" "$here/orders.cpp" 2> /dev/null; then
     set -- "$@" --xtensor "$made/xtensor.so"

@@ -3,17 +3,17 @@
 #
 #     speed/run.sh [LABEL=LIBRARY ..]
 #
-# Each LIBRARY is a libnd_speed.a of another tree (`rt lib` in its crates/nd_speed), timed in the same run.
+# Each LIBRARY is a libnd_speed.a of another tree (its speed/library.sh makes one), timed in the same run.
 # Wants rt, rustc, and a python3 with numpy: PYTHON names another than /usr/bin/python3.
 set -e
 here=$(cd "$(dirname "$0")" && pwd)
 made=$(mktemp -d)
 trap 'rm -rf "$made"' EXIT
 
-(cd "$here/../crates/nd_speed" && rt lib > "$made/log" 2>&1) || { tail -20 "$made/log"; exit 1; }
+"$here/library.sh" "$made"
 
 programs=
-for given in "$@" "here=$here/../crates/nd_speed/out/libnd_speed.a"; do
+for given in "$@" "here=$made/libnd_speed.a"; do
     label=${given%%=*}
     mkdir "$made/$label"
     cp "${given#*=}" "$made/$label/libnd_speed.a"
