@@ -21,10 +21,10 @@ number_is (pos q) p e = cc
 number_is (negsuc q) p e = cc
 
 -- a place that an index names
-pub named_there : (p : Placement) (i : List ℕ) (q : ℕ) → in_box p.lengths i ≡ true → place_of p.offset p.strides i ≡ pos q → place_named p i ≡ Some q
+named_there : (p : Placement) (i : List ℕ) (q : ℕ) → in_box p.lengths i ≡ true → place_of p.offset p.strides i ≡ pos q → place_named p i ≡ Some q
 named_there p i q h e = rw h (ap place_number e)
 
-pub there_named : (p : Placement) (i : List ℕ) (q : ℕ) → place_named p i ≡ Some q → (in_box p.lengths i ≡ true) × (place_of p.offset p.strides i ≡ pos q)
+there_named : (p : Placement) (i : List ℕ) (q : ℕ) → place_named p i ≡ Some q → (in_box p.lengths i ≡ true) × (place_of p.offset p.strides i ≡ pos q)
 there_named p i q = at (in_box p.lengths i) refl
   where
     at : (b : Bool) → in_box p.lengths i ≡ b → (if b then place_number (place_of p.offset p.strides i) else None) ≡ Some q → (in_box p.lengths i ≡ true) × (place_of p.offset p.strides i ≡ pos q)

@@ -43,7 +43,6 @@ pub mod SamePlaces
 pub mod Seats
 pub mod Taking
 pub mod TurnedAlike
-pub mod TurnedBack
 pub mod TurnedEqual
 pub mod VisitedInHalves
 pub mod WriteStep

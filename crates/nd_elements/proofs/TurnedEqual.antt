@@ -38,7 +38,7 @@ module _ (one new_one : Placement) (source back : List ℕ → List ℕ) (step :
   shown_before stored i x is = inside_some new_one.lengths i (shown_at stored one (source i)) x (sym (seen_element stored view i) ∙ is)
 
   -- and the other way round
-  pub shown_after : {A : Type 0} (stored : ℕ → Option A) (i : List ℕ) → in_box one.lengths i ≡ true → in_box new_one.lengths (back i) ≡ true → source (back i) ≡ i → shown_at stored new_one (back i) ≡ shown_at stored one i
+  shown_after : {A : Type 0} (stored : ℕ → Option A) (i : List ℕ) → in_box one.lengths i ≡ true → in_box new_one.lengths (back i) ≡ true → source (back i) ≡ i → shown_at stored new_one (back i) ≡ shown_at stored one i
   shown_after stored i h there found = rw (h, there) (ap (stored_at stored) (step.same (back i) there ∙ ap (place_of one.offset one.strides) found))
 
   holds_turned : {A : Type 0} (stored : ℕ → Option A) → HoldsEach stored one → HoldsEach stored new_one

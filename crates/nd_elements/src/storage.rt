@@ -564,13 +564,11 @@ pub fn cloned_storage<A: Clone>(storage: &OwnedRepr<A>) -> Result<OwnedRepr<A>, 
     ensures stored { IfOk result (λ copy. stored_list copy ≡ stored_list storage.now) }
     ensures refused { OnErr result (0 < length (stored_list storage.now)) }
 {
-    if storage.items.as_slice().is_empty() {
-        return Ok(OwnedRepr {
-            items: Vec::new(*storage.items.allocator()),
-        });
-    }
     match storage.items.clone() {
         Ok(items) => Ok(OwnedRepr { items }),
+        Err(_) if storage.items.as_slice().is_empty() => Ok(OwnedRepr {
+            items: Vec::new(*storage.items.allocator()),
+        }),
         Err(refused) => Err(refused),
     }
 }

@@ -21,11 +21,9 @@ pub fn clones_of<A: Clone>(alloc: Global, xs: &[A]) -> Result<Vec<A>, NoMemory>
     ensures count { IfOk result (λ v. vec_len v ≡ length xs.now) }
     ensures refused { OnErr result (0 < length xs.now) }
 {
-    if xs.is_empty() {
-        return Ok(Vec::new(alloc));
-    }
     match Vec::from_clones(alloc, xs) {
         Ok(items) => Ok(items),
+        Err(_) if xs.is_empty() => Ok(Vec::new(alloc)),
         Err(_) => Err(NoMemory),
     }
 }

@@ -1,6 +1,6 @@
 use Rattle.std.proofs.Common.{◌≡◌, ◌+◌, ◌<◌, ◌≤◌, ◌∙◌, ℕ, pos, ◌+ℤ◌, ◌*ℤ◌, refl, ap, sym, subst, rules, arith, w64, to_z, of_z, FitsSigned}
 use Rattle.std.specs.Prelude.{Some}
-use Rattle.std.specs.Prelude.{vec_len, vec_capacity}
+use Rattle.std.specs.Prelude.{vec_capacity}
 use Rattle.std.proofs.lemmas.Int.{to_z-of_z}
 use Rattle.nd_shape_and_slice.specs.Shape.{size_of}
 use Rattle.nd_layout.specs.Places.{is_place}
@@ -9,7 +9,6 @@ use Rattle.nd_elements.specs.Places.{names_place}
 use Rattle.nd_elements.specs.along.AxisLanes.{lane_place}
 use Rattle.nd_elements.specs.along.LanesWritten.{MayBeHandedLane, AreHandedOut}
 use Rattle.nd_elements.proofs.AxisLanes.{lane_goes, next_rank}
-use Rattle.nd_elements.proofs.Lanes.{nearer, room_at}
 use Rattle.nd_elements.proofs.LentLanes.{lane_line, leaves_same, handed_none, handed_next, handed_more, kept_places}
 use Rattle.nd_layout.proofs.WalkSteps.{reaches_usizes}
 use Rattle.nd_elements.proofs.along.map_axis_mut.answer_lanes.Goals as goal
@@ -141,18 +140,3 @@ pub returns-clause-count : goal.returns-clause-count
 returns-clause-count g c =
     let so_far = c.loop-place.invariant in
     so_far.4 ∙ (c.in_default.ensures ∙ (ap size_of so_far.1 ∙ sym c.args.lanes.many))
-
-pub push_reserved-requires : goal.push_reserved-requires
-push_reserved-requires g c =
-    let so_far = c.loop-place.invariant in
-    let rank = c.loop-place.walk.rank in
-    let on = subst (λ ls. rank < size_of ls) so_far.1 c.in-Some.ensures.0 in
-    room_at (size_of c.args.lanes.firsts.lengths.now) (vec_capacity c.loop-place.items) (vec_len c.loop-place.items) rank on so_far.3 so_far.4
-
-pub loop-place-smaller : goal.loop-place-smaller
-loop-place-smaller g c =
-    let so_far = c.loop-place.invariant in
-    let rank = c.loop-place.walk.rank in
-    let on = subst (λ ls. rank < size_of ls) so_far.1 c.in-Some.ensures.0 in
-    nearer (size_of c.args.lanes.firsts.lengths.now) rank c.advance.new.self.rank on
-    (next_rank rank (size_of c.loop-place.walk.lengths.now) c.advance.new.self.rank c.in-Some.ensures.0 c.advance.ensures.rank)

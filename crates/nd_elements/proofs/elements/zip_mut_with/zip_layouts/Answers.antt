@@ -1,6 +1,5 @@
 use Rattle.nd_layout.specs.Placements.{placement_of}
 use Rattle.nd_elements.proofs.InHalves.{step_apart}
-use Rattle.nd_elements.proofs.TurnedBack.{turned_stay}
 use Rattle.nd_elements.proofs.ZippedHalves.{turned_zippable, turned_zipped}
 use Rattle.nd_elements.proofs.elements.zip_mut_with.zip_layouts.Goals as goal
 
@@ -24,8 +23,3 @@ pub zip_in_halves-requires-clause-apart : goal.zip_in_halves-requires-clause-apa
 zip_in_halves-requires-clause-apart g c =
     let turned = c.turned_alike-turned in
     step_apart (placement_of c.args.layout.now) (placement_of turned.result.0) turned.ensures.source turned.ensures.first c.requires.apart
-
-pub returns-clause-others : goal.returns-clause-others
-returns-clause-others g c =
-    let turned = c.turned_alike-turned in
-    turned_stay (placement_of c.args.layout.now) (placement_of c.args.beside.now) (placement_of turned.result.0) (placement_of turned.result.1) turned.ensures (g.S.Data.stored c.args.storage.now) (g.S.Data.stored c.zip_in_halves.new.storage) c.zip_in_halves.ensures.others
