@@ -164,3 +164,10 @@ new-outer-requires-clause-as_many g c =
     let axes = c.ndim-last.ensures.value in
     length-take-le last c.slice-2.result.now (omega (arith, many, zeros, axes))
     ∙ sym (length-take-le last c.slice.result.now (outer_within c.args.order (g.D.Dimension.lengths c.args.dim.now) _ _ last c.ndim-last.result axes (omega arith) c.slice.ensures.lengths c.slow_lengths-slow.ensures))
+
+pub new-outer-requires-clause-few : goal.new-outer-requires-clause-few
+new-outer-requires-clause-few g c =
+    let last = c.ndim-last.result - 1 in
+    let few = c.ndim-last.ensures.few in
+    let long = length-take-le last c.slice.result.now (outer_within c.args.order (g.D.Dimension.lengths c.args.dim.now) _ _ last c.ndim-last.result c.ndim-last.ensures.value (omega arith) c.slice.ensures.lengths c.slow_lengths-slow.ensures) in
+    omega (arith, few, long)
