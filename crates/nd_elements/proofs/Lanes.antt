@@ -1,5 +1,5 @@
 -- A shape's indexes lane by lane: what a loop over a walk of the outer axes keeps.
-use Rattle.std.proofs.Common.{◌≡◌, ℕ, zero, suc, ◌+◌, ◌*◌, ◌<◌, ◌≤◌, min, List, [], ◌∷◌, ◌++◌, length, take, replicate, get_or, set, refl, ap, sym, ◌∙◌, arith, add-one, pos, ◌+ℤ◌, ◌*ℤ◌}
+use Rattle.std.proofs.Common.{◌≡◌, ℕ, zero, suc, ◌+◌, ◌-◌, ◌*◌, ◌<◌, ◌≤◌, min, List, [], ◌∷◌, ◌++◌, length, take, replicate, get_or, set, refl, ap, sym, ◌∙◌, arith, add-one, pos, ◌+ℤ◌, ◌*ℤ◌}
 use Rattle.std.proofs.Math.Seq.{take-suc}
 use Rattle.std.proofs.lemmas.List.{take_more_set}
 use Rattle.nd_shape_and_slice.specs.declared.builder.Order.{Order}
@@ -69,6 +69,18 @@ lane_at o ns xs n q k fastest count axes many axis is some outer inner walked =
     let more : (q + 1) * c ≤ size_of (take n (slowest_first o ns)) * c = mul-le-mul_right {m = q + 1} {n = size_of (take n (slowest_first o ns))} c (omega (arith, outer)) in
     let next : (q + 1) * c ≡ q * c + c = grind arith in
     rw (at, is) (index, omega (arith, whole, more, next, below), lane_kept o ns xs n q k axes long)
+
+-- there is room for the element of a rank
+pub room_at : (size most len r : ℕ) → r < size → size ≤ most → len ≡ r → len < most
+room_at size most len r below fits is = omega (arith, below, fits, is)
+
+-- one rank more leaves fewer
+pub nearer : (n q r : ℕ) → q < n → r ≡ q + 1 → n - r < n - q
+nearer n q r below is = omega (arith, below, is)
+
+-- the outer axes are among all, as many as these are
+pub outer_within : (o : Order) (ns xs ys : List ℕ) (n axes : ℕ) → axes ≡ length ns → n ≤ axes → xs ≡ ys → ys ≡ slowest_first o ns → n ≤ length xs
+outer_within o ns xs ys n axes count below e f = let long = ap length (e ∙ f) ∙ length-slow o ns in omega (arith, count, below, long)
 
 -- before the first lane no rank is done
 pub lane_none : (q count : ℕ) → q ≡ 0 → 0 ≡ q * count

@@ -2,8 +2,7 @@
 use Rattle.std.proofs.Common.{◌≡◌, ℕ, ◌+◌, ◌<◌, ◌≤◌, true, false, ℤ, pos, negsuc, refl, ap, sym, ◌∙◌, subst, arith, ⊎_elim}
 use Rattle.std.proofs.Math.Path.{fun_ext}
 use Rattle.std.specs.Prelude.{Option, is_some, nat_eq, nat_lt}
-use Rattle.std.proofs.lemmas.Bool.{cases_lt, cases_eq}
-use Rattle.std.proofs.lemmas.Bool.Decides.{nat_tests}
+use Rattle.std.proofs.lemmas.Bool.{cases_lt, cases_eq, lt-ltb, le-ltb, eq-eqb, ne_eqb}
 use Rattle.nd_elements.specs.Places.{stored_at, names_place, swapped_at}
 use Rattle.nd_elements.specs.elements.Changes.{AreDistinct}
 use Rattle.nd_elements.specs.along.AxisLanes.{LanesDistinct}
@@ -11,26 +10,26 @@ use Rattle.nd_elements.specs.along.Removed.{rotated, IsMovedBy, AreMovedBy}
 
 -- ---- which coordinate comes where
 rotated_low : (k n i : ℕ) → i < k → rotated k n i ≡ i
-rotated_low k n i below = let yes : nat_lt i k ≡ true = grind (arith, nat_tests, below) in rw yes refl
+rotated_low k n i below = let yes : nat_lt i k ≡ true = lt-ltb i k below in rw yes refl
 
 rotated_next : (k n i : ℕ) → k ≤ i → i + 1 < n → rotated k n i ≡ i + 1
 rotated_next k n i from below =
-    let no : nat_lt i k ≡ false = grind (arith, nat_tests, from) in
-    let yes : nat_lt (i + 1) n ≡ true = grind (arith, nat_tests, below) in
+    let no : nat_lt i k ≡ false = le-ltb i k from in
+    let yes : nat_lt (i + 1) n ≡ true = lt-ltb (i + 1) n below in
     rw (no, yes) refl
 
 pub rotated_end : (k n i : ℕ) → k ≤ i → i + 1 ≡ n → rotated k n i ≡ k
 rotated_end k n i from same =
-    let no : nat_lt i k ≡ false = grind (arith, nat_tests, from) in
-    let not_below : nat_lt (i + 1) n ≡ false = grind (arith, nat_tests, same) in
-    let yes : nat_eq (i + 1) n ≡ true = grind (arith, nat_tests, same) in
+    let no : nat_lt i k ≡ false = le-ltb i k from in
+    let not_below : nat_lt (i + 1) n ≡ false = le-ltb (i + 1) n (omega (arith, same)) in
+    let yes : nat_eq (i + 1) n ≡ true = eq-eqb (i + 1) n same in
     rw (no, not_below, yes) refl
 
 rotated_past : (k n i : ℕ) → k ≤ i → n < i + 1 → rotated k n i ≡ i
 rotated_past k n i from past =
-    let no : nat_lt i k ≡ false = grind (arith, nat_tests, from) in
-    let not_below : nat_lt (i + 1) n ≡ false = grind (arith, nat_tests, past) in
-    let other : nat_eq (i + 1) n ≡ false = grind (arith, nat_tests, past) in
+    let no : nat_lt i k ≡ false = le-ltb i k from in
+    let not_below : nat_lt (i + 1) n ≡ false = le-ltb (i + 1) n (omega (arith, past)) in
+    let other : nat_eq (i + 1) n ≡ false = ne_eqb (i + 1) n (λ e. omega (arith, past, e)) in
     rw (no, not_below, other) refl
 
 pub rotated_below : (k n i : ℕ) → k < n → i < n → rotated k n i < n
@@ -76,17 +75,17 @@ module _ {A : Type 0} where
 
         new_p : new p ≡ now q
         new_p =
-            let other : nat_eq p q ≡ false = grind (arith, nat_tests, two) in
-            let same : nat_eq p p ≡ true = grind (arith, nat_tests) in
+            let other : nat_eq p q ≡ false = ne_eqb p q two in
+            let same : nat_eq p p ≡ true = eq-eqb p p refl in
             put p ∙ rw (other, same) refl
 
         new_q : new q ≡ now p
-        new_q = let same : nat_eq q q ≡ true = grind (arith, nat_tests) in put q ∙ rw same refl
+        new_q = let same : nat_eq q q ≡ true = eq-eqb q q refl in put q ∙ rw same refl
 
         elsewhere : (r : ℕ) → (r ≡ p → ⊥) → (r ≡ q → ⊥) → new r ≡ now r
         elsewhere r not_p not_q =
-            let other_q : nat_eq r q ≡ false = grind (arith, nat_tests, not_q) in
-            let other_p : nat_eq r p ≡ false = grind (arith, nat_tests, not_p) in
+            let other_q : nat_eq r q ≡ false = ne_eqb r q not_q in
+            let other_p : nat_eq r p ≡ false = ne_eqb r p not_p in
             put r ∙ rw (other_q, other_p) refl
 
         done : (i : ℕ) → i < n → stored_at new (place i) ≡ stored_at old (place (rotated k (m + 1 + 1) i))

@@ -39,6 +39,23 @@ fn is_long(len: usize, step: isize) -> bool
     len > LONG || (len > SHORT && step.unsigned_abs() >= FAR / len)
 }
 
+/// Whether the lanes of one length in two layouts are long in one of them.
+fn either_is_long(len: usize, step: isize, other: isize) -> bool
+    ensures { IsTrue result → 1 < len }
+{
+    is_long(len, step) || is_long(len, other)
+}
+
+/// Whether one of two layouts has its elements nearest along another axis than the last.
+fn crosses(lengths: &[usize], strides: &[isize], steps: &[isize]) -> bool
+    requires as_many { length strides.now ≡ length lengths.now }
+    requires steps_as_many { length steps.now ≡ length lengths.now }
+    requires some { 0 < length lengths.now }
+{
+    let axes = lengths.len();
+    nearest_axis(lengths, strides) + 1 < axes || nearest_axis(lengths, steps) + 1 < axes
+}
+
 /// Whether long lanes go across the order in which one of two layouts has its elements, and there are more than lie near.
 fn leads_away(lengths: &[usize], strides: &[isize], steps: &[isize]) -> bool
     requires as_many { length strides.now ≡ length lengths.now }
@@ -49,11 +66,11 @@ fn leads_away(lengths: &[usize], strides: &[isize], steps: &[isize]) -> bool
     if axes < 2 {
         return false;
     }
-    let (rows, len) = (lengths[axes - 2], lengths[axes - 1]);
-    let is_far = is_long(len, strides[axes - 1]) || is_long(len, steps[axes - 1]);
-    is_far
-        && rows > NEAR / len
-        && (nearest_axis(lengths, strides) + 1 < axes || nearest_axis(lengths, steps) + 1 < axes)
+    let len = lengths[axes - 1];
+    if !either_is_long(len, strides[axes - 1], steps[axes - 1]) {
+        return false;
+    }
+    lengths[axes - 2] > NEAR / len && crosses(lengths, strides, steps)
 }
 
 /// The first axis longer than 1, of the last and those before the two last.
@@ -108,11 +125,13 @@ pub fn halved_alike<D: Dimension, T: StrideList>(
     requires alike { D.lengths other.now.dim ≡ D.lengths layout.now.dim }
     ensures { IfSome result (λ halves. HalvesBoth layout.now other.now halves) }
 {
-    let (axis, index) = cut_of(
+    let Some((axis, index)) = cut_of(
         layout.dim.slice(),
         layout.strides.slice(),
         other.strides.slice(),
-    )?;
+    ) else {
+        return None;
+    };
     let (lower, upper) = layout.halves(axis, index);
     let (lower_beside, upper_beside) = other.halves(axis, index);
     Some(Halves {

@@ -7,9 +7,9 @@ use Rattle.nd_layout.proofs.halves.halved_alike.Goals as goal
 pub returns : goal.returns
 returns g c =
     let ns = g.D.Dimension.lengths c.args.layout.now.dim in
-    let axis = c.in_ok-axis.axis in
-    let index = c.in_ok-axis.index in
-    let cut = c.in_ok-axis.ensures in
+    let axis = c.in-Some.axis in
+    let index = c.in-Some.index in
+    let cut = c.in-Some.ensures in
     let on : axis < length ns = rw c.slice.ensures.lengths at cut.0 in
     let within : index < slice_index ns axis = rw c.slice.ensures.lengths at cut.2 in
     let ours = c.halves-lower.ensures in

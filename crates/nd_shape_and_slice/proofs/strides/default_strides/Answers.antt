@@ -1,7 +1,9 @@
-use Rattle.std.proofs.Common.{◌≡◌, ◌∙◌, ap, arith, ◌+◌, ◌-◌, ◌<◌, pos, length, drop, set, w64}
+use Rattle.std.proofs.Common.{◌≡◌, ◌∙◌, [], ap, sym, arith, ◌+◌, ◌-◌, ◌<◌, pos, length, drop, set, w64}
+use Rattle.std.proofs.lemmas.List.{drop_all, length-replicate}
 use Rattle.std.proofs.lemmas.Int.{ints, to_z_pos}
 use Rattle.std.proofs.Math.ListN.{length-set}
-use Rattle.nd_shape_and_slice.specs.Shape.{HasCheckedSize}
+use Rattle.nd_shape_and_slice.specs.Shape.{size_of, HasCheckedSize}
+use Rattle.nd_shape_and_slice.specs.Strides.{row_strides}
 use Rattle.nd_shape_and_slice.proofs.RowMajor.{size_of-drop_more, drop_fits, row_strides-drop_more}
 use Rattle.nd_shape_and_slice.proofs.strides.default_strides.Goals as goal
 
@@ -37,3 +39,12 @@ loop-axis-preserved g c =
       step_is = size_of-drop_more lengths at c.loop-axis.axis c.loop-axis.step here within c.loop-axis.invariant.step_is;
       filled = ap (drop at) put ∙ row_strides-drop_more lengths strides at c.loop-axis.axis c.loop-axis.step here within c.loop-axis.invariant.as_many c.loop-axis.invariant.step_is c.loop-axis.invariant.filled;
     }
+
+pub loop-axis-init : goal.loop-axis-init
+loop-axis-init g c =
+    let lengths = c.slice-lengths.result.now in
+    let strides = g.D.Strides.StrideList.strides_of c.zero_strides-strides.result in
+    let many : length strides ≡ length lengths = ap length c.zero_strides-strides.ensures ∙ (length-replicate (length (g.D.Dimension.lengths c.args.dim.now)) (pos 0) ∙ sym (ap length c.slice-lengths.ensures.lengths)) in
+    let end : drop (length lengths) lengths ≡ [] = drop_all (length lengths) lengths (omega arith) in
+    let end_of_strides : drop (length lengths) strides ≡ [] = drop_all (length lengths) strides (omega (arith, many)) in
+    record { within = omega arith; as_many = many; step_is = sym (ap size_of end); filled = end_of_strides ∙ sym (ap row_strides end) }

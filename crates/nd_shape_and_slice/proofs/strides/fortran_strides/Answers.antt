@@ -1,7 +1,8 @@
-use Rattle.std.proofs.Common.{◌≡◌, ◌∙◌, ap, sym, subst, arith, ◌*◌, ◌+◌, ◌<◌, pos, get_or, set, w64}
+use Rattle.std.proofs.Common.{◌≡◌, ◌∙◌, ap, sym, subst, arith, ◌*◌, ◌+◌, ◌<◌, pos, get_or, set, length, w64}
+use Rattle.std.proofs.lemmas.List.{length-replicate}
 use Rattle.std.proofs.lemmas.Int.{ints, to_z_pos}
 use Rattle.nd_shape_and_slice.specs.Shape.{HasCheckedSize}
-use Rattle.nd_shape_and_slice.proofs.ColumnLoop.{IsFilledTo, full_fits, step-le, grown-le, filled_more}
+use Rattle.nd_shape_and_slice.proofs.ColumnLoop.{IsFilledTo, filled_none, full_fits, step-le, grown-le, filled_more}
 use Rattle.nd_shape_and_slice.proofs.strides.fortran_strides.Goals as goal
 
 pub overflow_cast-step : goal.overflow_cast-step
@@ -31,3 +32,8 @@ loop-axis-preserved g c =
     let put : g.D.Strides.StrideList.strides_of c.set.new.self ≡ set strides c.loop-axis.axis (pos c.loop-axis.step) = c.set.ensures ∙ ap (set strides c.loop-axis.axis) (to_z_pos w64 c.loop-axis.step small) in
     subst (λ l. IsFilledTo (c.loop-axis.axis + 1) (c.loop-axis.step * get_or c.slice-lengths.result.now c.loop-axis.axis 0) c.slice-lengths.result.now l) (sym put)
     (filled_more c.slice-lengths.result.now strides c.loop-axis.axis c.loop-axis.step c.loop-axis.invariant c.loop-axis-test.true full.0)
+
+pub loop-axis-init : goal.loop-axis-init
+loop-axis-init g c =
+    filled_none c.slice-lengths.result.now (g.D.Strides.StrideList.strides_of c.zero_strides-strides.result)
+    (ap length c.zero_strides-strides.ensures ∙ (length-replicate (length (g.D.Dimension.lengths c.args.dim.now)) (pos 0) ∙ sym (ap length c.slice-lengths.ensures.lengths)))

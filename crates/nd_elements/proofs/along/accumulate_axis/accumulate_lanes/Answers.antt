@@ -119,3 +119,6 @@ accumulate_beside-requires-clause-lie g c r k on under =
     let made = c.lane_from-lane.ensures.lane in
     let within : r < size_of ns = subst (λ n. r < n) c.args.lanes.many on in
     (λ i. is_place (pos (made.0 i + r) +ℤ (pos k *ℤ (made.2 ∙ stride) i))) ∙ (ap is_place (beside_goes l.first ns ss c.args.lanes.stride standard r k within) ∙ c.args.lanes.lie r k within (subst (λ n. k < n) made.1 under))
+
+pub accumulate_in_turn-requires-clause-apart : goal.accumulate_in_turn-requires-clause-apart
+accumulate_in_turn-requires-clause-apart g c = c.requires.apart

@@ -35,3 +35,19 @@ returns-clause-left g c p other =
 
 pub returns-clause-long : goal.returns-clause-long
 returns-clause-long g c = let split = c.split_at_mut-before.ensures in long_after c.split_at_mut-before.result.0.now c.split_at_mut-before.result.1.now c.f.new.arg3 ∙ ap length (sym split.value)
+
+pub f-requires : goal.f-requires
+f-requires g c =
+    let nth = c.args.nth in
+    let split = c.split_at_mut-before.ensures in
+    let front = c.split_at_mut-before.result.0.now in
+    let back = c.split_at_mut-before.result.1.now in
+    let x = get_or front nth c.index-before-nth.result in
+    let within = c.requires.within in
+    let front_len = split.front_len in
+    let back_len = split.back_len in
+    let below : nth < length front = omega (arith, front_len) in
+    let some : 0 < length back = omega (arith, within, back_len) in
+    c.requires.callable _ _
+    (ap (λ xs. slice_get xs nth) split.value ∙ got_still front back nth x (got_or front nth c.index-before-nth.result below))
+    (ap (λ xs. slice_get xs (nth + 1)) split.value ∙ (got_next front back (nth + 1) front_len ∙ got_or back 0 c.index-rest-0.result some))

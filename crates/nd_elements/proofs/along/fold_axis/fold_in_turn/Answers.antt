@@ -1,5 +1,5 @@
 use Rattle.std.proofs.Common.{◌≡◌, ◌*◌, ◌+◌, ◌/◌, ◌%◌, ◌<◌, ◌≤◌, ◌∙◌, ℕ, suc, length, pos, ◌+ℤ◌, ◌*ℤ◌, refl, ap, sym, subst, rules, arith, w64, to_z, of_z, FitsSigned}
-use Rattle.std.specs.Prelude.{slice_get, vec_capacity}
+use Rattle.std.specs.Prelude.{slice_get, vec_len, vec_capacity}
 use Rattle.std.proofs.lemmas.Int.{to_z-of_z}
 use Rattle.nd_shape_and_slice.specs.Shape.{size_of}
 use Rattle.nd_layout.specs.Places.{is_place}
@@ -9,6 +9,7 @@ use Rattle.nd_elements.specs.Places.{stored_at, names_place}
 use Rattle.nd_elements.specs.along.AxisLanes.{lane_place}
 use Rattle.nd_elements.proofs.AxisLanes.{lane_goes, next_rank}
 use Rattle.nd_elements.proofs.LaneNumbers.{by_lanes, got_before, got_end, longer}
+use Rattle.nd_elements.proofs.Lanes.{nearer, room_at}
 use Rattle.nd_elements.proofs.LanesFolding.{LanesFolded, lanes_none, lanes_more, lane_takes, lanes_all, takes_same, folds_same}
 use Rattle.nd_elements.proofs.along.fold_axis.fold_in_turn.Goals as goal
 
@@ -143,3 +144,18 @@ loop-place-init g c =
       subst (λ r. LanesFolded g.F.FnMut all lanes.count elements c.args.init.now c.args.f r (slice_get c.args.room.items) c.args.f) (sym none) (lanes_none g.F.FnMut all lanes.count elements c.args.init.now c.args.f (slice_get c.args.room.items)),
       ap length c.requires.empty.0 ∙ sym none,
     )
+
+pub push_reserved-requires : goal.push_reserved-requires
+push_reserved-requires g c =
+    let so_far = c.loop-place.invariant in
+    let rank = c.loop-place.walk.rank in
+    let on = subst (λ ls. rank < size_of ls) so_far.1 c.in-Some.ensures.0 in
+    room_at (size_of c.args.lanes.firsts.lengths.now) (vec_capacity c.loop-place.items) (vec_len c.loop-place.items) rank on so_far.3 so_far.4
+
+pub loop-place-smaller : goal.loop-place-smaller
+loop-place-smaller g c =
+    let so_far = c.loop-place.invariant in
+    let rank = c.loop-place.walk.rank in
+    let on = subst (λ ls. rank < size_of ls) so_far.1 c.in-Some.ensures.0 in
+    nearer (size_of c.args.lanes.firsts.lengths.now) rank c.advance.new.self.rank on
+    (next_rank rank (size_of c.loop-place.walk.lengths.now) c.advance.new.self.rank c.in-Some.ensures.0 c.advance.ensures.rank)

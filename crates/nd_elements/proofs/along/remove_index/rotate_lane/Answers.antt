@@ -1,7 +1,7 @@
 use Rattle.std.proofs.Common.{◌+◌, ◌<◌, ◌∙◌, pos, ◌+ℤ◌, ◌*ℤ◌, refl, arith, ◌≡◌, subst}
 use Rattle.nd_layout.specs.Lanes.{along}
 use Rattle.nd_elements.specs.along.Removed.{rotated, IsMovedBy}
-use Rattle.nd_elements.proofs.Rotating.{rotated_more}
+use Rattle.nd_elements.proofs.Rotating.{rotated_more, rotated_there}
 use Rattle.nd_elements.proofs.along.remove_index.rotate_lane.Goals as goal
 
 pub loop-nth-preserved : goal.loop-nth-preserved
@@ -29,3 +29,23 @@ returns-clause-moved g c =
 
 pub returns-clause-frame : goal.returns-clause-frame
 returns-clause-frame g c = c.loop-nth.invariant.1
+
+pub swap-requires-clause-p : goal.swap-requires-clause-p
+swap-requires-clause-p g c =
+    let lane = c.args.lane in
+    let m = c.loop-nth.nth in
+    let test = c.loop-nth-test.true in
+    let within : m + 1 < lane.count = omega (arith, test) in
+    let before : m < lane.count = omega (arith, within) in
+    rotated_there (λ k. pos lane.place +ℤ (pos k *ℤ lane.stride)) lane.count c.args.from (g.S.Data.stored c.args.storage.now) m c.place_of.result m c.requires.from before before c.place_of.ensures
+    (g.S.Data.stored c.loop-nth.storage) c.requires.holds c.loop-nth.invariant.0
+
+pub swap-requires-clause-q : goal.swap-requires-clause-q
+swap-requires-clause-q g c =
+    let lane = c.args.lane in
+    let m = c.loop-nth.nth in
+    let test = c.loop-nth-test.true in
+    let within : m + 1 < lane.count = omega (arith, test) in
+    let before : m < lane.count = omega (arith, within) in
+    rotated_there (λ k. pos lane.place +ℤ (pos k *ℤ lane.stride)) lane.count c.args.from (g.S.Data.stored c.args.storage.now) m c.place_of-in-loop-nth.result (m + 1) c.requires.from before within c.place_of-in-loop-nth.ensures
+    (g.S.Data.stored c.loop-nth.storage) c.requires.holds c.loop-nth.invariant.0

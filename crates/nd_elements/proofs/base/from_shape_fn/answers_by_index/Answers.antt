@@ -27,3 +27,12 @@ pub returns-then-size-eq0-clause-visits : goal.returns-then-size-eq0-clause-visi
 returns-then-size-eq0-clause-visits g c =
     let ns = g.D.Dimension.lengths c.args.dim.now in
     answered_all (AnswersIndex g.F.FnMut g.D.IntoPattern.pattern_lengths) (ns, c.args.order) c.args.f c.args.room.items 0 c.args.f (omega (arith, c.size.ensures, c.if-size-eq0.true)) (answered_none (AnswersIndex g.F.FnMut g.D.IntoPattern.pattern_lengths) (ns, c.args.order) c.args.f c.args.room.items c.requires.empty.0)
+
+pub returns-then-ndim-eq0-clause-count : goal.returns-then-ndim-eq0-clause-count
+returns-then-ndim-eq0-clause-count g c =
+    let ns = g.D.Dimension.lengths c.args.dim.now in
+    let none : length ns ≡ 0 = omega (arith, c.ndim.ensures.value, c.if-ndim-eq0.true) in
+    let one = no_axes_size ns none in
+    let before = c.requires.empty.1 in
+    let after = c.push_reserved.ensures.len in
+    omega (arith, one, before, after)

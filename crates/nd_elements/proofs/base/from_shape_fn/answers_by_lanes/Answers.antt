@@ -1,9 +1,10 @@
-use Rattle.std.proofs.Common.{◌≡◌, ◌<◌, ◌+◌, ◌-◌, ◌*◌, ◌∙◌, length, take, get_or, ap, sym, subst, arith, refl}
-use Rattle.std.proofs.lemmas.List.{length-set}
+use Rattle.std.proofs.Common.{◌≡◌, ◌<◌, ◌+◌, ◌-◌, ◌*◌, ◌∙◌, length, take, get_or, ap, sym, subst, arith, refl, pos}
+use Rattle.std.proofs.lemmas.List.{length-set, length-replicate, length-take-le}
+use Rattle.std.specs.Prelude.{vec_len, vec_capacity}
 use Rattle.nd_shape_and_slice.specs.Shape.{size_of, index_at}
 use Rattle.nd_layout.specs.Ranks.{slowest_first}
 use Rattle.nd_elements.specs.FreeOrder.{AnswersIndex, TakesIndex}
-use Rattle.nd_elements.proofs.Lanes.{rests_reach, outer_checked, outer_long, lane_at, lanes_done, lane_none, lane_through}
+use Rattle.nd_elements.proofs.Lanes.{rests_reach, outer_checked, outer_long, outer_within, room_at, lane_at, lanes_done, lane_none, lane_through}
 use Rattle.nd_elements.proofs.Answered.{IsAnsweredTo, answered_next, answered_more, answered_all, answered_none}
 use Rattle.nd_layout.proofs.WalkSteps.{reaches_usizes}
 use Rattle.nd_elements.proofs.base.from_shape_fn.answers_by_lanes.Goals as goal
@@ -75,7 +76,7 @@ push_reserved-requires g c =
     let k = c.loop-k.k in
     let count : c.length-count.result ≡ get_or (slowest_first o ns) n 0 = c.length-count.ensures ∙ ap (λ l. get_or l n 0) c.slow_lengths-slow.ensures in
     let lane = lane_at o ns (g.D.Dimension.lengths c.loop-k.index) n q k c.slow_axis_at-fastest.result c.length-count.result axes so_far.0 c.slow_axis_at-fastest.ensures.value count c.requires.some below c.loop-k-test.true so_far.1 in
-    omega (arith, lane.1, so_far.2, so_far.3)
+    room_at (size_of ns) (vec_capacity c.loop-k.items) (vec_len c.loop-k.items) (q * c.length-count.result + k) lane.1 so_far.2 so_far.3
 
 pub loop-k-preserved : goal.loop-k-preserved
 loop-k-preserved g c =
@@ -143,3 +144,30 @@ loop-index-preserved g c =
       inner.3 ∙ through,
       subst (λ r. IsAnsweredTo (AnswersIndex g.F.FnMut g.D.IntoPattern.pattern_lengths) (ns, c.args.order) c.args.f c.loop-k.items.items r c.loop-k.f) through inner.5,
     )
+
+pub slice_bounds-new-end : goal.slice_bounds-new-end
+slice_bounds-new-end g c =
+    sym (length-take-le (c.ndim-last.result - 1) c.slice.result.now (outer_within c.args.order (g.D.Dimension.lengths c.args.dim.now) _ _ (c.ndim-last.result - 1) c.ndim-last.result c.ndim-last.ensures.value (omega arith) c.slice.ensures.lengths c.slow_lengths-slow.ensures))
+
+pub slice_bounds-new-end-2 : goal.slice_bounds-new-end-2
+slice_bounds-new-end-2 g c =
+    let many = ap length (c.slice-2.ensures ∙ c.zero_strides-strides.ensures) in
+    let zeros = length-replicate (length (g.D.Dimension.lengths c.args.dim.now)) (pos 0) in
+    let axes = c.ndim-last.ensures.value in
+    sym (length-take-le (c.ndim-last.result - 1) c.slice-2.result.now (omega (arith, many, zeros, axes)))
+
+pub new-outer-requires-clause-as_many : goal.new-outer-requires-clause-as_many
+new-outer-requires-clause-as_many g c =
+    let last = c.ndim-last.result - 1 in
+    let many = ap length (c.slice-2.ensures ∙ c.zero_strides-strides.ensures) in
+    let zeros = length-replicate (length (g.D.Dimension.lengths c.args.dim.now)) (pos 0) in
+    let axes = c.ndim-last.ensures.value in
+    length-take-le last c.slice-2.result.now (omega (arith, many, zeros, axes))
+    ∙ sym (length-take-le last c.slice.result.now (outer_within c.args.order (g.D.Dimension.lengths c.args.dim.now) _ _ last c.ndim-last.result axes (omega arith) c.slice.ensures.lengths c.slow_lengths-slow.ensures))
+
+pub new-outer-requires-clause-few : goal.new-outer-requires-clause-few
+new-outer-requires-clause-few g c =
+    let last = c.ndim-last.result - 1 in
+    let few = c.ndim-last.ensures.few in
+    let long = length-take-le last c.slice.result.now (outer_within c.args.order (g.D.Dimension.lengths c.args.dim.now) _ _ last c.ndim-last.result c.ndim-last.ensures.value (omega arith) c.slice.ensures.lengths c.slow_lengths-slow.ensures) in
+    omega (arith, few, long)

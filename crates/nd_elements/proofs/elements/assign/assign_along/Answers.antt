@@ -1,9 +1,10 @@
-use Rattle.std.proofs.Common.{◌≡◌, ◌<◌, Some, ap, sym, subst, ◌∙◌, arith, rules}
+use Rattle.std.proofs.Common.{◌≡◌, ◌<◌, Some, ap, sym, subst, ◌∙◌, arith}
 use Rattle.nd_layout.specs.Lanes.{along}
 use Rattle.nd_elements.specs.NumberedPlaces.{elements_at}
 use Rattle.nd_elements.specs.Places.{stored_at}
 use Rattle.nd_elements.proofs.WriteStep.{written_there}
 use Rattle.nd_elements.proofs.Assigned.{assigned_more, assigned_partly}
+use Rattle.nd_elements.proofs.Replaced.{written_elsewhere}
 use Rattle.nd_elements.proofs.elements.assign.assign_along.Goals as goal
 
 pub loop-nth-preserved : goal.loop-nth-preserved
@@ -19,7 +20,7 @@ loop-nth-preserved g c =
       assigned_more given at.place nth at.count c.place_of-in-Ok.result copy c.loop-nth-test.true c.requires.apart c.place_of-in-Ok.ensures
           (ap Some copied ∙ sym there) (g.S.Data.stored c.args.storage.now) now new c.loop-nth.invariant.0
           (written_there now new c.place_of-in-Ok.result copy c.replace.ensures.new)
-          (λ q other. search rules),
+          (written_elsewhere now new c.place_of-in-Ok.result copy c.replace.ensures.new),
       c.replace.ensures.frame ∙ c.loop-nth.invariant.1,
     )
 

@@ -8,3 +8,8 @@ pub returns-then-lane-eq0-clause-outcome : goal.returns-then-lane-eq0-clause-out
 returns-then-lane-eq0-clause-outcome g c =
     subst (λ others. AssignsAt g.S.Data.stored (λ _. others) (along c.args.lane) (along c.args.beside) c.args.others.now c.args.storage.now c.assign_along.new.storage c.assign_along.result)
     (fun_ext c.borrowed.ensures) c.assign_along.ensures.outcome
+
+pub returns-clause-outcome : goal.returns-clause-outcome
+returns-clause-outcome g c =
+    subst (λ others. AssignsAt g.S.Data.stored (λ _. others) (along c.args.lane) (along c.args.beside) c.args.others.now c.args.storage.now c.assign_aside.new.storage c.assign_aside.result)
+    (fun_ext c.borrowed-2.ensures) c.assign_aside.ensures.outcome

@@ -6,7 +6,7 @@ use Rattle.nd_elements.specs.NumberedPlaces.{elements_at}
 use Rattle.nd_elements.specs.Places.{stored_at}
 use Rattle.nd_elements.specs.elements.Maps.{AnswersValue, MayBeGiven, AnswersBehind}
 use Rattle.nd_elements.proofs.LanePart.{some_place, lane_clones, lane_holds, room_first}
-use Rattle.nd_elements.proofs.Mapped.{behind_ran, behind_then, takes_later}
+use Rattle.nd_elements.proofs.Mapped.{behind_none, behind_ran, behind_then, takes_later}
 use Rattle.nd_elements.proofs.elements.mapv.value_places.Goals as goal
 
 pub value_lane-requires-clause-clones : goal.value_lane-requires-clause-clones
@@ -60,3 +60,14 @@ returns-in-Err-clause-refused g c = some_place c.args.places c.loop-lane.lanes c
 
 pub returns-clause-count : goal.returns-clause-count
 returns-clause-count g c = let so_far = c.loop-lane.invariant in so_far.2 ∙ all_through c.args.places c.loop-lane.lanes so_far.0 c.in_default.ensures.lane.0
+
+pub loop-lane-init : goal.loop-lane-init
+loop-lane-init g c =
+    let found = elements_at g.S.Data.stored (ranked c.args.places) c.args.storage.now in
+    let start = sym c.lanes-lanes.ensures.rank in (
+      c.lanes-lanes.ensures.over,
+      subst (λ r. AnswersBehind (AnswersValue g.F.FnMut) found r [] c.args.room.items c.args.f c.args.f) start
+          (subst (λ xs. AnswersBehind (AnswersValue g.F.FnMut) found 0 [] xs c.args.f c.args.f) (sym c.requires.empty.0) (behind_none (AnswersValue g.F.FnMut) found [] c.args.f)),
+      c.requires.empty.1 ∙ start,
+      c.requires.room,
+    )

@@ -1,6 +1,6 @@
-use Rattle.std.proofs.Common.{arith, ◌≡◌, ◌∙◌, ap, sym}
+use Rattle.std.proofs.Common.{arith, ◌≡◌, ◌∙◌, ap, sym, subst, length}
 use Rattle.std.specs.Prelude.{Some, slice_get}
-use Rattle.nd_elements.specs.elements.Maps.{AnswersValue}
+use Rattle.nd_elements.specs.elements.Maps.{AnswersValue, AnswersBehind}
 use Rattle.nd_elements.proofs.Mapped.{got_there, behind_ran, behind_more}
 use Rattle.nd_elements.proofs.elements.mapv.value_run.Goals as goal
 
@@ -24,3 +24,8 @@ loop-nth-preserved g c =
       (let len = so_far.1 in let more = c.push_reserved.ensures.len in omega (arith, len, more)),
       c.push_reserved.ensures.capacity ∙ so_far.2,
     )
+
+pub returns-clause-pushed : goal.returns-clause-pushed
+returns-clause-pushed g c =
+    let through : c.loop-nth.nth ≡ length c.args.xs.now = omega arith in
+    subst (λ n. AnswersBehind (AnswersValue g.F.FnMut) (slice_get c.args.xs.now) n c.args.items.now.items c.loop-nth.items.items c.args.f c.loop-nth.f) through c.loop-nth.invariant.0

@@ -1,6 +1,6 @@
 use Rattle.std.proofs.Common.{rules, ◌∙◌}
 use Rattle.nd_layout.specs.Placements.{placement_of}
-use Rattle.nd_elements.proofs.InHalves.{step_apart, step_holds, high_holds, high_same, halved_beside, both_assigned, both_hold}
+use Rattle.nd_elements.proofs.InHalves.{step_apart, step_holds, high_holds, high_same, halved_beside, both_assigned, both_hold, both_stay}
 use Rattle.nd_elements.proofs.elements.move_into.+exchange_in_halves.Goals as goal
 
 pub exchange_in_halves-requires : goal.exchange_in_halves-requires
@@ -58,3 +58,16 @@ returns-clause-holds g t c =
     let second = c.exchange_in_halves-2.ensures in
     both_hold (placement_of c.args.layout.now) (placement_of c.args.beside.now) (placement_of parts.lower) (placement_of parts.lower_beside) (placement_of parts.upper) (placement_of parts.upper_beside) c.in-Some.ensures
     c.requires.alike c.args.layout.now.as_many c.requires.apart (g.Z.Data.stored c.args.others.now) (g.S.Data.stored c.args.storage.now) (g.S.Data.stored c.exchange_in_halves.new.storage) (g.S.Data.stored c.exchange_in_halves-2.new.storage) second.others first.holds second.holds
+
+pub returns-clause-others : goal.returns-clause-others
+returns-clause-others g t c =
+    let parts = c.in-Some.halves in
+    both_stay (placement_of c.args.layout.now) (placement_of c.args.beside.now) (placement_of parts.lower) (placement_of parts.lower_beside) (placement_of parts.upper) (placement_of parts.upper_beside) c.in-Some.ensures
+    (g.S.Data.stored c.args.storage.now) (g.S.Data.stored c.exchange_in_halves.new.storage) (g.S.Data.stored c.exchange_in_halves-2.new.storage) c.exchange_in_halves.ensures.others c.exchange_in_halves-2.ensures.others
+
+pub returns-clause-beside : goal.returns-clause-beside
+returns-clause-beside g t c =
+    let parts = c.in-Some.halves in
+    both_stay (placement_of c.args.beside.now) (placement_of c.args.layout.now) (placement_of parts.lower_beside) (placement_of parts.lower) (placement_of parts.upper_beside) (placement_of parts.upper)
+    (halved_beside (placement_of c.args.layout.now) (placement_of c.args.beside.now) (placement_of parts.lower) (placement_of parts.lower_beside) (placement_of parts.upper) (placement_of parts.upper_beside) c.requires.alike c.in-Some.ensures)
+    (g.Z.Data.stored c.args.others.now) (g.Z.Data.stored c.exchange_in_halves.new.others) (g.Z.Data.stored c.exchange_in_halves-2.new.others) c.exchange_in_halves.ensures.beside c.exchange_in_halves-2.ensures.beside

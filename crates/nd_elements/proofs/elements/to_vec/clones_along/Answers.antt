@@ -39,3 +39,11 @@ returns-clause-len g c =
 
 pub returns-clause-room : goal.returns-clause-room
 returns-clause-room g c = c.loop-nth.invariant.2
+
+pub returns-in-Err-clause-refused : goal.returns-in-Err-clause-refused
+returns-in-Err-clause-refused g c =
+    let nth = c.loop-nth.nth in
+    let x = c.element.result.now in
+    let found = elements_at g.S.Data.stored (along c.args.lane) c.args.storage.now in
+    let there : found nth ≡ Some x = ap (stored_at (g.S.Data.stored c.args.storage.now)) (sym c.place_of.ensures) ∙ (sym (c.borrowed-region.ensures c.place_of.result) ∙ c.element.ensures) in
+    (nth, x, c.loop-nth-test.true, there, c.in-Err.ensures.cases)

@@ -5,7 +5,7 @@ use Rattle.nd_layout.proofs.LanesOf.{go_on, lane_of, all_through}
 use Rattle.nd_elements.specs.Collected.{collected}
 use Rattle.nd_elements.specs.NumberedPlaces.{elements_at}
 use Rattle.nd_elements.proofs.Collecting.{lane_behind}
-use Rattle.nd_elements.proofs.LanePart.{lane_refused, lane_holds, room_behind}
+use Rattle.nd_elements.proofs.LanePart.{lane_refused, lane_clones, lane_holds, room_behind}
 use Rattle.nd_elements.proofs.elements.to_vec.clones_by_rank.Goals as goal
 
 -- what a clause says of a result that is there
@@ -66,3 +66,6 @@ pub clones_of_lane-longer-requires-clause-room : goal.clones_of_lane-longer-requ
 clones_of_lane-longer-requires-clause-room g c =
     let so_far = c.loop-lane.invariant in
     room_behind c.args.places c.loop-lane.lanes c.in-Some.lane c.loop-lane.invariant.0 c.in-Some.ensures.lane.0 (vec_len c.args.items) (vec_len c.loop-lane.items) (vec_capacity c.loop-lane.items) so_far.2 (subst (λ m. vec_len c.args.items + (ranked c.args.places).count ≤ m) (sym so_far.3) c.requires.room)
+
+pub clones_of_lane-longer-requires-clause-clones : goal.clones_of_lane-longer-requires-clause-clones
+clones_of_lane-longer-requires-clause-clones g c = lane_clones c.args.places c.loop-lane.lanes c.in-Some.lane c.loop-lane.invariant.0 c.in-Some.ensures.lane.0 (g.S.Data.stored c.args.storage.now) g.S.Elem.Clone.is_clone c.requires.clones

@@ -1,4 +1,5 @@
 use Rattle.nd_layout.specs.Placements.{placement_of}
+use Rattle.nd_elements.proofs.InHalves.{step_apart}
 use Rattle.nd_elements.proofs.ZippedHalves.{turned_zippable, turned_zipped}
 use Rattle.nd_elements.proofs.elements.zip_mut_with.zip_layouts.Goals as goal
 
@@ -14,3 +15,11 @@ pub returns-clause-visits : goal.returns-clause-visits
 returns-clause-visits g c =
     let turned = c.turned_alike-turned in
     (c.zip_in_halves.result, turned_zipped g.F.FnMut (g.Z.Data.stored c.args.others.now) (placement_of c.args.layout.now) (placement_of c.args.beside.now) (placement_of turned.result.0) (placement_of turned.result.1) turned.ensures (g.S.Data.stored c.args.storage.now) (g.S.Data.stored c.zip_in_halves.new.storage) c.args.f c.zip_in_halves.result c.zip_in_halves.ensures.visits)
+
+pub zip_in_order-requires-clause-apart : goal.zip_in_order-requires-clause-apart
+zip_in_order-requires-clause-apart g c = c.requires.apart
+
+pub zip_in_halves-requires-clause-apart : goal.zip_in_halves-requires-clause-apart
+zip_in_halves-requires-clause-apart g c =
+    let turned = c.turned_alike-turned in
+    step_apart (placement_of c.args.layout.now) (placement_of turned.result.0) turned.ensures.source turned.ensures.first c.requires.apart

@@ -58,3 +58,10 @@ returns-clause-strides g c =
     let written = c.lay_out.ensures ∙ ap (growing_strides c.args.axis) c.slice.ensures.lengths in
     let long = ap length written ∙ (length-growing_strides ns c.args.axis c.requires.axis c.requires.some ∙ sym c.ndim-count.ensures.value) in
     c.strided.ensures.strides ∙ (c.strides_from-strides.ensures.listed ∙ (take_at c.lay_out.new.out _ c.ndim-count.result long ∙ written))
+
+pub strides_from-strides-requires : goal.strides_from-strides-requires
+strides_from-strides-requires g c =
+    let ns = g.D.Dimension.lengths c.args.dim in
+    let written = c.lay_out.ensures ∙ ap (growing_strides c.args.axis) c.slice.ensures.lengths in
+    let long = ap length written ∙ (length-growing_strides ns c.args.axis c.requires.axis c.requires.some ∙ sym c.ndim-count.ensures.value) in
+    sym (front_length c.ndim-count.result _ (joined_length c.ndim-count.result c.lay_out.new.out _ long)) ∙ c.ndim-count.ensures.value

@@ -1,4 +1,5 @@
-use Rattle.std.proofs.Common.{◌≡◌, true, refl}
+use Rattle.std.proofs.Common.{◌≡◌, ◌∙◌, ap, sym, length, pos, true, refl}
+use Rattle.std.proofs.lemmas.List.{length-replicate}
 use Rattle.nd_layout.specs.Steps.{IsValid}
 use Rattle.nd_shape_and_slice.specs.Broadcast.{broadcasts}
 use Rattle.nd_layout.proofs.steps.BroadcastStep.{broadcast_is_seen, broadcast_is_valid}
@@ -32,3 +33,7 @@ invariant_of-result g c =
       checked = valid.checked;
       reach = valid.reach;
     }
+
+pub put_strides_under-requires-clause-wide : goal.put_strides_under-requires-clause-wide
+put_strides_under-requires-clause-wide g c =
+    ap length c.zero_strides-strides.ensures ∙ (length-replicate (length (g.E.Dimension.lengths c.args.to)) (pos 0) ∙ sym (ap length c.slice-5.ensures.lengths))

@@ -1,6 +1,6 @@
 use Rattle.std.proofs.Common.{◌≡◌, ◌+◌, ◌-◌, ◌<◌, ◌∙◌, length, pos, refl, ap, sym, arith}
 use Rattle.std.specs.Prelude.{slice_index, slice_index_or}
-use Rattle.std.specs.List.{remove, swap}
+use Rattle.std.specs.List.{remove, insert, swap}
 use Rattle.std.proofs.lemmas.List.Edits.{length-remove}
 use Rattle.nd_layout.proofs.FreshOrder.{put_in_again, moved_forward}
 use Rattle.nd_layout.proofs.layout.Layout.move_to_front.Goals as goal
@@ -33,3 +33,10 @@ loop-at-preserved g c =
       c.swap_axes.ensures.offset ∙ so_far.2,
       omega (arith, within),
     )
+
+pub returns-clause-strides : goal.returns-clause-strides
+returns-clause-strides g c =
+    let ss = g.T.StrideList.strides_of c.args.self.now.strides in
+    let end = c.loop-at-test.false in
+    let none : c.loop-at.at ≡ 0 = omega (arith, end) in
+    c.loop-at.invariant.1 ∙ ap (λ n. insert (remove ss c.args.axis) n (slice_index_or ss c.args.axis (pos 0))) none

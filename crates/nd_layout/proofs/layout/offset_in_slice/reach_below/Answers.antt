@@ -22,3 +22,13 @@ overflow_add-offset c =
     let parts = reach_down-drop ns ss c.loop-axis.axis c.requires.as_many c.loop-axis-test.true in
     let whole = reach_down-le-span ns ss in
     omega (arith, here, parts, whole, c.requires.spread, c.loop-axis.invariant)
+
+pub loop-axis-preserved : goal.loop-axis-preserved
+loop-axis-preserved c =
+    let ns = c.args.lengths.now in
+    let ss = c.args.strides.now in
+    let stride = get_or ss c.loop-axis.axis (pos 0) in
+    let fits : FitsSigned w64 stride = search rules in
+    let here : c.down_by-offset.result ≡ reach_down (get_or ns c.loop-axis.axis 0 ∷ []) (stride ∷ []) = rw (to_z-of_z w64 stride fits) at c.down_by-offset.ensures in
+    let parts = reach_down-drop ns ss c.loop-axis.axis c.requires.as_many c.loop-axis-test.true in
+    omega (arith, here, parts, c.loop-axis.invariant)
