@@ -11,8 +11,14 @@ use Rattle.nd_shape_and_slice.proofs.RowMajor.{row_rank_below}
 use Rattle.nd_layout.specs.Ranks.{rank_in, index_in}
 use Rattle.nd_layout.proofs.Orders.{rank_in-below, size_of-ordered}
 use Rattle.nd_layout.proofs.LaneIndexes.{slow_index}
-use Rattle.nd_elements.specs.Meaning.{inside}
+use Rattle.nd_shape_and_slice.specs.declared.dimension.Dimension as dimension
+use Rattle.nd_shape_and_slice.specs.declared.dimension.AxisCount as axis_count
+use Rattle.nd_shape_and_slice.specs.declared.dimension.StrideList as stride_list
+use Rattle.nd_elements.specs.declared.storage.Data as data_trait
+use Rattle.nd_elements.specs.Meaning.{inside, row_major_elements}
 use Rattle.nd_elements.specs.Places.{stored_at, HoldsAll}
+use Rattle.nd_array_core.specs.declared.base.array.ArrayBase.{ArrayBase}
+use Rattle.nd_array_core.specs.Meaning.{meaning_of, shape_of, element_at}
 use Rattle.nd_array_core.specs.reshape.Regrouped.{regrouped_index}
 use Rattle.nd_elements.proofs.Collecting.{ordered_shows}
 
@@ -69,3 +75,9 @@ module _ {A : Type 0} where
 
 pub turned_count : (ns ts : List ℕ) → ts ≡ reverse ns → size_of ts ≡ size_of ns
 turned_count ns ts same = ap size_of same ∙ size_of-ordered RowMajor ns
+
+module _ {S D A T R : Type 0} {s : data_trait.Ghosts S A} {d : dimension.Ghosts D R} {n : axis_count.Ghosts D} {r : stride_list.Ghosts R} {t : stride_list.Ghosts T} where
+  -- the list of an array's elements has them by row-major rank
+  pub listed_by_rank : (a : ArrayBase S D T A R s d n r t) (xs : List A) → xs ≡ row_major_elements (meaning_of a) → (rank : ℕ) → rank < size_of (shape_of a) → slice_get xs rank ≡ element_at a (index_at (shape_of a) rank)
+  unfolding meaning_of
+  listed_by_rank a xs all rank below = ap (λ ys. slice_get ys rank) all ∙ listed_row (s.stored a.storage) a.layout.offset (d.lengths a.layout.dim) (t.strides_of a.layout.strides) a.inside rank below

@@ -2,8 +2,10 @@
 use Rattle.std.specs.Prelude.{◌≡◌, ℕ, List, Option, IsTrue}
 use Rattle.nd_shape_and_slice.specs.declared.slice_info.SliceInfoElem.{SliceInfoElem}
 use Rattle.nd_shape_and_slice.specs.Meeting.{Intersect}
-use Rattle.nd_shape_and_slice.specs.SliceInfo.{fits_shape}
+use Rattle.nd_shape_and_slice.specs.SliceInfo.{fits_shape, shape_after}
+use Rattle.nd_layout.specs.Placements.{Placement, IsListStep}
 use Rattle.nd_elements.specs.Places.{ShareNoPlace}
+use Rattle.nd_array_core.specs.layout.Parts.{HoldsEachOnce}
 
 -- no element is named by both lists
 abbrev pub NameNothingInCommon : List ℕ → List SliceInfoElem → List SliceInfoElem → Type 0
@@ -25,6 +27,10 @@ ThreeShareNoPlace a b c = ShareNoPlace a b × ShareNoPlace a c × ShareNoPlace b
 
 abbrev pub FourShareNoPlace : (List ℕ → Option ℕ) → (List ℕ → Option ℕ) → (List ℕ → Option ℕ) → (List ℕ → Option ℕ) → Type 0
 FourShareNoPlace a b c d = ThreeShareNoPlace b c d × ShareNoPlace a b × ShareNoPlace a c × ShareNoPlace a d
+
+-- whatever lies as a list of slices names it of a placement is held, each element once
+abbrev pub HoldsListed : {A : Type 0} → (ℕ → Option A) → Placement → List SliceInfoElem → Type 0
+HoldsListed stored whole list = (l : Placement) → IsListStep whole l list → l.lengths ≡ shape_after whole.lengths list → HoldsEachOnce stored l.offset l.lengths l.strides
 
 -- the condition holds of each view of this shape
 abbrev pub FitsEach : {V : Type 0} → (V → Type 0) → (V → List ℕ) → List ℕ → Type 0

@@ -3,8 +3,9 @@ use Rattle.std.specs.Prelude.{◌≡◌, ◌<◌, ℕ, List, ℤ, Option}
 use Rattle.nd_shape_and_slice.specs.Shape.{size_of}
 use Rattle.nd_shape_and_slice.specs.Place.{place_of, IsSeparated}
 use Rattle.nd_layout.specs.Placements.{Placement}
+use Rattle.nd_region.specs.Places.{names_not}
 use Rattle.nd_elements.specs.Meaning.{inside}
-use Rattle.nd_elements.specs.Places.{HoldsAll, stored_at, place_number}
+use Rattle.nd_elements.specs.Places.{HoldsAll, kept_at, stored_at, place_number}
 use Rattle.nd_shape_and_slice.specs.declared.dimension.Dimension as dimension
 use Rattle.nd_shape_and_slice.specs.declared.dimension.AxisCount as axis_count
 use Rattle.nd_shape_and_slice.specs.declared.dimension.StrideList as stride_list
@@ -27,6 +28,10 @@ pub record IsViewUnder {A : Type 0} (stored : ℕ → Option A) (offset : ℕ) (
 -- the same of what lies by a placement
 abbrev pub IsViewBy : {A : Type 0} → (ℕ → Option A) → Placement → List ℕ → List ℤ → (List ℕ → Option A) → (List ℕ → Option ℕ) → Type 0
 IsViewBy stored l shape shape_strides at place = IsViewUnder stored l.offset l.lengths l.strides shape shape_strides at place
+
+-- once what lies by a placement is taken out, the storage has what it had at all other places
+abbrev pub LeavesBeside : {A : Type 0} → (ℕ → Option A) → (ℕ → Option A) → Placement → Type 0
+LeavesBeside old new l = (place : ℕ) → new place ≡ kept_at (names_not l.offset l.lengths l.strides) old place
 
 -- an array shows what lies by a placement
 module _ {S D T A R : Type 0} {s : data_trait.Ghosts S A} {d : dimension.Ghosts D R} {n : axis_count.Ghosts D} {r : stride_list.Ghosts R} {t : stride_list.Ghosts T} where

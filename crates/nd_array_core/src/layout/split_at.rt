@@ -2,16 +2,17 @@
 //! Parts to be written share no place.
 #![tactic(auto, unfolding(crate::specs::Meaning::meaning_of, crate::specs::Meaning::memory_layout_of))]
 
-ghost use Rattle.std.specs.Prelude.{◌≡◌, ◌<◌, ◌≤◌, ℕ, length, slice_index};
+ghost use Rattle.std.specs.Prelude.{◌≡◌, ◌<◌, ◌≤◌, ℕ, length, slice_index, IsTrue};
 ghost use Rattle.nd_shape_and_slice.specs.Shape.{size_of};
+ghost use Rattle.nd_shape_and_slice.specs.SliceInfo.{fits_shape, shape_after};
 ghost use Rattle.nd_shape_and_slice.specs.Maps.{lower_shape, upper_shape, upper_index};
 ghost use Rattle.nd_region.specs.Places.{names_not};
 ghost use Rattle.nd_region.specs.Region.{region_stored};
-ghost use Rattle.nd_layout.specs.Placements.{placement_of, IsStepOf, KeepsApart};
+ghost use Rattle.nd_layout.specs.Placements.{placement_of, HasListStrides, IsListStep, IsStepOf, KeepsApart};
 ghost use Rattle.nd_array_core.specs.Meaning.{shape_of, element_at, place_at, layout_strides, layout_offset};
-ghost use Rattle.nd_array_core.specs.layout.MultiSlice.{TwoFit, ThreeFit, FourFit, ThreeShareNoPlace, FourShareNoPlace, FitsEach, TakenOf};
+ghost use Rattle.nd_array_core.specs.layout.MultiSlice.{HoldsListed, TwoFit, ThreeFit, FourFit, ThreeShareNoPlace, FourShareNoPlace, FitsEach, TakenOf};
 ghost use Rattle.nd_array_core.specs.scoped.Tasks.{AreApart};
-ghost use Rattle.nd_array_core.specs.layout.Parts.{HoldsEachOnce, IsViewUnder};
+ghost use Rattle.nd_array_core.specs.layout.Parts.{HoldsEachOnce, IsViewUnder, LeavesBeside, ViewsBy};
 ghost use Rattle.nd_elements.specs.Places.{kept_at, ShareNoPlace};
 ghost use Rattle.nd_array_core.specs.Part.{lower_part, upper_part, sliced_part, ShowsPart, ShowsWhole};
 
@@ -81,6 +82,29 @@ fn part<'a, A, D: Dimension>(
     ArrayBase { storage, layout }
 }
 
+/// Takes the elements that a list of slices names of a layout out of a storage.
+fn taken<'a, A, D: Dimension, I: SliceArg<D>>(
+    storage: &mut ViewMutRepr<'a, A>,
+    layout: &Layout<D, D::Strides>,
+    list: I,
+) -> ArrayViewMut<'a, A, I::OutDim>
+    requires fits { IsTrue (fits_shape (D.lengths layout.now.dim) (I.elements_of list)) }
+    requires holds { HoldsListed (region_stored storage.old.region) (placement_of layout.now) (I.elements_of list) }
+    ensures lengths { (placement_of result.layout).lengths ≡ shape_after (D.lengths layout.now.dim) (I.elements_of list) }
+    ensures step { IsListStep (placement_of layout.now) (placement_of result.layout) (I.elements_of list) }
+    ensures strides { HasListStrides (placement_of layout.now) (placement_of result.layout) (I.elements_of list) }
+    ensures empty { size_of (D.lengths layout.now.dim) ≡ 0 → result.layout.offset ≡ layout.now.offset }
+    ensures shown { ViewsBy (region_stored storage.old.region) (placement_of result.layout) result }
+    ensures left { LeavesBeside (region_stored storage.old.region) (region_stored storage.new.region) (placement_of result.layout) }
+{
+    let named = sliced_by(layout, list);
+    let storage = storage.split(&named);
+    ArrayBase {
+        storage,
+        layout: named,
+    }
+}
+
 impl<'a, A, D: Dimension> ArrayViewMut<'a, A, D> {
     /// The two parts of an axis: the coordinates below this one, and those from it on. The axis is below `ndim`,
     /// and the coordinate at most its length. ndarray's `ArrayViewMut::split_at`.
@@ -137,10 +161,11 @@ impl<'a, A: 'a, D: Dimension, I: SliceArg<D>, J: SliceArg<D>> MultiSliceArg<Arra
     ghost takes = { λ lists view out. ShowsPart view (sliced_part view (I.elements_of lists.0)) out.0 × ShowsPart view (sliced_part view (J.elements_of lists.1)) out.1 × ShareNoPlace (place_at out.0) (place_at out.1) };
 
     fn parts_of(self, view: ArrayViewMut<'a, A, D>) -> Self::Output {
-        let first = sliced_by(&view.layout, self.0);
-        let other = sliced_by(&view.layout, self.1);
+        let layout = view.layout;
         let mut storage = view.storage;
-        (part(&mut storage, first), part(&mut storage, other))
+        let first = taken(&mut storage, &layout, self.0);
+        let other = taken(&mut storage, &layout, self.1);
+        (first, other)
     }
 }
 
@@ -158,15 +183,12 @@ impl<'a, A: 'a, D: Dimension, I: SliceArg<D>, J: SliceArg<D>, K: SliceArg<D>> Mu
     ghost takes = { λ lists view out. ShowsPart view (sliced_part view (I.elements_of lists.0)) out.0 × ShowsPart view (sliced_part view (J.elements_of lists.1)) out.1 × ShowsPart view (sliced_part view (K.elements_of lists.2)) out.2 × ThreeShareNoPlace (place_at out.0) (place_at out.1) (place_at out.2) };
 
     fn parts_of(self, view: ArrayViewMut<'a, A, D>) -> Self::Output {
-        let first = sliced_by(&view.layout, self.0);
-        let second = sliced_by(&view.layout, self.1);
-        let last = sliced_by(&view.layout, self.2);
+        let layout = view.layout;
         let mut storage = view.storage;
-        (
-            part(&mut storage, first),
-            part(&mut storage, second),
-            part(&mut storage, last),
-        )
+        let first = taken(&mut storage, &layout, self.0);
+        let second = taken(&mut storage, &layout, self.1);
+        let last = taken(&mut storage, &layout, self.2);
+        (first, second, last)
     }
 }
 
@@ -191,17 +213,13 @@ impl<
     ghost takes = { λ lists view out. ShowsPart view (sliced_part view (I.elements_of lists.0)) out.0 × ShowsPart view (sliced_part view (J.elements_of lists.1)) out.1 × ShowsPart view (sliced_part view (K.elements_of lists.2)) out.2 × ShowsPart view (sliced_part view (L.elements_of lists.3)) out.3 × FourShareNoPlace (place_at out.0) (place_at out.1) (place_at out.2) (place_at out.3) };
 
     fn parts_of(self, view: ArrayViewMut<'a, A, D>) -> Self::Output {
-        let first = sliced_by(&view.layout, self.0);
-        let second = sliced_by(&view.layout, self.1);
-        let third = sliced_by(&view.layout, self.2);
-        let fourth = sliced_by(&view.layout, self.3);
+        let layout = view.layout;
         let mut storage = view.storage;
-        (
-            part(&mut storage, first),
-            part(&mut storage, second),
-            part(&mut storage, third),
-            part(&mut storage, fourth),
-        )
+        let first = taken(&mut storage, &layout, self.0);
+        let second = taken(&mut storage, &layout, self.1);
+        let third = taken(&mut storage, &layout, self.2);
+        let fourth = taken(&mut storage, &layout, self.3);
+        (first, second, third, fourth)
     }
 }
 

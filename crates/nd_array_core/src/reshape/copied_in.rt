@@ -3,7 +3,6 @@
 
 ghost use Rattle.std.specs.Prelude.{◌≡◌, ◌<◌, IfOk, vec_len};
 ghost use Rattle.nd_shape_and_slice.specs.Shape.{size_of};
-ghost use Rattle.nd_shape_and_slice.specs.declared.builder.Order.TheVariants.{ColumnMajor, RowMajor};
 ghost use Rattle.nd_array_core.specs.Meaning.{shape_of, element_at};
 ghost use Rattle.nd_elements.specs.Clones.{ClonesOfAllAreEqual};
 ghost use Rattle.nd_array_core.specs.base.Fresh.{OwnsInOrder};
@@ -15,37 +14,6 @@ use crate::base::from_elem::of_items;
 use nd_elements::storage::Data;
 use nd_shape_and_slice::{Dimension, NoMemory, Order};
 use std::alloc::Global;
-
-/// Clones of the elements by row-major rank.
-fn rows_listed<S: Data, D: Dimension>(
-    alloc: Global,
-    array: &ArrayBase<S, D>,
-) -> Result<Vec<S::Elem>, NoMemory>
-where
-    S::Elem: Clone + Drop,
-    requires clones { ClonesOfAllAreEqual S.Elem.is_clone (element_at array.now) }
-    ensures count { IfOk result (λ v. vec_len v ≡ size_of (shape_of array.now)) }
-    ensures listed { IfOk result (λ v. ListsInOrder RowMajor array.now v.items) }
-{
-    let items = array.to_vec(alloc)?;
-    Ok(items)
-}
-
-/// Clones of the elements by column-major rank.
-fn columns_listed<S: Data, D: Dimension>(
-    alloc: Global,
-    array: &ArrayBase<S, D>,
-) -> Result<Vec<S::Elem>, NoMemory>
-where
-    S::Elem: Clone + Drop,
-    requires clones { ClonesOfAllAreEqual S.Elem.is_clone (element_at array.now) }
-    ensures count { IfOk result (λ v. vec_len v ≡ size_of (shape_of array.now)) }
-    ensures listed { IfOk result (λ v. ListsInOrder ColumnMajor array.now v.items) }
-{
-    let turned = array.t();
-    let items = rows_listed(alloc, &turned)?;
-    Ok(items)
-}
 
 /// Clones of the elements by their rank in an order.
 fn listed_in<S: Data, D: Dimension>(
@@ -60,8 +28,15 @@ where
     ensures listed { IfOk result (λ v. ListsInOrder order array.now v.items) }
 {
     match order {
-        Order::RowMajor => rows_listed(alloc, array),
-        Order::ColumnMajor => columns_listed(alloc, array),
+        Order::RowMajor => {
+            let rows = array.to_vec(alloc)?;
+            Ok(rows)
+        }
+        Order::ColumnMajor => {
+            let turned = array.t();
+            let columns = turned.to_vec(alloc)?;
+            Ok(columns)
+        }
     }
 }
 

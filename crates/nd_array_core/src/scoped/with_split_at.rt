@@ -43,27 +43,6 @@ pub trait PairTask<A, D: Dimension, E: Dimension>: Drop {
         ensures done { IsDoneOnViews D.lengths D.Strides.strides_of E.lengths E.Strides.strides_of (post self) one.entry two.entry result };
 }
 
-/// Runs the task on the elements of two regions, each seen by a layout.
-fn run_pair<'b, A, D: Dimension, E: Dimension, K: PairTask<A, D, E>>(
-    part: Region<'b, A>,
-    one: Layout<D, D::Strides>,
-    rest: Region<'b, A>,
-    two: Layout<E, E::Strides>,
-    task: K,
-) -> (Region<'b, A>, Region<'b, A>, K::Answer)
-    requires one { LiesBy (region_stored part) (placement_of one) }
-    requires two { LiesBy (region_stored rest) (placement_of two) }
-    requires pre { K.pre task (shown_under part one) (shown_under rest two) }
-    ensures part { borrow_of result.0 ≡ borrow_of part.entry }
-    ensures rest { borrow_of result.1 ≡ borrow_of rest.entry }
-    ensures done { IsDoneUnderBoth (K.post task) one two part.entry rest.entry result }
-{
-    let first = LentView::over(part, one);
-    let second = LentView::over(rest, two);
-    let (first, second, answer) = task.run(first, second);
-    (first.region, second.region, answer)
-}
-
 /// Runs the task on two views of a region, by layouts that share no place.
 fn run_on_split<'b, A, D: Dimension, E: Dimension, K: PairTask<A, D, E>>(
     region: Region<'b, A>,
@@ -91,7 +70,23 @@ fn run_on_split<'b, A, D: Dimension, E: Dimension, K: PairTask<A, D, E>>(
             ensures part { borrow_of result.0 ≡ borrow_of part.entry }
             ensures rest { borrow_of result.1 ≡ borrow_of rest.entry }
             ensures done { IsDoneUnderBoth (K.post task) lent two part.entry rest.entry result }
-        { run_pair(part, lent, rest, two, task) },
+        {
+            let (one, other) = (lent, two);
+            let first = LentView {
+                region: part,
+                offset: one.offset,
+                dim: one.dim,
+                strides: one.strides,
+            };
+            let second = LentView {
+                region: rest,
+                offset: other.offset,
+                dim: other.dim,
+                strides: other.strides,
+            };
+            let (first, second, answer) = task.run(first, second);
+            (first.region, second.region, answer)
+        },
     );
     (region, answer)
 }

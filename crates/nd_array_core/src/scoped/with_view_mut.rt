@@ -35,21 +35,6 @@ pub struct LentView<'a, A, D: Drop, T: Drop> {
 impl<'a, A, D: Dimension> LentView<'a, A, D, D::Strides> {
     ghost use Rattle.nd_array_core.specs.Meaning.{shape_of, element_at, storage_of, place_at};
 
-    /// The elements of a region, seen by a layout.
-    pub(crate) fn over(region: Region<'a, A>, layout: Layout<D, D::Strides>) -> Self
-        ensures region { result.region ≡ region.entry }
-        ensures offset { result.offset ≡ layout.offset }
-        ensures dim { result.dim ≡ layout.dim }
-        ensures strides { result.strides ≡ layout.strides }
-    {
-        LentView {
-            region,
-            offset: layout.offset,
-            dim: layout.dim,
-            strides: layout.strides,
-        }
-    }
-
     /// The view that is lent.
     pub fn into_view(self) -> ArrayViewMut<'a, A, D>
         requires { CanBeSeen D.lengths D.Strides.strides_of self }
@@ -110,7 +95,13 @@ pub(crate) fn run_on_placement<'a, A, D: Dimension, K: ViewTask<A, D>>(
     ensures borrow { borrow_of result.0 ≡ borrow_of region.entry }
     ensures done { IsDoneUnder (K.post task) layout region.entry result }
 {
-    let (storage, answer) = task.run(LentView::over(region, layout));
+    let lent = LentView {
+        region,
+        offset: layout.offset,
+        dim: layout.dim,
+        strides: layout.strides,
+    };
+    let (storage, answer) = task.run(lent);
     (storage.region, answer)
 }
 
