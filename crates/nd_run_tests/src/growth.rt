@@ -4,7 +4,7 @@ use crate::answers::written;
 
 #[test]
 fn arrays_behind_arrays(rt: HostRuntime) {
-    let table: [(&[u8], &[u8]); 11] = [
+    const TABLE: [(&[u8], &[u8]); 11] = [
         // rows of another length, no such axis, and what fits
         (
             b"start 2 2 3 1 2 3 4 5 6\nask reverse / elements\nask broadcast 1 2 / shape\nask get 1 0\nappend 0 2 1 2 9 9\nappend 5 2 1 3 7 8 9\npush 0 1 3 7 8 9\nkeep invert 0\nreserve 0 18446744073709551615\n",
@@ -58,12 +58,12 @@ fn arrays_behind_arrays(rt: HostRuntime) {
             b"done\ndone\ndone\nend 1 5 1 3 4 5 6\n",
         ),
     ];
-    written(&rt, rt.alloc(), &table);
+    written(&rt, rt.alloc(), &TABLE);
 }
 
 #[test]
 fn arrays_joined(rt: HostRuntime) {
-    let table: [(&[u8], &[u8]); 8] = [
+    const TABLE: [(&[u8], &[u8]); 8] = [
         // beside and behind one another, and what doesn't fit
         (
             b"start 1 2 1 2\nstack 0 2 1 2 3 4 1 2 5 6\nconcat 1 1 2 3 1 7 8 9\nconcat 0 1 2 1 1 9\nappend 0 2 1 1 9\nstack 3 0\n",
@@ -101,12 +101,12 @@ fn arrays_joined(rt: HostRuntime) {
             b"done\ndone\nend 2 2 2 8 6 9 7\n",
         ),
     ];
-    written(&rt, rt.alloc(), &table);
+    written(&rt, rt.alloc(), &TABLE);
 }
 
 #[test]
 fn room(rt: HostRuntime) {
-    let table: [(&[u8], &[u8]); 3] = [
+    const TABLE: [(&[u8], &[u8]); 3] = [
         (
             b"start 1 3 1 2 3\nreserve 0 4\nappend 0 1 2 4 5\nappend 0 1 1 6\nreserve 1 0\nappend 0 1 1 7\n",
             b"done\ndone\ndone\nrefused 1\ndone\nend 1 7 1 2 3 4 5 6 7\n",
@@ -117,13 +117,13 @@ fn room(rt: HostRuntime) {
         ),
         (b"start 0 7\nreserve 0 0\n", b"refused 1\nend 0 7\n"),
     ];
-    written(&rt, rt.alloc(), &table);
+    written(&rt, rt.alloc(), &TABLE);
 }
 
 #[test]
 fn arrays_of_one_meaning_grow_alike(rt: HostRuntime) {
     // in row-major order, with its axes exchanged, and as a part of a larger one
-    let table: [(&[u8], &[u8]); 3] = [
+    const TABLE: [(&[u8], &[u8]); 3] = [
         (
             b"start 2 2 3 1 2 3 4 5 6\nkeep reverse\nkeep reverse\nappend 0 2 1 3 7 8 9\nreserve 1 2\npush 1 1 3 0 0 0\n",
             b"done\ndone\ndone\ndone\ndone\nend 2 3 4 1 2 3 0 4 5 6 0 7 8 9 0\n",
@@ -137,5 +137,5 @@ fn arrays_of_one_meaning_grow_alike(rt: HostRuntime) {
             b"done\ndone\ndone\ndone\ndone\nend 2 3 4 1 2 3 0 4 5 6 0 7 8 9 0\n",
         ),
     ];
-    written(&rt, rt.alloc(), &table);
+    written(&rt, rt.alloc(), &TABLE);
 }

@@ -1,6 +1,6 @@
 //! Each call from three layouts of one array: the replies and the array at the end don't tell them apart.
 
-use crate::answers::answer;
+use crate::answers::parts_tell;
 
 // 1 2 3 / 4 5 6 in row-major order, with its axes exchanged, and as a part of a larger one with steps 2 and -2; beside each
 // the replies until it stands.
@@ -60,14 +60,9 @@ const CALLS: [(&[u8], &[u8]); 10] = [
 
 #[test]
 fn layouts_of_one_array(rt: HostRuntime) {
-    for (calls, wanted) in CALLS {
-        for (start, before) in STARTS {
-            let mut text = Vec::from_slice(rt.alloc(), start).expect(&rt, "memory");
-            text.extend_from_slice(calls).expect(&rt, "memory");
-            let (written, status) = answer(rt.alloc(), &text);
-            assert_eq!(rt; written.get(..before.len()), Some(before));
-            assert_eq!(rt; written.get(before.len()..), Some(wanted));
-            assert_eq!(rt; status, 0);
+    for (calls, wanted) in &CALLS {
+        for (start, before) in &STARTS {
+            parts_tell(&rt, rt.alloc(), &[start, calls], before, wanted, 0);
         }
     }
 }

@@ -1,7 +1,5 @@
 //! Questions that hold an array.
 
-ghost use Rattle.std.specs.Prelude.{◌≤◌, length};
-
 use nd_array_core::Array;
 use nd_run::run::{RunFault, run};
 use nd_run::{Call, Question, Reply, Step};
@@ -11,9 +9,10 @@ use std::alloc::Global;
 use std::test::Fail;
 
 // The array of these lengths, with these elements in row-major order.
-fn made(alloc: Global, lengths: &[usize], items: &[u64]) -> Result<Array<u64, IxDyn>, Fail>
-    requires { length lengths.now ≤ 32 }
-{
+fn made(alloc: Global, lengths: &[usize], items: &[u64]) -> Result<Array<u64, IxDyn>, Fail> {
+    if lengths.len() > 32 {
+        return Err("lengths".into());
+    }
     array_of(IxDyn::new(lengths), Vec::from_slice(alloc, items)?)
 }
 
@@ -40,9 +39,7 @@ fn truth(replies: &[Reply<u64>]) -> Option<bool> {
 }
 
 // Whether [[1, 2, 3], [4, 5, 6]] equals the array of these lengths and elements.
-fn compared(alloc: Global, lengths: &[usize], items: &[u64]) -> Result<Option<bool>, Fail>
-    requires { length lengths.now ≤ 32 }
-{
+fn compared(alloc: Global, lengths: &[usize], items: &[u64]) -> Result<Option<bool>, Fail> {
     let other = made(alloc, lengths, items)?;
     equal_after(alloc, Vec::new(alloc), other)
 }
@@ -50,25 +47,38 @@ fn compared(alloc: Global, lengths: &[usize], items: &[u64]) -> Result<Option<bo
 // The same lengths and elements; another element, other lengths, and fewer axes.
 #[test]
 fn equal_to(rt: HostRuntime) -> Result<(), Fail> {
-    let alloc = rt.alloc();
-    assert_eq!(rt; compared(alloc, &[2, 3], &[1, 2, 3, 4, 5, 6])?, Some(true));
-    assert_eq!(rt; compared(alloc, &[2, 3], &[1, 2, 3, 4, 5, 7])?, Some(false));
-    assert_eq!(rt; compared(alloc, &[3, 2], &[1, 2, 3, 4, 5, 6])?, Some(false));
-    assert_eq!(rt; compared(alloc, &[6], &[1, 2, 3, 4, 5, 6])?, Some(false));
+    const TABLE: [(&[usize], &[u64], bool); 4] = [
+        (&[2, 3], &[1, 2, 3, 4, 5, 6], true),
+        (&[2, 3], &[1, 2, 3, 4, 5, 7], false),
+        (&[3, 2], &[1, 2, 3, 4, 5, 6], false),
+        (&[6], &[1, 2, 3, 4, 5, 6], false),
+    ];
+    for (lengths, items, wanted) in &TABLE {
+        assert_eq!(rt; compared(rt.alloc(), lengths, items)?, Some(*wanted));
+    }
     Ok(())
+}
+
+// The same at the end of one step.
+fn stepped(
+    alloc: Global,
+    step: Step,
+    lengths: &[usize],
+    items: &[u64],
+) -> Result<Option<bool>, Fail> {
+    let mut path = Vec::new(alloc);
+    path.push(step)?;
+    let other = made(alloc, lengths, items)?;
+    equal_after(alloc, path, other)
 }
 
 // At the end of a path, whatever the strides; and behind a step that is refused.
 #[test]
 fn equal_after_a_path(rt: HostRuntime) -> Result<(), Fail> {
     let alloc = rt.alloc();
-    let mut path = Vec::new(alloc);
-    path.push(Step::Reverse)?;
-    let turned = made(alloc, &[3, 2], &[1, 4, 2, 5, 3, 6])?;
-    assert_eq!(rt; equal_after(alloc, path, turned)?, Some(true));
-    let mut refused = Vec::new(alloc);
-    refused.push(Step::Invert(2))?;
-    let same = made(alloc, &[2, 3], &[1, 2, 3, 4, 5, 6])?;
-    assert_eq!(rt; equal_after(alloc, refused, same)?, None);
+    let turned = stepped(alloc, Step::Reverse, &[3, 2], &[1, 4, 2, 5, 3, 6])?;
+    assert_eq!(rt; turned, Some(true));
+    let refused = stepped(alloc, Step::Invert(2), &[2, 3], &[1, 2, 3, 4, 5, 6])?;
+    assert_eq!(rt; refused, None);
     Ok(())
 }

@@ -1,6 +1,6 @@
 //! Calls on elements whose clones are refused. Each element is dropped once.
 
-ghost use Rattle.std.specs.Prelude.{◌≡◌, ◌≤◌, length};
+ghost use Rattle.std.specs.Prelude.{◌≡◌};
 ghost use Rattle.nd_array_core.specs.base.Fresh.{EachCloneIsEqual};
 
 use nd_array_core::Array;
@@ -9,16 +9,86 @@ use nd_run::{Act, Call, Question, Reply, Step};
 use nd_shape_and_slice::{IxDyn, Order, Slice};
 use nd_test_arrays::{Refusing, Tally};
 use std::alloc::Global;
+use std::process::Abort;
 use std::test::Fail;
 
-// The array [10, 20, 30].
-fn three_numbers<'a>(alloc: Global, tally: &'a Tally) -> Result<Array<Refusing<'a>, IxDyn>, Fail> {
-    let items = Refusing::listed(alloc, &[10, 20, 30], tally)?;
+// The array of this shape and these numbers.
+fn numbered<'a>(
+    alloc: Global,
+    lengths: &[usize],
+    numbers: &[u64],
+    tally: &'a Tally,
+) -> Result<Array<Refusing<'a>, IxDyn>, Fail> {
+    if lengths.len() > 32 {
+        return Err("lengths".into());
+    }
+    let items = Refusing::listed(alloc, numbers, tally)?;
     Ok(
-        Array::from_shape_vec(IxDyn::new(&[3]), items)
+        Array::from_shape_vec(IxDyn::new(lengths), items)
             .ok()
             .ok_or("shape")?,
     )
+}
+
+// The array [10, 20, 30].
+fn three_numbers<'a>(alloc: Global, tally: &'a Tally) -> Result<Array<Refusing<'a>, IxDyn>, Fail> {
+    numbered(alloc, &[3], &[10, 20, 30], tally)
+}
+
+// A list of these coordinates or lengths.
+fn listed(alloc: Global, numbers: &[usize]) -> Result<Vec<usize>, Fail> {
+    Ok(Vec::from_slice(alloc, numbers)?)
+}
+
+// How many replies there are to these calls, and the array at the end; None where memory was refused.
+fn ran<A: Clone + Eq + Drop>(
+    alloc: Global,
+    start: Array<A, IxDyn>,
+    calls: &[Call<A>],
+) -> (usize, Option<Array<A, IxDyn>>)
+    requires { EachCloneIsEqual A.is_clone }
+{
+    match run(alloc, start, calls) {
+        Ok((replies, array)) => (replies.len(), Some(array)),
+        Err(RunFault::Memory(replies)) => (replies.len(), None),
+    }
+}
+
+// The same, but for whether there is an array.
+fn replies_to<A: Clone + Eq + Drop>(
+    alloc: Global,
+    start: Array<A, IxDyn>,
+    calls: &[Call<A>],
+) -> (usize, bool)
+    requires { EachCloneIsEqual A.is_clone }
+{
+    let (replies, end) = ran(alloc, start, calls);
+    (replies, end.is_some())
+}
+
+// The same, but for how many elements the array has; 0 where there is none.
+fn counts_of<A: Clone + Eq + Drop>(
+    alloc: Global,
+    start: Array<A, IxDyn>,
+    calls: &[Call<A>],
+) -> (usize, usize)
+    requires { EachCloneIsEqual A.is_clone }
+{
+    match ran(alloc, start, calls) {
+        (replies, Some(array)) => (replies, array.len()),
+        (replies, None) => (replies, 0),
+    }
+}
+
+// What was got is what was wanted, and no element lives any more.
+fn compare(rt: &impl Abort, tally: &Tally, got: (usize, bool), wanted: (usize, bool)) {
+    assert_eq!(rt; got, wanted);
+    assert_eq!(rt; tally.living(), Some(0));
+}
+
+fn compare_counts(rt: &impl Abort, tally: &Tally, got: (usize, usize), wanted: (usize, usize)) {
+    assert_eq!(rt; got, wanted);
+    assert_eq!(rt; tally.living(), Some(0));
 }
 
 // An array of three elements, sliced from the back and asked for its elements and for its first. It is over any
@@ -29,17 +99,12 @@ fn asked_from_the_back<A: Clone + Eq + Drop>(
 ) -> Result<(usize, bool), Fail>
     requires { EachCloneIsEqual A.is_clone }
 {
+    let first = listed(alloc, &[0])?;
     let mut calls = Vec::new(alloc);
     calls.push(Call::Keep(Step::SliceAxis(0, Slice::new(0, None, -1))))?;
     calls.push(Call::Ask(Vec::new(alloc), Question::Elements))?;
-    calls.push(Call::Ask(
-        Vec::new(alloc),
-        Question::Get(Vec::from_slice(alloc, &[0])?),
-    ))?;
-    match run(alloc, start, &calls) {
-        Ok((replies, _)) => Ok((replies.len(), true)),
-        Err(RunFault::Memory(replies)) => Ok((replies.len(), false)),
-    }
+    calls.push(Call::Ask(Vec::new(alloc), Question::Get(first)))?;
+    Ok(replies_to(alloc, start, &calls))
 }
 
 fn replies_with(alloc: Global, tally: &Tally) -> Result<(usize, bool), Fail> {
@@ -48,16 +113,17 @@ fn replies_with(alloc: Global, tally: &Tally) -> Result<(usize, bool), Fail> {
 
 #[test]
 fn refused_clones(rt: HostRuntime) -> Result<(), Fail> {
-    for (allowed, replies, whole) in [
+    const TABLE: [(u64, usize, bool); 5] = [
         (0, 1, false),
         (1, 1, false),
         (2, 1, false),
         (3, 2, false),
         (4, 3, true),
-    ] {
-        let tally = Tally::allowing(allowed);
-        assert_eq!(rt; replies_with(rt.alloc(), &tally)?, (replies, whole));
-        assert_eq!(rt; tally.living(), Some(0));
+    ];
+    for (allowed, replies, whole) in &TABLE {
+        let tally = Tally::allowing(*allowed);
+        let got = replies_with(rt.alloc(), &tally)?;
+        compare(&rt, &tally, got, (*replies, *whole));
     }
     Ok(())
 }
@@ -84,26 +150,16 @@ fn written<A: Clone + Eq + Drop>(
 {
     let mut path = Vec::new(alloc);
     path.push(Step::SliceAxis(0, Slice::new(1, None, 1)))?;
+    let first = listed(alloc, &[0])?;
+    let one_end = listed(alloc, &[0])?;
+    let other_end = listed(alloc, &[2])?;
+    let second = listed(alloc, &[1])?;
     let mut calls = Vec::new(alloc);
     calls.push(Call::Write(path, Act::Fill(one)))?;
-    calls.push(Call::Write(
-        Vec::new(alloc),
-        Act::Set(Vec::from_slice(alloc, &[0])?, two),
-    ))?;
-    calls.push(Call::Write(
-        Vec::new(alloc),
-        Act::Swap(Vec::from_slice(alloc, &[0])?, Vec::from_slice(alloc, &[2])?),
-    ))?;
-    calls.push(Call::SplitWrite(
-        0,
-        1,
-        Act::Fill(three),
-        Act::Set(Vec::from_slice(alloc, &[1])?, four),
-    ))?;
-    match run(alloc, start, &calls) {
-        Ok((replies, array)) => Ok((replies.len(), Some(array))),
-        Err(RunFault::Memory(replies)) => Ok((replies.len(), None)),
-    }
+    calls.push(Call::Write(Vec::new(alloc), Act::Set(first, two)))?;
+    calls.push(Call::Write(Vec::new(alloc), Act::Swap(one_end, other_end)))?;
+    calls.push(Call::SplitWrite(0, 1, Act::Fill(three), Act::Set(second, four)))?;
+    Ok(ran(alloc, start, &calls))
 }
 
 fn writes_with(alloc: Global, tally: &Tally) -> Result<(usize, bool), Fail> {
@@ -126,7 +182,7 @@ fn writes_with(alloc: Global, tally: &Tally) -> Result<(usize, bool), Fail> {
 
 #[test]
 fn refused_clones_of_writes(rt: HostRuntime) -> Result<(), Fail> {
-    for (allowed, replies, whole) in [
+    const TABLE: [(u64, usize, bool); 8] = [
         (0, 0, false),
         (1, 0, false),
         (2, 0, false),
@@ -135,10 +191,11 @@ fn refused_clones_of_writes(rt: HostRuntime) -> Result<(), Fail> {
         (5, 3, false),
         (6, 3, false),
         (7, 4, true),
-    ] {
-        let tally = Tally::allowing(allowed);
-        assert_eq!(rt; writes_with(rt.alloc(), &tally)?, (replies, whole));
-        assert_eq!(rt; tally.living(), Some(0));
+    ];
+    for (allowed, replies, whole) in &TABLE {
+        let tally = Tally::allowing(*allowed);
+        let got = writes_with(rt.alloc(), &tally)?;
+        compare(&rt, &tally, got, (*replies, *whole));
     }
     Ok(())
 }
@@ -152,25 +209,17 @@ fn laid_out_and_assigned<A: Clone + Eq + Drop>(
 ) -> Result<(usize, Option<Array<A, IxDyn>>), Fail>
     requires { EachCloneIsEqual A.is_clone }
 {
+    let lengths = listed(alloc, &[4])?;
     let mut calls = Vec::new(alloc);
     calls.push(Call::Keep(Step::Reverse))?;
-    calls.push(Call::Reshape(Vec::from_slice(alloc, &[4])?, Order::RowMajor))?;
+    calls.push(Call::Reshape(lengths, Order::RowMajor))?;
     calls.push(Call::Write(Vec::new(alloc), Act::Assign(other)))?;
-    match run(alloc, start, &calls) {
-        Ok((replies, array)) => Ok((replies.len(), Some(array))),
-        Err(RunFault::Memory(replies)) => Ok((replies.len(), None)),
-    }
+    Ok(ran(alloc, start, &calls))
 }
 
 fn assigned_with(alloc: Global, tally: &Tally) -> Result<(usize, bool), Fail> {
-    let items = Refusing::listed(alloc, &[1, 2, 3, 4], tally)?;
-    let start = Array::from_shape_vec(IxDyn::new(&[2, 2]), items)
-        .ok()
-        .ok_or("shape")?;
-    let items = Refusing::listed(alloc, &[7], tally)?;
-    let other = Array::from_shape_vec(IxDyn::new(&[1]), items)
-        .ok()
-        .ok_or("shape")?;
+    let start = numbered(alloc, &[2, 2], &[1, 2, 3, 4], tally)?;
+    let other = numbered(alloc, &[1], &[7], tally)?;
     let (replies, end) = laid_out_and_assigned(alloc, start, other)?;
     match end {
         Some(array) => Ok((
@@ -183,7 +232,7 @@ fn assigned_with(alloc: Global, tally: &Tally) -> Result<(usize, bool), Fail> {
 
 #[test]
 fn refused_clones_of_other_lengths(rt: HostRuntime) -> Result<(), Fail> {
-    for (allowed, replies, whole) in [
+    const TABLE: [(u64, usize, bool); 9] = [
         (0, 1, false),
         (1, 1, false),
         (2, 1, false),
@@ -193,29 +242,13 @@ fn refused_clones_of_other_lengths(rt: HostRuntime) -> Result<(), Fail> {
         (6, 2, false),
         (7, 2, false),
         (8, 3, true),
-    ] {
-        let tally = Tally::allowing(allowed);
-        assert_eq!(rt; assigned_with(rt.alloc(), &tally)?, (replies, whole));
-        assert_eq!(rt; tally.living(), Some(0));
+    ];
+    for (allowed, replies, whole) in &TABLE {
+        let tally = Tally::allowing(*allowed);
+        let got = assigned_with(rt.alloc(), &tally)?;
+        compare(&rt, &tally, got, (*replies, *whole));
     }
     Ok(())
-}
-
-// The array of this shape and these numbers.
-fn numbered<'a>(
-    alloc: Global,
-    lengths: &[usize],
-    numbers: &[u64],
-    tally: &'a Tally,
-) -> Result<Array<Refusing<'a>, IxDyn>, Fail>
-    requires { length lengths.now ≤ 32 }
-{
-    let items = Refusing::listed(alloc, numbers, tally)?;
-    Ok(
-        Array::from_shape_vec(IxDyn::new(lengths), items)
-            .ok()
-            .ok_or("shape")?,
-    )
 }
 
 // A list with two elements more behind it, with room, and then with one more.
@@ -231,10 +264,7 @@ fn lengthened<A: Clone + Eq + Drop>(
     calls.push(Call::Append(0, two))?;
     calls.push(Call::Reserve(0, 4))?;
     calls.push(Call::Push(0, one))?;
-    match run(alloc, start, &calls) {
-        Ok((replies, array)) => Ok((replies.len(), array.len())),
-        Err(RunFault::Memory(replies)) => Ok((replies.len(), 0)),
-    }
+    Ok(counts_of(alloc, start, &calls))
 }
 
 fn lengthened_with(alloc: Global, tally: &Tally) -> Result<(usize, usize), Fail> {
@@ -246,10 +276,11 @@ fn lengthened_with(alloc: Global, tally: &Tally) -> Result<(usize, usize), Fail>
 
 #[test]
 fn refused_clones_of_what_comes_behind(rt: HostRuntime) -> Result<(), Fail> {
-    for (allowed, replies, count) in [(0, 0, 0), (1, 0, 0), (2, 2, 0), (3, 3, 6)] {
-        let tally = Tally::allowing(allowed);
-        assert_eq!(rt; lengthened_with(rt.alloc(), &tally)?, (replies, count));
-        assert_eq!(rt; tally.living(), Some(0));
+    const TABLE: [(u64, usize, usize); 4] = [(0, 0, 0), (1, 0, 0), (2, 2, 0), (3, 3, 6)];
+    for (allowed, replies, count) in &TABLE {
+        let tally = Tally::allowing(*allowed);
+        let got = lengthened_with(rt.alloc(), &tally)?;
+        compare_counts(&rt, &tally, got, (*replies, *count));
     }
     Ok(())
 }
@@ -261,18 +292,14 @@ fn chosen_and_asked<A: Clone + Eq + Drop>(
 ) -> Result<(usize, bool), Fail>
     requires { EachCloneIsEqual A.is_clone }
 {
+    let chosen = listed(alloc, &[2, 0, 2])?;
+    let lengths = listed(alloc, &[3, 1])?;
     let mut calls = Vec::new(alloc);
-    calls.push(Call::Select(0, Vec::from_slice(alloc, &[2, 0, 2])?))?;
+    calls.push(Call::Select(0, chosen))?;
     calls.push(Call::Ask(Vec::new(alloc), Question::First))?;
     calls.push(Call::Ask(Vec::new(alloc), Question::Last))?;
-    calls.push(Call::Ask(
-        Vec::new(alloc),
-        Question::ToShape(Vec::from_slice(alloc, &[3, 1])?, Order::RowMajor),
-    ))?;
-    match run(alloc, start, &calls) {
-        Ok((replies, _)) => Ok((replies.len(), true)),
-        Err(RunFault::Memory(replies)) => Ok((replies.len(), false)),
-    }
+    calls.push(Call::Ask(Vec::new(alloc), Question::ToShape(lengths, Order::RowMajor)))?;
+    Ok(replies_to(alloc, start, &calls))
 }
 
 fn chosen_with(alloc: Global, tally: &Tally) -> Result<(usize, bool), Fail> {
@@ -281,7 +308,7 @@ fn chosen_with(alloc: Global, tally: &Tally) -> Result<(usize, bool), Fail> {
 
 #[test]
 fn refused_clones_of_what_is_chosen_and_asked(rt: HostRuntime) -> Result<(), Fail> {
-    for (allowed, replies, whole) in [
+    const TABLE: [(u64, usize, bool); 9] = [
         (0, 0, false),
         (1, 0, false),
         (2, 0, false),
@@ -291,10 +318,11 @@ fn refused_clones_of_what_is_chosen_and_asked(rt: HostRuntime) -> Result<(), Fai
         (6, 3, false),
         (7, 3, false),
         (8, 4, true),
-    ] {
-        let tally = Tally::allowing(allowed);
-        assert_eq!(rt; chosen_with(rt.alloc(), &tally)?, (replies, whole));
-        assert_eq!(rt; tally.living(), Some(0));
+    ];
+    for (allowed, replies, whole) in &TABLE {
+        let tally = Tally::allowing(*allowed);
+        let got = chosen_with(rt.alloc(), &tally)?;
+        compare(&rt, &tally, got, (*replies, *whole));
     }
     Ok(())
 }
@@ -315,10 +343,7 @@ fn joined<A: Clone + Eq + Drop>(
     let mut calls = Vec::new(alloc);
     calls.push(Call::Concatenate(0, first))?;
     calls.push(Call::Stack(0, second))?;
-    match run(alloc, start, &calls) {
-        Ok((replies, array)) => Ok((replies.len(), array.len())),
-        Err(RunFault::Memory(replies)) => Ok((replies.len(), 0)),
-    }
+    Ok(counts_of(alloc, start, &calls))
 }
 
 fn joined_with(alloc: Global, tally: &Tally) -> Result<(usize, usize), Fail> {
@@ -330,7 +355,7 @@ fn joined_with(alloc: Global, tally: &Tally) -> Result<(usize, usize), Fail> {
 
 #[test]
 fn refused_clones_of_what_is_joined(rt: HostRuntime) -> Result<(), Fail> {
-    for (allowed, replies, count) in [
+    const TABLE: [(u64, usize, usize); 7] = [
         (0, 0, 0),
         (1, 0, 0),
         (2, 1, 0),
@@ -338,10 +363,11 @@ fn refused_clones_of_what_is_joined(rt: HostRuntime) -> Result<(), Fail> {
         (4, 1, 0),
         (5, 1, 0),
         (6, 2, 4),
-    ] {
-        let tally = Tally::allowing(allowed);
-        assert_eq!(rt; joined_with(rt.alloc(), &tally)?, (replies, count));
-        assert_eq!(rt; tally.living(), Some(0));
+    ];
+    for (allowed, replies, count) in &TABLE {
+        let tally = Tally::allowing(*allowed);
+        let got = joined_with(rt.alloc(), &tally)?;
+        compare_counts(&rt, &tally, got, (*replies, *count));
     }
     Ok(())
 }

@@ -1,10 +1,10 @@
 //! Scripts from start to end.
 
-use crate::answers::{answer, written};
+use crate::answers::{tells, written};
 
 #[test]
 fn arrays_at_the_end(rt: HostRuntime) {
-    let table: [(&[u8], &[u8]); 8] = [
+    const TABLE: [(&[u8], &[u8]); 8] = [
         (b"start 1 1 5", b"end 1 1 5\n"),
         (b"\r\n \tstart\t1 1  -0\r\n\n", b"end 1 1 0\n"),
         (b"start 01 001 -007\n", b"end 1 1 -7\n"),
@@ -23,12 +23,12 @@ fn arrays_at_the_end(rt: HostRuntime) {
             b"end 32 1 1 1 1 1 1 1 1 1 1 1 1 1 1 1 1 1 1 1 1 1 1 1 1 1 1 1 1 1 1 1 1 5\n",
         ),
     ];
-    written(&rt, rt.alloc(), &table);
+    written(&rt, rt.alloc(), &TABLE);
 }
 
 #[test]
 fn first_and_last(rt: HostRuntime) {
-    let table: [(&[u8], &[u8]); 3] = [
+    const TABLE: [(&[u8], &[u8]); 3] = [
         (
             b"start 2 2 3 1 2 3 4 5 6\nask first\nask last\nask invert 0 / first\nask diag / last\n",
             b"some 1\nsome 6\nsome 4\nsome 5\nend 2 2 3 1 2 3 4 5 6\n",
@@ -42,12 +42,12 @@ fn first_and_last(rt: HostRuntime) {
             b"some 7\nsome 7\nend 0 7\n",
         ),
     ];
-    written(&rt, rt.alloc(), &table);
+    written(&rt, rt.alloc(), &TABLE);
 }
 
 #[test]
 fn counts(rt: HostRuntime) {
-    let table: [(&[u8], &[u8]); 3] = [
+    const TABLE: [(&[u8], &[u8]); 3] = [
         (
             b"start 2 2 3 1 2 1 2 1 1\nask count 1\nask cut 1 0 1 1 / count 1\nask count -1\nask index 2 0 / count 1\n",
             b"number 4\nnumber 1\nnumber 0\nrefused 1\nend 2 2 3 1 2 1 2 1 1\n",
@@ -58,12 +58,12 @@ fn counts(rt: HostRuntime) {
             b"number 2000\nnumber 1\nend 1 1 5\n",
         ),
     ];
-    written(&rt, rt.alloc(), &table);
+    written(&rt, rt.alloc(), &TABLE);
 }
 
 #[test]
 fn coordinates_chosen(rt: HostRuntime) {
-    let table: [(&[u8], &[u8]); 5] = [
+    const TABLE: [(&[u8], &[u8]); 5] = [
         (
             b"start 2 3 2 0 1 2 3 4 5\nselect 0 3 2 0 2\nask shape\n",
             b"done\nshape 2 3 2\nend 2 3 2 4 5 0 1 4 5\n",
@@ -85,12 +85,12 @@ fn coordinates_chosen(rt: HostRuntime) {
             b"done\ndone\ndone\nend 2 2 1 3 4\n",
         ),
     ];
-    written(&rt, rt.alloc(), &table);
+    written(&rt, rt.alloc(), &TABLE);
 }
 
 #[test]
 fn coordinates_taken_out(rt: HostRuntime) {
-    let table: [(&[u8], &[u8]); 4] = [
+    const TABLE: [(&[u8], &[u8]); 4] = [
         (
             b"start 1 4 1 2 3 4\nremoveindex 0 1\nselect 0 3 2 0 2\nselect 0 1 3\n",
             b"done\ndone\nrefused 2\nend 1 3 4 1 4\n",
@@ -108,12 +108,12 @@ fn coordinates_taken_out(rt: HostRuntime) {
             b"done\nrefused 2\nend 2 0 3\n",
         ),
     ];
-    written(&rt, rt.alloc(), &table);
+    written(&rt, rt.alloc(), &TABLE);
 }
 
 #[test]
 fn other_lengths(rt: HostRuntime) {
-    let table: [(&[u8], &[u8]); 6] = [
+    const TABLE: [(&[u8], &[u8]); 6] = [
         (
             b"start 2 2 3 1 2 3 4 5 6\nreshape col 2 3 2\nask shape\nreshape row 1 6\n",
             b"done\nshape 2 3 2\ndone\nend 1 6 1 5 4 3 2 6\n",
@@ -143,12 +143,12 @@ fn other_lengths(rt: HostRuntime) {
             b"done\ndone\nend 0 5\n",
         ),
     ];
-    written(&rt, rt.alloc(), &table);
+    written(&rt, rt.alloc(), &TABLE);
 }
 
 #[test]
 fn elements_under_other_lengths(rt: HostRuntime) {
-    let table: [(&[u8], &[u8]); 3] = [
+    const TABLE: [(&[u8], &[u8]); 3] = [
         (
             b"start 2 2 4 1 2 3 4 5 6 7 8\nask cut 1 0 _ 2 / reshape col 2 4 1\nask reverse / reshape row 2 2 4\nask index 2 0 / reshape row 1 1\nask reshape row 1 7\nask reshape row 33 1 1 1 1 1 1 1 1 1 1 1 1 1 1 1 1 1 1 1 1 1 1 1 1 1 1 1 1 1 1 1 1 1\n",
             b"array 2 4 1 1 5 3 7\narray 2 2 4 1 5 2 6 3 7 4 8\nrefused 1\nrefused 5\nrefused 7\nend 2 2 4 1 2 3 4 5 6 7 8\n",
@@ -163,12 +163,12 @@ fn elements_under_other_lengths(rt: HostRuntime) {
             b"refused 8\narray 1 6 5 5 5 5 5 5\nrefused 2\nend 1 1 5\n",
         ),
     ];
-    written(&rt, rt.alloc(), &table);
+    written(&rt, rt.alloc(), &TABLE);
 }
 
 #[test]
 fn scripts(rt: HostRuntime) {
-    let table: [(&[u8], &[u8]); 9] = [
+    const TABLE: [(&[u8], &[u8]); 9] = [
         // a slice of a list of cubes
         (
             b"start 1 10 0 1 8 27 64 125 216 343 512 729\nask cut 0 2 5 1 / elements\n",
@@ -214,19 +214,18 @@ fn scripts(rt: HostRuntime) {
             b"done\nshape 2 1 0\nrefused 3\nend 2 1 0\n",
         ),
     ];
-    written(&rt, rt.alloc(), &table);
+    written(&rt, rt.alloc(), &TABLE);
 }
 
 // The replies before memory ran out, of each kind, and no array.
 #[test]
 fn out_of_memory(rt: HostRuntime) {
-    let (written, status) = answer(
+    tells(
+        &rt,
         rt.alloc(),
         b"start 1 2 -1 10\nkeep invert 0\nask broadcast 1 3 / shape\nask insert 0 / shape\nask invert 0 / elements\nask get 1 1\nask get 0\nreserve 0 1152921504606846976\nask shape\n",
+        b"done\nrefused 8\nshape 2 1 2\narray 1 2 -1 10\nsome -1\nnone\nout of memory\n",
+        &[],
+        2,
     );
-    assert_eq!(rt;
-        written.as_slice(),
-        b"done\nrefused 8\nshape 2 1 2\narray 1 2 -1 10\nsome -1\nnone\nout of memory\n".as_slice()
-    );
-    assert_eq!(rt; status, 2);
 }

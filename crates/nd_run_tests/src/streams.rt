@@ -1,10 +1,11 @@
 //! Readers and writers that take or give little, or fail.
 
+use crate::answers::{compare, status};
 use nd_run::Watched;
-use nd_run::drive::drive;
 use std::alloc::Global;
 use std::io;
 use std::io::{ErrorKind, Read, Write};
+use std::process::Abort;
 
 // Takes at most three bytes a call, and counts its calls. The one at `bad_call` fails, by `kind` or, where
 // there is none, by taking no byte; so does each flush where `bad_flush`.
@@ -58,17 +59,48 @@ const TEXT: &[u8] =
 const WRITTEN: &[u8] =
     b"array 2 3 2 1 4 2 5 3 6\nrefused 8\nnone\nrefused 5\nrefused 1\ndone\ndone\nrefused 6\nend 2 3 3 7 8 9 4 5 6 1 2 3\n";
 
+// What the script writes to this writer: its status, whether the writer failed, and the writer.
+fn driven(alloc: Global, choppy: Choppy) -> (u8, bool, Choppy) {
+    let mut output = Watched::new(choppy);
+    let ended = status(alloc, &mut Watched::new(TEXT), &mut output);
+    let failed = output.failed();
+    (ended, failed, output.into_inner())
+}
+
 #[test]
 fn short_writes_and_one_flush(rt: HostRuntime) {
     for bad_flush in [false, true] {
-        let mut output = Watched::new(make_choppy(rt.alloc(), 0, None, bad_flush));
-        let status = drive(rt.alloc(), &mut Watched::new(TEXT), &mut output);
-        assert_eq!(rt; output.failed(), bad_flush);
-        assert_eq!(rt; status, if bad_flush { 3 } else { 0 });
-        let inside = output.into_inner();
-        assert_eq!(rt; inside.got.as_slice(), WRITTEN);
-        assert_eq!(rt; inside.flushes, 1);
+        let (ended, failed, inside) = driven(
+            rt.alloc(),
+            make_choppy(rt.alloc(), 0, None, bad_flush),
+        );
+        compare(
+            &rt,
+            &inside.got,
+            ended,
+            WRITTEN,
+            &[],
+            if bad_flush { 3 } else { 0 },
+        );
+        assert_eq!(rt; (failed, inside.flushes), (bad_flush, 1));
     }
+}
+
+// The number of calls that the whole script makes.
+fn whole_calls(rt: &impl Abort, alloc: Global) -> u64 {
+    let (ended, _, inside) = driven(alloc, make_choppy(alloc, 0, None, false));
+    assert_eq!(rt; ended, 0);
+    inside.calls
+}
+
+// Nothing is written after this call, which fails.
+fn stops(rt: &impl Abort, alloc: Global, bad_call: u64, kind: Option<ErrorKind>) {
+    let (ended, failed, inside) = driven(alloc, make_choppy(alloc, bad_call, kind, false));
+    assert!(rt; WRITTEN.starts_with(&inside.got));
+    assert_eq!(rt;
+        (ended, failed, inside.calls, inside.flushes),
+        (3, true, bad_call, 0)
+    );
 }
 
 #[test]
@@ -78,18 +110,9 @@ fn nothing_after_a_failed_write(rt: HostRuntime) {
         Some(ErrorKind::Interrupted),
         Some(ErrorKind::BrokenPipe),
     ] {
-        let mut whole = Watched::new(make_choppy(rt.alloc(), 0, None, false));
-        assert_eq!(rt; drive(rt.alloc(), &mut Watched::new(TEXT), &mut whole), 0);
-        let calls = whole.into_inner().calls;
+        let calls = whole_calls(&rt, rt.alloc());
         for bad_call in 1..=calls {
-            let mut output = Watched::new(make_choppy(rt.alloc(), bad_call, kind, false));
-            let status = drive(rt.alloc(), &mut Watched::new(TEXT), &mut output);
-            assert_eq!(rt; status, 3);
-            assert!(rt; output.failed());
-            let inside = output.into_inner();
-            assert!(rt; WRITTEN.starts_with(&inside.got));
-            assert_eq!(rt; inside.calls, bad_call);
-            assert_eq!(rt; inside.flushes, 0);
+            stops(&rt, rt.alloc(), bad_call, kind);
         }
     }
 }
@@ -119,20 +142,28 @@ impl<'a> Read for Flaky<'a> {
     }
 }
 
+// What is written where the reader fails at a byte, the status, and whether the reader failed.
+fn read_until(alloc: Global, cut: usize) -> (Vec<u8>, u8, bool) {
+    let mut input = Watched::new(Flaky {
+        text: TEXT,
+        at: 0,
+        cut,
+    });
+    let mut output = Watched::new(Vec::new(alloc));
+    let ended = status(alloc, &mut input, &mut output);
+    (output.into_inner(), ended, input.failed())
+}
+
 #[test]
 fn a_failed_read(rt: HostRuntime) {
     for cut in 0..TEXT.len() + 3 {
-        let mut input = Watched::new(Flaky {
-            text: TEXT,
-            at: 0,
-            cut,
-        });
-        let mut output = Watched::new(Vec::new(rt.alloc()));
-        let status = drive(rt.alloc(), &mut input, &mut output);
+        let (written, ended, failed) = read_until(rt.alloc(), cut);
         let is_cut = cut <= TEXT.len();
-        assert_eq!(rt; input.failed(), is_cut);
-        assert_eq!(rt; status, if is_cut { 3 } else { 0 });
-        let wanted = if is_cut { b"read failed\n" } else { WRITTEN };
-        assert_eq!(rt; output.into_inner().as_slice(), wanted);
+        assert_eq!(rt; failed, is_cut);
+        if is_cut {
+            compare(&rt, &written, ended, b"read failed\n", &[], 3);
+        } else {
+            compare(&rt, &written, ended, WRITTEN, &[], 0);
+        }
     }
 }

@@ -4,7 +4,7 @@ use crate::answers::written;
 
 #[test]
 fn writes(rt: HostRuntime) {
-    let table: [(&[u8], &[u8]); 7] = [
+    const TABLE: [(&[u8], &[u8]); 7] = [
         // every second element of the first six
         (
             b"start 1 10 0 1 8 27 64 125 216 343 512 729\nask cut 0 2 5 1 / elements\nwrite cut 0 0 6 2 / fill 1000\n",
@@ -40,12 +40,12 @@ fn writes(rt: HostRuntime) {
             b"done\ndone\narray 2 2 3 3 7 11 1 5 9\ndone\ndone\nend 2 2 3 3 7 100 100 5 1\n",
         ),
     ];
-    written(&rt, rt.alloc(), &table);
+    written(&rt, rt.alloc(), &TABLE);
 }
 
 #[test]
 fn assigned(rt: HostRuntime) {
-    let table: [(&[u8], &[u8]); 5] = [
+    const TABLE: [(&[u8], &[u8]); 5] = [
         (
             b"start 2 2 2 1 2 3 4\nwrite reverse / assign 1 2 8 9\nwrite assign 1 3 1 2 3\nask count 8\n",
             b"done\nrefused 8\nnumber 2\nend 2 2 2 8 8 9 9\n",
@@ -70,12 +70,12 @@ fn assigned(rt: HostRuntime) {
             b"refused 8\ndone\nend 0 9\n",
         ),
     ];
-    written(&rt, rt.alloc(), &table);
+    written(&rt, rt.alloc(), &TABLE);
 }
 
 #[test]
 fn splits(rt: HostRuntime) {
-    let table: [(&[u8], &[u8]); 5] = [
+    const TABLE: [(&[u8], &[u8]); 5] = [
         // one value on each side of a column
         (
             b"start 2 2 4 1 2 3 4 5 6 7 8\nsplit 1 1 fill 0 / fill 9\n",
@@ -101,5 +101,5 @@ fn splits(rt: HostRuntime) {
             b"refused 1\ndone\ndone\ndone\nend 1 1 2\n",
         ),
     ];
-    written(&rt, rt.alloc(), &table);
+    written(&rt, rt.alloc(), &TABLE);
 }
