@@ -1,5 +1,4 @@
-use Rattle.std.proofs.Common.{ap, length, arith}
-use Rattle.std.proofs.lemmas.List.Edits.{length-remove}
+use Rattle.std.proofs.Common.{arith}
 use Rattle.std.specs.List.{remove}
 use Rattle.nd_layout.specs.Steps.{IsStep}
 use Rattle.nd_shape_and_slice.specs.Maps.{indexed_shape, indexed_index}
@@ -23,12 +22,3 @@ invariant_of-result g c =
       checked = step.checked c.args.self.now.checked;
       reach = step_reaches step c.args.self.now.reach;
     })
-
-pub strides_without-strides-requires-clause-as_many : goal.strides_without-strides-requires-clause-as_many
-strides_without-strides-requires-clause-as_many g c =
-    let removed = ap length c.remove_axis-dim.ensures in
-    let fewer = length-remove (g.D.Dimension.lengths c.args.self.now.dim) c.args.axis c.requires.on in
-    let listed = ap length c.slice.ensures in
-    let many = c.args.self.now.as_many in
-    let on = c.requires.on in
-    omega (arith, removed, fewer, listed, many, on)
