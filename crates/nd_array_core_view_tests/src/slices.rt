@@ -4,7 +4,6 @@ use crate::tables::{any_axes, line, table};
 use nd_array_core::{Array, Array3, ArrayBase, ArrayD, ArrayView, Data};
 use nd_shape_and_slice::{
     Axis, Dimension, Ix0, Ix1, Ix2, IxDyn, Slice, SliceArg, SliceInfo, SliceInfoElem, slice_fits,
-    slices_fit,
 };
 use nd_test_arrays::{lists, made, part, shows};
 
@@ -136,7 +135,7 @@ fn scalar_of_line(array: &Array<u64, Ix1>, index: isize) -> Option<u64> {
 
 // What a list names of an array; None where it doesn't fit.
 fn moved(array: ArrayD<u64>, list: &[SliceInfoElem]) -> Option<ArrayD<u64>> {
-    if slices_fit(array.shape(), list) {
+    if list.fits(array.shape()) {
         Some(array.slice_move(list))
     } else {
         None
