@@ -6,4 +6,6 @@ mod parts;
 #[cfg(test)]
 mod questions;
 #[cfg(test)]
+mod tables;
+#[cfg(test)]
 mod totals;

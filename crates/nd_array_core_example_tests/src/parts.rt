@@ -1,9 +1,9 @@
 //! Parts of an array: looked at, moved out, and written.
 
-use nd_array_core::{Array2, ArrayBase, GetMut};
+use crate::tables::{is_table, table};
+use nd_array_core::{ArrayBase, GetMut};
 use nd_shape_and_slice::{Axis, Slice, slices, slices_fit};
-use nd_test_arrays::{array_of, listed, numbers, rows_listed};
-use std::test::Fail;
+use nd_test_arrays::lists;
 
 /// Every second coordinate, from the first one on.
 const EVERY_SECOND: Slice = Slice {
@@ -13,86 +13,57 @@ const EVERY_SECOND: Slice = Slice {
 };
 
 #[test]
-fn one_row_moved_out(rt: HostRuntime) -> Result<(), Fail> {
-    let table: Array2<u64> = array_of((2, 2), numbers(rt.alloc(), 1, 4)?)?;
+fn one_row_moved_out(rt: HostRuntime) {
+    let table = table(&rt, (2, 2), &[1, 2, 3, 4]);
     assert!(rt; table.shape() == [2, 2].as_slice());
     let row = table.index_axis_move(Axis(0), 1);
-    assert_eq!(rt; listed(rt.alloc(), &row)?.as_slice(), [3, 4].as_slice());
-    Ok(())
+    assert!(rt; lists(&row, &[3, 4]));
 }
 
 #[test]
-fn one_column_changed(rt: HostRuntime) -> Result<(), Fail> {
-    let mut table: Array2<u64> = array_of((2, 2), numbers(rt.alloc(), 1, 4)?)?;
+fn one_column_changed(rt: HostRuntime) {
+    let mut table = table(&rt, (2, 2), &[1, 2, 3, 4]);
     assert!(rt; table.shape() == [2, 2].as_slice());
     {
         let mut column = table.index_axis_mut(Axis(1), 1);
         column.map_inplace(|x| *x = x.wrapping_add(10));
     }
-    assert_eq!(rt;
-        rows_listed(rt.alloc(), &table)?.as_slice(),
-        [1, 12, 3, 14].as_slice()
-    );
-    Ok(())
+    assert!(rt; is_table(&table, [2, 2], &[1, 12, 3, 14]));
 }
 
 #[test]
-fn one_element_of_a_row_changed(rt: HostRuntime) -> Result<(), Fail> {
-    let mut table: Array2<u64> = array_of((2, 2), numbers(rt.alloc(), 1, 4)?)?;
+fn one_element_of_a_row_changed(rt: HostRuntime) {
+    let mut table = table(&rt, (2, 2), &[1, 2, 3, 4]);
     assert!(rt; table.nrows() == 2);
     {
         let mut row = table.row_mut(0);
-        match row.get_mut(1) {
-            Some(element) => *element = 5,
-            None => return Err("outside".into()),
-        }
+        *row.get_mut(1).expect(&rt, "inside") = 5;
     }
-    assert_eq!(rt;
-        rows_listed(rt.alloc(), &table)?.as_slice(),
-        [1, 5, 3, 4].as_slice()
-    );
-    Ok(())
+    assert!(rt; is_table(&table, [2, 2], &[1, 5, 3, 4]));
 }
 
 #[test]
-fn every_second_of_each_axis_kept(rt: HostRuntime) -> Result<(), Fail> {
-    let mut table: Array2<u64> = array_of((3, 4), numbers(rt.alloc(), 0, 12)?)?;
+fn every_second_of_each_axis_kept(rt: HostRuntime) {
+    let mut table = table(&rt, (3, 4), &[0, 1, 2, 3, 4, 5, 6, 7, 8, 9, 10, 11]);
     table.slice_each_axis_inplace(|_axis| EVERY_SECOND);
-    assert_eq!(rt; table.shape(), [2, 2].as_slice());
-    assert_eq!(rt;
-        rows_listed(rt.alloc(), &table)?.as_slice(),
-        [0, 2, 8, 10].as_slice()
-    );
-    Ok(())
+    assert!(rt; is_table(&table, [2, 2], &[0, 2, 8, 10]));
 }
 
 #[test]
-fn every_second_of_each_axis_written(rt: HostRuntime) -> Result<(), Fail> {
-    let mut table: Array2<u64> = array_of((3, 2), numbers(rt.alloc(), 1, 6)?)?;
+fn every_second_of_each_axis_written(rt: HostRuntime) {
+    let mut table = table(&rt, (3, 2), &[1, 2, 3, 4, 5, 6]);
     {
         let mut part = table.slice_each_axis_mut(|_axis| EVERY_SECOND);
-        if part.fill(0).is_err() {
-            return Err("memory".into());
-        }
+        assert!(rt; part.fill(0).is_ok());
     }
-    assert_eq!(rt;
-        rows_listed(rt.alloc(), &table)?.as_slice(),
-        [0, 2, 3, 4, 0, 6].as_slice()
-    );
-    Ok(())
+    assert!(rt; is_table(&table, [3, 2], &[0, 2, 3, 4, 0, 6]));
 }
 
 #[test]
-fn a_part_filled(rt: HostRuntime) -> Result<(), Fail> {
-    let mut table: Array2<u64> = array_of((2, 3), numbers(rt.alloc(), 1, 6)?)?;
+fn a_part_filled(rt: HostRuntime) {
+    let mut table = table(&rt, (2, 3), &[1, 2, 3, 4, 5, 6]);
     let list = slices![1usize, 1usize..];
     assert!(rt; slices_fit(table.shape(), &list));
-    if table.fill_slice(list, 0).is_err() {
-        return Err("memory".into());
-    }
-    assert_eq!(rt;
-        rows_listed(rt.alloc(), &table)?.as_slice(),
-        [1, 2, 3, 4, 0, 0].as_slice()
-    );
-    Ok(())
+    assert!(rt; table.fill_slice(list, 0).is_ok());
+    assert!(rt; is_table(&table, [2, 3], &[1, 2, 3, 4, 0, 0]));
 }

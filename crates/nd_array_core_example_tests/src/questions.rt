@@ -1,70 +1,52 @@
 //! Questions about an array, and its elements as one slice or as one element.
 
+use crate::tables::{is_table, table};
 use nd_array_core::{Array, Array2, Array3};
 use nd_shape_and_slice::{Ix0, Order, ShapeBuilder};
-use nd_test_arrays::{array_of, listed, numbers, rows_listed};
+use nd_test_arrays::{array_of, lists, made, numbers};
 use std::test::Fail;
 
 #[test]
-fn rows_and_columns_counted(rt: HostRuntime) -> Result<(), Fail> {
-    let table: Array2<u64> = array_of((2, 5), numbers(rt.alloc(), 0, 10)?)?;
-    assert_eq!(rt; (table.nrows(), table.ncols()), (2, 5));
-    assert_eq!(rt; table.dim(), (2, 5));
-    assert!(rt; !table.is_square());
-    assert!(rt; !table.is_empty());
+fn rows_and_columns_counted(rt: HostRuntime) {
+    let table = table(&rt, (2, 5), &[0, 1, 2, 3, 4, 5, 6, 7, 8, 9]);
+    assert!(rt; table.nrows() == 2 && table.ncols() == 5 && table.dim() == (2, 5));
+    assert!(rt; !table.is_square() && !table.is_empty());
     let turned = table.t();
-    assert_eq!(rt; (turned.nrows(), turned.ncols()), (5, 2));
-    Ok(())
+    assert!(rt; turned.nrows() == 5 && turned.ncols() == 2);
 }
 
 #[test]
-fn squares_and_tables_of_nothing(rt: HostRuntime) -> Result<(), Fail> {
-    let square: Array2<u64> = array_of((2, 2), numbers(rt.alloc(), 0, 4)?)?;
+fn squares_and_tables_of_nothing(rt: HostRuntime) {
+    let square = table(&rt, (2, 2), &[0, 1, 2, 3]);
     assert!(rt; square.is_square());
-    let none: Array2<u64> = array_of((0, 3), numbers(rt.alloc(), 0, 0)?)?;
-    assert!(rt; none.is_empty());
-    assert_eq!(rt; (none.nrows(), none.ncols(), none.len()), (0, 3, 0));
-    Ok(())
+    let none = table(&rt, (0, 3), &[]);
+    assert!(rt; none.is_empty() && none.nrows() == 0 && none.ncols() == 3 && none.len() == 0);
 }
 
 #[test]
-fn one_element_taken(rt: HostRuntime) -> Result<(), Fail> {
-    let seven = match Array::<u64, Ix0>::from_elem(rt.alloc(), (), 7) {
-        Ok(seven) => seven,
-        Err(_) => return Err("memory".into()),
-    };
+fn one_element_taken(rt: HostRuntime) {
+    let seven = Array::<u64, Ix0>::from_elem(rt.alloc(), (), 7).expect(&rt, "memory");
     assert_eq!(rt; seven.into_scalar(), 7);
-    Ok(())
 }
 
 #[test]
-fn elements_in_one_line(rt: HostRuntime) -> Result<(), Fail> {
-    let boxes: Array3<u64> = array_of((2, 2, 2), numbers(rt.alloc(), 1, 8)?)?;
-    let line = match boxes.flatten(rt.alloc()) {
-        Ok(line) => line,
-        Err(_) => return Err("memory".into()),
-    };
-    assert!(rt; line.is_view());
-    assert_eq!(rt;
-        listed(rt.alloc(), &line.view())?.as_slice(),
-        [1, 2, 3, 4, 5, 6, 7, 8].as_slice()
+fn elements_in_one_line(rt: HostRuntime) {
+    let boxes: Array3<u64> = made(rt.alloc(), (2, 2, 2), &[1, 2, 3, 4, 5, 6, 7, 8]).expect(
+        &rt, "made",
     );
-    Ok(())
+    let line = boxes.flatten(rt.alloc()).expect(&rt, "memory");
+    assert!(rt; line.is_view() && lists(&line.view(), &[1, 2, 3, 4, 5, 6, 7, 8]));
 }
 
 #[test]
-fn elements_in_one_line_by_columns(rt: HostRuntime) -> Result<(), Fail> {
-    let boxes: Array3<u64> = array_of((2, 2, 2), numbers(rt.alloc(), 1, 8)?)?;
-    let line = match boxes.flatten_with_order(rt.alloc(), Order::ColumnMajor) {
-        Ok(line) => line,
-        Err(_) => return Err("memory".into()),
-    };
-    assert!(rt; line.is_owned());
-    assert_eq!(rt;
-        listed(rt.alloc(), &line.view())?.as_slice(),
-        [1, 5, 3, 7, 2, 6, 4, 8].as_slice()
+fn elements_in_one_line_by_columns(rt: HostRuntime) {
+    let boxes: Array3<u64> = made(rt.alloc(), (2, 2, 2), &[1, 2, 3, 4, 5, 6, 7, 8]).expect(
+        &rt, "made",
     );
-    Ok(())
+    let line = boxes
+        .flatten_with_order(rt.alloc(), Order::ColumnMajor)
+        .expect(&rt, "memory");
+    assert!(rt; line.is_owned() && lists(&line.view(), &[1, 5, 3, 7, 2, 6, 4, 8]));
 }
 
 #[test]
@@ -77,13 +59,8 @@ fn a_slice_that_outlives_its_view(rt: HostRuntime) -> Result<(), Fail> {
 }
 
 #[test]
-fn columns_one_after_the_other(rt: HostRuntime) -> Result<(), Fail> {
-    let table: Array2<u64> = array_of((2, 2).f(), numbers(rt.alloc(), 1, 4)?)?;
-    assert!(rt; !table.is_standard_layout());
-    assert!(rt; table.t().is_standard_layout());
-    assert_eq!(rt;
-        rows_listed(rt.alloc(), &table)?.as_slice(),
-        [1, 3, 2, 4].as_slice()
-    );
-    Ok(())
+fn columns_one_after_the_other(rt: HostRuntime) {
+    let table: Array2<u64> = made(rt.alloc(), (2, 2).f(), &[1, 2, 3, 4]).expect(&rt, "made");
+    assert!(rt; !table.is_standard_layout() && table.t().is_standard_layout());
+    assert!(rt; is_table(&table, [2, 2], &[1, 3, 2, 4]));
 }

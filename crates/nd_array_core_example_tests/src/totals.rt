@@ -1,9 +1,9 @@
 //! Closures over all elements: totals, and elements changed where they lie.
 
+use crate::tables::{is_table, table};
 use nd_array_core::{Array2, ArrayBase, Data};
 use nd_shape_and_slice::{Axis, Ix2, ShapeBuilder};
-use nd_test_arrays::{array_of, numbers, rows_listed};
-use std::test::Fail;
+use nd_test_arrays::made;
 
 /// The sum, the product and the largest of the elements.
 fn totals<S: Data<Elem = u64>>(table: &ArrayBase<S, Ix2>) -> (u64, u64, u64) {
@@ -15,39 +15,37 @@ fn totals<S: Data<Elem = u64>>(table: &ArrayBase<S, Ix2>) -> (u64, u64, u64) {
 }
 
 #[test]
-fn totals_in_each_layout(rt: HostRuntime) -> Result<(), Fail> {
-    let mut table: Array2<u64> = array_of((2, 3), numbers(rt.alloc(), 1, 6)?)?;
+fn totals_in_each_layout(rt: HostRuntime) {
+    let mut table = table(&rt, (2, 3), &[1, 2, 3, 4, 5, 6]);
     assert_eq!(rt; totals(&table), (21, 720, 6));
     assert_eq!(rt; totals(&table.t()), (21, 720, 6));
     assert!(rt; table.ndim() == 2);
     table.invert_axis(Axis(1));
     assert_eq!(rt; totals(&table), (21, 720, 6));
-    let columns: Array2<u64> = array_of((2, 3).f(), numbers(rt.alloc(), 1, 6)?)?;
-    assert_eq!(rt; totals(&columns), (21, 720, 6));
-    Ok(())
-}
-
-#[test]
-fn totals_of_nothing(rt: HostRuntime) -> Result<(), Fail> {
-    let none: Array2<u64> = array_of((2, 0), numbers(rt.alloc(), 0, 0)?)?;
-    assert_eq!(rt; totals(&none), (0, 1, 0));
-    Ok(())
-}
-
-#[test]
-fn elements_doubled_where_they_lie(rt: HostRuntime) -> Result<(), Fail> {
-    let mut table: Array2<u64> = array_of((2, 3), numbers(rt.alloc(), 1, 6)?)?;
-    table.map_inplace(|x| *x = x.wrapping_mul(2));
-    assert_eq!(rt;
-        rows_listed(rt.alloc(), &table)?.as_slice(),
-        [2, 4, 6, 8, 10, 12].as_slice()
+    let columns: Array2<u64> = made(rt.alloc(), (2, 3).f(), &[1, 2, 3, 4, 5, 6]).expect(
+        &rt, "made",
     );
-    Ok(())
+    assert_eq!(rt; totals(&columns), (21, 720, 6));
 }
 
 #[test]
-fn each_element_is_handed_over_once(rt: HostRuntime) -> Result<(), Fail> {
-    let mut table: Array2<u64> = array_of((2, 3).f(), numbers(rt.alloc(), 1, 6)?)?;
+fn totals_of_nothing(rt: HostRuntime) {
+    let none = table(&rt, (2, 0), &[]);
+    assert_eq!(rt; totals(&none), (0, 1, 0));
+}
+
+#[test]
+fn elements_doubled_where_they_lie(rt: HostRuntime) {
+    let mut table = table(&rt, (2, 3), &[1, 2, 3, 4, 5, 6]);
+    table.map_inplace(|x| *x = x.wrapping_mul(2));
+    assert!(rt; is_table(&table, [2, 3], &[2, 4, 6, 8, 10, 12]));
+}
+
+#[test]
+fn each_element_is_handed_over_once(rt: HostRuntime) {
+    let mut table: Array2<u64> = made(rt.alloc(), (2, 3).f(), &[1, 2, 3, 4, 5, 6]).expect(
+        &rt, "made",
+    );
     assert!(rt; table.ndim() == 2);
     table.invert_axis(Axis(0));
     let mut calls = 0u64;
@@ -56,9 +54,5 @@ fn each_element_is_handed_over_once(rt: HostRuntime) -> Result<(), Fail> {
         *x = x.wrapping_add(1);
     });
     assert_eq!(rt; calls, 6);
-    assert_eq!(rt;
-        rows_listed(rt.alloc(), &table)?.as_slice(),
-        [3, 5, 7, 2, 4, 6].as_slice()
-    );
-    Ok(())
+    assert!(rt; is_table(&table, [2, 3], &[3, 5, 7, 2, 4, 6]));
 }

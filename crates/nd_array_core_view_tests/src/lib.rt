@@ -5,3 +5,5 @@
 mod mutable_views;
 #[cfg(test)]
 mod slices;
+#[cfg(test)]
+mod tables;

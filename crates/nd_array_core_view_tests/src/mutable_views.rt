@@ -1,13 +1,13 @@
 //! Writes through mutable views of worked arrays.
 
+use crate::tables::{is_line, is_table, line, table};
 use nd_array_core::{Array, ArrayViewMut};
 use nd_shape_and_slice::{
     Axis, Dimension, Ix1, Ix2, Slice, SliceArg, SliceInfo, SliceInfoElem, slice_fits,
     slices_intersect,
 };
-use nd_test_arrays::{array_of, listed, numbers, part, rows_listed};
-use std::alloc::Global;
-use std::test::Fail;
+use nd_test_arrays::{lists, part};
+
 // Writes 9 at each index.
 fn put_nines(view: &mut ArrayViewMut<'_, u64, Ix1>) {
     for i in 0..view.len() {
@@ -18,53 +18,40 @@ fn put_nines(view: &mut ArrayViewMut<'_, u64, Ix1>) {
 }
 
 // Writes 9s through the part of an axis from 2 on, and then answers the first elements of the other part.
-fn second_half_written(array: &mut Array<u64, Ix1>) -> (Option<u64>, Option<u64>, Option<u64>) {
+fn second_half_written(array: &mut Array<u64, Ix1>) -> [Option<u64>; 3] {
+    let mut seen = [None; 3];
     let view = array.view_mut();
-    if view.ndim() != 1 || view.len_of(Axis(0)) < 2 {
-        return (None, None, None);
+    if view.ndim() == 1 && view.len_of(Axis(0)) >= 2 {
+        let (lower, mut upper) = view.split_at(Axis(0), 2);
+        put_nines(&mut upper);
+        for k in 0..3usize {
+            seen[k] = lower.get(k).copied();
+        }
     }
-    let (lower, mut upper) = view.split_at(Axis(0), 2);
-    put_nines(&mut upper);
-    (
-        lower.get(0).copied(),
-        lower.get(1).copied(),
-        lower.get(2).copied(),
-    )
+    seen
 }
 
 #[test]
-fn the_first_part_stays_while_the_second_is_written(rt: HostRuntime) -> Result<(), Fail> {
-    let mut array = array_of(4, numbers(rt.alloc(), 1, 4)?)?;
-    assert_eq!(rt; second_half_written(&mut array), (Some(1), Some(2), None));
-    assert_eq!(rt;
-        listed(rt.alloc(), &array)?.as_slice(),
-        [1, 2, 9, 9].as_slice()
-    );
-    Ok(())
+fn the_first_part_stays_while_the_second_is_written(rt: HostRuntime) {
+    let mut array = line(&rt, &[1, 2, 3, 4]);
+    assert!(rt; second_half_written(&mut array) == [Some(1), Some(2), None]);
+    assert!(rt; is_line(&array, &[1, 2, 9, 9]));
 }
 
 #[test]
-fn the_diagonal_is_written(rt: HostRuntime) -> Result<(), Fail> {
-    let mut array = array_of((2, 3), numbers(rt.alloc(), 1, 6)?)?;
+fn the_diagonal_is_written(rt: HostRuntime) {
+    let mut array = table(&rt, (2, 3), &[1, 2, 3, 4, 5, 6]);
     put_nines(&mut array.diag_mut());
-    assert_eq!(rt;
-        rows_listed(rt.alloc(), &array)?.as_slice(),
-        [9, 2, 3, 4, 9, 6].as_slice()
-    );
-    Ok(())
+    assert!(rt; is_table(&array, [2, 3], &[9, 2, 3, 4, 9, 6]));
 }
 
 #[test]
-fn a_column_is_written(rt: HostRuntime) -> Result<(), Fail> {
-    let mut array = array_of((2, 3), numbers(rt.alloc(), 1, 6)?)?;
+fn a_column_is_written(rt: HostRuntime) {
+    let mut array = table(&rt, (2, 3), &[1, 2, 3, 4, 5, 6]);
     if array.ndim() == 2 && array.len_of(Axis(1)) > 1 {
         put_nines(&mut array.column_mut(1));
     }
-    assert_eq!(rt;
-        rows_listed(rt.alloc(), &array)?.as_slice(),
-        [1, 9, 3, 4, 9, 6].as_slice()
-    );
-    Ok(())
+    assert!(rt; is_table(&array, [2, 3], &[1, 9, 3, 4, 9, 6]));
 }
 
 // Fills what the list names, through a mutable view; false where the list doesn't fit.
@@ -116,136 +103,98 @@ fn fills_parts(array: &mut Array<u64, Ix2>, axis: Axis, index: usize, values: (u
     lower.fill(values.0).is_ok() && upper.fill(values.1).is_ok()
 }
 
-// The first part of the split at 2, by a read-only view that lives while the second is filled with 9s.
-fn first_part_seen(alloc: Global, array: &mut Array<u64, Ix1>) -> Result<Vec<u64>, Fail> {
+// Whether the first part of the split at 2 has these numbers, by a read-only view that lives while the second is filled
+// with 9s.
+fn first_part_shows(array: &mut Array<u64, Ix1>, wanted: &[u64]) -> bool {
     let view = array.view_mut();
     if view.ndim() != 1 || view.len_of(Axis(0)) < 2 {
-        return Ok(Vec::new(alloc));
+        return false;
     }
     let (lower, mut upper) = view.split_at(Axis(0), 2);
     let seen = lower.view();
-    upper.fill(9).ok().ok_or("memory")?;
-    listed(alloc, &seen)
+    upper.fill(9).is_ok() && lists(&seen, wanted)
 }
 
 #[test]
-fn a_view_of_the_first_part_stays(rt: HostRuntime) -> Result<(), Fail> {
-    let mut array = array_of(4, numbers(rt.alloc(), 1, 4)?)?;
-    assert_eq!(rt;
-        first_part_seen(rt.alloc(), &mut array)?.as_slice(),
-        [1, 2].as_slice()
-    );
-    assert_eq!(rt;
-        listed(rt.alloc(), &array)?.as_slice(),
-        [1, 2, 9, 9].as_slice()
-    );
-    Ok(())
+fn a_view_of_the_first_part_stays(rt: HostRuntime) {
+    let mut array = line(&rt, &[1, 2, 3, 4]);
+    assert!(rt; first_part_shows(&mut array, &[1, 2]));
+    assert!(rt; is_line(&array, &[1, 2, 9, 9]));
 }
 
 #[test]
-fn every_second_column_is_filled(rt: HostRuntime) -> Result<(), Fail> {
-    let mut array = array_of((2, 5), numbers(rt.alloc(), 1, 10)?)?;
+fn every_second_column_is_filled(rt: HostRuntime) {
+    let mut array = table(&rt, (2, 5), &[1, 2, 3, 4, 5, 6, 7, 8, 9, 10]);
     assert!(rt; fills(&mut array, &[part(0, None, 1), part(0, None, 2)], 0));
-    assert_eq!(rt;
-        rows_listed(rt.alloc(), &array)?.as_slice(),
-        [0, 2, 0, 4, 0, 0, 7, 0, 9, 0].as_slice()
-    );
-    Ok(())
+    assert!(rt; is_table(&array, [2, 5], &[0, 2, 0, 4, 0, 0, 7, 0, 9, 0]));
+}
+
+// Whether the part of a line that a slice names has these numbers.
+fn part_shows(array: &Array<u64, Ix1>, slice: Slice, wanted: &[u64]) -> bool {
+    array.ndim() == 1
+        && slice_fits(array.len_of(Axis(0)), slice)
+        && lists(&array.slice_axis(Axis(0), slice), wanted)
 }
 
 #[test]
-fn every_second_cube_is_filled(rt: HostRuntime) -> Result<(), Fail> {
-    let cubes = [0u64, 1, 8, 27, 64, 125, 216, 343, 512, 729];
-    let mut array = array_of(10, cubes.to_vec(rt.alloc())?)?;
-    let middle = Slice::new(2, Some(5), 1);
-    assert!(rt; array.ndim() == 1 && slice_fits(array.len_of(Axis(0)), middle));
-    assert_eq!(rt;
-        listed(rt.alloc(), &array.slice_axis(Axis(0), middle))?.as_slice(),
-        [8, 27, 64].as_slice()
-    );
+fn every_second_cube_is_filled(rt: HostRuntime) {
+    let mut array = line(&rt, &[0, 1, 8, 27, 64, 125, 216, 343, 512, 729]);
+    assert!(rt; part_shows(&array, Slice::new(2, Some(5), 1), &[8, 27, 64]));
     assert!(rt; fills(&mut array, &[part(0, Some(6), 2)], 1000));
-    assert_eq!(rt;
-        listed(rt.alloc(), &array)?.as_slice(),
-        [1000, 1, 1000, 27, 1000, 125, 216, 343, 512, 729].as_slice()
-    );
-    Ok(())
+    assert!(rt; is_line(&array, &[1000, 1, 1000, 27, 1000, 125, 216, 343, 512, 729]));
 }
 
 #[test]
-fn two_parts_of_an_axis_are_filled(rt: HostRuntime) -> Result<(), Fail> {
-    let mut array = array_of((2, 4), numbers(rt.alloc(), 1, 8)?)?;
+fn two_parts_of_an_axis_are_filled(rt: HostRuntime) {
+    let mut array = table(&rt, (2, 4), &[1, 2, 3, 4, 5, 6, 7, 8]);
     assert!(rt; fills_parts(&mut array, Axis(1), 1, (0, 9)));
-    assert_eq!(rt;
-        rows_listed(rt.alloc(), &array)?.as_slice(),
-        [0, 9, 9, 9, 0, 9, 9, 9].as_slice()
-    );
-    Ok(())
+    assert!(rt; is_table(&array, [2, 4], &[0, 9, 9, 9, 0, 9, 9, 9]));
 }
 
 #[test]
-fn rows_are_interleaved(rt: HostRuntime) -> Result<(), Fail> {
-    let mut array = array_of((5, 2), numbers(rt.alloc(), 1, 10)?)?;
+fn rows_are_interleaved(rt: HostRuntime) {
+    let mut array = table(&rt, (5, 2), &[1, 2, 3, 4, 5, 6, 7, 8, 9, 10]);
     let even = [part(0, None, 2), part(0, None, 1)];
     let odd = [part(1, None, 2), part(0, None, 1)];
     assert!(rt; fills_both(&mut array, (&even, &odd), (7, 8)));
-    assert_eq!(rt;
-        rows_listed(rt.alloc(), &array)?.as_slice(),
-        [7, 7, 8, 8, 7, 7, 8, 8, 7, 7].as_slice()
-    );
-    Ok(())
+    assert!(rt; is_table(&array, [5, 2], &[7, 7, 8, 8, 7, 7, 8, 8, 7, 7]));
 }
 
 #[test]
-fn elements_are_interleaved(rt: HostRuntime) -> Result<(), Fail> {
-    let mut array = array_of(6, numbers(rt.alloc(), 1, 6)?)?;
+fn elements_are_interleaved(rt: HostRuntime) {
+    let mut array = line(&rt, &[1, 2, 3, 4, 5, 6]);
     let even = [part(0, Some(6), 2)];
     let odd = [part(1, Some(6), 2)];
     assert!(rt; fills_both(&mut array, (&even, &odd), (0, 1)));
-    assert_eq!(rt;
-        listed(rt.alloc(), &array)?.as_slice(),
-        [0, 1, 0, 1, 0, 1].as_slice()
-    );
-    Ok(())
+    assert!(rt; is_line(&array, &[0, 1, 0, 1, 0, 1]));
 }
 
 #[test]
-fn slices_that_meet_are_not_lent(rt: HostRuntime) -> Result<(), Fail> {
-    let mut array = array_of(6, numbers(rt.alloc(), 1, 6)?)?;
+fn slices_that_meet_are_not_lent(rt: HostRuntime) {
+    let mut array = line(&rt, &[1, 2, 3, 4, 5, 6]);
     // Both name the last element.
     let one = [part(1, Some(6), 4)];
     let other = [part(2, Some(6), 3)];
     assert!(rt; !fills_both(&mut array, (&one, &other), (7, 8)));
-    assert_eq!(rt;
-        listed(rt.alloc(), &array)?.as_slice(),
-        [1, 2, 3, 4, 5, 6].as_slice()
-    );
+    assert!(rt; is_line(&array, &[1, 2, 3, 4, 5, 6]));
     let one = [part(1, Some(5), 3)];
     let other = [part(0, Some(4), 3)];
     assert!(rt; fills_both(&mut array, (&one, &other), (7, 8)));
-    assert_eq!(rt;
-        listed(rt.alloc(), &array)?.as_slice(),
-        [8, 7, 3, 8, 7, 6].as_slice()
-    );
-    Ok(())
+    assert!(rt; is_line(&array, &[8, 7, 3, 8, 7, 6]));
 }
 
 #[test]
-fn a_view_is_written_for_a_shorter_time(rt: HostRuntime) -> Result<(), Fail> {
-    let mut array = array_of(3, numbers(rt.alloc(), 1, 3)?)?;
+fn a_view_is_written_for_a_shorter_time(rt: HostRuntime) {
+    let mut array = line(&rt, &[1, 2, 3]);
     put_nines(&mut array.view_mut().reborrow());
-    assert_eq!(rt;
-        listed(rt.alloc(), &array)?.as_slice(),
-        [9, 9, 9].as_slice()
-    );
-    Ok(())
+    assert!(rt; is_line(&array, &[9, 9, 9]));
 }
 
 #[test]
-fn a_view_is_read_for_a_shorter_time(rt: HostRuntime) -> Result<(), Fail> {
-    let array = array_of(3, numbers(rt.alloc(), 1, 3)?)?;
+fn a_view_is_read_for_a_shorter_time(rt: HostRuntime) {
+    let array = line(&rt, &[1, 2, 3]);
     let view = array.view().reborrow();
     assert_eq!(rt; view.get(2).copied(), Some(3));
-    Ok(())
 }
 
 // Fills a row of a mutable view through a view of it; false where there is no such row.
@@ -264,12 +213,8 @@ fn fills_two_rows(array: &mut Array<u64, Ix2>) -> bool {
 }
 
 #[test]
-fn rows_of_a_view_are_filled(rt: HostRuntime) -> Result<(), Fail> {
-    let mut array = array_of((3, 2), numbers(rt.alloc(), 1, 6)?)?;
+fn rows_of_a_view_are_filled(rt: HostRuntime) {
+    let mut array = table(&rt, (3, 2), &[1, 2, 3, 4, 5, 6]);
     assert!(rt; fills_two_rows(&mut array));
-    assert_eq!(rt;
-        rows_listed(rt.alloc(), &array)?.as_slice(),
-        [7, 7, 8, 8, 5, 6].as_slice()
-    );
-    Ok(())
+    assert!(rt; is_table(&array, [3, 2], &[7, 7, 8, 8, 5, 6]));
 }

@@ -1,26 +1,31 @@
 //! Worked slices of one axis, by lists and of each axis, and squeezes.
 
-use nd_array_core::{Array, ArrayBase, ArrayView, Data};
+use crate::tables::{any_axes, line, table};
+use nd_array_core::{Array, Array3, ArrayBase, ArrayD, ArrayView, Data};
 use nd_shape_and_slice::{
     Axis, Dimension, Ix0, Ix1, Ix2, IxDyn, Slice, SliceArg, SliceInfo, SliceInfoElem, slice_fits,
 };
-use nd_test_arrays::{array_of, listed, numbers, part, rows_listed};
-use std::test::Fail;
+use nd_test_arrays::{lists, made, part, shows};
+
+// Whether a line stepped backwards by two and then by one has these numbers, first after the one, then after both.
+fn stepped_twice(array: &Array<u64, Ix1>, once: &[u64], twice: &[u64]) -> bool {
+    let mut back = array.view();
+    let step = Slice::new(0, Some(6), -2);
+    if back.ndim() != 1 || !slice_fits(back.len_of(Axis(0)), step) {
+        return false;
+    }
+    back.slice_axis_inplace(Axis(0), step);
+    let step = Slice::new(0, Some(3), -1);
+    if back.ndim() != 1 || !slice_fits(back.len_of(Axis(0)), step) {
+        return false;
+    }
+    lists(&back, once) && lists(&back.slice_axis(Axis(0), step), twice)
+}
 
 #[test]
-fn steps_of_slices(rt: HostRuntime) -> Result<(), Fail> {
-    let array = array_of(6, numbers(rt.alloc(), 0, 6)?)?;
-    let mut back = array.view();
-    assert!(rt; slice_fits(back.len_of(Axis(0)), Slice::new(0, Some(6), -2)));
-    back.slice_axis_inplace(Axis(0), Slice::new(0, Some(6), -2));
-    assert_eq!(rt; listed(rt.alloc(), &back)?.as_slice(), [5, 3, 1].as_slice());
-    assert!(rt; slice_fits(back.len_of(Axis(0)), Slice::new(0, Some(3), -1)));
-    let again = back.slice_axis(Axis(0), Slice::new(0, Some(3), -1));
-    assert_eq!(rt;
-        listed(rt.alloc(), &again)?.as_slice(),
-        [1, 3, 5].as_slice()
-    );
-    Ok(())
+fn steps_of_slices(rt: HostRuntime) {
+    let array = line(&rt, &[0, 1, 2, 3, 4, 5]);
+    assert!(rt; stepped_twice(&array, &[5, 3, 1], &[1, 3, 5]));
 }
 
 // The view of what the list names; None where it doesn't fit.
@@ -60,111 +65,142 @@ fn collapsed<In: Dimension>(
 }
 
 #[test]
-fn squeezes(rt: HostRuntime) -> Result<(), Fail> {
-    let one_away = array_of(IxDyn::new(&[2, 1, 3]), numbers(rt.alloc(), 0, 6)?)?.squeeze();
-    assert_eq!(rt; one_away.shape(), [2, 3].as_slice());
-    assert_eq!(rt; one_away.get([1, 2]).copied(), Some(5));
-    let last_left = array_of(IxDyn::new(&[1, 1]), numbers(rt.alloc(), 7, 1)?)?.squeeze();
-    assert_eq!(rt; last_left.shape(), [1].as_slice());
-    assert_eq!(rt; last_left.get([0]).copied(), Some(7));
-    Ok(())
+fn squeezes(rt: HostRuntime) {
+    for (lengths, numbers, shape, index, number) in [
+        (
+            [2, 1, 3].as_slice(),
+            [0, 1, 2, 3, 4, 5].as_slice(),
+            [2, 3].as_slice(),
+            [1, 2].as_slice(),
+            5,
+        ),
+        (
+            [1, 1].as_slice(),
+            [7].as_slice(),
+            [1].as_slice(),
+            [0].as_slice(),
+            7,
+        ),
+    ] {
+        let array = any_axes(&rt, lengths, numbers).squeeze();
+        assert!(rt; array.shape() == shape && array.get(index).copied() == Some(number));
+    }
+}
+
+// Whether what a list names of a line has these numbers, and whether its stride is 0; None where the list doesn't fit.
+fn part_of_line(
+    array: &Array<u64, Ix1>,
+    list: SliceInfoElem,
+    wanted: &[u64],
+) -> Option<(bool, bool)> {
+    let part: ArrayView<'_, u64, Ix1> = sliced(array, &[list])?;
+    Some((lists(&part, wanted), part.strides() == [0].as_slice()))
+}
+
+// Whether what a list names of a line, and what another names of that, have these numbers; None where a list doesn't fit.
+fn parts_of_line(
+    array: &Array<u64, Ix1>,
+    list: (SliceInfoElem, SliceInfoElem),
+    wanted: (&[u64], &[u64]),
+) -> Option<bool> {
+    let part: ArrayView<'_, u64, Ix1> = sliced(array, &[list.0])?;
+    let again: ArrayView<'_, u64, Ix1> = sliced(&part, &[list.1])?;
+    Some(lists(&part, wanted.0) && lists(&again, wanted.1))
 }
 
 #[test]
-fn steps_back_and_back_again(rt: HostRuntime) -> Result<(), Fail> {
-    let array = array_of(6, numbers(rt.alloc(), 0, 6)?)?;
-    let back: ArrayView<'_, u64, Ix1> = sliced(&array, &[part(0, Some(6), -2)]).ok_or("slice")?;
-    assert_eq!(rt; listed(rt.alloc(), &back)?.as_slice(), [5, 3, 1].as_slice());
-    let twice: ArrayView<'_, u64, Ix1> = sliced(&back, &[part(0, Some(3), -1)]).ok_or("slice")?;
-    assert_eq!(rt;
-        listed(rt.alloc(), &twice)?.as_slice(),
-        [1, 3, 5].as_slice()
-    );
-    Ok(())
+fn steps_back_and_back_again(rt: HostRuntime) {
+    let array = line(&rt, &[0, 1, 2, 3, 4, 5]);
+    let twice = (part(0, Some(6), -2), part(0, Some(3), -1));
+    assert!(rt; parts_of_line(&array, twice, (&[5, 3, 1], &[1, 3, 5])) == Some(true));
 }
 
 #[test]
-fn the_longest_steps(rt: HostRuntime) -> Result<(), Fail> {
-    let array = array_of(6, numbers(rt.alloc(), 0, 6)?)?;
-    let last: ArrayView<'_, u64, Ix1> = sliced(&array, &[part(-6, None, isize::MIN)]).ok_or(
-        "slice",
-    )?;
-    assert_eq!(rt; listed(rt.alloc(), &last)?.as_slice(), [5].as_slice());
-    assert_eq!(rt; last.strides(), [0].as_slice());
-    let first: ArrayView<'_, u64, Ix1> = sliced(&array, &[part(-6, None, isize::MAX)]).ok_or(
-        "slice",
-    )?;
-    assert_eq!(rt; listed(rt.alloc(), &first)?.as_slice(), [0].as_slice());
-    assert!(rt; sliced::<_, _, Ix1>(&array, &[part(0, Some(7), 1)]).is_none());
-    Ok(())
+fn the_longest_steps(rt: HostRuntime) {
+    let array = line(&rt, &[0, 1, 2, 3, 4, 5]);
+    for (list, wanted, end) in [
+        (part(-6, None, isize::MIN), [5], Some((true, true))),
+        (part(-6, None, isize::MAX), [0], Some((true, true))),
+        (part(0, Some(7), 1), [0], None),
+    ] {
+        assert!(rt; part_of_line(&array, list, &wanted) == end);
+    }
+}
+
+// The element that one index names of a line; None where it doesn't fit.
+fn scalar_of_line(array: &Array<u64, Ix1>, index: isize) -> Option<u64> {
+    let scalar: ArrayView<'_, u64, Ix0> = sliced(array, &[SliceInfoElem::Index(index)])?;
+    scalar.get([]).copied()
+}
+
+// What a list names of an array; None where it doesn't fit.
+fn moved(array: ArrayD<u64>, list: &[SliceInfoElem]) -> Option<ArrayD<u64>> {
+    if list.fits(array.shape()) {
+        Some(array.slice_move(list))
+    } else {
+        None
+    }
 }
 
 #[test]
-fn an_index_leaves_a_scalar(rt: HostRuntime) -> Result<(), Fail> {
-    let array = array_of(4, numbers(rt.alloc(), 1, 4)?)?;
-    let list = [SliceInfoElem::Index(2)];
-    let scalar: ArrayView<'_, u64, Ix0> = sliced(&array, &list).ok_or("slice")?;
-    assert_eq!(rt; scalar.get([]).copied(), Some(3));
-    let any = array.into_dyn();
-    assert!(rt; list.as_slice().fits(any.shape()));
-    let moved = any.slice_move(list.as_slice());
-    assert_eq!(rt; moved.ndim(), 0);
-    assert_eq!(rt; moved.get([]).copied(), Some(3));
-    Ok(())
+fn an_index_leaves_a_scalar(rt: HostRuntime) {
+    let array = line(&rt, &[1, 2, 3, 4]);
+    assert!(rt; scalar_of_line(&array, 2) == Some(3));
+    let moved = moved(array.into_dyn(), &[SliceInfoElem::Index(2)]).expect(&rt, "slice");
+    assert!(rt; moved.ndim() == 0 && moved.get([]).copied() == Some(3));
+}
+
+// Whether what a list names of an array with three axes has this shape and these numbers; None where it doesn't fit.
+fn page_shows(
+    array: &Array3<u64>,
+    list: &[SliceInfoElem],
+    shape: [usize; 2],
+    wanted: &[u64],
+) -> Option<bool> {
+    let page: ArrayView<'_, u64, Ix2> = sliced(array, list)?;
+    Some(shows(&page, shape, wanted))
 }
 
 #[test]
-fn parts_of_three_axes(rt: HostRuntime) -> Result<(), Fail> {
+fn parts_of_three_axes(rt: HostRuntime) {
     let items = [0, 1, 2, 10, 12, 13, 100, 101, 102, 110, 112, 113];
-    let array = array_of((2, 2, 3), Vec::from_slice(rt.alloc(), &items)?)?;
+    let array: Array3<u64> = made(rt.alloc(), (2, 2, 3), &items).expect(&rt, "made");
     let all = part(0, None, 1);
-    let page: ArrayView<'_, u64, Ix2> = sliced(&array, &[SliceInfoElem::Index(1), all, all]).ok_or(
-        "slice",
-    )?;
-    assert_eq!(rt; page.shape(), [2, 3].as_slice());
-    assert_eq!(rt;
-        rows_listed(rt.alloc(), &page)?.as_slice(),
-        items.split_at(6).1
+    let rows = [all, SliceInfoElem::Index(1), part(0, Some(2), 1)];
+    for (list, shape, wanted) in [
+        (
+            [SliceInfoElem::Index(1), all, all],
+            [2, 3],
+            [100, 101, 102, 110, 112, 113].as_slice(),
+        ),
+        (
+            [all, all, SliceInfoElem::Index(-1)],
+            [2, 2],
+            [2, 13, 102, 113].as_slice(),
+        ),
+        (rows, [2, 2], [10, 12, 110, 112].as_slice()),
+    ] {
+        assert!(rt; page_shows(&array, &list, shape, wanted) == Some(true));
+    }
+    let kept = collapsed(array, &rows).expect(&rt, "slice");
+    assert!(rt; kept.shape() == [2, 1, 2].as_slice());
+    assert!(rt;
+        kept.get([0, 0, 1]).copied() == Some(12) && kept.get([1, 0, 0]).copied() == Some(110)
     );
-    let last: ArrayView<'_, u64, Ix2> = sliced(&array, &[all, all, SliceInfoElem::Index(-1)]).ok_or(
-        "slice",
-    )?;
-    assert_eq!(rt;
-        rows_listed(rt.alloc(), &last)?.as_slice(),
-        [2, 13, 102, 113].as_slice()
-    );
-    let list = [all, SliceInfoElem::Index(1), part(0, Some(2), 1)];
-    let rows: ArrayView<'_, u64, Ix2> = sliced(&array, &list).ok_or("slice")?;
-    assert_eq!(rt;
-        rows_listed(rt.alloc(), &rows)?.as_slice(),
-        [10, 12, 110, 112].as_slice()
-    );
-    let kept = collapsed(array, &list).ok_or("slice")?;
-    assert_eq!(rt; kept.shape(), [2, 1, 2].as_slice());
-    assert_eq!(rt; kept.get([0, 0, 1]).copied(), Some(12));
-    assert_eq!(rt; kept.get([1, 0, 0]).copied(), Some(110));
-    Ok(())
 }
 
 #[test]
-fn a_new_axis(rt: HostRuntime) -> Result<(), Fail> {
-    let array = array_of(IxDyn::new(&[3]), numbers(rt.alloc(), 1, 3)?)?;
+fn a_new_axis(rt: HostRuntime) {
+    let array = any_axes(&rt, &[3], &[1, 2, 3]);
     let list = [SliceInfoElem::NewAxis, part(0, None, 1)];
-    assert!(rt; list.as_slice().fits(array.shape()));
-    let row = array.slice_move(list.as_slice());
-    assert_eq!(rt; row.shape(), [1, 3].as_slice());
-    assert_eq!(rt; row.strides(), [0, 1].as_slice());
-    assert_eq!(rt; row.get([0, 2]).copied(), Some(3));
-    Ok(())
+    let row = moved(array, &list).expect(&rt, "slice");
+    assert!(rt; row.shape() == [1, 3].as_slice() && row.strides() == [0, 1].as_slice());
+    assert!(rt; row.get([0, 2]).copied() == Some(3));
 }
 
 #[test]
-fn a_slice_for_each_axis(rt: HostRuntime) -> Result<(), Fail> {
-    let array = array_of((2, 3), numbers(rt.alloc(), 1, 6)?)?;
+fn a_slice_for_each_axis(rt: HostRuntime) {
+    let array = table(&rt, (2, 3), &[1, 2, 3, 4, 5, 6]);
     let turned = array.slice_each_axis(|_axis| Slice::new(0, None, -1));
-    assert_eq!(rt;
-        rows_listed(rt.alloc(), &turned)?.as_slice(),
-        [6, 5, 4, 3, 2, 1].as_slice()
-    );
-    Ok(())
+    assert!(rt; shows(&turned, [2, 3], &[6, 5, 4, 3, 2, 1]));
 }
