@@ -36,8 +36,7 @@ pub fn rows_chosen<A: Clone + Drop, S: Data<Elem = A>>(
     ensures shape { IfOk result (λ chosen. shape_of chosen ≡ length numbers.now ∷ slice_index (shape_of table.now) 1 ∷ []) }
     ensures elements { IfOk result (λ chosen. (row column : ℕ) → row < length numbers.now → column < slice_index (shape_of table.now) 1 → element_of_2 chosen row column ≡ element_of_2 table.now (slice_index numbers.now row) column) }
 {
-    let chosen = table.select(alloc, Axis(0), numbers)?;
-    Ok(chosen)
+    table.select(alloc, Axis(0), numbers)
 }
 
 /// Takes a row out of a table: those below it come one up.
@@ -79,8 +78,7 @@ pub fn sums_along<S: Data<Elem = u64>, D: RemoveAxis>(
     requires { axis.0 < length (shape_of array.now) }
     ensures sums { IfOk result (λ a. AreFoldedBy (λ sum x. (sum + x) % 2 ^ 64) (shape_of array.now) (element_at array.now) axis.0 0 (element_at a)) }
 {
-    let sums = array.fold_axis(alloc, axis, 0, |sum: &u64, x: &u64| sum.wrapping_add(*x))?;
-    Ok(sums)
+    array.fold_axis(alloc, axis, 0, |sum: &u64, x: &u64| sum.wrapping_add(*x))
 }
 
 /// How long each lane of an axis is, without the axis.
@@ -93,8 +91,7 @@ pub fn lengths_along<A, S: Data<Elem = A>, D: RemoveAxis>(
     ensures shape { IfOk result (λ a. shape_of a ≡ indexed_shape (shape_of array.now) axis.0) }
     ensures lengths { IfOk result (λ a. IsMappedBy (λ lane. size_of lane.shape) (lanes_of (meaning_of array.now) axis.0).at (element_at a)) }
 {
-    let lengths = array.map_axis(alloc, axis, |lane: LaneView<'_, A>| lane.into_view().len())?;
-    Ok(lengths)
+    array.map_axis(alloc, axis, |lane: LaneView<'_, A>| lane.into_view().len())
 }
 
 /// The sum of a lane, modulo 2 to the 64th.
@@ -113,8 +110,7 @@ pub fn sums_of_lanes<S: Data<Elem = u64>, D: RemoveAxis>(
     requires { axis.0 < length (shape_of array.now) }
     ensures sums { IfOk result (λ a. IsMappedBy (λ lane. fold (λ sum x. (sum + x) % 2 ^ 64) 0 (row_major_elements lane)) (lanes_of (meaning_of array.now) axis.0).at (element_at a)) }
 {
-    let sums = array.map_axis(alloc, axis, lane_sum)?;
-    Ok(sums)
+    array.map_axis(alloc, axis, lane_sum)
 }
 
 /// The sums of a table's rows, modulo 2 to the 64th, taken in both ways: they are the same.

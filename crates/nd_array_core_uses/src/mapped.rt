@@ -57,8 +57,7 @@ pub fn raise_all<S: DataMut<Elem = u64>, D: Dimension>(
     ensures elements { OnOk result ((i : List ℕ) → element_at array.new i ≡ option_map (λ x. (x + by) % 2 ^ 64) (element_at array.old i)) }
     ensures stopped { OnErr result (IsOldOrMapped (λ x. (x + by) % 2 ^ 64) (element_at array.old) (element_at array.new)) }
 {
-    array.mapv_inplace(|x| x.wrapping_add(by))?;
-    Ok(())
+    array.mapv_inplace(|x| x.wrapping_add(by))
 }
 
 /// The array itself with every element doubled, modulo 2 to the 64th.
@@ -79,12 +78,11 @@ pub fn halve_all<S: DataMut<Elem = u64>, D: Dimension>(
     ensures rests { IfOk result (λ a. (i : List ℕ) → element_at a i ≡ option_map (λ x. x % 2) (element_at array.old i)) }
     ensures kept { OnErr result ((i : List ℕ) → element_at array.new i ≡ element_at array.old i) }
 {
-    let rests = array.map_mut(alloc, |x| {
+    array.map_mut(alloc, |x| {
         let old = *x;
         *x = old / 2;
         old % 2
-    })?;
-    Ok(rests)
+    })
 }
 
 /// Shows every element to a function that may always be called.
