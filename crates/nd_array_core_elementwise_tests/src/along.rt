@@ -5,6 +5,7 @@ ghost use Rattle.nd_array_core.specs.Meaning.{shape_of};
 ghost use Rattle.nd_array_core.specs.base.Fresh.{EachCloneIsEqual};
 
 use crate::moves::counted;
+use crate::tables::{table, table_by};
 use nd_array_core::{Array1, Array2};
 use nd_shape_and_slice::{Axis, ShapeBuilder};
 use nd_test_arrays::{Numbered, Tally, lists, made, shows, stores};
@@ -17,12 +18,6 @@ const LAYOUTS: [([isize; 2], &[u64]); 3] = [
     ([1, 3], &[0, 2, 4, 1, 3, 5]),
     ([-4, 1], &[4, 5, 9, 9, 2, 3, 9, 9, 0, 1]),
 ];
-
-fn table_of(rt: &(impl Abort + AllocGlobal), strides: &[isize; 2], items: &[u64]) -> Array2<u64>
-    ensures { shape_of result ≡ 3 ∷ 2 ∷ [] }
-{
-    made(rt.alloc(), (3, 2).strides(strides), items).expect(rt, "made")
-}
 
 /// Whether the last, the first and the last row of a table, one row after the other, have these numbers; None if memory or a
 /// clone was refused.
@@ -43,42 +38,41 @@ fn chooses<A: Numbered + Clone + Drop>(
 #[test]
 fn rows_chosen_in_several_layouts(rt: HostRuntime) {
     for (strides, items) in LAYOUTS {
-        let table = table_of(&rt, &strides, items);
-        assert_eq!(rt;
-            chooses(rt.alloc(), &table, &[4, 5, 0, 1, 4, 5]),
-            Some(true)
-        );
+        let table = table_by(&rt, 3, 2, &strides, items);
+        assert!(rt; chooses(rt.alloc(), &table, &[4, 5, 0, 1, 4, 5]) == Some(true));
     }
 }
 
 #[test]
 fn columns_chosen_and_none(rt: HostRuntime) {
-    let table = table_of(&rt, &[2, 1], &[0, 1, 2, 3, 4, 5]);
+    let table = table(&rt, 3, 2, &[0, 1, 2, 3, 4, 5]);
     let chosen = table
         .select(rt.alloc(), Axis(1), &[1, 1, 0])
         .expect(&rt, "memory");
-    assert!(rt; shows(&chosen, [3, 3], &[1, 1, 0, 3, 3, 2, 5, 5, 4]));
     let none = table.select(rt.alloc(), Axis(0), &[]).expect(&rt, "memory");
-    assert!(rt; shows(&none, [0, 2], &[]));
+    assert!(rt; shows(&chosen, [3, 3], &[1, 1, 0, 3, 3, 2, 5, 5, 4]) && shows(&none, [0, 2], &[]));
 }
 
 #[test]
 fn clones_of_chosen_rows_refused_in_turn(rt: HostRuntime) {
     for allowed in 0..=6u64 {
         let tally = Tally::allowing(allowed);
-        {
+        let right = {
             let table = counted(&rt, 3, 2, &[2, 1], &[0, 1, 2, 3, 4, 5], &tally);
             let wanted = if allowed < 6 { None } else { Some(true) };
-            let chosen = chooses(rt.alloc(), &table, &[4, 5, 0, 1, 4, 5]);
-            assert_eq!(rt;
-                (chosen, tally.left(), tally.living()),
-                (wanted, 0, Some(6)),
-                "{allowed} clones"
-            );
-            assert!(rt; shows(&table, [3, 2], &[0, 1, 2, 3, 4, 5]));
-        }
-        assert_eq!(rt; tally.living(), Some(0), "{allowed} clones");
+            chooses(rt.alloc(), &table, &[4, 5, 0, 1, 4, 5]) == wanted
+                && tally.left() == 0
+                && tally.living() == Some(6)
+                && shows(&table, [3, 2], &[0, 1, 2, 3, 4, 5])
+        };
+        assert!(rt; right && tally.living() == Some(0));
     }
+}
+
+// Whether a list is stored as these numbers, and its first element is the one of that rank.
+fn lies_from(line: Array1<u64>, stored: &[u64], at: usize) -> bool {
+    let (items, offset) = line.into_raw_vec_and_offset();
+    items.as_slice() == stored && offset == Some(at)
 }
 
 #[test]
@@ -92,9 +86,7 @@ fn one_taken_out(rt: HostRuntime) {
             &rt, "made",
         );
         line.remove_index(Axis(0), 1);
-        assert!(rt; lists(&line, shown));
-        let (items, offset) = line.into_raw_vec_and_offset();
-        assert!(rt; items.as_slice() == stored && offset == Some(at));
+        assert!(rt; lists(&line, shown) && lies_from(line, stored, at));
     }
 }
 
@@ -106,11 +98,10 @@ fn a_row_taken_out(rt: HostRuntime) {
         (2, &[0, 1, 2, 3], &[4, 5, 9, 9, 2, 3, 9, 9, 0, 1]),
     ];
     for ((strides, items), (row, shown, stored)) in LAYOUTS.iter().zip(&table) {
-        let mut rows = table_of(&rt, strides, items);
+        let mut rows = table_by(&rt, 3, 2, strides, items);
         if *row < 3 {
             rows.remove_index(Axis(0), *row);
         }
-        assert!(rt; shows(&rows, [2, 2], shown));
-        assert!(rt; stores(rows, stored));
+        assert!(rt; shows(&rows, [2, 2], shown) && stores(rows, stored));
     }
 }

@@ -1,13 +1,12 @@
 //! Calls that go over all elements, of arrays in row-major order, in column-major order, and with elements between those of two
 //! axes that go backwards: what is stored then, those between too.
 
-ghost use Rattle.std.specs.Prelude.{◌≡◌, ◌∷◌, []};
-ghost use Rattle.nd_array_core.specs.Meaning.{shape_of};
 ghost use Rattle.nd_array_core.specs.along.LanesWritten.{IsSameLane};
 
+use crate::tables::table_by;
 use nd_array_core::{Array2, LaneMut};
-use nd_shape_and_slice::{Axis, ShapeBuilder};
-use nd_test_arrays::{lists, made, stores};
+use nd_shape_and_slice::Axis;
+use nd_test_arrays::{lists, stores};
 use std::hash::{DefaultHasher, Hash, Hasher};
 use std::process::Abort;
 
@@ -18,22 +17,15 @@ const LAYOUTS: [([isize; 2], &[u64], &[u64]); 3] = [
     ([-4, -2], &[4, 7, 3, 7, 2, 7, 1], &[40, 7, 30, 7, 20, 7, 10]),
 ];
 
-fn square(rt: &(impl Abort + AllocGlobal), strides: &[isize; 2], items: &[u64]) -> Array2<u64>
-    ensures { shape_of result ≡ 2 ∷ 2 ∷ [] }
-{
-    made(rt.alloc(), (2, 2).strides(strides), items).expect(rt, "made")
-}
-
 #[test]
 fn changed_in_place(rt: HostRuntime) {
     for (strides, items, tens) in LAYOUTS {
-        let mut table = square(&rt, &strides, items);
+        let mut table = table_by(&rt, 2, 2, &strides, items);
         table.map_inplace(|x| *x = x.wrapping_mul(10));
         assert!(rt; stores(table, tens));
-        let mut table = square(&rt, &strides, items);
-        assert!(rt; table.mapv_inplace(|x| x.wrapping_mul(10)).is_ok());
-        assert!(rt; stores(table, tens));
-        let table = square(&rt, &strides, items)
+        let mut table = table_by(&rt, 2, 2, &strides, items);
+        assert!(rt; table.mapv_inplace(|x| x.wrapping_mul(10)).is_ok() && stores(table, tens));
+        let table = table_by(&rt, 2, 2, &strides, items)
             .mapv_into(|x| x.wrapping_mul(10))
             .expect(&rt, "clones");
         assert!(rt; stores(table, tens));
@@ -55,10 +47,9 @@ fn added(table: &mut Array2<u64>, other: &Array2<u64>) -> bool {
 fn changed_beside_another(rt: HostRuntime) {
     for (strides, items, tens) in LAYOUTS {
         for (others, other_items, _tens) in LAYOUTS {
-            let mut table = square(&rt, &strides, items);
-            let other = square(&rt, &others, other_items);
-            assert!(rt; added(&mut table, &other));
-            assert!(rt; stores(table, tens));
+            let mut table = table_by(&rt, 2, 2, &strides, items);
+            let other = table_by(&rt, 2, 2, &others, other_items);
+            assert!(rt; added(&mut table, &other) && stores(table, tens));
         }
     }
 }
@@ -67,11 +58,10 @@ fn changed_beside_another(rt: HostRuntime) {
 fn copied_or_moved_to_another(rt: HostRuntime) {
     for (strides, _items, tens) in LAYOUTS {
         for (others, items, copied) in LAYOUTS {
-            let table = square(&rt, &strides, tens);
-            let mut other = square(&rt, &others, items);
-            assert!(rt; table.assign_to(&mut other).is_ok());
-            assert!(rt; stores(other, copied));
-            let mut other = square(&rt, &others, items);
+            let table = table_by(&rt, 2, 2, &strides, tens);
+            let mut other = table_by(&rt, 2, 2, &others, items);
+            assert!(rt; table.assign_to(&mut other).is_ok() && stores(other, copied));
+            let mut other = table_by(&rt, 2, 2, &others, items);
             table.move_into(&mut other);
             assert!(rt; stores(other, copied));
         }
@@ -93,12 +83,11 @@ fn first_taken(lane: &mut LaneMut<'_, u64>) -> u64
 fn lanes_handed_out(rt: HostRuntime) {
     let written: [&[u64]; 3] = [&[9, 2, 9, 4], &[9, 9, 2, 4], &[4, 7, 9, 7, 2, 7, 9]];
     for ((strides, items, _tens), wanted) in LAYOUTS.iter().zip(&written) {
-        let mut table = square(&rt, strides, items);
+        let mut table = table_by(&rt, 2, 2, strides, items);
         let firsts = table
             .map_axis_mut(rt.alloc(), Axis(1), first_taken)
             .expect(&rt, "memory");
-        assert!(rt; lists(&firsts, &[1, 3]));
-        assert!(rt; stores(table, wanted));
+        assert!(rt; lists(&firsts, &[1, 3]) && stores(table, wanted));
     }
 }
 
@@ -110,9 +99,9 @@ fn hashed_alike(rt: HostRuntime) {
         number.hash(&mut wanted);
     }
     for (strides, items, _tens) in LAYOUTS {
-        let table = square(&rt, &strides, items);
+        let table = table_by(&rt, 2, 2, &strides, items);
         let mut hasher = DefaultHasher::default();
         table.hash(&mut hasher);
-        assert_eq!(rt; hasher.finish(), wanted.finish());
+        assert!(rt; hasher.finish() == wanted.finish());
     }
 }

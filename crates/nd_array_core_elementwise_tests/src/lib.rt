@@ -15,3 +15,5 @@ mod mapped;
 mod moves;
 #[cfg(test)]
 mod pairs;
+#[cfg(test)]
+mod tables;

@@ -57,11 +57,11 @@ fn assigns(from: &Array2<u64>, to: &mut Array2<u64>) -> bool
 #[test]
 fn assigned_from_the_other_order(rt: HostRuntime) {
     let mut rows = wide(&rt, &[700, 1]);
-    assert!(rt; assigns(&wide(&rt, &[1, 20]), &mut rows));
-    assert!(rt; stored_in_runs(rows, 20, 700, 20));
+    assert!(rt; assigns(&wide(&rt, &[1, 20]), &mut rows) && stored_in_runs(rows, 20, 700, 20));
     let mut columns = wide(&rt, &[1, 20]);
-    assert!(rt; assigns(&wide(&rt, &[700, 1]), &mut columns));
-    assert!(rt; stored_in_runs(columns, 700, 20, 700));
+    assert!(rt;
+        assigns(&wide(&rt, &[700, 1]), &mut columns) && stored_in_runs(columns, 700, 20, 700)
+    );
 }
 
 #[test]
@@ -76,6 +76,20 @@ fn one_element_differs(rt: HostRuntime) {
     assert!(rt; rows != columns);
 }
 
+/// Whether a wide table is stored as one more than each rank, and in hundred thousands the number that the columns have
+/// there.
+fn has_both(rows: Array2<u64>) -> bool {
+    let stored = rows.into_raw_vec();
+    for rank in 0..stored.len() {
+        let column = rank / 700 + 20 * (rank % 700) + 1;
+        let number = stored[rank];
+        if number / 100_000 != column as u64 || number % 100_000 != rank as u64 + 1 {
+            return false;
+        }
+    }
+    true
+}
+
 #[test]
 fn rows_zipped_with_columns(rt: HostRuntime) {
     let columns = wide(&rt, &[1, 20]);
@@ -85,15 +99,7 @@ fn rows_zipped_with_columns(rt: HostRuntime) {
         calls = calls.saturating_add(1);
         *x = x.wrapping_add(y.wrapping_mul(100_000));
     });
-    assert_eq!(rt; calls, 14_000);
-    // what was stored was one more than the rank: without it, and in hundred thousands, the columns' number
-    for (rank, number) in rows.into_raw_vec().iter().enumerate() {
-        let column = rank / 700 + 20 * (rank % 700) + 1;
-        assert_eq!(rt;
-            (number / 100_000, number % 100_000),
-            (column as u64, rank as u64 + 1)
-        );
-    }
+    assert!(rt; calls == 14_000 && has_both(rows));
 }
 
 #[test]
@@ -103,26 +109,34 @@ fn columns_moved_into_rows(rt: HostRuntime) {
     assert!(rt; stored_in_runs(rows, 20, 700, 20));
 }
 
+/// Whether planes of 20 rows of 700 are stored as the numbers that they have where the first coordinate is first in memory.
+fn has_planes(rows: Array3<u64>) -> bool {
+    let stored = rows.into_raw_vec();
+    for rank in 0..stored.len() {
+        let (plane, row, column) = (rank / 14_000, rank / 700 % 20, rank % 700);
+        if stored[rank] != (plane + 3 * row + 60 * column + 1) as u64 {
+            return false;
+        }
+    }
+    true
+}
+
 #[test]
 fn planes_assigned(rt: HostRuntime) -> Result<(), Fail> {
     // three planes of 20 rows of 700, the first coordinate first in memory
     let columns: Array3<u64> = array_of((3, 20, 700).f(), numbers(rt.alloc(), 1, 42_000)?)?;
     let mut rows: Array3<u64> = array_of((3, 20, 700), numbers(rt.alloc(), 1, 42_000)?)?;
     assert!(rt; columns.assign_to(&mut rows).is_ok() && rows == columns);
-    let stored = rows.into_raw_vec();
-    for rank in 0..stored.len() {
-        let (plane, row, column) = (rank / 14_000, rank / 700 % 20, rank % 700);
-        assert_eq!(rt; stored[rank], (plane + 3 * row + 60 * column + 1) as u64);
-    }
+    assert!(rt; has_planes(rows));
     Ok(())
 }
 
 #[test]
 fn short_rows_assigned(rt: HostRuntime) {
     let mut rows = tall(&rt, &[4, 1], 5);
-    assert!(rt; assigns(&tall(&rt, &[1, 1200], 1), &mut rows));
-    assert!(rt; stored_in_runs(rows, 1200, 4, 1200));
+    assert!(rt;
+        assigns(&tall(&rt, &[1, 1200], 1), &mut rows) && stored_in_runs(rows, 1200, 4, 1200)
+    );
     let mut rows = tall(&rt, &[4, 1], 5);
-    assert!(rt; assigns(&tall(&rt, &[4, 1], 1), &mut rows));
-    assert!(rt; stored_in_runs(rows, 1, 4_800, 1));
+    assert!(rt; assigns(&tall(&rt, &[4, 1], 1), &mut rows) && stored_in_runs(rows, 1, 4_800, 1));
 }

@@ -68,8 +68,12 @@ fn into_either_order(rt: HostRuntime) {
         let tally = Tally::allowing(0);
         let from = counted(&rt, 2, 2, &strides, &[1, 2, 3, 4], &tally);
         let mut to = counted(&rt, 2, 2, &others, &[5, 6, 7, 8], &tally);
-        assert!(rt; moves(from, &mut to, shown) && tally.living() == Some(4));
-        assert!(rt; stored_as(to, stored) && tally.living() == Some(0));
+        assert!(rt;
+            moves(from, &mut to, shown)
+                && tally.living() == Some(4)
+                && stored_as(to, stored)
+                && tally.living() == Some(0)
+        );
     }
 }
 
@@ -79,8 +83,12 @@ fn out_of_some_rows(rt: HostRuntime) {
     let mut from = counted(&rt, 3, 2, &[2, 1], &[1, 2, 3, 4, 5, 6], &tally);
     from.slice_axis_inplace(Axis(0), Slice::new(0, None, 2));
     let mut to = counted(&rt, 2, 2, &[2, 1], &[7, 8, 9, 10], &tally);
-    assert!(rt; moves(from, &mut to, &[1, 2, 5, 6]) && tally.living() == Some(4));
-    assert!(rt; stored_as(to, &[1, 2, 5, 6]) && tally.living() == Some(0));
+    assert!(rt;
+        moves(from, &mut to, &[1, 2, 5, 6])
+            && tally.living() == Some(4)
+            && stored_as(to, &[1, 2, 5, 6])
+            && tally.living() == Some(0)
+    );
 }
 
 #[test]
@@ -88,9 +96,9 @@ fn into_a_part_of_a_table(rt: HostRuntime) {
     let tally = Tally::allowing(0);
     let from = counted(&rt, 2, 2, &[2, 1], &[1, 2, 3, 4], &tally);
     let mut table = counted(&rt, 2, 3, &[3, 1], &[5, 6, 7, 8, 9, 10], &tally);
-    {
+    let moved = {
         let mut part = table.slice_axis_mut(Axis(1), Slice::new(0, None, -2));
-        assert!(rt; moves(from, &mut part, &[1, 2, 3, 4]) && tally.living() == Some(6));
-    }
-    assert!(rt; stored_as(table, &[2, 6, 1, 4, 9, 3]) && tally.living() == Some(0));
+        moves(from, &mut part, &[1, 2, 3, 4]) && tally.living() == Some(6)
+    };
+    assert!(rt; moved && stored_as(table, &[2, 6, 1, 4, 9, 3]) && tally.living() == Some(0));
 }

@@ -4,6 +4,7 @@ ghost use Rattle.std.specs.Prelude.{◌≡◌};
 ghost use Rattle.nd_array_core.specs.base.Fresh.{EachCloneIsEqual};
 
 use crate::moves::counted;
+use crate::tables::{table, table_by};
 use nd_array_core::{Array, Array1, Array2};
 use nd_shape_and_slice::{Dimension, ShapeBuilder};
 use nd_test_arrays::{Numbered, Refusing, Tally, made, shows, stores};
@@ -61,9 +62,7 @@ fn a_row_added_to_each_row(rt: HostRuntime) {
     let table: [([isize; 2], &[u64]); 2] = [([2, 1], &[1, 2, 3, 4]), ([1, 2], &[1, 3, 2, 4])];
     let row: Array1<u64> = made(rt.alloc(), 2, &[1, 2]).expect(&rt, "made");
     for (strides, items) in table {
-        let mut image: Array2<u64> = made(rt.alloc(), (2, 2).strides(&strides), items).expect(
-            &rt, "made",
-        );
+        let mut image = table_by(&rt, 2, 2, &strides, items);
         assert!(rt; adds(rt.alloc(), &mut image, &row, &[11, 22, 13, 24]));
     }
 }
@@ -71,46 +70,44 @@ fn a_row_added_to_each_row(rt: HostRuntime) {
 #[test]
 fn a_column_and_one_element_added(rt: HostRuntime) {
     let alloc = rt.alloc();
-    let column: Array2<u64> = made(alloc, (2, 1), &[1, 2]).expect(&rt, "made");
+    let column = table(&rt, 2, 1, &[1, 2]);
     let one: Array1<u64> = made(alloc, 1, &[100]).expect(&rt, "made");
     let none: Array1<u64> = made(alloc, 2, &[1, 2]).expect(&rt, "made");
-    let mut image: Array2<u64> = made(alloc, (2, 3), &[1, 2, 3, 4, 5, 6]).expect(&rt, "made");
-    assert!(rt; adds(alloc, &mut image, &column, &[11, 12, 13, 24, 25, 26]));
+    let mut image = table(&rt, 2, 3, &[1, 2, 3, 4, 5, 6]);
     assert!(rt;
-        adds(
-            alloc,
-            &mut image,
-            &one,
-            &[1011, 1012, 1013, 1024, 1025, 1026]
-        )
+        adds(alloc, &mut image, &column, &[11, 12, 13, 24, 25, 26])
+            && adds(
+                alloc,
+                &mut image,
+                &one,
+                &[1011, 1012, 1013, 1024, 1025, 1026]
+            )
+            && !can_be_seen(&image, &none)
     );
-    assert!(rt; !can_be_seen(&image, &none));
 }
 
 #[test]
 fn both_sides_stepped_and_turned(rt: HostRuntime) {
     let alloc = rt.alloc();
     // 3 2 1 / 6 5 4 by a negative stride, and 0 1 2 / 3 4 5 in columns
-    let mut image: Array2<u64> = made(alloc, (2, 3).strides(&[3, -1]), &[1, 2, 3, 4, 5, 6]).expect(
-        &rt, "made",
-    );
-    let other: Array2<u64> = made(alloc, (2, 3).strides(&[1, 2]), &[0, 3, 1, 4, 2, 5]).expect(
-        &rt, "made",
-    );
-    assert!(rt; adds(alloc, &mut image, &other, &[3, 12, 21, 36, 45, 54]));
+    let mut image = table_by(&rt, 2, 3, &[3, -1], &[1, 2, 3, 4, 5, 6]);
+    let others = table_by(&rt, 2, 3, &[1, 2], &[0, 3, 1, 4, 2, 5]);
     // every second element of 1 to 6, and 5 3 1 by every second place from the end
     let mut part: Array1<u64> = made(alloc, 3.strides(&[2]), &[1, 2, 3, 4, 5, 6]).expect(
         &rt, "made",
     );
     let other: Array1<u64> = made(alloc, 3.strides(&[-2]), &[1, 2, 3, 4, 5]).expect(&rt, "made");
-    assert!(rt; adds(alloc, &mut part, &other, &[51, 33, 15]));
-    assert!(rt; stores(part, &[51, 2, 33, 4, 15, 6]));
+    assert!(rt;
+        adds(alloc, &mut image, &others, &[3, 12, 21, 36, 45, 54])
+            && adds(alloc, &mut part, &other, &[51, 33, 15])
+            && stores(part, &[51, 2, 33, 4, 15, 6])
+    );
 }
 
 #[test]
 fn no_elements(rt: HostRuntime) {
     let alloc = rt.alloc();
-    let mut none: Array2<u64> = made(alloc, (0, 2), &[]).expect(&rt, "made");
+    let mut none = table(&rt, 0, 2, &[]);
     let row: Array1<u64> = made(alloc, 2, &[1, 2]).expect(&rt, "made");
     assert!(rt; adds(alloc, &mut none, &row, &[]) && assigns(alloc, &mut none, &row, &[]));
 }
@@ -121,9 +118,12 @@ fn assigns_what_a_broadcast_shows(rt: HostRuntime) {
     let alloc = rt.alloc();
     let row: Array1<u64> = made(alloc, 2, &[8, 9]).expect(&rt, "made");
     let three: Array1<u64> = made(alloc, 3, &[1, 2, 3]).expect(&rt, "made");
-    let mut image: Array2<u64> = made(alloc, (2, 2).f(), &[1, 2, 3, 4]).expect(&rt, "made");
-    assert!(rt; assigns(alloc, &mut image, &row, &[8, 9, 8, 9]) && !can_be_seen(&image, &three));
-    assert!(rt; stores(image, &[8, 8, 9, 9]));
+    let mut image = table_by(&rt, 2, 2, &[1, 2], &[1, 2, 3, 4]);
+    assert!(rt;
+        assigns(alloc, &mut image, &row, &[8, 9, 8, 9])
+            && !can_be_seen(&image, &three)
+            && stores(image, &[8, 8, 9, 9])
+    );
 }
 
 #[test]
@@ -133,16 +133,20 @@ fn assigns_a_part_to_a_part(rt: HostRuntime) {
         &rt, "made",
     );
     let other: Array1<u64> = made(alloc, 3.strides(&[-1]), &[10, 20, 30]).expect(&rt, "made");
-    assert!(rt; assigns(alloc, &mut part, &other, &[30, 20, 10]));
-    assert!(rt; stores(part, &[30, 1, 20, 3, 10, 5]));
+    assert!(rt;
+        assigns(alloc, &mut part, &other, &[30, 20, 10]) && stores(part, &[30, 1, 20, 3, 10, 5])
+    );
 }
 
 #[test]
 fn assigns_to_another(rt: HostRuntime) {
-    let image: Array2<u64> = made(rt.alloc(), (2, 2), &[1, 2, 3, 4]).expect(&rt, "made");
-    let mut other: Array2<u64> = made(rt.alloc(), (2, 2).f(), &[5, 6, 7, 8]).expect(&rt, "made");
-    assert!(rt; image.assign_to(&mut other).is_ok() && shows(&other, [2, 2], &[1, 2, 3, 4]));
-    assert!(rt; stores(other, &[1, 3, 2, 4]));
+    let image = table(&rt, 2, 2, &[1, 2, 3, 4]);
+    let mut other = table_by(&rt, 2, 2, &[1, 2], &[5, 6, 7, 8]);
+    assert!(rt;
+        image.assign_to(&mut other).is_ok()
+            && shows(&other, [2, 2], &[1, 2, 3, 4])
+            && stores(other, &[1, 3, 2, 4])
+    );
 }
 
 /// Copies a row to each row of an image, and tells whether no clone was refused; None where there is no broadcast.
@@ -179,21 +183,18 @@ fn written_or_left<A: Numbered>(image: &Array2<A>, done: bool) -> bool {
 fn clones_refused_in_turn(rt: HostRuntime) {
     for allowed in 0..=4u64 {
         let tally = Tally::allowing(allowed);
-        {
+        let right = {
             let mut image = counted(&rt, 2, 2, &[2, 1], &[1, 2, 3, 4], &tally);
             let items = Refusing::listed(rt.alloc(), &[8, 9], &tally);
             let row: Array1<Refusing<'_>> = match items {
                 Ok(items) => Array1::from_shape_vec(2, items).expect(&rt, "shape"),
                 Err(_) => rt.panic("memory"),
             };
-            let done = row_assigned(&mut image, &row);
-            assert_eq!(rt;
-                (done, tally.left(), tally.living()),
-                (Some(allowed == 4), 0, Some(6)),
-                "{allowed} clones"
-            );
-            assert!(rt; written_or_left(&image, allowed == 4), "{allowed} clones");
-        }
-        assert_eq!(rt; tally.living(), Some(0), "{allowed} clones");
+            row_assigned(&mut image, &row) == Some(allowed == 4)
+                && tally.left() == 0
+                && tally.living() == Some(6)
+                && written_or_left(&image, allowed == 4)
+        };
+        assert!(rt; right && tally.living() == Some(0));
     }
 }

@@ -29,31 +29,48 @@ fn repeats(
     }
 }
 
+// Whether each list of a table does that.
+fn all_repeat(alloc: Global, table: &[(&[u64], (usize, usize), bool, &[u64])]) -> bool {
+    for (items, shape, is_view, wanted) in table {
+        let list: Option<Array1<u64>> = made(alloc, items.len(), *items);
+        let right = match list {
+            Some(list) => repeats(alloc, &list, *shape, *is_view, *wanted),
+            None => false,
+        };
+        if !right {
+            return false;
+        }
+    }
+    true
+}
+
 #[test]
 fn lists_repeated_in_a_line(rt: HostRuntime) {
     let table: [(&[u64], (usize, usize), bool, &[u64]); 2] = [
         (&[5], (2, 3), true, &[5, 5, 5, 5, 5, 5]),
         (&[1, 2], (3, 2), false, &[1, 2, 1, 2, 1, 2]),
     ];
-    for (items, shape, is_view, wanted) in table {
-        let list: Array1<u64> = made(rt.alloc(), items.len(), items).expect(&rt, "made");
-        assert!(rt; repeats(rt.alloc(), &list, shape, is_view, wanted));
+    assert!(rt; all_repeat(rt.alloc(), &table));
+}
+
+// Whether the longest broadcast of a list ends with 5, and as a matrix is a view whose strides are 0: nothing is walked.
+fn is_longest(alloc: Global, five: &Array1<u64>) -> bool {
+    match five.broadcast(9223372036854775807) {
+        Some(view) => {
+            view.last().copied() == Some(5)
+                && match view.to_shape(alloc, (7, 1317624576693539401)) {
+                    Ok(matrix) => matrix.is_view() && matrix.view().strides() == [0, 0].as_slice(),
+                    Err(_) => false,
+                }
+        }
+        None => false,
     }
 }
 
-// The longest broadcast as a matrix: nothing is walked.
 #[test]
 fn the_longest_broadcast_as_a_matrix(rt: HostRuntime) {
     let five: Array1<u64> = made(rt.alloc(), 1, &[5]).expect(&rt, "made");
-    let view = match five.broadcast(9223372036854775807) {
-        Some(view) => view,
-        None => rt.panic("none"),
-    };
-    assert_eq!(rt; view.last().copied(), Some(5));
-    match view.to_shape(rt.alloc(), (7, 1317624576693539401)) {
-        Ok(matrix) => assert!(rt; matrix.is_view() && matrix.view().strides() == [0, 0].as_slice()),
-        Err(_) => rt.panic("refused"),
-    }
+    assert!(rt; is_longest(rt.alloc(), &five));
 }
 
 #[test]

@@ -59,17 +59,17 @@ fn every_second_of_a_last_axis(rt: HostRuntime) -> Result<(), Fail> {
     let columns = [
         0, 24, 8, 32, 16, 40, 2, 26, 10, 34, 18, 42, 4, 28, 12, 36, 20, 44, 6, 30, 14, 38, 22, 46,
     ];
-    assert!(rt; reshapes(alloc, &half, 24, true, &[2], &rows));
-    assert!(rt; reshapes(alloc, &half, (6, 2, 2), true, &[8, 4, 2], &rows));
     assert!(rt;
-        reshapes(
-            alloc,
-            &half,
-            (24, Order::ColumnMajor),
-            false,
-            &[1],
-            &columns
-        )
+        reshapes(alloc, &half, 24, true, &[2], &rows)
+            && reshapes(alloc, &half, (6, 2, 2), true, &[8, 4, 2], &rows)
+            && reshapes(
+                alloc,
+                &half,
+                (24, Order::ColumnMajor),
+                false,
+                &[1],
+                &columns
+            )
     );
     Ok(())
 }
@@ -79,9 +79,11 @@ fn two_columns_of_three(rt: HostRuntime) {
     let alloc = rt.alloc();
     let whole = one_to_six(&rt);
     let two = whole.slice_axis(Axis(1), Slice::new(0, Some(2), 1));
-    assert!(rt; reshapes(alloc, &two, 4, false, &[1], &[1, 2, 4, 5]));
-    assert!(rt; reshapes(alloc, &two, (2, 1, 2), true, &[3, 0, 1], &[1, 2, 4, 5]));
-    assert!(rt; is_no_shape(&two.to_shape(alloc, 5)));
+    assert!(rt;
+        reshapes(alloc, &two, 4, false, &[1], &[1, 2, 4, 5])
+            && reshapes(alloc, &two, (2, 1, 2), true, &[3, 0, 1], &[1, 2, 4, 5])
+            && is_no_shape(&two.to_shape(alloc, 5))
+    );
 }
 
 #[test]
@@ -96,8 +98,10 @@ fn a_transpose_in_both_orders(rt: HostRuntime) {
     let whole = one_to_six(&rt);
     let turned = whole.t();
     let columns = (6, Order::ColumnMajor);
-    assert!(rt; reshapes(alloc, &turned, columns, true, &[1], &[1, 2, 3, 4, 5, 6]));
-    assert!(rt; reshapes(alloc, &turned, 6, false, &[1], &[1, 4, 2, 5, 3, 6]));
+    assert!(rt;
+        reshapes(alloc, &turned, columns, true, &[1], &[1, 2, 3, 4, 5, 6])
+            && reshapes(alloc, &turned, 6, false, &[1], &[1, 4, 2, 5, 3, 6])
+    );
 }
 
 // Whether an array in a line, in one of the orders, is a view or not, and has these elements.
@@ -125,10 +129,7 @@ fn flattened_in_both_orders(rt: HostRuntime) {
             Order::RowMajor,
             true,
             &[1, 2, 3, 4, 5, 6, 7, 8]
-        )
-    );
-    assert!(rt;
-        flattens(
+        ) && flattens(
             alloc,
             &pairs,
             Order::ColumnMajor,
@@ -144,14 +145,15 @@ fn storage_kept(rt: HostRuntime) {
     let square = line
         .into_shape_clone(rt.alloc(), (2, 2))
         .expect(&rt, "refused");
-    assert!(rt; lies(&square, [-2, -1], [2, 2], &[4, 3, 2, 1]));
-    let stored = square.as_slice_memory_order();
-    assert_eq!(rt; stored, Some([1, 2, 3, 4].as_slice()));
+    assert!(rt;
+        lies(&square, [-2, -1], [2, 2], &[4, 3, 2, 1])
+            && square.as_slice_memory_order() == Some([1, 2, 3, 4].as_slice())
+    );
 }
 
 #[test]
 fn columns_copied_to_a_line(rt: HostRuntime) {
     let square: Array2<u64> = made(rt.alloc(), (2, 2).f(), &[1, 2, 3, 4]).expect(&rt, "made");
     let flat = square.into_flat(rt.alloc()).expect(&rt, "refused");
-    assert_eq!(rt; flat.as_slice(), Some([1, 3, 2, 4].as_slice()));
+    assert!(rt; flat.as_slice() == Some([1, 3, 2, 4].as_slice()));
 }

@@ -4,31 +4,67 @@ use crate::shown::{lies, one_to_six};
 use nd_array_core::{Array, Array1, Array2, Array3};
 use nd_shape_and_slice::{Axis, Dimension, ErrorKind, Order, ShapeBuilder, ShapeError};
 use nd_test_arrays::{made, shows};
+use std::alloc::Global;
 use std::process::Abort;
 
-// Why a reshape was refused.
-fn cause<D: Dimension>(outcome: Result<Array<u64, D>, ShapeError>) -> Option<ErrorKind> {
+// Whether a reshape was refused for this cause.
+fn is_refused<D: Dimension>(outcome: Result<Array<u64, D>, ShapeError>, wanted: ErrorKind) -> bool {
     match outcome {
-        Ok(_) => None,
-        Err(error) => Some(error.kind()),
+        Ok(_) => false,
+        Err(error) => error.kind() == wanted,
     }
+}
+
+// Whether there is a table that lies so.
+fn lies_there(
+    outcome: Result<Array2<u64>, ShapeError>,
+    strides: [isize; 2],
+    shape: [usize; 2],
+    wanted: &[u64],
+) -> bool {
+    match outcome {
+        Ok(table) => lies(&table, strides, shape, wanted),
+        Err(_) => false,
+    }
+}
+
+// Whether there is a list of 1 to 6, stored so.
+fn is_line(outcome: Result<Array1<u64>, ShapeError>) -> bool {
+    match outcome {
+        Ok(list) => list.as_slice() == Some([1, 2, 3, 4, 5, 6].as_slice()),
+        Err(_) => false,
+    }
+}
+
+// 1 4 / 2 5 / 3 6, the first coordinate first in memory.
+fn turned(rt: &(impl Abort + AllocGlobal)) -> Array2<u64> {
+    one_to_six(rt).reversed_axes()
 }
 
 #[test]
 fn reversed_axes_in_both_orders(rt: HostRuntime) {
-    let refused = cause(
-        one_to_six(&rt)
-            .reversed_axes()
-            .into_shape_with_order((2, 3)),
+    let layout = ErrorKind::IncompatibleLayout;
+    let shape = ErrorKind::IncompatibleShape;
+    let columns = turned(&rt).into_shape_with_order(((2, 3), Order::ColumnMajor));
+    assert!(rt;
+        is_refused(turned(&rt).into_shape_with_order((2, 3)), layout)
+            && is_refused(turned(&rt).into_shape_with_order(5), shape)
+            && lies_there(columns, [1, 2], [2, 3], &[1, 3, 5, 2, 4, 6])
     );
-    assert_eq!(rt; refused, Some(ErrorKind::IncompatibleLayout));
-    let refused = cause(one_to_six(&rt).reversed_axes().into_shape_with_order(5));
-    assert_eq!(rt; refused, Some(ErrorKind::IncompatibleShape));
-    let columns = one_to_six(&rt)
-        .reversed_axes()
-        .into_shape_with_order(((2, 3), Order::ColumnMajor))
-        .expect(&rt, "shape");
-    assert!(rt; lies(&columns, [1, 2], [2, 3], &[1, 3, 5, 2, 4, 6]));
+}
+
+// Whether a table in another shape is stored as 1 to 6 in a line, and has no shape with more elements.
+fn is_line_of(rows: Array2<u64>) -> bool {
+    match rows.into_shape_with_order((6, Order::RowMajor)) {
+        Ok(list) => {
+            list.as_slice() == Some([1, 2, 3, 4, 5, 6].as_slice())
+                && is_refused(
+                    list.into_shape_with_order((3, usize::MAX)),
+                    ErrorKind::IncompatibleShape,
+                )
+        }
+        Err(_) => false,
+    }
 }
 
 #[test]
@@ -36,13 +72,7 @@ fn a_new_array_in_another_shape(rt: HostRuntime) {
     let rows = one_to_six(&rt)
         .into_shape_with_order((3, 2))
         .expect(&rt, "shape");
-    assert!(rt; lies(&rows, [2, 1], [3, 2], &[1, 2, 3, 4, 5, 6]));
-    let list = rows
-        .into_shape_with_order((6, Order::RowMajor))
-        .expect(&rt, "shape");
-    assert_eq!(rt; list.as_slice(), Some([1, 2, 3, 4, 5, 6].as_slice()));
-    let refused = cause(list.into_shape_with_order((3, usize::MAX)));
-    assert_eq!(rt; refused, Some(ErrorKind::IncompatibleShape));
+    assert!(rt; lies(&rows, [2, 1], [3, 2], &[1, 2, 3, 4, 5, 6]) && is_line_of(rows));
 }
 
 #[test]
@@ -50,10 +80,7 @@ fn columns_in_a_line(rt: HostRuntime) {
     let columns: Array2<u64> = made(rt.alloc(), (2, 3).f(), &[1, 2, 3, 4, 5, 6]).expect(
         &rt, "made",
     );
-    let list = columns
-        .into_shape_with_order((6, Order::ColumnMajor))
-        .expect(&rt, "shape");
-    assert_eq!(rt; list.as_slice(), Some([1, 2, 3, 4, 5, 6].as_slice()));
+    assert!(rt; is_line(columns.into_shape_with_order((6, Order::ColumnMajor))));
 }
 
 #[test]
@@ -63,28 +90,34 @@ fn no_elements_in_another_shape(rt: HostRuntime) {
         .reversed_axes()
         .into_shape_with_order((2, 0, 7))
         .expect(&rt, "shape");
-    assert_eq!(rt; other.shape(), [2, 0, 7].as_slice());
-    assert_eq!(rt; other.strides(), [0, 0, 0].as_slice());
-    assert!(rt; other.is_standard_layout() && other.as_slice().is_some());
+    assert!(rt;
+        other.shape() == [2, 0, 7].as_slice()
+            && other.strides() == [0, 0, 0].as_slice()
+            && other.is_standard_layout()
+            && other.as_slice().is_some()
+    );
 }
 
 #[test]
 fn the_first_order_that_fits(rt: HostRuntime) {
-    let rows = one_to_six(&rt).into_shape((3, 2)).expect(&rt, "shape");
-    assert!(rt; lies(&rows, [2, 1], [3, 2], &[1, 2, 3, 4, 5, 6]));
-    let columns = one_to_six(&rt)
-        .reversed_axes()
-        .into_shape((2, 3))
-        .expect(&rt, "shape");
-    assert!(rt; lies(&columns, [1, 2], [2, 3], &[1, 3, 5, 2, 4, 6]));
+    let layout = ErrorKind::IncompatibleLayout;
+    let shape = ErrorKind::IncompatibleShape;
     let mut inverted = one_to_six(&rt);
     inverted.invert_axis(Axis(0));
-    assert_eq!(rt;
-        cause(inverted.into_shape(6)),
-        Some(ErrorKind::IncompatibleLayout)
+    assert!(rt;
+        lies_there(
+            one_to_six(&rt).into_shape((3, 2)),
+            [2, 1],
+            [3, 2],
+            &[1, 2, 3, 4, 5, 6]
+        ) && lies_there(
+            turned(&rt).into_shape((2, 3)),
+            [1, 2],
+            [2, 3],
+            &[1, 3, 5, 2, 4, 6]
+        ) && is_refused(inverted.into_shape(6), layout)
+            && is_refused(one_to_six(&rt).into_shape((2, 2)), shape)
     );
-    let refused = cause(one_to_six(&rt).into_shape((2, 2)));
-    assert_eq!(rt; refused, Some(ErrorKind::IncompatibleShape));
 }
 
 // A shape, its elements, from which axis to which one, whether they are merged, and the shape then.
@@ -96,45 +129,68 @@ fn axes_merged(rt: HostRuntime) {
         ((3, 1), &[1, 2, 3], 0, true, [1, 3]),
         ((3, 0), &[], 0, true, [0, 0]),
     ];
+    assert!(rt; all_merge(rt.alloc(), &table));
+}
+
+// Whether axis 0 is merged into the last one, or the last one into it, as a row says, and the table is then as it says.
+fn merges(rows: &mut Array2<u64>, axis: usize, merged: bool) -> bool {
+    let (_rows, _columns) = rows.dim();
+    axis < 2 && rows.merge_axes(Axis(axis), Axis(1 - axis)) == merged
+}
+
+fn all_merge(alloc: Global, table: &[((usize, usize), &[u64], usize, bool, [usize; 2])]) -> bool {
     for (shape, items, axis, merged, extents) in table {
-        let mut rows: Array2<u64> = made(rt.alloc(), shape, items).expect(&rt, "made");
-        let (_rows, _columns) = rows.dim();
-        let done = if axis == 0 {
-            rows.merge_axes(Axis(0), Axis(1))
-        } else {
-            rows.merge_axes(Axis(1), Axis(0))
+        let made: Option<Array2<u64>> = made(alloc, *shape, *items);
+        let right = match made {
+            Some(made) => {
+                let mut rows = made;
+                merges(&mut rows, *axis, *merged) && shows(&rows, *extents, *items)
+            }
+            None => false,
         };
-        assert!(rt; done == merged && shows(&rows, extents, items));
+        if !right {
+            return false;
+        }
+    }
+    true
+}
+
+// Whether an axis isn't merged with itself where its one element is repeated.
+fn stays(one: &Array1<u64>) -> bool {
+    match one.view().broadcast_move(3) {
+        Some(view) => {
+            let mut wide = view;
+            let _count = wide.dim();
+            !wide.merge_axes(Axis(0), Axis(0)) && wide.shape() == [3].as_slice()
+        }
+        None => false,
     }
 }
 
 #[test]
 fn an_axis_merged_with_itself(rt: HostRuntime) {
     let mut one: Array1<u64> = made(rt.alloc(), 1, &[5]).expect(&rt, "made");
-    match one.view().broadcast_move(3) {
-        Some(view) => {
-            let mut wide = view;
-            let _count = wide.dim();
-            assert!(rt; !wide.merge_axes(Axis(0), Axis(0)) && wide.shape() == [3].as_slice());
-        }
-        None => rt.panic("no broadcast"),
-    }
+    let stays = stays(&one);
     let _count = one.dim();
-    assert!(rt; one.merge_axes(Axis(0), Axis(0)) && one.shape() == [1].as_slice());
+    assert!(rt; stays && one.merge_axes(Axis(0), Axis(0)) && one.shape() == [1].as_slice());
+}
+
+// Whether a table steps furthest along this axis.
+fn steps_along(table: &Array2<u64>, axis: usize) -> bool {
+    let (_rows, _columns) = table.dim();
+    table.max_stride_axis().0 == axis
 }
 
 #[test]
 fn the_axis_that_steps_furthest(rt: HostRuntime) {
     let mut rows = one_to_six(&rt);
-    assert_eq!(rt; rows.max_stride_axis().0, 0);
+    let fresh = steps_along(&rows, 0);
     rows.invert_axis(Axis(0));
-    assert_eq!(rt; rows.max_stride_axis().0, 0);
+    let inverted = steps_along(&rows, 0);
     rows.swap_axes(0, 1);
-    assert_eq!(rt; rows.max_stride_axis().0, 1);
-    let table: [((usize, usize), &[u64], usize); 2] = [((1, 3), &[1, 2, 3], 1), ((1, 1), &[1], 0)];
-    for (shape, items, axis) in table {
-        let row: Array2<u64> = made(rt.alloc(), shape, items).expect(&rt, "made");
-        let (_rows, _columns) = row.dim();
-        assert_eq!(rt; row.max_stride_axis().0, axis);
-    }
+    let row: Array2<u64> = made(rt.alloc(), (1, 3), &[1, 2, 3]).expect(&rt, "made");
+    let one: Array2<u64> = made(rt.alloc(), (1, 1), &[1]).expect(&rt, "made");
+    assert!(rt;
+        fresh && inverted && steps_along(&rows, 1) && steps_along(&row, 1) && steps_along(&one, 0)
+    );
 }

@@ -3,8 +3,7 @@
 ghost use Rattle.std.specs.Prelude.{◌≡◌, ◌∷◌, []};
 ghost use Rattle.nd_array_core.specs.Meaning.{shape_of};
 
-use nd_array_core::{Array2, ArrayBase, Data};
-use nd_shape_and_slice::Ix2;
+use nd_array_core::{Array2, ArrayView2};
 use nd_test_arrays::{made, shows};
 use std::process::Abort;
 
@@ -16,11 +15,11 @@ pub fn one_to_six(rt: &(impl Abort + AllocGlobal)) -> Array2<u64>
 }
 
 /// Whether a table has these strides, this shape, and these numbers row by row.
-pub fn lies<S: Data<Elem = u64>>(
-    table: &ArrayBase<S, Ix2>,
-    strides: [isize; 2],
-    shape: [usize; 2],
-    wanted: &[u64],
-) -> bool {
+pub fn lies(table: &Array2<u64>, strides: [isize; 2], shape: [usize; 2], wanted: &[u64]) -> bool {
     table.strides() == strides.as_slice() && shows(table, shape, wanted)
+}
+
+/// Whether a table to be read has this shape, and these numbers row by row.
+pub fn shows_view(table: &ArrayView2<'_, u64>, shape: [usize; 2], wanted: &[u64]) -> bool {
+    shows(table, shape, wanted)
 }

@@ -71,6 +71,8 @@ fn are_copied(rt: &(impl Abort + AllocGlobal), columns: Slice, wanted: &[u64]) -
 
 #[test]
 fn parts_are_copied(rt: HostRuntime) {
-    assert!(rt; are_copied(&rt, Slice::new(0, Some(2), 1), &[1, 2, 4, 5]));
-    assert!(rt; are_copied(&rt, Slice::new(0, None, -2), &[3, 1, 6, 4]));
+    assert!(rt;
+        are_copied(&rt, Slice::new(0, Some(2), 1), &[1, 2, 4, 5])
+            && are_copied(&rt, Slice::new(0, None, -2), &[3, 1, 6, 4])
+    );
 }

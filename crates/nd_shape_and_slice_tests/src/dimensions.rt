@@ -22,46 +22,73 @@ fn names<D, I: NdIndex<D>>(index: I, coordinates: &[usize]) -> bool {
 
 #[test]
 fn shapes_give_dimensions(rt: HostRuntime) {
-    assert!(rt; gives((), &[]) && gives([0; 0], &[]));
-    assert!(rt; gives(7, &[7]) && gives((7,), &[7]) && gives([7], &[7]));
-    assert!(rt; gives((7, 0), &[7, 0]) && gives([7, 0], &[7, 0]));
-    assert!(rt; gives((1, 2, 3), &[1, 2, 3]) && gives([1, 2, 3], &[1, 2, 3]));
-    assert!(rt; gives((1, 2, 3, 4), &[1, 2, 3, 4]));
-    assert!(rt; gives([1, 2, 3, 4], &[1, 2, 3, 4]));
-    assert!(rt; gives((1, 2, 3, 4, 5), &[1, 2, 3, 4, 5]));
-    assert!(rt; gives([1, 2, 3, 4, 5], &[1, 2, 3, 4, 5]));
-    assert!(rt; gives((1, 2, 3, 4, 5, 6), &[1, 2, 3, 4, 5, 6]));
-    assert!(rt; gives([1, 2, 3, 4, 5, 6], &[1, 2, 3, 4, 5, 6]));
-    assert!(rt; gives((2, 3).into_dimension(), &[2, 3]));
-    assert!(rt; gives(IxDyn::new(&[usize::MAX]), &[usize::MAX]));
+    assert!(rt;
+        gives((), &[])
+            && gives([0; 0], &[])
+            && gives(7, &[7])
+            && gives((7,), &[7])
+            && gives([7], &[7])
+            && gives((7, 0), &[7, 0])
+            && gives([7, 0], &[7, 0])
+            && gives((1, 2, 3), &[1, 2, 3])
+            && gives([1, 2, 3], &[1, 2, 3])
+            && gives((1, 2, 3, 4), &[1, 2, 3, 4])
+            && gives([1, 2, 3, 4], &[1, 2, 3, 4])
+            && gives((1, 2, 3, 4, 5), &[1, 2, 3, 4, 5])
+            && gives([1, 2, 3, 4, 5], &[1, 2, 3, 4, 5])
+            && gives((1, 2, 3, 4, 5, 6), &[1, 2, 3, 4, 5, 6])
+            && gives([1, 2, 3, 4, 5, 6], &[1, 2, 3, 4, 5, 6])
+            && gives((2, 3).into_dimension(), &[2, 3])
+            && gives(IxDyn::new(&[usize::MAX]), &[usize::MAX])
+    );
 }
 
 #[test]
 fn indexes_name_coordinates(rt: HostRuntime) {
-    assert!(rt; names::<Ix1, _>(4, &[4]) && names::<Ix1, _>([4], &[4]));
-    assert!(rt; names::<Ix0, _>([], &[]) && names::<Ix2, _>([1, 2], &[1, 2]));
-    assert!(rt; names::<Ix2, _>((1, 2).into_dimension(), &[1, 2]));
-    assert!(rt; names::<IxDyn, _>([1, 2, 3], &[1, 2, 3]));
-    assert!(rt; names::<IxDyn, _>([usize::MAX, 0].as_slice(), &[usize::MAX, 0]));
-    assert!(rt; names::<IxDyn, _>(IxDyn::new(&[5, 6]), &[5, 6]));
+    assert!(rt;
+        names::<Ix1, _>(4, &[4])
+            && names::<Ix1, _>([4], &[4])
+            && names::<Ix0, _>([], &[])
+            && names::<Ix2, _>([1, 2], &[1, 2])
+            && names::<Ix2, _>((1, 2).into_dimension(), &[1, 2])
+            && names::<IxDyn, _>([1, 2, 3], &[1, 2, 3])
+            && names::<IxDyn, _>([usize::MAX, 0].as_slice(), &[usize::MAX, 0])
+            && names::<IxDyn, _>(IxDyn::new(&[5, 6]), &[5, 6])
+    );
+}
+
+// Whether a dimension can have these lengths.
+fn has_dimension<D: Dimension>(lengths: &[usize]) -> bool {
+    D::from_lengths(lengths).is_some()
+}
+
+// Whether two lengths are those of a dimension of two axes, and given back as one of any number.
+fn are_two(lengths: &[usize], pair: (usize, usize)) -> bool {
+    let back = match IxDyn::from_dimension(&pair.into_dimension()) {
+        Some(dim) => same(dim.slice(), lengths),
+        None => false,
+    };
+    back && Ix2::from_dimension(&IxDyn::new(&[pair.0, pair.1])) == Some(pair.into_dimension())
 }
 
 #[test]
 fn numbers_of_axes(rt: HostRuntime) {
-    assert!(rt; Ix0::NDIM == Some(0) && Ix6::NDIM == Some(6) && IxDyn::NDIM == None);
-    assert_eq!(rt; MAX_AXES, 32);
-    assert!(rt; IxDyn::new(&[]).ndim() == 0 && IxDyn::new(&[1; 32]).ndim() == 32);
-    assert!(rt; same(IxDyn::new(&[7; 32]).slice(), &[7; 32]));
-    assert!(rt; IxDyn::from_lengths(&[1; 32]).is_some());
-    assert!(rt; IxDyn::from_lengths(&[1; 33]).is_none());
-    assert!(rt; Ix2::from_lengths(&[2, 3]).is_some());
-    assert!(rt; Ix2::from_lengths(&[2]).is_none() && Ix0::from_lengths(&[1]).is_none());
-    assert!(rt; Ix2::from_dimension(&IxDyn::new(&[4, 5])) == Some((4, 5).into_dimension()));
-    assert!(rt; Ix2::from_dimension(&IxDyn::new(&[4])) == None);
-    match IxDyn::from_dimension(&(4, 5).into_dimension()) {
-        Some(dim) => assert!(rt; same(dim.slice(), &[4, 5])),
-        None => unreachable!(),
-    }
+    assert!(rt;
+        Ix0::NDIM == Some(0)
+            && Ix6::NDIM == Some(6)
+            && IxDyn::NDIM == None
+            && MAX_AXES == 32
+            && IxDyn::new(&[]).ndim() == 0
+            && IxDyn::new(&[1; 32]).ndim() == 32
+            && same(IxDyn::new(&[7; 32]).slice(), &[7; 32])
+            && has_dimension::<IxDyn>(&[1; 32])
+            && !has_dimension::<IxDyn>(&[1; 33])
+            && has_dimension::<Ix2>(&[2, 3])
+            && !has_dimension::<Ix2>(&[2])
+            && !has_dimension::<Ix0>(&[1])
+            && are_two(&[4, 5], (4, 5))
+            && Ix2::from_dimension(&IxDyn::new(&[4])) == None
+    );
 }
 
 #[test]
@@ -78,25 +105,26 @@ fn lengths_are_put(rt: HostRuntime) {
 
 #[test]
 fn lengths_as_patterns(rt: HostRuntime) {
-    assert_eq!(rt; ().into_dimension().into_pattern(), ());
-    assert_eq!(rt; 7.into_dimension().into_pattern(), 7);
-    assert_eq!(rt; (7, 8).into_dimension().into_pattern(), (7, 8));
-    assert_eq!(rt; (1, 2, 3).into_dimension().into_pattern(), (1, 2, 3));
-    assert_eq!(rt; (1, 2, 3, 4).into_dimension().into_pattern(), (1, 2, 3, 4));
-    assert!(rt; (1, 2, 3, 4, 5).into_dimension().into_pattern() == (1, 2, 3, 4, 5));
-    assert!(rt; (1, 2, 3, 4, 5, 6).into_dimension().into_pattern() == (1, 2, 3, 4, 5, 6));
-    assert!(rt; same(IxDyn::new(&[3, 4]).into_pattern().slice(), &[3, 4]));
+    assert!(rt;
+        ().into_dimension().into_pattern() == ()
+            && 7.into_dimension().into_pattern() == 7
+            && (7, 8).into_dimension().into_pattern() == (7, 8)
+            && (1, 2, 3).into_dimension().into_pattern() == (1, 2, 3)
+            && (1, 2, 3, 4).into_dimension().into_pattern() == (1, 2, 3, 4)
+            && (1, 2, 3, 4, 5).into_dimension().into_pattern() == (1, 2, 3, 4, 5)
+            && (1, 2, 3, 4, 5, 6).into_dimension().into_pattern() == (1, 2, 3, 4, 5, 6)
+            && same(IxDyn::new(&[3, 4]).into_pattern().slice(), &[3, 4])
+    );
 }
 
 #[test]
 fn sizes_of_dimensions(rt: HostRuntime) {
-    assert_eq!(rt; ().into_dimension().size(), 1);
-    assert_eq!(rt; (3, 2, 4).into_dimension().size(), 24);
-    assert_eq!(rt;
-        IxDyn::new(&[9223372036854775807]).size(),
-        9223372036854775807
+    assert!(rt;
+        ().into_dimension().size() == 1
+            && (3, 2, 4).into_dimension().size() == 24
+            && IxDyn::new(&[9223372036854775807]).size() == 9223372036854775807
+            && IxDyn::new(&[9223372036854775807, 0]).size() == 0
     );
-    assert_eq!(rt; IxDyn::new(&[9223372036854775807, 0]).size(), 0);
 }
 
 #[test]
@@ -111,44 +139,47 @@ fn strides_are_put(rt: HostRuntime) {
     assert!(rt; dynamic.slice() == [isize::MAX, 0].as_slice());
 }
 
+// Whether a shape without one of its axes has these lengths.
+fn leaves<I: IntoDimension>(shape: I, axis: usize, lengths: &[usize]) -> bool
+where
+    I::Dim: RemoveAxis,
+{
+    let dim = shape.into_dimension();
+    axis < dim.ndim() && same(dim.remove_axis(Axis(axis)).slice(), lengths)
+}
+
 #[test]
 fn axes_are_taken_out(rt: HostRuntime) {
-    assert!(rt; same(7.into_dimension().remove_axis(Axis(0)).slice(), &[]));
-    assert!(rt; same((1, 2).into_dimension().remove_axis(Axis(1)).slice(), &[1]));
     assert!(rt;
-        same(
-            (1, 2, 3).into_dimension().remove_axis(Axis(1)).slice(),
-            &[1, 3]
-        )
+        leaves(7, 0, &[])
+            && leaves((1, 2), 1, &[1])
+            && leaves((1, 2, 3), 1, &[1, 3])
+            && leaves((1, 2, 3, 4), 0, &[2, 3, 4])
+            && leaves((1, 2, 3, 4, 5), 4, &[1, 2, 3, 4])
+            && leaves((1, 2, 3, 4, 5, 6), 2, &[1, 2, 4, 5, 6])
+            && leaves(IxDyn::new(&[5; 32]), 31, &[5; 31])
     );
-    let four = (1, 2, 3, 4).into_dimension();
-    assert!(rt; same(four.remove_axis(Axis(0)).slice(), &[2, 3, 4]));
-    let five = (1, 2, 3, 4, 5).into_dimension();
-    assert!(rt; same(five.remove_axis(Axis(4)).slice(), &[1, 2, 3, 4]));
-    let six = (1, 2, 3, 4, 5, 6).into_dimension();
-    assert!(rt; same(six.remove_axis(Axis(2)).slice(), &[1, 2, 4, 5, 6]));
-    assert!(rt; same(IxDyn::new(&[5; 32]).remove_axis(Axis(31)).slice(), &[5; 31]));
 }
 
 #[test]
 fn axes_are_put_in(rt: HostRuntime) {
-    assert!(rt; same(().into_dimension().insert_axis(Axis(0)).slice(), &[1]));
-    assert!(rt; same(7.into_dimension().insert_axis(Axis(1)).slice(), &[7, 1]));
-    assert!(rt;
-        same(
-            (7, 8).into_dimension().insert_axis(Axis(1)).slice(),
-            &[7, 1, 8]
-        )
-    );
     let three = (7, 8, 9).into_dimension();
-    assert!(rt; same(three.insert_axis(Axis(0)).slice(), &[1, 7, 8, 9]));
     let four = (5, 6, 7, 8).into_dimension();
-    assert!(rt; same(four.insert_axis(Axis(4)).slice(), &[5, 6, 7, 8, 1]));
     let five = (5, 6, 7, 8, 9).into_dimension();
-    assert!(rt; same(five.insert_axis(Axis(2)).slice(), &[5, 6, 1, 7, 8, 9]));
     let six = (4, 5, 6, 7, 8, 9).into_dimension();
-    assert!(rt; same(six.insert_axis(Axis(6)).slice(), &[4, 5, 6, 7, 8, 9, 1]));
     let most = IxDyn::new(&[1; 31]).insert_axis(Axis(31));
-    assert!(rt; same(most.slice(), &[1; 32]));
-    assert_eq!(rt; Axis(3).index(), 3);
+    assert!(rt;
+        same(().into_dimension().insert_axis(Axis(0)).slice(), &[1])
+            && same(7.into_dimension().insert_axis(Axis(1)).slice(), &[7, 1])
+            && same(
+                (7, 8).into_dimension().insert_axis(Axis(1)).slice(),
+                &[7, 1, 8]
+            )
+            && same(three.insert_axis(Axis(0)).slice(), &[1, 7, 8, 9])
+            && same(four.insert_axis(Axis(4)).slice(), &[5, 6, 7, 8, 1])
+            && same(five.insert_axis(Axis(2)).slice(), &[5, 6, 1, 7, 8, 9])
+            && same(six.insert_axis(Axis(6)).slice(), &[4, 5, 6, 7, 8, 9, 1])
+            && same(most.slice(), &[1; 32])
+            && Axis(3).index() == 3
+    );
 }

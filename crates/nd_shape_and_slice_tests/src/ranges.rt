@@ -11,6 +11,16 @@ fn part(start: isize, end: Option<isize>, step: isize) -> SliceInfoElem {
     SliceInfoElem::Slice { start, end, step }
 }
 
+// Whether each slice is the one from this start to this end by this step.
+fn are_slices(rows: &[(Slice, isize, Option<isize>, isize)]) -> bool {
+    for (slice, start, end, step) in rows {
+        if *slice != Slice::new(*start, *end, *step) {
+            return false;
+        }
+    }
+    true
+}
+
 #[test]
 fn ranges_as_slices(rt: HostRuntime) {
     let rows = [
@@ -28,12 +38,17 @@ fn ranges_as_slices(rt: HostRuntime) {
         (Slice::between(2, 5), 2, Some(5), 1),
         (Slice::between(0, LONGEST), 0, Some(isize::MAX), 1),
     ];
-    for (slice, start, end, step) in rows {
-        assert!(rt;
-            slice == Slice::new(start, end, step),
-            "from {start} by {step}"
-        );
+    assert!(rt; are_slices(&rows));
+}
+
+// Whether the slices of each row are equal.
+fn are_equal(rows: &[(Slice, Slice)]) -> bool {
+    for (slice, other) in rows {
+        if *slice != *other {
+            return false;
+        }
     }
+    true
 }
 
 #[test]
@@ -50,9 +65,7 @@ fn ranges_of_each_type(rt: HostRuntime) {
         (Slice::from(-3isize..=-1), Slice::from(-3i32..=-1)),
         (Slice::from(..=-2isize), Slice::from(..=-2i32)),
     ];
-    for (slice, other) in rows {
-        assert!(rt; slice == other, "from {} by {}", slice.start, slice.step);
-    }
+    assert!(rt; are_equal(&rows));
 }
 
 #[test]
@@ -67,13 +80,21 @@ fn slices_by_a_step(rt: HostRuntime) {
         (Slice::from(..).step_by(isize::MIN), 0, None, isize::MIN),
         (Slice::from(..).step_by(0), 0, None, 0),
     ];
-    for (slice, start, end, step) in rows {
-        assert!(rt;
-            slice == Slice::new(start, end, step),
-            "from {start} by {step}"
-        );
+    assert!(rt; are_slices(&rows) && !slice_fits(4, Slice::from(..).step_by(0)));
+}
+
+// Whether each slice of an axis of length 6 begins at a coordinate and has so many.
+fn name_so_many(rows: &[(Slice, usize, usize)]) -> bool {
+    for (slice, first, len) in rows {
+        if !slice_fits(6, *slice) {
+            return false;
+        }
+        let named = slice.on_axis(6);
+        if named.first != *first || named.len != *len {
+            return false;
+        }
     }
-    assert!(rt; !slice_fits(4, Slice::from(..).step_by(0)));
+    true
 }
 
 // The coordinates of an axis of length 6 that a range names: the first, and how many.
@@ -95,22 +116,17 @@ fn ranges_on_an_axis(rt: HostRuntime) {
         (Slice::from(1..5).step_by(-3), 4, 2),
         (Slice::between(2, 5), 2, 3),
     ];
-    for (slice, first, len) in rows {
-        assert!(rt;
-            slice_fits(6, slice),
-            "from {} by {}",
-            slice.start,
-            slice.step
-        );
-        let named = slice.on_axis(6);
-        assert_eq!(rt;
-            named.first,
-            first,
-            "from {} by {}",
-            slice.start, slice.step
-        );
-        assert_eq!(rt; named.len, len, "from {} by {}", slice.start, slice.step);
+    assert!(rt; name_so_many(&rows));
+}
+
+// Whether none of the slices fits an axis of length 6.
+fn none_fits(rows: &[Slice]) -> bool {
+    for slice in rows {
+        if slice_fits(6, *slice) {
+            return false;
+        }
     }
+    true
 }
 
 // A bound that no axis has: the last number of a type, and one more than the axis's length.
@@ -126,15 +142,17 @@ fn ranges_past_an_axis(rt: HostRuntime) {
         Slice::from(0..=usize::MAX >> 1),
         Slice::between(0, LONGEST),
     ];
-    for slice in rows {
-        assert!(rt;
-            !slice_fits(6, slice),
-            "from {} by {}",
-            slice.start,
-            slice.step
-        );
-    }
-    assert!(rt; Slice::from(..usize::MAX) == Slice::from(..-1));
+    assert!(rt; none_fits(&rows) && Slice::from(..usize::MAX) == Slice::from(..-1));
+}
+
+// Whether a list has these elements, and fits the first shape and not the second.
+fn is_list(
+    list: &[SliceInfoElem],
+    wanted: &[SliceInfoElem],
+    fits: &[usize],
+    not: &[usize],
+) -> bool {
+    list == wanted && slices_fit(fits, list) && !slices_fit(not, list)
 }
 
 #[test]
@@ -149,27 +167,24 @@ fn lists_of_ranges_and_numbers(rt: HostRuntime) {
     ];
     let row = 3usize;
     let other = slices![..row, row, -1isize, row..=row,];
+    let wanted = [
+        part(0, None, 1),
+        part(1, Some(4), 1),
+        SliceInfoElem::Index(2),
+        SliceInfoElem::Index(-1),
+        part(0, None, -1),
+        SliceInfoElem::NewAxis,
+    ];
+    let other_wanted = [
+        part(0, Some(3), 1),
+        SliceInfoElem::Index(3),
+        SliceInfoElem::Index(-1),
+        part(3, Some(4), 1),
+    ];
     assert!(rt;
-        list == [
-            part(0, None, 1),
-            part(1, Some(4), 1),
-            SliceInfoElem::Index(2),
-            SliceInfoElem::Index(-1),
-            part(0, None, -1),
-            SliceInfoElem::NewAxis,
-        ]
+        is_list(&list, &wanted, &[5, 4, 3, 2, 1], &[5, 3, 3, 2, 1])
+            && is_list(&other, &other_wanted, &[4, 4, 1, 4], &[4, 3, 1, 4])
     );
-    assert!(rt;
-        other
-            == [
-                part(0, Some(3), 1),
-                SliceInfoElem::Index(3),
-                SliceInfoElem::Index(-1),
-                part(3, Some(4), 1),
-            ]
-    );
-    assert!(rt; slices_fit(&[5, 4, 3, 2, 1], &list) && !slices_fit(&[5, 3, 3, 2, 1], &list));
-    assert!(rt; slices_fit(&[4, 4, 1, 4], &other) && !slices_fit(&[4, 3, 1, 4], &other));
 }
 
 /// Whether a list that leaves one axis of two has these elements, and fits this shape.
@@ -195,11 +210,15 @@ fn makes_two(list: SliceInfo<'_, Ix1, Ix2>, shape: &[usize]) -> bool {
 #[test]
 fn lists_from_dimension_to_dimension(rt: HostRuntime) {
     let line = [part(1, None, 1), SliceInfoElem::Index(1)];
-    assert!(rt; leaves_one(s![1.., 1], &line, &[1, 2]));
-    assert!(rt; !leaves_one(s![1.., 1], &line, &[1, 1]));
-    assert!(rt; !leaves_one(s![1.., 1], &line, &[0, 2]));
-    assert!(rt; leaves_two(s![.., .., -1], &[0, 0, 1]) && !leaves_two(s![.., .., -1], &[1, 1, 0]));
-    assert!(rt; leaves_none(s![0, 0], &[1, 1]) && !leaves_none(s![0, 0], &[1, 0]));
-    assert!(rt; makes_two(s![.., SliceInfoElem::NewAxis], &[3]));
-    assert!(rt; !makes_two(s![1..5, SliceInfoElem::NewAxis], &[4]));
+    assert!(rt;
+        leaves_one(s![1.., 1], &line, &[1, 2])
+            && !leaves_one(s![1.., 1], &line, &[1, 1])
+            && !leaves_one(s![1.., 1], &line, &[0, 2])
+            && leaves_two(s![.., .., -1], &[0, 0, 1])
+            && !leaves_two(s![.., .., -1], &[1, 1, 0])
+            && leaves_none(s![0, 0], &[1, 1])
+            && !leaves_none(s![0, 0], &[1, 0])
+            && makes_two(s![.., SliceInfoElem::NewAxis], &[3])
+            && !makes_two(s![1..5, SliceInfoElem::NewAxis], &[4])
+    );
 }

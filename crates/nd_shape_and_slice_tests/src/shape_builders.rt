@@ -3,7 +3,7 @@
 use nd_shape_and_slice::{
     Axes, Axis, AxisDescription, Dimension, ErrorKind, IntoDimension, IntoStrideShape, IxDyn,
     NoMemory, Order, ShapeArg, ShapeBuilder, ShapeError, StrideList, default_strides,
-    fortran_strides, index_of_rank,
+    fortran_strides, index_of_rank, size_of_shape_checked,
 };
 
 /// Whether the dimension has these lengths.
@@ -30,55 +30,70 @@ fn is_shape<B: IntoStrideShape>(
 
 #[test]
 fn shapes_with_orders(rt: HostRuntime) {
-    assert!(rt; is_shape((2, 3), &[2, 3], Order::RowMajor, None));
-    assert!(rt; is_shape((2, 3).f(), &[2, 3], Order::ColumnMajor, None));
-    assert!(rt; is_shape((2, 3).set_f(false), &[2, 3], Order::RowMajor, None));
-    assert!(rt; is_shape([4].f().set_f(false), &[4], Order::RowMajor, None));
-    assert!(rt; is_shape([4].set_f(false).f(), &[4], Order::ColumnMajor, None));
     let shape = (2, 3).into_shape_with_order();
-    assert!(rt; has_lengths(shape.raw_dim(), &[2, 3]) && shape.order() == Order::RowMajor);
     let again = (2, 3).f().into_shape_with_order();
-    assert!(rt; again.order() == Order::ColumnMajor);
+    assert!(rt;
+        is_shape((2, 3), &[2, 3], Order::RowMajor, None)
+            && is_shape((2, 3).f(), &[2, 3], Order::ColumnMajor, None)
+            && is_shape((2, 3).set_f(false), &[2, 3], Order::RowMajor, None)
+            && is_shape([4].f().set_f(false), &[4], Order::RowMajor, None)
+            && is_shape([4].set_f(false).f(), &[4], Order::ColumnMajor, None)
+            && has_lengths(shape.raw_dim(), &[2, 3])
+            && shape.order() == Order::RowMajor
+            && again.order() == Order::ColumnMajor
+    );
 }
 
 #[test]
 fn shapes_with_strides(rt: HostRuntime) {
     let ends = [isize::MIN, isize::MAX];
-    let shape = (1, 2).strides(&ends);
-    assert!(rt; is_shape(shape, &[1, 2], Order::RowMajor, Some(&ends)));
-    let shape = IxDyn::new(&[1, 2]).f().strides(&ends);
-    assert!(rt; is_shape(shape, &[1, 2], Order::ColumnMajor, Some(&ends)));
-    let shape = ().strides(&[]);
-    assert!(rt; is_shape(shape, &[], Order::RowMajor, Some(&[])));
+    assert!(rt;
+        is_shape((1, 2).strides(&ends), &[1, 2], Order::RowMajor, Some(&ends))
+            && is_shape(
+                IxDyn::new(&[1, 2]).f().strides(&ends),
+                &[1, 2],
+                Order::ColumnMajor,
+                Some(&ends)
+            )
+            && is_shape(().strides(&[]), &[], Order::RowMajor, Some(&[]))
+    );
 }
 
 #[test]
 fn sizes_of_shapes(rt: HostRuntime) {
-    assert_eq!(rt; (2, 3).f().size(), 6);
-    assert_eq!(rt; (2, 3).strides(&[1, 1]).size(), 6);
+    assert!(rt; (2, 3).f().size() == 6 && (2, 3).strides(&[1, 1]).size() == 6);
+}
+
+// Whether a shape to reshape to has these lengths and this order.
+fn asks<E: ShapeArg>(shape: E, lengths: &[usize], wanted: Order) -> bool {
+    let (dim, order) = shape.into_shape_and_order();
+    has_lengths(&dim, lengths) && order == wanted
 }
 
 #[test]
 fn shapes_to_reshape_to(rt: HostRuntime) {
-    let (dim, order) = (2, 3).into_shape_and_order();
-    assert!(rt; has_lengths(&dim, &[2, 3]) && order == Order::RowMajor);
-    let (dim, order) = (6, Order::ColumnMajor).into_shape_and_order();
-    assert!(rt; has_lengths(&dim, &[6]) && order == Order::ColumnMajor);
-    let (dim, order) = ([2, 3], Order::RowMajor).into_shape_and_order();
-    assert!(rt; has_lengths(&dim, &[2, 3]) && order == Order::RowMajor);
+    assert!(rt;
+        asks((2, 3), &[2, 3], Order::RowMajor)
+            && asks((6, Order::ColumnMajor), &[6], Order::ColumnMajor)
+            && asks(([2, 3], Order::RowMajor), &[2, 3], Order::RowMajor)
+    );
+}
+
+// Whether a shape has a checked size, and these strides in row-major order and those in column-major order.
+fn has_strides<I: IntoDimension>(shape: I, rows: &[isize], columns: &[isize]) -> bool {
+    let dim = shape.into_dimension();
+    size_of_shape_checked(dim.slice()).is_ok()
+        && default_strides(&dim).slice() == rows
+        && fortran_strides(&dim).slice() == columns
 }
 
 #[test]
 fn strides_of_shapes(rt: HostRuntime) {
-    let dim = (3, 2, 4).into_dimension();
-    assert!(rt; StrideList::slice(&fortran_strides(&dim)) == [1, 3, 6].as_slice());
-    assert!(rt; StrideList::slice(&default_strides(&dim)) == [8, 4, 1].as_slice());
-    let empty = IxDyn::new(&[3, 0, 4]);
-    assert!(rt; default_strides(&empty).slice() == [0, 0, 0].as_slice());
-    assert!(rt; fortran_strides(&empty).slice() == [0, 0, 0].as_slice());
-    let longest = (9223372036854775807, 1).into_dimension();
-    assert!(rt; StrideList::slice(&default_strides(&longest)) == [1, 1].as_slice());
-    assert!(rt; StrideList::slice(&fortran_strides(&longest)) == [1, isize::MAX].as_slice());
+    assert!(rt;
+        has_strides((3, 2, 4), &[8, 4, 1], &[1, 3, 6])
+            && has_strides(IxDyn::new(&[3, 0, 4]), &[0, 0, 0], &[0, 0, 0])
+            && has_strides((9223372036854775807, 1), &[1, 1], &[1, isize::MAX])
+    );
 }
 
 #[test]
@@ -96,22 +111,24 @@ fn axes_one_after_another(rt: HostRuntime) {
         len: 2,
         stride: 1,
     };
-    assert!(rt; axes.next() == Some(first));
-    assert!(rt; axes.next() == Some(second));
-    assert!(rt; axes.next() == None);
+    assert!(rt; axes.next() == Some(first) && axes.next() == Some(second) && axes.next() == None);
     let most = IxDyn::new(&[1; 32]);
-    assert_eq!(rt; Axes::new(&most, &default_strides(&most)).count(), 32);
+    assert!(rt; Axes::new(&most, &default_strides(&most)).count() == 32);
+}
+
+// Whether the index of this rank, of the shape (2, 3, 4), is this one.
+fn has_rank(rank: usize, wanted: [usize; 3]) -> bool {
+    let mut index = [9, 9, 9];
+    if rank >= 24 {
+        return false;
+    }
+    index_of_rank(&[2, 3, 4], rank, &mut index);
+    index == wanted
 }
 
 #[test]
 fn indexes_of_ranks(rt: HostRuntime) {
-    let mut index = [9, 9, 9];
-    index_of_rank(&[2, 3, 4], 0, &mut index);
-    assert_eq!(rt; index, [0, 0, 0]);
-    index_of_rank(&[2, 3, 4], 23, &mut index);
-    assert_eq!(rt; index, [1, 2, 3]);
-    index_of_rank(&[2, 3, 4], 13, &mut index);
-    assert_eq!(rt; index, [1, 0, 1]);
+    assert!(rt; has_rank(0, [0, 0, 0]) && has_rank(23, [1, 2, 3]) && has_rank(13, [1, 0, 1]));
 }
 
 #[test]

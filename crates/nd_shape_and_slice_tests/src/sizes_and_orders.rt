@@ -3,6 +3,24 @@
 use crate::slices::LONGEST;
 use nd_shape_and_slice::{ErrorKind, axes_fit, is_empty_shape, size_of_shape_checked};
 
+// Whether each shape has this size, or none.
+fn have_sizes(rows: &[(&[usize], Option<usize>)]) -> bool {
+    for (lengths, size) in rows {
+        if size_of_shape_checked(*lengths).ok() != *size {
+            return false;
+        }
+    }
+    true
+}
+
+// Why a shape has no checked size.
+fn cause(lengths: &[usize]) -> Option<ErrorKind> {
+    match size_of_shape_checked(lengths) {
+        Ok(_) => None,
+        Err(error) => Some(error.kind()),
+    }
+}
+
 #[test]
 fn checked_sizes(rt: HostRuntime) {
     let rows: [(&[usize], Option<usize>); 7] = [
@@ -14,12 +32,12 @@ fn checked_sizes(rt: HostRuntime) {
         (&[LONGEST, 1, 0], Some(0)),
         (&[4611686018427387904, 2], None),
     ];
-    for (lengths, size) in rows {
-        assert_eq!(rt; size_of_shape_checked(lengths).ok(), size);
-    }
-    let refused = size_of_shape_checked(&[LONGEST, 2]);
-    assert!(rt; matches!(refused, Err(e) if e.kind() == ErrorKind::Overflow));
-    assert!(rt; is_empty_shape(&[2, 0]) && !is_empty_shape(&[]));
+    assert!(rt;
+        have_sizes(&rows)
+            && cause(&[LONGEST, 2]) == Some(ErrorKind::Overflow)
+            && is_empty_shape(&[2, 0])
+            && !is_empty_shape(&[])
+    );
 }
 
 #[test]

@@ -6,6 +6,16 @@ use nd_shape_and_slice::{
     slices_fit,
 };
 
+// Whether each element reads an axis or not, and keeps one or not.
+fn read_and_keep(list: &[SliceInfoElem], rows: &[(bool, bool)]) -> bool {
+    for (element, (reads, keeps)) in list.iter().zip(rows) {
+        if element.reads_axis() != *reads || element.keeps_axis() != *keeps {
+            return false;
+        }
+    }
+    list.len() == rows.len()
+}
+
 #[test]
 fn elements_read_and_keep_axes(rt: HostRuntime) {
     let list = [
@@ -14,10 +24,18 @@ fn elements_read_and_keep_axes(rt: HostRuntime) {
         SliceInfoElem::NewAxis,
         SliceInfoElem::Index(2),
     ];
-    assert!(rt; list[0].reads_axis() && list[1].reads_axis() && !list[2].reads_axis());
-    assert!(rt; list[0].keeps_axis() && !list[1].keeps_axis() && list[2].keeps_axis());
-    assert_eq!(rt; axes_read(&list), 3);
-    assert_eq!(rt; axes_kept(&list), 2);
+    let rows = [(true, true), (true, false), (false, true), (true, false)];
+    assert!(rt; read_and_keep(&list, &rows) && axes_read(&list) == 3 && axes_kept(&list) == 2);
+}
+
+// Whether a list fits each shape or not.
+fn fits_where(list: &[SliceInfoElem], rows: &[(&[usize], bool)]) -> bool {
+    for (shape, fits) in rows {
+        if slices_fit(*shape, list) != *fits || list.fits(*shape) != *fits {
+            return false;
+        }
+    }
+    true
 }
 
 #[test]
@@ -36,27 +54,36 @@ fn lists_fit_shapes(rt: HostRuntime) {
         (&[6, 4, 2], false),
         (&[6, 4], false),
     ];
-    for (shape, fits) in rows {
-        assert!(rt; slices_fit(shape, &list) == fits);
-        assert!(rt; list.as_slice().fits(shape) == fits);
-    }
-    assert!(rt; !slices_fit(&[6, 4, 5, 1], &list));
-    assert_eq!(rt; list.as_slice().elements().len(), 4);
+    assert!(rt;
+        fits_where(&list, &rows)
+            && !slices_fit(&[6, 4, 5, 1], &list)
+            && list.as_slice().elements().len() == 4
+    );
+}
+
+// Whether a list of 33 elements fits no axes without its last one, and with it doesn't.
+fn is_one_too_long(list: &[SliceInfoElem; 33]) -> bool {
+    slices_fit(&[], &list[..32]) && !slices_fit(&[], list)
+}
+
+// Whether a list is one from any number of axes to any.
+fn are_dynamic(list: &[SliceInfoElem]) -> bool {
+    SliceInfo::<IxDyn, IxDyn>::new(list).is_ok()
+}
+
+// Whether a list is one from any number of axes to none.
+fn leave_none(list: &[SliceInfoElem]) -> bool {
+    SliceInfo::<IxDyn, Ix0>::new(list).is_ok()
 }
 
 #[test]
 fn lists_leave_32_axes_at_most(rt: HostRuntime) {
     let mut list = [SliceInfoElem::NewAxis; 33];
-    assert!(rt; slices_fit(&[], &list[..32]));
-    assert!(rt; !slices_fit(&[], &list));
-    assert!(rt; SliceInfo::<IxDyn, IxDyn>::new(&list[..32]).is_ok());
-    assert!(rt; SliceInfo::<IxDyn, IxDyn>::new(&list).is_err());
+    assert!(rt; is_one_too_long(&list) && are_dynamic(&list[..32]) && !are_dynamic(&list));
     list[32] = SliceInfoElem::Index(isize::MIN);
     assert!(rt; slices_fit(&[1 << 63], &list) && !slices_fit(&[LONGEST], &list));
     let read = [SliceInfoElem::Index(0); 33];
-    assert!(rt; SliceInfo::<IxDyn, Ix0>::new(&read[..32]).is_ok());
-    assert!(rt; SliceInfo::<IxDyn, Ix0>::new(&read).is_err());
-    assert!(rt; slices_fit(&[1; 33], &read));
+    assert!(rt; leave_none(&read[..32]) && !leave_none(&read) && slices_fit(&[1; 33], &read));
 }
 
 /// Whether a list that leaves one axis of two fits this shape.
@@ -67,13 +94,23 @@ fn leaves_one_of_two(list: &[SliceInfoElem], shape: &[usize]) -> bool {
     }
 }
 
+// Whether a list isn't one from two axes to two, for its shape.
+fn keeps_no_two(list: &[SliceInfoElem]) -> bool {
+    match SliceInfo::<Ix2, Ix2>::new(list) {
+        Ok(_) => false,
+        Err(error) => error.kind() == ErrorKind::IncompatibleShape,
+    }
+}
+
 #[test]
 fn lists_from_dimension_to_dimension(rt: HostRuntime) {
     let list = [part_from(0, 1), SliceInfoElem::Index(2)];
-    assert!(rt; leaves_one_of_two(&list, &[2, 3]) && !leaves_one_of_two(&list, &[2, 2]));
-    assert!(rt; SliceInfo::<IxDyn, IxDyn>::new(&list).is_ok());
-    let refused = SliceInfo::<Ix2, Ix2>::new(&list);
-    assert!(rt; matches!(refused, Err(e) if e.kind() == ErrorKind::IncompatibleShape));
-    assert!(rt; SliceInfo::<Ix1, Ix1>::new(&list).is_err());
-    assert!(rt; SliceInfo::<Ix0, Ix0>::new(&[]).is_ok());
+    assert!(rt;
+        leaves_one_of_two(&list, &[2, 3])
+            && !leaves_one_of_two(&list, &[2, 2])
+            && are_dynamic(&list)
+            && keeps_no_two(&list)
+            && SliceInfo::<Ix1, Ix1>::new(&list).is_err()
+            && SliceInfo::<Ix0, Ix0>::new(&[]).is_ok()
+    );
 }
