@@ -3,9 +3,9 @@ use Rattle.std.proofs.Common.{◌≡◌, ◌∙◌, ◌<◌, ℕ, ℤ, Bool, tru
 use Rattle.std.specs.Prelude.{IfSome}
 use Rattle.nd_run.specs.declared.outcome.Outcome.{Outcome}
 use Rattle.nd_text.specs.declared.watched.Watched.{Watched}
-use Rattle.nd_run.specs.Calls.{Said}
+use Rattle.nd_run.specs.Replies.{Said}
 use Rattle.nd_run.specs.Meaning.{Runs, Stops}
-use Rattle.nd_run.specs.Script.{AskedScript, IsScript, IsFirstBad, MayLackIn}
+use Rattle.nd_read.specs.Script.{AskedScript, IsScript, IsFirstBad, MayLackIn}
 use Rattle.nd_text.specs.Puts.{TakesText}
 use Rattle.nd_text.specs.Watched.{watched_inner, watched_failed}
 use Rattle.nd_text.specs.Words.{lines_of}

@@ -6,8 +6,9 @@ use Rattle.nd_array_core.specs.Laws.{NothingOutside}
 use Rattle.std.proofs.Math.Path.{fun_ext}
 use Rattle.nd_array_core.specs.Meaning.{Meaning, meaning_through, inside}
 use Rattle.nd_run.specs.declared.cause.Cause.{Cause}
-use Rattle.nd_run.specs.declared.calls.Reply.{Reply}
-use Rattle.nd_run.specs.Calls.{AskedStep, Asking, Asked, About, Said, SaidDone, SaidRefused, said_reply}
+use Rattle.nd_run.specs.declared.replies.Reply.{Reply}
+use Rattle.nd_read.specs.Calls.{AskedStep, Asking, Asked, About}
+use Rattle.nd_run.specs.Replies.{Said, SaidDone, SaidRefused, said_reply}
 use Rattle.nd_run.specs.Steps.{Test, first_failed, tests_of, refusal, unless, step_shape, step_index, shape_along, index_along}
 use Rattle.nd_run.specs.Acts.{path_tests, meaning_at_end}
 use Rattle.nd_run.specs.Written.{unless_refused, said_unless}

@@ -1,12 +1,7 @@
-pub mod BadLines
 pub mod StepTests
 pub mod Counts
 pub mod Driving
 pub mod Indexes
-pub mod Items
-pub mod Lacking
-pub mod ScriptLaws
-pub mod Scripts
 pub mod FoldLemmas
 pub mod Gathers
 pub mod Runs
@@ -14,9 +9,4 @@ pub mod PathLaws
 pub mod WritePaths
 pub mod WriteLaws
 pub mod PartLaws
-pub mod TextLaws
-pub mod Forms
-pub mod Rows
-pub mod ArrayLaws
-pub mod SliceEnds
 pub mod Joins

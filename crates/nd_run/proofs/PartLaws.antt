@@ -7,7 +7,7 @@ use Rattle.nd_shape_and_slice.specs.Maps.{lower_shape, upper_shape, upper_index}
 use Rattle.nd_array_core.specs.Meaning.{Meaning, inside, meaning_through}
 use Rattle.nd_array_core.specs.Laws.{NothingOutside}
 use Rattle.nd_run.specs.declared.cause.Cause.{Cause}
-use Rattle.nd_run.specs.Calls.{Acting}
+use Rattle.nd_read.specs.Calls.{Acting}
 use Rattle.nd_run.specs.Acts.{joined_elements, lower_meaning, upper_meaning, parts_tests, parts_refusal, point_tests, point_refusal, split_refusal, split_written}
 use Rattle.nd_run.specs.Written.{unless_refused, acted_elements_unless}
 use Rattle.nd_run.proofs.FoldLemmas.{tests_pass, tests_fail, same_meaning}

@@ -2,7 +2,7 @@
 use Rattle.std.proofs.Common.{◌≡◌, ◌∙◌, List, [], ◌∷◌, Option, Some, None, Ok, refl, subst}
 use Rattle.nd_array_core.specs.Meaning.{Meaning}
 use Rattle.nd_run.specs.declared.cause.Cause.{Cause}
-use Rattle.nd_run.specs.Calls.{AskedStep}
+use Rattle.nd_read.specs.Calls.{AskedStep}
 use Rattle.nd_run.specs.Steps.{tests_of, refusal, unless, step_shape, index_along}
 use Rattle.nd_run.specs.Fold.{and_then, step_meaning, path_result, LeadsAlong}
 use Rattle.nd_run.specs.Laws.{StepsLeadInside, PathsLeadAlong}

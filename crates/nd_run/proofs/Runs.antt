@@ -3,7 +3,8 @@ use Rattle.std.proofs.Common.{◌≡◌, Bool, ℕ, suc, ◌+◌, ◌<◌, ◌�
 use Rattle.std.proofs.lemmas.List.{take_more, take_all, take-append-drop, length-map}
 use Rattle.std.specs.Prelude.{IfErr}
 use Rattle.nd_array_core.specs.Meaning.{Meaning}
-use Rattle.nd_run.specs.Calls.{Asked, Said}
+use Rattle.nd_read.specs.Calls.{Asked}
+use Rattle.nd_run.specs.Replies.{Said}
 use Rattle.nd_run.specs.Fold.{reply_to, meaning_after, replies_to, end_of, LacksOnlyMemory, StopsAt, StopsBefore, KeepsReplies, replies_before}
 use Rattle.nd_run.specs.declared.run.RunFault.{RunFault}
 

@@ -11,7 +11,7 @@ use Rattle.nd_shape_and_slice.specs.SliceInfo.{reads_axis, axes_read, axes_kept,
 use Rattle.nd_run.specs.declared.cause.Cause.{Cause}
 use Rattle.nd_run.specs.declared.cause.Cause.TheVariants as causes
 use Rattle.nd_shape_and_slice.specs.Broadcast.{broadcasts}
-use Rattle.nd_run.specs.Calls.{AskedStep, Sliced, BroadcastTo}
+use Rattle.nd_read.specs.Calls.{AskedStep, Sliced, BroadcastTo}
 use Rattle.nd_shape_and_slice.specs.Slicing.{next_axis}
 use Rattle.nd_run.specs.Steps.{first_failed, element_tests, refusal, keep_refusal, shares}
 

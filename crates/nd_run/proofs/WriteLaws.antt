@@ -6,7 +6,7 @@ use Rattle.nd_array_core.specs.Meaning.{Meaning, inside}
 use Rattle.nd_array_core.specs.scoped.Tasks.{OthersKeep}
 use Rattle.nd_paths.specs.Paths.{IsDoneAlong}
 use Rattle.nd_run.specs.declared.cause.Cause.{Cause}
-use Rattle.nd_run.specs.Calls.{AskedStep, Acting}
+use Rattle.nd_read.specs.Calls.{AskedStep, Acting}
 use Rattle.nd_run.specs.Steps.{keep_tests, shape_along, index_along}
 use Rattle.nd_run.specs.Acts.{act_tests, act_refusal, path_tests, path_refusal, write_refusal, meaning_at_end, leading_to, new_or_old, written, parts_refusal}
 use Rattle.nd_run.specs.Written.{acted_elements_unless, written_path, Acts, ActsOnTwo, WritesThrough, as_one}

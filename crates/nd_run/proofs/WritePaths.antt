@@ -5,8 +5,8 @@ use Rattle.std.proofs.lemmas.List.{drop_all}
 use Rattle.nd_shape_and_slice.specs.Shape.{in_box}
 use Rattle.nd_array_core.specs.Meaning.{Meaning, inside}
 use Rattle.nd_run.specs.declared.cause.Cause.{Cause}
-use Rattle.nd_run.specs.declared.calls.Step.{Step}
-use Rattle.nd_run.specs.Calls.{AskedStep, asked_step}
+use Rattle.nd_read.specs.declared.calls.Step.{Step}
+use Rattle.nd_read.specs.Calls.{AskedStep, asked_step}
 use Rattle.nd_run.specs.Steps.{Test, first_failed, tests_of, refusal, unless, step_shape, step_index, index_along}
 use Rattle.nd_run.specs.Acts.{path_tests}
 use Rattle.nd_run.specs.Fold.{step_meaning, and_then, path_result, LeadsAlong}

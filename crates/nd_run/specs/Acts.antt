@@ -8,7 +8,7 @@ use Rattle.nd_shape_and_slice.specs.Maps.{lower_shape, upper_shape, upper_index}
 use Rattle.nd_array_core.specs.Meaning.{Meaning, inside, meaning_through}
 use Rattle.nd_array_core.specs.base.Writes.{with_element_at, with_swapped_at}
 use Rattle.nd_array_core.specs.elements.Pairs.{broadcast_at}
-use Rattle.nd_run.specs.Calls.{AskedStep, Acting, Filling, Assigning, Setting, Swapping}
+use Rattle.nd_read.specs.Calls.{AskedStep, Acting, Filling, Assigning, Setting, Swapping}
 use Rattle.nd_run.specs.Steps.{Test, first_failed, has_axis, keep_tests, step_shape, shape_along, index_along}
 use Rattle.nd_run.specs.declared.cause.Cause.{Cause}
 use Rattle.nd_run.specs.declared.cause.Cause.TheVariants as causes

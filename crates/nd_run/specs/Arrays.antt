@@ -7,10 +7,11 @@ use Rattle.nd_array_core.specs.Data as data_trait
 use Rattle.nd_array_core.specs.declared.base.array.ArrayBase.{ArrayBase}
 use Rattle.nd_array_core.specs.Joined.{row_major_elements}
 use Rattle.nd_array_core.specs.Meaning.{Meaning, inside, meaning_of, shape_of, element_at}
-use Rattle.nd_run.specs.declared.calls.Act.{Act}
-use Rattle.nd_run.specs.declared.calls.Reply.{Reply}
+use Rattle.nd_read.specs.declared.calls.Act.{Act}
+use Rattle.nd_run.specs.declared.replies.Reply.{Reply}
 use Rattle.nd_run.specs.declared.cause.Cause.{Cause}
-use Rattle.nd_run.specs.Calls.{AskedStep, Asking, Acting, Asked, acting, said_reply, said_replies}
+use Rattle.nd_read.specs.Calls.{AskedStep, Asking, Acting, Asked, acting}
+use Rattle.nd_run.specs.Replies.{said_reply, said_replies}
 use Rattle.nd_run.specs.Steps.{first_failed}
 use Rattle.nd_run.specs.Fold.{step_result, question_tests, answers_in_memory, answer_or_refusal, IsCarriedOutOrLacks}
 use Rattle.nd_run.specs.Written.{ActsOnTwo, WritesThrough}

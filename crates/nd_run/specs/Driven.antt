@@ -8,9 +8,9 @@ use Rattle.nd_text.specs.declared.watched.Watched.{Watched}
 use Rattle.nd_text.specs.Puts.{TakesText}
 use Rattle.nd_text.specs.Watched.{watched_inner, watched_failed, watched_retried}
 use Rattle.nd_text.specs.Words.{lines_of}
-use Rattle.nd_run.specs.Calls.{Said}
+use Rattle.nd_run.specs.Replies.{Said}
 use Rattle.nd_run.specs.Fold.{replies_to, end_of}
-use Rattle.nd_run.specs.Script.{AskedScript, IsScript, IsFirstBad}
+use Rattle.nd_read.specs.Script.{AskedScript, IsScript, IsFirstBad}
 use Rattle.nd_run.specs.Endings.{Ending, Finished, BadAt, OutOfMemory, ending_text, status_of, is_no_input, StopsForMemory, Ends}
 use Rattle.nd_run.specs.Meaning.{Runs, Stops}
 

@@ -3,8 +3,8 @@ use Rattle.std.specs.Prelude.{◌≡◌, ◌<◌, length, ℕ, ℤ, Bool, true, 
 use Rattle.std.specs.Fmt.{decimal}
 use Rattle.nd_run.specs.declared.outcome.Outcome.{Outcome}
 use Rattle.nd_run.specs.declared.outcome.Outcome.TheVariants as outcomes
-use Rattle.nd_run.specs.Calls.{Said, said_replies}
-use Rattle.nd_run.specs.Script.{AskedScript, IsScript, IsFirstBad}
+use Rattle.nd_run.specs.Replies.{Said, said_replies}
+use Rattle.nd_read.specs.Script.{AskedScript, IsScript, IsFirstBad}
 use Rattle.nd_run.specs.Text.{replies_text, array_text}
 use Rattle.nd_text.specs.Words.{lines_of}
 

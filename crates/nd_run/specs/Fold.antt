@@ -13,7 +13,8 @@ use Rattle.nd_array_core.specs.growth.Appended.{elements_behind}
 use Rattle.nd_array_core.specs.growth.InTurn.{lengths_along}
 use Rattle.nd_array_core.specs.growth.Reserved.{added_elements}
 use Rattle.nd_stacking.specs.Stacking.{followed_by, is_alike_but}
-use Rattle.nd_run.specs.Calls.{AskedStep, Asking, AskShape, AskElements, AskElement, AskFirst, AskLast, AskEqual, AskCount, AskReshaped, Asked, Keeping, About, Writing, SplitWriting, Selecting, Removing, Reshaping, Appending, Reserving, Concatenating, Stacking, Said, SaidDone, SaidRefused, SaidShape, SaidElements, SaidElement, SaidTruth, SaidNumber, said_reply, said_replies}
+use Rattle.nd_read.specs.Calls.{AskedStep, Asking, AskShape, AskElements, AskElement, AskFirst, AskLast, AskEqual, AskCount, AskReshaped, Asked, Keeping, About, Writing, SplitWriting, Selecting, Removing, Reshaping, Appending, Reserving, Concatenating, Stacking}
+use Rattle.nd_run.specs.Replies.{Said, SaidDone, SaidRefused, SaidShape, SaidElements, SaidElement, SaidTruth, SaidNumber, said_reply, said_replies}
 use Rattle.std.specs.Prelude.{map, nat_eq}
 use Rattle.std.specs.Cmp.Lexicographic.{pointwise}
 use Rattle.std.specs.List.{count_by, insert, list_all}
@@ -23,7 +24,7 @@ use Rattle.nd_array_core.specs.along.Removed.{removed_shape, removed_index}
 use Rattle.nd_array_core.specs.reshape.Serving.{regrouped_meaning}
 use Rattle.nd_run.specs.Steps.{Test, first_failed, has_axis, size_test, has_coordinate, tests_of, keep_tests, refusal, unless, step_shape, step_index, shape_along, index_along}
 use Rattle.nd_run.specs.Acts.{path_tests, meaning_at_end, write_tests, written, split_tests, split_written, clones}
-use Rattle.nd_run.specs.declared.calls.Reply.{Reply}
+use Rattle.nd_run.specs.declared.replies.Reply.{Reply}
 use Rattle.nd_run.specs.declared.run.RunFault.{RunFault}
 use Rattle.nd_run.specs.declared.run.RunFault.TheVariants as faults
 use Rattle.nd_run.specs.declared.cause.Cause.{Cause}

@@ -1,4 +1,4 @@
-pub mod Calls
+pub mod Replies
 pub mod Steps
 pub mod Acts
 pub mod Written
@@ -6,9 +6,6 @@ pub mod Meaning
 pub mod Arrays
 pub mod Endings
 pub mod Driven
-pub mod Grammar
-pub mod Reading
-pub mod Script
 pub mod Text
 pub mod Fold
 pub mod Laws
@@ -17,3 +14,7 @@ pub use Rattle.nd_text.specs.Puts
 pub use Rattle.nd_text.specs.Words
 pub use Rattle.nd_text.specs.Numerals
 pub use Rattle.nd_text.specs.Spelling
+pub use Rattle.nd_read.specs.Calls
+pub use Rattle.nd_read.specs.Grammar
+pub use Rattle.nd_read.specs.Reading
+pub use Rattle.nd_read.specs.Script

@@ -1,10 +1,10 @@
 -- What running a script means: the fold of its calls from the array that it starts with.
 use Rattle.std.specs.Prelude.{◌≡◌, ℕ, ℤ, List}
 use Rattle.std.specs.Ordering.{int_eq}
-use Rattle.nd_run.specs.Calls.{Said}
+use Rattle.nd_run.specs.Replies.{Said}
 use Rattle.nd_run.specs.Fold.{replies_to, end_of, StopsBefore}
 use Rattle.nd_array_core.specs.Joined.{row_major_elements}
-use Rattle.nd_run.specs.Script.{AskedScript}
+use Rattle.nd_read.specs.Script.{AskedScript}
 
 -- the replies to the calls, and the array that they leave
 abbrev pub Runs : AskedScript → List (Said ℤ) → List ℕ → List ℤ → Type 0

@@ -5,7 +5,7 @@ use Rattle.std.specs.Fmt.{decimal, signed_decimal}
 use Rattle.nd_array_core.specs.Joined.{row_major_elements}
 use Rattle.nd_array_core.specs.Meaning.{Meaning}
 use Rattle.nd_text.specs.Text.{list_text, values_text}
-use Rattle.nd_run.specs.Calls.{Said, SaidDone, SaidRefused, SaidShape, SaidElements, SaidElement, SaidTruth, SaidNumber}
+use Rattle.nd_run.specs.Replies.{Said, SaidDone, SaidRefused, SaidShape, SaidElements, SaidElement, SaidTruth, SaidNumber}
 
 -- the lengths as a list, and the elements
 abbrev pub array_text : List ℕ → List ℤ → List ℕ

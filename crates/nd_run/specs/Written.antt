@@ -3,7 +3,8 @@ use Rattle.std.specs.Prelude.{◌≡◌, ◌||◌, ℕ, List, Option, None, Some
 use Rattle.nd_array_core.specs.Meaning.{Meaning}
 use Rattle.nd_paths.specs.Paths.{PathMap}
 use Rattle.nd_run.specs.declared.cause.Cause.{Cause}
-use Rattle.nd_run.specs.Calls.{AskedStep, Acting, Said, SaidDone, SaidRefused}
+use Rattle.nd_read.specs.Calls.{AskedStep, Acting}
+use Rattle.nd_run.specs.Replies.{Said, SaidDone, SaidRefused}
 use Rattle.nd_run.specs.Steps.{shape_along, index_along}
 use Rattle.nd_run.specs.Acts.{acted_elements, act_refusal, clones, path_refusal, written, write_refusal, parts_refusal}
 use Rattle.nd_run.specs.Fold.{number_of}

@@ -7,8 +7,8 @@ ghost use Rattle.nd_run.specs.Driven.{Driven, TellsEnd, TellsRun, TellsBadLine, 
 ghost use Rattle.nd_text.specs.Watched.{watched_failed, watched_retried, GetsFlushed};
 
 use crate::outcome::{Outcome, conclude, conclude_whole, load};
-use crate::reader::Script;
 use crate::run::{RunFault, run_held};
+use nd_read::Script;
 use nd_text::Watched;
 use std::alloc::Global;
 use std::io::{Read, Write};

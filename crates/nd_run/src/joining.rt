@@ -8,14 +8,15 @@ ghost use Rattle.nd_array_core.specs.growth.InTurn.{meanings_of};
 ghost use Rattle.nd_stacking.specs.Stacking.{followed_by, is_alike_but};
 ghost use Rattle.nd_run.specs.Steps.{Refuses, first_failed, size_test};
 ghost use Rattle.nd_run.specs.Arrays.{CarriesOut};
-ghost use Rattle.nd_run.specs.Calls.{Concatenating, Stacking};
+ghost use Rattle.nd_read.specs.Calls.{Concatenating, Stacking};
 ghost use Rattle.nd_run.specs.Fold.{concatenate_tests, joined_shape, lengths_with, stack_of, stack_tests};
 ghost use Rattle.nd_array_core.specs.base.Fresh.{EachCloneIsEqual};
 
-use crate::calls::{Holds, Reply};
 use crate::cause::Cause;
+use crate::replies::Reply;
 use crate::steps::check;
 use nd_array_core::{Array, ArrayError, ArrayView};
+use nd_read::Holds;
 use nd_shape_and_slice::{
     Axis, Dimension, InsertAxis, IxDyn, MAX_AXES, RemoveAxis, size_of_shape_checked,
 };

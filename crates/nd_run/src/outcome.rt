@@ -3,18 +3,17 @@
 ghost use Rattle.std.specs.Prelude.{◌≡◌, IfSome, if◌then◌else◌};
 ghost use Rattle.nd_array_core.specs.Meaning.{meaning_of};
 ghost use Rattle.nd_run.specs.Arrays.{whole_ending};
-ghost use Rattle.nd_run.specs.Script.{asked_script};
+ghost use Rattle.nd_read.specs.Script.{asked_script};
 ghost use Rattle.nd_run.specs.Text.{elements_text};
 ghost use Rattle.nd_run.specs.Endings.{ending, ending_text, status_of, is_load_failure, Loads};
 ghost use Rattle.nd_text.specs.Puts.{TakesText, Puts};
 ghost use Rattle.nd_text.specs.Watched.{watched_inner, watched_failed, watched_retried, GetsFlushed};
 
-use crate::calls::Reply;
 use crate::printer::put_replies;
-use crate::reader::fault::ScriptError;
-use crate::reader::{Script, read_script};
+use crate::replies::Reply;
 use itoa::Buffer;
 use nd_array_core::Array;
+use nd_read::{Script, ScriptError, read_script};
 use nd_shape_and_slice::{IxDyn, MAX_AXES, index_of_rank};
 use nd_text::input::{InputError, read_input};
 use nd_text::printing::{finish, put, put_list, put_number, put_numbers};

@@ -1,11 +1,11 @@
 //! Printing replies, through a page of bytes that wait, without memory.
 
 ghost use Rattle.std.specs.Prelude.{◌≡◌, map};
-ghost use Rattle.nd_run.specs.Calls.{said_reply};
+ghost use Rattle.nd_run.specs.Replies.{said_reply};
 ghost use Rattle.nd_text.specs.Puts.{Puts};
 ghost use Rattle.nd_run.specs.Text.{element_text, reply_words, replies_text};
 
-use crate::calls::Reply;
+use crate::replies::Reply;
 use itoa::Buffer;
 use nd_text::printing::{put, put_list, put_number, put_numbers};
 use nd_text::{Page, Watched};

@@ -6,12 +6,12 @@ ghost use Rattle.nd_array_core.specs.Meaning.{shape_of};
 ghost use Rattle.nd_paths.specs.Paths.{LiesWith, LiesThrough};
 ghost use Rattle.nd_shape_and_slice.specs.SliceInfo.{reads_axis, axes_read};
 ghost use Rattle.nd_run.specs.Arrays.{MovesBy, ShowsThrough};
-ghost use Rattle.nd_run.specs.Calls.{asked_step, Sliced, BroadcastTo, Indexed};
+ghost use Rattle.nd_read.specs.Calls.{asked_step, Sliced, BroadcastTo, Indexed};
 ghost use Rattle.nd_run.specs.Steps.{Refuses, first_failed, element_tests, refusal, keep_refusal, changes_axes, step_shape, step_index};
 
-use crate::calls::Step;
 use crate::cause::Cause;
 use nd_array_core::{ArrayBase, ArrayView, Data};
+use nd_read::Step;
 use nd_shape_and_slice::{
     Axis, IxDyn, MAX_AXES, Slice, SliceInfoElem, axes_fit, axes_kept, axes_read, axis_after,
     coordinate_on_axis, slice_fits,

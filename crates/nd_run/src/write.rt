@@ -5,19 +5,21 @@ ghost use Rattle.nd_array_core.specs.Meaning.{shape_of, meaning_of};
 ghost use Rattle.nd_array_core.specs.base.Writes.{KeepsFrame};
 ghost use Rattle.nd_paths.specs.Paths.{LiesWith, EndsAlong};
 ghost use Rattle.nd_run.specs.Arrays.{ActsOnBoth, CarriesOut, HasElements, WritesAlong};
-ghost use Rattle.nd_run.specs.Calls.{asked_split, asked_step, acting, said_reply, Writing};
+ghost use Rattle.nd_read.specs.Calls.{asked_split, asked_step, acting, Writing};
+ghost use Rattle.nd_run.specs.Replies.{said_reply};
 ghost use Rattle.nd_run.specs.Steps.{Refuses};
 ghost use Rattle.nd_run.specs.Acts.{act_refusal, acted_elements, clones, path_refusal, point_refusal};
 ghost use Rattle.nd_run.specs.Written.{written_path, Acts, ActsOnTwo, as_one, said_unless};
 ghost use Rattle.nd_array_core.specs.base.Fresh.{EachCloneIsEqual};
 
-use crate::calls::{Act, Holds, Reply, Step};
 use crate::cause::Cause;
 use crate::laws::paths_lead_along;
+use crate::replies::Reply;
 use crate::steps::{change_axes, changes_axes, check, keep_refusal, take_step};
 use nd_array_core::laws::{elements_have_places, nothing_outside};
 use nd_array_core::{Array, ArrayBase, Data, DataMut};
 use nd_paths::{ArrayPath, ArrayTask, PairOfArraysTask, with_halves_mut, with_path_mut};
+use nd_read::{Act, Holds, Step};
 use nd_shape_and_slice::{Axis, IxDyn};
 use std::alloc::AllocError;
 

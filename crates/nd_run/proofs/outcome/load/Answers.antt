@@ -1,5 +1,5 @@
 use Rattle.std.proofs.Common.{◌∙◌, ap, map, Err}
-use Rattle.nd_run.specs.Calls.{said_reply}
+use Rattle.nd_run.specs.Replies.{said_reply}
 use Rattle.nd_text.specs.Watched.{watched_inner}
 use Rattle.nd_run.proofs.Driving.{want_ends}
 use Rattle.nd_run.proofs.outcome.load.Goals as goal

@@ -1,6 +1,7 @@
 use Rattle.std.proofs.Common.{◌≡◌, ◌∙◌, refl, sym, ap, None, Some, map}
 use Rattle.nd_array_core.specs.Meaning.{meaning_of}
-use Rattle.nd_run.specs.Calls.{asked_step, asking, SaidRefused}
+use Rattle.nd_read.specs.Calls.{asked_step, asking}
+use Rattle.nd_run.specs.Replies.{SaidRefused}
 use Rattle.nd_run.specs.Acts.{meaning_at_end}
 use Rattle.nd_run.specs.Fold.{look_refusal}
 use Rattle.nd_run.proofs.FoldLemmas.{same_meaning, leads_is, ask_refused, asked_is, answered}

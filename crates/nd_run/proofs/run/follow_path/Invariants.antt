@@ -1,6 +1,6 @@
 use Rattle.std.proofs.Common.{◌≡◌, map, drop}
 use Rattle.nd_array_core.specs.Meaning.{meaning_of}
-use Rattle.nd_run.specs.Calls.{asked_step}
+use Rattle.nd_read.specs.Calls.{asked_step}
 use Rattle.nd_run.specs.Steps.{tests_of}
 use Rattle.nd_run.specs.Fold.{path_result}
 use Rattle.nd_run.proofs.run.follow_path.Given as goal

@@ -8,7 +8,8 @@ use Rattle.nd_array_core.specs.growth.Appended.{FitsBehind}
 use Rattle.nd_array_core.specs.Laws.{with_axis_inserted}
 use Rattle.nd_array_core.specs.Meaning.{meaning_of}
 use Rattle.nd_run.specs.declared.cause.Cause.TheVariants as causes
-use Rattle.nd_run.specs.Calls.{Appending, SaidRefused}
+use Rattle.nd_read.specs.Calls.{Appending}
+use Rattle.nd_run.specs.Replies.{SaidRefused}
 use Rattle.nd_run.specs.Steps.{first_failed}
 use Rattle.nd_run.specs.Fold.{append_tests, IsCarriedOutOrLacks}
 use Rattle.nd_run.proofs.FoldLemmas.{carried, same_meaning}

@@ -4,7 +4,7 @@ use Rattle.nd_array_core.specs.growth.Reserved.{added_elements}
 use Rattle.nd_shape_and_slice.specs.Shape.{nonzero_product, HasCheckedSize}
 use Rattle.nd_array_core.specs.Meaning.{meaning_of, shape_of}
 use Rattle.nd_run.specs.declared.cause.Cause.TheVariants as causes
-use Rattle.nd_run.specs.Calls.{Reserving}
+use Rattle.nd_read.specs.Calls.{Reserving}
 use Rattle.nd_run.specs.Steps.{first_failed}
 use Rattle.nd_run.specs.Fold.{reserve_tests}
 use Rattle.nd_run.proofs.FoldLemmas.{same_meaning, carried}

@@ -1,7 +1,7 @@
 use Rattle.std.proofs.Common.{◌≡◌, List, ℕ, None, refl, sym, ap, ◌∙◌, inl, inr}
 use Rattle.nd_array_core.specs.Meaning.{meaning_of}
 use Rattle.nd_array_core.specs.reshape.Serving.{regrouped_meaning}
-use Rattle.nd_run.specs.Calls.{Reshaping}
+use Rattle.nd_read.specs.Calls.{Reshaping}
 use Rattle.nd_run.proofs.FoldLemmas.{same_meaning, carried}
 use Rattle.nd_run.proofs.run.reshape.Goals as goal
 

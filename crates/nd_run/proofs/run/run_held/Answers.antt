@@ -1,6 +1,7 @@
 use Rattle.std.proofs.Common.{◌≡◌, true, false, map, ap, inl}
 use Rattle.nd_array_core.specs.Meaning.{meaning_of}
-use Rattle.nd_run.specs.Calls.{asked_call, said_reply}
+use Rattle.nd_read.specs.Calls.{asked_call}
+use Rattle.nd_run.specs.Replies.{said_reply}
 use Rattle.nd_run.proofs.Runs.{stops_before, keeps_replies, some_calls}
 use Rattle.nd_run.proofs.run.run_held.Goals as goal
 

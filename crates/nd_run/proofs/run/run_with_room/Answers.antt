@@ -1,7 +1,8 @@
 use Rattle.std.proofs.Common.{◌≡◌, ◌∙◌, ◌<◌, ◌≤◌, ◌++◌, ◌∷◌, [], sym, ap, arith, map, length, get_or}
 use Rattle.std.proofs.lemmas.List.{length-map, get_or-map, map-append}
 use Rattle.nd_array_core.specs.Meaning.{Meaning, meaning_of}
-use Rattle.nd_run.specs.Calls.{Said, asked_call, said_reply}
+use Rattle.nd_read.specs.Calls.{asked_call}
+use Rattle.nd_run.specs.Replies.{Said, said_reply}
 use Rattle.nd_run.proofs.Runs.{run_all, run_more, run_stops}
 use Rattle.nd_run.proofs.run.run_with_room.Goals as goal
 

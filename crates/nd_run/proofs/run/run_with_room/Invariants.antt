@@ -1,6 +1,7 @@
 use Rattle.std.proofs.Common.{◌≡◌, ◌≤◌, map, length, vec_len, vec_capacity}
 use Rattle.nd_array_core.specs.Meaning.{meaning_of}
-use Rattle.nd_run.specs.Calls.{asked_call, said_reply}
+use Rattle.nd_read.specs.Calls.{asked_call}
+use Rattle.nd_run.specs.Replies.{said_reply}
 use Rattle.nd_run.proofs.Runs.{IsRunBelow}
 use Rattle.nd_run.proofs.run.run_with_room.Given as goal
 

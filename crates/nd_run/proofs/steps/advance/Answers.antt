@@ -1,6 +1,6 @@
 use Rattle.std.proofs.Common.{◌≡◌, ◌∙◌, ap, sym, None}
 use Rattle.nd_array_core.specs.Meaning.{meaning_of, shape_of}
-use Rattle.nd_run.specs.Calls.{asked_step}
+use Rattle.nd_read.specs.Calls.{asked_step}
 use Rattle.nd_run.specs.Steps.{keep_refusal}
 use Rattle.nd_run.proofs.FoldLemmas.{taken_ok}
 use Rattle.nd_run.proofs.StepTests.{keep_allows}

@@ -1,7 +1,7 @@
 use Rattle.std.proofs.Common.{◌≡◌, ◌∙◌, ap, sym, List, ℕ, true, false, None, arith}
 use Rattle.nd_array_core.specs.Meaning.{meaning_of, shape_of, element_at, inside}
 use Rattle.nd_shape_and_slice.specs.Broadcast.{broadcasts, broadcast_index}
-use Rattle.nd_run.specs.Calls.{BroadcastTo}
+use Rattle.nd_read.specs.Calls.{BroadcastTo}
 use Rattle.nd_run.specs.Steps.{refusal}
 use Rattle.nd_run.proofs.FoldLemmas.{taken_ok}
 use Rattle.nd_run.proofs.StepTests.{broadcast_allowed}

@@ -1,6 +1,6 @@
 use Rattle.std.proofs.Common.{◌≡◌, None, subst}
 use Rattle.nd_array_core.specs.Meaning.{shape_of}
-use Rattle.nd_run.specs.Calls.{Sliced, asked_step}
+use Rattle.nd_read.specs.Calls.{Sliced, asked_step}
 use Rattle.nd_run.specs.Steps.{keep_refusal, refusal}
 use Rattle.nd_run.proofs.StepTests.{list_fits}
 use Rattle.nd_run.proofs.steps.take_step.Goals as goal

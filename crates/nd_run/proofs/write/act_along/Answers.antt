@@ -1,6 +1,6 @@
 use Rattle.std.proofs.Common.{map}
 use Rattle.nd_array_core.specs.Meaning.{meaning_of}
-use Rattle.nd_run.specs.Calls.{asked_step, acting}
+use Rattle.nd_read.specs.Calls.{asked_step, acting}
 use Rattle.nd_run.proofs.WriteLaws.{writes}
 use Rattle.nd_run.proofs.write.act_along.Goals as goal
 

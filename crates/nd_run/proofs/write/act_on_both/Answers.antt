@@ -1,6 +1,6 @@
 use Rattle.std.proofs.Common.{◌∙◌, sym}
 use Rattle.nd_array_core.specs.Meaning.{meaning_of, shape_of}
-use Rattle.nd_run.specs.Calls.{acting}
+use Rattle.nd_read.specs.Calls.{acting}
 use Rattle.nd_run.specs.Acts.{act_tests}
 use Rattle.nd_run.proofs.FoldLemmas.{tests_pass, tests_stop}
 use Rattle.nd_run.proofs.WriteLaws.{both_refused}

@@ -1,6 +1,6 @@
 use Rattle.std.proofs.Common.{◌≡◌, ◌∙◌, sym, ap, map, None}
 use Rattle.nd_array_core.specs.Meaning.{shape_of, placed_array}
-use Rattle.nd_run.specs.Calls.{asked_step}
+use Rattle.nd_read.specs.Calls.{asked_step}
 use Rattle.nd_run.specs.Steps.{keep_tests, keep_refusal}
 use Rattle.nd_run.proofs.StepTests.{keep_allows}
 use Rattle.nd_paths.specs.Paths.{places_in}

@@ -1,6 +1,6 @@
 use Rattle.std.proofs.Common.{◌≡◌, map, drop}
 use Rattle.nd_array_core.specs.Meaning.{storage_of, placed_array}
-use Rattle.nd_run.specs.Calls.{asked_step}
+use Rattle.nd_read.specs.Calls.{asked_step}
 use Rattle.nd_paths.specs.Paths.{places_in}
 use Rattle.nd_run.specs.Steps.{keep_tests}
 use Rattle.nd_run.specs.Fold.{path_result}

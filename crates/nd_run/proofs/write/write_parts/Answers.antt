@@ -1,7 +1,7 @@
 use Rattle.std.proofs.Common.{◌≡◌, ◌∙◌, sym, ap, None, refl}
 use Rattle.nd_shape_and_slice.specs.Maps.{lower_shape, upper_shape, upper_index}
 use Rattle.nd_array_core.specs.Meaning.{meaning_of}
-use Rattle.nd_run.specs.Calls.{acting, SplitWriting}
+use Rattle.nd_read.specs.Calls.{acting, SplitWriting}
 use Rattle.nd_run.specs.Acts.{point_refusal, split_refusal, lower_meaning, upper_meaning}
 use Rattle.nd_run.specs.Written.{acted_elements_unless}
 use Rattle.nd_run.proofs.WritePaths.{is_none}

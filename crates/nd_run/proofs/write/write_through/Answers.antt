@@ -1,6 +1,6 @@
 use Rattle.std.proofs.Common.{map, refl}
 use Rattle.nd_array_core.specs.Meaning.{meaning_of}
-use Rattle.nd_run.specs.Calls.{asked_step, acting, Writing}
+use Rattle.nd_read.specs.Calls.{asked_step, acting, Writing}
 use Rattle.nd_run.proofs.FoldLemmas.{carried}
 use Rattle.nd_run.proofs.write.write_through.Goals as goal
 

@@ -1,0 +1,10 @@
+pub mod BadLines
+pub mod Items
+pub mod Lacking
+pub mod ScriptLaws
+pub mod Scripts
+pub mod TextLaws
+pub mod Forms
+pub mod Rows
+pub mod ArrayLaws
+pub mod SliceEnds

@@ -1,0 +1,190 @@
+-- Which words write what: the grammar of a line, apart from any way of reading it.
+use Rattle.std.specs.Prelude.{◌≡◌, ℕ, ◌≤◌, List, [], ◌∷◌, ◌++◌, length, slice_get, ℤ, Option, None, Some, codes}
+use Rattle.nd_shape_and_slice.specs.Shape.{HasCheckedSize, size_of, row_rank}
+use Rattle.nd_array_core.specs.Laws.{with_axis_inserted}
+use Rattle.nd_array_core.specs.Meaning.{Meaning, inside}
+use Rattle.nd_shape_and_slice.specs.declared.slice.Slice.{Slice}
+use Rattle.nd_shape_and_slice.specs.declared.slice_info.SliceInfoElem.{SliceInfoElem}
+use Rattle.nd_shape_and_slice.specs.declared.slice_info.SliceInfoElem.TheVariants.{Slice as Cutting, Index as At, NewAxis}
+use Rattle.nd_shape_and_slice.specs.declared.builder.Order.{Order}
+use Rattle.nd_shape_and_slice.specs.declared.builder.Order.TheVariants.{RowMajor, ColumnMajor}
+use Rattle.nd_text.specs.declared.keyword.Keyword.{Keyword}
+use Rattle.nd_text.specs.declared.keyword.Keyword.TheVariants.{Start, Keep, Ask, Write, Split, Slash, Cut, Slice as SliceWord, Collapse, Index, Permute, Reverse, SwapAxes, Invert, Insert, Remove, Squeeze, Diag, Broadcast, Part, Coordinate, New, Shape, Elements, Get, First, Last, Equal, Count, Select, RemoveIndex, Reshape, Append, Push, Reserve, Concat, Stack, Row, Column, Fill, Assign, Set, Swap}
+use Rattle.nd_read.specs.Calls.{AskedStep, SlicedAxis, Sliced, Collapsed, Indexed, Permuted, Reversed, Exchanged, Inverted, Inserted, Removed, Squeezed, Diagonal, BroadcastTo, Asking, AskShape, AskElements, AskElement, AskFirst, AskLast, AskEqual, AskCount, AskReshaped, Acting, Filling, Assigning, Setting, Swapping, Asked, Keeping, About, Writing, SplitWriting, Selecting, Removing, Reshaping, Appending, Reserving, Concatenating, Stacking}
+use Rattle.nd_text.specs.Numerals.{IsNat, IsInt}
+use Rattle.nd_text.specs.Spelling.{spelling}
+
+-- ---- ways to put writings together
+
+-- as many writings as items, each writing the item at its place
+abbrev pub AreAll : {W X : Type 0} → (W → X → Type 0) → List W → List X → Type 0
+AreAll Is [] [] = Unit {0}
+AreAll Is [] (x ∷ xs) = ⊥
+AreAll Is (w ∷ ws) [] = ⊥
+AreAll Is (w ∷ ws) (x ∷ xs) = Is w x × AreAll Is ws xs
+
+-- one word
+abbrev pub IsWord : {X : Type 0} → (List ℕ → X → Type 0) → List (List ℕ) → X → Type 0
+IsWord Is words x = (word : List ℕ) × (words ≡ word ∷ []) × Is word x
+
+-- no word
+abbrev pub IsBare : {X : Type 0} → X → List (List ℕ) → X → Type 0
+IsBare made words x = (words ≡ []) × (x ≡ made)
+
+-- one thing, and then another
+abbrev pub IsBoth : {X Y : Type 0} → (List (List ℕ) → X → Type 0) → (List (List ℕ) → Y → Type 0) → List (List ℕ) → X × Y → Type 0
+IsBoth Is Js words x = (front : List (List ℕ)) × (back : List (List ℕ)) × (words ≡ front ++ back) × Is front x.0 × Js back x.1
+
+-- what is made of what is written
+abbrev pub IsMade : {X Y : Type 0} → (X → Y) → (List (List ℕ) → X → Type 0) → List (List ℕ) → Y → Type 0
+IsMade {X} make Is words y = (x : X) × (y ≡ make x) × Is words x
+
+-- the items one after another, each in the words that write it
+abbrev pub AreInTurn : {X : Type 0} → (List (List ℕ) → X → Type 0) → List (List ℕ) → List X → Type 0
+AreInTurn Is words [] = words ≡ []
+AreInTurn Is words (x ∷ xs) = (front : List (List ℕ)) × (back : List (List ℕ)) × (words ≡ front ++ back) × Is front x × AreInTurn Is back xs
+
+-- how many items there are, and then they
+abbrev pub IsCounted : {X : Type 0} → (List (List ℕ) → X → Type 0) → List (List ℕ) → List X → Type 0
+IsCounted Is words xs = IsBoth (IsWord IsNat) (AreInTurn Is) words (length xs, xs)
+
+-- a keyword, and then what stands behind it
+abbrev pub HasKeyword : {X : Type 0} → (Keyword → List (List ℕ) → X → Type 0) → List (List ℕ) → X → Type 0
+HasKeyword Behind words x = (name : Keyword) × (rest : List (List ℕ)) × (words ≡ spelling name ∷ rest) × Behind name rest x
+
+abbrev pub IsSlashBehind : Keyword → List (List ℕ) → Unit {0} → Type 0
+IsSlashBehind Slash words it = IsBare tt words it
+IsSlashBehind _ words it = ⊥
+
+-- a slash after it
+abbrev pub IsSlashed : {X : Type 0} → (List (List ℕ) → X → Type 0) → List (List ℕ) → X → Type 0
+IsSlashed Is words x = IsMade (λ p. p.0) (IsBoth Is (HasKeyword IsSlashBehind)) words x
+
+-- ---- numbers, lists and arrays
+
+abbrev pub IsPair : List (List ℕ) → ℕ × ℕ → Type 0
+IsPair words pair = IsBoth (IsWord IsNat) (IsWord IsNat) words pair
+
+abbrev pub IsList : List (List ℕ) → List ℕ → Type 0
+IsList words numbers = IsCounted (IsWord IsNat) words numbers
+
+abbrev pub IsOrderBehind : Keyword → List (List ℕ) → Order → Type 0
+IsOrderBehind Row words order = IsBare RowMajor words order
+IsOrderBehind Column words order = IsBare ColumnMajor words order
+IsOrderBehind _ words order = ⊥
+
+-- an order, and a list of lengths
+abbrev pub IsOrderedList : List (List ℕ) → Order × List ℕ → Type 0
+IsOrderedList words shape = IsBoth (HasKeyword IsOrderBehind) IsList words shape
+
+-- the array of these lengths with these elements in row-major order
+abbrev pub array_of : {A : Type 0} → List ℕ → List A → Meaning A
+array_of lengths elements = record { shape = lengths; at = λ i. inside lengths i (slice_get elements (row_rank lengths i)) }
+
+-- the lengths, at most 32 and with a checked size, and then as many elements as that size says
+abbrev pub AreParts : List (List ℕ) → List ℕ × List ℤ → Type 0
+AreParts words parts =
+    (front : List (List ℕ)) × (back : List (List ℕ)) × (words ≡ front ++ back)
+    × IsList front parts.0 × (length parts.0 ≤ 32) × HasCheckedSize parts.0
+    × AreInTurn (IsWord IsInt) back parts.1 × (length parts.1 ≡ size_of parts.0)
+
+-- an array: its lengths, and its elements in row-major order
+abbrev pub IsArray : List (List ℕ) → Meaning ℤ → Type 0
+IsArray words array = IsMade (λ parts. array_of parts.0 parts.1) AreParts words array
+
+-- ---- slices
+
+-- an end of a slice, or the sign that it is missing
+abbrev pub IsEnd : List ℕ → Option ℤ → Type 0
+IsEnd word None = word ≡ codes "_"
+IsEnd word (Some end) = IsInt word end
+
+-- start, end and step of a slice
+abbrev pub IsSlice : List (List ℕ) → Slice → Type 0
+IsSlice words slice = IsMade (λ x. record { start = x.0; end = x.1.0; step = x.1.1 }) (IsBoth (IsWord IsInt) (IsBoth (IsWord IsEnd) (IsWord IsInt))) words slice
+
+-- what is done with an axis: a slice of it, one coordinate, or a new one
+abbrev pub IsElementBehind : Keyword → List (List ℕ) → SliceInfoElem → Type 0
+IsElementBehind Part words element = IsMade (λ s. Cutting s.start s.end s.step) IsSlice words element
+IsElementBehind Coordinate words element = IsMade At (IsWord IsInt) words element
+IsElementBehind New words element = IsBare NewAxis words element
+IsElementBehind _ words element = ⊥
+
+abbrev pub IsElement : List (List ℕ) → SliceInfoElem → Type 0
+IsElement words element = HasKeyword IsElementBehind words element
+
+-- ---- steps, questions, acts and calls: a row for each keyword
+
+abbrev pub IsStepBehind : Keyword → List (List ℕ) → AskedStep → Type 0
+IsStepBehind Cut words step = IsMade (λ x. SlicedAxis x.0 x.1) (IsBoth (IsWord IsNat) IsSlice) words step
+IsStepBehind SliceWord words step = IsMade Sliced (IsCounted IsElement) words step
+IsStepBehind Collapse words step = IsMade (λ x. Collapsed x.0 x.1) IsPair words step
+IsStepBehind Index words step = IsMade (λ x. Indexed x.0 x.1) IsPair words step
+IsStepBehind Permute words step = IsMade Permuted IsList words step
+IsStepBehind Reverse words step = IsBare Reversed words step
+IsStepBehind SwapAxes words step = IsMade (λ x. Exchanged x.0 x.1) IsPair words step
+IsStepBehind Invert words step = IsMade Inverted (IsWord IsNat) words step
+IsStepBehind Insert words step = IsMade Inserted (IsWord IsNat) words step
+IsStepBehind Remove words step = IsMade Removed (IsWord IsNat) words step
+IsStepBehind Squeeze words step = IsBare Squeezed words step
+IsStepBehind Diag words step = IsBare Diagonal words step
+IsStepBehind Broadcast words step = IsMade BroadcastTo IsList words step
+IsStepBehind _ words step = ⊥
+
+abbrev pub IsStepText : List (List ℕ) → AskedStep → Type 0
+IsStepText words step = HasKeyword IsStepBehind words step
+
+-- any number of steps, each followed by a slash
+abbrev pub IsPath : List (List ℕ) → List AskedStep → Type 0
+IsPath words path = AreInTurn (IsSlashed IsStepText) words path
+
+abbrev pub IsQuestionBehind : Keyword → List (List ℕ) → Asking ℤ → Type 0
+IsQuestionBehind Shape words question = IsBare AskShape words question
+IsQuestionBehind Elements words question = IsBare AskElements words question
+IsQuestionBehind Get words question = IsMade AskElement IsList words question
+IsQuestionBehind First words question = IsBare AskFirst words question
+IsQuestionBehind Last words question = IsBare AskLast words question
+IsQuestionBehind Equal words question = IsMade AskEqual IsArray words question
+IsQuestionBehind Count words question = IsMade AskCount (IsWord IsInt) words question
+IsQuestionBehind Reshape words question = IsMade (λ x. AskReshaped x.1 x.0) IsOrderedList words question
+IsQuestionBehind _ words question = ⊥
+
+abbrev pub IsQuestion : List (List ℕ) → Asking ℤ → Type 0
+IsQuestion words question = HasKeyword IsQuestionBehind words question
+
+abbrev pub IsActBehind : Keyword → List (List ℕ) → Acting ℤ → Type 0
+IsActBehind Fill words act = IsMade Filling (IsWord IsInt) words act
+IsActBehind Assign words act = IsMade Assigning IsArray words act
+IsActBehind Set words act = IsMade (λ x. Setting x.0 x.1) (IsBoth IsList (IsWord IsInt)) words act
+IsActBehind Swap words act = IsMade (λ x. Swapping x.0 x.1) (IsBoth IsList IsList) words act
+IsActBehind _ words act = ⊥
+
+abbrev pub IsAct : List (List ℕ) → Acting ℤ → Type 0
+IsAct words act = HasKeyword IsActBehind words act
+
+abbrev pub IsCallBehind : Keyword → List (List ℕ) → Asked ℤ → Type 0
+IsCallBehind Keep words call = IsMade Keeping IsStepText words call
+IsCallBehind Ask words call = IsMade (λ x. About x.0 x.1) (IsBoth IsPath IsQuestion) words call
+IsCallBehind Write words call = IsMade (λ x. Writing x.0 x.1) (IsBoth IsPath IsAct) words call
+IsCallBehind Split words call = IsMade (λ x. SplitWriting x.0.0 x.0.1 x.1.0 x.1.1) (IsBoth IsPair (IsBoth (IsSlashed IsAct) IsAct)) words call
+IsCallBehind Select words call = IsMade (λ x. Selecting x.0 x.1) (IsBoth (IsWord IsNat) IsList) words call
+IsCallBehind RemoveIndex words call = IsMade (λ x. Removing x.0 x.1) IsPair words call
+IsCallBehind Reshape words call = IsMade (λ x. Reshaping x.1 x.0) IsOrderedList words call
+IsCallBehind Append words call = IsMade (λ x. Appending x.0 x.1) (IsBoth (IsWord IsNat) IsArray) words call
+IsCallBehind Push words call = IsMade (λ x. Appending x.0 (with_axis_inserted x.0 x.1)) (IsBoth (IsWord IsNat) IsArray) words call
+IsCallBehind Reserve words call = IsMade (λ x. Reserving x.0 x.1) IsPair words call
+IsCallBehind Concat words call = IsMade (λ x. Concatenating x.0 x.1) (IsBoth (IsWord IsNat) (IsCounted IsArray)) words call
+IsCallBehind Stack words call = IsMade (λ x. Stacking x.0 x.1) (IsBoth (IsWord IsNat) (IsCounted IsArray)) words call
+IsCallBehind _ words call = ⊥
+
+-- the words of a line are this call
+abbrev pub IsCall : List (List ℕ) → Asked ℤ → Type 0
+IsCall words call = HasKeyword IsCallBehind words call
+
+abbrev pub IsStartBehind : Keyword → List (List ℕ) → Meaning ℤ → Type 0
+IsStartBehind Start words array = IsArray words array
+IsStartBehind _ words array = ⊥
+
+-- the words of a line start a script with this array
+abbrev pub IsStart : List (List ℕ) → Meaning ℤ → Type 0
+IsStart words array = HasKeyword IsStartBehind words array

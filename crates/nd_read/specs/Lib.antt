@@ -1,0 +1,5 @@
+pub mod Calls
+pub mod Grammar
+pub mod Reading
+pub mod Script
+pub mod Laws

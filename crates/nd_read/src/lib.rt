@@ -1,0 +1,12 @@
+//! Scripts of calls on one array, as values, and what reads them from text.
+//!
+//! `read_script` reads a text: the array that a script starts with, and the calls on it.
+#![tactic(auto)]
+
+mod calls;
+pub mod laws;
+mod reader;
+
+pub use calls::{Act, Call, Holds, Question, Step};
+pub use reader::fault::ScriptError;
+pub use reader::{Held, Script, read_script};

@@ -1,0 +1,89 @@
+//! Lines read one by one, by what remembers whether memory was refused for one of them.
+
+ghost use Rattle.std.specs.Prelude.{◌≡◌, ◌||◌, ◌++◌, ◌∷◌, [], false, OnOk, IfErr, IsTrue};
+ghost use Rattle.nd_array_core.specs.Meaning.{meaning_of};
+ghost use Rattle.nd_read.specs.Calls.{asked_call, boxed};
+ghost use Rattle.nd_read.specs.Script.{GivesScript, StartMayLack, CallMayLack, read_or_number, call_in, start_in, lacked_memory, lacks_memory};
+
+use super::fault::{LineFault, ScriptError};
+use super::{Held, line};
+use crate::calls::Call;
+use nd_array_core::Array;
+use nd_shape_and_slice::IxDyn;
+use std::alloc::Global;
+
+/// What lines are read by. It remembers whether memory was refused.
+#[derive(Drop)]
+pub struct LineReader {
+    alloc: Global,
+    lacked: bool,
+}
+
+impl LineReader {
+    pub fn new(alloc: Global) -> LineReader
+        ensures { lacked_memory result ≡ false }
+    {
+        LineReader {
+            alloc,
+            lacked: false,
+        }
+    }
+
+    /// Notes that memory was refused.
+    fn lack(&mut self) -> ScriptError
+        ensures fault { result ≡ ScriptError.Memory }
+        ensures lacked { IsTrue (lacked_memory self.new) }
+    {
+        self.lacked = true;
+        ScriptError::Memory
+    }
+
+    /// The array that a line of this number starts a script with.
+    pub fn start(&mut self, number: usize, line: &[u8]) -> Result<Array<i64, IxDyn>, ScriptError>
+        ensures read { GivesScript meaning_of result (read_or_number number (start_in line.now)) }
+        ensures memory { result ≡ Err ScriptError.Memory → StartMayLack line.now }
+        ensures lacked { lacked_memory self.new ≡ (lacks_memory result || lacked_memory self.old) }
+    {
+        match line::start(self.alloc, line) {
+            Ok(start) => Ok(start),
+            Err(LineFault::Bad) => Err(ScriptError::BadLine(number)),
+            Err(LineFault::Memory) => Err(self.lack()),
+        }
+    }
+
+    /// The call of a line of this number.
+    pub fn call(&mut self, number: usize, line: &[u8]) -> Result<Call<i64, Held>, ScriptError>
+        ensures read { GivesScript (asked_call (boxed meaning_of)) result (read_or_number number (call_in line.now)) }
+        ensures memory { result ≡ Err ScriptError.Memory → CallMayLack line.now }
+        ensures lacked { lacked_memory self.new ≡ (lacks_memory result || lacked_memory self.old) }
+    {
+        match line::call(self.alloc, line) {
+            Ok(call) => Ok(call),
+            Err(LineFault::Bad) => Err(ScriptError::BadLine(number)),
+            Err(LineFault::Memory) => Err(self.lack()),
+        }
+    }
+
+    /// A list of calls, without any yet.
+    pub fn list(&self) -> Vec<Call<i64, Held>>
+        ensures { result.items ≡ [] }
+    {
+        Vec::new(self.alloc)
+    }
+
+    /// Puts a call behind the others.
+    pub fn keep(
+        &mut self,
+        calls: &mut Vec<Call<i64, Held>>,
+        call: Call<i64, Held>,
+    ) -> Result<(), ScriptError>
+        ensures kept { OnOk result (calls.new.items ≡ calls.old.items ++ call ∷ []) }
+        ensures fault { IfErr result (λ fault. fault ≡ ScriptError.Memory) }
+        ensures lacked { lacked_memory self.new ≡ (lacks_memory result || lacked_memory self.old) }
+    {
+        match calls.push(call) {
+            Ok(()) => Ok(()),
+            Err(_) => Err(self.lack()),
+        }
+    }
+}

@@ -1,5 +1,0 @@
-use Rattle.nd_run.proofs.TextLaws.{means_one_call}
-use Rattle.nd_run.proofs.laws.line_means_one_call.Goals as goal
-
-pub returns : goal.returns
-returns c = means_one_call
