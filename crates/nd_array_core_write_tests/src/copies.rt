@@ -1,16 +1,13 @@
 //! Clones of owned arrays, views made by `From`, and the last element written.
 
-use crate::tables::{inverted, is_table, lies_in, table};
+use crate::tables::{by_columns, inverted, is_table, lies_in, table};
 use nd_array_core::{Array2, ArrayView, ArrayViewMut, GetMut};
-use nd_shape_and_slice::{Axis, ShapeBuilder};
-use nd_test_arrays::made;
+use nd_shape_and_slice::Axis;
 
 #[test]
 #[tactic(auto, using(nd_array_core::proofs::Axes::known_axes))]
 fn a_clone_lies_as_its_original_does(rt: HostRuntime) {
-    let mut array: Array2<u64> = made(rt.alloc(), (2, 3).f(), &[1, 2, 3, 4, 5, 6]).expect(
-        &rt, "made",
-    );
+    let mut array = by_columns(&rt, (2, 3), &[1, 2, 3, 4, 5, 6]);
     array.invert_axis(Axis(0));
     let copy = array.clone().expect(&rt, "memory");
     assert!(rt; copy.strides() == array.strides());
@@ -27,12 +24,21 @@ fn views_of_arrays(rt: HostRuntime) {
     assert!(rt; is_table(&array, [2, 2], &[5, 5, 5, 5]));
 }
 
+/// Puts a number in place of the last element: whether there was one.
+fn put_last(array: &mut Array2<u64>, value: u64) -> bool {
+    match array.last_mut() {
+        Some(last) => {
+            *last = value;
+            true
+        }
+        None => false,
+    }
+}
+
 #[test]
 fn the_last_element_written(rt: HostRuntime) {
     let mut array = inverted(&rt, (2, 2), Axis(0), &[1, 2, 3, 4]);
-    if let Some(last) = array.last_mut() {
-        *last = 9;
-    }
     let mut none = table(&rt, (2, 0), &[]);
-    assert!(rt; is_table(&array, [2, 2], &[3, 4, 1, 9]) && none.last_mut().is_none());
+    assert!(rt; put_last(&mut array, 9) && !put_last(&mut none, 9));
+    assert!(rt; is_table(&array, [2, 2], &[3, 4, 1, 9]));
 }

@@ -2,19 +2,23 @@
 
 ghost use Rattle.std.specs.Prelude.{ℕ};
 
-use crate::tables::{inverted, lies_in, table};
+use crate::tables::{by_columns, goes_by, inverted, is_table, lies_in, table};
 use nd_array_core::{Array2, ArrayView2};
 use nd_shape_and_slice::{Axis, ShapeBuilder, Slice};
-use nd_test_arrays::{array_of, made, numbers, rows_listed};
+use std::alloc::Global;
 use std::cell::Cell;
 use std::hash::{DefaultHasher, Hash, Hasher};
 use std::process::Abort;
-use std::test::Fail;
+
+/// Whether two tables are equal.
+fn same(one: &Array2<u64>, other: &Array2<u64>) -> bool {
+    one == other
+}
 
 /// The number that a hasher gives for an image.
-fn hashed(image: &ArrayView2<'_, u64>) -> u64 {
+fn hashed(image: &Array2<u64>) -> u64 {
     let mut hasher = DefaultHasher::default();
-    image.hash(&mut hasher);
+    image.view().hash(&mut hasher);
     hasher.finish()
 }
 
@@ -94,9 +98,9 @@ fn equal_arrays_are_fed_alike(rt: HostRuntime) {
 #[test]
 fn equal_in_either_order(rt: HostRuntime) {
     let rows = table(&rt, (2, 3), &[1, 2, 3, 4, 5, 6]);
-    let mut columns = made(rt.alloc(), (2, 3).f(), &[1, 4, 2, 5, 3, 6]).expect(&rt, "made");
-    assert!(rt; rows == columns && columns == rows);
-    assert!(rt; hashed(&rows.view()) == hashed(&columns.view()));
+    let mut columns = by_columns(&rt, (2, 3), &[1, 4, 2, 5, 3, 6]);
+    assert!(rt; same(&rows, &columns) && same(&columns, &rows));
+    assert!(rt; hashed(&rows) == hashed(&columns));
     columns[[1, 2]] = 7;
     assert!(rt; rows != columns);
 }
@@ -107,63 +111,90 @@ fn shapes_tell_arrays_apart(rt: HostRuntime) {
     let high = table(&rt, (3, 2), &[1, 2, 3, 4, 5, 6]);
     let none = table(&rt, (2, 0), &[]);
     let other = table(&rt, (0, 2), &[]);
-    assert!(rt; wide != high && none != other && none == none);
+    assert!(rt; !same(&wide, &high) && !same(&none, &other) && same(&none, &none));
 }
 
 #[test]
 fn a_hasher_is_fed_the_shape_and_each_element(rt: HostRuntime) {
-    let image = made(rt.alloc(), (2, 2).f(), &[1, 2, 3, 4]).expect(&rt, "made");
+    let image = by_columns(&rt, (2, 2), &[1, 2, 3, 4]);
     let mut hasher = DefaultHasher::default();
     [2usize, 2].as_slice().hash(&mut hasher);
     for number in [1u64, 3, 2, 4] {
         number.hash(&mut hasher);
     }
-    assert!(rt; hashed(&image.view()) == hasher.finish());
+    assert!(rt; hashed(&image) == hasher.finish());
+}
+
+/// Whether every third column is a vector of these numbers.
+fn columns_listed(alloc: Global, image: &ArrayView2<'_, u64>, wanted: &[u64]) -> bool {
+    let (_rows, _columns) = image.dim();
+    match image
+        .slice_axis(Axis(1), Slice::new(0, None, 3))
+        .to_vec(alloc)
+    {
+        Ok(items) => items.as_slice() == wanted,
+        Err(_) => false,
+    }
+}
+
+/// The same of every second row from the last one on.
+fn part_listed(alloc: Global, image: &Array2<u64>, wanted: &[u64]) -> bool {
+    let (_rows, _columns) = image.dim();
+    columns_listed(
+        alloc,
+        &image.slice_axis(Axis(0), Slice::new(0, None, -2)),
+        wanted,
+    )
+}
+
+/// Whether the transpose is a vector of these numbers.
+fn transpose_listed(alloc: Global, image: &Array2<u64>, wanted: &[u64]) -> bool {
+    match image.t().to_vec(alloc) {
+        Ok(items) => items.as_slice() == wanted,
+        Err(_) => false,
+    }
 }
 
 #[test]
-fn elements_of_a_view_as_a_vector(rt: HostRuntime) -> Result<(), Fail> {
-    let image: Array2<u64> = array_of((3, 4), numbers(rt.alloc(), 0, 12)?)?;
-    let rows = image.slice_axis(Axis(0), Slice::new(0, None, -2));
-    match rows
-        .slice_axis(Axis(1), Slice::new(0, None, 3))
-        .to_vec(rt.alloc())
-    {
-        Ok(items) => assert_eq!(rt; items.as_slice(), [8, 11, 0, 3].as_slice()),
-        Err(_) => return Err("memory".into()),
-    }
-    match image.t().to_vec(rt.alloc()) {
-        Ok(items) => assert_eq!(rt;
-            items.as_slice(),
-            [0, 4, 8, 1, 5, 9, 2, 6, 10, 3, 7, 11].as_slice()
-        ),
-        Err(_) => return Err("memory".into()),
-    }
-    Ok(())
+fn elements_of_a_view_as_a_vector(rt: HostRuntime) {
+    let image = table(&rt, (3, 4), &[0, 1, 2, 3, 4, 5, 6, 7, 8, 9, 10, 11]);
+    assert!(rt; part_listed(rt.alloc(), &image, &[8, 11, 0, 3]));
+    let wanted = [0, 4, 8, 1, 5, 9, 2, 6, 10, 3, 7, 11];
+    assert!(rt; transpose_listed(rt.alloc(), &image, &wanted));
 }
 
 #[test]
 fn a_copy_of_a_run_keeps_its_strides(rt: HostRuntime) {
     let image = inverted(&rt, (2, 3), Axis(0), &[1, 2, 3, 4, 5, 6]);
     let copy = image.t().to_owned(rt.alloc()).expect(&rt, "memory");
-    assert!(rt; copy.strides() == [1, -3].as_slice() && copy.view() == image.t());
+    assert!(rt; goes_by(&copy, [1, -3]) && copy.view() == image.t());
     assert!(rt; lies_in(copy, &[1, 2, 3, 4, 5, 6], Some(3)));
 }
 
-#[test]
-fn a_copy_of_a_part_is_in_row_major_order(rt: HostRuntime) -> Result<(), Fail> {
-    let image: Array2<u64> = array_of((3, 3), numbers(rt.alloc(), 1, 9)?)?;
-    let rows = image.slice_axis(Axis(0), Slice::new(0, None, -1));
-    match rows
-        .slice_axis(Axis(1), Slice::new(0, Some(2), 1))
-        .to_owned(rt.alloc())
-    {
-        Ok(copy) => {
-            assert_eq!(rt; copy.strides(), [2, 1].as_slice());
-            let listed = rows_listed(rt.alloc(), &copy)?;
-            assert_eq!(rt; listed.as_slice(), [7, 8, 4, 5, 1, 2].as_slice());
-            Ok(())
-        }
-        Err(_) => Err("memory".into()),
+/// A copy of the first two columns; None where there is only one, or memory lacks.
+fn columns_copied(alloc: Global, image: &ArrayView2<'_, u64>) -> Option<Array2<u64>> {
+    let (_rows, columns) = image.dim();
+    if columns < 2 {
+        return None;
     }
+    match image
+        .slice_axis(Axis(1), Slice::new(0, Some(2), 1))
+        .to_owned(alloc)
+    {
+        Ok(copy) => Some(copy),
+        Err(_) => None,
+    }
+}
+
+/// The same from the last row on.
+fn part_copied(alloc: Global, image: &Array2<u64>) -> Option<Array2<u64>> {
+    let (_rows, _columns) = image.dim();
+    columns_copied(alloc, &image.slice_axis(Axis(0), Slice::new(0, None, -1)))
+}
+
+#[test]
+fn a_copy_of_a_part_is_in_row_major_order(rt: HostRuntime) {
+    let image = table(&rt, (3, 3), &[1, 2, 3, 4, 5, 6, 7, 8, 9]);
+    let copy = part_copied(rt.alloc(), &image).expect(&rt, "memory");
+    assert!(rt; goes_by(&copy, [2, 1]) && is_table(&copy, [3, 2], &[7, 8, 4, 5, 1, 2]));
 }

@@ -24,44 +24,97 @@ fn put_seen<A: Drop, D: Dimension, Sh: IntoStrideShape<Dim = D>, I: NdIndex<D>>(
     with_view_of(slice, shape, task)
 }
 
-fn at<I: Drop>(index: I, value: u64) -> Put<I, u64>
-    ensures { result ≡ record { index = index; value = value } }
-{
-    Put { index, value }
+// How a call ends: with the element that it found, or with the cause of a refusal.
+type End = Result<u64, ErrorKind>;
+
+fn end_of(old: Result<u64, ShapeError>) -> End {
+    match old {
+        Ok(old) => Ok(old),
+        Err(error) => Err(error.kind()),
+    }
+}
+
+// Puts a number under a shape of rows; None where that has no such index.
+fn put_in_rows(
+    items: &mut [u64],
+    shape: (usize, usize),
+    (row, column): (usize, usize),
+    value: u64,
+) -> Option<End> {
+    if row >= shape.0 || column >= shape.1 {
+        return None;
+    }
+    let index = [row, column];
+    Some(end_of(put_seen(items, shape, Put { index, value })))
+}
+
+// The same under a shape of columns.
+fn put_in_columns(
+    items: &mut [u64],
+    shape: (usize, usize),
+    (row, column): (usize, usize),
+    value: u64,
+) -> Option<End> {
+    if row >= shape.0 || column >= shape.1 {
+        return None;
+    }
+    let index = [row, column];
+    Some(end_of(put_seen(items, shape.f(), Put { index, value })))
+}
+
+// The same by strides.
+fn put_by_strides(
+    items: &mut [u64],
+    shape: (usize, usize),
+    strides: [isize; 2],
+    (row, column): (usize, usize),
+    value: u64,
+) -> Option<End> {
+    if row >= shape.0 || column >= shape.1 {
+        return None;
+    }
+    let index = [row, column];
+    Some(end_of(put_seen(items, shape.strides(&strides), Put { index, value })))
+}
+
+// The same of a line.
+fn put_in_line(
+    items: &mut [u64],
+    length: usize,
+    stride: isize,
+    index: usize,
+    value: u64,
+) -> Option<End> {
+    if index >= length {
+        return None;
+    }
+    Some(end_of(put_seen(items, length.strides(&[stride]), Put { index, value })))
 }
 
 #[test]
 fn elements_under_a_shape(rt: HostRuntime) {
     let mut items = [1u64, 2, 3, 4, 5, 6];
-    let old = put_seen(&mut items, (2, 3).f(), at([1, 0], 20));
-    assert!(rt; matches!(old, Ok(2)));
-    assert_eq!(rt; items, [1, 20, 3, 4, 5, 6]);
-    let old = put_seen(&mut items, (2, 2).strides(&[3, 1]), at([1, 1], 50));
-    assert!(rt; matches!(old, Ok(5)));
-    assert_eq!(rt; items, [1, 20, 3, 4, 50, 6]);
-    let old = put_seen(&mut items, 3.strides(&[-2]), at(0, 51));
-    assert!(rt; matches!(old, Ok(50)));
-    assert_eq!(rt; items, [1, 20, 3, 4, 51, 6]);
+    assert!(rt; put_in_columns(&mut items, (2, 3), (1, 0), 20) == Some(Ok(2)));
+    assert!(rt; items == [1, 20, 3, 4, 5, 6]);
+    assert!(rt; put_by_strides(&mut items, (2, 2), [3, 1], (1, 1), 50) == Some(Ok(5)));
+    assert!(rt; items == [1, 20, 3, 4, 50, 6]);
+    assert!(rt; put_in_line(&mut items, 3, -2, 0, 51) == Some(Ok(50)));
+    assert!(rt; items == [1, 20, 3, 4, 51, 6]);
 }
 
 #[test]
 fn elements_beyond_the_shape(rt: HostRuntime) {
     let mut items = [1u64, 2, 3, 4, 5, 6];
-    let old = put_seen(&mut items, (2, 2), at([1, 1], 40));
-    assert!(rt; matches!(old, Ok(4)));
-    assert_eq!(rt; items, [1, 2, 3, 40, 5, 6]);
+    assert!(rt; put_in_rows(&mut items, (2, 2), (1, 1), 40) == Some(Ok(4)));
+    assert!(rt; items == [1, 2, 3, 40, 5, 6]);
 }
 
 #[test]
 fn refused_shapes(rt: HostRuntime) {
     let mut items = [1u64, 2, 3, 4, 5, 6];
-    match put_seen(&mut items, (2, 4), at([0, 0], 9)) {
-        Ok(_) => assert!(rt; false),
-        Err(cause) => assert_eq!(rt; cause.kind(), ErrorKind::OutOfBounds),
-    }
-    match put_seen(&mut items, (2, 2).strides(&[1, 1]), at([0, 0], 9)) {
-        Ok(_) => assert!(rt; false),
-        Err(cause) => assert_eq!(rt; cause.kind(), ErrorKind::Unsupported),
-    }
-    assert_eq!(rt; items, [1, 2, 3, 4, 5, 6]);
+    let end = put_in_rows(&mut items, (2, 4), (0, 0), 9);
+    assert!(rt; end == Some(Err(ErrorKind::OutOfBounds)));
+    let end = put_by_strides(&mut items, (2, 2), [1, 1], (0, 0), 9);
+    assert!(rt; end == Some(Err(ErrorKind::Unsupported)));
+    assert!(rt; items == [1, 2, 3, 4, 5, 6]);
 }

@@ -10,6 +10,7 @@ use nd_array_core::{Array, Array2, ArrayBase, Data};
 use nd_shape_and_slice::{Axis, Ix2, Slice};
 use nd_test_arrays::{Numbered, Refusing, Tally, lists, shows};
 use std::alloc::Global;
+use std::process::Abort;
 
 /// Whether a tally has so many clones left, and so many numbers are there.
 fn is_at(tally: &Tally, left: u64, living: u32) -> bool {
@@ -77,6 +78,20 @@ fn made<A: Numbered + Clone + Drop>(
     }
 }
 
+/// Whether a copy or a vector in this way ends as it should where so many clones are allowed, and leaves its image.
+fn copies_right(
+    rt: &(impl Abort + AllocGlobal),
+    tally: &Tally,
+    way: u64,
+    wanted: &[u64],
+    end: Option<bool>,
+) -> bool {
+    let image = counted(rt, (2, 3), &[1, 2, 3, 4, 5, 6], tally);
+    made(rt.alloc(), &image, way, wanted) == end
+        && is_at(tally, 0, 6)
+        && is_counted(&image, [2, 3], &[1, 2, 3, 4, 5, 6])
+}
+
 #[test]
 fn copies(rt: HostRuntime) {
     for (way, wanted) in [
@@ -91,17 +106,23 @@ fn copies(rt: HostRuntime) {
                 break;
             }
             let tally = Tally::allowing(allowed as u64);
-            {
-                let image = counted(&rt, (2, 3), &[1, 2, 3, 4, 5, 6], &tally);
-                let end = made(rt.alloc(), &image, way, wanted);
-                assert!(rt;
-                    end == awaited(allowed, wanted.len()),
-                    "way {way}, {allowed} clones"
-                );
-                assert!(rt; is_at(&tally, 0, 6) && is_counted(&image, [2, 3], &[1, 2, 3, 4, 5, 6]));
-            }
-            assert!(rt; is_at(&tally, 0, 0), "way {way}, {allowed} clones");
+            let end = awaited(allowed, wanted.len());
+            assert!(rt;
+                copies_right(&rt, &tally, way, wanted, end) && is_at(&tally, 0, 0),
+                "way {way}, {allowed} clones"
+            );
         }
+    }
+}
+
+/// Whether an array that is made a clone of another becomes that where three clones are allowed, and stays where fewer are.
+fn clones_right(rt: &(impl Abort + AllocGlobal), tally: &Tally, allowed: u64) -> bool {
+    let source = counted(rt, (1, 3), &[7, 8, 9], tally);
+    let mut array = counted(rt, (2, 1), &[1, 2], tally);
+    if array.clone_from(&source).is_ok() {
+        allowed == 3 && is_counted(&array, [1, 3], &[7, 8, 9]) && is_at(tally, 0, 6)
+    } else {
+        allowed < 3 && is_counted(&array, [2, 1], &[1, 2]) && is_at(tally, 0, 5)
     }
 }
 
@@ -109,18 +130,20 @@ fn copies(rt: HostRuntime) {
 fn an_array_made_a_clone_of_another(rt: HostRuntime) {
     for allowed in 0..=3u64 {
         let tally = Tally::allowing(allowed);
-        {
-            let source = counted(&rt, (1, 3), &[7, 8, 9], &tally);
-            let mut array = counted(&rt, (2, 1), &[1, 2], &tally);
-            if array.clone_from(&source).is_ok() {
-                assert!(rt; allowed == 3 && is_counted(&array, [1, 3], &[7, 8, 9]));
-                assert!(rt; is_at(&tally, 0, 6));
-            } else {
-                assert!(rt; allowed < 3 && is_counted(&array, [2, 1], &[1, 2]));
-                assert!(rt; is_at(&tally, 0, 5), "{allowed} clones");
-            }
+        assert!(rt;
+            clones_right(&rt, &tally, allowed) && is_at(&tally, 0, 0),
+            "{allowed} clones"
+        );
+    }
+}
+
+/// Whether an array of one value is made where three clones are allowed, and refused where fewer are.
+fn values_right(alloc: Global, tally: &Tally, allowed: u64) -> bool {
+    match Array2::from_elem(alloc, (2, 2), Refusing::new(9, tally)) {
+        Ok(array) => {
+            allowed == 3 && is_at(tally, 0, 4) && is_counted(&array, [2, 2], &[9, 9, 9, 9])
         }
-        assert!(rt; is_at(&tally, 0, 0), "{allowed} clones");
+        Err(_) => allowed < 3,
     }
 }
 
@@ -128,14 +151,10 @@ fn an_array_made_a_clone_of_another(rt: HostRuntime) {
 fn one_value(rt: HostRuntime) {
     for allowed in 0..=3u64 {
         let tally = Tally::allowing(allowed);
-        match Array2::from_elem(rt.alloc(), (2, 2), Refusing::new(9, &tally)) {
-            Ok(array) => {
-                assert!(rt; allowed == 3 && is_at(&tally, 0, 4));
-                assert!(rt; is_counted(&array, [2, 2], &[9, 9, 9, 9]));
-            }
-            Err(_) => assert!(rt; allowed < 3),
-        }
-        assert!(rt; is_at(&tally, 0, 0), "{allowed} clones");
+        assert!(rt;
+            values_right(rt.alloc(), &tally, allowed) && is_at(&tally, 0, 0),
+            "{allowed} clones"
+        );
     }
 }
 
@@ -153,20 +172,25 @@ fn changed(square: &Array2<Refusing<'_>>, new: [u64; 4]) -> Option<u64> {
     Some(count)
 }
 
+/// Whether a fill ends as it should where so many clones are allowed.
+fn fills_right(rt: &(impl Abort + AllocGlobal), tally: &Tally, allowed: u64) -> bool {
+    let mut array = counted(rt, (2, 2), &[1, 2, 3, 4], tally);
+    let right = if array.fill(Refusing::new(9, tally)).is_ok() {
+        allowed == 4 && is_counted(&array, [2, 2], &[9, 9, 9, 9])
+    } else {
+        allowed < 4 && changed(&array, [9, 9, 9, 9]).is_some()
+    };
+    right && is_at(tally, 0, 4)
+}
+
 #[test]
 fn a_fill(rt: HostRuntime) {
     for allowed in 0..=4u64 {
         let tally = Tally::allowing(allowed);
-        {
-            let mut array = counted(&rt, (2, 2), &[1, 2, 3, 4], &tally);
-            if array.fill(Refusing::new(9, &tally)).is_ok() {
-                assert!(rt; allowed == 4 && is_counted(&array, [2, 2], &[9, 9, 9, 9]));
-            } else {
-                assert!(rt; allowed < 4 && changed(&array, [9, 9, 9, 9]).is_some());
-            }
-            assert!(rt; is_at(&tally, 0, 4), "{allowed} clones");
-        }
-        assert!(rt; is_at(&tally, 0, 0), "{allowed} clones");
+        assert!(rt;
+            fills_right(&rt, &tally, allowed) && is_at(&tally, 0, 0),
+            "{allowed} clones"
+        );
     }
 }
 
@@ -274,6 +298,18 @@ fn numbers_of_part<A: Numbered + Clone + Drop>(
     }
 }
 
+/// Whether values of this part handed to a closure end as they should, where so many clones are allowed.
+fn values_of_part_right(
+    rt: &(impl Abort + AllocGlobal),
+    tally: &Tally,
+    stepped: bool,
+    wanted: &[u64],
+    end: Option<bool>,
+) -> bool {
+    let image = counted(rt, (2, 3), &[1, 2, 3, 4, 5, 6], tally);
+    numbers_of_part(rt.alloc(), &image, stepped, wanted) == end && is_at(tally, 0, 6)
+}
+
 #[test]
 fn values_handed_to_a_closure(rt: HostRuntime) {
     for (stepped, wanted) in [
@@ -285,33 +321,48 @@ fn values_handed_to_a_closure(rt: HostRuntime) {
                 break;
             }
             let tally = Tally::allowing(allowed as u64);
-            {
-                let image = counted(&rt, (2, 3), &[1, 2, 3, 4, 5, 6], &tally);
-                let end = numbers_of_part(rt.alloc(), &image, stepped, wanted);
-                assert!(rt; end == awaited(allowed, wanted.len()), "{allowed} clones");
-                assert!(rt; is_at(&tally, 0, 6));
-            }
-            assert!(rt; is_at(&tally, 0, 0), "{allowed} clones");
+            let end = awaited(allowed, wanted.len());
+            assert!(rt;
+                values_of_part_right(&rt, &tally, stepped, wanted, end) && is_at(&tally, 0, 0),
+                "{allowed} clones"
+            );
         }
     }
+}
+
+/// Whether values exchanged in place end as they should, where so many clones are allowed.
+fn exchanged_right(rt: &(impl Abort + AllocGlobal), tally: &Tally, allowed: u64) -> bool {
+    let mut array = counted(rt, (2, 2), &[1, 2, 3, 4], tally);
+    let mut calls = 0u64;
+    let done = array.mapv_inplace(|x| {
+        calls = calls.wrapping_add(1);
+        Refusing::new(x.number.wrapping_add(10), tally)
+    });
+    done.is_ok() == (allowed == 4)
+        && calls == allowed
+        && changed(&array, [11, 12, 13, 14]) == Some(allowed)
+        && is_at(tally, 0, 4)
 }
 
 #[test]
 fn values_exchanged_in_place(rt: HostRuntime) {
     for allowed in 0..=4u64 {
         let tally = Tally::allowing(allowed);
-        {
-            let mut array = counted(&rt, (2, 2), &[1, 2, 3, 4], &tally);
-            let mut calls = 0u64;
-            let done = array.mapv_inplace(|x| {
-                calls = calls.wrapping_add(1);
-                Refusing::new(x.number.wrapping_add(10), &tally)
-            });
-            assert!(rt; done.is_ok() == (allowed == 4) && calls == allowed);
-            assert!(rt; changed(&array, [11, 12, 13, 14]) == Some(allowed));
-            assert!(rt; is_at(&tally, 0, 4), "{allowed} clones");
+        assert!(rt;
+            exchanged_right(&rt, &tally, allowed) && is_at(&tally, 0, 0),
+            "{allowed} clones"
+        );
+    }
+}
+
+/// The same in an array that is handed over.
+fn handed_over_right(rt: &(impl Abort + AllocGlobal), tally: &Tally, allowed: u64) -> bool {
+    let array = counted(rt, (2, 2), &[1, 2, 3, 4], tally);
+    match array.mapv_into(|x| Refusing::new(x.number.wrapping_add(10), tally)) {
+        Ok(array) => {
+            allowed == 4 && is_at(tally, 0, 4) && is_counted(&array, [2, 2], &[11, 12, 13, 14])
         }
-        assert!(rt; is_at(&tally, 0, 0), "{allowed} clones");
+        Err(_) => allowed < 4,
     }
 }
 
@@ -319,14 +370,9 @@ fn values_exchanged_in_place(rt: HostRuntime) {
 fn values_exchanged_in_an_array_handed_over(rt: HostRuntime) {
     for allowed in 0..=4u64 {
         let tally = Tally::allowing(allowed);
-        let array = counted(&rt, (2, 2), &[1, 2, 3, 4], &tally);
-        match array.mapv_into(|x| Refusing::new(x.number.wrapping_add(10), &tally)) {
-            Ok(array) => {
-                assert!(rt; allowed == 4 && is_at(&tally, 0, 4));
-                assert!(rt; is_counted(&array, [2, 2], &[11, 12, 13, 14]));
-            }
-            Err(_) => assert!(rt; allowed < 4),
-        }
-        assert!(rt; is_at(&tally, 0, 0), "{allowed} clones");
+        assert!(rt;
+            handed_over_right(&rt, &tally, allowed) && is_at(&tally, 0, 0),
+            "{allowed} clones"
+        );
     }
 }

@@ -15,7 +15,7 @@ ghost use Rattle.nd_array_core.specs.base.Writes.{with_element_at};
 
 use crate::tables::{is_table, table};
 use nd_array_core::scoped::{LentView, PairTask, ViewTask};
-use nd_array_core::{ArrayBase, DataMut, ViewMutRepr};
+use nd_array_core::{Array2, ArrayBase, DataMut, ViewMutRepr};
 use nd_shape_and_slice::{Axis, Dimension, Ix1, NdIndex, RemoveAxis, Slice, SliceArg, slice_fits};
 
 // Puts a value at an index of a view.
@@ -198,28 +198,42 @@ fn put_on_diagonal<A: Drop, S: DataMut<Elem = A>, D: Dimension, X: NdIndex<Ix1>>
     array.with_diag_mut(task)
 }
 
+// Puts a number in a row of every second column: what was there; None where there is no such element.
+fn put_in_odd_columns(grid: &mut Array2<u64>, index: [usize; 2], value: u64) -> Option<u64> {
+    let odd = Slice::new(0, None, 2);
+    if grid.ndim() != 2 || !slice_fits(grid.len_of(Axis(1)), odd) {
+        return None;
+    }
+    if grid.slice_axis(Axis(1), odd).get(index).is_none() {
+        return None;
+    }
+    Some(put_along_axis(grid, Axis(1), odd, Put { index, value }))
+}
+
+// Puts a number in a column of a row, likewise.
+fn put_in_row(grid: &mut Array2<u64>, row: usize, index: usize, value: u64) -> Option<u64> {
+    if grid.ndim() != 2 || row >= grid.len_of(Axis(0)) {
+        return None;
+    }
+    if grid.index_axis(Axis(0), row).get(index).is_none() {
+        return None;
+    }
+    Some(put_at_coordinate(grid, Axis(0), row, Put { index, value }))
+}
+
+// Puts a number on the diagonal, likewise.
+fn put_on_its_diagonal(grid: &mut Array2<u64>, index: usize, value: u64) -> Option<u64> {
+    if grid.diag().get(index).is_none() {
+        return None;
+    }
+    Some(put_on_diagonal(grid, Put { index, value }))
+}
+
 #[test]
 fn puts_in_parts_of_a_grid(rt: HostRuntime) {
     let mut grid = table(&rt, (2, 3), &[1, 2, 3, 4, 5, 6]);
-    let odd = Slice::new(0, None, 2);
-    assert!(rt; grid.ndim() == 2 && slice_fits(grid.len_of(Axis(1)), odd));
-    assert!(rt; grid.slice_axis(Axis(1), odd).get([0, 1]).is_some());
-    let task = Put {
-        index: [0, 1],
-        value: 10,
-    };
-    assert_eq!(rt; put_along_axis(&mut grid, Axis(1), odd, task), 3);
-    assert!(rt; grid.len_of(Axis(0)) == 2 && grid.index_axis(Axis(0), 1).get(1).is_some());
-    let task = Put {
-        index: 1,
-        value: 20,
-    };
-    assert_eq!(rt; put_at_coordinate(&mut grid, Axis(0), 1, task), 5);
-    assert!(rt; grid.diag().get(1).is_some());
-    let task = Put {
-        index: 1,
-        value: 30,
-    };
-    assert_eq!(rt; put_on_diagonal(&mut grid, task), 20);
+    assert!(rt; put_in_odd_columns(&mut grid, [0, 1], 10) == Some(3));
+    assert!(rt; put_in_row(&mut grid, 1, 1, 20) == Some(5));
+    assert!(rt; put_on_its_diagonal(&mut grid, 1, 30) == Some(20));
     assert!(rt; is_table(&grid, [2, 3], &[1, 2, 10, 4, 30, 6]));
 }

@@ -41,6 +41,11 @@ fn grid(rt: &(impl Abort + AllocGlobal), shape: [usize; 2], numbers: &[u64]) -> 
     made(rt.alloc(), IxDyn::new(&shape), numbers).expect(rt, "made")
 }
 
+// Whether a grid has this shape, and these numbers row by row.
+fn is_grid(grid: &ArrayD<u64>, shape: [usize; 2], numbers: &[u64]) -> bool {
+    shows(grid, shape, numbers)
+}
+
 // A part of a grid.
 type Part<'a> = ArrayViewMut<'a, u64, IxDyn>;
 
@@ -61,6 +66,17 @@ fn four_filled(parts: (Part<'_>, Part<'_>, Part<'_>, Part<'_>)) -> bool {
     done.0 && done.1 && done.2 && done.3
 }
 
+// Fills what each list names with a number of its own; false where they don't fit, two of them meet, or memory lacks.
+fn fill_four(
+    grid: &mut ArrayD<u64>,
+    a: &[SliceInfoElem],
+    b: &[SliceInfoElem],
+    c: &[SliceInfoElem],
+    d: &[SliceInfoElem],
+) -> bool {
+    four_fit(grid.shape(), a, b, c, d) && four_filled(grid.multi_slice_mut((a, b, c, d)))
+}
+
 #[test]
 fn four_quadrants_of_a_grid(rt: HostRuntime) {
     let mut grid = grid(
@@ -72,11 +88,9 @@ fn four_quadrants_of_a_grid(rt: HostRuntime) {
     let (left, right) = (part(0, Some(2), 1), part(2, Some(5), 1));
     let (a, b) = ([top, left], [top, right]);
     let (c, d) = ([bottom, left], [bottom, right]);
-    assert!(rt; four_fit(grid.shape(), &a, &b, &c, &d));
-    let parts = grid.multi_slice_mut((a.as_slice(), b.as_slice(), c.as_slice(), d.as_slice()));
-    assert!(rt; four_filled(parts));
+    assert!(rt; fill_four(&mut grid, &a, &b, &c, &d));
     assert!(rt;
-        shows(
+        is_grid(
             &grid,
             [3, 6],
             &[1, 1, 2, 2, 2, 5, 3, 3, 4, 4, 4, 11, 3, 3, 4, 4, 4, 17]
@@ -90,6 +104,11 @@ fn two_filled(parts: (Part<'_>, Part<'_>)) -> bool {
     done.0 && done.1
 }
 
+// Fills what each list names of a view with a number of its own.
+fn fill_two(view: Part<'_>, a: &[SliceInfoElem], b: &[SliceInfoElem]) -> bool {
+    two_fit(view.shape(), a, b) && two_filled(view.multi_slice_move((a, b)))
+}
+
 #[test]
 fn every_second_column_of_a_view(rt: HostRuntime) {
     let mut grid = grid(&rt, [2, 5], &[0, 1, 2, 3, 4, 5, 6, 7, 8, 9]);
@@ -97,10 +116,8 @@ fn every_second_column_of_a_view(rt: HostRuntime) {
         [part(0, None, 1), part(0, None, 2)],
         [part(0, None, -1), part(1, Some(3), 2)],
     );
-    let view = grid.view_mut();
-    assert!(rt; two_fit(view.shape(), &a, &b));
-    assert!(rt; two_filled(view.multi_slice_move((a.as_slice(), b.as_slice()))));
-    assert!(rt; shows(&grid, [2, 5], &[1, 2, 1, 3, 1, 1, 2, 1, 8, 1]));
+    assert!(rt; fill_two(grid.view_mut(), &a, &b));
+    assert!(rt; is_grid(&grid, [2, 5], &[1, 2, 1, 3, 1, 1, 2, 1, 8, 1]));
 }
 
 fn three_filled(parts: (Part<'_>, Part<'_>, Part<'_>)) -> bool {
@@ -109,13 +126,22 @@ fn three_filled(parts: (Part<'_>, Part<'_>, Part<'_>)) -> bool {
     done.0 && done.1 && done.2
 }
 
+// Fills what each list names with a number of its own.
+fn fill_three(
+    grid: &mut ArrayD<u64>,
+    a: &[SliceInfoElem],
+    b: &[SliceInfoElem],
+    c: &[SliceInfoElem],
+) -> bool {
+    three_fit(grid.shape(), a, b, c) && three_filled(grid.multi_slice_mut((a, b, c)))
+}
+
 #[test]
 fn three_rows_of_a_grid(rt: HostRuntime) {
     let mut grid = grid(&rt, [3, 4], &[0, 1, 2, 3, 4, 5, 6, 7, 8, 9, 10, 11]);
     let a = [SliceInfoElem::Index(0), part(0, None, 1)];
     let b = [part(1, Some(2), 1), part(0, None, 3)];
     let c = [SliceInfoElem::Index(-1), part(1, None, -1)];
-    assert!(rt; three_fit(grid.shape(), &a, &b, &c));
-    assert!(rt; three_filled(grid.multi_slice_mut((a.as_slice(), b.as_slice(), c.as_slice()))));
-    assert!(rt; shows(&grid, [3, 4], &[1, 1, 1, 1, 2, 5, 6, 2, 8, 3, 3, 3]));
+    assert!(rt; fill_three(&mut grid, &a, &b, &c));
+    assert!(rt; is_grid(&grid, [3, 4], &[1, 1, 1, 1, 2, 5, 6, 2, 8, 3, 3, 3]));
 }

@@ -2,17 +2,14 @@
 
 ghost use Rattle.std.specs.Prelude.{◌≡◌};
 
-use crate::tables::{is_two_by_three, table};
-use nd_array_core::{Array1, Array2, ArrayBase, ArrayViewMut, DataMut};
+use crate::tables::table;
+use nd_array_core::{Array, Array1, Array2, ArrayViewMut};
 use nd_shape_and_slice::{Axis, Dimension, Slice, slice_fits};
 use nd_test_arrays::{lists, made, stores};
 use std::process::Abort;
 
 // How many elements the slice in row-major order has, the first of which becomes a number; None where there is no slice.
-fn put_first<S: DataMut<Elem = u64>, D: Dimension>(
-    array: &mut ArrayBase<S, D>,
-    value: u64,
-) -> Option<usize> {
+fn put_first<D: Dimension>(array: &mut Array<u64, D>, value: u64) -> Option<usize> {
     match array.as_slice_mut() {
         Some(items) => {
             if items.len() > 0 {
@@ -25,10 +22,7 @@ fn put_first<S: DataMut<Elem = u64>, D: Dimension>(
 }
 
 // The same of the slice in the order of the places.
-fn put_lowest<S: DataMut<Elem = u64>, D: Dimension>(
-    array: &mut ArrayBase<S, D>,
-    value: u64,
-) -> Option<usize> {
+fn put_lowest<D: Dimension>(array: &mut Array<u64, D>, value: u64) -> Option<usize> {
     match array.as_slice_memory_order_mut() {
         Some(items) => {
             if items.len() > 0 {
@@ -76,13 +70,13 @@ fn put_both(mut array: Array2<u64>, stored: &[u64]) -> (Option<usize>, Option<us
 #[test]
 fn a_new_array(rt: HostRuntime) {
     let ends = put_both(one_to_six(&rt), &[20, 2, 3, 4, 5, 6]);
-    assert_eq!(rt; ends, (Some(6), Some(6), true));
+    assert!(rt; ends == (Some(6), Some(6), true));
 }
 
 #[test]
 fn a_transpose(rt: HostRuntime) {
     let ends = put_both(one_to_six(&rt).reversed_axes(), &[20, 2, 3, 4, 5, 6]);
-    assert_eq!(rt; ends, (None, Some(6), true));
+    assert!(rt; ends == (None, Some(6), true));
 }
 
 #[test]
@@ -131,7 +125,7 @@ fn parts(rt: HostRuntime) {
         ),
     ] {
         let ends = put_in_part(one_to_six(&rt), axis, part, &stored);
-        assert_eq!(rt; ends, Some((first, lowest, true)));
+        assert!(rt; ends == Some((first, lowest, true)));
     }
 }
 
@@ -139,18 +133,44 @@ fn parts(rt: HostRuntime) {
 fn no_elements(rt: HostRuntime) {
     let none = Slice::new(2, Some(2), 1);
     let ends = put_in_part(one_to_six(&rt), 1, none, &[1, 2, 3, 4, 5, 6]);
-    assert_eq!(rt; ends, Some((Some(0), Some(0), true)));
+    assert!(rt; ends == Some((Some(0), Some(0), true)));
+}
+
+// The same of a row; None where there is no such row.
+fn into_row(
+    image: &mut Array2<u64>,
+    index: usize,
+    by_rank: bool,
+    value: u64,
+) -> Option<Option<usize>> {
+    if index < image.nrows() {
+        Some(into_first(image.row_mut(index), by_rank, value))
+    } else {
+        None
+    }
+}
+
+// The same of a column.
+fn into_column(
+    image: &mut Array2<u64>,
+    index: usize,
+    by_rank: bool,
+    value: u64,
+) -> Option<Option<usize>> {
+    if index < image.ncols() {
+        Some(into_first(image.column_mut(index), by_rank, value))
+    } else {
+        None
+    }
 }
 
 #[test]
 fn rows_and_columns_of_views(rt: HostRuntime) {
     let mut image = one_to_six(&rt);
-    assert!(rt; is_two_by_three(&image));
-    assert_eq!(rt; into_first(image.row_mut(1), true, 10), Some(3));
-    assert_eq!(rt; into_first(image.row_mut(0), false, 20), Some(3));
-    assert!(rt; is_two_by_three(&image));
-    assert_eq!(rt; into_first(image.column_mut(1), true, 30), None);
-    assert_eq!(rt; into_first(image.column_mut(1), false, 30), None);
-    assert_eq!(rt; into_first(image.view_mut(), true, 40), Some(6));
+    assert!(rt; into_row(&mut image, 1, true, 10) == Some(Some(3)));
+    assert!(rt; into_row(&mut image, 0, false, 20) == Some(Some(3)));
+    assert!(rt; into_column(&mut image, 1, true, 30) == Some(None));
+    assert!(rt; into_column(&mut image, 1, false, 30) == Some(None));
+    assert!(rt; into_first(image.view_mut(), true, 40) == Some(6));
     assert!(rt; stores(image, &[40, 2, 3, 10, 5, 6]));
 }

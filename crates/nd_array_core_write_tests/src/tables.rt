@@ -4,7 +4,7 @@ ghost use Rattle.std.specs.Prelude.{◌≡◌, ◌<◌, ◌∷◌, [], IsTrue};
 ghost use Rattle.nd_array_core.specs.Meaning.{shape_of};
 
 use nd_array_core::{Array, Array2};
-use nd_shape_and_slice::{Axis, Dimension};
+use nd_shape_and_slice::{Axis, Dimension, ShapeBuilder};
 use nd_test_arrays::{Refusing, Tally, made, shows};
 use std::process::Abort;
 
@@ -13,6 +13,17 @@ pub fn table(rt: &(impl Abort + AllocGlobal), shape: (usize, usize), numbers: &[
     ensures { shape_of result ≡ shape.0 ∷ shape.1 ∷ [] }
 {
     made(rt.alloc(), shape, numbers).expect(rt, "made")
+}
+
+/// The same, stored column by column: these numbers are in the order in which they are stored.
+pub fn by_columns(
+    rt: &(impl Abort + AllocGlobal),
+    shape: (usize, usize),
+    numbers: &[u64],
+) -> Array2<u64>
+    ensures { shape_of result ≡ shape.0 ∷ shape.1 ∷ [] }
+{
+    made(rt.alloc(), shape.f(), numbers).expect(rt, "made")
 }
 
 /// The same with its rows or its columns in the opposite order.
@@ -34,6 +45,11 @@ pub fn inverted(
 /// Whether a table has this shape, and these numbers row by row.
 pub fn is_table(table: &Array2<u64>, shape: [usize; 2], numbers: &[u64]) -> bool {
     shows(table, shape, numbers)
+}
+
+/// Whether a table lies by these strides.
+pub fn goes_by(table: &Array2<u64>, strides: [isize; 2]) -> bool {
+    table.strides() == strides.as_slice()
 }
 
 /// Whether a table has two rows and three columns.

@@ -26,7 +26,7 @@ fn causes(rt: HostRuntime) {
         ((0, 2), [1, 1], None),
         ((2, 2), [isize::MIN, 1], Some(ErrorKind::Overflow)),
     ] {
-        assert_eq!(rt; refusal(&mut items, shape.strides(&strides)), cause);
+        assert!(rt; refusal(&mut items, shape.strides(&strides)) == cause);
     }
     for (shape, cause) in [
         ((2, 3), None),
@@ -34,7 +34,7 @@ fn causes(rt: HostRuntime) {
         ((2, 4), Some(ErrorKind::OutOfBounds)),
         ((1 << 32, 1 << 31), Some(ErrorKind::Overflow)),
     ] {
-        assert_eq!(rt; refusal(&mut items, shape), cause);
+        assert!(rt; refusal(&mut items, shape) == cause);
     }
 }
 
@@ -50,23 +50,42 @@ fn column_major(rt: HostRuntime) {
     }
 }
 
+/// Whether the view of a slice has these numbers, and then the slice once its second number is 20.
+fn slice_seen_and_written(items: &mut [u64], old: &[u64], new: &[u64]) -> bool {
+    let view: ArrayView<'_, u64, Ix1> = ArrayView::from(&*items);
+    if !lists(&view, old) {
+        return false;
+    }
+    let mut view: ArrayViewMut<'_, u64, Ix1> = ArrayViewMut::from(&mut *items);
+    match view.get_mut(1) {
+        Some(second) => *second = 20,
+        None => return false,
+    }
+    drop(view);
+    &*items == new
+}
+
+/// Puts a number in the view of two rows: what was there.
+fn put_in_two_rows(rows: &mut [[u64; 3]; 2], index: [usize; 2], value: u64) -> Option<u64> {
+    let mut seen: ArrayViewMut<'_, u64, Ix2> = ArrayViewMut::from(rows);
+    put(&mut seen, index, value)
+}
+
+/// Puts a number in the view of some rows: what was there.
+fn put_in_rows(rows: &mut [[u64; 3]], index: [usize; 2], value: u64) -> Option<u64> {
+    let mut seen: ArrayViewMut<'_, u64, Ix2> = ArrayViewMut::from(rows);
+    put(&mut seen, index, value)
+}
+
 #[test]
 fn slices_and_rows(rt: HostRuntime) {
     let mut items = [1u64, 2, 3];
-    let view: ArrayView<'_, u64, Ix1> = ArrayView::from(items.as_slice());
-    assert!(rt; lists(&view, &[1, 2, 3]));
-    let mut view: ArrayViewMut<'_, u64, Ix1> = ArrayViewMut::from(&mut items[..]);
-    *view.get_mut(1).expect(&rt, "inside") = 20;
-    drop(view);
+    assert!(rt; slice_seen_and_written(&mut items, &[1, 2, 3], &[1, 20, 3]));
     let mut rows = [[1u64, 2, 3], [4, 5, 6]];
     let seen: ArrayView<'_, u64, Ix2> = ArrayView::from(&rows);
     assert!(rt; shows(&seen, [2, 3], &[1, 2, 3, 4, 5, 6]));
-    let mut seen: ArrayViewMut<'_, u64, Ix2> = ArrayViewMut::from(&mut rows);
-    assert_eq!(rt; put(&mut seen, [0, 2], 30), Some(3));
-    drop(seen);
-    let mut seen: ArrayViewMut<'_, u64, Ix2> = ArrayViewMut::from(&mut rows[1..]);
-    assert_eq!(rt; put(&mut seen, [0, 2], 60), Some(6));
-    drop(seen);
+    assert!(rt; put_in_two_rows(&mut rows, [0, 2], 30) == Some(3));
+    assert!(rt; put_in_rows(&mut rows[1..], [0, 2], 60) == Some(6));
     assert!(rt; items == [1, 20, 3] && rows == [[1, 2, 30], [4, 5, 60]]);
 }
 
