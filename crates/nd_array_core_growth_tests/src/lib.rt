@@ -19,3 +19,5 @@ mod refused_memory;
 mod refused_memory_reshapes;
 #[cfg(test)]
 mod refused_reshapes;
+#[cfg(test)]
+mod shared;

@@ -3,29 +3,14 @@
 ghost use Rattle.std.specs.Prelude.{◌≡◌};
 ghost use Rattle.nd_array_core.specs.base.Fresh.{EachCloneIsEqual};
 
-use crate::growth::{End, end_of};
-use nd_array_core::{Array1, Array2, ArrayD, ArrayError};
-use nd_shape_and_slice::{Axis, IxDyn, ShapeBuilder};
-use nd_test_arrays::{Numbered, Refusing, Tally, array_of, lists, made, shows, stores};
+use crate::shared::{
+    End, array, counted, counted_list, end_of, has_strides, is_shown, is_stored, laid, list,
+    list_room, pushed, refused_at, table, three_behind,
+};
+use nd_array_core::{Array1, Array2, ArrayD};
+use nd_shape_and_slice::Axis;
+use nd_test_arrays::{Numbered, Tally, lists, shows, stores};
 use std::process::Abort;
-use std::test::Fail;
-
-/// Whether a push behind a table ended so; of a row along axis 0, and else of a column.
-fn ends(
-    rt: &(impl Abort + AllocGlobal),
-    table: &mut Array2<u64>,
-    axis: usize,
-    line: &[u64],
-    end: End,
-) {
-    let line: Array1<u64> = made(rt.alloc(), line.len(), line).expect(rt, "made");
-    let outcome = if axis == 0 {
-        table.push_row(line.view())
-    } else {
-        table.push_column(line.view())
-    };
-    assert_eq!(rt; end_of(&outcome), end);
-}
 
 // Behind 1 3 / 2 4, whose columns are stored one after the other, and behind 2 1 / 4 3, whose rows go backwards: what is
 // stored then.
@@ -37,40 +22,36 @@ fn behind_exchanged_axes(rt: HostRuntime) {
         ([2, -1], 0, [3, 2], &[2, 1, 4, 3, 9, 8], &[1, 2, 3, 4, 8, 9]),
     ];
     for (strides, axis, extents, shown, stored) in table {
-        let mut square: Array2<u64> = made(
-            rt.alloc(),
-            (2, 2).strides(&strides),
-            &[1, 2, 3, 4],
-        ).expect(&rt, "made");
-        ends(&rt, &mut square, axis, &[9, 8], End::Done);
-        assert!(rt; shows(&square, extents, shown));
-        assert!(rt; stores(square, stored));
+        let mut square = laid(&rt, (2, 2), strides, &[1, 2, 3, 4]);
+        assert!(rt; pushed(&rt, &mut square, axis, &[9, 8], End::Done));
+        assert!(rt; is_stored(square, extents, shown, stored));
     }
 }
 
 // Behind 1 2 3 / 4 5 6, then behind 1 2 3 / 4 5 6 / 9 9 9.
 #[test]
 fn one_number_as_a_row_and_as_a_column(rt: HostRuntime) {
-    let mut table: Array2<u64> = made(rt.alloc(), (2, 3), &[1, 2, 3, 4, 5, 6]).expect(&rt, "made");
-    ends(&rt, &mut table, 0, &[9], End::Done);
-    assert!(rt; shows(&table, [3, 3], &[1, 2, 3, 4, 5, 6, 9, 9, 9]));
-    ends(&rt, &mut table, 1, &[9], End::Done);
-    assert!(rt; shows(&table, [3, 4], &[1, 2, 3, 9, 4, 5, 6, 9, 9, 9, 9, 9]));
-    assert_eq!(rt; table.strides(), [1, 3].as_slice());
+    let mut table = table(&rt, (2, 3), &[1, 2, 3, 4, 5, 6]);
+    let rows: [(usize, [usize; 2], &[u64]); 2] = [
+        (0, [3, 3], &[1, 2, 3, 4, 5, 6, 9, 9, 9]),
+        (1, [3, 4], &[1, 2, 3, 9, 4, 5, 6, 9, 9, 9, 9, 9]),
+    ];
+    for (axis, extents, shown) in rows {
+        assert!(rt; pushed(&rt, &mut table, axis, &[9], End::Done));
+        assert!(rt; is_shown(&table, extents, shown));
+    }
+    assert!(rt; has_strides(&table, [1, 3]));
 }
 
 #[test]
 fn rows_and_columns_that_do_not_fit(rt: HostRuntime) {
-    let mut table: Array2<u64> = made(rt.alloc(), (2, 3), &[1, 2, 3, 4, 5, 6]).expect(&rt, "made");
-    ends(&rt, &mut table, 0, &[7, 8], End::Unfit);
-    ends(&rt, &mut table, 1, &[7, 8, 9], End::Unfit);
-    assert!(rt; shows(&table, [2, 3], &[1, 2, 3, 4, 5, 6]));
-    assert!(rt; stores(table, &[1, 2, 3, 4, 5, 6]));
-    let mut longest: Array2<u64> = made(rt.alloc(), (9223372036854775807, 0), &[]).expect(
-        &rt, "made",
-    );
-    ends(&rt, &mut longest, 0, &[], End::Overflow);
-    assert_eq!(rt; longest.nrows(), 9223372036854775807);
+    let mut small = table(&rt, (2, 3), &[1, 2, 3, 4, 5, 6]);
+    assert!(rt; pushed(&rt, &mut small, 0, &[7, 8], End::Unfit));
+    assert!(rt; pushed(&rt, &mut small, 1, &[7, 8, 9], End::Unfit));
+    assert!(rt; is_stored(small, [2, 3], &[1, 2, 3, 4, 5, 6], &[1, 2, 3, 4, 5, 6]));
+    let mut longest = table(&rt, (9223372036854775807, 0), &[]);
+    assert!(rt; pushed(&rt, &mut longest, 0, &[], End::Overflow));
+    assert!(rt; longest.dim() == (9223372036854775807, 0));
 }
 
 /// How an array that was pushed behind one of any number of axes ended; the axis is below `ndim`, or there is none.
@@ -82,69 +63,84 @@ fn end_behind(array: &mut ArrayD<u64>, axis: usize, more: &ArrayD<u64>) -> End {
     }
 }
 
+/// Lengths and numbers of an array.
+type Given<'a> = (&'a [usize], &'a [u64]);
+
+// An array, an axis and an array that is pushed along it, how that ends, and what is stored then.
 #[test]
 fn one_axis_fewer(rt: HostRuntime) {
-    let mut one: ArrayD<u64> = made(rt.alloc(), IxDyn::new(&[]), &[7]).expect(&rt, "made");
-    let eight: ArrayD<u64> = made(rt.alloc(), IxDyn::new(&[]), &[8]).expect(&rt, "made");
-    let mut list: ArrayD<u64> = made(rt.alloc(), IxDyn::new(&[2]), &[1, 2]).expect(&rt, "made");
-    let mut table: ArrayD<u64> = made(rt.alloc(), IxDyn::new(&[2, 2]), &[1, 2, 3, 4]).expect(
-        &rt, "made",
-    );
-    assert_eq!(rt; end_behind(&mut one, 5, &eight), End::Unfit);
-    assert_eq!(rt; end_behind(&mut list, 0, &one), End::Done);
-    assert_eq!(rt; end_behind(&mut table, 0, &eight), End::Unfit);
-    assert_eq!(rt; end_behind(&mut table, 1, &list), End::Unfit);
-    assert!(rt; stores(list, &[1, 2, 7]));
-    assert!(rt; stores(table, &[1, 2, 3, 4]));
-}
-
-/// How many arrays came behind one another before a refusal, and its kind.
-fn refused_at(outcome: &Result<(), (usize, ArrayError)>) -> (usize, End) {
-    match outcome {
-        Ok(()) => (0, End::Done),
-        Err((count, error)) => (*count, end_of(&Err(*error))),
+    let rows: [(Given, usize, Given, End, &[u64]); 4] = [
+        ((&[], &[7]), 5, (&[], &[8]), End::Unfit, &[7]),
+        ((&[2], &[1, 2]), 0, (&[], &[7]), End::Done, &[1, 2, 7]),
+        (
+            (&[2, 2], &[1, 2, 3, 4]),
+            0,
+            (&[], &[8]),
+            End::Unfit,
+            &[1, 2, 3, 4],
+        ),
+        (
+            (&[2, 2], &[1, 2, 3, 4]),
+            1,
+            (&[3], &[1, 2, 7]),
+            End::Unfit,
+            &[1, 2, 3, 4],
+        ),
+    ];
+    for ((lengths, numbers), axis, (more_lengths, more), end, stored) in rows {
+        let mut first = array(&rt, lengths, numbers);
+        let more = array(&rt, more_lengths, more);
+        assert!(rt; end_behind(&mut first, axis, &more) == end);
+        assert!(rt; stores(first, stored));
     }
 }
 
-#[test]
+/// How none behind the rows of a table ended.
 #[tactic(auto, using(nd_array_core::proofs::Axes::known_axes))]
+fn none_behind(table: &mut Array2<u64>) -> (usize, End) {
+    refused_at(&table.append_each(Axis(0), &[]))
+}
+
+#[test]
 fn several_in_turn(rt: HostRuntime) {
-    let mut table: Array2<u64> = made(rt.alloc(), (1, 2), &[1, 2]).expect(&rt, "made");
-    let first: Array2<u64> = made(rt.alloc(), (1, 2), &[3, 4]).expect(&rt, "made");
-    let second: Array2<u64> = made(rt.alloc(), (1, 3), &[5, 6, 7]).expect(&rt, "made");
-    let none = refused_at(&table.append_each(Axis(0), &[]));
-    assert_eq!(rt; none, (0, End::Done));
-    let refused = refused_at(&table.append_each(
-        Axis(0),
-        &[first.view(), second.view(), first.view()],
-    ));
-    assert_eq!(rt; refused, (1, End::Unfit));
-    assert!(rt; shows(&table, [2, 2], &[1, 2, 3, 4]));
-    assert!(rt; stores(table, &[1, 2, 3, 4]));
+    let mut rows = table(&rt, (1, 2), &[1, 2]);
+    let first = table(&rt, (1, 2), &[3, 4]);
+    let second = table(&rt, (1, 3), &[5, 6, 7]);
+    assert!(rt; none_behind(&mut rows) == (0, End::Done));
+    assert!(rt; three_behind(&mut rows, &first, &second) == (1, End::Unfit));
+    assert!(rt; is_stored(rows, [2, 2], &[1, 2, 3, 4], &[1, 2, 3, 4]));
 }
 
 #[test]
 fn columns_in_room_that_was_reserved(rt: HostRuntime) {
-    let mut table: Array2<u64> = made(rt.alloc(), (2, 1), &[1, 2]).expect(&rt, "made");
+    let mut table = table(&rt, (2, 1), &[1, 2]);
     assert!(rt; table.reserve_columns(2).is_ok());
-    ends(&rt, &mut table, 1, &[3, 4], End::Done);
-    ends(&rt, &mut table, 1, &[5, 6], End::Done);
-    assert_eq!(rt; table.strides(), [1, 2].as_slice());
-    assert!(rt; shows(&table, [2, 3], &[1, 3, 5, 2, 4, 6]));
-    assert!(rt; stores(table, &[1, 2, 3, 4, 5, 6]));
+    for column in [[3, 4], [5, 6]] {
+        assert!(rt; pushed(&rt, &mut table, 1, &column, End::Done));
+    }
+    assert!(rt; has_strides(&table, [1, 2]));
+    assert!(rt; is_stored(table, [2, 3], &[1, 3, 5, 2, 4, 6], &[1, 2, 3, 4, 5, 6]));
+}
+
+/// How three lists ended behind another.
+#[tactic(auto, using(nd_array_core::proofs::Axes::known_axes))]
+fn lists_behind(
+    list: &mut Array1<u64>,
+    first: &Array1<u64>,
+    second: &Array1<u64>,
+    third: &Array1<u64>,
+) -> (usize, End) {
+    let three = [first.view(), second.view(), third.view()];
+    refused_at(&list.append_each(Axis(0), &three))
 }
 
 #[test]
-#[tactic(auto, using(nd_array_core::proofs::Axes::known_axes))]
 fn lists_in_room_that_was_reserved(rt: HostRuntime) {
-    let mut list: Array1<u64> = made(rt.alloc(), 3, &[1, 2, 3]).expect(&rt, "made");
-    assert!(rt; list.reserve(Axis(0), 4).is_ok());
-    let first: Array1<u64> = made(rt.alloc(), 2, &[4, 5]).expect(&rt, "made");
-    let second: Array1<u64> = made(rt.alloc(), 1, &[6]).expect(&rt, "made");
-    let third: Array1<u64> = made(rt.alloc(), 1, &[7]).expect(&rt, "made");
-    let done = refused_at(&list.append_each(Axis(0), &[first.view(), second.view(), third.view()]));
-    assert_eq!(rt; done, (0, End::Done));
-    assert!(rt; lists(&list, &[1, 2, 3, 4, 5, 6, 7]));
+    let mut all = list(&rt, &[1, 2, 3]);
+    assert!(rt; list_room(&mut all, 4) == End::Done);
+    let (first, second, third) = (list(&rt, &[4, 5]), list(&rt, &[6]), list(&rt, &[7]));
+    assert!(rt; lists_behind(&mut all, &first, &second, &third) == (0, End::Done));
+    assert!(rt; lists(&all, &[1, 2, 3, 4, 5, 6, 7]));
 }
 
 /// Whether a row could be put behind those of a table.
@@ -154,25 +150,33 @@ fn lengthens<A: Numbered + Clone + Drop>(table: &mut Array2<A>, row: &Array1<A>)
     table.push_row(row.view()).is_ok()
 }
 
+/// Whether a push of 9 8 behind 1 2 / 3 4, numbers that are counted, succeeds or not, with so many numbers there then, and these
+/// lengths and numbers in the table.
+fn lengthens_so(
+    rt: &(impl Abort + AllocGlobal),
+    tally: &Tally,
+    done: bool,
+    shown: ([usize; 2], &[u64]),
+    living: u32,
+) -> bool {
+    let mut table = counted(rt, ((2, 2), [2, 1], &[1, 2, 3, 4]), tally);
+    let row = counted_list(rt, &[9, 8], tally);
+    let (lengths, numbers) = shown;
+    lengthens(&mut table, &row) == done
+        && tally.living() == Some(living)
+        && shows(&table, lengths, numbers)
+}
+
 #[test]
-fn clones_of_a_row_refused_in_turn(rt: HostRuntime) -> Result<(), Fail> {
-    for allowed in 0..=2u64 {
+fn clones_of_a_row_refused_in_turn(rt: HostRuntime) {
+    let rows: [(u64, bool, [usize; 2], &[u64], u32); 3] = [
+        (0, false, [2, 2], &[1, 2, 3, 4], 6),
+        (1, false, [2, 2], &[1, 2, 3, 4], 6),
+        (2, true, [3, 2], &[1, 2, 3, 4, 9, 8], 8),
+    ];
+    for (allowed, done, lengths, shown, living) in rows {
         let tally = Tally::allowing(allowed);
-        {
-            let items = Refusing::listed(rt.alloc(), &[1, 2, 3, 4], &tally)?;
-            let mut table: Array2<Refusing<'_>> = array_of((2, 2), items)?;
-            let items = Refusing::listed(rt.alloc(), &[9, 8], &tally)?;
-            let row: Array1<Refusing<'_>> = array_of(2, items)?;
-            if lengthens(&mut table, &row) {
-                assert_eq!(rt; (allowed, tally.living()), (2, Some(8)));
-                assert!(rt; shows(&table, [3, 2], &[1, 2, 3, 4, 9, 8]));
-            } else {
-                assert!(rt; allowed < 2);
-                assert_eq!(rt; tally.living(), Some(6));
-                assert!(rt; shows(&table, [2, 2], &[1, 2, 3, 4]));
-            }
-        }
-        assert_eq!(rt; (allowed, tally.living()), (allowed, Some(0)));
+        assert!(rt; lengthens_so(&rt, &tally, done, (lengths, shown), living));
+        assert!(rt; tally.living() == Some(0));
     }
-    Ok(())
 }

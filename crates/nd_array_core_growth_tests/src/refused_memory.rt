@@ -1,9 +1,13 @@
 //! Calls that take memory. A test sees the right answer and passes; where a call runs out of memory, and all is as it must
 //! be, the test ends in an error that names the call.
 
+ghost use Rattle.std.specs.Prelude.{◌≡◌};
+ghost use Rattle.nd_array_core.specs.base.Fresh.{EachCloneIsEqual};
+
+use crate::shared::{counted, table};
 use nd_array_core::{Array, Array1, Array2, ArrayView1, ArrayView2, LaneView};
-use nd_shape_and_slice::{Axis, Ix2, NoMemory};
-use nd_test_arrays::{Refusing, Tally, array_of};
+use nd_shape_and_slice::{Axis, NoMemory};
+use nd_test_arrays::{Numbered, Refusing, Tally};
 use std::alloc::Global;
 use std::test::Fail;
 
@@ -62,55 +66,108 @@ fn refused(call: &'static str, tally: &Tally, there: u32) -> Result<(), Fail> {
     }
 }
 
+/// How many numbers an array has, and how many are there, by one of the calls; none where memory or a clone is refused.
+fn numbered(alloc: Global, tally: &Tally, way: u64) -> Option<(usize, Option<u32>)> {
+    let array = match way {
+        0 => Array::from_shape_simple_fn(alloc, (2, 2), || Refusing::new(7, tally)),
+        _ => Array::from_elem(alloc, (2, 2), Refusing::new(7, tally)),
+    };
+    match array {
+        Ok(array) => Some((array.len(), tally.living())),
+        Err(_) => None,
+    }
+}
+
+/// How many numbers a list has that is made of six from the last one on, and the number of its last; none where memory is refused.
+fn backwards(alloc: Global, items: Vec<Refusing<'_>>) -> Option<(usize, Option<u64>)> {
+    match Array1::from_iter(alloc, items.into_iter().rev()) {
+        Ok(array) => Some((array.len(), number_at(array.get(5)))),
+        Err(_) => None,
+    }
+}
+
+/// The number of an element, where there is one.
+fn number_at<A: Numbered>(element: Option<&A>) -> Option<u64> {
+    match element {
+        Some(element) => Some(element.number()),
+        None => None,
+    }
+}
+
 #[test]
 fn new_numbers(rt: HostRuntime) -> Result<(), Fail> {
     let tally = Tally::allowing(3);
-    match Array::from_shape_simple_fn(rt.alloc(), (2, 2), || Refusing::new(7, &tally)) {
-        Ok(array) => assert_eq!(rt; (array.len(), tally.living()), (4, Some(4))),
-        Err(_) => return refused("refused: from_shape_simple_fn", &tally, 0),
-    }
-    match Array::from_elem(rt.alloc(), (2, 2), Refusing::new(7, &tally)) {
-        Ok(array) => assert_eq!(rt; (array.len(), tally.living()), (4, Some(4))),
-        Err(_) => return refused("refused: from_elem", &tally, 0),
+    for (way, call) in [
+        (0, "refused: from_shape_simple_fn"),
+        (1, "refused: from_elem"),
+    ] {
+        match numbered(rt.alloc(), &tally, way) {
+            Some(seen) => assert!(rt; seen == (4, Some(4))),
+            None => return refused(call, &tally, 0),
+        }
     }
     let items = Refusing::listed(rt.alloc(), &[1, 2, 3, 4, 5, 6], &tally)?;
-    match Array1::from_iter(rt.alloc(), items.into_iter().rev()) {
-        Ok(array) => assert_eq!(rt;
-            (array.len(), array.get(5).ok_or("outside")?.number),
-            (6, 1)
-        ),
-        Err(_) => return refused("refused: from_iter", &tally, 0),
+    match backwards(rt.alloc(), items) {
+        Some(seen) => assert!(rt; seen == (6, Some(1))),
+        None => return refused("refused: from_iter", &tally, 0),
     }
-    assert_eq!(rt; tally.living(), Some(0));
+    assert!(rt; tally.living() == Some(0));
     Ok(())
+}
+
+/// The second number of a copy of 1 2 / 3 4, or how many are listed, by one of the calls; none where memory or a clone is refused.
+fn copied<A: Numbered + Clone + Drop>(alloc: Global, image: &Array2<A>, way: u64) -> Option<u64>
+    requires clones { EachCloneIsEqual A.is_clone }
+{
+    match way {
+        0 => match image.t().to_owned(alloc) {
+            Ok(copy) => number_at(copy.get([0, 1])),
+            Err(_) => None,
+        },
+        1 => match image.t().to_vec(alloc) {
+            Ok(items) => Some(items.len() as u64),
+            Err(_) => None,
+        },
+        _ => match image.clone() {
+            Ok(copy) => number_at(copy.get([0, 1])),
+            Err(_) => None,
+        },
+    }
+}
+
+/// Whether an array could be made a copy of another; and its lengths and its last number then.
+fn made_as<A: Numbered + Clone + Drop>(
+    array: &mut Array2<A>,
+    image: &Array2<A>,
+) -> (bool, (usize, usize), Option<u64>)
+    requires clones { EachCloneIsEqual A.is_clone }
+{
+    let done = array.clone_from(image).is_ok();
+    (done, array.dim(), number_at(array.last()))
 }
 
 #[test]
 fn copied_numbers(rt: HostRuntime) -> Result<(), Fail> {
     let tally = Tally::allowing(24);
-    let items = Refusing::listed(rt.alloc(), &[1, 2, 3, 4], &tally)?;
-    let image: Array2<Refusing<'_>> = array_of((2, 2), items)?;
-    match image.t().to_owned(rt.alloc()) {
-        Ok(copy) => assert_eq!(rt; copy.get([0, 1]).ok_or("outside")?.number, 3),
-        Err(_) => return refused("refused: to_owned", &tally, 4),
+    let image = counted(&rt, ((2, 2), [2, 1], &[1, 2, 3, 4]), &tally);
+    for (way, call, wanted) in [
+        (0, "refused: to_owned", 3),
+        (1, "refused: to_vec", 4),
+        (2, "refused: clone", 2),
+    ] {
+        match copied(rt.alloc(), &image, way) {
+            Some(number) => assert!(rt; number == wanted),
+            None => return refused(call, &tally, 4),
+        }
     }
-    match image.t().to_vec(rt.alloc()) {
-        Ok(items) => assert_eq!(rt; items.len(), 4),
-        Err(_) => return refused("refused: to_vec", &tally, 4),
-    }
-    match image.clone() {
-        Ok(copy) => assert_eq!(rt; copy.get([0, 1]).ok_or("outside")?.number, 2),
-        Err(_) => return refused("refused: clone", &tally, 4),
-    }
-    let items = Refusing::listed(rt.alloc(), &[8, 9], &tally)?;
-    let mut array: Array2<Refusing<'_>> = array_of((1, 2), items)?;
-    let done = array.clone_from(&image).is_ok();
-    let last = array.last().ok_or("none")?.number;
+    let mut array = counted(&rt, ((1, 2), [2, 1], &[8, 9]), &tally);
+    let (done, lengths, last) = made_as(&mut array, &image);
     if !done {
-        assert_eq!(rt; (array.dim(), last), ((1, 2), 9));
+        assert!(rt; lengths == (1, 2) && last == Some(9));
         return refused("refused: clone_from", &tally, 6);
     }
-    assert_eq!(rt; (array.dim(), last, tally.living()), ((2, 2), 4, Some(8)));
+    assert!(rt; lengths == (2, 2) && last == Some(4));
+    assert!(rt; tally.living() == Some(8));
     Ok(())
 }
 
@@ -123,39 +180,67 @@ fn uncalled(call: &'static str, calls: u64) -> Result<(), Fail> {
     }
 }
 
-#[test]
-fn functions_not_called(rt: HostRuntime) -> Result<(), Fail> {
-    let items = Vec::from_slice(rt.alloc(), &[1, 2, 3, 4])?;
-    let mut image: Array2<u64> = array_of((2, 2), items)?;
+/// The second sum of the columns of 1 2 / 3 4, none where memory was refused; and how many calls there were.
+#[tactic(auto, using(nd_array_core::proofs::Axes::known_axes))]
+fn sums(alloc: Global, image: &Array2<u64>) -> (Option<u64>, u64) {
     let mut calls = 0u64;
-    let sums = image.fold_axis(rt.alloc(), Axis(0), 0, |sum: &u64, x: &u64| {
+    let sums = image.fold_axis(alloc, Axis(0), 0, |sum: &u64, x: &u64| {
         calls = calls.wrapping_add(1);
         sum.wrapping_add(*x)
     });
     match sums {
-        Ok(sums) => assert_eq!(rt; (sums.get(1).copied(), calls), (Some(6), 4)),
-        Err(_) => return uncalled("refused: fold_axis", calls),
+        Ok(sums) => (sums.get(1).copied(), calls),
+        Err(_) => (None, calls),
     }
+}
+
+/// The same of the lengths of the columns.
+#[tactic(auto, using(nd_array_core::proofs::Axes::known_axes))]
+fn lengths(alloc: Global, image: &Array2<u64>) -> (Option<u64>, u64) {
     let mut calls = 0u64;
-    let lengths = image.map_axis(rt.alloc(), Axis(0), |lane: LaneView<'_, u64>| {
+    let lengths = image.map_axis(alloc, Axis(0), |lane: LaneView<'_, u64>| {
         calls = calls.wrapping_add(1);
-        lane.into_view().len()
+        lane.into_view().len() as u64
     });
     match lengths {
-        Ok(lengths) => assert_eq!(rt; (lengths.get(1).copied(), calls), (Some(2), 2)),
-        Err(_) => return uncalled("refused: map_axis", calls),
+        Ok(lengths) => (lengths.get(1).copied(), calls),
+        Err(_) => (None, calls),
     }
+}
+
+/// The same of the last of what the elements were before each became 9.
+fn nines(alloc: Global, image: &mut Array2<u64>) -> (Option<u64>, u64) {
     let mut calls = 0u64;
-    let before = image.map_mut(rt.alloc(), |x| {
+    let before = image.map_mut(alloc, |x| {
         calls = calls.wrapping_add(1);
         let old = *x;
         *x = 9;
         old
     });
     match before {
-        Ok(before) => assert_eq!(rt; (before.get([1, 1]).copied(), calls), (Some(4), 4)),
-        Err(_) => return uncalled("refused: map_mut", calls),
+        Ok(before) => (before.get([1, 1]).copied(), calls),
+        Err(_) => (None, calls),
     }
-    assert_eq!(rt; image.get([1, 1]).copied(), Some(9));
+}
+
+#[test]
+fn functions_not_called(rt: HostRuntime) -> Result<(), Fail> {
+    let mut image = table(&rt, (2, 2), &[1, 2, 3, 4]);
+    for (way, call, wanted) in [
+        (0, "refused: fold_axis", (6, 4)),
+        (1, "refused: map_axis", (2, 2)),
+        (2, "refused: map_mut", (4, 4)),
+    ] {
+        let (seen, calls) = match way {
+            0 => sums(rt.alloc(), &image),
+            1 => lengths(rt.alloc(), &image),
+            _ => nines(rt.alloc(), &mut image),
+        };
+        match seen {
+            Some(number) => assert!(rt; (number, calls) == wanted),
+            None => return uncalled(call, calls),
+        }
+    }
+    assert!(rt; image.get([1, 1]).copied() == Some(9));
     Ok(())
 }

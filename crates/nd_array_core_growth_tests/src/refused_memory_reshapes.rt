@@ -1,14 +1,10 @@
 //! Reshapes that take memory, and views, which take none. Where a call lacks memory the test ends in an error that names it.
 
-use nd_array_core::{Array2, ArrayBase, Data, ViewOrOwned};
+use crate::shared::table;
+use nd_array_core::{Array2, ViewOrOwned};
 use nd_shape_and_slice::{Ix1, Ix2, Order};
-use nd_test_arrays::{array_of, numbers};
 use std::alloc::Global;
 use std::test::Fail;
-
-fn one_to_six(rt: &HostRuntime) -> Result<Array2<u64>, Fail> {
-    array_of((2, 3), numbers(rt.alloc(), 1, 6)?)
-}
 
 // Whether an answer with one axis is a view, and its second element; none where it was refused.
 fn line_seen<E>(outcome: &Result<ViewOrOwned<'_, u64, Ix1>, E>) -> Option<(bool, Option<u64>)> {
@@ -26,80 +22,72 @@ fn image_seen<E>(outcome: &Result<ViewOrOwned<'_, u64, Ix2>, E>) -> Option<(bool
     }
 }
 
-fn in_a_line<S: Data<Elem = u64>>(
-    alloc: Global,
-    image: &ArrayBase<S, Ix2>,
-) -> Option<(bool, Option<u64>)> {
-    line_seen(&image.to_shape(alloc, 6))
-}
-
-fn flat<S: Data<Elem = u64>>(
-    alloc: Global,
-    image: &ArrayBase<S, Ix2>,
-    order: Order,
-) -> Option<(bool, Option<u64>)> {
-    line_seen(&image.flatten_with_order(alloc, order))
-}
-
-fn flat_by_rows<S: Data<Elem = u64>>(
-    alloc: Global,
-    image: &ArrayBase<S, Ix2>,
-) -> Option<(bool, Option<u64>)> {
-    line_seen(&image.flatten(alloc))
-}
-
-fn in_standard_layout<S: Data<Elem = u64>>(
-    alloc: Global,
-    image: &ArrayBase<S, Ix2>,
-) -> Option<(bool, Option<u64>)> {
-    image_seen(&image.as_standard_layout(alloc))
+// The same of 1 2 3 / 4 5 6 in one of six ways.
+fn seen(alloc: Global, image: &Array2<u64>, way: u64) -> Option<(bool, Option<u64>)> {
+    match way {
+        0 => line_seen(&image.to_shape(alloc, 6)),
+        1 => image_seen(&image.as_standard_layout(alloc)),
+        2 => line_seen(&image.t().to_shape(alloc, 6)),
+        3 => line_seen(&image.flatten_with_order(alloc, Order::ColumnMajor)),
+        4 => line_seen(&image.t().flatten(alloc)),
+        _ => image_seen(&image.t().as_standard_layout(alloc)),
+    }
 }
 
 #[test]
 fn views_and_copies(rt: HostRuntime) -> Result<(), Fail> {
-    let image = one_to_six(&rt)?;
-    let turned = image.t();
-    assert_eq!(rt; in_a_line(rt.alloc(), &image), Some((true, Some(2))));
-    assert_eq!(rt;
-        in_standard_layout(rt.alloc(), &image),
-        Some((true, Some(2)))
-    );
-    match in_a_line(rt.alloc(), &turned) {
-        Some(seen) => assert_eq!(rt; seen, (false, Some(4))),
-        None => return Err("refused: to_shape".into()),
+    let image = table(&rt, (2, 3), &[1, 2, 3, 4, 5, 6]);
+    for (way, wanted, refused) in [
+        (0, (true, Some(2)), "a view in a line that took memory"),
+        (
+            1,
+            (true, Some(2)),
+            "a view in standard layout that took memory",
+        ),
+        (2, (false, Some(4)), "refused: to_shape"),
+        (3, (false, Some(4)), "refused: flatten_with_order"),
+        (4, (false, Some(4)), "refused: flatten"),
+        (5, (false, Some(4)), "refused: as_standard_layout"),
+    ] {
+        match seen(rt.alloc(), &image, way) {
+            Some(seen) => assert!(rt; seen == wanted),
+            None => return Err(refused.into()),
+        }
     }
-    match flat(rt.alloc(), &image, Order::ColumnMajor) {
-        Some(seen) => assert_eq!(rt; seen, (false, Some(4))),
-        None => return Err("refused: flatten_with_order".into()),
-    }
-    match flat_by_rows(rt.alloc(), &turned) {
-        Some(seen) => assert_eq!(rt; seen, (false, Some(4))),
-        None => return Err("refused: flatten".into()),
-    }
-    match in_standard_layout(rt.alloc(), &turned) {
-        Some(seen) => assert_eq!(rt; seen, (false, Some(4))),
-        None => return Err("refused: as_standard_layout".into()),
-    }
-    assert_eq!(rt; image.get([1, 2]).copied(), Some(6));
+    assert!(rt; image.get([1, 2]).copied() == Some(6));
     Ok(())
+}
+
+// The second element of an array that was handed over to a reshape; none where memory was refused.
+fn handed_over(alloc: Global, image: Array2<u64>, way: u64) -> Option<u64> {
+    let square = match way {
+        0 => image.into_shape_clone(alloc, (3, 2)),
+        1 => image.reversed_axes().into_shape_clone(alloc, (2, 3)),
+        _ => {
+            return match image.reversed_axes().into_flat(alloc) {
+                Ok(line) => line.get(1).copied(),
+                Err(_) => None,
+            };
+        }
+    };
+    match square {
+        Ok(image) => image.get([0, 1]).copied(),
+        Err(_) => None,
+    }
 }
 
 #[test]
 fn arrays_handed_over(rt: HostRuntime) -> Result<(), Fail> {
-    match one_to_six(&rt)?.into_shape_clone(rt.alloc(), (3, 2)) {
-        Ok(image) => assert_eq!(rt; image.get([0, 1]).copied(), Some(2)),
-        Err(_) => return Err("a kept storage that took memory".into()),
-    }
-    match one_to_six(&rt)?
-        .reversed_axes()
-        .into_shape_clone(rt.alloc(), (2, 3))
-    {
-        Ok(image) => assert_eq!(rt; image.get([0, 1]).copied(), Some(4)),
-        Err(_) => return Err("refused: into_shape_clone".into()),
-    }
-    match one_to_six(&rt)?.reversed_axes().into_flat(rt.alloc()) {
-        Ok(line) => assert_eq!(rt; line.get(1).copied(), Some(4)),
-        Err(_) => return Err("refused: into_flat".into()),
+    for (way, wanted, refused) in [
+        (0, 2, "a kept storage that took memory"),
+        (1, 4, "refused: into_shape_clone"),
+        (2, 4, "refused: into_flat"),
+    ] {
+        let image = table(&rt, (2, 3), &[1, 2, 3, 4, 5, 6]);
+        match handed_over(rt.alloc(), image, way) {
+            Some(number) => assert!(rt; number == wanted),
+            None => return Err(refused.into()),
+        }
     }
     Ok(())
 }

@@ -3,11 +3,12 @@
 ghost use Rattle.std.specs.Prelude.{◌≡◌};
 ghost use Rattle.nd_array_core.specs.base.Fresh.{EachCloneIsEqual};
 
+use crate::shared::{counted, counted_list};
 use nd_array_core::{Array1, Array2, ArrayBase, ArrayError, Data, ViewOrOwned};
 use nd_shape_and_slice::{Axis, Dimension, NoMemory, Order, ShapeArg, Slice, slice_fits};
-use nd_test_arrays::{Numbered, Refusing, Tally, array_of, rows_listed};
+use nd_test_arrays::{Numbered, Tally, lists, shows};
 use std::alloc::Global;
-use std::test::Fail;
+use std::process::Abort;
 
 // How a reshape ended.
 fn end_of<A: Drop, D: Dimension>(
@@ -77,8 +78,20 @@ fn end_of_way<A: Numbered + Clone + Drop>(
     }
 }
 
+// Whether such a way of 1 2 3 / 4 5 6 ends so where so many clones are allowed: with none left, and each number there.
+fn ends_so(rt: &(impl Abort + AllocGlobal), way: u64, clones: u64, wanted: &'static str) -> bool {
+    let tally = Tally::allowing(clones);
+    let ended = {
+        let image = counted(rt, ((2, 3), [3, 1], &[1, 2, 3, 4, 5, 6]), &tally);
+        end_of_way(rt.alloc(), &image, way) == wanted
+            && tally.left() == 0
+            && tally.living() == Some(6)
+    };
+    ended && tally.living() == Some(0)
+}
+
 #[test]
-fn views_clone_nothing(rt: HostRuntime) -> Result<(), Fail> {
+fn views_clone_nothing(rt: HostRuntime) {
     for (way, wanted, copied, clones) in [
         (0, "no memory", "owned", 4),
         (1, "view", "view", 0),
@@ -89,23 +102,9 @@ fn views_clone_nothing(rt: HostRuntime) -> Result<(), Fail> {
         (6, "view", "view", 0),
         (7, "no memory", "owned", 6),
     ] {
-        let tally = Tally::allowing(0);
-        {
-            let items = Refusing::listed(rt.alloc(), &[1, 2, 3, 4, 5, 6], &tally)?;
-            let image: Array2<Refusing<'_>> = array_of((2, 3), items)?;
-            assert_eq!(rt; end_of_way(rt.alloc(), &image, way), wanted, "way {way}");
-            assert_eq!(rt; tally.living(), Some(6), "way {way}");
-        }
-        let tally = Tally::allowing(clones);
-        {
-            let items = Refusing::listed(rt.alloc(), &[1, 2, 3, 4, 5, 6], &tally)?;
-            let image: Array2<Refusing<'_>> = array_of((2, 3), items)?;
-            assert_eq!(rt; end_of_way(rt.alloc(), &image, way), copied, "way {way}");
-            assert_eq!(rt; (tally.left(), tally.living()), (0, Some(6)), "way {way}");
-        }
-        assert_eq!(rt; tally.living(), Some(0), "way {way}");
+        assert!(rt; ends_so(&rt, way, 0, wanted), "way {way}");
+        assert!(rt; ends_so(&rt, way, clones, copied), "way {way}");
     }
-    Ok(())
 }
 
 // A line of numbers, repeated by row, in a line again; and a line that goes backwards as a square.
@@ -127,84 +126,81 @@ fn end_of_line<A: Numbered + Clone + Drop>(
     }
 }
 
+// Whether so many numbers end so in such a way, where no clone is allowed.
+fn line_ends_so(
+    rt: &(impl Abort + AllocGlobal),
+    numbers: &[u64],
+    rows: usize,
+    wanted: &'static str,
+) -> bool {
+    let tally = Tally::allowing(0);
+    let ended = {
+        let mut line = counted_list(rt, numbers, &tally);
+        end_of_line(rt.alloc(), &mut line, rows) == wanted
+    };
+    ended && tally.living() == Some(0)
+}
+
 #[test]
-fn lines_repeated_or_turned_round(rt: HostRuntime) -> Result<(), Fail> {
-    for (numbers, rows, wanted) in [
-        ([5].as_slice(), 6, "view"),
-        ([1, 2].as_slice(), 3, "no memory"),
-        ([1, 2, 3, 4].as_slice(), 0, "view"),
-    ] {
-        let tally = Tally::allowing(0);
-        {
-            let items = Refusing::listed(rt.alloc(), numbers, &tally)?;
-            let mut line: Array1<Refusing<'_>> = array_of(numbers.len(), items)?;
-            assert_eq!(rt;
-                end_of_line(rt.alloc(), &mut line, rows),
-                wanted,
-                "{rows} rows"
-            );
-        }
-        assert_eq!(rt; tally.living(), Some(0), "{rows} rows");
+fn lines_repeated_or_turned_round(rt: HostRuntime) {
+    let table: [(&[u64], usize, &'static str); 3] = [
+        (&[5], 6, "view"),
+        (&[1, 2], 3, "no memory"),
+        (&[1, 2, 3, 4], 0, "view"),
+    ];
+    for (numbers, rows, wanted) in table {
+        assert!(rt; line_ends_so(&rt, numbers, rows, wanted), "{rows} rows");
     }
-    Ok(())
 }
 
 #[test]
 #[tactic(auto, using(nd_array_core::proofs::Axes::known_axes))]
-fn a_line_that_goes_backwards_is_kept(rt: HostRuntime) -> Result<(), Fail> {
+fn a_line_that_goes_backwards_is_kept(rt: HostRuntime) {
     let tally = Tally::allowing(0);
     {
-        let items = Refusing::listed(rt.alloc(), &[1, 2, 3, 4], &tally)?;
-        let mut line: Array1<Refusing<'_>> = array_of(4, items)?;
+        let mut line = counted_list(&rt, &[1, 2, 3, 4], &tally);
         line.invert_axis(Axis(0));
         match line.into_shape_clone(rt.alloc(), (2, 2)) {
             Ok(square) => {
-                assert_eq!(rt; tally.living(), Some(4));
-                let numbers = rows_listed(rt.alloc(), &square)?;
-                assert_eq!(rt; numbers.as_slice(), [4, 3, 2, 1].as_slice());
+                assert!(rt; tally.living() == Some(4));
+                assert!(rt; shows(&square, [2, 2], &[4, 3, 2, 1]));
             }
-            Err(_) => return Err("refused".into()),
+            Err(_) => assert!(rt; false, "refused"),
         }
     }
-    assert_eq!(rt; tally.living(), Some(0));
-    Ok(())
+    assert!(rt; tally.living() == Some(0));
 }
 
 #[test]
-fn a_refused_reshape_drops_its_array(rt: HostRuntime) -> Result<(), Fail> {
+fn a_refused_reshape_drops_its_array(rt: HostRuntime) {
     for allowed in 0..=4u64 {
         let tally = Tally::allowing(allowed);
-        let items = Refusing::listed(rt.alloc(), &[1, 2, 3, 4], &tally)?;
-        let square: Array2<Refusing<'_>> = array_of((2, 2), items)?;
+        let square = counted(&rt, ((2, 2), [2, 1], &[1, 2, 3, 4]), &tally);
         match square.reversed_axes().into_flat(rt.alloc()) {
             Ok(flat) => {
-                assert_eq!(rt; (allowed, tally.living()), (4, Some(4)));
-                assert_eq!(rt; flat.get(1).ok_or("outside")?.number, 3);
+                assert!(rt; allowed == 4 && tally.living() == Some(4));
+                assert!(rt; lists(&flat, &[1, 3, 2, 4]));
             }
             Err(_) => assert!(rt; allowed < 4),
         }
-        assert_eq!(rt;
-            (tally.left(), tally.living()),
-            (0, Some(0)),
+        assert!(rt;
+            tally.left() == 0 && tally.living() == Some(0),
             "{allowed} clones"
         );
     }
-    Ok(())
 }
 
 #[test]
-fn a_shape_of_another_size_is_found_first(rt: HostRuntime) -> Result<(), Fail> {
+fn a_shape_of_another_size_is_found_first(rt: HostRuntime) {
     let tally = Tally::allowing(0);
     {
-        let items = Refusing::listed(rt.alloc(), &[1, 2, 3, 4, 5, 6], &tally)?;
-        let image: Array2<Refusing<'_>> = array_of((2, 3), items)?;
+        let image = counted(&rt, ((2, 3), [3, 1], &[1, 2, 3, 4, 5, 6]), &tally);
         let turned = image.reversed_axes();
-        assert_eq!(rt; end_of(&turned.to_shape(rt.alloc(), 5)), "no shape");
+        assert!(rt; end_of(&turned.to_shape(rt.alloc(), 5)) == "no shape");
         match turned.into_shape_clone(rt.alloc(), (2, 4)) {
             Err(ArrayError::Shape(_)) => {}
-            _ => return Err("accepted, or no memory".into()),
+            _ => assert!(rt; false, "accepted, or no memory"),
         }
     }
-    assert_eq!(rt; tally.living(), Some(0));
-    Ok(())
+    assert!(rt; tally.living() == Some(0));
 }
