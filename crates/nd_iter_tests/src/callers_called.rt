@@ -15,8 +15,8 @@ fn lists(items: Result<Vec<u64>, AllocError>, wanted: &[u64]) -> bool {
 #[test]
 fn of_one_table(rt: HostRuntime) {
     let table = table(&rt, rt.alloc());
-    assert_eq!(rt; count_above(&table, 4), 3);
-    assert_eq!(rt; greatest(&table), Some(8));
+    assert!(rt; count_above(&table, 4) == 3);
+    assert!(rt; greatest(&table) == Some(8));
     assert!(rt; agree(&table, &table));
 }
 
@@ -41,6 +41,6 @@ fn of_the_transpose_backwards(rt: HostRuntime) {
 #[test]
 fn of_nothing(rt: HostRuntime) {
     let table = nothing(&rt, rt.alloc());
-    assert_eq!(rt; greatest(&table), None);
-    assert_eq!(rt; count_above(&table, 0), 0);
+    assert!(rt; greatest(&table) == None);
+    assert!(rt; count_above(&table, 0) == 0);
 }

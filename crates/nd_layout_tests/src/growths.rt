@@ -41,37 +41,37 @@ fn grows(
 #[test]
 fn growth_that_moves(rt: HostRuntime) {
     // an element was removed
-    assert_eq!(rt; grows(&[3], &[1], false, 0, 1), Some((4, [1, 0])));
+    assert!(rt; grows(&[3], &[1], false, 0, 1) == Some((4, [1, 0])));
     // reversed axes: a row
-    assert_eq!(rt; grows(&[2, 2], &[1, 2], true, 0, 1), Some((4, [2, 1])));
+    assert!(rt; grows(&[2, 2], &[1, 2], true, 0, 1) == Some((4, [2, 1])));
     // along an inverted axis
-    assert_eq!(rt; grows(&[3], &[-1], true, 0, 1), Some((4, [1, 0])));
+    assert!(rt; grows(&[3], &[-1], true, 0, 1) == Some((4, [1, 0])));
     // the last axis of fresh storage is the slowest
-    assert_eq!(rt; grows(&[2, 3], &[3, 1], true, 1, 1), Some((4, [1, 2])));
+    assert!(rt; grows(&[2, 3], &[3, 1], true, 1, 1) == Some((4, [1, 2])));
 }
 
 #[test]
 fn growth_that_stays(rt: HostRuntime) {
     // reversed axes: a column
-    assert_eq!(rt; grows(&[2, 2], &[1, 2], true, 1, 1), Some((6, [1, 2])));
+    assert!(rt; grows(&[2, 2], &[1, 2], true, 1, 1) == Some((6, [1, 2])));
     // beside an inverted axis
-    assert_eq!(rt; grows(&[2, 2], &[2, -1], true, 0, 1), Some((6, [2, -1])));
+    assert!(rt; grows(&[2, 2], &[2, -1], true, 0, 1) == Some((6, [2, -1])));
     // a second row beside the first one, and a third
-    assert_eq!(rt; grows(&[1, 2], &[2, 1], true, 0, 1), Some((5, [2, 1])));
-    assert_eq!(rt; grows(&[2, 2], &[2, 1], true, 0, 1), Some((6, [2, 1])));
+    assert!(rt; grows(&[1, 2], &[2, 1], true, 0, 1) == Some((5, [2, 1])));
+    assert!(rt; grows(&[2, 2], &[2, 1], true, 0, 1) == Some((6, [2, 1])));
     // one row, whose own stride says nothing
-    assert_eq!(rt; grows(&[1, 3], &[7, -1], true, 0, 4), Some((5, [3, -1])));
+    assert!(rt; grows(&[1, 3], &[7, -1], true, 0, 4) == Some((5, [3, -1])));
 }
 
 #[test]
 fn growth_without_elements(rt: HostRuntime) {
     // an empty array, with room and without
-    assert_eq!(rt; grows(&[0, 3], &[3, 1], false, 0, 1), Some((3, [3, 1])));
-    assert_eq!(rt; grows(&[0], &[0], true, 0, 2), Some((3, [1, 0])));
+    assert!(rt; grows(&[0, 3], &[3, 1], false, 0, 1) == Some((3, [3, 1])));
+    assert!(rt; grows(&[0], &[0], true, 0, 2) == Some((3, [1, 0])));
     // an empty result
-    assert_eq!(rt; grows(&[3, 0], &[5, 7], true, 0, 2), Some((1, [0, 0])));
-    assert_eq!(rt; grows(&[0, 3], &[3, 1], true, 0, 0), Some((1, [0, 0])));
+    assert!(rt; grows(&[3, 0], &[5, 7], true, 0, 2) == Some((1, [0, 0])));
+    assert!(rt; grows(&[0, 3], &[3, 1], true, 0, 0) == Some((1, [0, 0])));
     // nothing added, after an element was removed
-    assert_eq!(rt; grows(&[3], &[1], false, 0, 0), Some((2, [1, 0])));
-    assert_eq!(rt; grows(&[2, 2], &[1, 2], false, 0, 0), Some((2, [1, 2])));
+    assert!(rt; grows(&[3], &[1], false, 0, 0) == Some((2, [1, 0])));
+    assert!(rt; grows(&[2, 2], &[1, 2], false, 0, 0) == Some((2, [1, 2])));
 }

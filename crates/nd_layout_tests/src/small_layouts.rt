@@ -187,9 +187,9 @@ fn every_small_layout(rt: HostRuntime) {
     for order in [Order::RowMajor, Order::ColumnMajor] {
         for (axes, shapes, codes) in [(0, 1, 1), (1, 5, 13), (2, 25, 169), (3, 125, 2197)] {
             let (more, wrong) = tries_all(axes, shapes, codes, order);
-            assert_eq!(rt; wrong, 0);
+            assert!(rt; wrong == 0);
             tried = tried.saturating_add(more);
         }
     }
-    assert_eq!(rt; tried, 25_554_992);
+    assert!(rt; tried == 25_554_992);
 }

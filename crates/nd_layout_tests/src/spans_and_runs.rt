@@ -20,11 +20,11 @@ fn can_own(lengths: &[usize], strides: &[isize], count: usize) -> bool
 
 #[test]
 fn spans_and_separation(rt: HostRuntime) {
-    assert_eq!(rt; span(&[2, 0, 3], &[3, 6, -1]), Some(5));
-    assert_eq!(rt; span(&[1 << 40, 1 << 40], &[1 << 40, 1]), None);
-    assert_eq!(rt; span(&[2], &[isize::MIN]), None);
-    assert_eq!(rt; span(&[2], &[isize::MAX]), Some(isize::MAX as usize));
-    assert_eq!(rt; span(&[], &[]), Some(0));
+    assert!(rt; span(&[2, 0, 3], &[3, 6, -1]) == Some(5));
+    assert!(rt; span(&[1 << 40, 1 << 40], &[1 << 40, 1]) == None);
+    assert!(rt; span(&[2], &[isize::MIN]) == None);
+    assert!(rt; span(&[2], &[isize::MAX]) == Some(isize::MAX as usize));
+    assert!(rt; span(&[], &[]) == Some(0));
     assert!(rt; separated(&[2, 3], &[3, 1]));
     assert!(rt; separated(&[2, 3], &[1, -2]));
     assert!(rt; !separated(&[2, 2], &[1, 1]));

@@ -32,43 +32,40 @@ fn list_places(first: usize, lengths: &[usize], strides: &[isize], out: &mut [us
 fn walks(rt: HostRuntime) {
     let mut out = [0; 6];
     list_places(0, &[2, 3], &[3, 1], &mut out);
-    assert_eq!(rt; out, [0, 1, 2, 3, 4, 5]);
+    assert!(rt; out == [0, 1, 2, 3, 4, 5]);
     // the columns of two rows, the rows from the last on, and a row that is there twice
     list_places(0, &[3, 2], &[1, 3], &mut out);
-    assert_eq!(rt; out, [0, 3, 1, 4, 2, 5]);
+    assert!(rt; out == [0, 3, 1, 4, 2, 5]);
     list_places(3, &[2, 3], &[-3, 1], &mut out);
-    assert_eq!(rt; out, [3, 4, 5, 0, 1, 2]);
+    assert!(rt; out == [3, 4, 5, 0, 1, 2]);
     list_places(2, &[2, 3], &[0, 2], &mut out);
-    assert_eq!(rt; out, [2, 4, 6, 2, 4, 6]);
+    assert!(rt; out == [2, 4, 6, 2, 4, 6]);
     list_places(1, &[1, 3, 1, 2], &[9, 4, 9, 1], &mut out);
-    assert_eq!(rt; out, [1, 2, 5, 6, 9, 10]);
+    assert!(rt; out == [1, 2, 5, 6, 9, 10]);
 }
 
 #[test]
 fn walks_where_no_isize_reaches(rt: HostRuntime) {
     let far = 9_223_372_036_854_775_808;
     let mut walk = Walk::new(far, &[1], &[1]);
-    assert_eq!(rt; walk.place(), Some(far));
+    assert!(rt; walk.place() == Some(far));
     walk.advance();
-    assert_eq!(rt; walk.place(), None);
+    assert!(rt; walk.place() == None);
     let last = 18_446_744_073_709_551_615;
     let mut out = [0; 6];
     list_places(last, &[2, 3], &[-3, -1], &mut out);
-    assert_eq!(rt;
-        out,
-        [last, last - 1, last - 2, last - 3, last - 4, last - 5]
-    );
+    assert!(rt; out == [last, last - 1, last - 2, last - 3, last - 4, last - 5]);
 }
 
 #[test]
 fn walks_end(rt: HostRuntime) {
     let mut walk = Walk::new(7, &[], &[]);
-    assert_eq!(rt; walk.place(), Some(7));
+    assert!(rt; walk.place() == Some(7));
     walk.advance();
-    assert_eq!(rt; walk.place(), None);
+    assert!(rt; walk.place() == None);
     walk.advance();
-    assert_eq!(rt; walk.place(), None);
-    assert_eq!(rt; Walk::new(7, &[2, 0], &[1, 1]).place(), None);
+    assert!(rt; walk.place() == None);
+    assert!(rt; Walk::new(7, &[2, 0], &[1, 1]).place() == None);
 }
 
 /// The place, the count and the stride of the next lane.
@@ -82,15 +79,15 @@ fn next_lane(lanes: &mut Lanes<'_>) -> Option<(usize, usize, isize)> {
 #[test]
 fn lanes(rt: HostRuntime) {
     let mut rows = Lanes::new(4, &[2, 3], &[-3, 1]);
-    assert_eq!(rt; next_lane(&mut rows), Some((4, 3, 1)));
-    assert_eq!(rt; next_lane(&mut rows), Some((1, 3, 1)));
-    assert_eq!(rt; next_lane(&mut rows), None);
-    assert_eq!(rt; next_lane(&mut rows), None);
+    assert!(rt; next_lane(&mut rows) == Some((4, 3, 1)));
+    assert!(rt; next_lane(&mut rows) == Some((1, 3, 1)));
+    assert!(rt; next_lane(&mut rows) == None);
+    assert!(rt; next_lane(&mut rows) == None);
     let mut one = Lanes::new(7, &[], &[]);
-    assert_eq!(rt; next_lane(&mut one), Some((7, 1, 1)));
-    assert_eq!(rt; next_lane(&mut one), None);
-    assert_eq!(rt; next_lane(&mut Lanes::new(7, &[2, 0], &[1, 1])), None);
-    assert_eq!(rt; next_lane(&mut Lanes::new(7, &[0, 2], &[1, 1])), None);
+    assert!(rt; next_lane(&mut one) == Some((7, 1, 1)));
+    assert!(rt; next_lane(&mut one) == None);
+    assert!(rt; next_lane(&mut Lanes::new(7, &[2, 0], &[1, 1])) == None);
+    assert!(rt; next_lane(&mut Lanes::new(7, &[0, 2], &[1, 1])) == None);
 }
 
 /// The first lane of a layout in an order of its own choice; of a run it has all places, and steps by 1.
@@ -114,13 +111,13 @@ fn two_lanes<D: Dimension, T: StrideList>(
 #[test]
 fn a_run_is_one_lane(rt: HostRuntime) {
     let mut layout = Layout::in_order((2, 3, 4).into_dimension(), Order::ColumnMajor);
-    assert_eq!(rt; two_lanes(&layout), (Some((0, 24, 1)), None));
+    assert!(rt; two_lanes(&layout) == (Some((0, 24, 1)), None));
     // its axes turned and exchanged
     layout.invert_axis(1);
     layout.invert_axis(2);
     layout.swap_axes(0, 2);
-    assert_eq!(rt; layout.offset, 22);
-    assert_eq!(rt; two_lanes(&layout), (Some((0, 24, 1)), None));
+    assert!(rt; layout.offset == 22);
+    assert!(rt; two_lanes(&layout) == (Some((0, 24, 1)), None));
     assert!(rt;
         matches!(
             first_lane(&layout),
@@ -134,21 +131,20 @@ fn a_run_is_one_lane(rt: HostRuntime) {
     );
     // one plane of it is no run
     layout.collapse_axis(1, 2);
-    assert_eq!(rt; two_lanes(&layout), (Some((0, 2, 1)), Some((6, 2, 1))));
+    assert!(rt; two_lanes(&layout) == (Some((0, 2, 1)), Some((6, 2, 1))));
 }
 
 #[test]
 fn a_run_without_axes_or_places(rt: HostRuntime) {
-    assert_eq!(rt;
-        two_lanes(&Layout::in_order(().into_dimension(), Order::RowMajor)),
-        (Some((0, 1, 1)), None)
+    assert!(rt;
+        two_lanes(&Layout::in_order(().into_dimension(), Order::RowMajor))
+            == (Some((0, 1, 1)), None)
     );
-    assert_eq!(rt;
-        two_lanes(&Layout::in_order((2, 0).into_dimension(), Order::RowMajor)),
-        (None, None)
+    assert!(rt;
+        two_lanes(&Layout::in_order((2, 0).into_dimension(), Order::RowMajor)) == (None, None)
     );
-    assert_eq!(rt;
-        two_lanes(&Layout::in_order((1, 1).into_dimension(), Order::RowMajor)),
-        (Some((0, 1, 1)), None)
+    assert!(rt;
+        two_lanes(&Layout::in_order((1, 1).into_dimension(), Order::RowMajor))
+            == (Some((0, 1, 1)), None)
     );
 }

@@ -73,7 +73,7 @@ fn matrix_and_vector(rt: HostRuntime) {
 fn two_vectors(rt: HostRuntime) {
     let alloc = rt.alloc();
     let vector: Array1<u64> = made(alloc, 3, &[1, 10, 100]).expect(&rt, "made");
-    assert_eq!(rt; dot(&vector, &vector), 10101);
+    assert!(rt; dot(&vector, &vector) == 10101);
 }
 
 /// A vector of two numbers.
@@ -93,5 +93,5 @@ fn pair(alloc: Global, first: i64, second: i64) -> Option<Array1<i64>> {
 fn sums_wrap(rt: HostRuntime) {
     let alloc = rt.alloc();
     let vector = pair(alloc, 3037000499, 3037000499).expect(&rt, "memory");
-    assert_eq!(rt; dot(&vector, &vector), -11857053614);
+    assert!(rt; dot(&vector, &vector) == -11857053614);
 }

@@ -52,11 +52,11 @@ fn clones_refused_in_turn(rt: HostRuntime) {
                 let one = counted(&rt, &[1, 2, 3, 4, 5, 6, 7, 8], &tally);
                 let other = counted(&rt, &[9, 10, 11, 12, 13, 14, 15, 16], &tally);
                 let joined = joins(rt.alloc(), &one, &other, way);
-                assert_eq!(rt; (joined, tally.living()), (allowed == 16, Some(16)));
+                assert!(rt; (joined, tally.living()) == (allowed == 16, Some(16)));
                 assert!(rt; shows(&one, [2, 4], &[1, 2, 3, 4, 5, 6, 7, 8]));
                 assert!(rt; shows(&other, [2, 4], &[9, 10, 11, 12, 13, 14, 15, 16]));
             }
-            assert_eq!(rt; (allowed, tally.living()), (allowed, Some(0)));
+            assert!(rt; (allowed, tally.living()) == (allowed, Some(0)));
         }
     }
 }
