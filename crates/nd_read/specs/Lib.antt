@@ -1,5 +1,6 @@
 pub mod Calls
 pub mod Grammar
 pub mod Reading
+pub mod Numbered
 pub mod Script
 pub mod Laws
