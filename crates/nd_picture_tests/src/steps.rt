@@ -88,7 +88,7 @@ fn light(rt: HostRuntime) {
 
 #[test]
 fn one_after_another(rt: HostRuntime) {
-    const TABLE: [(&[u8], &[u8], &[u8]); 2] = [
+    const WRITTEN: [(&[u8], &[u8], &[u8]); 2] = [
         (
             b"flip flop rotate 180",
             SIX,
@@ -96,8 +96,8 @@ fn one_after_another(rt: HostRuntime) {
         ),
         (b"rotate 90 crop 1 0 2 1 invert", SIX, b"P2\n1 2\n9\n4\n3\n"),
     ];
-    written(&rt, rt.alloc(), &TABLE);
-    const TABLE: [(&[u8], &[u8], &[u8]); 2] = [
+    written(&rt, rt.alloc(), &WRITTEN);
+    const REFUSED: [(&[u8], &[u8], &[u8]); 2] = [
         (
             b"rotate 90 crop 0 0 2 3 flip",
             SIX,
@@ -105,7 +105,7 @@ fn one_after_another(rt: HostRuntime) {
         ),
         (b"flip flop rotate 45", SIX, b"step 3 can't be read\n"),
     ];
-    refused(&rt, rt.alloc(), &TABLE);
+    refused(&rt, rt.alloc(), &REFUSED);
 }
 
 #[test]
