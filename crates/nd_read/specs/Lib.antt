@@ -1,6 +1,5 @@
 pub mod Calls
 pub mod Grammar
 pub mod Reading
-pub mod Numbered
 pub mod Script
 pub mod Laws

@@ -7,8 +7,7 @@ ghost use Rattle.nd_read.specs.Calls.{boxed};
 ghost use Rattle.nd_read.specs.Grammar.{array_of};
 ghost use Rattle.nd_text.specs.Numerals.{nat_of, int_of};
 ghost use Rattle.nd_text.specs.Words.{words_of};
-ghost use Rattle.nd_read.specs.Reading.{Gives, IsRead, TakesWords, word_at, first_as, many_at, counted_at, slice_end_of, slice_at, slice_element_at, order_at, lengths_at, parts_at, array_at, many_arrays, arrays_at, checked_size, keyword_at, slash_at, begins_step, read_to_end, many_may_lack, list_may_lack, array_may_lack, pair_at, ordered_list_at, ordered_list_may_lack};
-ghost use Rattle.nd_read.specs.Numbered.{number_and_list_at, number_and_array_at, number_and_arrays_at, number_and_list_may_lack, number_and_array_may_lack};
+ghost use Rattle.nd_read.specs.Reading.{Gives, IsRead, TakesWords, word_at, first_as, many_at, counted_at, slice_end_of, slice_at, slice_element_at, order_at, lengths_at, parts_at, array_at, many_arrays, arrays_at, checked_size, keyword_at, slash_at, begins_step, read_to_end, many_may_lack, list_may_lack, array_may_lack};
 
 use crate::reader::Held;
 use crate::reader::fault::LineFault;
@@ -191,46 +190,6 @@ impl<'a> Line<'a> {
     {
         let count = self.read::<usize>()?;
         self.boxes(alloc, count)
-    }
-
-    /// Two numbers.
-    #[tactic(auto, unfolding(crate::specs::Reading::both_at))]
-    pub fn pair(&mut self) -> Result<(usize, usize), LineFault>
-        ensures { IsRead false (λ x. x) result self.new (pair_at self.old) }
-    {
-        Ok((self.read()?, self.read()?))
-    }
-
-    /// An order, and a list of lengths.
-    #[tactic(auto, unfolding(crate::specs::Reading::both_at), using(crate::proofs::Items::item_words))]
-    pub fn ordered_list(&mut self, alloc: Global) -> Result<(Order, Vec<usize>), LineFault>
-        ensures { IsRead (ordered_list_may_lack self.old) (λ x. (x.0, x.1.items)) result self.new (ordered_list_at self.old) }
-    {
-        Ok((self.read()?, self.list(alloc)?))
-    }
-
-    /// A number, and then a list.
-    #[tactic(auto, unfolding(crate::specs::Reading::both_at), using(crate::proofs::Items::item_words))]
-    pub fn number_and_list(&mut self, alloc: Global) -> Result<(usize, Vec<usize>), LineFault>
-        ensures { IsRead (number_and_list_may_lack self.old) (λ x. (x.0, x.1.items)) result self.new (number_and_list_at self.old) }
-    {
-        Ok((self.read()?, self.list(alloc)?))
-    }
-
-    /// A number, and then an ARRAY.
-    #[tactic(auto, unfolding(crate::specs::Reading::both_at))]
-    pub fn number_and_array(&mut self, alloc: Global) -> Result<(usize, Held), LineFault>
-        ensures { IsRead (number_and_array_may_lack self.old) (λ x. (x.0, meaning_of x.1.value)) result self.new (number_and_array_at self.old) }
-    {
-        Ok((self.read()?, self.boxed(alloc)?))
-    }
-
-    /// A number, and then arrays.
-    #[tactic(auto, unfolding(crate::specs::Reading::both_at))]
-    pub fn number_and_arrays(&mut self, alloc: Global) -> Result<(usize, Vec<Held>), LineFault>
-        ensures { IsRead (number_and_list_may_lack self.old) (λ x. (x.0, map (boxed meaning_of) x.1.items)) result self.new (number_and_arrays_at self.old) }
-    {
-        Ok((self.read()?, self.arrays(alloc)?))
     }
 
     /// An ARRAY: its lengths, and its elements in row-major order.

@@ -24,20 +24,11 @@ impl<'a> Line<'a> {
         match self.keyword()? {
             Keyword::Cut => Ok(Step::SliceAxis(self.read()?, self.read()?)),
             Keyword::Slice => Ok(Step::Slice(self.list(alloc)?)),
-            Keyword::Collapse => {
-                let (axis, index) = self.pair()?;
-                Ok(Step::Collapse(axis, index))
-            }
-            Keyword::Index => {
-                let (axis, index) = self.pair()?;
-                Ok(Step::IndexAxis(axis, index))
-            }
+            Keyword::Collapse => Ok(Step::Collapse(self.read()?, self.read()?)),
+            Keyword::Index => Ok(Step::IndexAxis(self.read()?, self.read()?)),
             Keyword::Permute => Ok(Step::Permute(self.list(alloc)?)),
             Keyword::Reverse => Ok(Step::Reverse),
-            Keyword::SwapAxes => {
-                let (a, b) = self.pair()?;
-                Ok(Step::SwapAxes(a, b))
-            }
+            Keyword::SwapAxes => Ok(Step::SwapAxes(self.read()?, self.read()?)),
             Keyword::Invert => Ok(Step::Invert(self.read()?)),
             Keyword::Insert => Ok(Step::InsertAxis(self.read()?)),
             Keyword::Remove => Ok(Step::RemoveAxis(self.read()?)),
@@ -86,8 +77,8 @@ impl<'a> Line<'a> {
             Keyword::Equal => Ok(Question::EqualTo(self.boxed(alloc)?)),
             Keyword::Count => Ok(Question::Count(self.read()?)),
             Keyword::Reshape => {
-                let (order, lengths) = self.ordered_list(alloc)?;
-                Ok(Question::ToShape(lengths, order))
+                let order = self.read()?;
+                Ok(Question::ToShape(self.list(alloc)?, order))
             }
             _ => Err(LineFault::Bad),
         }
@@ -125,42 +116,21 @@ impl<'a> Line<'a> {
             Keyword::Ask => Ok(Call::Ask(self.path(alloc, most)?, self.question(alloc)?)),
             Keyword::Write => Ok(Call::Write(self.path(alloc, most)?, self.act(alloc)?)),
             Keyword::Split => {
-                let (axis, index) = self.pair()?;
+                let (axis, index) = (self.read()?, self.read()?);
                 let (first, second) = self.acts(alloc)?;
                 Ok(Call::SplitWrite(axis, index, first, second))
             }
-            Keyword::Select => {
-                let (axis, indexes) = self.number_and_list(alloc)?;
-                Ok(Call::Select(axis, indexes))
-            }
-            Keyword::RemoveIndex => {
-                let (axis, index) = self.pair()?;
-                Ok(Call::RemoveIndex(axis, index))
-            }
+            Keyword::Select => Ok(Call::Select(self.read()?, self.list(alloc)?)),
+            Keyword::RemoveIndex => Ok(Call::RemoveIndex(self.read()?, self.read()?)),
             Keyword::Reshape => {
-                let (order, lengths) = self.ordered_list(alloc)?;
-                Ok(Call::Reshape(lengths, order))
+                let order = self.read()?;
+                Ok(Call::Reshape(self.list(alloc)?, order))
             }
-            Keyword::Append => {
-                let (axis, other) = self.number_and_array(alloc)?;
-                Ok(Call::Append(axis, other))
-            }
-            Keyword::Push => {
-                let (axis, other) = self.number_and_array(alloc)?;
-                Ok(Call::Push(axis, other))
-            }
-            Keyword::Reserve => {
-                let (axis, additional) = self.pair()?;
-                Ok(Call::Reserve(axis, additional))
-            }
-            Keyword::Concat => {
-                let (axis, others) = self.number_and_arrays(alloc)?;
-                Ok(Call::Concatenate(axis, others))
-            }
-            Keyword::Stack => {
-                let (axis, others) = self.number_and_arrays(alloc)?;
-                Ok(Call::Stack(axis, others))
-            }
+            Keyword::Append => Ok(Call::Append(self.read()?, self.boxed(alloc)?)),
+            Keyword::Push => Ok(Call::Push(self.read()?, self.boxed(alloc)?)),
+            Keyword::Reserve => Ok(Call::Reserve(self.read()?, self.read()?)),
+            Keyword::Concat => Ok(Call::Concatenate(self.read()?, self.arrays(alloc)?)),
+            Keyword::Stack => Ok(Call::Stack(self.read()?, self.arrays(alloc)?)),
             _ => Err(LineFault::Bad),
         }
     }
