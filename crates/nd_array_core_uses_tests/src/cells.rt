@@ -1,10 +1,10 @@
 //! Matrices made cell by cell: products, a blur, a generation of a game of life; and a histogram.
 
+use crate::tables::{is_shown, made_table};
 use nd_array_core::{Array2, ArrayBase, Data};
 use nd_array_core_uses::cells::{blurred, next_generation, product};
 use nd_array_core_uses::loops::{histogram, product_in_loops};
 use nd_shape_and_slice::Ix2;
-use nd_test_arrays::{made, shows};
 
 // Whether a matrix of three columns has these cells, row by row.
 fn has_cells<A: Copy + PartialEq, S: Data<Elem = A>>(
@@ -24,12 +24,10 @@ fn has_cells<A: Copy + PartialEq, S: Data<Elem = A>>(
 // 1 2 / 3 4 by 5 6 0 / 7 8 and the greatest number, of which twice is 2 less than nothing
 #[test]
 fn a_product(rt: HostRuntime) {
-    let one: Array2<u64> = made(rt.alloc(), (2, 2), &[1, 2, 3, 4]).expect(&rt, "made");
-    let other: Array2<u64> = made(rt.alloc(), (2, 3), &[5, 6, 0, 7, 8, u64::MAX]).expect(
-        &rt, "made",
-    );
+    let one = made_table(&rt, 2, 2, &[1, 2, 3, 4]);
+    let other = made_table(&rt, 2, 3, &[5, 6, 0, 7, 8, u64::MAX]);
     let c = product(rt.alloc(), &one, &other).expect(&rt, "memory");
-    assert!(rt; shows(&c, [2, 3], &[19, 22, u64::MAX - 1, 43, 50, u64::MAX - 3]));
+    assert!(rt; is_shown(&c, [2, 3], &[19, 22, u64::MAX - 1, 43, 50, u64::MAX - 3]));
 }
 
 // 1 -2 / 3 4 by 5 6 1 / -7 8 0

@@ -1,11 +1,11 @@
 //! Tables that grow: rows and columns behind others, a log of the last rows, and room made before.
 
+use crate::tables::{is_shown, made_table};
 use nd_array_core::Array2;
 use nd_array_core_uses::tables::{
     both_behind, columns_behind, push_out, row_lent_behind, rows_behind, rows_read,
     two_columns_behind,
 };
-use nd_test_arrays::{made, shows};
 
 // Puts a row of one table behind those of another, which gives up its first.
 fn pushes_out(log: &mut Array2<u64>, source: &Array2<u64>, row: usize) -> bool {
@@ -31,50 +31,50 @@ fn takes_first(table: &mut Array2<u64>, source: &Array2<u64>) -> bool {
 // Behind 1 2 come 3 4 and 5 6, and 3 4 again.
 #[test]
 fn rows(rt: HostRuntime) {
-    let mut table: Array2<u64> = made(rt.alloc(), (1, 2), &[1, 2]).expect(&rt, "made");
-    let source: Array2<u64> = made(rt.alloc(), (2, 2), &[3, 4, 5, 6]).expect(&rt, "made");
+    let mut table = made_table(&rt, 1, 2, &[1, 2]);
+    let source = made_table(&rt, 2, 2, &[3, 4, 5, 6]);
     assert!(rt; takes_both(&mut table, &source));
-    assert!(rt; shows(&table, [3, 2], &[1, 2, 3, 4, 5, 6]));
+    assert!(rt; is_shown(&table, [3, 2], &[1, 2, 3, 4, 5, 6]));
     assert!(rt; takes_first(&mut table, &source));
-    assert!(rt; shows(&table, [4, 2], &[1, 2, 3, 4, 5, 6, 3, 4]));
+    assert!(rt; is_shown(&table, [4, 2], &[1, 2, 3, 4, 5, 6, 3, 4]));
 }
 
 #[test]
 fn rows_by_number(rt: HostRuntime) {
-    let source: Array2<u64> = made(rt.alloc(), (3, 2), &[1, 2, 3, 4, 5, 6]).expect(&rt, "made");
+    let source = made_table(&rt, 3, 2, &[1, 2, 3, 4, 5, 6]);
     match rows_read(rt.alloc(), &source, &[2, 0, 2]) {
-        Ok(table) => assert!(rt; shows(&table, [3, 2], &[5, 6, 1, 2, 5, 6])),
+        Ok(table) => assert!(rt; is_shown(&table, [3, 2], &[5, 6, 1, 2, 5, 6])),
         Err(_) => assert!(rt; false),
     }
 }
 
 #[test]
 fn the_last_rows(rt: HostRuntime) {
-    let mut log: Array2<u64> = made(rt.alloc(), (2, 2), &[1, 2, 3, 4]).expect(&rt, "made");
-    let source: Array2<u64> = made(rt.alloc(), (2, 2), &[5, 6, 7, 8]).expect(&rt, "made");
+    let mut log = made_table(&rt, 2, 2, &[1, 2, 3, 4]);
+    let source = made_table(&rt, 2, 2, &[5, 6, 7, 8]);
     assert!(rt; pushes_out(&mut log, &source, 0));
-    assert!(rt; shows(&log, [2, 2], &[3, 4, 5, 6]));
+    assert!(rt; is_shown(&log, [2, 2], &[3, 4, 5, 6]));
     assert!(rt; pushes_out(&mut log, &source, 1));
-    assert!(rt; shows(&log, [2, 2], &[5, 6, 7, 8]));
+    assert!(rt; is_shown(&log, [2, 2], &[5, 6, 7, 8]));
 }
 
 // Behind 1 / 2 come columns of 3 4 / 5 6.
 #[test]
 fn columns(rt: HostRuntime) {
-    let mut table: Array2<u64> = made(rt.alloc(), (2, 1), &[1, 2]).expect(&rt, "made");
-    let source: Array2<u64> = made(rt.alloc(), (2, 2), &[3, 4, 5, 6]).expect(&rt, "made");
+    let mut table = made_table(&rt, 2, 1, &[1, 2]);
+    let source = made_table(&rt, 2, 2, &[3, 4, 5, 6]);
     assert!(rt; source.nrows() == 2);
     assert!(rt; two_columns_behind(&mut table, source.column(1), source.column(0)).is_ok());
-    assert!(rt; shows(&table, [2, 3], &[1, 4, 3, 2, 6, 5]));
+    assert!(rt; is_shown(&table, [2, 3], &[1, 4, 3, 2, 6, 5]));
     assert!(rt; columns_behind(&mut table, &source, &[1, 1]).is_ok());
-    assert!(rt; shows(&table, [2, 5], &[1, 4, 3, 4, 4, 2, 6, 5, 6, 6]));
+    assert!(rt; is_shown(&table, [2, 5], &[1, 4, 3, 4, 4, 2, 6, 5, 6, 6]));
 }
 
 #[test]
 fn both_at_once(rt: HostRuntime) {
-    let mut table: Array2<u64> = made(rt.alloc(), (2, 1), &[1, 2]).expect(&rt, "made");
-    let first: Array2<u64> = made(rt.alloc(), (2, 2), &[3, 4, 5, 6]).expect(&rt, "made");
-    let second: Array2<u64> = made(rt.alloc(), (2, 1), &[7, 8]).expect(&rt, "made");
+    let mut table = made_table(&rt, 2, 1, &[1, 2]);
+    let first = made_table(&rt, 2, 2, &[3, 4, 5, 6]);
+    let second = made_table(&rt, 2, 1, &[7, 8]);
     assert!(rt; both_behind(&mut table, first.view(), second.view()).is_ok());
-    assert!(rt; shows(&table, [2, 4], &[1, 3, 4, 7, 2, 5, 6, 8]));
+    assert!(rt; is_shown(&table, [2, 4], &[1, 3, 4, 7, 2, 5, 6, 8]));
 }

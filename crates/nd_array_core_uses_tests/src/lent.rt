@@ -1,10 +1,11 @@
 //! Slices and views that are lent, in the open or for a call, and written.
 
+use crate::tables::{is_shown, made_table};
 use nd_array_core::Array2;
 use nd_array_core_uses::slices_written::{double_each, fill_row_as_slice, fill_run};
 use nd_array_core_uses::{fill_again, fill_front, fill_seen, fill_view, set_diagonal};
 use nd_shape_and_slice::{Axis, ShapeBuilder};
-use nd_test_arrays::{made, shows, stores};
+use nd_test_arrays::stores;
 
 #[test]
 fn the_front_of_a_slice(rt: HostRuntime) {
@@ -30,18 +31,18 @@ fn fills_twice(square: &mut Array2<u64>) -> bool {
 
 #[test]
 fn a_diagonal_and_all(rt: HostRuntime) {
-    let mut square: Array2<u64> = made(rt.alloc(), (2, 2), &[1, 2, 3, 4]).expect(&rt, "made");
+    let mut square = made_table(&rt, 2, 2, &[1, 2, 3, 4]);
     assert!(rt; set_diagonal(&mut square, 7).is_ok());
-    assert!(rt; shows(&square, [2, 2], &[7, 2, 3, 7]));
+    assert!(rt; is_shown(&square, [2, 2], &[7, 2, 3, 7]));
     assert!(rt; fills_twice(&mut square));
-    assert!(rt; shows(&square, [2, 2], &[5; 4]));
+    assert!(rt; is_shown(&square, [2, 2], &[5; 4]));
     assert!(rt; fill_view(&mut square, 4).is_ok());
-    assert!(rt; shows(&square, [2, 2], &[4; 4]));
+    assert!(rt; is_shown(&square, [2, 2], &[4; 4]));
 }
 
 #[test]
 fn an_image_of_doubles(rt: HostRuntime) {
-    let mut image: Array2<u64> = made(rt.alloc(), (2, 3), &[1, 2, 3, 4, 5, 6]).expect(&rt, "made");
+    let mut image = made_table(&rt, 2, 3, &[1, 2, 3, 4, 5, 6]);
     assert!(rt; image.is_standard_layout());
     double_each(&mut image);
     assert!(rt; stores(image, &[2, 4, 6, 8, 10, 12]));
@@ -49,7 +50,7 @@ fn an_image_of_doubles(rt: HostRuntime) {
 
 #[test]
 fn rows_and_columns(rt: HostRuntime) {
-    let mut image: Array2<u64> = made(rt.alloc(), (2, 3), &[1, 2, 3, 4, 5, 6]).expect(&rt, "made");
+    let mut image = made_table(&rt, 2, 3, &[1, 2, 3, 4, 5, 6]);
     assert!(rt; fill_row_as_slice(&mut image, 1, 9));
     let mut turned = image.reversed_axes();
     assert!(rt; turned.nrows() == 3);
@@ -59,7 +60,7 @@ fn rows_and_columns(rt: HostRuntime) {
 
 #[test]
 fn a_run_in_column_major_order(rt: HostRuntime) {
-    let mut image: Array2<u64> = made(rt.alloc(), (2, 3), &[1, 2, 3, 4, 5, 6]).expect(&rt, "made");
+    let mut image = made_table(&rt, 2, 3, &[1, 2, 3, 4, 5, 6]);
     assert!(rt; image.nrows() == 2);
     image.invert_axis(Axis(0));
     let mut turned = image.reversed_axes();

@@ -13,3 +13,5 @@ mod painted;
 mod rebuilt;
 #[cfg(test)]
 mod seen;
+#[cfg(test)]
+mod tables;

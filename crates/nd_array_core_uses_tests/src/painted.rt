@@ -1,5 +1,6 @@
 //! Images painted: blocks, borders, columns, rows, checkerboards and the parts of an axis.
 
+use crate::tables::{is_shown, made_table};
 use nd_array_core::{Array2, ArrayD};
 use nd_array_core_uses::changed::{patch_rectangle, put_inside};
 use nd_array_core_uses::{
@@ -11,10 +12,10 @@ use nd_test_arrays::{made, part, shows};
 
 #[test]
 fn blocks_down_the_diagonal(rt: HostRuntime) {
-    let mut matrix: Array2<u64> = made(rt.alloc(), (5, 3), &[0; 15]).expect(&rt, "made");
+    let mut matrix = made_table(&rt, 5, 3, &[0; 15]);
     fill_diagonal_blocks(&mut matrix, 2, 9);
     assert!(rt;
-        shows(
+        is_shown(
             &matrix,
             [5, 3],
             &[9, 9, 0, 9, 9, 0, 0, 0, 9, 0, 0, 9, 0, 0, 0]
@@ -26,16 +27,17 @@ fn blocks_down_the_diagonal(rt: HostRuntime) {
 
 #[test]
 fn borders(rt: HostRuntime) {
-    let table: [([usize; 2], &[u64], &[u64]); 4] = [
+    let given: [([usize; 2], &[u64], &[u64]); 4] = [
         ([3, 4], &[0; 12], &[1, 1, 1, 1, 1, 0, 0, 1, 1, 1, 1, 1]),
         ([1, 3], &[0; 3], &[1, 1, 1]),
         ([3, 1], &[0; 3], &[1, 1, 1]),
         ([0, 3], &[], &[]),
     ];
-    for (shape, before, wanted) in table {
-        let mut image: Array2<u64> = made(rt.alloc(), shape, before).expect(&rt, "made");
+    for (shape, before, wanted) in given {
+        let [rows, columns] = shape;
+        let mut image = made_table(&rt, rows, columns, before);
         assert!(rt; draw_border(&mut image, 1).is_ok());
-        assert!(rt; shows(&image, shape, wanted));
+        assert!(rt; is_shown(&image, shape, wanted));
     }
 }
 
@@ -54,7 +56,7 @@ fn columns_of_a_grid(rt: HostRuntime) {
 
 #[test]
 fn rows_in_turn(rt: HostRuntime) {
-    let table: [(usize, &[u64], &[u64]); 3] = [
+    let given: [(usize, &[u64], &[u64]); 3] = [
         (
             5,
             &[1, 2, 3, 4, 5, 6, 7, 8, 9, 10],
@@ -63,10 +65,10 @@ fn rows_in_turn(rt: HostRuntime) {
         (1, &[1, 2], &[0, 0]),
         (0, &[], &[]),
     ];
-    for (rows, before, wanted) in table {
-        let mut grid: Array2<u64> = made(rt.alloc(), (rows, 2), before).expect(&rt, "made");
+    for (rows, before, wanted) in given {
+        let mut grid = made_table(&rt, rows, 2, before);
         assert!(rt; interleave_rows(&mut grid, 0, 7).is_ok());
-        assert!(rt; shows(&grid, [rows, 2], wanted));
+        assert!(rt; is_shown(&grid, [rows, 2], wanted));
     }
 }
 
@@ -99,33 +101,31 @@ fn checkerboards(rt: HostRuntime) {
 
 #[test]
 fn both_parts_of_an_axis(rt: HostRuntime) {
-    let mut grid: Array2<u64> = made(rt.alloc(), (2, 4), &[1, 2, 3, 4, 5, 6, 7, 8]).expect(
-        &rt, "made",
-    );
+    let mut grid = made_table(&rt, 2, 4, &[1, 2, 3, 4, 5, 6, 7, 8]);
     assert!(rt; grid.ndim() == 2 && grid.len_of(Axis(1)) == 4);
     assert!(rt; fill_halves(&mut grid, Axis(1), 1, 0, 9).is_ok());
-    assert!(rt; shows(&grid, [2, 4], &[0, 9, 9, 9, 0, 9, 9, 9]));
+    assert!(rt; is_shown(&grid, [2, 4], &[0, 9, 9, 9, 0, 9, 9, 9]));
 }
 
 // 1 2 / 3 4 over a corner of noughts, and 1 3 / 2 4 over another.
 #[test]
 fn patches(rt: HostRuntime) {
-    let mut image: Array2<u64> = made(rt.alloc(), (3, 4), &[0; 12]).expect(&rt, "made");
-    let patch: Array2<u64> = made(rt.alloc(), (2, 2), &[1, 2, 3, 4]).expect(&rt, "made");
+    let mut image = made_table(&rt, 3, 4, &[0; 12]);
+    let patch = made_table(&rt, 2, 2, &[1, 2, 3, 4]);
     assert!(rt; patch_rectangle(&mut image, &patch, 1, 2).is_ok());
-    assert!(rt; shows(&image, [3, 4], &[0, 0, 0, 0, 0, 0, 1, 2, 0, 0, 3, 4]));
+    assert!(rt; is_shown(&image, [3, 4], &[0, 0, 0, 0, 0, 0, 1, 2, 0, 0, 3, 4]));
     assert!(rt; patch_rectangle(&mut image, &patch.t(), 0, 1).is_ok());
-    assert!(rt; shows(&image, [3, 4], &[0, 1, 3, 0, 0, 2, 4, 2, 0, 0, 3, 4]));
+    assert!(rt; is_shown(&image, [3, 4], &[0, 1, 3, 0, 0, 2, 4, 2, 0, 0, 3, 4]));
 }
 
 // 1 2 3 / 4 5 6 within a border of nines.
 #[test]
 fn a_board(rt: HostRuntime) {
-    let mut board: Array2<u64> = made(rt.alloc(), (4, 5), &[9; 20]).expect(&rt, "made");
-    let image: Array2<u64> = made(rt.alloc(), (2, 3), &[1, 2, 3, 4, 5, 6]).expect(&rt, "made");
+    let mut board = made_table(&rt, 4, 5, &[9; 20]);
+    let image = made_table(&rt, 2, 3, &[1, 2, 3, 4, 5, 6]);
     assert!(rt; put_inside(&mut board, &image).is_ok());
     assert!(rt;
-        shows(
+        is_shown(
             &board,
             [4, 5],
             &[9, 9, 9, 9, 9, 9, 1, 2, 3, 9, 9, 4, 5, 6, 9, 9, 9, 9, 9, 9]

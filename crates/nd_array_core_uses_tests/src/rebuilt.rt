@@ -1,5 +1,6 @@
 //! Images built anew from others, and images compared.
 
+use crate::tables::{is_shown, made_table};
 use nd_array_core::Array2;
 use nd_array_core_uses::mapped::thresholded;
 use nd_array_core_uses::{
@@ -7,24 +8,24 @@ use nd_array_core_uses::{
     transposed_copy, transposed_copy_is_equal,
 };
 use nd_shape_and_slice::ShapeBuilder;
-use nd_test_arrays::{made, shows};
+use nd_test_arrays::made;
 
 #[test]
 fn rows_of_a_matrix(rt: HostRuntime) {
-    let matrix: Array2<u64> = made(rt.alloc(), (2, 3), &[1, 2, 3, 4, 5, 6]).expect(&rt, "made");
+    let matrix = made_table(&rt, 2, 3, &[1, 2, 3, 4, 5, 6]);
     let reversed = rows_reversed(rt.alloc(), &matrix).expect(&rt, "memory");
-    assert!(rt; shows(&reversed, [2, 3], &[4, 5, 6, 1, 2, 3]));
+    assert!(rt; is_shown(&reversed, [2, 3], &[4, 5, 6, 1, 2, 3]));
     let pushed = push_rows_reversed(rt.alloc(), &matrix).expect(&rt, "memory");
-    assert!(rt; shows(&pushed, [2, 3], &[4, 5, 6, 1, 2, 3]));
+    assert!(rt; is_shown(&pushed, [2, 3], &[4, 5, 6, 1, 2, 3]));
     let again = rows_reversed_twice(rt.alloc(), &matrix).expect(&rt, "memory");
-    assert!(rt; shows(&again, [2, 3], &[1, 2, 3, 4, 5, 6]));
+    assert!(rt; is_shown(&again, [2, 3], &[1, 2, 3, 4, 5, 6]));
 }
 
 #[test]
 fn copies_of_a_transpose(rt: HostRuntime) {
-    let matrix: Array2<u64> = made(rt.alloc(), (2, 3), &[1, 2, 3, 4, 5, 6]).expect(&rt, "made");
+    let matrix = made_table(&rt, 2, 3, &[1, 2, 3, 4, 5, 6]);
     let copy = transposed_copy(rt.alloc(), &matrix).expect(&rt, "memory");
-    assert!(rt; shows(&copy, [3, 2], &[1, 4, 2, 5, 3, 6]));
+    assert!(rt; is_shown(&copy, [3, 2], &[1, 4, 2, 5, 3, 6]));
     assert!(rt; transposed_copy_is_equal(rt.alloc(), &matrix).expect(&rt, "memory"));
 }
 
@@ -42,7 +43,7 @@ fn a_threshold(rt: HostRuntime) {
 // 1 2 / 3 4 beside other images, by lengths, strides and what is stored
 #[test]
 fn images_compared(rt: HostRuntime) {
-    let image: Array2<u64> = made(rt.alloc(), (2, 2), &[1, 2, 3, 4]).expect(&rt, "made");
+    let image = made_table(&rt, 2, 2, &[1, 2, 3, 4]);
     for (lengths, strides, stored, wanted) in [
         ((2, 2), [1, 2], [1, 3, 2, 4], true),
         ((2, 2), [2, 1], [1, 2, 3, 5], false),

@@ -3,6 +3,7 @@
 ghost use Rattle.std.specs.Prelude.{◌≡◌, ◌∷◌, []};
 ghost use Rattle.nd_array_core.specs.Meaning.{shape_of};
 
+use crate::tables::{is_shown, made_table};
 use nd_array_core::{Array2, Array3, ArrayView1};
 use nd_array_core_uses::regrouped::{number_in_line, pixels_seen, row_sum_of_slice};
 use nd_array_core_uses::{
@@ -59,7 +60,7 @@ fn a_row_repeated(rt: HostRuntime) {
 fn parts_of_an_image(rt: HostRuntime) {
     let cells = Vec::from_slice(rt.alloc(), &TO_12).expect(&rt, "memory");
     let mut image: Array2<u64> = turned_twice(3, 4, cells).expect(&rt, "shape");
-    assert!(rt; shows(&image, [3, 4], &TO_12));
+    assert!(rt; is_shown(&image, [3, 4], &TO_12));
     assert_eq!(rt; corner(&image).copied(), Some(1));
     assert!(rt; image.nrows() == 3);
     assert_eq!(rt;
@@ -78,7 +79,7 @@ fn parts_of_an_image(rt: HostRuntime) {
 // Of 1 2 3 4 / 5 6 7 8 / 9 10 11 12 every second row and column, and the diagonal.
 #[test]
 fn a_thumbnail_and_a_diagonal(rt: HostRuntime) {
-    let image: Array2<u64> = made(rt.alloc(), (3, 4), &TO_12).expect(&rt, "made");
+    let image = made_table(&rt, 3, 4, &TO_12);
     assert!(rt; shows(&thumbnail(&image), [2, 2], &[1, 3, 9, 11]));
     let line = diagonal_seen(&image);
     assert_eq!(rt;
@@ -112,7 +113,7 @@ fn pixels_and_rows(rt: HostRuntime) {
     let pixels = pixels_seen(rt.alloc(), &image);
     assert!(rt; shows(&pixels, [4, 3], &FROM_0[..12]));
     assert_eq!(rt; pixels.get([4, 0]).copied(), None);
-    let table: Array2<u64> = made(rt.alloc(), (2, 3), &FROM_0[..6]).expect(&rt, "made");
+    let table = made_table(&rt, 2, 3, &FROM_0[..6]);
     assert!(rt; table.is_standard_layout());
     assert_eq!(rt; row_sum_of_slice(&table, 1), 12);
 }

@@ -30,7 +30,9 @@ fn told(rt: &impl Abort, alloc: Global, words: &[u8], image: &[u8], expected: (u
         &mut output,
         &mut errors,
     );
-    assert_eq!(rt; output.into_inner().as_slice(), expected.1);
-    assert_eq!(rt; errors.into_inner().as_slice(), expected.2);
-    assert_eq!(rt; status, expected.0);
+    assert!(rt;
+        status == expected.0
+            && output.into_inner().as_slice() == expected.1
+            && errors.into_inner().as_slice() == expected.2
+    );
 }

@@ -4,21 +4,21 @@ use crate::answers::refused;
 
 #[test]
 fn other_formats(rt: HostRuntime) {
-    let line = b"byte 0 can't be read\n".as_slice();
-    let table: [(&[u8], &[u8], &[u8]); 6] = [
-        (b"", b"", line),
-        (b"", b"P", line),
-        (b"", b"P1 1 1 0", line),
-        (b"", b"P7 1 1 1 1", line),
-        (b"", b"p2 1 1 1 1", line),
-        (b"", b" P2 1 1 1 1", line),
+    const LINE: &[u8] = b"byte 0 can't be read\n";
+    const TABLE: [(&[u8], &[u8], &[u8]); 6] = [
+        (b"", b"", LINE),
+        (b"", b"P", LINE),
+        (b"", b"P1 1 1 0", LINE),
+        (b"", b"P7 1 1 1 1", LINE),
+        (b"", b"p2 1 1 1 1", LINE),
+        (b"", b" P2 1 1 1 1", LINE),
     ];
-    refused(&rt, rt.alloc(), &table);
+    refused(&rt, rt.alloc(), &TABLE);
 }
 
 #[test]
 fn headers(rt: HostRuntime) {
-    let table: [(&[u8], &[u8], &[u8]); 10] = [
+    const TABLE: [(&[u8], &[u8], &[u8]); 10] = [
         (b"", b"P2", b"byte 2 can't be read\n"),
         (b"", b"P21 1 1 1", b"byte 2 can't be read\n"),
         (b"", b"P2 ", b"byte 3 can't be read\n"),
@@ -31,12 +31,12 @@ fn headers(rt: HostRuntime) {
         (b"", b"P2 1 1 65536 0", b"byte 11 can't be read\n"),
         (b"", b"P2 1000000001 1 1 0", b"byte 12 can't be read\n"),
     ];
-    refused(&rt, rt.alloc(), &table);
+    refused(&rt, rt.alloc(), &TABLE);
 }
 
 #[test]
 fn too_little_and_too_much(rt: HostRuntime) {
-    let table: [(&[u8], &[u8], &[u8]); 8] = [
+    const TABLE: [(&[u8], &[u8], &[u8]); 8] = [
         (b"", b"P5 2 1 9 \x01", b"byte 10 can't be read\n"),
         (b"", b"P5 2 1 9 \x01\x02\x03", b"byte 11 can't be read\n"),
         (b"", b"P5 1 1 256 \x01", b"byte 12 can't be read\n"),
@@ -51,12 +51,12 @@ fn too_little_and_too_much(rt: HostRuntime) {
             b"byte 32 can't be read\n",
         ),
     ];
-    refused(&rt, rt.alloc(), &table);
+    refused(&rt, rt.alloc(), &TABLE);
 }
 
 #[test]
 fn samples_above_full_light(rt: HostRuntime) {
-    let table: [(&[u8], &[u8], &[u8]); 4] = [
+    const TABLE: [(&[u8], &[u8], &[u8]); 4] = [
         (b"", b"P5 2 1 9 \x09\x0a", b"byte 10 can't be read\n"),
         (
             b"",
@@ -66,5 +66,5 @@ fn samples_above_full_light(rt: HostRuntime) {
         (b"", b"P2 2 1 9 9 10", b"byte 12 can't be read\n"),
         (b"", b"P2 1 1 9 -1", b"byte 9 can't be read\n"),
     ];
-    refused(&rt, rt.alloc(), &table);
+    refused(&rt, rt.alloc(), &TABLE);
 }

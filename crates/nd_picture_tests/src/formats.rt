@@ -4,7 +4,7 @@ use crate::answers::written;
 
 #[test]
 fn plain_and_raw(rt: HostRuntime) {
-    let table: [(&[u8], &[u8], &[u8]); 4] = [
+    const TABLE: [(&[u8], &[u8], &[u8]); 4] = [
         (b"flop", b"P2 2 1 9 1 2", b"P2\n2 1\n9\n2\n1\n"),
         (
             b"flop",
@@ -18,12 +18,12 @@ fn plain_and_raw(rt: HostRuntime) {
             b"P6\n2 1\n9\n\x04\x05\x06\x01\x02\x03",
         ),
     ];
-    written(&rt, rt.alloc(), &table);
+    written(&rt, rt.alloc(), &TABLE);
 }
 
 #[test]
 fn colours_by_channel(rt: HostRuntime) {
-    let table: [(&[u8], &[u8], &[u8]); 3] = [
+    const TABLE: [(&[u8], &[u8], &[u8]); 3] = [
         (
             b"invert",
             b"P6 1 1 255 \x00\x01\xff",
@@ -40,12 +40,12 @@ fn colours_by_channel(rt: HostRuntime) {
             b"P3\n2 1\n9\n1\n2\n3\n4\n5\n6\n",
         ),
     ];
-    written(&rt, rt.alloc(), &table);
+    written(&rt, rt.alloc(), &TABLE);
 }
 
 #[test]
 fn gaps_and_comments(rt: HostRuntime) {
-    let table: [(&[u8], &[u8], &[u8]); 5] = [
+    const TABLE: [(&[u8], &[u8], &[u8]); 5] = [
         (b"", b"P5\n# by hand\n1 1\n9\n\x07", b"P5\n1 1\n9\n\x07"),
         (b"", b"P5\r\n\t1  1 #9\r99#\n\n\x23", b"P5\n1 1\n99\n\x23"),
         // A comment in a number: 12 columns.
@@ -62,12 +62,12 @@ fn gaps_and_comments(rt: HostRuntime) {
             b"P2\n1 1\n9\n7\n",
         ),
     ];
-    written(&rt, rt.alloc(), &table);
+    written(&rt, rt.alloc(), &TABLE);
 }
 
 #[test]
 fn samples_of_two_bytes(rt: HostRuntime) {
-    let table: [(&[u8], &[u8], &[u8]); 4] = [
+    const TABLE: [(&[u8], &[u8], &[u8]); 4] = [
         // 258 and 65535: the more significant byte comes first.
         (
             b"flop",
@@ -82,7 +82,7 @@ fn samples_of_two_bytes(rt: HostRuntime) {
         (b"invert", b"P5 1 1 256 \x00\x01", b"P5\n1 1\n256\n\x00\xff"),
         (b"", b"P2 1 1 65535 258", b"P2\n1 1\n65535\n258\n"),
     ];
-    written(&rt, rt.alloc(), &table);
+    written(&rt, rt.alloc(), &TABLE);
 }
 
 #[test]

@@ -17,33 +17,33 @@ fn no_step(rt: HostRuntime) {
 
 #[test]
 fn parts(rt: HostRuntime) {
-    let table: [(&[u8], &[u8], &[u8]); 4] = [
+    const TABLE: [(&[u8], &[u8], &[u8]); 4] = [
         (b"crop 0 0 2 3", SIX, b"P2\n3 2\n9\n1\n2\n3\n4\n5\n6\n"),
         (b"crop 1 0 1 3", SIX, b"P2\n3 1\n9\n4\n5\n6\n"),
         (b"crop 0 1 2 2", SIX, b"P2\n2 2\n9\n2\n3\n5\n6\n"),
         (b"crop 1 2 1 1", SIX, b"P2\n1 1\n9\n6\n"),
     ];
-    written(&rt, rt.alloc(), &table);
+    written(&rt, rt.alloc(), &TABLE);
 }
 
 #[test]
 fn parts_that_do_not_lie_in_the_picture(rt: HostRuntime) {
-    let line = b"step 1 doesn't fit the picture\n".as_slice();
-    let table: [(&[u8], &[u8], &[u8]); 7] = [
-        (b"crop 0 0 3 3", SIX, line),
-        (b"crop 0 0 2 4", SIX, line),
-        (b"crop 2 0 1 1", SIX, line),
-        (b"crop 0 3 1 1", SIX, line),
-        (b"crop 0 0 0 1", SIX, line),
-        (b"crop 0 0 1 0", SIX, line),
-        (b"crop 18446744073709551615 0 1 1", SIX, line),
+    const LINE: &[u8] = b"step 1 doesn't fit the picture\n";
+    const TABLE: [(&[u8], &[u8], &[u8]); 7] = [
+        (b"crop 0 0 3 3", SIX, LINE),
+        (b"crop 0 0 2 4", SIX, LINE),
+        (b"crop 2 0 1 1", SIX, LINE),
+        (b"crop 0 3 1 1", SIX, LINE),
+        (b"crop 0 0 0 1", SIX, LINE),
+        (b"crop 0 0 1 0", SIX, LINE),
+        (b"crop 18446744073709551615 0 1 1", SIX, LINE),
     ];
-    refused(&rt, rt.alloc(), &table);
+    refused(&rt, rt.alloc(), &TABLE);
 }
 
 #[test]
 fn turns(rt: HostRuntime) {
-    let table: [(&[u8], &[u8], &[u8]); 6] = [
+    const TABLE: [(&[u8], &[u8], &[u8]); 6] = [
         (b"flip", SIX, b"P2\n3 2\n9\n4\n5\n6\n1\n2\n3\n"),
         (b"flop", SIX, b"P2\n3 2\n9\n3\n2\n1\n6\n5\n4\n"),
         (b"transpose", SIX, b"P2\n2 3\n9\n1\n4\n2\n5\n3\n6\n"),
@@ -51,31 +51,31 @@ fn turns(rt: HostRuntime) {
         (b"rotate 180", SIX, b"P2\n3 2\n9\n6\n5\n4\n3\n2\n1\n"),
         (b"rotate 270", SIX, b"P2\n2 3\n9\n3\n6\n2\n5\n1\n4\n"),
     ];
-    written(&rt, rt.alloc(), &table);
+    written(&rt, rt.alloc(), &TABLE);
 }
 
 #[test]
 fn smaller(rt: HostRuntime) {
-    let table: [(&[u8], &[u8], &[u8]); 3] = [
+    const TABLE: [(&[u8], &[u8], &[u8]); 3] = [
         (b"scale-down 1", SIX, b"P2\n3 2\n9\n1\n2\n3\n4\n5\n6\n"),
         (b"scale-down 2", SIX, b"P2\n2 1\n9\n1\n3\n"),
         (b"scale-down 9223372036854775807", SIX, b"P2\n1 1\n9\n1\n"),
     ];
-    written(&rt, rt.alloc(), &table);
-    let line = b"step 1 doesn't fit the picture\n".as_slice();
+    written(&rt, rt.alloc(), &TABLE);
+    const LINE: &[u8] = b"step 1 doesn't fit the picture\n";
     refused(
         &rt,
         rt.alloc(),
         &[
-            (b"scale-down 0", SIX, line),
-            (b"scale-down 9223372036854775808", SIX, line),
+            (b"scale-down 0", SIX, LINE),
+            (b"scale-down 9223372036854775808", SIX, LINE),
         ],
     );
 }
 
 #[test]
 fn light(rt: HostRuntime) {
-    let table: [(&[u8], &[u8], &[u8]); 5] = [
+    const TABLE: [(&[u8], &[u8], &[u8]); 5] = [
         (b"invert", SIX, b"P2\n3 2\n9\n8\n7\n6\n5\n4\n3\n"),
         (b"threshold 3", SIX, b"P2\n3 2\n9\n0\n0\n0\n9\n9\n9\n"),
         (b"threshold 0", SIX, b"P2\n3 2\n9\n9\n9\n9\n9\n9\n9\n"),
@@ -83,12 +83,12 @@ fn light(rt: HostRuntime) {
         // Above 1: (1+1+2 + 1+1+2 + 4+4+5) / 9.
         (b"blur", SIX, b"P2\n3 2\n9\n2\n3\n3\n3\n4\n4\n"),
     ];
-    written(&rt, rt.alloc(), &table);
+    written(&rt, rt.alloc(), &TABLE);
 }
 
 #[test]
 fn one_after_another(rt: HostRuntime) {
-    let table: [(&[u8], &[u8], &[u8]); 2] = [
+    const WRITTEN: [(&[u8], &[u8], &[u8]); 2] = [
         (
             b"flip flop rotate 180",
             SIX,
@@ -96,8 +96,8 @@ fn one_after_another(rt: HostRuntime) {
         ),
         (b"rotate 90 crop 1 0 2 1 invert", SIX, b"P2\n1 2\n9\n4\n3\n"),
     ];
-    written(&rt, rt.alloc(), &table);
-    let table: [(&[u8], &[u8], &[u8]); 2] = [
+    written(&rt, rt.alloc(), &WRITTEN);
+    const REFUSED: [(&[u8], &[u8], &[u8]); 2] = [
         (
             b"rotate 90 crop 0 0 2 3 flip",
             SIX,
@@ -105,12 +105,12 @@ fn one_after_another(rt: HostRuntime) {
         ),
         (b"flip flop rotate 45", SIX, b"step 3 can't be read\n"),
     ];
-    refused(&rt, rt.alloc(), &table);
+    refused(&rt, rt.alloc(), &REFUSED);
 }
 
 #[test]
 fn words_that_are_no_steps(rt: HostRuntime) {
-    let table: [(&[u8], &[u8], &[u8]); 6] = [
+    const TABLE: [(&[u8], &[u8], &[u8]); 6] = [
         (b"turn", b"", b"step 1 can't be read\n"),
         (b"flip Flip", b"", b"step 2 can't be read\n"),
         (b"crop 0 0 1", b"", b"step 1 can't be read\n"),
@@ -118,5 +118,5 @@ fn words_that_are_no_steps(rt: HostRuntime) {
         (b"flop threshold", b"", b"step 2 can't be read\n"),
         (b"invert 5", b"", b"step 2 can't be read\n"),
     ];
-    refused(&rt, rt.alloc(), &table);
+    refused(&rt, rt.alloc(), &TABLE);
 }

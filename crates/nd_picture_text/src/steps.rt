@@ -22,7 +22,7 @@ pub enum StepsError {
 }
 
 /// What a step's first word names.
-#[derive(Clone, Copy, Debug, PartialEq, Eq)]
+#[derive(Clone, Copy)]
 enum StepName {
     Crop,
     Flip,
@@ -37,27 +37,45 @@ enum StepName {
     Other,
 }
 
+const CROP: &[u8] = b"crop";
+
+const FLIP: &[u8] = b"flip";
+
+const FLOP: &[u8] = b"flop";
+
+const ROTATE: &[u8] = b"rotate";
+
+const TRANSPOSE: &[u8] = b"transpose";
+
+const SCALE_DOWN: &[u8] = b"scale-down";
+
+const THRESHOLD: &[u8] = b"threshold";
+
+const INVERT: &[u8] = b"invert";
+
+const BLUR: &[u8] = b"blur";
+
 /// The step that a word names.
 fn name_of(word: &[u8]) -> StepName
     ensures { result ≡ name_of word.now }
 {
-    if word == b"crop".as_slice() {
+    if word == CROP {
         StepName::Crop
-    } else if word == b"flip".as_slice() {
+    } else if word == FLIP {
         StepName::Flip
-    } else if word == b"flop".as_slice() {
+    } else if word == FLOP {
         StepName::Flop
-    } else if word == b"rotate".as_slice() {
+    } else if word == ROTATE {
         StepName::Rotate
-    } else if word == b"transpose".as_slice() {
+    } else if word == TRANSPOSE {
         StepName::Transpose
-    } else if word == b"scale-down".as_slice() {
+    } else if word == SCALE_DOWN {
         StepName::ScaleDown
-    } else if word == b"threshold".as_slice() {
+    } else if word == THRESHOLD {
         StepName::Threshold
-    } else if word == b"invert".as_slice() {
+    } else if word == INVERT {
         StepName::Invert
-    } else if word == b"blur".as_slice() {
+    } else if word == BLUR {
         StepName::Blur
     } else {
         StepName::Other

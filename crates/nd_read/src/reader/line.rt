@@ -66,7 +66,7 @@ impl<'a> Line<'a> {
 
     #[tactic(auto, unfolding(crate::specs::Reading::named_at, crate::specs::Reading::map_read, crate::specs::Reading::both_at), using(crate::proofs::Items::item_words))]
     fn question(&mut self, alloc: Global) -> Result<Question<i64, Held>, LineFault>
-        ensures { IsRead (question_may_lack self.old) (λ x. asking (boxed meaning_of) x) result self.new (question_at self.old) }
+        ensures { IsRead (question_may_lack self.old) (asking (boxed meaning_of)) result self.new (question_at self.old) }
     {
         match self.keyword()? {
             Keyword::Shape => Ok(Question::Shape),
@@ -86,7 +86,7 @@ impl<'a> Line<'a> {
 
     #[tactic(auto, unfolding(crate::specs::Reading::named_at, crate::specs::Reading::map_read, crate::specs::Reading::both_at), using(crate::proofs::Items::item_words))]
     fn act(&mut self, alloc: Global) -> Result<Act<i64, Held>, LineFault>
-        ensures { IsRead (act_may_lack self.old) (λ x. acting (boxed meaning_of) x) result self.new (act_at self.old) }
+        ensures { IsRead (act_may_lack self.old) (acting (boxed meaning_of)) result self.new (act_at self.old) }
     {
         match self.keyword()? {
             Keyword::Fill => Ok(Act::Fill(self.read()?)),
@@ -100,7 +100,7 @@ impl<'a> Line<'a> {
     /// Two acts, and the slash between them.
     #[tactic(auto, unfolding(crate::specs::Reading::map_read, crate::specs::Reading::both_at))]
     fn acts(&mut self, alloc: Global) -> Result<(Act<i64, Held>, Act<i64, Held>), LineFault>
-        ensures { IsRead (acts_may_lack self.old) (λ x. acting_both (boxed meaning_of) x) result self.new (acts_at self.old) }
+        ensures { IsRead (acts_may_lack self.old) (acting_both (boxed meaning_of)) result self.new (acts_at self.old) }
     {
         let first = self.act(alloc)?;
         self.slash()?;
@@ -109,7 +109,7 @@ impl<'a> Line<'a> {
 
     #[tactic(auto, unfolding(crate::specs::Reading::named_at, crate::specs::Reading::map_read, crate::specs::Reading::both_at), using(crate::proofs::Items::item_words))]
     fn call(&mut self, alloc: Global, most: usize) -> Result<Call<i64, Held>, LineFault>
-        ensures { IsRead (call_may_lack self.old) (λ x. asked_call (boxed meaning_of) x) result self.new (call_at most self.old) }
+        ensures { IsRead (call_may_lack self.old) (asked_call (boxed meaning_of)) result self.new (call_at most self.old) }
     {
         match self.keyword()? {
             Keyword::Keep => Ok(Call::Keep(self.step(alloc)?)),
