@@ -1,5 +1,7 @@
 //! Parts of an image filled by lists of slices, each caller in coordinates and with no proof file but the last one's
 //! invariant. `?` and then `Ok(())` lets the proof read what the fill tells; one function hands on what the others need of it.
+#![tactic(auto, using(nd_array_core::proofs::Axes::known_axes))]
+
 ghost use Rattle.std.specs.Prelude.{◌≡◌, ◌≢◌, ◌<◌, ◌≤◌, ◌%◌, ◌/◌, ℕ, slice_index, Some, OnOk, IsTrue};
 ghost use Rattle.nd_shape_and_slice.specs.SliceInfo.{fits_shape};
 ghost use Rattle.nd_array_core.specs.Meaning.{shape_of};

@@ -1,4 +1,6 @@
 //! The border of an image, drawn by four writes: its first and last row, and its first and last column.
+#![tactic(auto, using(nd_array_core::proofs::Axes::known_axes))]
+
 ghost use Rattle.std.specs.Prelude.{◌≡◌, ◌∷◌, [], ℕ, false, List, slice_index, is_some, Some, OnOk, IfOk, IsTrue};
 ghost use Rattle.nd_shape_and_slice.specs.SliceInfo.{axes_read, axes_kept, coordinate_on, fits_shape};
 ghost use Rattle.nd_array_core.specs.Meaning.{shape_of, element_at};

@@ -1,4 +1,5 @@
 //! A broadcast of one element.
+#![tactic(auto, using(nd_array_core::proofs::Axes::known_axes))]
 
 ghost use Rattle.std.specs.Prelude.{◌↔◌, ◌≡◌, ◌<◌, ◌∷◌, [], ℕ, List, IsSome, IfSome};
 ghost use Rattle.nd_shape_and_slice.specs.Shape.{HasCheckedSize};

@@ -1,5 +1,7 @@
 //! New matrices of what a closure returns for each row and column: a product, a blur, and a generation of a game of life. Each
 //! is told cell by cell, by one line of proof that is the same for each.
+#![tactic(auto, using(nd_array_core::proofs::Axes::known_axes))]
+
 ghost use Rattle.std.specs.Prelude.{◌≡◌, ◌<◌, ◌≤◌, ◌%◌, ◌^◌, ◌&&◌, ◌||◌, ℕ, [], ◌∷◌, IfOk, Some, nat_eq, slice_index};
 ghost use Rattle.nd_shape_and_slice.specs.Shape.{HasCheckedSize};
 ghost use Rattle.nd_array_core.specs.Meaning.{shape_of};

@@ -1,4 +1,6 @@
 //! Parts of an image written from another, or changed by a closure, in coordinates.
+#![tactic(auto, using(nd_array_core::proofs::Axes::known_axes))]
+
 ghost use Rattle.std.specs.Prelude.{◌≡◌, ◌+◌, ◌-◌, ◌*◌, ◌%◌, ◌^◌, ◌<◌, ◌≤◌, ℕ, slice_index, OnOk, IsTrue};
 ghost use Rattle.std.specs.Option.{option_map};
 ghost use Rattle.nd_shape_and_slice.specs.SliceInfo.{fits_shape};

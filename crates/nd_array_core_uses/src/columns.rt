@@ -1,4 +1,6 @@
 //! Every second column of a grid, painted through one view.
+#![tactic(auto, using(nd_array_core::proofs::Axes::known_axes))]
+
 ghost use Rattle.std.specs.Prelude.{◌≡◌, ◌%◌, ◌∷◌, [], ℕ, nat_eq, length, Some, OnOk, if◌then◌else◌, IsTrue};
 ghost use Rattle.nd_shape_and_slice.specs.Shape.{in_box};
 ghost use Rattle.nd_array_core.specs.Meaning.{shape_of, element_at};

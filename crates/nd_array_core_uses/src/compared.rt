@@ -1,4 +1,6 @@
 //! Images compared pixel by pixel.
+#![tactic(auto, using(nd_array_core::proofs::Axes::known_axes))]
+
 ghost use Rattle.std.specs.Prelude.{◌↔◌, ◌≡◌, ◌<◌, ℕ, nat_eq, IsTrue, slice_index};
 ghost use Rattle.nd_array_core.specs.Equality.{EqualEverywhere};
 ghost use Rattle.nd_array_core.specs.Meaning.{meaning_of, shape_of};

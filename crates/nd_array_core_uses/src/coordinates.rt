@@ -1,4 +1,6 @@
 //! Images seen otherwise, each caller exact in coordinates and proved with no proof file, over every storage and element.
+#![tactic(auto, using(nd_array_core::proofs::Axes::known_axes))]
+
 ghost use Rattle.std.specs.Prelude.{◌↔◌, ◌≡◌, ◌<◌, ◌≤◌, ◌+◌, ◌-◌, ◌*◌, ◌∷◌, [], ℕ, length, min, nat_eq, replicate, slice_get, slice_index, IsSome, IfSome, IfOk};
 ghost use Rattle.std.specs.Option.{option_copied};
 ghost use Rattle.nd_shape_and_slice.specs.Shape.{row_rank};

@@ -1,4 +1,6 @@
 //! Copies of views, and that they are equal to what they were made from.
+#![tactic(auto, using(nd_array_core::proofs::Axes::known_axes))]
+
 ghost use Rattle.std.specs.Prelude.{◌≡◌, ℕ, reverse, IsTrue, IfOk};
 ghost use Rattle.nd_array_core.specs.Meaning.{meaning_of, shape_of};
 ghost use Rattle.nd_array_core.specs.Coordinates.{element_of_2};

@@ -1,4 +1,6 @@
 //! The even rows of a grid and the odd ones, filled at once through two views.
+#![tactic(auto, using(nd_array_core::proofs::Axes::known_axes))]
+
 ghost use Rattle.std.specs.Prelude.{◌≡◌, ◌<◌, ◌%◌, ◌∷◌, [], ℕ, length, nat_eq, slice_index, Some, IsSome, IfSome, OnOk, if◌then◌else◌, IsTrue};
 ghost use Rattle.nd_shape_and_slice.specs.Shape.{in_box};
 ghost use Rattle.nd_array_core.specs.Meaning.{shape_of, element_at};

@@ -1,4 +1,6 @@
 //! Slices of a caller's, filled through a view that is lent for the call.
+#![tactic(auto, using(nd_array_core::proofs::Axes::known_axes))]
+
 ghost use Rattle.std.specs.Prelude.{◌≡◌, OnOk, IfOk, IfErr};
 ghost use Rattle.nd_array_core.specs.scoped.Sources.{meant_by, KeepsUnseen};
 ghost use Rattle.nd_array_core_uses.specs.Slices.{IsFilledWhereSeen, IsFrontFilled};

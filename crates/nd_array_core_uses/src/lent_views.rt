@@ -1,4 +1,6 @@
 //! Arrays filled through a mutable view that is lent in the open, and what is known of the array once the view is over.
+#![tactic(auto, using(nd_array_core::proofs::Axes::known_axes))]
+
 ghost use Rattle.std.specs.Prelude.{◌≡◌, ℕ, List, length, IsTrue};
 ghost use Rattle.nd_shape_and_slice.specs.SliceInfo.{fits_shape};
 ghost use Rattle.nd_array_core.specs.Meaning.{shape_of, place_at};

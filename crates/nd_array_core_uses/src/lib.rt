@@ -1,5 +1,5 @@
 //! Uses of arrays and views, as a caller writes them: each is proved from the contracts of the calls alone.
-#![tactic(auto, using(nd_array_core::proofs::Axes::known_axes))]
+#![tactic(auto)]
 
 ghost use Rattle.std.specs.Prelude.{◌≡◌, ◌<◌, ◌∷◌, [], ℕ, List, length, slice_index, IsSome, IfSome, IfOk, IsTrue};
 ghost use Rattle.nd_shape_and_slice.specs.Slice.{fits_axis, sliced_shape, sliced_index};
@@ -150,6 +150,7 @@ pub use writes::try_put;
 pub use writes::try_put_first;
 
 /// The part of an axis that a slice names; None where there is no such axis or the slice doesn't fit it.
+#[tactic(auto, using(nd_array_core::proofs::Axes::known_axes))]
 pub fn try_slice_axis<'a, S: Data, D: Dimension>(
     array: &'a ArrayBase<S, D>,
     axis: Axis,
@@ -167,6 +168,7 @@ pub fn try_slice_axis<'a, S: Data, D: Dimension>(
 }
 
 /// A table whose cells are given row by row, with its axes exchanged.
+#[tactic(auto, using(nd_array_core::proofs::Axes::known_axes))]
 pub fn turned_table<A: Drop>(
     rows: usize,
     columns: usize,

@@ -1,4 +1,6 @@
 //! New arrays: an identity, zeros, and cells that a function returns. Each is told cell by cell.
+#![tactic(auto, using(nd_array_core::proofs::Axes::known_axes))]
+
 ghost use Rattle.std.specs.Prelude.{◌↔◌, ◌≡◌, ◌<◌, ◌≤◌, ◌+◌, ◌*◌, ℕ, pos, nat_eq, List, [], ◌∷◌, Some, IfOk, if◌then◌else◌};
 ghost use Rattle.nd_shape_and_slice.specs.Shape.{HasCheckedSize};
 ghost use Rattle.nd_array_core.specs.Meaning.{element_at, inside};

@@ -1,5 +1,7 @@
 //! Parts of arrays written through mutable views in the open: each index that the view doesn't name has the element that
 //! it had.
+#![tactic(auto, using(nd_array_core::proofs::Axes::known_axes))]
+
 ghost use Rattle.std.specs.Prelude.{◌≡◌, ◌<◌, ◌∷◌, [], ℕ, List, length, slice_index, IsTrue};
 ghost use Rattle.nd_shape_and_slice.specs.Maps.{indexed_shape};
 ghost use Rattle.nd_shape_and_slice.specs.Shape.{in_box};

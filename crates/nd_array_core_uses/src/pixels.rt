@@ -1,5 +1,7 @@
 //! Images written pixel by pixel: two rows exchanged, a checkerboard, and the sum of a row. Each loop has one line of
 //! proof, which says how far it has come.
+#![tactic(auto, using(nd_array_core::proofs::Axes::known_axes))]
+
 ghost use Rattle.std.specs.Prelude.{◌≡◌, ◌<◌, ◌+◌, ◌%◌, ◌^◌, ℕ, nat_eq, slice_index, Some, if◌then◌else◌};
 ghost use Rattle.nd_array_core.specs.Meaning.{shape_of};
 ghost use Rattle.nd_array_core.specs.Coordinates.{element_of_2};

@@ -1,4 +1,6 @@
 //! Matrices built anew from the rows of others.
+#![tactic(auto, using(nd_array_core::proofs::Axes::known_axes))]
+
 ghost use Rattle.std.specs.Prelude.{◌≡◌, ◌<◌, ◌-◌, ℕ, slice_index, IfOk};
 ghost use Rattle.nd_array_core.specs.Meaning.{shape_of};
 ghost use Rattle.nd_array_core.specs.Coordinates.{element_of_2};

@@ -1,4 +1,6 @@
 //! Arrays under another shape, and their elements as one slice: no element is copied.
+#![tactic(auto, using(nd_array_core::proofs::Axes::known_axes))]
+
 ghost use Rattle.std.specs.Prelude.{◌≡◌, ◌∷◌, [], ℕ, List, IfOk};
 ghost use Rattle.nd_shape_and_slice.specs.declared.builder.Order.TheVariants.{RowMajor};
 ghost use Rattle.nd_array_core.specs.Meaning.{shape_of, element_at, meaning_of, inside};

@@ -1,4 +1,5 @@
 //! Views under strides of the caller's.
+#![tactic(auto, using(nd_array_core::proofs::Axes::known_axes))]
 
 ghost use Rattle.std.specs.Prelude.{◌≡◌, ◌<◌, ◌∷◌, [], ℕ, pos, List, length, slice_get, IfOk};
 ghost use Rattle.nd_array_core.specs.Meaning.{shape_of, element_at, layout_strides};

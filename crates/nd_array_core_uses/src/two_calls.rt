@@ -1,5 +1,7 @@
 //! One call after another, each caller exact at every index and proved with no proof file: over every element type and
 //! storage that the calls take, and at one that is written out.
+#![tactic(auto, using(nd_array_core::proofs::Axes::known_axes))]
+
 ghost use Rattle.std.specs.Prelude.{◌≡◌, ◌<◌, ◌∷◌, [], ℕ, List, slice_index, reverse, Some, OnOk, IfOk, ◌↔◌, IsSome, IfSome, IsTrue};
 ghost use Rattle.nd_shape_and_slice.specs.Shape.{in_box};
 ghost use Rattle.nd_shape_and_slice.specs.Maps.{inverted_index, indexed_index};

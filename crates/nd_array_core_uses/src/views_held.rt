@@ -1,4 +1,6 @@
 //! Arrays whose elements are views.
+#![tactic(auto, using(nd_array_core::proofs::Axes::known_axes))]
+
 ghost use Rattle.std.specs.Prelude.{◌≡◌, ℕ, List, Some, IfOk};
 ghost use Rattle.nd_array_core.specs.Meaning.{shape_of, element_at, inside};
 

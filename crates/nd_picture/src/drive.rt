@@ -1,4 +1,5 @@
 //! The whole program, over any streams.
+#![tactic(auto, using(nd_array_core::proofs::Axes::known_axes))]
 
 ghost use Rattle.std.specs.Prelude.{◌≡◌, ◌<◌, ◌≤◌, ◌||◌, ◌==◌, ◌++◌, IsTrue};
 ghost use Rattle.std.specs.Fmt.{decimal};

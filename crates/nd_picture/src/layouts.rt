@@ -1,4 +1,5 @@
 //! Steps that move pixels: none reads or writes a sample.
+#![tactic(auto, using(nd_array_core::proofs::Axes::known_axes))]
 
 ghost use Rattle.std.specs.Prelude.{◌≡◌, ◌<◌, ◌≤◌, ◌+◌, ◌^◌, slice_index};
 ghost use Rattle.nd_array_core.specs.Meaning.{meaning_of, shape_of};

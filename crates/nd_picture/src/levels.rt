@@ -1,4 +1,5 @@
 //! Steps that change each sample by itself. They take no memory, since a clone of a number takes none.
+#![tactic(auto, using(nd_array_core::proofs::Axes::known_axes))]
 
 ghost use Rattle.std.specs.Prelude.{◌≡◌, nat_lt, if◌then◌else◌, ◌-◌, ℕ, List};
 ghost use Rattle.std.specs.Option.{option_map};

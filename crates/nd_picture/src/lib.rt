@@ -1,6 +1,6 @@
 //! Pictures in the text of Netpbm, cropped, turned and changed sample by sample, as a library and as a program over any
 //! streams.
-#![tactic(auto, using(nd_array_core::proofs::Axes::known_axes))]
+#![tactic(auto)]
 
 // Steps.
 mod blur;

@@ -1,4 +1,5 @@
 //! A list of steps on a picture.
+#![tactic(auto, using(nd_array_core::proofs::Axes::known_axes))]
 
 ghost use Rattle.std.specs.Prelude.{◌≡◌, ◌<◌, ◌≤◌, ◌+◌, ◌^◌, length, slice_index, IfOk, OnErr, Err, IsTrue};
 ghost use Rattle.nd_array_core.specs.Meaning.{meaning_of, shape_of};
