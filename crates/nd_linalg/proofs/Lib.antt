@@ -1,3 +1,4 @@
 pub mod Agreeing
 pub mod LawProofs
+pub mod OneMore
 pub mod Rows
