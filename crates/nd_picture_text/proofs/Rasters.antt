@@ -1,15 +1,17 @@
 -- Samples behind those read so far, and how many an image has.
-use Rattle.std.proofs.Common.{◌≡◌, ℕ, zero, suc, ◌+◌, ◌*◌, ◌<◌, ◌≤◌, List, [], ◌∷◌, ◌++◌, ◌-◌, Result, Ok, Err, refl, sym, ap, ◌∙◌, append_assoc, length, length-append, arith, set, take, drop, subst, Option}
+use Rattle.std.proofs.Common.{◌≡◌, ℕ, zero, suc, ◌+◌, ◌*◌, ◌<◌, ◌≤◌, List, [], ◌∷◌, ◌++◌, ◌-◌, Result, Ok, Err, refl, sym, ap, ◌∙◌, append_assoc, length, length-append, arith, set, take, drop, get_or, subst, Option, Bool, true}
 use Rattle.std.specs.List.{flat_map}
 use Rattle.std.proofs.lemmas.List.{length-set, take_more_set}
 use Rattle.std.proofs.lemmas.List.Concat.{flat_map-append}
+use Rattle.std.proofs.lemmas.Bool.Decides.{nat_tests}
+use Rattle.std.proofs.Math.Seq.{take-length}
 use Rattle.nd_text.specs.declared.watched.Watched.{Watched}
 use Rattle.nd_text.specs.Puts.{Puts}
 use Rattle.nd_text.proofs.Puts.{puts_then}
-use Rattle.std.specs.Prelude.{All}
+use Rattle.std.specs.Prelude.{All, nat_le, if◌then◌else◌}
 use Rattle.std.proofs.lemmas.List.Elements.{All-append}
 use Rattle.nd_picture_text.specs.Numbers.{◌>>=◌, next_number}
-use Rattle.nd_picture_text.specs.Reading.{samples_behind, plain_samples}
+use Rattle.nd_picture_text.specs.Reading.{samples_behind, narrow_samples, plain_samples, wide_samples}
 
 pub behind_none : (r : Result (List ℕ) ℕ) → samples_behind [] r ≡ r
 behind_none (Ok xs) = refl
@@ -70,3 +72,40 @@ pair_set xs i a b h =
     ∙ take_more_set (set xs (i * 2) a) (i * 2 + 1) b second
     ∙ ap (λ t. t ++ b ∷ []) (take_more_set xs (i * 2) a first)
     ∙ append_assoc (take (i * 2) xs) (a ∷ []) (b ∷ [])
+
+-- one sample of one byte more
+pub narrow_left : (rest : List ℕ) → 1 ≤ length rest → length (take (length rest - 1) (drop 1 rest)) + 1 ≡ length rest
+narrow_left [] some = absurd (omega (arith, some))
+narrow_left (b ∷ bs) some =
+    let less : suc (length bs) - 1 ≡ length bs = omega arith in
+    let all : length (take (suc (length bs) - 1) bs) ≡ length bs = ap (λ n. length (take n bs)) less ∙ ap length (take-length bs) in
+    omega (arith, all)
+
+pub narrow_more : (maxval : ℕ) (xs rest : List ℕ) (whole : Result (List ℕ) ℕ) → 1 ≤ length rest → get_or rest 0 0 ≤ maxval → samples_behind xs (narrow_samples maxval rest) ≡ whole
+    → samples_behind (xs ++ get_or rest 0 0 ∷ []) (narrow_samples maxval (take (length rest - 1) (drop 1 rest))) ≡ whole
+narrow_more maxval xs [] whole some within is = absurd (omega (arith, some))
+narrow_more maxval xs (b ∷ bs) whole some within is =
+    let less : suc (length bs) - 1 ≡ length bs = omega arith in
+    let test : nat_le b maxval ≡ true = grind (arith, nat_tests, within) in
+    let step : narrow_samples maxval (b ∷ bs) ≡ samples_behind (b ∷ []) (narrow_samples maxval bs) = ap (λ (t : Bool). if t then samples_behind (b ∷ []) (narrow_samples maxval bs) else Err (length (b ∷ bs))) test in
+    behind_more xs b (narrow_samples maxval (take (suc (length bs) - 1) bs)) ∙ ap (λ l. samples_behind xs (samples_behind (b ∷ []) (narrow_samples maxval l))) (ap (λ n. take n bs) less ∙ take-length bs) ∙ ap (samples_behind xs) (sym step) ∙ is
+
+-- one sample of two bytes more
+pub wide_left : (rest : List ℕ) → 2 ≤ length rest → length (take (length rest - 2) (drop 2 rest)) + 2 ≡ length rest
+wide_left [] some = absurd (omega (arith, some))
+wide_left (a ∷ []) some = absurd (omega (arith, some))
+wide_left (a ∷ b ∷ bs) some =
+    let less : suc (suc (length bs)) - 2 ≡ length bs = omega arith in
+    let all : length (take (suc (suc (length bs)) - 2) bs) ≡ length bs = ap (λ n. length (take n bs)) less ∙ ap length (take-length bs) in
+    omega (arith, all)
+
+pub wide_more : (maxval : ℕ) (xs rest : List ℕ) (whole : Result (List ℕ) ℕ) → 2 ≤ length rest → get_or rest 0 0 * 256 + get_or rest 1 0 ≤ maxval → samples_behind xs (wide_samples maxval rest) ≡ whole
+    → samples_behind (xs ++ (get_or rest 0 0 * 256 + get_or rest 1 0) ∷ []) (wide_samples maxval (take (length rest - 2) (drop 2 rest))) ≡ whole
+wide_more maxval xs [] whole some within is = absurd (omega (arith, some))
+wide_more maxval xs (a ∷ []) whole some within is = absurd (omega (arith, some))
+wide_more maxval xs (a ∷ b ∷ bs) whole some within is =
+    let less : suc (suc (length bs)) - 2 ≡ length bs = omega arith in
+    let test : nat_le (a * 256 + b) maxval ≡ true = grind (arith, nat_tests, within) in
+    let one = samples_behind ((a * 256 + b) ∷ []) in
+    let step : wide_samples maxval (a ∷ b ∷ bs) ≡ one (wide_samples maxval bs) = ap (λ (t : Bool). if t then one (wide_samples maxval bs) else Err (length (a ∷ b ∷ bs))) test in
+    behind_more xs (a * 256 + b) (wide_samples maxval (take (suc (suc (length bs)) - 2) bs)) ∙ ap (λ l. samples_behind xs (one (wide_samples maxval l))) (ap (λ n. take n bs) less ∙ take-length bs) ∙ ap (samples_behind xs) (sym step) ∙ is
