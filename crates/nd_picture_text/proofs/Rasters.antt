@@ -1,15 +1,18 @@
 -- Samples behind those read so far, and how many an image has.
-use Rattle.std.proofs.Common.{◌≡◌, ℕ, zero, suc, ◌+◌, ◌*◌, ◌<◌, ◌≤◌, List, [], ◌∷◌, ◌++◌, ◌-◌, Result, Ok, Err, refl, sym, ap, ◌∙◌, append_assoc, length, length-append, arith, set, take, drop, get_or, subst, Option, Bool, true}
+use Rattle.std.proofs.Common.{◌≡◌, ℕ, zero, suc, ◌+◌, ◌*◌, ◌<◌, ◌≤◌, List, [], ◌∷◌, ◌++◌, ◌-◌, Result, Ok, Err, refl, sym, ap, ◌∙◌, append_assoc, length, length-append, arith, set, take, drop, get_or, subst, Option, Bool, true, false}
 use Rattle.std.specs.List.{flat_map}
-use Rattle.std.proofs.lemmas.List.{length-set, take_more_set}
+use Rattle.std.proofs.lemmas.List.{length-set, take_all, take_more_set}
 use Rattle.std.proofs.lemmas.List.Concat.{flat_map-append}
 use Rattle.std.proofs.lemmas.Bool.Decides.{nat_tests}
 use Rattle.std.proofs.Math.Seq.{take-length}
 use Rattle.nd_text.specs.declared.watched.Watched.{Watched}
 use Rattle.nd_text.specs.Puts.{Puts}
 use Rattle.nd_text.proofs.Puts.{puts_then}
-use Rattle.std.specs.Prelude.{All, nat_le, if◌then◌else◌}
+use Rattle.std.specs.Prelude.{All, nat_le, nat_lt, if◌then◌else◌}
 use Rattle.std.proofs.lemmas.List.Elements.{All-append}
+use Rattle.nd_picture_text.specs.declared.image.Header.{Header}
+use Rattle.nd_picture_text.specs.Images.{is_plain}
+use Rattle.nd_picture_text.specs.Writing.{both_bytes, low_byte, number_line, sample_text}
 use Rattle.nd_picture_text.specs.Numbers.{◌>>=◌, next_number}
 use Rattle.nd_picture_text.specs.Reading.{samples_behind, narrow_samples, plain_samples, wide_samples}
 
@@ -109,3 +112,25 @@ wide_more maxval xs (a ∷ b ∷ bs) whole some within is =
     let one = samples_behind ((a * 256 + b) ∷ []) in
     let step : wide_samples maxval (a ∷ b ∷ bs) ≡ one (wide_samples maxval bs) = ap (λ (t : Bool). if t then one (wide_samples maxval bs) else Err (length (a ∷ b ∷ bs))) test in
     behind_more xs (a * 256 + b) (wide_samples maxval (take (suc (suc (length bs)) - 2) bs)) ∙ ap (λ l. samples_behind xs (one (wide_samples maxval l))) (ap (λ n. take n bs) less ∙ take-length bs) ∙ ap (samples_behind xs) (sym step) ∙ is
+
+-- all pieces are put
+pub all_put : {W : Type 0} {contents : W → Option (List ℕ)} {old new : Watched W} {held left : List ℕ} (f : ℕ → List ℕ) (xs : List ℕ) (done : ℕ) → length xs ≤ done → Puts contents old held new left (flat_map f (take done xs)) → Puts contents old held new left (flat_map f xs)
+all_put {W} {contents} {old} {new} {held} {left} f xs done all puts = subst (λ zs. Puts contents old held new left (flat_map f zs)) (take_all done xs all) puts
+
+-- the texts of samples, by their header
+module _ (h : Header) (xs : List ℕ) where
+  pub plain_texts : is_plain h.kind ≡ true → flat_map (sample_text h) xs ≡ flat_map number_line xs
+  plain_texts plain = ap (λ (t : Bool). flat_map (λ s. if t then number_line s else (if nat_lt h.maxval 256 then low_byte s else both_bytes s)) xs) plain
+
+  raw_texts : is_plain h.kind ≡ false → flat_map (sample_text h) xs ≡ flat_map (λ s. if nat_lt h.maxval 256 then low_byte s else both_bytes s) xs
+  raw_texts raw = ap (λ (t : Bool). flat_map (λ s. if t then number_line s else (if nat_lt h.maxval 256 then low_byte s else both_bytes s)) xs) raw
+
+  pub narrow_texts : is_plain h.kind ≡ false → h.maxval < 256 → flat_map (sample_text h) xs ≡ flat_map low_byte xs
+  narrow_texts raw below =
+      let test : nat_lt h.maxval 256 ≡ true = grind (arith, nat_tests, below) in
+      raw_texts raw ∙ ap (λ (t : Bool). flat_map (λ s. if t then low_byte s else both_bytes s) xs) test
+
+  pub wide_texts : is_plain h.kind ≡ false → 256 ≤ h.maxval → flat_map (sample_text h) xs ≡ flat_map both_bytes xs
+  wide_texts raw above =
+      let test : nat_lt h.maxval 256 ≡ false = grind (arith, nat_tests, above) in
+      raw_texts raw ∙ ap (λ (t : Bool). flat_map (λ s. if t then low_byte s else both_bytes s) xs) test

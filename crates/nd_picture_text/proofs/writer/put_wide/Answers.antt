@@ -1,7 +1,7 @@
 use Rattle.std.proofs.Common.{◌≡◌, ◌∙◌, ◌+◌, ◌-◌, take, drop, ap, arith}
 use Rattle.std.specs.List.{flat_map}
 use Rattle.nd_picture_text.specs.Writing.{both_bytes}
-use Rattle.nd_picture_text.proofs.Rasters.{piece_put}
+use Rattle.nd_picture_text.proofs.Rasters.{all_put, piece_put}
 use Rattle.nd_picture_text.proofs.writer.put_wide.Goals as goal
 
 pub loop-done-preserved : goal.loop-done-preserved
@@ -12,3 +12,6 @@ loop-done-preserved g c =
       put = piece_put both_bytes c.args.samples.now c.loop-done.done c.min.result _ c.loop-done.invariant.put piece c.put.ensures;
       within = omega arith;
     }
+
+pub returns : goal.returns
+returns g c = all_put both_bytes c.args.samples.now c.loop-done.done c.loop-done-test.false c.loop-done.invariant.put
