@@ -1,16 +1,17 @@
 -- Arrays that show every k-th row or column of a picture, each sample changed, or the mean of those around it.
-use Rattle.std.proofs.Common.{◌≡◌, ◌∙◌, ℕ, ◌+◌, ◌-◌, ◌*◌, ◌<◌, ◌≤◌, true, cond, leb, List, [], ◌∷◌, None, Some, refl, sym, ap, arith}
+use Rattle.std.proofs.Common.{◌≡◌, ◌∙◌, ℕ, ◌+◌, ◌-◌, ◌*◌, ◌<◌, ◌≤◌, true, cond, leb, List, [], ◌∷◌, None, Some, pos, refl, sym, ap, arith}
 use Rattle.std.proofs.Math.Nat.{mul-le-mul_left}
 use Rattle.std.proofs.lemmas.Nat.{div-add-mod'}
 use Rattle.std.proofs.lemmas.Bool.{lt-ltb}
 use Rattle.std.proofs.lemmas.Bool.Decides.{nat_tests}
+use Rattle.std.specs.Prelude.{nat_le, slice_index}
 use Rattle.std.specs.Option.{option_map}
 use Rattle.nd_shape_and_slice.specs.Shape.{in_box}
 use Rattle.nd_shape_and_slice.specs.declared.slice.Slice.{Slice}
 use Rattle.nd_shape_and_slice.specs.Slice.{low_of, high_of, sliced_length, sliced_from, sliced_shape, sliced_index}
 use Rattle.nd_array_core.specs.Meaning.{Meaning, inside}
 use Rattle.nd_picture.specs.Parts.{every}
-use Rattle.nd_picture.specs.Pictures.{Picture, Shows, ceiling, every_row, every_column, changed, blurred_at, blurred}
+use Rattle.nd_picture.specs.Pictures.{Picture, Shows, ceiling, rows_from, columns_from, every_row, every_column, changed, blurred_at, blurred}
 
 -- coordinates below three lengths
 pub in_three : (n m l i j k : ℕ) → i < n → j < m → k < l → in_box (n ∷ m ∷ l ∷ []) (i ∷ j ∷ k ∷ []) ≡ true
@@ -74,6 +75,60 @@ module _ (m n : Meaning ℕ) (p : Picture) (k : ℕ) (some : 0 < k) (shows : Sho
         ∙ ap m.at (columns_source i j l)
         ∙ shows.samples i (j * k) l a (step_below p.width k j some b) c;
   }
+
+-- so many coordinates from one on
+abbrev from_on : ℕ → ℕ → Slice
+from_on first count = record { start = pos first; end = Some (pos (first + count)); step = pos 1 }
+
+module _ (first count n : ℕ) (fits : first + count ≤ n) where
+  within : nat_le first n ≡ true
+  within = grind (arith, nat_tests, fits)
+
+  end_within : nat_le (first + count) n ≡ true
+  end_within = grind (arith, nat_tests, fits)
+
+  cut_low : low_of n (from_on first count) ≡ first
+  cut_low = rw within refl
+
+  cut_high : high_of n (from_on first count) ≡ first + count
+  cut_high = rw (within, end_within) (omega arith)
+
+  cut_length : sliced_length n (from_on first count) ≡ count
+  cut_length = omega (arith, cut_low, cut_high)
+
+  cut_from : (i : ℕ) → sliced_from n (from_on first count) i ≡ first + i
+  cut_from i = omega (arith, cut_low)
+
+module _ (m n : Meaning ℕ) (p : Picture) (first count : ℕ) (shows : Shows m p) where
+  pub rows_cut : first + count ≤ slice_index m.shape 0 → (s : Slice) → s ≡ from_on first count → n.shape ≡ sliced_shape m.shape 0 s → ((i : List ℕ) → n.at i ≡ inside (sliced_shape m.shape 0 s) i (m.at (sliced_index m.shape 0 s i))) → Shows n (rows_from first count p)
+  rows_cut all s is shape at =
+      let fits : first + count ≤ p.height = omega (arith, all, ap (λ ns. slice_index ns 0) shows.shape) in
+      let sides : sliced_shape m.shape 0 (from_on first count) ≡ count ∷ p.width ∷ p.channels ∷ [] = ap (λ ns. sliced_shape ns 0 (from_on first count)) shows.shape ∙ ap (λ x. x ∷ p.width ∷ p.channels ∷ []) (cut_length first count p.height fits) in
+      record {
+        shape = shape ∙ ap (sliced_shape m.shape 0) is ∙ sides;
+        samples = λ i j l a b c.
+            at (i ∷ j ∷ l ∷ [])
+            ∙ ap (λ t. inside (sliced_shape m.shape 0 t) (i ∷ j ∷ l ∷ []) (m.at (sliced_index m.shape 0 t (i ∷ j ∷ l ∷ [])))) is
+            ∙ ap (λ ns. inside ns (i ∷ j ∷ l ∷ []) (m.at (sliced_index m.shape 0 (from_on first count) (i ∷ j ∷ l ∷ [])))) sides
+            ∙ ap (λ t. cond t (m.at (sliced_index m.shape 0 (from_on first count) (i ∷ j ∷ l ∷ []))) None) (in_three count p.width p.channels i j l a b c)
+            ∙ ap m.at (ap (λ ns. sliced_index ns 0 (from_on first count) (i ∷ j ∷ l ∷ [])) shows.shape ∙ ap (λ x. x ∷ j ∷ l ∷ []) (cut_from first count p.height fits i))
+            ∙ shows.samples (first + i) j l (omega (arith, a, fits)) b c;
+      }
+
+  pub columns_cut : first + count ≤ slice_index m.shape 1 → (s : Slice) → s ≡ from_on first count → n.shape ≡ sliced_shape m.shape 1 s → ((i : List ℕ) → n.at i ≡ inside (sliced_shape m.shape 1 s) i (m.at (sliced_index m.shape 1 s i))) → Shows n (columns_from first count p)
+  columns_cut all s is shape at =
+      let fits : first + count ≤ p.width = omega (arith, all, ap (λ ns. slice_index ns 1) shows.shape) in
+      let sides : sliced_shape m.shape 1 (from_on first count) ≡ p.height ∷ count ∷ p.channels ∷ [] = ap (λ ns. sliced_shape ns 1 (from_on first count)) shows.shape ∙ ap (λ x. p.height ∷ x ∷ p.channels ∷ []) (cut_length first count p.width fits) in
+      record {
+        shape = shape ∙ ap (sliced_shape m.shape 1) is ∙ sides;
+        samples = λ i j l a b c.
+            at (i ∷ j ∷ l ∷ [])
+            ∙ ap (λ t. inside (sliced_shape m.shape 1 t) (i ∷ j ∷ l ∷ []) (m.at (sliced_index m.shape 1 t (i ∷ j ∷ l ∷ [])))) is
+            ∙ ap (λ ns. inside ns (i ∷ j ∷ l ∷ []) (m.at (sliced_index m.shape 1 (from_on first count) (i ∷ j ∷ l ∷ [])))) sides
+            ∙ ap (λ t. cond t (m.at (sliced_index m.shape 1 (from_on first count) (i ∷ j ∷ l ∷ []))) None) (in_three p.height count p.channels i j l a b c)
+            ∙ ap m.at (ap (λ ns. sliced_index ns 1 (from_on first count) (i ∷ j ∷ l ∷ [])) shows.shape ∙ ap (λ x. i ∷ x ∷ l ∷ []) (cut_from first count p.width fits j))
+            ∙ shows.samples i (first + j) l a (omega (arith, b, fits)) c;
+      }
 
 -- each sample changed
 pub changed_shown : (m n : Meaning ℕ) (f : ℕ → ℕ) (p : Picture) → n.shape ≡ m.shape → ((i : List ℕ) → n.at i ≡ option_map f (m.at i)) → Shows m p → Shows n (changed f p)

@@ -1,4 +1,5 @@
-use Rattle.std.proofs.Common.{refl, sym}
+use Rattle.std.proofs.Common.{Some, refl, sym, ap, ◌∙◌}
+use Rattle.std.proofs.lemmas.Option.{slice_get-get_or}
 use Rattle.nd_array_core.specs.Meaning.{meaning_of}
 use Rattle.nd_picture.proofs.Runs.{run_more, run_stops, run_ends}
 use Rattle.nd_picture.proofs.steps.take_steps.Goals as goal
@@ -20,3 +21,6 @@ pub returns-clause-ends : goal.returns-clause-ends
 returns-clause-ends c = λ p shows.
     let so = c.loop-nth.invariant p shows in
     (so.0, run_ends c.args.maxval c.loop-nth.nth c.args.steps.now so.0 _ so.2 c.loop-nth-test.false, so.1)
+
+pub returns-in-Err-clause-memory : goal.returns-in-Err-clause-memory
+returns-in-Err-clause-memory c = λ refused. (c.loop-nth.nth, slice_get-get_or c.args.steps.now c.loop-nth.nth _ c.loop-nth-test.true ∙ ap Some c.in-Err.ensures.memory)
