@@ -1,11 +1,11 @@
 -- Steps taken one behind the other.
-use Rattle.std.proofs.Common.{◌≡◌, ◌∙◌, ℕ, ◌+◌, ◌<◌, ◌≤◌, Bool, true, false, cond, List, ◌∷◌, length, get_or, drop, drop-cons, add-one, Result, Ok, Err, refl, sym, ap}
+use Rattle.std.proofs.Common.{◌≡◌, ◌∙◌, ℕ, ◌+◌, ◌<◌, ◌≤◌, Bool, true, false, cond, List, [], ◌∷◌, length, get_or, drop, drop-cons, add-one, Result, Ok, Err, refl, sym, ap}
 use Rattle.std.specs.Prelude.{slice_index}
 use Rattle.std.proofs.lemmas.List.{drop_all}
 use Rattle.nd_array_core.specs.Meaning.{Meaning}
 use Rattle.nd_picture_text.specs.declared.step.Step.{Step}
 use Rattle.nd_picture.specs.Pictures.{Picture, Shows}
-use Rattle.nd_picture.specs.Steps.{fits, after, after_all}
+use Rattle.nd_picture.specs.Steps.{fits, after, after_all, after_each}
 
 module _ (maxval nth : ℕ) (steps : List Step) (d : Step) (m : Meaning ℕ) (q : Picture) (all : Result Picture ℕ) (shows : Shows m q) (so_far : after_all maxval (nth + 1) (drop nth steps) q ≡ all) where
   -- what is left begins with the step at hand
@@ -26,3 +26,12 @@ module _ (maxval nth : ℕ) (steps : List Step) (d : Step) (m : Meaning ℕ) (q 
 -- no step is left
 pub run_ends : (maxval nth : ℕ) (steps : List Step) (q : Picture) (all : Result Picture ℕ) → after_all maxval (nth + 1) (drop nth steps) q ≡ all → length steps ≤ nth → all ≡ Ok q
 run_ends maxval nth steps q all so_far end = sym so_far ∙ ap (λ rest. after_all maxval (nth + 1) rest q) (drop_all nth steps end)
+
+-- where all steps are taken, what they end with
+pub each_taken : (maxval number : ℕ) (steps : List Step) (p q : Picture) → after_all maxval number steps p ≡ Ok q → q ≡ after_each maxval steps p
+each_taken maxval number [] p q is = cc
+each_taken maxval number (step ∷ steps) p q is = by_test (fits step p.height p.width) (each_taken maxval (number + 1) steps (after maxval step p) q) is
+  where
+    by_test : {left : Result Picture ℕ} {end : Picture} (t : Bool) → (left ≡ Ok q → q ≡ end) → cond t left (Err number) ≡ Ok q → q ≡ end
+    by_test true taken is = taken is
+    by_test false taken is = absurd cc

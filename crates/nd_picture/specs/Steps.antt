@@ -37,6 +37,11 @@ abbrev pub after_all : ℕ → ℕ → List Step → Picture → Result Picture 
 after_all maxval number [] p = Ok p
 after_all maxval number (step ∷ steps) p = if fits step p.height p.width then after_all maxval (number + 1) steps (after maxval step p) else Err number
 
+-- the picture after all steps, each of which can be taken
+abbrev pub after_each : ℕ → List Step → Picture → Picture
+after_each maxval [] p = p
+after_each maxval (step ∷ steps) p = after_each maxval steps (after maxval step p)
+
 -- the code ends with an array that shows that picture, or with that number, unless memory ran out
 abbrev pub IsRefusedAt : StepError → Result Picture ℕ → Type 0
 IsRefusedAt (Refused number) end = end ≡ Err number

@@ -7,6 +7,8 @@ mod answers;
 #[cfg(test)]
 mod bad_input;
 #[cfg(test)]
+pub mod callers;
+#[cfg(test)]
 mod formats;
 #[cfg(test)]
 mod steps;

@@ -1,7 +1,8 @@
-use Rattle.std.proofs.Common.{Some, refl, sym, ap, ◌∙◌}
+use Rattle.std.proofs.Common.{Some, refl, sym, ap, subst, ◌∙◌}
 use Rattle.std.proofs.lemmas.Option.{slice_get-get_or}
 use Rattle.nd_array_core.specs.Meaning.{meaning_of}
-use Rattle.nd_picture.proofs.Runs.{run_more, run_stops, run_ends}
+use Rattle.nd_picture.specs.Pictures.{Shows}
+use Rattle.nd_picture.proofs.Runs.{each_taken, run_more, run_stops, run_ends}
 use Rattle.nd_picture.proofs.steps.take_steps.Goals as goal
 
 pub loop-nth-init : goal.loop-nth-init
@@ -24,3 +25,9 @@ returns-clause-ends c = λ p shows.
 
 pub returns-in-Err-clause-memory : goal.returns-in-Err-clause-memory
 returns-in-Err-clause-memory c = λ refused. (c.loop-nth.nth, slice_get-get_or c.args.steps.now c.loop-nth.nth _ c.loop-nth-test.true ∙ ap Some c.in-Err.ensures.memory)
+
+pub returns-clause-after : goal.returns-clause-after
+returns-clause-after c = λ p shows.
+    let so = c.loop-nth.invariant p shows in
+    let end = run_ends c.args.maxval c.loop-nth.nth c.args.steps.now so.0 _ so.2 c.loop-nth-test.false in
+    subst (Shows (meaning_of c.loop-nth.picture)) (each_taken c.args.maxval 1 c.args.steps.now p so.0 end) so.1

@@ -1,0 +1,52 @@
+//! A caller that crops and turns: no proof file.
+
+ghost use Rattle.std.specs.Prelude.{IfOk};
+ghost use Rattle.nd_array_core.specs.Meaning.{meaning_of};
+ghost use Rattle.nd_picture.specs.Pictures.{Picture, Shows, cropped, turned_quarter};
+
+use nd_array_core::Array3;
+use nd_picture::StepError;
+use nd_picture::samples::{image_of, picture_of};
+use nd_picture::steps::take_steps;
+use nd_picture_text::Step;
+use nd_picture_text::reader::read_image;
+use std::alloc::Global;
+
+/// Three rows and four columns, from row 2 and column 1 on, turned by a quarter, clockwise.
+pub fn crop_and_turn(
+    alloc: Global,
+    maxval: u16,
+    picture: Array3<u16>,
+) -> Result<Array3<u16>, StepError>
+    ensures { IfOk result (λ a. (p : Picture) → Shows (meaning_of picture) p → Shows (meaning_of a) (turned_quarter (cropped 2 1 3 4 p))) }
+{
+    take_steps(
+        alloc,
+        maxval,
+        &[Step::Crop(2, 1, 3, 4), Step::RotateQuarter],
+        picture,
+    )
+}
+
+const FIVE_ROWS: &[u8] = b"P2 5 5 99
+0 1 2 3 4
+10 11 12 13 14
+20 21 22 23 24
+30 31 32 33 34
+40 41 42 43 44
+";
+
+/// The samples of an image, cropped and turned.
+fn turned_samples(alloc: Global, bytes: &[u8]) -> Option<Vec<u16>> {
+    let image = read_image(alloc, bytes).ok()?;
+    let header = image.header;
+    let turned = crop_and_turn(alloc, 99, picture_of(image)).ok()?;
+    let image = image_of(alloc, header, &turned).ok()?;
+    Some(image.samples)
+}
+
+#[test]
+fn crops_and_turns(rt: HostRuntime) {
+    let samples = turned_samples(rt.alloc(), FIVE_ROWS).expect(&rt, "samples");
+    assert!(rt; samples.as_slice() == [41, 31, 21, 42, 32, 22, 43, 33, 23, 44, 34, 24].as_slice());
+}
