@@ -2,7 +2,7 @@
 
 ghost use Rattle.std.specs.Prelude.{IfOk};
 ghost use Rattle.nd_array_core.specs.Meaning.{meaning_of};
-ghost use Rattle.nd_picture.specs.Pictures.{Picture, Shows, cropped, turned_quarter};
+ghost use Rattle.nd_picture.specs.Pictures.{ShowsAfter, cropped, turned_quarter};
 
 use nd_array_core::Array3;
 use nd_picture::StepError;
@@ -18,14 +18,10 @@ pub fn crop_and_turn(
     maxval: u16,
     picture: Array3<u16>,
 ) -> Result<Array3<u16>, StepError>
-    ensures { IfOk result (λ a. (p : Picture) → Shows (meaning_of picture) p → Shows (meaning_of a) (turned_quarter (cropped 2 1 3 4 p))) }
+    ensures { IfOk result (λ a. ShowsAfter (λ p. turned_quarter (cropped 2 1 3 4 p)) (meaning_of picture) (meaning_of a)) }
 {
-    take_steps(
-        alloc,
-        maxval,
-        &[Step::Crop(2, 1, 3, 4), Step::RotateQuarter],
-        picture,
-    )
+    let steps = [Step::Crop(2, 1, 3, 4), Step::RotateQuarter];
+    take_steps(alloc, maxval, &steps, picture)
 }
 
 const FIVE_ROWS: &[u8] = b"P2 5 5 99

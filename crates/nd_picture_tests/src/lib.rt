@@ -1,4 +1,4 @@
-//! Tests of `drive` by its public call. The modules are named after what they test.
+//! A caller of the steps, and tests of `drive` by its public call. The modules are named after what they test.
 #![tactic(auto)]
 
 // What several of them use.
