@@ -1,54 +1,81 @@
-//! Elements, rows and columns of a small table, each row beside what ndarray's iterator gives of it.
+//! Elements, rows and columns of a small table, each row beside what ndarray's iterator gives of it. What a test asks is asked
+//! over any storage, since a call over a type that is known takes longer to prove.
 
-use crate::tables::{digits, is, joined, nothing, table};
-use nd_array_core::Array2;
+ghost use Rattle.std.specs.Prelude.{◌<◌, length};
+ghost use Rattle.nd_array_core.specs.Meaning.{shape_of};
+
+use crate::tables::{digits, is, joined, nothing, table, table_of};
+use nd_array_core::{Array2, ArrayBase, Data};
 use nd_iter::{axis_iter, iter, rows};
-use nd_shape_and_slice::Axis;
-use nd_test_arrays::made;
+use nd_shape_and_slice::{Axis, Dimension, Ix2, RemoveAxis};
 use std::alloc::Global;
 use std::process::Abort;
 
 /// Rows 3 7, 8 5 and 2 4.
 fn high_table(rt: &impl Abort, alloc: Global) -> Array2<u64> {
-    made(alloc, (3, 2), &[3, 7, 8, 5, 2, 4]).expect(rt, "made")
+    table_of(rt, alloc, (3, 2), &[3, 7, 8, 5, 2, 4])
+}
+
+/// The elements of the transpose as digits.
+fn turned_digits<S: Data<Elem = u64>, D: Dimension>(array: &ArrayBase<S, D>) -> u64 {
+    digits(&array.t())
+}
+
+/// Whether these are the first element and the last, and so many are left between them.
+fn has_ends<S: Data<Elem = u64>, D: Dimension>(
+    array: &ArrayBase<S, D>,
+    first: u64,
+    last: u64,
+    between: usize,
+) -> bool {
+    let mut left = iter(array);
+    is(left.next(), first) && is(left.next_back(), last) && left.len() == between
+}
+
+/// Whether there is no element.
+fn has_none<S: Data<Elem = u64>, D: Dimension>(array: &ArrayBase<S, D>) -> bool {
+    iter(array).next().is_none()
+}
+
+/// The rows, each as three digits.
+fn joined_rows<S: Data<Elem = u64>>(table: &ArrayBase<S, Ix2>) -> u64 {
+    joined(rows(table), 1_000)
+}
+
+/// The views along the second axis, each as three digits.
+fn joined_columns<S: Data<Elem = u64>, D: RemoveAxis>(array: &ArrayBase<S, D>) -> u64
+    requires { 1 < length (shape_of array.now) }
+{
+    joined(axis_iter(array, Axis(1)), 1_000)
 }
 
 #[test]
 fn elements(rt: HostRuntime) {
-    let table = table(&rt, rt.alloc());
-    assert!(rt; digits(&table) == 378524);
+    assert!(rt; digits(&table(&rt, rt.alloc())) == 378524);
 }
 
 #[test]
 fn elements_of_the_transpose(rt: HostRuntime) {
-    let table = table(&rt, rt.alloc());
-    assert!(rt; digits(&table.t()) == 357284);
+    assert!(rt; turned_digits(&table(&rt, rt.alloc())) == 357284);
 }
 
 #[test]
 fn elements_from_both_ends(rt: HostRuntime) {
-    let table = table(&rt, rt.alloc());
-    let mut left = iter(&table);
-    assert!(rt; is(left.next(), 3));
-    assert!(rt; is(left.next_back(), 4));
-    assert!(rt; left.len() == 4);
+    assert!(rt; has_ends(&table(&rt, rt.alloc()), 3, 4, 4));
 }
 
 #[test]
 fn elements_of_nothing(rt: HostRuntime) {
-    let table = nothing(&rt, rt.alloc());
-    assert!(rt; iter(&table).next().is_none());
+    assert!(rt; has_none(&nothing(&rt, rt.alloc())));
 }
 
 #[test]
 fn rows_of_a_table(rt: HostRuntime) {
-    let table = high_table(&rt, rt.alloc());
-    assert!(rt; joined(rows(&table), 1_000) == 37085024);
+    assert!(rt; joined_rows(&high_table(&rt, rt.alloc())) == 37085024);
 }
 
 #[test]
 #[tactic(auto, using(nd_array_core::proofs::Axes::known_axes))]
 fn columns_of_a_table(rt: HostRuntime) {
-    let table = high_table(&rt, rt.alloc());
-    assert!(rt; joined(axis_iter(&table, Axis(1)), 1_000) == 382754);
+    assert!(rt; joined_columns(&high_table(&rt, rt.alloc())) == 382754);
 }

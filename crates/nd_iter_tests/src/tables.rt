@@ -9,14 +9,24 @@ use nd_test_arrays::made;
 use std::alloc::Global;
 use std::process::Abort;
 
+/// A table of so many rows and columns, with these numbers row by row.
+pub(crate) fn table_of(
+    rt: &impl Abort,
+    alloc: Global,
+    lengths: (usize, usize),
+    numbers: &[u64],
+) -> Array2<u64> {
+    made(alloc, lengths, numbers).expect(rt, "made")
+}
+
 /// Rows 3 7 8 and 5 2 4.
 pub(crate) fn table(rt: &impl Abort, alloc: Global) -> Array2<u64> {
-    made(alloc, (2, 3), &[3, 7, 8, 5, 2, 4]).expect(rt, "made")
+    table_of(rt, alloc, (2, 3), &[3, 7, 8, 5, 2, 4])
 }
 
 /// Two rows without elements.
 pub(crate) fn nothing(rt: &impl Abort, alloc: Global) -> Array2<u64> {
-    made(alloc, (2, 0), &[]).expect(rt, "made")
+    table_of(rt, alloc, (2, 0), &[])
 }
 
 /// The elements as digits.
