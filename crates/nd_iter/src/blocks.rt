@@ -10,7 +10,7 @@ ghost use Rattle.nd_iter.specs.TableParts.{numbered_part, part_at, parts_along, 
 
 use nd_array_core::laws::nothing_outside;
 use nd_array_core::{ArrayBase, ArrayView2, Data};
-use nd_shape_and_slice::{Ix2, s};
+use nd_shape_and_slice::{Axis, Ix2, Slice};
 use std::iter::FusedIterator;
 use std::marker::{Model, PhantomData};
 
@@ -63,7 +63,8 @@ fn cut_at<A, S: Data<Elem = A>>(
     ensures elements { (row column : ℕ) → row < height → column < width → element_of_2 result row column ≡ element_of_2 table.now (top + row) (left + column) }
     ensures outside { NothingOutside (meaning_of result) }
 {
-    let part = table.slice(s![top..top + height, left..left + width]);
+    let mut part = table.slice_axis(Axis(0), Slice::between(top, top + height));
+    part.slice_axis_inplace(Axis(1), Slice::between(left, left + width));
     nothing_outside(&part);
     part
 }

@@ -2,7 +2,9 @@
 
 use crate::callers::{agree, count_above, greatest, listed, listed_back};
 use crate::tables::{nothing, table};
-use std::alloc::AllocError;
+use nd_array_core::{ArrayBase, Data};
+use nd_shape_and_slice::Dimension;
+use std::alloc::{AllocError, Global};
 
 /// Whether a list was made, of these numbers.
 fn lists(items: Result<Vec<u64>, AllocError>, wanted: &[u64]) -> bool {
@@ -12,35 +14,34 @@ fn lists(items: Result<Vec<u64>, AllocError>, wanted: &[u64]) -> bool {
     }
 }
 
-#[test]
-fn of_one_table(rt: HostRuntime) {
-    let table = table(&rt, rt.alloc());
-    assert!(rt; count_above(&table, 4) == 3);
-    assert!(rt; greatest(&table) == Some(8));
-    assert!(rt; agree(&table, &table));
+fn has_answers<S: Data<Elem = u64>, D: Dimension>(array: &ArrayBase<S, D>) -> bool {
+    count_above(array, 4) == 3
+        && greatest(array) == Some(8)
+        && agree(array, array)
+        && !agree(array, &array.t())
 }
 
 #[test]
 fn of_a_table_and_its_transpose(rt: HostRuntime) {
-    let table = table(&rt, rt.alloc());
-    assert!(rt; !agree(&table, &table.t()));
+    assert!(rt; has_answers(&table(&rt, rt.alloc())));
+}
+
+fn is_listed<S: Data<Elem = u64>, D: Dimension>(alloc: Global, array: &ArrayBase<S, D>) -> bool {
+    let turned = array.t();
+    lists(listed(alloc, &turned), &[3, 5, 7, 2, 8, 4])
+        && lists(listed_back(alloc, &turned), &[4, 8, 2, 7, 5, 3])
 }
 
 #[test]
-fn of_the_transpose(rt: HostRuntime) {
-    let table = table(&rt, rt.alloc());
-    assert!(rt; lists(listed(rt.alloc(), &table.t()), &[3, 5, 7, 2, 8, 4]));
+fn of_the_transpose_from_both_ends(rt: HostRuntime) {
+    assert!(rt; is_listed(rt.alloc(), &table(&rt, rt.alloc())));
 }
 
-#[test]
-fn of_the_transpose_backwards(rt: HostRuntime) {
-    let table = table(&rt, rt.alloc());
-    assert!(rt; lists(listed_back(rt.alloc(), &table.t()), &[4, 8, 2, 7, 5, 3]));
+fn has_no_answers<S: Data<Elem = u64>, D: Dimension>(array: &ArrayBase<S, D>) -> bool {
+    greatest(array) == None && count_above(array, 0) == 0
 }
 
 #[test]
 fn of_nothing(rt: HostRuntime) {
-    let table = nothing(&rt, rt.alloc());
-    assert!(rt; greatest(&table) == None);
-    assert!(rt; count_above(&table, 0) == 0);
+    assert!(rt; has_no_answers(&nothing(&rt, rt.alloc())));
 }

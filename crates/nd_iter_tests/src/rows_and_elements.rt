@@ -16,11 +16,6 @@ fn high_table(rt: &impl Abort, alloc: Global) -> Array2<u64> {
     table_of(rt, alloc, (3, 2), &[3, 7, 8, 5, 2, 4])
 }
 
-/// The elements of the transpose as digits.
-fn turned_digits<S: Data<Elem = u64>, D: Dimension>(array: &ArrayBase<S, D>) -> u64 {
-    digits(&array.t())
-}
-
 /// Whether these are the first element and the last, and so many are left between them.
 fn has_ends<S: Data<Elem = u64>, D: Dimension>(
     array: &ArrayBase<S, D>,
@@ -49,19 +44,13 @@ fn joined_columns<S: Data<Elem = u64>, D: RemoveAxis>(array: &ArrayBase<S, D>) -
     joined(axis_iter(array, Axis(1)), 1_000)
 }
 
-#[test]
-fn elements(rt: HostRuntime) {
-    assert!(rt; digits(&table(&rt, rt.alloc())) == 378524);
+fn has_elements<S: Data<Elem = u64>, D: Dimension>(array: &ArrayBase<S, D>) -> bool {
+    digits(array) == 378524 && digits(&array.t()) == 357284 && has_ends(array, 3, 4, 4)
 }
 
 #[test]
-fn elements_of_the_transpose(rt: HostRuntime) {
-    assert!(rt; turned_digits(&table(&rt, rt.alloc())) == 357284);
-}
-
-#[test]
-fn elements_from_both_ends(rt: HostRuntime) {
-    assert!(rt; has_ends(&table(&rt, rt.alloc()), 3, 4, 4));
+fn elements_of_a_table_and_its_transpose(rt: HostRuntime) {
+    assert!(rt; has_elements(&table(&rt, rt.alloc())));
 }
 
 #[test]
