@@ -24,8 +24,8 @@ import subprocess
 import sys
 
 PAGES = ["README.md", "docs/*.md", "crates/*.md", "crates/*/*.md"]
-LONGEST = [("README.md", 80), ("crates/README.md", 10), ("crates/*/README.md", 60), ("docs/PROVING.md", 250)]
-WORDS = 20000
+LONGEST = [("README.md", 80), ("crates/README.md", 60), ("crates/*/README.md", 60), ("docs/PROVING.md", 250)]
+WORDS = 40000
 CALLED = ["nd_array_core", "nd_stacking"]
 # What nd_array_core hands on from a library below.
 HANDED_ON = ["crates/nd_elements/src/along/lane_mut.rt"]
