@@ -1,18 +1,5 @@
 -- What the types say of the machine values passed, facts that are shown for several clauses, and truths of a pair's parts.
-use mathlib.Core.Bool.{Bool, true, false, ◌&&◌}
-use lib.Dec.{T}
-use seplogic.Ra.Ura.{Ura}
-use base.Logic.{SProp, ent, sep, emp, via, comm∗, mono_l, emp∗, fst∗, snd∗}
-use types.Logic.{Logic, sem}
-use types.Kit.{Item, Step, step, prop}
-use contract.Monad.{Fun, fact, fact_i, fact_use}
-use denote.RattleType.{RattleType, owns}
-use denote.Laws.{Are, Ises, owns_show, showss}
-use denote.Signature.{types_at}
-use denote.Triple.Clauses.{Clauses, Ended}
-use denote.Triple.Entry.{on_entry, alive}
-use denote.Triple.Walked.{Stays, walk_of}
-use mathlib.Core.List.{List}
+use Rattle.nd_region.proofs.Walking.{Bool, true, false, ◌&&◌, T, Ura, SProp, ent, sep, emp, via, comm∗, mono_l, emp∗, fst∗, snd∗, Logic, sem, Item, Step, step, prop, Fun, fact, fact_i, fact_use, RattleType, owns, Are, Ises, owns_show, showss, types_at, Clauses, Ended, on_entry, alive, Stays, walk_of, List}
 
 module _ {M : Type 1} {𝓤 : Ura M} (𝓛 : Logic 𝓤) (T : Ended) (hs : Stays T.signature.params T.kept) (c : Clauses 𝓤 T) (run : Fun 𝓤) (y : (walk_of 𝓛 T hs c).Ghost) where
   abbrev Rs : List RattleType

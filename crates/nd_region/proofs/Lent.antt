@@ -1,29 +1,8 @@
 -- What a `&` to a region shows: its pointer, and a `&` to each element that it holds. Assumes `Logic`.
-use mathlib.Core.Path.{◌≡◌, refl, sym, ap, subst, ◌∙◌}
-use mathlib.Core.Bool.{Bool, true, false}
-use Prim.Native.Nat.{ℕ, zero, suc, ◌+◌, ◌*◌, ◌≤◌, ◌^◌}
-use mathlib.Core.List.{List, [], ◌∷◌, ◌++◌}
-use lib.ListN.{length, take, drop as drop_l, replicate, length-drop}
+use Rattle.nd_region.proofs.Walking.{◌≡◌, refl, sym, ap, subst, ◌∙◌, Bool, true, false, ℕ, zero, suc, ◌+◌, ◌*◌, ◌≤◌, ◌^◌, List, [], ◌∷◌, ◌++◌, length, take, replicate, length-drop, Ura, ty_ptr, Val, vptr, ent, sep, id⊢, Lft, Share, Incl, ftrue, fat, feq, flt, flft, fhide, Logic, sem, Goal, Soaks, Step, step, Seq, Item, ‵, ◌⊛◌, ◌$◌, ◌∵◌, !, qed, by, move, keep, drop, use1, split, rewrite, fsplit, fjoin, feq_l, feq_i, done, plain_Copied, place, place_is, cell_at, part_at, hidden_shr, shared_of, Shut, hide, unhide, Ptr, RawPtr, block_ptr, in_block, coded_ptr, ptr_own, rawptr_pure, ptr_val, NamedLft, MutRef, shortens, elements_shared, elements_shr_laws, looks, shuts, RawPtr-laws, lent_out}
+use lib.ListN.{drop as drop_l}
 use native.Mathlib.Omega.{arith}
 use native.Mathlib.Nat.{zero-mul, suc-mul, not-suc-le-zero}
-use seplogic.Ra.Ura.{Ura}
-use mir.Syntax.{ty_ptr}
-use mir.Val.{Val, vptr}
-use base.Logic.{ent, sep, id⊢}
-use base.Fml.{Lft, Share, Incl, ftrue, fat, feq, flt, flft, fhide}
-use types.Logic.{Logic, sem}
-use types.Kit.{Goal, Soaks, Step, step, Seq, Item, ‵, ◌⊛◌, ◌$◌, ◌∵◌, !, qed, by, move, keep, drop, use1, split, rewrite, fsplit, fjoin, feq_l, feq_i, done}
-use denote.Copied.{plain_Copied}
-use denote.Index.{place, place_is}
-use denote.Memory.{cell_at, part_at, hidden_shr, shared_of}
-use denote.Opens.{Shut, hide, unhide}
-use denote.RawPtr.{Ptr, RawPtr, block_ptr, in_block, coded_ptr, ptr_own, rawptr_pure, ptr_val}
-use denote.Ref.{NamedLft, MutRef}
-use denote.SharingLaws.{shortens}
-use denote.Slice.{elements_shared, elements_shr_laws}
-use denote.Steps.{looks, shuts}
-use denote.Struct.Laws.{RawPtr-laws}
-use denote.Struct.Lending.{lent_out}
 use Rattle.std.specs.Prelude.{Some}
 use Rattle.std.specs.contracts.marker.PhantomData as marker
 use Rattle.std.proofs.mem.Param.{El, R, el_x}

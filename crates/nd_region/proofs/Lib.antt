@@ -15,3 +15,4 @@ pub mod Splits
 pub mod Stored
 pub mod Swaps
 pub mod Written
+pub mod Walking

@@ -3,33 +3,9 @@
 --     lends_spot     one place leaves as a `&mut`
 --     cuts           the places are cut in two by a test
 --     lends_local, takes_back, rejoins      places are lent for a lifetime, come back at the last value under their name, and two parts are one again
-use mathlib.Core.Path.{◌≡◌, refl, sym, ap, ◌∙◌}
-use mathlib.Core.Bool.{Bool, true, false, not, ◌&&◌}
-use Prim.Native.Nat.{ℕ, suc, ◌+◌, ◌*◌, ◌<◌, ◌^◌}
+use Rattle.nd_region.proofs.Walking.{◌≡◌, refl, sym, ap, ◌∙◌, Bool, true, false, not, ◌&&◌, ℕ, suc, ◌+◌, ◌*◌, ◌<◌, ◌^◌, List, [], ◌∷◌, length, set, length-set, Ura, full_share, Gv, coded_list, Lifetime, Val, vptr, ent, sep, emp, id⊢, guard_i, Lft, GName, Share, Fml, Incl, ftrue, fsep, flft, fdead, fobs, fauth, fres, fbor, flent, Logic, sem, nothing, Item, ‵, raw, some, later, ◌⊛◌, ◌$◌, ◌∵◌, !, qed, by, move, drop, keep, use0, use1, use2, split, split3, rewrite, group, await, updating, show, mean, pick, fsplit, fjoin, fjoin3, fpick, fpack, feq_l, feq_i, now, done, SemTy, Body, open_ref, name_new, bor_new, lent_back, res_agree, after₂, takes_part, takes_two, hands_through, Array, follows, part_at, part_of, mem, cell_at, Ptr, block_ptr, MutRef, NamedLft}
 use native.Mathlib.Omega.{arith}
 use native.Mathlib.Nat.{not-suc-le-zero}
-use mathlib.Core.List.{List, [], ◌∷◌}
-use lib.ListN.{length, set, length-set}
-use seplogic.Ra.Ura.{Ura}
-use base.Fraction.{full_share}
-use base.Stored.{Gv, coded_list}
-use mir.Syntax.{Lifetime}
-use mir.Val.{Val, vptr}
-use base.Logic.{ent, sep, emp, id⊢, guard_i}
-use base.Fml.{Lft, GName, Share, Fml, Incl, ftrue, fsep, flft, fdead, fobs, fauth, fres, fbor, flent}
-use types.Logic.{Logic, sem}
-use denote.Steps.{nothing}
-use types.Kit.{Item, ‵, raw, some, later, ◌⊛◌, ◌$◌, ◌∵◌, !, qed, by, move, drop, keep, use0, use1, use2, split, split3, rewrite, group, await, updating, show, mean, pick, fsplit, fjoin, fjoin3, fpick, fpack, feq_l, feq_i, now, done}
-use types.SemTy.{SemTy, Body}
-use types.Mut.{open_ref}
-use types.Tokens.{name_new, bor_new, lent_back, res_agree}
-use types.Follow.{after₂, takes_part, takes_two}
-use types.Through.{hands_through}
-use denote.Array.{Array}
-use denote.Follow.{follows}
-use denote.Memory.{part_at, part_of, mem, cell_at}
-use denote.RawPtr.{Ptr, block_ptr}
-use denote.Ref.{MutRef, NamedLft}
 use Rattle.std.specs.Prelude.{Some, if◌then◌else◌}
 use Rattle.std.proofs.mem.Param.{El, R, el_x}
 use Rattle.nd_region.specs.Memory.{spot, Spots, loan}

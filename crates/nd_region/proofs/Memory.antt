@@ -2,36 +2,10 @@
 --     rg_had, rg_made      a region by value, to the borrow that it holds and back
 --     of_cells, to_cells   elements side by side are places all of which are in the mask
 --     spot_out, spot_in    one place that is in the mask is taken out of the row, and put back
-use mathlib.Core.Path.{◌≡◌, refl, sym, ap, subst, ◌∙◌}
-use mathlib.Core.Bool.{Bool, true, false, ◌&&◌}
-use Prim.Native.Nat.{ℕ, zero, suc, ◌+◌, ◌*◌, ◌<◌, ◌≤◌, ◌^◌}
+use Rattle.nd_region.proofs.Walking.{◌≡◌, refl, sym, ap, subst, ◌∙◌, Bool, true, false, ◌&&◌, ℕ, zero, suc, ◌+◌, ◌*◌, ◌<◌, ◌≤◌, ◌^◌, List, [], ◌∷◌, ◌++◌, length, set, replicate, length-replicate, Ura, full_share, coded_list, T, lit<, w64, ty_ptr, Val, vptr, vint, vstruct, vcons, vnil, of_list, has_ty, WT, ent, sep, emp, id⊢, never, mono_r, Lft, GName, Share, Fml, ftrue, fsep, flft, fobs, fbor, Logic, sem, Goal, Seq, Step, step, Item, ‵, raw, some, later, ◌⊛◌, ◌$◌, ◌∵◌, !, qed, move, drop, keep, use0, use1, use2, split, rewrite, group, await, updating, pick, split3, show, mean, fsplit, fjoin, fpick, feq_l, feq_i, flt_l, flt_i, now, done, SemTy, cells, Arr, Body, open_ref, after, takes_part, RattleType, part_at, mem, place, place_is, Is, Tells, shows, Ptr, block_ptr, null_ptr, ptr_val, in_block, in_a_block, NamedLft, makes_shadow, peeks, Struct, Owning}
 use native.Mathlib.Omega.{arith}
 use native.Mathlib.Nat.{not-suc-le-zero, mul-le-mul_right, one-mul}
-use mathlib.Core.List.{List, [], ◌∷◌, ◌++◌}
-use lib.ListN.{length, set, replicate, length-replicate}
-use seplogic.Ra.Ura.{Ura}
-use base.Fraction.{full_share}
-use base.Stored.{coded_list}
-use lib.Dec.{T, lit<}
-use mir.Syntax.{w64, ty_ptr}
-use mir.Val.{Val, vptr, vint, vstruct, vcons, vnil, of_list, has_ty, WT}
-use base.Logic.{ent, sep, emp, id⊢, never, mono_r}
-use base.Fml.{Lft, GName, Share, Fml, ftrue, fsep, flft, fobs, fbor}
-use types.Logic.{Logic, sem}
-use types.Kit.{Goal, Seq, Step, step, Item, ‵, raw, some, later, ◌⊛◌, ◌$◌, ◌∵◌, !, qed, move, drop, keep, use0, use1, use2, split, rewrite, group, await, updating, pick, split3, show, mean, fsplit, fjoin, fpick, feq_l, feq_i, flt_l, flt_i, now, done}
-use types.SemTy.{SemTy, cells, Arr, Body}
-use types.Mut.{open_ref}
-use types.Follow.{after, takes_part}
-use denote.RattleType.{RattleType}
-use denote.Memory.{part_at, mem}
-use denote.Index.{place, place_is}
-use denote.Laws.{Is, Tells, shows}
-use denote.RawPtr.{Ptr, block_ptr, null_ptr, ptr_val, in_block, in_a_block}
-use denote.Ref.{NamedLft}
-use denote.Shadow.{makes_shadow}
-use denote.Steps.{peeks}
-use denote.Struct.Struct.{Struct}
-use denote.Struct.Owning.{Owning, shape}
+use denote.Struct.Owning.{shape}
 use Rattle.std.specs.Prelude.{Option, Some, None, IsSome}
 use Rattle.std.proofs.mem.Param.{El, R, el_x, Good, lawful, one}
 use Rattle.nd_region.specs.declared.region.Region.{Region}

@@ -1,25 +1,7 @@
 -- Some of a region's places are lent on for its own borrow, which follows them and keeps the others. Assumes `Logic`.
-use mathlib.Core.Path.{◌≡◌, refl, sym, ap, ◌∙◌}
-use mathlib.Core.Bool.{Bool, true, false, not, ◌&&◌}
-use Prim.Native.Nat.{ℕ, suc, ◌+◌}
+use Rattle.nd_region.proofs.Walking.{◌≡◌, refl, sym, ap, ◌∙◌, Bool, true, false, not, ◌&&◌, ℕ, suc, ◌+◌, List, [], ◌∷◌, length, Ura, full_share, Gv, coded_list, ent, sep, Lft, GName, Share, Fml, ftrue, fsep, flft, fobs, fbor, Logic, sem, Item, ‵, some, later, ◌⊛◌, ◌$◌, ◌∵◌, !, qed, move, keep, use1, use2, split, split3, group, await, updating, show, mean, pick, fsplit, fjoin, feq_l, feq_i, now, done, SemTy, Body, open_ref, takes_part, Array, follows, part_at, block_ptr}
 use native.Mathlib.Omega.{arith}
 use native.Mathlib.Nat.{not-suc-le-zero}
-use mathlib.Core.List.{List, [], ◌∷◌}
-use lib.ListN.{length}
-use seplogic.Ra.Ura.{Ura}
-use base.Fraction.{full_share}
-use base.Stored.{Gv, coded_list}
-use base.Logic.{ent, sep}
-use base.Fml.{Lft, GName, Share, Fml, ftrue, fsep, flft, fobs, fbor}
-use types.Logic.{Logic, sem}
-use types.Kit.{Item, ‵, some, later, ◌⊛◌, ◌$◌, ◌∵◌, !, qed, move, keep, use1, use2, split, split3, group, await, updating, show, mean, pick, fsplit, fjoin, feq_l, feq_i, now, done}
-use types.SemTy.{SemTy, Body}
-use types.Mut.{open_ref}
-use types.Follow.{takes_part}
-use denote.Array.{Array}
-use denote.Follow.{follows}
-use denote.Memory.{part_at}
-use denote.RawPtr.{block_ptr}
 use Rattle.std.specs.Prelude.{if◌then◌else◌}
 use Rattle.std.proofs.mem.Param.{El, R, el_x}
 use Rattle.nd_region.specs.Memory.{spot, Spots, loan}

@@ -1,28 +1,8 @@
 -- A run of places leaves a region as a `&mut` slice, and what it comes from follows. Assumes `Logic`.
-use mathlib.Core.Path.{◌≡◌, refl, sym, ap, ◌∙◌}
-use mathlib.Core.Bool.{Bool, true}
-use Prim.Native.Nat.{ℕ, suc, ◌+◌, ◌*◌}
+use Rattle.nd_region.proofs.Walking.{◌≡◌, refl, sym, ap, ◌∙◌, Bool, true, ℕ, suc, ◌+◌, ◌*◌, List, [], ◌∷◌, ◌++◌, length, take, replicate, take-append-drop, length-drop, length-append, length-replicate, Ura, Gv, coded_list, Lifetime, ent, sep, Lft, GName, Share, Fml, ftrue, fsep, flft, fobs, fbor, Logic, sem, Item, ‵, some, later, ◌⊛◌, ◌$◌, ◌∵◌, !, qed, move, keep, drop, use1, use2, split, split3, rewrite, group, await, updating, show, mean, pick, fsplit, fjoin, feq_l, feq_i, now, done, SemTy, cells, Arr, Body, open_ref, takes_part, Array, follows, slice_of, mem, block_ptr, MutSlice, Room, slice_val, nothing}
 use native.Mathlib.Omega.{arith}
 use native.Mathlib.Nat.{zero-mul, suc-mul, not-suc-le-zero}
-use mathlib.Core.List.{List, [], ◌∷◌, ◌++◌}
-use lib.ListN.{length, take, drop as drop_l, replicate, take-append-drop, length-drop, length-append, length-replicate}
-use seplogic.Ra.Ura.{Ura}
-use base.Stored.{Gv, coded_list}
-use mir.Syntax.{Lifetime}
-use base.Logic.{ent, sep}
-use base.Fml.{Lft, GName, Share, Fml, ftrue, fsep, flft, fobs, fbor}
-use types.Logic.{Logic, sem}
-use types.Kit.{Item, ‵, some, later, ◌⊛◌, ◌$◌, ◌∵◌, !, qed, move, keep, drop, use1, use2, split, split3, rewrite, group, await, updating, show, mean, pick, fsplit, fjoin, feq_l, feq_i, now, done}
-use types.SemTy.{SemTy, cells, Arr, Body}
-use types.Mut.{open_ref}
-use types.Follow.{takes_part}
-use denote.Array.{Array}
-use denote.Follow.{follows}
-use denote.FollowSlice.{slice_of}
-use denote.Memory.{mem}
-use denote.RawPtr.{block_ptr}
-use denote.Slice.{MutSlice, Room, slice_val}
-use denote.Steps.{nothing}
+use lib.ListN.{drop as drop_l}
 use Rattle.std.proofs.lemmas.List.{length-take-le, drop-drop}
 use Rattle.std.proofs.mem.Param.{El, R, el_x}
 use Rattle.nd_region.specs.Memory.{spot, Spots, loan}

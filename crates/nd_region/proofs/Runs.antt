@@ -1,16 +1,9 @@
 -- A run of places: where it starts, and that the row is cut round it and glued again. Assumes `Logic`.
-use mathlib.Core.Path.{◌≡◌, refl, sym, ap, subst, ◌∙◌}
-use mathlib.Core.Bool.{Bool, true, false, not}
-use Prim.Native.Nat.{ℕ, zero, suc, ◌+◌, ◌-◌, ◌*◌, ◌<◌, ◌≤◌, ◌^◌}
+use Rattle.nd_region.proofs.Walking.{◌≡◌, refl, sym, ap, subst, ◌∙◌, Bool, true, false, not, ℕ, zero, suc, ◌+◌, ◌-◌, ◌*◌, ◌<◌, ◌≤◌, ◌^◌, T, eqb, capped, capped_is, Room, List, [], ◌∷◌, length, take, get_or, replicate, length-drop, length-replicate, get_or-replicate}
 use native.Mathlib.Omega.{arith}
 use native.Mathlib.Nat.{zero-mul, suc-mul, not-suc-le-zero, mul-le-mul_right}
-use lib.Dec.{T, eqb}
-use prog.Memory.{capped}
-use prog.Capped.{capped_is}
-use denote.Slice.{Room}
 use Rattle.std.proofs.mem.Param.{El, R}
-use mathlib.Core.List.{List, [], ◌∷◌}
-use lib.ListN.{length, take, drop as drop_l, get_or, replicate, length-drop, length-replicate, get_or-replicate}
+use lib.ListN.{drop as drop_l}
 use Rattle.std.proofs.lemmas.List.{length-take-le, get_or-take, get_or-drop, ext_get_or}
 use Rattle.std.specs.Prelude.{Some}
 use Rattle.std.specs.Option.{is_some}

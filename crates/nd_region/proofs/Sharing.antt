@@ -1,22 +1,7 @@
 -- A `&` to a region is made where one to an element is. Assumes `Logic`.
-use mathlib.Core.List.{List, [], ◌∷◌, ◌++◌}
-use mathlib.Core.Bool.{Bool, true, false}
-use lib.ListN.{length}
-use Prim.Native.Nat.{ℕ, ◌*◌, ◌^◌}
-use seplogic.Ra.Ura.{Ura}
-use base.Logic.{sep, emp, id⊢}
-use base.Fml.{Lft, GName, Fml, Incl, Incl-trans, ftrue, fsep, feq, flt, fbor}
-use contract.BorrowLft.{meet_⊑_left, meet_⊑_right, ⊑_meet}
+use Rattle.nd_region.proofs.Walking.{List, [], ◌∷◌, ◌++◌, Bool, true, false, length, ℕ, ◌*◌, ◌^◌, Ura, sep, emp, id⊢, Lft, GName, Fml, Incl, Incl-trans, ftrue, fsep, feq, flt, fbor, meet_⊑_left, meet_⊑_right, ⊑_meet, Logic, sem, lfts, ‵, ◌⊛◌, raw, later, await, ◌$◌, !, qed, drop, use0, use1, use2, split, fsplit, fjoin, updating, now, done, RattleType, RowLaws, Laws, Ptr, block_ptr, null_ptr, in_block, ◌+ₚ◌, ShrLaws, said, beside, within, beside_shr_laws, nothing_shr_laws, said_shr_laws, within_shr_laws, Shares-less, peels, Lends, Lends-both, Lends-nothing, Lends-said, Lends-false, Lends-lies, lent_at_shr_laws, in_block_pure}
 use ghost.Rules.{span}
-use types.Logic.{Logic, sem, lfts}
-use types.Kit.{‵, ◌⊛◌, raw, later, await, ◌$◌, !, qed, drop, use0, use1, use2, split, fsplit, fjoin, updating, now, done}
-use denote.RattleType.{RattleType, RowLaws}
-use denote.Param.Laws.{Laws}
-use denote.RawPtr.{Ptr, block_ptr, null_ptr, in_block, ◌+ₚ◌}
-use denote.Sharing.{ShrLaws, nothing, said, beside, within}
-use denote.SharingLaws.{beside_shr_laws, nothing_shr_laws, said_shr_laws, within_shr_laws}
-use denote.Shares.{Shares-less, peels}
-use denote.Struct.Lending.{Lends, Lends-both, Lends-nothing, Lends-said, Lends-false, Lends-lies, lent_at_shr_laws, in_block_pure}
+use denote.Sharing.{nothing}
 use Rattle.nd_region.specs.Memory.{bytes_of, spot, spots, Spots, loan, region, spot_lent, spots_lent, region_lent}
 
 module _ (R : RattleType) (L : RowLaws R) where

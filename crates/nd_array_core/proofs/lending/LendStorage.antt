@@ -1,20 +1,5 @@
 -- The storage of an array in memory, apart from its layout: taken out, and put back with other elements. Assumes `Logic`.
-use Prim.Native.Nat.{ℕ, ◌+◌}
-use mathlib.Core.Bool.{Bool}
-use mathlib.Core.List.{List, [], ◌∷◌}
-use seplogic.Ra.Ura.{Ura}
-use base.Fraction.{full_share}
-use base.Logic.{SProp, ent, sep}
-use prog.Memory.{align, up}
-use types.Logic.{Logic, sem}
-use denote.Laws.{Lawfuls}
-use denote.Memory.{mem}
-use denote.Param.{layout, param, copied}
-use denote.RattleType.{RattleType}
-use denote.Struct.Declared.{Declared}
-use denote.Struct.Members.{Member, rows_of}
-use denote.Struct.Parts.{PartsBack}
-use denote.Struct.Pick.{rest_at, record_field_out, record_field_back}
+use Rattle.nd_region.proofs.Walking.{ℕ, ◌+◌, Bool, List, [], ◌∷◌, Ura, full_share, SProp, ent, sep, align, up, Logic, sem, Lawfuls, mem, layout, param, copied, RattleType, Declared, Member, rows_of, PartsBack, rest_at, record_field_out, record_field_back}
 use Rattle.nd_shape_and_slice.specs.declared.dimension.Dimension as dimension
 use Rattle.nd_shape_and_slice.specs.declared.dimension.AxisCount as axis_count
 use Rattle.nd_shape_and_slice.specs.declared.dimension.StrideList as stride_list

@@ -1,15 +1,5 @@
 -- References that live as long as what a mutable view borrows: what their walks read of the machine values, and of an answer that may be none.
-use mathlib.Core.Path.{◌≡◌, refl, sym, ap, ◌∙◌}
-use mathlib.Core.Bool.{Bool, true, false}
-use mathlib.Core.List.{List, [], ◌∷◌}
-use lib.Dec.{T}
-use base.Fml.{GName}
-use mir.Syntax.{Ty}
-use mir.Val.{Val, has_ty, WT}
-use denote.Follow.{follows, follows_if, follows_by}
-use denote.Laws.{Typed}
-use denote.RattleType.{RattleType}
-use denote.Ref.{MutBor}
+use Rattle.nd_region.proofs.Walking.{◌≡◌, refl, sym, ap, ◌∙◌, Bool, true, false, List, [], ◌∷◌, T, GName, Ty, Val, has_ty, WT, follows, follows_if, follows_by, Typed, RattleType, MutBor}
 use Rattle.std.specs.Prelude.{Option, Some, None, IsSome, MatchOption}
 use Rattle.std.specs.Option.{option_copied_mut, ghost_name_of}
 use Rattle.nd_region.specs.Region.{stored_if}

@@ -1,22 +1,5 @@
 -- A `Result` in a proof by hand: what it owns is what the value in its variant owns. Assumes `Logic`.
-use mathlib.Core.Path.{◌≡◌, refl, ap, ◌∙◌}
-use mathlib.Core.Bool.{Bool, true, false, ◌&&◌}
-use mathlib.Core.List.{List, [], ◌∷◌, ◌++◌}
-use lib.Dec.{T, lit<}
-use seplogic.Ra.Ura.{Ura}
-use mir.Syntax.{Ty}
-use mir.Val.{Val, vcons, vnil, of_list, has_ty, WT}
-use base.Logic.{ent}
-use types.Logic.{Logic, sem}
-use types.Kit.{Item, Goal, Seq, ‵, ◌$◌, ◌∵◌, !, qed, move, drop, fsplit, fpick, feq_l, fjoin, fpack, feq_i, done}
-use types.Match.{live}
-use denote.Enum.Declared.{shape}
-use denote.Enum.Enum.{form_of, in_a_row}
-use denote.Enum.Row.{tagged_with}
-use denote.Laws.{Is, Typed, shows}
-use denote.Param.Steps.{one_value}
-use denote.RattleType.{RattleType, Valss, owns}
-use denote.Steps.{nothing, only, peeks}
+use Rattle.nd_region.proofs.Walking.{◌≡◌, refl, ap, ◌∙◌, Bool, true, false, ◌&&◌, List, [], ◌∷◌, ◌++◌, T, lit<, Ura, Ty, Val, vcons, vnil, of_list, has_ty, WT, ent, Logic, sem, Item, Goal, Seq, ‵, ◌$◌, ◌∵◌, !, qed, move, drop, fsplit, fpick, feq_l, fjoin, fpack, feq_i, done, live, shape, form_of, in_a_row, tagged_with, Is, Typed, shows, one_value, RattleType, Valss, owns, nothing, only, peeks}
 use Rattle.std.specs.Prelude.{Result, Ok, Err}
 use Rattle.std.specs.contracts.result.Result as R
 

@@ -1,35 +1,7 @@
 -- A region's places are lent on, so that as many elements come back. Assumes `Logic`.
 --     keeps          a loan of places becomes one under another name, of whose last elements the row takes as many as it has
 --     region_out     a storage's region in memory, apart from its tie;  region_back     another in its place
-use mathlib.Core.Path.{◌≡◌, refl, sym, ◌∙◌}
-use Prim.Native.Nat.{ℕ, ◌+◌}
-use mathlib.Core.Bool.{Bool}
-use mathlib.Core.List.{List, [], ◌∷◌}
-use lib.ListN.{length}
-use seplogic.Ra.Ura.{Ura}
-use base.Fraction.{full_share}
-use base.Stored.{Gv, coded_list}
-use base.Logic.{SProp, ent, sep, emp, id⊢}
-use base.Fml.{Lft, GName, Share, flft, fobs, fbor}
-use prog.Memory.{align, up}
-use types.Logic.{Logic, sem}
-use types.Kit.{Item, ‵, raw, some, later, ◌⊛◌, ◌$◌, ◌∵◌, !, qed, move, keep, use0, use1, split, split3, rewrite, group, await, updating, show, mean, pick, fsplit, fjoin, feq_l, feq_i, now, done}
-use types.SemTy.{SemTy, Body}
-use types.Mut.{open_ref}
-use types.Follow.{after, takes_part}
-use denote.Array.{Array}
-use denote.Follow.{follows}
-use denote.Laws.{Lawfuls}
-use denote.Memory.{mem}
-use denote.Param.{layout}
-use denote.RattleType.{RattleType}
-use denote.RawPtr.{block_ptr}
-use denote.Ref.{NamedLft}
-use denote.Struct.Declared.{Declared}
-use denote.Struct.Members.{Member, rows_of}
-use denote.Struct.Parts.{PartsBack}
-use denote.Struct.Pick.{rest_at, record_field_out, record_field_back}
-use denote.Builtin.{usize}
+use Rattle.nd_region.proofs.Walking.{◌≡◌, refl, sym, ◌∙◌, ℕ, ◌+◌, Bool, List, [], ◌∷◌, length, Ura, full_share, Gv, coded_list, SProp, ent, sep, emp, id⊢, Lft, GName, Share, flft, fobs, fbor, align, up, Logic, sem, Item, ‵, raw, some, later, ◌⊛◌, ◌$◌, ◌∵◌, !, qed, move, keep, use0, use1, split, split3, rewrite, group, await, updating, show, mean, pick, fsplit, fjoin, feq_l, feq_i, now, done, SemTy, Body, open_ref, after, takes_part, Array, follows, Lawfuls, mem, layout, RattleType, block_ptr, NamedLft, Declared, Member, rows_of, PartsBack, rest_at, record_field_out, record_field_back, usize}
 use Rattle.std.proofs.mem.Param.{El, R, el_x}
 use Rattle.std.specs.contracts.snapshot.Snapshot as Snapshot
 use Rattle.nd_region.specs.Memory.{Spots, loan}

@@ -1,56 +1,8 @@
 -- `with_region` lends the elements for a lifetime of its own, calls f, and takes them back as the region that f gave back holds them. Assumes `Logic`.
-use mathlib.Core.Path.{◌≡◌, refl, sym, ap, subst, ◌∙◌}
-use mathlib.Core.Bool.{true, ◌&&◌}
-use Prim.Native.Nat.{ℕ}
-use mathlib.Core.List.{List, [], ◌∷◌, ◌++◌}
-use lib.ListN.{length, replicate, length-replicate}
-use seplogic.Ra.Ura.{Ura}
-use base.Fraction.{full_share}
+use Rattle.nd_region.proofs.Walking.{◌≡◌, refl, sym, ap, subst, ◌∙◌, true, ◌&&◌, ℕ, List, [], ◌∷◌, ◌++◌, length, replicate, length-replicate, Ura, full_share, coded_list, Args, Fn, Dict, a_type, dnil, dcons, method, no_args, ty_ptr, inst_fn, Val, vstruct, of_list, has_ty, SProp, ent, emp, wand, id⊢, apply∗, Lft, GName, Share, ftrue, fsep, flft, fdead, fauth, fres, ◌⊑◌, meet_⊑_left, meet_⊑_right, Lfts, Fun, fact, fact_i, tables, tables_of, Memory, Routine, Tables, WpFn, fm_of, WpFn-mono, Logic, lft_new, lft_end, name_new, bor_new, lent_back, res_agree, ‵, raw, ◌⊛◌, some, later, ◌$◌, ◌∵◌, !, qed, move, keep, drop, use0, use1, use2, split, split3, join, pick, rewrite, fsplit, fsplit3, fjoin, fpick, fpack, feq_i, feq_l, await, suffices, done, whole, sub, agg, stop, fld, hop, from, addr, no_more, and_then, of_opd, returns, enter, alloc_all, pass_all, free_all, look_at, look_in_at, get, get_in, sets, lands_as, SemTy, cells, no, row, opens_slice, closes_slice, whole_in, whole_out, Is, shows, mem, unit, bounded, layout, param, once_call, RattleType, owns, block_ptr, ptr_val, NamedLft, pure_i, plain, named_lft, types_at, Room, slice_val, mut_slice_vals, mut_slice_at, nothing, heard, only, peeks, Tuple, calls_at, Clauses, Ended, Lasts, lasts, closing, Vals, Meets, triple_of, Triple, Contract, entered, says, Stays, stay_slice, stay_dropped, walk_of, ends_at, Goes-slice, Goes-dropped, walk_Meets}
 use base.Share
-use base.Stored.{coded_list}
-use mir.Syntax.{Args, Fn, Dict, a_type, dnil, dcons, method, no_args, ty_ptr}
-use mir.MapTy.{inst_fn}
-use mir.Val.{Val, vstruct, of_list, has_ty}
-use base.Logic.{SProp, ent, emp, wand, id⊢, apply∗}
-use base.Fml.{Lft, GName, Share, ftrue, fsep, flft, fdead, fauth, fres}
-use contract.BorrowLft.{◌⊑◌, meet_⊑_left, meet_⊑_right}
-use contract.Lifetimes.{Lfts}
-use contract.Monad.{Fun, fact, fact_i}
-use contract.Running.{tables, tables_of}
-use prog.Memory.{Memory}
-use prog.Routine.{Routine}
-use prog.Wp.{Tables, WpFn}
-use sound.WpLaws.{fm_of, WpFn-mono}
-use types.Logic.{Logic}
-use types.Tokens.{lft_new, lft_end, name_new, bor_new, lent_back, res_agree}
-use types.Kit.{‵, raw, ◌⊛◌, some, later, ◌$◌, ◌∵◌, !, qed, move, keep, drop, use0, use1, use2, split, split3, join, pick, rewrite, fsplit, fsplit3, fjoin, fpick, fpack, feq_i, feq_l, await, suffices, done}
-use types.Part.{whole, sub, agg}
-use types.Run.{stop, fld, hop, from, addr, no_more, and_then, of_opd, returns, enter}
-use types.ByLocal.{alloc_all, pass_all, free_all, look_at, look_in_at, get, get_in, sets, lands_as}
-use types.SemTy.{SemTy, cells}
-use denote.Exit.{no}
-use denote.Index.{row, opens_slice, closes_slice, whole_in, whole_out}
-use denote.Laws.{Is, shows}
-use denote.Memory.{mem}
-use denote.Builtin.{unit}
-use denote.Param.{bounded, layout, param}
-use denote.Param.Members.{once_call}
 use denote.Param.Call as called
-use denote.RattleType.{RattleType, owns}
-use denote.RawPtr.{block_ptr, ptr_val}
-use denote.Ref.{NamedLft}
-use denote.Shadow.{pure_i}
-use denote.Signature.{plain, named_lft, types_at}
-use denote.Slice.{Room, slice_val, mut_slice_vals, mut_slice_at}
-use denote.Steps.{nothing, heard, only, peeks}
-use denote.Struct.Tuple.{Tuple}
-use denote.Triple.Call.{calls_at}
-use denote.Triple.Clauses.{Clauses, Ended, Lasts, lasts, closing}
-use denote.Triple.Entry.{Vals, Args as Args'}
-use denote.Triple.Spec.{Meets, triple_of}
-use denote.Triple.Statement.{Triple, Contract}
-use denote.Triple.Table.{entered}
-use denote.Triple.Walked.{says, Stays, stay_slice, stay_dropped, walk_of, ends_at, Goes-slice, Goes-dropped, walk_Meets}
+use denote.Triple.Entry.{Args as Args'}
 use Rattle.std.proofs.mem.Param.{El, R, el_x, Good, lawful, one, args as end_args}
 use Rattle.nd_region.proofs.Bodies.{knowing, both}
 use Rattle.nd_region.specs.Memory.{Spots}

@@ -1,40 +1,5 @@
 -- `run_if` hands out a run of the region, or ends its borrow as it is. Assumes `Logic`.
-use mathlib.Core.Path.{refl, ap}
-use mathlib.Core.Bool.{Bool, true}
-use Prim.Native.Nat.{ℕ}
-use mathlib.Core.List.{List, [], ◌∷◌}
-use lib.Dec.{lit<}
-use base.Logic.{emp, id⊢}
-use base.Fml.{Lft, Share, ftrue, flft}
-use mir.Syntax.{Args, Fn, a_type, dnil, named, w64}
-use mir.MapTy.{inst_fn}
-use mir.Val.{of_list}
-use prog.Wp.{Env}
-use contract.BorrowLft.{◌⊑◌}
-use contract.Monad.{fact, fact_i}
-use contract.Running.{tables}
-use types.Match.{live}
-use types.Kit.{‵, raw, ◌⊛◌, some, later, at_ret, ◌$◌, ◌∵◌, !, qed, done, move, keep, drop, use0, use1, split, split3, join, fsplit, fsplit3, fjoin, feq_l, pick, await, suffices, frame}
-use types.Part.{agg}
-use types.Run.{enter, lit, no_more, and_then, of_opd, first, branches, exec, returns}
-use types.ByLocal.{alloc_all, pass_all, free_all, look_at, get, sets, sets_last, lands_as, env}
-use denote.Array.{Array}
-use denote.Builtin.{usize, bool, unit}
-use denote.Exit.{yes, no}
-use denote.Follow.{follows, follows_by}
-use denote.Laws.{Is, shows}
-use denote.Param.{param, bounded}
-use denote.Plain.{uint_vals, uint_Tells, bool_vals, bool_Tells}
-use denote.RattleType.{RattleType, owns}
-use denote.Slice.{MutSlice, mut_slice_Lawful}
-use denote.Signature.{Slot, plain, named_lft, types_at}
-use denote.Steps.{nothing, heard, only, peeks}
-use denote.Triple.Call.{calls_at}
-use denote.Triple.Clauses.{Ended, Lasts, lasts}
-use denote.Triple.Entry.{Vals}
-use denote.Triple.Spec.{triple_of}
-use denote.Triple.Table.{framed}
-use denote.Triple.Walked.{Stays, stay_dropped, walk_of, ends_at, Goes-dropped}
+use Rattle.nd_region.proofs.Walking.{refl, ap, Bool, true, ℕ, List, [], ◌∷◌, lit<, emp, id⊢, Lft, Share, ftrue, flft, Args, Fn, a_type, dnil, named, w64, inst_fn, of_list, Env, ◌⊑◌, fact, fact_i, tables, live, ‵, raw, ◌⊛◌, some, later, at_ret, ◌$◌, ◌∵◌, !, qed, done, move, keep, drop, use0, use1, split, split3, join, fsplit, fsplit3, fjoin, feq_l, pick, await, suffices, frame, agg, enter, lit, no_more, and_then, of_opd, first, branches, exec, returns, alloc_all, pass_all, free_all, look_at, get, sets, sets_last, lands_as, env, Array, usize, bool, unit, yes, no, follows, follows_by, Is, shows, param, bounded, uint_vals, uint_Tells, bool_vals, bool_Tells, RattleType, owns, MutSlice, mut_slice_Lawful, Slot, plain, named_lft, types_at, nothing, heard, only, peeks, calls_at, Ended, Lasts, lasts, Vals, triple_of, framed, Stays, stay_dropped, walk_of, ends_at, Goes-dropped}
 use Rattle.std.specs.Prelude.{Some, None, IsTrue}
 use Rattle.std.specs.contracts.option.Option as OP
 use Rattle.std.proofs.VecSteps.Shapes.{after}

@@ -1,35 +1,5 @@
 -- `lend` borrows the elements, and makes a region of the borrow. Assumes `Logic`.
-use mathlib.Core.Path.{◌≡◌, refl, ap, ◌∙◌}
-use mathlib.Core.List.{List, [], ◌∷◌}
-use base.Logic.{emp, id⊢, via, fst∗, snd∗}
-use base.Fml.{Lft, Share, ftrue, flft}
-use mir.Syntax.{Args, Fn, a_type, dnil, named}
-use mir.MapTy.{inst_fn}
-use mir.Val.{Val}
-use contract.BorrowLft.{◌⊑◌}
-use contract.Monad.{fact, fact_i, fact_use}
-use contract.Running.{tables}
-use types.Kit.{‵, raw, ◌⊛◌, some, later, ◌$◌, ◌∵◌, !, qed, done, move, drop, use0, use1, use2, split, join, fjoin, pick, await, rewrite, suffices, frame}
-use types.Run.{enter, addr, stop, no_more, and_then, returns}
-use types.ByLocal.{alloc_all, pass_all, free_all, look_at, get, through, sets, lands_as}
-use denote.Array.{Array}
-use denote.Builtin.{RefMutOf}
-use denote.Exit.{no}
-use denote.Follow.{follows, follows_then}
-use denote.Laws.{Is, shows}
-use denote.Param.{param, bounded}
-use denote.Param.Laws.{param_laws}
-use denote.RattleType.{RattleType}
-use denote.Ref.{MutBor, mut_vals, mut_Tells}
-use denote.Signature.{plain, named_lft}
-use denote.Slice.{MutSlice, mut_slice_vals}
-use denote.Steps.{nothing, heard, only, peeks}
-use denote.Triple.Call.{calls_at}
-use denote.Triple.Clauses.{Ended, Lasts, lasts}
-use denote.Triple.Entry.{on_entry}
-use denote.Triple.Spec.{triple_of}
-use denote.Triple.Table.{framed}
-use denote.Triple.Walked.{Stays, stay_dropped, walk_of, ends_at, Goes-spent_ref}
+use Rattle.nd_region.proofs.Walking.{◌≡◌, refl, ap, ◌∙◌, List, [], ◌∷◌, emp, id⊢, via, fst∗, snd∗, Lft, Share, ftrue, flft, Args, Fn, a_type, dnil, named, inst_fn, Val, ◌⊑◌, fact, fact_i, fact_use, tables, ‵, raw, ◌⊛◌, some, later, ◌$◌, ◌∵◌, !, qed, done, move, drop, use0, use1, use2, split, join, fjoin, pick, await, rewrite, suffices, frame, enter, addr, stop, no_more, and_then, returns, alloc_all, pass_all, free_all, look_at, get, through, sets, lands_as, Array, RefMutOf, no, follows, follows_then, Is, shows, param, bounded, param_laws, RattleType, MutBor, mut_vals, mut_Tells, plain, named_lft, MutSlice, mut_slice_vals, nothing, heard, only, peeks, calls_at, Ended, Lasts, lasts, on_entry, triple_of, framed, Stays, stay_dropped, walk_of, ends_at, Goes-spent_ref}
 use Rattle.std.proofs.raw_atomic.Walks.{proved}
 use Rattle.std.specs.Prelude.{slice_get}
 use Rattle.nd_region.specs.Region.{IsWhole}

@@ -1,43 +1,5 @@
 -- `lend` reborrows the storage's region, so that it keeps its places. Assumes `Logic`.
-use mathlib.Core.Path.{refl, ap}
-use Prim.Native.Nat.{ℕ}
-use mathlib.Core.List.{List, [], ◌∷◌}
-use base.Stored.{Gv}
-use base.Logic.{SProp, emp, id⊢}
-use base.Fml.{Lft, GName, Share, ftrue, fobs, fbor, flft}
-use mir.Syntax.{Args, Fn, a_type, dnil, named}
-use mir.MapTy.{inst_fn}
-use mir.Val.{Val, vptr}
-use contract.BorrowLft.{◌⊑◌}
-use contract.Lifetimes.{Lfts}
-use contract.Monad.{fact, fact_i}
-use contract.Running.{tables}
-use types.Kit.{‵, raw, ◌⊛◌, some, later, ◌$◌, ◌∵◌, !, qed, done, move, drop, keep, use0, use1, use2, split, split3, join, fsplit, fsplit3, fjoin, feq_i, group, pick, await, rewrite, suffices, frame}
-use types.Mut.{open_ref}
-use types.Follow.{takes_part}
-use types.SemTy.{Body}
-use types.Run.{enter, addr, stop, fld, no_more, and_then, returns}
-use types.ByLocal.{alloc_all, pass_all, free_all, look_at, get, through, sets, lands_as}
-use denote.Array.{Array}
-use denote.Builtin.{RefMutOf}
-use denote.Exit.{no}
-use denote.Follow.{follows, follows_then}
-use denote.Laws.{Lawfuls}
-use denote.Memory.{mem}
-use denote.Param.{bounded}
-use denote.Param.Laws.{param_laws}
-use denote.RattleType.{RattleType, owns}
-use denote.RawPtr.{block_ptr}
-use denote.Ref.{MutBor, NamedLft, mut_vals, mut_Tells}
-use denote.Signature.{plain, named_lft, types_at}
-use denote.Steps.{nothing, heard, only}
-use denote.Struct.Loose.{lawfuls}
-use denote.Struct.Members.{rows_of}
-use denote.Triple.Call.{calls_at}
-use denote.Triple.Clauses.{Ended, Lasts, lasts}
-use denote.Triple.Spec.{triple_of}
-use denote.Triple.Table.{framed}
-use denote.Triple.Walked.{Stays, stay_dropped, walk_of, ends_at, Goes-spent_ref}
+use Rattle.nd_region.proofs.Walking.{refl, ap, ℕ, List, [], ◌∷◌, Gv, SProp, emp, id⊢, Lft, GName, Share, ftrue, fobs, fbor, flft, Args, Fn, a_type, dnil, named, inst_fn, Val, vptr, ◌⊑◌, Lfts, fact, fact_i, tables, ‵, raw, ◌⊛◌, some, later, ◌$◌, ◌∵◌, !, qed, done, move, drop, keep, use0, use1, use2, split, split3, join, fsplit, fsplit3, fjoin, feq_i, group, pick, await, rewrite, suffices, frame, open_ref, takes_part, Body, enter, addr, stop, fld, no_more, and_then, returns, alloc_all, pass_all, free_all, look_at, get, through, sets, lands_as, Array, RefMutOf, no, follows, follows_then, Lawfuls, mem, bounded, param_laws, RattleType, owns, block_ptr, MutBor, NamedLft, mut_vals, mut_Tells, plain, named_lft, types_at, nothing, heard, only, lawfuls, rows_of, calls_at, Ended, Lasts, lasts, triple_of, framed, Stays, stay_dropped, walk_of, ends_at, Goes-spent_ref}
 use Rattle.std.proofs.raw_atomic.Walks.{proved}
 use Rattle.std.proofs.mem.Param.{El, R, el_x}
 use Rattle.nd_region.specs.Places.{stored_in, overwritten_items}

@@ -1,14 +1,5 @@
 -- A `&` to a region reaches each element. Assumes `Logic`.
-use mathlib.Core.List.{[], ◌++◌}
-use base.Fml.{Incl-trans}
-use contract.BorrowLft.{meet_⊑_left, meet_⊑_right}
-use denote.RattleType.{RattleType}
-use denote.Ref.{NamedLft, MutRef}
-use denote.Param.Laws.{Laws}
-use denote.Param.Shared.{copy_shared}
-use denote.Struct.Field.{RawPtr-field, usize-field}
-use denote.Struct.Laws.{RawPtr-copy, usize-copy, field_copy}
-use denote.Struct.Lending.{of_Lends}
+use Rattle.nd_region.proofs.Walking.{[], ◌++◌, Incl-trans, meet_⊑_left, meet_⊑_right, RattleType, NamedLft, MutRef, Laws, copy_shared, RawPtr-field, usize-field, RawPtr-copy, usize-copy, field_copy, of_Lends}
 use Rattle.std.specs.contracts.marker.PhantomData as marker
 use Rattle.nd_region.specs.contracts.region.Region as C
 use Rattle.nd_region.proofs.region.Region.TheLaw.Statement.{statement}

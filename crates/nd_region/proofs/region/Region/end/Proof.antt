@@ -1,34 +1,5 @@
 -- `end` gives the borrow up at the elements that it holds. Assumes `Logic`.
-use mathlib.Core.Path.{refl}
-use mathlib.Core.List.{List, [], ◌∷◌}
-use seplogic.Ra.Ura.{Ura}
-use mir.Syntax.{Fn}
-use mir.MapTy.{inst_fn}
-use mir.Val.{Val, vunit}
-use base.Logic.{SProp, ent}
-use base.Fml.{Lft, Share, ftrue, flft}
-use contract.BorrowLft.{◌⊑◌}
-use contract.Lifetimes.{AllOutlive}
-use contract.Monad.{Fun, fact}
-use contract.Running.{tables, tables_of}
-use prog.Memory.{Memory}
-use prog.Routine.{Routine}
-use prog.Wp.{Tables, WpFn}
-use sound.WpLaws.{WpFn-mono}
-use types.Logic.{Logic}
-use types.Tokens.{name_done}
-use types.Kit.{feq_i, ‵, raw, ◌⊛◌, ◌$◌, ◌∵◌, !, qed, move, keep, split, split3, join, fsplit, fjoin, suffices, done}
-use types.Run.{of_opd, unit_lit, returns, enter}
-use types.ByLocal.{alloc_all, pass_all, free_all, look_at, sets}
-use denote.Exit.{no}
-use denote.RattleType.{owns}
-use denote.Ref.{NamedLft}
-use denote.Signature.{plain, named_lft, types_at}
-use denote.Steps.{nothing}
-use denote.Triple.Clauses.{Clauses, Ended, closing}
-use denote.Triple.Spec.{Meets, triple_of}
-use denote.Triple.Table.{entered}
-use denote.Triple.Walked.{Stays, stay_dropped, walk_of, ends_at, walked, Goes-dropped, walk_Meets}
+use Rattle.nd_region.proofs.Walking.{refl, List, [], ◌∷◌, Ura, Fn, inst_fn, Val, vunit, SProp, ent, Lft, Share, ftrue, flft, ◌⊑◌, AllOutlive, Fun, fact, tables, tables_of, Memory, Routine, Tables, WpFn, WpFn-mono, Logic, name_done, feq_i, ‵, raw, ◌⊛◌, ◌$◌, ◌∵◌, !, qed, move, keep, split, split3, join, fsplit, fjoin, suffices, done, of_opd, unit_lit, returns, enter, alloc_all, pass_all, free_all, look_at, sets, no, owns, NamedLft, plain, named_lft, types_at, nothing, Clauses, Ended, closing, Meets, triple_of, entered, Stays, stay_dropped, walk_of, ends_at, walked, Goes-dropped, walk_Meets}
 use Rattle.std.proofs.mem.Param.{El, args}
 use Rattle.nd_region.proofs.Memory.{Rg, rg_d, rg_vals, rg_Tells, rg_had, ptr_Good}
 use Rattle.nd_region.specs.contracts.region.Region.end as F

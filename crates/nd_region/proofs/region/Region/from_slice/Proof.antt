@@ -1,41 +1,5 @@
 -- `from_slice` takes a slice's elements as places, and the slice follows them. Assumes `Logic`.
-use mathlib.Core.Path.{refl}
-use mathlib.Core.Bool.{true}
-use Prim.Native.Nat.{ℕ}
-use mathlib.Core.List.{List, [], ◌∷◌}
-use lib.ListN.{length, replicate, length-replicate}
-use seplogic.Ra.Ura.{Ura}
-use mir.Syntax.{Fn, named}
-use mir.MapTy.{inst_fn}
-use mir.Val.{Val}
-use base.Logic.{SProp, ent}
-use base.Stored.{coded_list}
-use base.Fml.{Lft, GName, Share, ftrue, flft, fobs}
-use contract.BorrowLft.{◌⊑◌}
-use contract.Lifetimes.{AllOutlive}
-use contract.Monad.{Fun, fact}
-use contract.Running.{tables, tables_of}
-use prog.Memory.{Memory}
-use prog.Routine.{Routine}
-use prog.Wp.{Tables, WpFn}
-use sound.WpLaws.{WpFn-mono}
-use types.Logic.{Logic}
-use types.Kit.{‵, raw, ◌⊛◌, some, later, ◌$◌, ◌∵◌, !, qed, move, keep, use3, split, split3, join, pick, rewrite, fsplit, fsplit3, fjoin, frame, await, suffices, done}
-use types.Part.{whole, sub, agg}
-use types.Run.{stop, fld, hop, from, addr, no_more, and_then, of_opd, returns, enter}
-use types.ByLocal.{alloc_all, pass_all, free_all, look_at, look_in_at, get, get_in, sets}
-use denote.Exit.{no}
-use denote.FollowSlice.{heres_id}
-use denote.RattleType.{owns}
-use denote.RawPtr.{block_ptr}
-use denote.Ref.{MutBor, NamedLft}
-use denote.Signature.{plain, mut_slice_of, named_lft, types_at}
-use denote.Slice.{Room, slice_val, mut_slice_vals, mut_slice_Tells}
-use denote.Steps.{nothing}
-use denote.Triple.Clauses.{Clauses, Ended, closing}
-use denote.Triple.Spec.{Meets, triple_of}
-use denote.Triple.Table.{entered}
-use denote.Triple.Walked.{says, Stays, stay_dropped, walk_of, ends_at, walked, Goes-spent_slice, walk_Meets}
+use Rattle.nd_region.proofs.Walking.{refl, true, ℕ, List, [], ◌∷◌, length, replicate, length-replicate, Ura, Fn, named, inst_fn, Val, SProp, ent, coded_list, Lft, GName, Share, ftrue, flft, fobs, ◌⊑◌, AllOutlive, Fun, fact, tables, tables_of, Memory, Routine, Tables, WpFn, WpFn-mono, Logic, ‵, raw, ◌⊛◌, some, later, ◌$◌, ◌∵◌, !, qed, move, keep, use3, split, split3, join, pick, rewrite, fsplit, fsplit3, fjoin, frame, await, suffices, done, whole, sub, agg, stop, fld, hop, from, addr, no_more, and_then, of_opd, returns, enter, alloc_all, pass_all, free_all, look_at, look_in_at, get, get_in, sets, no, heres_id, owns, block_ptr, MutBor, NamedLft, plain, mut_slice_of, named_lft, types_at, Room, slice_val, mut_slice_vals, mut_slice_Tells, nothing, Clauses, Ended, closing, Meets, triple_of, entered, says, Stays, stay_dropped, walk_of, ends_at, walked, Goes-spent_slice, walk_Meets}
 use Rattle.std.proofs.mem.Param.{El, R, args, el_x}
 use Rattle.nd_region.specs.declared.region.Region.{Region}
 use Rattle.nd_region.proofs.Memory.{rg_val, rg_made, Began, begins}

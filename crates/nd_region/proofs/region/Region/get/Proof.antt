@@ -1,38 +1,5 @@
 -- `get` shows the element at one place. Assumes `Logic`.
-use mathlib.Core.Path.{refl}
-use Prim.Native.Nat.{ℕ, ◌+◌, ◌*◌, ◌<◌, ◌^◌}
-use mathlib.Core.List.{List, [], ◌∷◌, ◌++◌}
-use lib.ListN.{length}
-use seplogic.Ra.Ura.{Ura}
-use mir.Syntax.{Fn, w64, named}
-use mir.MapTy.{inst_fn}
-use mir.Val.{Val, vint, vptr}
-use base.Logic.{SProp, ent, id⊢, never}
-use base.Fml.{Incl-refl, ftrue, feq, flt, flft}
-use contract.BorrowLft.{◌⊑◌, ⊑_meet}
-use contract.Monad.{Fun, fact}
-use contract.Running.{tables, tables_of}
-use prog.Memory.{Memory}
-use prog.Routine.{Routine}
-use prog.Wp.{Env, Tables, WpFn}
-use sound.WpLaws.{WpFn-mono}
-use types.Logic.{Logic}
-use types.Kit.{‵, raw, ◌⊛◌, at_ret, ◌$◌, ◌∵◌, !, qed, move, keep, drop, use1, split, split3, join, rewrite, fsplit, fjoin, feq_i, feq_l, flt_l, suffices, done}
-use types.Run.{look, stop, fld, load, addr, size_lit, of_opd, bin, first, blocks, exec, returns, enter}
-use types.ByLocal.{alloc_all, pass_all, free_all, look_at, get, through, sets, sets_last, env}
-use denote.Builtin.{usize, RefOf}
-use denote.Exit.{yes}
-use denote.Memory.{hidden_shr}
-use denote.Plain.{uint_vals, uint_Tells}
-use denote.RattleType.{owns}
-use denote.RawPtr.{Ptr, RawPtr, in_block, in_a_block}
-use denote.Ref.{NamedLft, shr_vals, shr_Tells}
-use denote.Signature.{plain, named_lft, types_at}
-use denote.Steps.{nothing, heard}
-use denote.Triple.Clauses.{Clauses, Ended, closing}
-use denote.Triple.Spec.{Meets, triple_of}
-use denote.Triple.Table.{entered}
-use denote.Triple.Walked.{says, Stays, stay_dropped, walk_of, ends_at, walked, Goes-dropped, walk_Meets}
+use Rattle.nd_region.proofs.Walking.{refl, ℕ, ◌+◌, ◌*◌, ◌<◌, ◌^◌, List, [], ◌∷◌, ◌++◌, length, Ura, Fn, w64, named, inst_fn, Val, vint, vptr, SProp, ent, id⊢, never, Incl-refl, ftrue, feq, flt, flft, ◌⊑◌, ⊑_meet, Fun, fact, tables, tables_of, Memory, Routine, Env, Tables, WpFn, WpFn-mono, Logic, ‵, raw, ◌⊛◌, at_ret, ◌$◌, ◌∵◌, !, qed, move, keep, drop, use1, split, split3, join, rewrite, fsplit, fjoin, feq_i, feq_l, flt_l, suffices, done, look, stop, fld, load, addr, size_lit, of_opd, bin, first, blocks, exec, returns, enter, alloc_all, pass_all, free_all, look_at, get, through, sets, sets_last, env, usize, RefOf, yes, hidden_shr, uint_vals, uint_Tells, owns, Ptr, RawPtr, in_block, in_a_block, NamedLft, shr_vals, shr_Tells, plain, named_lft, types_at, nothing, heard, Clauses, Ended, closing, Meets, triple_of, entered, says, Stays, stay_dropped, walk_of, ends_at, walked, Goes-dropped, walk_Meets}
 use Rattle.std.specs.Prelude.{IsSome}
 use Rattle.std.proofs.VecSteps.Shapes.{after}
 use Rattle.std.proofs.mem.Param.{El, R, args, el_x}

@@ -1,37 +1,5 @@
 -- `into_mut` hands out the element at one place for the region's borrow, which follows it. Assumes `Logic`.
-use mathlib.Core.Path.{refl, ap}
-use Prim.Native.Nat.{ℕ, ◌+◌, ◌*◌, ◌<◌, ◌^◌}
-use mathlib.Core.List.{[], ◌∷◌}
-use seplogic.Ra.Ura.{Ura}
-use mir.Syntax.{Fn, w64, named}
-use mir.MapTy.{inst_fn}
-use mir.Val.{Val, vint, vptr}
-use base.Logic.{SProp, ent}
-use base.Fml.{ftrue, flft}
-use contract.BorrowLft.{◌⊑◌}
-use contract.Monad.{Fun, fact}
-use contract.Running.{tables, tables_of}
-use prog.Memory.{Memory}
-use prog.Routine.{Routine}
-use prog.Wp.{Env, Tables, WpFn}
-use sound.WpLaws.{WpFn-mono}
-use types.Logic.{Logic}
-use types.Kit.{‵, raw, ◌⊛◌, some, later, at_ret, ◌$◌, ◌∵◌, !, qed, move, keep, drop, use2, split, split3, join, pick, fsplit, fjoin, frame, await, suffices, done}
-use types.Part.{whole, sub}
-use types.Run.{stop, fld, addr, size_lit, of_opd, bin, first, blocks, exec, returns, enter}
-use types.ByLocal.{alloc_all, pass_all, free_all, look_at, get, get_in, through, sets, sets_last, is as is_value, env}
-use denote.Builtin.{usize}
-use denote.Exit.{yes, no}
-use denote.Plain.{uint_vals, uint_Tells}
-use denote.RattleType.{owns}
-use denote.RawPtr.{ptr_val}
-use denote.Ref.{NamedLft}
-use denote.Signature.{plain, named_lft, types_at}
-use denote.Steps.{nothing, heard}
-use denote.Triple.Clauses.{Clauses, Ended, closing}
-use denote.Triple.Spec.{Meets, triple_of}
-use denote.Triple.Table.{entered}
-use denote.Triple.Walked.{says, Stays, stay_dropped, walk_of, ends_at, walked, Goes-dropped, walk_Meets}
+use Rattle.nd_region.proofs.Walking.{refl, ap, ℕ, ◌+◌, ◌*◌, ◌<◌, ◌^◌, [], ◌∷◌, Ura, Fn, w64, named, inst_fn, Val, vint, vptr, SProp, ent, ftrue, flft, ◌⊑◌, Fun, fact, tables, tables_of, Memory, Routine, Env, Tables, WpFn, WpFn-mono, Logic, ‵, raw, ◌⊛◌, some, later, at_ret, ◌$◌, ◌∵◌, !, qed, move, keep, drop, use2, split, split3, join, pick, fsplit, fjoin, frame, await, suffices, done, whole, sub, stop, fld, addr, size_lit, of_opd, bin, first, blocks, exec, returns, enter, alloc_all, pass_all, free_all, look_at, get, get_in, through, sets, sets_last, is as is_value, env, usize, yes, no, uint_vals, uint_Tells, owns, ptr_val, NamedLft, plain, named_lft, types_at, nothing, heard, Clauses, Ended, closing, Meets, triple_of, entered, says, Stays, stay_dropped, walk_of, ends_at, walked, Goes-dropped, walk_Meets}
 use Rattle.std.specs.Prelude.{IsSome}
 use Rattle.std.proofs.VecSteps.Shapes.{after}
 use Rattle.std.proofs.mem.Param.{El, args, el_x}

@@ -1,42 +1,5 @@
 -- `into_mut_if` hands out the element at one place for the region's borrow, which follows it, or ends the borrow as it is. Assumes `Logic`.
-use mathlib.Core.Path.{◌≡◌, refl, ap}
-use mathlib.Core.Bool.{Bool, true, false, not}
-use Prim.Native.Nat.{ℕ, ◌+◌, ◌*◌, ◌<◌, ◌^◌}
-use mathlib.Core.List.{[], ◌∷◌}
-use seplogic.Ra.Ura.{Ura}
-use mir.Syntax.{Fn, w64, named}
-use mir.MapTy.{inst_fn}
-use mir.Val.{Val, vint, vbool, vptr, of_list}
-use base.Logic.{SProp, ent}
-use base.Fml.{GName, ftrue, flft}
-use lib.Dec.{T, lit<}
-use contract.BorrowLft.{◌⊑◌}
-use contract.Monad.{Fun, fact}
-use contract.Running.{tables, tables_of}
-use prog.Memory.{Memory}
-use prog.Routine.{Routine}
-use prog.Wp.{Env, Tables, WpFn}
-use sound.WpLaws.{WpFn-mono}
-use types.Logic.{Logic}
-use types.Match.{live}
-use types.Tokens.{name_done}
-use types.Kit.{‵, raw, ◌⊛◌, some, later, at_ret, ◌$◌, ◌∵◌, !, qed, move, keep, drop, use0, use1, use2, split, split3, join, pick, fsplit, fjoin, frame, await, suffices, done}
-use types.Part.{whole, sub, agg}
-use types.Run.{stop, fld, addr, lit, size_lit, of_opd, bin, un, first, blocks, branches, skips, exec, returns, returns_within, enter, and_then, no_more}
-use types.ByLocal.{alloc_all, pass_all, free_all, look_at, get, get_in, through, sets, sets_last, is as is_value, env}
-use denote.Builtin.{usize, bool}
-use denote.Exit.{yes, no}
-use denote.Plain.{uint_vals, uint_Tells, bool_vals, bool_Tells}
-use denote.Follow.{follows_by}
-use denote.RattleType.{RattleType, owns}
-use denote.RawPtr.{ptr_val}
-use denote.Ref.{MutBor, MutRef, NamedLft}
-use denote.Signature.{plain, named_lft, types_at}
-use denote.Steps.{nothing, heard}
-use denote.Triple.Clauses.{Clauses, Ended, closing}
-use denote.Triple.Spec.{Meets, triple_of}
-use denote.Triple.Table.{entered}
-use denote.Triple.Walked.{says, Stays, stay_dropped, walk_of, ends_at, walked, Goes-dropped, walk_Meets}
+use Rattle.nd_region.proofs.Walking.{◌≡◌, refl, ap, Bool, true, false, not, ℕ, ◌+◌, ◌*◌, ◌<◌, ◌^◌, [], ◌∷◌, Ura, Fn, w64, named, inst_fn, Val, vint, vbool, vptr, of_list, SProp, ent, GName, ftrue, flft, T, lit<, ◌⊑◌, Fun, fact, tables, tables_of, Memory, Routine, Env, Tables, WpFn, WpFn-mono, Logic, live, name_done, ‵, raw, ◌⊛◌, some, later, at_ret, ◌$◌, ◌∵◌, !, qed, move, keep, drop, use0, use1, use2, split, split3, join, pick, fsplit, fjoin, frame, await, suffices, done, whole, sub, agg, stop, fld, addr, lit, size_lit, of_opd, bin, un, first, blocks, branches, skips, exec, returns, returns_within, enter, and_then, no_more, alloc_all, pass_all, free_all, look_at, get, get_in, through, sets, sets_last, is as is_value, env, usize, bool, yes, no, uint_vals, uint_Tells, bool_vals, bool_Tells, follows_by, RattleType, owns, ptr_val, MutBor, MutRef, NamedLft, plain, named_lft, types_at, nothing, heard, Clauses, Ended, closing, Meets, triple_of, entered, says, Stays, stay_dropped, walk_of, ends_at, walked, Goes-dropped, walk_Meets}
 use Rattle.std.specs.Prelude.{Option, Some, None, IsSome}
 use Rattle.std.specs.contracts.option.Option as OP
 use Rattle.std.proofs.VecSteps.Shapes.{after}

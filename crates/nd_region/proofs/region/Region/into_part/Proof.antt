@@ -1,39 +1,5 @@
 -- `into_part` keeps of the region's places those that the layout names, and its borrow keeps the others. Assumes `Logic`.
-use mathlib.Core.Path.{◌≡◌, refl, sym, ◌∙◌}
-use mathlib.Core.Bool.{Bool}
-use Prim.Native.Nat.{ℕ, ◌<◌, ◌^◌}
-use mathlib.Core.List.{[], ◌∷◌}
-use lib.ListN.{length}
-use seplogic.Ra.Ura.{Ura}
-use mir.Syntax.{Fn, w64, named}
-use mir.MapTy.{inst_fn}
-use mir.Val.{vint}
-use base.Logic.{SProp, ent}
-use base.Fml.{ftrue, flft}
-use contract.BorrowLft.{◌⊑◌}
-use contract.Monad.{Fun, fact}
-use contract.Running.{tables, tables_of}
-use prog.Memory.{Memory}
-use prog.Routine.{Routine}
-use prog.Wp.{Tables, WpFn}
-use sound.WpLaws.{WpFn-mono}
-use types.Logic.{Logic}
-use types.Kit.{‵, raw, ◌⊛◌, some, later, ◌$◌, ◌∵◌, !, qed, move, keep, use2, split, split3, join, pick, rewrite, fsplit, fjoin, frame, await, suffices, done}
-use types.Run.{of_opd, returns, enter}
-use types.ByLocal.{alloc_all, pass_all, free_all, look_at, get, sets}
-use denote.Builtin.{usize, isize, SliceRefOf}
-use denote.Exit.{yes, no}
-use denote.Plain.{uint_vals, uint_Tells}
-use denote.RattleType.{owns}
-use denote.RawPtr.{Ptr}
-use denote.Ref.{NamedLft}
-use denote.Slice.{slice_val, shr_slice_vals, shr_slice_Tells}
-use denote.Signature.{plain, named_lft, types_at}
-use denote.Steps.{nothing}
-use denote.Triple.Clauses.{Clauses, Ended, closing}
-use denote.Triple.Spec.{Meets, triple_of}
-use denote.Triple.Table.{entered}
-use denote.Triple.Walked.{says, Stays, stay_dropped, walk_of, ends_at, walked, Goes-dropped, walk_Meets}
+use Rattle.nd_region.proofs.Walking.{◌≡◌, refl, sym, ◌∙◌, Bool, ℕ, ◌<◌, ◌^◌, [], ◌∷◌, length, Ura, Fn, w64, named, inst_fn, vint, SProp, ent, ftrue, flft, ◌⊑◌, Fun, fact, tables, tables_of, Memory, Routine, Tables, WpFn, WpFn-mono, Logic, ‵, raw, ◌⊛◌, some, later, ◌$◌, ◌∵◌, !, qed, move, keep, use2, split, split3, join, pick, rewrite, fsplit, fjoin, frame, await, suffices, done, of_opd, returns, enter, alloc_all, pass_all, free_all, look_at, get, sets, usize, isize, SliceRefOf, yes, no, uint_vals, uint_Tells, owns, Ptr, NamedLft, slice_val, shr_slice_vals, shr_slice_Tells, plain, named_lft, types_at, nothing, Clauses, Ended, closing, Meets, triple_of, entered, says, Stays, stay_dropped, walk_of, ends_at, walked, Goes-dropped, walk_Meets}
 use Rattle.std.proofs.mem.Param.{El, args}
 use Rattle.nd_region.specs.Region.{HasPlaces}
 use Rattle.nd_region.specs.Places.{kept_where}

@@ -1,41 +1,6 @@
 -- `into_run` hands out a run of places for the region's borrow, which follows it. Assumes `Logic`.
-use mathlib.Core.Path.{◌≡◌, refl, sym, ap, subst}
-use Prim.Native.Nat.{ℕ, ◌+◌, ◌*◌, ◌<◌, ◌≤◌, ◌^◌}
-use mathlib.Core.List.{List, [], ◌∷◌}
-use lib.Dec.{lit<, eqb→eq}
-use lib.ListN.{length}
+use Rattle.nd_region.proofs.Walking.{◌≡◌, refl, sym, ap, subst, ℕ, ◌+◌, ◌*◌, ◌<◌, ◌≤◌, ◌^◌, List, [], ◌∷◌, lit<, eqb→eq, length, Ura, Fn, w64, named, inst_fn, Val, vint, SProp, ent, ftrue, flft, ◌⊑◌, Fun, fact, tables, tables_of, Memory, Routine, Env, Tables, WpFn, WpFn-mono, Logic, ‵, raw, ◌⊛◌, some, later, at_ret, ◌$◌, ◌∵◌, !, qed, move, keep, drop, use2, split, split3, join, pick, rewrite, fsplit, fjoin, frame, await, suffices, done, whole, sub, agg, stop, fld, lit, size_word, no_more, and_then, of_opd, bin, first, blocks, branches, exec, returns, enter, alloc_all, pass_all, free_all, look_at, get, get_in, sets, sets_last, is as is_value, env, usize, yes, no, uint_vals, uint_Tells, owns, ptr_val, MutBor, NamedLft, MutSlice, Room, slice_val, plain, named_lft, types_at, nothing, heard, Clauses, Ended, closing, Meets, triple_of, entered, says, Stays, stay_dropped, walk_of, ends_at, walked, Goes-dropped, walk_Meets}
 use native.Mathlib.Omega.{arith}
-use seplogic.Ra.Ura.{Ura}
-use mir.Syntax.{Fn, w64, named}
-use mir.MapTy.{inst_fn}
-use mir.Val.{Val, vint}
-use base.Logic.{SProp, ent}
-use base.Fml.{ftrue, flft}
-use contract.BorrowLft.{◌⊑◌}
-use contract.Monad.{Fun, fact}
-use contract.Running.{tables, tables_of}
-use prog.Memory.{Memory}
-use prog.Routine.{Routine}
-use prog.Wp.{Env, Tables, WpFn}
-use sound.WpLaws.{WpFn-mono}
-use types.Logic.{Logic}
-use types.Kit.{‵, raw, ◌⊛◌, some, later, at_ret, ◌$◌, ◌∵◌, !, qed, move, keep, drop, use2, split, split3, join, pick, rewrite, fsplit, fjoin, frame, await, suffices, done}
-use types.Part.{whole, sub, agg}
-use types.Run.{stop, fld, lit, size_word, no_more, and_then, of_opd, bin, first, blocks, branches, exec, returns, enter}
-use types.ByLocal.{alloc_all, pass_all, free_all, look_at, get, get_in, sets, sets_last, is as is_value, env}
-use denote.Builtin.{usize}
-use denote.Exit.{yes, no}
-use denote.Plain.{uint_vals, uint_Tells}
-use denote.RattleType.{owns}
-use denote.RawPtr.{ptr_val}
-use denote.Ref.{MutBor, NamedLft}
-use denote.Slice.{MutSlice, Room, slice_val}
-use denote.Signature.{plain, named_lft, types_at}
-use denote.Steps.{nothing, heard}
-use denote.Triple.Clauses.{Clauses, Ended, closing}
-use denote.Triple.Spec.{Meets, triple_of}
-use denote.Triple.Table.{entered}
-use denote.Triple.Walked.{says, Stays, stay_dropped, walk_of, ends_at, walked, Goes-dropped, walk_Meets}
 use Rattle.std.proofs.VecSteps.Shapes.{after}
 use Rattle.std.proofs.mem.Param.{El, R, args, el_x}
 use Rattle.nd_region.specs.Region.{HasRun}

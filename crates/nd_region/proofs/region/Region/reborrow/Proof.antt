@@ -1,38 +1,5 @@
 -- `reborrow` lends all places, and the region follows them. Assumes `Logic`.
-use mathlib.Core.Path.{refl}
-use Prim.Native.Nat.{ℕ}
-use mathlib.Core.List.{List, [], ◌∷◌}
-use seplogic.Ra.Ura.{Ura}
-use base.Fraction.{full_share}
-use mir.Syntax.{Fn, named}
-use mir.MapTy.{inst_fn}
-use mir.Val.{Val, vptr}
-use base.Logic.{SProp, ent}
-use base.Fml.{GName, ftrue, flft}
-use contract.BorrowLft.{◌⊑◌}
-use contract.Monad.{Fun, fact}
-use contract.Running.{tables, tables_of}
-use prog.Memory.{Memory}
-use prog.Routine.{Routine}
-use prog.Wp.{Tables, WpFn}
-use sound.WpLaws.{WpFn-mono}
-use types.Logic.{Logic}
-use types.Kit.{‵, raw, ◌⊛◌, some, later, ◌$◌, ◌∵◌, !, qed, move, keep, use3, split, split3, join, pick, rewrite, fsplit, fsplit3, fjoin, frame, await, suffices, done}
-use types.Part.{whole, sub, look_in, agg}
-use types.Run.{no_more, and_then, stop, fld, load, of_opd, returns, enter}
-use types.ByLocal.{alloc_all, pass_all, free_all, look_at, get, through, sets}
-use denote.Builtin.{RefMutOf}
-use denote.Exit.{no}
-use denote.Memory.{cell_at}
-use denote.RattleType.{owns}
-use denote.RawPtr.{block_ptr}
-use denote.Ref.{NamedLft, mut_vals, mut_Tells}
-use denote.Signature.{plain, named_lft, types_at}
-use denote.Steps.{nothing, opens, closes}
-use denote.Triple.Clauses.{Clauses, Ended, closing}
-use denote.Triple.Spec.{Meets, triple_of}
-use denote.Triple.Table.{entered}
-use denote.Triple.Walked.{says, Stays, stay_dropped, walk_of, ends_at, walked, Goes-spent_ref, walk_Meets}
+use Rattle.nd_region.proofs.Walking.{refl, ℕ, List, [], ◌∷◌, Ura, full_share, Fn, named, inst_fn, Val, vptr, SProp, ent, GName, ftrue, flft, ◌⊑◌, Fun, fact, tables, tables_of, Memory, Routine, Tables, WpFn, WpFn-mono, Logic, ‵, raw, ◌⊛◌, some, later, ◌$◌, ◌∵◌, !, qed, move, keep, use3, split, split3, join, pick, rewrite, fsplit, fsplit3, fjoin, frame, await, suffices, done, whole, sub, look_in, agg, no_more, and_then, stop, fld, load, of_opd, returns, enter, alloc_all, pass_all, free_all, look_at, get, through, sets, RefMutOf, no, cell_at, owns, block_ptr, NamedLft, mut_vals, mut_Tells, plain, named_lft, types_at, nothing, opens, closes, Clauses, Ended, closing, Meets, triple_of, entered, says, Stays, stay_dropped, walk_of, ends_at, walked, Goes-spent_ref, walk_Meets}
 use Rattle.std.proofs.mem.Param.{El, args}
 use Rattle.nd_region.proofs.Memory.{Rg, rg_d, rg_val, rg_had, rg_made}
 use Rattle.nd_region.proofs.Loans.{Handed, hands}

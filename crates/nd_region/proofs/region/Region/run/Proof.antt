@@ -1,43 +1,7 @@
 -- `run` shows a run of places. Assumes `Logic`.
-use mathlib.Core.Path.{◌≡◌, refl, sym, ap, subst}
-use Prim.Native.Nat.{ℕ, ◌+◌, ◌*◌, ◌<◌, ◌≤◌, ◌^◌}
-use mathlib.Core.List.{List, [], ◌∷◌, ◌++◌}
-use lib.Dec.{lit<, eqb→eq}
-use lib.ListN.{length, take, drop as drop_l}
+use Rattle.nd_region.proofs.Walking.{◌≡◌, refl, sym, ap, subst, ℕ, ◌+◌, ◌*◌, ◌<◌, ◌≤◌, ◌^◌, List, [], ◌∷◌, ◌++◌, lit<, eqb→eq, length, take, Ura, Fn, w64, named, inst_fn, Val, vint, vptr, SProp, ent, id⊢, never, Incl-refl, ftrue, fhide, feq, flt, flft, ◌⊑◌, ⊑_meet, Fun, fact, tables, tables_of, Memory, Routine, Env, Tables, WpFn, WpFn-mono, Logic, ‵, raw, ◌⊛◌, at_ret, ◌$◌, ◌∵◌, !, qed, move, keep, drop, use1, split, split3, join, rewrite, fsplit, fjoin, feq_l, flt_l, suffices, done, agg, look, stop, fld, load, lit, size_word, no_more, and_then, of_opd, bin, first, blocks, branches, exec, returns, enter, alloc_all, pass_all, free_all, look_at, get, through, sets, sets_last, is as is_value, env, usize, RefOf, yes, hidden_shr, uint_vals, uint_Tells, owns, Ptr, RawPtr, in_block, in_a_block, Bor, NamedLft, shr_vals, shr_Tells, pure_i, Room, slice_val, elements_shared, shr_slice_at, plain, named_lft, types_at, nothing, heard, Clauses, Ended, closing, Meets, triple_of, entered, says, Stays, stay_dropped, walk_of, ends_at, walked, Goes-dropped, walk_Meets}
+use lib.ListN.{drop as drop_l}
 use native.Mathlib.Omega.{arith}
-use seplogic.Ra.Ura.{Ura}
-use mir.Syntax.{Fn, w64, named}
-use mir.MapTy.{inst_fn}
-use mir.Val.{Val, vint, vptr}
-use base.Logic.{SProp, ent, id⊢, never}
-use base.Fml.{Incl-refl, ftrue, fhide, feq, flt, flft}
-use contract.BorrowLft.{◌⊑◌, ⊑_meet}
-use contract.Monad.{Fun, fact}
-use contract.Running.{tables, tables_of}
-use prog.Memory.{Memory}
-use prog.Routine.{Routine}
-use prog.Wp.{Env, Tables, WpFn}
-use sound.WpLaws.{WpFn-mono}
-use types.Logic.{Logic}
-use types.Kit.{‵, raw, ◌⊛◌, at_ret, ◌$◌, ◌∵◌, !, qed, move, keep, drop, use1, split, split3, join, rewrite, fsplit, fjoin, feq_l, flt_l, suffices, done}
-use types.Part.{agg}
-use types.Run.{look, stop, fld, load, lit, size_word, no_more, and_then, of_opd, bin, first, blocks, branches, exec, returns, enter}
-use types.ByLocal.{alloc_all, pass_all, free_all, look_at, get, through, sets, sets_last, is as is_value, env}
-use denote.Builtin.{usize, RefOf}
-use denote.Exit.{yes}
-use denote.Memory.{hidden_shr}
-use denote.Plain.{uint_vals, uint_Tells}
-use denote.RattleType.{owns}
-use denote.RawPtr.{Ptr, RawPtr, in_block, in_a_block}
-use denote.Ref.{Bor, NamedLft, shr_vals, shr_Tells}
-use denote.Shadow.{pure_i}
-use denote.Slice.{Room, slice_val, elements_shared, shr_slice_at}
-use denote.Signature.{plain, named_lft, types_at}
-use denote.Steps.{nothing, heard}
-use denote.Triple.Clauses.{Clauses, Ended, closing}
-use denote.Triple.Spec.{Meets, triple_of}
-use denote.Triple.Table.{entered}
-use denote.Triple.Walked.{says, Stays, stay_dropped, walk_of, ends_at, walked, Goes-dropped, walk_Meets}
 use Rattle.std.proofs.VecSteps.Shapes.{after}
 use Rattle.std.proofs.mem.Param.{El, R, args, el_x}
 use Rattle.nd_region.specs.Memory.{spots_lent}

@@ -1,43 +1,5 @@
 -- `share` keeps the `&` to the region, for the `&`'s own lifetime alone. Assumes `Logic`.
-use mathlib.Core.Path.{refl}
-use Prim.Native.Nat.{ℕ}
-use mathlib.Core.List.{List, [], ◌∷◌, ◌++◌}
-use lib.Dec.{lit<}
-use seplogic.Ra.Ura.{Ura}
-use mir.Syntax.{Fn, named}
-use mir.MapTy.{inst_fn}
-use mir.Val.{Val, vptr, vcons, vnil}
-use base.Logic.{SProp, ent}
-use base.Fml.{Lft, Incl, Incl-trans, ftrue, flft}
-use contract.BorrowLft.{◌⊑◌, ⊑_meet, meet_⊑_left}
-use contract.Monad.{Fun, fact}
-use contract.Running.{tables, tables_of}
-use prog.Memory.{Memory}
-use prog.Routine.{Routine}
-use prog.Wp.{Tables, WpFn}
-use sound.WpLaws.{WpFn-mono}
-use types.Logic.{Logic, sem}
-use types.Kit.{‵, raw, ◌⊛◌, ◌$◌, ◌∵◌, !, qed, move, keep, drop, use1, split, split3, join, fsplit, fjoin, fpack, feq_i, suffices, done}
-use types.Match.{live}
-use types.Part.{agg}
-use types.Run.{lit, no_more, and_then, returns, enter}
-use types.ByLocal.{alloc_all, pass_all, free_all, look_at, get, sets}
-use denote.Builtin.{RefOf}
-use denote.Enum.Enum.{in_a_row, form_of}
-use denote.Enum.Row.{tagged_with}
-use denote.Enum.Declared.{shape as enum_shape}
-use denote.Exit.{yes}
-use denote.Memory.{hidden_shr}
-use denote.Opens.{hide, unhide}
-use denote.RattleType.{RattleType, owns, Valss}
-use denote.Ref.{NamedLft, ShrRef, shr_vals, shr_Tells}
-use denote.SharingLaws.{shortens}
-use denote.Signature.{plain, named_lft, types_at}
-use denote.Steps.{nothing}
-use denote.Triple.Clauses.{Clauses, Ended, closing}
-use denote.Triple.Spec.{Meets, triple_of}
-use denote.Triple.Table.{entered}
-use denote.Triple.Walked.{says, Stays, stay_dropped, walk_of, ends_at, walked, Goes-dropped, walk_Meets}
+use Rattle.nd_region.proofs.Walking.{refl, ℕ, List, [], ◌∷◌, ◌++◌, lit<, Ura, Fn, named, inst_fn, Val, vptr, vcons, vnil, SProp, ent, Lft, Incl, Incl-trans, ftrue, flft, ◌⊑◌, ⊑_meet, meet_⊑_left, Fun, fact, tables, tables_of, Memory, Routine, Tables, WpFn, WpFn-mono, Logic, sem, ‵, raw, ◌⊛◌, ◌$◌, ◌∵◌, !, qed, move, keep, drop, use1, split, split3, join, fsplit, fjoin, fpack, feq_i, suffices, done, live, agg, lit, no_more, and_then, returns, enter, alloc_all, pass_all, free_all, look_at, get, sets, RefOf, in_a_row, form_of, tagged_with, shape as enum_shape, yes, hidden_shr, hide, unhide, RattleType, owns, Valss, NamedLft, ShrRef, shr_vals, shr_Tells, shortens, plain, named_lft, types_at, nothing, Clauses, Ended, closing, Meets, triple_of, entered, says, Stays, stay_dropped, walk_of, ends_at, walked, Goes-dropped, walk_Meets}
 use Rattle.std.proofs.mem.Param.{El, R, args}
 use Rattle.nd_region.specs.Memory.{spots_lent}
 use Rattle.nd_region.specs.declared.shared.SharedRegion.TheVariants.{Part}

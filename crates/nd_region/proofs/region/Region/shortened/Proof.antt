@@ -1,33 +1,5 @@
 -- `shortened` keeps the borrow, for a time that it outlives. Assumes `Logic`.
-use mathlib.Core.Path.{refl, sym}
-use mathlib.Core.List.{[], ◌∷◌}
-use seplogic.Ra.Ura.{Ura}
-use mir.Syntax.{Fn}
-use mir.MapTy.{inst_fn}
-use base.Logic.{SProp, ent}
-use base.Fml.{ftrue, flft, fbor}
-use contract.BorrowLft.{◌⊑◌}
-use contract.Monad.{Fun, fact}
-use contract.Running.{tables, tables_of}
-use prog.Memory.{Memory}
-use prog.Routine.{Routine}
-use prog.Wp.{Tables, WpFn}
-use sound.WpLaws.{WpFn-mono}
-use types.Logic.{Logic}
-use types.SemTy.{Body}
-use types.Kit.{‵, raw, ◌⊛◌, ◌$◌, ◌∵◌, !, qed, move, keep, use1, split, split3, join, fsplit, fjoin, rewrite, suffices, done}
-use types.Run.{of_opd, returns, enter}
-use types.ByLocal.{alloc_all, pass_all, free_all, look_at, get, sets}
-use denote.Exit.{no}
-use denote.RattleType.{owns}
-use denote.RawPtr.{Ptr, block_ptr}
-use denote.Ref.{NamedLft}
-use denote.Signature.{plain, named_lft, types_at}
-use denote.Steps.{nothing}
-use denote.Triple.Clauses.{Clauses, Ended, closing}
-use denote.Triple.Spec.{Meets, triple_of}
-use denote.Triple.Table.{entered}
-use denote.Triple.Walked.{says, Stays, stay_dropped, walk_of, ends_at, walked, Goes-dropped, walk_Meets}
+use Rattle.nd_region.proofs.Walking.{refl, sym, [], ◌∷◌, Ura, Fn, inst_fn, SProp, ent, ftrue, flft, fbor, ◌⊑◌, Fun, fact, tables, tables_of, Memory, Routine, Tables, WpFn, WpFn-mono, Logic, Body, ‵, raw, ◌⊛◌, ◌$◌, ◌∵◌, !, qed, move, keep, use1, split, split3, join, fsplit, fjoin, rewrite, suffices, done, of_opd, returns, enter, alloc_all, pass_all, free_all, look_at, get, sets, no, owns, Ptr, block_ptr, NamedLft, plain, named_lft, types_at, nothing, Clauses, Ended, closing, Meets, triple_of, entered, says, Stays, stay_dropped, walk_of, ends_at, walked, Goes-dropped, walk_Meets}
 use Rattle.std.proofs.mem.Param.{El, R, args}
 use Rattle.nd_region.specs.Memory.{Spots}
 use Rattle.nd_region.proofs.Memory.{Rg, rg_d, rg_val, rg_vals, rg_Tells, rg_had, rg_made, ptr_Good}

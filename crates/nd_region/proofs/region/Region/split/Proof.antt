@@ -1,43 +1,5 @@
 -- `split` cuts the region's places in two, and its borrow follows both parts. Assumes `Logic`.
-use mathlib.Core.Path.{◌≡◌, refl, ◌∙◌}
-use mathlib.Core.Bool.{Bool}
-use Prim.Native.Nat.{ℕ, ◌<◌, ◌^◌}
-use mathlib.Core.List.{List, [], ◌∷◌}
-use lib.ListN.{length}
-use seplogic.Ra.Ura.{Ura}
-use base.Fraction.{full_share}
-use mir.Syntax.{Fn, w64, named}
-use mir.MapTy.{inst_fn}
-use mir.Val.{Val, vint, vptr}
-use base.Logic.{SProp, ent}
-use base.Fml.{GName, ftrue, flft}
-use contract.BorrowLft.{◌⊑◌}
-use contract.Monad.{Fun, fact}
-use contract.Running.{tables, tables_of}
-use prog.Memory.{Memory}
-use prog.Routine.{Routine}
-use prog.Wp.{Tables, WpFn}
-use sound.WpLaws.{WpFn-mono}
-use types.Logic.{Logic}
-use types.Kit.{‵, raw, ◌⊛◌, some, later, ◌$◌, ◌∵◌, !, qed, move, keep, use2, split, split3, join, pick, rewrite, fsplit, fsplit3, fjoin, fjoin3, feq_i, frame, await, suffices, done}
-use types.Part.{whole, sub, look_in, agg}
-use types.Run.{no_more, and_then, stop, fld, load, of_opd, returns, enter}
-use types.ByLocal.{alloc_all, pass_all, free_all, look_at, get, through, sets}
-use denote.Builtin.{usize, isize, SliceRefOf}
-use denote.Exit.{yes}
-use denote.Follow.{both_by}
-use denote.Memory.{cell_at}
-use denote.Plain.{uint_vals, uint_Tells}
-use denote.RattleType.{owns}
-use denote.RawPtr.{block_ptr}
-use denote.Ref.{NamedLft, mut_vals, mut_Tells}
-use denote.Slice.{slice_val, shr_slice_vals, shr_slice_Tells}
-use denote.Signature.{plain, named_lft, types_at}
-use denote.Steps.{nothing, opens, closes}
-use denote.Triple.Clauses.{Clauses, Ended, closing}
-use denote.Triple.Spec.{Meets, triple_of}
-use denote.Triple.Table.{entered}
-use denote.Triple.Walked.{Stays, stay_ref, stay_dropped, walk_of, ends_at, walked, Goes-dropped, Goes-ref, walk_Meets}
+use Rattle.nd_region.proofs.Walking.{◌≡◌, refl, ◌∙◌, Bool, ℕ, ◌<◌, ◌^◌, List, [], ◌∷◌, length, Ura, full_share, Fn, w64, named, inst_fn, Val, vint, vptr, SProp, ent, GName, ftrue, flft, ◌⊑◌, Fun, fact, tables, tables_of, Memory, Routine, Tables, WpFn, WpFn-mono, Logic, ‵, raw, ◌⊛◌, some, later, ◌$◌, ◌∵◌, !, qed, move, keep, use2, split, split3, join, pick, rewrite, fsplit, fsplit3, fjoin, fjoin3, feq_i, frame, await, suffices, done, whole, sub, look_in, agg, no_more, and_then, stop, fld, load, of_opd, returns, enter, alloc_all, pass_all, free_all, look_at, get, through, sets, usize, isize, SliceRefOf, yes, both_by, cell_at, uint_vals, uint_Tells, owns, block_ptr, NamedLft, mut_vals, mut_Tells, slice_val, shr_slice_vals, shr_slice_Tells, plain, named_lft, types_at, nothing, opens, closes, Clauses, Ended, closing, Meets, triple_of, entered, Stays, stay_ref, stay_dropped, walk_of, ends_at, walked, Goes-dropped, Goes-ref, walk_Meets}
 use Rattle.std.proofs.mem.Param.{El, args}
 use Rattle.nd_region.specs.Region.{HasPlaces}
 use Rattle.nd_region.specs.Places.{kept_where}

@@ -1,56 +1,8 @@
 -- `split_where` lends both parts for a lifetime of its own, calls f, and takes them back as the regions that f gave back hold them. Assumes `Logic`.
-use mathlib.Core.Path.{refl, sym, ap, subst, ◌∙◌}
-use mathlib.Core.Bool.{Bool, true, not, ◌&&◌}
-use Prim.Native.Nat.{ℕ, ◌<◌, ◌^◌}
-use mathlib.Core.List.{List, [], ◌∷◌, ◌++◌}
-use lib.ListN.{length}
-use seplogic.Ra.Ura.{Ura}
-use base.Fraction.{full_share}
+use Rattle.nd_region.proofs.Walking.{refl, sym, ap, subst, ◌∙◌, Bool, true, not, ◌&&◌, ℕ, ◌<◌, ◌^◌, List, [], ◌∷◌, ◌++◌, length, Ura, full_share, coded_list, Args, Fn, Dict, a_type, dnil, dcons, method, no_args, ty_ptr, w64, inst_fn, Val, vint, vptr, vstruct, of_list, has_ty, SProp, ent, emp, wand, id⊢, apply∗, Lft, GName, Share, ftrue, flft, fdead, fres, ◌⊑◌, meet_⊑_left, meet_⊑_right, Lfts, Fun, fact, fact_i, tables, tables_of, Memory, Routine, Tables, WpFn, fm_of, WpFn-mono, Logic, open_ref, close_ref, lft_new, lft_end, ‵, raw, ◌⊛◌, some, later, ◌$◌, ◌∵◌, !, qed, move, keep, drop, use0, use1, use2, use3, split, split3, join, pick, rewrite, fsplit, fsplit3, fjoin, fjoin3, fpick, feq_i, feq_l, await, suffices, done, whole, sub, look_in, agg, stop, fld, load, no_more, and_then, of_opd, returns, enter, alloc_all, pass_all, free_all, look_at, get, get_in, through, sets, lands_as, SemTy, yes, no, Is, shows, cell_at, usize, isize, unit, SliceRefOf, bounded, layout, param, once_call, RattleType, owns, block_ptr, ptr_val, NamedLft, mut_vals, plain, named_lft, types_at, slice_val, shr_slice_vals, uint_vals, nothing, heard, only, peeks, opens, closes, Tuple, calls_at, Clauses, Ended, Lasts, lasts, closing, Vals, Meets, triple_of, Triple, Contract, entered, says, Stays, stay_ref, stay_dropped, walk_of, ends_at, Goes-ref, Goes-dropped, walk_Meets}
 use base.Share
-use base.Stored.{coded_list}
-use mir.Syntax.{Args, Fn, Dict, a_type, dnil, dcons, method, no_args, ty_ptr, w64}
-use mir.MapTy.{inst_fn}
-use mir.Val.{Val, vint, vptr, vstruct, of_list, has_ty}
-use base.Logic.{SProp, ent, emp, wand, id⊢, apply∗}
-use base.Fml.{Lft, GName, Share, ftrue, flft, fdead, fres}
-use contract.BorrowLft.{◌⊑◌, meet_⊑_left, meet_⊑_right}
-use contract.Lifetimes.{Lfts}
-use contract.Monad.{Fun, fact, fact_i}
-use contract.Running.{tables, tables_of}
-use prog.Memory.{Memory}
-use prog.Routine.{Routine}
-use prog.Wp.{Tables, WpFn}
-use sound.WpLaws.{fm_of, WpFn-mono}
-use types.Logic.{Logic}
-use types.Mut.{open_ref, close_ref}
-use types.Tokens.{lft_new, lft_end}
-use types.Kit.{‵, raw, ◌⊛◌, some, later, ◌$◌, ◌∵◌, !, qed, move, keep, drop, use0, use1, use2, use3, split, split3, join, pick, rewrite, fsplit, fsplit3, fjoin, fjoin3, fpick, feq_i, feq_l, await, suffices, done}
-use types.Part.{whole, sub, look_in, agg}
-use types.Run.{stop, fld, load, no_more, and_then, of_opd, returns, enter}
-use types.ByLocal.{alloc_all, pass_all, free_all, look_at, get, get_in, through, sets, lands_as}
-use types.SemTy.{SemTy}
-use denote.Exit.{yes, no}
-use denote.Laws.{Is, shows}
-use denote.Memory.{cell_at}
-use denote.Builtin.{usize, isize, unit, SliceRefOf}
-use denote.Param.{bounded, layout, param}
-use denote.Param.Members.{once_call}
 use denote.Param.Call as called
-use denote.RattleType.{RattleType, owns}
-use denote.RawPtr.{block_ptr, ptr_val}
-use denote.Ref.{NamedLft, mut_vals}
-use denote.Signature.{plain, named_lft, types_at}
-use denote.Slice.{slice_val, shr_slice_vals}
-use denote.Plain.{uint_vals}
-use denote.Steps.{nothing, heard, only, peeks, opens, closes}
-use denote.Struct.Tuple.{Tuple}
-use denote.Triple.Call.{calls_at}
-use denote.Triple.Clauses.{Clauses, Ended, Lasts, lasts, closing}
-use denote.Triple.Entry.{Vals, Args as Args'}
-use denote.Triple.Spec.{Meets, triple_of}
-use denote.Triple.Statement.{Triple, Contract}
-use denote.Triple.Table.{entered}
-use denote.Triple.Walked.{says, Stays, stay_ref, stay_dropped, walk_of, ends_at, Goes-ref, Goes-dropped, walk_Meets}
+use denote.Triple.Entry.{Args as Args'}
 use Rattle.std.proofs.mem.Param.{El, R, el_x, Good, lawful, one, args as end_args}
 use Rattle.nd_region.proofs.Bodies.{knowing, all_three}
 use Rattle.nd_region.specs.Memory.{Spots}

@@ -1,42 +1,5 @@
 -- `from` makes a region of the slice, and a view of the region. Assumes `Logic`.
-use mathlib.Core.Path.{◌≡◌, refl, sym, ap, subst, ◌∙◌}
-use Prim.Native.Nat.{ℕ, ◌<◌}
-use mathlib.Core.List.{List, [], ◌∷◌}
-use lib.ListN.{length}
-use base.Logic.{emp, id⊢, via, fst∗, snd∗}
-use base.Fml.{Lft, Share, ftrue, flft}
-use mir.Syntax.{Args, Fn, a_type, dnil, named, w64}
-use mir.MapTy.{inst_fn}
-use mir.Val.{Val, vint}
-use contract.BorrowLft.{◌⊑◌}
-use contract.Monad.{fact, fact_i, fact_use}
-use contract.Running.{tables}
-use types.Kit.{‵, raw, ◌⊛◌, some, later, ◌$◌, ◌∵◌, !, qed, done, move, drop, use0, use1, split, join, fjoin, pick, await, rewrite, suffices, frame}
-use types.Part.{whole, sub, agg}
-use types.Run.{enter, addr, stop, fld, hop, from, no_more, and_then, of_opd, returns}
-use types.ByLocal.{alloc_all, pass_all, free_all, look_at, look_in_at, get, get_in, sets, lands_as}
-use denote.Array.{Array}
-use denote.Builtin.{usize}
-use denote.Exit.{no}
-use denote.Follow.{follows}
-use denote.Laws.{Is, shows, Lawful}
-use denote.Plain.{uint_Makes}
-use denote.Param.{param, bounded, number}
-use denote.Param.Laws.{param_laws, of_field, array_laws}
-use denote.Param.Shared.{copy_shared}
-use denote.RattleType.{RattleType}
-use denote.Ref.{MutBor}
-use denote.Signature.{plain, named_lft, mut_slice_of, type_at}
-use denote.Slice.{mut_slice_vals, mut_slice_Tells}
-use denote.Steps.{nothing, heard, owned, peeks}
-use denote.Struct.Field.{i64-field}
-use denote.Struct.Laws.{i64-laws, i64-copy}
-use denote.Triple.Call.{calls_at}
-use denote.Triple.Clauses.{Ended, Lasts, lasts}
-use denote.Triple.Entry.{on_entry}
-use denote.Triple.Spec.{triple_of}
-use denote.Triple.Table.{framed}
-use denote.Triple.Walked.{says, Stays, stay_dropped, walk_of, ends_at, Goes-spent_slice}
+use Rattle.nd_region.proofs.Walking.{◌≡◌, refl, sym, ap, subst, ◌∙◌, ℕ, ◌<◌, List, [], ◌∷◌, length, emp, id⊢, via, fst∗, snd∗, Lft, Share, ftrue, flft, Args, Fn, a_type, dnil, named, w64, inst_fn, Val, vint, ◌⊑◌, fact, fact_i, fact_use, tables, ‵, raw, ◌⊛◌, some, later, ◌$◌, ◌∵◌, !, qed, done, move, drop, use0, use1, split, join, fjoin, pick, await, rewrite, suffices, frame, whole, sub, agg, enter, addr, stop, fld, hop, from, no_more, and_then, of_opd, returns, alloc_all, pass_all, free_all, look_at, look_in_at, get, get_in, sets, lands_as, Array, usize, no, follows, Is, shows, Lawful, uint_Makes, param, bounded, number, param_laws, of_field, array_laws, copy_shared, RattleType, MutBor, plain, named_lft, mut_slice_of, type_at, mut_slice_vals, mut_slice_Tells, nothing, heard, owned, peeks, i64-field, i64-laws, i64-copy, calls_at, Ended, Lasts, lasts, on_entry, triple_of, framed, says, Stays, stay_dropped, walk_of, ends_at, Goes-spent_slice}
 use Rattle.std.proofs.raw_atomic.Walks.{proved}
 use Rattle.std.specs.Prelude.{IsSome, slice_get}
 use Rattle.nd_shape_and_slice.specs.Shape.{row_rank, HasCheckedSize}

@@ -1,56 +1,8 @@
 -- `from_shape` decides by the slice's length alone. Where the shape is refused the slice keeps its own name's value; else it follows
 -- the region that the view is made of. Assumes `Logic`.
-use mathlib.Core.Path.{◌≡◌, refl, sym, ap, subst, ◌∙◌}
-use Prim.Native.Nat.{ℕ}
-use mathlib.Core.Bool.{true}
-use mathlib.Core.List.{List, [], ◌∷◌}
-use lib.Dec.{T as T', lit<}
-use lib.ListN.{length}
-use base.Logic.{SProp, ent, sep, emp, id⊢}
-use base.Stored.{coded_list}
-use base.Fml.{Lft, Share, ftrue, flft, fobs, fres}
-use mir.Syntax.{Args, Body, Dict, Fn, a_type, dcons, dnil, w64}
-use mir.MapTy.{inst_fn}
-use mir.Val.{Val, vint, vcons, vnil, has_ty, WT}
-use contract.BorrowLft.{◌⊑◌}
-use contract.Lifetimes.{Lfts, AllOutlive}
-use contract.Monad.{fact, fact_i}
-use contract.Running.{MachineTables, Running, tables}
-use prog.Model.{Model}
-use prog.Wired.{Wired}
-use prog.Wp.{Wp, WpFn, Env, after_seq, at_return}
-use seplogic.Ra.Ura.{Ura}
-use types.Logic.{Logic, sem}
-use types.Kit.{Post as After, by, any_q, at_ret, group, ‵, raw, ◌⊛◌, some, later, ◌$◌, ◌∵◌, !, qed, done, move, keep, drop, use0, use1, split, split3, join, fsplit, fsplit3, fjoin, feq_i, fpack, pick, await, rewrite, suffices, frame}
-use types.Match.{live, vrt, in_variant}
-use types.Part.{whole, sub, agg}
-use types.Run.{enter, exec, first, switches_on, addr, stop, fld, hop, from, lit, no_more, and_then, of_opd, returns}
-use types.ByLocal.{alloc_all, pass_all, free_all, look_at, look_in_at, get, get_in, get_tag, sets, sets_last, lands_as, env}
-use denote.Array.{Array}
-use denote.Builtin.{usize}
-use denote.Enum.Declared.{shape}
-use denote.Enum.Enum.{form_of, in_a_row}
-use denote.Enum.Row.{tagged_with}
-use denote.Exit.{no}
-use denote.Follow.{follows, follows_by}
-use denote.FollowSlice.{heres_id}
-use denote.Laws.{Is, shows, Lawful}
-use denote.Plain.{uint_Makes}
-use denote.Param.{param, copied, bounded, layout}
-use denote.Param.Laws.{IsCopy, Laws, param_laws, copied_laws}
-use denote.Param.Steps.{one_value}
-use denote.RattleType.{RattleType, Valss, owns}
-use denote.Ref.{MutBor}
-use denote.Signature.{plain, named_lft, mut_slice_of, types_at}
-use denote.Slice.{Room, mut_slice_vals}
-use denote.Steps.{nothing, heard, owned, peeks}
-use denote.Triple.Call.{calls_at}
-use denote.Triple.Clauses.{Clauses, Ended, Lasts, lasts}
+use Rattle.nd_region.proofs.Walking.{◌≡◌, refl, sym, ap, subst, ◌∙◌, ℕ, true, List, [], ◌∷◌, T as T', lit<, length, SProp, ent, sep, emp, id⊢, coded_list, Lft, Share, ftrue, flft, fobs, fres, Args, Dict, Fn, a_type, dcons, dnil, w64, inst_fn, Val, vint, vcons, vnil, has_ty, WT, ◌⊑◌, Lfts, AllOutlive, fact, fact_i, MachineTables, Running, tables, Model, Wired, Wp, WpFn, Env, after_seq, at_return, Ura, Logic, sem, Post as After, by, any_q, at_ret, group, ‵, raw, ◌⊛◌, some, later, ◌$◌, ◌∵◌, !, qed, done, move, keep, drop, use0, use1, split, split3, join, fsplit, fsplit3, fjoin, feq_i, fpack, pick, await, rewrite, suffices, frame, live, vrt, in_variant, whole, sub, agg, enter, exec, first, switches_on, addr, stop, fld, hop, from, lit, no_more, and_then, of_opd, returns, alloc_all, pass_all, free_all, look_at, look_in_at, get, get_in, get_tag, sets, sets_last, lands_as, env, Array, usize, shape, form_of, in_a_row, tagged_with, no, follows, follows_by, heres_id, Is, shows, Lawful, uint_Makes, param, copied, bounded, layout, IsCopy, Laws, param_laws, copied_laws, one_value, RattleType, Valss, owns, MutBor, plain, named_lft, mut_slice_of, types_at, Room, mut_slice_vals, nothing, heard, owned, peeks, calls_at, Clauses, Ended, Lasts, lasts, triple_of, Contract, framed, Stays, stay_dropped, walk_of, ends_at, Goes-dropped, Goes-spent_slice}
+use mir.Syntax.{Body}
 use denote.Triple.Entry.{Args as Args'}
-use denote.Triple.Spec.{triple_of}
-use denote.Triple.Statement.{Contract}
-use denote.Triple.Table.{framed}
-use denote.Triple.Walked.{Stays, stay_dropped, walk_of, ends_at, Goes-dropped, Goes-spent_slice}
 use Rattle.std.proofs.raw_atomic.Walks.{proved_at}
 use Rattle.std.proofs.VecSteps.Shapes.{after, head, arm_body}
 use Rattle.std.specs.Prelude.{Result, Ok, Err, Some, None, IfOk, IfErr, slice_get}

@@ -1,42 +1,5 @@
 -- `uget` takes the view's region and the place of the index, and hands out the element there. Assumes `Logic`.
-use mathlib.Core.Path.{◌≡◌, refl, sym, ap, subst, ◌∙◌}
-use mathlib.Core.Bool.{true, ◌&&◌}
-use Prim.Native.Nat.{ℕ}
-use mathlib.Core.List.{List, [], ◌∷◌, ◌++◌}
-use base.Logic.{SProp, ent, sep, emp, id⊢, via, fst∗, snd∗}
-use base.Fml.{Lft, Share, ftrue, flft}
-use mir.Syntax.{Args, Fn, a_type, dcons, dnil, named, w64, ty_ptr}
-use mir.MapTy.{inst_fn}
-use mir.Val.{Val, vint, vptr, vstruct, of_list, has_ty}
-use prog.Wp.{WpFn}
-use contract.BorrowLft.{◌⊑◌}
-use contract.Lifetimes.{Lfts, toks}
-use contract.Monad.{fact, fact_i, fact_use}
-use contract.Running.{tables}
-use types.Kit.{‵, raw, ◌⊛◌, some, later, ◌$◌, ◌∵◌, !, qed, done, move, keep, drop, use0, use1, split, split3, join, fsplit, fsplit3, fjoin, fpick, feq_l, pick, await, updating, now, rewrite, suffices, frame}
-use types.Part.{whole, sub}
-use types.Run.{enter, stop, fld, no_more, and_then, of_opd, returns}
-use types.ByLocal.{alloc_all, pass_all, free_all, look_at, get, get_in, sets, lands_as}
-use denote.Array.{Array}
-use denote.Builtin.{usize}
-use denote.Exit.{no}
-use denote.Follow.{follows}
-use denote.Laws.{Is, shows}
-use denote.Memory.{lone}
-use denote.Param.{param, copied, bounded}
-use denote.Param.Laws.{Laws, param_laws, copied_laws}
-use denote.RattleType.{RattleType}
-use denote.RawPtr.{ptr_val}
-use denote.Ref.{MutRef, mut_Tells}
-use denote.Signature.{Slot, plain, named_lft}
-use denote.Steps.{nothing, heard, only, peeks}
-use denote.Struct.Tuple.{Tuple}
-use denote.Triple.Call.{calls_at}
-use denote.Triple.Clauses.{Ended, Lasts, lasts}
-use denote.Triple.Entry.{on_entry, Vals}
-use denote.Triple.Spec.{triple_of}
-use denote.Triple.Table.{framed}
-use denote.Triple.Walked.{says, Stays, stay_dropped, walk_of, ends_at, Goes-dropped}
+use Rattle.nd_region.proofs.Walking.{◌≡◌, refl, sym, ap, subst, ◌∙◌, true, ◌&&◌, ℕ, List, [], ◌∷◌, ◌++◌, SProp, ent, sep, emp, id⊢, via, fst∗, snd∗, Lft, Share, ftrue, flft, Args, Fn, a_type, dcons, dnil, named, w64, ty_ptr, inst_fn, Val, vint, vptr, vstruct, of_list, has_ty, WpFn, ◌⊑◌, Lfts, toks, fact, fact_i, fact_use, tables, ‵, raw, ◌⊛◌, some, later, ◌$◌, ◌∵◌, !, qed, done, move, keep, drop, use0, use1, split, split3, join, fsplit, fsplit3, fjoin, fpick, feq_l, pick, await, updating, now, rewrite, suffices, frame, whole, sub, enter, stop, fld, no_more, and_then, of_opd, returns, alloc_all, pass_all, free_all, look_at, get, get_in, sets, lands_as, Array, usize, no, follows, Is, shows, lone, param, copied, bounded, Laws, param_laws, copied_laws, RattleType, ptr_val, MutRef, mut_Tells, Slot, plain, named_lft, nothing, heard, only, peeks, Tuple, calls_at, Ended, Lasts, lasts, on_entry, Vals, triple_of, framed, says, Stays, stay_dropped, walk_of, ends_at, Goes-dropped}
 use Rattle.std.proofs.mem.Param.{El}
 use Rattle.std.proofs.raw_atomic.Walks.{proved_at}
 use Rattle.std.specs.Prelude.{Option, Some, IsSome, slice_set}

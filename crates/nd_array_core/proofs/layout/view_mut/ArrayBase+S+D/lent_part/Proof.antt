@@ -1,44 +1,6 @@
 -- `lent_part` lends the storage's elements while the array stays open, goes on with the places that the layout names, closes the array by what
 -- the storage then ends as, and makes a storage of the region. Assumes `Logic`.
-use mathlib.Core.Path.{◌≡◌, refl, ap, ◌∙◌}
-use mathlib.Core.Bool.{Bool}
-use Prim.Native.Nat.{ℕ}
-use mathlib.Core.List.{List, [], ◌∷◌}
-use lib.ListN.{length}
-use base.Fraction.{left, right}
-use base.Logic.{SProp, emp, id⊢}
-use base.Fml.{Lft, GName, Share, ftrue, flft}
-use mir.Syntax.{Args, Fn, a_type, dcons, dnil, named, w64}
-use mir.MapTy.{inst_fn}
-use mir.Val.{Val, vptr}
-use contract.BorrowLft.{◌⊑◌}
-use contract.Lifetimes.{Lfts, toks}
-use contract.Monad.{fact, fact_i}
-use contract.Running.{tables}
-use types.Kit.{‵, raw, ◌⊛◌, some, later, ◌$◌, ◌∵◌, !, qed, done, move, drop, keep, use0, use1, use2, use3, split, split3, join, fsplit, fsplit3, fjoin, feq_i, group, pick, await, rewrite, suffices, frame}
-use types.Run.{enter, addr, stop, fld, no_more, and_then, returns}
-use types.ByLocal.{alloc_all, pass_all, free_all, look_at, get, through, sets, lands_as}
-use denote.Array.{Array}
-use denote.Builtin.{RefMutOf, SliceRefOf, usize, isize}
-use denote.Exit.{yes, no}
-use denote.Follow.{follows, follows_then}
-use denote.Laws.{Is, Lawfuls, shows}
-use denote.Param.{param, copied, bounded}
-use denote.Param.Laws.{param_laws, copied_laws}
-use denote.Plain.{uint_vals, uint_Tells}
-use denote.RattleType.{RattleType, owns}
-use denote.Ref.{MutBor, mut_vals, mut_Tells}
-use denote.Signature.{plain, named_lft, types_at}
-use denote.Slice.{shr_slice_vals, shr_slice_Tells}
-use denote.Steps.{nothing, heard, peeks}
-use denote.Struct.Loose.{lawfuls}
-use denote.Struct.Members.{rows_of}
-use denote.Triple.Call.{calls_at}
-use denote.Triple.Clauses.{Ended, Lasts, lasts}
-use denote.Triple.Entry.{Vals}
-use denote.Triple.Spec.{triple_of}
-use denote.Triple.Table.{framed}
-use denote.Triple.Walked.{says, Stays, stay_dropped, walk_of, ends_at, Goes-dropped, Goes-spent_ref}
+use Rattle.nd_region.proofs.Walking.{◌≡◌, refl, ap, ◌∙◌, Bool, ℕ, List, [], ◌∷◌, length, left, right, SProp, emp, id⊢, Lft, GName, Share, ftrue, flft, Args, Fn, a_type, dcons, dnil, named, w64, inst_fn, Val, vptr, ◌⊑◌, Lfts, toks, fact, fact_i, tables, ‵, raw, ◌⊛◌, some, later, ◌$◌, ◌∵◌, !, qed, done, move, drop, keep, use0, use1, use2, use3, split, split3, join, fsplit, fsplit3, fjoin, feq_i, group, pick, await, rewrite, suffices, frame, enter, addr, stop, fld, no_more, and_then, returns, alloc_all, pass_all, free_all, look_at, get, through, sets, lands_as, Array, RefMutOf, SliceRefOf, usize, isize, yes, no, follows, follows_then, Is, Lawfuls, shows, param, copied, bounded, param_laws, copied_laws, uint_vals, uint_Tells, RattleType, owns, MutBor, mut_vals, mut_Tells, plain, named_lft, types_at, shr_slice_vals, shr_slice_Tells, nothing, heard, peeks, lawfuls, rows_of, calls_at, Ended, Lasts, lasts, Vals, triple_of, framed, says, Stays, stay_dropped, walk_of, ends_at, Goes-dropped, Goes-spent_ref}
 use Rattle.std.proofs.raw_atomic.Walks.{proved}
 use Rattle.nd_region.specs.Places.{names, written_where}
 use Rattle.nd_region.specs.Region.{region_stored, HasPlaces, IsPartWhere}

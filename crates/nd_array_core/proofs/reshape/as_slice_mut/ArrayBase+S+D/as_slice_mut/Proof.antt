@@ -1,41 +1,5 @@
 -- `as_slice_mut` asks first. It hands out what `elements_mut` lends, or ends the borrow with the array as it is. Assumes `Logic`.
-use mathlib.Core.Path.{◌≡◌, refl, sym, ap, subst, ◌∙◌}
-use mathlib.Core.Bool.{Bool, true, not}
-use mathlib.Core.List.{List, [], ◌∷◌, ◌++◌}
-use lib.Dec.{T, lit<}
-use base.Logic.{SProp, emp, id⊢}
-use base.Fml.{Lft, GName, Share, ftrue, flft, fres}
-use mir.Syntax.{Args, Fn, a_type, dcons, dnil, named}
-use mir.MapTy.{inst_fn}
-use mir.Val.{Val, vstruct, of_list}
-use prog.Wp.{Env}
-use contract.BorrowLft.{◌⊑◌}
-use contract.Lifetimes.{Lfts, toks}
-use contract.Monad.{fact, fact_i}
-use contract.Running.{tables}
-use types.Match.{live}
-use types.Kit.{‵, raw, ◌⊛◌, some, later, at_ret, ◌$◌, ◌∵◌, !, qed, done, move, keep, drop, use0, use1, split, join, fsplit, fsplit3, fjoin, fpick, feq_l, pick, await, rewrite, suffices, frame}
-use types.Part.{whole, sub, agg}
-use types.Run.{enter, addr, lit, stop, fld, no_more, and_then, of_opd, first, branches, exec, returns}
-use types.ByLocal.{alloc_all, pass_all, free_all, look_at, get, get_in, through, sets, sets_last, lands_as, env}
-use denote.Array.{Array}
-use denote.Builtin.{RefMutOf, bool}
-use denote.Exit.{no}
-use denote.Follow.{follows, follows_by}
-use denote.Laws.{Is, shows}
-use denote.Param.{param, copied, bounded}
-use denote.RattleType.{RattleType, owns}
-use denote.Ref.{MutRef, mut_vals, mut_Tells}
-use denote.Slice.{MutSlice, mut_slice_Lawful}
-use denote.Signature.{plain, types_at}
-use denote.Steps.{nothing, heard, only, peeks}
-use denote.Struct.Tuple.{Tuple}
-use denote.Triple.Call.{calls_at}
-use denote.Triple.Clauses.{Ended, Lasts, lasts}
-use denote.Triple.Entry.{Vals}
-use denote.Triple.Spec.{triple_of}
-use denote.Triple.Table.{framed}
-use denote.Triple.Walked.{Stays, stay_dropped, walk_of, ends_at, Goes-spent_ref}
+use Rattle.nd_region.proofs.Walking.{◌≡◌, refl, sym, ap, subst, ◌∙◌, Bool, true, not, List, [], ◌∷◌, ◌++◌, T, lit<, SProp, emp, id⊢, Lft, GName, Share, ftrue, flft, fres, Args, Fn, a_type, dcons, dnil, named, inst_fn, Val, vstruct, of_list, Env, ◌⊑◌, Lfts, toks, fact, fact_i, tables, live, ‵, raw, ◌⊛◌, some, later, at_ret, ◌$◌, ◌∵◌, !, qed, done, move, keep, drop, use0, use1, split, join, fsplit, fsplit3, fjoin, fpick, feq_l, pick, await, rewrite, suffices, frame, whole, sub, agg, enter, addr, lit, stop, fld, no_more, and_then, of_opd, first, branches, exec, returns, alloc_all, pass_all, free_all, look_at, get, get_in, through, sets, sets_last, lands_as, env, Array, RefMutOf, bool, no, follows, follows_by, Is, shows, param, copied, bounded, RattleType, owns, MutRef, mut_vals, mut_Tells, MutSlice, mut_slice_Lawful, plain, types_at, nothing, heard, only, peeks, Tuple, calls_at, Ended, Lasts, lasts, Vals, triple_of, framed, Stays, stay_dropped, walk_of, ends_at, Goes-spent_ref}
 use Rattle.std.specs.Prelude.{Some, None, IsTrue, ◌↔◌}
 use Rattle.std.specs.contracts.option.Option as OP
 use Rattle.std.proofs.VecSteps.Shapes.{after}

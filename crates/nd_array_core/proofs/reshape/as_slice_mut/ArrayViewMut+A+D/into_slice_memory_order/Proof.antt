@@ -1,45 +1,5 @@
 -- `into_slice_memory_order` takes the view apart, and hands on what `run_if` gives of its region. Assumes `Logic`.
-use mathlib.Core.Path.{◌≡◌, refl, sym, ap, subst, ◌∙◌}
-use mathlib.Core.Bool.{Bool, true, ◌&&◌}
-use Prim.Native.Nat.{ℕ}
-use mathlib.Core.List.{List, [], ◌∷◌, ◌++◌}
-use base.Logic.{SProp, ent, sep, emp, id⊢, via, fst∗, snd∗}
-use base.Fml.{Lft, Share, ftrue, flft}
-use mir.Syntax.{Args, Fn, a_type, dcons, dnil, named, w64, ty_ptr}
-use mir.MapTy.{inst_fn}
-use mir.Val.{Val, vint, vbool, vstruct, of_list, has_ty}
-use prog.Wp.{WpFn}
-use contract.BorrowLft.{◌⊑◌}
-use contract.Lifetimes.{Lfts, toks}
-use contract.Monad.{fact, fact_i, fact_use}
-use contract.Running.{tables}
-use types.Kit.{‵, raw, ◌⊛◌, some, later, ◌$◌, ◌∵◌, !, qed, done, move, keep, drop, use0, use1, split, split3, join, fsplit, fsplit3, fjoin, fpick, feq_l, pick, await, updating, now, rewrite, suffices, frame}
-use types.Part.{whole, sub}
-use types.Run.{enter, stop, fld, no_more, and_then, of_opd, returns}
-use types.ByLocal.{alloc_all, pass_all, free_all, look_at, get, get_in, sets, lands_as}
-use denote.Array.{Array}
-use denote.Builtin.{usize, bool}
-use denote.Exit.{no}
-use denote.Laws.{Is, shows}
-use denote.Memory.{lone}
-use denote.Param.{param, copied, bounded}
-use denote.Param.Laws.{Laws, param_laws, copied_laws, of_field, row_shared}
-use denote.RattleType.{RattleType}
-use denote.RawPtr.{ptr_val}
-use denote.Ref.{NamedLft}
-use denote.Param.Shared.{mut_slice_shared}
-use denote.Struct.Field.{mut_slice_field}
-use denote.Struct.Laws.{mut_slice_laws}
-use denote.Slice.{MutSlice}
-use denote.Signature.{Slot, plain, named_lft}
-use denote.Steps.{nothing, heard, only, peeks}
-use denote.Struct.Tuple.{Tuple}
-use denote.Triple.Call.{calls_at}
-use denote.Triple.Clauses.{Ended, Lasts, lasts}
-use denote.Triple.Entry.{on_entry, Vals}
-use denote.Triple.Spec.{triple_of}
-use denote.Triple.Table.{framed}
-use denote.Triple.Walked.{Stays, stay_dropped, walk_of, ends_at}
+use Rattle.nd_region.proofs.Walking.{◌≡◌, refl, sym, ap, subst, ◌∙◌, Bool, true, ◌&&◌, ℕ, List, [], ◌∷◌, ◌++◌, SProp, ent, sep, emp, id⊢, via, fst∗, snd∗, Lft, Share, ftrue, flft, Args, Fn, a_type, dcons, dnil, named, w64, ty_ptr, inst_fn, Val, vint, vbool, vstruct, of_list, has_ty, WpFn, ◌⊑◌, Lfts, toks, fact, fact_i, fact_use, tables, ‵, raw, ◌⊛◌, some, later, ◌$◌, ◌∵◌, !, qed, done, move, keep, drop, use0, use1, split, split3, join, fsplit, fsplit3, fjoin, fpick, feq_l, pick, await, updating, now, rewrite, suffices, frame, whole, sub, enter, stop, fld, no_more, and_then, of_opd, returns, alloc_all, pass_all, free_all, look_at, get, get_in, sets, lands_as, Array, usize, bool, no, Is, shows, lone, param, copied, bounded, Laws, param_laws, copied_laws, of_field, row_shared, RattleType, ptr_val, NamedLft, mut_slice_shared, mut_slice_field, mut_slice_laws, MutSlice, Slot, plain, named_lft, nothing, heard, only, peeks, Tuple, calls_at, Ended, Lasts, lasts, on_entry, Vals, triple_of, framed, Stays, stay_dropped, walk_of, ends_at}
 use Rattle.std.specs.Prelude.{IsSome, IfSome, IsTrue, ◌↔◌}
 use Rattle.std.specs.contracts.option.Option as OP
 use Rattle.std.proofs.option.Option.TheLaws.{the_row_laws as option_laws}
