@@ -17,3 +17,4 @@ pub mod AxesLeft
 pub mod Ranges
 pub mod Naming
 pub mod AxisCounts
+pub mod ErrorTexts

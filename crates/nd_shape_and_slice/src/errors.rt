@@ -1,7 +1,10 @@
-//! Why a shape was refused.
+//! Why a call was refused: its shape, or the memory that it asked for.
 
-ghost use Rattle.std.specs.Prelude.{◌≡◌};
+ghost use Rattle.std.specs.Prelude.{◌≡◌, Some};
+ghost use Rattle.nd_shape_and_slice.specs.ErrorTexts.{shape_error_text, no_memory_text};
 
+use std::error::Error;
+use std::fmt;
 use std::marker::Model;
 
 /// The cause of a `ShapeError`.
@@ -53,6 +56,49 @@ impl ShapeError {
     }
 }
 
-/// Memory was refused.
+/// Writes the kind and what it means, as ndarray does: `ShapeError/IncompatibleShape: incompatible shapes`.
+impl fmt::Display for ShapeError {
+    ghost output = { λ refused. Some (shape_error_text refused) };
+
+    fn fmt<W: fmt::Write>(&self, f: &mut fmt::Formatter<W>) -> fmt::Result {
+        match self.kind() {
+            ErrorKind::IncompatibleShape => {
+                write!(f, "ShapeError/IncompatibleShape: incompatible shapes")
+            }
+            ErrorKind::IncompatibleLayout => {
+                write!(
+                    f,
+                    "ShapeError/IncompatibleLayout: incompatible memory layout"
+                )
+            }
+            ErrorKind::RangeLimited => {
+                write!(
+                    f,
+                    "ShapeError/RangeLimited: the shape does not fit in type limits"
+                )
+            }
+            ErrorKind::OutOfBounds => {
+                write!(f, "ShapeError/OutOfBounds: out of bounds indexing")
+            }
+            ErrorKind::Unsupported => { write!(f, "ShapeError/Unsupported: unsupported operation") }
+            ErrorKind::Overflow => write!(f, "ShapeError/Overflow: arithmetic overflow"),
+        }
+    }
+}
+
+impl Error for ShapeError {}
+
+/// Memory was refused: what a call returns that asks for memory, or clones elements, where one of these fails.
 #[derive(Clone, Copy, Debug, PartialEq, Eq)]
 pub struct NoMemory;
+
+/// Writes `out of memory`.
+impl fmt::Display for NoMemory {
+    ghost output = { λ _. Some no_memory_text };
+
+    fn fmt<W: fmt::Write>(&self, f: &mut fmt::Formatter<W>) -> fmt::Result {
+        write!(f, "out of memory")
+    }
+}
+
+impl Error for NoMemory {}
