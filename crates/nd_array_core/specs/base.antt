@@ -15,3 +15,4 @@ pub mod LongerLent
 pub mod SliceLent
 pub mod Fresh
 pub mod Makers
+pub mod ErrorTexts

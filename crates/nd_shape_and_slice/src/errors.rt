@@ -3,9 +3,10 @@
 ghost use Rattle.std.specs.Prelude.{◌≡◌, Some};
 ghost use Rattle.nd_shape_and_slice.specs.ErrorTexts.{shape_error_text, no_memory_text};
 
+use std::alloc::{AllocError, AllocFailed};
 use std::error::Error;
-use std::fmt;
 use std::marker::Model;
+use std::{fmt, io};
 
 /// The cause of a `ShapeError`.
 #[derive(Clone, Copy, Debug, PartialEq, Eq)]
@@ -102,3 +103,36 @@ impl fmt::Display for NoMemory {
 }
 
 impl Error for NoMemory {}
+
+/// So that `?` takes a refused request or a refused clone to this error.
+impl From<AllocError> for NoMemory {
+    fn from(_refused: AllocError) -> NoMemory {
+        NoMemory
+    }
+}
+
+/// So that `?` takes a refused `push` or a refused box to this error. The value is dropped.
+impl<T: Drop> From<AllocFailed<T>> for NoMemory {
+    fn from(_refused: AllocFailed<T>) -> NoMemory {
+        NoMemory
+    }
+}
+
+/// So that `?` takes this error to a function that only memory can fail.
+impl From<NoMemory> for AllocError {
+    fn from(_refused: NoMemory) -> AllocError {
+        AllocError
+    }
+}
+
+/// So that `?` takes this error to a function that reads or writes: its kind is `OutOfMemory`.
+impl From<NoMemory> for io::Error {
+    ghost use Rattle.std.specs.IoError.{error_kind};
+    ghost use Rattle.std.specs.declared.io.ErrorKind.TheVariants.{OutOfMemory};
+
+    ghost from_gives = { λ _ error. error_kind error ≡ OutOfMemory };
+
+    fn from(_refused: NoMemory) -> io::Error {
+        io::Error::from(io::ErrorKind::OutOfMemory)
+    }
+}

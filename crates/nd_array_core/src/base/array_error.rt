@@ -1,9 +1,11 @@
 //! Why a call was refused that can want memory.
 
-ghost use Rattle.std.specs.Prelude.{◌≡◌};
+ghost use Rattle.std.specs.Prelude.{◌≡◌, Some};
 ghost use Rattle.nd_array_core.specs.declared.base.array_error.ArrayError.TheVariants.{Shape, NoMemory as OutOfMemory};
 
 use nd_shape_and_slice::{NoMemory, ShapeError};
+use std::error::Error;
+use std::fmt;
 
 /// A shape that was refused, or memory that was.
 #[derive(Clone, Copy, Debug, PartialEq, Eq)]
@@ -13,6 +15,22 @@ pub enum ArrayError {
     /// Storage or a clone was refused.
     NoMemory,
 }
+
+/// Writes what the refused shape writes, or `out of memory`.
+impl fmt::Display for ArrayError {
+    ghost use Rattle.nd_array_core.specs.base.ErrorTexts.{array_error_text};
+
+    ghost output = { λ refused. Some (array_error_text refused) };
+
+    fn fmt<W: fmt::Write>(&self, f: &mut fmt::Formatter<W>) -> fmt::Result {
+        match self {
+            ArrayError::Shape(refused) => write!(f, "{refused}"),
+            ArrayError::NoMemory => write!(f, "{NoMemory}"),
+        }
+    }
+}
+
+impl Error for ArrayError {}
 
 impl From<NoMemory> for ArrayError {
     ghost from_gives = { λ _ error. error ≡ OutOfMemory };
