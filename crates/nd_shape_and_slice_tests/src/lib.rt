@@ -4,6 +4,8 @@
 #[cfg(test)]
 mod dimensions;
 #[cfg(test)]
+mod errors;
+#[cfg(test)]
 mod meeting_slices;
 #[cfg(test)]
 mod ranges;

@@ -1,0 +1,55 @@
+//! What errors write, which is what ndarray's do.
+
+use nd_shape_and_slice::{ErrorKind, NoMemory, ShapeError};
+use std::alloc::Global;
+use std::fmt::Display;
+
+const TEXTS: [(ErrorKind, &str); 6] = [
+    (
+        ErrorKind::IncompatibleShape,
+        "ShapeError/IncompatibleShape: incompatible shapes",
+    ),
+    (
+        ErrorKind::IncompatibleLayout,
+        "ShapeError/IncompatibleLayout: incompatible memory layout",
+    ),
+    (
+        ErrorKind::RangeLimited,
+        "ShapeError/RangeLimited: the shape does not fit in type limits",
+    ),
+    (
+        ErrorKind::OutOfBounds,
+        "ShapeError/OutOfBounds: out of bounds indexing",
+    ),
+    (
+        ErrorKind::Unsupported,
+        "ShapeError/Unsupported: unsupported operation",
+    ),
+    (
+        ErrorKind::Overflow,
+        "ShapeError/Overflow: arithmetic overflow",
+    ),
+];
+
+// Whether an error writes this text.
+fn writes<E: Display>(alloc: Global, error: &E, text: &str) -> bool {
+    match format!(in alloc; "{error}") {
+        Ok(written) => written.as_str() == text,
+        Err(_) => false,
+    }
+}
+
+// Whether each error writes its text.
+fn write_texts(alloc: Global) -> bool {
+    for (kind, text) in &TEXTS {
+        if !writes(alloc, &ShapeError::from_kind(*kind), *text) {
+            return false;
+        }
+    }
+    writes(alloc, &NoMemory, "out of memory")
+}
+
+#[test]
+fn texts_of_errors(rt: HostRuntime) {
+    assert!(rt; write_texts(rt.alloc()));
+}
