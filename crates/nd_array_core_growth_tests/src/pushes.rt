@@ -109,6 +109,9 @@ fn several_in_turn(rt: HostRuntime) {
     assert!(rt; none_behind(&mut rows) == (0, End::Done));
     assert!(rt; three_behind(&mut rows, &first, &second) == (1, End::Unfit));
     assert!(rt; is_stored(rows, [2, 2], &[1, 2, 3, 4], &[1, 2, 3, 4]));
+    let mut wide = table(&rt, (2, 3), &[1, 2, 3, 4, 5, 6]);
+    let none = table(&rt, (0, 2), &[]);
+    assert!(rt; three_behind(&mut wide, &none, &first) == (0, End::Unfit));
 }
 
 #[test]

@@ -35,6 +35,8 @@ fn vectors_and_iterators(rt: HostRuntime) {
     assert!(rt; lists(&same, &[7, 8]));
     let counted = Array::from_iter(rt.alloc(), 3..6u64).expect(&rt, "memory");
     assert!(rt; lists(&counted, &[3, 4, 5]));
+    let none = Array::from_iter(rt.alloc(), 3..3u64).expect(&rt, "memory");
+    assert!(rt; lists(&none, &[]));
 }
 
 #[test]

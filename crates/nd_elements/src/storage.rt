@@ -393,24 +393,12 @@ pub trait DataMut: Data {
 
 /// A storage that owns its elements. ndarray's `DataOwned`.
 pub trait DataOwned: Data {
-    /// A storage of a vector's elements, at the places from 0.
-    fn from_items(vector: Vec<Self::Elem>) -> Self
-        ensures items { Self.items result ≡ vector.items }
-        ensures elements { (place : ℕ) → Self.stored result place ≡ slice_get vector.items place };
-
     /// It owns them.
     ghost owns: { IsTrue Self.Data.owned };
 }
 
 impl<A> DataOwned for OwnedRepr<A> {
     ghost owns = { refl };
-
-    fn from_items(vector: Vec<A>) -> Self
-        ensures items { result.items.items ≡ vector.items }
-        ensures elements { (place : ℕ) → slice_get result.items.items place ≡ slice_get vector.items place }
-    {
-        OwnedRepr { items: vector }
-    }
 }
 
 impl<A> DataMut for OwnedRepr<A> {

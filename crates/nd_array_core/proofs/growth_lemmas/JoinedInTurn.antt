@@ -121,6 +121,16 @@ module _ {A : Type 0} where
   pub all_fit : (a : ℕ) (ns : List ℕ) (ms : List (Meaning A)) (count : ℕ) → FirstFit count a ns ms → length ms ≤ count → (nth : ℕ) (m : Meaning A) → slice_get ms nth ≡ Some m → FitsBehind ns m.shape a
   all_fit a ns ms count fit all nth m is = fit nth m (let below = slice_get_within ms nth m is in omega (arith, below, all)) is
 
+  below_count : (ms : List (Meaning A)) (count nth : ℕ) (m : Meaning A) → slice_get (take count ms) nth ≡ Some m → (nth < count) × (slice_get ms nth ≡ Some m)
+  below_count [] zero nth m is = absurd cc
+  below_count [] (suc count) nth m is = absurd cc
+  below_count (k ∷ ks) zero nth m is = absurd cc
+  below_count (k ∷ ks) (suc count) zero m is = (omega arith, is)
+  below_count (k ∷ ks) (suc count) (suc nth) m is = let next = below_count ks count nth m is in (let less = next.0 in omega (arith, less), next.1)
+
+  pub taken_fit : (a : ℕ) (ns : List ℕ) (ms : List (Meaning A)) (count : ℕ) → FirstFit count a ns ms → (nth : ℕ) (m : Meaning A) → slice_get (take count ms) nth ≡ Some m → FitsBehind ns m.shape a
+  taken_fit a ns ms count fit nth m is = let there = below_count ms count nth m is in fit nth m there.0 there.1
+
 -- ---- arrays that needn't be broadcast
 -- the lengths of the axis that have come don't matter
 alike_longer : (ns ms : List ℕ) (a x : ℕ) → a < length ns → IsAlikeBeside ns ms a → IsAlikeBeside (set ns a x) ms a

@@ -1,5 +1,5 @@
 -- What a new array has of the items or answers that it is made of.
-use Rattle.std.specs.Prelude.{◌≡◌, ℕ, List, [], ◌∷◌, Option, Result, IfOk, IsTrue}
+use Rattle.std.specs.Prelude.{◌≡◌, ℕ, List, [], ◌∷◌, Option, Some, Result, IfOk, IsTrue}
 use Rattle.std.specs.Fn.{Mut, Called}
 use Rattle.std.specs.Iterator.{Drains}
 use Rattle.nd_shape_and_slice.specs.Shape.{in_box}
@@ -21,6 +21,13 @@ module _ {F X A : Type 0} (g : Mut F (X × Unit {0}) A) (lengths_of : X → List
   -- at each index of the box a closure answers what `cell` gives of the row and column, and stays as it is
   abbrev pub AnswersCells : List ℕ → (ℕ → ℕ → A) → F → Type 0
   AnswersCells shape cell f = (x : X) (y : A) (f' : F) → IsTrue (in_box shape (lengths_of x)) → Called g f (x, tt) y f' → (f' ≡ f) × IsCell cell (lengths_of x) y
+
+-- asked for its first item, an iterator gives one; so does one that a source becomes
+abbrev pub GivesItem : {I A : Type 0} → (I → Option A → I → Type 0) → I → Type 0
+GivesItem {I} {A} gives it = (item : A) × (rest : I) × gives it (Some item) rest
+
+abbrev pub SourceGivesItem : {X I A : Type 0} → (X → I → Type 0) → (I → Option A → I → Type 0) → X → Type 0
+SourceGivesItem {X} {I} becomes gives source = (it : I) × becomes source it × GivesItem gives it
 
 module _ {D T A R : Type 0} {s : data_trait.Ghosts (OwnedRepr A) A} {d : dimension.Ghosts D R} {n : axis_count.Ghosts D} {r : stride_list.Ghosts R} {t : stride_list.Ghosts T} where
   -- the array owns a matrix of count rows and count columns, in row-major order

@@ -1,5 +1,5 @@
 -- What a view of a slice or of rows is.
-use Rattle.std.specs.Prelude.{◌≡◌, ◌<◌, ℕ, List, length, replicate, slice_get, Option, IsSome}
+use Rattle.std.specs.Prelude.{◌≡◌, ◌<◌, ℕ, pos, List, length, replicate, slice_get, Option, IsSome}
 use Rattle.nd_shape_and_slice.specs.declared.dimension.Dimension as dimension
 use Rattle.nd_shape_and_slice.specs.declared.dimension.AxisCount as axis_count
 use Rattle.nd_shape_and_slice.specs.declared.dimension.StrideList as stride_list
@@ -22,11 +22,15 @@ abbrev pub HoldsBelow : {A : Type 0} → ℕ → (ℕ → Option A) → Type 0
 HoldsBelow count stored = (place : ℕ) → place < count → IsSome (stored place)
 
 module _ {S D T A R : Type 0} {s : data_trait.Ghosts S A} {d : dimension.Ghosts D R} {n : axis_count.Ghosts D} {r : stride_list.Ghosts R} {t : stride_list.Ghosts T} where
+  -- all lengths and all strides are 0, for so many axes
+  abbrev pub IsAllZero : ℕ → ArrayBase S D T A R s d n r t → Type 0
+  IsAllZero axes a = (shape_of a ≡ replicate axes 0) × (layout_strides a ≡ replicate axes (pos 0))
+
   -- the elements xs under these lengths, in row-major order; without elements where the lengths have no checked size
   abbrev pub IsRowMajorOf : List ℕ → List A → ArrayBase S D T A R s d n r t → Type 0
   IsRowMajorOf ns xs view =
       (HasCheckedSize ns → (shape_of view ≡ ns) × (layout_strides view ≡ c_strides ns) × ((i : List ℕ) → element_at view i ≡ inside ns i (slice_get xs (row_rank ns i))))
-      × (¬ (HasCheckedSize ns) → shape_of view ≡ replicate (length ns) 0)
+      × (¬ (HasCheckedSize ns) → IsAllZero (length ns) view)
 
   -- the array shows at each index what a map has by the index's rank in an order, or at the place that a given shape says
   abbrev pub ShowsRanked : BuiltShape → (ℕ → Option A) → ArrayBase S D T A R s d n r t → Type 0

@@ -4,14 +4,14 @@
 ghost use Rattle.std.specs.Prelude.{◌≡◌, ◌*◌, ◌<◌, ◌≤◌, ◌^◌, ℕ, [], ◌∷◌, length, vec_len, vec_capacity};
 ghost use Rattle.std.specs.List.{flat_map};
 ghost use Rattle.nd_shape_and_slice.specs.Shape.{HasCheckedSize};
-ghost use Rattle.nd_array_core.specs.Meaning.{shape_of, place_at, storage_of};
+ghost use Rattle.nd_array_core.specs.Meaning.{place_at, storage_of};
 ghost use Rattle.std.specs.Borrow.{sem};
 ghost use Rattle.nd_region.specs.Region.{region_stored};
 ghost use Rattle.nd_region.specs.Lends.{slice_follows};
 ghost use Rattle.nd_shape_and_slice.specs.declared.builder.Order.TheVariants.{RowMajor};
 ghost use Rattle.nd_array_core.specs.Part.{ShowsWhole};
 ghost use Rattle.nd_array_core.specs.base.Fresh.{OwnsInOrder, OwnsVec};
-ghost use Rattle.nd_array_core.specs.base.Sources.{HoldsBelow, IsRowMajorOf, IsRowMajorIn};
+ghost use Rattle.nd_array_core.specs.base.Sources.{HoldsBelow, IsAllZero, IsRowMajorOf, IsRowMajorIn};
 ghost use Rattle.nd_array_core.specs.base.SliceLent.{rows_follow_view};
 
 use crate::base::array::{Array, ArrayBase, ArrayView, ArrayViewMut};
@@ -24,7 +24,7 @@ use nd_shape_and_slice::{Dimension, IntoDimension, Ix1, Ix2, Order, size_of_shap
 fn on_one_axis<S: Data>(storage: S, len: usize) -> ArrayBase<S, Ix1>
     requires { HoldsBelow len (S.stored storage) }
     ensures held { IsRowMajorIn (len ∷ []) (S.stored storage) result }
-    ensures empty { ¬ (HasCheckedSize (len ∷ [])) → shape_of result ≡ 0 ∷ [] }
+    ensures empty { ¬ (HasCheckedSize (len ∷ [])) → IsAllZero 1 result }
     ensures storage { storage_of result ≡ storage }
 {
     match size_of_shape_checked(&[len]) {
@@ -81,7 +81,7 @@ impl<'a, A> From<&'a [A]> for ArrayView<'a, A, Ix1> {
 fn region_on_one_axis<'a, A>(region: Region<'a, A>, len: usize) -> ArrayViewMut<'a, A, Ix1>
     requires { HoldsBelow len (region_stored region) }
     ensures held { IsRowMajorIn (len ∷ []) (region_stored region.entry) result }
-    ensures empty { ¬ (HasCheckedSize (len ∷ [])) → shape_of result ≡ 0 ∷ [] }
+    ensures empty { ¬ (HasCheckedSize (len ∷ [])) → IsAllZero 1 result }
     ensures region { (storage_of result).region ≡ region.entry }
 {
     on_one_axis(ViewMutRepr::of_region(region), len)
@@ -142,7 +142,7 @@ fn region_on_two_axes<'a, A>(
 ) -> ArrayViewMut<'a, A, Ix2>
     requires { HasCheckedSize (rows ∷ columns ∷ []) → HoldsBelow (rows * columns) (region_stored region) }
     ensures held { IsRowMajorIn (rows ∷ columns ∷ []) (region_stored region.entry) result }
-    ensures empty { ¬ (HasCheckedSize (rows ∷ columns ∷ [])) → shape_of result ≡ 0 ∷ 0 ∷ [] }
+    ensures empty { ¬ (HasCheckedSize (rows ∷ columns ∷ [])) → IsAllZero 2 result }
     ensures region { (storage_of result).region ≡ region.entry }
 {
     let storage = ViewMutRepr::of_region(region);

@@ -2,14 +2,14 @@
 #![tactic(auto)]
 
 ghost use Rattle.std.specs.Prelude.{◌≡◌, ◌<◌, [], ◌∷◌, length, replicate, IfOk, OnErr, vec_len, vec_capacity};
-ghost use Rattle.std.specs.Iterator.{IsFiniteIterable};
+ghost use Rattle.std.specs.Iterator.{Drains, IsFinite, IsFiniteIterable};
 ghost use Rattle.nd_shape_and_slice.specs.Shape.{size_of, HasCheckedSize};
 ghost use Rattle.nd_shape_and_slice.specs.declared.builder.Order.TheVariants.{RowMajor};
 ghost use Rattle.nd_array_core.specs.Meaning.{storage_of};
 ghost use Rattle.nd_elements.specs.Storages.{stored_list, room_of};
 ghost use Rattle.nd_array_core.specs.base.Fresh.{built_by, IsOnly, OwnsInOrder, ShowsOneValue, ShowsSuch};
 ghost use Rattle.nd_elements.specs.Clones.{ClonesAreEqual};
-ghost use Rattle.nd_array_core.specs.base.Makers.{StoresItemsOf};
+ghost use Rattle.nd_array_core.specs.base.Makers.{SourceGivesItem, GivesItem, StoresItemsOf};
 
 use crate::base::array::Array;
 use crate::base::from_shape::in_order;
@@ -28,6 +28,28 @@ pub(crate) fn of_items<A, D: Dimension>(items: Vec<A>, dim: D, order: Order) -> 
     ensures room { room_of (storage_of result) ≡ vec_capacity items }
 {
     in_order(OwnedRepr { items }, dim, order)
+}
+
+/// The items that an iterator gives, in their order. No memory is asked for before there is one.
+fn items_of<A: Drop, I: Iterator<Item = A>>(alloc: Global, iterator: I) -> Result<Vec<A>, NoMemory>
+    requires can { I.can_next iterator }
+    requires finite { IsFinite (I.remaining iterator) }
+    ensures items { IfOk result (λ v. Drains I.next_gives iterator v.items) }
+    ensures refused { OnErr result (GivesItem I.next_gives iterator) }
+{
+    let mut rest = iterator;
+    let Some(first) = rest.next() else {
+        return Ok(Vec::new(alloc));
+    };
+    let at_least = rest.size_hint().0.saturating_add(1);
+    let Ok(mut items) = Vec::with_capacity(alloc, at_least) else {
+        return Err(NoMemory);
+    };
+    items.push_reserved(first);
+    match items.extend(rest) {
+        Ok(()) => Ok(items),
+        Err(_) => Err(NoMemory),
+    }
 }
 
 impl<A, D: Dimension> Array<A, D> {
@@ -113,7 +135,7 @@ impl<A> Array<A, Ix1> {
     }
 
     /// An array of the items that an iterator gives, in their order along one axis; the iterator ends. NoMemory if the
-    /// storage is refused. ndarray's `from_iter`.
+    /// storage is refused; where the iterator gives no item, none is asked for. ndarray's `from_iter`.
     pub fn from_iter<I: IntoIterator<Item = A>>(
         alloc: Global,
         iterable: I,
@@ -123,10 +145,11 @@ impl<A> Array<A, Ix1> {
         requires { IsFiniteIterable I.into_iter_gives I.IntoIter.can_next I.IntoIter.remaining iterable }
         ensures owns { IfOk result (λ a. OwnsInOrder (length (stored_list (storage_of a)) ∷ [], RowMajor) a) }
         ensures items { IfOk result (StoresItemsOf I.into_iter_gives I.IntoIter.next_gives iterable) }
+        ensures refused { OnErr result (SourceGivesItem I.into_iter_gives I.IntoIter.next_gives iterable) }
     {
-        match Vec::from_iter(alloc, iterable) {
+        match items_of(alloc, iterable.into_iter()) {
             Ok(items) => Ok(Array::from_vec(items)),
-            Err(_) => Err(NoMemory),
+            Err(refused) => Err(refused),
         }
     }
 }

@@ -33,6 +33,7 @@ impl<A: Clone + Drop, D: Dimension> Array<A, D> {
         ensures ready { OnOk result (BecomesReady axis.0 (lengths_along axis.0 (meanings_of arrays.now)) self.old self.new) }
         ensures laid { OnOk result (IsGrownInTurn axis.0 (meanings_of arrays.now) self.old self.new) }
         ensures left { IfErr result (λ e. IsLeftInTurn axis.0 (take e.0 (meanings_of arrays.now)) self.old self.new e.1) }
+        ensures before { IfErr result (λ e. FitInTurn axis.0 (shape_of self.old) (take e.0 (meanings_of arrays.now))) }
         ensures enough { IfErr result (NeedsOnlyClonesInTurn A.is_infallible axis.0 self.old (meanings_of arrays.now)) }
         ensures fits { OnOk result (FitInTurn axis.0 (shape_of self.old) (meanings_of arrays.now)) }
         ensures fitting { FitInTurn axis.0 (shape_of self.old) (meanings_of arrays.now) → IfErr result LacksMemory }

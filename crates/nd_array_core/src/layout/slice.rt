@@ -113,7 +113,7 @@ impl<S: Data, D: Dimension> ArrayBase<S, D> {
 
     /// Keeps of each axis the slice that the closure returns for it. It is called for axis 0 first, and each slice fits
     /// its axis (`slice_fits`). ndarray's `slice_each_axis_inplace`.
-    pub fn slice_each_axis_inplace<F: FnMut(AxisDescription) -> Slice + Drop>(&mut self, f: F)
+    pub fn slice_each_axis_inplace<F: FnMut(AxisDescription) -> Slice>(&mut self, f: F)
         requires { AnswersFit F.pre F.step f (axes_of self.old) }
         ensures sliced { AnswersGive F.step f (axes_of self.old) (BecomesEachSliced self.old self.new) }
     {
@@ -122,7 +122,7 @@ impl<S: Data, D: Dimension> ArrayBase<S, D> {
 
     /// The view of what the closure returns for each axis. It is called for axis 0 first, and each slice fits its axis
     /// (`slice_fits`). ndarray's `slice_each_axis`.
-    pub fn slice_each_axis<F: FnMut(AxisDescription) -> Slice + Drop>(
+    pub fn slice_each_axis<F: FnMut(AxisDescription) -> Slice>(
         &self,
         f: F,
     ) -> ArrayView<'_, S::Elem, D>
@@ -176,7 +176,7 @@ impl<S: DataMut, D: Dimension> ArrayBase<S, D> {
     /// each slice fits its axis (`slice_fits`). ndarray's `slice_each_axis_mut`. Once the view is over, a caller knows
     /// of the array what it knows after `view_mut`, and that each index that the view doesn't name shows what it
     /// showed.
-    pub fn slice_each_axis_mut<F: FnMut(AxisDescription) -> Slice + Drop>(
+    pub fn slice_each_axis_mut<F: FnMut(AxisDescription) -> Slice>(
         &mut self,
         f: F,
     ) -> ArrayViewMut<'_, S::Elem, D>

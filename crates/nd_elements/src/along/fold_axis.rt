@@ -1,7 +1,8 @@
 //! The lanes of an axis, each folded into a value.
 
-ghost use Rattle.std.specs.Prelude.{◌≡◌, ◌<◌, ◌≤◌, [], IfOk, OnErr, vec_len, vec_capacity};
+ghost use Rattle.std.specs.Prelude.{◌≡◌, ◌≤◌, [], IfOk, OnErr, vec_len, vec_capacity};
 ghost use Rattle.nd_layout.specs.Lanes.{along};
+ghost use Rattle.nd_elements.specs.CloneRefusals.{MayRefuseClonesOf};
 ghost use Rattle.nd_elements.specs.Clones.{ClonesAreEqual};
 ghost use Rattle.nd_elements.specs.NumberedPlaces.{Holds, elements_at};
 ghost use Rattle.nd_elements.specs.along.AxisLanes.{LanesHold};
@@ -49,7 +50,7 @@ fn fold_in_turn<S: Data, B: Clone + Drop, F: FnMut(&B, &S::Elem) -> B>(
     requires callable { LanesFoldable F.FnMut S.stored (lanes_in lanes) storage.now init.now f }
     ensures count { IfOk result (λ v. vec_len v ≡ lanes.entry.lanes) }
     ensures folds { IfOk result (FoldsEachLane F.FnMut S.stored lanes.entry storage.now init.now f) }
-    ensures refused { OnErr result (0 < lanes.entry.lanes) }
+    ensures refused { OnErr result (MayRefuseClonesOf B.is_infallible init.now lanes.entry.lanes) }
 {
     let mut walk = Walk::new(
         lanes.firsts.first,
@@ -93,7 +94,7 @@ pub fn fold_lanes<S: Data, B: Clone + Drop, F: FnMut(&B, &S::Elem) -> B>(
     requires callable { LanesFoldable F.FnMut S.stored (lanes_in lanes) storage.now init.now f }
     ensures count { IfOk result (λ v. vec_len v ≡ lanes.entry.lanes) }
     ensures folds { IfOk result (FoldsEachLane F.FnMut S.stored lanes.entry storage.now init.now f) }
-    ensures refused { OnErr result (0 < lanes.entry.lanes) }
+    ensures refused { OnErr result (MayRefuseClonesOf B.is_infallible init.now lanes.entry.lanes) }
 {
     if lanes.are_beside() {
         let starts = clones_in(room, init, lanes.lanes)?;

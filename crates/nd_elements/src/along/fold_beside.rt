@@ -1,6 +1,7 @@
 //! The lanes of an axis folded together, a coordinate after the other, where the elements at each are side by side.
 
 ghost use Rattle.std.specs.Prelude.{◌≡◌, ◌<◌, ◌≤◌, ℕ, [], Some, IfOk, OnErr, length, slice_get, vec_len, vec_capacity};
+ghost use Rattle.nd_elements.specs.CloneRefusals.{MayRefuseClonesOf};
 ghost use Rattle.nd_elements.specs.Clones.{ClonesAreEqual};
 ghost use Rattle.nd_elements.specs.along.AxisLanes.{lanes_beside, LanesHold};
 ghost use Rattle.nd_elements.specs.along.LanesFolded.{FoldsSlice, TakesBeside, FoldableFrom, FoldedFrom};
@@ -19,7 +20,7 @@ pub(crate) fn clones_in<B: Clone + Drop>(
     requires room { count ≤ vec_capacity room }
     requires clones { ClonesAreEqual B.is_clone value.now }
     ensures count { IfOk result (λ v. vec_len v ≡ count) }
-    ensures refused { OnErr result (0 < count) }
+    ensures refused { OnErr result (MayRefuseClonesOf B.is_infallible value.now count) }
     ensures items { IfOk result (λ v. (k : ℕ) → k < count → slice_get v.items k ≡ Some value.now) }
 {
     let mut items = room;

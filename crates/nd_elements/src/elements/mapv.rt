@@ -1,9 +1,10 @@
 //! What a closure returns for a clone of each element, in a vector.
 
-ghost use Rattle.std.specs.Prelude.{◌≡◌, ◌+◌, ◌<◌, ◌≤◌, [], length, pos, IfOk, OnErr, vec_len, vec_capacity};
+ghost use Rattle.std.specs.Prelude.{◌≡◌, ◌+◌, ◌≤◌, [], length, pos, slice_get, IfOk, OnErr, vec_len, vec_capacity};
 ghost use Rattle.nd_layout.specs.Lanes.{along, ranked};
+ghost use Rattle.nd_elements.specs.CloneRefusals.{MayRefuseBelow};
 ghost use Rattle.nd_elements.specs.Clones.{StoredClonesAreEqual};
-ghost use Rattle.nd_elements.specs.NumberedPlaces.{ClonesAreEqualAt, Holds};
+ghost use Rattle.nd_elements.specs.NumberedPlaces.{ClonesAreEqualAt, Holds, MayRefuseAt};
 ghost use Rattle.nd_elements.specs.elements.Maps.{AnswersValues, MayGiveEach, MayGiveItems, PushesItems, PushesValues};
 
 use crate::storage::Data;
@@ -23,7 +24,7 @@ pub fn value_run<A: Clone, B, F: FnMut(A) -> B>(
     ensures pushed { IfOk result (PushesItems F.FnMut xs.now f items.old items.new) }
     ensures len { IfOk result (λ _. vec_len items.new ≡ vec_len items.old + length xs.now) }
     ensures room { vec_capacity items.new ≡ vec_capacity items.old }
-    ensures refused { OnErr result (0 < length xs.now) }
+    ensures refused { OnErr result (MayRefuseBelow A.is_infallible (slice_get xs.now) (length xs.now)) }
 {
     for nth in 0..xs.len() {
         match xs[nth].clone() {
@@ -50,7 +51,7 @@ where
     ensures pushed { IfOk result (PushesValues F.FnMut S.stored (along lane) storage.now f items.old items.new) }
     ensures len { IfOk result (λ _. vec_len items.new ≡ vec_len items.old + lane.count) }
     ensures room { vec_capacity items.new ≡ vec_capacity items.old }
-    ensures refused { OnErr result (0 < lane.count) }
+    ensures refused { OnErr result (MayRefuseAt S.Elem.is_infallible S.stored (along lane) storage.now) }
 {
     // A region in hand: what a write may not change isn't read anew for each element.
     let region = storage.borrowed();
@@ -80,7 +81,7 @@ where
     ensures pushed { IfOk result (PushesValues F.FnMut S.stored (along lane) storage.now f items.old items.new) }
     ensures len { IfOk result (λ _. vec_len items.new ≡ vec_len items.old + lane.count) }
     ensures room { vec_capacity items.new ≡ vec_capacity items.old }
-    ensures refused { OnErr result (0 < lane.count) }
+    ensures refused { OnErr result (MayRefuseAt S.Elem.is_infallible S.stored (along lane) storage.now) }
 {
     let run = storage.borrowed().run(lane.place, lane.count);
     value_run(items, run, f)
@@ -102,7 +103,7 @@ where
     ensures pushed { IfOk result (PushesValues F.FnMut S.stored (along lane) storage.now f items.old items.new) }
     ensures len { IfOk result (λ _. vec_len items.new ≡ vec_len items.old + lane.count) }
     ensures room { vec_capacity items.new ≡ vec_capacity items.old }
-    ensures refused { OnErr result (0 < lane.count) }
+    ensures refused { OnErr result (MayRefuseAt S.Elem.is_infallible S.stored (along lane) storage.now) }
 {
     if lane.stride == 1 {
         return value_beside(items, storage, lane, f);
@@ -126,7 +127,7 @@ where
     requires callable { MayGiveEach F.FnMut S.stored (ranked places) storage.now f }
     ensures answers { IfOk result (AnswersValues F.FnMut S.stored (ranked places.entry) storage.now f) }
     ensures count { IfOk result (λ r. vec_len r.1 ≡ (ranked places.entry).count) }
-    ensures refused { OnErr result (0 < (ranked places.entry).count) }
+    ensures refused { OnErr result (MayRefuseAt S.Elem.is_infallible S.stored (ranked places.entry) storage.now) }
 {
     let mut items = room;
     let mut now = f;

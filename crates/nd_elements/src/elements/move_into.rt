@@ -157,6 +157,7 @@ where
     ensures moved { ShowsSame S.stored Z.stored storage.new layout.now others.old beside.now }
     ensures holds { HoldsShown S.stored storage.new layout.now }
     ensures others { LeavesOthers S.stored layout.now storage.old storage.new }
+    ensures beside { LeavesOthers Z.stored beside.now others.old others.new }
     ensures frame { S.frame storage.new ≡ S.frame storage.old }
 {
     if !is_worth_turning(layout, beside) {

@@ -210,7 +210,7 @@ impl<D: Dimension, T: StrideList> Layout<D, T> {
 
 impl<D: Dimension, T: StrideList> Layout<D, T> {
     /// Keeps of each axis the slice that the closure returns. It is called for axis 0 first.
-    pub fn slice_each_axis<F: FnMut(AxisDescription) -> Slice + Drop>(&mut self, mut f: F)
+    pub fn slice_each_axis<F: FnMut(AxisDescription) -> Slice>(&mut self, mut f: F)
         requires { AnswersFit F.pre F.step f (axes_from 0 (D.lengths self.old.dim) (T.strides_of self.old.strides)) }
         ensures sliced { IsEachSliced F.step f (placement_of self.old) (placement_of self.new) }
         ensures empty { size_of (D.lengths self.old.dim) ≡ 0 → self.new.offset ≡ self.old.offset }

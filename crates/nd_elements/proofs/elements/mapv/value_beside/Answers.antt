@@ -4,8 +4,9 @@ use Rattle.std.specs.Prelude.{is_some, slice_get}
 use Rattle.nd_layout.specs.Lanes.{along}
 use Rattle.nd_elements.specs.NumberedPlaces.{elements_at}
 use Rattle.nd_elements.specs.elements.Maps.{AnswersValue, MayBeGiven, AnswersBehind, TakesNumbered}
-use Rattle.nd_elements.proofs.Collecting.{beside_has}
+use Rattle.nd_elements.proofs.Collecting.{beside, beside_has}
 use Rattle.nd_elements.proofs.Mapped.{got_below, beside_found, behind_alike, takes_alike}
+use Rattle.nd_elements.proofs.RunsBehind.{run_refuses}
 use Rattle.nd_elements.proofs.elements.mapv.value_beside.Goals as goal
 
 pub run-run-requires : goal.run-run-requires
@@ -42,3 +43,11 @@ value_run-requires-clause-clones g c p x e =
     let same : (k : ℕ) → k < lane.count → slice_get xs k ≡ elements_at g.S.Data.stored (along lane) c.args.storage.now k = beside_found stored lane.place lane.count lane.stride c.requires.beside xs c.run-run.ensures.count (λ k d below. sym (c.borrowed.ensures (lane.place + k)) ∙ c.run-run.ensures.elements k d below) in
     let below = subst (λ n. p < n) c.run-run.ensures.count (got_below xs p x e) in
     c.requires.clones p x below (sym (same p below) ∙ e)
+
+pub returns-clause-refused : goal.returns-clause-refused
+returns-clause-refused g c =
+    let lane = c.args.lane in
+    let stored = g.S.Data.stored c.args.storage.now in
+    run_refuses c.run-run.result.now (elements_at g.S.Data.stored (along lane) c.args.storage.now) lane.count c.run-run.ensures.count
+    (λ k d below. beside stored lane.place k lane.stride c.requires.beside ∙ (sym (c.borrowed.ensures (lane.place + k)) ∙ c.run-run.ensures.elements k d below))
+    c.value_run.result g.S.Elem.Clone.is_infallible c.value_run.ensures.refused

@@ -35,3 +35,9 @@ returns-clause-pushed g c =
     let within = c.loop-nth.auto.nth-end in
     let all : c.loop-nth.nth ≡ c.args.lane.count = omega (arith, ended, within) in
     subst (λ n. AnswersBehind (AnswersValue g.F.FnMut) (elements_at g.S.Data.stored (along c.args.lane) c.args.storage.now) n c.args.items.now.items c.loop-nth.items.items c.args.f c.loop-nth.f) all c.loop-nth.invariant.0
+
+pub returns-in-Err-clause-refused : goal.returns-in-Err-clause-refused
+returns-in-Err-clause-refused g c =
+    let x = c.element.result.now in
+    let there : elements_at g.S.Data.stored (along c.args.lane) c.args.storage.now c.loop-nth.nth ≡ Some x = ap (stored_at (g.S.Data.stored c.args.storage.now)) (sym c.place_of.ensures) ∙ (sym (c.borrowed-region.ensures c.place_of.result) ∙ c.element.ensures) in
+    (c.loop-nth.nth, x, c.loop-nth-test.true, there, c.in-Err.ensures.cases)

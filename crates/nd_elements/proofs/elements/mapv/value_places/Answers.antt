@@ -5,7 +5,7 @@ use Rattle.nd_layout.proofs.LanesOf.{go_on, lane_of, all_through}
 use Rattle.nd_elements.specs.NumberedPlaces.{elements_at}
 use Rattle.nd_elements.specs.Places.{stored_at}
 use Rattle.nd_elements.specs.elements.Maps.{AnswersValue, MayBeGiven, AnswersBehind}
-use Rattle.nd_elements.proofs.LanePart.{some_place, lane_clones, lane_holds, room_first}
+use Rattle.nd_elements.proofs.LanePart.{lane_clones, lane_holds, lane_refused, room_first}
 use Rattle.nd_elements.proofs.Mapped.{behind_none, behind_ran, behind_then, takes_later}
 use Rattle.nd_elements.proofs.elements.mapv.value_places.Goals as goal
 
@@ -56,7 +56,8 @@ returns-clause-answers g c =
     subst (λ n. AnswersBehind (AnswersValue g.F.FnMut) found n [] c.loop-lane.items.items c.args.f c.loop-lane.now) (all_through c.args.places c.loop-lane.lanes so_far.0 c.in_default.ensures.lane.0) so_far.1
 
 pub returns-in-Err-clause-refused : goal.returns-in-Err-clause-refused
-returns-in-Err-clause-refused g c = some_place c.args.places c.loop-lane.lanes c.in-Some.lane c.loop-lane.invariant.0 c.in-Some.ensures.lane.0
+returns-in-Err-clause-refused g c =
+    lane_refused c.args.places c.loop-lane.lanes c.in-Some.lane c.loop-lane.invariant.0 c.in-Some.ensures.lane.0 (g.S.Data.stored c.args.storage.now) g.S.Elem.Clone.is_infallible c.in-Err.ensures.refused
 
 pub returns-clause-count : goal.returns-clause-count
 returns-clause-count g c = let so_far = c.loop-lane.invariant in so_far.2 ∙ all_through c.args.places c.loop-lane.lanes so_far.0 c.in_default.ensures.lane.0

@@ -29,3 +29,8 @@ pub returns-clause-pushed : goal.returns-clause-pushed
 returns-clause-pushed g c =
     let through : c.loop-nth.nth ≡ length c.args.xs.now = omega arith in
     subst (λ n. AnswersBehind (AnswersValue g.F.FnMut) (slice_get c.args.xs.now) n c.args.items.now.items c.loop-nth.items.items c.args.f c.loop-nth.f) through c.loop-nth.invariant.0
+
+pub returns-in-Err-clause-refused : goal.returns-in-Err-clause-refused
+returns-in-Err-clause-refused g c =
+    let x = c.index-xs-nth.result in
+    (c.loop-nth.nth, x, c.loop-nth-test.true, got_there c.args.xs.now c.loop-nth.nth x c.loop-nth-test.true c.index-xs-nth.is, c.in-Err.ensures.cases)

@@ -12,6 +12,7 @@ use Rattle.nd_shape_and_slice.proofs.fixed.Dim.TheLaws.{the_row_laws as dim_laws
 use Rattle.nd_region.specs.Region.{IsWhole, region_stored}
 use Rattle.nd_region.specs.contracts.region.Region.{the_row as region_row}
 use Rattle.nd_region.proofs.region.Region.TheLaws.{the_row_laws as region_laws}
+use Rattle.nd_array_core.specs.base.Sources.{IsAllZero}
 use Rattle.nd_array_core.specs.Meaning.{shape_of, element_at, layout_strides, storage_of}
 use Rattle.nd_elements.specs.Meaning.{inside}
 use Rattle.nd_elements.specs.contracts.storage.RegionRepr.{the_row as storage_row}
@@ -78,7 +79,7 @@ from_spec 𝓤 𝓛 𝓜 𝓡 wired A lA =
     calls_at ! (framed 𝓤 H 𝓜 𝓣) V-triple (view_met 𝓤 𝓛 𝓜 𝓡 (code.calls-nd_array_core::base::from::region_on_one_axis 𝓡.env wired) A lA) z₂
     (and_then ! (get ! refl) (and_then ! (get ! refl) (no_more !))) (λ v'.
     let Held : View.Denot → Type 0 = λ r. HasCheckedSize (n ∷ []) → (shape_of r ≡ n ∷ []) × (layout_strides r ≡ c_strides (n ∷ [])) × ((i : List ℕ) → element_at r i ≡ inside (n ∷ []) i (region_stored x (row_rank (n ∷ []) i))) in
-    let Empty : View.Denot → Type 0 = λ r. (HasCheckedSize (n ∷ []) → ⊥) → shape_of r ≡ 0 ∷ [] in
+    let Empty : View.Denot → Type 0 = λ r. (HasCheckedSize (n ∷ []) → ⊥) → IsAllZero 1 r in
     use1 𝓛 (later (some (λ (r : View.Denot). ((‵ (flft κ q) ⊛ ‵ (flft κA qA) ⊛ ‵ ftrue) ⊛ ‵ (View.own_val r (v' ∷ []))) ⊛
     some (λ (ws : Lasts V-ended κs (x, (n, tt))). ‵ (lasts V-ended κs (x, (n, tt)) ws) ⊛ raw (fact 𝓤 (Held r)) ⊛ raw (fact 𝓤 (Empty r)) ⊛ raw (fact 𝓤 ((storage_of r).region ≡ x)))))) (id⊢ 𝓤 _) $ await ! tt $ pick ! (λ r.
     split ! $ move ! (1 ∷ []) $ pick ! (λ ws. split ! $ drop ! $ split ! $ heard ! (Held r) (λ held. split ! $ heard ! (Empty r) (λ empty. heard ! ((storage_of r).region ≡ x) (λ is.

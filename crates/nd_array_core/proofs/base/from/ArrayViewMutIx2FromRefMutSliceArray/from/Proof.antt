@@ -25,6 +25,7 @@ use Rattle.nd_elements.proofs.storage.RegionRepr.TheLaws.{the_row_laws as storag
 use Rattle.nd_elements.specs.contracts.storage.ViewMutReprData.TheImpl as view_impl
 use Rattle.nd_array_core.proofs.base.array.ArrayBase.TheLaws.{the_row_laws as array_laws_of}
 use Rattle.nd_array_core.specs.base.SliceLent.{rows_rewritten}
+use Rattle.nd_array_core.specs.base.Sources.{IsAllZero}
 use Rattle.nd_array_core.proofs.lending.RowsLent.{first_lent, lends_first}
 use Rattle.nd_array_core.proofs.lending.RowsView.{rows_counted, rows_held, rows_have}
 use Rattle.nd_region.specs.contracts.region.Region.from_rows as O
@@ -143,7 +144,7 @@ module _ (A : RattleType) (n : ℕ) where
         Held r = HasCheckedSize ns → (shape_of r ≡ ns) × (layout_strides r ≡ c_strides ns) × ((i : List ℕ) → element_at r i ≡ inside ns i (region_stored x (row_rank ns i)))
 
         abbrev Empty : (View κs).Denot → Type 0
-        Empty r = (HasCheckedSize ns → ⊥) → shape_of r ≡ 0 ∷ 0 ∷ []
+        Empty r = (HasCheckedSize ns → ⊥) → IsAllZero 2 r
 
         abbrev z₃ : Val → V-triple.Ghost
         z₃ v = (((κ, (κA, tt)), (q, (qA, tt)), (bounds.0, tt), (x, (len, (n, tt))), (v ∷ [], (vint w64 len ∷ [], (vint w64 n ∷ [], tt)))), tt)
@@ -220,7 +221,7 @@ module _ (A : RattleType) (n : ℕ) where
             split ! $ move ! (1 ∷ []) $ peeks ! (View κs) (Is (View κs)) (shows 𝓛 (View κs)) r (v₂ ∷ []) (λ typed₂. lands_as ! refl refl (views.typed r (v₂ ∷ []) typed₂).0 $
             -- [the view; the tokens; N's; what the rows follow]
             rewrite ! 3 (λ (g : (Rg κs).Denot). ‵ (follows (Array Row 0) (Array R 0) γ g.name (λ ws. rows_rewritten n k ys ws))) (sym region) refl $
-            rewrite ! 3 (λ (j : ℕ). ‵ (follows (Array Row 0) (Array R 0) γ (storage_of r).region.name (λ ws. rows_rewritten n j ys ws))) (rows_counted ns (shape_of r) (n ∷ []) len k all none (λ checked. (held checked).0) empty) refl $
+            rewrite ! 3 (λ (j : ℕ). ‵ (follows (Array Row 0) (Array R 0) γ (storage_of r).region.name (λ ws. rows_rewritten n j ys ws))) (rows_counted ns (shape_of r) (n ∷ []) len k all none (λ checked. (held checked).0) (λ not. (empty not).0)) refl $
             returns ! (look_at ! 0 refl) $ free_all ! refl $
             move ! (1 ∷ []) $ split3 ! $ move ! (4 ∷ []) $ split ! $ keep ! (5 ∷ 2 ∷ 3 ∷ 0 ∷ 6 ∷ []) $
             suffices ! _ (ends_at 𝓛 En hs clauses y v₂ r (tt, tt) (tt, tt)) $

@@ -14,7 +14,7 @@ use Rattle.nd_array_core.specs.growth.InTurn.{joined_in_turn, lengths_along, mea
 use Rattle.nd_array_core.proofs.growth_lemmas.Appending.{same_at}
 use Rattle.nd_array_core.proofs.growth_lemmas.GoneOn.{grown_last, goes_left, goes_nowhere, goes_then, leaves_none, leaves_then, ready_then, room_then, still_then}
 use Rattle.nd_array_core.proofs.growth_lemmas.GrownArrays.{room_within}
-use Rattle.nd_array_core.proofs.growth_lemmas.JoinedInTurn.{all_fit, each_mapped, in_box-grown, joined_more, lengths_more, lengths_within, mapped_get, none_fit, one_more_fits, only_memory, shape_in_turn, take_next, turn_alike}
+use Rattle.nd_array_core.proofs.growth_lemmas.JoinedInTurn.{all_fit, each_mapped, in_box-grown, joined_more, lengths_more, lengths_within, mapped_get, none_fit, one_more_fits, only_memory, shape_in_turn, take_next, taken_fit, turn_alike}
 use Rattle.nd_array_core.proofs.growth.append_each.Array+A+D.append_each.Goals as goal
 
 nothing_there : {X : Type 0} (xs : List X) (nth : ℕ) → nth < length xs → xs ≡ [] → ⊥
@@ -62,6 +62,17 @@ returns-in-Err-clause-kept g c = c.in-Err.ensures.kept ∙ c.loop-nth.invariant.
 
 pub returns-in-Err-clause-goes_on : goal.returns-in-Err-clause-goes_on
 returns-in-Err-clause-goes_on g c ready = goes_left c.args.axis.0 c.args.self.now c.loop-nth.self c.append.new.self c.in-Err.refused c.in-Err.ensures.left (c.loop-nth.invariant.2 ready)
+
+pub returns-in-Err-clause-before : goal.returns-in-Err-clause-before
+unfolding meaning_of
+returns-in-Err-clause-before g c =
+    let axis = c.args.axis.0 in
+    let old = c.args.self.now in
+    let ms = meanings_of c.args.arrays.now in
+    let nth = c.loop-nth.nth in
+    let so_far = c.loop-nth.invariant in
+    let shape = ap (λ m. m.shape) so_far.1 ∙ shape_in_turn axis (meaning_of old) (take nth ms) c.requires.axis in
+    (taken_fit axis (shape_of old) ms nth so_far.8, subst HasCheckedSize shape c.loop-nth.self.layout.checked)
 
 pub returns-in-Err-clause-enough : goal.returns-in-Err-clause-enough
 returns-in-Err-clause-enough g c for_all =
