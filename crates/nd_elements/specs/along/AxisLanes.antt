@@ -1,5 +1,5 @@
 -- The lanes of an axis: the places that differ in its coordinate alone, by the place of the first of them.
-use Rattle.std.specs.Prelude.{◌≡◌, ◌+◌, ◌*◌, ◌<◌, ◌^◌, ℕ, ℤ, pos, ◌+ℤ◌, ◌*ℤ◌, List, Option, slice_index, IsTrue}
+use Rattle.std.specs.Prelude.{◌≡◌, ◌+◌, ◌*◌, ◌<◌, ◌^◌, ℕ, ℤ, pos, ◌+ℤ◌, ◌*ℤ◌, List, Option, MatchOption, slice_index, IsTrue}
 use Rattle.nd_shape_and_slice.specs.Shape.{in_box, size_of, index_at}
 use Rattle.nd_shape_and_slice.specs.Place.{place_of}
 use Rattle.nd_shape_and_slice.specs.Maps.{indexed_shape, indexed_index, collapsed_shape, collapsed_index}
@@ -60,6 +60,14 @@ LanesDiffer at = LanesDistinct at.place at.lanes at.count
 -- a storage holds an element at each of them
 abbrev pub LanesHold : {S A : Type 0} → (S → ℕ → Option A) → LanePlaces → S → Type 0
 LanesHold stored at s = (r k : ℕ) → r < at.lanes → k < at.count → IsTrue (names_place (stored s) (at.place r k))
+
+-- a lane is the one of that number
+abbrev pub IsLaneAt : LanePlaces → ℕ → Lane → Type 0
+IsLaneAt at r lane = (r < at.lanes) × (lane.count ≡ at.count) × ((k : ℕ) → pos lane.place +ℤ (pos k *ℤ lane.stride) ≡ at.place r k)
+
+-- after so many lanes comes the next, and they are one more then; none once all are through
+abbrev pub GivesLaneInTurn : LanePlaces → ℕ → ℕ → Option Lane → Type 0
+GivesLaneInTurn at old new next = MatchOption next (old ≡ at.lanes) (λ lane. IsLaneAt at old lane × (new ≡ old + 1))
 
 -- one lane for each index of a shape, in row-major order, and one place there for each coordinate of the axis: that of the
 -- layout's index which the map gives of both

@@ -29,10 +29,7 @@ pub fn lanes_along<'a, D: Dimension, T: StrideList, E: Dimension, U: StrideList>
 }
 
 /// A layout of the first places of an axis' lanes that keeps the axis, with length 1.
-pub fn first_of_each<D: Dimension, T: StrideList>(
-    layout: &Layout<D, T>,
-    axis: Axis,
-) -> Layout<D, T>
+pub fn first_of_each<D: Dimension, T: StrideList>(layout: &Layout<D, T>, axis: Axis) -> Layout<D, T>
     requires axis { axis.0 < length (D.lengths layout.now.dim) }
     requires some { 0 < slice_index (D.lengths layout.now.dim) axis.0 }
     ensures lengths { D.lengths result.dim ≡ collapsed_shape (D.lengths layout.now.dim) axis.0 }
