@@ -1,5 +1,4 @@
 pub mod AxisAccumulating
-pub mod AxisFolding
 pub mod Selecting
 pub mod AxisNumbers
 pub mod AxisFolds

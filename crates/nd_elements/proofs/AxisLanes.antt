@@ -1,5 +1,5 @@
 -- The lanes of an axis, by the ranks of their first places and by the array's indexes.
-use Rattle.std.proofs.Common.{◌≡◌, ℕ, ◌+◌, ◌<◌, ◌^◌, true, List, ℤ, pos, ◌+ℤ◌, ◌*ℤ◌, ap, sym, ◌∙◌, arith, min}
+use Rattle.std.proofs.Common.{◌≡◌, ℕ, ◌+◌, ◌<◌, ◌^◌, true, List, ℤ, pos, ◌+ℤ◌, ◌*ℤ◌, ap, sym, subst, ◌∙◌, arith}
 use Rattle.std.specs.Prelude.{nat_lt}
 use Rattle.std.proofs.lemmas.Bool.Decides.{nat_tests}
 use Rattle.nd_shape_and_slice.specs.Shape.{size_of, index_at}
@@ -8,7 +8,10 @@ use Rattle.nd_layout.proofs.Integers.{sums, zero-mul}
 use Rattle.nd_layout.specs.Places.{is_place}
 use Rattle.nd_layout.specs.Ranks.{IsStandard}
 use Rattle.nd_layout.specs.Walk.{place_at_rank}
-use Rattle.nd_elements.specs.along.AxisLanes.{lane_place}
+use Rattle.nd_layout.specs.declared.lanes.Lane.{Lane}
+use Rattle.nd_elements.specs.declared.along.axis_lanes.AxisLanes.{AxisLanes}
+use Rattle.nd_elements.specs.along.AxisLanes.{lane_place, IsLaneAt}
+use Rattle.nd_elements.specs.along.LanesIn.{lanes_in}
 
 -- the first place of a lane is one
 pub lane_starts : (place count : ℕ) (stride : ℤ) → ((k : ℕ) → k < count → is_place (pos place +ℤ (pos k *ℤ stride)) ≡ true) → 0 < count → place < 2 ^ 63
@@ -19,16 +22,9 @@ lane_starts place count stride reach some =
     let test : nat_lt place (2 ^ 63) ≡ true = is in
     grind (arith, nat_tests, test)
 
--- its places are those of the lane of a rank
-pub lane_goes : (first : ℕ) (ls : List ℕ) (ss : List ℤ) (stride : ℤ) (r place start : ℕ) (s : ℤ) → start ≡ place → s ≡ stride → pos place ≡ place_at_rank first ls ss r
-    → (k : ℕ) → pos start +ℤ (pos k *ℤ s) ≡ lane_place first ls ss stride r k
-lane_goes first ls ss stride r place start s starts strides at k =
-    let here : pos start ≡ place_at_rank first ls ss r = ap pos starts ∙ at in
-    λ i. here i +ℤ (pos k *ℤ strides i)
-
--- the walk's next rank
-pub next_rank : (r n next : ℕ) → r < n → next ≡ min (r + 1) n → next ≡ r + 1
-next_rank r n next below e = omega (arith, below, e)
+-- a lane in turn is that of the whole's next number
+pub lane_in_turn : {turned whole : AxisLanes} {rank : ℕ} (lane : Lane) → turned ≡ whole → IsLaneAt (lanes_in turned) rank lane → IsLaneAt (lanes_in whole) rank lane
+lane_in_turn {rank = rank} lane same is = subst (λ lanes. IsLaneAt (lanes_in lanes) rank lane) same is
 
 -- in the standard layout the place of a rank is as far behind the first
 pub rank_beside : (offset : ℕ) (ns : List ℕ) (ss : List ℤ) → IsStandard ns ss → (k : ℕ) → k < size_of ns → place_at_rank offset ns ss k ≡ pos (offset + k)

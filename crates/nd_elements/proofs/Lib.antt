@@ -2,6 +2,7 @@ pub mod Accumulating
 pub mod Answered
 pub mod Assigned
 pub mod AxisLanes
+pub mod LanesAlong
 pub mod Changed
 pub mod Clones
 pub mod Collecting

@@ -5,46 +5,65 @@ use Rattle.std.specs.Borrow.{Bor, MutBor}
 use Rattle.std.specs.Fn.{Mut}
 use Rattle.std.proofs.lemmas.List.{length-set, set-set, set-get_or, get_or-set_same}
 use Rattle.nd_shape_and_slice.specs.Shape.{in_box, size_of, row_rank, index_at}
-use Rattle.nd_shape_and_slice.specs.Maps.{collapsed_shape, collapsed_index}
-use Rattle.nd_shape_and_slice.specs.Place.{place_of, IsSeparated}
+use Rattle.nd_shape_and_slice.specs.Maps.{collapsed_shape}
+use Rattle.nd_shape_and_slice.specs.Place.{place_of}
 use Rattle.nd_shape_and_slice.proofs.Boxes.{coordinate_below}
 use Rattle.nd_shape_and_slice.proofs.RowMajor.{length-in_box, row_rank_below}
 use Rattle.nd_shape_and_slice.proofs.RankIndexes.{in_box-index_at, index_at-row_rank}
 use Rattle.nd_layout.proofs.Distinct.{in_box-set}
-use Rattle.nd_layout.specs.Steps.{IsStep}
+use Rattle.nd_layout.specs.Placements.{Placement, KeepsApart}
 use Rattle.nd_elements.specs.Meaning.{inside}
 use Rattle.nd_elements.specs.Places.{stored_at, names_place, place_number, HoldsAll}
 use Rattle.nd_elements.specs.elements.Pairs.{option_both}
-use Rattle.nd_elements.specs.along.AxisLanes.{lane_place, IsPairing}
+use Rattle.nd_elements.specs.Writes.{OthersStay}
+use Rattle.nd_elements.specs.along.AxisLanes.{LanePlaces, LieThrough, IsPairing}
 use Rattle.nd_elements.specs.FreeOrder.{ListsBox}
 use Rattle.nd_elements.specs.along.Removed.{removed_shape}
 use Rattle.nd_elements.specs.along.Rising.{next_index}
 use Rattle.nd_elements.specs.along.Accumulated.{StartsAlong, ChangesAfter, AccumulatesBy, AccumulatesAll, AccumulableAlong, AreAccumulatedBy, AreAccumulated, TakesLanes}
-use Rattle.nd_array_core.proofs.along_lemmas.AxisIndexes.{lane_inside, lane_lies, lanes_distinct}
+use Rattle.nd_array_core.proofs.along_lemmas.AxisIndexes.{row_of, row_below, in_lane}
+use Rattle.nd_elements.proofs.LanesAlong.{lane_found, lanes_differ, others_stayed}
 use Rattle.nd_elements.proofs.Changed.{stored_same}
 use Rattle.nd_elements.proofs.FreeOrder.{IsNumbering, listed, listed_part, listed_all, done_at_each}
 use Rattle.nd_elements.proofs.LaneNumbers.{by_lanes, index_of_number, number_of_index, number_row, number_column, number_next, lane_numbers, numbers_rise}
 use Rattle.nd_elements.proofs.Ran.{ran_at, ran_weaker, ran_listed}
 
-module _ (offset : ℕ) (ns : List ℕ) (ss : List ℤ) (a : ℕ) (on : a < length ns) (many : length ss ≡ length ns) (start : ℕ) (step : IsStep offset ns ss start (collapsed_shape ns a) ss (collapsed_index a 0)) (w : ℕ) (long : suc w ≡ get_or ns a 0) where
+module _ {layout : Placement} {a : ℕ} {places : LanePlaces} (on : a < length layout.lengths) (many : length layout.strides ≡ length layout.lengths) (by : LieThrough a layout places) (some : 0 < get_or layout.lengths a 0) where
+  abbrev ns : List ℕ
+  ns = layout.lengths
+
   abbrev outer : List ℕ
   outer = collapsed_shape ns a
 
   abbrev place : ℕ → ℕ → ℤ
-  place = lane_place start outer ss (get_or ss a (pos 0))
+  place = places.place
 
   abbrev all : ℕ
   all = size_of outer
 
+  -- how many calls each lane has
+  abbrev w : ℕ
+  w = get_or ns a 0 - 1
+
+  long : suc w ≡ get_or ns a 0
+  long = omega (arith, some)
+
+  abbrev row_in : List ℕ → ℕ
+  row_in = row_of on by
+
+  row : (r : ℕ) → r < all → r < places.lanes
+  row r below = subst (λ m. r < m) (sym by.lanes) below
+
+  column_of : (k : ℕ) → k < suc w → k < places.count
+  column_of k under = subst (λ m. k < m) (sym by.count) (subst (λ m. k < m) long under)
+
   module _ {A : Type 0} (stored : ℕ → Option A) where
     abbrev pub at : List ℕ → Option A
-    at i = inside ns i (stored_at stored (place_of offset ss i))
+    at i = inside ns i (stored_at stored (place_of layout.offset layout.strides i))
 
     -- what lies at a place of a lane is the element at its index
     lane_element : (r k : ℕ) → r < all → k < suc w → stored_at stored (place r k) ≡ at (set (index_at outer r) a k)
-    lane_element r k below under =
-        let within : k < get_or ns a 0 = subst (λ n. k < n) long under in
-        rw (lane_inside offset ns ss a on many start step r k below within) (ap (stored_at stored) (lane_lies offset ns ss a on many start step r k below))
+    lane_element r k below under = lane_found by stored r k (row r below) (column_of k under)
 
     module _ {lane column : ℕ → ℕ} {number : ℕ → ℕ → ℕ} {total : ℕ} (pairs : IsPairing all w total lane column number) where
       here_is : (m : ℕ) → m < total → stored_at stored (place (lane m) (column m)) ≡ at (index_of_number ns a on w pairs m)
@@ -53,29 +72,12 @@ module _ (offset : ℕ) (ns : List ℕ) (ss : List ℤ) (a : ℕ) (on : a < leng
       next_is : (m : ℕ) → m < total → stored_at stored (place (lane m) (suc (column m))) ≡ at (next_index a (index_of_number ns a on w pairs m))
       next_is m below = let under = pairs.column_below m below in lane_element (lane m) (suc (column m)) (pairs.lane_below m below) (omega (arith, under)) ∙ ap at (sym (number_next ns a on w pairs m below))
 
-  -- the lane of an index, and its number there
-  outer_in : (i : List ℕ) → in_box ns i ≡ true → in_box outer (set i a 0) ≡ true
-  outer_in i h = in_box-set ns i a 1 0 h (omega arith)
-
-  abbrev row_of : List ℕ → ℕ
-  row_of i = row_rank outer (set i a 0)
-
-  row_below : (i : List ℕ) → in_box ns i ≡ true → row_of i < all
-  row_below i h = row_rank_below outer (set i a 0) (outer_in i h)
-
-  in_lane : (i : List ℕ) → in_box ns i ≡ true → place (row_of i) (get_or i a 0) ≡ place_of offset ss i
-  in_lane i h =
-      let under = coordinate_below ns i a h on in
-      lane_lies offset ns ss a on many start step (row_of i) (get_or i a 0) (row_below i h)
-      ∙ ap (place_of offset ss) (ap (λ o. set o a (get_or i a 0)) (index_at-row_rank outer (set i a 0) (outer_in i h)) ∙ (set-set i a 0 (get_or i a 0) ∙ set-get_or i a 0))
-
   shorter_numbers : {lane column : ℕ → ℕ} {number : ℕ → ℕ → ℕ} {total : ℕ} (pairs : IsPairing all w total lane column number) → IsNumbering (removed_shape ns a) total (index_of_number ns a on w pairs) (number_of_index ns a on w pairs)
-  shorter_numbers {total = total} pairs =
-      let fewer : w ≡ get_or ns a 0 - 1 = omega (arith, long) in subst (λ v. IsNumbering (set ns a v) total (index_of_number ns a on w pairs) (number_of_index ns a on w pairs)) fewer (lane_numbers ns a on w pairs)
+  shorter_numbers pairs = lane_numbers ns a on w pairs
 
   module _ {F A : Type 0} (g : Mut F (Bor A × (MutBor A × Unit {0})) (Unit {0} × (MutBor A × Unit {0}))) (old : ℕ → Option A) (f : F) where
-    pub axis_accumulable : AccumulableAlong g ns a (at old) f → TakesLanes g place all w old f
-    axis_accumulable takes total lane column number pairs left m now below starts run x y shows gives =
+    takes_all : AccumulableAlong g ns a (at old) f → TakesLanes g place all w old f
+    takes_all takes total lane column number pairs left m now below starts run x y shows gives =
         takes seen (listed index m) now (index m) seen_starts (numbers.inside m below) (listed_part numbers m below) (numbers_rise ns a on w pairs (suc m) below)
         (ran_listed (λ p i q. ChangesAfter g (seen i) (at old (next_index a i)) (seen (next_index a i)) p q) index f now m
         (ran_weaker (λ p j q. ChangesAfter g (left (lane j) (column j)) (stored_at old (place (lane j) (suc (column j)))) (left (lane j) (suc (column j))) p q)
@@ -94,7 +96,7 @@ module _ (offset : ℕ) (ns : List ℕ) (ss : List ℤ) (a : ℕ) (on : a < leng
         index = index_of_number ns a on w pairs
 
         seen : List ℕ → Option A
-        seen i = left (row_of i) (get_or i a 0)
+        seen i = left (row_in i) (get_or i a 0)
 
         seen_here : (j : ℕ) → j < total → seen (index j) ≡ left (lane j) (column j)
         seen_here j under = λ i. left (number_row ns a on w pairs j under i) (number_column ns a on w pairs j under i)
@@ -106,15 +108,24 @@ module _ (offset : ℕ) (ns : List ℕ) (ss : List ℤ) (a : ℕ) (on : a < leng
             let as_long = length-in_box outer o inside_o in
             let same_long = length-set ns a 1 in
             let on_o : a < length o = omega (arith, on, as_long, same_long) in
-            let row : row_of (set o a (suc (column j))) ≡ lane j = ap (row_rank outer) (set-set o a (suc (column j)) 0 ∙ sym (set-set o a (column j) 0)) ∙ number_row ns a on w pairs j under in
+            let row : row_in (set o a (suc (column j))) ≡ lane j = ap (row_rank outer) (set-set o a (suc (column j)) 0 ∙ sym (set-set o a (column j) 0)) ∙ number_row ns a on w pairs j under in
             ap seen (number_next ns a on w pairs j under) ∙ (λ i. left (row i) (get_or-set_same o a (suc (column j)) 0 on_o i))
 
         seen_starts : StartsAlong ns a (at old) seen
         seen_starts i h zero_there =
-            ap (left (row_of i)) zero_there ∙ (starts (row_of i) (row_below i h)
-            ∙ (ap (λ k. stored_at old (place (row_of i) k)) (sym zero_there) ∙ rw h (ap (stored_at old) (in_lane i h))))
+            ap (left (row_in i)) zero_there ∙ (starts (row_in i) (row_below on by i h)
+            ∙ (ap (λ k. stored_at old (place (row_in i) k)) (sym zero_there) ∙ rw h (ap (stored_at old) (in_lane on by i h))))
 
-    module _ (new : ℕ → Option A) (last : F) (done : AreAccumulated g place all w old new f last) where
+    fewer : places.count - 1 ≡ w
+    fewer = ap (λ m. m - 1) by.count
+
+    pub axis_accumulable : AccumulableAlong g ns a (at old) f → TakesLanes g place places.lanes (places.count - 1) old f
+    axis_accumulable takes = subst (λ m. TakesLanes g place m (places.count - 1) old f) (sym by.lanes) (subst (λ m. TakesLanes g place all m old f) (sym fewer) (takes_all takes))
+
+    module _ (new : ℕ → Option A) (last : F) (left : AreAccumulated g place places.lanes (places.count - 1) old new f last) where
+      done : AreAccumulated g place all w old new f last
+      done = subst (λ m. AreAccumulated g place all m old new f last) fewer (subst (λ m. AreAccumulated g place m (places.count - 1) old new f last) by.lanes left)
+
       pub axis_visits : AccumulatesAll g ns a (at old) (at new) f
       axis_visits =
           let pairs = done.pairs in
@@ -137,65 +148,41 @@ module _ (offset : ℕ) (ns : List ℕ) (ss : List ℤ) (a : ℕ) (on : a < leng
           )
 
       -- the first place of each lane holds what it held
-      start_kept : (0 < size_of ns → IsSeparated ns ss) → (r : ℕ) → r < all → stored_at new (place r 0) ≡ stored_at old (place r 0)
+      start_kept : KeepsApart layout → (r : ℕ) → r < all → stored_at new (place r 0) ≡ stored_at old (place r 0)
       start_kept apart r below =
           stored_same old new (place r 0) (λ p e. done.left p (λ q j on_q under f'.
-          let same = (lanes_distinct offset ns ss a on many start step apart q (suc j) r 0 on_q below (subst (λ n. suc j < n) long (omega (arith, under))) (subst (λ n. 0 < n) long (omega arith)) (f' ∙ sym e)).1 in absurd (omega (arith, same))))
+          let same = (lanes_differ by many apart q (suc j) r 0 (row q on_q) (row r below) (column_of (suc j) (omega (arith, under))) (column_of 0 (omega arith)) (f' ∙ sym e)).1 in absurd (omega (arith, same))))
 
-      pub axis_first : (0 < size_of ns → IsSeparated ns ss) → (i : List ℕ) → get_or i a 0 ≡ 0 → at new i ≡ at old i
+      pub axis_first : KeepsApart layout → (i : List ℕ) → get_or i a 0 ≡ 0 → at new i ≡ at old i
       axis_first apart i none = by_test (in_box ns i) refl
         where
           by_test : (t : Bool) → in_box ns i ≡ t → at new i ≡ at old i
           by_test true h =
-              let here : place (row_of i) 0 ≡ place_of offset ss i = ap (place (row_of i)) (sym none) ∙ in_lane i h in
-              rw h (ap (stored_at new) (sym here) ∙ (start_kept apart (row_of i) (row_below i h) ∙ ap (stored_at old) here))
+              let here : place (row_in i) 0 ≡ place_of layout.offset layout.strides i = ap (place (row_in i)) (sym none) ∙ in_lane on by i h in
+              rw h (ap (stored_at new) (sym here) ∙ (start_kept apart (row_in i) (row_below on by i h) ∙ ap (stored_at old) here))
           by_test false h = rw h refl
 
-      pub axis_holds : (0 < size_of ns → IsSeparated ns ss) → HoldsAll old offset ns ss → HoldsAll new offset ns ss
+      pub axis_holds : KeepsApart layout → HoldsAll old layout.offset ns layout.strides → HoldsAll new layout.offset ns layout.strides
       axis_holds apart holds i h = by_coordinate (get_or i a 0) refl
         where
-          by_coordinate : (k : ℕ) → get_or i a 0 ≡ k → names_place new (place_of offset ss i) ≡ true
+          by_coordinate : (k : ℕ) → get_or i a 0 ≡ k → names_place new (place_of layout.offset layout.strides i) ≡ true
           by_coordinate zero e =
-              let here : place (row_of i) 0 ≡ place_of offset ss i = ap (place (row_of i)) (sym e) ∙ in_lane i h in
-              ap (names_place new) (sym here) ∙ (ap is_some (start_kept apart (row_of i) (row_below i h)) ∙ (ap (names_place old) here ∙ holds i h))
+              let here : place (row_in i) 0 ≡ place_of layout.offset layout.strides i = ap (place (row_in i)) (sym e) ∙ in_lane on by i h in
+              ap (names_place new) (sym here) ∙ (ap is_some (start_kept apart (row_in i) (row_below on by i h)) ∙ (ap (names_place old) here ∙ holds i h))
           by_coordinate (suc k) e =
               let under = coordinate_below ns i a h on in
               let low : k < w = omega (arith, under, e, long) in
-              let r = row_of i in
-              let on_r = row_below i h in
+              let r = row_in i in
+              let on_r = row_below on by i h in
               let pairs = done.pairs in
               let lane = done.lane in
               let column = done.column in
-              let here : place r (suc k) ≡ place_of offset ss i = ap (place r) (sym e) ∙ in_lane i h in
+              let here : place r (suc k) ≡ place_of layout.offset layout.strides i = ap (place r) (sym e) ∙ in_lane on by i h in
               let call = ran_at (λ p j q. ChangesAfter g (stored_at new (place (lane j) (column j))) (stored_at old (place (lane j) (suc (column j)))) (stored_at new (place (lane j) (suc (column j)))) p q) f last done.all (done.number r k) (pairs.below r k on_r low) done.calls in
               ap (names_place new) (sym here) ∙ (sym (λ j. names_place new (place (pairs.lane_is r k on_r low j) (suc (pairs.column_is r k on_r low j)))) ∙ ap is_some call.2.5)
 
-      pub axis_others : (p : ℕ) → ((i : List ℕ) → inside ns i (place_number (place_of offset ss i)) ≡ Some p → ⊥) → new p ≡ old p
-      axis_others p nowhere =
-          done.left p (λ r j below under e.
-          let within : suc j < get_or ns a 0 = subst (λ n. suc j < n) long (omega (arith, under)) in
-          let h = lane_inside offset ns ss a on many start step r (suc j) below within in
-          let there : place_of offset ss (set (index_at outer r) a (suc j)) ≡ pos p = sym (lane_lies offset ns ss a on many start step r (suc j) below) ∙ e in
-          nowhere (set (index_at outer r) a (suc j)) (rw h (ap place_number there)))
-
-  -- the same in the words that a caller has for the outer lengths, the strides, the stride and the count
-  module _ (ls : List ℕ) (us : List ℤ) (s : ℤ) (count : ℕ) (e_ls : ls ≡ outer) (e_us : us ≡ ss) (e_s : s ≡ get_or ss a (pos 0)) (e_count : count ≡ get_or ns a 0) {F A : Type 0} (g : Mut F (Bor A × (MutBor A × Unit {0})) (Unit {0} × (MutBor A × Unit {0}))) where
-    fewer : count - 1 ≡ w
-    fewer = omega (arith, e_count, long)
-
-    pub given_takes : (old : ℕ → Option A) (f : F) → TakesLanes g place all w old f → TakesLanes g (lane_place start ls us s) (size_of ls) (count - 1) old f
-    given_takes old f takes =
-        subst (λ ms. TakesLanes g (lane_place start ms us s) (size_of ms) (count - 1) old f) (sym e_ls)
-        (subst (λ vs. TakesLanes g (lane_place start outer vs s) all (count - 1) old f) (sym e_us)
-        (subst (λ z. TakesLanes g (lane_place start outer ss z) all (count - 1) old f) (sym e_s)
-        (subst (λ m. TakesLanes g place all m old f) (sym fewer) takes)))
-
-    pub given_done : (old new : ℕ → Option A) (f last : F) → AreAccumulated g (lane_place start ls us s) (size_of ls) (count - 1) old new f last → AreAccumulated g place all w old new f last
-    given_done old new f last done =
-        subst (λ ms. AreAccumulated g (lane_place start ms ss (get_or ss a (pos 0))) (size_of ms) w old new f last) e_ls
-        (subst (λ vs. AreAccumulated g (lane_place start ls vs (get_or ss a (pos 0))) (size_of ls) w old new f last) e_us
-        (subst (λ z. AreAccumulated g (lane_place start ls us z) (size_of ls) w old new f last) e_s
-        (subst (λ m. AreAccumulated g (lane_place start ls us s) (size_of ls) m old new f last) fewer done)))
+      pub axis_others : OthersStay (λ i. inside ns i (place_number (place_of layout.offset layout.strides i))) old new
+      axis_others = others_stayed by old new (λ p nowhere. done.left p (λ r j below under e. nowhere r (suc j) (row r below) (column_of (suc j) (omega (arith, under))) e))
 
 -- where the closure leaves what h gives of both and stays as it is, so does each call
 module _ {F A : Type 0} (g : Mut F (Bor A × (MutBor A × Unit {0})) (Unit {0} × (MutBor A × Unit {0}))) (ns : List ℕ) (a : ℕ) (on : a < length ns) (old new : List ℕ → Option A) (f : F) where

@@ -9,15 +9,19 @@ use Rattle.std.proofs.lemmas.List.Sums.{fold-append}
 use Rattle.std.proofs.lemmas.List.Edits.{get_or-insert_at, length-remove}
 use Rattle.nd_shape_and_slice.specs.Shape.{in_box, size_of, row_rank, index_at}
 use Rattle.nd_shape_and_slice.specs.Maps.{indexed_shape}
+use Rattle.nd_shape_and_slice.specs.Place.{place_of}
 use Rattle.nd_shape_and_slice.proofs.RowMajor.{length-in_box, row_rank_below}
 use Rattle.nd_layout.proofs.Removed.{in_box-inserted}
 use Rattle.nd_elements.specs.Collected.{collected}
 use Rattle.nd_elements.specs.Meaning.{inside}
 use Rattle.nd_elements.specs.along.LanesFolded.{FoldsBetween, FoldableNumbered, AreFoldedTo, FoldableLanes, AreLanesFolded}
 use Rattle.nd_array_core.specs.along.AxisFolds.{lane_at, FoldsShownBy, FoldsAt, FoldsAxis, AxisFoldable, AreFoldedBy}
-use Rattle.nd_array_core.proofs.along_lemmas.AxisNumbers.{remove-inserted, index_of, index_rank, index_column, pair_numbers, pairs_rise}
+use Rattle.nd_array_core.proofs.along_lemmas.AxisNumbers.{index_of, index_rank, index_column, pair_numbers, pairs_rise}
 use Rattle.nd_elements.proofs.FreeOrder.{listed, listed_part, listed_all, done_at_each}
-use Rattle.nd_elements.specs.along.AxisLanes.{IsPairing}
+use Rattle.nd_layout.specs.Placements.{Placement}
+use Rattle.nd_elements.specs.Places.{stored_at}
+use Rattle.nd_elements.specs.along.AxisLanes.{LanePlaces, IsPairing, LieAlong}
+use Rattle.nd_elements.proofs.LanesAlong.{remove-inserted, lane_found}
 use Rattle.nd_elements.proofs.LanesFolding.{foldable_alike, folded_alike}
 use Rattle.nd_elements.proofs.Ran.{ran_weaker, ran_listed}
 
@@ -72,17 +76,34 @@ module _ {F B A : Type 0} (g : Mut F (Bor B × (Bor A × Unit {0})) B) where
         (λ p j q under call. call_at totals j p q (omega (arith, under, below)) call) run)) b x
         ((λ t. totals (index_rank ns a on pairs m below t) (index_column ns a on pairs m below t)) ∙ total) is
 
-  -- the same of lanes whose elements are told by other words
-  module _ (ns : List ℕ) (a : ℕ) (on : a < length ns) (at : List ℕ → Option A) (init : B) (f : F) (elements : ℕ → ℕ → Option A) (same : (r k : ℕ) → r < size_of (indexed_shape ns a) → k < get_or ns a 0 → elements r k ≡ lane_at at a (index_at (indexed_shape ns a) r) k) where
+  -- the same of the lanes of a storage
+  module _ {layout : Placement} {a : ℕ} {places : LanePlaces} (on : a < length layout.lengths) (by : LieAlong a layout places) (stored : ℕ → Option A) (init : B) (f : F) where
+    abbrev ns : List ℕ
+    ns = layout.lengths
+
     abbrev lanes : ℕ
     lanes = size_of (indexed_shape ns a)
 
-    pub lanes_foldable : AxisFoldable g ns at a init f → FoldableLanes g lanes (get_or ns a 0) elements init f
-    lanes_foldable takes total lane column number pairs =
-        foldable_alike g lanes (get_or ns a 0) pairs elements (λ r k. lane_at at a (index_at (indexed_shape ns a) r) k) same (λ r. Some init) f (axis_takes ns a on pairs at init f takes (λ r. Some init) (λ r below. refl))
+    abbrev at : List ℕ → Option A
+    at i = inside ns i (stored_at stored (place_of layout.offset layout.strides i))
 
-    pub lanes_visited : (found : ℕ → Option B) (result : List ℕ → Option B) → ((j : List ℕ) → in_box (indexed_shape ns a) j ≡ true → result j ≡ found (row_rank (indexed_shape ns a) j)) → AreLanesFolded g lanes (get_or ns a 0) elements init f found → FoldsAxis g ns at a init f result
-    lanes_visited found result results done =
+    abbrev elements : ℕ → ℕ → Option A
+    elements r k = stored_at stored (places.place r k)
+
+    same : (r k : ℕ) → r < lanes → k < get_or ns a 0 → elements r k ≡ lane_at at a (index_at (indexed_shape ns a) r) k
+    same r k below within = lane_found by stored r k (subst (λ m. r < m) (sym by.lanes) below) (subst (λ n. k < n) (sym by.count) within)
+
+    pub lanes_foldable : AxisFoldable g ns at a init f → FoldableLanes g places.lanes places.count elements init f
+    lanes_foldable takes =
+        subst (λ m. FoldableLanes g m places.count elements init f) (sym by.lanes)
+        (subst (λ n. FoldableLanes g lanes n elements init f) (sym by.count)
+        (λ total lane column number pairs.
+        foldable_alike g lanes (get_or ns a 0) pairs elements (λ r k. lane_at at a (index_at (indexed_shape ns a) r) k) same (λ r. Some init) f (axis_takes ns a on pairs at init f takes (λ r. Some init) (λ r below. refl))))
+
+    pub lanes_visited : (found : ℕ → Option B) (result : List ℕ → Option B) → ((j : List ℕ) → in_box (indexed_shape ns a) j ≡ true → result j ≡ found (row_rank (indexed_shape ns a) j))
+        → AreLanesFolded g places.lanes places.count elements init f found → FoldsAxis g ns at a init f result
+    lanes_visited found result results folded =
+        let done = subst (λ n. AreLanesFolded g lanes n elements init f found) by.count (subst (λ m. AreLanesFolded g m places.count elements init f found) by.lanes folded) in
         axis_visited ns a on done.pairs at init f (λ r. Some init) (λ r below. refl) found result results
         (folded_alike g lanes (get_or ns a 0) done.pairs elements (λ r k. lane_at at a (index_at (indexed_shape ns a) r) k) same (λ r. Some init) f found done.folded)
 

@@ -14,12 +14,7 @@ use Rattle.nd_elements.specs.along.AxisLanes.{IsPairing}
 use Rattle.nd_elements.specs.along.Rising.{RisesAlong}
 use Rattle.nd_elements.proofs.FreeOrder.{IsNumbering, listed}
 use Rattle.nd_elements.proofs.LaneNumbers.{listed_at, listed_has}
-
-pub remove-inserted : (o : List ℕ) (a k : ℕ) → a ≤ length o → remove (insert o a k) a ≡ o
-remove-inserted [] zero k fits = refl
-remove-inserted [] (suc a) k fits = absurd (omega (arith, fits))
-remove-inserted (x ∷ o) zero k fits = refl
-remove-inserted (x ∷ o) (suc a) k fits = ap (λ r. x ∷ r) (remove-inserted o a k (omega (arith, fits)))
+use Rattle.nd_elements.proofs.LanesAlong.{remove-inserted}
 
 pub insert-removed : (i : List ℕ) (a : ℕ) → a < length i → insert (remove i a) a (get_or i a 0) ≡ i
 insert-removed [] a on = absurd (omega (arith, on))

@@ -6,7 +6,7 @@ ghost use Rattle.nd_elements.specs.along.Accumulated.{AccumulatesAll, Accumulabl
 
 use crate::base::array::ArrayBase;
 use nd_elements::along::accumulate_axis::accumulate_lanes;
-use nd_elements::along::axis_lanes::AxisLanes;
+use nd_elements::along::lanes_along::{first_of_each, lanes_through};
 use nd_elements::storage::DataMut;
 use nd_shape_and_slice::{Axis, Dimension, StrideList};
 
@@ -23,11 +23,8 @@ impl<S: DataMut, D: Dimension> ArrayBase<S, D> {
         ensures first { (i : List ℕ) → slice_index i axis.0 ≡ 0 → element_at self.new i ≡ element_at self.old i }
         ensures frame { KeepsFrame S.frame self.old self.new }
     {
-        let count = self.len_of(axis);
-        let stride = self.stride_of(axis);
-        let mut firsts = self.layout.copied();
-        firsts.collapse_axis(axis.0, 0);
-        let lanes = AxisLanes::new(&firsts, count, stride);
+        let firsts = first_of_each(&self.layout, axis);
+        let lanes = lanes_through(&self.layout, axis, &firsts);
         accumulate_lanes(&mut self.storage, lanes, f);
     }
 

@@ -10,9 +10,9 @@ ghost use Rattle.nd_array_core.specs.along.AxisFolds.{AxisFoldable, FoldsLanes, 
 
 use crate::base::array::{Array, ArrayBase};
 use crate::base::from_elem::of_items;
-use nd_elements::along::axis_lanes::AxisLanes;
 use nd_elements::along::first_places::first_places;
 use nd_elements::along::fold_axis::fold_lanes;
+use nd_elements::along::lanes_along::lanes_along;
 use nd_elements::elements::to_vec::room_of;
 use nd_elements::storage::Data;
 use nd_shape_and_slice::{Axis, Dimension, NoMemory, Order, RemoveAxis, StrideList};
@@ -40,9 +40,7 @@ impl<S: Data, D: RemoveAxis> ArrayBase<S, D> {
         ensures refused { OnErr result (0 < size_of (indexed_shape (shape_of self.now) axis.0)) }
     {
         let firsts = first_places(&self.layout, axis);
-        let count = self.len_of(axis);
-        let stride = self.stride_of(axis);
-        let lanes = AxisLanes::new(&firsts, count, stride);
+        let lanes = lanes_along(&self.layout, axis, &firsts);
         let room = room_of(alloc, lanes.lanes)?;
         let items = fold_lanes(room, &self.storage, lanes, &init, f)?;
         Ok(of_items(items, firsts.dim, Order::RowMajor))

@@ -6,44 +6,43 @@ ghost use Rattle.nd_shape_and_slice.specs.Shape.{size_of};
 ghost use Rattle.nd_shape_and_slice.specs.Maps.{indexed_shape};
 ghost use Rattle.nd_layout.specs.Placements.{placement_of};
 ghost use Rattle.nd_array_core.specs.Meaning.{meaning_of, shape_of, element_at};
-ghost use Rattle.nd_elements.specs.along.AxisLanes.{IsFirstOfLanes};
+ghost use Rattle.nd_elements.specs.along.AxisLanes.{LieAlong};
+ghost use Rattle.nd_elements.specs.along.LanesIn.{lanes_in};
 ghost use Rattle.nd_array_core.specs.along.AxisMaps.{AskableOfLanes, HasAnswersOfLanes, ListsAnswersOfLanes, MapsLanesAlike};
 
 use crate::along::lane_view::LaneView;
 use crate::base::array::{Array, ArrayBase};
 use crate::base::from_elem::of_items;
-use nd_elements::along::first_places::{first_places, lane_from};
+use nd_elements::along::axis_lanes::AxisLanes;
+use nd_elements::along::first_places::first_places;
+use nd_elements::along::lanes_along::lanes_along;
 use nd_elements::elements::to_vec::room_of;
 use nd_elements::storage::Data;
-use nd_layout::{Layout, Walk};
 use nd_shape_and_slice::{Axis, Dimension, NoMemory, Order, RemoveAxis, StrideList};
 use std::alloc::Global;
 
-/// What the function returns for each lane of an axis, in row-major order of the other axes' indexes.
+/// What the function returns for each of the lanes, which are those of an axis, in row-major order of the other axes'
+/// indexes.
 fn map_lanes<S: Data, D: RemoveAxis, B, F: FnMut(LaneView<'_, S::Elem>) -> B>(
     room: Vec<B>,
     array: &ArrayBase<S, D>,
     axis: Axis,
-    outer: &Layout<D::Smaller, <D::Smaller as Dimension>::Strides>,
+    lanes: AxisLanes<'_>,
     mut f: F,
 ) -> Vec<B>
     requires axis { axis.0 < length (shape_of array.now) }
-    requires lengths { D.Smaller.lengths outer.now.dim ≡ indexed_shape (shape_of array.now) axis.0 }
-    requires step { IsFirstOfLanes axis.0 (placement_of array.now.layout) (placement_of outer.now) }
+    requires along { LieAlong axis.0 (placement_of array.now.layout) (lanes_in lanes) }
     requires empty { (room.items ≡ []) × (vec_len room ≡ 0) }
     requires room { size_of (indexed_shape (shape_of array.now) axis.0) ≤ vec_capacity room }
     requires callable { AskableOfLanes F.FnMut (meaning_of array.now) axis.0 f }
     ensures count { vec_len result ≡ size_of (indexed_shape (shape_of array.now) axis.0) }
     ensures visits { ListsAnswersOfLanes F.FnMut (meaning_of array.now) axis.0 f result.items }
 {
-    let count = array.len_of(axis);
-    let stride = array.stride_of(axis);
-    let mut walk = Walk::new(outer.offset, outer.dim.slice(), outer.strides.slice());
+    let mut turns = lanes.in_turn();
     let mut items = room;
-    while let Some(place) = walk.place() {
-        let lane = LaneView::over(array.storage.borrowed(), lane_from(place, count, stride));
-        items.push_reserved(f(lane));
-        walk.advance();
+    while let Some(lane) = turns.next() {
+        let shown = LaneView::over(array.storage.borrowed(), lane);
+        items.push_reserved(f(shown));
     }
     items
 }
@@ -66,9 +65,10 @@ impl<S: Data, D: RemoveAxis> ArrayBase<S, D> {
         ensures alike { IfOk result (λ a. MapsLanesAlike F.FnMut (meaning_of self.now) axis.0 f (element_at a)) }
         ensures refused { OnErr result (0 < size_of (indexed_shape (shape_of self.now) axis.0)) }
     {
-        let outer = first_places(&self.layout, axis);
-        let room = room_of(alloc, outer.dim.size())?;
-        let items = map_lanes(room, self, axis, &outer, f);
-        Ok(of_items(items, outer.dim, Order::RowMajor))
+        let firsts = first_places(&self.layout, axis);
+        let lanes = lanes_along(&self.layout, axis, &firsts);
+        let room = room_of(alloc, lanes.lanes)?;
+        let items = map_lanes(room, self, axis, lanes, f);
+        Ok(of_items(items, firsts.dim, Order::RowMajor))
     }
 }

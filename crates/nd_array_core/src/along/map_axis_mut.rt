@@ -8,9 +8,9 @@ ghost use Rattle.nd_array_core.specs.along.LanesWritten.{KeepsLanes, HandableLan
 
 use crate::base::array::{Array, ArrayBase};
 use crate::base::from_elem::of_items;
-use nd_elements::along::axis_lanes::AxisLanes;
 use nd_elements::along::first_places::first_places;
 use nd_elements::along::lane_mut::LaneMut;
+use nd_elements::along::lanes_along::lanes_along;
 use nd_elements::along::map_axis_mut::answer_lanes;
 use nd_elements::elements::to_vec::room_of;
 use nd_elements::storage::DataMut;
@@ -44,9 +44,7 @@ impl<S: DataMut, D: RemoveAxis> ArrayBase<S, D> {
         ensures frame { KeepsFrame S.frame self.old self.new }
     {
         let firsts = first_places(&self.layout, axis);
-        let count = self.len_of(axis);
-        let stride = self.stride_of(axis);
-        let lanes = AxisLanes::new(&firsts, count, stride);
+        let lanes = lanes_along(&self.layout, axis, &firsts);
         let room = room_of(alloc, lanes.lanes)?;
         let (_f, items) = answer_lanes(room, &mut self.storage, lanes, f);
         Ok(of_items(items, firsts.dim, Order::RowMajor))

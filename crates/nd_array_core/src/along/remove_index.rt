@@ -7,7 +7,7 @@ ghost use Rattle.nd_elements.specs.along.Removed.{removed_shape, removed_at, rem
 
 use crate::base::array::ArrayBase;
 use crate::laws::elements_have_places;
-use nd_elements::along::axis_lanes::AxisLanes;
+use nd_elements::along::lanes_along::{first_of_each, lanes_through};
 use nd_elements::along::remove_index::rotate_lanes;
 use nd_elements::storage::DataMut;
 use nd_shape_and_slice::{Axis, Dimension, Slice, StrideList};
@@ -26,11 +26,8 @@ impl<S: DataMut, D: Dimension> ArrayBase<S, D> {
         ensures elements { (i : List ℕ) → element_at self.new i ≡ rotated_at (meaning_of self.old) axis.0 index i }
         ensures frame { KeepsFrame S.frame self.old self.new }
     {
-        let count = self.len_of(axis);
-        let stride = self.stride_of(axis);
-        let mut firsts = self.layout.copied();
-        firsts.collapse_axis(axis.0, 0);
-        let lanes = AxisLanes::new(&firsts, count, stride);
+        let firsts = first_of_each(&self.layout, axis);
+        let lanes = lanes_through(&self.layout, axis, &firsts);
         rotate_lanes(&mut self.storage, lanes, index);
     }
 

@@ -1,7 +1,8 @@
 -- The lanes of an axis: the places that differ in its coordinate alone, by the place of the first of them.
-use Rattle.std.specs.Prelude.{◌≡◌, ◌+◌, ◌*◌, ◌<◌, ◌^◌, ℕ, ℤ, pos, ◌+ℤ◌, ◌*ℤ◌, List, Option, slice_index, IsTrue}
-use Rattle.nd_shape_and_slice.specs.Shape.{size_of}
-use Rattle.nd_shape_and_slice.specs.Maps.{indexed_index}
+use Rattle.std.specs.Prelude.{◌≡◌, ◌+◌, ◌*◌, ◌<◌, ◌^◌, ℕ, ℤ, pos, ◌+ℤ◌, ◌*ℤ◌, List, Option, MatchOption, slice_index, IsTrue}
+use Rattle.nd_shape_and_slice.specs.Shape.{in_box, size_of, index_at}
+use Rattle.nd_shape_and_slice.specs.Place.{place_of}
+use Rattle.nd_shape_and_slice.specs.Maps.{indexed_shape, indexed_index, collapsed_shape, collapsed_index}
 use Rattle.nd_layout.specs.Placements.{Placement, IsStepOf}
 use Rattle.nd_layout.specs.Places.{is_place}
 use Rattle.nd_layout.specs.Walk.{place_at_rank}
@@ -59,6 +60,31 @@ LanesDiffer at = LanesDistinct at.place at.lanes at.count
 -- a storage holds an element at each of them
 abbrev pub LanesHold : {S A : Type 0} → (S → ℕ → Option A) → LanePlaces → S → Type 0
 LanesHold stored at s = (r k : ℕ) → r < at.lanes → k < at.count → IsTrue (names_place (stored s) (at.place r k))
+
+-- a lane is the one of that number
+abbrev pub IsLaneAt : LanePlaces → ℕ → Lane → Type 0
+IsLaneAt at r lane = (r < at.lanes) × (lane.count ≡ at.count) × ((k : ℕ) → pos lane.place +ℤ (pos k *ℤ lane.stride) ≡ at.place r k)
+
+-- after so many lanes comes the next, and they are one more then; none once all are through
+abbrev pub GivesLaneInTurn : LanePlaces → ℕ → ℕ → Option Lane → Type 0
+GivesLaneInTurn at old new next = MatchOption next (old ≡ at.lanes) (λ lane. IsLaneAt at old lane × (new ≡ old + 1))
+
+-- one lane for each index of a shape, in row-major order, and one place there for each coordinate of the axis: that of the
+-- layout's index which the map gives of both
+pub record LieBy (shape : List ℕ) (index : ℕ → List ℕ → List ℕ) (axis : ℕ) (layout : Placement) (at : LanePlaces) : Type 0 where
+  pub lanes : at.lanes ≡ size_of shape
+  pub count : at.count ≡ slice_index layout.lengths axis
+  pub inside : (r k : ℕ) → r < at.lanes → k < at.count → IsTrue (in_box layout.lengths (index k (index_at shape r)))
+  pub lies : (r k : ℕ) → r < at.lanes → k < at.count → at.place r k ≡ place_of layout.offset layout.strides (index k (index_at shape r))
+  pub alone : (r k q j : ℕ) → r < at.lanes → q < at.lanes → k < at.count → j < at.count → index k (index_at shape r) ≡ index j (index_at shape q) → (r ≡ q) × (k ≡ j)
+
+-- the lanes of a layout's axis, by the indexes of the other axes
+abbrev pub LieAlong : ℕ → Placement → LanePlaces → Type 0
+LieAlong axis layout at = LieBy (indexed_shape layout.lengths axis) (indexed_index axis) axis layout at
+
+-- the same, by indexes that are 0 at the axis
+abbrev pub LieThrough : ℕ → Placement → LanePlaces → Type 0
+LieThrough axis layout at = LieBy (collapsed_shape layout.lengths axis) (collapsed_index axis) axis layout at
 
 -- numbers of so many lanes and coordinates, each pair once, in which the coordinates of a lane rise
 pub record IsPairing (lanes count all : ℕ) (lane column : ℕ → ℕ) (number : ℕ → ℕ → ℕ) : Type 0 where

@@ -13,7 +13,7 @@ use crate::along::accumulate_run::accumulate_run;
 use crate::along::axis_lanes::AxisLanes;
 use crate::along::first_places::lane_from;
 use crate::storage::DataMut;
-use nd_layout::{Lane, Places, Walk};
+use nd_layout::{Lane, Places};
 use nd_region::Region;
 use nd_shape_and_slice::{Dimension, StrideList};
 
@@ -144,15 +144,10 @@ fn accumulate_in_turn<S: DataMut, F: FnMut(&S::Elem, &mut S::Elem)>(
     ensures accumulated { AccumulatesLanes F.FnMut S.stored (lanes_in lanes.entry) storage.old storage.new f result }
     ensures frame { S.frame storage.new ≡ S.frame storage.old }
 {
-    let mut outer = Walk::new(
-        lanes.firsts.first,
-        lanes.firsts.lengths,
-        lanes.firsts.strides,
-    );
+    let mut turns = lanes.in_turn();
     let mut now = f;
-    while let Some(place) = outer.place() {
-        now = accumulate_lane(storage, lane_from(place, lanes.count, lanes.stride), now);
-        outer.advance();
+    while let Some(lane) = turns.next() {
+        now = accumulate_lane(storage, lane, now);
     }
     now
 }

@@ -5,7 +5,8 @@ ghost use Rattle.nd_shape_and_slice.specs.Shape.{size_of};
 ghost use Rattle.nd_shape_and_slice.specs.Place.{span_of};
 ghost use Rattle.nd_elements.specs.along.AxisLanes.{lane_place, LanesReach};
 
-use nd_layout::{Layout, Places, is_standard};
+use crate::along::first_places::lane_from;
+use nd_layout::{Lane, Layout, Places, Walk, is_standard};
 use nd_shape_and_slice::{Dimension, StrideList};
 
 /// From how many lanes on it is worth while to go along them together.
@@ -25,6 +26,18 @@ pub struct AxisLanes<'a> {
     ghost spread: { span_of firsts.lengths.now firsts.strides.now < 2 ^ 63 },
     ghost short: { count < 2 ^ 63 },
     ghost lie: { LanesReach (lane_place firsts.first firsts.lengths.now firsts.strides.now stride) (size_of firsts.lengths.now) count },
+}
+
+/// The lanes of an axis, one after the other.
+#[derive(Drop)]
+pub struct LanesInTurn<'a> {
+    /// All of them.
+    pub lanes: AxisLanes<'a>,
+    /// The walk over the places where they begin.
+    pub walk: Walk<'a>,
+    ghost first: { walk.first.value ≡ lanes.firsts.first },
+    ghost lengths: { walk.lengths.now ≡ lanes.firsts.lengths.now },
+    ghost strides: { walk.strides.now ≡ lanes.firsts.strides.now },
 }
 
 impl<'a> AxisLanes<'a> {
@@ -56,5 +69,36 @@ impl<'a> AxisLanes<'a> {
         ensures standard { IsTrue result → BeginInTurn self.now }
     {
         self.lanes >= FEWEST && is_standard(self.firsts.lengths, self.firsts.strides)
+    }
+
+    /// One after the other, from the first on.
+    pub fn in_turn(self) -> LanesInTurn<'a>
+        ensures lanes { result.lanes ≡ self.entry }
+        ensures rank { result.walk.rank ≡ 0 }
+    {
+        LanesInTurn {
+            lanes: self,
+            walk: Walk::new(self.firsts.first, self.firsts.lengths, self.firsts.strides),
+        }
+    }
+}
+
+impl<'a> LanesInTurn<'a> {
+    ghost use Rattle.nd_elements.specs.along.AxisLanes.{GivesLaneInTurn};
+    ghost use Rattle.nd_elements.specs.along.LanesIn.{lanes_in};
+
+    /// The next lane; None once all are through.
+    #[inline]
+    pub fn next(&mut self) -> Option<Lane>
+        ensures lanes { self.new.lanes ≡ self.old.lanes }
+        ensures lane { GivesLaneInTurn (lanes_in self.old.lanes) self.old.walk.rank self.new.walk.rank result }
+    {
+        match self.walk.place() {
+            Some(place) => {
+                self.walk.advance();
+                Some(lane_from(place, self.lanes.count, self.lanes.stride))
+            }
+            None => None,
+        }
     }
 }

@@ -13,7 +13,7 @@ use crate::along::axis_lanes::AxisLanes;
 use crate::along::first_places::lane_from;
 use crate::along::fold_beside::{clones_in, fold_beside};
 use crate::storage::Data;
-use nd_layout::{Lane, Walk};
+use nd_layout::Lane;
 use nd_shape_and_slice::{Dimension, NoMemory, StrideList};
 
 /// Folds the elements of a lane, one after the other. It returns the function too, as the calls left it.
@@ -52,27 +52,17 @@ fn fold_in_turn<S: Data, B: Clone + Drop, F: FnMut(&B, &S::Elem) -> B>(
     ensures folds { IfOk result (FoldsEachLane F.FnMut S.stored lanes.entry storage.now init.now f) }
     ensures refused { OnErr result (MayRefuseClonesOf B.is_infallible init.now lanes.entry.lanes) }
 {
-    let mut walk = Walk::new(
-        lanes.firsts.first,
-        lanes.firsts.lengths,
-        lanes.firsts.strides,
-    );
+    let mut turns = lanes.in_turn();
     let mut items = room;
     let mut now = f;
-    while let Some(place) = walk.place() {
+    while let Some(lane) = turns.next() {
         let start = match init.clone() {
             Ok(start) => start,
             Err(_) => return Err(NoMemory),
         };
-        let (after, total) = fold_shown(
-            storage,
-            lane_from(place, lanes.count, lanes.stride),
-            start,
-            now,
-        );
+        let (after, total) = fold_shown(storage, lane, start, now);
         items.push_reserved(total);
         now = after;
-        walk.advance();
     }
     Ok(items)
 }

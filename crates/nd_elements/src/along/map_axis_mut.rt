@@ -10,10 +10,9 @@ ghost use Rattle.nd_elements.specs.along.LanesIn.{lanes_in};
 ghost use Rattle.nd_elements.specs.along.LanesWritten.{KeepsLanes, TakesLaneAt, LeavesLaneAt, ChangesNoOther, IsAnsweredInside, TakesAllLanes, HandsOut};
 
 use crate::along::axis_lanes::AxisLanes;
-use crate::along::first_places::lane_from;
 use crate::along::lane_mut::LaneMut;
 use crate::storage::DataMut;
-use nd_layout::{Lane, Places, Walk};
+use nd_layout::{Lane, Places};
 use nd_region::Region;
 use nd_shape_and_slice::{Dimension, StrideList};
 
@@ -85,22 +84,13 @@ pub fn answer_lanes<S: DataMut, B, F: FnMut(&mut LaneMut<'_, S::Elem>) -> B>(
     ensures there { KeepsPlaces (S.stored storage.old) (S.stored storage.new) }
     ensures frame { S.frame storage.new ≡ S.frame storage.old }
 {
-    let mut walk = Walk::new(
-        lanes.firsts.first,
-        lanes.firsts.lengths,
-        lanes.firsts.strides,
-    );
+    let mut turns = lanes.in_turn();
     let mut items = room;
     let mut now = f;
-    while let Some(place) = walk.place() {
-        let (after, answer) = answer_lane(
-            storage,
-            lane_from(place, lanes.count, lanes.stride),
-            now,
-        );
+    while let Some(lane) = turns.next() {
+        let (after, answer) = answer_lane(storage, lane, now);
         items.push_reserved(answer);
         now = after;
-        walk.advance();
     }
     (now, items)
 }

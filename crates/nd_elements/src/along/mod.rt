@@ -8,5 +8,6 @@ pub mod first_places;
 pub mod fold_axis;
 mod fold_beside;
 pub mod lane_mut;
+pub mod lanes_along;
 pub mod map_axis_mut;
 pub mod remove_index;

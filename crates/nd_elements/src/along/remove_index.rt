@@ -8,9 +8,8 @@ ghost use Rattle.nd_elements.specs.along.LanesIn.{lanes_in};
 ghost use Rattle.nd_elements.specs.along.Removed.{RotatesPlaces, RotatesLanes};
 
 use crate::along::axis_lanes::AxisLanes;
-use crate::along::first_places::lane_from;
 use crate::storage::DataMut;
-use nd_layout::{Lane, Walk};
+use nd_layout::Lane;
 use nd_shape_and_slice::{Dimension, StrideList};
 
 /// Moves the elements of a lane that come after one towards the front, each by one place; that one goes to the end.
@@ -34,13 +33,8 @@ pub fn rotate_lanes<S: DataMut>(storage: &mut S, lanes: AxisLanes<'_>, from: usi
     ensures moved { RotatesLanes S.stored (lanes_in lanes.entry) from storage.old storage.new }
     ensures frame { S.frame storage.new ≡ S.frame storage.old }
 {
-    let mut outer = Walk::new(
-        lanes.firsts.first,
-        lanes.firsts.lengths,
-        lanes.firsts.strides,
-    );
-    while let Some(place) = outer.place() {
-        rotate_lane(storage, lane_from(place, lanes.count, lanes.stride), from);
-        outer.advance();
+    let mut turns = lanes.in_turn();
+    while let Some(lane) = turns.next() {
+        rotate_lane(storage, lane, from);
     }
 }

@@ -1,68 +1,35 @@
-use Rattle.std.proofs.Common.{◌≡◌, ◌<◌, ◌∙◌, pos, ◌+ℤ◌, ◌*ℤ◌, refl, ap, subst, rules, w64, to_z, of_z, FitsSigned}
-use Rattle.std.proofs.lemmas.Int.{to_z-of_z}
-use Rattle.nd_shape_and_slice.specs.Shape.{size_of}
-use Rattle.nd_layout.specs.Places.{is_place}
-use Rattle.nd_layout.specs.Walk.{place_at_rank}
-use Rattle.nd_elements.specs.along.AxisLanes.{lane_place}
+use Rattle.std.proofs.Common.{◌∙◌, refl}
+use Rattle.nd_layout.specs.Lanes.{along}
+use Rattle.nd_elements.specs.along.LanesIn.{lanes_in}
 use Rattle.nd_elements.specs.along.Removed.{rotated}
-use Rattle.nd_elements.proofs.AxisLanes.{lane_goes, next_rank}
+use Rattle.nd_elements.proofs.AxisLanes.{lane_in_turn}
 use Rattle.nd_elements.proofs.Rotating.{lane_apart, lane_holds, lane_moved, rotated_below}
-use Rattle.nd_layout.proofs.WalkSteps.{reaches_usizes}
 use Rattle.nd_elements.proofs.along.remove_index.rotate_lanes.Goals as goal
-
-pub new-outer-requires-clause-reach : goal.new-outer-requires-clause-reach
-new-outer-requires-clause-reach g c = reaches_usizes c.args.lanes.firsts.first c.args.lanes.firsts.lengths.now c.args.lanes.firsts.strides.now c.args.lanes.firsts.reach
-
-pub lane_from-requires-clause-reach : goal.lane_from-requires-clause-reach
-lane_from-requires-clause-reach g c k below =
-    let so_far = c.loop-place.invariant in
-    let fits : FitsSigned w64 c.args.lanes.stride = search rules in
-    let on : c.loop-place.outer.rank < size_of c.args.lanes.firsts.lengths.now = subst (λ ls. c.loop-place.outer.rank < size_of ls) so_far.1 c.in-Some.ensures.0 in
-    let at : pos c.in-Some.place ≡ place_at_rank c.args.lanes.firsts.first c.args.lanes.firsts.lengths.now c.args.lanes.firsts.strides.now c.loop-place.outer.rank = rw (so_far.0, so_far.1, so_far.2) at c.in-Some.ensures.1 in
-    ap is_place (lane_goes c.args.lanes.firsts.first c.args.lanes.firsts.lengths.now c.args.lanes.firsts.strides.now c.args.lanes.stride c.loop-place.outer.rank c.in-Some.place c.in-Some.place (to_z w64 (of_z w64 c.args.lanes.stride)) refl (to_z-of_z w64 c.args.lanes.stride fits) at k)
-    ∙ c.args.lanes.lie c.loop-place.outer.rank k on below
 
 pub rotate_lane-requires-clause-apart : goal.rotate_lane-requires-clause-apart
 rotate_lane-requires-clause-apart g c =
-    let so_far = c.loop-place.invariant in
-    let fits : FitsSigned w64 c.args.lanes.stride = search rules in
-    let on : c.loop-place.outer.rank < size_of c.args.lanes.firsts.lengths.now = subst (λ ls. c.loop-place.outer.rank < size_of ls) so_far.1 c.in-Some.ensures.0 in
-    let at : pos c.in-Some.place ≡ place_at_rank c.args.lanes.firsts.first c.args.lanes.firsts.lengths.now c.args.lanes.firsts.strides.now c.loop-place.outer.rank = rw (so_far.0, so_far.1, so_far.2) at c.in-Some.ensures.1 in
-    let made = c.lane_from.ensures.lane in
-    let lane = c.lane_from.result in
-    lane_apart (lane_place c.args.lanes.firsts.first c.args.lanes.firsts.lengths.now c.args.lanes.firsts.strides.now c.args.lanes.stride) c.args.lanes.count (rotated c.args.from c.args.lanes.count) (g.S.Data.stored c.args.storage.now) c.loop-place.outer.rank (size_of c.args.lanes.firsts.lengths.now) on c.requires.apart
-    (λ k. pos lane.place +ℤ (pos k *ℤ lane.stride)) lane.count made.1
-    (lane_goes c.args.lanes.firsts.first c.args.lanes.firsts.lengths.now c.args.lanes.firsts.strides.now c.args.lanes.stride c.loop-place.outer.rank c.in-Some.place lane.place lane.stride made.0 (made.2 ∙ to_z-of_z w64 c.args.lanes.stride fits) at)
+    let at = lanes_in c.args.lanes in
+    let here = lane_in_turn c.in-Some.lane c.loop-lane.invariant.0 c.in-Some.ensures.lane.0 in
+    let lane = along c.in-Some.lane in
+    lane_apart at.place at.count (rotated c.args.from at.count) (g.S.Data.stored c.args.storage.now) c.loop-lane.turns.walk.rank at.lanes here.0 c.requires.apart lane.place lane.count here.1 here.2
 
 pub rotate_lane-requires-clause-holds : goal.rotate_lane-requires-clause-holds
 rotate_lane-requires-clause-holds g c =
-    let so_far = c.loop-place.invariant in
-    let fits : FitsSigned w64 c.args.lanes.stride = search rules in
-    let on : c.loop-place.outer.rank < size_of c.args.lanes.firsts.lengths.now = subst (λ ls. c.loop-place.outer.rank < size_of ls) so_far.1 c.in-Some.ensures.0 in
-    let at : pos c.in-Some.place ≡ place_at_rank c.args.lanes.firsts.first c.args.lanes.firsts.lengths.now c.args.lanes.firsts.strides.now c.loop-place.outer.rank = rw (so_far.0, so_far.1, so_far.2) at c.in-Some.ensures.1 in
-    let made = c.lane_from.ensures.lane in
-    let lane = c.lane_from.result in
-    lane_holds (lane_place c.args.lanes.firsts.first c.args.lanes.firsts.lengths.now c.args.lanes.firsts.strides.now c.args.lanes.stride) c.args.lanes.count (rotated c.args.from c.args.lanes.count) (g.S.Data.stored c.args.storage.now) c.loop-place.outer.rank (size_of c.args.lanes.firsts.lengths.now) on c.requires.apart
-    (λ k. pos lane.place +ℤ (pos k *ℤ lane.stride)) lane.count made.1
-    (lane_goes c.args.lanes.firsts.first c.args.lanes.firsts.lengths.now c.args.lanes.firsts.strides.now c.args.lanes.stride c.loop-place.outer.rank c.in-Some.place lane.place lane.stride made.0 (made.2 ∙ to_z-of_z w64 c.args.lanes.stride fits) at)
-    (g.S.Data.stored c.loop-place.storage) c.requires.holds so_far.3
+    let at = lanes_in c.args.lanes in
+    let here = lane_in_turn c.in-Some.lane c.loop-lane.invariant.0 c.in-Some.ensures.lane.0 in
+    let lane = along c.in-Some.lane in
+    lane_holds at.place at.count (rotated c.args.from at.count) (g.S.Data.stored c.args.storage.now) c.loop-lane.turns.walk.rank at.lanes here.0 c.requires.apart lane.place lane.count here.1 here.2
+    (g.S.Data.stored c.loop-lane.storage) c.requires.holds c.loop-lane.invariant.1
 
-pub loop-place-preserved : goal.loop-place-preserved
-loop-place-preserved g c =
-    let so_far = c.loop-place.invariant in
-    let fits : FitsSigned w64 c.args.lanes.stride = search rules in
-    let on : c.loop-place.outer.rank < size_of c.args.lanes.firsts.lengths.now = subst (λ ls. c.loop-place.outer.rank < size_of ls) so_far.1 c.in-Some.ensures.0 in
-    let at : pos c.in-Some.place ≡ place_at_rank c.args.lanes.firsts.first c.args.lanes.firsts.lengths.now c.args.lanes.firsts.strides.now c.loop-place.outer.rank = rw (so_far.0, so_far.1, so_far.2) at c.in-Some.ensures.1 in
-    let made = c.lane_from.ensures.lane in
-    let lane = c.lane_from.result in
-    let next = next_rank c.loop-place.outer.rank (size_of c.loop-place.outer.lengths.now) c.advance.new.self.rank c.in-Some.ensures.0 c.advance.ensures.rank in (
-      c.advance.ensures.over.0 ∙ so_far.0,
-      c.advance.ensures.over.1 ∙ so_far.1,
-      c.advance.ensures.over.2 ∙ so_far.2,
-      (lane_moved (lane_place c.args.lanes.firsts.first c.args.lanes.firsts.lengths.now c.args.lanes.firsts.strides.now c.args.lanes.stride) c.args.lanes.count (rotated c.args.from c.args.lanes.count) (g.S.Data.stored c.args.storage.now) c.loop-place.outer.rank (size_of c.args.lanes.firsts.lengths.now) on c.requires.apart
-          (λ k. pos lane.place +ℤ (pos k *ℤ lane.stride)) lane.count made.1
-          (lane_goes c.args.lanes.firsts.first c.args.lanes.firsts.lengths.now c.args.lanes.firsts.strides.now c.args.lanes.stride c.loop-place.outer.rank c.in-Some.place lane.place lane.stride made.0 (made.2 ∙ to_z-of_z w64 c.args.lanes.stride fits) at)
-          c.advance.new.self.rank next (rotated c.args.from) refl (λ k below. rotated_below c.args.from c.args.lanes.count k c.requires.from below)
-          (g.S.Data.stored c.loop-place.storage) (g.S.Data.stored c.rotate_lane.new.storage) so_far.3 c.rotate_lane.ensures.moved),
-      c.rotate_lane.ensures.frame ∙ so_far.4,
+pub loop-lane-preserved : goal.loop-lane-preserved
+loop-lane-preserved g c =
+    let at = lanes_in c.args.lanes in
+    let so_far = c.loop-lane.invariant in
+    let here = lane_in_turn c.in-Some.lane so_far.0 c.in-Some.ensures.lane.0 in
+    let lane = along c.in-Some.lane in (
+      c.in-Some.ensures.lanes ∙ so_far.0,
+      lane_moved at.place at.count (rotated c.args.from at.count) (g.S.Data.stored c.args.storage.now) c.loop-lane.turns.walk.rank at.lanes here.0 c.requires.apart lane.place lane.count here.1 here.2
+          c.next.new.self.walk.rank c.in-Some.ensures.lane.1 (rotated c.args.from) refl (λ k below. rotated_below c.args.from at.count k c.requires.from below)
+          (g.S.Data.stored c.loop-lane.storage) (g.S.Data.stored c.rotate_lane.new.storage) so_far.1 c.rotate_lane.ensures.moved,
+      c.rotate_lane.ensures.frame ∙ so_far.2,
     )

@@ -1,0 +1,58 @@
+//! The lanes of a layout's axis, made of the layout and of one of their first places.
+
+ghost use Rattle.std.specs.Prelude.{◌≡◌, ◌<◌, length, slice_index};
+ghost use Rattle.nd_shape_and_slice.specs.Shape.{size_of};
+ghost use Rattle.nd_shape_and_slice.specs.Maps.{indexed_shape, collapsed_shape, collapsed_index};
+ghost use Rattle.nd_layout.specs.Placements.{placement_of, IsStepOf, KeepsApart};
+ghost use Rattle.nd_elements.specs.along.AxisLanes.{IsFirstOfLanes, AreChecked, LanesDiffer, LieAlong, LieThrough};
+ghost use Rattle.nd_elements.specs.along.LanesIn.{lanes_in};
+
+use crate::along::axis_lanes::AxisLanes;
+use nd_layout::{Layout, stride_at};
+use nd_shape_and_slice::{Axis, Dimension, StrideList};
+
+/// The lanes of a layout's axis, which begin at the places of a layout without that axis.
+pub fn lanes_along<'a, D: Dimension, T: StrideList, E: Dimension, U: StrideList>(
+    layout: &Layout<D, T>,
+    axis: Axis,
+    firsts: &'a Layout<E, U>,
+) -> AxisLanes<'a>
+    requires axis { axis.0 < length (D.lengths layout.now.dim) }
+    requires lengths { E.lengths firsts.now.dim ≡ indexed_shape (D.lengths layout.now.dim) axis.0 }
+    requires step { IsFirstOfLanes axis.0 (placement_of layout.now) (placement_of firsts.now) }
+    ensures along { LieAlong axis.0 (placement_of layout.now) (lanes_in result) }
+    ensures apart { KeepsApart (placement_of layout.now) → LanesDiffer (lanes_in result) }
+    ensures lanes { result.lanes ≡ size_of (E.lengths firsts.now.dim) }
+{
+    let stride = stride_at(layout.strides.slice(), axis.0);
+    AxisLanes::new(firsts, layout.dim.length(axis.0), stride)
+}
+
+/// A layout of the first places of an axis' lanes that keeps the axis, with length 1.
+pub fn first_of_each<D: Dimension, T: StrideList>(layout: &Layout<D, T>, axis: Axis) -> Layout<D, T>
+    requires axis { axis.0 < length (D.lengths layout.now.dim) }
+    requires some { 0 < slice_index (D.lengths layout.now.dim) axis.0 }
+    ensures lengths { D.lengths result.dim ≡ collapsed_shape (D.lengths layout.now.dim) axis.0 }
+    ensures step { IsStepOf (placement_of layout.now) (placement_of result) (collapsed_index axis.0 0) }
+{
+    let mut firsts = layout.copied();
+    firsts.collapse_axis(axis.0, 0);
+    firsts
+}
+
+/// The lanes of a layout's axis, which begin at the places of a layout that keeps the axis, with length 1.
+pub fn lanes_through<'a, D: Dimension, T: StrideList>(
+    layout: &Layout<D, T>,
+    axis: Axis,
+    firsts: &'a Layout<D, T>,
+) -> AxisLanes<'a>
+    requires axis { axis.0 < length (D.lengths layout.now.dim) }
+    requires lengths { D.lengths firsts.now.dim ≡ collapsed_shape (D.lengths layout.now.dim) axis.0 }
+    requires step { IsStepOf (placement_of layout.now) (placement_of firsts.now) (collapsed_index axis.0 0) }
+    ensures through { LieThrough axis.0 (placement_of layout.now) (lanes_in result) }
+    ensures apart { KeepsApart (placement_of layout.now) → LanesDiffer (lanes_in result) }
+    ensures checked { AreChecked (lanes_in result) }
+{
+    let stride = stride_at(layout.strides.slice(), axis.0);
+    AxisLanes::new(firsts, layout.dim.length(axis.0), stride)
+}
