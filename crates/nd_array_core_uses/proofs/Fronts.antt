@@ -1,6 +1,7 @@
 -- The first elements of a slice, seen as an array of one axis: the place of the index p is p.
 use Rattle.std.proofs.Common.{◌≡◌, ℕ, ◌+◌, ◌*◌, Bool, true, false, List, [], ◌∷◌, refl, ap, sym, ◌∙◌, arith}
 use Rattle.std.specs.Prelude.{Some, None, nat_lt, slice_get, ◌&&◌, if◌then◌else◌}
+use Rattle.std.proofs.Math.Bool.{and-true, and-false}
 use Rattle.nd_shape_and_slice.specs.declared.builder.Order.TheVariants.{RowMajor}
 use Rattle.nd_shape_and_slice.specs.Shape.{in_box}
 use Rattle.nd_array_core.specs.scoped.Sources.{GivenShape, place_in_slice, element_in_slice, KeepsUnseen}
@@ -10,14 +11,6 @@ front n = (n ∷ [], RowMajor, None)
 
 some_is : {p q : ℕ} → Some p ≡ Some q → p ≡ q
 some_is e = cc
-
-and_true : (b : Bool) → (b && true) ≡ b
-and_true true = refl
-and_true false = refl
-
-and_false : (b : Bool) → (b && false) ≡ false
-and_false true = refl
-and_false false = refl
 
 module _ {A : Type 0} (xs ys : List A) (n : ℕ) (x : A) (kept : KeepsUnseen xs ys (front n)) (filled : (i : List ℕ) → in_box (n ∷ []) i ≡ true → element_in_slice ys (front n) i ≡ Some x) where
   unseen : (p : ℕ) → nat_lt p n ≡ false → (i : List ℕ) → place_in_slice (front n) i ≡ Some p → ⊥
@@ -31,14 +24,14 @@ module _ {A : Type 0} (xs ys : List A) (n : ℕ) (x : A) (kept : KeepsUnseen xs 
           let below : nat_lt p n ≡ true = ap (λ k. nat_lt k n) (sym is) ∙ h in
           cc
       by_test false h = let none = rw h at e in cc
-  unseen p past (q ∷ r ∷ rs) e = let none = rw (and_false (nat_lt q n)) at e in cc
+  unseen p past (q ∷ r ∷ rs) e = let none = rw (and-false (nat_lt q n)) at e in cc
 
   pub front_filled : (p : ℕ) → slice_get ys p ≡ (if nat_lt p n then Some x else slice_get xs p)
   front_filled p = by_test (nat_lt p n) refl
     where
       by_test : (b : Bool) → nat_lt p n ≡ b → slice_get ys p ≡ (if nat_lt p n then Some x else slice_get xs p)
       by_test true h =
-          let there : in_box (n ∷ []) (p ∷ []) ≡ true = and_true (nat_lt p n) ∙ h in
+          let there : in_box (n ∷ []) (p ∷ []) ≡ true = and-true (nat_lt p n) ∙ h in
           let at : p * 1 + 0 ≡ p = omega arith in
           let is : slice_get ys (p * 1 + 0) ≡ Some x = rw h at (filled (p ∷ []) there) in
           rw h (ap (slice_get ys) (sym at) ∙ is)

@@ -5,12 +5,15 @@ use Rattle.std.specs.Option.{is_some, unwrap_or}
 use Rattle.std.proofs.Math.Nat.{zero-max}
 use Rattle.std.proofs.lemmas.Bool.{and_parts, and_from}
 use Rattle.std.proofs.lemmas.Bool.Decides.{nat_tests}
+use Rattle.std.proofs.Math.Dec.{leb-zero}
+use Rattle.std.proofs.Math.Bool.{and-false}
 use Rattle.nd_shape_and_slice.specs.declared.slice.Slice.{Slice}
 use Rattle.nd_shape_and_slice.specs.declared.slice_info.SliceInfoElem.{SliceInfoElem}
 use Rattle.nd_shape_and_slice.specs.declared.slice_info.SliceInfoElem.TheVariants.{Slice as Part}
 use Rattle.nd_shape_and_slice.specs.Shape.{in_box}
 use Rattle.nd_shape_and_slice.specs.Slice.{bound_on, low_of, high_of, sliced_length, quotient_up}
 use Rattle.nd_shape_and_slice.specs.SliceInfo.{fits_shape, shape_after, index_before}
+use Rattle.nd_shape_and_slice.proofs.Indexes.{in_two_axes}
 use Rattle.nd_array_core.specs.scoped.Tasks.{OthersKeep}
 
 -- the second number of a list
@@ -26,11 +29,8 @@ by_step k = record { start = pos 0; end = None; step = pos k }
 abbrev pub columns : List SliceInfoElem
 columns = Part (pos 0) None (pos 1) ∷ Part (pos 0) None (pos 2) ∷ []
 
-zero_below : (n : ℕ) → nat_le 0 n ≡ true
-zero_below n = grind (arith, nat_tests)
-
 pub start_is : (n : ℕ) → bound_on n (pos 0) ≡ Some 0
-start_is n = ap (λ t. if t then Some 0 else None) (zero_below n)
+start_is n = ap (λ t. if t then Some 0 else None) (leb-zero n)
 
 pub low_is : (n k : ℕ) → low_of n (by_step k) ≡ 0
 low_is n k = ap (λ b. unwrap_or b 0) (start_is n)
@@ -62,9 +62,6 @@ columns_index n m i j =
     let second : low_of m (by_step 2) + j * 2 ≡ j * 2 = ap (λ l. l + j * 2) (low_is m 2) ∙ omega arith in
     (λ k. first k ∷ second k ∷ [])
 
-pub two_in : (n m i j : ℕ) → i < n → j < m → in_box (n ∷ m ∷ []) (i ∷ j ∷ []) ≡ true
-two_in n m i j h k = and_from (nat_lt i n) (nat_lt j m && true) (grind (arith, nat_tests, h)) (and_from (nat_lt j m) true (grind (arith, nat_tests, k)) refl)
-
 pub two_below : (n m i j : ℕ) → in_box (n ∷ m ∷ []) (i ∷ j ∷ []) ≡ true → (i < n) × (j < m)
 two_below n m i j h =
     let rows = and_parts (nat_lt i n) (nat_lt j m && true) h in
@@ -76,7 +73,7 @@ module _ {A : Type 0} (n m : ℕ) (x : A) (old new : List ℕ → Option A) (fil
   even_painted : (row column : ℕ) → row < n → column < m → column % 2 ≡ 0 → new (row ∷ column ∷ []) ≡ Some x
   even_painted row column r c even =
       let half : column / 2 * 2 ≡ column = omega (arith, even) in
-      let inside : in_box (shape_after (n ∷ m ∷ []) columns) (row ∷ (column / 2) ∷ []) ≡ true = ap (λ s. in_box s (row ∷ (column / 2) ∷ [])) (columns_shape n m) ∙ two_in n ((m + 1) / 2) row (column / 2) r (omega (arith, c, even)) in
+      let inside : in_box (shape_after (n ∷ m ∷ []) columns) (row ∷ (column / 2) ∷ []) ≡ true = ap (λ s. in_box s (row ∷ (column / 2) ∷ [])) (columns_shape n m) ∙ in_two_axes n ((m + 1) / 2) row (column / 2) r (omega (arith, c, even)) in
       ap new (sym (columns_index n m row (column / 2) ∙ ap (λ k. row ∷ k ∷ []) half)) ∙ filled (row ∷ (column / 2) ∷ []) inside
 
   odd_kept : (row column : ℕ) → (column % 2 ≡ 0 → ⊥) → new (row ∷ column ∷ []) ≡ old (row ∷ column ∷ [])
@@ -87,11 +84,7 @@ module _ {A : Type 0} (n m : ℕ) (x : A) (old new : List ℕ → Option A) (fil
       never (a ∷ []) h e = let none : false ≡ true = sym (ap (λ s. in_box s (a ∷ [])) (columns_shape n m) ∙ no_second a) ∙ h in cc
         where
           no_second : (i : ℕ) → in_box (n ∷ ((m + 1) / 2) ∷ []) (i ∷ []) ≡ false
-          no_second i = by_test (nat_lt i n)
-            where
-              by_test : (t : Bool) → (t && false) ≡ false
-              by_test true = refl
-              by_test false = refl
+          no_second i = and-false (nat_lt i n)
       never (a ∷ b ∷ []) h e =
           let same : b * 2 ≡ column = ap second_of (sym (columns_index n m a b) ∙ e) in
           odd (omega (arith, same))

@@ -3,14 +3,17 @@ use Rattle.std.proofs.Common.{◌≡◌, ℕ, ◌+◌, ◌-◌, ◌*◌, ◌/◌
 use Rattle.std.specs.Prelude.{Option, slice_index, Some, None, nat_eq, nat_le, max, if◌then◌else◌}
 use Rattle.std.specs.Option.{is_some, unwrap_or}
 use Rattle.std.proofs.lemmas.Bool.Decides.{nat_tests}
+use Rattle.std.proofs.lemmas.Bool.{le-leb}
+use Rattle.std.proofs.Math.Nat.{max-eq_right}
 use Rattle.nd_shape_and_slice.specs.declared.slice.Slice.{Slice}
 use Rattle.nd_shape_and_slice.specs.declared.slice_info.SliceInfoElem.{SliceInfoElem}
 use Rattle.nd_shape_and_slice.specs.declared.slice_info.SliceInfoElem.TheVariants.{Slice as Part}
 use Rattle.nd_shape_and_slice.specs.Shape.{in_box}
 use Rattle.nd_shape_and_slice.specs.Slice.{bound_on, low_of, high_of, sliced_length, quotient_up}
 use Rattle.nd_shape_and_slice.specs.SliceInfo.{fits_shape, shape_after, index_before}
+use Rattle.nd_shape_and_slice.proofs.Indexes.{in_two_axes, bound_within}
 use Rattle.nd_array_core.specs.layout.MultiSlice.{NameNothingInCommon, TwoFit}
-use Rattle.nd_array_core_uses.proofs.Halves.{start_is, low_is, whole_length, two_in, two_below}
+use Rattle.nd_array_core_uses.proofs.Halves.{start_is, low_is, whole_length, two_below}
 
 -- every second from one on
 abbrev pub second_from : ℕ → Slice
@@ -23,21 +26,12 @@ abbrev first_of : List ℕ → ℕ
 first_of [] = 0
 first_of (a ∷ is) = a
 
-at_most : (k n : ℕ) → k ≤ n → nat_le k n ≡ true
-at_most k n h = grind (arith, nat_tests, h)
-
-start_at : (n k : ℕ) → k ≤ n → bound_on n (pos k) ≡ Some k
-start_at n k h = ap (λ t. if t then Some k else None) (at_most k n h)
-
 low_at : (n k : ℕ) → k ≤ n → low_of n (second_from k) ≡ k
-low_at n k h = ap (λ b. unwrap_or b 0) (start_at n k h)
-
-higher : (k n : ℕ) → k ≤ n → max k n ≡ n
-higher k n h = omega (arith, h)
+low_at n k h = ap (λ b. unwrap_or b 0) (bound_within n k h)
 
 rows_extent : (n k : ℕ) → k ≤ n → high_of n (second_from k) - low_of n (second_from k) ≡ n - k
 rows_extent n k h =
-    let high : high_of n (second_from k) ≡ n = ap (λ l. max l n) (low_at n k h) ∙ higher k n h in
+    let high : high_of n (second_from k) ≡ n = ap (λ l. max l n) (low_at n k h) ∙ max-eq_right h in
     let low = low_at n k h in
     omega (arith, high, low)
 
@@ -45,7 +39,7 @@ rows_length : (n k : ℕ) → k ≤ n → sliced_length n (second_from k) ≡ (n
 rows_length n k h = ap (λ e. quotient_up e 2) (rows_extent n k h)
 
 pub rows_fit : (n m k : ℕ) → k ≤ n → fits_shape (n ∷ m ∷ []) (rows_from k) ≡ true
-rows_fit n m k h = (λ i. is_some (start_at n k h i) && true && (is_some (start_is m i) && true && true) && true)
+rows_fit n m k h = (λ i. is_some (bound_within n k h i) && true && (is_some (start_is m i) && true && true) && true)
 
 rows_shape : (n m k : ℕ) → k ≤ n → shape_after (n ∷ m ∷ []) (rows_from k) ≡ ((n - k + 1) / 2) ∷ m ∷ []
 rows_shape n m k h = λ i. rows_length n k h i ∷ whole_length m i ∷ []
@@ -78,7 +72,7 @@ module _ {A : Type 0} (n m : ℕ) (x y : A) (new : List ℕ → Option A) where
   row_filled k v h filled row column r c odd =
       let back : k + row / 2 * 2 ≡ row = omega (arith, odd) in
       let within : row / 2 < (n - k + 1) / 2 = omega (arith, r, odd) in
-      let inside : in_box (shape_after (n ∷ m ∷ []) (rows_from k)) ((row / 2) ∷ column ∷ []) ≡ true = ap (λ s. in_box s ((row / 2) ∷ column ∷ [])) (rows_shape n m k h) ∙ two_in ((n - k + 1) / 2) m (row / 2) column within c in
+      let inside : in_box (shape_after (n ∷ m ∷ []) (rows_from k)) ((row / 2) ∷ column ∷ []) ≡ true = ap (λ s. in_box s ((row / 2) ∷ column ∷ [])) (rows_shape n m k h) ∙ in_two_axes ((n - k + 1) / 2) m (row / 2) column within c in
       ap new (sym (rows_index n m k (row / 2) column h ∙ ap (λ a. a ∷ column ∷ []) back)) ∙ filled ((row / 2) ∷ column ∷ []) inside
 
   pub interleaved : 0 < n → ((i : List ℕ) → in_box (shape_after (n ∷ m ∷ []) (rows_from 0)) i ≡ true → new (index_before (n ∷ m ∷ []) (rows_from 0) i) ≡ Some x) → ((i : List ℕ) → in_box (shape_after (n ∷ m ∷ []) (rows_from 1)) i ≡ true → new (index_before (n ∷ m ∷ []) (rows_from 1) i) ≡ Some y)

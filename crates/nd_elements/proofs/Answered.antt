@@ -3,23 +3,13 @@ use Rattle.std.proofs.Common.{◌≡◌, ℕ, zero, suc, ◌+◌, ◌<◌, Bool,
 use Rattle.std.specs.Prelude.{Option, None, Some, slice_get, if◌then◌else◌}
 use Rattle.std.specs.List.{FoldsTo}
 use Rattle.nd_shape_and_slice.specs.Shape.{in_box, size_of}
+use Rattle.nd_shape_and_slice.proofs.Lists.{got_last, got_still}
 use Rattle.nd_layout.specs.Ranks.{rank_in, index_in}
 use Rattle.nd_elements.specs.Meaning.{inside}
 use Rattle.nd_elements.specs.FreeOrder.{AnswersThere, HasAnswers, AskableInAnyOrder}
 use Rattle.nd_elements.specs.ByRank.{BuiltShape, found_by_rank}
 use Rattle.nd_elements.proofs.FreeOrder.{IsNumbering, listed, listed_part, listed_all, folds_weaker, folds_more, done_at_each}
 use Rattle.nd_elements.proofs.Numbered.{order_numbers}
-
-pub got_last : {A : Type 0} (xs : List A) (y : A) (k : ℕ) → length xs ≡ k → slice_get (xs ++ y ∷ []) k ≡ Some y
-got_last [] y zero e = refl
-got_last [] y (suc k) e = absurd (omega (arith, e))
-got_last (x ∷ xs) y zero e = absurd (omega (arith, e))
-got_last (x ∷ xs) y (suc k) e = got_last xs y k (omega (arith, e))
-
-pub got_still : {A : Type 0} (xs ys : List A) (k : ℕ) (y : A) → slice_get xs k ≡ Some y → slice_get (xs ++ ys) k ≡ Some y
-got_still [] ys k y e = cc
-got_still (x ∷ xs) ys zero y e = e
-got_still (x ∷ xs) ys (suc k) y e = got_still xs ys k y e
 
 module _ {P A : Type 0} (answers : P → List ℕ → A → P → Type 0) (built : BuiltShape) where
   abbrev numbers : IsNumbering built.0 (size_of built.0) (index_in built.1 built.0) (rank_in built.1 built.0)

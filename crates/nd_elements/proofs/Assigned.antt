@@ -2,6 +2,7 @@
 use Rattle.std.proofs.Common.{◌≡◌, ℕ, ◌+◌, ◌-◌, ◌<◌, ◌≤◌, Bool, true, false, List, length, ℤ, pos, refl, ap, sym, subst, ◌∙◌, arith, inl, inr}
 use Rattle.std.specs.Prelude.{Result, Ok, Err, OnOk, OnErr, ◌⊎◌, Option, None, Some, is_some, nat_lt, if◌then◌else◌}
 use Rattle.std.proofs.lemmas.Bool.Decides.{nat_tests}
+use Rattle.std.proofs.Math.Nat.{add-zero}
 use Rattle.nd_shape_and_slice.specs.Shape.{in_box, size_of, row_rank, index_at}
 use Rattle.nd_shape_and_slice.specs.Place.{place_of}
 use Rattle.nd_shape_and_slice.proofs.RowMajor.{row_rank_below}
@@ -9,6 +10,7 @@ use Rattle.nd_shape_and_slice.proofs.RankIndexes.{in_box-index_at, index_at-row_
 use Rattle.nd_layout.specs.Lanes.{by_rank}
 use Rattle.nd_layout.specs.Placements.{Placement, KeepsApart}
 use Rattle.nd_layout.specs.Walk.{place_at_rank}
+use Rattle.nd_layout.proofs.Rearranged.{rearranged_itself}
 use Rattle.nd_elements.specs.ByLayout.{shown_at, HoldsEach, StaysBeside}
 use Rattle.nd_elements.specs.Collected.{stored_by_rank}
 use Rattle.nd_elements.specs.Meaning.{inside}
@@ -16,9 +18,9 @@ use Rattle.nd_elements.specs.Places.{stored_at, names_place, HoldsAll}
 use Rattle.nd_elements.specs.elements.Changes.{AreDistinct}
 use Rattle.nd_elements.specs.elements.Assigns.{IsAssignedTo, IsPartlyAssigned, MovesAt, AssignsAt}
 use Rattle.nd_elements.specs.elements.Pairs.{IsOldOrOf}
-use Rattle.nd_elements.proofs.Paired.{in_row_major, ranks_apart, others_stay}
-use Rattle.nd_elements.proofs.Rewritten.{stored_same}
+use Rattle.nd_elements.proofs.Paired.{ranks_apart, others_stay}
 use Rattle.nd_elements.proofs.TurnedAlike.{second_given}
+use Rattle.nd_elements.proofs.Changed.{stored_same}
 
 module _ {A : Type 0} (given : ℕ → Option A) (place : ℕ → ℤ) where
   pub assigned_none : (old : ℕ → Option A) → IsAssignedTo given place 0 old old
@@ -88,11 +90,8 @@ module _ {A : Type 0} (given : ℕ → Option A) (place : ℕ → ℤ) where
   pub assigned_more : (k n p : ℕ) (x : A) → k < n → AreDistinct place n → pos p ≡ place k → Some x ≡ given k → (old now new : ℕ → Option A) → IsAssignedTo given place k old now → new p ≡ Some x → ((q : ℕ) → (q ≡ p → ⊥) → new q ≡ now q) → IsAssignedTo given place (k + 1) old new
   assigned_more k n p x below apart at is old now new so_far here left =
       assigned_then k n apart old now so_far (λ j. place (k + j)) (λ j. given (k + j)) 1 (omega (arith, below)) (λ j under. refl) (λ j under. refl) new
-      (record { done = one; left = λ q nowhere. left q (λ same. nowhere 0 (omega arith) (ap place (zero_more k) ∙ (sym at ∙ ap pos (sym same)))) })
+      (record { done = one; left = λ q nowhere. left q (λ same. nowhere 0 (omega arith) (ap place (add-zero k) ∙ (sym at ∙ ap pos (sym same)))) })
     where
-      zero_more : (m : ℕ) → m + 0 ≡ m
-      zero_more m = omega arith
-
       one : (j : ℕ) → j < 1 → stored_at new (place (k + j)) ≡ given (k + j)
       one j under =
           let last : k ≡ k + j = omega (arith, under) in
@@ -140,14 +139,6 @@ pub either_way : {T E P Q C : Type 0} (r : Result T E) → OnOk r P → OnErr r 
 either_way (Ok x) p q f g = f p
 either_way (Err e) p q f g = g q
 
-pub on_ok : {T E P Q : Type 0} (r : Result T E) → (P → Q) → OnOk r P → OnOk r Q
-on_ok (Ok x) f p = f p
-on_ok (Err e) f p = p
-
-pub on_err : {T E P Q : Type 0} (r : Result T E) → (P → Q) → OnErr r P → OnErr r Q
-on_err (Ok x) f p = p
-on_err (Err e) f p = f p
-
 -- the same of a placement, and of a second one of its lengths
 module _ {A : Type 0} (others : ℕ → Option A) (one two : Placement) (alike : two.lengths ≡ one.lengths) (old new : ℕ → Option A) where
   abbrev given_there : ℕ → Option A
@@ -169,7 +160,7 @@ module _ {A : Type 0} (others : ℕ → Option A) (one two : Placement) (alike :
   pub partly_still : HoldsEach old one → HoldsEach others two → IsPartlyAssigned given_there place_there (size_of one.lengths) old new → HoldsEach new one × StaysBeside one old new
   partly_still holds others_hold partly = (
     partly_holds one.offset one.lengths one.strides given_there old new partly (λ rank below. others_hold (index_at two.lengths rank) (in_box-index_at two.lengths rank (subst (λ ns. rank < size_of ns) (sym alike) below))) holds,
-    others_stay one.offset one.lengths one.strides one.offset one.lengths one.strides (in_row_major one.offset one.lengths one.strides) old new partly.left,
+    others_stay one.offset one.lengths one.strides one.offset one.lengths one.strides (rearranged_itself one.offset one.lengths one.strides) old new partly.left,
   )
 
   pub assigned_still : length one.strides ≡ length one.lengths → KeepsApart one → HoldsEach old one → HoldsEach others two → IsAssignedTo given_there place_there (size_of one.lengths) old new → HoldsEach new one × StaysBeside one old new

@@ -4,6 +4,7 @@ use Rattle.std.specs.Prelude.{Option, None, Some, is_some}
 use Rattle.std.specs.Borrow.{MutBor}
 use Rattle.std.specs.Fn.{Mut}
 use Rattle.std.specs.Option.{option_map}
+use Rattle.std.proofs.Math.Nat.{add-zero}
 use Rattle.nd_shape_and_slice.specs.Shape.{in_box, size_of}
 use Rattle.nd_shape_and_slice.specs.Place.{place_of}
 use Rattle.nd_layout.specs.Walk.{place_at_rank, IsRearranged}
@@ -49,12 +50,9 @@ module _ {P A : Type 0} (call : Option A → Option A → P → P → Type 0) wh
   changed_more place k n p below apart at old now new first mid last so_far step left =
       changed_then place (λ j. place (k + j)) k 1 n (omega (arith, below)) apart (λ j under. refl) old now new first mid last so_far
       (record {
-        calls = (mid, refl, subst (λ z. call (stored_at now z) (stored_at new z) mid last) (at ∙ ap place (zero_more k)) step);
-        left = λ q nowhere. left q (λ same. nowhere 0 (omega arith) (ap place (sym (zero_more k)) ∙ (sym at ∙ ap pos (sym same))));
+        calls = (mid, refl, subst (λ z. call (stored_at now z) (stored_at new z) mid last) (at ∙ ap place (sym (add-zero k))) step);
+        left = λ q nowhere. left q (λ same. nowhere 0 (omega arith) (ap place (add-zero k) ∙ (sym at ∙ ap pos (sym same))));
       })
-    where
-      zero_more : (m : ℕ) → m ≡ m + 0
-      zero_more m = omega arith
 
 module _ {F A : Type 0} (g : Mut F (MutBor A × Unit {0}) (Unit {0} × (MutBor A × Unit {0}))) where
   -- whatever they left

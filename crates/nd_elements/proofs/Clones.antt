@@ -18,10 +18,3 @@ all_behind x [] (suc n) long each k below = absurd (omega (arith, long))
 all_behind x (y ∷ xs) zero long each k below = absurd (omega (arith, long))
 all_behind x (y ∷ xs) (suc n) long each zero below = each zero (omega arith)
 all_behind x (y ∷ xs) (suc n) long each (suc k) below = all_behind x xs n (omega (arith, long)) (λ j under. each (suc j) (omega (arith, under))) k (omega (arith, below))
-
--- what holds of each of a list holds with one more
-pub all_more : {A : Type 0} (P : A → Type 0) (xs : List A) (y : A) → All P xs → P y → All P (xs ++ y ∷ [])
-all_more P [] y each last zero d below = last
-all_more P [] y each last (suc k) d below = absurd (omega (arith, below))
-all_more P (x ∷ xs) y each last zero d below = each zero d (omega arith)
-all_more P (x ∷ xs) y each last (suc k) d below = all_more P xs y (λ j e under. each (suc j) e (omega (arith, under))) last k d (omega (arith, below))

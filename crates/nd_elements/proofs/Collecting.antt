@@ -2,7 +2,7 @@
 use Rattle.std.proofs.Common.{◌≡◌, ℕ, zero, suc, ◌+◌, ◌*◌, ◌<◌, ◌≤◌, Bool, true, false, List, [], ◌∷◌, ◌++◌, length, get_or, ℤ, pos, ◌+ℤ◌, ◌*ℤ◌, refl, ap, sym, ◌∙◌, arith, length-append}
 use Rattle.std.proofs.lemmas.List.{append-nil, append_assoc}
 use Rattle.std.proofs.Common.{inl, inr}
-use Rattle.std.proofs.lemmas.Option.{slice_get_cases, get_or_from_slice_get}
+use Rattle.std.proofs.lemmas.Option.{slice_get_cases, get_or_from_slice_get, slice_get_within}
 use Rattle.std.specs.Prelude.{◌⊎◌, Option, Some, None, is_some, slice_get}
 use Rattle.std.specs.List.{filter_map, cons_option, AppendsClones}
 use Rattle.std.proofs.Math.IntN.{pos-*ℤ-pos}
@@ -138,14 +138,10 @@ module _ {A : Type 0} where
     run_extended is_clone equal old new put = put.1 ∙ ap (λ ys. old ++ ys) (clones_same is_clone xs put.0 all put.2 ∙ run_collected)
       where
         all : StoredClonesAreEqual is_clone xs
-        all p x e = by_cases (slice_get_cases xs p).1
-          where
-            by_cases : ((y : A) × (p < length xs) × (slice_get xs p ≡ Some y) × (get_or xs p y ≡ y)) ⊎ ((length xs ≤ p) × (slice_get xs p ≡ None)) → ClonesAreEqual is_clone x
-            by_cases (inl there) =
-                let below = there.1 in
-                let same : get_or xs p x ≡ x = get_or_from_slice_get xs p x x e in
-                equal p x (omega (arith, below, long)) (beside_each p x below ∙ ap Some same)
-            by_cases (inr past) = let none = past.1 in absurd cc
+        all p x e =
+            let below = slice_get_within xs p x e in
+            let same : get_or xs p x ≡ x = get_or_from_slice_get xs p x x e in
+            equal p x (omega (arith, below, long)) (beside_each p x below ∙ ap Some same)
 
   -- what a list was filtered from
   filtered_from : (at : List ℕ → Option A) (is : List (List ℕ)) (p : ℕ) (x : A) → slice_get (filter_map at is) p ≡ Some x → (i : List ℕ) × (at i ≡ Some x)

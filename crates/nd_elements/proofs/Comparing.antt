@@ -4,9 +4,10 @@ use Rattle.std.specs.Prelude.{◌⊎◌, Option, Some, None, is_some, nat_eq, sl
 use Rattle.std.specs.Option.{unwrap_or}
 use Rattle.std.specs.Cmp.{unsigned_Decides, first_so, second_so}
 use Rattle.std.proofs.lemmas.Slice.Eq.{slice_eq-Decides}
-use Rattle.std.proofs.lemmas.Option.{slice_get_cases}
+use Rattle.std.proofs.lemmas.Option.{slice_get_cases, slice_get_within}
 use Rattle.std.specs.Cmp.Lexicographic.{pointwise}
 use Rattle.std.specs.List.{filter_map}
+use Rattle.std.proofs.Math.Bool.{and-true, and-false}
 use Rattle.nd_shape_and_slice.specs.Shape.{in_box, size_of, row_rank, index_at, indexes_of}
 use Rattle.nd_shape_and_slice.proofs.RankIndexes.{in_box-index_at, row_rank-index_at}
 use Rattle.nd_shape_and_slice.specs.Place.{place_of}
@@ -19,14 +20,6 @@ and_assoc : (a b c : Bool) → ((a && b) && c) ≡ (a && (b && c))
 and_assoc true b c = refl
 and_assoc false b c = refl
 
-and_true : (a : Bool) → (a && true) ≡ a
-and_true true = refl
-and_true false = refl
-
-and_false : (a : Bool) → (a && false) ≡ false
-and_false true = refl
-and_false false = refl
-
 module _ {A : Type 0} where
   pub is_inside : (ns i : List ℕ) (o : Option A) (x : A) → inside ns i o ≡ Some x → in_box ns i ≡ true
   is_inside ns i o x e = by_test (in_box ns i) e
@@ -38,13 +31,6 @@ module _ {A : Type 0} where
   shows_at : (stored : ℕ → Option A) (first : ℕ) (ns : List ℕ) (ss : List ℤ) → HoldsAll stored first ns ss → (i : List ℕ) → in_box ns i ≡ true
       → inside ns i (stored_at stored (place_of first ss i)) ≡ slice_get (filter_map (λ j. inside ns j (stored_at stored (place_of first ss j))) (indexes_of ns)) (row_rank ns i)
   shows_at stored first ns ss holds i h = ap (λ t. if t then stored_at stored (place_of first ss i) else None) h ∙ sym (listed_get stored first ns ss holds i h)
-
-  some_below : (xs : List A) (k : ℕ) (x : A) → slice_get xs k ≡ Some x → k < length xs
-  some_below xs k x e = by_cases (slice_get_cases xs k).1
-    where
-      by_cases : ((y : A) × (k < length xs) × (slice_get xs k ≡ Some y) × (get_or xs k y ≡ y)) ⊎ ((length xs ≤ k) × (slice_get xs k ≡ None)) → k < length xs
-      by_cases (inl found) = found.1
-      by_cases (inr past) = let none = past.1 in absurd cc
 
 module _ {A : Type 0} (E : A → A → Bool) where
   pointwise_append : (xs ys zs ws : List A) → length xs ≡ length ys → pointwise E (xs ++ zs) (ys ++ ws) ≡ (pointwise E xs ys && pointwise E zs ws)
@@ -59,7 +45,7 @@ module _ {A : Type 0} (E : A → A → Bool) where
       → (pointwise E (take k xs) (take k ys) && E x y) ≡ pointwise E (take (suc k) xs) (take (suc k) ys)
   pair_more k [] ys x y below other e f = absurd (omega (arith, below))
   pair_more k (a ∷ xs) [] x y below other e f = absurd (omega (arith, other))
-  pair_more zero (a ∷ xs) (b ∷ ys) x y below other e f = (λ k. E (e k) (f k)) ∙ sym (and_true (E a b))
+  pair_more zero (a ∷ xs) (b ∷ ys) x y below other e f = (λ k. E (e k) (f k)) ∙ sym (and-true (E a b))
   pair_more (suc k) (a ∷ xs) (b ∷ ys) x y below other e f =
       and_assoc (E a b) (pointwise E (take k xs) (take k ys)) (E x y)
       ∙ ap (λ t. E a b && t) (pair_more k xs ys x y (omega (arith, below)) (omega (arith, other)) e f)
@@ -82,7 +68,7 @@ module _ {A : Type 0} (E : A → A → Bool) where
         → same ≡ pointwise E (collected f k) (collected h k) → (same && E x y) ≡ pointwise E (collected f (k + 1)) (collected h (k + 1))
     compared_more k x y same some other fx hy so_far =
         ap (λ t. t && E x y) so_far
-        ∙ ap (λ t. pointwise E (collected f k) (collected h k) && t) (sym (and_true (E x y)))
+        ∙ ap (λ t. pointwise E (collected f k) (collected h k) && t) (sym (and-true (E x y)))
         ∙ sym (pointwise_append (collected f k) (collected h k) (x ∷ []) (y ∷ []) (long k some other))
         ∙ sym (λ i. pointwise E (collected_more f k x fx i) (collected_more h k y hy i))
 
@@ -124,7 +110,7 @@ module _ {A : Type 0} (E : A → A → Bool) where
           front_differs (k + m) within
           (compared_then k m (λ j below. some j (omega (arith, below, within))) (λ j below. other j (omega (arith, below, within)))
           ∙ ap (λ t. pointwise E (collected f k) (collected h k) && t) differs
-          ∙ and_false (pointwise E (collected f k) (collected h k)))
+          ∙ and-false (pointwise E (collected f k) (collected h k)))
 
       -- the same of a block that is also found otherwise, as that of a lane
       module _ (k m : ℕ) (one two : ℕ → Option A) (within : k + m ≤ n) (ours : (j : ℕ) → j < m → one j ≡ f (k + j)) (theirs : (j : ℕ) → j < m → two j ≡ h (k + j)) where
@@ -176,7 +162,7 @@ module _ {A : Type 0} (E : A → A → Bool) where
     all_at each =
         all_equal (listed_at a from ns ss) (listed_at b start ms ts) (elements_count a from ns ss holds ∙ ap size_of (sym shape) ∙ sym (elements_count b start ms ts has))
         (λ k x y e f.
-        let below : k < size_of ns = (let l = elements_count a from ns ss holds in let b = some_below (listed_at a from ns ss) k x e in omega (arith, l, b)) in
+        let below : k < size_of ns = (let l = elements_count a from ns ss holds in let b = slice_get_within (listed_at a from ns ss) k x e in omega (arith, l, b)) in
         let i = index_at ns k in
         let p = in_box-index_at ns k below in
         let q : in_box ms i ≡ true = ap (λ ls. in_box ls i) shape ∙ p in

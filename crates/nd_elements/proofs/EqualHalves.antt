@@ -3,6 +3,7 @@ use Rattle.std.proofs.Common.{◌≡◌, ℕ, Bool, true, ◌&&◌, ap, ◌∙�
 use Rattle.std.specs.Prelude.{Option, Some}
 use Rattle.std.specs.Cmp.Lexicographic.{pointwise}
 use Rattle.std.proofs.lemmas.Bool.{and_parts, and_from}
+use Rattle.std.specs.Cmp.{both_ways}
 use Rattle.nd_shape_and_slice.specs.Shape.{in_box}
 use Rattle.nd_shape_and_slice.specs.Place.{place_of}
 use Rattle.nd_layout.specs.Halves.{AreHalved}
@@ -11,7 +12,7 @@ use Rattle.nd_elements.specs.ByLayout.{shown_at, HoldsEach}
 use Rattle.nd_elements.specs.Places.{stored_at}
 use Rattle.nd_elements.proofs.Comparing.{is_inside, equal_at, all_at}
 use Rattle.nd_elements.proofs.InHalves.{each_half, step_shown, step_holds}
-use Rattle.nd_elements.proofs.TurnedEqual.{both_ways, listed, shown_before}
+use Rattle.nd_elements.proofs.TurnedEqual.{listed, shown_before}
 
 module _ {A : Type 0} (E : A → A → Bool) (a b : ℕ → Option A) (one two lower lower_two upper upper_two : Placement) (alike : two.lengths ≡ one.lengths) (halved : AreHalved one two lower lower_two upper upper_two) (holds : HoldsEach a one) (has : HoldsEach b two) where
   abbrev AreEqual : Placement → Placement → Bool

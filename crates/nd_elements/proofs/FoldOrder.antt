@@ -3,7 +3,8 @@ use Rattle.std.proofs.Common.{◌≡◌, ℕ, zero, suc, ◌+◌, ◌<◌, Bool,
 use Rattle.std.specs.Prelude.{Option, None, Some, nat_lt}
 use Rattle.std.proofs.lemmas.Bool.Decides.{nat_tests}
 use Rattle.std.specs.List.{fold, filter_map, cons_option}
-use Rattle.std.proofs.lemmas.List.{ext_get_or}
+use Rattle.std.proofs.lemmas.List.{ext_get_or, get_or_push}
+use Rattle.std.proofs.Math.ListN.{get_or-append}
 use Rattle.nd_shape_and_slice.specs.Shape.{size_of, index_at, indexes_of}
 use Rattle.nd_shape_and_slice.specs.declared.builder.Order.TheVariants.{RowMajor}
 use Rattle.nd_shape_and_slice.proofs.Ranks.{length-indexes_of, get_or-indexes_of}
@@ -53,7 +54,7 @@ module _ {B : Type 0} (step : B → List ℕ → B) (free : (b : B) (i j : List 
       let some : 0 < times x ys = omega (arith, same x, times_head x x xs, once) in
       fold_same xs (taken x ys) (λ i. omega (arith, same i, times_head i x xs, times_taken x i ys some)) (step b x) ∙ sym (fold_taken x ys some b)
 
-length-listed : (index : ℕ → List ℕ) (n : ℕ) → length (listed index n) ≡ n
+pub length-listed : (index : ℕ → List ℕ) (n : ℕ) → length (listed index n) ≡ n
 length-listed index zero = refl
 length-listed index (suc n) = longer (listed index n) ∙ ap suc (length-listed index n)
   where
@@ -61,24 +62,13 @@ length-listed index (suc n) = longer (listed index n) ∙ ap suc (length-listed 
     longer [] = refl
     longer (x ∷ xs) = ap suc (longer xs)
 
-got_before : (xs : List (List ℕ)) (y : List ℕ) (k : ℕ) → k < length xs → get_or (xs ++ y ∷ []) k [] ≡ get_or xs k []
-got_before [] y k below = absurd (omega (arith, below))
-got_before (x ∷ xs) y zero below = refl
-got_before (x ∷ xs) y (suc k) below = got_before xs y k (omega (arith, below))
-
-got_end : (xs : List (List ℕ)) (y : List ℕ) (k : ℕ) → length xs ≡ k → get_or (xs ++ y ∷ []) k [] ≡ y
-got_end [] y zero e = refl
-got_end [] y (suc k) e = absurd (omega (arith, e))
-got_end (x ∷ xs) y zero e = absurd (omega (arith, e))
-got_end (x ∷ xs) y (suc k) e = got_end xs y k (omega (arith, e))
-
 get_or-listed : (index : ℕ → List ℕ) (n k : ℕ) → k < n → get_or (listed index n) k [] ≡ index k
 get_or-listed index zero k below = absurd (omega (arith, below))
 get_or-listed index (suc n) k below = by_test (nat_lt k n) refl (get_or-listed index n k)
   where
     by_test : (t : Bool) → nat_lt k n ≡ t → (k < n → get_or (listed index n) k [] ≡ index k) → get_or (listed index n ++ index n ∷ []) k [] ≡ index k
-    by_test true e later = let under : k < n = grind (arith, nat_tests, e) in got_before (listed index n) (index n) k (omega (arith, under, length-listed index n)) ∙ later under
-    by_test false e later = let same : n ≡ k = grind (arith, nat_tests, e, below) in got_end (listed index n) (index n) k (length-listed index n ∙ same) ∙ ap index same
+    by_test true e later = let under : k < n = grind (arith, nat_tests, e) in get_or-append (listed index n) (index n ∷ []) [] k (omega (arith, under, length-listed index n)) ∙ later under
+    by_test false e later = let same : n ≡ k = grind (arith, nat_tests, e, below) in get_or_push (listed index n) (index n) [] k (length-listed index n ∙ same) ∙ ap index same
 
 -- the indexes of a shape in row-major order are those of the ranks, one after the other
 indexes_listed : (ns : List ℕ) → indexes_of ns ≡ listed (index_at ns) (size_of ns)

@@ -12,11 +12,11 @@ use Rattle.nd_elements.specs.CloneRefusals.{MayRefuseClone}
 use Rattle.nd_elements.specs.Clones.{ClonesOfAllAreEqual}
 use Rattle.nd_elements.specs.Places.{stored_at, names_place, place_number}
 use Rattle.nd_elements.specs.elements.Pairs.{IsOldOrOf}
-use Rattle.nd_elements.proofs.Rewritten.{stored_same}
 use Rattle.nd_elements.proofs.TurnedEqual.{shown_before}
 use Rattle.nd_elements.proofs.WriteStep.{one_index}
+use Rattle.nd_elements.proofs.Changed.{stored_same}
 
-number_is : (z : ℤ) (p : ℕ) → place_number z ≡ Some p → z ≡ pos p
+pub number_is : (z : ℤ) (p : ℕ) → place_number z ≡ Some p → z ≡ pos p
 number_is (pos q) p e = cc
 number_is (negsuc q) p e = cc
 

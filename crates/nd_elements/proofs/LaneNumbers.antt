@@ -4,15 +4,18 @@ use Rattle.std.specs.Prelude.{Some, slice_get}
 use Rattle.std.proofs.lemmas.Bool.{cases_lt}
 use Rattle.std.proofs.Math.Nat.{div-lt_iff_lt-mul}
 use Rattle.std.proofs.lemmas.Nat.{div-add-mod', div-mul-add, mod-mul-add, mod_below, row_fits}
-use Rattle.std.proofs.lemmas.List.{length-set, set-set, set-get_or, get_or-set_same}
+use Rattle.std.proofs.lemmas.List.{length-set, set-set, set-get_or, get_or-set_same, length_push}
+use Rattle.std.proofs.lemmas.Option.{same_Some, slice_get_within}
 use Rattle.nd_shape_and_slice.specs.Shape.{in_box, size_of, row_rank, index_at}
 use Rattle.nd_shape_and_slice.proofs.Boxes.{coordinate_below}
 use Rattle.nd_shape_and_slice.proofs.RowMajor.{length-in_box, row_rank_below}
 use Rattle.nd_shape_and_slice.proofs.RankIndexes.{in_box-index_at, row_rank-index_at, index_at-row_rank}
-use Rattle.nd_layout.proofs.Distinct.{in_box-set}
+use Rattle.nd_shape_and_slice.proofs.Indexes.{in_box-set}
+use Rattle.nd_shape_and_slice.proofs.Lists.{got_last, got_before}
 use Rattle.nd_elements.specs.along.AxisLanes.{IsPairing}
 use Rattle.nd_elements.specs.along.Rising.{next_index, RisesAlong}
 use Rattle.nd_elements.proofs.FreeOrder.{IsNumbering, listed}
+use Rattle.nd_elements.proofs.FoldOrder.{length-listed}
 
 -- the lane of a number, and where it stands there
 pub number_lane : (lanes w m : ℕ) → m < lanes * w → (m / w < lanes) × (m % w < w)
@@ -31,46 +34,22 @@ lane_number_below lanes w r k on below = let fits = row_fits r w lanes w on (ome
 
 -- what a list by numbers has at each of them
 pub longer : {A : Type 0} (xs : List A) (y : A) → length (xs ++ y ∷ []) ≡ suc (length xs)
-longer [] y = refl
-longer (x ∷ xs) y = ap suc (longer xs y)
-
-many_listed : (index : ℕ → List ℕ) (n : ℕ) → length (listed index n) ≡ n
-many_listed index zero = refl
-many_listed index (suc n) = longer (listed index n) (index n) ∙ ap suc (many_listed index n)
-
-pub got_before : {A : Type 0} (xs : List A) (y : A) (k : ℕ) → k < length xs → slice_get (xs ++ y ∷ []) k ≡ slice_get xs k
-got_before [] y k below = absurd (omega (arith, below))
-got_before (x ∷ xs) y zero below = refl
-got_before (x ∷ xs) y (suc k) below = got_before xs y k (omega (arith, below))
-
-pub got_end : {A : Type 0} (xs : List A) (y : A) (k : ℕ) → length xs ≡ k → slice_get (xs ++ y ∷ []) k ≡ Some y
-got_end [] y zero e = refl
-got_end [] y (suc k) e = absurd (omega (arith, e))
-got_end (x ∷ xs) y zero e = absurd (omega (arith, e))
-got_end (x ∷ xs) y (suc k) e = got_end xs y k (omega (arith, e))
-
-got_below : (xs : List (List ℕ)) (k : ℕ) (i : List ℕ) → slice_get xs k ≡ Some i → k < length xs
-got_below [] k i e = cc
-got_below (x ∷ xs) zero i e = omega arith
-got_below (x ∷ xs) (suc k) i e = let rest = got_below xs k i e in omega (arith, rest)
+longer xs y = omega (arith, length_push xs y)
 
 pub listed_at : (index : ℕ → List ℕ) (n k : ℕ) → k < n → slice_get (listed index n) k ≡ Some (index k)
 listed_at index zero k below = absurd (omega (arith, below))
 listed_at index (suc n) k below =
     ⊎_elim
-    (λ (under : k < n). got_before (listed index n) (index n) k (let long = many_listed index n in omega (arith, long, under)) ∙ listed_at index n k under)
-    (λ (past : n ≤ k). let same : n ≡ k = omega (arith, past, below) in got_end (listed index n) (index n) k (many_listed index n ∙ same) ∙ ap (λ j. Some (index j)) same)
+    (λ (under : k < n). got_before (listed index n) (index n ∷ []) k (let long = length-listed index n in omega (arith, long, under)) ∙ listed_at index n k under)
+    (λ (past : n ≤ k). let same : n ≡ k = omega (arith, past, below) in got_last (listed index n) (index n) k (length-listed index n ∙ same) ∙ ap (λ j. Some (index j)) same)
     (cases_lt k n)
-
-some_same : {A : Type 0} (x y : A) → Some x ≡ Some y → x ≡ y
-some_same x y e = cc
 
 pub listed_has : (index : ℕ → List ℕ) (n k : ℕ) (i : List ℕ) → slice_get (listed index n) k ≡ Some i → (k < n) × (i ≡ index k)
 listed_has index n k i e =
-    let long = many_listed index n in
-    let below = got_below (listed index n) k i e in
+    let long = length-listed index n in
+    let below = slice_get_within (listed index n) k i e in
     let under : k < n = omega (arith, long, below) in
-    (under, some_same i (index k) (sym e ∙ listed_at index n k under))
+    (under, same_Some i (index k) (sym e ∙ listed_at index n k under))
 
 -- one lane after the other
 pub by_lanes : (lanes count : ℕ) → IsPairing lanes count (lanes * count) (λ m. m / count) (λ m. m % count) (λ r k. r * count + k)

@@ -11,7 +11,7 @@ use Rattle.nd_elements.specs.CloneRefusals.{MayRefuseBelow}
 use Rattle.nd_elements.specs.Clones.{ClonesAreEqual}
 use Rattle.nd_elements.specs.NumberedPlaces.{PlacesDiffer}
 use Rattle.nd_elements.specs.Places.{stored_at, names_place}
-use Rattle.nd_elements.proofs.Rewritten.{stored_same}
+use Rattle.nd_elements.proofs.Changed.{stored_same}
 
 module _ (places : Places) (lanes : Lanes) (lane : Lane) (of : AreLanesOf places lanes) (given : IsLane lanes.first lanes.lengths.now lanes.strides.now lanes.rank lane.place lane.count lane.stride) where
   lies : IsLane places.first places.lengths.now places.strides.now lanes.rank lane.place lane.count lane.stride

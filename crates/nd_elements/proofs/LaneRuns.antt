@@ -4,11 +4,12 @@ use Rattle.std.proofs.lemmas.Bool.{cases_lt}
 use Rattle.std.specs.Prelude.{Option, slice_get}
 use Rattle.std.specs.Borrow.{Bor, MutBor}
 use Rattle.std.specs.Fn.{Mut}
+use Rattle.nd_shape_and_slice.proofs.Lists.{set_elsewhere}
 use Rattle.nd_elements.specs.Places.{stored_at}
 use Rattle.nd_elements.specs.elements.Folds.{RanTo}
 use Rattle.nd_elements.specs.along.Accumulated.{ChangesAfter, IsAccumulated, TakesLane}
 use Rattle.nd_elements.proofs.Ran.{ran_weaker}
-use Rattle.nd_elements.proofs.RunPairs.{number, set_left}
+use Rattle.nd_elements.proofs.RunPairs.{number}
 
 number_of : ℤ → ℕ
 number_of (pos k) = k
@@ -31,7 +32,7 @@ module _ {A : Type 0} where
 
   -- another put there changes no item but that
   pub left_but_next : (xs ys : List A) (y : A) (n p : ℕ) → length xs ≡ n → (p ≡ n → ⊥) → slice_get (xs ++ slice_set ys 0 y) p ≡ slice_get (xs ++ ys) p
-  left_but_next [] ys y zero p long apart = set_left ys 0 p y apart
+  left_but_next [] ys y zero p long apart = set_elsewhere ys 0 p y apart
   left_but_next [] ys y (suc n) p long apart = absurd (omega (arith, long))
   left_but_next (x ∷ xs) ys y zero p long apart = absurd (omega (arith, long))
   left_but_next (x ∷ xs) ys y (suc n) zero long apart = refl

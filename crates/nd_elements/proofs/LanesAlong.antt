@@ -12,7 +12,8 @@ use Rattle.nd_shape_and_slice.specs.Place.{place_of, displacement_of, IsSeparate
 use Rattle.nd_shape_and_slice.proofs.Boxes.{coordinate_below}
 use Rattle.nd_shape_and_slice.proofs.RowMajor.{length-in_box}
 use Rattle.nd_shape_and_slice.proofs.RankIndexes.{in_box-index_at, row_rank-index_at}
-use Rattle.nd_layout.proofs.Distinct.{in_box-set}
+use Rattle.nd_shape_and_slice.proofs.Lists.{remove-inserted}
+use Rattle.nd_shape_and_slice.proofs.Indexes.{in_box-set}
 use Rattle.nd_layout.proofs.Integers.{sums, zero-mul}
 use Rattle.nd_layout.proofs.Offsets.{displacement_of-at}
 use Rattle.nd_layout.proofs.Removed.{displacement_of-inserted, in_box-inserted}
@@ -26,12 +27,6 @@ use Rattle.nd_elements.specs.Places.{stored_at, names_place, place_number, Holds
 use Rattle.nd_elements.specs.Writes.{OthersStay}
 use Rattle.nd_elements.specs.along.AxisLanes.{LanePlaces, lanes_from, lane_place, LanesReach, LanesDistinct, LieBy, LieAlong, LieThrough}
 use Rattle.nd_elements.proofs.WriteStep.{one_index}
-
-pub remove-inserted : (o : List ℕ) (a k : ℕ) → a ≤ length o → remove (insert o a k) a ≡ o
-remove-inserted [] zero k fits = refl
-remove-inserted [] (suc a) k fits = absurd (omega (arith, fits))
-remove-inserted (x ∷ o) zero k fits = refl
-remove-inserted (x ∷ o) (suc a) k fits = ap (λ r. x ∷ r) (remove-inserted o a k (omega (arith, fits)))
 
 -- what follows for lanes that lie so
 module _ {shape : List ℕ} {index : ℕ → List ℕ → List ℕ} {axis : ℕ} {layout : Placement} {at : LanePlaces} (by : LieBy shape index axis layout at) where

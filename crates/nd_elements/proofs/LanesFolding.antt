@@ -4,12 +4,12 @@ use Rattle.std.specs.Prelude.{Option, Some, nat_eq, nat_lt, slice_get, if◌then
 use Rattle.std.specs.Borrow.{Bor}
 use Rattle.std.specs.Fn.{Mut}
 use Rattle.std.proofs.lemmas.Bool.Decides.{nat_tests}
+use Rattle.nd_shape_and_slice.proofs.Lists.{set_there, set_elsewhere}
 use Rattle.nd_elements.specs.elements.Folds.{RanTo}
 use Rattle.nd_elements.specs.along.AxisLanes.{IsPairing}
 use Rattle.nd_elements.specs.along.LanesFolded.{FoldsBetween, MayFold, FoldsShown, FoldsRun, TakesRun, FoldsBeside, TakesBeside, FoldsNumbered, FoldableNumbered, AreFoldedTo}
 use Rattle.nd_elements.proofs.LaneNumbers.{number_lane, lane_number, lane_number_below}
 use Rattle.nd_elements.proofs.Ran.{ran_more, ran_weaker, ran_then}
-use Rattle.nd_elements.proofs.RunPairs.{set_there, set_left}
 
 module _ {F B A : Type 0} (g : Mut F (Bor B × (Bor A × Unit {0})) B) where
   -- the calls of a lane, by its totals
@@ -216,11 +216,11 @@ module _ {F B A : Type 0} (g : Mut F (Bor B × (Bor A × Unit {0})) B) (elements
       let new = slice_get (slice_set now nth y) in
       ran_more (λ p r q. FoldsBetween g (slice_get old r) (elements r) (new r) p q) f p q nth
       (ran_weaker (λ p r q. FoldsBetween g (slice_get old r) (elements r) (slice_get now r) p q) (λ p r q. FoldsBetween g (slice_get old r) (elements r) (new r) p q) f p nth
-      (λ p j q under step. subst (λ o. FoldsBetween g (slice_get old j) (elements j) o p q) (sym (set_left now nth j y (λ e. absurd (omega (arith, under, e))))) step) run)
+      (λ p j q under step. subst (λ o. FoldsBetween g (slice_get old j) (elements j) o p q) (sym (set_elsewhere now nth j y (λ e. absurd (omega (arith, under, e))))) step) run)
       (subst (λ o. FoldsBetween g (slice_get old nth) (elements nth) o p q) (sym (set_there now nth y below)) (subst (λ o. FoldsBetween g o (elements nth) (Some y) p q) (kept nth (omega arith)) call))
 
   pub beside_kept : (j : ℕ) → nth + 1 ≤ j → slice_get (slice_set now nth y) j ≡ slice_get old j
-  beside_kept j later = set_left now nth j y (λ e. absurd (omega (arith, later, e))) ∙ kept j (omega (arith, later))
+  beside_kept j later = set_elsewhere now nth j y (λ e. absurd (omega (arith, later, e))) ∙ kept j (omega (arith, later))
 
 -- the same calls where other words say what the elements are
 pub beside_same : {F B A : Type 0} (g : Mut F (Bor B × (Bor A × Unit {0})) B) (elements others : ℕ → Option A) (before after : ℕ → Option B) (f last : F) (n m : ℕ) → n ≡ m → ((r : ℕ) → r < n → elements r ≡ others r) → FoldsBeside g before elements after f n last → FoldsBeside g before others after f m last

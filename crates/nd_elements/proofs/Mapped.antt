@@ -9,11 +9,14 @@ use Rattle.std.specs.Borrow.{Bor}
 use Rattle.std.specs.Fn.{Mut}
 use Rattle.std.specs.List.{FoldsTo}
 use Rattle.std.specs.Option.{option_map}
+use Rattle.std.proofs.lemmas.Option.{slice_get_read}
+use Rattle.std.proofs.Math.Nat.{add-zero}
 use Rattle.nd_shape_and_slice.specs.Shape.{in_box, size_of}
 use Rattle.nd_shape_and_slice.specs.Place.{place_of}
 use Rattle.nd_shape_and_slice.specs.Shape.{index_at, row_rank}
 use Rattle.nd_shape_and_slice.specs.declared.builder.Order.TheVariants.{RowMajor}
 use Rattle.nd_shape_and_slice.proofs.RankIndexes.{in_box-index_at}
+use Rattle.nd_shape_and_slice.proofs.Lists.{got_still, got_behind}
 use Rattle.nd_layout.specs.Walk.{IsRearranged, IsRejoined}
 use Rattle.nd_elements.specs.Meaning.{inside}
 use Rattle.nd_elements.specs.Places.{stored_at}
@@ -26,27 +29,9 @@ use Rattle.nd_elements.proofs.Collecting.{beside}
 use Rattle.nd_elements.proofs.Numbered.{order_numbers}
 use Rattle.nd_elements.proofs.Ran.{ran_more, ran_weaker, ran_then, ran_listed}
 
-got_before : {A : Type 0} (xs ys : List A) (k : ℕ) (y : A) → slice_get xs k ≡ Some y → slice_get (xs ++ ys) k ≡ Some y
-got_before [] ys k y e = cc
-got_before (x ∷ xs) ys zero y e = e
-got_before (x ∷ xs) ys (suc k) y e = got_before xs ys k y e
-
-got_behind : {A : Type 0} (xs ys : List A) (n k : ℕ) → length xs ≡ n → slice_get (xs ++ ys) (n + k) ≡ slice_get ys k
-got_behind [] ys zero k e = let same : 0 + k ≡ k = omega arith in ap (slice_get ys) same
-got_behind [] ys (suc n) k e = absurd (omega (arith, e))
-got_behind (x ∷ xs) ys zero k e = absurd (omega (arith, e))
-got_behind (x ∷ xs) ys (suc n) k e = let next : suc n + k ≡ suc (n + k) = omega arith in ap (slice_get (x ∷ xs ++ ys)) next ∙ got_behind xs ys n k (omega (arith, e))
-
 -- an item of a list, by its number
 pub got_there : {A : Type 0} (xs : List A) (k : ℕ) (x : A) → k < length xs → x ≡ get_or xs k x → slice_get xs k ≡ Some x
-got_there [] k x below e = absurd (omega (arith, below))
-got_there (y ∷ ys) zero x below e = ap Some (sym e)
-got_there (y ∷ ys) (suc k) x below e = got_there ys k x (omega (arith, below)) e
-
-pub got_below : {A : Type 0} (xs : List A) (k : ℕ) (x : A) → slice_get xs k ≡ Some x → k < length xs
-got_below [] k x e = absurd cc
-got_below (y ∷ ys) zero x e = omega arith
-got_below (y ∷ ys) (suc k) x e = let below = got_below ys k x e in omega (arith, below)
+got_there xs k x below e = slice_get_read xs (length xs) k x refl below e
 
 pub got_item : {A : Type 0} (xs : List A) (k : ℕ) (o : Option A) → k < length xs → ((d : A) → o ≡ Some (get_or xs k d)) → slice_get xs k ≡ o
 got_item [] k o below each = absurd (omega (arith, below))
@@ -102,7 +87,7 @@ module _ {P A B : Type 0} (answers : P → Option A → B → P → Type 0) wher
       calls = ran_then (λ p j q. (y : B) × (slice_get (so_far.behind ++ after.behind) j ≡ Some y) × answers p (found j) y q) (λ p j q. (y : B) × (slice_get after.behind j ≡ Some y) × answers p (later j) y q) first mid last k count
           (λ p j q below call. (call.0, got_behind so_far.behind after.behind k j so_far.many ∙ call.1, subst (λ o. answers p o call.0 q) (goes_on j below) call.2))
           (ran_weaker (λ p j q. (y : B) × (slice_get so_far.behind j ≡ Some y) × answers p (found j) y q) (λ p j q. (y : B) × (slice_get (so_far.behind ++ after.behind) j ≡ Some y) × answers p (found j) y q) first mid k
-          (λ p j q below call. (call.0, got_before so_far.behind after.behind j call.0 call.1, call.2)) so_far.calls)
+          (λ p j q below call. (call.0, got_still so_far.behind after.behind j call.0 call.1, call.2)) so_far.calls)
           after.calls;
     }
 
@@ -117,10 +102,7 @@ module _ {P A B : Type 0} (answers : P → Option A → B → P → Type 0) wher
   pub behind_more : (found : ℕ → Option A) (k : ℕ) (old now new : List B) (first mid last : P) (y : B) → new ≡ now ++ y ∷ [] → answers mid (found k) y last → AnswersBehind answers found k old now first mid → AnswersBehind answers found (k + 1) old new first last
   behind_more found k old now new first mid last y whole call so_far =
       behind_then found (λ j. found (k + j)) k 1 (λ j below. refl) old now new first mid last so_far
-      (record { behind = y ∷ []; whole = whole; many = refl; calls = (mid, refl, (y, refl, subst (λ n. answers mid (found n) y last) (zero_more k) call)) })
-    where
-      zero_more : (m : ℕ) → m ≡ m + 0
-      zero_more m = omega arith
+      (record { behind = y ∷ []; whole = whole; many = refl; calls = (mid, refl, (y, refl, subst (λ n. answers mid (found n) y last) (sym (add-zero k)) call)) })
 
 -- the same by index
 module _ {P A B : Type 0} (answers : P → Option A → B → P → Type 0) {shape : List ℕ} {count : ℕ} {index : ℕ → List ℕ} {rank : List ℕ → ℕ} (numbered : IsNumbering shape count index rank) (at : List ℕ → Option A) (found : ℕ → Option A) (same : (k : ℕ) → k < count → found k ≡ at (index k)) where

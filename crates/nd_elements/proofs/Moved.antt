@@ -1,6 +1,7 @@
 -- Elements of two storages exchanged, one place after another.
 use Rattle.std.proofs.Common.{◌≡◌, ℕ, ◌+◌, ◌<◌, ◌≤◌, ℤ, pos, refl, ap, sym, ◌∙◌, arith}
 use Rattle.std.specs.Prelude.{Option}
+use Rattle.std.proofs.Math.Nat.{add-zero}
 use Rattle.nd_elements.specs.Places.{stored_at}
 use Rattle.nd_elements.specs.elements.Assigns.{IsAssignedTo}
 use Rattle.nd_elements.specs.elements.Changes.{AreDistinct}
@@ -11,11 +12,8 @@ module _ {A : Type 0} (given : ℕ → Option A) (place : ℕ → ℤ) where
   pub moved_more : (k n p : ℕ) → k < n → AreDistinct place n → pos p ≡ place k → (old now new : ℕ → Option A) → IsAssignedTo given place k old now → new p ≡ given k → ((q : ℕ) → (q ≡ p → ⊥) → new q ≡ now q) → IsAssignedTo given place (k + 1) old new
   moved_more k n p below apart at old now new so_far here left =
       assigned_then given place k n apart old now so_far (λ j. place (k + j)) (λ j. given (k + j)) 1 (omega (arith, below)) (λ j under. refl) (λ j under. refl) new
-      (record { done = one; left = λ q nowhere. left q (λ same. nowhere 0 (omega arith) (ap place (zero_more k) ∙ (sym at ∙ ap pos (sym same)))) })
+      (record { done = one; left = λ q nowhere. left q (λ same. nowhere 0 (omega arith) (ap place (add-zero k) ∙ (sym at ∙ ap pos (sym same)))) })
     where
-      zero_more : (m : ℕ) → m + 0 ≡ m
-      zero_more m = omega arith
-
       one : (j : ℕ) → j < 1 → stored_at new (place (k + j)) ≡ given (k + j)
       one j under =
           let last : k ≡ k + j = omega (arith, under) in

@@ -5,6 +5,7 @@ use Rattle.std.specs.Borrow.{Bor, MutBor}
 use Rattle.std.specs.Fn.{Mut}
 use Rattle.std.proofs.lemmas.Bool.{and_parts}
 use Rattle.std.proofs.lemmas.Bool.Decides.{nat_tests}
+use Rattle.std.proofs.Math.Numerals.{suc-eq-add-one}
 use Rattle.nd_shape_and_slice.specs.Shape.{in_box}
 use Rattle.nd_shape_and_slice.specs.Place.{place_of}
 use Rattle.nd_layout.proofs.Integers.{sums, suc-mul, zero-mul, one-mul}
@@ -26,11 +27,8 @@ module _ (place nth count from to : ℕ) (s t : ℤ) (strides : t ≡ s) (within
   second_place : place_of from (t ∷ []) (1 ∷ []) ≡ pos to
   second_place =
       let one = one-mul t in
-      let more : pos (nth + 1) *ℤ s ≡ (pos nth *ℤ s) +ℤ s = subst (λ m. pos m *ℤ s ≡ (pos nth *ℤ s) +ℤ s) (next nth) (suc-mul nth s) in
+      let more : pos (nth + 1) *ℤ s ≡ (pos nth *ℤ s) +ℤ s = subst (λ m. pos m *ℤ s ≡ (pos nth *ℤ s) +ℤ s) (suc-eq-add-one nth) (suc-mul nth s) in
       omega (arith, sums, one, strides, at_from, at_to, more)
-    where
-      next : (m : ℕ) → suc m ≡ m + 1
-      next m = omega arith
 
   pub names_first : names from (2 ∷ []) (t ∷ []) from ≡ true
   names_first = named_at from (2 ∷ []) (t ∷ []) from (0 ∷ []) refl first_place

@@ -135,18 +135,6 @@ pub others_stay : {A : Type 0} (offset : ℕ) (ns : List ℕ) (ss : List ℤ) (t
 others_stay offset ns ss to ms ts by old new left p nowhere =
     left p (λ k below e. nowhere (by.index_of k) (rw (by.within k below) (ap place_number (sym (by.same k below) ∙ e))))
 
--- the layout itself, in row-major order: the indexes are those of the ranks
-abbrev pub in_row_major : (offset : ℕ) (ns : List ℕ) (ss : List ℤ) → IsRearranged offset ns ss offset ns ss
-in_row_major offset ns ss = record {
-  index_of = index_at ns;
-  rank_of = row_rank ns;
-  within = λ r h. in_box-index_at ns r h;
-  below = λ i h. row_rank_below ns i h;
-  there = λ r h. row_rank-index_at ns r h;
-  back = λ i h. index_at-row_rank ns i h;
-  same = λ r h. refl;
-}
-
 pub ranks_apart : (offset : ℕ) (ns : List ℕ) (ss : List ℤ) → length ss ≡ length ns → (0 < size_of ns → IsSeparated ns ss) → AreDistinct (place_at_rank offset ns ss) (size_of ns)
 ranks_apart offset ns ss as_many apart j k under below same =
     sym (row_rank-index_at ns j under) ∙ (ap (row_rank ns) (one_index ns ss offset (index_at ns j) (index_at ns k) as_many apart (in_box-index_at ns j under) (in_box-index_at ns k below) same) ∙ row_rank-index_at ns k below)

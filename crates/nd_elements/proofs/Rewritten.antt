@@ -1,16 +1,13 @@
 -- Elements rewritten one place after another, each by a call that its number tells.
 use Rattle.std.proofs.Common.{◌≡◌, ℕ, ◌+◌, ◌<◌, ◌≤◌, ℤ, pos, negsuc, refl, ap, sym, subst, ◌∙◌, arith}
 use Rattle.std.specs.Prelude.{Option}
+use Rattle.std.proofs.Math.Nat.{add-zero}
 use Rattle.nd_elements.specs.Places.{stored_at}
 use Rattle.nd_elements.specs.elements.Folds.{RanTo}
 use Rattle.nd_elements.specs.elements.Changes.{AreDistinct}
 use Rattle.nd_elements.specs.elements.Pairs.{IsRewrittenTo}
 use Rattle.nd_elements.proofs.Ran.{ran_weaker, ran_then}
-
--- what two storages hold at a whole number, where they hold the same at its place
-pub stored_same : {A : Type 0} (old new : ℕ → Option A) (z : ℤ) → ((p : ℕ) → z ≡ pos p → new p ≡ old p) → stored_at new z ≡ stored_at old z
-stored_same old new (pos p) same = same p refl
-stored_same old new (negsuc p) same = refl
+use Rattle.nd_elements.proofs.Changed.{stored_same}
 
 module _ {F A : Type 0} (call : ℕ → Option A → Option A → F → F → Type 0) where
   pub rewritten_none : (place : ℕ → ℤ) (old : ℕ → Option A) (f : F) → IsRewrittenTo call place 0 old old f f
@@ -55,9 +52,6 @@ module _ {F A : Type 0} (call : ℕ → Option A → Option A → F → F → Ty
   rewritten_more place k n p below apart at old now new first mid last so_far step left =
       rewritten_then place (λ j. place (k + j)) k 1 n (omega (arith, below)) apart (λ j under. refl) old now new first mid last so_far (λ j. call (k + j)) (λ j o w p q under s. s)
       (record {
-        calls = (mid, refl, subst (λ m. call m (stored_at now (place m)) (stored_at new (place m)) mid last) (zero_more k) (subst (λ z. call k (stored_at now z) (stored_at new z) mid last) at step));
-        left = λ q nowhere. left q (λ same. nowhere 0 (omega arith) (ap place (sym (zero_more k)) ∙ (sym at ∙ ap pos (sym same))));
+        calls = (mid, refl, subst (λ m. call m (stored_at now (place m)) (stored_at new (place m)) mid last) (sym (add-zero k)) (subst (λ z. call k (stored_at now z) (stored_at new z) mid last) at step));
+        left = λ q nowhere. left q (λ same. nowhere 0 (omega arith) (ap place (add-zero k) ∙ (sym at ∙ ap pos (sym same))));
       })
-    where
-      zero_more : (m : ℕ) → m ≡ m + 0
-      zero_more m = omega arith

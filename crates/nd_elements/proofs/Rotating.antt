@@ -7,6 +7,7 @@ use Rattle.nd_elements.specs.Places.{stored_at, names_place, swapped_at}
 use Rattle.nd_elements.specs.elements.Changes.{AreDistinct}
 use Rattle.nd_elements.specs.along.AxisLanes.{LanesDistinct}
 use Rattle.nd_elements.specs.along.Removed.{rotated, IsMovedBy, AreMovedBy}
+use Rattle.nd_elements.proofs.Changed.{stored_same}
 
 -- ---- which coordinate comes where
 rotated_low : (k n i : ℕ) → i < k → rotated k n i ≡ i
@@ -44,10 +45,6 @@ rotated_below k n i on below =
 
 -- ---- one lane
 module _ {A : Type 0} where
-  stored_same : (old new : ℕ → Option A) (z : ℤ) → ((p : ℕ) → z ≡ pos p → new p ≡ old p) → stored_at new z ≡ stored_at old z
-  stored_same old new (pos p) same = same p refl
-  stored_same old new (negsuc p) same = refl
-
   module _ (place : ℕ → ℤ) (n k : ℕ) (old : ℕ → Option A) where
     pub rotated_none : k < n → IsMovedBy old old place n (rotated k (k + 1))
     rotated_none on = record {

@@ -8,6 +8,7 @@ use Rattle.std.proofs.lemmas.Bool.{and_parts}
 use Rattle.std.proofs.lemmas.Bool.Decides.{nat_tests}
 use Rattle.nd_shape_and_slice.specs.Shape.{in_box, HasCheckedSize}
 use Rattle.nd_shape_and_slice.specs.Place.{place_of}
+use Rattle.nd_shape_and_slice.proofs.Lists.{set_there, set_elsewhere}
 use Rattle.nd_layout.proofs.Integers.{sums, zero-mul, one-mul}
 use Rattle.nd_region.specs.declared.region.Region.{Region}
 use Rattle.nd_region.specs.Places.{stored_in, merged_rows, overwritten_items, run_written, names, names_not}
@@ -20,7 +21,7 @@ use Rattle.nd_elements.specs.RunLent.{HasRunAt, IsBesideRun, places_run, places_
 use Rattle.nd_elements.specs.Scoped.{with_named, IsNamedPart}
 use Rattle.nd_elements.specs.along.Accumulated.{AreRunsApart, ChangesAfter, ChangesRow, TakesRow, RowChangedBetween, RowChangedInside, run_at, run_of}
 use Rattle.nd_elements.proofs.Ran.{ran_more, ran_weaker}
-use Rattle.nd_elements.proofs.RunPairs.{side_place, set_there, set_left}
+use Rattle.nd_elements.proofs.RunPairs.{side_place}
 
 -- the same calls where other words say what is shown, found and left
 module _ {F A : Type 0} (g : Mut F (Bor A × (MutBor A × Unit {0})) (Unit {0} × (MutBor A × Unit {0}))) (before shown old found : ℕ → Option A) (n : ℕ) (same : (k : ℕ) → k < n → shown k ≡ before k) (same_old : (k : ℕ) → k < n → found k ≡ old k) where
@@ -47,11 +48,11 @@ module _ {F A : Type 0} (g : Mut F (Bor A × (MutBor A × Unit {0})) (Unit {0} �
       let new = slice_get (slice_set now nth y) in
       ran_more (λ p r q. ChangesAfter g (before r) (slice_get old r) (new r) p q) f p q nth
       (ran_weaker (λ p r q. ChangesAfter g (before r) (slice_get old r) (slice_get now r) p q) (λ p r q. ChangesAfter g (before r) (slice_get old r) (new r) p q) f p nth
-      (λ p j q under step. subst (λ o. ChangesAfter g (before j) (slice_get old j) o p q) (sym (set_left now nth j y (λ e. absurd (omega (arith, under, e))))) step) run)
+      (λ p j q under step. subst (λ o. ChangesAfter g (before j) (slice_get old j) o p q) (sym (set_elsewhere now nth j y (λ e. absurd (omega (arith, under, e))))) step) run)
       (subst (λ o. ChangesAfter g (before nth) (slice_get old nth) o p q) (sym (set_there now nth y below)) (subst (λ o. ChangesAfter g (before nth) o (Some y) p q) (kept nth (omega arith)) call))
 
   pub row_kept : (j : ℕ) → nth + 1 ≤ j → slice_get (slice_set now nth y) j ≡ slice_get old j
-  row_kept j later = set_left now nth j y (λ e. absurd (omega (arith, later, e))) ∙ kept j (omega (arith, later))
+  row_kept j later = set_elsewhere now nth j y (λ e. absurd (omega (arith, later, e))) ∙ kept j (omega (arith, later))
 
 -- the places of a run, as those of a layout with one axis
 module _ (p n : ℕ) (t : ℤ) (one : t ≡ pos 1) where

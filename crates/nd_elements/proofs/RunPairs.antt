@@ -34,23 +34,6 @@ pub beside_lane : (p n : ℕ) (s : ℤ) → s ≡ pos 1 → (q : ℕ) → ((k : 
 beside_lane p n s one q nowhere k below e = nowhere k below (side_place p k s one ∙ ap pos (sym e))
 
 module _ {A : Type 0} where
-  pub got_or : (xs : List A) (k : ℕ) (d : A) → k < length xs → slice_get xs k ≡ Some (get_or xs k d)
-  got_or [] k d below = absurd (omega (arith, below))
-  got_or (x ∷ xs) zero d below = refl
-  got_or (x ∷ xs) (suc k) d below = let l : suc k < suc (length xs) = below in got_or xs k d (omega (arith, l))
-
-  pub set_there : (xs : List A) (k : ℕ) (y : A) → k < length xs → slice_get (slice_set xs k y) k ≡ Some y
-  set_there [] k y below = absurd (omega (arith, below))
-  set_there (x ∷ xs) zero y below = refl
-  set_there (x ∷ xs) (suc k) y below = let l : suc k < suc (length xs) = below in set_there xs k y (omega (arith, l))
-
-  pub set_left : (xs : List A) (k q : ℕ) (y : A) → (q ≡ k → ⊥) → slice_get (slice_set xs k y) q ≡ slice_get xs q
-  set_left [] k q y apart = refl
-  set_left (x ∷ xs) zero zero y apart = absurd (apart refl)
-  set_left (x ∷ xs) zero (suc q) y apart = refl
-  set_left (x ∷ xs) (suc k) zero y apart = refl
-  set_left (x ∷ xs) (suc k) (suc q) y apart = set_left xs k q y (λ e. apart (ap suc e))
-
   -- what a lane with steps of 1 shows
   pub side_shows : (stored : ℕ → Option A) (p k : ℕ) (s : ℤ) → s ≡ pos 1 → stored_at stored (pos p +ℤ (pos k *ℤ s)) ≡ stored (p + k)
   side_shows stored p k s one = ap (stored_at stored) (side_place p k s one)

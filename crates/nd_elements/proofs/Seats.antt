@@ -1,7 +1,7 @@
 -- The elements of a vector moved to seats of their own, the last one first.
 use Rattle.std.proofs.Common.{◌≡◌, ℕ, zero, suc, ◌+◌, ◌≤◌, Bool, true, false, List, [], ◌∷◌, ◌++◌, nat_eq, refl, ap, sym, ◌∙◌, arith}
 use Rattle.std.proofs.lemmas.Bool.Decides.{nat_tests}
-use Rattle.std.proofs.lemmas.List.{append-nil, append_assoc}
+use Rattle.std.proofs.lemmas.List.{append-nil, append_assoc, length_push}
 use Rattle.std.proofs.lemmas.Option.{slice_get_past}
 use Rattle.std.specs.Prelude.{◌<◌, ℤ, Option, Some, None, length, slice_get, slice_index_or, if◌then◌else◌}
 use Rattle.nd_elements.specs.Places.{kept_at, stored_at}
@@ -35,10 +35,6 @@ module _ {A : Type 0} where
   behind [] x rest = refl
   behind (y ∷ next) x rest = behind next x rest
 
-  longer : (next : List A) (x : A) → length (next ++ x ∷ []) ≡ length next + 1
-  longer [] x = refl
-  longer (y ∷ next) x = let one = longer next x in omega (arith, one)
-
   -- one more
   pub seated_more : (marks : List Bool) (all left next : List A) (seats new : ℕ → Option A) (x : A) (place : ℕ) → IsSeatedBehind marks all left seats → left ≡ next ++ x ∷ [] → place ≡ length next
       → (is_kept marks place ≡ true → new place ≡ Some x) → ((q : ℕ) → (q ≡ place → ⊥) → new q ≡ seats q) → IsSeatedBehind marks all next new
@@ -56,7 +52,7 @@ module _ {A : Type 0} where
 
       by_test : (p : ℕ) → length next ≤ p → is_kept marks p ≡ true → (t : Bool) → nat_eq p place ≡ t → new p ≡ slice_get all p
       by_test p past kept true e = let same : p ≡ place = grind (arith, nat_tests, e) in ap new same ∙ put (ap (is_kept marks) (sym same) ∙ kept) ∙ sym here ∙ ap (slice_get all) (sym same)
-      by_test p past kept false e = let other : p ≡ place → ⊥ = λ is. grind (arith, nat_tests, e, is) in let long = ap length popped ∙ longer next x in
+      by_test p past kept false e = let other : p ≡ place → ⊥ = λ is. grind (arith, nat_tests, e, is) in let long = ap length popped ∙ length_push next x in
           others p other ∙ so_far.done p (omega (arith, long, past, other, at)) kept
 
   -- each element that is kept sits at its place

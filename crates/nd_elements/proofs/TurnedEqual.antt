@@ -3,6 +3,7 @@ use Rattle.std.proofs.Common.{◌≡◌, ℕ, Bool, true, false, List, refl, ap,
 use Rattle.std.specs.Prelude.{Option, Some, None}
 use Rattle.std.specs.Cmp.Lexicographic.{pointwise}
 use Rattle.std.specs.List.{filter_map}
+use Rattle.std.specs.Cmp.{both_ways}
 use Rattle.nd_shape_and_slice.specs.Shape.{in_box, indexes_of}
 use Rattle.nd_shape_and_slice.specs.Place.{place_of}
 use Rattle.nd_layout.specs.MemoryOrder.{AreTurned}
@@ -17,17 +18,12 @@ use Rattle.nd_elements.proofs.SamePlaces.{seen_holds, seen_element}
 abbrev pub listed : {A : Type 0} → (ℕ → Option A) → Placement → List A
 listed stored p = filter_map (shown_at stored p) (indexes_of p.lengths)
 
-inside_some : {A : Type 0} (ns i : List ℕ) (o : Option A) (x : A) → inside ns i o ≡ Some x → o ≡ Some x
+pub inside_some : {A : Type 0} (ns i : List ℕ) (o : Option A) (x : A) → inside ns i o ≡ Some x → o ≡ Some x
 inside_some ns i o x e = by_test (in_box ns i) refl e
   where
     by_test : (b : Bool) → in_box ns i ≡ b → inside ns i o ≡ Some x → o ≡ Some x
     by_test true h e = rw h at e
     by_test false h e = absurd (let none : None ≡ Some x = rw h at e in cc)
-
-pub both_ways : (p q : Bool) → (p ≡ true → q ≡ true) → (q ≡ true → p ≡ true) → p ≡ q
-both_ways true q there back = sym (there refl)
-both_ways false true there back = back refl
-both_ways false false there back = refl
 
 module _ (one new_one : Placement) (source back : List ℕ → List ℕ) (step : IsStepOf one new_one source) where
   view : IsViewStepOf one new_one source

@@ -4,24 +4,12 @@ use Rattle.std.specs.Prelude.{Some, slice_get}
 use Rattle.std.specs.List.{slice_range}
 use Rattle.std.proofs.Math.Seq.{take-add}
 use Rattle.std.proofs.lemmas.List.{append_assoc, append-nil, drop-append-le, drop-take, length-append, length-drop, length-take-le}
+use Rattle.nd_shape_and_slice.proofs.Lists.{got_taken, got_dropped}
 use Rattle.nd_iter.proofs.Parts.{all_taken, first_taken, none_taken, length_taken}
 
 module _ {A : Type 0} where
-  got_of_first : (xs : List A) (n k : ℕ) → k < n → slice_get (take n xs) k ≡ slice_get xs k
-  got_of_first [] zero k h = absurd (omega (arith, h))
-  got_of_first [] (suc n) k h = refl
-  got_of_first (x ∷ xs) zero k h = absurd (omega (arith, h))
-  got_of_first (x ∷ xs) (suc n) zero h = refl
-  got_of_first (x ∷ xs) (suc n) (suc k) h = got_of_first xs n k (omega (arith, h))
-
-  got_of_rest : (xs : List A) (n k : ℕ) → slice_get (drop n xs) k ≡ slice_get xs (n + k)
-  got_of_rest [] zero k = refl
-  got_of_rest [] (suc n) k = refl
-  got_of_rest (x ∷ xs) zero k = ap (λ j. slice_get (x ∷ xs) j) (omega arith)
-  got_of_rest (x ∷ xs) (suc n) k = let more : suc (n + k) ≡ suc n + k = omega arith in got_of_rest xs n k ∙ ap (λ j. slice_get (x ∷ xs) j) more
-
   got_of_part : (row : List A) (low high k : ℕ) → k < high - low → slice_get (slice_range row low high) k ≡ slice_get row (low + k)
-  got_of_part row low high k h = got_of_first (drop low row) (high - low) k h ∙ got_of_rest row low k
+  got_of_part row low high k h = got_taken (drop low row) (high - low) k h ∙ got_dropped row low k
 
 module _ {A : Type 0} (all : List A) where
   abbrev pub IsListed : ℕ → List A → Type 0

@@ -11,7 +11,8 @@ use Rattle.nd_layout.specs.Growth.{IsContinued}
 use Rattle.nd_layout.specs.Strides.{reach_down}
 use Rattle.nd_layout.proofs.Integers.{sums}
 use Rattle.nd_shape_and_slice.proofs.Boxes.{coordinate_below}
-use Rattle.nd_layout.proofs.Distinct.{in_box-set, same_index}
+use Rattle.nd_shape_and_slice.proofs.Indexes.{in_box-set}
+use Rattle.nd_layout.proofs.Distinct.{same_index}
 use Rattle.nd_layout.proofs.RunFrom.{above_low, above_low-is, above_low-lt, each_above_low}
 
 -- the lowest place stays where an axis gets another length, and a stride that isn't negative

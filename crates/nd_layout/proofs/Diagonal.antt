@@ -9,6 +9,7 @@ use Rattle.nd_shape_and_slice.specs.Place.{displacement_of, span_of, IsSeparated
 use Rattle.nd_layout.specs.Strides.{sum_of}
 use Rattle.nd_layout.proofs.Integers.{sums, mul-sum}
 use Rattle.nd_shape_and_slice.proofs.Boxes.{in_box-from_coordinates}
+use Rattle.nd_shape_and_slice.proofs.Lists.{first_same}
 use Rattle.nd_layout.proofs.Reaches.{mul-pred}
 use Rattle.nd_layout.proofs.AxisChange.{on_axis}
 use Rattle.nd_layout.proofs.Distinct.{same_index}
@@ -27,7 +28,7 @@ in_box-diagonal ns k below =
     in_box-from_coordinates ns (replicate (length ns) k) (length-replicate (length ns) k)
     (λ a h. let e = get_or-replicate (length ns) a k 0 h in let b = below a h in omega arith)
 
-abs-sum : (a b : ℤ) → nat_abs (a +ℤ b) ≤ nat_abs a + nat_abs b
+pub abs-sum : (a b : ℤ) → nat_abs (a +ℤ b) ≤ nat_abs a + nat_abs b
 abs-sum a b = omega (arith, sums, abs_is (a +ℤ b), abs_is a, abs_is b)
 
 -- the diagonal reaches no further than the whole: m is at most the least length
@@ -42,12 +43,9 @@ diagonal-le-span (n ∷ ns) (s ∷ ss) m e least =
     let part = mul-le-mul_right {m = m - 1} {n = n - 1} (nat_abs s) (omega arith) in
     omega arith
 
-same_head : (x y : ℕ) (xs ys : List ℕ) → x ∷ xs ≡ y ∷ ys → x ≡ y
-same_head x y xs ys e = ap (λ l. get_or l 0 0) e
-
 replicate_differ : (n : ℕ) → 0 < n → replicate {A = ℕ} n 1 ≡ replicate n 0 → ⊥
 replicate_differ zero some same = omega arith
-replicate_differ (suc n) some same = omega (arith, same_head 1 0 (replicate n 1) (replicate n 0) same)
+replicate_differ (suc n) some same = omega (arith, first_same 1 0 (replicate n 1) (replicate n 0) same)
 
 -- in separated strides the diagonal of two elements or more has a stride other than 0
 pub diagonal-moves : (ns : List ℕ) (ss : List ℤ) → length ss ≡ length ns → 0 < length ns → ((a : ℕ) → a < length ns → 1 < get_or ns a 0) → IsSeparated ns ss → 0 < nat_abs (sum_of ss)

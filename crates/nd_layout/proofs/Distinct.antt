@@ -11,16 +11,7 @@ use Rattle.nd_layout.proofs.Offsets.{displacement_of-at}
 use Rattle.nd_layout.proofs.AxisChange.{counted_cases, others_below}
 use Rattle.nd_shape_and_slice.proofs.RowMajor.{length-in_box}
 use Rattle.nd_shape_and_slice.proofs.Boxes.{coordinate_below}
-
--- an index with another coordinate is in the box with another length
-pub in_box-set : (ns i : List ℕ) (a m x : ℕ) → in_box ns i ≡ true → x < m → in_box (set ns a m) (set i a x) ≡ true
-in_box-set [] [] a m x h q = refl
-in_box-set [] (k ∷ i) a m x h q = absurd (false≢true h)
-in_box-set (n ∷ ns) [] a m x h q = absurd (false≢true h)
-in_box-set (n ∷ ns) (k ∷ i) zero m x h q = and_from (ltb x m) (in_box ns i) (lt-ltb x m q) (and_parts (ltb k n) (in_box ns i) h).1
-in_box-set (n ∷ ns) (k ∷ i) (suc a) m x h q =
-    let w = and_parts (ltb k n) (in_box ns i) h in
-    and_from (ltb k n) (in_box (set ns a m) (set i a x)) w.0 (in_box-set ns i a m x w.1 q)
+use Rattle.nd_shape_and_slice.proofs.Indexes.{in_box-set}
 
 -- two coordinates of one axis lie no further apart than the axis reaches
 part_apart : (x y n : ℕ) (s : ℤ) → x < n → y < n → up (pos x *ℤ s) + down (pos y *ℤ s) ≤ up (pos y *ℤ s) + down (pos x *ℤ s) + (n - 1) * nat_abs s

@@ -9,6 +9,7 @@ use Rattle.nd_shape_and_slice.specs.Place.{displacement_of, place_of, span_of, m
 use Rattle.nd_shape_and_slice.specs.Maps.{lower_shape, upper_shape, upper_index}
 use Rattle.nd_shape_and_slice.proofs.RowMajor.{length-in_box, nonzero_product-size_of, row_rank_below, span_of-zeros}
 use Rattle.nd_shape_and_slice.proofs.Boxes.{coordinate_below}
+use Rattle.nd_shape_and_slice.proofs.Indexes.{in_box-set}
 use Rattle.nd_layout.specs.Places.{is_place}
 use Rattle.nd_layout.specs.Ranks.{IsRun, column_index}
 use Rattle.nd_layout.specs.Steps.{IsValid}
@@ -17,7 +18,7 @@ use Rattle.nd_layout.specs.Growth.{IsContinued, greatest_end, greatest_step, gro
 use Rattle.nd_layout.specs.Placements.{Placement}
 use Rattle.nd_layout.specs.MemoryOrder.{FillsStorage, IsFilledBehind, IsGrown}
 use Rattle.nd_layout.proofs.Integers.{sums}
-use Rattle.nd_layout.proofs.Distinct.{in_box-set, same_index}
+use Rattle.nd_layout.proofs.Distinct.{same_index}
 use Rattle.std.specs.List.{remove}
 use Rattle.nd_layout.proofs.Removed.{size_of-removed}
 use Rattle.nd_layout.proofs.Sizes.{size_of-set}

@@ -3,18 +3,13 @@ use Rattle.std.proofs.Common.{◌≡◌, ℕ, zero, suc, Bool, true, false, List
 use Rattle.nd_shape_and_slice.specs.Shape.{in_box, size_of}
 use Rattle.nd_shape_and_slice.specs.Place.{displacement_of, place_of}
 use Rattle.nd_shape_and_slice.specs.FirstIndex.{first_index}
-use Rattle.nd_shape_and_slice.proofs.RowMajor.{row_rank_below}
+use Rattle.nd_shape_and_slice.proofs.RowMajor.{row_rank_below, displacement_of-origin}
 use Rattle.nd_layout.proofs.Integers.{sums, zero-mul}
 use Rattle.nd_layout.proofs.steps.StepLemmas.{origin_in_box}
 
-displacement_of-zeros : (ss : List ℤ) (n : ℕ) → displacement_of ss (replicate n 0) ≡ pos 0
-displacement_of-zeros [] n = refl
-displacement_of-zeros (s ∷ ss) zero = refl
-displacement_of-zeros (s ∷ ss) (suc n) = rw (zero-mul s) (omega (arith, sums, displacement_of-zeros ss n))
-
 -- it is the offset
 pub first_is_offset : (offset : ℕ) (ns : List ℕ) (ss : List ℤ) → pos offset ≡ place_of offset ss (first_index ns)
-first_is_offset offset ns ss = omega (arith, sums, displacement_of-zeros ss (length ns))
+first_is_offset offset ns ss = omega (arith, sums, displacement_of-origin ss (length ns))
 
 -- a shape without elements has no index
 pub first_outside : (ns : List ℕ) → size_of ns ≡ 0 → in_box ns (first_index ns) ≡ false

@@ -5,6 +5,7 @@ use Rattle.std.proofs.Math.IntN.{pos-*ℤ-pos}
 use Rattle.std.proofs.lemmas.Bool.{eqb-true, eqb-false}
 use Rattle.std.proofs.lemmas.List.{reverse-reverse, set-get_or, length-set}
 use Rattle.std.proofs.lemmas.List.Edits.{swap_is, length-insert, length-remove, get_or-insert_at}
+use Rattle.std.proofs.Math.Nat.{mul-zero}
 use Rattle.nd_shape_and_slice.specs.Shape.{in_box, size_of, row_rank, column_rank, index_at, nonzero_product, HasCheckedSize}
 use Rattle.nd_shape_and_slice.specs.Place.{displacement_of, span_of, IsSeparated}
 use Rattle.nd_shape_and_slice.specs.Strides.{row_strides, column_strides_from}
@@ -12,6 +13,7 @@ use Rattle.nd_shape_and_slice.specs.declared.builder.Order.TheVariants.{RowMajor
 use Rattle.nd_shape_and_slice.proofs.RowMajor.{length-in_box, row_rank_below, displacement_of-row, length-row_strides, nonzero_product-size_of}
 use Rattle.nd_shape_and_slice.proofs.ColumnMajor.{displacement_of-column}
 use Rattle.nd_shape_and_slice.proofs.RankIndexes.{in_box-index_at, row_rank-index_at, index_at-row_rank}
+use Rattle.nd_shape_and_slice.proofs.Lists.{remove-inserted, insert-removed}
 use Rattle.nd_layout.specs.Growth.{growing_strides, must_move, IsInGrowingOrder}
 use Rattle.nd_layout.specs.Steps.{IsStep, IsValid}
 use Rattle.nd_layout.specs.Walk.{IsRearranged}
@@ -38,16 +40,6 @@ moved_forward ys at before x e h =
     let next : at ≡ suc before = omega (arith, e) in
     ap (λ k. swap (insert ys k x) before k) next ∙ exchanged_once ys before x (omega (arith, e, h))
 
-pub put_in_again : {A : Type 0} (xs : List A) (a : ℕ) (d : A) → a < length xs → insert (remove xs a) a (get_or xs a d) ≡ xs
-put_in_again [] a d h = absurd (omega arith)
-put_in_again (x ∷ xs) zero d h = refl
-put_in_again (x ∷ xs) (suc a) d h = ap (λ l. x ∷ l) (put_in_again xs a d (omega (arith, h)))
-
-taken_out : (xs : List ℕ) (a x : ℕ) → a ≤ length xs → remove (insert xs a x) a ≡ xs
-taken_out xs zero x h = refl
-taken_out [] (suc a) x h = absurd (omega arith)
-taken_out (y ∷ xs) (suc a) x h = ap (λ l. y ∷ l) (taken_out xs a x (omega (arith, h)))
-
 abbrev drop_one : List ℕ → List ℕ
 drop_one [] = []
 drop_one (x ∷ xs) = xs
@@ -70,7 +62,7 @@ module _ (ns : List ℕ) (ss : List ℤ) (a : ℕ) (many : length ss ≡ length 
   on_index i h = let e = length-in_box ns i h in omega (arith, e, on)
 
   into_box : (i : List ℕ) → in_box ns i ≡ true → in_box fronted (into i) ≡ true
-  into_box i h = sym (in_box-inserted ns (remove i a) a (get_or i a 0) on) ∙ (ap (in_box ns) (put_in_again i a 0 (on_index i h)) ∙ h)
+  into_box i h = sym (in_box-inserted ns (remove i a) a (get_or i a 0) on) ∙ (ap (in_box ns) (insert-removed i a 0 (on_index i h)) ∙ h)
 
   behind_box : (c : ℕ) (j : List ℕ) → in_box fronted (c ∷ j) ≡ true → in_box (remove ns a) j ≡ true
   behind_box c j h = grind (arith, h)
@@ -86,11 +78,11 @@ module _ (ns : List ℕ) (ss : List ℤ) (a : ℕ) (many : length ss ≡ length 
         let c = r / size_of (remove ns a) in
         let wide = long_rest j (behind_box c j (in_box-index_at fronted r h)) in
         ap (λ x. row_rank fronted (x ∷ remove (insert j a c) a)) (get_or-insert_at j a c 0 wide)
-        ∙ ap (λ l. row_rank fronted (c ∷ l)) (taken_out j a c wide)
+        ∙ ap (λ l. row_rank fronted (c ∷ l)) (remove-inserted j a c wide)
         ∙ row_rank-index_at fronted r h;
     back = λ i h.
         let there = index_at-row_rank fronted (into i) (into_box i h) in
-        ap (λ l. insert (drop_one l) a (get_or l 0 0)) there ∙ put_in_again i a 0 (on_index i h);
+        ap (λ l. insert (drop_one l) a (get_or l 0 0)) there ∙ insert-removed i a 0 (on_index i h);
     same = λ r h.
         let j = index_at (remove ns a) (r % size_of (remove ns a)) in
         let c = r / size_of (remove ns a) in
@@ -167,11 +159,8 @@ module _ (ns : List ℕ) (a : ℕ) (on : a < length ns) (some : 0 < size_of ns) 
   pub others_there : 0 < size_of (set ns a 1)
   others_there = by_size (size_of (remove ns a)) (size_of-removed ns a on) (size_of-set ns a 1 on)
     where
-      none : (n : ℕ) → n * 0 ≡ 0
-      none n = omega arith
-
       by_size : (w : ℕ) → size_of ns ≡ get_or ns a 0 * w → size_of (set ns a 1) ≡ 1 * w → 0 < size_of (set ns a 1)
-      by_size zero e f = absurd (omega (arith, e, some, none (get_or ns a 0)))
+      by_size zero e f = absurd (omega (arith, e, some, mul-zero (get_or ns a 0)))
       by_size (suc w) e f = omega (arith, f)
 
   pub others_fit : HasCheckedSize ns → size_of (set ns a 1) < 2 ^ 63

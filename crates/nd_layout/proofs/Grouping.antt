@@ -1,6 +1,6 @@
 -- Steps of the search for groups of axes.
 use Rattle.std.proofs.Common.{ℕ, zero, suc, ◌+◌, ◌*◌, ◌%◌, ◌<◌, ◌≤◌, ◌≡◌, List, ◌∷◌, length, get_or, drop, arith, ap, sym, subst, ◌∙◌, ℤ, pos, ◌*ℤ◌, Option, Some, None, MatchOption}
-use Rattle.std.proofs.Math.Nat.{mul-le-mul_left, mul_assoc, mul_comm}
+use Rattle.std.proofs.Math.Nat.{mul-le-mul_left, mul_assoc, mul_comm, le-mul_of_pos_right}
 use Rattle.std.proofs.lemmas.List.{drop_more, length-drop}
 use Rattle.nd_shape_and_slice.specs.Shape.{size_of}
 use Rattle.nd_layout.specs.declared.reshape.Group.{Group}
@@ -11,17 +11,12 @@ use Rattle.nd_layout.proofs.Integers.{one-mul, mul-mul}
 use Rattle.nd_layout.proofs.Ranks.{at_rank-below}
 use Rattle.nd_layout.proofs.Regroups.{Regroups-trans, Regroups-split, both_positive}
 
--- a number of at least 1 times another
-pub le-times : (x y : ℕ) → 0 < y → x ≤ x * y
-le-times x zero h = absurd (omega arith)
-le-times x (suc y) h = let c = mul_comm x (suc y) in omega arith
-
 -- a group and the next axis have at most the whole size together
 pub group_product : (len n rest size : ℕ) → len * (n * rest) ≡ size → 0 < size → (0 < len * n) × (len * n ≤ size)
 group_product len n rest size e some =
     let a = mul_assoc len n rest in
     let w = both_positive (len * n) rest (omega arith) in
-    let l = le-times (len * n) rest w.1 in
+    let l = le-mul_of_pos_right {m = rest} (len * n) w.1 in
     (w.0, omega arith)
 
 -- one more axis joins the group

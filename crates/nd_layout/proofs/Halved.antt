@@ -8,17 +8,9 @@ use Rattle.nd_shape_and_slice.specs.Shape.{in_box}
 use Rattle.nd_shape_and_slice.specs.Maps.{lower_shape, upper_shape, upper_index}
 use Rattle.nd_shape_and_slice.proofs.RowMajor.{length-in_box}
 use Rattle.nd_shape_and_slice.proofs.Boxes.{coordinate_below}
+use Rattle.nd_shape_and_slice.proofs.Indexes.{in_box-set, upper_index-lowered}
 use Rattle.nd_layout.specs.Placements.{Placement, IsStepOf}
 use Rattle.nd_layout.specs.Halves.{AreHalved}
-use Rattle.nd_layout.proofs.Distinct.{in_box-set}
-
--- an index whose coordinate is lower, and then the old one again
-pub set_back : (i : List ℕ) (a k : ℕ) → a < length i → k ≤ get_or i a 0 → upper_index a k (set i a (get_or i a 0 - k)) ≡ i
-set_back i a k on within =
-    let c = get_or i a 0 in
-    ap (λ d. set (set i a (c - k)) a (d + k)) (get_or-set_same i a (c - k) 0 on)
-    ∙ (set-set i a (c - k) (c - k + k)
-    ∙ (ap (set i a) (omega (arith, within)) ∙ set-get_or i a 0))
 
 -- and the other way round
 back_again : (j : List ℕ) (a k : ℕ) → a < length j → set (upper_index a k j) a (get_or (upper_index a k j) a 0 - k) ≡ j
@@ -37,7 +29,7 @@ module _ (ns : List ℕ) (a k : ℕ) (on : a < length ns) (some : 0 < k) (within
       let wide : a < length i = omega (arith, length-in_box ns i h, on) in
       ⊎_elim
       (λ (low : c < k). inl (subst (λ j. in_box (set ns a k) j ≡ true) (set-get_or i a 0) (in_box-set ns i a k c h low)))
-      (λ (high : k ≤ c). inr (set i a (c - k), in_box-set ns i a (n - k) (c - k) h (omega (arith, below, high)), set_back i a k wide high))
+      (λ (high : k ≤ c). inr (set i a (c - k), in_box-set ns i a (n - k) (c - k) h (omega (arith, below, high)), upper_index-lowered i a k wide high))
       (cases_lt c k)
 
   as_wide : (m : ℕ) (j : List ℕ) → in_box (set ns a m) j ≡ true → a < length j

@@ -1,8 +1,11 @@
 -- The places of a layout, cut into lanes along its last axis.
 use Rattle.std.proofs.Common.{◌≡◌, ℕ, zero, suc, ◌+◌, ◌-◌, ◌*◌, ◌/◌, ◌%◌, ◌<◌, ◌≤◌, true, List, [], ◌∷◌, ◌++◌, length, take, get_or, min, refl, ap, sym, ◌∙◌, arith, ℤ, pos, ◌+ℤ◌, ◌*ℤ◌}
-use Rattle.std.proofs.Math.Nat.{mul_comm, mul-le-mul_left, mul-le-mul_right, div-div-eq-div-mul}
+use Rattle.std.proofs.Math.Nat.{mul_comm, mul-le-mul_left, mul-le-mul_right, div-div-eq-div-mul, mul_assoc}
 use lib.Arith.{mod-mul}
 use Rattle.std.proofs.lemmas.Nat.{div-mul-add, mod-mul-add, mod_below}
+use Rattle.std.proofs.lemmas.List.{get_or_default}
+use Rattle.std.proofs.Math.Arith.{lt-one}
+use Rattle.std.proofs.Math.IntN.{+ℤ_idr}
 use Rattle.nd_shape_and_slice.specs.Shape.{size_of, nonzero_product, index_at, row_rank, HasCheckedSize}
 use Rattle.nd_shape_and_slice.specs.Place.{displacement_of, place_of}
 use Rattle.nd_shape_and_slice.proofs.RowMajor.{positive-cons, row_rank_below}
@@ -22,10 +25,7 @@ size_of-front (n ∷ []) zero e = omega arith
 size_of-front (n ∷ m ∷ ns) zero e = absurd (omega arith)
 size_of-front (n ∷ ns) (suc k) e =
     let rest = size_of-front ns k (omega arith) in
-    regroup n (size_of (take k ns)) (get_or ns k 0) ∙ ap (λ s. n * s) rest
-  where
-    regroup : (a b c : ℕ) → a * b * c ≡ a * (b * c)
-    regroup a b c = grind arith
+    mul_assoc n (size_of (take k ns)) (get_or ns k 0) ∙ ap (λ s. n * s) rest
 
 pub checked-front : (ns : List ℕ) (k : ℕ) → nonzero_product (take k ns) ≤ nonzero_product ns
 checked-front ns zero = nonzero_product_positive ns
@@ -87,15 +87,9 @@ module _ (first : ℕ) (ns : List ℕ) (ss : List ℤ) where
     size = omega arith;
     places = λ r k h below.
         let same : r * 1 + k ≡ r = omega (arith, below) in
-        let none : pos k *ℤ stride ≡ pos 0 = ap (λ i. pos i *ℤ stride) (zero_only k below) ∙ zero-mul stride in
-        rw (same, none) (nothing (place_at_rank first ns ss r));
+        let none : pos k *ℤ stride ≡ pos 0 = ap (λ i. pos i *ℤ stride) (lt-one below) ∙ zero-mul stride in
+        rw (same, none) (+ℤ_idr (place_at_rank first ns ss r));
   }
-    where
-      zero_only : (k : ℕ) → k < 1 → k ≡ 0
-      zero_only k h = omega (arith, h)
-
-      nothing : (z : ℤ) → z +ℤ pos 0 ≡ z
-      nothing z = omega (arith, sums)
 
   module _ (as_many : length ss ≡ length ns) (k : ℕ) (last : length ns ≡ k + 1) (some : 0 < get_or ns k 0) where
     pub cut_last : IsCutInLanes first ns ss first (take k ns) (take k ss) (get_or ns k 0) (get_or ss k (pos 0))
@@ -131,11 +125,6 @@ none_at_last (n ∷ ns) e some =
     let here = positive_at (n ∷ ns) (length (n ∷ ns) - 1) (omega arith) some in
     absurd (omega (arith, here.0, e))
 
-other_default : {X : Type 0} (xs : List X) (k : ℕ) (x y : X) → k < length xs → get_or xs k x ≡ get_or xs k y
-other_default [] k x y h = absurd (omega arith)
-other_default (z ∷ xs) zero x y h = refl
-other_default (z ∷ xs) (suc k) x y h = other_default xs k x y (omega arith)
-
 -- where there is none, a lane has one place
 pub along_none : (ns : List ℕ) (ss : List ℤ) → length ss ≡ length ns → length ns ≡ 0 → (1 ≡ get_or ns (length ns - 1) 1) × (pos 1 ≡ get_or ss (length ss - 1) (pos 1))
 along_none [] [] e none = (refl, refl)
@@ -146,7 +135,7 @@ pub along_last : (ns : List ℕ) (ss : List ℤ) (k : ℕ) → length ss ≡ len
 along_last ns ss k e last =
     let here : k ≡ length ns - 1 = omega arith in
     let there : k ≡ length ss - 1 = omega arith in
-    (other_default ns k 0 1 (omega arith) ∙ ap (λ i. get_or ns i 1) here, other_default ss k (pos 0) (pos 1) (omega (arith, e, last)) ∙ ap (λ i. get_or ss i (pos 1)) there)
+    (get_or_default ns k 0 1 (omega arith) ∙ ap (λ i. get_or ns i 1) here, get_or_default ss k (pos 0) (pos 1) (omega (arith, e, last)) ∙ ap (λ i. get_or ss i (pos 1)) there)
 
 -- ---- from lane to lane
 pub nothing_passed : (r count : ℕ) → r ≡ 0 → 0 ≡ r * count

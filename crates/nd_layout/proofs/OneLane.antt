@@ -28,7 +28,7 @@ low_room offset down p z e q = omega (arith, sums, neg_is (pos down), e, q)
 above_same : (down k m : ℕ) (z : ℤ) → z ≡ neg_ℤ (pos down) +ℤ pos k → z ≡ neg_ℤ (pos down) +ℤ pos m → m ≡ k
 above_same down k m z e q = omega (arith, sums, neg_is (pos down), e, q)
 
-is_number : (z : ℤ) → is_place z ≡ true → (p : ℕ) × (z ≡ pos p)
+pub is_number : (z : ℤ) → is_place z ≡ true → (p : ℕ) × (z ≡ pos p)
 is_number (pos p) h = (p, refl)
 is_number (negsuc p) h = absurd (false≢true h)
 

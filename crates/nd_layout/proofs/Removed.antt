@@ -2,9 +2,10 @@
 use Rattle.std.proofs.Common.{ℕ, ⊎_elim, Bool, max, zero, suc, ◌+◌, ◌-◌, ◌*◌, ◌<◌, ◌≤◌, ◌≡◌, ◌⊎◌, List, [], ◌∷◌, length, get_or, set, ltb, leb, ◌&&◌, true, false, arith, refl, ap, sym, ◌∙◌, ℤ, pos, ◌+ℤ◌, ◌*ℤ◌, nat_abs}
 use lib.IntN.{+ℤ_idl}
 use Rattle.std.specs.List.{remove, insert}
-use Rattle.std.proofs.Math.Nat.{mul_assoc, mul_comm}
+use Rattle.std.proofs.Math.Nat.{mul_assoc, mul_comm, mul_left_comm}
 use Rattle.std.proofs.lemmas.Bool.{cases_lt, cases_order}
 use Rattle.std.proofs.lemmas.List.Edits.{get_or-remove_below, get_or-remove_above, get_or-insert_below, get_or-insert_at, get_or-insert_above}
+use Rattle.std.proofs.Math.Bool.{and-false}
 use Rattle.nd_shape_and_slice.specs.Shape.{in_box, size_of, nonzero_product, HasCheckedSize}
 use Rattle.nd_shape_and_slice.specs.Place.{displacement_of, span_of, span_within, magnitude_at, IsSeparated}
 use Rattle.nd_layout.proofs.Integers.{sums, zero-mul}
@@ -21,11 +22,7 @@ displacement_of-inserted (s ∷ ss) (k ∷ i) (suc a) c h q = omega (arith, sums
 
 box_short : (n : ℕ) (ns : List ℕ) (k : ℕ) → 0 < length ns → in_box (n ∷ ns) (k ∷ []) ≡ false
 box_short n [] k h = absurd (omega arith)
-box_short n (m ∷ ns) k h = none (ltb k n)
-  where
-    none : (b : Bool) → (b && false) ≡ false
-    none true = refl
-    none false = refl
+box_short n (m ∷ ns) k h = and-false (ltb k n)
 
 -- tests in another order
 pub and_swap : (x y z : Bool) → (x && (y && z)) ≡ (y && (x && z))
@@ -37,11 +34,7 @@ and_swap false false z = refl
 pub in_box-inserted : (ns i : List ℕ) (a c : ℕ) → a < length ns → in_box ns (insert i a c) ≡ (ltb c (get_or ns a 0) && in_box (remove ns a) i)
 in_box-inserted [] i a c h = absurd (omega arith)
 in_box-inserted (n ∷ ns) i zero c h = refl
-in_box-inserted (n ∷ ns) [] (suc a) c h = box_short n ns c (omega arith) ∙ sym (none (ltb c (get_or ns a 0)))
-  where
-    none : (b : Bool) → (b && false) ≡ false
-    none true = refl
-    none false = refl
+in_box-inserted (n ∷ ns) [] (suc a) c h = box_short n ns c (omega arith) ∙ sym (and-false (ltb c (get_or ns a 0)))
 in_box-inserted (n ∷ ns) (k ∷ i) (suc a) c h = ap (λ b. ltb k n && b) (in_box-inserted ns i a c (omega arith)) ∙ and_swap (ltb k n) (ltb c (get_or ns a 0)) (in_box (remove ns a) i)
 
 -- the span and the counted span are those with the axis at length 1
@@ -81,10 +74,6 @@ IsSeparated-removed ns ss a e h apart k long =
     let more = rw m_is at less in
     rw (m_is, n_is) (omega arith))
     (cases_lt k a)
-
--- factors in another order
-pub mul_left_comm : (a b c : ℕ) → a * (b * c) ≡ b * (a * c)
-mul_left_comm a b c = sym (mul_assoc a b c) ∙ ap (λ v. v * c) (mul_comm a b) ∙ mul_assoc b a c
 
 -- the size is the length times the size of the rest
 pub size_of-removed : (ns : List ℕ) (a : ℕ) → a < length ns → size_of ns ≡ get_or ns a 0 * size_of (remove ns a)

@@ -1,6 +1,6 @@
 -- Steps of the search for strides, over whole lists of axes from the fastest on.
 use Rattle.std.proofs.Common.{ℕ, ◌+◌, ◌-◌, ◌*◌, ◌<◌, ◌≤◌, ◌≡◌, min, List, [], ◌∷◌, ◌++◌, length, get_or, set, take, drop, Bool, true, false, eqb, ◌≢◌, arith, refl, ap, sym, ◌∙◌, append_assoc, ℤ, pos}
-use Rattle.std.proofs.Math.Nat.{eq_of_mul-eq-mul_left, mul_comm}
+use Rattle.std.proofs.Math.Nat.{eq_of_mul-eq-mul_left, mul_comm, mul-pos, le-mul_of_pos_right}
 use Rattle.std.proofs.lemmas.List.{drop_more, take_more, take_more_set, take-append-drop, take_all, length-take, length-drop, get_or-set_other}
 use Rattle.nd_shape_and_slice.specs.Shape.{size_of}
 use Rattle.nd_shape_and_slice.specs.Place.{span_of, span_within, IsSeparated}
@@ -10,7 +10,6 @@ use Rattle.nd_layout.specs.Ranks.{Serves, ServesRanks, Regroups}
 use Rattle.nd_layout.proofs.Apart.{EachApart-parts, EachApart-weaker, EachApart-from_separated, separated_from_each, span_within-append, span_of-append}
 use Rattle.nd_layout.proofs.Regroups.{Regroups-trans, Regroups-prefix, both_positive, size_of-append}
 use Rattle.nd_layout.proofs.Serving.{serves_rest}
-use Rattle.nd_layout.proofs.Grouping.{le-times}
 use Rattle.std.proofs.lemmas.Grind.{get_or-set_at}
 use Rattle.std.proofs.lemmas.Bool.Decides.{nat_tests}
 use Rattle.nd_layout.specs.Strides.{RestsAtOnes}
@@ -22,12 +21,9 @@ sizes_at ms nth some =
     let a = size_of-append (take nth ms) (drop nth ms) in
     let whole : size_of ms ≡ size_of (take nth ms) * size_of (drop nth ms) = ap size_of (sym (take-append-drop nth ms)) ∙ a in
     let w = both_positive (size_of (take nth ms)) (size_of (drop nth ms)) (omega arith) in
-    let l = le-times (size_of (drop nth ms)) (size_of (take nth ms)) w.0 in
+    let l = le-mul_of_pos_right {m = size_of (take nth ms)} (size_of (drop nth ms)) w.0 in
     let c = mul_comm (size_of (drop nth ms)) (size_of (take nth ms)) in
     (w.0, w.1, omega arith)
-
-positive_times : (x y : ℕ) → 0 < x → 0 < y → 0 < x * y
-positive_times x y p q = let l = le-times x y q in omega arith
 
 -- what is to be taken has elements
 pub some_to_take : (ms : List ℕ) (nth group : ℕ) → nth < length ms → 0 < size_of ms → group ≡ size_of (drop nth ms) → 0 < get_or ms nth 0 * group
@@ -35,7 +31,7 @@ some_to_take ms nth group h some e =
     let w = sizes_at ms nth some in
     let f = size_of-drop ms nth h in
     let v = both_positive (get_or ms nth 0) (size_of (drop (nth + 1) ms)) (omega arith) in
-    positive_times (get_or ms nth 0) group v.0 (omega arith)
+    mul-pos {m = get_or ms nth 0} {n = group} v.0 (omega arith)
 
 -- the group's span is a part of the whole span
 pub span_left : (os : List ℕ) (ps : List ℤ) (ms : List ℕ) (ts : List ℤ) (gn : List ℕ) (gs : List ℤ) (nth : ℕ) → length ts ≡ length ms → Regroups os ps (take nth ms ++ gn) (take nth ts ++ gs) → span_of gn gs ≤ span_of os ps

@@ -14,7 +14,7 @@ use Rattle.nd_layout.proofs.AxisChange.{on_axis, separated_by_others}
 use Rattle.nd_shape_and_slice.proofs.RowMajor.{length-in_box}
 use Rattle.nd_shape_and_slice.proofs.Ranks.{positive_at}
 use Rattle.nd_shape_and_slice.proofs.Boxes.{coordinate_below, in_box-from_coordinates}
-use Rattle.nd_layout.proofs.Distinct.{in_box-set}
+use Rattle.nd_shape_and_slice.proofs.Indexes.{in_box-set}
 use Rattle.nd_layout.proofs.Regroups.{both_positive}
 
 -- ---- displacements from the lowest place, by coordinates counted from the low end of each axis

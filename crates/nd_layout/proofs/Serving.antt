@@ -1,13 +1,13 @@
 -- Which strides serve: along regrouped axes, one new length at a time.
 use Rattle.std.proofs.Common.{ℕ, ⊎_elim, zero, suc, ◌*◌, ◌/◌, ◌%◌, ◌<◌, ◌≤◌, ◌≡◌, List, [], ◌∷◌, ◌++◌, length, arith, refl, ap, sym, ◌∙◌, ℤ, pos, ◌+ℤ◌, ◌*ℤ◌}
 use lib.IntN.{+ℤ_idr}
-use Rattle.std.proofs.Math.Nat.{mul_assoc, mod-add-div, mul-mod_right, mul-le-mul_left, div-eq_of_lt}
+use Rattle.std.proofs.Math.Nat.{mul_assoc, mod-add-div, mul-mod_right, mul-le-mul_left, div-eq_of_lt, mul-lt-mul_of_pos_left}
 use Rattle.std.proofs.lemmas.Bool.{cases_lt}
 use Rattle.nd_shape_and_slice.specs.Shape.{size_of}
 use Rattle.nd_layout.specs.Ranks.{at_rank, ServesRanks, Regroups}
 use Rattle.nd_layout.proofs.Integers.{one-mul, add-mul}
 use Rattle.nd_layout.proofs.Ranks.{at_rank-zero, at_rank-multiple, at_rank-below}
-use Rattle.nd_layout.proofs.Regroups.{at_rank-append, size_of-append}
+use Rattle.nd_layout.proofs.Regroups.{at_rank-append, size_of-append, both_positive}
 
 -- the axes that serve after the first axes do serve the rest
 pub at_rank-rest : (cs : List ℕ) (ds : List ℤ) (ns : List ℕ) (ss : List ℤ) (r : ℕ) → length ds ≡ length cs → 0 < size_of cs → at_rank (cs ++ ns) (ds ++ ss) (size_of cs * r) ≡ at_rank ns ss r
@@ -15,15 +15,10 @@ at_rank-rest [] [] ns ss r e some = let o : 1 * r ≡ r = omega arith in rw o re
 at_rank-rest [] (d ∷ ds) ns ss r e some = absurd (omega arith)
 at_rank-rest (c ∷ cs) [] ns ss r e some = absurd (omega arith)
 at_rank-rest (c ∷ cs) (d ∷ ds) ns ss r e some =
-    let w = both_some c (size_of cs) some in
+    let w = both_positive c (size_of cs) some in
     ap (λ k. at_rank (c ∷ (cs ++ ns)) (d ∷ (ds ++ ss)) k) (mul_assoc c (size_of cs) r)
     ∙ at_rank-multiple c d (cs ++ ns) (ds ++ ss) (size_of cs * r) w.0
     ∙ at_rank-rest cs ds ns ss r (omega arith) w.1
-  where
-    both_some : (x y : ℕ) → 0 < x * y → (0 < x) × (0 < y)
-    both_some zero y h = absurd (omega arith)
-    both_some (suc x) zero h = absurd (omega arith)
-    both_some (suc x) (suc y) h = (omega arith, omega arith)
 
 -- no strides serve a length that doesn't divide a closed group: one that no further axis goes on from
 pub none_serves : (len : ℕ) (step : ℤ) (ns : List ℕ) (ss : List ℤ) (m : ℕ) (ms : List ℕ) (ts : List ℤ) → 1 < m → 0 < len % m → 0 < size_of ms → m * size_of ms ≡ len * size_of ns → (1 < size_of ns → 1 < len) → (1 < size_of ns → at_rank ns ss 1 ≡ pos len *ℤ step → ⊥) → ServesRanks (len ∷ ns) (step ∷ ss) (m ∷ ms) ts → ⊥
@@ -74,12 +69,9 @@ pub serves_rest : (os : List ℕ) (ps : List ℤ) (cs : List ℕ) (ds : List ℤ
 serves_rest os ps cs ds ns ss ms us vs e f some g serves l = record {
   as_many = l;
   same = λ r h.
-      let within : size_of cs * r < size_of (cs ++ ms) = let p = size_of-append cs ms in let q = times_below (size_of cs) r (size_of ms) some h in omega arith in
+      let within : size_of cs * r < size_of (cs ++ ms) = let p = size_of-append cs ms in let q = mul-lt-mul_of_pos_left {k = size_of cs} h some in omega arith in
       sym (at_rank-rest cs us ms vs r f some) ∙ serves.same (size_of cs * r) within ∙ sym (g.same (size_of cs * r)) ∙ at_rank-rest cs ds ns ss r e some;
 }
-  where
-    times_below : (x y z : ℕ) → 0 < x → y < z → x * y < x * z
-    times_below x y z some h = let a = mul-le-mul_left {m = suc y} {n = z} x (omega arith) in omega arith
 
 -- at the end, where only axes of length 1 are left, the strides found serve
 pub serves_all : (os : List ℕ) (ps : List ℤ) (ms : List ℕ) (ts : List ℤ) (ns : List ℕ) (ss : List ℤ) → length ts ≡ length ms → Regroups os ps (ms ++ ns) (ts ++ ss) → ServesRanks os ps ms ts

@@ -3,14 +3,14 @@ use Rattle.std.proofs.Common.{ℕ, zero, suc, max, ◌*◌, ◌<◌, ◌≤◌, 
 use lib.IntN.{neg_ℤ}
 use borrow.Author.Differences.{abs_is, neg_is}
 use Rattle.std.specs.List.{remove}
-use Rattle.std.proofs.Math.Nat.{mul-le-mul_left, mul-le-mul_right}
+use Rattle.std.proofs.Math.Nat.{mul-le-mul_left, mul-le-mul_right, mul_left_comm}
 use Rattle.std.proofs.lemmas.List.{set-get_or}
 use Rattle.nd_shape_and_slice.specs.Shape.{size_of, nonzero_product, HasCheckedSize}
 use Rattle.nd_shape_and_slice.specs.Place.{span_of, IsSeparated}
 use Rattle.nd_shape_and_slice.proofs.Sizes.{length_within}
 use Rattle.nd_layout.proofs.Permuted.{nonzero-cons}
 use Rattle.nd_layout.proofs.AxisChange.{IsSeparated-changed, span_of-changed}
-use Rattle.nd_layout.proofs.Removed.{mul_left_comm, nonzero_product-removed}
+use Rattle.nd_layout.proofs.Removed.{nonzero_product-removed}
 
 -- the size with another length
 pub size_of-set : (ns : List ℕ) (a m : ℕ) → a < length ns → size_of (set ns a m) ≡ m * size_of (remove ns a)

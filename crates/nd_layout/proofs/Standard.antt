@@ -1,16 +1,16 @@
 -- Standard layout, one axis at a time from the fastest on.
 use Rattle.std.proofs.Common.{ℕ, ⊎_elim, suc, ◌+◌, ◌*◌, ◌/◌, ◌%◌, ◌<◌, ◌≤◌, ◌≡◌, List, [], ◌∷◌, length, get_or, drop, arith, ap, sym, ◌∙◌, ℤ, pos, ◌+ℤ◌, ◌*ℤ◌}
-use Rattle.std.proofs.Math.Nat.{mul_comm, mul_assoc, mod-add-div, div-lt_iff_lt-mul, mul-le-mul_left}
+use Rattle.std.proofs.Math.Nat.{mul_comm, mul_assoc, mod-add-div, div-lt_iff_lt-mul, mul-le-mul_left, le-mul_of_pos_right}
 use Rattle.std.proofs.lemmas.Bool.{cases_lt}
 use Rattle.std.proofs.lemmas.List.{drop_more}
 use Rattle.nd_shape_and_slice.specs.Shape.{size_of, row_rank}
 use Rattle.nd_shape_and_slice.specs.declared.builder.Order.TheVariants.{RowMajor}
+use Rattle.nd_shape_and_slice.specs.declared.builder.Order.{Order}
 use Rattle.nd_layout.specs.Ranks.{fastest_first, at_rank, IsStandard, StepsBy}
 use Rattle.nd_layout.proofs.Integers.{one-mul}
 use Rattle.nd_layout.proofs.Ranks.{at_rank-one, at_rank-multiple, at_rank-below}
 use Rattle.nd_layout.proofs.Regroups.{both_positive}
-use Rattle.nd_layout.proofs.Grouping.{le-times}
-use Rattle.nd_layout.proofs.Orders.{displacement-at_rank, rank_in-below, index_of_rank, size_of-ordered}
+use Rattle.nd_layout.proofs.Orders.{displacement-at_rank, rank_in-below, index_of_rank, size_of-ordered, length-ordered}
 
 -- the first axis steps by p, and the rest by p times its length
 pub StepsBy-first : (p n : ℕ) (s : ℤ) (ns : List ℕ) (ss : List ℤ) → 0 < size_of ns → 1 < n → StepsBy p (n ∷ ns) (s ∷ ss) → s ≡ pos p
@@ -89,8 +89,17 @@ part_of_size ns part nth size h some e =
     let n = get_or ns nth 0 in
     let w = both_positive part (size_of (drop nth ns)) (omega arith) in
     let v = both_positive n (size_of (drop (nth + 1) ns)) (omega arith) in
-    let l = le-times part (size_of (drop nth ns)) w.1 in
-    let k = le-times (part * n) (size_of (drop (nth + 1) ns)) v.1 in
+    let l = le-mul_of_pos_right {m = size_of (drop nth ns)} part w.1 in
+    let k = le-mul_of_pos_right {m = size_of (drop (nth + 1) ns)} (part * n) v.1 in
     let a = mul_assoc part n (size_of (drop (nth + 1) ns)) in
     let b : part * size_of (drop nth ns) ≡ part * (n * size_of (drop (nth + 1) ns)) = ap (λ x. part * x) f in
     (omega arith, omega arith, w.1, v.0, omega arith)
+
+-- the same of a shape in an order of its axes
+pub part_in_order : (o : Order) (ns : List ℕ) (part nth : ℕ) → nth < length ns → 0 < size_of ns → part * size_of (drop nth (fastest_first o ns)) ≡ size_of (fastest_first o ns)
+    → (part ≤ size_of ns) × (part * get_or (fastest_first o ns) nth 0 ≤ size_of ns) × (0 < size_of (drop nth (fastest_first o ns))) × (part * get_or (fastest_first o ns) nth 0 * size_of (drop (nth + 1) (fastest_first o ns)) ≡ size_of (fastest_first o ns))
+part_in_order o ns part nth within some e =
+    let z = size_of-ordered o ns in
+    let long = length-ordered o ns in
+    let p = part_of_size (fastest_first o ns) part nth (size_of (fastest_first o ns)) (omega (arith, within, long)) (omega (arith, some, z)) e in
+    (omega (arith, p.0, z), omega (arith, p.1, z), p.2, p.4)

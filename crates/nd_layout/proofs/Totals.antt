@@ -72,7 +72,7 @@ total_same op e f free (x ∷ xs) ys l more =
     ∙ sym (total-without op e f free x ys some)
 
 -- a number stands once in a range
-times-range_below : (a low n : ℕ) → a < low → times a (range_with_len low n) ≡ 0
+pub times-range_below : (a low n : ℕ) → a < low → times a (range_with_len low n) ≡ 0
 times-range_below a low zero h = refl
 times-range_below a low (suc n) h =
     let no : low ≡ a → ⊥ = omega arith in

@@ -4,22 +4,11 @@ use Rattle.std.specs.Prelude.{Option, Some, Bool, true, false, nat_lt, slice_get
 use Rattle.std.proofs.lemmas.Bool.Decides.{nat_tests}
 use Rattle.std.proofs.lemmas.List.{length_push}
 use Rattle.std.proofs.lemmas.Option.{slice_get_read}
+use Rattle.nd_shape_and_slice.proofs.Lists.{set_there, set_elsewhere, got_before, got_last}
 use Rattle.nd_array_core.specs.elements.Pairs.{option_both}
 use Rattle.nd_linalg.specs.Products.{sum_of_products}
 
 module _ {A : Type 0} where
-  set_there : (xs : List A) (k : ℕ) (y : A) → k < length xs → slice_get (slice_set xs k y) k ≡ Some y
-  set_there [] k y below = absurd (omega (arith, below))
-  set_there (x ∷ xs) zero y below = refl
-  set_there (x ∷ xs) (suc k) y below = let l : suc k < suc (length xs) = below in set_there xs k y (omega (arith, l))
-
-  set_left : (xs : List A) (k q : ℕ) (y : A) → (q ≡ k → ⊥) → slice_get (slice_set xs k y) q ≡ slice_get xs q
-  set_left [] k q y apart = refl
-  set_left (x ∷ xs) zero zero y apart = absurd (apart refl)
-  set_left (x ∷ xs) zero (suc q) y apart = refl
-  set_left (x ∷ xs) (suc k) zero y apart = refl
-  set_left (x ∷ xs) (suc k) (suc q) y apart = set_left xs k q y (λ e. apart (ap suc e))
-
   -- an item is put where a function of its number says, behind those that are put
   module _ (items : List A) (j : ℕ) (x : A) (f : ℕ → Option A) where
     pub one_put : j < length items → Some x ≡ f j → ((i : ℕ) → i < j → slice_get items i ≡ f i) → (i : ℕ) → i < j + 1 → slice_get (slice_set items j x) i ≡ f i
@@ -28,23 +17,13 @@ module _ {A : Type 0} where
         by_test : (t : Bool) → nat_lt i j ≡ t → slice_get (slice_set items j x) i ≡ f i
         by_test true e =
             let under : i < j = grind (arith, nat_tests, e) in
-            set_left items j i x (λ same. omega (arith, same, under)) ∙ each i under
+            set_elsewhere items j i x (λ same. omega (arith, same, under)) ∙ each i under
         by_test false e =
             let same : i ≡ j = grind (arith, nat_tests, e, below) in
             ap (slice_get (slice_set items j x)) same ∙ set_there items j x inside ∙ is ∙ ap f (sym same)
 
     pub rest_left : ((i : ℕ) → j ≤ i → slice_get items i ≡ f i) → (i : ℕ) → j + 1 ≤ i → slice_get (slice_set items j x) i ≡ f i
-    rest_left left i behind = set_left items j i x (λ same. omega (arith, same, behind)) ∙ left i (omega (arith, behind))
-
-  -- an item behind a list
-  before_push : (xs : List A) (y : A) (p : ℕ) → p < length xs → slice_get (xs ++ y ∷ []) p ≡ slice_get xs p
-  before_push [] y p below = absurd (omega (arith, below))
-  before_push (x ∷ xs) y zero below = refl
-  before_push (x ∷ xs) y (suc p) below = let l : suc p < suc (length xs) = below in before_push xs y p (omega (arith, l))
-
-  at_push : (xs : List A) (y : A) → slice_get (xs ++ y ∷ []) (length xs) ≡ Some y
-  at_push [] y = refl
-  at_push (x ∷ xs) y = at_push xs y
+    rest_left left i behind = set_elsewhere items j i x (λ same. omega (arith, same, behind)) ∙ left i (omega (arith, behind))
 
   -- one item more of a row is pushed behind cells
   module _ (xs new : List A) (y : A) (is : new ≡ xs ++ y ∷ []) where
@@ -52,7 +31,7 @@ module _ {A : Type 0} where
     one_longer = ap length is ∙ length_push xs y
 
     pub pushed_before : (p : ℕ) → p < length xs → slice_get new p ≡ slice_get xs p
-    pushed_before p below = ap (λ zs. slice_get zs p) is ∙ before_push xs y p below
+    pushed_before p below = ap (λ zs. slice_get zs p) is ∙ got_before xs (y ∷ []) p below
 
     pub row_pushed : (row : List A) (from j : ℕ) → length xs ≡ from + j → slice_get row j ≡ Some y → ((i : ℕ) → i < j → slice_get xs (from + i) ≡ slice_get row i) → (i : ℕ) → i < j + 1 → slice_get new (from + i) ≡ slice_get row i
     row_pushed row from j count item each i below = by_test (nat_lt i j) refl
@@ -64,7 +43,7 @@ module _ {A : Type 0} where
         by_test false e =
             let same : i ≡ j = grind (arith, nat_tests, e, below) in
             let end : from + i ≡ length xs = omega (arith, count, same) in
-            ap (slice_get new) end ∙ ap (λ zs. slice_get zs (length xs)) is ∙ at_push xs y ∙ sym item ∙ ap (slice_get row) (sym same)
+            ap (slice_get new) end ∙ ap (λ zs. slice_get zs (length xs)) is ∙ got_last xs y (length xs) refl ∙ sym item ∙ ap (slice_get row) (sym same)
 
 -- items that are read at four places one after another of a row
 module _ {A : Type 0} (items : List A) (from done : ℕ) (row : from + done + 4 ≤ length items) where

@@ -3,6 +3,8 @@ use Rattle.std.proofs.Common.{◌≡◌, ◌∙◌, ℕ, ◌+◌, ◌-◌, ◌<�
 use Rattle.std.proofs.lemmas.Bool.{lt-ltb}
 use Rattle.std.proofs.lemmas.Bool.Decides.{nat_tests}
 use Rattle.std.specs.Prelude.{◌&&◌, nat_lt, nat_eq, slice_index, max, if◌then◌else◌, Result, Ok, Err, OnOk}
+use Rattle.std.proofs.Math.Dec.{leb-zero}
+use Rattle.std.proofs.Math.Nat.{sub-zero}
 use Rattle.nd_shape_and_slice.specs.declared.slice_info.SliceInfoElem.{SliceInfoElem}
 use Rattle.nd_shape_and_slice.specs.declared.slice_info.SliceInfoElem.TheVariants.{Slice as Part, Index}
 use Rattle.nd_shape_and_slice.specs.Ranges.{bound_of, slice_between, element_of}
@@ -14,19 +16,17 @@ use Rattle.nd_shape_and_slice.specs.Maps.{indexed_shape, indexed_index}
 use Rattle.nd_shape_and_slice.specs.Slice.{low_of, high_of, sliced_length}
 use Rattle.nd_shape_and_slice.specs.SliceInfo.{fits_shape, shape_after}
 use Rattle.nd_shape_and_slice.specs.Naming.{names_index, slice_names}
+use Rattle.nd_shape_and_slice.proofs.Indexes.{in_two_axes}
 use Rattle.nd_array_core.specs.Meaning.{Meaning, inside}
 use Rattle.nd_array_core.specs.scoped.Assigned.{index_after}
 use Rattle.nd_picture.specs.Pictures.{Picture, Shows}
 use Rattle.nd_picture.specs.Samples.{HasChannel, HasChannelsBelow, HasSamplesOf}
 
-not_below : (n : ℕ) → leb 0 n ≡ true
-not_below n = grind (arith, nat_tests)
-
 lowest : (n : ℕ) → low_of n (slice_between (pos 0) None) ≡ 0
-lowest n = rw (not_below n) refl
+lowest n = rw (leb-zero n) refl
 
 highest : (n : ℕ) → high_of n (slice_between (pos 0) None) ≡ n
-highest n = rw (not_below n) (omega arith)
+highest n = rw (leb-zero n) (omega arith)
 
 whole_length : (n : ℕ) → sliced_length n (slice_between (pos 0) None) ≡ n
 whole_length n = omega (arith, lowest n, highest n)
@@ -34,23 +34,17 @@ whole_length n = omega (arith, lowest n, highest n)
 all_named : (n i : ℕ) → i < n → slice_names n (slice_between (pos 0) None) i ≡ true
 all_named n i h =
     let top : max 0 n ≡ n = omega arith in
-    rw (lowest n, top, lt-ltb i n h, not_below i) refl
-
-from_none : (n : ℕ) → n - 0 ≡ n
-from_none n = omega arith
+    rw (lowest n, top, lt-ltb i n h, leb-zero i) refl
 
 bound_is : (k : ℕ) → k < 2 ^ 63 → bound_of k ≡ pos k
 bound_is k h = ap (λ t. if t then pos k else negsuc (2 ^ 64 - 1 - k)) (lt-ltb k (2 ^ 63) h)
-
-in_two : (h w row column : ℕ) → row < h → column < w → in_box (h ∷ w ∷ []) (row ∷ column ∷ []) ≡ true
-in_two h w row column a b = rw (lt-ltb row h a, lt-ltb column w b) refl
 
 module _ (ns : List ℕ) (h w c k : ℕ) (same : ns ≡ h ∷ w ∷ c ∷ []) (within : k < c) (short : c < 2 ^ 63) (e f g : SliceInfoElem) (rows : e ≡ element_of (slice_between (pos 0) None)) (columns : f ≡ element_of (slice_between (pos 0) None)) (one : g ≡ Index (bound_of k)) where
   list_is : e ∷ f ∷ g ∷ [] ≡ Part (pos 0) None (pos 1) ∷ Part (pos 0) None (pos 1) ∷ Index (pos k) ∷ []
   list_is = (λ t. rows t ∷ columns t ∷ one t ∷ []) ∙ ap (λ b. Part (pos 0) None (pos 1) ∷ Part (pos 0) None (pos 1) ∷ Index b ∷ []) (bound_is k (omega (arith, within, short)))
 
   pub channel_fits : fits_shape ns (e ∷ f ∷ g ∷ []) ≡ true
-  channel_fits = (λ t. fits_shape (same t) (list_is t)) ∙ rw (not_below h, not_below w, lt-ltb k c within) refl
+  channel_fits = (λ t. fits_shape (same t) (list_is t)) ∙ rw (leb-zero h, leb-zero w, lt-ltb k c within) refl
 
   pub channel_shape : shape_after ns (e ∷ f ∷ g ∷ []) ≡ h ∷ w ∷ []
   channel_shape = (λ t. shape_after (same t) (list_is t)) ∙ (λ t. whole_length h t ∷ whole_length w t ∷ [])
@@ -61,12 +55,7 @@ module _ (ns : List ℕ) (h w c k : ℕ) (same : ns ≡ h ∷ w ∷ c ∷ []) (w
 
   -- the pixel that it stands for
   pub channel_after : (row column channel : ℕ) → index_after ns (e ∷ f ∷ g ∷ []) (row ∷ column ∷ channel ∷ []) ≡ row ∷ column ∷ []
-  channel_after row column channel = (λ t. index_after (same t) (list_is t) (row ∷ column ∷ channel ∷ [])) ∙ (λ t. (row - lowest h t) ∷ (column - lowest w t) ∷ []) ∙ (λ t. from_none row t ∷ from_none column t ∷ [])
-
--- a call's clause on an answer without fault
-pub on_ok : {X E : Type 0} {P Q : Type 0} (r : Result X E) → (P → Q) → OnOk r P → OnOk r Q
-on_ok (Ok x) f p = f p
-on_ok (Err e) f p = p
+  channel_after row column channel = (λ t. index_after (same t) (list_is t) (row ∷ column ∷ channel ∷ [])) ∙ (λ t. (row - lowest h t) ∷ (column - lowest w t) ∷ []) ∙ (λ t. sub-zero row t ∷ sub-zero column t ∷ [])
 
 module _ (old new from plane : Meaning ℕ) (k : ℕ) (same : from.shape ≡ old.shape) (is : old.shape ≡ slice_index old.shape 0 ∷ slice_index old.shape 1 ∷ slice_index old.shape 2 ∷ []) (within : k < slice_index old.shape 2) (short : slice_index old.shape 2 < 2 ^ 63) (e f g : SliceInfoElem) (rows : e ≡ element_of (slice_between (pos 0) None)) (columns : f ≡ element_of (slice_between (pos 0) None)) (one : g ≡ Index (bound_of k)) where
   names : (row column channel : ℕ) → row < slice_index old.shape 0 → column < slice_index old.shape 1 → names_index old.shape (e ∷ f ∷ g ∷ []) (row ∷ column ∷ channel ∷ []) ≡ nat_eq channel k && true
@@ -80,7 +69,7 @@ module _ (old new from plane : Meaning ℕ) (k : ℕ) (same : from.shape ≡ old
   seen shows row column a b =
       shows (row ∷ column ∷ [])
       ∙ ap (λ ns. inside (indexed_shape ns 2) (row ∷ column ∷ []) (from.at (row ∷ column ∷ k ∷ []))) (same ∙ is)
-      ∙ ap (λ t. cond t (from.at (row ∷ column ∷ k ∷ [])) None) (in_two (slice_index old.shape 0) (slice_index old.shape 1) row column a b)
+      ∙ ap (λ t. cond t (from.at (row ∷ column ∷ k ∷ [])) None) (in_two_axes (slice_index old.shape 0) (slice_index old.shape 1) row column a b)
 
   pub copied : ((i : List ℕ) → plane.at i ≡ inside (indexed_shape from.shape 2) i (from.at (indexed_index 2 k i))) → ((i : List ℕ) → in_box old.shape i ≡ true → names_index old.shape (e ∷ f ∷ g ∷ []) i ≡ true → new.at i ≡ plane.at (index_after old.shape (e ∷ f ∷ g ∷ []) i)) → HasChannel new from k
   copied shows named row column a b =

@@ -6,6 +6,7 @@ use Rattle.std.proofs.lemmas.Bool.{lt-ltb}
 use Rattle.std.proofs.lemmas.Bool.Decides.{nat_tests}
 use Rattle.std.specs.Prelude.{nat_le, slice_index}
 use Rattle.std.specs.Option.{option_map}
+use Rattle.std.proofs.Math.Dec.{leb-zero}
 use Rattle.nd_shape_and_slice.specs.Shape.{in_box}
 use Rattle.nd_shape_and_slice.specs.declared.slice.Slice.{Slice}
 use Rattle.nd_shape_and_slice.specs.Slice.{low_of, high_of, sliced_length, sliced_from, sliced_shape, sliced_index}
@@ -17,14 +18,11 @@ use Rattle.nd_picture.specs.Pictures.{Picture, Shows, ceiling, rows_from, column
 pub in_three : (n m l i j k : ℕ) → i < n → j < m → k < l → in_box (n ∷ m ∷ l ∷ []) (i ∷ j ∷ k ∷ []) ≡ true
 in_three n m l i j k a b c = rw (lt-ltb i n a, lt-ltb j m b, lt-ltb k l c) refl
 
-not_below : (n : ℕ) → leb 0 n ≡ true
-not_below n = grind (arith, nat_tests)
-
 lowest : (n k : ℕ) → low_of n (every k) ≡ 0
-lowest n k = rw (not_below n) refl
+lowest n k = rw (leb-zero n) refl
 
 highest : (n k : ℕ) → high_of n (every k) ≡ n
-highest n k = rw (not_below n) (omega arith)
+highest n k = rw (leb-zero n) (omega arith)
 
 every_length : (n k : ℕ) → sliced_length n (every k) ≡ ceiling n k
 every_length n k = let range : high_of n (every k) - low_of n (every k) ≡ n = omega (arith, lowest n k, highest n k) in ap (λ r. ceiling r k) range
@@ -39,6 +37,19 @@ step_below n k i some h =
     let more : k * (i + 1) ≤ k * ceiling n k = mul-le-mul_left k (omega arith) in
     omega (arith, whole, more)
 
+-- a picture sliced along an axis shows what the slice's shape and its indexes give
+sliced_shown : (m n : Meaning ℕ) (q : Picture) (axis : ℕ) (s t : Slice) → s ≡ t → n.shape ≡ sliced_shape m.shape axis s → ((i : List ℕ) → n.at i ≡ inside (sliced_shape m.shape axis s) i (m.at (sliced_index m.shape axis s i))) → sliced_shape m.shape axis t ≡ q.height ∷ q.width ∷ q.channels ∷ []
+    → ((i j l : ℕ) → i < q.height → j < q.width → l < q.channels → m.at (sliced_index m.shape axis t (i ∷ j ∷ l ∷ [])) ≡ Some (q.at i j l)) → Shows n q
+sliced_shown m n q axis s t is shape at sides samples = record {
+  shape = shape ∙ ap (sliced_shape m.shape axis) is ∙ sides;
+  samples = λ i j l a b c.
+      at (i ∷ j ∷ l ∷ [])
+      ∙ ap (λ u. inside (sliced_shape m.shape axis u) (i ∷ j ∷ l ∷ []) (m.at (sliced_index m.shape axis u (i ∷ j ∷ l ∷ [])))) is
+      ∙ ap (λ ns. inside ns (i ∷ j ∷ l ∷ []) (m.at (sliced_index m.shape axis t (i ∷ j ∷ l ∷ [])))) sides
+      ∙ ap (λ b. cond b (m.at (sliced_index m.shape axis t (i ∷ j ∷ l ∷ []))) None) (in_three q.height q.width q.channels i j l a b c)
+      ∙ samples i j l a b c;
+}
+
 module _ (m n : Meaning ℕ) (p : Picture) (k : ℕ) (some : 0 < k) (shows : Shows m p) where
   rows_shape : sliced_shape m.shape 0 (every k) ≡ ceiling p.height k ∷ p.width ∷ p.channels ∷ []
   rows_shape = ap (λ ns. sliced_shape ns 0 (every k)) shows.shape ∙ ap (λ x. x ∷ p.width ∷ p.channels ∷ []) (every_length p.height k)
@@ -47,16 +58,7 @@ module _ (m n : Meaning ℕ) (p : Picture) (k : ℕ) (some : 0 < k) (shows : Sho
   rows_source i j l = ap (λ ns. sliced_index ns 0 (every k) (i ∷ j ∷ l ∷ [])) shows.shape ∙ ap (λ x. x ∷ j ∷ l ∷ []) (every_from p.height k i)
 
   pub rows_shown : (s : Slice) → s ≡ every k → n.shape ≡ sliced_shape m.shape 0 s → ((i : List ℕ) → n.at i ≡ inside (sliced_shape m.shape 0 s) i (m.at (sliced_index m.shape 0 s i))) → Shows n (every_row k p)
-  rows_shown s is shape at = record {
-    shape = shape ∙ ap (sliced_shape m.shape 0) is ∙ rows_shape;
-    samples = λ i j l a b c.
-        at (i ∷ j ∷ l ∷ [])
-        ∙ ap (λ t. inside (sliced_shape m.shape 0 t) (i ∷ j ∷ l ∷ []) (m.at (sliced_index m.shape 0 t (i ∷ j ∷ l ∷ [])))) is
-        ∙ ap (λ ns. inside ns (i ∷ j ∷ l ∷ []) (m.at (sliced_index m.shape 0 (every k) (i ∷ j ∷ l ∷ [])))) rows_shape
-        ∙ ap (λ t. cond t (m.at (sliced_index m.shape 0 (every k) (i ∷ j ∷ l ∷ []))) None) (in_three (ceiling p.height k) p.width p.channels i j l a b c)
-        ∙ ap m.at (rows_source i j l)
-        ∙ shows.samples (i * k) j l (step_below p.height k i some a) b c;
-  }
+  rows_shown s is shape at = sliced_shown m n (every_row k p) 0 s (every k) is shape at rows_shape (λ i j l a b c. ap m.at (rows_source i j l) ∙ shows.samples (i * k) j l (step_below p.height k i some a) b c)
 
   columns_shape : sliced_shape m.shape 1 (every k) ≡ p.height ∷ ceiling p.width k ∷ p.channels ∷ []
   columns_shape = ap (λ ns. sliced_shape ns 1 (every k)) shows.shape ∙ ap (λ x. p.height ∷ x ∷ p.channels ∷ []) (every_length p.width k)
@@ -65,16 +67,7 @@ module _ (m n : Meaning ℕ) (p : Picture) (k : ℕ) (some : 0 < k) (shows : Sho
   columns_source i j l = ap (λ ns. sliced_index ns 1 (every k) (i ∷ j ∷ l ∷ [])) shows.shape ∙ ap (λ x. i ∷ x ∷ l ∷ []) (every_from p.width k j)
 
   pub columns_shown : (s : Slice) → s ≡ every k → n.shape ≡ sliced_shape m.shape 1 s → ((i : List ℕ) → n.at i ≡ inside (sliced_shape m.shape 1 s) i (m.at (sliced_index m.shape 1 s i))) → Shows n (every_column k p)
-  columns_shown s is shape at = record {
-    shape = shape ∙ ap (sliced_shape m.shape 1) is ∙ columns_shape;
-    samples = λ i j l a b c.
-        at (i ∷ j ∷ l ∷ [])
-        ∙ ap (λ t. inside (sliced_shape m.shape 1 t) (i ∷ j ∷ l ∷ []) (m.at (sliced_index m.shape 1 t (i ∷ j ∷ l ∷ [])))) is
-        ∙ ap (λ ns. inside ns (i ∷ j ∷ l ∷ []) (m.at (sliced_index m.shape 1 (every k) (i ∷ j ∷ l ∷ [])))) columns_shape
-        ∙ ap (λ t. cond t (m.at (sliced_index m.shape 1 (every k) (i ∷ j ∷ l ∷ []))) None) (in_three p.height (ceiling p.width k) p.channels i j l a b c)
-        ∙ ap m.at (columns_source i j l)
-        ∙ shows.samples i (j * k) l a (step_below p.width k j some b) c;
-  }
+  columns_shown s is shape at = sliced_shown m n (every_column k p) 1 s (every k) is shape at columns_shape (λ i j l a b c. ap m.at (columns_source i j l) ∙ shows.samples i (j * k) l a (step_below p.width k j some b) c)
 
 -- so many coordinates from one on
 abbrev from_on : ℕ → ℕ → Slice
@@ -104,31 +97,15 @@ module _ (m n : Meaning ℕ) (p : Picture) (first count : ℕ) (shows : Shows m 
   rows_cut all s is shape at =
       let fits : first + count ≤ p.height = omega (arith, all, ap (λ ns. slice_index ns 0) shows.shape) in
       let sides : sliced_shape m.shape 0 (from_on first count) ≡ count ∷ p.width ∷ p.channels ∷ [] = ap (λ ns. sliced_shape ns 0 (from_on first count)) shows.shape ∙ ap (λ x. x ∷ p.width ∷ p.channels ∷ []) (cut_length first count p.height fits) in
-      record {
-        shape = shape ∙ ap (sliced_shape m.shape 0) is ∙ sides;
-        samples = λ i j l a b c.
-            at (i ∷ j ∷ l ∷ [])
-            ∙ ap (λ t. inside (sliced_shape m.shape 0 t) (i ∷ j ∷ l ∷ []) (m.at (sliced_index m.shape 0 t (i ∷ j ∷ l ∷ [])))) is
-            ∙ ap (λ ns. inside ns (i ∷ j ∷ l ∷ []) (m.at (sliced_index m.shape 0 (from_on first count) (i ∷ j ∷ l ∷ [])))) sides
-            ∙ ap (λ t. cond t (m.at (sliced_index m.shape 0 (from_on first count) (i ∷ j ∷ l ∷ []))) None) (in_three count p.width p.channels i j l a b c)
-            ∙ ap m.at (ap (λ ns. sliced_index ns 0 (from_on first count) (i ∷ j ∷ l ∷ [])) shows.shape ∙ ap (λ x. x ∷ j ∷ l ∷ []) (cut_from first count p.height fits i))
-            ∙ shows.samples (first + i) j l (omega (arith, a, fits)) b c;
-      }
+      sliced_shown m n (rows_from first count p) 0 s (from_on first count) is shape at sides
+      (λ i j l a b c. ap m.at (ap (λ ns. sliced_index ns 0 (from_on first count) (i ∷ j ∷ l ∷ [])) shows.shape ∙ ap (λ x. x ∷ j ∷ l ∷ []) (cut_from first count p.height fits i)) ∙ shows.samples (first + i) j l (omega (arith, a, fits)) b c)
 
   pub columns_cut : first + count ≤ slice_index m.shape 1 → (s : Slice) → s ≡ from_on first count → n.shape ≡ sliced_shape m.shape 1 s → ((i : List ℕ) → n.at i ≡ inside (sliced_shape m.shape 1 s) i (m.at (sliced_index m.shape 1 s i))) → Shows n (columns_from first count p)
   columns_cut all s is shape at =
       let fits : first + count ≤ p.width = omega (arith, all, ap (λ ns. slice_index ns 1) shows.shape) in
       let sides : sliced_shape m.shape 1 (from_on first count) ≡ p.height ∷ count ∷ p.channels ∷ [] = ap (λ ns. sliced_shape ns 1 (from_on first count)) shows.shape ∙ ap (λ x. p.height ∷ x ∷ p.channels ∷ []) (cut_length first count p.width fits) in
-      record {
-        shape = shape ∙ ap (sliced_shape m.shape 1) is ∙ sides;
-        samples = λ i j l a b c.
-            at (i ∷ j ∷ l ∷ [])
-            ∙ ap (λ t. inside (sliced_shape m.shape 1 t) (i ∷ j ∷ l ∷ []) (m.at (sliced_index m.shape 1 t (i ∷ j ∷ l ∷ [])))) is
-            ∙ ap (λ ns. inside ns (i ∷ j ∷ l ∷ []) (m.at (sliced_index m.shape 1 (from_on first count) (i ∷ j ∷ l ∷ [])))) sides
-            ∙ ap (λ t. cond t (m.at (sliced_index m.shape 1 (from_on first count) (i ∷ j ∷ l ∷ []))) None) (in_three p.height count p.channels i j l a b c)
-            ∙ ap m.at (ap (λ ns. sliced_index ns 1 (from_on first count) (i ∷ j ∷ l ∷ [])) shows.shape ∙ ap (λ x. i ∷ x ∷ l ∷ []) (cut_from first count p.width fits j))
-            ∙ shows.samples i (first + j) l a (omega (arith, b, fits)) c;
-      }
+      sliced_shown m n (columns_from first count p) 1 s (from_on first count) is shape at sides
+      (λ i j l a b c. ap m.at (ap (λ ns. sliced_index ns 1 (from_on first count) (i ∷ j ∷ l ∷ [])) shows.shape ∙ ap (λ x. i ∷ x ∷ l ∷ []) (cut_from first count p.width fits j)) ∙ shows.samples i (first + j) l a (omega (arith, b, fits)) c)
 
 -- each sample changed
 pub changed_shown : (m n : Meaning ℕ) (f : ℕ → ℕ) (p : Picture) → n.shape ≡ m.shape → ((i : List ℕ) → n.at i ≡ option_map f (m.at i)) → Shows m p → Shows n (changed f p)

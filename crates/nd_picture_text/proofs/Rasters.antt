@@ -4,7 +4,7 @@ use Rattle.std.specs.List.{flat_map}
 use Rattle.std.proofs.lemmas.List.{length-set, take_all, take_more_set}
 use Rattle.std.proofs.lemmas.List.Concat.{flat_map-append}
 use Rattle.std.proofs.lemmas.Bool.Decides.{nat_tests}
-use Rattle.std.proofs.Math.Seq.{take-length}
+use Rattle.std.proofs.Math.Seq.{take-length, take-add}
 use Rattle.nd_text.specs.declared.watched.Watched.{Watched}
 use Rattle.nd_text.specs.Puts.{Puts}
 use Rattle.nd_text.proofs.Puts.{puts_then}
@@ -47,22 +47,11 @@ only_one limit x within (suc k) d h = absurd (omega (arith, h))
 pub all_more : (limit : ℕ) (xs : List ℕ) (x : ℕ) → x ≤ limit → All (λ s. s ≤ limit) xs → All (λ s. s ≤ limit) (xs ++ x ∷ [])
 all_more limit xs x within all = All-append (λ s. s ≤ limit) xs (x ∷ []) all (only_one limit x within)
 
-none_taken : {X : Type 0} (count : ℕ) → take {A = X} count [] ≡ []
-none_taken zero = refl
-none_taken (suc count) = refl
-
--- a list up to where a part ends is the list up to its beginning and the part
-pub part_taken : {X : Type 0} (xs : List X) (from count : ℕ) → take (from + count) xs ≡ take from xs ++ take count (drop from xs)
-part_taken [] zero count = ap (λ k. take k []) (omega arith)
-part_taken [] (suc from) count = let more : suc from + count ≡ suc (from + count) = omega arith in ap (λ k. take k []) more ∙ sym (none_taken count)
-part_taken (x ∷ xs) zero count = ap (λ k. take k (x ∷ xs)) (omega arith)
-part_taken (x ∷ xs) (suc from) count = let more : suc from + count ≡ suc (from + count) = omega arith in ap (λ k. take k (x ∷ xs)) more ∙ ap (λ l. x ∷ l) (part_taken xs from count)
-
 -- one piece more is put
 pub piece_put : {W : Type 0} {contents : W → Option (List ℕ)} {old mid new : Watched W} {held one left : List ℕ} (f : ℕ → List ℕ) (xs : List ℕ) (from count : ℕ) (piece : List ℕ)
     → Puts contents old held mid one (flat_map f (take from xs)) → piece ≡ flat_map f (take count (drop from xs)) → Puts contents mid one new left piece → Puts contents old held new left (flat_map f (take (from + count) xs))
 piece_put {W} {contents} {old} {mid} {new} {held} {one} {left} f xs from count piece p is q =
-    let whole : flat_map f (take (from + count) xs) ≡ flat_map f (take from xs) ++ piece = ap (flat_map f) (part_taken xs from count) ∙ flat_map-append f (take from xs) (take count (drop from xs)) ∙ ap (λ l. flat_map f (take from xs) ++ l) (sym is) in
+    let whole : flat_map f (take (from + count) xs) ≡ flat_map f (take from xs) ++ piece = ap (flat_map f) (take-add from count xs) ∙ flat_map-append f (take from xs) (take count (drop from xs)) ∙ ap (λ l. flat_map f (take from xs) ++ l) (sym is) in
     subst (Puts contents old held new left) (sym whole) (puts_then p q)
 
 -- two bytes more of a piece

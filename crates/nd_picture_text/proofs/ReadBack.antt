@@ -3,7 +3,7 @@ use Rattle.std.proofs.Common.{◌≡◌, ◌∙◌, ℕ, suc, ◌+◌, ◌*◌, 
 use Rattle.std.specs.Prelude.{All, codes}
 use Rattle.std.specs.Fmt.{decimal}
 use Rattle.std.specs.List.{flat_map}
-use Rattle.std.proofs.lemmas.Bool.{ltb-true, le-ltb}
+use Rattle.std.proofs.lemmas.Bool.{ltb-true, le-ltb, le-leb}
 use Rattle.std.proofs.lemmas.Bool.Decides.{nat_tests}
 use Rattle.nd_picture_text.specs.Laws.{SamplesReadBack}
 use Rattle.nd_picture_text.specs.Reading.{samples_behind, narrow_samples, wide_samples, exactly, raw_samples}
@@ -16,12 +16,9 @@ module _ (limit : ℕ) where
   rest_within : (x : ℕ) (xs : List ℕ) → All (λ s. s ≤ limit) (x ∷ xs) → All (λ s. s ≤ limit) xs
   rest_within x xs all k d h = all (suc k) d (omega (arith, h))
 
-within : (x limit : ℕ) → x ≤ limit → leb x limit ≡ true
-within x limit h = grind (arith, nat_tests)
-
 narrow_step : (limit b x : ℕ) (xs rest : List ℕ) → b ≡ x → x ≤ limit → narrow_samples limit rest ≡ Ok xs → narrow_samples limit (b ∷ rest) ≡ Ok (x ∷ xs)
 narrow_step limit b x xs rest same h is =
-    let fits : leb b limit ≡ true = within b limit (omega (arith, same, h)) in
+    let fits : leb b limit ≡ true = le-leb b limit (omega (arith, same, h)) in
     ap (λ t. cond t (samples_behind (b ∷ []) (narrow_samples limit rest)) (Err (length (b ∷ rest)))) fits ∙ ap (samples_behind (b ∷ [])) is ∙ ap (λ y. Ok (y ∷ xs)) same
 
 narrow_back : (limit : ℕ) (xs : List ℕ) → limit < 256 → All (λ s. s ≤ limit) xs → narrow_samples limit (flat_map low_byte xs) ≡ Ok xs
@@ -32,7 +29,7 @@ narrow_back limit (x ∷ xs) small all =
 
 wide_step : (limit a b x : ℕ) (xs rest : List ℕ) → a * 256 + b ≡ x → x ≤ limit → wide_samples limit rest ≡ Ok xs → wide_samples limit (a ∷ b ∷ rest) ≡ Ok (x ∷ xs)
 wide_step limit a b x xs rest same h is =
-    let fits : leb (a * 256 + b) limit ≡ true = within (a * 256 + b) limit (omega (arith, same, h)) in
+    let fits : leb (a * 256 + b) limit ≡ true = le-leb (a * 256 + b) limit (omega (arith, same, h)) in
     ap (λ t. cond t (samples_behind ((a * 256 + b) ∷ []) (wide_samples limit rest)) (Err (length (a ∷ b ∷ rest)))) fits ∙ ap (samples_behind ((a * 256 + b) ∷ [])) is ∙ ap (λ y. Ok (y ∷ xs)) same
 
 wide_back : (limit : ℕ) (xs : List ℕ) → All (λ s. s ≤ limit) xs → wide_samples limit (flat_map both_bytes xs) ≡ Ok xs

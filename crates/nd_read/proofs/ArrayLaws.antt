@@ -1,11 +1,12 @@
 -- The numbers, the list and the array that are read of words are what they write, and what they write is read.
 use Rattle.std.proofs.Common.{◌≡◌, ℕ, ◌≤◌, ◌^◌, true, cond, ltb, leb, List, ◌++◌, length, length-append, ℤ, Some, None, refl, sym, ap, subst, ◌∙◌, append_assoc, arith}
 use Rattle.std.proofs.lemmas.Bool.{ltb-true, lt-ltb, leb-true, le-leb}
+use Rattle.std.proofs.lemmas.Option.{cond_some}
 use Rattle.nd_shape_and_slice.specs.Shape.{HasCheckedSize, nonzero_product, size_of}
 use Rattle.nd_text.specs.Numerals.{IsNat, IsInt, nat_of, int_of}
 use Rattle.nd_read.specs.Grammar.{IsWord, IsList, array_of, AreParts, IsArray}
 use Rattle.nd_read.specs.Reading.{◌>>=◌, first_as, many_at, counted_at, list_at, lengths_at, checked_size, parts_at, array_at, TakesWords}
-use Rattle.nd_text.proofs.NumberLaws.{some_by, some_under, nat_takes, nat_again, int_takes, int_again}
+use Rattle.nd_text.proofs.NumberLaws.{some_under, nat_takes, nat_again, int_takes, int_again}
 use Rattle.nd_read.proofs.Forms.{bind_some, some_pair, Takes, Reads, few_parts, regrouped, word_reads, made_reads, many_take, many_again, many_length, counted_reads}
 
 pub nat_reads : {n : ℕ} → Reads n (first_as nat_of) (IsWord IsNat)
@@ -39,7 +40,7 @@ parts_take words array rest e =
     let d = bind_some (many_at (first_as int_of) b.0 a.0.1) (λ vs. Some ((a.0.0, vs.0), vs.1)) (array, rest) b.2 in
     let few = lengths_take words a.0.0 a.0.1 a.1 in
     let ls = (list_reads {n = 0}).takes words a.0.0 a.0.1 few.0 in
-    let size = some_by (ltb (nonzero_product a.0.0) (2 ^ 63)) (size_of a.0.0) b.0 b.1 in
+    let size = cond_some (ltb (nonzero_product a.0.0) (2 ^ 63)) (size_of a.0.0) b.0 b.1 in
     let vs = many_take (λ ws. true) (first_as int_of) (IsWord IsInt) (int_reads {n = 0}).takes b.0 a.0.1 d.0.0 d.0.1 d.1 in
     let p = some_pair ((a.0.0, d.0.0), d.0.1) (array, rest) d.2 in
     let parts : words ≡ (ls.front ++ vs.front) ++ rest = ls.parts ∙ ap (λ (ws : List (List ℕ)). ls.front ++ ws) (vs.parts ∙ ap (λ (ws : List (List ℕ)). vs.front ++ ws) p.1) ∙ sym (append_assoc ls.front vs.front rest) in

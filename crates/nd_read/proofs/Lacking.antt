@@ -1,11 +1,12 @@
 -- Where memory is lacked while words are read: what lacks it in a part of them does in the whole.
 use Rattle.std.proofs.Common.{◌≡◌, ℕ, zero, suc, ◌+◌, ◌≤◌, ◌<◌, ◌^◌, true, cond, ltb, leb, List, [], ◌∷◌, length, ℤ, Option, Some, None, refl, sym, ap, arith}
 use Rattle.std.proofs.lemmas.Bool.{ltb-true, lt-ltb, leb-true, le-leb, and_parts}
+use Rattle.std.proofs.lemmas.Option.{cond_some}
 use Rattle.nd_shape_and_slice.specs.Shape.{nonzero_product, size_of}
 use Rattle.nd_array_core.specs.Meaning.{Meaning}
 use Rattle.nd_text.specs.declared.keyword.Keyword.TheVariants.{Ask, Write}
 use Rattle.nd_text.specs.Numerals.{nat_of, int_of}
-use Rattle.nd_text.proofs.NumberLaws.{some_by, some_under}
+use Rattle.nd_text.proofs.NumberLaws.{some_under}
 use Rattle.nd_read.specs.declared.reader.fault.LineFault.{LineFault}
 use Rattle.nd_read.specs.declared.reader.fault.LineFault.TheVariants.{Bad, Memory}
 use Rattle.nd_read.specs.Calls.{AskedStep}
@@ -66,7 +67,7 @@ array_lacks words array rest e =
     let a = bind_some (lengths_at words) (λ ls. checked_size ls.0 >>= λ size. many_at (first_as int_of) size ls.1 >>= λ vs. Some ((ls.0, vs.0), vs.1)) parts.0 parts.1 in
     let b = bind_some (checked_size a.0.0) (λ size. many_at (first_as int_of) size a.0.1 >>= λ vs. Some ((a.0.0, vs.0), vs.1)) parts.0 a.2 in
     let d = bind_some (many_at (first_as int_of) b.0 a.0.1) (λ vs. Some ((a.0.0, vs.0), vs.1)) parts.0 b.2 in
-    let size = some_by (ltb (nonzero_product a.0.0) (2 ^ 63)) (size_of a.0.0) b.0 b.1 in
+    let size = cond_some (ltb (nonzero_product a.0.0) (2 ^ 63)) (size_of a.0.0) b.0 b.1 in
     let enough : b.0 + length d.0.1 ≤ length a.0.1 = many_words (first_as int_of) (item_words int_of) b.0 a.0.1 d.0.0 d.0.1 d.1 in
     lengths_lack words a.0.0 a.0.1 a.1 (size_some a.0.0 b.0 (length a.0.1) (sym size.1) (omega (arith, enough)))
 

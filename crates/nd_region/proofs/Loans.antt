@@ -75,12 +75,9 @@ module _ (E : El) {M : Type 1} {𝓤 : Ura M} (𝓛 : Logic 𝓤) (ℓ : Lifetim
         (takes_part 𝓛 Row (mem (R E)) (λ w. set xs i w) κ q 0 0 b at_i γ (sem 𝓛 (besides E 𝓛 b o xs fs i)) (spot_back long) (code_row xs) (code_row xs) x) $ await ! tt $ pick ! (λ δ. split3 ! $
         feq_i ! (List Val) (vptr b at_i ∷ []) (vptr b at_i ∷ []) refl $ fjoin3 ! $ move ! (1 ∷ []) $ split ! $ now ! $ show ! (λ (z : GName). mean 𝓛 (SpotLent z)) δ $ move ! (2 ∷ 0 ∷ 1 ∷ []) $ done !))
 
-length_kept : (g : ℕ → Bool) (fs : List Bool) → length (kept_where g fs) ≡ length fs
-length_kept g [] = refl
-length_kept g (f ∷ fs) = ap suc (length_kept (λ k. g (suc k)) fs)
-
 pub kept_length : (g : ℕ → Bool) (fs : List Bool) → length (kept_where g fs) ≡ length fs
-kept_length = length_kept
+kept_length g [] = refl
+kept_length g (f ∷ fs) = ap suc (kept_length (λ k. g (suc k)) fs)
 
 length_merged : {X : Type 0} (ks : List Bool) (ws vs : List X) → length ws ≡ length ks → length vs ≡ length ks → length (merged_rows ks ws vs) ≡ length ks
 length_merged [] ws vs e e' = e'
@@ -145,9 +142,9 @@ module _ (E : El) {M : Type 1} {𝓤 : Ura M} (𝓛 : Logic 𝓤) (b : ℕ) wher
 
     mends : (w v : List (el_x E)) → ent 𝓤 (sep 𝓤 (sem 𝓛 (One.own_at w 0 0)) (sep 𝓤 (sem 𝓛 (Two.own_at v 0 0)) (emp 𝓤))) (sem 𝓛 (Parted.own_at (merged_rows (kept_where g fs) w v) 0 0))
     mends w v = qed 𝓛 (‵ (One.own_at w 0 0) ∷ ‵ (Two.own_at v 0 0) ∷ raw (emp 𝓤) ∷ []) ∵ fsplit ! $ feq_l ! (λ e. move ! (1 ∷ []) $ fsplit ! $ feq_l ! (λ e'.
-        let i : length w ≡ length fs = e ∙ length_kept g fs in let j : length v ≡ length fs = e' ∙ length_kept (λ k. not (g k)) fs in
+        let i : length w ≡ length fs = e ∙ kept_length g fs in let j : length v ≡ length fs = e' ∙ kept_length (λ k. not (g k)) fs in
         move ! (1 ∷ 0 ∷ []) $ use2 𝓛 (‵ (Rows o (merged_rows (kept_where g fs) w v) fs)) (rows_glue g w v fs o i j) $
-        feq_i ! ℕ (length (merged_rows (kept_where g fs) w v)) (length fs) (length_merged (kept_where g fs) w v e (j ∙ sym (length_kept g fs)) ∙ length_kept g fs) $ fjoin ! $ keep ! (0 ∷ []) $ done !))
+        feq_i ! ℕ (length (merged_rows (kept_where g fs) w v)) (length fs) (length_merged (kept_where g fs) w v e (j ∙ sym (kept_length g fs)) ∙ kept_length g fs) $ fjoin ! $ keep ! (0 ∷ []) $ done !))
 
     pub rejoins : (w v : List (el_x E)) → ent 𝓤 (sep 𝓤 (sem 𝓛 (One.own_at w 0 0)) (sem 𝓛 (Two.own_at v 0 0))) (sem 𝓛 (Parted.own_at (merged_rows (kept_where g fs) w v) 0 0))
     rejoins w v = qed 𝓛 (‵ (One.own_at w 0 0) ∷ ‵ (Two.own_at v 0 0) ∷ []) ∵ use0 𝓛 (raw (emp 𝓤)) (id⊢ 𝓤 (emp 𝓤)) $ move ! (1 ∷ 2 ∷ 0 ∷ []) $ by ! (mends w v)
@@ -155,8 +152,8 @@ module _ (E : El) {M : Type 1} {𝓤 : Ura M} (𝓛 : Logic 𝓤) (b : ℕ) wher
     pub cuts : ent 𝓤 (sep 𝓤 (sem 𝓛 (loan (R E) κ (block_ptr b o) γ xs fs)) (A.lft κ q)) (H.⇛ (mean 𝓛 (some Cut)))
     cuts = qed 𝓛 (‵ (loan (R E) κ (block_ptr b o) γ xs fs) ∷ ‵ (flft κ q) ∷ []) ∵ updating ! $ fsplit ! $ open_ref ! tt Parted {x = xs} {b = 0} {o = 0} $ fsplit ! $ feq_l ! (λ long.
         use1 𝓛 (‵ (Rows o xs (kept_where g fs)) ⊛ ‵ (Rows o xs (kept_where (λ k. not (g k)) fs))) (rows_cut g xs fs o) $ split ! $
-        feq_i ! ℕ (length xs) (length (kept_where g fs)) (long ∙ sym (length_kept g fs)) $ fjoin ! $ move ! (1 ∷ []) $
-        feq_i ! ℕ (length xs) (length (kept_where (λ k. not (g k)) fs)) (long ∙ sym (length_kept (λ k. not (g k)) fs)) $ fjoin ! $
+        feq_i ! ℕ (length xs) (length (kept_where g fs)) (long ∙ sym (kept_length g fs)) $ fjoin ! $ move ! (1 ∷ []) $
+        feq_i ! ℕ (length xs) (length (kept_where (λ k. not (g k)) fs)) (long ∙ sym (kept_length (λ k. not (g k)) fs)) $ fjoin ! $
         use0 𝓛 (raw (emp 𝓤)) (id⊢ 𝓤 (emp 𝓤)) $ move ! (3 ∷ 4 ∷ 5 ∷ 2 ∷ 1 ∷ 0 ∷ []) $ group ! 6 $
         use1 𝓛 (later (some (λ (γs : GName × GName). (‵ (fobs γs.0 cut_code) ⊛ ‵ (fbor κ (Body One 0 0 γs.0))) ⊛ (‵ (fobs γs.1 cut_code) ⊛ ‵ (fbor κ (Body Two 0 0 γs.1))) ⊛ ‵ (flft κ q) ⊛ ‵ (after₂ Parted One Two γ γs.0 γs.1 (merged_rows (kept_where g fs))))))
         (takes_two 𝓛 Parted One Two (merged_rows (kept_where g fs)) κ q 0 0 0 0 0 0 γ (emp 𝓤) mends cut_code cut_code xs xs) $ await ! tt $ pick ! (λ γs. split3 ! $

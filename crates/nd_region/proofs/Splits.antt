@@ -2,6 +2,7 @@
 use mathlib.Core.Path.{◌≡◌, refl, sym, ap, ◌∙◌}
 use Rattle.std.specs.Prelude.{ℕ, suc, List, [], ◌∷◌, ℤ, pos, negsuc, Bool, true, false, ◌&&◌, not, None}
 use Rattle.std.specs.Option.{is_some}
+use Rattle.std.proofs.lemmas.Bool.{false_from_ne_true, not_from_false}
 use Rattle.nd_shape_and_slice.specs.Shape.{in_box}
 use Rattle.nd_shape_and_slice.specs.Place.{place_of}
 use Rattle.nd_region.specs.declared.region.Region.{Region}
@@ -9,14 +10,6 @@ use Rattle.nd_region.specs.Places.{stored_in, has_place, kept_where, names, name
 use Rattle.nd_region.specs.Region.{region_stored, HasPlaces, IsPartWhere}
 use Rattle.nd_region.proofs.Names.{named_by, named_at, named_has}
 use Rattle.nd_region.proofs.Stored.{part_has, passes, parts_commute, parts_apart}
-
-not_named : (b : Bool) → (b ≡ true → ⊥) → not b ≡ true
-not_named true never = absurd (never refl)
-not_named false never = refl
-
-not_true : (b : Bool) → not b ≡ true → b ≡ false
-not_true true e = cc
-not_true false e = refl
 
 and_more : (f a b : Bool) → (a ≡ true → b ≡ true) → ((f && b) && a) ≡ (f && a)
 and_more true true b h = ap (λ (c : Bool). c && true) (h refl)
@@ -70,7 +63,7 @@ part_of_part g h r between x y more others late early =
 module _ (offset : ℕ) (ns : List ℕ) (ss : List ℤ) (offset' : ℕ) (ns' : List ℕ) (ss' : List ℤ) (apart : LayoutsShareNoPlace offset ns ss offset' ns' ss') where
   -- what the second names, the first doesn't
   pub named_once : (p : ℕ) → names offset' ns' ss' p ≡ true → names_not offset ns ss p ≡ true
-  named_once p e = let j = named_by offset' ns' ss' p e in not_named (names offset ns ss p) (λ h. let i = named_by offset ns ss p h in apart i.0 j.0 i.1 j.1 (i.2 ∙ sym j.2))
+  named_once p e = let j = named_by offset' ns' ss' p e in not_from_false (names offset ns ss p) (false_from_ne_true (names offset ns ss p) (λ h. let i = named_by offset ns ss p h in apart i.0 j.0 i.1 j.1 (i.2 ∙ sym j.2)))
 
   module _ {A : Type 0} (r : Region A) where
     -- once the first is split off, the others still have each place of the second
@@ -86,7 +79,7 @@ module _ (offset : ℕ) (ns : List ℕ) (ss : List ℤ) (offset' : ℕ) (ns' : L
     no_common_place x y part part' p has =
         let g : ℕ → Bool = names offset ns ss in let h : ℕ → Bool = names offset' ns' ss' in
         (λ i. stored_in (part'.0 i) (part'.1 i) p)
-        ∙ parts_apart g h r.items r.held p (λ e. not_true (h p) (not_named (h p) (λ f. apart_at e (named_once p f)))) ((λ i. is_some (stored_in (sym part.0 i) (sym part.1 i) p)) ∙ has)
+        ∙ parts_apart g h r.items r.held p (λ e. false_from_ne_true (h p) (λ f. apart_at e (named_once p f))) ((λ i. is_some (stored_in (sym part.0 i) (sym part.1 i) p)) ∙ has)
       where
         apart_at : {b : Bool} → b ≡ true → not b ≡ true → ⊥
         apart_at e f = cc

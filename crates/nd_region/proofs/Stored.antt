@@ -3,14 +3,11 @@ use mathlib.Core.Path.{◌≡◌, refl, sym, ap, ◌∙◌}
 use Rattle.std.specs.Prelude.{ℕ, zero, suc, ◌<◌, List, [], ◌∷◌, Bool, true, false, ◌&&◌, Option, Some, None, length, replicate, if◌then◌else◌}
 use Rattle.std.specs.Option.{is_some}
 use Rattle.std.specs.List.{slice_get}
+use Rattle.std.proofs.Math.Bool.{and-false}
 use native.Mathlib.Omega.{arith}
 use native.Mathlib.Nat.{not-suc-le-zero}
 use lib.ListN.{set, get_or}
 use Rattle.nd_region.specs.Places.{element_in, stored_in, merged_rows, kept_where}
-
-and_false : (f : Bool) → (f && false) ≡ false
-and_false true = refl
-and_false false = refl
 
 swap_tests : (f a b : Bool) → ((f && b) && a) ≡ ((f && a) && b)
 swap_tests true true true = refl
@@ -162,7 +159,7 @@ module _ {A : Type 0} where
   merged_rest g (f ∷ fs) (w ∷ ws) [] e none = refl
   merged_rest g (f ∷ fs) (w ∷ ws) (v ∷ vs) e none =
       let i : suc (length vs) ≡ suc (length ws) = e in
-      (λ j. (if f && none 0 j then w else v) ∷ merged_rows (kept_where (λ k. g (suc k)) fs) ws vs) ∙ ap (λ (b : Bool). (if b then w else v) ∷ merged_rows (kept_where (λ k. g (suc k)) fs) ws vs) (and_false f)
+      (λ j. (if f && none 0 j then w else v) ∷ merged_rows (kept_where (λ k. g (suc k)) fs) ws vs) ∙ ap (λ (b : Bool). (if b then w else v) ∷ merged_rows (kept_where (λ k. g (suc k)) fs) ws vs) (and-false f)
       ∙ ap (λ (l : List A). v ∷ l) (merged_rest (λ k. g (suc k)) fs ws vs (omega arith) (λ k. none (suc k)))
 
   -- what two parts make of a row, place by place

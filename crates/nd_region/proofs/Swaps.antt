@@ -6,6 +6,7 @@ use Rattle.std.specs.List.{swap}
 use Rattle.std.specs.Cmp.{unsigned_Decides}
 use Rattle.std.proofs.lemmas.List.{set_comm, get_or-set_same, set-get_or}
 use Rattle.std.proofs.lemmas.List.Edits.{swap_is}
+use Rattle.std.proofs.lemmas.Bool.{ne_eqb}
 use native.Mathlib.Omega.{arith}
 use native.Mathlib.Nat.{not-suc-le-zero}
 use lib.ListN.{set, get_or, length-set}
@@ -14,19 +15,12 @@ use Rattle.nd_region.specs.Places.{element_in, stored_in, merged_rows, kept_wher
 use Rattle.nd_region.specs.Region.{region_stored, with_items, IsPartWhere, SwappedBetween, rejoined_region}
 use Rattle.nd_region.proofs.Stored.{part_has, part_holds, stored_at, merged_rest, written_has}
 
-by_cases : (b : Bool) → (b ≡ true → ⊥) → b ≡ false
-by_cases true h = absurd (h refl)
-by_cases false h = refl
-
-not_equal : (p q : ℕ) → (p ≡ q → ⊥) → nat_eq p q ≡ false
-not_equal p q ne = by_cases (nat_eq p q) (λ e. ne ((unsigned_Decides p q).0 e))
-
 -- a layout with no axes names its offset, and no other
 pub names_itself : (p : ℕ) → names p [] [] p ≡ true
 names_itself p = (unsigned_Decides p p).1 refl
 
 pub names_no_other : (p q : ℕ) → (p ≡ q → ⊥) → names p [] [] q ≡ false
-names_no_other p q ne = not_equal p q ne
+names_no_other p q ne = ne_eqb p q ne
 
 module _ {A : Type 0} where
   pub swap_asks : (d x y : Region A) (p q : ℕ) → (p ≡ q → ⊥) → is_some (region_stored d p) ≡ true → is_some (region_stored d q) ≡ true → IsPartWhere (names p [] []) d x → IsPartWhere (names_not p [] []) d y

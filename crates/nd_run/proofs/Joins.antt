@@ -14,27 +14,21 @@ use Rattle.nd_array_core.specs.Meaning.{Meaning}
 use Rattle.nd_array_core.specs.growth.InTurn.{lengths_along, ClonesOfEachAreEqual}
 use Rattle.nd_stacking.specs.Stacking.{concatenation_refusal, concatenation_shape, is_checked_size, is_alike_but, stack_refusal, HasRoomForAxis}
 use Rattle.nd_stacking.proofs.Joining.{cause, false_from_not}
+use Rattle.nd_stacking.proofs.Stacked.{same_passes}
 use Rattle.nd_run.specs.declared.cause.Cause.{Cause}
 use Rattle.nd_run.specs.declared.cause.Cause.TheVariants as causes
 use Rattle.nd_run.specs.Steps.{first_failed}
 use Rattle.nd_run.specs.Fold.{concatenate_tests, stack_tests}
-
-passed : (t : Bool) (cause : Cause) (rest : Option Cause) → cond t rest (Some cause) ≡ None → (t ≡ true) × (rest ≡ None)
-passed true cause rest e = (refl, e)
-passed false cause rest e = absurd cc
-
--- a test that holds of equal lists
-same_passes : (ns ms : List ℕ) → ns ≡ ms → pointwise nat_eq ns ms ≡ true
-same_passes ns ms e = (slice_eq-Decides unsigned_Decides ns ms (pointwise nat_eq ns ms) refl).1 e
+use Rattle.nd_run.proofs.StepTests.{all_passed}
 
 module _ {A : Type 0} (axis : ℕ) (m : Meaning A) (others : List (Meaning A)) where
   -- nothing is against the concatenation of an array and others that pass the tests
   pub concatenate_allowed : first_failed (concatenate_tests axis others m.shape) ≡ None → concatenation_refusal axis (m ∷ others) ≡ None
   concatenate_allowed e =
       let together = get_or m.shape axis 0 + lengths_along axis others in
-      let on = passed (nat_lt axis (length m.shape)) causes.Axis _ e in
-      let alike = passed (list_all (λ n. is_alike_but axis m.shape n.shape) others) causes.Shape _ on.1 in
-      let size = passed (nat_lt (nonzero_product (set m.shape axis together)) (2 ^ 63)) causes.Overflow None alike.1 in
+      let on = all_passed (nat_lt axis (length m.shape)) causes.Axis _ e in
+      let alike = all_passed (list_all (λ n. is_alike_but axis m.shape n.shape) others) causes.Shape _ on.1 in
+      let size = all_passed (nat_lt (nonzero_product (set m.shape axis together)) (2 ^ 63)) causes.Overflow None alike.1 in
       let first : is_alike_but axis m.shape m.shape ≡ true = same_passes (set m.shape axis (get_or m.shape axis 0)) m.shape (set-get_or m.shape axis 0) in
       let all : list_all (λ n. is_alike_but axis m.shape n.shape) (m ∷ others) ≡ true = ap (λ b. b && list_all (λ n. is_alike_but axis m.shape n.shape) others) first ∙ alike.0 in
       let fits : is_checked_size (concatenation_shape axis (m ∷ others)) ≡ true = ap (λ n. is_checked_size (set m.shape axis n)) (sum_by-cons (λ n. get_or n.shape axis 0) m others) ∙ size.0 in
@@ -44,10 +38,10 @@ module _ {A : Type 0} (axis : ℕ) (m : Meaning A) (others : List (Meaning A)) w
   -- nothing is against their stack, and there is room for an axis
   pub stack_allowed : first_failed (stack_tests axis others m.shape) ≡ None → (stack_refusal axis (m ∷ others) ≡ None) × (length m.shape < 32)
   stack_allowed e =
-      let place = passed (nat_le axis (length m.shape)) causes.Axis _ e in
-      let room = passed (nat_lt (length m.shape) 32) causes.TooManyAxes _ place.1 in
-      let equal = passed (list_all (λ n. pointwise nat_eq n.shape m.shape) others) causes.Shape _ room.1 in
-      let size = passed (nat_lt (nonzero_product (insert m.shape axis (length others + 1))) (2 ^ 63)) causes.Overflow None equal.1 in
+      let place = all_passed (nat_le axis (length m.shape)) causes.Axis _ e in
+      let room = all_passed (nat_lt (length m.shape) 32) causes.TooManyAxes _ place.1 in
+      let equal = all_passed (list_all (λ n. pointwise nat_eq n.shape m.shape) others) causes.Shape _ room.1 in
+      let size = all_passed (nat_lt (nonzero_product (insert m.shape axis (length others + 1))) (2 ^ 63)) causes.Overflow None equal.1 in
       let first : pointwise nat_eq m.shape m.shape ≡ true = same_passes m.shape m.shape refl in
       let all : list_all (λ n. pointwise nat_eq n.shape m.shape) (m ∷ others) ≡ true = ap (λ b. b && list_all (λ n. pointwise nat_eq n.shape m.shape) others) first ∙ equal.0 in
       let count : length (m ∷ others) ≡ length others + 1 = omega arith in

@@ -13,6 +13,8 @@ use Rattle.nd_run.specs.declared.cause.Cause.TheVariants as causes
 use Rattle.nd_shape_and_slice.specs.Broadcast.{broadcasts}
 use Rattle.nd_read.specs.Calls.{AskedStep, Sliced, BroadcastTo}
 use Rattle.nd_shape_and_slice.specs.Slicing.{next_axis}
+use Rattle.nd_shape_and_slice.proofs.SliceLists.{next_axis-reads}
+use Rattle.nd_shape_and_slice.proofs.Lists.{drop-next}
 use Rattle.nd_run.specs.Steps.{first_failed, element_tests, refusal, keep_refusal, shares}
 
 -- ---- one test before others
@@ -44,11 +46,6 @@ broadcast_allowed to ns few can = rw (le-leb (length to) 32 few) (unrefused (bro
 -- how many axes an element reads
 abbrev pub reads : SliceInfoElem → ℕ
 reads e = if reads_axis e then 1 else 0
-
-past : (axis : ℕ) (e : SliceInfoElem) → next_axis axis e ≡ axis + reads e
-past axis (Part start end step) = omega arith
-past axis (At k) = omega arith
-past axis NewAxis = omega arith
 
 element_passed : (axis : ℕ) (ns : List ℕ) (e : SliceInfoElem) (es : List SliceInfoElem) → first_failed (element_tests axis ns (e ∷ [])) ≡ None → first_failed (element_tests axis ns (e ∷ es)) ≡ first_failed (element_tests (axis + reads e) ns es)
 element_passed axis ns (Part start end step) es h = passed (fits_axis (get_or ns axis 0) (record { start = start; end = end; step = step })) causes.Slice (first_failed (element_tests (axis + 1) ns es)) h
@@ -89,7 +86,7 @@ tested_axis shape es axis k e lt at h reads_one =
 
 pub tested_more : (shape : List ℕ) (es : List SliceInfoElem) (axis k next : ℕ) (e : SliceInfoElem) → k < length es → get_or es k e ≡ e → IsTestedBelow shape es axis k → first_failed (element_tests axis shape (e ∷ [])) ≡ None → next ≡ next_axis axis e → IsTestedBelow shape es next (k + 1)
 tested_more shape es axis k next e lt at h fits is =
-    let moved : next ≡ axis + reads e = is ∙ past axis e in
+    let moved : next ≡ axis + reads e = is ∙ next_axis-reads axis e in
     record {
       left = omega (arith, h.left, next_read es k e lt at, moved);
       same = ap (λ a. first_failed (element_tests a shape (drop (k + 1) es))) moved ∙ (sym (element_passed axis shape e (drop (k + 1) es) fits) ∙ (ap (λ l. first_failed (element_tests axis shape l)) (sym (next_element es k e lt at)) ∙ h.same));
@@ -107,19 +104,16 @@ new_fits : (ns : List ℕ) (es : List SliceInfoElem) → each_fits ns (NewAxis �
 new_fits [] es = refl
 new_fits (n ∷ ns) es = refl
 
-axis_next : (ns : List ℕ) (a : ℕ) → a < length ns → drop a ns ≡ get_or ns a 0 ∷ drop (a + 1) ns
-axis_next ns a lt = rw add-one (drop-cons ns a 0 lt)
-
 each_tested : (es : List SliceInfoElem) (a : ℕ) (ns : List ℕ) → a + axes_read es ≡ length ns → first_failed (element_tests a ns es) ≡ None → each_fits (drop a ns) es ≡ true
 each_tested [] a ns e h = let end : length ns ≤ a = omega (arith, e) in rw (drop_all a ns end) refl
 each_tested (Part start end step ∷ es) a ns e h =
     let more : axes_read (Part start end step ∷ es) ≡ 1 + axes_read es = axes_read-cons (Part start end step) es in
     let p = all_passed (fits_axis (get_or ns a 0) (record { start = start; end = end; step = step })) causes.Slice (first_failed (element_tests (a + 1) ns es)) h in
-    rw (axis_next ns a (omega (arith, e, more)), p.0) (each_tested es (a + 1) ns (omega (arith, e, more)) p.1)
+    rw (drop-next ns a 0 (omega (arith, e, more)), p.0) (each_tested es (a + 1) ns (omega (arith, e, more)) p.1)
 each_tested (At k ∷ es) a ns e h =
     let more : axes_read (At k ∷ es) ≡ 1 + axes_read es = axes_read-cons (At k) es in
     let p = all_passed (is_some (coordinate_on (get_or ns a 0) k)) causes.Index (first_failed (element_tests (a + 1) ns es)) h in
-    rw (axis_next ns a (omega (arith, e, more)), p.0) (each_tested es (a + 1) ns (omega (arith, e, more)) p.1)
+    rw (drop-next ns a 0 (omega (arith, e, more)), p.0) (each_tested es (a + 1) ns (omega (arith, e, more)) p.1)
 each_tested (NewAxis ∷ es) a ns e h =
     let same : axes_read (NewAxis ∷ es) ≡ 0 + axes_read es = axes_read-cons NewAxis es in
     new_fits (drop a ns) es ∙ each_tested es a ns (omega (arith, e, same)) h

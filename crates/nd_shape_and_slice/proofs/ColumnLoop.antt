@@ -2,7 +2,7 @@
 use Rattle.std.proofs.Common.{false, true, ◌≡◌, ℕ, zero, suc, ◌+◌, ◌*◌, ◌<◌, ◌≤◌, List, [], ◌∷◌, ◌++◌, length, take, drop, get_or, set, drop-cons, add-one, ℤ, pos, refl, ap, sym, ◌∙◌, subst, arith, append_assoc}
 use Rattle.std.proofs.Math.Nat.{mul-le-mul_left, mul_assoc}
 use Rattle.std.proofs.lemmas.Bool.{false≢true}
-use Rattle.std.proofs.lemmas.List.{take_more_set, length-set, take_all, append-nil}
+use Rattle.std.proofs.lemmas.List.{take_more_set, length-set, take_all, append-nil, drop_all}
 use Rattle.nd_shape_and_slice.specs.Shape.{size_of, nonzero_product, HasCheckedSize}
 use Rattle.nd_shape_and_slice.specs.Strides.{column_strides_from}
 use Rattle.nd_shape_and_slice.proofs.Sizes.{size_of-drop}
@@ -57,15 +57,9 @@ module _ (ns : List ℕ) (ss : List ℤ) (axis step : ℕ) (so_far : IsFilledTo 
         ∙ (sym (append_assoc (take axis ss) (pos step ∷ []) (column_strides_from (step * get_or ns axis 0) (drop (axis + 1) ns))) ∙ ap (λ l. l ++ column_strides_from (step * get_or ns axis 0) (drop (axis + 1) ns)) (sym put));
   }
 
-none_left : (ns : List ℕ) (axis : ℕ) → length ns ≤ axis → drop axis ns ≡ []
-none_left [] zero h = refl
-none_left [] (suc axis) h = refl
-none_left (n ∷ ns) zero h = absurd (omega arith)
-none_left (n ∷ ns) (suc axis) h = none_left ns axis (omega arith)
-
 pub filled_all : (ns : List ℕ) (ss : List ℤ) (axis step : ℕ) → length ns ≤ axis → IsFilledTo axis step ns ss → ss ≡ column_strides_from 1 ns
 filled_all ns ss axis step h so_far =
-    let none = none_left ns axis h in
+    let none = drop_all axis ns h in
     let whole : take axis ss ≡ ss = take_all axis ss (omega (arith, so_far.as_many)) in
     sym ((so_far.filled ∙ ap (λ l. take axis ss ++ column_strides_from step l) none) ∙ (append-nil (take axis ss) ∙ whole))
 

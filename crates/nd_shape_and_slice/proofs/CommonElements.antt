@@ -2,8 +2,9 @@
 use Rattle.std.proofs.Common.{leb, ltb, ◌≡◌, ℕ, zero, suc, ◌+◌, ◌*◌, ◌<◌, ◌≤◌, true, List, [], ◌∷◌, length, drop, get_or, refl, ap, sym, ◌∙◌, subst, arith, add-one, drop-cons}
 use Rattle.std.specs.Prelude.{Some}
 use Rattle.std.specs.Option.{unwrap_or}
-use Rattle.std.proofs.lemmas.Bool.{false≢true}
+use Rattle.std.proofs.lemmas.Bool.{false≢true, ltb-true, lt-ltb, and_from}
 use Rattle.std.proofs.lemmas.Bool.Decides.{nat_tests}
+use Rattle.std.proofs.lemmas.List.{drop_all}
 use Rattle.nd_shape_and_slice.specs.declared.slice.Slice.{Slice}
 use Rattle.nd_shape_and_slice.specs.declared.slice_info.SliceInfoElem.{SliceInfoElem}
 use Rattle.nd_shape_and_slice.specs.declared.slice_info.SliceInfoElem.TheVariants.{Slice as Part, Index, NewAxis}
@@ -11,13 +12,8 @@ use Rattle.nd_shape_and_slice.specs.Shape.{in_box}
 use Rattle.nd_shape_and_slice.specs.Slice.{sliced_length, sliced_from}
 use Rattle.nd_shape_and_slice.specs.SliceInfo.{axes_kept, fits_shape, reads_axis, each_fits, fits_next, shape_after, index_before, coordinate_on}
 use Rattle.nd_shape_and_slice.specs.Meeting.{IsNamed, Intersect, NamesOn, IsProgression, Share, from_reader}
-use Rattle.nd_shape_and_slice.proofs.AxisTests.{and_left, and_right, and_both}
-
-below : (i n : ℕ) → ltb i n ≡ true → i < n
-below i n h = grind (arith, nat_tests, h)
-
-is_below : (i n : ℕ) → i < n → ltb i n ≡ true
-is_below i n h = grind (arith, nat_tests, h)
+use Rattle.nd_shape_and_slice.proofs.AxisTests.{and_left, and_right}
+use Rattle.nd_shape_and_slice.proofs.Lists.{first_same, others_same, drop-next}
 
 -- a new axis names nothing else
 named_new : (ns : List ℕ) (es : List SliceInfoElem) (x : List ℕ) → IsNamed ns es x → IsNamed ns (NewAxis ∷ es) x
@@ -64,7 +60,7 @@ reader_of n ns (NewAxis ∷ es) h =
 named_first : (n : ℕ) (ns : List ℕ) (e : SliceInfoElem) (es : List SliceInfoElem) (x : ℕ) (xs : List ℕ) → reads_axis e ≡ true → NamesOn n e x → IsNamed ns es xs → IsNamed (n ∷ ns) (e ∷ es) (x ∷ xs)
 named_first n ns (Part start end step) es x xs h on rest = record {
   new = on.0 ∷ rest.new;
-  in_result = and_both (ltb on.0 (sliced_length n (record { start = start; end = end; step = step }))) (in_box (shape_after ns es) rest.new) (is_below on.0 (sliced_length n (record { start = start; end = end; step = step })) on.1) rest.in_result;
+  in_result = and_from (ltb on.0 (sliced_length n (record { start = start; end = end; step = step }))) (in_box (shape_after ns es) rest.new) (lt-ltb on.0 (sliced_length n (record { start = start; end = end; step = step })) on.1) rest.in_result;
   stands_for = ap (λ a. a ∷ index_before ns es rest.new) on.2 ∙ ap (λ l. x ∷ l) rest.stands_for;
 }
 named_first n ns (Index k) es x xs h on rest = record {
@@ -90,7 +86,7 @@ first_named n ns (Part start end step) es y (i ∷ is) h inside names =
       first = sliced_from n s i;
       others = index_before ns es is;
       whole = names;
-      on = (i, below i (sliced_length n s) (and_left (ltb i (sliced_length n s)) (in_box (shape_after ns es) is) inside), refl);
+      on = (i, ltb-true i (sliced_length n s) (and_left (ltb i (sliced_length n s)) (in_box (shape_after ns es) is) inside), refl);
       rest = record { new = is; in_result = and_right (ltb i (sliced_length n s)) (in_box (shape_after ns es) is) inside; stands_for = refl };
     }
 first_named n ns (Index k) es y new h inside names = record {
@@ -109,17 +105,11 @@ there [] (suc i) e rest h = absurd cc
 there (x ∷ es) zero e rest h = omega arith
 there (x ∷ es) (suc i) e rest h = let more = there es i e rest h in omega (arith, more)
 
-same_head : (a b : SliceInfoElem) (x y : List SliceInfoElem) → a ∷ x ≡ b ∷ y → a ≡ b
-same_head a b x y h = cc
-
-same_tail : (a b : SliceInfoElem) (x y : List SliceInfoElem) → a ∷ x ≡ b ∷ y → x ≡ y
-same_tail a b x y h = cc
-
 element_there : (es : List SliceInfoElem) (i : ℕ) (e d : SliceInfoElem) (rest : List SliceInfoElem) → drop i es ≡ e ∷ rest → get_or es i d ≡ e
-element_there es i e d rest h = same_head (get_or es i d) e (drop (suc i) es) rest (sym (drop-cons es i d (there es i e rest h)) ∙ h)
+element_there es i e d rest h = first_same (get_or es i d) e (drop (suc i) es) rest (sym (drop-cons es i d (there es i e rest h)) ∙ h)
 
 rest_there : (es : List SliceInfoElem) (i : ℕ) (e : SliceInfoElem) (rest : List SliceInfoElem) → drop i es ≡ e ∷ rest → drop (i + 1) es ≡ rest
-rest_there es i e rest h = rw add-one (same_tail (get_or es i e) e (drop (suc i) es) rest (sym (drop-cons es i e (there es i e rest h)) ∙ h))
+rest_there es i e rest h = rw add-one (others_same (get_or es i e) e (drop (suc i) es) rest (sym (drop-cons es i e (there es i e rest h)) ∙ h))
 
 -- the next element that reads an axis stands at i'
 pub record IsAt (n : ℕ) (ns : List ℕ) (es : List SliceInfoElem) (i i' : ℕ) (d : SliceInfoElem) : Type 0 where
@@ -157,12 +147,6 @@ record Both (n : ℕ) (ns : List ℕ) (e f : SliceInfoElem) (es fs : List SliceI
   in_e : NamesOn n e coordinate
   in_f : NamesOn n f coordinate
   rest : Intersect ns es fs
-
-first_same : (x y : ℕ) (xs ys : List ℕ) → x ∷ xs ≡ y ∷ ys → x ≡ y
-first_same x y xs ys h = cc
-
-others_same : (x y : ℕ) (xs ys : List ℕ) → x ∷ xs ≡ y ∷ ys → xs ≡ ys
-others_same x y xs ys h = cc
 
 split_both : (n : ℕ) (ns : List ℕ) (es fs : List SliceInfoElem) (i i' j j' : ℕ) (d g : SliceInfoElem) → IsAt n ns es i i' d → IsAt n ns fs j j' g → Intersect (n ∷ ns) (drop i es) (drop j fs) → Both n ns (get_or es i' d) (get_or fs j' g) (drop (i' + 1) es) (drop (j' + 1) fs)
 split_both n ns es fs i i' j j' d g a b h =
@@ -210,21 +194,18 @@ met_start ns es fs a b = record {
   back = λ h. h;
 }
 
-axis_there : (ns : List ℕ) (k : ℕ) → k < length ns → drop k ns ≡ get_or ns k 0 ∷ drop (k + 1) ns
-axis_there ns k h = rw add-one (drop-cons ns k 0 h)
-
 pub first_at : (ns : List ℕ) (es fs : List SliceInfoElem) (k i j i' : ℕ) (d : SliceInfoElem) → k < length ns → IsMetUpTo ns es fs k i j → drop i' es ≡ from_reader (drop i es) → IsAt (get_or ns k 0) (drop (k + 1) ns) es i i' d
-first_at ns es fs k i j i' d h met skipped = at_place (get_or ns k 0) (drop (k + 1) ns) es i i' d (ap (λ l. each_fits l (drop i es)) (sym (axis_there ns k h)) ∙ met.fits_first) skipped
+first_at ns es fs k i j i' d h met skipped = at_place (get_or ns k 0) (drop (k + 1) ns) es i i' d (ap (λ l. each_fits l (drop i es)) (sym (drop-next ns k 0 h)) ∙ met.fits_first) skipped
 
 pub second_at : (ns : List ℕ) (es fs : List SliceInfoElem) (k i j j' : ℕ) (d : SliceInfoElem) → k < length ns → IsMetUpTo ns es fs k i j → drop j' fs ≡ from_reader (drop j fs) → IsAt (get_or ns k 0) (drop (k + 1) ns) fs j j' d
-second_at ns es fs k i j j' d h met skipped = at_place (get_or ns k 0) (drop (k + 1) ns) fs j j' d (ap (λ l. each_fits l (drop j fs)) (sym (axis_there ns k h)) ∙ met.fits_second) skipped
+second_at ns es fs k i j j' d h met skipped = at_place (get_or ns k 0) (drop (k + 1) ns) fs j j' d (ap (λ l. each_fits l (drop j fs)) (sym (drop-next ns k 0 h)) ∙ met.fits_second) skipped
 
 pub met_more : (ns : List ℕ) (es fs : List SliceInfoElem) (k i j i' j' : ℕ) (d g : SliceInfoElem) (l s c l' s' c' : ℕ) → k < length ns → IsMetUpTo ns es fs k i j → drop i' es ≡ from_reader (drop i es) → drop j' fs ≡ from_reader (drop j fs) → IsProgression (get_or ns k 0) (get_or es i' d) l s c → IsProgression (get_or ns k 0) (get_or fs j' g) l' s' c' → Share l s c l' s' c' → IsMetUpTo ns es fs (k + 1) (i' + 1) (j' + 1)
 met_more ns es fs k i j i' j' d g l s c l' s' c' h met in_e in_f p q share =
     let n = get_or ns k 0 in
     let a = first_at ns es fs k i j i' d h met in_e in
     let b = second_at ns es fs k i j j' g h met in_f in
-    let axis = axis_there ns k h in
+    let axis = drop-next ns k 0 h in
     let on_f = subst (λ x. NamesOn n (get_or fs j' g) x) (sym share.equal) (q.is_named share.at_second share.in_second) in
     record {
       within_first = omega (arith, a.within);
@@ -240,20 +221,14 @@ met_not ns es fs k i j i' j' d g l s c l' s' c' h met in_e in_f p q apart whole 
     let n = get_or ns k 0 in
     let a = first_at ns es fs k i j i' d h met in_e in
     let b = second_at ns es fs k i j j' g h met in_f in
-    let both = split_both n (drop (k + 1) ns) es fs i i' j j' d g a b (subst (λ m. Intersect m (drop i es) (drop j fs)) (axis_there ns k h) (met.onward whole)) in
+    let both = split_both n (drop (k + 1) ns) es fs i i' j j' d g a b (subst (λ m. Intersect m (drop i es) (drop j fs)) (drop-next ns k 0 h) (met.onward whole)) in
     let t = p.only both.coordinate both.in_e in
     let u = q.only both.coordinate both.in_f in
     apart (record { at_first = t.0; at_second = u.0; in_first = t.1; in_second = u.1; equal = t.2 ∙ sym u.2 })
 
-no_axis : (ns : List ℕ) (k : ℕ) → length ns ≤ k → drop k ns ≡ []
-no_axis [] zero h = refl
-no_axis [] (suc k) h = refl
-no_axis (n ∷ ns) zero h = absurd (omega arith)
-no_axis (n ∷ ns) (suc k) h = no_axis ns k (omega (arith, h))
-
 pub met_all : (ns : List ℕ) (es fs : List SliceInfoElem) (k i j : ℕ) → length ns ≤ k → IsMetUpTo ns es fs k i j → Intersect ns es fs
 met_all ns es fs k i j h met =
-    let none = no_axis ns k h in
+    let none = drop_all k ns h in
     met.back (subst (λ m. Intersect m (drop i es) (drop j fs)) (sym none) (record {
       common = [];
       in_first = named_none (drop i es) (ap (λ m. each_fits m (drop i es)) (sym none) ∙ met.fits_first);

@@ -1,6 +1,8 @@
 pub mod Sizes
 pub mod RowMajor
 pub mod Steps
+pub mod Lists
+pub mod Indexes
 pub mod AxisTests
 pub mod Ranks
 pub mod RankIndexes

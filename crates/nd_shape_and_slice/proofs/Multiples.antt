@@ -1,10 +1,11 @@
 -- The first number of a progression that a divisor divides, by division with rest: the next question is asked of the
 -- rest and the divisor.
 use Rattle.std.proofs.Common.{◌≡◌, ◌≢◌, ℕ, zero, suc, ◌+◌, ◌-◌, ◌*◌, ◌/◌, ◌%◌, ◌<◌, ◌≤◌, ap, sym, ◌∙◌, arith}
-use Rattle.std.proofs.Math.Nat.{mul-le-mul_left, le_of_mul-le-mul_left, lt_of_mul-lt-mul_left}
+use Rattle.std.proofs.Math.Nat.{mul-le-mul_left, le_of_mul-le-mul_left, lt_of_mul-lt-mul_left, mul-le-mul_right}
 use Rattle.std.specs.Prelude.{nat_lt, true, false}
 use Rattle.std.proofs.lemmas.Bool.Decides.{nat_tests}
 use Rattle.std.proofs.lemmas.Nat.{div-add-mod', mod_below}
+use Rattle.std.proofs.lemmas.Bool.{lt-ltb, ltb-true}
 use Rattle.nd_shape_and_slice.specs.Meeting.{IsFirstMultiple, Share}
 
 -- a quotient is below what bounds both the start and the step
@@ -12,13 +13,10 @@ pub quotient_below : (d c m w t bound : ℕ) → d * t ≡ c + m * w → w < d �
 quotient_below d c m w t zero e h k l = absurd (omega arith)
 quotient_below d c m w t (suc b) e h k l =
     let step : w * m ≤ w * b = mul-le-mul_left w (omega (arith, l)) in
-    let turn : (w + 1) * b ≤ d * b = mul-le-mul_right' b (w + 1) d (omega (arith, h)) in
+    let turn : (w + 1) * b ≤ d * b = mul-le-mul_right {m = w + 1} {n = d} b (omega (arith, h)) in
     let all : d * t ≤ d * b = omega (arith, e, k, step, turn) in
     at (le_of_mul-le-mul_left {k = d} all (omega (arith, h)))
   where
-    mul-le-mul_right' : (k m n : ℕ) → m ≤ n → m * k ≤ n * k
-    mul-le-mul_right' k m n h = let more : k * m ≤ k * n = mul-le-mul_left k h in omega (arith, more)
-
     at : t ≤ b → t < suc b
     at h = omega (arith, h)
 
@@ -126,20 +124,14 @@ share_swapped l d k l' d' k' share = record {
   equal = sym share.equal;
 }
 
-passes : (a b : ℕ) → a < b → nat_lt a b ≡ true
-passes a b h = grind (arith, nat_tests, h)
-
-passed : (a b : ℕ) → nat_lt a b ≡ true → a < b
-passed a b h = grind (arith, nat_tests, h)
-
 -- where the second progression reaches the number, they share one exactly where the first one does
 pub shared_where : (l d k l' d' k' w t : ℕ) → 0 < d → l ≤ l' → IsFirstMultiple d (l' - l) d' w t → w < k' → (nat_lt t k ≡ true → Share l d k l' d' k') × (Share l d k l' d' k' → nat_lt t k ≡ true)
-shared_where l d k l' d' k' w t some order first within = (λ h. shared l d k l' d' k' w t order first within (passed t k h), λ s. passes t k (share_first l d k l' d' k' w t some order first s).1)
+shared_where l d k l' d' k' w t some order first within = (λ h. shared l d k l' d' k' w t order first within (ltb-true t k h), λ s. lt-ltb t k (share_first l d k l' d' k' w t some order first s).1)
 
 -- where it doesn't, they share none, and neither where there is no such number
 pub missed_where : (l d k l' d' k' w t : ℕ) → 0 < d → l ≤ l' → IsFirstMultiple d (l' - l) d' w t → k' ≤ w → (nat_lt w k' ≡ true → Share l d k l' d' k') × (Share l d k l' d' k' → nat_lt w k' ≡ true)
 missed_where l d k l' d' k' w t some order first past = (
-  λ h. let within = passed w k' h in absurd (omega (arith, within, past)),
+  λ h. let within = ltb-true w k' h in absurd (omega (arith, within, past)),
   λ share. let within = (share_first l d k l' d' k' w t some order first share).0 in absurd (omega (arith, within, past)),
 )
 

@@ -34,7 +34,7 @@ steps_below range d r h =
     let some : 0 < suc d = omega arith in
     (div-lt_iff_lt-mul {k = suc d} {x = r} {y = (range + (suc d - 1)) / suc d} some).1 near
 
-range_above : (range d t : ℕ) → t < quotient_up range (suc d) → t * suc d < range
+pub range_above : (range d t : ℕ) → t < quotient_up range (suc d) → t * suc d < range
 range_above range d t h =
     let whole : (range + (suc d - 1)) / suc d * suc d ≤ range + (suc d - 1) = div-mul-le_self (range + (suc d - 1)) (suc d) in
     let more : suc t * suc d ≤ (range + (suc d - 1)) / suc d * suc d = mul-le-mul_right {m = suc t} {n = (range + (suc d - 1)) / suc d} (suc d) h in

@@ -3,6 +3,8 @@ use Rattle.std.proofs.Common.{leb, eqb, not, ◌&&◌, ◌≡◌, ℕ, zero, suc
 use Rattle.std.specs.Prelude.{ℤ, pos, negsuc, nat_abs, Option}
 use Rattle.std.proofs.lemmas.Nat.{div-add-mod'}
 use Rattle.std.proofs.lemmas.Bool.Decides.{nat_tests}
+use Rattle.std.proofs.Math.Nat.{sub-le}
+use Rattle.std.proofs.lemmas.Bool.{le-leb}
 use Rattle.nd_shape_and_slice.specs.declared.slice.Slice.{Slice}
 use Rattle.nd_shape_and_slice.specs.declared.slice_info.SliceInfoElem.TheVariants.{Slice as Part, NewAxis}
 use Rattle.nd_shape_and_slice.specs.Slice.{fits_axis, quotient_up, sliced_length, sliced_from, low_of, high_of}
@@ -54,9 +56,6 @@ turned count t h = omega (arith, h)
 back_below : (count t : ℕ) → t < count → count - 1 - t < count
 back_below count t h = omega (arith, h)
 
-range_within : (high low : ℕ) → high - low ≤ high
-range_within high low = omega arith
-
 down_first : (high range d count : ℕ) → (count - 1) * suc d ≤ range - 1 → range ≤ high → (count - 1) * suc d ≤ high - 1 - 0 * suc d
 down_first high range d count within below = omega (arith, within, below)
 
@@ -70,7 +69,7 @@ abbrev count_down : ℕ → ℕ → ℤ → Option ℤ → ℕ
 count_down n d start end = quotient_up (range_down n d start end) (suc d)
 
 place : (n d : ℕ) (start : ℤ) (end : Option ℤ) (t : ℕ) → t < count_down n d start end → high_down n d start end - 1 - (count_down n d start end - 1 - t) * suc d ≡ high_down n d start end - 1 - 0 * suc d - (count_down n d start end - 1) * suc d + t * suc d
-place n d start end t h = down (high_down n d start end) (range_down n d start end) d (count_down n d start end) t (steps_within (range_down n d start end) d) (range_within (high_down n d start end) (low_of n (by_step start end (negsuc d)))) h
+place n d start end t h = down (high_down n d start end) (range_down n d start end) d (count_down n d start end) t (steps_within (range_down n d start end) d) (sub-le (high_down n d start end) (low_of n (by_step start end (negsuc d)))) h
 
 sinks : (n d : ℕ) (start : ℤ) (end : Option ℤ) → IsProgression n (Part start end (negsuc d)) (sliced_from n (by_step start end (negsuc d)) 0 - (sliced_length n (by_step start end (negsuc d)) - 1) * suc d) (suc d) (sliced_length n (by_step start end (negsuc d)))
 sinks n d start end = record {
@@ -91,16 +90,13 @@ progression_of n s first len step low fits at count by begins = cases_of s.start
     cases_of start end (pos p) first len step low fits at count by begins = rw (begins, at, count, by) (rises n p start end (positive p _ fits))
     cases_of start end (negsuc d) first len step low fits at count by begins = rw (begins, at, count, by) (sinks n d start end)
 
-passes_le : {a b : ℕ} → a ≤ b → leb a b ≡ true
-passes_le h = grind (arith, nat_tests, h)
-
 -- and going down it stays on the axis
 pub stays_on : (n : ℕ) (s : Slice) (first len : ℕ) → first ≡ sliced_from n s 0 → len ≡ sliced_length n s → stays_above first len s.step ≡ true
 stays_on n s first len at count = cases_of s.start s.end s.step first len at count
   where
     cases_of : (start : ℤ) (end : Option ℤ) (by : ℤ) (first len : ℕ) → first ≡ sliced_from n (by_step start end by) 0 → len ≡ sliced_length n (by_step start end by) → stays_above first len by ≡ true
     cases_of start end (pos p) first len at count = refl
-    cases_of start end (negsuc d) first len at count = rw (at, count) (passes_le (down_first (high_down n d start end) (range_down n d start end) d (count_down n d start end) (steps_within (range_down n d start end) d) (range_within (high_down n d start end) (low_of n (by_step start end (negsuc d))))))
+    cases_of start end (negsuc d) first len at count = rw (at, count) (le-leb _ _ (down_first (high_down n d start end) (range_down n d start end) d (count_down n d start end) (steps_within (range_down n d start end) d) (sub-le (high_down n d start end) (low_of n (by_step start end (negsuc d))))))
 
 -- an element that reads no axis stands for all of it
 pub whole_axis : (n : ℕ) → IsProgression n NewAxis 0 1 n

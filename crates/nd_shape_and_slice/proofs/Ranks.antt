@@ -2,7 +2,7 @@
 use Rattle.std.proofs.Common.{◌≡◌, ℕ, zero, suc, ◌+◌, ◌*◌, ◌/◌, ◌%◌, ◌<◌, ◌≤◌, List, [], ◌∷◌, length, map, take, drop, get_or, set, refl, ap, sym, ◌∙◌, arith, length-append, add-one, drop-cons}
 use Rattle.std.proofs.Math.Nat.{mul_comm, div-lt_iff_lt-mul, div-div-eq-div-mul, mod-eq_of_lt}
 use Rattle.std.proofs.Math.Arith.{mod-mul}
-use Rattle.std.proofs.lemmas.Nat.{div-add-mod', div-mul-add, mod-mul-add, mod_below}
+use Rattle.std.proofs.lemmas.Nat.{div-add-mod', div-mul-add, mod-mul-add, mod_below, div_below}
 use Rattle.std.proofs.lemmas.List.{length-map, length-set, get_or-map, drop-set, drop_all}
 use Rattle.std.proofs.lemmas.List.Concat.{get_or-flat_map}
 use Rattle.std.proofs.lemmas.List.FromFn.{length-range_with_len, get_or-range_with_len}
@@ -37,9 +37,6 @@ pub length-indexes_of : (ns : List ℕ) → length (indexes_of ns) ≡ size_of n
 length-indexes_of [] = refl
 length-indexes_of (n ∷ ns) = length-begun_all ns 0 n ∙ ap (λ s. n * s) (length-indexes_of ns)
 
-below_quotient : (n s r : ℕ) → 0 < s → r < n * s → r / s < n
-below_quotient n s r some h = (div-lt_iff_lt-mul some).1 h
-
 -- the index of each rank stands at its place
 pub get_or-indexes_of : (ns : List ℕ) (r : ℕ) → r < size_of ns → get_or (indexes_of ns) r [] ≡ index_at ns r
 get_or-indexes_of [] zero h = refl
@@ -49,7 +46,7 @@ get_or-indexes_of (n ∷ ns) r h =
     let some : 0 < s = (positive-cons n ns (omega (arith, h))).1 in
     let i = r / s in
     let j = r % s in
-    let i_below : i < n = below_quotient n s r some h in
+    let i_below : i < n = div_below r s n some h in
     let j_below : j < s = mod_below r s some in
     let whole : r ≡ i * s + j = sym (div-add-mod' r s) in
     let first : get_or (range_with_len 0 n) i 0 ≡ i = get_or-range_with_len 0 n i 0 i_below ∙ omega arith in

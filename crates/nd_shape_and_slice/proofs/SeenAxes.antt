@@ -1,7 +1,7 @@
 -- The axes that were read of a list, as the bits of a number.
 use Rattle.std.proofs.Common.{◌≡◌, ℕ, ◌+◌, ◌*◌, ◌-◌, ◌^◌, ◌%◌, ◌<◌, ◌≤◌, List, length, take, get_or, eqb, zero, suc, subst, true, false, bit_and, bit_or, refl, ap, sym, ◌∙◌, arith, w64}
 use Rattle.std.proofs.Common.{⊎_elim}
-use Rattle.std.proofs.lemmas.Bool.{cases_eq, cases_lt}
+use Rattle.std.proofs.lemmas.Bool.{cases_eq, cases_lt, eq-eqb, ne_eqb}
 use Rattle.std.proofs.lemmas.Bool.Decides.{nat_tests}
 use Rattle.std.proofs.lemmas.List.{take_all}
 use Rattle.std.proofs.lemmas.List.Sums.{count_by_more_no, count_by_more_yes, sum_by-take-le}
@@ -9,6 +9,7 @@ use Rattle.std.proofs.lemmas.Nat.{one_shl, pow_pos}
 use Rattle.std.proofs.lemmas.Nat.Bits.{and_pow, bit_at-lt, bit_at-zero, bit_at_set_same, bit_at_set_other, bit_at_ones, bit_at_ones_above, same_from_bits}
 use Rattle.std.specs.Int.{bit_at}
 use Rattle.std.specs.List.{count_by}
+use Rattle.std.proofs.Math.Nat.{zero-mul}
 use Rattle.nd_shape_and_slice.specs.Axes.{HasEachBelow}
 
 -- how often an axis stands among the first k
@@ -19,12 +20,6 @@ times axes k a = count_by (λ b. eqb b a) (take k axes)
 pub record IsViewStep (axes : List ℕ) (n seen k : ℕ) : Type 0 where
   pub below : (a : ℕ) → a < n → bit_at seen a ≡ count_by (λ b. eqb b a) (take k axes)
   pub above : (a : ℕ) → n ≤ a → bit_at seen a ≡ 0
-
-same : (m n : ℕ) → m ≡ n → eqb m n ≡ true
-same m n h = grind (arith, nat_tests, h)
-
-other : (m n : ℕ) → (m ≡ n → ⊥) → eqb m n ≡ false
-other m n h = grind (arith, nat_tests, h)
 
 pub none_seen : (axes : List ℕ) (n : ℕ) → IsViewStep axes n 0 0
 none_seen axes n = record { below = λ a h. bit_at-zero a; above = λ a h. bit_at-zero a }
@@ -43,18 +38,15 @@ clear_bit seen k h clear = no_product (bit_at seen k) (2 ^ k) (pow_pos k) (sym (
 set_bit : (seen k : ℕ) → k < 64 → (bit_and seen (1 * 2 ^ k % 2 ^ 64) ≡ 0 → ⊥) → bit_at seen k ≡ 1
 set_bit seen k h set =
     ⊎_elim
-    (λ (none : bit_at seen k ≡ 0). absurd (set (ap (bit_and seen) (mark k h) ∙ (and_pow seen k ∙ (ap (λ b. b * 2 ^ k) none ∙ no_times (2 ^ k))))))
+    (λ (none : bit_at seen k ≡ 0). absurd (set (ap (bit_and seen) (mark k h) ∙ (and_pow seen k ∙ (ap (λ b. b * 2 ^ k) none ∙ zero-mul (2 ^ k))))))
     (λ (some : bit_at seen k ≡ 0 → ⊥). omega (arith, some, bit_at-lt seen k))
     (cases_eq (bit_at seen k) 0)
-  where
-    no_times : (p : ℕ) → 0 * p ≡ 0
-    no_times p = omega arith
 
 -- an axis that there isn't
 pub seen_past : (axes : List ℕ) (n seen k : ℕ) → k < length axes → n ≤ get_or axes k 0 → IsViewStep axes n seen k → IsViewStep axes n seen (k + 1)
 seen_past axes n seen k h past is =
     record {
-      below = λ a lt. is.below a lt ∙ sym (count_by_more_no (λ b. eqb b a) axes k 0 h (other (get_or axes k 0) a (λ e. omega (arith, e, lt, past))));
+      below = λ a lt. is.below a lt ∙ sym (count_by_more_no (λ b. eqb b a) axes k 0 h (ne_eqb (get_or axes k 0) a (λ e. omega (arith, e, lt, past))));
       above = is.above;
     }
 
@@ -74,13 +66,13 @@ seen_more axes n seen k few h on clear is = record { below = below; above = abov
     here : bit_at next x ≡ times axes (k + 1) x
     here =
         bit_at_set_same w64 seen x fits
-        ∙ (sym (ap (λ b. b + 1) (sym (is.below x on) ∙ clear_bit seen x fits clear)) ∙ sym (count_by_more_yes (λ b. eqb b x) axes k 0 h (same x x refl)))
+        ∙ (sym (ap (λ b. b + 1) (sym (is.below x on) ∙ clear_bit seen x fits clear)) ∙ sym (count_by_more_yes (λ b. eqb b x) axes k 0 h (eq-eqb x x refl)))
 
     below : (a : ℕ) → a < n → bit_at next a ≡ times axes (k + 1) a
     below a lt =
         ⊎_elim
         (λ (e : x ≡ a). subst (λ a. bit_at next a ≡ times axes (k + 1) a) e here)
-        (λ (ne : x ≡ a → ⊥). bit_at_set_other w64 seen x fits a (λ e. ne (sym e)) ∙ (is.below a lt ∙ sym (count_by_more_no (λ b. eqb b a) axes k 0 h (other x a ne))))
+        (λ (ne : x ≡ a → ⊥). bit_at_set_other w64 seen x fits a (λ e. ne (sym e)) ∙ (is.below a lt ∙ sym (count_by_more_no (λ b. eqb b a) axes k 0 h (ne_eqb x a ne))))
         (cases_eq x a)
 
     above : (a : ℕ) → n ≤ a → bit_at next a ≡ 0
@@ -91,7 +83,7 @@ pub seen_twice : (axes : List ℕ) (n seen k : ℕ) → n ≤ 32 → k < length 
 seen_twice axes n seen k few h on set is each =
     let x : ℕ = get_or axes k 0 in
     let before : times axes k x ≡ 1 = sym (is.below x on) ∙ set_bit seen x (omega (arith, on, few)) set in
-    let after : times axes (k + 1) x ≡ times axes k x + 1 = count_by_more_yes (λ b. eqb b x) axes k 0 h (same x x refl) in
+    let after : times axes (k + 1) x ≡ times axes k x + 1 = count_by_more_yes (λ b. eqb b x) axes k 0 h (eq-eqb x x refl) in
     let whole : times axes (k + 1) x ≤ count_by (λ b. eqb b x) axes = sum_by-take-le _ axes (k + 1) in
     omega (arith, before, after, whole, each x on)
 

@@ -1,6 +1,6 @@
 -- The product of the lengths that aren't 0, taken one length at a time.
 use Rattle.std.proofs.Common.{◌≡◌, ℕ, zero, suc, ◌+◌, ◌*◌, ◌<◌, ◌≤◌, ◌≢◌, Bool, true, false, cond, eqb, List, [], ◌∷◌, length, drop, get_or, refl, ap, sym, ◌∙◌, arith, add-one, drop-cons}
-use Rattle.std.proofs.Math.Nat.{mul-le-mul_left, mul_assoc}
+use Rattle.std.proofs.Math.Nat.{mul-le-mul_left, mul_assoc, mul-zero}
 use Rattle.std.specs.List.{list_any}
 use Rattle.std.proofs.lemmas.Bool.Decides.{nat_tests}
 use Rattle.nd_shape_and_slice.specs.Shape.{nonzero_product, size_of}
@@ -64,14 +64,11 @@ pub size_of_zero_if : (b : Bool) (ns : List ℕ) (i p : ℕ) → i < length ns �
 size_of_zero_if true ns i p h z e = e
 size_of_zero_if false ns i p h z e = size_of_zero ns i p h z e
 
-times_zero : (n : ℕ) → n * 0 ≡ 0
-times_zero n = omega arith
-
 -- a shape has no element exactly where some length is 0
 pub list_any_zero : (ns : List ℕ) → list_any (λ n. eqb n 0) ns ≡ true → size_of ns ≡ 0
 list_any_zero [] h = cc
 list_any_zero (zero ∷ ns) h = omega arith
-list_any_zero (suc n ∷ ns) h = ap (λ s. suc n * s) (list_any_zero ns (grind (arith, nat_tests))) ∙ times_zero (suc n)
+list_any_zero (suc n ∷ ns) h = ap (λ s. suc n * s) (list_any_zero ns (grind (arith, nat_tests))) ∙ mul-zero (suc n)
 
 pub zero_list_any : (ns : List ℕ) → size_of ns ≡ 0 → list_any (λ n. eqb n 0) ns ≡ true
 zero_list_any [] h = absurd (omega arith)

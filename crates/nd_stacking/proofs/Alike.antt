@@ -2,36 +2,21 @@
 use Rattle.std.proofs.Common.{◌≡◌, ℕ, ◌+◌, ◌-◌, ◌<◌, ◌≤◌, Bool, true, false, cond, eqb, ltb, List, [], ◌∷◌, length, get_or, set, drop, Option, None, refl, ap, sym, subst, ◌∙◌, arith, ⊎_elim}
 use Rattle.std.specs.Prelude.{◌&&◌, ◌||◌}
 use Rattle.std.proofs.Math.Path.{fun_ext}
-use Rattle.std.proofs.lemmas.Bool.{cases_lt, lt-ltb, eq-eqb}
+use Rattle.std.proofs.lemmas.Bool.{cases_lt, lt-ltb, eq-eqb, and_parts}
 use Rattle.std.proofs.lemmas.List.{length-set, set-get_or, set-set, get_or-set_same}
 use Rattle.nd_shape_and_slice.specs.Broadcast.{broadcast_index, stretched_index, stretches}
 use Rattle.nd_shape_and_slice.specs.Shape.{in_box}
 use Rattle.nd_shape_and_slice.proofs.Boxes.{coordinate_below}
+use Rattle.nd_shape_and_slice.proofs.Indexes.{in_box-set, stretched_index-itself, stretches_itself}
 use Rattle.nd_array_core.specs.Joined.{broadcast_behind, concatenated, concatenated_shape}
 use Rattle.nd_array_core.specs.Meaning.{Meaning, inside}
 use Rattle.nd_array_core.specs.growth.Appended.{FitsBehind}
 use Rattle.nd_stacking.specs.Stacking.{two_behind}
-use Rattle.nd_stacking.proofs.Boxed.{and_true, box_set}
-
-same_number : (n : ℕ) → eqb n n ≡ true
-same_number n = eq-eqb n n refl
-
--- a shape stretches to itself, and each index names itself
-stretches_itself : (ns : List ℕ) → stretches ns ns ≡ true
-stretches_itself [] = refl
-stretches_itself (n ∷ ns) = ap (λ b. (b || eqb n 1) && stretches ns ns) (same_number n) ∙ stretches_itself ns
-
-index_itself : (ns i : List ℕ) → in_box ns i ≡ true → stretched_index ns ns i ≡ i
-index_itself [] [] h = refl
-index_itself [] (k ∷ i) h = absurd cc
-index_itself (n ∷ ns) [] h = absurd cc
-index_itself (n ∷ ns) (k ∷ i) h =
-    ap (λ b. cond b k 0 ∷ stretched_index ns ns i) (same_number n) ∙ ap (λ j. k ∷ j) (index_itself ns i (and_true (ltb k n) (in_box ns i) h).1)
 
 named_itself : (ns i : List ℕ) → in_box ns i ≡ true → broadcast_index ns ns i ≡ i
 named_itself ns i h =
     let none : length ns - length ns ≡ 0 = omega arith in
-    ap (λ k. stretched_index ns (drop k ns) (drop k i)) none ∙ index_itself ns i h
+    ap (λ k. stretched_index ns (drop k ns) (drop k i)) none ∙ stretched_index-itself ns i h
 
 -- the lengths of the second, by the first's
 second_shape : (axis : ℕ) (ns ms : List ℕ) → set ms axis (get_or ns axis 0) ≡ ns → ms ≡ set ns axis (get_or ms axis 0)
@@ -63,7 +48,7 @@ module _ {A : Type 0} (axis : ℕ) (m n : Meaning A) (on : axis < length m.shape
       let here = get_or-set_same m.shape axis (x + y) 0 on in
       let second = second_shape axis m.shape n.shape alike in
       let there : in_box n.shape j ≡ true =
-      subst (λ s. in_box s j ≡ true) (set-set m.shape axis (x + y) y ∙ sym second) (box_set whole i axis y (c - x) h (omega (arith, below, here, high))) in
+      subst (λ s. in_box s j ≡ true) (set-set m.shape axis (x + y) y ∙ sym second) (in_box-set whole i axis y (c - x) h (omega (arith, below, here, high))) in
       ap (λ to. inside to j (n.at (broadcast_index n.shape to j))) (sym second)
       ∙ (ap (λ b. cond b (n.at (broadcast_index n.shape n.shape j)) None) there ∙ ap n.at (named_itself n.shape j there))
 

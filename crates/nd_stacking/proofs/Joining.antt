@@ -9,12 +9,13 @@ use Rattle.std.proofs.lemmas.Bool.{cases_lt, lt-ltb, le-ltb, ltb-true}
 use Rattle.std.proofs.lemmas.List.{length-set, map-append, set-set, set-get_or, get_or-set_same, take_more}
 use Rattle.std.proofs.lemmas.List.Folds.{list_all_more, list_all_at}
 use Rattle.std.proofs.lemmas.List.Sums.{sum_by_more, sum_by_more_le}
-use Rattle.std.proofs.lemmas.Option.{slice_get-map, slice_get-get_or, get_or_from_slice_get, slice_get_within}
+use Rattle.std.proofs.lemmas.Option.{slice_get-map, slice_get-get_or, get_or_from_slice_get, slice_get_within, same_Some}
 use Rattle.std.proofs.lemmas.Slice.Eq.{slice_eq-Decides}
 use Rattle.nd_shape_and_slice.specs.Shape.{HasCheckedSize, in_box, nonzero_product, size_of}
 use Rattle.nd_shape_and_slice.proofs.Sizes.{length_within}
 use Rattle.nd_shape_and_slice.specs.declared.errors.ErrorKind.{ErrorKind}
 use Rattle.nd_shape_and_slice.specs.declared.errors.ErrorKind.TheVariants.{IncompatibleShape, OutOfBounds, Overflow, Unsupported}
+use Rattle.nd_shape_and_slice.proofs.Lists.{take_next}
 use Rattle.nd_array_core.specs.Joined.{concatenated_shape}
 use Rattle.nd_array_core.specs.Laws.{NothingOutside}
 use Rattle.nd_array_core.specs.Meaning.{Meaning, inside}
@@ -33,29 +34,10 @@ false_from_not a b above = by_test (ltb a b) refl
     by_test true e = absurd (above (ltb-true a b e))
     by_test false e = refl
 
-pub not_false : (b : Bool) → not b ≡ false → b ≡ true
-not_false true e = refl
-not_false false e = absurd cc
-
-pub not_true : (b : Bool) → not b ≡ true → b ≡ false
-not_true true e = absurd cc
-not_true false e = refl
-
-pub inside_some : {A : Type 0} (s i : List ℕ) (o : Option A) (x : A) → inside s i o ≡ Some x → o ≡ Some x
-inside_some {A} s i o x e = by_test (in_box s i) e
-  where
-    by_test : (t : Bool) → cond t o None ≡ Some x → o ≡ Some x
-    by_test true e = e
-    by_test false e = absurd cc
-
 -- a test that passed before the others
 pub passed : (t : Bool) (kind : ErrorKind) (rest : Option ErrorKind) → cond t rest (Some kind) ≡ None → (t ≡ true) × (rest ≡ None)
 passed true kind rest e = (refl, e)
 passed false kind rest e = absurd cc
-
--- the item of a list through a map
-pub mapped_at : {X Y : Type 0} (f : X → Y) (xs : List X) (n : ℕ) (x : X) → n < length xs → x ≡ get_or xs n x → slice_get (map f xs) n ≡ Some (f x)
-mapped_at f xs n x below is = slice_get-map f xs n ∙ (ap (option_map f) (slice_get-get_or xs n x below) ∙ ap (λ y. Some (f y)) (sym is))
 
 -- what holds of all items below one, and of that one
 pub next_below : {X : Type 0} (P : X → Type 0) (xs : List X) (n : ℕ) (x : X) → slice_get xs n ≡ Some x → P x → ((k : ℕ) (y : X) → k < n → slice_get xs k ≡ Some y → P y) → (k : ℕ) (y : X) → k < n + 1 → slice_get xs k ≡ Some y → P y
@@ -64,11 +46,8 @@ next_below {X} P xs n x at here before k y below there =
     (λ (low : k < n). before k y low there)
     (λ (high : n ≤ k).
     let same : n ≡ k = omega (arith, below, high) in
-    subst P (got x y (sym at ∙ (ap (slice_get xs) same ∙ there))) here)
+    subst P (same_Some x y (sym at ∙ (ap (slice_get xs) same ∙ there))) here)
     (cases_lt k n)
-  where
-    got : (x y : X) → Some x ≡ Some y → x ≡ y
-    got x y e = cc
 
 -- an item of a list through a map is made of one of the list
 pub mapped_back : {X Y : Type 0} (f : X → Y) (xs : List X) (n : ℕ) (y : Y) → slice_get (map f xs) n ≡ Some y → (x : X) × (slice_get xs n ≡ Some x) × (y ≡ f x)
@@ -84,9 +63,6 @@ all_more p xs n x at before here =
 
 pub all_fails : {X : Type 0} (p : X → Bool) (xs : List X) (n : ℕ) (x : X) → slice_get xs n ≡ Some x → p x ≡ false → list_all p xs ≡ false
 all_fails p xs n x at here = list_all_at p xs n x (slice_get_within xs n x at) (ap p (get_or_from_slice_get xs n x x at) ∙ here)
-
-pub take_next : {X : Type 0} (xs : List X) (n : ℕ) (x : X) → slice_get xs n ≡ Some x → take (n + 1) xs ≡ take n xs ++ x ∷ []
-take_next xs n x at = take_more xs n x (slice_get_within xs n x at) ∙ ap (λ z. take n xs ++ z ∷ []) (get_or_from_slice_get xs n x x at)
 
 -- what stands for the items so far, and for one more
 pub pushed_more : {X Y Z : Type 0} (f : X → Y) (g : Z → Y) (vs : List X) (v : X) (zs : List Z) (n : ℕ) (z : Z) → slice_get zs n ≡ Some z → map f vs ≡ map g (take n zs) → f v ≡ g z → map f (vs ++ v ∷ []) ≡ map g (take (n + 1) zs)

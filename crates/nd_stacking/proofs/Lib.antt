@@ -1,4 +1,3 @@
-pub mod Boxed
 pub mod Alike
 pub mod Joining
 pub mod Runs

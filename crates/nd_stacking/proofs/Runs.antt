@@ -5,9 +5,6 @@ use Rattle.std.proofs.Math.Nat.{mul_assoc, add-mul}
 use Rattle.std.proofs.lemmas.Option.{slice_get_within}
 use Rattle.nd_shape_and_slice.specs.Shape.{row_rank, size_of}
 
-more : (n k : ℕ) → suc n + k ≡ suc (n + k)
-more n k = omega arith
-
 module _ {A : Type 0} where
   -- ---- what holds of the items below a number
   abbrev pub AllBelow : (A → Type 0) → List A → ℕ → Type 0
@@ -15,30 +12,6 @@ module _ {A : Type 0} where
 
   pub all_below : (P : A → Type 0) (xs : List A) (n : ℕ) → length xs ≤ n → AllBelow P xs n → (k : ℕ) (x : A) → slice_get xs k ≡ Some x → P x
   all_below P xs n past below k x at = let within = slice_get_within xs k x at in below k x (omega (arith, within, past)) at
-
-  -- ---- parts of a list
-  pub at_front : (xs ys : List A) (k : ℕ) → k < length xs → slice_get (xs ++ ys) k ≡ slice_get xs k
-  at_front [] ys k below = absurd (omega (arith, below))
-  at_front (x ∷ xs) ys zero below = refl
-  at_front (x ∷ xs) ys (suc k) below = at_front xs ys k (omega (arith, below))
-
-  pub behind : (xs ys : List A) (n k : ℕ) → n ≡ length xs → slice_get (xs ++ ys) (n + k) ≡ slice_get ys k
-  behind [] ys n k is = ap (λ j. slice_get ys j) (omega (arith, is))
-  behind (x ∷ xs) ys zero k is = absurd (omega (arith, is))
-  behind (x ∷ xs) ys (suc n) k is = ap (λ j. slice_get (x ∷ (xs ++ ys)) j) (more n k) ∙ behind xs ys n k (omega (arith, is))
-
-  pub at_taken : (xs : List A) (n k : ℕ) → k < n → slice_get (take n xs) k ≡ slice_get xs k
-  at_taken [] zero k below = refl
-  at_taken [] (suc n) k below = refl
-  at_taken (x ∷ xs) zero k below = absurd (omega (arith, below))
-  at_taken (x ∷ xs) (suc n) zero below = refl
-  at_taken (x ∷ xs) (suc n) (suc k) below = at_taken xs n k (omega (arith, below))
-
-  pub at_dropped : (xs : List A) (n k : ℕ) → slice_get (drop n xs) k ≡ slice_get xs (n + k)
-  at_dropped [] zero k = refl
-  at_dropped [] (suc n) k = refl
-  at_dropped (x ∷ xs) zero k = ap (λ j. slice_get (x ∷ xs) j) (omega arith)
-  at_dropped (x ∷ xs) (suc n) k = at_dropped xs n k ∙ ap (λ j. slice_get (x ∷ xs) j) (sym (more n k))
 
 pub dropped_once : {A : Type 0} (n : ℕ) (xs : List A) → drop 1 (drop n xs) ≡ drop (suc n) xs
 dropped_once zero [] = refl

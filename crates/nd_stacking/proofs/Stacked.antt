@@ -4,54 +4,46 @@ use Rattle.std.specs.Prelude.{◌&&◌, nat_eq, slice_get}
 use Rattle.std.specs.List.{insert, list_all}
 use Rattle.std.specs.Cmp.{unsigned_Decides}
 use Rattle.std.specs.Cmp.Lexicographic.{pointwise}
-use Rattle.std.proofs.lemmas.Bool.{lt-ltb, le-leb, leb-true}
+use Rattle.std.proofs.lemmas.Bool.{lt-ltb, le-leb, leb-true, and_parts, lt-leb}
 use Rattle.std.proofs.lemmas.List.Edits.{get_or-insert_at, length-insert}
 use Rattle.std.proofs.lemmas.List.Sums.{sum_by-cons}
 use Rattle.std.proofs.lemmas.Slice.Eq.{slice_eq-Decides}
 use Rattle.nd_shape_and_slice.specs.Shape.{HasCheckedSize, nonzero_product}
 use Rattle.nd_shape_and_slice.specs.Maps.{inserted_index, inserted_shape}
 use Rattle.nd_shape_and_slice.specs.declared.errors.ErrorKind.TheVariants.{IncompatibleShape, OutOfBounds, Overflow}
+use Rattle.nd_shape_and_slice.proofs.Lists.{set-inserted}
 use Rattle.nd_array_core.specs.Laws.{with_axis_inserted}
 use Rattle.nd_array_core.specs.Meaning.{Meaning}
 use Rattle.nd_array_core.specs.growth.InTurn.{lengths_along, ClonesOfEachAreEqual}
+use Rattle.nd_array_core.proofs.elements_lemmas.CloneRefusals.{inside_some}
 use Rattle.nd_stacking.specs.Stacking.{concatenation_shape, is_checked_size, is_alike_but, stack_refusal, AreLengthsTogether, HasRoomForAxis}
-use Rattle.nd_stacking.proofs.Joining.{all_pass, cause, false_from_not, inside_some, mapped_back, passed}
-
--- a length put in, and another one in its place
-pub set_inserted : (ns : List ℕ) (a x y : ℕ) → a ≤ length ns → set (insert ns a x) a y ≡ insert ns a y
-set_inserted ns zero x y within = refl
-set_inserted [] (suc a) x y within = absurd (omega (arith, within))
-set_inserted (n ∷ ns) (suc a) x y within = ap (λ l. n ∷ l) (set_inserted ns a x y (omega (arith, within)))
+use Rattle.nd_stacking.proofs.Joining.{all_pass, cause, false_from_not, mapped_back, passed}
 
 -- a test that holds of equal lists
-same_passes : (ns ms : List ℕ) → ns ≡ ms → pointwise nat_eq ns ms ≡ true
+pub same_passes : (ns ms : List ℕ) → ns ≡ ms → pointwise nat_eq ns ms ≡ true
 same_passes ns ms e = (slice_eq-Decides unsigned_Decides ns ms (pointwise nat_eq ns ms) refl).1 e
 
 same_shape : (ns ms : List ℕ) → pointwise nat_eq ns ms ≡ true → ns ≡ ms
 same_shape ns ms e = (slice_eq-Decides unsigned_Decides ns ms (pointwise nat_eq ns ms) refl).0 e
-
-both : (a b : Bool) → (a && b) ≡ true → (a ≡ true) × (b ≡ true)
-both true b e = (refl, e)
-both false b e = absurd cc
 
 module _ {A : Type 0} (axis : ℕ) where
   inserted_alike : (shape : List ℕ) (ms : List (Meaning A)) → axis ≤ length shape → list_all (λ n. pointwise nat_eq n.shape shape) ms ≡ true
       → list_all (λ n. is_alike_but axis (insert shape axis 1) n.shape) (map (with_axis_inserted axis) ms) ≡ true
   inserted_alike shape [] within all = refl
   inserted_alike shape (m ∷ ms) within all =
-      let here = both (pointwise nat_eq m.shape shape) (list_all (λ n. pointwise nat_eq n.shape shape) ms) all in
+      let here = and_parts (pointwise nat_eq m.shape shape) (list_all (λ n. pointwise nat_eq n.shape shape) ms) all in
       let same = same_shape m.shape shape here.0 in
       let one = get_or-insert_at shape axis 1 0 within in
       let first : is_alike_but axis (insert shape axis 1) (insert m.shape axis 1) ≡ true =
       same_passes (set (insert m.shape axis 1) axis (get_or (insert shape axis 1) axis 0)) (insert shape axis 1)
-      (ap (λ s. set (insert s axis 1) axis (get_or (insert shape axis 1) axis 0)) same ∙ (ap (set (insert shape axis 1) axis) one ∙ set_inserted shape axis 1 1 within)) in
+      (ap (λ s. set (insert s axis 1) axis (get_or (insert shape axis 1) axis 0)) same ∙ (ap (set (insert shape axis 1) axis) one ∙ set-inserted shape axis 1 1 within)) in
       ap (λ b. b && list_all (λ n. is_alike_but axis (insert shape axis 1) n.shape) (map (with_axis_inserted axis) ms)) first ∙ inserted_alike shape ms within here.1
 
   inserted_count : (shape : List ℕ) (ms : List (Meaning A)) → axis ≤ length shape → list_all (λ n. pointwise nat_eq n.shape shape) ms ≡ true
       → lengths_along axis (map (with_axis_inserted axis) ms) ≡ length ms
   inserted_count shape [] within all = refl
   inserted_count shape (m ∷ ms) within all =
-      let here = both (pointwise nat_eq m.shape shape) (list_all (λ n. pointwise nat_eq n.shape shape) ms) all in
+      let here = and_parts (pointwise nat_eq m.shape shape) (list_all (λ n. pointwise nat_eq n.shape shape) ms) all in
       let same = same_shape m.shape shape here.0 in
       let one : get_or (insert m.shape axis 1) axis 0 ≡ 1 = ap (λ s. get_or (insert s axis 1) axis 0) same ∙ get_or-insert_at shape axis 1 0 within in
       let rest = inserted_count shape ms within here.1 in
@@ -70,13 +62,6 @@ module _ {A : Type 0} (axis : ℕ) where
         shape,
       )
 
-not_within : (a b : ℕ) → b < a → leb a b ≡ false
-not_within a b above = by_test (leb a b) refl
-  where
-    by_test : (t : Bool) → leb a b ≡ t → t ≡ false
-    by_test true e = let within = leb-true a b e in absurd (omega (arith, within, above))
-    by_test false e = refl
-
 -- ---- the first array of a list, and what is against its stack
 module _ {A : Type 0} (axis : ℕ) where
   first_shape : (k : Meaning A) (ks : List (Meaning A)) (m : Meaning A) (s : List ℕ) → slice_get (k ∷ ks) 0 ≡ Some m → s ≡ m.shape → s ≡ k.shape
@@ -86,7 +71,7 @@ module _ {A : Type 0} (axis : ℕ) where
   no_place [] m s at is above = absurd cc
   no_place (k ∷ ks) m s at is above =
       let same = first_shape k ks m s at is in
-      ap (λ t. cause t (list_all (λ n. pointwise nat_eq n.shape k.shape) (k ∷ ks)) (is_checked_size (insert k.shape axis (length (k ∷ ks))))) (not_within axis (length k.shape) (subst (λ l. length l < axis) same above))
+      ap (λ t. cause t (list_all (λ n. pointwise nat_eq n.shape k.shape) (k ∷ ks)) (is_checked_size (insert k.shape axis (length (k ∷ ks))))) (lt-leb axis (length k.shape) (subst (λ l. length l < axis) same above))
 
   pub other_shape : (ms : List (Meaning A)) (m : Meaning A) (s : List ℕ) → slice_get ms 0 ≡ Some m → s ≡ m.shape → axis ≤ length s → list_all (λ n. pointwise nat_eq n.shape s) ms ≡ false → stack_refusal axis ms ≡ Some IncompatibleShape
   other_shape [] m s at is within other = absurd cc
@@ -104,7 +89,7 @@ module _ {A : Type 0} (axis : ℕ) where
       let wide : axis ≤ length k.shape = subst (λ l. axis ≤ length l) same within in
       ap (λ t. cause t (list_all (λ n. pointwise nat_eq n.shape k.shape) (k ∷ ks)) (is_checked_size (insert k.shape axis (length (k ∷ ks))))) (le-leb axis (length k.shape) wide)
       ∙ (ap (λ t. cause true t (is_checked_size (insert k.shape axis (length (k ∷ ks))))) (subst (λ l. list_all (λ n. pointwise nat_eq n.shape l) (k ∷ ks) ≡ true) same all)
-      ∙ ap (cause true true) (ap is_checked_size (sym (ap (λ l. set (insert l axis 1) axis (length (k ∷ ks))) same ∙ set_inserted k.shape axis 1 (length (k ∷ ks)) wide)) ∙ size))
+      ∙ ap (cause true true) (ap is_checked_size (sym (ap (λ l. set (insert l axis 1) axis (length (k ∷ ks))) same ∙ set-inserted k.shape axis 1 (length (k ∷ ks)) wide)) ∙ size))
 
   pub stack_fits : (ms : List (Meaning A)) (m : Meaning A) (s ls : List ℕ) → slice_get ms 0 ≡ Some m → s ≡ m.shape → axis ≤ length s → list_all (λ n. pointwise nat_eq n.shape s) ms ≡ true
       → ls ≡ set (insert s axis 1) axis (length ms) → HasCheckedSize ls → stack_refusal axis ms ≡ None

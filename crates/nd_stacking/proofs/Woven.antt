@@ -2,15 +2,19 @@
 use Rattle.std.proofs.Common.{◌≡◌, ℕ, zero, suc, ◌+◌, ◌-◌, ◌*◌, ◌<◌, ◌≤◌, Bool, true, false, cond, ltb, List, [], ◌∷◌, ◌++◌, length, get_or, set, take, drop, Option, None, Some, refl, ap, sym, subst, ◌∙◌, arith, ⊎_elim}
 use Rattle.std.specs.Prelude.{slice_get}
 use Rattle.std.proofs.Math.Nat.{add-mul, mul-le-mul_right}
-use Rattle.std.proofs.lemmas.Bool.{cases_lt, lt-ltb, le-ltb}
+use Rattle.std.proofs.lemmas.Bool.{cases_lt, lt-ltb, le-ltb, and_from, and_parts}
 use Rattle.std.proofs.lemmas.List.{length-append, length-set, length-take, length-drop, set-set, set-get_or, get_or-set_same, flat_map_more}
 use Rattle.std.proofs.lemmas.List.Sums.{sum_by-cons}
 use Rattle.std.proofs.lemmas.Option.{slice_get_within}
+use Rattle.std.proofs.Math.Numerals.{suc-eq-add-one}
+use Rattle.std.proofs.Math.Arith.{digits_lt}
 use Rattle.nd_shape_and_slice.specs.declared.errors.ErrorKind.TheVariants.{Unsupported}
 use Rattle.nd_shape_and_slice.specs.Shape.{in_box, index_at, row_rank, size_of}
 use Rattle.nd_shape_and_slice.proofs.Boxes.{coordinate_below}
 use Rattle.nd_shape_and_slice.proofs.RankIndexes.{in_box-index_at, row_rank-index_at}
 use Rattle.nd_shape_and_slice.proofs.RowMajor.{length-in_box, row_rank_below}
+use Rattle.nd_shape_and_slice.proofs.Indexes.{in_box-set}
+use Rattle.nd_shape_and_slice.proofs.Lists.{got_before, got_behind, take_next, got_taken, got_dropped}
 use Rattle.nd_array_core.specs.Laws.{NothingOutside}
 use Rattle.nd_array_core.specs.Meaning.{Meaning, inside}
 use Rattle.nd_array_core.specs.Joined.{row_major_elements}
@@ -19,19 +23,12 @@ use Rattle.nd_array_core.specs.reshape.Regrouping.{ListsByRank}
 use Rattle.nd_stacking.specs.Stacking.{followed_by, two_behind, AreLengthsTogether, IsConcatenation}
 use Rattle.nd_stacking.specs.Weaving.{row_of, rows_below, run_in, given_to_row, size_before, size_behind, woven, AreElementsOf, EachIs, HasWholeRun, IsByRank}
 use Rattle.nd_stacking.proofs.Alike.{same_meaning}
-use Rattle.nd_stacking.proofs.Joining.{alike_with, fit, take_next}
-use Rattle.nd_stacking.proofs.Boxed.{and_true, both_true, box_set}
-use Rattle.nd_stacking.proofs.Runs.{at_dropped, at_front, at_taken, behind, rank_with, size_with}
-
-add_one : (n : ℕ) → suc n ≡ n + 1
-add_one n = omega arith
+use Rattle.nd_stacking.proofs.Joining.{alike_with, fit}
+use Rattle.nd_stacking.proofs.Runs.{rank_with, size_with}
 
 -- a multiple below another one
 below_multiple : (c n w q : ℕ) → c < n → q < w → c * w + q < n * w
-below_multiple c n w q below within =
-    let next : (c + 1) * w ≤ n * w = mul-le-mul_right w (omega (arith, below)) in
-    let split = add-mul c 1 w in
-    omega (arith, next, split, within)
+below_multiple c n w q below within = digits_lt below within
 
 -- the rank of an index by the axes before one, and by those behind it
 abbrev rank_before : ℕ → List ℕ → List ℕ → ℕ
@@ -46,11 +43,11 @@ box_parts [] [] zero h = (refl, refl)
 box_parts [] [] (suc a) h = (refl, refl)
 box_parts [] (k ∷ i) a h = cc
 box_parts (n ∷ ns) [] a h = cc
-box_parts (n ∷ ns) (k ∷ i) zero h = (refl, (and_true (ltb k n) (in_box ns i) h).1)
+box_parts (n ∷ ns) (k ∷ i) zero h = (refl, (and_parts (ltb k n) (in_box ns i) h).1)
 box_parts (n ∷ ns) (k ∷ i) (suc a) h =
-    let w = and_true (ltb k n) (in_box ns i) h in
+    let w = and_parts (ltb k n) (in_box ns i) h in
     let rest = box_parts ns i a w.1 in
-    (both_true (ltb k n) (in_box (take a ns) (take a i)) w.0 rest.0, rest.1)
+    (and_from (ltb k n) (in_box (take a ns) (take a i)) w.0 rest.0, rest.1)
 
 not_none : {X : Type 0} (x : X) → Some x ≡ None → ⊥
 not_none x e = absurd cc
@@ -58,7 +55,7 @@ not_none x e = absurd cc
 module _ {A : Type 0} where
   -- ---- rows of one length
   pub rows_more : (row : ℕ → List A) (n : ℕ) → rows_below row (n + 1) ≡ rows_below row n ++ row n
-  rows_more row n = ap (rows_below row) (sym (add_one n))
+  rows_more row n = ap (rows_below row) (sym (suc-eq-add-one n))
 
   pub length-rows : (row : ℕ → List A) (n width : ℕ) → ((r : ℕ) → r < n → length (row r) ≡ width) → length (rows_below row n) ≡ n * width
   length-rows row zero width each = omega arith
@@ -73,11 +70,11 @@ module _ {A : Type 0} where
       let before = length-rows row n width (λ r b. each r (omega (arith, b))) in
       ⊎_elim
       (λ (low : r < n).
-      at_front (rows_below row n) (row n) (r * width + q) (let less = below_multiple r n width q low within in omega (arith, less, before))
+      got_before (rows_below row n) (row n) (r * width + q) (let less = below_multiple r n width q low within in omega (arith, less, before))
       ∙ at_row row n width r q (λ r b. each r (omega (arith, b))) low within)
       (λ (high : n ≤ r).
       let same : n ≡ r = omega (arith, high, below) in
-      behind (rows_below row n) (row n) (r * width) q (ap (λ k. k * width) (sym same) ∙ sym before)
+      got_behind (rows_below row n) (row n) (r * width) q (before ∙ ap (λ k. k * width) same)
       ∙ ap (λ k. slice_get (row k) q) same)
       (cases_lt r n)
 
@@ -89,7 +86,7 @@ module _ {A : Type 0} where
       omega (arith, left, taken, within)
 
   pub at_run : (row len k : ℕ) (xs : List A) → k < len → slice_get (run_in row len xs) k ≡ slice_get xs (row * len + k)
-  at_run row len k xs below = at_taken (drop (row * len) xs) len k below ∙ at_dropped xs (row * len) k
+  at_run row len k xs below = got_taken (drop (row * len) xs) len k below ∙ got_dropped xs (row * len) k
 
   -- ---- the concatenation, by the coordinate of the axis
   -- the element of one of the arrays, where this coordinate of the axis is counted on through them
@@ -135,7 +132,7 @@ module _ {A : Type 0} where
       at_piece m piece c below =
           let len = get_or m.shape axis 0 in
           let xs = row_major_elements m in
-          let boxed : in_box m.shape (set i axis c) ≡ true = subst (λ s. in_box s (set i axis c) ≡ true) (sym piece.alike) (box_set shape i axis len c inside_shape below) in
+          let boxed : in_box m.shape (set i axis c) ≡ true = subst (λ s. in_box s (set i axis c) ≡ true) (sym piece.alike) (in_box-set shape i axis len c inside_shape below) in
           let rank : row_rank m.shape (set i axis c) ≡ (rank_before axis shape i) * (len * size_behind axis shape) + (c * size_behind axis shape + rank_behind axis shape i) = ap (λ s. row_rank s (set i axis c)) piece.alike ∙ rank_with shape i axis len c on many in
           at_run (rank_before axis shape i) (len * size_behind axis shape) (c * size_behind axis shape + rank_behind axis shape i) xs (below_multiple c len (size_behind axis shape) (rank_behind axis shape i) below near)
           ∙ (ap (slice_get xs) (sym rank) ∙ piece.each (set i axis c) boxed)
@@ -152,14 +149,14 @@ module _ {A : Type 0} where
           let total : lengths_along axis (m ∷ ms) ≡ len + lengths_along axis ms = sum_by-cons (λ n. get_or n.shape axis 0) m ms in
           ⊎_elim
           (λ (here : c < len).
-          at_front run rest (c * size_behind axis shape + rank_behind axis shape i) (let less = below_multiple c len (size_behind axis shape) (rank_behind axis shape i) here near in omega (arith, less, long))
+          got_before run rest (c * size_behind axis shape + rank_behind axis shape i) (let less = below_multiple c len (size_behind axis shape) (rank_behind axis shape i) here near in omega (arith, less, long))
           ∙ (at_piece m (pieces 0 m refl) c here ∙ sym (ap (λ b. cond b (m.at (set i axis c)) (counted_on axis ms i (c - len))) (lt-ltb c len here))))
           (λ (past : len ≤ c).
           let apart : (len + (c - len)) * size_behind axis shape ≡ len * size_behind axis shape + (c - len) * size_behind axis shape = add-mul len (c - len) (size_behind axis shape) in
           let same : c ≡ len + (c - len) = omega (arith, past) in
           let there : c * size_behind axis shape + rank_behind axis shape i ≡ len * size_behind axis shape + ((c - len) * size_behind axis shape + rank_behind axis shape i) = ap (λ n. n * size_behind axis shape + rank_behind axis shape i) same ∙ omega (arith, apart) in
           ap (slice_get (run ++ rest)) there
-          ∙ (behind run rest (len * size_behind axis shape) ((c - len) * size_behind axis shape + rank_behind axis shape i) (sym long)
+          ∙ (got_behind run rest (len * size_behind axis shape) ((c - len) * size_behind axis shape + rank_behind axis shape i) long
           ∙ (at_pieces ms (c - len) (λ nth n at. pieces (suc nth) n at) (omega (arith, total, below, past))
           ∙ sym (ap (λ b. cond b (m.at (set i axis c)) (counted_on axis ms i (c - len))) (le-ltb c len past)))))
           (cases_lt c len)
@@ -242,7 +239,7 @@ module _ {A : Type 0} where
       let shapes : set (set m.shape axis two) axis (lengths_along axis (two_behind axis m n ∷ ns)) ≡ set m.shape axis all = set-set m.shape axis two (lengths_along axis (two_behind axis m n ∷ ns)) ∙ ap (set m.shape axis) (omega (arith, whole, rest, joined, here)) in
       followed_at axis (two_behind axis m n) ns i (omega (arith, long, on)) (subst (λ s. in_box s i ≡ true) (sym shapes) h)
       ∙ two_as_one axis m n ns i c on (omega (arith, many, wide, on))
-      (λ k below. subst (λ s. in_box s (set i axis c) ≡ true) (set-set m.shape axis all k) (box_set (set m.shape axis all) i axis k c h below))
+      (λ k below. subst (λ s. in_box s (set i axis c) ≡ true) (set-set m.shape axis all k) (in_box-set (set m.shape axis all) i axis k c h below))
 
   -- ---- what is woven shows it
   module _ (axis : ℕ) (shape : List ℕ) (m : Meaning A) (ms : List (Meaning A)) (on : axis < length m.shape) (are : shape ≡ set m.shape axis (lengths_along axis (m ∷ ms)))
@@ -337,7 +334,7 @@ module _ {A : Type 0} where
       let taken = length-take len (drop from xs) in
       let within = slice_get_within (take len (drop from xs)) place x there in
       let found : slice_get (row_major_elements m) (from + place) ≡ Some x =
-      ap (λ l. slice_get l (from + place)) (sym all) ∙ (sym (at_taken (drop from xs) len place (omega (arith, taken, within)) ∙ at_dropped xs from place) ∙ there) in
+      ap (λ l. slice_get l (from + place)) (sym all) ∙ (sym (got_taken (drop from xs) len place (omega (arith, taken, within)) ∙ got_dropped xs from place) ∙ there) in
       let below = slice_get_within (row_major_elements m) (from + place) x found in
       let count = by_rank.0 in
       let rank : from + place < size_of m.shape = omega (arith, below, count) in

@@ -3,14 +3,14 @@ use Rattle.std.proofs.Common.{◌≡◌, ℕ, suc, ◌+◌, ◌-◌, ◌*◌, �
 use Rattle.std.specs.Char.{is_ascii_digit}
 use Rattle.std.specs.List.{position_or_len}
 use Rattle.std.specs.Option.{option_map, option_and_then}
-use Rattle.std.proofs.lemmas.Bool.{ne_eqb, lt-ltb}
+use Rattle.std.proofs.lemmas.Bool.{ne_eqb, lt-ltb, not-true}
 use Rattle.std.proofs.lemmas.Bool.Decides.{nat_tests}
 use Rattle.std.proofs.lemmas.Grind.{pow_more}
 use Rattle.std.proofs.Math.Nat.{pow-le-pow_right}
 use Rattle.nd_text.specs.Numerals.{nat_of, int_of, with_digit, with_digits, first_digits, has_minus, without_minus, signed_of, signed_from, signed_first}
 use Rattle.nd_text.specs.Words.{is_blank, goes_on, words_of, first_as}
 use Rattle.nd_text.proofs.Numerals.{behind, nat_none, nat_behind, int_behind}
-use Rattle.nd_text.proofs.Splits.{not_true, word_at}
+use Rattle.nd_text.proofs.Splits.{word_at}
 
 -- where the first blank is
 abbrev end_of : List ℕ → ℕ
@@ -91,7 +91,7 @@ int_none = rw (int_behind [], nat_none [] refl) refl
 
 int_by : (rest : List ℕ) → goes_on rest ≡ not (eqb (length rest) 0) → front_as int_of rest ≡ signed_first (has_minus rest) (first_digits (without_minus rest))
 int_by [] front = rw int_none refl
-int_by (b ∷ bs) front = signed_by (eqb b 45) b bs refl (not_true (is_blank b) (front ∙ ap not (some_bytes b bs)))
+int_by (b ∷ bs) front = signed_by (eqb b 45) b bs refl (not-true (is_blank b) (front ∙ ap not (some_bytes b bs)))
 
 -- the same with a sign
 pub first_int : (line rest digits : List ℕ) (minus : Bool) → goes_on rest ≡ not (eqb (length rest) 0) → words_of rest ≡ words_of line → minus ≡ has_minus rest → digits ≡ without_minus rest → signed_first minus (first_digits digits) ≡ first_as int_of (words_of line)

@@ -4,12 +4,8 @@ use Rattle.std.specs.List.{list_all}
 use Rattle.std.specs.Char.{is_ascii_digit}
 use Rattle.std.specs.Str.Parse.{digits_value}
 use Rattle.std.proofs.lemmas.Bool.{eqb-true, ne_eqb, ltb-true, lt-ltb, leb-true, le-leb, and_parts}
+use Rattle.std.proofs.lemmas.Option.{cond_some}
 use Rattle.nd_text.specs.Numerals.{is_numeral, IsNumeral, IsNat, IsInt, nat_of, int_of, without_minus, has_minus, signed_of}
-
--- an answer under a test
-pub some_by : {X : Type 0} (t : Bool) (x y : X) → cond t (Some x) None ≡ Some y → (t ≡ true) × (x ≡ y)
-some_by true x y e = (refl, cc)
-some_by false x y e = absurd cc
 
 -- the same, where the answer is a step further
 pub some_under : {X : Type 0} (t : Bool) (r : Option X) (y : X) → cond t r None ≡ Some y → (t ≡ true) × (r ≡ Some y)
@@ -20,7 +16,7 @@ pub nat_takes : (word : List ℕ) (n : ℕ) → nat_of word ≡ Some n → IsNat
 unfolding nat_of
 nat_takes word n e =
     let v = digits_value 10 word in
-    let h = some_by (is_numeral word && ltb v (2 ^ 64)) v n e in
+    let h = cond_some (is_numeral word && ltb v (2 ^ 64)) v n e in
     let both = and_parts (is_numeral word) (ltb v (2 ^ 64)) h.0 in
     ((both.0, sym h.1), subst (λ (m : ℕ). m < 2 ^ 64) h.1 (ltb-true v (2 ^ 64) both.1))
 
@@ -34,12 +30,12 @@ signed_by : (t : Bool) (b : ℕ) (bs : List ℕ) (z : ℤ) → eqb b 45 ≡ t �
 signed_by true b bs z is e =
     let v = digits_value 10 bs in
     let h = some_under (is_numeral bs) (cond (leb v (2 ^ 63)) (Some (neg_ℤ (pos v))) None) z e in
-    let g = some_by (leb v (2 ^ 63)) (neg_ℤ (pos v)) z h.1 in
+    let g = cond_some (leb v (2 ^ 63)) (neg_ℤ (pos v)) z h.1 in
     inr (bs, v, ap (λ (c : ℕ). c ∷ bs) (eqb-true b 45 is), (h.0, refl), leb-true v (2 ^ 63) g.0, sym g.1)
 signed_by false b bs z is e =
     let v = digits_value 10 (b ∷ bs) in
     let h = some_under (is_numeral (b ∷ bs)) (cond (ltb v (2 ^ 63)) (Some (pos v)) None) z e in
-    let g = some_by (ltb v (2 ^ 63)) (pos v) z h.1 in
+    let g = cond_some (ltb v (2 ^ 63)) (pos v) z h.1 in
     inl (v, (h.0, refl), ltb-true v (2 ^ 63) g.0, sym g.1)
 
 pub int_takes : (word : List ℕ) (z : ℤ) → int_of word ≡ Some z → IsInt word z

@@ -2,7 +2,7 @@
 use Rattle.std.proofs.Common.{◌≡◌, ℕ, zero, suc, ◌+◌, ◌<◌, ◌≤◌, Bool, true, false, cond, eqb, ltb, not, length-drop, get_or, List, [], ◌∷◌, length, take, drop, Option, Some, None, refl, sym, ap, subst, ◌∙◌, arith}
 use Rattle.std.specs.List.{position, position_or_len}
 use Rattle.std.proofs.lemmas.List.{take_all, drop_all}
-use Rattle.std.proofs.lemmas.Bool.{ltb-true, ltb-false, lt-ltb, le-ltb}
+use Rattle.std.proofs.lemmas.Bool.{ltb-true, ltb-false, lt-ltb, le-ltb, false_from_ne_true, not-true, not-false}
 use Rattle.std.proofs.lemmas.List.Sums.{position_or_len_is}
 use Rattle.memchr.specs.Find.{IsFirstByte, is_byte}
 use Rattle.std.specs.Int.{from_bool}
@@ -48,18 +48,14 @@ place_is p xs k e =
 pub no_place : (p : ℕ → Bool) (xs : List ℕ) → position p xs ≡ None → length xs ≤ position_or_len p xs
 no_place p xs e = ltb-false _ _ (no_place_by (ltb (position_or_len p xs) (length xs)) (position_or_len p xs) None e refl)
 
-not_passed : (t : Bool) → (t ≡ true → ⊥) → t ≡ false
-not_passed true fails = absurd (fails refl)
-not_passed false fails = refl
-
 -- what a search for a byte finds
 pub found_first : (text : List ℕ) (r : Option ℕ) → IsFirstByte (is_byte 10) text r → r ≡ position (λ b. eqb b 10) text
 found_first text None nowhere =
     let n = length text in
-    let end : position_or_len ends_line text ≡ n = position_or_len_is ends_line text n 0 (omega arith) (λ k lt. not_passed (ends_line (get_or text k 0)) (nowhere k (omega arith) lt)) (λ lt. absurd (omega (arith, lt))) in
+    let end : position_or_len ends_line text ≡ n = position_or_len_is ends_line text n 0 (omega arith) (λ k lt. false_from_ne_true (ends_line (get_or text k 0)) (nowhere k (omega arith) lt)) (λ lt. absurd (omega (arith, lt))) in
     rw (end, le-ltb n n (omega arith)) refl
 found_first text (Some k) here =
-    let at : position_or_len ends_line text ≡ k = position_or_len_is ends_line text k 0 (omega (arith, here.0.high)) (λ j lt. not_passed (ends_line (get_or text j 0)) (here.0.before j (omega arith) lt)) (λ lt. here.1) in
+    let at : position_or_len ends_line text ≡ k = position_or_len_is ends_line text k 0 (omega (arith, here.0.high)) (λ j lt. false_from_ne_true (ends_line (get_or text j 0)) (here.0.before j (omega arith) lt)) (λ lt. here.1) in
     rw (at, lt-ltb k (length text) here.0.high) refl
 
 pub line_ends : (text : List ℕ) (k : ℕ) → position (λ b. eqb b 10) text ≡ Some k → lines_of text ≡ take k text ∷ lines_of (drop (k + 1) text)
@@ -85,24 +81,16 @@ word_by : (t : Bool) (b k : ℕ) (bs : List ℕ) → is_blank b ≡ false → go
 word_by true b k bs e f h z = rw (e, f) (word_longer b k bs (h refl))
 word_by false b k bs e f h z = rw (e, f, z refl) refl
 
-pub not_true : (t : Bool) → not t ≡ true → t ≡ false
-not_true true e = absurd cc
-not_true false e = refl
-
-not_false : (t : Bool) → not t ≡ false → t ≡ true
-not_false true e = refl
-not_false false e = absurd cc
-
 -- where no word goes on, no byte is before the first blank
 no_front : (bs : List ℕ) → goes_on bs ≡ false → position_or_len is_blank bs ≡ 0
 no_front [] e = refl
-no_front (b ∷ bs) e = rw (not_false (is_blank b) e) refl
+no_front (b ∷ bs) e = rw (not-false (is_blank b) e) refl
 
 -- a line whose first byte isn't blank begins with the bytes before the first blank
 pub word_at : (line : List ℕ) → goes_on line ≡ true → words_of line ≡ take (position_or_len is_blank line) line ∷ words_of (drop (position_or_len is_blank line) line)
 word_at [] e = absurd cc
 word_at (b ∷ bs) e =
-    let starts : is_blank b ≡ false = not_true (is_blank b) e in
+    let starts : is_blank b ≡ false = not-true (is_blank b) e in
     let longer : position_or_len is_blank (b ∷ bs) ≡ 1 + position_or_len is_blank bs = rw starts refl in
     let k = position_or_len is_blank bs in
     subst (λ (n : ℕ). words_of (b ∷ bs) ≡ take n (b ∷ bs) ∷ words_of (drop n (b ∷ bs))) (sym longer) (word_by (goes_on bs) b k bs starts refl (word_at bs) (no_front bs))

@@ -11,6 +11,7 @@ use Rattle.nd_shape_and_slice.specs.Shape.{in_box, size_of, row_rank, index_at}
 use Rattle.nd_shape_and_slice.specs.Maps.{indexed_shape}
 use Rattle.nd_shape_and_slice.specs.Place.{place_of}
 use Rattle.nd_shape_and_slice.proofs.RowMajor.{length-in_box, row_rank_below}
+use Rattle.nd_shape_and_slice.proofs.Lists.{remove-inserted}
 use Rattle.nd_layout.proofs.Removed.{in_box-inserted}
 use Rattle.nd_elements.specs.Collected.{collected}
 use Rattle.nd_elements.specs.Meaning.{inside}
@@ -21,7 +22,7 @@ use Rattle.nd_elements.proofs.FreeOrder.{listed, listed_part, listed_all, done_a
 use Rattle.nd_layout.specs.Placements.{Placement}
 use Rattle.nd_elements.specs.Places.{stored_at}
 use Rattle.nd_elements.specs.along.AxisLanes.{LanePlaces, IsPairing, LieAlong}
-use Rattle.nd_elements.proofs.LanesAlong.{remove-inserted, lane_found}
+use Rattle.nd_elements.proofs.LanesAlong.{lane_found}
 use Rattle.nd_elements.proofs.LanesFolding.{foldable_alike, folded_alike}
 use Rattle.nd_elements.proofs.Ran.{ran_weaker, ran_listed}
 

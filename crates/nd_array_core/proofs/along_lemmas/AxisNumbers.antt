@@ -9,23 +9,12 @@ use Rattle.nd_shape_and_slice.specs.Maps.{indexed_shape}
 use Rattle.nd_shape_and_slice.proofs.AxisTests.{and_left, and_right}
 use Rattle.nd_shape_and_slice.proofs.RowMajor.{length-in_box, row_rank_below}
 use Rattle.nd_shape_and_slice.proofs.RankIndexes.{in_box-index_at, row_rank-index_at, index_at-row_rank}
+use Rattle.nd_shape_and_slice.proofs.Lists.{remove-inserted, insert-removed, set-inserted}
 use Rattle.nd_layout.proofs.Removed.{in_box-inserted}
 use Rattle.nd_elements.specs.along.AxisLanes.{IsPairing}
 use Rattle.nd_elements.specs.along.Rising.{RisesAlong}
 use Rattle.nd_elements.proofs.FreeOrder.{IsNumbering, listed}
 use Rattle.nd_elements.proofs.LaneNumbers.{listed_at, listed_has}
-use Rattle.nd_elements.proofs.LanesAlong.{remove-inserted}
-
-pub insert-removed : (i : List ℕ) (a : ℕ) → a < length i → insert (remove i a) a (get_or i a 0) ≡ i
-insert-removed [] a on = absurd (omega (arith, on))
-insert-removed (x ∷ i) zero on = refl
-insert-removed (x ∷ i) (suc a) on = ap (λ r. x ∷ r) (insert-removed i a (omega (arith, on)))
-
-set-inserted : (o : List ℕ) (a k j : ℕ) → a ≤ length o → set (insert o a k) a j ≡ insert o a j
-set-inserted [] zero k j fits = refl
-set-inserted [] (suc a) k j fits = absurd (omega (arith, fits))
-set-inserted (x ∷ o) zero k j fits = refl
-set-inserted (x ∷ o) (suc a) k j fits = ap (λ r. x ∷ r) (set-inserted o a k j (omega (arith, fits)))
 
 module _ (ns : List ℕ) (a : ℕ) (on : a < length ns) {lane column : ℕ → ℕ} {number : ℕ → ℕ → ℕ} {all : ℕ} (pairs : IsPairing (size_of (indexed_shape ns a)) (get_or ns a 0) all lane column number) where
   abbrev outer : List ℕ
@@ -57,7 +46,7 @@ module _ (ns : List ℕ) (a : ℕ) (on : a < length ns) {lane column : ℕ → �
   long_in i h = let long = length-in_box ns i h in omega (arith, on, long)
 
   boxes : (i : List ℕ) → in_box ns i ≡ true → (ltb (get_or i a 0) (get_or ns a 0) && in_box outer (remove i a)) ≡ true
-  boxes i h = sym (in_box-inserted ns (remove i a) a (get_or i a 0) on) ∙ (ap (in_box ns) (insert-removed i a (long_in i h)) ∙ h)
+  boxes i h = sym (in_box-inserted ns (remove i a) a (get_or i a 0) on) ∙ (ap (in_box ns) (insert-removed i a 0 (long_in i h)) ∙ h)
 
   pub lane_in : (i : List ℕ) → in_box ns i ≡ true → in_box outer (remove i a) ≡ true
   lane_in i h = and_right (ltb (get_or i a 0) (get_or ns a 0)) (in_box outer (remove i a)) (boxes i h)
@@ -73,7 +62,7 @@ module _ (ns : List ℕ) (a : ℕ) (on : a < length ns) {lane column : ℕ → �
         let r = row_rank outer (remove i a) in
         let k = get_or i a 0 in
         let below = row_rank_below outer (remove i a) (lane_in i h) in
-        (λ t. insert (index_at outer (pairs.lane_is r k below (column_in i h) t)) a (pairs.column_is r k below (column_in i h) t)) ∙ (ap (λ o. insert o a k) (index_at-row_rank outer (remove i a) (lane_in i h)) ∙ insert-removed i a (long_in i h));
+        (λ t. insert (index_at outer (pairs.lane_is r k below (column_in i h) t)) a (pairs.column_is r k below (column_in i h) t)) ∙ (ap (λ o. insert o a k) (index_at-row_rank outer (remove i a) (lane_in i h)) ∙ insert-removed i a 0 (long_in i h));
     below = λ i h. pairs.below (row_rank outer (remove i a)) (get_or i a 0) (row_rank_below outer (remove i a) (lane_in i h)) (column_in i h);
   }
 

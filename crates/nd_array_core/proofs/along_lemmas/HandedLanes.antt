@@ -7,12 +7,14 @@ use Rattle.std.specs.List.{insert, remove}
 use Rattle.std.specs.Option.{option_map}
 use Rattle.std.proofs.lemmas.Bool.Decides.{nat_tests}
 use Rattle.std.proofs.lemmas.List.Edits.{get_or-insert_at}
+use Rattle.std.proofs.lemmas.Option.{same_Some}
 use Rattle.nd_shape_and_slice.specs.Shape.{in_box, size_of, row_rank, index_at}
 use Rattle.nd_shape_and_slice.specs.Maps.{indexed_shape, indexed_index}
 use Rattle.nd_shape_and_slice.specs.Place.{place_of, IsSeparated}
 use Rattle.nd_shape_and_slice.specs.declared.builder.Order.TheVariants.{RowMajor}
 use Rattle.nd_shape_and_slice.proofs.RowMajor.{length-in_box}
 use Rattle.nd_shape_and_slice.proofs.RankIndexes.{in_box-index_at, row_rank-index_at}
+use Rattle.nd_shape_and_slice.proofs.Lists.{remove-inserted, insert-removed}
 use Rattle.nd_layout.proofs.Integers.{sums, zero-mul}
 use Rattle.nd_layout.proofs.Removed.{displacement_of-inserted}
 use Rattle.nd_layout.specs.Places.{is_place, ReachesPlaces}
@@ -33,7 +35,7 @@ use Rattle.nd_array_core.specs.along.AxisFolds.{lane_at}
 use Rattle.nd_array_core.specs.along.AxisMaps.{lane_of, lanes_of}
 use Rattle.nd_elements.specs.along.LanesWritten.{lane_held, LeavesLane, MayBeHandedLane, LeavesLanesBy, AnswersHandedLanesBy, lanes_held, AreHandedOut}
 use Rattle.nd_array_core.specs.along.LanesWritten.{AreLeftBy}
-use Rattle.nd_array_core.proofs.along_lemmas.AxisNumbers.{insert-removed, lane_in, column_in}
+use Rattle.nd_array_core.proofs.along_lemmas.AxisNumbers.{lane_in, column_in}
 use Rattle.nd_elements.proofs.LaneNumbers.{by_lanes}
 use Rattle.nd_elements.proofs.FreeOrder.{done_at_each}
 use Rattle.nd_array_core.proofs.elements_lemmas.Handed.{both_is, handed_answered}
@@ -120,9 +122,9 @@ module _ {F A B : Type 0} (g : Mut F (MutBor (LaneMut A) × Unit {0}) (B × (Mut
       does j q inside_j c =
           let step = c.2 in
           let gives = by step.0 step.1 c.0.1 q step.4 in
-          let old_is : lane_of old a j ≡ lane_held step.0 = some_same (lane_of old a j) (lane_held step.0) ((rw inside_j refl) ∙ step.2) in
+          let old_is : lane_of old a j ≡ lane_held step.0 = same_Some (lane_of old a j) (lane_held step.0) ((rw inside_j refl) ∙ step.2) in
           let inside_new : in_box (indexed_shape new.shape a) j ≡ true = ap (λ ms. in_box (indexed_shape ms a) j) same ∙ inside_j in
-          let new_is : lane_of new a j ≡ lane_held step.1 = some_same (lane_of new a j) (lane_held step.1) ((rw inside_new refl) ∙ ((both_is ((lanes_of new a).at j) (seen j) c.0 c.1).0 ∙ ap Some step.3)) in (
+          let new_is : lane_of new a j ≡ lane_held step.1 = same_Some (lane_of new a j) (lane_held step.1) ((rw inside_new refl) ∙ ((both_is ((lanes_of new a).at j) (seen j) c.0 c.1).0 ∙ ap Some step.3)) in (
             gives.0,
             (λ k within.
                 let under : k < get_or new.shape a 0 = subst (λ ms. k < get_or ms a 0) (sym same) within in

@@ -5,6 +5,8 @@ use Rattle.std.proofs.lemmas.Bool.Decides.{nat_tests}
 use Rattle.std.specs.Prelude.{Option, is_some}
 use Rattle.nd_layout.specs.Places.{is_place}
 use Rattle.nd_layout.proofs.Integers.{sums, add-mul, one-mul}
+use Rattle.nd_layout.proofs.WalkSteps.{place_number}
+use Rattle.nd_layout.proofs.steps.Walks.{place_below}
 use Rattle.nd_elements.specs.Collected.{stored_along}
 use Rattle.nd_elements.specs.Meaning.{inside}
 use Rattle.nd_elements.specs.Places.{stored_at}
@@ -13,14 +15,6 @@ use Rattle.nd_array_core.proofs.along_lemmas.RankLanes.{lane_opens}
 -- from a place that is so many strides further the places are those from that number on
 pub places_from : (place start from : ℕ) (stride : ℤ) → pos start ≡ pos place +ℤ (pos from *ℤ stride) → (k : ℕ) → pos start +ℤ (pos k *ℤ stride) ≡ pos place +ℤ (pos (from + k) *ℤ stride)
 places_from place start from stride at k = let more = add-mul from k stride in omega (arith, sums, at, more)
-
--- a place is a number below the bound
-is_below : (q : ℕ) → is_place (pos q) ≡ true → q < 9223372036854775808
-is_below q is = grind (arith, nat_tests, is)
-
-is_number : (z : ℤ) → is_place z ≡ true → (q : ℕ) × (z ≡ pos q) × (q < 9223372036854775808)
-is_number (pos q) is = (q, refl, is_below q is)
-is_number (negsuc q) is = absurd cc
 
 -- where a number that wraps moves from one place to another, it doesn't wrap
 moved_on : (p q n : ℕ) → p + n < 9223372036854775808 → q ≡ (p + n) % 18446744073709551616 → q ≡ p + n
@@ -33,8 +27,8 @@ moved_back p q n m low same below is =
     is ∙ ap (λ x. x % 18446744073709551616) back ∙ add-mod_right m 18446744073709551616 ∙ mod-eq_of_lt fits
 
 pub moved_place : (p q : ℕ) (s : ℤ) → p < 9223372036854775808 → is_place (pos p +ℤ s) ≡ true → q ≡ (p + of_z w64 s) % 18446744073709551616 → pos q ≡ pos p +ℤ s
-moved_place p q (pos n) low to is = ap pos (moved_on p q n (is_below (p + n) to) is)
-moved_place p q (negsuc n) low to is = let w = is_number (pos p +ℤ negsuc n) to in ap pos (moved_back p q n w.0 low w.1 w.2 is) ∙ sym w.1
+moved_place p q (pos n) low to is = ap pos (moved_on p q n (place_below (p + n) to) is)
+moved_place p q (negsuc n) low to is = let w = place_number (pos p +ℤ negsuc n) to in ap pos (moved_back p q n w.0 low w.1 w.2 is) ∙ sym w.1
 
 -- so the places behind a lane's first are its own from 1 on
 pub first_left : (place count : ℕ) (stride : ℤ) → (0 < count → place < 9223372036854775808) → ((k : ℕ) → k < count → is_place (pos place +ℤ (pos k *ℤ stride)) ≡ true)

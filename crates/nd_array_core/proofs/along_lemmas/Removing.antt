@@ -8,27 +8,24 @@ use Rattle.nd_shape_and_slice.specs.Shape.{in_box}
 use Rattle.nd_shape_and_slice.specs.Slice.{bound_on, fits_axis, low_of, high_of, quotient_up, sliced_length, sliced_from, sliced_shape, sliced_index}
 use Rattle.nd_shape_and_slice.specs.declared.slice.Slice.{Slice}
 use Rattle.nd_shape_and_slice.proofs.Boxes.{coordinate_below}
-use Rattle.nd_layout.proofs.Distinct.{in_box-set}
+use Rattle.nd_shape_and_slice.proofs.Indexes.{in_box-set, bound_within}
 use Rattle.nd_elements.specs.Meaning.{inside}
 use Rattle.nd_array_core.specs.PlacedArray.{found_at}
 use Rattle.nd_elements.specs.along.Removed.{removed_shape, removed_index, rotated_index, front_slice}
 use Rattle.nd_elements.proofs.Rotating.{rotated_end}
 
-bound_in : (n k : ℕ) → k ≤ n → bound_on n (pos k) ≡ Some k
-bound_in n k h = let yes : nat_le k n ≡ true = grind (arith, nat_tests, h) in rw yes refl
-
 -- the slice of all coordinates but the last
 module _ (n : ℕ) where
   pub front_fits : fits_axis n (front_slice (n - 1)) ≡ true
-  front_fits = λ i. not (nat_eq 1 0) && (is_some (bound_in n 0 (omega arith) i) && is_some (bound_in n (n - 1) (omega arith) i))
+  front_fits = λ i. not (nat_eq 1 0) && (is_some (bound_within n 0 (omega arith) i) && is_some (bound_within n (n - 1) (omega arith) i))
 
   front_low : low_of n (front_slice (n - 1)) ≡ 0
-  front_low = ap (λ o. unwrap_or o 0) (bound_in n 0 (omega arith))
+  front_low = ap (λ o. unwrap_or o 0) (bound_within n 0 (omega arith))
 
   front_high : high_of n (front_slice (n - 1)) ≡ n - 1
   front_high =
       let most : max 0 (n - 1) ≡ n - 1 = omega arith in
-      (λ i. max (front_low i) (unwrap_or (bound_in n (n - 1) (omega arith) i) 0)) ∙ most
+      (λ i. max (front_low i) (unwrap_or (bound_within n (n - 1) (omega arith) i) 0)) ∙ most
 
   front_length : sliced_length n (front_slice (n - 1)) ≡ n - 1
   front_length =

@@ -13,6 +13,7 @@ use Rattle.nd_shape_and_slice.specs.Maps.{collapsed_shape, collapsed_index}
 use Rattle.nd_shape_and_slice.specs.Place.{place_of}
 use Rattle.nd_shape_and_slice.proofs.RankIndexes.{in_box-index_at}
 use Rattle.nd_shape_and_slice.proofs.RowMajor.{in_box-cons, row_rank_below, length-in_box}
+use Rattle.nd_shape_and_slice.proofs.Lists.{got_before, got_behind}
 use Rattle.nd_layout.specs.Steps.{IsStep}
 use Rattle.nd_layout.proofs.steps.ExchangeStep.{swap_back, swap_is_step}
 use Rattle.nd_elements.specs.Meaning.{Meaning, inside}
@@ -43,18 +44,6 @@ row_is_some ns ms indices n axes within row some =
     omega (arith, size, fits, one)
 
 module _ {A : Type 0} where
-  get_front : (xs ys : List A) (k : ℕ) → k < length xs → slice_get (xs ++ ys) k ≡ slice_get xs k
-  get_front [] ys k below = absurd (omega (arith, below))
-  get_front (x ∷ xs) ys zero below = refl
-  get_front (x ∷ xs) ys (suc k) below = get_front xs ys k (omega (arith, below))
-
-  get_behind : (xs ys : List A) (n k : ℕ) → length xs ≡ n → slice_get (xs ++ ys) (n + k) ≡ slice_get ys k
-  get_behind [] ys n k long = let same : n + k ≡ k = omega (arith, long) in ap (slice_get ys) same
-  get_behind (x ∷ xs) ys zero k long = absurd (omega (arith, long))
-  get_behind (x ∷ xs) ys (suc n) k long =
-      let next : suc n + k ≡ suc (n + k) = omega arith in
-      ap (slice_get (x ∷ (xs ++ ys))) next ∙ get_behind xs ys n k (omega (arith, long))
-
   -- ---- one coordinate after the other
   module _ (ns : List ℕ) (at : List ℕ → Option A) (indices : List ℕ) where
     pub selected_none : (items : List A) → items ≡ [] → ListsSelected ns at indices 0 items
@@ -89,14 +78,14 @@ module _ {A : Type 0} where
                 let fits = row_fits k n w less in
                 let rank = row_rank_below (collapsed_shape ns 0) i h in
                 let before = so_far.0 in
-                get_front items (row_major_elements row) (k * w + row_rank (collapsed_shape ns 0) i) (omega (arith, fits, rank, before)) ∙ so_far.1 k i less h
+                got_before items (row_major_elements row) (k * w + row_rank (collapsed_shape ns 0) i) (omega (arith, fits, rank, before)) ∙ so_far.1 k i less h
 
             here : n ≤ k → slice_get (items ++ row_major_elements row) (k * w + row_rank (collapsed_shape ns 0) i) ≡ at (collapsed_index 0 (slice_index indices k) i)
             here not_less =
                 let same : k ≡ n = omega (arith, not_less, below) in
                 let box : in_box row.shape i ≡ true = ap (λ s. in_box s i) shape ∙ h in
                 rw same
-                (get_behind items (row_major_elements row) (n * w) (row_rank (collapsed_shape ns 0) i) so_far.0
+                (got_behind items (row_major_elements row) (n * w) (row_rank (collapsed_shape ns 0) i) so_far.0
                 ∙ ap (λ s. slice_get (row_major_elements row) (row_rank s i)) (sym shape)
                 ∙ meaning_get row has i box
                 ∙ shows i

@@ -13,6 +13,7 @@ use Rattle.nd_elements.specs.Places.{stored_at}
 use Rattle.nd_elements.specs.CloneRefusals.{MayRefuseBelow, MayRefuseClone, MayRefuseClonesOf}
 use Rattle.nd_elements.proofs.Mapped.{rearranged_there}
 use Rattle.nd_elements.proofs.Paired.{element_by_rank}
+pub use Rattle.nd_elements.proofs.TurnedEqual.{inside_some}
 
 module _ {A : Type 0} (is_infallible : A → Type 0) where
   -- of a value for each index, whatever their order
@@ -43,13 +44,6 @@ module _ {A : Type 0} (is_infallible : A → Type 0) where
   -- of arrays with the same elements
   pub refused_alike : (at other : List ℕ → Option A) → ((i : List ℕ) → at i ≡ other i) → MayRefuseClone is_infallible at → MayRefuseClone is_infallible other
   refused_alike at other same refused = (refused.0, refused.1, sym (same refused.0) ∙ refused.2, refused.3)
-
-  pub inside_some : (ns i : List ℕ) (o : Option A) (x : A) → inside ns i o ≡ Some x → o ≡ Some x
-  inside_some ns i o x e = by_test (in_box ns i) refl e
-    where
-      by_test : (t : Bool) → in_box ns i ≡ t → inside ns i o ≡ Some x → o ≡ Some x
-      by_test true h e = rw h at e
-      by_test false h e = absurd (let none : None ≡ Some x = rw h at e in cc)
 
   -- of a part
   pub part_refused : (at part : List ℕ → Option A) (ns : List ℕ) (source : List ℕ → List ℕ) → ((i : List ℕ) → part i ≡ inside ns i (at (source i))) → MayRefuseClone is_infallible part → MayRefuseClone is_infallible at

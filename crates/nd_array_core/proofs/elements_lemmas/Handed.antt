@@ -5,6 +5,7 @@ use Rattle.std.specs.Borrow.{MutBor}
 use Rattle.std.specs.Fn.{Mut}
 use Rattle.std.specs.Option.{option_map}
 use Rattle.nd_shape_and_slice.specs.Shape.{in_box, size_of, row_rank, index_at}
+use Rattle.nd_shape_and_slice.proofs.Lists.{got_last, got_still}
 use Rattle.nd_layout.specs.Walk.{IsRearranged, IsRejoined}
 use Rattle.nd_elements.specs.Places.{stored_at}
 use Rattle.nd_elements.specs.FreeOrder.{AnswersThere, HasAnswers}
@@ -13,7 +14,6 @@ use Rattle.nd_elements.specs.elements.Changes.{IsChangedBy}
 use Rattle.nd_elements.specs.elements.Pairs.{option_both}
 use Rattle.nd_elements.specs.elements.Maps.{AnswersAt, RanNumbered, TakesNumbered, Replaces}
 use Rattle.nd_elements.specs.elements.MapsMut.{paired_at, LeavesAndAnswers, LeavesBy, AnswersHandedBy, Collects, TakesCollecting}
-use Rattle.nd_elements.proofs.Answered.{got_last, got_still}
 use Rattle.nd_elements.proofs.FreeOrder.{IsNumbering, listed, listed_all, done_at_each}
 use Rattle.nd_elements.proofs.LentLanes.{collects_ran}
 use Rattle.nd_elements.proofs.Mapped.{joined_numbers}

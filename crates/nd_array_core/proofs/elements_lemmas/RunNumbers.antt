@@ -2,6 +2,7 @@
 use Rattle.std.proofs.Common.{◌≡◌, ℕ, ◌+◌, ◌-◌, ◌<◌, Bool, true, false, List, [], length, ℤ, pos, ◌+ℤ◌, neg_ℤ, refl, ap, sym, ◌∙◌, arith, ⊎_elim}
 use Rattle.std.proofs.lemmas.Bool.Decides.{nat_tests}
 use Rattle.std.specs.Prelude.{◌⊎◌, Option, nat_lt, slice_get}
+use Rattle.std.proofs.lemmas.Bool.{ltb-true}
 use Rattle.nd_shape_and_slice.specs.Shape.{in_box, size_of}
 use Rattle.nd_shape_and_slice.specs.Place.{displacement_of, place_of, span_of, IsSeparated}
 use Rattle.nd_shape_and_slice.proofs.RowMajor.{row_rank_below}
@@ -25,9 +26,6 @@ pub record IsRunNumbered (ns : List ℕ) (ss : List ℤ) : Type 0 where
   pub numbered : IsNumbering ns (size_of ns) index rank
   pub places : (k : ℕ) → k < size_of ns → place_of (reach_down ns ss) ss (index k) ≡ pos k
 
-under : (k n : ℕ) → nat_lt k n ≡ true → k < n
-under k n e = grind (arith, nat_tests, e)
-
 module _ (ns : List ℕ) (ss : List ℤ) (long : length ss ≡ length ns) where
   empty_numbered : size_of ns ≡ 0 → IsRunNumbered ns ss
   empty_numbered none = record {
@@ -44,11 +42,11 @@ module _ (ns : List ℕ) (ss : List ℤ) (long : length ss ≡ length ns) where
 
   module _ (apart : IsSeparated ns ss) (full : span_of ns ss + 1 ≡ size_of ns) where
     abbrev at_number : (k : ℕ) (t : Bool) → nat_lt k (size_of ns) ≡ t → List ℕ
-    at_number k true e = (each_above_low ns ss long apart full k (under k (size_of ns) e)).0
+    at_number k true e = (each_above_low ns ss long apart full k (ltb-true k (size_of ns) e)).0
     at_number k false e = []
 
     is_there : (k : ℕ) → k < size_of ns → (t : Bool) (e : nat_lt k (size_of ns) ≡ t) → (in_box ns (at_number k t e) ≡ true) × (displacement_of ss (at_number k t e) ≡ neg_ℤ (pos (reach_down ns ss)) +ℤ pos k)
-    is_there k below true e = let at = each_above_low ns ss long apart full k (under k (size_of ns) e) in (at.1, at.2)
+    is_there k below true e = let at = each_above_low ns ss long apart full k (ltb-true k (size_of ns) e) in (at.1, at.2)
     is_there k below false e = absurd (grind (arith, nat_tests, e, below))
 
     abbrev index_of : ℕ → List ℕ

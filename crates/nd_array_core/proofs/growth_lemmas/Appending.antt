@@ -4,17 +4,19 @@ use Rattle.std.specs.Prelude.{Result, Ok, Err, OnOk, OnErr, Option, Some, None, 
 use Rattle.std.specs.List.{remove}
 use Rattle.std.proofs.lemmas.Bool.{cases_eq, lt-ltb, false≢true, false_from_ne_true}
 use Rattle.std.proofs.lemmas.List.{length-append, length-set, set-set, set-get_or, get_or-set_same}
+use Rattle.std.proofs.lemmas.Option.{slice_get_within}
 use Rattle.nd_shape_and_slice.specs.Shape.{HasCheckedSize, in_box, size_of, row_rank}
 use Rattle.nd_shape_and_slice.specs.Place.{place_of, IsSeparated}
 use Rattle.nd_shape_and_slice.specs.Maps.{lower_shape, upper_shape, upper_index}
 use Rattle.nd_shape_and_slice.proofs.RowMajor.{row_rank_below}
 use Rattle.nd_shape_and_slice.proofs.Boxes.{coordinate_below}
 use Rattle.nd_shape_and_slice.proofs.Sizes.{length_within}
+use Rattle.nd_shape_and_slice.proofs.Indexes.{in_box-set}
+use Rattle.nd_shape_and_slice.proofs.Lists.{got_before, got_behind, there_is_some}
 use Rattle.nd_layout.specs.Growth.{grown_shape}
 use Rattle.nd_layout.specs.Placements.{Placement}
 use Rattle.nd_layout.specs.MemoryOrder.{FillsStorage, IsGrown, IsTailOrder}
 use Rattle.nd_layout.proofs.Continued.{in_box-longer}
-use Rattle.nd_layout.proofs.Distinct.{in_box-set}
 use Rattle.nd_layout.proofs.GrowthCases.{zero_factor}
 use Rattle.nd_layout.proofs.Removed.{size_of-removed}
 use Rattle.nd_layout.proofs.Sizes.{size_of-set}
@@ -27,7 +29,6 @@ use Rattle.nd_array_core.specs.growth.Appended.{IsAlikeBeside, ArePutBehind}
 use Rattle.nd_elements.proofs.Collecting.{meaning_count, meaning_get}
 use Rattle.nd_array_core.proofs.growth_lemmas.JoinedParts.{split_and_joined_at}
 use Rattle.nd_array_core.proofs.law_lemmas.LawProofs.{same_meaning, inside_box}
-use Rattle.nd_elements.proofs.Mapped.{got_below}
 use Rattle.nd_array_core.proofs.along_lemmas.Selecting.{box_has}
 use Rattle.nd_array_core.proofs.layout_lemmas.StepLemmas.{step_holds, step_element}
 
@@ -135,7 +136,7 @@ module _ {A : Type 0} where
   place_below items (pos k) there = by_element (slice_get items k) refl there
     where
       by_element : (o : Option A) → slice_get items k ≡ o → is_some o ≡ true → (q : ℕ) × (q < length items) × (pos k ≡ pos q)
-      by_element (Some x) is there = (k, got_below items k x is, refl)
+      by_element (Some x) is there = (k, slice_get_within items k x is, refl)
       by_element None is there = absurd (false≢true there)
 
   pub full_fills : (l : Placement) (items : List A) → HoldsAll (slice_get items) l.offset l.lengths l.strides → IsSeparated l.lengths l.strides → length items ≡ size_of l.lengths → FillsStorage l
@@ -147,24 +148,7 @@ module _ {A : Type 0} where
         (w.0, omega (arith, few, full), w.2);
   }
 
-  pub is_there : (xs : List A) (k : ℕ) → k < length xs → is_some (slice_get xs k) ≡ true
-  is_there [] k below = absurd (omega (arith, below))
-  is_there (x ∷ xs) zero below = refl
-  is_there (x ∷ xs) (suc k) below = is_there xs k (omega (arith, below))
-
   -- ---- the listed elements
-  get_front : (xs ys : List A) (k : ℕ) → k < length xs → slice_get (xs ++ ys) k ≡ slice_get xs k
-  get_front [] ys k below = absurd (omega (arith, below))
-  get_front (x ∷ xs) ys zero below = refl
-  get_front (x ∷ xs) ys (suc k) below = get_front xs ys k (omega (arith, below))
-
-  get_behind : (xs ys : List A) (n k : ℕ) → length xs ≡ n → slice_get (xs ++ ys) (n + k) ≡ slice_get ys k
-  get_behind [] ys n k long = let same : n + k ≡ k = omega (arith, long) in ap (slice_get ys) same
-  get_behind (x ∷ xs) ys zero k long = absurd (omega (arith, long))
-  get_behind (x ∷ xs) ys (suc n) k long =
-      let next : suc n + k ≡ suc (n + k) = omega arith in
-      ap (slice_get (x ∷ (xs ++ ys))) next ∙ get_behind xs ys n k (omega (arith, long))
-
   module _ (stored : ℕ → Option A) (g added order : Placement) (a from : ℕ) (tail : IsTailOrder g a from added order) (holds : HoldsAll stored added.offset added.lengths added.strides) (old new : List A) (count : length old ≡ size_of (lower_shape g.lengths a from)) (is : new ≡ old ++ row_major_elements (shown order stored)) where
     has_each : (j : List ℕ) → in_box order.lengths j ≡ true → is_some ((shown order stored).at j) ≡ true
     has_each j h = box_has stored order.offset order.lengths order.strides (step_holds stored tail.step holds) j h
@@ -179,7 +163,7 @@ module _ {A : Type 0} where
           let r = row_rank order.lengths j in
           ap (stored_at (slice_get new)) w.3
           ∙ (ap (λ xs. slice_get xs (size_of (lower_shape g.lengths a from) + r)) is
-          ∙ (get_behind old (row_major_elements (shown order stored)) (size_of (lower_shape g.lengths a from)) r count
+          ∙ (got_behind old (row_major_elements (shown order stored)) (size_of (lower_shape g.lengths a from)) r count
           ∙ (meaning_get (shown order stored) has_each j w.1
           ∙ (step_element stored tail.step j
           ∙ (inside_box order.lengths j ((shown added stored).at (tail.source j)) w.1
@@ -198,7 +182,7 @@ module _ {A : Type 0} where
     grown_holds i h =
         let w = fills.within i h in
         let few = w.1 in
-        ap (names_place (slice_get items)) w.2 ∙ is_there items w.0 (omega (arith, few, grown_count))
+        ap (names_place (slice_get items)) w.2 ∙ there_is_some items w.0 (omega (arith, few, grown_count))
 
     wider : (i : List ℕ) → in_box l.lengths i ≡ true → in_box new.lengths i ≡ true
     wider i h = ap (λ s. in_box s i) longer ∙ in_box-longer l.lengths i a (get_or l.lengths a 0 + get_or m.shape a 0) on (omega arith) h
@@ -209,7 +193,7 @@ module _ {A : Type 0} where
         let front = behind.front in
         ap (stored_at (slice_get items)) (kept i h ∙ w.2)
         ∙ (ap (λ xs. slice_get xs w.0) front.1
-        ∙ (get_front old front.0 w.0 w.1
+        ∙ (got_before old front.0 w.0 w.1
         ∙ ap (stored_at (slice_get old)) (sym w.2)))
 
     cut_low : lower_shape new.lengths a (get_or l.lengths a 0) ≡ l.lengths

@@ -8,6 +8,7 @@ use Rattle.std.proofs.lemmas.List.{set-get_or}
 use Rattle.nd_shape_and_slice.specs.Shape.{HasCheckedSize, in_box, size_of}
 use Rattle.nd_shape_and_slice.specs.Place.{displacement_of, place_of, IsSeparated}
 use Rattle.nd_shape_and_slice.specs.Maps.{lower_shape, upper_shape, upper_index}
+use Rattle.nd_shape_and_slice.proofs.Lists.{there_is_some}
 use Rattle.nd_layout.specs.Growth.{growing_strides}
 use Rattle.nd_layout.specs.MemoryOrder.{FillsStorage, IsFilledBehind}
 use Rattle.nd_layout.specs.Places.{is_place}
@@ -17,18 +18,15 @@ use Rattle.nd_layout.proofs.Integers.{sums}
 use Rattle.nd_layout.proofs.FreshOrder.{fresh_full, fresh_valid, length-growing_strides}
 use Rattle.nd_layout.proofs.RunFrom.{above_low, above_low-is, above_low-lt, each_above_low}
 use Rattle.nd_layout.proofs.Sizes.{size_of-set}
+use Rattle.nd_layout.proofs.OneLane.{is_number}
 use Rattle.nd_elements.specs.Meaning.{Meaning, inside}
 use Rattle.nd_array_core.specs.Joined.{concatenated, concatenated_shape}
 use Rattle.nd_array_core.specs.Laws.{NothingOutside}
 use Rattle.nd_elements.specs.Places.{stored_at, names_place, HoldsAll}
 use Rattle.nd_array_core.specs.growth.Appended.{IsAlikeBeside, ArePutBehind}
-use Rattle.nd_array_core.proofs.growth_lemmas.Appending.{shown, fits_back, first_none, no_index, is_there}
+use Rattle.nd_array_core.proofs.growth_lemmas.Appending.{shown, fits_back, first_none, no_index}
 use Rattle.nd_array_core.proofs.law_lemmas.LawProofs.{same_meaning, inside_box}
 use Rattle.nd_array_core.proofs.growth_lemmas.Stretched.{with_behind, with_itself}
-
-number_of : (z : ℤ) → is_place z ≡ true → (k : ℕ) × (z ≡ pos k)
-number_of (pos k) there = (k, refl)
-number_of (negsuc k) there = absurd (false≢true there)
 
 not_below : (d k : ℕ) (z : ℤ) → z ≡ neg_ℤ (pos d) +ℤ pos 0 → pos 0 +ℤ z ≡ pos k → d ≡ 0
 not_below d k z e there = let sum : d + k ≡ 0 = nothing d k (sym (ap (λ y. pos 0 +ℤ y) e) ∙ there) in omega (arith, sum)
@@ -46,7 +44,7 @@ module _ (ns : List ℕ) (a : ℕ) (on : a < length ns) (some : 0 < size_of ns) 
       let w = fresh_full ns a on some in
       let bottom = each_above_low ns gs (length-growing_strides ns a on some) w.0 w.1 0 some in
       let valid = fresh_valid ns a on some checked in
-      let there = number_of (pos 0 +ℤ displacement_of gs bottom.0) (valid.reach bottom.0 bottom.1) in
+      let there = is_number (pos 0 +ℤ displacement_of gs bottom.0) (valid.reach bottom.0 bottom.1) in
       not_below (reach_down ns gs) there.0 (displacement_of gs bottom.0) bottom.2 there.1
 
   pub fresh_fills : FillsStorage (as_placement 0 ns (growing_strides a ns))
@@ -105,7 +103,7 @@ module _ {A : Type 0} (m : Meaning A) (a : ℕ) (items : List A) (on : a < lengt
   fresh_holds new is put =
       let fills = fresh_fills m.shape a on some checked in
       subst (λ (p : Placement). HoldsAll (slice_get items) p.offset p.lengths p.strides × IsSeparated p.lengths p.strides) (sym is)
-      (λ i h. let w = fills.within i h in let few = w.1 in ap (names_place (slice_get items)) w.2 ∙ is_there items w.0 (let long = put.count in omega (arith, few, long)), fills.apart)
+      (λ i h. let w = fills.within i h in let few = w.1 in ap (names_place (slice_get items)) w.2 ∙ there_is_some items w.0 (let long = put.count in omega (arith, few, long)), fills.apart)
 
   pub fresh_or_none : {T E : Type 0} (r : Result T E) (l new : Placement) → size_of l.lengths ≡ 0 → OnOk r (new ≡ fresh) → OnOk r (ArePutBehind new a 0 m.shape m.at [] items) → OnErr r (new ≡ l) → HoldsAll (slice_get items) new.offset new.lengths new.strides × (0 < size_of new.lengths → IsSeparated new.lengths new.strides)
   fresh_or_none (Ok x) l new none is put same = let w = fresh_holds new is put in (w.0, λ _. w.1)

@@ -3,7 +3,8 @@ use Rattle.std.proofs.Common.{◌≡◌, ℕ, zero, suc, ◌⊎◌, ⊎_elim, in
 use Rattle.std.specs.List.{remove}
 use Rattle.std.proofs.Math.Nat.{mul-le-mul_right}
 use Rattle.std.proofs.lemmas.Bool.{cases_eq, eq-eqb, ne_eqb}
-use Rattle.std.proofs.lemmas.List.{append-nil, length-set, set-get_or, get_or-set_same}
+use Rattle.std.proofs.lemmas.List.{append-nil, length-set, set-get_or, get_or-set_same, nil_from_length}
+use Rattle.std.proofs.Math.Bool.{or-true}
 use Rattle.nd_shape_and_slice.specs.Shape.{size_of}
 use Rattle.nd_shape_and_slice.specs.Place.{place_of}
 use Rattle.nd_shape_and_slice.specs.Strides.{row_strides, column_strides_from}
@@ -170,11 +171,7 @@ module _ {A : Type 0} (axis added : ℕ) (l k m : Placement) (old items new : Li
 
 -- it had to move
 pub moves_by : (n size : ℕ) (b : Bool) → ((n ≡ size) × (b ≡ false) → ⊥) → (not (eqb n size) || b) ≡ true
-moves_by n size true not_ready = one (not (eqb n size))
-  where
-    one : (c : Bool) → (c || true) ≡ true
-    one true = refl
-    one false = refl
+moves_by n size true not_ready = or-true (not (eqb n size))
 moves_by n size false not_ready =
     ⊎_elim
     (λ (same : n ≡ size). absurd (not_ready (same, refl)))
@@ -213,11 +210,7 @@ module _ {A : Type 0} (axis : ℕ) (l m : Placement) (ms : List ℕ) (old new : 
       subst (λ p. IsReadyUnder axis p new) (sym is) (omega (arith, count), inr (fresh_ready ms axis (fits_axis l.lengths ms axis on fits) some))
 
   nothing_first : length old ≡ 0 → IsFront old new
-  nothing_first empty = (new, ap (λ xs. xs ++ new) (sym (no_items old empty)))
-    where
-      no_items : (xs : List A) → length xs ≡ 0 → xs ≡ []
-      no_items [] e = refl
-      no_items (x ∷ xs) e = absurd (omega (arith, e))
+  nothing_first empty = (new, ap (λ xs. xs ++ new) (sym (nil_from_length old empty)))
 
   pub goes_fresh : IsReadyUnder axis m new → IsReadyUnder axis l old → GoesOnUnder axis l old m new
   goes_fresh after before = record {

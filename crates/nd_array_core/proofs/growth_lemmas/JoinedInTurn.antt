@@ -6,9 +6,10 @@ use Rattle.std.specs.List.{remove}
 use Rattle.std.proofs.Math.Nat.{mul-le-mul_right}
 use Rattle.std.proofs.lemmas.List.{length-set, set-set, set-get_or, get_or-set_same}
 use Rattle.std.proofs.lemmas.List.Sums.{sum_by-cons, sum_by_more, sum_by_more_le}
-use Rattle.std.proofs.lemmas.Option.{get_or_from_slice_get, slice_get_within}
+use Rattle.std.proofs.lemmas.Option.{get_or_from_slice_get, slice_get_within, same_Some}
 use Rattle.nd_shape_and_slice.specs.Shape.{HasCheckedSize, in_box, nonzero_product}
 use Rattle.nd_shape_and_slice.specs.declared.errors.ErrorKind.{ErrorKind}
+use Rattle.nd_shape_and_slice.proofs.Lists.{take_next}
 use Rattle.nd_layout.specs.Growth.{grown_shape}
 use Rattle.nd_layout.proofs.Continued.{in_box-longer}
 use Rattle.nd_layout.proofs.Sizes.{nonzero_product-set}
@@ -38,14 +39,6 @@ module _ {A : Type 0} where
   joined_last : (a : ℕ) (m n : Meaning A) (ms : List (Meaning A)) → joined_in_turn a m (ms ++ n ∷ []) ≡ concatenated a (joined_in_turn a m ms) n
   joined_last a m n [] = refl
   joined_last a m n (k ∷ ks) = joined_last a (concatenated a m k) n ks
-
-  pub take_next : (ms : List (Meaning A)) (n : ℕ) (m : Meaning A) → slice_get ms n ≡ Some m → take (n + 1) ms ≡ take n ms ++ m ∷ []
-  take_next [] n m e = absurd cc
-  take_next (k ∷ ks) zero m e = ap (λ x. x ∷ []) (got k m e)
-    where
-      got : (x y : Meaning A) → Some x ≡ Some y → x ≡ y
-      got x y e = cc
-  take_next (k ∷ ks) (suc n) m e = let next : suc n + 1 ≡ suc (n + 1) = omega arith in ap (λ j. take j (k ∷ ks)) next ∙ ap (λ xs. k ∷ xs) (take_next ks n m e)
 
   pub joined_more : (a : ℕ) (m n : Meaning A) (ms : List (Meaning A)) (nth : ℕ) → slice_get ms nth ≡ Some n → joined_in_turn a m (take (nth + 1) ms) ≡ concatenated a (joined_in_turn a m (take nth ms)) n
   joined_more a m n ms nth e = ap (joined_in_turn a m) (take_next ms nth n e) ∙ joined_last a m n (take nth ms)
@@ -93,12 +86,6 @@ only_memory ns ms shape a taken all (Shape kind) is on fits within checked refus
         ∙ set-set ns a (get_or ns a 0 + taken) (get_or ns a 0 + taken + get_or ms a 0)))
         (checked_within ns a (get_or ns a 0 + taken + get_or ms a 0) (get_or ns a 0 + all) on (omega (arith, within)) checked))
 
--- an item of a list, through a map
-pub mapped_get : {X Y : Type 0} (f : X → Y) (xs : List X) (n : ℕ) (x : X) → n < length xs → x ≡ get_or xs n x → slice_get (map f xs) n ≡ Some (f x)
-mapped_get f [] n x below is = absurd (omega (arith, below))
-mapped_get f (y ∷ ys) zero x below is = ap (λ z. Some (f z)) (sym is)
-mapped_get f (y ∷ ys) (suc n) x below is = mapped_get f ys n x (omega (arith, below)) is
-
 -- the first so many arrays of a list fit behind a shape
 abbrev pub FirstFit : {A : Type 0} → ℕ → ℕ → List ℕ → List (Meaning A) → Type 0
 FirstFit {A} count a ns ms = (nth : ℕ) (m : Meaning A) → nth < count → slice_get ms nth ≡ Some m → FitsBehind ns m.shape a
@@ -107,13 +94,10 @@ module _ {A : Type 0} where
   pub none_fit : (a : ℕ) (ns : List ℕ) (ms : List (Meaning A)) → FirstFit 0 a ns ms
   none_fit a ns ms nth m below is = absurd (omega (arith, below))
 
-  same_item : (x y : Meaning A) → Some x ≡ Some y → x ≡ y
-  same_item x y e = cc
-
   pub one_more_fits : (count a taken : ℕ) (ns shape : List ℕ) (n : Meaning A) (ms : List (Meaning A)) → FirstFit count a ns ms → slice_get ms count ≡ Some n → shape ≡ grown_shape ns a taken → FitsBehind shape n.shape a → FirstFit (count + 1) a ns ms
   one_more_fits count a taken ns shape n ms fit get is fits nth m below there =
       ⊎_elim
-      (λ (last : nth ≡ count). let same = same_item m n (sym there ∙ (ap (slice_get ms) last ∙ get)) in
+      (λ (last : nth ≡ count). let same = same_Some m n (sym there ∙ (ap (slice_get ms) last ∙ get)) in
       subst (λ k. FitsBehind ns k.shape a) (sym same) (fits_ungrown ns n.shape a (get_or ns a 0 + taken) (subst (λ s. FitsBehind s n.shape a) is fits)))
       (λ (other : nth ≡ count → ⊥). fit nth m (omega (arith, below, other)) there)
       (cases_eq nth count)
@@ -140,13 +124,9 @@ alike_longer ns ms a x on alike =
       ap (set ms a) (get_or-set_same ns a x 0 on) ∙ (sym (set-set ms a (get_or ns a 0) x) ∙ ap (λ s. set s a x) alike.1),
     )
 
--- what holds of each thing that a function makes
-same_thing : {Y : Type 0} (x y : Y) → Some x ≡ Some y → x ≡ y
-same_thing x y e = cc
-
 pub each_mapped : {X Y : Type 0} (f : X → Y) (P : Y → Type 0) (xs : List X) → ((x : X) → P (f x)) → (nth : ℕ) (y : Y) → slice_get (map f xs) nth ≡ Some y → P y
 each_mapped f P [] all nth y is = absurd cc
-each_mapped f P (x ∷ xs) all zero y is = subst P (same_thing (f x) y is) (all x)
+each_mapped f P (x ∷ xs) all zero y is = subst P (same_Some (f x) y is) (all x)
 each_mapped f P (x ∷ xs) all (suc nth) y is = each_mapped f P xs all nth y is
 
 module _ {A : Type 0} where

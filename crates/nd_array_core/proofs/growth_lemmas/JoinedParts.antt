@@ -6,7 +6,7 @@ use Rattle.nd_shape_and_slice.proofs.RowMajor.{length-in_box}
 use Rattle.nd_shape_and_slice.proofs.Boxes.{coordinate_below}
 use Rattle.nd_shape_and_slice.specs.Shape.{in_box}
 use Rattle.nd_shape_and_slice.specs.Maps.{lower_shape, upper_shape, upper_index}
-use Rattle.nd_layout.proofs.Distinct.{in_box-set}
+use Rattle.nd_shape_and_slice.proofs.Indexes.{in_box-set, upper_index-lowered}
 use Rattle.nd_elements.specs.Meaning.{Meaning, inside}
 use Rattle.nd_array_core.specs.Laws.{NothingOutside}
 use Rattle.nd_array_core.specs.Joined.{lower_of, upper_of, concatenated_shape, concatenated, SplitAndJoined}
@@ -22,14 +22,6 @@ parts_shape ns a k on within =
     ∙ (ap (λ c. set ns a (c + get_or (set ns a (n - k)) a 0)) (get_or-set_same ns a k 0 on)
     ∙ (ap (λ c. set ns a (k + c)) (get_or-set_same ns a (n - k) 0 on)
     ∙ (ap (set ns a) (omega (arith, within)) ∙ set-get_or ns a 0)))
-
--- an index whose coordinate is another, and then the old one again
-set_back : (i : List ℕ) (a k : ℕ) → a < length i → k ≤ get_or i a 0 → upper_index a k (set i a (get_or i a 0 - k)) ≡ i
-set_back i a k on within =
-    let c = get_or i a 0 in
-    ap (λ d. set (set i a (c - k)) a (d + k)) (get_or-set_same i a (c - k) 0 on)
-    ∙ (set-set i a (c - k) (c - k + k)
-    ∙ (ap (set i a) (omega (arith, within)) ∙ set-get_or i a 0))
 
 module _ {A : Type 0} (m : Meaning A) (a k : ℕ) (on : a < length m.shape) (within : k ≤ get_or m.shape a 0) where
   either_part : (i : List ℕ) → in_box m.shape i ≡ true →
@@ -48,7 +40,7 @@ module _ {A : Type 0} (m : Meaning A) (a k : ℕ) (on : a < length m.shape) (wit
       (λ (high : k ≤ c).
       ap (λ b. cond b (inside (set m.shape a k) i (m.at i)) (inside (set m.shape a (n - k)) (set i a (c - k)) (m.at (upper_index a k (set i a (c - k)))))) (le-ltb c k high)
       ∙ (inside_box (set m.shape a (n - k)) (set i a (c - k)) (m.at (upper_index a k (set i a (c - k)))) (in_box-set m.shape i a (n - k) (c - k) h (omega (arith, below, high)))
-      ∙ ap m.at (set_back i a k wide high)))
+      ∙ ap m.at (upper_index-lowered i a k wide high)))
       (cases_lt c k)
 
   parts_alike : IsAlikeBeside (lower_shape m.shape a k) (upper_shape m.shape a k) a

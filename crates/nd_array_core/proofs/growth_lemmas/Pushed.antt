@@ -99,11 +99,6 @@ module _ {A : Type 0} (m n joined : Meaning A) (two : length m.shape ≡ 2) (not
       ∙ ((λ h. (pushed_alike 1 (record { shape = shape h; at = m.at }) (record { shape = long h; at = n.at })).at (i ∷ k ∷ []))
       ∙ column_at r k m.at n.at (outside r long) i)
 
--- what a refusal means, by what another means
-pub if_refused : {T E : Type 0} (r : Result T E) (P Q : E → Type 0) → ((e : E) → P e → Q e) → IfErr r P → IfErr r Q
-if_refused (Ok x) P Q f p = p
-if_refused (Err e) P Q f p = f e p
-
 pub for_part : {A : Type 0} (is_infallible : A → Type 0) (part whole : List ℕ → Option A) → (MayRefuseClone is_infallible part → MayRefuseClone is_infallible whole) → (e : ArrayError) → IsNotForMemory is_infallible part e → IsNotForMemory is_infallible whole e
 for_part is_infallible part whole f (Shape kind) p = p
 for_part is_infallible part whole f NoMemory p = f p

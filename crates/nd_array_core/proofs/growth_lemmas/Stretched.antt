@@ -2,7 +2,7 @@
 use Rattle.std.proofs.Common.{◌≡◌, ℕ, zero, suc, ◌+◌, ◌-◌, ◌*◌, ◌<◌, ◌≤◌, ◌^◌, Bool, true, false, cond, eqb, ltb, leb, ◌&&◌, ◌||◌, List, [], ◌∷◌, length, drop, get_or, set, refl, ap, sym, subst, ◌∙◌, arith, ⊎_elim}
 use Rattle.std.specs.Prelude.{nat_eq, nat_lt, nat_le, None}
 use Rattle.std.specs.List.{remove}
-use Rattle.std.proofs.lemmas.Bool.{and_parts, cases_eq, eq-eqb, eqb-true, lt-ltb, le-leb, true≢false}
+use Rattle.std.proofs.lemmas.Bool.{and_parts, cases_eq, eq-eqb, eqb-true, lt-ltb, le-leb, true≢false, or_right}
 use Rattle.std.proofs.lemmas.List.{drop_all, drop_more, length-set, set-set, set-get_or, get_or-set_same, get_or-set_other}
 use Rattle.nd_shape_and_slice.specs.Shape.{in_box, size_of, HasCheckedSize, nonzero_product}
 use Rattle.nd_shape_and_slice.specs.Broadcast.{axes_added, broadcasts, stretches}
@@ -30,11 +30,7 @@ pub fits_as_it_is : (m n : ℕ) → m ≡ n → (eqb m n || eqb m 1) ≡ true
 fits_as_it_is m n same = ap (λ b. b || eqb m 1) (eq-eqb m n same)
 
 pub fits_as_one : (m n : ℕ) → m ≡ 1 → (eqb m n || eqb m 1) ≡ true
-fits_as_one m n one = either (eqb m n) (eqb m 1) (eq-eqb m 1 one)
-  where
-    either : (b c : Bool) → c ≡ true → (b || c) ≡ true
-    either true c h = refl
-    either false c h = h
+fits_as_one m n one = or_right (eqb m n) (eqb m 1) (eq-eqb m 1 one)
 
 pub stretched_next : (ms to : List ℕ) (k : ℕ) (all : Bool) → k < length ms → length ms ≡ length to → (eqb (get_or ms k 0) (get_or to k 0) || eqb (get_or ms k 0) 1) ≡ true
     → stretches (drop k ms) (drop k to) ≡ all → stretches (drop (k + 1) ms) (drop (k + 1) to) ≡ all
@@ -55,10 +51,6 @@ not_stretched ms to k n below long is apart above h = by_test (eqb m t) refl (an
 
 pub stretched_all : (ms to : List ℕ) (k : ℕ) → length ms ≤ k → length ms ≡ length to → stretches (drop k ms) (drop k to) ≡ stretches ms to → stretches ms to ≡ true
 stretched_all ms to k all long so_far = sym so_far ∙ (λ i. stretches (drop_all k ms all i) (drop_all k to (omega (arith, all, long)) i))
-
-pub some_axes : (n : ℕ) → eqb n 0 ≡ false → 0 < n
-some_axes zero none = absurd (true≢false none)
-some_axes (suc n) none = omega arith
 
 -- a shape without elements stretches to none with any
 stretched_none : (ms to : List ℕ) → stretches ms to ≡ true → size_of ms ≡ 0 → size_of to ≡ 0

@@ -4,14 +4,9 @@ use Rattle.std.specs.Prelude.{Option, Some, None, ◌&&◌, nat_lt, slice_index,
 use Rattle.std.proofs.lemmas.Bool.{ltb-true, and_parts, and_from}
 use Rattle.std.proofs.lemmas.Bool.Decides.{nat_tests}
 use Rattle.nd_shape_and_slice.specs.Shape.{in_box}
+use Rattle.nd_shape_and_slice.proofs.Indexes.{in_two_axes}
 use Rattle.nd_elements.specs.Meaning.{Meaning, inside}
 use Rattle.nd_array_core.specs.Equality.{EqualEverywhere, SameCells}
-
-below : (k n : ℕ) → k < n → nat_lt k n ≡ true
-below k n h = grind (arith, nat_tests, h)
-
-pub cell_inside : (rows columns row column : ℕ) → row < rows → column < columns → in_box (rows ∷ columns ∷ []) (row ∷ column ∷ []) ≡ true
-cell_inside rows columns row column r c = and_from (nat_lt row rows) (nat_lt column columns && true) (below row rows r) (and_from (nat_lt column columns) true (below column columns c) refl)
 
 module _ {A : Type 0} (equal : A → A → Bool) (decides : (x y : A) → (equal x y ≡ true) ↔ (x ≡ y)) where
   same_element : (o p : Option A) → is_some o ≡ true → is_some p ≡ true → ((x y : A) → o ≡ Some x → p ≡ Some y → equal x y ≡ true) → o ≡ p
@@ -39,7 +34,7 @@ module _ {A : Type 0} (equal : A → A → Bool) (decides : (x y : A) → (equal
     cells_of_equal (same, each) = (
       same,
       λ row column r c.
-          let within : in_box ns (row ∷ column ∷ []) ≡ true = ap (λ ls. in_box ls (row ∷ column ∷ [])) two ∙ cell_inside rows columns row column (subst (λ ls. row < slice_index ls 0) two r) (subst (λ ls. column < slice_index ls 1) two c) in
+          let within : in_box ns (row ∷ column ∷ []) ≡ true = ap (λ ls. in_box ls (row ∷ column ∷ [])) two ∙ in_two_axes rows columns row column (subst (λ ls. row < slice_index ls 0) two r) (subst (λ ls. column < slice_index ls 1) two c) in
           let there : in_box ms (row ∷ column ∷ []) ≡ true = ap (λ ls. in_box ls (row ∷ column ∷ [])) (sym same) ∙ within in
           let here : inside ns (row ∷ column ∷ []) (at (row ∷ column ∷ [])) ≡ at (row ∷ column ∷ []) = rw within refl in
           let beside : inside ms (row ∷ column ∷ []) (to (row ∷ column ∷ [])) ≡ to (row ∷ column ∷ []) = rw there refl in

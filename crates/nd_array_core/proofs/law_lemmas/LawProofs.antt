@@ -16,9 +16,9 @@ use Rattle.nd_shape_and_slice.specs.declared.slice_info.SliceInfoElem.{SliceInfo
 use Rattle.nd_shape_and_slice.specs.declared.slice_info.SliceInfoElem.TheVariants.{Slice as Part, Index, NewAxis}
 use Rattle.nd_layout.proofs.Sliced.{stepped_from-within}
 use Rattle.std.specs.Option.{unwrap_or}
+use Rattle.std.proofs.Math.Nat.{zero-add}
 use Rattle.nd_shape_and_slice.proofs.RowMajor.{length-in_box}
 use Rattle.nd_shape_and_slice.proofs.Boxes.{coordinate_below}
-use Rattle.nd_layout.proofs.Distinct.{in_box-set}
 use Rattle.nd_layout.proofs.Permuted.{axis_below, length-permuted, length-unpermuted, permuted-unpermuted, unpermuted-permuted, in_box-unpermuted}
 use Rattle.nd_layout.proofs.Totals.{times, times_is}
 use Rattle.nd_layout.proofs.Removed.{in_box-inserted}
@@ -29,6 +29,8 @@ use Rattle.nd_array_core.specs.Meaning.{meaning_through}
 use Rattle.nd_shape_and_slice.specs.Broadcast.{broadcasts, broadcast_index}
 use Rattle.nd_shape_and_slice.specs.Slicing.{collapsed_after, collapsed_before}
 use Rattle.nd_shape_and_slice.specs.Squeeze.{isnt_one, all_one, stays, kept_of, spread_over, squeezed_shape, squeezed_index}
+use Rattle.nd_shape_and_slice.proofs.Indexes.{in_box-set}
+use Rattle.nd_shape_and_slice.proofs.Lists.{remove-inserted}
 use Rattle.nd_layout.proofs.steps.ExchangeStep.{once_in_range, in_own_order, reverse_is_step, swap_is_step}
 use Rattle.nd_layout.proofs.steps.SliceStep.{slice_within, high_within, step_moves}
 use Rattle.nd_layout.proofs.steps.SliceLoop.{coordinate_within}
@@ -49,10 +51,7 @@ module _ (axes : List ℕ) (n : ℕ) (each : HasEachAxis axes n) where
   own_length = length-range_with_len 0 n
 
   own_at : (k : ℕ) → k < n → get_or own k 0 ≡ k
-  own_at k h = get_or-range_with_len 0 n k 0 h ∙ plus k
-    where
-      plus : (k : ℕ) → 0 + k ≡ k
-      plus k = omega arith
+  own_at k h = get_or-range_with_len 0 n k 0 h ∙ zero-add k
 
   back_at : (xs : List ℕ) (a : ℕ) → a < n → get_or (unpermuted_list axes xs) a 0 ≡ get_or xs (position_of a) 0
   back_at xs a h = get_or-map-range_with_len (λ a. get_or xs (position_or_len (λ b. eqb b a) axes) 0) 0 (length axes) a a 0 (omega (arith, h, each.0)) (omega arith)
@@ -143,12 +142,6 @@ module _ (axes back : List ℕ) (n : ℕ) (each : HasEachAxis axes n) (each_back
       let j_long : length j ≡ n = length-unpermuted back i ∙ each_back.0 in
       let x_long : length x ≡ n = length-unpermuted axes j ∙ each.0 in
       sym (there_and_back x x_long) ∙ (ap (permuted_list back) (permuted-unpermuted axes j n each j_long) ∙ permuted-unpermuted back i n each_back e)
-
--- an axis put in and taken out
-pub remove-inserted : (xs : List ℕ) (a x : ℕ) → a ≤ length xs → remove (insert xs a x) a ≡ xs
-remove-inserted xs zero x h = refl
-remove-inserted [] (suc a) x h = absurd (omega arith)
-remove-inserted (y ∷ xs) (suc a) x h = ap (λ l. y ∷ l) (remove-inserted xs a x (omega arith))
 
 -- a path leads inside
 pub path_inside : (ns : List ℕ) (steps : List PathStep) (i : List ℕ) → StaysInside ns steps → in_box (path_shape ns steps) i ≡ true → in_box ns (path_source steps i) ≡ true

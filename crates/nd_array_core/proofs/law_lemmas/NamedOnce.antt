@@ -3,7 +3,7 @@ use Rattle.std.proofs.Common.{◌≡◌, ℕ, zero, suc, ◌+◌, ◌-◌, ◌*�
 use Rattle.std.specs.Prelude.{is_some, min}
 use Rattle.std.specs.Option.{unwrap_or}
 use Rattle.std.specs.List.{insert, remove, swap}
-use Rattle.std.proofs.Math.Nat.{div-eq_of_eq-mul_left}
+use Rattle.std.proofs.Math.Nat.{div-eq_of_eq-mul_left, eq_of_mul-eq-mul_right}
 use Rattle.std.proofs.lemmas.Nat.{div-add-mod'}
 use Rattle.std.proofs.lemmas.Bool.{and_parts, ltb-true, cases_eq}
 use Rattle.std.proofs.lemmas.List.{length-set, get_or-replicate, get_or-set_same, get_or-set_other, set-get_or, set-set, ext_get_or, reverse-reverse}
@@ -22,6 +22,7 @@ use Rattle.nd_shape_and_slice.specs.Slicing.{collapsed_after, collapsed_before}
 use Rattle.nd_shape_and_slice.specs.Squeeze.{stays, kept_of, spread_over}
 use Rattle.nd_shape_and_slice.proofs.RowMajor.{in_box-cons, length-in_box}
 use Rattle.nd_shape_and_slice.proofs.Boxes.{coordinate_below}
+use Rattle.nd_shape_and_slice.proofs.Lists.{remove-inserted, first_same, others_same, insert-removed}
 use Rattle.nd_layout.specs.Merging.{merged_shape, merged_index}
 use Rattle.nd_layout.specs.Ranks.{rank_in, index_in}
 use Rattle.nd_layout.proofs.Orders.{rank_in-below}
@@ -32,17 +33,11 @@ use Rattle.nd_layout.proofs.steps.SliceStep.{step_moves}
 use Rattle.nd_layout.proofs.steps.SqueezeStep.{length-stays}
 use Rattle.nd_array_core.specs.Laws.{PathStep, path_shape, path_source, StaysInside}
 use Rattle.nd_array_core.specs.NamedOnce.{NamesOnce, SlicesNameOnce, ListsNameOnce, CollapsedListsNameOnce, each_slice_fits, EachSlicesNameOnce, PermutationsNameOnce, ReversalsNameOnce, ExchangesNameOnce, InversionsNameOnce, CollapsesNameOnce, CoordinatesNameOnce, LowerPartsNameOnce, UpperPartsNameOnce, InsertionsNameOnce, SqueezesNameOnce, MergesNameOnce, DiagonalsNameOnce, ReshapesNameOnce, EachNamesOnce, PathsNameOnce}
-use Rattle.nd_array_core.proofs.law_lemmas.LawProofs.{coordinate_at, remove-inserted, path_inside}
+use Rattle.nd_array_core.proofs.law_lemmas.LawProofs.{coordinate_at, path_inside}
 use Rattle.nd_array_core.proofs.reshape_lemmas.Regrouped.{rank_of_index_in}
 use Rattle.nd_array_core.proofs.law_lemmas.Regrouping.{index_of_rank_in}
 
 -- ---- lists
-head_is : (x y : ℕ) (xs ys : List ℕ) → x ∷ xs ≡ y ∷ ys → x ≡ y
-head_is x y xs ys e = ap (λ l. get_or l 0 0) e
-
-tail_is : (x y : ℕ) (xs ys : List ℕ) → x ∷ xs ≡ y ∷ ys → xs ≡ ys
-tail_is x y xs ys e = ap (λ l. remove l 0) e
-
 both : (x y : ℕ) (xs ys : List ℕ) → x ≡ y → xs ≡ ys → x ∷ xs ≡ y ∷ ys
 both x y xs ys e f = λ k. e k ∷ f k
 
@@ -53,11 +48,6 @@ no_axes (x ∷ i) h = cc
 -- the coordinate of an axis of length 1
 only_one : (i j n : ℕ) → n ≤ 1 → i < n → j < n → i ≡ j
 only_one i j n one h k = omega (arith, one, h, k)
-
-insert-removed : (xs : List ℕ) (a : ℕ) → a < length xs → insert (remove xs a) a (get_or xs a 0) ≡ xs
-insert-removed [] a h = absurd (omega arith)
-insert-removed (x ∷ xs) zero h = refl
-insert-removed (x ∷ xs) (suc a) h = ap (λ l. x ∷ l) (insert-removed xs a (omega arith))
 
 -- ---- one coordinate changed: the others are as they were, so it is enough that this one can be told
 changed_once : (i j : List ℕ) (a x y : ℕ) → a < length i → a < length j → set i a x ≡ set j a y → (x ≡ y → get_or i a 0 ≡ get_or j a 0) → i ≡ j
@@ -71,15 +61,12 @@ changed_once i j a x y on_i on_j same back =
 on_axis : (ns i : List ℕ) (a m : ℕ) → a < length ns → in_box (set ns a m) i ≡ true → a < length i
 on_axis ns i a m on h = let long = length-set ns a m in omega (arith, on, long, length-in_box (set ns a m) i h)
 
-times_once : (i j b : ℕ) → 0 < b → i * b ≡ j * b → i ≡ j
-times_once i j b some e = sym (div-eq_of_eq-mul_left some refl) ∙ ap (λ m. m / b) e ∙ div-eq_of_eq-mul_left some refl
-
 stepped_once : (low high : ℕ) (step : ℤ) (i j : ℕ) → 0 < nat_abs step → i < quotient_up (high - low) (nat_abs step) → j < quotient_up (high - low) (nat_abs step) → stepped_from low high step i ≡ stepped_from low high step j → i ≡ j
-stepped_once low high (pos step) i j some h k e = times_once i j step some (omega (arith, e))
+stepped_once low high (pos step) i j some h k e = eq_of_mul-eq-mul_right step some i j (omega (arith, e))
 stepped_once low high (negsuc step) i j some h k e =
     let first = steps_below (high - low) (suc step) i some h in
     let second = steps_below (high - low) (suc step) j some k in
-    times_once i j (suc step) some (omega (arith, e, first, second))
+    eq_of_mul-eq-mul_right (suc step) some i j (omega (arith, e, first, second))
 
 sliced_coordinate : (n : ℕ) (s : Slice) (i j : ℕ) → fits_axis n s ≡ true → i < sliced_length n s → j < sliced_length n s → sliced_from n s i ≡ sliced_from n s j → i ≡ j
 sliced_coordinate n s i j fits h k e = stepped_once (low_of n s) (high_of n s) s.step i j (step_moves n s fits) h k e
@@ -104,13 +91,13 @@ lists_once (n ∷ ns) (Part start end step ∷ es) fits (x ∷ i) (y ∷ j) h k 
     let in_i = in_box-cons (sliced_length n s) (shape_after ns es) x i h in
     let in_j = in_box-cons (sliced_length n s) (shape_after ns es) y j k in
     both x y i j
-    (sliced_coordinate n s x y fit.0 in_i.0 in_j.0 (head_is (sliced_from n s x) (sliced_from n s y) (index_before ns es i) (index_before ns es j) same))
-    (lists_once ns es fit.1 i j in_i.1 in_j.1 (tail_is (sliced_from n s x) (sliced_from n s y) (index_before ns es i) (index_before ns es j) same))
+    (sliced_coordinate n s x y fit.0 in_i.0 in_j.0 (first_same (sliced_from n s x) (sliced_from n s y) (index_before ns es i) (index_before ns es j) same))
+    (lists_once ns es fit.1 i j in_i.1 in_j.1 (others_same (sliced_from n s x) (sliced_from n s y) (index_before ns es i) (index_before ns es j) same))
 lists_once [] (Index c ∷ es) fits i j h k same = absurd cc
 lists_once (n ∷ ns) (Index c ∷ es) fits i j h k same =
     let fit = and_parts (is_some (coordinate_on n c)) (each_fits ns es) fits in
     let x = unwrap_or (coordinate_on n c) 0 in
-    lists_once ns es fit.1 i j h k (tail_is x x (index_before ns es i) (index_before ns es j) same)
+    lists_once ns es fit.1 i j h k (others_same x x (index_before ns es i) (index_before ns es j) same)
 lists_once [] (NewAxis ∷ es) fits [] j h k same = absurd cc
 lists_once [] (NewAxis ∷ es) fits (x ∷ i) [] h k same = absurd cc
 lists_once [] (NewAxis ∷ es) fits (x ∷ i) (y ∷ j) h k same =
@@ -136,8 +123,8 @@ collapsed_lists_once (n ∷ ns) (Part start end step ∷ es) fits (x ∷ i) (y �
     let in_i = in_box-cons (sliced_length n s) (collapsed_after ns es) x i h in
     let in_j = in_box-cons (sliced_length n s) (collapsed_after ns es) y j k in
     both x y i j
-    (sliced_coordinate n s x y fit.0 in_i.0 in_j.0 (head_is (sliced_from n s x) (sliced_from n s y) (collapsed_before ns es i) (collapsed_before ns es j) same))
-    (collapsed_lists_once ns es fit.1 i j in_i.1 in_j.1 (tail_is (sliced_from n s x) (sliced_from n s y) (collapsed_before ns es i) (collapsed_before ns es j) same))
+    (sliced_coordinate n s x y fit.0 in_i.0 in_j.0 (first_same (sliced_from n s x) (sliced_from n s y) (collapsed_before ns es i) (collapsed_before ns es j) same))
+    (collapsed_lists_once ns es fit.1 i j in_i.1 in_j.1 (others_same (sliced_from n s x) (sliced_from n s y) (collapsed_before ns es i) (collapsed_before ns es j) same))
 collapsed_lists_once [] (Index c ∷ es) fits i j h k same = absurd cc
 collapsed_lists_once (n ∷ ns) (Index c ∷ es) fits [] j h k same = absurd cc
 collapsed_lists_once (n ∷ ns) (Index c ∷ es) fits (x ∷ i) [] h k same = absurd cc
@@ -146,7 +133,7 @@ collapsed_lists_once (n ∷ ns) (Index c ∷ es) fits (x ∷ i) (y ∷ j) h k sa
     let there = unwrap_or (coordinate_on n c) 0 in
     let in_i = in_box-cons 1 (collapsed_after ns es) x i h in
     let in_j = in_box-cons 1 (collapsed_after ns es) y j k in
-    both x y i j (only_one x y 1 (omega arith) in_i.0 in_j.0) (collapsed_lists_once ns es fit.1 i j in_i.1 in_j.1 (tail_is there there (collapsed_before ns es i) (collapsed_before ns es j) same))
+    both x y i j (only_one x y 1 (omega arith) in_i.0 in_j.0) (collapsed_lists_once ns es fit.1 i j in_i.1 in_j.1 (others_same there there (collapsed_before ns es i) (collapsed_before ns es j) same))
 collapsed_lists_once [] (NewAxis ∷ es) fits i j h k same = collapsed_lists_once [] es fits i j h k same
 collapsed_lists_once (n ∷ ns) (NewAxis ∷ es) fits i j h k same = collapsed_lists_once (n ∷ ns) es fits i j h k same
 
@@ -160,8 +147,8 @@ each_slices_once (n ∷ ns) (s ∷ ss) fits (x ∷ i) (y ∷ j) h k same =
     let in_i = in_box-cons (sliced_length n s) (each_sliced_shape ns ss) x i h in
     let in_j = in_box-cons (sliced_length n s) (each_sliced_shape ns ss) y j k in
     both x y i j
-    (sliced_coordinate n s x y fit.0 in_i.0 in_j.0 (head_is (sliced_from n s x) (sliced_from n s y) (each_sliced_index ns ss i) (each_sliced_index ns ss j) same))
-    (each_slices_once ns ss fit.1 i j in_i.1 in_j.1 (tail_is (sliced_from n s x) (sliced_from n s y) (each_sliced_index ns ss i) (each_sliced_index ns ss j) same))
+    (sliced_coordinate n s x y fit.0 in_i.0 in_j.0 (first_same (sliced_from n s x) (sliced_from n s y) (each_sliced_index ns ss i) (each_sliced_index ns ss j) same))
+    (each_slices_once ns ss fit.1 i j in_i.1 in_j.1 (others_same (sliced_from n s x) (sliced_from n s y) (each_sliced_index ns ss i) (each_sliced_index ns ss j) same))
 
 -- ---- axes in another order, and one turned round
 pub permutations_once : PermutationsNameOnce
@@ -222,7 +209,7 @@ insertions_once ns a on i j h k same =
     let below_i = coordinate_below (insert ns a 1) i a h (omega (arith, on, long)) in
     let below_j = coordinate_below (insert ns a 1) j a k (omega (arith, on, long)) in
     let at : get_or i a 0 ≡ get_or j a 0 = only_one (get_or i a 0) (get_or j a 0) (get_or (insert ns a 1) a 0) (omega (arith, one)) below_i below_j in
-    sym (insert-removed i a on_i) ∙ ap (λ l. insert l a (get_or i a 0)) same ∙ ap (insert (remove j a) a) at ∙ insert-removed j a on_j
+    sym (insert-removed i a 0 on_i) ∙ ap (λ l. insert l a (get_or i a 0)) same ∙ ap (insert (remove j a) a) at ∙ insert-removed j a 0 on_j
 
 -- ---- axes of length 1 taken out
 kept_once : (bs : List Bool) (ns i j : List ℕ) → length bs ≡ length ns → in_box (kept_of bs ns) i ≡ true → in_box (kept_of bs ns) j ≡ true → spread_over bs i ≡ spread_over bs j → i ≡ j
@@ -233,9 +220,9 @@ kept_once (true ∷ bs) (n ∷ ns) (x ∷ i) [] e h k same = absurd cc
 kept_once (true ∷ bs) (n ∷ ns) (x ∷ i) (y ∷ j) e h k same =
     let in_i = in_box-cons n (kept_of bs ns) x i h in
     let in_j = in_box-cons n (kept_of bs ns) y j k in
-    both x y i j (head_is x y (spread_over bs i) (spread_over bs j) same)
-    (kept_once bs ns i j (omega (arith, e)) in_i.1 in_j.1 (tail_is x y (spread_over bs i) (spread_over bs j) same))
-kept_once (false ∷ bs) (n ∷ ns) i j e h k same = kept_once bs ns i j (omega (arith, e)) h k (tail_is 0 0 (spread_over bs i) (spread_over bs j) same)
+    both x y i j (first_same x y (spread_over bs i) (spread_over bs j) same)
+    (kept_once bs ns i j (omega (arith, e)) in_i.1 in_j.1 (others_same x y (spread_over bs i) (spread_over bs j) same))
+kept_once (false ∷ bs) (n ∷ ns) i j e h k same = kept_once bs ns i j (omega (arith, e)) h k (others_same 0 0 (spread_over bs i) (spread_over bs j) same)
 
 pub squeezes_once : SqueezesNameOnce
 squeezes_once ns i j h k same = kept_once (stays ns) ns i j (length-stays ns) h k same

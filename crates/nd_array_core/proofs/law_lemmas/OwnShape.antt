@@ -6,15 +6,9 @@ use Rattle.std.proofs.lemmas.Bool.{and_parts}
 use Rattle.std.proofs.lemmas.Bool.Decides.{nat_tests}
 use Rattle.nd_shape_and_slice.specs.Shape.{in_box, HasCheckedSize, nonzero_product}
 use Rattle.nd_shape_and_slice.specs.Broadcast.{broadcasts, stretches, stretched_index, axes_added}
+use Rattle.nd_shape_and_slice.proofs.Indexes.{stretched_index-itself, stretches_itself}
 use Rattle.nd_elements.specs.Meaning.{Meaning}
 use Rattle.nd_array_core.specs.elements.Pairs.{broadcast_at}
-
-same_number : (n : ℕ) → nat_eq n n ≡ true
-same_number n = (unsigned_Decides n n).1 refl
-
-stretches_itself : (ns : List ℕ) → stretches ns ns ≡ true
-stretches_itself [] = refl
-stretches_itself (n ∷ ns) = rw (same_number n) (stretches_itself ns)
 
 none_added : (ns : List ℕ) → axes_added ns ns ≡ 0
 none_added ns = omega arith
@@ -25,15 +19,9 @@ broadcasts_itself ns to checked same =
     let few : nat_le (length ns) (length ns) ≡ true = grind (arith, nat_tests) in
     ap (broadcasts ns) same ∙ rw (small, few, none_added ns) (stretches_itself ns)
 
-stretched_itself : (ns i : List ℕ) → in_box ns i ≡ true → stretched_index ns ns i ≡ i
-stretched_itself [] [] h = refl
-stretched_itself [] (x ∷ i) h = absurd cc
-stretched_itself (n ∷ ns) [] h = absurd cc
-stretched_itself (n ∷ ns) (x ∷ i) h = rw (same_number n) (ap (λ js. x ∷ js) (stretched_itself ns i (and_parts (nat_lt x n) (in_box ns i) h).1))
-
 pub itself_at : {A : Type 0} (m : Meaning A) (to : List ℕ) → ((i : List ℕ) → in_box m.shape i ≡ false → m.at i ≡ None) → to ≡ m.shape → (i : List ℕ) → broadcast_at to m i ≡ m.at i
 itself_at m to nothing same i = ap (λ ns. broadcast_at ns m i) same ∙ by_box (in_box m.shape i) refl
   where
     by_box : (b : Bool) → in_box m.shape i ≡ b → broadcast_at m.shape m i ≡ m.at i
-    by_box true h = rw (h, none_added m.shape) (ap m.at (stretched_itself m.shape i h))
+    by_box true h = rw (h, none_added m.shape) (ap m.at (stretched_index-itself m.shape i h))
     by_box false h = rw h (sym (nothing i h))

@@ -8,6 +8,7 @@ use Rattle.nd_layout.specs.Places.{is_place, ReachesPlaces}
 use Rattle.nd_elements.specs.Meaning.{inside}
 use Rattle.nd_array_core.specs.PlacedArray.{found_at}
 use Rattle.nd_elements.proofs.WriteStep.{one_index}
+use Rattle.nd_elements.proofs.InHalves.{number_is}
 
 module _ (offset : ℕ) (ns : List ℕ) (ss : List ℤ) where
   -- the place of an index
@@ -35,10 +36,6 @@ module _ (offset : ℕ) (ns : List ℕ) (ss : List ℤ) where
       by_test : (b : Bool) → in_box ns i ≡ b → inside ns i (stored_at stored (place_of offset ss i)) ≡ found_at stored (place i)
       by_test true h = rw h (stored_there stored (place_of offset ss i))
       by_test false h = rw h refl
-
-  number_is : (z : ℤ) (p : ℕ) → place_number z ≡ Some p → z ≡ pos p
-  number_is (pos q) p e = cc
-  number_is (negsuc q) p e = absurd cc
 
   -- an index that has a place lies in the box, and its place is that of the layout
   placed : (b : Bool) (i : List ℕ) (p : ℕ) → in_box ns i ≡ b → (if b then place_number (place_of offset ss i) else None) ≡ Some p → (in_box ns i ≡ true) × (place_of offset ss i ≡ pos p)

@@ -1,7 +1,7 @@
 -- The laws of reshapes: a reshape back, neighbouring axes as one, and elements that lie in the order asked for.
 use Rattle.std.proofs.Common.{◌≡◌, ℕ, zero, suc, max, ◌+◌, ◌*◌, ◌/◌, ◌%◌, ◌^◌, ◌<◌, ◌≤◌, true, List, [], ◌∷◌, refl, ap, sym, subst, ◌∙◌, arith}
 use Rattle.std.specs.Prelude.{nat_lt, Option}
-use Rattle.std.proofs.lemmas.Bool.{and_from}
+use Rattle.std.proofs.lemmas.Bool.{and_from, lt-ltb}
 use Rattle.std.proofs.lemmas.Bool.Decides.{nat_tests}
 use Rattle.std.proofs.Math.Nat.{mul_assoc, zero-add, mod-eq_of_lt, div-eq_of_lt, add-mul-div_left, add-mul-mod_self_left, mul-le-mul_right}
 use Rattle.nd_shape_and_slice.specs.declared.builder.Order.{Order}
@@ -12,6 +12,7 @@ use Rattle.nd_shape_and_slice.proofs.RankIndexes.{index_at-row_rank}
 use Rattle.nd_layout.specs.Ranks.{rank_in, index_in, column_index}
 use Rattle.nd_layout.proofs.Orders.{rank_in-below}
 use Rattle.nd_layout.proofs.Permuted.{nonzero-cons}
+use Rattle.nd_layout.proofs.LaneIndexes.{column_index-column_rank}
 use Rattle.nd_elements.specs.Meaning.{inside}
 use Rattle.nd_array_core.specs.reshape.Regrouped.{regrouped_index, IsShapeOf}
 use Rattle.nd_array_core.specs.reshape.Regrouping.{RegroupedBack}
@@ -20,19 +21,6 @@ use Rattle.nd_array_core.proofs.law_lemmas.LawProofs.{seen_back}
 use Rattle.nd_array_core.proofs.reshape_lemmas.Regrouped.{index_in_within, rank_of_index_in}
 
 -- ---- an index of the box is that of its rank
-column_index-column_rank : (ns i : List ℕ) → in_box ns i ≡ true → column_index ns (column_rank ns i) ≡ i
-column_index-column_rank [] [] h = refl
-column_index-column_rank [] (x ∷ i) h = cc
-column_index-column_rank (n ∷ ns) [] h = cc
-column_index-column_rank (n ∷ ns) (x ∷ i) h =
-    let parts = in_box-cons n ns x i h in
-    let below = parts.0 in
-    let some : 0 < n = omega (arith, below) in
-    let m : (x + n * column_rank ns i) % n ≡ x = add-mul-mod_self_left x n (column_rank ns i) ∙ mod-eq_of_lt below in
-    let d : (x + n * column_rank ns i) / n ≡ column_rank ns i =
-    add-mul-div_left x (column_rank ns i) some ∙ ap (λ v. v + column_rank ns i) (div-eq_of_lt below) ∙ zero-add (column_rank ns i) in
-    (λ k. m k ∷ (ap (column_index ns) d ∙ column_index-column_rank ns i parts.1) k)
-
 pub index_of_rank_in : (order : Order) (ns i : List ℕ) → in_box ns i ≡ true → index_in order ns (rank_in order ns i) ≡ i
 index_of_rank_in RowMajor ns i h = index_at-row_rank ns i h
 index_of_rank_in ColumnMajor ns i h = column_index-column_rank ns i h
@@ -80,11 +68,8 @@ module _ (n m : ℕ) (ns : List ℕ) where
   joined_within i j is low below h =
       let more : suc i * m ≤ n * m = mul-le-mul_right {m = suc i} {n = n} m low in
       let sum : suc i * m ≡ i * m + m = grind arith in
-      let first = lt (i * m + j) (n * m) (omega (arith, more, sum, below)) in
+      let first = lt-ltb (i * m + j) (n * m) (omega (arith, more, sum, below)) in
       and_from (nat_lt (i * m + j) (n * m)) (in_box ns is) first h
-    where
-      lt : (a b : ℕ) → a < b → nat_lt a b ≡ true
-      lt a b e = grind (arith, nat_tests, e)
 
   joined_index : (i j : ℕ) (is : List ℕ) → in_box (n ∷ m ∷ ns) (i ∷ j ∷ is) ≡ true → regrouped_index RowMajor (n ∷ m ∷ ns) (n * m ∷ ns) ((i * m + j) ∷ is) ≡ (i ∷ j ∷ is)
   joined_index i j is there = ap (index_at (n ∷ m ∷ ns)) (same i j m (size_of ns) (row_rank ns is)) ∙ index_at-row_rank (n ∷ m ∷ ns) (i ∷ j ∷ is) there

@@ -7,6 +7,7 @@ use Rattle.std.proofs.lemmas.List.{get_or-set_same, set-get_or, set-set}
 use Rattle.nd_shape_and_slice.specs.Shape.{in_box}
 use Rattle.nd_shape_and_slice.specs.Slice.{bound_on, quotient_up, sliced_from, sliced_index, sliced_length, sliced_shape}
 use Rattle.nd_shape_and_slice.proofs.Boxes.{coordinate_below}
+use Rattle.nd_shape_and_slice.proofs.Indexes.{bound_within}
 use Rattle.nd_layout.proofs.Continued.{in_box-longer}
 use Rattle.nd_array_core.specs.Joined.{broadcast_behind, concatenated}
 use Rattle.nd_array_core.specs.Laws.{NothingOutside}
@@ -14,9 +15,6 @@ use Rattle.nd_elements.specs.Meaning.{Meaning, inside}
 use Rattle.nd_array_core.specs.Meaning.{meaning_through}
 use Rattle.nd_array_core.specs.growth.SlicedBack.{slice_of_first, AppendedAndSliced}
 use Rattle.nd_array_core.proofs.law_lemmas.LawProofs.{same_meaning, inside_box}
-
-bound_within : (n k : ℕ) → k ≤ n → bound_on n (pos k) ≡ Some k
-bound_within n k h = rw (le-leb k n h) refl
 
 first_count : (n k : ℕ) → k ≤ n → sliced_length n (slice_of_first k) ≡ k
 first_count n k h =

@@ -3,6 +3,7 @@ use Rattle.std.proofs.Common.{◌≡◌, ℕ, ◌+◌, ◌-◌, ◌<◌, ◌≤�
 use Rattle.std.specs.Prelude.{Option, None, Some, not, slice_index, if◌then◌else◌}
 use Rattle.std.specs.Option.{is_some}
 use Rattle.std.proofs.lemmas.List.{get_or-set_same, length-set}
+use Rattle.std.proofs.lemmas.Bool.{not_from_false, false_from_ne_true}
 use Rattle.nd_shape_and_slice.specs.Shape.{in_box, size_of}
 use Rattle.nd_shape_and_slice.specs.Place.{place_of, IsSeparated}
 use Rattle.nd_shape_and_slice.proofs.RowMajor.{length-in_box}
@@ -17,17 +18,8 @@ use Rattle.nd_array_core.specs.layout.Parts.{HoldsEachOnce, IsViewUnder}
 use Rattle.nd_array_core.proofs.layout_lemmas.StepLemmas.{step_holds, step_element}
 use Rattle.nd_layout.proofs.steps.StepLemmas.{step_some}
 use Rattle.nd_elements.proofs.WriteStep.{one_index}
-
-not_named : (b : Bool) → (b ≡ true → ⊥) → not b ≡ true
-not_named true never = absurd (never refl)
-not_named false never = refl
-
-shown : {A : Type 0} (ns i : List ℕ) (x y : Option A) → (in_box ns i ≡ true → x ≡ y) → inside ns i x ≡ inside ns i y
-shown {A} ns i x y same = at (in_box ns i) refl
-  where
-    at : (b : Bool) → in_box ns i ≡ b → inside ns i x ≡ inside ns i y
-    at true h = rw h (same h)
-    at false h = rw h refl
+use Rattle.nd_elements.proofs.LentLanes.{seen_inside}
+use Rattle.nd_elements.proofs.InHalves.{number_is}
 
 module _ {A : Type 0} (stored new : ℕ → Option A) (offset : ℕ) (ns : List ℕ) (ss : List ℤ) where
   abbrev pub Taken : Type 0
@@ -46,7 +38,7 @@ module _ {A : Type 0} (stored new : ℕ → Option A) (offset : ℕ) (ns : List 
 
   -- with the elements that were there
   pub taken_element : Taken → (i : List ℕ) → inside ns i (stored_at new (place_of offset ss i)) ≡ inside ns i (stored_at stored (place_of offset ss i))
-  taken_element is i = shown ns i (stored_at new (place_of offset ss i)) (stored_at stored (place_of offset ss i)) (λ h. taken_there (place_of offset ss i) i is h refl)
+  taken_element is i = seen_inside ns i (stored_at new (place_of offset ss i)) (stored_at stored (place_of offset ss i)) (λ h. taken_there (place_of offset ss i) i is h refl)
 
   -- and no other place
   pub taken_places : Taken → HoldsAll stored offset ns ss → (p : ℕ) → is_some (new p) ≡ names offset ns ss p
@@ -58,7 +50,7 @@ module _ {A : Type 0} (stored new : ℕ → Option A) (offset : ℕ) (ns : List 
 
   module _ (offset' : ℕ) (ns' : List ℕ) (ss' : List ℤ) (apart : LayoutsShareNoPlace offset ns ss offset' ns' ss') where
     left_there : (z : ℤ) (j : List ℕ) → Left → in_box ns' j ≡ true → place_of offset' ss' j ≡ z → stored_at new z ≡ stored_at stored z
-    left_there (pos p) j is h e = is p ∙ ap (λ (b : Bool). if b then stored p else None) (not_named (names offset ns ss p) (λ n. let at = named_by offset ns ss p n in apart at.0 j at.1 h (at.2 ∙ sym e)))
+    left_there (pos p) j is h e = is p ∙ ap (λ (b : Bool). if b then stored p else None) (not_from_false (names offset ns ss p) (false_from_ne_true (names offset ns ss p) (λ n. let at = named_by offset ns ss p n in apart at.0 j at.1 h (at.2 ∙ sym e))))
     left_there (negsuc n) j is h e = refl
 
     -- what is left has the places of each layout that shares none with the first
@@ -66,17 +58,13 @@ module _ {A : Type 0} (stored new : ℕ → Option A) (offset : ℕ) (ns : List 
     left_holds is holds j h = ap is_some (left_there (place_of offset' ss' j) j is h refl) ∙ holds j h
 
     pub left_element : Left → (j : List ℕ) → inside ns' j (stored_at new (place_of offset' ss' j)) ≡ inside ns' j (stored_at stored (place_of offset' ss' j))
-    left_element is j = shown ns' j (stored_at new (place_of offset' ss' j)) (stored_at stored (place_of offset' ss' j)) (λ h. left_there (place_of offset' ss' j) j is h refl)
+    left_element is j = seen_inside ns' j (stored_at new (place_of offset' ss' j)) (stored_at stored (place_of offset' ss' j)) (λ h. left_there (place_of offset' ss' j) j is h refl)
 
 -- two layouts of one array whose maps name no index in common share no place
 pub steps_apart : (offset : ℕ) (ns : List ℕ) (ss : List ℤ) {offset' : ℕ} {ns' : List ℕ} {ss' : List ℤ} {offset'' : ℕ} {ns'' : List ℕ} {ss'' : List ℤ} {source source' : List ℕ → List ℕ} → length ss ≡ length ns → (0 < size_of ns → IsSeparated ns ss)
     → IsStep offset ns ss offset' ns' ss' source → IsStep offset ns ss offset'' ns'' ss'' source' → ((i j : List ℕ) → in_box ns' i ≡ true → in_box ns'' j ≡ true → source i ≡ source' j → ⊥) → LayoutsShareNoPlace offset' ns' ss' offset'' ns'' ss''
 steps_apart offset ns ss {source = source} {source' = source'} as_many separated step step' differ i j h k e =
     differ i j h k (one_index ns ss offset (source i) (source' j) as_many separated (step.within i h) (step'.within j k) (sym (step.same i h) ∙ e ∙ step'.same j k))
-
-number_is : (z : ℤ) (p : ℕ) → place_number z ≡ Some p → z ≡ pos p
-number_is (pos q) p e = cc
-number_is (negsuc q) p e = cc
 
 -- the place of an index is that of the layout
 pub has_place : (ns i : List ℕ) (z : ℤ) (p : ℕ) → inside ns i (place_number z) ≡ Some p → (in_box ns i ≡ true) × (z ≡ pos p)
@@ -138,7 +126,7 @@ seen_step stored {offset = offset} {ns = ns} {ss = ss} {source = source} step se
 pub seen_place : {A : Type 0} (stored : ℕ → Option A) {offset : ℕ} {ns : List ℕ} {ss : List ℤ} {offset' : ℕ} {ns' : List ℕ} {ss' : List ℤ} {source : List ℕ → List ℕ} {shape : List ℕ} {strides : List ℤ} {at : List ℕ → Option A} {place : List ℕ → Option ℕ}
     → IsStep offset ns ss offset' ns' ss' source → IsViewUnder stored offset' ns' ss' shape strides at place → (i : List ℕ) → place i ≡ inside shape i (inside ns (source i) (place_number (place_of offset ss (source i))))
 seen_place stored {offset = offset} {ns = ns} {ss = ss} {offset' = offset'} {ns' = ns'} {ss' = ss'} {source = source} step seen i =
-    seen.places i ∙ shown ns' i (place_number (place_of offset' ss' i)) (inside ns (source i) (place_number (place_of offset ss (source i)))) (λ h. rw (step.within i h) (ap place_number (step.same i h)))
+    seen.places i ∙ seen_inside ns' i (place_number (place_of offset' ss' i)) (inside ns (source i) (place_number (place_of offset ss (source i)))) (λ h. rw (step.within i h) (ap place_number (step.same i h)))
     ∙ (λ k. inside (sym seen.shape_is k) i (inside ns (source i) (place_number (place_of offset ss (source i)))))
 
 -- so what is seen under it is a part of the array

@@ -3,12 +3,13 @@ use Rattle.std.proofs.Common.{◌≡◌, ◌⊎◌, inl, inr, ℕ, ◌*◌, ◌<
 use Rattle.std.proofs.lemmas.Bool.{cases_lt}
 use Rattle.std.specs.List.{flat_map}
 use Rattle.std.specs.Prelude.{IsSome, slice_get}
+use Rattle.std.proofs.Math.Seq.{take-length}
 use Rattle.nd_shape_and_slice.specs.Shape.{HasCheckedSize, nonzero_product}
+use Rattle.nd_shape_and_slice.proofs.Lists.{there_is_some}
 use Rattle.nd_region.specs.declared.region.Region.{Region}
 use Rattle.nd_region.specs.Region.{region_stored, IsWhole}
 use Rattle.nd_array_core.specs.base.SliceLent.{row_count}
 use Rattle.nd_elements.proofs.tasks.PartStep.{whole_holds}
-use Rattle.nd_array_core.proofs.tasks.SliceTask.{slice_has}
 
 abbrev shape : List ℕ → ℕ → List ℕ
 shape ns n = n ∷ ns
@@ -30,17 +31,13 @@ rows_counted ns ms os k count all none shown empty = first (checked_or_not ns)
     first (inl checked) = all checked ∙ sym (ap row_count (shown checked))
     first (inr not) = none not ∙ sym (ap row_count (empty not))
 
-take_all : {X : Type 0} (xs : List X) → take (length xs) xs ≡ xs
-take_all [] = refl
-take_all (x ∷ xs) = ap (λ ys. x ∷ ys) (take_all xs)
-
 module _ {A : Type 0} (rows : List (List A)) (count : ℕ) (n : ℕ) (r : Region A) (whole : IsWhole r (flat_map (λ row. row) (take count rows))) where
   -- where all rows are lent, the region holds all their elements
   pub rows_held : count ≡ length rows → (p : ℕ) → region_stored r p ≡ slice_get (flat_map (λ row. row) rows) p
   rows_held all p = whole_holds r (flat_map (λ row. row) (take count rows)) whole p
-      ∙ ap (λ (k : ℕ). slice_get (flat_map (λ row. row) (take k rows)) p) all ∙ ap (λ ys. slice_get (flat_map (λ row. row) ys) p) (take_all rows)
+      ∙ ap (λ (k : ℕ). slice_get (flat_map (λ row. row) (take k rows)) p) all ∙ ap (λ ys. slice_get (flat_map (λ row. row) ys) p) (take-length rows)
 
   pub rows_have : length (flat_map (λ row. row) (take count rows)) ≡ length (take count rows) * n → count ≡ length rows → (p : ℕ) → p < length rows * n → IsSome (region_stored r p)
   rows_have long all p below =
-      let whole_long : length (flat_map (λ row. row) (take count rows)) ≡ length rows * n = long ∙ ap (λ (k : ℕ). length (take k rows) * n) all ∙ ap (λ ys. length ys * n) (take_all rows) in
-      subst IsSome (sym (whole_holds r (flat_map (λ row. row) (take count rows)) whole p)) (slice_has (flat_map (λ row. row) (take count rows)) p (subst (λ (k : ℕ). p < k) (sym whole_long) below))
+      let whole_long : length (flat_map (λ row. row) (take count rows)) ≡ length rows * n = long ∙ ap (λ (k : ℕ). length (take k rows) * n) all ∙ ap (λ ys. length ys * n) (take-length rows) in
+      subst IsSome (sym (whole_holds r (flat_map (λ row. row) (take count rows)) whole p)) (there_is_some (flat_map (λ row. row) (take count rows)) p (subst (λ (k : ℕ). p < k) (sym whole_long) below))

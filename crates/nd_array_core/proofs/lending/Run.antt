@@ -1,6 +1,7 @@
 -- What an array shows once its elements were lent as one slice.
 use Rattle.std.proofs.Common.{◌≡◌, ℕ, ◌+◌, ◌-◌, ◌<◌, Bool, true, false, List, length, get_or, ℤ, pos, refl, ap, sym, ◌∙◌, subst, arith}
 use Rattle.std.specs.Prelude.{Option, Some, slice_get}
+use Rattle.std.proofs.lemmas.Option.{slice_get-get_or}
 use Rattle.nd_shape_and_slice.specs.Shape.{in_box, size_of, row_rank, index_at}
 use Rattle.nd_shape_and_slice.specs.Place.{place_of}
 use Rattle.nd_shape_and_slice.specs.declared.dimension.Dimension as dimension
@@ -25,11 +26,10 @@ use Rattle.nd_array_core.specs.reshape.RunSlices.{LiesAlong, IsStandardArray, Is
 use Rattle.nd_array_core.specs.reshape.LentSlices.{array_with_run, array_with_rows, array_with_places, IsRewrittenByRank, IsRewrittenInMemoryOrder}
 use Rattle.nd_array_core.proofs.reshape_lemmas.MemoryOrder.{run_has, run_lies}
 use Rattle.nd_array_core.proofs.reshape_lemmas.RunElements.{standard_has}
-use Rattle.nd_elements.proofs.RunPairs.{got_or}
 
 -- a slice of a run, read item by item
 pub run_read : {A : Type 0} (stored : ℕ → Option A) (first count : ℕ) (xs : List A) → length xs ≡ count → ((k : ℕ) → k < count → stored (first + k) ≡ slice_get xs k) → (k : ℕ) (d : A) → k < count → stored (first + k) ≡ Some (get_or xs k d)
-run_read stored first count xs long is k d below = is k below ∙ got_or xs k d (subst (λ n. k < n) (sym long) below)
+run_read stored first count xs long is k d below = is k below ∙ slice_get-get_or xs k d (subst (λ n. k < n) (sym long) below)
 
 module _ {A : Type 0} (old new : ℕ → Option A) (offset : ℕ) (ns : List ℕ) (ss : List ℤ) (ws : List A) where
   abbrev place : List ℕ → Option ℕ

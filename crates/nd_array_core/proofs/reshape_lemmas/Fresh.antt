@@ -2,12 +2,8 @@
 use Rattle.std.proofs.Common.{ℕ, zero, suc, ◌<◌, ◌^◌, [], ◌∷◌, arith, vec_len}
 use Rattle.std.specs.declared.vec.Vec.{Vec}
 use Rattle.nd_shape_and_slice.specs.Shape.{HasCheckedSize}
-
--- one axis of that length has a checked size
-pub line_is_checked : (n : ℕ) → n < 2 ^ 63 → HasCheckedSize (n ∷ [])
-line_is_checked zero below = omega arith
-line_is_checked (suc n) below = omega (arith, below)
+use Rattle.nd_elements.proofs.LentLanes.{lane_checked}
 
 -- no vector has more items than an axis may have
 pub vec_is_line : {A Z : Type 0} (v : Vec A Z) → HasCheckedSize (vec_len v ∷ [])
-vec_is_line v = let long = v.ok.1 in let small = v.small in line_is_checked (vec_len v) (omega (arith, long, small))
+vec_is_line v = let long = v.ok.1 in let small = v.small in lane_checked (vec_len v) (omega (arith, long, small))

@@ -4,10 +4,11 @@ use Rattle.std.proofs.Math.Path.{fun_ext}
 use Rattle.std.specs.Prelude.{◌⊎◌, Option, Some, None, is_some, IsSome, slice_get, if◌then◌else◌}
 use Rattle.std.specs.Option.{unwrap_or}
 use Rattle.std.proofs.Common.{inl, inr}
-use Rattle.std.proofs.lemmas.Option.{slice_get_cases}
+use Rattle.std.proofs.lemmas.Option.{slice_get_cases, slice_get_within}
 use Rattle.nd_shape_and_slice.specs.Shape.{in_box, size_of}
 use Rattle.nd_shape_and_slice.specs.Place.{displacement_of, place_of, span_of, IsSeparated}
 use Rattle.nd_shape_and_slice.proofs.RowMajor.{row_rank_below}
+use Rattle.nd_shape_and_slice.proofs.Lists.{there_is_some}
 use Rattle.nd_layout.specs.Ranks.{IsRun}
 use Rattle.nd_layout.specs.Strides.{reach_down}
 use Rattle.nd_layout.proofs.Distinct.{same_index}
@@ -21,20 +22,13 @@ use Rattle.nd_elements.specs.Meaning.{inside}
 use Rattle.nd_elements.specs.Clones.{ClonesAreEqual, ClonesOfAllAreEqual, StoredClonesAreEqual}
 use Rattle.nd_array_core.proofs.base_lemmas.GivenHolds.{given_holds}
 use Rattle.nd_elements.specs.Places.{place_number, stored_at, names_place, HoldsAll}
+use Rattle.nd_elements.proofs.Mapped.{got_item}
 use Rattle.nd_array_core.specs.reshape.RunSlices.{LiesAlong}
 
 -- a number that names a place is none below 0
 is_number : {A : Type 0} (stored : ℕ → Option A) (z : ℤ) → names_place stored z ≡ true → (p : ℕ) × (z ≡ pos p)
 is_number stored (pos p) has = (p, refl)
 is_number stored (negsuc p) has = absurd cc
-
--- what a list holds, where a map holds it
-held_by_list : {A : Type 0} (xs : List A) (k : ℕ) (o : Option A) → k < length xs → ((d : A) → o ≡ Some (get_or xs k d)) → o ≡ slice_get xs k
-held_by_list {A} xs k o below each = by_cases (slice_get_cases xs k).1
-  where
-    by_cases : ((x : A) × (k < length xs) × (slice_get xs k ≡ Some x) × (get_or xs k x ≡ x)) ⊎ ((length xs ≤ k) × (slice_get xs k ≡ None)) → o ≡ slice_get xs k
-    by_cases (inl there) = each there.0 ∙ ap Some there.3 ∙ sym there.2
-    by_cases (inr past) = absurd (let far = past.0 in omega (arith, far, below))
 
 -- asked twice, it is the same
 inside_twice : {A : Type 0} (ns i : List ℕ) (o : Option A) → inside ns i (inside ns i o) ≡ inside ns i o
@@ -43,13 +37,6 @@ inside_twice ns i o = by_test (in_box ns i)
     by_test : (t : Bool) → (if t then (if t then o else None) else None) ≡ (if t then o else None)
     by_test true = refl
     by_test false = refl
-
-is_there : {A : Type 0} (xs : List A) (p : ℕ) → p < length xs → IsSome (slice_get xs p)
-is_there {A} xs p below = by_cases (slice_get_cases xs p).1
-  where
-    by_cases : ((x : A) × (p < length xs) × (slice_get xs p ≡ Some x) × (get_or xs p x ≡ x)) ⊎ ((length xs ≤ p) × (slice_get xs p ≡ None)) → IsSome (slice_get xs p)
-    by_cases (inl there) = let some = there.2 in rw some refl
-    by_cases (inr past) = absurd (let far = past.0 in omega (arith, far, below))
 
 module _ {A : Type 0} (stored : ℕ → Option A) (offset : ℕ) (ns : List ℕ) (ss : List ℤ) (long : length ss ≡ length ns) (holds : HoldsAll stored offset ns ss) where
   abbrev low : ℕ
@@ -79,7 +66,7 @@ module _ {A : Type 0} (stored : ℕ → Option A) (offset : ℕ) (ns : List ℕ)
 
     module _ (xs : List A) (count : length xs ≡ size_of ns) (held : (k : ℕ) (d : A) → k < size_of ns → stored (low + k) ≡ Some (get_or xs k d)) where
       shown : (i : List ℕ) (k : ℕ) → in_box ns i ≡ true → k < size_of ns → place_of offset ss i ≡ pos (low + k) → at i ≡ slice_get xs k
-      shown i k h below e = rw (h, e) (held_by_list xs k (stored (low + k)) (omega (arith, count, below)) (λ d. held k d below))
+      shown i k h below e = rw (h, e) (sym (got_item xs k (stored (low + k)) (omega (arith, count, below)) (λ d. held k d below)))
 
       number : (i : List ℕ) (k : ℕ) → in_box ns i ≡ true → place_of offset ss i ≡ pos (low + k) → place i ≡ Some (low + k)
       number i k h e = rw (h, e) refl
@@ -184,16 +171,12 @@ module _ (ns : List ℕ) (ss : List ℤ) (long : length ss ≡ length ns) (which
       (λ (none : size_of ns ≡ 0). absurd (omega (arith, none, some)))
       (λ (run : IsRun ns ss). asked_of_some ns ss some ∙ run_span ns ss long some run)
       which in
-      given_holds (slice_get xs) ns ss (λ p below. is_there xs p (omega (arith, below, asked, count))) i h
+      given_holds (slice_get xs) ns ss (λ p below. there_is_some xs p (omega (arith, below, asked, count))) i h
 
 -- clones of what lies along a list are clones of its items
 pub lies_clones : {A : Type 0} {shape : List ℕ} {first : ℕ} {place : List ℕ → Option ℕ} {at : List ℕ → Option A} (is_clone : A → A → Type 0) (xs : List A) → LiesAlong shape first place at xs → ClonesOfAllAreEqual is_clone at → StoredClonesAreEqual is_clone xs
-lies_clones {A} {shape} {first} {place} {at} is_clone xs lies equal p x e = by_cases (slice_get_cases xs p).1
-  where
-    by_cases : ((y : A) × (p < length xs) × (slice_get xs p ≡ Some y) × (get_or xs p y ≡ y)) ⊎ ((length xs ≤ p) × (slice_get xs p ≡ None)) → ClonesAreEqual is_clone x
-    by_cases (inl there) =
-        let below = there.1 in
-        let count = lies.count in
-        let i = lies.each p (omega (arith, below, count)) in
-        equal i.0 x (i.3 ∙ e)
-    by_cases (inr past) = let none = past.1 in absurd cc
+lies_clones {A} {shape} {first} {place} {at} is_clone xs lies equal p x e =
+    let below = slice_get_within xs p x e in
+    let count = lies.count in
+    let i = lies.each p (omega (arith, below, count)) in
+    equal i.0 x (i.3 ∙ e)

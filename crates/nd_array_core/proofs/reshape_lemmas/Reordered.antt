@@ -3,8 +3,8 @@ use Rattle.std.proofs.Common.{◌≡◌, ℕ, zero, suc, ◌+◌, ◌-◌, ◌<�
 use Rattle.std.specs.Prelude.{IsPermutation, ◌⊎◌, Option, None, Some, slice_get}
 use Rattle.std.specs.Option.{unwrap_or}
 use Rattle.std.specs.List.{remove, filter_map, cons_option}
-use Rattle.std.proofs.lemmas.Bool.{lt-ltb, ltb-true, cases_lt}
-use Rattle.std.proofs.lemmas.Option.{slice_get_cases}
+use Rattle.std.proofs.lemmas.Bool.{lt-ltb, ltb-true, cases_lt, le-ltb}
+use Rattle.std.proofs.lemmas.Option.{slice_get_cases, slice_get-get_or}
 use Rattle.std.proofs.lemmas.List.Edits.{get_or-remove_below, get_or-remove_above, length-remove}
 use Rattle.std.proofs.lemmas.List.Sorted.{IsPermutation-refl, IsPermutation-remove, IsPermutation-cons, IsPermutation-trans}
 use Rattle.nd_shape_and_slice.specs.Shape.{in_box, size_of, index_at, row_rank, indexes_of}
@@ -12,7 +12,6 @@ use Rattle.nd_shape_and_slice.proofs.Ranks.{length-indexes_of, get_or-indexes_of
 use Rattle.nd_shape_and_slice.proofs.RankIndexes.{in_box-index_at, index_at-row_rank}
 use Rattle.nd_shape_and_slice.proofs.RowMajor.{row_rank_below}
 use Rattle.nd_elements.specs.Meaning.{Meaning, row_major_elements}
-use Rattle.nd_elements.proofs.RunPairs.{got_or}
 use Rattle.nd_array_core.specs.reshape.RunSlices.{LiesAlong, MemoryOrderReorders}
 
 -- ---- a list that takes each place of another once
@@ -24,16 +23,9 @@ closed_below : (a j : ℕ) → j < a → closed_up a j ≡ j
 unfolding closed_up
 closed_below a j h = rw (lt-ltb j a h) refl
 
-ltb_not : (j a : ℕ) → a ≤ j → ltb j a ≡ false
-ltb_not j a h = at (ltb j a) refl
-  where
-    at : (b : Bool) → ltb j a ≡ b → ltb j a ≡ false
-    at true e = absurd (let lt = ltb-true j a e in omega (arith, lt, h))
-    at false e = e
-
 closed_past : (a j : ℕ) → a < j → closed_up a j ≡ j - 1
 unfolding closed_up
-closed_past a j h = rw (ltb_not j a (omega (arith, h))) refl
+closed_past a j h = rw (le-ltb j a (omega (arith, h))) refl
 
 closed_cases : (a j : ℕ) (P : ℕ → Type 0) → (j ≡ a → ⊥) → (j < a → P j) → (a < j → P (j - 1)) → P (closed_up a j)
 closed_cases a j P other low high =
@@ -144,7 +136,7 @@ module _ {A : Type 0} (m : Meaning A) (first : ℕ) (place : List ℕ → Option
       let low = below k h in
       let index = get_or-indexes_of m.shape r low ∙ index_at-row_rank m.shape (number_of k) (at k h).0 in
       let found = found_at m.at (indexes_of m.shape) each_found r d (omega (arith, low, all)) in
-      ap (λ o. unwrap_or o d) (sym (got_or xs k d h) ∙ sym (at k h).2 ∙ ap m.at (sym index) ∙ found))
+      ap (λ o. unwrap_or o d) (sym (slice_get-get_or xs k d h) ∙ sym (at k h).2 ∙ ap m.at (sym index) ∙ found))
 
 pub memory_order_reorders : {A : Type 0} → MemoryOrderReorders A
 memory_order_reorders m first place xs lies = reordered m first place xs lies

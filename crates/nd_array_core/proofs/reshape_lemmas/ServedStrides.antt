@@ -1,6 +1,7 @@
 -- Strides that serve make a layout of the same places.
 use Rattle.std.proofs.Common.{◌↔◌, ◌≡◌, ℕ, ◌<◌, ◌^◌, Bool, true, false, List, [], ◌∷◌, ℤ, arith, ap, sym, ◌∙◌, subst}
 use Rattle.std.specs.Prelude.{IsTrue}
+use Rattle.std.proofs.lemmas.Bool.{both_ways}
 use Rattle.nd_shape_and_slice.specs.Shape.{size_of, HasCheckedSize}
 use Rattle.nd_shape_and_slice.specs.Place.{span_of}
 use Rattle.nd_shape_and_slice.specs.declared.builder.Order.{Order}
@@ -12,9 +13,9 @@ use Rattle.nd_array_core.specs.reshape.Either.{IsReshapeRefused, NotAsMany, NotC
 use Rattle.nd_layout.specs.Steps.{IsViewStep, IsValid}
 use Rattle.nd_layout.specs.Places.{ReachesPlaces}
 use Rattle.nd_layout.proofs.steps.StepLemmas.{seen_reaches}
+use Rattle.nd_elements.proofs.LentLanes.{lane_checked}
 use Rattle.nd_array_core.specs.reshape.Regrouped.{regrouped_index, IsShapeOf}
 use Rattle.nd_array_core.specs.reshape.Serving.{IsServedBy, SomeServe}
-use Rattle.nd_array_core.proofs.reshape_lemmas.Fresh.{line_is_checked}
 use Rattle.nd_array_core.proofs.reshape_lemmas.Regrouped.{served_seen}
 
 module _ (order : Order) (offset : ℕ) (ns : List ℕ) (ss : List ℤ) (ms : List ℕ) (ts : List ℤ) (fits : IsShapeOf ns ms) (served : IsServedBy order ns ss ms ts) where
@@ -28,15 +29,11 @@ module _ (order : Order) (offset : ℕ) (ns : List ℕ) (ss : List ℤ) (ms : Li
 pub size_refused : (order : Order) (ns : List ℕ) (ss : List ℤ) (ms ls : List ℕ) (size : ℕ) (test : Bool) (kind : ErrorKind) → ls ≡ ms → size ≡ size_of ns
     → (IsTrue test ↔ (HasCheckedSize ls × (size_of ls ≡ size))) → test ≡ false → kind ≡ IncompatibleShape → IsReshapeRefused order ns ss ms (Shape kind)
 size_refused order ns ss ms ls size test kind same count exact failed refused =
-    subst (λ e. IsReshapeRefused order ns ss ms (Shape e)) (sym refused) (NotAsMany (λ fits. not_both test (exact.1 (subst HasCheckedSize (sym same) fits.0, ap size_of same ∙ fits.1 ∙ sym count)) failed))
-  where
-    not_both : (b : Bool) → b ≡ true → b ≡ false → ⊥
-    not_both true is isnt = absurd cc
-    not_both false is isnt = absurd cc
+    subst (λ e. IsReshapeRefused order ns ss ms (Shape e)) (sym refused) (NotAsMany (λ fits. both_ways test failed (exact.1 (subst HasCheckedSize (sym same) fits.0, ap size_of same ∙ fits.1 ∙ sym count))))
 
 -- one axis for all elements
 pub line_has_all : (ns : List ℕ) (count : ℕ) → count ≡ size_of ns → count < 2 ^ 63 → IsShapeOf ns (count ∷ [])
-line_has_all ns count is short = (line_is_checked count short, one_axis ∙ is)
+line_has_all ns count is short = (lane_checked count short, one_axis ∙ is)
   where
     one_axis : size_of (count ∷ []) ≡ count
     one_axis = omega arith

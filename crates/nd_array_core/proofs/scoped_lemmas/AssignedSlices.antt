@@ -16,7 +16,7 @@ use Rattle.nd_shape_and_slice.specs.Slice.{fits_axis, quotient_up, sliced_length
 use Rattle.nd_shape_and_slice.specs.SliceInfo.{coordinate_on, fits_shape, each_fits, axes_kept, shape_after, index_before}
 use Rattle.nd_shape_and_slice.specs.Naming.{names_index}
 use Rattle.nd_shape_and_slice.proofs.RowMajor.{in_box-cons}
-use Rattle.nd_shape_and_slice.proofs.NamedIndexes.{named_by}
+use Rattle.nd_shape_and_slice.proofs.NamedIndexes.{named_by, range_above}
 use Rattle.nd_elements.specs.Meaning.{inside}
 use Rattle.nd_elements.specs.elements.Pairs.{IsOldOrOf}
 use Rattle.nd_elements.specs.elements.Changes.{ChangeableInAnyOrder, ChangesAll, ChangesAlike, ChangesBy}
@@ -27,13 +27,6 @@ use Rattle.nd_array_core.specs.scoped.Assigned.{coordinate_after, index_after}
 -- ---- the index of a part that stands for one of the array
 abbrev by_step : ℤ → Option ℤ → ℤ → Slice
 by_step start end step = record { start = start; end = end; step = step }
-
-steps_within : (range d t : ℕ) → t < quotient_up range (suc d) → t * suc d < range
-steps_within range d t h =
-    let whole : (range + (suc d - 1)) / suc d * suc d ≤ range + (suc d - 1) = div-mul-le_self (range + (suc d - 1)) (suc d) in
-    let more : suc t * suc d ≤ (range + (suc d - 1)) / suc d * suc d = mul-le-mul_right {m = suc t} {n = (range + (suc d - 1)) / suc d} (suc d) h in
-    let sum : suc t * suc d ≡ t * suc d + suc d = omega arith in
-    omega (arith, whole, more, sum)
 
 whole_steps : (d t x : ℕ) → x ≡ t * suc d → x / suc d ≡ t
 whole_steps d t x e = ap (λ y. y / suc d) e ∙ mul-div_left t {n = suc d} (omega arith)
@@ -47,7 +40,7 @@ coordinate_back n start end (pos (suc (suc k))) t fits h =
     whole_steps (suc k) t (low_of n s + t * suc (suc k) - low_of n s) (omega arith)
 coordinate_back n start end (negsuc d) t fits h =
     let s = by_step start end (negsuc d) in
-    let below : t * suc d < high_of n s - low_of n s = steps_within (high_of n s - low_of n s) d t h in
+    let below : t * suc d < high_of n s - low_of n s = range_above (high_of n s - low_of n s) d t h in
     whole_steps d t (high_of n s - 1 - (high_of n s - 1 - t * suc d)) (omega (arith, below))
 
 pub after_before : (ns : List ℕ) (es : List SliceInfoElem) (i : List ℕ) → each_fits ns es ≡ true → in_box (shape_after ns es) i ≡ true → index_after ns es (index_before ns es i) ≡ i

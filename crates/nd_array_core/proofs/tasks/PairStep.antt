@@ -1,6 +1,8 @@
 -- A task on two views of parts of a region that share no place: what each is lent, and what the region holds afterwards.
 use Rattle.std.proofs.Common.{◌≡◌, ℕ, Bool, true, false, not, List, length, ℤ, pos, negsuc, refl, ap, sym, ◌∙◌}
 use Rattle.std.specs.Prelude.{Option, ◌||◌, is_some, if◌then◌else◌}
+use Rattle.std.proofs.lemmas.Bool.{not-true}
+use Rattle.std.proofs.Math.Bool.{or-true}
 use Rattle.nd_shape_and_slice.specs.Shape.{in_box}
 use Rattle.nd_shape_and_slice.specs.Place.{place_of}
 use Rattle.nd_region.specs.declared.region.Region.{Region}
@@ -12,10 +14,6 @@ use Rattle.nd_region.proofs.Stored.{part_holds}
 use Rattle.nd_region.proofs.Rejoined.{merged_stored}
 use Rattle.nd_elements.specs.Places.{names_place}
 use Rattle.nd_array_core.specs.scoped.Tasks.{AgreesOnNamed, LiesSoundly}
-
-not_true : (b : Bool) → not b ≡ true → b ≡ false
-not_true true e = cc
-not_true false e = refl
 
 module _ {A : Type 0} where
   -- what lies soundly in one map does in another that has the same at its places
@@ -50,13 +48,9 @@ module _ {A : Type 0} where
     pub second_back : (p : ℕ) → not (g p) ≡ true → region_stored t p ≡ region_stored (rejoined_region r x s t) p
     second_back p e =
         let held : t.held ≡ kept_where (λ k. not (g k)) r.held = ap (λ b. b.1) same_second ∙ second.1 in
-        ap (λ fs. stored_in t.items fs p) held ∙ part_holds (λ k. not (g k)) t.items r.held p e ∙ sym (made p ∙ ap (λ (b : Bool). if b then stored_in s.items r.held p else stored_in t.items r.held p) (not_true (g p) e))
+        ap (λ fs. stored_in t.items fs p) held ∙ part_holds (λ k. not (g k)) t.items r.held p e ∙ sym (made p ∙ ap (λ (b : Bool). if b then stored_in s.items r.held p else stored_in t.items r.held p) (not-true (g p) e))
 
 -- ---- the places that either of two layouts names, lent as one region
-or_right : (a : Bool) → (a || true) ≡ true
-or_right true = refl
-or_right false = refl
-
 pub either_same : {f1 f1' : ℕ} {n1 n1' : List ℕ} {s1 s1' : List ℤ} {f2 f2' : ℕ} {n2 n2' : List ℕ} {s2 s2' : List ℤ} → f1 ≡ f1' → n1 ≡ n1' → s1 ≡ s1' → f2 ≡ f2' → n2 ≡ n2' → s2 ≡ s2' → names_either f1 n1 s1 f2 n2 s2 ≡ names_either f1' n1' s1' f2' n2' s2'
 either_same a b c d e f = λ i. names_either (a i) (b i) (c i) (d i) (e i) (f i)
 
@@ -65,7 +59,7 @@ module _ (f1 : ℕ) (n1 : List ℕ) (s1 : List ℤ) (f2 : ℕ) (n2 : List ℕ) (
   by_first p e = ap (λ b. b || names f2 n2 s2 p) e
 
   by_second : (p : ℕ) → names f2 n2 s2 p ≡ true → names_either f1 n1 s1 f2 n2 s2 p ≡ true
-  by_second p e = ap (λ b. names f1 n1 s1 p || b) e ∙ or_right (names f1 n1 s1 p)
+  by_second p e = ap (λ b. names f1 n1 s1 p || b) e ∙ or-true (names f1 n1 s1 p)
 
   module _ {A : Type 0} (r x : Region A) (part : IsPartWhere (names_either f1 n1 s1 f2 n2 s2) r x) where
     passed : (p : ℕ) → names_either f1 n1 s1 f2 n2 s2 p ≡ true → region_stored x p ≡ region_stored r p

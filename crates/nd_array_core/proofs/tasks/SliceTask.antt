@@ -4,6 +4,7 @@ use Rattle.std.proofs.lemmas.Option.{slice_get_cases}
 use Rattle.std.specs.Prelude.{Option, Some, None, is_some, IsSome, slice_get}
 use Rattle.nd_shape_and_slice.specs.Shape.{size_of}
 use Rattle.nd_shape_and_slice.specs.Place.{place_of}
+use Rattle.nd_shape_and_slice.proofs.Lists.{there_is_some}
 use Rattle.nd_layout.specs.Steps.{IsValid}
 use Rattle.nd_elements.specs.Places.{place_number, stored_at}
 use Rattle.nd_array_core.specs.PlacedArray.{PlacedArray}
@@ -15,20 +16,12 @@ use Rattle.nd_layout.specs.Placements.{Placement}
 use Rattle.nd_array_core.specs.scoped.Sources.{GivenShape, place_in_slice, IsViewOfSlice}
 use Rattle.nd_array_core.proofs.base_lemmas.LaidOut.{laid_holds, laid_at}
 
--- a slice has an element at each place below its length
-pub slice_has : {A : Type 0} (xs : List A) (p : ℕ) → p < length xs → IsSome (slice_get xs p)
-slice_has {A} xs p below = first (slice_get_cases xs p)
-  where
-    first : (slice_get xs p ≡ slice_get xs p) × (((x : A) × (p < length xs) × (slice_get xs p ≡ Some x) × (get_or xs p x ≡ x)) ⊎ ((length xs ≤ p) × (slice_get xs p ≡ None))) → IsSome (slice_get xs p)
-    first (_, inl there) = ap is_some there.2
-    first (_, inr past) = let le = past.0 in absurd (omega (arith, below, le))
-
 module _ {A : Type 0} (xs : List A) (given : GivenShape) (l : Placement) (laid : IsLaidOut given.0 given.1 given.2 true (length xs) l) where
   -- the slice has an element for each index, and no two share one
   pub slice_sound : IsValid l.offset l.lengths l.strides → LiesBy (slice_get xs) l
   slice_sound valid = record {
     valid = valid;
-    holds = laid_holds (slice_get xs) (length xs) (slice_has xs) l laid.holds;
+    holds = laid_holds (slice_get xs) (length xs) (there_is_some xs) l laid.holds;
     separated = λ some. laid.separated refl (let e = ap size_of laid.lengths_are in omega (arith, some, e));
   }
 

@@ -11,7 +11,6 @@ use Rattle.nd_shape_and_slice.specs.Place.{displacement_of, place_of, span_of}
 use Rattle.nd_shape_and_slice.proofs.RowMajor.{row_rank_below, length-in_box, displacement_of-origin}
 use Rattle.nd_layout.proofs.AxisChange.{span_of-at, span_of-changed, IsSeparated-changed}
 use Rattle.nd_shape_and_slice.proofs.Boxes.{coordinate_below}
-use Rattle.nd_layout.proofs.Distinct.{in_box-set}
 use Rattle.nd_layout.proofs.Integers.{sums, zero-mul, add-mul, mul-neg}
 use Rattle.nd_layout.proofs.Offsets.{displacement_of-moved}
 use Rattle.nd_layout.proofs.Sizes.{HasCheckedSize-set, size_of-set, abs-neg}
@@ -19,6 +18,7 @@ use Rattle.nd_layout.specs.Places.{is_place, ReachesPlaces}
 use Rattle.nd_layout.specs.Elements.{LeadsToPlaces}
 use Rattle.nd_layout.specs.Steps.{IsStep}
 use Rattle.nd_shape_and_slice.specs.Maps.{inverted_index, collapsed_shape, collapsed_index, lower_shape, upper_shape, upper_index}
+use Rattle.nd_shape_and_slice.proofs.Indexes.{in_box-set}
 use Rattle.nd_layout.specs.Strides.{opposite_stride}
 use Rattle.nd_layout.proofs.steps.Walks.{offset_is_place}
 use Rattle.nd_layout.proofs.steps.StepLemmas.{origin_in_box}

@@ -5,6 +5,7 @@ use Rattle.std.proofs.Math.Nat.{mul-le-mul_right}
 use Rattle.std.proofs.lemmas.Bool.Decides.{nat_tests}
 use Rattle.std.proofs.lemmas.Int.{ints}
 use Rattle.std.proofs.lemmas.List.{drop_more, drop_all}
+use Rattle.std.proofs.Math.IntN.{+ℤ_idr, +ℤ_assoc}
 use Rattle.nd_shape_and_slice.specs.Shape.{in_box, HasCheckedSize}
 use Rattle.nd_shape_and_slice.specs.Place.{displacement_of, span_of}
 use Rattle.nd_layout.specs.Strides.{sum_of, diagonal_stride}
@@ -12,8 +13,9 @@ use Rattle.nd_layout.proofs.Integers.{zero-mul, sums}
 use Rattle.nd_shape_and_slice.proofs.Boxes.{coordinate_below}
 use Rattle.nd_layout.proofs.Reaches.{span_of-drop}
 use Rattle.nd_layout.proofs.Sizes.{length-le-product}
-use Rattle.nd_layout.proofs.Diagonal.{displacement_of-diagonal, in_box-diagonal, diagonal-le-span, diagonal-moves, one_axis-separated}
+use Rattle.nd_layout.proofs.Diagonal.{displacement_of-diagonal, in_box-diagonal, diagonal-le-span, diagonal-moves, one_axis-separated, abs-sum}
 use Rattle.nd_layout.specs.Steps.{IsStep}
+use Rattle.nd_layout.proofs.Glued.{le_reach}
 use Rattle.nd_shape_and_slice.specs.Maps.{least_of, diagonal_length, diagonal_index}
 
 least-le : (m : ℕ) (ns : List ℕ) → least_of m ns ≤ m
@@ -53,16 +55,13 @@ some_axis : (ns : List ℕ) → 1 < diagonal_length ns → 0 < length ns
 some_axis [] h = absurd (omega arith)
 some_axis (n ∷ ns) h = omega arith
 
-add_zero : (z : ℤ) → z +ℤ pos 0 ≡ z
-add_zero z = omega (arith, ints)
-
 module _ (ns : List ℕ) (ss : List ℤ) (many : length ss ≡ length ns) where
   diagonal_coordinate : (i : List ℕ) → in_box (diagonal_length ns ∷ []) i ≡ true → get_or i 0 0 < diagonal_length ns
   diagonal_coordinate i h = coordinate_below (diagonal_length ns ∷ []) i 0 h (omega arith)
 
   one_coordinate : (m : ℕ) (s : ℤ) (i : List ℕ) → in_box (m ∷ []) i ≡ true → displacement_of (s ∷ []) i ≡ pos (get_or i 0 0) *ℤ s
   one_coordinate m s [] h = cc
-  one_coordinate m s (c ∷ i) h = add_zero (pos c *ℤ s)
+  one_coordinate m s (c ∷ i) h = +ℤ_idr (pos c *ℤ s)
 
   diagonal_displacement : (i : List ℕ) → in_box (diagonal_length ns ∷ []) i ≡ true → displacement_of (diagonal_stride ns ss ∷ []) i ≡ displacement_of ss (diagonal_index ns i)
   diagonal_displacement i h =
@@ -117,19 +116,11 @@ pub record IsSumBelow (ns : List ℕ) (ss : List ℤ) (sum : ℤ) (k : ℕ) : Ty
 pub sum_none : (ns : List ℕ) (ss : List ℤ) → IsSumBelow ns ss (pos 0) 0
 sum_none ns ss = record { total = omega (arith, ints); within = omega arith }
 
-abs-sum : (a b : ℤ) → nat_abs (a +ℤ b) ≤ nat_abs a + nat_abs b
-abs-sum a b = omega (arith, sums, abs_is (a +ℤ b), abs_is a, abs_is b)
-
-one_at_least : (n s : ℕ) → 1 < n → s ≤ (n - 1) * s
-one_at_least (suc (suc n)) s h = let more = mul-le-mul_right {m = 1} {n = suc (suc n) - 1} s (omega arith) in omega (arith, more)
-one_at_least zero s h = absurd (omega arith)
-one_at_least (suc zero) s h = absurd (omega arith)
-
 pub sum_bound : (ns : List ℕ) (ss : List ℤ) (sum : ℤ) (k : ℕ) → length ss ≡ length ns → k < length ns → 1 < get_or ns k 0 → IsSumBelow ns ss sum k → nat_abs (sum +ℤ get_or ss k (pos 0)) + span_of (drop (k + 1) ns) (drop (k + 1) ss) ≤ span_of ns ss
 sum_bound ns ss sum k many on long below =
     let s = get_or ss k (pos 0) in
     let part = span_of-drop ns ss k many on in
-    let step = one_at_least (get_or ns k 0) (nat_abs s) long in
+    let step = le_reach (get_or ns k 0) (nat_abs s) long in
     let sum_le = abs-sum sum s in
     omega (arith, part, step, sum_le, below.within)
 
@@ -137,14 +128,11 @@ pub sum_more : (ns : List ℕ) (ss : List ℤ) (sum next : ℤ) (k : ℕ) → le
 sum_more ns ss sum next k many on long is below =
     rw is
     (record {
-      total = regroup sum (get_or ss k (pos 0)) (sum_of (drop (k + 1) ss)) ∙ (ap (λ l. sum +ℤ sum_of l) (sym (drop_more ss k (pos 0) (omega (arith, many, on)))) ∙ below.total);
+      total = +ℤ_assoc sum (get_or ss k (pos 0)) (sum_of (drop (k + 1) ss)) ∙ (ap (λ l. sum +ℤ sum_of l) (sym (drop_more ss k (pos 0) (omega (arith, many, on)))) ∙ below.total);
       within = sum_bound ns ss sum k many on long below;
     })
-  where
-    regroup : (a b c : ℤ) → (a +ℤ b) +ℤ c ≡ a +ℤ (b +ℤ c)
-    regroup a b c = omega (arith, ints)
 
 pub sum_all : (ns : List ℕ) (ss : List ℤ) (sum : ℤ) (k : ℕ) → length ss ≤ k → IsSumBelow ns ss sum k → sum ≡ sum_of ss
 sum_all ns ss sum k all below =
     let none = drop_all k ss all in
-    sym (add_zero sum) ∙ (ap (λ l. sum +ℤ sum_of l) (sym none) ∙ below.total)
+    sym (+ℤ_idr sum) ∙ (ap (λ l. sum +ℤ sum_of l) (sym none) ∙ below.total)

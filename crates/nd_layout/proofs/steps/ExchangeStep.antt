@@ -8,12 +8,13 @@ use Rattle.std.proofs.lemmas.List.{ext_get_or, length-map, get_or-map, map-set, 
 use Rattle.std.proofs.lemmas.List.Edits.{swap_is, length-swap, swapped_from_swap}
 use Rattle.std.proofs.lemmas.List.FromFn.{length-range_with_len, get_or-range_with_len}
 use Rattle.std.proofs.lemmas.List.Sorted.{IsPermutation-swap, IsPermutation-reverse, sum_by-IsPermutation}
+use Rattle.std.proofs.Math.Nat.{zero-add}
 use Rattle.nd_shape_and_slice.specs.Shape.{in_box}
 use Rattle.nd_shape_and_slice.specs.Place.{place_of}
 use Rattle.nd_shape_and_slice.specs.Axes.{HasEachAxis, permuted_list, unpermuted_list}
 use Rattle.nd_shape_and_slice.proofs.RowMajor.{length-in_box}
 use Rattle.nd_layout.specs.Strides.{permuted_strides}
-use Rattle.nd_layout.proofs.Totals.{times, times_is}
+use Rattle.nd_layout.proofs.Totals.{times, times_is, times-range_below}
 use Rattle.nd_layout.proofs.Permuted.{permuted-unpermuted, length-unpermuted, length-permuted}
 use Rattle.nd_layout.specs.Steps.{IsStep}
 use Rattle.nd_layout.proofs.steps.PermuteStep.{permute_is_step}
@@ -26,13 +27,6 @@ once_in_range a low (suc n) h q =
     (λ (is : low ≡ a). rw (eq-eqb low a is) (let none = times-range_below a (low + 1) n (omega arith) in omega (arith, none)))
     (λ (other : low ≡ a → ⊥). rw (ne_eqb low a other) (let one = once_in_range a (low + 1) n (omega arith) (omega arith) in omega (arith, one)))
     (cases_eq low a)
-  where
-    times-range_below : (a low n : ℕ) → a < low → times a (range_with_len low n) ≡ 0
-    times-range_below a low zero h = refl
-    times-range_below a low (suc n) h =
-        let no : low ≡ a → ⊥ = omega arith in
-        let rest = times-range_below a (low + 1) n (omega arith) in
-        rw (ne_eqb low a no) (omega (arith, rest))
 
 pub each_axis : (n : ℕ) (p : List ℕ) → length p ≡ n → IsPermutation (range_with_len 0 n) p → HasEachAxis p n
 each_axis n p e moved = (
@@ -79,15 +73,12 @@ module _ {A : Type 0} (d : A) (xs : List A) where
       let f : ℕ → A = λ k. get_or xs k d in
       let axes = range_with_len 0 n in
       let long : length axes ≡ length xs = length-range_with_len 0 n ∙ e in
-      let at : (k : ℕ) → k < length xs → get_or axes k 0 ≡ k = λ k h. get_or-range_with_len 0 n k 0 (omega (arith, e, h)) ∙ plus k in
+      let at : (k : ℕ) → k < length xs → get_or axes k 0 ≡ k = λ k h. get_or-range_with_len 0 n k 0 (omega (arith, e, h)) ∙ zero-add k in
       let own : map f axes ≡ xs = subst (λ m. map f (range_with_len 0 m) ≡ xs) (sym e) in_own_order in
       ap (map f) (sym (swap_is axes a b 0 (omega (arith, long, on_a)) (omega (arith, long, on_b))))
       ∙ map-set f (set axes a (get_or axes b 0)) b (get_or axes a 0)
       ∙ ap (λ l. set l b (f (get_or axes a 0))) (map-set f axes a (get_or axes b 0))
       ∙ rw (at a on_a, at b on_b, own) (swap_is xs a b d on_a on_b)
-    where
-      plus : (k : ℕ) → 0 + k ≡ k
-      plus k = omega arith
 
 pub swap_back : (xs : List ℕ) (a b : ℕ) → a < length xs → b < length xs → swap (swap xs a b) a b ≡ xs
 swap_back xs a b on_a on_b =

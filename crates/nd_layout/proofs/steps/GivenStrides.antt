@@ -2,12 +2,13 @@
 use Rattle.std.proofs.Common.{◌≡◌, ℕ, zero, suc, ◌+◌, ◌*◌, ◌<◌, ◌≤◌, ◌⊎◌, ⊎_elim, inl, inr, Bool, true, false, ltb, leb, eqb, cond, ◌&&◌, ◌||◌, List, [], ◌∷◌, length, drop, get_or, ℤ, pos, negsuc, refl, ap, ◌∙◌, subst, arith}
 use Rattle.std.specs.Prelude.{None, Some}
 use Rattle.std.specs.List.{list_all, range_with_len}
-use Rattle.std.proofs.lemmas.Bool.{and_parts, and_from, lt-ltb, ltb-true, le-leb, leb-true, ltb-false, cases_lt, false≢true}
+use Rattle.std.proofs.lemmas.Bool.{and_parts, and_from, lt-ltb, ltb-true, le-leb, leb-true, ltb-false, cases_lt, false≢true, or_cases, or_left, or_right}
 use Rattle.std.proofs.lemmas.Bool.Decides.{nat_tests}
 use Rattle.std.proofs.lemmas.List.{drop_more, drop_all, get_or_past}
 use Rattle.nd_shape_and_slice.specs.declared.errors.ErrorKind.TheVariants.{Overflow, OutOfBounds, Unsupported}
 use Rattle.nd_shape_and_slice.specs.Shape.{size_of, nonzero_product, HasCheckedSize}
 use Rattle.nd_shape_and_slice.specs.Place.{span_of, span_within, magnitude_at, IsSeparated}
+use Rattle.nd_shape_and_slice.proofs.AxisTests.{range_pass, pass_range}
 use Rattle.nd_layout.specs.Strides.{reach_down}
 use Rattle.nd_layout.proofs.Bounds.{span_of-reaches, place-in_box}
 use Rattle.nd_layout.specs.Places.{is_place}
@@ -15,44 +16,18 @@ use Rattle.nd_layout.specs.Refusals.{stands_apart, is_separated, elements_asked,
 use Rattle.nd_layout.specs.Steps.{IsValid}
 
 -- ---- the test of separation
-all_in_range : (p : ℕ → Bool) (low n k : ℕ) → list_all p (range_with_len low n) ≡ true → low ≤ k → k < low + n → p k ≡ true
-all_in_range p low zero k h from to = absurd (omega arith)
-all_in_range p low (suc n) k h from to =
-    let parts = and_parts (p low) (list_all p (range_with_len (low + 1) n)) h in
-    ⊎_elim
-    (λ above. all_in_range p (low + 1) n k parts.1 (omega arith) (omega arith))
-    (λ here. let is : low ≡ k = omega arith in subst (λ j. p j ≡ true) is parts.0)
-    (cases_lt low k)
-
-range_all : (p : ℕ → Bool) (low n : ℕ) → ((k : ℕ) → low ≤ k → k < low + n → p k ≡ true) → list_all p (range_with_len low n) ≡ true
-range_all p low zero each = refl
-range_all p low (suc n) each =
-    and_from (p low) (list_all p (range_with_len (low + 1) n)) (each low (omega arith) (omega arith)) (range_all p (low + 1) n (λ k from to. each k (omega arith) (omega arith)))
-
-or_cases : (a b : Bool) → (a || b) ≡ true → (a ≡ true) ⊎ (b ≡ true)
-or_cases true b h = inl refl
-or_cases false b h = inr h
-
-or_left : (a b : Bool) → a ≡ true → (a || b) ≡ true
-or_left true b h = refl
-or_left false b h = absurd (false≢true h)
-
-pub or_right : (a b : Bool) → b ≡ true → (a || b) ≡ true
-or_right true b h = refl
-or_right false b h = h
-
 module _ (ns : List ℕ) (ss : List ℤ) where
   pub separated_by_test : is_separated ns ss ≡ true → IsSeparated ns ss
   separated_by_test h k long =
       let on : k < length ns = ⊎_elim (λ below. below) (λ past. absurd (let e = get_or_past ns k 0 past in omega (arith, e, long))) (cases_lt k (length ns)) in
-      let here = all_in_range (stands_apart ns ss) 0 (length ns) k h (omega arith) (omega (arith, on)) in
+      let here = range_pass (stands_apart ns ss) 0 (length ns) k h (omega arith) (omega (arith, on)) in
       ⊎_elim
       (λ short. absurd (let le = leb-true (get_or ns k 0) 1 short in omega (arith, le, long)))
       (λ apart. ltb-true (span_within (magnitude_at ss k) ns ss) (get_or ns k 0 * magnitude_at ss k) apart)
       (or_cases (leb (get_or ns k 0) 1) (ltb (span_within (magnitude_at ss k) ns ss) (get_or ns k 0 * magnitude_at ss k)) here)
 
   pub test_of_separated : IsSeparated ns ss → is_separated ns ss ≡ true
-  test_of_separated apart = range_all (stands_apart ns ss) 0 (length ns) (λ k _ _. each k)
+  test_of_separated apart = pass_range (stands_apart ns ss) 0 (length ns) (λ k _ _. each k)
     where
       each : (k : ℕ) → stands_apart ns ss k ≡ true
       each k =

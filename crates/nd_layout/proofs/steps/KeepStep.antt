@@ -1,5 +1,5 @@
 -- Where the indexed axes, of length 1, go and new axes of length 1 come: a layout step.
-use Rattle.std.proofs.Common.{◌≡◌, ℕ, zero, suc, ◌+◌, ◌-◌, ◌*◌, ◌<◌, ◌≤◌, Bool, true, false, cond, eqb, ltb, leb, List, [], ◌∷◌, length, drop, get_or, set, ℤ, pos, ◌+ℤ◌, ◌*ℤ◌, nat_abs, refl, ap, sym, ◌∙◌, subst, arith, drop-cons}
+use Rattle.std.proofs.Common.{◌≡◌, ℕ, zero, suc, ◌+◌, ◌-◌, ◌*◌, ◌<◌, ◌≤◌, Bool, true, false, cond, eqb, ltb, leb, List, [], ◌∷◌, length, drop, get_or, set, ℤ, pos, ◌+ℤ◌, ◌*ℤ◌, nat_abs, refl, ap, sym, ◌∙◌, subst, arith, drop-cons, add-one}
 use lib.IntN.{+ℤ_idl}
 use Rattle.std.proofs.lemmas.Bool.{and_parts, and_from, lt-ltb}
 use Rattle.std.proofs.lemmas.Bool.Decides.{nat_tests}
@@ -158,9 +158,6 @@ drop_is [] (suc c) y ys z e = absurd cc
 drop_is (x ∷ xs) zero y ys z e = (omega arith, cc, cc)
 drop_is (x ∷ xs) (suc c) y ys z e = let rest = drop_is xs c y ys z e in (omega (arith, rest.0), rest.1, rest.2)
 
-one_past : (a : ℕ) → a + 1 ≡ suc a
-one_past a = omega arith
-
 -- the counts, element by element
 read_more : (e : SliceInfoElem) (es : List SliceInfoElem) → axes_read (e ∷ es) ≡ cond (reads_axis e) 1 0 + axes_read es
 read_more e es = sum_by-cons (λ x. cond (reads_axis x) 1 0) e es
@@ -274,7 +271,7 @@ module _ {A : Type 0} (d z : A) (es : List SliceInfoElem) (xs : List A) where
             few_read = one_more a k f so_far.few_read;
             reads = parts.1;
             filled = filled_more z (kept_items d es xs) out c x known.0 (item ∙ sym known.1) so_far.filled;
-            left = ap (λ n. drop n (kept_items d es xs)) (one_past c) ∙ known.2;
+            left = ap (λ n. drop n (kept_items d es xs)) (add-one c) ∙ known.2;
           })
 
       pub kept_gone : keeps_axis (get_or es k e) ≡ false → IsKeptTo d z es xs out (a + 1) c (k + 1)

@@ -9,8 +9,8 @@ use Rattle.nd_shape_and_slice.specs.Shape.{in_box, nonzero_product, HasCheckedSi
 use Rattle.nd_shape_and_slice.specs.Place.{displacement_of, span_of, span_within, magnitude_at, IsSeparated}
 use Rattle.nd_shape_and_slice.proofs.RowMajor.{row_rank_below, length-in_box}
 use Rattle.nd_shape_and_slice.proofs.Boxes.{coordinate_below}
+use Rattle.nd_shape_and_slice.proofs.Indexes.{in_box-set}
 use Rattle.nd_layout.proofs.AxisChange.{span_of-at, span_within-at, counted_cases, others_below, separated_by_others, on_axis, le-mul}
-use Rattle.nd_layout.proofs.Distinct.{in_box-set}
 use Rattle.nd_layout.proofs.Glued.{joined_reach, le_reach}
 use Rattle.nd_layout.proofs.Integers.{sums, abs-mul, mul-mul, add-mul, zero-mul}
 use Rattle.nd_layout.proofs.Offsets.{displacement_of-set}
@@ -22,6 +22,7 @@ use Rattle.nd_layout.specs.Steps.{IsStep}
 use Rattle.nd_layout.proofs.steps.AxisStep.{IsAxisChange, axis_is_step}
 use Rattle.nd_layout.proofs.steps.ExchangeStep.{swap_is_step}
 use Rattle.nd_layout.proofs.steps.StepLemmas.{step_then, step_by}
+use Rattle.nd_layout.proofs.Reaches.{mul-pred}
 
 -- ---- what the counts of two axes and of all others make of one another
 -- the axis that both become is counted as both were, unless the magnitude lies between theirs
@@ -219,12 +220,8 @@ module _ (offset : ℕ) (ns : List ℕ) (ss : List ℤ) (a b : ℕ) (many : leng
         let counted_b : cond (leb x y) ((get_or (set ns a 1) b 0 - 1) * x) 0 ≡ (n - 1) * x = ap (λ t. cond t ((get_or (set ns a 1) b 0 - 1) * x) 0) (le-leb x y (omega (arith, steps, more))) ∙ ap (λ v. (v - 1) * x) length_b in
         let counted_k : cond (leb (magnitude_at ss k) y) ((get_or (set (set ns a 1) b 1) k 0 - 1) * magnitude_at ss k) 0 ≡ (get_or ns k 0 - 1) * magnitude_at ss k = ap (λ t. cond t ((get_or (set (set ns a 1) b 1) k 0 - 1) * magnitude_at ss k) 0) (le-leb (magnitude_at ss k) y (omega (arith, steps, before))) ∙ ap (λ v. (v - 1) * magnitude_at ss k) length_k in
         let own = le_reach (get_or ns k 0) (magnitude_at ss k) wide in
-        let all = whole n x (omega (arith, long)) in
+        let all = mul-pred n x (omega (arith, long)) in
         omega (arith, below, at_b, at_k, counted_b, counted_k, own, all, steps, near)
-      where
-        whole : (n x : ℕ) → 0 < n → n * x ≡ (n - 1) * x + x
-        whole zero x h = absurd (omega (arith, h))
-        whole (suc n) x h = let e : suc n - 1 ≡ n = omega arith in rw e (omega arith)
 
     apart_beside : span_within (magnitude_at ss k) (set merged k 1) ss < magnitude_at ss k
     apart_beside =

@@ -12,6 +12,7 @@ use Rattle.nd_layout.proofs.Integers.{zero-mul}
 use Rattle.nd_layout.proofs.Removed.{displacement_of-inserted, in_box-inserted, span_of-removed-le, IsSeparated-removed, HasCheckedSize-removed, displacement_of-inserted_zero, in_box-inserted_axis, span_of-inserted_axis, IsSeparated-inserted_axis, nonzero_product-inserted_axis}
 use Rattle.nd_layout.specs.Steps.{IsStep}
 use Rattle.nd_shape_and_slice.specs.Maps.{collapsed_shape, collapsed_index, indexed_shape, indexed_index, inserted_shape, inserted_index}
+use Rattle.nd_shape_and_slice.proofs.Lists.{set-inserted}
 use Rattle.nd_layout.proofs.steps.StepLemmas.{step_then, step_by}
 
 -- nothing changes
@@ -29,11 +30,6 @@ remove-set : {A : Type 0} (xs : List A) (a : ℕ) (x : A) → remove (set xs a x
 remove-set [] a x = refl
 remove-set (y ∷ xs) zero x = refl
 remove-set (y ∷ xs) (suc a) x = ap (λ l. y ∷ l) (remove-set xs a x)
-
-set-insert : {A : Type 0} (xs : List A) (a : ℕ) (x y : A) → a ≤ length xs → set (insert xs a x) a y ≡ insert xs a y
-set-insert xs zero x y h = refl
-set-insert [] (suc a) x y h = absurd (omega arith)
-set-insert (z ∷ xs) (suc a) x y h = ap (λ l. z ∷ l) (set-insert xs a x y (omega arith))
 
 module _ (ns : List ℕ) (ss : List ℤ) (a : ℕ) (many : length ss ≡ length ns) where
   module _ (on : a < length ns) where
@@ -83,4 +79,4 @@ index_is_step ns ss a k offset new_offset many on collapse =
     let without : IsStep new_offset ms ss new_offset (remove ms a) (remove ss a) (λ i. insert i a 0) = remove_is_step ms ss a many_ms on_ms new_offset (omega (arith, one)) in
     let both : IsStep offset ns ss new_offset (remove ms a) (remove ss a) (λ i. set (insert i a 0) a k) = step_then collapse without in
     subst (λ ls. IsStep offset ns ss new_offset ls (remove ss a) (indexed_index a k)) (remove-set ns a 1)
-    (step_by (indexed_index a k) (λ i h. set-insert i a 0 k (on_index ms ss a many_ms on_ms i h)) both)
+    (step_by (indexed_index a k) (λ i h. set-inserted i a 0 k (on_index ms ss a many_ms on_ms i h)) both)

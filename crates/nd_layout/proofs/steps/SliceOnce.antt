@@ -22,7 +22,7 @@ use Rattle.nd_shape_and_slice.specs.Slicing.{collapsed_after, collapsed_before, 
 use Rattle.nd_layout.proofs.steps.AxisStep.{positive, moved_place, collapse_is_step}
 use Rattle.nd_layout.proofs.steps.KeepStep.{IsKeptTo, kept_item, kept_none, kept_more, kept_gone, kept_all, read_all, ones_collapsed, keep_is_step, slice_list_is_step}
 use Rattle.nd_layout.proofs.steps.ResizeStep.{same_is_step}
-use Rattle.nd_layout.proofs.steps.SliceLoop.{IsSlicedTo, fits_from, after_from, after_more, strides_from, strides_more, coordinate_within, sliced_none, sliced_fits, sliced_more, sliced_all, sliced_all_shape, sliced_all_strides}
+use Rattle.nd_layout.proofs.steps.SliceLoop.{IsSlicedTo, fits_from, after_from, after_more, strides_from, strides_more, coordinate_within, sliced_none, sliced_fits, sliced_more, sliced_all, sliced_all_shape, sliced_all_strides, part_fits, index_fits}
 use Rattle.nd_layout.proofs.steps.StepLemmas.{step_reaches}
 use Rattle.nd_layout.proofs.Sliced.{stepped_from-within}
 use Rattle.nd_layout.proofs.steps.SliceStep.{step_moves, high_within, slice_is_step, sliced_length-le, none_left, none_left_only}
@@ -79,16 +79,6 @@ strides_done (suc a) (n ∷ ns) (s ∷ ss) es zero many h = refl
 strides_done (suc a) (n ∷ ns) (s ∷ ss) es (suc j) many h = strides_done a ns ss es j (omega (arith, many)) (omega (arith, h))
 
 -- ---- one element
-part_fits : (ns : List ℕ) (a : ℕ) (start : ℤ) (end : Option ℤ) (step : ℤ) → fits_next (slice_get ns a) (Part start end step) ≡ true → (a < length ns) × (fits_axis (get_or ns a 0) (record { start = start; end = end; step = step }) ≡ true)
-part_fits [] a start end step h = absurd cc
-part_fits (n ∷ ns) zero start end step h = (omega arith, h)
-part_fits (n ∷ ns) (suc a) start end step h = let rest = part_fits ns a start end step h in (omega (arith, rest.0), rest.1)
-
-index_fits : (ns : List ℕ) (a : ℕ) (k : ℤ) → fits_next (slice_get ns a) (Index k) ≡ true → (a < length ns) × (is_some (coordinate_on (get_or ns a 0) k) ≡ true)
-index_fits [] a k h = absurd cc
-index_fits (n ∷ ns) zero k h = (omega arith, h)
-index_fits (n ∷ ns) (suc a) k h = let rest = index_fits ns a k h in (omega (arith, rest.0), rest.1)
-
 element_step : (f : ℕ) (ns : List ℕ) (ss : List ℤ) (a : ℕ) (e : SliceInfoElem) (f' : ℕ) → length ss ≡ length ns → fits_next (slice_get ns a) e ≡ true → (0 < size_of (shape_with ns a e) → pos f' ≡ pos f +ℤ (pos (start_by (get_or ns a 0) e) *ℤ get_or ss a (pos 0))) → (reads_axis e ≡ false → f' ≡ f) → IsStep f ns ss f' (shape_with ns a e) (strides_with ns ss a e) (index_with ns a e)
 element_step f ns ss a (Part start end step) f' many fits moved stays =
     let p = part_fits ns a start end step fits in

@@ -6,9 +6,10 @@ use Rattle.std.specs.List.{remove}
 use Rattle.std.proofs.Common.{◌⊎◌, inl, inr, ⊎_elim}
 use Rattle.std.proofs.Math.Nat.{mul-le-mul_left, mul-le-mul_right, mul_comm}
 use Rattle.std.proofs.lemmas.Int.{unsigned_abs-mul}
-use Rattle.std.proofs.lemmas.List.{length-set, get_or-set_same, set-get_or}
+use Rattle.std.proofs.lemmas.List.{length-set, get_or-set_same, set-get_or, set-set}
 use Rattle.std.proofs.lemmas.Int.{ints}
 use Rattle.std.proofs.lemmas.Bool.Decides.{nat_tests}
+use Rattle.std.proofs.Math.IntN.{+ℤ_idr}
 use Rattle.nd_shape_and_slice.specs.declared.slice.Slice.{Slice}
 use Rattle.nd_shape_and_slice.specs.Shape.{in_box, size_of}
 use Rattle.nd_shape_and_slice.specs.Place.{displacement_of, span_of, IsSeparated}
@@ -17,7 +18,7 @@ use Rattle.nd_shape_and_slice.proofs.RowMajor.{row_rank_below, length-in_box, di
 use Rattle.nd_layout.specs.Strides.{stepped_start, stepped_stride}
 use Rattle.nd_layout.proofs.AxisChange.{span_of-at, span_of-changed, IsSeparated-changed}
 use Rattle.nd_shape_and_slice.proofs.Boxes.{coordinate_below}
-use Rattle.nd_layout.proofs.Distinct.{in_box-set}
+use Rattle.nd_shape_and_slice.proofs.Indexes.{in_box-set}
 use Rattle.nd_layout.proofs.Sizes.{HasCheckedSize-set, size_of-set}
 use Rattle.nd_layout.proofs.Removed.{size_of-removed}
 use Rattle.nd_layout.proofs.Sliced.{steps_below, last_step_below, stepped_from-within, displacement_of-sliced, span_of-sliced, IsSeparated-sliced}
@@ -25,6 +26,7 @@ use Rattle.nd_layout.specs.Places.{is_place, ReachesPlaces}
 use Rattle.nd_layout.specs.Steps.{IsStep}
 use Rattle.nd_layout.proofs.steps.Walks.{offset_is_place}
 use Rattle.nd_layout.proofs.steps.StepLemmas.{origin_in_box}
+use Rattle.nd_layout.proofs.Integers.{zero-mul}
 
 -- a bound lies on the axis
 bound_within : (n : ℕ) (z : ℤ) → unwrap_or (bound_on n z) 0 ≤ n
@@ -80,17 +82,8 @@ pub displacement_of-unmoved : (ss : List ℤ) (i : List ℕ) (a : ℕ) (t u : �
 displacement_of-unmoved [] i a t u h = refl
 displacement_of-unmoved (s ∷ ss) [] zero t u h = refl
 displacement_of-unmoved (s ∷ ss) [] (suc a) t u h = refl
-displacement_of-unmoved (s ∷ ss) (i ∷ is) zero t u h = rw h (ap (λ z. z +ℤ displacement_of ss is) (nothing t ∙ sym (nothing u)))
-  where
-    nothing : (t : ℤ) → pos 0 *ℤ t ≡ pos 0
-    nothing (pos n) = omega (arith, ints)
-    nothing (negsuc n) = omega (arith, ints)
+displacement_of-unmoved (s ∷ ss) (i ∷ is) zero t u h = rw h (ap (λ z. z +ℤ displacement_of ss is) (zero-mul t ∙ sym (zero-mul u)))
 displacement_of-unmoved (s ∷ ss) (i ∷ is) (suc a) t u h = ap (λ z. (pos i *ℤ s) +ℤ z) (displacement_of-unmoved ss is a t u h)
-
-pub set_twice : {A : Type 0} (xs : List A) (a : ℕ) (x y : A) → set (set xs a x) a y ≡ set xs a y
-set_twice [] a x y = refl
-set_twice (z ∷ xs) zero x y = refl
-set_twice (z ∷ xs) (suc a) x y = ap (λ t. z ∷ t) (set_twice xs a x y)
 
 -- the new stride is 0 where one index is left at most, and else the old times the step
 module _ (m : ℕ) (stride step : ℤ) where
@@ -149,7 +142,7 @@ module _ (ns : List ℕ) (ss : List ℤ) (a : ℕ) (s : Slice) (many : length ss
       let range = stepped_from-within (low_of n s) (high_of n s) s.step (get_or i a 0) (step_moves n s fits) (coordinate i h) in
       let high = high_within n s in
       let below : x < n = omega (arith, range.1, high) in
-      let back : set (set ns a m) a n ≡ ns = set_twice ns a m n ∙ set-get_or ns a 0 in
+      let back : set (set ns a m) a n ≡ ns = set-set ns a m n ∙ set-get_or ns a 0 in
       subst (λ l. in_box l (set i a x) ≡ true) back (in_box-set (set ns a m) i a n x h below)
 
   slice_displacement : (i : List ℕ) → in_box (sliced_shape ns a s) i ≡ true → displacement_of ss (sliced_index ns a s i) ≡ (pos (sliced_from (get_or ns a 0) s 0) *ℤ get_or ss a (pos 0)) +ℤ displacement_of (set ss a (stepped_stride (sliced_length (get_or ns a 0) s) (get_or ss a (pos 0)) s.step)) i
@@ -187,11 +180,8 @@ module _ (ns : List ℕ) (ss : List ℤ) (a : ℕ) (s : Slice) (many : length ss
       let origin = replicate (length (sliced_shape ns a s)) 0 in
       let here = origin_in_box (sliced_shape ns a s) some in
       let nowhere : displacement_of (set ss a t) origin ≡ pos 0 = displacement_of-origin (set ss a t) (length (sliced_shape ns a s)) in
-      let whole : displacement_of ss (sliced_index ns a s origin) ≡ start = slice_displacement origin here ∙ (ap (λ z. start +ℤ z) nowhere ∙ plus_zero start) in
+      let whole : displacement_of ss (sliced_index ns a s origin) ≡ start = slice_displacement origin here ∙ (ap (λ z. start +ℤ z) nowhere ∙ +ℤ_idr start) in
       sym (ap (λ z. is_place (pos offset +ℤ z)) whole) ∙ reach (sliced_index ns a s origin) (slice_within origin here)
-    where
-      plus_zero : (z : ℤ) → z +ℤ pos 0 ≡ z
-      plus_zero z = omega (arith, ints)
 
   pub slice_first_below : (offset : ℕ) → ReachesPlaces offset ns ss → 0 < size_of (sliced_shape ns a s) → offset < 9223372036854775808
   slice_first_below offset reach some =

@@ -1,7 +1,7 @@
 use Rattle.std.proofs.Common.{◌∙◌, ap, [], ◌∷◌}
 use Rattle.nd_shape_and_slice.specs.Shape.{in_box}
+use Rattle.nd_shape_and_slice.proofs.Indexes.{in_two_axes}
 use Rattle.nd_array_core.specs.Meaning.{meaning_of}
-use Rattle.nd_array_core.proofs.law_lemmas.EqualCells.{cell_inside}
 use Rattle.nd_array_core.proofs.law_lemmas.Regrouping.{joined_shape_of, joined_short_of, joined_element_of}
 use Rattle.nd_array_core.proofs.laws.rows_joined.Goals as goal
 
@@ -21,4 +21,4 @@ pub returns-clause-elements : goal.returns-clause-elements
 unfolding meaning_of
 returns-clause-elements g c n m same i j low below =
     let array = c.args.array.now in
-    joined_element_of (g.D.Dimension.lengths array.layout.dim) array.layout.checked n m [] same (meaning_of array).at i j [] (ap (λ ks. in_box ks (i ∷ j ∷ [])) same ∙ cell_inside n m i j low below)
+    joined_element_of (g.D.Dimension.lengths array.layout.dim) array.layout.checked n m [] same (meaning_of array).at i j [] (ap (λ ks. in_box ks (i ∷ j ∷ [])) same ∙ in_two_axes n m i j low below)

@@ -1,16 +1,25 @@
-use Rattle.std.proofs.Common.{arith, rules, subst, ℕ, ◌<◌, ◌≡◌, ◌+◌, ◌*◌, ◌∙◌, ◌∷◌, sym, ap, refl, length, drop, get_or, set, replicate, pos, FitsSigned, w64}
+use Rattle.std.proofs.Common.{arith, rules, subst, ℕ, ℤ, List, ◌≤◌, ◌++◌, take, ◌<◌, ◌≡◌, ◌+◌, ◌*◌, ◌∙◌, ◌∷◌, sym, ap, refl, length, drop, get_or, set, replicate, pos, FitsSigned, w64}
 use Rattle.std.proofs.lemmas.Int.{to_z-of_z}
 use Rattle.std.proofs.lemmas.List.{length-replicate}
 use Rattle.nd_shape_and_slice.specs.Shape.{size_of}
 use Rattle.std.proofs.lemmas.Bool.{false≢true}
 use Rattle.nd_shape_and_slice.proofs.RowMajor.{span_of-zeros}
 use Rattle.nd_shape_and_slice.proofs.Sizes.{size_of-drop}
+use Rattle.nd_shape_and_slice.specs.declared.builder.Order.{Order}
 use Rattle.nd_layout.specs.Ranks.{fastest_first, ServesRanks, Regroups}
 use Rattle.nd_layout.proofs.Orders.{length-ordered, size_of-ordered, span_of-ordered, IsSeparated-ordered, IsSeparated-unordered, Serves-from_ranks, ranks_from_Serves, rests-unordered}
 use Rattle.nd_layout.proofs.Regroups.{Regroups-one_in}
 use Rattle.nd_layout.proofs.Serving.{serves_all}
 use Rattle.nd_layout.proofs.Reshaped.{sizes_at, some_to_take, span_left, taken_more, size_left, none_left, all_taken, span_all, separated_all, Serves-empty, rests_more, rests_all}
 use Rattle.nd_layout.proofs.reshape.reshape_strides.Goals as goal
+
+-- all axes are taken: the strides found regroup the layout, up to axes of length 1 behind
+all_in_order : (o : Order) (os : List ℕ) (ps : List ℤ) (new : List ℕ) (out : List ℤ) (gn : List ℕ) (gs : List ℤ) (nth : ℕ) → length new ≤ nth → length out ≡ length new → Regroups os ps (take nth (fastest_first o new) ++ gn) (take nth (fastest_first o out) ++ gs)
+    → (length (fastest_first o out) ≡ length (fastest_first o new)) × Regroups os ps (fastest_first o new ++ gn) (fastest_first o out ++ gs)
+all_in_order o os ps new out gn gs nth past long g =
+    let ln = length-ordered o new in
+    let same : length (fastest_first o out) ≡ length (fastest_first o new) = omega (arith, long, ln, length-ordered o out) in
+    (same, all_taken os ps (fastest_first o new) (fastest_first o out) gn gs nth (omega (arith, past, ln)) same g)
 
 pub returns-then-is_empty_shape-clause-exact : goal.returns-then-is_empty_shape-clause-exact
 returns-then-is_empty_shape-clause-exact c =
@@ -121,42 +130,26 @@ loop-nth-preserved c =
 
 pub returns-clause-exact : goal.returns-clause-exact
 returns-clause-exact c =
-    let ms = fastest_first c.args.order c.args.new.now in
-    let ts = fastest_first c.args.order c.loop-nth.out in
-    let lm = length-ordered c.args.order c.args.new.now in
-    let lt = length-ordered c.args.order c.loop-nth.out in
-    let all = all_taken _ _ ms ts _ _ c.loop-nth.nth (omega arith) (omega arith) c.loop-nth.invariant.regroups in
-    (λ _. (c.loop-nth.out, Serves-from_ranks c.args.order c.args.lengths.now c.args.strides.now c.args.new.now c.loop-nth.out c.requires.as_many (serves_all _ _ ms ts _ _ (omega arith) all)), λ _. refl)
+    let all = all_in_order c.args.order _ _ c.args.new.now c.loop-nth.out _ _ c.loop-nth.nth (omega arith) (omega arith) c.loop-nth.invariant.regroups in
+    (λ _. (c.loop-nth.out, Serves-from_ranks c.args.order c.args.lengths.now c.args.strides.now c.args.new.now c.loop-nth.out c.requires.as_many (serves_all _ _ _ _ _ _ all.0 all.1)), λ _. refl)
 
 pub returns-clause-serves : goal.returns-clause-serves
 returns-clause-serves c =
-    let ms = fastest_first c.args.order c.args.new.now in
-    let ts = fastest_first c.args.order c.loop-nth.out in
-    let lm = length-ordered c.args.order c.args.new.now in
-    let lt = length-ordered c.args.order c.loop-nth.out in
-    let all = all_taken _ _ ms ts _ _ c.loop-nth.nth (omega arith) (omega arith) c.loop-nth.invariant.regroups in
-    λ _. Serves-from_ranks c.args.order c.args.lengths.now c.args.strides.now c.args.new.now c.loop-nth.out c.requires.as_many (serves_all _ _ ms ts _ _ (omega arith) all)
+    let all = all_in_order c.args.order _ _ c.args.new.now c.loop-nth.out _ _ c.loop-nth.nth (omega arith) (omega arith) c.loop-nth.invariant.regroups in
+    λ _. Serves-from_ranks c.args.order c.args.lengths.now c.args.strides.now c.args.new.now c.loop-nth.out c.requires.as_many (serves_all _ _ _ _ _ _ all.0 all.1)
 
 pub returns-clause-span : goal.returns-clause-span
 returns-clause-span c =
-    let ms = fastest_first c.args.order c.args.new.now in
-    let ts = fastest_first c.args.order c.loop-nth.out in
-    let lm = length-ordered c.args.order c.args.new.now in
-    let lt = length-ordered c.args.order c.loop-nth.out in
-    let all = all_taken _ _ ms ts _ _ c.loop-nth.nth (omega arith) (omega arith) c.loop-nth.invariant.regroups in
-    let less = span_all _ _ ms ts _ _ (omega arith) all in
+    let all = all_in_order c.args.order _ _ c.args.new.now c.loop-nth.out _ _ c.loop-nth.nth (omega arith) (omega arith) c.loop-nth.invariant.regroups in
+    let less = span_all _ _ _ _ _ _ all.0 all.1 in
     λ _. omega (arith, less, span_of-ordered c.args.order c.args.lengths.now c.args.strides.now c.requires.as_many, span_of-ordered c.args.order c.args.new.now c.loop-nth.out (omega arith))
 
 pub returns-clause-separated : goal.returns-clause-separated
 returns-clause-separated c =
-    let ms = fastest_first c.args.order c.args.new.now in
-    let ts = fastest_first c.args.order c.loop-nth.out in
-    let lm = length-ordered c.args.order c.args.new.now in
-    let lt = length-ordered c.args.order c.loop-nth.out in
-    let all = all_taken _ _ ms ts _ _ c.loop-nth.nth (omega arith) (omega arith) c.loop-nth.invariant.regroups in
+    let all = all_in_order c.args.order _ _ c.args.new.now c.loop-nth.out _ _ c.loop-nth.nth (omega arith) (omega arith) c.loop-nth.invariant.regroups in
     λ _ _ apart.
     IsSeparated-unordered c.args.order c.args.new.now c.loop-nth.out (omega arith)
-    (separated_all _ _ ms ts _ _ (omega arith) all (IsSeparated-ordered c.args.order c.args.lengths.now c.args.strides.now c.requires.as_many apart))
+    (separated_all _ _ _ _ _ _ all.0 all.1 (IsSeparated-ordered c.args.order c.args.lengths.now c.args.strides.now c.requires.as_many apart))
 
 pub returns-clause-rests : goal.returns-clause-rests
 returns-clause-rests c =

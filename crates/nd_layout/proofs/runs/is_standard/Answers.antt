@@ -7,7 +7,7 @@ use Rattle.nd_shape_and_slice.specs.declared.builder.Order.TheVariants.{RowMajor
 use Rattle.nd_layout.specs.Ranks.{fastest_first}
 use Rattle.nd_layout.proofs.Sizes.{size-le-product}
 use Rattle.nd_layout.proofs.Orders.{length-ordered, size_of-ordered, rank_in-below}
-use Rattle.nd_layout.proofs.Standard.{StepsBy-at, StepsBy-back, StepsBy-none, StepsBy-from_standard, standard_from_StepsBy, part_of_size}
+use Rattle.nd_layout.proofs.Standard.{StepsBy-at, StepsBy-back, StepsBy-none, StepsBy-from_standard, standard_from_StepsBy, part_in_order}
 use Rattle.nd_layout.proofs.runs.is_standard.Goals as goal
 
 pub returns-then-is_empty_shape : goal.returns-then-is_empty_shape
@@ -17,20 +17,12 @@ returns-then-is_empty_shape c =
 
 pub steps_by-requires : goal.steps_by-requires
 steps_by-requires c =
-    let ns = fastest_first RowMajor c.args.lengths.now in
-    let ln = length-ordered RowMajor c.args.lengths.now in
-    let z = size_of-ordered RowMajor c.args.lengths.now in
-    let some : 0 < size_of c.args.lengths.now = search rules in
-    let p = part_of_size ns c.loop-nth.expected c.loop-nth.nth (size_of ns) (omega arith) (omega arith) c.loop-nth.invariant.size in
+    let p = part_in_order RowMajor c.args.lengths.now c.loop-nth.expected c.loop-nth.nth (omega arith) (search rules) c.loop-nth.invariant.size in
     omega (arith, p.0, size-le-product c.args.lengths.now)
 
 pub overflow_mul-expected : goal.overflow_mul-expected
 overflow_mul-expected c =
-    let ns = fastest_first RowMajor c.args.lengths.now in
-    let ln = length-ordered RowMajor c.args.lengths.now in
-    let z = size_of-ordered RowMajor c.args.lengths.now in
-    let some : 0 < size_of c.args.lengths.now = search rules in
-    let p = part_of_size ns c.loop-nth.expected c.loop-nth.nth (size_of ns) (omega arith) (omega arith) c.loop-nth.invariant.size in
+    let p = part_in_order RowMajor c.args.lengths.now c.loop-nth.expected c.loop-nth.nth (omega arith) (search rules) c.loop-nth.invariant.size in
     rw c.nth_length-len.ensures (omega (arith, p.1, size-le-product c.args.lengths.now))
 
 pub returns-then-not-steps_by : goal.returns-then-not-steps_by
@@ -39,9 +31,7 @@ returns-then-not-steps_by c =
     let ss = fastest_first RowMajor c.args.strides.now in
     let ln = length-ordered RowMajor c.args.lengths.now in
     let ls = length-ordered RowMajor c.args.strides.now in
-    let z = size_of-ordered RowMajor c.args.lengths.now in
-    let some : 0 < size_of c.args.lengths.now = search rules in
-    let p = part_of_size ns c.loop-nth.expected c.loop-nth.nth (size_of ns) (omega arith) (omega arith) c.loop-nth.invariant.size in
+    let p = part_in_order RowMajor c.args.lengths.now c.loop-nth.expected c.loop-nth.nth (omega arith) (search rules) c.loop-nth.invariant.size in
     let n_is : c.nth_length-len.result ≡ get_or ns c.loop-nth.nth 0 = c.nth_length-len.ensures in
     let f : FitsSigned w64 c.nth_stride.result = search rules in (
       λ no. absurd (false≢true no),
@@ -57,18 +47,16 @@ loop-nth-preserved c =
     let ss = fastest_first RowMajor c.args.strides.now in
     let ln = length-ordered RowMajor c.args.lengths.now in
     let ls = length-ordered RowMajor c.args.strides.now in
-    let z = size_of-ordered RowMajor c.args.lengths.now in
-    let some : 0 < size_of c.args.lengths.now = search rules in
     let nth = c.loop-nth.nth in
     let expected = c.loop-nth.expected in
-    let p = part_of_size ns expected nth (size_of ns) (omega arith) (omega arith) c.loop-nth.invariant.size in
+    let p = part_in_order RowMajor c.args.lengths.now c.loop-nth.expected c.loop-nth.nth (omega arith) (search rules) c.loop-nth.invariant.size in
     let n_is : c.nth_length-len.result ≡ get_or ns nth 0 = c.nth_length-len.ensures in
     let f : FitsSigned w64 c.nth_stride.result = search rules in
     let first : 1 < get_or ns nth 0 → get_or ss nth (pos 0) ≡ pos expected =
     λ long. sym c.nth_stride.ensures ∙ sym (to_z-of_z w64 c.nth_stride.result f) ∙ (c.if-not-steps_by.ensures {u = tt}).0 refl (λ is. omega arith) in
     rw c.nth_length-len.ensures
     (record {
-      size = p.4;
+      size = p.3;
       steps = (
         λ steps. (StepsBy-at expected ns ss nth (omega arith) (omega arith) p.2 (c.loop-nth.invariant.steps.0 steps)).1,
         λ rest. c.loop-nth.invariant.steps.1 (StepsBy-back expected ns ss nth (omega arith) (omega arith) p.2 first rest),

@@ -1,8 +1,9 @@
 use Rattle.std.proofs.Common.{◌+◌, get_or, map, ap, ◌∙◌, arith}
 use Rattle.std.proofs.lemmas.List.{length-map, take_all}
+use Rattle.nd_shape_and_slice.proofs.Lists.{got_mapped}
 use Rattle.nd_array_core.specs.Meaning.{shape_of}
 use Rattle.nd_array_core.specs.growth.InTurn.{lengths_along}
-use Rattle.nd_stacking.proofs.Joining.{lengths_more, lengths_within, mapped_at}
+use Rattle.nd_stacking.proofs.Joining.{lengths_more, lengths_within}
 use Rattle.nd_run.proofs.joining.lengths_together.Goals as goal
 
 pub loop-other-preserved : goal.loop-other-preserved
@@ -10,7 +11,7 @@ loop-other-preserved g c =
     let held = g.T.Holds.held in
     let other = c.other-item.result in
     let k = c.loop-other.other-index in
-    let at = mapped_at held c.args.others.now k other c.loop-other-test.true c.other-item.is in
+    let at = got_mapped held c.args.others.now k other c.loop-other-test.true c.other-item.is in
     let more = lengths_more c.args.axis (map held c.args.others.now) k (held other) at in
     let len = c.length_at.ensures ∙ ap (λ m. get_or m.shape c.args.axis 0) c.array.ensures in
     let sum = (c.in-Some.ensures {u = tt}).1 in
@@ -22,7 +23,7 @@ returns-in-None-clause-many g c = λ _.
     let held = g.T.Holds.held in
     let other = c.other-item.result in
     let k = c.loop-other.other-index in
-    let at = mapped_at held c.args.others.now k other c.loop-other-test.true c.other-item.is in
+    let at = got_mapped held c.args.others.now k other c.loop-other-test.true c.other-item.is in
     let within = lengths_within c.args.axis (map held c.args.others.now) k (held other) at in
     let len = c.length_at.ensures ∙ ap (λ m. get_or m.shape c.args.axis 0) c.array.ensures in
     let past = c.in-None.ensures {u = tt} in

@@ -12,18 +12,15 @@ use Rattle.nd_run.specs.declared.cause.Cause.TheVariants as causes
 use Rattle.nd_run.specs.Steps.{first_failed}
 use Rattle.nd_run.specs.Fold.{append_tests}
 use Rattle.nd_run.proofs.run.append.Goals as goal
-
-passed : (t : Bool) (cause : Cause) (rest : Option Cause) → cond t rest (Some cause) ≡ None → (t ≡ true) × (rest ≡ None)
-passed true cause rest e = (refl, e)
-passed false cause rest e = absurd cc
+use Rattle.nd_run.proofs.StepTests.{all_passed}
 
 -- where no test fails the array fits, and the size of both is one
 fits : (axis : ℕ) (ms ns : List ℕ) → first_failed (append_tests axis ms ns) ≡ None → CanComeBehind ns ms axis
 fits axis ms ns e =
-    let axes = passed (nat_lt 0 (length ns)) causes.Shape _ e in
-    let on = passed (nat_lt axis (length ns)) causes.Axis _ axes.1 in
-    let alike = passed (stretches ms (shape_behind ns ms axis)) causes.Shape _ on.1 in
-    let size = passed (nat_lt (nonzero_product (concatenated_shape ns ms axis)) (2 ^ 63)) causes.Overflow None alike.1 in
+    let axes = all_passed (nat_lt 0 (length ns)) causes.Shape _ e in
+    let on = all_passed (nat_lt axis (length ns)) causes.Axis _ axes.1 in
+    let alike = all_passed (stretches ms (shape_behind ns ms axis)) causes.Shape _ on.1 in
+    let size = all_passed (nat_lt (nonzero_product (concatenated_shape ns ms axis)) (2 ^ 63)) causes.Overflow None alike.1 in
     ((ltb-true 0 (length ns) axes.0, alike.0), ltb-true (nonzero_product (concatenated_shape ns ms axis)) (2 ^ 63) size.0)
 
 not_refused : (ns ms : List ℕ) (axis : ℕ) (kind : ErrorKind) → FitsBehind ns ms axis → HasCheckedSize (concatenated_shape ns ms axis) → IsJoiningRefused ns ms axis kind → ⊥

@@ -1,18 +1,17 @@
 use Rattle.std.proofs.Common.{◌≡◌, set, Some, ap, sym, subst, ◌∙◌}
+use Rattle.std.proofs.lemmas.Option.{same_Some}
 use Rattle.nd_array_core.specs.declared.base.array_error.ArrayError.{ArrayError}
 use Rattle.nd_array_core.specs.declared.base.array_error.ArrayError.TheVariants.{NoMemory, Shape}
 use Rattle.nd_array_core.specs.Laws.{NothingOutside}
 use Rattle.nd_array_core.specs.Meaning.{Meaning, meaning_of}
 use Rattle.nd_array_core.specs.growth.InTurn.{meanings_of}
 use Rattle.nd_shape_and_slice.specs.declared.errors.ErrorKind.{ErrorKind}
-use Rattle.nd_stacking.proofs.Joining.{has_axis_and_size, in_room, in_room_is, mapped_at, there_is_one}
+use Rattle.nd_shape_and_slice.proofs.Lists.{got_mapped}
+use Rattle.nd_stacking.proofs.Joining.{has_axis_and_size, in_room, in_room_is, there_is_one}
 use Rattle.nd_stacking.proofs.concatenating.appended.Goals as goal
 
 not_both : (e : ArrayError) (kind : ErrorKind) → e ≡ Shape kind → e ≡ NoMemory → ⊥
 not_both e kind shape memory = absurd cc
-
-got : {A : Type 0} (x y : Meaning A) → Some x ≡ Some y → x ≡ y
-got x y e = cc
 
 pub bounds-arrays-0 : goal.bounds-arrays-0
 bounds-arrays-0 g c = there_is_one c.args.axis.0 (λ a. meaning_of a) c.args.arrays.now c.requires.lengths.0
@@ -36,7 +35,7 @@ returns-in-Ok g c =
     let x = c.index-arrays-0.result in
     let shape = c.in_ok-all.ensures {u = tt} ∙ ap (λ l. set l c.args.axis.0 0) c.requires.lengths.1 in
     let one = there_is_one c.args.axis.0 (λ a. meaning_of a) c.args.arrays.now c.requires.lengths.0 in
-    let first = mapped_at (λ a. meaning_of a) c.args.arrays.now 0 x one c.index-arrays-0.is in
+    let first = got_mapped (λ a. meaning_of a) c.args.arrays.now 0 x one c.index-arrays-0.is in
     in_room_is c.args.axis.0 ms (meaning_of c.in_ok-all.all) (meaning_of c.append_each.new.self) c.requires.lengths.0
-    (λ m at. subst NothingOutside (got (meaning_of x) m (sym first ∙ at)) c.nothing_outside.ensures)
+    (λ m at. subst NothingOutside (same_Some (meaning_of x) m (sym first ∙ at)) c.nothing_outside.ensures)
     shape (c.in-Ok.ensures {u = tt}).joined

@@ -1,14 +1,13 @@
 use Rattle.std.proofs.Common.{◌≡◌, Some, sym, subst, ◌∙◌}
+use Rattle.std.proofs.lemmas.Option.{same_Some}
 use Rattle.nd_array_core.specs.Laws.{NothingOutside}
 use Rattle.nd_array_core.specs.Meaning.{Meaning, meaning_of}
 use Rattle.nd_array_core.specs.growth.InTurn.{meanings_of}
 use Rattle.nd_shape_and_slice.specs.declared.errors.ErrorKind.TheVariants.{IncompatibleShape, OutOfBounds, Overflow}
-use Rattle.nd_stacking.proofs.Joining.{has_axis_and_size, mapped_at, takes_all, there_is_one}
+use Rattle.nd_shape_and_slice.proofs.Lists.{got_mapped}
+use Rattle.nd_stacking.proofs.Joining.{has_axis_and_size, takes_all, there_is_one}
 use Rattle.nd_stacking.proofs.Woven.{runs_there, runs_together, woven_is}
 use Rattle.nd_stacking.proofs.concatenating.laid_by_runs.Goals as goal
-
-got : {A : Type 0} (x y : Meaning A) → Some x ≡ Some y → x ≡ y
-got x y e = cc
 
 pub bounds-arrays-0 : goal.bounds-arrays-0
 bounds-arrays-0 g c = there_is_one c.args.axis.0 (λ a. meaning_of a) c.args.arrays.now c.requires.lengths.0
@@ -36,8 +35,8 @@ returns g c =
     let ms = meanings_of c.args.arrays.now in
     let x = c.index-arrays-0.result in
     let one = there_is_one c.args.axis.0 (λ a. meaning_of a) c.args.arrays.now c.requires.lengths.0 in
-    let first = mapped_at (λ a. meaning_of a) c.args.arrays.now 0 x one c.index-arrays-0.is in
+    let first = got_mapped (λ a. meaning_of a) c.args.arrays.now 0 x one c.index-arrays-0.is in
     let made = c.in-Ok.ensures {u = tt} in
     woven_is c.args.axis.0 c.args.sizes.1 c.args.sizes.0 ms (g.D.Dimension.lengths c.args.dim) c.in_ok-items.items.items (meaning_of c.in-Ok.all) c.requires.lengths c.requires.ranks c.requires.before c.requires.behind
-    (λ m at. subst NothingOutside (got (meaning_of x) m (sym first ∙ at)) c.nothing_outside.ensures)
+    (λ m at. subst NothingOutside (same_Some (meaning_of x) m (sym first ∙ at)) c.nothing_outside.ensures)
     (c.in_ok-items.ensures {u = tt}).items made.shape made.elements

@@ -1,15 +1,16 @@
 use Rattle.std.proofs.Common.{◌<◌, ◌≤◌, length, set, Some, ap, sym, subst, ◌∙◌, arith}
 use Rattle.nd_shape_and_slice.specs.Shape.{HasCheckedSize}
+use Rattle.nd_shape_and_slice.proofs.Lists.{got_mapped}
 use Rattle.nd_array_core.specs.Meaning.{meaning_of}
 use Rattle.nd_array_core.specs.growth.InTurn.{lengths_along, meanings_of}
-use Rattle.nd_stacking.proofs.Joining.{joined_lengths, mapped_at, no_axis, nonempty, too_large, too_long, unlike}
+use Rattle.nd_stacking.proofs.Joining.{joined_lengths, no_axis, nonempty, too_large, too_long, unlike}
 use Rattle.nd_stacking.proofs.fitting.concatenated_dim.Goals as goal
 
 pub returns-then-axis-ndim-clause-refused : goal.returns-then-axis-ndim-clause-refused
 returns-then-axis-ndim-clause-refused g c =
     let x = c.index-arrays-0.result in
     let s = g.D.Dimension.lengths c.raw_dim-first.result in
-    let first = mapped_at (λ a. meaning_of a) c.args.arrays.now 0 x (nonempty (length c.args.arrays.now) c.is_empty.result c.is_empty.ensures c.if-is_empty.false) c.index-arrays-0.is in
+    let first = got_mapped (λ a. meaning_of a) c.args.arrays.now 0 x (nonempty (length c.args.arrays.now) c.is_empty.result c.is_empty.ensures c.if-is_empty.false) c.index-arrays-0.is in
     let count = c.ndim.ensures.value in
     let test = c.if-axis-ndim.true in
     let above : length s ≤ c.args.axis = omega (arith, count, test) in
@@ -19,7 +20,7 @@ pub returns-then-not-are_alike-clause-refused : goal.returns-then-not-are_alike-
 returns-then-not-are_alike-clause-refused g c =
     let x = c.index-arrays-0.result in
     let s = g.D.Dimension.lengths c.raw_dim-first.result in
-    let first = mapped_at (λ a. meaning_of a) c.args.arrays.now 0 x (nonempty (length c.args.arrays.now) c.is_empty.result c.is_empty.ensures c.if-is_empty.false) c.index-arrays-0.is in
+    let first = got_mapped (λ a. meaning_of a) c.args.arrays.now 0 x (nonempty (length c.args.arrays.now) c.is_empty.result c.is_empty.ensures c.if-is_empty.false) c.index-arrays-0.is in
     let count = c.ndim.ensures.value in
     let test = c.if-axis-ndim.false in
     let on : c.args.axis < length s = omega (arith, count, test) in
@@ -30,7 +31,7 @@ returns-in-None-clause-refused g c =
     let x = c.index-arrays-0.result in
     let s = g.D.Dimension.lengths c.raw_dim-first.result in
     let ms = meanings_of c.args.arrays.now in
-    let first = mapped_at (λ a. meaning_of a) c.args.arrays.now 0 x (nonempty (length c.args.arrays.now) c.is_empty.result c.is_empty.ensures c.if-is_empty.false) c.index-arrays-0.is in
+    let first = got_mapped (λ a. meaning_of a) c.args.arrays.now 0 x (nonempty (length c.args.arrays.now) c.is_empty.result c.is_empty.ensures c.if-is_empty.false) c.index-arrays-0.is in
     let count = c.ndim.ensures.value in
     let test = c.if-axis-ndim.false in
     let on : c.args.axis < length s = omega (arith, count, test) in
@@ -41,7 +42,7 @@ returns-in-Ok-clause-lengths g c =
     let x = c.index-arrays-0.result in
     let s = g.D.Dimension.lengths c.raw_dim-first.result in
     let ms = meanings_of c.args.arrays.now in
-    let first = mapped_at (λ a. meaning_of a) c.args.arrays.now 0 x (nonempty (length c.args.arrays.now) c.is_empty.result c.is_empty.ensures c.if-is_empty.false) c.index-arrays-0.is in
+    let first = got_mapped (λ a. meaning_of a) c.args.arrays.now 0 x (nonempty (length c.args.arrays.now) c.is_empty.result c.is_empty.ensures c.if-is_empty.false) c.index-arrays-0.is in
     let count = c.ndim.ensures.value in
     let test = c.if-axis-ndim.false in
     let on : c.args.axis < length s = omega (arith, count, test) in
@@ -53,7 +54,7 @@ returns-in-Err-clause-refused g c =
     let x = c.index-arrays-0.result in
     let s = g.D.Dimension.lengths c.raw_dim-first.result in
     let ms = meanings_of c.args.arrays.now in
-    let first = mapped_at (λ a. meaning_of a) c.args.arrays.now 0 x (nonempty (length c.args.arrays.now) c.is_empty.result c.is_empty.ensures c.if-is_empty.false) c.index-arrays-0.is in
+    let first = got_mapped (λ a. meaning_of a) c.args.arrays.now 0 x (nonempty (length c.args.arrays.now) c.is_empty.result c.is_empty.ensures c.if-is_empty.false) c.index-arrays-0.is in
     let count = c.ndim.ensures.value in
     let test = c.if-axis-ndim.false in
     let on : c.args.axis < length s = omega (arith, count, test) in

@@ -2,9 +2,10 @@ use Rattle.std.proofs.Common.{◌<◌, ◌≤◌, length, set, Some, refl, ap, s
 use Rattle.std.specs.List.{insert}
 use Rattle.std.proofs.lemmas.List.{length-map}
 use Rattle.nd_shape_and_slice.specs.Shape.{HasCheckedSize}
+use Rattle.nd_shape_and_slice.proofs.Lists.{got_mapped}
 use Rattle.nd_array_core.specs.Meaning.{meaning_of}
 use Rattle.nd_array_core.specs.growth.InTurn.{meanings_of}
-use Rattle.nd_stacking.proofs.Joining.{mapped_at, nonempty}
+use Rattle.nd_stacking.proofs.Joining.{nonempty}
 use Rattle.nd_stacking.proofs.Stacked.{no_place, other_shape, stack_fits, stack_lengths, stack_too_large}
 use Rattle.nd_stacking.proofs.fitting.stacked_dim.Goals as goal
 
@@ -12,7 +13,7 @@ pub returns-then-axis-ndim-clause-refused : goal.returns-then-axis-ndim-clause-r
 returns-then-axis-ndim-clause-refused g c =
     let x = c.index-arrays-0.result in
     let s = g.D.Dimension.lengths c.raw_dim-first.result in
-    let first = mapped_at (λ a. meaning_of a) c.args.arrays.now 0 x (nonempty (length c.args.arrays.now) c.is_empty.result c.is_empty.ensures c.if-is_empty.false) c.index-arrays-0.is in
+    let first = got_mapped (λ a. meaning_of a) c.args.arrays.now 0 x (nonempty (length c.args.arrays.now) c.is_empty.result c.is_empty.ensures c.if-is_empty.false) c.index-arrays-0.is in
     let count = c.ndim.ensures.value in
     let test = c.if-axis-ndim.true in
     let above : length s < c.args.axis.0 = omega (arith, count, test) in
@@ -22,7 +23,7 @@ pub returns-then-not-are_equal-clause-refused : goal.returns-then-not-are_equal-
 returns-then-not-are_equal-clause-refused g c =
     let x = c.index-arrays-0.result in
     let s = g.D.Dimension.lengths c.raw_dim-first.result in
-    let first = mapped_at (λ a. meaning_of a) c.args.arrays.now 0 x (nonempty (length c.args.arrays.now) c.is_empty.result c.is_empty.ensures c.if-is_empty.false) c.index-arrays-0.is in
+    let first = got_mapped (λ a. meaning_of a) c.args.arrays.now 0 x (nonempty (length c.args.arrays.now) c.is_empty.result c.is_empty.ensures c.if-is_empty.false) c.index-arrays-0.is in
     let count = c.ndim.ensures.value in
     let test = c.if-axis-ndim.false in
     let within : c.args.axis.0 ≤ length s = omega (arith, count, test) in
@@ -33,7 +34,7 @@ returns-in-Ok-clause-lengths g c =
     let x = c.index-arrays-0.result in
     let axis = c.args.axis.0 in
     let s = g.D.Dimension.lengths c.raw_dim-first.result in
-    let first = mapped_at (λ a. meaning_of a) c.args.arrays.now 0 x (nonempty (length c.args.arrays.now) c.is_empty.result c.is_empty.ensures c.if-is_empty.false) c.index-arrays-0.is in
+    let first = got_mapped (λ a. meaning_of a) c.args.arrays.now 0 x (nonempty (length c.args.arrays.now) c.is_empty.result c.is_empty.ensures c.if-is_empty.false) c.index-arrays-0.is in
     let count = c.ndim.ensures.value in
     let test = c.if-axis-ndim.false in
     let within : axis ≤ length s = omega (arith, count, test) in
@@ -46,7 +47,7 @@ returns-in-Ok-clause-fits g c =
     let x = c.index-arrays-0.result in
     let axis = c.args.axis.0 in
     let s = g.D.Dimension.lengths c.raw_dim-first.result in
-    let first = mapped_at (λ a. meaning_of a) c.args.arrays.now 0 x (nonempty (length c.args.arrays.now) c.is_empty.result c.is_empty.ensures c.if-is_empty.false) c.index-arrays-0.is in
+    let first = got_mapped (λ a. meaning_of a) c.args.arrays.now 0 x (nonempty (length c.args.arrays.now) c.is_empty.result c.is_empty.ensures c.if-is_empty.false) c.index-arrays-0.is in
     let count = c.ndim.ensures.value in
     let test = c.if-axis-ndim.false in
     let within : axis ≤ length s = omega (arith, count, test) in
@@ -59,7 +60,7 @@ returns-in-Err-clause-refused g c =
     let x = c.index-arrays-0.result in
     let axis = c.args.axis.0 in
     let s = g.D.Dimension.lengths c.raw_dim-first.result in
-    let first = mapped_at (λ a. meaning_of a) c.args.arrays.now 0 x (nonempty (length c.args.arrays.now) c.is_empty.result c.is_empty.ensures c.if-is_empty.false) c.index-arrays-0.is in
+    let first = got_mapped (λ a. meaning_of a) c.args.arrays.now 0 x (nonempty (length c.args.arrays.now) c.is_empty.result c.is_empty.ensures c.if-is_empty.false) c.index-arrays-0.is in
     let count = c.ndim.ensures.value in
     let test = c.if-axis-ndim.false in
     let within : axis ≤ length s = omega (arith, count, test) in

@@ -1,9 +1,10 @@
 use Rattle.std.proofs.Common.{◌≡◌, ◌≤◌, ◌+◌, true, length, ap, sym, subst, ◌∙◌, arith}
+use Rattle.nd_shape_and_slice.proofs.Lists.{got_mapped}
 use Rattle.nd_array_core.specs.Laws.{with_axis_inserted}
 use Rattle.nd_array_core.specs.Meaning.{meaning_of}
 use Rattle.nd_array_core.specs.growth.InTurn.{meanings_of}
 use Rattle.nd_stacking.proofs.Alike.{same_meaning}
-use Rattle.nd_stacking.proofs.Joining.{mapped_at, pushed_more}
+use Rattle.nd_stacking.proofs.Joining.{pushed_more}
 use Rattle.nd_stacking.proofs.stacking.with_axis.Goals as goal
 
 pub loop-nth-preserved : goal.loop-nth-preserved
@@ -11,7 +12,7 @@ loop-nth-preserved g c =
     let x = c.index-arrays-nth.result in
     let axis = c.args.axis.0 in
     let ms = meanings_of c.args.arrays.now in
-    let at = mapped_at (λ a. meaning_of a) c.args.arrays.now c.loop-nth.nth x c.loop-nth-test.true c.index-arrays-nth.is in
+    let at = got_mapped (λ a. meaning_of a) c.args.arrays.now c.loop-nth.nth x c.loop-nth-test.true c.index-arrays-nth.is in
     let seen : meaning_of c.view.result ≡ meaning_of x = same_meaning (meaning_of c.view.result) (meaning_of x) c.view.ensures.whole.0 c.view.ensures.whole.2 in
     let is : meaning_of c.insert_axis.result ≡ with_axis_inserted axis (meaning_of x) =
     same_meaning (meaning_of c.insert_axis.result) (with_axis_inserted axis (meaning_of c.view.result)) c.insert_axis.ensures.part.0.0 c.insert_axis.ensures.part.0.2 ∙ ap (with_axis_inserted axis) seen in
@@ -28,11 +29,11 @@ loop-nth-preserved g c =
 pub insert_axis-requires-clause-place : goal.insert_axis-requires-clause-place
 insert_axis-requires-clause-place g c =
     let x = c.index-arrays-nth.result in
-    let at = mapped_at (λ a. meaning_of a) c.args.arrays.now c.loop-nth.nth x c.loop-nth-test.true c.index-arrays-nth.is in
+    let at = got_mapped (λ a. meaning_of a) c.args.arrays.now c.loop-nth.nth x c.loop-nth-test.true c.index-arrays-nth.is in
     subst (λ s. c.args.axis.0 ≤ length s) (sym c.view.ensures.whole.0) (c.requires.place c.loop-nth.nth (meaning_of x) at)
 
 pub insert_axis-requires-clause-room : goal.insert_axis-requires-clause-room
 insert_axis-requires-clause-room g c =
     let x = c.index-arrays-nth.result in
-    let at = mapped_at (λ a. meaning_of a) c.args.arrays.now c.loop-nth.nth x c.loop-nth-test.true c.index-arrays-nth.is in
+    let at = got_mapped (λ a. meaning_of a) c.args.arrays.now c.loop-nth.nth x c.loop-nth-test.true c.index-arrays-nth.is in
     subst (λ s. g.D.Larger.Dimension.has_axes (length s + 1) ≡ true) (sym c.view.ensures.whole.0) (c.requires.room c.loop-nth.nth (meaning_of x) at)

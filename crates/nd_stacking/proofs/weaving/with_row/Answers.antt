@@ -1,9 +1,10 @@
 use Rattle.std.proofs.Common.{◌≡◌, ◌+◌, ◌*◌, ◌≤◌, length, get_or, take, refl, ap, ◌∙◌, arith}
 use Rattle.std.proofs.Math.Nat.{add-mul, mul-le-mul_right}
 use Rattle.std.proofs.lemmas.Option.{slice_get_read}
+use Rattle.nd_shape_and_slice.proofs.Lists.{got_mapped}
 use Rattle.nd_array_core.specs.Meaning.{meaning_of}
 use Rattle.nd_array_core.specs.growth.InTurn.{lengths_along, meanings_of}
-use Rattle.nd_stacking.proofs.Joining.{lengths_more, lengths_within, mapped_at}
+use Rattle.nd_stacking.proofs.Joining.{lengths_more, lengths_within}
 use Rattle.nd_stacking.proofs.Woven.{row_more}
 use Rattle.nd_stacking.proofs.weaving.with_row.Goals as goal
 
@@ -16,12 +17,12 @@ run_of-requires-clause-standard g c =
 pub run_of-requires-clause-within : goal.run_of-requires-clause-within
 run_of-requires-clause-within g c =
     let x = c.index-arrays-nth.result in
-    c.requires.runs c.loop-nth.nth (meaning_of x) (mapped_at (λ a. meaning_of a) c.args.arrays.now c.loop-nth.nth x c.loop-nth-test.true c.index-arrays-nth.is)
+    c.requires.runs c.loop-nth.nth (meaning_of x) (got_mapped (λ a. meaning_of a) c.args.arrays.now c.loop-nth.nth x c.loop-nth-test.true c.index-arrays-nth.is)
 
 pub with_clones-requires-clause-clones : goal.with_clones-requires-clause-clones
 with_clones-requires-clause-clones g c place y there copy made =
     let x = c.index-arrays-nth.result in
-    let at = mapped_at (λ a. meaning_of a) c.args.arrays.now c.loop-nth.nth x c.loop-nth-test.true c.index-arrays-nth.is in
+    let at = got_mapped (λ a. meaning_of a) c.args.arrays.now c.loop-nth.nth x c.loop-nth-test.true c.index-arrays-nth.is in
     let from = c.run_of.ensures.elements place y there in
     c.requires.clones c.loop-nth.nth (meaning_of x) at from.0 y from.1 copy made
 
@@ -32,7 +33,7 @@ with_clones-requires-clause-room g c =
     let ms = meanings_of c.args.arrays.now in
     let so_far = lengths_along axis (take c.loop-nth.nth ms) in
     let len = get_or (meaning_of x).shape axis 0 in
-    let at = mapped_at (λ a. meaning_of a) c.args.arrays.now c.loop-nth.nth x c.loop-nth-test.true c.index-arrays-nth.is in
+    let at = got_mapped (λ a. meaning_of a) c.args.arrays.now c.loop-nth.nth x c.loop-nth-test.true c.index-arrays-nth.is in
     let within : (so_far + len) * c.args.behind ≤ lengths_along axis ms * c.args.behind = mul-le-mul_right c.args.behind (lengths_within axis ms c.loop-nth.nth (meaning_of x) at) in
     let split : (so_far + len) * c.args.behind ≡ so_far * c.args.behind + len * c.args.behind = add-mul so_far len c.args.behind in
     let run : length c.run_of.result.now ≡ len * c.args.behind = c.run_of.ensures.len in
@@ -49,7 +50,7 @@ loop-nth-preserved g c =
     let nth = c.loop-nth.nth in
     let so_far = lengths_along axis (take nth ms) in
     let len = get_or (meaning_of x).shape axis 0 in
-    let at = mapped_at (λ a. meaning_of a) c.args.arrays.now nth x c.loop-nth-test.true c.index-arrays-nth.is in
+    let at = got_mapped (λ a. meaning_of a) c.args.arrays.now nth x c.loop-nth-test.true c.index-arrays-nth.is in
     let before = c.loop-nth.invariant in
     let made = c.in_ok-longer.ensures {u = tt} in
     let split : (so_far + len) * c.args.behind ≡ so_far * c.args.behind + len * c.args.behind = add-mul so_far len c.args.behind in

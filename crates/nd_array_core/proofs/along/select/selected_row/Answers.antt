@@ -1,10 +1,9 @@
 use Rattle.std.proofs.Common.{◌∙◌, ap}
 use Rattle.std.specs.Prelude.{slice_index}
-use Rattle.std.proofs.lemmas.Result.{IfOk-weaker}
+use Rattle.std.proofs.lemmas.Result.{IfOk-weaker, on_err_weaker}
 use Rattle.nd_shape_and_slice.specs.Maps.{collapsed_shape}
 use Rattle.nd_array_core.specs.Meaning.{meaning_of, shape_of, element_at}
 use Rattle.nd_elements.specs.Storages.{shown_by}
-use Rattle.nd_elements.proofs.Assigned.{on_err}
 use Rattle.nd_array_core.proofs.along_lemmas.Selecting.{selected_more, row_shown, row_is_some, box_has}
 use Rattle.nd_array_core.proofs.along.select.selected_row.Goals as goal
 
@@ -26,7 +25,7 @@ returns-clause-items g c =
 pub returns-clause-refused : goal.returns-clause-refused
 returns-clause-refused g c =
     let array = c.args.array.now in
-    on_err c.listed_behind.result
+    on_err_weaker c.listed_behind.result
     (row_is_some (shape_of array) (shape_of c.collapse_axis.new.self) c.args.indices.now c.args.nth c.requires.axes c.requires.within
     (c.collapse_axis.ensures.part.0.0 ∙ ap (λ ns. collapsed_shape ns 0) c.view-row.ensures.whole.0))
     c.listed_behind.ensures.refused

@@ -1,6 +1,6 @@
 use Rattle.std.proofs.Common.{◌≡◌, ◌∙◌, ◌++◌, subst, OnOk}
+use Rattle.std.proofs.lemmas.Result.{on_err_weaker}
 use Rattle.nd_array_core.specs.Meaning.{meaning_of}
-use Rattle.nd_elements.proofs.Assigned.{on_err}
 use Rattle.nd_array_core.proofs.elements_lemmas.CloneRefusals.{joined_refused}
 use Rattle.nd_elements.proofs.Collecting.{joined_has, joined_clones, joined_elements}
 use Rattle.nd_array_core.proofs.elements.to_vec.list_behind.Goals as goal
@@ -40,7 +40,7 @@ returns-clause-refused g c =
     let layout = c.args.array.now.layout in
     let joined = rw (c.copied-joined.ensures.lengths, c.copied-joined.ensures.strides) at c.join_axes.ensures.joined in
     let refused = c.list_layout.ensures.refused in
-    on_err c.list_layout.result
+    on_err_weaker c.list_layout.result
     (joined_refused g.S.Elem.Clone.is_infallible (g.S.Data.stored c.args.array.now.storage) layout.offset (g.D.Dimension.lengths layout.dim) (g.D.Strides.StrideList.strides_of layout.strides)
     c.join_axes.new.self.offset (g.D.Dimension.lengths c.join_axes.new.self.dim) (g.D.Strides.StrideList.strides_of c.join_axes.new.self.strides)
     (c.join_axes.ensures.offset ∙ c.copied-joined.ensures.offset) joined)

@@ -2,8 +2,9 @@ use Rattle.std.proofs.Common.{◌≡◌, ◌∙◌, ◌||◌, eqb, get_or, lengt
 use Rattle.std.proofs.lemmas.Bool.{true≢false}
 use Rattle.std.proofs.lemmas.List.{length-set}
 use Rattle.nd_shape_and_slice.specs.Broadcast.{stretches}
+use Rattle.nd_layout.proofs.steps.DiagonalStep.{some_length}
 use Rattle.nd_array_core.specs.Joined.{shape_behind}
-use Rattle.nd_array_core.proofs.growth_lemmas.Stretched.{fits_as_it_is, fits_as_one, not_stretched, some_axes, stretched_all, stretched_next, stretches_long}
+use Rattle.nd_array_core.proofs.growth_lemmas.Stretched.{fits_as_it_is, fits_as_one, not_stretched, stretched_all, stretched_next, stretches_long}
 use Rattle.nd_array_core.proofs.growth.fits_behind.fits_behind.Goals as goal
 use Rattle.nd_array_core.proofs.growth.fits_behind.fits_behind.Goals.{else-added-nth-via-then-added-nth+else-added-nth-ne1, else-added-nth-via-else-added-nth}
 
@@ -44,6 +45,6 @@ returns c =
     let ms = c.args.added.now in
     let to = shape_behind ns ms c.args.axis in
     let long = c.if-added-shape.false ∙ sym (length-set ns c.args.axis (get_or ms c.args.axis 0)) in (
-      (λ is. (some_axes (length ns) (sym c.is_empty.ensures ∙ c.if-is_empty.false), stretched_all ms to c.loop-nth.nth c.loop-nth-test.false long c.loop-nth.invariant)),
+      (λ is. (some_length (length ns) (sym c.is_empty.ensures ∙ c.if-is_empty.false), stretched_all ms to c.loop-nth.nth c.loop-nth-test.false long c.loop-nth.invariant)),
       (λ fits. refl),
     )

@@ -1,11 +1,9 @@
 use Rattle.std.proofs.Common.{◌≡◌, ◌+◌, ◌-◌, ◌∙◌, ℕ, suc, pos, ◌+ℤ◌, ◌*ℤ◌, ap, sym, subst, arith}
+use Rattle.std.proofs.Math.Numerals.{suc-eq-add-one}
 use Rattle.nd_elements.specs.Places.{stored_at}
 use Rattle.nd_elements.specs.along.Accumulated.{ChangesAfter, TakesAfter, IsAccumulated}
 use Rattle.nd_elements.proofs.Accumulating.{accumulated_there, next_accumulable, accumulated_more}
 use Rattle.nd_elements.proofs.along.accumulate_axis.accumulate_by_steps.Goals as goal
-
-next : (m : ℕ) → suc m ≡ m + 1
-next m = omega arith
 
 pub change_after-now-requires-clause-holds : goal.change_after-now-requires-clause-holds
 change_after-now-requires-clause-holds g c k below =
@@ -19,7 +17,7 @@ change_after-now-requires-clause-callable g c =
     let lane = c.args.lane in
     let nth = c.loop-nth.nth in
     let test = c.loop-nth-test.true in
-    subst (λ m. TakesAfter g.F.FnMut (stored_at (g.S.Data.stored c.loop-nth.storage) (pos lane.place +ℤ (pos nth *ℤ lane.stride))) (stored_at (g.S.Data.stored c.loop-nth.storage) (pos lane.place +ℤ (pos m *ℤ lane.stride))) c.loop-nth.now) (next nth)
+    subst (λ m. TakesAfter g.F.FnMut (stored_at (g.S.Data.stored c.loop-nth.storage) (pos lane.place +ℤ (pos nth *ℤ lane.stride))) (stored_at (g.S.Data.stored c.loop-nth.storage) (pos lane.place +ℤ (pos m *ℤ lane.stride))) c.loop-nth.now) (suc-eq-add-one nth)
     (next_accumulable g.F.FnMut (λ k. pos lane.place +ℤ (pos k *ℤ lane.stride)) lane.count c.requires.apart (g.S.Data.stored c.args.storage.now) (g.S.Data.stored c.loop-nth.storage) c.args.f c.loop-nth.now
     nth (omega (arith, test)) c.loop-nth.invariant.0 c.requires.callable)
 
@@ -32,8 +30,8 @@ loop-nth-preserved g c =
     let now = g.S.Data.stored c.loop-nth.storage in (
       accumulated_more g.F.FnMut (λ k. pos lane.place +ℤ (pos k *ℤ lane.stride)) lane.count c.requires.apart (g.S.Data.stored c.args.storage.now) now c.args.f c.loop-nth.now
           nth (omega (arith, test)) new c.change_after-now.result c.loop-nth.invariant.0
-          (subst (λ m. ChangesAfter g.F.FnMut (stored_at now (pos lane.place +ℤ (pos nth *ℤ lane.stride))) (stored_at now (pos lane.place +ℤ (pos m *ℤ lane.stride))) (stored_at new (pos lane.place +ℤ (pos m *ℤ lane.stride))) c.loop-nth.now c.change_after-now.result) (sym (next nth)) c.change_after-now.ensures.called)
-          (λ p other. c.change_after-now.ensures.left p (λ e. other (e ∙ ap (λ m. pos lane.place +ℤ (pos m *ℤ lane.stride)) (sym (next nth))))),
+          (subst (λ m. ChangesAfter g.F.FnMut (stored_at now (pos lane.place +ℤ (pos nth *ℤ lane.stride))) (stored_at now (pos lane.place +ℤ (pos m *ℤ lane.stride))) (stored_at new (pos lane.place +ℤ (pos m *ℤ lane.stride))) c.loop-nth.now c.change_after-now.result) (sym (suc-eq-add-one nth)) c.change_after-now.ensures.called)
+          (λ p other. c.change_after-now.ensures.left p (λ e. other (e ∙ ap (λ m. pos lane.place +ℤ (pos m *ℤ lane.stride)) (sym (suc-eq-add-one nth))))),
       c.change_after-now.ensures.frame ∙ c.loop-nth.invariant.1,
     )
 

@@ -1,5 +1,6 @@
 use Rattle.std.proofs.Common.{◌≡◌, ◌+◌, ◌-◌, ◌<◌, ◌∙◌, ℕ, suc, true, pos, ◌+ℤ◌, ◌*ℤ◌, ap, sym, subst, refl, rules, arith, w64, FitsSigned}
 use Rattle.std.proofs.lemmas.Int.{to_z-of_z}
+use Rattle.std.proofs.Math.Numerals.{suc-eq-add-one}
 use Rattle.nd_layout.proofs.Integers.{sums, suc-mul}
 use Rattle.nd_layout.specs.Places.{is_place}
 use Rattle.nd_elements.specs.Places.{stored_at, names_place}
@@ -10,9 +11,6 @@ use Rattle.nd_elements.proofs.RowPairs.{two_of, row_takes_alike, row_changes_ali
 use Rattle.nd_elements.proofs.RowsAccumulating.{RowsAccumulated, rows_none, rows_all, rows_more, rows_apart, row_takes, row_there, next_there}
 use Rattle.nd_elements.proofs.along.accumulate_beside.accumulate_beside.Goals as goal
 
-next : (m : ℕ) → suc m ≡ m + 1
-next m = omega arith
-
 pub change_row-now-requires-clause-behind : goal.change_row-now-requires-clause-behind
 change_row-now-requires-clause-behind g c =
     let lane = c.args.lane in
@@ -20,7 +18,7 @@ change_row-now-requires-clause-behind g c =
     let fits : FitsSigned w64 lane.stride = search rules in
     let here = c.place_of.ensures in
     let there = c.place_of-in-loop-nth.ensures in
-    let more : pos (nth + 1) *ℤ lane.stride ≡ (pos nth *ℤ lane.stride) +ℤ lane.stride = subst (λ m. pos m *ℤ lane.stride ≡ (pos nth *ℤ lane.stride) +ℤ lane.stride) (next nth) (suc-mul nth lane.stride) in
+    let more : pos (nth + 1) *ℤ lane.stride ≡ (pos nth *ℤ lane.stride) +ℤ lane.stride = subst (λ m. pos m *ℤ lane.stride ≡ (pos nth *ℤ lane.stride) +ℤ lane.stride) (suc-eq-add-one nth) (suc-mul nth lane.stride) in
     rw (to_z-of_z w64 lane.stride fits) (omega (arith, sums, here, there, more))
 
 pub change_row-now-requires-clause-apart : goal.change_row-now-requires-clause-apart
@@ -40,7 +38,7 @@ change_row-now-requires-clause-apart g c j k on_j on_k same =
     let p = c.place_of.result in
     let q = c.place_of-in-loop-nth.result in
     let at_p : (r : ℕ) → pos (p + r) ≡ place r nth = λ r. beside_place lane.place p r nth lane.stride c.place_of.ensures in
-    let at_q : (r : ℕ) → pos (q + r) ≡ place r (suc nth) = λ r. beside_place lane.place q r (nth + 1) lane.stride c.place_of-in-loop-nth.ensures ∙ ap (place r) (sym (next nth)) in
+    let at_q : (r : ℕ) → pos (q + r) ≡ place r (suc nth) = λ r. beside_place lane.place q r (nth + 1) lane.stride c.place_of-in-loop-nth.ensures ∙ ap (place r) (sym (suc-eq-add-one nth)) in
     rows_apart g.F.FnMut place lanes w apart old now c.args.f c.loop-nth.now nth under so_far j k on_j on_k (sym (at_p j) ∙ (ap pos same ∙ at_q k))
 
 pub change_row-now-requires-clause-holds : goal.change_row-now-requires-clause-holds
@@ -60,7 +58,7 @@ change_row-now-requires-clause-holds g c =
     let p = c.place_of.result in
     let q = c.place_of-in-loop-nth.result in
     let at_p : (r : ℕ) → pos (p + r) ≡ place r nth = λ r. beside_place lane.place p r nth lane.stride c.place_of.ensures in
-    let at_q : (r : ℕ) → pos (q + r) ≡ place r (suc nth) = λ r. beside_place lane.place q r (nth + 1) lane.stride c.place_of-in-loop-nth.ensures ∙ ap (place r) (sym (next nth)) in
+    let at_q : (r : ℕ) → pos (q + r) ≡ place r (suc nth) = λ r. beside_place lane.place q r (nth + 1) lane.stride c.place_of-in-loop-nth.ensures ∙ ap (place r) (sym (suc-eq-add-one nth)) in
     let holds : (r k : ℕ) → r < lanes → k < suc w → names_place old (place r k) ≡ true = λ r k on below. c.requires.holds r k on (subst (λ n. k < n) last below) in (
       (λ r on. ap (names_place now) (at_p r) ∙ row_there g.F.FnMut place lanes w apart old now c.args.f c.loop-nth.now nth under so_far holds r on),
       (λ r on. ap (names_place now) (at_q r) ∙ next_there g.F.FnMut place lanes w apart old now c.args.f c.loop-nth.now nth under so_far holds r on),
@@ -83,7 +81,7 @@ change_row-now-requires-clause-callable g c =
     let p = c.place_of.result in
     let q = c.place_of-in-loop-nth.result in
     let at_p : (r : ℕ) → pos (p + r) ≡ place r nth = λ r. beside_place lane.place p r nth lane.stride c.place_of.ensures in
-    let at_q : (r : ℕ) → pos (q + r) ≡ place r (suc nth) = λ r. beside_place lane.place q r (nth + 1) lane.stride c.place_of-in-loop-nth.ensures ∙ ap (place r) (sym (next nth)) in
+    let at_q : (r : ℕ) → pos (q + r) ≡ place r (suc nth) = λ r. beside_place lane.place q r (nth + 1) lane.stride c.place_of-in-loop-nth.ensures ∙ ap (place r) (sym (suc-eq-add-one nth)) in
     row_takes_alike g.F.FnMut (λ r. stored_at now (place r nth)) (run_of now p) (λ r. stored_at now (place r (suc nth))) (run_of now q) lanes (λ r on. ap (stored_at now) (at_p r)) (λ r on. ap (stored_at now) (at_q r)) c.loop-nth.now
     (row_takes g.F.FnMut place lanes w apart old now c.args.f c.loop-nth.now nth under so_far c.requires.callable)
 
@@ -104,7 +102,7 @@ loop-nth-preserved g c =
     let p = c.place_of.result in
     let q = c.place_of-in-loop-nth.result in
     let at_p : (r : ℕ) → pos (p + r) ≡ place r nth = λ r. beside_place lane.place p r nth lane.stride c.place_of.ensures in
-    let at_q : (r : ℕ) → pos (q + r) ≡ place r (suc nth) = λ r. beside_place lane.place q r (nth + 1) lane.stride c.place_of-in-loop-nth.ensures ∙ ap (place r) (sym (next nth)) in
+    let at_q : (r : ℕ) → pos (q + r) ≡ place r (suc nth) = λ r. beside_place lane.place q r (nth + 1) lane.stride c.place_of-in-loop-nth.ensures ∙ ap (place r) (sym (suc-eq-add-one nth)) in
     let new = g.S.Data.stored c.change_row-now.new.storage in (
       rows_more g.F.FnMut place lanes w apart old now c.args.f c.loop-nth.now nth under so_far new c.change_row-now.result
           (row_changes_alike g.F.FnMut (λ r. stored_at now (place r nth)) (run_of now p) (λ r. stored_at now (place r (suc nth))) (run_of now q) lanes (λ r on. ap (stored_at now) (at_p r)) (λ r on. ap (stored_at now) (at_q r))

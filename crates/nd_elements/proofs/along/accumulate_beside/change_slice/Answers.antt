@@ -1,9 +1,9 @@
 use Rattle.std.proofs.Common.{◌<◌, ◌∙◌, sym, refl, subst, length, get_or, arith}
 use Rattle.std.specs.Prelude.{Some, slice_get}
+use Rattle.std.proofs.lemmas.Option.{slice_get-get_or}
 use Rattle.nd_elements.specs.along.Accumulated.{ChangesAfter}
 use Rattle.nd_elements.proofs.Mapped.{got_there}
 use Rattle.nd_elements.proofs.RowPairs.{row_more, row_kept}
-use Rattle.nd_elements.proofs.RunPairs.{got_or}
 use Rattle.nd_elements.proofs.along.accumulate_beside.change_slice.Goals as goal
 
 pub f-requires : goal.f-requires
@@ -13,7 +13,7 @@ f-requires g c =
     let so_far = c.loop-nth.invariant in
     c.requires.callable (slice_get c.loop-nth.items) nth c.loop-nth.f below so_far.0 _ _
     (got_there c.args.before.now nth c.index-before-nth.result c.loop-nth-test.true c.index-before-nth.is)
-    (sym (so_far.1 nth (omega arith)) ∙ got_or c.loop-nth.items nth c.index-items-nth.result (subst (λ n. nth < n) (sym c.loop-nth.auto.items) below))
+    (sym (so_far.1 nth (omega arith)) ∙ slice_get-get_or c.loop-nth.items nth c.index-items-nth.result (subst (λ n. nth < n) (sym c.loop-nth.auto.items) below))
 
 pub loop-nth-preserved : goal.loop-nth-preserved
 loop-nth-preserved g c =
@@ -29,7 +29,7 @@ loop-nth-preserved g c =
       get_or now nth c.index-items-nth.result,
       y,
       got_there before nth c.index-before-nth.result c.loop-nth-test.true c.index-before-nth.is,
-      got_or now nth c.index-items-nth.result below,
+      slice_get-get_or now nth c.index-items-nth.result below,
       refl,
       record { shown = _; shows = refl; given = _; gives = refl; left = _; called = c.f.ensures; leaves = refl },
     ) in (

@@ -1,13 +1,11 @@
 use Rattle.std.proofs.Common.{◌≡◌, ℕ, ◌+◌, ◌∙◌, ap, pos, sym, arith}
+use Rattle.std.proofs.Math.Nat.{add-zero}
 use Rattle.nd_layout.specs.Lanes.{along}
 use Rattle.nd_elements.specs.RunLent.{HasRunAt}
 use Rattle.nd_elements.proofs.Collecting.{beside_has}
 use Rattle.nd_elements.proofs.LaneRuns.{run_accumulable, run_accumulated}
 use Rattle.nd_elements.proofs.RunPairs.{side_place, side_shows, beside_lane}
 use Rattle.nd_elements.proofs.along.accumulate_run.accumulate_run.Goals as goal
-
-none_more : (p : ℕ) → p + 0 ≡ p
-none_more p = omega arith
 
 pub lend_run-requires : goal.lend_run-requires
 lend_run-requires g c k below =
@@ -35,5 +33,5 @@ returns-clause-accumulated g c =
     new ws
     (λ k below. sym (g.met.S.DataMut.run_written c.args.storage.now lane.place lane.count ws holds long k below) ∙ sym (side_shows new lane.place k lane.stride c.requires.step))
     (λ p nowhere. g.met.S.DataMut.run_left c.args.storage.now lane.place lane.count ws holds long p (beside_lane lane.place lane.count lane.stride c.requires.step p nowhere))
-    lane.place (side_place lane.place 0 lane.stride c.requires.step ∙ ap pos (none_more lane.place))
+    lane.place (side_place lane.place 0 lane.stride c.requires.step ∙ ap pos (add-zero lane.place))
     c.args.f c.accumulate_slice.result c.accumulate_slice.ensures.accumulated

@@ -1,12 +1,10 @@
 use Rattle.std.proofs.Common.{◌≡◌, ◌+◌, ◌-◌, ◌∙◌, ℕ, suc, pos, ap, sym, subst, length, arith}
 use Rattle.std.specs.Prelude.{slice_get}
+use Rattle.std.proofs.Math.Numerals.{suc-eq-add-one}
 use Rattle.nd_elements.specs.along.Accumulated.{ChangesAfter, TakesAfter, IsAccumulated}
 use Rattle.nd_elements.proofs.Accumulating.{next_accumulable, accumulated_more}
 use Rattle.nd_elements.proofs.RunPairs.{number, numbers_distinct}
 use Rattle.nd_elements.proofs.along.accumulate_run.accumulate_slice.Goals as goal
-
-next : (m : ℕ) → suc m ≡ m + 1
-next m = omega arith
 
 pub change_next-now-requires-clause-callable : goal.change_next-now-requires-clause-callable
 change_next-now-requires-clause-callable g c =
@@ -14,7 +12,7 @@ change_next-now-requires-clause-callable g c =
     let old = c.args.items.now in
     let now = c.loop-nth.items in
     let test = c.loop-nth-test.true in
-    subst (λ m. TakesAfter g.F.FnMut (slice_get now nth) (slice_get now m) c.loop-nth.now) (next nth)
+    subst (λ m. TakesAfter g.F.FnMut (slice_get now nth) (slice_get now m) c.loop-nth.now) (suc-eq-add-one nth)
     (next_accumulable g.F.FnMut number (length old) (numbers_distinct (length old)) (slice_get old) (slice_get now) c.args.f c.loop-nth.now nth (omega (arith, test)) c.loop-nth.invariant c.requires.callable)
 
 pub loop-nth-preserved : goal.loop-nth-preserved
@@ -26,8 +24,8 @@ loop-nth-preserved g c =
     let test = c.loop-nth-test.true in
     accumulated_more g.F.FnMut number (length old) (numbers_distinct (length old)) (slice_get old) (slice_get now) c.args.f c.loop-nth.now
     nth (omega (arith, test)) (slice_get new) c.change_next-now.result c.loop-nth.invariant
-    (subst (λ m. ChangesAfter g.F.FnMut (slice_get now nth) (slice_get now m) (slice_get new m) c.loop-nth.now c.change_next-now.result) (sym (next nth)) c.change_next-now.ensures.called)
-    (λ p other. c.change_next-now.ensures.left p (λ e. other (e ∙ ap pos (sym (next nth)))))
+    (subst (λ m. ChangesAfter g.F.FnMut (slice_get now nth) (slice_get now m) (slice_get new m) c.loop-nth.now c.change_next-now.result) (sym (suc-eq-add-one nth)) c.change_next-now.ensures.called)
+    (λ p other. c.change_next-now.ensures.left p (λ e. other (e ∙ ap pos (sym (suc-eq-add-one nth)))))
 
 pub returns-clause-accumulated : goal.returns-clause-accumulated
 returns-clause-accumulated g c =

@@ -1,8 +1,8 @@
 use Rattle.std.proofs.Common.{◌+◌, ◌<◌, ◌∙◌, pos, refl, ap, sym, length, get_or, slice_set, arith}
 use Rattle.std.specs.Prelude.{slice_get}
-use Rattle.nd_elements.proofs.Answered.{got_still}
+use Rattle.std.proofs.lemmas.Option.{slice_get-get_or}
+use Rattle.nd_shape_and_slice.proofs.Lists.{got_still, set_there}
 use Rattle.nd_elements.proofs.LaneRuns.{got_next, left_but_next, long_after}
-use Rattle.nd_elements.proofs.RunPairs.{got_or, set_there}
 use Rattle.nd_elements.proofs.along.accumulate_run.change_next.Goals as goal
 
 pub returns-clause-called : goal.returns-clause-called
@@ -21,8 +21,8 @@ returns-clause-called g c =
       x,
       get_or back 0 c.index-rest-0.result,
       y,
-      ap (λ xs. slice_get xs nth) split.value ∙ got_still front back nth x (got_or front nth c.index-before-nth.result below),
-      ap (λ xs. slice_get xs (nth + 1)) split.value ∙ (got_next front back (nth + 1) front_len ∙ got_or back 0 c.index-rest-0.result some),
+      ap (λ xs. slice_get xs nth) split.value ∙ got_still front back nth x (slice_get-get_or front nth c.index-before-nth.result below),
+      ap (λ xs. slice_get xs (nth + 1)) split.value ∙ (got_next front back (nth + 1) front_len ∙ slice_get-get_or back 0 c.index-rest-0.result some),
       got_next front (slice_set back 0 y) (nth + 1) front_len ∙ set_there back 0 y some,
       record { shown = _; shows = refl; given = _; gives = refl; left = _; called = c.f.ensures; leaves = refl },
     )
@@ -49,5 +49,5 @@ f-requires g c =
     let below : nth < length front = omega (arith, front_len) in
     let some : 0 < length back = omega (arith, within, back_len) in
     c.requires.callable _ _
-    (ap (λ xs. slice_get xs nth) split.value ∙ got_still front back nth x (got_or front nth c.index-before-nth.result below))
-    (ap (λ xs. slice_get xs (nth + 1)) split.value ∙ (got_next front back (nth + 1) front_len ∙ got_or back 0 c.index-rest-0.result some))
+    (ap (λ xs. slice_get xs nth) split.value ∙ got_still front back nth x (slice_get-get_or front nth c.index-before-nth.result below))
+    (ap (λ xs. slice_get xs (nth + 1)) split.value ∙ (got_next front back (nth + 1) front_len ∙ slice_get-get_or back 0 c.index-rest-0.result some))

@@ -1,9 +1,9 @@
 use Rattle.std.proofs.Common.{◌<◌, ◌∙◌, sym, refl, subst, length, arith}
 use Rattle.std.specs.Prelude.{Some, slice_get}
+use Rattle.std.proofs.lemmas.Option.{slice_get-get_or}
 use Rattle.nd_elements.specs.along.LanesFolded.{FoldsBetween}
 use Rattle.nd_elements.proofs.LanesFolding.{beside_more, beside_kept}
 use Rattle.nd_elements.proofs.Mapped.{got_there}
-use Rattle.nd_elements.proofs.RunPairs.{got_or}
 use Rattle.nd_elements.proofs.along.fold_beside.fold_run.Goals as goal
 
 pub f-total-requires : goal.f-total-requires
@@ -13,7 +13,7 @@ f-total-requires g c =
     let so_far = c.loop-nth.invariant in
     let x = c.index-items-nth.result in
     c.requires.callable (slice_get c.loop-nth.totals) nth c.loop-nth.f below so_far.0 _ _
-    (sym (so_far.1 nth (omega arith)) ∙ got_or c.loop-nth.totals nth c.index-totals-nth.result (subst (λ n. nth < n) (sym c.loop-nth.auto.totals) below))
+    (sym (so_far.1 nth (omega arith)) ∙ slice_get-get_or c.loop-nth.totals nth c.index-totals-nth.result (subst (λ n. nth < n) (sym c.loop-nth.auto.totals) below))
     (got_there c.args.items.now nth x c.loop-nth-test.true c.index-items-nth.is)
 
 pub loop-nth-preserved : goal.loop-nth-preserved
@@ -26,7 +26,7 @@ loop-nth-preserved g c =
     let so_far = c.loop-nth.invariant in
     let y = c.f-total.result in
     let call : FoldsBetween g.F.FnMut (slice_get now nth) (slice_get items nth) (Some y) c.loop-nth.f c.f-total.new.self =
-    record { total = _; shows = got_or now nth c.index-totals-nth.result below; shown = _; is = got_there items nth c.index-items-nth.result c.loop-nth-test.true c.index-items-nth.is; answer = y; gives = refl; called = c.f-total.ensures } in (
+    record { total = _; shows = slice_get-get_or now nth c.index-totals-nth.result below; shown = _; is = got_there items nth c.index-items-nth.result c.loop-nth-test.true c.index-items-nth.is; answer = y; gives = refl; called = c.f-total.ensures } in (
       beside_more g.F.FnMut (slice_get items) old now c.args.f nth y so_far.1 c.loop-nth.f c.f-total.new.self below so_far.0 call,
       beside_kept g.F.FnMut (slice_get items) old now c.args.f nth y so_far.1,
     )

@@ -1,6 +1,6 @@
 use Rattle.std.proofs.Common.{◌≡◌, ◌∙◌, arith, ◌+◌, ◌≤◌, ap, sym, subst}
 use Rattle.std.specs.List.{All}
-use Rattle.nd_elements.proofs.Clones.{all_more}
+use Rattle.std.proofs.lemmas.List.Elements.{All-push}
 use Rattle.nd_elements.proofs.base.from_elem.defaults.Goals as goal
 
 pub loop-preserved : goal.loop-preserved
@@ -9,7 +9,7 @@ loop-preserved g c =
     let put = c.push_reserved.ensures in (
       put.len ∙ ap (λ n. n + 1) so_far.0,
       subst (λ m. c.args.count ≤ m) (sym put.capacity) so_far.1,
-      subst (All g.A.Default.is_default) (sym put.items) (all_more g.A.Default.is_default c.loop.items.items c.default.result so_far.2 c.default.ensures),
+      subst (All g.A.Default.is_default) (sym put.items) (All-push g.A.Default.is_default c.loop.items.items c.default.result so_far.2 c.default.ensures),
     )
 
 pub returns-clause-items : goal.returns-clause-items

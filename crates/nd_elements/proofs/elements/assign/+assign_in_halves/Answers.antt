@@ -1,6 +1,6 @@
 use Rattle.std.proofs.Common.{rules}
+use Rattle.std.proofs.lemmas.Result.{on_ok_weaker, on_err_weaker}
 use Rattle.nd_layout.specs.Placements.{placement_of}
-use Rattle.nd_elements.proofs.Assigned.{on_ok, on_err}
 use Rattle.nd_elements.proofs.InHalves.{step_apart, step_holds, step_clones, high_holds, both_assigned, low_stopped, high_stopped, both_hold, low_still_holds, both_stay, low_alone_stays, step_refused}
 use Rattle.nd_elements.proofs.elements.assign.+assign_in_halves.Goals as goal
 
@@ -42,7 +42,7 @@ returns-in-Ok-clause-assigned g t c =
     let old = g.S.Data.stored c.args.storage.now in
     let mid = g.S.Data.stored c.assign_in_halves.new.storage in
     let new = g.S.Data.stored c.assign_in_halves-in-Ok.new.storage in
-    on_ok c.assign_in_halves-in-Ok.result
+    on_ok_weaker c.assign_in_halves-in-Ok.result
     (both_assigned (placement_of c.args.layout.now) (placement_of c.args.beside.now) (placement_of parts.lower) (placement_of parts.lower_beside) (placement_of parts.upper) (placement_of parts.upper_beside) c.in-Some.ensures
     c.requires.alike c.args.layout.now.as_many c.requires.apart (g.Z.Data.stored c.args.others.now) old mid new c.assign_in_halves-in-Ok.ensures.others c.in-Ok.ensures.assigned)
     c.assign_in_halves-in-Ok.ensures.assigned
@@ -53,7 +53,7 @@ returns-in-Ok-clause-stopped g t c =
     let old = g.S.Data.stored c.args.storage.now in
     let mid = g.S.Data.stored c.assign_in_halves.new.storage in
     let new = g.S.Data.stored c.assign_in_halves-in-Ok.new.storage in
-    on_err c.assign_in_halves-in-Ok.result
+    on_err_weaker c.assign_in_halves-in-Ok.result
     (high_stopped (placement_of c.args.layout.now) (placement_of c.args.beside.now) (placement_of parts.lower) (placement_of parts.lower_beside) (placement_of parts.upper) (placement_of parts.upper_beside) c.in-Some.ensures
     c.requires.alike c.args.layout.now.as_many c.requires.apart (g.Z.Data.stored c.args.others.now) old mid new c.assign_in_halves.ensures.others c.assign_in_halves-in-Ok.ensures.others c.in-Ok.ensures.assigned)
     c.assign_in_halves-in-Ok.ensures.stopped
@@ -85,7 +85,7 @@ returns-in-Err-clause-holds g t c =
 
 pub returns-in-Ok-clause-refused : goal.returns-in-Ok-clause-refused
 returns-in-Ok-clause-refused g t c =
-    on_err c.assign_in_halves-in-Ok.result
+    on_err_weaker c.assign_in_halves-in-Ok.result
     (step_refused (placement_of c.args.beside.now) (placement_of c.in-Some.halves.upper_beside) c.in-Some.ensures.source c.in-Some.ensures.high_second (g.Z.Data.stored c.args.others.now) g.A.Clone.is_infallible)
     c.assign_in_halves-in-Ok.ensures.refused
 

@@ -1,11 +1,12 @@
 use Rattle.std.proofs.Common.{◌∙◌, ◌+◌, ◌<◌, ap, sym, subst}
 use Rattle.std.specs.Prelude.{is_some, slice_get}
+use Rattle.std.proofs.lemmas.Option.{slice_get_within}
 use Rattle.nd_layout.specs.Lanes.{along}
 use Rattle.nd_elements.specs.NumberedPlaces.{elements_at}
 use Rattle.nd_elements.specs.RunLent.{HasRunAt}
 use Rattle.nd_elements.specs.Collected.{stored_along}
 use Rattle.nd_elements.proofs.Collecting.{beside, beside_has}
-use Rattle.nd_elements.proofs.Mapped.{beside_found, got_below}
+use Rattle.nd_elements.proofs.Mapped.{beside_found}
 use Rattle.nd_elements.proofs.RunsBehind.{run_refuses}
 use Rattle.nd_elements.proofs.RunPairs.{side_shows, beside_lane, run_outcome}
 use Rattle.nd_elements.proofs.elements.assign.assign_beside.Goals as goal
@@ -44,7 +45,7 @@ assign_run-requires-clause-clones g c k x at =
     let beside = c.args.beside in
     let others = g.Z.Data.stored c.args.others.now in
     let ys = c.run-ys.result.now in
-    let below = subst (λ n. k < n) c.run-ys.ensures.count (got_below ys k x at) in
+    let below = subst (λ n. k < n) c.run-ys.ensures.count (slice_get_within ys k x at) in
     let there = beside_found others beside.place beside.count beside.stride c.requires.steps.1 ys c.run-ys.ensures.count (λ j d under. sym (c.borrowed.ensures (beside.place + j)) ∙ c.run-ys.ensures.elements j d under) k below in
     c.requires.clones k x below (sym there ∙ at)
 

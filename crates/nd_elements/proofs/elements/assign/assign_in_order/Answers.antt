@@ -1,11 +1,12 @@
 use Rattle.std.proofs.Common.{refl, ap, sym, subst, ◌∙◌}
 use Rattle.std.specs.Prelude.{OnErr}
+use Rattle.std.proofs.lemmas.Result.{on_ok_weaker, on_err_weaker}
 use Rattle.nd_shape_and_slice.specs.Shape.{index_at}
 use Rattle.nd_shape_and_slice.proofs.RankIndexes.{in_box-index_at}
 use Rattle.nd_layout.specs.Lanes.{by_rank}
 use Rattle.nd_layout.specs.Placements.{placement_of}
 use Rattle.nd_elements.specs.NumberedPlaces.{Holds, PlacesDiffer, ClonesAreEqualAt, MayRefuseAt}
-use Rattle.nd_elements.proofs.Assigned.{assigned_shown, partly_shown, either_still, assigned_between, on_ok, on_err}
+use Rattle.nd_elements.proofs.Assigned.{assigned_shown, partly_shown, either_still, assigned_between}
 use Rattle.nd_elements.proofs.Paired.{ranks_apart}
 use Rattle.nd_elements.proofs.TurnedAlike.{second_shown, second_refused}
 use Rattle.nd_elements.proofs.elements.assign.assign_in_order.Goals as goal
@@ -40,20 +41,20 @@ returns-clause-assigned g c =
     let one = placement_of c.args.layout.now in
     let two = placement_of c.args.beside.now in
     let outcome = assigned_between g.S.Data.stored g.Z.Data.stored c.args.others.now c.args.storage.now c.assign_places.new.storage one two _ _ c.places.ensures c.places-2.ensures c.assign_places.result c.assign_places.ensures.outcome in
-    on_ok c.assign_places.result (assigned_shown (g.Z.Data.stored c.args.others.now) one two c.requires.alike (g.S.Data.stored c.args.storage.now) (g.S.Data.stored c.assign_places.new.storage)) outcome.0
+    on_ok_weaker c.assign_places.result (assigned_shown (g.Z.Data.stored c.args.others.now) one two c.requires.alike (g.S.Data.stored c.args.storage.now) (g.S.Data.stored c.assign_places.new.storage)) outcome.0
 
 pub returns-clause-stopped : goal.returns-clause-stopped
 returns-clause-stopped g c =
     let one = placement_of c.args.layout.now in
     let two = placement_of c.args.beside.now in
     let outcome = assigned_between g.S.Data.stored g.Z.Data.stored c.args.others.now c.args.storage.now c.assign_places.new.storage one two _ _ c.places.ensures c.places-2.ensures c.assign_places.result c.assign_places.ensures.outcome in
-    on_err c.assign_places.result (partly_shown (g.Z.Data.stored c.args.others.now) one two c.requires.alike (g.S.Data.stored c.args.storage.now) (g.S.Data.stored c.assign_places.new.storage)) outcome.1
+    on_err_weaker c.assign_places.result (partly_shown (g.Z.Data.stored c.args.others.now) one two c.requires.alike (g.S.Data.stored c.args.storage.now) (g.S.Data.stored c.assign_places.new.storage)) outcome.1
 
 pub returns-clause-refused : goal.returns-clause-refused
 returns-clause-refused g c =
     let two = placement_of c.args.beside.now in
     let refused = subst (λ p. OnErr c.assign_places.result (MayRefuseAt g.A.Clone.is_infallible g.Z.Data.stored (by_rank p) c.args.others.now)) c.places-2.ensures c.assign_places.ensures.refused in
-    on_err c.assign_places.result (second_refused (g.Z.Data.stored c.args.others.now) two two refl g.A.Clone.is_infallible) refused
+    on_err_weaker c.assign_places.result (second_refused (g.Z.Data.stored c.args.others.now) two two refl g.A.Clone.is_infallible) refused
 
 pub returns-clause-holds : goal.returns-clause-holds
 returns-clause-holds g c =

@@ -1,10 +1,11 @@
 use Rattle.std.proofs.Common.{◌≡◌, ◌<◌, ◌∙◌, refl, ap, sym, subst, length, arith, slice_set}
 use Rattle.std.specs.Prelude.{Some, slice_get}
+use Rattle.nd_shape_and_slice.proofs.Lists.{set_there, set_elsewhere}
 use Rattle.nd_layout.specs.Lanes.{along}
 use Rattle.nd_elements.specs.NumberedPlaces.{elements_at}
 use Rattle.nd_elements.specs.Places.{stored_at}
 use Rattle.nd_elements.proofs.Assigned.{assigned_more, assigned_partly}
-use Rattle.nd_elements.proofs.RunPairs.{number, numbers_distinct, set_there, set_left}
+use Rattle.nd_elements.proofs.RunPairs.{number, numbers_distinct}
 use Rattle.nd_elements.proofs.elements.assign.assign_into.Goals as goal
 
 pub loop-nth-preserved : goal.loop-nth-preserved
@@ -18,7 +19,7 @@ loop-nth-preserved g c =
     assigned_more given number nth (length c.args.xs.now) nth copy (subst (λ n. nth < n) long c.loop-nth-test.true) (numbers_distinct (length c.args.xs.now)) refl (ap Some copied ∙ sym there)
     (slice_get c.args.xs.now) (slice_get c.loop-nth.xs) (slice_get (slice_set c.loop-nth.xs nth copy)) c.loop-nth.invariant
     (set_there c.loop-nth.xs nth copy (subst (λ n. nth < n) (long ∙ sym c.loop-nth.auto.xs) c.loop-nth-test.true))
-    (λ q apart. set_left c.loop-nth.xs nth q copy apart)
+    (λ q apart. set_elsewhere c.loop-nth.xs nth q copy apart)
 
 pub returns-in-Err-clause-outcome : goal.returns-in-Err-clause-outcome
 returns-in-Err-clause-outcome g c =

@@ -1,5 +1,5 @@
 use Rattle.std.proofs.Common.{◌≡◌, ◌∙◌, ◌++◌, subst, OnOk}
-use Rattle.nd_elements.proofs.Assigned.{on_err}
+use Rattle.std.proofs.lemmas.Result.{on_err_weaker}
 use Rattle.nd_elements.proofs.ListedJoined.{rejoined_clones, rejoined_holds, rejoined_items, rejoined_refused}
 use Rattle.nd_elements.proofs.elements.list_layout.list_joined.Goals as goal
 
@@ -34,7 +34,7 @@ returns-clause-refused g c =
     let layout = c.args.layout.now in
     let order = c.join_axes.new.self in
     let joined = rw (c.copied-joined.ensures.lengths, c.copied-joined.ensures.strides) at c.join_axes.ensures.joined in
-    on_err c.list_in_order.result
+    on_err_weaker c.list_in_order.result
     (rejoined_refused (g.S.Data.stored c.args.storage.now) layout.offset (g.D.Dimension.lengths layout.dim) (g.D.Strides.StrideList.strides_of layout.strides)
     order.offset (g.D.Dimension.lengths order.dim) (g.D.Strides.StrideList.strides_of order.strides) (c.join_axes.ensures.offset ∙ c.copied-joined.ensures.offset) joined g.S.Elem.Clone.is_infallible)
     c.list_in_order.ensures.refused

@@ -1,11 +1,12 @@
 use Rattle.std.proofs.Common.{◌≡◌, ◌∙◌, ◌+◌, ◌<◌, ℕ, length, ap, sym, subst}
 use Rattle.std.proofs.lemmas.Result.{IfOk-weaker}
 use Rattle.std.specs.Prelude.{is_some, slice_get}
+use Rattle.std.proofs.lemmas.Option.{slice_get_within}
 use Rattle.nd_layout.specs.Lanes.{along}
 use Rattle.nd_elements.specs.NumberedPlaces.{elements_at}
 use Rattle.nd_elements.specs.elements.Maps.{AnswersValue, MayBeGiven, AnswersBehind, TakesNumbered}
 use Rattle.nd_elements.proofs.Collecting.{beside, beside_has}
-use Rattle.nd_elements.proofs.Mapped.{got_below, beside_found, behind_alike, takes_alike}
+use Rattle.nd_elements.proofs.Mapped.{beside_found, behind_alike, takes_alike}
 use Rattle.nd_elements.proofs.RunsBehind.{run_refuses}
 use Rattle.nd_elements.proofs.elements.mapv.value_beside.Goals as goal
 
@@ -41,7 +42,7 @@ value_run-requires-clause-clones g c p x e =
     let stored = g.S.Data.stored c.args.storage.now in
     let xs = c.run-run.result.now in
     let same : (k : ℕ) → k < lane.count → slice_get xs k ≡ elements_at g.S.Data.stored (along lane) c.args.storage.now k = beside_found stored lane.place lane.count lane.stride c.requires.beside xs c.run-run.ensures.count (λ k d below. sym (c.borrowed.ensures (lane.place + k)) ∙ c.run-run.ensures.elements k d below) in
-    let below = subst (λ n. p < n) c.run-run.ensures.count (got_below xs p x e) in
+    let below = subst (λ n. p < n) c.run-run.ensures.count (slice_get_within xs p x e) in
     c.requires.clones p x below (sym (same p below) ∙ e)
 
 pub returns-clause-refused : goal.returns-clause-refused

@@ -3,9 +3,10 @@ use Rattle.nd_shape_and_slice.specs.Shape.{index_at}
 use Rattle.nd_shape_and_slice.proofs.RankIndexes.{in_box-index_at}
 use Rattle.nd_layout.specs.Lanes.{by_rank}
 use Rattle.nd_layout.specs.Placements.{placement_of}
+use Rattle.nd_layout.proofs.Rearranged.{rearranged_itself}
 use Rattle.nd_elements.specs.NumberedPlaces.{Holds, PlacesDiffer}
 use Rattle.nd_elements.proofs.Assigned.{assigned_shown, assigned_still, moved_between}
-use Rattle.nd_elements.proofs.Paired.{in_row_major, ranks_apart, others_stay}
+use Rattle.nd_elements.proofs.Paired.{ranks_apart, others_stay}
 use Rattle.nd_elements.proofs.elements.move_into.exchange_in_order.Goals as goal
 
 pub exchange_places-requires-clause-alike : goal.exchange_places-requires-clause-alike
@@ -57,4 +58,4 @@ returns-clause-beside g c =
     let one = placement_of c.args.layout.now in
     let two = placement_of c.args.beside.now in
     let back = moved_between g.Z.Data.stored g.S.Data.stored c.args.storage.now c.args.others.now c.exchange_places.new.others two one _ _ c.places-2.ensures c.places.ensures c.exchange_places.ensures.back in
-    others_stay two.offset two.lengths two.strides two.offset two.lengths two.strides (in_row_major two.offset two.lengths two.strides) (g.Z.Data.stored c.args.others.now) (g.Z.Data.stored c.exchange_places.new.others) back.left
+    others_stay two.offset two.lengths two.strides two.offset two.lengths two.strides (rearranged_itself two.offset two.lengths two.strides) (g.Z.Data.stored c.args.others.now) (g.Z.Data.stored c.exchange_places.new.others) back.left

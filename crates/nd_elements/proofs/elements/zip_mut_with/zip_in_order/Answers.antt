@@ -3,9 +3,10 @@ use Rattle.nd_shape_and_slice.specs.Shape.{index_at}
 use Rattle.nd_shape_and_slice.proofs.RankIndexes.{in_box-index_at}
 use Rattle.nd_layout.specs.Lanes.{by_rank, ranked}
 use Rattle.nd_layout.specs.Placements.{placement_of}
+use Rattle.nd_layout.proofs.Rearranged.{rearranged_itself}
 use Rattle.nd_elements.specs.NumberedPlaces.{Holds, PlacesDiffer}
 use Rattle.nd_elements.specs.elements.Pairs.{MayZipAt}
-use Rattle.nd_elements.proofs.Paired.{in_row_major, ranks_apart}
+use Rattle.nd_elements.proofs.Paired.{ranks_apart}
 use Rattle.nd_elements.proofs.TurnedAlike.{second_shown}
 use Rattle.nd_elements.proofs.ZippedLayouts.{layouts_zippable, layouts_zipped, zipped_between}
 use Rattle.nd_elements.proofs.elements.zip_mut_with.zip_in_order.Goals as goal
@@ -33,7 +34,7 @@ zip_places-requires-clause-callable g c =
     let one = placement_of c.args.layout.now in
     let two = placement_of c.args.beside.now in
     let others = g.Z.Data.stored c.args.others.now in
-    let callable = layouts_zippable g.F.FnMut others one two one two (in_row_major one.offset one.lengths one.strides) c.requires.alike (λ rank below. sym (second_shown others one two c.requires.alike rank below)) (g.S.Data.stored c.args.storage.now) c.args.f c.requires.callable in
+    let callable = layouts_zippable g.F.FnMut others one two one two (rearranged_itself one.offset one.lengths one.strides) c.requires.alike (λ rank below. sym (second_shown others one two c.requires.alike rank below)) (g.S.Data.stored c.args.storage.now) c.args.f c.requires.callable in
     subst (λ p. MayZipAt g.F.FnMut g.S.Data.stored g.Z.Data.stored (by_rank p) (ranked c.places-2.result) c.args.storage.now c.args.others.now c.args.f) (sym c.places.ensures)
     (subst (λ p. MayZipAt g.F.FnMut g.S.Data.stored g.Z.Data.stored (by_rank one) (by_rank p) c.args.storage.now c.args.others.now c.args.f) (sym c.places-2.ensures) callable)
 
@@ -43,7 +44,7 @@ returns-clause-visits g c =
     let two = placement_of c.args.beside.now in
     let others = g.Z.Data.stored c.args.others.now in
     let changed = zipped_between g.F.FnMut g.S.Data.stored g.Z.Data.stored c.args.others.now c.args.storage.now c.zip_places.new.storage c.args.f c.zip_places.result one two _ _ c.places.ensures c.places-2.ensures c.zip_places.ensures.changed in
-    (layouts_zipped g.F.FnMut others one two one two (in_row_major one.offset one.lengths one.strides) c.requires.alike (λ rank below. sym (second_shown others one two c.requires.alike rank below)) (g.S.Data.stored c.args.storage.now) c.args.f (g.S.Data.stored c.zip_places.new.storage) c.zip_places.result changed).0
+    (layouts_zipped g.F.FnMut others one two one two (rearranged_itself one.offset one.lengths one.strides) c.requires.alike (λ rank below. sym (second_shown others one two c.requires.alike rank below)) (g.S.Data.stored c.args.storage.now) c.args.f (g.S.Data.stored c.zip_places.new.storage) c.zip_places.result changed).0
 
 pub returns-clause-holds : goal.returns-clause-holds
 returns-clause-holds g c =
@@ -51,7 +52,7 @@ returns-clause-holds g c =
     let two = placement_of c.args.beside.now in
     let others = g.Z.Data.stored c.args.others.now in
     let changed = zipped_between g.F.FnMut g.S.Data.stored g.Z.Data.stored c.args.others.now c.args.storage.now c.zip_places.new.storage c.args.f c.zip_places.result one two _ _ c.places.ensures c.places-2.ensures c.zip_places.ensures.changed in
-    (layouts_zipped g.F.FnMut others one two one two (in_row_major one.offset one.lengths one.strides) c.requires.alike (λ rank below. sym (second_shown others one two c.requires.alike rank below)) (g.S.Data.stored c.args.storage.now) c.args.f (g.S.Data.stored c.zip_places.new.storage) c.zip_places.result changed).1
+    (layouts_zipped g.F.FnMut others one two one two (rearranged_itself one.offset one.lengths one.strides) c.requires.alike (λ rank below. sym (second_shown others one two c.requires.alike rank below)) (g.S.Data.stored c.args.storage.now) c.args.f (g.S.Data.stored c.zip_places.new.storage) c.zip_places.result changed).1
 
 pub returns-clause-others : goal.returns-clause-others
 returns-clause-others g c =
@@ -59,4 +60,4 @@ returns-clause-others g c =
     let two = placement_of c.args.beside.now in
     let others = g.Z.Data.stored c.args.others.now in
     let changed = zipped_between g.F.FnMut g.S.Data.stored g.Z.Data.stored c.args.others.now c.args.storage.now c.zip_places.new.storage c.args.f c.zip_places.result one two _ _ c.places.ensures c.places-2.ensures c.zip_places.ensures.changed in
-    (layouts_zipped g.F.FnMut others one two one two (in_row_major one.offset one.lengths one.strides) c.requires.alike (λ rank below. sym (second_shown others one two c.requires.alike rank below)) (g.S.Data.stored c.args.storage.now) c.args.f (g.S.Data.stored c.zip_places.new.storage) c.zip_places.result changed).2
+    (layouts_zipped g.F.FnMut others one two one two (rearranged_itself one.offset one.lengths one.strides) c.requires.alike (λ rank below. sym (second_shown others one two c.requires.alike rank below)) (g.S.Data.stored c.args.storage.now) c.args.f (g.S.Data.stored c.zip_places.new.storage) c.zip_places.result changed).2

@@ -1,11 +1,13 @@
 use Rattle.std.proofs.Common.{◌<◌, ◌∙◌, pos, ◌+ℤ◌, ◌*ℤ◌, ap, refl, sym, subst, length, get_or, slice_set}
 use Rattle.std.specs.Prelude.{slice_get}
+use Rattle.std.proofs.lemmas.Option.{slice_get-get_or}
+use Rattle.nd_shape_and_slice.proofs.Lists.{set_there, set_elsewhere}
 use Rattle.nd_layout.specs.Lanes.{along}
 use Rattle.nd_elements.specs.Places.{stored_at}
 use Rattle.nd_elements.specs.elements.Pairs.{ChangesWith}
 use Rattle.nd_elements.proofs.Paired.{next_zipped}
 use Rattle.nd_elements.proofs.Rewritten.{rewritten_more}
-use Rattle.nd_elements.proofs.RunPairs.{number, numbers_distinct, got_or, set_there, set_left}
+use Rattle.nd_elements.proofs.RunPairs.{number, numbers_distinct}
 use Rattle.nd_elements.proofs.elements.zip_mut_with.zip_into.Goals as goal
 
 pub f-requires : goal.f-requires
@@ -17,7 +19,7 @@ f-requires g c =
     let beside = (along lane).place in
     next_zipped g.F.FnMut others number beside (length c.args.xs.now) nth nth c.element-other.result.now (subst (λ n. nth < n) long c.loop-nth-test.true) (numbers_distinct (length c.args.xs.now)) refl
     (sym (ap (stored_at others) (sym c.place_of.ensures) ∙ c.element-other.ensures)) (slice_get c.args.xs.now) (slice_get c.loop-nth.xs) c.args.f c.loop-nth.f c.loop-nth.invariant c.requires.callable _ _
-    (got_or c.loop-nth.xs nth c.index-xs-nth.result (subst (λ n. nth < n) (long ∙ sym c.loop-nth.auto.xs) c.loop-nth-test.true)) refl
+    (slice_get-get_or c.loop-nth.xs nth c.index-xs-nth.result (subst (λ n. nth < n) (long ∙ sym c.loop-nth.auto.xs) c.loop-nth-test.true)) refl
 
 pub loop-nth-preserved : goal.loop-nth-preserved
 loop-nth-preserved g c =
@@ -31,9 +33,9 @@ loop-nth-preserved g c =
       get_or c.loop-nth.xs nth c.index-xs-nth.result,
       c.f.new.arg2,
       _,
-      got_or c.loop-nth.xs nth c.index-xs-nth.result below,
+      slice_get-get_or c.loop-nth.xs nth c.index-xs-nth.result below,
       set_there c.loop-nth.xs nth c.f.new.arg2 below,
       ap (stored_at others) (sym c.place_of.ensures) ∙ c.element-other.ensures,
       record { shown = _; shows = refl; left = _; called = c.f.ensures; leaves = refl },
     )
-    (λ q apart. set_left c.loop-nth.xs nth q c.f.new.arg2 apart)
+    (λ q apart. set_elsewhere c.loop-nth.xs nth q c.f.new.arg2 apart)

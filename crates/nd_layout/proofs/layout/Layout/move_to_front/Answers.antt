@@ -2,7 +2,8 @@ use Rattle.std.proofs.Common.{◌≡◌, ◌+◌, ◌-◌, ◌<◌, ◌∙◌, l
 use Rattle.std.specs.Prelude.{slice_index, slice_index_or}
 use Rattle.std.specs.List.{remove, insert, swap}
 use Rattle.std.proofs.lemmas.List.Edits.{length-insert, length-remove}
-use Rattle.nd_layout.proofs.FreshOrder.{put_in_again, moved_forward}
+use Rattle.nd_shape_and_slice.proofs.Lists.{insert-removed}
+use Rattle.nd_layout.proofs.FreshOrder.{moved_forward}
 use Rattle.nd_layout.proofs.layout.Layout.move_to_front.Goals as goal
 
 pub loop-at-init : goal.loop-at-init
@@ -11,7 +12,7 @@ loop-at-init g c =
     let ss = g.T.StrideList.strides_of c.args.self.now.strides in
     let many = c.args.self.now.as_many in
     let on = c.requires in
-    (sym (put_in_again ns c.args.axis 0 on), sym (put_in_again ss c.args.axis (pos 0) (omega (arith, many, on))), refl, omega arith)
+    (sym (insert-removed ns c.args.axis 0 on), sym (insert-removed ss c.args.axis (pos 0) (omega (arith, many, on))), refl, omega arith)
 
 pub loop-at-preserved : goal.loop-at-preserved
 loop-at-preserved g c =

@@ -1,4 +1,4 @@
-use Rattle.std.proofs.Common.{◌≡◌, ◌<◌, ℕ, zero, suc, false, true, arith, rules, refl, set, w64, FitsSigned}
+use Rattle.std.proofs.Common.{arith, rules, set, w64, FitsSigned}
 use Rattle.std.proofs.Common.{inr}
 use Rattle.std.proofs.lemmas.Bool.{false≢true}
 use Rattle.std.proofs.lemmas.Int.{to_z-of_z}
@@ -7,27 +7,24 @@ use Rattle.nd_shape_and_slice.proofs.Sizes.{length_within}
 use Rattle.nd_layout.proofs.steps.AxisStep.{moved_place, offset_below, some_left}
 use Rattle.nd_layout.proofs.steps.SliceStep.{none_left}
 use Rattle.nd_layout.proofs.layout.Layout.offset_after.Goals as goal
-
-some_from : (n : ℕ) → (n ≡ 0 → false ≡ true) → 0 < n
-some_from zero h = absurd (false≢true (h refl))
-some_from (suc n) h = omega arith
+use Rattle.nd_layout.proofs.AxisJoins.{some_size}
 
 pub moved_by-requires-clause-from : goal.moved_by-requires-clause-from
 moved_by-requires-clause-from g c =
-    let some = some_from (size_of (set (g.D.Dimension.lengths c.args.self.now.dim) c.args.axis c.args.len)) c.if-leaves_none.ensures.1 in
+    let some = some_size (size_of (set (g.D.Dimension.lengths c.args.self.now.dim) c.args.axis c.args.len)) c.if-leaves_none.ensures.1 in
     let below = c.requires.within (some_left (g.D.Dimension.lengths c.args.self.now.dim) c.args.axis c.args.len c.requires.on some) in
     offset_below (g.D.Dimension.lengths c.args.self.now.dim) (g.T.StrideList.strides_of c.args.self.now.strides) c.args.axis c.args.self.now.as_many c.requires.on c.args.self.now.offset c.args.len c.args.self.now.reach some (omega (arith, below))
 
 pub moved_by-requires-clause-few : goal.moved_by-requires-clause-few
 moved_by-requires-clause-few g c =
-    let some = some_from (size_of (set (g.D.Dimension.lengths c.args.self.now.dim) c.args.axis c.args.len)) c.if-leaves_none.ensures.1 in
+    let some = some_size (size_of (set (g.D.Dimension.lengths c.args.self.now.dim) c.args.axis c.args.len)) c.if-leaves_none.ensures.1 in
     let below = c.requires.within (some_left (g.D.Dimension.lengths c.args.self.now.dim) c.args.axis c.args.len c.requires.on some) in
     let limit = length_within (g.D.Dimension.lengths c.args.self.now.dim) c.args.axis in
     omega (arith, below, limit, c.args.self.now.checked)
 
 pub moved_by-requires-clause-to : goal.moved_by-requires-clause-to
 moved_by-requires-clause-to g c =
-    let some = some_from (size_of (set (g.D.Dimension.lengths c.args.self.now.dim) c.args.axis c.args.len)) c.if-leaves_none.ensures.1 in
+    let some = some_size (size_of (set (g.D.Dimension.lengths c.args.self.now.dim) c.args.axis c.args.len)) c.if-leaves_none.ensures.1 in
     let below = c.requires.within (some_left (g.D.Dimension.lengths c.args.self.now.dim) c.args.axis c.args.len c.requires.on some) in
     let fits : FitsSigned w64 c.stride.result = search rules in
     rw (to_z-of_z w64 c.stride.result fits, c.stride.ensures) (moved_place (g.D.Dimension.lengths c.args.self.now.dim) (g.T.StrideList.strides_of c.args.self.now.strides) c.args.axis c.args.self.now.as_many c.requires.on c.args.self.now.offset c.args.len c.args.steps c.args.self.now.reach some below)

@@ -1,4 +1,5 @@
 use Rattle.std.specs.Prelude.{Result, Ok, Err, OnErr}
+use Rattle.nd_elements.proofs.Mapped.{on_err_from}
 use Rattle.nd_array_core.specs.Meaning.{shape_of, element_at}
 use Rattle.nd_array_core.proofs.along_lemmas.Selecting.{selected_by_turns, turned_shape_checked, turned_is_some, selected_shape_back}
 use Rattle.nd_array_core.proofs.along.select.ArrayBase+S+D.select.Goals as goal
@@ -20,11 +21,7 @@ returns-clause-elements g c =
     c.view-turned.ensures.whole.0 c.view-turned.ensures.whole.2 c.swap_axes.ensures.part.0.0 c.swap_axes.ensures.part.0.2
     c.in_ok-selected.ensures.shape c.in_ok-selected.ensures.elements c.swap_axes-2.ensures.part.0.2
 
-on_err : {X E : Type 0} {P : Type 0} (r : Result X E) → P → OnErr r P
-on_err (Ok x) p = tt
-on_err (Err e) p = p
-
 pub returns-in_err-selected-clause-refused : goal.returns-in_err-selected-clause-refused
 returns-in_err-selected-clause-refused g c =
-    on_err c.from_residual.result
+    on_err_from _ c.from_residual.result
     (turned_is_some c.args.axis.0 (shape_of c.args.self.now) (shape_of c.view-turned.result) (shape_of c.swap_axes.new.self) c.args.indices.now c.requires.axis c.view-turned.ensures.whole.0 c.swap_axes.ensures.part.0.0 c.in_err-selected.ensures.refused)

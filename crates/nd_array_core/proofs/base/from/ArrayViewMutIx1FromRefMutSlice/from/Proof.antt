@@ -9,6 +9,7 @@ use Rattle.nd_shape_and_slice.specs.contracts.fixed.Dim.{the_row as dim_row}
 use Rattle.nd_shape_and_slice.specs.contracts.fixed.DimAxisCount.TheImpl as count_impl
 use Rattle.nd_shape_and_slice.specs.contracts.fixed.DimDimension.TheImpl as dim_impl
 use Rattle.nd_shape_and_slice.proofs.fixed.Dim.TheLaws.{the_row_laws as dim_laws}
+use Rattle.nd_shape_and_slice.proofs.Lists.{there_is_some}
 use Rattle.nd_region.specs.Region.{IsWhole, region_stored}
 use Rattle.nd_region.specs.contracts.region.Region.{the_row as region_row}
 use Rattle.nd_region.proofs.region.Region.TheLaws.{the_row_laws as region_laws}
@@ -20,7 +21,6 @@ use Rattle.nd_elements.proofs.storage.RegionRepr.TheLaws.{the_row_laws as storag
 use Rattle.nd_elements.specs.contracts.storage.ViewMutReprData.TheImpl as view_impl
 use Rattle.nd_array_core.proofs.base.array.ArrayBase.TheLaws.{the_row_laws as array_laws_of}
 use Rattle.nd_elements.proofs.tasks.PartStep.{whole_holds}
-use Rattle.nd_array_core.proofs.tasks.SliceTask.{slice_has}
 use Rattle.nd_region.specs.contracts.region.Region.from_slice as O
 use Rattle.nd_region.proofs.region.Region.from_slice.Met.{met as of_met}
 use Rattle.nd_array_core.specs.contracts.base.from.region_on_one_axis as V
@@ -69,7 +69,7 @@ from_spec 𝓤 𝓛 𝓜 𝓡 wired A lA =
     -- [the region; the tokens; what the slice follows]
     let same : (p : ℕ) → region_stored x p ≡ slice_get xs.now p = whole_holds x xs.now is_whole in
     let Has : Type 0 = (p : ℕ) → p < n → IsSome (region_stored x p) in
-    let has : Has = λ p below. subst IsSome (sym (same p)) (slice_has xs.now p below) in
+    let has : Has = λ p below. subst IsSome (sym (same p)) (there_is_some xs.now p below) in
     let V-ended : Ended = V.ended A in
     let V-triple = triple_of 𝓛 (V.signature A) (V.spec A 𝓛 𝓜.mem 𝓡.returns) in
     let z₂ : V-triple.Ghost = ((κs, qs, bounds, (x, (n, tt)), (v ∷ [], (vint w64 n ∷ [], tt))), tt) in

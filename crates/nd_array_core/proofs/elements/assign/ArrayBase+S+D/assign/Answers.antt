@@ -1,5 +1,6 @@
 use Rattle.std.proofs.Common.{◌≡◌, ◌∙◌, ℕ, List, refl, sym, OnOk, OnErr}
 use Rattle.std.proofs.lemmas.Bool.{true≢false}
+use Rattle.std.proofs.lemmas.Result.{on_ok_weaker, on_err_weaker}
 use Rattle.nd_shape_and_slice.specs.Broadcast.{broadcast_index}
 use Rattle.nd_layout.specs.Placements.{placement_of, as_placement}
 use Rattle.nd_layout.specs.Steps.{IsViewStep}
@@ -7,7 +8,7 @@ use Rattle.nd_array_core.specs.Meaning.{meaning_of, memory_layout_of}
 use Rattle.nd_elements.specs.ByLayout.{shown_at}
 use Rattle.nd_elements.specs.CloneRefusals.{MayRefuseClone}
 use Rattle.nd_elements.specs.elements.Pairs.{IsOldOrOf}
-use Rattle.nd_elements.proofs.Assigned.{on_ok, on_err, old_or_same}
+use Rattle.nd_elements.proofs.Assigned.{old_or_same}
 use Rattle.nd_elements.proofs.SamePlaces.{seen_holds, seen_element}
 use Rattle.nd_array_core.proofs.elements_lemmas.CloneRefusals.{inside_some, refused_alike}
 use Rattle.nd_array_core.proofs.elements.assign.ArrayBase+S+D.assign.Goals as goal
@@ -35,7 +36,7 @@ assign_layouts-requires-clause-clones g c =
     let others = g.Z.Data.stored right.storage in
     let two = placement_of c.in-Some.seen in
     let before = broadcast_index (g.E.Dimension.lengths right.layout.dim) two.lengths in
-    λ i x is. c.requires.clones (before i) x (inside_some g.A.Clone.is_infallible two.lengths i (shown_at others (placement_of right.layout) (before i)) x (sym (seen_element others c.in-Some.ensures.seen i) ∙ is))
+    λ i x is. c.requires.clones (before i) x (inside_some two.lengths i (shown_at others (placement_of right.layout) (before i)) x (sym (seen_element others c.in-Some.ensures.seen i) ∙ is))
 
 pub returns-clause-assigned : goal.returns-clause-assigned
 unfolding meaning_of
@@ -48,7 +49,7 @@ returns-clause-assigned g c =
     let two = as_placement seen.offset one.lengths seen.strides in
     let view : IsViewStep right.offset right.lengths right.strides seen.offset one.lengths seen.strides (broadcast_index right.lengths one.lengths) = rw c.in-Some.ensures.lengths at c.in-Some.ensures.seen in
     let assigned : OnOk c.assign_layouts.result ((i : List ℕ) → shown_at new one i ≡ shown_at others two i) = rw c.in-Some.ensures.lengths at c.assign_layouts.ensures.assigned in
-    on_ok c.assign_layouts.result (λ all i. all i ∙ seen_element others view i) assigned
+    on_ok_weaker c.assign_layouts.result (λ all i. all i ∙ seen_element others view i) assigned
 
 pub returns-clause-stopped : goal.returns-clause-stopped
 unfolding meaning_of
@@ -62,7 +63,7 @@ returns-clause-stopped g c =
     let two = as_placement seen.offset one.lengths seen.strides in
     let view : IsViewStep right.offset right.lengths right.strides seen.offset one.lengths seen.strides (broadcast_index right.lengths one.lengths) = rw c.in-Some.ensures.lengths at c.in-Some.ensures.seen in
     let stopped : OnErr c.assign_layouts.result (IsOldOrOf (shown_at old one) (shown_at others two) (shown_at new one)) = rw c.in-Some.ensures.lengths at c.assign_layouts.ensures.stopped in
-    on_err c.assign_layouts.result (λ either. old_or_same (shown_at old one) (shown_at others two) _ (shown_at new one) (seen_element others view) either) stopped
+    on_err_weaker c.assign_layouts.result (λ either. old_or_same (shown_at old one) (shown_at others two) _ (shown_at new one) (seen_element others view) either) stopped
 
 pub returns-clause-refused : goal.returns-clause-refused
 unfolding meaning_of
@@ -74,7 +75,7 @@ returns-clause-refused g c =
     let two = as_placement seen.offset one.lengths seen.strides in
     let view : IsViewStep right.offset right.lengths right.strides seen.offset one.lengths seen.strides (broadcast_index right.lengths one.lengths) = rw c.in-Some.ensures.lengths at c.in-Some.ensures.seen in
     let refused : OnErr c.assign_layouts.result (MayRefuseClone g.A.Clone.is_infallible (shown_at others two)) = rw c.in-Some.ensures.lengths at c.assign_layouts.ensures.refused in
-    on_err c.assign_layouts.result (refused_alike g.A.Clone.is_infallible (shown_at others two) _ (seen_element others view)) refused
+    on_err_weaker c.assign_layouts.result (refused_alike g.A.Clone.is_infallible (shown_at others two) _ (seen_element others view)) refused
 
 pub returns-clause-frame : goal.returns-clause-frame
 unfolding meaning_of memory_layout_of

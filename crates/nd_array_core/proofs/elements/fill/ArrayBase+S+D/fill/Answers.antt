@@ -1,9 +1,9 @@
 use Rattle.std.proofs.Common.{subst}
 use Rattle.std.specs.Prelude.{OnErr}
+use Rattle.std.proofs.lemmas.Result.{on_err_weaker}
 use Rattle.nd_layout.specs.Lanes.{by_rank}
 use Rattle.nd_array_core.specs.Meaning.{meaning_of}
 use Rattle.nd_elements.specs.CloneRefusals.{MayRefuseClonesOf}
-use Rattle.nd_elements.proofs.Assigned.{on_err}
 use Rattle.nd_array_core.proofs.elements_lemmas.CloneRefusals.{value_refused}
 use Rattle.nd_array_core.proofs.elements.fill.ArrayBase+S+D.fill.Goals as goal
 
@@ -13,6 +13,6 @@ returns-clause-refused g c =
     let layout = c.args.self.now.layout in
     let order = c.free_order-order.result in
     let refused = subst (λ p. OnErr c.fill_places.result (MayRefuseClonesOf g.S.Elem.Clone.is_infallible c.args.value (by_rank p).count)) c.places.ensures c.fill_places.ensures.refused in
-    on_err c.fill_places.result
+    on_err_weaker c.fill_places.result
     (value_refused g.S.Elem.Clone.is_infallible c.args.value layout.offset (g.D.Dimension.lengths layout.dim) (g.D.Strides.StrideList.strides_of layout.strides) order.offset (g.D.Dimension.lengths order.dim) (g.D.Strides.StrideList.strides_of order.strides) c.free_order-order.ensures.order)
     refused

@@ -8,6 +8,7 @@ use Rattle.nd_layout.proofs.steps.AxisStep.{positive}
 use Rattle.nd_array_core.specs.Meaning.{meaning_of, shape_of, layout_strides}
 use Rattle.nd_elements.specs.Clones.{StoredClonesAreEqual}
 use Rattle.nd_elements.proofs.Collecting.{elements_equal_clones, elements_count}
+use Rattle.nd_elements.proofs.Mapped.{on_err_from}
 use Rattle.nd_array_core.proofs.elements.to_vec.ArrayBase+S+D.to_vec.Goals as goal
 
 pub clones_of-requires : goal.clones_of-requires
@@ -35,11 +36,7 @@ returns-in-Some-clause-refused g c =
 some_scattered : (ns : List ℕ) (ss : List ℤ) → (IsStandard ns ss → ⊥) → 0 < size_of ns
 some_scattered ns ss scattered = positive (size_of ns) (λ none. scattered (λ i inside. absurd (let below = row_rank_below ns i inside in omega (arith, below, none))))
 
-on_err : {X E : Type 0} {P : Type 0} (r : Result X E) → P → OnErr r P
-on_err (Ok x) p = tt
-on_err (Err e) p = p
-
 pub returns-in-None-clause-refused : goal.returns-in-None-clause-refused
 returns-in-None-clause-refused g c =
     let array = c.args.self.now in
-    on_err c.listed_by_lanes.result (some_scattered (shape_of array) (layout_strides array) (λ standard. false≢true (c.in-None.ensures.some.1 standard)))
+    on_err_from _ c.listed_by_lanes.result (some_scattered (shape_of array) (layout_strides array) (λ standard. false≢true (c.in-None.ensures.some.1 standard)))

@@ -1,4 +1,4 @@
-use Rattle.std.proofs.Common.{◌≡◌, ◌∙◌, ◌+◌, ◌<◌, ◌≤◌, ap, get_or, length, refl, set, subst, sym, inr}
+use Rattle.std.proofs.Common.{ℕ, List, ◌≡◌, ◌∙◌, ◌+◌, ◌<◌, ◌≤◌, ap, get_or, length, refl, set, subst, sym, inr}
 use Rattle.std.specs.Prelude.{vec_capacity}
 use Rattle.nd_shape_and_slice.specs.Shape.{size_of, HasCheckedSize}
 use Rattle.nd_shape_and_slice.specs.Broadcast.{broadcast_index}
@@ -13,6 +13,10 @@ use Rattle.nd_array_core.proofs.growth_lemmas.GrownArrays.{room_spared}
 use Rattle.nd_array_core.proofs.growth_lemmas.Stretched.{alike_behind, axis_behind, joined_behind, size_behind, with_itself}
 use Rattle.nd_array_core.proofs.growth.append.Array+A+D.append.Goals as goal
 
+-- the length of the axis of what is put behind is that of the array, broadcast or not
+length_behind : (ns ms shape : List ℕ) (a : ℕ) → a < length ns → shape ≡ shape_behind ns ms a → get_or shape a 0 ≡ get_or ms a 0
+length_behind ns ms shape a on is = ap (λ s. get_or s a 0) is ∙ axis_behind ns ms a on
+
 pub append_as_it_is-requires-clause-comes : goal.append_as_it_is-requires-clause-comes
 unfolding meaning_of
 append_as_it_is-requires-clause-comes g c =
@@ -22,7 +26,7 @@ append_as_it_is-requires-clause-comes g c =
     let done = c.in-Ok.ensures in
     let on = c.requires.axis done.fits.0 in
     let shape = c.broadcast_behind-beside.ensures.part.0 in
-    let long = ap (λ s. get_or s axis 0) shape ∙ axis_behind old.shape array.shape axis on in
+    let long = length_behind old.shape array.shape _ axis on shape in
     record {
       on = on;
       alike = alike_behind old.shape array.shape axis on (meaning_of c.broadcast_behind-beside.result).shape done.fits shape;
@@ -33,10 +37,8 @@ pub append_as_it_is-requires-clause-dim : goal.append_as_it_is-requires-clause-d
 unfolding meaning_of
 append_as_it_is-requires-clause-dim g c =
     let old = meaning_of c.args.self.now in
-    let array = meaning_of c.args.array in
     let axis = c.args.axis.0 in
-    let on = c.requires.axis c.in-Ok.ensures.fits.0 in
-    let long = ap (λ s. get_or s axis 0) c.broadcast_behind-beside.ensures.part.0 ∙ axis_behind old.shape array.shape axis on in
+    let long = length_behind (meaning_of c.args.self.now).shape (meaning_of c.args.array).shape _ axis (c.requires.axis c.in-Ok.ensures.fits.0) c.broadcast_behind-beside.ensures.part.0 in
     c.in-Ok.ensures.joined ∙ ap (λ k. set old.shape axis (get_or old.shape axis 0 + k)) (sym long)
 
 pub append_as_it_is-requires-clause-clones : goal.append_as_it_is-requires-clause-clones
@@ -45,7 +47,7 @@ append_as_it_is-requires-clause-clones g c i x is =
     let old = meaning_of c.args.self.now in
     let array = meaning_of c.args.array in
     let to = shape_behind old.shape array.shape c.args.axis.0 in
-    c.requires.clones (broadcast_index array.shape to i) x (inside_some g.A.Clone.is_infallible to i (array.at (broadcast_index array.shape to i)) x (sym (c.broadcast_behind-beside.ensures.part.2 i) ∙ is))
+    c.requires.clones (broadcast_index array.shape to i) x (inside_some to i (array.at (broadcast_index array.shape to i)) x (sym (c.broadcast_behind-beside.ensures.part.2 i) ∙ is))
 
 pub returns-in-Ok-append_as_it_is-clause-joined : goal.returns-in-Ok-append_as_it_is-clause-joined
 unfolding meaning_of
@@ -74,21 +76,15 @@ returns-in-Ok-append_as_it_is-clause-plain g c alike =
 pub returns-in-Ok-append_as_it_is-clause-laid : goal.returns-in-Ok-append_as_it_is-clause-laid
 unfolding meaning_of
 returns-in-Ok-append_as_it_is-clause-laid g c =
-    let old = meaning_of c.args.self.now in
-    let array = meaning_of c.args.array in
     let axis = c.args.axis.0 in
-    let on = c.requires.axis c.in-Ok.ensures.fits.0 in
-    let long = ap (λ s. get_or s axis 0) c.broadcast_behind-beside.ensures.part.0 ∙ axis_behind old.shape array.shape axis on in
+    let long = length_behind (meaning_of c.args.self.now).shape (meaning_of c.args.array).shape _ axis (c.requires.axis c.in-Ok.ensures.fits.0) c.broadcast_behind-beside.ensures.part.0 in
     subst (λ k. IsGrownBy axis k c.args.self.now c.append_as_it_is.new.self) long c.in-Ok-append_as_it_is.ensures.appended.laid
 
 pub returns-in-Ok-append_as_it_is-clause-ready : goal.returns-in-Ok-append_as_it_is-clause-ready
 unfolding meaning_of
 returns-in-Ok-append_as_it_is-clause-ready g c =
-    let old = meaning_of c.args.self.now in
-    let array = meaning_of c.args.array in
     let axis = c.args.axis.0 in
-    let on = c.requires.axis c.in-Ok.ensures.fits.0 in
-    let long = ap (λ s. get_or s axis 0) c.broadcast_behind-beside.ensures.part.0 ∙ axis_behind old.shape array.shape axis on in
+    let long = length_behind (meaning_of c.args.self.now).shape (meaning_of c.args.array).shape _ axis (c.requires.axis c.in-Ok.ensures.fits.0) c.broadcast_behind-beside.ensures.part.0 in
     subst (λ k. BecomesReady axis k c.args.self.now c.append_as_it_is.new.self) long c.in-Ok-append_as_it_is.ensures.appended.ready
 
 pub returns-in-Ok-append_as_it_is-clause-goes_on : goal.returns-in-Ok-append_as_it_is-clause-goes_on
@@ -99,21 +95,15 @@ returns-in-Ok-append_as_it_is-clause-goes_on g c =
 pub returns-in-Ok-append_as_it_is-clause-room : goal.returns-in-Ok-append_as_it_is-clause-room
 unfolding meaning_of
 returns-in-Ok-append_as_it_is-clause-room g c =
-    let old = meaning_of c.args.self.now in
-    let array = meaning_of c.args.array in
     let axis = c.args.axis.0 in
-    let on = c.requires.axis c.in-Ok.ensures.fits.0 in
-    let long = ap (λ s. get_or s axis 0) c.broadcast_behind-beside.ensures.part.0 ∙ axis_behind old.shape array.shape axis on in
+    let long = length_behind (meaning_of c.args.self.now).shape (meaning_of c.args.array).shape _ axis (c.requires.axis c.in-Ok.ensures.fits.0) c.broadcast_behind-beside.ensures.part.0 in
     subst (λ k. KeepsRoom axis k c.args.self.now c.append_as_it_is.new.self) long c.in-Ok-append_as_it_is.ensures.appended.room
 
 pub returns-in-Err-append_as_it_is-clause-room : goal.returns-in-Err-append_as_it_is-clause-room
 unfolding meaning_of
 returns-in-Err-append_as_it_is-clause-room g c =
-    let old = meaning_of c.args.self.now in
-    let array = meaning_of c.args.array in
     let axis = c.args.axis.0 in
-    let on = c.requires.axis c.in-Ok.ensures.fits.0 in
-    let long = ap (λ s. get_or s axis 0) c.broadcast_behind-beside.ensures.part.0 ∙ axis_behind old.shape array.shape axis on in
+    let long = length_behind (meaning_of c.args.self.now).shape (meaning_of c.args.array).shape _ axis (c.requires.axis c.in-Ok.ensures.fits.0) c.broadcast_behind-beside.ensures.part.0 in
     subst (λ k. KeepsRoom axis k c.args.self.now c.append_as_it_is.new.self) long c.in-Err-append_as_it_is.ensures.refused.room
 
 pub returns-in-Err-append_as_it_is-clause-kept : goal.returns-in-Err-append_as_it_is-clause-kept
@@ -138,11 +128,10 @@ returns-in-Err-append_as_it_is-clause-refused g c =
 pub returns-in-Err-append_as_it_is-clause-enough : goal.returns-in-Err-append_as_it_is-clause-enough
 unfolding meaning_of
 returns-in-Err-append_as_it_is-clause-enough g c for_it =
-    let old = meaning_of c.args.self.now in
     let array = meaning_of c.args.array in
+    let old = meaning_of c.args.self.now in
     let axis = c.args.axis.0 in
-    let on = c.requires.axis c.in-Ok.ensures.fits.0 in
-    let long = ap (λ s. get_or s axis 0) c.broadcast_behind-beside.ensures.part.0 ∙ axis_behind old.shape array.shape axis on in
+    let long = length_behind (meaning_of c.args.self.now).shape (meaning_of c.args.array).shape _ axis (c.requires.axis c.in-Ok.ensures.fits.0) c.broadcast_behind-beside.ensures.part.0 in
     let view = meaning_of c.broadcast_behind-beside.result in
     let part = c.broadcast_behind-beside.ensures.part in
     let to = shape_behind old.shape array.shape axis in
@@ -161,7 +150,7 @@ returns-in-Ok-append_as_it_is-clause-room_left g c ready more room =
     let fits = c.in-Ok.ensures.fits in
     let on = c.requires.axis fits.0 in
     let shape = c.broadcast_behind-beside.ensures.part.0 in
-    let long : get_or vs axis 0 ≡ get_or ms axis 0 = ap (λ s. get_or s axis 0) shape ∙ axis_behind ns ms axis on in
+    let long = length_behind ns ms vs axis on shape in
     let done = c.in-Ok-append_as_it_is.ensures.appended in
     room_spared ns vs (g.D.Dimension.lengths new.layout.dim) axis more (length old.storage.items.items) (length new.storage.items.items) (vec_capacity old.storage.items) (vec_capacity new.storage.items)
     on (alike_behind ns ms axis on vs fits shape) (ap (λ m. m.shape) done.joined) ready.0 (done.goes_on ready).ready.0 (done.room (inr (needs_no_move axis old ready)))

@@ -7,8 +7,8 @@ use Rattle.nd_elements.specs.Meaning.{inside}
 use Rattle.nd_elements.specs.Places.{place_number}
 use Rattle.nd_shape_and_slice.specs.Place.{place_of}
 use Rattle.std.specs.Prelude.{slice_get}
+use Rattle.std.proofs.lemmas.Result.{on_err_weaker}
 use Rattle.nd_array_core.proofs.growth_lemmas.Appending.{err_both, err_under, fits_more, grown_count, grown_or_kept, joined_shown, on_both, shown}
-use Rattle.nd_elements.proofs.Assigned.{on_err}
 use Rattle.nd_array_core.proofs.growth_lemmas.GrownArrays.{added_is, goes_behind, laid_behind}
 use Rattle.nd_array_core.proofs.growth.append.Array+A+D.append_in_place.Goals as goal
 
@@ -23,7 +23,7 @@ unfolding meaning_of memory_layout_of
 invariant_of-self g c =
     let old = c.args.self.now in
     let w = grown_or_kept c.append_behind.result (placement_of old.layout) (placement_of c.append_behind.new.layout) c.args.axis.0 (meaning_of c.args.array.now) old.storage.items.items c.append_behind.new.storage.items.items
-    c.requires.comes.on c.requires.comes.alike old.inside (old.separated refl c.requires.some) c.requires.can.0 c.append_behind.ensures.grown c.append_behind.ensures.put (on_err c.append_behind.result (λ k. (k.0, ap placement_of k.1)) c.append_behind.ensures.kept) in
+    c.requires.comes.on c.requires.comes.alike old.inside (old.separated refl c.requires.some) c.requires.can.0 c.append_behind.ensures.grown c.append_behind.ensures.put (on_err_weaker c.append_behind.result (λ k. (k.0, ap placement_of k.1)) c.append_behind.ensures.kept) in
     record { inside = w.0; separated = λ _ _. w.1 }
 
 pub returns-clause-appended : goal.returns-clause-appended

@@ -10,13 +10,7 @@ use Rattle.nd_array_core.specs.growth.Grown.{lies}
 use Rattle.nd_array_core.proofs.growth_lemmas.Appending.{fits_none, fits_size, joined_nothing, no_index, nothing_joined, same_none, shown}
 use Rattle.nd_array_core.proofs.growth_lemmas.GrownArrays.{added_is, goes_empty, goes_same, grown_some, laid_empty, laid_same}
 use Rattle.nd_array_core.proofs.growth.append.Array+A+D.append_nothing.Goals as goal
-
-some_there : (n : ℕ) (b : Bool) → (n ≡ 0 → b ≡ true) → b ≡ false → 0 < n
-some_there n b none is =
-    ⊎_elim
-    (λ (zero : n ≡ 0). absurd (true≢false (sym (none zero) ∙ is)))
-    (λ (other : n ≡ 0 → ⊥). omega arith)
-    (cases_eq n 0)
+use Rattle.nd_array_core.proofs.base_lemmas.LastIndexes.{some_left}
 
 pub returns-then-not-is_empty : goal.returns-then-not-is_empty
 unfolding meaning_of memory_layout_of
@@ -27,7 +21,7 @@ returns-then-not-is_empty g c =
     let ms = g.D.Dimension.lengths c.args.array.now.layout.dim in
     let axis = c.args.axis.0 in
     let comes = c.requires.comes in
-    let some : 0 < size_of ns = some_there (size_of ns) c.is_empty.result c.is_empty.ensures.1 c.if-not-is_empty.true in
+    let some : 0 < size_of ns = some_left c.is_empty.result (size_of ns) c.if-not-is_empty.true c.is_empty.ensures.1 in
     let nothing = fits_none ns ms axis comes.on comes.alike some c.requires.none in
     record {
       joined = sym (joined_nothing axis (meaning_of old) (meaning_of c.args.array.now) comes.on nothing (λ i outside. rw outside refl));

@@ -1,4 +1,5 @@
 use Rattle.std.proofs.Common.{◌<◌, ◌∙◌, ap, arith, get_or, inr, length, subst, sym}
+use Rattle.std.proofs.lemmas.Result.{on_ok_weaker, on_err_weaker}
 use Rattle.nd_shape_and_slice.specs.Shape.{size_of}
 use Rattle.nd_layout.specs.Growth.{must_move}
 use Rattle.nd_elements.specs.Storages.{room_of, stored_list}
@@ -8,7 +9,6 @@ use Rattle.nd_array_core.specs.growth.Outcomes.{ComesAsItIs}
 use Rattle.nd_array_core.specs.growth.Reserved.{added_elements}
 use Rattle.nd_array_core.specs.Joined.{concatenated}
 use Rattle.nd_array_core.proofs.growth_lemmas.Appending.{fits_more, same_at}
-use Rattle.nd_elements.proofs.Assigned.{on_ok, on_err}
 use Rattle.nd_array_core.proofs.growth_lemmas.GrownArrays.{can_grow, laid_anew, moves_by, never_calm}
 use Rattle.nd_array_core.proofs.growth.append.Array+A+D.append_relaid.Goals as goal
 
@@ -30,7 +30,7 @@ returns-in-Ok-clause-appended g c =
     let k = get_or array.shape axis 0 in
     let to_grow = c.in-Ok.ensures.laid in
     let same = same_at (meaning_of anew) (meaning_of old) c.relay.ensures.shape c.relay.ensures.elements in
-    on_ok c.append_in_place.result
+    on_ok_weaker c.append_in_place.result
     (λ done. record {
       joined = done.joined ∙ ap (λ m. concatenated axis m array) same;
       laid = laid_anew axis k (lies old) (lies anew) (lies new) old.storage.items.items anew.storage.items.items new.storage.items.items
@@ -53,7 +53,7 @@ returns-in-Ok-clause-refused g c =
     let comes = c.requires.comes in
     let array = meaning_of c.args.array.now in
     let same = same_at (meaning_of anew) (meaning_of old) c.relay.ensures.shape c.relay.ensures.elements in
-    on_err c.append_in_place.result
+    on_err_weaker c.append_in_place.result
     (λ refused. record {
       some = refused.some;
       kept = refused.kept ∙ same;

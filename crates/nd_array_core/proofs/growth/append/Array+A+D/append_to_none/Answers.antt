@@ -3,11 +3,12 @@ use Rattle.nd_shape_and_slice.specs.Place.{place_of}
 use Rattle.nd_layout.specs.Placements.{placement_of}
 use Rattle.nd_array_core.specs.Meaning.{meaning_of, memory_layout_of}
 use Rattle.std.specs.Prelude.{slice_get}
+use Rattle.std.proofs.lemmas.Result.{on_err_weaker}
+use Rattle.std.proofs.lemmas.List.{nil_from_length}
 use Rattle.nd_elements.specs.CloneRefusals.{MayRefuseClone}
 use Rattle.nd_elements.specs.Meaning.{inside}
 use Rattle.nd_elements.specs.Places.{place_number}
 use Rattle.nd_array_core.proofs.growth_lemmas.Appending.{err_three, err_under, fits_axis, on_both, same_none, shown}
-use Rattle.nd_elements.proofs.Assigned.{on_err}
 use Rattle.nd_array_core.proofs.growth_lemmas.FreshStorage.{fresh_or_none, fresh_joined}
 use Rattle.nd_array_core.proofs.growth_lemmas.GrownArrays.{added_is, goes_fresh, laid_fresh, ready_fresh}
 use Rattle.nd_array_core.proofs.growth.append.Array+A+D.append_to_none.Goals as goal
@@ -23,7 +24,7 @@ invariant_of-self g c =
     let array = c.args.array.now in
     let on = fits_axis (g.D.Dimension.lengths old.layout.dim) (g.D.Dimension.lengths array.layout.dim) c.args.axis.0 c.requires.comes.on c.requires.comes.alike in
     let w = fresh_or_none (meaning_of array) c.args.axis.0 c.append_fresh.new.storage.items.items on c.requires.more array.layout.checked c.append_fresh.result (placement_of old.layout) (placement_of c.append_fresh.new.layout) c.requires.none
-    c.append_fresh.ensures.laid c.append_fresh.ensures.put (on_err c.append_fresh.result (ap placement_of) c.append_fresh.ensures.kept) in
+    c.append_fresh.ensures.laid c.append_fresh.ensures.put (on_err_weaker c.append_fresh.result (ap placement_of) c.append_fresh.ensures.kept) in
     record { inside = w.0; separated = λ _. w.1 }
 
 pub returns-clause-appended : goal.returns-clause-appended
@@ -48,10 +49,6 @@ returns-clause-appended g c =
     })
     c.append_fresh.ensures.laid c.append_fresh.ensures.put
 
-no_item : {A : Type 0} (xs : List A) → length xs ≡ 0 → xs ≡ []
-no_item [] e = refl
-no_item (x ∷ xs) e = absurd (omega (arith, e))
-
 pub returns-clause-refused : goal.returns-clause-refused
 unfolding meaning_of memory_layout_of
 returns-clause-refused g c =
@@ -74,7 +71,7 @@ returns-clause-refused g c =
           λ i k. let p = placement_of (kept k) in inside p.lengths i (place_number (place_of p.offset p.strides i)),
           ap (λ l. (placement_of l).offset) kept,
         ),
-        λ ready. emptied ∙ sym (no_item old.storage.items.items (ready.0 ∙ c.requires.none)),
+        λ ready. emptied ∙ sym (nil_from_length old.storage.items.items (ready.0 ∙ c.requires.none)),
       );
       room = λ _. c.append_fresh.ensures.room;
       enough = λ for_it. clones (let had = for_it.1 in omega (arith, had, count));

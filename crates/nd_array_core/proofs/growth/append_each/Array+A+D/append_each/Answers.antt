@@ -1,6 +1,7 @@
 use Rattle.std.proofs.Common.{◌≡◌, ℕ, ◌+◌, ◌<◌, ◌≤◌, List, [], get_or, length, map, take, ap, sym, subst, ◌∙◌, arith, refl}
 use Rattle.std.proofs.lemmas.List.{length-map, length-set, take_all}
 use Rattle.nd_shape_and_slice.specs.Shape.{in_box, HasCheckedSize}
+use Rattle.nd_shape_and_slice.proofs.Lists.{got_mapped as mapped_get, take_next}
 use Rattle.nd_array_core.specs.Joined.{concatenated}
 use Rattle.nd_array_core.specs.Laws.{NothingOutside}
 use Rattle.nd_array_core.specs.Meaning.{meaning_of, shape_of, storage_of}
@@ -14,7 +15,7 @@ use Rattle.nd_array_core.specs.growth.InTurn.{joined_in_turn, lengths_along, mea
 use Rattle.nd_array_core.proofs.growth_lemmas.Appending.{same_at}
 use Rattle.nd_array_core.proofs.growth_lemmas.GoneOn.{grown_last, goes_left, goes_nowhere, goes_then, leaves_none, leaves_then, ready_then, room_then, still_then}
 use Rattle.nd_array_core.proofs.growth_lemmas.GrownArrays.{room_within}
-use Rattle.nd_array_core.proofs.growth_lemmas.JoinedInTurn.{all_fit, each_mapped, in_box-grown, joined_more, lengths_more, lengths_within, mapped_get, none_fit, one_more_fits, only_memory, shape_in_turn, take_next, taken_fit, turn_alike}
+use Rattle.nd_array_core.proofs.growth_lemmas.JoinedInTurn.{all_fit, each_mapped, in_box-grown, joined_more, lengths_more, lengths_within, none_fit, one_more_fits, only_memory, shape_in_turn, taken_fit, turn_alike}
 use Rattle.nd_array_core.proofs.growth.append_each.Array+A+D.append_each.Goals as goal
 
 nothing_there : {X : Type 0} (xs : List X) (nth : ℕ) → nth < length xs → xs ≡ [] → ⊥

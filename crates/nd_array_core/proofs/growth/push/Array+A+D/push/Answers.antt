@@ -1,16 +1,16 @@
 use Rattle.std.proofs.Common.{◌≡◌, ◌∙◌, ◌+◌, ap, length, sym, subst, arith}
 use Rattle.std.specs.Prelude.{IfErr, OnOk}
+use Rattle.std.proofs.lemmas.Result.{on_ok_weaker, IfErr-weaker}
 use Rattle.nd_array_core.specs.Meaning.{meaning_of, shape_of}
 use Rattle.nd_array_core.specs.Joined.{concatenated}
 use Rattle.nd_array_core.specs.Laws.{with_axis_inserted}
 use Rattle.nd_shape_and_slice.specs.Maps.{inserted_index, inserted_shape}
 use Rattle.nd_array_core.specs.growth.Appended.{CanComeBehind, IsAppendRefused, IsJoiningRefused, JoinsAlike}
 use Rattle.nd_array_core.proofs.growth_lemmas.Appending.{same_at}
-use Rattle.nd_elements.proofs.Assigned.{on_ok}
 use Rattle.nd_array_core.specs.growth.Grown.{BecomesReady, IsGrownBy, KeepsRoom, NeedsOnlyClones, IsNotForMemory, LeavesRoom}
 use Rattle.nd_array_core.specs.growth.Reserved.{HasRoomAlong}
 use Rattle.nd_array_core.proofs.elements_lemmas.CloneRefusals.{part_refused}
-use Rattle.nd_array_core.proofs.growth_lemmas.Pushed.{axis_within, for_part, if_refused, one_fewer, one_pushed, other_axes}
+use Rattle.nd_array_core.proofs.growth_lemmas.Pushed.{axis_within, for_part, one_fewer, one_pushed, other_axes}
 use Rattle.nd_array_core.proofs.growth.push.Array+A+D.push.Goals as goal
 
 pub returns-then-ndim-clause-refused : goal.returns-then-ndim-clause-refused
@@ -58,20 +58,20 @@ returns-clause-laid g c =
     let array = meaning_of c.args.array in
     let view = meaning_of c.with_axis.result in
     let axes : length array.shape + 1 ≡ length old.shape = ap (λ n. n + 1) (sym c.ndim.ensures.value) ∙ (c.if-ndim.false ∙ c.ndim-2.ensures.value) in
-    on_ok c.append.result (λ laid. subst (λ n. IsGrownBy c.args.axis.0 n c.args.self.now c.append.new.self) (one_pushed old.shape array.shape view.shape c.args.axis.0 c.requires.axis axes c.with_axis.ensures.part.0) laid) c.append.ensures.laid
+    on_ok_weaker c.append.result (λ laid. subst (λ n. IsGrownBy c.args.axis.0 n c.args.self.now c.append.new.self) (one_pushed old.shape array.shape view.shape c.args.axis.0 c.requires.axis axes c.with_axis.ensures.part.0) laid) c.append.ensures.laid
 
 pub returns-clause-joined : goal.returns-clause-joined
 returns-clause-joined g c =
     let part = c.with_axis.ensures.part in
     let same = same_at (meaning_of c.with_axis.result) (with_axis_inserted c.args.axis.0 (meaning_of c.args.array)) part.0 part.2 in
-    on_ok c.append.result (λ joined. joined ∙ ap (λ m. concatenated c.args.axis.0 (meaning_of c.args.self.now) m) same) c.append.ensures.joined
+    on_ok_weaker c.append.result (λ joined. joined ∙ ap (λ m. concatenated c.args.axis.0 (meaning_of c.args.self.now) m) same) c.append.ensures.joined
 
 pub returns-clause-plain : goal.returns-clause-plain
 returns-clause-plain g c =
     let old = meaning_of c.args.self.now in
     let part = c.with_axis.ensures.part in
     let same = same_at (meaning_of c.with_axis.result) (with_axis_inserted c.args.axis.0 (meaning_of c.args.array)) part.0 part.2 in
-    on_ok c.append.result (subst (λ m. JoinsAlike c.args.axis.0 old m (meaning_of c.append.new.self)) same) c.append.ensures.plain
+    on_ok_weaker c.append.result (subst (λ m. JoinsAlike c.args.axis.0 old m (meaning_of c.append.new.self)) same) c.append.ensures.plain
 
 pub returns-clause-ready : goal.returns-clause-ready
 returns-clause-ready g c =
@@ -79,7 +79,7 @@ returns-clause-ready g c =
     let array = meaning_of c.args.array in
     let view = meaning_of c.with_axis.result in
     let axes : length array.shape + 1 ≡ length old.shape = ap (λ n. n + 1) (sym c.ndim.ensures.value) ∙ (c.if-ndim.false ∙ c.ndim-2.ensures.value) in
-    on_ok c.append.result (λ ready. subst (λ n. BecomesReady c.args.axis.0 n c.args.self.now c.append.new.self) (one_pushed old.shape array.shape view.shape c.args.axis.0 c.requires.axis axes c.with_axis.ensures.part.0) ready) c.append.ensures.ready
+    on_ok_weaker c.append.result (λ ready. subst (λ n. BecomesReady c.args.axis.0 n c.args.self.now c.append.new.self) (one_pushed old.shape array.shape view.shape c.args.axis.0 c.requires.axis axes c.with_axis.ensures.part.0) ready) c.append.ensures.ready
 
 pub returns-clause-room : goal.returns-clause-room
 returns-clause-room g c =
@@ -95,7 +95,7 @@ returns-clause-room_left g c ready =
     let array = meaning_of c.args.array in
     let view = meaning_of c.with_axis.result in
     let axes : length array.shape + 1 ≡ length old.shape = ap (λ n. n + 1) (sym c.ndim.ensures.value) ∙ (c.if-ndim.false ∙ c.ndim-2.ensures.value) in
-    on_ok c.append.result (λ left. subst (λ n. LeavesRoom c.args.axis.0 n c.args.self.now c.append.new.self) (one_pushed old.shape array.shape view.shape c.args.axis.0 c.requires.axis axes c.with_axis.ensures.part.0) (left ready)) c.append.ensures.room_left
+    on_ok_weaker c.append.result (λ left. subst (λ n. LeavesRoom c.args.axis.0 n c.args.self.now c.append.new.self) (one_pushed old.shape array.shape view.shape c.args.axis.0 c.requires.axis axes c.with_axis.ensures.part.0) (left ready)) c.append.ensures.room_left
 
 pub returns-clause-enough : goal.returns-clause-enough
 returns-clause-enough g c for_it =
@@ -104,6 +104,6 @@ returns-clause-enough g c for_it =
     let view = meaning_of c.with_axis.result in
     let axes : length array.shape + 1 ≡ length old.shape = ap (λ n. n + 1) (sym c.ndim.ensures.value) ∙ (c.if-ndim.false ∙ c.ndim-2.ensures.value) in
     let room = subst (λ n. HasRoomAlong c.args.axis.0 n c.args.self.now) (sym (one_pushed old.shape array.shape view.shape c.args.axis.0 c.requires.axis axes c.with_axis.ensures.part.0)) for_it.1 in
-    if_refused c.append.result (NeedsOnlyClones g.A.Clone.is_infallible c.args.axis.0 c.args.self.now view) (IsNotForMemory g.A.Clone.is_infallible array.at)
+    IfErr-weaker c.append.result (NeedsOnlyClones g.A.Clone.is_infallible c.args.axis.0 c.args.self.now view) (IsNotForMemory g.A.Clone.is_infallible array.at)
     (λ e needs. for_part g.A.Clone.is_infallible view.at array.at (part_refused g.A.Clone.is_infallible array.at view.at (inserted_shape array.shape c.args.axis.0) (inserted_index c.args.axis.0) c.with_axis.ensures.part.2) e (needs (for_it.0, room)))
     c.append.ensures.enough
