@@ -31,7 +31,8 @@ where
     list(items, storage, layout.places())
 }
 
-/// The same in halves, one behind the other, until they are near; then at once.
+/// Puts clones of the elements of a layout, by row-major rank, behind those that a vector has. A layout whose elements lie far
+/// apart is cut in halves, which are listed one behind the other.
 fn list_in_halves<S: Data, D: Dimension>(
     items: &mut Vec<S::Elem>,
     storage: &S,

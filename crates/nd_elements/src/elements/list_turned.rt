@@ -1,5 +1,7 @@
-//! Clones of the elements of rows that lie across memory, in a vector: each row is cut into as many parts as there are rows.
-//! The first parts of all rows are cloned, then the second ones, and so on, and at last the parts are exchanged.
+//! Clones of the elements of rows that lie across memory, put behind those that a vector has. Each row is cut into as many
+//! parts as there are rows. First the first part of every row is cloned, then the second part of every row, and so on: so what
+//! is read at one time lies near. At last parts are exchanged, which brings each element to its place. So each element is
+//! cloned once, and no memory is asked for.
 
 ghost use Rattle.std.specs.Prelude.{◌≡◌, ◌+◌, ◌*◌, ◌<◌, ◌≤◌, OnOk, OnErr, length, vec_len, vec_capacity};
 ghost use Rattle.nd_shape_and_slice.specs.Shape.{size_of};
@@ -15,7 +17,7 @@ use nd_shape_and_slice::{Dimension, NoMemory, StrideList};
 use std::alloc::Global;
 use std::mem;
 
-/// Exchanges two runs of a slice, the one behind the other.
+/// Exchanges two runs of a slice. The second one lies behind the first.
 fn exchange_runs<A>(items: &mut [A], one: usize, other: usize, count: usize)
     requires apart { one + count ≤ other }
     requires within { other + count ≤ length items.old }
@@ -26,7 +28,7 @@ fn exchange_runs<A>(items: &mut [A], one: usize, other: usize, count: usize)
     before[one..one + count].swap_with_slice(&mut behind[..count]);
 }
 
-/// Exchanges the parts of a row that belong to later rows with those parts of them that belong to it.
+/// Exchanges what stands in a row and belongs to later rows with what stands there and belongs to it.
 fn exchange_row<A>(items: &mut [A], rows: usize, part: usize, width: usize, row: usize)
     requires fits { rows * part ≤ width }
     requires all { length items.old ≡ rows * width }
@@ -44,7 +46,7 @@ fn exchange_row<A>(items: &mut [A], rows: usize, part: usize, width: usize, row:
     }
 }
 
-/// Exchanges the parts of rows.
+/// Exchanges the parts of all rows, so that each row has its own ones.
 fn exchange_parts<A>(items: &mut [A], rows: usize, part: usize, width: usize)
     requires fits { rows * part ≤ width }
     requires all { length items.old ≡ rows * width }
@@ -88,7 +90,8 @@ where
     (items, Ok(()))
 }
 
-/// The same of one part of each lane, and of what is left over at the end of one of them.
+/// Puts clones of the `nth` part of each lane behind those of a vector, and then of what is left over at the end of the `nth`
+/// lane, behind its last part. The vector is handed on and back; a refusal leaves some of the clones there.
 fn clones_of_part<S: Data>(
     items: Vec<S::Elem>,
     storage: &S,
@@ -119,7 +122,8 @@ where
     }
 }
 
-/// The same of all parts, and of what is left over at the end of each lane.
+/// Puts clones of all parts of the lanes behind those of a vector, which is handed on and back: as many times as there are
+/// lanes one part of each, and what is left over at the end of one lane. A refusal leaves some of the clones there.
 fn clones_by_parts<S: Data>(
     items: Vec<S::Elem>,
     storage: &S,
@@ -152,7 +156,7 @@ where
     (items, Ok(()))
 }
 
-/// The same of a vector that is lent.
+/// Puts clones of all parts of the lanes, in the order of `clones_by_parts`, behind those that a vector has.
 fn list_by_parts<S: Data>(
     items: &mut Vec<S::Elem>,
     storage: &S,
@@ -181,7 +185,7 @@ where
     end
 }
 
-/// Exchanges the parts of rows that stand at the end of a vector.
+/// Exchanges the parts of the rows that stand at the end of a vector, so that each row has its own ones.
 fn exchange_last<A>(items: &mut Vec<A>, start: usize, rows: usize, part: usize, width: usize)
     requires fits { rows * part ≤ width }
     requires all { start + rows * width ≡ vec_len items.old }
