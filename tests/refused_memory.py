@@ -8,7 +8,7 @@ A script whose n-th request is refused must write exactly the replies of the cal
 `out of memory`, with status 2; nothing before it where the request was made while the script was read or for the list of replies.
 The run that meets no refusal must give the answer. Which call a request belongs to is counted: see scripts.py. A call must
 end as calls.txt says, all that stays must be as it says, and every number must be dropped once. Prints a table of the scripts and one of the
-calls, and last `N passed, M failed`. Nothing is proved here; it wants `rt`.
+calls, of those on a large table too, and last `N passed, M failed`. Nothing is proved here; it wants `rt`.
 """
 
 import concurrent.futures
@@ -22,6 +22,7 @@ sys.dont_write_bytecode = True
 sys.path.insert(0, str(pathlib.Path(__file__).parent / "refused_memory"))
 
 import calls
+import large
 import scripts
 
 TOP = pathlib.Path(__file__).resolve().parent.parent
@@ -45,8 +46,9 @@ def copied_to(root):
     return program
 
 
-def run_all(program, inputs, refused):
-    """What the program writes for each input, its status and how many requests it made, where this request is refused."""
+def run_all(program, inputs, refused, runners=2):
+    """What the program writes for each input, its status and how many requests it made, where this request is refused; by both
+    compilers, unless one of them alone is quick enough."""
     with tempfile.TemporaryDirectory() as folder:
         for name, text in inputs.items():
             pathlib.Path(folder, name).write_bytes(text)
@@ -63,7 +65,7 @@ def run_all(program, inputs, refused):
         words = line.split()
         if words[:1] == ["allocations:"]:
             requests = int(words[1])
-        elif line.startswith("case=") and words[1] == "run=ended" and words[3] == "runners=2":
+        elif line.startswith("case=") and words[1] == "run=ended" and int(words[3].removeprefix("runners=")) >= runners:
             name = words[0].removeprefix("case=")
             found[name] = (texts.get(name, ""), int(words[2].removeprefix("status=")), requests)
     lost = sorted(set(inputs) - set(found))
@@ -82,11 +84,21 @@ def refuse(program, tests):
         test.judge(ran)
 
 
+def refuse_large(program, tests):
+    """Refuses those requests of which something is known, and judges what came of it."""
+    for refused in sorted({request for test in tests for request in test.ends}):
+        asked = [test for test in tests if refused in test.ends]
+        ran = run_all(program, {name: text for test in asked for name, text in test.inputs(refused).items()}, refused, 1)
+        for test in asked:
+            test.judge(refused, ran)
+
+
 def main():
-    kinds = {scripts.Script: scripts.tests(TOP), calls.Call: calls.tests()}
+    kinds = {scripts.Script: scripts.tests(TOP), calls.Call: calls.tests(), large.Large: large.tests()}
     with tempfile.TemporaryDirectory() as folder, concurrent.futures.ThreadPoolExecutor() as pool:
         program = copied_to(pathlib.Path(folder))
-        for done in [pool.submit(refuse, program, tests) for tests in kinds.values()]:
+        ways = {large.Large: refuse_large}
+        for done in [pool.submit(ways.get(kind, refuse), program, tests) for kind, tests in kinds.items()]:
             done.result()
     for kind, tests in kinds.items():
         print("", *kind.HEAD, sep="\n")

@@ -118,7 +118,7 @@ module _ {A : Type 0} where
   pub beside_has : (stored : ℕ → Option A) (place count : ℕ) (s : ℤ) → s ≡ pos 1 → ((k : ℕ) → k < count → is_some (stored_along stored place s k) ≡ true) → (k : ℕ) → k < count → is_some (stored (place + k)) ≡ true
   beside_has stored place count s one has k below = ap is_some (sym (beside stored place k s one)) ∙ has k below
 
-  listed_by : (f : ℕ → Option A) (xs : List A) → ((k : ℕ) (d : A) → k < length xs → f k ≡ Some (get_or xs k d)) → xs ≡ collected f (length xs)
+  pub listed_by : (f : ℕ → Option A) (xs : List A) → ((k : ℕ) (d : A) → k < length xs → f k ≡ Some (get_or xs k d)) → xs ≡ collected f (length xs)
   listed_by f [] each = refl
   listed_by f (x ∷ xs) each =
       ap (λ ys. x ∷ ys) (listed_by (λ k. f (suc k)) xs (λ k d below. each (suc k) d (omega (arith, below))))

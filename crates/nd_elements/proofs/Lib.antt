@@ -15,9 +15,7 @@ pub mod Folded
 pub mod FreeOrder
 pub mod InHalves
 pub mod LaidAnew
-pub mod ListedTurned
 pub mod ListedHalves
-pub mod ListedJoined
 pub mod LaneNumbers
 pub mod LanePart
 pub mod LaneRuns
@@ -30,11 +28,13 @@ pub mod Mapped
 pub mod Moved
 pub mod Neighbours
 pub mod Numbered
+pub mod NumberedParts
 pub mod Paired
 pub mod Ran
 pub mod RegionPair
 pub mod Replaced
 pub mod RowPairs
+pub mod RowsByParts
 pub mod RowsAccumulating
 pub mod Rewritten
 pub mod Rotating
@@ -45,6 +45,7 @@ pub mod Seats
 pub mod Taking
 pub mod TurnedAlike
 pub mod TurnedEqual
+pub mod TurnedRows
 pub mod VisitedInHalves
 pub mod WriteStep
 pub mod ZippedHalves

@@ -6,3 +6,4 @@ pub mod Hashes
 pub mod Maps
 pub mod MapsMut
 pub mod Pairs
+pub mod TurnedRows

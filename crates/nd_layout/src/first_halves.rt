@@ -10,7 +10,13 @@ use crate::turned::nearest_axis;
 use nd_shape_and_slice::{Dimension, StrideList};
 
 /// So many elements are near enough to be met again before they are gone.
-const NEAR: usize = 131_072;
+const NEAR: usize = 524_288;
+
+/// So many rows are enough for whole lines of the cache, and few enough to be kept in hand.
+pub const MOST_ROWS: usize = 128;
+
+/// A row is worth cutting into parts of at least so many elements.
+const PART: usize = 32;
 
 /// A lane that steps over so many elements leaves those that lie beside it behind.
 const FAR: usize = 2_097_152;
@@ -52,12 +58,19 @@ fn goes_across(lengths: &[usize], strides: &[isize]) -> bool
         && strides[axes - 1].unsigned_abs() >= FAR / len
 }
 
-/// Whether elements are few, and those that lie nearest are along the first axis longer than 1.
+/// Whether so many elements are few, and rows of this length are: each can then be cut into as many parts as there are rows.
+fn are_few(size: usize, row: usize) -> bool {
+    size <= NEAR && row > 0 && size / row <= MOST_ROWS.min(row / PART)
+}
+
+/// Whether elements are few, in few rows, and those that lie nearest are along the first axis longer than 1.
 fn is_near(lengths: &[usize], strides: &[isize], size: usize) -> bool
     requires as_many { length strides.now ≡ length lengths.now }
 {
     match first_long(lengths) {
-        Some(axis) => size <= NEAR && axis == nearest_axis(lengths, strides),
+        Some(axis) => {
+            are_few(size, lengths[lengths.len() - 1]) && axis == nearest_axis(lengths, strides)
+        }
         None => true,
     }
 }
@@ -71,7 +84,7 @@ impl<D: Dimension, T: StrideList> Layout<D, T> {
         goes_across(self.dim.slice(), self.strides.slice())
     }
 
-    /// Whether the elements are few enough to be taken in column-major order, which goes along memory.
+    /// Whether the elements are few enough, in few enough rows, to be taken in parts of rows, which lie near one another.
     pub fn is_near(&self) -> bool {
         is_near(self.dim.slice(), self.strides.slice(), self.dim.size())
     }

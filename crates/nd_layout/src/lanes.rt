@@ -5,7 +5,7 @@ ghost use Rattle.nd_shape_and_slice.specs.Shape.{size_of, HasCheckedSize};
 ghost use Rattle.nd_layout.specs.Places.{is_place, ReachesPlaces};
 ghost use Rattle.nd_layout.specs.Walk.{IsCutInLanes, IsLastAxis};
 
-use crate::layout::place_at::moved_by;
+use crate::layout::place_at::{moved_by, moved_unless};
 use crate::walk::Walk;
 use nd_shape_and_slice::MAX_AXES;
 
@@ -32,6 +32,20 @@ impl Lane {
         ensures { pos result ≡ pos self.now.place +ℤ (pos nth *ℤ self.now.stride) }
     {
         moved_by(self.place, nth, self.stride)
+    }
+
+    /// The part of the lane that begins at its `first`, with so many places.
+    #[inline]
+    pub fn part(&self, first: usize, count: usize) -> Lane
+        requires within { first + count ≤ self.now.count }
+        ensures count { result.count ≡ count }
+        ensures places { (k : ℕ) → k < count → (along result).place k ≡ (along self.now).place (first + k) }
+    {
+        Lane {
+            place: moved_unless(count == 0, self.place, first, self.stride),
+            count,
+            stride: self.stride,
+        }
     }
 
     /// The lane, told the compiler to have stride 1, which it has: its elements may then be gone through as one block.

@@ -23,6 +23,7 @@ mod turned;
 mod walk;
 
 pub use axis_at::slow_axis_at;
+pub use first_halves::MOST_ROWS;
 pub use grows::growth;
 pub use halves::{Halves, halved_alike};
 pub use lanes::{Lane, Lanes};

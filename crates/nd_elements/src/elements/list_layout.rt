@@ -1,15 +1,15 @@
 //! Clones of the elements of a layout in a vector, taken part by part where row-major order goes far across memory.
 
-ghost use Rattle.std.specs.Prelude.{◌≡◌, ◌+◌, ◌<◌, ◌≤◌, OnOk, OnErr, length, vec_len, vec_capacity};
+ghost use Rattle.std.specs.Prelude.{◌≡◌, ◌+◌, ◌≤◌, OnOk, OnErr, vec_len, vec_capacity};
 ghost use Rattle.nd_shape_and_slice.specs.Shape.{size_of};
 ghost use Rattle.nd_elements.specs.Collected.{IsFront};
 ghost use Rattle.nd_elements.specs.NumberedPlaces.{ranked_by, Holds, ListsShown, ClonesAreEqualAt, MayRefuseBy};
 
-use crate::elements::to_vec::{list, room_of};
-use crate::growth::lay_anew::move_behind;
+use crate::elements::list_turned::list_turned;
+use crate::elements::to_vec::list;
 use crate::storage::Data;
 use nd_layout::Layout;
-use nd_shape_and_slice::{Dimension, NoMemory, StrideList};
+use nd_shape_and_slice::{Dimension, NoMemory};
 
 /// Puts clones of the elements of a layout, by row-major rank, behind those that a vector has: lane by lane.
 fn list_in_order<S: Data, D: Dimension>(
@@ -31,66 +31,8 @@ where
     list(items, storage, layout.places())
 }
 
-/// The same once axes that continue one another are joined.
-fn list_joined<S: Data, D: Dimension>(
-    items: &mut Vec<S::Elem>,
-    storage: &S,
-    layout: &Layout<D, D::Strides>,
-) -> Result<(), NoMemory>
-where
-    S::Elem: Clone + Drop,
-    requires clones { ClonesAreEqualAt S.Elem.is_clone S.stored (ranked_by layout.now) storage.now }
-    requires holds { Holds S.stored (ranked_by layout.now) storage.now }
-    requires room { vec_len items.old + size_of (D.lengths layout.now.dim) ≤ vec_capacity items.old }
-    ensures items { OnOk result (ListsShown S.stored layout.now storage.now items.old items.new) }
-    ensures count { OnOk result (vec_len items.new ≡ vec_len items.old + size_of (D.lengths layout.now.dim)) }
-    ensures room { vec_capacity items.old ≤ vec_capacity items.new }
-    ensures kept { OnErr result (IsFront items.old.items items.new.items) }
-    ensures refused { OnErr result (MayRefuseBy S.Elem.is_infallible S.stored layout.now storage.now) }
-{
-    let mut joined = layout.copied();
-    joined.join_axes();
-    list_in_order(items, storage, &joined)
-}
-
-/// The same by a vector of clones in column-major order, which are then moved. It is given up where there is no room for it.
-fn list_turned<S: Data, D: Dimension>(
-    items: &mut Vec<S::Elem>,
-    storage: &S,
-    layout: &Layout<D, D::Strides>,
-) -> Result<(), NoMemory>
-where
-    S::Elem: Clone + Drop,
-    requires axes { 1 < length (D.lengths layout.now.dim) }
-    requires some { 0 < size_of (D.lengths layout.now.dim) }
-    requires clones { ClonesAreEqualAt S.Elem.is_clone S.stored (ranked_by layout.now) storage.now }
-    requires holds { Holds S.stored (ranked_by layout.now) storage.now }
-    requires room { vec_len items.old + size_of (D.lengths layout.now.dim) ≤ vec_capacity items.old }
-    ensures items { OnOk result (ListsShown S.stored layout.now storage.now items.old items.new) }
-    ensures count { OnOk result (vec_len items.new ≡ vec_len items.old + size_of (D.lengths layout.now.dim)) }
-    ensures room { vec_capacity items.old ≤ vec_capacity items.new }
-    ensures kept { OnErr result (IsFront items.old.items items.new.items) }
-    ensures refused { OnErr result (MayRefuseBy S.Elem.is_infallible S.stored layout.now storage.now) }
-{
-    let axis = layout.dim.ndim() - 1;
-    let order = layout.growing_order(axis);
-    let seats = Layout::growing(layout.dim, axis);
-    let alloc = *items.allocator();
-    let mut part = match room_of(alloc, layout.dim.size()) {
-        Ok(room) => room,
-        Err(_) => return list_in_order(items, storage, layout),
-    };
-    match list_joined(&mut part, storage, &order) {
-        Ok(()) => {}
-        Err(refused) => return Err(refused),
-    }
-    match move_behind(items, part, seats.places()) {
-        Ok(()) => Ok(()),
-        Err(_) => list_in_order(items, storage, layout),
-    }
-}
-
-/// The same in halves, one behind the other, until they are near; then at once.
+/// Puts clones of the elements of a layout, by row-major rank, behind those that a vector has. A layout whose elements lie far
+/// apart is cut in halves, which are listed one behind the other.
 fn list_in_halves<S: Data, D: Dimension>(
     items: &mut Vec<S::Elem>,
     storage: &S,
@@ -108,7 +50,7 @@ where
     ensures refused { OnErr result (MayRefuseBy S.Elem.is_infallible S.stored layout.now storage.now) }
 {
     if layout.is_near() {
-        if layout.dim.size() > 0 && layout.leaves_lines() {
+        if layout.leaves_lines() {
             return list_turned(items, storage, layout);
         }
         return list_in_order(items, storage, layout);

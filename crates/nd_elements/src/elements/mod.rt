@@ -7,6 +7,7 @@ pub mod fold;
 pub mod for_each;
 pub mod hash;
 pub mod list_layout;
+mod list_turned;
 pub mod map;
 pub mod map_inplace;
 pub mod map_mut;

@@ -105,7 +105,7 @@ where
 
 /// The same of any lane.
 #[inline(always)]
-fn clones_of_lane<S: Data>(
+pub(crate) fn clones_of_lane<S: Data>(
     items: Vec<S::Elem>,
     storage: &S,
     lane: Lane,

@@ -7,7 +7,7 @@ ghost use Rattle.nd_shape_and_slice.specs.Place.{IsSeparated};
 ghost use Rattle.nd_layout.specs.Lanes.{along, ranked};
 ghost use Rattle.nd_layout.specs.Placements.{placement_of};
 ghost use Rattle.nd_elements.specs.ByLayout.{HoldsEach};
-ghost use Rattle.nd_elements.specs.NumberedPlaces.{PlacesDiffer, Holds, ListsBehind, all_elements_at};
+ghost use Rattle.nd_elements.specs.NumberedPlaces.{PlacesDiffer, Holds, all_elements_at};
 ghost use Rattle.nd_elements.specs.Storages.{stored_list};
 ghost use Rattle.nd_elements.specs.growth.LaidToGrow.{IsLaidAnew, ShowsAlike};
 ghost use Rattle.nd_elements.specs.growth.Taken.{seated, is_kept, AreAllKept, TakesSeats};
@@ -151,33 +151,6 @@ fn move_in_order<A: Drop>(
     take_all(&mut moved, &mut seats, places);
     release(&alloc, seats, lease);
     *items = moved;
-    Ok(())
-}
-
-/// Moves the elements of a vector behind those of another, by row-major rank in a layout whose indexes have places of their
-/// own, one for each element. NoMemory leaves the other as it was, and drops them.
-pub(crate) fn move_behind<A: Drop>(
-    items: &mut Vec<A>,
-    part: Vec<A>,
-    places: Places<'_>,
-) -> Result<(), NoMemory>
-    requires all { length part.items ≡ (ranked places).count }
-    requires apart { PlacesDiffer (ranked places) }
-    requires holds { Holds slice_get (ranked places) part.items }
-    requires room { vec_len items.old + (ranked places).count ≤ vec_capacity items.old }
-    ensures moved { OnOk result (ListsBehind slice_get (ranked places.entry) part.items items.old items.new) }
-    ensures len { OnOk result (vec_len items.new ≡ vec_len items.old + (ranked places.entry).count) }
-    ensures room { vec_capacity items.new ≡ vec_capacity items.old }
-    ensures kept { OnErr result (items.new ≡ items.old) }
-{
-    let alloc = *part.allocator();
-    let (seats, lease) = match unsafe { reserve(&alloc, part.as_slice()) } {
-        Ok(both) => both,
-        Err(_) => return Err(NoMemory),
-    };
-    let mut seats = seat_all(part, seats, &[]);
-    take_all(items, &mut seats, places);
-    release(&alloc, seats, lease);
     Ok(())
 }
 

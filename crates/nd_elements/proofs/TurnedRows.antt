@@ -1,0 +1,303 @@
+-- Rows by their parts: which number changes places with which, and that a second exchange leads back.
+use Rattle.std.proofs.Common.{◌≡◌, ℕ, zero, suc, ◌+◌, ◌*◌, ◌-◌, ◌/◌, ◌%◌, ◌<◌, ◌≤◌, Bool, true, false, List, [], ◌∷◌, ◌++◌, length, get_or, ℤ, pos, ◌+ℤ◌, ◌*ℤ◌, nat_lt, refl, ap, sym, subst, ◌∙◌, arith, rules, ⊎_elim, inl, inr}
+use Rattle.std.specs.Prelude.{◌⊎◌, Option, None, Some, IsTrue, is_some, slice_get}
+use Rattle.std.proofs.lemmas.Bool.{cases_lt}
+use Rattle.std.proofs.lemmas.Nat.{div-add-mod', div-mul-add, mod-mul-add, mod_below, row_fits, div_below}
+use Rattle.nd_elements.specs.elements.TurnedRows.{turned_in, turned_number, AreExchanged, IsTurnedBelow}
+use Rattle.nd_elements.proofs.LaneNumbers.{number_lane, lane_number}
+
+is_less : (a b : ℕ) → a < b → nat_lt a b ≡ true
+is_less a b below = search rules
+
+not_less : (a b : ℕ) → b ≤ a → nat_lt a b ≡ false
+not_less a b past = search rules
+
+module _ (rows part width : ℕ) (fits : rows * part ≤ width) where
+  -- a column of a part of a row lies in the row
+  pub column_below : (b t : ℕ) → b < rows → t < part → b * part + t < rows * part
+  column_below b t on below = let all = row_fits b part rows part on (omega arith) in omega (arith, all, below)
+
+  pub turned_at : (a b t : ℕ) → a < rows → b < rows → t < part → turned_number rows part width (a * width + (b * part + t)) ≡ b * width + (a * part + t)
+  turned_at a b t on there below =
+      let column = column_below b t there below in
+      let at = lane_number width a (b * part + t) (omega (arith, column, fits)) in
+      let in_part = lane_number part b t below in
+      rw (at.0, at.1, is_less (b * part + t) (rows * part) column, in_part.0, in_part.1) refl
+
+  -- what is left over at the end of a row
+  pub kept_at : (a k : ℕ) → a < rows → rows * part ≤ k → k < width → turned_number rows part width (a * width + k) ≡ a * width + k
+  kept_at a k on past below = let at = lane_number width a k below in rw (at.0, at.1, not_less k (rows * part) past) refl
+
+  -- a number is of a part, or is left over
+  pub record IsInPart (n : ℕ) : Type 0 where
+    pub row : ℕ
+    pub part_of : ℕ
+    pub step : ℕ
+    pub on : row < rows
+    pub there : part_of < rows
+    pub below : step < part
+    pub is : n ≡ row * width + (part_of * part + step)
+    pub turned : turned_number rows part width n ≡ part_of * width + (row * part + step)
+
+  pub record IsLeftOver (n : ℕ) : Type 0 where
+    pub row : ℕ
+    pub column : ℕ
+    pub on : row < rows
+    pub past : rows * part ≤ column
+    pub below : column < width
+    pub is : n ≡ row * width + column
+    pub turned : turned_number rows part width n ≡ n
+
+  pub number_cases : (n : ℕ) → n < rows * width → IsInPart n ⊎ IsLeftOver n
+  number_cases n below =
+      let at = number_lane rows width n below in
+      let whole = div-add-mod' n width in
+      ⊎_elim
+      (λ (early : n % width < rows * part).
+      let in_row = number_lane rows part (n % width) early in
+      let column = div-add-mod' (n % width) part in
+      let is : n ≡ n / width * width + (n % width / part * part + n % width % part) = omega (arith, whole, column) in
+      inl
+      (record {
+        row = n / width;
+        part_of = n % width / part;
+        step = n % width % part;
+        on = at.0;
+        there = in_row.0;
+        below = in_row.1;
+        is = is;
+        turned = ap (turned_number rows part width) is ∙ turned_at (n / width) (n % width / part) (n % width % part) at.0 in_row.0 in_row.1;
+      }))
+      (λ (past : rows * part ≤ n % width).
+      let is : n ≡ n / width * width + n % width = omega (arith, whole) in
+      inr
+      (record {
+        row = n / width;
+        column = n % width;
+        on = at.0;
+        past = past;
+        below = at.1;
+        is = is;
+        turned = ap (turned_number rows part width) is ∙ kept_at (n / width) (n % width) at.0 past at.1 ∙ sym is;
+      }))
+      (cases_lt (n % width) (rows * part))
+
+  pub turned_below : (n : ℕ) → n < rows * width → turned_number rows part width n < rows * width
+  turned_below n below =
+      ⊎_elim
+      (λ (p : IsInPart n).
+      let column = column_below p.row p.step p.on p.below in
+      let fit = row_fits p.part_of width rows width p.there (omega arith) in
+      let e = p.turned in omega (arith, column, fit, e, fits))
+      (λ (p : IsLeftOver n). let e = p.turned in omega (arith, e, below))
+      (number_cases n below)
+
+  pub turned_back : (n : ℕ) → n < rows * width → turned_number rows part width (turned_number rows part width n) ≡ n
+  turned_back n below =
+      ⊎_elim
+      (λ (p : IsInPart n). ap (turned_number rows part width) p.turned ∙ turned_at p.part_of p.row p.step p.there p.on p.below ∙ sym p.is)
+      (λ (p : IsLeftOver n). ap (turned_number rows part width) p.turned ∙ p.turned)
+      (number_cases n below)
+
+  -- a number between the ends of a row is of that row
+  same_row : (a i k : ℕ) → k < width → a * width ≤ i * width + k → i * width + k < a * width + width → i ≡ a
+  same_row a i k below from to =
+      ⊎_elim
+      (λ (less : i < a). let fit = row_fits i width a width less (omega arith) in absurd (omega (arith, fit, below, from)))
+      (λ (past : a ≤ i).
+      ⊎_elim
+      (λ (more : a < i). let fit = row_fits a width i width more (omega arith) in absurd (omega (arith, fit, to)))
+      (λ (most : i ≤ a). omega (arith, past, most))
+      (cases_lt a i))
+      (cases_lt i a)
+
+  -- whatever changes places between two numbers stays
+  abbrev StayBetween : ℕ → ℕ → Type 0
+  StayBetween from to = (n : ℕ) → n < rows * width → from ≤ n → n < to → from ≤ turned_number rows part width n → turned_number rows part width n ≡ n
+
+  module _ {A : Type 0} (xs ys : List A) where
+    further_same : (from to : ℕ) → from ≤ to → StayBetween from to → IsTurnedBelow rows part width from xs ys → IsTurnedBelow rows part width to xs ys
+    further_same from to up stay so_far = record {
+      long = so_far.long;
+      early = λ n d below less.
+          ⊎_elim
+          (λ (before : n < from). so_far.early n d below before)
+          (λ (past : from ≤ n).
+          ⊎_elim
+          (λ (before : turned_number rows part width n < from). so_far.paired n d below before)
+          (λ (behind : from ≤ turned_number rows part width n). so_far.left n d below past behind ∙ ap (λ m. get_or xs m d) (sym (stay n below past less behind)))
+          (cases_lt (turned_number rows part width n) from))
+          (cases_lt n from);
+      paired = λ n d below less.
+          ⊎_elim
+          (λ (before : turned_number rows part width n < from). so_far.paired n d below before)
+          (λ (behind : from ≤ turned_number rows part width n).
+          ⊎_elim
+          (λ (before : n < from). so_far.early n d below before)
+          (λ (past : from ≤ n).
+          let back = turned_back n below in
+          let same = stay (turned_number rows part width n) (turned_below n below) behind less (omega (arith, back, past)) in
+          let is : n ≡ turned_number rows part width n = sym back ∙ same in
+          so_far.left n d below past behind ∙ ap (λ m. get_or xs m d) is)
+          (cases_lt n from))
+          (cases_lt (turned_number rows part width n) from);
+      left = λ n d below past behind. so_far.left n d below (omega (arith, up, past)) (omega (arith, up, behind));
+    }
+
+  pub none_turned : {A : Type 0} (xs : List A) → IsTurnedBelow rows part width 0 xs xs
+  none_turned xs = record {
+    long = refl;
+    early = λ n d below less. absurd (omega (arith, less));
+    paired = λ n d below less. absurd (omega (arith, less));
+    left = λ n d below past behind. refl;
+  }
+
+  module _ (a : ℕ) (on : a < rows) where
+    own_stay : StayBetween (a * width) (a * width + (a + 1) * part)
+    own_stay n below past less behind =
+        ⊎_elim
+        (λ (p : IsInPart n).
+        let column = column_below p.part_of p.step p.there p.below in
+        let other = column_below a p.step on p.below in
+        let first = row_fits a part rows part on (omega arith) in
+        let up : (a + 1) * part ≡ a * part + part = omega arith in
+        let is = p.is in
+        let row = same_row a p.row (p.part_of * part + p.step) (omega (arith, column, fits)) (omega (arith, is, past)) (omega (arith, is, less, up, first, fits)) in
+        let rest = ap (λ r. r * width) row in
+        ⊎_elim
+        (λ (early : p.part_of < a).
+        let fit = row_fits p.part_of width a width early (omega arith) in
+        let at = p.turned ∙ ap (λ r. p.part_of * width + (r * part + p.step)) row in
+        absurd (omega (arith, fit, at, behind, other, fits)))
+        (λ (late : a ≤ p.part_of).
+        ⊎_elim
+        (λ (more : a < p.part_of). let fit = row_fits a part p.part_of part more (omega arith) in absurd (omega (arith, fit, is, rest, less, up)))
+        (λ (most : p.part_of ≤ a).
+        let same : p.part_of ≡ p.row = omega (arith, late, most, row) in
+        p.turned ∙ ap (λ r. r * width + (p.row * part + p.step)) same ∙ ap (λ r. p.row * width + (r * part + p.step)) (sym same) ∙ sym is)
+        (cases_lt a p.part_of))
+        (cases_lt p.part_of a))
+        (λ (p : IsLeftOver n). p.turned)
+        (number_cases n below)
+
+    rest_stay : StayBetween (a * width + rows * part) (a * width + width)
+    rest_stay n below past less behind =
+        ⊎_elim
+        (λ (p : IsInPart n).
+        let column = column_below p.part_of p.step p.there p.below in
+        let is = p.is in
+        let row = same_row a p.row (p.part_of * part + p.step) (omega (arith, column, fits)) (omega (arith, is, past)) (omega (arith, is, less)) in
+        let rest = ap (λ r. r * width) row in
+        absurd (omega (arith, is, rest, column, past)))
+        (λ (p : IsLeftOver n). p.turned)
+        (number_cases n below)
+
+    module _ {A : Type 0} (xs ys : List A) where
+      -- those before the row, and those of the row that stay
+      pub row_begun : IsTurnedBelow rows part width (a * width) xs ys → IsTurnedBelow rows part width (a * width + (a + 1) * part) xs ys
+      row_begun = further_same xs ys (a * width) (a * width + (a + 1) * part) (omega arith) own_stay
+
+      pub row_done : IsTurnedBelow rows part width (a * width + rows * part) xs ys → IsTurnedBelow rows part width (a * width + width) xs ys
+      row_done = further_same xs ys (a * width + rows * part) (a * width + width) (omega (arith, fits)) rest_stay
+
+    module _ (b : ℕ) (later : a < b) (there : b < rows) where
+      abbrev one : ℕ
+      one = a * width + b * part
+
+      abbrev other : ℕ
+      other = b * width + a * part
+
+      pub apart : a * width + b * part + part ≤ b * width + a * part
+      apart =
+          let fit = row_fits a width b width later (omega arith) in
+          let last = row_fits b part rows part there (omega arith) in
+          omega (arith, fit, last, fits)
+
+      one_turned : (k : ℕ) → k < part → turned_number rows part width (one + k) ≡ other + k
+      one_turned k below =
+          let is : one + k ≡ a * width + (b * part + k) = omega arith in
+          let to : b * width + (a * part + k) ≡ other + k = omega arith in
+          ap (turned_number rows part width) is ∙ turned_at a b k on there below ∙ to
+
+      other_turned : (k : ℕ) → k < part → turned_number rows part width (other + k) ≡ one + k
+      other_turned k below =
+          let is : other + k ≡ b * width + (a * part + k) = omega arith in
+          let to : a * width + (b * part + k) ≡ one + k = omega arith in
+          ap (turned_number rows part width) is ∙ turned_at b a k there on below ∙ to
+
+      below_all : (k : ℕ) → k < part → (one + k < rows * width) × (other + k < rows * width)
+      below_all k below =
+          let fit = row_fits b width rows width there (omega arith) in
+          let last = row_fits a part rows part on (omega arith) in
+          let before = apart in (omega (arith, fit, last, before, fits, below), omega (arith, fit, last, fits, below))
+
+      module _ {A : Type 0} (xs ys zs : List A) (so_far : IsTurnedBelow rows part width (a * width + b * part) xs ys) (long : length zs ≡ length ys) (put : AreExchanged (a * width + b * part) (b * width + a * part) part ys zs) where
+        -- a number of neither run
+        stays : (n : ℕ) (d : A) → ((k : ℕ) → k < part → ¬ (n ≡ one + k)) → ((k : ℕ) → k < part → ¬ (n ≡ other + k)) → get_or zs n d ≡ get_or ys n d
+        stays n d not_one not_other =
+            ⊎_elim
+            (λ (before : n < one). put.before n d before)
+            (λ (past : one ≤ n).
+            ⊎_elim
+            (λ (inside : n < one + part). absurd (not_one (n - one) (omega (arith, past, inside)) (omega (arith, past))))
+            (λ (behind : one + part ≤ n).
+            ⊎_elim
+            (λ (between : n < other). put.between n d behind between)
+            (λ (up : other ≤ n).
+            ⊎_elim
+            (λ (inside : n < other + part). absurd (not_other (n - other) (omega (arith, up, inside)) (omega (arith, up))))
+            (λ (last : other + part ≤ n). put.behind n d last)
+            (cases_lt n (other + part)))
+            (cases_lt n other))
+            (cases_lt n (one + part)))
+            (cases_lt n one)
+
+        one_is : (k : ℕ) (d : A) → k < part → get_or zs (one + k) d ≡ get_or xs (other + k) d
+        one_is k d below =
+            let within = below_all k below in
+            let e = other_turned k below in
+            let before = apart in
+            put.first k d below ∙ so_far.left (other + k) d within.1 (omega (arith, before)) (omega (arith, e))
+
+        other_is : (k : ℕ) (d : A) → k < part → get_or zs (other + k) d ≡ get_or xs (one + k) d
+        other_is k d below =
+            let within = below_all k below in
+            let e = one_turned k below in
+            let before = apart in
+            put.second k d below ∙ so_far.left (one + k) d within.0 (omega arith) (omega (arith, e, before))
+
+        pub part_turned : IsTurnedBelow rows part width (a * width + (b + 1) * part) xs zs
+        part_turned = record {
+          long = long ∙ so_far.long;
+          early = λ n d below less.
+              ⊎_elim
+              (λ (before : n < one). put.before n d before ∙ so_far.early n d below before)
+              (λ (past : one ≤ n).
+              let up : (b + 1) * part ≡ b * part + part = omega arith in
+              let inside : n - one < part = omega (arith, past, less, up) in
+              let is : one + (n - one) ≡ n = omega (arith, past) in
+              subst (λ m. get_or zs m d ≡ get_or xs (turned_number rows part width m) d) is
+              (one_is (n - one) d inside ∙ ap (λ m. get_or xs m d) (sym (one_turned (n - one) inside))))
+              (cases_lt n one);
+          paired = λ n d below less.
+              ⊎_elim
+              (λ (before : turned_number rows part width n < one).
+              stays n d
+              (λ k under e. let to = ap (turned_number rows part width) e ∙ one_turned k under in let far = apart in omega (arith, to, before, far))
+              (λ k under e. let to = ap (turned_number rows part width) e ∙ other_turned k under in omega (arith, to, before))
+              ∙ so_far.paired n d below before)
+              (λ (past : one ≤ turned_number rows part width n).
+              let up : (b + 1) * part ≡ b * part + part = omega arith in
+              let k = turned_number rows part width n - one in
+              let inside : k < part = omega (arith, past, less, up) in
+              let is : one + k ≡ turned_number rows part width n = omega (arith, past) in
+              let from : other + k ≡ n = sym (one_turned k inside) ∙ ap (turned_number rows part width) is ∙ turned_back n below in
+              ap (λ m. get_or zs m d) (sym from) ∙ other_is k d inside ∙ ap (λ m. get_or xs m d) is)
+              (cases_lt (turned_number rows part width n) one);
+          left = λ n d below past behind.
+              let up : (b + 1) * part ≡ b * part + part = omega arith in
+              stays n d
+              (λ k under e. omega (arith, e, under, past, up))
+              (λ k under e. let to = ap (turned_number rows part width) e ∙ other_turned k under in omega (arith, to, under, behind, up))
+              ∙ so_far.left n d below (omega (arith, past, up)) (omega (arith, behind, up));
+        }

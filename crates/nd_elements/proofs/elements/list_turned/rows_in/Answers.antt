@@ -1,0 +1,45 @@
+use Rattle.std.proofs.Common.{◌≡◌, ◌+◌, ◌*◌, ◌∙◌, arith}
+use Rattle.std.specs.Prelude.{length}
+use Rattle.nd_layout.specs.Lanes.{ranked}
+use Rattle.nd_layout.proofs.LanesOf.{go_on, lane_of}
+use Rattle.nd_elements.proofs.RowsByParts.{row_put, rows_found}
+use Rattle.nd_elements.proofs.elements.list_turned.rows_in.Goals as goal
+
+pub loop-nth-preserved : goal.loop-nth-preserved
+loop-nth-preserved c =
+    let so_far = c.loop-nth.invariant in
+    let lanes = c.loop-nth.lanes in
+    let lane = c.in-Some.lane in
+    let test = c.loop-nth-test.true in
+    let given = c.in-Some.ensures.lane in
+    let wide : lane.count ≡ c.args.width = c.if-lane-width.false in
+    let long = so_far.2 in
+    let rank = so_far.1 in
+    let next = given.1 in
+    let put = row_put (ranked c.args.places) c.args.width c.loop-nth.rows c.loop-nth.nth lane (omega (arith, test, long)) so_far.3 wide lanes.rank rank (lane_of c.args.places lanes lane so_far.0 given.0).places in (
+      go_on c.args.places lanes c.next.new.self so_far.0 c.in-Some.ensures.over,
+      omega (arith, rank, next, wide),
+      put.0 ∙ long,
+      put.1,
+    )
+
+pub returns-then-lanes-size : goal.returns-then-lanes-size
+returns-then-lanes-size c some =
+    let so_far = c.loop-nth.invariant in
+    let lanes = c.loop-nth.lanes in
+    let lane = c.in-Some.lane in
+    let test = c.loop-nth-test.true in
+    let given = c.in-Some.ensures.lane in
+    let wide : lane.count ≡ c.args.width = c.if-lane-width.false in
+    let long = so_far.2 in
+    let rank = so_far.1 in
+    let next = given.1 in
+    let all = c.if-lanes-size.true in
+    let put = row_put (ranked c.args.places) c.args.width c.loop-nth.rows c.loop-nth.nth lane (omega (arith, test, long)) so_far.3 wide lanes.rank rank (lane_of c.args.places lanes lane so_far.0 given.0).places in
+    let many = put.0 in
+    record {
+      some = omega arith;
+      few = omega (arith, many, long, test);
+      all = omega (arith, rank, next, wide, all);
+      each = put.1;
+    }

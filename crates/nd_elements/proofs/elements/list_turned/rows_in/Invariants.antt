@@ -1,0 +1,11 @@
+use Rattle.std.specs.Prelude.{◌≡◌, ◌*◌, ◌<◌, ℕ, length}
+use Rattle.nd_layout.specs.Lanes.{ranked, AreLanesOf}
+use Rattle.nd_elements.specs.elements.TurnedRows.{IsRowAt}
+use Rattle.nd_elements.proofs.elements.list_turned.rows_in.Given as goal
+
+abbrev pub invariant-loop-nth : goal.invariant-loop-nth
+invariant-loop-nth l =
+    AreLanesOf l.fn.places l.lanes
+    × (l.lanes.rank ≡ l.nth * l.fn.width)
+    × (length l.rows ≡ length l.fn.rows)
+    × ((a : ℕ) → a < l.nth → IsRowAt (ranked l.fn.places) l.fn.width a l.rows)

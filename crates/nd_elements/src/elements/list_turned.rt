@@ -1,0 +1,283 @@
+//! Clones of the elements of rows that lie across memory, put behind those that a vector has. Each row is cut into as many
+//! parts as there are rows. First the first part of every row is cloned, then the second part of every row, and so on: so what
+//! is read at one time lies near. At last parts are exchanged, which brings each element to its place. So each element is
+//! cloned once, and no memory is asked for.
+
+ghost use Rattle.std.specs.Prelude.{◌≡◌, ◌+◌, ◌*◌, ◌<◌, ◌≤◌, OnOk, OnErr, length, vec_len, vec_capacity};
+ghost use Rattle.nd_shape_and_slice.specs.Shape.{size_of};
+ghost use Rattle.nd_layout.specs.Lanes.{ranked};
+ghost use Rattle.nd_elements.specs.Collected.{IsFront};
+ghost use Rattle.nd_elements.specs.NumberedPlaces.{ranked_by, Holds, ListsBehind, ListsShown, ClonesAreEqualAt, MayRefuseAt, MayRefuseBy};
+ghost use Rattle.nd_elements.specs.elements.TurnedRows.{columns_of, rows_by_parts, part_by_parts, AreLong, ReachTo, HasRows, AreExchanged, TurnsFurther, IsTurnedBelow, IsTurnedBehind};
+
+use crate::elements::to_vec::{clones_of_lane, list};
+use crate::storage::Data;
+use nd_layout::{Lane, Layout, MOST_ROWS, Places};
+use nd_shape_and_slice::{Dimension, NoMemory, StrideList};
+use std::alloc::Global;
+use std::mem;
+
+/// Exchanges two runs of a slice. The second one lies behind the first.
+fn exchange_runs<A>(items: &mut [A], one: usize, other: usize, count: usize)
+    requires apart { one + count ≤ other }
+    requires within { other + count ≤ length items.old }
+    ensures long { length items.new ≡ length items.old }
+    ensures exchanged { AreExchanged one other count items.old items.new }
+{
+    let (before, behind) = items.split_at_mut(other);
+    before[one..one + count].swap_with_slice(&mut behind[..count]);
+}
+
+/// Exchanges what stands in a row and belongs to later rows with what stands there and belongs to it.
+fn exchange_row<A>(items: &mut [A], rows: usize, part: usize, width: usize, row: usize)
+    requires fits { rows * part ≤ width }
+    requires all { length items.old ≡ rows * width }
+    requires on { row < rows }
+    ensures turned { TurnsFurther rows part width (row * width) (row * width + width) items.old items.new }
+    ensures long { length items.new ≡ length items.old }
+{
+    for other in row + 1..rows {
+        exchange_runs(
+            items,
+            row * width + other * part,
+            other * width + row * part,
+            part,
+        );
+    }
+}
+
+/// Exchanges the parts of all rows, so that each row has its own ones.
+fn exchange_parts<A>(items: &mut [A], rows: usize, part: usize, width: usize)
+    requires fits { rows * part ≤ width }
+    requires all { length items.old ≡ rows * width }
+    ensures turned { IsTurnedBelow rows part width (rows * width) items.old items.new }
+{
+    for row in 0..rows {
+        exchange_row(items, rows, part, width, row);
+    }
+}
+
+/// Puts clones of so many elements of each lane, from one of them on, behind those of a vector, which is handed on and back.
+/// A refusal leaves some of them there.
+fn clones_of_columns<S: Data>(
+    items: Vec<S::Elem>,
+    storage: &S,
+    lanes: &[Lane],
+    from: usize,
+    count: usize,
+) -> (Vec<S::Elem>, Result<(), NoMemory>)
+where
+    S::Elem: Clone + Drop,
+    requires long { ReachTo (from + count) lanes.now }
+    requires clones { ClonesAreEqualAt S.Elem.is_clone S.stored (columns_of lanes.now from count) storage.now }
+    requires holds { Holds S.stored (columns_of lanes.now from count) storage.now }
+    requires room { vec_len items + length lanes.now * count ≤ vec_capacity items }
+    ensures items { OnOk result.1 (ListsBehind S.stored (columns_of lanes.now from count) storage.now items result.0) }
+    ensures len { OnOk result.1 (vec_len result.0 ≡ vec_len items + length lanes.now * count) }
+    ensures room { vec_capacity result.0 ≡ vec_capacity items }
+    ensures kept { OnErr result.1 (IsFront items.items result.0.items) }
+    ensures refused { OnErr result.1 (MayRefuseAt S.Elem.is_infallible S.stored (columns_of lanes.now from count) storage.now) }
+{
+    let mut items = items;
+    for nth in 0..lanes.len() {
+        let (longer, end) = clones_of_lane(items, storage, lanes[nth].part(from, count));
+        items = longer;
+        match end {
+            Ok(()) => {}
+            Err(refused) => return (items, Err(refused)),
+        }
+    }
+    (items, Ok(()))
+}
+
+/// Puts clones of the `nth` part of each lane behind those of a vector, and then of what is left over at the end of the `nth`
+/// lane, behind its last part. The vector is handed on and back; a refusal leaves some of the clones there.
+fn clones_of_part<S: Data>(
+    items: Vec<S::Elem>,
+    storage: &S,
+    lanes: &[Lane],
+    part: usize,
+    width: usize,
+    nth: usize,
+) -> (Vec<S::Elem>, Result<(), NoMemory>)
+where
+    S::Elem: Clone + Drop,
+    requires on { nth < length lanes.now }
+    requires fits { length lanes.now * part ≤ width }
+    requires long { AreLong width lanes.now }
+    requires clones { ClonesAreEqualAt S.Elem.is_clone S.stored (part_by_parts lanes.now part width nth) storage.now }
+    requires holds { Holds S.stored (part_by_parts lanes.now part width nth) storage.now }
+    requires room { vec_len items + width ≤ vec_capacity items }
+    ensures items { OnOk result.1 (ListsBehind S.stored (part_by_parts lanes.now part width nth) storage.now items result.0) }
+    ensures len { OnOk result.1 (vec_len result.0 ≡ vec_len items + width) }
+    ensures room { vec_capacity result.0 ≡ vec_capacity items }
+    ensures kept { OnErr result.1 (IsFront items.items result.0.items) }
+    ensures refused { OnErr result.1 (MayRefuseAt S.Elem.is_infallible S.stored (part_by_parts lanes.now part width nth) storage.now) }
+{
+    let done = lanes.len() * part;
+    let (longer, end) = clones_of_columns(items, storage, lanes, nth * part, part);
+    match end {
+        Ok(()) => clones_of_lane(longer, storage, lanes[nth].part(done, width - done)),
+        Err(refused) => (longer, Err(refused)),
+    }
+}
+
+/// Puts clones of all parts of the lanes behind those of a vector, which is handed on and back: as many times as there are
+/// lanes one part of each, and what is left over at the end of one lane. A refusal leaves some of the clones there.
+fn clones_by_parts<S: Data>(
+    items: Vec<S::Elem>,
+    storage: &S,
+    lanes: &[Lane],
+    part: usize,
+    width: usize,
+) -> (Vec<S::Elem>, Result<(), NoMemory>)
+where
+    S::Elem: Clone + Drop,
+    requires fits { length lanes.now * part ≤ width }
+    requires long { AreLong width lanes.now }
+    requires clones { ClonesAreEqualAt S.Elem.is_clone S.stored (rows_by_parts lanes.now part width) storage.now }
+    requires holds { Holds S.stored (rows_by_parts lanes.now part width) storage.now }
+    requires room { vec_len items + length lanes.now * width ≤ vec_capacity items }
+    ensures items { OnOk result.1 (ListsBehind S.stored (rows_by_parts lanes.now part width) storage.now items result.0) }
+    ensures len { OnOk result.1 (vec_len result.0 ≡ vec_len items + length lanes.now * width) }
+    ensures room { vec_capacity result.0 ≡ vec_capacity items }
+    ensures kept { OnErr result.1 (IsFront items.items result.0.items) }
+    ensures refused { OnErr result.1 (MayRefuseAt S.Elem.is_infallible S.stored (rows_by_parts lanes.now part width) storage.now) }
+{
+    let mut items = items;
+    for nth in 0..lanes.len() {
+        let (longer, end) = clones_of_part(items, storage, lanes, part, width, nth);
+        items = longer;
+        match end {
+            Ok(()) => {}
+            Err(refused) => return (items, Err(refused)),
+        }
+    }
+    (items, Ok(()))
+}
+
+/// Puts clones of all parts of the lanes, in the order of `clones_by_parts`, behind those that a vector has.
+fn list_by_parts<S: Data>(
+    items: &mut Vec<S::Elem>,
+    storage: &S,
+    lanes: &[Lane],
+    part: usize,
+    width: usize,
+) -> Result<(), NoMemory>
+where
+    S::Elem: Clone + Drop,
+    requires fits { length lanes.now * part ≤ width }
+    requires long { AreLong width lanes.now }
+    requires clones { ClonesAreEqualAt S.Elem.is_clone S.stored (rows_by_parts lanes.now part width) storage.now }
+    requires holds { Holds S.stored (rows_by_parts lanes.now part width) storage.now }
+    requires room { vec_len items.old + length lanes.now * width ≤ vec_capacity items.old }
+    ensures items { OnOk result (ListsBehind S.stored (rows_by_parts lanes.now part width) storage.now items.old items.new) }
+    ensures len { OnOk result (vec_len items.new ≡ vec_len items.old + length lanes.now * width) }
+    ensures room { vec_capacity items.old ≤ vec_capacity items.new }
+    ensures kept { OnErr result (IsFront items.old.items items.new.items) }
+    ensures refused { OnErr result (MayRefuseAt S.Elem.is_infallible S.stored (rows_by_parts lanes.now part width) storage.now) }
+{
+    let alloc = *items.allocator();
+    let held = mem::replace(items, Vec::new(alloc));
+    let (longer, end) = clones_by_parts(held, storage, lanes, part, width);
+    let empty = mem::replace(items, longer);
+    empty.destroy_empty();
+    end
+}
+
+/// Exchanges the parts of the rows that stand at the end of a vector, so that each row has its own ones.
+fn exchange_last<A>(items: &mut Vec<A>, start: usize, rows: usize, part: usize, width: usize)
+    requires fits { rows * part ≤ width }
+    requires all { start + rows * width ≡ vec_len items.old }
+    ensures turned { IsTurnedBehind start rows part width items.old.items items.new.items }
+    ensures len { vec_len items.new ≡ vec_len items.old }
+    ensures room { vec_capacity items.new ≡ vec_capacity items.old }
+{
+    exchange_parts(items.slice_mut(start..), rows, part, width);
+}
+
+/// Puts clones of the elements of lanes of one length, one lane behind the other, behind those that a vector has.
+fn list_rows<S: Data>(
+    items: &mut Vec<S::Elem>,
+    storage: &S,
+    lanes: &[Lane],
+    width: usize,
+) -> Result<(), NoMemory>
+where
+    S::Elem: Clone + Drop,
+    requires some { 0 < length lanes.now }
+    requires long { AreLong width lanes.now }
+    requires clones { ClonesAreEqualAt S.Elem.is_clone S.stored (columns_of lanes.now 0 width) storage.now }
+    requires holds { Holds S.stored (columns_of lanes.now 0 width) storage.now }
+    requires room { vec_len items.old + length lanes.now * width ≤ vec_capacity items.old }
+    ensures items { OnOk result (ListsBehind S.stored (columns_of lanes.now 0 width) storage.now items.old items.new) }
+    ensures count { OnOk result (vec_len items.new ≡ vec_len items.old + length lanes.now * width) }
+    ensures room { vec_capacity items.old ≤ vec_capacity items.new }
+    ensures kept { OnErr result (IsFront items.old.items items.new.items) }
+    ensures refused { OnErr result (MayRefuseAt S.Elem.is_infallible S.stored (columns_of lanes.now 0 width) storage.now) }
+{
+    let (start, rows) = (items.len(), lanes.len());
+    let part = width / rows;
+    match list_by_parts(items, storage, lanes, part, width) {
+        Ok(()) => {}
+        Err(refused) => return Err(refused),
+    }
+    exchange_last(items, start, rows, part, width);
+    Ok(())
+}
+
+/// Writes the lanes of a layout of this size, and returns how many they are: 0 where there is no place for all of them, or one
+/// has another length.
+fn rows_in(places: Places<'_>, size: usize, width: usize, rows: &mut [Lane]) -> usize
+    ensures { 0 < result → HasRows (ranked places.entry) size width rows.new result }
+{
+    let mut lanes = places.lanes();
+    for nth in 0..rows.len() {
+        match lanes.next() {
+            Some(lane) => {
+                if lane.count != width {
+                    return 0;
+                }
+                rows[nth] = lane;
+            }
+            None => return 0,
+        }
+        if lanes.rank == size {
+            return nth + 1;
+        }
+    }
+    0
+}
+
+/// Puts clones of the elements of a layout, by row-major rank, behind those that a vector has: where they are few rows of one
+/// length, which lie across memory, in parts of the rows. No memory is asked for.
+pub(crate) fn list_turned<S: Data, D: Dimension>(
+    items: &mut Vec<S::Elem>,
+    storage: &S,
+    layout: &Layout<D, D::Strides>,
+) -> Result<(), NoMemory>
+where
+    S::Elem: Clone + Drop,
+    requires axes { 1 < length (D.lengths layout.now.dim) }
+    requires clones { ClonesAreEqualAt S.Elem.is_clone S.stored (ranked_by layout.now) storage.now }
+    requires holds { Holds S.stored (ranked_by layout.now) storage.now }
+    requires room { vec_len items.old + size_of (D.lengths layout.now.dim) ≤ vec_capacity items.old }
+    ensures items { OnOk result (ListsShown S.stored layout.now storage.now items.old items.new) }
+    ensures count { OnOk result (vec_len items.new ≡ vec_len items.old + size_of (D.lengths layout.now.dim)) }
+    ensures room { vec_capacity items.old ≤ vec_capacity items.new }
+    ensures kept { OnErr result (IsFront items.old.items items.new.items) }
+    ensures refused { OnErr result (MayRefuseBy S.Elem.is_infallible S.stored layout.now storage.now) }
+{
+    let width = layout.dim.length(layout.dim.ndim() - 1);
+    let none = Lane {
+        place: 0,
+        count: 0,
+        stride: 1,
+    };
+    let mut lanes = [none; MOST_ROWS];
+    let rows = rows_in(layout.places(), layout.dim.size(), width, &mut lanes);
+    if rows == 0 {
+        return list(items, storage, layout.places());
+    }
+    list_rows(items, storage, &lanes[..rows], width)
+}
