@@ -1,5 +1,6 @@
 pub mod Boxed
 pub mod Alike
+pub mod Emptied
 pub mod Joining
 pub mod Runs
 pub mod Stacked
