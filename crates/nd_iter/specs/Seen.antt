@@ -1,11 +1,15 @@
 -- What the iterators over an array show of it, one after another.
-use Rattle.std.specs.Prelude.{◌≡◌, ◌+◌, ◌-◌, ◌<◌, ◌≤◌, ◌++◌, ℕ, List, drop, length, map, take, slice_index}
+use Rattle.std.specs.Prelude.{◌≡◌, ◌+◌, ◌-◌, ◌<◌, ◌≤◌, ◌++◌, ℕ, List, drop, length, map, take, slice_index, Option, Some}
 use Rattle.std.specs.List.{range_with_len}
 use Rattle.std.specs.Option.{option_map}
 use Rattle.nd_shape_and_slice.specs.Maps.{indexed_shape, indexed_index}
 use Rattle.nd_shape_and_slice.specs.Shape.{size_of}
 use Rattle.nd_array_core.specs.Meaning.{Meaning, meaning_through}
 use Rattle.nd_array_core.specs.Joined.{row_major_elements}
+
+-- both bounds on how many items are left are their number
+abbrev pub IsExactly : ℕ × Option ℕ → ℕ → Type 0
+IsExactly hint count = (hint.0 ≡ count) × (hint.1 ≡ Some count)
 
 -- an array's lengths, and its elements in row-major order
 abbrev pub listing : {A : Type 0} → Meaning A → List ℕ × List A

@@ -1,9 +1,10 @@
 //! The views at each coordinate of an axis.
 
-ghost use Rattle.std.specs.Prelude.{◌≡◌, ◌<◌, length, slice_index};
-ghost use Rattle.std.specs.Iterator.{YieldsFirstBy, YieldsLastBy, item_count};
+ghost use Rattle.std.specs.Prelude.{◌≡◌, ◌<◌, length, slice_index, IfSome};
+ghost use Rattle.std.specs.Iterator.{YieldsFirstBy, YieldsLastBy, item_count, at_most, UpTo};
+ghost use Rattle.std.specs.Iterator.SizeHint.{IsWithinCount};
 ghost use Rattle.nd_array_core.specs.Meaning.{meaning_of, shape_of};
-ghost use Rattle.nd_iter.specs.Seen.{along_axis, at_coordinate, listing};
+ghost use Rattle.nd_iter.specs.Seen.{along_axis, at_coordinate, listing, IsExactly};
 
 use nd_array_core::{ArrayBase, ArrayView, Data};
 use nd_shape_and_slice::{Axis, Dimension, Ix2, RemoveAxis};
@@ -63,7 +64,11 @@ impl<'a, A, S: Data<Elem = A>, D: RemoveAxis> Iterator for AxisIter<'a, A, S, D>
     }
 
     #[tactic(auto, using(crate::proofs::Parts::length_given))]
-    fn size_hint(&self) -> (usize, Option<usize>) {
+    fn size_hint(&self) -> (usize, Option<usize>)
+        ensures lower { IsWithinCount result.0 (at_most (length self.now)) }
+        ensures upper { IfSome result.1 (UpTo (at_most (length self.now))) }
+        ensures exact { IsExactly result (length self.now) }
+    {
         let count = self.back - self.front;
         (count, Some(count))
     }

@@ -1,11 +1,12 @@
 //! Parts of a table of one size: windows, and blocks side by side.
 
-ghost use Rattle.std.specs.Prelude.{◌≡◌, ◌+◌, ◌*◌, ◌/◌, ◌%◌, ◌<◌, ◌≤◌, ◌^◌, ℕ, slice_index};
-ghost use Rattle.std.specs.Iterator.{YieldsFirstBy, YieldsLastBy, item_count};
+ghost use Rattle.std.specs.Prelude.{◌≡◌, ◌+◌, ◌*◌, ◌/◌, ◌%◌, ◌<◌, ◌≤◌, ◌^◌, ℕ, length, slice_index, IfSome};
+ghost use Rattle.std.specs.Iterator.{YieldsFirstBy, YieldsLastBy, item_count, at_most, UpTo};
+ghost use Rattle.std.specs.Iterator.SizeHint.{IsWithinCount};
 ghost use Rattle.nd_array_core.specs.Coordinates.{element_of_2, HasRowsAndColumns};
 ghost use Rattle.nd_array_core.specs.Laws.{NothingOutside};
 ghost use Rattle.nd_array_core.specs.Meaning.{meaning_of, shape_of};
-ghost use Rattle.nd_iter.specs.Seen.{listing};
+ghost use Rattle.nd_iter.specs.Seen.{listing, IsExactly};
 ghost use Rattle.nd_iter.specs.TableParts.{numbered_part, part_at, parts_along, parts_of};
 
 use nd_array_core::laws::nothing_outside;
@@ -120,7 +121,11 @@ impl<'a, A, S: Data<Elem = A>> Iterator for Parts<'a, A, S> {
     }
 
     #[tactic(auto, using(crate::proofs::Parts::length_given))]
-    fn size_hint(&self) -> (usize, Option<usize>) {
+    fn size_hint(&self) -> (usize, Option<usize>)
+        ensures lower { IsWithinCount result.0 (at_most (length self.now)) }
+        ensures upper { IfSome result.1 (UpTo (at_most (length self.now))) }
+        ensures exact { IsExactly result (length self.now) }
+    {
         let count = self.back - self.front;
         (count, Some(count))
     }

@@ -1,9 +1,11 @@
 //! The elements in row-major order.
 
-ghost use Rattle.std.specs.Prelude.{◌≡◌, length};
-ghost use Rattle.std.specs.Iterator.{YieldsFirstRef, YieldsLastRef, item_count};
+ghost use Rattle.std.specs.Prelude.{◌≡◌, length, IfSome};
+ghost use Rattle.std.specs.Iterator.{YieldsFirstRef, YieldsLastRef, item_count, at_most, UpTo};
+ghost use Rattle.std.specs.Iterator.SizeHint.{IsWithinCount};
 ghost use Rattle.nd_array_core.specs.Meaning.{meaning_of};
 ghost use Rattle.nd_array_core.specs.Joined.{row_major_elements};
+ghost use Rattle.nd_iter.specs.Seen.{IsExactly};
 
 use crate::ends::Ends;
 use crate::row_ends::{RowEnds, are_side_by_side};
@@ -59,7 +61,11 @@ impl<'a, A, S: Data<Elem = A>, D: Dimension> Iterator for Iter<'a, A, S, D> {
         }
     }
 
-    fn size_hint(&self) -> (usize, Option<usize>) {
+    fn size_hint(&self) -> (usize, Option<usize>)
+        ensures lower { IsWithinCount result.0 (at_most (length self.now)) }
+        ensures upper { IfSome result.1 (UpTo (at_most (length self.now))) }
+        ensures exact { IsExactly result (length self.now) }
+    {
         let count = self.count_left();
         (count, Some(count))
     }

@@ -1,10 +1,11 @@
 //! The elements in row-major order, each with its index.
 
-ghost use Rattle.std.specs.Prelude.{◌≡◌};
-ghost use Rattle.std.specs.Iterator.{YieldsFirstBy, YieldsLastBy, item_count};
+ghost use Rattle.std.specs.Prelude.{◌≡◌, length, IfSome};
+ghost use Rattle.std.specs.Iterator.{YieldsFirstBy, YieldsLastBy, item_count, at_most, UpTo};
+ghost use Rattle.std.specs.Iterator.SizeHint.{IsWithinCount};
 ghost use Rattle.nd_array_core.specs.Meaning.{meaning_of};
 ghost use Rattle.nd_array_core.specs.Joined.{row_major_elements};
-ghost use Rattle.nd_iter.specs.Seen.{with_indexes};
+ghost use Rattle.nd_iter.specs.Seen.{with_indexes, IsExactly};
 
 use crate::ranks::{LaneInHand, index_of, listed_at};
 use nd_array_core::laws::elements_by_rank;
@@ -61,7 +62,11 @@ impl<'a, A, S: Data<Elem = A>, D: IntoPattern> Iterator for IndexedIter<'a, A, S
         ))
     }
 
-    fn size_hint(&self) -> (usize, Option<usize>) {
+    fn size_hint(&self) -> (usize, Option<usize>)
+        ensures lower { IsWithinCount result.0 (at_most (length self.now)) }
+        ensures upper { IfSome result.1 (UpTo (at_most (length self.now))) }
+        ensures exact { IsExactly result (length self.now) }
+    {
         elements_by_rank(self.array);
         let count = self.back - self.front;
         (count, Some(count))

@@ -1,7 +1,7 @@
 //! The product of two matrices.
 
-ghost use Rattle.std.specs.Prelude.{◌≡◌, ◌<◌, ◌+◌, ◌*◌, ℕ, ◌∷◌, [], IfOk, length, slice_index};
-ghost use Rattle.nd_shape_and_slice.specs.Shape.{HasCheckedSize};
+ghost use Rattle.std.specs.Prelude.{◌≡◌, ◌<◌, ◌+◌, ◌*◌, ℕ, ◌∷◌, [], IfOk, OnErr, length, slice_index};
+ghost use Rattle.nd_shape_and_slice.specs.Shape.{HasCheckedSize, size_of};
 ghost use Rattle.nd_array_core.specs.Meaning.{meaning_of, shape_of};
 ghost use Rattle.nd_array_core.specs.Coordinates.{element_of_2, HasRowsAndColumns};
 ghost use Rattle.nd_linalg.specs.Products.{product_shape, row_cell, IsProduct};
@@ -29,7 +29,7 @@ fn of_cells<A: LinalgScalar>(cells: Vec<A>, rows: usize, columns: usize) -> Arra
 
 /// The product of two matrices: at i and j the sum of the products of row i of a and column j of b, from the
 /// first on. b has as many rows as a has columns, and the product's shape has a checked size. NoMemory if
-/// storage is refused. ndarray's `dot` of two matrices.
+/// storage is refused, which a product without elements doesn't ask for. ndarray's `dot` of two matrices.
 pub fn matrix_dot<A: LinalgScalar, S: Data<Elem = A>, Z: Data<Elem = A>>(
     alloc: Global,
     a: &ArrayBase<S, Ix2>,
@@ -39,14 +39,18 @@ pub fn matrix_dot<A: LinalgScalar, S: Data<Elem = A>, Z: Data<Elem = A>>(
     requires checked { HasCheckedSize (product_shape (shape_of a.now) (shape_of b.now)) }
     ensures shape { IfOk result (λ p. shape_of p ≡ product_shape (shape_of a.now) (shape_of b.now)) }
     ensures sums { IfOk result (λ p. IsProduct A.plus A.times A.zero (meaning_of a.now) (meaning_of b.now) (meaning_of p)) }
+    ensures refused { OnErr result (0 < size_of (product_shape (shape_of a.now) (shape_of b.now))) }
 {
     let (rows, inner) = a.dim();
     let (_same, columns) = b.dim();
     elements_by_rank(a);
     elements_by_rank(b);
-    match size_of_shape_checked(&[rows, columns]) {
-        Ok(_) => {}
+    let size = match size_of_shape_checked(&[rows, columns]) {
+        Ok(size) => size,
         Err(_) => unreachable!(),
+    };
+    if size == 0 {
+        return Ok(of_cells(Vec::new(alloc), rows, columns));
     }
     let one = cells_of(alloc, a)?;
     let other = cells_of(alloc, b)?;

@@ -1,6 +1,6 @@
 //! Products with a vector.
 
-ghost use Rattle.std.specs.Prelude.{◌≡◌, ◌<◌, ℕ, Some, IfOk, length, slice_get, slice_index};
+ghost use Rattle.std.specs.Prelude.{◌≡◌, ◌<◌, ℕ, Some, IfOk, OnErr, length, slice_get, slice_index};
 ghost use Rattle.nd_array_core.specs.Meaning.{meaning_of, shape_of};
 ghost use Rattle.nd_array_core.specs.Coordinates.{element_of_1, HasLength};
 ghost use Rattle.nd_linalg.specs.Products.{vector_by_vector, IsImage};
@@ -61,7 +61,8 @@ fn of_items<A>(items: Vec<A>) -> Array1<A>
 }
 
 /// The product of a matrix and a vector: at i the sum of the products of row i and the vector, from the first on. The vector
-/// is as long as the matrix has columns. NoMemory if storage is refused. ndarray's `dot` of a matrix and a vector.
+/// is as long as the matrix has columns. NoMemory if storage is refused, which a matrix without rows doesn't ask for. ndarray's
+/// `dot` of a matrix and a vector.
 pub fn matrix_dot_vector<A: LinalgScalar, S: Data<Elem = A>, Z: Data<Elem = A>>(
     alloc: Global,
     a: &ArrayBase<S, Ix2>,
@@ -70,8 +71,12 @@ pub fn matrix_dot_vector<A: LinalgScalar, S: Data<Elem = A>, Z: Data<Elem = A>>(
     requires { slice_index (shape_of x.now) 0 ≡ slice_index (shape_of a.now) 1 }
     ensures shape { IfOk result (λ sums. HasLength sums (slice_index (shape_of a.now) 0)) }
     ensures sums { IfOk result (λ p. IsImage A.plus A.times A.zero (meaning_of a.now) (meaning_of x.now) (meaning_of p)) }
+    ensures refused { OnErr result (0 < slice_index (shape_of a.now) 0) }
 {
     let (rows, _columns) = a.dim();
+    if rows == 0 {
+        return Ok(of_items(Vec::new(alloc)));
+    }
     let _same = x.dim();
     elements_by_rank(a);
     elements_by_rank(x);

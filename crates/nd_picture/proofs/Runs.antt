@@ -1,11 +1,28 @@
 -- Steps taken one behind the other.
-use Rattle.std.proofs.Common.{◌≡◌, ◌∙◌, ℕ, ◌+◌, ◌<◌, ◌≤◌, Bool, true, false, cond, List, [], ◌∷◌, length, get_or, drop, drop-cons, add-one, Result, Ok, Err, refl, sym, ap}
-use Rattle.std.specs.Prelude.{slice_index}
+use Rattle.std.proofs.Common.{◌≡◌, ◌∙◌, ℕ, ◌+◌, ◌<◌, ◌≤◌, Bool, true, false, cond, List, [], ◌∷◌, length, get_or, drop, drop-cons, add-one, Result, Ok, Err, refl, sym, ap, subst, arith}
+use Rattle.std.specs.Prelude.{slice_index, IfErr}
 use Rattle.std.proofs.lemmas.List.{drop_all}
 use Rattle.nd_array_core.specs.Meaning.{Meaning}
 use Rattle.nd_picture_text.specs.declared.step.Step.{Step}
 use Rattle.nd_picture.specs.Pictures.{Picture, Shows}
 use Rattle.nd_picture.specs.Steps.{fits, after, after_all, after_each}
+
+-- the number of a step that can't be taken is that of one of the steps
+later : (number : ℕ) (end : Result Picture ℕ) → IfErr end (λ refused. number + 1 ≤ refused) → IfErr end (λ refused. number ≤ refused)
+later number (Ok p) h = tt
+later number (Err n) h = omega (arith, h)
+
+numbered_from : (maxval number : ℕ) (steps : List Step) (q : Picture) → IfErr (after_all maxval number steps q) (λ refused. number ≤ refused)
+numbered_from maxval number [] q = tt
+numbered_from maxval number (step ∷ steps) q = by_test (after_all maxval (number + 1) steps (after maxval step q)) (fits step q.height q.width) (numbered_from maxval (number + 1) steps (after maxval step q))
+  where
+    by_test : (end : Result Picture ℕ) (t : Bool) → IfErr end (λ refused. number + 1 ≤ refused) → IfErr (cond t end (Err number)) (λ refused. number ≤ refused)
+    by_test end true h = later number end h
+    by_test end false h = omega arith
+
+behind : (nth : ℕ) (end : Result Picture ℕ) → IfErr end (λ number. nth + 1 + 1 ≤ number) → IfErr end (λ number. nth + 1 < number)
+behind nth (Ok p) h = tt
+behind nth (Err n) h = omega (arith, h)
 
 module _ (maxval nth : ℕ) (steps : List Step) (d : Step) (m : Meaning ℕ) (q : Picture) (all : Result Picture ℕ) (shows : Shows m q) (so_far : after_all maxval (nth + 1) (drop nth steps) q ≡ all) where
   -- what is left begins with the step at hand
@@ -22,6 +39,12 @@ module _ (maxval nth : ℕ) (steps : List Step) (d : Step) (m : Meaning ℕ) (q 
 
   pub run_stops : nth < length steps → fits (get_or steps nth d) (slice_index m.shape 0) (slice_index m.shape 1) ≡ false → all ≡ Err (nth + 1)
   run_stops inside e = sym (ap (λ t. cond t (after_all maxval (nth + 1 + 1) (drop (nth + 1) steps) (after maxval (get_or steps nth d) q)) (Err (nth + 1))) (sym (fitting false e)) ∙ cut inside)
+
+  -- behind a step that is taken comes the first that can't be, where there is one
+  pub run_goes_on : nth < length steps → fits (get_or steps nth d) (slice_index m.shape 0) (slice_index m.shape 1) ≡ true → IfErr all (λ number. nth + 1 < number)
+  run_goes_on inside e =
+      subst (λ end. IfErr end (λ number. nth + 1 < number)) (run_more inside e)
+      (behind nth (after_all maxval (nth + 1 + 1) (drop (nth + 1) steps) (after maxval (get_or steps nth d) q)) (numbered_from maxval (nth + 1 + 1) (drop (nth + 1) steps) (after maxval (get_or steps nth d) q)))
 
 -- no step is left
 pub run_ends : (maxval nth : ℕ) (steps : List Step) (q : Picture) (all : Result Picture ℕ) → after_all maxval (nth + 1) (drop nth steps) q ≡ all → length steps ≤ nth → all ≡ Ok q

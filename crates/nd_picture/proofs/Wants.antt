@@ -1,5 +1,5 @@
--- What comes of bytes that give no image, and where memory may run out.
-use Rattle.std.proofs.Common.{◌≡◌, ℕ, ◌<◌, List, [], ◌∷◌, length, Result, Ok, Err, inr, arith}
+-- What comes of bytes that give no image, how they are read, and where memory may run out.
+use Rattle.std.proofs.Common.{◌≡◌, ℕ, ◌<◌, List, [], ◌∷◌, length, Result, Ok, Err, inr, false, arith}
 use Rattle.nd_picture_text.specs.declared.step.Step.{Step}
 use Rattle.nd_picture_text.specs.declared.image.Header.{Header}
 use Rattle.nd_picture_text.specs.Images.{Pixmap}
@@ -7,7 +7,10 @@ use Rattle.nd_picture_text.specs.Reading.{header_in, image_in, AsksForSamples}
 use Rattle.nd_picture_text.specs.Steps.{AreSteps}
 use Rattle.nd_picture.specs.declared.outcome.Fault.{Fault}
 use Rattle.nd_picture.specs.declared.outcome.Fault.TheVariants.{BadStep, BadByte, Refused, Memory, ReadFailed}
-use Rattle.nd_picture.specs.Comes.{Comes, IsImageRead, Changes}
+use Rattle.std.specs.Result.{result_map_both}
+use Rattle.nd_text.specs.declared.watched.Watched.{Watched}
+use Rattle.nd_text.specs.Watched.{watched_failed}
+use Rattle.nd_picture.specs.Comes.{Comes, IsImageRead, IsReadFor, Changes}
 
 -- a header has bytes, and so has an image
 pub some_header : (bytes : List ℕ) (x : Header × List ℕ) → header_in bytes ≡ Ok x → 0 < length bytes
@@ -40,3 +43,12 @@ module _ (steps : List Step) (words : List (List ℕ)) (bytes : List ℕ) (are :
   comes_changed image (Err (Refused n)) is changes = (steps, image, are, is, changes)
   comes_changed image (Err Memory) is changes = inr ((steps, are), some_image bytes image is)
   comes_changed image (Err ReadFailed) is changes = absurd changes
+
+-- what the steps make of an image was read without a failed read
+pub reads_changed : {R X : Type 0} (view : X → Pixmap) (steps : List Step) (image : Pixmap) (input input' : Watched R) (made : Result X Fault) → Changes steps image (result_map_both view (λ e. e) made) → watched_failed input' ≡ false → IsReadFor input input' made
+reads_changed view steps image input input' (Ok x) changes whole = whole
+reads_changed view steps image input input' (Err (BadStep n)) changes whole = absurd changes
+reads_changed view steps image input input' (Err (BadByte n)) changes whole = whole
+reads_changed view steps image input input' (Err (Refused n)) changes whole = whole
+reads_changed view steps image input input' (Err Memory) changes whole = inr whole
+reads_changed view steps image input input' (Err ReadFailed) changes whole = absurd changes

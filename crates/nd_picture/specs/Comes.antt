@@ -3,7 +3,7 @@ use Rattle.std.specs.Prelude.{◌≡◌, ◌⊎◌, ◌<◌, ℕ, Bool, true, fa
 use Rattle.std.specs.Fmt.{decimal}
 use Rattle.std.specs.Io.KnownBytes.{Appends}
 use Rattle.nd_text.specs.declared.watched.Watched.{Watched}
-use Rattle.nd_text.specs.Watched.{watched_inner}
+use Rattle.nd_text.specs.Watched.{watched_inner, watched_failed, GetsFlushed}
 use Rattle.nd_text.specs.Puts.{TakesText}
 use Rattle.nd_picture_text.specs.declared.step.Step.{Step}
 use Rattle.nd_picture_text.specs.Images.{Pixmap}
@@ -27,6 +27,10 @@ StepsEnd words bytes P = (steps : List Step) × (image : Pixmap) × AreSteps ste
 -- memory may run out: for a step that can be read, behind others; or the words are steps and there are bytes
 abbrev pub MayLackMemory : List (List ℕ) → List ℕ → Type 0
 MayLackMemory words bytes = LacksForStep words ⊎ (((steps : List Step) × AreSteps steps words) × (0 < length bytes))
+
+-- the words are no list of steps
+abbrev pub AreNoSteps : List (List ℕ) → Type 0
+AreNoSteps words = (steps : List Step) → ¬ (AreSteps steps words)
 
 -- what comes of these words and bytes: an image of the picture that the steps end with; or the first that is bad: a
 -- step that can't be read, a byte, a step that can't be taken
@@ -76,6 +80,18 @@ status_after (Err fault) = fault_status fault
 abbrev pub ComesOf : {R : Type 0} → (R → Option (List ℕ)) → List (List ℕ) → Watched R → Result Pixmap Fault → Type 0
 ComesOf remaining words input made = IfSome (remaining (watched_inner input)) (λ bytes. Comes words bytes made)
 
+-- how the input is read for it: not at all where a step can't be read; where memory runs out not at all, or no read failed; else
+-- a failed read comes exactly where a read failed
+abbrev pub IsReadFor : {R X : Type 0} → Watched R → Watched R → Result X Fault → Type 0
+IsReadFor input input' (Err (BadStep number)) = input' ≡ input
+IsReadFor input input' (Err Memory) = (input' ≡ input) ⊎ (watched_failed input' ≡ false)
+IsReadFor input input' made = watched_failed input' ≡ is_failed_read made
+
+-- one writer gets flushed, and the other is left alone: the output gets it for an image, the errors for a fault
+abbrev pub FlushesFor : {W E X : Type 0} → Watched W → Watched W → Watched E → Watched E → Result X Fault → Type 0
+FlushesFor output output' errors errors' (Ok made) = GetsFlushed output output' × (errors' ≡ errors)
+FlushesFor output output' errors errors' (Err fault) = GetsFlushed errors errors' × (output' ≡ output)
+
 -- the parts of it: the image that bytes mean, and that after steps
 abbrev pub IsImageRead : List ℕ → Result Pixmap Fault → Type 0
 IsImageRead bytes (Ok image) = image_in bytes ≡ Ok image
@@ -100,6 +116,13 @@ module _ {R W E : Type 0} (remaining : R → Option (List ℕ)) (contents : W �
   abbrev pub PutsWhatComes : List (List ℕ) → Watched R → Watched R → Watched W → Watched W → Watched E → Watched E → ℕ → Type 0
   PutsWhatComes words input input' output output' errors errors' status =
       (made : Result Pixmap Fault) × ComesOf remaining words input made × TakesText contents output output' (output_text made) × TakesText reports errors errors' (errors_text made) × (status ≡ status_after made)
+      × IsReadFor input input' made × FlushesFor output output' errors errors' made
+
+  -- the same without the status
+  abbrev pub BeginsWhatComes : List (List ℕ) → Watched R → Watched R → Watched W → Watched W → Watched E → Watched E → Type 0
+  BeginsWhatComes words input input' output output' errors errors' =
+      (made : Result Pixmap Fault) × ComesOf remaining words input made × TakesText contents output output' (output_text made) × TakesText reports errors errors' (errors_text made)
+      × IsReadFor input input' made × FlushesFor output output' errors errors' made
 
   -- that was written whole, and this is its status
   abbrev pub WritesWhatComes : List (List ℕ) → Watched R → Watched W → Watched W → Watched E → Watched E → ℕ → Type 0

@@ -1,5 +1,5 @@
 -- A list of steps: when each is refused, and what it gives.
-use Rattle.std.specs.Prelude.{◌≡◌, ℕ, ◌+◌, ◌^◌, Bool, true, ◌&&◌, nat_lt, nat_le, List, [], ◌∷◌, slice_get, Some, Result, Ok, Err, if◌then◌else◌}
+use Rattle.std.specs.Prelude.{◌≡◌, ℕ, ◌+◌, ◌^◌, Bool, true, ◌&&◌, nat_lt, nat_le, List, [], ◌∷◌, slice_get, Some, Result, Ok, Err, IfErr, ◌<◌, if◌then◌else◌}
 use Rattle.nd_array_core.specs.Meaning.{Meaning}
 use Rattle.nd_picture_text.specs.declared.step.Step.{Step}
 use Rattle.nd_picture_text.specs.declared.step.Step.TheVariants.{Crop, Flip, Flop, RotateQuarter, RotateHalf, RotateBack, Transpose, ScaleDown, Threshold, Invert, Blur}
@@ -55,6 +55,7 @@ GivesPicture view (Err error) end = IsRefusedAt error end
 abbrev pub GivesAfter : {X : Type 0} → (X → Meaning ℕ) → ℕ → List Step → Meaning ℕ → Result X StepError → Type 0
 GivesAfter view maxval steps m result = (p : Picture) → Shows m p → GivesPicture view result (after_all maxval 1 steps p)
 
--- one of them is blur, the only one that takes memory
-abbrev pub Blurs : List Step → Type 0
-Blurs steps = (nth : ℕ) × (slice_get steps nth ≡ Some Blur)
+-- memory may run out on the picture that an array shows: one of the steps is a blur, the only one that takes memory, and the
+-- first that can't be taken, where there is one, comes behind it
+abbrev pub LacksForBlur : ℕ → List Step → Meaning ℕ → Type 0
+LacksForBlur maxval steps m = (nth : ℕ) × (slice_get steps nth ≡ Some Blur) × ((p : Picture) → Shows m p → IfErr (after_all maxval 1 steps p) (λ number. nth + 1 < number))

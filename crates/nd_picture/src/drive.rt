@@ -1,7 +1,7 @@
 //! The whole program, over any streams.
 #![tactic(auto, using(nd_array_core::proofs::Axes::known_axes))]
 
-ghost use Rattle.std.specs.Prelude.{◌≡◌, ◌<◌, ◌≤◌, ◌||◌, ◌==◌, ◌++◌, IsTrue};
+ghost use Rattle.std.specs.Prelude.{◌≡◌, ◌<◌, ◌≤◌, ◌||◌, ◌==◌, ◌++◌, false, IsTrue};
 ghost use Rattle.std.specs.Fmt.{decimal};
 ghost use Rattle.nd_text.specs.Puts.{Puts, TakesText};
 ghost use Rattle.nd_text.specs.Words.{words_of};
@@ -11,7 +11,7 @@ ghost use Rattle.nd_array_core.specs.Joined.{row_major_elements};
 ghost use Rattle.nd_array_core.specs.reshape.RunSlices.{IsStandardArray};
 ghost use Rattle.nd_picture.specs.Drawn.{drawn_image, LiesInRows};
 ghost use Rattle.nd_picture_text.specs.Writing.{image_text};
-ghost use Rattle.nd_picture.specs.Comes.{fault_text, fault_status, PutsWhatComes, WritesWhatComes};
+ghost use Rattle.nd_picture.specs.Comes.{fault_text, fault_status, AreNoSteps, BeginsWhatComes, PutsWhatComes, WritesWhatComes};
 
 use crate::outcome::{Drawn, Fault, produce};
 use itoa::Buffer;
@@ -117,6 +117,7 @@ fn drive_on<R: Read, W: Write, E: Write>(
     ensures stops_telling { watched_retried errors.new ≡ watched_retried errors.old }
     ensures flushed { result ≡ 0 → GetsFlushed output.old output.new }
     ensures read { result ≡ 3 → IsTrue (watched_failed input.new) }
+    ensures unread { AreNoSteps (words_of line.now) → input.new ≡ input.old }
 {
     match produce(alloc, line, input) {
         Ok(image) => {
@@ -131,8 +132,10 @@ fn drive_on<R: Read, W: Write, E: Write>(
 }
 
 /// Reads an image to the end of the input, takes it through the steps that the words of a line write, and writes it in its
-/// own format; or writes a line on the errors that tells the first step or byte that is bad. Returns the status: 0, 1 for a
-/// bad step or byte, 2 if memory was refused, 3 if a call of a stream failed.
+/// own format; or writes a line on the errors that tells the first step or byte that is bad. No byte is read where the words are
+/// no steps. Returns the status: 0, 1 for a bad step or byte, 2 if memory was refused, 3 if a call of a stream failed. Then a
+/// beginning of what was due is written, and nothing of an image where it was a read that failed.
+#[tactic(auto, using(crate::proofs::Faults::line_flushed, crate::proofs::Faults::line_flushed_failing))]
 pub fn drive<R: Read, W: Write, E: Write>(
     alloc: Global,
     line: &[u8],
@@ -141,12 +144,15 @@ pub fn drive<R: Read, W: Write, E: Write>(
     errors: &mut Watched<E>,
 ) -> u8
     ensures told { result < 3 → WritesWhatComes R.remaining W.contents E.contents (words_of line.now) input.old output.old output.new errors.old errors.new result }
+    ensures beginning { BeginsWhatComes R.remaining W.contents E.contents (words_of line.now) input.old input.new output.old output.new errors.old errors.new }
+    ensures unread { AreNoSteps (words_of line.now) → input.new ≡ input.old }
     ensures failed { (result == 3) ≡ (watched_failed input.new || watched_failed output.new || watched_failed errors.new) }
     ensures statuses { result ≤ 3 }
     ensures stops_reading { watched_retried input.new ≡ watched_retried input.old }
     ensures stops_writing { watched_retried output.new ≡ watched_retried output.old }
     ensures stops_telling { watched_retried errors.new ≡ watched_retried errors.old }
     ensures flushed { result ≡ 0 → GetsFlushed output.old output.new }
+    ensures flushed_errors { 0 < result → watched_failed output.new ≡ false → GetsFlushed errors.old errors.new }
 {
     let status = drive_on(alloc, line, input, output, errors);
     if input.failed() || output.failed() || errors.failed() {

@@ -10,7 +10,7 @@ ghost use Rattle.nd_picture_text.specs.Images.{pixmap_of, IsWholeImage};
 ghost use Rattle.nd_array_core.specs.reshape.RunSlices.{IsStandardArray};
 ghost use Rattle.nd_picture.specs.Drawn.{drawn_image, LiesInRows};
 ghost use Rattle.nd_picture.specs.Images.{IsImageShown};
-ghost use Rattle.nd_picture.specs.Comes.{ComesOf, is_failed_read, IsImageReadFrom, Changes};
+ghost use Rattle.nd_picture.specs.Comes.{ComesOf, is_failed_read, AreNoSteps, IsImageReadFrom, IsReadFor, Changes};
 
 use crate::samples::{laid_out, picture_of};
 use crate::steps::{StepError, take_steps};
@@ -54,6 +54,7 @@ fn load<R: Read>(alloc: Global, input: &mut Watched<R>) -> Result<Image, Fault>
     ensures image { IsImageReadFrom R.remaining input.old (result_map_both pixmap_of (λ e. e) result) }
     ensures whole { IfOk result (λ image. IsWholeImage (pixmap_of image)) }
     ensures failed { watched_failed input.new ≡ is_failed_read result }
+    ensures reads { IsReadFor input.old input.new result }
     ensures stops { watched_retried input.new ≡ watched_retried input.old }
 {
     let bytes = match read_input(alloc, input) {
@@ -106,7 +107,7 @@ fn change(alloc: Global, steps: &[Step], image: Image) -> Result<Drawn, Fault>
 
 /// The image after the steps that the words of a line write, of all bytes of the input. No byte is read where the steps
 /// can't be.
-#[tactic(auto, using(crate::proofs::Wants::comes_unloaded, crate::proofs::Wants::comes_changed))]
+#[tactic(auto, using(crate::proofs::Wants::comes_unloaded, crate::proofs::Wants::comes_changed, crate::proofs::Wants::reads_changed))]
 pub(crate) fn produce<R: Read>(
     alloc: Global,
     line: &[u8],
@@ -115,6 +116,8 @@ pub(crate) fn produce<R: Read>(
     ensures made { ComesOf R.remaining (words_of line.now) input.old (result_map_both drawn_image (λ e. e) result) }
     ensures standard { IfOk result LiesInRows }
     ensures failed { IsTrue (is_failed_read result) → IsTrue (watched_failed input.new) }
+    ensures reads { IsReadFor input.old input.new result }
+    ensures unread { AreNoSteps (words_of line.now) → input.new ≡ input.old }
     ensures stops { watched_retried input.new ≡ watched_retried input.old }
 {
     let steps = match read_steps(alloc, line) {

@@ -1,8 +1,8 @@
 //! Images as arrays of rows, columns and channels, and back.
 #![tactic(auto, using(nd_array_core::proofs::Axes::known_axes))]
 
-ghost use Rattle.std.specs.Prelude.{◌≡◌, ◌<◌, ◌*◌, [], ◌∷◌, IfOk, OnOk, length, slice_index};
-ghost use Rattle.nd_shape_and_slice.specs.Shape.{HasCheckedSize};
+ghost use Rattle.std.specs.Prelude.{◌≡◌, ◌<◌, ◌*◌, [], ◌∷◌, IfOk, OnOk, OnErr, length, slice_index};
+ghost use Rattle.nd_shape_and_slice.specs.Shape.{HasCheckedSize, size_of};
 ghost use Rattle.nd_array_core.specs.Meaning.{meaning_of, shape_of, layout_strides};
 ghost use Rattle.nd_array_core.specs.reshape.RunSlices.{IsStandardArray};
 ghost use Rattle.nd_picture_text.specs.Images.{IsWholeImage, pixmap_of};
@@ -128,16 +128,19 @@ pub(crate) fn laid_out(alloc: Global, picture: Array3<u16>) -> Result<Array3<u16
 
 /// The samples of a picture, row by row, pixel by pixel, channel by channel.
 fn samples_of(alloc: Global, picture: &Array3<u16>) -> Result<Vec<u16>, NoMemory>
-    ensures { IfOk result (λ v. (p : Picture) → Shows (meaning_of picture.now) p → Lists v.items p) }
+    ensures samples { IfOk result (λ v. (p : Picture) → Shows (meaning_of picture.now) p → Lists v.items p) }
+    ensures refused { OnErr result (0 < size_of (shape_of picture.now)) }
 {
     elements_by_rank(picture);
     let samples = picture.to_vec(alloc)?;
     Ok(samples)
 }
 
-/// The image of a picture, in the format and with the full light of another header.
+/// The image of a picture, in the format and with the full light of another header. NoMemory if storage is refused, which a
+/// picture without samples doesn't ask for.
 pub fn image_of(alloc: Global, header: Header, picture: &Array3<u16>) -> Result<Image, NoMemory>
-    ensures { IfOk result (λ image. IsImageShown header (meaning_of picture.now) (pixmap_of image)) }
+    ensures image { IfOk result (λ image. IsImageShown header (meaning_of picture.now) (pixmap_of image)) }
+    ensures refused { OnErr result (0 < size_of (shape_of picture.now)) }
 {
     let (height, width, _channels) = picture.dim();
     let samples = samples_of(alloc, picture)?;

@@ -4,7 +4,7 @@
 ghost use Rattle.std.specs.Prelude.{◌≡◌, ◌<◌, ◌≤◌, ◌+◌, ◌^◌, length, slice_index, IfOk, OnErr, Err, IsTrue};
 ghost use Rattle.nd_array_core.specs.Meaning.{meaning_of, shape_of};
 ghost use Rattle.nd_picture.specs.Pictures.{ShowsAfter};
-ghost use Rattle.nd_picture.specs.Steps.{lie_within, fits, after, after_each, GivesAfter, Blurs};
+ghost use Rattle.nd_picture.specs.Steps.{lie_within, fits, after, after_each, GivesAfter, LacksForBlur};
 ghost use Rattle.nd_picture_text.specs.declared.step.Step.TheVariants.{Blur};
 ghost use Rattle.nd_picture.specs.declared.steps.StepError.TheVariants.{Memory};
 
@@ -77,7 +77,7 @@ pub fn take_step(
 }
 
 /// The picture after all steps, in order. Refused is the number of the first that can't be taken. Memory is taken for a
-/// blur alone.
+/// blur alone, behind steps that can all be taken.
 pub fn take_steps(
     alloc: Global,
     maxval: u16,
@@ -86,7 +86,7 @@ pub fn take_steps(
 ) -> Result<Array3<u16>, StepError>
     ensures ends { GivesAfter (λ a. meaning_of a) maxval steps.now (meaning_of picture) result }
     ensures after { IfOk result (λ a. ShowsAfter (after_each maxval steps.now) (meaning_of picture) (meaning_of a)) }
-    ensures memory { result ≡ Err Memory → Blurs steps.now }
+    ensures memory { result ≡ Err Memory → LacksForBlur maxval steps.now (meaning_of picture) }
 {
     let mut picture = picture;
     for nth in 0..steps.len() {

@@ -1,4 +1,5 @@
 pub mod Alike
+pub mod Emptied
 pub mod Joining
 pub mod Runs
 pub mod Stacked

@@ -50,6 +50,10 @@ abbrev pub concatenation_shape : {A : Type 0} → ℕ → List (Meaning A) → L
 concatenation_shape axis [] = []
 concatenation_shape axis (m ∷ ms) = slice_set m.shape axis (lengths_along axis (m ∷ ms))
 
+-- the lengths of the stack: those of the concatenation of the arrays with an axis of length 1 put in
+abbrev pub stack_shape : {A : Type 0} → ℕ → List (Meaning A) → List ℕ
+stack_shape axis ms = concatenation_shape axis (map (with_axis_inserted axis) ms)
+
 -- no arrays; no such axis; another number of axes, or other lengths than the first array's but along the axis; no checked
 -- size
 abbrev pub concatenation_refusal : {A : Type 0} → ℕ → List (Meaning A) → Option ErrorKind

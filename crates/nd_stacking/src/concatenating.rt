@@ -1,11 +1,12 @@
 //! Arrays behind one another along an axis that they have.
 
-ghost use Rattle.std.specs.Prelude.{◌≡◌, ◌<◌, None, IfOk, IfErr, OnOk, length, slice_set};
-ghost use Rattle.nd_shape_and_slice.specs.Shape.{HasCheckedSize};
+ghost use Rattle.std.specs.Prelude.{◌≡◌, ◌<◌, None, Err, IfOk, IfErr, OnOk, OnErr, length, slice_set};
+ghost use Rattle.nd_shape_and_slice.specs.Shape.{HasCheckedSize, size_of};
+ghost use Rattle.nd_array_core.specs.Laws.{NothingOutside};
 ghost use Rattle.nd_array_core.specs.Meaning.{meaning_of, shape_of};
 ghost use Rattle.nd_array_core.specs.growth.InTurn.{meanings_of, ClonesOfEachAreEqual};
 ghost use Rattle.nd_array_core.specs.reshape.RunSlices.{IsStandardArray};
-ghost use Rattle.nd_stacking.specs.Stacking.{concatenation_refusal, AreLengthsTogether, IsConcatenation, Tells};
+ghost use Rattle.nd_stacking.specs.Stacking.{concatenation_refusal, concatenation_shape, AreLengthsTogether, IsConcatenation, Tells};
 ghost use Rattle.nd_stacking.specs.Weaving.{size_before, size_behind, EachIs, IsByRank};
 
 use crate::fitting::concatenated_dim;
@@ -82,6 +83,36 @@ fn laid_by_runs<A: Clone + Drop, D: Dimension>(
     }
 }
 
+/// An array of a shape without elements, which takes no memory.
+pub(crate) fn without_elements<A: Drop, D: Dimension>(alloc: Global, dim: D) -> Array<A, D>
+    requires checked { HasCheckedSize (D.lengths dim) }
+    requires none { size_of (D.lengths dim) ≡ 0 }
+    ensures shape { shape_of result ≡ D.lengths dim }
+    ensures outside { NothingOutside (meaning_of result) }
+{
+    let array = match Array::from_shape_vec(dim, Vec::new(alloc)) {
+        Ok(array) => array,
+        Err(_) => unreachable!(),
+    };
+    nothing_outside(&array);
+    array
+}
+
+/// The same where the result has no elements: it takes no memory.
+fn emptied<A: Drop, D: Dimension>(
+    alloc: Global,
+    axis: Axis,
+    dim: D,
+    arrays: &[ArrayView<'_, A, D>],
+) -> Array<A, D>
+    requires lengths { AreLengthsTogether axis.0 (meanings_of arrays.now) (D.lengths dim) }
+    requires none { size_of (D.lengths dim) ≡ 0 }
+    ensures { IsConcatenation axis.0 (meanings_of arrays.now) (meaning_of result) }
+{
+    nothing_outside(&arrays[0]);
+    without_elements(alloc, dim)
+}
+
 /// The same of any arrays: run by run where each lies in row-major order and its runs are long, else array after array.
 pub(crate) fn joined<A: Clone + Drop, D: Dimension>(
     alloc: Global,
@@ -91,10 +122,14 @@ pub(crate) fn joined<A: Clone + Drop, D: Dimension>(
 ) -> Result<Array<A, D>, NoMemory>
     requires lengths { AreLengthsTogether axis.0 (meanings_of arrays.now) (D.lengths dim) }
     requires clones { ClonesOfEachAreEqual A.is_clone (meanings_of arrays.now) }
-    ensures { IfOk result (λ a. IsConcatenation axis.0 (meanings_of arrays.now) (meaning_of a)) }
+    ensures joined { IfOk result (λ a. IsConcatenation axis.0 (meanings_of arrays.now) (meaning_of a)) }
+    ensures refused { OnErr result (0 < size_of (D.lengths dim)) }
 {
     let count = dim.size();
-    if count == 0 || !are_standard(arrays) {
+    if count == 0 {
+        return Ok(emptied(alloc, axis, dim, arrays));
+    }
+    if !are_standard(arrays) {
         return appended(alloc, axis, dim, arrays);
     }
     match sizes_beside(dim.slice(), axis.0) {
@@ -108,8 +143,8 @@ pub(crate) fn joined<A: Clone + Drop, D: Dimension>(
 /// The arrays behind one another along an axis that they have, with clones of their elements: the first, followed by each
 /// next one. Unsupported without arrays; OutOfBounds where the first array has no such axis; IncompatibleShape where another
 /// has another number of axes, or other lengths than the first but along the axis; Overflow where the result has no checked
-/// size; NoMemory where storage or a clone is refused, and nothing else is against it. Nothing is broadcast. ndarray's
-/// `concatenate`.
+/// size; NoMemory where storage or a clone is refused, and nothing else is against it: a result without elements asks for none.
+/// Nothing is broadcast. ndarray's `concatenate`.
 pub fn concatenate<A: Clone + Drop, D: RemoveAxis>(
     alloc: Global,
     axis: Axis,
@@ -119,6 +154,7 @@ pub fn concatenate<A: Clone + Drop, D: RemoveAxis>(
     ensures joined { IfOk result (λ a. IsConcatenation axis.0 (meanings_of arrays.now) (meaning_of a)) }
     ensures fits { OnOk result (concatenation_refusal axis.0 (meanings_of arrays.now) ≡ None) }
     ensures refused { IfErr result (Tells (concatenation_refusal axis.0 (meanings_of arrays.now))) }
+    ensures memory { result ≡ Err ArrayError.NoMemory → 0 < size_of (concatenation_shape axis.0 (meanings_of arrays.now)) }
 {
     match concatenated_dim(arrays, axis.0) {
         Ok(dim) => match joined(alloc, axis, dim, arrays) {

@@ -1,13 +1,14 @@
 //! Arrays beside one another along a new axis.
 
-ghost use Rattle.std.specs.Prelude.{◌≡◌, ◌≤◌, ◌+◌, None, IfOk, IfErr, OnOk, length, map, IsTrue};
+ghost use Rattle.std.specs.Prelude.{◌≡◌, ◌<◌, ◌≤◌, ◌+◌, None, Err, IfOk, IfErr, OnOk, OnErr, length, map, IsTrue};
+ghost use Rattle.nd_shape_and_slice.specs.Shape.{size_of};
 ghost use Rattle.nd_array_core.specs.Laws.{with_axis_inserted};
 ghost use Rattle.nd_array_core.specs.Meaning.{meaning_of};
 ghost use Rattle.nd_array_core.specs.growth.InTurn.{meanings_of, ClonesOfEachAreEqual};
-ghost use Rattle.nd_stacking.specs.Stacking.{stack_refusal, HasRoomForAxis, IsStack, Tells};
+ghost use Rattle.nd_stacking.specs.Stacking.{stack_refusal, stack_shape, AreLengthsBeside, HasRoomForAxis, IsStack, Tells};
 ghost use Rattle.nd_stacking.specs.Weaving.{EachIs};
 
-use crate::concatenating::joined;
+use crate::concatenating::{joined, without_elements};
 use crate::fitting::stacked_dim;
 use nd_array_core::{Array, ArrayError, ArrayView};
 use nd_shape_and_slice::{Axis, Dimension, InsertAxis, NoMemory, RemoveAxis};
@@ -33,11 +34,33 @@ fn with_axis<'a, A, D: InsertAxis>(
     Ok(views)
 }
 
+/// The arrays beside one another along a new axis, where these are the lengths of the result.
+fn beside<A: Clone + Drop, D: InsertAxis>(
+    alloc: Global,
+    axis: Axis,
+    dim: D::Larger,
+    arrays: &[ArrayView<'_, A, D>],
+) -> Result<Array<A, D::Larger>, NoMemory>
+    requires lengths { AreLengthsBeside axis.0 (meanings_of arrays.now) (D.Larger.lengths dim) }
+    requires place { EachIs (λ m. axis.0 ≤ length m.shape) (meanings_of arrays.now) }
+    requires room { EachIs (λ m. IsTrue (D.Larger.has_axes (length m.shape + 1))) (meanings_of arrays.now) }
+    requires clones { ClonesOfEachAreEqual A.is_clone (meanings_of arrays.now) }
+    ensures stacked { IfOk result (λ a. IsStack axis.0 (meanings_of arrays.now) (meaning_of a)) }
+    ensures refused { OnErr result (0 < size_of (D.Larger.lengths dim)) }
+{
+    let count = dim.size();
+    if count == 0 {
+        return Ok(without_elements(alloc, dim));
+    }
+    let views = with_axis(alloc, axis, arrays)?;
+    joined(alloc, axis, dim, views.as_slice())
+}
+
 /// The arrays beside one another along a new axis, with clones of their elements: the first at its coordinate 0, and each
 /// next one at the next. Unsupported without arrays; OutOfBounds where the new axis lies above the number of the first
 /// array's axes; IncompatibleShape where another has another shape; Overflow where the result has no checked size; NoMemory
-/// where storage or a clone is refused, and nothing else is against it. `IxDyn` arrays have fewer than 32 axes. ndarray's
-/// `stack`.
+/// where storage or a clone is refused, and nothing else is against it: a result without elements asks for none. `IxDyn`
+/// arrays have fewer than 32 axes. ndarray's `stack`.
 pub fn stack<A: Clone + Drop, D: InsertAxis>(
     alloc: Global,
     axis: Axis,
@@ -50,16 +73,13 @@ where
     ensures stacked { IfOk result (λ a. IsStack axis.0 (meanings_of arrays.now) (meaning_of a)) }
     ensures fits { OnOk result (stack_refusal axis.0 (meanings_of arrays.now) ≡ None) }
     ensures refused { IfErr result (Tells (stack_refusal axis.0 (meanings_of arrays.now))) }
+    ensures memory { result ≡ Err ArrayError.NoMemory → 0 < size_of (stack_shape axis.0 (meanings_of arrays.now)) }
 {
     let dim = match stacked_dim(arrays, axis) {
         Ok(dim) => dim,
         Err(refused) => return Err(ArrayError::Shape(refused)),
     };
-    let views = match with_axis(alloc, axis, arrays) {
-        Ok(views) => views,
-        Err(_) => return Err(ArrayError::NoMemory),
-    };
-    match joined(alloc, axis, dim, views.as_slice()) {
+    match beside(alloc, axis, dim, arrays) {
         Ok(all) => Ok(all),
         Err(_) => Err(ArrayError::NoMemory),
     }

@@ -3,10 +3,10 @@ use Rattle.nd_array_core.specs.Meaning.{meaning_of}
 use Rattle.nd_picture.proofs.Shown.{sides_are}
 use Rattle.nd_picture.proofs.samples.image_of.Goals as goal
 
-pub returns : goal.returns
-returns c = λ p shows.
+pub returns-clause-image : goal.returns-clause-image
+returns-clause-image c = λ p shows.
     let sides = sides_are (meaning_of c.args.picture.now) p _ _ _ c.dim-height.ensures.lengths shows in
     record {
       headed = rw (sides.0, sides.1) refl;
-      samples = c.in_ok-samples.ensures p shows;
+      samples = c.in_ok-samples.ensures.samples p shows;
     }

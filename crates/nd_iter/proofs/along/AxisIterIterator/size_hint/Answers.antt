@@ -7,3 +7,6 @@ returns-clause-lower g c = grind (arith, length_given)
 
 pub returns-clause-upper : goal.returns-clause-upper
 returns-clause-upper g c = grind (arith, length_given)
+
+pub returns-clause-exact : goal.returns-clause-exact
+returns-clause-exact g c = grind (arith, length_given)

@@ -1,4 +1,4 @@
-use Rattle.std.proofs.Common.{length, ap, ◌∙◌, arith, sym}
+use Rattle.std.proofs.Common.{◌≡◌, ◌-◌, length, ap, ◌∙◌, arith, sym, Some}
 use Rattle.std.proofs.lemmas.Grind.{common_steps}
 use Rattle.nd_array_core.specs.Joined.{row_major_elements}
 use Rattle.nd_array_core.specs.Meaning.{meaning_of}
@@ -18,3 +18,13 @@ returns-clause-lower g c _ =
 
 pub returns-clause-upper : goal.returns-clause-upper
 returns-clause-upper g c = grind (arith, common_steps)
+
+pub returns-clause-exact : goal.returns-clause-exact
+returns-clause-exact g c =
+    let it = c.self.inside in
+    let m = meaning_of it.array.now in
+    let whole = indexed_count m c.elements_by_rank.ensures.count c.elements_by_rank.ensures.each in
+    let within = c.self.invariant.0.within in
+    let left = ap length (sym c.self.view_is) ∙ length_taken (row_major_elements (with_indexes m)) it.front it.back (omega (arith, whole, within)) in
+    let count : it.back - it.front ≡ length c.args.self.now = sym left in
+    (count, ap Some count)
