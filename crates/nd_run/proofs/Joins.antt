@@ -14,9 +14,9 @@ use Rattle.nd_array_core.specs.Meaning.{Meaning}
 use Rattle.nd_array_core.specs.growth.InTurn.{lengths_along, ClonesOfEachAreEqual}
 use Rattle.nd_stacking.specs.Stacking.{concatenation_refusal, concatenation_shape, is_checked_size, is_alike_but, stack_refusal, HasRoomForAxis}
 use Rattle.nd_stacking.proofs.Joining.{cause, false_from_not}
-use Rattle.nd_run.specs.declared.cause.Cause.{Cause}
-use Rattle.nd_run.specs.declared.cause.Cause.TheVariants as causes
-use Rattle.nd_run.specs.Steps.{first_failed}
+use Rattle.nd_steps.specs.declared.cause.Cause.{Cause}
+use Rattle.nd_steps.specs.declared.cause.Cause.TheVariants as causes
+use Rattle.nd_steps.specs.Steps.{first_failed}
 use Rattle.nd_run.specs.Fold.{concatenate_tests, stack_tests}
 
 passed : (t : Bool) (cause : Cause) (rest : Option Cause) → cond t rest (Some cause) ≡ None → (t ≡ true) × (rest ≡ None)
