@@ -6,7 +6,8 @@ on until a run meets no refusal. Refuses clones too, to every call that clones: 
 
 A script whose n-th request is refused must write exactly the replies of the calls before the one that made the request, then
 `out of memory`, with status 2; nothing before it where the request was made while the script was read or for the list of replies.
-The run that meets no refusal must give the answer. Which call a request belongs to is counted: see scripts.py. A call must
+The run that meets no refusal must give the answer. Which call a request belongs to is counted: see scripts.py. The program nd_script
+itself must write the same and end with the same status, with nothing refused and with its first request refused. A call must
 end as calls.txt says, all that stays must be as it says, and every number must be dropped once. Prints a table of the scripts and one of the
 calls, of those on a large table too, and last `N passed, M failed`. Nothing is proved here; it wants `rt`.
 """
@@ -93,6 +94,19 @@ def refuse_large(program, tests):
             test.judge(refused, ran)
 
 
+def told_by_main(program, tests):
+    """Where the program itself writes something else for a script, or ends with another status: with nothing refused, and where its first
+    request for memory is."""
+    texts, faults = {test.name: test.text for test in tests}, []
+    for refused in (10**9, 1):
+        ran = run_all(program, texts, refused)
+        for test in tests:
+            wanted = test.expected(min(refused, test.whole + 1))
+            if ran[test.name][:2] != wanted:
+                faults.append(f"{test.name}: wanted {wanted}\n    got {ran[test.name][:2]}")
+    return faults
+
+
 def main():
     kinds = {scripts.Script: scripts.tests(TOP), calls.Call: calls.tests(), large.Large: large.tests()}
     with tempfile.TemporaryDirectory() as folder, concurrent.futures.ThreadPoolExecutor() as pool:
@@ -100,13 +114,15 @@ def main():
         ways = {large.Large: refuse_large}
         for done in [pool.submit(ways.get(kind, refuse), program, tests) for kind, tests in kinds.items()]:
             done.result()
+        told = told_by_main(program.parent / "nd_script", kinds[scripts.Script])
     for kind, tests in kinds.items():
         print("", *kind.HEAD, sep="\n")
         for test in tests:
             print(test.row(), *(f"  {fault}" for fault in test.faults), sep="\n")
     missing = calls.without_a_row(TOP, kinds[calls.Call])
     print("\nCalls that may lack memory and have no row:", *missing or ["none"])
-    failed = [bool(test.faults) for tests in kinds.values() for test in tests] + [True] * len(missing)
+    print("\nScripts that nd_script itself ends otherwise:", *told or ["none"], sep="\n  ")
+    failed = [bool(test.faults) for tests in kinds.values() for test in tests] + [True] * len(missing) + [bool(told)]
     print(f"\n{failed.count(False)} passed, {failed.count(True)} failed")
     return 1 if any(failed) else 0
 

@@ -2,7 +2,8 @@
 
 Which call a request belongs to is counted on scripts that are cut. A script whose lines behind line k are left out makes the
 requests of its text, of its lines, of the list of replies and of its calls; one with a bad line in their place those of its text and
-its lines alone; one of blanks those of its text. All have as many bytes as the whole one, by blanks behind, or one byte more.
+its lines alone; one of blanks those of its text. All have as many bytes as the whole one, by blanks behind, or one byte more. A text
+without bytes must make no request, and a line that counts more than its words none but those of the lines before it.
 """
 
 BAD = b"x"
@@ -54,6 +55,10 @@ class Script:
         self.whole, self.of_text = requests("whole"), requests("blank")
         self.of_lines, self.of_list, self.of_calls = self.whole - self.of_text, 0, []
         if self.status:
+            if self.name.startswith("bad_count") and self.whole != requests("bad1"):
+                self.faults.append("a line whose count is bad makes a request")
+            if not self.text and self.whole:
+                self.faults.append("no text makes a request")
             return
         if self.of_text != requests("longer"):
             self.faults.append("one byte more takes another request: lengthen the script")

@@ -4,7 +4,7 @@ use Rattle.nd_array_core.specs.Meaning.{Meaning, meaning_of}
 use Rattle.nd_read.specs.declared.reader.fault.ScriptError.{ScriptError}
 use Rattle.nd_read.specs.declared.reader.fault.ScriptError.TheVariants.{BadLine, Memory}
 use Rattle.nd_read.specs.declared.reader.Script.{Script}
-use Rattle.nd_read.specs.declared.reader.lines.LineReader.{LineReader}
+use Rattle.nd_read.specs.declared.reader.lines.ScriptReader.{ScriptReader}
 use Rattle.nd_read.specs.Calls.{Asked, asked_calls, boxed}
 use Rattle.nd_read.specs.Grammar.{AreAll, IsStart, IsCall}
 use Rattle.nd_read.specs.Reading.{call_of, start_of, call_may_lack, start_may_lack}
@@ -68,8 +68,8 @@ MayLackInCalls lines =
     (front : List (List ℕ)) × (line : List ℕ) × (back : List (List ℕ)) × (lines ≡ front ++ (line ∷ back)) × (is_wordless (words_of line) ≡ false)
     × (calls : List (Asked ℤ)) × AreAll IsCall (worded_lines front) calls × CallMayLack line
 
--- memory was refused to a reader of lines
-abbrev pub lacked_memory : LineReader → Bool
+-- memory was refused to a reader of scripts
+abbrev pub lacked_memory : ScriptReader → Bool
 lacked_memory reader = reader.lacked
 
 -- ---- reading, line by line, up to the first bad one

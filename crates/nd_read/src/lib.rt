@@ -9,4 +9,4 @@ mod reader;
 
 pub use calls::{Act, Call, Holds, Question, Step};
 pub use reader::fault::ScriptError;
-pub use reader::{Held, Script, read_script};
+pub use reader::{Held, Script, ScriptReader, read_script};

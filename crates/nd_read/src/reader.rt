@@ -13,11 +13,10 @@ mod lines;
 
 use crate::calls::Call;
 use fault::ScriptError;
-use lines::LineReader;
+pub use lines::ScriptReader;
 use nd_array_core::Array;
 use nd_shape_and_slice::IxDyn;
 use nd_text::words::{is_wordless, split_line};
-use std::alloc::Global;
 
 /// What an array in a call of a text is held in: a script of many lines has room for the largest call in each.
 pub type Held = Box<Array<i64, IxDyn>>;
@@ -33,7 +32,7 @@ pub struct Script {
 
 /// The calls of a text. Its lines are numbered from this number on.
 fn calls(
-    reader: &mut LineReader,
+    reader: &mut ScriptReader,
     first: usize,
     text: &[u8],
 ) -> Result<Vec<Call<i64, Held>>, ScriptError>
@@ -60,7 +59,7 @@ fn calls(
 }
 
 /// The script of a text, read line by line up to the first bad one, or the first for which memory is refused.
-fn whole_script(reader: &mut LineReader, text: &[u8]) -> Result<Script, ScriptError>
+fn whole_script(reader: &mut ScriptReader, text: &[u8]) -> Result<Script, ScriptError>
     ensures read { GivesScript asked_script result (script_from 1 (lines_of text.now)) }
     ensures stopped { result ≡ Err ScriptError.Memory → MayLackIn (lines_of text.now) }
     // Once memory was refused that is the answer: no later line is found bad.
@@ -82,7 +81,7 @@ fn whole_script(reader: &mut LineReader, text: &[u8]) -> Result<Script, ScriptEr
 }
 
 /// The script of a text. No memory is taken once a line was found bad, and no line is read once memory was refused.
-pub fn read_script(alloc: Global, text: &[u8]) -> Result<Script, ScriptError>
+pub fn read_script(reader: &mut ScriptReader, text: &[u8]) -> Result<Script, ScriptError>
     // What is read is what the lines write.
     ensures found { IfOk result (λ s. IsScript (lines_of text.now) (asked_script s)) }
     // What the lines write is read, unless memory runs out.
@@ -93,6 +92,8 @@ pub fn read_script(alloc: Global, text: &[u8]) -> Result<Script, ScriptError>
     ensures bad_only { (n : ℕ) → IsFirstBad (lines_of text.now) n → GivesScript asked_script result (Err n) }
     // Memory runs out in a line for whose words some is taken, or that is a call; the lines before it are good.
     ensures memory { result ≡ Err ScriptError.Memory → MayLackIn (lines_of text.now) }
+    // Once memory was refused that is the answer, whatever the later lines are.
+    ensures lacked { lacked_memory reader.new ≡ (lacks_memory result || lacked_memory reader.old) }
 {
-    whole_script(&mut LineReader::new(alloc), text)
+    whole_script(reader, text)
 }

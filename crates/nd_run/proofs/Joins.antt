@@ -15,11 +15,11 @@ use Rattle.nd_array_core.specs.growth.InTurn.{lengths_along, ClonesOfEachAreEqua
 use Rattle.nd_stacking.specs.Stacking.{concatenation_refusal, concatenation_shape, is_checked_size, is_alike_but, stack_refusal, HasRoomForAxis}
 use Rattle.nd_stacking.proofs.Joining.{cause, false_from_not}
 use Rattle.nd_stacking.proofs.Stacked.{same_passes}
-use Rattle.nd_run.specs.declared.cause.Cause.{Cause}
-use Rattle.nd_run.specs.declared.cause.Cause.TheVariants as causes
-use Rattle.nd_run.specs.Steps.{first_failed}
+use Rattle.nd_steps.specs.declared.cause.Cause.{Cause}
+use Rattle.nd_steps.specs.declared.cause.Cause.TheVariants as causes
+use Rattle.nd_steps.specs.Steps.{first_failed}
 use Rattle.nd_run.specs.Fold.{concatenate_tests, stack_tests}
-use Rattle.nd_run.proofs.StepTests.{all_passed}
+use Rattle.nd_steps.proofs.StepTests.{all_passed}
 
 module _ {A : Type 0} (axis : ℕ) (m : Meaning A) (others : List (Meaning A)) where
   -- nothing is against the concatenation of an array and others that pass the tests

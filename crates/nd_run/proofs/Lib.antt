@@ -1,12 +1,6 @@
-pub mod StepTests
 pub mod Counts
 pub mod Driving
-pub mod Indexes
 pub mod FoldLemmas
 pub mod Gathers
 pub mod Runs
-pub mod PathLaws
-pub mod WritePaths
-pub mod WriteLaws
-pub mod PartLaws
 pub mod Joins

@@ -1,7 +1,6 @@
 -- What a list of calls answers, and what it leaves of an array's meaning: a fold over the calls. No view, borrow
 -- or storage occurs.
-use Rattle.std.specs.Prelude.{◌≡◌, ◌<◌, ◌+◌, ◌^◌, ◌==◌, ℕ, nat_lt, nat_le, slice_index, slice_set, length, vec_capacity, Bool, Option, None, is_some, true, false, not, ◌||◌, List, [], ◌∷◌, ◌++◌, Result, Ok, Err, ◌⊎◌, IsTrue}
-use Rattle.nd_shape_and_slice.specs.Shape.{in_box}
+use Rattle.std.specs.Prelude.{◌≡◌, ◌<◌, ◌+◌, ◌^◌, ◌==◌, ℕ, nat_lt, nat_le, slice_index, slice_set, length, vec_capacity, Bool, None, is_some, true, false, not, ◌||◌, List, [], ◌∷◌, ◌++◌, Result, Ok, Err, ◌⊎◌, IsTrue, map, nat_eq}
 use Rattle.nd_array_core.specs.Meaning.{Meaning, meaning_through}
 use Rattle.nd_shape_and_slice.specs.FirstIndex.{first_index}
 use Rattle.nd_array_core.specs.LastIndex.{last_index}
@@ -15,46 +14,21 @@ use Rattle.nd_array_core.specs.growth.Reserved.{added_elements}
 use Rattle.nd_stacking.specs.Stacking.{followed_by, is_alike_but}
 use Rattle.nd_read.specs.Calls.{AskedStep, Asking, AskShape, AskElements, AskElement, AskFirst, AskLast, AskEqual, AskCount, AskReshaped, Asked, Keeping, About, Writing, SplitWriting, Selecting, Removing, Reshaping, Appending, Reserving, Concatenating, Stacking}
 use Rattle.nd_run.specs.Replies.{Said, SaidDone, SaidRefused, SaidShape, SaidElements, SaidElement, SaidTruth, SaidNumber, said_reply, said_replies}
-use Rattle.std.specs.Prelude.{map, nat_eq}
 use Rattle.std.specs.Cmp.Lexicographic.{pointwise}
 use Rattle.std.specs.List.{count_by, insert, list_all}
 use Rattle.nd_shape_and_slice.specs.Shape.{nonzero_product, size_of}
 use Rattle.nd_array_core.specs.along.Selected.{selected_shape, selected_index}
 use Rattle.nd_array_core.specs.along.Removed.{removed_shape, removed_index}
 use Rattle.nd_array_core.specs.reshape.Serving.{regrouped_meaning}
-use Rattle.nd_run.specs.Steps.{Test, first_failed, has_axis, size_test, has_coordinate, tests_of, keep_tests, refusal, unless, step_shape, step_index, shape_along, index_along}
-use Rattle.nd_run.specs.Acts.{path_tests, meaning_at_end, write_tests, written, split_tests, split_written, clones}
+use Rattle.nd_steps.specs.Steps.{Test, first_failed, number_of, has_axis, size_test, has_coordinate, tests_of, keep_tests, unless, shape_along}
+use Rattle.nd_steps.specs.Paths.{step_meaning}
+use Rattle.nd_steps.specs.Room.{reserve_tests}
+use Rattle.nd_steps.specs.Acts.{path_tests, meaning_at_end, write_tests, written, split_tests, split_written, clones}
 use Rattle.nd_run.specs.declared.replies.Reply.{Reply}
 use Rattle.nd_run.specs.declared.run.RunFault.{RunFault}
 use Rattle.nd_run.specs.declared.run.RunFault.TheVariants as faults
-use Rattle.nd_run.specs.declared.cause.Cause.{Cause}
-use Rattle.nd_run.specs.declared.cause.Cause.TheVariants as causes
-
--- what is seen after a step
-abbrev pub step_meaning : {A : Type 0} → AskedStep → Meaning A → Meaning A
-step_meaning step m = meaning_through (step_shape step m.shape) (step_index step m.shape) m
-
--- that, or the first cause against the step
-abbrev pub step_result : {A : Type 0} → AskedStep → Meaning A → Result (Meaning A) Cause
-step_result step m = unless (refusal step m.shape) (step_meaning step m)
-
--- what comes after what went well
-abbrev pub and_then : {X Y E : Type 0} → Result X E → (X → Result Y E) → Result Y E
-and_then (Ok x) f = f x
-and_then (Err e) f = Err e
-
--- a path of steps, each taken after the one before, or the cause against its first refused step, where these are the
--- tests of a step
-abbrev pub path_result : {A : Type 0} → (AskedStep → List ℕ → List Test) → List AskedStep → Meaning A → Result (Meaning A) Cause
-path_result tests [] m = Ok m
-path_result tests (step ∷ steps) m = and_then (unless (first_failed (tests step m.shape)) (step_meaning step m)) (path_result tests steps)
-
--- a path's meaning by the composition of its steps' maps: each index at its end names one at its start, and the same
--- element
-abbrev pub LeadsAlong : {A : Type 0} → List AskedStep → Meaning A → Meaning A → Type 0
-LeadsAlong path m n =
-    (n.shape ≡ shape_along path m.shape)
-    × ((i : List ℕ) → IsTrue (in_box n.shape i) → IsTrue (in_box m.shape (index_along path m.shape i)) × (n.at i ≡ m.at (index_along path m.shape i)))
+use Rattle.nd_steps.specs.declared.cause.Cause.{Cause}
+use Rattle.nd_steps.specs.declared.cause.Cause.TheVariants as causes
 
 -- the answer to a question, where elements compare by eq
 abbrev pub answer_to : {A : Type 0} → (A → A → Bool) → Asking A → Meaning A → Said A
@@ -66,17 +40,6 @@ answer_to eq AskLast m = SaidElement (m.at (last_index m.shape))
 answer_to eq (AskEqual other) m = SaidTruth (equal_meanings eq m other)
 answer_to eq (AskCount x) m = SaidNumber (count_by (λ y. eq y x) (row_major_elements m))
 answer_to eq (AskReshaped to order) m = SaidElements to (row_major_elements (regrouped_meaning order to m))
-
--- the number of a cause in a reply
-abbrev pub number_of : Cause → ℕ
-number_of causes.Axis = 1
-number_of causes.Index = 2
-number_of causes.Slice = 3
-number_of causes.Permutation = 4
-number_of causes.Shape = 5
-number_of causes.Overflow = 6
-number_of causes.TooManyAxes = 7
-number_of causes.Broadcast = 8
 
 -- ---- a call: its tests in order, what it does where they all pass, and whether it may lack memory then
 
@@ -100,10 +63,6 @@ answers_in_memory (AskEqual other) m = false
 answers_in_memory (AskCount x) m = false
 answers_in_memory _ m = true
 
--- the first cause against a path that is only looked along
-abbrev pub look_refusal : List AskedStep → List ℕ → Option Cause
-look_refusal path ns = first_failed (path_tests tests_of path ns)
-
 -- the tests of the path, and then those of the question at its end
 abbrev pub ask_tests : {A : Type 0} → List AskedStep → Asking A → List ℕ → List Test
 ask_tests path question ns = path_tests tests_of path ns ++ question_tests question (shape_along path ns)
@@ -120,10 +79,6 @@ abbrev pub append_tests : ℕ → List ℕ → List ℕ → List Test
 append_tests axis ms ns =
     (nat_lt 0 (length ns), causes.Shape) ∷ has_axis axis ns ∷ (stretches ms (shape_behind ns ms axis), causes.Shape)
     ∷ size_test (concatenated_shape ns ms axis) ∷ []
-
--- the tests of room for more lengths of an axis
-abbrev pub reserve_tests : ℕ → ℕ → List ℕ → List Test
-reserve_tests axis additional ns = has_axis axis ns ∷ size_test (slice_set ns axis (slice_index ns axis + additional)) ∷ []
 
 -- how many lengths of an axis an array of these lengths and others have together, and the lengths once they are behind it
 abbrev pub lengths_with : {A : Type 0} → ℕ → List (Meaning A) → List ℕ → ℕ

@@ -1,14 +1,10 @@
 pub mod Replies
-pub mod Steps
-pub mod Acts
-pub mod Written
 pub mod Meaning
 pub mod Arrays
 pub mod Endings
 pub mod Driven
 pub mod Text
 pub mod Fold
-pub mod Laws
 pub use Rattle.nd_text.specs.Watched
 pub use Rattle.nd_text.specs.Puts
 pub use Rattle.nd_text.specs.Words
@@ -18,3 +14,7 @@ pub use Rattle.nd_read.specs.Calls
 pub use Rattle.nd_read.specs.Grammar
 pub use Rattle.nd_read.specs.Reading
 pub use Rattle.nd_read.specs.Script
+pub use Rattle.nd_steps.specs.Steps
+pub use Rattle.nd_steps.specs.Acts
+pub use Rattle.nd_steps.specs.Paths
+pub use Rattle.nd_steps.specs.Written

@@ -1,5 +1,7 @@
 -- Replies without where they lie in memory.
-use Rattle.std.specs.Prelude.{ℕ, Bool, List, map, Option}
+use Rattle.std.specs.Prelude.{ℕ, Bool, List, map, Option, None, Some}
+use Rattle.nd_steps.specs.declared.cause.Cause.{Cause}
+use Rattle.nd_steps.specs.Steps.{number_of}
 use Rattle.nd_run.specs.declared.replies.Reply.{Reply}
 use Rattle.nd_run.specs.declared.replies.Reply.TheVariants as replies
 
@@ -25,3 +27,8 @@ said_reply (replies.Number number) = SaidNumber number
 -- what is said by a list of replies
 abbrev pub said_replies : {A : Type 0} → List (Reply A) → List (Said A)
 said_replies replies = map said_reply replies
+
+-- the reply to a call that answers no question, by the cause against it
+abbrev pub said_unless : {A : Type 0} → Option Cause → Said A
+said_unless None = SaidDone
+said_unless (Some cause) = SaidRefused (number_of cause)

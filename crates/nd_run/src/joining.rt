@@ -6,20 +6,20 @@ ghost use Rattle.std.specs.List.{insert, list_all};
 ghost use Rattle.nd_array_core.specs.Meaning.{meaning_of, shape_of};
 ghost use Rattle.nd_array_core.specs.growth.InTurn.{meanings_of};
 ghost use Rattle.nd_stacking.specs.Stacking.{followed_by, is_alike_but};
-ghost use Rattle.nd_run.specs.Steps.{Refuses, first_failed, size_test};
+ghost use Rattle.nd_steps.specs.Steps.{Refuses, first_failed, size_test};
 ghost use Rattle.nd_run.specs.Arrays.{CarriesOut};
 ghost use Rattle.nd_read.specs.Calls.{Concatenating, Stacking};
 ghost use Rattle.nd_run.specs.Fold.{concatenate_tests, joined_shape, lengths_with, stack_of, stack_tests};
 ghost use Rattle.nd_array_core.specs.base.Fresh.{EachCloneIsEqual};
 
-use crate::cause::Cause;
 use crate::replies::Reply;
-use crate::steps::check;
 use nd_array_core::{Array, ArrayError, ArrayView};
 use nd_read::Holds;
 use nd_shape_and_slice::{
     Axis, Dimension, InsertAxis, IxDyn, MAX_AXES, RemoveAxis, size_of_shape_checked,
 };
+use nd_steps::Cause;
+use nd_steps::steps::check;
 use std::alloc::{AllocError, Global};
 
 /// Whether another has as many axes as the array, and the same lengths, once the axis has this one.

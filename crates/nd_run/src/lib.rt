@@ -5,7 +5,6 @@
 #![tactic(auto)]
 
 // What callers use.
-mod cause;
 pub mod drive;
 pub mod laws;
 mod replies;
@@ -13,14 +12,13 @@ pub mod run;
 
 // Carrying out a call.
 mod joining;
-mod steps;
 mod write;
 
 // Writing what is due at the end.
 mod outcome;
 mod printer;
 
-pub use cause::Cause;
 pub use nd_read::{Act, Call, Holds, Question, Step};
+pub use nd_steps::Cause;
 pub use nd_text::{Flushes, Watched};
 pub use replies::Reply;

@@ -13,7 +13,7 @@ use crate::printer::put_replies;
 use crate::replies::Reply;
 use itoa::Buffer;
 use nd_array_core::Array;
-use nd_read::{Script, ScriptError, read_script};
+use nd_read::{Script, ScriptError, ScriptReader, read_script};
 use nd_shape_and_slice::{IxDyn, MAX_AXES, index_of_rank};
 use nd_text::input::{InputError, read_input};
 use nd_text::printing::{finish, put, put_list, put_number, put_numbers};
@@ -43,7 +43,7 @@ pub fn load<R: Read>(alloc: Global, input: &mut Watched<R>) -> Result<Script, Ou
         Err(InputError::Failed) => return Err(Outcome::ReadFailed),
         Err(InputError::Memory) => return Err(Outcome::Memory(Vec::new(alloc))),
     };
-    match read_script(alloc, &text) {
+    match read_script(&mut ScriptReader::new(alloc), &text) {
         Ok(script) => Ok(script),
         Err(ScriptError::BadLine(number)) => Err(Outcome::BadLine(number)),
         Err(ScriptError::Memory) => Err(Outcome::Memory(Vec::new(alloc))),

@@ -1,5 +1,10 @@
 //! What calls return.
 
+ghost use Rattle.std.specs.Prelude.{◌≡◌};
+ghost use Rattle.nd_run.specs.Replies.{said_reply, said_unless};
+
+use nd_steps::Cause;
+
 /// What a call returns.
 #[derive(Debug, Drop)]
 pub enum Reply<A> {
@@ -17,4 +22,14 @@ pub enum Reply<A> {
     Truth(bool),
     /// How many there are.
     Number(usize),
+}
+
+/// The reply to a call that answers no question, by the cause against it.
+pub(crate) fn done_unless<A>(refused: Option<Cause>) -> Reply<A>
+    ensures { said_reply result ≡ said_unless refused }
+{
+    match refused {
+        None => Reply::Done,
+        Some(cause) => Reply::Refused(cause.number()),
+    }
 }

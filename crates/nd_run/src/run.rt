@@ -4,43 +4,27 @@ ghost use Rattle.std.specs.Prelude.{◌≡◌, ◌≤◌, nat_lt, map, length, v
 ghost use Rattle.std.specs.Option.{option_copied};
 ghost use Rattle.nd_array_core.specs.Meaning.{meaning_of, shape_of};
 ghost use Rattle.std.specs.List.{count_by, list_all};
-ghost use Rattle.nd_run.specs.Steps.{Refuses, first_failed};
+ghost use Rattle.nd_steps.specs.Steps.{Refuses, first_failed};
 ghost use Rattle.nd_run.specs.Arrays.{AnswerLacksOnlyMemory, CarriesOut, IsAnswerTo};
 ghost use Rattle.nd_read.specs.Calls.{asked_call, asked_calls, asked_step, asking, Keeping, About, Selecting, Removing, Reshaping, Appending, Reserving, AskReshaped};
 ghost use Rattle.nd_run.specs.Replies.{said_reply, SaidElement};
-ghost use Rattle.nd_run.specs.Fold.{LeadsAlong, look_refusal, select_tests, reshape_tests, append_tests, AreRepliesTo, end_of, IsCarriedOut, StoppedAt, StoppedBefore, KeepsReplies};
-ghost use Rattle.nd_array_core.specs.growth.Reserved.{HasRoomAlong};
+ghost use Rattle.nd_run.specs.Fold.{select_tests, reshape_tests, append_tests, AreRepliesTo, end_of, IsCarriedOut, StoppedAt, StoppedBefore, KeepsReplies};
 ghost use Rattle.nd_array_core.specs.Laws.{with_axis_inserted};
 ghost use Rattle.nd_array_core.specs.Equality.{equal_meanings};
 ghost use Rattle.nd_array_core.specs.Joined.{row_major_elements};
 ghost use Rattle.nd_array_core.specs.base.Fresh.{EachCloneIsEqual};
 
-use crate::cause::Cause;
 use crate::joining::{concatenate, stack};
-use crate::laws::paths_lead_along;
-use crate::replies::Reply;
-use crate::steps::{advance, check, check_index, keep_refusal, take_step};
+use crate::replies::{Reply, done_unless};
 use crate::write::{write_parts, write_through};
 use nd_array_core::laws::{nothing_outside, shapes_behind};
 use nd_array_core::{Array, ArrayBase, ArrayError, ArrayView, Data, fits_behind};
 use nd_read::{Call, Holds, Question, Step};
 use nd_shape_and_slice::{Axis, Dimension, IxDyn, MAX_AXES, Order, size_of_shape_checked};
+use nd_steps::steps::{check, check_index, follow_path, keep_refusal, take_step};
+use nd_steps::{Cause, make_room};
 use std::alloc::{AllocError, Global};
 use std::mem;
-
-/// Moves a view along a path of steps, or returns the cause of a refusal.
-fn follow_path<A>(view: &mut ArrayView<'_, A, IxDyn>, path: &[Step]) -> Option<Cause>
-    ensures refused { result ≡ look_refusal (map asked_step path.now) (shape_of view.old) }
-    ensures along { result ≡ None → LeadsAlong (map asked_step path.now) (meaning_of view.old) (meaning_of view.new) }
-{
-    for step in path {
-        if let Some(cause) = advance(view, step) {
-            return Some(cause);
-        }
-    }
-    paths_lead_along::<A>();
-    None
-}
 
 /// The elements in row-major order.
 fn elements<A: Clone + Drop>(
@@ -338,18 +322,10 @@ fn reserve<A: Eq + Drop>(
     axis: usize,
     additional: usize,
 ) -> Result<Reply<A>, AllocError>
-    ensures carried { CarriesOut A.eq (Reserving axis additional) array.old array.new result }
-    ensures room { IfOk result (λ reply. reply ≡ Reply.Done → HasRoomAlong axis additional array.new) }
-    ensures enough { OnErr result (¬ HasRoomAlong axis additional array.old) }
+    ensures { CarriesOut A.eq (Reserving axis additional) array.old array.new result }
 {
-    if axis >= array.ndim() {
-        return Ok(Reply::Refused(Cause::Axis.number()));
-    }
-    match array.reserve(Axis(axis), additional) {
-        Ok(()) => Ok(Reply::Done),
-        Err(ArrayError::Shape(_)) => Ok(Reply::Refused(Cause::Overflow.number())),
-        Err(ArrayError::NoMemory) => Err(AllocError),
-    }
+    let refused = make_room(array, axis, additional)?;
+    Ok(done_unless(refused))
 }
 
 /// Carries out one call.

@@ -1,280 +1,16 @@
-//! Acts on an array's elements, through a path of steps or on the two parts of a split.
+//! Acts on an array's elements, as calls: at the end of a path of steps, or on the two parts of a split.
 
-ghost use Rattle.std.specs.Prelude.{◌≡◌, map, None, OnErr, OnOk, IsTrue};
-ghost use Rattle.nd_array_core.specs.Meaning.{shape_of, meaning_of};
-ghost use Rattle.nd_array_core.specs.base.Writes.{KeepsFrame};
-ghost use Rattle.nd_paths.specs.Paths.{LiesWith, EndsAlong};
-ghost use Rattle.nd_run.specs.Arrays.{ActsOnBoth, CarriesOut, HasElements, WritesAlong};
-ghost use Rattle.nd_read.specs.Calls.{asked_split, asked_step, acting, Writing};
-ghost use Rattle.nd_run.specs.Replies.{said_reply};
-ghost use Rattle.nd_run.specs.Steps.{Refuses};
-ghost use Rattle.nd_run.specs.Acts.{act_refusal, acted_elements, clones, path_refusal, point_refusal};
-ghost use Rattle.nd_run.specs.Written.{written_path, Acts, ActsOnTwo, as_one, said_unless};
+ghost use Rattle.std.specs.Prelude.{map};
 ghost use Rattle.nd_array_core.specs.base.Fresh.{EachCloneIsEqual};
+ghost use Rattle.nd_read.specs.Calls.{asked_split, asked_step, acting, Writing};
+ghost use Rattle.nd_run.specs.Arrays.{CarriesOut};
 
-use crate::cause::Cause;
-use crate::laws::paths_lead_along;
-use crate::replies::Reply;
-use crate::steps::{change_axes, changes_axes, check, keep_refusal, take_step};
-use nd_array_core::laws::{elements_have_places, nothing_outside};
-use nd_array_core::{Array, ArrayBase, Data, DataMut};
-use nd_paths::{ArrayPath, ArrayTask, PairOfArraysTask, with_halves_mut, with_path_mut};
+use crate::replies::{Reply, done_unless};
+use nd_array_core::Array;
 use nd_read::{Act, Holds, Step};
-use nd_shape_and_slice::{Axis, IxDyn};
+use nd_shape_and_slice::IxDyn;
+use nd_steps::{act_along, act_on_parts};
 use std::alloc::AllocError;
-
-/// Follows a path that is to be written through, to its end or to the first refused step.
-fn go_along<S: Data>(
-    array: ArrayBase<S, IxDyn>,
-    path: &[Step],
-) -> (ArrayBase<S, IxDyn>, Option<Cause>)
-    ensures refused { result.1 ≡ path_refusal (map asked_step path.now) (shape_of array) }
-    ensures storage { LiesWith array result.0 }
-    ensures end { result.1 ≡ None → EndsAlong (written_path (map asked_step path.now)) array result.0 }
-{
-    let mut array = array;
-    for step in path {
-        let refused = keep_refusal(array.shape(), step);
-        if refused.is_some() {
-            return (array, refused);
-        }
-        if changes_axes(step) {
-            change_axes(&mut array, step);
-            continue;
-        }
-        array = take_step(array, step);
-    }
-    paths_lead_along::<usize>();
-    elements_have_places(&array);
-    (array, None)
-}
-
-/// A path that is to be written through.
-#[derive(Drop)]
-struct WritePath<'p> {
-    path: &'p [Step],
-}
-
-impl<'p> ArrayPath for WritePath<'p> {
-    type Refusal = Cause;
-
-    ghost leads = { λ way. written_path (map asked_step way.path.now) };
-
-    fn follow<S: Data>(self, array: ArrayBase<S, IxDyn>) -> (ArrayBase<S, IxDyn>, Option<Cause>)
-        ensures refused { result.1 ≡ path_refusal (map asked_step self.entry.path.now) (shape_of array) }
-        ensures storage { LiesWith array result.0 }
-        ensures end { result.1 ≡ None → EndsAlong (written_path (map asked_step self.entry.path.now)) array result.0 }
-    {
-        go_along(array, self.path)
-    }
-}
-
-/// An act on an array's elements.
-fn check_act<S: Data, T: Holds<S::Elem>>(
-    array: &ArrayBase<S, IxDyn>,
-    act: &Act<S::Elem, T>,
-) -> Result<(), Cause>
-    ensures { Refuses result (act_refusal (acting T.held act.now) (shape_of array.now)) }
-{
-    match act {
-        Act::Fill(_) => Ok(()),
-        Act::Assign(other) => check(
-            other.array().broadcast(array.raw_dim()).is_some(),
-            Cause::Broadcast,
-        ),
-        Act::Set(index, _) => check(array.get(index.as_slice()).is_some(), Cause::Index),
-        Act::Swap(a, b) => {
-            check(array.get(a.as_slice()).is_some(), Cause::Index)?;
-            check(array.get(b.as_slice()).is_some(), Cause::Index)
-        }
-    }
-}
-
-/// The first cause for which one refuses such an act.
-fn act_refusal<S: Data, T: Holds<S::Elem>>(
-    array: &ArrayBase<S, IxDyn>,
-    act: &Act<S::Elem, T>,
-) -> Option<Cause>
-    ensures { result ≡ act_refusal (acting T.held act.now) (shape_of array.now) }
-{
-    check_act(array, act).err()
-}
-
-/// Does an act that was checked before.
-fn do_act<S: DataMut, T: Holds<S::Elem>>(
-    array: &mut ArrayBase<S, IxDyn>,
-    act: &Act<S::Elem, T>,
-) -> Result<(), AllocError>
-where
-    S::Elem: Clone + Drop,
-    requires clone { EachCloneIsEqual S.Elem.is_clone }
-    requires fits { act_refusal (acting T.held act.now) (shape_of array.old) ≡ None }
-    ensures frame { KeepsFrame S.frame array.old array.new }
-    ensures elements { OnOk result (HasElements array.new (acted_elements (acting T.held act.now) (meaning_of array.old))) }
-    ensures memory { OnErr result (IsTrue (clones (acting T.held act.now))) }
-{
-    match act {
-        Act::Fill(value) => array.fill(value.clone()?).map_err(|_| AllocError),
-        Act::Assign(other) => array.assign(other.array()).map_err(|_| AllocError),
-        Act::Set(index, value) => {
-            let value = value.clone()?;
-            let _ = array.replace(index.as_slice(), value);
-            Ok(())
-        }
-        Act::Swap(a, b) => {
-            array.swap(a.as_slice(), b.as_slice());
-            Ok(())
-        }
-    }
-}
-
-/// Acts on an array, or returns the cause of a refusal.
-fn act_on<S: DataMut, T: Holds<S::Elem>>(
-    array: &mut ArrayBase<S, IxDyn>,
-    act: &Act<S::Elem, T>,
-) -> Result<Option<Cause>, AllocError>
-where
-    S::Elem: Clone + Drop,
-    requires { EachCloneIsEqual S.Elem.is_clone }
-    ensures frame { KeepsFrame S.frame array.old array.new }
-    ensures done { Acts (acting T.held act.now) (meaning_of array.old) (meaning_of array.new) result }
-{
-    let refused = act_refusal(array, act);
-    if refused.is_some() {
-        return Ok(refused);
-    }
-    match do_act(array, act) {
-        Ok(()) => Ok(None),
-        Err(error) => Err(error),
-    }
-}
-
-/// An act, as a task.
-#[derive(Drop)]
-struct ActOn<'p, A, T> {
-    act: &'p Act<A, T>,
-}
-
-impl<'p, A: Clone + Drop, T: Holds<A>> ArrayTask<A> for ActOn<'p, A, T> {
-    type Answer = Result<Option<Cause>, AllocError>;
-
-    ghost pre = { λ _ _. EachCloneIsEqual A.is_clone };
-
-    ghost post = { λ task m n answer. Acts (acting T.held task.act.now) m n answer };
-
-    fn run<S: DataMut<Elem = A>>(
-        self,
-        array: &mut ArrayBase<S, IxDyn>,
-    ) -> Result<Option<Cause>, AllocError>
-        requires { EachCloneIsEqual A.is_clone }
-        ensures frame { KeepsFrame S.frame array.old array.new }
-        ensures done { Acts (acting T.held self.entry.act.now) (meaning_of array.old) (meaning_of array.new) result }
-    {
-        act_on(array, self.act)
-    }
-}
-
-/// Acts on two arrays, or returns the cause of a refusal. Both acts are checked before either changes anything.
-fn act_on_both<S: DataMut, T: Holds<S::Elem>>(
-    lower: &mut ArrayBase<S, IxDyn>,
-    upper: &mut ArrayBase<S, IxDyn>,
-    first: &Act<S::Elem, T>,
-    second: &Act<S::Elem, T>,
-) -> Result<Option<Cause>, AllocError>
-where
-    S::Elem: Clone + Drop,
-    requires { EachCloneIsEqual S.Elem.is_clone }
-    ensures lower_frame { KeepsFrame S.frame lower.old lower.new }
-    ensures upper_frame { KeepsFrame S.frame upper.old upper.new }
-    ensures done { ActsOnBoth T.held first.now second.now lower.old upper.old lower.new upper.new result }
-{
-    let refused = act_refusal(lower, first);
-    if refused.is_some() {
-        return Ok(refused);
-    }
-    let refused = act_refusal(upper, second);
-    if refused.is_some() {
-        return Ok(refused);
-    }
-    do_act(lower, first)?;
-    do_act(upper, second)?;
-    Ok(None)
-}
-
-/// An act on each of two parts, as a task.
-#[derive(Drop)]
-struct ActOnParts<'p, A, T> {
-    first: &'p Act<A, T>,
-    second: &'p Act<A, T>,
-}
-
-impl<'p, A: Clone + Drop, T: Holds<A>> PairOfArraysTask<A> for ActOnParts<'p, A, T> {
-    type Answer = Result<Option<Cause>, AllocError>;
-
-    ghost pre = { λ _ _ _. EachCloneIsEqual A.is_clone };
-
-    ghost post = { λ task m m' n n' answer. ActsOnTwo (acting T.held task.first.now) (acting T.held task.second.now) m m' n n' answer };
-
-    fn run<S: DataMut<Elem = A>>(
-        self,
-        one: &mut ArrayBase<S, IxDyn>,
-        two: &mut ArrayBase<S, IxDyn>,
-    ) -> Result<Option<Cause>, AllocError>
-        requires { EachCloneIsEqual A.is_clone }
-        ensures one_frame { KeepsFrame S.frame one.old one.new }
-        ensures two_frame { KeepsFrame S.frame two.old two.new }
-        ensures done { ActsOnBoth T.held self.entry.first.now self.entry.second.now one.old two.old one.new two.new result }
-    {
-        act_on_both(one, two, self.first, self.second)
-    }
-}
-
-/// The cause for which one refuses a split of an array of these lengths.
-fn point_refusal(shape: &[usize], axis: usize, index: usize) -> Option<Cause>
-    ensures { result ≡ point_refusal axis index shape.now }
-{
-    if axis >= shape.len() {
-        return Some(Cause::Axis);
-    }
-    if index > shape[axis] {
-        return Some(Cause::Index);
-    }
-    None
-}
-
-/// The reply to a write.
-fn write_reply<A>(refused: Option<Cause>) -> Reply<A>
-    ensures { said_reply result ≡ said_unless refused }
-{
-    match refused {
-        None => Reply::Done,
-        Some(cause) => Reply::Refused(cause.number()),
-    }
-}
-
-/// An answer at the end of a path, or the cause for which the path is refused, as one.
-fn as_one(
-    done: Result<Result<Option<Cause>, AllocError>, Cause>,
-) -> Result<Option<Cause>, AllocError>
-    ensures { result ≡ as_one done }
-{
-    match done {
-        Ok(answer) => answer,
-        Err(cause) => Ok(Some(cause)),
-    }
-}
-
-/// Follows a path and acts at its end, or returns the cause of a refusal.
-fn act_along<A: Clone + Drop, T: Holds<A>>(
-    array: &mut Array<A, IxDyn>,
-    path: &[Step],
-    act: &Act<A, T>,
-) -> Result<Option<Cause>, AllocError>
-    requires { EachCloneIsEqual A.is_clone }
-    ensures { WritesAlong (map asked_step path.now) (acting T.held act.now) array.old array.new result }
-{
-    as_one(with_path_mut(array, WritePath { path }, ActOn { act }))
-}
 
 /// An act at the end of a path. It changes the array's own elements, and nothing where a step or the act is refused.
 pub fn write_through<A: Clone + Eq + Drop, T: Holds<A>>(
@@ -286,7 +22,7 @@ pub fn write_through<A: Clone + Eq + Drop, T: Holds<A>>(
     ensures { CarriesOut A.eq (Writing (map asked_step path.now) (acting T.held act.now)) array.old array.new result }
 {
     let refused = act_along(array, path, act)?;
-    Ok(write_reply(refused))
+    Ok(done_unless(refused))
 }
 
 /// An act on each part of the array split along an axis. Both are checked before either changes anything.
@@ -300,12 +36,6 @@ pub fn write_parts<A: Clone + Eq + Drop, T: Holds<A>>(
     requires { EachCloneIsEqual A.is_clone }
     ensures { CarriesOut A.eq (asked_split T.held axis index first.now second.now) array.old array.new result }
 {
-    let refused = point_refusal(array.shape(), axis, index);
-    if refused.is_some() {
-        return Ok(write_reply(refused));
-    }
-    nothing_outside(array);
-    let refused = with_halves_mut(array, Axis(axis), index, ActOnParts { first, second })?;
-    nothing_outside(array);
-    Ok(write_reply(refused))
+    let refused = act_on_parts(array, axis, index, first, second)?;
+    Ok(done_unless(refused))
 }

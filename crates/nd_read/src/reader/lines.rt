@@ -1,4 +1,4 @@
-//! Lines read one by one, by what remembers whether memory was refused for one of them.
+//! What scripts are read by, line by line. It remembers whether memory was refused for one of them.
 
 ghost use Rattle.std.specs.Prelude.{◌≡◌, ◌||◌, ◌++◌, ◌∷◌, [], false, OnOk, IfErr, IsTrue};
 ghost use Rattle.nd_array_core.specs.Meaning.{meaning_of};
@@ -12,21 +12,30 @@ use nd_array_core::Array;
 use nd_shape_and_slice::IxDyn;
 use std::alloc::Global;
 
-/// What lines are read by. It remembers whether memory was refused.
+/// What scripts are read by. It takes the memory for each line, and remembers whether some was refused, which no contract
+/// over a text alone can tell.
 #[derive(Drop)]
-pub struct LineReader {
+pub struct ScriptReader {
     alloc: Global,
     lacked: bool,
 }
 
-impl LineReader {
-    pub fn new(alloc: Global) -> LineReader
+impl ScriptReader {
+    /// A reader that was refused no memory yet.
+    pub fn new(alloc: Global) -> ScriptReader
         ensures { lacked_memory result ≡ false }
     {
-        LineReader {
+        ScriptReader {
             alloc,
             lacked: false,
         }
+    }
+
+    /// Whether it was refused memory.
+    pub fn lacked_memory(&self) -> bool
+        ensures { result ≡ lacked_memory self.now }
+    {
+        self.lacked
     }
 
     /// Notes that memory was refused.
@@ -39,7 +48,11 @@ impl LineReader {
     }
 
     /// The array that a line of this number starts a script with.
-    pub fn start(&mut self, number: usize, line: &[u8]) -> Result<Array<i64, IxDyn>, ScriptError>
+    pub(super) fn start(
+        &mut self,
+        number: usize,
+        line: &[u8],
+    ) -> Result<Array<i64, IxDyn>, ScriptError>
         ensures read { GivesScript meaning_of result (read_or_number number (start_in line.now)) }
         ensures memory { result ≡ Err ScriptError.Memory → StartMayLack line.now }
         ensures lacked { lacked_memory self.new ≡ (lacks_memory result || lacked_memory self.old) }
@@ -52,7 +65,11 @@ impl LineReader {
     }
 
     /// The call of a line of this number.
-    pub fn call(&mut self, number: usize, line: &[u8]) -> Result<Call<i64, Held>, ScriptError>
+    pub(super) fn call(
+        &mut self,
+        number: usize,
+        line: &[u8],
+    ) -> Result<Call<i64, Held>, ScriptError>
         ensures read { GivesScript (asked_call (boxed meaning_of)) result (read_or_number number (call_in line.now)) }
         ensures memory { result ≡ Err ScriptError.Memory → CallMayLack line.now }
         ensures lacked { lacked_memory self.new ≡ (lacks_memory result || lacked_memory self.old) }
@@ -65,14 +82,14 @@ impl LineReader {
     }
 
     /// A list of calls, without any yet.
-    pub fn list(&self) -> Vec<Call<i64, Held>>
+    pub(super) fn list(&self) -> Vec<Call<i64, Held>>
         ensures { result.items ≡ [] }
     {
         Vec::new(self.alloc)
     }
 
     /// Puts a call behind the others.
-    pub fn keep(
+    pub(super) fn keep(
         &mut self,
         calls: &mut Vec<Call<i64, Held>>,
         call: Call<i64, Held>,

@@ -2,7 +2,7 @@ use Rattle.std.proofs.Common.{◌∷◌, ◌++◌, [], map, ap, ◌∙◌}
 use Rattle.std.proofs.lemmas.List.{take_all}
 use Rattle.nd_array_core.specs.Meaning.{meaning_of}
 use Rattle.nd_array_core.specs.growth.InTurn.{meanings_of}
-use Rattle.nd_run.proofs.FoldLemmas.{same_meaning}
+use Rattle.nd_steps.proofs.StepLemmas.{same_meaning}
 use Rattle.nd_run.proofs.Joins.{viewed_more}
 use Rattle.nd_run.proofs.joining.views_of.Goals as goal
 

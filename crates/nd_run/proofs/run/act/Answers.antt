@@ -1,6 +1,6 @@
 use Rattle.nd_array_core.specs.Meaning.{meaning_of}
 use Rattle.std.proofs.Common.{◌≡◌}
-use Rattle.nd_run.proofs.FoldLemmas.{same_meaning}
+use Rattle.nd_steps.proofs.StepLemmas.{same_meaning}
 use Rattle.nd_run.proofs.run.act.Goals as goal
 
 pub returns-in-Keep : goal.returns-in-Keep

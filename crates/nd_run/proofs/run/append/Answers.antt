@@ -7,12 +7,12 @@ use Rattle.nd_shape_and_slice.specs.declared.errors.ErrorKind.{ErrorKind}
 use Rattle.nd_array_core.specs.Joined.{concatenated_shape, shape_behind}
 use Rattle.nd_array_core.specs.Meaning.{shape_of}
 use Rattle.nd_array_core.specs.growth.Appended.{elements_behind, CanComeBehind, FitsBehind, IsJoiningRefused, NotFitting, TooLarge, IsAppendRefused}
-use Rattle.nd_run.specs.declared.cause.Cause.{Cause}
-use Rattle.nd_run.specs.declared.cause.Cause.TheVariants as causes
-use Rattle.nd_run.specs.Steps.{first_failed}
+use Rattle.nd_steps.specs.declared.cause.Cause.{Cause}
+use Rattle.nd_steps.specs.declared.cause.Cause.TheVariants as causes
+use Rattle.nd_steps.specs.Steps.{first_failed}
 use Rattle.nd_run.specs.Fold.{append_tests}
 use Rattle.nd_run.proofs.run.append.Goals as goal
-use Rattle.nd_run.proofs.StepTests.{all_passed}
+use Rattle.nd_steps.proofs.StepTests.{all_passed}
 
 -- where no test fails the array fits, and the size of both is one
 fits : (axis : ℕ) (ms ns : List ℕ) → first_failed (append_tests axis ms ns) ≡ None → CanComeBehind ns ms axis

@@ -2,9 +2,10 @@ use Rattle.std.proofs.Common.{◌≡◌, ◌∙◌, refl, sym, ap, None, Some, m
 use Rattle.nd_array_core.specs.Meaning.{meaning_of}
 use Rattle.nd_read.specs.Calls.{asked_step, asking}
 use Rattle.nd_run.specs.Replies.{SaidRefused}
-use Rattle.nd_run.specs.Acts.{meaning_at_end}
-use Rattle.nd_run.specs.Fold.{look_refusal}
-use Rattle.nd_run.proofs.FoldLemmas.{same_meaning, leads_is, ask_refused, asked_is, answered}
+use Rattle.nd_steps.specs.Acts.{meaning_at_end}
+use Rattle.nd_steps.specs.Paths.{look_refusal}
+use Rattle.nd_steps.proofs.StepLemmas.{same_meaning, leads_is}
+use Rattle.nd_run.proofs.FoldLemmas.{ask_refused, asked_is, answered}
 use Rattle.nd_run.proofs.run.ask.Goals as goal
 
 pub returns-in-None : goal.returns-in-None

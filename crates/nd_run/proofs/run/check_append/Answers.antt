@@ -1,8 +1,8 @@
 use Rattle.std.proofs.Common.{◌≡◌, ◌<◌, List, ℕ, Bool, true, false, arith, cond, length, None, Some, refl, rules, subst}
 use Rattle.nd_array_core.specs.Meaning.{shape_of}
 use Rattle.nd_array_core.specs.growth.Appended.{FitsBehind}
-use Rattle.nd_run.specs.declared.cause.Cause.{Cause}
-use Rattle.nd_run.specs.declared.cause.Cause.TheVariants as causes
+use Rattle.nd_steps.specs.declared.cause.Cause.{Cause}
+use Rattle.nd_steps.specs.declared.cause.Cause.TheVariants as causes
 use Rattle.nd_run.proofs.run.check_append.Goals as goal
 
 held : (t : Bool) (cause : Cause) → cond t None (Some cause) ≡ None → t ≡ true

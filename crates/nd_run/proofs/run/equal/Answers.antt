@@ -1,7 +1,7 @@
 use Rattle.std.proofs.Common.{◌∙◌}
 use Rattle.nd_array_core.specs.Equality.{equal_meanings}
 use Rattle.nd_array_core.specs.Meaning.{meaning_of}
-use Rattle.nd_run.proofs.FoldLemmas.{same_meaning}
+use Rattle.nd_steps.proofs.StepLemmas.{same_meaning}
 use Rattle.nd_run.proofs.run.equal.Goals as goal
 
 pub returns : goal.returns

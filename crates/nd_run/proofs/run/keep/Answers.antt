@@ -1,9 +1,10 @@
 use Rattle.std.proofs.Common.{◌≡◌, ◌∙◌, ap, None, Some, refl}
 use Rattle.nd_array_core.specs.Meaning.{meaning_of}
 use Rattle.nd_read.specs.Calls.{asked_step, Keeping}
-use Rattle.nd_run.specs.Steps.{keep_refusal, step_shape, step_index}
-use Rattle.nd_run.specs.Fold.{step_meaning}
-use Rattle.nd_run.proofs.FoldLemmas.{seen_is, carried}
+use Rattle.nd_steps.specs.Steps.{keep_refusal, step_shape, step_index}
+use Rattle.nd_steps.specs.Paths.{step_meaning}
+use Rattle.nd_steps.proofs.StepLemmas.{seen_is}
+use Rattle.nd_run.proofs.FoldLemmas.{carried}
 use Rattle.nd_run.proofs.run.keep.Goals as goal
 
 pub returns-in-None : goal.returns-in-None

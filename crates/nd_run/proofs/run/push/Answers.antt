@@ -7,12 +7,13 @@ use Rattle.nd_array_core.specs.Joined.{shape_behind}
 use Rattle.nd_array_core.specs.growth.Appended.{FitsBehind}
 use Rattle.nd_array_core.specs.Laws.{with_axis_inserted}
 use Rattle.nd_array_core.specs.Meaning.{meaning_of}
-use Rattle.nd_run.specs.declared.cause.Cause.TheVariants as causes
+use Rattle.nd_steps.specs.declared.cause.Cause.TheVariants as causes
 use Rattle.nd_read.specs.Calls.{Appending}
 use Rattle.nd_run.specs.Replies.{SaidRefused}
-use Rattle.nd_run.specs.Steps.{first_failed}
+use Rattle.nd_steps.specs.Steps.{first_failed}
 use Rattle.nd_run.specs.Fold.{append_tests, IsCarriedOutOrLacks}
-use Rattle.nd_run.proofs.FoldLemmas.{carried, same_meaning}
+use Rattle.nd_run.proofs.FoldLemmas.{carried}
+use Rattle.nd_steps.proofs.StepLemmas.{same_meaning}
 use Rattle.nd_run.proofs.run.push.Goals as goal
 
 -- what fits behind a shape has as many axes

@@ -1,55 +1,18 @@
-use Rattle.std.proofs.Common.{◌≡◌, ◌<◌, ◌≤◌, ◌+◌, ◌^◌, ℕ, List, length, set, get_or, not, None, Some, refl, ap, sym, ⊎_elim, arith, rules}
-use Rattle.std.proofs.lemmas.Bool.{cases_lt, lt-ltb, le-ltb, ne_eqb}
-use Rattle.nd_array_core.specs.growth.Reserved.{added_elements}
-use Rattle.nd_shape_and_slice.specs.Shape.{nonzero_product, HasCheckedSize}
-use Rattle.nd_array_core.specs.Meaning.{meaning_of, shape_of}
-use Rattle.nd_run.specs.declared.cause.Cause.TheVariants as causes
+use Rattle.std.proofs.Common.{◌≡◌, Option, None, Some, refl}
+use Rattle.nd_array_core.specs.Meaning.{Meaning, meaning_of}
+use Rattle.nd_steps.specs.declared.cause.Cause.{Cause}
+use Rattle.nd_steps.specs.Written.{unless_refused}
 use Rattle.nd_read.specs.Calls.{Reserving}
-use Rattle.nd_run.specs.Steps.{first_failed}
-use Rattle.nd_run.specs.Fold.{reserve_tests}
-use Rattle.nd_run.proofs.FoldLemmas.{same_meaning, carried}
+use Rattle.nd_run.proofs.FoldLemmas.{carried}
 use Rattle.nd_run.proofs.run.reserve.Goals as goal
 
-module _ (axis n : ℕ) (ns : List ℕ) (on : axis < length ns) where
-  can_grow : HasCheckedSize (set ns axis (get_or ns axis 0 + n)) → first_failed (reserve_tests axis n ns) ≡ None
-  can_grow fits = rw (lt-ltb axis (length ns) on, lt-ltb (nonzero_product (set ns axis (get_or ns axis 0 + n))) (2 ^ 63) fits) refl
+-- room made or not, the array means what it meant
+same_either : {A : Type 0} (r : Option Cause) (m n : Meaning A) → n ≡ m → n ≡ unless_refused r m m
+same_either None m n e = e
+same_either (Some cause) m n e = e
 
-  cannot_grow : (HasCheckedSize (set ns axis (get_or ns axis 0 + n)) → ⊥) → first_failed (reserve_tests axis n ns) ≡ Some causes.Overflow
-  cannot_grow too_large = rw (lt-ltb axis (length ns) on, le-ltb (nonzero_product (set ns axis (get_or ns axis 0 + n))) (2 ^ 63) (omega (arith, too_large))) refl
-
--- what isn't refused can grow
-by_refusal : (ns : List ℕ) → ((HasCheckedSize ns → ⊥) → ⊥) → HasCheckedSize ns
-by_refusal ns allowed = ⊎_elim (λ less. less) (λ (large : 2 ^ 63 ≤ nonzero_product ns). absurd (allowed (λ less. omega (arith, large, less)))) (cases_lt (nonzero_product ns) (2 ^ 63))
-
-pub returns-in-Ok-clause-carried : goal.returns-in-Ok-clause-carried
-returns-in-Ok-clause-carried g c =
+pub returns : goal.returns
+returns g c =
     let m = meaning_of c.args.array.now in
-    let on : c.args.axis < length m.shape = search rules in
-    carried g.A.PartialEq.eq (Reserving c.args.axis c.args.additional) m None (meaning_of c.reserve.new.self) (sym (can_grow c.args.axis c.args.additional m.shape on c.in-Ok.ensures.fits)) refl
-    (same_meaning m (meaning_of c.reserve.new.self) c.reserve.ensures.whole.0 c.reserve.ensures.whole.2)
-
-pub returns-in-Err-Shape-clause-carried : goal.returns-in-Err-Shape-clause-carried
-returns-in-Err-Shape-clause-carried g c =
-    let m = meaning_of c.args.array.now in
-    let on : c.args.axis < length m.shape = search rules in
-    rw c.number-in-Err-Shape.ensures
-    (carried g.A.PartialEq.eq (Reserving c.args.axis c.args.additional) m (Some causes.Overflow) (meaning_of c.reserve.new.self) (sym (cannot_grow c.args.axis c.args.additional m.shape on (λ fits. (let e = c.in-Err-Shape.ensures.no_memory fits in absurd cc)))) refl
-    (same_meaning m (meaning_of c.reserve.new.self) c.reserve.ensures.whole.0 c.reserve.ensures.whole.2))
-
-pub returns-in-Err-NoMemory-clause-carried : goal.returns-in-Err-NoMemory-clause-carried
-returns-in-Err-NoMemory-clause-carried g c =
-    let ns = shape_of c.args.array.now in
-    let axis = c.args.axis in
-    let n = c.args.additional in
-    let on : axis < length ns = search rules in
-    let fits = by_refusal (set ns axis (get_or ns axis 0 + n)) (λ unfit. (let e = c.in-Err-NoMemory.ensures.overflow unfit in absurd cc)) in
-    let some : 0 < added_elements ns axis n = c.in-Err-NoMemory.ensures.refused fits in
-    (can_grow axis n ns on fits, ap not (ne_eqb (added_elements ns axis n) 0 (λ none. omega (arith, some, none))))
-
-pub returns-in-Err-NoMemory-clause-enough : goal.returns-in-Err-NoMemory-clause-enough
-returns-in-Err-NoMemory-clause-enough g c =
-    let ns = shape_of c.args.array.now in
-    let axis = c.args.axis in
-    let n = c.args.additional in
-    let fits = by_refusal (set ns axis (get_or ns axis 0 + n)) (λ unfit. (let e = c.in-Err-NoMemory.ensures.overflow unfit in absurd cc)) in
-    λ room. (let e = c.in-Err-NoMemory.ensures.enough fits room in absurd cc)
+    let d = c.in_ok-refused.ensures.made in
+    rw c.done_unless.ensures (carried g.A.PartialEq.eq (Reserving c.args.axis c.args.additional) m c.in_ok-refused.refused (meaning_of c.make_room.new.array) d.0 refl (same_either c.in_ok-refused.refused m (meaning_of c.make_room.new.array) d.1))

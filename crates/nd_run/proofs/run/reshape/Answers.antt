@@ -2,7 +2,8 @@ use Rattle.std.proofs.Common.{◌≡◌, List, ℕ, None, refl, sym, ap, ◌∙�
 use Rattle.nd_array_core.specs.Meaning.{meaning_of}
 use Rattle.nd_array_core.specs.reshape.Serving.{regrouped_meaning}
 use Rattle.nd_read.specs.Calls.{Reshaping}
-use Rattle.nd_run.proofs.FoldLemmas.{same_meaning, carried}
+use Rattle.nd_steps.proofs.StepLemmas.{same_meaning}
+use Rattle.nd_run.proofs.FoldLemmas.{carried}
 use Rattle.nd_run.proofs.run.reshape.Goals as goal
 
 pub returns-in-Ok-into_shape_clone : goal.returns-in-Ok-into_shape_clone

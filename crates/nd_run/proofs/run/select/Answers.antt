@@ -3,7 +3,7 @@ use Rattle.std.proofs.lemmas.Bool.{ne_eqb}
 use Rattle.nd_shape_and_slice.specs.Shape.{size_of}
 use Rattle.nd_array_core.specs.Meaning.{shape_of}
 use Rattle.nd_array_core.specs.along.Selected.{selected_shape}
-use Rattle.nd_run.specs.Steps.{first_failed}
+use Rattle.nd_steps.specs.Steps.{first_failed}
 use Rattle.nd_run.specs.Fold.{select_tests}
 use Rattle.nd_run.proofs.run.select.Goals as goal
 

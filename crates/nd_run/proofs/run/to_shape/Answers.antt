@@ -3,10 +3,10 @@ use Rattle.nd_shape_and_slice.specs.declared.builder.Order.{Order}
 use Rattle.nd_array_core.specs.Meaning.{Meaning, meaning_of}
 use Rattle.nd_array_core.specs.Joined.{row_major_elements}
 use Rattle.nd_array_core.specs.reshape.Serving.{regrouped_meaning}
-use Rattle.nd_run.specs.declared.cause.Cause.{Cause}
+use Rattle.nd_steps.specs.declared.cause.Cause.{Cause}
 use Rattle.nd_read.specs.Calls.{AskReshaped}
 use Rattle.nd_run.specs.Replies.{SaidElements}
-use Rattle.nd_run.specs.Steps.{first_failed, unless}
+use Rattle.nd_steps.specs.Steps.{first_failed, unless}
 use Rattle.nd_run.specs.Fold.{reshape_tests, answer_to, answer_or_refusal, given_by}
 use Rattle.nd_run.proofs.run.to_shape.Goals as goal
 

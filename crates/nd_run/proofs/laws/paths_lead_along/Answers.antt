@@ -1,5 +1,0 @@
-use Rattle.nd_run.proofs.PathLaws.{path_leads}
-use Rattle.nd_run.proofs.laws.paths_lead_along.Goals as goal
-
-pub returns : goal.returns
-returns g c = path_leads c.steps_lead_inside.ensures

@@ -1,0 +1,10 @@
+use Rattle.std.proofs.Common.{◌≡◌, map, drop}
+use Rattle.nd_array_core.specs.Meaning.{meaning_of}
+use Rattle.nd_read.specs.Calls.{asked_step}
+use Rattle.nd_steps.specs.Steps.{tests_of}
+use Rattle.nd_steps.specs.Paths.{path_result}
+use Rattle.nd_steps.proofs.steps.follow_path.Given as goal
+
+-- the rest of the path leads where the whole path leads
+abbrev pub invariant-loop-step : goal.invariant-loop-step
+invariant-loop-step g l = path_result tests_of (map asked_step (drop l.step-index l.path)) (meaning_of l.view) ≡ path_result tests_of (map asked_step l.path) (meaning_of l.fn.view)

@@ -1,0 +1,30 @@
+//! Room for more lengths of an axis.
+
+ghost use Rattle.std.specs.Prelude.{◌≡◌, None, IfOk, OnErr};
+ghost use Rattle.nd_array_core.specs.growth.Reserved.{HasRoomAlong};
+ghost use Rattle.nd_steps.specs.Arrays.{RoomIsMade};
+
+use crate::cause::Cause;
+use nd_array_core::{Array, ArrayError};
+use nd_shape_and_slice::{Axis, IxDyn};
+use std::alloc::AllocError;
+
+/// Makes room for more lengths of an axis, or returns the first cause against it. What the array means stays.
+pub fn make_room<A>(
+    array: &mut Array<A, IxDyn>,
+    axis: usize,
+    additional: usize,
+) -> Result<Option<Cause>, AllocError>
+    ensures made { RoomIsMade axis additional array.old array.new result }
+    ensures room { IfOk result (λ refused. refused ≡ None → HasRoomAlong axis additional array.new) }
+    ensures enough { OnErr result (¬ HasRoomAlong axis additional array.old) }
+{
+    if axis >= array.ndim() {
+        return Ok(Some(Cause::Axis));
+    }
+    match array.reserve(Axis(axis), additional) {
+        Ok(()) => Ok(None),
+        Err(ArrayError::Shape(_)) => Ok(Some(Cause::Overflow)),
+        Err(ArrayError::NoMemory) => Err(AllocError),
+    }
+}
