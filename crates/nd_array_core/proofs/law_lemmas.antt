@@ -7,3 +7,4 @@ pub mod Regrouping
 pub mod Quotients
 pub mod SlicedBack
 pub mod NamedOnce
+pub mod RowPlaces

@@ -1,10 +1,10 @@
 //! Laws of layout calls, over meanings alone: a shape, and an element at each index of its box; of places; and of
 //! quotients, for callers that divide. Nothing here runs: each function's clause is the law.
 
-ghost use Rattle.std.specs.Prelude.{◌≡◌, ◌<◌, ◌≤◌, ◌+◌, ◌*◌, ◌/◌, ◌^◌, ℕ, List, [], ◌∷◌, length, reverse, IsTrue};
+ghost use Rattle.std.specs.Prelude.{◌↔◌, ◌≡◌, ◌<◌, ◌≤◌, ◌+◌, ◌*◌, ◌/◌, ◌^◌, ℕ, List, [], ◌∷◌, length, reverse, IsTrue};
 ghost use Rattle.nd_array_core.specs.Laws.{PermutedBack, ReversedTwice, InvertedTwice, InsertedAndRemoved, SlicedTwice, PathIsOneMap, CollapsedListsLeadInside, CollapsesLeadInside, CoordinatesLeadInside, ExchangesLeadInside, LeadsInside, ListsLeadInside, LowerPartsLeadInside, NothingOutside, PermutationsLeadInside, SlicesLeadInside, UpperPartsLeadInside, IndexesHavePlaces, ShowsStored, DistinctPlaces};
 ghost use Rattle.nd_array_core.specs.NamedOnce.{SlicesNameOnce, ListsNameOnce, CollapsedListsNameOnce, EachSlicesNameOnce, PermutationsNameOnce, ReversalsNameOnce, ExchangesNameOnce, InversionsNameOnce, CollapsesNameOnce, CoordinatesNameOnce, LowerPartsNameOnce, UpperPartsNameOnce, InsertionsNameOnce, SqueezesNameOnce, MergesNameOnce, DiagonalsNameOnce, ReshapesNameOnce, PathsNameOnce};
-ghost use Rattle.nd_array_core.specs.reshape.RunSlices.{MemoryOrderReorders};
+ghost use Rattle.nd_array_core.specs.reshape.RunSlices.{IsStandardArray, LiesByRank, MemoryOrderReorders};
 ghost use Rattle.nd_shape_and_slice.specs.Maps.{inverted_index, inserted_shape, inserted_index, diagonal_length, diagonal_index};
 ghost use Rattle.nd_shape_and_slice.specs.Broadcast.{broadcasts, broadcast_index};
 ghost use Rattle.nd_array_core.specs.Joined.{SplitAndJoined};
@@ -13,7 +13,7 @@ ghost use Rattle.nd_array_core.specs.reshape.Regrouping.{RegroupedBack, RanksAre
 ghost use Rattle.nd_array_core.specs.reshape.Regrouped.{IsShapeOf};
 ghost use Rattle.nd_array_core.specs.Equality.{EqualByCells, EqualIsSame};
 ghost use Rattle.nd_array_core.specs.reshape.Either.{IsServedInItsOrder};
-ghost use Rattle.nd_array_core.specs.Meaning.{element_at, meaning_of, placed_array, shape_of};
+ghost use Rattle.nd_array_core.specs.Meaning.{element_at, meaning_of, place_at, placed_array, shape_of};
 ghost use Rattle.nd_shape_and_slice.specs.Shape.{size_of, HasCheckedSize};
 ghost use Rattle.nd_array_core.specs.elements.Pairs.{IsItselfUnder};
 ghost use Rattle.nd_array_core.specs.growth.SlicedBack.{AppendedAndSliced};
@@ -143,6 +143,13 @@ pub fn nothing_outside<S: Data, D: Dimension>(array: &ArrayBase<S, D>)
 pub fn elements_have_places<S: Data, D: Dimension>(array: &ArrayBase<S, D>)
     ensures places { IndexesHavePlaces (placed_array array.now) }
     ensures elements { ShowsStored (element_at array.now) (placed_array array.now) }
+{}
+
+/// An array is in the standard layout exactly where the places of any two indexes differ as their row-major ranks do: so a task
+/// on a view, which sees its places, can tell.
+#[tactic(auto, unfolding(crate::specs::Meaning::meaning_of, crate::specs::Meaning::memory_layout_of))]
+pub fn standard_by_places<S: Data, D: Dimension>(array: &ArrayBase<S, D>)
+    ensures { IsStandardArray array.now ↔ LiesByRank (shape_of array.now) (place_at array.now) }
 {}
 
 /// Distinct indexes of an owned array or a mutable view have distinct places.

@@ -1,5 +1,5 @@
 -- An array of which one element is written is the one that has another storage, and shows it.
-use Rattle.std.proofs.Common.{◌≡◌, ℕ, ◌<◌, Bool, true, false, List, ℤ, pos, negsuc, refl, ap, sym, ◌∙◌}
+use Rattle.std.proofs.Common.{◌≡◌, ℕ, ◌<◌, Bool, true, false, List, length, ℤ, pos, negsuc, refl, ap, sym, ◌∙◌}
 use Rattle.std.proofs.Props.{props}
 use mathlib.Core.HLevel.{is_prop→PathP}
 use Rattle.std.specs.Prelude.{nat_abs, nat_eq, Option, Some, is_some, if◌then◌else◌}
@@ -19,7 +19,7 @@ use Rattle.nd_array_core.specs.base.Writes.{IsWrittenAt}
 use Rattle.nd_elements.proofs.WriteStep.{written_element}
 use Rattle.nd_elements.specs.ElementMut.{KeepsPlaces}
 use Rattle.nd_array_core.specs.base.ElementLent.{array_with_element}
-use Rattle.nd_array_core.specs.reshape.LentSlices.{array_with_run}
+use Rattle.nd_array_core.specs.reshape.LentSlices.{array_with_run, array_with_lent}
 
 numbered : {A : Type 0} (stored : ℕ → Option A) (z : ℤ) → names_place stored z ≡ true → (pos (nat_abs z) ≡ z) × (is_some (stored (nat_abs z)) ≡ true)
 numbered stored (pos p) has = (refl, has)
@@ -54,6 +54,12 @@ module _ {S D T A R : Type 0} {s : data_trait.Ghosts S A} {d : dimension.Ghosts 
       → p ≡ first → k ≡ size_of (d.lengths a.layout.dim) → b.storage ≡ (set a.storage p k ws).0 → b.layout ≡ a.layout → b ≡ array_with_run set a first ws
   unfolding array_with_run
   with_run_is set a first p k ws b at_first count storage layout = same_array b (array_with_run set a first ws) (storage ∙ ap (λ q. (set a.storage q k ws).0) at_first ∙ ap (λ m. (set a.storage first m ws).0) count) layout
+
+  -- one whose storage has others at as many places as a slice has items
+  pub with_lent_is : (set : (x : S) → ℕ → ℕ → List A → (y : S) × KeepsPlaces (s.stored x) (s.stored y)) (a : ArrayBase S D T A R s d n r t) (first p k : ℕ) (xs ws : List A) (b : ArrayBase S D T A R s d n r t)
+      → p ≡ first → length xs ≡ k → b.storage ≡ (set a.storage p k ws).0 → b.layout ≡ a.layout → b ≡ array_with_lent set a first xs ws
+  unfolding array_with_lent
+  with_lent_is set a first p k xs ws b at_first count storage layout = same_array b (array_with_lent set a first xs ws) (storage ∙ ap (λ q. (set a.storage q k ws).0) at_first ∙ ap (λ m. (set a.storage first m ws).0) (sym count)) layout
 
   -- it shows the new element at the index, and every other as it was
   pub is_written : (set : (x : S) → ℕ → A → (y : S) × KeepsPlaces (s.stored x) (s.stored y)) {F : Type 0} (frame : S → F) (a : ArrayBase S D T A R s d n r t) (i : List ℕ) (x : A)

@@ -1,5 +1,5 @@
 -- What an array shows once its elements were lent as one slice.
-use Rattle.std.proofs.Common.{◌≡◌, ℕ, ◌+◌, ◌-◌, ◌<◌, Bool, true, false, List, length, get_or, ℤ, pos, refl, ap, sym, ◌∙◌, subst, arith}
+use Rattle.std.proofs.Common.{◌≡◌, ℕ, suc, ◌+◌, ◌-◌, ◌<◌, Bool, true, false, List, [], ◌∷◌, length, get_or, ℤ, pos, refl, ap, sym, ◌∙◌, subst, arith}
 use Rattle.std.specs.Prelude.{Option, Some, slice_get}
 use Rattle.std.proofs.lemmas.Option.{slice_get-get_or}
 use Rattle.nd_shape_and_slice.specs.Shape.{in_box, size_of, row_rank, index_at}
@@ -15,21 +15,31 @@ use Rattle.nd_layout.specs.Strides.{reach_down}
 use Rattle.nd_elements.specs.declared.storage.Data as data_trait
 use Rattle.nd_array_core.specs.declared.base.array.ArrayBase.{ArrayBase}
 use Rattle.nd_elements.specs.Meaning.{inside}
-use Rattle.nd_array_core.specs.Meaning.{meaning_of, memory_layout_of, shape_of}
+use Rattle.nd_array_core.specs.Meaning.{meaning_of, memory_layout_of, shape_of, element_at}
 use Rattle.nd_elements.specs.Places.{stored_at, place_number, HoldsAll}
 use Rattle.nd_elements.specs.ElementMut.{KeepsPlaces}
-use Rattle.nd_array_core.specs.base.ElementLent.{kept_names}
+use Rattle.nd_array_core.specs.base.ElementLent.{kept_names, with_storage}
 use Rattle.nd_elements.specs.RunLent.{IsBesideRun, HasRunAt}
 use Rattle.nd_elements.specs.StorageLaws.{HoldsWrittenRun, KeepsBesideRun}
 use Rattle.nd_elements.specs.Writes.{OthersStay}
 use Rattle.nd_array_core.specs.reshape.RunSlices.{LiesAlong, IsStandardArray, IsRunArray}
-use Rattle.nd_array_core.specs.reshape.LentSlices.{array_with_run, array_with_rows, array_with_places, IsRewrittenByRank, IsRewrittenInMemoryOrder}
+use Rattle.nd_array_core.specs.reshape.LentSlices.{array_with_run, array_with_rows, array_with_places, array_with_lent, array_with_lent_rows, array_with_lent_places, IsRewrittenByRank, IsRewrittenInMemoryOrder}
+use Rattle.nd_array_core.specs.base.Writes.{KeepsFrame}
 use Rattle.nd_array_core.proofs.reshape_lemmas.MemoryOrder.{run_has, run_lies}
 use Rattle.nd_array_core.proofs.reshape_lemmas.RunElements.{standard_has}
 
 -- a slice of a run, read item by item
 pub run_read : {A : Type 0} (stored : ℕ → Option A) (first count : ℕ) (xs : List A) → length xs ≡ count → ((k : ℕ) → k < count → stored (first + k) ≡ slice_get xs k) → (k : ℕ) (d : A) → k < count → stored (first + k) ≡ Some (get_or xs k d)
 run_read stored first count xs long is k d below = is k below ∙ slice_get-get_or xs k d (subst (λ n. k < n) (sym long) below)
+
+-- all elements where they are asked for, and else none
+pub all_or_none : {A : Type 0} (stored : ℕ → Option A) (first n count : ℕ) (asked : Bool) → (asked ≡ true → HasRunAt stored first n) → (asked ≡ true → count ≡ n) → (asked ≡ false → count ≡ 0) → HasRunAt stored first count
+all_or_none stored first n count true there all none = rw (all refl) (there refl)
+all_or_none stored first n count false there all none = λ k below. absurd (let e = none refl in omega (arith, below, e))
+
+pub empty_list : {A : Type 0} (xs : List A) → length xs ≡ 0 → xs ≡ []
+empty_list [] none = refl
+empty_list (x ∷ xs) none = absurd (let bad : suc (length xs) ≡ 0 = none in omega (arith, bad))
 
 module _ {A : Type 0} (old new : ℕ → Option A) (offset : ℕ) (ns : List ℕ) (ss : List ℤ) (ws : List A) where
   abbrev place : List ℕ → Option ℕ
@@ -101,4 +111,29 @@ module _ {S D T A R : Type 0} {s : data_trait.Ghosts S A} {d : dimension.Ghosts 
         let lies = run_lies (s.stored new.0) a.layout.offset ns ss a.layout.as_many kept which ws long (run_read (s.stored new.0) first (size_of ns) ws long at) in (
           lies,
           (refl, refl, (λ k. refl), others_by_place (s.stored a.storage) (s.stored new.0) a.layout.offset ns ss ws lies beside, same_frame a.storage first (size_of ns) ws, refl),
+        )
+
+    -- the same where a slice of as many items was lent
+    lent_is_run : (a : ArrayBase S D T A R s d n r t) (first : ℕ) (xs ws : List A) → length xs ≡ size_of (d.lengths a.layout.dim) → array_with_run set a first ws ≡ array_with_lent set a first xs ws
+    unfolding array_with_run array_with_lent
+    lent_is_run a first xs ws all = ap (λ k. with_storage a (set a.storage first k ws)) (sym all)
+
+    pub lent_by_rank : (a : ArrayBase S D T A R s d n r t) (xs ws : List A) → IsStandardArray a → length xs ≡ size_of (d.lengths a.layout.dim) → length ws ≡ size_of (shape_of a) → IsRewrittenByRank frame a ws (array_with_lent_rows set a xs ws)
+    unfolding memory_layout_of
+    lent_by_rank a xs ws standard all long = subst (IsRewrittenByRank frame a ws) (lent_is_run a a.layout.offset xs ws all) (rewritten_by_rank a ws standard long)
+
+    pub lent_by_place : (a : ArrayBase S D T A R s d n r t) (xs ws : List A) → IsRunArray a → length xs ≡ size_of (d.lengths a.layout.dim) → length ws ≡ size_of (shape_of a) → IsRewrittenInMemoryOrder frame a ws (array_with_lent_places set a xs ws)
+    unfolding meaning_of memory_layout_of
+    lent_by_place a xs ws which all long = subst (IsRewrittenInMemoryOrder frame a ws) (lent_is_run a (a.layout.offset - reach_down (d.lengths a.layout.dim) (t.strides_of a.layout.strides)) xs ws all) (rewritten_by_place a ws which long)
+
+    -- an empty slice was lent
+    pub lent_nothing : (a : ArrayBase S D T A R s d n r t) (first : ℕ) (xs ws : List A) → length xs ≡ 0 → length ws ≡ 0 → ((i : List ℕ) → element_at (array_with_lent set a first xs ws) i ≡ element_at a i) × KeepsFrame frame a (array_with_lent set a first xs ws)
+    unfolding array_with_lent meaning_of memory_layout_of
+    lent_nothing a first xs ws none empty =
+        let ns = d.lengths a.layout.dim in
+        let ss = t.strides_of a.layout.strides in
+        let new = set a.storage first (length xs) ws in
+        let same : (p : ℕ) → s.stored new.0 p ≡ s.stored a.storage p = λ p. left a.storage first (length xs) ws (λ k below. absurd (omega (arith, below, none))) (omega (arith, none, empty)) p (λ k below. absurd (omega (arith, below, none))) in (
+          (λ i k. inside ns i (stored_at (λ p. same p k) (place_of a.layout.offset ss i))),
+          (refl, refl, (λ k. refl), (λ p unnamed. same p), same_frame a.storage first (length xs) ws, refl),
         )

@@ -24,6 +24,10 @@ module _ {S D T A R : Type 0} {s : data_trait.Ghosts S A} {d : dimension.Ghosts 
   unfoldable pub array_with_run : ((x : S) → ℕ → ℕ → List A → (y : S) × KeepsPlaces (s.stored x) (s.stored y)) → ArrayBase S D T A R s d n r t → ℕ → List A → ArrayBase S D T A R s d n r t
   array_with_run set a first ws = with_storage a (set a.storage first (size_of (d.lengths a.layout.dim)) ws)
 
+  -- the array with other elements at as many places as xs has items, from one on
+  unfoldable pub array_with_lent : ((x : S) → ℕ → ℕ → List A → (y : S) × KeepsPlaces (s.stored x) (s.stored y)) → ArrayBase S D T A R s d n r t → ℕ → List A → List A → ArrayBase S D T A R s d n r t
+  array_with_lent set a first xs ws = with_storage a (set a.storage first (length xs) ws)
+
   module _ (set : (x : S) → ℕ → ℕ → List A → (y : S) × KeepsPlaces (s.stored x) (s.stored y)) where
     -- from the offset on, and from the lowest place on
     abbrev pub array_with_rows : ArrayBase S D T A R s d n r t → List A → ArrayBase S D T A R s d n r t
@@ -31,6 +35,13 @@ module _ {S D T A R : Type 0} {s : data_trait.Ghosts S A} {d : dimension.Ghosts 
 
     abbrev pub array_with_places : ArrayBase S D T A R s d n r t → List A → ArrayBase S D T A R s d n r t
     array_with_places a ws = array_with_run set a (lowest_place a) ws
+
+    -- the same where a slice of all elements was lent, or an empty one
+    abbrev pub array_with_lent_rows : ArrayBase S D T A R s d n r t → List A → List A → ArrayBase S D T A R s d n r t
+    array_with_lent_rows a xs ws = array_with_lent set a (layout_offset a) xs ws
+
+    abbrev pub array_with_lent_places : ArrayBase S D T A R s d n r t → List A → List A → ArrayBase S D T A R s d n r t
+    array_with_lent_places a xs ws = array_with_lent set a (lowest_place a) xs ws
 
   module _ {F : Type 0} (frame : S → F) where
     -- new is old but for the elements: each index has that of ws at its row-major rank
@@ -48,6 +59,10 @@ module _ {S D T A R : Type 0} {s : data_trait.Ghosts S A} {d : dimension.Ghosts 
     abbrev pub LeavesInMemoryOrder : ArrayBase S D T A R s d n r t → (List A → ArrayBase S D T A R s d n r t) → Type 0
     LeavesInMemoryOrder old left = (ws : List A) → length ws ≡ size_of (shape_of old) → IsRewrittenInMemoryOrder old ws (left ws)
 
+    -- the array is old once a slice of no elements was lent
+    abbrev pub LeavesAsItWas : ArrayBase S D T A R s d n r t → (List A → ArrayBase S D T A R s d n r t) → Type 0
+    LeavesAsItWas old left = (ws : List A) → length ws ≡ 0 → ((i : List ℕ) → element_at (left ws) i ≡ element_at old i) × KeepsFrame frame old (left ws)
+
 module _ (S A D R : RattleType) (s : data_trait.Ghosts S.Denot A.Denot) (d : DimensionMembers D.Denot) (n : axis_count.Ghosts D.Denot) (r : stride_list.Ghosts R.Denot) where
   -- the array ends with the elements that are left behind the slice, from its offset on
   abbrev pub lends_rows : MutBor (array_row S A D R s d n r).Denot → MutBor (List A.Denot) → Fml
@@ -56,6 +71,13 @@ module _ (S A D R : RattleType) (s : data_trait.Ghosts S.Denot A.Denot) (d : Dim
   -- and from its lowest place on
   abbrev pub lends_places : MutBor (array_row S A D R s d n r).Denot → MutBor (List A.Denot) → Fml
   lends_places a x = Lends (array_row S A D R s d n r) (Array A 0) a x (array_with_places s.with_run a.now)
+
+  -- the same of as many elements as the slice has
+  abbrev pub lends_all_or_none : MutBor (array_row S A D R s d n r).Denot → MutBor (List A.Denot) → Fml
+  lends_all_or_none a x = Lends (array_row S A D R s d n r) (Array A 0) a x (array_with_lent_rows s.with_run a.now x.now)
+
+  abbrev pub lends_run_or_none : MutBor (array_row S A D R s d n r).Denot → MutBor (List A.Denot) → Fml
+  lends_run_or_none a x = Lends (array_row S A D R s d n r) (Array A 0) a x (array_with_lent_places s.with_run a.now x.now)
 
   -- the same where there is a slice; where there is none, the array stays as it is
   abbrev pub may_lend_rows : MutBor (array_row S A D R s d n r).Denot → Option (MutBor (List A.Denot)) → Fml

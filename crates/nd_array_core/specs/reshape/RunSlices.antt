@@ -3,7 +3,7 @@ use Rattle.std.specs.Prelude.{ℕ, ◌≡◌, ◌<◌, ◌+◌, ◌-◌, ◌⊎�
 use Rattle.nd_shape_and_slice.specs.declared.dimension.Dimension as dimension
 use Rattle.nd_shape_and_slice.specs.declared.dimension.AxisCount as axis_count
 use Rattle.nd_shape_and_slice.specs.declared.dimension.StrideList as stride_list
-use Rattle.nd_shape_and_slice.specs.Shape.{in_box, size_of}
+use Rattle.nd_shape_and_slice.specs.Shape.{in_box, size_of, row_rank}
 use Rattle.nd_layout.specs.Placements.{Placement, as_placement}
 use Rattle.nd_layout.specs.Ranks.{IsStandard, IsRun}
 use Rattle.nd_elements.specs.declared.storage.Data as data_trait
@@ -28,6 +28,10 @@ pub record LiesAlong {A : Type 0} (shape : List ℕ) (first : ℕ) (place : List
 -- such elements are those in row-major order, put in another order
 abbrev pub MemoryOrderReorders : Type 0 → Type 0
 MemoryOrderReorders A = (m : Meaning A) (first : ℕ) (place : List ℕ → Option ℕ) (xs : List A) → LiesAlong m.shape first place m.at xs → IsPermutation (row_major_elements m) xs
+
+-- the places of any two indexes differ as their row-major ranks do
+abbrev pub LiesByRank : List ℕ → (List ℕ → Option ℕ) → Type 0
+LiesByRank shape place = (i j : List ℕ) (p q : ℕ) → IsTrue (in_box shape i) → IsTrue (in_box shape j) → place i ≡ Some p → place j ≡ Some q → p + row_rank shape j ≡ q + row_rank shape i
 
 -- whatever list stands in a region from a place on, and has so many items, is such a one
 abbrev pub RunIs : {A : Type 0} → Region A → ℕ → ℕ → (List A → Type 0) → Type 0

@@ -1,7 +1,7 @@
 //! The elements as one slice, to be written, where they lie so.
 #![tactic(auto, unfolding(crate::specs::Meaning::meaning_of, crate::specs::Meaning::memory_layout_of))]
 
-ghost use Rattle.std.specs.Prelude.{◌↔◌, ◌≡◌, IsSome, IfSome, OnSome, IsTrue};
+ghost use Rattle.std.specs.Prelude.{◌↔◌, ◌≡◌, [], IsSome, IfSome, OnSome, IsTrue, false};
 ghost use Rattle.std.specs.Borrow.{sem};
 ghost use Rattle.nd_shape_and_slice.specs.Shape.{size_of};
 ghost use Rattle.nd_region.specs.Region.{HasRun, IsRunOf};
@@ -27,7 +27,7 @@ impl<S: Data, D: Dimension> ArrayBase<S, D> {
 }
 
 impl<S: DataMut, D: Dimension> ArrayBase<S, D> {
-    ghost use Rattle.nd_array_core.specs.reshape.LentSlices.{lends_rows, lends_places, may_lend_rows, may_lend_places, LeavesByRank, LeavesInMemoryOrder, array_with_rows, array_with_places};
+    ghost use Rattle.nd_array_core.specs.reshape.LentSlices.{lends_rows, lends_places, lends_all_or_none, lends_run_or_none, may_lend_rows, may_lend_places, LeavesByRank, LeavesInMemoryOrder, LeavesAsItWas, array_with_rows, array_with_places, array_with_lent_rows, array_with_lent_places};
 
     /// The elements in row-major order as one slice, to be written. The array is in the standard layout
     /// (`is_standard_layout`). This project's own, beside `as_slice_mut`: the checker tells a caller what it leaves
@@ -57,6 +57,40 @@ impl<S: DataMut, D: Dimension> ArrayBase<S, D> {
         self.storage.lend_run(first, count)
     }
 
+    /// The elements in row-major order as one slice, to be written, and true, where they lie so (`is_standard_layout`);
+    /// else an empty slice and false, and nothing changes. This project's own, beside `as_slice_mut`: the checker tells a
+    /// caller what it leaves behind a slice that comes in a pair.
+    pub fn lend_slice(&mut self) -> (&mut [S::Elem], bool)
+        ensures* writes_back { sem 𝓛 (lends_all_or_none S.row S.Elem.row D.row D.Strides.row S.Data D.Dimension D.AxisCount D.Strides.StrideList self.entry result.0) }
+        ensures standard { IsTrue result.1 ↔ IsStandardArray self.old }
+        ensures elements { IsTrue result.1 → result.0.now ≡ row_major_elements (meaning_of self.old) }
+        ensures none { result.1 ≡ false → result.0.now ≡ [] }
+        ensures written { IsTrue result.1 → LeavesByRank S.frame self.old (array_with_lent_rows S.with_run self.old result.0.now) }
+        ensures unwritten { result.1 ≡ false → LeavesAsItWas S.frame self.old (array_with_lent_rows S.with_run self.old result.0.now) }
+    {
+        let asked = self.is_standard_layout();
+        let first = self.layout.offset;
+        let count = count_if(asked, self.layout.dim.size());
+        (self.storage.lend_run(first, count), asked)
+    }
+
+    /// The elements in the order in which they lie as one slice, to be written, and true, where their places are as many
+    /// consecutive numbers as there are elements, each once, or there is none; else an empty slice and false, and nothing
+    /// changes. This project's own, beside `as_slice_memory_order_mut`.
+    pub fn lend_slice_memory_order(&mut self) -> (&mut [S::Elem], bool)
+        ensures* writes_back { sem 𝓛 (lends_run_or_none S.row S.Elem.row D.row D.Strides.row S.Data D.Dimension D.AxisCount D.Strides.StrideList self.entry result.0) }
+        ensures run { IsTrue result.1 ↔ IsRunArray self.old }
+        ensures elements { IsTrue result.1 → IsInMemoryOrder self.old result.0.now }
+        ensures none { result.1 ≡ false → result.0.now ≡ [] }
+        ensures written { IsTrue result.1 → LeavesInMemoryOrder S.frame self.old (array_with_lent_places S.with_run self.old result.0.now) }
+        ensures unwritten { result.1 ≡ false → LeavesAsItWas S.frame self.old (array_with_lent_places S.with_run self.old result.0.now) }
+    {
+        let asked = self.has_run();
+        let first = self.layout.lowest_place();
+        let count = count_if(asked, self.layout.dim.size());
+        (self.storage.lend_run(first, count), asked)
+    }
+
     /// The array again, and whether it is in the standard layout.
     fn asked_rows(&mut self) -> (&mut Self, bool)
         ensures same_reference { result.0.ghost_name ≡ self.entry.ghost_name }
@@ -78,7 +112,8 @@ impl<S: DataMut, D: Dimension> ArrayBase<S, D> {
     }
 
     /// The elements in row-major order as one slice, to be written; None exactly where they don't lie so
-    /// (`is_standard_layout`), and then nothing changes. ndarray's `as_slice_mut`.
+    /// (`is_standard_layout`), and then nothing changes. ndarray's `as_slice_mut`. `lend_slice` gives the same slice, and tells
+    /// a caller what the array then is.
     pub fn as_slice_mut(&mut self) -> Option<&mut [S::Elem]>
         ensures* writes_back { sem 𝓛 (may_lend_rows S.row S.Elem.row D.row D.Strides.row S.Data D.Dimension D.AxisCount D.Strides.StrideList self.entry result) }
         ensures some { IsSome result ↔ IsStandardArray self.old }
@@ -95,7 +130,8 @@ impl<S: DataMut, D: Dimension> ArrayBase<S, D> {
 
     /// The elements in the order in which they lie as one slice, to be written; None exactly where their places aren't as
     /// many consecutive numbers as there are elements, each once, and then nothing changes. Of an array without elements it
-    /// is empty. ndarray's `as_slice_memory_order_mut`.
+    /// is empty. ndarray's `as_slice_memory_order_mut`. `lend_slice_memory_order` gives the same slice, and tells a caller what
+    /// the array then is.
     pub fn as_slice_memory_order_mut(&mut self) -> Option<&mut [S::Elem]>
         ensures* writes_back { sem 𝓛 (may_lend_places S.row S.Elem.row D.row D.Strides.row S.Data D.Dimension D.AxisCount D.Strides.StrideList self.entry result) }
         ensures some { IsSome result ↔ IsRunArray self.old }
@@ -109,6 +145,14 @@ impl<S: DataMut, D: Dimension> ArrayBase<S, D> {
             None
         }
     }
+}
+
+/// The count where it is asked for, and else 0.
+fn count_if(asked: bool, count: usize) -> usize
+    ensures all { IsTrue asked → result ≡ count }
+    ensures none { asked ≡ false → result ≡ 0 }
+{
+    if asked { count } else { 0 }
 }
 
 /// The region of a mutable view, the place of its first element, how many it has, and whether it is in the standard layout.
