@@ -97,9 +97,9 @@ part_of_size ns part nth size h some e =
 
 -- the same of a shape in an order of its axes
 pub part_in_order : (o : Order) (ns : List ℕ) (part nth : ℕ) → nth < length ns → 0 < size_of ns → part * size_of (drop nth (fastest_first o ns)) ≡ size_of (fastest_first o ns)
-    → (part ≤ size_of ns) × (part * get_or (fastest_first o ns) nth 0 ≤ size_of ns) × (0 < size_of (drop nth (fastest_first o ns))) × (part * get_or (fastest_first o ns) nth 0 * size_of (drop (nth + 1) (fastest_first o ns)) ≡ size_of (fastest_first o ns))
+    → (part ≤ size_of ns) × (part * get_or (fastest_first o ns) nth 0 ≤ size_of ns) × (0 < size_of (drop nth (fastest_first o ns))) × (0 < get_or (fastest_first o ns) nth 0) × (part * get_or (fastest_first o ns) nth 0 * size_of (drop (nth + 1) (fastest_first o ns)) ≡ size_of (fastest_first o ns))
 part_in_order o ns part nth within some e =
     let z = size_of-ordered o ns in
     let long = length-ordered o ns in
     let p = part_of_size (fastest_first o ns) part nth (size_of (fastest_first o ns)) (omega (arith, within, long)) (omega (arith, some, z)) e in
-    (omega (arith, p.0, z), omega (arith, p.1, z), p.2, p.4)
+    (omega (arith, p.0, z), omega (arith, p.1, z), p.2, p.3, p.4)

@@ -1,7 +1,6 @@
 use Rattle.std.proofs.Common.{arith, ℕ, ◌<◌, ◌≡◌, ◌^◌, ◌∙◌, sym, ap, drop, get_or, set, [], ℤ, pos, w64}
 use Rattle.std.proofs.lemmas.Int.{to_z_pos, ints}
 use Rattle.std.proofs.lemmas.List.{length-set, drop_all}
-use Rattle.nd_shape_and_slice.specs.Shape.{size_of}
 use Rattle.nd_layout.specs.Ranks.{fastest_first, axis_in}
 use Rattle.nd_shape_and_slice.specs.Strides.{column_strides_from}
 use Rattle.nd_shape_and_slice.proofs.ColumnMajor.{length-column_strides_from}
@@ -51,7 +50,7 @@ loop-nth-preserved c =
     let there = stride_at_nth ms cs product nth lc (omega arith) c.loop-nth.invariant.rest in
     rw n_is
     (record {
-      size = p.3;
+      size = p.4;
       before = (copied_more ts cs _ nth (pos 0) (pos product) (omega arith) (omega arith) c.loop-nth.invariant.before (sym there.0) put).1;
       rest = there.1;
     })

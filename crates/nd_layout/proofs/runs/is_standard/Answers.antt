@@ -56,7 +56,7 @@ loop-nth-preserved c =
     λ long. sym c.nth_stride.ensures ∙ sym (to_z-of_z w64 c.nth_stride.result f) ∙ (c.if-not-steps_by.ensures {u = tt}).0 refl (λ is. omega arith) in
     rw c.nth_length-len.ensures
     (record {
-      size = p.3;
+      size = p.4;
       steps = (
         λ steps. (StepsBy-at expected ns ss nth (omega arith) (omega arith) p.2 (c.loop-nth.invariant.steps.0 steps)).1,
         λ rest. c.loop-nth.invariant.steps.1 (StepsBy-back expected ns ss nth (omega arith) (omega arith) p.2 first rest),
