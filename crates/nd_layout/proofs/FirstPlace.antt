@@ -1,10 +1,10 @@
 -- The place of the first index.
-use Rattle.std.proofs.Common.{◌≡◌, ℕ, zero, suc, Bool, true, false, List, [], ◌∷◌, length, replicate, ℤ, pos, refl, arith}
+use Rattle.std.proofs.Common.{◌≡◌, ℕ, Bool, true, false, List, length, ℤ, pos, refl, arith}
 use Rattle.nd_shape_and_slice.specs.Shape.{in_box, size_of}
-use Rattle.nd_shape_and_slice.specs.Place.{displacement_of, place_of}
+use Rattle.nd_shape_and_slice.specs.Place.{place_of}
 use Rattle.nd_shape_and_slice.specs.FirstIndex.{first_index}
 use Rattle.nd_shape_and_slice.proofs.RowMajor.{row_rank_below, displacement_of-origin}
-use Rattle.nd_layout.proofs.Integers.{sums, zero-mul}
+use Rattle.nd_layout.proofs.Integers.{sums}
 use Rattle.nd_layout.proofs.steps.StepLemmas.{origin_in_box}
 
 -- it is the offset

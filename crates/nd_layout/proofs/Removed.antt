@@ -2,7 +2,7 @@
 use Rattle.std.proofs.Common.{ℕ, ⊎_elim, Bool, max, zero, suc, ◌+◌, ◌-◌, ◌*◌, ◌<◌, ◌≤◌, ◌≡◌, ◌⊎◌, List, [], ◌∷◌, length, get_or, set, ltb, leb, ◌&&◌, true, false, arith, refl, ap, sym, ◌∙◌, ℤ, pos, ◌+ℤ◌, ◌*ℤ◌, nat_abs}
 use lib.IntN.{+ℤ_idl}
 use Rattle.std.specs.List.{remove, insert}
-use Rattle.std.proofs.Math.Nat.{mul_assoc, mul_comm, mul_left_comm}
+use Rattle.std.proofs.Math.Nat.{mul_left_comm}
 use Rattle.std.proofs.lemmas.Bool.{cases_lt, cases_order}
 use Rattle.std.proofs.lemmas.List.Edits.{get_or-remove_below, get_or-remove_above, get_or-insert_below, get_or-insert_at, get_or-insert_above}
 use Rattle.std.proofs.Math.Bool.{and-false}

@@ -1,5 +1,5 @@
 -- Which strides serve: along regrouped axes, one new length at a time.
-use Rattle.std.proofs.Common.{ℕ, ⊎_elim, zero, suc, ◌*◌, ◌/◌, ◌%◌, ◌<◌, ◌≤◌, ◌≡◌, List, [], ◌∷◌, ◌++◌, length, arith, refl, ap, sym, ◌∙◌, ℤ, pos, ◌+ℤ◌, ◌*ℤ◌}
+use Rattle.std.proofs.Common.{ℕ, ⊎_elim, ◌*◌, ◌/◌, ◌%◌, ◌<◌, ◌≤◌, ◌≡◌, List, [], ◌∷◌, ◌++◌, length, arith, refl, ap, sym, ◌∙◌, ℤ, pos, ◌+ℤ◌, ◌*ℤ◌}
 use lib.IntN.{+ℤ_idr}
 use Rattle.std.proofs.Math.Nat.{mul_assoc, mod-add-div, mul-mod_right, mul-le-mul_left, div-eq_of_lt, mul-lt-mul_of_pos_left}
 use Rattle.std.proofs.lemmas.Bool.{cases_lt}

@@ -4,7 +4,6 @@ use Rattle.std.specs.Prelude.{All, codes}
 use Rattle.std.specs.Fmt.{decimal}
 use Rattle.std.specs.List.{flat_map}
 use Rattle.std.proofs.lemmas.Bool.{ltb-true, le-ltb, le-leb}
-use Rattle.std.proofs.lemmas.Bool.Decides.{nat_tests}
 use Rattle.nd_picture_text.specs.Laws.{SamplesReadBack}
 use Rattle.nd_picture_text.specs.Reading.{samples_behind, narrow_samples, wide_samples, exactly, raw_samples}
 use Rattle.nd_picture_text.specs.Writing.{low_byte, both_bytes}

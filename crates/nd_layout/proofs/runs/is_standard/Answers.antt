@@ -6,7 +6,7 @@ use Rattle.nd_shape_and_slice.specs.Shape.{size_of}
 use Rattle.nd_shape_and_slice.specs.declared.builder.Order.TheVariants.{RowMajor}
 use Rattle.nd_layout.specs.Ranks.{fastest_first}
 use Rattle.nd_layout.proofs.Sizes.{size-le-product}
-use Rattle.nd_layout.proofs.Orders.{length-ordered, size_of-ordered, rank_in-below}
+use Rattle.nd_layout.proofs.Orders.{length-ordered, rank_in-below}
 use Rattle.nd_layout.proofs.Standard.{StepsBy-at, StepsBy-back, StepsBy-none, StepsBy-from_standard, standard_from_StepsBy, part_in_order}
 use Rattle.nd_layout.proofs.runs.is_standard.Goals as goal
 
