@@ -1,6 +1,6 @@
 -- A list of clones, each of which equals its original, is the list.
 use Rattle.std.proofs.Common.{◌≡◌, ℕ, zero, suc, ◌+◌, ◌<◌, List, [], ◌∷◌, ◌++◌, length, refl, arith}
-use Rattle.std.specs.List.{All, AllZip}
+use Rattle.std.specs.List.{AllZip}
 use Rattle.std.specs.Prelude.{Some, slice_get}
 use Rattle.nd_elements.specs.Clones.{StoredClonesAreEqual}
 

@@ -1,4 +1,4 @@
-use Rattle.std.proofs.Common.{◌≡◌, ℕ, ◌+◌, ◌∙◌, ap, pos, sym, arith}
+use Rattle.std.proofs.Common.{◌∙◌, ap, pos, sym}
 use Rattle.std.proofs.Math.Nat.{add-zero}
 use Rattle.nd_layout.specs.Lanes.{along}
 use Rattle.nd_elements.specs.RunLent.{HasRunAt}
