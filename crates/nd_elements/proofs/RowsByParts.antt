@@ -14,7 +14,7 @@ use Rattle.nd_elements.specs.Collected.{collected}
 use Rattle.nd_elements.specs.Places.{stored_at, names_place}
 use Rattle.nd_elements.specs.elements.TurnedRows.{place_along, columns_of, rows_by_parts, part_by_parts, turned_number, turned_places, GoesOnAs, IsTurnedBelow, AreLong, IsRowAt, HasRows}
 use Rattle.nd_elements.proofs.Collecting.{collected_alike, length-collected, get-collected, listed_by}
-use Rattle.nd_elements.proofs.RunPairs.{set_there, set_left}
+use Rattle.nd_shape_and_slice.proofs.Lists.{set_there, set_elsewhere}
 use Rattle.nd_elements.proofs.LaneNumbers.{number_lane, lane_number}
 use Rattle.nd_elements.proofs.TurnedRows.{column_below, turned_at, kept_at, turned_below, turned_back}
 
@@ -126,7 +126,7 @@ row_put at width rows nth lane on so_far wide rank is places = (length-set rows 
         let row = so_far a before in
         record {
           lane = row.lane;
-          is = set_left rows nth a lane (λ e. absurd (omega (arith, before, e))) ∙ row.is;
+          is = set_elsewhere rows nth a lane (λ e. absurd (omega (arith, before, e))) ∙ row.is;
           long = row.long;
           places = row.places;
         })

@@ -1,4 +1,4 @@
-use Rattle.std.proofs.Common.{◌≡◌, ◌*◌, ◌+◌, ◌/◌, ◌%◌, ◌<◌, ◌≤◌, ◌∙◌, suc, length, ap, sym, subst, arith}
+use Rattle.std.proofs.Common.{◌≡◌, ◌*◌, ◌+◌, ◌/◌, ◌%◌, ◌<◌, ◌≤◌, ◌∙◌, suc, [], ◌∷◌, length, ap, sym, subst, arith}
 use Rattle.std.specs.Prelude.{slice_get, vec_len, vec_capacity}
 use Rattle.nd_shape_and_slice.proofs.Lists.{got_last, got_before}
 use Rattle.nd_layout.specs.Lanes.{along}
@@ -51,7 +51,7 @@ loop-lane-preserved g c =
       omega (arith, many, lengthened, next),
       subst (λ r. LanesFolded g.F.FnMut at.lanes at.count elements c.args.init.now c.args.f r (slice_get c.push_reserved.new.self.items) after.0) (sym next)
           (lanes_more g.F.FnMut at.lanes at.count elements c.args.init.now c.args.f rank here.0 (slice_get c.loop-lane.items.items) c.loop-lane.now so_far.3 (slice_get c.push_reserved.new.self.items) after.1 after.0
-          (λ q earlier. ap (λ xs. slice_get xs q) c.push_reserved.ensures.items ∙ got_before c.loop-lane.items.items after.1 q (omega (arith, earlier, listed)))
+          (λ q earlier. ap (λ xs. slice_get xs q) c.push_reserved.ensures.items ∙ got_before c.loop-lane.items.items (after.1 ∷ []) q (omega (arith, earlier, listed)))
           (ap (λ xs. slice_get xs rank) c.push_reserved.ensures.items ∙ got_last c.loop-lane.items.items after.1 rank listed)
           (folds_same g.F.FnMut (elements_at g.S.Data.stored (along lane) c.args.storage.now) (elements rank) lane.count at.count here.1 (λ k under. ap (stored_at stored) (here.2 k)) c.args.init.now c.in-Ok.start (c.requires.clones c.in-Ok.start c.in-Ok.ensures.cases) c.loop-lane.now after.1 after.0 c.fold_shown-after.ensures.ran)),
       ap length c.push_reserved.ensures.items ∙ (longer c.loop-lane.items.items after.1 ∙ (ap suc listed ∙ (let one : suc rank ≡ rank + 1 = omega arith in one ∙ sym next))),

@@ -5,7 +5,7 @@ use Rattle.nd_layout.specs.Lanes.{along}
 use Rattle.nd_elements.specs.Collected.{collected}
 use Rattle.nd_elements.specs.NumberedPlaces.{elements_at}
 use Rattle.nd_elements.specs.elements.TurnedRows.{columns_of, part_by_parts}
-use Rattle.nd_elements.proofs.Assigned.{on_ok, on_err}
+use Rattle.std.proofs.lemmas.Result.{on_ok_weaker, on_err_weaker}
 use Rattle.nd_elements.proofs.NumberedParts.{part_holds, part_clones, part_refused, part_behind}
 use Rattle.nd_elements.proofs.RowsByParts.{columns_go_on, rest_goes_on}
 use Rattle.nd_elements.proofs.elements.list_turned.clones_of_part.Goals as goal
@@ -76,7 +76,7 @@ returns-in-Ok-clause-items g c =
     let count = c.part.ensures.count in
     let all : done + c.part.result.count ≡ c.args.width = omega (arith, fits, count) in
     let stored = g.S.Data.stored c.args.storage.now in
-    on_ok c.clones_of_lane.result.1
+    on_ok_weaker c.clones_of_lane.result.1
     (λ put.
     subst (λ n. c.clones_of_lane.result.0.items ≡ c.args.items.items ++ collected found n) all
     (part_behind whole done (along c.part.result) on stored c.args.items.items c.clones_of_columns-longer.result.0.items c.clones_of_lane.result.0.items
@@ -91,6 +91,6 @@ returns-in-Ok-clause-refused g c =
     let lane = c.index-lanes-nth.result in
     let whole = part_by_parts lanes c.args.part c.args.width c.args.nth in
     let on = rest_goes_on lanes c.args.part c.args.width c.requires.fits c.args.nth c.requires.on lane c.part.result (slice_get_read lanes (length lanes) c.args.nth lane refl c.requires.on c.index-lanes-nth.is) c.part.ensures.count c.part.ensures.places in
-    on_err c.clones_of_lane.result.1
+    on_err_weaker c.clones_of_lane.result.1
     (part_refused whole (length lanes * c.args.part) (along c.part.result) on (g.S.Data.stored c.args.storage.now) g.S.Elem.Clone.is_infallible)
     c.clones_of_lane.ensures.refused

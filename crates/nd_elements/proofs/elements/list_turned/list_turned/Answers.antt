@@ -2,7 +2,7 @@ use Rattle.std.proofs.Common.{◌≡◌, ◌++◌, ◌∙◌, ap, subst, arith}
 use Rattle.nd_layout.specs.Lanes.{by_rank}
 use Rattle.nd_elements.specs.NumberedPlaces.{ranked_by}
 use Rattle.nd_elements.specs.elements.TurnedRows.{HasRows}
-use Rattle.nd_elements.proofs.Assigned.{on_ok, on_err}
+use Rattle.std.proofs.lemmas.Result.{on_ok_weaker, on_err_weaker}
 use Rattle.nd_elements.proofs.RowsByParts.{rows_long, rows_hold, rows_clones, rows_refused, rows_listed}
 use Rattle.nd_elements.proofs.elements.list_turned.list_turned.Goals as goal
 
@@ -44,7 +44,7 @@ returns-clause-items g c =
     let some = c.if-rows-eq0.false in
     let has = subst (λ p. HasRows (by_rank p) c.size.result c.length-width.result lanes rows) c.places.ensures (c.rows_in-rows.ensures (omega (arith, some))) in
     let stored = g.S.Data.stored c.args.storage.now in
-    on_ok c.list_rows.result
+    on_ok_weaker c.list_rows.result
     (λ put. put ∙ ap (λ xs. c.args.items.now.items ++ xs) (rows_listed (ranked_by layout) c.size.result c.length-width.result lanes rows has c.size.ensures stored))
     c.list_rows.ensures.items
 
@@ -56,6 +56,6 @@ returns-clause-refused g c =
     let some = c.if-rows-eq0.false in
     let has = subst (λ p. HasRows (by_rank p) c.size.result c.length-width.result lanes rows) c.places.ensures (c.rows_in-rows.ensures (omega (arith, some))) in
     let stored = g.S.Data.stored c.args.storage.now in
-    on_err c.list_rows.result
+    on_err_weaker c.list_rows.result
     (rows_refused (ranked_by layout) c.size.result c.length-width.result lanes rows has c.size.ensures stored g.S.Elem.Clone.is_infallible)
     c.list_rows.ensures.refused
