@@ -22,7 +22,7 @@ not_named : (b : Bool) → (b ≡ true → ⊥) → not b ≡ true
 not_named true never = absurd (never refl)
 not_named false never = refl
 
-shown : {A : Type 0} (ns i : List ℕ) (x y : Option A) → (in_box ns i ≡ true → x ≡ y) → inside ns i x ≡ inside ns i y
+pub shown : {A : Type 0} (ns i : List ℕ) (x y : Option A) → (in_box ns i ≡ true → x ≡ y) → inside ns i x ≡ inside ns i y
 shown {A} ns i x y same = at (in_box ns i) refl
   where
     at : (b : Bool) → in_box ns i ≡ b → inside ns i x ≡ inside ns i y
