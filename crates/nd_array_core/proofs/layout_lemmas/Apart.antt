@@ -6,10 +6,9 @@ use Rattle.nd_shape_and_slice.specs.declared.dimension.Dimension as dimension
 use Rattle.nd_shape_and_slice.specs.declared.dimension.AxisCount as axis_count
 use Rattle.nd_shape_and_slice.specs.declared.dimension.StrideList as stride_list
 use Rattle.nd_layout.specs.Placements.{Placement, placement_of}
-use Rattle.nd_elements.specs.Places.{ShareNoPlace}
 use Rattle.nd_elements.specs.declared.storage.Data as data_trait
 use Rattle.nd_array_core.specs.declared.base.array.ArrayBase.{ArrayBase}
-use Rattle.nd_array_core.specs.Meaning.{meaning_of, memory_layout_of, place_at}
+use Rattle.nd_array_core.specs.Meaning.{meaning_of, memory_layout_of}
 use Rattle.nd_array_core.specs.Part.{sliced_part, ShowsPart}
 use Rattle.nd_array_core.specs.layout.MultiSlice.{NameNothingInCommon, TwoFit, ThreeFit, FourFit, HoldsOnceBy, TwoHeldApart, ThreeHeldApart, FourHeldApart, TakenBy}
 use Rattle.nd_array_core.specs.layout.Parts.{IsListed, LeavesBeside}

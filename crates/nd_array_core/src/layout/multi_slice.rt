@@ -56,7 +56,8 @@ where
         ensures first { ShowsPart self.old (sliced_part self.old (I.elements_of lists.0)) result.0 }
         ensures second { ShowsPart self.old (sliced_part self.old (J.elements_of lists.1)) result.1 }
         ensures apart { ShareNoPlace (place_at result.0) (place_at result.1) }
-        ensures refilled { LeavesRefilled S.frame self.old (left_at self.old (pass_either (places_of result.0) (places_of result.1))) }
+        ensures refilled { LeavesRefilled S.frame self.old
+            (left_at self.old (pass_either (places_of result.0) (places_of result.1))) }
         ensures kept { LeavesButSlices self.old (left_at self.old (pass_either (places_of result.0) (places_of result.1)))
             (I.elements_of lists.0) (J.elements_of lists.1) }
     {

@@ -1,4 +1,4 @@
-use Rattle.std.proofs.Common.{◌≡◌, ℕ, refl, ap, sym, ◌∙◌}
+use Rattle.std.proofs.Common.{◌≡◌, ℕ, ap, sym, ◌∙◌}
 use Rattle.nd_region.specs.Region.{region_stored}
 use Rattle.nd_layout.specs.Placements.{placement_of}
 use Rattle.nd_elements.specs.Storages.{held_by}
