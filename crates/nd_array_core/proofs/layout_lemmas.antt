@@ -3,3 +3,5 @@ pub mod Parted
 pub mod ListParts
 pub mod Shown
 pub mod StepFrom
+pub mod Masked
+pub mod Apart

@@ -12,3 +12,5 @@ pub mod Said
 pub mod RowsLent
 pub mod RowsView
 pub mod Asked
+pub mod Narrowing
+pub mod KeptBeside

@@ -1,11 +1,11 @@
 -- Parts of an array: what a layout call leaves of it, and how another array is such a part.
-use Rattle.std.specs.Prelude.{◌≡◌, ℕ, List, [], ◌∷◌, reverse, swap, pos, ℤ}
+use Rattle.std.specs.Prelude.{◌≡◌, ℕ, List, [], ◌∷◌, reverse, swap, pos, ℤ, IsTrue}
 use Rattle.std.specs.List.{remove, insert}
 use Rattle.nd_shape_and_slice.specs.declared.dimension.Dimension as dimension
 use Rattle.nd_shape_and_slice.specs.declared.dimension.AxisCount as axis_count
 use Rattle.nd_shape_and_slice.specs.declared.dimension.StrideList as stride_list
 use Rattle.nd_shape_and_slice.specs.declared.slice.Slice.{Slice}
-use Rattle.nd_shape_and_slice.specs.Shape.{size_of}
+use Rattle.nd_shape_and_slice.specs.Shape.{in_box, size_of}
 use Rattle.nd_shape_and_slice.specs.Axes.{permuted_list, unpermuted_list}
 use Rattle.nd_shape_and_slice.specs.Broadcast.{broadcast_index}
 use Rattle.nd_shape_and_slice.specs.Maps.{inverted_index, collapsed_shape, collapsed_index, lower_shape, upper_shape, upper_index, indexed_shape, indexed_index, inserted_shape, inserted_index, diagonal_length, diagonal_index}
@@ -29,6 +29,10 @@ pub record Part : Type 0 where
   pub shape : List ℕ
   pub strides : List ℤ
   pub source : List ℕ → List ℕ
+
+-- no index of the part names the array's index i
+abbrev pub NamesNot : Part → List ℕ → Type 0
+NamesNot part i = (j : List ℕ) → IsTrue (in_box part.shape j) → ¬ (part.source j ≡ i)
 
 module _ {S D A T R : Type 0} {s : data_trait.Ghosts S A} {d : dimension.Ghosts D R} {n : axis_count.Ghosts D} {r : stride_list.Ghosts R} {t : stride_list.Ghosts T} where
   -- what one slice names, of one axis

@@ -2,3 +2,4 @@ pub mod Parts
 pub mod MultiSlice
 pub mod ViewLent
 pub mod EachAxis
+pub mod SeveralViews

@@ -31,7 +31,7 @@ pub use base::array_error::ArrayError;
 pub use base::get::IndexLonger;
 pub use base::get_mut::GetMut;
 pub use growth::fits_behind::fits_behind;
-pub use layout::split_at::MultiSliceArg;
+pub use layout::multi_slice::{MultiSliceArg, MultiSliceMut};
 pub use nd_elements::along::lane_mut::LaneMut;
 pub use nd_elements::storage::{
     Data, DataMut, DataOwned, OwnedRepr, RegionRepr, ViewMutRepr, ViewRepr,

@@ -1,7 +1,7 @@
 //! Writes through mutable views of worked arrays.
 
 use crate::tables::{is_line, is_table, line, table};
-use nd_array_core::{Array, ArrayViewMut};
+use nd_array_core::{Array, ArrayViewMut, MultiSliceMut};
 use nd_shape_and_slice::{
     Axis, Dimension, Ix1, Ix2, Slice, SliceArg, SliceInfo, SliceInfoElem, slice_fits,
     slices_intersect,

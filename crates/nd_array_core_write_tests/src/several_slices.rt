@@ -3,7 +3,7 @@
 ghost use Rattle.std.specs.Prelude.{IsTrue};
 ghost use Rattle.nd_array_core.specs.layout.MultiSlice.{TwoFit, ThreeFit, FourFit};
 
-use nd_array_core::{ArrayD, ArrayViewMut};
+use nd_array_core::{ArrayD, ArrayViewMut, MultiSliceMut};
 use nd_shape_and_slice::{IxDyn, SliceInfoElem, slices_fit, slices_intersect};
 use nd_test_arrays::{made, part, shows};
 use std::process::Abort;
@@ -126,14 +126,14 @@ fn three_filled(parts: (Part<'_>, Part<'_>, Part<'_>)) -> bool {
     done.0 && done.1 && done.2
 }
 
-// Fills what each list names with a number of its own.
+// Fills what each list names with a number of its own, through a mutable view that is then the lender.
 fn fill_three(
     grid: &mut ArrayD<u64>,
     a: &[SliceInfoElem],
     b: &[SliceInfoElem],
     c: &[SliceInfoElem],
 ) -> bool {
-    three_fit(grid.shape(), a, b, c) && three_filled(grid.multi_slice_mut((a, b, c)))
+    three_fit(grid.shape(), a, b, c) && three_filled(grid.view_mut().multi_slice_mut((a, b, c)))
 }
 
 #[test]

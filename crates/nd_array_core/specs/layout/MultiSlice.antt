@@ -2,10 +2,16 @@
 use Rattle.std.specs.Prelude.{◌≡◌, ℕ, List, Option, IsTrue}
 use Rattle.nd_shape_and_slice.specs.declared.slice_info.SliceInfoElem.{SliceInfoElem}
 use Rattle.nd_shape_and_slice.specs.Meeting.{Intersect}
-use Rattle.nd_shape_and_slice.specs.SliceInfo.{fits_shape, shape_after}
-use Rattle.nd_layout.specs.Placements.{Placement, IsListStep}
+use Rattle.nd_shape_and_slice.specs.SliceInfo.{fits_shape}
+use Rattle.nd_shape_and_slice.specs.declared.dimension.Dimension as dimension
+use Rattle.nd_shape_and_slice.specs.declared.dimension.AxisCount as axis_count
+use Rattle.nd_shape_and_slice.specs.declared.dimension.StrideList as stride_list
+use Rattle.nd_layout.specs.Placements.{Placement, placement_of}
 use Rattle.nd_elements.specs.Places.{ShareNoPlace}
-use Rattle.nd_array_core.specs.layout.Parts.{HoldsEachOnce}
+use Rattle.nd_elements.specs.declared.storage.Data as data_trait
+use Rattle.nd_array_core.specs.declared.base.array.ArrayBase.{ArrayBase}
+use Rattle.nd_array_core.specs.layout.Parts.{HoldsEachOnce, ViewsBy}
+use Rattle.nd_array_core.specs.scoped.Tasks.{AreApart}
 
 -- no element is named by both lists
 abbrev pub NameNothingInCommon : List ℕ → List SliceInfoElem → List SliceInfoElem → Type 0
@@ -28,14 +34,30 @@ ThreeShareNoPlace a b c = ShareNoPlace a b × ShareNoPlace a c × ShareNoPlace b
 abbrev pub FourShareNoPlace : (List ℕ → Option ℕ) → (List ℕ → Option ℕ) → (List ℕ → Option ℕ) → (List ℕ → Option ℕ) → Type 0
 FourShareNoPlace a b c d = ThreeShareNoPlace b c d × ShareNoPlace a b × ShareNoPlace a c × ShareNoPlace a d
 
--- whatever lies as a list of slices names it of a placement is held, each element once
-abbrev pub HoldsListed : {A : Type 0} → (ℕ → Option A) → Placement → List SliceInfoElem → Type 0
-HoldsListed stored whole list = (l : Placement) → IsListStep whole l list → l.lengths ≡ shape_after whole.lengths list → HoldsEachOnce stored l.offset l.lengths l.strides
+-- the storage holds the elements that a placement names, each under one index
+abbrev pub HoldsOnceBy : {A : Type 0} → (ℕ → Option A) → Placement → Type 0
+HoldsOnceBy stored a = HoldsEachOnce stored a.offset a.lengths a.strides
 
--- the condition holds of each view of this shape
-abbrev pub FitsEach : {V : Type 0} → (V → Type 0) → (V → List ℕ) → List ℕ → Type 0
-FitsEach {V} fits shape_of shape = (v : V) → shape_of v ≡ shape → fits v
+-- the same of several placements, no two of which name a place in common
+pub record TwoHeldApart {A : Type 0} (stored : ℕ → Option A) (a b : Placement) : Type 0 where
+  pub first : HoldsOnceBy stored a
+  pub second : HoldsOnceBy stored b
+  pub apart : AreApart a b
 
--- the parts are taken of such a view
-abbrev pub TakenOf : {V P : Type 0} → (V → P → Type 0) → (V → Type 0) → P → Type 0
-TakenOf {V} takes is_such parts = (v : V) × is_such v × takes v parts
+pub record ThreeHeldApart {A : Type 0} (stored : ℕ → Option A) (a b c : Placement) : Type 0 where
+  pub first : HoldsOnceBy stored a
+  pub others : TwoHeldApart stored b c
+  pub from_second : AreApart a b
+  pub from_third : AreApart a c
+
+pub record FourHeldApart {A : Type 0} (stored : ℕ → Option A) (a b c d : Placement) : Type 0 where
+  pub first : HoldsOnceBy stored a
+  pub others : ThreeHeldApart stored b c d
+  pub from_second : AreApart a b
+  pub from_third : AreApart a c
+  pub from_fourth : AreApart a d
+
+-- a view is what lies by a placement in a storage
+module _ {S D T A R : Type 0} {s : data_trait.Ghosts S A} {d : dimension.Ghosts D R} {n : axis_count.Ghosts D} {r : stride_list.Ghosts R} {t : stride_list.Ghosts T} where
+  abbrev pub TakenBy : (ℕ → Option A) → Placement → ArrayBase S D T A R s d n r t → Type 0
+  TakenBy stored l v = ViewsBy stored l v × (placement_of v.layout ≡ l)

@@ -2,7 +2,9 @@
 use Rattle.std.specs.Prelude.{◌≡◌, ◌<◌, ℕ, List, ℤ, Option}
 use Rattle.nd_shape_and_slice.specs.Shape.{size_of}
 use Rattle.nd_shape_and_slice.specs.Place.{place_of, IsSeparated}
-use Rattle.nd_layout.specs.Placements.{Placement}
+use Rattle.nd_shape_and_slice.specs.SliceInfo.{shape_after}
+use Rattle.nd_shape_and_slice.specs.declared.slice_info.SliceInfoElem.{SliceInfoElem}
+use Rattle.nd_layout.specs.Placements.{Placement, HasListStrides, IsListStep}
 use Rattle.nd_region.specs.Places.{names_not}
 use Rattle.nd_elements.specs.Meaning.{inside}
 use Rattle.nd_elements.specs.Places.{HoldsAll, kept_at, stored_at, place_number}
@@ -28,6 +30,13 @@ pub record IsViewUnder {A : Type 0} (stored : ℕ → Option A) (offset : ℕ) (
 -- the same of what lies by a placement
 abbrev pub IsViewBy : {A : Type 0} → (ℕ → Option A) → Placement → List ℕ → List ℤ → (List ℕ → Option A) → (List ℕ → Option ℕ) → Type 0
 IsViewBy stored l shape shape_strides at place = IsViewUnder stored l.offset l.lengths l.strides shape shape_strides at place
+
+-- a placement is what a list of slices names of another
+pub record IsListed (whole : Placement) (list : List SliceInfoElem) (part : Placement) : Type 0 where
+  pub lengths : part.lengths ≡ shape_after whole.lengths list
+  pub step : IsListStep whole part list
+  pub strides : HasListStrides whole part list
+  pub empty : size_of whole.lengths ≡ 0 → part.offset ≡ whole.offset
 
 -- once what lies by a placement is taken out, the storage has what it had at all other places
 abbrev pub LeavesBeside : {A : Type 0} → (ℕ → Option A) → (ℕ → Option A) → Placement → Type 0

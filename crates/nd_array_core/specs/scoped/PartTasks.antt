@@ -8,7 +8,7 @@ use Rattle.nd_elements.specs.declared.storage.Data as data_trait
 use Rattle.nd_array_core.specs.declared.base.array.ArrayBase.{ArrayBase}
 use Rattle.nd_shape_and_slice.specs.declared.slice_info.SliceInfoElem.{SliceInfoElem}
 use Rattle.nd_array_core.specs.Meaning.{shape_of, element_at, place_at}
-use Rattle.nd_array_core.specs.Part.{Part, lower_part, upper_part, sliced_part}
+use Rattle.nd_array_core.specs.Part.{Part, NamesNot, lower_part, upper_part, sliced_part}
 use Rattle.nd_array_core.specs.PlacedArray.{PlacedArray}
 use Rattle.nd_array_core.specs.scoped.Tasks.{IsViewOf, IsViewThrough, OthersKeep, OthersKeepTwo}
 
@@ -85,6 +85,15 @@ module _ {S D A T R : Type 0} {s : data_trait.Ghosts S A} {d : dimension.Ghosts 
   -- each index that neither list names has the element that it had
   abbrev pub KeepsButSlices : ArrayBase S D T A R s d n r t → ArrayBase S D T A R s d n r t → List SliceInfoElem → List SliceInfoElem → Type 0
   KeepsButSlices old new one two = KeepsButTwo old new (sliced_part old one) (sliced_part old two)
+
+  -- the same of three lists, and of four
+  abbrev pub KeepsButThreeSlices : ArrayBase S D T A R s d n r t → ArrayBase S D T A R s d n r t → List SliceInfoElem → List SliceInfoElem → List SliceInfoElem → Type 0
+  KeepsButThreeSlices old new one two three =
+      (i : List ℕ) → NamesNot (sliced_part old one) i → NamesNot (sliced_part old two) i → NamesNot (sliced_part old three) i → element_at new i ≡ element_at old i
+
+  abbrev pub KeepsButFourSlices : ArrayBase S D T A R s d n r t → ArrayBase S D T A R s d n r t → List SliceInfoElem → List SliceInfoElem → List SliceInfoElem → List SliceInfoElem → Type 0
+  KeepsButFourSlices old new one two three four =
+      (i : List ℕ) → NamesNot (sliced_part old one) i → NamesNot (sliced_part old two) i → NamesNot (sliced_part old three) i → NamesNot (sliced_part old four) i → element_at new i ≡ element_at old i
 
   -- each index that one of the part names has the element x
   abbrev pub IsFilledWith : ArrayBase S D T A R s d n r t → Part → A → Type 0

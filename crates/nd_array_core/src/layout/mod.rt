@@ -3,6 +3,7 @@
 
 pub mod axes;
 pub mod broadcast;
+pub mod multi_slice;
 pub mod row;
 pub mod slice;
 pub mod split_at;

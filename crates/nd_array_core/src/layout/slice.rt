@@ -5,14 +5,13 @@
 ghost use Rattle.std.specs.Prelude.{◌≡◌, ◌<◌, length, slice_index, IsTrue};
 ghost use Rattle.std.specs.Borrow.{sem};
 ghost use Rattle.nd_shape_and_slice.specs.declared.slice.Slice.{Slice};
-ghost use Rattle.nd_shape_and_slice.specs.Shape.{size_of};
 ghost use Rattle.nd_shape_and_slice.specs.EachAxis.{AnswersGive, AnswersFit};
 ghost use Rattle.nd_shape_and_slice.specs.Slice.{fits_axis};
-ghost use Rattle.nd_shape_and_slice.specs.SliceInfo.{fits_shape, shape_after, index_before};
-ghost use Rattle.nd_layout.specs.Steps.{IsStep};
-ghost use Rattle.nd_layout.specs.Strides.{strides_after};
+ghost use Rattle.nd_shape_and_slice.specs.SliceInfo.{fits_shape};
+ghost use Rattle.nd_layout.specs.Placements.{placement_of};
 ghost use Rattle.nd_array_core.specs.Meaning.{shape_of, place_at};
 ghost use Rattle.nd_array_core.specs.Part.{axes_of, axis_part, sliced_part, collapsed_by_part, ShowsPart, BecomesPart};
+ghost use Rattle.nd_array_core.specs.layout.Parts.{IsListed};
 ghost use Rattle.nd_array_core.specs.layout.EachAxis.{ShowsEachSliced, BecomesEachSliced, LendsEachSliced};
 
 use crate::base::array::{ArrayBase, ArrayView, ArrayViewMut};
@@ -28,10 +27,7 @@ pub(crate) fn sliced_by<D: Dimension, I: SliceArg<D>>(
     list: I,
 ) -> Layout<I::OutDim, <I::OutDim as Dimension>::Strides>
     requires { IsTrue (fits_shape (D.lengths layout.now.dim) (I.elements_of list)) }
-    ensures lengths { I.OutDim.lengths result.dim ≡ shape_after (D.lengths layout.now.dim) (I.elements_of list) }
-    ensures step { IsStep layout.now.offset (D.lengths layout.now.dim) (D.Strides.strides_of layout.now.strides) result.offset (I.OutDim.lengths result.dim) (I.OutDim.Strides.strides_of result.strides) (index_before (D.lengths layout.now.dim) (I.elements_of list)) }
-    ensures strides { I.OutDim.Strides.strides_of result.strides ≡ strides_after (D.lengths layout.now.dim) (D.Strides.strides_of layout.now.strides) (I.elements_of list) }
-    ensures empty { size_of (D.lengths layout.now.dim) ≡ 0 → result.offset ≡ layout.now.offset }
+    ensures { IsListed (placement_of layout.now) (I.elements_of list) (placement_of result) }
 {
     layout.sliced::<I::OutDim>(list.elements())
 }

@@ -2,39 +2,47 @@
 //! shorter time.
 #![tactic(auto, unfolding(crate::specs::Meaning::meaning_of, crate::specs::Meaning::memory_layout_of))]
 
-ghost use Rattle.std.specs.Prelude.{◌≡◌, ℕ, length, List};
+ghost use Rattle.std.specs.Prelude.{◌≡◌, ℕ, Bool, List};
 ghost use Rattle.std.specs.Borrow.{sem};
-ghost use Rattle.nd_region.specs.Places.{names};
-ghost use Rattle.nd_elements.specs.Places.{HoldsAll};
-ghost use Rattle.nd_elements.specs.ByLayout.{HasNamed};
+ghost use Rattle.nd_elements.specs.Places.{kept_at};
 ghost use Rattle.nd_elements.specs.Storages.{held_by};
 ghost use Rattle.nd_array_core.specs.layout.Parts.{ViewsBy};
 ghost use Rattle.nd_array_core.specs.scoped.Tasks.{HoldsBy};
-ghost use Rattle.nd_layout.specs.Placements.{as_placement, placement_of, KeepsApart};
+ghost use Rattle.nd_layout.specs.Placements.{placement_of, KeepsApart};
 ghost use Rattle.nd_array_core.specs.Meaning.{shape_of, element_at, place_at, layout_strides, layout_offset};
 ghost use Rattle.nd_array_core.specs.Part.{ShowsWhole, BecomesWhole};
 
 use crate::base::array::{ArrayBase, ArrayView, ArrayViewMut};
 use nd_elements::storage::{DataMut, RegionRepr, ViewMutRepr, ViewRepr};
 use nd_layout::Layout;
-use nd_shape_and_slice::{AxisCount, Dimension, StrideList};
+use nd_shape_and_slice::{Dimension, StrideList};
+
+/// What names places of a storage: a layout, or two values that do.
+pub trait NamesPlaces {
+    ghost named: { Self → ℕ → Bool };
+}
+
+impl<D: Dimension, T: StrideList> NamesPlaces for Layout<D, T> {
+    ghost use Rattle.nd_array_core.specs.layout.SeveralViews.{named_of};
+
+    ghost named = { λ layout. named_of (placement_of layout) };
+}
+
+impl<M: NamesPlaces, N: NamesPlaces> NamesPlaces for (M, N) {
+    ghost use Rattle.nd_array_core.specs.layout.SeveralViews.{pass_either};
+
+    ghost named = { λ both. pass_either (M.named both.0) (N.named both.1) };
+}
 
 impl<S: DataMut, D: Dimension> ArrayBase<S, D> {
     ghost use Rattle.nd_array_core.specs.layout.ViewLent.{array_follows_part, left_by, lent_places, tie_of, LeavesBut, LeavesPlacesBut, LeavesRefilled};
 
-    /// The places of the array's storage that a layout names as a region, tied to the array.
-    fn lent_part(
-        &mut self,
-        offset: usize,
-        lengths: &[usize],
-        strides: &[isize],
-    ) -> ViewMutRepr<'_, S::Elem>
-        requires as_many { length lengths.now ≡ length strides.now }
-        requires holds { HoldsAll (S.stored self.old.storage) offset lengths.now strides.now }
-        ensures* writes_back { sem 𝓛 (array_follows_part S.row S.Elem.row D.row D.Strides.row S.Data D.Dimension D.AxisCount D.Strides.StrideList self.entry result.tie.value (names offset lengths.now strides.now)) }
-        ensures elements { HasNamed (as_placement offset lengths.now strides.now) (S.stored self.old.storage) (held_by result) }
+    /// The named places of the array's storage as a region, tied to the array.
+    pub(crate) fn lent_named<N: NamesPlaces>(&mut self, _named: &N) -> ViewMutRepr<'_, S::Elem>
+        ensures* writes_back { sem 𝓛 (array_follows_part S.row S.Elem.row D.row D.Strides.row S.Data D.Dimension D.AxisCount D.Strides.StrideList self.entry result.tie.value (N.named _named.now)) }
+        ensures elements { (p : ℕ) → held_by result p ≡ kept_at (N.named _named.now) (S.stored self.old.storage) p }
     {
-        ViewMutRepr::of_region(self.storage.lend().into_part(offset, lengths, strides))
+        ViewMutRepr::of_region(self.storage.lend())
     }
 
     /// The view of what a layout names of the array's storage, where each index has a place of its own.
@@ -51,7 +59,7 @@ impl<S: DataMut, D: Dimension> ArrayBase<S, D> {
         ensures others { LeavesPlacesBut (place_at result) self.old (left_by self.old result) }
     {
         ArrayBase {
-            storage: self.lent_part(layout.offset, layout.dim.slice(), layout.strides.slice()),
+            storage: self.lent_named(&layout),
             layout,
         }
     }

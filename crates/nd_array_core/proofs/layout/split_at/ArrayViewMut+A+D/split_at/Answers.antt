@@ -1,4 +1,5 @@
-use Rattle.std.proofs.Common.{refl, ◌∙◌}
+use Rattle.std.proofs.Common.{refl, ap, ◌∙◌}
+use Rattle.nd_layout.specs.Placements.{Placement}
 use Rattle.nd_region.specs.Region.{region_stored}
 use Rattle.nd_array_core.specs.Meaning.{meaning_of, memory_layout_of}
 use Rattle.nd_array_core.proofs.layout_lemmas.Parted.{step_held, left_held, left_seen, seen_part, seen_apart}
@@ -8,15 +9,15 @@ pub part-requires : goal.part-requires
 part-requires g c = let view = c.args.self in step_held (region_stored view.storage.region) view.inside (view.separated refl) c.halves-lower.ensures.lower
 
 pub part-requires-2 : goal.part-requires-2
-part-requires-2 g c = let view = c.args.self in left_held c.halves-lower.ensures.apart c.part.ensures.shown c.part.ensures.left (step_held (region_stored view.storage.region) view.inside (view.separated refl) c.halves-lower.ensures.upper)
+part-requires-2 g c = let view = c.args.self in left_held c.halves-lower.ensures.apart c.part.ensures.taken.0 c.part.ensures.left (step_held (region_stored view.storage.region) view.inside (view.separated refl) c.halves-lower.ensures.upper)
 
 pub returns-clause-lower : goal.returns-clause-lower
 unfolding meaning_of memory_layout_of
-returns-clause-lower g c = let known = c.halves-lower.ensures in seen_part (region_stored c.args.self.storage.region) known.lower_lengths known.lower_strides (λ _. c.part.ensures.offset ∙ known.lower_offset) known.lower c.part.ensures.shown
+returns-clause-lower g c = let known = c.halves-lower.ensures in seen_part (region_stored c.args.self.storage.region) known.lower_lengths known.lower_strides (λ _. ap (λ (l : Placement). l.offset) c.part.ensures.taken.1 ∙ known.lower_offset) known.lower c.part.ensures.taken.0
 
 pub returns-clause-upper : goal.returns-clause-upper
 unfolding meaning_of memory_layout_of
-returns-clause-upper g c = let known = c.halves-lower.ensures in seen_part (region_stored c.args.self.storage.region) known.upper_lengths known.upper_strides (λ none. c.part-2.ensures.offset ∙ known.upper_empty none) known.upper (left_seen c.halves-lower.ensures.apart c.part.ensures.shown c.part.ensures.left c.part-2.ensures.shown)
+returns-clause-upper g c = let known = c.halves-lower.ensures in seen_part (region_stored c.args.self.storage.region) known.upper_lengths known.upper_strides (λ none. ap (λ (l : Placement). l.offset) c.part-2.ensures.taken.1 ∙ known.upper_empty none) known.upper (left_seen c.halves-lower.ensures.apart c.part.ensures.taken.0 c.part.ensures.left c.part-2.ensures.taken.0)
 
 pub returns-clause-apart : goal.returns-clause-apart
-returns-clause-apart g c = seen_apart c.halves-lower.ensures.apart c.part.ensures.shown c.part-2.ensures.shown
+returns-clause-apart g c = seen_apart c.halves-lower.ensures.apart c.part.ensures.taken.0 c.part-2.ensures.taken.0

@@ -1,0 +1,76 @@
+-- Several lists of slices of an array whose elements may be written: the layouts that they give, and the views of these.
+use Rattle.std.proofs.Common.{◌≡◌, ℕ, true, List, ap, sym, subst, ◌∙◌}
+use Rattle.std.specs.Prelude.{Option}
+use Rattle.nd_shape_and_slice.specs.declared.slice_info.SliceInfoElem.{SliceInfoElem}
+use Rattle.nd_shape_and_slice.specs.declared.dimension.Dimension as dimension
+use Rattle.nd_shape_and_slice.specs.declared.dimension.AxisCount as axis_count
+use Rattle.nd_shape_and_slice.specs.declared.dimension.StrideList as stride_list
+use Rattle.nd_layout.specs.Placements.{Placement, placement_of}
+use Rattle.nd_elements.specs.declared.storage.Data as data_trait
+use Rattle.nd_array_core.specs.declared.base.array.ArrayBase.{ArrayBase}
+use Rattle.nd_array_core.specs.Meaning.{meaning_of, memory_layout_of}
+use Rattle.nd_array_core.specs.Part.{sliced_part, ShowsPart}
+use Rattle.nd_array_core.specs.layout.MultiSlice.{NameNothingInCommon, TwoFit, ThreeFit, FourFit, HoldsOnceBy, TwoHeldApart, ThreeHeldApart, FourHeldApart, TakenBy}
+use Rattle.nd_array_core.specs.layout.Parts.{IsListed, LeavesBeside}
+use Rattle.nd_array_core.specs.scoped.Tasks.{AreApart}
+use Rattle.nd_array_core.proofs.layout_lemmas.ListParts.{lists_apart}
+use Rattle.nd_array_core.proofs.layout_lemmas.Parted.{step_held, left_holds, left_element, seen_part}
+
+-- once what one placement names is taken out of a storage, the rest holds and shows those that share no place with it
+module _ {A : Type 0} (m rest : ℕ → Option A) (a : Placement) (left : LeavesBeside m rest a) where
+  beside_held : (b : Placement) → AreApart a b → HoldsOnceBy m b → HoldsOnceBy rest b
+  beside_held b apart held = record { holds = left_holds m rest a.offset a.lengths a.strides b.offset b.lengths b.strides apart left held.holds; separated = held.separated }
+
+  pub two_beside : (b : Placement) → TwoHeldApart m a b → HoldsOnceBy rest b
+  two_beside b held = beside_held b held.apart held.second
+
+  pub three_beside : (b c : Placement) → ThreeHeldApart m a b c → TwoHeldApart rest b c
+  three_beside b c held = record { first = beside_held b held.from_second held.others.first; second = beside_held c held.from_third held.others.second; apart = held.others.apart }
+
+  pub four_beside : (b c d : Placement) → FourHeldApart m a b c d → ThreeHeldApart rest b c d
+  four_beside b c d held = record {
+    first = beside_held b held.from_second held.others.first;
+    others = record { first = beside_held c held.from_third held.others.others.first; second = beside_held d held.from_fourth held.others.others.second; apart = held.others.others.apart };
+    from_second = held.others.from_second;
+    from_third = held.others.from_third;
+  }
+
+  pub beside_taken : {S D T R : Type 0} {s : data_trait.Ghosts S A} {d : dimension.Ghosts D R} {n : axis_count.Ghosts D} {r : stride_list.Ghosts R} {t : stride_list.Ghosts T} (b : Placement) → AreApart a b → (v : ArrayBase S D T A R s d n r t) → TakenBy rest b v → TakenBy m b v
+  beside_taken b apart v taken = (
+    record {
+      shape_is = taken.0.shape_is;
+      strides_are = taken.0.strides_are;
+      elements = λ i. taken.0.elements i ∙ left_element m rest a.offset a.lengths a.strides b.offset b.lengths b.strides apart left i;
+      places = taken.0.places;
+    },
+    taken.1,
+  )
+
+module _ {S D A T R : Type 0} {s : data_trait.Ghosts S A} {d : dimension.Ghosts D R} {n : axis_count.Ghosts D} {r : stride_list.Ghosts R} {t : stride_list.Ghosts T} (array : ArrayBase S D T A R s d n r t) (alone : s.exclusive ≡ true) where
+  abbrev whole : Placement
+  whole = placement_of array.layout
+
+  held : {es : List SliceInfoElem} {a : Placement} → IsListed whole es a → HoldsOnceBy (s.stored array.storage) a
+  held is = step_held (s.stored array.storage) array.inside (array.separated alone) is.step
+
+  pub apart : {es fs : List SliceInfoElem} {a b : Placement} → IsListed whole es a → IsListed whole fs b → NameNothingInCommon whole.lengths es fs → AreApart a b
+  apart is is' nothing = lists_apart array alone is.lengths is.step is'.lengths is'.step nothing
+
+  pub two_held : {es fs : List SliceInfoElem} {a b : Placement} → TwoFit whole.lengths es fs → IsListed whole es a → IsListed whole fs b → TwoHeldApart (s.stored array.storage) a b
+  two_held fit is is' = record { first = held is; second = held is'; apart = apart is is' fit.2 }
+
+  pub three_held : {es fs gs : List SliceInfoElem} {a b c : Placement} → ThreeFit whole.lengths es fs gs → IsListed whole es a → IsListed whole fs b → IsListed whole gs c → ThreeHeldApart (s.stored array.storage) a b c
+  three_held fit is is' is'' = record { first = held is; others = two_held fit.1 is' is''; from_second = apart is is' fit.2; from_third = apart is is'' fit.3 }
+
+  pub four_held : {es fs gs hs : List SliceInfoElem} {a b c d' : Placement} → FourFit whole.lengths es fs gs hs → IsListed whole es a → IsListed whole fs b → IsListed whole gs c → IsListed whole hs d' → FourHeldApart (s.stored array.storage) a b c d'
+  four_held fit is is' is'' is''' = record { first = held is; others = three_held fit.1 is' is'' is'''; from_second = apart is is' fit.2; from_third = apart is is'' fit.3; from_fourth = apart is is''' fit.4 }
+
+  module _ {Z E U X : Type 0} {z : data_trait.Ghosts Z A} {e : dimension.Ghosts E X} {k : axis_count.Ghosts E} {x : stride_list.Ghosts X} {u : stride_list.Ghosts U} (v : ArrayBase Z E U A X z e k x u) where
+    -- the view of a list's layout is the part that the list names
+    pub listed_part : {es : List SliceInfoElem} {a : Placement} → IsListed whole es a → TakenBy (s.stored array.storage) a v → ShowsPart array (sliced_part array es) v
+    unfolding meaning_of memory_layout_of
+    listed_part is taken = seen_part (s.stored array.storage) is.lengths is.strides (λ none. ap (λ (l : Placement). l.offset) taken.1 ∙ is.empty none) is.step taken.0
+
+    -- and the list gives the layout of the view itself
+    pub view_listed : {es : List SliceInfoElem} {a : Placement} {m : ℕ → Option A} → IsListed whole es a → TakenBy m a v → IsListed whole es (placement_of v.layout)
+    view_listed {es = es} is taken = subst (λ (l : Placement). IsListed whole es l) (sym taken.1) is

@@ -1,0 +1,46 @@
+-- Several views of one array, to be written at once: which places they name, and what the array ends as once they are over.
+use Rattle.std.specs.Prelude.{ℕ, Bool, List, ◌||◌}
+use Rattle.nd_shape_and_slice.specs.declared.dimension.Dimension as dimension
+use Rattle.nd_shape_and_slice.specs.declared.dimension.AxisCount as axis_count
+use Rattle.nd_shape_and_slice.specs.declared.dimension.StrideList as stride_list
+use Rattle.nd_shape_and_slice.specs.declared.slice_info.SliceInfoElem.{SliceInfoElem}
+use Rattle.nd_region.specs.Places.{names}
+use Rattle.nd_layout.specs.Placements.{Placement, placement_of}
+use Rattle.nd_elements.specs.declared.storage.Data as data_trait
+use Rattle.nd_array_core.specs.declared.base.array.ArrayBase.{ArrayBase}
+use Rattle.nd_array_core.specs.layout.ViewLent.{array_with_part}
+use Rattle.nd_array_core.specs.scoped.PartTasks.{KeepsButSlices, KeepsButThreeSlices, KeepsButFourSlices}
+
+-- the places that a placement names
+unfoldable pub named_of : Placement → ℕ → Bool
+named_of l = names l.offset l.lengths l.strides
+
+-- the places that pass one test or the other, and of more tests at least one
+unfoldable pub pass_either : (ℕ → Bool) → (ℕ → Bool) → ℕ → Bool
+pass_either f g p = f p || g p
+
+abbrev pub pass_any_of_three : (ℕ → Bool) → (ℕ → Bool) → (ℕ → Bool) → ℕ → Bool
+pass_any_of_three f g h = pass_either f (pass_either g h)
+
+abbrev pub pass_any_of_four : (ℕ → Bool) → (ℕ → Bool) → (ℕ → Bool) → (ℕ → Bool) → ℕ → Bool
+pass_any_of_four f g h j = pass_either f (pass_any_of_three g h j)
+
+module _ {S D A T R : Type 0} {s : data_trait.Ghosts S A} {d : dimension.Ghosts D R} {n : axis_count.Ghosts D} {r : stride_list.Ghosts R} {t : stride_list.Ghosts T} where
+  -- the places that an array's indexes name
+  abbrev pub places_of : ArrayBase S D T A R s d n r t → ℕ → Bool
+  places_of v = named_of (placement_of v.layout)
+
+  -- the array once mutable views are over that named these places, and left these elements there
+  abbrev pub left_at : ArrayBase S D T A R s d n r t → (ℕ → Bool) → List A → ArrayBase S D T A R s d n r t
+  left_at a test ws = array_with_part s.refilled s.items a test ws
+
+  -- What several views leave, whatever elements they hold at their end: each index that none of the lists names has the
+  -- element that it had.
+  abbrev pub LeavesButSlices : ArrayBase S D T A R s d n r t → (List A → ArrayBase S D T A R s d n r t) → List SliceInfoElem → List SliceInfoElem → Type 0
+  LeavesButSlices old left one two = (ws : List A) → KeepsButSlices old (left ws) one two
+
+  abbrev pub LeavesButThreeSlices : ArrayBase S D T A R s d n r t → (List A → ArrayBase S D T A R s d n r t) → List SliceInfoElem → List SliceInfoElem → List SliceInfoElem → Type 0
+  LeavesButThreeSlices old left one two three = (ws : List A) → KeepsButThreeSlices old (left ws) one two three
+
+  abbrev pub LeavesButFourSlices : ArrayBase S D T A R s d n r t → (List A → ArrayBase S D T A R s d n r t) → List SliceInfoElem → List SliceInfoElem → List SliceInfoElem → List SliceInfoElem → Type 0
+  LeavesButFourSlices old left one two three four = (ws : List A) → KeepsButFourSlices old (left ws) one two three four

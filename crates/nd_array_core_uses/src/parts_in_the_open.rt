@@ -1,0 +1,128 @@
+//! Several parts of an array written in one function, through views in the open: the shape, the strides and the places stay,
+//! and so does each element that none of the views names.
+#![tactic(auto, using(nd_array_core::proofs::Axes::known_axes))]
+
+ghost use Rattle.std.specs.Prelude.{◌≡◌, ◌<◌, ◌≤◌, ℕ, List, length, slice_index, IsTrue};
+ghost use Rattle.nd_shape_and_slice.specs.SliceInfo.{fits_shape};
+ghost use Rattle.nd_array_core.specs.Meaning.{shape_of, place_at, layout_strides};
+ghost use Rattle.nd_array_core.specs.Part.{sliced_part};
+ghost use Rattle.nd_array_core.specs.layout.MultiSlice.{TwoFit, FourFit};
+ghost use Rattle.nd_array_core.specs.layout.ViewLent.{IsRefilled};
+ghost use Rattle.nd_array_core.specs.scoped.PartTasks.{KeepsBut, KeepsButSlices, KeepsButFourSlices};
+ghost use Rattle.nd_array_core.specs.base.Fresh.{EachCloneIsEqual};
+
+use nd_array_core::{ArrayBase, ArrayViewMut, DataMut, MultiSliceMut};
+use nd_shape_and_slice::{Axis, Dimension, NoMemory, SliceArg};
+
+/// Fills two parts of an array, each with a value of its own.
+pub fn fill_two_parts<S: DataMut, D: Dimension, I: SliceArg<D>, J: SliceArg<D>>(
+    array: &mut ArrayBase<S, D>,
+    lists: (I, J),
+    first: S::Elem,
+    second: S::Elem,
+) -> Result<(), NoMemory>
+where
+    S::Elem: Clone + Drop,
+    requires fit { TwoFit (shape_of array.old) (I.elements_of lists.0) (J.elements_of lists.1) }
+    requires clones { EachCloneIsEqual S.Elem.is_clone }
+    ensures shape { shape_of array.new ≡ shape_of array.old }
+    ensures strides { layout_strides array.new ≡ layout_strides array.old }
+    ensures places { (i : List ℕ) → place_at array.new i ≡ place_at array.old i }
+    ensures refilled { IsRefilled S.frame array.old array.new }
+    ensures kept { KeepsButSlices array.old array.new (I.elements_of lists.0) (J.elements_of lists.1) }
+{
+    let (mut one, mut two) = array.multi_slice_mut(lists);
+    one.fill(first)?;
+    two.fill(second)
+}
+
+/// Fills two parts of a mutable view, which can be used again afterwards.
+pub fn fill_two_parts_of_view<A: Clone + Drop, D: Dimension, I: SliceArg<D>, J: SliceArg<D>>(
+    view: &mut ArrayViewMut<'_, A, D>,
+    lists: (I, J),
+    first: A,
+    second: A,
+) -> Result<(), NoMemory>
+    requires fit { TwoFit (shape_of view.old) (I.elements_of lists.0) (J.elements_of lists.1) }
+    requires clones { EachCloneIsEqual A.is_clone }
+    ensures shape { shape_of view.new ≡ shape_of view.old }
+    ensures kept { KeepsButSlices view.old view.new (I.elements_of lists.0) (J.elements_of lists.1) }
+{
+    let (mut one, mut two) = view.multi_slice_mut(lists);
+    one.fill(first)?;
+    two.fill(second)
+}
+
+/// Fills four parts of an array, as the quadrants of an image, and copies the first part's value into none of the others.
+pub fn fill_four_parts<S, D, I, J, K, L>(
+    array: &mut ArrayBase<S, D>,
+    lists: (I, J, K, L),
+    values: (S::Elem, S::Elem, S::Elem, S::Elem),
+) -> Result<(), NoMemory>
+where
+    S: DataMut,
+    D: Dimension,
+    I: SliceArg<D>,
+    J: SliceArg<D>,
+    K: SliceArg<D>,
+    L: SliceArg<D>,
+    S::Elem: Clone + Drop,
+    requires fit { FourFit (shape_of array.old) (I.elements_of lists.0) (J.elements_of lists.1) (K.elements_of lists.2) (L.elements_of lists.3) }
+    requires clones { EachCloneIsEqual S.Elem.is_clone }
+    ensures shape { shape_of array.new ≡ shape_of array.old }
+    ensures places { (i : List ℕ) → place_at array.new i ≡ place_at array.old i }
+    ensures kept { KeepsButFourSlices array.old array.new (I.elements_of lists.0) (J.elements_of lists.1) (K.elements_of lists.2) (L.elements_of lists.3) }
+{
+    let (mut one, mut two, mut three, mut four) = array.multi_slice_mut(lists);
+    one.fill(values.0)?;
+    two.fill(values.1)?;
+    three.fill(values.2)?;
+    four.fill(values.3)
+}
+
+/// Fills the coordinates of an axis below one with a value, and those from it on with another, through the halves of a view.
+pub fn fill_both_halves<S: DataMut, D: Dimension>(
+    array: &mut ArrayBase<S, D>,
+    axis: Axis,
+    index: usize,
+    below: S::Elem,
+    from: S::Elem,
+) -> Result<(), NoMemory>
+where
+    S::Elem: Clone + Drop,
+    requires axis { axis.0 < length (shape_of array.old) }
+    requires within { index ≤ slice_index (shape_of array.old) axis.0 }
+    requires clones { EachCloneIsEqual S.Elem.is_clone }
+    ensures shape { shape_of array.new ≡ shape_of array.old }
+    ensures strides { layout_strides array.new ≡ layout_strides array.old }
+    ensures places { (i : List ℕ) → place_at array.new i ≡ place_at array.old i }
+    ensures refilled { IsRefilled S.frame array.old array.new }
+{
+    let (mut lower, mut upper) = array.view_mut().split_at(axis, index);
+    lower.fill(below)?;
+    upper.fill(from)
+}
+
+/// Fills both halves of what a list of slices names, cut in the middle of the first axis, if there is one.
+pub fn fill_halves_of_part<S: DataMut, D: Dimension, I: SliceArg<D>>(
+    array: &mut ArrayBase<S, D>,
+    info: I,
+    below: S::Elem,
+    from: S::Elem,
+) -> Result<(), NoMemory>
+where
+    S::Elem: Clone + Drop,
+    requires fits { IsTrue (fits_shape (shape_of array.old) (I.elements_of info)) }
+    requires clones { EachCloneIsEqual S.Elem.is_clone }
+    ensures shape { shape_of array.new ≡ shape_of array.old }
+    ensures kept { KeepsBut array.old array.new (sliced_part array.old (I.elements_of info)) }
+{
+    let part = array.slice_mut(info);
+    if part.ndim() > 0 {
+        let middle = part.len_of(Axis(0)) / 2;
+        let (mut lower, mut upper) = part.split_at(Axis(0), middle);
+        lower.fill(below)?;
+        upper.fill(from)?;
+    }
+    Ok(())
+}
