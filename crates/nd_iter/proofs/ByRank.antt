@@ -1,7 +1,7 @@
 -- The element of a rank, and two arrays that show the same.
-use Rattle.std.proofs.Common.{◌≡◌, ℕ, ◌<◌, List, true, ap, sym, ◌∙◌}
+use Rattle.std.proofs.Common.{◌≡◌, ℕ, ◌<◌, ap, sym, ◌∙◌}
 use Rattle.std.specs.Prelude.{slice_get}
-use Rattle.nd_shape_and_slice.specs.Shape.{in_box, index_at, size_of}
+use Rattle.nd_shape_and_slice.specs.Shape.{index_at, size_of}
 use Rattle.nd_shape_and_slice.proofs.RankIndexes.{in_box-index_at, row_rank-index_at}
 use Rattle.nd_array_core.specs.Meaning.{Meaning}
 use Rattle.nd_array_core.specs.Joined.{row_major_elements}

@@ -1,8 +1,7 @@
 -- Arrays of equal lengths but along an axis, one behind the other: nothing is broadcast.
-use Rattle.std.proofs.Common.{◌≡◌, ℕ, ◌+◌, ◌-◌, ◌<◌, ◌≤◌, Bool, true, false, cond, eqb, ltb, List, [], ◌∷◌, length, get_or, set, drop, Option, None, refl, ap, sym, subst, ◌∙◌, arith, ⊎_elim}
-use Rattle.std.specs.Prelude.{◌&&◌, ◌||◌}
+use Rattle.std.proofs.Common.{◌≡◌, ℕ, ◌+◌, ◌-◌, ◌<◌, ◌≤◌, Bool, true, false, cond, ltb, List, length, get_or, set, drop, Option, None, refl, ap, sym, subst, ◌∙◌, arith, ⊎_elim}
 use Rattle.std.proofs.Math.Path.{fun_ext}
-use Rattle.std.proofs.lemmas.Bool.{cases_lt, lt-ltb, eq-eqb, and_parts}
+use Rattle.std.proofs.lemmas.Bool.{cases_lt, lt-ltb}
 use Rattle.std.proofs.lemmas.List.{length-set, set-get_or, set-set, get_or-set_same}
 use Rattle.nd_shape_and_slice.specs.Broadcast.{broadcast_index, stretched_index, stretches}
 use Rattle.nd_shape_and_slice.specs.Shape.{in_box}

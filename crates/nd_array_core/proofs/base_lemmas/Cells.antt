@@ -1,7 +1,6 @@
 -- An array of rows and columns, where each call of a closure answers what a function gives of its row and column.
-use Rattle.std.proofs.Common.{◌≡◌, ◌∙◌, ℕ, ◌<◌, true, List, [], ◌∷◌, ap, arith}
+use Rattle.std.proofs.Common.{◌≡◌, ◌∙◌, ℕ, ◌<◌, true, List, [], ◌∷◌, ap}
 use Rattle.std.specs.Prelude.{Option, Some}
-use Rattle.std.proofs.lemmas.Bool.Decides.{nat_tests}
 use Rattle.nd_shape_and_slice.specs.Shape.{in_box}
 use Rattle.nd_shape_and_slice.proofs.Indexes.{in_two_axes}
 use Rattle.nd_elements.specs.FreeOrder.{AnswersThere, HasAnswers}

@@ -1,9 +1,9 @@
 -- Fresh storage that is to grow along an axis: the layout fills it, and all of it lies behind nothing.
-use Rattle.std.proofs.Common.{◌≡◌, ℕ, ◌+◌, ◌-◌, ◌<◌, Bool, true, false, cond, ltb, List, [], length, get_or, set, refl, ap, sym, ◌∙◌, arith, subst, ℤ, pos, negsuc, ◌+ℤ◌}
+use Rattle.std.proofs.Common.{◌≡◌, ℕ, ◌+◌, ◌-◌, ◌<◌, Bool, true, false, cond, ltb, List, [], length, get_or, set, refl, ap, sym, ◌∙◌, arith, subst, ℤ, pos, ◌+ℤ◌}
 use lib.IntN.{neg_ℤ}
 use borrow.Author.Differences.{neg_is}
 use Rattle.std.specs.Prelude.{Result, Ok, Err, OnOk, OnErr, slice_get}
-use Rattle.std.proofs.lemmas.Bool.{le-ltb, false≢true}
+use Rattle.std.proofs.lemmas.Bool.{le-ltb}
 use Rattle.std.proofs.lemmas.List.{set-get_or}
 use Rattle.nd_shape_and_slice.specs.Shape.{HasCheckedSize, in_box, size_of}
 use Rattle.nd_shape_and_slice.specs.Place.{displacement_of, place_of, IsSeparated}
@@ -11,7 +11,6 @@ use Rattle.nd_shape_and_slice.specs.Maps.{lower_shape, upper_shape, upper_index}
 use Rattle.nd_shape_and_slice.proofs.Lists.{there_is_some}
 use Rattle.nd_layout.specs.Growth.{growing_strides}
 use Rattle.nd_layout.specs.MemoryOrder.{FillsStorage, IsFilledBehind}
-use Rattle.nd_layout.specs.Places.{is_place}
 use Rattle.nd_layout.specs.Placements.{Placement, as_placement}
 use Rattle.nd_layout.specs.Strides.{reach_down}
 use Rattle.nd_layout.proofs.Integers.{sums}

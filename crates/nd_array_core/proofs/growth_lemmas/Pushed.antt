@@ -1,7 +1,7 @@
 -- An array of one axis fewer behind another.
 use Rattle.std.proofs.Common.{◌≡◌, ℕ, ◌+◌, ◌-◌, ◌<◌, ◌≤◌, Bool, true, false, ◌&&◌, eqb, leb, ltb, [], ◌∷◌, List, length, get_or, set, take, drop, ap, refl, sym, ◌∙◌, arith, length-append, length-drop}
 use Rattle.std.specs.List.{insert}
-use Rattle.std.specs.Prelude.{Option, None, Result, Ok, Err, IfErr}
+use Rattle.std.specs.Prelude.{Option, None}
 use Rattle.std.proofs.lemmas.Bool.{and_parts, eqb-true, lt-ltb, le-ltb}
 use Rattle.std.proofs.lemmas.List.{length-take, length-set}
 use Rattle.std.proofs.lemmas.List.Edits.{get_or-insert_at}

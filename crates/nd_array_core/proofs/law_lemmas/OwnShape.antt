@@ -1,11 +1,9 @@
 -- A shape broadcast to itself: each index names itself.
-use Rattle.std.proofs.Common.{◌≡◌, ℕ, ◌^◌, Bool, true, false, List, [], ◌∷◌, length, refl, ap, sym, ◌∙◌, arith}
-use Rattle.std.specs.Prelude.{None, nat_eq, nat_lt, nat_le}
-use Rattle.std.specs.Cmp.{unsigned_Decides}
-use Rattle.std.proofs.lemmas.Bool.{and_parts}
+use Rattle.std.proofs.Common.{◌≡◌, ℕ, ◌^◌, Bool, true, false, List, length, refl, ap, sym, ◌∙◌, arith}
+use Rattle.std.specs.Prelude.{None, nat_lt, nat_le}
 use Rattle.std.proofs.lemmas.Bool.Decides.{nat_tests}
 use Rattle.nd_shape_and_slice.specs.Shape.{in_box, HasCheckedSize, nonzero_product}
-use Rattle.nd_shape_and_slice.specs.Broadcast.{broadcasts, stretches, stretched_index, axes_added}
+use Rattle.nd_shape_and_slice.specs.Broadcast.{broadcasts, axes_added}
 use Rattle.nd_shape_and_slice.proofs.Indexes.{stretched_index-itself, stretches_itself}
 use Rattle.nd_elements.specs.Meaning.{Meaning}
 use Rattle.nd_array_core.specs.elements.Pairs.{broadcast_at}

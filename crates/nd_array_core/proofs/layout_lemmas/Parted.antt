@@ -1,6 +1,6 @@
 -- A storage of which the places of a layout are taken out: what is taken has these, what is left has all others.
 use Rattle.std.proofs.Common.{◌≡◌, ℕ, ◌+◌, ◌-◌, ◌<◌, ◌≤◌, Bool, true, false, List, length, ℤ, pos, negsuc, refl, ap, sym, ◌∙◌, get_or, arith}
-use Rattle.std.specs.Prelude.{Option, None, Some, not, slice_index, if◌then◌else◌}
+use Rattle.std.specs.Prelude.{Option, None, Some, slice_index, if◌then◌else◌}
 use Rattle.std.specs.Option.{is_some}
 use Rattle.std.proofs.lemmas.List.{get_or-set_same, length-set}
 use Rattle.std.proofs.lemmas.Bool.{not_from_false, false_from_ne_true}

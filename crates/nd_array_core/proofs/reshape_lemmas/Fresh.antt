@@ -1,5 +1,5 @@
 -- New arrays over vectors.
-use Rattle.std.proofs.Common.{ℕ, zero, suc, ◌<◌, ◌^◌, [], ◌∷◌, arith, vec_len}
+use Rattle.std.proofs.Common.{[], ◌∷◌, arith, vec_len}
 use Rattle.std.specs.declared.vec.Vec.{Vec}
 use Rattle.nd_shape_and_slice.specs.Shape.{HasCheckedSize}
 use Rattle.nd_elements.proofs.LentLanes.{lane_checked}

@@ -1,10 +1,9 @@
 -- The elements of an array whose places are a run, in the order of their places.
 use Rattle.std.proofs.Common.{◌≡◌, ℕ, ◌+◌, ◌-◌, ◌<◌, ◌≤◌, Bool, true, false, List, length, get_or, ℤ, pos, negsuc, ◌+ℤ◌, neg_ℤ, refl, ap, sym, ◌∙◌, subst, ⊎_elim, arith}
 use Rattle.std.proofs.Math.Path.{fun_ext}
-use Rattle.std.specs.Prelude.{◌⊎◌, Option, Some, None, is_some, IsSome, slice_get, if◌then◌else◌}
+use Rattle.std.specs.Prelude.{◌⊎◌, Option, Some, None, is_some, slice_get, if◌then◌else◌}
 use Rattle.std.specs.Option.{unwrap_or}
-use Rattle.std.proofs.Common.{inl, inr}
-use Rattle.std.proofs.lemmas.Option.{slice_get_cases, slice_get_within}
+use Rattle.std.proofs.lemmas.Option.{slice_get_within}
 use Rattle.nd_shape_and_slice.specs.Shape.{in_box, size_of}
 use Rattle.nd_shape_and_slice.specs.Place.{displacement_of, place_of, span_of, IsSeparated}
 use Rattle.nd_shape_and_slice.proofs.RowMajor.{row_rank_below}
@@ -19,7 +18,7 @@ use Rattle.nd_layout.proofs.steps.Ranked.{none_or_some}
 use Rattle.nd_layout.specs.Refusals.{elements_asked}
 use Rattle.nd_layout.proofs.steps.GivenStrides.{asked_of_some}
 use Rattle.nd_elements.specs.Meaning.{inside}
-use Rattle.nd_elements.specs.Clones.{ClonesAreEqual, ClonesOfAllAreEqual, StoredClonesAreEqual}
+use Rattle.nd_elements.specs.Clones.{ClonesOfAllAreEqual, StoredClonesAreEqual}
 use Rattle.nd_array_core.proofs.base_lemmas.GivenHolds.{given_holds}
 use Rattle.nd_elements.specs.Places.{place_number, stored_at, names_place, HoldsAll}
 use Rattle.nd_elements.proofs.Mapped.{got_item}

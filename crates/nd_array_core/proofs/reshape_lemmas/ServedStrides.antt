@@ -1,5 +1,5 @@
 -- Strides that serve make a layout of the same places.
-use Rattle.std.proofs.Common.{◌↔◌, ◌≡◌, ℕ, ◌<◌, ◌^◌, Bool, true, false, List, [], ◌∷◌, ℤ, arith, ap, sym, ◌∙◌, subst}
+use Rattle.std.proofs.Common.{◌↔◌, ◌≡◌, ℕ, ◌<◌, ◌^◌, Bool, false, List, [], ◌∷◌, ℤ, arith, ap, sym, ◌∙◌, subst}
 use Rattle.std.specs.Prelude.{IsTrue}
 use Rattle.std.proofs.lemmas.Bool.{both_ways}
 use Rattle.nd_shape_and_slice.specs.Shape.{size_of, HasCheckedSize}

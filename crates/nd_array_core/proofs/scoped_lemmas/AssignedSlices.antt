@@ -1,7 +1,7 @@
 -- A part that a list of slices names, written through a view of it: the same by index of the array.
-use Rattle.std.proofs.Common.{◌≡◌, ◌⊎◌, inl, inr, ◌∙◌, ap, sym, subst, refl, ℕ, zero, suc, ◌+◌, ◌-◌, ◌*◌, ◌/◌, ◌<◌, ◌≤◌, true, List, [], ◌∷◌, arith}
+use Rattle.std.proofs.Common.{◌≡◌, ◌⊎◌, inl, inr, ◌∙◌, ap, sym, subst, refl, ℕ, zero, suc, ◌+◌, ◌-◌, ◌*◌, ◌/◌, ◌<◌, true, List, [], ◌∷◌, arith}
 use Rattle.std.proofs.Math.Path.{fun_ext}
-use Rattle.std.proofs.Math.Nat.{mul-le-mul_right, div-mul-le_self, mul-div_left}
+use Rattle.std.proofs.Math.Nat.{mul-div_left}
 use Rattle.std.specs.Prelude.{Option, ℤ, pos, negsuc, nat_le}
 use Rattle.std.specs.Option.{option_map, is_some}
 use Rattle.std.specs.Borrow.{MutBor}
@@ -11,7 +11,7 @@ use Rattle.nd_shape_and_slice.specs.declared.slice_info.SliceInfoElem.{SliceInfo
 use Rattle.nd_shape_and_slice.specs.declared.slice_info.SliceInfoElem.TheVariants.{Slice as Part, Index, NewAxis}
 use Rattle.nd_shape_and_slice.specs.declared.slice.Slice.{Slice}
 use Rattle.nd_shape_and_slice.specs.Shape.{in_box}
-use Rattle.nd_shape_and_slice.specs.Slice.{fits_axis, quotient_up, sliced_length, sliced_from, low_of, high_of}
+use Rattle.nd_shape_and_slice.specs.Slice.{fits_axis, sliced_length, sliced_from, low_of, high_of}
 use Rattle.nd_shape_and_slice.specs.SliceInfo.{coordinate_on, fits_shape, each_fits, axes_kept, shape_after, index_before}
 use Rattle.nd_shape_and_slice.specs.Naming.{names_index}
 use Rattle.nd_shape_and_slice.proofs.RowMajor.{in_box-cons}

@@ -1,7 +1,7 @@
-use Rattle.std.proofs.Common.{◌≡◌, Some, sym, subst, ◌∙◌}
+use Rattle.std.proofs.Common.{sym, subst, ◌∙◌}
 use Rattle.std.proofs.lemmas.Option.{same_Some}
 use Rattle.nd_array_core.specs.Laws.{NothingOutside}
-use Rattle.nd_array_core.specs.Meaning.{Meaning, meaning_of}
+use Rattle.nd_array_core.specs.Meaning.{meaning_of}
 use Rattle.nd_array_core.specs.growth.InTurn.{meanings_of}
 use Rattle.nd_shape_and_slice.specs.declared.errors.ErrorKind.TheVariants.{IncompatibleShape, OutOfBounds, Overflow}
 use Rattle.nd_shape_and_slice.proofs.Lists.{got_mapped}

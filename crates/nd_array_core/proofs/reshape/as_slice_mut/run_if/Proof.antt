@@ -1,5 +1,5 @@
 -- `run_if` hands out a run of the region, or ends its borrow as it is. Assumes `Logic`.
-use Rattle.nd_region.proofs.Walking.{refl, ap, Bool, true, ℕ, List, [], ◌∷◌, lit<, emp, id⊢, Lft, Share, ftrue, flft, Args, Fn, a_type, dnil, named, w64, inst_fn, of_list, Env, ◌⊑◌, fact, fact_i, tables, live, ‵, raw, ◌⊛◌, some, later, at_ret, ◌$◌, ◌∵◌, !, qed, done, move, keep, drop, use0, use1, split, split3, join, fsplit, fsplit3, fjoin, feq_l, pick, await, suffices, frame, agg, enter, lit, no_more, and_then, of_opd, first, branches, exec, returns, alloc_all, pass_all, free_all, look_at, get, sets, sets_last, lands_as, env, Array, usize, bool, unit, yes, no, follows, follows_by, Is, shows, param, bounded, uint_vals, uint_Tells, bool_vals, bool_Tells, RattleType, owns, MutSlice, mut_slice_Lawful, Slot, plain, named_lft, types_at, nothing, heard, only, peeks, calls_at, Ended, Lasts, lasts, Vals, triple_of, framed, Stays, stay_dropped, walk_of, ends_at, Goes-dropped}
+use Rattle.nd_region.proofs.Walking.{refl, ap, Bool, true, ℕ, [], ◌∷◌, lit<, emp, id⊢, Lft, Share, ftrue, flft, Args, Fn, a_type, dnil, named, w64, inst_fn, of_list, Env, ◌⊑◌, fact, fact_i, tables, live, ‵, raw, ◌⊛◌, some, later, at_ret, ◌$◌, ◌∵◌, !, qed, done, move, keep, drop, use0, use1, split, join, fsplit3, fjoin, feq_l, pick, await, suffices, frame, agg, enter, lit, no_more, and_then, of_opd, first, branches, exec, returns, alloc_all, pass_all, free_all, look_at, get, sets, sets_last, lands_as, env, Array, usize, bool, unit, yes, no, follows, follows_by, Is, shows, param, bounded, uint_vals, uint_Tells, bool_vals, bool_Tells, RattleType, owns, MutSlice, mut_slice_Lawful, Slot, plain, named_lft, types_at, nothing, heard, only, peeks, calls_at, Ended, Lasts, lasts, Vals, triple_of, framed, Stays, stay_dropped, walk_of, ends_at, Goes-dropped}
 use Rattle.std.specs.Prelude.{Some, None, IsTrue}
 use Rattle.std.specs.contracts.option.Option as OP
 use Rattle.std.proofs.VecSteps.Shapes.{after}

@@ -1,4 +1,3 @@
-use Rattle.std.specs.Prelude.{Result, Ok, Err, OnErr}
 use Rattle.nd_elements.proofs.Mapped.{on_err_from}
 use Rattle.nd_array_core.specs.Meaning.{shape_of, element_at}
 use Rattle.nd_array_core.proofs.along_lemmas.Selecting.{selected_by_turns, turned_shape_checked, turned_is_some, selected_shape_back}

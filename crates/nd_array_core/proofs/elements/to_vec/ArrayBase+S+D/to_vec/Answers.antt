@@ -1,5 +1,5 @@
 use Rattle.std.proofs.Common.{◌≡◌, ◌∙◌, ◌<◌, ℕ, ℤ, List, ap, sym, subst, length, arith, IfOk}
-use Rattle.std.specs.Prelude.{Result, Ok, Err, OnErr, vec_len}
+use Rattle.std.specs.Prelude.{OnErr, vec_len}
 use Rattle.std.proofs.lemmas.Bool.{false≢true}
 use Rattle.nd_shape_and_slice.specs.Shape.{size_of}
 use Rattle.nd_shape_and_slice.proofs.RowMajor.{row_rank_below}

@@ -1,6 +1,5 @@
-use Rattle.std.proofs.Common.{◌≡◌, ◌∙◌, ◌+◌, ◌<◌, ℕ, Bool, true, false, ap, get_or, length, replicate, pos, sym, refl, arith, ⊎_elim}
+use Rattle.std.proofs.Common.{◌≡◌, ◌∙◌, ◌+◌, ◌<◌, ap, get_or, length, replicate, pos, sym, refl, arith}
 use Rattle.std.proofs.lemmas.List.{length-set}
-use Rattle.std.proofs.lemmas.Bool.{cases_eq, true≢false}
 use Rattle.nd_shape_and_slice.specs.Shape.{size_of}
 use Rattle.std.specs.Prelude.{slice_get}
 use Rattle.nd_layout.specs.Placements.{placement_of}

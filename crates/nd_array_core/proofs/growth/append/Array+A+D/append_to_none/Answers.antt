@@ -1,4 +1,4 @@
-use Rattle.std.proofs.Common.{◌≡◌, ◌∙◌, List, [], ◌∷◌, ap, arith, length, refl, sym}
+use Rattle.std.proofs.Common.{◌∙◌, ap, arith, refl, sym}
 use Rattle.nd_shape_and_slice.specs.Place.{place_of}
 use Rattle.nd_layout.specs.Placements.{placement_of}
 use Rattle.nd_array_core.specs.Meaning.{meaning_of, memory_layout_of}

@@ -1,5 +1,5 @@
 -- `into_slice_memory_order` takes the view apart, and hands on what `run_if` gives of its region. Assumes `Logic`.
-use Rattle.nd_region.proofs.Walking.{◌≡◌, refl, sym, ap, subst, ◌∙◌, Bool, true, ◌&&◌, ℕ, List, [], ◌∷◌, ◌++◌, SProp, ent, sep, emp, id⊢, via, fst∗, snd∗, Lft, Share, ftrue, flft, Args, Fn, a_type, dcons, dnil, named, w64, ty_ptr, inst_fn, Val, vint, vbool, vstruct, of_list, has_ty, WpFn, ◌⊑◌, Lfts, toks, fact, fact_i, fact_use, tables, ‵, raw, ◌⊛◌, some, later, ◌$◌, ◌∵◌, !, qed, done, move, keep, drop, use0, use1, split, split3, join, fsplit, fsplit3, fjoin, fpick, feq_l, pick, await, updating, now, rewrite, suffices, frame, whole, sub, enter, stop, fld, no_more, and_then, of_opd, returns, alloc_all, pass_all, free_all, look_at, get, get_in, sets, lands_as, Array, usize, bool, no, Is, shows, lone, param, copied, bounded, Laws, param_laws, copied_laws, of_field, row_shared, RattleType, ptr_val, NamedLft, mut_slice_shared, mut_slice_field, mut_slice_laws, MutSlice, Slot, plain, named_lft, nothing, heard, only, peeks, Tuple, calls_at, Ended, Lasts, lasts, on_entry, Vals, triple_of, framed, Stays, stay_dropped, walk_of, ends_at}
+use Rattle.nd_region.proofs.Walking.{◌≡◌, refl, sym, ap, subst, ◌∙◌, Bool, true, ◌&&◌, ℕ, List, [], ◌∷◌, ◌++◌, SProp, ent, sep, emp, id⊢, via, fst∗, snd∗, Lft, Share, ftrue, flft, Args, Fn, a_type, dcons, dnil, named, w64, ty_ptr, inst_fn, Val, vint, vbool, vstruct, of_list, has_ty, WpFn, ◌⊑◌, Lfts, toks, fact, fact_i, fact_use, tables, ‵, raw, ◌⊛◌, some, later, ◌$◌, ◌∵◌, !, qed, done, move, keep, drop, use0, use1, split, split3, join, fsplit, fsplit3, fjoin, fpick, feq_l, pick, await, updating, now, rewrite, suffices, frame, whole, sub, enter, stop, fld, no_more, and_then, of_opd, returns, alloc_all, pass_all, free_all, look_at, get, get_in, sets, lands_as, usize, bool, no, Is, shows, lone, param, copied, bounded, Laws, param_laws, copied_laws, of_field, row_shared, RattleType, ptr_val, NamedLft, mut_slice_shared, mut_slice_field, mut_slice_laws, MutSlice, Slot, plain, named_lft, nothing, heard, only, peeks, Tuple, calls_at, Ended, Lasts, lasts, on_entry, Vals, triple_of, framed, Stays, stay_dropped, walk_of, ends_at}
 use Rattle.std.specs.Prelude.{IsSome, IfSome, IsTrue, ◌↔◌}
 use Rattle.std.specs.contracts.option.Option as OP
 use Rattle.std.proofs.option.Option.TheLaws.{the_row_laws as option_laws}
