@@ -1,6 +1,6 @@
 -- The lanes of an axis: which index of the layout each of their places has.
 use Rattle.std.proofs.Common.{◌≡◌, ℕ, zero, suc, ◌*◌, ◌^◌, ◌<◌, ◌≤◌, true, List, [], ◌∷◌, length, get_or, set, ltb, ℤ, pos, ◌+ℤ◌, ◌*ℤ◌, refl, ap, sym, subst, ◌∙◌, arith}
-use Rattle.std.specs.Prelude.{Option, Some}
+use Rattle.std.specs.Prelude.{Option}
 use Rattle.std.specs.List.{insert, remove}
 use Rattle.std.proofs.Math.Nat.{mul_comm}
 use Rattle.std.proofs.lemmas.Bool.{and_from, lt-ltb}
@@ -31,27 +31,27 @@ use Rattle.nd_elements.proofs.WriteStep.{one_index}
 -- what follows for lanes that lie so
 module _ {shape : List ℕ} {index : ℕ → List ℕ → List ℕ} {axis : ℕ} {layout : Placement} {at : LanePlaces} (by : LieBy shape index axis layout at) where
   pub lanes_reach : ReachesPlaces layout.offset layout.lengths layout.strides → LanesReach at.place at.lanes at.count
-  lanes_reach reach r k below within = ap is_place (by.lies r k below within) ∙ reach (index k (index_at shape r)) (by.inside r k below within)
+  lanes_reach reach r k below within = ap is_place (by.placed r k below within) ∙ reach (index k (index_at shape r)) (by.inside r k below within)
 
   pub lanes_differ : length layout.strides ≡ length layout.lengths → (0 < size_of layout.lengths → IsSeparated layout.lengths layout.strides) → LanesDistinct at.place at.lanes at.count
   lanes_differ many apart r k q j on_r on_q on_k on_j same =
       by.alone r k q j on_r on_q on_k on_j
       (one_index layout.lengths layout.strides layout.offset (index k (index_at shape r)) (index j (index_at shape q)) many apart (by.inside r k on_r on_k) (by.inside q j on_q on_j)
-      (sym (by.lies r k on_r on_k) ∙ (same ∙ by.lies q j on_q on_j)))
+      (sym (by.placed r k on_r on_k) ∙ (same ∙ by.placed q j on_q on_j)))
 
   module _ {A : Type 0} (stored : ℕ → Option A) where
     pub lanes_hold : HoldsAll stored layout.offset layout.lengths layout.strides → (r k : ℕ) → r < at.lanes → k < at.count → names_place stored (at.place r k) ≡ true
-    lanes_hold holds r k below within = ap (names_place stored) (by.lies r k below within) ∙ holds (index k (index_at shape r)) (by.inside r k below within)
+    lanes_hold holds r k below within = ap (names_place stored) (by.placed r k below within) ∙ holds (index k (index_at shape r)) (by.inside r k below within)
 
     -- what lies there is the element at the index
     pub lane_found : (r k : ℕ) → r < at.lanes → k < at.count → stored_at stored (at.place r k) ≡ inside layout.lengths (index k (index_at shape r)) (stored_at stored (place_of layout.offset layout.strides (index k (index_at shape r))))
-    lane_found r k below within = rw (by.inside r k below within) (ap (stored_at stored) (by.lies r k below within))
+    lane_found r k below within = rw (by.inside r k below within) (ap (stored_at stored) (by.placed r k below within))
 
   -- no place of another lane is one of the layout
   pub others_stayed : {A : Type 0} (old new : ℕ → Option A) → ((p : ℕ) → ((r k : ℕ) → r < at.lanes → k < at.count → at.place r k ≡ pos p → ⊥) → new p ≡ old p)
       → OthersStay (λ i. inside layout.lengths i (place_number (place_of layout.offset layout.strides i))) old new
   others_stayed old new left p nowhere =
-      left p (λ r k below within e. nowhere (index k (index_at shape r)) (rw (by.inside r k below within) (ap place_number (sym (by.lies r k below within) ∙ e))))
+      left p (λ r k below within e. nowhere (index k (index_at shape r)) (rw (by.inside r k below within) (ap place_number (sym (by.placed r k below within) ∙ e))))
 
 -- in the words that a caller has for the lengths, the stride and the count
 module _ (offset : ℕ) (ns : List ℕ) (ss : List ℤ) (a : ℕ) (on : a < length ns) (many : length ss ≡ length ns) (start : ℕ) (ls : List ℕ) (us : List ℤ) (s : ℤ) (count : ℕ) (e_s : s ≡ get_or ss a (pos 0)) (e_count : count ≡ get_or ns a 0) where
@@ -75,8 +75,8 @@ module _ (offset : ℕ) (ns : List ℕ) (ss : List ℤ) (a : ℕ) (on : a < leng
         let o = index_at ls r in
         in_box-inserted ns o a k on ∙ and_from (ltb k (get_or ns a 0)) (in_box (remove ns a) o) (lt-ltb k (get_or ns a 0) (under k within)) (subst (λ ms. in_box ms o ≡ true) e_ls (in_box-index_at ls r below))
 
-    lies_at : (r k : ℕ) → r < size_of ls → k < count → lane_place start ls us s r k ≡ place_of offset ss (insert (index_at ls r) a k)
-    lies_at r k below within =
+    placed_at : (r k : ℕ) → r < size_of ls → k < count → lane_place start ls us s r k ≡ place_of offset ss (insert (index_at ls r) a k)
+    placed_at r k below within =
         let o = index_at ls r in
         let some = under k within in
         let at_first : IsStep offset ns ss start ls us (indexed_index a 0) = step (omega (arith, some)) in
@@ -100,7 +100,7 @@ module _ (offset : ℕ) (ns : List ℕ) (ss : List ℤ) (a : ℕ) (on : a < leng
       lanes = refl;
       count = e_count;
       inside = inside_at;
-      lies = lies_at;
+      placed = placed_at;
       alone = λ r k q j on_r on_q on_k on_j one. alone_at r k q j on_r on_q one;
     })
 
@@ -114,8 +114,8 @@ module _ (offset : ℕ) (ns : List ℕ) (ss : List ℤ) (a : ℕ) (on : a < leng
         let back : set ls a (get_or ns a 0) ≡ ns = ap (λ ms. set ms a (get_or ns a 0)) e_ls ∙ (set-set ns a 1 (get_or ns a 0) ∙ set-get_or ns a 0) in
         subst (λ ms. in_box ms (set (index_at ls r) a k) ≡ true) back (in_box-set ls (index_at ls r) a (get_or ns a 0) k (in_box-index_at ls r below) (under k within))
 
-    lies_through : (r k : ℕ) → r < size_of ls → lane_place start ls us s r k ≡ place_of offset ss (set (index_at ls r) a k)
-    lies_through r k below =
+    placed_through : (r k : ℕ) → r < size_of ls → lane_place start ls us s r k ≡ place_of offset ss (set (index_at ls r) a k)
+    placed_through r k below =
         let stride = get_or ss a (pos 0) in
         let o = index_at ls r in
         let long = as_long r below in
@@ -153,7 +153,7 @@ module _ (offset : ℕ) (ns : List ℕ) (ss : List ℤ) (a : ℕ) (on : a < leng
       lanes = refl;
       count = e_count;
       inside = inside_through;
-      lies = λ r k below within. lies_through r k below;
+      placed = λ r k below within. placed_through r k below;
       alone = λ r k q j on_r on_q on_k on_j one. alone_through r k q j on_r on_q one;
     })
 

@@ -38,7 +38,7 @@ module _ {layout : Placement} {a : ℕ} {places : LanePlaces} (on : a < length l
 
   pub in_its_lane : (i : List ℕ) (k : ℕ) → in_box ns i ≡ true → k < n → places.place (row_of i) k ≡ place (set i a k)
   in_its_lane i k h within =
-      by.lies (row_of i) k (subst (λ m. row_of i < m) (sym by.lanes) (row_below i h)) (subst (λ m. k < m) (sym by.count) within)
+      by.placed (row_of i) k (subst (λ m. row_of i < m) (sym by.lanes) (row_below i h)) (subst (λ m. k < m) (sym by.count) within)
       ∙ ap place (ap (λ o. set o a k) (index_at-row_rank (collapsed_shape ns a) (set i a 0) (outer_in i h)) ∙ set-set i a 0 k)
 
   pub in_lane : (i : List ℕ) → in_box ns i ≡ true → places.place (row_of i) (get_or i a 0) ≡ place i

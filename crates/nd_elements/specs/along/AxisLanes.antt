@@ -47,6 +47,10 @@ lanes_from firsts count stride = record { lanes = size_of firsts.lengths; count 
 abbrev pub lanes_beside : ℕ → Lane → LanePlaces
 lanes_beside lanes lane = record { lanes = lanes; count = lane.count; place = λ r k. pos (lane.place + r) +ℤ (pos k *ℤ lane.stride) }
 
+-- the lane is the first of them, and each next one begins a place further
+abbrev pub BeginBeside : LanePlaces → Lane → Type 0
+BeginBeside at lane = (lane.count ≡ at.count) × ((r k : ℕ) → r < at.lanes → (lanes_beside at.lanes lane).place r k ≡ at.place r k)
+
 -- together they have so few places that a layout of all of them may exist
 abbrev pub AreChecked : LanePlaces → Type 0
 AreChecked at = at.lanes * at.count < 2 ^ 63
@@ -75,7 +79,7 @@ pub record LieBy (shape : List ℕ) (index : ℕ → List ℕ → List ℕ) (axi
   pub lanes : at.lanes ≡ size_of shape
   pub count : at.count ≡ slice_index layout.lengths axis
   pub inside : (r k : ℕ) → r < at.lanes → k < at.count → IsTrue (in_box layout.lengths (index k (index_at shape r)))
-  pub lies : (r k : ℕ) → r < at.lanes → k < at.count → at.place r k ≡ place_of layout.offset layout.strides (index k (index_at shape r))
+  pub placed : (r k : ℕ) → r < at.lanes → k < at.count → at.place r k ≡ place_of layout.offset layout.strides (index k (index_at shape r))
   pub alone : (r k q j : ℕ) → r < at.lanes → q < at.lanes → k < at.count → j < at.count → index k (index_at shape r) ≡ index j (index_at shape q) → (r ≡ q) × (k ≡ j)
 
 -- the lanes of a layout's axis, by the indexes of the other axes

@@ -1,12 +1,7 @@
 -- The places of the lanes of an axis that are held as one value.
 use Rattle.nd_layout.specs.Lanes.{placement_in}
-use Rattle.nd_layout.specs.Ranks.{IsStandard}
 use Rattle.nd_elements.specs.along.AxisLanes.{LanePlaces, lanes_from}
 use Rattle.nd_elements.specs.declared.along.axis_lanes.AxisLanes.{AxisLanes}
 
 abbrev pub lanes_in : AxisLanes → LanePlaces
 lanes_in lanes = lanes_from (placement_in lanes.firsts) lanes.count lanes.stride
-
--- each begins a place behind the one before
-abbrev pub BeginInTurn : AxisLanes → Type 0
-BeginInTurn lanes = IsStandard lanes.firsts.lengths.now lanes.firsts.strides.now

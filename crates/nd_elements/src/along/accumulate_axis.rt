@@ -11,7 +11,6 @@ ghost use Rattle.nd_elements.specs.along.Accumulated.{TakesAfter, ChangesNext, T
 use crate::along::accumulate_beside::accumulate_beside;
 use crate::along::accumulate_run::accumulate_run;
 use crate::along::axis_lanes::AxisLanes;
-use crate::along::first_places::lane_from;
 use crate::storage::DataMut;
 use nd_layout::{Lane, Places};
 use nd_region::Region;
@@ -168,8 +167,7 @@ pub fn accumulate_lanes<S: DataMut, F: FnMut(&S::Elem, &mut S::Elem)>(
     ensures accumulated { AccumulatesLanes F.FnMut S.stored (lanes_in lanes.entry) storage.old storage.new f result }
     ensures frame { S.frame storage.new ≡ S.frame storage.old }
 {
-    if lanes.are_beside() {
-        let lane = lane_from(lanes.firsts.first, lanes.count, lanes.stride);
+    if let Some(lane) = lanes.beside() {
         return accumulate_beside(storage, lane, lanes.lanes, f);
     }
     accumulate_in_turn(storage, lanes, f)

@@ -1,6 +1,6 @@
 //! The lanes of an axis as one value: what a loop over them goes by.
 
-ghost use Rattle.std.specs.Prelude.{◌≡◌, ◌<◌, ◌^◌, IsTrue};
+ghost use Rattle.std.specs.Prelude.{◌≡◌, ◌<◌, ◌^◌, IfSome};
 ghost use Rattle.nd_shape_and_slice.specs.Shape.{size_of};
 ghost use Rattle.nd_shape_and_slice.specs.Place.{span_of};
 ghost use Rattle.nd_elements.specs.along.AxisLanes.{lane_place, LanesReach};
@@ -42,8 +42,8 @@ pub struct LanesInTurn<'a> {
 
 impl<'a> AxisLanes<'a> {
     ghost use Rattle.nd_layout.specs.Placements.{placement_of};
-    ghost use Rattle.nd_elements.specs.along.AxisLanes.{LanesLie, lanes_from};
-    ghost use Rattle.nd_elements.specs.along.LanesIn.{lanes_in, BeginInTurn};
+    ghost use Rattle.nd_elements.specs.along.AxisLanes.{LanesLie, lanes_from, BeginBeside};
+    ghost use Rattle.nd_elements.specs.along.LanesIn.{lanes_in};
 
     /// The lanes that begin at the places of a layout.
     pub fn new<D: Dimension, T: StrideList>(
@@ -63,12 +63,16 @@ impl<'a> AxisLanes<'a> {
         }
     }
 
-    /// Whether one begins beside the other, and there are enough for going along them together.
-    pub fn are_beside(&self) -> bool
-        ensures some { IsTrue result → 0 < self.now.lanes }
-        ensures standard { IsTrue result → BeginInTurn self.now }
+    /// The first lane, where each next one begins a place behind the one before, and they are enough for going along them
+    /// together.
+    pub fn beside(&self) -> Option<Lane>
+        ensures some { IfSome result (λ _. 0 < self.now.lanes) }
+        ensures beside { IfSome result (BeginBeside (lanes_in self.now)) }
     {
-        self.lanes >= FEWEST && is_standard(self.firsts.lengths, self.firsts.strides)
+        if self.lanes >= FEWEST && is_standard(self.firsts.lengths, self.firsts.strides) {
+            return Some(lane_from(self.firsts.first, self.count, self.stride));
+        }
+        None
     }
 
     /// One after the other, from the first on.

@@ -10,7 +10,6 @@ ghost use Rattle.nd_elements.specs.along.LanesIn.{lanes_in};
 ghost use Rattle.nd_elements.specs.along.LanesFolded.{FoldsRun, TakesRun, LanesFoldable, FoldsEachLane};
 
 use crate::along::axis_lanes::AxisLanes;
-use crate::along::first_places::lane_from;
 use crate::along::fold_beside::{clones_in, fold_beside};
 use crate::storage::Data;
 use nd_layout::Lane;
@@ -86,9 +85,8 @@ pub fn fold_lanes<S: Data, B: Clone + Drop, F: FnMut(&B, &S::Elem) -> B>(
     ensures folds { IfOk result (FoldsEachLane F.FnMut S.stored lanes.entry storage.now init.now f) }
     ensures refused { OnErr result (MayRefuseClonesOf B.is_infallible init.now lanes.entry.lanes) }
 {
-    if lanes.are_beside() {
+    if let Some(lane) = lanes.beside() {
         let starts = clones_in(room, init, lanes.lanes)?;
-        let lane = lane_from(lanes.firsts.first, lanes.count, lanes.stride);
         return Ok(fold_beside(starts, storage, lane, f));
     }
     fold_in_turn(room, storage, lanes, init, f)

@@ -1,4 +1,4 @@
-//! The lanes of a layout's axis, made of the layout and of one of their first places.
+//! The lanes of an axis of a layout. A second layout has the places where they begin.
 
 ghost use Rattle.std.specs.Prelude.{◌≡◌, ◌<◌, length, slice_index};
 ghost use Rattle.nd_shape_and_slice.specs.Shape.{size_of};

@@ -1,4 +1,4 @@
-use Rattle.std.proofs.Common.{◌≡◌, ◌<◌, ◌≤◌, ◌∙◌, ℕ, Some, is_some, ap, sym, subst, arith}
+use Rattle.std.proofs.Common.{◌≡◌, ◌<◌, ◌∙◌, ℕ, Some, is_some, ap, sym, subst, arith}
 use Rattle.std.specs.List.{insert}
 use Rattle.std.proofs.Math.Path.{fun_ext}
 use Rattle.nd_shape_and_slice.specs.Shape.{size_of, index_at}
