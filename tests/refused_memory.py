@@ -65,7 +65,7 @@ def run_all(program, inputs, refused, runners=2):
     for line in ends.splitlines():
         words = line.split()
         if words[:1] == ["allocations:"]:
-            requests = int(words[1])
+            requests = int(words[-1])
         elif line.startswith("case=") and words[1] == "run=ended" and int(words[3].removeprefix("runners=")) >= runners:
             name = words[0].removeprefix("case=")
             found[name] = (texts.get(name, ""), int(words[2].removeprefix("status=")), requests)
