@@ -10,6 +10,7 @@ use Rattle.nd_steps.specs.Steps.{first_failed, tests_of, unless, shape_along, nu
 use Rattle.nd_steps.specs.Acts.{path_tests, meaning_at_end}
 use Rattle.nd_steps.specs.Written.{unless_refused}
 use Rattle.nd_steps.specs.Paths.{look_refusal}
+use Rattle.nd_steps.proofs.StepLemmas.{tests_pass, tests_fail}
 use Rattle.nd_run.specs.Fold.{answer_to, answer_or_refusal, question_tests, answers_in_memory, IsCarriedOutOrLacks, tests_for, done, outcome, given_by, reply_to}
 
 module _ {A : Type 0} where
