@@ -33,6 +33,7 @@ fn is_at(element: Option<((usize, usize), &u64)>, row: usize, column: usize, val
 fn has_windows<S: Data<Elem = u64>>(table: &ArrayBase<S, Ix2>) -> bool {
     let mut left = windows(table, 2, 3);
     left.len() == 4
+        && left.size_hint() == (4, Some(4))
         && has_digits(left.next(), 123567)
         && has_digits(left.next_back(), 678123)
         && joined(left, 1_000_000) == 234678567912
@@ -81,6 +82,7 @@ fn has_indexed<S: Data<Elem = u64>>(table: &ArrayBase<S, Ix2>) -> bool {
         && is_at(left.next(), 0, 1, 2)
         && is_at(left.next_back(), 2, 3, 3)
         && left.len() == 9
+        && left.size_hint() == (9, Some(9))
 }
 
 #[test]
@@ -120,6 +122,7 @@ fn the_transpose_from_the_last_element(rt: HostRuntime) {
 fn has_rows_from_the_last<S: Data<Elem = u64>>(table: &ArrayBase<S, Ix2>) -> bool {
     let mut left = rows(table);
     has_digits(left.next_back(), 9123)
+        && left.size_hint() == (2, Some(2))
         && has_digits(left.next(), 1234)
         && has_digits(left.next_back(), 5678)
         && left.next_back().is_none()

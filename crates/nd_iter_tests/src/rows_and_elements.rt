@@ -24,7 +24,10 @@ fn has_ends<S: Data<Elem = u64>, D: Dimension>(
     between: usize,
 ) -> bool {
     let mut left = iter(array);
-    is(left.next(), first) && is(left.next_back(), last) && left.len() == between
+    is(left.next(), first)
+        && is(left.next_back(), last)
+        && left.len() == between
+        && left.size_hint() == (between, Some(between))
 }
 
 /// Whether there is no element.

@@ -52,11 +52,15 @@ fn two_matrices(rt: HostRuntime) {
 }
 
 #[test]
-fn an_empty_inner_axis(rt: HostRuntime) {
+fn empty_axes(rt: HostRuntime) {
     let alloc = rt.alloc();
     let one: Array2<u64> = made(alloc, (2, 0), &[]).expect(&rt, "made");
     let other: Array2<u64> = made(alloc, (0, 3), &[]).expect(&rt, "made");
     assert!(rt; multiply_to(alloc, &one, &other, [2, 3], &[0, 0, 0, 0, 0, 0]));
+    let two: Array2<u64> = made(alloc, (3, 2), &[1, 9, 0, 5, 4, 1]).expect(&rt, "made");
+    let vector: Array1<u64> = made(alloc, 3, &[1, 10, 100]).expect(&rt, "made");
+    assert!(rt; multiply_to(alloc, &other, &two, [0, 2], &[]));
+    assert!(rt; maps_to(alloc, &other, &vector, &[]));
 }
 
 #[test]

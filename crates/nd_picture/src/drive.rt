@@ -144,7 +144,8 @@ pub fn drive<R: Read, W: Write, E: Write>(
     errors: &mut Watched<E>,
 ) -> u8
     ensures told { result < 3 → WritesWhatComes R.remaining W.contents E.contents (words_of line.now) input.old output.old output.new errors.old errors.new result }
-    ensures beginning { BeginsWhatComes R.remaining W.contents E.contents (words_of line.now) input.old input.new output.old output.new errors.old errors.new }
+    ensures beginning { BeginsWhatComes R.remaining W.contents E.contents (words_of line.now)
+        input.old input.new output.old output.new errors.old errors.new }
     ensures unread { AreNoSteps (words_of line.now) → input.new ≡ input.old }
     ensures failed { (result == 3) ≡ (watched_failed input.new || watched_failed output.new || watched_failed errors.new) }
     ensures statuses { result ≤ 3 }

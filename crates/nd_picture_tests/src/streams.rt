@@ -63,6 +63,20 @@ fn a_read_that_fails(rt: HostRuntime) {
 }
 
 #[test]
+fn steps_that_are_none(rt: HostRuntime) {
+    let mut input = Watched::new(Flaky {
+        text: IMAGE,
+        at: 0,
+        cut: 0,
+    });
+    let mut output = Watched::new(Vec::new(rt.alloc()));
+    let mut errors = Watched::new(Vec::new(rt.alloc()));
+    let status = drive(rt.alloc(), b"turn", &mut input, &mut output, &mut errors);
+    assert!(rt; status == 1);
+    assert!(rt; errors.into_inner().as_slice() == b"step 1 can't be read\n".as_slice());
+}
+
+#[test]
 fn a_write_that_fails(rt: HostRuntime) {
     let mut output = Watched::new(Full);
     let mut errors = Watched::new(Vec::new(rt.alloc()));
