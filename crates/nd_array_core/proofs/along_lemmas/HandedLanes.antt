@@ -6,6 +6,7 @@ use Rattle.std.specs.Fn.{Mut}
 use Rattle.std.specs.List.{insert, remove}
 use Rattle.std.specs.Option.{option_map}
 use Rattle.std.proofs.lemmas.Bool.Decides.{nat_tests}
+use Rattle.std.proofs.lemmas.Option.{same_Some}
 use Rattle.nd_shape_and_slice.specs.Shape.{in_box, size_of, index_at}
 use Rattle.nd_shape_and_slice.specs.Maps.{indexed_shape}
 use Rattle.nd_shape_and_slice.specs.Place.{place_of}

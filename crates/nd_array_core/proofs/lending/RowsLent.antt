@@ -1,8 +1,37 @@
+<<<<<<< HEAD
 -- The first rows of a slice of rows are lent, and the slice ends with them and with the others as they were. Assumes `Logic`.
 use Rattle.nd_region.proofs.Walking.{◌≡◌, refl, sym, ap, ◌∙◌, ℕ, ◌+◌, ◌*◌, List, [], ◌∷◌, ◌++◌, length, length-append, Ura, Lifetime, Val, SProp, ent, sep, ex, emp, guard, guard_i, coded_list, Lft, GName, Share, flft, fobs, fbor, fact_i, fact_use, Logic, sem, Item, ‵, ◌⊛◌, given, later, some, ◌$◌, ◌∵◌, !, qed, by, move, keep, drop, use1, use2, split, split3, fsplit, fsplit3, fjoin, feq_l, feq_i, rewrite, learn, check, group, pick, updating, await, now, show, done, cells, Arr, Body, takes_part, open_ref, Array, Single, follows, heres_id, slice_of, mem, RattleType, MutSlice, Room, slice_val}
 use borrow.Table.Elements.{at, cut_app, join_app}
+=======
+-- The first rows of a slice or of an array of rows are lent, and it ends with them and with the others as they were. Assumes `Logic`.
+use mathlib.Core.Path.{◌≡◌, refl, sym, ap, ◌∙◌}
+use Prim.Native.Nat.{ℕ, ◌+◌, ◌*◌}
+use mathlib.Core.List.{List, [], ◌∷◌, ◌++◌}
+use lib.ListN.{length, length-append}
+use seplogic.Ra.Ura.{Ura}
+use mir.Syntax.{Lifetime}
+use mir.Val.{Val}
+use base.Logic.{SProp, ent, sep, ex, emp, guard, guard_i}
+use base.Stored.{coded_list}
+use base.Fml.{Lft, GName, Share, flft, fobs, fbor}
+use borrow.Table.Elements.{at, cut_app, join_app}
+use contract.Monad.{fact_i, fact_use}
+use types.Logic.{Logic, sem}
+use types.Kit.{Item, ‵, ◌⊛◌, given, later, some, ◌$◌, ◌∵◌, !, qed, by, move, keep, drop, use1, use2, split, split3, fsplit, fsplit3, fjoin, feq_l, feq_i, rewrite, learn, check, group, pick, updating, await, now, show, done}
+use types.SemTy.{cells, Arr, Body}
+use types.Follow.{takes_part}
+use types.Mut.{open_ref}
+use denote.Array.{Array}
+use denote.ArrayMemory.{Single}
+use denote.Follow.{follows}
+use denote.FollowSlice.{heres_id, slice_of}
+use denote.Memory.{mem}
+use denote.RattleType.{RattleType}
+use denote.Ref.{MutRef}
+use denote.Slice.{MutSlice, Room, slice_val}
+>>>>>>> 61b3f234cd916f0b7dfbfe40fe11876ae2e23eda
 use Rattle.std.specs.List.{flat_map}
-use Rattle.std.proofs.slice.Relends.{runs_out, SliceLent}
+use Rattle.std.proofs.slice.Relends.{array_in, array_out, runs_out, SliceLent}
 
 -- rows of n elements have n elements each
 long_rows : {M : Type 1} {𝓤 : Ura M} (𝓛 : Logic 𝓤) (R : RattleType) (single : Single R.mir) (n b : ℕ) (ys : List (List R.Denot)) (o : ℕ)
@@ -52,3 +81,34 @@ module _ {M : Type 1} {𝓤 : Ura M} (𝓛 : Logic 𝓤) (ℓ : Lifetime) (κ : 
       use1 𝓛 (later (some (λ (δ : GName). ‵ (fobs δ ((coded_list Row.coded).code front)) ⊛ ‵ (fbor κ (Body (Arr (mem Row) (length front)) b o δ)) ⊛ ‵ (flft κ q) ⊛ ‵ (follows (Array Row 0) (Array Row 0) γ δ with_back))))
       (takes_part 𝓛 (Arr (mem Row) (length whole)) (Arr (mem Row) (length front)) with_back κ q b o b o γ (sem 𝓛 (cells (mem Row) back b (at o (mem Row).size (length front)))) put ((coded_list Row.coded).code whole) ((coded_list Row.coded).code whole) front) $ await ! tt $ pick ! (λ δ. split3 ! $
       use2 𝓛 (‵ ((MutSlice ℓ κ Row).own_val (record { ref_ptr = (b, o); ghost_name = δ; now = front }) (slice_val (b, o) (length front) ∷ []))) (slice_of 𝓛 Row ℓ κ b o δ front rm) $ now ! $ show ! FirstLent δ $ check ! long $ done !))
+
+  module _ (m : ℕ) where
+    abbrev Rows : RattleType
+    Rows = Array Row m
+
+    -- the same of an array, which has as many
+    abbrev pub of_array : GName → Item 𝓤
+    of_array δ = given (length whole ≡ m) (given (length (flat_map (λ x. x) front) ≡ length front * n)
+        (‵ ((MutSlice ℓ κ Row).own_val (record { ref_ptr = (b, o); ghost_name = δ; now = front }) (slice_val (b, o) (length front) ∷ [])) ⊛ ‵ (flft κ q) ⊛ ‵ (follows Rows (Array Row 0) γ δ with_back)))
+
+    abbrev OfArray : GName → SProp 𝓤
+    OfArray δ = guard 𝓤 (length whole ≡ m) (guard 𝓤 (length (flat_map (λ x. x) front) ≡ length front * n) (SliceLent 𝓛 ℓ κ q b o γ Rows Row with_back front δ))
+
+    put_back : length whole ≡ m → (ws : List (List R.Denot)) → ent 𝓤 (sep 𝓤 (sem 𝓛 ((Arr (mem Row) (length front)).own_at ws b o)) (sem 𝓛 (cells (mem Row) back b (at o (mem Row).size (length front))))) (sem 𝓛 ((mem Rows).own_at (with_back ws) b o))
+    put_back all ws =
+        qed 𝓛 (‵ ((Arr (mem Row) (length front)).own_at ws b o) ∷ ‵ (cells (mem Row) back b (at o (mem Row).size (length front))) ∷ []) ∵ fsplit ! $ feq_l ! (λ e.
+        rewrite ! 1 (λ (j : ℕ). ‵ (cells (mem Row) back b (at o (mem Row).size j))) (sym e) refl $
+        use2 𝓛 (‵ (cells (mem Row) (with_back ws) b o)) (join_app 𝓛 (mem Row) ws back b o) $
+        by ! (array_in 𝓛 Row tt m b (with_back ws) o (length-append ws back ∙ ap (λ (j : ℕ). j + length back) e ∙ sym (length-append front back) ∙ all)))
+
+    pub lends_of_array : (length whole ≡ m → Room Row (length front)) → (vs : List Val)
+        → ent 𝓤 (sep 𝓤 (sem 𝓛 ((MutRef ℓ κ Rows).own_val (record { ref_ptr = (b, o); ghost_name = γ; now = whole }) vs)) (A.lft κ q)) (H.⇛ (ex 𝓤 OfArray))
+    lends_of_array rm vs =
+        qed 𝓛 (‵ ((MutRef ℓ κ Rows).own_val (record { ref_ptr = (b, o); ghost_name = γ; now = whole }) vs) ∷ ‵ (flft κ q) ∷ []) ∵ updating ! $ fsplit3 ! $ drop ! $
+        open_ref ! tt (mem Rows) {b = b} {o = o} $ use1 𝓛 (given (length whole ≡ m) (‵ (cells (mem Row) whole b o))) (array_out 𝓛 Row tt m b whole o) $ learn ! (λ all.
+        use1 𝓛 (‵ (cells (mem Row) front b o) ⊛ ‵ (cells (mem Row) back b (at o (mem Row).size (length front)))) (cut_app 𝓛 (mem Row) front back b o) $ split ! $
+        use1 𝓛 (given (length (flat_map (λ x. x) front) ≡ length front * n) (‵ (cells (mem Row) front b o))) (long_rows 𝓛 R single n b front o) $ learn ! (λ long.
+        feq_i ! ℕ (length front) (length front) refl $ fjoin ! $ move ! (2 ∷ 3 ∷ 4 ∷ 0 ∷ 1 ∷ []) $ group ! 5 $
+        use1 𝓛 (later (some (λ (δ : GName). ‵ (fobs δ ((coded_list Row.coded).code front)) ⊛ ‵ (fbor κ (Body (Arr (mem Row) (length front)) b o δ)) ⊛ ‵ (flft κ q) ⊛ ‵ (follows Rows (Array Row 0) γ δ with_back))))
+        (takes_part 𝓛 (mem Rows) (Arr (mem Row) (length front)) with_back κ q b o b o γ (sem 𝓛 (cells (mem Row) back b (at o (mem Row).size (length front)))) (put_back all) (Rows.coded.code whole) (Rows.coded.code whole) front) $ await ! tt $ pick ! (λ δ. split3 ! $
+        use2 𝓛 (‵ ((MutSlice ℓ κ Row).own_val (record { ref_ptr = (b, o); ghost_name = δ; now = front }) (slice_val (b, o) (length front) ∷ []))) (slice_of 𝓛 Row ℓ κ b o δ front (rm all)) $ now ! $ show ! OfArray δ $ check ! all $ check ! long $ done !)))

@@ -10,6 +10,7 @@ use Rattle.nd_elements.specs.declared.storage.Data as data_trait
 use Rattle.nd_elements.specs.declared.storage.RegionRepr.{RegionRepr}
 use Rattle.nd_array_core.specs.declared.base.array.ArrayBase.{ArrayBase}
 use Rattle.nd_array_core.specs.Meaning.{storage_of, shape_of}
+use Rattle.nd_array_core.specs.layout.ViewLent.{tie_of}
 
 module _ {A D T R : Type 0} {s : data_trait.Ghosts (RegionRepr (Region A)) A} {d : dimension.Ghosts D R} {n : axis_count.Ghosts D} {r : stride_list.Ghosts R} {t : stride_list.Ghosts T} where
   -- the name under which a mutable view's region holds its elements
@@ -34,3 +35,12 @@ module _ (E : RattleType) {D T R : Type 0} {s : data_trait.Ghosts (RegionRepr (R
   -- the rows that the view shows end with the elements of its region, and the others as they were
   abbrev pub rows_follow_view : (m : ℕ) → MutBor (List (List E.Denot)) → ArrayBase (RegionRepr (Region E.Denot)) D T E.Denot R s d n r t → Fml
   rows_follow_view m rows view = follows (Array (Array E m) 0) (Array E 0) rows.ghost_name (view_name view) (rows_rewritten m (row_count (shape_of view)) rows.now)
+
+-- rows of which the first k were left as ws
+abbrev pub rows_left : {X : Type 0} → ℕ → List X → List X → List X
+rows_left k rows ws = ws ++ drop k rows
+
+module _ (E : RattleType) {D T R : Type 0} {s : data_trait.Ghosts (RegionRepr (Region E.Denot)) E.Denot} {d : dimension.Ghosts D R} {n : axis_count.Ghosts D} {r : stride_list.Ghosts R} {t : stride_list.Ghosts T} where
+  -- of an array of count rows those that the view shows end somehow, and the others as they were
+  abbrev pub row_array_follows_view : (count m : ℕ) → MutBor (List (List E.Denot)) → ArrayBase (RegionRepr (Region E.Denot)) D T E.Denot R s d n r t → Fml
+  row_array_follows_view count m rows view = follows (Array (Array E m) count) (Array (Array E m) count) rows.ghost_name (tie_of view) (rows_left (row_count (shape_of view)) rows.now)

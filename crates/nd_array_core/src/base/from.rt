@@ -12,7 +12,7 @@ ghost use Rattle.nd_shape_and_slice.specs.declared.builder.Order.TheVariants.{Ro
 ghost use Rattle.nd_array_core.specs.Part.{ShowsWhole};
 ghost use Rattle.nd_array_core.specs.base.Fresh.{OwnsInOrder, OwnsVec};
 ghost use Rattle.nd_array_core.specs.base.Sources.{HoldsBelow, IsAllZero, IsRowMajorOf, IsRowMajorIn};
-ghost use Rattle.nd_array_core.specs.base.SliceLent.{rows_follow_view};
+ghost use Rattle.nd_array_core.specs.base.SliceLent.{row_array_follows_view, rows_follow_view};
 
 use crate::base::array::{Array, ArrayBase, ArrayView, ArrayViewMut};
 use crate::base::from_shape::in_order;
@@ -179,7 +179,11 @@ impl<'a, A, const N: usize, const M: usize> From<&'a [[A; N]; M]> for ArrayView<
 impl<'a, A, const N: usize, const M: usize> From<&'a mut [[A; N]; M]> for ArrayViewMut<'a, A, Ix2> {
     ghost from_gives = { λ rows view. IsRowMajorOf (M ∷ N ∷ []) (flat_map (λ row. row) rows.now) view };
 
-    fn from(rows: &'a mut [[A; N]; M]) -> Self {
-        ArrayViewMut::from(&mut rows[..])
+    fn from(rows: &'a mut [[A; N]; M]) -> Self
+        ensures* follows { sem 𝓛 (row_array_follows_view A.row M N rows.entry result) }
+        ensures gives { IsRowMajorOf (M ∷ N ∷ []) (flat_map (λ row. row) rows.old) result }
+    {
+        let count = rows_with_places(M, N);
+        region_on_two_axes(Region::from_rows(&mut rows[..count]), M, N)
     }
 }
