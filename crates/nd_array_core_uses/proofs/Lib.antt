@@ -4,3 +4,4 @@ pub mod Outcomes
 pub mod Rows
 pub mod Fronts
 pub mod Images
+pub mod RowSeen

@@ -3,6 +3,7 @@ pub mod Images
 pub mod Lanes
 pub mod Loops
 pub mod Painting
+pub mod Pasted
 pub mod Slices
 pub mod Sums
 pub mod Tables

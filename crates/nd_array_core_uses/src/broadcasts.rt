@@ -15,6 +15,7 @@ pub fn table_of<'a, A>(
 ) -> Option<ArrayView2<'a, A>>
     requires { shape_of one.now ≡ 1 ∷ [] }
     ensures some { IsSome result ↔ HasCheckedSize (rows ∷ columns ∷ []) }
+    ensures shape { IfSome result (λ v. shape_of v ≡ rows ∷ columns ∷ []) }
     ensures elements { IfSome result (λ v. (i j : ℕ) → i < rows → j < columns → element_at v (i ∷ j ∷ []) ≡ element_at one.now (0 ∷ [])) }
 {
     match one.broadcast((rows, columns)) {

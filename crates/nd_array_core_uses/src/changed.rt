@@ -29,6 +29,8 @@ pub fn double_rectangle<S: DataMut<Elem = u64>>(
     ensures shape { shape_of image.new ≡ shape_of image.old }
     ensures within { (row column : ℕ) → top ≤ row → row < bottom → left ≤ column → column < right → element_of_2 image.new row column ≡ option_map (λ x. (x * 2) % 2 ^ 64) (element_of_2 image.old row column) }
     ensures above { (row column : ℕ) → row < top → element_of_2 image.new row column ≡ element_of_2 image.old row column }
+    ensures below { (row column : ℕ) → bottom ≤ row → element_of_2 image.new row column ≡ element_of_2 image.old row column }
+    ensures before { (row column : ℕ) → column < left → element_of_2 image.new row column ≡ element_of_2 image.old row column }
     ensures after { (row column : ℕ) → right ≤ column → element_of_2 image.new row column ≡ element_of_2 image.old row column }
 {
     image.map_slice(

@@ -1,7 +1,7 @@
 //! Images seen otherwise, each caller exact in coordinates and proved with no proof file, over every storage and element.
 #![tactic(auto, using(nd_array_core::proofs::Axes::known_axes))]
 
-ghost use Rattle.std.specs.Prelude.{◌↔◌, ◌≡◌, ◌<◌, ◌≤◌, ◌+◌, ◌-◌, ◌*◌, ◌∷◌, [], ℕ, length, min, nat_eq, replicate, slice_get, slice_index, IsSome, IfSome, IfOk};
+ghost use Rattle.std.specs.Prelude.{◌↔◌, ◌≡◌, ◌<◌, ◌≤◌, ◌+◌, ◌-◌, ◌*◌, ◌/◌, ◌∷◌, [], ℕ, length, min, nat_eq, replicate, slice_get, slice_index, IsSome, IfSome, IfOk};
 ghost use Rattle.std.specs.Option.{option_copied};
 ghost use Rattle.nd_shape_and_slice.specs.Shape.{row_rank};
 ghost use Rattle.nd_array_core.specs.Meaning.{shape_of, element_at};
@@ -80,8 +80,9 @@ pub fn neighbourhood<'a, S: Data>(
     Some(crop(image, row - 1, row + 2, column - 1, column + 2))
 }
 
-/// Every second row.
+/// Every second row, from the first on.
 pub fn every_second_row<S: Data>(image: &ArrayBase<S, Ix2>) -> ArrayView2<'_, S::Elem>
+    ensures shape { HasRowsAndColumns result ((slice_index (shape_of image.now) 0 + 1) / 2) (slice_index (shape_of image.now) 1) }
     ensures elements { (row column : ℕ) → row + row < slice_index (shape_of image.now) 0 → column < slice_index (shape_of image.now) 1 → element_of_2 result row column ≡ element_of_2 image.now (row + row) column }
 {
     image.slice(s![Slice::from(..).step_by(2), ..])
@@ -90,6 +91,7 @@ pub fn every_second_row<S: Data>(image: &ArrayBase<S, Ix2>) -> ArrayView2<'_, S:
 /// Every second row and column, from the first on.
 #[tactic(auto, using(std::proofs::lemmas::Bool::Decides::nat_tests, nd_array_core::proofs::Axes::known_axes))]
 pub fn thumbnail<S: Data>(image: &ArrayBase<S, Ix2>) -> ArrayView2<'_, S::Elem>
+    ensures shape { HasRowsAndColumns result ((slice_index (shape_of image.now) 0 + 1) / 2) ((slice_index (shape_of image.now) 1 + 1) / 2) }
     ensures elements { (row column : ℕ) → row * 2 < slice_index (shape_of image.now) 0 → column * 2 < slice_index (shape_of image.now) 1 → element_of_2 result row column ≡ element_of_2 image.now (row * 2) (column * 2) }
 {
     image.slice(s![Slice::from(..).step_by(2), Slice::from(..).step_by(2)])
@@ -108,12 +110,13 @@ pub fn diagonal_seen<S: Data>(matrix: &ArrayBase<S, Ix2>) -> ArrayView1<'_, S::E
 pub fn second_column<S: Data>(image: &ArrayBase<S, Ix2>) -> ArrayView1<'_, S::Elem>
     requires columns { 1 < slice_index (shape_of image.now) 1 }
     requires rows { 1 ≤ slice_index (shape_of image.now) 0 }
+    ensures shape { HasLength result (slice_index (shape_of image.now) 0 - 1) }
     ensures elements { (row : ℕ) → row + 1 < slice_index (shape_of image.now) 0 → element_of_1 result row ≡ element_of_2 image.now (row + 1) 1 }
 {
     image.slice(s![1.., 1])
 }
 
-/// Whether two positions hold something: a diagonal test.
+/// A column.
 pub fn column_seen<S: Data>(image: &ArrayBase<S, Ix2>, column: usize) -> ArrayView1<'_, S::Elem>
     requires { column < slice_index (shape_of image.now) 1 }
     ensures shape { HasLength result (slice_index (shape_of image.now) 0) }
@@ -142,6 +145,7 @@ pub fn part_of_transposed_row<S: Data>(
     requires row { row < slice_index (shape_of image.now) 1 }
     requires from { from ≤ to }
     requires to { to ≤ slice_index (shape_of image.now) 0 }
+    ensures shape { HasLength result (to - from) }
     ensures elements { (i : ℕ) → i < to - from → element_of_1 result i ≡ element_of_2 image.now (from + i) row }
 {
     let part = image.t().slice_axis_move(Axis(1), Slice::between(from, to));

@@ -1,7 +1,7 @@
 //! The even rows of a grid and the odd ones, filled at once through two views.
 #![tactic(auto, using(nd_array_core::proofs::Axes::known_axes))]
 
-ghost use Rattle.std.specs.Prelude.{◌≡◌, ◌<◌, ◌%◌, ◌∷◌, [], ℕ, length, nat_eq, slice_index, Some, IsSome, IfSome, OnOk, if◌then◌else◌, IsTrue};
+ghost use Rattle.std.specs.Prelude.{◌↔◌, ◌≡◌, ◌<◌, ◌%◌, ◌∷◌, [], ℕ, length, nat_eq, slice_index, Some, IsSome, IfSome, IfNone, OnOk, if◌then◌else◌, IsTrue};
 ghost use Rattle.nd_shape_and_slice.specs.Shape.{in_box};
 ghost use Rattle.nd_array_core.specs.Meaning.{shape_of, element_at};
 ghost use Rattle.nd_array_core.specs.layout.MultiSlice.{TwoFit};
@@ -35,8 +35,8 @@ pub fn fill_slices<
     array.with_multi_slice_mut(lists, FillBoth { first, second })
 }
 
-/// Fills what each of two lists of slices names, as `fill_slices`; None where a list doesn't fit the shape, or where they
-/// name an element in common.
+/// Fills what each of two lists of slices names, as `fill_slices`; None exactly where a list doesn't fit the shape, or where
+/// they name an element in common, and then nothing changes.
 pub fn try_fill_slices<
     A: Clone + Drop,
     S: DataMut<Elem = A>,
@@ -46,10 +46,12 @@ pub fn try_fill_slices<
 >(array: &mut ArrayBase<S, D>, lists: (I, J), first: A, second: A) -> Option<Result<(), NoMemory>>
     requires first { ClonesAreEqual A.is_clone first }
     requires second { ClonesAreEqual A.is_clone second }
-    ensures some { TwoFit (shape_of array.old) (I.elements_of lists.0) (J.elements_of lists.1) → IsSome result }
+    ensures some { IsSome result ↔ TwoFit (shape_of array.old) (I.elements_of lists.0) (J.elements_of lists.1) }
+    ensures none { IfNone result (array.new ≡ array.old) }
     ensures shape { shape_of array.new ≡ shape_of array.old }
     ensures first { IfSome result (λ done. OnOk done (IsFilledWith array.new (sliced_part array.old (I.elements_of lists.0)) first)) }
     ensures second { IfSome result (λ done. OnOk done (IsFilledWith array.new (sliced_part array.old (J.elements_of lists.1)) second)) }
+    ensures kept { KeepsButTwo array.old array.new (sliced_part array.old (I.elements_of lists.0)) (sliced_part array.old (J.elements_of lists.1)) }
 {
     let shape = array.shape();
     if !lists.0.fits(shape) || !lists.1.fits(shape) {

@@ -1,7 +1,11 @@
 //! Uses of arrays and views, as a caller writes them: each is proved from the contracts of the calls alone.
 #![tactic(auto)]
 
-ghost use Rattle.std.specs.Prelude.{◌≡◌, ◌<◌, ◌∷◌, [], ℕ, List, length, slice_index, IsSome, IfSome, IfOk, IsTrue};
+ghost use Rattle.std.specs.Prelude.{◌≡◌, ◌<◌, ◌∷◌, [], ℕ, List, length, slice_index, slice_get, vec_len, IsSome, IfSome, IfOk, IfErr, Some, None, IsTrue};
+ghost use Rattle.nd_shape_and_slice.specs.Shape.{row_rank};
+ghost use Rattle.nd_array_core.specs.scoped.Sources.{vec_refusal_for};
+ghost use Rattle.nd_shape_and_slice.specs.declared.builder.Order.TheVariants.{RowMajor};
+ghost use Rattle.nd_array_core.specs.Coordinates.{element_of_2};
 ghost use Rattle.nd_shape_and_slice.specs.Slice.{fits_axis, sliced_shape, sliced_index};
 ghost use Rattle.nd_array_core.specs.Meaning.{shape_of, element_at, inside};
 
@@ -15,6 +19,7 @@ mod columns;
 mod compared;
 mod coordinates;
 mod copies;
+pub mod flagged_slices;
 pub mod flattened;
 mod folded;
 pub mod grown;
@@ -173,14 +178,17 @@ pub fn try_slice_axis<'a, S: Data, D: Dimension>(
     }
 }
 
-/// A table whose cells are given row by row, with its axes exchanged.
+/// A table whose cells are given row by row, with its axes exchanged. Refused as `from_shape_vec` refuses the table.
 #[tactic(auto, using(nd_array_core::proofs::Axes::known_axes))]
 pub fn turned_table<A: Drop>(
     rows: usize,
     columns: usize,
     cells: Vec<A>,
 ) -> Result<Array<A, Ix2>, ShapeError>
-    ensures { IfOk result (λ table. shape_of table ≡ columns ∷ rows ∷ []) }
+    ensures refused { IfErr result (λ e. vec_refusal_for (rows ∷ columns ∷ [], RowMajor, None) (vec_len cells) ≡ Some e) }
+    ensures accepted { IfOk result (λ _. vec_refusal_for (rows ∷ columns ∷ [], RowMajor, None) (vec_len cells) ≡ None) }
+    ensures shape { IfOk result (λ table. shape_of table ≡ columns ∷ rows ∷ []) }
+    ensures elements { IfOk result (λ table. (row column : ℕ) → row < rows → column < columns → element_of_2 table column row ≡ slice_get cells.items (row_rank (rows ∷ columns ∷ []) (row ∷ column ∷ []))) }
 {
     let by_rows = Array::from_shape_vec((rows, columns), cells)?;
     Ok(by_rows.permuted_axes((1, 0)))

@@ -1,18 +1,24 @@
 //! Two arrays side by side: one added to another, a row added to each row, and a view copied into another array.
 #![tactic(auto, using(nd_array_core::proofs::Axes::known_axes))]
 
-ghost use Rattle.std.specs.Prelude.{◌≡◌, ◌+◌, ◌%◌, ◌^◌, ◌<◌, ◌∷◌, [], ℕ, List, OnOk, slice_index, IsTrue};
+ghost use Rattle.std.specs.Prelude.{◌≡◌, ◌+◌, ◌%◌, ◌^◌, ◌<◌, ◌∷◌, [], ℕ, List, OnOk, OnErr, slice_index, IsTrue};
 ghost use Rattle.nd_shape_and_slice.specs.Broadcast.{broadcasts};
 ghost use Rattle.nd_array_core.specs.Meaning.{meaning_of, shape_of, element_at};
 ghost use Rattle.nd_array_core.specs.Coordinates.{element_of_1, element_of_2};
 ghost use Rattle.nd_array_core.specs.Part.{sliced_part};
 ghost use Rattle.nd_array_core.specs.scoped.PartTasks.{KeepsBut};
 ghost use Rattle.nd_shape_and_slice.specs.SliceInfo.{fits_shape, shape_after};
-ghost use Rattle.nd_array_core.specs.elements.Pairs.{broadcast_at, option_both};
+ghost use Rattle.nd_array_core.specs.elements.Pairs.{IsOldOrOf, broadcast_at, option_both};
+ghost use Rattle.nd_array_core.specs.PlacedArray.{element_placed};
+ghost use Rattle.nd_array_core.specs.scoped.Tasks.{view_frame, lent_frame, lent_view, CanBeSeen};
+ghost use Rattle.nd_array_core.specs.scoped.Assigned.{IsShown, IsOldOr};
+ghost use Rattle.nd_array_core.specs.base.CloneRefusals.{MayRefuseClone};
+ghost use Rattle.nd_array_core_uses.specs.Pasted.{IsPasted, IsPastedInPart};
 ghost use Rattle.nd_array_core.specs.base.Fresh.{EachCloneIsEqual};
 
 use nd_array_core::laws::{broadcast_to_itself, shape_is_checked};
-use nd_array_core::{ArrayBase, Data, DataMut};
+use nd_array_core::scoped::{LentView, ViewTask};
+use nd_array_core::{ArrayBase, Data, DataMut, ViewMutRepr};
 use nd_shape_and_slice::{Dimension, Ix1, Ix2, NoMemory, SliceArg};
 
 /// Adds to each element the one that another array, broadcast to this shape, has there, modulo 2 to the 64th.
@@ -56,7 +62,37 @@ pub fn overwrite<A: Clone + Drop, S: DataMut<Elem = A>, Z: Data<Elem = A>, D: Di
     Ok(())
 }
 
-/// Copies an array into the part of another that a list of slices names.
+/// The task that writes to a view, at each index, a clone of what an array has there once it is broadcast to the view's shape.
+#[derive(Drop)]
+struct PasteIn<Z: Data + Drop, E: Dimension> {
+    source: ArrayBase<Z, E>,
+}
+
+impl<A: Clone + Drop, Z: Data<Elem = A> + Drop, D: Dimension, E: Dimension> ViewTask<A, D>
+    for PasteIn<Z, E> {
+    type Answer = Result<(), NoMemory>;
+
+    ghost pre = { λ task v. IsTrue (broadcasts (shape_of task.source) v.shape) × EachCloneIsEqual A.is_clone };
+
+    ghost post = { λ task v w answer. OnOk answer ((i : List ℕ) → element_placed w i ≡ broadcast_at v.shape (meaning_of task.source) i) × OnErr answer (IsOldOrOf (element_placed v) (broadcast_at v.shape (meaning_of task.source)) (element_placed w)) × OnErr answer (MayRefuseClone A.is_infallible (broadcast_at v.shape (meaning_of task.source))) };
+
+    fn run(self, lent: LentView<'_, A, D, D::Strides>) -> (ViewMutRepr<'_, A>, Result<(), NoMemory>)
+        requires sound { CanBeSeen D.lengths D.Strides.strides_of lent }
+        requires broadcasts { IsTrue (broadcasts (shape_of self.source) (lent_view D.lengths D.Strides.strides_of lent).shape) }
+        requires clones { EachCloneIsEqual A.is_clone }
+        ensures frame { view_frame result.0 ≡ lent_frame lent.entry }
+        ensures pasted { OnOk result.1 (IsShown D.lengths D.Strides.strides_of (broadcast_at (lent_view D.lengths D.Strides.strides_of lent.entry).shape (meaning_of self.source)) lent.entry result.0) }
+        ensures stopped { OnErr result.1 (IsOldOr D.lengths D.Strides.strides_of (broadcast_at (lent_view D.lengths D.Strides.strides_of lent.entry).shape (meaning_of self.source)) lent.entry result.0) }
+        ensures refused { OnErr result.1 (MayRefuseClone A.is_infallible (broadcast_at (lent_view D.lengths D.Strides.strides_of lent.entry).shape (meaning_of self.source))) }
+    {
+        let mut view = lent.into_view();
+        let done = view.assign(&self.source);
+        (view.into_storage(), done)
+    }
+}
+
+/// Copies an array, broadcast to its shape, into the part of another that a list of slices names. If a clone is refused, each
+/// index of the part has its old element or the new one.
 pub fn paste<
     A: Clone + Drop,
     S: DataMut<Elem = A>,
@@ -69,8 +105,15 @@ pub fn paste<
     requires broadcasts { IsTrue (broadcasts (shape_of source.now) (shape_after (shape_of array.old) (I.elements_of info))) }
     requires clones { EachCloneIsEqual A.is_clone }
     ensures shape { shape_of array.new ≡ shape_of array.old }
+    ensures named { OnOk result (IsPasted (sliced_part array.old (I.elements_of info)) (meaning_of source.now) (element_at array.new)) }
+    ensures stopped { OnErr result (IsPastedInPart (sliced_part array.old (I.elements_of info)) (meaning_of source.now) (element_at array.old) (element_at array.new)) }
+    ensures refused { OnErr result (MayRefuseClone A.is_infallible (broadcast_at (shape_after (shape_of array.old) (I.elements_of info)) (meaning_of source.now))) }
     ensures kept { KeepsBut array.old array.new (sliced_part array.old (I.elements_of info)) }
 {
-    array.slice_mut(info).assign(source)?;
-    Ok(())
+    array.with_slice_mut(
+        info,
+        PasteIn {
+            source: source.view(),
+        },
+    )
 }

@@ -34,7 +34,8 @@ pub fn row_major_slice<'a, A, D: Dimension>(view: &ArrayView<'a, A, D>) -> &'a [
 
 /// The elements of a view whose places are a run, in the order of their places, or else a slice of the caller's.
 pub fn run_or<'a, A, D: Dimension>(view: &ArrayView<'a, A, D>, other: &'a [A]) -> &'a [A]
-    ensures { IsRunArray view.now → IsInMemoryOrder view.now result.now }
+    ensures run { IsRunArray view.now → IsInMemoryOrder view.now result.now }
+    ensures other { ¬ IsRunArray view.now → result.now ≡ other.now }
 {
     match view.to_slice_memory_order() {
         Some(elements) => elements,

@@ -1,7 +1,9 @@
 //! Views under strides of the caller's.
 #![tactic(auto, using(nd_array_core::proofs::Axes::known_axes))]
 
-ghost use Rattle.std.specs.Prelude.{◌≡◌, ◌<◌, ◌∷◌, [], ℕ, pos, List, length, slice_get, IfOk};
+ghost use Rattle.std.specs.Prelude.{◌≡◌, ◌<◌, ◌∷◌, [], ℕ, pos, List, length, slice_get, IfOk, IfErr};
+ghost use Rattle.nd_shape_and_slice.specs.Shape.{HasCheckedSize};
+ghost use Rattle.nd_shape_and_slice.specs.declared.errors.ErrorKind.TheVariants.{Overflow};
 ghost use Rattle.nd_array_core.specs.Meaning.{shape_of, element_at, layout_strides};
 
 use nd_array_core::{ArrayView1, ArrayView2};
@@ -23,8 +25,11 @@ pub fn turned_at_the_least_stride<A>(items: &[A]) -> Result<ArrayView1<'_, A>, S
     }
 }
 
-/// The slice as each of so many rows, with no copy.
+/// The slice as each of so many rows, with no copy; Overflow exactly where the table has no checked size.
 pub fn row_repeated<A>(rows: usize, items: &[A]) -> Result<ArrayView2<'_, A>, ShapeError>
+    ensures made { IfOk result (λ _. HasCheckedSize (rows ∷ length items.now ∷ [])) }
+    ensures refused { IfErr result (λ e. e ≡ Overflow × ¬ HasCheckedSize (rows ∷ length items.now ∷ [])) }
+    ensures shape { IfOk result (λ v. shape_of v ≡ rows ∷ length items.now ∷ []) }
     ensures elements { IfOk result (λ v. (i j : ℕ) → i < rows → j < length items.now → element_at v (i ∷ j ∷ []) ≡ slice_get items.now j) }
 {
     match ArrayView2::from_shape((rows, items.len()).strides(&[0, 1]), items) {

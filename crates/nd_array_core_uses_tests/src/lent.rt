@@ -2,6 +2,9 @@
 
 use crate::tables::{is_shown, made_table};
 use nd_array_core::Array2;
+use nd_array_core_uses::flagged_slices::{
+    fill_in_loop, fill_ranks, fill_run_lent, fill_standard, put_at_rank,
+};
 use nd_array_core_uses::slices_written::{double_each, fill_row_as_slice, fill_run};
 use nd_array_core_uses::{fill_again, fill_front, fill_seen, fill_view, set_diagonal};
 use nd_shape_and_slice::{Axis, ShapeBuilder};
@@ -67,4 +70,23 @@ fn a_run_in_column_major_order(rt: HostRuntime) {
     assert!(rt; turned.as_slice_memory_order().is_some());
     fill_run(&mut turned, 5);
     assert!(rt; stores(turned, &[5; 6]));
+}
+
+#[test]
+fn a_table_by_ranks(rt: HostRuntime) {
+    let mut table = made_table(&rt, 2, 3, &[1, 2, 3, 4, 5, 6]);
+    assert!(rt; table.len() == 6 && put_at_rank(&mut table, 4, 9));
+    assert!(rt; is_shown(&table, [2, 3], &[1, 2, 3, 4, 9, 6]));
+    assert!(rt; table.is_standard_layout() && table.len() == 6);
+    fill_ranks(&mut table, 2, 7, 8);
+    assert!(rt; is_shown(&table, [2, 3], &[7, 7, 8, 8, 8, 8]));
+    assert!(rt; fill_standard(&mut table, 4));
+    assert!(rt; table.is_standard_layout());
+    fill_in_loop(&mut table, 5);
+    let mut turned = table.reversed_axes();
+    assert!(rt; turned.len() == 6);
+    assert!(rt; !fill_standard(&mut turned, 6) && !put_at_rank(&mut turned, 0, 6));
+    assert!(rt; is_shown(&turned, [3, 2], &[5; 6]));
+    assert!(rt; fill_run_lent(&mut turned, 6));
+    assert!(rt; stores(turned, &[6; 6]));
 }

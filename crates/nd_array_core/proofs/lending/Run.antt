@@ -23,7 +23,7 @@ use Rattle.nd_elements.specs.RunLent.{IsBesideRun, HasRunAt}
 use Rattle.nd_elements.specs.StorageLaws.{HoldsWrittenRun, KeepsBesideRun}
 use Rattle.nd_elements.specs.Writes.{OthersStay}
 use Rattle.nd_array_core.specs.reshape.RunSlices.{LiesAlong, IsStandardArray, IsRunArray}
-use Rattle.nd_array_core.specs.reshape.LentSlices.{array_with_run, array_with_rows, array_with_places, array_with_lent, array_with_lent_rows, array_with_lent_places, IsRewrittenByRank, IsRewrittenInMemoryOrder}
+use Rattle.nd_array_core.specs.reshape.LentSlices.{array_with_run, array_with_rows, array_with_places, array_with_lent, rows_lent, run_lent, IsRewrittenByRank, IsRewrittenInMemoryOrder}
 use Rattle.nd_array_core.specs.base.Writes.{KeepsFrame}
 use Rattle.nd_array_core.proofs.reshape_lemmas.MemoryOrder.{run_has, run_lies}
 use Rattle.nd_array_core.proofs.reshape_lemmas.RunElements.{standard_has}
@@ -118,11 +118,11 @@ module _ {S D T A R : Type 0} {s : data_trait.Ghosts S A} {d : dimension.Ghosts 
     unfolding array_with_run array_with_lent
     lent_is_run a first xs ws all = ap (λ k. with_storage a (set a.storage first k ws)) (sym all)
 
-    pub lent_by_rank : (a : ArrayBase S D T A R s d n r t) (xs ws : List A) → IsStandardArray a → length xs ≡ size_of (d.lengths a.layout.dim) → length ws ≡ size_of (shape_of a) → IsRewrittenByRank frame a ws (array_with_lent_rows set a xs ws)
+    pub lent_by_rank : (a : ArrayBase S D T A R s d n r t) (xs ws : List A) → IsStandardArray a → length xs ≡ size_of (d.lengths a.layout.dim) → length ws ≡ size_of (shape_of a) → IsRewrittenByRank frame a ws (rows_lent set a xs ws)
     unfolding memory_layout_of
     lent_by_rank a xs ws standard all long = subst (IsRewrittenByRank frame a ws) (lent_is_run a a.layout.offset xs ws all) (rewritten_by_rank a ws standard long)
 
-    pub lent_by_place : (a : ArrayBase S D T A R s d n r t) (xs ws : List A) → IsRunArray a → length xs ≡ size_of (d.lengths a.layout.dim) → length ws ≡ size_of (shape_of a) → IsRewrittenInMemoryOrder frame a ws (array_with_lent_places set a xs ws)
+    pub lent_by_place : (a : ArrayBase S D T A R s d n r t) (xs ws : List A) → IsRunArray a → length xs ≡ size_of (d.lengths a.layout.dim) → length ws ≡ size_of (shape_of a) → IsRewrittenInMemoryOrder frame a ws (run_lent set a xs ws)
     unfolding meaning_of memory_layout_of
     lent_by_place a xs ws which all long = subst (IsRewrittenInMemoryOrder frame a ws) (lent_is_run a (a.layout.offset - reach_down (d.lengths a.layout.dim) (t.strides_of a.layout.strides)) xs ws all) (rewritten_by_place a ws which long)
 

@@ -37,11 +37,11 @@ module _ {S D T A R : Type 0} {s : data_trait.Ghosts S A} {d : dimension.Ghosts 
     array_with_places a ws = array_with_run set a (lowest_place a) ws
 
     -- the same where a slice of all elements was lent, or an empty one
-    abbrev pub array_with_lent_rows : ArrayBase S D T A R s d n r t → List A → List A → ArrayBase S D T A R s d n r t
-    array_with_lent_rows a xs ws = array_with_lent set a (layout_offset a) xs ws
+    abbrev pub rows_lent : ArrayBase S D T A R s d n r t → List A → List A → ArrayBase S D T A R s d n r t
+    rows_lent a xs ws = array_with_lent set a (layout_offset a) xs ws
 
-    abbrev pub array_with_lent_places : ArrayBase S D T A R s d n r t → List A → List A → ArrayBase S D T A R s d n r t
-    array_with_lent_places a xs ws = array_with_lent set a (lowest_place a) xs ws
+    abbrev pub run_lent : ArrayBase S D T A R s d n r t → List A → List A → ArrayBase S D T A R s d n r t
+    run_lent a xs ws = array_with_lent set a (lowest_place a) xs ws
 
   module _ {F : Type 0} (frame : S → F) where
     -- new is old but for the elements: each index has that of ws at its row-major rank
@@ -74,10 +74,10 @@ module _ (S A D R : RattleType) (s : data_trait.Ghosts S.Denot A.Denot) (d : Dim
 
   -- the same of as many elements as the slice has
   abbrev pub lends_all_or_none : MutBor (array_row S A D R s d n r).Denot → MutBor (List A.Denot) → Fml
-  lends_all_or_none a x = Lends (array_row S A D R s d n r) (Array A 0) a x (array_with_lent_rows s.with_run a.now x.now)
+  lends_all_or_none a x = Lends (array_row S A D R s d n r) (Array A 0) a x (rows_lent s.with_run a.now x.now)
 
   abbrev pub lends_run_or_none : MutBor (array_row S A D R s d n r).Denot → MutBor (List A.Denot) → Fml
-  lends_run_or_none a x = Lends (array_row S A D R s d n r) (Array A 0) a x (array_with_lent_places s.with_run a.now x.now)
+  lends_run_or_none a x = Lends (array_row S A D R s d n r) (Array A 0) a x (run_lent s.with_run a.now x.now)
 
   -- the same where there is a slice; where there is none, the array stays as it is
   abbrev pub may_lend_rows : MutBor (array_row S A D R s d n r).Denot → Option (MutBor (List A.Denot)) → Fml

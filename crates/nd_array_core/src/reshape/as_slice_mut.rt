@@ -27,7 +27,7 @@ impl<S: Data, D: Dimension> ArrayBase<S, D> {
 }
 
 impl<S: DataMut, D: Dimension> ArrayBase<S, D> {
-    ghost use Rattle.nd_array_core.specs.reshape.LentSlices.{lends_rows, lends_places, lends_all_or_none, lends_run_or_none, may_lend_rows, may_lend_places, LeavesByRank, LeavesInMemoryOrder, LeavesAsItWas, array_with_rows, array_with_places, array_with_lent_rows, array_with_lent_places};
+    ghost use Rattle.nd_array_core.specs.reshape.LentSlices.{lends_rows, lends_places, lends_all_or_none, lends_run_or_none, may_lend_rows, may_lend_places, LeavesByRank, LeavesInMemoryOrder, LeavesAsItWas, array_with_rows, array_with_places, rows_lent, run_lent};
 
     /// The elements in row-major order as one slice, to be written. The array is in the standard layout
     /// (`is_standard_layout`). This project's own, beside `as_slice_mut`: the checker tells a caller what it leaves
@@ -65,8 +65,8 @@ impl<S: DataMut, D: Dimension> ArrayBase<S, D> {
         ensures standard { IsTrue result.1 ↔ IsStandardArray self.old }
         ensures elements { IsTrue result.1 → result.0.now ≡ row_major_elements (meaning_of self.old) }
         ensures none { result.1 ≡ false → result.0.now ≡ [] }
-        ensures written { IsTrue result.1 → LeavesByRank S.frame self.old (array_with_lent_rows S.with_run self.old result.0.now) }
-        ensures unwritten { result.1 ≡ false → LeavesAsItWas S.frame self.old (array_with_lent_rows S.with_run self.old result.0.now) }
+        ensures written { IsTrue result.1 → LeavesByRank S.frame self.old (rows_lent S.with_run self.old result.0.now) }
+        ensures unwritten { result.1 ≡ false → LeavesAsItWas S.frame self.old (rows_lent S.with_run self.old result.0.now) }
     {
         let asked = self.is_standard_layout();
         let first = self.layout.offset;
@@ -82,8 +82,8 @@ impl<S: DataMut, D: Dimension> ArrayBase<S, D> {
         ensures run { IsTrue result.1 ↔ IsRunArray self.old }
         ensures elements { IsTrue result.1 → IsInMemoryOrder self.old result.0.now }
         ensures none { result.1 ≡ false → result.0.now ≡ [] }
-        ensures written { IsTrue result.1 → LeavesInMemoryOrder S.frame self.old (array_with_lent_places S.with_run self.old result.0.now) }
-        ensures unwritten { result.1 ≡ false → LeavesAsItWas S.frame self.old (array_with_lent_places S.with_run self.old result.0.now) }
+        ensures written { IsTrue result.1 → LeavesInMemoryOrder S.frame self.old (run_lent S.with_run self.old result.0.now) }
+        ensures unwritten { result.1 ≡ false → LeavesAsItWas S.frame self.old (run_lent S.with_run self.old result.0.now) }
     {
         let asked = self.has_run();
         let first = self.layout.lowest_place();
