@@ -1,10 +1,10 @@
 -- A task on the part of an array that a path leads to: what the array means before and after it.
-use Rattle.std.proofs.Common.{◌≡◌, ℕ, Bool, true, false, List, Option, Some, None, Ok, Err, Result, refl, sym, ap, ◌∙◌, subst, if◌then◌else◌}
+use Rattle.std.proofs.Common.{◌≡◌, ℕ, Bool, true, false, List, Option, Some, None, refl, sym, ap, ◌∙◌, subst, if◌then◌else◌}
 use Rattle.std.proofs.Math.Path.{fun_ext}
 use Rattle.std.specs.Prelude.{is_some}
 use Rattle.nd_shape_and_slice.specs.Shape.{in_box}
 use Rattle.nd_array_core.specs.Meaning.{Meaning, inside}
-use Rattle.nd_array_core.specs.PlacedArray.{PlacedArray, found_at, element_placed, left_at}
+use Rattle.nd_array_core.specs.PlacedArray.{PlacedArray, found_at, element_placed}
 use Rattle.nd_array_core.specs.Laws.{IndexesHavePlaces, DistinctPlaces}
 use Rattle.nd_array_core.specs.base.Writes.{OthersStay}
 use Rattle.nd_array_core.specs.scoped.Tasks.{OthersKeep, IsViewThrough}

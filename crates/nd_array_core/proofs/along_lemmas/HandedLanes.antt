@@ -39,9 +39,6 @@ use Rattle.nd_elements.proofs.Numbered.{order_numbers}
 pub found_there : {A : Type 0} (ns : List ℕ) (items : List A) (k : ℕ) → k < size_of ns → found_by_rank (ns, RowMajor) items (index_at ns k) ≡ slice_get items k
 found_there ns items k below = rw (in_box-index_at ns k below, row_rank-index_at ns k below) refl
 
-some_same : {A : Type 0} (x y : A) → Some x ≡ Some y → x ≡ y
-some_same x y e = cc
-
 module _ {layout : Placement} {a : ℕ} {places : LanePlaces} (by : LieAlong a layout places) where
   abbrev outer : List ℕ
   outer = indexed_shape layout.lengths a

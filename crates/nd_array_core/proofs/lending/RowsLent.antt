@@ -1,35 +1,6 @@
-<<<<<<< HEAD
--- The first rows of a slice of rows are lent, and the slice ends with them and with the others as they were. Assumes `Logic`.
-use Rattle.nd_region.proofs.Walking.{◌≡◌, refl, sym, ap, ◌∙◌, ℕ, ◌+◌, ◌*◌, List, [], ◌∷◌, ◌++◌, length, length-append, Ura, Lifetime, Val, SProp, ent, sep, ex, emp, guard, guard_i, coded_list, Lft, GName, Share, flft, fobs, fbor, fact_i, fact_use, Logic, sem, Item, ‵, ◌⊛◌, given, later, some, ◌$◌, ◌∵◌, !, qed, by, move, keep, drop, use1, use2, split, split3, fsplit, fsplit3, fjoin, feq_l, feq_i, rewrite, learn, check, group, pick, updating, await, now, show, done, cells, Arr, Body, takes_part, open_ref, Array, Single, follows, heres_id, slice_of, mem, RattleType, MutSlice, Room, slice_val}
-use borrow.Table.Elements.{at, cut_app, join_app}
-=======
 -- The first rows of a slice or of an array of rows are lent, and it ends with them and with the others as they were. Assumes `Logic`.
-use mathlib.Core.Path.{◌≡◌, refl, sym, ap, ◌∙◌}
-use Prim.Native.Nat.{ℕ, ◌+◌, ◌*◌}
-use mathlib.Core.List.{List, [], ◌∷◌, ◌++◌}
-use lib.ListN.{length, length-append}
-use seplogic.Ra.Ura.{Ura}
-use mir.Syntax.{Lifetime}
-use mir.Val.{Val}
-use base.Logic.{SProp, ent, sep, ex, emp, guard, guard_i}
-use base.Stored.{coded_list}
-use base.Fml.{Lft, GName, Share, flft, fobs, fbor}
+use Rattle.nd_region.proofs.Walking.{◌≡◌, refl, sym, ap, ◌∙◌, ℕ, ◌+◌, ◌*◌, List, [], ◌∷◌, ◌++◌, length, length-append, Ura, Lifetime, Val, SProp, ent, sep, ex, emp, guard, guard_i, coded_list, Lft, GName, Share, flft, fobs, fbor, fact_i, fact_use, Logic, sem, Item, ‵, ◌⊛◌, given, later, some, ◌$◌, ◌∵◌, !, qed, by, move, keep, drop, use1, use2, split, split3, fsplit, fsplit3, fjoin, feq_l, feq_i, rewrite, learn, check, group, pick, updating, await, now, show, done, cells, Arr, Body, takes_part, open_ref, Array, Single, follows, heres_id, slice_of, mem, RattleType, MutRef, MutSlice, Room, slice_val}
 use borrow.Table.Elements.{at, cut_app, join_app}
-use contract.Monad.{fact_i, fact_use}
-use types.Logic.{Logic, sem}
-use types.Kit.{Item, ‵, ◌⊛◌, given, later, some, ◌$◌, ◌∵◌, !, qed, by, move, keep, drop, use1, use2, split, split3, fsplit, fsplit3, fjoin, feq_l, feq_i, rewrite, learn, check, group, pick, updating, await, now, show, done}
-use types.SemTy.{cells, Arr, Body}
-use types.Follow.{takes_part}
-use types.Mut.{open_ref}
-use denote.Array.{Array}
-use denote.ArrayMemory.{Single}
-use denote.Follow.{follows}
-use denote.FollowSlice.{heres_id, slice_of}
-use denote.Memory.{mem}
-use denote.RattleType.{RattleType}
-use denote.Ref.{MutRef}
-use denote.Slice.{MutSlice, Room, slice_val}
->>>>>>> 61b3f234cd916f0b7dfbfe40fe11876ae2e23eda
 use Rattle.std.specs.List.{flat_map}
 use Rattle.std.proofs.slice.Relends.{array_in, array_out, runs_out, SliceLent}
 

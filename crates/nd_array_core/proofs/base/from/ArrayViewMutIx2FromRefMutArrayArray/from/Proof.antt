@@ -1,52 +1,9 @@
 -- `from` lends the rows of an array that have places, makes a region of them, and a view of the region, tied to the rows. Assumes `Logic`.
-use mathlib.Core.Path.{◌≡◌, refl, sym, ap, subst, ◌∙◌}
+use Rattle.nd_region.proofs.Walking.{◌≡◌, refl, sym, ap, subst, ◌∙◌, ℕ, ◌*◌, ◌<◌, ◌≤◌, ◌^◌, List, [], ◌∷◌, ◌++◌, length, take, take-append-drop, SProp, ent, emp, id⊢, Lft, Share, GName, ftrue, flft, Args, Fn, a_type, a_number, named, w64, inst_fn, Val, Fits, vint, ◌⊑◌, Lfts, AllOutlive, fact, fact_i, MachineTables, Running, tables, size, Model, Wired, WpFn, Ura, ‵, raw, ◌⊛◌, some, later, ◌$◌, ◌∵◌, !, qed, done, learn, move, keep, drop, use0, use1, use2, split, split3, join, fsplit, fjoin, pick, await, rewrite, suffices, frame, agg, enter, addr, stop, hop, from, no_more, and_then, num_lit, returns, alloc_all, pass_all, free_all, look_at, get, sets, lands_as, Logic, Array, usize, RefMutOf, no, follows, Is, shows, Lawful, uint_Makes, param, layout, layouts, number, ArrayAt, Laws, param_laws, of_field, array_laws, copy_shared, RattleType, owns, MutBor, MutRef, mut_vals, mut_Tells, plain, named_lft, types_at, type_at, MutSlice, Room, slice_val, nothing, heard, only, owned, peeks, i64-field, i64-laws, i64-copy, calls_at, Clauses, Ended, Lasts, lasts, triple_of, Contract, framed, says, Stays, stay_dropped, walk_of, ends_at, Goes-spent_ref}
 use native.Mathlib.Omega.{arith}
 use native.Mathlib.Nat.{mul-le-mul_right}
-use Prim.Native.Nat.{ℕ, ◌*◌, ◌<◌, ◌≤◌, ◌^◌}
-use mathlib.Core.List.{List, [], ◌∷◌, ◌++◌}
-use lib.ListN.{length, take, drop as drop_list, take-append-drop}
+use lib.ListN.{drop as drop_list}
 use borrow.Table.Elements.{length-take-le}
-use base.Logic.{SProp, ent, emp, id⊢}
-use base.Fml.{Lft, Share, GName, ftrue, flft}
-use mir.Syntax.{Args, Fn, a_type, a_number, named, w64}
-use mir.MapTy.{inst_fn}
-use mir.Val.{Val, Fits, vint}
-use contract.BorrowLft.{◌⊑◌}
-use contract.Lifetimes.{Lfts, AllOutlive}
-use contract.Monad.{fact, fact_i}
-use contract.Running.{MachineTables, Running, tables}
-use prog.Memory.{size}
-use prog.Model.{Model}
-use prog.Wired.{Wired}
-use prog.Wp.{WpFn}
-use seplogic.Ra.Ura.{Ura}
-use types.Kit.{‵, raw, ◌⊛◌, some, later, ◌$◌, ◌∵◌, !, qed, done, learn, move, keep, drop, use0, use1, use2, split, split3, join, fsplit, fjoin, pick, await, rewrite, suffices, frame}
-use types.Part.{agg}
-use types.Run.{enter, addr, stop, hop, from, no_more, and_then, num_lit, returns}
-use types.ByLocal.{alloc_all, pass_all, free_all, look_at, get, sets, lands_as}
-use types.Logic.{Logic}
-use denote.Array.{Array}
-use denote.Builtin.{usize, RefMutOf}
-use denote.Exit.{no}
-use denote.Follow.{follows}
-use denote.Laws.{Is, shows, Lawful}
-use denote.Plain.{uint_Makes}
-use denote.Param.{param, layout, layouts, number, ArrayAt}
-use denote.Param.Laws.{Laws, param_laws, of_field, array_laws}
-use denote.Param.Shared.{copy_shared}
-use denote.RattleType.{RattleType, owns}
-use denote.Ref.{MutBor, MutRef, mut_vals, mut_Tells}
-use denote.Signature.{plain, named_lft, types_at, type_at}
-use denote.Slice.{MutSlice, Room, slice_val}
-use denote.Steps.{nothing, heard, only, owned, peeks}
-use denote.Struct.Field.{i64-field}
-use denote.Struct.Laws.{i64-laws, i64-copy}
-use denote.Triple.Call.{calls_at}
-use denote.Triple.Clauses.{Clauses, Ended, Lasts, lasts}
-use denote.Triple.Spec.{triple_of}
-use denote.Triple.Statement.{Contract}
-use denote.Triple.Table.{framed}
-use denote.Triple.Walked.{says, Stays, stay_dropped, walk_of, ends_at, Goes-spent_ref}
 use Rattle.std.proofs.raw_atomic.Walks.{proved}
 use Rattle.std.specs.List.{flat_map}
 use Rattle.std.specs.Prelude.{IsSome}
