@@ -97,7 +97,7 @@ module _ {F A B : Type 0} (g : Mut F (MutBor (LaneMut A) × Unit {0}) (B × (Mut
       let j = remove i a in
       let k = get_or i a 0 in
       let long = length-in_box old.shape i inbox in
-      let whole : insert (remove i a) a (get_or i a 0) ≡ i = insert-removed i a (omega (arith, on, long)) in
+      let whole : insert (remove i a) a (get_or i a 0) ≡ i = insert-removed i a 0 (omega (arith, on, long)) in
       ap new.at (sym whole) ∙ done_at_each others call f Done does has.1.0 has.1.1 has.0 has.1.2 j (lane_in old.shape a on pairs i inbox) k (column_in old.shape a on pairs i inbox)
     where
       Done : List ℕ → Type 0
