@@ -107,7 +107,6 @@ use nd_shape_and_slice::ShapeError;
 use nd_shape_and_slice::Slice;
 use nd_shape_and_slice::slice_fits;
 pub use parts_in_the_open::fill_both_halves;
-pub use parts_in_the_open::fill_first_of_four;
 pub use parts_in_the_open::fill_four_parts;
 pub use parts_in_the_open::fill_halves_of_part;
 pub use parts_in_the_open::fill_two_parts;

@@ -105,30 +105,6 @@ where
     fill_each_of_four((one, two, three, four), front, back)
 }
 
-/// Fills the first of four parts of an array, and leaves the others as they were.
-pub fn fill_first_of_four<S, D, I, J, K, L>(
-    array: &mut ArrayBase<S, D>,
-    lists: (I, J, K, L),
-    value: S::Elem,
-) -> Result<(), NoMemory>
-where
-    S: DataMut,
-    D: Dimension,
-    I: SliceArg<D>,
-    J: SliceArg<D>,
-    K: SliceArg<D>,
-    L: SliceArg<D>,
-    S::Elem: Clone + Drop,
-    requires fit { FourFit (shape_of array.old) (I.elements_of lists.0) (J.elements_of lists.1) (K.elements_of lists.2) (L.elements_of lists.3) }
-    requires clones { EachCloneIsEqual S.Elem.is_clone }
-    ensures shape { shape_of array.new ≡ shape_of array.old }
-    ensures places { (i : List ℕ) → place_at array.new i ≡ place_at array.old i }
-    ensures kept { KeepsButFourSlices array.old array.new (I.elements_of lists.0) (J.elements_of lists.1) (K.elements_of lists.2) (L.elements_of lists.3) }
-{
-    let (mut one, _two, _three, _four) = array.multi_slice_mut(lists);
-    one.fill(value)
-}
-
 /// Fills the coordinates of an axis below one with a value, and those from it on with another, through the halves of a view.
 pub fn fill_both_halves<S: DataMut, D: Dimension>(
     array: &mut ArrayBase<S, D>,

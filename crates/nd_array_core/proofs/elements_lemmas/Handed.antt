@@ -11,7 +11,7 @@ use Rattle.nd_elements.specs.FreeOrder.{AnswersThere, HasAnswers}
 use Rattle.nd_elements.specs.elements.Folds.{RanTo}
 use Rattle.nd_elements.specs.elements.Changes.{IsChangedBy}
 use Rattle.nd_elements.specs.elements.Pairs.{option_both}
-use Rattle.nd_elements.specs.elements.Maps.{AnswersAt, TakesNumbered, Replaces}
+use Rattle.nd_elements.specs.elements.Maps.{AnswersAt, RanNumbered, TakesNumbered, Replaces}
 use Rattle.nd_elements.specs.elements.MapsMut.{paired_at, LeavesAndAnswers, LeavesBy, AnswersHandedBy, Collects, TakesCollecting}
 use Rattle.nd_elements.proofs.Answered.{got_last, got_still}
 use Rattle.nd_elements.proofs.FreeOrder.{IsNumbering, listed, listed_all, done_at_each}

@@ -1,9 +1,10 @@
 -- An array broadcast to come behind another along an axis.
-use Rattle.std.proofs.Common.{◌≡◌, ℕ, zero, suc, ◌+◌, ◌-◌, ◌*◌, ◌<◌, ◌≤◌, ◌^◌, Bool, true, false, cond, eqb, ltb, ◌&&◌, ◌||◌, List, [], ◌∷◌, length, drop, get_or, set, refl, ap, sym, subst, ◌∙◌, arith, ⊎_elim}
-use Rattle.std.specs.Prelude.{nat_lt, nat_le}
+use Rattle.std.proofs.Common.{◌≡◌, ℕ, zero, suc, ◌+◌, ◌-◌, ◌*◌, ◌<◌, ◌≤◌, ◌^◌, Bool, true, false, cond, eqb, ltb, leb, ◌&&◌, ◌||◌, List, [], ◌∷◌, length, drop, get_or, set, refl, ap, sym, subst, ◌∙◌, arith, ⊎_elim}
+use Rattle.std.specs.Prelude.{nat_eq, nat_lt, nat_le, None}
+use Rattle.std.specs.List.{remove}
 use Rattle.std.proofs.lemmas.Bool.{and_parts, cases_eq, eq-eqb, eqb-true, lt-ltb, le-leb, true≢false}
-use Rattle.std.proofs.lemmas.List.{drop_all, drop_more, length-set, set-set, set-get_or, get_or-set_same}
-use Rattle.nd_shape_and_slice.specs.Shape.{size_of, HasCheckedSize, nonzero_product}
+use Rattle.std.proofs.lemmas.List.{drop_all, drop_more, length-set, set-set, set-get_or, get_or-set_same, get_or-set_other}
+use Rattle.nd_shape_and_slice.specs.Shape.{in_box, size_of, HasCheckedSize, nonzero_product}
 use Rattle.nd_shape_and_slice.specs.Broadcast.{axes_added, broadcasts, stretches}
 use Rattle.nd_layout.proofs.GrowthCases.{zero_factor}
 use Rattle.nd_layout.proofs.Sizes.{size_of-set, HasCheckedSize-set}

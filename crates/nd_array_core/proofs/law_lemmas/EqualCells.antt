@@ -4,7 +4,7 @@ use Rattle.std.specs.Prelude.{Option, Some, None, ◌&&◌, nat_lt, slice_index,
 use Rattle.std.proofs.lemmas.Bool.{ltb-true, and_parts, and_from}
 use Rattle.std.proofs.lemmas.Bool.Decides.{nat_tests}
 use Rattle.nd_shape_and_slice.specs.Shape.{in_box}
-use Rattle.nd_elements.specs.Meaning.{inside}
+use Rattle.nd_elements.specs.Meaning.{Meaning, inside}
 use Rattle.nd_array_core.specs.Equality.{EqualEverywhere, SameCells}
 
 below : (k n : ℕ) → k < n → nat_lt k n ≡ true

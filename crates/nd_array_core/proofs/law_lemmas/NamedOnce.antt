@@ -1,20 +1,22 @@
 -- No layout step but broadcast names an old index twice.
-use Rattle.std.proofs.Common.{◌≡◌, ℕ, zero, suc, ◌+◌, ◌-◌, ◌*◌, ◌/◌, ◌%◌, ◌<◌, ◌≤◌, Bool, true, false, List, [], ◌∷◌, length, reverse, replicate, get_or, set, ℤ, pos, negsuc, nat_abs, refl, ap, sym, ◌∙◌, subst, arith, ⊎_elim}
+use Rattle.std.proofs.Common.{◌≡◌, ℕ, zero, suc, ◌+◌, ◌-◌, ◌*◌, ◌/◌, ◌%◌, ◌<◌, ◌≤◌, Bool, true, false, ltb, cond, List, [], ◌∷◌, length, reverse, replicate, get_or, set, ℤ, pos, negsuc, nat_abs, refl, ap, sym, ◌∙◌, subst, arith, ⊎_elim}
 use Rattle.std.specs.Prelude.{is_some, min}
 use Rattle.std.specs.Option.{unwrap_or}
 use Rattle.std.specs.List.{insert, remove, swap}
 use Rattle.std.proofs.Math.Nat.{div-eq_of_eq-mul_left}
 use Rattle.std.proofs.lemmas.Nat.{div-add-mod'}
-use Rattle.std.proofs.lemmas.Bool.{and_parts, cases_eq}
+use Rattle.std.proofs.lemmas.Bool.{and_parts, ltb-true, cases_eq}
 use Rattle.std.proofs.lemmas.List.{length-set, get_or-replicate, get_or-set_same, get_or-set_other, set-get_or, set-set, ext_get_or, reverse-reverse}
 use Rattle.std.proofs.lemmas.List.Edits.{length-insert, length-remove, length-swap, get_or-insert_at}
+use Rattle.nd_shape_and_slice.specs.declared.builder.Order.{Order}
 use Rattle.nd_shape_and_slice.specs.declared.slice.Slice.{Slice}
+use Rattle.nd_shape_and_slice.specs.declared.slice_info.SliceInfoElem.{SliceInfoElem}
 use Rattle.nd_shape_and_slice.specs.declared.slice_info.SliceInfoElem.TheVariants.{Slice as Part, Index, NewAxis}
-use Rattle.nd_shape_and_slice.specs.Axes.{permuted_list}
+use Rattle.nd_shape_and_slice.specs.Axes.{HasEachAxis, permuted_list, unpermuted_list}
 use Rattle.nd_shape_and_slice.specs.EachAxis.{each_sliced_shape, each_sliced_index}
-use Rattle.nd_shape_and_slice.specs.Maps.{diagonal_length}
+use Rattle.nd_shape_and_slice.specs.Maps.{collapsed_shape, upper_shape, diagonal_length}
 use Rattle.nd_shape_and_slice.specs.Shape.{in_box, size_of}
-use Rattle.nd_shape_and_slice.specs.Slice.{fits_axis, low_of, high_of, quotient_up, stepped_from, sliced_length, sliced_from}
+use Rattle.nd_shape_and_slice.specs.Slice.{fits_axis, low_of, high_of, quotient_up, stepped_from, sliced_length, sliced_from, sliced_shape}
 use Rattle.nd_shape_and_slice.specs.SliceInfo.{coordinate_on, each_fits, shape_after, index_before}
 use Rattle.nd_shape_and_slice.specs.Slicing.{collapsed_after, collapsed_before}
 use Rattle.nd_shape_and_slice.specs.Squeeze.{stays, kept_of, spread_over}
@@ -28,8 +30,8 @@ use Rattle.nd_layout.proofs.Sliced.{steps_below}
 use Rattle.nd_layout.proofs.steps.ExchangeStep.{swap_back}
 use Rattle.nd_layout.proofs.steps.SliceStep.{step_moves}
 use Rattle.nd_layout.proofs.steps.SqueezeStep.{length-stays}
-use Rattle.nd_array_core.specs.Laws.{path_source}
-use Rattle.nd_array_core.specs.NamedOnce.{NamesOnce, SlicesNameOnce, ListsNameOnce, CollapsedListsNameOnce, each_slice_fits, EachSlicesNameOnce, PermutationsNameOnce, ReversalsNameOnce, ExchangesNameOnce, InversionsNameOnce, CollapsesNameOnce, CoordinatesNameOnce, LowerPartsNameOnce, UpperPartsNameOnce, InsertionsNameOnce, SqueezesNameOnce, MergesNameOnce, DiagonalsNameOnce, ReshapesNameOnce, PathsNameOnce}
+use Rattle.nd_array_core.specs.Laws.{PathStep, path_shape, path_source, StaysInside}
+use Rattle.nd_array_core.specs.NamedOnce.{NamesOnce, SlicesNameOnce, ListsNameOnce, CollapsedListsNameOnce, each_slice_fits, EachSlicesNameOnce, PermutationsNameOnce, ReversalsNameOnce, ExchangesNameOnce, InversionsNameOnce, CollapsesNameOnce, CoordinatesNameOnce, LowerPartsNameOnce, UpperPartsNameOnce, InsertionsNameOnce, SqueezesNameOnce, MergesNameOnce, DiagonalsNameOnce, ReshapesNameOnce, EachNamesOnce, PathsNameOnce}
 use Rattle.nd_array_core.proofs.law_lemmas.LawProofs.{coordinate_at, remove-inserted, path_inside}
 use Rattle.nd_array_core.proofs.reshape_lemmas.Regrouped.{rank_of_index_in}
 use Rattle.nd_array_core.proofs.law_lemmas.Regrouping.{index_of_rank_in}

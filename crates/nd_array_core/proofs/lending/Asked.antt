@@ -1,5 +1,5 @@
 -- What a walk has of the answer to a question: the answer, where it is tested, and that both parts of a value have their types.
-use mathlib.Core.Path.{refl}
+use mathlib.Core.Path.{◌≡◌, refl}
 use mathlib.Core.Bool.{Bool, true, false, not, ◌&&◌}
 use lib.Dec.{T}
 use Rattle.std.specs.Prelude.{Option, Some, None, IsSome, IfSome, IsTrue, ◌↔◌}

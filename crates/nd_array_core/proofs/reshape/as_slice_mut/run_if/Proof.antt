@@ -2,7 +2,7 @@
 use mathlib.Core.Path.{refl, ap}
 use mathlib.Core.Bool.{Bool, true}
 use Prim.Native.Nat.{ℕ}
-use mathlib.Core.List.{[], ◌∷◌}
+use mathlib.Core.List.{List, [], ◌∷◌}
 use lib.Dec.{lit<}
 use base.Logic.{emp, id⊢}
 use base.Fml.{Lft, Share, ftrue, flft}
@@ -14,7 +14,7 @@ use contract.BorrowLft.{◌⊑◌}
 use contract.Monad.{fact, fact_i}
 use contract.Running.{tables}
 use types.Match.{live}
-use types.Kit.{‵, raw, ◌⊛◌, some, later, at_ret, ◌$◌, ◌∵◌, !, qed, done, move, keep, drop, use0, use1, split, join, fsplit3, fjoin, feq_l, pick, await, suffices, frame}
+use types.Kit.{‵, raw, ◌⊛◌, some, later, at_ret, ◌$◌, ◌∵◌, !, qed, done, move, keep, drop, use0, use1, split, split3, join, fsplit, fsplit3, fjoin, feq_l, pick, await, suffices, frame}
 use types.Part.{agg}
 use types.Run.{enter, lit, no_more, and_then, of_opd, first, branches, exec, returns}
 use types.ByLocal.{alloc_all, pass_all, free_all, look_at, get, sets, sets_last, lands_as, env}

@@ -1,3 +1,5 @@
+use Rattle.std.proofs.Common.{true, subst}
+use Rattle.nd_shape_and_slice.specs.Shape.{in_box}
 use Rattle.nd_shape_and_slice.proofs.RankIndexes.{in_box-index_at}
 use Rattle.nd_array_core.specs.Meaning.{meaning_of}
 use Rattle.nd_array_core.proofs.along.lane_of_rank.ArrayBase+S+D.place_of_rank.Goals as goal

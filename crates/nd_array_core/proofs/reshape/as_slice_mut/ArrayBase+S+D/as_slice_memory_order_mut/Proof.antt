@@ -1,8 +1,8 @@
 -- `as_slice_memory_order_mut` asks first. It hands out what `elements_memory_order_mut` lends, or ends the borrow with the array as it is. Assumes `Logic`.
 use mathlib.Core.Path.{◌≡◌, refl, sym, ap, subst, ◌∙◌}
-use mathlib.Core.Bool.{true}
+use mathlib.Core.Bool.{Bool, true, not}
 use mathlib.Core.List.{List, [], ◌∷◌, ◌++◌}
-use lib.Dec.{lit<}
+use lib.Dec.{T, lit<}
 use base.Logic.{SProp, emp, id⊢}
 use base.Fml.{Lft, GName, Share, ftrue, flft, fres}
 use mir.Syntax.{Args, Fn, a_type, dcons, dnil, named}
@@ -10,7 +10,7 @@ use mir.MapTy.{inst_fn}
 use mir.Val.{Val, vstruct, of_list}
 use prog.Wp.{Env}
 use contract.BorrowLft.{◌⊑◌}
-use contract.Lifetimes.{toks}
+use contract.Lifetimes.{Lfts, toks}
 use contract.Monad.{fact, fact_i}
 use contract.Running.{tables}
 use types.Match.{live}

@@ -17,6 +17,7 @@ use types.Kit.{‵, raw, ◌⊛◌, some, later, ◌$◌, ◌∵◌, !, qed, don
 use types.Part.{whole, sub}
 use types.Run.{enter, stop, fld, no_more, and_then, of_opd, returns}
 use types.ByLocal.{alloc_all, pass_all, free_all, look_at, get, get_in, sets, lands_as}
+use denote.Array.{Array}
 use denote.Builtin.{usize, bool}
 use denote.Exit.{no}
 use denote.Laws.{Is, shows}

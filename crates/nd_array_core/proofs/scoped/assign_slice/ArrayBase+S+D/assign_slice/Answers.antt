@@ -1,4 +1,4 @@
-use Rattle.std.proofs.Common.{sym, ◌∙◌}
+use Rattle.std.proofs.Common.{refl, sym, ap, ◌∙◌, rules}
 use Rattle.std.proofs.lemmas.Result.{on_ok_weaker, on_err_weaker}
 use Rattle.nd_array_core.specs.Meaning.{shape_of, element_at, place_at}
 use Rattle.nd_shape_and_slice.specs.SliceInfo.{shape_after, index_before}

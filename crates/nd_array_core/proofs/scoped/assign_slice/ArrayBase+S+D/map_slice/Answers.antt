@@ -1,3 +1,4 @@
+use Rattle.std.proofs.Common.{refl, sym, ap, ◌∙◌, rules}
 use Rattle.nd_array_core.specs.Meaning.{shape_of, element_at, place_at}
 use Rattle.nd_shape_and_slice.specs.SliceInfo.{shape_after, index_before}
 use Rattle.nd_array_core.proofs.scoped_lemmas.Masks.{kept_unnamed}

@@ -1,7 +1,7 @@
 use Rattle.std.proofs.Common.{ap, sym, ◌∙◌}
 use Rattle.std.proofs.lemmas.Result.{on_ok_weaker, on_err_weaker}
 use Rattle.nd_array_core.specs.PlacedArray.{element_placed, found_at}
-use Rattle.nd_array_core.specs.Meaning.{element_at}
+use Rattle.nd_array_core.specs.Meaning.{shape_of, element_at}
 use Rattle.nd_array_core.specs.elements.Pairs.{beside_at}
 use Rattle.nd_array_core.specs.scoped.Tasks.{lent_view, view_left}
 use Rattle.nd_array_core.proofs.scoped_lemmas.AssignedSlices.{old_or_as}
