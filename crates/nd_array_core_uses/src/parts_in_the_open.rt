@@ -36,28 +36,56 @@ where
     two.fill(second)
 }
 
+// Fills two views, each with a value of its own.
+fn fill_each<A: Clone + Drop, D: Dimension, E: Dimension>(
+    parts: (ArrayViewMut<'_, A, D>, ArrayViewMut<'_, A, E>),
+    values: (A, A),
+) -> Result<(), NoMemory>
+    requires clones { EachCloneIsEqual A.is_clone }
+{
+    let (mut one, mut two) = parts;
+    one.fill(values.0)?;
+    two.fill(values.1)
+}
+
+// Fills four views, each with a value of its own.
+fn fill_each_of_four<A: Clone + Drop, D: Dimension, E: Dimension, F: Dimension, G: Dimension>(
+    parts: (
+        ArrayViewMut<'_, A, D>,
+        ArrayViewMut<'_, A, E>,
+        ArrayViewMut<'_, A, F>,
+        ArrayViewMut<'_, A, G>,
+    ),
+    front: (A, A),
+    back: (A, A),
+) -> Result<(), NoMemory>
+    requires clones { EachCloneIsEqual A.is_clone }
+{
+    let (one, two, three, four) = parts;
+    fill_each((one, two), front)?;
+    fill_each((three, four), back)
+}
+
 /// Fills two parts of a mutable view, which can be used again afterwards.
 pub fn fill_two_parts_of_view<A: Clone + Drop, D: Dimension, I: SliceArg<D>, J: SliceArg<D>>(
     view: &mut ArrayViewMut<'_, A, D>,
     lists: (I, J),
-    first: A,
-    second: A,
+    values: (A, A),
 ) -> Result<(), NoMemory>
     requires fit { TwoFit (shape_of view.old) (I.elements_of lists.0) (J.elements_of lists.1) }
     requires clones { EachCloneIsEqual A.is_clone }
     ensures shape { shape_of view.new ≡ shape_of view.old }
     ensures kept { KeepsButSlices view.old view.new (I.elements_of lists.0) (J.elements_of lists.1) }
 {
-    let (mut one, mut two) = view.multi_slice_mut(lists);
-    one.fill(first)?;
-    two.fill(second)
+    fill_each(view.multi_slice_mut(lists), values)
 }
 
-/// Fills four parts of an array, as the quadrants of an image, and copies the first part's value into none of the others.
+/// Fills four parts of an array, as the quadrants of an image, each with a value of its own.
 pub fn fill_four_parts<S, D, I, J, K, L>(
     array: &mut ArrayBase<S, D>,
     lists: (I, J, K, L),
-    values: (S::Elem, S::Elem, S::Elem, S::Elem),
+    front: (S::Elem, S::Elem),
+    back: (S::Elem, S::Elem),
 ) -> Result<(), NoMemory>
 where
     S: DataMut,
@@ -73,11 +101,8 @@ where
     ensures places { (i : List ℕ) → place_at array.new i ≡ place_at array.old i }
     ensures kept { KeepsButFourSlices array.old array.new (I.elements_of lists.0) (J.elements_of lists.1) (K.elements_of lists.2) (L.elements_of lists.3) }
 {
-    let (mut one, mut two, mut three, mut four) = array.multi_slice_mut(lists);
-    one.fill(values.0)?;
-    two.fill(values.1)?;
-    three.fill(values.2)?;
-    four.fill(values.3)
+    let (one, two, three, four) = array.multi_slice_mut(lists);
+    fill_each_of_four((one, two, three, four), front, back)
 }
 
 /// Fills the coordinates of an axis below one with a value, and those from it on with another, through the halves of a view.
