@@ -11,8 +11,8 @@ ghost use Rattle.nd_array_core.specs.layout.ViewLent.{IsRefilled};
 ghost use Rattle.nd_array_core.specs.scoped.PartTasks.{KeepsBut, KeepsButSlices, KeepsButFourSlices};
 ghost use Rattle.nd_array_core.specs.base.Fresh.{EachCloneIsEqual};
 
-use nd_array_core::{ArrayBase, ArrayViewMut, DataMut, MultiSliceMut};
-use nd_shape_and_slice::{Axis, Dimension, NoMemory, SliceArg};
+use nd_array_core::{Array2, ArrayBase, ArrayViewMut, DataMut, MultiSliceMut};
+use nd_shape_and_slice::{Axis, Dimension, Ix2, NoMemory, SliceArg};
 
 /// Fills two parts of an array, each with a value of its own.
 pub fn fill_two_parts<S: DataMut, D: Dimension, I: SliceArg<D>, J: SliceArg<D>>(
@@ -80,29 +80,27 @@ pub fn fill_two_parts_of_view<A: Clone + Drop, D: Dimension, I: SliceArg<D>, J: 
     fill_each(view.multi_slice_mut(lists), values)
 }
 
-/// Fills four parts of an array, as the quadrants of an image, each with a value of its own.
-pub fn fill_four_parts<S, D, I, J, K, L>(
-    array: &mut ArrayBase<S, D>,
+/// Fills four parts of a matrix, as the quadrants of an image, each with a value of its own.
+pub fn fill_four_parts<A, I, J, K, L>(
+    image: &mut Array2<A>,
     lists: (I, J, K, L),
-    front: (S::Elem, S::Elem),
-    back: (S::Elem, S::Elem),
+    front: (A, A),
+    back: (A, A),
 ) -> Result<(), NoMemory>
 where
-    S: DataMut,
-    D: Dimension,
-    I: SliceArg<D>,
-    J: SliceArg<D>,
-    K: SliceArg<D>,
-    L: SliceArg<D>,
-    S::Elem: Clone + Drop,
-    requires fit { FourFit (shape_of array.old) (I.elements_of lists.0) (J.elements_of lists.1) (K.elements_of lists.2) (L.elements_of lists.3) }
-    requires clones { EachCloneIsEqual S.Elem.is_clone }
-    ensures shape { shape_of array.new ≡ shape_of array.old }
-    ensures places { (i : List ℕ) → place_at array.new i ≡ place_at array.old i }
-    ensures kept { KeepsButFourSlices array.old array.new (I.elements_of lists.0) (J.elements_of lists.1) (K.elements_of lists.2) (L.elements_of lists.3) }
+    A: Clone + Drop,
+    I: SliceArg<Ix2>,
+    J: SliceArg<Ix2>,
+    K: SliceArg<Ix2>,
+    L: SliceArg<Ix2>,
+    requires fit { FourFit (shape_of image.old) (I.elements_of lists.0) (J.elements_of lists.1) (K.elements_of lists.2) (L.elements_of lists.3) }
+    requires clones { EachCloneIsEqual A.is_clone }
+    ensures shape { shape_of image.new ≡ shape_of image.old }
+    ensures strides { layout_strides image.new ≡ layout_strides image.old }
+    ensures places { (i : List ℕ) → place_at image.new i ≡ place_at image.old i }
+    ensures kept { KeepsButFourSlices image.old image.new (I.elements_of lists.0) (J.elements_of lists.1) (K.elements_of lists.2) (L.elements_of lists.3) }
 {
-    let (one, two, three, four) = array.multi_slice_mut(lists);
-    fill_each_of_four((one, two, three, four), front, back)
+    fill_each_of_four(image.multi_slice_mut(lists), front, back)
 }
 
 /// Fills the coordinates of an axis below one with a value, and those from it on with another, through the halves of a view.

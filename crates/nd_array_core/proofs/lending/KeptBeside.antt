@@ -16,6 +16,7 @@ use Rattle.nd_array_core.specs.declared.base.array.ArrayBase.{ArrayBase}
 use Rattle.nd_array_core.specs.Meaning.{meaning_of}
 use Rattle.nd_array_core.specs.Part.{NamesNot, sliced_part}
 use Rattle.nd_array_core.specs.layout.Parts.{IsListed}
+use Rattle.nd_array_core.specs.scoped.PartTasks.{NoneOfThreeNames, NoneOfFourNames}
 use Rattle.nd_array_core.specs.layout.SeveralViews.{named_of, pass_either, pass_any_of_three, pass_any_of_four}
 use Rattle.nd_elements.proofs.WriteStep.{one_index}
 
@@ -68,16 +69,16 @@ module _ {S D A T R : Type 0} {s : data_trait.Ghosts S A} {d : dimension.Ghosts 
 
     module _ {gs : List SliceInfoElem} {c : Placement} (of_c : IsListed whole gs c) where
       pub three_keep : ((p : ℕ) → pass_any_of_three (named_of a) (named_of b) (named_of c) p ≡ false → new p ≡ s.stored array.storage p)
-          → (i : List ℕ) → NamesNot (sliced_part array es) i → NamesNot (sliced_part array fs) i → NamesNot (sliced_part array gs) i → at new i ≡ at (s.stored array.storage) i
-      three_keep stay i none_a none_b none_c =
+          → (i : List ℕ) → NoneOfThreeNames array es fs gs i → at new i ≡ at (s.stored array.storage) i
+      three_keep stay i (none_a, none_b, none_c) =
           same_at new (pass_any_of_three (named_of a) (named_of b) (named_of c)) stay i (λ p h e.
           fails_both (named_of a) (pass_either (named_of b) (named_of c)) p (unnamed of_a p i h e none_a)
           (fails_both (named_of b) (named_of c) p (unnamed of_b p i h e none_b) (unnamed of_c p i h e none_c)))
 
       module _ {hs : List SliceInfoElem} {c' : Placement} (of_d : IsListed whole hs c') where
         pub four_keep : ((p : ℕ) → pass_any_of_four (named_of a) (named_of b) (named_of c) (named_of c') p ≡ false → new p ≡ s.stored array.storage p)
-            → (i : List ℕ) → NamesNot (sliced_part array es) i → NamesNot (sliced_part array fs) i → NamesNot (sliced_part array gs) i → NamesNot (sliced_part array hs) i → at new i ≡ at (s.stored array.storage) i
-        four_keep stay i none_a none_b none_c none_d =
+            → (i : List ℕ) → NoneOfFourNames array es fs gs hs i → at new i ≡ at (s.stored array.storage) i
+        four_keep stay i (none_a, none_b, none_c, none_d) =
             same_at new (pass_any_of_four (named_of a) (named_of b) (named_of c) (named_of c')) stay i (λ p h e.
             fails_both (named_of a) (pass_any_of_three (named_of b) (named_of c) (named_of c')) p (unnamed of_a p i h e none_a)
             (fails_both (named_of b) (pass_either (named_of c) (named_of c')) p (unnamed of_b p i h e none_b)

@@ -86,14 +86,19 @@ module _ {S D A T R : Type 0} {s : data_trait.Ghosts S A} {d : dimension.Ghosts 
   abbrev pub KeepsButSlices : ArrayBase S D T A R s d n r t → ArrayBase S D T A R s d n r t → List SliceInfoElem → List SliceInfoElem → Type 0
   KeepsButSlices old new one two = KeepsButTwo old new (sliced_part old one) (sliced_part old two)
 
-  -- the same of three lists, and of four
+  -- none of three lists names the array's index i, and none of four
+  abbrev pub NoneOfThreeNames : ArrayBase S D T A R s d n r t → List SliceInfoElem → List SliceInfoElem → List SliceInfoElem → List ℕ → Type 0
+  NoneOfThreeNames old one two three i = NamesNot (sliced_part old one) i × NamesNot (sliced_part old two) i × NamesNot (sliced_part old three) i
+
+  abbrev pub NoneOfFourNames : ArrayBase S D T A R s d n r t → List SliceInfoElem → List SliceInfoElem → List SliceInfoElem → List SliceInfoElem → List ℕ → Type 0
+  NoneOfFourNames old one two three four i = NamesNot (sliced_part old one) i × NamesNot (sliced_part old two) i × NamesNot (sliced_part old three) i × NamesNot (sliced_part old four) i
+
+  -- each index that none of three lists names has the element that it had, and each that none of four names
   abbrev pub KeepsButThreeSlices : ArrayBase S D T A R s d n r t → ArrayBase S D T A R s d n r t → List SliceInfoElem → List SliceInfoElem → List SliceInfoElem → Type 0
-  KeepsButThreeSlices old new one two three =
-      (i : List ℕ) → NamesNot (sliced_part old one) i → NamesNot (sliced_part old two) i → NamesNot (sliced_part old three) i → element_at new i ≡ element_at old i
+  KeepsButThreeSlices old new one two three = (i : List ℕ) → NoneOfThreeNames old one two three i → element_at new i ≡ element_at old i
 
   abbrev pub KeepsButFourSlices : ArrayBase S D T A R s d n r t → ArrayBase S D T A R s d n r t → List SliceInfoElem → List SliceInfoElem → List SliceInfoElem → List SliceInfoElem → Type 0
-  KeepsButFourSlices old new one two three four =
-      (i : List ℕ) → NamesNot (sliced_part old one) i → NamesNot (sliced_part old two) i → NamesNot (sliced_part old three) i → NamesNot (sliced_part old four) i → element_at new i ≡ element_at old i
+  KeepsButFourSlices old new one two three four = (i : List ℕ) → NoneOfFourNames old one two three four i → element_at new i ≡ element_at old i
 
   -- each index that one of the part names has the element x
   abbrev pub IsFilledWith : ArrayBase S D T A R s d n r t → Part → A → Type 0
