@@ -1,9 +1,9 @@
 //! Arrays whose elements lie in another order, three axes, and arrays without elements.
 
-use crate::rows::shows;
+use crate::rows::{beside, shows};
 use nd_array_core::{Array2, Array3, ArrayError};
 use nd_shape_and_slice::Axis;
-use nd_stacking::{concatenate, stack};
+use nd_stacking::concatenate;
 use nd_test_arrays::made;
 use std::alloc::Global;
 
@@ -92,8 +92,5 @@ fn rows_of_nothing(rt: HostRuntime) {
     let joined = concatenate(alloc, Axis(1), &[longest.view(), longest.view()]);
     assert!(rt; shows(alloc, &joined, &[9223372036854775807, 0], &[]));
     let none: Array2<u64> = made(alloc, (0, 3), &[]).expect(&rt, "made");
-    let first = none.view();
-    let (_rows, _columns) = first.dim();
-    let beside = stack(alloc, Axis(1), &[first, none.view()]);
-    assert!(rt; shows(alloc, &beside, &[0, 2, 3], &[]));
+    assert!(rt; shows(alloc, &beside(alloc, 1, &none, &none), &[0, 2, 3], &[]));
 }

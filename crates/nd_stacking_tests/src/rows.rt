@@ -42,7 +42,7 @@ fn behind<'a>(
 }
 
 /// Two tables along a new axis.
-fn beside<'a>(
+pub(crate) fn beside<'a>(
     alloc: Global,
     axis: usize,
     one: &'a Array2<u64>,
